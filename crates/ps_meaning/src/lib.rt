@@ -1,0 +1,2 @@
+//! The words in which the contracts of the other crates speak: formulas, worlds, distributions and the bounds that they meet.
+#![tactic(auto)]
