@@ -1,3 +1,4 @@
 pub mod Formula
 pub mod Distribution
 pub mod Bounds
+pub mod Statements
