@@ -1,3 +1,6 @@
 pub mod NameLists
+pub mod Lists
 pub mod Postfix
 pub mod DraftLists
+pub mod Nodes
+pub mod Steps

@@ -7,6 +7,8 @@ use Rattle.ps_problem.specs.declared.mark.Mark.{Mark}
 use Rattle.ps_problem.specs.declared.span.Span.{Span}
 use Rattle.ps_problem.specs.declared.entry.Entry.{Entry}
 use Rattle.ps_problem.specs.declared.entry.Entry.TheVariants as entry
+use Rattle.ps_problem.specs.Numbering.{same_name}
+use Rattle.ps_problem.specs.Built.{AreOnce}
 use Rattle.ps_problem.specs.Drafts.{Drafted, arity, marked, NameBelow, canonical_nesting, IsRatio, IsUpper, AreBelow, statement_at, question_at}
 
 -- the formulas that stand open after some marks
@@ -61,6 +63,7 @@ pub record IsSpan (names : List Name) (ms : List Mark) (ended : ℕ) (s : Span) 
 -- the lists are in order
 pub record IsDraft (names : List Name) (ms : List Mark) (ended : ℕ) (spans : List Span) (entries : List Entry) : Type 0 where
   pub named : All IsName names
+  pub different : AreOnce same_name names
   pub below : All (NameBelow (length names)) ms
   pub within : ended ≤ length ms
   pub held : AreHeld names [] (drop ended ms)

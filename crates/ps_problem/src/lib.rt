@@ -2,8 +2,10 @@
 #![tactic(auto)]
 
 mod bound;
+mod building;
 mod draft;
 mod entry;
+mod fault;
 mod mark;
 mod names;
 mod problem;
