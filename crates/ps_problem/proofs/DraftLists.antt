@@ -12,7 +12,7 @@ use Rattle.ps_problem.specs.declared.entry.Entry.{Entry}
 use Rattle.ps_problem.specs.Numbering.{same_name, with_new}
 use Rattle.ps_problem.specs.Drafts.{arity, marked, NameBelow, canonical_nesting, with_name, with_mark, with_formula}
 use Rattle.ps_problem.specs.Entries.{standing, AreHeld, AreMarks, part, spelled, item_of, IsEntry, drafted, IsSpan, IsDraft}
-use Rattle.ps_problem.specs.Built.{AreOnce}
+use Rattle.ps_problem.specs.Numbering.{AreOnce}
 use Rattle.ps_problem.proofs.NameLists.{same_name-true, same_name-refl}
 use Rattle.ps_problem.proofs.Lists.{once-push}
 use Rattle.ps_problem.proofs.Postfix.{standing-push, held-push, below-more, standing-more, held-more, part-push, map-same, item-more, entry-more}

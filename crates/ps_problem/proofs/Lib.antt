@@ -4,3 +4,5 @@ pub mod Postfix
 pub mod DraftLists
 pub mod Nodes
 pub mod Steps
+pub mod Atoms
+pub mod Operators

@@ -4,7 +4,7 @@ use Rattle.std.specs.List.{list_any}
 use Rattle.std.proofs.lemmas.List.{length-append, get_or_append_left, get_or_push, length_push}
 use Rattle.std.proofs.lemmas.Bool.Decides.{nat_tests}
 use Rattle.ps_problem.specs.Numbering.{place_in}
-use Rattle.ps_problem.specs.Built.{AreOnce}
+use Rattle.ps_problem.specs.Numbering.{AreOnce}
 
 pub or-left : (a b : Bool) → a ≡ true → (a || b) ≡ true
 or-left a b e = rw e refl

@@ -1,5 +1,5 @@
 -- What stands at a point of the making of a problem.
-use Rattle.std.specs.Prelude.{◌≡◌, ◌≤◌, ◌<◌, ◌-◌, ℕ, Bool, true, false, ◌==◌, nat_lt, List, [], ◌∷◌, ◌++◌, Option, Some, None, Result, Ok, Err, length, map, All, Contains, IfSome, slice_index_or}
+use Rattle.std.specs.Prelude.{◌≡◌, ◌≤◌, ◌<◌, ◌-◌, ℕ, Bool, true, false, ◌==◌, nat_lt, List, [], ◌∷◌, ◌++◌, Option, Some, None, Result, Ok, Err, length, map, take, drop, All, Contains, IfSome, slice_index_or}
 use Rattle.std.specs.List.{list_any}
 use Rattle.ps_meaning.specs.Formula.{Formula}
 use Rattle.ps_meaning.specs.Formula as formula
@@ -12,8 +12,10 @@ use Rattle.ps_problem.specs.declared.query.Query.{Query}
 use Rattle.ps_problem.specs.declared.fault.Fault.{Fault}
 use Rattle.ps_problem.specs.declared.fault.Fault.TheVariants as fault
 use Rattle.ps_formula.specs.Nodes.{Adds}
-use Rattle.ps_problem.specs.Counts.{Excess, Atoms, Nodes, Bounds, Queries}
-use Rattle.ps_problem.specs.Numbering.{same_name, same_formula, place_in, names_among, node_in, both_of, query_in}
+use Rattle.ps_problem.specs.Counts.{Excess, Atoms, Nodes, Bounds, Queries, with_formulas}
+use Rattle.ps_problem.specs.Drafts.{made_by, marked}
+use Rattle.ps_problem.specs.Entries.{standing}
+use Rattle.ps_problem.specs.Numbering.{AreOnce, same_name, same_formula, place_in, names_among, node_in, both_of, query_in}
 
 -- a formula is among some
 abbrev pub IsAmong : List (Formula Name) → Formula Name → Type 0
@@ -29,10 +31,6 @@ IsReady fs (formula.And f g) = IsAmong fs f × IsAmong fs g
 IsReady fs (formula.Or f g) = IsAmong fs f × IsAmong fs g
 IsReady fs (formula.Implies f g) = IsAmong fs f × IsAmong fs g
 IsReady fs (formula.Iff f g) = IsAmong fs f × IsAmong fs g
-
--- each thing of a list stands first at its own place
-abbrev pub AreOnce : {X : Type 0} → (X → X → Bool) → List X → Type 0
-AreOnce {X} same xs = (i : ℕ) (d : X) → i < length xs → place_in same xs (slice_index_or xs i d) ≡ i
 
 abbrev pub name_at : List Name → ℕ → Name
 name_at names n = slice_index_or names n []
@@ -87,3 +85,19 @@ IsAdded old n new (Err other) = ⊥
 abbrev pub Follows : List Name → Result (List (Formula Name)) Excess → Formula Name → List ℕ → List Node → Result ℕ Fault → Type 0
 Follows names expected f atoms nodes (Ok i) = (h : Built names atoms nodes) × (expected ≡ Ok h.formulas) × StandsAt h.formulas f i
 Follows names expected f atoms nodes (Err x) = IfSome (excess_of x) (λ e. expected ≡ Err e)
+
+-- formulas stand open, by the places at which they are
+pub record Stand (fs standing : List (Formula Name)) (numbers : List ℕ) : Type 0 where
+  pub places : numbers ≡ map (place_in same_formula fs) standing
+  pub among : All (IsAmong fs) standing
+
+-- the formulas that marks make over those that stand open, in order
+abbrev pub tops : List Name → List (Formula Name) → List Mark → List (Formula Name)
+tops names fs [] = []
+tops names fs (m ∷ ms) = made_by names fs m ∷ tops names (marked names fs m) ms
+
+-- as far as a list of marks has been gone through: what is left to be numbered gives what all of them give
+pub record Reached (names : List Name) (start : List (Formula Name)) (all : List Mark) (i : ℕ) (atoms : List ℕ) (nodes : List Node) (stack : List ℕ) : Type 0 where
+  pub built : Built names atoms nodes
+  pub stand : Stand built.formulas (standing names [] (take i all)) stack
+  pub rest : with_formulas built.formulas (tops names (standing names [] (take i all)) (drop i all)) ≡ with_formulas start (tops names [] all)

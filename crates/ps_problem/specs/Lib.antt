@@ -8,5 +8,5 @@ pub mod Numbering
 pub mod Counts
 pub mod Codes
 pub mod Drafts
-pub mod Built
 pub mod Entries
+pub mod Built

@@ -1,12 +1,13 @@
 //! The numbering of formulas and atoms.
-ghost use Rattle.std.specs.Prelude.{◌≡◌, ◌≤◌, ◌<◌, ◌^◌, ◌-◌, ℕ, ◌++◌, [], ◌∷◌, All, Ok, IfOk, OnOk, OnErr, length, map, nat_eq, slice_index_or};
+ghost use Rattle.std.specs.Prelude.{◌≡◌, ◌≤◌, ◌<◌, ◌^◌, ◌-◌, ℕ, ◌++◌, [], ◌∷◌, All, Ok, IfOk, IfErr, OnOk, OnErr, List, length, map, take, nat_eq, slice_index_or};
 ghost use Rattle.ps_meaning.specs.Formula.{Formula, Atom, subformulas};
 ghost use Rattle.ps_meaning.specs.Statements.{Name};
 ghost use Rattle.ps_formula.specs.Nodes.{Fits};
 ghost use Rattle.ps_problem.specs.Numbering.{place_in, same_formula};
 ghost use Rattle.ps_problem.specs.Counts.{with_formulas};
 ghost use Rattle.ps_problem.specs.Drafts.{arity, NameBelow, made_by};
-ghost use Rattle.ps_problem.specs.Built.{Built, IsAmong, name_at, node_over, IsAdded, Follows};
+ghost use Rattle.ps_problem.specs.Entries.{AreMarks, root};
+ghost use Rattle.ps_problem.specs.Built.{Built, IsAmong, Stand, name_at, node_over, IsAdded, Follows};
 
 use crate::Mark;
 use crate::fault::Fault;
@@ -91,10 +92,62 @@ impl Building {
         if place >= 128 {
             return Err(Fault::Atoms);
         }
-        let number = self.node(Node::Atom(place as u16))?;
+        let number = match self.node(Node::Atom(place as u16)) {
+            Ok(number) => number,
+            Err(fault) => return Err(fault),
+        };
         match self.atoms.push(name) {
             Ok(()) => Ok(number),
             Err(_) => Err(Fault::NoMemory),
         }
+    }
+
+    // The number of a mark's formula over the numbers of those that stand open.
+    fn mark(&mut self, names: &Names, stack: &[u32], mark: Mark) -> Result<u32, Fault>
+        requires name { NameBelow (length names.now) mark }
+        requires operands { arity mark ≤ length stack.now }
+        requires below { All (λ i. i < length self.old.formulas) stack.now }
+        requires built { Built names.now self.old.atoms self.old.formulas }
+        ensures { (h : Built names.now self.old.atoms self.old.formulas) (fs : List (Formula Name)) → Stand h.formulas fs stack.now
+            → Follows names.now (with_formulas h.formulas (made_by names.now fs mark ∷ [])) (made_by names.now fs mark) self.new.atoms self.new.formulas result }
+    {
+        if let Mark::Name(name) = mark {
+            return self.atom(names, name);
+        }
+        self.node(node_of(mark, stack))
+    }
+
+    // Numbers the parts of the formula that some marks spell, and gives its own number.
+    fn formula(&mut self, alloc: Global, names: &Names, marks: &[Mark]) -> Result<u32, Fault>
+        requires marks { AreMarks names.now marks.now (root names.now marks.now) }
+        requires built { Built names.now self.old.atoms self.old.formulas }
+        ensures { (h : Built names.now self.old.atoms self.old.formulas)
+            → Follows names.now (with_formulas h.formulas (subformulas (root names.now marks.now))) (root names.now marks.now) self.new.atoms self.new.formulas result }
+    {
+        let mut stack = Vec::new(alloc);
+        for mark in marks {
+            let number = match self.mark(names, &stack, *mark) {
+                Ok(number) => number,
+                Err(fault) => return Err(fault),
+            };
+            if replace(&mut stack, operands(*mark), number).is_err() {
+                return Err(Fault::NoMemory);
+            }
+        }
+        Ok(stack[0])
+    }
+}
+
+// Puts a number in the place of the last ones.
+fn replace(stack: &mut Vec<u32>, count: usize, number: u32) -> Result<(), Fault>
+    requires { count ≤ length stack.old.items }
+    ensures ok { OnOk result (stack.new.items ≡ take (length stack.old.items - count) stack.old.items ++ number ∷ []) }
+    ensures err { IfErr result (λ x. x ≡ Fault.NoMemory) }
+{
+    let kept = stack.len() - count;
+    stack.truncate(kept);
+    match stack.push(number) {
+        Ok(()) => Ok(()),
+        Err(_) => Err(Fault::NoMemory),
     }
 }

@@ -2,8 +2,7 @@
 ghost use Rattle.std.specs.Prelude.{◌≡◌, ◌<◌, ◌≤◌, ◌++◌, [], ◌∷◌, All, OnOk, OnErr, IfOk, Some, length, slice_get};
 ghost use Rattle.ps_meaning.specs.Names.{IsName};
 ghost use Rattle.ps_meaning.specs.Statements.{Stated, Asked};
-ghost use Rattle.ps_problem.specs.Numbering.{same_name};
-ghost use Rattle.ps_problem.specs.Built.{AreOnce};
+ghost use Rattle.ps_problem.specs.Numbering.{AreOnce, same_name};
 ghost use Rattle.ps_problem.specs.Entries.{AreMarks, item_of, IsEntry};
 ghost use Rattle.ps_problem.specs.Drafts.{formula_at, arity, NameBelow, canonical_nesting, IsRatio, IsUpper, AreBelow, statement_at, question_at, with_name, with_mark, with_formula, with_item};
 
