@@ -6,3 +6,4 @@ pub mod Nodes
 pub mod Steps
 pub mod Atoms
 pub mod Operators
+pub mod Turns

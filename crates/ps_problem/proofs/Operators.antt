@@ -3,7 +3,7 @@ use Rattle.std.proofs.Common.{◌≡◌, ℕ, ◌+◌, ◌-◌, ◌<◌, ◌≤�
 use Rattle.std.specs.List.{flat_map}
 use Rattle.std.proofs.Math.ListN.{get_or-map}
 use Rattle.std.proofs.lemmas.List.{append-nil, append_assoc, length-map, map-append, length-take-le, take-append-drop, drop_more, drop_all, get_or_default, take-map, take_more}
-use Rattle.std.proofs.lemmas.List.Elements.{All-take, All-push, All-weaker}
+use Rattle.std.proofs.lemmas.List.Elements.{All-take, All-push, All-weaker, All-map}
 use Rattle.ps_meaning.specs.Formula.{Formula, Truth, Falsity, Atom, Not, And, Or, Implies, Iff, subformulas}
 use Rattle.ps_meaning.specs.Statements.{Name}
 use Rattle.ps_formula.specs.declared.node.Node.{Node}
@@ -13,6 +13,7 @@ use Rattle.ps_problem.specs.Numbering.{same_formula, place_in, node_in}
 use Rattle.ps_problem.specs.Drafts.{arity, from_top, made_by, marked}
 use Rattle.ps_problem.specs.Entries.{standing, AreHeld}
 use Rattle.ps_problem.specs.Built.{IsAmong, IsReady, Stand, operand, node_over, tops}
+use Rattle.ps_problem.proofs.Lists.{place-below}
 use Rattle.ps_problem.proofs.Nodes.{among-more, place-more}
 use Rattle.ps_problem.proofs.Postfix.{map-same}
 
@@ -128,3 +129,10 @@ module _ (names : List Name) where
   -- marks that spell a formula make its subformulas
   pub tops-are : (ms : List Mark) (f : Formula Name) → AreHeld names [] ms → standing names [] ms ≡ f ∷ [] → tops names [] ms ≡ subformulas f
   tops-are ms f h e = sym (flat-standing [] ms h) ∙ ap (flat_map subformulas) e ∙ append-nil (subformulas f)
+
+-- the numbers that stand open are those of nodes
+pub numbers-below : (fs ss : List (Formula Name)) (ps : List ℕ) → Stand fs ss ps → All (λ i. i < length (map (node_in fs) fs)) ps
+numbers-below fs ss ps s = subst (All (λ i. i < length (map (node_in fs) fs))) (sym s.places)
+    (All-map (λ i. i < length (map (node_in fs) fs)) (place_in same_formula fs) ss
+      (All-weaker (IsAmong fs) (λ f. place_in same_formula fs f < length (map (node_in fs) fs))
+        (λ f a. let b : place_in same_formula fs f < length fs = place-below same_formula fs f a in omega (arith, length-map fs (node_in fs))) ss s.among))
