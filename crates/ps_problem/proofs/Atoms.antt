@@ -1,5 +1,5 @@
 -- Atoms by the numbers of their names.
-use Rattle.std.proofs.Common.{◌≡◌, ℕ, zero, suc, ◌+◌, ◌<◌, ◌≤◌, Bool, true, false, ◌&&◌, ◌||◌, nat_eq, nat_lt, nat_le, List, [], ◌∷◌, ◌++◌, length, get_or, drop, slice_get, map, All, Contains, Some, IfSome, Result, Ok, Err, refl, sym, ap, subst, ◌∙◌, true≢false, if◌then◌else◌, arith, inl, inr, ◌⊎◌}
+use Rattle.std.proofs.Common.{◌≡◌, ℕ, suc, ◌+◌, ◌<◌, ◌≤◌, Bool, true, false, nat_eq, nat_lt, nat_le, List, [], ◌∷◌, ◌++◌, length, get_or, drop, map, All, Contains, Some, IfSome, Result, Ok, Err, refl, sym, ap, ◌∙◌, true≢false, if◌then◌else◌, arith, inl, inr, ◌⊎◌}
 use Rattle.std.specs.List.{list_any}
 use Rattle.std.proofs.Math.ListN.{get_or-map}
 use Rattle.std.proofs.lemmas.List.{length-map, map-append, at_drop_more, at_drop_all, length_push, get_or_default}
@@ -12,7 +12,7 @@ use Rattle.ps_formula.specs.declared.node.Node.TheVariants as node
 use Rattle.ps_problem.specs.declared.fault.Fault.{Fault}
 use Rattle.ps_problem.specs.declared.fault.Fault.TheVariants as fault
 use Rattle.ps_problem.specs.Numbering.{same_name, same_formula, place_in, names_among, node_in}
-use Rattle.ps_problem.specs.Counts.{Atoms, Nodes, with_formulas}
+use Rattle.ps_problem.specs.Counts.{Atoms, with_formulas}
 use Rattle.ps_problem.specs.Numbering.{AreOnce}
 use Rattle.ps_problem.specs.Built.{IsReady, name_at, Built, IsAdded, Follows, excess_of}
 use Rattle.ps_problem.proofs.NameLists.{same_name-true, same_name-refl}
@@ -134,9 +134,9 @@ module _ (names : List Name) (atoms : List ℕ) (nodes : List Node) (h : Built n
         let n = length-nodes names atoms nodes h (Atom (name_at names k)) in
         let l : j < length h.formulas = omega (arith, c.1) in
         let at : node_in h.formulas (get_or h.formulas j (Atom (name_at names k))) ≡ node.Atom (place_in nat_eq atoms k)
-              = sym (get_or-map (node_in h.formulas) h.formulas j (Atom (name_at names k)))
-                ∙ defaults (map (node_in h.formulas) h.formulas) j (node_in h.formulas (Atom (name_at names k))) (node.Atom (place_in nat_eq atoms k)) (omega (arith, length-map h.formulas (node_in h.formulas)))
-                ∙ ap (λ ns. get_or ns j (node.Atom (place_in nat_eq atoms k))) (sym h.nodes_are) ∙ c.2 in
+        = sym (get_or-map (node_in h.formulas) h.formulas j (Atom (name_at names k)))
+        ∙ defaults (map (node_in h.formulas) h.formulas) j (node_in h.formulas (Atom (name_at names k))) (node.Atom (place_in nat_eq atoms k)) (omega (arith, length-map h.formulas (node_in h.formulas)))
+        ∙ ap (λ ns. get_or ns j (node.Atom (place_in nat_eq atoms k))) (sym h.nodes_are) ∙ c.2 in
         never (get_or h.formulas j (Atom (name_at names k))) (h.ready j (Atom (name_at names k)) l) at
       where
         never : (f : Formula Name) → IsReady h.formulas f → node_in h.formulas f ≡ node.Atom (place_in nat_eq atoms k) → ⊥
@@ -158,10 +158,10 @@ module _ (names : List Name) (atoms : List ℕ) (nodes : List Node) (h : Built n
             let room : length h.formulas < 1024 = on (nat_lt (length h.formulas) 1024) refl in
             let p = place-absent nat_eq atoms k (absent-past atoms k past) in
             follows-new names atoms nodes h (Atom (name_at names k)) new i absent ready-new (atoms ++ k ∷ [])
-              (map-append (name_at names) atoms (k ∷ []) ∙ ap (λ ns. ns ++ name_at names k ∷ []) h.atoms_are ∙ sym names-new)
-              (All-push (λ a. a < length names) atoms k h.within lt) (omega (arith, length_push atoms k)) room
-              (s.0 ∙ ap (λ m. nodes ++ m ∷ []) node-is) (added.0.there ∙ ap Some node-is)
-              (expected-new h.formulas (Atom (name_at names k)) absent (few-names few) (grind (arith, nat_tests)))
+            (map-append (name_at names) atoms (k ∷ []) ∙ ap (λ ns. ns ++ name_at names k ∷ []) h.atoms_are ∙ sym names-new)
+            (All-push (λ a. a < length names) atoms k h.within lt) (omega (arith, length_push atoms k)) room
+            (s.0 ∙ ap (λ m. nodes ++ m ∷ []) node-is) (added.0.there ∙ ap Some node-is)
+            (expected-new h.formulas (Atom (name_at names k)) absent (few-names few) (grind (arith, nat_tests)))
           where
             on : (b : Bool) → nat_lt (length h.formulas) 1024 ≡ b → length h.formulas < 1024
             on true t = grind (arith, nat_tests)

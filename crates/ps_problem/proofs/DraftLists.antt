@@ -1,7 +1,7 @@
 -- What a draft's lists hold after one more name, mark or formula.
-use Rattle.std.proofs.Common.{◌≡◌, ℕ, ◌+◌, ◌-◌, ◌<◌, ◌≤◌, Bool, true, false, List, [], ◌∷◌, ◌++◌, length, map, take, drop, get_or, All, refl, sym, ap, subst, ◌∙◌, arith, if◌then◌else◌}
+use Rattle.std.proofs.Common.{◌≡◌, ℕ, ◌≤◌, Bool, true, false, List, [], ◌∷◌, ◌++◌, length, map, drop, get_or, All, refl, sym, ap, subst, ◌∙◌, arith, if◌then◌else◌}
 use Rattle.std.specs.List.{list_any}
-use Rattle.std.proofs.lemmas.List.{append-nil, length-append, length-drop, length-map, map-append, drop-append-le, drop_all, take_rest, length_push}
+use Rattle.std.proofs.lemmas.List.{append-nil, length-append, length-map, map-append, drop-append-le, drop_all, take_rest, length_push}
 use Rattle.std.proofs.lemmas.List.Elements.{All-append, All-push, All-weaker, All-drop, All-nil}
 use Rattle.ps_meaning.specs.Formula.{Formula, Truth}
 use Rattle.ps_meaning.specs.Statements.{Name}
@@ -10,8 +10,8 @@ use Rattle.ps_problem.specs.declared.mark.Mark.{Mark}
 use Rattle.ps_problem.specs.declared.span.Span.{Span}
 use Rattle.ps_problem.specs.declared.entry.Entry.{Entry}
 use Rattle.ps_problem.specs.Numbering.{same_name, with_new}
-use Rattle.ps_problem.specs.Drafts.{arity, marked, NameBelow, canonical_nesting, with_name, with_mark, with_formula}
-use Rattle.ps_problem.specs.Entries.{standing, AreHeld, AreMarks, part, spelled, item_of, IsEntry, drafted, IsSpan, IsDraft}
+use Rattle.ps_problem.specs.Drafts.{arity, NameBelow, canonical_nesting, with_name, with_mark, with_formula}
+use Rattle.ps_problem.specs.Entries.{standing, part, spelled, item_of, IsEntry, drafted, IsSpan, IsDraft}
 use Rattle.ps_problem.specs.Numbering.{AreOnce}
 use Rattle.ps_problem.proofs.NameLists.{same_name-true, same_name-refl}
 use Rattle.ps_problem.proofs.Lists.{once-push}

@@ -1,12 +1,11 @@
 -- Marks over formulas that stand open and are numbered.
-use Rattle.std.proofs.Common.{◌≡◌, ℕ, ◌+◌, ◌-◌, ◌<◌, ◌≤◌, List, [], ◌∷◌, ◌++◌, length, get_or, map, take, drop, All, Result, Ok, Err, refl, sym, ap, subst, ◌∙◌, arith}
+use Rattle.std.proofs.Common.{◌≡◌, ℕ, ◌+◌, ◌-◌, ◌<◌, ◌≤◌, List, [], ◌∷◌, ◌++◌, length, get_or, map, take, drop, All, refl, sym, ap, subst, ◌∙◌, arith}
 use Rattle.std.specs.List.{flat_map}
 use Rattle.std.proofs.Math.ListN.{get_or-map}
-use Rattle.std.proofs.lemmas.List.{append-nil, append_assoc, length-map, map-append, length-take-le, take-append-drop, drop_more, drop_all, get_or_default, take-map, take_more}
+use Rattle.std.proofs.lemmas.List.{append-nil, append_assoc, length-map, map-append, take-append-drop, drop_more, drop_all, get_or_default, take-map}
 use Rattle.std.proofs.lemmas.List.Elements.{All-take, All-push, All-weaker, All-map}
 use Rattle.ps_meaning.specs.Formula.{Formula, Truth, Falsity, Atom, Not, And, Or, Implies, Iff, subformulas}
 use Rattle.ps_meaning.specs.Statements.{Name}
-use Rattle.ps_formula.specs.declared.node.Node.{Node}
 use Rattle.ps_problem.specs.declared.mark.Mark.{Mark}
 use Rattle.ps_problem.specs.declared.mark.Mark.TheVariants as mark
 use Rattle.ps_problem.specs.Numbering.{same_formula, place_in, node_in}
@@ -59,13 +58,13 @@ module _ (fs ss : List (Formula Name)) (ps : List ℕ) (s : Stand fs ss ps) wher
         → Stand (fs ++ more) (marked names ss m) (take (length ps - arity m) ps ++ i ∷ [])
     stand-marked more m i le there at = record {
       places =
-        ap (λ n. take (n - arity m) ps ++ i ∷ []) length-stand
-        ∙ ap (λ ns. take (length ss - arity m) ns ++ i ∷ []) (s.places ∙ sym (map-same (place_in same_formula (fs ++ more)) (place_in same_formula fs) ss (All-weaker (IsAmong fs) (λ f. place_in same_formula (fs ++ more) f ≡ place_in same_formula fs f) (λ f a. place-more fs more f a) ss s.among)))
-        ∙ ap (λ ns. ns ++ i ∷ []) (take-map (place_in same_formula (fs ++ more)) (length ss - arity m) ss)
-        ∙ ap (λ n. map (place_in same_formula (fs ++ more)) (take (length ss - arity m) ss) ++ n ∷ []) at
-        ∙ sym (map-append (place_in same_formula (fs ++ more)) (take (length ss - arity m) ss) (made_by names ss m ∷ []));
+          ap (λ n. take (n - arity m) ps ++ i ∷ []) length-stand
+          ∙ ap (λ ns. take (length ss - arity m) ns ++ i ∷ []) (s.places ∙ sym (map-same (place_in same_formula (fs ++ more)) (place_in same_formula fs) ss (All-weaker (IsAmong fs) (λ f. place_in same_formula (fs ++ more) f ≡ place_in same_formula fs f) (λ f a. place-more fs more f a) ss s.among)))
+          ∙ ap (λ ns. ns ++ i ∷ []) (take-map (place_in same_formula (fs ++ more)) (length ss - arity m) ss)
+          ∙ ap (λ n. map (place_in same_formula (fs ++ more)) (take (length ss - arity m) ss) ++ n ∷ []) at
+          ∙ sym (map-append (place_in same_formula (fs ++ more)) (take (length ss - arity m) ss) (made_by names ss m ∷ []));
       among = All-push (IsAmong (fs ++ more)) (take (length ss - arity m) ss) (made_by names ss m)
-        (All-take (IsAmong (fs ++ more)) (length ss - arity m) ss (All-weaker (IsAmong fs) (IsAmong (fs ++ more)) (λ f a. among-more fs more f a) ss s.among)) there;
+          (All-take (IsAmong (fs ++ more)) (length ss - arity m) ss (All-weaker (IsAmong fs) (IsAmong (fs ++ more)) (λ f a. among-more fs more f a) ss s.among)) there;
     }
 
 flat-append : (xs ys : List (Formula Name)) → flat_map subformulas (xs ++ ys) ≡ flat_map subformulas xs ++ flat_map subformulas ys
@@ -82,8 +81,8 @@ last-two ss le =
     let e : length ss - 2 + 1 ≡ length ss - 1 = omega arith in
     sym (take-append-drop (length ss - 2) ss)
     ∙ ap (λ xs. take (length ss - 2) ss ++ xs) (drop_more ss (length ss - 2) Truth (omega arith)
-        ∙ ap (λ n. from_top ss 2 ∷ drop n ss) e
-        ∙ ap (λ xs. from_top ss 2 ∷ xs) (drop_more ss (length ss - 1) Truth (omega arith) ∙ ap (λ xs. from_top ss 1 ∷ xs) (drop_all (length ss - 1 + 1) ss (omega arith))))
+    ∙ ap (λ n. from_top ss 2 ∷ drop n ss) e
+    ∙ ap (λ xs. from_top ss 2 ∷ xs) (drop_more ss (length ss - 1) Truth (omega arith) ∙ ap (λ xs. from_top ss 1 ∷ xs) (drop_all (length ss - 1 + 1) ss (omega arith))))
 
 flat-one : (xs : List (Formula Name)) (f g : Formula Name) → subformulas g ≡ subformulas f ++ g ∷ [] → flat_map subformulas (xs ++ g ∷ []) ≡ flat_map subformulas (xs ++ f ∷ []) ++ g ∷ []
 flat-one xs f g e =
@@ -134,5 +133,5 @@ module _ (names : List Name) where
 pub numbers-below : (fs ss : List (Formula Name)) (ps : List ℕ) → Stand fs ss ps → All (λ i. i < length (map (node_in fs) fs)) ps
 numbers-below fs ss ps s = subst (All (λ i. i < length (map (node_in fs) fs))) (sym s.places)
     (All-map (λ i. i < length (map (node_in fs) fs)) (place_in same_formula fs) ss
-      (All-weaker (IsAmong fs) (λ f. place_in same_formula fs f < length (map (node_in fs) fs))
-        (λ f a. let b : place_in same_formula fs f < length fs = place-below same_formula fs f a in omega (arith, length-map fs (node_in fs))) ss s.among))
+    (All-weaker (IsAmong fs) (λ f. place_in same_formula fs f < length (map (node_in fs) fs))
+    (λ f a. let b : place_in same_formula fs f < length fs = place-below same_formula fs f a in omega (arith, length-map fs (node_in fs))) ss s.among))

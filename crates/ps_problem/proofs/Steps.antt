@@ -1,25 +1,22 @@
 -- One more formula among numbered ones.
-use Rattle.std.proofs.Common.{◌≡◌, ◌≢◌, ℕ, zero, suc, ◌+◌, ◌<◌, ◌≤◌, Bool, true, false, cond, ◌&&◌, ◌||◌, nat_eq, nat_lt, nat_le, List, [], ◌∷◌, ◌++◌, length, get_or, slice_get, map, All, Contains, Option, Some, None, Result, Ok, Err, IfSome, refl, sym, ap, subst, ◌∙◌, true≢false, if◌then◌else◌, arith, inl, inr, ◌⊎◌}
+use Rattle.std.proofs.Common.{◌≡◌, ℕ, ◌<◌, ◌≤◌, Bool, true, false, ◌&&◌, nat_lt, nat_le, List, [], ◌∷◌, ◌++◌, length, get_or, slice_get, map, All, Contains, Some, Result, Ok, Err, refl, sym, ap, subst, ◌∙◌, true≢false, arith, inl, inr, ◌⊎◌}
 use Rattle.std.specs.List.{list_any}
 use Rattle.std.proofs.Math.ListN.{get_or-map}
-use Rattle.std.proofs.lemmas.List.{append-nil, length-append, length-map, map-append, length_push, get_or_default}
-use Rattle.std.proofs.lemmas.List.Elements.{All-append, All-push, All-weaker, All-nil, All-head, All-tail}
-use Rattle.std.proofs.lemmas.Option.{slice_get-map, slice_get-get_or, slice_get_within, get_or_from_slice_get, same_Some}
+use Rattle.std.proofs.lemmas.List.{append-nil, length-map, map-append, length_push}
+use Rattle.std.proofs.lemmas.List.Elements.{All-push, All-weaker}
+use Rattle.std.proofs.lemmas.Option.{slice_get_within, get_or_from_slice_get}
 use Rattle.std.proofs.lemmas.Bool.Decides.{nat_tests}
-use Rattle.ps_meaning.specs.Formula.{Formula, Truth, Falsity, Atom, Not, And, Or, Implies, Iff}
+use Rattle.ps_meaning.specs.Formula.{Formula, Atom}
 use Rattle.ps_meaning.specs.Statements.{Name}
 use Rattle.ps_formula.specs.declared.node.Node.{Node}
-use Rattle.ps_formula.specs.declared.node.Node.TheVariants as node
-use Rattle.ps_formula.specs.Nodes.{Adds}
 use Rattle.ps_problem.specs.declared.fault.Fault.{Fault}
 use Rattle.ps_problem.specs.declared.fault.Fault.TheVariants as fault
-use Rattle.ps_problem.specs.Numbering.{same_name, same_formula, place_in, names_among, node_in}
-use Rattle.ps_problem.specs.Counts.{Excess, Atoms, Nodes, is_atom, excess_with, with_formulas}
+use Rattle.ps_problem.specs.Numbering.{same_formula, place_in, names_among, node_in}
+use Rattle.ps_problem.specs.Counts.{Atoms, Nodes, is_atom, with_formulas}
 use Rattle.ps_problem.specs.Numbering.{AreOnce}
-use Rattle.ps_problem.specs.Built.{IsAmong, IsReady, name_at, Built, StandsAt, IsAdded, Follows, excess_of}
-use Rattle.ps_problem.proofs.NameLists.{same_name-true, same_name-refl}
-use Rattle.ps_problem.proofs.Lists.{any-self, place-get, place-below, once-push, any-new, place-append}
-use Rattle.ps_problem.proofs.Nodes.{same-true, same-refl, names-append, atom-among, among-more, ready-more, node-more, node-same}
+use Rattle.ps_problem.specs.Built.{IsAmong, IsReady, name_at, Built, IsAdded, Follows}
+use Rattle.ps_problem.proofs.Lists.{any-self, place-get, place-below, once-push, any-new}
+use Rattle.ps_problem.proofs.Nodes.{same-true, same-refl, names-append, atom-among, ready-more, node-more, node-same}
 use Rattle.ps_problem.proofs.Postfix.{map-same}
 
 module _ (fs : List (Formula Name)) (g : Formula Name) where
@@ -76,7 +73,7 @@ module _ (names : List Name) (atoms : List ℕ) (nodes : List Node) (h : Built n
     atoms_are = atoms_are;
     nodes_are = ap (λ ns. ns ++ node_in (h.formulas ++ g ∷ []) g ∷ []) (h.nodes_are
         ∙ sym (map-same (node_in (h.formulas ++ g ∷ [])) (node_in h.formulas) h.formulas
-          (All-weaker (IsReady h.formulas) (λ f. node_in (h.formulas ++ g ∷ []) f ≡ node_in h.formulas f) (λ f r. node-more h.formulas (g ∷ []) f r) h.formulas h.ready)))
+        (All-weaker (IsReady h.formulas) (λ f. node_in (h.formulas ++ g ∷ []) f ≡ node_in h.formulas f) (λ f r. node-more h.formulas (g ∷ []) f r) h.formulas h.ready)))
         ∙ sym (map-append (node_in (h.formulas ++ g ∷ [])) h.formulas (g ∷ []));
     ready = All-push (IsReady (h.formulas ++ g ∷ [])) h.formulas g
         (All-weaker (IsReady h.formulas) (IsReady (h.formulas ++ g ∷ [])) (λ f r. ready-more h.formulas (g ∷ []) f r) h.formulas h.ready) ready;
@@ -85,7 +82,6 @@ module _ (names : List Name) (atoms : List ℕ) (nodes : List Node) (h : Built n
     few_atoms = few_atoms;
     few = omega (arith, few, length_push h.formulas g);
   }
-
 
   abbrev pub again : (new : List Node) → new ≡ nodes → Built names atoms new
   again new e = record {
@@ -108,10 +104,14 @@ module _ (names : List Name) (atoms : List ℕ) (nodes : List Node) (h : Built n
   follows-new new i absent ready atoms' atoms_are within few_atoms few new-is there expected =
       let k = extended atoms' absent ready atoms_are within few_atoms few in
       let at : slice_get (map (node_in (h.formulas ++ g ∷ [])) (h.formulas ++ g ∷ [])) i ≡ Some (node_in (h.formulas ++ g ∷ []) g)
-            = ap (λ ns. slice_get ns i) (sym (new-is ∙ k.nodes_are)) ∙ there in
-      (record { formulas = h.formulas ++ g ∷ []; different = k.different; atoms_are = k.atoms_are; nodes_are = new-is ∙ k.nodes_are; ready = k.ready; once = k.once; within = k.within; few_atoms = k.few_atoms; few = k.few },
-        expected, (any-new same_formula same-true same-refl h.formulas g,
-        number-is (h.formulas ++ g ∷ []) g k.ready k.once ready i at))
+      = ap (λ ns. slice_get ns i) (sym (new-is ∙ k.nodes_are)) ∙ there in (
+        record { formulas = h.formulas ++ g ∷ []; different = k.different; atoms_are = k.atoms_are; nodes_are = new-is ∙ k.nodes_are; ready = k.ready; once = k.once; within = k.within; few_atoms = k.few_atoms; few = k.few },
+        expected,
+        (
+          any-new same_formula same-true same-refl h.formulas g,
+          number-is (h.formulas ++ g ∷ []) g k.ready k.once ready i at,
+        ),
+      )
 
   not-atom : list_any (same_formula g) h.formulas ≡ false → IsReady h.formulas g → (is_atom g && nat_le 128 (length (names_among h.formulas))) ≡ false
   not-atom = absent g
@@ -146,6 +146,7 @@ module _ (names : List Name) (atoms : List ℕ) (nodes : List Node) (h : Built n
     where
       there : slice_get new i ≡ Some (node_in h.formulas g)
       there = added.0.there ∙ ap Some e
+
       by : ((new ≡ nodes) × Contains nodes n) ⊎ ((new ≡ nodes ++ n ∷ []) × ¬ Contains nodes n) → Follows names (with_formulas h.formulas (g ∷ [])) g atoms new (Ok i)
       by (inl s) =
           let c = rw (h.nodes_are, e) at s.1 in
@@ -161,7 +162,7 @@ module _ (names : List Name) (atoms : List ℕ) (nodes : List Node) (h : Built n
               let more = node-more h.formulas (g ∷ []) g r in
               let new-is : new ≡ nodes ++ node_in (h.formulas ++ g ∷ []) g ∷ [] = s.0 ∙ ap (λ m. nodes ++ m ∷ []) (e ∙ sym more) in
               follows-new new i a (ready-more h.formulas (g ∷ []) g r) atoms (names-kept a r) h.within h.few_atoms few new-is (there ∙ ap Some (sym more))
-                (expected-new h.formulas g a (not-atom a r) (grind (arith, nat_tests)))
+              (expected-new h.formulas g a (not-atom a r) (grind (arith, nat_tests)))
             where
               room : (b : Bool) → nat_lt (length h.formulas) 1024 ≡ b → length h.formulas < 1024
               room true t = grind (arith, nat_tests)

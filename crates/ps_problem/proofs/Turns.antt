@@ -1,14 +1,13 @@
 -- Going through the marks of a formula.
-use Rattle.std.proofs.Common.{◌≡◌, ℕ, zero, suc, ◌+◌, ◌-◌, ◌<◌, ◌≤◌, Bool, true, false, ◌&&◌, nat_le, List, [], ◌∷◌, ◌++◌, length, get_or, map, take, drop, All, Option, Some, None, IfSome, Result, Ok, Err, OnOk, is_err, true≢false, refl, sym, ap, subst, ◌∙◌, arith, if◌then◌else◌}
+use Rattle.std.proofs.Common.{◌≡◌, ℕ, zero, suc, ◌+◌, ◌-◌, ◌<◌, ◌≤◌, Bool, true, false, List, [], ◌∷◌, ◌++◌, length, get_or, take, drop, Option, Some, None, IfSome, Result, Ok, Err, OnOk, is_err, true≢false, refl, sym, ap, subst, ◌∙◌, arith, if◌then◌else◌}
 use Rattle.std.specs.List.{list_any}
-use Rattle.std.proofs.lemmas.List.{append-nil, append_assoc, take_more, take_all, drop_more, drop_all, get_or_default}
+use Rattle.std.proofs.lemmas.List.{append-nil, append_assoc, take_more, take_all, drop_more, drop_all}
 use Rattle.ps_meaning.specs.Formula.{Formula, Truth, subformulas}
 use Rattle.ps_meaning.specs.Statements.{Name}
 use Rattle.ps_formula.specs.declared.node.Node.{Node}
 use Rattle.ps_problem.specs.declared.mark.Mark.{Mark}
-use Rattle.ps_problem.specs.declared.mark.Mark.TheVariants as mark
 use Rattle.ps_problem.specs.declared.fault.Fault.{Fault}
-use Rattle.ps_problem.specs.Numbering.{same_formula, place_in}
+use Rattle.ps_problem.specs.Numbering.{same_formula}
 use Rattle.ps_problem.specs.Counts.{Excess, excess_with, unless, with_formulas, after}
 use Rattle.ps_problem.specs.Drafts.{arity, made_by, marked}
 use Rattle.ps_problem.specs.Entries.{standing, AreHeld, AreMarks, root}
@@ -90,9 +89,9 @@ module _ (names : List Name) (start : List (Formula Name)) (all : List Mark) whe
         record {
           built = f.0;
           stand = subst (λ gs. Stand gs (standing names [] (take (i + 1) all)) (take (length stack - arity (get_or all i d)) stack ++ n ∷ [])) (sym more.1)
-            (subst (λ ss. Stand (r.built.formulas ++ more.0) ss (take (length stack - arity (get_or all i d)) stack ++ n ∷ [])) (sym (ap (standing names []) t ∙ e)) s);
+              (subst (λ ss. Stand (r.built.formulas ++ more.0) ss (take (length stack - arity (get_or all i d)) stack ++ n ∷ [])) (sym (ap (standing names []) t ∙ e)) s);
           rest = ap (λ ss. with_formulas f.0.formulas (tops names ss (drop (i + 1) all))) (ap (standing names []) t ∙ e)
-            ∙ sym (ap (λ q. after q (λ gs. with_formulas gs (tops names (marked names (standing names [] (take i all)) (get_or all i d)) (drop (i + 1) all)))) f.1) ∙ sym split;
+              ∙ sym (ap (λ q. after q (λ gs. with_formulas gs (tops names (marked names (standing names [] (take i all)) (get_or all i d)) (drop (i + 1) all)))) f.1) ∙ sym split;
         }
 
   module _ (i : ℕ) (atoms : List ℕ) (nodes : List Node) (stack : List ℕ) (r : Reached names start all i atoms nodes stack) (le : length all ≤ i) (m : AreMarks names all (root names all)) where
@@ -103,8 +102,9 @@ module _ (names : List Name) (start : List (Formula Name)) (all : List Mark) whe
     one-left = length-stand r.built.formulas (root names all ∷ []) stack stand-end
 
     pub reached-end : Follows names (with_formulas start (subformulas (root names all))) (root names all) atoms nodes (Ok (get_or stack 0 0))
-    reached-end =
-        (r.built,
-          ap (with_formulas start) (sym (tops-are names all (root names all) m.held m.made)) ∙ sym r.rest
-            ∙ ap (λ ms. with_formulas r.built.formulas (tops names (standing names [] (take i all)) ms)) (drop_all i all le),
-          (stand-end.among 0 Truth (omega arith), ap (λ ns. get_or ns 0 0) stand-end.places))
+    reached-end = (
+      r.built,
+      ap (with_formulas start) (sym (tops-are names all (root names all) m.held m.made)) ∙ sym r.rest
+          ∙ ap (λ ms. with_formulas r.built.formulas (tops names (standing names [] (take i all)) ms)) (drop_all i all le),
+      (stand-end.among 0 Truth (omega arith), ap (λ ns. get_or ns 0 0) stand-end.places),
+    )

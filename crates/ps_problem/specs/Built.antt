@@ -1,21 +1,20 @@
 -- What stands at a point of the making of a problem.
-use Rattle.std.specs.Prelude.{◌≡◌, ◌≤◌, ◌<◌, ◌-◌, ℕ, Bool, true, false, ◌==◌, nat_lt, List, [], ◌∷◌, ◌++◌, Option, Some, None, Result, Ok, Err, length, map, take, drop, All, Contains, IfSome, slice_index_or}
+use Rattle.std.specs.Prelude.{◌≡◌, ◌≤◌, ◌<◌, ◌-◌, ℕ, true, List, [], ◌∷◌, Option, Some, None, Result, Ok, Err, length, map, take, drop, All, Contains, IfSome, slice_index_or}
 use Rattle.std.specs.List.{list_any}
 use Rattle.ps_meaning.specs.Formula.{Formula}
 use Rattle.ps_meaning.specs.Formula as formula
-use Rattle.ps_meaning.specs.Statements.{Name, Statement, Question}
+use Rattle.ps_meaning.specs.Statements.{Name}
 use Rattle.ps_formula.specs.declared.node.Node.{Node}
 use Rattle.ps_formula.specs.declared.node.Node.TheVariants as node
 use Rattle.ps_problem.specs.declared.mark.Mark.{Mark}
 use Rattle.ps_problem.specs.declared.mark.Mark.TheVariants as mark
-use Rattle.ps_problem.specs.declared.query.Query.{Query}
 use Rattle.ps_problem.specs.declared.fault.Fault.{Fault}
 use Rattle.ps_problem.specs.declared.fault.Fault.TheVariants as fault
 use Rattle.ps_formula.specs.Nodes.{Adds}
 use Rattle.ps_problem.specs.Counts.{Excess, Atoms, Nodes, Bounds, Queries, with_formulas}
 use Rattle.ps_problem.specs.Drafts.{made_by, marked}
 use Rattle.ps_problem.specs.Entries.{standing}
-use Rattle.ps_problem.specs.Numbering.{AreOnce, same_name, same_formula, place_in, names_among, node_in, both_of, query_in}
+use Rattle.ps_problem.specs.Numbering.{AreOnce, same_name, same_formula, place_in, names_among, node_in}
 
 -- a formula is among some
 abbrev pub IsAmong : List (Formula Name) → Formula Name → Type 0

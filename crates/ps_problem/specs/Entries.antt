@@ -1,5 +1,5 @@
 -- The lists of which a draft is made.
-use Rattle.std.specs.Prelude.{◌≡◌, ◌≤◌, ◌<◌, ◌-◌, ℕ, List, [], ◌∷◌, ◌++◌, Option, Some, None, length, map, option_map, take, drop, All, slice_index_or}
+use Rattle.std.specs.Prelude.{◌≡◌, ◌≤◌, ◌-◌, ℕ, List, [], ◌∷◌, length, map, take, drop, All, slice_index_or}
 use Rattle.ps_meaning.specs.Formula.{Formula, Truth}
 use Rattle.ps_meaning.specs.Statements.{Name, Item, Stated, Asked}
 use Rattle.ps_meaning.specs.Names.{IsName}

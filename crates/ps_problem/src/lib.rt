@@ -19,3 +19,6 @@ pub use mark::Mark;
 pub use problem::Problem;
 pub use query::{Queries, Query};
 pub use sentence::{Sentence, Sentences};
+
+#[cfg(test)]
+mod tests;

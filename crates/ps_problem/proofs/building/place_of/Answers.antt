@@ -1,4 +1,4 @@
-use Rattle.std.proofs.Common.{◌≡◌, ◌+◌, nat_eq, drop, ℕ, suc, arith}
+use Rattle.std.proofs.Common.{◌≡◌, ◌+◌, nat_eq, drop, arith}
 use Rattle.ps_problem.specs.Numbering.{place_in}
 use Rattle.ps_problem.proofs.Atoms.{place-turn, place-here, place-end}
 use Rattle.ps_problem.proofs.building.place_of.Goals as goal

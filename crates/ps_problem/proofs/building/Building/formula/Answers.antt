@@ -1,12 +1,8 @@
-use Rattle.std.proofs.Common.{◌≡◌, ◌<◌, ◌≤◌, ◌-◌, ℕ, [], length, take, map, sym, ap, subst, ◌∙◌, arith}
-use Rattle.std.proofs.lemmas.List.{length-map, get_or_read}
-use Rattle.ps_meaning.specs.Formula.{Truth}
+use Rattle.std.proofs.Common.{[], take, sym, subst, arith}
+use Rattle.std.proofs.lemmas.List.{get_or_read}
 use Rattle.ps_problem.specs.declared.mark.Mark.TheVariants as mark
-use Rattle.ps_problem.specs.Numbering.{node_in, same_formula, place_in}
-use Rattle.ps_problem.specs.Drafts.{arity}
 use Rattle.ps_problem.specs.Entries.{standing}
 use Rattle.ps_problem.specs.Built.{Stand}
-use Rattle.ps_problem.proofs.Lists.{place-below}
 use Rattle.ps_problem.proofs.Operators.{length-stand, tops-are, numbers-below}
 use Rattle.ps_problem.proofs.Turns.{held-at, reached-start, reached-stop, reached-next, from-no-error, one-left, reached-end}
 use Rattle.ps_problem.proofs.building.Building.formula.Goals as goal
@@ -35,8 +31,8 @@ returns-in-Err c = λ h.
     let m = c.requires.marks in
     let s = subst (λ ps. Stand r.built.formulas (standing c.args.names.now [] (take c.loop-mark.mark-index c.args.marks.now)) ps) (sym c.deref.ensures.value) r.stand in
     rw (← tops-are c.args.names.now c.args.marks.now _ m.held m.made)
-      (reached-stop c.args.names.now h.formulas c.args.marks.now c.loop-mark.mark-index c.loop-mark.self.atoms c.loop-mark.self.formulas c.loop-mark.stack.items r mark.True c.loop-mark-test.true
-        c.mark.new.self.atoms c.mark.new.self.formulas c.in-Err.fault (c.in-Err.ensures r.built _ s))
+    (reached-stop c.args.names.now h.formulas c.args.marks.now c.loop-mark.mark-index c.loop-mark.self.atoms c.loop-mark.self.formulas c.loop-mark.stack.items r mark.True c.loop-mark-test.true
+    c.mark.new.self.atoms c.mark.new.self.formulas c.in-Err.fault (c.in-Err.ensures r.built _ s))
 
 pub replace-requires : goal.replace-requires
 replace-requires c =
@@ -52,8 +48,8 @@ loop-mark-preserved c = λ h.
     let held = held-at c.args.names.now [] c.args.marks.now c.loop-mark.mark-index mark.True c.requires.marks.held c.loop-mark-test.true in
     let l = length-stand r.built.formulas (standing c.args.names.now [] (take c.loop-mark.mark-index c.args.marks.now)) c.loop-mark.stack.items r.stand in
     rw (from-no-error c.replace.result c.if-is_err.ensures.value c.replace.ensures.ok, c.operands.ensures)
-      (reached-next c.args.names.now h.formulas c.args.marks.now c.loop-mark.mark-index c.loop-mark.self.atoms c.loop-mark.self.formulas c.loop-mark.stack.items r mark.True c.loop-mark-test.true
-        c.mark.new.self.atoms c.mark.new.self.formulas c.in-Ok.number (omega arith) (c.in-Ok.ensures r.built _ s))
+    (reached-next c.args.names.now h.formulas c.args.marks.now c.loop-mark.mark-index c.loop-mark.self.atoms c.loop-mark.self.formulas c.loop-mark.stack.items r mark.True c.loop-mark-test.true
+    c.mark.new.self.atoms c.mark.new.self.formulas c.in-Ok.number (omega arith) (c.in-Ok.ensures r.built _ s))
 
 pub index-requires : goal.index-requires
 index-requires c =

@@ -1,9 +1,5 @@
-use Rattle.std.proofs.Common.{◌≡◌, ◌<◌, ◌≤◌, ℕ, length, sym, ap, subst, ◌∙◌, arith}
-use Rattle.std.specs.List.{list_any}
-use Rattle.ps_problem.specs.declared.mark.Mark.TheVariants as mark
-use Rattle.ps_problem.specs.Counts.{with_formulas}
+use Rattle.std.proofs.Common.{◌∙◌}
 use Rattle.ps_problem.specs.Drafts.{made_by}
-use Rattle.ps_problem.specs.Built.{Follows}
 use Rattle.ps_problem.proofs.Steps.{step-known}
 use Rattle.ps_problem.proofs.Operators.{operator-ready, operator-node}
 use Rattle.ps_problem.proofs.building.Building.mark.Goals as goal
@@ -16,6 +12,6 @@ returns c = λ h fs s.
     let i = c.args.self.now in
     let names = c.args.names.now in
     rw c.node.ensures.atoms (step-known names i.atoms i.formulas h (made_by names fs c.args.mark)
-      (operator-ready h.formulas fs c.args.stack.now s names c.args.mark c.in_default.not-Name c.requires.operands)
-      _ (c.node_of.ensures ∙ operator-node h.formulas fs c.args.stack.now s names c.args.mark c.in_default.not-Name c.requires.operands)
-      c.node.new.self.formulas c.node.result c.node.ensures.nodes)
+    (operator-ready h.formulas fs c.args.stack.now s names c.args.mark c.in_default.not-Name c.requires.operands)
+    _ (c.node_of.ensures ∙ operator-node h.formulas fs c.args.stack.now s names c.args.mark c.in_default.not-Name c.requires.operands)
+    c.node.new.self.formulas c.node.result c.node.ensures.nodes)
