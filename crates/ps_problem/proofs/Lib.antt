@@ -7,3 +7,4 @@ pub mod Steps
 pub mod Atoms
 pub mod Operators
 pub mod Turns
+pub mod Pairs

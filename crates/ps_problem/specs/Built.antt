@@ -3,18 +3,19 @@ use Rattle.std.specs.Prelude.{◌≡◌, ◌≤◌, ◌<◌, ◌-◌, ℕ, true,
 use Rattle.std.specs.List.{list_any}
 use Rattle.ps_meaning.specs.Formula.{Formula}
 use Rattle.ps_meaning.specs.Formula as formula
-use Rattle.ps_meaning.specs.Statements.{Name}
+use Rattle.ps_meaning.specs.Statements.{Name, Question}
 use Rattle.ps_formula.specs.declared.node.Node.{Node}
 use Rattle.ps_formula.specs.declared.node.Node.TheVariants as node
 use Rattle.ps_problem.specs.declared.mark.Mark.{Mark}
 use Rattle.ps_problem.specs.declared.mark.Mark.TheVariants as mark
+use Rattle.ps_problem.specs.declared.query.Query.{Query}
 use Rattle.ps_problem.specs.declared.fault.Fault.{Fault}
 use Rattle.ps_problem.specs.declared.fault.Fault.TheVariants as fault
 use Rattle.ps_formula.specs.Nodes.{Adds}
 use Rattle.ps_problem.specs.Counts.{Excess, Atoms, Nodes, Bounds, Queries, with_formulas}
 use Rattle.ps_problem.specs.Drafts.{made_by, marked}
 use Rattle.ps_problem.specs.Entries.{standing}
-use Rattle.ps_problem.specs.Numbering.{AreOnce, same_name, same_formula, place_in, names_among, node_in}
+use Rattle.ps_problem.specs.Numbering.{AreOnce, same_name, same_formula, place_in, names_among, node_in, both_of, query_in}
 
 -- a formula is among some
 abbrev pub IsAmong : List (Formula Name) → Formula Name → Type 0
@@ -100,3 +101,14 @@ pub record Reached (names : List Name) (start : List (Formula Name)) (all : List
   pub built : Built names atoms nodes
   pub stand : Stand built.formulas (standing names [] (take i all)) stack
   pub rest : with_formulas built.formulas (tops names (standing names [] (take i all)) (drop i all)) ≡ with_formulas start (tops names [] all)
+
+-- the formulas of a question are among some
+pub record HasQuestion (fs : List (Formula Name)) (q : Question) : Type 0 where
+  pub formula : IsAmong fs q.formula
+  pub given : IfSome q.given (IsAmong fs)
+  pub both : IsAmong fs (both_of q.formula q.given)
+
+-- what is expected was built, and the question has these numbers; or there is the excess that is expected
+abbrev pub FollowsQuestion : List Name → Result (List (Formula Name)) Excess → Question → List ℕ → List Node → Result Query Fault → Type 0
+FollowsQuestion names expected q atoms nodes (Ok r) = (h : Built names atoms nodes) × (expected ≡ Ok h.formulas) × HasQuestion h.formulas q × (r ≡ query_in h.formulas q)
+FollowsQuestion names expected q atoms nodes (Err x) = IfSome (excess_of x) (λ e. expected ≡ Err e)
