@@ -1,0 +1,2 @@
+pub mod CrossOrder
+pub mod Reduced
