@@ -1,2 +1,3 @@
 pub mod CrossOrder
 pub mod Reduced
+pub mod Halving

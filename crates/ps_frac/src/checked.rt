@@ -1,6 +1,6 @@
 //! Operations on 128-bit numbers whose results are at most 2^127 - 1 in size.
 
-ghost use Rattle.std.specs.Prelude.{◌≡◌, ◌*◌, ◌^◌, ◌<◌, pos, ◌+ℤ◌, ◌*ℤ◌, unsigned_abs, int_div};
+ghost use Rattle.std.specs.Prelude.{◌≡◌, ◌*◌, ◌/◌, ◌^◌, ◌<◌, pos, ◌+ℤ◌, ◌*ℤ◌, unsigned_abs, int_div};
 ghost use Rattle.std.specs.Option.{SomeIff};
 
 /// Above the size of every number that a fraction holds.
@@ -13,7 +13,21 @@ pub(crate) fn divided(n: i128, g: u128) -> i128
     requires size { unsigned_abs n < 2 ^ 127 }
     ensures value { result ≡ int_div n (pos g) }
 {
+    if g == 1 {
+        return n;
+    }
     n / (g as i128)
+}
+
+/// `n / g`, rounded down.
+pub(crate) fn part(n: u128, g: u128) -> u128
+    requires positive { 0 < g }
+    ensures value { result ≡ n / g }
+{
+    if g == 1 {
+        return n;
+    }
+    n / g
 }
 
 /// `a * b`, where it is below the limit.

@@ -6,7 +6,7 @@ ghost use Rattle.ps_rational.specs.Gcd.{gcd as gcd_of};
 ghost use Rattle.ps_rational.specs.Rational.{mul, div, inverse, zero_q};
 ghost use Rattle.ps_rational.specs.Wide.{product_over, product_under, ProductIsWide};
 
-use crate::checked::{divided, signed_product, size_product};
+use crate::checked::{divided, part, signed_product, size_product};
 use crate::divisors::gcd;
 use crate::fraction::{Fraction, Op, Wide};
 
@@ -44,7 +44,7 @@ impl Fraction {
         requires h_positive { 0 < h }
         ensures value { SomeIff result (product_under self.now other.now < 2 ^ 127) (product_under self.now other.now) }
     {
-        size_product(self.under() / h, other.under() / g)
+        size_product(part(self.under(), h), part(other.under(), g))
     }
 
     /// The product, refused exactly where its numerator or denominator is too large.

@@ -6,7 +6,7 @@ ghost use Rattle.ps_rational.specs.Gcd.{gcd as gcd_of};
 ghost use Rattle.ps_rational.specs.Rational.{add, sub, neg};
 ghost use Rattle.ps_rational.specs.Wide.{SumOverFits, sum_over, sum_under, SumIsWide};
 
-use crate::checked::{divided, signed_product, signed_sum, size_product};
+use crate::checked::{divided, part, signed_product, signed_sum, size_product};
 use crate::divisors::gcd;
 use crate::fraction::{Fraction, Op, Wide};
 
@@ -27,8 +27,8 @@ impl Fraction {
         ensures value { SomeIff result (SumOverFits self.now other.now) (sum_over self.now other.now) }
     {
         match (
-            self.scaled(other.under() / g),
-            other.scaled(self.under() / g),
+            self.scaled(part(other.under(), g)),
+            other.scaled(part(self.under(), g)),
         ) {
             (Some(left), Some(right)) => signed_sum(left, right),
             _ => None,
@@ -45,7 +45,7 @@ impl Fraction {
         ensures value { SomeIff result (sum_under self.now other.now < 2 ^ 127) (add self.now other.now) }
     {
         let h = gcd(top.unsigned_abs(), g);
-        match size_product(self.under() / g, other.under() / h) {
+        match size_product(part(self.under(), g), part(other.under(), h)) {
             Some(denominator) => Some(Fraction::of_lowest(divided(top, h), denominator)),
             None => None,
         }
