@@ -2,7 +2,7 @@
 use Rattle.std.proofs.Common.{◌≡◌, ◌≢◌, ℕ, zero, suc, ◌*◌, ◌/◌, ◌<◌, ℤ, pos, negsuc, ◌*ℤ◌, ◌<ℤ◌, ◌≤ℤ◌, neg_ℤ, unsigned_abs, int_div, sym, refl, ap, ◌∙◌, subst, arith}
 use Rattle.std.proofs.lemmas.Int.{ints}
 use Rattle.std.proofs.lemmas.Nat.Gcd.{IsGcd-swap}
-use Rattle.std.proofs.Math.Nat.{div-mul_cancel, pos_of_dvd_of_pos, one-dvd}
+use Rattle.std.proofs.Math.Nat.{div-mul_cancel, pos_of_dvd_of_pos}
 use Rattle.std.specs.Int.{IsGcd}
 use Rattle.ps_rational.specs.Gcd.{gcd, lcm, IsLeastCommonMultiple}
 use Rattle.ps_rational.specs.Wide.{sum_over, sum_under}
@@ -10,7 +10,7 @@ use Rattle.ps_rational.specs.Rational.{Rational, IsLowestTerms, Positive, suc_po
 use Rattle.ps_rational.specs.Coprime.{gcd_is, coprime_rest}
 use Rattle.ps_rational.specs.Parts.{quot_abs, part_pos}
 use Rattle.ps_rational.proofs.ExactQuotient.{quot_exact}
-use Rattle.ps_rational.proofs.IntRing.{cross_reduced, *ℤ-one}
+use Rattle.ps_rational.proofs.IntRing.{cross_reduced}
 use Rattle.ps_rational.proofs.Cross.{quotient_is}
 use Rattle.ps_rational.proofs.Multiples.{lcm_is}
 use Rattle.ps_rational.proofs.Field.{over_is_zero}
@@ -93,7 +93,3 @@ pub lcm_at : (a b u v g m n : ℕ) → 0 < b → u ≡ a → v ≡ b → g ≡ g
 lcm_at a b u v g m n h eu ev eg em en =
     let e : n ≡ lcm a b = en ∙ em ∙ (λ i. (eu i / (eg ∙ (λ j. gcd (eu j) (ev j))) i) * ev i) in
     subst (λ k. IsLeastCommonMultiple a b k) (sym e) (lcm_is a b h)
-
--- ---- division by one
-pub by_one : (z : ℤ) → z ≡ int_div z (pos 1)
-by_one z = sym (sym (*ℤ-one (int_div z (pos 1))) ∙ quot_exact z 1 (one-dvd (unsigned_abs z)))

@@ -5,7 +5,8 @@ use Rattle.std.proofs.lemmas.Int.{ints}
 use Rattle.ps_rational.specs.Gcd.{gcd, gcd_within}
 use Rattle.ps_rational.specs.Rational.{Rational, Positive, one_positive, suc_positive, at_least_one, times, quotient, fraction, zero_q, one_q, add, mul, neg, sub, inverse_of, inverse, div, den}
 use Rattle.ps_rational.proofs.IntRing.{neg-pos, diff-negsuc, diff-same, diffs, diff}
-use Rattle.ps_rational.proofs.Ring.{Laws, Term, var, plus, by, minus, eval, ring, join, gains, losses}
+use Rattle.ps_rational.specs.Laws.{CommutativeRing}
+use Rattle.ps_rational.proofs.Ring.{Term, var, plus, by, minus, eval, ring, join, gains, losses}
 use Rattle.ps_rational.proofs.Cross.{times-value, fractional, quotients, by_cross, quotient_of_parts, quotient_is, mul-quotient, neg-quotient, quotient-same}
 
 assoc : (p n q m r k : ℕ) (d e f : Positive) → add (add (quotient (diff p n) d) (quotient (diff q m) e)) (quotient (diff r k) f) ≡ add (quotient (diff p n) d) (add (quotient (diff q m) e) (quotient (diff r k) f))
@@ -62,7 +63,7 @@ add-neg x =
     let a = fractional x in
     rw a.is (simp quotients (by_cross _ _ _ _ _ _ (simp times-value (omega arith))))
 
-pub rational_laws : Laws add mul neg zero_q one_q
+pub rational_laws : CommutativeRing add mul neg zero_q one_q
 rational_laws = record {
   add_assoc = add_assoc;
   add_comm = add_comm;

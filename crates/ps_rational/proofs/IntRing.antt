@@ -2,7 +2,8 @@
 use Rattle.std.proofs.Common.{◌≡◌, ℕ, suc, ◌+◌, ◌*◌, ◌<◌, ℤ, pos, negsuc, ◌+ℤ◌, ◌-ℤ◌, ◌*ℤ◌, neg_ℤ, List, sym, ap, ◌∙◌, arith}
 use Rattle.std.proofs.lemmas.Int.{ints}
 use Rattle.std.proofs.Math.Nat.{eq_of_mul-eq-mul_right}
-use Rattle.ps_rational.proofs.Ring.{Laws, Term, eval, ring, join, gains, losses}
+use Rattle.ps_rational.specs.Laws.{CommutativeRing}
+use Rattle.ps_rational.proofs.Ring.{Term, eval, ring, join, gains, losses}
 use borrow.Author.Differences.{up, down, product_is, same_in}
 
 unfoldable pub diff : ℕ → ℕ → ℤ
@@ -145,7 +146,7 @@ pub +ℤ-zero : (x : ℤ) → x +ℤ pos 0 ≡ x
 pub +ℤ-neg : (x : ℤ) → x +ℤ neg_ℤ x ≡ pos 0
 +ℤ-neg x = omega (arith, ints)
 
-pub int_laws : Laws (λ x y. x +ℤ y) (λ x y. x *ℤ y) neg_ℤ (pos 0) (pos 1)
+pub int_laws : CommutativeRing (λ x y. x +ℤ y) (λ x y. x *ℤ y) neg_ℤ (pos 0) (pos 1)
 int_laws = record {
   add_assoc = +ℤ_assoc;
   add_comm = +ℤ_comm;

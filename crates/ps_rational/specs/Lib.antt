@@ -5,3 +5,4 @@ pub mod Rational
 pub mod Order
 pub mod Wide
 pub mod Sums
+pub mod Laws
