@@ -13,7 +13,9 @@ divided_down (negsuc a) g s h e = ap (λ k. neg_ℤ (pos k)) e
 
 pub small_product : (a b : ℕ) → a < 2 ^ 63 → b < 2 ^ 63 → a * b < 2 ^ 126
 small_product a b h k =
-    let e : a * b ≤ (2 ^ 63 - 1) * (2 ^ 63 - 1) = mul-le-mul (omega arith) (omega arith) in
+    let ha : a ≤ 2 ^ 63 - 1 = omega arith in
+    let hb : b ≤ 2 ^ 63 - 1 = omega arith in
+    let e : a * b ≤ (2 ^ 63 - 1) * (2 ^ 63 - 1) = mul-le-mul ha hb in
     omega (arith, e)
 
 pub small_signed_product : (a b : ℤ) → unsigned_abs a < 2 ^ 63 → unsigned_abs b < 2 ^ 63 → unsigned_abs (a *ℤ b) < 2 ^ 126
