@@ -2,4 +2,4 @@ pub mod Units
 pub mod PivotKeeps
 pub mod Columns
 pub mod OneTable
-pub mod Prices
+pub mod Pricing

@@ -37,3 +37,21 @@ pub record Stands (n w : ℕ) (A : ℕ → ℕ → Rational) (basic : ℕ → �
 -- what the rows carry of column j, by the costs of the basic columns
 abbrev pub carried_by : ℕ → (ℕ → Rational) → (ℕ → ℕ) → (ℕ → ℕ → Rational) → ℕ → Rational
 carried_by n cost basic X j = sum_to n (λ i. mul (cost (basic i)) (X i j))
+
+-- what a pivot needs: a row, a column, and an entry other than 0 there, in a table whose basic columns it has
+pub record CanPivot (n w p q : ℕ) (basic : ℕ → ℕ) (X : ℕ → ℕ → Rational) : Type 0 where
+  pub homes : n < w
+  pub basics : (i : ℕ) → i < n → basic i < w
+  pub row : p < n
+  pub column : q < w
+  pub entry : X p q ≢ zero_q
+
+-- the first table, the identity on the homes
+pub record IsFirst (n : ℕ) (basic : ℕ → ℕ) (X : ℕ → ℕ → Rational) : Type 0 where
+  pub entries : (i j : ℕ) → i < n → j ≤ n → X i j ≡ unit_at i (j - 1)
+  pub basics : (i : ℕ) → i < n → basic i ≡ suc i
+
+-- Z is X with one more column: the world's entries, combined by the home columns
+pub record Widened (n w : ℕ) (A X Z : ℕ → ℕ → Rational) : Type 0 where
+  pub same : (i j : ℕ) → i < n → j < w → Z i j ≡ X i j
+  pub made : (i : ℕ) → i < n → Z i w ≡ sum_to n (λ m. mul (X i (suc m)) (A m w))

@@ -1,10 +1,10 @@
 -- Greatest common divisors by differences and halving.
-use Rattle.std.proofs.Common.{◌≡◌, ℕ, zero, suc, ◌+◌, ◌-◌, ◌*◌, ◌/◌, ◌%◌, ◌^◌, ◌<◌, ◌≤◌, min, sym, refl, ap, ◌∙◌, subst, arith, ◌⊎◌, inl, inr}
+use Rattle.std.proofs.Common.{◌≡◌, ℕ, zero, suc, ◌+◌, ◌-◌, ◌*◌, ◌/◌, ◌%◌, ◌^◌, ◌<◌, ◌≤◌, sym, ap, ◌∙◌, subst, arith}
 use Rattle.std.specs.Int.{IsGcd, ◌∣◌, bit_at}
-use Rattle.std.proofs.Math.Nat.{pow-suc, dvd-mod_iff, dvd-mul_right_of_dvd, dvd_trans, dvd_refl, one-dvd, dvd-zero, mul_comm}
+use Rattle.std.proofs.Math.Nat.{pow-suc, dvd-mod_iff, dvd-mul_right_of_dvd, dvd_refl, one-dvd, mul_comm}
 use Rattle.std.proofs.lemmas.Nat.{shr-shr, pow-add, pow_pos}
 use Rattle.std.proofs.lemmas.Nat.Bits.{bit_at_lowest, bit_at-suc}
-use Rattle.std.proofs.lemmas.Nat.Gcd.{IsGcd-swap, IsGcd-from_sub, le_of_dvd, mod-eq-zero_of_dvd}
+use Rattle.std.proofs.lemmas.Nat.Gcd.{IsGcd-swap, IsGcd-from_sub}
 use Rattle.ps_rational.specs.Coprime.{coprime_product, coprime_parts, gauss, IsGcd-scale}
 
 -- below the lowest bit that is set there is nothing to lose

@@ -6,7 +6,7 @@ use Rattle.std.proofs.Math.Nat.{div-mul_cancel, pos_of_dvd_of_pos}
 use Rattle.std.specs.Int.{IsGcd}
 use Rattle.ps_rational.specs.Gcd.{gcd, lcm, IsLeastCommonMultiple}
 use Rattle.ps_rational.specs.Wide.{sum_over, sum_under}
-use Rattle.ps_rational.specs.Rational.{Rational, IsLowestTerms, Positive, suc_positive, at_least_one, quotient, den, fraction, zero_q, neg, inverse, inverse_of}
+use Rattle.ps_rational.specs.Rational.{Rational, IsLowestTerms, Positive, suc_positive, at_least_one, den, fraction, zero_q, neg, inverse, inverse_of}
 use Rattle.ps_rational.specs.Coprime.{gcd_is, coprime_rest}
 use Rattle.ps_rational.specs.Parts.{quot_abs, part_pos}
 use Rattle.ps_rational.proofs.ExactQuotient.{quot_exact}

@@ -5,7 +5,6 @@ ghost use Rattle.std.specs.Ordering.{nat_cmp};
 ghost use Rattle.ps_rational.specs.Order.{order_of};
 
 use crate::fraction::Fraction;
-
 use std::cmp::Ordering;
 
 /// The order of `a / b` and `c / d`, by whole parts and then the rests, turned over.

@@ -5,7 +5,6 @@ ghost use Rattle.ps_rational.specs.Rational.{Rational, IsLowestTerms, fraction, 
 
 use crate::checked::divided;
 use crate::divisors::gcd;
-
 use std::marker::Model;
 
 /// The operations that can be refused.
@@ -48,6 +47,19 @@ impl Model for Fraction {
     ghost inverse = { λ r. record { numerator = r.over; denominator = r.under; lowest = r.lowest } };
 
     ghost invariant = { λ f. (unsigned_abs f.numerator < 2 ^ 127) × (f.denominator < 2 ^ 127) };
+}
+
+impl Wide {
+    /// The refusal of an operation on two fractions.
+    pub(crate) fn of(operation: Op, first: &Fraction, second: &Fraction) -> Wide
+        ensures value { result ≡ record { op = operation; left = first.now; right = second.now } }
+    {
+        Wide {
+            op: operation,
+            left: *first,
+            right: *second,
+        }
+    }
 }
 
 impl Fraction {

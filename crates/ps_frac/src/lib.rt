@@ -11,3 +11,6 @@ mod sums;
 
 pub use fraction::{Fraction, Op, Wide};
 pub use multiples::lcm_upto;
+
+#[cfg(test)]
+mod tests;

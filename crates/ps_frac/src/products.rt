@@ -30,10 +30,7 @@ impl Fraction {
         requires h_small { h < 2 ^ 127 }
         ensures value { SomeIff result (unsigned_abs (product_over self.now other.now) < 2 ^ 127) (product_over self.now other.now) }
     {
-        signed_product(
-            divided(self.numerator(), g),
-            divided(other.numerator(), h),
-        )
+        signed_product(divided(self.numerator(), g), divided(other.numerator(), h))
     }
 
     /// The denominator of the product.
@@ -61,11 +58,7 @@ impl Fraction {
             self.product_under(other, g, h),
         ) {
             (Some(numerator), Some(denominator)) => Ok(Fraction::of_lowest(numerator, denominator)),
-            _ => Err(Wide {
-                op: Op::Mul,
-                left: *self,
-                right: *other,
-            }),
+            _ => Err(Wide::of(Op::Mul, self, other)),
         }
     }
 
@@ -93,11 +86,7 @@ impl Fraction {
     {
         match self.mul(&other.turned()) {
             Ok(quotient) => Ok(quotient),
-            Err(_) => Err(Wide {
-                op: Op::Div,
-                left: *self,
-                right: *other,
-            }),
+            Err(_) => Err(Wide::of(Op::Div, self, other)),
         }
     }
 }

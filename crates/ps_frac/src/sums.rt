@@ -64,11 +64,7 @@ impl Fraction {
                 return Ok(sum);
             }
         }
-        Err(Wide {
-            op: Op::Add,
-            left: *self,
-            right: *other,
-        })
+        Err(Wide::of(Op::Add, self, other))
     }
 
     /// The difference, refused exactly where the sum with the other negated is.
@@ -80,11 +76,7 @@ impl Fraction {
     {
         match self.add(&other.neg()) {
             Ok(difference) => Ok(difference),
-            Err(_) => Err(Wide {
-                op: Op::Sub,
-                left: *self,
-                right: *other,
-            }),
+            Err(_) => Err(Wide::of(Op::Sub, self, other)),
         }
     }
 }

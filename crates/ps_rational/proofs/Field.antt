@@ -1,12 +1,12 @@
 -- The rational numbers are a field, and identities between them hold by computation.
-use Rattle.std.proofs.Common.{List, [], ◌∷◌, ◌≡◌, ◌≢◌, ℕ, zero, suc, ◌<◌, ℤ, pos, negsuc, ◌*ℤ◌, neg_ℤ, unsigned_abs, arith, sym, refl, ap, ◌∙◌}
+use Rattle.std.proofs.Common.{List, ◌≡◌, ◌≢◌, ℕ, zero, suc, ℤ, pos, negsuc, ◌*ℤ◌, neg_ℤ, arith, sym, refl, ap, ◌∙◌}
 use Rattle.std.proofs.Math.Nat.{zero-mul}
 use Rattle.std.proofs.lemmas.Int.{ints}
 use Rattle.ps_rational.specs.Gcd.{gcd, gcd_within}
-use Rattle.ps_rational.specs.Rational.{Rational, Positive, one_positive, suc_positive, at_least_one, times, quotient, fraction, zero_q, one_q, add, mul, neg, sub, inverse_of, inverse, div, den}
+use Rattle.ps_rational.specs.Rational.{Rational, Positive, one_positive, suc_positive, at_least_one, times, quotient, fraction, zero_q, one_q, add, mul, neg, inverse_of, inverse, div, den}
 use Rattle.ps_rational.proofs.IntRing.{neg-pos, diff-negsuc, diff-same, diffs, diff}
 use Rattle.ps_rational.specs.Laws.{CommutativeRing}
-use Rattle.ps_rational.proofs.Ring.{Term, var, plus, by, minus, eval, ring, join, gains, losses}
+use Rattle.ps_rational.proofs.Ring.{Term, eval, ring, join, gains, losses}
 use Rattle.ps_rational.proofs.Cross.{times-value, fractional, quotients, by_cross, quotient_of_parts, quotient_is, mul-quotient, neg-quotient, quotient-same}
 
 assoc : (p n q m r k : ℕ) (d e f : Positive) → add (add (quotient (diff p n) d) (quotient (diff q m) e)) (quotient (diff r k) f) ≡ add (quotient (diff p n) d) (add (quotient (diff q m) e) (quotient (diff r k) f))

@@ -1,5 +1,5 @@
 -- The least common multiple.
-use Rattle.std.proofs.Common.{◌≡◌, ℕ, ◌*◌, ◌/◌, ◌<◌, ◌≤◌, sym, ap, ◌∙◌, subst, arith}
+use Rattle.std.proofs.Common.{◌≡◌, ℕ, ◌*◌, ◌/◌, ◌<◌, sym, ap, ◌∙◌, subst, arith}
 use Rattle.std.proofs.Math.Nat.{div-mul_cancel, dvd-mul_left, mul-dvd-mul_right, dvd_of_mul-dvd-mul_right, dvd_antisymm, mul_assoc}
 use Rattle.std.specs.Int.{IsGcd, ◌∣◌}
 use Rattle.ps_rational.specs.Gcd.{gcd, lcm, IsLeastCommonMultiple}

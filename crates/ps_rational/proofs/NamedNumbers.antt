@@ -1,19 +1,18 @@
 -- The named numbers of a product and of a sum are in lowest terms, and their quotient is the product or the sum.
-use Rattle.std.proofs.Common.{◌≡◌, ◌≢◌, ℕ, zero, suc, ◌*◌, ◌/◌, ◌<◌, ℤ, pos, negsuc, ◌+ℤ◌, ◌-ℤ◌, ◌*ℤ◌, ◌<ℤ◌, ◌≤ℤ◌, neg_ℤ, unsigned_abs, int_div, sym, refl, ap, ◌∙◌, subst, arith}
-use Rattle.std.proofs.lemmas.Int.{ints, unsigned_abs-mul}
+use Rattle.std.proofs.Common.{◌≡◌, ℕ, ◌*◌, ◌/◌, ◌<◌, ℤ, pos, ◌+ℤ◌, ◌-ℤ◌, ◌*ℤ◌, unsigned_abs, int_div, sym, refl, ap, ◌∙◌, subst}
+use Rattle.std.proofs.lemmas.Int.{unsigned_abs-mul}
 use Rattle.std.proofs.lemmas.Nat.Gcd.{IsGcd-swap}
 use Rattle.std.proofs.Math.Nat.{div-mul_cancel, mul-pos, pos_of_dvd_of_pos, dvd_refl, dvd-mul_left, dvd-mul_left_of_dvd, dvd_trans, one-dvd, div-eq_of_eq-mul_left, mul_assoc}
 use lib.IntN.{+ℤ-neg_ℤ_cancel, +ℤ_comm}
 use Rattle.std.specs.Int.{IsGcd, ◌∣◌}
 use Rattle.ps_rational.specs.Gcd.{gcd}
 use Rattle.ps_rational.specs.Wide.{product_over, product_under, sum_over, sum_under}
-use Rattle.ps_rational.specs.Rational.{Rational, IsLowestTerms, Positive, suc_positive, at_least_one, quotient, den, times, fraction, add, mul, neg, zero_q, inverse, inverse_of}
+use Rattle.ps_rational.specs.Rational.{Rational, IsLowestTerms, den, times, add, mul}
 use Rattle.ps_rational.specs.Coprime.{gcd_is, gcd_pos_right, coprime_rest, coprime_parts, coprime_product, coprime_products, gauss}
 use Rattle.ps_rational.specs.Parts.{quot_abs, part_of, part_pos}
 use Rattle.ps_rational.proofs.ExactQuotient.{quot_exact}
-use Rattle.ps_rational.proofs.IntRing.{cross_product, cross_sum, sub-*ℤ, cross_reduced}
+use Rattle.ps_rational.proofs.IntRing.{cross_product, cross_sum, sub-*ℤ}
 use Rattle.ps_rational.proofs.Cross.{quotient_is}
-use Rattle.ps_rational.proofs.Field.{over_is_zero}
 
 -- ---- products
 pub product_abs : (x y : Rational) → unsigned_abs (product_over x y) ≡ (unsigned_abs x.over / gcd (unsigned_abs x.over) y.under) * (unsigned_abs y.over / gcd (unsigned_abs y.over) x.under)

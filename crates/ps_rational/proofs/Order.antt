@@ -7,7 +7,7 @@ use borrow.Author.Differences.{up, down}
 use Rattle.ps_rational.specs.Rational.{Rational, Positive, suc_positive, times, quotient, zero_q, one_q, add, mul, neg, sub, inverse_of, inverse, den}
 use Rattle.ps_rational.specs.Order.{IsNonneg, IsAbove, AtMost, IsLess}
 use Rattle.ps_rational.proofs.IntRing.{neg-*ℤ}
-use Rattle.ps_rational.proofs.Ring.{var, plus, by, minus, none, unit}
+use Rattle.ps_rational.proofs.Ring.{var, plus, by, minus, none}
 use Rattle.ps_rational.proofs.Cross.{quotient_cross, quotient_of_parts, add-quotient, same_from_cross}
 use Rattle.ps_rational.proofs.Field.{ring_q, over_is_zero, zero_over, one_over}
 
@@ -103,10 +103,10 @@ parts_zero x y h k e =
     (both_signs x h (subst IsNonneg (sym ex) k), both_signs y k (subst IsNonneg (sym ey) h))
 
 pub int_cases : (a b : ℤ) → (a <ℤ b) ⊎ (b ≤ℤ a)
-int_cases a b = elim (cases_lt (up a + down b) (up b + down a)) [ | inl l ↦ inl (omega (arith, ints)) | inr l ↦ inr (omega (arith, ints)) ]
+int_cases a b = elim (cases_lt (up a + down b) (up b + down a)) [ inl l ↦ inl (omega (arith, ints)) | inr l ↦ inr (omega (arith, ints)) ]
 
 not_strict : (a b : ℤ) → (a <ℤ b → ⊥) → a ≤ℤ b → b ≤ℤ a
-not_strict a b h c = elim (int_cases a b) [ | inl l ↦ absurd (h l) | inr l ↦ l ]
+not_strict a b h c = elim (int_cases a b) [ inl l ↦ absurd (h l) | inr l ↦ l ]
 
 -- the order, the other way round
 pub at_most_of : (x y : Rational) → (IsLess x y → ⊥) → AtMost y x
@@ -135,7 +135,7 @@ unfolding inverse
 inverse_nonneg x h = inverse_nonneg_of x.over (den x) h
 
 pub less_or_not : (x y : Rational) → IsLess x y ⊎ (IsLess x y → ⊥)
-less_or_not x y = elim (int_cases (x.over *ℤ pos y.under) (y.over *ℤ pos x.under)) [ | inl l ↦ inl l | inr n ↦ inr (λ l. absurd (omega (arith, ints, l, n))) ]
+less_or_not x y = elim (int_cases (x.over *ℤ pos y.under) (y.over *ℤ pos x.under)) [ inl l ↦ inl l | inr n ↦ inr (λ l. absurd (omega (arith, ints, l, n))) ]
 
 pub at_most_from_less : (x y : Rational) → IsLess x y → AtMost x y
 at_most_from_less x y l = at_most_from_cross x y (omega (arith, ints, l))
@@ -201,7 +201,7 @@ pub above_not_zero : (x : Rational) → IsAbove x → x ≢ zero_q
 above_not_zero x h e = let k = zero_over x e in absurd (omega (arith, ints, h, k))
 
 pub above_of : (x : Rational) → IsNonneg x → x ≢ zero_q → IsAbove x
-above_of x h n = elim (int_cases (pos 0) x.over) [ | inl l ↦ l | inr l ↦ absurd (n (over_is_zero x (omega (arith, ints, h, l)))) ]
+above_of x h n = elim (int_cases (pos 0) x.over) [ inl l ↦ l | inr l ↦ absurd (n (over_is_zero x (omega (arith, ints, h, l)))) ]
 
 pub one_above : IsAbove one_q
 one_above = let e = one_over in omega (arith, ints, e)

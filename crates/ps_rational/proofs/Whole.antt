@@ -1,10 +1,10 @@
 -- Whole numbers among the rational numbers.
-use Rattle.std.proofs.Common.{◌≡◌, ◌≢◌, ℕ, zero, suc, ◌+◌, ◌*◌, ◌<◌, ℤ, pos, negsuc, ◌+ℤ◌, ◌*ℤ◌, ◌≤ℤ◌, neg_ℤ, [], ◌∷◌, sym, refl, ap, ◌∙◌, subst, arith}
+use Rattle.std.proofs.Common.{◌≡◌, ◌≢◌, ℕ, zero, suc, ◌<◌, ℤ, pos, ◌+ℤ◌, ◌*ℤ◌, ◌≤ℤ◌, neg_ℤ, [], ◌∷◌, sym, refl, ap, ◌∙◌, subst, arith}
 use Rattle.std.proofs.lemmas.Int.{ints}
-use Rattle.ps_rational.specs.Rational.{Rational, Positive, at_least_one, times, quotient, whole, zero_q, one_q, add, mul, neg, inverse}
-use Rattle.ps_rational.specs.Order.{IsNonneg, IsAbove, AtMost}
+use Rattle.ps_rational.specs.Rational.{Rational, at_least_one, times, whole, zero_q, add, mul, neg, inverse}
+use Rattle.ps_rational.specs.Order.{IsNonneg, IsAbove}
 use Rattle.ps_rational.specs.Sums.{sum_to, int_sum_to}
-use Rattle.ps_rational.proofs.IntRing.{parts, diff, diffs, diff-same}
+use Rattle.ps_rational.proofs.IntRing.{parts, diffs, diff-same}
 use Rattle.ps_rational.proofs.Ring.{var, by, unit}
 use Rattle.ps_rational.proofs.Cross.{quotient-same, quotient_cross, add-quotient, mul-quotient, neg-quotient, times-value}
 use Rattle.ps_rational.proofs.Field.{ring_q, zero_over, mul-inverse, zero_is_fraction}

@@ -1,6 +1,6 @@
 -- What the laws of rational numbers and of sums say.
-use Rattle.std.specs.Prelude.{◌≡◌, ◌≢◌, ◌⊎◌, ◌↔◌, ℕ, ◌<◌, ℤ, pos, ◌+ℤ◌, ◌*ℤ◌, ◌≤ℤ◌, List, [], ◌∷◌, ◌++◌, All}
-use Rattle.ps_rational.specs.Rational.{Rational, add, mul, neg, sub, zero_q, one_q, inverse}
+use Rattle.std.specs.Prelude.{◌≡◌, ◌≢◌, ◌⊎◌, ◌↔◌, ℕ, ◌<◌, ℤ, pos, ◌+ℤ◌, ◌*ℤ◌, ◌≤ℤ◌, List, ◌∷◌, ◌++◌, All}
+use Rattle.ps_rational.specs.Rational.{Rational, add, mul, sub, zero_q}
 use Rattle.ps_rational.specs.Order.{IsNonneg, AtMost, IsLess}
 use Rattle.ps_rational.specs.Sums.{sum_to, sum_of}
 

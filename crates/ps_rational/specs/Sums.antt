@@ -1,5 +1,5 @@
 -- Sums of rational numbers, and weighted sums of signed whole numbers over a list.
-use Rattle.std.specs.Prelude.{ℕ, zero, suc, ℤ, pos, ◌+ℤ◌, ◌*ℤ◌, List, [], ◌∷◌}
+use Rattle.std.specs.Prelude.{ℕ, zero, suc, ℤ, pos, ◌+ℤ◌, List, [], ◌∷◌}
 use Rattle.ps_rational.specs.Rational.{Rational, add, zero_q}
 
 -- f 0 + .. + f (n - 1)

@@ -10,29 +10,24 @@ pub fn field_laws()
     ensures ring { CommutativeRing add mul neg zero_q one_q }
     ensures inverses { (x : Rational) → x ≢ zero_q → mul x (inverse x) ≡ one_q }
     ensures apart { one_q ≢ zero_q }
-{
-}
+{}
 
 /// Their order is total, and sums and products keep it.
 pub fn order_laws()
     ensures ordered { IsOrdered }
-{
-}
+{}
 
 /// Sums of rational numbers.
 pub fn sum_laws()
     ensures sums { SumsOfRationals }
-{
-}
+{}
 
 /// Weighted sums of signed whole numbers over lists.
 pub fn weighted_sum_laws<A, B>()
     ensures sums { WeightedSums A B }
-{
-}
+{}
 
 /// The least common multiple divides every common multiple.
 pub fn lcm_laws()
     ensures least { (a b : ℕ) → 0 < b → IsLeastCommonMultiple a b (lcm a b) }
-{
-}
+{}

@@ -1,7 +1,6 @@
 use Rattle.std.proofs.Common.{◌≡◌, arith, subst, sym}
 use Rattle.std.specs.Int.{IsGcd}
 use Rattle.std.proofs.Math.Nat.{dvd_refl, one-dvd}
-use Rattle.ps_rational.specs.Gcd.{gcd}
 use Rattle.ps_rational.specs.Coprime.{is_gcd, gcd_pos_right, gcd_le_right}
 use Rattle.ps_frac.proofs.divisors.gcd.Goals as goal
 
