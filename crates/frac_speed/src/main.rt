@@ -3,7 +3,6 @@
 #![tactic(auto)]
 
 use ps_frac::Fraction;
-
 use std::alloc::Global;
 use std::env;
 
@@ -48,7 +47,9 @@ fn fractions(alloc: Global) -> anyhow::Result<Vec<Fraction>> {
 fn mixed(sum: u64, answer: &Fraction) -> u64 {
     let over = answer.numerator().unsigned_abs() & 0xFFFF_FFFF;
     let under = answer.denominator().unsigned_abs() & 0xFFFF_FFFF;
-    sum.wrapping_mul(31).wrapping_add(over as u64).wrapping_add(under as u64)
+    sum.wrapping_mul(31)
+        .wrapping_add(over as u64)
+        .wrapping_add(under as u64)
 }
 
 /// A checksum of the sums of neighbours, going round.

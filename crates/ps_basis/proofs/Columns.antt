@@ -1,12 +1,12 @@
 -- The homes' table, and a world's column made from the home columns.
-use Rattle.std.proofs.Common.{◌≡◌, ◌≢◌, ℕ, zero, suc, ◌-◌, ◌<◌, cond, eqb, eq-eqb, ◌≤◌, [], ◌∷◌, sym, refl, ap, ◌∙◌, subst, arith, inl, inr}
-use Rattle.std.proofs.lemmas.Bool.{cases_eq, ne_eqb}
-use Rattle.ps_rational.specs.Rational.{Rational, add, mul, sub, div, inverse, zero_q, one_q}
+use Rattle.std.proofs.Common.{◌≡◌, ℕ, suc, ◌-◌, ◌<◌, [], ◌∷◌, sym, refl, ap, ◌∙◌, subst, arith, inl, inr}
+use Rattle.std.proofs.lemmas.Bool.{cases_eq}
+use Rattle.ps_rational.specs.Rational.{Rational, mul}
 use Rattle.ps_rational.specs.Sums.{sum_to}
-use Rattle.ps_rational.proofs.Ring.{var, plus, by, minus, none, unit}
-use Rattle.ps_rational.proofs.Field.{mul-inverse, div-mul, ring_q, mul_comm}
-use Rattle.ps_rational.proofs.Sums.{sum_same, sum_scale, sum-sub, sum_swap, unit_sum}
-use Rattle.ps_basis.specs.Table.{Pivoted, Based, unit_at, HasHomes, Belongs, Stands}
+use Rattle.ps_rational.proofs.Ring.{var, by}
+use Rattle.ps_rational.proofs.Field.{ring_q, mul_comm}
+use Rattle.ps_rational.proofs.Sums.{sum_same, sum_scale, sum_swap, unit_sum}
+use Rattle.ps_basis.specs.Table.{unit_at, HasHomes, Stands}
 use Rattle.ps_basis.proofs.Units.{less_one, unit_at-same, unit_at-other}
 
 new_belongs : (n w : ℕ) (A X Z : ℕ → ℕ → Rational) (basic : ℕ → ℕ) → n < w

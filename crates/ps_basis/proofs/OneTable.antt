@@ -1,12 +1,11 @@
 -- A basis has one table.
-use Rattle.std.proofs.Common.{◌≡◌, ◌≢◌, ℕ, zero, suc, ◌-◌, ◌<◌, cond, eqb, eq-eqb, ◌≤◌, [], ◌∷◌, sym, refl, ap, ◌∙◌, subst, arith, inl, inr}
-use Rattle.std.proofs.lemmas.Bool.{cases_eq, ne_eqb}
-use Rattle.ps_rational.specs.Rational.{Rational, add, mul, sub, div, inverse, zero_q, one_q}
+use Rattle.std.proofs.Common.{◌≡◌, ℕ, suc, ◌<◌, [], ◌∷◌, sym, refl, ap, ◌∙◌}
+use Rattle.ps_rational.specs.Rational.{Rational, mul}
 use Rattle.ps_rational.specs.Sums.{sum_to}
-use Rattle.ps_rational.proofs.Ring.{var, plus, by, minus, none, unit}
-use Rattle.ps_rational.proofs.Field.{mul-inverse, div-mul, ring_q, mul_comm}
-use Rattle.ps_rational.proofs.Sums.{sum_same, sum_scale, sum-sub, sum_swap, unit_sum}
-use Rattle.ps_basis.specs.Table.{Pivoted, Based, unit_at, HasHomes, Belongs, Stands}
+use Rattle.ps_rational.proofs.Ring.{var, by}
+use Rattle.ps_rational.proofs.Field.{ring_q}
+use Rattle.ps_rational.proofs.Sums.{sum_same, sum_scale, sum_swap, unit_sum}
+use Rattle.ps_basis.specs.Table.{Belongs, Stands}
 
 -- a basis that pivots reach has one table
 pub one_table : (n w : ℕ) (A X Y : ℕ → ℕ → Rational) (basic : ℕ → ℕ) → n < w → ((i : ℕ) → i < n → basic i < w) → Stands n w A basic X

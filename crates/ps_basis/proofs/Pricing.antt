@@ -1,12 +1,11 @@
 -- What a table that stands for rows and columns says of costs: multipliers price every column, and the right side.
-use Rattle.std.proofs.Common.{◌≡◌, ◌≢◌, ℕ, zero, suc, ◌-◌, ◌<◌, cond, eqb, eq-eqb, ◌≤◌, [], ◌∷◌, sym, refl, ap, ◌∙◌, subst, arith, inl, inr}
-use Rattle.std.proofs.lemmas.Bool.{cases_eq, ne_eqb}
-use Rattle.ps_rational.specs.Rational.{Rational, add, mul, sub, div, inverse, zero_q, one_q}
+use Rattle.std.proofs.Common.{◌≡◌, ℕ, suc, ◌<◌, [], ◌∷◌, sym, refl, ap, ◌∙◌, arith}
+use Rattle.ps_rational.specs.Rational.{Rational, mul}
 use Rattle.ps_rational.specs.Sums.{sum_to}
-use Rattle.ps_rational.proofs.Ring.{var, plus, by, minus, none, unit}
-use Rattle.ps_rational.proofs.Field.{mul-inverse, div-mul, ring_q, mul_comm}
-use Rattle.ps_rational.proofs.Sums.{sum_same, sum_scale, sum-sub, sum_swap, unit_sum}
-use Rattle.ps_basis.specs.Table.{Pivoted, Based, unit_at, HasHomes, Belongs, Stands, carried_by}
+use Rattle.ps_rational.proofs.Ring.{var, by}
+use Rattle.ps_rational.proofs.Field.{ring_q, mul_comm}
+use Rattle.ps_rational.proofs.Sums.{sum_same, sum_scale, sum_swap}
+use Rattle.ps_basis.specs.Table.{Stands, carried_by}
 
 -- the right side is the column of the first home
 pub right_is_home : (n w : ℕ) (A X : ℕ → ℕ → Rational) (basic : ℕ → ℕ) → 0 < n → n < w → Stands n w A basic X → (i : ℕ) → i < n → X i 0 ≡ X i 1

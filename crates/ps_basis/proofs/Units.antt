@@ -1,12 +1,8 @@
 -- Units.
-use Rattle.std.proofs.Common.{◌≡◌, ◌≢◌, ℕ, zero, suc, ◌-◌, ◌<◌, cond, eqb, eq-eqb, ◌≤◌, [], ◌∷◌, sym, refl, ap, ◌∙◌, subst, arith, inl, inr}
-use Rattle.std.proofs.lemmas.Bool.{cases_eq, ne_eqb}
-use Rattle.ps_rational.specs.Rational.{Rational, add, mul, sub, div, inverse, zero_q, one_q}
-use Rattle.ps_rational.specs.Sums.{sum_to}
-use Rattle.ps_rational.proofs.Ring.{var, plus, by, minus, none, unit}
-use Rattle.ps_rational.proofs.Field.{mul-inverse, div-mul, ring_q, mul_comm}
-use Rattle.ps_rational.proofs.Sums.{sum_same, sum_scale, sum-sub, sum_swap, unit_sum}
-use Rattle.ps_basis.specs.Table.{Pivoted, Based, unit_at, HasHomes, Belongs, Stands}
+use Rattle.std.proofs.Common.{◌≡◌, ◌≢◌, ℕ, suc, ◌-◌, cond, eq-eqb, refl, ap, arith}
+use Rattle.std.proofs.lemmas.Bool.{ne_eqb}
+use Rattle.ps_rational.specs.Rational.{zero_q, one_q}
+use Rattle.ps_basis.specs.Table.{unit_at}
 
 pub less_one : (i : ℕ) → suc i - 1 ≡ i
 less_one i = omega arith
