@@ -1,3 +1,5 @@
 pub mod Formula
 pub mod Distribution
 pub mod Bounds
+pub mod Rows
+pub mod Statements

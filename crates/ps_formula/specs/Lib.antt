@@ -1,0 +1,3 @@
+pub use Rattle.ps_meaning.specs.Formula
+pub use Rattle.ps_meaning.specs.Distribution
+pub mod Nodes

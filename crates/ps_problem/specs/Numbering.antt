@@ -1,0 +1,119 @@
+-- The problem of a text's items: its formulas and atoms in the order in which they first come.
+use Rattle.std.specs.Prelude.{ℕ, suc, ◌==◌, Bool, true, false, ◌&&◌, List, [], ◌∷◌, ◌++◌, Option, Some, None, map, option_map, fold, if◌then◌else◌}
+use Rattle.std.specs.List.{list_any}
+use Rattle.std.specs.Cmp.Lexicographic.{pointwise}
+use Rattle.ps_meaning.specs.Formula.{Formula, subformulas}
+use Rattle.ps_meaning.specs.Formula as formula
+use Rattle.ps_meaning.specs.Bounds as meaning
+use Rattle.ps_meaning.specs.Statements.{Name, Ratio, Statement, Question, Item, statements_of, questions_of}
+use Rattle.ps_formula.specs.declared.node.Node.{Node}
+use Rattle.ps_formula.specs.declared.node.Node.TheVariants as node
+use Rattle.ps_problem.specs.declared.bound.Bound.{Bound}
+use Rattle.ps_problem.specs.declared.bound.Side.{Side}
+use Rattle.ps_problem.specs.declared.bound.Side.TheVariants as side
+use Rattle.ps_problem.specs.declared.sentence.Sentence.{Sentence}
+use Rattle.ps_problem.specs.declared.query.Query.{Query}
+use Rattle.ps_problem.specs.Problems.{Parts}
+
+-- whether two names are the same
+abbrev pub same_name : Name → Name → Bool
+same_name a b = pointwise (λ x y. x == y) a b
+
+-- whether two formulas over names are the same
+abbrev pub same_formula : Formula Name → Formula Name → Bool
+same_formula formula.Truth formula.Truth = true
+same_formula formula.Falsity formula.Falsity = true
+same_formula (formula.Atom a) (formula.Atom b) = same_name a b
+same_formula (formula.Not f) (formula.Not g) = same_formula f g
+same_formula (formula.And f f') (formula.And g g') = same_formula f g && same_formula f' g'
+same_formula (formula.Or f f') (formula.Or g g') = same_formula f g && same_formula f' g'
+same_formula (formula.Implies f f') (formula.Implies g g') = same_formula f g && same_formula f' g'
+same_formula (formula.Iff f f') (formula.Iff g g') = same_formula f g && same_formula f' g'
+same_formula f g = false
+
+-- the first place at which a thing stands in a list
+abbrev pub place_in : {X : Type 0} → (X → X → Bool) → List X → X → ℕ
+place_in same [] x = 0
+place_in same (y ∷ ys) x = if same x y then 0 else suc (place_in same ys x)
+
+-- a list with a thing behind it, unless it is there
+abbrev pub with_new : {X : Type 0} → (X → X → Bool) → List X → X → List X
+with_new same xs x = if list_any (same x) xs then xs else xs ++ x ∷ []
+
+-- each thing of a list once, in the order in which they first come
+abbrev pub different : {X : Type 0} → (X → X → Bool) → List X → List X
+different same xs = fold (with_new same) [] xs
+
+-- the formulas to be numbered for a formula and perhaps a condition: their subformulas, then the two together
+abbrev pub numbered_for : Formula Name → Option (Formula Name) → List (Formula Name)
+numbered_for f None = subformulas f
+numbered_for f (Some g) = subformulas f ++ subformulas g ++ formula.And f g ∷ []
+
+abbrev pub numbered_in_statements : List Statement → List (Formula Name)
+numbered_in_statements [] = []
+numbered_in_statements (s ∷ ss) = numbered_for s.formula s.given ++ numbered_in_statements ss
+
+abbrev pub numbered_in_questions : List Question → List (Formula Name)
+numbered_in_questions [] = []
+numbered_in_questions (q ∷ qs) = numbered_for q.formula q.given ++ numbered_in_questions qs
+
+-- the different formulas of some items, those of all statements first
+abbrev pub formulas_of : List Item → List (Formula Name)
+formulas_of items = different same_formula (numbered_in_statements (statements_of items) ++ numbered_in_questions (questions_of items))
+
+-- the names of the atoms among formulas, in order
+abbrev pub names_among : List (Formula Name) → List Name
+names_among [] = []
+names_among (formula.Atom a ∷ fs) = a ∷ names_among fs
+names_among (f ∷ fs) = names_among fs
+
+-- a formula as a node over numbered formulas
+abbrev pub node_in : List (Formula Name) → Formula Name → Node
+node_in fs formula.Truth = node.True
+node_in fs formula.Falsity = node.False
+node_in fs (formula.Atom a) = node.Atom (place_in same_name (names_among fs) a)
+node_in fs (formula.Not f) = node.Not (place_in same_formula fs f)
+node_in fs (formula.And f g) = node.And (place_in same_formula fs f) (place_in same_formula fs g)
+node_in fs (formula.Or f g) = node.Or (place_in same_formula fs f) (place_in same_formula fs g)
+node_in fs (formula.Implies f g) = node.Implies (place_in same_formula fs f) (place_in same_formula fs g)
+node_in fs (formula.Iff f g) = node.Iff (place_in same_formula fs f) (place_in same_formula fs g)
+
+-- formula and condition together
+abbrev pub both_of : Formula Name → Option (Formula Name) → Formula Name
+both_of f None = f
+both_of f (Some g) = formula.And f g
+
+abbrev pub side_in : meaning.Side → Side
+side_in meaning.AtLeast = side.AtLeast
+side_in meaning.AtMost = side.AtMost
+side_in meaning.Exactly = side.Exactly
+
+-- a statement's bound on one side
+abbrev pub bound_in : List (Formula Name) → Statement → meaning.Side → Ratio → Bound
+bound_in fs s on value = record {
+  formula = place_in same_formula fs s.formula;
+  given = option_map (place_in same_formula fs) s.given;
+  both = place_in same_formula fs (both_of s.formula s.given);
+  side = side_in on;
+  num = value.num;
+  den = value.den;
+}
+
+abbrev pub sentence_in : List (Formula Name) → Statement → Sentence
+sentence_in fs s = record { first = bound_in fs s s.side s.value; second = option_map (bound_in fs s meaning.AtMost) s.upper }
+
+abbrev pub query_in : List (Formula Name) → Question → Query
+query_in fs q = record {
+  formula = place_in same_formula fs q.formula;
+  given = option_map (place_in same_formula fs) q.given;
+  both = place_in same_formula fs (both_of q.formula q.given);
+}
+
+-- the problem of some items
+abbrev pub problem_of : List Item → Parts
+problem_of items = record {
+  names = names_among (formulas_of items);
+  nodes = map (node_in (formulas_of items)) (formulas_of items);
+  sentences = map (sentence_in (formulas_of items)) (statements_of items);
+  queries = map (query_in (formulas_of items)) (questions_of items);
+}

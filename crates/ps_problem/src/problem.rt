@@ -1,0 +1,98 @@
+//! A problem: atoms by name, formulas, sentences and queries.
+ghost use Rattle.std.specs.Prelude.{◌≡◌, ◌≤◌, ◌-◌, All, IfSome, length, map, option_copied, slice_get, Some, None, if◌then◌else◌, ◌==◌};
+ghost use Rattle.ps_formula.specs.Nodes.{AreNodes, AtomBelow};
+ghost use Rattle.ps_problem.specs.Problems.{AreBounds, bounds_in};
+
+use crate::{Bound, Queries, Sentences};
+use indexmap::IndexSet;
+use ps_formula::Formulas;
+use ps_io::List;
+use std::marker::Model;
+
+/// A problem within the limits: at most 128 atoms, 1,024 nodes, 100 bounds and 16 queries.
+#[derive(Drop)]
+pub struct Problem {
+    names: List<Vec<u8>>,
+    formulas: Formulas,
+    sentences: Sentences,
+    bounds: List<Bound>,
+    queries: Queries,
+}
+
+impl Model for Problem {
+    ghost use Rattle.std.specs.Prelude.{◌≡◌, map};
+    ghost use Rattle.ps_problem.specs.Problems.{Parts, AreParts, bounds_in};
+
+    ghost Value = { Parts };
+
+    ghost view = { λ p. record { names = map (λ v. v.items) p.names; nodes = p.formulas; sentences = p.sentences; queries = p.queries } };
+
+    ghost invariant = { λ p. AreParts (record { names = map (λ v. v.items) p.names; nodes = p.formulas; sentences = p.sentences; queries = p.queries })
+        × (p.bounds ≡ bounds_in p.sentences) };
+}
+
+impl Problem {
+    /// The number of atoms.
+    pub fn atoms(&self) -> u16
+        ensures atoms { result ≡ length self.now.names }
+        ensures few { result ≤ 128 }
+    {
+        self.names.len() as u16
+    }
+
+    /// The name of an atom, by its number from 0; `None` where there is no such atom.
+    pub fn name(&self, atom: u16) -> Option<&[u8]>
+        ensures name { option_copied result ≡ slice_get self.now.names atom }
+    {
+        match self.names.get(atom as usize) {
+            Some(name) => Some(name.as_slice()),
+            None => None,
+        }
+    }
+
+    /// The formulas, as nodes.
+    pub fn formulas(&self) -> &Formulas
+        ensures nodes { result.now ≡ self.now.nodes }
+        ensures sound { AreNodes result.now }
+        ensures atoms { All (AtomBelow (length self.now.names)) result.now }
+    {
+        &self.formulas
+    }
+
+    pub fn sentences(&self) -> &Sentences
+        ensures sentences { result.now ≡ self.now.sentences }
+    {
+        &self.sentences
+    }
+
+    pub fn queries(&self) -> &Queries
+        ensures queries { result.now ≡ self.now.queries }
+    {
+        &self.queries
+    }
+
+    /// The number of bounds; an interval has two.
+    pub fn bounds(&self) -> u32
+        ensures bounds { result ≡ length (bounds_in self.now.sentences) }
+        ensures few { result ≤ 100 }
+    {
+        self.bounds.len() as u32
+    }
+
+    /// A bound by its number from 1, over the sentences in order; `None` where there is no such bound.
+    pub fn bound(&self, i: u32) -> Option<&Bound>
+        ensures bound { option_copied result ≡ (if i == 0 then None else slice_get (bounds_in self.now.sentences) (i - 1)) }
+    {
+        let place = i.checked_sub(1)?;
+        self.bounds.get(place as usize)
+    }
+
+    /// All bounds in order, those of sentence 1 first.
+    pub fn bound_list(&self) -> &[Bound]
+        ensures bounds { result.now ≡ bounds_in self.now.sentences }
+        ensures sound { AreBounds self.now.nodes result.now }
+        ensures few { length result.now ≤ 100 }
+    {
+        self.bounds.as_slice()
+    }
+}
