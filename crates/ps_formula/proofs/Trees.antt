@@ -1,5 +1,5 @@
 -- One more node, and its tree and its truth.
-use Rattle.std.proofs.Common.{◌≡◌, ℕ, ◌+◌, ◌<◌, Bool, true, List, [], ◌∷◌, ◌++◌, length, map, take, get_or, refl, sym, ap, ◌∙◌, arith}
+use Rattle.std.proofs.Common.{◌≡◌, ℕ, ◌+◌, ◌<◌, true, List, [], ◌∷◌, ◌++◌, length, map, take, get_or, refl, ◌∙◌, arith}
 use Rattle.std.proofs.Math.ListN.{get_or-map}
 use Rattle.std.proofs.lemmas.List.{length-append, length-map, map-append, take_more}
 use Rattle.ps_meaning.specs.Formula.{World, Formula, Truth, is_true}
@@ -24,11 +24,15 @@ length-trees ns = omega (arith, length-trees_from [] ns)
 pub length-truths : (ns : List Node) (w : World) → length (truths ns w) ≡ length ns
 length-truths ns w = length-map (trees ns) (λ f. is_true f w) ∙ length-trees ns
 
+-- the value at a place is the truth of the tree there
 at : (ts : List (Formula ℕ)) (w : World) (i : ℕ) → get_or (map (λ f. is_true f w) ts) i true ≡ is_true (get_or ts i Truth) w
 at ts w i = get_or-map (λ f. is_true f w) ts i Truth
 
+pub truths-at : (ns : List Node) (w : World) (i : ℕ) → get_or (truths ns w) i true ≡ is_true (get_or (trees ns) i Truth) w
+truths-at ns w i = at (trees ns) w i
+
 -- the value over the earlier values is the truth of the tree over the earlier trees
-value_over-is : (ts : List (Formula ℕ)) (w : World) (n : Node) → value_over (map (λ f. is_true f w) ts) w n ≡ is_true (tree_over ts n) w
+pub value_over-is : (ts : List (Formula ℕ)) (w : World) (n : Node) → value_over (map (λ f. is_true f w) ts) w n ≡ is_true (tree_over ts n) w
 value_over-is ts w node.True = refl
 value_over-is ts w node.False = refl
 value_over-is ts w (node.Atom a) = refl

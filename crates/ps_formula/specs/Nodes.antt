@@ -1,5 +1,5 @@
 -- Which tree each node stands for, and which lists of nodes are in order.
-use Rattle.std.specs.Prelude.{ℕ, ◌<◌, ◌+◌, ◌≢◌, Bool, true, false, cond, not, ◌&&◌, ◌||◌, List, [], ◌∷◌, ◌++◌, length, map, slice_index_or, slice_get, Some, ◌≡◌, ◌⊎◌, Contains, AllPairs}
+use Rattle.std.specs.Prelude.{ℕ, ◌<◌, ◌≢◌, Bool, true, false, not, ◌&&◌, ◌||◌, List, [], ◌∷◌, ◌++◌, length, map, slice_index_or, slice_get, Some, ◌≡◌, ◌⊎◌, Contains, AllPairs}
 use Rattle.ps_meaning.specs.Formula.{World, Formula, Truth, is_true, agree}
 use Rattle.ps_meaning.specs.Formula as tree
 use Rattle.ps_formula.specs.declared.node.Node.{Node}

@@ -1,5 +1,6 @@
 pub mod Formula
 pub mod Distribution
 pub mod Bounds
+pub mod Rows
 pub mod Statements
 pub mod Names

@@ -1,0 +1,116 @@
+//! How fast fractions are added and multiplied. The words are a count of rounds of sums and one of
+//! products; it writes a checksum of the results, and the time is taken from outside.
+#![tactic(auto)]
+
+use ps_frac::Fraction;
+use std::alloc::Global;
+use std::env;
+
+/// How many fractions the rounds go over.
+const COUNT: u64 = 1024;
+
+/// Small fractions, drawn from a fixed sequence.
+#[derive(Drop)]
+struct Draw {
+    state: u64,
+}
+
+impl Draw {
+    /// The next number of the sequence.
+    fn next(&mut self) -> u64 {
+        self.state = self
+            .state
+            .wrapping_mul(6364136223846793005)
+            .wrapping_add(1442695040888963407);
+        self.state >> 33
+    }
+
+    /// A numerator from -999 to 999 over a denominator from 1 to 999.
+    fn fraction(&mut self) -> Fraction {
+        let over = (self.next() % 1999) as i128;
+        let under = (self.next() % 999) as i128;
+        Fraction::new(over - 999, under + 1)
+    }
+}
+
+/// The fractions that the rounds go over.
+fn fractions(alloc: Global) -> anyhow::Result<Vec<Fraction>> {
+    let mut draw = Draw { state: 1 };
+    let mut list = Vec::new(alloc);
+    for _ in 0..COUNT {
+        list.push(draw.fraction())?;
+    }
+    Ok(list)
+}
+
+/// What is kept of a sequence of results.
+fn mixed(sum: u64, answer: &Fraction) -> u64 {
+    let over = answer.numerator().unsigned_abs() & 0xFFFF_FFFF;
+    let under = answer.denominator().unsigned_abs() & 0xFFFF_FFFF;
+    sum.wrapping_mul(31)
+        .wrapping_add(over as u64)
+        .wrapping_add(under as u64)
+}
+
+/// A checksum of the sums of neighbours, going round.
+fn sums(list: &[Fraction], rounds: u64) -> u64 {
+    let mut checksum = 0u64;
+    let mut left = 0usize;
+    let mut right = 0usize;
+    for _ in 0..rounds {
+        if left >= list.len() {
+            left = 0;
+        }
+        if right >= list.len() {
+            right = 0;
+        }
+        if left < list.len() && right < list.len() {
+            if let Ok(sum) = list[left].add(&list[right]) {
+                checksum = mixed(checksum, &sum);
+            }
+        }
+        left = left.wrapping_add(1);
+        right = right.wrapping_add(7);
+    }
+    checksum
+}
+
+/// A checksum of the products of neighbours, going round.
+fn products(list: &[Fraction], rounds: u64) -> u64 {
+    let mut checksum = 0u64;
+    let mut left = 0usize;
+    let mut right = 0usize;
+    for _ in 0..rounds {
+        if left >= list.len() {
+            left = 0;
+        }
+        if right >= list.len() {
+            right = 0;
+        }
+        if left < list.len() && right < list.len() {
+            if let Ok(product) = list[left].mul(&list[right]) {
+                checksum = mixed(checksum, &product);
+            }
+        }
+        left = left.wrapping_add(1);
+        right = right.wrapping_add(7);
+    }
+    checksum
+}
+
+fn main(rt: HostRuntime) -> anyhow::Result<()> {
+    let mut rounds = [1000u64, 1000u64];
+    let mut place = 0usize;
+    for word in env::args(&rt)? {
+        if place > 0 && place <= 2 {
+            if let Ok(count) = word.parse::<u64>() {
+                rounds[place - 1] = count;
+            }
+        }
+        place = place.wrapping_add(1);
+    }
+    let list = fractions(rt.alloc())?;
+    println!(rt; "sums {}", sums(list.as_slice(), rounds[0]))?;
+    println!(rt; "products {}", products(list.as_slice(), rounds[1]))?;
+    Ok(())
+}

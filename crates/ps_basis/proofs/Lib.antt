@@ -1,0 +1,5 @@
+pub mod Units
+pub mod PivotKeeps
+pub mod Columns
+pub mod OneTable
+pub mod Pricing

@@ -1,0 +1,4 @@
+pub mod CrossOrder
+pub mod Reduced
+pub mod Halving
+pub mod Sizes

@@ -1,0 +1,74 @@
+//! Operations on 128-bit numbers whose results are at most 2^127 - 1 in size.
+
+ghost use Rattle.std.specs.Prelude.{◌≡◌, ◌*◌, ◌/◌, ◌^◌, ◌<◌, ◌≤◌, pos, ◌+ℤ◌, ◌*ℤ◌, unsigned_abs, int_div};
+ghost use Rattle.std.specs.Option.{SomeIff};
+
+/// Above the size of every number that a fraction holds.
+const LIMIT: u128 = 1 << 127;
+
+/// Above every number that fits 64 bits.
+const WORD: u128 = 1 << 64;
+
+/// Two sizes below it have a product that fits.
+const HALF: u128 = 1 << 63;
+
+/// `n / g`, rounded down; most numbers fit 64 bits, where a division is much faster.
+pub(crate) fn part(n: u128, g: u128) -> u128
+    requires positive { 0 < g }
+    ensures value { result ≡ n / g }
+    ensures at_most { result ≤ n }
+{
+    if g == 1 {
+        return n;
+    }
+    if n < WORD && g < WORD {
+        return ((n as u64) / (g as u64)) as u128;
+    }
+    n / g
+}
+
+/// `n / g`, rounded toward zero.
+pub(crate) fn divided(n: i128, g: u128) -> i128
+    requires positive { 0 < g }
+    requires size { unsigned_abs n < 2 ^ 127 }
+    ensures value { result ≡ int_div n (pos g) }
+{
+    let size = part(n.unsigned_abs(), g) as i128;
+    if n < 0 { -size } else { size }
+}
+
+/// `a * b`, where it is below the limit.
+pub(crate) fn size_product(a: u128, b: u128) -> Option<u128>
+    ensures value { SomeIff result (a * b < 2 ^ 127) (a * b) }
+{
+    if a < HALF && b < HALF {
+        return Some((a as u64 as u128) * (b as u64 as u128));
+    }
+    match a.checked_mul(b) {
+        Some(size) if size < LIMIT => Some(size),
+        _ => None,
+    }
+}
+
+/// `a * b`, where its size is below the limit.
+pub(crate) fn signed_product(a: i128, b: i128) -> Option<i128>
+    ensures value { SomeIff result (unsigned_abs (a *ℤ b) < 2 ^ 127) (a *ℤ b) }
+{
+    if a.unsigned_abs() < HALF && b.unsigned_abs() < HALF {
+        return Some((a as i64 as i128) * (b as i64 as i128));
+    }
+    match a.checked_mul(b) {
+        Some(number) if number != i128::MIN => Some(number),
+        _ => None,
+    }
+}
+
+/// `a + b`, where its size is below the limit.
+pub(crate) fn signed_sum(a: i128, b: i128) -> Option<i128>
+    ensures value { SomeIff result (unsigned_abs (a +ℤ b) < 2 ^ 127) (a +ℤ b) }
+{
+    match a.checked_add(b) {
+        Some(number) if number != i128::MIN => Some(number),
+        _ => None,
+    }
+}

@@ -1,0 +1,82 @@
+//! Sums and differences of fractions.
+
+ghost use Rattle.std.specs.Prelude.{◌≡◌, ◌^◌, ◌<◌, ◌↔◌, pos, ◌*ℤ◌, unsigned_abs, IsErr, IfOk, IfErr};
+ghost use Rattle.std.specs.Option.{SomeIff};
+ghost use Rattle.ps_rational.specs.Gcd.{gcd as gcd_of};
+ghost use Rattle.ps_rational.specs.Rational.{add, sub, neg};
+ghost use Rattle.ps_rational.specs.Wide.{SumOverFits, sum_over, sum_under, SumIsWide};
+
+use crate::checked::{divided, part, signed_product, signed_sum, size_product};
+use crate::divisors::gcd;
+use crate::fraction::{Fraction, Op, Wide};
+
+impl Fraction {
+    /// The numerator over a denominator that is `factor` times as large.
+    fn scaled(&self, factor: u128) -> Option<i128>
+        requires small { factor < 2 ^ 127 }
+        ensures value { SomeIff result (unsigned_abs (self.now.over *ℤ pos factor) < 2 ^ 127) (self.now.over *ℤ pos factor) }
+    {
+        signed_product(self.numerator(), factor as i128)
+    }
+
+    /// The numerator of the sum over the least common denominator; `g` is what the denominators
+    /// have in common.
+    fn sum_over(&self, other: &Fraction, g: u128) -> Option<i128>
+        requires g_is { g ≡ gcd_of self.now.under other.now.under }
+        requires g_positive { 0 < g }
+        ensures value { SomeIff result (SumOverFits self.now other.now) (sum_over self.now other.now) }
+    {
+        match (
+            self.scaled(part(other.under(), g)),
+            other.scaled(part(self.under(), g)),
+        ) {
+            (Some(left), Some(right)) => signed_sum(left, right),
+            _ => None,
+        }
+    }
+
+    /// The sum, from its numerator `top` over the least common denominator.
+    fn sum_from(&self, other: &Fraction, g: u128, top: i128) -> Option<Fraction>
+        requires g_is { g ≡ gcd_of self.now.under other.now.under }
+        requires g_positive { 0 < g }
+        requires g_small { g < 2 ^ 127 }
+        requires top_is { top ≡ sum_over self.now other.now }
+        requires top_small { unsigned_abs top < 2 ^ 127 }
+        ensures value { SomeIff result (sum_under self.now other.now < 2 ^ 127) (add self.now other.now) }
+    {
+        let h = gcd(top.unsigned_abs(), g);
+        match size_product(part(self.under(), g), part(other.under(), h)) {
+            Some(denominator) => Some(Fraction::of_lowest(divided(top, h), denominator)),
+            None => None,
+        }
+    }
+
+    /// The sum, refused exactly where one of its named numbers is too large.
+    #[tactic(auto, unfolding(ps_rational::specs::Wide::SumIsWide))]
+    pub fn add(&self, other: &Fraction) -> Result<Fraction, Wide>
+        ensures value { IfOk result (λ r. r ≡ add self.now other.now) }
+        ensures wide { IsErr result ↔ SumIsWide self.now other.now }
+        ensures operands { IfErr result (λ w. w ≡ record { op = Op.Add; left = self.now; right = other.now }) }
+    {
+        let g = gcd(self.under(), other.under());
+        if let Some(top) = self.sum_over(other, g) {
+            if let Some(sum) = self.sum_from(other, g, top) {
+                return Ok(sum);
+            }
+        }
+        Err(Wide::of(Op::Add, self, other))
+    }
+
+    /// The difference, refused exactly where the sum with the other negated is.
+    #[tactic(auto, unfolding(ps_rational::specs::Wide::SumIsWide))]
+    pub fn sub(&self, other: &Fraction) -> Result<Fraction, Wide>
+        ensures value { IfOk result (λ r. r ≡ sub self.now other.now) }
+        ensures wide { IsErr result ↔ SumIsWide self.now (neg other.now) }
+        ensures operands { IfErr result (λ w. w ≡ record { op = Op.Sub; left = self.now; right = other.now }) }
+    {
+        match self.add(&other.neg()) {
+            Ok(difference) => Ok(difference),
+            Err(_) => Err(Wide::of(Op::Sub, self, other)),
+        }
+    }
+}

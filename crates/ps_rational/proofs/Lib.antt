@@ -1,0 +1,11 @@
+pub mod IntRing
+pub mod Ring
+pub mod ExactQuotient
+pub mod Cross
+pub mod Field
+pub mod Order
+pub mod Sums
+pub mod Whole
+pub mod NamedNumbers
+pub mod Multiples
+pub mod WeightedSums

@@ -1,0 +1,23 @@
+-- The greatest common divisor and the least common multiple of two numbers.
+use Rattle.std.specs.Prelude.{ℕ, zero, suc, ◌%◌, ◌/◌, ◌*◌}
+use Rattle.std.specs.Int.{◌∣◌}
+
+-- the greatest common divisor, if that many of Euclid's steps are enough
+unfoldable pub gcd_within : ℕ → ℕ → ℕ → ℕ
+gcd_within zero a b = a
+gcd_within (suc steps) a zero = a
+gcd_within (suc steps) a (suc b) = gcd_within steps (suc b) (a % suc b)
+
+-- the greatest common divisor: as many steps as b and one more are enough
+unfoldable pub gcd : ℕ → ℕ → ℕ
+gcd a b = gcd_within (suc b) a b
+
+-- a multiple of both numbers that divides every common multiple of them
+pub record IsLeastCommonMultiple (a b m : ℕ) : Type 0 where
+  pub left : a ∣ m
+  pub right : b ∣ m
+  pub least : (k : ℕ) → a ∣ k → b ∣ k → m ∣ k
+
+-- the least common multiple
+abbrev pub lcm : ℕ → ℕ → ℕ
+lcm a b = (a / gcd a b) * b

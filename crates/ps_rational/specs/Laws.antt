@@ -1,0 +1,44 @@
+-- What the laws of rational numbers and of sums say.
+use Rattle.std.specs.Prelude.{◌≡◌, ◌≢◌, ◌⊎◌, ◌↔◌, ℕ, ◌<◌, ℤ, pos, ◌+ℤ◌, ◌*ℤ◌, ◌≤ℤ◌, List, ◌∷◌, ◌++◌, All}
+use Rattle.ps_rational.specs.Rational.{Rational, add, mul, sub, zero_q}
+use Rattle.ps_rational.specs.Order.{IsNonneg, AtMost, IsLess}
+use Rattle.ps_rational.specs.Sums.{sum_to, sum_of}
+
+-- a commutative ring
+pub record CommutativeRing {R : Type 0} (add mul : R → R → R) (neg : R → R) (nought one : R) : Type 0 where
+  pub add_assoc : (x y z : R) → add (add x y) z ≡ add x (add y z)
+  pub add_comm : (x y : R) → add x y ≡ add y x
+  pub add-zero : (x : R) → add x nought ≡ x
+  pub add-neg : (x : R) → add x (neg x) ≡ nought
+  pub mul_assoc : (x y z : R) → mul (mul x y) z ≡ mul x (mul y z)
+  pub mul_comm : (x y : R) → mul x y ≡ mul y x
+  pub mul-one : (x : R) → mul x one ≡ x
+  pub add-mul : (x y z : R) → mul (add x y) z ≡ add (mul x z) (mul y z)
+
+-- an order that is total, and kept by sums and by products with numbers of at least 0
+pub record IsOrdered : Type 0 where
+  pub total : (x y : Rational) → AtMost x y ⊎ AtMost y x
+  pub transitive : (x y z : Rational) → AtMost x y → AtMost y z → AtMost x z
+  pub antisymmetric : (x y : Rational) → AtMost x y → AtMost y x → x ≡ y
+  pub sums : (x y z w : Rational) → AtMost x y → AtMost z w → AtMost (add x z) (add y w)
+  pub products : (x y z : Rational) → AtMost x y → IsNonneg z → AtMost (mul x z) (mul y z)
+  pub cross : (x y : Rational) → AtMost x y ↔ ((x.over *ℤ pos y.under) ≤ℤ (y.over *ℤ pos x.under))
+  pub less : (x y : Rational) → IsLess x y ↔ (¬ AtMost y x)
+
+-- sums of rational numbers
+pub record SumsOfRationals : Type 0 where
+  pub same : (n : ℕ) (f g : ℕ → Rational) → ((i : ℕ) → i < n → f i ≡ g i) → sum_to n f ≡ sum_to n g
+  pub scaled : (n : ℕ) (c : Rational) (f : ℕ → Rational) → mul c (sum_to n f) ≡ sum_to n (λ i. mul c (f i))
+  pub added : (n : ℕ) (f g : ℕ → Rational) → sum_to n (λ i. add (f i) (g i)) ≡ add (sum_to n f) (sum_to n g)
+  pub subtracted : (n : ℕ) (f g : ℕ → Rational) → sum_to n (λ i. sub (f i) (g i)) ≡ sub (sum_to n f) (sum_to n g)
+  pub swapped : (n m : ℕ) (f : ℕ → ℕ → Rational) → sum_to n (λ i. sum_to m (λ k. f i k)) ≡ sum_to m (λ k. sum_to n (λ i. f i k))
+  pub single : (n p : ℕ) (f : ℕ → Rational) → p < n → ((i : ℕ) → i ≢ p → f i ≡ zero_q) → sum_to n f ≡ f p
+
+-- weighted sums of signed whole numbers over the items of lists
+pub record WeightedSums (A B : Type 0) : Type 0 where
+  pub appended : (w : A → ℤ) (xs ys : List A) → sum_of w (xs ++ ys) ≡ sum_of w xs +ℤ sum_of w ys
+  pub scaled : (c : ℤ) (w : A → ℤ) (xs : List A) → c *ℤ sum_of w xs ≡ sum_of (λ x. c *ℤ w x) xs
+  pub added : (v w : A → ℤ) (xs : List A) → sum_of (λ x. v x +ℤ w x) xs ≡ sum_of v xs +ℤ sum_of w xs
+  pub swapped : (f : A → B → ℤ) (xs : List A) (ys : List B) → sum_of (λ x. sum_of (f x) ys) xs ≡ sum_of (λ y. sum_of (λ x. f x y) xs) ys
+  pub single : (w : A → ℤ) (xs ys : List A) (x : A) → All (λ y. w y ≡ pos 0) xs → All (λ y. w y ≡ pos 0) ys → sum_of w (xs ++ x ∷ ys) ≡ w x
+  pub ordered : (v w : A → ℤ) (xs : List A) → All (λ x. v x ≤ℤ w x) xs → sum_of v xs ≤ℤ sum_of w xs

@@ -1,0 +1,33 @@
+//! The laws that contracts of other crates rest on. A call does nothing: its contract is the law.
+
+ghost use Rattle.std.specs.Prelude.{◌≡◌, ◌≢◌, ℕ, ◌<◌};
+ghost use Rattle.ps_rational.specs.Gcd.{lcm, IsLeastCommonMultiple};
+ghost use Rattle.ps_rational.specs.Rational.{Rational, add, mul, neg, zero_q, one_q, inverse};
+ghost use Rattle.ps_rational.specs.Laws.{CommutativeRing, IsOrdered, SumsOfRationals, WeightedSums};
+
+/// The rational numbers are a field.
+pub fn field_laws()
+    ensures ring { CommutativeRing add mul neg zero_q one_q }
+    ensures inverses { (x : Rational) → x ≢ zero_q → mul x (inverse x) ≡ one_q }
+    ensures apart { one_q ≢ zero_q }
+{}
+
+/// Their order is total, and sums and products keep it.
+pub fn order_laws()
+    ensures ordered { IsOrdered }
+{}
+
+/// Sums of rational numbers.
+pub fn sum_laws()
+    ensures sums { SumsOfRationals }
+{}
+
+/// Weighted sums of signed whole numbers over lists.
+pub fn weighted_sum_laws<A, B>()
+    ensures sums { WeightedSums A B }
+{}
+
+/// The least common multiple divides every common multiple.
+pub fn lcm_laws()
+    ensures least { (a b : ℕ) → 0 < b → IsLeastCommonMultiple a b (lcm a b) }
+{}

@@ -1,0 +1,3 @@
+pub mod Rays
+pub mod Combination
+pub mod OnePivot
