@@ -8,3 +8,4 @@ pub mod Atoms
 pub mod Operators
 pub mod Turns
 pub mod Pairs
+pub mod Counted
