@@ -9,3 +9,5 @@ pub mod Operators
 pub mod Turns
 pub mod Pairs
 pub mod Counted
+pub mod Trees
+pub mod Orders
