@@ -65,6 +65,16 @@ pub(crate) struct Building {
 }
 
 impl Building {
+    pub(crate) fn new(alloc: Global) -> Building
+        ensures atoms { result.atoms ≡ [] }
+        ensures formulas { result.formulas ≡ [] }
+    {
+        Building {
+            atoms: List::new(alloc),
+            formulas: Formulas::new(alloc),
+        }
+    }
+
     // The number of a node, which is added where it isn't there.
     fn node(&mut self, node: Node) -> Result<u32, Fault>
         requires { Fits (length self.old.formulas) node }
