@@ -11,3 +11,4 @@ pub mod Pairs
 pub mod Counted
 pub mod Trees
 pub mod Orders
+pub mod Parts
