@@ -12,3 +12,4 @@ pub mod Counted
 pub mod Trees
 pub mod Orders
 pub mod Parts
+pub mod Stated
