@@ -11,3 +11,5 @@ pub mod Pairs
 pub mod Counted
 pub mod Trees
 pub mod Orders
+pub mod Parts
+pub mod Stated
