@@ -45,12 +45,13 @@ bound_on q on num den = record { formula = q.formula; given = q.given; both = q.
 abbrev pub sentence_on : Query → Side → ℕ → ℕ → Option (ℕ × ℕ) → Sentence
 sentence_on q on num den upper = record { first = bound_on q on num den; second = option_map (λ u. bound_on q side.AtMost u.0 u.1) upper }
 
-abbrev pub question_of : Statement → Question
-question_of s = record { formula = s.formula; given = s.given }
+-- the question on a statement's formula
+abbrev pub question_on : Statement → Question
+question_on s = record { formula = s.formula; given = s.given }
 
 -- the sentences and queries of statements and questions, over formulas among which all of theirs are
 pub record Holds (fs : List (Formula Name)) (stated : List Statement) (asked : List Question) (sentences : List Sentence) (bounds : List Bound) (queries : List Query) : Type 0 where
-  pub stated_there : All (λ s. HasQuestion fs (question_of s)) stated
+  pub stated_there : All (λ s. HasQuestion fs (question_on s)) stated
   pub asked_there : All (HasQuestion fs) asked
   pub sentences_are : sentences ≡ map (sentence_in fs) stated
   pub bounds_are : bounds ≡ bounds_in sentences

@@ -1,5 +1,5 @@
 //! The making of a problem.
-ghost use Rattle.std.specs.Prelude.{◌≡◌, ◌++◌, ◌<◌, ◌+◌, [], ◌∷◌, All, OnOk, IfOk, IfErr, IfSome, Err, length, map, is_some, if◌then◌else◌};
+ghost use Rattle.std.specs.Prelude.{◌≡◌, ◌++◌, ◌<◌, ◌≤◌, ◌+◌, [], ◌∷◌, All, OnOk, IfOk, IfErr, IfSome, Err, length, map, is_some, if◌then◌else◌};
 ghost use Rattle.ps_problem.specs.Problems.{bounds_in};
 ghost use Rattle.ps_problem.specs.Built.{Built, name_at};
 ghost use Rattle.ps_problem.specs.Builds.{IsExcess, IsRefusal, IsBuilt, bound_on, sentence_on, Stating, Asking};
@@ -14,7 +14,8 @@ use std::alloc::Global;
 
 // The number of bounds of a sentence with this upper value.
 fn count(upper: Option<(u32, u32)>) -> usize
-    ensures { result ≡ (if is_some upper then 2 else 1) }
+    ensures count { result ≡ (if is_some upper then 2 else 1) }
+    ensures few { result ≤ 2 }
 {
     match upper {
         Some(_) => 2,
@@ -175,6 +176,7 @@ impl Assembly {
 pub fn build(alloc: Global, draft: &Draft) -> Result<Problem, BuildError>
     ensures { IsBuilt draft.now.items result }
 {
+    let names = draft.names();
     let mut assembly = Assembly {
         building: Building::new(alloc),
         sentences: List::new(alloc),
@@ -187,13 +189,14 @@ pub fn build(alloc: Global, draft: &Draft) -> Result<Problem, BuildError>
     if let Err(error) = assembly.queries(alloc, draft) {
         return Err(error);
     }
-    let names = match copies(alloc, draft.names(), assembly.building.atoms.as_slice()) {
-        Ok(names) => names,
+    let texts = match copies(alloc, names, assembly.building.atoms.as_slice()) {
+        Ok(texts) => texts,
         Err(_) => return Err(BuildError::NoMemory),
     };
+    let building = assembly.building;
     Ok(Problem::of(
-        names,
-        assembly.building.formulas,
+        texts,
+        building.formulas,
         assembly.sentences,
         assembly.bounds,
         assembly.queries,
