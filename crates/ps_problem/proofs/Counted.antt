@@ -1,12 +1,12 @@
 -- What is known of items of which none passes a limit.
-use Rattle.std.proofs.Common.{◌≡◌, ℕ, ◌+◌, ◌<◌, ◌≤◌, Bool, true, false, ◌&&◌, nat_lt, nat_le, List, [], ◌∷◌, ◌++◌, length, map, Option, Some, None, is_some, Result, Ok, Err, refl, sym, ap, ◌∙◌, if◌then◌else◌, arith}
+use Rattle.std.proofs.Common.{◌≡◌, ℕ, ◌+◌, ◌<◌, ◌≤◌, Bool, true, false, ◌&&◌, nat_lt, nat_le, List, [], ◌∷◌, ◌++◌, length, map, Option, Some, None, is_some, Result, Ok, Err, refl, ap, ◌∙◌, if◌then◌else◌, arith}
 use Rattle.std.specs.List.{list_any, fold}
 use Rattle.std.specs.Option.{option_map}
 use Rattle.std.proofs.lemmas.List.{append-nil, length_push}
 use Rattle.std.proofs.lemmas.Bool.Decides.{nat_tests}
 use Rattle.ps_meaning.specs.Formula.{Formula, Atom}
 use Rattle.ps_meaning.specs.Bounds as meaning
-use Rattle.ps_meaning.specs.Statements.{Name, Statement, Question, Item, Stated, Asked, statements_of, questions_of}
+use Rattle.ps_meaning.specs.Statements.{Name, Statement, Item, Stated, Asked, statements_of, questions_of}
 use Rattle.ps_problem.specs.declared.bound.Bound.{Bound}
 use Rattle.ps_problem.specs.declared.sentence.Sentence.{Sentence}
 use Rattle.ps_problem.specs.Problems.{bounds_in}

@@ -1,15 +1,12 @@
 -- The problem of items within the limits is in order.
-use Rattle.std.proofs.Common.{◌≡◌, ℕ, ◌<◌, ◌≤◌, List, [], ◌∷◌, length, map, All, Option, Some, None, IfSome, Result, Ok, refl, sym, ap, subst, ◌∙◌, arith}
+use Rattle.std.proofs.Common.{◌≡◌, ◌<◌, List, [], ◌∷◌, length, map, All, Option, Some, None, Ok, refl, sym, ap, ◌∙◌, arith}
 use Rattle.std.specs.Option.{option_map}
 use Rattle.std.proofs.lemmas.List.{length-map}
 use Rattle.std.proofs.lemmas.List.Elements.{All-nil, All-cons, All-head, All-tail, All-map, All-weaker}
-use Rattle.ps_meaning.specs.Formula.{Formula, Truth, And, with_atoms}
+use Rattle.ps_meaning.specs.Formula.{Formula, And, with_atoms}
 use Rattle.ps_meaning.specs.Bounds as meaning
 use Rattle.ps_meaning.specs.Statements.{Name, Ratio, Statement, Question, Item, Stated, Asked, statements_of, questions_of}
-use Rattle.ps_formula.specs.declared.node.Node.{Node}
-use Rattle.ps_problem.specs.declared.bound.Bound.{Bound}
-use Rattle.ps_problem.specs.declared.query.Query.{Query}
-use Rattle.ps_problem.specs.Problems.{bounds_in, tree_at, IsBoth, HasNodes, IsBound, AreParts}
+use Rattle.ps_problem.specs.Problems.{bounds_in, tree_at, HasNodes, IsBound, AreParts}
 use Rattle.ps_problem.specs.Numbering.{same_name, same_formula, place_in, names_among, node_in, both_of, bound_in, sentence_in, query_in, formulas_of, problem_of}
 use Rattle.ps_problem.specs.Counts.{counted}
 use Rattle.ps_problem.specs.Drafts.{IsRatio, IsUpperOf, IsLawful}
@@ -17,7 +14,7 @@ use Rattle.ps_problem.specs.Built.{IsAmong, HasQuestion}
 use Rattle.ps_problem.proofs.Lists.{place-below}
 use Rattle.ps_problem.proofs.Counted.{counted-formulas, counted-limits}
 use Rattle.ps_problem.proofs.Trees.{tree-at, are-nodes, atoms-below, different-names}
-use Rattle.ps_problem.proofs.Orders.{Ordered, AreNumbered, are-numbered, question}
+use Rattle.ps_problem.proofs.Orders.{Ordered, are-numbered, question}
 
 module _ (fs : List (Formula Name)) (o : Ordered fs) where
   place-there : (f : Formula Name) → IsAmong fs f → place_in same_formula fs f < length (map (node_in fs) fs)

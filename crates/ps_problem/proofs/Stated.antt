@@ -1,12 +1,12 @@
 -- A problem's bounds and queries say what its items say.
-use Rattle.std.proofs.Common.{◌≡◌, ℕ, List, [], ◌∷◌, ◌++◌, map, All, Option, Some, None, IfSome, refl, ◌∙◌}
+use Rattle.std.proofs.Common.{◌≡◌, List, [], ◌∷◌, ◌++◌, map, All, Option, Some, None, IfSome, refl}
 use Rattle.std.specs.Prelude.{option_map, option_to_list}
 use Rattle.std.proofs.lemmas.List.Elements.{All-head, All-tail}
 use Rattle.ps_meaning.specs.Formula.{Formula}
 use Rattle.ps_meaning.specs.Bounds as meaning
 use Rattle.ps_meaning.specs.Statements.{Name, Ratio, Statement, Question, Item, statements_of, questions_of}
 use Rattle.ps_problem.specs.Problems.{bounds_in, bounds_of, bound_of, given_at, side_of}
-use Rattle.ps_problem.specs.Numbering.{same_formula, place_in, names_among, node_in, side_in, bound_in, sentence_in, query_in, formulas_of, problem_of, numbered, numbered_given, stated_bound, stated_bounds, numbered_question, question_of}
+use Rattle.ps_problem.specs.Numbering.{same_formula, place_in, names_among, node_in, side_in, bound_in, sentence_in, query_in, formulas_of, problem_of, numbered_given, stated_bound, stated_bounds, numbered_question, question_of}
 use Rattle.ps_problem.specs.Built.{IsAmong, HasQuestion}
 use Rattle.ps_problem.proofs.Trees.{tree-at}
 use Rattle.ps_problem.proofs.Orders.{Ordered, are-numbered, question}

@@ -1,5 +1,5 @@
 -- The trees of numbered formulas' nodes.
-use Rattle.std.proofs.Common.{◌≡◌, ◌≢◌, ℕ, zero, suc, ◌+◌, ◌<◌, ◌≤◌, true, List, [], ◌∷◌, ◌++◌, length, get_or, map, take, drop, All, refl, sym, ap, subst, ◌∙◌, arith}
+use Rattle.std.proofs.Common.{◌≡◌, ◌≢◌, ℕ, zero, suc, ◌<◌, ◌≤◌, List, [], ◌∷◌, ◌++◌, length, get_or, map, take, drop, All, refl, sym, ap, subst, ◌∙◌, arith}
 use Rattle.std.specs.List.{AllPairs}
 use Rattle.std.proofs.Math.ListN.{get_or-map}
 use Rattle.std.proofs.lemmas.List.{append-nil, append_assoc, length-map, map-append, length-take-le, take-append-drop, get_or_default}
@@ -8,7 +8,7 @@ use Rattle.ps_meaning.specs.Statements.{Name}
 use Rattle.ps_formula.specs.Nodes.{tree_over, trees_from, trees, Fits, AreNodes, AtomBelow}
 use Rattle.ps_formula.specs.declared.node.Node.{Node}
 use Rattle.ps_problem.specs.Problems.{tree_at}
-use Rattle.ps_problem.specs.Numbering.{AreOnce, same_name, same_formula, place_in, names_among, node_in}
+use Rattle.ps_problem.specs.Numbering.{AreOnce, same_name, same_formula, place_in, names_among, node_in, numbered}
 use Rattle.ps_problem.specs.Built.{IsAmong, IsReady}
 use Rattle.ps_problem.proofs.Lists.{place-append, place-below, place-get, any-self}
 use Rattle.ps_problem.proofs.Nodes.{same-true, same-refl, atom-among, among-more, place-more, node-same}
@@ -31,18 +31,18 @@ AreLed before (g ∷ gs) = Leads before g × AreLed (before ++ g ∷ []) gs
 
 module _ (fs : List (Formula Name)) where
   -- a formula over names as one over numbers
-  abbrev pub numbered : Formula Name → Formula ℕ
-  numbered = with_atoms (place_in same_name (names_among fs))
+  abbrev over_numbers : Formula Name → Formula ℕ
+  over_numbers f = numbered (names_among fs) f
 
   module _ (ms rest : List (Formula Name)) (e : fs ≡ ms ++ rest) where
-    at-place : (f : Formula Name) → IsAmong ms f → get_or (map numbered ms) (place_in same_formula fs f) Truth ≡ numbered f
+    at-place : (f : Formula Name) → IsAmong ms f → get_or (map over_numbers ms) (place_in same_formula fs f) Truth ≡ over_numbers f
     at-place f a =
-        ap (λ gs. get_or (map numbered ms) (place_in same_formula gs f) Truth) e
-        ∙ ap (λ i. get_or (map numbered ms) i Truth) (place-append same_formula ms rest f a)
-        ∙ get_or-map numbered ms (place_in same_formula ms f) Truth
-        ∙ ap numbered (place-get same_formula same-true same-refl ms f Truth a)
+        ap (λ gs. get_or (map over_numbers ms) (place_in same_formula gs f) Truth) e
+        ∙ ap (λ i. get_or (map over_numbers ms) i Truth) (place-append same_formula ms rest f a)
+        ∙ get_or-map over_numbers ms (place_in same_formula ms f) Truth
+        ∙ ap over_numbers (place-get same_formula same-true same-refl ms f Truth a)
 
-    tree-is : (g : Formula Name) → Leads ms g → tree_over (map numbered ms) (node_in fs g) ≡ numbered g
+    tree-is : (g : Formula Name) → Leads ms g → tree_over (map over_numbers ms) (node_in fs g) ≡ over_numbers g
     tree-is Truth l = refl
     tree-is Falsity l = refl
     tree-is (Atom a) l = refl
@@ -52,11 +52,11 @@ module _ (fs : List (Formula Name)) where
     tree-is (Implies f g) l = rw (at-place f l.0, at-place g l.1) refl
     tree-is (Iff f g) l = rw (at-place f l.0, at-place g l.1) refl
 
-  trees-behind : (ms rest : List (Formula Name)) → fs ≡ ms ++ rest → AreLed ms rest → trees_from (map numbered ms) (map (node_in fs) rest) ≡ map numbered fs
-  trees-behind ms [] e l = ap (map numbered) (sym (append-nil ms) ∙ sym e)
+  trees-behind : (ms rest : List (Formula Name)) → fs ≡ ms ++ rest → AreLed ms rest → trees_from (map over_numbers ms) (map (node_in fs) rest) ≡ map over_numbers fs
+  trees-behind ms [] e l = ap (map over_numbers) (sym (append-nil ms) ∙ sym e)
   trees-behind ms (g ∷ gs) e l =
-      ap (λ t. trees_from (map numbered ms ++ t ∷ []) (map (node_in fs) gs)) (tree-is ms (g ∷ gs) e g l.0)
-      ∙ ap (λ ts. trees_from ts (map (node_in fs) gs)) (sym (map-append numbered ms (g ∷ [])))
+      ap (λ t. trees_from (map over_numbers ms ++ t ∷ []) (map (node_in fs) gs)) (tree-is ms (g ∷ gs) e g l.0)
+      ∙ ap (λ ts. trees_from ts (map (node_in fs) gs)) (sym (map-append over_numbers ms (g ∷ [])))
       ∙ trees-behind (ms ++ g ∷ []) gs (e ∙ sym (append_assoc ms (g ∷ []) gs)) l.1
 
   pub trees-are : AreLed [] fs → trees (map (node_in fs) fs) ≡ map (with_atoms (place_in same_name (names_among fs))) fs
