@@ -1,35 +1,36 @@
-ghost use Rattle.std.specs.Prelude.{◌≡◌, length};
+ghost use Rattle.std.specs.Prelude.{◌≡◌, IfOk, length};
 
 use super::*;
+use ps_io::NoMemory;
 use std::alloc::Global;
 use std::test::*;
 
-// The problem of `query P(b); P(!a | b) in [1/4, 1/2]; P(b & !a given a) >= 1/3;`.
-fn a_problem(alloc: Global) -> Result<Problem, BuildError> {
+// The draft with the formulas `b` and `!a`, and no items.
+fn formulas(alloc: Global) -> Result<Draft, NoMemory>
+    ensures formulas { IfOk result (λ d. length d.formulas ≡ 2) }
+    ensures items { IfOk result (λ d. length d.items ≡ 0) }
+{
     let mut draft = Draft::new(alloc);
     let b = draft.name(b"b")?;
     draft.mark(Mark::Name(b))?;
-    let asked = draft.end_formula()?;
-    draft.query(asked, None)?;
+    draft.end_formula()?;
     let a = draft.name(b"a")?;
     draft.mark(Mark::Name(a))?;
     draft.mark(Mark::Not)?;
-    draft.mark(Mark::Name(b))?;
-    draft.mark(Mark::Or)?;
-    let first = draft.end_formula()?;
-    draft.sentence(first, None, Side::AtLeast, 1, 4, Some((1, 2)))?;
-    draft.mark(Mark::Name(b))?;
-    draft.mark(Mark::Name(a))?;
-    draft.mark(Mark::Not)?;
-    draft.mark(Mark::And)?;
-    let second = draft.end_formula()?;
-    draft.mark(Mark::Name(a))?;
-    let given = draft.end_formula()?;
-    draft.sentence(second, Some(given), Side::AtLeast, 1, 3, None)?;
+    draft.end_formula()?;
+    Ok(draft)
+}
+
+// The problem of `query P(b); P(!a given b) in [1/4, 1/2]; P(!a) >= 1/2;`.
+fn a_problem(alloc: Global) -> Result<Problem, BuildError> {
+    let mut draft = formulas(alloc)?;
+    draft.query(0, None)?;
+    draft.sentence(1, Some(0), Side::AtLeast, 1, 4, Some((1, 2)))?;
+    draft.sentence(1, None, Side::AtLeast, 1, 2, None)?;
     build(alloc, &draft)
 }
 
-// A bound by its numbers.
+// A bound with a value `1/den`.
 fn bound(formula: u32, given: Option<u32>, both: u32, side: Side, den: u32) -> Bound {
     Bound {
         formula,
@@ -46,13 +47,11 @@ fn numbers_follow_the_order_of_sentences(rt: HostRuntime) -> Result<(), Fail> {
     match a_problem(rt.alloc()) {
         Err(_) => assert!(rt; false),
         Ok(problem) => {
-            assert_eq!(rt; problem.atoms(), 2);
             assert!(rt; problem.name(0) == Some(b"a".as_slice()));
             assert!(rt; problem.name(1) == Some(b"b".as_slice()));
-            assert_eq!(rt; problem.bounds(), 3);
-            assert!(rt; problem.bound(1) == Some(&bound(3, None, 3, Side::AtLeast, 4)));
-            assert!(rt; problem.bound(2) == Some(&bound(3, None, 3, Side::AtMost, 2)));
-            assert!(rt; problem.bound(3) == Some(&bound(4, Some(0), 5, Side::AtLeast, 3)));
+            assert!(rt; problem.bound(1) == Some(&bound(1, Some(2), 3, Side::AtLeast, 4)));
+            assert!(rt; problem.bound(2) == Some(&bound(1, Some(2), 3, Side::AtMost, 2)));
+            assert!(rt; problem.bound(3) == Some(&bound(1, None, 1, Side::AtLeast, 2)));
             assert!(rt;
                 problem.queries().get(0)
                     == Some(&Query {
@@ -66,14 +65,21 @@ fn numbers_follow_the_order_of_sentences(rt: HostRuntime) -> Result<(), Fail> {
     Ok(())
 }
 
+// Adds this many sentences with one bound.
+fn fill(draft: &mut Draft, count: u32) -> Result<(), NoMemory>
+    requires formulas { length draft.old.formulas ≡ 2 }
+    requires items { length draft.old.items ≡ 0 }
+{
+    for _ in 0..count {
+        draft.sentence(1, None, Side::AtLeast, 1, 1, None)?;
+    }
+    Ok(())
+}
+
 // The problem of this many bounds.
 fn many(alloc: Global, count: u32) -> Result<Problem, BuildError> {
-    let mut draft = Draft::new(alloc);
-    draft.mark(Mark::True)?;
-    draft.end_formula()?;
-    for _ in 0..count {
-        draft.sentence(0, None, Side::AtLeast, 1, 2, None)?;
-    }
+    let mut draft = formulas(alloc)?;
+    fill(&mut draft, count)?;
     build(alloc, &draft)
 }
 
