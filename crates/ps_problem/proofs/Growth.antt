@@ -1,5 +1,5 @@
 -- Sentences and queries over formulas that grow.
-use Rattle.std.proofs.Common.{◌≡◌, ℕ, List, [], ◌∷◌, ◌++◌, Option, Some, None, IfSome, All, map, option_map, length, is_some, refl, sym, ap, ◌∙◌, if◌then◌else◌}
+use Rattle.std.proofs.Common.{◌≡◌, ℕ, List, [], ◌∷◌, ◌++◌, Option, Some, None, IfSome, option_map, length, is_some, refl, sym, ap, ◌∙◌, if◌then◌else◌}
 use Rattle.std.proofs.lemmas.List.{map-append}
 use Rattle.std.proofs.lemmas.List.Elements.{All-push, All-weaker}
 use Rattle.ps_meaning.specs.Formula.{Formula}

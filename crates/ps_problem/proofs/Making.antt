@@ -1,20 +1,19 @@
 -- Going through the items of a draft, first for its statements and then for its questions.
-use Rattle.std.proofs.Common.{◌≡◌, ℕ, ◌+◌, ◌<◌, ◌≤◌, Bool, true, false, nat_lt, List, [], ◌∷◌, ◌++◌, Option, Some, None, IfSome, Result, Ok, Err, All, length, map, take, drop, slice_get, refl, sym, ap, subst, ◌∙◌, arith, if◌then◌else◌}
+use Rattle.std.proofs.Common.{◌≡◌, ℕ, ◌+◌, ◌<◌, ◌≤◌, Bool, true, false, nat_lt, List, [], ◌∷◌, ◌++◌, Option, Some, None, IfSome, Ok, Err, length, map, take, drop, slice_get, refl, sym, ap, subst, ◌∙◌, arith, if◌then◌else◌}
 use Rattle.std.proofs.lemmas.List.{take_more, take_all, drop_more, drop_all, length-append, length_push, append-nil}
 use Rattle.std.proofs.lemmas.List.Elements.{All-nil}
 use Rattle.std.proofs.lemmas.Option.{slice_get_within, get_or_from_slice_get}
 use Rattle.std.proofs.lemmas.Bool.Decides.{nat_tests}
-use Rattle.ps_meaning.specs.Formula.{Formula}
 use Rattle.ps_meaning.specs.Statements.{Name, Statement, Question, Item, Stated, Asked, statements_of, questions_of}
 use Rattle.ps_formula.specs.declared.node.Node.{Node}
 use Rattle.ps_problem.specs.declared.bound.Bound.{Bound}
 use Rattle.ps_problem.specs.declared.sentence.Sentence.{Sentence}
 use Rattle.ps_problem.specs.declared.query.Query.{Query}
 use Rattle.ps_problem.specs.declared.fault.Fault.{Fault}
-use Rattle.ps_problem.specs.Problems.{Parts, AreParts, bounds_in}
+use Rattle.ps_problem.specs.Problems.{bounds_in}
 use Rattle.ps_problem.specs.Numbering.{AreOnce, same_name, names_among, sentence_in, query_in, numbered_for, problem_of, formulas_of, node_in}
 use Rattle.ps_problem.specs.Counts.{Excess, Bounds, Queries, count_bounds, with_formulas, at_item, with_statements, with_questions, after, counted}
-use Rattle.ps_problem.specs.Built.{Built, IsReady, HasQuestion, name_at, FollowsQuestion, excess_of}
+use Rattle.ps_problem.specs.Built.{IsReady, HasQuestion, name_at, FollowsQuestion, excess_of}
 use Rattle.ps_problem.specs.Builds.{Holds, Stating, Asking, IsExcess, question_on}
 use Rattle.ps_problem.proofs.Turns.{with-more}
 use Rattle.ps_problem.proofs.Growth.{length-bounds, holds-more, holds-statement, holds-question}

@@ -1,5 +1,5 @@
 -- The values of a draft's items.
-use Rattle.std.proofs.Common.{◌≡◌, ℕ, List, Some, None, map, All, ap}
+use Rattle.std.proofs.Common.{ℕ, List, Some, None, map, All, ap}
 use Rattle.std.proofs.lemmas.List.Elements.{All-map, All-weaker}
 use Rattle.ps_meaning.specs.Formula.{Formula}
 use Rattle.ps_meaning.specs.Statements.{Name}

@@ -1,5 +1,5 @@
 -- How a problem is made of a draft's items, and when it is refused.
-use Rattle.std.specs.Prelude.{◌≡◌, ◌+◌, ℕ, List, [], Option, Some, None, Result, Ok, Err, All, IfSome, length, map, take, drop, option_map}
+use Rattle.std.specs.Prelude.{◌≡◌, ℕ, List, [], Option, Some, None, Result, Ok, Err, All, IfSome, length, map, take, drop, option_map}
 use Rattle.ps_meaning.specs.Formula.{Formula}
 use Rattle.ps_meaning.specs.Statements.{Name, Statement, Question, Item, statements_of, questions_of}
 use Rattle.ps_formula.specs.declared.node.Node.{Node}

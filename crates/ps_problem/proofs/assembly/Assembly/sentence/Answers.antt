@@ -1,4 +1,4 @@
-use Rattle.std.proofs.Common.{Some, sym, subst, arith, ap, ◌∙◌}
+use Rattle.std.proofs.Common.{arith, ◌∙◌}
 use Rattle.ps_problem.specs.Drafts.{question_at, statement_at}
 use Rattle.ps_problem.proofs.Turns.{from-no-error}
 use Rattle.ps_problem.proofs.Growth.{count-is, sentence-is}
