@@ -15,6 +15,7 @@ use std::alloc::Global;
 const MOST: usize = 100;
 
 // The sentences up to `end`, and the bytes after it.
+#[tactic(auto, using(crate::proofs::Sentences::steps))]
 fn sentences(alloc: Global, bytes: &[u8]) -> Result<(List<FirstSentence>, &[u8]), ReadError>
     ensures { Gives (λ x. (x.0, x.1.now)) result (sentences_from [] 100 bytes.now) }
 {
