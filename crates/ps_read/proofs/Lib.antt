@@ -3,3 +3,7 @@ pub mod Sentences
 pub mod Telling
 pub mod Parts
 pub mod Values
+pub mod Derivations
+pub mod Soundness
+pub mod Completeness
+pub mod Answered

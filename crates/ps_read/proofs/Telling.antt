@@ -84,7 +84,7 @@ keep_symbol Open more = refl
 keep_symbol s more = refl
 
 -- a token begins with no blank
-keep_token : (t : Token) (more : List ℕ) → IsToken One t → drop_blanks (spelling t ++ more) ≡ spelling t ++ more
+pub keep_token : (t : Token) (more : List ℕ) → IsToken One t → drop_blanks (spelling t ++ more) ≡ spelling t ++ more
 keep_token (Word w) more i = keep_front is_letter letter_no_space (w ++ more) (word_starts w more i)
 keep_token (Number n) more i = keep_front is_digit digit_no_space (numeral_spelling n ++ more) (numeral_starts n more i)
 keep_token (Sign s) more i = keep_symbol s more

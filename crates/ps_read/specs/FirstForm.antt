@@ -40,6 +40,10 @@ GivesFront (Ok x) items place = (items_of x.0 ≡ items) × (x.1 ≡ place)
 GivesFront (Err NotFirstForm) items place = ⊥
 GivesFront (Err NoMemory) items place = Unit {0}
 
+-- each text of the first form with at most 100 sentences that is at the front is answered so
+pub record AnswersEach (bytes : List ℕ) (result : Result (List FirstSentence × ℕ) ReadError) : Type 0 where
+  pub answer : (items : List Item) (place : ℕ) → IsFirstFront bytes items place → length items ≤ 100 → GivesFront result items place
+
 -- no text of the first form with at most 100 sentences is at the front
 pub record BeginsWithNone (bytes : List ℕ) : Type 0 where
   pub none : (items : List Item) (place : ℕ) → IsFirstFront bytes items place → length items ≤ 100 → ⊥
