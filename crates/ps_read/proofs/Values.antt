@@ -97,28 +97,29 @@ pub record IsFraction (bytes : List ℕ) (n d : ℕ) (after : List ℕ) : Type 0
   pub num : n ≡ capped (value digits)
   pub den : d ≡ capped (value below)
 
+fraction : (bytes : List ℕ) (n d : ℕ) (slash below after : List ℕ) → IsRead (drop_blanks bytes) n slash → slash ≡ 47 ∷ below → IsRead below d after → IsFraction bytes n d after
+fraction bytes n d slash below after num e den = record {
+  digits = num.digits;
+  below = den.digits;
+  first = record {
+    is = num.is ∙ ap (λ x. num.digits ++ x) e ∙ ap (λ x. num.digits ++ 47 ∷ x) den.is ∙ sym (append_assoc num.digits (47 ∷ den.digits) after);
+    token = (num.are, den.are);
+    stops = den.stop;
+  };
+  num = num.value_is;
+  den = den.value_is;
+}
+
 pub quotient_read : (bytes : List ℕ) (q : ℕ × ℕ) (after : List ℕ) → quotient_at bytes ≡ Some (q, after) → IsFraction bytes q.0 q.1 after
 unfolding quotient_at
 quotient_read bytes q after e =
     let s = steps (digits_at (drop_blanks bytes)) (λ num. byte_at 47 num.1 >>= λ a. digits_at a >>= λ den. Some ((num.0, den.0), den.1)) (q, after) e in
     let t = steps (byte_at 47 s.value.1) (λ a. digits_at a >>= λ den. Some ((s.value.0, den.0), den.1)) (q, after) s.more in
     let u = steps (digits_at t.value) (λ den. Some ((s.value.0, den.0), den.1)) (q, after) t.more in
-    let num = digits_read (drop_blanks bytes) s.value.1 s.value.0 s.is in
-    let slash = byte_split 47 s.value.1 t.value t.is in
-    let den = digits_read t.value u.value.1 u.value.0 u.is in
     let last : ◌≡◌ {A = (ℕ × ℕ) × List ℕ} ((s.value.0, u.value.0), u.value.1) (q, after) = same_some ((s.value.0, u.value.0), u.value.1) (q, after) u.more in
-    let ea : u.value.1 ≡ after = ap (λ x. x.1) last in
-    record {
-      digits = num.digits;
-      below = den.digits;
-      first = record {
-        is = num.is ∙ ap (λ x. num.digits ++ x) (slash ∙ ap (λ x. 47 ∷ x) (den.is ∙ ap (λ x. den.digits ++ x) ea)) ∙ sym (append_assoc num.digits (47 ∷ den.digits) after);
-        token = (num.are, den.are);
-        stops = subst (λ x. starts is_digit x ≡ false) ea den.stop;
-      };
-      num = sym (ap (λ x. x.0.0) last) ∙ num.value_is;
-      den = sym (ap (λ x. x.0.1) last) ∙ den.value_is;
-    }
+    let slash = byte_split 47 s.value.1 t.value t.is in
+    subst (λ (x : (ℕ × ℕ) × List ℕ). IsFraction bytes x.0.0 x.0.1 x.1) last
+      (fraction bytes s.value.0 u.value.0 s.value.1 t.value u.value.1 (digits_read (drop_blanks bytes) s.value.1 s.value.0 s.is) slash (digits_read t.value u.value.1 u.value.0 u.is))
 
 pub read_quotient : (bytes ds es after : List ℕ) → First bytes (Number (Quotient ds es)) after → quotient_at bytes ≡ Some ((capped (value ds), capped (value es)), after)
 unfolding quotient_at
