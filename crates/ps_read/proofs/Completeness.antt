@@ -1,22 +1,22 @@
 -- What is spelled so is read.
-use Rattle.std.proofs.Common.{◌≡◌, ℕ, suc, zero, ◌+◌, ◌-◌, ◌<◌, ◌≤◌, Bool, true, false, List, [], ◌∷◌, ◌++◌, length, map, Option, Some, None, refl, sym, ap, subst, ◌∙◌, arith, append_assoc, length-append}
+use Rattle.std.proofs.Common.{◌≡◌, ℕ, suc, zero, ◌+◌, ◌-◌, ◌<◌, ◌≤◌, Bool, true, false, List, [], ◌∷◌, ◌++◌, length, Some, None, refl, sym, ap, subst, ◌∙◌, arith, append_assoc, length-append}
 use Rattle.std.proofs.lemmas.Bool.Decides.{nat_tests}
 use Rattle.std.proofs.lemmas.List.{append-nil}
-use Rattle.std.specs.Prelude.{◌==◌, ◌||◌, not, if◌then◌else◌, IsTrue, codes, bytes_eq}
+use Rattle.std.specs.Prelude.{◌==◌, if◌then◌else◌, codes}
 use Rattle.ps_meaning.specs.Statements.{Ratio, Item}
-use Rattle.ps_text.specs.Tokens.{One, Token, Word, Number, Sign, Numeral, Whole, Quotient, Open, Close, Semicolon, Bang, Equals, is_letter, IsWord}
-use Rattle.ps_text.specs.Pieces.{texts, IsBare, is_blank}
-use Rattle.ps_text.specs.Grammar.{Form, Name, Truth, Falsity, Not, Group, And, Or, Implies, Iff, Prob, Relation, Exactly, AtLeast, AtMost, Within, Entry, Sentence, Query, spelled, given_tokens, relation_tokens, entry_tokens, entries_tokens, text_tokens, IsForm, Nests, IsEntry, AreEntries, is_reserved, IsProbability}
+use Rattle.ps_text.specs.Tokens.{Token, Word, Number, Sign, Whole, Quotient, Open, Close, Semicolon, Bang, Equals, is_letter, IsWord}
+use Rattle.ps_text.specs.Pieces.{texts, IsBare}
+use Rattle.ps_text.specs.Grammar.{Form, Name, Truth, Falsity, Not, Group, And, Or, Implies, Iff, Prob, Exactly, Entry, Sentence, Query, spelled, given_tokens, relation_tokens, entry_tokens, entries_tokens, text_tokens, IsForm, Nests, IsEntry, AreEntries, is_reserved, IsProbability}
 use Rattle.ps_text.specs.Meanings.{IsItem, AreItems, IsValue}
-use Rattle.ps_text.specs.Fronts.{IsFront, IsFirstFront, AreFirstAfter, AreFirstTokens, is_word}
+use Rattle.ps_text.specs.Fronts.{IsFirstFront, AreFirstAfter, AreFirstTokens}
 use Rattle.ps_text.proofs.Spans.{false_true}
 use Rattle.ps_read.specs.declared.sentence.FirstSentence.{FirstSentence}
-use Rattle.ps_read.specs.Reading.{◌>>=◌, is_space, drop_blanks, symbol_at, keyword_at, name_at, probability_at, bangs_from, sentence_at, or_else, ended, sentences_from, is_bare, front_at}
+use Rattle.ps_read.specs.Reading.{is_space, drop_blanks, symbol_at, keyword_at, name_at, probability_at, bangs_from, sentence_at, ended, sentences_from, is_bare, front_at}
 use Rattle.ps_read.specs.FirstForm.{item_of, items_of}
-use Rattle.ps_read.proofs.Telling.{Tells, First, Back, back, end_back, keep_token, skip_space}
-use Rattle.ps_read.proofs.Parts.{first_symbol, first_keyword, other_keyword, first_name, choose}
+use Rattle.ps_read.proofs.Telling.{Tells, First, Back, back, end_back, keep_token}
+use Rattle.ps_read.proofs.Parts.{first_symbol, first_keyword, other_keyword, first_name}
 use Rattle.ps_read.proofs.Values.{read_probability, first_version}
-use Rattle.ps_read.proofs.Derivations.{AreNots, count, inner, plain_form, plain_given, IsPlain, plain_relation, IsPlainItem, plain_item, flat, allowed_after}
+use Rattle.ps_read.proofs.Derivations.{AreNots, count, inner, plain_form, plain_given, plain_relation, plain_item, flat, allowed_after}
 
 bangs_skip_step : (n b : ℕ) (bs : List ℕ) (x : Bool) → is_space b ≡ x → bangs_from n bs ≡ bangs_from n (drop_blanks bs) → bangs_from n (b ∷ bs) ≡ bangs_from n (if x then drop_blanks bs else b ∷ bs)
 bangs_skip_step n b bs true h e = rw h e
@@ -31,6 +31,7 @@ letter_ends b h = (space h, bang h)
   where
     space : is_letter b ≡ true → is_space b ≡ false
     space h = grind (arith, nat_tests)
+
     bang : is_letter b ≡ true → (b == 33) ≡ false
     bang h = grind (arith, nat_tests)
 

@@ -1,13 +1,13 @@
 -- Derivations of the first form: some `!` and a name, and a fraction behind `=`.
-use Rattle.std.proofs.Common.{◌≡◌, ℕ, suc, zero, ◌+◌, ◌<◌, ◌≤◌, Bool, true, false, List, [], ◌∷◌, ◌++◌, length, Option, Some, None, refl, sym, ap, subst, ◌∙◌, arith, append_assoc}
-use Rattle.std.specs.Prelude.{◌||◌, not, bytes_eq, IsTrue, codes}
+use Rattle.std.proofs.Common.{◌≡◌, ℕ, suc, zero, ◌+◌, ◌≤◌, Bool, true, false, List, [], ◌∷◌, ◌++◌, length, Option, Some, None, refl, sym, ap, subst, ◌∙◌, arith, append_assoc}
+use Rattle.std.specs.Prelude.{◌||◌, not, bytes_eq, codes}
 use Rattle.ps_meaning.specs.Formula as formula
 use Rattle.ps_meaning.specs.Bounds as side
 use Rattle.ps_meaning.specs.Statements.{Name as AtomName, Ratio, Statement, Item, Stated, Asked}
-use Rattle.ps_text.specs.Tokens.{Token, Word, Number, Sign, Numeral, Whole, Quotient, Decimal, Open, Close, Semicolon, Bang, Ampersand, Bar, Arrow, DoubleArrow, Equals}
-use Rattle.ps_text.specs.Grammar.{Form, Name, Truth, Falsity, Not, Group, And, Or, Implies, Iff, spelled, level, is_reserved, IsForm, Nests, Prob, IsProb, Relation, Exactly, AtLeast, AtMost, Within, Entry, Sentence, Query, given_tokens, relation_tokens, entry_tokens, IsProbability, IsEntry}
-use Rattle.ps_text.specs.Meanings.{formula_of, given_of, IsValue, IsStatement, States, IsItem}
-use Rattle.ps_text.specs.Fronts.{is_first_token, is_first_word, is_word, may_follow, AreFirstAfter}
+use Rattle.ps_text.specs.Tokens.{Token, Word, Number, Sign, Whole, Quotient, Decimal, Open, Close, Semicolon, Bang, Ampersand, Bar, Arrow, DoubleArrow, Equals}
+use Rattle.ps_text.specs.Grammar.{Form, Name, Truth, Falsity, Not, Group, And, Or, Implies, Iff, spelled, level, is_reserved, IsForm, Nests, Prob, Relation, Exactly, AtLeast, AtMost, Within, Entry, Sentence, given_tokens, relation_tokens, entry_tokens, IsProbability, IsEntry}
+use Rattle.ps_text.specs.Meanings.{formula_of, given_of, IsValue, IsItem}
+use Rattle.ps_text.specs.Fronts.{is_first_token, is_first_word, is_word, AreFirstAfter}
 use Rattle.ps_text.proofs.Spans.{false_true}
 use Rattle.ps_read.specs.declared.sentence.FirstSentence.{FirstSentence}
 use Rattle.ps_read.specs.FirstForm.{negated, item_of}
@@ -78,7 +78,7 @@ pub entry_allowed : (before : Token) (k : ℕ) (w ds es : List ℕ) (ts : List T
 entry_allowed before k w ds es ts r a =
     let tail : AreFirstAfter (Word w) (Sign Close ∷ Sign Equals ∷ Number (Quotient ds es) ∷ Sign Semicolon ∷ ts) = (refl, refl, (refl, refl, (refl, refl, (refl, refl, a)))) in
     let inside : AreFirstAfter (Sign Open) (spelled (negations k w) ++ (Sign Close ∷ Sign Equals ∷ Number (Quotient ds es) ∷ Sign Semicolon ∷ ts)) =
-      subst (λ x. AreFirstAfter (Sign Open) x) (sym (spelled_negations k w (Sign Close ∷ Sign Equals ∷ Number (Quotient ds es) ∷ Sign Semicolon ∷ ts))) (bangs_allowed k (Sign Open) w (Sign Close ∷ Sign Equals ∷ Number (Quotient ds es) ∷ Sign Semicolon ∷ ts) (free_word w r) tail) in
+    subst (λ x. AreFirstAfter (Sign Open) x) (sym (spelled_negations k w (Sign Close ∷ Sign Equals ∷ Number (Quotient ds es) ∷ Sign Semicolon ∷ ts))) (bangs_allowed k (Sign Open) w (Sign Close ∷ Sign Equals ∷ Number (Quotient ds es) ∷ Sign Semicolon ∷ ts) (free_word w r) tail) in
     subst (λ x. AreFirstAfter before x) (sym (flat (record { form = negations k w; given = None }) (Exactly (Quotient ds es)) ts)) (refl, refl, (refl, refl, inside))
 
 -- back from tokens of the first form to the shape of their derivation

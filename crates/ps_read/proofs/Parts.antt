@@ -1,13 +1,13 @@
 -- What the reader's parts answer, against the token at the front.
-use Rattle.std.proofs.Common.{◌≡◌, ℕ, suc, zero, ◌+◌, ◌-◌, ◌*◌, ◌<◌, ◌≤◌, Bool, true, false, List, [], ◌∷◌, ◌++◌, length, take, drop, Option, Some, None, refl, sym, ap, subst, ◌∙◌, arith, append_assoc, add-one}
+use Rattle.std.proofs.Common.{◌≡◌, ℕ, ◌+◌, ◌≤◌, Bool, true, false, List, [], ◌∷◌, ◌++◌, length, take, drop, Option, Some, None, refl, sym, ap, subst, ◌∙◌, arith, add-one}
 use Rattle.std.proofs.lemmas.Bool.Decides.{nat_tests}
 use Rattle.std.proofs.lemmas.List.{take-append-drop, take_at, drop_at}
 use Rattle.std.proofs.lemmas.Slice.Eq.{bytes_eq-Decides}
-use Rattle.std.specs.Prelude.{nat_le, nat_lt, ◌==◌, ◌||◌, ◌&&◌, not, min, bytes_eq, IsTrue, if◌then◌else◌, codes}
-use Rattle.ps_text.specs.Tokens.{One, Token, Word, Number, Sign, Numeral, Whole, Quotient, Symbol, Semicolon, is_letter, is_digit, is_word_byte, IsWord, AreDigits, symbol_spelling}
-use Rattle.ps_text.specs.Grammar.{is_reserved, value_from, value, IsProbability}
-use Rattle.ps_text.proofs.Spans.{starts, starts_behind, Passes, false_true, same_byte, both, span_same, letter_goes, word_passes, digits_pass}
-use Rattle.ps_read.specs.Reading.{◌>>=◌, is_space, drop_blanks, byte_at, symbol_at, prefix, split_word, word_at, keyword_at, name_at, capped_from, digits_at, quotient_at}
+use Rattle.std.specs.Prelude.{nat_le, ◌==◌, ◌&&◌, not, bytes_eq, if◌then◌else◌}
+use Rattle.ps_text.specs.Tokens.{Word, Sign, Symbol, is_letter, is_word_byte, IsWord, symbol_spelling}
+use Rattle.ps_text.specs.Grammar.{is_reserved}
+use Rattle.ps_text.proofs.Spans.{starts, Passes, same_byte, both, letter_goes, word_passes}
+use Rattle.ps_read.specs.Reading.{◌>>=◌, drop_blanks, byte_at, symbol_at, prefix, split_word, word_at, keyword_at, name_at}
 use Rattle.ps_read.proofs.Telling.{First}
 
 -- a step that gives something
@@ -113,7 +113,7 @@ is_split (b ∷ bs) after i s =
     let t : take (prefix is_word_byte (b ∷ (bs ++ after))) (b ∷ (bs ++ after)) ≡ b ∷ bs = take_at (b ∷ bs) after (prefix is_word_byte (b ∷ (bs ++ after))) (sym n) in
     let d : drop (prefix is_word_byte (b ∷ (bs ++ after))) (b ∷ (bs ++ after)) ≡ after = drop_at (b ∷ bs) after (prefix is_word_byte (b ∷ (bs ++ after))) (sym n) in
     choose (is_letter b) (take (prefix is_word_byte (b ∷ (bs ++ after))) (b ∷ (bs ++ after)), drop (prefix is_word_byte (b ∷ (bs ++ after))) (b ∷ (bs ++ after))) (b ∷ bs, after) l
-      (pair (take (prefix is_word_byte (b ∷ (bs ++ after))) (b ∷ (bs ++ after))) (b ∷ bs) (drop (prefix is_word_byte (b ∷ (bs ++ after))) (b ∷ (bs ++ after))) after t d)
+    (pair (take (prefix is_word_byte (b ∷ (bs ++ after))) (b ∷ (bs ++ after))) (b ∷ bs) (drop (prefix is_word_byte (b ∷ (bs ++ after))) (b ∷ (bs ++ after))) after t d)
 
 pub word_first : (bytes w after : List ℕ) → word_at bytes ≡ Some (w, after) → First bytes (Word w) after
 word_first bytes w after e = let s = split_is (drop_blanks bytes) w after e in record { is = s.is; token = s.word; stops = s.stop }
@@ -155,6 +155,7 @@ name_first bytes w after e =
     negated : (x : Bool) → not x ≡ true → x ≡ false
     negated true h = absurd cc
     negated false h = refl
+
     le_of : (n : ℕ) → nat_le n 32 ≡ true → n ≤ 32
     le_of n h = grind (arith, nat_tests)
 

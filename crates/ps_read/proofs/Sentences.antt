@@ -1,5 +1,5 @@
 -- One more sentence.
-use Rattle.std.proofs.Common.{◌≡◌, ℕ, suc, zero, ◌+◌, ◌-◌, ◌<◌, List, [], ◌∷◌, ◌++◌, Option, Some, None, refl, arith}
+use Rattle.std.proofs.Common.{◌≡◌, ℕ, suc, ◌+◌, ◌-◌, ◌<◌, List, [], ◌∷◌, ◌++◌, Some, None, refl, arith}
 use Rattle.std.specs.Prelude.{codes}
 use Rattle.ps_read.specs.declared.sentence.FirstSentence.{FirstSentence}
 use Rattle.ps_read.specs.Reading.{keyword_at, sentence_at, sentences_from, ended}

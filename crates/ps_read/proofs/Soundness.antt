@@ -1,22 +1,21 @@
 -- What is read is spelled so.
-use Rattle.std.proofs.Common.{◌≡◌, ℕ, suc, zero, ◌+◌, ◌-◌, ◌<◌, ◌≤◌, Bool, true, false, List, [], ◌∷◌, ◌++◌, length, map, Option, Some, None, refl, sym, ap, subst, ◌∙◌, inl, inr, arith, append_assoc, length-append}
+use Rattle.std.proofs.Common.{◌≡◌, ℕ, suc, zero, ◌+◌, ◌-◌, ◌≤◌, Bool, true, false, List, [], ◌∷◌, ◌++◌, length, Option, Some, None, refl, sym, ap, subst, ◌∙◌, inl, inr, arith, append_assoc, length-append}
 use Rattle.std.proofs.lemmas.Bool.Decides.{nat_tests}
-use Rattle.std.proofs.lemmas.List.{append-nil, length-map}
+use Rattle.std.proofs.lemmas.List.{append-nil}
 use Rattle.std.proofs.lemmas.List.Elements.{All-nil, All-cons}
-use Rattle.std.specs.Prelude.{◌==◌, ◌||◌, not, if◌then◌else◌, IsTrue, codes, All, bytes_eq, ◌⊎◌}
-use Rattle.std.specs.List.{AllByRecursion}
+use Rattle.std.specs.Prelude.{◌==◌, if◌then◌else◌, codes, All, ◌⊎◌}
 use Rattle.ps_meaning.specs.Statements.{Item}
-use Rattle.ps_text.specs.Tokens.{One, Token, Word, Number, Sign, Numeral, Whole, Quotient, Open, Close, Semicolon, Bang, Equals}
-use Rattle.ps_text.specs.Pieces.{texts, IsBare, is_blank}
-use Rattle.ps_text.specs.Grammar.{Entry, Exactly, spelled, entry_tokens, entries_tokens, text_tokens, IsEntry, AreEntries, is_reserved, IsProbability}
-use Rattle.ps_text.specs.Meanings.{IsItem, AreItems, IsValue}
-use Rattle.ps_text.specs.Fronts.{IsFront, IsFirstFront, AreFirstAfter, AreFirstTokens}
-use Rattle.ps_text.proofs.Spans.{same_byte, false_true}
+use Rattle.ps_text.specs.Tokens.{Token, Word, Number, Sign, Whole, Quotient, Open, Close, Semicolon, Bang, Equals}
+use Rattle.ps_text.specs.Pieces.{texts, IsBare}
+use Rattle.ps_text.specs.Grammar.{Entry, Exactly, spelled, entry_tokens, entries_tokens, text_tokens, AreEntries, IsProbability}
+use Rattle.ps_text.specs.Meanings.{AreItems, IsValue}
+use Rattle.ps_text.specs.Fronts.{IsFirstFront, AreFirstAfter, AreFirstTokens}
+use Rattle.ps_text.proofs.Spans.{same_byte}
 use Rattle.ps_read.specs.declared.sentence.FirstSentence.{FirstSentence}
-use Rattle.ps_read.specs.Reading.{◌>>=◌, is_space, drop_blanks, symbol_at, keyword_at, name_at, probability_at, bangs_from, sentence_at, or_else, ended, sentences_from, is_bare, front_at}
-use Rattle.ps_read.specs.FirstForm.{item_of, items_of, IsWithinLimits}
+use Rattle.ps_read.specs.Reading.{is_space, drop_blanks, symbol_at, keyword_at, name_at, probability_at, bangs_from, sentence_at, or_else, ended, sentences_from, is_bare, front_at}
+use Rattle.ps_read.specs.FirstForm.{items_of, IsWithinLimits}
 use Rattle.ps_read.proofs.Telling.{Tells, First, blank_tells, token_tells, forth, end_forth}
-use Rattle.ps_read.proofs.Parts.{Steps, steps, kept, same_some, symbol_first, keyword_first, name_first, IsName}
+use Rattle.ps_read.proofs.Parts.{steps, kept, same_some, symbol_first, keyword_first, name_first}
 use Rattle.ps_read.proofs.Values.{IsReadProbability, probability_read, version_first}
 use Rattle.ps_read.proofs.Derivations.{bangs, negations, entry_of, spelled_negations, flat, entry_within, entry_means, entry_allowed}
 
@@ -102,8 +101,19 @@ parts_of bytes s after e =
     let g = steps (probability_at f.value) _ (s, after) f.more in
     let h = steps (symbol_at 59 g.value.1) _ (s, after) g.more in
     let p : Parts bytes b.value.0 c.value.0 g.value.0.0 g.value.0.1 h.value = record {
-      inside = a.value; behind_bangs = b.value.1; behind_name = c.value.1; behind_close = d.value; behind_equals = f.value; behind_value = g.value.1;
-      opened = a.is; bangs = b.is; name = c.is; close = d.is; equals = f.is; value = g.is; semicolon = h.is;
+      inside = a.value;
+      behind_bangs = b.value.1;
+      behind_name = c.value.1;
+      behind_close = d.value;
+      behind_equals = f.value;
+      behind_value = g.value.1;
+      opened = a.is;
+      bangs = b.is;
+      name = c.is;
+      close = d.is;
+      equals = f.is;
+      value = g.is;
+      semicolon = h.is;
     } in
     let last : ◌≡◌ {A = FirstSentence × List ℕ} (record { nots = b.value.0; name = c.value.0; num = g.value.0.0; den = g.value.0.1 }, h.value) (s, after) = same_some (record { nots = b.value.0; name = c.value.0; num = g.value.0.0; den = g.value.0.1 }, h.value) (s, after) h.more in
     subst (λ (x : FirstSentence × List ℕ). Parts bytes x.0.nots x.0.name x.0.num x.0.den x.1) last p
@@ -182,11 +192,11 @@ list_more bytes a ss n s after all rest f x l =
       meant = (entry_means s x.digits x.below x.value, l.meant);
       limits = All-cons IsWithinLimits s l.new limits l.limits;
       allowed = λ ts k. subst (λ y. AreFirstAfter (Sign Semicolon) y) (sym (append_assoc (entry_tokens (entry_of s.nots s.name x.digits x.below)) (entries_tokens l.entries) ts))
-        (entry_allowed (Sign Semicolon) s.nots s.name x.digits x.below (entries_tokens l.entries ++ ts) limits.free (l.allowed ts k));
+          (entry_allowed (Sign Semicolon) s.nots s.name x.digits x.below (entries_tokens l.entries ++ ts) limits.free (l.allowed ts k));
       tells = λ ts r t. subst (λ y. Tells bytes y r)
-        (sym (flat (record { form = negations s.nots s.name; given = None }) (Exactly (Quotient x.digits x.below)) (entries_tokens l.entries ++ Word (codes "end") ∷ ts))
+          (sym (flat (record { form = negations s.nots s.name; given = None }) (Exactly (Quotient x.digits x.below)) (entries_tokens l.entries ++ Word (codes "end") ∷ ts))
           ∙ sym (append_assoc (entry_tokens (entry_of s.nots s.name x.digits x.below)) (entries_tokens l.entries) (Word (codes "end") ∷ ts)))
-        (forth bytes (Word (codes "P")) a _ r f (x.tells (entries_tokens l.entries ++ Word (codes "end") ∷ ts) r (l.tells ts r t)));
+          (forth bytes (Word (codes "P")) a _ r f (x.tells (entries_tokens l.entries ++ Word (codes "end") ∷ ts) r (l.tells ts r t)));
     }
 
 or_split : {A : Type 0} (x y : Option A) (z : A) → or_else x y ≡ Some z → (x ≡ Some z) ⊎ (y ≡ Some z)
@@ -197,10 +207,11 @@ list_read : (n : ℕ) (bytes : List ℕ) (ss : List FirstSentence) (all : List F
 unfolding sentences_from
 list_read zero bytes ss all rest e = list_end bytes ss 0 all rest e
 list_read (suc n) bytes ss all rest e = elim (or_split (ended ss bytes) _ (all, rest) e) [
-    inl h ↦ list_end bytes ss (suc n) all rest h
+  | inl h ↦ list_end bytes ss (suc n) all rest h
   | inr h ↦ (let a = steps (keyword_at (codes "P") bytes) _ (all, rest) h in
       let s = steps (sentence_at a.value) _ (all, rest) a.more in
-      list_more bytes a.value ss n s.value.0 s.value.1 all rest (keyword_first (codes "P") bytes a.value a.is) (sentence_read a.value s.value.0 s.value.1 s.is) (list_read n s.value.1 (ss ++ s.value.0 ∷ []) all rest s.more)) ]
+      list_more bytes a.value ss n s.value.0 s.value.1 all rest (keyword_first (codes "P") bytes a.value a.is) (sentence_read a.value s.value.0 s.value.1 s.is) (list_read n s.value.1 (ss ++ s.value.0 ∷ []) all rest s.more))
+]
 
 -- the text that is read
 pub record IsReadFront (bytes : List ℕ) (ss : List FirstSentence) (rest : List ℕ) : Type 0 where
@@ -263,10 +274,18 @@ front_parts bytes ss rest e =
     let f = steps (symbol_at 59 d.value.1) _ (ss, rest) d.more in
     let k = kept (is_bare (drop_blanks f.value)) (d.value.0, drop_blanks f.value) (ss, rest) f.more in
     record {
-      behind_psat = a.value; behind_version = b.value; inside = c.value; behind_end = d.value.1; behind_text = f.value;
-      psat = a.is; version = b.is; semicolon = c.is;
+      behind_psat = a.value;
+      behind_version = b.value;
+      inside = c.value;
+      behind_end = d.value.1;
+      behind_text = f.value;
+      psat = a.is;
+      version = b.is;
+      semicolon = c.is;
       sentences = d.is ∙ ap (λ (x : List FirstSentence × List ℕ). Some (x.0, d.value.1)) k.1;
-      end = f.is; bare = k.0; rest_is = ap (λ x. x.1) k.1;
+      end = f.is;
+      bare = k.0;
+      rest_is = ap (λ x. x.1) k.1;
     }
 
 pub front_read : (bytes : List ℕ) (ss : List FirstSentence) (rest : List ℕ) → front_at bytes ≡ Some (ss, rest) → IsReadFront bytes ss rest

@@ -1,9 +1,9 @@
 -- Bytes as pieces of the first form, step by step: a token at the front, and what is told after it.
-use Rattle.std.proofs.Common.{◌≡◌, ℕ, ◌+◌, ◌<◌, ◌≤◌, Bool, true, false, List, [], ◌∷◌, ◌++◌, length, refl, sym, ap, subst, ◌∙◌, arith, append_assoc}
+use Rattle.std.proofs.Common.{◌≡◌, ℕ, Bool, true, false, List, [], ◌∷◌, ◌++◌, refl, sym, ap, subst, ◌∙◌, arith, append_assoc}
 use Rattle.std.proofs.lemmas.Bool.Decides.{nat_tests}
-use Rattle.std.specs.Prelude.{nat_le, ◌==◌, ◌||◌, ◌&&◌, not, IsTrue, if◌then◌else◌}
-use Rattle.ps_text.specs.Tokens.{One, Token, Word, Number, Sign, Numeral, Symbol, Open, is_letter, is_digit, IsToken, IsLongest, spelling, numeral_spelling, symbol_spelling}
-use Rattle.ps_text.specs.Pieces.{Piece, Blank, Comment, Spelled, is_blank, text, texts, Cuts, tokens, IsBare}
+use Rattle.std.specs.Prelude.{◌==◌, ◌||◌, not, if◌then◌else◌}
+use Rattle.ps_text.specs.Tokens.{One, Token, Word, Number, Sign, Symbol, Open, is_letter, is_digit, IsToken, IsLongest, spelling, numeral_spelling, symbol_spelling}
+use Rattle.ps_text.specs.Pieces.{Piece, Blank, Comment, Spelled, is_blank, texts, Cuts, tokens, IsBare}
 use Rattle.ps_text.specs.Fronts.{AreFirstBlanks}
 use Rattle.ps_text.proofs.Spans.{starts, false_true, word_starts}
 use Rattle.ps_text.proofs.Longest.{Stops, stops_longest, longest_stops, numeral_starts}

@@ -1,20 +1,19 @@
 -- What the reader answers of fractions, against the number at the front.
-use Rattle.std.proofs.Common.{◌≡◌, ℕ, suc, zero, ◌+◌, ◌-◌, ◌*◌, ◌/◌, ◌<◌, ◌≤◌, Bool, true, false, List, [], ◌∷◌, ◌++◌, length, Option, Some, None, refl, sym, ap, subst, ◌∙◌, arith, append_assoc}
+use Rattle.std.proofs.Common.{◌≡◌, ℕ, suc, zero, ◌+◌, ◌-◌, ◌*◌, ◌/◌, ◌<◌, ◌≤◌, Bool, true, false, List, [], ◌∷◌, ◌++◌, Some, None, refl, sym, ap, subst, ◌∙◌, arith, append_assoc}
 use Rattle.std.proofs.lemmas.Bool.Decides.{nat_tests}
 use Rattle.std.proofs.Math.Nat.{div-mul_cancel}
-use Rattle.std.proofs.lemmas.Nat.Gcd.{same_from_IsGcd}
 use Rattle.std.specs.Int.{IsGcd}
-use Rattle.std.specs.Prelude.{nat_le, nat_lt, ◌==◌, ◌||◌, ◌&&◌, not, min, if◌then◌else◌, codes}
+use Rattle.std.specs.Prelude.{nat_le, nat_lt, ◌==◌, ◌||◌, ◌&&◌, min, if◌then◌else◌, codes}
 use Rattle.ps_meaning.specs.Statements.{Ratio}
-use Rattle.ps_text.specs.Tokens.{Number, Sign, Numeral, Whole, Quotient, Semicolon, is_digit, AreDigits}
+use Rattle.ps_text.specs.Tokens.{Number, Whole, Quotient, is_digit, AreDigits}
 use Rattle.ps_text.specs.Grammar.{value_from, value, IsProbability}
 use Rattle.ps_text.specs.Meanings.{IsLowest, IsValue}
-use Rattle.ps_text.proofs.Spans.{starts, starts_behind, Passes, false_true, span_same, digits_pass}
+use Rattle.ps_text.proofs.Spans.{starts, starts_behind, Passes, false_true, span_same}
 use Rattle.ps_read.specs.Lowest.{gcd}
 use Rattle.ps_read.specs.Reading.{◌>>=◌, is_space, drop_blanks, byte_at, symbol_at, capped_from, digits_at, quotient_at, probability_at}
 use Rattle.ps_read.proofs.Divisors.{gcd_is, gcd_pos_right, is_gcd, coprime_rest}
 use Rattle.ps_read.proofs.Telling.{First}
-use Rattle.ps_read.proofs.Parts.{Steps, steps, kept, kept_else, choose, choose_else, pair, same_some, byte_split, byte_here}
+use Rattle.ps_read.proofs.Parts.{steps, kept, kept_else, choose, choose_else, pair, same_some, byte_split}
 
 abbrev pub capped : ℕ → ℕ
 capped n = min 1000001 n
@@ -119,7 +118,7 @@ quotient_read bytes q after e =
     let last : ◌≡◌ {A = (ℕ × ℕ) × List ℕ} ((s.value.0, u.value.0), u.value.1) (q, after) = same_some ((s.value.0, u.value.0), u.value.1) (q, after) u.more in
     let slash = byte_split 47 s.value.1 t.value t.is in
     subst (λ (x : (ℕ × ℕ) × List ℕ). IsFraction bytes x.0.0 x.0.1 x.1) last
-      (fraction bytes s.value.0 u.value.0 s.value.1 t.value u.value.1 (digits_read (drop_blanks bytes) s.value.1 s.value.0 s.is) slash (digits_read t.value u.value.1 u.value.0 u.is))
+    (fraction bytes s.value.0 u.value.0 s.value.1 t.value u.value.1 (digits_read (drop_blanks bytes) s.value.1 s.value.0 s.is) slash (digits_read t.value u.value.1 u.value.0 u.is))
 
 pub read_quotient : (bytes ds es after : List ℕ) → First bytes (Number (Quotient ds es)) after → quotient_at bytes ≡ Some ((capped (value ds), capped (value es)), after)
 unfolding quotient_at
@@ -154,10 +153,13 @@ tested n d h = let t = parts (d == 0) (nat_le 1000001 d) (nat_lt d n) h in recor
     parts true b c e = absurd cc
     parts false true c e = absurd cc
     parts false false c e = (refl, refl, e)
+
     least : (d == 0) ≡ false → 0 < d
     least e = grind (arith, nat_tests)
+
     most : nat_le 1000001 d ≡ false → d ≤ 1000000
     most e = grind (arith, nat_tests)
+
     one : nat_lt d n ≡ false → n ≤ d
     one e = grind (arith, nat_tests)
 
@@ -168,10 +170,13 @@ tests n d t = parts (d == 0) (nat_le 1000001 d) (nat_lt d n) (least t.least) (mo
     parts false false c p q r = r
     parts false true c p q r = absurd cc
     parts true b c p q r = absurd cc
+
     least : 0 < d → (d == 0) ≡ false
     least e = grind (arith, nat_tests)
+
     most : d ≤ 1000000 → nat_le 1000001 d ≡ false
     most e = grind (arith, nat_tests)
+
     one : n ≤ d → nat_lt d n ≡ false
     one e = grind (arith, nat_tests)
 
@@ -203,9 +208,11 @@ divided n d t =
   where
     ordered : (a b : ℕ) → a ≡ n → b ≡ d → a ≤ b
     ordered a b e f = let o = t.one in omega arith
+
     some : (a g : ℕ) → a * g ≡ d → 1 ≤ a
     some zero g e = let l = t.least in absurd (omega arith)
     some (suc a) g e = omega arith
+
     less : (a g : ℕ) → 0 < g → a * g ≡ d → a ≤ d
     less a zero h e = absurd (omega arith)
     less a (suc g) h e = omega arith
@@ -275,7 +282,7 @@ read_probability bytes ds es r after f i v =
     let t : (value es == 0 || nat_le 1000001 (value es) || nat_lt (value es) (value ds)) ≡ false = tests (value ds) (value es) (record { least = l; most = m; one = o }) in
     let w = lowest_is (value ds) (value es) r l v in
     rw e (choose_else (value es == 0 || nat_le 1000001 (value es) || nat_lt (value es) (value ds)) ((value ds / gcd (value ds) (value es), value es / gcd (value ds) (value es)), after) ((r.num, r.den), after) t
-      (pair (value ds / gcd (value ds) (value es), value es / gcd (value ds) (value es)) (r.num, r.den) after after (pair (value ds / gcd (value ds) (value es)) r.num (value es / gcd (value ds) (value es)) r.den (sym w.0) (sym w.1)) refl))
+    (pair (value ds / gcd (value ds) (value es), value es / gcd (value ds) (value es)) (r.num, r.den) after after (pair (value ds / gcd (value ds) (value es)) r.num (value es / gcd (value ds) (value es)) r.den (sym w.0) (sym w.1)) refl))
 
 -- the version's number is read as one byte, where a `;` comes behind it
 
@@ -286,12 +293,16 @@ semicolon_stops (b ∷ bs) rest e = let k : is_space b || b == 59 ≡ true = bla
     blank_or : (x : Bool) → is_space b ≡ x → byte_at 59 (if x then drop_blanks bs else b ∷ bs) ≡ Some rest → is_space b || b == 59 ≡ true
     blank_or true h e = rw h refl
     blank_or false h e = let s : b ∷ bs ≡ 59 ∷ rest = byte_split 59 (b ∷ bs) rest e in let same : b ≡ 59 = cc in rw same refl
+
     no_digit : (b : ℕ) → is_space b || b == 59 ≡ true → is_digit b ≡ false
     no_digit b h = grind (arith, nat_tests)
+
     no_slash : (b : ℕ) → is_space b || b == 59 ≡ true → (b == 47) ≡ false
     no_slash b h = grind (arith, nat_tests)
+
     no_point : (b : ℕ) → is_space b || b == 59 ≡ true → (b == 46) ≡ false
     no_point b h = grind (arith, nat_tests)
+
     no_byte : (c b : ℕ) (y : Bool) → (b == c) ≡ false → (b == c && y) ≡ false
     no_byte c b y h = rw h refl
 

@@ -1,5 +1,5 @@
 -- What the sentences of a text of the first form stand for, and the answers to bytes.
-use Rattle.std.specs.Prelude.{◌≡◌, ℕ, zero, suc, ◌≤◌, ◌<◌, false, List, [], ◌∷◌, length, map, None, Result, Ok, Err}
+use Rattle.std.specs.Prelude.{◌≡◌, ℕ, zero, suc, ◌≤◌, false, List, length, map, None, Result, Ok, Err}
 use Rattle.std.specs.Int.{IsGcd}
 use Rattle.ps_meaning.specs.Formula.{Formula, Atom, Not}
 use Rattle.ps_meaning.specs.Bounds.{Exactly}

@@ -4,8 +4,8 @@ ghost use Rattle.ps_text.specs.Fronts.{IsFirstFront};
 ghost use Rattle.ps_read.specs.Reading.{Gives, is_bare as bare, sentences_from, front_at};
 ghost use Rattle.ps_read.specs.FirstForm.{items_of, IsWithinLimits, AnswersEach, Refuses};
 
-use crate::text::{keyword, skip_blanks, symbol};
 use crate::sentence::sentence;
+use crate::text::{keyword, skip_blanks, symbol};
 use crate::{FirstSentence, ReadError};
 use ps_io::List;
 use std::alloc::Global;

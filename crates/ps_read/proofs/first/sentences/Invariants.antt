@@ -1,4 +1,4 @@
-use Rattle.std.proofs.Common.{◌≡◌, [], ◌-◌, length}
+use Rattle.std.proofs.Common.{◌≡◌, [], ◌-◌}
 use Rattle.ps_read.specs.Reading.{sentences_from}
 use Rattle.ps_read.proofs.first.sentences.Given as goal
 
