@@ -3,3 +3,4 @@ pub mod Distribution
 pub mod Bounds
 pub mod Rows
 pub mod Statements
+pub mod Names

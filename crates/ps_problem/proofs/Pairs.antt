@@ -1,0 +1,70 @@
+-- A formula and perhaps a condition, numbered one after the other.
+use Rattle.std.proofs.Common.{◌≡◌, ℕ, List, [], ◌∷◌, ◌++◌, map, Option, Some, None, IfSome, Result, Ok, Err, refl, sym, ap, subst, ◌∙◌}
+use Rattle.ps_meaning.specs.Formula.{Formula, And, subformulas}
+use Rattle.ps_meaning.specs.Statements.{Name}
+use Rattle.ps_formula.specs.declared.node.Node.{Node}
+use Rattle.ps_formula.specs.declared.node.Node.TheVariants as node
+use Rattle.ps_problem.specs.declared.fault.Fault.{Fault}
+use Rattle.ps_problem.specs.Numbering.{same_formula, place_in, node_in, numbered_for}
+use Rattle.ps_problem.specs.Counts.{Excess, with_formulas, after}
+use Rattle.ps_problem.specs.Built.{Built, IsAmong, IsAdded, Follows, FollowsQuestion, excess_of}
+use Rattle.ps_problem.proofs.Nodes.{among-more, place-more}
+use Rattle.ps_problem.proofs.Steps.{step-known}
+use Rattle.ps_problem.proofs.Turns.{with-append, with-more}
+
+module _ (names : List Name) (start : List (Formula Name)) (f g : Formula Name) (atoms : List ℕ) (nodes : List Node) (i : ℕ) (one : Follows names (with_formulas start (subformulas f)) f atoms nodes (Ok i)) where
+  -- nothing is given
+  pub pair-alone : FollowsQuestion names (with_formulas start (numbered_for f None)) (record { formula = f; given = None }) atoms nodes (Ok (record { formula = i; given = None; both = i }))
+  pair-alone = (one.0, one.1, record { formula = one.2.0; given = tt; both = one.2.0 }, ap (λ n. record { formula = n; given = None; both = n }) one.2.1)
+
+  split : with_formulas start (numbered_for f (Some g)) ≡ after (with_formulas one.0.formulas (subformulas g)) (λ gs. with_formulas gs (And f g ∷ []))
+  split = with-append start (subformulas f ++ subformulas g) (And f g ∷ [])
+      ∙ ap (λ r. after r (λ gs. with_formulas gs (And f g ∷ []))) (with-append start (subformulas f) (subformulas g) ∙ ap (λ r. after r (λ gs. with_formulas gs (subformulas g))) one.1)
+
+  -- the condition didn't fit
+  pub pair-second : (atoms' : List ℕ) (nodes' : List Node) (x : Fault) → Follows names (with_formulas one.0.formulas (subformulas g)) g atoms' nodes' (Err x)
+      → IfSome (excess_of x) (λ e. with_formulas start (numbered_for f (Some g)) ≡ Err e)
+  pair-second atoms' nodes' x two = by (excess_of x) two
+    where
+      by : (o : Option Excess) → IfSome o (λ e. with_formulas one.0.formulas (subformulas g) ≡ Err e) → IfSome o (λ e. with_formulas start (numbered_for f (Some g)) ≡ Err e)
+      by None t = tt
+      by (Some e) t = split ∙ ap (λ r. after r (λ gs. with_formulas gs (And f g ∷ []))) t
+
+  module _ (atoms' : List ℕ) (nodes' : List Node) (j : ℕ) (two : Follows names (with_formulas one.0.formulas (subformulas g)) g atoms' nodes' (Ok j)) where
+    grown : (more : List (Formula Name)) × (two.0.formulas ≡ one.0.formulas ++ more)
+    grown = with-more one.0.formulas (subformulas g) two.0.formulas two.1
+
+    first-there : IsAmong two.0.formulas f
+    first-there = subst (λ gs. IsAmong gs f) (sym grown.1) (among-more one.0.formulas grown.0 f one.2.0)
+
+    first-place : i ≡ place_in same_formula two.0.formulas f
+    first-place = one.2.1 ∙ sym (place-more one.0.formulas grown.0 f one.2.0) ∙ ap (λ gs. place_in same_formula gs f) (sym grown.1)
+
+    third : (nodes'' : List Node) (result : Result ℕ Fault) → IsAdded nodes' (node.And i j) nodes'' result → Follows names (with_formulas two.0.formulas (And f g ∷ [])) (And f g) atoms' nodes'' result
+    third nodes'' result added = step-known names atoms' nodes' two.0 (And f g) (first-there, two.2.0) (node.And i j)
+        (ap (λ n. node.And n j) first-place ∙ ap (λ n. node.And (place_in same_formula two.0.formulas f) n) two.2.1) nodes'' result added
+
+    joined : with_formulas start (numbered_for f (Some g)) ≡ with_formulas two.0.formulas (And f g ∷ [])
+    joined = split ∙ ap (λ r. after r (λ gs. with_formulas gs (And f g ∷ []))) two.1
+
+    pub pair-third : (nodes'' : List Node) (x : Fault) → IsAdded nodes' (node.And i j) nodes'' (Err x) → IfSome (excess_of x) (λ e. with_formulas start (numbered_for f (Some g)) ≡ Err e)
+    pair-third nodes'' x added = by (excess_of x) (third nodes'' (Err x) added)
+      where
+        by : (o : Option Excess) → IfSome o (λ e. with_formulas two.0.formulas (And f g ∷ []) ≡ Err e) → IfSome o (λ e. with_formulas start (numbered_for f (Some g)) ≡ Err e)
+        by None t = tt
+        by (Some e) t = joined ∙ t
+
+    pub pair-both : (nodes'' : List Node) (k : ℕ) → IsAdded nodes' (node.And i j) nodes'' (Ok k)
+        → FollowsQuestion names (with_formulas start (numbered_for f (Some g))) (record { formula = f; given = Some g }) atoms' nodes'' (Ok (record { formula = i; given = Some j; both = k }))
+    pair-both nodes'' k added =
+        let three = third nodes'' (Ok k) added in
+        let more = with-more two.0.formulas (And f g ∷ []) three.0.formulas three.1 in
+        let f-there = subst (λ gs. IsAmong gs f) (sym more.1) (among-more two.0.formulas more.0 f first-there) in
+        let g-there = subst (λ gs. IsAmong gs g) (sym more.1) (among-more two.0.formulas more.0 g two.2.0) in
+        let f-place = first-place ∙ sym (place-more two.0.formulas more.0 f first-there) ∙ ap (λ gs. place_in same_formula gs f) (sym more.1) in
+        let g-place = two.2.1 ∙ sym (place-more two.0.formulas more.0 g two.2.0) ∙ ap (λ gs. place_in same_formula gs g) (sym more.1) in (
+          three.0,
+          joined ∙ three.1,
+          record { formula = f-there; given = g-there; both = three.2.0 },
+          (λ t. record { formula = f-place t; given = Some (g-place t); both = three.2.1 t }),
+        )
