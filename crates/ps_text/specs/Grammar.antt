@@ -1,11 +1,7 @@
 -- What tokens derive. A derivation is plain data, and its tokens are a function of it.
-use Rattle.std.specs.Prelude.{◌≡◌, ℕ, ◌+◌, ◌-◌, ◌*◌, ◌^◌, ◌<◌, ◌≤◌, Bool, false, ◌||◌, bytes_eq, List, [], ◌∷◌, ◌++◌, length, Option, Some, None, codes}
+use Rattle.std.specs.Prelude.{◌≡◌, ℕ, ◌+◌, ◌-◌, ◌*◌, ◌^◌, ◌<◌, ◌≤◌, false, List, [], ◌∷◌, ◌++◌, length, Option, Some, None, codes}
+pub use Rattle.ps_meaning.specs.Names.{is_reserved}
 use Rattle.ps_text.specs.Tokens.{Token, Word, Number, Sign, Numeral, Whole, Quotient, Decimal, Open, Close, OpenBracket, CloseBracket, Comma, Semicolon, Bang, Ampersand, Bar, Arrow, DoubleArrow, Equals, GreaterEquals, LessEquals}
-
--- a word that is no atom's name
-abbrev pub is_reserved : List ℕ → Bool
-is_reserved w = bytes_eq w (codes "psat") || bytes_eq w (codes "P") || bytes_eq w (codes "given") || bytes_eq w (codes "in")
-    || bytes_eq w (codes "query") || bytes_eq w (codes "end") || bytes_eq w (codes "true") || bytes_eq w (codes "false")
 
 -- how a formula is written
 pub data Form : Type 0 where
