@@ -1,6 +1,7 @@
 //! Standard output as a sink.
-ghost use Rattle.std.specs.Prelude.{None, length, ◌<◌, IfOk};
+ghost use Rattle.std.specs.Prelude.{None, length, ◌≡◌, ◌<◌, IfOk};
 ghost use Rattle.std.specs.Io.{WritesAtMost};
+ghost use Rattle.ps_io.specs.Standard.{write_faults};
 
 use crate::{Sink, WriteFault};
 use std::io;
@@ -14,8 +15,10 @@ pub struct StdSink<W = Stdout> {
 }
 
 impl<W: Write> StdSink<W> {
-    /// A sink over a writer.
-    pub fn new(writer: W) -> StdSink<W> {
+    /// A sink over a writer. No write has failed yet.
+    pub fn new(writer: W) -> StdSink<W>
+        ensures { write_faults result ≡ 0 }
+    {
         StdSink { writer, faults: 0 }
     }
 }

@@ -1,5 +1,6 @@
 //! Standard input as a source.
-ghost use Rattle.std.specs.Prelude.{None};
+ghost use Rattle.std.specs.Prelude.{None, ◌≡◌};
+ghost use Rattle.ps_io.specs.Standard.{read_faults};
 
 use crate::{ReadFault, Source};
 use std::io::{Read, Stdin};
@@ -12,8 +13,10 @@ pub struct StdSource<R = Stdin> {
 }
 
 impl<R: Read> StdSource<R> {
-    /// A source over a reader.
-    pub fn new(reader: R) -> StdSource<R> {
+    /// A source over a reader. No read has failed yet.
+    pub fn new(reader: R) -> StdSource<R>
+        ensures { read_faults result ≡ 0 }
+    {
         StdSource { reader, faults: 0 }
     }
 }
