@@ -2,3 +2,4 @@ pub mod Formula
 pub mod Distribution
 pub mod Bounds
 pub mod Statements
+pub mod Names

@@ -6,3 +6,6 @@ pub use Rattle.ps_formula.specs.Nodes
 pub mod Problems
 pub mod Numbering
 pub mod Counts
+pub mod Codes
+pub mod Drafts
+pub mod Entries

@@ -2,11 +2,18 @@
 #![tactic(auto)]
 
 mod bound;
+mod draft;
+mod entry;
+mod mark;
+mod names;
 mod problem;
 mod query;
 mod sentence;
+mod span;
 
 pub use bound::{Bound, Side};
+pub use draft::Draft;
+pub use mark::Mark;
 pub use problem::Problem;
 pub use query::{Queries, Query};
 pub use sentence::{Sentence, Sentences};

@@ -1,0 +1,31 @@
+-- Which words are names of atoms.
+use Rattle.std.specs.Prelude.{◌≢◌, ◌≤◌, ℕ, Bool, true, false, ◌&&◌, ◌||◌, nat_le, ◌==◌, List, [], ◌∷◌, length, All, IsTrue}
+use Rattle.std.specs.List.{list_all}
+use lib.Chars.{codes}
+
+-- `A` to `Z` and `a` to `z`
+abbrev pub is_letter : ℕ → Bool
+is_letter b = (nat_le 65 b && nat_le b 90) || (nat_le 97 b && nat_le b 122)
+
+-- `0` to `9`
+abbrev pub is_digit : ℕ → Bool
+is_digit b = nat_le 48 b && nat_le b 57
+
+-- a letter, a digit or `_`
+abbrev pub is_word_byte : ℕ → Bool
+is_word_byte b = is_letter b || is_digit b || (b == 95)
+
+-- a word begins with a letter, and letters, digits and `_` follow
+abbrev pub is_word : List ℕ → Bool
+is_word [] = false
+is_word (b ∷ bs) = is_letter b && list_all is_word_byte bs
+
+-- the words that the language keeps for itself
+abbrev pub reserved_words : List (List ℕ)
+reserved_words = codes "psat" ∷ codes "P" ∷ codes "given" ∷ codes "in" ∷ codes "query" ∷ codes "end" ∷ codes "true" ∷ codes "false" ∷ []
+
+-- the name of an atom: a word of at most 32 bytes that isn't reserved
+pub record IsName (text : List ℕ) : Type 0 where
+  pub word : IsTrue (is_word text)
+  pub short : length text ≤ 32
+  pub free : All (λ r. text ≢ r) reserved_words

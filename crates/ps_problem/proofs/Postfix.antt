@@ -1,0 +1,86 @@
+-- Marks in postfix order, and what they spell.
+use Rattle.std.proofs.Common.{◌≡◌, ℕ, ◌+◌, ◌-◌, ◌<◌, ◌≤◌, List, [], ◌∷◌, ◌++◌, Option, Some, None, length, map, take, drop, get_or, All, refl, sym, ap, ◌∙◌, arith}
+use Rattle.std.proofs.lemmas.List.{length-append, length-drop, take-append-le, drop-append-le, get_or_append_left}
+use Rattle.std.proofs.lemmas.List.Elements.{All-head, All-tail}
+use Rattle.ps_meaning.specs.Formula.{Formula, Truth, Atom}
+use Rattle.ps_meaning.specs.Statements.{Name, Item, Stated, Asked}
+use Rattle.ps_problem.specs.declared.mark.Mark.{Mark}
+use Rattle.ps_problem.specs.declared.mark.Mark.TheVariants as mark
+use Rattle.ps_problem.specs.declared.span.Span.{Span}
+use Rattle.ps_problem.specs.declared.entry.Entry.{Entry}
+use Rattle.ps_problem.specs.declared.entry.Entry.TheVariants as entry
+use Rattle.ps_problem.specs.Drafts.{arity, made_by, marked, NameBelow, formula_at}
+use Rattle.ps_problem.specs.Entries.{standing, AreHeld, AreMarks, part, item_of, IsEntry}
+
+pub standing-push : (names : List Name) (fs : List (Formula Name)) (ms : List Mark) (m : Mark) → standing names fs (ms ++ m ∷ []) ≡ marked names (standing names fs ms) m
+standing-push names fs [] m = refl
+standing-push names fs (n ∷ ms) m = standing-push names (marked names fs n) ms m
+
+pub held-push : (names : List Name) (fs : List (Formula Name)) (ms : List Mark) (m : Mark) → AreHeld names fs ms → arity m ≤ length (standing names fs ms) → AreHeld names fs (ms ++ m ∷ [])
+held-push names fs [] m h le = (le, tt)
+held-push names fs (n ∷ ms) m h le = (h.0, held-push names (marked names fs n) ms m h.1 le)
+
+pub below-more : (n k : ℕ) (m : Mark) → n ≤ k → NameBelow n m → NameBelow k m
+below-more n k mark.True le h = tt
+below-more n k mark.False le h = tt
+below-more n k (mark.Name i) le h = omega arith
+below-more n k mark.Not le h = tt
+below-more n k mark.And le h = tt
+below-more n k mark.Or le h = tt
+below-more n k mark.Implies le h = tt
+below-more n k mark.Iff le h = tt
+
+-- further names change nothing of what was spelled
+made-more : (names more : List Name) (fs : List (Formula Name)) (m : Mark) → NameBelow (length names) m → made_by (names ++ more) fs m ≡ made_by names fs m
+made-more names more fs mark.True h = refl
+made-more names more fs mark.False h = refl
+made-more names more fs (mark.Name i) h = ap Atom (get_or_append_left names more [] i h)
+made-more names more fs mark.Not h = refl
+made-more names more fs mark.And h = refl
+made-more names more fs mark.Or h = refl
+made-more names more fs mark.Implies h = refl
+made-more names more fs mark.Iff h = refl
+
+marked-more : (names more : List Name) (fs : List (Formula Name)) (m : Mark) → NameBelow (length names) m → marked (names ++ more) fs m ≡ marked names fs m
+marked-more names more fs m h = ap (λ f. take (length fs - arity m) fs ++ f ∷ []) (made-more names more fs m h)
+
+pub standing-more : (names more : List Name) (fs : List (Formula Name)) (ms : List Mark) → All (NameBelow (length names)) ms → standing (names ++ more) fs ms ≡ standing names fs ms
+standing-more names more fs [] h = refl
+standing-more names more fs (m ∷ ms) h =
+    ap (λ gs. standing (names ++ more) gs ms) (marked-more names more fs m (All-head (NameBelow (length names)) m ms h))
+    ∙ standing-more names more (marked names fs m) ms (All-tail (NameBelow (length names)) m ms h)
+
+pub held-more : (names more : List Name) (fs : List (Formula Name)) (ms : List Mark) → All (NameBelow (length names)) ms → AreHeld names fs ms → AreHeld (names ++ more) fs ms
+held-more names more fs [] h held = tt
+held-more names more fs (m ∷ ms) h held = (
+  held.0,
+  rw (marked-more names more fs m (All-head (NameBelow (length names)) m ms h))
+      (held-more names more (marked names fs m) ms (All-tail (NameBelow (length names)) m ms h) held.1),
+)
+
+-- a further mark changes nothing of a span before it
+pub part-push : (ms : List Mark) (m : Mark) (s : Span) → s.start ≤ s.end → s.end ≤ length ms → part (ms ++ m ∷ []) s ≡ part ms s
+part-push ms m s le end =
+    let within : s.start ≤ length ms = omega arith in
+    let room : s.end - s.start ≤ length (drop s.start ms) = omega (arith, length-drop s.start ms) in
+    ap (take (s.end - s.start)) (drop-append-le s.start ms (m ∷ []) within) ∙ take-append-le (s.end - s.start) (drop s.start ms) (m ∷ []) room
+
+pub map-same : {X Y : Type 0} (f g : X → Y) (xs : List X) → All (λ x. f x ≡ g x) xs → map f xs ≡ map g xs
+map-same f g [] h = refl
+map-same f g (x ∷ xs) h = ap (λ y. y ∷ map f xs) (All-head (λ x. f x ≡ g x) x xs h) ∙ ap (λ ys. g x ∷ ys) (map-same f g xs (All-tail (λ x. f x ≡ g x) x xs h))
+
+at-more : (fs more : List (Formula Name)) (i : ℕ) → i < length fs → formula_at (fs ++ more) i ≡ formula_at fs i
+at-more fs more i lt = get_or_append_left fs more Truth i lt
+
+-- further formulas change nothing of an item
+pub item-more : (fs more : List (Formula Name)) (e : Entry) → IsEntry (length fs) e → item_of (fs ++ more) e ≡ item_of fs e
+item-more fs more (entry.Sentence f None s num den upper) h = rw (at-more fs more f h.0.0) refl
+item-more fs more (entry.Sentence f (Some g) s num den upper) h = rw (at-more fs more f h.0.0, at-more fs more g h.0.1) refl
+item-more fs more (entry.Query f None) h = rw (at-more fs more f h.0) refl
+item-more fs more (entry.Query f (Some g)) h = rw (at-more fs more f h.0, at-more fs more g h.1) refl
+
+pub entry-more : (n k : ℕ) (e : Entry) → n ≤ k → IsEntry n e → IsEntry k e
+entry-more n k (entry.Sentence f None s num den upper) le h = ((omega (arith, h.0.0), tt), h.1, h.2)
+entry-more n k (entry.Sentence f (Some g) s num den upper) le h = ((omega (arith, h.0.0), omega (arith, h.0.1)), h.1, h.2)
+entry-more n k (entry.Query f None) le h = (omega (arith, h.0), tt)
+entry-more n k (entry.Query f (Some g)) le h = (omega (arith, h.0), omega (arith, h.1))

@@ -1,0 +1,125 @@
+-- What a draft of a problem holds.
+use Rattle.std.specs.Prelude.{◌≡◌, ◌≤◌, ◌<◌, ◌+◌, ◌-◌, ℕ, max, nat_lt, List, [], ◌∷◌, ◌++◌, Option, Some, None, length, map, option_map, take, drop, All, IfSome, slice_index_or, if◌then◌else◌}
+use Rattle.std.specs.Int.{IsGcd}
+use Rattle.ps_meaning.specs.Formula.{Formula}
+use Rattle.ps_meaning.specs.Formula as formula
+use Rattle.ps_meaning.specs.Bounds as meaning
+use Rattle.ps_meaning.specs.Statements.{Name, Ratio, Statement, Question, Item, Stated, Asked}
+use Rattle.ps_problem.specs.declared.mark.Mark.{Mark}
+use Rattle.ps_problem.specs.declared.mark.Mark.TheVariants as mark
+use Rattle.ps_problem.specs.declared.bound.Side.{Side}
+use Rattle.ps_problem.specs.declared.bound.Side.TheVariants as side
+use Rattle.ps_problem.specs.Problems.{side_of}
+use Rattle.ps_problem.specs.Numbering.{same_name, with_new}
+
+-- the names so far, the formulas that stand open (a stack, the last one last), the formulas that have ended, and
+-- the items in order
+pub record Drafted : Type 0 where
+  pub names : List Name
+  pub «open» : List (Formula Name)
+  pub formulas : List (Formula Name)
+  pub items : List Item
+
+-- how many operands a mark takes
+abbrev pub arity : Mark → ℕ
+arity mark.True = 0
+arity mark.False = 0
+arity (mark.Name n) = 0
+arity mark.Not = 1
+arity mark.And = 2
+arity mark.Or = 2
+arity mark.Implies = 2
+arity mark.Iff = 2
+
+-- the formula that stands so far below the top of a stack, 1 for the top
+abbrev pub from_top : List (Formula Name) → ℕ → Formula Name
+from_top fs k = slice_index_or fs (length fs - k) formula.Truth
+
+-- the formula that a mark makes over the formulas that stand open
+abbrev pub made_by : List Name → List (Formula Name) → Mark → Formula Name
+made_by names fs mark.True = formula.Truth
+made_by names fs mark.False = formula.Falsity
+made_by names fs (mark.Name n) = formula.Atom (slice_index_or names n [])
+made_by names fs mark.Not = formula.Not (from_top fs 1)
+made_by names fs mark.And = formula.And (from_top fs 2) (from_top fs 1)
+made_by names fs mark.Or = formula.Or (from_top fs 2) (from_top fs 1)
+made_by names fs mark.Implies = formula.Implies (from_top fs 2) (from_top fs 1)
+made_by names fs mark.Iff = formula.Iff (from_top fs 2) (from_top fs 1)
+
+-- the formulas that stand open after a mark: it takes its operands, and its formula stands last
+abbrev pub marked : List Name → List (Formula Name) → Mark → List (Formula Name)
+marked names fs m = take (length fs - arity m) fs ++ made_by names fs m ∷ []
+
+-- a name's number was given out
+abbrev pub NameBelow : ℕ → Mark → Type 0
+NameBelow n (mark.Name i) = i < n
+NameBelow n other = Unit {0}
+
+-- 1 where an operand of a level stands in parentheses, since more is required
+abbrev pub parenthesis : ℕ → ℕ → ℕ
+parenthesis required level = if nat_lt level required then 1 else 0
+
+-- how many `!`, `(` and right sides of `->` are open at the deepest place of a formula's canonical spelling, where an
+-- operand of this level is required: 1 for `<->`, 2 for `->`, 3 for `|`, 4 for `&`, 5 for the rest
+abbrev pub nesting_at : ℕ → Formula Name → ℕ
+nesting_at required formula.Truth = 0
+nesting_at required formula.Falsity = 0
+nesting_at required (formula.Atom a) = 0
+nesting_at required (formula.Not f) = 1 + nesting_at 5 f
+nesting_at required (formula.And f g) = parenthesis required 4 + max (nesting_at 4 f) (nesting_at 5 g)
+nesting_at required (formula.Or f g) = parenthesis required 3 + max (nesting_at 3 f) (nesting_at 4 g)
+nesting_at required (formula.Implies f g) = parenthesis required 2 + max (nesting_at 3 f) (1 + nesting_at 2 g)
+nesting_at required (formula.Iff f g) = parenthesis required 1 + max (nesting_at 1 f) (nesting_at 2 g)
+
+abbrev pub canonical_nesting : Formula Name → ℕ
+canonical_nesting f = nesting_at 1 f
+
+-- a reduced fraction of at most 1, with a denominator of at most a million
+pub record IsRatio (num den : ℕ) : Type 0 where
+  pub least : 1 ≤ den
+  pub most : den ≤ 1000000
+  pub value : num ≤ den
+  pub reduced : IsGcd num den 1
+
+-- where there is an upper value it is a ratio too, and the first value is a lower one
+abbrev pub IsUpper : Side → Option (ℕ × ℕ) → Type 0
+IsUpper s None = Unit {0}
+IsUpper s (Some u) = IsRatio u.0 u.1 × (s ≡ side.AtLeast)
+
+-- the formula of a number
+abbrev pub formula_at : List (Formula Name) → ℕ → Formula Name
+formula_at fs i = slice_index_or fs i formula.Truth
+
+abbrev pub ratio_of : ℕ × ℕ → Ratio
+ratio_of r = record { num = r.0; den = r.1 }
+
+-- the statement over formulas by number
+abbrev pub statement_at : List (Formula Name) → ℕ → Option ℕ → Side → ℕ → ℕ → Option (ℕ × ℕ) → Statement
+statement_at fs f g s num den upper = record {
+  formula = formula_at fs f;
+  given = option_map (formula_at fs) g;
+  side = side_of s;
+  value = record { num = num; den = den };
+  upper = option_map ratio_of upper;
+}
+
+-- the question over formulas by number
+abbrev pub question_at : List (Formula Name) → ℕ → Option ℕ → Question
+question_at fs f g = record { formula = formula_at fs f; given = option_map (formula_at fs) g }
+
+-- the numbers of a formula and perhaps a condition were given out
+abbrev pub AreBelow : ℕ → ℕ → Option ℕ → Type 0
+AreBelow n f g = (f < n) × IfSome g (λ i. i < n)
+
+-- what a call of a draft's does to it
+abbrev pub with_name : Drafted → Name → Drafted
+with_name d name = record { names = with_new same_name d.names name; «open» = d.«open»; formulas = d.formulas; items = d.items }
+
+abbrev pub with_mark : Drafted → Mark → Drafted
+with_mark d m = record { names = d.names; «open» = marked d.names d.«open» m; formulas = d.formulas; items = d.items }
+
+abbrev pub with_formula : Drafted → Drafted
+with_formula d = record { names = d.names; «open» = []; formulas = d.formulas ++ d.«open»; items = d.items }
+
+abbrev pub with_item : Drafted → Item → Drafted
+with_item d item = record { names = d.names; «open» = d.«open»; formulas = d.formulas; items = d.items ++ item ∷ [] }

@@ -1,0 +1,128 @@
+//! Drafts of problems.
+ghost use Rattle.std.specs.Prelude.{◌≡◌, ◌<◌, ◌≤◌, ◌++◌, [], ◌∷◌, All, OnOk, OnErr, IfOk, Some, length, slice_get};
+ghost use Rattle.ps_meaning.specs.Names.{IsName};
+ghost use Rattle.ps_meaning.specs.Statements.{Stated, Asked};
+ghost use Rattle.ps_problem.specs.Drafts.{arity, NameBelow, canonical_nesting, IsRatio, IsUpper, AreBelow, statement_at, question_at, with_name, with_mark, with_formula, with_item};
+
+use crate::entry::Entry;
+use crate::names::Names;
+use crate::span::Span;
+use crate::{Mark, Side};
+use ps_io::{List, NoMemory};
+use std::alloc::Global;
+use std::marker::Model;
+
+/// What a text of sentences and queries spells, as flat lists: names, formulas in postfix order, and items.
+#[derive(Drop)]
+pub struct Draft {
+    names: Names,
+    marks: List<Mark>,
+    ended: usize,
+    spans: List<Span>,
+    entries: List<Entry>,
+}
+
+impl Model for Draft {
+    ghost use Rattle.std.specs.Coded.{codes};
+    ghost use Rattle.ps_problem.specs.Codes.{formula_code};
+    ghost use Rattle.ps_problem.specs.Drafts.{Drafted};
+
+    ghost Value = { Drafted };
+
+    ghost coded = { Prim.hlevel (codes, formula_code) };
+
+    ghost use Rattle.ps_problem.specs.Entries.{drafted, IsDraft};
+
+    ghost view = { λ d. drafted d.names d.marks d.ended d.spans d.entries };
+
+    ghost invariant = { λ d. IsDraft d.names d.marks d.ended d.spans d.entries };
+}
+
+impl Draft {
+    /// A draft of nothing.
+    pub fn new(alloc: Global) -> Draft
+        ensures { result ≡ record { names = []; «open» = []; formulas = []; items = [] } }
+    {
+        Draft {
+            names: Names::new(alloc),
+            marks: List::new(alloc),
+            ended: 0,
+            spans: List::new(alloc),
+            entries: List::new(alloc),
+        }
+    }
+
+    /// The number of a name, from 0; a name that is new gets the next one.
+    pub fn name(&mut self, text: &[u8]) -> Result<u32, NoMemory>
+        requires name { IsName text.now }
+        requires room { length self.old.names < 4294967295 }
+        ensures number { IfOk result (λ n. slice_get self.new.names n ≡ Some text.now) }
+        ensures ok { OnOk result (self.new ≡ with_name self.old text.now) }
+        ensures err { OnErr result (self.new ≡ self.old) }
+    {
+        let number = self.names.number(text)?;
+        Ok(number)
+    }
+
+    /// Adds a mark to the formula that is being made.
+    pub fn mark(&mut self, mark: Mark) -> Result<(), NoMemory>
+        requires name { NameBelow (length self.old.names) mark }
+        requires operands { arity mark ≤ length self.old.«open» }
+        ensures ok { OnOk result (self.new ≡ with_mark self.old mark) }
+        ensures err { OnErr result (self.new ≡ self.old) }
+    {
+        self.marks.push(mark)?;
+        Ok(())
+    }
+
+    /// Ends the formula that stands open, and gives its number, from 0.
+    pub fn end_formula(&mut self) -> Result<u32, NoMemory>
+        requires one { length self.old.«open» ≡ 1 }
+        requires nesting { All (λ f. canonical_nesting f ≤ 100) self.old.«open» }
+        requires room { length self.old.formulas < 4294967295 }
+        ensures number { IfOk result (λ n. n ≡ length self.old.formulas) }
+        ensures ok { OnOk result (self.new ≡ with_formula self.old) }
+        ensures err { OnErr result (self.new ≡ self.old) }
+    {
+        let number = self.spans.len() as u32;
+        let end = self.marks.len();
+        self.spans.push(Span {
+            start: self.ended,
+            end,
+        })?;
+        self.ended = end;
+        Ok(number)
+    }
+
+    /// Adds a sentence: the probability of a formula, perhaps given a condition, on a side of `num/den`; with an
+    /// upper value, at least `num/den` and at most that.
+    pub fn sentence(
+        &mut self,
+        formula: u32,
+        given: Option<u32>,
+        side: Side,
+        num: u32,
+        den: u32,
+        upper: Option<(u32, u32)>,
+    ) -> Result<(), NoMemory>
+        requires formulas { AreBelow (length self.old.formulas) formula given }
+        requires value { IsRatio num den }
+        requires upper { IsUpper side upper }
+        requires room { length self.old.items < 4294967295 }
+        ensures ok { OnOk result (self.new ≡ with_item self.old (Stated (statement_at self.old.formulas formula given side num den upper))) }
+        ensures err { OnErr result (self.new ≡ self.old) }
+    {
+        self.entries
+            .push(Entry::Sentence(formula, given, side, num, den, upper))
+    }
+
+    /// Adds a query for the probability of a formula, perhaps given a condition.
+    pub fn query(&mut self, formula: u32, given: Option<u32>) -> Result<(), NoMemory>
+        requires formulas { AreBelow (length self.old.formulas) formula given }
+        requires room { length self.old.items < 4294967295 }
+        ensures ok { OnOk result (self.new ≡ with_item self.old (Asked (question_at self.old.formulas formula given))) }
+        ensures err { OnErr result (self.new ≡ self.old) }
+    {
+        self.entries.push(Entry::Query(formula, given))
+    }
+}

@@ -1,0 +1,68 @@
+//! Names by number.
+ghost use Rattle.std.specs.Prelude.{◌≡◌, ◌<◌, ◌≤◌, [], length, slice_get, OnOk, OnErr, IfOk, Some, option_copied};
+ghost use Rattle.ps_problem.specs.Numbering.{same_name, with_new};
+
+use indexmap::IndexSet;
+use ps_io::NoMemory;
+use std::alloc::Global;
+use std::marker::Model;
+
+/// Different names in the order in which they first came.
+#[derive(Drop)]
+pub(crate) struct Names {
+    alloc: Global,
+    set: IndexSet<Vec<u8>>,
+}
+
+impl Model for Names {
+    ghost use Rattle.std.specs.Prelude.{List, map};
+    ghost use Rattle.ps_meaning.specs.Statements.{Name};
+
+    ghost Value = { List Name };
+
+    ghost view = { λ n. map (λ v. v.items) n.set.keys };
+}
+
+impl Names {
+    pub(crate) fn new(alloc: Global) -> Names
+        ensures { result ≡ [] }
+    {
+        Names {
+            alloc,
+            set: IndexSet::new(alloc),
+        }
+    }
+
+    pub(crate) fn len(&self) -> usize
+        ensures { result ≡ length self.now }
+    {
+        self.set.len()
+    }
+
+    pub(crate) fn get(&self, number: usize) -> Option<&[u8]>
+        ensures { option_copied result ≡ slice_get self.now number }
+    {
+        match self.set.get_index(number) {
+            Some(name) => Some(name.as_slice()),
+            None => None,
+        }
+    }
+
+    /// The number of a name, which is added at the end where it isn't there.
+    pub(crate) fn number(&mut self, text: &[u8]) -> Result<u32, NoMemory>
+        requires { length self.old < 4294967295 }
+        ensures number { IfOk result (λ n. slice_get self.new n ≡ Some text.now) }
+        ensures names { OnOk result (self.new ≡ with_new same_name self.old text.now) }
+        ensures err { OnErr result (self.new ≡ self.old) }
+    {
+        if let Some(i) = self.set.get_index_of(text) {
+            return Ok(i as u32);
+        }
+        let name = text.to_vec(self.alloc)?;
+        let (i, _) = match self.set.insert_full(name) {
+            Ok(found) => found,
+            Err(_) => return Err(NoMemory),
+        };
+        Ok(i as u32)
+    }
+}
