@@ -1,0 +1,9 @@
+pub use Rattle.ps_meaning.specs.Formula
+pub use Rattle.ps_meaning.specs.Distribution
+pub use Rattle.ps_meaning.specs.Bounds
+pub use Rattle.ps_formula.specs.Nodes
+pub use Rattle.ps_problem.specs.Problems
+pub mod Models
+pub mod Rows
+pub mod Reasons
+pub mod Verdicts

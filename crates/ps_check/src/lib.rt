@@ -1,0 +1,15 @@
+//! The check of a distribution against a problem.
+#![tactic(auto)]
+
+mod checking;
+mod meeting;
+mod model;
+mod refusal;
+mod truth;
+
+pub use checking::check_model;
+pub use model::{Model, Weighted, Worlds};
+pub use refusal::{CheckError, Claim, Reason, Refusal};
+
+#[cfg(test)]
+mod tests;

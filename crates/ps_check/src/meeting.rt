@@ -1,0 +1,97 @@
+//! Whether weights meet bounds.
+ghost use Rattle.std.specs.Prelude.{◌≡◌, ◌≤◌, ◌*◌, ◌^◌, ◌↔◌, pos, ◌≤ℤ◌, ◌*ℤ◌, All, IfOk, IfSome, IsTrue, MatchOption, length};
+ghost use Rattle.ps_meaning.specs.Distribution.{weight, total};
+ghost use Rattle.ps_meaning.specs.Bounds.{Compares, MeetsAll};
+ghost use Rattle.ps_problem.specs.Problems.{side_of, bounds_of};
+ghost use Rattle.ps_check.specs.Models.{AreSmall, IsSmall, entries};
+ghost use Rattle.ps_check.specs.Rows.{AreRows, Covers, HaveNode, MeetsAt, MissesFirstAt, node_at, row_entries};
+ghost use Rattle.ps_check.specs.Reasons.{HaveShape, MissesFirst};
+
+use crate::Weighted;
+use crate::truth::{Row, evaluate, weight_of};
+use ps_io::NoMemory;
+use ps_problem::{Bound, Problem, Side};
+use std::alloc::Global;
+
+fn compares(side: Side, x: i128, y: i128) -> bool
+    ensures { IsTrue result ↔ Compares (side_of side) x y }
+{
+    match side {
+        Side::AtLeast => y <= x,
+        Side::AtMost => x <= y,
+        Side::Exactly => x == y,
+    }
+}
+
+// A weight times a numerator or a denominator.
+fn times(k: u32, x: i128) -> i128
+    requires small { k ≤ 1000000 }
+    requires low { pos 0 ≤ℤ x }
+    requires high { x ≤ℤ pos (101 * 2 ^ 90) }
+    ensures { result ≡ pos k *ℤ x }
+{
+    i128::from(k) * x
+}
+
+// The weight of a condition, which is the total where nothing is given.
+fn weight_given(rows: &[Row], sum: i128, given: Option<u32>) -> i128
+    requires rows { AreRows rows.now }
+    requires given { IfSome given (HaveNode rows.now) }
+    requires total { sum ≡ total (row_entries rows.now) }
+    requires small { IsSmall sum }
+    ensures weight { result ≡ weight (row_entries rows.now) (node_at given) }
+    ensures low { pos 0 ≤ℤ result }
+    ensures high { result ≤ℤ pos (101 * 2 ^ 90) }
+{
+    match given {
+        Some(node) => weight_of(rows, node),
+        None => sum,
+    }
+}
+
+#[tactic(auto, unfolding(crate::specs::Rows::MeetsAt))]
+fn is_met(rows: &[Row], sum: i128, bound: &Bound) -> bool
+    requires rows { AreRows rows.now }
+    requires bound { Covers rows.now bound.now }
+    requires total { sum ≡ total (row_entries rows.now) }
+    requires small { IsSmall sum }
+    ensures { IsTrue result ↔ MeetsAt (row_entries rows.now) bound.now }
+{
+    let both = weight_of(rows, bound.both);
+    let given = weight_given(rows, sum, bound.given);
+    compares(bound.side, times(bound.den, both), times(bound.num, given))
+}
+
+// The number of the first bound that isn't met.
+fn first_missed(rows: &[Row], sum: i128, bounds: &[Bound]) -> Option<u32>
+    requires rows { AreRows rows.now }
+    requires bounds { All (Covers rows.now) bounds.now }
+    requires few { length bounds.now ≤ 100 }
+    requires total { sum ≡ total (row_entries rows.now) }
+    requires small { IsSmall sum }
+    ensures { MatchOption result (All (MeetsAt (row_entries rows.now)) bounds.now) (MissesFirstAt (row_entries rows.now) bounds.now) }
+{
+    for (i, bound) in bounds.iter().enumerate() {
+        if !is_met(rows, sum, bound) {
+            return Some(i as u32 + 1);
+        }
+    }
+    None
+}
+
+/// The number of a problem's first bound that worlds of this sum don't meet.
+pub fn missed_bound(
+    alloc: Global,
+    problem: &Problem,
+    worlds: &[Weighted],
+    sum: i128,
+) -> Result<Option<u32>, NoMemory>
+    requires shape { HaveShape (length problem.now.names) (entries worlds.now) }
+    requires worlds { AreSmall worlds.now }
+    requires total { sum ≡ total (entries worlds.now) }
+    requires small { IsSmall sum }
+    ensures { IfOk result (λ missed. MatchOption missed (MeetsAll (bounds_of problem.now) (entries worlds.now)) (MissesFirst (bounds_of problem.now) (entries worlds.now))) }
+{
+    let rows = evaluate(alloc, problem.formulas(), worlds)?;
+    Ok(first_missed(&rows, sum, problem.bound_list()))
+}
