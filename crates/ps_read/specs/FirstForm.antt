@@ -1,5 +1,5 @@
 -- What the sentences of a text of the first form stand for, and the answers to bytes.
-use Rattle.std.specs.Prelude.{◌≡◌, ℕ, zero, suc, ◌≤◌, ◌<◌, false, List, [], ◌∷◌, length, map, None, Result, Ok, Err}
+use Rattle.std.specs.Prelude.{◌≡◌, ℕ, zero, suc, ◌≤◌, false, List, length, map, None, Result, Ok, Err}
 use Rattle.std.specs.Int.{IsGcd}
 use Rattle.ps_meaning.specs.Formula.{Formula, Atom, Not}
 use Rattle.ps_meaning.specs.Bounds.{Exactly}
@@ -39,6 +39,10 @@ abbrev pub GivesFront : Result (List FirstSentence × ℕ) ReadError → List It
 GivesFront (Ok x) items place = (items_of x.0 ≡ items) × (x.1 ≡ place)
 GivesFront (Err NotFirstForm) items place = ⊥
 GivesFront (Err NoMemory) items place = Unit {0}
+
+-- each text of the first form with at most 100 sentences that is at the front is answered so
+pub record AnswersEach (bytes : List ℕ) (result : Result (List FirstSentence × ℕ) ReadError) : Type 0 where
+  pub answer : (items : List Item) (place : ℕ) → IsFirstFront bytes items place → length items ≤ 100 → GivesFront result items place
 
 -- no text of the first form with at most 100 sentences is at the front
 pub record BeginsWithNone (bytes : List ℕ) : Type 0 where

@@ -1,5 +1,5 @@
 -- The greatest common divisor of two numbers, and a fraction in lowest terms.
-use Rattle.std.specs.Prelude.{ℕ, zero, suc, ◌%◌, ◌/◌}
+use Rattle.std.specs.Prelude.{ℕ, zero, suc, ◌%◌}
 
 -- the greatest common divisor, if that many of Euclid's steps are enough
 unfoldable pub gcd_within : ℕ → ℕ → ℕ → ℕ

@@ -1,5 +1,5 @@
 -- What is read from left to right: the answers of the reader's parts.
-use Rattle.std.specs.Prelude.{◌≡◌, ℕ, zero, suc, ◌+◌, ◌*◌, ◌-◌, ◌/◌, min, List, [], ◌∷◌, ◌++◌, length, take, drop, Bool, true, false, not, ◌&&◌, ◌||◌, Option, Some, None, Result, Ok, Err, nat_lt, nat_le, ◌==◌, if◌then◌else◌, bytes_eq, codes}
+use Rattle.std.specs.Prelude.{◌≡◌, ℕ, zero, suc, ◌+◌, ◌*◌, ◌-◌, ◌/◌, min, List, [], ◌∷◌, ◌++◌, length, take, drop, Bool, true, not, ◌&&◌, ◌||◌, Option, Some, None, Result, Ok, Err, nat_lt, nat_le, ◌==◌, if◌then◌else◌, bytes_eq, codes}
 use Rattle.ps_text.specs.Tokens.{is_letter, is_digit, is_word_byte}
 use Rattle.ps_text.specs.Pieces.{is_blank}
 use Rattle.ps_text.specs.Grammar.{is_reserved}
@@ -90,7 +90,7 @@ unfoldable pub probability_at : List ℕ → Option ((ℕ × ℕ) × List ℕ)
 probability_at bytes = do
   q ← quotient_at bytes
   if q.0.1 == 0 || nat_le 1000001 q.0.1 || nat_lt q.0.1 q.0.0 then None
-    else Some ((q.0.0 / gcd q.0.0 q.0.1, q.0.1 / gcd q.0.0 q.0.1), q.1)
+      else Some ((q.0.0 / gcd q.0.0 q.0.1, q.0.1 / gcd q.0.0 q.0.1), q.1)
 
 -- the `!` so far and those at the front, and the bytes after them and blanks
 abbrev pub bangs_from : ℕ → List ℕ → Option (ℕ × List ℕ)

@@ -1,12 +1,11 @@
 //! A text of the first form.
-ghost use Rattle.std.specs.Prelude.{◌≡◌, ◌≤◌, ◌<◌, [], IfOk, ℕ, List, length, All};
-ghost use Rattle.ps_meaning.specs.Statements.{Item};
+ghost use Rattle.std.specs.Prelude.{◌≡◌, ◌≤◌, ◌<◌, [], IfOk, length, All};
 ghost use Rattle.ps_text.specs.Fronts.{IsFirstFront};
 ghost use Rattle.ps_read.specs.Reading.{Gives, is_bare as bare, sentences_from, front_at};
-ghost use Rattle.ps_read.specs.FirstForm.{items_of, IsWithinLimits, Refuses, GivesFront};
+ghost use Rattle.ps_read.specs.FirstForm.{items_of, IsWithinLimits, AnswersEach, Refuses};
 
-use crate::text::{keyword, skip_blanks, symbol};
 use crate::sentence::sentence;
+use crate::text::{keyword, skip_blanks, symbol};
 use crate::{FirstSentence, ReadError};
 use ps_io::List;
 use std::alloc::Global;
@@ -15,6 +14,7 @@ use std::alloc::Global;
 const MOST: usize = 100;
 
 // The sentences up to `end`, and the bytes after it.
+#[tactic(auto, using(crate::proofs::Sentences::steps))]
 fn sentences(alloc: Global, bytes: &[u8]) -> Result<(List<FirstSentence>, &[u8]), ReadError>
     ensures { Gives (λ x. (x.0, x.1.now)) result (sentences_from [] 100 bytes.now) }
 {
@@ -61,10 +61,12 @@ pub fn read_first(alloc: Global, bytes: &[u8]) -> Result<(List<FirstSentence>, u
     ensures few { IfOk result (λ x. length x.0 ≤ 100) }
     ensures within { IfOk result (λ x. All IsWithinLimits x.0) }
     // A text of the first form with at most 100 sentences is read so, unless memory runs out.
-    ensures only { (items : List Item) (place : ℕ) → IsFirstFront bytes.now items place → length items ≤ 100 → GivesFront result items place }
+    ensures only { AnswersEach bytes.now result }
     // What is refused begins with none.
     ensures refused { Refuses bytes.now result }
 {
-    let (sentences, rest) = front(alloc, bytes)?;
-    Ok((sentences, bytes.len() - rest.len()))
+    match front(alloc, bytes) {
+        Ok((sentences, rest)) => Ok((sentences, bytes.len() - rest.len())),
+        Err(error) => Err(error),
+    }
 }

@@ -10,3 +10,6 @@ mod text;
 pub use error::ReadError;
 pub use first::read_first;
 pub use sentence::FirstSentence;
+
+#[cfg(test)]
+mod tests;

@@ -58,5 +58,13 @@ pub(crate) fn sentence(alloc: Global, bytes: &[u8]) -> Result<(FirstSentence, &[
     let ((num, den), rest) = probability(rest)?;
     let rest = symbol(rest, b';')?;
     let name = owned(alloc, name)?;
-    Ok((FirstSentence { nots, name, num, den }, rest))
+    Ok((
+        FirstSentence {
+            nots,
+            name,
+            num,
+            den,
+        },
+        rest,
+    ))
 }

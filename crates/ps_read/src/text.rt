@@ -1,7 +1,8 @@
 //! Blanks, symbols and words at the front of some bytes.
-ghost use Rattle.std.specs.Prelude.{◌≡◌, ◌≤◌, ◌<◌, length, IfOk, bytes_eq};
+ghost use Rattle.std.specs.Prelude.{◌≡◌, ◌≤◌, ◌<◌, length, bytes_eq, IfErr};
 ghost use Rattle.ps_text.specs.Tokens.{is_letter as letter, is_word_byte as word_byte};
 ghost use Rattle.ps_text.specs.Grammar.{is_reserved as reserved};
+ghost use Rattle.ps_read.specs.declared.error.ReadError.TheVariants as errors;
 ghost use Rattle.ps_read.specs.Reading.{Gives, drop_blanks, symbol_at, prefix, word_at, keyword_at, name_at};
 
 use crate::ReadError;
@@ -58,7 +59,8 @@ fn word_length(bytes: &[u8]) -> usize
 
 // A word after blanks, and the bytes after it.
 fn word(bytes: &[u8]) -> Result<(&[u8], &[u8]), ReadError>
-    ensures { Gives (λ x. (x.0.now, x.1.now)) result (word_at bytes.now) }
+    ensures word { Gives (λ x. (x.0.now, x.1.now)) result (word_at bytes.now) }
+    ensures fault { IfErr result (λ e. e ≡ errors.NotFirstForm) }
 {
     let bytes = skip_blanks(bytes);
     match bytes {
@@ -70,7 +72,8 @@ fn word(bytes: &[u8]) -> Result<(&[u8], &[u8]), ReadError>
 /// The bytes after blanks and this word.
 #[tactic(auto, unfolding(crate::specs::Reading::keyword_at))]
 pub(crate) fn keyword<'a>(bytes: &'a [u8], expected: &[u8]) -> Result<&'a [u8], ReadError>
-    ensures { Gives (λ x. x.now) result (keyword_at expected.now bytes.now) }
+    ensures rest { Gives (λ x. x.now) result (keyword_at expected.now bytes.now) }
+    ensures fault { IfErr result (λ e. e ≡ errors.NotFirstForm) }
 {
     let (word, rest) = word(bytes)?;
     if is(word, expected) {

@@ -1,9 +1,9 @@
 -- Where the longest token ends.
-use Rattle.std.proofs.Common.{◌≡◌, ℕ, ◌+◌, ◌<◌, ◌≤◌, Bool, true, false, List, [], ◌∷◌, ◌++◌, length, refl, sym, ap, subst, ◌∙◌, arith, append_assoc, length-append}
-use Rattle.std.specs.Prelude.{IsTrue, ◌==◌}
+use Rattle.std.proofs.Common.{◌≡◌, ℕ, ◌≤◌, true, false, List, [], ◌∷◌, ◌++◌, length, refl, sym, ap, subst, ◌∙◌, arith, append_assoc, length-append}
+use Rattle.std.specs.Prelude.{◌==◌}
 use Rattle.ps_text.specs.Tokens.{Version, Token, Word, Number, Sign, Symbol, Numeral, Whole, Quotient, Decimal, is_letter, is_digit, is_word_byte, IsWord, AreDigits, IsNumeral, IsToken, numeral_spelling, spelling, symbol_spelling, IsLongest}
-use Rattle.ps_text.proofs.Spans.{starts, starts_behind, Passes, false_true, refute, both, same_byte, span_le, span_same, word-push, digits-push, digits_pass, word_passes, word_starts, digits_start, not_both}
-use Rattle.ps_text.proofs.Symbols.{symbol_no_letter, symbol_no_digit, symbol_some, symbol_le}
+use Rattle.ps_text.proofs.Spans.{starts, starts_behind, false_true, refute, both, same_byte, span_le, span_same, word-push, digits-push, digits_pass, word_passes, word_starts, digits_start, not_both}
+use Rattle.ps_text.proofs.Symbols.{symbol_no_letter, symbol_no_digit, symbol_le}
 
 -- a numeral ends there
 abbrev pub NumeralStops : Numeral → List ℕ → Type 0

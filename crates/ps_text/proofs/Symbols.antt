@@ -1,6 +1,6 @@
 -- Symbols: none is the front of another, and none begins like a word or a number.
-use Rattle.std.proofs.Common.{◌≡◌, ℕ, ◌<◌, ◌≤◌, Bool, true, false, List, [], ◌∷◌, ◌++◌, length, refl, ap, arith}
-use Rattle.ps_text.specs.Tokens.{is_letter, is_digit, Symbol, Open, Close, OpenBracket, CloseBracket, Comma, Semicolon, Bang, Ampersand, Bar, Arrow, DoubleArrow, Equals, GreaterEquals, LessEquals, symbol_spelling}
+use Rattle.std.proofs.Common.{◌≡◌, ℕ, ◌≤◌, false, List, [], ◌∷◌, ◌++◌, length, refl, ap, arith}
+use Rattle.ps_text.specs.Tokens.{is_letter, is_digit, Symbol, Open, Arrow, DoubleArrow, GreaterEquals, LessEquals, symbol_spelling}
 use Rattle.ps_text.proofs.Spans.{starts}
 
 -- the first byte, if there is one
