@@ -1,0 +1,29 @@
+-- Lines of words.
+use Rattle.std.specs.Prelude.{ℕ, List, [], ◌∷◌, ◌++◌, Bool, ◌==◌, not, ◌&&◌, IsTrue, if◌then◌else◌, flat_map}
+use Rattle.std.specs.List.{list_all}
+
+-- a line that is being made: its text, and whether a mark goes before it
+pub record LineText : Type 0 where
+  pub text : List ℕ
+  pub commented : Bool
+
+-- no space and no line feed is among the bytes
+abbrev pub IsWord : List ℕ → Type 0
+IsWord bytes = IsTrue (list_all (λ b. not (b == 32) && not (b == 10)) bytes)
+
+-- a text with one more word, after a space where the text isn't empty
+abbrev pub with_word : List ℕ → List ℕ → List ℕ
+with_word [] word = word
+with_word (x ∷ xs) word = (x ∷ xs) ++ 32 ∷ word
+
+-- what stands before each line
+abbrev pub mark : Bool → List ℕ
+mark commented = if commented then 35 ∷ 32 ∷ [] else []
+
+-- what a line of this text is written as
+abbrev pub line_bytes : Bool → List ℕ → List ℕ
+line_bytes commented text = mark commented ++ text ++ 10 ∷ []
+
+-- what lines of these texts are written as
+abbrev pub lines_bytes : Bool → List (List ℕ) → List ℕ
+lines_bytes commented texts = flat_map (line_bytes commented) texts
