@@ -1,6 +1,7 @@
 -- Which words are names of atoms.
-use Rattle.std.specs.Prelude.{◌≢◌, ◌≤◌, ℕ, Bool, true, false, ◌&&◌, ◌||◌, nat_le, ◌==◌, List, [], ◌∷◌, length, All, IsTrue}
-use Rattle.std.specs.List.{list_all}
+use Rattle.std.specs.Prelude.{◌≤◌, ℕ, Bool, true, false, ◌&&◌, ◌||◌, nat_le, ◌==◌, List, [], ◌∷◌, length, IsTrue, IsFalse}
+use Rattle.std.specs.List.{list_all, list_any}
+use Rattle.std.specs.Str.{bytes_eq}
 use lib.Chars.{codes}
 
 -- `A` to `Z` and `a` to `z`
@@ -28,4 +29,4 @@ reserved_words = codes "psat" ∷ codes "P" ∷ codes "given" ∷ codes "in" ∷
 pub record IsName (text : List ℕ) : Type 0 where
   pub word : IsTrue (is_word text)
   pub short : length text ≤ 32
-  pub free : All (λ r. text ≢ r) reserved_words
+  pub free : IsFalse (list_any (bytes_eq text) reserved_words)

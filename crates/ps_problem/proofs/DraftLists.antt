@@ -1,7 +1,7 @@
 -- What a draft's lists hold after one more name, mark or formula.
-use Rattle.std.proofs.Common.{◌≡◌, ℕ, ◌+◌, ◌-◌, ◌<◌, ◌≤◌, Bool, true, false, List, [], ◌∷◌, ◌++◌, length, map, take, drop, get_or, All, refl, sym, ap, subst, ◌∙◌, arith, if◌then◌else◌}
+use Rattle.std.proofs.Common.{◌≡◌, ℕ, ◌≤◌, Bool, true, false, List, [], ◌∷◌, ◌++◌, length, map, drop, get_or, All, refl, sym, ap, subst, ◌∙◌, arith, if◌then◌else◌}
 use Rattle.std.specs.List.{list_any}
-use Rattle.std.proofs.lemmas.List.{append-nil, length-append, length-drop, length-map, map-append, drop-append-le, drop_all, take_rest, length_push}
+use Rattle.std.proofs.lemmas.List.{append-nil, length-append, length-map, map-append, drop-append-le, drop_all, take_rest, length_push}
 use Rattle.std.proofs.lemmas.List.Elements.{All-append, All-push, All-weaker, All-drop, All-nil}
 use Rattle.ps_meaning.specs.Formula.{Formula, Truth}
 use Rattle.ps_meaning.specs.Statements.{Name}
@@ -10,8 +10,11 @@ use Rattle.ps_problem.specs.declared.mark.Mark.{Mark}
 use Rattle.ps_problem.specs.declared.span.Span.{Span}
 use Rattle.ps_problem.specs.declared.entry.Entry.{Entry}
 use Rattle.ps_problem.specs.Numbering.{same_name, with_new}
-use Rattle.ps_problem.specs.Drafts.{arity, marked, NameBelow, canonical_nesting, with_name, with_mark, with_formula}
-use Rattle.ps_problem.specs.Entries.{standing, AreHeld, AreMarks, part, spelled, item_of, IsEntry, drafted, IsSpan, IsDraft}
+use Rattle.ps_problem.specs.Drafts.{arity, NameBelow, canonical_nesting, with_name, with_mark, with_formula}
+use Rattle.ps_problem.specs.Entries.{standing, part, spelled, item_of, IsEntry, drafted, IsSpan, IsDraft}
+use Rattle.ps_problem.specs.Numbering.{AreOnce}
+use Rattle.ps_problem.proofs.NameLists.{same_name-true, same_name-refl}
+use Rattle.ps_problem.proofs.Lists.{once-push}
 use Rattle.ps_problem.proofs.Postfix.{standing-push, held-push, below-more, standing-more, held-more, part-push, map-same, item-more, entry-more}
 
 same_spelled : (names : List Name) (ms ms' : List Mark) (spans : List Span) → All (λ s. part ms' s ≡ part ms s) spans → map (spelled names ms') spans ≡ map (spelled names ms) spans
@@ -43,6 +46,7 @@ module _ (names : List Name) (ms : List Mark) (ended : ℕ) (spans : List Span) 
     pub IsDraft-mark : NameBelow (length names) m → arity m ≤ length (standing names [] (drop ended ms)) → IsDraft names (ms ++ m ∷ []) ended spans entries
     IsDraft-mark below le = record {
       named = h.named;
+      different = h.different;
       below = All-push (NameBelow (length names)) ms m h.below below;
       within = (let w = h.within in omega (arith, length_push ms m));
       held = rw rest-push (held-push names [] (drop ended ms) m h.held le);
@@ -76,8 +80,9 @@ module _ (names : List Name) (ms : List Mark) (ended : ℕ) (spans : List Span) 
       nesting = rw (spelled-more s k) k.nesting;
     }
 
-    IsDraft-more : All IsName more → IsDraft (names ++ more) ms ended spans entries
-    IsDraft-more named = record {
+    IsDraft-more : All IsName more → AreOnce same_name (names ++ more) → IsDraft (names ++ more) ms ended spans entries
+    IsDraft-more named different = record {
+      different = different;
       named = All-append IsName names more h.named named;
       below = All-weaker (NameBelow (length names)) (NameBelow (length (names ++ more))) below-grown ms h.below;
       within = h.within;
@@ -88,21 +93,22 @@ module _ (names : List Name) (ms : List Mark) (ended : ℕ) (spans : List Span) 
     }
 
   module _ (name : Name) where
-    grown : (b : Bool) → (more : List Name) × (All IsName (name ∷ []) → All IsName more) × ((if b then names else (names ++ name ∷ [])) ≡ names ++ more)
-    grown true = ([], (λ k. All-nil IsName), sym (append-nil names))
-    grown false = (name ∷ [], (λ k. k), refl)
+    grown : (b : Bool) → list_any (same_name name) names ≡ b
+        → (more : List Name) × (All IsName (name ∷ []) → All IsName more) × AreOnce same_name (names ++ more) × ((if b then names else (names ++ name ∷ [])) ≡ names ++ more)
+    grown true e = ([], (λ k. All-nil IsName), rw (append-nil names) h.different, sym (append-nil names))
+    grown false e = (name ∷ [], (λ k. k), once-push same_name same_name-true same_name-refl names name e h.different, refl)
 
-    added : (more : List Name) × (All IsName (name ∷ []) → All IsName more) × (with_new same_name names name ≡ names ++ more)
-    added = grown (list_any (same_name name) names)
+    added : (more : List Name) × (All IsName (name ∷ []) → All IsName more) × AreOnce same_name (names ++ more) × (with_new same_name names name ≡ names ++ more)
+    added = grown (list_any (same_name name) names) refl
 
     pub with_name-is : drafted (with_new same_name names name) ms ended spans entries ≡ with_name (drafted names ms ended spans entries) name
     with_name-is =
-        let e = added.2 in
+        let e = added.3 in
         ap (λ ns. drafted ns ms ended spans entries) e
         ∙ rw (rest-more added.0, formulas-more added.0) (ap (λ ns. record { names = ns; «open» = standing names [] (drop ended ms); formulas = map (spelled names ms) spans; items = map (item_of (map (spelled names ms) spans)) entries }) (sym e))
 
     pub IsDraft-name : IsName name → IsDraft (with_new same_name names name) ms ended spans entries
-    IsDraft-name n = rw added.2 (IsDraft-more added.0 (added.1 (All-push IsName [] name (All-nil IsName) n)))
+    IsDraft-name n = rw added.3 (IsDraft-more added.0 (added.1 (All-push IsName [] name (All-nil IsName) n)) added.2)
 
   module _ (one : length (standing names [] (drop ended ms)) ≡ 1) (shallow : All (λ f. canonical_nesting f ≤ 100) (standing names [] (drop ended ms))) where
     rest-is : part ms (record { start = ended; end = length ms }) ≡ drop ended ms
@@ -140,6 +146,7 @@ module _ (names : List Name) (ms : List Mark) (ended : ℕ) (spans : List Span) 
     pub IsDraft-end : IsDraft names ms (length ms) (spans ++ record { start = ended; end = length ms } ∷ []) entries
     IsDraft-end = record {
       named = h.named;
+      different = h.different;
       below = h.below;
       within = omega arith;
       held = rw (drop_all (length ms) ms (omega arith)) tt;

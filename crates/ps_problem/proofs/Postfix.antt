@@ -1,16 +1,16 @@
 -- Marks in postfix order, and what they spell.
-use Rattle.std.proofs.Common.{◌≡◌, ℕ, ◌+◌, ◌-◌, ◌<◌, ◌≤◌, List, [], ◌∷◌, ◌++◌, Option, Some, None, length, map, take, drop, get_or, All, refl, sym, ap, ◌∙◌, arith}
-use Rattle.std.proofs.lemmas.List.{length-append, length-drop, take-append-le, drop-append-le, get_or_append_left}
+use Rattle.std.proofs.Common.{◌≡◌, ℕ, ◌-◌, ◌<◌, ◌≤◌, List, [], ◌∷◌, ◌++◌, Some, None, length, map, take, drop, All, refl, ap, ◌∙◌, arith}
+use Rattle.std.proofs.lemmas.List.{length-drop, take-append-le, drop-append-le, get_or_append_left}
 use Rattle.std.proofs.lemmas.List.Elements.{All-head, All-tail}
 use Rattle.ps_meaning.specs.Formula.{Formula, Truth, Atom}
-use Rattle.ps_meaning.specs.Statements.{Name, Item, Stated, Asked}
+use Rattle.ps_meaning.specs.Statements.{Name}
 use Rattle.ps_problem.specs.declared.mark.Mark.{Mark}
 use Rattle.ps_problem.specs.declared.mark.Mark.TheVariants as mark
 use Rattle.ps_problem.specs.declared.span.Span.{Span}
 use Rattle.ps_problem.specs.declared.entry.Entry.{Entry}
 use Rattle.ps_problem.specs.declared.entry.Entry.TheVariants as entry
 use Rattle.ps_problem.specs.Drafts.{arity, made_by, marked, NameBelow, formula_at}
-use Rattle.ps_problem.specs.Entries.{standing, AreHeld, AreMarks, part, item_of, IsEntry}
+use Rattle.ps_problem.specs.Entries.{standing, AreHeld, part, item_of, IsEntry}
 
 pub standing-push : (names : List Name) (fs : List (Formula Name)) (ms : List Mark) (m : Mark) → standing names fs (ms ++ m ∷ []) ≡ marked names (standing names fs ms) m
 standing-push names fs [] m = refl

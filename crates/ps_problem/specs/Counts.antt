@@ -3,7 +3,7 @@ use Rattle.std.specs.Prelude.{ℕ, ◌+◌, Bool, true, false, ◌&&◌, nat_lt,
 use Rattle.std.specs.List.{list_any}
 use Rattle.ps_meaning.specs.Formula.{Formula}
 use Rattle.ps_meaning.specs.Formula as formula
-use Rattle.ps_meaning.specs.Statements.{Name, Statement, Question, Item, Stated, Asked}
+use Rattle.ps_meaning.specs.Statements.{Name, Statement, Item, Stated, Asked}
 use Rattle.ps_problem.specs.Numbering.{same_formula, numbered_for, names_among}
 
 -- what there is too much of

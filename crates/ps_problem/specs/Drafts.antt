@@ -1,10 +1,9 @@
 -- What a draft of a problem holds.
-use Rattle.std.specs.Prelude.{◌≡◌, ◌≤◌, ◌<◌, ◌+◌, ◌-◌, ℕ, max, nat_lt, List, [], ◌∷◌, ◌++◌, Option, Some, None, length, map, option_map, take, drop, All, IfSome, slice_index_or, if◌then◌else◌}
+use Rattle.std.specs.Prelude.{◌≡◌, ◌≤◌, ◌<◌, ◌+◌, ◌-◌, ℕ, max, nat_lt, List, [], ◌∷◌, ◌++◌, Option, Some, None, length, option_map, take, IfSome, slice_index_or, if◌then◌else◌}
 use Rattle.std.specs.Int.{IsGcd}
 use Rattle.ps_meaning.specs.Formula.{Formula}
 use Rattle.ps_meaning.specs.Formula as formula
-use Rattle.ps_meaning.specs.Bounds as meaning
-use Rattle.ps_meaning.specs.Statements.{Name, Ratio, Statement, Question, Item, Stated, Asked}
+use Rattle.ps_meaning.specs.Statements.{Name, Ratio, Statement, Question, Item}
 use Rattle.ps_problem.specs.declared.mark.Mark.{Mark}
 use Rattle.ps_problem.specs.declared.mark.Mark.TheVariants as mark
 use Rattle.ps_problem.specs.declared.bound.Side.{Side}

@@ -1,5 +1,5 @@
 -- The lists of which a draft is made.
-use Rattle.std.specs.Prelude.{◌≡◌, ◌≤◌, ◌<◌, ◌-◌, ℕ, List, [], ◌∷◌, ◌++◌, Option, Some, None, length, map, option_map, take, drop, All, slice_index_or}
+use Rattle.std.specs.Prelude.{◌≡◌, ◌≤◌, ◌-◌, ℕ, List, [], ◌∷◌, length, map, take, drop, All, slice_index_or}
 use Rattle.ps_meaning.specs.Formula.{Formula, Truth}
 use Rattle.ps_meaning.specs.Statements.{Name, Item, Stated, Asked}
 use Rattle.ps_meaning.specs.Names.{IsName}
@@ -7,6 +7,8 @@ use Rattle.ps_problem.specs.declared.mark.Mark.{Mark}
 use Rattle.ps_problem.specs.declared.span.Span.{Span}
 use Rattle.ps_problem.specs.declared.entry.Entry.{Entry}
 use Rattle.ps_problem.specs.declared.entry.Entry.TheVariants as entry
+use Rattle.ps_problem.specs.Numbering.{same_name}
+use Rattle.ps_problem.specs.Numbering.{AreOnce}
 use Rattle.ps_problem.specs.Drafts.{Drafted, arity, marked, NameBelow, canonical_nesting, IsRatio, IsUpper, AreBelow, statement_at, question_at}
 
 -- the formulas that stand open after some marks
@@ -25,13 +27,17 @@ pub record AreMarks (names : List Name) (ms : List Mark) (f : Formula Name) : Ty
   pub made : standing names [] ms ≡ f ∷ []
   pub below : All (NameBelow (length names)) ms
 
+-- the formula that marks spell
+abbrev pub root : List Name → List Mark → Formula Name
+root names ms = slice_index_or (standing names [] ms) 0 Truth
+
 -- the marks of a span
 abbrev pub part : List Mark → Span → List Mark
 part ms s = take (s.end - s.start) (drop s.start ms)
 
 -- the formula that a span's marks spell
 abbrev pub spelled : List Name → List Mark → Span → Formula Name
-spelled names ms s = slice_index_or (standing names [] (part ms s)) 0 Truth
+spelled names ms s = root names (part ms s)
 
 abbrev pub item_of : List (Formula Name) → Entry → Item
 item_of fs (entry.Sentence f g s num den upper) = Stated (statement_at fs f g s num den upper)
@@ -61,6 +67,7 @@ pub record IsSpan (names : List Name) (ms : List Mark) (ended : ℕ) (s : Span) 
 -- the lists are in order
 pub record IsDraft (names : List Name) (ms : List Mark) (ended : ℕ) (spans : List Span) (entries : List Entry) : Type 0 where
   pub named : All IsName names
+  pub different : AreOnce same_name names
   pub below : All (NameBelow (length names)) ms
   pub within : ended ≤ length ms
   pub held : AreHeld names [] (drop ended ms)

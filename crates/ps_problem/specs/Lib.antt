@@ -9,3 +9,4 @@ pub mod Counts
 pub mod Codes
 pub mod Drafts
 pub mod Entries
+pub mod Built

@@ -1,5 +1,5 @@
 -- The problem of a text's items: its formulas and atoms in the order in which they first come.
-use Rattle.std.specs.Prelude.{ℕ, suc, ◌==◌, Bool, true, false, ◌&&◌, List, [], ◌∷◌, ◌++◌, Option, Some, None, map, option_map, fold, if◌then◌else◌}
+use Rattle.std.specs.Prelude.{◌≡◌, ◌<◌, ℕ, suc, ◌==◌, Bool, true, false, ◌&&◌, List, [], ◌∷◌, ◌++◌, Option, Some, None, map, option_map, fold, length, slice_index_or, if◌then◌else◌}
 use Rattle.std.specs.List.{list_any}
 use Rattle.std.specs.Cmp.Lexicographic.{pointwise}
 use Rattle.ps_meaning.specs.Formula.{Formula, subformulas}
@@ -35,6 +35,10 @@ same_formula f g = false
 abbrev pub place_in : {X : Type 0} → (X → X → Bool) → List X → X → ℕ
 place_in same [] x = 0
 place_in same (y ∷ ys) x = if same x y then 0 else suc (place_in same ys x)
+
+-- each thing of a list stands first at its own place
+abbrev pub AreOnce : {X : Type 0} → (X → X → Bool) → List X → Type 0
+AreOnce {X} same xs = (i : ℕ) (d : X) → i < length xs → place_in same xs (slice_index_or xs i d) ≡ i
 
 -- a list with a thing behind it, unless it is there
 abbrev pub with_new : {X : Type 0} → (X → X → Bool) → List X → X → List X

@@ -1,5 +1,5 @@
 -- What the numbers of a problem stand for, and which problems are in order.
-use Rattle.std.specs.Prelude.{◌≡◌, ◌≢◌, ◌≤◌, ◌<◌, ◌*◌, ℕ, pos, List, [], ◌∷◌, Option, Some, None, length, map, All, AllPairs, IfSome, slice_index_or}
+use Rattle.std.specs.Prelude.{◌≡◌, ◌≢◌, ◌≤◌, ◌<◌, ℕ, pos, List, [], ◌∷◌, Option, Some, None, length, map, All, AllPairs, IfSome, slice_index_or}
 use Rattle.ps_meaning.specs.Formula.{Formula, Truth, And}
 use Rattle.ps_meaning.specs.Bounds as meaning
 use Rattle.ps_meaning.specs.Statements.{Name}

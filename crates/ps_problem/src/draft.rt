@@ -2,7 +2,9 @@
 ghost use Rattle.std.specs.Prelude.{◌≡◌, ◌<◌, ◌≤◌, ◌++◌, [], ◌∷◌, All, OnOk, OnErr, IfOk, Some, length, slice_get};
 ghost use Rattle.ps_meaning.specs.Names.{IsName};
 ghost use Rattle.ps_meaning.specs.Statements.{Stated, Asked};
-ghost use Rattle.ps_problem.specs.Drafts.{arity, NameBelow, canonical_nesting, IsRatio, IsUpper, AreBelow, statement_at, question_at, with_name, with_mark, with_formula, with_item};
+ghost use Rattle.ps_problem.specs.Numbering.{AreOnce, same_name};
+ghost use Rattle.ps_problem.specs.Entries.{AreMarks, item_of, IsEntry};
+ghost use Rattle.ps_problem.specs.Drafts.{formula_at, arity, NameBelow, canonical_nesting, IsRatio, IsUpper, AreBelow, statement_at, question_at, with_name, with_mark, with_formula, with_item};
 
 use crate::entry::Entry;
 use crate::names::Names;
@@ -124,5 +126,37 @@ impl Draft {
         ensures err { OnErr result (self.new ≡ self.old) }
     {
         self.entries.push(Entry::Query(formula, given))
+    }
+
+    pub(crate) fn names(&self) -> &Names
+        ensures names { result.now ≡ self.now.names }
+        ensures different { AreOnce same_name result.now }
+        ensures named { All IsName result.now }
+    {
+        &self.names
+    }
+
+    // The marks of a formula that has ended.
+    pub(crate) fn marks(&self, formula: u32) -> &[Mark]
+        requires { formula < length self.now.formulas }
+        ensures { AreMarks self.now.names result.now (formula_at self.now.formulas formula) }
+    {
+        let span = self.spans.as_slice()[formula as usize];
+        &self.marks.as_slice()[span.start..span.end]
+    }
+
+    // The number of items.
+    pub(crate) fn len(&self) -> u32
+        ensures { result ≡ length self.now.items }
+    {
+        self.entries.len() as u32
+    }
+
+    pub(crate) fn entry(&self, i: u32) -> Entry
+        requires { i < length self.now.items }
+        ensures item { slice_get self.now.items i ≡ Some (item_of self.now.formulas result) }
+        ensures sound { IsEntry (length self.now.formulas) result }
+    {
+        self.entries.as_slice()[i as usize]
     }
 }

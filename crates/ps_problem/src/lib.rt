@@ -2,8 +2,10 @@
 #![tactic(auto)]
 
 mod bound;
+mod building;
 mod draft;
 mod entry;
+mod fault;
 mod mark;
 mod names;
 mod problem;
@@ -17,3 +19,6 @@ pub use mark::Mark;
 pub use problem::Problem;
 pub use query::{Queries, Query};
 pub use sentence::{Sentence, Sentences};
+
+#[cfg(test)]
+mod tests;

@@ -1,4 +1,3 @@
-use Rattle.std.proofs.Common.{◌≡◌, length, ◌≤◌, sym, ap, ◌∙◌}
 use Rattle.ps_problem.proofs.DraftLists.{with_formula-is, IsDraft-end}
 use Rattle.ps_problem.proofs.draft.Draft.end_formula.Goals as goal
 

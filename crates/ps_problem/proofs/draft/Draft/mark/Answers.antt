@@ -1,7 +1,4 @@
-use Rattle.std.proofs.Common.{◌≡◌, length, ◌≤◌, drop, [], sym, ap, ◌∙◌}
 use Rattle.ps_problem.proofs.DraftLists.{with_mark-is, IsDraft-mark}
-use Rattle.ps_problem.specs.Drafts.{Drafted, arity, with_mark}
-use Rattle.ps_problem.specs.Entries.{IsDraft, standing}
 use Rattle.ps_problem.proofs.draft.Draft.mark.Goals as goal
 
 pub invariant_of-self-2 : goal.invariant_of-self-2

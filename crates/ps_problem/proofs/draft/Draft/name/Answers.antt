@@ -1,4 +1,3 @@
-use Rattle.std.proofs.Common.{◌≡◌, length, ◌≤◌, sym, ap, ◌∙◌}
 use Rattle.ps_problem.proofs.DraftLists.{with_name-is, IsDraft-name}
 use Rattle.ps_problem.proofs.draft.Draft.name.Goals as goal
 

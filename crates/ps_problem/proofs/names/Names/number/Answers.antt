@@ -1,5 +1,4 @@
-use Rattle.std.proofs.Common.{◌≡◌, sym, ◌∙◌, ap, is_some, refl}
-use Rattle.std.proofs.lemmas.Option.{none-some}
+use Rattle.std.proofs.Common.{sym}
 use Rattle.ps_problem.proofs.NameLists.{name_found, name_there, name_added, name_placed}
 use Rattle.ps_problem.proofs.names.Names.number.Goals as goal
 

@@ -1,0 +1,33 @@
+use Rattle.std.proofs.Common.{◌≡◌, ap, subst, ◌∙◌, arith, nat_eq, Ok, Err}
+use Rattle.ps_formula.specs.declared.node.Node.TheVariants as node
+use Rattle.ps_problem.specs.Numbering.{place_in}
+use Rattle.ps_problem.specs.Built.{IsAdded}
+use Rattle.ps_problem.proofs.Atoms.{atom-known, atom-full, atom-new, atom-refused}
+use Rattle.ps_problem.proofs.building.Building.atom.Goals as goal
+
+pub returns-then-place-len : goal.returns-then-place-len
+returns-then-place-len c = λ h.
+    let s = c.args.self.now in
+    let p : c.place_of-place.result ≡ place_in nat_eq s.atoms c.args.name = c.place_of-place.ensures ∙ ap (λ xs. place_in nat_eq xs c.args.name) c.as_slice.ensures in
+    rw c.node.ensures.atoms (atom-known c.args.names.now s.atoms s.formulas h c.args.name c.requires.name (omega arith) c.node.new.self.formulas c.node.result
+    (subst (λ i. IsAdded s.formulas (node.Atom i) c.node.new.self.formulas c.node.result) p c.node.ensures.nodes))
+
+pub returns-then-place-ge128 : goal.returns-then-place-ge128
+returns-then-place-ge128 c = λ h.
+    let s = c.args.self.now in
+    let p : c.place_of-place.result ≡ place_in nat_eq s.atoms c.args.name = c.place_of-place.ensures ∙ ap (λ xs. place_in nat_eq xs c.args.name) c.as_slice.ensures in
+    atom-full c.args.names.now s.atoms s.formulas h c.args.name c.requires.name (omega arith) (omega arith)
+
+pub returns-in-Err : goal.returns-in-Err
+returns-in-Err c = λ h.
+    let s = c.args.self.now in
+    let p : c.place_of-place.result ≡ place_in nat_eq s.atoms c.args.name = c.place_of-place.ensures ∙ ap (λ xs. place_in nat_eq xs c.args.name) c.as_slice.ensures in
+    atom-refused c.args.names.now s.atoms s.formulas h c.args.name c.requires.name (omega arith) (omega arith) c.node-2.new.self.formulas c.in-Err.fault
+    (subst (λ i. IsAdded s.formulas (node.Atom i) c.node-2.new.self.formulas (Err c.in-Err.fault)) p c.in-Err.ensures.nodes)
+
+pub returns-in-Ok-push : goal.returns-in-Ok-push
+returns-in-Ok-push c = λ h.
+    let s = c.args.self.now in
+    let p : c.place_of-place.result ≡ place_in nat_eq s.atoms c.args.name = c.place_of-place.ensures ∙ ap (λ xs. place_in nat_eq xs c.args.name) c.as_slice.ensures in
+    rw (c.in-Ok-push.ensures.ok, c.in-Ok.ensures.atoms) (atom-new c.args.names.now s.atoms s.formulas h c.args.name c.requires.name (omega arith) (omega arith) c.node-2.new.self.formulas c.in-Ok.number
+    (subst (λ i. IsAdded s.formulas (node.Atom i) c.node-2.new.self.formulas (Ok c.in-Ok.number)) p c.in-Ok.ensures.nodes))

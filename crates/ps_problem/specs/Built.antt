@@ -1,0 +1,102 @@
+-- What stands at a point of the making of a problem.
+use Rattle.std.specs.Prelude.{◌≡◌, ◌≤◌, ◌<◌, ◌-◌, ℕ, true, List, [], ◌∷◌, Option, Some, None, Result, Ok, Err, length, map, take, drop, All, Contains, IfSome, slice_index_or}
+use Rattle.std.specs.List.{list_any}
+use Rattle.ps_meaning.specs.Formula.{Formula}
+use Rattle.ps_meaning.specs.Formula as formula
+use Rattle.ps_meaning.specs.Statements.{Name}
+use Rattle.ps_formula.specs.declared.node.Node.{Node}
+use Rattle.ps_formula.specs.declared.node.Node.TheVariants as node
+use Rattle.ps_problem.specs.declared.mark.Mark.{Mark}
+use Rattle.ps_problem.specs.declared.mark.Mark.TheVariants as mark
+use Rattle.ps_problem.specs.declared.fault.Fault.{Fault}
+use Rattle.ps_problem.specs.declared.fault.Fault.TheVariants as fault
+use Rattle.ps_formula.specs.Nodes.{Adds}
+use Rattle.ps_problem.specs.Counts.{Excess, Atoms, Nodes, Bounds, Queries, with_formulas}
+use Rattle.ps_problem.specs.Drafts.{made_by, marked}
+use Rattle.ps_problem.specs.Entries.{standing}
+use Rattle.ps_problem.specs.Numbering.{AreOnce, same_name, same_formula, place_in, names_among, node_in}
+
+-- a formula is among some
+abbrev pub IsAmong : List (Formula Name) → Formula Name → Type 0
+IsAmong fs f = list_any (same_formula f) fs ≡ true
+
+-- a formula's operands are among some formulas, and an atom's name among theirs
+abbrev pub IsReady : List (Formula Name) → Formula Name → Type 0
+IsReady fs formula.Truth = Unit {0}
+IsReady fs formula.Falsity = Unit {0}
+IsReady fs (formula.Atom a) = list_any (same_name a) (names_among fs) ≡ true
+IsReady fs (formula.Not f) = IsAmong fs f
+IsReady fs (formula.And f g) = IsAmong fs f × IsAmong fs g
+IsReady fs (formula.Or f g) = IsAmong fs f × IsAmong fs g
+IsReady fs (formula.Implies f g) = IsAmong fs f × IsAmong fs g
+IsReady fs (formula.Iff f g) = IsAmong fs f × IsAmong fs g
+
+abbrev pub name_at : List Name → ℕ → Name
+name_at names n = slice_index_or names n []
+
+-- some formulas whose atoms' names have these numbers among all names, and whose nodes are these
+pub record Built (names : List Name) (atoms : List ℕ) (nodes : List Node) : Type 0 where
+  pub formulas : List (Formula Name)
+  pub different : AreOnce same_name names
+  pub atoms_are : map (name_at names) atoms ≡ names_among formulas
+  pub nodes_are : nodes ≡ map (node_in formulas) formulas
+  pub ready : All (IsReady formulas) formulas
+  pub once : AreOnce same_formula formulas
+  pub within : All (λ a. a < length names) atoms
+  pub few_atoms : length atoms ≤ 128
+  pub few : length formulas ≤ 1024
+
+-- the place of a formula that is there
+abbrev pub StandsAt : List (Formula Name) → Formula Name → ℕ → Type 0
+StandsAt fs f i = IsAmong fs f × (i ≡ place_in same_formula fs f)
+
+-- the number so far below the top of a stack, 1 for the top
+abbrev pub operand : List ℕ → ℕ → ℕ
+operand ps k = slice_index_or ps (length ps - k) 0
+
+-- the node of a mark over the nodes that stand open; a name's depends on what is there
+abbrev pub node_over : List ℕ → Mark → Node
+node_over ps mark.True = node.True
+node_over ps mark.False = node.False
+node_over ps (mark.Name n) = node.True
+node_over ps mark.Not = node.Not (operand ps 1)
+node_over ps mark.And = node.And (operand ps 2) (operand ps 1)
+node_over ps mark.Or = node.Or (operand ps 2) (operand ps 1)
+node_over ps mark.Implies = node.Implies (operand ps 2) (operand ps 1)
+node_over ps mark.Iff = node.Iff (operand ps 2) (operand ps 1)
+
+-- the excess that a fault tells of, none where memory ran out
+abbrev pub excess_of : Fault → Option Excess
+excess_of fault.Atoms = Some Atoms
+excess_of fault.Nodes = Some Nodes
+excess_of fault.Bounds = Some Bounds
+excess_of fault.Queries = Some Queries
+excess_of fault.NoMemory = None
+
+-- the node was added, or stood there; a fault is that there was no place for it, or that memory ran out
+abbrev pub IsAdded : List Node → Node → List Node → Result ℕ Fault → Type 0
+IsAdded old n new (Ok i) = Adds old n i new × (length old ≡ 1024 → ¬ Contains old n → ⊥)
+IsAdded old n new (Err fault.Nodes) = (length old ≡ 1024) × ¬ Contains old n
+IsAdded old n new (Err fault.NoMemory) = Unit {0}
+IsAdded old n new (Err other) = ⊥
+
+-- what is expected was built, and the formula has this number; or there is the excess that is expected
+abbrev pub Follows : List Name → Result (List (Formula Name)) Excess → Formula Name → List ℕ → List Node → Result ℕ Fault → Type 0
+Follows names expected f atoms nodes (Ok i) = (h : Built names atoms nodes) × (expected ≡ Ok h.formulas) × StandsAt h.formulas f i
+Follows names expected f atoms nodes (Err x) = IfSome (excess_of x) (λ e. expected ≡ Err e)
+
+-- formulas stand open, by the places at which they are
+pub record Stand (fs standing : List (Formula Name)) (numbers : List ℕ) : Type 0 where
+  pub places : numbers ≡ map (place_in same_formula fs) standing
+  pub among : All (IsAmong fs) standing
+
+-- the formulas that marks make over those that stand open, in order
+abbrev pub tops : List Name → List (Formula Name) → List Mark → List (Formula Name)
+tops names fs [] = []
+tops names fs (m ∷ ms) = made_by names fs m ∷ tops names (marked names fs m) ms
+
+-- as far as a list of marks has been gone through: what is left to be numbered gives what all of them give
+pub record Reached (names : List Name) (start : List (Formula Name)) (all : List Mark) (i : ℕ) (atoms : List ℕ) (nodes : List Node) (stack : List ℕ) : Type 0 where
+  pub built : Built names atoms nodes
+  pub stand : Stand built.formulas (standing names [] (take i all)) stack
+  pub rest : with_formulas built.formulas (tops names (standing names [] (take i all)) (drop i all)) ≡ with_formulas start (tops names [] all)

@@ -1,0 +1,153 @@
+//! The numbering of formulas and atoms.
+ghost use Rattle.std.specs.Prelude.{◌≡◌, ◌≤◌, ◌<◌, ◌^◌, ◌-◌, ℕ, ◌++◌, [], ◌∷◌, All, Ok, IfOk, IfErr, OnOk, OnErr, List, length, map, take, nat_eq, slice_index_or};
+ghost use Rattle.ps_meaning.specs.Formula.{Formula, Atom, subformulas};
+ghost use Rattle.ps_meaning.specs.Statements.{Name};
+ghost use Rattle.ps_formula.specs.Nodes.{Fits};
+ghost use Rattle.ps_problem.specs.Numbering.{place_in, same_formula};
+ghost use Rattle.ps_problem.specs.Counts.{with_formulas};
+ghost use Rattle.ps_problem.specs.Drafts.{arity, NameBelow, made_by};
+ghost use Rattle.ps_problem.specs.Entries.{AreMarks, root};
+ghost use Rattle.ps_problem.specs.Built.{Built, IsAmong, Stand, name_at, node_over, IsAdded, Follows};
+
+use crate::Mark;
+use crate::fault::Fault;
+use crate::names::Names;
+use ps_formula::{AddError, Formulas, Node};
+use ps_io::List;
+use std::alloc::Global;
+
+// The first place of a number, or the length where it isn't there.
+fn place_of(numbers: &[u32], n: u32) -> usize
+    ensures { result ≡ place_in nat_eq numbers.now n }
+{
+    for (i, m) in numbers.iter().enumerate() {
+        if n == *m {
+            return i;
+        }
+    }
+    numbers.len()
+}
+
+// The number of operands of a mark.
+fn operands(mark: Mark) -> usize
+    ensures { result ≡ arity mark }
+{
+    match mark {
+        Mark::True | Mark::False | Mark::Name(_) => 0,
+        Mark::Not => 1,
+        _ => 2,
+    }
+}
+
+// The node of an operator over numbers of nodes; of a name it says nothing.
+fn node_of(mark: Mark, stack: &[u32]) -> Node
+    requires { arity mark ≤ length stack.now }
+    ensures { result ≡ node_over stack.now mark }
+{
+    let n = stack.len();
+    match mark {
+        Mark::True => Node::True,
+        Mark::False => Node::False,
+        Mark::Name(_) => Node::True,
+        Mark::Not => Node::Not(stack[n - 1]),
+        Mark::And => Node::And(stack[n - 2], stack[n - 1]),
+        Mark::Or => Node::Or(stack[n - 2], stack[n - 1]),
+        Mark::Implies => Node::Implies(stack[n - 2], stack[n - 1]),
+        Mark::Iff => Node::Iff(stack[n - 2], stack[n - 1]),
+    }
+}
+
+/// Formulas as far as they are numbered, and the atoms among them by the numbers of their names.
+#[derive(Drop)]
+pub(crate) struct Building {
+    pub(crate) atoms: List<u32>,
+    pub(crate) formulas: Formulas,
+}
+
+impl Building {
+    // The number of a node, which is added where it isn't there.
+    fn node(&mut self, node: Node) -> Result<u32, Fault>
+        requires { Fits (length self.old.formulas) node }
+        ensures atoms { self.new.atoms ≡ self.old.atoms }
+        ensures nodes { IsAdded self.old.formulas node self.new.formulas result }
+    {
+        match self.formulas.add(node) {
+            Ok(i) => Ok(i),
+            Err(AddError::Full) => Err(Fault::Nodes),
+            Err(AddError::NoMemory) => Err(Fault::NoMemory),
+        }
+    }
+
+    // The number of an atom's node, which is added where it isn't there.
+    fn atom(&mut self, names: &Names, name: u32) -> Result<u32, Fault>
+        requires name { name < length names.now }
+        requires built { Built names.now self.old.atoms self.old.formulas }
+        ensures { (h : Built names.now self.old.atoms self.old.formulas)
+            → Follows names.now (with_formulas h.formulas (Atom (name_at names.now name) ∷ [])) (Atom (name_at names.now name)) self.new.atoms self.new.formulas result }
+    {
+        let place = place_of(self.atoms.as_slice(), name);
+        if place < self.atoms.len() {
+            return self.node(Node::Atom(place as u16));
+        }
+        if place >= 128 {
+            return Err(Fault::Atoms);
+        }
+        let number = match self.node(Node::Atom(place as u16)) {
+            Ok(number) => number,
+            Err(fault) => return Err(fault),
+        };
+        match self.atoms.push(name) {
+            Ok(()) => Ok(number),
+            Err(_) => Err(Fault::NoMemory),
+        }
+    }
+
+    // The number of a mark's formula over the numbers of those that stand open.
+    fn mark(&mut self, names: &Names, stack: &[u32], mark: Mark) -> Result<u32, Fault>
+        requires name { NameBelow (length names.now) mark }
+        requires operands { arity mark ≤ length stack.now }
+        requires below { All (λ i. i < length self.old.formulas) stack.now }
+        requires built { Built names.now self.old.atoms self.old.formulas }
+        ensures { (h : Built names.now self.old.atoms self.old.formulas) (fs : List (Formula Name)) → Stand h.formulas fs stack.now
+            → Follows names.now (with_formulas h.formulas (made_by names.now fs mark ∷ [])) (made_by names.now fs mark) self.new.atoms self.new.formulas result }
+    {
+        if let Mark::Name(name) = mark {
+            return self.atom(names, name);
+        }
+        self.node(node_of(mark, stack))
+    }
+
+    // Numbers the parts of the formula that some marks spell, and gives its own number.
+    fn formula(&mut self, alloc: Global, names: &Names, marks: &[Mark]) -> Result<u32, Fault>
+        requires marks { AreMarks names.now marks.now (root names.now marks.now) }
+        requires built { Built names.now self.old.atoms self.old.formulas }
+        ensures { (h : Built names.now self.old.atoms self.old.formulas)
+            → Follows names.now (with_formulas h.formulas (subformulas (root names.now marks.now))) (root names.now marks.now) self.new.atoms self.new.formulas result }
+    {
+        let mut stack = Vec::new(alloc);
+        for mark in marks {
+            let number = match self.mark(names, &stack, *mark) {
+                Ok(number) => number,
+                Err(fault) => return Err(fault),
+            };
+            if replace(&mut stack, operands(*mark), number).is_err() {
+                return Err(Fault::NoMemory);
+            }
+        }
+        Ok(stack[0])
+    }
+}
+
+// Puts a number in the place of the last ones.
+fn replace(stack: &mut Vec<u32>, count: usize, number: u32) -> Result<(), Fault>
+    requires { count ≤ length stack.old.items }
+    ensures ok { OnOk result (stack.new.items ≡ take (length stack.old.items - count) stack.old.items ++ number ∷ []) }
+    ensures err { IfErr result (λ x. x ≡ Fault.NoMemory) }
+{
+    let kept = stack.len() - count;
+    stack.truncate(kept);
+    match stack.push(number) {
+        Ok(()) => Ok(()),
+        Err(_) => Err(Fault::NoMemory),
+    }
+}

@@ -1,0 +1,11 @@
+//! Why a problem was not made.
+
+/// What there was too much of, or that there was not enough memory.
+#[derive(Clone, Copy, Debug, PartialEq, Eq)]
+pub(crate) enum Fault {
+    Atoms,
+    Nodes,
+    Bounds,
+    Queries,
+    NoMemory,
+}
