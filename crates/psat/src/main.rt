@@ -10,6 +10,8 @@ mod report_bytes;
 mod report_error;
 mod run;
 mod status;
+#[cfg(test)]
+mod tests;
 
 use crate::run::run;
 use ps_io::{StdSink, StdSource};

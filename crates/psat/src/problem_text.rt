@@ -5,7 +5,7 @@ ghost use Rattle.ps_read.specs.FirstForm.{IsWithinLimits, items_of};
 ghost use Rattle.psat.specs.ProblemTexts.{IsProblemOf, PassLimits, SpellsFirst};
 
 use crate::drafting::draft_of;
-use ps_problem::{Draft, Problem};
+use ps_problem::{BuildError, Draft, Problem, build};
 use ps_read::{FirstSentence, ReadError, read_first};
 use std::alloc::Global;
 
@@ -14,7 +14,11 @@ fn problem_of_draft(alloc: Global, draft: &Draft) -> Result<Problem, ReadError>
     ensures made { IfOk result (λ p. IsProblemOf draft.now.items p) }
     ensures refused { IsErrOf result ReadError.NotFirstForm → PassLimits draft.now.items }
 {
-    Err(ReadError::NoMemory)
+    match build(alloc, draft) {
+        Ok(problem) => Ok(problem),
+        Err(BuildError::NoMemory) => Err(ReadError::NoMemory),
+        Err(_) => Err(ReadError::NotFirstForm),
+    }
 }
 
 // The problem of some sentences, where they are within the limits.
