@@ -1,17 +1,15 @@
 -- What a draft holds after the calls that put a sentence into it.
 use Rattle.std.proofs.Common.{◌≡◌, ℕ, zero, suc, ◌+◌, ◌-◌, ◌≤◌, Bool, true, false, cond, ◌||◌, List, [], ◌∷◌, ◌++◌, length, take, All, IsTrue, Some, None, get_or, slice_get, refl, sym, ap, subst, ◌∙◌, arith, length-append, codes}
 use Rattle.std.specs.List.{list_any, list_all, AllByRecursion}
-use Rattle.std.specs.Str.{bytes_eq}
-use Rattle.std.proofs.lemmas.Bool.{true≢false, and_from}
+use Rattle.std.proofs.lemmas.Bool.{and_from}
 use Rattle.std.proofs.lemmas.List.Elements.{All-nil, All-cons}
 use Rattle.std.proofs.lemmas.Option.{get_or_from_slice_get}
 use Rattle.ps_meaning.specs.Formula.{Formula, Atom}
 use Rattle.ps_meaning.specs.Bounds as meaning
 use Rattle.ps_meaning.specs.Statements.{Name, Stated}
 use Rattle.ps_meaning.specs.Names as names
-use Rattle.ps_meaning.specs.Names.{IsName, reserved_words}
+use Rattle.ps_meaning.specs.Names.{IsName}
 use Rattle.ps_text.specs.Tokens as text
-use Rattle.ps_text.specs.Grammar.{is_reserved}
 use Rattle.ps_problem.specs.declared.mark.Mark.TheVariants as mark
 use Rattle.ps_problem.specs.declared.bound.Side.TheVariants as side
 use Rattle.ps_problem.specs.Numbering.{same_name, with_new}
@@ -28,23 +26,9 @@ word-is : (w : List ℕ) → text.IsWord w → names.is_word w ≡ true
 word-is [] h = absurd h
 word-is (b ∷ bs) h = and_from (names.is_letter b) (list_all names.is_word_byte bs) h.0 (word_bytes bs h.1)
 
-regrouped : (a b c d e f g h : Bool) → (((((((a || b) || c) || d) || e) || f) || g) || h) ≡ false → (a || (b || (c || (d || (e || (f || (g || (h || false)))))))) ≡ false
-regrouped true b c d e f g h is = absurd (true≢false is)
-regrouped false true c d e f g h is = absurd (true≢false is)
-regrouped false false true d e f g h is = absurd (true≢false is)
-regrouped false false false true e f g h is = absurd (true≢false is)
-regrouped false false false false true f g h is = absurd (true≢false is)
-regrouped false false false false false true g h is = absurd (true≢false is)
-regrouped false false false false false false true h is = absurd (true≢false is)
-regrouped false false false false false false false true is = absurd (true≢false is)
-regrouped false false false false false false false false is = refl
-
-free-is : (w : List ℕ) → is_reserved w ≡ false → list_any (bytes_eq w) reserved_words ≡ false
-free-is w h = regrouped (bytes_eq w (codes "psat")) (bytes_eq w (codes "P")) (bytes_eq w (codes "given")) (bytes_eq w (codes "in")) (bytes_eq w (codes "query")) (bytes_eq w (codes "end")) (bytes_eq w (codes "true")) (bytes_eq w (codes "false")) h
-
 -- the name of a sentence is an atom's
 pub name-is : (s : FirstSentence) → IsWithinLimits s → IsName s.name
-name-is s h = record { word = word-is s.name h.word; short = h.short; free = free-is s.name h.free }
+name-is s h = record { word = word-is s.name h.word; short = h.short; free = h.free }
 
 length-with_new : (ns : List Name) (n : Name) → length (with_new same_name ns n) ≤ length ns + 1
 length-with_new ns n = by (list_any (same_name n) ns)
