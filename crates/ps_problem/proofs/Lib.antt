@@ -13,3 +13,6 @@ pub mod Trees
 pub mod Orders
 pub mod Parts
 pub mod Stated
+pub mod Values
+pub mod Growth
+pub mod Making

@@ -1,22 +1,36 @@
 -- A formula and perhaps a condition, numbered one after the other.
-use Rattle.std.proofs.Common.{◌≡◌, ℕ, List, [], ◌∷◌, ◌++◌, Option, Some, None, IfSome, Result, Ok, Err, sym, ap, subst, ◌∙◌}
+use Rattle.std.proofs.Common.{◌≡◌, ℕ, List, [], ◌∷◌, ◌++◌, length, ◌<◌, map, Option, Some, None, IfSome, Result, Ok, Err, refl, sym, ap, subst, ◌∙◌, arith}
+use Rattle.std.proofs.lemmas.List.{length-map}
 use Rattle.ps_meaning.specs.Formula.{Formula, And, subformulas}
 use Rattle.ps_meaning.specs.Statements.{Name}
 use Rattle.ps_formula.specs.declared.node.Node.{Node}
 use Rattle.ps_formula.specs.declared.node.Node.TheVariants as node
 use Rattle.ps_problem.specs.declared.fault.Fault.{Fault}
-use Rattle.ps_problem.specs.Numbering.{same_formula, place_in, numbered_for}
+use Rattle.ps_problem.specs.Numbering.{same_formula, place_in, node_in, numbered_for}
 use Rattle.ps_problem.specs.Counts.{Excess, with_formulas, after}
-use Rattle.ps_problem.specs.Built.{IsAmong, IsAdded, Follows, FollowsQuestion, excess_of}
+use Rattle.ps_problem.specs.Built.{Built, IsAmong, IsAdded, Follows, FollowsQuestion, excess_of}
+use Rattle.ps_problem.proofs.Lists.{place-below}
 use Rattle.ps_problem.proofs.Nodes.{among-more, place-more}
 use Rattle.ps_problem.proofs.Steps.{step-known}
 use Rattle.ps_problem.proofs.Turns.{with-append, with-more}
 
-module _ (names : List Name) (start : List (Formula Name)) (f g : Formula Name) (atoms : List ℕ) (nodes : List Node) (i : ℕ) (one : Follows names (with_formulas start (subformulas f)) f atoms nodes (Ok i)) where
-  -- nothing is given
-  pub pair-alone : FollowsQuestion names (with_formulas start (numbered_for f None)) (record { formula = f; given = None }) atoms nodes (Ok (record { formula = i; given = None; both = i }))
-  pair-alone = (one.0, one.1, record { formula = one.2.0; given = tt; both = one.2.0 }, ap (λ n. record { formula = n; given = None; both = n }) one.2.1)
+-- the formula didn't fit
+pub pair-first : (start : List (Formula Name)) (f : Formula Name) (given : Option (Formula Name)) (x : Fault) → IfSome (excess_of x) (λ e. with_formulas start (subformulas f) ≡ Err e)
+    → IfSome (excess_of x) (λ e. with_formulas start (numbered_for f given) ≡ Err e)
+pair-first start f None x one = one
+pair-first start f (Some g) x one = by (excess_of x) one
+  where
+    by : (o : Option Excess) → IfSome o (λ e. with_formulas start (subformulas f) ≡ Err e) → IfSome o (λ e. with_formulas start (numbered_for f (Some g)) ≡ Err e)
+    by None t = tt
+    by (Some e) t = with-append start (subformulas f ++ subformulas g) (And f g ∷ []) ∙ ap (λ r. after r (λ gs. with_formulas gs (And f g ∷ [])))
+        (with-append start (subformulas f) (subformulas g) ∙ ap (λ r. after r (λ gs. with_formulas gs (subformulas g))) t)
 
+-- nothing is given
+pub pair-alone : (names : List Name) (start : List (Formula Name)) (f : Formula Name) (atoms : List ℕ) (nodes : List Node) (i : ℕ) → Follows names (with_formulas start (subformulas f)) f atoms nodes (Ok i)
+    → FollowsQuestion names (with_formulas start (numbered_for f None)) (record { formula = f; given = None }) atoms nodes (Ok (record { formula = i; given = None; both = i }))
+pair-alone names start f atoms nodes i one = (one.0, one.1, record { formula = one.2.0; given = tt; both = one.2.0 }, ap (λ n. record { formula = n; given = None; both = n }) one.2.1)
+
+module _ (names : List Name) (start : List (Formula Name)) (f g : Formula Name) (atoms : List ℕ) (nodes : List Node) (i : ℕ) (one : Follows names (with_formulas start (subformulas f)) f atoms nodes (Ok i)) where
   split : with_formulas start (numbered_for f (Some g)) ≡ after (with_formulas one.0.formulas (subformulas g)) (λ gs. with_formulas gs (And f g ∷ []))
   split = with-append start (subformulas f ++ subformulas g) (And f g ∷ [])
       ∙ ap (λ r. after r (λ gs. with_formulas gs (And f g ∷ []))) (with-append start (subformulas f) (subformulas g) ∙ ap (λ r. after r (λ gs. with_formulas gs (subformulas g))) one.1)
@@ -39,6 +53,16 @@ module _ (names : List Name) (start : List (Formula Name)) (f g : Formula Name) 
 
     first-place : i ≡ place_in same_formula two.0.formulas f
     first-place = one.2.1 ∙ sym (place-more one.0.formulas grown.0 f one.2.0) ∙ ap (λ gs. place_in same_formula gs f) (sym grown.1)
+
+    -- both formulas' nodes are there
+    pub pair-fits : (i < length nodes') × (j < length nodes')
+    pair-fits =
+        let n = ap length two.0.nodes_are ∙ length-map two.0.formulas (node_in two.0.formulas) in
+        let first : place_in same_formula two.0.formulas f < length two.0.formulas = place-below same_formula two.0.formulas f first-there in
+        let second : place_in same_formula two.0.formulas g < length two.0.formulas = place-below same_formula two.0.formulas g two.2.0 in
+        let a = first-place in
+        let b = two.2.1 in
+        (omega arith, omega arith)
 
     third : (nodes'' : List Node) (result : Result ℕ Fault) → IsAdded nodes' (node.And i j) nodes'' result → Follows names (with_formulas two.0.formulas (And f g ∷ [])) (And f g) atoms' nodes'' result
     third nodes'' result added = step-known names atoms' nodes' two.0 (And f g) (first-there, two.2.0) (node.And i j)

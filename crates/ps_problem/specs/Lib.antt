@@ -10,3 +10,4 @@ pub mod Codes
 pub mod Drafts
 pub mod Entries
 pub mod Built
+pub mod Builds

@@ -1,17 +1,17 @@
 //! The numbering of formulas and atoms.
-ghost use Rattle.std.specs.Prelude.{◌≡◌, ◌≤◌, ◌<◌, ◌^◌, ◌-◌, ℕ, ◌++◌, [], ◌∷◌, All, Ok, IfOk, IfErr, OnOk, OnErr, List, length, map, take, nat_eq, slice_index_or};
+ghost use Rattle.std.specs.Prelude.{◌≡◌, ◌≤◌, ◌<◌, ◌^◌, ◌-◌, ℕ, ◌++◌, [], ◌∷◌, All, Ok, IfOk, IfErr, OnOk, OnErr, List, length, map, take, nat_eq, slice_index_or, option_map};
 ghost use Rattle.ps_meaning.specs.Formula.{Formula, Atom, subformulas};
 ghost use Rattle.ps_meaning.specs.Statements.{Name};
 ghost use Rattle.ps_formula.specs.Nodes.{Fits};
-ghost use Rattle.ps_problem.specs.Numbering.{place_in, same_formula};
+ghost use Rattle.ps_problem.specs.Numbering.{place_in, same_formula, numbered_for};
 ghost use Rattle.ps_problem.specs.Counts.{with_formulas};
-ghost use Rattle.ps_problem.specs.Drafts.{arity, NameBelow, made_by};
+ghost use Rattle.ps_problem.specs.Drafts.{arity, NameBelow, made_by, formula_at, question_at, AreBelow};
 ghost use Rattle.ps_problem.specs.Entries.{AreMarks, root};
-ghost use Rattle.ps_problem.specs.Built.{Built, IsAmong, Stand, name_at, node_over, IsAdded, Follows};
+ghost use Rattle.ps_problem.specs.Built.{Built, IsAmong, Stand, name_at, node_over, IsAdded, Follows, FollowsQuestion};
 
-use crate::Mark;
 use crate::fault::Fault;
 use crate::names::Names;
+use crate::{Draft, Mark, Query};
 use ps_formula::{AddError, Formulas, Node};
 use ps_io::List;
 use std::alloc::Global;
@@ -65,6 +65,16 @@ pub(crate) struct Building {
 }
 
 impl Building {
+    pub(crate) fn new(alloc: Global) -> Building
+        ensures atoms { result.atoms ≡ [] }
+        ensures formulas { result.formulas ≡ [] }
+    {
+        Building {
+            atoms: List::new(alloc),
+            formulas: Formulas::new(alloc),
+        }
+    }
+
     // The number of a node, which is added where it isn't there.
     fn node(&mut self, node: Node) -> Result<u32, Fault>
         requires { Fits (length self.old.formulas) node }
@@ -135,6 +145,49 @@ impl Building {
             }
         }
         Ok(stack[0])
+    }
+
+    // Numbers the parts of a formula of a draft and perhaps of a condition, and then both together.
+    pub(crate) fn query(
+        &mut self,
+        alloc: Global,
+        draft: &Draft,
+        formula: u32,
+        given: Option<u32>,
+    ) -> Result<Query, Fault>
+        requires formulas { AreBelow (length draft.now.formulas) formula given }
+        requires built { Built draft.now.names self.old.atoms self.old.formulas }
+        ensures { (h : Built draft.now.names self.old.atoms self.old.formulas)
+            → FollowsQuestion draft.now.names
+            (with_formulas h.formulas (numbered_for (formula_at draft.now.formulas formula) (option_map (formula_at draft.now.formulas) given)))
+            (question_at draft.now.formulas formula given) self.new.atoms self.new.formulas result }
+    {
+        let first = match self.formula(alloc, draft.names(), draft.marks(formula)) {
+            Ok(number) => number,
+            Err(fault) => return Err(fault),
+        };
+        let condition = match given {
+            Some(condition) => condition,
+            None => {
+                return Ok(Query {
+                    formula: first,
+                    given: None,
+                    both: first,
+                });
+            }
+        };
+        let second = match self.formula(alloc, draft.names(), draft.marks(condition)) {
+            Ok(number) => number,
+            Err(fault) => return Err(fault),
+        };
+        match self.node(Node::And(first, second)) {
+            Ok(both) => Ok(Query {
+                formula: first,
+                given: Some(second),
+                both,
+            }),
+            Err(fault) => Err(fault),
+        }
     }
 }
 

@@ -3,8 +3,8 @@ ghost use Rattle.std.specs.Prelude.{◌≡◌, ◌<◌, ◌≤◌, ◌++◌, [],
 ghost use Rattle.ps_meaning.specs.Names.{IsName};
 ghost use Rattle.ps_meaning.specs.Statements.{Stated, Asked};
 ghost use Rattle.ps_problem.specs.Numbering.{AreOnce, same_name};
-ghost use Rattle.ps_problem.specs.Entries.{AreMarks, item_of, IsEntry};
-ghost use Rattle.ps_problem.specs.Drafts.{formula_at, arity, NameBelow, canonical_nesting, IsRatio, IsUpper, AreBelow, statement_at, question_at, with_name, with_mark, with_formula, with_item};
+ghost use Rattle.ps_problem.specs.Entries.{AreMarks, root, item_of, IsEntry};
+ghost use Rattle.ps_problem.specs.Drafts.{formula_at, arity, NameBelow, canonical_nesting, IsRatio, IsUpper, AreBelow, IsLawful, statement_at, question_at, with_name, with_mark, with_formula, with_item};
 
 use crate::entry::Entry;
 use crate::names::Names;
@@ -132,6 +132,7 @@ impl Draft {
         ensures names { result.now ≡ self.now.names }
         ensures different { AreOnce same_name result.now }
         ensures named { All IsName result.now }
+        ensures lawful { All IsLawful self.now.items }
     {
         &self.names
     }
@@ -139,7 +140,8 @@ impl Draft {
     // The marks of a formula that has ended.
     pub(crate) fn marks(&self, formula: u32) -> &[Mark]
         requires { formula < length self.now.formulas }
-        ensures { AreMarks self.now.names result.now (formula_at self.now.formulas formula) }
+        ensures root { root self.now.names result.now ≡ formula_at self.now.formulas formula }
+        ensures marks { AreMarks self.now.names result.now (root self.now.names result.now) }
     {
         let span = self.spans.as_slice()[formula as usize];
         &self.marks.as_slice()[span.start..span.end]

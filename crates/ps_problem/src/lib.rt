@@ -1,7 +1,9 @@
 //! Problems: bounds on the probabilities of formulas, and queries, over atoms that have names.
 #![tactic(auto)]
 
+mod assembly;
 mod bound;
+mod build_error;
 mod building;
 mod draft;
 mod entry;
@@ -14,7 +16,9 @@ mod query;
 mod sentence;
 mod span;
 
+pub use assembly::build;
 pub use bound::{Bound, Side};
+pub use build_error::BuildError;
 pub use draft::Draft;
 pub use laws::numbering_keeps_meaning;
 pub use mark::Mark;

@@ -1,6 +1,7 @@
 //! Names by number.
 ghost use Rattle.std.specs.Prelude.{◌≡◌, ◌<◌, ◌≤◌, [], length, slice_get, OnOk, OnErr, IfOk, Some, option_copied};
 ghost use Rattle.ps_problem.specs.Numbering.{same_name, with_new};
+ghost use Rattle.ps_problem.specs.Built.{name_at};
 
 use indexmap::IndexSet;
 use ps_io::NoMemory;
@@ -46,6 +47,14 @@ impl Names {
             Some(name) => Some(name.as_slice()),
             None => None,
         }
+    }
+
+    /// The name of a number that was given out.
+    pub(crate) fn text(&self, number: u32) -> &[u8]
+        requires { number < length self.now }
+        ensures { result.now ≡ name_at self.now number }
+    {
+        self.set[number as usize].as_slice()
     }
 
     /// The number of a name, which is added at the end where it isn't there.

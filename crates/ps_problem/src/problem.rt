@@ -1,7 +1,7 @@
 //! A problem: atoms by name, formulas, sentences and queries.
 ghost use Rattle.std.specs.Prelude.{◌≡◌, ◌≤◌, ◌-◌, All, IfSome, length, map, option_copied, slice_get, Some, None, if◌then◌else◌, ◌==◌};
 ghost use Rattle.ps_formula.specs.Nodes.{AreNodes, AtomBelow};
-ghost use Rattle.ps_problem.specs.Problems.{AreBounds, bounds_in};
+ghost use Rattle.ps_problem.specs.Problems.{AreBounds, AreParts, bounds_in};
 
 use crate::{Bound, Queries, Sentences};
 use indexmap::IndexSet;
@@ -32,6 +32,27 @@ impl Model for Problem {
 }
 
 impl Problem {
+    // The problem of parts that are in order, with their bounds.
+    pub(crate) fn of(
+        names: List<Vec<u8>>,
+        formulas: Formulas,
+        sentences: Sentences,
+        bounds: List<Bound>,
+        queries: Queries,
+    ) -> Problem
+        requires sound { AreParts (record { names = map (λ v. v.items) names; nodes = formulas; sentences = sentences; queries = queries }) }
+        requires bounds { bounds ≡ bounds_in sentences }
+        ensures { result ≡ record { names = map (λ v. v.items) names; nodes = formulas; sentences = sentences; queries = queries } }
+    {
+        Problem {
+            names,
+            formulas,
+            sentences,
+            bounds,
+            queries,
+        }
+    }
+
     /// The number of atoms.
     pub fn atoms(&self) -> u16
         ensures atoms { result ≡ length self.now.names }

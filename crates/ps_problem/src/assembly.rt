@@ -1,0 +1,204 @@
+//! The making of a problem.
+ghost use Rattle.std.specs.Prelude.{◌≡◌, ◌++◌, ◌<◌, ◌≤◌, ◌+◌, [], ◌∷◌, All, OnOk, IfOk, IfErr, IfSome, Err, length, map, is_some, if◌then◌else◌};
+ghost use Rattle.ps_problem.specs.Problems.{bounds_in};
+ghost use Rattle.ps_problem.specs.Built.{Built, name_at};
+ghost use Rattle.ps_problem.specs.Builds.{IsExcess, IsRefusal, IsBuilt, bound_on, sentence_on, Stating, Asking};
+
+use crate::building::Building;
+use crate::entry::Entry;
+use crate::fault::Fault;
+use crate::names::Names;
+use crate::{Bound, BuildError, Draft, Problem, Queries, Query, Sentence, Sentences, Side};
+use ps_io::{List, NoMemory};
+use std::alloc::Global;
+
+// The number of bounds of a sentence with this upper value.
+fn count(upper: Option<(u32, u32)>) -> usize
+    ensures count { result ≡ (if is_some upper then 2 else 1) }
+    ensures few { result ≤ 2 }
+{
+    match upper {
+        Some(_) => 2,
+        None => 1,
+    }
+}
+
+// The bound on a query's formula.
+fn bound(query: Query, side: Side, num: u32, den: u32) -> Bound
+    ensures { result ≡ bound_on query side num den }
+{
+    Bound {
+        formula: query.formula,
+        given: query.given,
+        both: query.both,
+        side,
+        num,
+        den,
+    }
+}
+
+// The sentence on a query's formula.
+fn sentence(query: Query, side: Side, num: u32, den: u32, upper: Option<(u32, u32)>) -> Sentence
+    ensures { result ≡ sentence_on query side num den upper }
+{
+    let first = bound(query, side, num, den);
+    match upper {
+        Some((num, den)) => Sentence {
+            first,
+            second: Some(bound(query, Side::AtMost, num, den)),
+        },
+        None => Sentence {
+            first,
+            second: None,
+        },
+    }
+}
+
+// Puts a sentence's bounds behind those before them.
+fn push_bounds(bounds: &mut List<Bound>, sentence: Sentence) -> Result<(), NoMemory>
+    ensures { OnOk result (bounds.new ≡ bounds.old ++ bounds_in (sentence ∷ [])) }
+{
+    bounds.push(sentence.first)?;
+    match sentence.second {
+        Some(second) => bounds.push(second),
+        None => Ok(()),
+    }
+}
+
+// Names by number.
+fn copies(alloc: Global, names: &Names, numbers: &[u32]) -> Result<List<Vec<u8>>, NoMemory>
+    requires { All (λ n. n < length names.now) numbers.now }
+    ensures { IfOk result (λ r. map (λ v. v.items) r ≡ map (name_at names.now) numbers.now) }
+{
+    let mut texts = List::new(alloc);
+    for number in numbers {
+        let text = names.text(*number).to_vec(alloc)?;
+        texts.push(text)?;
+    }
+    Ok(texts)
+}
+
+// The parts of a problem as far as they are made.
+#[derive(Drop)]
+struct Assembly {
+    building: Building,
+    sentences: Sentences,
+    bounds: List<Bound>,
+    queries: Queries,
+}
+
+impl Assembly {
+    // Makes the sentence of an item that is one.
+    fn sentence(&mut self, alloc: Global, draft: &Draft, i: u32) -> Result<(), Fault>
+        requires item { i < length draft.now.items }
+        requires before { Stating draft.now.names draft.now.items i self.old.building.atoms self.old.building.formulas self.old.sentences self.old.bounds self.old.queries }
+        ensures ok { OnOk result (Stating draft.now.names draft.now.items (i + 1) self.new.building.atoms self.new.building.formulas self.new.sentences self.new.bounds self.new.queries) }
+        ensures err { IfErr result (IsExcess draft.now.items (i + 1)) }
+    {
+        let (formula, given, side, num, den, upper) = match draft.entry(i) {
+            Entry::Sentence(formula, given, side, num, den, upper) => (
+                formula, given, side, num, den, upper,
+            ),
+            Entry::Query(_, _) => return Ok(()),
+        };
+        if self.bounds.len() > 100 - count(upper) {
+            return Err(Fault::Bounds);
+        }
+        let query = match self.building.query(alloc, draft, formula, given) {
+            Ok(query) => query,
+            Err(fault) => return Err(fault),
+        };
+        let made = sentence(query, side, num, den, upper);
+        if push_bounds(&mut self.bounds, made).is_err() {
+            return Err(Fault::NoMemory);
+        }
+        match self.sentences.push(made) {
+            Ok(()) => Ok(()),
+            Err(_) => Err(Fault::NoMemory),
+        }
+    }
+
+    // Makes the query of an item that is one.
+    fn query(&mut self, alloc: Global, draft: &Draft, i: u32) -> Result<(), Fault>
+        requires item { i < length draft.now.items }
+        requires before { Asking draft.now.names draft.now.items i self.old.building.atoms self.old.building.formulas self.old.sentences self.old.bounds self.old.queries }
+        ensures ok { OnOk result (Asking draft.now.names draft.now.items (i + 1) self.new.building.atoms self.new.building.formulas self.new.sentences self.new.bounds self.new.queries) }
+        ensures err { IfErr result (IsExcess draft.now.items (i + 1)) }
+    {
+        let (formula, given) = match draft.entry(i) {
+            Entry::Query(formula, given) => (formula, given),
+            Entry::Sentence(_, _, _, _, _, _) => return Ok(()),
+        };
+        if self.queries.len() >= 16 {
+            return Err(Fault::Queries);
+        }
+        let query = match self.building.query(alloc, draft, formula, given) {
+            Ok(query) => query,
+            Err(fault) => return Err(fault),
+        };
+        match self.queries.push(query) {
+            Ok(()) => Ok(()),
+            Err(_) => Err(Fault::NoMemory),
+        }
+    }
+
+    // Makes the sentences of all items.
+    fn sentences(&mut self, alloc: Global, draft: &Draft) -> Result<(), BuildError>
+        requires { Stating draft.now.names draft.now.items 0 self.old.building.atoms self.old.building.formulas self.old.sentences self.old.bounds self.old.queries }
+        ensures ok { OnOk result (Stating draft.now.names draft.now.items (length draft.now.items) self.new.building.atoms self.new.building.formulas self.new.sentences self.new.bounds self.new.queries) }
+        ensures err { IfErr result (IsRefusal draft.now.items) }
+    {
+        for i in 0..draft.len() {
+            if let Err(fault) = self.sentence(alloc, draft, i) {
+                return Err(BuildError::at(fault, i + 1));
+            }
+        }
+        Ok(())
+    }
+
+    // Makes the queries of all items.
+    fn queries(&mut self, alloc: Global, draft: &Draft) -> Result<(), BuildError>
+        requires { Asking draft.now.names draft.now.items 0 self.old.building.atoms self.old.building.formulas self.old.sentences self.old.bounds self.old.queries }
+        ensures ok { OnOk result (Asking draft.now.names draft.now.items (length draft.now.items) self.new.building.atoms self.new.building.formulas self.new.sentences self.new.bounds self.new.queries) }
+        ensures err { IfErr result (IsRefusal draft.now.items) }
+    {
+        for i in 0..draft.len() {
+            if let Err(fault) = self.query(alloc, draft, i) {
+                return Err(BuildError::at(fault, i + 1));
+            }
+        }
+        Ok(())
+    }
+}
+
+/// The problem of a draft's items: formulas and atoms are numbered in the order in which they first come, those
+/// of all sentences before those of the queries.
+pub fn build(alloc: Global, draft: &Draft) -> Result<Problem, BuildError>
+    ensures { IsBuilt draft.now.items result }
+{
+    let names = draft.names();
+    let mut assembly = Assembly {
+        building: Building::new(alloc),
+        sentences: List::new(alloc),
+        bounds: List::new(alloc),
+        queries: List::new(alloc),
+    };
+    if let Err(error) = assembly.sentences(alloc, draft) {
+        return Err(error);
+    }
+    if let Err(error) = assembly.queries(alloc, draft) {
+        return Err(error);
+    }
+    let texts = match copies(alloc, names, assembly.building.atoms.as_slice()) {
+        Ok(texts) => texts,
+        Err(_) => return Err(BuildError::NoMemory),
+    };
+    let building = assembly.building;
+    Ok(Problem::of(
+        texts,
+        building.formulas,
+        assembly.sentences,
+        assembly.bounds,
+        assembly.queries,
+    ))
+}
