@@ -1,6 +1,8 @@
 //! Standard output as a sink.
-ghost use Rattle.std.specs.Prelude.{None, length, ◌<◌, IfOk};
+ghost use Rattle.std.specs.Prelude.{None, length, ◌≡◌, ◌<◌, IfOk, OnOk, OnErr};
 ghost use Rattle.std.specs.Io.{WritesAtMost};
+ghost use Rattle.ps_io.specs.Causes.{HasCause, next_count};
+ghost use Rattle.ps_io.specs.Standard.{write_faults};
 
 use crate::{Sink, WriteFault};
 use std::io;
@@ -14,8 +16,10 @@ pub struct StdSink<W = Stdout> {
 }
 
 impl<W: Write> StdSink<W> {
-    /// A sink over a writer.
-    pub fn new(writer: W) -> StdSink<W> {
+    /// A sink over a writer. No write has failed yet.
+    pub fn new(writer: W) -> StdSink<W>
+        ensures { write_faults result ≡ 0 }
+    {
         StdSink { writer, faults: 0 }
     }
 }
@@ -25,7 +29,15 @@ impl<W: Write> Sink for StdSink<W> {
 
     ghost faults = { λ s. s.faults };
 
-    fn write(&mut self, buf: &[u8]) -> Result<usize, WriteFault> {
+    fn write(&mut self, buf: &[u8]) -> Result<usize, WriteFault>
+        ensures bound { WritesAtMost result buf.now }
+        ensures some { IfOk result (λ n. 0 < length buf.now → 0 < n) }
+        ensures cause { HasCause (write_faults self.old) (write_faults self.new) result }
+
+        // The count is raised exactly at an error.
+        ensures ok { OnOk result (write_faults self.new ≡ write_faults self.old) }
+        ensures err { OnErr result (write_faults self.new ≡ next_count (write_faults self.old)) }
+    {
         match write_through(&mut self.writer, buf) {
             Ok(n) => Ok(n),
             Err(_) => {

@@ -1,5 +1,8 @@
 //! Standard input as a source.
-ghost use Rattle.std.specs.Prelude.{None};
+ghost use Rattle.std.specs.Prelude.{None, ◌≡◌, OnOk, OnErr};
+ghost use Rattle.std.specs.Io.{ReadsAtMost};
+ghost use Rattle.ps_io.specs.Causes.{HasCause, next_count};
+ghost use Rattle.ps_io.specs.Standard.{read_faults};
 
 use crate::{ReadFault, Source};
 use std::io::{Read, Stdin};
@@ -12,8 +15,10 @@ pub struct StdSource<R = Stdin> {
 }
 
 impl<R: Read> StdSource<R> {
-    /// A source over a reader.
-    pub fn new(reader: R) -> StdSource<R> {
+    /// A source over a reader. No read has failed yet.
+    pub fn new(reader: R) -> StdSource<R>
+        ensures { read_faults result ≡ 0 }
+    {
         StdSource { reader, faults: 0 }
     }
 }
@@ -23,7 +28,14 @@ impl<R: Read> Source for StdSource<R> {
 
     ghost faults = { λ s. s.faults };
 
-    fn read(&mut self, buf: &mut [u8]) -> Result<usize, ReadFault> {
+    fn read(&mut self, buf: &mut [u8]) -> Result<usize, ReadFault>
+        ensures bound { ReadsAtMost result buf.new }
+        ensures cause { HasCause (read_faults self.old) (read_faults self.new) result }
+
+        // The count is raised exactly at an error.
+        ensures ok { OnOk result (read_faults self.new ≡ read_faults self.old) }
+        ensures err { OnErr result (read_faults self.new ≡ next_count (read_faults self.old)) }
+    {
         match self.reader.read(buf) {
             Ok(n) => Ok(n),
             Err(_) => {

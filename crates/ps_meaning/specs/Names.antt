@@ -1,6 +1,6 @@
 -- Which words are names of atoms.
-use Rattle.std.specs.Prelude.{◌≤◌, ℕ, Bool, true, false, ◌&&◌, ◌||◌, nat_le, ◌==◌, List, [], ◌∷◌, length, IsTrue, IsFalse}
-use Rattle.std.specs.List.{list_all, list_any}
+use Rattle.std.specs.Prelude.{◌≡◌, ◌≤◌, ℕ, Bool, false, ◌&&◌, ◌||◌, nat_le, ◌==◌, List, [], ◌∷◌, length, IsTrue}
+use Rattle.std.specs.List.{list_all}
 use Rattle.std.specs.Str.{bytes_eq}
 use lib.Chars.{codes}
 
@@ -22,11 +22,12 @@ is_word [] = false
 is_word (b ∷ bs) = is_letter b && list_all is_word_byte bs
 
 -- the words that the language keeps for itself
-abbrev pub reserved_words : List (List ℕ)
-reserved_words = codes "psat" ∷ codes "P" ∷ codes "given" ∷ codes "in" ∷ codes "query" ∷ codes "end" ∷ codes "true" ∷ codes "false" ∷ []
+abbrev pub is_reserved : List ℕ → Bool
+is_reserved w = bytes_eq w (codes "psat") || bytes_eq w (codes "P") || bytes_eq w (codes "given") || bytes_eq w (codes "in")
+    || bytes_eq w (codes "query") || bytes_eq w (codes "end") || bytes_eq w (codes "true") || bytes_eq w (codes "false")
 
 -- the name of an atom: a word of at most 32 bytes that isn't reserved
 pub record IsName (text : List ℕ) : Type 0 where
   pub word : IsTrue (is_word text)
   pub short : length text ≤ 32
-  pub free : IsFalse (list_any (bytes_eq text) reserved_words)
+  pub free : is_reserved text ≡ false

@@ -1,0 +1,12 @@
+-- What contracts see of standard input and output.
+use Rattle.std.specs.Prelude.{ℕ}
+use Rattle.ps_io.specs.declared.std_source.StdSource.{StdSource}
+use Rattle.ps_io.specs.declared.std_sink.StdSink.{StdSink}
+
+-- how often a read has failed
+abbrev pub read_faults : {R : Type 0} → StdSource R → ℕ
+read_faults source = source.faults
+
+-- how often a write has failed
+abbrev pub write_faults : {W : Type 0} → StdSink W → ℕ
+write_faults sink = sink.faults

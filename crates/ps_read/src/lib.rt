@@ -1,0 +1,15 @@
+//! Reads problem texts.
+#![tactic(auto)]
+
+mod error;
+mod first;
+mod number;
+mod sentence;
+mod text;
+
+pub use error::ReadError;
+pub use first::read_first;
+pub use sentence::FirstSentence;
+
+#[cfg(test)]
+mod tests;

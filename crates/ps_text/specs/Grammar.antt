@@ -1,0 +1,136 @@
+-- What tokens derive. A derivation is plain data, and its tokens are a function of it.
+use Rattle.std.specs.Prelude.{◌≡◌, ℕ, ◌+◌, ◌-◌, ◌*◌, ◌^◌, ◌<◌, ◌≤◌, false, List, [], ◌∷◌, ◌++◌, length, Option, Some, None, codes}
+pub use Rattle.ps_meaning.specs.Names.{is_reserved}
+use Rattle.ps_text.specs.Tokens.{Token, Word, Number, Sign, Numeral, Whole, Quotient, Decimal, Open, Close, OpenBracket, CloseBracket, Comma, Semicolon, Bang, Ampersand, Bar, Arrow, DoubleArrow, Equals, GreaterEquals, LessEquals}
+
+-- how a formula is written
+pub data Form : Type 0 where
+  Name : (letters : List ℕ) → Form
+  Truth Falsity : Form
+  Not : (operand : Form) → Form
+  Group : (inner : Form) → Form
+  And Or Implies Iff : (left right : Form) → Form
+
+abbrev pub spelled : Form → List Token
+spelled (Name w) = Word w ∷ []
+spelled Truth = Word (codes "true") ∷ []
+spelled Falsity = Word (codes "false") ∷ []
+spelled (Not f) = Sign Bang ∷ spelled f
+spelled (Group f) = Sign Open ∷ spelled f ++ Sign Close ∷ []
+spelled (And f g) = spelled f ++ Sign Ampersand ∷ spelled g
+spelled (Or f g) = spelled f ++ Sign Bar ∷ spelled g
+spelled (Implies f g) = spelled f ++ Sign Arrow ∷ spelled g
+spelled (Iff f g) = spelled f ++ Sign DoubleArrow ∷ spelled g
+
+-- how tightly what is written binds
+abbrev pub level : Form → ℕ
+level (Iff f g) = 1
+level (Implies f g) = 2
+level (Or f g) = 3
+level (And f g) = 4
+level f = 5
+
+-- names are names, and each operand binds tightly enough: `<->`, `|` and `&` group to the left, `->` to the right
+abbrev pub IsForm : Form → Type 0
+IsForm (Name w) = (is_reserved w ≡ false) × (length w ≤ 32)
+IsForm Truth = Unit {0}
+IsForm Falsity = Unit {0}
+IsForm (Not f) = (5 ≤ level f) × IsForm f
+IsForm (Group f) = IsForm f
+IsForm (And f g) = (4 ≤ level f) × (5 ≤ level g) × IsForm f × IsForm g
+IsForm (Or f g) = (3 ≤ level f) × (4 ≤ level g) × IsForm f × IsForm g
+IsForm (Implies f g) = (3 ≤ level f) × (2 ≤ level g) × IsForm f × IsForm g
+IsForm (Iff f g) = (1 ≤ level f) × (2 ≤ level g) × IsForm f × IsForm g
+
+-- where n are open before, no more than 100 of `!`, `(` and `->` are ever open:
+-- a `!` during its operand, a `(` up to its `)`, a `->` during its right side
+abbrev pub Nests : ℕ → Form → Type 0
+Nests n (Name w) = Unit {0}
+Nests n Truth = Unit {0}
+Nests n Falsity = Unit {0}
+Nests n (Not f) = (n < 100) × Nests (n + 1) f
+Nests n (Group f) = (n < 100) × Nests (n + 1) f
+Nests n (And f g) = Nests n f × Nests n g
+Nests n (Or f g) = Nests n f × Nests n g
+Nests n (Implies f g) = Nests n f × (n < 100) × Nests (n + 1) g
+Nests n (Iff f g) = Nests n f × Nests n g
+
+-- the probability of a formula, perhaps given a condition
+pub record Prob : Type 0 where
+  pub form : Form
+  pub given : Option Form
+
+-- how a probability is bounded
+pub data Relation : Type 0 where
+  Exactly AtLeast AtMost : (value : Numeral) → Relation
+  Within : (least most : Numeral) → Relation
+
+-- a sentence or a query
+pub data Entry : Type 0 where
+  Sentence : (prob : Prob) (relation : Relation) → Entry
+  Query : (prob : Prob) → Entry
+
+abbrev pub given_tokens : Option Form → List Token
+given_tokens None = []
+given_tokens (Some f) = Word (codes "given") ∷ spelled f
+
+abbrev pub prob_tokens : Prob → List Token
+prob_tokens p = Word (codes "P") ∷ Sign Open ∷ spelled p.form ++ given_tokens p.given ++ Sign Close ∷ []
+
+abbrev pub relation_tokens : Relation → List Token
+relation_tokens (Exactly x) = Sign Equals ∷ Number x ∷ []
+relation_tokens (AtLeast x) = Sign GreaterEquals ∷ Number x ∷ []
+relation_tokens (AtMost x) = Sign LessEquals ∷ Number x ∷ []
+relation_tokens (Within x y) = Word (codes "in") ∷ Sign OpenBracket ∷ Number x ∷ Sign Comma ∷ Number y ∷ Sign CloseBracket ∷ []
+
+abbrev pub entry_tokens : Entry → List Token
+entry_tokens (Sentence p r) = prob_tokens p ++ relation_tokens r ++ Sign Semicolon ∷ []
+entry_tokens (Query p) = Word (codes "query") ∷ prob_tokens p ++ Sign Semicolon ∷ []
+
+abbrev pub entries_tokens : List Entry → List Token
+entries_tokens [] = []
+entries_tokens (e ∷ es) = entry_tokens e ++ entries_tokens es
+
+-- the tokens of a text: the version is the number that is spelled `1`
+abbrev pub text_tokens : List Entry → List Token
+text_tokens es = Word (codes "psat") ∷ Number (Whole (codes "1")) ∷ Sign Semicolon ∷ entries_tokens es ++ Word (codes "end") ∷ Sign Semicolon ∷ []
+
+-- the number that digits spell after those that spell n
+abbrev pub value_from : ℕ → List ℕ → ℕ
+value_from n [] = n
+value_from n (d ∷ ds) = value_from (10 * n + (d - 48)) ds
+
+-- the number that digits spell
+abbrev pub value : List ℕ → ℕ
+value ds = value_from 0 ds
+
+-- the value is at most 1, the denominator from 1 to 1,000,000, and there are at most 6 decimals
+abbrev pub IsProbability : Numeral → Type 0
+IsProbability (Whole ds) = value ds ≤ 1
+IsProbability (Quotient ds es) = (0 < value es) × (value es ≤ 1000000) × (value ds ≤ value es)
+IsProbability (Decimal ds es) = (length es ≤ 6) × (value (ds ++ es) ≤ 10 ^ length es)
+
+abbrev pub IsGiven : Option Form → Type 0
+IsGiven None = Unit {0}
+IsGiven (Some f) = IsForm f × Nests 0 f
+
+-- the nestings of a formula and of its condition are counted apart
+pub record IsProb (p : Prob) : Type 0 where
+  pub form : IsForm p.form
+  pub nests : Nests 0 p.form
+  pub given : IsGiven p.given
+
+abbrev pub IsRelation : Relation → Type 0
+IsRelation (Exactly x) = IsProbability x
+IsRelation (AtLeast x) = IsProbability x
+IsRelation (AtMost x) = IsProbability x
+IsRelation (Within x y) = IsProbability x × IsProbability y
+
+-- within the grammar's levels and limits
+abbrev pub IsEntry : Entry → Type 0
+IsEntry (Sentence p r) = IsProb p × IsRelation r
+IsEntry (Query p) = IsProb p
+
+abbrev pub AreEntries : List Entry → Type 0
+AreEntries [] = Unit {0}
+AreEntries (e ∷ es) = IsEntry e × AreEntries es

@@ -1,0 +1,73 @@
+-- What a derivation states or asks.
+use Rattle.std.specs.Prelude.{◌≡◌, ℕ, ◌*◌, ◌^◌, List, [], ◌∷◌, ◌++◌, length, Option, Some, None}
+use Rattle.std.specs.Int.{IsGcd}
+use Rattle.ps_meaning.specs.Formula as formula
+use Rattle.ps_meaning.specs.Bounds as side
+use Rattle.ps_meaning.specs.Statements as meaning
+use Rattle.ps_meaning.specs.Statements.{Ratio, Statement, Question, Item, Stated, Asked}
+use Rattle.ps_text.specs.Tokens.{Numeral, Whole, Quotient, Decimal}
+use Rattle.ps_text.specs.Grammar.{Form, Name, Truth, Falsity, Not, Group, And, Or, Implies, Iff, Prob, Relation, Exactly, AtLeast, AtMost, Within, Entry, Sentence, Query, value}
+
+-- the formula, without its parentheses
+abbrev pub formula_of : Form → formula.Formula meaning.Name
+formula_of (Name w) = formula.Atom w
+formula_of Truth = formula.Truth
+formula_of Falsity = formula.Falsity
+formula_of (Not f) = formula.Not (formula_of f)
+formula_of (Group f) = formula_of f
+formula_of (And f g) = formula.And (formula_of f) (formula_of g)
+formula_of (Or f g) = formula.Or (formula_of f) (formula_of g)
+formula_of (Implies f g) = formula.Implies (formula_of f) (formula_of g)
+formula_of (Iff f g) = formula.Iff (formula_of f) (formula_of g)
+
+abbrev pub given_of : Option Form → Option (formula.Formula meaning.Name)
+given_of None = None
+given_of (Some f) = Some (formula_of f)
+
+-- the fraction as it is spelled
+abbrev pub ratio_of : Numeral → Ratio
+ratio_of (Whole ds) = record { num = value ds; den = 1 }
+ratio_of (Quotient ds es) = record { num = value ds; den = value es }
+ratio_of (Decimal ds es) = record { num = value (ds ++ es); den = 10 ^ length es }
+
+-- the second fraction is the first in lowest terms: both its numbers divided by their greatest common divisor
+pub record IsLowest (q r : Ratio) : Type 0 where
+  pub divisor : ℕ
+  pub greatest : IsGcd q.num q.den divisor
+  pub num : q.num ≡ r.num * divisor
+  pub den : q.den ≡ r.den * divisor
+
+-- the second fraction is the numeral's value
+abbrev pub IsValue : Numeral → Ratio → Type 0
+IsValue x r = IsLowest (ratio_of x) r
+
+-- a side, a value and perhaps an upper value are what the relation states
+abbrev pub States : Relation → side.Side → Ratio → Option Ratio → Type 0
+States (Exactly x) s r upper = (s ≡ side.Exactly) × IsValue x r × (upper ≡ None)
+States (AtLeast x) s r upper = (s ≡ side.AtLeast) × IsValue x r × (upper ≡ None)
+States (AtMost x) s r upper = (s ≡ side.AtMost) × IsValue x r × (upper ≡ None)
+States (Within x y) s r None = ⊥
+States (Within x y) s r (Some q) = (s ≡ side.AtLeast) × IsValue x r × IsValue y q
+
+-- the statement is what the sentence states
+pub record IsStatement (p : Prob) (r : Relation) (s : Statement) : Type 0 where
+  pub formula : s.formula ≡ formula_of p.form
+  pub given : s.given ≡ given_of p.given
+  pub stated : States r s.side s.value s.upper
+
+abbrev pub question_of : Prob → Question
+question_of p = record { formula = formula_of p.form; given = given_of p.given }
+
+-- the item is what the entry means
+abbrev pub IsItem : Entry → Item → Type 0
+IsItem (Sentence p r) (Stated s) = IsStatement p r s
+IsItem (Query p) (Asked q) = q ≡ question_of p
+IsItem (Sentence p r) (Asked q) = ⊥
+IsItem (Query p) (Stated s) = ⊥
+
+-- the items are what the entries mean, in order
+abbrev pub AreItems : List Entry → List Item → Type 0
+AreItems [] [] = Unit {0}
+AreItems (e ∷ es) (i ∷ is) = IsItem e i × AreItems es is
+AreItems [] (i ∷ is) = ⊥
+AreItems (e ∷ es) [] = ⊥

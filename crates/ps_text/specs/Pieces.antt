@@ -1,0 +1,51 @@
+-- Bytes as pieces: blanks, comments and tokens.
+use Rattle.std.specs.Prelude.{◌≡◌, ℕ, Bool, not, ◌||◌, ◌==◌, List, [], ◌∷◌, ◌++◌, IsTrue}
+use Rattle.std.specs.List.{AllByRecursion}
+use Rattle.ps_text.specs.Tokens.{Version, Token, IsToken, IsLongest, spelling}
+
+-- a space, a tab, a line feed or a carriage return
+abbrev pub is_blank : ℕ → Bool
+is_blank b = b == 32 || b == 9 || b == 10 || b == 13
+
+-- a blank byte, a comment by its bytes after the `#`, or a token
+pub data Piece : Type 0 where
+  Blank : (byte : ℕ) → Piece
+  Comment : (bytes : List ℕ) → Piece
+  Spelled : (token : Token) → Piece
+
+abbrev pub text : Piece → List ℕ
+text (Blank b) = b ∷ []
+text (Comment c) = 35 ∷ c
+text (Spelled t) = spelling t
+
+-- the end of the bytes, or of a line
+abbrev pub EndsLine : List ℕ → Type 0
+EndsLine [] = Unit {0}
+EndsLine (b ∷ bs) = b ≡ 10
+
+-- the piece may stand before these bytes: a comment goes up to the next line feed, a token is the longest
+abbrev pub Fits : Version → Piece → List ℕ → Type 0
+Fits v (Blank b) after = IsTrue (is_blank b)
+Fits v (Comment c) after = AllByRecursion (λ b. IsTrue (not (b == 10))) c × EndsLine after
+Fits v (Spelled t) after = IsToken v t × IsLongest v t after
+
+-- the bytes of pieces
+abbrev pub texts : List Piece → List ℕ
+texts [] = []
+texts (p ∷ ps) = text p ++ texts ps
+
+-- each of the pieces may stand where it does, before these bytes
+abbrev pub Cuts : Version → List Piece → List ℕ → Type 0
+Cuts v [] rest = Unit {0}
+Cuts v (p ∷ ps) rest = Fits v p (texts ps ++ rest) × Cuts v ps rest
+
+-- the tokens among the pieces
+abbrev pub tokens : List Piece → List Token
+tokens [] = []
+tokens (Spelled t ∷ ps) = t ∷ tokens ps
+tokens (p ∷ ps) = tokens ps
+
+-- no blank and no comment stands at the front
+abbrev pub IsBare : List ℕ → Type 0
+IsBare [] = Unit {0}
+IsBare (b ∷ bs) = IsTrue (not (is_blank b || b == 35))

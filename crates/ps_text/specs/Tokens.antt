@@ -1,0 +1,82 @@
+-- Tokens, and the bytes that spell them.
+use Rattle.std.specs.Prelude.{◌≡◌, ℕ, ◌≤◌, Bool, true, List, [], ◌∷◌, ◌++◌, length, IsTrue, codes}
+use Rattle.std.specs.List.{AllByRecursion}
+pub use Rattle.ps_meaning.specs.Names.{is_letter, is_digit, is_word_byte}
+
+-- a version of the text
+pub data Version : Type 0 where
+  One : Version
+
+-- a number as it is spelled: digits, digits over digits, or digits and decimals
+pub data Numeral : Type 0 where
+  Whole : (digits : List ℕ) → Numeral
+  Quotient : (digits below : List ℕ) → Numeral
+  Decimal : (digits decimals : List ℕ) → Numeral
+
+pub data Symbol : Type 0 where
+  Open Close OpenBracket CloseBracket Comma Semicolon : Symbol
+  Bang Ampersand Bar Arrow DoubleArrow Equals GreaterEquals LessEquals : Symbol
+
+pub data Token : Type 0 where
+  Word : (letters : List ℕ) → Token
+  Number : (numeral : Numeral) → Token
+  Sign : (symbol : Symbol) → Token
+
+-- one digit or more
+abbrev pub AreDigits : List ℕ → Type 0
+AreDigits [] = ⊥
+AreDigits (d ∷ ds) = IsTrue (is_digit d) × AllByRecursion (λ b. IsTrue (is_digit b)) ds
+
+-- a letter, and then bytes of words
+abbrev pub IsWord : List ℕ → Type 0
+IsWord [] = ⊥
+IsWord (b ∷ bs) = IsTrue (is_letter b) × AllByRecursion (λ c. IsTrue (is_word_byte c)) bs
+
+abbrev pub IsNumeral : Numeral → Type 0
+IsNumeral (Whole ds) = AreDigits ds
+IsNumeral (Quotient ds es) = AreDigits ds × AreDigits es
+IsNumeral (Decimal ds es) = AreDigits ds × AreDigits es
+
+-- the version has this symbol
+abbrev pub has_symbol : Version → Symbol → Bool
+has_symbol One s = true
+
+-- a token of the version
+abbrev pub IsToken : Version → Token → Type 0
+IsToken v (Word w) = IsWord w
+IsToken v (Number n) = IsNumeral n
+IsToken v (Sign s) = IsTrue (has_symbol v s)
+
+abbrev pub numeral_spelling : Numeral → List ℕ
+numeral_spelling (Whole ds) = ds
+numeral_spelling (Quotient ds es) = ds ++ 47 ∷ es
+numeral_spelling (Decimal ds es) = ds ++ 46 ∷ es
+
+abbrev pub symbol_spelling : Symbol → List ℕ
+symbol_spelling Open = codes "("
+symbol_spelling Close = codes ")"
+symbol_spelling OpenBracket = codes "["
+symbol_spelling CloseBracket = codes "]"
+symbol_spelling Comma = codes ","
+symbol_spelling Semicolon = codes ";"
+symbol_spelling Bang = codes "!"
+symbol_spelling Ampersand = codes "&"
+symbol_spelling Bar = codes "|"
+symbol_spelling Arrow = codes "->"
+symbol_spelling DoubleArrow = codes "<->"
+symbol_spelling Equals = codes "="
+symbol_spelling GreaterEquals = codes ">="
+symbol_spelling LessEquals = codes "<="
+
+abbrev pub spelling : Token → List ℕ
+spelling (Word w) = w
+spelling (Number n) = numeral_spelling n
+spelling (Sign s) = symbol_spelling s
+
+-- no longer token of the version stands where this one does, before these bytes
+unfoldable pub IsLongest : Version → Token → List ℕ → Type 0
+IsLongest v t after = (u : Token) (more : List ℕ) → IsToken v u → spelling u ++ more ≡ spelling t ++ after → length (spelling u) ≤ length (spelling t)
+
+-- no token of the version stands at the front
+unfoldable pub BeginsNone : Version → List ℕ → Type 0
+BeginsNone v bytes = (u : Token) (more : List ℕ) → IsToken v u → bytes ≡ spelling u ++ more → ⊥

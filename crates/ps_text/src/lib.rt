@@ -1,0 +1,2 @@
+//! The problem text: its tokens, its grammar, and what it states and asks.
+#![tactic(auto)]
