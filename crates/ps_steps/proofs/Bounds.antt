@@ -183,3 +183,7 @@ constraint_of-normal ts least h =
 pub each_once-size : (ls : List ℤ) → size_sum (each_once ls) ≡ length ls
 each_once-size [] = refl
 each_once-size (l ∷ ls) = omega (arith, each_once-size ls)
+
+pub each_once-length : (ls : List ℤ) → length (each_once ls) ≡ length ls
+each_once-length [] = refl
+each_once-length (l ∷ ls) = omega (arith, each_once-length ls)

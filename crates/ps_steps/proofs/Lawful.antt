@@ -7,7 +7,7 @@ use Rattle.std.proofs.lemmas.Bool.{cases_Bool}
 use Rattle.ps_steps.specs.Assignments.{Assignment, place, value_of, is_unset, holds, all_unset}
 use Rattle.ps_steps.specs.Constraints.{Constraint, IsMet, slack, is_violated, some_forced}
 use Rattle.ps_steps.specs.Weights.{true_weight, each_once, clause_of}
-use Rattle.ps_steps.specs.Steps.{Known, constraint_at, next_id, Step, lits_of, Refusal, IdNotNext, Propagation, Open, Conflict, Refused, at_constraint, after_hint, after_hints, and_false, all_false, end_of, from_start, IsLawful, added, with_step, is_contradiction, AreMet, AreLawful, ends_in_contradiction, Refutes}
+use Rattle.ps_steps.specs.Steps.{Known, constraint_at, next_id, Step, lits_of, Refusal, IdNotNext, Propagation, Open, Conflict, Refused, at_constraint, after_hint, after_hints, and_false, all_false, end_of, from_start, IsLawful, added, with_step, is_contradiction, AreMet, AreLawful, ends_in_contradiction, Refutes, Entails}
 use Rattle.ps_steps.proofs.Values.{Agrees, includes-refl, with_false-agrees}
 use Rattle.ps_steps.proofs.Forcing.{met-not_violated, with_forced-agrees, among-refl}
 use Rattle.ps_steps.proofs.Linear.{met-weight, weight-met}
@@ -138,6 +138,9 @@ refuted w variables known (s ∷ t ∷ ss) l e m = refuted w variables (with_ste
 -- no full assignment meets what is refuted
 pub refutes-unmet : (w : List Bool) (variables : ℕ) (known : Known) (steps : List Step) → Refutes variables known steps → AreMet w known → ⊥
 refutes-unmet w variables known steps r m = refuted w variables known steps r.lawful r.contradiction m
+
+pub lawful-entails : (variables : ℕ) (known : Known) (s : Step) → IsLawful variables known s → Entails known (with_step known s)
+lawful-entails variables known s l = record { met = λ w m. met-more w known s (lawful-met w variables known s m l) m }
 
 -- a clause is met exactly where one of its literals is true
 any_weight : (w : List Bool) (ls : List ℤ) → list_any (holds w) ls ≡ true → pos 1 ≤ℤ true_weight w (each_once ls)

@@ -10,6 +10,10 @@ abbrev pub is_positive : ℤ → Bool
 is_positive (pos n) = true
 is_positive (negsuc n) = false
 
+-- the literal of the variable at a place
+abbrev pub literal_at : ℕ → Bool → ℤ
+literal_at p positive = cond positive (pos (suc p)) (negsuc p)
+
 -- whether two truth values are the same
 abbrev pub agree : Bool → Bool → Bool
 agree a b = cond a b (not b)

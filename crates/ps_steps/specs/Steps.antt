@@ -118,3 +118,7 @@ pub record Refutes (variables : ℕ) (known : Known) (steps : List Step) : Type 
 -- a full assignment meets each known constraint
 pub record AreMet (w : List Bool) (known : Known) : Type 0 where
   pub at : (id : ℕ) (c : Constraint) → constraint_at known id ≡ Some c → IsMet w c
+
+-- each full assignment that meets the first constraints meets the others
+pub record Entails (known later : Known) : Type 0 where
+  pub met : (w : List Bool) → AreMet w known → AreMet w later

@@ -82,8 +82,11 @@ abbrev pub weighted : List (ℤ × ℕ) → Weighted
 weighted ts = map (λ t. (t.0, pos t.1)) ts
 
 -- weighted literals as terms
+abbrev pub term_of : (ℤ × ℤ) → ℤ × ℕ
+term_of t = (t.0, unsigned_abs t.1)
+
 abbrev pub terms_of : Weighted → List (ℤ × ℕ)
-terms_of ts = map (λ t. (t.0, unsigned_abs t.1)) ts
+terms_of ts = map term_of ts
 
 -- the variables rise, each of them above this number
 abbrev pub are_rising : ℕ → Weighted → Bool

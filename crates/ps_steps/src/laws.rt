@@ -4,13 +4,13 @@ ghost use Rattle.std.specs.List.{list_any};
 ghost use Rattle.ps_steps.specs.Assignments.{holds};
 ghost use Rattle.ps_steps.specs.Constraints.{IsMet};
 ghost use Rattle.ps_steps.specs.Weights.{Weighted, true_weight, each_once, constraint_of, clause_of};
-ghost use Rattle.ps_steps.specs.Steps.{Known, Step, AreMet, IsLawful, Refutes, added, with_step, is_contradiction};
+ghost use Rattle.ps_steps.specs.Steps.{Known, Step, AreMet, IsLawful, Refutes, Entails, added, with_step, is_contradiction};
 
 /// A full assignment that meets the known constraints meets what each lawful step adds. Nothing meets what a contradiction
 /// adds, so after a lawful contradiction no full assignment meets the known constraints.
 pub fn lawful_steps_follow()
     ensures step { (w : List Bool) (variables : ℕ) (known : Known) (s : Step) → AreMet w known → IsLawful variables known s → IsMet w (added s) }
-    ensures stays { (w : List Bool) (variables : ℕ) (known : Known) (s : Step) → AreMet w known → IsLawful variables known s → AreMet w (with_step known s) }
+    ensures entailed { (variables : ℕ) (known : Known) (s : Step) → IsLawful variables known s → Entails known (with_step known s) }
     ensures contradiction { (w : List Bool) (s : Step) → is_contradiction s ≡ true → ¬ IsMet w (added s) }
     ensures refuted { (w : List Bool) (variables : ℕ) (known : Known) (steps : List Step) → Refutes variables known steps → ¬ AreMet w known }
 {}
