@@ -57,7 +57,7 @@ impl Checker {
         // Each full assignment that met what was known meets what is known now.
         ensures entailed { OnOk result (Entails self.old.known self.new.known) }
     {
-        judge(self.alloc, self.variables, self.known.as_slice(), s)?;
+        judge(self.alloc, self.variables, &self.known, s)?;
         let added = clause(self.alloc, s.lits.as_slice())?;
         self.known.push(added)?;
         self.refuted = s.lits.as_slice().is_empty();
@@ -77,12 +77,12 @@ impl Checker {
 fn judge(
     alloc: Global,
     variables: u32,
-    known: &[Constraint],
+    known: &List<Constraint>,
     s: &Step,
 ) -> Result<(), StepRefused>
     ensures { IsJudged (refusal_of variables (known_of known.now) s.now) result }
 {
-    if s.id != known.len() as u64 + 1 {
+    if s.id == 0 || s.id - 1 != known.len() as u64 {
         return Err(StepRefused::IdNotNext);
     }
     let mut a = Assignment::new(alloc, variables)?;

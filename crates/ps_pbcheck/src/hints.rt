@@ -5,10 +5,12 @@ ghost use Rattle.ps_pbcheck.specs.Checked.{known_of};
 ghost use Rattle.ps_pbcheck.specs.Judged.{propagation_of, IsAfter, IsEnded};
 
 use crate::refused::StepRefused;
+use ps_io::List;
 use ps_pb::{Assignment, Constraint, Effect, propagate};
 
 /// The constraint of an id, from 1 on.
-fn constraint_at(known: &[Constraint], id: u64) -> Option<&Constraint>
+#[tactic(auto, using(crate::proofs::Ids::ids))]
+fn constraint_at(known: &List<Constraint>, id: u64) -> Option<&Constraint>
     ensures { option_copied result ≡ constraint_at (known_of known.now) id }
 {
     if id == 0 {
@@ -20,7 +22,7 @@ fn constraint_at(known: &[Constraint], id: u64) -> Option<&Constraint>
 /// Goes on along one hint, and answers whether it is violated.
 #[tactic(auto, unfolding(ps_steps::specs::Steps::after_hint))]
 fn follow_hint(
-    known: &[Constraint],
+    known: &List<Constraint>,
     a: &mut Assignment,
     conflict: bool,
     hint: u64,
@@ -44,7 +46,7 @@ fn follow_hint(
 
 /// Goes along the hints up to a conflict at the last one.
 pub fn follow_hints(
-    known: &[Constraint],
+    known: &List<Constraint>,
     a: &mut Assignment,
     hints: &[u64],
 ) -> Result<(), StepRefused>
