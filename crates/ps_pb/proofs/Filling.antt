@@ -164,5 +164,5 @@ pub degree_value : (ts : Weighted) (least : ℤ) (sums : List ℤ) (constant tur
 degree_value ts least sums constant turns small a k e =
     let fits = degree_fits ts least sums turns small a e in
     let d : to_z w128 (of_z w128 (to_z w128 (of_z w128 (to_z w128 (of_z w128 least) -ℤ to_z w128 (of_z w128 constant))) +ℤ to_z w128 (of_z w128 turns))) ≡ (least -ℤ constant_of ts) +ℤ turns =
-        omega (arith, ints, fits.constant, fits.first, fits.turns_low, fits.turns_high, fits.whole, small, k) in
+    omega (arith, ints, fits.constant, fits.first, fits.turns_low, fits.turns_high, fits.whole, small, k) in
     degree_is ts least sums _ a (d ∙ ap (λ (z : ℤ). (least -ℤ constant_of ts) +ℤ z) e)

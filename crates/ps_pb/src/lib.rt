@@ -16,3 +16,6 @@ pub use propagation::{Effect, forces, propagate, slack};
 pub use step::{Hints, Lits, Step, Steps};
 pub use terms::{Terms, WeightedLits};
 pub use weights::{clause, from_weights};
+
+#[cfg(test)]
+mod tests;

@@ -7,3 +7,6 @@ mod refused;
 
 pub use checker::Checker;
 pub use refused::StepRefused;
+
+#[cfg(test)]
+mod tests;

@@ -13,6 +13,6 @@ returns-clause-entailed c =
     let lits = c.as_slice.ensures ∙ ap (λ (s : Step). s.lits) c.s.view_is in
     let added = c.in_ok-added.ensures ∙ ap clause_of lits in
     let after : known_of c.push.new.self ≡ with_step (known_of before) c.args.s.now =
-        ap known_of c.in_ok-push.ensures.ok ∙ known_of-append before c.in_ok-added.added ∙ ap (λ (x : Constraint). known_of before ++ Some x ∷ []) added in
+    ap known_of c.in_ok-push.ensures.ok ∙ known_of-append before c.in_ok-added.added ∙ ap (λ (x : Constraint). known_of before ++ Some x ∷ []) added in
     subst (λ x. Entails x (known_of c.push.new.self)) (ap (λ (x : Checked). x.known) c.self.view_is)
     (rw after (lawful-entails c.self.inside.variables (known_of before) c.args.s.now c.in_ok-judge.ensures))
