@@ -1,7 +1,7 @@
 -- Coefficients that are filled in weight by weight.
-use Rattle.std.proofs.Common.{◌≡◌, ◌≢◌, ℕ, zero, suc, ◌+◌, ◌<◌, ◌≤◌, ◌^◌, ℤ, pos, ◌+ℤ◌, ◌-ℤ◌, ◌≤ℤ◌, List, [], ◌∷◌, length, get_or, set, get_or-set_same, get_or-set_other, length-set, drop, arith, refl, sym, ap, ◌∙◌, inl, inr, unsigned_abs, to_z, of_z}
+use Rattle.std.proofs.Common.{◌≡◌, ℕ, zero, suc, ◌+◌, ◌<◌, ◌≤◌, ◌^◌, ℤ, pos, ◌+ℤ◌, ◌-ℤ◌, ◌≤ℤ◌, List, [], ◌∷◌, length, get_or, set, get_or-set_same, get_or-set_other, length-set, drop, arith, refl, ap, ◌∙◌, inl, inr, unsigned_abs, to_z, of_z}
 use mir.Syntax.{w128}
-use Rattle.std.specs.Prelude.{max, replicate}
+use Rattle.std.specs.Prelude.{replicate}
 use Rattle.std.proofs.lemmas.List.{drop_all, length-replicate}
 use Rattle.std.proofs.lemmas.Int.{ints}
 use Rattle.std.proofs.lemmas.Bool.{cases_eq}

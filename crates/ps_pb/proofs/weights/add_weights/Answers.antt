@@ -1,5 +1,5 @@
 use Rattle.std.proofs.Common.{drop}
-use Rattle.ps_pb.proofs.Filling.{AreFilled, place_within, filled_size, filled_next}
+use Rattle.ps_pb.proofs.Filling.{place_within, filled_size, filled_next}
 use Rattle.ps_pb.proofs.weights.add_weights.Goals as goal
 
 pub add_weight-requires-clause-place : goal.add_weight-requires-clause-place

@@ -1,5 +1,5 @@
 use Rattle.std.proofs.Common.{◌≡◌, ◌≤◌, ◌^◌, length, take, ap, sym, ◌∙◌, arith}
-use Rattle.ps_steps.specs.Weights.{size_sum, each_once}
+use Rattle.ps_steps.specs.Weights.{size_sum}
 use Rattle.ps_steps.proofs.Bounds.{each_once-size, each_once-length}
 use Rattle.ps_pb.proofs.weights.clause.Goals as goal
 

@@ -1,6 +1,5 @@
 use Rattle.std.proofs.Common.{ℤ, List, length, arith, ap, ◌∙◌}
 use Rattle.std.proofs.lemmas.Int.{ints}
-use Rattle.ps_steps.specs.Constraints.{IsMet}
 use Rattle.ps_steps.specs.Weights.{turned, sum_below, terms_below, weighted}
 use Rattle.ps_steps.proofs.Linear.{met-weight, weight-met}
 use Rattle.ps_pb.specs.Coefficients.{number_at}
