@@ -8,3 +8,8 @@ pub mod Atoms
 pub mod Operators
 pub mod Turns
 pub mod Pairs
+pub mod Counted
+pub mod Trees
+pub mod Orders
+pub mod Parts
+pub mod Stated

@@ -1,13 +1,13 @@
 -- A formula and perhaps a condition, numbered one after the other.
-use Rattle.std.proofs.Common.{◌≡◌, ℕ, List, [], ◌∷◌, ◌++◌, map, Option, Some, None, IfSome, Result, Ok, Err, refl, sym, ap, subst, ◌∙◌}
+use Rattle.std.proofs.Common.{◌≡◌, ℕ, List, [], ◌∷◌, ◌++◌, Option, Some, None, IfSome, Result, Ok, Err, sym, ap, subst, ◌∙◌}
 use Rattle.ps_meaning.specs.Formula.{Formula, And, subformulas}
 use Rattle.ps_meaning.specs.Statements.{Name}
 use Rattle.ps_formula.specs.declared.node.Node.{Node}
 use Rattle.ps_formula.specs.declared.node.Node.TheVariants as node
 use Rattle.ps_problem.specs.declared.fault.Fault.{Fault}
-use Rattle.ps_problem.specs.Numbering.{same_formula, place_in, node_in, numbered_for}
+use Rattle.ps_problem.specs.Numbering.{same_formula, place_in, numbered_for}
 use Rattle.ps_problem.specs.Counts.{Excess, with_formulas, after}
-use Rattle.ps_problem.specs.Built.{Built, IsAmong, IsAdded, Follows, FollowsQuestion, excess_of}
+use Rattle.ps_problem.specs.Built.{IsAmong, IsAdded, Follows, FollowsQuestion, excess_of}
 use Rattle.ps_problem.proofs.Nodes.{among-more, place-more}
 use Rattle.ps_problem.proofs.Steps.{step-known}
 use Rattle.ps_problem.proofs.Turns.{with-append, with-more}

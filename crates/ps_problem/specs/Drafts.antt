@@ -3,7 +3,8 @@ use Rattle.std.specs.Prelude.{◌≡◌, ◌≤◌, ◌<◌, ◌+◌, ◌-◌, �
 use Rattle.std.specs.Int.{IsGcd}
 use Rattle.ps_meaning.specs.Formula.{Formula}
 use Rattle.ps_meaning.specs.Formula as formula
-use Rattle.ps_meaning.specs.Statements.{Name, Ratio, Statement, Question, Item}
+use Rattle.ps_meaning.specs.Bounds as meaning
+use Rattle.ps_meaning.specs.Statements.{Name, Ratio, Statement, Question, Item, Stated, Asked}
 use Rattle.ps_problem.specs.declared.mark.Mark.{Mark}
 use Rattle.ps_problem.specs.declared.mark.Mark.TheVariants as mark
 use Rattle.ps_problem.specs.declared.bound.Side.{Side}
@@ -84,6 +85,15 @@ pub record IsRatio (num den : ℕ) : Type 0 where
 abbrev pub IsUpper : Side → Option (ℕ × ℕ) → Type 0
 IsUpper s None = Unit {0}
 IsUpper s (Some u) = IsRatio u.0 u.1 × (s ≡ side.AtLeast)
+
+abbrev pub IsUpperOf : meaning.Side → Option Ratio → Type 0
+IsUpperOf side None = Unit {0}
+IsUpperOf side (Some r) = IsRatio r.num r.den × (side ≡ meaning.AtLeast)
+
+-- an item within the limits of values
+abbrev pub IsLawful : Item → Type 0
+IsLawful (Stated s) = IsRatio s.value.num s.value.den × IsUpperOf s.side s.upper
+IsLawful (Asked q) = Unit {0}
 
 -- the formula of a number
 abbrev pub formula_at : List (Formula Name) → ℕ → Formula Name

@@ -1,8 +1,8 @@
 -- The problem of a text's items: its formulas and atoms in the order in which they first come.
-use Rattle.std.specs.Prelude.{◌≡◌, ◌<◌, ℕ, suc, ◌==◌, Bool, true, false, ◌&&◌, List, [], ◌∷◌, ◌++◌, Option, Some, None, map, option_map, fold, length, slice_index_or, if◌then◌else◌}
+use Rattle.std.specs.Prelude.{◌≡◌, ◌<◌, ℕ, suc, ◌==◌, Bool, true, false, ◌&&◌, List, [], ◌∷◌, ◌++◌, pos, Option, Some, None, map, option_map, option_to_list, fold, length, slice_index_or, if◌then◌else◌}
 use Rattle.std.specs.List.{list_any}
 use Rattle.std.specs.Cmp.Lexicographic.{pointwise}
-use Rattle.ps_meaning.specs.Formula.{Formula, subformulas}
+use Rattle.ps_meaning.specs.Formula.{Formula, with_atoms, subformulas}
 use Rattle.ps_meaning.specs.Formula as formula
 use Rattle.ps_meaning.specs.Bounds as meaning
 use Rattle.ps_meaning.specs.Statements.{Name, Ratio, Statement, Question, Item, statements_of, questions_of}
@@ -13,7 +13,7 @@ use Rattle.ps_problem.specs.declared.bound.Side.{Side}
 use Rattle.ps_problem.specs.declared.bound.Side.TheVariants as side
 use Rattle.ps_problem.specs.declared.sentence.Sentence.{Sentence}
 use Rattle.ps_problem.specs.declared.query.Query.{Query}
-use Rattle.ps_problem.specs.Problems.{Parts}
+use Rattle.ps_problem.specs.Problems.{Parts, tree_at, given_at}
 
 -- whether two names are the same
 abbrev pub same_name : Name → Name → Bool
@@ -121,3 +121,35 @@ problem_of items = record {
   sentences = map (sentence_in (formulas_of items)) (statements_of items);
   queries = map (query_in (formulas_of items)) (questions_of items);
 }
+
+-- a formula with each name replaced by its number
+abbrev pub numbered : List Name → Formula Name → Formula ℕ
+numbered names f = with_atoms (place_in same_name names) f
+
+-- a condition over numbers, which is truth where nothing is given
+abbrev pub numbered_given : List Name → Option (Formula Name) → Formula ℕ
+numbered_given names None = formula.Truth
+numbered_given names (Some g) = numbered names g
+
+-- what a statement says on one side, over numbers
+abbrev pub stated_bound : List Name → Statement → meaning.Side → Ratio → meaning.Bound
+stated_bound names s on value = record {
+  formula = numbered names s.formula;
+  given = numbered_given names s.given;
+  side = on;
+  num = pos value.num;
+  den = pos value.den;
+}
+
+-- what statements say, over numbers: one bound each, and an upper one too where it is an interval
+abbrev pub stated_bounds : List Name → List Statement → List meaning.Bound
+stated_bounds names [] = []
+stated_bounds names (s ∷ ss) = stated_bound names s s.side s.value ∷ map (stated_bound names s meaning.AtMost) (option_to_list s.upper) ++ stated_bounds names ss
+
+-- formula and condition of a question, over numbers
+abbrev pub numbered_question : List Name → Question → Formula ℕ × Formula ℕ
+numbered_question names q = (numbered names q.formula, numbered_given names q.given)
+
+-- formula and condition that a query's numbers stand for
+abbrev pub question_of : List Node → Query → Formula ℕ × Formula ℕ
+question_of ns q = (tree_at ns q.formula, given_at ns q.given)

@@ -6,6 +6,7 @@ mod building;
 mod draft;
 mod entry;
 mod fault;
+mod laws;
 mod mark;
 mod names;
 mod problem;
@@ -15,6 +16,7 @@ mod span;
 
 pub use bound::{Bound, Side};
 pub use draft::Draft;
+pub use laws::numbering_keeps_meaning;
 pub use mark::Mark;
 pub use problem::Problem;
 pub use query::{Queries, Query};

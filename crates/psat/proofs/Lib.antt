@@ -1,0 +1,11 @@
+pub mod OneWord
+pub mod DueLaws
+pub mod Stripped
+pub mod Entries
+pub mod Numerals
+pub mod Worlds
+pub mod ReportTexts
+pub mod ReportLaws
+pub mod Draftings
+pub mod FirstFronts
+pub mod ProblemLaws

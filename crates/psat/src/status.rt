@@ -1,0 +1,40 @@
+//! How the program ends.
+ghost use Rattle.std.specs.Prelude.{◌≡◌};
+
+/// How the program ends.
+#[derive(Clone, Copy, Debug, PartialEq, Eq)]
+pub enum Status {
+    /// The report was accepted.
+    Done,
+    /// The words are not those of a command.
+    Usage,
+    /// The input is too long, or no problem in the first form stands at its front.
+    Unreadable,
+    /// A read failed.
+    ReadFault,
+    /// A write failed.
+    WriteFault,
+    /// There was not enough memory.
+    NoMemory,
+    /// The report was refused.
+    Refused,
+}
+
+impl Status {
+    ghost use Rattle.psat.specs.Statuses.{status_number};
+
+    /// The number with which the program exits.
+    pub fn number(self) -> u8
+        ensures { result ≡ status_number self }
+    {
+        match self {
+            Status::Done => 0,
+            Status::Usage => 2,
+            Status::Unreadable => 3,
+            Status::ReadFault => 5,
+            Status::WriteFault => 6,
+            Status::NoMemory => 7,
+            Status::Refused => 8,
+        }
+    }
+}
