@@ -1,0 +1,117 @@
+//! Pseudo-Boolean constraints.
+ghost use Rattle.std.specs.Prelude.{◌≡◌, ◌≤◌, ◌+◌, ◌^◌, ◌↔◌, pos, ◌≤ℤ◌, All, IsTrue, IsSome, IfSome, IfOk, unsigned_abs};
+ghost use Rattle.ps_steps.specs.Weights.{are_rising, size_sum, weighted, terms_of, IsNormal};
+
+use crate::lit::Lit;
+use crate::terms::Terms;
+use ps_io::NoMemory;
+use std::alloc::Global;
+use std::marker::Model;
+
+/// The coefficients of the true literals sum to at least the degree. Coefficients are at least 1, variables rise, and the
+/// coefficients and the size of the degree sum to at most 2^126.
+#[derive(Drop)]
+pub struct Constraint {
+    terms: Terms,
+    degree: i128,
+}
+
+impl Model for Constraint {
+    ghost use Rattle.ps_steps.specs.Constraints.{Constraint as Linear};
+    ghost use Rattle.ps_steps.specs.Weights.{terms_of, IsNormal};
+
+    ghost Value = { Linear };
+
+    ghost view = { λ c. record { terms = terms_of c.terms; degree = c.degree } };
+
+    ghost invariant = { λ c. IsNormal c.terms c.degree };
+}
+
+impl Constraint {
+    /// `None` exactly where a coefficient is below 1, the variables don't rise, or the sum passes 2^126.
+    pub fn new(terms: Terms, degree: i128) -> Option<Constraint>
+        ensures value { IfSome result (λ c. c ≡ record { terms = terms_of terms; degree = degree }) }
+        ensures exact { IsSome result ↔ IsNormal terms degree }
+    {
+        if is_normal(terms.as_slice(), &degree) {
+            Some(Constraint { terms, degree })
+        } else {
+            None
+        }
+    }
+
+    /// The constraint of terms that are known to be in the form in which they are kept.
+    pub fn of_normal(terms: Terms, degree: i128) -> Constraint
+        requires { IsNormal terms degree }
+        ensures { result ≡ record { terms = terms_of terms; degree = degree } }
+    {
+        Constraint { terms, degree }
+    }
+
+    /// By rising variable.
+    pub fn terms(&self) -> &Terms
+        ensures value { result.now ≡ weighted self.now.terms }
+        ensures same { terms_of result.now ≡ self.now.terms }
+        ensures normal { IsNormal result.now self.now.degree }
+    {
+        &self.terms
+    }
+
+    pub fn degree(&self) -> i128
+        ensures value { result ≡ self.now.degree }
+        ensures within { unsigned_abs result ≤ 2 ^ 126 }
+    {
+        self.degree
+    }
+
+    pub fn copy(&self, alloc: Global) -> Result<Constraint, NoMemory>
+        ensures { IfOk result (λ c. c ≡ self.now) }
+    {
+        let terms = self.terms.copy(alloc)?;
+        Ok(Constraint {
+            terms,
+            degree: self.degree,
+        })
+    }
+}
+
+fn is_normal(terms: &[(Lit, i128)], degree: &i128) -> bool
+    ensures { IsTrue result ↔ IsNormal terms.now degree.now }
+{
+    are_positive(terms) && are_rising(terms) && are_narrow(terms, degree)
+}
+
+fn are_positive(terms: &[(Lit, i128)]) -> bool
+    ensures { IsTrue result ↔ All (λ t. pos 1 ≤ℤ t.1) terms.now }
+{
+    terms.iter().all(|term| 1 <= term.1)
+}
+
+fn are_rising(terms: &[(Lit, i128)]) -> bool
+    ensures { result ≡ are_rising 0 terms.now }
+{
+    let mut above = 0;
+    for term in terms {
+        let variable = term.0.variable();
+        if variable <= above {
+            return false;
+        }
+        above = variable;
+    }
+    true
+}
+
+const MOST: u128 = 1 << 126;
+
+fn are_narrow(terms: &[(Lit, i128)], degree: &i128) -> bool
+    ensures { IsTrue result ↔ (size_sum terms.now + unsigned_abs degree.now ≤ 2 ^ 126) }
+{
+    let mut sum = degree.unsigned_abs();
+    for term in terms {
+        if MOST < sum {
+            return false;
+        }
+        sum += term.1.unsigned_abs();
+    }
+    sum <= MOST
+}

@@ -1,0 +1,21 @@
+//! Literals, pseudo-Boolean constraints, partial assignments, and the steps of a refutation.
+#![tactic(auto)]
+
+mod assignment;
+mod constraint;
+mod lit;
+mod propagation;
+mod step;
+mod terms;
+mod weights;
+
+pub use assignment::Assignment;
+pub use constraint::Constraint;
+pub use lit::Lit;
+pub use propagation::{Effect, forces, propagate, slack};
+pub use step::{Hints, Lits, Step, Steps};
+pub use terms::{Terms, WeightedLits};
+pub use weights::{clause, from_weights};
+
+#[cfg(test)]
+mod tests;

@@ -1,0 +1,95 @@
+//! A variable, or its opposite.
+ghost use Rattle.std.specs.Prelude.{◌≡◌, ◌≤◌, ◌<◌, ◌+◌, ℕ, ℤ, pos, IfSome, IsSome, ◌↔◌, unsigned_abs, neg_ℤ};
+ghost use Rattle.ps_steps.specs.Assignments.{place, is_positive, literal_at};
+
+use std::marker::Model;
+
+/// A nonzero number of size at most 1,024. Its size is the number of a variable; a positive one says that the variable is
+/// true, a negative one that it is false.
+#[derive(Clone, Copy, Debug, PartialEq, Eq)]
+pub struct Lit {
+    number: i32,
+}
+
+impl Model for Lit {
+    ghost use Rattle.std.specs.Prelude.{◌≤◌, ℤ, unsigned_abs};
+
+    ghost Value = { ℤ };
+
+    ghost view = { λ l. l.number };
+
+    ghost invariant = { λ l. (1 ≤ unsigned_abs l.number) × (unsigned_abs l.number ≤ 1024) };
+
+    ghost inverse = { λ z. record { number = z } };
+}
+
+impl Default for Lit {
+    ghost use Rattle.std.specs.Prelude.{◌≡◌, pos};
+
+    ghost is_default = { λ lit. lit ≡ pos 1 };
+
+    fn default() -> Lit {
+        Lit { number: 1 }
+    }
+}
+
+impl Lit {
+    /// `None` exactly where the number is 0 or of size above 1,024.
+    pub fn new(n: i32) -> Option<Lit>
+        ensures value { IfSome result (λ lit. lit ≡ n) }
+        ensures exact { IsSome result ↔ ((1 ≤ unsigned_abs n) × (unsigned_abs n ≤ 1024)) }
+    {
+        if n == 0 || n < -1024 || 1024 < n {
+            return None;
+        }
+        Some(Lit { number: n })
+    }
+
+    /// The literal of the variable at a place, from 0 on.
+    pub fn of_place(place: usize, positive: bool) -> Lit
+        requires { place < 1024 }
+        ensures { result ≡ literal_at place positive }
+    {
+        let number = place as i32 + 1;
+        Lit {
+            number: if positive { number } else { -number },
+        }
+    }
+
+    pub fn number(&self) -> i32
+        ensures value { result ≡ self.now }
+        ensures within { (1 ≤ unsigned_abs result) × (unsigned_abs result ≤ 1024) }
+    {
+        self.number
+    }
+
+    /// The number of its variable, from 1 to 1,024.
+    pub fn variable(&self) -> u32
+        ensures value { result ≡ unsigned_abs self.now }
+        ensures within { (1 ≤ result) × (result ≤ 1024) }
+    {
+        self.number.unsigned_abs()
+    }
+
+    pub fn opposite(&self) -> Lit
+        ensures { result ≡ neg_ℤ self.now }
+    {
+        Lit {
+            number: -self.number,
+        }
+    }
+
+    /// The place of its variable in an assignment, from 0 on.
+    pub fn place(&self) -> usize
+        ensures value { result ≡ place self.now }
+        ensures within { result < 1024 }
+    {
+        self.number.unsigned_abs() as usize - 1
+    }
+
+    pub fn is_positive(&self) -> bool
+        ensures { result ≡ is_positive self.now }
+    {
+        0 < self.number
+    }
+}

@@ -1,0 +1,26 @@
+//! The steps of a refutation.
+use crate::lit::Lit;
+use ps_io::List;
+use std::marker::Model;
+
+pub type Lits = List<Lit>;
+
+pub type Hints = List<u64>;
+
+pub type Steps = List<Step>;
+
+/// A clause under its id, and the ids of the constraints from which it follows, in the order in which they are used.
+#[derive(Drop)]
+pub struct Step {
+    pub id: u64,
+    pub lits: Lits,
+    pub hints: Hints,
+}
+
+impl Model for Step {
+    ghost use Rattle.ps_steps.specs.Steps.{Step as StepValue};
+
+    ghost Value = { StepValue };
+
+    ghost view = { λ s. record { id = s.id; lits = s.lits; hints = s.hints } };
+}

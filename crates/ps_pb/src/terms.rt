@@ -1,0 +1,76 @@
+//! Literals with whole numbers.
+ghost use Rattle.std.specs.Prelude.{◌≡◌, ◌++◌, [], ◌∷◌, length, slice_get, IfOk, OnOk, OnErr, option_copied, MatchOption};
+
+use crate::lit::Lit;
+use ps_io::{List, NoMemory};
+use smallvec::SmallVec;
+use std::alloc::Global;
+use std::marker::Model;
+
+/// Literals with weights, in which a literal may stand more than once.
+pub type WeightedLits = List<(Lit, i128)>;
+
+/// Literals with their coefficients; up to four stand in place.
+#[derive(Drop)]
+pub struct Terms {
+    items: SmallVec<(Lit, i128), 4>,
+}
+
+impl Model for Terms {
+    ghost use Rattle.std.specs.Prelude.{List, ℤ};
+
+    ghost Value = { List (ℤ × ℤ) };
+
+    ghost view = { λ t. t.items.items };
+}
+
+impl Terms {
+    pub fn new(alloc: Global) -> Terms
+        ensures { result ≡ [] }
+    {
+        Terms {
+            items: SmallVec::new(alloc),
+        }
+    }
+
+    pub fn copy(&self, alloc: Global) -> Result<Terms, NoMemory>
+        ensures { IfOk result (λ terms. terms ≡ self.now) }
+    {
+        let items = SmallVec::from_slice(alloc, self.items.as_slice())?;
+        Ok(Terms { items })
+    }
+
+    pub fn len(&self) -> usize
+        ensures { result ≡ length self.now }
+    {
+        self.items.len()
+    }
+
+    pub fn get(&self, i: usize) -> Option<&(Lit, i128)>
+        ensures { option_copied result ≡ slice_get self.now i }
+    {
+        self.as_slice().get(i)
+    }
+
+    pub fn as_slice(&self) -> &[(Lit, i128)]
+        ensures { result.now ≡ self.now }
+    {
+        self.items.as_slice()
+    }
+
+    /// Adds a term at the end.
+    pub fn push(&mut self, item: (Lit, i128)) -> Result<(), NoMemory>
+        ensures ok { OnOk result (self.new ≡ self.old ++ item ∷ []) }
+        ensures err { OnErr result (self.new ≡ self.old) }
+    {
+        self.items.push(item)?;
+        Ok(())
+    }
+
+    /// Takes the last term out.
+    pub fn pop(&mut self) -> Option<(Lit, i128)>
+        ensures { MatchOption result ((self.old ≡ []) × (self.new ≡ [])) (λ x. self.old ≡ self.new ++ x ∷ []) }
+    {
+        self.items.pop()
+    }
+}

@@ -1,0 +1,148 @@
+//! The constraint that bounds a sum of weighted literals from below.
+ghost use Rattle.std.specs.Prelude.{◌≡◌, ◌<◌, ◌≤◌, ◌+◌, ◌^◌, ◌↔◌, [], ◌++◌, ℤ, pos, ◌+ℤ◌, ◌≤ℤ◌, Bool, List, length, IfOk, OnOk, replicate, slice_set, unsigned_abs};
+ghost use Rattle.ps_steps.specs.Assignments.{place};
+ghost use Rattle.ps_steps.specs.Constraints.{IsMet};
+ghost use Rattle.ps_steps.specs.Weights.{true_weight, size_sum, constant_part, constant_of, variable_part, term_at, turned, terms_below, sum_below, last_variable, constraint_of, clause_of, weighted};
+ghost use Rattle.ps_pb.specs.Coefficients.{number_at, AreCoefficients, AreSmall};
+
+use crate::constraint::Constraint;
+use crate::lit::Lit;
+use crate::terms::Terms;
+use ps_io::NoMemory;
+use std::alloc::Global;
+
+/// The constraint that is met by exactly the full assignments whose true literals weigh at least `least`: like variables
+/// added, zero coefficients dropped, and a negative coefficient turned into a positive one on the opposite literal.
+pub fn from_weights(
+    alloc: Global,
+    weights: &[(Lit, i128)],
+    least: i128,
+) -> Result<Constraint, NoMemory>
+    requires { size_sum weights.now + unsigned_abs least ≤ 2 ^ 125 }
+    ensures value { IfOk result (λ c. c ≡ constraint_of weights.now least) }
+    ensures met { IfOk result (λ c. (w : List Bool) → IsMet w c ↔ (least ≤ℤ true_weight w weights.now)) }
+{
+    let sums = coefficients(alloc, weights)?;
+    let terms = terms_of_coefficients(alloc, &sums)?;
+    let degree = least - constant(weights) + turned(&sums);
+    Ok(Constraint::of_normal(terms, degree))
+}
+
+/// The clause of some literals: at least one of them is true.
+pub fn clause(alloc: Global, lits: &[Lit]) -> Result<Constraint, NoMemory>
+    ensures { IfOk result (λ c. c ≡ clause_of lits.now) }
+{
+    let mut weights = Vec::with_capacity(alloc, lits.len())?;
+    for lit in lits {
+        weights.push((*lit, 1))?;
+    }
+    from_weights(alloc, &weights, 1)
+}
+
+fn last_variable(weights: &[(Lit, i128)]) -> u32
+    ensures value { result ≡ last_variable weights.now }
+    ensures within { result ≤ 1024 }
+{
+    let mut last = 0;
+    for weight in weights {
+        let variable = weight.0.variable();
+        if last < variable {
+            last = variable;
+        }
+    }
+    last
+}
+
+fn coefficients(alloc: Global, weights: &[(Lit, i128)]) -> Result<Vec<i128>, NoMemory>
+    requires { size_sum weights.now ≤ 2 ^ 125 }
+    ensures sums { IfOk result (λ sums. AreCoefficients weights.now sums.items) }
+    ensures within { IfOk result (λ sums. length sums.items ≤ 1024) }
+{
+    let mut sums = vec![in alloc; 0i128; last_variable(weights) as usize]?;
+    add_weights(&mut sums, weights);
+    Ok(sums)
+}
+
+fn add_weights(sums: &mut [i128], weights: &[(Lit, i128)])
+    requires size { size_sum weights.now ≤ 2 ^ 125 }
+    requires zero { sums.old ≡ replicate (last_variable weights.now) (pos 0) }
+    ensures { AreCoefficients weights.now sums.new }
+{
+    for weight in weights {
+        add_weight(sums, weight);
+    }
+}
+
+fn add_weight(sums: &mut [i128], weight: &(Lit, i128))
+    requires place { place weight.now.0 < length sums.old }
+    requires sizes { unsigned_abs (number_at sums.old (place weight.now.0)) + unsigned_abs weight.now.1 < 2 ^ 127 }
+    ensures { sums.new ≡ slice_set sums.old (place weight.now.0) (number_at sums.old (place weight.now.0) +ℤ variable_part weight.now) }
+{
+    let place = weight.0.place();
+    if weight.0.is_positive() {
+        sums[place] += weight.1;
+    } else {
+        sums[place] -= weight.1;
+    }
+}
+
+fn constant(weights: &[(Lit, i128)]) -> i128
+    requires { size_sum weights.now ≤ 2 ^ 125 }
+    ensures { result ≡ constant_of weights.now }
+{
+    let mut sum = 0;
+    for weight in weights {
+        sum += constant_part(weight);
+    }
+    sum
+}
+
+fn constant_part(weight: &(Lit, i128)) -> i128
+    ensures { result ≡ constant_part weight.now }
+{
+    if weight.0.is_positive() { 0 } else { weight.1 }
+}
+
+fn turned(sums: &[i128]) -> i128
+    requires { AreSmall sums.now }
+    ensures { result ≡ sum_below (length sums.now) (λ p. turned (number_at sums.now p)) }
+{
+    let mut sum = 0;
+    for coefficient in sums {
+        sum += turned_part(coefficient);
+    }
+    sum
+}
+
+fn turned_part(coefficient: &i128) -> i128
+    requires { unsigned_abs coefficient.now ≤ 2 ^ 126 }
+    ensures { result ≡ turned coefficient.now }
+{
+    if *coefficient < 0 { -*coefficient } else { 0 }
+}
+
+fn terms_of_coefficients(alloc: Global, sums: &[i128]) -> Result<Terms, NoMemory>
+    requires places { length sums.now ≤ 1024 }
+    requires small { AreSmall sums.now }
+    ensures { IfOk result (λ terms. terms ≡ weighted (terms_below (length sums.now) (number_at sums.now))) }
+{
+    let mut terms = Terms::new(alloc);
+    for place in 0..sums.len() {
+        push_term(&mut terms, place, &sums[place])?;
+    }
+    Ok(terms)
+}
+
+fn push_term(terms: &mut Terms, place: usize, coefficient: &i128) -> Result<(), NoMemory>
+    requires places { place < 1024 }
+    requires size { unsigned_abs coefficient.now ≤ 2 ^ 126 }
+    ensures { OnOk result (terms.new ≡ terms.old ++ weighted (term_at place coefficient.now)) }
+{
+    if 0 < *coefficient {
+        terms.push((Lit::of_place(place, true), *coefficient))?;
+    }
+    if *coefficient < 0 {
+        terms.push((Lit::of_place(place, false), -*coefficient))?;
+    }
+    Ok(())
+}

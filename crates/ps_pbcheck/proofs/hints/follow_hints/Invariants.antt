@@ -1,0 +1,8 @@
+use Rattle.std.proofs.Common.{◌≡◌, drop}
+use Rattle.ps_steps.specs.Steps.{after_hints, Open}
+use Rattle.ps_pbcheck.specs.Checked.{known_of}
+use Rattle.ps_pbcheck.specs.Judged.{propagation_of}
+use Rattle.ps_pbcheck.proofs.hints.follow_hints.Given as goal
+
+abbrev pub invariant-loop-hint : goal.invariant-loop-hint
+invariant-loop-hint l = after_hints (known_of l.known) (Open l.initial.a) l.hints ≡ after_hints (known_of l.known) (propagation_of l.conflict l.a) (drop l.hint-index l.hints)

@@ -1,0 +1,117 @@
+//! The checker of steps.
+ghost use Rattle.std.specs.Prelude.{◌≡◌, ◌++◌, ◌∷◌, [], IfOk, OnOk, OnErr, false, None, Some, fold};
+ghost use Rattle.ps_steps.specs.Steps.{refusal_of, with_step, is_contradiction, and_false, Entails};
+ghost use Rattle.ps_pbcheck.specs.Checked.{known_of};
+ghost use Rattle.ps_pbcheck.specs.Judged.{IsJudged, AllFalse};
+
+use crate::hints::follow_hints;
+use crate::refused::StepRefused;
+use ps_io::{List, NoMemory};
+use ps_pb::{Assignment, Constraint, Lit, Step, clause};
+use std::alloc::Global;
+use std::marker::Model;
+
+/// The known constraints, and whether the last step taken has no literals.
+#[derive(Drop)]
+pub struct Checker {
+    alloc: Global,
+    variables: u32,
+    known: List<Constraint>,
+    refuted: bool,
+}
+
+impl Model for Checker {
+    ghost use Rattle.ps_pbcheck.specs.Checked.{Checked, known_of};
+
+    ghost Value = { Checked };
+
+    ghost view = { λ c. record { variables = c.variables; known = known_of c.known; refuted = c.refuted } };
+}
+
+impl Checker {
+    /// Knows the clauses, under the ids from 1 on, and then the goal.
+    pub fn over(
+        alloc: Global,
+        variables: u32,
+        clauses: List<Constraint>,
+        goal: Constraint,
+    ) -> Result<Checker, NoMemory>
+        ensures { IfOk result (λ c. c ≡ record { variables = variables; known = known_of clauses ++ Some goal ∷ []; refuted = false }) }
+    {
+        let mut known = clauses;
+        known.push(goal)?;
+        Ok(Checker {
+            alloc,
+            variables,
+            known,
+            refuted: false,
+        })
+    }
+
+    /// Takes a step where it is lawful. Otherwise the first reason is answered, and the checker is unchanged.
+    pub fn take(&mut self, s: &Step) -> Result<(), StepRefused>
+        ensures judged { IsJudged (refusal_of self.old.variables self.old.known s.now) result }
+        ensures ok { OnOk result (self.new ≡ record { variables = self.old.variables; known = with_step self.old.known s.now; refuted = is_contradiction s.now }) }
+        ensures err { OnErr result (self.new ≡ self.old) }
+
+        // Each full assignment that met what was known meets what is known now.
+        ensures entailed { OnOk result (Entails self.old.known self.new.known) }
+    {
+        judge(self.alloc, self.variables, &self.known, s)?;
+        let added = clause(self.alloc, s.lits.as_slice())?;
+        self.known.push(added)?;
+        self.refuted = s.lits.as_slice().is_empty();
+        Ok(())
+    }
+
+    /// Whether the last step taken has no literals.
+    pub fn refuted(&self) -> bool
+        ensures { result ≡ self.now.refuted }
+    {
+        self.refuted
+    }
+}
+
+/// Whether a step is lawful.
+#[tactic(auto, using(crate::proofs::Ids::ids), unfolding(ps_steps::specs::Steps::all_false))]
+fn judge(
+    alloc: Global,
+    variables: u32,
+    known: &List<Constraint>,
+    s: &Step,
+) -> Result<(), StepRefused>
+    ensures { IsJudged (refusal_of variables (known_of known.now) s.now) result }
+{
+    if s.id == 0 || s.id - 1 != known.len() as u64 {
+        return Err(StepRefused::IdNotNext);
+    }
+    let mut a = Assignment::new(alloc, variables)?;
+    if !set_all_false(&mut a, s.lits.as_slice()) {
+        return Err(StepRefused::BadLit);
+    }
+    follow_hints(known, &mut a, s.hints.as_slice())
+}
+
+/// Sets a literal false, unless its variable is past the last or was set.
+fn set_one_false(a: &mut Assignment, lit: Lit) -> bool
+    ensures { AllFalse (and_false (Some a.old) lit) result a.new }
+{
+    if lit.place() < a.len() && a.value_of(lit).is_none() {
+        a.set_false(lit);
+        true
+    } else {
+        false
+    }
+}
+
+/// Sets each literal false, until one is bad.
+fn set_all_false(a: &mut Assignment, lits: &[Lit]) -> bool
+    ensures { AllFalse (fold and_false (Some a.old) lits.now) result a.new }
+{
+    for lit in lits {
+        if !set_one_false(a, *lit) {
+            return false;
+        }
+    }
+    true
+}

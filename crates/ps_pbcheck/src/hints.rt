@@ -1,0 +1,67 @@
+//! Propagation along the hints of a step.
+ghost use Rattle.std.specs.Prelude.{◌≡◌, option_copied};
+ghost use Rattle.ps_steps.specs.Steps.{constraint_at, after_hint, after_hints, end_of, Open};
+ghost use Rattle.ps_pbcheck.specs.Checked.{known_of};
+ghost use Rattle.ps_pbcheck.specs.Judged.{propagation_of, IsAfter, IsEnded};
+
+use crate::refused::StepRefused;
+use ps_io::List;
+use ps_pb::{Assignment, Constraint, Effect, propagate};
+
+/// The constraint of an id, from 1 on.
+#[tactic(auto, using(crate::proofs::Ids::ids))]
+fn constraint_at(known: &List<Constraint>, id: u64) -> Option<&Constraint>
+    ensures { option_copied result ≡ constraint_at (known_of known.now) id }
+{
+    if id == 0 {
+        return None;
+    }
+    known.get((id - 1) as usize)
+}
+
+/// Goes on along one hint, and answers whether it is violated.
+#[tactic(auto, unfolding(ps_steps::specs::Steps::after_hint))]
+fn follow_hint(
+    known: &List<Constraint>,
+    a: &mut Assignment,
+    conflict: bool,
+    hint: u64,
+) -> Result<bool, StepRefused>
+    ensures { IsAfter (after_hint (known_of known.now) (propagation_of conflict a.old) hint) a.new result }
+{
+    match constraint_at(known, hint) {
+        None => Err(StepRefused::UnknownHint { hint }),
+        Some(c) => {
+            if conflict {
+                return Err(StepRefused::HintIdle { hint });
+            }
+            match propagate(c, a) {
+                Effect::Violated => Ok(true),
+                Effect::Forced => Ok(false),
+                Effect::Idle => Err(StepRefused::HintIdle { hint }),
+            }
+        }
+    }
+}
+
+/// Goes along the hints up to a conflict at the last one.
+pub fn follow_hints(
+    known: &List<Constraint>,
+    a: &mut Assignment,
+    hints: &[u64],
+) -> Result<(), StepRefused>
+    ensures { IsEnded (end_of (after_hints (known_of known.now) (Open a.old) hints.now)) result }
+{
+    let mut conflict = false;
+    for hint in hints {
+        match follow_hint(known, a, conflict, *hint) {
+            Ok(now) => conflict = now,
+            Err(refused) => return Err(refused),
+        }
+    }
+    if conflict {
+        Ok(())
+    } else {
+        Err(StepRefused::NoConflict)
+    }
+}

@@ -1,0 +1,4 @@
+pub mod Assignments
+pub mod Constraints
+pub mod Weights
+pub mod Steps
