@@ -1,0 +1,8 @@
+//! A column of the table.
+
+/// A column: the home of a row, from 0, or a world of the pool, from 1.
+#[derive(Clone, Copy, PartialEq, Eq, Debug, Drop)]
+pub enum Col {
+    Home(u32),
+    World(u32),
+}

@@ -1,0 +1,13 @@
+//! What a run keeps beside its table: the worlds that it has met, and what it did.
+#![tactic(auto)]
+
+mod col;
+mod event;
+mod pool;
+
+pub use col::Col;
+pub use event::{Event, Trace};
+pub use pool::{Pool, PoolError};
+
+#[cfg(test)]
+mod tests;

@@ -1,0 +1,72 @@
+//! Operations on fractions that name their place where they are refused.
+ghost use Rattle.std.specs.Prelude.{◌≡◌, ◌≢◌, ℕ, suc, ◌+◌, ◌-◌, ◌*◌, ◌/◌, ◌%◌, ◌^◌, ◌<◌, ◌≤◌, ◌↔◌, List, [], ◌∷◌, ◌++◌, true, false, length, get_or, pos, negsuc, ◌≤ℤ◌, IfOk, IfErr, IsErr, IsTrue};
+ghost use Rattle.ps_rational.specs.Rational.{Rational, fraction, add, mul, neg, sub, div, inverse, zero_q};
+ghost use Rattle.ps_rational.specs.Wide.{SumIsWide, ProductIsWide};
+ghost use Rattle.ps_rational.specs.Sums.{sum_to};
+
+use crate::place::{Place, WideAt};
+use ps_frac::{Fraction, Op, Wide};
+
+pub(crate) fn named(place: Place, wide: Wide) -> WideAt
+    ensures value { result ≡ record { place = place; op = wide.op; left = wide.left; right = wide.right } }
+{
+    WideAt {
+        place,
+        op: wide.op,
+        left: wide.left,
+        right: wide.right,
+    }
+}
+
+/// A quotient for a place.
+pub(crate) fn divided_at(
+    place: Place,
+    left: &Fraction,
+    right: &Fraction,
+) -> Result<Fraction, WideAt>
+    requires { right.now ≢ zero_q }
+    ensures value { IfOk result (λ r. r ≡ div left.now right.now) }
+    ensures wide { IsErr result ↔ ProductIsWide left.now (inverse right.now) }
+    ensures operands { IfErr result (λ w. w ≡ record { place = place; op = Op.Div; left = left.now; right = right.now }) }
+{
+    match left.div(right) {
+        Ok(quotient) => Ok(quotient),
+        Err(wide) => Err(named(place, wide)),
+    }
+}
+
+/// A product for a place.
+pub(crate) fn times_at(place: Place, left: &Fraction, right: &Fraction) -> Result<Fraction, WideAt>
+    ensures value { IfOk result (λ r. r ≡ mul left.now right.now) }
+    ensures wide { IsErr result ↔ ProductIsWide left.now right.now }
+    ensures operands { IfErr result (λ w. w ≡ record { place = place; op = Op.Mul; left = left.now; right = right.now }) }
+{
+    match left.mul(right) {
+        Ok(product) => Ok(product),
+        Err(wide) => Err(named(place, wide)),
+    }
+}
+
+/// A difference for a place.
+pub(crate) fn minus_at(place: Place, left: &Fraction, right: &Fraction) -> Result<Fraction, WideAt>
+    ensures value { IfOk result (λ r. r ≡ sub left.now right.now) }
+    ensures wide { IsErr result ↔ SumIsWide left.now (neg right.now) }
+    ensures operands { IfErr result (λ w. w ≡ record { place = place; op = Op.Sub; left = left.now; right = right.now }) }
+{
+    match left.sub(right) {
+        Ok(difference) => Ok(difference),
+        Err(wide) => Err(named(place, wide)),
+    }
+}
+
+/// A sum for a place.
+pub(crate) fn plus_at(place: Place, left: &Fraction, right: &Fraction) -> Result<Fraction, WideAt>
+    ensures value { IfOk result (λ r. r ≡ add left.now right.now) }
+    ensures wide { IsErr result ↔ SumIsWide left.now right.now }
+    ensures operands { IfErr result (λ w. w ≡ record { place = place; op = Op.Add; left = left.now; right = right.now }) }
+{
+    match left.add(right) {
+        Ok(sum) => Ok(sum),
+        Err(wide) => Err(named(place, wide)),
+    }
+}

@@ -1,0 +1,52 @@
+//! Costs of columns.
+ghost use Rattle.std.specs.Prelude.{◌≡◌, ◌≢◌, ℕ, suc, ◌+◌, ◌-◌, ◌*◌, ◌/◌, ◌%◌, ◌^◌, ◌<◌, ◌≤◌, ◌↔◌, List, [], ◌∷◌, ◌++◌, true, false, length, get_or, pos, negsuc, ◌≤ℤ◌, IfOk, IfErr, IsErr, IsTrue};
+ghost use Rattle.ps_rational.specs.Rational.{Rational, fraction, add, mul, neg, sub, div, inverse, zero_q};
+ghost use Rattle.ps_rational.specs.Wide.{SumIsWide, ProductIsWide};
+ghost use Rattle.ps_rational.specs.Sums.{sum_to};
+ghost use Rattle.ps_table.specs.Tableau.{Tableau, spot, spot_of, IsInside, IsShown, cell_at, entry_at, basic_at, pivot_cell, IsGrid, IsTableau, StandsFor, IsPivot, HasCosts, HasSmallCosts, IsAdded, IsColumn, cost_number, cost_at, part_at, carried_to};
+ghost use Rattle.ps_table.specs.Places.{IsWide, IsPivotPlace, IsNewPlace, new_part, IsWideAt, IsRefusedAt, IsCostWide};
+
+use ps_frac::Fraction;
+use ps_io::List;
+use ps_pool::Col;
+
+/// A list of costs.
+pub type CostList = List<i8>;
+
+/// The costs of the columns, from -1 to 1.
+#[derive(Drop)]
+pub struct Costs {
+    pub homes: CostList,
+    pub worlds: CostList,
+}
+
+/// The cost of a column.
+pub(crate) fn cost_of(costs: &Costs, rows: usize, worlds: usize, col: Col) -> i8
+    requires homes { length costs.now.homes ≡ rows }
+    requires worlds { worlds ≤ length costs.now.worlds }
+    requires small { HasSmallCosts costs.now }
+    requires inside { IsInside rows worlds col }
+    ensures value { result ≡ cost_number costs.now (spot rows col) }
+    ensures low { negsuc 0 ≤ℤ result }
+    ensures high { result ≤ℤ pos 1 }
+{
+    match col {
+        Col::Home(row) => costs.homes.as_slice()[row as usize],
+        Col::World(number) => costs.worlds.as_slice()[number as usize - 1],
+    }
+}
+
+/// `cost * entry`, of a cost from -1 to 1.
+pub(crate) fn cost_times(cost: i8, entry: &Fraction) -> Fraction
+    requires low { negsuc 0 ≤ℤ cost }
+    requires high { cost ≤ℤ pos 1 }
+    ensures value { result ≡ mul (fraction cost 1) entry.now }
+{
+    if cost == 1 {
+        *entry
+    } else if cost == 0 {
+        Fraction::new(0, 1)
+    } else {
+        entry.neg()
+    }
+}

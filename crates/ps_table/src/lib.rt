@@ -1,0 +1,22 @@
+//! The simplex table: exact entries of a basis, one column for each home and each world.
+#![tactic(auto)]
+
+mod adding;
+mod at_place;
+mod cells;
+mod costs;
+mod error;
+mod first;
+mod home;
+mod pivoting;
+mod place;
+mod table;
+
+pub use costs::{CostList, Costs};
+pub use error::TableError;
+pub use home::Home;
+pub use place::{Place, TableCol, WideAt};
+pub use table::Table;
+
+#[cfg(test)]
+mod tests;
