@@ -35,7 +35,6 @@ fn are_values_at_least_zero(table: &Table) -> bool
     true
 }
 
-#[tactic(auto, using(crate::proofs::Ready::ready_one))]
 fn is_ready(table: &Table, costs: &Costs) -> bool
     ensures { IsTrue result → IsReady Phase.One costs.now table.now }
 {
