@@ -1,10 +1,10 @@
 -- Ratios, rays and runs.
-use Rattle.std.proofs.Common.{◌≡◌, inl, inr, ℕ, suc, zero, ◌+◌, ◌<◌, ◌≤◌, ℤ, pos, negsuc, ◌*ℤ◌, ◌<ℤ◌, ◌≤ℤ◌, neg_ℤ, List, [], ◌∷◌, ◌++◌, length, Less, Equal, Greater, false, refl, sym, ap, ◌∙◌, subst, arith}
+use Rattle.std.proofs.Common.{◌≡◌, inl, inr, ℕ, suc, zero, ◌+◌, ◌<◌, ◌≤◌, ℤ, pos, negsuc, ◌*ℤ◌, ◌<ℤ◌, ◌≤ℤ◌, neg_ℤ, List, [], ◌∷◌, ◌++◌, length, Less, Equal, Greater, refl, sym, ap, ◌∙◌, subst, arith}
 use Rattle.std.specs.Ordering.{int_cmp, MatchOrdering}
 use Rattle.std.specs.Cmp.{int_ranks}
 use Rattle.std.proofs.lemmas.Int.{ints}
 use Rattle.std.proofs.lemmas.Bool.{cases_eq}
-use Rattle.ps_rational.specs.Rational.{Rational, neg, den, zero_q}
+use Rattle.ps_rational.specs.Rational.{Rational, neg, den}
 use Rattle.ps_rational.specs.Order.{IsNonneg, AtMost, IsAbove, IsLess}
 use Rattle.ps_rational.proofs.Cross.{same_from_cross}
 use Rattle.ps_rational.proofs.Order.{at_most_trans, at_most_from_less, at_most_refl, at_most_antisym, not_self_less, nonneg_of}
@@ -15,9 +15,8 @@ use Rattle.std.proofs.Common.{append-nil, append_assoc, length-append}
 use Rattle.ps_pool.specs.declared.event.Event.{Event}
 use Rattle.ps_pool.specs.declared.event.Event.TheVariants.{Pivot, Priced}
 use Rattle.ps_table.specs.Tableau.{Tableau, basic_at, entry_at, cost_at, IsPivot, HasCosts, spot, StandsFor}
-use Rattle.ps_bland.specs.Runs.{face_of, IsLeastBefore, IsDone, stage, system_of, pivots_of, IsPivotRefusal, ArePivots, Ran, Run, IsStep, IsSame, IsLawful, IsDueRefusal, IsSettled}
+use Rattle.ps_bland.specs.Runs.{face_of, IsLeastBefore, stage, system_of, pivots_of, IsPivotRefusal, ArePivots, Ran, Run, IsStep, IsSame, IsLawful, IsDueRefusal, IsSettled}
 use Rattle.ps_bland.specs.declared.settled.Settled.{Settled}
-use Rattle.ps_bland.specs.declared.phase.Phase.TheVariants.{One, Lower, Upper}
 use Rattle.ps_basis.specs.Table.{Based}
 use Rattle.ps_rule.specs.Pivots.{Pivots, IsLawfulAt}
 use Rattle.ps_rule.specs.Pivots.Pivots.{still as no_moves, more as one_move}

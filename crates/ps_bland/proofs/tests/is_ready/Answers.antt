@@ -1,4 +1,4 @@
-use Rattle.std.proofs.Common.{rules, ◌≡◌, ℕ, ◌<◌, ◌≤ℤ◌, length, get_or, pos, IsTrue, ◌≤◌}
+use Rattle.std.proofs.Common.{rules, ◌≡◌, ℕ, ◌<◌, ◌≤ℤ◌, length, get_or, pos, ◌≤◌}
 use Rattle.ps_rational.specs.Order.{IsNonneg}
 use Rattle.ps_table.specs.Tableau.{entry_at}
 use Rattle.ps_bland.proofs.Ready.{ready_one}
