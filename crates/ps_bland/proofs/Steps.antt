@@ -1,0 +1,177 @@
+-- Ratios, rays and runs.
+use Rattle.std.proofs.Common.{◌≡◌, inl, inr, ℕ, suc, zero, ◌+◌, ◌<◌, ◌≤◌, ℤ, pos, negsuc, ◌*ℤ◌, ◌<ℤ◌, ◌≤ℤ◌, neg_ℤ, List, [], ◌∷◌, ◌++◌, length, Less, Equal, Greater, refl, sym, ap, ◌∙◌, subst, arith}
+use Rattle.std.specs.Ordering.{int_cmp, MatchOrdering}
+use Rattle.std.specs.Cmp.{int_ranks}
+use Rattle.std.proofs.lemmas.Int.{ints}
+use Rattle.std.proofs.lemmas.Bool.{cases_eq}
+use Rattle.ps_rational.specs.Rational.{Rational, neg, den}
+use Rattle.ps_rational.specs.Order.{IsNonneg, AtMost, IsAbove, IsLess}
+use Rattle.ps_rational.proofs.Cross.{same_from_cross}
+use Rattle.ps_rational.proofs.Order.{at_most_trans, at_most_from_less, at_most_refl, at_most_antisym, not_self_less, nonneg_of}
+use Rattle.ps_rule.specs.Rule.{Face, Precedes, ratio, IsRising, HasLeastRatio}
+use Rattle.ps_table.specs.declared.costs.Costs.{Costs}
+use Rattle.ps_pool.specs.declared.col.Col.{Col}
+use Rattle.std.proofs.Common.{append-nil, append_assoc, length-append}
+use Rattle.ps_pool.specs.declared.event.Event.{Event}
+use Rattle.ps_pool.specs.declared.event.Event.TheVariants.{Pivot, Priced}
+use Rattle.ps_table.specs.Tableau.{Tableau, basic_at, entry_at, cost_at, IsPivot, HasCosts, spot, StandsFor}
+use Rattle.ps_bland.specs.Runs.{face_of, IsLeastBefore, stage, system_of, pivots_of, IsPivotRefusal, ArePivots, Ran, Run, IsStep, IsSame, IsLawful, IsDueRefusal, IsSettled}
+use Rattle.ps_bland.specs.declared.settled.Settled.{Settled}
+use Rattle.ps_basis.specs.Table.{Based}
+use Rattle.ps_rule.specs.Pivots.{Pivots, IsLawfulAt}
+use Rattle.ps_rule.specs.Pivots.Pivots.{still as no_moves, more as one_move}
+use Rattle.ps_table.specs.declared.home.Home.{Home}
+use Rattle.ps_bland.specs.declared.phase.Phase.{Phase}
+use Rattle.ps_bland.specs.Runs.IsDueWide.{at_pivot}
+use Rattle.ps_bland.specs.declared.error.SettleError.{SettleError}
+use Rattle.ps_bland.specs.declared.error.SettleError.TheVariants.{Wide, NoMemory}
+use Rattle.ps_bland.specs.Runs.Run.{still, more}
+
+less_of : (a b : ℤ) → Less ≡ int_cmp a b → a <ℤ b
+less_of a b e = subst (λ r. MatchOrdering r (a <ℤ b) (a ≡ b) (b <ℤ a)) (sym e) (int_ranks a b)
+
+equal_of : (a b : ℤ) → Equal ≡ int_cmp a b → a ≡ b
+equal_of a b e = subst (λ r. MatchOrdering r (a <ℤ b) (a ≡ b) (b <ℤ a)) (sym e) (int_ranks a b)
+
+greater_of : (a b : ℤ) → Greater ≡ int_cmp a b → b <ℤ a
+greater_of a b e = subst (λ r. MatchOrdering r (a <ℤ b) (a ≡ b) (b <ℤ a)) (sym e) (int_ranks a b)
+
+strict : (f : Face) (q p i : ℕ) (x y : Rational) → x ≡ ratio f q p → y ≡ ratio f q i → IsLess x y → Precedes f q p i
+strict f q p i x y ex ey h = record {
+  at_most = subst (λ z. AtMost z (ratio f q i)) ex (subst (AtMost x) ey (at_most_from_less x y h));
+  tie = λ e. absurd (not_self_less x (subst (IsLess x) (sym (ex ∙ e ∙ sym ey)) h));
+}
+
+pub precedes_less : (f : Face) (q p i : ℕ) (x y : Rational) → x ≡ ratio f q p → y ≡ ratio f q i → Less ≡ int_cmp (x.over *ℤ pos y.under) (y.over *ℤ pos x.under) → Precedes f q p i
+precedes_less f q p i x y ex ey e = strict f q p i x y ex ey (less_of _ _ e)
+
+pub precedes_greater : (f : Face) (q p i : ℕ) (x y : Rational) → x ≡ ratio f q p → y ≡ ratio f q i → Greater ≡ int_cmp (x.over *ℤ pos y.under) (y.over *ℤ pos x.under) → Precedes f q i p
+precedes_greater f q p i x y ex ey e = strict f q i p y x ey ex (greater_of _ _ e)
+
+pub same_ratio : (f : Face) (q p i : ℕ) (x y : Rational) → x ≡ ratio f q p → y ≡ ratio f q i → Equal ≡ int_cmp (x.over *ℤ pos y.under) (y.over *ℤ pos x.under) → ratio f q p ≡ ratio f q i
+same_ratio f q p i x y ex ey e = sym ex ∙ same_from_cross x y (equal_of _ _ e) ∙ ey
+
+pub precedes_tie : (f : Face) (q p i : ℕ) → ratio f q p ≡ ratio f q i → f.basic p ≤ f.basic i → Precedes f q p i
+precedes_tie f q p i e h = record { at_most = subst (AtMost (ratio f q p)) e (at_most_refl (ratio f q p)); tie = λ _. h }
+
+pub precedes_trans : (f : Face) (q a b c : ℕ) → Precedes f q a b → Precedes f q b c → Precedes f q a c
+precedes_trans f q a b c h k = record {
+  at_most = at_most_trans (ratio f q a) (ratio f q b) (ratio f q c) h.at_most k.at_most;
+  tie = λ e.
+      let ab : ratio f q a ≡ ratio f q b = at_most_antisym (ratio f q a) (ratio f q b) h.at_most (subst (AtMost (ratio f q b)) (sym e) k.at_most) in
+      let hab = h.tie ab in
+      let hbc = k.tie (sym ab ∙ e) in
+      omega (arith, hab, hbc);
+}
+
+pub precedes_itself : (f : Face) (q a : ℕ) → Precedes f q a a
+precedes_itself f q a = precedes_tie f q a a refl (omega arith)
+
+not_above_z : (z : ℤ) → (pos 0 <ℤ z → ⊥) → pos 0 ≤ℤ neg_ℤ z
+not_above_z (pos zero) h = omega (arith, ints)
+not_above_z (pos (suc n)) h = let k : pos 0 <ℤ pos (suc n) = omega (arith, ints) in absurd (h k)
+not_above_z (negsuc n) h = omega (arith, ints)
+
+pub not_above : (x : Rational) → (IsAbove x → ⊥) → IsNonneg (neg x)
+unfolding neg
+not_above x h = nonneg_of (neg_ℤ x.over) (den x) (not_above_z x.over h)
+
+-- the best row so far, with one row more
+pub next_kept : (t : Tableau) (q n p : ℕ) → IsLeastBefore t q n p → (IsRising (face_of t) q n → Precedes (face_of t) q p n) → IsLeastBefore t q (suc n) p
+next_kept t q n p h k = record {
+  rising = h.rising;
+  least = λ i l r. elim (cases_eq i n) [ inl e ↦ subst (Precedes (face_of t) q p) (sym e) (k (subst (IsRising (face_of t) q) e r)) | inr ne ↦ h.least i (omega arith) r ];
+}
+
+pub next_better : (t : Tableau) (q n p : ℕ) → IsLeastBefore t q n p → IsRising (face_of t) q n → Precedes (face_of t) q n p → IsLeastBefore t q (suc n) n
+next_better t q n p h r k = record {
+  rising = r;
+  least = λ i l s. elim (cases_eq i n) [ inl e ↦ subst (Precedes (face_of t) q n) (sym e) (precedes_itself (face_of t) q n) | inr ne ↦ precedes_trans (face_of t) q n p i k (h.least i (omega arith) s) ];
+}
+
+pub first_least : (t : Tableau) (q p : ℕ) → IsRising (face_of t) q p → ((i : ℕ) → i < p → IsRising (face_of t) q i → ⊥) → IsLeastBefore t q (p + 1) p
+first_least t q p r h = record {
+  rising = r;
+  least = λ i l s. elim (cases_eq i p) [ inl e ↦ subst (Precedes (face_of t) q p) (sym e) (precedes_itself (face_of t) q p) | inr ne ↦ absurd (h i (omega arith) s) ];
+}
+
+pub all_least : (t : Tableau) (q n p : ℕ) → length t.kinds ≤ n → IsLeastBefore t q n p → HasLeastRatio (face_of t) q p
+all_least t q n p l h = record {
+  rising = h.rising;
+  least = λ i r. let k = r.within in h.least i (omega arith) r;
+}
+
+-- the kinds and the worlds stay
+run_kinds : (phase : Phase) (costs : Costs) (s t : Tableau) (events : List Event) → Run phase costs s events t → t.kinds ≡ s.kinds
+run_kinds phase costs s t events (still _) = refl
+run_kinds phase costs s t events (more _ r _ es enter leave run lawful pivot keeps) = pivot.kinds ∙ run_kinds phase costs s r es run
+
+run_worlds : (phase : Phase) (costs : Costs) (s t : Tableau) (events : List Event) → Run phase costs s events t → t.worlds ≡ s.worlds
+run_worlds phase costs s t events (still _) = refl
+run_worlds phase costs s t events (more _ r _ es enter leave run lawful pivot keeps) = pivot.worlds ∙ run_worlds phase costs s r es run
+
+abbrev LawfulIn : (phase : Phase) (costs : Costs) (A : ℕ → ℕ → Rational) (t : Tableau) (enter : Col) (leave : ℕ) → List Home → ℕ → Type 0
+LawfulIn phase costs A t enter leave k v = IsLawfulAt (stage phase) (system_of k A) (cost_at costs) (suc (length k + v)) (basic_at t) (spot (length k) enter) leave
+
+lawful_at : (phase : Phase) (costs : Costs) (A : ℕ → ℕ → Rational) (t : Tableau) (enter : Col) (leave : ℕ) → IsLawful phase costs t enter leave → StandsFor A t → LawfulIn phase costs A t enter leave t.kinds t.worlds
+lawful_at phase costs A t enter leave lawful stands = record {
+  table = entry_at t;
+  belongs = stands.belongs;
+  unfinished = lawful.unfinished;
+  enters = lawful.enters;
+  leaves = lawful.leaves;
+}
+
+pivots_of-append : (n : ℕ) (events : List Event) (enter : Col) (leave : ℕ) → pivots_of n (events ++ Pivot enter leave ∷ []) ≡ pivots_of n events ++ record { enter = spot n enter; leave = leave } ∷ []
+pivots_of-append n [] enter leave = refl
+pivots_of-append n (Pivot q p ∷ events) enter leave = ap (λ ps. record { enter = spot n q; leave = p } ∷ ps) (pivots_of-append n events enter leave)
+pivots_of-append n (Priced world ∷ events) enter leave = pivots_of-append n events enter leave
+
+pub are_pivots : (phase : Phase) (costs : Costs) (s t : Tableau) (events : List Event) → Run phase costs s events t → ArePivots phase costs s events t
+are_pivots phase costs s t events (still _) = λ A h. (h, no_moves (basic_at s))
+are_pivots phase costs s t events (more _ r _ es enter leave run lawful pivot keeps) = λ A h.
+    let before = are_pivots phase costs s r es run A h in
+    let ek = run_kinds phase costs s r es run in
+    let ew = run_worlds phase costs s r es run in
+    let at : LawfulIn phase costs A r enter leave s.kinds s.worlds = subst (λ k. LawfulIn phase costs A r enter leave k s.worlds) ek (subst (λ v. LawfulIn phase costs A r enter leave r.kinds v) ew (lawful_at phase costs A r enter leave lawful before.0)) in
+    let based : Based (length s.kinds) leave (spot (length s.kinds) enter) (basic_at r) (basic_at t) = subst (λ k. Based (length k) leave (spot (length k) enter) (basic_at r) (basic_at t)) ek pivot.based in (
+      keeps A before.0,
+      subst (λ pivots. Pivots (stage phase) (system_of s.kinds A) (cost_at costs) (suc (length s.kinds + s.worlds)) (basic_at s) pivots (basic_at t)) (sym (pivots_of-append (length s.kinds) es enter leave))
+          (one_move (basic_at s) (basic_at r) (basic_at t) (pivots_of (length s.kinds) es) (spot (length s.kinds) enter) leave before.1 at based),
+    )
+
+pub ran_none : (phase : Phase) (costs : Costs) (t : Tableau) (trace : List Event) (left : ℕ) → Ran phase costs t t trace trace left left
+ran_none phase costs t trace left = record { events = []; run = still t; lawful = are_pivots phase costs t t [] (still t); appended = sym (append-nil trace); counted = omega arith }
+
+pub ran_more : (phase : Phase) (costs : Costs) (s t u : Tableau) (trace now longer : List Event) (had mid left : ℕ) → Ran phase costs s t trace now had mid → IsStep phase costs t u now longer mid left → Ran phase costs s u trace longer had left
+ran_more phase costs s t u trace now longer had mid left ran step = record {
+  events = ran.events ++ Pivot step.enter step.leave ∷ [];
+  run = more s t u ran.events step.enter step.leave ran.run step.lawful step.pivot step.stands;
+  lawful = are_pivots phase costs s u (ran.events ++ Pivot step.enter step.leave ∷ []) (more s t u ran.events step.enter step.leave ran.run step.lawful step.pivot step.stands);
+  appended = step.appended ∙ ap (λ k. k ++ Pivot step.enter step.leave ∷ []) ran.appended ∙ append_assoc trace ran.events (Pivot step.enter step.leave ∷ []);
+  counted = let a = ran.counted in let b = step.counted in omega (arith, length-append ran.events (Pivot step.enter step.leave ∷ []));
+}
+
+pub ran_same : (phase : Phase) (costs : Costs) (s t u : Tableau) (trace now longer : List Event) (had mid left : ℕ) → Ran phase costs s t trace now had mid → IsSame t u now longer mid left → Ran phase costs s u trace longer had left
+ran_same phase costs s t u trace now longer had mid left ran same = record {
+  events = ran.events;
+  run = subst (λ k. Run phase costs s ran.events k) (sym same.table_same) ran.run;
+  lawful = subst (λ k. ArePivots phase costs s ran.events k) (sym same.table_same) ran.lawful;
+  appended = same.trace_same ∙ ran.appended;
+  counted = ap (λ k. k + length ran.events) same.left_same ∙ ran.counted;
+}
+
+pub costs_kept : (costs : Costs) (enter : Col) (leave : ℕ) (t u : Tableau) → IsPivot leave enter t u → HasCosts costs t → HasCosts costs u
+costs_kept costs enter leave t u pivot h = record {
+  homes = h.homes ∙ ap length (sym pivot.kinds);
+  worlds = subst (λ k. k ≤ length costs.worlds) (sym pivot.worlds) h.worlds;
+  small = h.small;
+}
+
+pub due_refusal : (phase : Phase) (costs : Costs) (t : Tableau) (q : Col) (p : ℕ) → IsLawful phase costs t q p → (e : SettleError) → IsPivotRefusal t q p e → IsDueRefusal phase costs t e
+due_refusal phase costs t q p lawful (Wide w) h = at_pivot q p lawful h
+due_refusal phase costs t q p lawful NoMemory h = tt
+
+pub settled_same : (phase : Phase) (costs : Costs) (t u : Tableau) (trace longer : List Event) (had left : ℕ) (s : Settled) → IsSame t u trace longer had left → IsSettled phase costs t had s → IsSettled phase costs u left s
+settled_same phase costs t u trace longer had left s same h =
+    subst (λ (k : Tableau). IsSettled phase costs k left s) (sym same.table_same) (subst (λ (k : ℕ). IsSettled phase costs t k s) (sym same.left_same) h)

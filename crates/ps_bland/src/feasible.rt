@@ -1,0 +1,47 @@
+//! Whether phase one is due to end.
+ghost use Rattle.std.specs.Prelude.{◌≡◌, ◌<◌, ◌↔◌, true, length, IsTrue};
+ghost use Rattle.ps_rational.specs.Rational.{zero_q};
+ghost use Rattle.ps_rule.specs.Rule.{IsFeasible};
+ghost use Rattle.ps_table.specs.Tableau.{entry_at, basic_at, IsTableau};
+ghost use Rattle.ps_bland.specs.Runs.{artificial_at, face_of, IsDone};
+
+use crate::columns::is_artificial;
+use crate::phase::Phase;
+use ps_table::Table;
+
+/// Whether a row has no artificial column above 0.
+fn is_row_feasible(table: &Table, row: u32) -> bool
+    requires { row < length table.now.kinds }
+    ensures value { IsTrue result ↔ (artificial_at table.now.kinds (basic_at table.now row) ≡ true → entry_at table.now row 0 ≡ zero_q) }
+{
+    if is_artificial(table, table.basic(row)) {
+        table.value(row).is_zero()
+    } else {
+        true
+    }
+}
+
+/// Whether each basic artificial has value 0.
+fn is_feasible(table: &Table) -> bool
+    ensures value { IsTrue result ↔ IsFeasible (face_of table.now) }
+{
+    for row in 0..table.rows() {
+        if !is_row_feasible(table, row) {
+            return false;
+        }
+    }
+    true
+}
+
+/// Whether phase one is due to end.
+pub(crate) fn is_due_to_end(phase: Phase, table: &Table) -> bool
+    ensures value { IsTrue result ↔ IsDone phase table.now }
+    ensures tableau { IsTableau table.now }
+{
+    let _rows = table.rows();
+    match phase {
+        Phase::One => is_feasible(table),
+        Phase::Lower => false,
+        Phase::Upper => false,
+    }
+}

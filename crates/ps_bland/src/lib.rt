@@ -1,0 +1,20 @@
+//! Bland's rule: pivots until phase one ends, no column improves, or no pivot is left.
+#![tactic(auto)]
+
+mod columns;
+mod entering;
+mod error;
+mod feasible;
+mod leaving;
+mod phase;
+mod ratios;
+mod settled;
+mod settling;
+
+pub use error::SettleError;
+pub use phase::Phase;
+pub use settled::Settled;
+pub use settling::settle;
+
+#[cfg(test)]
+mod tests;

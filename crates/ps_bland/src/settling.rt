@@ -1,0 +1,104 @@
+//! Pivots until an end.
+ghost use Rattle.std.specs.Prelude.{◌≡◌, ◌≢◌, ℕ, ◌+◌, ◌<◌, [], ◌∷◌, ◌++◌, length, IfOk, IfErr};
+ghost use Rattle.ps_rational.specs.Rational.{Rational, zero_q};
+ghost use Rattle.ps_table.specs.Tableau.{spot, entry_at, IsInside, IsPivot, StandsFor};
+ghost use Rattle.ps_bland.specs.Runs.{Ran, IsRound, IsEnd, IsReady, IsPivotRefusal};
+
+use crate::entering::entering;
+use crate::error::SettleError;
+use crate::feasible::is_due_to_end;
+use crate::leaving::leaving;
+use crate::phase::Phase;
+use crate::settled::Settled;
+use ps_pool::{Col, Event, Trace};
+use ps_table::{Costs, Table, TableError};
+
+/// The pivot and its event, or neither.
+fn pivot_with_event(
+    table: &mut Table,
+    trace: &mut Trace,
+    enter: Col,
+    leave: u32,
+) -> Result<(), SettleError>
+    requires inside { IsInside (length table.old.kinds) table.old.worlds enter }
+    requires leave { leave < length table.old.kinds }
+    requires pivot { entry_at table.old leave (spot (length table.old.kinds) enter) ≢ zero_q }
+    ensures pivot { IfOk result (λ _. IsPivot leave enter table.old table.new) }
+    ensures event { IfOk result (λ _. trace.new ≡ trace.old ++ Event.Pivot enter leave ∷ []) }
+    ensures stands { IfOk result (λ _. (A : ℕ → ℕ → Rational) → StandsFor A table.old → StandsFor A table.new) }
+    ensures table_same { IfErr result (λ _. table.new ≡ table.old) }
+    ensures trace_same { IfErr result (λ _. trace.new ≡ trace.old) }
+    ensures refused { IfErr result (IsPivotRefusal table.old enter leave) }
+{
+    if trace.push(Event::Pivot { enter, leave }).is_err() {
+        return Err(SettleError::NoMemory);
+    }
+    let refused = match table.pivot(leave, enter) {
+        Ok(()) => return Ok(()),
+        Err(refused) => refused,
+    };
+    trace.pop();
+    match refused {
+        TableError::Wide(wide) => Err(SettleError::Wide(wide)),
+        TableError::NoMemory => Err(SettleError::NoMemory),
+    }
+}
+
+/// One round: an end, or one lawful pivot.
+fn step(
+    table: &mut Table,
+    costs: &Costs,
+    phase: Phase,
+    left: &mut u64,
+    trace: &mut Trace,
+) -> Result<Option<Settled>, SettleError>
+    requires { IsReady phase costs.now table.old }
+    ensures round { IsRound phase costs.now table.old table.new trace.old trace.new left.old left.new result }
+    ensures ready { IsReady phase costs.now table.new }
+    ensures stands { (A : ℕ → ℕ → Rational) → StandsFor A table.old → StandsFor A table.new }
+{
+    if is_due_to_end(phase, table) {
+        return Ok(Some(Settled::Feasible));
+    }
+    let enter = match entering(table, costs) {
+        Ok(Some(enter)) => enter,
+        Ok(None) => return Ok(Some(Settled::AtRest)),
+        Err(wide) => return Err(SettleError::Wide(wide)),
+    };
+    if *left == 0 {
+        return Ok(Some(Settled::OutOfPivots));
+    }
+    let leave = match leaving(table, phase, enter) {
+        Ok(leave) => leave,
+        Err(wide) => return Err(SettleError::Wide(wide)),
+    };
+    match pivot_with_event(table, trace, enter, leave) {
+        Ok(()) => {}
+        Err(refused) => return Err(refused),
+    }
+    *left -= 1;
+    Ok(None)
+}
+
+/// Lawful pivots until phase one ends, no column improves, or no pivot is left.
+pub fn settle(
+    table: &mut Table,
+    costs: &Costs,
+    phase: Phase,
+    left: &mut u64,
+    trace: &mut Trace,
+) -> Result<Settled, SettleError>
+    requires { IsReady phase costs.now table.old }
+    ensures ran { Ran phase costs.now table.old table.new trace.old trace.new left.old left.new }
+    ensures end { IsEnd phase costs.now table.new left.new result }
+    ensures ready { IsReady phase costs.now table.new }
+    ensures stands { (A : ℕ → ℕ → Rational) → StandsFor A table.old → StandsFor A table.new }
+{
+    loop {
+        match step(table, costs, phase, left, trace) {
+            Ok(None) => {}
+            Ok(Some(settled)) => return Ok(settled),
+            Err(refused) => return Err(refused),
+        }
+    }
+}
