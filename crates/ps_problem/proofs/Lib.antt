@@ -16,3 +16,4 @@ pub mod Stated
 pub mod Values
 pub mod Growth
 pub mod Making
+pub mod Copied

@@ -8,6 +8,7 @@ use Rattle.std.proofs.lemmas.Option.{IfSome_then}
 use Rattle.ps_meaning.specs.Formula.{Formula, Truth, Falsity, Atom, Not, And, Or, Implies, Iff, subformulas}
 use Rattle.ps_meaning.specs.Statements.{Name, Statement, Question, Item, statements_of, questions_of}
 use Rattle.ps_problem.specs.Numbering.{AreOnce, same_name, same_formula, with_new, names_among, numbered_for, numbered_in_statements, numbered_in_questions, formulas_of}
+use Rattle.ps_problem.specs.Builds.{question_on as question}
 use Rattle.ps_problem.specs.Built.{IsAmong, HasQuestion}
 use Rattle.ps_problem.proofs.NameLists.{same_name-true, same_name-refl}
 use Rattle.ps_problem.proofs.Lists.{once-push, any-new}
@@ -114,10 +115,6 @@ has-more fs xs q h = record {
   given = IfSome_then q.given h.given (λ f a. among-all fs xs f a);
   both = among-all fs xs _ h.both;
 }
-
--- a statement's formulas as a question's
-abbrev pub question : Statement → Question
-question s = record { formula = s.formula; given = s.given }
 
 -- formulas in order, with those of these statements or questions
 record Hold {X : Type 0} (of : X → Question) (fs : List (Formula Name)) (xs : List X) : Type 0 where

@@ -14,7 +14,8 @@ use Rattle.ps_problem.specs.Built.{IsAmong, HasQuestion}
 use Rattle.ps_problem.proofs.Lists.{place-below}
 use Rattle.ps_problem.proofs.Counted.{counted-formulas, counted-limits}
 use Rattle.ps_problem.proofs.Trees.{tree-at, are-nodes, atoms-below, different-names}
-use Rattle.ps_problem.proofs.Orders.{Ordered, are-numbered, question}
+use Rattle.ps_problem.specs.Builds.{question_on as question}
+use Rattle.ps_problem.proofs.Orders.{Ordered, are-numbered}
 
 module _ (fs : List (Formula Name)) (o : Ordered fs) where
   place-there : (f : Formula Name) → IsAmong fs f → place_in same_formula fs f < length (map (node_in fs) fs)

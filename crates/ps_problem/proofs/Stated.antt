@@ -9,7 +9,8 @@ use Rattle.ps_problem.specs.Problems.{bounds_in, bounds_of, bound_of, given_at, 
 use Rattle.ps_problem.specs.Numbering.{same_formula, place_in, names_among, node_in, side_in, bound_in, sentence_in, query_in, formulas_of, problem_of, numbered_given, stated_bound, stated_bounds, numbered_question, question_of}
 use Rattle.ps_problem.specs.Built.{IsAmong, HasQuestion}
 use Rattle.ps_problem.proofs.Trees.{tree-at}
-use Rattle.ps_problem.proofs.Orders.{Ordered, are-numbered, question}
+use Rattle.ps_problem.specs.Builds.{question_on as question}
+use Rattle.ps_problem.proofs.Orders.{Ordered, are-numbered}
 
 side-is : (on : meaning.Side) → side_of (side_in on) ≡ on
 side-is meaning.AtLeast = refl

@@ -6,6 +6,7 @@ pub use Rattle.ps_formula.specs.Nodes
 pub mod Problems
 pub mod Numbering
 pub mod Counts
+pub mod Soundness
 pub mod Codes
 pub mod Drafts
 pub mod Entries

@@ -1,7 +1,8 @@
 //! A problem: atoms by name, formulas, sentences and queries.
 ghost use Rattle.std.specs.Prelude.{◌≡◌, ◌≤◌, ◌-◌, All, IfSome, length, map, option_copied, slice_get, Some, None, if◌then◌else◌, ◌==◌};
 ghost use Rattle.ps_formula.specs.Nodes.{AreNodes, AtomBelow};
-ghost use Rattle.ps_problem.specs.Problems.{AreBounds, AreParts, bounds_in};
+ghost use Rattle.ps_problem.specs.Problems.{AreBounds, bounds_in};
+ghost use Rattle.ps_problem.specs.Soundness.{IsProblem};
 
 use crate::{Bound, Queries, Sentences};
 use indexmap::IndexSet;
@@ -21,13 +22,14 @@ pub struct Problem {
 
 impl Model for Problem {
     ghost use Rattle.std.specs.Prelude.{◌≡◌, map};
-    ghost use Rattle.ps_problem.specs.Problems.{Parts, AreParts, bounds_in};
+    ghost use Rattle.ps_problem.specs.Problems.{Parts, bounds_in};
+    ghost use Rattle.ps_problem.specs.Soundness.{IsProblem};
 
     ghost Value = { Parts };
 
     ghost view = { λ p. record { names = map (λ v. v.items) p.names; nodes = p.formulas; sentences = p.sentences; queries = p.queries } };
 
-    ghost invariant = { λ p. AreParts (record { names = map (λ v. v.items) p.names; nodes = p.formulas; sentences = p.sentences; queries = p.queries })
+    ghost invariant = { λ p. IsProblem (record { names = map (λ v. v.items) p.names; nodes = p.formulas; sentences = p.sentences; queries = p.queries })
         × (p.bounds ≡ bounds_in p.sentences) };
 }
 
@@ -40,7 +42,7 @@ impl Problem {
         bounds: List<Bound>,
         queries: Queries,
     ) -> Problem
-        requires sound { AreParts (record { names = map (λ v. v.items) names; nodes = formulas; sentences = sentences; queries = queries }) }
+        requires sound { IsProblem (record { names = map (λ v. v.items) names; nodes = formulas; sentences = sentences; queries = queries }) }
         requires bounds { bounds ≡ bounds_in sentences }
         ensures { result ≡ record { names = map (λ v. v.items) names; nodes = formulas; sentences = sentences; queries = queries } }
     {
@@ -80,12 +82,16 @@ impl Problem {
         &self.formulas
     }
 
+    /// The sentences in order.
     pub fn sentences(&self) -> &Sentences
         ensures sentences { result.now ≡ self.now.sentences }
+        // What every problem is: that of some lawful items within the limits.
+        ensures sound { IsProblem self.now }
     {
         &self.sentences
     }
 
+    /// The queries in order.
     pub fn queries(&self) -> &Queries
         ensures queries { result.now ≡ self.now.queries }
     {

@@ -1,7 +1,9 @@
-use Rattle.std.proofs.Common.{map, sym, subst, ◌∙◌}
+use Rattle.std.proofs.Common.{map, sym, subst, ◌∙◌, All}
+use Rattle.ps_meaning.specs.Names.{IsName}
 use Rattle.ps_problem.specs.Problems.{AreParts}
 use Rattle.ps_problem.proofs.Making.{stating-start, asking-start, asking-end, asking-problem}
 use Rattle.ps_problem.proofs.Parts.{parts-in-order}
+use Rattle.ps_problem.proofs.Copied.{named-copies}
 use Rattle.ps_problem.proofs.assembly.build.Goals as goal
 
 pub sentences-requires : goal.sentences-requires
@@ -23,8 +25,16 @@ of-requires-clause-sound c =
     let r = c.in_default-queries.ensures.ok in
     let e = rw (c.names-names.ensures.names, c.as_slice.ensures) at c.in-Ok.ensures in
     let counted = asking-end d.names d.items s.building.atoms s.building.formulas s.sentences s.bounds s.queries r in
-    subst AreParts (sym (asking-problem d.names d.items s.building.atoms s.building.formulas s.sentences s.bounds s.queries (map (λ v. v.items) c.in-Ok.texts) r e))
-    (parts-in-order d.items r.built.formulas c.names-names.ensures.lawful counted)
+    let is = asking-problem d.names d.items s.building.atoms s.building.formulas s.sentences s.bounds s.queries (map (λ v. v.items) c.in-Ok.texts) r e in
+    record {
+      parts = subst AreParts (sym is) (parts-in-order d.items r.built.formulas c.names-names.ensures.lawful counted);
+      items = d.items;
+      formulas = r.built.formulas;
+      lawful = c.names-names.ensures.lawful;
+      within = counted;
+      numbered = is;
+      named = subst (All IsName) (sym e) (named-copies d.names s.building.atoms (rw c.names-names.ensures.names at c.names-names.ensures.named) r.built.within);
+    }
 
 pub returns : goal.returns
 returns c =

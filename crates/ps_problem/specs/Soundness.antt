@@ -1,0 +1,20 @@
+-- Which problems there are: those of lawful items within the limits.
+use Rattle.std.specs.Prelude.{◌≡◌, List, Ok, All}
+use Rattle.ps_meaning.specs.Formula.{Formula}
+use Rattle.ps_meaning.specs.Names.{IsName}
+use Rattle.ps_meaning.specs.Statements.{Name, Item}
+use Rattle.ps_problem.specs.Problems.{Parts, AreParts}
+use Rattle.ps_problem.specs.Numbering.{problem_of}
+use Rattle.ps_problem.specs.Counts.{counted}
+use Rattle.ps_problem.specs.Drafts.{IsLawful}
+
+-- a problem of some items: nodes and atoms are numbered in the order in which they first come, the values are reduced
+-- and at most 1, the limits are kept, and the names are names
+pub record IsProblem (p : Parts) : Type 0 where
+  pub parts : AreParts p
+  pub items : List Item
+  pub formulas : List (Formula Name)
+  pub lawful : All IsLawful items
+  pub within : counted items ≡ Ok formulas
+  pub numbered : p ≡ problem_of items
+  pub named : All IsName p.names
