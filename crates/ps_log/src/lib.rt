@@ -1,0 +1,18 @@
+//! Logs of refutations: goals and steps as lines of text, and where they are handed over.
+#![tactic(auto)]
+
+mod error;
+mod held;
+mod limits;
+mod numbers;
+mod sink;
+mod text;
+
+pub use error::LogError;
+pub use held::HeldLog;
+pub use limits::{is_goal_within, is_step_within};
+pub use sink::ProofSink;
+pub use text::{write_goal, write_step};
+
+#[cfg(test)]
+mod tests;
