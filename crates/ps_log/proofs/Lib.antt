@@ -1,2 +1,4 @@
 pub mod Lengths
 pub mod ManyNumbers
+pub mod Parts
+pub mod Reading

@@ -7,12 +7,14 @@ mod limits;
 mod numbers;
 mod sink;
 mod text;
+mod text_log;
 
 pub use error::LogError;
 pub use held::HeldLog;
 pub use limits::{is_goal_within, is_step_within};
 pub use sink::ProofSink;
 pub use text::{write_goal, write_step};
+pub use text_log::TextLog;
 
 #[cfg(test)]
 mod tests;
