@@ -1,5 +1,5 @@
 -- Bytes that are cut at a separator.
-use Rattle.std.proofs.Common.{◌≡◌, ℕ, ◌+◌, ◌-◌, ◌<◌, ◌^◌, ◌==◌, Bool, true, false, cond, List, [], ◌∷◌, ◌++◌, length, take, map, Option, None, Some, refl, sym, ap, subst, ◌∙◌, append_assoc, append-nil, arith, if◌then◌else◌, zero, suc, ◌≤◌, length-append}
+use Rattle.std.proofs.Common.{◌≡◌, ℕ, ◌<◌, ◌==◌, Bool, true, false, List, [], ◌∷◌, ◌++◌, length, take, refl, sym, ap, ◌∙◌, append_assoc, append-nil, arith, zero, suc, ◌≤◌, length-append}
 use Rattle.std.proofs.lemmas.List.{take-append-le}
 use Rattle.ps_log.specs.Told.{parts_after, rest_after}
 

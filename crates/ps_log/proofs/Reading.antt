@@ -1,11 +1,10 @@
 -- What written goals and steps tell when they are read.
-use Rattle.std.proofs.Common.{◌≡◌, ℕ, zero, suc, ◌+◌, ◌-◌, ◌<◌, ◌≤◌, ◌^◌, ◌==◌, ℤ, pos, negsuc, Bool, true, false, not, List, [], ◌∷◌, ◌++◌, length, take, map, Option, None, Some, refl, sym, ap, subst, ◌∙◌, append_assoc, append-nil, arith, true≢false, IsTrue, is_some, All, length-append, unsigned_abs}
+use Rattle.std.proofs.Common.{◌≡◌, ℕ, zero, suc, ◌-◌, ◌<◌, ◌≤◌, ◌^◌, ◌==◌, ℤ, pos, negsuc, Bool, true, false, not, List, [], ◌∷◌, ◌++◌, length, take, map, Option, None, Some, refl, sym, ap, subst, ◌∙◌, append_assoc, append-nil, arith, true≢false, IsTrue, is_some, All, length-append, unsigned_abs}
 use Rattle.std.specs.Prelude.{fold}
 use Rattle.std.specs.Fmt.{decimal, signed_decimal}
 use Rattle.std.specs.Char.{digit_value}
 use Rattle.std.specs.Str.Parse.{digits_value, AllDigits}
 use Rattle.std.specs.Option.{option_map}
-use Rattle.std.specs.Io.KnownBytes.{append_known}
 use Rattle.std.proofs.lemmas.Fmt.{decimal_is_IsNumeral_wide}
 use Rattle.std.proofs.lemmas.Bool.{eqb-true}
 use Rattle.std.proofs.lemmas.List.Sums.{fold-append}
@@ -17,8 +16,8 @@ use Rattle.ps_steps.specs.Weights.{Weighted, weighted, size_sum}
 use Rattle.ps_steps.specs.Constraints.{Constraint}
 use Rattle.ps_steps.specs.Steps.{Step}
 use Rattle.ps_log.specs.Texts.{with_number, with_numbers, hint_numbers, term_numbers, step_numbers, goal_numbers, step_line, goal_line, IsId, IsLiteral, IsStepWithin, IsGoalWithin}
-use Rattle.ps_log.specs.Told.{parts_after, rest_after, words, number_of, numbers_of, numbers_after_first, Proof, with_step, with_goal, after_line, proof_of, proof_if, goal_in, steps_in, ends_whole, step_of, goal_of, before_zero, after_zero, but_last, step_from, terms_from, goal_from, first_is}
-use Rattle.ps_log.proofs.Parts.{Lacks, parts-append, rest-append, parts-none, rest-none, parts-one, rest-closed, Lacks-append, Lacks-prefix, same_byte}
+use Rattle.ps_log.specs.Told.{parts_after, rest_after, words, number_of, numbers_of, Proof, with_step, with_goal, after_line, proof_of, proof_if, goal_in, steps_in, ends_whole, step_of, goal_of, before_zero, after_zero, but_last, step_from, terms_from, goal_from, first_is}
+use Rattle.ps_log.proofs.Parts.{Lacks, parts-append, rest-append, parts-none, parts-one, rest-closed, Lacks-append, Lacks-prefix, same_byte}
 
 -- digits are neither spaces nor line feeds
 no_digit : (sep c : ℕ) → (digit_value sep < 10 → ⊥) → digit_value c < 10 → (c == sep) ≡ false

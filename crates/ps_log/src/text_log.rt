@@ -56,7 +56,19 @@ impl<O: Sink> ProofSink for TextLog<'_, O> {
     ghost names = { λ t. name_of t.lines ∷ [] };
 
     #[tactic(auto, using(crate::proofs::Lengths::goal_is_short))]
-    fn begin(&mut self, constraint: &Constraint) -> Result<(), LogError> {
+    fn begin(&mut self, constraint: &Constraint) -> Result<(), LogError>
+        requires whole { IsTrue (not self.old.broken) }
+        requires within { IsGoalWithin constraint.now }
+        ensures ok { OnOk result (Starts (is_some (O.written (sink_of self.old.lines))) (is_some (O.written (sink_of self.new.lines))) (goal_in (proof_if (O.written (sink_of self.new.lines)))) (steps_in (proof_if (O.written (sink_of self.new.lines)))) constraint.now) }
+        ensures whole { OnOk result (IsTrue (not self.new.broken)) }
+        ensures err { OnErr result (Stays (is_some (O.written (sink_of self.old.lines))) (goal_in (proof_if (O.written (sink_of self.old.lines)))) (steps_in (proof_if (O.written (sink_of self.old.lines)))) (is_some (O.written (sink_of self.new.lines))) (goal_in (proof_if (O.written (sink_of self.new.lines)))) (steps_in (proof_if (O.written (sink_of self.new.lines))))) }
+        ensures later { (O.faults (sink_of self.old.lines)) ≤ (O.faults (sink_of self.new.lines)) }
+        ensures cause { IfErr result (λ e. HasCause e (O.faults (sink_of self.old.lines)) (O.faults (sink_of self.new.lines))) }
+        ensures no_memory { IsErrOf result LogError.NoMemory → IsTrue false × IsTrue (not self.new.broken) }
+        ensures only_fault { OnErr result (result ≡ Err LogError.Fault) }
+        ensures same_references { name_of self.new.lines ≡ name_of self.old.lines }
+        ensures written { Wrote O.written O.faults self.old.lines self.new.lines result (goal_line constraint.now ∷ []) }
+    {
         match write_goal(&mut self.lines, constraint) {
             Ok(()) => Ok(()),
             Err(_) => {
@@ -67,7 +79,19 @@ impl<O: Sink> ProofSink for TextLog<'_, O> {
     }
 
     #[tactic(auto, using(crate::proofs::Lengths::step_is_short))]
-    fn step(&mut self, step: &Step) -> Result<(), LogError> {
+    fn step(&mut self, step: &Step) -> Result<(), LogError>
+        requires whole { IsTrue (not self.old.broken) }
+        requires within { IsStepWithin step.now }
+        ensures ok { OnOk result (Grows (is_some (O.written (sink_of self.old.lines))) (goal_in (proof_if (O.written (sink_of self.old.lines)))) (steps_in (proof_if (O.written (sink_of self.old.lines)))) (is_some (O.written (sink_of self.new.lines))) (goal_in (proof_if (O.written (sink_of self.new.lines)))) (steps_in (proof_if (O.written (sink_of self.new.lines)))) (step.now ∷ [])) }
+        ensures whole { OnOk result (IsTrue (not self.new.broken)) }
+        ensures err { OnErr result (Stays (is_some (O.written (sink_of self.old.lines))) (goal_in (proof_if (O.written (sink_of self.old.lines)))) (steps_in (proof_if (O.written (sink_of self.old.lines)))) (is_some (O.written (sink_of self.new.lines))) (goal_in (proof_if (O.written (sink_of self.new.lines)))) (steps_in (proof_if (O.written (sink_of self.new.lines))))) }
+        ensures later { (O.faults (sink_of self.old.lines)) ≤ (O.faults (sink_of self.new.lines)) }
+        ensures cause { IfErr result (λ e. HasCause e (O.faults (sink_of self.old.lines)) (O.faults (sink_of self.new.lines))) }
+        ensures no_memory { IsErrOf result LogError.NoMemory → IsTrue false × IsTrue (not self.new.broken) }
+        ensures only_fault { OnErr result (result ≡ Err LogError.Fault) }
+        ensures same_references { name_of self.new.lines ≡ name_of self.old.lines }
+        ensures written { Wrote O.written O.faults self.old.lines self.new.lines result (step_line step.now ∷ []) }
+    {
         match write_step(&mut self.lines, step) {
             Ok(()) => Ok(()),
             Err(_) => {
