@@ -1,0 +1,4 @@
+pub mod Lengths
+pub mod ManyNumbers
+pub mod Parts
+pub mod Reading

@@ -1,0 +1,19 @@
+use Rattle.std.proofs.Common.{◌∙◌}
+use Rattle.ps_log.specs.Texts.{goal_line}
+use Rattle.ps_log.proofs.Reading.{from_not, plain, plain_prefix, ends_whole-line, goal-one_line, goal_told, stays_told}
+use Rattle.ps_log.proofs.text_log.TextLogProofSink.begin.Goals as goal
+
+pub invariant_of-self : goal.invariant_of-self
+invariant_of-self g c = record {
+  line_empty = c.in-Ok.ensures.empty;
+  unmarked = c.in-Ok.ensures.same_mark ∙ c.args.self.now.unmarked;
+  whole_lines = λ b. ends_whole-line _ _ (goal_line c.args.constraint.now) (plain _ _ _ _ c.args.self.now.unmarked c.in-Ok.ensures.ok);
+}
+
+pub returns-in-Ok-clause-ok : goal.returns-in-Ok-clause-ok
+returns-in-Ok-clause-ok g c =
+    goal_told _ _ c.args.constraint.now c.requires.within (c.args.self.now.whole_lines (from_not _ c.requires.whole)) (plain _ _ _ _ c.args.self.now.unmarked c.in-Ok.ensures.ok)
+
+pub returns-in-Err-clause-err : goal.returns-in-Err-clause-err
+returns-in-Err-clause-err g c =
+    stays_told _ _ (goal_line c.args.constraint.now) (goal-one_line c.args.constraint.now c.requires.within) (plain_prefix _ _ _ _ c.args.self.now.unmarked c.in-Err.ensures.prefix)

@@ -1,0 +1,82 @@
+//! A log in memory.
+ghost use Rattle.std.specs.Prelude.{◌≡◌, [], None, Some, true, IfOk};
+
+use crate::error::LogError;
+use crate::sink::ProofSink;
+use ps_io::{List, NoMemory};
+use ps_pb::{Constraint, Step, Steps};
+use std::alloc::Global;
+
+/// Keeps the goal and the steps.
+#[derive(Drop)]
+pub struct HeldLog {
+    alloc: Global,
+    goal: Option<Constraint>,
+    steps: Steps,
+}
+
+impl HeldLog {
+    /// A log without a goal and without steps.
+    pub fn new(alloc: Global) -> HeldLog
+        ensures goal { result.goal ≡ None }
+        ensures steps { result.steps ≡ [] }
+    {
+        HeldLog {
+            alloc,
+            goal: None,
+            steps: List::new(alloc),
+        }
+    }
+
+    /// Hands the steps out and keeps none.
+    pub fn take_steps(&mut self) -> Steps
+        ensures taken { result ≡ self.old.steps }
+        ensures none_left { self.new.steps ≡ [] }
+        ensures same_goal { self.new.goal ≡ self.old.goal }
+    {
+        std::mem::replace(&mut self.steps, List::new(self.alloc))
+    }
+}
+
+impl ProofSink for HeldLog {
+    ghost tells = { λ _. true };
+
+    ghost goal = { λ l. l.goal };
+
+    ghost steps = { λ l. Some l.steps };
+
+    ghost faults = { λ _. 0 };
+
+    ghost is_whole = { λ _. true };
+
+    ghost takes_memory = { λ _. true };
+
+    ghost names = { λ _. [] };
+
+    fn begin(&mut self, constraint: &Constraint) -> Result<(), LogError> {
+        let held = constraint.copy(self.alloc)?;
+        self.goal = Some(held);
+        self.steps = List::new(self.alloc);
+        Ok(())
+    }
+
+    fn step(&mut self, step: &Step) -> Result<(), LogError> {
+        let held = copy_step(self.alloc, step)?;
+        self.steps.push(held)?;
+        Ok(())
+    }
+
+    fn whole(&self) -> bool {
+        true
+    }
+}
+
+fn copy_step(alloc: Global, step: &Step) -> Result<Step, NoMemory>
+    ensures { IfOk result (λ held. held ≡ step.now) }
+{
+    Ok(Step {
+        id: step.id,
+        lits: List::from_vec(Vec::from_slice(alloc, step.lits.as_slice())?),
+        hints: List::from_vec(Vec::from_slice(alloc, step.hints.as_slice())?),
+    })
+}

@@ -1,0 +1,20 @@
+//! Logs of refutations: goals and steps as lines of text, and where they are handed over.
+#![tactic(auto)]
+
+mod error;
+mod held;
+mod limits;
+mod numbers;
+mod sink;
+mod text;
+mod text_log;
+
+pub use error::LogError;
+pub use held::HeldLog;
+pub use limits::{is_goal_within, is_step_within};
+pub use sink::ProofSink;
+pub use text::{write_goal, write_step};
+pub use text_log::TextLog;
+
+#[cfg(test)]
+mod tests;
