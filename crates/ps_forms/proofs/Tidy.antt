@@ -47,11 +47,11 @@ holds-opposite w (pos zero) h = absurd h
 holds-opposite w (pos (suc k)) h = rw (holds-no w k, holds-yes w k) refl
 holds-opposite w (negsuc k) h = rw (holds-no w k, holds-yes w k) (not-not (get_or w k false))
 
-by_bool : {P : Type 0} (b : Bool) → (b ≡ true → P) → (b ≡ false → P) → P
+pub by_bool : {P : Type 0} (b : Bool) → (b ≡ true → P) → (b ≡ false → P) → P
 by_bool true t f = t refl
 by_bool false t f = f refl
 
-same_int : (x y : ℤ) → int_eq x y ≡ true → x ≡ y
+pub same_int : (x y : ℤ) → int_eq x y ≡ true → x ≡ y
 same_int x y e = (Decides-int_eq x y).0 e
 
 no_int : (b : Bool) → (b ≡ true → ⊥) → not b ≡ true
@@ -59,7 +59,7 @@ no_int true h = absurd (h refl)
 no_int false h = refl
 
 -- each literal once: the same literals
-met-once : (p : ℤ → Bool) (c : Clause) → list_any p (once c) ≡ list_any p c
+pub met-once : (p : ℤ → Bool) (c : Clause) → list_any p (once c) ≡ list_any p c
 met-once p [] = refl
 met-once p (l ∷ ls) = by_bool (p l)
     (λ t. rw t refl)
