@@ -1,0 +1,46 @@
+-- Variables set one after another.
+use Rattle.std.proofs.Common.{◌≡◌, ℕ, zero, suc, ◌+◌, ◌<◌, ◌≤◌, Bool, true, false, Some, None, List, [], ◌∷◌, length, map, set, get_or, refl, ap, arith}
+use Rattle.ps_meaning.specs.Formula.{World}
+use Rattle.ps_formula.specs.declared.node.Node.{Node}
+use Rattle.ps_formula.specs.Nodes.{truths}
+use Rattle.ps_formula.proofs.Trees.{length-truths}
+use Rattle.ps_steps.specs.Assignments.{Assignment, place, is_positive, literal_at, with_true, all_unset}
+
+-- the variables at the first places set, and the others unset
+abbrev pub set_below : ℕ → List Bool → Assignment
+set_below zero [] = []
+set_below (suc p) [] = []
+set_below zero (t ∷ ts) = None ∷ set_below zero ts
+set_below (suc p) (t ∷ ts) = Some t ∷ set_below p ts
+
+pub none_set : (ts : List Bool) → all_unset (length ts) ≡ set_below 0 ts
+none_set [] = refl
+none_set (t ∷ ts) = ap (λ r. None ∷ r) (none_set ts)
+
+pub all_set : (p : ℕ) (ts : List Bool) → length ts ≤ p → set_below p ts ≡ map Some ts
+all_set zero [] past = refl
+all_set (suc p) [] past = refl
+all_set zero (t ∷ ts) past = absurd (omega arith)
+all_set (suc p) (t ∷ ts) past = ap (λ r. Some t ∷ r) (all_set p ts (omega arith))
+
+set_next : (p : ℕ) (ts : List Bool) (d : Bool) → p < length ts → set (set_below p ts) p (Some (get_or ts p d)) ≡ set_below (suc p) ts
+set_next p [] d lt = absurd (omega arith)
+set_next zero (t ∷ ts) d lt = refl
+set_next (suc p) (t ∷ ts) d lt = ap (λ r. Some t ∷ r) (set_next p ts d (omega arith))
+
+place_is : (p : ℕ) (b : Bool) → place (literal_at p b) ≡ p
+place_is p true = omega arith
+place_is p false = omega arith
+
+sign_is : (p : ℕ) (b : Bool) → is_positive (literal_at p b) ≡ b
+sign_is p true = refl
+sign_is p false = refl
+
+pub one_set : (p : ℕ) (ts : List Bool) (d : Bool) → p < length ts → with_true (set_below p ts) (literal_at p (get_or ts p d)) ≡ set_below (p + 1) ts
+unfolding with_true
+one_set p ts d lt =
+    let e : p + 1 ≡ suc p = omega arith in
+    rw (place_is p (get_or ts p d), sign_is p (get_or ts p d), e) (set_next p ts d lt)
+
+pub extension_length : (ns : List Node) (world : World) → length (truths ns world) ≡ length ns
+extension_length ns world = length-truths ns world

@@ -1,0 +1,150 @@
+//! The clauses that say what nodes mean.
+ghost use Rattle.std.specs.Prelude.{◌≡◌, ◌≤◌, ◌<◌, ◌++◌, [], ◌∷◌, length, map, IfOk, OnOk};
+ghost use Rattle.std.specs.List.{list_any};
+ghost use Rattle.std.specs.Ordering.{int_eq};
+ghost use Rattle.ps_formula.specs.Nodes.{Fits as FitsAt, AreNodes};
+ghost use Rattle.ps_steps.specs.Weights.{clause_of};
+ghost use Rattle.ps_forms.specs.Clauses.{yes, no, once, is_tautology, tidy, clauses_at, clause_form};
+ghost use Rattle.ps_forms.specs.Forms.{is_other, form_of};
+
+use crate::form::ClauseForm;
+use ps_formula::{Formulas, Node};
+use ps_io::{List, NoMemory};
+use ps_pb::{Constraint, Lit, clause};
+use std::alloc::Global;
+
+// The literal that a node is true.
+fn yes(node: u32) -> Lit
+    requires { node < 1024 }
+    ensures { result ≡ yes node }
+{
+    Lit::of_place(node as usize, true)
+}
+
+// The literal that a node is false.
+fn no(node: u32) -> Lit
+    requires { node < 1024 }
+    ensures { result ≡ no node }
+{
+    Lit::of_place(node as usize, false)
+}
+
+fn contains(lits: &[Lit], lit: Lit) -> bool
+    ensures { result ≡ list_any (int_eq lit) lits.now }
+{
+    let number = lit.number();
+    lits.iter().any(|other| number == other.number())
+}
+
+fn is_tautology(lits: &[Lit]) -> bool
+    ensures { result ≡ is_tautology lits.now }
+{
+    lits.iter().any(|lit| contains(lits, lit.opposite()))
+}
+
+// Each literal once.
+fn once(alloc: Global, lits: &[Lit]) -> Result<Vec<Lit>, NoMemory>
+    ensures { IfOk result (λ kept. kept.items ≡ once lits.now) }
+{
+    let mut kept = Vec::new(alloc);
+    for lit in lits {
+        if !contains(&kept, *lit) {
+            kept.push(*lit)?;
+        }
+    }
+    Ok(kept)
+}
+
+// Adds a clause, each literal once, unless it is a tautology.
+fn add_tidy(alloc: Global, clauses: &mut List<Constraint>, lits: &[Lit]) -> Result<(), NoMemory>
+    ensures { OnOk result (clauses.new ≡ clauses.old ++ map clause_of (tidy (lits.now ∷ []))) }
+{
+    if is_tautology(lits) {
+        return Ok(());
+    }
+    let lits = once(alloc, lits)?;
+    clauses.push(clause(alloc, &lits)?)
+}
+
+// Adds the clauses of one node.
+#[tactic(auto, using(crate::proofs::Tidied::adds_two, crate::proofs::Tidied::adds_three, crate::proofs::Tidied::adds_four))]
+fn add_node(
+    alloc: Global,
+    clauses: &mut List<Constraint>,
+    x: u32,
+    node: Node,
+) -> Result<(), NoMemory>
+    requires number { x < 1024 }
+    requires fits { FitsAt x node }
+    ensures { OnOk result (clauses.new ≡ clauses.old ++ map clause_of (clauses_at x node)) }
+{
+    match node {
+        Node::True => add_tidy(alloc, clauses, &[yes(x)]),
+        Node::False => add_tidy(alloc, clauses, &[no(x)]),
+        Node::Atom(_) => Ok(()),
+        Node::Not(a) => {
+            add_tidy(alloc, clauses, &[yes(x), yes(a)])?;
+            add_tidy(alloc, clauses, &[no(x), no(a)])
+        }
+        Node::And(a, b) => {
+            add_tidy(alloc, clauses, &[no(x), yes(a)])?;
+            add_tidy(alloc, clauses, &[no(x), yes(b)])?;
+            add_tidy(alloc, clauses, &[yes(x), no(a), no(b)])
+        }
+        Node::Or(a, b) => {
+            add_tidy(alloc, clauses, &[yes(x), no(a)])?;
+            add_tidy(alloc, clauses, &[yes(x), no(b)])?;
+            add_tidy(alloc, clauses, &[no(x), yes(a), yes(b)])
+        }
+        Node::Implies(a, b) => {
+            add_tidy(alloc, clauses, &[yes(x), yes(a)])?;
+            add_tidy(alloc, clauses, &[yes(x), no(b)])?;
+            add_tidy(alloc, clauses, &[no(x), no(a), yes(b)])
+        }
+        Node::Iff(a, b) => {
+            add_tidy(alloc, clauses, &[no(x), no(a), yes(b)])?;
+            add_tidy(alloc, clauses, &[no(x), yes(a), no(b)])?;
+            add_tidy(alloc, clauses, &[yes(x), yes(a), yes(b)])?;
+            add_tidy(alloc, clauses, &[yes(x), no(a), no(b)])
+        }
+    }
+}
+
+fn clauses_of_nodes(alloc: Global, nodes: &[Node]) -> Result<List<Constraint>, NoMemory>
+    requires sound { AreNodes nodes.now }
+    requires most { length nodes.now ≤ 1024 }
+    ensures value { IfOk result (λ cs. cs ≡ map clause_of (clause_form nodes.now)) }
+    ensures few { IfOk result (λ cs. length cs ≤ 4096) }
+{
+    let mut clauses = List::new(alloc);
+    for x in 0..nodes.len() {
+        add_node(alloc, &mut clauses, x as u32, nodes[x])?;
+    }
+    Ok(clauses)
+}
+
+fn is_other(node: &Node) -> bool
+    ensures { result ≡ is_other node.now }
+{
+    !matches!(node, Node::Atom(_))
+}
+
+fn others_of(alloc: Global, nodes: &[Node]) -> Result<List<bool>, NoMemory>
+    ensures { IfOk result (λ others. others ≡ map is_other nodes.now) }
+{
+    let mut others = List::new(alloc);
+    for node in nodes {
+        others.push(is_other(node))?;
+    }
+    Ok(others)
+}
+
+/// The clause form of formulas. The variable of a node has the node's number plus 1. The clauses stand in the order of the
+/// nodes; a repeated literal stands once, and a clause with a literal and its opposite is left out.
+pub fn clauses_of(alloc: Global, formulas: &Formulas) -> Result<ClauseForm, NoMemory>
+    ensures { IfOk result (λ form. form ≡ form_of formulas.now) }
+{
+    let others = others_of(alloc, formulas.nodes())?;
+    let clauses = clauses_of_nodes(alloc, formulas.nodes())?;
+    Ok(ClauseForm::of_nodes(alloc, formulas.len(), others, clauses))
+}

@@ -1,0 +1,138 @@
+//! Clauses over variables.
+ghost use Rattle.std.specs.Prelude.{◌≡◌, ◌≤◌, ◌<◌, ◌-◌, ◌^◌, ◌++◌, [], ◌∷◌, ℕ, zero, suc, None, true, not, nat_lt, nat_le, length, slice_get, slice_index_or, IfOk, OnOk, OnErr, All, option_copied, AllPairs, ◌≢◌};
+ghost use Rattle.ps_steps.specs.Assignments.{place};
+ghost use Rattle.ps_steps.specs.Weights.{clause_of};
+ghost use Rattle.ps_steps.specs.Steps.{constraint_at};
+ghost use Rattle.ps_forms.specs.Forms.{Form, is_atom_variable, clause_at, with_clause};
+
+use ps_io::{List, NoMemory};
+use ps_pb::{Constraint, Lit, clause};
+use std::alloc::Global;
+use std::marker::Model;
+
+/// Clauses over variables that are numbered from 1. Each variable is an atom's or another node's.
+#[derive(Drop)]
+pub struct ClauseForm {
+    alloc: Global,
+    variables: u32,
+    others: List<bool>,
+    clauses: List<Constraint>,
+}
+
+impl Model for ClauseForm {
+    ghost use Rattle.std.specs.Prelude.{◌≤◌, ◌<◌, ◌^◌, length};
+    ghost use Rattle.ps_forms.specs.Forms.{Form};
+
+    ghost Value = { Form };
+
+    ghost view = { λ f. record { variables = f.variables; others = f.others; clauses = f.clauses } };
+
+    ghost invariant = { λ f. (f.variables ≤ 1024) × (length f.clauses < 2 ^ 32) };
+}
+
+impl ClauseForm {
+    /// Without clauses; each variable is an atom's.
+    pub fn new(alloc: Global, variables: u32) -> ClauseForm
+        requires { variables ≤ 1024 }
+        ensures { result ≡ record { variables = variables; others = []; clauses = [] } }
+    {
+        ClauseForm {
+            alloc,
+            variables,
+            others: List::new(alloc),
+            clauses: List::new(alloc),
+        }
+    }
+
+    /// The number of variables.
+    pub fn variables(&self) -> u32
+        ensures value { result ≡ self.now.variables }
+        ensures within { result ≤ 1024 }
+    {
+        self.variables
+    }
+
+    /// Whether a variable is an atom's. One that isn't in the form is none.
+    pub fn is_atom(&self, var: u32) -> bool
+        ensures { result ≡ is_atom_variable self.now var }
+    {
+        if var == 0 || self.variables < var {
+            return false;
+        }
+        match self.others.get(var as usize - 1) {
+            Some(other) => !*other,
+            None => true,
+        }
+    }
+
+    /// The number of clauses.
+    pub fn clauses(&self) -> u32
+        ensures { result ≡ length self.now.clauses }
+    {
+        self.clauses.len() as u32
+    }
+
+    /// The clause of a number, from 1 on; `None` where there is none.
+    pub fn clause(&self, id: u32) -> Option<&Constraint>
+        ensures { option_copied result ≡ clause_at self.now id }
+    {
+        if id == 0 {
+            return None;
+        }
+        self.clauses.get(id as usize - 1)
+    }
+
+    /// Adds the clause of some literals at the end.
+    pub fn add(&mut self, lits: &[Lit]) -> Result<(), NoMemory>
+        requires within { All (λ l. place l < self.old.variables) lits.now }
+        requires once { AllPairs (λ l m. place l ≢ place m) lits.now }
+        requires room { length self.old.clauses < 2 ^ 32 - 1 }
+        ensures ok { OnOk result (self.new ≡ with_clause self.old (clause_of lits.now)) }
+        ensures err { OnErr result (self.new ≡ self.old) }
+    {
+        let constraint = clause(self.alloc, lits)?;
+        self.clauses.push(constraint)
+    }
+
+    pub fn copy(&self, alloc: Global) -> Result<ClauseForm, NoMemory>
+        ensures { IfOk result (λ f. f ≡ self.now) }
+    {
+        let others = List::from_vec(self.others.as_slice().to_vec(alloc)?);
+        let clauses = copies(alloc, self.clauses.as_slice())?;
+        Ok(ClauseForm {
+            alloc,
+            variables: self.variables,
+            others,
+            clauses,
+        })
+    }
+
+    // The form of all nodes.
+    pub(crate) fn of_nodes(
+        alloc: Global,
+        variables: u32,
+        others: List<bool>,
+        clauses: List<Constraint>,
+    ) -> ClauseForm
+        requires variables { variables ≤ 1024 }
+        requires clauses { length clauses < 2 ^ 32 }
+        ensures { result ≡ record { variables = variables; others = others; clauses = clauses } }
+    {
+        ClauseForm {
+            alloc,
+            variables,
+            others,
+            clauses,
+        }
+    }
+}
+
+fn copies(alloc: Global, constraints: &[Constraint]) -> Result<List<Constraint>, NoMemory>
+    ensures { IfOk result (λ cs. cs ≡ constraints.now) }
+{
+    let mut copies = List::new(alloc);
+    for constraint in constraints {
+        copies.push(constraint.copy(alloc)?)?;
+    }
+    Ok(copies)
+}

@@ -1,0 +1,13 @@
+//! The clause form of formulas: a variable for each node, and clauses that say what the nodes mean.
+#![tactic(auto)]
+
+mod clauses;
+mod extension;
+mod form;
+
+pub use clauses::clauses_of;
+pub use extension::names_of;
+pub use form::ClauseForm;
+
+#[cfg(test)]
+mod tests;

@@ -1,0 +1,4 @@
+pub mod Tidy
+pub mod Meanings
+pub mod Extends
+pub mod Worlds

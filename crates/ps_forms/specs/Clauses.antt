@@ -1,0 +1,60 @@
+-- The clause form of a list of nodes, in which each node has a variable.
+use Rattle.std.specs.Prelude.{ℕ, suc, ℤ, pos, negsuc, neg_ℤ, Bool, not, List, [], ◌∷◌, ◌++◌, map}
+use Rattle.std.specs.List.{list_any, filter}
+use Rattle.std.specs.Ordering.{int_eq}
+use Rattle.ps_formula.specs.declared.node.Node.{Node}
+use Rattle.ps_formula.specs.declared.node.Node.TheVariants as node
+use Rattle.ps_steps.specs.Assignments.{holds}
+
+-- a clause: one of its literals is true
+abbrev pub Clause : Type 0
+Clause = List ℤ
+
+-- a full assignment meets a clause
+abbrev pub meets : List Bool → Clause → Bool
+meets w c = list_any (holds w) c
+
+-- a node's variable has its number plus 1: the literal that the node is true, and the one that it is false
+abbrev pub yes : ℕ → ℤ
+yes i = pos (suc i)
+
+abbrev pub no : ℕ → ℤ
+no i = negsuc i
+
+-- what the node of this number means, over its operands: true exactly where its operation gives true
+abbrev pub meaning_of : ℕ → Node → List Clause
+meaning_of x node.True = (yes x ∷ []) ∷ []
+meaning_of x node.False = (no x ∷ []) ∷ []
+meaning_of x (node.Atom n) = []
+meaning_of x (node.Not a) = (yes x ∷ yes a ∷ []) ∷ (no x ∷ no a ∷ []) ∷ []
+meaning_of x (node.And a b) = (no x ∷ yes a ∷ []) ∷ (no x ∷ yes b ∷ []) ∷ (yes x ∷ no a ∷ no b ∷ []) ∷ []
+meaning_of x (node.Or a b) = (yes x ∷ no a ∷ []) ∷ (yes x ∷ no b ∷ []) ∷ (no x ∷ yes a ∷ yes b ∷ []) ∷ []
+meaning_of x (node.Implies a b) = (yes x ∷ yes a ∷ []) ∷ (yes x ∷ no b ∷ []) ∷ (no x ∷ no a ∷ yes b ∷ []) ∷ []
+meaning_of x (node.Iff a b) =
+    (no x ∷ no a ∷ yes b ∷ []) ∷ (no x ∷ yes a ∷ no b ∷ []) ∷ (yes x ∷ yes a ∷ yes b ∷ []) ∷ (yes x ∷ no a ∷ no b ∷ []) ∷ []
+
+-- each literal once, where it first stands
+abbrev pub once : Clause → Clause
+once [] = []
+once (l ∷ ls) = l ∷ filter (λ m. not (int_eq m l)) (once ls)
+
+-- a literal and its opposite stand in the clause
+abbrev pub is_tautology : Clause → Bool
+is_tautology c = list_any (λ l. list_any (int_eq (neg_ℤ l)) c) c
+
+-- tautologies left out, and no literal twice in a clause
+abbrev pub tidy : List Clause → List Clause
+tidy cs = map once (filter (λ c. not (is_tautology c)) cs)
+
+-- the clauses of one node
+abbrev pub clauses_at : ℕ → Node → List Clause
+clauses_at x n = tidy (meaning_of x n)
+
+-- the clauses of nodes that are numbered from here on, node by node
+abbrev pub clauses_from : ℕ → List Node → List Clause
+clauses_from x [] = []
+clauses_from x (n ∷ ns) = clauses_at x n ++ clauses_from (suc x) ns
+
+-- the clause form of all nodes
+abbrev pub clause_form : List Node → List Clause
+clause_form ns = clauses_from 0 ns

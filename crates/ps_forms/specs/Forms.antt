@@ -1,0 +1,36 @@
+-- Forms: clauses over some variables, as constraints.
+use Rattle.std.specs.Prelude.{ℕ, zero, suc, Bool, true, false, not, ◌&&◌, nat_lt, Option, None, List, [], ◌∷◌, ◌++◌, length, map, slice_get, slice_index_or}
+use Rattle.ps_formula.specs.declared.node.Node.{Node}
+use Rattle.ps_formula.specs.declared.node.Node.TheVariants as node
+use Rattle.ps_steps.specs.Constraints.{Constraint}
+use Rattle.ps_steps.specs.Weights.{clause_of}
+use Rattle.ps_forms.specs.Clauses.{clause_form}
+
+-- clauses over variables from 1 on; a variable is an atom's unless it is marked, at its place, as that of another node
+pub record Form : Type 0 where
+  pub variables : ℕ
+  pub others : List Bool
+  pub clauses : List Constraint
+
+-- whether a node is no atom
+abbrev pub is_other : Node → Bool
+is_other (node.Atom n) = false
+is_other n = true
+
+-- the form of all nodes
+abbrev pub form_of : List Node → Form
+form_of ns = record { variables = length ns; others = map is_other ns; clauses = map clause_of (clause_form ns) }
+
+-- whether a variable, by its number, is an atom's
+abbrev pub is_atom_variable : Form → ℕ → Bool
+is_atom_variable f zero = false
+is_atom_variable f (suc p) = nat_lt p f.variables && not (slice_index_or f.others p false)
+
+-- the clause of a number, from 1 on
+abbrev pub clause_at : Form → ℕ → Option Constraint
+clause_at f zero = None
+clause_at f (suc i) = slice_get f.clauses i
+
+-- one more clause, at the end
+abbrev pub with_clause : Form → Constraint → Form
+with_clause f c = record { variables = f.variables; others = f.others; clauses = f.clauses ++ c ∷ [] }

@@ -1,0 +1,6 @@
+//! The words in which contracts speak of the clause form of formulas.
+#![tactic(auto)]
+
+mod laws;
+
+pub use laws::clauses_say_what_nodes_mean;
