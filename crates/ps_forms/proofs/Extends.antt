@@ -72,7 +72,7 @@ agree-same false y e = ap not (sym e)
 abbrev pub SameBelow : ℕ → List Bool → List Bool → Type 0
 SameBelow k v w = (i : ℕ) → i < k → get_or v i true ≡ get_or w i true
 
-value-same : (v w : List Bool) (world : World) (k : ℕ) (n : Node) → Fits k n → SameBelow k v w → value_over v world n ≡ value_over w world n
+pub value-same : (v w : List Bool) (world : World) (k : ℕ) (n : Node) → Fits k n → SameBelow k v w → value_over v world n ≡ value_over w world n
 value-same v w world k node.True f s = refl
 value-same v w world k node.False f s = refl
 value-same v w world k (node.Atom a) f s = refl
@@ -91,7 +91,7 @@ own-same ns v w world are p q (suc k) le i lt =
     let early : SameBelow i v w = λ j below. own-same ns v w world are p q k (omega arith) j (omega arith) in
     p.at i node.True (omega arith) ∙ value-same v w world i n (are.fit i node.True (omega arith)) early ∙ sym (q.at i node.True (omega arith))
 
-fits-later : (m k : ℕ) (n : Node) → Fits m n → m ≤ k → Fits k n
+pub fits-later : (m k : ℕ) (n : Node) → Fits m n → m ≤ k → Fits k n
 fits-later m k node.True f le = tt
 fits-later m k node.False f le = tt
 fits-later m k (node.Atom a) f le = f

@@ -1,3 +1,4 @@
 pub mod Clauses
 pub mod Extensions
 pub mod Forms
+pub mod Settled
