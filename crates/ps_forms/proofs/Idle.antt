@@ -1,12 +1,14 @@
 -- An idle clause is met where all its variables but one have values.
-use Rattle.std.proofs.Common.{◌≡◌, ◌≢◌, ◌⊎◌, inl, inr, ℕ, zero, suc, ◌+◌, ◌-◌, ◌<◌, ◌≤◌, ℤ, pos, negsuc, ◌+ℤ◌, ◌-ℤ◌, ◌≤ℤ◌, Bool, true, false, cond, not, ◌&&◌, ◌||◌, Option, Some, None, List, [], ◌∷◌, ◌++◌, get_or, arith, refl, sym, ap, ◌∙◌}
+use Rattle.std.proofs.Common.{◌≡◌, ◌≢◌, ◌⊎◌, inl, inr, ℕ, zero, suc, ◌+◌, ◌-◌, ◌≤◌, ℤ, pos, negsuc, ◌≤ℤ◌, Bool, true, false, cond, not, ◌&&◌, Some, None, List, [], ◌∷◌, ◌++◌, map, get_or, arith, refl, sym, ◌∙◌}
 use Rattle.std.specs.Prelude.{int_lt, ◌==◌}
-use Rattle.std.specs.List.{list_any}
+use Rattle.std.specs.List.{list_all, All}
 use Rattle.std.proofs.lemmas.Int.{ints}
-use Rattle.std.proofs.lemmas.Bool.{cases_Bool, cases_eq, cases_lt}
+use Rattle.std.proofs.lemmas.Bool.{cases_Bool, cases_eq, and_parts}
+use Rattle.std.proofs.lemmas.List.Elements.{All-nil, All-cons, All-head, All-tail}
 use Rattle.ps_steps.specs.Assignments.{Assignment, place, value_of, with_sign, is_false, is_unset, agree, holds}
-use Rattle.ps_steps.specs.Constraints.{Constraint, IsMet, is_open, sum_where, slack, is_violated, is_forced, some_forced, HasTerm}
+use Rattle.ps_steps.specs.Constraints.{Constraint, IsMet, is_open, sum_where, slack, is_violated, is_forced, some_forced, HasTerm, Forces}
 use Rattle.ps_steps.specs.Weights.{each_once, coefficient_at, term_at, terms_below, last_variable, constraint_of, clause_of}
+use Rattle.ps_steps.proofs.Forcing.{lt-of}
 use Rattle.ps_steps.proofs.Linear.{sum_where-append}
 use Rattle.ps_steps.proofs.Lawful.{met-clause, clause-met}
 use Rattle.ps_forms.specs.Clauses.{Clause, meets}
@@ -134,3 +136,27 @@ pub idle-met : (w : List Bool) (a : Assignment) (i : ℕ) (ls : Clause) → get_
 unfolding constraint_of
 idle-met w a i ls u known idle =
     met-clause w ls (gap-met w a (clause_of ls) idle (gap w a i (coefficient_at (each_once ls)) u (record { at = coefficient-known w a i ls known }) (last_variable (each_once ls))))
+
+-- some term is forced, or none is
+forced-term : (c : Constraint) (a : Assignment) (ts : List (ℤ × ℕ)) → ((l : ℤ) (k : ℕ) → HasTerm l k ts → HasTerm l k c.terms) → ((l : ℤ) → Forces c a l → ⊥) → some_forced (slack c a) a ts ≡ false
+forced-term c a [] among none = refl
+forced-term c a (t ∷ ts) among none = elim (cases_Bool (is_forced (slack c a) a t)) [
+  | inl e ↦ (let parts = and_parts (is_unset (value_of a t.0)) (int_lt (slack c a) (pos t.1)) e in
+      absurd (none t.0 (record { coefficient = t.1; term = among t.0 t.1 (inl (refl, refl)); unset = parts.0; more = lt-of (slack c a) (pos t.1) parts.1 })))
+  | inr e ↦ rw e (forced-term c a ts (λ l k h. among l k (inr h)) none)
+]
+
+pub idle-none : (c : Constraint) (a : Assignment) → IsIdle c a → (l : ℤ) → Forces c a l → ⊥
+idle-none c a idle l f = omega (arith, ints, f.more, unforced-term (slack c a) a c.terms l f.coefficient idle.unforced f.term f.unset)
+
+pub none-idle : (c : Constraint) (a : Assignment) → is_violated c a ≡ false → ((l : ℤ) → Forces c a l → ⊥) → IsIdle c a
+none-idle c a sound none = record { unviolated = sound; unforced = forced-term c a c.terms (λ l k h. h) none }
+
+-- a form is met exactly where its clauses are
+pub form-clauses : (w : List Bool) (cs : List Clause) → All (IsMet w) (map clause_of cs) → list_all (meets w) cs ≡ true
+form-clauses w [] h = refl
+form-clauses w (c ∷ cs) h = rw (met-clause w c (All-head (IsMet w) (clause_of c) (map clause_of cs) h)) (form-clauses w cs (All-tail (IsMet w) (clause_of c) (map clause_of cs) h))
+
+pub clauses-form : (w : List Bool) (cs : List Clause) → list_all (meets w) cs ≡ true → All (IsMet w) (map clause_of cs)
+clauses-form w [] h = All-nil (IsMet w)
+clauses-form w (c ∷ cs) h = let parts = and_parts (meets w c) (list_all (meets w) cs) h in All-cons (IsMet w) (clause_of c) (map clause_of cs) (clause-met w c parts.0) (clauses-form w cs parts.1)

@@ -4,3 +4,4 @@ pub mod Tidy
 pub mod Meanings
 pub mod Extends
 pub mod Worlds
+pub mod Values

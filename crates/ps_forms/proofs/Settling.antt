@@ -1,11 +1,11 @@
 -- The clause form of nodes is settled by its atoms.
-use Rattle.std.proofs.Common.{◌≡◌, ◌≢◌, ◌⊎◌, inl, inr, ℕ, zero, suc, ◌+◌, ◌-◌, ◌<◌, ◌≤◌, ℤ, pos, negsuc, Bool, true, false, not, ◌&&◌, Option, Some, None, List, [], ◌∷◌, ◌++◌, length, map, get_or, arith, refl, sym, ap, ◌∙◌, true≢false}
+use Rattle.std.proofs.Common.{◌≡◌, ◌⊎◌, inl, inr, ℕ, zero, suc, ◌+◌, ◌<◌, ◌≤◌, ℤ, Bool, true, false, not, Option, Some, None, List, [], ◌∷◌, ◌++◌, length, map, get_or, arith, refl, sym, ap, ◌∙◌, true≢false}
 use Rattle.std.specs.Prelude.{slice_get, nat_lt}
-use Rattle.std.specs.List.{list_any, list_all, filter}
+use Rattle.std.specs.List.{list_all, filter}
 use Rattle.std.specs.Ordering.{int_eq}
 use Rattle.std.proofs.lemmas.Bool.{cases_Bool, cases_lt}
 use Rattle.std.proofs.lemmas.List.{get_or_default, get_or_push, get_or_append_left, length_push, get_or-map}
-use Rattle.ps_meaning.specs.Formula.{World, agree}
+use Rattle.ps_meaning.specs.Formula.{agree}
 use Rattle.ps_formula.specs.declared.node.Node.{Node}
 use Rattle.ps_formula.specs.declared.node.Node.TheVariants as node
 use Rattle.ps_formula.specs.Nodes.{Fits, AreNodes, value_over}
@@ -13,41 +13,37 @@ use Rattle.ps_steps.specs.Assignments.{Assignment, place, value_at, is_unset}
 use Rattle.ps_steps.specs.Constraints.{Constraint}
 use Rattle.ps_steps.specs.Weights.{clause_of}
 use Rattle.ps_forms.specs.Clauses.{Clause, meets, yes, no, meaning_of, once, is_tautology, tidy, clauses_at, clauses_from, clause_form}
-use Rattle.ps_forms.specs.Extensions.{AgreesAt}
+use Rattle.ps_forms.specs.Extensions.{AgreesAt, value_or_false}
 use Rattle.ps_forms.specs.Forms.{Form, is_other, form_of, is_atom_variable, clause_at, with_clause}
-use Rattle.ps_forms.specs.Settled.{IsIdle, AreIdle, AtomsAreSet, AllAreSet, IsSettled}
+use Rattle.ps_forms.specs.Settled.{IsIdle, AtomsAreSet, IsSettled}
 use Rattle.ps_forms.proofs.Extends.{fits-later, value-same}
 use Rattle.ps_forms.proofs.Idle.{IsKnown, AreOthersKnown, idle-met}
 use Rattle.ps_forms.proofs.Meanings.{met-node}
 
-abbrev pub value_or : Option Bool → Bool
-value_or None = false
-value_or (Some b) = b
-
 -- the values of the first variables, false where there is none
 abbrev pub values_below : ℕ → Assignment → List Bool
 values_below zero a = []
-values_below (suc p) a = values_below p a ++ value_or (get_or a p None) ∷ []
+values_below (suc p) a = values_below p a ++ value_or_false (get_or a p None) ∷ []
 
 below-length : (p : ℕ) (a : Assignment) → length (values_below p a) ≡ p
 below-length zero a = refl
-below-length (suc p) a = omega (arith, length_push (values_below p a) (value_or (get_or a p None)), below-length p a)
+below-length (suc p) a = omega (arith, length_push (values_below p a) (value_or_false (get_or a p None)), below-length p a)
 
-below-at : (p : ℕ) (a : Assignment) (j : ℕ) → j < p → get_or (values_below p a) j false ≡ value_or (get_or a j None)
+below-at : (p : ℕ) (a : Assignment) (j : ℕ) → j < p → get_or (values_below p a) j false ≡ value_or_false (get_or a j None)
 below-at zero a j lt = absurd (omega arith)
 below-at (suc p) a j lt = elim (cases_lt j p) [
-  | inl less ↦ get_or_append_left (values_below p a) (value_or (get_or a p None) ∷ []) false j (omega (arith, below-length p a)) ∙ below-at p a j less
+  | inl less ↦ get_or_append_left (values_below p a) (value_or_false (get_or a p None) ∷ []) false j (omega (arith, below-length p a)) ∙ below-at p a j less
   | inr last ↦ (let same : p ≡ j = omega arith in
-      get_or_push (values_below p a) (value_or (get_or a p None)) false j (below-length p a ∙ same) ∙ ap (λ q. value_or (get_or a q None)) same)
+      get_or_push (values_below p a) (value_or_false (get_or a p None)) false j (below-length p a ∙ same) ∙ ap (λ q. value_or_false (get_or a q None)) same)
 ]
 
 -- the first variables have values
 abbrev pub SetBelow : ℕ → Assignment → Type 0
 SetBelow i a = (j : ℕ) → j < i → is_unset (get_or a j None) ≡ false
 
-set-is : (o : Option Bool) → is_unset o ≡ false → o ≡ Some (value_or o)
-set-is None e = absurd (true≢false e)
-set-is (Some b) e = refl
+pub set-value : (o : Option Bool) → is_unset o ≡ false → o ≡ Some (value_or_false o)
+set-value None e = absurd (true≢false e)
+set-value (Some b) e = refl
 
 unset-none : (o : Option Bool) → is_unset o ≡ true → o ≡ None
 unset-none None e = refl
@@ -64,7 +60,7 @@ filled-at : (i : ℕ) (a : Assignment) (b : Bool) (j : ℕ) → j < i → get_or
 filled-at i a b j lt = get_or_append_left (values_below i a) (b ∷ []) false j (omega (arith, below-length i a))
 
 filled-known : (i : ℕ) (a : Assignment) (b : Bool) → SetBelow i a → (j : ℕ) → j < i → IsKnown (filled i a b) a j
-filled-known i a b set j lt = set-is (get_or a j None) (set j lt) ∙ ap Some (sym (filled-at i a b j lt ∙ below-at i a j lt))
+filled-known i a b set j lt = set-value (get_or a j None) (set j lt) ∙ ap Some (sym (filled-at i a b j lt ∙ below-at i a j lt))
 
 filled-own : (i : ℕ) (a : Assignment) (b : Bool) → get_or (filled i a b) i false ≡ b
 filled-own i a b = get_or_push (values_below i a) b false i (below-length i a)
@@ -182,11 +178,11 @@ other-set a i n fits at set idle u =
     let met = clauses-met w a i (clauses_at i n) u known idle in
     let same : value_over w [] n ≡ v =
     value-same w below [] i n fits (λ j lt.
-        get_or_default w j true false (omega (arith, filled-length i a (not v))) ∙ filled-at i a (not v) j lt ∙ get_or_default below j false true (omega (arith, below-length i a))) in
+    get_or_default w j true false (omega (arith, filled-length i a (not v))) ∙ filled-at i a (not v) j lt ∙ get_or_default below j false true (omega (arith, below-length i a))) in
     let judged = met-node w [] i n (fits-later i (length w) n fits (omega (arith, filled-length i a (not v)))) at in
     true≢false (sym met ∙ judged ∙ ap (λ b. agree b (value_over w [] n)) (filled-own i a (not v)) ∙ ap (agree (not v)) same ∙ agree-opposite v)
 
-atom-variable : (ns : List Node) (i m : ℕ) (d : Node) → i < length ns → get_or ns i d ≡ node.Atom m → is_atom_variable (form_of ns) (suc i) ≡ true
+pub atom-variable : (ns : List Node) (i m : ℕ) (d : Node) → i < length ns → get_or ns i d ≡ node.Atom m → is_atom_variable (form_of ns) (suc i) ≡ true
 atom-variable ns i m d lt e =
     let inside : nat_lt i (length ns) ≡ true = grind (arith, lt) in
     rw (inside, get_or-map is_other ns i d false lt, e) refl
@@ -194,7 +190,7 @@ atom-variable ns i m d lt e =
 node-set : (ns : List Node) (a : Assignment) → AreNodes ns → AtomsAreSet (form_of ns) a → AreClausesIdle a (clause_form ns)
     → (i : ℕ) (n : Node) → i < length ns → get_or ns i n ≡ n → SetBelow i a → get_or a i None ≡ None → ⊥
 unfolding value_at
-node-set ns a are atoms idle i n lt e set u = 
+node-set ns a are atoms idle i n lt e set u =
     let start : 0 + i ≡ i = omega arith in
     by_node n (rw e at (are.fit i n lt)) e (rw (start, e) at (node-idle a 0 ns i n lt idle))
   where

@@ -10,17 +10,17 @@ use Rattle.ps_formula.proofs.Trees.{length-truths}
 use Rattle.ps_formula.proofs.Different.{values-at}
 use Rattle.ps_forms.specs.Extensions.{extension, AgreesAt, AgreeOnAtoms, is_atom, value_from, world_of}
 
-by_bool : {P : Type 0} (b : Bool) → (b ≡ true → P) → (b ≡ false → P) → P
+pub by_bool : {P : Type 0} (b : Bool) → (b ≡ true → P) → (b ≡ false → P) → P
 by_bool true t f = t refl
 by_bool false t f = f refl
 
-eq_test-true : (i : ℕ) → (i == i) ≡ true
+pub eq_test-true : (i : ℕ) → (i == i) ≡ true
 eq_test-true i = grind arith
 
-same_number : (i j : ℕ) → (i == j) ≡ true → i ≡ j
+pub same_number : (i j : ℕ) → (i == j) ≡ true → i ≡ j
 same_number i j h = grind (arith, h)
 
-same_atom : (n : ℕ) (m : Node) → is_atom n m ≡ true → node.Atom n ≡ m
+pub same_atom : (n : ℕ) (m : Node) → is_atom n m ≡ true → node.Atom n ≡ m
 same_atom n (node.Atom m) h = ap node.Atom (sym (same_number m n h))
 same_atom n node.True h = absurd (true≢false (sym h))
 same_atom n node.False h = absurd (true≢false (sym h))
@@ -47,11 +47,11 @@ value_from-at x (m ∷ ms) w n (suc j) lt e first = by_bool (is_atom n m)
     let p : x + suc j ≡ suc x + j = omega arith in
     rw (f, p) (value_from-at (suc x) ms w n j (omega arith) e (λ k below. first (suc k) (omega arith))))
 
-length-world_of : (atoms : ℕ) (ns : List Node) (w : List Bool) → length (world_of atoms ns w) ≡ atoms
+pub length-world_of : (atoms : ℕ) (ns : List Node) (w : List Bool) → length (world_of atoms ns w) ≡ atoms
 length-world_of zero ns w = refl
 length-world_of (suc n) ns w = omega (arith, length-world_of n ns w, length_push (world_of n ns w) (value_from 0 ns w n))
 
-world_of-at : (atoms : ℕ) (ns : List Node) (w : List Bool) (n : ℕ) → n < atoms → get_or (world_of atoms ns w) n false ≡ value_from 0 ns w n
+pub world_of-at : (atoms : ℕ) (ns : List Node) (w : List Bool) (n : ℕ) → n < atoms → get_or (world_of atoms ns w) n false ≡ value_from 0 ns w n
 world_of-at zero ns w n lt = absurd (omega arith)
 world_of-at (suc k) ns w n lt = by_place (cases_lt n k) (world_of-at k ns w n)
   where

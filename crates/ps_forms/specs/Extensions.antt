@@ -1,9 +1,10 @@
 -- Worlds and the full assignments of the nodes' variables.
-use Rattle.std.specs.Prelude.{ℕ, zero, suc, ◌<◌, ◌≡◌, ◌==◌, Bool, false, if◌then◌else◌, List, [], ◌∷◌, ◌++◌, length, slice_index_or}
+use Rattle.std.specs.Prelude.{ℕ, zero, suc, ◌<◌, ◌≡◌, ◌==◌, Bool, false, if◌then◌else◌, Option, Some, None, List, [], ◌∷◌, ◌++◌, length, map, slice_index_or, Contains}
 use Rattle.ps_meaning.specs.Formula.{World}
 use Rattle.ps_formula.specs.declared.node.Node.{Node}
 use Rattle.ps_formula.specs.declared.node.Node.TheVariants as node
 use Rattle.ps_formula.specs.Nodes.{truths}
+use Rattle.ps_steps.specs.Assignments.{Assignment, value_at}
 
 -- the extension of a world gives each node's variable the truth of the node
 abbrev pub extension : List Node → World → List Bool
@@ -31,3 +32,24 @@ value_from i (m ∷ ms) w n = if is_atom n m then slice_index_or w i false else 
 abbrev pub world_of : ℕ → List Node → List Bool → World
 world_of zero ns w = []
 world_of (suc n) ns w = world_of n ns w ++ value_from 0 ns w n ∷ []
+
+-- the values of an assignment's variables, false where there is none
+abbrev pub value_or_false : Option Bool → Bool
+value_or_false None = false
+value_or_false (Some b) = b
+
+abbrev pub values_of : Assignment → List Bool
+values_of a = map value_or_false a
+
+-- a partial assignment has for an atom's variable the truth value of the atom in the world
+abbrev pub HasAtomAt : ℕ → Assignment → World → Node → Type 0
+HasAtomAt i a world (node.Atom n) = value_at a (suc i) ≡ Some (slice_index_or world n false)
+HasAtomAt i a world other = Unit {0}
+
+-- a partial assignment has the truth value of each atom among the nodes
+pub record HasAtoms (ns : List Node) (a : Assignment) (world : World) : Type 0 where
+  pub at : (i : ℕ) (d : Node) → i < length ns → HasAtomAt i a world (slice_index_or ns i d)
+
+-- the atoms below a number each have a node
+pub record HasEachAtom (atoms : ℕ) (ns : List Node) : Type 0 where
+  pub at : (n : ℕ) → n < atoms → Contains ns (node.Atom n)

@@ -1,8 +1,8 @@
 -- Forms: clauses over some variables, as constraints.
-use Rattle.std.specs.Prelude.{ℕ, zero, suc, Bool, true, false, not, ◌&&◌, nat_lt, Option, None, List, [], ◌∷◌, ◌++◌, length, map, slice_get, slice_index_or}
+use Rattle.std.specs.Prelude.{ℕ, zero, suc, Bool, true, false, not, ◌&&◌, nat_lt, Option, None, List, [], ◌∷◌, ◌++◌, length, map, slice_get, slice_index_or, All}
 use Rattle.ps_formula.specs.declared.node.Node.{Node}
 use Rattle.ps_formula.specs.declared.node.Node.TheVariants as node
-use Rattle.ps_steps.specs.Constraints.{Constraint}
+use Rattle.ps_steps.specs.Constraints.{Constraint, IsMet}
 use Rattle.ps_steps.specs.Weights.{clause_of}
 use Rattle.ps_forms.specs.Clauses.{clause_form}
 
@@ -34,3 +34,7 @@ clause_at f (suc i) = slice_get f.clauses i
 -- one more clause, at the end
 abbrev pub with_clause : Form → Constraint → Form
 with_clause f c = record { variables = f.variables; others = f.others; clauses = f.clauses ++ c ∷ [] }
+
+-- a full assignment meets each clause
+abbrev pub MeetsForm : List Bool → Form → Type 0
+MeetsForm w f = All (IsMet w) f.clauses

@@ -3,4 +3,4 @@
 
 mod laws;
 
-pub use laws::clauses_say_what_nodes_mean;
+pub use laws::{atoms_settle_forms, clauses_say_what_nodes_mean, worlds_of_assignments};

@@ -1,4 +1,6 @@
 use Rattle.ps_forms.specs.Extensions.{world_of}
+use Rattle.ps_forms.specs.Clauses.{clause_form}
+use Rattle.ps_forms.proofs.Idle.{form-clauses, clauses-form}
 use Rattle.ps_forms.proofs.Extends.{met-extension, extension-met}
 use Rattle.ps_forms.proofs.Worlds.{world_of-agrees, extension-agrees}
 use Rattle.ps_forms.proofs.laws.clauses_say_what_nodes_mean.Goals as goal
@@ -14,3 +16,6 @@ returns-clause-given c = λ ns w atoms are long within.
 
 pub returns-clause-agrees : goal.returns-clause-agrees
 returns-clause-agrees c = extension-agrees
+
+pub returns-clause-constraints : goal.returns-clause-constraints
+returns-clause-constraints c = λ ns w. (form-clauses w (clause_form ns), clauses-form w (clause_form ns))
