@@ -1,3 +1,4 @@
 pub mod Tidied
 pub mod Nodes
 pub mod Assigned
+pub mod Kept

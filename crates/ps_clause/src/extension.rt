@@ -1,10 +1,12 @@
-//! The assignment of the nodes' variables that a world gives.
-ghost use Rattle.std.specs.Prelude.{◌≡◌, ◌≤◌, length, map, Some, All, IfOk};
-ghost use Rattle.ps_formula.specs.Nodes.{AtomBelow};
+//! The assignment of the nodes' variables that a world gives, and the world that an assignment gives.
+ghost use Rattle.std.specs.Prelude.{◌≡◌, ◌≤◌, ℕ, List, Bool, false, length, map, Some, All, IfOk, replicate};
+ghost use Rattle.ps_formula.specs.Nodes.{AreNodes, AtomBelow};
 ghost use Rattle.ps_steps.specs.Assignments.{all_unset};
-ghost use Rattle.ps_forms.specs.Extensions.{extension};
+ghost use Rattle.ps_forms.specs.Extensions.{extension, world_of, values_of, HasAtoms};
+ghost use Rattle.ps_forms.specs.Forms.{form_of};
+ghost use Rattle.ps_forms.specs.Settled.{AtomsAreSet};
 
-use ps_formula::{Formulas, World, eval};
+use ps_formula::{Formulas, Node, World, eval};
 use ps_io::NoMemory;
 use ps_pb::{Assignment, Lit};
 use std::alloc::Global;
@@ -31,4 +33,48 @@ fn set_all(assignment: &mut Assignment, truths: &[bool])
     for place in 0..truths.len() {
         assignment.set(Lit::of_place(place, truths[place]));
     }
+}
+
+/// The world that an assignment gives: an atom has the value of its node's variable. It is false where that is unset, or no
+/// node is the atom.
+pub fn world_of(
+    alloc: Global,
+    formulas: &Formulas,
+    atoms: u16,
+    a: &Assignment,
+) -> Result<World, NoMemory>
+    requires { All (AtomBelow atoms) formulas.now }
+    ensures value { IfOk result (λ world. world ≡ world_of atoms formulas.now (values_of a.now)) }
+    ensures length { IfOk result (λ world. length world ≡ atoms) }
+    ensures atoms { AtomsAreSet (form_of formulas.now) a.now → IfOk result (λ world. HasAtoms formulas.now a.now world) }
+    ensures full { (w : List Bool) → a.now ≡ map Some w → IfOk result (λ world. world ≡ world_of atoms formulas.now w) }
+{
+    let mut values = vec![in alloc; false; atoms as usize]?;
+    set_atoms(formulas.nodes(), a, &mut values);
+    world_of_values(alloc, &values)
+}
+
+// Gives each atom the value of its node's variable.
+fn set_atoms(nodes: &[Node], a: &Assignment, values: &mut [bool])
+    requires sound { AreNodes nodes.now }
+    requires most { length nodes.now ≤ 1024 }
+    requires atoms { All (AtomBelow (length values.old)) nodes.now }
+    requires unset { values.old ≡ replicate (length values.old) false }
+    ensures { values.new ≡ world_of (length values.old) nodes.now (values_of a.now) }
+{
+    for i in 0..nodes.len() {
+        if let Node::Atom(atom) = nodes[i] {
+            values[atom as usize] = a.value(i as u32 + 1).unwrap_or(false);
+        }
+    }
+}
+
+fn world_of_values(alloc: Global, values: &[bool]) -> Result<World, NoMemory>
+    ensures { IfOk result (λ world. world ≡ values.now) }
+{
+    let mut world = World::new(alloc);
+    for value in values {
+        world.push(*value)?;
+    }
+    Ok(world)
 }

@@ -4,13 +4,15 @@ ghost use Rattle.ps_steps.specs.Assignments.{place};
 ghost use Rattle.ps_steps.specs.Weights.{clause_of};
 ghost use Rattle.ps_steps.specs.Steps.{constraint_at};
 ghost use Rattle.ps_forms.specs.Forms.{Form, is_atom_variable, clause_at, with_clause};
+ghost use Rattle.ps_forms.specs.Settled.{IsSettled};
 
 use ps_io::{List, NoMemory};
 use ps_pb::{Constraint, Lit, clause};
 use std::alloc::Global;
 use std::marker::Model;
 
-/// Clauses over variables that are numbered from 1. Each variable is an atom's or another node's.
+/// Clauses over variables that are numbered from 1. Each variable is an atom's or another node's. Where each atom's variable
+/// has a value, and no clause is violated or forces a literal, each variable has a value.
 #[derive(Drop)]
 pub struct ClauseForm {
     alloc: Global,
@@ -22,12 +24,13 @@ pub struct ClauseForm {
 impl Model for ClauseForm {
     ghost use Rattle.std.specs.Prelude.{◌≤◌, ◌<◌, ◌^◌, length};
     ghost use Rattle.ps_forms.specs.Forms.{Form};
+    ghost use Rattle.ps_forms.specs.Settled.{IsSettled};
 
     ghost Value = { Form };
 
     ghost view = { λ f. record { variables = f.variables; others = f.others; clauses = f.clauses } };
 
-    ghost invariant = { λ f. (f.variables ≤ 1024) × (length f.clauses < 2 ^ 32) };
+    ghost invariant = { λ f. (f.variables ≤ 1024) × ((length f.clauses < 2 ^ 32) × IsSettled (record { variables = f.variables; others = f.others; clauses = f.clauses })) };
 }
 
 impl ClauseForm {
@@ -48,6 +51,7 @@ impl ClauseForm {
     pub fn variables(&self) -> u32
         ensures value { result ≡ self.now.variables }
         ensures within { result ≤ 1024 }
+        ensures settled { IsSettled self.now }
     {
         self.variables
     }
@@ -107,6 +111,13 @@ impl ClauseForm {
         })
     }
 
+    /// The clauses, in their order.
+    pub fn into_clauses(self) -> List<Constraint>
+        ensures { result ≡ self.clauses }
+    {
+        self.clauses
+    }
+
     // The form of all nodes.
     pub(crate) fn of_nodes(
         alloc: Global,
@@ -116,6 +127,7 @@ impl ClauseForm {
     ) -> ClauseForm
         requires variables { variables ≤ 1024 }
         requires clauses { length clauses < 2 ^ 32 }
+        requires settled { IsSettled (record { variables = variables; others = others; clauses = clauses }) }
         ensures { result ≡ record { variables = variables; others = others; clauses = clauses } }
     {
         ClauseForm {

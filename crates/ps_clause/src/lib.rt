@@ -6,7 +6,7 @@ mod extension;
 mod form;
 
 pub use clauses::clauses_of;
-pub use extension::names_of;
+pub use extension::{names_of, world_of};
 pub use form::ClauseForm;
 
 #[cfg(test)]

@@ -1,0 +1,15 @@
+use Rattle.std.proofs.Common.{map, ap, ◌∙◌}
+use Rattle.ps_steps.specs.Weights.{clause_of}
+use Rattle.ps_forms.specs.Clauses.{clause_form}
+use Rattle.ps_forms.specs.Forms.{is_other}
+use Rattle.ps_formula.specs.Nodes.{AreNodes}
+use Rattle.ps_clause.proofs.Kept.{of_nodes}
+use Rattle.ps_clause.proofs.clauses.clauses_of.Goals as goal
+
+pub of_nodes-requires-clause-settled : goal.of_nodes-requires-clause-settled
+of_nodes-requires-clause-settled c =
+    of_nodes c.args.formulas.now c.len.result c.in_ok-others.others c.in_ok-clauses.clauses
+    (rw (c.nodes.ensures.nodes) at c.nodes.ensures.sound)
+    c.len.ensures.len
+    (c.in_ok-others.ensures ∙ ap (map is_other) c.nodes.ensures.nodes)
+    (c.in_ok-clauses.ensures.value ∙ ap (λ ns. map clause_of (clause_form ns)) c.nodes-2.ensures.nodes)
