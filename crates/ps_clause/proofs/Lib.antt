@@ -2,3 +2,4 @@ pub mod Tidied
 pub mod Nodes
 pub mod Assigned
 pub mod Kept
+pub mod Atoms

@@ -1,10 +1,10 @@
-//! What no clause says: that calls succeed where there is memory; and the clauses of an implication.
+//! What no clause says: that calls succeed where there is memory; the clauses of an implication, and the world of its atoms.
 ghost use Rattle.std.specs.Prelude.{◌≡◌, ◌≤◌, length, All, OnOk};
 ghost use Rattle.ps_formula.specs.Nodes.{Fits, AtomBelow};
 
-use crate::{ClauseForm, clauses_of, names_of};
+use crate::{ClauseForm, clauses_of, names_of, world_of};
 use ps_formula::{Formulas, Node, World};
-use ps_pb::Lit;
+use ps_pb::{Assignment, Lit};
 use std::test::*;
 
 // Whether a clause has these literals, by rising variable.
@@ -62,5 +62,25 @@ fn a_clause_is_added(rt: HostRuntime) -> Result<(), Fail> {
     form.add(&[Lit::of_place(1, false)])?;
     assert!(rt; is_clause(&form, 1, &[-2]));
     assert!(rt; form.is_atom(2));
+    Ok(())
+}
+
+// The nodes stand in another order than the atoms' numbers.
+#[test]
+fn the_world_of_an_assignment(rt: HostRuntime) -> Result<(), Fail> {
+    let alloc = rt.alloc();
+    let mut formulas = Formulas::new(alloc);
+    formulas.add(Node::Atom(1))?;
+    formulas.add(Node::Atom(0))?;
+    add(&mut formulas, Node::Implies(0, 1))?;
+    let mut values = Assignment::new(alloc, 3)?;
+    values.set(Lit::of_place(0, true));
+    values.set(Lit::of_place(1, false));
+    let world = world_of(alloc, &formulas, 2, &values)?;
+    assert_eq!(rt; world.as_slice(), [false, true].as_slice());
+    let names = names_of(alloc, &formulas, &world)?;
+    assert_eq!(rt; names.value(1), Some(true));
+    assert_eq!(rt; names.value(2), Some(false));
+    assert_eq!(rt; names.value(3), Some(false));
     Ok(())
 }

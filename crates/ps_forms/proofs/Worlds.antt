@@ -77,7 +77,7 @@ agrees-by_atom i w world (node.Or a b) h = tt
 agrees-by_atom i w world (node.Implies a b) h = tt
 agrees-by_atom i w world (node.Iff a b) h = tt
 
-atom_below : (atoms n : ℕ) (m : Node) → AtomBelow atoms m → m ≡ node.Atom n → n < atoms
+pub atom_below : (atoms n : ℕ) (m : Node) → AtomBelow atoms m → m ≡ node.Atom n → n < atoms
 atom_below atoms n m h e = rw e at h
 
 pub world_of-agrees : (atoms : ℕ) (ns : List Node) (w : List Bool) → AreNodes ns → All (AtomBelow atoms) ns → AgreeOnAtoms ns w (world_of atoms ns w)

@@ -2,7 +2,6 @@ use Rattle.std.proofs.Common.{map, ap, ◌∙◌}
 use Rattle.ps_steps.specs.Weights.{clause_of}
 use Rattle.ps_forms.specs.Clauses.{clause_form}
 use Rattle.ps_forms.specs.Forms.{is_other}
-use Rattle.ps_formula.specs.Nodes.{AreNodes}
 use Rattle.ps_clause.proofs.Kept.{of_nodes}
 use Rattle.ps_clause.proofs.clauses.clauses_of.Goals as goal
 

@@ -1,4 +1,4 @@
-use Rattle.std.proofs.Common.{◌<◌, ◌^◌, length, arith}
+use Rattle.std.proofs.Common.{arith}
 use Rattle.std.proofs.lemmas.Grind.{common_steps}
 use Rattle.ps_clause.proofs.Kept.{added}
 use Rattle.ps_clause.proofs.form.ClauseForm.add.Goals as goal
