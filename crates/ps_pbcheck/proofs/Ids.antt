@@ -6,7 +6,7 @@ use Rattle.ps_steps.specs.Steps.{constraint_at}
 use Rattle.ps_steps.proofs.Places.{constraint_at-place, constraint_at-zero}
 use Rattle.ps_pbcheck.specs.Checked.{known_of}
 
-known_at : (cs : List Constraint) (i : ℕ) → get_or (known_of cs) i None ≡ slice_get cs i
+pub known_at : (cs : List Constraint) (i : ℕ) → get_or (known_of cs) i None ≡ slice_get cs i
 known_at [] i = refl
 known_at (c ∷ cs) zero = refl
 known_at (c ∷ cs) (suc i) = known_at cs i

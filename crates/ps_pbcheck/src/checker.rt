@@ -1,11 +1,12 @@
 //! The checker of steps.
-ghost use Rattle.std.specs.Prelude.{◌≡◌, ◌++◌, ◌∷◌, [], IfOk, OnOk, OnErr, false, None, Some, fold};
+ghost use Rattle.std.specs.Prelude.{◌≡◌, ◌++◌, ◌∷◌, [], IfOk, OnOk, OnErr, true, false, None, Some, fold};
 ghost use Rattle.ps_steps.specs.Steps.{refusal_of, with_step, is_contradiction, and_false, Entails};
-ghost use Rattle.ps_pbcheck.specs.Checked.{known_of};
+ghost use Rattle.ps_pbcheck.specs.Checked.{known_of, IsStart, IsUnmet};
 ghost use Rattle.ps_pbcheck.specs.Judged.{IsJudged, AllFalse};
 
 use crate::hints::follow_hints;
 use crate::refused::StepRefused;
+use ps_clause::ClauseForm;
 use ps_io::{List, NoMemory};
 use ps_pb::{Assignment, Constraint, Lit, Step, clause};
 use std::alloc::Global;
@@ -21,24 +22,24 @@ pub struct Checker {
 }
 
 impl Model for Checker {
-    ghost use Rattle.ps_pbcheck.specs.Checked.{Checked, known_of};
+    ghost use Rattle.std.specs.Prelude.{◌≡◌, true};
+    ghost use Rattle.ps_pbcheck.specs.Checked.{Checked, known_of, IsUnmet};
 
     ghost Value = { Checked };
 
     ghost view = { λ c. record { variables = c.variables; known = known_of c.known; refuted = c.refuted } };
+
+    ghost invariant = { λ c. c.refuted ≡ true → IsUnmet (known_of c.known) };
 }
 
 impl Checker {
-    /// Knows the clauses, under the ids from 1 on, and then the goal.
-    pub fn over(
-        alloc: Global,
-        variables: u32,
-        clauses: List<Constraint>,
-        goal: Constraint,
-    ) -> Result<Checker, NoMemory>
-        ensures { IfOk result (λ c. c ≡ record { variables = variables; known = known_of clauses ++ Some goal ∷ []; refuted = false }) }
+    /// Knows the clauses of a form, under the ids from 1 on, and then the goal.
+    pub fn new(alloc: Global, form: ClauseForm, goal: Constraint) -> Result<Checker, NoMemory>
+        ensures value { IfOk result (λ c. c ≡ record { variables = form.variables; known = known_of (form.clauses ++ goal ∷ []); refuted = false }) }
+        ensures start { IfOk result (λ c. IsStart form goal c.known) }
     {
-        let mut known = clauses;
+        let variables = form.variables();
+        let mut known = form.into_clauses();
         known.push(goal)?;
         Ok(Checker {
             alloc,
@@ -64,9 +65,10 @@ impl Checker {
         Ok(())
     }
 
-    /// Whether the last step taken has no literals.
+    /// Whether the last step taken has no literals. Then no full assignment meets what is known.
     pub fn refuted(&self) -> bool
-        ensures { result ≡ self.now.refuted }
+        ensures value { result ≡ self.now.refuted }
+        ensures unmet { result ≡ true → IsUnmet self.now.known }
     {
         self.refuted
     }

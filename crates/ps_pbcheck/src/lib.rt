@@ -3,9 +3,11 @@
 
 mod checker;
 mod hints;
+mod laws;
 mod refused;
 
 pub use checker::Checker;
+pub use laws::refutations_are_sound;
 pub use refused::StepRefused;
 
 #[cfg(test)]

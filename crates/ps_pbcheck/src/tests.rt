@@ -1,6 +1,7 @@
 use crate::{Checker, StepRefused};
-use ps_io::List;
-use ps_pb::{Constraint, Hints, Lit, Lits, Step, clause};
+use ps_clause::{ClauseForm, clauses_of};
+use ps_formula::{Formulas, Node};
+use ps_pb::{Hints, Lit, Lits, Step, clause, from_weights};
 use std::alloc::Global;
 use std::test::Fail;
 
@@ -22,24 +23,13 @@ fn step(alloc: Global, id: u64, numbers: &[i32], ids: &[u64]) -> Result<Step, Fa
     Ok(Step { id, lits, hints })
 }
 
-fn constraint(alloc: Global, numbers: &[i32]) -> Result<Constraint, Fail> {
-    let lits = lits(alloc, numbers)?;
-    Ok(clause(alloc, lits.as_slice()).ok().ok_or("memory")?)
-}
-
 /// Either of two variables, the first where the second is true, and as the goal the first false.
 fn checker(alloc: Global) -> Result<Checker, Fail> {
-    let mut clauses = List::new(alloc);
-    clauses
-        .push(constraint(alloc, &[2, 1])?)
-        .ok()
-        .ok_or("memory")?;
-    clauses
-        .push(constraint(alloc, &[1, -2])?)
-        .ok()
-        .ok_or("memory")?;
-    let goal = constraint(alloc, &[-1])?;
-    Ok(Checker::over(alloc, 2, clauses, goal).ok().ok_or("memory")?)
+    let mut form = ClauseForm::new(alloc, 2);
+    form.add(&[Lit::of_place(1, true), Lit::of_place(0, true)])?;
+    form.add(&[Lit::of_place(0, true), Lit::of_place(1, false)])?;
+    let goal = clause(alloc, &[Lit::of_place(0, false)])?;
+    Ok(Checker::new(alloc, form, goal)?)
 }
 
 #[test]
@@ -73,5 +63,31 @@ fn the_first_reason_is_named(rt: HostRuntime) -> Result<(), Fail> {
         let step = step(alloc, 4, lits, hints)?;
         assert_eq!(rt; checker.take(&step).err(), Some(reason));
     }
+    Ok(())
+}
+
+/// With the first atom true and the implication true, the second atom is.
+#[test]
+fn an_implication_is_refuted(rt: HostRuntime) -> Result<(), Fail> {
+    let alloc = rt.alloc();
+    let mut formulas = Formulas::new(alloc);
+    formulas.add(Node::Atom(0))?;
+    formulas.add(Node::Atom(1))?;
+    formulas.add(Node::Implies(0, 1))?;
+    let form = clauses_of(alloc, &formulas)?;
+    // The clauses are 3 1; 3 -2; -3 -1 2.
+    let terms = [
+        (Lit::of_place(0, true), 1),
+        (Lit::of_place(1, false), 1),
+        (Lit::of_place(2, true), 1),
+    ];
+    let goal = from_weights(alloc, &terms, 3)?;
+    let mut checker = Checker::new(alloc, form, goal)?;
+    assert_eq!(rt;
+        checker.take(&step(alloc, 5, &[], &[3])?).err(),
+        Some(StepRefused::HintIdle { hint: 3 })
+    );
+    assert!(rt; checker.take(&step(alloc, 5, &[], &[4, 3])?).is_ok());
+    assert!(rt; checker.refuted());
     Ok(())
 }
