@@ -1,3 +1,4 @@
 pub mod Spans
 pub mod Symbols
 pub mod Longest
+pub mod Deriving
