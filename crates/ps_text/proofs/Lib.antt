@@ -2,3 +2,4 @@ pub mod Spans
 pub mod Symbols
 pub mod Longest
 pub mod Deriving
+pub mod Frames
