@@ -3,3 +3,5 @@ pub mod Symbols
 pub mod Longest
 pub mod Deriving
 pub mod Frames
+pub mod Signs
+pub mod Parsing
