@@ -5,3 +5,4 @@ pub mod Deriving
 pub mod Frames
 pub mod Signs
 pub mod Parsing
+pub mod Steps
