@@ -6,3 +6,4 @@ pub mod Frames
 pub mod Signs
 pub mod Parsing
 pub mod Steps
+pub mod FormulaSteps
