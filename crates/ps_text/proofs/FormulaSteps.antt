@@ -7,7 +7,7 @@ use Rattle.std.specs.List.{list_any}
 use Rattle.ps_text.specs.Tokens.{Token, Word, Number, Sign, Open, Close, Bang, Ampersand, Bar, Arrow, DoubleArrow}
 use Rattle.ps_text.specs.Kinds.{Kind, TooDeep}
 use Rattle.ps_text.specs.Grammar.{is_reserved, Form, Name, Truth, Falsity, Not, Group, And, Or, Implies, Iff, spelled, level, IsForm, Nests, Prob, Entry, Query, given_tokens, prob_tokens, IsGiven, IsProb, AreEntries}
-use Rattle.ps_text.specs.Due.{AtOperand, AtOperator, Opening, OpenGroup, Due, is_word, is_sign, is_operand_word, is_connective, is_group, may_be_given, is_too_long, nots_ended, arrows_ended, closed, after}
+use Rattle.ps_text.specs.Due.{AtOperand, AtOperator, Opening, OpenGroup, OpenArrow, Due, is_word, is_sign, is_operand_word, is_connective, is_group, may_be_given, is_too_long, nots_ended, arrows_ended, closed, after}
 use Rattle.ps_text.proofs.Signs.{the_word, the_sign, Either, First, Second, either, both}
 use Rattle.ps_text.proofs.Frames.{Frame, BegunNot, BegunGroup, BegunAnd, BegunOr, BegunImplies, BegunIff, frame_tokens, opened_of, need, AreFrames, Settled, Fits, joins, joins_tokens, joins_fits, joins_level, joins_need, joins_settled, nots_opened, and_opened, or_opened, all_opened, all_joined}
 use Rattle.ps_text.proofs.Parsing.{Parse, InItemEnd, InRelation, InOperand, InOperator, prob_of, due_of, before, lead, form_tokens, formula_lead, entry_body, read, Sound, ended, operand_of, behind_close, parsed}
@@ -151,3 +151,88 @@ at_close es q c fs f s =
     closed_same : (q g : Bool) (os us : List Opening) → closed (record { part = AtOperator; query = q; given = g; opened = [] }) us ≡ closed (record { part = AtOperator; query = q; given = g; opened = os }) us
     closed_same q g os [] = refl
     closed_same q g os (u ∷ us) = refl
+
+at_and : (es : List Entry) (q : Bool) (c : Option Form) (fs : List Frame) (f : Form) → Sound (InOperator es q c fs f) → Steps (InOperator es q c fs f) (Sign Ampersand)
+unfolding after
+at_and es q c fs f s =
+    let i = joins_fits 4 fs f (omega arith) s.2 in
+    record {
+      due = ap (λ os. record { part = AtOperand; query = q; given = is_some c; opened = os }) (and_opened fs f s.3 s.2.frames);
+      tokens = last_two (formula_lead es q c) (frame_tokens fs ++ spelled f) (Sign Ampersand) (frame_tokens (joins 4 fs f).0 ++ spelled (joins 4 fs f).1) (joins_tokens 4 fs f (omega arith));
+      sound = (s.0, s.1, (joins_need 4 fs f (omega arith), record { tight = joins_level 4 fs f (omega arith) (omega (arith, s.4)); form = i.form; nests = i.nests }, i.frames)) }
+
+at_or : (es : List Entry) (q : Bool) (c : Option Form) (fs : List Frame) (f : Form) → Sound (InOperator es q c fs f) → Steps (InOperator es q c fs f) (Sign Bar)
+unfolding after
+at_or es q c fs f s =
+    let i = joins_fits 3 fs f (omega arith) s.2 in
+    record {
+      due = ap (λ os. record { part = AtOperand; query = q; given = is_some c; opened = os }) (or_opened fs f s.3 s.2.frames);
+      tokens = last_two (formula_lead es q c) (frame_tokens fs ++ spelled f) (Sign Bar) (frame_tokens (joins 3 fs f).0 ++ spelled (joins 3 fs f).1) (joins_tokens 3 fs f (omega arith));
+      sound = (s.0, s.1, (omega (arith, joins_need 3 fs f (omega arith)), record { tight = joins_level 3 fs f (omega arith) (omega (arith, s.4)); form = i.form; nests = i.nests }, i.frames)) }
+
+at_implies : (es : List Entry) (q : Bool) (c : Option Form) (fs : List Frame) (f : Form) → Sound (InOperator es q c fs f) → length (opened_of fs) < 100 → Steps (InOperator es q c fs f) (Sign Arrow)
+unfolding after
+at_implies es q c fs f s l =
+    let i = joins_fits 3 fs f (omega arith) s.2 in
+    let o : opened_of (joins 3 fs f).0 ≡ opened_of fs = or_opened fs f s.3 s.2.frames in
+    record {
+      due = ap (λ os. record { part = AtOperand; query = q; given = is_some c; opened = OpenArrow ∷ os }) o;
+      tokens = last_two (formula_lead es q c) (frame_tokens fs ++ spelled f) (Sign Arrow) (frame_tokens (joins 3 fs f).0 ++ spelled (joins 3 fs f).1) (joins_tokens 3 fs f (omega arith));
+      sound = (s.0, s.1, (joins_need 3 fs f (omega arith), record { tight = joins_level 3 fs f (omega arith) (omega (arith, s.4)); form = i.form; nests = i.nests }, subst (λ os. length os < 100) (sym o) l, i.frames)) }
+
+at_iff : (es : List Entry) (q : Bool) (c : Option Form) (fs : List Frame) (f : Form) → Sound (InOperator es q c fs f) → Steps (InOperator es q c fs f) (Sign DoubleArrow)
+unfolding after
+at_iff es q c fs f s =
+    let i = joins_fits 1 fs f (omega arith) s.2 in
+    record {
+      due = ap (λ os. record { part = AtOperand; query = q; given = is_some c; opened = os }) (all_opened fs f s.3 s.2.frames);
+      tokens = last_two (formula_lead es q c) (frame_tokens fs ++ spelled f) (Sign DoubleArrow) (frame_tokens (joins 1 fs f).0 ++ spelled (joins 1 fs f).1) (joins_tokens 1 fs f (omega arith));
+      sound = (s.0, s.1, (joins_need 1 fs f (omega arith), record { tight = joins_level 1 fs f (omega arith) (omega (arith, s.4)); form = i.form; nests = i.nests }, i.frames)) }
+
+at_given : (es : List Entry) (q : Bool) (c : Option Form) (fs : List Frame) (f : Form) → Sound (InOperator es q c fs f) → list_any is_group (opened_of fs) ≡ false → is_some c ≡ false
+    → Steps (InOperator es q c fs f) (Word (codes "given"))
+unfolding after
+at_given es q (Some h) fs f s n m = absurd (true≢false m)
+at_given es q None fs f s n m =
+    let i = joins_fits 1 fs f (omega arith) s.2 in
+    let e : (joins 1 fs f).0 ≡ [] = all_joined fs f s.3 s.2.frames n in
+    let g = (joins 1 fs f).1 in
+    record {
+      due = refl;
+      tokens = append-nil (formula_lead es q (Some g))
+        ∙ given_lead es q g
+        ∙ last_two (formula_lead es q None) (frame_tokens fs ++ spelled f) (Word (codes "given")) (spelled g)
+            (ap (λ xs. frame_tokens xs ++ spelled g) (sym e) ∙ joins_tokens 1 fs f (omega arith));
+      sound = (s.0, (i.form, subst (λ xs. Nests (length (opened_of xs)) g) e i.nests), tt) }
+  where
+    given_lead : (es : List Entry) (q : Bool) (g : Form) → formula_lead es q (Some g) ≡ formula_lead es q None ++ (spelled g ++ Word (codes "given") ∷ [])
+    given_lead es q g = ap (λ ts. before es ++ ts) (sym (append_assoc (lead q) (Sign Open ∷ []) (spelled g ++ Word (codes "given") ∷ []))) ∙ sym (append_assoc (before es) (lead q ++ Sign Open ∷ []) (spelled g ++ Word (codes "given") ∷ []))
+
+pub at_operator : (es : List Entry) (q : Bool) (c : Option Form) (fs : List Frame) (f : Form) (t : Token) → Sound (InOperator es q c fs f) → Passed (due_of (InOperator es q c fs f)) t → Steps (InOperator es q c fs f) t
+at_operator es q c fs f t s h = by (either (is_connective t || is_sign Close t) (may_be_given (due_of (InOperator es q c fs f)) && is_word (codes "given") t) h.due)
+  where
+    arrow : t ≡ Sign Arrow → Steps (InOperator es q c fs f) t
+    arrow e =
+        let deep : Passed (due_of (InOperator es q c fs f)) (Sign Arrow) = subst (λ u. Passed (due_of (InOperator es q c fs f)) u) e h in
+        subst (λ u. Steps (InOperator es q c fs f) u) (sym e) (at_implies es q c fs f s (room (length (opened_of fs)) (fault_room (nat_lt (length (opened_of fs)) 100) deep.fault)))
+    first : Either (is_sign Ampersand t) (is_sign Bar t) → Steps (InOperator es q c fs f) t
+    first (First e) = subst (λ u. Steps (InOperator es q c fs f) u) (sym (the_sign Ampersand t e)) (at_and es q c fs f s)
+    first (Second e) = subst (λ u. Steps (InOperator es q c fs f) u) (sym (the_sign Bar t e)) (at_or es q c fs f s)
+    second : Either (is_sign Ampersand t || is_sign Bar t) (is_sign Arrow t) → Steps (InOperator es q c fs f) t
+    second (First e) = first (either (is_sign Ampersand t) (is_sign Bar t) e)
+    second (Second e) = arrow (the_sign Arrow t e)
+    connective : Either (is_sign Ampersand t || is_sign Bar t || is_sign Arrow t) (is_sign DoubleArrow t) → Steps (InOperator es q c fs f) t
+    connective (First e) = second (either (is_sign Ampersand t || is_sign Bar t) (is_sign Arrow t) e)
+    connective (Second e) = subst (λ u. Steps (InOperator es q c fs f) u) (sym (the_sign DoubleArrow t e)) (at_iff es q c fs f s)
+    signs : Either (is_connective t) (is_sign Close t) → Steps (InOperator es q c fs f) t
+    signs (First e) = connective (either (is_sign Ampersand t || is_sign Bar t || is_sign Arrow t) (is_sign DoubleArrow t) e)
+    signs (Second e) = subst (λ u. Steps (InOperator es q c fs f) u) (sym (the_sign Close t e)) (at_close es q c fs f s)
+    not_true : (b : Bool) → not b ≡ true → b ≡ false
+    not_true true e = absurd (true≢false (sym e))
+    not_true false e = refl
+    by : Either (is_connective t || is_sign Close t) (may_be_given (due_of (InOperator es q c fs f)) && is_word (codes "given") t) → Steps (InOperator es q c fs f) t
+    by (First e) = signs (either (is_connective t) (is_sign Close t) e)
+    by (Second e) =
+        let b = both (may_be_given (due_of (InOperator es q c fs f))) (is_word (codes "given") t) e in
+        let m = both (not (list_any is_group (opened_of fs))) (not (is_some c)) b.0 in
+        subst (λ u. Steps (InOperator es q c fs f) u) (sym (the_word (codes "given") t b.1)) (at_given es q c fs f s (not_true (list_any is_group (opened_of fs)) m.0) (not_true (is_some c) m.1))

@@ -7,3 +7,4 @@ pub mod Signs
 pub mod Parsing
 pub mod Steps
 pub mod FormulaSteps
+pub mod Derived
