@@ -3,6 +3,7 @@ use Rattle.std.proofs.Common.{◌≡◌, ℕ, Bool, true, false, List, [], ◌�
 use Rattle.ps_text.specs.Tokens.{Token}
 use Rattle.ps_text.specs.Grammar.{Entry, text_tokens, AreEntries}
 use Rattle.ps_text.specs.Due.{Part, AtDone, Due, at, at_start, refusal, after, Passes, AreDue}
+use Rattle.ps_text.specs.Refusals.{IsDerived}
 use Rattle.ps_text.proofs.Parsing.{Parse, InPsat, InVersion, InHeadEnd, InItem, InQueryProb, InTextEnd, InDone, InParen, InOperand, InOperator, InRelation, InBracket, InLower, InNumber, InComma, InUpper, InBracketEnd, InItemEnd, due_of, read, Sound, parsed}
 use Rattle.ps_text.proofs.Steps.{Passed, passed, Steps, at_psat, at_version, at_head_end, at_item, at_query_prob, at_text_end, at_paren, at_relation, at_number, at_bracket, at_lower, at_comma, at_upper, at_bracket_end, at_item_end}
 use Rattle.ps_text.proofs.FormulaSteps.{at_operand, at_operator}
@@ -52,12 +53,6 @@ derives p (t ∷ ts) e s h =
 abbrev is_end : Part → Bool
 is_end AtDone = true
 is_end p = false
-
--- a text by its tokens
-pub record IsDerived (ts : List Token) : Type 0 where
-  pub entries : List Entry
-  pub tokens : ts ≡ text_tokens entries
-  pub within : AreEntries entries
 
 ends : (p : Parse) (ts : List Token) → is_end (due_of p).part ≡ true → read p ≡ ts → Sound p → IsDerived ts
 ends (InDone es) ts e r s = record { entries = es; tokens = sym r; within = s }

@@ -98,7 +98,7 @@ form_passes Truth q g os i n u = (refl, refl)
 form_passes Falsity q g os i n u = (refl, refl)
 form_passes (Not f) q g os i n u =
     let inner : Passes (state AtOperand q g (OpenNot ∷ os)) (spelled f) (state AtOperator q g (behind f (OpenNot ∷ os))) =
-          form_passes f q g (OpenNot ∷ os) i.1 (subst (λ k. Nests k f) (add-one (length os)) n.1) i.0 in
+    form_passes f q g (OpenNot ∷ os) i.1 (subst (λ k. Nests k f) (add-one (length os)) n.1) i.0 in
     (rw (room (length os) n.0) refl, subst (λ x. Passes (state AtOperand q g (OpenNot ∷ os)) (spelled f) (state AtOperator q g x)) (unary_behind f (OpenNot ∷ os) i.0) inner)
   where
     unary_behind : (f : Form) (os : List Opening) → 5 ≤ level f → behind f os ≡ nots_ended os
@@ -111,41 +111,48 @@ form_passes (Not f) q g os i n u =
     unary_behind Falsity os l = refl
     unary_behind (Not f) os l = refl
     unary_behind (Group f) os l = refl
-form_passes (Group f) q g os i n u =
-    (rw (room (length os) n.0) refl,
-      passes-append (state AtOperand q g (OpenGroup ∷ os)) (state AtOperator q g (behind f (OpenGroup ∷ os))) (state AtOperator q g (nots_ended os)) (spelled f) (Sign Close ∷ [])
-        (form_passes f q g (OpenGroup ∷ os) i (subst (λ k. Nests k f) (add-one (length os)) n.1) (level_some f))
-        (refl, rw (behind_ended f (OpenGroup ∷ os) refl) refl))
+form_passes (Group f) q g os i n u = (
+  rw (room (length os) n.0) refl,
+  passes-append (state AtOperand q g (OpenGroup ∷ os)) (state AtOperator q g (behind f (OpenGroup ∷ os))) (state AtOperator q g (nots_ended os)) (spelled f) (Sign Close ∷ [])
+      (form_passes f q g (OpenGroup ∷ os) i (subst (λ k. Nests k f) (add-one (length os)) n.1) (level_some f))
+      (refl, rw (behind_ended f (OpenGroup ∷ os) refl) refl),
+)
 form_passes (And f h) q g os i n u =
     let settled : nots_ended os ≡ os = no_nots os (omega (arith, u)) in
     passes-append (state AtOperand q g os) (state AtOperator q g (behind f os)) (state AtOperator q g os) (spelled f) (Sign Ampersand ∷ spelled h)
-      (form_passes f q g os i.2 n.0 (omega (arith, u, i.0)))
-      (refl, subst (λ x. Passes (state AtOperand q g x) (spelled h) (state AtOperator q g os)) (sym (behind_tight f os (omega (arith, i.0)) settled))
-        (subst (λ x. Passes (state AtOperand q g os) (spelled h) (state AtOperator q g x)) (behind_tight h os (omega (arith, i.1)) settled)
-          (form_passes h q g os i.3 n.1 (omega (arith, u, i.1)))))
+    (form_passes f q g os i.2 n.0 (omega (arith, u, i.0))) (
+      refl,
+      subst (λ x. Passes (state AtOperand q g x) (spelled h) (state AtOperator q g os)) (sym (behind_tight f os (omega (arith, i.0)) settled))
+          (subst (λ x. Passes (state AtOperand q g os) (spelled h) (state AtOperator q g x)) (behind_tight h os (omega (arith, i.1)) settled)
+          (form_passes h q g os i.3 n.1 (omega (arith, u, i.1)))),
+    )
 form_passes (Or f h) q g os i n u =
     let settled : nots_ended os ≡ os = no_nots os (omega (arith, u)) in
     passes-append (state AtOperand q g os) (state AtOperator q g (behind f os)) (state AtOperator q g os) (spelled f) (Sign Bar ∷ spelled h)
-      (form_passes f q g os i.2 n.0 (omega (arith, u, i.0)))
-      (refl, subst (λ x. Passes (state AtOperand q g x) (spelled h) (state AtOperator q g os)) (sym (behind_tight f os (omega (arith, i.0)) settled))
-        (subst (λ x. Passes (state AtOperand q g os) (spelled h) (state AtOperator q g x)) (behind_tight h os (omega (arith, i.1)) settled)
-          (form_passes h q g os i.3 n.1 (omega (arith, u, i.1)))))
+    (form_passes f q g os i.2 n.0 (omega (arith, u, i.0))) (
+      refl,
+      subst (λ x. Passes (state AtOperand q g x) (spelled h) (state AtOperator q g os)) (sym (behind_tight f os (omega (arith, i.0)) settled))
+          (subst (λ x. Passes (state AtOperand q g os) (spelled h) (state AtOperator q g x)) (behind_tight h os (omega (arith, i.1)) settled)
+          (form_passes h q g os i.3 n.1 (omega (arith, u, i.1)))),
+    )
 form_passes (Implies f h) q g os i n u =
     let settled : nots_ended os ≡ os = no_nots os (omega (arith, u)) in
     let tight : behind f os ≡ os = behind_tight f os i.0 settled in
     passes-append (state AtOperand q g os) (state AtOperator q g (behind f os)) (state AtOperator q g (behind h (OpenArrow ∷ os))) (spelled f) (Sign Arrow ∷ spelled h)
-      (form_passes f q g os i.2 n.0 (omega (arith, u, i.0)))
-      (rw (tight, room (length os) n.1) refl,
-        subst (λ x. Passes (state AtOperand q g (OpenArrow ∷ x)) (spelled h) (state AtOperator q g (behind h (OpenArrow ∷ os)))) (sym tight)
-          (form_passes h q g (OpenArrow ∷ os) i.3 (subst (λ k. Nests k h) (add-one (length os)) n.2) i.1))
+    (form_passes f q g os i.2 n.0 (omega (arith, u, i.0))) (
+      rw (tight, room (length os) n.1) refl,
+      subst (λ x. Passes (state AtOperand q g (OpenArrow ∷ x)) (spelled h) (state AtOperator q g (behind h (OpenArrow ∷ os)))) (sym tight)
+          (form_passes h q g (OpenArrow ∷ os) i.3 (subst (λ k. Nests k h) (add-one (length os)) n.2) i.1),
+    )
 form_passes (Iff f h) q g os i n u =
     let settled : nots_ended os ≡ os = no_nots os (omega (arith, u)) in
     let ended : arrows_ended (behind f os) ≡ os = behind_ended f os settled ∙ no_arrows os u in
     passes-append (state AtOperand q g os) (state AtOperator q g (behind f os)) (state AtOperator q g (behind h os)) (spelled f) (Sign DoubleArrow ∷ spelled h)
-      (form_passes f q g os i.2 n.0 (omega (arith, u, i.0)))
-      (refl, subst (λ x. Passes (state AtOperand q g x) (spelled h) (state AtOperator q g (behind h os))) (sym ended)
-        (form_passes h q g os i.3 n.1 (omega (arith, u, i.1))))
-
+    (form_passes f q g os i.2 n.0 (omega (arith, u, i.0))) (
+      refl,
+      subst (λ x. Passes (state AtOperand q g x) (spelled h) (state AtOperator q g (behind h os))) (sym ended)
+          (form_passes h q g os i.3 n.1 (omega (arith, u, i.1))),
+    )
 
 -- behind a formula and its `)`
 prob_end : (f : Form) (q g : Bool) → Passes (state AtOperator q g (behind f [])) (Sign Close ∷ []) (prob_ended q)
@@ -155,16 +162,20 @@ prob_end f q g = (refl, rw (behind_ended f [] refl) refl)
 given_passes : (f : Form) (c : Option Form) (q : Bool) → IsGiven c → Passes (state AtOperator q false (behind f [])) (given_tokens c ++ Sign Close ∷ []) (prob_ended q)
 unfolding refusal after
 given_passes f None q i = prob_end f q false
-given_passes f (Some c) q i =
-    (rw (behind_groups f [] refl) refl,
-      passes-append (state AtOperand q true []) (state AtOperator q true (behind c [])) (prob_ended q) (spelled c) (Sign Close ∷ [])
-        (form_passes c q true [] i.0 i.1 (level_some c)) (prob_end c q true))
+given_passes f (Some c) q i = (
+  rw (behind_groups f [] refl) refl,
+  passes-append (state AtOperand q true []) (state AtOperator q true (behind c [])) (prob_ended q) (spelled c) (Sign Close ∷ [])
+      (form_passes c q true [] i.0 i.1 (level_some c)) (prob_end c q true),
+)
 
 prob_passes : (p : Prob) (q : Bool) → IsProb p → Passes (state AtParen q false []) (Sign Open ∷ spelled p.form ++ given_tokens p.given ++ Sign Close ∷ []) (prob_ended q)
 unfolding refusal after
-prob_passes p q i = (refl, subst (λ ts. Passes (state AtOperand q false []) ts (prob_ended q)) (sym (append_assoc (spelled p.form) (given_tokens p.given) (Sign Close ∷ [])))
-    (passes-append (state AtOperand q false []) (state AtOperator q false (behind p.form [])) (prob_ended q) (spelled p.form) (given_tokens p.given ++ Sign Close ∷ [])
-      (form_passes p.form q false [] i.form i.nests (level_some p.form)) (given_passes p.form p.given q i.given)))
+prob_passes p q i = (
+  refl,
+  subst (λ ts. Passes (state AtOperand q false []) ts (prob_ended q)) (sym (append_assoc (spelled p.form) (given_tokens p.given) (Sign Close ∷ [])))
+      (passes-append (state AtOperand q false []) (state AtOperator q false (behind p.form [])) (prob_ended q) (spelled p.form) (given_tokens p.given ++ Sign Close ∷ [])
+      (form_passes p.form q false [] i.form i.nests (level_some p.form)) (given_passes p.form p.given q i.given)),
+)
 
 number_due : (x : Numeral) → IsProbability x → value_fault x ≡ None
 number_due (Whole ds) i = let h : nat_lt 1 (value ds) ≡ false = grind (arith, nat_tests) in rw h refl
@@ -196,5 +207,13 @@ entries_pass (e ∷ es) i = passes-append (at AtItem) (at AtItem) (at AtItem) (e
 -- the tokens of a text within the grammar's levels and limits are due
 pub derived_are_due : (es : List Entry) → AreEntries es → AreDue (text_tokens es)
 unfolding refusal after
-derived_are_due es i = (refl, (refl, (refl,
-    passes-append (at AtItem) (at AtItem) (at AtDone) (entries_tokens es) (Word (codes "end") ∷ Sign Semicolon ∷ []) (entries_pass es i) (refl, (refl, refl)))))
+derived_are_due es i = (
+  refl,
+  (
+    refl,
+    (
+      refl,
+      passes-append (at AtItem) (at AtItem) (at AtDone) (entries_tokens es) (Word (codes "end") ∷ Sign Semicolon ∷ []) (entries_pass es i) (refl, (refl, refl)),
+    ),
+  ),
+)

@@ -26,6 +26,7 @@ the_operand w short h = by (bytes_eq w (codes "true")) refl (bytes_eq w (codes "
     name : (r : Bool) → is_reserved w ≡ r → (not r || bytes_eq w (codes "true") || bytes_eq w (codes "false")) ≡ true → bytes_eq w (codes "true") ≡ false → bytes_eq w (codes "false") ≡ false → is_reserved w ≡ false
     name false e h a b = e
     name true e h a b = absurd (true≢false (sym h ∙ ap (λ x. false || x || bytes_eq w (codes "false")) a ∙ b))
+
     by : (a : Bool) → bytes_eq w (codes "true") ≡ a → (b : Bool) → bytes_eq w (codes "false") ≡ b → IsOperand w (if a then Truth else (if b then Falsity else Name w))
     by true e b f = record { is = ap (λ u. Word u ∷ []) (sym ((bytes_eq-Decides w (codes "true")).0 e)); form = tt; nests = λ n. tt; tight = omega arith }
     by false e true f = record { is = ap (λ u. Word u ∷ []) (sym ((bytes_eq-Decides w (codes "false")).0 f)); form = tt; nests = λ n. tt; tight = omega arith }
@@ -65,8 +66,10 @@ at_operand es q c fs t s h = by (either (is_operand_word t || is_sign Bang t) (i
         record {
           due = ap (λ os. record { part = AtOperator; query = q; given = is_some c; opened = os }) (nots_opened fs (operand_of w) s.2);
           tokens = ap (λ ts. formula_lead es q c ++ ts) (joins_tokens 5 fs (operand_of w) (omega arith) ∙ ap (λ ts. frame_tokens fs ++ ts) o.is)
-            ∙ sym (append_assoc (formula_lead es q c) (frame_tokens fs) (Word w ∷ []));
-          sound = (s.0, s.1, joins_fits 5 fs (operand_of w) (omega arith) fits, joins_settled 5 fs (operand_of w) (omega arith), joins_level 5 fs (operand_of w) (omega arith) o.tight) }
+              ∙ sym (append_assoc (formula_lead es q c) (frame_tokens fs) (Word w ∷ []));
+          sound = (s.0, s.1, joins_fits 5 fs (operand_of w) (omega arith) fits, joins_settled 5 fs (operand_of w) (omega arith), joins_level 5 fs (operand_of w) (omega arith) o.tight);
+        }
+
     sign : Either (is_operand_word t) (is_sign Bang t) → Steps (InOperand es q c fs) t
     sign (First e) = word t h.short e
     sign (Second e) =
@@ -74,7 +77,9 @@ at_operand es q c fs t s h = by (either (is_operand_word t || is_sign Bang t) (i
         subst (λ u. Steps (InOperand es q c fs) u) (sym (the_sign Bang t e)) (record {
           due = refl;
           tokens = sym (append_assoc (formula_lead es q c) (frame_tokens fs) (Sign Bang ∷ []));
-          sound = (s.0, s.1, (room (length (opened_of fs)) (fault_room (nat_lt (length (opened_of fs)) 100) deep.fault), s.2)) })
+          sound = (s.0, s.1, (room (length (opened_of fs)) (fault_room (nat_lt (length (opened_of fs)) 100) deep.fault), s.2));
+        })
+
     by : Either (is_operand_word t || is_sign Bang t) (is_sign Open t) → Steps (InOperand es q c fs) t
     by (First e) = sign (either (is_operand_word t) (is_sign Bang t) e)
     by (Second e) =
@@ -82,7 +87,8 @@ at_operand es q c fs t s h = by (either (is_operand_word t || is_sign Bang t) (i
         subst (λ u. Steps (InOperand es q c fs) u) (sym (the_sign Open t e)) (record {
           due = refl;
           tokens = sym (append_assoc (formula_lead es q c) (frame_tokens fs) (Sign Open ∷ []));
-          sound = (s.0, s.1, (room (length (opened_of fs)) (fault_room (nat_lt (length (opened_of fs)) 100) deep.fault), s.2)) })
+          sound = (s.0, s.1, (room (length (opened_of fs)) (fault_room (nat_lt (length (opened_of fs)) 100) deep.fault), s.2));
+        })
 
 -- the last entries of a formula's tokens
 last_two : (l x : List Token) (t : Token) (y : List Token) → y ≡ x → l ++ (y ++ t ∷ []) ≡ (l ++ x) ++ t ∷ []
@@ -97,7 +103,7 @@ query_end es None f =
 query_end es (Some g) f =
     sym (append_assoc (before es) (Word (codes "query") ∷ Word (codes "P") ∷ Sign Open ∷ (spelled g ++ Word (codes "given") ∷ spelled f)) (Sign Close ∷ []))
     ∙ ap (λ ts. ts ++ Sign Close ∷ []) (ap (λ ts. before es ++ (Word (codes "query") ∷ Word (codes "P") ∷ Sign Open ∷ ts)) (sym (append_assoc (spelled g) (Word (codes "given") ∷ []) (spelled f)))
-      ∙ sym (append_assoc (before es) (Word (codes "query") ∷ Word (codes "P") ∷ Sign Open ∷ (spelled g ++ Word (codes "given") ∷ [])) (spelled f)))
+    ∙ sym (append_assoc (before es) (Word (codes "query") ∷ Word (codes "P") ∷ Sign Open ∷ (spelled g ++ Word (codes "given") ∷ [])) (spelled f)))
 
 sentence_end : (es : List Entry) (c : Option Form) (f : Form) → before es ++ prob_tokens (prob_of c f) ≡ formula_lead es false c ++ spelled f ++ Sign Close ∷ []
 sentence_end es None f =
@@ -107,7 +113,7 @@ sentence_end es None f =
 sentence_end es (Some g) f =
     sym (append_assoc (before es) (Word (codes "P") ∷ Sign Open ∷ (spelled g ++ Word (codes "given") ∷ spelled f)) (Sign Close ∷ []))
     ∙ ap (λ ts. ts ++ Sign Close ∷ []) (ap (λ ts. before es ++ (Word (codes "P") ∷ Sign Open ∷ ts)) (sym (append_assoc (spelled g) (Word (codes "given") ∷ []) (spelled f)))
-      ∙ sym (append_assoc (before es) (Word (codes "P") ∷ Sign Open ∷ (spelled g ++ Word (codes "given") ∷ [])) (spelled f)))
+    ∙ sym (append_assoc (before es) (Word (codes "P") ∷ Sign Open ∷ (spelled g ++ Word (codes "given") ∷ [])) (spelled f)))
 
 prob_sound : (c : Option Form) (f : Form) → IsGiven c → IsForm f → Nests 0 f → IsProb (prob_of c f)
 prob_sound None f g i n = record { form = i; nests = n; given = tt }
@@ -127,10 +133,11 @@ closes es q c (BegunGroup ∷ fs) f s g n i =
     record {
       due = ap (λ os. record { part = AtOperator; query = q; given = is_some c; opened = os }) (nots_opened fs (Group f) i.frames.1);
       tokens = ap (λ ts. formula_lead es q c ++ ts)
-        (joins_tokens 5 fs (Group f) (omega arith)
+          (joins_tokens 5 fs (Group f) (omega arith)
           ∙ sym (append_assoc (frame_tokens fs) (Sign Open ∷ spelled f) (Sign Close ∷ []))
           ∙ ap (λ ts. ts ++ Sign Close ∷ []) (sym (append_assoc (frame_tokens fs) (Sign Open ∷ []) (spelled f))));
-      sound = (s, g, joins_fits 5 fs (Group f) (omega arith) fits, joins_settled 5 fs (Group f) (omega arith), joins_level 5 fs (Group f) (omega arith) (omega arith)) }
+      sound = (s, g, joins_fits 5 fs (Group f) (omega arith) fits, joins_settled 5 fs (Group f) (omega arith), joins_level 5 fs (Group f) (omega arith) (omega arith));
+    }
 closes es q c (BegunNot ∷ fs) f s g n i = absurd (omega (arith, n))
 closes es q c (BegunAnd h ∷ fs) f s g n i = absurd (omega (arith, n))
 closes es q c (BegunOr h ∷ fs) f s g n i = absurd (omega (arith, n))
@@ -146,7 +153,8 @@ at_close es q c fs f s =
     record {
       due = x.due ∙ ap (λ os. closed (record { part = AtOperator; query = q; given = is_some c; opened = [] }) os) (all_opened fs f s.3 s.2.frames) ∙ closed_same q (is_some c) (opened_of fs) (arrows_ended (opened_of fs));
       tokens = x.tokens ∙ last_two (formula_lead es q c) (frame_tokens fs ++ spelled f) (Sign Close) (frame_tokens gs ++ spelled g) (joins_tokens 1 fs f (omega arith));
-      sound = x.sound }
+      sound = x.sound;
+    }
   where
     closed_same : (q g : Bool) (os us : List Opening) → closed (record { part = AtOperator; query = q; given = g; opened = [] }) us ≡ closed (record { part = AtOperator; query = q; given = g; opened = os }) us
     closed_same q g os [] = refl
@@ -159,7 +167,8 @@ at_and es q c fs f s =
     record {
       due = ap (λ os. record { part = AtOperand; query = q; given = is_some c; opened = os }) (and_opened fs f s.3 s.2.frames);
       tokens = last_two (formula_lead es q c) (frame_tokens fs ++ spelled f) (Sign Ampersand) (frame_tokens (joins 4 fs f).0 ++ spelled (joins 4 fs f).1) (joins_tokens 4 fs f (omega arith));
-      sound = (s.0, s.1, (joins_need 4 fs f (omega arith), record { tight = joins_level 4 fs f (omega arith) (omega (arith, s.4)); form = i.form; nests = i.nests }, i.frames)) }
+      sound = (s.0, s.1, (joins_need 4 fs f (omega arith), record { tight = joins_level 4 fs f (omega arith) (omega (arith, s.4)); form = i.form; nests = i.nests }, i.frames));
+    }
 
 at_or : (es : List Entry) (q : Bool) (c : Option Form) (fs : List Frame) (f : Form) → Sound (InOperator es q c fs f) → Steps (InOperator es q c fs f) (Sign Bar)
 unfolding after
@@ -168,7 +177,8 @@ at_or es q c fs f s =
     record {
       due = ap (λ os. record { part = AtOperand; query = q; given = is_some c; opened = os }) (or_opened fs f s.3 s.2.frames);
       tokens = last_two (formula_lead es q c) (frame_tokens fs ++ spelled f) (Sign Bar) (frame_tokens (joins 3 fs f).0 ++ spelled (joins 3 fs f).1) (joins_tokens 3 fs f (omega arith));
-      sound = (s.0, s.1, (omega (arith, joins_need 3 fs f (omega arith)), record { tight = joins_level 3 fs f (omega arith) (omega (arith, s.4)); form = i.form; nests = i.nests }, i.frames)) }
+      sound = (s.0, s.1, (omega (arith, joins_need 3 fs f (omega arith)), record { tight = joins_level 3 fs f (omega arith) (omega (arith, s.4)); form = i.form; nests = i.nests }, i.frames));
+    }
 
 at_implies : (es : List Entry) (q : Bool) (c : Option Form) (fs : List Frame) (f : Form) → Sound (InOperator es q c fs f) → length (opened_of fs) < 100 → Steps (InOperator es q c fs f) (Sign Arrow)
 unfolding after
@@ -178,7 +188,8 @@ at_implies es q c fs f s l =
     record {
       due = ap (λ os. record { part = AtOperand; query = q; given = is_some c; opened = OpenArrow ∷ os }) o;
       tokens = last_two (formula_lead es q c) (frame_tokens fs ++ spelled f) (Sign Arrow) (frame_tokens (joins 3 fs f).0 ++ spelled (joins 3 fs f).1) (joins_tokens 3 fs f (omega arith));
-      sound = (s.0, s.1, (joins_need 3 fs f (omega arith), record { tight = joins_level 3 fs f (omega arith) (omega (arith, s.4)); form = i.form; nests = i.nests }, subst (λ os. length os < 100) (sym o) l, i.frames)) }
+      sound = (s.0, s.1, (joins_need 3 fs f (omega arith), record { tight = joins_level 3 fs f (omega arith) (omega (arith, s.4)); form = i.form; nests = i.nests }, subst (λ os. length os < 100) (sym o) l, i.frames));
+    }
 
 at_iff : (es : List Entry) (q : Bool) (c : Option Form) (fs : List Frame) (f : Form) → Sound (InOperator es q c fs f) → Steps (InOperator es q c fs f) (Sign DoubleArrow)
 unfolding after
@@ -187,7 +198,8 @@ at_iff es q c fs f s =
     record {
       due = ap (λ os. record { part = AtOperand; query = q; given = is_some c; opened = os }) (all_opened fs f s.3 s.2.frames);
       tokens = last_two (formula_lead es q c) (frame_tokens fs ++ spelled f) (Sign DoubleArrow) (frame_tokens (joins 1 fs f).0 ++ spelled (joins 1 fs f).1) (joins_tokens 1 fs f (omega arith));
-      sound = (s.0, s.1, (joins_need 1 fs f (omega arith), record { tight = joins_level 1 fs f (omega arith) (omega (arith, s.4)); form = i.form; nests = i.nests }, i.frames)) }
+      sound = (s.0, s.1, (joins_need 1 fs f (omega arith), record { tight = joins_level 1 fs f (omega arith) (omega (arith, s.4)); form = i.form; nests = i.nests }, i.frames));
+    }
 
 at_given : (es : List Entry) (q : Bool) (c : Option Form) (fs : List Frame) (f : Form) → Sound (InOperator es q c fs f) → list_any is_group (opened_of fs) ≡ false → is_some c ≡ false
     → Steps (InOperator es q c fs f) (Word (codes "given"))
@@ -200,10 +212,11 @@ at_given es q None fs f s n m =
     record {
       due = refl;
       tokens = append-nil (formula_lead es q (Some g))
-        ∙ given_lead es q g
-        ∙ last_two (formula_lead es q None) (frame_tokens fs ++ spelled f) (Word (codes "given")) (spelled g)
-            (ap (λ xs. frame_tokens xs ++ spelled g) (sym e) ∙ joins_tokens 1 fs f (omega arith));
-      sound = (s.0, (i.form, subst (λ xs. Nests (length (opened_of xs)) g) e i.nests), tt) }
+          ∙ given_lead es q g
+          ∙ last_two (formula_lead es q None) (frame_tokens fs ++ spelled f) (Word (codes "given")) (spelled g)
+          (ap (λ xs. frame_tokens xs ++ spelled g) (sym e) ∙ joins_tokens 1 fs f (omega arith));
+      sound = (s.0, (i.form, subst (λ xs. Nests (length (opened_of xs)) g) e i.nests), tt);
+    }
   where
     given_lead : (es : List Entry) (q : Bool) (g : Form) → formula_lead es q (Some g) ≡ formula_lead es q None ++ (spelled g ++ Word (codes "given") ∷ [])
     given_lead es q g = ap (λ ts. before es ++ ts) (sym (append_assoc (lead q) (Sign Open ∷ []) (spelled g ++ Word (codes "given") ∷ []))) ∙ sym (append_assoc (before es) (lead q ++ Sign Open ∷ []) (spelled g ++ Word (codes "given") ∷ []))
@@ -215,21 +228,27 @@ at_operator es q c fs f t s h = by (either (is_connective t || is_sign Close t) 
     arrow e =
         let deep : Passed (due_of (InOperator es q c fs f)) (Sign Arrow) = subst (λ u. Passed (due_of (InOperator es q c fs f)) u) e h in
         subst (λ u. Steps (InOperator es q c fs f) u) (sym e) (at_implies es q c fs f s (room (length (opened_of fs)) (fault_room (nat_lt (length (opened_of fs)) 100) deep.fault)))
+
     first : Either (is_sign Ampersand t) (is_sign Bar t) → Steps (InOperator es q c fs f) t
     first (First e) = subst (λ u. Steps (InOperator es q c fs f) u) (sym (the_sign Ampersand t e)) (at_and es q c fs f s)
     first (Second e) = subst (λ u. Steps (InOperator es q c fs f) u) (sym (the_sign Bar t e)) (at_or es q c fs f s)
+
     second : Either (is_sign Ampersand t || is_sign Bar t) (is_sign Arrow t) → Steps (InOperator es q c fs f) t
     second (First e) = first (either (is_sign Ampersand t) (is_sign Bar t) e)
     second (Second e) = arrow (the_sign Arrow t e)
+
     connective : Either (is_sign Ampersand t || is_sign Bar t || is_sign Arrow t) (is_sign DoubleArrow t) → Steps (InOperator es q c fs f) t
     connective (First e) = second (either (is_sign Ampersand t || is_sign Bar t) (is_sign Arrow t) e)
     connective (Second e) = subst (λ u. Steps (InOperator es q c fs f) u) (sym (the_sign DoubleArrow t e)) (at_iff es q c fs f s)
+
     signs : Either (is_connective t) (is_sign Close t) → Steps (InOperator es q c fs f) t
     signs (First e) = connective (either (is_sign Ampersand t || is_sign Bar t || is_sign Arrow t) (is_sign DoubleArrow t) e)
     signs (Second e) = subst (λ u. Steps (InOperator es q c fs f) u) (sym (the_sign Close t e)) (at_close es q c fs f s)
+
     not_true : (b : Bool) → not b ≡ true → b ≡ false
     not_true true e = absurd (true≢false (sym e))
     not_true false e = refl
+
     by : Either (is_connective t || is_sign Close t) (may_be_given (due_of (InOperator es q c fs f)) && is_word (codes "given") t) → Steps (InOperator es q c fs f) t
     by (First e) = signs (either (is_connective t) (is_sign Close t) e)
     by (Second e) =

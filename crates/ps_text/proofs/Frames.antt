@@ -218,6 +218,7 @@ joins_settled k (x ∷ fs) f h = by (nat_le k (own x)) refl (joins_settled k fs 
     settled (BegunOr g) h = tt
     settled (BegunImplies g) h = tt
     settled (BegunIff g) h = tt
+
     by : (b : Bool) → nat_le k (own x) ≡ b → Settled (joins k fs (joined x f)).0 → Settled (chosen k x fs f b).0
     by true e m = m
     by false e m = settled x (omega (arith, h, test_lt k (own x) e))

@@ -65,6 +65,7 @@ at_item es t s h = by (either (is_word (codes "P") t || is_word (codes "query") 
     probs : Either (is_word (codes "P") t) (is_word (codes "query") t) → Steps (InItem es) t
     probs (First e) = subst (λ u. Steps (InItem es) u) (sym (the_word (codes "P") t e)) (record { due = refl; tokens = refl; sound = s })
     probs (Second e) = subst (λ u. Steps (InItem es) u) (sym (the_word (codes "query") t e)) (record { due = refl; tokens = refl; sound = s })
+
     by : Either (is_word (codes "P") t || is_word (codes "query") t) (is_word (codes "end") t) → Steps (InItem es) t
     by (First e) = probs (either (is_word (codes "P") t) (is_word (codes "query") t) e)
     by (Second e) = subst (λ u. Steps (InItem es) u) (sym (the_word (codes "end") t e)) (record { due = refl; tokens = refl; sound = s })
@@ -91,9 +92,11 @@ at_relation es p t s h = by (either (is_sign Equals t || is_sign GreaterEquals t
     first : Either (is_sign Equals t) (is_sign GreaterEquals t) → Steps (InRelation es p) t
     first (First e) = subst (λ u. Steps (InRelation es p) u) (sym (the_sign Equals t e)) (record { due = refl; tokens = refl; sound = (s.0, s.1, tt) })
     first (Second e) = subst (λ u. Steps (InRelation es p) u) (sym (the_sign GreaterEquals t e)) (record { due = refl; tokens = refl; sound = (s.0, s.1, tt) })
+
     signs : Either (is_sign Equals t || is_sign GreaterEquals t) (is_sign LessEquals t) → Steps (InRelation es p) t
     signs (First e) = first (either (is_sign Equals t) (is_sign GreaterEquals t) e)
     signs (Second e) = subst (λ u. Steps (InRelation es p) u) (sym (the_sign LessEquals t e)) (record { due = refl; tokens = refl; sound = (s.0, s.1, tt) })
+
     by : Either (is_sign Equals t || is_sign GreaterEquals t || is_sign LessEquals t) (is_word (codes "in") t) → Steps (InRelation es p) t
     by (First e) = signs (either (is_sign Equals t || is_sign GreaterEquals t) (is_sign LessEquals t) e)
     by (Second e) = subst (λ u. Steps (InRelation es p) u) (sym (the_word (codes "in") t e)) (record { due = refl; tokens = refl; sound = s })
@@ -156,9 +159,10 @@ at_number es p s t i h =
     record {
       due = refl;
       tokens = sym (append_assoc (before es) (prob_tokens p) (relation_tokens (relation_of s (number_in t))))
-        ∙ ap (λ ts. sentence_lead es p ++ ts) (r.0 ∙ ap (λ u. Sign s ∷ u ∷ []) (sym n.is))
-        ∙ sym (append_assoc (sentence_lead es p) (Sign s ∷ []) (t ∷ []));
-      sound = (i.0, (i.1, r.1)) }
+          ∙ ap (λ ts. sentence_lead es p ++ ts) (r.0 ∙ ap (λ u. Sign s ∷ u ∷ []) (sym n.is))
+          ∙ sym (append_assoc (sentence_lead es p) (Sign s ∷ []) (t ∷ []));
+      sound = (i.0, (i.1, r.1));
+    }
 
 pub at_bracket : (es : List Entry) (p : Prob) (t : Token) → Sound (InBracket es p) → Passed (due_of (InBracket es p)) t → Steps (InBracket es p) t
 unfolding after
@@ -172,7 +176,8 @@ at_lower es p t s h =
     record {
       due = refl;
       tokens = ap (λ u. sentence_lead es p ++ (Word (codes "in") ∷ Sign OpenBracket ∷ u ∷ [])) (sym n.is) ∙ sym (append_assoc (sentence_lead es p) (Word (codes "in") ∷ Sign OpenBracket ∷ []) (t ∷ []));
-      sound = (s.0, s.1, n.sound) }
+      sound = (s.0, s.1, n.sound);
+    }
 
 pub at_comma : (es : List Entry) (p : Prob) (x : Numeral) (t : Token) → Sound (InComma es p x) → Passed (due_of (InComma es p x)) t → Steps (InComma es p x) t
 unfolding after
@@ -186,8 +191,9 @@ at_upper es p x t s h =
     record {
       due = refl;
       tokens = ap (λ u. sentence_lead es p ++ (Word (codes "in") ∷ Sign OpenBracket ∷ Number x ∷ Sign Comma ∷ u ∷ [])) (sym n.is)
-        ∙ sym (append_assoc (sentence_lead es p) (Word (codes "in") ∷ Sign OpenBracket ∷ Number x ∷ Sign Comma ∷ []) (t ∷ []));
-      sound = (s.0, s.1, s.2, n.sound) }
+          ∙ sym (append_assoc (sentence_lead es p) (Word (codes "in") ∷ Sign OpenBracket ∷ Number x ∷ Sign Comma ∷ []) (t ∷ []));
+      sound = (s.0, s.1, s.2, n.sound);
+    }
 
 pub at_bracket_end : (es : List Entry) (p : Prob) (x y : Numeral) (t : Token) → Sound (InBracketEnd es p x y) → Passed (due_of (InBracketEnd es p x y)) t → Steps (InBracketEnd es p x y) t
 unfolding after
@@ -195,8 +201,9 @@ at_bracket_end es p x y t s h = subst (λ u. Steps (InBracketEnd es p x y) u) (s
     (record {
       due = refl;
       tokens = sym (append_assoc (before es) (prob_tokens p) (relation_tokens (Within x y)))
-        ∙ sym (append_assoc (sentence_lead es p) (Word (codes "in") ∷ Sign OpenBracket ∷ Number x ∷ Sign Comma ∷ Number y ∷ []) (Sign CloseBracket ∷ []));
-      sound = (s.0, (s.1, (s.2, s.3))) })
+          ∙ sym (append_assoc (sentence_lead es p) (Word (codes "in") ∷ Sign OpenBracket ∷ Number x ∷ Sign Comma ∷ Number y ∷ []) (Sign CloseBracket ∷ []));
+      sound = (s.0, (s.1, (s.2, s.3)));
+    })
 
 entry_ended : (e : Entry) → entry_tokens e ≡ entry_body e ++ Sign Semicolon ∷ []
 entry_ended (Sentence p r) = refl
@@ -216,5 +223,6 @@ at_item_end es e t s h = subst (λ u. Steps (InItemEnd es e) u) (sym (the_sign S
     (record {
       due = refl;
       tokens = ap (λ ts. Word (codes "psat") ∷ Number (Whole (codes "1")) ∷ Sign Semicolon ∷ ts) (entries_more es e ∙ ap (λ ts. entries_tokens es ++ ts) (entry_ended e))
-        ∙ sym (append_assoc (before es) (entry_body e) (Sign Semicolon ∷ []));
-      sound = entries_sound es e s.0 s.1 })
+          ∙ sym (append_assoc (before es) (entry_body e) (Sign Semicolon ∷ []));
+      sound = entries_sound es e s.0 s.1;
+    })

@@ -2,8 +2,15 @@
 use Rattle.std.specs.Prelude.{◌≡◌, ◌≢◌, ℕ, ◌⊎◌, List, [], ◌∷◌, ◌++◌, length, Some}
 use Rattle.ps_text.specs.Tokens.{One, Token, IsToken, IsLongest, BeginsNone, spelling}
 use Rattle.ps_text.specs.Pieces.{Piece, texts, Cuts, tokens, IsBare}
+use Rattle.ps_text.specs.Grammar.{Entry, text_tokens, AreEntries}
 use Rattle.ps_text.specs.Kinds.{Kind, EndMissing, BadByte}
 use Rattle.ps_text.specs.Due.{Due, at, at_start, AtDone, refusal, Passes}
+
+-- tokens are those of a text within the grammar's levels and limits
+pub record IsDerived (ts : List Token) : Type 0 where
+  pub entries : List Entry
+  pub tokens : ts ≡ text_tokens entries
+  pub within : AreEntries entries
 
 -- the longest token at the front is refused
 pub record IsRefusedToken (d : Due) (rest : List ℕ) (kind : Kind) : Type 0 where
