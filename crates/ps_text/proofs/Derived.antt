@@ -2,10 +2,10 @@
 use Rattle.std.proofs.Common.{◌≡◌, ℕ, Bool, true, false, List, [], ◌∷◌, ◌++◌, None, refl, sym, ap, subst, ◌∙◌, append_assoc, append-nil, true≢false}
 use Rattle.ps_text.specs.Tokens.{Token}
 use Rattle.ps_text.specs.Grammar.{Entry, text_tokens, AreEntries}
-use Rattle.ps_text.specs.Due.{Part, AtDone, Due, at, at_start, refusal, after, Passes, AreDue}
-use Rattle.ps_text.specs.Refusals.{IsDerived}
-use Rattle.ps_text.proofs.Parsing.{Parse, InPsat, InVersion, InHeadEnd, InItem, InQueryProb, InTextEnd, InDone, InParen, InOperand, InOperator, InRelation, InBracket, InLower, InNumber, InComma, InUpper, InBracketEnd, InItemEnd, due_of, read, Sound, parsed}
-use Rattle.ps_text.proofs.Steps.{Passed, passed, Steps, at_psat, at_version, at_head_end, at_item, at_query_prob, at_text_end, at_paren, at_relation, at_number, at_bracket, at_lower, at_comma, at_upper, at_bracket_end, at_item_end}
+use Rattle.ps_text.specs.Due.{Part, AtDone, Due, outside, at_start, refusal, after, Passes, AreDue}
+use Rattle.ps_text.specs.Grammar.{IsDerived}
+use Rattle.ps_text.proofs.Parsing.{Parse, InPsat, InVersion, InHeadEnd, InItem, InQueryProb, InTextEnd, InDone, InParen, InOperand, InOperator, InRelation, InBracket, InFirst, InNumber, InComma, InSecond, InBracketEnd, InItemEnd, due_of, read, Sound, parsed}
+use Rattle.ps_text.proofs.Steps.{Passed, passed, Steps, at_psat, at_version, at_head_end, at_item, at_query_prob, at_text_end, at_paren, at_relation, at_number, at_bracket, at_first, at_comma, at_second, at_bracket_end, at_item_end}
 use Rattle.ps_text.proofs.FormulaSteps.{at_operand, at_operator}
 
 -- one token more that isn't refused
@@ -25,10 +25,10 @@ steps p t s h = by p s (passed (due_of p) t h)
     by (InOperator es q c fs f) s h = at_operator es q c fs f t s h
     by (InRelation es p) s h = at_relation es p t s h
     by (InBracket es p) s h = at_bracket es p t s h
-    by (InLower es p) s h = at_lower es p t s h
+    by (InFirst es p) s h = at_first es p t s h
     by (InNumber es p x) s h = at_number es p x t s h
     by (InComma es p x) s h = at_comma es p x t s h
-    by (InUpper es p x) s h = at_upper es p x t s h
+    by (InSecond es p x) s h = at_second es p x t s h
     by (InBracketEnd es p x y) s h = at_bracket_end es p x y t s h
     by (InItemEnd es e) s h = at_item_end es e t s h
 
@@ -67,13 +67,13 @@ ends (InOperand es q c fs) ts e r s = absurd (true≢false (sym e))
 ends (InOperator es q c fs f) ts e r s = absurd (true≢false (sym e))
 ends (InRelation es p) ts e r s = absurd (true≢false (sym e))
 ends (InBracket es p) ts e r s = absurd (true≢false (sym e))
-ends (InLower es p) ts e r s = absurd (true≢false (sym e))
+ends (InFirst es p) ts e r s = absurd (true≢false (sym e))
 ends (InNumber es p x) ts e r s = absurd (true≢false (sym e))
 ends (InComma es p x) ts e r s = absurd (true≢false (sym e))
-ends (InUpper es p x) ts e r s = absurd (true≢false (sym e))
+ends (InSecond es p x) ts e r s = absurd (true≢false (sym e))
 ends (InBracketEnd es p x y) ts e r s = absurd (true≢false (sym e))
 ends (InItemEnd es e') ts e r s = absurd (true≢false (sym e))
 
 -- tokens that are due, up to the `;` behind `end`, are those of a text within the grammar's levels and limits
 pub due_are_derived : (ts : List Token) → AreDue ts → IsDerived ts
-due_are_derived ts h = let d = derives InPsat ts (at AtDone) tt h in ends (parsed_all InPsat ts) ts (ap (λ x. is_end x.part) d.due) d.tokens d.sound
+due_are_derived ts h = let d = derives InPsat ts (outside AtDone) tt h in ends (parsed_all InPsat ts) ts (ap (λ x. is_end x.part) d.due) d.tokens d.sound

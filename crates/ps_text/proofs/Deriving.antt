@@ -5,7 +5,7 @@ use Rattle.std.specs.Prelude.{nat_lt, nat_eq, codes}
 use Rattle.std.specs.List.{list_any}
 use Rattle.ps_text.specs.Tokens.{Token, Word, Number, Sign, Numeral, Whole, Quotient, Decimal, Open, Close, OpenBracket, CloseBracket, Comma, Semicolon, Bang, Ampersand, Bar, Arrow, DoubleArrow, Equals, GreaterEquals, LessEquals}
 use Rattle.ps_text.specs.Grammar.{is_reserved, value, Form, Name, Truth, Falsity, Not, Group, And, Or, Implies, Iff, spelled, level, IsForm, Nests, Prob, Relation, Exactly, AtLeast, AtMost, Within, Entry, Sentence, Query, given_tokens, prob_tokens, relation_tokens, entry_tokens, entries_tokens, text_tokens, IsProbability, IsGiven, IsProb, IsRelation, IsEntry, AreEntries}
-use Rattle.ps_text.specs.Due.{Part, AtPsat, AtVersion, AtHeadEnd, AtItem, AtQueryProb, AtParen, AtOperand, AtOperator, AtRelation, AtNumber, AtItemEnd, AtBracket, AtLower, AtComma, AtUpper, AtBracketEnd, AtTextEnd, AtDone, Opening, OpenNot, OpenGroup, OpenArrow, Due, at, at_start, is_group, value_fault, refusal, nots_ended, arrows_ended, prob_ended, after, Passes, AreDue}
+use Rattle.ps_text.specs.Due.{Part, AtPsat, AtVersion, AtHeadEnd, AtItem, AtQueryProb, AtParen, AtOperand, AtOperator, AtRelation, AtNumber, AtItemEnd, AtBracket, AtFirst, AtComma, AtSecond, AtBracketEnd, AtTextEnd, AtDone, Opening, NotOpen, GroupOpen, ArrowOpen, Due, outside, at_start, is_group, value_fault, refusal, without_nots, without_arrows, prob_ended, after, Passes, AreDue}
 
 -- within a formula
 abbrev pub state : Part → Bool → Bool → List Opening → Due
@@ -20,32 +20,32 @@ one d e t h a = (h, a)
 
 -- what is open behind a formula
 abbrev pub behind : Form → List Opening → List Opening
-behind (Implies f g) os = behind g (OpenArrow ∷ os)
+behind (Implies f g) os = behind g (ArrowOpen ∷ os)
 behind (Iff f g) os = behind g os
 behind (And f g) os = os
 behind (Or f g) os = os
-behind f os = nots_ended os
+behind f os = without_nots os
 
 -- how tightly a formula has to bind where this is open
 abbrev pub needed : List Opening → ℕ
-needed (OpenNot ∷ os) = 5
-needed (OpenArrow ∷ os) = 2
+needed (NotOpen ∷ os) = 5
+needed (ArrowOpen ∷ os) = 2
 needed os = 1
 
-pub no_nots : (os : List Opening) → needed os ≤ 4 → nots_ended os ≡ os
+pub no_nots : (os : List Opening) → needed os ≤ 4 → without_nots os ≡ os
 no_nots [] h = refl
-no_nots (OpenGroup ∷ os) h = refl
-no_nots (OpenArrow ∷ os) h = refl
-no_nots (OpenNot ∷ os) h = absurd (omega (arith, h))
+no_nots (GroupOpen ∷ os) h = refl
+no_nots (ArrowOpen ∷ os) h = refl
+no_nots (NotOpen ∷ os) h = absurd (omega (arith, h))
 
-pub no_arrows : (os : List Opening) → needed os ≤ 1 → arrows_ended os ≡ os
+pub no_arrows : (os : List Opening) → needed os ≤ 1 → without_arrows os ≡ os
 no_arrows [] h = refl
-no_arrows (OpenGroup ∷ os) h = refl
-no_arrows (OpenArrow ∷ os) h = absurd (omega (arith, h))
-no_arrows (OpenNot ∷ os) h = absurd (omega (arith, h))
+no_arrows (GroupOpen ∷ os) h = refl
+no_arrows (ArrowOpen ∷ os) h = absurd (omega (arith, h))
+no_arrows (NotOpen ∷ os) h = absurd (omega (arith, h))
 
 -- behind an operand of `|`, `&` or `->` nothing more is open
-pub behind_tight : (f : Form) (os : List Opening) → 3 ≤ level f → nots_ended os ≡ os → behind f os ≡ os
+pub behind_tight : (f : Form) (os : List Opening) → 3 ≤ level f → without_nots os ≡ os → behind f os ≡ os
 behind_tight (Implies f g) os l n = absurd (omega (arith, l))
 behind_tight (Iff f g) os l n = absurd (omega (arith, l))
 behind_tight (And f g) os l n = refl
@@ -57,19 +57,19 @@ behind_tight (Not f) os l n = n
 behind_tight (Group f) os l n = n
 
 -- only right sides are open behind a formula
-pub behind_ended : (f : Form) (os : List Opening) → nots_ended os ≡ os → arrows_ended (behind f os) ≡ arrows_ended os
-behind_ended (Implies f g) os n = behind_ended g (OpenArrow ∷ os) refl
+pub behind_ended : (f : Form) (os : List Opening) → without_nots os ≡ os → without_arrows (behind f os) ≡ without_arrows os
+behind_ended (Implies f g) os n = behind_ended g (ArrowOpen ∷ os) refl
 behind_ended (Iff f g) os n = behind_ended g os n
 behind_ended (And f g) os n = refl
 behind_ended (Or f g) os n = refl
-behind_ended (Name w) os n = ap arrows_ended n
-behind_ended Truth os n = ap arrows_ended n
-behind_ended Falsity os n = ap arrows_ended n
-behind_ended (Not f) os n = ap arrows_ended n
-behind_ended (Group f) os n = ap arrows_ended n
+behind_ended (Name w) os n = ap without_arrows n
+behind_ended Truth os n = ap without_arrows n
+behind_ended Falsity os n = ap without_arrows n
+behind_ended (Not f) os n = ap without_arrows n
+behind_ended (Group f) os n = ap without_arrows n
 
-pub behind_groups : (f : Form) (os : List Opening) → nots_ended os ≡ os → list_any is_group (behind f os) ≡ list_any is_group os
-behind_groups (Implies f g) os n = behind_groups g (OpenArrow ∷ os) refl
+pub behind_groups : (f : Form) (os : List Opening) → without_nots os ≡ os → list_any is_group (behind f os) ≡ list_any is_group os
+behind_groups (Implies f g) os n = behind_groups g (ArrowOpen ∷ os) refl
 behind_groups (Iff f g) os n = behind_groups g os n
 behind_groups (And f g) os n = refl
 behind_groups (Or f g) os n = refl
@@ -97,11 +97,11 @@ form_passes (Name w) q g os i n u = (name_due q g os w i.0 i.1, refl)
 form_passes Truth q g os i n u = (refl, refl)
 form_passes Falsity q g os i n u = (refl, refl)
 form_passes (Not f) q g os i n u =
-    let inner : Passes (state AtOperand q g (OpenNot ∷ os)) (spelled f) (state AtOperator q g (behind f (OpenNot ∷ os))) =
-    form_passes f q g (OpenNot ∷ os) i.1 (subst (λ k. Nests k f) (add-one (length os)) n.1) i.0 in
-    (rw (room (length os) n.0) refl, subst (λ x. Passes (state AtOperand q g (OpenNot ∷ os)) (spelled f) (state AtOperator q g x)) (unary_behind f (OpenNot ∷ os) i.0) inner)
+    let inner : Passes (state AtOperand q g (NotOpen ∷ os)) (spelled f) (state AtOperator q g (behind f (NotOpen ∷ os))) =
+    form_passes f q g (NotOpen ∷ os) i.1 (subst (λ k. Nests k f) (add-one (length os)) n.1) i.0 in
+    (rw (room (length os) n.0) refl, subst (λ x. Passes (state AtOperand q g (NotOpen ∷ os)) (spelled f) (state AtOperator q g x)) (unary_behind f (NotOpen ∷ os) i.0) inner)
   where
-    unary_behind : (f : Form) (os : List Opening) → 5 ≤ level f → behind f os ≡ nots_ended os
+    unary_behind : (f : Form) (os : List Opening) → 5 ≤ level f → behind f os ≡ without_nots os
     unary_behind (Implies f g) os l = absurd (omega (arith, l))
     unary_behind (Iff f g) os l = absurd (omega (arith, l))
     unary_behind (And f g) os l = absurd (omega (arith, l))
@@ -113,12 +113,12 @@ form_passes (Not f) q g os i n u =
     unary_behind (Group f) os l = refl
 form_passes (Group f) q g os i n u = (
   rw (room (length os) n.0) refl,
-  passes-append (state AtOperand q g (OpenGroup ∷ os)) (state AtOperator q g (behind f (OpenGroup ∷ os))) (state AtOperator q g (nots_ended os)) (spelled f) (Sign Close ∷ [])
-      (form_passes f q g (OpenGroup ∷ os) i (subst (λ k. Nests k f) (add-one (length os)) n.1) (level_some f))
-      (refl, rw (behind_ended f (OpenGroup ∷ os) refl) refl),
+  passes-append (state AtOperand q g (GroupOpen ∷ os)) (state AtOperator q g (behind f (GroupOpen ∷ os))) (state AtOperator q g (without_nots os)) (spelled f) (Sign Close ∷ [])
+      (form_passes f q g (GroupOpen ∷ os) i (subst (λ k. Nests k f) (add-one (length os)) n.1) (level_some f))
+      (refl, rw (behind_ended f (GroupOpen ∷ os) refl) refl),
 )
 form_passes (And f h) q g os i n u =
-    let settled : nots_ended os ≡ os = no_nots os (omega (arith, u)) in
+    let settled : without_nots os ≡ os = no_nots os (omega (arith, u)) in
     passes-append (state AtOperand q g os) (state AtOperator q g (behind f os)) (state AtOperator q g os) (spelled f) (Sign Ampersand ∷ spelled h)
     (form_passes f q g os i.2 n.0 (omega (arith, u, i.0))) (
       refl,
@@ -127,7 +127,7 @@ form_passes (And f h) q g os i n u =
           (form_passes h q g os i.3 n.1 (omega (arith, u, i.1)))),
     )
 form_passes (Or f h) q g os i n u =
-    let settled : nots_ended os ≡ os = no_nots os (omega (arith, u)) in
+    let settled : without_nots os ≡ os = no_nots os (omega (arith, u)) in
     passes-append (state AtOperand q g os) (state AtOperator q g (behind f os)) (state AtOperator q g os) (spelled f) (Sign Bar ∷ spelled h)
     (form_passes f q g os i.2 n.0 (omega (arith, u, i.0))) (
       refl,
@@ -136,17 +136,17 @@ form_passes (Or f h) q g os i n u =
           (form_passes h q g os i.3 n.1 (omega (arith, u, i.1)))),
     )
 form_passes (Implies f h) q g os i n u =
-    let settled : nots_ended os ≡ os = no_nots os (omega (arith, u)) in
+    let settled : without_nots os ≡ os = no_nots os (omega (arith, u)) in
     let tight : behind f os ≡ os = behind_tight f os i.0 settled in
-    passes-append (state AtOperand q g os) (state AtOperator q g (behind f os)) (state AtOperator q g (behind h (OpenArrow ∷ os))) (spelled f) (Sign Arrow ∷ spelled h)
+    passes-append (state AtOperand q g os) (state AtOperator q g (behind f os)) (state AtOperator q g (behind h (ArrowOpen ∷ os))) (spelled f) (Sign Arrow ∷ spelled h)
     (form_passes f q g os i.2 n.0 (omega (arith, u, i.0))) (
       rw (tight, room (length os) n.1) refl,
-      subst (λ x. Passes (state AtOperand q g (OpenArrow ∷ x)) (spelled h) (state AtOperator q g (behind h (OpenArrow ∷ os)))) (sym tight)
-          (form_passes h q g (OpenArrow ∷ os) i.3 (subst (λ k. Nests k h) (add-one (length os)) n.2) i.1),
+      subst (λ x. Passes (state AtOperand q g (ArrowOpen ∷ x)) (spelled h) (state AtOperator q g (behind h (ArrowOpen ∷ os)))) (sym tight)
+          (form_passes h q g (ArrowOpen ∷ os) i.3 (subst (λ k. Nests k h) (add-one (length os)) n.2) i.1),
     )
 form_passes (Iff f h) q g os i n u =
-    let settled : nots_ended os ≡ os = no_nots os (omega (arith, u)) in
-    let ended : arrows_ended (behind f os) ≡ os = behind_ended f os settled ∙ no_arrows os u in
+    let settled : without_nots os ≡ os = no_nots os (omega (arith, u)) in
+    let ended : without_arrows (behind f os) ≡ os = behind_ended f os settled ∙ no_arrows os u in
     passes-append (state AtOperand q g os) (state AtOperator q g (behind f os)) (state AtOperator q g (behind h os)) (spelled f) (Sign DoubleArrow ∷ spelled h)
     (form_passes f q g os i.2 n.0 (omega (arith, u, i.0))) (
       refl,
@@ -187,22 +187,22 @@ number_due (Decimal ds es) i =
     let h0 : nat_lt 6 (length es) ≡ false = grind (arith, nat_tests, i.0) in
     let h1 : nat_lt (10 ^ length es) (value (ds ++ es)) ≡ false = grind (arith, nat_tests, i.1) in rw (h0, h1) refl
 
-relation_passes : (r : Relation) → IsRelation r → Passes (at AtRelation) (relation_tokens r ++ Sign Semicolon ∷ []) (at AtItem)
+relation_passes : (r : Relation) → IsRelation r → Passes (outside AtRelation) (relation_tokens r ++ Sign Semicolon ∷ []) (outside AtItem)
 unfolding refusal after
 relation_passes (Exactly x) i = (refl, (number_due x i, (refl, refl)))
 relation_passes (AtLeast x) i = (refl, (number_due x i, (refl, refl)))
 relation_passes (AtMost x) i = (refl, (number_due x i, (refl, refl)))
 relation_passes (Within x y) i = (refl, (refl, (number_due x i.0, (refl, (number_due y i.1, (refl, (refl, refl)))))))
 
-entry_passes : (e : Entry) → IsEntry e → Passes (at AtItem) (entry_tokens e) (at AtItem)
+entry_passes : (e : Entry) → IsEntry e → Passes (outside AtItem) (entry_tokens e) (outside AtItem)
 unfolding refusal after
-entry_passes (Sentence p r) i = subst (λ ts. Passes (at AtItem) ts (at AtItem)) (sym (append_assoc (prob_tokens p) (relation_tokens r) (Sign Semicolon ∷ [])))
-    (passes-append (at AtItem) (at AtRelation) (at AtItem) (prob_tokens p) (relation_tokens r ++ Sign Semicolon ∷ []) (refl, prob_passes p false i.0) (relation_passes r i.1))
-entry_passes (Query p) i = (refl, passes-append (at AtQueryProb) (at AtItemEnd) (at AtItem) (prob_tokens p) (Sign Semicolon ∷ []) (refl, prob_passes p true i) (refl, refl))
+entry_passes (Sentence p r) i = subst (λ ts. Passes (outside AtItem) ts (outside AtItem)) (sym (append_assoc (prob_tokens p) (relation_tokens r) (Sign Semicolon ∷ [])))
+    (passes-append (outside AtItem) (outside AtRelation) (outside AtItem) (prob_tokens p) (relation_tokens r ++ Sign Semicolon ∷ []) (refl, prob_passes p false i.0) (relation_passes r i.1))
+entry_passes (Query p) i = (refl, passes-append (outside AtQueryProb) (outside AtItemEnd) (outside AtItem) (prob_tokens p) (Sign Semicolon ∷ []) (refl, prob_passes p true i) (refl, refl))
 
-entries_pass : (es : List Entry) → AreEntries es → Passes (at AtItem) (entries_tokens es) (at AtItem)
+entries_pass : (es : List Entry) → AreEntries es → Passes (outside AtItem) (entries_tokens es) (outside AtItem)
 entries_pass [] i = refl
-entries_pass (e ∷ es) i = passes-append (at AtItem) (at AtItem) (at AtItem) (entry_tokens e) (entries_tokens es) (entry_passes e i.0) (entries_pass es i.1)
+entries_pass (e ∷ es) i = passes-append (outside AtItem) (outside AtItem) (outside AtItem) (entry_tokens e) (entries_tokens es) (entry_passes e i.0) (entries_pass es i.1)
 
 -- the tokens of a text within the grammar's levels and limits are due
 pub derived_are_due : (es : List Entry) → AreEntries es → AreDue (text_tokens es)
@@ -213,7 +213,7 @@ derived_are_due es i = (
     refl,
     (
       refl,
-      passes-append (at AtItem) (at AtItem) (at AtDone) (entries_tokens es) (Word (codes "end") ∷ Sign Semicolon ∷ []) (entries_pass es i) (refl, (refl, refl)),
+      passes-append (outside AtItem) (outside AtItem) (outside AtDone) (entries_tokens es) (Word (codes "end") ∷ Sign Semicolon ∷ []) (entries_pass es i) (refl, (refl, refl)),
     ),
   ),
 )

@@ -4,10 +4,10 @@ use Rattle.std.proofs.lemmas.Bool.Decides.{nat_tests}
 use Rattle.std.proofs.lemmas.Slice.Eq.{bytes_eq-Decides}
 use Rattle.std.specs.Prelude.{bytes_eq, codes, if◌then◌else◌, nat_lt}
 use Rattle.std.specs.List.{list_any}
-use Rattle.ps_text.specs.Tokens.{Token, Word, Number, Sign, Open, Close, Bang, Ampersand, Bar, Arrow, DoubleArrow}
+use Rattle.ps_text.specs.Tokens.{Token, Word, Number, Sign, Open, Close, Bang, Ampersand, Bar, Arrow, DoubleArrow, is_the_sign, is_the_word}
 use Rattle.ps_text.specs.Kinds.{Kind, TooDeep}
 use Rattle.ps_text.specs.Grammar.{is_reserved, Form, Name, Truth, Falsity, Not, Group, And, Or, Implies, Iff, spelled, level, IsForm, Nests, Prob, Entry, Query, given_tokens, prob_tokens, IsGiven, IsProb, AreEntries}
-use Rattle.ps_text.specs.Due.{AtOperand, AtOperator, Opening, OpenGroup, OpenArrow, Due, is_word, is_sign, is_operand_word, is_connective, is_group, may_be_given, is_too_long, nots_ended, arrows_ended, closed, after}
+use Rattle.ps_text.specs.Due.{AtOperand, AtOperator, Opening, GroupOpen, ArrowOpen, Due, is_operand_word, is_connective, is_group, may_be_given, is_too_long, without_nots, without_arrows, closed, after}
 use Rattle.ps_text.proofs.Signs.{the_word, the_sign, Either, First, Second, either, both}
 use Rattle.ps_text.proofs.Frames.{Frame, BegunNot, BegunGroup, BegunAnd, BegunOr, BegunImplies, BegunIff, frame_tokens, opened_of, need, AreFrames, Settled, Fits, joins, joins_tokens, joins_fits, joins_level, joins_need, joins_settled, nots_opened, and_opened, or_opened, all_opened, all_joined}
 use Rattle.ps_text.proofs.Parsing.{Parse, InItemEnd, InRelation, InOperand, InOperator, prob_of, due_of, before, lead, form_tokens, formula_lead, entry_body, read, Sound, ended, operand_of, behind_close, parsed}
@@ -55,7 +55,7 @@ fault_room false h = absurd (true≢false (ap is_some h))
 
 pub at_operand : (es : List Entry) (q : Bool) (c : Option Form) (fs : List Frame) (t : Token) → Sound (InOperand es q c fs) → Passed (due_of (InOperand es q c fs)) t → Steps (InOperand es q c fs) t
 unfolding after
-at_operand es q c fs t s h = by (either (is_operand_word t || is_sign Bang t) (is_sign Open t) h.due)
+at_operand es q c fs t s h = by (either (is_operand_word t || is_the_sign Bang t) (is_the_sign Open t) h.due)
   where
     word : (u : Token) → is_too_long u ≡ false → is_operand_word u ≡ true → Steps (InOperand es q c fs) u
     word (Number x) l e = absurd (true≢false (sym e))
@@ -70,7 +70,7 @@ at_operand es q c fs t s h = by (either (is_operand_word t || is_sign Bang t) (i
           sound = (s.0, s.1, joins_fits 5 fs (operand_of w) (omega arith) fits, joins_settled 5 fs (operand_of w) (omega arith), joins_level 5 fs (operand_of w) (omega arith) o.tight);
         }
 
-    sign : Either (is_operand_word t) (is_sign Bang t) → Steps (InOperand es q c fs) t
+    sign : Either (is_operand_word t) (is_the_sign Bang t) → Steps (InOperand es q c fs) t
     sign (First e) = word t h.short e
     sign (Second e) =
         let deep : Passed (due_of (InOperand es q c fs)) (Sign Bang) = subst (λ u. Passed (due_of (InOperand es q c fs)) u) (the_sign Bang t e) h in
@@ -80,8 +80,8 @@ at_operand es q c fs t s h = by (either (is_operand_word t || is_sign Bang t) (i
           sound = (s.0, s.1, (room (length (opened_of fs)) (fault_room (nat_lt (length (opened_of fs)) 100) deep.fault), s.2));
         })
 
-    by : Either (is_operand_word t || is_sign Bang t) (is_sign Open t) → Steps (InOperand es q c fs) t
-    by (First e) = sign (either (is_operand_word t) (is_sign Bang t) e)
+    by : Either (is_operand_word t || is_the_sign Bang t) (is_the_sign Open t) → Steps (InOperand es q c fs) t
+    by (First e) = sign (either (is_operand_word t) (is_the_sign Bang t) e)
     by (Second e) =
         let deep : Passed (due_of (InOperand es q c fs)) (Sign Open) = subst (λ u. Passed (due_of (InOperand es q c fs)) u) (the_sign Open t e) h in
         subst (λ u. Steps (InOperand es q c fs) u) (sym (the_sign Open t e)) (record {
@@ -151,7 +151,7 @@ at_close es q c fs f s =
     let g = (joins 1 fs f).1 in
     let x = closes es q c gs g s.0 s.1 (joins_need 1 fs f (omega arith)) (joins_fits 1 fs f (omega arith) s.2) in
     record {
-      due = x.due ∙ ap (λ os. closed (record { part = AtOperator; query = q; given = is_some c; opened = [] }) os) (all_opened fs f s.3 s.2.frames) ∙ closed_same q (is_some c) (opened_of fs) (arrows_ended (opened_of fs));
+      due = x.due ∙ ap (λ os. closed (record { part = AtOperator; query = q; given = is_some c; opened = [] }) os) (all_opened fs f s.3 s.2.frames) ∙ closed_same q (is_some c) (opened_of fs) (without_arrows (opened_of fs));
       tokens = x.tokens ∙ last_two (formula_lead es q c) (frame_tokens fs ++ spelled f) (Sign Close) (frame_tokens gs ++ spelled g) (joins_tokens 1 fs f (omega arith));
       sound = x.sound;
     }
@@ -186,7 +186,7 @@ at_implies es q c fs f s l =
     let i = joins_fits 3 fs f (omega arith) s.2 in
     let o : opened_of (joins 3 fs f).0 ≡ opened_of fs = or_opened fs f s.3 s.2.frames in
     record {
-      due = ap (λ os. record { part = AtOperand; query = q; given = is_some c; opened = OpenArrow ∷ os }) o;
+      due = ap (λ os. record { part = AtOperand; query = q; given = is_some c; opened = ArrowOpen ∷ os }) o;
       tokens = last_two (formula_lead es q c) (frame_tokens fs ++ spelled f) (Sign Arrow) (frame_tokens (joins 3 fs f).0 ++ spelled (joins 3 fs f).1) (joins_tokens 3 fs f (omega arith));
       sound = (s.0, s.1, (joins_need 3 fs f (omega arith), record { tight = joins_level 3 fs f (omega arith) (omega (arith, s.4)); form = i.form; nests = i.nests }, subst (λ os. length os < 100) (sym o) l, i.frames));
     }
@@ -222,36 +222,36 @@ at_given es q None fs f s n m =
     given_lead es q g = ap (λ ts. before es ++ ts) (sym (append_assoc (lead q) (Sign Open ∷ []) (spelled g ++ Word (codes "given") ∷ []))) ∙ sym (append_assoc (before es) (lead q ++ Sign Open ∷ []) (spelled g ++ Word (codes "given") ∷ []))
 
 pub at_operator : (es : List Entry) (q : Bool) (c : Option Form) (fs : List Frame) (f : Form) (t : Token) → Sound (InOperator es q c fs f) → Passed (due_of (InOperator es q c fs f)) t → Steps (InOperator es q c fs f) t
-at_operator es q c fs f t s h = by (either (is_connective t || is_sign Close t) (may_be_given (due_of (InOperator es q c fs f)) && is_word (codes "given") t) h.due)
+at_operator es q c fs f t s h = by (either (is_connective t || is_the_sign Close t) (may_be_given (due_of (InOperator es q c fs f)) && is_the_word (codes "given") t) h.due)
   where
     arrow : t ≡ Sign Arrow → Steps (InOperator es q c fs f) t
     arrow e =
         let deep : Passed (due_of (InOperator es q c fs f)) (Sign Arrow) = subst (λ u. Passed (due_of (InOperator es q c fs f)) u) e h in
         subst (λ u. Steps (InOperator es q c fs f) u) (sym e) (at_implies es q c fs f s (room (length (opened_of fs)) (fault_room (nat_lt (length (opened_of fs)) 100) deep.fault)))
 
-    first : Either (is_sign Ampersand t) (is_sign Bar t) → Steps (InOperator es q c fs f) t
+    first : Either (is_the_sign Ampersand t) (is_the_sign Bar t) → Steps (InOperator es q c fs f) t
     first (First e) = subst (λ u. Steps (InOperator es q c fs f) u) (sym (the_sign Ampersand t e)) (at_and es q c fs f s)
     first (Second e) = subst (λ u. Steps (InOperator es q c fs f) u) (sym (the_sign Bar t e)) (at_or es q c fs f s)
 
-    second : Either (is_sign Ampersand t || is_sign Bar t) (is_sign Arrow t) → Steps (InOperator es q c fs f) t
-    second (First e) = first (either (is_sign Ampersand t) (is_sign Bar t) e)
+    second : Either (is_the_sign Ampersand t || is_the_sign Bar t) (is_the_sign Arrow t) → Steps (InOperator es q c fs f) t
+    second (First e) = first (either (is_the_sign Ampersand t) (is_the_sign Bar t) e)
     second (Second e) = arrow (the_sign Arrow t e)
 
-    connective : Either (is_sign Ampersand t || is_sign Bar t || is_sign Arrow t) (is_sign DoubleArrow t) → Steps (InOperator es q c fs f) t
-    connective (First e) = second (either (is_sign Ampersand t || is_sign Bar t) (is_sign Arrow t) e)
+    connective : Either (is_the_sign Ampersand t || is_the_sign Bar t || is_the_sign Arrow t) (is_the_sign DoubleArrow t) → Steps (InOperator es q c fs f) t
+    connective (First e) = second (either (is_the_sign Ampersand t || is_the_sign Bar t) (is_the_sign Arrow t) e)
     connective (Second e) = subst (λ u. Steps (InOperator es q c fs f) u) (sym (the_sign DoubleArrow t e)) (at_iff es q c fs f s)
 
-    signs : Either (is_connective t) (is_sign Close t) → Steps (InOperator es q c fs f) t
-    signs (First e) = connective (either (is_sign Ampersand t || is_sign Bar t || is_sign Arrow t) (is_sign DoubleArrow t) e)
+    signs : Either (is_connective t) (is_the_sign Close t) → Steps (InOperator es q c fs f) t
+    signs (First e) = connective (either (is_the_sign Ampersand t || is_the_sign Bar t || is_the_sign Arrow t) (is_the_sign DoubleArrow t) e)
     signs (Second e) = subst (λ u. Steps (InOperator es q c fs f) u) (sym (the_sign Close t e)) (at_close es q c fs f s)
 
     not_true : (b : Bool) → not b ≡ true → b ≡ false
     not_true true e = absurd (true≢false (sym e))
     not_true false e = refl
 
-    by : Either (is_connective t || is_sign Close t) (may_be_given (due_of (InOperator es q c fs f)) && is_word (codes "given") t) → Steps (InOperator es q c fs f) t
-    by (First e) = signs (either (is_connective t) (is_sign Close t) e)
+    by : Either (is_connective t || is_the_sign Close t) (may_be_given (due_of (InOperator es q c fs f)) && is_the_word (codes "given") t) → Steps (InOperator es q c fs f) t
+    by (First e) = signs (either (is_connective t) (is_the_sign Close t) e)
     by (Second e) =
-        let b = both (may_be_given (due_of (InOperator es q c fs f))) (is_word (codes "given") t) e in
+        let b = both (may_be_given (due_of (InOperator es q c fs f))) (is_the_word (codes "given") t) e in
         let m = both (not (list_any is_group (opened_of fs))) (not (is_some c)) b.0 in
         subst (λ u. Steps (InOperator es q c fs f) u) (sym (the_word (codes "given") t b.1)) (at_given es q c fs f s (not_true (list_any is_group (opened_of fs)) m.0) (not_true (is_some c) m.1))

@@ -5,7 +5,7 @@ use Rattle.std.specs.Prelude.{nat_le, if◌then◌else◌}
 use Rattle.std.specs.List.{list_any}
 use Rattle.ps_text.specs.Tokens.{Token, Sign, Open, Bang, Ampersand, Bar, Arrow, DoubleArrow}
 use Rattle.ps_text.specs.Grammar.{Form, Not, Group, And, Or, Implies, Iff, spelled, level, IsForm, Nests}
-use Rattle.ps_text.specs.Due.{Opening, OpenNot, OpenGroup, OpenArrow, is_group, nots_ended, arrows_ended}
+use Rattle.ps_text.specs.Due.{Opening, NotOpen, GroupOpen, ArrowOpen, is_group, without_nots, without_arrows}
 
 pub data Frame : Type 0 where
   BegunNot BegunGroup : Frame
@@ -24,9 +24,9 @@ frame_tokens (BegunIff f ∷ fs) = frame_tokens fs ++ spelled f ++ Sign DoubleAr
 -- what is open
 abbrev pub opened_of : List Frame → List Opening
 opened_of [] = []
-opened_of (BegunNot ∷ fs) = OpenNot ∷ opened_of fs
-opened_of (BegunGroup ∷ fs) = OpenGroup ∷ opened_of fs
-opened_of (BegunImplies f ∷ fs) = OpenArrow ∷ opened_of fs
+opened_of (BegunNot ∷ fs) = NotOpen ∷ opened_of fs
+opened_of (BegunGroup ∷ fs) = GroupOpen ∷ opened_of fs
+opened_of (BegunImplies f ∷ fs) = ArrowOpen ∷ opened_of fs
 opened_of (x ∷ fs) = opened_of fs
 
 -- how tightly the next operand has to bind
@@ -224,7 +224,7 @@ joins_settled k (x ∷ fs) f h = by (nat_le k (own x)) refl (joins_settled k fs 
     by false e m = settled x (omega (arith, h, test_lt k (own x) e))
 
 -- nothing that is open is a `!`, up to what is begun
-pub loose : (fs : List Frame) → need fs ≤ 4 → AreFrames fs → (nots_ended (opened_of fs) ≡ opened_of fs) × Settled fs
+pub loose : (fs : List Frame) → need fs ≤ 4 → AreFrames fs → (without_nots (opened_of fs) ≡ opened_of fs) × Settled fs
 loose [] n a = (refl, tt)
 loose (BegunNot ∷ fs) n a = absurd (omega (arith, n))
 loose (BegunGroup ∷ fs) n a = (refl, tt)
@@ -234,7 +234,7 @@ loose (BegunImplies g ∷ fs) n a = (refl, tt)
 loose (BegunIff g ∷ fs) n a = ((loose fs (omega (arith, a.0)) a.2).0, tt)
 
 -- behind an operand
-pub nots_opened : (fs : List Frame) (f : Form) → AreFrames fs → opened_of (joins 5 fs f).0 ≡ nots_ended (opened_of fs)
+pub nots_opened : (fs : List Frame) (f : Form) → AreFrames fs → opened_of (joins 5 fs f).0 ≡ without_nots (opened_of fs)
 nots_opened [] f a = refl
 nots_opened (BegunNot ∷ fs) f a = nots_opened fs (Not f) a.1
 nots_opened (BegunGroup ∷ fs) f a = refl
@@ -264,7 +264,7 @@ or_opened (BegunImplies g ∷ fs) f s a = refl
 or_opened (BegunIff g ∷ fs) f s a = refl
 
 -- before `<->`, `)` and `given`
-pub all_opened : (fs : List Frame) (f : Form) → Settled fs → AreFrames fs → opened_of (joins 1 fs f).0 ≡ arrows_ended (opened_of fs)
+pub all_opened : (fs : List Frame) (f : Form) → Settled fs → AreFrames fs → opened_of (joins 1 fs f).0 ≡ without_arrows (opened_of fs)
 all_opened [] f s a = refl
 all_opened (BegunNot ∷ fs) f s a = absurd s
 all_opened (BegunGroup ∷ fs) f s a = refl

@@ -1,9 +1,9 @@
 -- A derivation that is made token by token.
 use Rattle.std.proofs.Common.{◌≡◌, ℕ, suc, zero, ◌+◌, ◌-◌, ◌<◌, ◌≤◌, ◌^◌, Bool, true, false, not, ◌&&◌, ◌||◌, List, [], ◌∷◌, ◌++◌, length, Option, Some, None, refl, sym, ap, subst, ◌∙◌, arith, append_assoc, append-nil, true≢false, is_some}
 use Rattle.std.specs.Prelude.{bytes_eq, codes, if◌then◌else◌, nat_lt}
-use Rattle.ps_text.specs.Tokens.{Token, Word, Number, Sign, Numeral, Whole, Quotient, Decimal, Symbol, Open, Close, OpenBracket, CloseBracket, Comma, Semicolon, Bang, Ampersand, Bar, Arrow, DoubleArrow, Equals, GreaterEquals, LessEquals, symbol_spelling}
+use Rattle.ps_text.specs.Tokens.{Token, Word, Number, Sign, Numeral, Whole, Quotient, Decimal, Symbol, Open, Close, OpenBracket, CloseBracket, Comma, Semicolon, Bang, Ampersand, Bar, Arrow, DoubleArrow, Equals, GreaterEquals, LessEquals, symbol_spelling, is_the_word}
 use Rattle.ps_text.specs.Grammar.{Form, Name, Truth, Falsity, Not, Group, spelled, level, IsForm, Nests, Prob, Relation, Exactly, AtLeast, AtMost, Within, Entry, Sentence, Query, given_tokens, prob_tokens, relation_tokens, entry_tokens, entries_tokens, text_tokens, IsProbability, IsGiven, IsProb, IsRelation, IsEntry, AreEntries}
-use Rattle.ps_text.specs.Due.{AtPsat, AtVersion, AtHeadEnd, AtItem, AtQueryProb, AtParen, AtOperand, AtOperator, AtRelation, AtNumber, AtItemEnd, AtBracket, AtLower, AtComma, AtUpper, AtBracketEnd, AtTextEnd, AtDone, Due, at, is_word}
+use Rattle.ps_text.specs.Due.{AtPsat, AtVersion, AtHeadEnd, AtItem, AtQueryProb, AtParen, AtOperand, AtOperator, AtRelation, AtNumber, AtItemEnd, AtBracket, AtFirst, AtComma, AtSecond, AtBracketEnd, AtTextEnd, AtDone, Due, outside}
 use Rattle.ps_text.proofs.Frames.{Frame, BegunNot, BegunGroup, BegunAnd, BegunOr, BegunImplies, BegunIff, frame_tokens, opened_of, AreFrames, Settled, Fits, joins}
 
 -- what was derived before, and what is begun
@@ -13,9 +13,9 @@ pub data Parse : Type 0 where
   InParen : (done : List Entry) (query : Bool) → Parse
   InOperand : (done : List Entry) (query : Bool) (form : Option Form) (frames : List Frame) → Parse
   InOperator : (done : List Entry) (query : Bool) (form : Option Form) (frames : List Frame) (operand : Form) → Parse
-  InRelation InBracket InLower : (done : List Entry) (prob : Prob) → Parse
+  InRelation InBracket InFirst : (done : List Entry) (prob : Prob) → Parse
   InNumber : (done : List Entry) (prob : Prob) (sign : Symbol) → Parse
-  InComma InUpper : (done : List Entry) (prob : Prob) (least : Numeral) → Parse
+  InComma InSecond : (done : List Entry) (prob : Prob) (least : Numeral) → Parse
   InBracketEnd : (done : List Entry) (prob : Prob) (least most : Numeral) → Parse
   InItemEnd : (done : List Entry) (entry : Entry) → Parse
 
@@ -26,24 +26,24 @@ prob_of (Some f) g = record { form = f; given = Some g }
 
 -- what is due
 abbrev pub due_of : Parse → Due
-due_of InPsat = at AtPsat
-due_of InVersion = at AtVersion
-due_of InHeadEnd = at AtHeadEnd
-due_of (InItem es) = at AtItem
-due_of (InQueryProb es) = at AtQueryProb
-due_of (InTextEnd es) = at AtTextEnd
-due_of (InDone es) = at AtDone
+due_of InPsat = outside AtPsat
+due_of InVersion = outside AtVersion
+due_of InHeadEnd = outside AtHeadEnd
+due_of (InItem es) = outside AtItem
+due_of (InQueryProb es) = outside AtQueryProb
+due_of (InTextEnd es) = outside AtTextEnd
+due_of (InDone es) = outside AtDone
 due_of (InParen es q) = record { part = AtParen; query = q; given = false; opened = [] }
 due_of (InOperand es q c fs) = record { part = AtOperand; query = q; given = is_some c; opened = opened_of fs }
 due_of (InOperator es q c fs f) = record { part = AtOperator; query = q; given = is_some c; opened = opened_of fs }
-due_of (InRelation es p) = at AtRelation
-due_of (InBracket es p) = at AtBracket
-due_of (InLower es p) = at AtLower
-due_of (InNumber es p s) = at AtNumber
-due_of (InComma es p x) = at AtComma
-due_of (InUpper es p x) = at AtUpper
-due_of (InBracketEnd es p x y) = at AtBracketEnd
-due_of (InItemEnd es e) = at AtItemEnd
+due_of (InRelation es p) = outside AtRelation
+due_of (InBracket es p) = outside AtBracket
+due_of (InFirst es p) = outside AtFirst
+due_of (InNumber es p s) = outside AtNumber
+due_of (InComma es p x) = outside AtComma
+due_of (InSecond es p x) = outside AtSecond
+due_of (InBracketEnd es p x y) = outside AtBracketEnd
+due_of (InItemEnd es e) = outside AtItemEnd
 
 -- the tokens so far
 abbrev pub before : List Entry → List Token
@@ -81,10 +81,10 @@ read (InOperand es q c fs) = formula_lead es q c ++ frame_tokens fs
 read (InOperator es q c fs f) = formula_lead es q c ++ (frame_tokens fs ++ spelled f)
 read (InRelation es p) = sentence_lead es p
 read (InBracket es p) = sentence_lead es p ++ Word (codes "in") ∷ []
-read (InLower es p) = sentence_lead es p ++ (Word (codes "in") ∷ Sign OpenBracket ∷ [])
+read (InFirst es p) = sentence_lead es p ++ (Word (codes "in") ∷ Sign OpenBracket ∷ [])
 read (InNumber es p s) = sentence_lead es p ++ Sign s ∷ []
 read (InComma es p x) = sentence_lead es p ++ (Word (codes "in") ∷ Sign OpenBracket ∷ Number x ∷ [])
-read (InUpper es p x) = sentence_lead es p ++ (Word (codes "in") ∷ Sign OpenBracket ∷ Number x ∷ Sign Comma ∷ [])
+read (InSecond es p x) = sentence_lead es p ++ (Word (codes "in") ∷ Sign OpenBracket ∷ Number x ∷ Sign Comma ∷ [])
 read (InBracketEnd es p x y) = sentence_lead es p ++ (Word (codes "in") ∷ Sign OpenBracket ∷ Number x ∷ Sign Comma ∷ Number y ∷ [])
 read (InItemEnd es e) = before es ++ entry_body e
 
@@ -113,10 +113,10 @@ Sound (InOperand es q c fs) = AreEntries es × IsGiven c × AreFrames fs
 Sound (InOperator es q c fs f) = AreEntries es × IsGiven c × Fits fs f × Settled fs × (5 ≤ level f)
 Sound (InRelation es p) = AreEntries es × IsProb p
 Sound (InBracket es p) = AreEntries es × IsProb p
-Sound (InLower es p) = AreEntries es × IsProb p
+Sound (InFirst es p) = AreEntries es × IsProb p
 Sound (InNumber es p s) = AreEntries es × IsProb p × IsRelationSign s
 Sound (InComma es p x) = AreEntries es × IsProb p × IsProbability x
-Sound (InUpper es p x) = AreEntries es × IsProb p × IsProbability x
+Sound (InSecond es p x) = AreEntries es × IsProb p × IsProbability x
 Sound (InBracketEnd es p x y) = AreEntries es × IsProb p × IsProbability x × IsProbability y
 Sound (InItemEnd es e) = AreEntries es × IsEntry e
 
@@ -148,7 +148,7 @@ operator_parsed es q c fs f (Sign DoubleArrow) = InOperand es q c (BegunIff (joi
 operator_parsed es q c fs f t = InOperand es q (Some (joins 1 fs f).1) []
 
 abbrev pub item_parsed : List Entry → Token → Parse
-item_parsed es t = if is_word (codes "P") t then InParen es false else (if is_word (codes "query") t then InQueryProb es else InTextEnd es)
+item_parsed es t = if is_the_word (codes "P") t then InParen es false else (if is_the_word (codes "query") t then InQueryProb es else InTextEnd es)
 
 abbrev pub relation_parsed : List Entry → Prob → Token → Parse
 relation_parsed es p (Sign s) = InNumber es p s
@@ -171,10 +171,10 @@ parsed (InParen es q) t = InOperand es q None []
 parsed (InOperand es q c fs) t = operand_parsed es q c fs t
 parsed (InOperator es q c fs f) t = operator_parsed es q c fs f t
 parsed (InRelation es p) t = relation_parsed es p t
-parsed (InBracket es p) t = InLower es p
-parsed (InLower es p) t = InComma es p (number_in t)
+parsed (InBracket es p) t = InFirst es p
+parsed (InFirst es p) t = InComma es p (number_in t)
 parsed (InNumber es p s) t = InItemEnd es (Sentence p (relation_of s (number_in t)))
-parsed (InComma es p x) t = InUpper es p x
-parsed (InUpper es p x) t = InBracketEnd es p x (number_in t)
+parsed (InComma es p x) t = InSecond es p x
+parsed (InSecond es p x) t = InBracketEnd es p x (number_in t)
 parsed (InBracketEnd es p x y) t = InItemEnd es (Sentence p (Within x y))
 parsed (InItemEnd es e) t = InItem (es ++ e ∷ [])

@@ -2,8 +2,8 @@
 use Rattle.std.proofs.Common.{◌≡◌, ℕ, Bool, true, false, not, ◌&&◌, ◌||◌, List, [], ◌∷◌, Option, Some, None, refl, sym, ap, ◌∙◌, true≢false}
 use Rattle.std.proofs.lemmas.Slice.Eq.{bytes_eq-Decides}
 use Rattle.std.specs.Prelude.{bytes_eq, codes, if◌then◌else◌}
-use Rattle.ps_text.specs.Tokens.{Token, Word, Number, Sign, Numeral, Symbol, Open, Close, OpenBracket, CloseBracket, Comma, Semicolon, Bang, Ampersand, Bar, Arrow, DoubleArrow, Equals, GreaterEquals, LessEquals, symbol_spelling}
-use Rattle.ps_text.specs.Due.{is_word, is_number, is_sign}
+use Rattle.ps_text.specs.Tokens.{Token, Word, Number, Sign, Numeral, Symbol, Open, Close, OpenBracket, CloseBracket, Comma, Semicolon, Bang, Ampersand, Bar, Arrow, DoubleArrow, Equals, GreaterEquals, LessEquals, symbol_spelling, is_the_sign, is_the_word}
+use Rattle.ps_text.specs.Due.{is_number}
 
 same_bytes : (xs ys : List ℕ) → bytes_eq xs ys ≡ true → xs ≡ ys
 same_bytes xs ys h = (bytes_eq-Decides xs ys).0 h
@@ -35,12 +35,12 @@ symbol_back Equals = refl
 symbol_back GreaterEquals = refl
 symbol_back LessEquals = refl
 
-pub the_word : (w : List ℕ) (t : Token) → is_word w t ≡ true → t ≡ Word w
+pub the_word : (w : List ℕ) (t : Token) → is_the_word w t ≡ true → t ≡ Word w
 the_word w (Word u) h = ap Word (same_bytes u w h)
 the_word w (Number n) h = absurd (true≢false (sym h))
 the_word w (Sign s) h = absurd (true≢false (sym h))
 
-pub the_sign : (s : Symbol) (t : Token) → is_sign s t ≡ true → t ≡ Sign s
+pub the_sign : (s : Symbol) (t : Token) → is_the_sign s t ≡ true → t ≡ Sign s
 the_sign s (Sign u) h = ap Sign (sym (symbol_back u) ∙ ap symbol_of (same_bytes (symbol_spelling u) (symbol_spelling s) h) ∙ symbol_back s)
 the_sign s (Number n) h = absurd (true≢false (sym h))
 the_sign s (Word w) h = absurd (true≢false (sym h))

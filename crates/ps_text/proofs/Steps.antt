@@ -4,13 +4,13 @@ use Rattle.std.proofs.lemmas.Bool.Decides.{nat_tests}
 use Rattle.std.proofs.lemmas.Slice.Eq.{bytes_eq-Decides}
 use Rattle.std.specs.Prelude.{bytes_eq, codes, if◌then◌else◌, nat_lt, nat_eq}
 use Rattle.std.specs.List.{list_any}
-use Rattle.ps_text.specs.Tokens.{Token, Word, Number, Sign, Numeral, Whole, Quotient, Decimal, Symbol, Open, Close, OpenBracket, CloseBracket, Comma, Semicolon, Bang, Ampersand, Bar, Arrow, DoubleArrow, Equals, GreaterEquals, LessEquals}
+use Rattle.ps_text.specs.Tokens.{Token, Word, Number, Sign, Numeral, Whole, Quotient, Decimal, Symbol, Open, Close, OpenBracket, CloseBracket, Comma, Semicolon, Bang, Ampersand, Bar, Arrow, DoubleArrow, Equals, GreaterEquals, LessEquals, is_the_sign, is_the_word}
 use Rattle.ps_text.specs.Kinds.{Kind, NameTooLong, Expected, VersionUnknown, ZeroDenominator, DenominatorTooLarge, TooManyDecimals, NumberOutOfRange, TooDeep}
 use Rattle.ps_text.specs.Grammar.{is_reserved, value, Form, Name, Truth, Falsity, Not, Group, And, Or, Implies, Iff, spelled, level, IsForm, Nests, Prob, Relation, Exactly, AtLeast, AtMost, Within, Entry, Sentence, Query, given_tokens, prob_tokens, relation_tokens, entry_tokens, entries_tokens, text_tokens, IsProbability, IsGiven, IsProb, IsRelation, IsEntry, AreEntries}
-use Rattle.ps_text.specs.Due.{AtPsat, AtVersion, AtHeadEnd, AtItem, AtQueryProb, AtParen, AtOperand, AtOperator, AtRelation, AtNumber, AtItemEnd, AtBracket, AtLower, AtComma, AtUpper, AtBracketEnd, AtTextEnd, AtDone, Opening, OpenNot, OpenGroup, OpenArrow, Due, at, is_word, is_number, is_sign, is_operand_word, is_group, may_be_given, is_due, is_too_long, what_at, fault_at, version_fault, number_fault, value_fault, depth_fault, refusal, nots_ended, arrows_ended, closed, after, Passes}
+use Rattle.ps_text.specs.Due.{AtPsat, AtVersion, AtHeadEnd, AtItem, AtQueryProb, AtParen, AtOperand, AtOperator, AtRelation, AtNumber, AtItemEnd, AtBracket, AtFirst, AtComma, AtSecond, AtBracketEnd, AtTextEnd, AtDone, Opening, NotOpen, GroupOpen, ArrowOpen, Due, outside, is_number, is_operand_word, is_group, may_be_given, is_due, is_too_long, what_at, fault_at, version_fault, number_fault, value_fault, depth_fault, refusal, without_nots, without_arrows, closed, after, Passes}
 use Rattle.ps_text.proofs.Signs.{the_word, the_sign, Either, First, Second, either, both}
 use Rattle.ps_text.proofs.Frames.{Frame, BegunNot, BegunGroup, BegunAnd, BegunOr, BegunImplies, BegunIff, frame_tokens, opened_of, need, AreFrames, Settled, Fits, joins, joins_tokens, joins_fits, joins_level, joins_need, joins_settled, nots_opened, and_opened, or_opened, all_opened, all_joined}
-use Rattle.ps_text.proofs.Parsing.{Parse, InPsat, InVersion, InHeadEnd, InItem, InQueryProb, InTextEnd, InDone, InParen, InOperand, InOperator, InRelation, InBracket, InLower, InNumber, InComma, InUpper, InBracketEnd, InItemEnd, prob_of, due_of, before, lead, form_tokens, formula_lead, sentence_lead, entry_body, read, relation_of, IsRelationSign, Sound, ended, operand_of, behind_close, operand_parsed, operator_parsed, number_in, parsed}
+use Rattle.ps_text.proofs.Parsing.{Parse, InPsat, InVersion, InHeadEnd, InItem, InQueryProb, InTextEnd, InDone, InParen, InOperand, InOperator, InRelation, InBracket, InFirst, InNumber, InComma, InSecond, InBracketEnd, InItemEnd, prob_of, due_of, before, lead, form_tokens, formula_lead, sentence_lead, entry_body, read, relation_of, IsRelationSign, Sound, ended, operand_of, behind_close, operand_parsed, operator_parsed, number_in, parsed}
 
 -- a token that isn't refused
 pub record Passed (d : Due) (t : Token) : Type 0 where
@@ -60,14 +60,14 @@ at_head_end t h = subst (λ u. Steps InHeadEnd u) (sym (the_sign Semicolon t h.d
 
 pub at_item : (es : List Entry) (t : Token) → Sound (InItem es) → Passed (due_of (InItem es)) t → Steps (InItem es) t
 unfolding after
-at_item es t s h = by (either (is_word (codes "P") t || is_word (codes "query") t) (is_word (codes "end") t) h.due)
+at_item es t s h = by (either (is_the_word (codes "P") t || is_the_word (codes "query") t) (is_the_word (codes "end") t) h.due)
   where
-    probs : Either (is_word (codes "P") t) (is_word (codes "query") t) → Steps (InItem es) t
+    probs : Either (is_the_word (codes "P") t) (is_the_word (codes "query") t) → Steps (InItem es) t
     probs (First e) = subst (λ u. Steps (InItem es) u) (sym (the_word (codes "P") t e)) (record { due = refl; tokens = refl; sound = s })
     probs (Second e) = subst (λ u. Steps (InItem es) u) (sym (the_word (codes "query") t e)) (record { due = refl; tokens = refl; sound = s })
 
-    by : Either (is_word (codes "P") t || is_word (codes "query") t) (is_word (codes "end") t) → Steps (InItem es) t
-    by (First e) = probs (either (is_word (codes "P") t) (is_word (codes "query") t) e)
+    by : Either (is_the_word (codes "P") t || is_the_word (codes "query") t) (is_the_word (codes "end") t) → Steps (InItem es) t
+    by (First e) = probs (either (is_the_word (codes "P") t) (is_the_word (codes "query") t) e)
     by (Second e) = subst (λ u. Steps (InItem es) u) (sym (the_word (codes "end") t e)) (record { due = refl; tokens = refl; sound = s })
 
 pub at_query_prob : (es : List Entry) (t : Token) → Sound (InQueryProb es) → Passed (due_of (InQueryProb es)) t → Steps (InQueryProb es) t
@@ -87,18 +87,18 @@ at_paren es q t s h = subst (λ u. Steps (InParen es q) u) (sym (the_sign Open t
 
 pub at_relation : (es : List Entry) (p : Prob) (t : Token) → Sound (InRelation es p) → Passed (due_of (InRelation es p)) t → Steps (InRelation es p) t
 unfolding after
-at_relation es p t s h = by (either (is_sign Equals t || is_sign GreaterEquals t || is_sign LessEquals t) (is_word (codes "in") t) h.due)
+at_relation es p t s h = by (either (is_the_sign Equals t || is_the_sign GreaterEquals t || is_the_sign LessEquals t) (is_the_word (codes "in") t) h.due)
   where
-    first : Either (is_sign Equals t) (is_sign GreaterEquals t) → Steps (InRelation es p) t
+    first : Either (is_the_sign Equals t) (is_the_sign GreaterEquals t) → Steps (InRelation es p) t
     first (First e) = subst (λ u. Steps (InRelation es p) u) (sym (the_sign Equals t e)) (record { due = refl; tokens = refl; sound = (s.0, s.1, tt) })
     first (Second e) = subst (λ u. Steps (InRelation es p) u) (sym (the_sign GreaterEquals t e)) (record { due = refl; tokens = refl; sound = (s.0, s.1, tt) })
 
-    signs : Either (is_sign Equals t || is_sign GreaterEquals t) (is_sign LessEquals t) → Steps (InRelation es p) t
-    signs (First e) = first (either (is_sign Equals t) (is_sign GreaterEquals t) e)
+    signs : Either (is_the_sign Equals t || is_the_sign GreaterEquals t) (is_the_sign LessEquals t) → Steps (InRelation es p) t
+    signs (First e) = first (either (is_the_sign Equals t) (is_the_sign GreaterEquals t) e)
     signs (Second e) = subst (λ u. Steps (InRelation es p) u) (sym (the_sign LessEquals t e)) (record { due = refl; tokens = refl; sound = (s.0, s.1, tt) })
 
-    by : Either (is_sign Equals t || is_sign GreaterEquals t || is_sign LessEquals t) (is_word (codes "in") t) → Steps (InRelation es p) t
-    by (First e) = signs (either (is_sign Equals t || is_sign GreaterEquals t) (is_sign LessEquals t) e)
+    by : Either (is_the_sign Equals t || is_the_sign GreaterEquals t || is_the_sign LessEquals t) (is_the_word (codes "in") t) → Steps (InRelation es p) t
+    by (First e) = signs (either (is_the_sign Equals t || is_the_sign GreaterEquals t) (is_the_sign LessEquals t) e)
     by (Second e) = subst (λ u. Steps (InRelation es p) u) (sym (the_word (codes "in") t e)) (record { due = refl; tokens = refl; sound = s })
 
 number_sound : (x : Numeral) → value_fault x ≡ None → IsProbability x
@@ -169,9 +169,9 @@ unfolding after
 at_bracket es p t s h = subst (λ u. Steps (InBracket es p) u) (sym (the_sign OpenBracket t h.due))
     (record { due = refl; tokens = sym (append_assoc (sentence_lead es p) (Word (codes "in") ∷ []) (Sign OpenBracket ∷ [])); sound = s })
 
-pub at_lower : (es : List Entry) (p : Prob) (t : Token) → Sound (InLower es p) → Passed (due_of (InLower es p)) t → Steps (InLower es p) t
+pub at_first : (es : List Entry) (p : Prob) (t : Token) → Sound (InFirst es p) → Passed (due_of (InFirst es p)) t → Steps (InFirst es p) t
 unfolding after
-at_lower es p t s h =
+at_first es p t s h =
     let n = the_number t h.due h.fault in
     record {
       due = refl;
@@ -184,9 +184,9 @@ unfolding after
 at_comma es p x t s h = subst (λ u. Steps (InComma es p x) u) (sym (the_sign Comma t h.due))
     (record { due = refl; tokens = sym (append_assoc (sentence_lead es p) (Word (codes "in") ∷ Sign OpenBracket ∷ Number x ∷ []) (Sign Comma ∷ [])); sound = s })
 
-pub at_upper : (es : List Entry) (p : Prob) (x : Numeral) (t : Token) → Sound (InUpper es p x) → Passed (due_of (InUpper es p x)) t → Steps (InUpper es p x) t
+pub at_second : (es : List Entry) (p : Prob) (x : Numeral) (t : Token) → Sound (InSecond es p x) → Passed (due_of (InSecond es p x)) t → Steps (InSecond es p x) t
 unfolding after
-at_upper es p x t s h =
+at_second es p x t s h =
     let n = the_number t h.due h.fault in
     record {
       due = refl;

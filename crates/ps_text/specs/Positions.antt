@@ -6,7 +6,7 @@ pub record Position : Type 0 where
   pub line : ℕ
   pub column : ℕ
 
--- the position behind a byte
+-- the position behind a byte that stands at this one: a line feed alone ends a line
 unfoldable pub moved : Position → ℕ → Position
 moved p b = if b == 10 then record { line = suc p.line; column = 1 } else record { line = p.line; column = suc p.column }
 

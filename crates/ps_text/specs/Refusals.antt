@@ -2,23 +2,16 @@
 use Rattle.std.specs.Prelude.{◌≡◌, ◌≢◌, ℕ, ◌⊎◌, List, [], ◌∷◌, ◌++◌, length, Some}
 use Rattle.ps_text.specs.Tokens.{One, Token, IsToken, IsLongest, BeginsNone, spelling}
 use Rattle.ps_text.specs.Pieces.{Piece, texts, Cuts, tokens, IsBare}
-use Rattle.ps_text.specs.Grammar.{Entry, text_tokens, AreEntries}
 use Rattle.ps_text.specs.Kinds.{Kind, EndMissing, BadByte}
-use Rattle.ps_text.specs.Due.{Due, at, at_start, AtDone, refusal, Passes}
+use Rattle.ps_text.specs.Due.{Due, outside, at_start, AtDone, refusal, Passes}
 
--- tokens are those of a text within the grammar's levels and limits
-pub record IsDerived (ts : List Token) : Type 0 where
-  pub entries : List Entry
-  pub tokens : ts ≡ text_tokens entries
-  pub within : AreEntries entries
-
--- the longest token at the front is refused
+-- the longest token at the front is refused for this kind
 pub record IsRefusedToken (d : Due) (rest : List ℕ) (kind : Kind) : Type 0 where
   pub token : Token
-  pub after : List ℕ
-  pub is : rest ≡ spelling token ++ after
+  pub behind : List ℕ
+  pub is : rest ≡ spelling token ++ behind
   pub spelled : IsToken One token
-  pub longest : IsLongest One token after
+  pub longest : IsLongest One token behind
   pub refused : refusal d token ≡ Some kind
 
 -- why what is left is refused, where a token is due: nothing is left, no token stands there, or one that is refused
@@ -26,7 +19,7 @@ abbrev pub Why : Due → List ℕ → Kind → Type 0
 Why d [] kind = kind ≡ EndMissing
 Why d (b ∷ bs) kind = (BeginsNone One (b ∷ bs) × (kind ≡ BadByte)) ⊎ IsRefusedToken d (b ∷ bs) kind
 
--- the form of the bytes is refused for the first time at this place, and for this
+-- the form of the bytes is refused at this place, for this kind: no token before it is refused
 pub record IsRefused (bytes : List ℕ) (kind : Kind) (place : ℕ) : Type 0 where
   pub pieces : List Piece
   pub rest : List ℕ
@@ -34,7 +27,7 @@ pub record IsRefused (bytes : List ℕ) (kind : Kind) (place : ℕ) : Type 0 whe
   pub is : bytes ≡ texts pieces ++ rest
   pub cuts : Cuts One pieces rest
   pub passes : Passes at_start (tokens pieces) due
-  pub more : due ≢ at AtDone
+  pub unfinished : due ≢ outside AtDone
   pub bare : IsBare rest
   pub why : Why due rest kind
   pub place_is : place ≡ length (texts pieces)

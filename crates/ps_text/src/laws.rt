@@ -3,7 +3,7 @@ ghost use Rattle.std.specs.Prelude.{List};
 ghost use Rattle.ps_text.specs.Tokens.{Token};
 ghost use Rattle.ps_text.specs.Grammar.{Entry, AreEntries, text_tokens};
 ghost use Rattle.ps_text.specs.Due.{AreDue};
-ghost use Rattle.ps_text.specs.Refusals.{IsDerived};
+ghost use Rattle.ps_text.specs.Grammar.{IsDerived};
 
 /// The table of due tokens and the grammar say the same: tokens none of which is refused, up to the `;` behind `end`, are those
 /// of a text within the grammar's levels and limits, and each such text's tokens are refused nowhere.
