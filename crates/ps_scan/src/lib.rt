@@ -1,0 +1,16 @@
+//! Cuts bytes into the tokens of problem texts, one byte after the other.
+#![tactic(auto)]
+
+mod bytes;
+mod digits;
+mod mode;
+mod position;
+mod scanner;
+mod step;
+mod stepping;
+mod token;
+
+pub use digits::Digits;
+pub use position::Position;
+pub use scanner::Scanner;
+pub use token::{Numeral, Symbol, Token};
