@@ -1,5 +1,5 @@
 -- What kept values stand for.
-use Rattle.std.specs.Prelude.{ℕ, ◌+◌, ◌-◌, List, [], ◌∷◌, ◌++◌, map, replicate, Option, Some, None}
+use Rattle.std.specs.Prelude.{ℕ, zero, suc, ◌+◌, ◌==◌, if◌then◌else◌, List, [], ◌∷◌, ◌++◌, map, replicate}
 use Rattle.ps_text.specs.Tokens as text
 use Rattle.ps_text.specs.Due as due
 use Rattle.ps_scan.specs.declared.digits.Digits.{Digits}
@@ -15,14 +15,19 @@ use Rattle.ps_due.specs.declared.part.Opening.{Opening}
 use Rattle.ps_due.specs.declared.part.Opening.TheVariants as opening
 use Rattle.ps_due.specs.declared.due.Due.{Due}
 
--- as many digits, of this value: all zeros but the last, which stands for the value whatever it is
+-- one digit, or two for another number of them, of this value: the last one stands for the value whatever it is
 unfoldable pub figures : ℕ → ℕ → List ℕ
-figures count value = replicate (count - 1) 48 ++ (48 + value) ∷ []
+figures count value = if count == 1 then (48 + value) ∷ [] else 48 ∷ (48 + value) ∷ []
+
+-- so many digits behind the point, all of the number's digits of this value
+unfoldable pub decimal_of : ℕ → ℕ → text.Numeral
+decimal_of zero value = text.Decimal ((48 + value) ∷ []) []
+decimal_of (suc k) value = text.Decimal [] (replicate k 48 ++ (48 + value) ∷ [])
 
 abbrev pub numeral_of : Numeral → text.Numeral
 numeral_of (numeral.Whole d) = text.Whole (figures d.count d.value)
 numeral_of (numeral.Quotient d e) = text.Quotient (figures d.count d.value) (figures e.count e.value)
-numeral_of (numeral.Decimal d k) = text.Decimal [] (figures k d.value)
+numeral_of (numeral.Decimal d k) = decimal_of k d.value
 
 abbrev pub symbol_of : Symbol → text.Symbol
 symbol_of symbol.Open = text.Open

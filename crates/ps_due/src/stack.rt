@@ -70,4 +70,11 @@ impl<T> Stack<T> {
     {
         self.items.clear();
     }
+
+    /// The items, the last one last.
+    pub fn items(&self) -> &[T]
+        ensures { reverse result.now ≡ self.now }
+    {
+        self.items.as_slice()
+    }
 }
