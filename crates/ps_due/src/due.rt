@@ -256,4 +256,43 @@ impl Due {
         }
         Ok(())
     }
+
+    /// Goes on behind a token that isn't refused.
+    #[tactic(auto, unfolding(ps_text::specs::Due::after))]
+    pub fn go_on(&mut self, token: &Token) -> Result<(), NoMemory>
+        ensures { OnOk result (due_of self.new ≡ after (due_of self.old) (token_of token.now)) }
+    {
+        match self.part {
+            Part::Psat => self.stand_outside(Part::Version),
+            Part::Version => self.stand_outside(Part::HeadEnd),
+            Part::HeadEnd | Part::ItemEnd => self.stand_outside(Part::Item),
+            Part::Item => self.after_item_word(token),
+            Part::QueryProb => {
+                self.stand_outside(Part::Paren);
+                self.query = true;
+            }
+            Part::Paren => {
+                self.part = Part::Operand;
+                self.opened.clear();
+            }
+            Part::Operand => return self.after_operand(token),
+            Part::Operator => return self.after_operator(token),
+            Part::Relation if is_word(token, b"in") => self.stand_outside(Part::Bracket),
+            Part::Relation => self.stand_outside(Part::Number),
+            Part::Number | Part::BracketEnd => self.stand_outside(Part::ItemEnd),
+            Part::Bracket => self.stand_outside(Part::First),
+            Part::First => self.stand_outside(Part::Comma),
+            Part::Comma => self.stand_outside(Part::Second),
+            Part::Second => self.stand_outside(Part::BracketEnd),
+            Part::TextEnd | Part::Done => self.stand_outside(Part::Done),
+        }
+        Ok(())
+    }
+
+    /// The part that is next.
+    pub fn part(&self) -> Part
+        ensures { part_of result ≡ (due_of self.now).part }
+    {
+        self.part
+    }
 }
