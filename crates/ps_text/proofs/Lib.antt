@@ -8,3 +8,4 @@ pub mod Parsing
 pub mod Steps
 pub mod FormulaSteps
 pub mod Derived
+pub mod Cutting
