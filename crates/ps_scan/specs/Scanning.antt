@@ -130,3 +130,20 @@ IsBegunSymbol mode.Less = Unit {0}
 IsBegunSymbol mode.LessMinus = Unit {0}
 IsBegunSymbol mode.Greater = Unit {0}
 IsBegunSymbol m = ⊥
+
+-- a token, where it is one, with where it began
+abbrev pub with_place : Option Token → Position → List (Token × Position)
+with_place None p = []
+with_place (Some t) p = (t, p) ∷ []
+
+-- the tokens that bytes tell from here on, with where they begin, and where no token begins, if there is such a place
+abbrev pub stops_or : Option Position → List (Token × Position) × Option Position → List (Token × Position) × Option Position
+stops_or (Some p) rest = ([], Some p)
+stops_or None rest = rest
+
+abbrev pub after_tokens : List (Token × Position) → List (Token × Position) × Option Position → List (Token × Position) × Option Position
+after_tokens ts rest = (ts ++ rest.0, rest.1)
+
+unfoldable pub scanned : Scanned → List ℕ → List (Token × Position) × Option Position
+scanned s [] = (with_place (last_token s.mode) s.began, last_bad s.mode s.began)
+scanned s (b ∷ bs) = after_tokens (with_place (token_ended s b) s.began) (stops_or (bad_place (with_byte s b).mode) (scanned (with_byte s b) bs))
