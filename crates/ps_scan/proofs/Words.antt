@@ -27,6 +27,12 @@ pub one_more : (m n : Mode) (b : ℕ) (bs : List ℕ) (began here : Position) �
 unfolding scanned token_ended with_byte
 one_more m n b bs began here g = rw (g.step began here, g.good) refl
 
+-- the same at one place
+pub one_at : (m n : Mode) (b : ℕ) (bs : List ℕ) (began here : Position) → stepped_in m began here b ≡ goes_on n began → bad_place n ≡ None
+    → scanned (state m began here) (b ∷ bs) ≡ scanned (state n began (behind here b)) bs
+unfolding scanned token_ended with_byte
+one_at m n b bs began here step good = rw (step, good) refl
+
 abbrev pub all_of : {X : Type 0} → (X → ℕ → X) → X → List ℕ → X
 all_of g x [] = x
 all_of g x (b ∷ bs) = all_of g (g x b) bs
