@@ -41,11 +41,11 @@ digit_no_hash b h = grind (arith, nat_tests)
 digit_no_letter : (b : ℕ) → is_digit b ≡ true → is_letter b ≡ false
 digit_no_letter b h = refute (is_letter b) (λ e. grind (arith, nat_tests))
 
-word_begun : (b : ℕ) (p : Position) → is_letter b ≡ true → begun p b ≡ mode.Word (b ∷ [])
+pub word_begun : (b : ℕ) (p : Position) → is_letter b ≡ true → begun p b ≡ mode.Word (b ∷ [])
 unfolding begun
 word_begun b p h = rw (letter_no_blank b h, letter_no_hash b h, h) refl
 
-number_begun : (b : ℕ) (p : Position) → is_digit b ≡ true → begun p b ≡ mode.Whole (with_digit no_digits b)
+pub number_begun : (b : ℕ) (p : Position) → is_digit b ≡ true → begun p b ≡ mode.Whole (with_digit no_digits b)
 unfolding begun
 number_begun b p h = rw (digit_no_blank b h, digit_no_hash b h, digit_no_letter b h, h) refl
 
@@ -74,7 +74,7 @@ behind_point d b after p here h =
     one_at (mode.Whole d) (mode.Point d here) 46 (b ∷ after) p here refl refl
     ∙ one_at (mode.Point d here) (mode.Decimal (with_digit d b) 1) b after p (behind here 46) (rw h refl) refl
 
-behind_append : (p : Position) (xs ys : List ℕ) → behind_all p (xs ++ ys) ≡ behind_all (behind_all p xs) ys
+pub behind_append : (p : Position) (xs ys : List ℕ) → behind_all p (xs ++ ys) ≡ behind_all (behind_all p xs) ys
 behind_append p [] ys = refl
 behind_append p (x ∷ xs) ys = behind_append (behind p x) xs ys
 
