@@ -5,10 +5,10 @@ use Rattle.std.specs.Prelude.{nat_le, ◌==◌, IsTrue, if◌then◌else◌}
 use Rattle.std.specs.List.{AllByRecursion}
 use Rattle.ps_text.specs.Tokens as text
 use Rattle.ps_text.specs.Tokens.{One, IsToken, IsNumeral, is_letter, is_digit, is_word_byte, numeral_spelling, symbol_spelling, spelling, BeginsNone}
-use Rattle.ps_text.specs.Pieces.{text as text_of, Piece, Blank, Comment, Spelled, texts, Cuts, Fits, IsBare, EndsLine, is_blank}
+use Rattle.ps_text.specs.Pieces.{text as text_of, Piece, Blank, Comment, Spelled, texts, Cuts, Fits, IsBad, EndsLine, is_blank}
 use Rattle.ps_text.proofs.Spans.{starts, starts_behind, both, same_byte}
 use Rattle.ps_text.proofs.Longest.{Stops, longest_stops}
-use Rattle.ps_text.proofs.Cutting.{decide, IsBad}
+use Rattle.ps_text.proofs.Cutting.{decide}
 use Rattle.ps_scan.specs.declared.position.Position.{Position}
 use Rattle.ps_scan.specs.declared.digits.Digits.{Digits}
 use Rattle.ps_scan.specs.declared.token.Token.{Token}
@@ -45,18 +45,22 @@ number_ended : (n : text.Numeral) (bytes : List ℕ) (q p : Position) → Stops 
 unfolding scanned token_ended with_byte begun
 number_ended (text.Whole ds) [] q p s = refl
 number_ended (text.Whole ds) (c ∷ cs) q p s = elim (decide (c == 47)) [
-    inl h ↦ subst (λ x. scanned (state (mode.Whole d) q p) (x ∷ cs) ≡ after_tokens ((seen (text.Number (text.Whole ds)), q) ∷ []) (entered p (x ∷ cs))) (sym (same_byte c 47 h))
-        (slash cs (subst (λ x. starts_behind 47 (x ∷ cs) ≡ false) (same_byte c 47 h) s.1))
+  | inl h ↦ subst (λ x. scanned (state (mode.Whole d) q p) (x ∷ cs) ≡ after_tokens ((seen (text.Number (text.Whole ds)), q) ∷ []) (entered p (x ∷ cs))) (sym (same_byte c 47 h))
+      (slash cs (subst (λ x. starts_behind 47 (x ∷ cs) ≡ false) (same_byte c 47 h) s.1))
   | inr h ↦ elim (decide (c == 46)) [
-      inl k ↦ subst (λ x. scanned (state (mode.Whole d) q p) (x ∷ cs) ≡ after_tokens ((seen (text.Number (text.Whole ds)), q) ∷ []) (entered p (x ∷ cs))) (sym (same_byte c 46 k))
-          (point cs (subst (λ x. starts_behind 46 (x ∷ cs) ≡ false) (same_byte c 46 k) s.2))
-    | inr k ↦ ended_scanned (mode.Whole d) (seen (text.Number (text.Whole ds))) c cs q p (rw (s.0, h, k) refl) ] ]
+    | inl k ↦ subst (λ x. scanned (state (mode.Whole d) q p) (x ∷ cs) ≡ after_tokens ((seen (text.Number (text.Whole ds)), q) ∷ []) (entered p (x ∷ cs))) (sym (same_byte c 46 k))
+        (point cs (subst (λ x. starts_behind 46 (x ∷ cs) ≡ false) (same_byte c 46 k) s.2))
+    | inr k ↦ ended_scanned (mode.Whole d) (seen (text.Number (text.Whole ds))) c cs q p (rw (s.0, h, k) refl)
+  ]
+]
   where
     d : Digits
     d = with_digits no_digits ds
+
     slash : (cs : List ℕ) → starts_behind 47 (47 ∷ cs) ≡ false → scanned (state (mode.Whole d) q p) (47 ∷ cs) ≡ after_tokens ((seen (text.Number (text.Whole ds)), q) ∷ []) (entered p (47 ∷ cs))
     slash [] f = refl
     slash (x ∷ xs) f = one_at (mode.Whole d) (mode.Slash d p) 47 (x ∷ xs) q p refl refl ∙ bad_scanned (mode.Slash d p) (seen (text.Number (text.Whole ds))) p q (behind p 47) x xs (rw f refl)
+
     point : (cs : List ℕ) → starts_behind 46 (46 ∷ cs) ≡ false → scanned (state (mode.Whole d) q p) (46 ∷ cs) ≡ after_tokens ((seen (text.Number (text.Whole ds)), q) ∷ []) (entered p (46 ∷ cs))
     point [] f = refl
     point (x ∷ xs) f = one_at (mode.Whole d) (mode.Point d p) 46 (x ∷ xs) q p refl refl ∙ bad_scanned (mode.Point d p) (seen (text.Number (text.Whole ds))) p q (behind p 46) x xs (rw f refl)
@@ -156,8 +160,9 @@ none_at bytes n = n
 
 not_first : (b c : ℕ) (bs : List ℕ) (s : text.Symbol) → symbol_spelling s ≡ c ∷ [] → BeginsNone One (b ∷ bs) → (b == c) ≡ false
 not_first b c bs s e n = elim (decide (b == c)) [
-    inl h ↦ absurd (none_at (b ∷ bs) n (text.Sign s) bs refl (ap (λ x. x ∷ bs) (same_byte b c h) ∙ sym (ap (λ w. w ++ bs) e)))
-  | inr h ↦ h ]
+  | inl h ↦ absurd (none_at (b ∷ bs) n (text.Sign s) bs refl (ap (λ x. x ∷ bs) (same_byte b c h) ∙ sym (ap (λ w. w ++ bs) e)))
+  | inr h ↦ h
+]
 
 no_letter : (b : ℕ) (bs : List ℕ) → BeginsNone One (b ∷ bs) → is_letter b ≡ false
 no_letter b bs n = elim (decide (is_letter b)) [ inl h ↦ absurd (none_at (b ∷ bs) n (text.Word (b ∷ [])) bs (h, tt) refl) | inr h ↦ h ]
@@ -173,13 +178,15 @@ bare_parts false false h = (refl, refl)
 -- no symbol has this as its second byte
 second : (b c : ℕ) (bs : List ℕ) (f : ℕ) (s : text.Symbol) → symbol_spelling s ≡ f ∷ c ∷ [] → BeginsNone One (f ∷ b ∷ bs) → (b == c) ≡ false
 second b c bs f s e n = elim (decide (b == c)) [
-    inl h ↦ absurd (none_at (f ∷ b ∷ bs) n (text.Sign s) bs refl (ap (λ x. f ∷ x ∷ bs) (same_byte b c h) ∙ sym (ap (λ w. w ++ bs) e)))
-  | inr h ↦ h ]
+  | inl h ↦ absurd (none_at (f ∷ b ∷ bs) n (text.Sign s) bs refl (ap (λ x. f ∷ x ∷ bs) (same_byte b c h) ∙ sym (ap (λ w. w ++ bs) e)))
+  | inr h ↦ h
+]
 
 third : (b : ℕ) (bs : List ℕ) → BeginsNone One (60 ∷ 45 ∷ b ∷ bs) → (b == 62) ≡ false
 third b bs n = elim (decide (b == 62)) [
-    inl h ↦ absurd (none_at (60 ∷ 45 ∷ b ∷ bs) n (text.Sign text.DoubleArrow) bs refl (ap (λ x. 60 ∷ 45 ∷ x ∷ bs) (same_byte b 62 h)))
-  | inr h ↦ h ]
+  | inl h ↦ absurd (none_at (60 ∷ 45 ∷ b ∷ bs) n (text.Sign text.DoubleArrow) bs refl (ap (λ x. 60 ∷ 45 ∷ x ∷ bs) (same_byte b 62 h)))
+  | inr h ↦ h
+]
 
 -- a byte shows that no token began
 turns_bad : (m : Mode) (q p : Position) (x : ℕ) (xs : List ℕ) → stepped_in m q p x ≡ goes_on (mode.Bad q) q → scanned (state m q p) (x ∷ xs) ≡ ([], Some q)
@@ -205,23 +212,39 @@ less_bad : (cs : List ℕ) (q p : Position) → BeginsNone One (60 ∷ cs) → s
 unfolding scanned
 less_bad [] q p n = refl
 less_bad (x ∷ xs) q p n = elim (decide (x == 45)) [
-    inl h ↦ subst (λ y. scanned (state mode.Less q p) (y ∷ xs) ≡ ([], Some q)) (sym (same_byte x 45 h))
-        (one_at mode.Less mode.LessMinus 45 xs q p refl refl ∙ less_minus_bad xs q (behind p 45) (subst (λ y. BeginsNone One (60 ∷ y ∷ xs)) (same_byte x 45 h) n))
-  | inr h ↦ turns_bad mode.Less q p x xs (rw (second x 61 xs 60 text.LessEquals refl n, h) refl) ]
+  | inl h ↦ subst (λ y. scanned (state mode.Less q p) (y ∷ xs) ≡ ([], Some q)) (sym (same_byte x 45 h))
+      (one_at mode.Less mode.LessMinus 45 xs q p refl refl ∙ less_minus_bad xs q (behind p 45) (subst (λ y. BeginsNone One (60 ∷ y ∷ xs)) (same_byte x 45 h) n))
+  | inr h ↦ turns_bad mode.Less q p x xs (rw (second x 61 xs 60 text.LessEquals refl n, h) refl)
+]
 
 symbol_bad : (c : ℕ) (cs : List ℕ) (p : Position) → BeginsNone One (c ∷ cs) → stops_or (bad_place (symbol_begun p c)) (scanned (state (symbol_begun p c) p (behind p c)) cs) ≡ ([], Some p)
 symbol_bad c cs p n = elim (decide (c == 45)) [
-    inl h ↦ subst (λ x. stops_or (bad_place (symbol_begun p x)) (scanned (state (symbol_begun p x) p (behind p x)) cs) ≡ ([], Some p)) (sym (same_byte c 45 h))
-        (minus_bad cs p (behind p 45) (subst (λ x. BeginsNone One (x ∷ cs)) (same_byte c 45 h) n))
+  | inl h ↦ subst (λ x. stops_or (bad_place (symbol_begun p x)) (scanned (state (symbol_begun p x) p (behind p x)) cs) ≡ ([], Some p)) (sym (same_byte c 45 h))
+      (minus_bad cs p (behind p 45) (subst (λ x. BeginsNone One (x ∷ cs)) (same_byte c 45 h) n))
   | inr h1 ↦ elim (decide (c == 60)) [
-      inl h ↦ subst (λ x. stops_or (bad_place (symbol_begun p x)) (scanned (state (symbol_begun p x) p (behind p x)) cs) ≡ ([], Some p)) (sym (same_byte c 60 h))
-          (less_bad cs p (behind p 60) (subst (λ x. BeginsNone One (x ∷ cs)) (same_byte c 60 h) n))
+    | inl h ↦ subst (λ x. stops_or (bad_place (symbol_begun p x)) (scanned (state (symbol_begun p x) p (behind p x)) cs) ≡ ([], Some p)) (sym (same_byte c 60 h))
+        (less_bad cs p (behind p 60) (subst (λ x. BeginsNone One (x ∷ cs)) (same_byte c 60 h) n))
     | inr h2 ↦ elim (decide (c == 62)) [
-        inl h ↦ subst (λ x. stops_or (bad_place (symbol_begun p x)) (scanned (state (symbol_begun p x) p (behind p x)) cs) ≡ ([], Some p)) (sym (same_byte c 62 h))
-            (greater_bad cs p (behind p 62) (subst (λ x. BeginsNone One (x ∷ cs)) (same_byte c 62 h) n))
-      | inr h3 ↦ rw (not_first c 40 cs text.Open refl n, not_first c 41 cs text.Close refl n, not_first c 91 cs text.OpenBracket refl n, not_first c 93 cs text.CloseBracket refl n,
-            not_first c 44 cs text.Comma refl n, not_first c 59 cs text.Semicolon refl n, not_first c 33 cs text.Bang refl n, not_first c 38 cs text.Ampersand refl n,
-            not_first c 124 cs text.Bar refl n, not_first c 61 cs text.Equals refl n, h1, h2, h3) refl ] ] ]
+      | inl h ↦ subst (λ x. stops_or (bad_place (symbol_begun p x)) (scanned (state (symbol_begun p x) p (behind p x)) cs) ≡ ([], Some p)) (sym (same_byte c 62 h))
+          (greater_bad cs p (behind p 62) (subst (λ x. BeginsNone One (x ∷ cs)) (same_byte c 62 h) n))
+      | inr h3 ↦ rw (
+        not_first c 40 cs text.Open refl n,
+        not_first c 41 cs text.Close refl n,
+        not_first c 91 cs text.OpenBracket refl n,
+        not_first c 93 cs text.CloseBracket refl n,
+        not_first c 44 cs text.Comma refl n,
+        not_first c 59 cs text.Semicolon refl n,
+        not_first c 33 cs text.Bang refl n,
+        not_first c 38 cs text.Ampersand refl n,
+        not_first c 124 cs text.Bar refl n,
+        not_first c 61 cs text.Equals refl n,
+        h1,
+        h2,
+        h3,
+      ) refl
+    ]
+  ]
+]
 
 -- where no token begins, none is told, and the place is
 pub bad_entered : (bytes : List ℕ) (p : Position) → (bytes ≡ [] → ⊥) → IsBad bytes → entered p bytes ≡ ([], Some p)
@@ -233,3 +256,16 @@ bad_entered (c ∷ cs) p some b = let f = bare_parts (is_blank c) (c == 35) b.ba
 -- all bytes, from the first
 pub all_scanned : (bytes : List ℕ) → scanned new_scan bytes ≡ entered start bytes
 all_scanned bytes = between bytes start start
+
+-- the tokens of pieces, up to the end
+pub whole_told : (pieces : List Piece) → Cuts One pieces [] → scanned new_scan (texts pieces) ≡ (told start pieces, None)
+whole_told ps c =
+    ap (λ bs. scanned new_scan bs) (sym (append-nil (texts ps))) ∙ all_scanned (texts ps ++ []) ∙ pieces_entered ps [] start c
+    ∙ ap (λ ts. (ts, None)) (append-nil (told start ps))
+
+-- the tokens of pieces, up to a place where none stands
+pub bad_told : (pieces : List Piece) (rest : List ℕ) → Cuts One pieces rest → (rest ≡ [] → ⊥) → IsBad rest → scanned new_scan (texts pieces ++ rest) ≡ (told start pieces, Some (behind_all start (texts pieces)))
+bad_told ps rest c some b =
+    all_scanned (texts ps ++ rest) ∙ pieces_entered ps rest start c
+    ∙ ap (after_tokens (told start ps)) (bad_entered rest (behind_all start (texts ps)) some b)
+    ∙ ap (λ ts. (ts, Some (behind_all start (texts ps)))) (append-nil (told start ps))

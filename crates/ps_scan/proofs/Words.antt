@@ -50,8 +50,8 @@ kept_more u b = by (nat_lt (length (take 33 u)) 33) refl
   where
     by : (c : Bool) → nat_lt (length (take 33 u)) 33 ≡ c → (if c then take 33 u ++ b ∷ [] else take 33 u) ≡ take 33 (u ++ b ∷ [])
     by true e = let l = length-take 33 u in let few : length u ≤ 32 = grind (arith, nat_tests) in
-      let n = length-append u (b ∷ []) in
-      ap (λ x. x ++ b ∷ []) (take_all 33 u (omega arith)) ∙ sym (take_all 33 (u ++ b ∷ []) (omega arith))
+        let n = length-append u (b ∷ []) in
+        ap (λ x. x ++ b ∷ []) (take_all 33 u (omega arith)) ∙ sym (take_all 33 (u ++ b ∷ []) (omega arith))
     by false e = let l = length-take 33 u in let many : 33 ≤ length u = grind (arith, nat_tests) in sym (take-append-le 33 u (b ∷ []) many)
 
 letters_go : (u : List ℕ) (b : ℕ) → is_word_byte b ≡ true → GoesOn (mode.Word (take 33 u)) (mode.Word (take 33 (u ++ b ∷ []))) b

@@ -3,6 +3,7 @@
 
 mod bytes;
 mod digits;
+mod laws;
 mod mode;
 mod position;
 mod scanner;
@@ -11,6 +12,7 @@ mod stepping;
 mod token;
 
 pub use digits::Digits;
+pub use laws::pieces_are_told;
 pub use position::Position;
 pub use scanner::Scanner;
 pub use token::{Numeral, Symbol, Token};

@@ -57,4 +57,63 @@ impl Scanner {
         self.here = self.here.behind(byte);
         Ok(ended)
     }
+
+    /// The token that ends with the bytes, if they end here.
+    pub fn finish(self) -> Option<Token>
+        ensures { result ≡ last_token self.mode }
+    {
+        match self.mode {
+            Mode::Word(letters) => Some(Token::Word(letters)),
+            Mode::Whole(digits)
+            | Mode::Slash { over: digits, .. }
+            | Mode::Point { whole: digits, .. } => { Some(Token::Number(Numeral::Whole(digits))) }
+            Mode::Quotient { over, under } => Some(Token::Number(Numeral::Quotient {
+                over,
+                under,
+            })),
+            Mode::Decimal { all, decimals } => Some(Token::Number(Numeral::Decimal {
+                all,
+                decimals,
+            })),
+            Mode::Sign(symbol) => Some(Token::Sign(symbol)),
+            _ => None,
+        }
+    }
+
+    /// The place where no token begins, if the bytes end here.
+    pub fn last_bad(&self) -> Option<Position>
+        ensures { result ≡ last_bad self.now.mode self.now.began }
+    {
+        match self.mode {
+            Mode::Slash { slash, .. } => Some(slash),
+            Mode::Point { point, .. } => Some(point),
+            Mode::Minus | Mode::Less | Mode::LessMinus | Mode::Greater => Some(self.began),
+            Mode::Bad(place) => Some(place),
+            _ => None,
+        }
+    }
+
+    /// The place where no token begins, if the bytes so far show one.
+    pub fn bad(&self) -> Option<Position>
+        ensures { result ≡ bad_place self.now.mode }
+    {
+        match self.mode {
+            Mode::Bad(place) => Some(place),
+            _ => None,
+        }
+    }
+
+    /// Where the token began that isn't whole yet.
+    pub fn began(&self) -> Position
+        ensures { result ≡ self.now.began }
+    {
+        self.began
+    }
+
+    /// Where the next byte stands.
+    pub fn here(&self) -> Position
+        ensures { result ≡ self.now.here }
+    {
+        self.here
+    }
 }

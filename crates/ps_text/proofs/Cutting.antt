@@ -4,7 +4,7 @@ use Rattle.std.proofs.lemmas.Bool.Decides.{nat_tests}
 use Rattle.std.specs.Prelude.{◌==◌, IsTrue}
 use Rattle.std.specs.List.{AllByRecursion}
 use Rattle.ps_text.specs.Tokens.{One, Token, Word, Number, Sign, Whole, Quotient, Decimal, Symbol, Open, Close, OpenBracket, CloseBracket, Comma, Semicolon, Bang, Ampersand, Bar, Arrow, DoubleArrow, Equals, GreaterEquals, LessEquals, is_letter, is_digit, is_word_byte, IsWord, AreDigits, IsToken, spelling, symbol_spelling, BeginsNone}
-use Rattle.ps_text.specs.Pieces.{Piece, Blank, Comment, Spelled, text, texts, is_blank, EndsLine, Fits, Cuts, IsBare}
+use Rattle.ps_text.specs.Pieces.{Piece, Blank, Comment, Spelled, text, texts, is_blank, EndsLine, Fits, Cuts, IsBad, Cut}
 use Rattle.ps_text.proofs.Spans.{starts, starts_behind, both, same_byte}
 use Rattle.ps_text.proofs.Symbols.{symbol_some}
 use Rattle.ps_text.proofs.Longest.{stops_longest}
@@ -34,11 +34,6 @@ pub record Next (bytes : List ℕ) : Type 0 where
   pub is : bytes ≡ text piece ++ after
   pub some : length after < length bytes
   pub fits : Fits One piece after
-
--- no piece is at the front
-pub record IsBad (bytes : List ℕ) : Type 0 where
-  pub bare : IsBare bytes
-  pub none : BeginsNone One bytes
 
 shorter : (b : ℕ) (bs front rest : List ℕ) → bs ≡ front ++ rest → length rest < length (b ∷ bs)
 shorter b bs front rest e = let a = ap length e in let c = length-append front rest in omega arith
@@ -188,14 +183,6 @@ next b bs = elim (decide (is_blank b)) [ inl h ↦ inl (record { piece = Blank b
     elim (decide (is_digit b)) [ inl h ↦ inl (number_next b bs h) | inr h3 ↦
     elim (symbol_or (b ∷ bs)) [ inl n ↦ inl n | inr n ↦ inr (record { bare = rw (h0, h1) refl; none = begins_none b bs h2 h3 n }) ] ] ] ] ]
 
--- all bytes, cut
-pub record Cut (bytes : List ℕ) : Type 0 where
-  pub pieces : List Piece
-  pub rest : List ℕ
-  pub is : bytes ≡ texts pieces ++ rest
-  pub cuts : Cuts One pieces rest
-  pub ends : (rest ≡ []) ⊎ IsBad rest
-
 cut_more : (bytes : List ℕ) (n : Next bytes) → Cut n.after → Cut bytes
 cut_more bytes n c = record { pieces = n.piece ∷ c.pieces; rest = c.rest;
     is = n.is ∙ ap (λ x. text n.piece ++ x) c.is ∙ sym (append_assoc (text n.piece) (texts c.pieces) c.rest);
@@ -208,5 +195,6 @@ cut_within (suc n) (b ∷ bs) le = elim (next b bs) [
     inl x ↦ cut_more (b ∷ bs) x (cut_within n x.after (let s = x.some in omega arith))
   | inr bad ↦ record { pieces = []; rest = b ∷ bs; is = refl; cuts = tt; ends = inr bad } ]
 
+-- all bytes, cut
 pub cut : (bytes : List ℕ) → Cut bytes
 cut bytes = cut_within (length bytes) bytes (omega arith)

@@ -3,4 +3,4 @@
 
 mod laws;
 
-pub use laws::due_tokens_are_derived;
+pub use laws::{bytes_are_cut, due_tokens_are_derived};
