@@ -18,7 +18,7 @@ use Rattle.ps_check.specs.declared.truth.Row.{Row}
 use Rattle.ps_check.specs.Models.{entry_of, entries, AreSmall}
 use Rattle.ps_check.specs.Rows.{row_entry, row_entries, over_nodes, AreRows, HaveNode, IsTableOf, node_at, Covers, MeetsAt, MissesFirstAt}
 use Rattle.ps_check.specs.Reasons.{HaveShape, MissesFirst}
-use Rattle.ps_check.proofs.Weights.{weight-and_truth}
+use Rattle.ps_meaning.proofs.Weights.{weight-and_truth}
 
 -- the truth of a node is that of its tree
 truth_at : (ns : List Node) (w : World) (n : ℕ) → n < length ns → get_or (truths ns w) n false ≡ is_true (tree_at ns n) w

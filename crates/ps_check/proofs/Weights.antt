@@ -1,9 +1,9 @@
 -- The weight of one more entry, and sums that don't wrap.
-use Rattle.std.proofs.Common.{◌≡◌, ℕ, ◌+◌, ◌<◌, ◌*◌, ◌^◌, ℤ, pos, ◌+ℤ◌, ◌≤ℤ◌, to_z, of_z, Bool, true, false, cond, ◌&&◌, List, [], ◌∷◌, ◌++◌, length, map, take, get_or, refl, arith}
+use Rattle.std.proofs.Common.{◌≡◌, ℕ, ◌+◌, ◌<◌, ◌*◌, ◌^◌, ℤ, pos, ◌+ℤ◌, ◌≤ℤ◌, to_z, of_z, Bool, true, false, cond, List, [], ◌∷◌, ◌++◌, length, map, take, get_or, refl, arith}
 use Rattle.std.proofs.lemmas.Int.{ints}
 use mir.Syntax.{w128}
 use Rattle.std.proofs.lemmas.List.{map-append, take_more}
-use Rattle.ps_meaning.specs.Formula.{Formula, Truth, And, is_true}
+use Rattle.ps_meaning.specs.Formula.{Formula, is_true}
 use Rattle.ps_meaning.specs.Distribution.{Entry, weight}
 
 weight-push : (d : List Entry) (e : Entry) (f : Formula ℕ) → weight (d ++ e ∷ []) f ≡ weight d f +ℤ cond (is_true f e.world) e.weight (pos 0)
@@ -13,15 +13,6 @@ weight-push (x ∷ d) e f = omega (arith, ints, weight-push d e f)
 pub weight-more : {X : Type 0} (entry : X → Entry) (xs : List X) (i : ℕ) (x : X) (f : Formula ℕ) → i < length xs
     → weight (map entry (take (i + 1) xs)) f ≡ weight (map entry (take i xs)) f +ℤ cond (is_true f (entry (get_or xs i x)).world) (entry (get_or xs i x)).weight (pos 0)
 weight-more entry xs i x f lt = rw (take_more xs i x lt, map-append entry (take i xs) (get_or xs i x ∷ [])) (weight-push (map entry (take i xs)) (entry (get_or xs i x)) f)
-
-and_true : (b : Bool) → b && true ≡ b
-and_true true = refl
-and_true false = refl
-
--- a formula together with truth weighs what the formula does
-pub weight-and_truth : (d : List Entry) (f : Formula ℕ) → weight d (And f Truth) ≡ weight d f
-weight-and_truth [] f = refl
-weight-and_truth (e ∷ d) f = rw (and_true (is_true f e.world), weight-and_truth d f) refl
 
 -- a sum of few small weights goes on without a wrap
 pub record GoesOn (a' a share : ℤ) (n : ℕ) : Type 0 where

@@ -4,10 +4,10 @@ use Rattle.std.specs.Prelude.{◌||◌, not, bytes_eq, codes}
 use Rattle.ps_meaning.specs.Formula as formula
 use Rattle.ps_meaning.specs.Bounds as side
 use Rattle.ps_meaning.specs.Statements.{Name as AtomName, Ratio, Statement, Item, Stated, Asked}
-use Rattle.ps_text.specs.Tokens.{Token, Word, Number, Sign, Whole, Quotient, Decimal, Open, Close, Semicolon, Bang, Ampersand, Bar, Arrow, DoubleArrow, Equals}
+use Rattle.ps_text.specs.Tokens.{Token, Word, Number, Sign, Whole, Quotient, Decimal, Open, Close, Semicolon, Bang, Ampersand, Bar, Arrow, DoubleArrow, Equals, is_the_word}
 use Rattle.ps_text.specs.Grammar.{Form, Name, Truth, Falsity, Not, Group, And, Or, Implies, Iff, spelled, level, is_reserved, IsForm, Nests, Prob, Relation, Exactly, AtLeast, AtMost, Within, Entry, Sentence, given_tokens, relation_tokens, entry_tokens, IsProbability, IsEntry}
 use Rattle.ps_text.specs.Meanings.{formula_of, given_of, IsValue, IsItem}
-use Rattle.ps_text.specs.Fronts.{is_first_token, is_first_word, is_word, AreFirstAfter}
+use Rattle.ps_text.specs.Fronts.{is_first_token, is_first_word, AreFirstAfter}
 use Rattle.ps_text.proofs.Spans.{false_true}
 use Rattle.ps_read.specs.declared.sentence.FirstSentence.{FirstSentence}
 use Rattle.ps_read.specs.FirstForm.{negated, item_of}
@@ -109,7 +109,7 @@ inner f = []
 no_connective : (f g : Form) (t before : Token) (ts : List Token) → is_first_token t ≡ false → AreFirstAfter before ((spelled f ++ t ∷ spelled g) ++ ts) → ⊥
 no_connective f g t before ts n a = false_true n (allowed_at (spelled f) before t (spelled g ++ ts) (subst (λ x. AreFirstAfter before x) (append_assoc (spelled f) (t ∷ spelled g) ts) a))
 
-pub plain_form : (f : Form) (before : Token) (ts : List Token) → is_word (codes "P") before ≡ false → AreFirstAfter before (spelled f ++ ts) → AreNots f
+pub plain_form : (f : Form) (before : Token) (ts : List Token) → is_the_word (codes "P") before ≡ false → AreFirstAfter before (spelled f ++ ts) → AreNots f
 plain_form (Name w) before ts n a = tt
 plain_form Truth before ts n a = false_true refl a.0
 plain_form Falsity before ts n a = false_true refl a.0

@@ -3,7 +3,7 @@ use Rattle.std.proofs.Common.{◌≡◌, ℕ, zero, suc, ◌*◌, ◌/◌, ◌%�
 use Rattle.std.proofs.Math.Nat.{div-mul_cancel, dvd_of_mul-dvd-mul_right, mul-dvd-mul_right, pos_of_dvd_of_pos, one-dvd, one-mul}
 use Rattle.std.proofs.lemmas.Nat.Gcd.{IsGcd-from_zero, IsGcd-from_mod, same_from_IsGcd}
 use Rattle.std.specs.Int.{IsGcd, ◌∣◌}
-use Rattle.ps_read.specs.Lowest.{gcd, gcd_within}
+use Rattle.ps_rational.specs.Gcd.{gcd, gcd_within}
 
 gcd_within_is : (k a b : ℕ) → b < k → IsGcd a b (gcd_within k a b)
 unfolding gcd_within

@@ -9,7 +9,7 @@ use Rattle.ps_text.specs.Tokens.{Number, Whole, Quotient, is_digit, AreDigits}
 use Rattle.ps_text.specs.Grammar.{value_from, value, IsProbability}
 use Rattle.ps_text.specs.Meanings.{IsLowest, IsValue}
 use Rattle.ps_text.proofs.Spans.{starts, starts_behind, Passes, false_true, span_same}
-use Rattle.ps_read.specs.Lowest.{gcd}
+use Rattle.ps_rational.specs.Gcd.{gcd}
 use Rattle.ps_read.specs.Reading.{◌>>=◌, is_space, drop_blanks, byte_at, symbol_at, capped_from, digits_at, quotient_at, probability_at}
 use Rattle.ps_read.proofs.Divisors.{gcd_is, gcd_pos_right, is_gcd, coprime_rest}
 use Rattle.ps_read.proofs.Telling.{First}

@@ -6,7 +6,7 @@ use Rattle.ps_text.specs.Grammar.{is_reserved}
 use Rattle.ps_read.specs.declared.error.ReadError.{ReadError}
 use Rattle.ps_read.specs.declared.error.ReadError.TheVariants as errors
 use Rattle.ps_read.specs.declared.sentence.FirstSentence.{FirstSentence}
-use Rattle.ps_read.specs.Lowest.{gcd}
+use Rattle.ps_rational.specs.Gcd.{gcd}
 
 infixl 10 ◌>>=◌
 abbrev pub ◌>>=◌ : {A B : Type 0} → Option A → (A → Option B) → Option B

@@ -2,7 +2,7 @@
 ghost use Rattle.std.specs.Prelude.{◌≡◌, ◌≤◌, ◌<◌, IfOk, Some};
 ghost use Rattle.ps_meaning.specs.Statements.{Ratio};
 ghost use Rattle.ps_read.specs.Reading.{Gives, byte_at, capped_from, digits_at, quotient_at, probability_at};
-ghost use Rattle.ps_read.specs.Lowest.{gcd as gcd_of};
+ghost use Rattle.ps_rational.specs.Gcd.{gcd as gcd_of};
 
 use crate::ReadError;
 use crate::text::skip_blanks;

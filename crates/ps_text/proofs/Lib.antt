@@ -1,3 +1,11 @@
 pub mod Spans
 pub mod Symbols
 pub mod Longest
+pub mod Deriving
+pub mod Frames
+pub mod Signs
+pub mod Parsing
+pub mod Steps
+pub mod FormulaSteps
+pub mod Derived
+pub mod Cutting

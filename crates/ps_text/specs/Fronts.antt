@@ -1,7 +1,7 @@
 -- What stands at the front of some bytes: a text, and the blanks behind it.
 use Rattle.std.specs.Prelude.{◌≡◌, ℕ, Bool, true, false, not, ◌||◌, ◌==◌, bytes_eq, List, [], ◌∷◌, ◌++◌, length, IsTrue, codes}
 use Rattle.ps_meaning.specs.Statements.{Item}
-use Rattle.ps_text.specs.Tokens.{One, Token, Word, Number, Sign, Whole, Quotient, Decimal, Symbol, Open, Close, Semicolon, Bang, Equals}
+use Rattle.ps_text.specs.Tokens.{One, Token, Word, Number, Sign, Whole, Quotient, Decimal, Symbol, Open, Close, Semicolon, Bang, Equals, is_the_word}
 use Rattle.ps_text.specs.Pieces.{Piece, Blank, Comment, Spelled, texts, Cuts, tokens, IsBare}
 use Rattle.ps_text.specs.Grammar.{Entry, text_tokens, AreEntries}
 use Rattle.ps_text.specs.Meanings.{AreItems}
@@ -40,14 +40,10 @@ is_first_token (Number (Quotient ds es)) = true
 is_first_token (Number (Decimal ds es)) = false
 is_first_token (Sign s) = is_first_symbol s
 
-abbrev pub is_word : List ℕ → Token → Bool
-is_word w (Word u) = bytes_eq u w
-is_word w t = false
-
 -- a token may follow another: a `(` only `P`, and a number without `/`, the version, only `psat`
 abbrev pub may_follow : Token → Token → Bool
-may_follow before (Sign Open) = is_word (codes "P") before
-may_follow before (Number (Whole ds)) = is_word (codes "psat") before
+may_follow before (Sign Open) = is_the_word (codes "P") before
+may_follow before (Number (Whole ds)) = is_the_word (codes "psat") before
 may_follow before t = true
 
 -- the tokens are of the first form, behind another

@@ -134,3 +134,9 @@ IsEntry (Query p) = IsProb p
 abbrev pub AreEntries : List Entry → Type 0
 AreEntries [] = Unit {0}
 AreEntries (e ∷ es) = IsEntry e × AreEntries es
+
+-- tokens are those of a text within the grammar's levels and limits
+pub record IsDerived (ts : List Token) : Type 0 where
+  pub entries : List Entry
+  pub tokens : ts ≡ text_tokens entries
+  pub within : AreEntries entries

@@ -3,3 +3,7 @@ pub mod Pieces
 pub mod Grammar
 pub mod Meanings
 pub mod Fronts
+pub mod Kinds
+pub mod Due
+pub mod Refusals
+pub mod Positions

@@ -1,7 +1,7 @@
 -- Bytes as pieces: blanks, comments and tokens.
-use Rattle.std.specs.Prelude.{◌≡◌, ℕ, Bool, not, ◌||◌, ◌==◌, List, [], ◌∷◌, ◌++◌, IsTrue}
+use Rattle.std.specs.Prelude.{◌≡◌, ℕ, Bool, not, ◌||◌, ◌==◌, ◌⊎◌, List, [], ◌∷◌, ◌++◌, IsTrue}
 use Rattle.std.specs.List.{AllByRecursion}
-use Rattle.ps_text.specs.Tokens.{Version, Token, IsToken, IsLongest, spelling}
+use Rattle.ps_text.specs.Tokens.{Version, One, Token, IsToken, IsLongest, BeginsNone, spelling}
 
 -- a space, a tab, a line feed or a carriage return
 abbrev pub is_blank : ℕ → Bool
@@ -49,3 +49,16 @@ tokens (p ∷ ps) = tokens ps
 abbrev pub IsBare : List ℕ → Type 0
 IsBare [] = Unit {0}
 IsBare (b ∷ bs) = IsTrue (not (is_blank b || b == 35))
+
+-- no piece stands at the front: no blank, no comment and no token
+pub record IsBad (bytes : List ℕ) : Type 0 where
+  pub bare : IsBare bytes
+  pub none : BeginsNone One bytes
+
+-- bytes as pieces, up to the end or to a place where no piece stands
+pub record Cut (bytes : List ℕ) : Type 0 where
+  pub pieces : List Piece
+  pub rest : List ℕ
+  pub is : bytes ≡ texts pieces ++ rest
+  pub cuts : Cuts One pieces rest
+  pub ends : (rest ≡ []) ⊎ IsBad rest

@@ -1,5 +1,5 @@
 -- Tokens, and the bytes that spell them.
-use Rattle.std.specs.Prelude.{◌≡◌, ℕ, ◌≤◌, Bool, true, List, [], ◌∷◌, ◌++◌, length, IsTrue, codes}
+use Rattle.std.specs.Prelude.{◌≡◌, ℕ, ◌≤◌, Bool, true, false, bytes_eq, List, [], ◌∷◌, ◌++◌, length, IsTrue, codes}
 use Rattle.std.specs.List.{AllByRecursion}
 pub use Rattle.ps_meaning.specs.Names.{is_letter, is_digit, is_word_byte}
 
@@ -72,6 +72,16 @@ abbrev pub spelling : Token → List ℕ
 spelling (Word w) = w
 spelling (Number n) = numeral_spelling n
 spelling (Sign s) = symbol_spelling s
+
+-- whether a token is this word
+abbrev pub is_the_word : List ℕ → Token → Bool
+is_the_word w (Word u) = bytes_eq u w
+is_the_word w t = false
+
+-- whether a token is this symbol: symbols are the same where their spellings are
+abbrev pub is_the_sign : Symbol → Token → Bool
+is_the_sign s (Sign u) = bytes_eq (symbol_spelling u) (symbol_spelling s)
+is_the_sign s t = false
 
 -- no longer token of the version stands where this one does, before these bytes
 unfoldable pub IsLongest : Version → Token → List ℕ → Type 0

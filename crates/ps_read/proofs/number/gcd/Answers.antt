@@ -1,6 +1,6 @@
 use Rattle.std.proofs.Common.{◌≡◌, arith}
 use Rattle.std.proofs.lemmas.Nat.Gcd.{IsGcd-from_zero, IsGcd-from_mod}
-use Rattle.ps_read.specs.Lowest.{gcd}
+use Rattle.ps_rational.specs.Gcd.{gcd}
 use Rattle.ps_read.proofs.Divisors.{is_gcd, gcd_pos_right}
 use Rattle.ps_read.proofs.number.gcd.Goals as goal
 

@@ -1,0 +1,3 @@
+pub mod Stacks
+pub mod Kinds
+pub mod Standing

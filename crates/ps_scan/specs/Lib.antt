@@ -1,0 +1,4 @@
+pub mod Counted
+pub mod Places
+pub mod Scanning
+pub mod Seen

@@ -1,0 +1,119 @@
+//! Cuts bytes into tokens.
+ghost use Rattle.std.specs.Prelude.{◌≡◌, ◌-◌, ◌^◌, OnOk, IfOk};
+ghost use Rattle.ps_scan.specs.Places.{IsWithin};
+ghost use Rattle.ps_scan.specs.Scanning.{new_scan, token_ended, with_byte, last_token, last_bad, bad_place};
+
+use crate::mode::Mode;
+use crate::step::Step;
+use crate::stepping::step;
+use crate::{Numeral, Position, Token};
+use ps_io::NoMemory;
+use std::alloc::Global;
+use std::marker::Model;
+
+/// Takes bytes, one after the other, and tells each token once the byte behind it, or the end, shows that it is whole.
+#[derive(Debug, Drop)]
+pub struct Scanner {
+    alloc: Global,
+    mode: Mode,
+    began: Position,
+    here: Position,
+}
+
+impl Model for Scanner {
+    ghost use Rattle.ps_scan.specs.Scanning.{Scanned, IsCappedMode};
+
+    ghost Value = { Scanned };
+
+    ghost view = { λ s. record { mode = s.mode; began = s.began; here = s.here } };
+
+    ghost invariant = { λ s. IsCappedMode s.mode };
+}
+
+impl Scanner {
+    /// Before the first byte.
+    pub fn new(alloc: Global) -> Scanner
+        ensures { result ≡ new_scan }
+    {
+        Scanner {
+            alloc,
+            mode: Mode::Between,
+            began: Position::start(),
+            here: Position::start(),
+        }
+    }
+
+    /// Takes one more byte, and answers the token that ended before it.
+    #[tactic(auto, unfolding(crate::specs::Scanning::token_ended, crate::specs::Scanning::with_byte))]
+    pub fn take(&mut self, byte: u8) -> Result<Option<Token>, NoMemory>
+        requires room { IsWithin (2 ^ 32 - 2) self.old.here }
+        ensures token { IfOk result (λ t. t ≡ token_ended self.old byte) }
+        ensures ok { OnOk result (self.new ≡ with_byte self.old byte) }
+    {
+        let mode = std::mem::replace(&mut self.mode, Mode::Between);
+        let Step { mode, began, ended } = step(self.alloc, mode, self.began, self.here, byte)?;
+        self.mode = mode;
+        self.began = began;
+        self.here = self.here.behind(byte);
+        Ok(ended)
+    }
+
+    /// The token that ends with the bytes, if they end here.
+    pub fn finish(self) -> Option<Token>
+        ensures { result ≡ last_token self.mode }
+    {
+        match self.mode {
+            Mode::Word(letters) => Some(Token::Word(letters)),
+            Mode::Whole(digits)
+            | Mode::Slash { over: digits, .. }
+            | Mode::Point { whole: digits, .. } => { Some(Token::Number(Numeral::Whole(digits))) }
+            Mode::Quotient { over, under } => Some(Token::Number(Numeral::Quotient {
+                over,
+                under,
+            })),
+            Mode::Decimal { all, decimals } => Some(Token::Number(Numeral::Decimal {
+                all,
+                decimals,
+            })),
+            Mode::Sign(symbol) => Some(Token::Sign(symbol)),
+            _ => None,
+        }
+    }
+
+    /// The place where no token begins, if the bytes end here.
+    pub fn last_bad(&self) -> Option<Position>
+        ensures { result ≡ last_bad self.now.mode self.now.began }
+    {
+        match self.mode {
+            Mode::Slash { slash, .. } => Some(slash),
+            Mode::Point { point, .. } => Some(point),
+            Mode::Minus | Mode::Less | Mode::LessMinus | Mode::Greater => Some(self.began),
+            Mode::Bad(place) => Some(place),
+            _ => None,
+        }
+    }
+
+    /// The place where no token begins, if the bytes so far show one.
+    pub fn bad(&self) -> Option<Position>
+        ensures { result ≡ bad_place self.now.mode }
+    {
+        match self.mode {
+            Mode::Bad(place) => Some(place),
+            _ => None,
+        }
+    }
+
+    /// Where the token began that isn't whole yet.
+    pub fn began(&self) -> Position
+        ensures { result ≡ self.now.began }
+    {
+        self.began
+    }
+
+    /// Where the next byte stands.
+    pub fn here(&self) -> Position
+        ensures { result ≡ self.now.here }
+    {
+        self.here
+    }
+}
