@@ -1,4 +1,7 @@
 pub mod Lines
 pub mod Logs
+pub mod Numbers
+pub mod Spellings
+pub mod StepTexts
 pub mod Texts
 pub mod Told
