@@ -126,7 +126,7 @@ pub negative-of : (digits : List ℕ) (size : ℕ) (z : ℤ) → IsPlain digits 
 negative-of digits zero z p e h f = absurd (omega (arith, h))
 negative-of digits (suc m) z p e h f =
     let n = digits_value 10 digits - 1 in
-    let same : m ≡ min 2199023255552 n = omega (arith, e) in
+    let same : m ≡ min (2 ^ 41) n = omega (arith, e) in
     (n, record { plain = p; value = omega (arith, e) }, f ∙ ap negsuc same)
 
 -- the tests of a plain word

@@ -283,7 +283,7 @@ uncut-one (pos n) y e h =
     ap pos same ∙ e
 uncut-one (negsuc n) y e h =
     let small : Fit (capped (negsuc n)) = subst Fit (sym e) h in
-    let same : n ≡ min 2199023255552 n = omega (arith, small) in
+    let same : n ≡ min (2 ^ 41) n = omega (arith, small) in
     ap negsuc same ∙ e
 
 pub uncut : (zs ys : List ℤ) → map capped zs ≡ ys → All Fit ys → zs ≡ ys

@@ -1,5 +1,5 @@
 -- Numbers that are read, cut off past every limit.
-use Rattle.std.specs.Prelude.{ℕ, suc, ◌+◌, ◌≡◌, ◌≤◌, ◌≤ℤ◌, ℤ, pos, negsuc, min, List, [], ◌∷◌, ◌++◌, map, All, length, unsigned_abs, Result, Ok, Err, Option, Some, None, ⊤}
+use Rattle.std.specs.Prelude.{ℕ, suc, ◌+◌, ◌^◌, ◌≡◌, ◌≤◌, ◌≤ℤ◌, ℤ, pos, negsuc, min, List, [], ◌∷◌, ◌++◌, map, All, length, unsigned_abs, Result, Ok, Err, Option, Some, None, ⊤}
 use Rattle.std.specs.Str.Parse.{digits_value}
 use Rattle.ps_log.specs.Spellings.{IsPlain, IsDecimal, Spells, SpellAll}
 use Rattle.ps_log.specs.StepTexts.{words_of}
@@ -10,12 +10,12 @@ use Rattle.ps_log.specs.declared.step_error.StepError.TheVariants.{Truncated, Ba
 
 -- a size, or one above each limit
 abbrev pub capped_size : ℕ → ℕ
-capped_size n = min 2199023255553 n
+capped_size n = min (2 ^ 41 + 1) n
 
 -- a number whose size is cut off above each limit
 abbrev pub capped : ℤ → ℤ
 capped (pos n) = pos (capped_size n)
-capped (negsuc n) = negsuc (min 2199023255552 n)
+capped (negsuc n) = negsuc (min (2 ^ 41) n)
 
 -- the size that digits spell
 abbrev pub IsSize : List ℕ → Option ℕ → Type 0

@@ -1,5 +1,5 @@
 //! Numbers of any size, cut off past every limit.
-ghost use Rattle.std.specs.Prelude.{◌≡◌, ◌≤◌, ◌<◌, ◌↔◌, ◌∷◌, ℕ, List as Bytes, All, IfSome, IfNone, IsTrue, length, slice_index};
+ghost use Rattle.std.specs.Prelude.{◌≡◌, ◌≤◌, ◌<◌, ◌↔◌, ◌∷◌, ◌+◌, ◌^◌, ℕ, List as Bytes, All, IfSome, IfNone, IsTrue, length, slice_index};
 ghost use Rattle.std.specs.Char.{digit_value};
 ghost use Rattle.std.specs.Str.Parse.{digits_value};
 ghost use Rattle.ps_log.specs.Spellings.{IsPlain};
@@ -48,7 +48,7 @@ fn negative(digits: &[u8]) -> Option<i64>
 
 fn size(word: &[u8]) -> Option<u64>
     ensures size { IsSize word.now result }
-    ensures within { IfSome result (λ n. n ≤ 2199023255553) }
+    ensures within { IfSome result (λ n. n ≤ 2 ^ 41 + 1) }
 {
     if is_plain(word) {
         Some(value(word))
