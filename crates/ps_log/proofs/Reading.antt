@@ -31,7 +31,7 @@ digits-lack : (sep : ℕ) (ds : List ℕ) → (digit_value sep < 10 → ⊥) →
 digits-lack sep [] h d = tt
 digits-lack sep (c ∷ cs) h d = (no_digit sep c h d.0, digits-lack sep cs h d.1)
 
-space_is_no_digit : digit_value 32 < 10 → ⊥
+pub space_is_no_digit : digit_value 32 < 10 → ⊥
 space_is_no_digit h = omega (arith, h)
 
 feed_is_no_digit : digit_value 10 < 10 → ⊥

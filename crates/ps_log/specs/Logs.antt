@@ -7,6 +7,11 @@ use Rattle.ps_steps.specs.Steps.{Step}
 use Rattle.ps_log.specs.declared.error.LogError.{LogError}
 use Rattle.ps_log.specs.declared.error.LogError.TheVariants.{Fault, NoMemory}
 
+-- what a log in memory holds
+pub record Held : Type 0 where
+  pub goal : Option Constraint
+  pub steps : List Step
+
 -- a new goal, and no steps
 abbrev pub Starts : Bool → Bool → Option Constraint → Option (List Step) → Constraint → Type 0
 Starts told tells goal steps new_goal = IsTrue told → IsTrue tells × (goal ≡ Some new_goal) × (steps ≡ Some [])

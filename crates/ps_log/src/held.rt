@@ -6,6 +6,7 @@ use crate::sink::ProofSink;
 use ps_io::{List, NoMemory};
 use ps_pb::{Constraint, Step, Steps};
 use std::alloc::Global;
+use std::marker::Model;
 
 /// Keeps the goal and the steps.
 #[derive(Drop)]
@@ -13,6 +14,14 @@ pub struct HeldLog {
     alloc: Global,
     goal: Option<Constraint>,
     steps: Steps,
+}
+
+impl Model for HeldLog {
+    ghost use Rattle.ps_log.specs.Logs.{Held};
+
+    ghost Value = { Held };
+
+    ghost view = { λ log. record { goal = log.goal; steps = log.steps } };
 }
 
 impl HeldLog {

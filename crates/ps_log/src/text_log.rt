@@ -1,10 +1,7 @@
 //! A log that writes its goals and steps as lines.
-ghost use Rattle.std.specs.Prelude.{◌≡◌, ◌≤◌, [], ◌∷◌, false, true, not, is_some, OnOk, OnErr, IfErr, IsTrue, IsErrOf};
-ghost use Rattle.ps_io.specs.Lines.{text_of, is_commented, sink_of, name_of};
-ghost use Rattle.ps_io.specs.Wrote.{Wrote};
-ghost use Rattle.ps_log.specs.Logs.{Starts, Grows, Stays, HasCause};
-ghost use Rattle.ps_log.specs.Texts.{goal_line, step_line, IsGoalWithin, IsStepWithin};
-ghost use Rattle.ps_log.specs.Told.{ends_whole, proof_if, goal_in, steps_in};
+ghost use Rattle.std.specs.Prelude.{◌≡◌, [], false, true};
+ghost use Rattle.ps_io.specs.Lines.{text_of, is_commented, sink_of};
+ghost use Rattle.ps_log.specs.Told.{ends_whole};
 
 use crate::error::LogError;
 use crate::sink::ProofSink;
@@ -24,14 +21,17 @@ pub struct TextLog<'s, O: Sink> {
 }
 
 impl<'s, O: Sink> TextLog<'s, O> {
+    ghost use Rattle.ps_io.specs.Lines.{name_of};
+    ghost use Rattle.ps_log.specs.TextLogs.{lines_of, reference_of, is_unbroken};
+
     /// A log that has written nothing yet. What the sink has already taken must be nothing or whole lines.
     pub fn new(lines: Lines<'s, O>) -> TextLog<'s, O>
         requires empty { text_of lines ≡ [] }
         requires unmarked { is_commented lines ≡ false }
         requires whole_lines { ends_whole (O.written (sink_of lines)) ≡ true }
-        ensures same_reference { name_of result.lines ≡ name_of lines.entry }
-        ensures nothing_written { sink_of result.lines ≡ sink_of lines.entry }
-        ensures whole { result.broken ≡ false }
+        ensures same_reference { reference_of result ≡ name_of lines.entry }
+        ensures nothing_written { sink_of (lines_of result) ≡ sink_of lines.entry }
+        ensures whole { is_unbroken result ≡ true }
     {
         TextLog {
             lines,
@@ -41,33 +41,39 @@ impl<'s, O: Sink> TextLog<'s, O> {
 }
 
 impl<O: Sink> ProofSink for TextLog<'_, O> {
-    ghost tells = { λ t. is_some (O.written (sink_of t.lines)) };
+    ghost use Rattle.std.specs.Prelude.{◌≤◌, ◌∷◌, OnOk, OnErr, IfErr, IsTrue, IsErrOf};
+    ghost use Rattle.ps_io.specs.Wrote.{Wrote};
+    ghost use Rattle.ps_log.specs.Logs.{Starts, Grows, Stays, HasCause};
+    ghost use Rattle.ps_log.specs.Texts.{goal_line, step_line, IsGoalWithin, IsStepWithin};
+    ghost use Rattle.ps_log.specs.TextLogs.{lines_of, reference_of, faults_of, is_unbroken, is_telling, goal_told, steps_told};
 
-    ghost goal = { λ t. goal_in (proof_if (O.written (sink_of t.lines))) };
+    ghost tells = { λ log. is_telling log };
 
-    ghost steps = { λ t. steps_in (proof_if (O.written (sink_of t.lines))) };
+    ghost goal = { λ log. goal_told log };
 
-    ghost faults = { λ t. O.faults (sink_of t.lines) };
+    ghost steps = { λ log. steps_told log };
 
-    ghost is_whole = { λ t. not t.broken };
+    ghost faults = { λ log. faults_of log };
+
+    ghost is_whole = { λ log. is_unbroken log };
 
     ghost takes_memory = { λ _. false };
 
-    ghost names = { λ t. name_of t.lines ∷ [] };
+    ghost names = { λ log. reference_of log ∷ [] };
 
     #[tactic(auto, using(crate::proofs::Lengths::goal_is_short))]
     fn begin(&mut self, constraint: &Constraint) -> Result<(), LogError>
-        requires whole { IsTrue (not self.old.broken) }
+        requires whole { IsTrue (is_unbroken self.old) }
         requires within { IsGoalWithin constraint.now }
-        ensures ok { OnOk result (Starts (is_some (O.written (sink_of self.old.lines))) (is_some (O.written (sink_of self.new.lines))) (goal_in (proof_if (O.written (sink_of self.new.lines)))) (steps_in (proof_if (O.written (sink_of self.new.lines)))) constraint.now) }
-        ensures whole { OnOk result (IsTrue (not self.new.broken)) }
-        ensures err { OnErr result (Stays (is_some (O.written (sink_of self.old.lines))) (goal_in (proof_if (O.written (sink_of self.old.lines)))) (steps_in (proof_if (O.written (sink_of self.old.lines)))) (is_some (O.written (sink_of self.new.lines))) (goal_in (proof_if (O.written (sink_of self.new.lines)))) (steps_in (proof_if (O.written (sink_of self.new.lines))))) }
-        ensures later { (O.faults (sink_of self.old.lines)) ≤ (O.faults (sink_of self.new.lines)) }
-        ensures cause { IfErr result (λ e. HasCause e (O.faults (sink_of self.old.lines)) (O.faults (sink_of self.new.lines))) }
-        ensures no_memory { IsErrOf result LogError.NoMemory → IsTrue false × IsTrue (not self.new.broken) }
+        ensures ok { OnOk result (Starts (is_telling self.old) (is_telling self.new) (goal_told self.new) (steps_told self.new) constraint.now) }
+        ensures whole { OnOk result (IsTrue (is_unbroken self.new)) }
+        ensures err { OnErr result (Stays (is_telling self.old) (goal_told self.old) (steps_told self.old) (is_telling self.new) (goal_told self.new) (steps_told self.new)) }
+        ensures later { faults_of self.old ≤ faults_of self.new }
+        ensures cause { IfErr result (λ e. HasCause e (faults_of self.old) (faults_of self.new)) }
+        ensures no_memory { IsErrOf result LogError.NoMemory → IsTrue false × IsTrue (is_unbroken self.new) }
         ensures only_fault { OnErr result (result ≡ Err LogError.Fault) }
-        ensures same_references { name_of self.new.lines ≡ name_of self.old.lines }
-        ensures written { Wrote O.written O.faults self.old.lines self.new.lines result (goal_line constraint.now ∷ []) }
+        ensures same_references { reference_of self.new ≡ reference_of self.old }
+        ensures written { Wrote O.written O.faults (lines_of self.old) (lines_of self.new) result (goal_line constraint.now ∷ []) }
     {
         match write_goal(&mut self.lines, constraint) {
             Ok(()) => Ok(()),
@@ -80,17 +86,17 @@ impl<O: Sink> ProofSink for TextLog<'_, O> {
 
     #[tactic(auto, using(crate::proofs::Lengths::step_is_short))]
     fn step(&mut self, step: &Step) -> Result<(), LogError>
-        requires whole { IsTrue (not self.old.broken) }
+        requires whole { IsTrue (is_unbroken self.old) }
         requires within { IsStepWithin step.now }
-        ensures ok { OnOk result (Grows (is_some (O.written (sink_of self.old.lines))) (goal_in (proof_if (O.written (sink_of self.old.lines)))) (steps_in (proof_if (O.written (sink_of self.old.lines)))) (is_some (O.written (sink_of self.new.lines))) (goal_in (proof_if (O.written (sink_of self.new.lines)))) (steps_in (proof_if (O.written (sink_of self.new.lines)))) (step.now ∷ [])) }
-        ensures whole { OnOk result (IsTrue (not self.new.broken)) }
-        ensures err { OnErr result (Stays (is_some (O.written (sink_of self.old.lines))) (goal_in (proof_if (O.written (sink_of self.old.lines)))) (steps_in (proof_if (O.written (sink_of self.old.lines)))) (is_some (O.written (sink_of self.new.lines))) (goal_in (proof_if (O.written (sink_of self.new.lines)))) (steps_in (proof_if (O.written (sink_of self.new.lines))))) }
-        ensures later { (O.faults (sink_of self.old.lines)) ≤ (O.faults (sink_of self.new.lines)) }
-        ensures cause { IfErr result (λ e. HasCause e (O.faults (sink_of self.old.lines)) (O.faults (sink_of self.new.lines))) }
-        ensures no_memory { IsErrOf result LogError.NoMemory → IsTrue false × IsTrue (not self.new.broken) }
+        ensures ok { OnOk result (Grows (is_telling self.old) (goal_told self.old) (steps_told self.old) (is_telling self.new) (goal_told self.new) (steps_told self.new) (step.now ∷ [])) }
+        ensures whole { OnOk result (IsTrue (is_unbroken self.new)) }
+        ensures err { OnErr result (Stays (is_telling self.old) (goal_told self.old) (steps_told self.old) (is_telling self.new) (goal_told self.new) (steps_told self.new)) }
+        ensures later { faults_of self.old ≤ faults_of self.new }
+        ensures cause { IfErr result (λ e. HasCause e (faults_of self.old) (faults_of self.new)) }
+        ensures no_memory { IsErrOf result LogError.NoMemory → IsTrue false × IsTrue (is_unbroken self.new) }
         ensures only_fault { OnErr result (result ≡ Err LogError.Fault) }
-        ensures same_references { name_of self.new.lines ≡ name_of self.old.lines }
-        ensures written { Wrote O.written O.faults self.old.lines self.new.lines result (step_line step.now ∷ []) }
+        ensures same_references { reference_of self.new ≡ reference_of self.old }
+        ensures written { Wrote O.written O.faults (lines_of self.old) (lines_of self.new) result (step_line step.now ∷ []) }
     {
         match write_step(&mut self.lines, step) {
             Ok(()) => Ok(()),

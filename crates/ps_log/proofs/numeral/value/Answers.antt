@@ -1,0 +1,8 @@
+use Rattle.std.proofs.Common.{arith}
+use Rattle.ps_log.proofs.Spelled.{capped_more}
+use Rattle.ps_log.proofs.numeral.value.Goals as goal
+
+pub loop-digit-preserved : goal.loop-digit-preserved
+loop-digit-preserved c =
+    capped_more c.args.digits.now c.loop-digit.digit-index c.loop-digit.value c.min-value.result c.requires c.loop-digit-test.true c.loop-digit.invariant
+    (omega (arith, c.min-value.ensures, c.from.ensures))

@@ -1,0 +1,115 @@
+-- Numbers that are read, cut off past every limit.
+use Rattle.std.specs.Prelude.{ℕ, suc, ◌+◌, ◌^◌, ◌≡◌, ◌≤◌, ◌≤ℤ◌, ℤ, pos, negsuc, min, List, [], ◌∷◌, ◌++◌, map, All, length, unsigned_abs, Result, Ok, Err, Option, Some, None, ⊤}
+use Rattle.std.specs.Str.Parse.{digits_value}
+use Rattle.ps_log.specs.Spellings.{IsPlain, IsDecimal, Spells, SpellAll}
+use Rattle.ps_log.specs.StepTexts.{words_of}
+use Rattle.ps_steps.specs.Steps.{Step}
+use Rattle.ps_log.specs.Texts.{IsId, IsLiteral, IsStepWithin, hint_numbers}
+use Rattle.ps_log.specs.declared.step_error.StepError.{StepError}
+use Rattle.ps_log.specs.declared.step_error.StepError.TheVariants.{Truncated, BadByte, NotCanonical, TooLarge, NoMemory}
+
+-- a size, or one above each limit
+abbrev pub capped_size : ℕ → ℕ
+capped_size n = min (2 ^ 41 + 1) n
+
+-- a number whose size is cut off above each limit
+abbrev pub capped : ℤ → ℤ
+capped (pos n) = pos (capped_size n)
+capped (negsuc n) = negsuc (min (2 ^ 41) n)
+
+-- the size that digits spell
+abbrev pub IsSize : List ℕ → Option ℕ → Type 0
+IsSize word None = IsPlain word → ⊥
+IsSize word (Some n) = IsPlain word × (n ≡ capped_size (digits_value 10 word))
+
+-- the number that digits spell
+abbrev pub IsCount : List ℕ → Option ℤ → Type 0
+IsCount word None = IsPlain word → ⊥
+IsCount word (Some z) = IsPlain word × (z ≡ pos (capped_size (digits_value 10 word)))
+
+-- the number that digits spell after a minus
+abbrev pub IsNegative : List ℕ → Option ℤ → Type 0
+IsNegative digits None = (n : ℕ) → IsDecimal digits (suc n) → ⊥
+IsNegative digits (Some z) = (n : ℕ) × IsDecimal digits (suc n) × (z ≡ capped (negsuc n))
+
+-- the number that a word spells
+abbrev pub IsNumber : List ℕ → Option ℤ → Type 0
+IsNumber word None = (z : ℤ) → Spells word z → ⊥
+IsNumber word (Some n) = (z : ℤ) × Spells word z × (n ≡ capped z)
+
+-- numbers are those that words spell
+pub record AreNumbersOf (words : List (List ℕ)) (numbers : List ℤ) : Type 0 where
+  pub exact : List ℤ
+  pub spelled : SpellAll words exact
+  pub cut : numbers ≡ map capped exact
+
+-- the numbers that the words of a text spell
+abbrev pub AreRead : List ℕ → Result (List ℤ) StepError → Type 0
+AreRead text (Ok numbers) = AreNumbersOf (words_of text) numbers
+AreRead text (Err Truncated) = ⊥
+AreRead text (Err BadByte) = ⊥
+AreRead text (Err NotCanonical) = (exact : List ℤ) → SpellAll (words_of text) exact → ⊥
+AreRead text (Err TooLarge) = ⊥
+AreRead text (Err NoMemory) = ⊤
+
+-- the words of what follows a space, if anything does
+abbrev pub words_after : Option (List ℕ) → List (List ℕ)
+words_after None = []
+words_after (Some text) = words_of text
+
+-- how much of a text is left
+abbrev pub left_of : Option (List ℕ) → ℕ
+left_of None = 0
+left_of (Some text) = length text + 1
+
+-- numbers are those of a step: its id, its literals, 0, its hints, 0
+pub record AreParts (numbers : List ℤ) (id : ℤ) (lits hints : List ℤ) : Type 0 where
+  pub is : numbers ≡ id ∷ (lits ++ (pos 0 ∷ (hints ++ pos 0 ∷ [])))
+  pub id_counts : pos 0 ≤ℤ id
+  pub nonzero : All (λ l. 1 ≤ unsigned_abs l) lits
+  pub hints_count : All (λ h. pos 0 ≤ℤ h) hints
+
+-- numbers are those of some step
+pub record HasParts (numbers : List ℤ) : Type 0 where
+  pub id : ℤ
+  pub lits : List ℤ
+  pub hints : List ℤ
+  pub parts : AreParts numbers id lits hints
+
+-- literals that are these numbers
+abbrev pub AreLits : List ℤ → Result (List ℤ) StepError → Type 0
+AreLits numbers (Ok lits) = (lits ≡ numbers) × All IsLiteral lits × (length lits ≤ 1024)
+AreLits numbers (Err Truncated) = ⊥
+AreLits numbers (Err BadByte) = ⊥
+AreLits numbers (Err NotCanonical) = ⊥
+AreLits numbers (Err TooLarge) = All IsLiteral numbers → length numbers ≤ 1024 → ⊥
+AreLits numbers (Err NoMemory) = ⊤
+
+-- hints that are these numbers
+abbrev pub AreHints : List ℤ → Result (List ℕ) StepError → Type 0
+AreHints numbers (Ok hints) = (hint_numbers hints ≡ numbers) × All IsId hints × (length hints ≤ 1025)
+AreHints numbers (Err Truncated) = ⊥
+AreHints numbers (Err BadByte) = ⊥
+AreHints numbers (Err NotCanonical) = ⊥
+AreHints numbers (Err TooLarge) = (hints : List ℕ) → hint_numbers hints ≡ numbers → All IsId hints → length hints ≤ 1025 → ⊥
+AreHints numbers (Err NoMemory) = ⊤
+
+-- an id that is this number
+abbrev pub IsIdOf : ℤ → Option ℕ → Type 0
+IsIdOf n None = (id : ℕ) → pos id ≡ n → IsId id → ⊥
+IsIdOf n (Some id) = (pos id ≡ n) × IsId id
+
+-- a step has these numbers
+pub record HasNumbers (s : Step) (id : ℤ) (lits hints : List ℤ) : Type 0 where
+  pub id_is : pos s.id ≡ id
+  pub lits_are : s.lits ≡ lits
+  pub hints_are : hint_numbers s.hints ≡ hints
+
+-- the step within the limits that has these numbers
+abbrev pub IsStepOf : ℤ → List ℤ → List ℤ → Result Step StepError → Type 0
+IsStepOf id lits hints (Ok s) = HasNumbers s id lits hints × IsStepWithin s
+IsStepOf id lits hints (Err Truncated) = ⊥
+IsStepOf id lits hints (Err BadByte) = ⊥
+IsStepOf id lits hints (Err NotCanonical) = ⊥
+IsStepOf id lits hints (Err TooLarge) = (s : Step) → HasNumbers s id lits hints → IsStepWithin s → ⊥
+IsStepOf id lits hints (Err NoMemory) = ⊤

@@ -1,0 +1,93 @@
+//! Numbers of any size, cut off past every limit.
+ghost use Rattle.std.specs.Prelude.{◌≡◌, ◌≤◌, ◌<◌, ◌↔◌, ◌∷◌, ◌+◌, ◌^◌, ℕ, List as Bytes, All, IfSome, IfNone, IsTrue, length, slice_index};
+ghost use Rattle.std.specs.Char.{digit_value};
+ghost use Rattle.std.specs.Str.Parse.{digits_value};
+ghost use Rattle.ps_log.specs.Spellings.{IsPlain};
+ghost use Rattle.ps_log.specs.Numbers.{capped_size, IsSize, IsCount, IsNegative, IsNumber};
+
+// One above the limit of ids, which is above every other one: what is more counts as this.
+const CAP: u64 = (1 << 41) + 1;
+
+/// The number that a word spells, if it spells one: digits without a leading zero, after a minus where it is below 0.
+pub(crate) fn number(word: &[u8]) -> Option<i64>
+    ensures { IsNumber word.now result }
+{
+    match without_minus(word) {
+        Some(digits) => negative(digits),
+        None => positive(word),
+    }
+}
+
+fn without_minus(word: &[u8]) -> Option<&[u8]>
+    ensures found { IfSome result (λ rest. word.now ≡ 45 ∷ rest.now) }
+    ensures none { IfNone result ((rest : Bytes ℕ) → word.now ≡ 45 ∷ rest → ⊥) }
+{
+    match word {
+        [b'-', rest @ ..] => Some(rest),
+        _ => None,
+    }
+}
+
+fn positive(word: &[u8]) -> Option<i64>
+    ensures { IsCount word.now result }
+{
+    match size(word) {
+        Some(n) => Some(n as i64),
+        None => None,
+    }
+}
+
+fn negative(digits: &[u8]) -> Option<i64>
+    ensures { IsNegative digits.now result }
+{
+    match size(digits) {
+        Some(n) if 0 < n => Some(-(n as i64)),
+        _ => None,
+    }
+}
+
+fn size(word: &[u8]) -> Option<u64>
+    ensures size { IsSize word.now result }
+    ensures within { IfSome result (λ n. n ≤ 2 ^ 41 + 1) }
+{
+    if is_plain(word) {
+        Some(value(word))
+    } else {
+        None
+    }
+}
+
+fn is_plain(word: &[u8]) -> bool
+    ensures { IsTrue result ↔ IsPlain word.now }
+{
+    if word.is_empty() {
+        return false;
+    }
+    if has_leading_zero(word) {
+        return false;
+    }
+    are_digits(word)
+}
+
+fn has_leading_zero(word: &[u8]) -> bool
+    ensures { IsTrue result ↔ ((slice_index word.now 0 ≡ 48) × (1 < length word.now)) }
+{
+    1 < word.len() && word[0] == b'0'
+}
+
+fn are_digits(word: &[u8]) -> bool
+    ensures { IsTrue result ↔ All (λ b. digit_value b < 10) word.now }
+{
+    word.iter().all(|byte| byte.is_ascii_digit())
+}
+
+fn value(digits: &[u8]) -> u64
+    requires { All (λ b. digit_value b < 10) digits.now }
+    ensures { result ≡ capped_size (digits_value 10 digits.now) }
+{
+    let mut value = 0;
+    for digit in digits {
+        value = CAP.min(10 * value + u64::from(*digit - b'0'));
+    }
+    value
+}

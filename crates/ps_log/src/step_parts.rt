@@ -1,0 +1,138 @@
+//! The parts of a step among its numbers.
+ghost use Rattle.std.specs.Prelude.{◌≡◌, ◌≤◌, ◌≤ℤ◌, ◌↔◌, ◌++◌, ◌∷◌, [], All, IsTrue, IfSome, IfNone, IsSome, ℤ, List as Numbers, pos, unsigned_abs};
+ghost use Rattle.ps_log.specs.Texts.{IsLiteral};
+ghost use Rattle.ps_log.specs.Numbers.{AreParts, HasParts, AreLits, AreHints, IsIdOf, IsStepOf};
+
+use crate::step_error::StepError;
+use ps_io::List;
+use ps_pb::{Hints, Lit, Lits, Step};
+use std::alloc::Global;
+
+const MOST_LITS: usize = 1024;
+
+const MOST_HINTS: usize = 1025;
+
+const MOST_IDS: i64 = 1 << 41;
+
+/// The numbers of a step in its parts.
+#[derive(Clone, Copy)]
+pub(crate) struct StepParts<'n> {
+    id: i64,
+    lits: &'n [i64],
+    hints: &'n [i64],
+}
+
+impl<'n> StepParts<'n> {
+    /// The parts of a step's numbers: the first 0 after the id ends the literals, and the last number is a 0, which ends the
+    /// hints.
+    pub(crate) fn of(numbers: &'n [i64]) -> Option<StepParts<'n>>
+        ensures found { IfSome result (λ p. AreParts numbers.now p.id p.lits.now p.hints.now) }
+        ensures none { IfNone result (HasParts numbers.now → ⊥) }
+    {
+        let (id, rest) = split_count(numbers)?;
+        let (lits, rest) = split_at_zero(rest)?;
+        let hints = counts_before_zero(rest)?;
+        Some(StepParts { id, lits, hints })
+    }
+
+    /// The step that has these parts, if it is within the limits.
+    pub(crate) fn step(&self, alloc: Global) -> Result<Step, StepError>
+        ensures { IsStepOf self.now.id self.now.lits.now self.now.hints.now result }
+    {
+        let id = match id(&self.id) {
+            Some(id) => id,
+            None => return Err(StepError::TooLarge),
+        };
+        let lits = lits(alloc, self.lits)?;
+        let hints = hints(alloc, self.hints)?;
+        Ok(Step { id, lits, hints })
+    }
+}
+
+fn split_count(numbers: &[i64]) -> Option<(i64, &[i64])>
+    ensures found { IfSome result (λ r. (numbers.now ≡ r.0 ∷ r.1.now) × (pos 0 ≤ℤ r.0)) }
+    ensures none { IfNone result ((id : ℤ) (rest : Numbers ℤ) → numbers.now ≡ id ∷ rest → pos 0 ≤ℤ id → ⊥) }
+{
+    match numbers {
+        [id, rest @ ..] if 0 <= *id => Some((*id, rest)),
+        _ => None,
+    }
+}
+
+// What stands before the last number, where that is 0.
+fn counts_before_zero(numbers: &[i64]) -> Option<&[i64]>
+    ensures found { IfSome result (λ r. (numbers.now ≡ r.now ++ pos 0 ∷ []) × All (λ n. pos 0 ≤ℤ n) r.now) }
+    ensures none { IfNone result ((counts : Numbers ℤ) → numbers.now ≡ counts ++ pos 0 ∷ [] → All (λ n. pos 0 ≤ℤ n) counts → ⊥) }
+{
+    match numbers {
+        [counts @ .., 0] if are_counts(counts) => Some(counts),
+        _ => None,
+    }
+}
+
+fn split_at_zero(numbers: &[i64]) -> Option<(&[i64], &[i64])>
+    ensures found { IfSome result (λ r. (numbers.now ≡ r.0.now ++ pos 0 ∷ r.1.now) × All (λ n. 1 ≤ unsigned_abs n) r.0.now) }
+    ensures none { IfNone result (All (λ n. 1 ≤ unsigned_abs n) numbers.now) }
+{
+    match numbers.iter().position(|n| *n == 0) {
+        Some(i) => Some((&numbers[..i], &numbers[i + 1..])),
+        None => None,
+    }
+}
+
+fn are_counts(numbers: &[i64]) -> bool
+    ensures { IsTrue result ↔ All (λ n. pos 0 ≤ℤ n) numbers.now }
+{
+    numbers.iter().all(|n| 0 <= *n)
+}
+
+fn id(number: &i64) -> Option<u64>
+    ensures { IsIdOf number.now result }
+{
+    if *number < 1 || MOST_IDS < *number {
+        return None;
+    }
+    Some(*number as u64)
+}
+
+fn lit(number: &i64) -> Option<Lit>
+    ensures value { IfSome result (λ lit. lit ≡ number.now) }
+    ensures exact { IsSome result ↔ IsLiteral number.now }
+{
+    if *number < -1024 || 1024 < *number {
+        return None;
+    }
+    Lit::new(*number as i32)
+}
+
+fn lits(alloc: Global, numbers: &[i64]) -> Result<Lits, StepError>
+    ensures { AreLits numbers.now result }
+{
+    if MOST_LITS < numbers.len() {
+        return Err(StepError::TooLarge);
+    }
+    let mut lits = List::new(alloc);
+    for number in numbers {
+        match lit(number) {
+            Some(lit) => lits.push(lit)?,
+            None => return Err(StepError::TooLarge),
+        }
+    }
+    Ok(lits)
+}
+
+fn hints(alloc: Global, numbers: &[i64]) -> Result<Hints, StepError>
+    ensures { AreHints numbers.now result }
+{
+    if MOST_HINTS < numbers.len() {
+        return Err(StepError::TooLarge);
+    }
+    let mut hints = List::new(alloc);
+    for number in numbers {
+        match id(number) {
+            Some(id) => hints.push(id)?,
+            None => return Err(StepError::TooLarge),
+        }
+    }
+    Ok(hints)
+}
