@@ -1,10 +1,10 @@
 -- What digits that stand for others are worth.
-use Rattle.std.proofs.Common.{◌≡◌, ℕ, zero, suc, ◌+◌, ◌*◌, ◌^◌, ◌==◌, Bool, true, false, ◌&&◌, List, [], ◌∷◌, ◌++◌, length, replicate, Option, Some, None, refl, sym, ap, subst, ◌∙◌, arith}
+use Rattle.std.proofs.Common.{◌≡◌, ℕ, zero, suc, ◌+◌, ◌^◌, ◌==◌, Bool, true, false, ◌&&◌, [], ◌∷◌, ◌++◌, length, replicate, Some, None, refl, ap, ◌∙◌, arith}
 use Rattle.std.proofs.lemmas.Bool.Decides.{nat_tests}
 use Rattle.std.proofs.lemmas.List.{length-append, length-replicate}
 use Rattle.std.specs.Prelude.{nat_lt, nat_eq, bytes_eq, codes, if◌then◌else◌}
 use Rattle.ps_text.specs.Tokens as text
-use Rattle.ps_text.specs.Kinds.{Kind, VersionUnknown, ZeroDenominator, DenominatorTooLarge, TooManyDecimals, NumberOutOfRange}
+use Rattle.ps_text.specs.Kinds.{VersionUnknown, ZeroDenominator, DenominatorTooLarge, TooManyDecimals, NumberOutOfRange}
 use Rattle.ps_text.specs.Grammar.{value_from, value}
 use Rattle.ps_text.specs.Due.{version_fault, value_fault}
 use Rattle.ps_due.specs.Standing.{figures, decimal_of}

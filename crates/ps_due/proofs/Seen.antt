@@ -1,11 +1,11 @@
 -- A token is judged by what is kept of it.
-use Rattle.std.proofs.Common.{◌≡◌, ℕ, suc, zero, ◌+◌, ◌-◌, ◌*◌, ◌^◌, ◌<◌, ◌≤◌, min, ◌==◌, Bool, true, false, not, ◌&&◌, ◌⊎◌, inl, inr, List, [], ◌∷◌, ◌++◌, length, take, Option, Some, None, refl, sym, ap, subst, ◌∙◌, arith, true≢false, is_some}
+use Rattle.std.proofs.Common.{◌≡◌, ℕ, suc, zero, ◌+◌, ◌-◌, ◌*◌, ◌^◌, ◌≤◌, min, ◌==◌, Bool, true, false, ◌&&◌, inl, inr, List, [], ◌∷◌, ◌++◌, length, take, Some, None, refl, sym, ap, ◌∙◌, arith, true≢false, is_some}
 use Rattle.std.proofs.lemmas.Bool.Decides.{nat_tests}
-use Rattle.std.proofs.lemmas.List.{take_all, length-take, length-append}
-use Rattle.std.specs.Prelude.{nat_lt, nat_eq, bytes_eq, codes, if◌then◌else◌, IsTrue}
+use Rattle.std.proofs.lemmas.List.{take_all, length-take}
+use Rattle.std.specs.Prelude.{nat_lt, bytes_eq, codes, if◌then◌else◌}
 use Rattle.ps_text.specs.Tokens as text
 use Rattle.ps_text.specs.Tokens.{One, Token, IsToken, IsNumeral, AreDigits, is_digit}
-use Rattle.ps_text.specs.Kinds.{Kind, NameTooLong, VersionUnknown, ZeroDenominator, DenominatorTooLarge, TooManyDecimals, NumberOutOfRange}
+use Rattle.ps_text.specs.Kinds.{NameTooLong, VersionUnknown, ZeroDenominator, DenominatorTooLarge, TooManyDecimals, NumberOutOfRange}
 use Rattle.ps_text.specs.Grammar.{value_from, value}
 use Rattle.ps_text.specs.Due as due
 use Rattle.ps_text.specs.Due.{Due, is_too_long, version_fault, value_fault, refusal, after}
@@ -13,7 +13,7 @@ use Rattle.ps_text.proofs.Cutting.{decide}
 use Rattle.ps_scan.specs.declared.digits.Digits.{Digits}
 use Rattle.ps_scan.specs.Counted.{no_digits, with_digit, with_digits}
 use Rattle.ps_scan.specs.Seen.{seen, numeral_seen}
-use Rattle.ps_due.specs.Standing.{figures, numeral_of, token_of}
+use Rattle.ps_due.specs.Standing.{numeral_of, token_of}
 use Rattle.ps_due.proofs.Figures.{version_of, decimal_version, whole_fault, quotient_fault, decimal_fault}
 
 capped_value : (d : Digits) (n : ℕ) (bs : List ℕ) → d.value ≡ min n 1000001 → (with_digits d bs).value ≡ min (value_from n bs) 1000001

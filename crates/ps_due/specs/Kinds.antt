@@ -5,6 +5,7 @@ use Rattle.ps_due.specs.declared.kind.What.TheVariants as what
 use Rattle.ps_due.specs.declared.kind.ReadKind.{ReadKind}
 use Rattle.ps_due.specs.declared.kind.ReadKind.TheVariants as kind
 
+-- what is due, by the same name
 abbrev pub what_of : text.What → What
 what_of text.Psat = what.Psat
 what_of text.Version = what.Version
@@ -20,6 +21,7 @@ what_of text.Bracket = what.Bracket
 what_of text.Comma = what.Comma
 what_of text.BracketEnd = what.BracketEnd
 
+-- the kind of the same name
 abbrev pub kind_of : text.Kind → ReadKind
 kind_of text.EndMissing = kind.EndMissing
 kind_of text.BadByte = kind.BadByte

@@ -16,7 +16,8 @@ use ps_io::NoMemory;
 use ps_scan::{Symbol, Token};
 use std::alloc::Global;
 
-/// The part that is next and, in a probability, whether it is a query's, whether `given` stood, and what is open.
+/// What is due between two tokens: the part that is next and, in a probability, whether it is a query's, whether `given`
+/// stood, and what is open. It reads no bytes; a `Scanner` tells it the tokens.
 #[derive(Debug, Drop)]
 pub struct Due {
     pub(crate) part: Part,
@@ -38,7 +39,7 @@ fn has_group(openings: &[Opening]) -> bool
 }
 
 impl Due {
-    /// Before the first token.
+    /// What is due at the start of a text.
     pub fn start(alloc: Global) -> Due
         ensures { due_of result ≡ at_start }
     {
@@ -143,7 +144,8 @@ impl Due {
         }
     }
 
-    /// Why a token is refused, by the first reason, if it is.
+    /// Why a token is refused here, if it is: because it is too long a word, or else isn't due, or else is no version, no
+    /// probability, or the 101st nesting.
     #[tactic(auto, unfolding(ps_text::specs::Due::refusal))]
     pub fn refusal(&self, token: &Token) -> Option<ReadKind>
         ensures { result ≡ option_map kind_of (refusal (due_of self.now) (token_of token.now)) }
@@ -198,7 +200,8 @@ impl Due {
     }
 
     fn after_operand(&mut self, token: &Token) -> Result<(), NoMemory>
-        ensures { OnOk result (due_of self.new ≡ after_operand (due_of self.old) (token_of token.now)) }
+        ensures ok { OnOk result (due_of self.new ≡ after_operand (due_of self.old) (token_of token.now)) }
+        ensures err { OnErr result (due_of self.new ≡ due_of self.old) }
     {
         match token {
             Token::Sign(Symbol::Bang) => {
@@ -232,7 +235,8 @@ impl Due {
     }
 
     fn after_operator(&mut self, token: &Token) -> Result<(), NoMemory>
-        ensures { OnOk result (due_of self.new ≡ after_operator (due_of self.old) (token_of token.now)) }
+        ensures ok { OnOk result (due_of self.new ≡ after_operator (due_of self.old) (token_of token.now)) }
+        ensures err { OnErr result (due_of self.new ≡ due_of self.old) }
     {
         match token {
             Token::Sign(Symbol::Close) => {
@@ -257,10 +261,11 @@ impl Due {
         Ok(())
     }
 
-    /// Goes on behind a token that isn't refused.
+    /// Goes on behind a token that isn't refused. For want of memory nothing changes.
     #[tactic(auto, unfolding(ps_text::specs::Due::after))]
     pub fn go_on(&mut self, token: &Token) -> Result<(), NoMemory>
-        ensures { OnOk result (due_of self.new ≡ after (due_of self.old) (token_of token.now)) }
+        ensures ok { OnOk result (due_of self.new ≡ after (due_of self.old) (token_of token.now)) }
+        ensures err { OnErr result (due_of self.new ≡ due_of self.old) }
     {
         match self.part {
             Part::Psat => self.stand_outside(Part::Version),
@@ -289,7 +294,7 @@ impl Due {
         Ok(())
     }
 
-    /// The part that is next.
+    /// The part of the text that is next.
     pub fn part(&self) -> Part
         ensures { part_of result ≡ (due_of self.now).part }
     {

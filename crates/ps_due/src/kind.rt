@@ -3,18 +3,30 @@
 /// What is due at a place.
 #[derive(Clone, Copy, Debug, PartialEq, Eq)]
 pub enum What {
+    /// `psat`, at the start.
     Psat,
+    /// The version, behind `psat`.
     Version,
+    /// `;`, behind the version, a relation, a query's probability and `end`.
     Semicolon,
+    /// `P`, `query` or `end`.
     Item,
+    /// `P`, behind `query`.
     Prob,
+    /// `(`, behind `P`.
     Paren,
+    /// An operand of a formula.
     Formula,
+    /// A connective, `)`, or `given` where it may stand.
     Operator,
+    /// `=`, `>=`, `<=` or `in`.
     Relation,
     Number,
+    /// `[`, behind `in`.
     Bracket,
+    /// `,`, behind an interval's first number.
     Comma,
+    /// `]`, behind an interval's second number.
     BracketEnd,
 }
 

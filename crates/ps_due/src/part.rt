@@ -7,26 +7,36 @@ pub enum Part {
     Version,
     /// The `;` behind the version.
     HeadEnd,
+    /// `P`, `query` or `end`.
     Item,
+    /// The `P` behind `query`.
     QueryProb,
+    /// The `(` behind `P`.
     Paren,
+    /// The next operand of a formula.
     Operand,
+    /// What stands behind an operand.
     Operator,
     Relation,
+    /// The number of a relation with one bound.
     Number,
     /// The `;` behind an item.
     ItemEnd,
+    /// The `[` behind `in`.
     Bracket,
+    /// An interval's first number.
     First,
     Comma,
+    /// An interval's second number.
     Second,
     BracketEnd,
     /// The `;` behind `end`.
     TextEnd,
+    /// The text is whole: nothing more is due.
     Done,
 }
 
-/// What is open in a formula: a `!`, a `(`, or the right side of a `->`.
+/// What is open in a formula: a `!` during its operand, a `(` up to its `)`, a `->` during its right side.
 #[derive(Clone, Copy, Debug, PartialEq, Eq)]
 pub enum Opening {
     Not,

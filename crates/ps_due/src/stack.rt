@@ -1,4 +1,4 @@
-//! A list that is seen with its last item first.
+//! A list that contracts see with its last item first.
 ghost use Rattle.ps_due.specs.Stacks.{top};
 ghost use Rattle.std.specs.Prelude.{◌≡◌, ◌++◌, [], ◌∷◌, length, OnOk, OnErr, MatchOption, List as Items, option_copied, reverse};
 
@@ -24,6 +24,7 @@ impl<T> Model for Stack<T> {
 }
 
 impl<T> Stack<T> {
+    /// No items.
     pub fn new(alloc: Global) -> Stack<T>
         ensures { result ≡ [] }
     {
@@ -32,6 +33,7 @@ impl<T> Stack<T> {
         }
     }
 
+    /// Puts an item on top. For want of memory it is dropped, and nothing changes.
     pub fn push(&mut self, item: T) -> Result<(), NoMemory>
     where
         T: Drop,
@@ -42,6 +44,7 @@ impl<T> Stack<T> {
         Ok(())
     }
 
+    /// Takes the top item off.
     pub fn pop(&mut self) -> Option<T>
         ensures { MatchOption result ((self.old ≡ []) × (self.new ≡ [])) (λ x. self.old ≡ x ∷ self.new) }
     {
@@ -55,7 +58,7 @@ impl<T> Stack<T> {
         self.items.len()
     }
 
-    /// The last item.
+    /// The top item.
     pub fn top(&self) -> Option<&T>
         ensures { option_copied result ≡ top self.now }
     {
@@ -71,7 +74,7 @@ impl<T> Stack<T> {
         self.items.clear();
     }
 
-    /// The items, the last one last.
+    /// The items, the top one last.
     pub fn items(&self) -> &[T]
         ensures { reverse result.now ≡ self.now }
     {
