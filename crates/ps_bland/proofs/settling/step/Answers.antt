@@ -34,4 +34,4 @@ pub returns-clause-ready : goal.returns-clause-ready
 returns-clause-ready c =
     let t = c.args.table.now in
     let lawful : IsLawful c.args.phase c.args.costs.now t c.in-Ok-Some.enter c.in-Ok.leave = search rules in
-    ready_kept t c.pivot_with_event.new.table c.in-Ok-Some.enter c.in-Ok.leave c.is_due_to_end.ensures.tableau c.in-Ok-pivot_with_event.ensures.pivot c.args.phase c.args.costs.now c.requires lawful c.in-Ok-pivot_with_event.ensures.stands
+    ready_kept t c.pivot_with_event.new.table c.in-Ok-Some.enter c.in-Ok.leave c.is_due_to_end.ensures.tableau c.in-Ok-pivot_with_event.ensures.pivot c.args.phase c.args.costs.now c.requires lawful
