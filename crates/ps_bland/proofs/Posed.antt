@@ -1,5 +1,5 @@
 -- The costs that a phase is for are what it asks.
-use Rattle.std.proofs.Common.{◌≡◌, ◌⊎◌, inl, inr, ℕ, suc, ◌+◌, ◌<◌, ◌≤◌, length, Bool, true, false, cond, sym, subst, arith}
+use Rattle.std.proofs.Common.{◌≡◌, ◌⊎◌, inl, inr, suc, length, Bool, true, false, cond, sym, subst, arith}
 use Rattle.std.proofs.lemmas.Bool.{cases_lt}
 use Rattle.ps_rational.specs.Rational.{Rational, neg, zero_q, one_q}
 use Rattle.ps_rational.specs.Order.{IsNonneg}

@@ -20,7 +20,7 @@ use Rattle.ps_rule.specs.Rule.{Second, Improves, IsFeasible, IsArtificialRow, Ha
 use Rattle.ps_table.specs.declared.costs.Costs.{Costs}
 use Rattle.ps_pool.specs.declared.col.Col.{Col}
 use Rattle.ps_pool.specs.declared.col.Col.TheVariants as col
-use Rattle.ps_table.specs.Tableau.{Tableau, IsTableau, IsInside, IsPivot, IsAdded, basic_at, entry_at, cost_at, spot, StandsFor}
+use Rattle.ps_table.specs.Tableau.{Tableau, IsTableau, IsInside, IsPivot, IsAdded, basic_at, entry_at, cost_at, spot}
 use Rattle.ps_table.proofs.Columns.{spot_within}
 use Rattle.ps_bland.specs.declared.phase.Phase.{Phase}
 use Rattle.ps_bland.specs.declared.phase.Phase.TheVariants.{One, Lower, Upper}
