@@ -231,7 +231,7 @@ can_leave Lower costs t q ok fits improves = λ none. rising_first costs t q ok 
 can_leave Upper costs t q ok fits improves = λ none. rising_upper costs t q ok fits.1 improves
 
 -- ---- how callers come to a ready table
-unit_nonneg : (i j : ℕ) → IsNonneg (unit_at i j)
+pub unit_nonneg : (i j : ℕ) → IsNonneg (unit_at i j)
 unit_nonneg i j =
     elim (cases_eq i j) [
       | inl e ↦ subst IsNonneg (sym (ap (unit_at i) (sym e) ∙ unit_at-same i)) (above_nonneg one_q one_above)

@@ -91,6 +91,8 @@ pub fn settle(
     requires { IsReady phase costs.now table.old }
     ensures ran { Ran phase costs.now table.old table.new trace.old trace.new left.old left.new }
     ensures end { IsEnd phase costs.now table.new left.new result }
+    ensures kinds { table.new.kinds ≡ table.old.kinds }
+    ensures worlds { table.new.worlds ≡ table.old.worlds }
     ensures ready { IsReady phase costs.now table.new }
     ensures stands { (A : ℕ → ℕ → Rational) → StandsFor A table.old → StandsFor A table.new }
 {
