@@ -111,16 +111,23 @@ abbrev pub IsLeftToRatios : RulePhase → Tableau → ℕ → Type 0
 IsLeftToRatios First t q = Unit {0}
 IsLeftToRatios Second t q = (i : ℕ) → IsArtificialRow (face_of t) q i → ⊥
 
--- the operands at a due place of the table, where they are too wide
-pub data IsDueWide (phase : Phase) (costs : Costs) (t : Tableau) (w : WideAt) : Type 0 where
-  at_cost : (IsDone phase t → ⊥) → IsEntryWide costs t w → IsDueWide phase costs t w
-  at_ratio : (q : Col) → (IsDone phase t → ⊥) → IsInside (length t.kinds) t.worlds q → Enters (face_of t) (cost_at costs) (spot (length t.kinds) q) → IsLeftToRatios (stage phase) t (spot (length t.kinds) q) → IsRatioWide t (spot (length t.kinds) q) w → IsDueWide phase costs t w
-  at_pivot : (q : Col) (p : ℕ) → IsLawful phase costs t q p → IsWideAt (IsPivotPlace (length t.kinds) t.worlds (entry_at t) p (spot (length t.kinds) q)) w → IsDueWide phase costs t w
+-- a pivot is due: there is one by the rule, and one is left
+pub record IsPivotDue (phase : Phase) (costs : Costs) (t : Tableau) (left : ℕ) : Type 0 where
+  pub enter : Col
+  pub leave : ℕ
+  pub lawful : IsLawful phase costs t enter leave
+  pub some_left : 0 < left
 
--- where it isn't want of memory
-abbrev pub IsDueRefusal : Phase → Costs → Tableau → SettleError → Type 0
-IsDueRefusal phase costs t (Wide w) = IsDueWide phase costs t w
-IsDueRefusal phase costs t NoMemory = Unit {0}
+-- the operands at a due place of the table, where they are too wide; ratios and pivots are due only while a pivot is left
+pub data IsDueWide (phase : Phase) (costs : Costs) (t : Tableau) (left : ℕ) (w : WideAt) : Type 0 where
+  at_cost : (IsDone phase t → ⊥) → IsEntryWide costs t w → IsDueWide phase costs t left w
+  at_ratio : (q : Col) → (IsDone phase t → ⊥) → 0 < left → IsInside (length t.kinds) t.worlds q → Enters (face_of t) (cost_at costs) (spot (length t.kinds) q) → IsLeftToRatios (stage phase) t (spot (length t.kinds) q) → IsRatioWide t (spot (length t.kinds) q) w → IsDueWide phase costs t left w
+  at_pivot : (q : Col) (p : ℕ) → 0 < left → IsLawful phase costs t q p → IsWideAt (IsPivotPlace (length t.kinds) t.worlds (entry_at t) p (spot (length t.kinds) q)) w → IsDueWide phase costs t left w
+
+-- a number of a due place is too wide, or a pivot that is due finds no memory
+abbrev pub IsDueRefusal : Phase → Costs → Tableau → ℕ → SettleError → Type 0
+IsDueRefusal phase costs t left (Wide w) = IsDueWide phase costs t left w
+IsDueRefusal phase costs t left NoMemory = IsPivotDue phase costs t left
 
 -- why a pivot is refused, where it isn't want of memory
 abbrev pub IsPivotRefusal : Tableau → Col → ℕ → SettleError → Type 0
@@ -153,12 +160,12 @@ pub record IsSame (old new : Tableau) (trace longer : List Event) (had left : �
 abbrev pub IsRound : Phase → Costs → Tableau → Tableau → List Event → List Event → ℕ → ℕ → Result (Option Settled) SettleError → Type 0
 IsRound phase costs old new trace longer had left (Ok None) = IsStep phase costs old new trace longer had left
 IsRound phase costs old new trace longer had left (Ok (Some s)) = IsSame old new trace longer had left × IsSettled phase costs old had s
-IsRound phase costs old new trace longer had left (Err e) = IsSame old new trace longer had left × IsDueRefusal phase costs old e
+IsRound phase costs old new trace longer had left (Err e) = IsSame old new trace longer had left × IsDueRefusal phase costs old had e
 
 -- an end, or a refusal at a due place of the table as it is left
 abbrev pub IsEnd : Phase → Costs → Tableau → ℕ → Result Settled SettleError → Type 0
 IsEnd phase costs t left (Ok s) = IsSettled phase costs t left s
-IsEnd phase costs t left (Err e) = IsDueRefusal phase costs t e
+IsEnd phase costs t left (Err e) = IsDueRefusal phase costs t left e
 
 -- the table belongs to these columns: its rows combine the basic ones to each
 abbrev pub BelongsTo : (ℕ → ℕ → Rational) → Tableau → Type 0

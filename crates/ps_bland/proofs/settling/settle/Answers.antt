@@ -1,5 +1,5 @@
 use Rattle.std.proofs.Common.{refl, ◌∙◌}
-use Rattle.ps_bland.proofs.Steps.{ran_none, ran_more, settled_same}
+use Rattle.ps_bland.proofs.Steps.{ran_none, ran_more, settled_same, refusal_same}
 use Rattle.ps_bland.proofs.settling.settle.Goals as goal
 
 pub loop-settled-init : goal.loop-settled-init
@@ -32,3 +32,8 @@ returns-in-Ok-Some-clause-stands c = λ A h. c.step.ensures.stands A (c.loop-set
 
 pub returns-in-Err-clause-stands : goal.returns-in-Err-clause-stands
 returns-in-Err-clause-stands c = λ A h. c.step.ensures.stands A (c.loop-settled.invariant.stands A h)
+
+pub returns-in-Err-clause-end : goal.returns-in-Err-clause-end
+returns-in-Err-clause-end c =
+    let round = rw c.in-Err.refused-is at c.in-Err.ensures.round in
+    refusal_same c.args.phase c.args.costs.now c.loop-settled.table c.step.new.table c.loop-settled.trace c.step.new.trace c.loop-settled.left c.step.new.left c.in-Err.refused round.0 round.1
