@@ -57,6 +57,35 @@ IsNewPlace n X entries (Scale c) op l r = ⊥
 IsNewPlace n X entries (Times i c) op l r = ⊥
 IsNewPlace n X entries (Minus i c) op l r = ⊥
 
+-- the operands that stand at a place of what the rows carry of column q
+abbrev pub IsCostPlace : Tableau → Costs → Col → Place → Op → Rational → Rational → Type 0
+IsCostPlace t costs q (Cost c i) op l r = (c ≡ q) × (i < length t.kinds) × (op ≡ Add) × (l ≡ carried_to t costs (spot (length t.kinds) q) i) × (r ≡ part_at t costs (spot (length t.kinds) q) i)
+IsCostPlace t costs q (Whole i) op l r = ⊥
+IsCostPlace t costs q (Scaled i) op l r = ⊥
+IsCostPlace t costs q (Weight i) op l r = ⊥
+IsCostPlace t costs q (Weighed i) op l r = ⊥
+IsCostPlace t costs q (Total i) op l r = ⊥
+IsCostPlace t costs q (Ratio i) op l r = ⊥
+IsCostPlace t costs q (Scale c) op l r = ⊥
+IsCostPlace t costs q (Times i c) op l r = ⊥
+IsCostPlace t costs q (Minus i c) op l r = ⊥
+IsCostPlace t costs q (NewTimes i m) op l r = ⊥
+IsCostPlace t costs q (NewPlus i m) op l r = ⊥
+
+-- the operation at none of these places is wide
+pub record IsNarrow (P : Place → Op → Rational → Rational → Type 0) : Type 0 where
+  pub nowhere : (place : Place) (op : Op) (l r : Rational) → P place op l r → ¬ IsWide op l r
+
+-- neither operation on row i of column j is wide in a pivot in row p and column q of a table X
+pub record IsNarrowCell (X : ℕ → ℕ → Rational) (p q i j : ℕ) : Type 0 where
+  pub times : ¬ IsWide Mul (X i q) (div (X p j) (X p q))
+  pub minus : ¬ IsWide Sub (X i j) (mul (X i q) (div (X p j) (X p q)))
+
+-- neither operation on row m of a new world's column is wide in row i of a table X
+pub record IsNarrowPart (X : ℕ → ℕ → Rational) (entries : List ℤ) (i m : ℕ) : Type 0 where
+  pub times : ¬ IsWide Mul (X i (suc m)) (fraction (get_or entries m (pos 0)) 1)
+  pub plus : ¬ IsWide Add (sum_to m (new_part X entries i)) (new_part X entries i m)
+
 -- the refusal stands at a place with its operands, and is wide there
 pub record IsWideAt (P : Place → Op → Rational → Rational → Type 0) (w : WideAt) : Type 0 where
   pub at : P w.place w.op w.left w.right
@@ -67,9 +96,6 @@ abbrev pub IsRefusedAt : (Place → Op → Rational → Rational → Type 0) →
 IsRefusedAt P (Wide w) = IsWideAt P w
 IsRefusedAt P NoMemory = Unit {0}
 
--- a sum for column q was refused at row i
-pub record IsCostWide (t : Tableau) (costs : Costs) (q : Col) (w : WideAt) : Type 0 where
-  pub row : ℕ
-  pub within : row < length t.kinds
-  pub is : w ≡ record { place = Cost q row; op = Add; left = carried_to t costs (spot (length t.kinds) q) row; right = part_at t costs (spot (length t.kinds) q) row }
-  pub wide : SumIsWide (carried_to t costs (spot (length t.kinds) q) row) (part_at t costs (spot (length t.kinds) q) row)
+-- what the rows carry of column q was refused
+abbrev pub IsCostWide : Tableau → Costs → Col → WideAt → Type 0
+IsCostWide t costs q = IsWideAt (IsCostPlace t costs q)

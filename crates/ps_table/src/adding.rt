@@ -1,16 +1,15 @@
 //! The column of a new world.
-ghost use Rattle.std.specs.Prelude.{◌≡◌, ◌≢◌, ℕ, suc, ◌+◌, ◌-◌, ◌*◌, ◌/◌, ◌%◌, ◌^◌, ◌<◌, ◌≤◌, ◌↔◌, List, [], ◌∷◌, ◌++◌, true, false, length, get_or, pos, negsuc, ◌≤ℤ◌, IfOk, IfErr, IsErr, IsTrue};
-ghost use Rattle.ps_rational.specs.Rational.{Rational, fraction, add, mul, neg, sub, div, inverse, zero_q};
-ghost use Rattle.ps_rational.specs.Wide.{SumIsWide, ProductIsWide};
+ghost use Rattle.std.specs.Prelude.{◌≡◌, ℕ, suc, ◌<◌, ◌≤◌, length, get_or, pos, IfOk, IfErr};
+ghost use Rattle.ps_rational.specs.Rational.{fraction, zero_q};
 ghost use Rattle.ps_rational.specs.Sums.{sum_to};
-ghost use Rattle.ps_table.specs.Tableau.{Tableau, spot, spot_of, IsInside, IsShown, cell_at, entry_at, basic_at, pivot_cell, IsGrid, IsTableau, StandsFor, IsPivot, HasCosts, HasSmallCosts, IsAdded, IsColumn, cost_number, cost_at, part_at, carried_to};
-ghost use Rattle.ps_table.specs.Places.{IsWide, IsPivotPlace, IsNewPlace, new_part, IsWideAt, IsRefusedAt, IsCostWide};
+ghost use Rattle.ps_table.specs.Tableau.{cell_at, IsGrid};
+ghost use Rattle.ps_table.specs.Places.{IsWide, IsNewPlace, new_part, IsWideAt, IsRefusedAt, IsNarrow, IsNarrowPart};
 
 use crate::at_place::{plus_at, times_at};
 use crate::cells::cell;
 use crate::error::TableError;
 use crate::place::{Place, WideAt};
-use ps_frac::Fraction;
+use ps_frac::{Fraction, Op};
 use std::alloc::Global;
 
 /// The home of row `m` in row `i`, times the new world's entry of row `m`.
@@ -27,6 +26,7 @@ fn new_product(
     requires m_in { m < rows }
     requires count { length entries.now ≡ rows }
     ensures value { IfOk result (λ r. r ≡ new_part (cell_at rows cells.now) entries.now i m) }
+    ensures narrow { IfOk result (λ _. ¬ IsWide Op.Mul (cell_at rows cells.now i (suc m)) (fraction (get_or entries.now m (pos 0)) 1)) }
     ensures refused { IfErr result (IsWideAt (IsNewPlace rows (cell_at rows cells.now) entries.now)) }
 {
     let place = Place::NewTimes {
@@ -53,6 +53,7 @@ fn new_sum(
     requires sum { sum.now ≡ sum_to m (new_part (cell_at rows cells.now) entries.now i) }
     requires product { product.now ≡ new_part (cell_at rows cells.now) entries.now i m }
     ensures value { IfOk result (λ r. r ≡ sum_to (suc m) (new_part (cell_at rows cells.now) entries.now i)) }
+    ensures narrow { IfOk result (λ _. ¬ IsWide Op.Add (sum_to m (new_part (cell_at rows cells.now) entries.now i)) (new_part (cell_at rows cells.now) entries.now i m)) }
     ensures refused { IfErr result (IsWideAt (IsNewPlace rows (cell_at rows cells.now) entries.now)) }
 {
     let place = Place::NewPlus {
@@ -74,6 +75,7 @@ fn new_entry(
     requires i_in { i < rows }
     requires count { length entries.now ≡ rows }
     ensures value { IfOk result (λ r. r ≡ sum_to rows (new_part (cell_at rows cells.now) entries.now i)) }
+    ensures narrow { IfOk result (λ _. (m : ℕ) → m < rows → IsNarrowPart (cell_at rows cells.now) entries.now i m) }
     ensures refused { IfErr result (IsWideAt (IsNewPlace rows (cell_at rows cells.now) entries.now)) }
 {
     let mut sum = Fraction::new(0, 1);
@@ -96,6 +98,7 @@ pub(crate) fn new_column(
     requires count { length entries.now ≡ rows }
     ensures count { IfOk result (λ v. length v.items ≡ rows) }
     ensures value { IfOk result (λ v. (i : ℕ) → i < rows → get_or v.items i zero_q ≡ sum_to rows (new_part (cell_at rows cells.now) entries.now i)) }
+    ensures narrow { IfOk result (λ _. IsNarrow (IsNewPlace rows (cell_at rows cells.now) entries.now)) }
     ensures refused { IfErr result (IsRefusedAt (IsNewPlace rows (cell_at rows cells.now) entries.now)) }
 {
     let mut made = Vec::new(alloc);

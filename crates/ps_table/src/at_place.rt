@@ -1,8 +1,7 @@
 //! Operations on fractions that name their place where they are refused.
-ghost use Rattle.std.specs.Prelude.{◌≡◌, ◌≢◌, ℕ, suc, ◌+◌, ◌-◌, ◌*◌, ◌/◌, ◌%◌, ◌^◌, ◌<◌, ◌≤◌, ◌↔◌, List, [], ◌∷◌, ◌++◌, true, false, length, get_or, pos, negsuc, ◌≤ℤ◌, IfOk, IfErr, IsErr, IsTrue};
-ghost use Rattle.ps_rational.specs.Rational.{Rational, fraction, add, mul, neg, sub, div, inverse, zero_q};
+ghost use Rattle.std.specs.Prelude.{◌≡◌, ◌≢◌, ◌↔◌, IfOk, IfErr, IsErr};
+ghost use Rattle.ps_rational.specs.Rational.{add, mul, neg, sub, div, inverse, zero_q};
 ghost use Rattle.ps_rational.specs.Wide.{SumIsWide, ProductIsWide};
-ghost use Rattle.ps_rational.specs.Sums.{sum_to};
 
 use crate::place::{Place, WideAt};
 use ps_frac::{Fraction, Op, Wide};

@@ -1,10 +1,6 @@
 //! Cells of columns that stand one after the other.
-ghost use Rattle.std.specs.Prelude.{◌≡◌, ◌≢◌, ℕ, suc, ◌+◌, ◌-◌, ◌*◌, ◌/◌, ◌%◌, ◌^◌, ◌<◌, ◌≤◌, ◌↔◌, List, [], ◌∷◌, ◌++◌, true, false, length, get_or, pos, negsuc, ◌≤ℤ◌, IfOk, IfErr, IsErr, IsTrue};
-ghost use Rattle.ps_rational.specs.Rational.{Rational, fraction, add, mul, neg, sub, div, inverse, zero_q};
-ghost use Rattle.ps_rational.specs.Wide.{SumIsWide, ProductIsWide};
-ghost use Rattle.ps_rational.specs.Sums.{sum_to};
-ghost use Rattle.ps_table.specs.Tableau.{Tableau, spot, spot_of, IsInside, IsShown, cell_at, entry_at, basic_at, pivot_cell, IsGrid, IsTableau, StandsFor, IsPivot, HasCosts, HasSmallCosts, IsAdded, IsColumn, cost_number, cost_at, part_at, carried_to};
-ghost use Rattle.ps_table.specs.Places.{IsWide, IsPivotPlace, IsNewPlace, new_part, IsWideAt, IsRefusedAt, IsCostWide};
+ghost use Rattle.std.specs.Prelude.{◌≡◌, ℕ, suc, ◌+◌, ◌*◌, ◌^◌, ◌<◌, ◌≤◌, length};
+ghost use Rattle.ps_table.specs.Tableau.{spot, spot_of, IsInside, IsShown, cell_at};
 
 use crate::place::TableCol;
 use ps_frac::Fraction;

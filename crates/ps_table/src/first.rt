@@ -1,9 +1,7 @@
 //! The first table.
-ghost use Rattle.std.specs.Prelude.{◌≡◌, ◌≢◌, ℕ, suc, ◌+◌, ◌-◌, ◌*◌, ◌/◌, ◌%◌, ◌^◌, ◌<◌, ◌≤◌, ◌↔◌, List, [], ◌∷◌, ◌++◌, true, false, length, get_or, pos, negsuc, ◌≤ℤ◌, IfOk, IfErr, IsErr, IsTrue};
-ghost use Rattle.ps_rational.specs.Rational.{Rational, fraction, add, mul, neg, sub, div, inverse, zero_q};
-ghost use Rattle.ps_rational.specs.Wide.{SumIsWide, ProductIsWide};
-ghost use Rattle.ps_rational.specs.Sums.{sum_to};
-ghost use Rattle.ps_basis.specs.Table.{unit_at, HasHomes};
+ghost use Rattle.std.specs.Prelude.{◌≡◌, ℕ, suc, ◌-◌, ◌*◌, ◌/◌, ◌%◌, ◌<◌, ◌≤◌, length, get_or, IfOk};
+ghost use Rattle.ps_rational.specs.Rational.{zero_q};
+ghost use Rattle.ps_basis.specs.Table.{unit_at};
 
 use ps_frac::Fraction;
 use ps_io::NoMemory;

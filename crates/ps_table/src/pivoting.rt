@@ -1,16 +1,14 @@
 //! The cells after a pivot.
-ghost use Rattle.std.specs.Prelude.{◌≡◌, ◌≢◌, ℕ, suc, ◌+◌, ◌-◌, ◌*◌, ◌/◌, ◌%◌, ◌^◌, ◌<◌, ◌≤◌, ◌↔◌, List, [], ◌∷◌, ◌++◌, true, false, length, get_or, pos, negsuc, ◌≤ℤ◌, IfOk, IfErr, IsErr, IsTrue};
-ghost use Rattle.ps_rational.specs.Rational.{Rational, fraction, add, mul, neg, sub, div, inverse, zero_q};
-ghost use Rattle.ps_rational.specs.Wide.{SumIsWide, ProductIsWide};
-ghost use Rattle.ps_rational.specs.Sums.{sum_to};
-ghost use Rattle.ps_table.specs.Tableau.{Tableau, spot, spot_of, IsInside, IsShown, cell_at, entry_at, basic_at, pivot_cell, IsGrid, IsTableau, StandsFor, IsPivot, HasCosts, HasSmallCosts, IsAdded, IsColumn, cost_number, cost_at, part_at, carried_to};
-ghost use Rattle.ps_table.specs.Places.{IsWide, IsPivotPlace, IsNewPlace, new_part, IsWideAt, IsRefusedAt, IsCostWide};
+ghost use Rattle.std.specs.Prelude.{◌≡◌, ◌≢◌, ℕ, suc, ◌+◌, ◌/◌, ◌%◌, ◌<◌, length, get_or, IfOk, IfErr};
+ghost use Rattle.ps_rational.specs.Rational.{mul, sub, div, zero_q};
+ghost use Rattle.ps_table.specs.Tableau.{cell_at, pivot_cell, IsGrid};
+ghost use Rattle.ps_table.specs.Places.{IsWide, IsPivotPlace, IsWideAt, IsRefusedAt, IsNarrow, IsNarrowCell};
 
 use crate::at_place::{divided_at, minus_at, times_at};
 use crate::cells::{cell, shown};
 use crate::error::TableError;
 use crate::place::{Place, WideAt};
-use ps_frac::Fraction;
+use ps_frac::{Fraction, Op};
 use std::alloc::Global;
 
 /// The cell of row `p` and column `j` after a pivot in row `p` and column `q`, whose entry there is `by`.
@@ -30,6 +28,7 @@ fn scaled_cell(
     requires by { by.now ≡ cell_at rows cells.now p q }
     requires pivot { by.now ≢ zero_q }
     ensures value { IfOk result (λ r. r ≡ div (cell_at rows cells.now p j) (cell_at rows cells.now p q)) }
+    ensures narrow { IfOk result (λ _. ¬ IsWide Op.Div (cell_at rows cells.now p j) (cell_at rows cells.now p q)) }
     ensures refused { IfErr result (IsWideAt (IsPivotPlace rows worlds (cell_at rows cells.now) p q)) }
 {
     let place = Place::Scale {
@@ -54,6 +53,7 @@ fn scaled_row(
     requires pivot { cell_at rows cells.now p q ≢ zero_q }
     ensures count { IfOk result (λ v. length v.items ≡ suc (rows + worlds)) }
     ensures value { IfOk result (λ v. (j : ℕ) → j < suc (rows + worlds) → get_or v.items j zero_q ≡ div (cell_at rows cells.now p j) (cell_at rows cells.now p q)) }
+    ensures narrow { IfOk result (λ _. (j : ℕ) → j < suc (rows + worlds) → ¬ IsWide Op.Div (cell_at rows cells.now p j) (cell_at rows cells.now p q)) }
     ensures refused { IfErr result (IsRefusedAt (IsPivotPlace rows worlds (cell_at rows cells.now) p q)) }
 {
     let by = cell(cells, rows, p, q);
@@ -84,6 +84,7 @@ fn lost(
     requires j_in { j < suc (rows + worlds) }
     requires scaled { scaled.now ≡ div (cell_at rows cells.now p j) (cell_at rows cells.now p q) }
     ensures value { IfOk result (λ r. r ≡ mul (cell_at rows cells.now i q) (div (cell_at rows cells.now p j) (cell_at rows cells.now p q))) }
+    ensures narrow { IfOk result (λ _. ¬ IsWide Op.Mul (cell_at rows cells.now i q) (div (cell_at rows cells.now p j) (cell_at rows cells.now p q))) }
     ensures refused { IfErr result (IsWideAt (IsPivotPlace rows worlds (cell_at rows cells.now) p q)) }
 {
     let place = Place::Times {
@@ -111,6 +112,7 @@ fn reduced(
     requires j_in { j < suc (rows + worlds) }
     requires lost { lost.now ≡ mul (cell_at rows cells.now i q) (div (cell_at rows cells.now p j) (cell_at rows cells.now p q)) }
     ensures value { IfOk result (λ r. r ≡ sub (cell_at rows cells.now i j) (mul (cell_at rows cells.now i q) (div (cell_at rows cells.now p j) (cell_at rows cells.now p q)))) }
+    ensures narrow { IfOk result (λ _. ¬ IsWide Op.Sub (cell_at rows cells.now i j) (mul (cell_at rows cells.now i q) (div (cell_at rows cells.now p j) (cell_at rows cells.now p q)))) }
     ensures refused { IfErr result (IsWideAt (IsPivotPlace rows worlds (cell_at rows cells.now) p q)) }
 {
     let place = Place::Minus {
@@ -139,6 +141,7 @@ fn new_cell(
     requires count { length scaled.now ≡ suc (rows + worlds) }
     requires scaled { (k : ℕ) → k < suc (rows + worlds) → get_or scaled.now k zero_q ≡ div (cell_at rows cells.now p k) (cell_at rows cells.now p q) }
     ensures value { IfOk result (λ r. r ≡ pivot_cell (cell_at rows cells.now) p q i j) }
+    ensures narrow { IfOk result (λ _. i ≢ p → IsNarrowCell (cell_at rows cells.now) p q i j) }
     ensures refused { IfErr result (IsWideAt (IsPivotPlace rows worlds (cell_at rows cells.now) p q)) }
 {
     if i == p {
@@ -163,6 +166,7 @@ pub(crate) fn pivoted_cells(
     requires pivot { cell_at rows cells.now p q ≢ zero_q }
     ensures count { IfOk result (λ v. length v.items ≡ length cells.now) }
     ensures value { IfOk result (λ v. (k : ℕ) → k < length cells.now → get_or v.items k zero_q ≡ pivot_cell (cell_at rows cells.now) p q (k % rows) (k / rows)) }
+    ensures narrow { IfOk result (λ _. IsNarrow (IsPivotPlace rows worlds (cell_at rows cells.now) p q)) }
     ensures refused { IfErr result (IsRefusedAt (IsPivotPlace rows worlds (cell_at rows cells.now) p q)) }
 {
     let scaled = scaled_row(alloc, cells, rows, worlds, p, q)?;

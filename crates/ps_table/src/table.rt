@@ -1,11 +1,9 @@
 //! The table of a basis.
-ghost use Rattle.std.specs.Prelude.{◌≡◌, ◌≢◌, ℕ, suc, ◌+◌, ◌-◌, ◌*◌, ◌/◌, ◌%◌, ◌^◌, ◌<◌, ◌≤◌, ◌↔◌, List, [], ◌∷◌, ◌++◌, true, false, length, get_or, pos, negsuc, ◌≤ℤ◌, IfOk, IfErr, IsErr, IsTrue};
-ghost use Rattle.ps_rational.specs.Rational.{Rational, fraction, add, mul, neg, sub, div, inverse, zero_q};
-ghost use Rattle.ps_rational.specs.Wide.{SumIsWide, ProductIsWide};
-ghost use Rattle.ps_rational.specs.Sums.{sum_to};
+ghost use Rattle.std.specs.Prelude.{◌≡◌, ◌≢◌, ℕ, suc, ◌+◌, ◌-◌, ◌^◌, ◌<◌, ◌≤◌, length, get_or, IfOk, IfErr};
+ghost use Rattle.ps_rational.specs.Rational.{Rational, zero_q};
 ghost use Rattle.ps_basis.specs.Table.{unit_at, HasHomes};
-ghost use Rattle.ps_table.specs.Tableau.{Tableau, spot, spot_of, IsInside, IsShown, cell_at, entry_at, basic_at, pivot_cell, IsGrid, IsTableau, StandsFor, IsPivot, HasCosts, HasSmallCosts, IsAdded, IsColumn, cost_number, cost_at, part_at, carried_to};
-ghost use Rattle.ps_table.specs.Places.{IsWide, IsPivotPlace, IsNewPlace, new_part, IsWideAt, IsRefusedAt, IsCostWide};
+ghost use Rattle.ps_table.specs.Tableau.{Tableau, spot, IsInside, entry_at, IsTableau, StandsFor, IsPivot, HasCosts, IsAdded, IsColumn, cost_at, part_at, carried_to};
+ghost use Rattle.ps_table.specs.Places.{IsPivotPlace, IsNewPlace, IsRefusedAt, IsCostWide, IsNarrow, IsCostPlace};
 
 use crate::adding::new_column;
 use crate::at_place::plus_at;
@@ -125,6 +123,7 @@ impl Table {
         requires costs { HasCosts costs.now self.now }
         requires col { IsInside (length self.now.kinds) self.now.worlds col }
         ensures value { IfOk result (λ r. r ≡ carried_to self.now costs.now (spot (length self.now.kinds) col) (length self.now.kinds)) }
+        ensures narrow { IfOk result (λ _. IsNarrow (IsCostPlace self.now costs.now col)) }
         ensures refused { IfErr result (IsCostWide self.now costs.now col) }
     {
         let mut sum = Fraction::new(0, 1);
@@ -169,6 +168,7 @@ impl Table {
         requires costs { HasCosts costs.now self.now }
         requires row { row < length self.now.kinds }
         ensures value { IfOk result (λ r. r ≡ carried_to self.now costs.now (suc row) (length self.now.kinds)) }
+        ensures narrow { IfOk result (λ _. IsNarrow (IsCostPlace self.now costs.now (Col.Home row))) }
         ensures refused { IfErr result (IsCostWide self.now costs.now (Col.Home row)) }
     {
         self.carried(costs, Col::Home(row))
@@ -181,6 +181,7 @@ impl Table {
         ensures number { IfOk result (λ n. n ≡ self.old.worlds + 1) }
         ensures added { IfOk result (λ _. IsAdded entries.now self.old self.new) }
         ensures stands { IfOk result (λ _. (A : ℕ → ℕ → Rational) → IsColumn entries.now (length self.old.kinds) (suc (length self.old.kinds + self.old.worlds)) A → StandsFor A self.old → StandsFor A self.new) }
+        ensures narrow { IfOk result (λ _. IsNarrow (IsNewPlace (length self.old.kinds) (entry_at self.old) entries.now)) }
         ensures refused { IfErr result (IsRefusedAt (IsNewPlace (length self.old.kinds) (entry_at self.old) entries.now)) }
         ensures same { IfErr result (λ _. self.new ≡ self.old) }
     {
@@ -203,6 +204,7 @@ impl Table {
         requires pivot { entry_at self.old row (spot (length self.old.kinds) col) ≢ zero_q }
         ensures pivot { IfOk result (λ _. IsPivot row col self.old self.new) }
         ensures stands { IfOk result (λ _. (A : ℕ → ℕ → Rational) → StandsFor A self.old → StandsFor A self.new) }
+        ensures narrow { IfOk result (λ _. IsNarrow (IsPivotPlace (length self.old.kinds) self.old.worlds (entry_at self.old) row (spot (length self.old.kinds) col))) }
         ensures refused { IfErr result (IsRefusedAt (IsPivotPlace (length self.old.kinds) self.old.worlds (entry_at self.old) row (spot (length self.old.kinds) col))) }
         ensures same { IfErr result (λ _. self.new ≡ self.old) }
     {

@@ -1,6 +1,5 @@
 use Rattle.std.proofs.Common.{◌≡◌, pos, negsuc, arith, ◌∙◌}
 use Rattle.std.proofs.lemmas.Int.{ints}
-use Rattle.ps_rational.specs.Rational.{fraction, mul}
 use Rattle.ps_table.proofs.Columns.{cost_of_one, cost_of_zero, cost_of_minus_one}
 use Rattle.ps_table.proofs.costs.cost_times.Goals as goal
 

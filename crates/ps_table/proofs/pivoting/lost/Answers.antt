@@ -3,6 +3,8 @@ use Rattle.ps_rational.specs.Rational.{div}
 use Rattle.ps_table.specs.Tableau.{cell_at}
 use Rattle.ps_table.specs.Places.{IsPivotPlace}
 use Rattle.ps_table.proofs.Columns.{refused_at, cell_within}
+use Rattle.ps_table.proofs.Narrow.{narrow_as}
+use Rattle.ps_frac.specs.declared.fraction.Op.TheVariants.{Mul}
 use Rattle.ps_table.proofs.pivoting.lost.Goals as goal
 
 pub returns-clause-refused : goal.returns-clause-refused
@@ -14,3 +16,6 @@ returns-clause-refused c =
 
 pub cell-requires : goal.cell-requires
 cell-requires c = cell_within c.args.i c.args.q c.args.rows (suc (c.args.rows + c.args.worlds)) _ c.requires.i_in c.requires.q_in c.requires.grid.size
+
+pub returns-clause-narrow : goal.returns-clause-narrow
+returns-clause-narrow c = narrow_as c.times_at.result Mul _ _ _ _ c.cell.ensures.value c.requires.scaled c.times_at.ensures.wide.1

@@ -4,6 +4,8 @@ use Rattle.ps_rational.specs.Rational.{mul}
 use Rattle.ps_table.specs.Tableau.{cell_at}
 use Rattle.ps_table.specs.Places.{IsPivotPlace}
 use Rattle.ps_table.proofs.Columns.{refused_at, cell_within}
+use Rattle.ps_table.proofs.Narrow.{narrow_as}
+use Rattle.ps_frac.specs.declared.fraction.Op.TheVariants.{Sub}
 use Rattle.ps_table.proofs.pivoting.reduced.Goals as goal
 
 pub returns-clause-refused : goal.returns-clause-refused
@@ -15,3 +17,6 @@ returns-clause-refused c =
 
 pub cell-requires : goal.cell-requires
 cell-requires c = cell_within c.args.i c.args.j c.args.rows (suc (c.args.rows + c.args.worlds)) _ c.requires.i_in c.requires.j_in c.requires.grid.size
+
+pub returns-clause-narrow : goal.returns-clause-narrow
+returns-clause-narrow c = narrow_as c.minus_at.result Sub _ _ _ _ c.cell.ensures.value c.requires.lost c.minus_at.ensures.wide.1

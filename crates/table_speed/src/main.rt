@@ -1,0 +1,177 @@
+//! How fast a table is pivoted. The word is a count of pivots of a table of 101 rows and 401 columns; it
+//! writes a checksum of the entries, and the time is taken from outside.
+#![tactic(auto)]
+
+use ps_frac::Fraction;
+use ps_pool::Col;
+use ps_table::{Home, Table};
+use std::alloc::Global;
+use std::env;
+
+/// How many rows the table has.
+const ROWS: u32 = 101;
+
+/// How many worlds have a column.
+const WORLDS: u32 = 300;
+
+/// Small numbers, drawn from a fixed sequence.
+#[derive(Drop)]
+struct Draw {
+    state: u64,
+}
+
+impl Draw {
+    /// A number from -9 to 9.
+    fn next(&mut self) -> i64 {
+        self.state = self
+            .state
+            .wrapping_mul(6364136223846793005)
+            .wrapping_add(1442695040888963407);
+        ((self.state >> 33) % 19) as i64 - 9
+    }
+}
+
+/// The homes of the rows, of which the first is artificial.
+fn homes(alloc: Global) -> anyhow::Result<Vec<Home>> {
+    let mut list = Vec::new(alloc);
+    list.push(Home::Artificial)?;
+    for _ in 1..ROWS {
+        list.push(Home::Slack)?;
+    }
+    Ok(list)
+}
+
+/// The entries of a world, one for each row.
+fn entries(alloc: Global, draw: &mut Draw) -> anyhow::Result<Vec<i64>> {
+    let mut list = Vec::new(alloc);
+    for _ in 0..ROWS {
+        list.push(draw.next())?;
+    }
+    Ok(list)
+}
+
+/// Adds the column of a world, where the entries are as many as the rows.
+fn added(table: &mut Table, entries: &[i64]) -> bool {
+    if entries.len() != table.rows() as usize || table.worlds() >= WORLDS {
+        return false;
+    }
+    table.add_world(entries).is_ok()
+}
+
+/// Makes a column basic in a row, where it is there and its entry isn't 0.
+fn pivoted(table: &mut Table, row: u32, col: Col) -> bool {
+    let inside = match col {
+        Col::Home(home) => home < table.rows(),
+        Col::World(world) => 0 < world && world <= table.worlds(),
+    };
+    if !inside || row >= table.rows() || table.entry(row, col).is_zero() {
+        return false;
+    }
+    table.pivot(row, col).is_ok()
+}
+
+/// What is kept of a sequence of entries.
+fn mixed(sum: u64, entry: &Fraction) -> u64 {
+    let over = entry.numerator().unsigned_abs() & 0xFFFF_FFFF;
+    let under = entry.denominator().unsigned_abs() & 0xFFFF_FFFF;
+    let sign = if entry.is_negative() { 7 } else { 3 };
+    sum.wrapping_mul(31)
+        .wrapping_add(over as u64)
+        .wrapping_add(under as u64)
+        .wrapping_add(sign)
+}
+
+/// A checksum of a row's value and entries.
+fn row_sum(table: &Table, row: u32, before: u64) -> u64 {
+    if row >= table.rows() {
+        return before;
+    }
+    let mut sum = mixed(before, &table.value(row));
+    for home in 0..table.rows() {
+        sum = mixed(sum, &table.entry(row, Col::Home(home)));
+    }
+    for world in 0..table.worlds() {
+        sum = mixed(sum, &table.entry(row, Col::World(world + 1)));
+    }
+    sum
+}
+
+/// A checksum of all entries.
+fn checksum(table: &Table) -> u64 {
+    let mut sum = 0u64;
+    for row in 0..table.rows() {
+        sum = row_sum(table, row, sum);
+    }
+    sum
+}
+
+/// The first pivots give the entries denominators; each further pair of pivots goes there and back.
+fn pivots(table: &mut Table, count: u64) -> u64 {
+    let mut made = 0u64;
+    for row in 1..4 {
+        if pivoted(table, row, Col::World(row)) {
+            made = made.wrapping_add(1);
+        }
+    }
+    for turn in 0..count {
+        let col = if turn % 2 == 0 {
+            Col::World(4)
+        } else {
+            Col::Home(4)
+        };
+        if pivoted(table, 4, col) {
+            made = made.wrapping_add(1);
+        }
+    }
+    made
+}
+
+/// How many pivots the words ask for.
+fn count_of(rt: &HostRuntime) -> anyhow::Result<u64> {
+    let mut count = 2u64;
+    let mut place = 0usize;
+    for word in env::args(rt)? {
+        if place == 1 {
+            if let Ok(number) = word.parse::<u64>() {
+                count = number;
+            }
+        }
+        place = place.wrapping_add(1);
+    }
+    Ok(count)
+}
+
+/// The table of the homes and the worlds.
+fn table(alloc: Global) -> anyhow::Result<Option<Table>> {
+    let homes = homes(alloc)?;
+    if homes.is_empty() || homes.len() > 101 {
+        return Ok(None);
+    }
+    let mut draw = Draw { state: 1 };
+    match Table::new(alloc, &homes) {
+        Ok(mut table) => {
+            for _ in 0..WORLDS {
+                let entries = entries(alloc, &mut draw)?;
+                if !added(&mut table, &entries) {
+                    return Ok(None);
+                }
+            }
+            Ok(Some(table))
+        }
+        Err(_) => Ok(None),
+    }
+}
+
+fn main(rt: HostRuntime) -> anyhow::Result<()> {
+    let alloc = rt.alloc();
+    let count = count_of(&rt)?;
+    match table(alloc)? {
+        Some(mut table) => {
+            println!(rt; "worlds {}", table.worlds())?;
+            println!(rt; "pivots {}", pivots(&mut table, count))?;
+            println!(rt; "entries {}", checksum(&table))?;
+        }
+        None => println!(rt; "no table")?,
+    }
+    Ok(())
+}
