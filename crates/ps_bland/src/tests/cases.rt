@@ -40,7 +40,7 @@ pub(crate) struct Case {
     pub(crate) stages: &'static [Stage],
 }
 
-pub(crate) const CASES: [Case; 18] = [
+pub(crate) const CASES: [Case; 20] = [
     // Pivots in each phase, and none left at the last rest.
     Case {
         homes: [Home::Artificial, Home::Slack, Home::Slack],
@@ -642,6 +642,93 @@ pub(crate) const CASES: [Case; 18] = [
                     (9223372036854775808, 18446744073709551615),
                 ],
                 basic: [Col::World(1), Col::World(2), Col::World(5)],
+            },
+        ],
+    },
+    // The same with no pivot left: no ratio is taken.
+    Case {
+        homes: [Home::Artificial, Home::Artificial, Home::Artificial],
+        worlds: &[
+            [1, -2, -9223372036854775808],
+            [1, 3, -9223372036854775808],
+            [1, 9223372036854775807, -9223372036854775808],
+            [1, -1, -1],
+            [1, 0, 9223372036854775807],
+        ],
+        query: &[0, 0, 1, 0, 0],
+        limit: 3,
+        stages: &[
+            Stage {
+                phase: Phase::One,
+                end: End::Settled(Settled::Feasible),
+                pivots: &[(Col::World(5), 2), (Col::World(1), 0), (Col::World(2), 1)],
+                left: 0,
+                values: [
+                    (9223372036854775807, 30744573456182586025),
+                    (18446744073709551614, 92233720368547758075),
+                    (9223372036854775808, 18446744073709551615),
+                ],
+                basic: [Col::World(1), Col::World(2), Col::World(5)],
+            },
+            Stage {
+                phase: Phase::Lower,
+                end: End::Settled(Settled::AtRest),
+                pivots: &[],
+                left: 0,
+                values: [
+                    (9223372036854775807, 30744573456182586025),
+                    (18446744073709551614, 92233720368547758075),
+                    (9223372036854775808, 18446744073709551615),
+                ],
+                basic: [Col::World(1), Col::World(2), Col::World(5)],
+            },
+            Stage {
+                phase: Phase::Upper,
+                end: End::Settled(Settled::OutOfPivots),
+                pivots: &[],
+                left: 0,
+                values: [
+                    (9223372036854775807, 30744573456182586025),
+                    (18446744073709551614, 92233720368547758075),
+                    (9223372036854775808, 18446744073709551615),
+                ],
+                basic: [Col::World(1), Col::World(2), Col::World(5)],
+            },
+        ],
+    },
+    // A quotient of the second pivot for the least value is too wide.
+    Case {
+        homes: [Home::Artificial, Home::Slack, Home::Artificial],
+        worlds: &[
+            [1, -1099511627776, -9223372036854775808],
+            [1, -9223372036854775808, 0],
+            [1, 9223372036854775807, 2],
+        ],
+        query: &[1, 1, 0],
+        limit: 9,
+        stages: &[
+            Stage {
+                phase: Phase::One,
+                end: End::Settled(Settled::Feasible),
+                pivots: &[(Col::World(2), 0)],
+                left: 8,
+                values: [(1, 1), (9223372036854775808, 1), (0, 1)],
+                basic: [Col::World(2), Col::Home(1), Col::Home(2)],
+            },
+            Stage {
+                phase: Phase::Lower,
+                end: End::Wide {
+                    place: Place::Scale {
+                        col: TableCol::Of(Col::Home(2)),
+                    },
+                    op: Op::Div,
+                    left: (-18446744073709551615, 2),
+                    right: (85070591730234615870455336776857812992, 1),
+                },
+                pivots: &[(Col::World(3), 2)],
+                left: 7,
+                values: [(1, 1), (9223372036854775808, 1), (0, 1)],
+                basic: [Col::World(2), Col::Home(1), Col::World(3)],
             },
         ],
     },
