@@ -51,16 +51,27 @@ fn take(alloc: Global, scanner: &mut Scanner, byte: u8, told: &mut String) -> Re
     Ok(())
 }
 
-// What is told of a text: each token with the line and the column where it begins, and the place where none begins.
-fn tokens_of(alloc: Global, text: &str) -> Result<String, Fail> {
-    let mut scanner = Scanner::new(alloc);
-    let mut told = String::new(alloc);
+// Takes a text, up to a place where no token begins.
+fn take_all(
+    alloc: Global,
+    scanner: &mut Scanner,
+    text: &str,
+    told: &mut String,
+) -> Result<(), Fail> {
     for &byte in text.as_bytes() {
-        take(alloc, &mut scanner, byte, &mut told)?;
+        take(alloc, scanner, byte, told)?;
         if scanner.bad().is_some() {
             break;
         }
     }
+    Ok(())
+}
+
+// What is told of a text: each token with the line and the column where it begins, and the place where none begins.
+fn tokens_of(alloc: Global, text: &str) -> Result<String, Fail> {
+    let mut scanner = Scanner::new(alloc);
+    let mut told = String::new(alloc);
+    take_all(alloc, &mut scanner, text, &mut told)?;
     let began = scanner.began();
     let bad = scanner.last_bad();
     if let Some(token) = scanner.finish() {
@@ -192,7 +203,8 @@ fn places(rt: HostRuntime) -> Result<(), Fail> {
         ("a\r\n\n<", (3, 1), (3, 2)),
     ];
     for (text, began, here) in cases {
-        let scanner = scanned(rt.alloc(), text)?;
+        let mut scanner = Scanner::new(rt.alloc());
+        take_all(rt.alloc(), &mut scanner, text, &mut String::new(rt.alloc()))?;
         assert!(rt; (scanner.began().line, scanner.began().column) == began);
         assert!(rt; (scanner.here().line, scanner.here().column) == here);
     }
