@@ -1,5 +1,5 @@
 -- What one more byte does.
-use Rattle.std.specs.Prelude.{◌≡◌, ℕ, ◌+◌, ◌<◌, ◌≤◌, min, nat_lt, ◌==◌, if◌then◌else◌, List, [], ◌∷◌, ◌++◌, length, Option, Some, None}
+use Rattle.std.specs.Prelude.{ℕ, ◌+◌, ◌≤◌, min, nat_lt, ◌==◌, if◌then◌else◌, List, [], ◌∷◌, ◌++◌, length, Option, Some, None}
 use Rattle.ps_text.specs.Tokens.{is_letter, is_digit, is_word_byte}
 use Rattle.ps_text.specs.Pieces.{is_blank}
 use Rattle.ps_scan.specs.declared.digits.Digits.{Digits}
