@@ -46,7 +46,7 @@ impl Scanner {
     }
 
     /// Takes one more byte, and answers the token that ended before it. Where memory runs out, the byte isn't taken, and
-    /// what was begun is lost.
+    /// what was begun is lost. Lines and columns go up to 2^32 - 1.
     #[tactic(auto, unfolding(crate::specs::Scanning::token_ended, crate::specs::Scanning::with_byte))]
     pub fn take(&mut self, byte: u8) -> Result<Option<Token>, NoMemory>
         requires room { IsWithin (2 ^ 32 - 2) self.old.here }
