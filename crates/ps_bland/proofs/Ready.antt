@@ -10,7 +10,8 @@ use Rattle.ps_rational.proofs.Order.{at_most_mul, nonneg-add, nonneg-mul, nonneg
 use Rattle.ps_rational.proofs.Whole.{whole_nonneg}
 use Rattle.std.proofs.Math.ListN.{get_or-append}
 use Rattle.std.proofs.Common.{get_or-append-add, ◌++◌}
-use Rattle.ps_basis.specs.Table.{unit_at}
+use Rattle.ps_basis.specs.Table.{unit_at, Belongs}
+use Rattle.ps_basis.proofs.PivotKeeps.{swapped}
 use Rattle.ps_basis.proofs.Units.{unit_at-same, unit_at-other}
 use Rattle.std.proofs.Common.{List, ◌≤◌, ◌-◌}
 use Rattle.ps_table.specs.Tableau.{HasCosts}
@@ -19,11 +20,11 @@ use Rattle.ps_rule.specs.Rule.{Second, Improves, IsFeasible, IsArtificialRow, Ha
 use Rattle.ps_table.specs.declared.costs.Costs.{Costs}
 use Rattle.ps_pool.specs.declared.col.Col.{Col}
 use Rattle.ps_pool.specs.declared.col.Col.TheVariants as col
-use Rattle.ps_table.specs.Tableau.{Tableau, IsTableau, IsInside, IsPivot, IsAdded, basic_at, entry_at, cost_at, spot, StandsFor}
+use Rattle.ps_table.specs.Tableau.{Tableau, IsTableau, IsInside, IsPivot, IsAdded, basic_at, entry_at, cost_at, spot}
 use Rattle.ps_table.proofs.Columns.{spot_within}
 use Rattle.ps_bland.specs.declared.phase.Phase.{Phase}
 use Rattle.ps_bland.specs.declared.phase.Phase.TheVariants.{One, Lower, Upper}
-use Rattle.ps_bland.specs.Runs.{face_of, artificial_at, stage, HasNoNegativeCost, HasUpperCosts, FitsPhase, IsReady, IsLawful, HasRising, CanLeave}
+use Rattle.ps_bland.specs.Runs.{face_of, artificial_at, stage, HasNoNegativeCost, HasUnitRow, BelongsTo, FitsPhase, IsReady, IsLawful, HasRising, CanLeave}
 use Rattle.ps_bland.proofs.Steps.{not_above, costs_kept}
 
 above_or_not_z : (z : ℤ) → (pos 0 <ℤ z) ⊎ (pos 0 ≤ℤ neg_ℤ z)
@@ -147,10 +148,27 @@ module _ (t u : Tableau) (enter : Col) (leave : ℕ) (ok : IsTableau t) (pivot :
   costs_not_negative : (costs : Costs) → HasNoNegativeCost costs t → HasNoNegativeCost costs u
   costs_not_negative costs h = record { cost = λ j a b. h.cost j a (subst (λ k. j < k) width_same b) }
 
-  upper_kept : (costs : Costs) → ((A : ℕ → ℕ → Rational) → StandsFor A t → StandsFor A u) → HasUpperCosts costs t → HasUpperCosts costs u
-  upper_kept costs stands h = record {
+  belongs_here : (A : ℕ → ℕ → Rational) → leave < n → q < w → entry_at t leave q ≢ zero_q → BelongsTo A t → Belongs n w A (basic_at u) (entry_at u)
+  belongs_here A hp hc hq belongs = λ m j hm hj.
+      swapped n leave (λ i. entry_at t i j) (λ i. entry_at t i q) (λ i. A m (basic_at t i)) (λ i. entry_at u i j) (λ i. A m (basic_at u i)) (entry_at u leave j) (A m q)
+      hp
+      refl
+      (ap (A m) pivot.based.here)
+      (ap (λ k. mul k (entry_at t leave q)) (pivot.cells.row j hj) ∙ div-mul (entry_at t leave j) (entry_at t leave q) hq)
+      (λ i h ne. pivot.cells.others i j h hj ne)
+      (λ i h ne. ap (A m) (pivot.based.others i h ne))
+      (belongs m q hm hc)
+      ∙ belongs m j hm hj
+
+  belongs_kept : (A : ℕ → ℕ → Rational) → leave < n → q < w → entry_at t leave q ≢ zero_q → BelongsTo A t → BelongsTo A u
+  belongs_kept A hp hc hq belongs =
+      subst (λ k. Belongs (length k) (suc (length k + u.worlds)) A (basic_at u) (entry_at u)) (sym pivot.kinds)
+      (subst (λ k. Belongs n (suc (n + k)) A (basic_at u) (entry_at u)) (sym pivot.worlds) (belongs_here A hp hc hq belongs))
+
+  upper_kept : (costs : Costs) → leave < n → q < w → entry_at t leave q ≢ zero_q → HasUnitRow costs t → HasUnitRow costs u
+  upper_kept costs hp hc hq h = record {
     columns = h.columns;
-    stands = stands h.columns h.stands;
+    belongs = belongs_kept h.columns hp hc hq h.belongs;
     row = λ j a b. h.row j a (subst (λ k. j < k) width_same b);
     cost = λ j a b. h.cost j a (subst (λ k. j < k) width_same b);
   }
@@ -160,16 +178,20 @@ module _ (t u : Tableau) (enter : Col) (leave : ℕ) (ok : IsTableau t) (pivot :
   all_values Lower costs fits values leaves = second_values fits.0 values leaves
   all_values Upper costs fits values leaves = second_values fits.0 values leaves
 
-  fits_kept : (phase : Phase) (costs : Costs) → ((A : ℕ → ℕ → Rational) → StandsFor A t → StandsFor A u) → FitsPhase phase costs t → artificial_at t.kinds q ≡ false → Leaves (stage phase) (face_of t) q leave → FitsPhase phase costs u
-  fits_kept One costs stands fits real leaves = costs_not_negative costs fits
-  fits_kept Lower costs stands fits real leaves = (second_feasible fits.0 real leaves, costs_not_negative costs fits.1)
-  fits_kept Upper costs stands fits real leaves = (second_feasible fits.0 real leaves, upper_kept costs stands fits.1)
+  leaving_filled : Leaves Second (face_of t) q leave → (leave < n) × (entry_at t leave q ≢ zero_q)
+  leaving_filled leaves = elim leaves [ inl row ↦ (row.row.within, row.row.entry) | inr least ↦ (least.1.rising.within, above_not_zero (entry_at t leave q) least.1.rising.above) ]
 
-  pub ready_kept : (phase : Phase) (costs : Costs) → IsReady phase costs t → IsLawful phase costs t enter leave → ((A : ℕ → ℕ → Rational) → StandsFor A t → StandsFor A u) → IsReady phase costs u
-  ready_kept phase costs ready lawful stands = record {
+  fits_kept : (phase : Phase) (costs : Costs) → FitsPhase phase costs t → Improves (face_of t) (cost_at costs) q → Leaves (stage phase) (face_of t) q leave → FitsPhase phase costs u
+  fits_kept One costs fits improves leaves = costs_not_negative costs fits
+  fits_kept Lower costs fits improves leaves = (second_feasible fits.0 improves.real leaves, costs_not_negative costs fits.1)
+  fits_kept Upper costs fits improves leaves =
+      let filled = leaving_filled leaves in (second_feasible fits.0 improves.real leaves, upper_kept costs filled.0 improves.within filled.1 fits.1)
+
+  pub ready_kept : (phase : Phase) (costs : Costs) → IsReady phase costs t → IsLawful phase costs t enter leave → IsReady phase costs u
+  ready_kept phase costs ready lawful = record {
     costs_there = costs_kept costs enter leave t u pivot ready.costs_there;
     values = λ i l. all_values phase costs ready.fits ready.values lawful.leaves i (subst (λ k. i < length k) pivot.kinds l);
-    fits = fits_kept phase costs stands ready.fits lawful.enters.improves.real lawful.leaves;
+    fits = fits_kept phase costs ready.fits lawful.enters.improves lawful.leaves;
   }
 
 -- ---- no ray
@@ -191,14 +213,14 @@ rising_first costs t q ok gain improves = λ none.
     (gain.cost q improves.column improves.within)
     improves.more
 
-rising_upper : (costs : Costs) (t : Tableau) (q : ℕ) → IsTableau t → HasUpperCosts costs t → Improves (face_of t) (cost_at costs) q → HasRising t q
+rising_upper : (costs : Costs) (t : Tableau) (q : ℕ) → IsTableau t → HasUnitRow costs t → Improves (face_of t) (cost_at costs) q → HasRising t q
 rising_upper costs t q ok upper improves = λ none.
     no_ray_upper (length t.kinds) (λ i. upper.columns 0 (basic_at t i)) (λ i. cost_at costs (basic_at t i)) (λ i. entry_at t i q) (upper.columns 0 q) (cost_at costs q)
     (λ i l. upper.row (basic_at t i) (basic_above t i ok l) (basic_within t i ok l))
     (λ i l. upper.cost (basic_at t i) (basic_above t i ok l) (basic_within t i ok l))
     (upper.row q improves.column improves.within)
     (upper.cost q improves.column improves.within)
-    (upper.stands.belongs 0 q ok.some improves.within)
+    (upper.belongs 0 q ok.some improves.within)
     (λ i l. not_above (entry_at t i q) (λ a. none i (record { within = l; above = a })))
     improves.more
 
@@ -209,7 +231,7 @@ can_leave Lower costs t q ok fits improves = λ none. rising_first costs t q ok 
 can_leave Upper costs t q ok fits improves = λ none. rising_upper costs t q ok fits.1 improves
 
 -- ---- how callers come to a ready table
-unit_nonneg : (i j : ℕ) → IsNonneg (unit_at i j)
+pub unit_nonneg : (i j : ℕ) → IsNonneg (unit_at i j)
 unit_nonneg i j =
     elim (cases_eq i j) [
       | inl e ↦ subst IsNonneg (sym (ap (unit_at i) (sym e) ∙ unit_at-same i)) (above_nonneg one_q one_above)

@@ -168,9 +168,13 @@ costs_kept costs enter leave t u pivot h = record {
   small = h.small;
 }
 
-pub due_refusal : (phase : Phase) (costs : Costs) (t : Tableau) (q : Col) (p : ℕ) → IsLawful phase costs t q p → (e : SettleError) → IsPivotRefusal t q p e → IsDueRefusal phase costs t e
-due_refusal phase costs t q p lawful (Wide w) h = at_pivot q p lawful h
-due_refusal phase costs t q p lawful NoMemory h = tt
+pub due_refusal : (phase : Phase) (costs : Costs) (t : Tableau) (left : ℕ) (q : Col) (p : ℕ) → 0 < left → IsLawful phase costs t q p → (e : SettleError) → IsPivotRefusal t q p e → IsDueRefusal phase costs t left e
+due_refusal phase costs t left q p some lawful (Wide w) h = at_pivot q p some lawful h
+due_refusal phase costs t left q p some lawful NoMemory h = record { enter = q; leave = p; lawful = lawful; some_left = some }
+
+pub refusal_same : (phase : Phase) (costs : Costs) (t u : Tableau) (trace longer : List Event) (had left : ℕ) (e : SettleError) → IsSame t u trace longer had left → IsDueRefusal phase costs t had e → IsDueRefusal phase costs u left e
+refusal_same phase costs t u trace longer had left e same h =
+    subst (λ (k : Tableau). IsDueRefusal phase costs k left e) (sym same.table_same) (subst (λ (k : ℕ). IsDueRefusal phase costs t k e) (sym same.left_same) h)
 
 pub settled_same : (phase : Phase) (costs : Costs) (t u : Tableau) (trace longer : List Event) (had left : ℕ) (s : Settled) → IsSame t u trace longer had left → IsSettled phase costs t had s → IsSettled phase costs u left s
 settled_same phase costs t u trace longer had left s same h =

@@ -1,7 +1,8 @@
 -- Lawful pivots one after the other, and how they end.
-use Rattle.std.specs.Prelude.{◌≡◌, ◌⊎◌, ℕ, suc, ◌+◌, ◌-◌, ◌<◌, Bool, true, false, List, [], ◌∷◌, ◌++◌, length, get_or, Option, Some, None, Result, Ok, Err}
+use Rattle.std.specs.Prelude.{◌≡◌, ◌⊎◌, ℕ, suc, ◌+◌, ◌-◌, ◌<◌, ◌≤◌, Bool, true, false, cond, List, [], ◌∷◌, ◌++◌, length, get_or, Option, Some, None, Result, Ok, Err}
 use Rattle.ps_rational.specs.Rational.{Rational, neg, zero_q, one_q}
 use Rattle.ps_rational.specs.Order.{IsNonneg}
+use Rattle.ps_basis.specs.Table.{Belongs}
 use Rattle.ps_frac.specs.declared.fraction.Op.TheVariants.{Div}
 use Rattle.ps_rule.specs.Rule.{Phase as RulePhase, First, Second, Face, Improves, IsFeasible, IsDueToEnd, IsMoving, IsResting, Enters, IsRising, IsArtificialRow, IsLeastArtificialRow, Precedes, Leaves}
 use Rattle.ps_rule.specs.Pivots.{System, Pivot as BasisPivot, Pivots}
@@ -110,16 +111,23 @@ abbrev pub IsLeftToRatios : RulePhase → Tableau → ℕ → Type 0
 IsLeftToRatios First t q = Unit {0}
 IsLeftToRatios Second t q = (i : ℕ) → IsArtificialRow (face_of t) q i → ⊥
 
--- the operands at a due place of the table, where they are too wide
-pub data IsDueWide (phase : Phase) (costs : Costs) (t : Tableau) (w : WideAt) : Type 0 where
-  at_cost : (IsDone phase t → ⊥) → IsEntryWide costs t w → IsDueWide phase costs t w
-  at_ratio : (q : Col) → (IsDone phase t → ⊥) → IsInside (length t.kinds) t.worlds q → Enters (face_of t) (cost_at costs) (spot (length t.kinds) q) → IsLeftToRatios (stage phase) t (spot (length t.kinds) q) → IsRatioWide t (spot (length t.kinds) q) w → IsDueWide phase costs t w
-  at_pivot : (q : Col) (p : ℕ) → IsLawful phase costs t q p → IsWideAt (IsPivotPlace (length t.kinds) t.worlds (entry_at t) p (spot (length t.kinds) q)) w → IsDueWide phase costs t w
+-- a pivot is due: there is one by the rule, and one is left
+pub record IsPivotDue (phase : Phase) (costs : Costs) (t : Tableau) (left : ℕ) : Type 0 where
+  pub enter : Col
+  pub leave : ℕ
+  pub lawful : IsLawful phase costs t enter leave
+  pub some_left : 0 < left
 
--- where it isn't want of memory
-abbrev pub IsDueRefusal : Phase → Costs → Tableau → SettleError → Type 0
-IsDueRefusal phase costs t (Wide w) = IsDueWide phase costs t w
-IsDueRefusal phase costs t NoMemory = Unit {0}
+-- the operands at a due place of the table, where they are too wide; ratios and pivots are due only while a pivot is left
+pub data IsDueWide (phase : Phase) (costs : Costs) (t : Tableau) (left : ℕ) (w : WideAt) : Type 0 where
+  at_cost : (IsDone phase t → ⊥) → IsEntryWide costs t w → IsDueWide phase costs t left w
+  at_ratio : (q : Col) → (IsDone phase t → ⊥) → 0 < left → IsInside (length t.kinds) t.worlds q → Enters (face_of t) (cost_at costs) (spot (length t.kinds) q) → IsLeftToRatios (stage phase) t (spot (length t.kinds) q) → IsRatioWide t (spot (length t.kinds) q) w → IsDueWide phase costs t left w
+  at_pivot : (q : Col) (p : ℕ) → 0 < left → IsLawful phase costs t q p → IsWideAt (IsPivotPlace (length t.kinds) t.worlds (entry_at t) p (spot (length t.kinds) q)) w → IsDueWide phase costs t left w
+
+-- a number of a due place is too wide, or a pivot that is due finds no memory
+abbrev pub IsDueRefusal : Phase → Costs → Tableau → ℕ → SettleError → Type 0
+IsDueRefusal phase costs t left (Wide w) = IsDueWide phase costs t left w
+IsDueRefusal phase costs t left NoMemory = IsPivotDue phase costs t left
 
 -- why a pivot is refused, where it isn't want of memory
 abbrev pub IsPivotRefusal : Tableau → Col → ℕ → SettleError → Type 0
@@ -152,21 +160,25 @@ pub record IsSame (old new : Tableau) (trace longer : List Event) (had left : �
 abbrev pub IsRound : Phase → Costs → Tableau → Tableau → List Event → List Event → ℕ → ℕ → Result (Option Settled) SettleError → Type 0
 IsRound phase costs old new trace longer had left (Ok None) = IsStep phase costs old new trace longer had left
 IsRound phase costs old new trace longer had left (Ok (Some s)) = IsSame old new trace longer had left × IsSettled phase costs old had s
-IsRound phase costs old new trace longer had left (Err e) = IsSame old new trace longer had left × IsDueRefusal phase costs old e
+IsRound phase costs old new trace longer had left (Err e) = IsSame old new trace longer had left × IsDueRefusal phase costs old had e
 
 -- an end, or a refusal at a due place of the table as it is left
 abbrev pub IsEnd : Phase → Costs → Tableau → ℕ → Result Settled SettleError → Type 0
 IsEnd phase costs t left (Ok s) = IsSettled phase costs t left s
-IsEnd phase costs t left (Err e) = IsDueRefusal phase costs t e
+IsEnd phase costs t left (Err e) = IsDueRefusal phase costs t left e
+
+-- the table belongs to these columns: its rows combine the basic ones to each
+abbrev pub BelongsTo : (ℕ → ℕ → Rational) → Tableau → Type 0
+BelongsTo columns t = Belongs (length t.kinds) (suc (length t.kinds + t.worlds)) columns (basic_at t) (entry_at t)
 
 -- no column has a cost below 0
 pub record HasNoNegativeCost (costs : Costs) (t : Tableau) : Type 0 where
   pub cost : (j : ℕ) → 0 < j → j < suc (length t.kinds + t.worlds) → IsNonneg (cost_at costs j)
 
--- the table stands for columns whose row 0 is never below 0, and 1 where the cost is -1
-pub record HasUpperCosts (costs : Costs) (t : Tableau) : Type 0 where
+-- the table belongs to columns whose row 0 is never below 0, and 1 where the cost is -1
+pub record HasUnitRow (costs : Costs) (t : Tableau) : Type 0 where
   pub columns : ℕ → ℕ → Rational
-  pub stands : StandsFor columns t
+  pub belongs : BelongsTo columns t
   pub row : (j : ℕ) → 0 < j → j < suc (length t.kinds + t.worlds) → IsNonneg (columns 0 j)
   pub cost : (j : ℕ) → 0 < j → j < suc (length t.kinds + t.worlds) → (cost_at costs j ≡ zero_q) ⊎ ((cost_at costs j ≡ neg one_q) × (columns 0 j ≡ one_q))
 
@@ -174,13 +186,40 @@ pub record HasUpperCosts (costs : Costs) (t : Tableau) : Type 0 where
 abbrev pub FitsPhase : Phase → Costs → Tableau → Type 0
 FitsPhase One costs t = HasNoNegativeCost costs t
 FitsPhase Lower costs t = IsFeasible (face_of t) × HasNoNegativeCost costs t
-FitsPhase Upper costs t = IsFeasible (face_of t) × HasUpperCosts costs t
+FitsPhase Upper costs t = IsFeasible (face_of t) × HasUnitRow costs t
+
+-- no value is below 0
+abbrev pub HasValues : Tableau → Type 0
+HasValues t = (i : ℕ) → i < length t.kinds → IsNonneg (entry_at t i 0)
 
 -- the condition of a phase
 pub record IsReady (phase : Phase) (costs : Costs) (t : Tableau) : Type 0 where
   pub costs_there : HasCosts costs t
-  pub values : (i : ℕ) → i < length t.kinds → IsNonneg (entry_at t i 0)
+  pub values : HasValues t
   pub fits : FitsPhase phase costs t
+
+-- an artificial costs 1, all else 0
+pub record HasFirstCosts (costs : Costs) (t : Tableau) : Type 0 where
+  pub cost : (j : ℕ) → 0 < j → j < suc (length t.kinds + t.worlds) → cost_at costs j ≡ cond (artificial_at t.kinds j) one_q zero_q
+
+-- homes cost 0, and each world 0 or this
+pub record HasWorldCosts (some : Rational) (costs : Costs) (t : Tableau) : Type 0 where
+  pub homes : (j : ℕ) → 0 < j → j ≤ length t.kinds → cost_at costs j ≡ zero_q
+  pub worlds : (j : ℕ) → length t.kinds < j → j < suc (length t.kinds + t.worlds) → (cost_at costs j ≡ zero_q) ⊎ (cost_at costs j ≡ some)
+
+-- the table belongs to columns whose row 0 is 0 or 1 on each world, 1 on each world of cost -1, and never below 0 on a home
+pub record HasWorldRow (costs : Costs) (t : Tableau) : Type 0 where
+  pub columns : ℕ → ℕ → Rational
+  pub belongs : BelongsTo columns t
+  pub homes : (j : ℕ) → 0 < j → j ≤ length t.kinds → IsNonneg (columns 0 j)
+  pub worlds : (j : ℕ) → length t.kinds < j → j < suc (length t.kinds + t.worlds) → (columns 0 j ≡ zero_q) ⊎ (columns 0 j ≡ one_q)
+  pub costly : (j : ℕ) → length t.kinds < j → j < suc (length t.kinds + t.worlds) → cost_at costs j ≡ neg one_q → columns 0 j ≡ one_q
+
+-- the costs that a phase is for: the artificials' values, the query's value, and the latter turned round
+abbrev pub IsPosed : Phase → Costs → Tableau → Type 0
+IsPosed One costs t = HasFirstCosts costs t
+IsPosed Lower costs t = IsFeasible (face_of t) × HasWorldCosts one_q costs t
+IsPosed Upper costs t = IsFeasible (face_of t) × HasWorldCosts (neg one_q) costs t × HasWorldRow costs t
 
 -- the entering column, or none
 abbrev pub IsEntering : Costs → Tableau → Option Col → Type 0

@@ -5,6 +5,7 @@ mod columns;
 mod entering;
 mod error;
 mod feasible;
+mod laws;
 mod leaving;
 mod phase;
 mod ratios;
@@ -12,6 +13,7 @@ mod settled;
 mod settling;
 
 pub use error::SettleError;
+pub use laws::ready_tables;
 pub use phase::Phase;
 pub use settled::Settled;
 pub use settling::settle;

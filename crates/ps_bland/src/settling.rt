@@ -80,7 +80,27 @@ fn step(
     Ok(None)
 }
 
-/// Lawful pivots until phase one ends, no column improves, or no pivot is left.
+/// Pivots by Bland's rule until an end (R. G. Bland, "New finite pivoting rules for the simplex
+/// method", Mathematics of Operations Research 2, 1977).
+///
+/// In each round the slack or world of least number that carries more than its cost enters; an
+/// artificial never does. In the phases `Lower` and `Upper` the least row leaves that has a basic
+/// artificial and an entry other than 0 in that column. Where there is none, and in phase `One`,
+/// a row of least ratio of value to entry leaves, among those with an entry above 0; of several
+/// the one whose basic column has the least number. A pivot lowers `left` by 1, and its event is
+/// appended to `trace`.
+///
+/// - `Feasible` comes in phase `One` alone, where each basic artificial has value 0.
+/// - Else `AtRest` comes where no column improves.
+/// - Else `OutOfPivots` comes where `left` is 0.
+///
+/// `Wide` names a place of the table as it is left, with the operands there: what a column
+/// carries, where no column before it improves, or, while a pivot is left, a ratio or a number of
+/// the pivot that is due. `NoMemory` comes only where a pivot is due. After either, table, `left`
+/// and `trace` are those after the last whole pivot.
+///
+/// A table is ready for a phase with the costs that `ready_tables` names, and stays so. Then a
+/// column that improves always has a row that leaves: no answer says that there is no bound.
 pub fn settle(
     table: &mut Table,
     costs: &Costs,
@@ -91,6 +111,8 @@ pub fn settle(
     requires { IsReady phase costs.now table.old }
     ensures ran { Ran phase costs.now table.old table.new trace.old trace.new left.old left.new }
     ensures end { IsEnd phase costs.now table.new left.new result }
+    ensures kinds { table.new.kinds ≡ table.old.kinds }
+    ensures worlds { table.new.worlds ≡ table.old.worlds }
     ensures ready { IsReady phase costs.now table.new }
     ensures stands { (A : ℕ → ℕ → Rational) → StandsFor A table.old → StandsFor A table.new }
 {

@@ -1,23 +1,30 @@
-//! Runs of phase one whose pivots and values were worked out by hand.
+//! Runs of all phases. The expected pivots and values were computed by hand and by another program.
 
-ghost use Rattle.std.specs.Prelude.{◌≡◌, ℕ, ◌<◌, ◌≤ℤ◌, length, get_or, pos, IsTrue};
+ghost use Rattle.std.specs.Prelude.{◌≡◌, ℕ, ◌<◌, ◌≤ℤ◌, [], length, get_or, pos, IsTrue, IfSome};
+ghost use Rattle.ps_rational.specs.Rational.{Rational};
 ghost use Rattle.ps_rational.specs.Order.{IsNonneg};
-ghost use Rattle.ps_table.specs.Tableau.{entry_at};
+ghost use Rattle.ps_table.specs.Tableau.{entry_at, StandsFor};
 ghost use Rattle.ps_bland.specs.Runs.{IsReady};
+ghost use Rattle.ps_bland.specs.Columns.{AreColumns};
 
-use crate::{Phase, Settled, settle};
+mod cases;
+
+use crate::feasible::is_due_to_end;
+use crate::{Phase, SettleError, Settled, settle};
+use cases::{CASES, Case, End, Stage};
 use ps_frac::Fraction;
-use ps_io::List;
+use ps_io::{List, NoMemory};
 use ps_pool::{Col, Event, Trace};
-use ps_table::{Costs, Home, Table};
+use ps_table::{CostList, Costs, Home, Table, WideAt};
+use std::alloc::Global;
 use std::test::Fail;
 
-fn are_small(costs: &[i8]) -> bool
-    ensures low { IsTrue result → (i : ℕ) → i < length costs.now → pos 0 ≤ℤ get_or costs.now i (pos 0) }
-    ensures high { IsTrue result → (i : ℕ) → i < length costs.now → get_or costs.now i (pos 0) ≤ℤ pos 1 }
+fn are_between(costs: &[i8], low: i8, high: i8) -> bool
+    ensures low { IsTrue result → (i : ℕ) → i < length costs.now → low ≤ℤ get_or costs.now i (pos 0) }
+    ensures high { IsTrue result → (i : ℕ) → i < length costs.now → get_or costs.now i (pos 0) ≤ℤ high }
 {
     for k in 0..costs.len() {
-        if costs[k] < 0 || costs[k] > 1 {
+        if costs[k] < low || costs[k] > high {
             return false;
         }
     }
@@ -35,6 +42,19 @@ fn are_values_at_least_zero(table: &Table) -> bool
     true
 }
 
+/// Whether row 0 has 1 on each world.
+fn begin_with_one(worlds: &[[i64; 3]]) -> bool
+    ensures { IsTrue result → (k : ℕ) → k < length worlds.now → get_or (get_or worlds.now k []) 0 (pos 0) ≡ pos 1 }
+{
+    for k in 0..worlds.len() {
+        let world = worlds[k];
+        if world[0] != 1 {
+            return false;
+        }
+    }
+    true
+}
+
 fn is_ready(table: &Table, costs: &Costs) -> bool
     ensures { IsTrue result → IsReady Phase.One costs.now table.now }
 {
@@ -42,9 +62,228 @@ fn is_ready(table: &Table, costs: &Costs) -> bool
     let worlds = costs.worlds.as_slice();
     homes.len() == table.rows() as usize
         && worlds.len() >= table.worlds() as usize
-        && are_small(homes)
-        && are_small(worlds)
+        && are_between(homes, 0, 1)
+        && are_between(worlds, 0, 1)
         && are_values_at_least_zero(table)
+}
+
+fn is_ready_below(table: &Table, costs: &Costs) -> bool
+    ensures { IsTrue result → IsReady Phase.Lower costs.now table.now }
+{
+    is_ready(table, costs) && is_due_to_end(Phase::One, table)
+}
+
+fn is_ready_above(table: &Table, costs: &Costs, entries: &[[i64; 3]]) -> bool
+    requires { (A : ℕ → ℕ → Rational) → AreColumns 3 entries.now A → StandsFor A table.now }
+    ensures { IsTrue result → IsReady Phase.Upper costs.now table.now }
+{
+    let homes = costs.homes.as_slice();
+    let worlds = costs.worlds.as_slice();
+    table.rows() == 3
+        && homes.len() == 3
+        && worlds.len() >= table.worlds() as usize
+        && entries.len() >= table.worlds() as usize
+        && are_between(homes, 0, 0)
+        && are_between(worlds, -1, 0)
+        && begin_with_one(entries)
+        && are_values_at_least_zero(table)
+        && is_due_to_end(Phase::One, table)
+}
+
+/// The table of the homes and the worlds, before the first pivot.
+fn table_of(alloc: Global, homes: &[Home; 3], worlds: &[[i64; 3]]) -> Option<Table>
+    ensures { IfSome result (λ t. (A : ℕ → ℕ → Rational) → AreColumns 3 worlds.now A → StandsFor A t) }
+{
+    let mut table = match Table::new(alloc, homes) {
+        Ok(table) => table,
+        Err(_) => return None,
+    };
+    for k in 0..worlds.len() {
+        if k > 9 {
+            return None;
+        }
+        match table.add_world(&worlds[k]) {
+            Ok(_) => {}
+            Err(_) => return None,
+        }
+    }
+    Some(table)
+}
+
+fn home_cost(phase: Phase, home: Home) -> i8 {
+    if phase == Phase::One && home == Home::Artificial {
+        1
+    } else {
+        0
+    }
+}
+
+fn world_cost(phase: Phase, holds: i8) -> i8 {
+    match phase {
+        Phase::One => 0,
+        Phase::Lower => holds,
+        Phase::Upper => { if holds == 1 { -1 } else { 0 } }
+    }
+}
+
+fn home_costs(alloc: Global, phase: Phase, homes: &[Home]) -> Result<CostList, NoMemory> {
+    let mut costs = List::new(alloc);
+    for k in 0..homes.len() {
+        costs.push(home_cost(phase, homes[k]))?;
+    }
+    Ok(costs)
+}
+
+fn world_costs(alloc: Global, phase: Phase, query: &[i8]) -> Result<CostList, NoMemory> {
+    let mut costs = List::new(alloc);
+    for k in 0..query.len() {
+        costs.push(world_cost(phase, query[k]))?;
+    }
+    Ok(costs)
+}
+
+fn costs_of(alloc: Global, phase: Phase, case: &Case) -> Result<Costs, NoMemory> {
+    let homes = home_costs(alloc, phase, &case.homes)?;
+    let worlds = world_costs(alloc, phase, case.query)?;
+    Ok(Costs { homes, worlds })
+}
+
+/// A phase's pivots, where the table is ready for them.
+fn settled(
+    table: &mut Table,
+    costs: &Costs,
+    phase: Phase,
+    left: &mut u64,
+    trace: &mut Trace,
+    entries: &[[i64; 3]],
+) -> Option<Result<Settled, SettleError>>
+    requires { (A : ℕ → ℕ → Rational) → AreColumns 3 entries.now A → StandsFor A table.old }
+    ensures { (A : ℕ → ℕ → Rational) → AreColumns 3 entries.now A → StandsFor A table.new }
+{
+    match phase {
+        Phase::One => {
+            if is_ready(table, costs) {
+                return Some(settle(table, costs, Phase::One, left, trace));
+            }
+        }
+        Phase::Lower => {
+            if is_ready_below(table, costs) {
+                return Some(settle(table, costs, Phase::Lower, left, trace));
+            }
+        }
+        Phase::Upper => {
+            if is_ready_above(table, costs, entries) {
+                return Some(settle(table, costs, Phase::Upper, left, trace));
+            }
+        }
+    }
+    None
+}
+
+fn is_fraction(number: &Fraction, parts: (i128, i128)) -> bool {
+    number.numerator() == parts.0 && number.denominator() == parts.1
+}
+
+fn is_end(answer: &Option<Result<Settled, SettleError>>, end: &End) -> bool {
+    match answer {
+        Some(Ok(settled)) => match end {
+            End::Settled(due) => settled == due,
+            End::Wide { .. } => false,
+        },
+        Some(Err(SettleError::Wide(wide))) => is_wide(wide, end),
+        _ => false,
+    }
+}
+
+fn is_wide(wide: &WideAt, end: &End) -> bool {
+    match end {
+        End::Settled(_) => false,
+        End::Wide {
+            place,
+            op,
+            left,
+            right,
+        } => {
+            wide.place == *place
+                && wide.op == *op
+                && is_fraction(&wide.left, *left)
+                && is_fraction(&wide.right, *right)
+        }
+    }
+}
+
+/// Whether the events from number `seen` on are these pivots.
+fn shows(trace: &Trace, seen: usize, pivots: &[(Col, u32)]) -> bool {
+    let events = trace.as_slice();
+    if seen > events.len() || events.len() - seen != pivots.len() {
+        return false;
+    }
+    for k in 0..pivots.len() {
+        let pivot = pivots[k];
+        let due = Event::Pivot {
+            enter: pivot.0,
+            leave: pivot.1,
+        };
+        if events[seen + k] != due {
+            return false;
+        }
+    }
+    true
+}
+
+fn has_values(table: &Table, stage: &Stage) -> bool {
+    if table.rows() != 3 {
+        return false;
+    }
+    let values = stage.values;
+    let basic = stage.basic;
+    for row in 0..3 {
+        if !is_fraction(&table.value(row), values[row as usize])
+            || table.basic(row) != basic[row as usize]
+        {
+            return false;
+        }
+    }
+    true
+}
+
+/// Whether all phases of a case go as they should.
+fn goes(alloc: Global, case: &Case) -> Result<bool, NoMemory> {
+    let mut table = match table_of(alloc, &case.homes, case.worlds) {
+        Some(table) => table,
+        None => return Ok(false),
+    };
+    let mut trace: Trace = List::new(alloc);
+    let mut left = case.limit;
+    for number in 0..case.stages.len() {
+        let stage = &case.stages[number];
+        let costs = costs_of(alloc, stage.phase, case)?;
+        let seen = trace.len();
+        let answer = settled(
+            &mut table,
+            &costs,
+            stage.phase,
+            &mut left,
+            &mut trace,
+            case.worlds,
+        );
+        if !is_end(&answer, &stage.end) || left != stage.left {
+            return Ok(false);
+        }
+        if !shows(&trace, seen, stage.pivots) || !has_values(&table, stage) {
+            return Ok(false);
+        }
+    }
+    Ok(true)
+}
+
+#[test]
+fn phases_go_as_another_program_computed(rt: HostRuntime) -> Result<(), Fail> {
+    for number in 0..CASES.len() {
+        let case = &CASES[number];
+        assert!(rt; goes(rt.alloc(), case) == Ok(true), "case {number}");
+    }
+    Ok(())
 }
 
 #[test]

@@ -89,8 +89,10 @@ value_seen_fault (text.Decimal ds es) i =
     ten (suc (suc (suc (suc (suc zero))))) h = omega arith
     ten (suc (suc (suc (suc (suc (suc zero)))))) h = omega arith
     ten (suc (suc (suc (suc (suc (suc (suc k))))))) h = absurd (omega (arith, h))
+
     capped : (t v : ℕ) → t ≤ 1000000 → nat_lt t (min v 1000001) ≡ nat_lt t v
     capped t v h = grind (arith, nat_tests)
+
     by : (a : Bool) → nat_lt 6 (length es) ≡ a
         → (if nat_lt 6 (min (length es) 7) then Some TooManyDecimals else (if nat_lt (10 ^ min (length es) 7) (min (value (ds ++ es)) 1000001) then Some NumberOutOfRange else None))
         ≡ (if a then Some TooManyDecimals else (if nat_lt (10 ^ length es) (value (ds ++ es)) then Some NumberOutOfRange else None))
@@ -171,8 +173,9 @@ long_refused d w h = rw h refl
 -- what is kept of a token is refused as the token is
 pub judged : (d : Due) (t : Token) → IsToken One t → refusal d (token_of (seen t)) ≡ refusal d t
 judged d (text.Word w) i = elim (decide (nat_lt 33 (length w))) [
-    inl h ↦ long_refused d (take 33 w) (kept h) ∙ sym (long_refused d w (grind (arith, nat_tests)))
-  | inr h ↦ ap (λ u. refusal d (text.Word u)) (take_all 33 w (grind (arith, nat_tests))) ]
+  | inl h ↦ long_refused d (take 33 w) (kept h) ∙ sym (long_refused d w (grind (arith, nat_tests)))
+  | inr h ↦ ap (λ u. refusal d (text.Word u)) (take_all 33 w (grind (arith, nat_tests)))
+]
   where
     kept : nat_lt 33 (length w) ≡ true → nat_lt 32 (length (take 33 w)) ≡ true
     kept h = let l = length-take 33 w in grind (arith, nat_tests)
@@ -182,7 +185,8 @@ judged d (text.Sign s) i = ap (refusal d) (symbol_back s)
 -- and what is due behind it is what is due behind the token
 pub goes_on : (d : Due) (t : Token) → refusal d t ≡ None → after d (token_of (seen t)) ≡ after d t
 goes_on d (text.Word w) h = elim (decide (nat_lt 32 (length w))) [
-    inl l ↦ absurd (true≢false (ap is_some (sym (long_refused d w l) ∙ h)))
-  | inr l ↦ ap (λ u. after d (text.Word u)) (take_all 33 w (grind (arith, nat_tests))) ]
+  | inl l ↦ absurd (true≢false (ap is_some (sym (long_refused d w l) ∙ h)))
+  | inr l ↦ ap (λ u. after d (text.Word u)) (take_all 33 w (grind (arith, nat_tests)))
+]
 goes_on d (text.Number n) h = number_after d.part d.query d.given d.opened (numeral_of (numeral_seen n)) n
 goes_on d (text.Sign s) h = ap (after d) (symbol_back s)

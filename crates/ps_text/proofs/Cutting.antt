@@ -1,10 +1,10 @@
 -- All bytes are pieces, up to the end or to a place where no token begins.
-use Rattle.std.proofs.Common.{◌≡◌, ℕ, suc, zero, ◌<◌, ◌≤◌, Bool, true, false, not, ◌&&◌, ◌||◌, ◌⊎◌, inl, inr, List, [], ◌∷◌, ◌++◌, length, refl, sym, ap, subst, ◌∙◌, arith, append_assoc, length-append}
+use Rattle.std.proofs.Common.{◌≡◌, ℕ, suc, zero, ◌<◌, ◌≤◌, Bool, true, false, not, ◌⊎◌, inl, inr, List, [], ◌∷◌, ◌++◌, length, refl, sym, ap, subst, ◌∙◌, arith, append_assoc, length-append}
 use Rattle.std.proofs.lemmas.Bool.Decides.{nat_tests}
 use Rattle.std.specs.Prelude.{◌==◌, IsTrue}
 use Rattle.std.specs.List.{AllByRecursion}
 use Rattle.ps_text.specs.Tokens.{One, Token, Word, Number, Sign, Whole, Quotient, Decimal, Symbol, Open, Close, OpenBracket, CloseBracket, Comma, Semicolon, Bang, Ampersand, Bar, Arrow, DoubleArrow, Equals, GreaterEquals, LessEquals, is_letter, is_digit, is_word_byte, IsWord, AreDigits, IsToken, spelling, symbol_spelling, BeginsNone}
-use Rattle.ps_text.specs.Pieces.{Piece, Blank, Comment, Spelled, text, texts, is_blank, EndsLine, Fits, Cuts, IsBad, Cut}
+use Rattle.ps_text.specs.Pieces.{Piece, Blank, Comment, Spelled, text, texts, is_blank, EndsLine, Fits, IsBad, Cut}
 use Rattle.ps_text.proofs.Spans.{starts, starts_behind, both, same_byte}
 use Rattle.ps_text.proofs.Symbols.{symbol_some}
 use Rattle.ps_text.proofs.Longest.{stops_longest}
@@ -24,8 +24,9 @@ pub record Span (p : ℕ → Bool) (bytes : List ℕ) : Type 0 where
 pub span : (p : ℕ → Bool) (bytes : List ℕ) → Span p bytes
 span p [] = record { front = []; rest = []; is = refl; all = tt; stop = refl }
 span p (b ∷ bs) = let more : Span p bs = span p bs in elim (decide (p b)) [
-    inl h ↦ record { front = b ∷ more.front; rest = more.rest; is = ap (λ x. b ∷ x) more.is; all = (h, more.all); stop = more.stop }
-  | inr h ↦ record { front = []; rest = b ∷ bs; is = refl; all = tt; stop = h } ]
+  | inl h ↦ record { front = b ∷ more.front; rest = more.rest; is = ap (λ x. b ∷ x) more.is; all = (h, more.all); stop = more.stop }
+  | inr h ↦ record { front = []; rest = b ∷ bs; is = refl; all = tt; stop = h }
+]
 
 -- the piece at the front
 pub record Next (bytes : List ℕ) : Type 0 where
@@ -48,8 +49,13 @@ comment_next bs = let s = span (λ b. not (b == 10)) bs in
 
 word_next : (b : ℕ) (bs : List ℕ) → is_letter b ≡ true → Next (b ∷ bs)
 word_next b bs h = let s = span is_word_byte bs in
-    record { piece = Spelled (Word (b ∷ s.front)); after = s.rest; is = ap (λ x. b ∷ x) s.is; some = shorter b bs s.front s.rest s.is;
-      fits = ((h, s.all), stops_longest One (Word (b ∷ s.front)) s.rest (h, s.all) s.stop) }
+    record {
+      piece = Spelled (Word (b ∷ s.front));
+      after = s.rest;
+      is = ap (λ x. b ∷ x) s.is;
+      some = shorter b bs s.front s.rest s.is;
+      fits = ((h, s.all), stops_longest One (Word (b ∷ s.front)) s.rest (h, s.all) s.stop);
+    }
 
 -- a separator and a digit
 pub record Behind (c : ℕ) (rest : List ℕ) : Type 0 where
@@ -69,26 +75,41 @@ behind c (b ∷ d ∷ more) h = let s = both (b == c) (is_digit d) h in record {
 quotient_next : (b : ℕ) (bs : List ℕ) → is_digit b ≡ true → (s : Span is_digit bs) → Behind 47 s.rest → Next (b ∷ bs)
 quotient_next b bs h s r = let m = span is_digit r.more in
     let e : bs ≡ (s.front ++ 47 ∷ r.digit ∷ m.front) ++ m.rest =
-      s.is ∙ ap (λ x. s.front ++ x) (r.is ∙ ap (λ x. 47 ∷ r.digit ∷ x) m.is) ∙ sym (append_assoc s.front (47 ∷ r.digit ∷ m.front) m.rest) in
-    record { piece = Spelled (Number (Quotient (b ∷ s.front) (r.digit ∷ m.front))); after = m.rest; is = ap (λ x. b ∷ x) e;
+    s.is ∙ ap (λ x. s.front ++ x) (r.is ∙ ap (λ x. 47 ∷ r.digit ∷ x) m.is) ∙ sym (append_assoc s.front (47 ∷ r.digit ∷ m.front) m.rest) in
+    record {
+      piece = Spelled (Number (Quotient (b ∷ s.front) (r.digit ∷ m.front)));
+      after = m.rest;
+      is = ap (λ x. b ∷ x) e;
       some = shorter b bs (s.front ++ 47 ∷ r.digit ∷ m.front) m.rest e;
-      fits = (((h, s.all), (r.is_one, m.all)), stops_longest One (Number (Quotient (b ∷ s.front) (r.digit ∷ m.front))) m.rest ((h, s.all), (r.is_one, m.all)) m.stop) }
+      fits = (((h, s.all), (r.is_one, m.all)), stops_longest One (Number (Quotient (b ∷ s.front) (r.digit ∷ m.front))) m.rest ((h, s.all), (r.is_one, m.all)) m.stop);
+    }
 
 decimal_next : (b : ℕ) (bs : List ℕ) → is_digit b ≡ true → (s : Span is_digit bs) → Behind 46 s.rest → Next (b ∷ bs)
 decimal_next b bs h s r = let m = span is_digit r.more in
     let e : bs ≡ (s.front ++ 46 ∷ r.digit ∷ m.front) ++ m.rest =
-      s.is ∙ ap (λ x. s.front ++ x) (r.is ∙ ap (λ x. 46 ∷ r.digit ∷ x) m.is) ∙ sym (append_assoc s.front (46 ∷ r.digit ∷ m.front) m.rest) in
-    record { piece = Spelled (Number (Decimal (b ∷ s.front) (r.digit ∷ m.front))); after = m.rest; is = ap (λ x. b ∷ x) e;
+    s.is ∙ ap (λ x. s.front ++ x) (r.is ∙ ap (λ x. 46 ∷ r.digit ∷ x) m.is) ∙ sym (append_assoc s.front (46 ∷ r.digit ∷ m.front) m.rest) in
+    record {
+      piece = Spelled (Number (Decimal (b ∷ s.front) (r.digit ∷ m.front)));
+      after = m.rest;
+      is = ap (λ x. b ∷ x) e;
       some = shorter b bs (s.front ++ 46 ∷ r.digit ∷ m.front) m.rest e;
-      fits = (((h, s.all), (r.is_one, m.all)), stops_longest One (Number (Decimal (b ∷ s.front) (r.digit ∷ m.front))) m.rest ((h, s.all), (r.is_one, m.all)) m.stop) }
+      fits = (((h, s.all), (r.is_one, m.all)), stops_longest One (Number (Decimal (b ∷ s.front) (r.digit ∷ m.front))) m.rest ((h, s.all), (r.is_one, m.all)) m.stop);
+    }
 
 number_next : (b : ℕ) (bs : List ℕ) → is_digit b ≡ true → Next (b ∷ bs)
 number_next b bs h = let s = span is_digit bs in elim (decide (starts_behind 47 s.rest)) [
-    inl q ↦ quotient_next b bs h s (behind 47 s.rest q)
+  | inl q ↦ quotient_next b bs h s (behind 47 s.rest q)
   | inr q ↦ elim (decide (starts_behind 46 s.rest)) [
-      inl d ↦ decimal_next b bs h s (behind 46 s.rest d)
-    | inr d ↦ record { piece = Spelled (Number (Whole (b ∷ s.front))); after = s.rest; is = ap (λ x. b ∷ x) s.is; some = shorter b bs s.front s.rest s.is;
-        fits = ((h, s.all), stops_longest One (Number (Whole (b ∷ s.front))) s.rest (h, s.all) (s.stop, q, d)) } ] ]
+    | inl d ↦ decimal_next b bs h s (behind 46 s.rest d)
+    | inr d ↦ record {
+      piece = Spelled (Number (Whole (b ∷ s.front)));
+      after = s.rest;
+      is = ap (λ x. b ∷ x) s.is;
+      some = shorter b bs s.front s.rest s.is;
+      fits = ((h, s.all), stops_longest One (Number (Whole (b ∷ s.front))) s.rest (h, s.all) (s.stop, q, d));
+    }
+  ]
+]
 
 -- a word stands at the front, or it doesn't
 pub record Fronts (w bytes : List ℕ) : Type 0 where
@@ -99,10 +120,12 @@ pub front : (w bytes : List ℕ) → Fronts w bytes ⊎ (Fronts w bytes → ⊥)
 front [] bytes = inl (record { after = bytes; is = refl })
 front (c ∷ w) [] = inr (λ f. let e = f.is in absurd cc)
 front (c ∷ w) (b ∷ bs) = elim (decide (b == c)) [
-    inl h ↦ elim (front w bs) [
-        inl f ↦ inl (record { after = f.after; is = ap (λ x. x ∷ bs) (same_byte b c h) ∙ ap (λ x. c ∷ x) f.is })
-      | inr n ↦ inr (λ f. n (record { after = f.after; is = let e = f.is in cc })) ]
-  | inr h ↦ inr (λ f. let e = f.is in let s : b ≡ c = cc in other b c h s) ]
+  | inl h ↦ elim (front w bs) [
+    | inl f ↦ inl (record { after = f.after; is = ap (λ x. x ∷ bs) (same_byte b c h) ∙ ap (λ x. c ∷ x) f.is })
+    | inr n ↦ inr (λ f. n (record { after = f.after; is = let e = f.is in cc }))
+  ]
+  | inr h ↦ inr (λ f. let e = f.is in let s : b ≡ c = cc in other b c h s)
+]
   where
     other : (b c : ℕ) → (b == c) ≡ false → b ≡ c → ⊥
     other b c h e = grind (arith, nat_tests)
@@ -120,21 +143,63 @@ NoSymbol bytes = (s : Symbol) → Fronts (symbol_spelling s) bytes → ⊥
 -- a symbol stands at the front, or none does
 symbol_or : (bytes : List ℕ) → Next bytes ⊎ NoSymbol bytes
 symbol_or bytes =
-    elim (front (symbol_spelling Open) bytes) [ inl f ↦ inl (symbol_next bytes Open f) | inr n0 ↦
-    elim (front (symbol_spelling Close) bytes) [ inl f ↦ inl (symbol_next bytes Close f) | inr n1 ↦
-    elim (front (symbol_spelling OpenBracket) bytes) [ inl f ↦ inl (symbol_next bytes OpenBracket f) | inr n2 ↦
-    elim (front (symbol_spelling CloseBracket) bytes) [ inl f ↦ inl (symbol_next bytes CloseBracket f) | inr n3 ↦
-    elim (front (symbol_spelling Comma) bytes) [ inl f ↦ inl (symbol_next bytes Comma f) | inr n4 ↦
-    elim (front (symbol_spelling Semicolon) bytes) [ inl f ↦ inl (symbol_next bytes Semicolon f) | inr n5 ↦
-    elim (front (symbol_spelling Bang) bytes) [ inl f ↦ inl (symbol_next bytes Bang f) | inr n6 ↦
-    elim (front (symbol_spelling Ampersand) bytes) [ inl f ↦ inl (symbol_next bytes Ampersand f) | inr n7 ↦
-    elim (front (symbol_spelling Bar) bytes) [ inl f ↦ inl (symbol_next bytes Bar f) | inr n8 ↦
-    elim (front (symbol_spelling Arrow) bytes) [ inl f ↦ inl (symbol_next bytes Arrow f) | inr n9 ↦
-    elim (front (symbol_spelling DoubleArrow) bytes) [ inl f ↦ inl (symbol_next bytes DoubleArrow f) | inr n10 ↦
-    elim (front (symbol_spelling Equals) bytes) [ inl f ↦ inl (symbol_next bytes Equals f) | inr n11 ↦
-    elim (front (symbol_spelling GreaterEquals) bytes) [ inl f ↦ inl (symbol_next bytes GreaterEquals f) | inr n12 ↦
-    elim (front (symbol_spelling LessEquals) bytes) [ inl f ↦ inl (symbol_next bytes LessEquals f) | inr n13 ↦
-    inr (none n0 n1 n2 n3 n4 n5 n6 n7 n8 n9 n10 n11 n12 n13) ] ] ] ] ] ] ] ] ] ] ] ] ] ]
+    elim (front (symbol_spelling Open) bytes) [
+      | inl f ↦ inl (symbol_next bytes Open f)
+      | inr n0 ↦
+          elim (front (symbol_spelling Close) bytes) [
+            | inl f ↦ inl (symbol_next bytes Close f)
+            | inr n1 ↦
+                elim (front (symbol_spelling OpenBracket) bytes) [
+                  | inl f ↦ inl (symbol_next bytes OpenBracket f)
+                  | inr n2 ↦
+                      elim (front (symbol_spelling CloseBracket) bytes) [
+                        | inl f ↦ inl (symbol_next bytes CloseBracket f)
+                        | inr n3 ↦
+                            elim (front (symbol_spelling Comma) bytes) [
+                              | inl f ↦ inl (symbol_next bytes Comma f)
+                              | inr n4 ↦
+                                  elim (front (symbol_spelling Semicolon) bytes) [
+                                    | inl f ↦ inl (symbol_next bytes Semicolon f)
+                                    | inr n5 ↦
+                                        elim (front (symbol_spelling Bang) bytes) [
+                                          | inl f ↦ inl (symbol_next bytes Bang f)
+                                          | inr n6 ↦
+                                              elim (front (symbol_spelling Ampersand) bytes) [
+                                                | inl f ↦ inl (symbol_next bytes Ampersand f)
+                                                | inr n7 ↦
+                                                    elim (front (symbol_spelling Bar) bytes) [
+                                                      | inl f ↦ inl (symbol_next bytes Bar f)
+                                                      | inr n8 ↦
+                                                          elim (front (symbol_spelling Arrow) bytes) [
+                                                            | inl f ↦ inl (symbol_next bytes Arrow f)
+                                                            | inr n9 ↦
+                                                                elim (front (symbol_spelling DoubleArrow) bytes) [
+                                                                  | inl f ↦ inl (symbol_next bytes DoubleArrow f)
+                                                                  | inr n10 ↦
+                                                                      elim (front (symbol_spelling Equals) bytes) [
+                                                                        | inl f ↦ inl (symbol_next bytes Equals f)
+                                                                        | inr n11 ↦
+                                                                            elim (front (symbol_spelling GreaterEquals) bytes) [
+                                                                              | inl f ↦ inl (symbol_next bytes GreaterEquals f)
+                                                                              | inr n12 ↦
+                                                                                  elim (front (symbol_spelling LessEquals) bytes) [
+                                                                                    | inl f ↦ inl (symbol_next bytes LessEquals f)
+                                                                                    | inr n13 ↦
+                                                                                        inr (none n0 n1 n2 n3 n4 n5 n6 n7 n8 n9 n10 n11 n12 n13)
+                                                                                  ]
+                                                                            ]
+                                                                      ]
+                                                                ]
+                                                          ]
+                                                    ]
+                                              ]
+                                        ]
+                                  ]
+                            ]
+                      ]
+                ]
+          ]
+    ]
   where
     none : (Fronts (symbol_spelling Open) bytes → ⊥) → (Fronts (symbol_spelling Close) bytes → ⊥) → (Fronts (symbol_spelling OpenBracket) bytes → ⊥)
         → (Fronts (symbol_spelling CloseBracket) bytes → ⊥) → (Fronts (symbol_spelling Comma) bytes → ⊥) → (Fronts (symbol_spelling Semicolon) bytes → ⊥)
@@ -177,23 +242,40 @@ begins_none b bs l d n = none
 
 -- a piece stands at the front, or no token begins there
 pub next : (b : ℕ) (bs : List ℕ) → Next (b ∷ bs) ⊎ IsBad (b ∷ bs)
-next b bs = elim (decide (is_blank b)) [ inl h ↦ inl (record { piece = Blank b; after = bs; is = refl; some = omega arith; fits = h }) | inr h0 ↦
-    elim (decide (b == 35)) [ inl h ↦ inl (subst (λ x. Next (x ∷ bs)) (sym (same_byte b 35 h)) (comment_next bs)) | inr h1 ↦
-    elim (decide (is_letter b)) [ inl h ↦ inl (word_next b bs h) | inr h2 ↦
-    elim (decide (is_digit b)) [ inl h ↦ inl (number_next b bs h) | inr h3 ↦
-    elim (symbol_or (b ∷ bs)) [ inl n ↦ inl n | inr n ↦ inr (record { bare = rw (h0, h1) refl; none = begins_none b bs h2 h3 n }) ] ] ] ] ]
+next b bs = elim (decide (is_blank b)) [
+  | inl h ↦ inl (record { piece = Blank b; after = bs; is = refl; some = omega arith; fits = h })
+  | inr h0 ↦
+      elim (decide (b == 35)) [
+        | inl h ↦ inl (subst (λ x. Next (x ∷ bs)) (sym (same_byte b 35 h)) (comment_next bs))
+        | inr h1 ↦
+            elim (decide (is_letter b)) [
+              | inl h ↦ inl (word_next b bs h)
+              | inr h2 ↦
+                  elim (decide (is_digit b)) [
+                    | inl h ↦ inl (number_next b bs h)
+                    | inr h3 ↦
+                        elim (symbol_or (b ∷ bs)) [ inl n ↦ inl n | inr n ↦ inr (record { bare = rw (h0, h1) refl; none = begins_none b bs h2 h3 n }) ]
+                  ]
+            ]
+      ]
+]
 
 cut_more : (bytes : List ℕ) (n : Next bytes) → Cut n.after → Cut bytes
-cut_more bytes n c = record { pieces = n.piece ∷ c.pieces; rest = c.rest;
-    is = n.is ∙ ap (λ x. text n.piece ++ x) c.is ∙ sym (append_assoc (text n.piece) (texts c.pieces) c.rest);
-    cuts = (subst (λ x. Fits One n.piece x) c.is n.fits, c.cuts); ends = c.ends }
+cut_more bytes n c = record {
+  pieces = n.piece ∷ c.pieces;
+  rest = c.rest;
+  is = n.is ∙ ap (λ x. text n.piece ++ x) c.is ∙ sym (append_assoc (text n.piece) (texts c.pieces) c.rest);
+  cuts = (subst (λ x. Fits One n.piece x) c.is n.fits, c.cuts);
+  ends = c.ends;
+}
 
 cut_within : (n : ℕ) (bytes : List ℕ) → length bytes ≤ n → Cut bytes
 cut_within n [] le = record { pieces = []; rest = []; is = refl; cuts = tt; ends = inl refl }
 cut_within zero (b ∷ bs) le = absurd (omega arith)
 cut_within (suc n) (b ∷ bs) le = elim (next b bs) [
-    inl x ↦ cut_more (b ∷ bs) x (cut_within n x.after (let s = x.some in omega arith))
-  | inr bad ↦ record { pieces = []; rest = b ∷ bs; is = refl; cuts = tt; ends = inr bad } ]
+  | inl x ↦ cut_more (b ∷ bs) x (cut_within n x.after (let s = x.some in omega arith))
+  | inr bad ↦ record { pieces = []; rest = b ∷ bs; is = refl; cuts = tt; ends = inr bad }
+]
 
 -- all bytes, cut
 pub cut : (bytes : List ℕ) → Cut bytes

@@ -1,8 +1,7 @@
 -- Tokens none of which is refused are what the grammar derives within the limits.
-use Rattle.std.proofs.Common.{◌≡◌, ℕ, Bool, true, false, List, [], ◌∷◌, ◌++◌, None, refl, sym, ap, subst, ◌∙◌, append_assoc, append-nil, true≢false}
+use Rattle.std.proofs.Common.{◌≡◌, Bool, true, false, List, [], ◌∷◌, ◌++◌, None, sym, ap, subst, ◌∙◌, append_assoc, append-nil, true≢false}
 use Rattle.ps_text.specs.Tokens.{Token}
-use Rattle.ps_text.specs.Grammar.{Entry, text_tokens, AreEntries}
-use Rattle.ps_text.specs.Due.{Part, AtDone, Due, outside, at_start, refusal, after, Passes, AreDue}
+use Rattle.ps_text.specs.Due.{Part, AtDone, Due, outside, refusal, Passes, AreDue}
 use Rattle.ps_text.specs.Grammar.{IsDerived}
 use Rattle.ps_text.proofs.Parsing.{Parse, InPsat, InVersion, InHeadEnd, InItem, InQueryProb, InTextEnd, InDone, InParen, InOperand, InOperator, InRelation, InBracket, InFirst, InNumber, InComma, InSecond, InBracketEnd, InItemEnd, due_of, read, Sound, parsed}
 use Rattle.ps_text.proofs.Steps.{Passed, passed, Steps, at_psat, at_version, at_head_end, at_item, at_query_prob, at_text_end, at_paren, at_relation, at_number, at_bracket, at_first, at_comma, at_second, at_bracket_end, at_item_end}

@@ -1,16 +1,17 @@
 -- One token more, within a formula.
-use Rattle.std.proofs.Common.{◌≡◌, ℕ, suc, zero, ◌+◌, ◌-◌, ◌<◌, ◌≤◌, Bool, true, false, not, ◌&&◌, ◌||◌, List, [], ◌∷◌, ◌++◌, length, Option, Some, None, refl, sym, ap, subst, ◌∙◌, arith, add-one, append_assoc, append-nil, true≢false, is_some}
+use Rattle.std.proofs.Common.{◌≡◌, ℕ, ◌<◌, ◌≤◌, Bool, true, false, not, ◌&&◌, ◌||◌, List, [], ◌∷◌, ◌++◌, length, Option, Some, None, refl, sym, ap, subst, ◌∙◌, arith, add-one, append_assoc, append-nil, true≢false, is_some}
 use Rattle.std.proofs.lemmas.Bool.Decides.{nat_tests}
 use Rattle.std.proofs.lemmas.Slice.Eq.{bytes_eq-Decides}
 use Rattle.std.specs.Prelude.{bytes_eq, codes, if◌then◌else◌, nat_lt}
 use Rattle.std.specs.List.{list_any}
 use Rattle.ps_text.specs.Tokens.{Token, Word, Number, Sign, Open, Close, Bang, Ampersand, Bar, Arrow, DoubleArrow, is_the_sign, is_the_word}
-use Rattle.ps_text.specs.Kinds.{Kind, TooDeep}
-use Rattle.ps_text.specs.Grammar.{is_reserved, Form, Name, Truth, Falsity, Not, Group, And, Or, Implies, Iff, spelled, level, IsForm, Nests, Prob, Entry, Query, given_tokens, prob_tokens, IsGiven, IsProb, AreEntries}
-use Rattle.ps_text.specs.Due.{AtOperand, AtOperator, Opening, GroupOpen, ArrowOpen, Due, is_operand_word, is_connective, is_group, may_be_given, is_too_long, without_nots, without_arrows, closed, after}
-use Rattle.ps_text.proofs.Signs.{the_word, the_sign, Either, First, Second, either, both}
-use Rattle.ps_text.proofs.Frames.{Frame, BegunNot, BegunGroup, BegunAnd, BegunOr, BegunImplies, BegunIff, frame_tokens, opened_of, need, AreFrames, Settled, Fits, joins, joins_tokens, joins_fits, joins_level, joins_need, joins_settled, nots_opened, and_opened, or_opened, all_opened, all_joined}
-use Rattle.ps_text.proofs.Parsing.{Parse, InItemEnd, InRelation, InOperand, InOperator, prob_of, due_of, before, lead, form_tokens, formula_lead, entry_body, read, Sound, ended, operand_of, behind_close, parsed}
+use Rattle.ps_text.specs.Kinds.{TooDeep}
+use Rattle.ps_text.specs.Grammar.{is_reserved, Form, Name, Truth, Falsity, Group, spelled, level, IsForm, Nests, Entry, Query, prob_tokens, IsGiven, IsProb, AreEntries}
+use Rattle.ps_text.specs.Due.{AtOperand, AtOperator, Opening, ArrowOpen, is_operand_word, is_connective, is_group, may_be_given, is_too_long, without_arrows, closed, after}
+use Rattle.ps_text.proofs.Spans.{both}
+use Rattle.ps_text.proofs.Signs.{the_word, the_sign, Either, First, Second, either}
+use Rattle.ps_text.proofs.Frames.{Frame, BegunNot, BegunGroup, BegunAnd, BegunOr, BegunImplies, BegunIff, frame_tokens, opened_of, need, Fits, joins, joins_tokens, joins_fits, joins_level, joins_need, joins_settled, nots_opened, and_opened, or_opened, all_opened, all_joined}
+use Rattle.ps_text.proofs.Parsing.{InOperand, InOperator, prob_of, due_of, before, lead, formula_lead, entry_body, read, Sound, operand_of, behind_close}
 use Rattle.ps_text.proofs.Steps.{Passed, Steps, unless}
 
 -- an operand of the tightest level

@@ -1,8 +1,8 @@
 -- A derivation that is made token by token.
-use Rattle.std.proofs.Common.{◌≡◌, ℕ, suc, zero, ◌+◌, ◌-◌, ◌<◌, ◌≤◌, ◌^◌, Bool, true, false, not, ◌&&◌, ◌||◌, List, [], ◌∷◌, ◌++◌, length, Option, Some, None, refl, sym, ap, subst, ◌∙◌, arith, append_assoc, append-nil, true≢false, is_some}
-use Rattle.std.specs.Prelude.{bytes_eq, codes, if◌then◌else◌, nat_lt}
-use Rattle.ps_text.specs.Tokens.{Token, Word, Number, Sign, Numeral, Whole, Quotient, Decimal, Symbol, Open, Close, OpenBracket, CloseBracket, Comma, Semicolon, Bang, Ampersand, Bar, Arrow, DoubleArrow, Equals, GreaterEquals, LessEquals, symbol_spelling, is_the_word}
-use Rattle.ps_text.specs.Grammar.{Form, Name, Truth, Falsity, Not, Group, spelled, level, IsForm, Nests, Prob, Relation, Exactly, AtLeast, AtMost, Within, Entry, Sentence, Query, given_tokens, prob_tokens, relation_tokens, entry_tokens, entries_tokens, text_tokens, IsProbability, IsGiven, IsProb, IsRelation, IsEntry, AreEntries}
+use Rattle.std.proofs.Common.{ℕ, ◌≤◌, Bool, true, false, List, [], ◌∷◌, ◌++◌, Option, Some, None, is_some}
+use Rattle.std.specs.Prelude.{bytes_eq, codes, if◌then◌else◌}
+use Rattle.ps_text.specs.Tokens.{Token, Word, Number, Sign, Numeral, Whole, Symbol, Open, Close, OpenBracket, Comma, Semicolon, Bang, Ampersand, Bar, Arrow, DoubleArrow, Equals, GreaterEquals, LessEquals, is_the_word}
+use Rattle.ps_text.specs.Grammar.{Form, Name, Truth, Falsity, Group, spelled, level, Prob, Relation, Exactly, AtLeast, AtMost, Within, Entry, Sentence, Query, prob_tokens, relation_tokens, entries_tokens, text_tokens, IsProbability, IsGiven, IsProb, IsEntry, AreEntries}
 use Rattle.ps_text.specs.Due.{AtPsat, AtVersion, AtHeadEnd, AtItem, AtQueryProb, AtParen, AtOperand, AtOperator, AtRelation, AtNumber, AtItemEnd, AtBracket, AtFirst, AtComma, AtSecond, AtBracketEnd, AtTextEnd, AtDone, Due, outside}
 use Rattle.ps_text.proofs.Frames.{Frame, BegunNot, BegunGroup, BegunAnd, BegunOr, BegunImplies, BegunIff, frame_tokens, opened_of, AreFrames, Settled, Fits, joins}
 

@@ -1,16 +1,14 @@
 -- One token more, outside of a formula.
-use Rattle.std.proofs.Common.{◌≡◌, ℕ, suc, zero, ◌+◌, ◌-◌, ◌<◌, ◌≤◌, ◌^◌, Bool, true, false, not, ◌&&◌, ◌||◌, List, [], ◌∷◌, ◌++◌, length, Option, Some, None, refl, sym, ap, subst, ◌∙◌, arith, append_assoc, append-nil, true≢false, is_some}
+use Rattle.std.proofs.Common.{◌≡◌, ◌<◌, ◌≤◌, ◌^◌, Bool, true, false, not, ◌||◌, List, [], ◌∷◌, ◌++◌, length, Option, Some, None, refl, sym, ap, subst, ◌∙◌, arith, append_assoc, append-nil, true≢false, is_some}
 use Rattle.std.proofs.lemmas.Bool.Decides.{nat_tests}
 use Rattle.std.proofs.lemmas.Slice.Eq.{bytes_eq-Decides}
 use Rattle.std.specs.Prelude.{bytes_eq, codes, if◌then◌else◌, nat_lt, nat_eq}
-use Rattle.std.specs.List.{list_any}
 use Rattle.ps_text.specs.Tokens.{Token, Word, Number, Sign, Numeral, Whole, Quotient, Decimal, Symbol, Open, Close, OpenBracket, CloseBracket, Comma, Semicolon, Bang, Ampersand, Bar, Arrow, DoubleArrow, Equals, GreaterEquals, LessEquals, is_the_sign, is_the_word}
-use Rattle.ps_text.specs.Kinds.{Kind, NameTooLong, Expected, VersionUnknown, ZeroDenominator, DenominatorTooLarge, TooManyDecimals, NumberOutOfRange, TooDeep}
-use Rattle.ps_text.specs.Grammar.{is_reserved, value, Form, Name, Truth, Falsity, Not, Group, And, Or, Implies, Iff, spelled, level, IsForm, Nests, Prob, Relation, Exactly, AtLeast, AtMost, Within, Entry, Sentence, Query, given_tokens, prob_tokens, relation_tokens, entry_tokens, entries_tokens, text_tokens, IsProbability, IsGiven, IsProb, IsRelation, IsEntry, AreEntries}
-use Rattle.ps_text.specs.Due.{AtPsat, AtVersion, AtHeadEnd, AtItem, AtQueryProb, AtParen, AtOperand, AtOperator, AtRelation, AtNumber, AtItemEnd, AtBracket, AtFirst, AtComma, AtSecond, AtBracketEnd, AtTextEnd, AtDone, Opening, NotOpen, GroupOpen, ArrowOpen, Due, outside, is_number, is_operand_word, is_group, may_be_given, is_due, is_too_long, what_at, fault_at, version_fault, number_fault, value_fault, depth_fault, refusal, without_nots, without_arrows, closed, after, Passes}
-use Rattle.ps_text.proofs.Signs.{the_word, the_sign, Either, First, Second, either, both}
-use Rattle.ps_text.proofs.Frames.{Frame, BegunNot, BegunGroup, BegunAnd, BegunOr, BegunImplies, BegunIff, frame_tokens, opened_of, need, AreFrames, Settled, Fits, joins, joins_tokens, joins_fits, joins_level, joins_need, joins_settled, nots_opened, and_opened, or_opened, all_opened, all_joined}
-use Rattle.ps_text.proofs.Parsing.{Parse, InPsat, InVersion, InHeadEnd, InItem, InQueryProb, InTextEnd, InDone, InParen, InOperand, InOperator, InRelation, InBracket, InFirst, InNumber, InComma, InSecond, InBracketEnd, InItemEnd, prob_of, due_of, before, lead, form_tokens, formula_lead, sentence_lead, entry_body, read, relation_of, IsRelationSign, Sound, ended, operand_of, behind_close, operand_parsed, operator_parsed, number_in, parsed}
+use Rattle.ps_text.specs.Kinds.{Kind, NameTooLong, Expected, VersionUnknown, ZeroDenominator, DenominatorTooLarge, TooManyDecimals, NumberOutOfRange}
+use Rattle.ps_text.specs.Grammar.{value, Prob, Within, Entry, Sentence, Query, prob_tokens, relation_tokens, entry_tokens, entries_tokens, IsProbability, IsRelation, IsEntry, AreEntries}
+use Rattle.ps_text.specs.Due.{Due, is_number, is_due, is_too_long, what_at, fault_at, number_fault, value_fault, refusal, after}
+use Rattle.ps_text.proofs.Signs.{the_word, the_sign, Either, First, Second, either}
+use Rattle.ps_text.proofs.Parsing.{Parse, InPsat, InVersion, InHeadEnd, InItem, InQueryProb, InTextEnd, InParen, InRelation, InBracket, InFirst, InNumber, InComma, InSecond, InBracketEnd, InItemEnd, due_of, before, lead, sentence_lead, entry_body, read, relation_of, IsRelationSign, Sound, number_in, parsed}
 
 -- a token that isn't refused
 pub record Passed (d : Due) (t : Token) : Type 0 where

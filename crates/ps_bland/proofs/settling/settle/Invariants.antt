@@ -1,4 +1,4 @@
-use Rattle.std.proofs.Common.{ℕ}
+use Rattle.std.proofs.Common.{◌≡◌, ℕ}
 use Rattle.ps_rational.specs.Rational.{Rational}
 use Rattle.ps_table.specs.Tableau.{StandsFor}
 use Rattle.ps_bland.specs.Runs.{Ran, IsReady}
@@ -7,6 +7,8 @@ use Rattle.ps_bland.proofs.settling.settle.Given as goal
 abbrev pub invariant-loop-settled : goal.invariant-loop-settled
 invariant-loop-settled l = record {
   ran : Ran l.phase l.costs l.fn.table l.table l.fn.trace l.trace l.fn.left l.left;
+  kinds : l.table.kinds ≡ l.fn.table.kinds;
+  worlds : l.table.worlds ≡ l.fn.table.worlds;
   ready : IsReady l.phase l.costs l.table;
   stands : (A : ℕ → ℕ → Rational) → StandsFor A l.fn.table → StandsFor A l.table;
 }

@@ -1,4 +1,4 @@
-use Rattle.std.proofs.Common.{length, rules}
+use Rattle.std.proofs.Common.{◌<◌, length, rules}
 use Rattle.ps_rule.specs.Rule.{Enters}
 use Rattle.ps_table.specs.Tableau.{spot, cost_at, IsInside}
 use Rattle.ps_bland.specs.Runs.{face_of, IsSame, IsLawful, IsDone}
@@ -21,17 +21,19 @@ returns-in-Err-leaving-clause-round c =
     let enters : Enters (face_of t) (cost_at c.args.costs.now) q = search rules in
     let unfinished : IsDone c.args.phase t → ⊥ = search rules in
     let same : IsSame t t c.args.trace.now c.args.trace.now c.args.left.now c.args.left.now = search rules in
-    (same, at_ratio c.in-Ok-Some.enter unfinished inside enters c.in-Err-leaving.ensures.ratios c.in-Err-leaving.ensures.refused)
+    let some : 0 < c.args.left.now = search rules in
+    (same, at_ratio c.in-Ok-Some.enter unfinished some inside enters c.in-Err-leaving.ensures.ratios c.in-Err-leaving.ensures.refused)
 
 pub returns-in-Err-pivot_with_event-clause-round : goal.returns-in-Err-pivot_with_event-clause-round
 returns-in-Err-pivot_with_event-clause-round c =
     let t = c.args.table.now in
     let lawful : IsLawful c.args.phase c.args.costs.now t c.in-Ok-Some.enter c.in-Ok.leave = search rules in
     let same : IsSame t c.pivot_with_event.new.table c.args.trace.now c.pivot_with_event.new.trace c.args.left.now c.args.left.now = search rules in
-    (same, due_refusal c.args.phase c.args.costs.now t c.in-Ok-Some.enter c.in-Ok.leave lawful c.in-Err-pivot_with_event.refused c.in-Err-pivot_with_event.ensures.refused)
+    let some : 0 < c.args.left.now = search rules in
+    (same, due_refusal c.args.phase c.args.costs.now t c.args.left.now c.in-Ok-Some.enter c.in-Ok.leave some lawful c.in-Err-pivot_with_event.refused c.in-Err-pivot_with_event.ensures.refused)
 
 pub returns-clause-ready : goal.returns-clause-ready
 returns-clause-ready c =
     let t = c.args.table.now in
     let lawful : IsLawful c.args.phase c.args.costs.now t c.in-Ok-Some.enter c.in-Ok.leave = search rules in
-    ready_kept t c.pivot_with_event.new.table c.in-Ok-Some.enter c.in-Ok.leave c.is_due_to_end.ensures.tableau c.in-Ok-pivot_with_event.ensures.pivot c.args.phase c.args.costs.now c.requires lawful c.in-Ok-pivot_with_event.ensures.stands
+    ready_kept t c.pivot_with_event.new.table c.in-Ok-Some.enter c.in-Ok.leave c.is_due_to_end.ensures.tableau c.in-Ok-pivot_with_event.ensures.pivot c.args.phase c.args.costs.now c.requires lawful

@@ -4,8 +4,8 @@ use Rattle.ps_table.specs.Tableau.{entry_at}
 use Rattle.ps_bland.proofs.Ready.{ready_one}
 use Rattle.ps_bland.proofs.tests.is_ready.Goals as goal
 
-pub returns-then-are_small-2 : goal.returns-then-are_small-2
-returns-then-are_small-2 c = λ last.
+pub returns-then-are_between-2 : goal.returns-then-are_between-2
+returns-then-are_between-2 c = λ last.
     let costs = c.args.costs.now in
     let t = c.args.table.now in
     let eh : length costs.homes ≡ length t.kinds = search rules in

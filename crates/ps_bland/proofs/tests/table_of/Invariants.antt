@@ -1,0 +1,12 @@
+use Rattle.std.proofs.Common.{◌≡◌, ℕ, length}
+use Rattle.ps_rational.specs.Rational.{Rational}
+use Rattle.ps_table.specs.Tableau.{StandsFor}
+use Rattle.ps_bland.specs.Columns.{AreColumns}
+use Rattle.ps_bland.proofs.tests.table_of.Given as goal
+
+abbrev pub invariant-loop-k : goal.invariant-loop-k
+invariant-loop-k l = record {
+  kinds : length l.table.kinds ≡ 3;
+  count : l.table.worlds ≡ l.k;
+  stands : (A : ℕ → ℕ → Rational) → AreColumns 3 l.worlds A → StandsFor A l.table;
+}

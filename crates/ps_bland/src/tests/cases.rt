@@ -1,0 +1,735 @@
+//! Systems of three rows, and what each phase makes of them, one after the other. Computed by a
+//! Python program over `fractions`, which solves the table from its basis before each pivot.
+
+use crate::{Phase, Settled};
+use ps_frac::Op;
+use ps_pool::Col;
+use ps_table::{Home, Place, TableCol};
+
+/// How a phase ends; a fraction is its numerator and its denominator.
+#[derive(Drop)]
+pub(crate) enum End {
+    Settled(Settled),
+    Wide {
+        place: Place,
+        op: Op,
+        left: (i128, i128),
+        right: (i128, i128),
+    },
+}
+
+/// What a phase does: its pivots (the column that enters and the row that leaves), how many are
+/// left, and the values and the basic columns after them.
+#[derive(Drop)]
+pub(crate) struct Stage {
+    pub(crate) phase: Phase,
+    pub(crate) end: End,
+    pub(crate) pivots: &'static [(Col, u32)],
+    pub(crate) left: u64,
+    pub(crate) values: [(i128, i128); 3],
+    pub(crate) basic: [Col; 3],
+}
+
+/// A system, the worlds in which the query holds, and the limit of pivots for all its phases.
+#[derive(Drop)]
+pub(crate) struct Case {
+    pub(crate) homes: [Home; 3],
+    pub(crate) worlds: &'static [[i64; 3]],
+    pub(crate) query: &'static [i8],
+    pub(crate) limit: u64,
+    pub(crate) stages: &'static [Stage],
+}
+
+pub(crate) const CASES: [Case; 20] = [
+    // Pivots in each phase, and none left at the last rest.
+    Case {
+        homes: [Home::Artificial, Home::Slack, Home::Slack],
+        worlds: &[[1, -2, -1], [1, 1, 2], [1, -3, -1]],
+        query: &[1, 0, 0],
+        limit: 5,
+        stages: &[
+            Stage {
+                phase: Phase::One,
+                end: End::Settled(Settled::Feasible),
+                pivots: &[(Col::World(1), 0)],
+                left: 4,
+                values: [(1, 1), (2, 1), (1, 1)],
+                basic: [Col::World(1), Col::Home(1), Col::Home(2)],
+            },
+            Stage {
+                phase: Phase::Lower,
+                end: End::Settled(Settled::AtRest),
+                pivots: &[(Col::World(2), 2), (Col::World(3), 0)],
+                left: 2,
+                values: [(2, 3), (5, 3), (1, 3)],
+                basic: [Col::World(3), Col::Home(1), Col::World(2)],
+            },
+            Stage {
+                phase: Phase::Upper,
+                end: End::Settled(Settled::AtRest),
+                pivots: &[(Col::World(1), 0), (Col::Home(2), 2)],
+                left: 0,
+                values: [(1, 1), (2, 1), (1, 1)],
+                basic: [Col::World(1), Col::Home(1), Col::Home(2)],
+            },
+        ],
+    },
+    // Phase one comes to rest; two rows of equal ratio.
+    Case {
+        homes: [Home::Artificial, Home::Artificial, Home::Artificial],
+        worlds: &[[1, 3, -1], [1, 1, 3]],
+        query: &[1, 0],
+        limit: 9,
+        stages: &[Stage {
+            phase: Phase::One,
+            end: End::Settled(Settled::AtRest),
+            pivots: &[(Col::World(1), 1), (Col::World(2), 2)],
+            left: 7,
+            values: [(1, 1), (0, 1), (0, 1)],
+            basic: [Col::Home(0), Col::World(1), Col::World(2)],
+        }],
+    },
+    // Three rows of artificial homes; all three leave.
+    Case {
+        homes: [Home::Artificial, Home::Artificial, Home::Artificial],
+        worlds: &[[1, 1, -2], [1, -2, 2], [1, 0, 0]],
+        query: &[1, 1, 1],
+        limit: 9,
+        stages: &[
+            Stage {
+                phase: Phase::One,
+                end: End::Settled(Settled::Feasible),
+                pivots: &[(Col::World(2), 2), (Col::World(1), 0), (Col::World(3), 1)],
+                left: 6,
+                values: [(0, 1), (1, 1), (0, 1)],
+                basic: [Col::World(1), Col::World(3), Col::World(2)],
+            },
+            Stage {
+                phase: Phase::Lower,
+                end: End::Settled(Settled::AtRest),
+                pivots: &[],
+                left: 6,
+                values: [(0, 1), (1, 1), (0, 1)],
+                basic: [Col::World(1), Col::World(3), Col::World(2)],
+            },
+            Stage {
+                phase: Phase::Upper,
+                end: End::Settled(Settled::AtRest),
+                pivots: &[],
+                left: 6,
+                values: [(0, 1), (1, 1), (0, 1)],
+                basic: [Col::World(1), Col::World(3), Col::World(2)],
+            },
+        ],
+    },
+    // Of two equal ratios that of the lesser basic column, in the greater row, leaves.
+    Case {
+        homes: [Home::Artificial, Home::Slack, Home::Slack],
+        worlds: &[[1, -2, -3], [1, -1, 0]],
+        query: &[1, 0],
+        limit: 9,
+        stages: &[
+            Stage {
+                phase: Phase::One,
+                end: End::Settled(Settled::Feasible),
+                pivots: &[(Col::World(1), 0)],
+                left: 8,
+                values: [(1, 1), (2, 1), (3, 1)],
+                basic: [Col::World(1), Col::Home(1), Col::Home(2)],
+            },
+            Stage {
+                phase: Phase::Lower,
+                end: End::Settled(Settled::AtRest),
+                pivots: &[(Col::World(2), 2)],
+                left: 7,
+                values: [(0, 1), (1, 1), (1, 1)],
+                basic: [Col::World(1), Col::Home(1), Col::World(2)],
+            },
+            Stage {
+                phase: Phase::Upper,
+                end: End::Settled(Settled::AtRest),
+                pivots: &[(Col::Home(2), 2)],
+                left: 6,
+                values: [(1, 1), (2, 1), (3, 1)],
+                basic: [Col::World(1), Col::Home(1), Col::Home(2)],
+            },
+        ],
+    },
+    // The same for the greatest value.
+    Case {
+        homes: [Home::Artificial, Home::Slack, Home::Slack],
+        worlds: &[[1, -2, -2], [1, 0, 0]],
+        query: &[0, 1],
+        limit: 9,
+        stages: &[
+            Stage {
+                phase: Phase::One,
+                end: End::Settled(Settled::Feasible),
+                pivots: &[(Col::World(1), 0)],
+                left: 8,
+                values: [(1, 1), (2, 1), (2, 1)],
+                basic: [Col::World(1), Col::Home(1), Col::Home(2)],
+            },
+            Stage {
+                phase: Phase::Lower,
+                end: End::Settled(Settled::AtRest),
+                pivots: &[],
+                left: 8,
+                values: [(1, 1), (2, 1), (2, 1)],
+                basic: [Col::World(1), Col::Home(1), Col::Home(2)],
+            },
+            Stage {
+                phase: Phase::Upper,
+                end: End::Settled(Settled::AtRest),
+                pivots: &[(Col::World(2), 1)],
+                left: 7,
+                values: [(0, 1), (1, 1), (0, 1)],
+                basic: [Col::World(1), Col::World(2), Col::Home(2)],
+            },
+        ],
+    },
+    // An artificial row with an entry below 0 leaves.
+    Case {
+        homes: [Home::Artificial, Home::Slack, Home::Artificial],
+        worlds: &[[1, 1, -3], [1, -3, 0]],
+        query: &[0, 1],
+        limit: 9,
+        stages: &[
+            Stage {
+                phase: Phase::One,
+                end: End::Settled(Settled::Feasible),
+                pivots: &[(Col::World(2), 0)],
+                left: 8,
+                values: [(1, 1), (3, 1), (0, 1)],
+                basic: [Col::World(2), Col::Home(1), Col::Home(2)],
+            },
+            Stage {
+                phase: Phase::Lower,
+                end: End::Settled(Settled::AtRest),
+                pivots: &[(Col::World(1), 2)],
+                left: 7,
+                values: [(1, 1), (3, 1), (0, 1)],
+                basic: [Col::World(2), Col::Home(1), Col::World(1)],
+            },
+            Stage {
+                phase: Phase::Upper,
+                end: End::Settled(Settled::AtRest),
+                pivots: &[],
+                left: 7,
+                values: [(1, 1), (3, 1), (0, 1)],
+                basic: [Col::World(2), Col::Home(1), Col::World(1)],
+            },
+        ],
+    },
+    // The same for the greatest value.
+    Case {
+        homes: [Home::Artificial, Home::Artificial, Home::Slack],
+        worlds: &[[1, 0, -3], [1, -1, 0]],
+        query: &[0, 1],
+        limit: 9,
+        stages: &[
+            Stage {
+                phase: Phase::One,
+                end: End::Settled(Settled::Feasible),
+                pivots: &[(Col::World(1), 0)],
+                left: 8,
+                values: [(1, 1), (0, 1), (3, 1)],
+                basic: [Col::World(1), Col::Home(1), Col::Home(2)],
+            },
+            Stage {
+                phase: Phase::Lower,
+                end: End::Settled(Settled::AtRest),
+                pivots: &[],
+                left: 8,
+                values: [(1, 1), (0, 1), (3, 1)],
+                basic: [Col::World(1), Col::Home(1), Col::Home(2)],
+            },
+            Stage {
+                phase: Phase::Upper,
+                end: End::Settled(Settled::AtRest),
+                pivots: &[(Col::World(2), 1)],
+                left: 7,
+                values: [(1, 1), (0, 1), (3, 1)],
+                basic: [Col::World(1), Col::World(2), Col::Home(2)],
+            },
+        ],
+    },
+    // Of two artificial rows the lesser leaves.
+    Case {
+        homes: [Home::Artificial, Home::Artificial, Home::Artificial],
+        worlds: &[[1, -2, 1], [1, 0, 0]],
+        query: &[0, 1],
+        limit: 9,
+        stages: &[
+            Stage {
+                phase: Phase::One,
+                end: End::Settled(Settled::Feasible),
+                pivots: &[(Col::World(2), 0)],
+                left: 8,
+                values: [(1, 1), (0, 1), (0, 1)],
+                basic: [Col::World(2), Col::Home(1), Col::Home(2)],
+            },
+            Stage {
+                phase: Phase::Lower,
+                end: End::Settled(Settled::AtRest),
+                pivots: &[(Col::World(1), 1)],
+                left: 7,
+                values: [(1, 1), (0, 1), (0, 1)],
+                basic: [Col::World(2), Col::World(1), Col::Home(2)],
+            },
+            Stage {
+                phase: Phase::Upper,
+                end: End::Settled(Settled::AtRest),
+                pivots: &[],
+                left: 7,
+                values: [(1, 1), (0, 1), (0, 1)],
+                basic: [Col::World(2), Col::World(1), Col::Home(2)],
+            },
+        ],
+    },
+    // The same for the greatest value.
+    Case {
+        homes: [Home::Artificial, Home::Artificial, Home::Artificial],
+        worlds: &[[1, 0, 0], [1, -2, -1]],
+        query: &[0, 1],
+        limit: 9,
+        stages: &[
+            Stage {
+                phase: Phase::One,
+                end: End::Settled(Settled::Feasible),
+                pivots: &[(Col::World(1), 0)],
+                left: 8,
+                values: [(1, 1), (0, 1), (0, 1)],
+                basic: [Col::World(1), Col::Home(1), Col::Home(2)],
+            },
+            Stage {
+                phase: Phase::Lower,
+                end: End::Settled(Settled::AtRest),
+                pivots: &[],
+                left: 8,
+                values: [(1, 1), (0, 1), (0, 1)],
+                basic: [Col::World(1), Col::Home(1), Col::Home(2)],
+            },
+            Stage {
+                phase: Phase::Upper,
+                end: End::Settled(Settled::AtRest),
+                pivots: &[(Col::World(2), 1)],
+                left: 7,
+                values: [(1, 1), (0, 1), (0, 1)],
+                basic: [Col::World(1), Col::World(2), Col::Home(2)],
+            },
+        ],
+    },
+    // Six pivots.
+    Case {
+        homes: [Home::Artificial, Home::Slack, Home::Slack],
+        worlds: &[[1, 2, 1], [1, 1, 3], [1, -3, -2]],
+        query: &[0, 1, 0],
+        limit: 9,
+        stages: &[
+            Stage {
+                phase: Phase::One,
+                end: End::Settled(Settled::Feasible),
+                pivots: &[(Col::World(1), 1), (Col::World(2), 2), (Col::World(3), 0)],
+                left: 6,
+                values: [(5, 13), (7, 13), (1, 13)],
+                basic: [Col::World(3), Col::World(1), Col::World(2)],
+            },
+            Stage {
+                phase: Phase::Lower,
+                end: End::Settled(Settled::AtRest),
+                pivots: &[(Col::Home(2), 2)],
+                left: 5,
+                values: [(2, 5), (3, 5), (1, 5)],
+                basic: [Col::World(3), Col::World(1), Col::Home(2)],
+            },
+            Stage {
+                phase: Phase::Upper,
+                end: End::Settled(Settled::AtRest),
+                pivots: &[(Col::World(2), 2), (Col::Home(1), 1)],
+                left: 3,
+                values: [(3, 5), (7, 5), (2, 5)],
+                basic: [Col::World(3), Col::Home(1), Col::World(2)],
+            },
+        ],
+    },
+    // The same with two pivots: none is left in phase one.
+    Case {
+        homes: [Home::Artificial, Home::Slack, Home::Slack],
+        worlds: &[[1, 2, 1], [1, 1, 3], [1, -3, -2]],
+        query: &[0, 1, 0],
+        limit: 2,
+        stages: &[Stage {
+            phase: Phase::One,
+            end: End::Settled(Settled::OutOfPivots),
+            pivots: &[(Col::World(1), 1), (Col::World(2), 2)],
+            left: 0,
+            values: [(1, 1), (0, 1), (0, 1)],
+            basic: [Col::Home(0), Col::World(1), Col::World(2)],
+        }],
+    },
+    // With three: phase one ends, and none is left for the least value.
+    Case {
+        homes: [Home::Artificial, Home::Slack, Home::Slack],
+        worlds: &[[1, 2, 1], [1, 1, 3], [1, -3, -2]],
+        query: &[0, 1, 0],
+        limit: 3,
+        stages: &[
+            Stage {
+                phase: Phase::One,
+                end: End::Settled(Settled::Feasible),
+                pivots: &[(Col::World(1), 1), (Col::World(2), 2), (Col::World(3), 0)],
+                left: 0,
+                values: [(5, 13), (7, 13), (1, 13)],
+                basic: [Col::World(3), Col::World(1), Col::World(2)],
+            },
+            Stage {
+                phase: Phase::Lower,
+                end: End::Settled(Settled::OutOfPivots),
+                pivots: &[],
+                left: 0,
+                values: [(5, 13), (7, 13), (1, 13)],
+                basic: [Col::World(3), Col::World(1), Col::World(2)],
+            },
+        ],
+    },
+    // With five: none is left for the greatest value.
+    Case {
+        homes: [Home::Artificial, Home::Slack, Home::Slack],
+        worlds: &[[1, 2, 1], [1, 1, 3], [1, -3, -2]],
+        query: &[0, 1, 0],
+        limit: 5,
+        stages: &[
+            Stage {
+                phase: Phase::One,
+                end: End::Settled(Settled::Feasible),
+                pivots: &[(Col::World(1), 1), (Col::World(2), 2), (Col::World(3), 0)],
+                left: 2,
+                values: [(5, 13), (7, 13), (1, 13)],
+                basic: [Col::World(3), Col::World(1), Col::World(2)],
+            },
+            Stage {
+                phase: Phase::Lower,
+                end: End::Settled(Settled::AtRest),
+                pivots: &[(Col::Home(2), 2)],
+                left: 1,
+                values: [(2, 5), (3, 5), (1, 5)],
+                basic: [Col::World(3), Col::World(1), Col::Home(2)],
+            },
+            Stage {
+                phase: Phase::Upper,
+                end: End::Settled(Settled::OutOfPivots),
+                pivots: &[(Col::World(2), 2)],
+                left: 0,
+                values: [(5, 13), (7, 13), (1, 13)],
+                basic: [Col::World(3), Col::World(1), Col::World(2)],
+            },
+        ],
+    },
+    // A difference of the second pivot is too wide.
+    Case {
+        homes: [Home::Artificial, Home::Artificial, Home::Slack],
+        worlds: &[
+            [1, 17044500503549, -6145081616091],
+            [1, -9728764368151, -12312634273992],
+            [1, 15034132573355, -13879260160213],
+        ],
+        query: &[1, 1, 1],
+        limit: 9,
+        stages: &[Stage {
+            phase: Phase::One,
+            end: End::Wide {
+                place: Place::Minus {
+                    row: 2,
+                    col: TableCol::Of(Col::World(3)),
+                },
+                op: Op::Sub,
+                left: (-144179085099239364909240632, 17044500503549),
+                right: (
+                    -90348197166912476522718802927252857951,
+                    76056154431223567146610550,
+                ),
+            },
+            pivots: &[(Col::World(1), 1)],
+            left: 8,
+            values: [(1, 1), (0, 1), (0, 1)],
+            basic: [Col::Home(0), Col::World(1), Col::Home(2)],
+        }],
+    },
+    // A product of the second pivot is too wide.
+    Case {
+        homes: [Home::Artificial, Home::Artificial, Home::Artificial],
+        worlds: &[
+            [1, 9223372036854775807, 1],
+            [1, 2305843009213693952, 1099511627776],
+        ],
+        query: &[1, 1],
+        limit: 9,
+        stages: &[Stage {
+            phase: Phase::One,
+            end: End::Wide {
+                place: Place::Times {
+                    row: 0,
+                    col: TableCol::Of(Col::Home(1)),
+                },
+                op: Op::Mul,
+                left: (6917529027641081855, 9223372036854775807),
+                right: (-1, 10141204801823529367864900321280),
+            },
+            pivots: &[(Col::World(1), 1)],
+            left: 8,
+            values: [(1, 1), (0, 1), (0, 1)],
+            basic: [Col::Home(0), Col::World(1), Col::Home(2)],
+        }],
+    },
+    // A product of a pivot for the least value is too wide.
+    Case {
+        homes: [Home::Artificial, Home::Slack, Home::Artificial],
+        worlds: &[
+            [1, -4449699016603, -8485869709519],
+            [1, 12362963957229, -5261459060521],
+            [1, -13653369566989, -5648677163926],
+            [1, 12039237847974, 14212085263314],
+        ],
+        query: &[1, 1, 1, 0],
+        limit: 9,
+        stages: &[
+            Stage {
+                phase: Phase::One,
+                end: End::Settled(Settled::Feasible),
+                pivots: &[(Col::World(4), 1), (Col::World(3), 2), (Col::Home(1), 0)],
+                left: 6,
+                values: [
+                    (63018542257329941181077811, 9930381213620),
+                    (2824338581963, 9930381213620),
+                    (7106042631657, 9930381213620),
+                ],
+                basic: [Col::Home(1), Col::World(4), Col::World(3)],
+            },
+            Stage {
+                phase: Phase::Lower,
+                end: End::Wide {
+                    place: Place::Times {
+                        row: 2,
+                        col: TableCol::Of(Col::Home(2)),
+                    },
+                    op: Op::Mul,
+                    left: (3242564996119, 2837251775320),
+                    right: (-25692607414963, 255686788494382021326822699),
+                },
+                pivots: &[],
+                left: 6,
+                values: [
+                    (63018542257329941181077811, 9930381213620),
+                    (2824338581963, 9930381213620),
+                    (7106042631657, 9930381213620),
+                ],
+                basic: [Col::Home(1), Col::World(4), Col::World(3)],
+            },
+        ],
+    },
+    // A difference of the third pivot for the greatest value is too wide.
+    Case {
+        homes: [Home::Artificial, Home::Slack, Home::Slack],
+        worlds: &[
+            [1, -6850274007425, 4854227964723],
+            [1, 8800351720060, -11685467669297],
+            [1, -11194749658880, 16877076001596],
+            [1, -10931033891677, -7124177471256],
+        ],
+        query: &[0, 1, 0, 0],
+        limit: 9,
+        stages: &[
+            Stage {
+                phase: Phase::One,
+                end: End::Settled(Settled::Feasible),
+                pivots: &[(Col::World(1), 2), (Col::World(2), 0)],
+                left: 7,
+                values: [
+                    (4854227964723, 16539695634020),
+                    (7465948404135405754217369, 3307939126804),
+                    (11685467669297, 16539695634020),
+                ],
+                basic: [Col::World(2), Col::Home(1), Col::World(1)],
+            },
+            Stage {
+                phase: Phase::Lower,
+                end: End::Settled(Settled::AtRest),
+                pivots: &[(Col::World(4), 0)],
+                left: 6,
+                values: [
+                    (539358662747, 1330933937331),
+                    (11318255350660124403042919, 1330933937331),
+                    (791575274584, 1330933937331),
+                ],
+                basic: [Col::World(4), Col::Home(1), Col::World(1)],
+            },
+            Stage {
+                phase: Phase::Upper,
+                end: End::Wide {
+                    place: Place::Minus {
+                        row: 2,
+                        col: TableCol::Of(Col::World(4)),
+                    },
+                    op: Op::Sub,
+                    left: (19731385611737, 15650625727485),
+                    right: (
+                        -67973764830475770940357901772280611916,
+                        24270737847835892185041023042517647439,
+                    ),
+                },
+                pivots: &[(Col::World(2), 0), (Col::Home(2), 1)],
+                left: 4,
+                values: [
+                    (1370054801485, 3130125145497),
+                    (7465948404135405754217369, 3130125145497),
+                    (1760070344012, 3130125145497),
+                ],
+                basic: [Col::World(2), Col::Home(2), Col::World(1)],
+            },
+        ],
+    },
+    // A ratio is too wide.
+    Case {
+        homes: [Home::Artificial, Home::Artificial, Home::Artificial],
+        worlds: &[
+            [1, -2, -9223372036854775808],
+            [1, 3, -9223372036854775808],
+            [1, 9223372036854775807, -9223372036854775808],
+            [1, -1, -1],
+            [1, 0, 9223372036854775807],
+        ],
+        query: &[0, 0, 1, 0, 0],
+        limit: 9,
+        stages: &[
+            Stage {
+                phase: Phase::One,
+                end: End::Settled(Settled::Feasible),
+                pivots: &[(Col::World(5), 2), (Col::World(1), 0), (Col::World(2), 1)],
+                left: 6,
+                values: [
+                    (9223372036854775807, 30744573456182586025),
+                    (18446744073709551614, 92233720368547758075),
+                    (9223372036854775808, 18446744073709551615),
+                ],
+                basic: [Col::World(1), Col::World(2), Col::World(5)],
+            },
+            Stage {
+                phase: Phase::Lower,
+                end: End::Settled(Settled::AtRest),
+                pivots: &[],
+                left: 6,
+                values: [
+                    (9223372036854775807, 30744573456182586025),
+                    (18446744073709551614, 92233720368547758075),
+                    (9223372036854775808, 18446744073709551615),
+                ],
+                basic: [Col::World(1), Col::World(2), Col::World(5)],
+            },
+            Stage {
+                phase: Phase::Upper,
+                end: End::Wide {
+                    place: Place::Ratio { row: 1 },
+                    op: Op::Div,
+                    left: (18446744073709551614, 92233720368547758075),
+                    right: (9223372036854775809, 5),
+                },
+                pivots: &[],
+                left: 6,
+                values: [
+                    (9223372036854775807, 30744573456182586025),
+                    (18446744073709551614, 92233720368547758075),
+                    (9223372036854775808, 18446744073709551615),
+                ],
+                basic: [Col::World(1), Col::World(2), Col::World(5)],
+            },
+        ],
+    },
+    // The same with no pivot left: no ratio is taken.
+    Case {
+        homes: [Home::Artificial, Home::Artificial, Home::Artificial],
+        worlds: &[
+            [1, -2, -9223372036854775808],
+            [1, 3, -9223372036854775808],
+            [1, 9223372036854775807, -9223372036854775808],
+            [1, -1, -1],
+            [1, 0, 9223372036854775807],
+        ],
+        query: &[0, 0, 1, 0, 0],
+        limit: 3,
+        stages: &[
+            Stage {
+                phase: Phase::One,
+                end: End::Settled(Settled::Feasible),
+                pivots: &[(Col::World(5), 2), (Col::World(1), 0), (Col::World(2), 1)],
+                left: 0,
+                values: [
+                    (9223372036854775807, 30744573456182586025),
+                    (18446744073709551614, 92233720368547758075),
+                    (9223372036854775808, 18446744073709551615),
+                ],
+                basic: [Col::World(1), Col::World(2), Col::World(5)],
+            },
+            Stage {
+                phase: Phase::Lower,
+                end: End::Settled(Settled::AtRest),
+                pivots: &[],
+                left: 0,
+                values: [
+                    (9223372036854775807, 30744573456182586025),
+                    (18446744073709551614, 92233720368547758075),
+                    (9223372036854775808, 18446744073709551615),
+                ],
+                basic: [Col::World(1), Col::World(2), Col::World(5)],
+            },
+            Stage {
+                phase: Phase::Upper,
+                end: End::Settled(Settled::OutOfPivots),
+                pivots: &[],
+                left: 0,
+                values: [
+                    (9223372036854775807, 30744573456182586025),
+                    (18446744073709551614, 92233720368547758075),
+                    (9223372036854775808, 18446744073709551615),
+                ],
+                basic: [Col::World(1), Col::World(2), Col::World(5)],
+            },
+        ],
+    },
+    // A quotient of the second pivot for the least value is too wide.
+    Case {
+        homes: [Home::Artificial, Home::Slack, Home::Artificial],
+        worlds: &[
+            [1, -1099511627776, -9223372036854775808],
+            [1, -9223372036854775808, 0],
+            [1, 9223372036854775807, 2],
+        ],
+        query: &[1, 1, 0],
+        limit: 9,
+        stages: &[
+            Stage {
+                phase: Phase::One,
+                end: End::Settled(Settled::Feasible),
+                pivots: &[(Col::World(2), 0)],
+                left: 8,
+                values: [(1, 1), (9223372036854775808, 1), (0, 1)],
+                basic: [Col::World(2), Col::Home(1), Col::Home(2)],
+            },
+            Stage {
+                phase: Phase::Lower,
+                end: End::Wide {
+                    place: Place::Scale {
+                        col: TableCol::Of(Col::Home(2)),
+                    },
+                    op: Op::Div,
+                    left: (-18446744073709551615, 2),
+                    right: (85070591730234615870455336776857812992, 1),
+                },
+                pivots: &[(Col::World(3), 2)],
+                left: 7,
+                values: [(1, 1), (9223372036854775808, 1), (0, 1)],
+                basic: [Col::World(2), Col::Home(1), Col::World(3)],
+            },
+        ],
+    },
+];
