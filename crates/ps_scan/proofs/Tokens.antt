@@ -1,21 +1,19 @@
 -- Whole tokens, byte by byte.
-use Rattle.std.proofs.Common.{◌≡◌, ℕ, suc, zero, ◌+◌, ◌<◌, ◌≤◌, min, Bool, true, false, not, ◌&&◌, ◌||◌, List, [], ◌∷◌, ◌++◌, length, take, Option, Some, None, refl, sym, ap, subst, ◌∙◌, arith, append_assoc}
+use Rattle.std.proofs.Common.{◌≡◌, ℕ, suc, ◌+◌, min, true, false, List, [], ◌∷◌, ◌++◌, length, take, refl, sym, ap, ◌∙◌, arith, append_assoc}
 use Rattle.std.proofs.lemmas.Bool.Decides.{nat_tests}
-use Rattle.std.specs.Prelude.{nat_le, ◌==◌, IsTrue, if◌then◌else◌}
+use Rattle.std.specs.Prelude.{◌==◌}
 use Rattle.ps_text.specs.Tokens as text
 use Rattle.ps_text.specs.Tokens.{One, IsToken, IsNumeral, is_letter, is_digit, numeral_spelling, symbol_spelling, spelling}
 use Rattle.ps_text.specs.Pieces.{is_blank}
-use Rattle.ps_text.proofs.Spans.{starts, both, false_true, refute}
-use Rattle.ps_text.proofs.Longest.{Stops, NumeralStops}
+use Rattle.ps_text.proofs.Spans.{refute}
 use Rattle.ps_scan.specs.declared.position.Position.{Position}
 use Rattle.ps_scan.specs.declared.digits.Digits.{Digits}
-use Rattle.ps_scan.specs.declared.token.Token.{Token}
 use Rattle.ps_scan.specs.declared.mode.Mode.{Mode}
 use Rattle.ps_scan.specs.declared.mode.Mode.TheVariants as mode
 use Rattle.ps_scan.specs.Counted.{no_digits, with_digit, with_digits}
 use Rattle.ps_scan.specs.Places.{behind}
-use Rattle.ps_scan.specs.Seen.{seen, symbol_seen, behind_all}
-use Rattle.ps_scan.specs.Scanning.{Scanned, begun, symbol_begun, ended, goes_on, stepped_in, token_ended, with_byte, with_place, stops_or, after_tokens, bad_place, scanned}
+use Rattle.ps_scan.specs.Seen.{symbol_seen, behind_all}
+use Rattle.ps_scan.specs.Scanning.{Scanned, begun, token_ended, with_byte, scanned}
 use Rattle.ps_scan.proofs.Words.{state, one_at, word_scanned, whole_scanned, quotient_scanned, decimal_scanned}
 
 -- what the last byte of a token stands in

@@ -1,12 +1,11 @@
 -- The tokens that bytes tell are those of their pieces.
-use Rattle.std.proofs.Common.{◌≡◌, ℕ, suc, zero, ◌+◌, ◌<◌, ◌≤◌, Bool, true, false, not, ◌&&◌, ◌||◌, ◌⊎◌, inl, inr, List, [], ◌∷◌, ◌++◌, length, take, Option, Some, None, refl, sym, ap, subst, ◌∙◌, arith, append_assoc, append-nil}
-use Rattle.std.proofs.lemmas.Bool.Decides.{nat_tests}
-use Rattle.std.specs.Prelude.{nat_le, ◌==◌, IsTrue, if◌then◌else◌}
+use Rattle.std.proofs.Common.{◌≡◌, ℕ, Bool, true, false, not, ◌||◌, inl, inr, List, [], ◌∷◌, ◌++◌, Option, Some, None, refl, sym, ap, subst, ◌∙◌, append_assoc, append-nil}
+use Rattle.std.specs.Prelude.{◌==◌, IsTrue, if◌then◌else◌}
 use Rattle.std.specs.List.{AllByRecursion}
 use Rattle.ps_text.specs.Tokens as text
 use Rattle.ps_text.specs.Tokens.{One, IsToken, IsNumeral, is_letter, is_digit, is_word_byte, numeral_spelling, symbol_spelling, spelling, BeginsNone}
 use Rattle.ps_text.specs.Pieces.{text as text_of, Piece, Blank, Comment, Spelled, texts, Cuts, Fits, IsBad, EndsLine, is_blank}
-use Rattle.ps_text.proofs.Spans.{starts, starts_behind, both, same_byte}
+use Rattle.ps_text.proofs.Spans.{starts_behind, same_byte}
 use Rattle.ps_text.proofs.Longest.{Stops, longest_stops}
 use Rattle.ps_text.proofs.Cutting.{decide}
 use Rattle.ps_scan.specs.declared.position.Position.{Position}
@@ -16,8 +15,8 @@ use Rattle.ps_scan.specs.declared.mode.Mode.{Mode}
 use Rattle.ps_scan.specs.declared.mode.Mode.TheVariants as mode
 use Rattle.ps_scan.specs.Counted.{no_digits, with_digits}
 use Rattle.ps_scan.specs.Places.{start, behind}
-use Rattle.ps_scan.specs.Seen.{seen, symbol_seen, behind_all, told}
-use Rattle.ps_scan.specs.Scanning.{Scanned, begun, symbol_begun, ended, goes_on, stepped_in, token_ended, with_byte, last_token, last_bad, with_place, stops_or, after_tokens, bad_place, new_scan, scanned}
+use Rattle.ps_scan.specs.Seen.{seen, behind_all, told}
+use Rattle.ps_scan.specs.Scanning.{begun, symbol_begun, ended, goes_on, stepped_in, token_ended, with_byte, stops_or, after_tokens, bad_place, new_scan, scanned}
 use Rattle.ps_scan.proofs.Words.{state, GoesOn, span_scanned, all_of, one_at}
 use Rattle.ps_scan.proofs.Tokens.{mode_of, begun_at, head_of, tail_of, token_scanned, word_begun, number_begun, behind_append}
 

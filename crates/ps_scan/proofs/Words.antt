@@ -1,16 +1,15 @@
 -- The bytes of a word, of digits and of symbols, one after the other.
-use Rattle.std.proofs.Common.{◌≡◌, ℕ, suc, zero, ◌+◌, ◌-◌, ◌<◌, ◌≤◌, min, Bool, true, false, not, List, [], ◌∷◌, ◌++◌, length, take, Option, Some, None, refl, sym, ap, subst, ◌∙◌, arith, append_assoc, length-append}
+use Rattle.std.proofs.Common.{◌≡◌, ℕ, ◌+◌, ◌≤◌, min, Bool, true, false, List, [], ◌∷◌, ◌++◌, length, take, None, refl, sym, ap, ◌∙◌, arith, append_assoc, length-append}
 use Rattle.std.proofs.lemmas.Bool.Decides.{nat_tests}
 use Rattle.std.proofs.lemmas.List.{append-nil, length-take, take_all, take-append-le}
-use Rattle.std.specs.Prelude.{nat_lt, ◌==◌, IsTrue, if◌then◌else◌}
+use Rattle.std.specs.Prelude.{nat_lt, IsTrue, if◌then◌else◌}
 use Rattle.std.specs.List.{AllByRecursion}
 use Rattle.ps_text.specs.Tokens.{is_digit, is_word_byte}
 use Rattle.ps_scan.specs.declared.position.Position.{Position}
 use Rattle.ps_scan.specs.declared.digits.Digits.{Digits}
-use Rattle.ps_scan.specs.declared.token.Token.{Token}
 use Rattle.ps_scan.specs.declared.mode.Mode.{Mode}
 use Rattle.ps_scan.specs.declared.mode.Mode.TheVariants as mode
-use Rattle.ps_scan.specs.Counted.{no_digits, with_digit, with_digits}
+use Rattle.ps_scan.specs.Counted.{with_digit, with_digits}
 use Rattle.ps_scan.specs.Places.{behind}
 use Rattle.ps_scan.specs.Seen.{behind_all}
 use Rattle.ps_scan.specs.Scanning.{Scanned, goes_on, letter_kept, stepped_in, token_ended, with_byte, bad_place, scanned}

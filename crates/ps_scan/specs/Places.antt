@@ -3,6 +3,7 @@ use Rattle.std.specs.Prelude.{ℕ, ◌+◌, ◌≤◌, ◌==◌, if◌then◌els
 use Rattle.ps_text.specs.Positions as text
 use Rattle.ps_scan.specs.declared.position.Position.{Position}
 
+-- a position as the text has it
 abbrev pub position_of : Position → text.Position
 position_of p = record { line = p.line; column = p.column }
 

@@ -1,5 +1,5 @@
 -- What one more byte does.
-use Rattle.std.specs.Prelude.{◌≡◌, ℕ, ◌+◌, ◌<◌, ◌≤◌, min, nat_lt, ◌==◌, if◌then◌else◌, List, [], ◌∷◌, ◌++◌, length, Option, Some, None}
+use Rattle.std.specs.Prelude.{ℕ, ◌+◌, ◌≤◌, min, nat_lt, ◌==◌, if◌then◌else◌, List, [], ◌∷◌, ◌++◌, length, Option, Some, None}
 use Rattle.ps_text.specs.Tokens.{is_letter, is_digit, is_word_byte}
 use Rattle.ps_text.specs.Pieces.{is_blank}
 use Rattle.ps_scan.specs.declared.digits.Digits.{Digits}
@@ -14,7 +14,7 @@ use Rattle.ps_scan.specs.declared.step.Step.{Step}
 use Rattle.ps_scan.specs.Counted.{no_digits, with_digit, IsCapped}
 use Rattle.ps_scan.specs.Places.{behind}
 
--- the mode behind a byte outside of tokens that stands here
+-- the mode behind a symbol's first byte, ( ) [ ] , ; ! & | = - < or >, and behind one that begins no token
 abbrev pub symbol_begun : Position → ℕ → Mode
 symbol_begun here b =
     if b == 40 then mode.Sign symbol.Open else if b == 41 then mode.Sign symbol.Close
@@ -25,6 +25,7 @@ symbol_begun here b =
     else if b == 45 then mode.Minus else if b == 60 then mode.Less else if b == 62 then mode.Greater
     else mode.Bad here
 
+-- the mode behind a byte outside of tokens that stands here
 unfoldable pub begun : Position → ℕ → Mode
 begun here b =
     if is_blank b then mode.Between else if b == 35 then mode.Comment
@@ -39,13 +40,15 @@ ended t here b = record { mode = begun here b; began = here; ended = Some t }
 abbrev pub goes_on : Mode → Position → Step
 goes_on m began = record { mode = m; began = began; ended = None }
 
+-- one letter more of a word, of which 33 are kept
 abbrev pub letter_kept : List ℕ → ℕ → List ℕ
 letter_kept w b = if nat_lt (length w) 33 then w ++ b ∷ [] else w
 
+-- digits without `/` or `.`
 abbrev pub whole : Digits → Token
 whole d = token.Number (numeral.Whole d)
 
--- a byte behind each mode, where the token that isn't whole began there
+-- what a byte does that stands here, by the mode and the place where the token began that isn't whole
 abbrev pub stepped_in : Mode → Position → Position → ℕ → Step
 stepped_in mode.Between began here b = record { mode = begun here b; began = here; ended = None }
 stepped_in mode.Comment began here b = goes_on (if b == 10 then mode.Between else mode.Comment) began
@@ -76,6 +79,7 @@ pub record Scanned : Type 0 where
   pub began : Position
   pub here : Position
 
+-- before the first byte
 abbrev pub new_scan : Scanned
 new_scan = record { mode = mode.Between; began = record { line = 1; column = 1 }; here = record { line = 1; column = 1 } }
 
@@ -86,6 +90,10 @@ token_ended s b = (stepped_in s.mode s.began s.here b).ended
 -- what the bytes and one more stand in
 unfoldable pub with_byte : Scanned → ℕ → Scanned
 with_byte s b = record { mode = (stepped_in s.mode s.began s.here b).mode; began = (stepped_in s.mode s.began s.here b).began; here = behind s.here b }
+
+-- what was begun is lost
+abbrev pub with_none_begun : Scanned → Scanned
+with_none_begun s = record { mode = mode.Between; began = s.began; here = s.here }
 
 -- what the end of the bytes does: the token that ends there, if there is one, and the place where no token begins, if there is one
 abbrev pub last_token : Mode → Option Token
@@ -114,6 +122,7 @@ abbrev pub bad_place : Mode → Option Position
 bad_place (mode.Bad p) = Some p
 bad_place m = None
 
+-- of letters and digits no more is kept than counts
 abbrev pub IsCappedMode : Mode → Type 0
 IsCappedMode (mode.Word w) = length w ≤ 33
 IsCappedMode (mode.Whole d) = IsCapped d
@@ -136,14 +145,16 @@ abbrev pub with_place : Option Token → Position → List (Token × Position)
 with_place None p = []
 with_place (Some t) p = (t, p) ∷ []
 
--- the tokens that bytes tell from here on, with where they begin, and where no token begins, if there is such a place
+-- behind a place where no token begins nothing is told
 abbrev pub stops_or : Option Position → List (Token × Position) × Option Position → List (Token × Position) × Option Position
 stops_or (Some p) rest = ([], Some p)
 stops_or None rest = rest
 
+-- tokens, and then what else is told
 abbrev pub after_tokens : List (Token × Position) → List (Token × Position) × Option Position → List (Token × Position) × Option Position
 after_tokens ts rest = (ts ++ rest.0, rest.1)
 
+-- the tokens that bytes tell from here on, with where they begin, and where no token begins, if there is such a place
 unfoldable pub scanned : Scanned → List ℕ → List (Token × Position) × Option Position
 scanned s [] = (with_place (last_token s.mode) s.began, last_bad s.mode s.began)
 scanned s (b ∷ bs) = after_tokens (with_place (token_ended s b) s.began) (stops_or (bad_place (with_byte s b).mode) (scanned (with_byte s b) bs))

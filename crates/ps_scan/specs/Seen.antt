@@ -12,11 +12,13 @@ use Rattle.ps_scan.specs.declared.token.Token.TheVariants as token
 use Rattle.ps_scan.specs.Counted.{no_digits, with_digits}
 use Rattle.ps_scan.specs.Places.{behind}
 
+-- what is kept of a number: what counts of its digits, and how many of them are decimals, 7 for more
 abbrev pub numeral_seen : text.Numeral → Numeral
 numeral_seen (text.Whole ds) = numeral.Whole (with_digits no_digits ds)
 numeral_seen (text.Quotient ds es) = numeral.Quotient (with_digits no_digits ds) (with_digits no_digits es)
 numeral_seen (text.Decimal ds es) = numeral.Decimal (with_digits (with_digits no_digits ds) es) (min (length es) 7)
 
+-- a symbol as it is taken
 abbrev pub symbol_seen : text.Symbol → Symbol
 symbol_seen text.Open = symbol.Open
 symbol_seen text.Close = symbol.Close

@@ -9,6 +9,8 @@ mod position;
 mod scanner;
 mod step;
 mod stepping;
+#[cfg(test)]
+mod tests;
 mod token;
 
 pub use digits::Digits;

@@ -7,8 +7,10 @@ use ps_io::List;
 pub enum Mode {
     /// Outside of tokens.
     Between,
+    /// Behind a `#`, in its line.
     Comment,
     Word(List<u8>),
+    /// Digits without `/` or `.`.
     Whole(Digits),
     /// Digits, and a `/` that belongs to the number only if a digit follows.
     Slash { over: Digits, slash: Position },

@@ -1,7 +1,7 @@
 //! Cuts bytes into tokens.
-ghost use Rattle.std.specs.Prelude.{◌≡◌, ◌-◌, ◌^◌, OnOk, IfOk};
+ghost use Rattle.std.specs.Prelude.{◌≡◌, ◌-◌, ◌^◌, OnOk, OnErr, IfOk};
 ghost use Rattle.ps_scan.specs.Places.{IsWithin};
-ghost use Rattle.ps_scan.specs.Scanning.{new_scan, token_ended, with_byte, last_token, last_bad, bad_place};
+ghost use Rattle.ps_scan.specs.Scanning.{new_scan, token_ended, with_byte, with_none_begun, last_token, last_bad, bad_place};
 
 use crate::mode::Mode;
 use crate::step::Step;
@@ -12,6 +12,8 @@ use std::alloc::Global;
 use std::marker::Model;
 
 /// Takes bytes, one after the other, and tells each token once the byte behind it, or the end, shows that it is whole.
+/// Before each byte `began` tells where a token that ends there began. At the end `finish` tells the last token. Once
+/// `bad` tells a place, no further token is told.
 #[derive(Debug, Drop)]
 pub struct Scanner {
     alloc: Global,
@@ -43,12 +45,14 @@ impl Scanner {
         }
     }
 
-    /// Takes one more byte, and answers the token that ended before it.
+    /// Takes one more byte, and answers the token that ended before it. Where memory runs out, the byte isn't taken, and
+    /// what was begun is lost. Lines and columns go up to 2^32 - 1.
     #[tactic(auto, unfolding(crate::specs::Scanning::token_ended, crate::specs::Scanning::with_byte))]
     pub fn take(&mut self, byte: u8) -> Result<Option<Token>, NoMemory>
         requires room { IsWithin (2 ^ 32 - 2) self.old.here }
         ensures token { IfOk result (λ t. t ≡ token_ended self.old byte) }
         ensures ok { OnOk result (self.new ≡ with_byte self.old byte) }
+        ensures err { OnErr result (self.new ≡ with_none_begun self.old) }
     {
         let mode = std::mem::replace(&mut self.mode, Mode::Between);
         let Step { mode, began, ended } = step(self.alloc, mode, self.began, self.here, byte)?;

@@ -2,7 +2,7 @@
 use crate::Digits;
 use ps_io::List;
 
-/// A number as it is spelled.
+/// A number as it is spelled: digits, digits `/` digits, or digits `.` digits. Of the digits is kept what counts.
 #[derive(Clone, Copy, Debug, PartialEq, Eq)]
 pub enum Numeral {
     Whole(Digits),
@@ -11,6 +11,7 @@ pub enum Numeral {
     Decimal { all: Digits, decimals: u8 },
 }
 
+/// The symbols `(` `)` `[` `]` `,` `;` `!` `&` `|` `->` `<->` `=` `>=` `<=`, in this order.
 #[derive(Clone, Copy, Debug, PartialEq, Eq)]
 pub enum Symbol {
     Open,
