@@ -2,8 +2,8 @@
 ghost use Rattle.std.specs.Prelude.{◌≡◌, ◌<◌, ◌+◌, ◌^◌, length};
 ghost use Rattle.ps_text.specs.Due.{at_start};
 ghost use Rattle.ps_scan.specs.Scanning.{new_scan};
-ghost use Rattle.ps_due.specs.Standing.{due_of};
-ghost use Rattle.ps_syntax.specs.Judging.{answer, Answers};
+ghost use Rattle.ps_syntax.specs.Judging.{answer as answer_of, Answers};
+ghost use Rattle.ps_syntax.specs.Syntax.{IsRight};
 
 use crate::SyntaxError;
 use crate::judging::{end, judge};
@@ -11,11 +11,22 @@ use ps_due::{Due, ReadKind};
 use ps_scan::Scanner;
 use std::alloc::Global;
 
-/// How many bytes the text at the front and the blanks behind it have.
-#[tactic(auto, using(crate::proofs::Steps::steps))]
+/// How many bytes at the front are a text of a problem's form together with the blanks and comments behind it. Where the form
+/// is refused, the first refusal is answered: its kind, and where the token stands at which it comes. Numbers of items, nodes and
+/// atoms are not looked at.
+#[tactic(auto, using(crate::proofs::Right::answered_right))]
 pub fn syntax(alloc: Global, bytes: &[u8]) -> Result<u32, SyntaxError>
+    requires room { length bytes.now + 1 < 2 ^ 32 }
+    ensures right { IsRight bytes.now result }
+{
+    answer(alloc, bytes)
+}
+
+// The answer to all bytes.
+#[tactic(auto, using(crate::proofs::Steps::steps))]
+fn answer(alloc: Global, bytes: &[u8]) -> Result<u32, SyntaxError>
     requires { length bytes.now + 1 < 2 ^ 32 }
-    ensures { Answers (answer new_scan at_start bytes.now) result }
+    ensures { Answers (answer_of new_scan at_start bytes.now) result }
 {
     let mut scanner = Scanner::new(alloc);
     let mut due = Due::start(alloc);

@@ -4,7 +4,7 @@ use Rattle.ps_scan.specs.Scanning.{new_scan}
 use Rattle.ps_due.specs.Standing.{due_of}
 use Rattle.ps_syntax.specs.Judging.{answer}
 use Rattle.ps_syntax.proofs.Steps.{going_from, within_from}
-use Rattle.ps_syntax.proofs.reading.syntax.Goals as goal
+use Rattle.ps_syntax.proofs.reading.answer.Goals as goal
 
 pub loop-byte-preserved : goal.loop-byte-preserved
 loop-byte-preserved c =
