@@ -24,16 +24,16 @@ mode_of (text.Number (text.Quotient ds es)) = mode.Quotient (with_digits no_digi
 mode_of (text.Number (text.Decimal ds es)) = mode.Decimal (with_digits (with_digits no_digits ds) es) (min (length es) 7)
 mode_of (text.Sign s) = mode.Sign (symbol_seen s)
 
-letter_no_blank : (b : ℕ) → is_letter b ≡ true → is_blank b ≡ false
+pub letter_no_blank : (b : ℕ) → is_letter b ≡ true → is_blank b ≡ false
 letter_no_blank b h = refute (is_blank b) (λ e. grind (arith, nat_tests))
 
-letter_no_hash : (b : ℕ) → is_letter b ≡ true → (b == 35) ≡ false
+pub letter_no_hash : (b : ℕ) → is_letter b ≡ true → (b == 35) ≡ false
 letter_no_hash b h = grind (arith, nat_tests)
 
-digit_no_blank : (b : ℕ) → is_digit b ≡ true → is_blank b ≡ false
+pub digit_no_blank : (b : ℕ) → is_digit b ≡ true → is_blank b ≡ false
 digit_no_blank b h = refute (is_blank b) (λ e. grind (arith, nat_tests))
 
-digit_no_hash : (b : ℕ) → is_digit b ≡ true → (b == 35) ≡ false
+pub digit_no_hash : (b : ℕ) → is_digit b ≡ true → (b == 35) ≡ false
 digit_no_hash b h = grind (arith, nat_tests)
 
 digit_no_letter : (b : ℕ) → is_digit b ≡ true → is_letter b ≡ false

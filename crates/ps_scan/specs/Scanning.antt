@@ -81,7 +81,7 @@ pub record Scanned : Type 0 where
 
 -- before the first byte
 abbrev pub new_scan : Scanned
-new_scan = record { mode = mode.Between; began = record { line = 1; column = 1 }; here = record { line = 1; column = 1 } }
+new_scan = record { mode = mode.Between; began = record { line = 1; column = 1; offset = 0 }; here = record { line = 1; column = 1; offset = 0 } }
 
 -- the token that a byte ends, if there is one
 unfoldable pub token_ended : Scanned → ℕ → Option Token

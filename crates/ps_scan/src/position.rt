@@ -2,11 +2,12 @@
 ghost use Rattle.std.specs.Prelude.{◌≡◌, ◌-◌, ◌^◌};
 ghost use Rattle.ps_scan.specs.Places.{start, behind, IsWithin};
 
-/// A line and a column, both from 1 on; a column counts bytes.
+/// A line and a column, both from 1 on, and how many bytes stand before; a column counts bytes.
 #[derive(Clone, Copy, Debug, PartialEq, Eq)]
 pub struct Position {
     pub line: u32,
     pub column: u32,
+    pub offset: u32,
 }
 
 impl Position {
@@ -14,7 +15,11 @@ impl Position {
     pub(crate) fn start() -> Position
         ensures { result ≡ start }
     {
-        Position { line: 1, column: 1 }
+        Position {
+            line: 1,
+            column: 1,
+            offset: 0,
+        }
     }
 
     /// The position behind a byte that stands here.
@@ -27,11 +32,13 @@ impl Position {
             Position {
                 line: self.line + 1,
                 column: 1,
+                offset: self.offset + 1,
             }
         } else {
             Position {
                 line: self.line,
                 column: self.column + 1,
+                offset: self.offset + 1,
             }
         }
     }

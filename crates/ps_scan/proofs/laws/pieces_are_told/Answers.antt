@@ -1,5 +1,5 @@
 use Rattle.ps_scan.proofs.Told.{whole_told, bad_told}
-use Rattle.ps_scan.proofs.Places.{position_kept}
+use Rattle.ps_scan.proofs.Places.{position_kept, offset_kept}
 use Rattle.ps_scan.proofs.laws.pieces_are_told.Goals as goal
 
 pub returns-clause-whole : goal.returns-clause-whole
@@ -10,3 +10,6 @@ returns-clause-bad c = bad_told
 
 pub returns-clause-positions : goal.returns-clause-positions
 returns-clause-positions c = λ bytes. position_kept bytes
+
+pub returns-clause-offsets : goal.returns-clause-offsets
+returns-clause-offsets c = λ bytes. offset_kept bytes

@@ -1,0 +1,24 @@
+//! Why a text hasn't the form of a problem.
+ghost use Rattle.std.specs.Prelude.{◌≡◌};
+ghost use Rattle.ps_syntax.specs.declared.error.SyntaxError.TheVariants as errors;
+
+use ps_due::ReadKind;
+use ps_io::NoMemory;
+use ps_scan::Position;
+
+/// Why a text hasn't the form of a problem.
+#[derive(Clone, Copy, Debug, PartialEq, Eq)]
+pub enum SyntaxError {
+    /// The form is refused there.
+    At { kind: ReadKind, position: Position },
+    /// There was not enough memory.
+    NoMemory,
+}
+
+impl From<NoMemory> for SyntaxError {
+    ghost from_gives = { λ _ e. e ≡ errors.NoMemory };
+
+    fn from(_: NoMemory) -> SyntaxError {
+        SyntaxError::NoMemory
+    }
+}
