@@ -50,9 +50,13 @@ is_position bytes done rest e =
 refuse : (bytes : List ℕ) (done : List Piece) (rest : List ℕ) (d : Due) (k : Kind) → Reached bytes done rest d → is_done d.part ≡ false → IsBare rest → Why d rest k
     → IsRefusedAt bytes (kind_of k) (behind_all start (texts done))
 refuse bytes done rest d k r u b w = record {
-  why = k; place = length (texts done);
+  why = k;
+  place = length (texts done);
   refused = record { pieces = done; rest = rest; due = d; is = r.is; cuts = r.cuts; passes = r.passes; unfinished = λ e. true≢false (sym (ap (λ x. is_done x.part) e) ∙ u); bare = b; why = w; place_is = refl };
-  kind_is = refl; offset_is = offset_kept (texts done); position_is = is_position bytes done rest r.is }
+  kind_is = refl;
+  offset_is = offset_kept (texts done);
+  position_is = is_position bytes done rest r.is;
+}
 
 done_parse : (p : Parse) → is_done (due_of p).part ≡ true → due_of p ≡ outside AtDone
 done_parse (InDone es) h = refl
@@ -131,7 +135,8 @@ further : (bytes : List ℕ) (done : List Piece) (x : Piece) (rest : List ℕ) (
 further bytes done x rest d e r f p = record {
   is = r.is ∙ sym (append_assoc (texts done) (text x) rest) ∙ ap (λ bs. bs ++ rest) (sym (texts_more done x));
   cuts = cuts_more done x rest r.cuts f;
-  passes = subst (λ ts. Passes at_start ts e) (sym (tokens_more done x)) (passes-append at_start d e (tokens done) (tokens (x ∷ [])) r.passes p) }
+  passes = subst (λ ts. Passes at_start ts e) (sym (tokens_more done x)) (passes-append at_start d e (tokens done) (tokens (x ∷ [])) r.passes p);
+}
 
 -- at the end of the pieces
 at_end : (bytes : List ℕ) (done : List Piece) (d : Due) → Reached bytes done [] d → IsSo bytes (ended d (kind_of EndMissing) (behind_all start (texts done)))
@@ -193,18 +198,20 @@ right bytes [] done rest d p last bad end pe le c r (inr x) =
     subst (λ b. IsSo bytes (judged d [] b end)) (sym x.2) (subst (λ q. IsSo bytes (ended d (kind_of BadByte) q)) (sym at) (at_bad bytes done rest d r x.0 x.1))
 right bytes (Blank b ∷ ps) done rest d p last bad end pe le c r x =
     right bytes ps (done ++ Blank b ∷ []) rest d (behind_all p (text (Blank b))) last bad end (place_more done (Blank b) p pe) (last_more (Blank b) ps p last le) c.1
-      (further bytes done (Blank b) (texts ps ++ rest) d d (regroup bytes done (Blank b) ps rest d r) c.0 refl) x
+    (further bytes done (Blank b) (texts ps ++ rest) d d (regroup bytes done (Blank b) ps rest d r) c.0 refl) x
 right bytes (Comment b ∷ ps) done rest d p last bad end pe le c r x =
     right bytes ps (done ++ Comment b ∷ []) rest d (behind_all p (text (Comment b))) last bad end (place_more done (Comment b) p pe) (last_more (Comment b) ps p last le) c.1
-      (further bytes done (Comment b) (texts ps ++ rest) d d (regroup bytes done (Comment b) ps rest d r) c.0 refl) x
+    (further bytes done (Comment b) (texts ps ++ rest) d d (regroup bytes done (Comment b) ps rest d r) c.0 refl) x
 right bytes (Spelled t ∷ ps) done rest d p last bad end pe le c r x = by (is_done d.part) refl (refusal d t) refl
     (λ h. right bytes ps (done ++ Spelled t ∷ []) rest (after d t) (behind_all p (text (Spelled t))) last bad end (place_more done (Spelled t) p pe) (last_more (Spelled t) ps p last le) c.1
-      (further bytes done (Spelled t) (texts ps ++ rest) d (after d t) (regroup bytes done (Spelled t) ps rest d r) c.0 (h, refl)) x)
+    (further bytes done (Spelled t) (texts ps ++ rest) d (after d t) (regroup bytes done (Spelled t) ps rest d r) c.0 (h, refl)) x)
   where
     r1 : Reached bytes done (spelling t ++ (texts ps ++ rest)) d
     r1 = regroup bytes done (Spelled t) ps rest d r
+
     more : List (kept × Position)
     more = told (behind_all p (spelling t)) ps
+
     by : (b : Bool) → is_done d.part ≡ b → (o : Option Kind) → refusal d t ≡ o → (refusal d t ≡ None → IsSo bytes (judged (after d t) more bad end))
         → IsSo bytes (if b then Ok p.offset else unless (option_map kind_of (refusal d (token_of (seen t)))) p (judged (after d (token_of (seen t))) more bad end))
     by true h o e k = subst (λ q. IsTextFront bytes q.offset) (sym pe) (found bytes done (spelling t ++ (texts ps ++ rest)) d r1 h (bare_token t (texts ps ++ rest) c.0.0))
@@ -229,18 +236,19 @@ answer_so bytes = by (cut bytes)
   where
     by : Cut bytes → IsSo bytes (judged at_start (scanned new_scan bytes).0 (scanned new_scan bytes).1 (behind_all start bytes))
     by c = elim (ends_of c.rest c.ends) [
-        inl e ↦
+      | inl e ↦
           let whole : bytes ≡ texts c.pieces = c.is ∙ ap (λ r. texts c.pieces ++ r) e ∙ append-nil (texts c.pieces) in
           let cuts : Cuts One c.pieces [] = subst (λ r. Cuts One c.pieces r) e c.cuts in
           let s : scanned new_scan bytes ≡ (told start c.pieces, None) = ap (scanned new_scan) whole ∙ whole_told c.pieces cuts in
           subst (λ x. IsSo bytes (judged at_start x.0 x.1 (behind_all start bytes))) (sym s)
-            (right bytes c.pieces [] c.rest at_start start (behind_all start (texts c.pieces)) None (behind_all start bytes) refl refl c.cuts
-              (subst (λ bs. Reached bytes [] bs at_start) c.is (at_first bytes)) (inl (e, refl, ap (behind_all start) whole)))
+          (right bytes c.pieces [] c.rest at_start start (behind_all start (texts c.pieces)) None (behind_all start bytes) refl refl c.cuts
+          (subst (λ bs. Reached bytes [] bs at_start) c.is (at_first bytes)) (inl (e, refl, ap (behind_all start) whole)))
       | inr b ↦
           let s : scanned new_scan bytes ≡ (told start c.pieces, Some (behind_all start (texts c.pieces))) = ap (scanned new_scan) c.is ∙ bad_told c.pieces c.rest c.cuts b.0 b.1 in
           subst (λ x. IsSo bytes (judged at_start x.0 x.1 (behind_all start bytes))) (sym s)
-            (right bytes c.pieces [] c.rest at_start start (behind_all start (texts c.pieces)) (Some (behind_all start (texts c.pieces))) (behind_all start bytes) refl refl c.cuts
-              (subst (λ bs. Reached bytes [] bs at_start) c.is (at_first bytes)) (inr (b.0, b.1, refl))) ]
+          (right bytes c.pieces [] c.rest at_start start (behind_all start (texts c.pieces)) (Some (behind_all start (texts c.pieces))) (behind_all start bytes) refl refl c.cuts
+          (subst (λ bs. Reached bytes [] bs at_start) c.is (at_first bytes)) (inr (b.0, b.1, refl)))
+    ]
 
 -- what was returned is right
 pub answered_right : (bytes : List ℕ) (result : Result ℕ SyntaxError) → Answers (answer new_scan at_start bytes) result → IsRight bytes result

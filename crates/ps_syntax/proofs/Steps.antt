@@ -90,11 +90,11 @@ pub going_from : (s n : Scanned) (d e : Due) (bs : List ℕ) (i : ℕ) (t : Opti
     → Follows t began bad d e (Ok r) → answer s d (drop i bs) ≡ all → answer n e (drop (i + 1) bs) ≡ all
 going_from s n d e bs i t began bad r all lt et eq en eb er f h =
     subst (λ x. answer x e (drop (i + 1) bs) ≡ all) (sym en) (sym (going_at s d e bs i lt
-      (subst (λ x. Follows (token_ended s (get_or bs i 0)) s.began (bad_place x.mode) d e (Ok None)) en
-        (subst (λ x. Follows (token_ended s (get_or bs i 0)) s.began x d e (Ok None)) eb
-          (subst (λ x. Follows (token_ended s (get_or bs i 0)) x bad d e (Ok None)) eq
-            (subst (λ x. Follows x began bad d e (Ok None)) et
-              (subst (λ x. Follows t began bad d e (Ok x)) er f)))))) ∙ h)
+    (subst (λ x. Follows (token_ended s (get_or bs i 0)) s.began (bad_place x.mode) d e (Ok None)) en
+    (subst (λ x. Follows (token_ended s (get_or bs i 0)) s.began x d e (Ok None)) eb
+    (subst (λ x. Follows (token_ended s (get_or bs i 0)) x bad d e (Ok None)) eq
+    (subst (λ x. Follows x began bad d e (Ok None)) et
+    (subst (λ x. Follows t began bad d e (Ok x)) er f)))))) ∙ h)
 
 pub within_from : (n : ℕ) (s m : Scanned) (b : ℕ) → m ≡ with_byte s b → IsWithin n s.here → IsWithin (n + 1) m.here
 within_from n s m b e h = subst (λ x. IsWithin (n + 1) x.here) (sym e) (within_step n s b h)
@@ -105,9 +105,9 @@ pub end_from : (s : Scanned) (d e : Due) (bs : List ℕ) (i : ℕ) (t : Option T
     → Follows t began bad d e (Ok r) → Answers (ended e EndMissing here) result → answer s d (drop i bs) ≡ all → Answers all result
 end_from s d e bs i t began here bad r result all le et eq eb eh er f a h =
     subst (λ x. Answers x result) (sym (sym h ∙ going_end s d e bs i le
-        (subst (λ x. Follows (last_token s.mode) s.began x d e (Ok None)) eb
-          (subst (λ x. Follows (last_token s.mode) x bad d e (Ok None)) eq
-            (subst (λ x. Follows x began bad d e (Ok None)) et
-              (subst (λ x. Follows t began bad d e (Ok x)) er f)))))) (subst (λ x. Answers (ended e EndMissing x) result) eh a)
+    (subst (λ x. Follows (last_token s.mode) s.began x d e (Ok None)) eb
+    (subst (λ x. Follows (last_token s.mode) x bad d e (Ok None)) eq
+    (subst (λ x. Follows x began bad d e (Ok None)) et
+    (subst (λ x. Follows t began bad d e (Ok x)) er f)))))) (subst (λ x. Answers (ended e EndMissing x) result) eh a)
 
 pub ruleset steps = (ended_at, refused_at, ended_end, refused_end, going_from, within_from, end_from)

@@ -7,3 +7,6 @@ mod reading;
 
 pub use error::SyntaxError;
 pub use reading::syntax;
+
+#[cfg(test)]
+mod tests;
