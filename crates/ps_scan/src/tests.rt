@@ -41,7 +41,7 @@ fn tell(alloc: Global, told: &mut String, place: Position, what: &str) -> Result
 
 fn take(alloc: Global, scanner: &mut Scanner, byte: u8, told: &mut String) -> Result<(), Fail> {
     let here = scanner.here();
-    if here.line > 1000 || here.column > 1000 {
+    if here.offset > 1000 || here.line > 1000 || here.column > 1000 {
         return Err("a long text".into());
     }
     let began = scanner.began();

@@ -19,7 +19,7 @@ fn has_room(scanner: &Scanner) -> bool
     ensures { IsTrue result → IsWithin (2 ^ 32 - 2) scanner.now.here }
 {
     let here = scanner.here();
-    here.line < u32::MAX && here.column < u32::MAX
+    here.line < u32::MAX && here.column < u32::MAX && here.offset < u32::MAX
 }
 
 /// Goes on behind a token, or tells why it is refused.
