@@ -79,9 +79,10 @@ pub record Proof : Type 0 where
   pub goal : Constraint
   pub steps : List Step
 
+-- what is told with one more step; with a line that is no step, nothing
 abbrev pub with_step : Option Proof → Option Step → Option Proof
 with_step None s = None
-with_step (Some p) None = Some p
+with_step (Some p) None = None
 with_step (Some p) (Some s) = Some (record { goal = p.goal; steps = p.steps ++ s ∷ [] })
 
 abbrev pub with_goal : Option Constraint → Option Proof → Option Proof
@@ -92,7 +93,7 @@ with_goal (Some g) p = Some (record { goal = g; steps = [] })
 abbrev pub after_line : Option Proof → List ℕ → Option Proof
 after_line p line = with_goal (goal_of line) (with_step p (step_of line))
 
--- what the whole lines of some bytes tell: the last goal, and the steps after it
+-- what the whole lines of some bytes tell: the last goal, and the steps after it, where each line after it is a step
 unfoldable pub proof_of : List ℕ → Option Proof
 proof_of bytes = fold after_line None (parts_after 10 [] bytes)
 
