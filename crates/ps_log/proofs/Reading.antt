@@ -279,11 +279,12 @@ unfolding goal_line
 goal-one_line goal h = one_line (103 ∷ []) (goal_numbers goal.degree (weighted goal.terms)) (refl, tt) (goal_small goal h)
 
 pub goal_told : (old new : Option (List ℕ)) (g : Constraint) → IsGoalWithin g → ends_whole old ≡ true → Appends old new (goal_line g ++ 10 ∷ [])
-    → IsTrue (is_some old) → IsTrue (is_some new) × (goal_in (proof_if new) ≡ Some g) × (steps_in (proof_if new) ≡ Some [])
-goal_told old new g small w p t =
-    let told = proof_if-line old new (goal_line g) w (goal-one_line g small) p t in
-    let e : proof_if new ≡ Some (record { goal = g; steps = [] }) = told.1 ∙ ap (λ x. with_goal x (with_step (proof_if old) (step_of (goal_line g)))) (reads_goal g small) in
-    (told.0, ap goal_in e, ap steps_in e)
+    → (IsTrue (is_some old) → IsTrue (is_some new)) × (IsTrue (is_some new) → (goal_in (proof_if new) ≡ Some g) × (steps_in (proof_if new) ≡ Some []))
+goal_told None new g small w p = rw p ((λ t. t), λ t. absurd (true≢false (sym t)))
+goal_told (Some bytes) new g small w p =
+    let told = proof_if-line (Some bytes) new (goal_line g) w (goal-one_line g small) p refl in
+    let e : proof_if new ≡ Some (record { goal = g; steps = [] }) = told.1 ∙ ap (λ x. with_goal x (with_step (proof_of bytes) (step_of (goal_line g)))) (reads_goal g small) in
+    ((λ t. told.0), λ t. (ap goal_in e, ap steps_in e))
 
 pub step_told : (old new : Option (List ℕ)) (s : Step) → IsStepWithin s → ends_whole old ≡ true
     → Appends old new (step_line s ++ 10 ∷ []) → IsTrue (is_some old)
