@@ -1,12 +1,15 @@
 -- What written goals and steps tell when they are read.
-use Rattle.std.proofs.Common.{◌≡◌, ℕ, zero, suc, ◌-◌, ◌<◌, ◌≤◌, ◌^◌, ◌==◌, ℤ, pos, negsuc, Bool, true, false, not, List, [], ◌∷◌, ◌++◌, length, take, map, Option, None, Some, refl, sym, ap, subst, ◌∙◌, append_assoc, append-nil, arith, true≢false, IsTrue, is_some, All, length-append, unsigned_abs}
+use Rattle.std.proofs.Common.{◌≡◌, ℕ, zero, suc, ◌-◌, ◌<◌, ◌≤◌, ◌^◌, ◌==◌, ◌≤ℤ◌, nat_lt, ℤ, pos, negsuc, Bool, true, false, not, List, [], ◌∷◌, ◌++◌, length, take, map, Option, None, Some, refl, sym, ap, subst, ◌∙◌, append_assoc, append-nil, arith, true≢false, IsTrue, is_some, All, length-append, unsigned_abs}
 use Rattle.std.specs.Prelude.{fold}
 use Rattle.std.specs.Fmt.{decimal, signed_decimal}
 use Rattle.std.specs.Char.{digit_value}
 use Rattle.std.specs.Str.Parse.{digits_value, AllDigits}
 use Rattle.std.specs.Option.{option_map}
 use Rattle.std.proofs.lemmas.Fmt.{decimal_is_IsNumeral_wide}
-use Rattle.std.proofs.lemmas.Bool.{eqb-true}
+use Rattle.std.proofs.lemmas.Bool.{eqb-true, false_from_ne_true}
+use Rattle.std.proofs.lemmas.Int.{ints}
+use Rattle.std.proofs.lemmas.Slice.Eq.{bytes_eq-Decides}
+use Rattle.std.specs.List.{list_all}
 use Rattle.std.proofs.lemmas.List.Sums.{fold-append}
 use Rattle.std.proofs.Math.Seq.{take-append_seam}
 use Rattle.ps_io.specs.Transfer.{Appends, AppendsPrefix}
@@ -16,7 +19,7 @@ use Rattle.ps_steps.specs.Weights.{Weighted, weighted, size_sum}
 use Rattle.ps_steps.specs.Constraints.{Constraint}
 use Rattle.ps_steps.specs.Steps.{Step}
 use Rattle.ps_log.specs.Texts.{with_number, with_numbers, hint_numbers, term_numbers, step_numbers, goal_numbers, step_line, goal_line, IsId, IsLiteral, IsStepWithin, IsGoalWithin}
-use Rattle.ps_log.specs.Told.{parts_after, rest_after, words, number_of, numbers_of, Proof, with_step, with_goal, after_line, proof_of, proof_if, goal_in, steps_in, ends_whole, step_of, goal_of, before_zero, after_zero, but_last, step_from, terms_from, goal_from, first_is}
+use Rattle.ps_log.specs.Told.{parts_after, rest_after, words, number_of, numbers_of, Proof, with_step, with_goal, after_line, proof_of, proof_if, goal_in, steps_in, ends_whole, step_of, goal_of, before_zero, after_zero, but_last, step_from, terms_from, goal_from, are_goal_terms}
 use Rattle.ps_log.proofs.Parts.{Lacks, parts-append, rest-append, parts-none, parts-one, rest-closed, Lacks-append, Lacks-prefix, same_byte}
 
 -- digits are neither spaces nor line feeds
@@ -208,7 +211,7 @@ step_small s h =
 
 pub goal_small : (goal : Constraint) → IsGoalWithin goal → All Small (goal_numbers goal.degree (weighted goal.terms))
 goal_small goal h =
-    All-cons goal.degree _ (omega (arith, h.narrow)) (All-terms (weighted goal.terms) _ h.lits (omega (arith, h.narrow)) All-zero)
+    All-cons goal.degree _ (omega (arith, h.normal.narrow)) (All-terms (weighted goal.terms) _ h.lits (omega (arith, h.normal.narrow)) All-zero)
 
 -- the parts of a step are found again
 not_zero : (l : ℤ) → 1 ≤ unsigned_abs l → (unsigned_abs l == 0) ≡ false
@@ -250,6 +253,11 @@ goal_read : (goal : Constraint) → IsGoalWithin goal → goal_from (numbers_of 
 unfolding goal_line
 goal_read goal h = ap goal_from (reads_numbers 103 (goal_numbers goal.degree (weighted goal.terms)) refl (goal_small goal h)) ∙ rw (terms_again goal.terms) refl
 
+-- the first byte of a line is this
+abbrev first_is : ℕ → List ℕ → Bool
+first_is c [] = false
+first_is c (b ∷ bs) = b == c
+
 first_stays : (k c : ℕ) (t : List ℕ) (ns : List ℤ) → first_is k (with_numbers (c ∷ t) ns) ≡ (c == k)
 first_stays k c t [] = refl
 first_stays k c t (n ∷ ns) = first_stays k c (t ++ 32 ∷ signed_decimal n) ns
@@ -262,13 +270,25 @@ step_first : (s : Step) → first_is 103 (step_line s) ≡ false
 unfolding step_line
 step_first s = first_stays 103 115 [] (step_numbers s.id s.lits s.hints)
 
+positive : (k : ℕ) → pos 1 ≤ℤ pos k → nat_lt 0 k ≡ true
+positive k h = grind (arith, ints, h)
+
+positives : (ts : List (ℤ × ℕ)) → All (λ t. pos 1 ≤ℤ t.1) (weighted ts) → list_all (λ t. nat_lt 0 t.1) ts ≡ true
+positives [] h = refl
+positives (t ∷ ts) h =
+    let P : ℤ × ℤ → Type 0 = λ u. pos 1 ≤ℤ u.1 in
+    rw (positive t.1 (first_of P (t.0, pos t.1) (weighted ts) h), positives ts (rest_of P (t.0, pos t.1) (weighted ts) h)) refl
+
 pub reads_goal : (goal : Constraint) → IsGoalWithin goal → goal_of (goal_line goal) ≡ Some goal
 unfolding goal_of
-reads_goal goal h = rw (goal_read goal h, same_bytes (goal_line goal), goal_first goal) refl
+reads_goal goal h = rw (goal_read goal h, same_bytes (goal_line goal), positives goal.terms h.normal.positive, h.normal.rising) refl
+
+other_line : (g : Constraint) (s : Step) → bytes_eq (goal_line g) (step_line s) ≡ false
+other_line g s = false_from_ne_true _ (λ e. true≢false (sym (goal_first g) ∙ ap (first_is 103) ((bytes_eq-Decides (goal_line g) (step_line s)).0 e) ∙ step_first s))
 
 pub step_is_no_goal : (s : Step) → goal_of (step_line s) ≡ None
 unfolding goal_of
-step_is_no_goal s = rw (step_first s) refl
+step_is_no_goal s = rw (other_line (goal_from (numbers_of (step_line s))) s) refl
 
 pub step-one_line : (s : Step) → IsStepWithin s → Lacks 10 (step_line s)
 unfolding step_line

@@ -1,9 +1,11 @@
 -- What bytes tell of a goal and of the steps after it.
-use Rattle.std.specs.Prelude.{ℕ, ◌-◌, ◌==◌, ℤ, pos, neg_ℤ, unsigned_abs, List, [], ◌∷◌, ◌++◌, map, length, take, fold, Bool, true, false, Option, Some, None, if◌then◌else◌, ◌&&◌}
+use Rattle.std.specs.Prelude.{ℕ, ◌-◌, ◌==◌, ℤ, pos, neg_ℤ, unsigned_abs, List, [], ◌∷◌, ◌++◌, map, length, take, fold, Bool, true, false, Option, Some, None, if◌then◌else◌, ◌&&◌, nat_lt}
+use Rattle.std.specs.List.{list_all}
 use Rattle.std.specs.Str.{bytes_eq}
 use Rattle.std.specs.Str.Parse.{digits_value}
 use Rattle.ps_steps.specs.Constraints.{Constraint}
 use Rattle.ps_steps.specs.Steps.{Step}
+use Rattle.ps_steps.specs.Weights.{weighted, are_rising}
 use Rattle.ps_log.specs.Texts.{step_line, goal_line}
 
 -- the parts of bytes that end with a separator, where one is begun already
@@ -62,9 +64,9 @@ abbrev pub goal_from : List ℤ → Constraint
 goal_from [] = record { terms = []; degree = pos 0 }
 goal_from (z ∷ zs) = record { terms = terms_from zs; degree = z }
 
-abbrev pub first_is : ℕ → List ℕ → Bool
-first_is c [] = false
-first_is c (b ∷ bs) = b == c
+-- terms that a goal may have: coefficients of at least 1, and rising variables
+abbrev pub are_goal_terms : List (ℤ × ℕ) → Bool
+are_goal_terms terms = list_all (λ t. nat_lt 0 t.1) terms && are_rising 0 (weighted terms)
 
 -- the step whose line this is
 unfoldable pub step_of : List ℕ → Option Step
@@ -72,7 +74,7 @@ step_of line = if bytes_eq (step_line (step_from (numbers_of line))) line then S
 
 -- the goal whose line this is
 unfoldable pub goal_of : List ℕ → Option Constraint
-goal_of line = if first_is 103 line && bytes_eq (goal_line (goal_from (numbers_of line))) line then Some (goal_from (numbers_of line)) else None
+goal_of line = if bytes_eq (goal_line (goal_from (numbers_of line))) line && are_goal_terms (goal_from (numbers_of line)).terms then Some (goal_from (numbers_of line)) else None
 
 -- a goal, and the steps after it
 pub record Proof : Type 0 where
