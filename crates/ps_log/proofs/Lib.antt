@@ -1,3 +1,4 @@
+pub mod LastLines
 pub mod Lengths
 pub mod LineShapes
 pub mod ManyNumbers

@@ -1,5 +1,5 @@
 -- What bytes tell of a goal and of the steps after it.
-use Rattle.std.specs.Prelude.{ℕ, ◌-◌, ◌==◌, nat_lt, ℤ, pos, neg_ℤ, unsigned_abs, List, [], ◌∷◌, ◌++◌, map, length, take, fold, slice_index, Bool, true, false, not, Option, Some, None, if◌then◌else◌, ◌&&◌, ◌||◌}
+use Rattle.std.specs.Prelude.{ℕ, ◌-◌, ◌==◌, ◌≡◌, nat_lt, ℤ, pos, neg_ℤ, unsigned_abs, List, [], ◌∷◌, ◌++◌, map, length, take, fold, slice_index, Bool, true, false, not, Option, Some, None, if◌then◌else◌, ◌&&◌, ◌||◌}
 use Rattle.std.specs.Char.{digit_value}
 use Rattle.std.specs.Cmp.Lexicographic.{pointwise}
 use Rattle.std.specs.List.{list_all}
@@ -21,6 +21,10 @@ parts_after sep part (b ∷ bs) = if b == sep then part ∷ parts_after sep [] b
 abbrev pub rest_after : ℕ → List ℕ → List ℕ → List ℕ
 rest_after sep part [] = part
 rest_after sep part (b ∷ bs) = if b == sep then rest_after sep [] bs else rest_after sep (part ++ b ∷ []) bs
+
+-- the lines that end with a line feed
+abbrev pub whole_lines : List ℕ → List (List ℕ)
+whole_lines bytes = parts_after 10 [] bytes
 
 -- digits, and no leading zero before others
 abbrev pub is_plain : List ℕ → Bool
@@ -113,7 +117,16 @@ after_line p line = with_goal (goal_of line) (with_step p (step_of line))
 
 -- what the whole lines of some bytes tell: the last goal, and the steps after it, where each line after it is a step
 unfoldable pub proof_of : List ℕ → Option Proof
-proof_of bytes = fold after_line None (parts_after 10 [] bytes)
+proof_of bytes = fold after_line None (whole_lines bytes)
+
+-- the last lines are a goal's, and just those of the steps after it
+pub record EndWith (lines : List (List ℕ)) (p : Proof) : Type 0 where
+  pub before : List (List ℕ)
+  pub goal_line : List ℕ
+  pub step_lines : List (List ℕ)
+  pub are : lines ≡ before ++ goal_line ∷ step_lines
+  pub goal : goal_of goal_line ≡ Some p.goal
+  pub steps : map step_of step_lines ≡ map Some p.steps
 
 abbrev pub proof_if : Option (List ℕ) → Option Proof
 proof_if None = None
