@@ -1,5 +1,5 @@
 -- The lines of steps and goals, by their words.
-use Rattle.std.proofs.Common.{◌≡◌, ◌≢◌, ℕ, zero, suc, ◌-◌, ◌<◌, ◌≤◌, ◌==◌, ◌≤ℤ◌, nat_lt, ℤ, pos, negsuc, neg_ℤ, Bool, true, false, not, ◌&&◌, ◌||◌, List, [], ◌∷◌, ◌++◌, length, map, Option, None, Some, refl, sym, ap, subst, ◌∙◌, arith, true≢false, All, length-append, unsigned_abs}
+use Rattle.std.proofs.Common.{◌≡◌, ℕ, zero, suc, ◌-◌, ◌<◌, ◌≤◌, ◌==◌, ◌≤ℤ◌, nat_lt, ℤ, pos, negsuc, neg_ℤ, Bool, true, false, not, ◌&&◌, ◌||◌, List, [], ◌∷◌, ◌++◌, length, map, Option, None, Some, refl, sym, ap, subst, ◌∙◌, arith, true≢false, All, length-append, unsigned_abs}
 use Rattle.std.specs.Prelude.{if◌then◌else◌, slice_index}
 use Rattle.std.specs.Bool.{Decides}
 use Rattle.std.specs.Char.{digit_value}
@@ -18,7 +18,7 @@ use Rattle.std.proofs.lemmas.Slice.Eq.{slice_eq-Decides, bytes_eq-Decides}
 use Rattle.std.proofs.Math.Seq.{take-append_seam}
 use Rattle.ps_steps.specs.Constraints.{Constraint}
 use Rattle.ps_steps.specs.Steps.{Step}
-use Rattle.ps_steps.specs.Weights.{weighted, are_rising}
+use Rattle.ps_steps.specs.Weights.{weighted}
 use Rattle.ps_log.specs.Spellings.{IsPlain, Spells, SpellAll}
 use Rattle.ps_log.specs.StepTexts.{words_of, IsStepText}
 use Rattle.ps_log.specs.Texts.{hint_numbers, term_numbers, step_numbers, goal_numbers, step_line, goal_line, IsStepWithin, IsGoalWithin}
@@ -140,7 +140,7 @@ step_again s h = rw (before s.lits (hint_numbers s.hints ++ pos 0 ∷ []) h, aft
 step-reads : (zs : List ℤ) (s : Step) → step_from zs ≡ s → step_numbers s.id s.lits s.hints ≡ zs → step_with (Some zs) ≡ Some s
 step-reads zs s e f =
     let same : pointwise int_eq (step_numbers (step_from zs).id (step_from zs).lits (step_from zs).hints) zs ≡ true =
-      (same-ints (step_numbers (step_from zs).id (step_from zs).lits (step_from zs).hints) zs).1 (ap (λ x. step_numbers x.id x.lits x.hints) e ∙ f) in
+    (same-ints (step_numbers (step_from zs).id (step_from zs).lits (step_from zs).hints) zs).1 (ap (λ x. step_numbers x.id x.lits x.hints) e ∙ f) in
     ap (λ b. if b then Some (step_from zs) else None) same ∙ ap Some e
 
 step-found : (zs : List ℤ) (s : Step) → step_with (Some zs) ≡ Some s → (step_from zs ≡ s) × (step_numbers s.id s.lits s.hints ≡ zs)
@@ -211,7 +211,7 @@ goal_again g = rw (terms_again g.terms) refl
 goal-reads : (zs : List ℤ) (g : Constraint) → goal_from zs ≡ g → goal_numbers g.degree (weighted g.terms) ≡ zs → are_goal_terms g.terms ≡ true → goal_with (Some zs) ≡ Some g
 goal-reads zs g e f h =
     let same : pointwise int_eq (goal_numbers (goal_from zs).degree (weighted (goal_from zs).terms)) zs ≡ true =
-      (same-ints (goal_numbers (goal_from zs).degree (weighted (goal_from zs).terms)) zs).1 (ap (λ x. goal_numbers x.degree (weighted x.terms)) e ∙ f) in
+    (same-ints (goal_numbers (goal_from zs).degree (weighted (goal_from zs).terms)) zs).1 (ap (λ x. goal_numbers x.degree (weighted x.terms)) e ∙ f) in
     let fit : are_goal_terms (goal_from zs).terms ≡ true = subst (λ x. are_goal_terms x.terms ≡ true) (sym e) h in
     ap (λ b. if b then Some (goal_from zs) else None) (and_from _ _ same fit) ∙ ap Some e
 

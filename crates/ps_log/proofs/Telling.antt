@@ -1,5 +1,5 @@
 -- What bytes tell when one more line is written.
-use Rattle.std.proofs.Common.{◌≡◌, ℕ, suc, ◌==◌, Bool, true, false, not, List, [], ◌∷◌, ◌++◌, length, take, map, Option, None, Some, refl, sym, ap, subst, ◌∙◌, append-nil, append_assoc, arith, true≢false, IsTrue, is_some}
+use Rattle.std.proofs.Common.{◌≡◌, ℕ, suc, ◌==◌, Bool, true, false, not, List, [], ◌∷◌, ◌++◌, length, take, Option, None, Some, refl, sym, ap, subst, ◌∙◌, append-nil, arith, true≢false, IsTrue, is_some}
 use Rattle.std.specs.Prelude.{fold}
 use Rattle.std.specs.Option.{option_map}
 use Rattle.std.proofs.lemmas.Bool.{eqb-true}
@@ -9,7 +9,7 @@ use Rattle.ps_io.specs.LineText.{lines_bytes}
 use Rattle.ps_steps.specs.Constraints.{Constraint}
 use Rattle.ps_steps.specs.Steps.{Step}
 use Rattle.ps_log.specs.Texts.{step_line, goal_line, IsStepWithin, IsGoalWithin}
-use Rattle.ps_log.specs.Told.{parts_after, rest_after, Proof, with_step, with_goal, after_line, proof_of, proof_if, goal_in, steps_in, ends_whole, step_of, goal_of}
+use Rattle.ps_log.specs.Told.{parts_after, rest_after, Proof, with_step, with_goal, after_line, proof_of, proof_if, goal_in, steps_in, ends_whole, step_of}
 use Rattle.ps_log.proofs.LineShapes.{reads_step, step_is_no_goal, reads_goal}
 use Rattle.ps_log.proofs.Parts.{Lacks, parts-append, rest-append, parts-none, parts-one, rest-closed, Lacks-prefix}
 use Rattle.ps_log.proofs.Reading.{step-one_line, goal-one_line}

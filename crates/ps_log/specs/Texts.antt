@@ -1,5 +1,5 @@
 -- The texts of goals and steps.
-use Rattle.std.specs.Prelude.{ℕ, ◌≤◌, ◌+◌, ◌^◌, ℤ, pos, ◌≤ℤ◌, List, [], ◌∷◌, ◌++◌, All, fold, length, flat_map, unsigned_abs}
+use Rattle.std.specs.Prelude.{ℕ, ◌≤◌, ◌^◌, ℤ, pos, List, [], ◌∷◌, ◌++◌, All, fold, length, flat_map, unsigned_abs}
 use Rattle.std.specs.Fmt.{signed_decimal}
 use Rattle.ps_io.specs.LineText.{with_word}
 use Rattle.ps_steps.specs.Constraints.{Constraint}

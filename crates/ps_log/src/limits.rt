@@ -6,8 +6,8 @@ use ps_pb::{Constraint, Lit, Step};
 
 const MOST_IDS: u64 = 1 << 41;
 
-/// Whether a step is within the limits: id and hints from 1 to 2^41, at most 1,024 literals and 1,025 hints. The line of such a step is
-/// shorter than 65,536 bytes.
+/// Whether a step is within the limits: id and hints from 1 to 2^41, at most 1,024 literals and 1,025 hints. The line of such a
+/// step is shorter than 65,536 bytes.
 #[tactic(auto, using(crate::proofs::Lengths::step_is_short))]
 pub fn is_step_within(s: &Step) -> bool
     ensures within { IsTrue result ↔ IsStepWithin s.now }
