@@ -18,7 +18,8 @@ use Rattle.std.proofs.lemmas.Slice.Eq.{slice_eq-Decides, bytes_eq-Decides}
 use Rattle.std.proofs.Math.Seq.{take-append_seam}
 use Rattle.ps_steps.specs.Constraints.{Constraint}
 use Rattle.ps_steps.specs.Steps.{Step}
-use Rattle.ps_steps.specs.Weights.{weighted}
+use Rattle.ps_steps.specs.Weights.{weighted, are_rising}
+use Rattle.ps_log.specs.GoalTexts.{IsGoalText}
 use Rattle.ps_log.specs.Spellings.{IsPlain, Spells, SpellAll}
 use Rattle.ps_log.specs.StepTexts.{words_of, IsStepText}
 use Rattle.ps_log.specs.Texts.{hint_numbers, term_numbers, step_numbers, goal_numbers, step_line, goal_line, IsStepWithin, IsGoalWithin}
@@ -223,6 +224,64 @@ positives [] h = refl
 positives (t ∷ ts) h =
     let P : ℤ × ℤ → Type 0 = λ u. pos 1 ≤ℤ u.1 in
     rw (positive t.1 (first_in P (t.0, pos t.1) (weighted ts) h), positives ts (rest_in P (t.0, pos t.1) (weighted ts) h)) refl
+
+goal-found : (zs : List ℤ) (g : Constraint) → goal_with (Some zs) ≡ Some g → (goal_from zs ≡ g) × (goal_numbers g.degree (weighted g.terms) ≡ zs) × (are_goal_terms g.terms ≡ true)
+goal-found zs g = by (pointwise int_eq (goal_numbers (goal_from zs).degree (weighted (goal_from zs).terms)) zs && are_goal_terms (goal_from zs).terms) refl
+  where
+    by : (t : Bool) → (pointwise int_eq (goal_numbers (goal_from zs).degree (weighted (goal_from zs).terms)) zs && are_goal_terms (goal_from zs).terms) ≡ t
+        → (if t then Some (goal_from zs) else None) ≡ Some g → (goal_from zs ≡ g) × (goal_numbers g.degree (weighted g.terms) ≡ zs) × (are_goal_terms g.terms ≡ true)
+    by true e f =
+        let same = same_Some (goal_from zs) g f in
+        let p = and_parts (pointwise int_eq (goal_numbers (goal_from zs).degree (weighted (goal_from zs).terms)) zs) (are_goal_terms (goal_from zs).terms) e in
+        (same, subst (λ x. goal_numbers x.degree (weighted x.terms) ≡ zs) same ((same-ints _ zs).0 p.0), subst (λ x. are_goal_terms x.terms ≡ true) same p.1)
+    by false e f = absurd (none-some g f)
+
+-- coefficients of at least 1
+one-or-more : (k : ℕ) → nat_lt 0 k ≡ true → 1 ≤ k
+one-or-more k h = grind (arith, h)
+
+above-none : (k : ℕ) → 1 ≤ k → nat_lt 0 k ≡ true
+above-none k h = grind (arith, h)
+
+all-positive : (ts : List (ℤ × ℕ)) → list_all (λ t. nat_lt 0 t.1) ts ≡ true → All (λ t. 1 ≤ t.1) ts
+all-positive [] e = All-nil (λ t. 1 ≤ t.1)
+all-positive (t ∷ ts) e =
+    let p = and_parts (nat_lt 0 t.1) (list_all (λ u. nat_lt 0 u.1) ts) e in
+    All-cons (λ u. 1 ≤ u.1) t ts (one-or-more t.1 p.0) (all-positive ts p.1)
+
+positive-all : (ts : List (ℤ × ℕ)) → All (λ t. 1 ≤ t.1) ts → list_all (λ t. nat_lt 0 t.1) ts ≡ true
+positive-all [] h = refl
+positive-all (t ∷ ts) h = and_from _ _ (above-none t.1 (first_in (λ u. 1 ≤ u.1) t ts h)) (positive-all ts (rest_in (λ u. 1 ≤ u.1) t ts h))
+
+-- a goal's text is read as that goal, and no other line as a goal
+pub text-goal : (line : List ℕ) (g : Constraint) → IsGoalText line g → goal_of line ≡ Some g
+unfolding goal_of
+text-goal line g t =
+    let ns = goal_numbers g.degree (weighted g.terms) in
+    ap (λ ws. goal_with (numbers_after 103 ws)) t.words
+    ∙ ap goal_with (letter-reads 103 t.spellings ns t.spelled)
+    ∙ goal-reads ns g (goal_again g) refl (and_from _ _ (positive-all g.terms t.positive) t.rising)
+
+goal-numbers-text : (line v : List ℕ) (vs : List (List ℕ)) (g : Constraint) (r : Option (List ℤ)) → words_of line ≡ v ∷ vs → numbers_after 103 (v ∷ vs) ≡ r → goal_with r ≡ Some g → IsGoalText line g
+goal-numbers-text line v vs g None w f e = absurd (none-some g e)
+goal-numbers-text line v vs g (Some zs) w f e =
+    let l = letter-found 103 v vs zs f in
+    let d = goal-found zs g e in
+    let fit = and_parts (list_all (λ t. nat_lt 0 t.1) g.terms) (are_rising 0 (weighted g.terms)) d.2 in record {
+      spellings = vs;
+      words = w ∙ ap (λ x. x ∷ vs) l.0;
+      spelled = subst (SpellAll vs) (sym d.1) l.1;
+      positive = all-positive g.terms fit.0;
+      rising = fit.1;
+    }
+
+goal-words-text : (line : List ℕ) (g : Constraint) (ws : List (List ℕ)) → words_of line ≡ ws → goal_with (numbers_after 103 ws) ≡ Some g → IsGoalText line g
+goal-words-text line g [] w e = absurd (none-some g e)
+goal-words-text line g (v ∷ vs) w e = goal-numbers-text line v vs g (numbers_after 103 (v ∷ vs)) w refl e
+
+pub goal-text : (line : List ℕ) (g : Constraint) → goal_of line ≡ Some g → IsGoalText line g
+unfolding goal_of
+goal-text line g e = goal-words-text line g (words_of line) refl e
 
 pub reads_goal : (g : Constraint) → IsGoalWithin g → goal_of (goal_line g) ≡ Some g
 unfolding goal_of goal_line
