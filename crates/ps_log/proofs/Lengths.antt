@@ -83,8 +83,8 @@ goal_is_short goal h =
     let start : List ℕ = 103 ∷ [] in
     let ts = weighted goal.terms in
     let many : length ts ≡ length goal.terms = length-map goal.terms (λ t. (t.0, pos t.1)) in
-    let small : unsigned_abs goal.degree ≤ 2 ^ 126 = omega (arith, h.narrow) in
-    let sum : size_sum ts ≤ 2 ^ 126 = omega (arith, h.narrow) in
+    let small : unsigned_abs goal.degree ≤ 2 ^ 126 = omega (arith, h.normal.narrow) in
+    let sum : size_sum ts ≤ 2 ^ 126 = omega (arith, h.normal.narrow) in
     rw (goal_parts start goal.degree ts)
     (omega (
       arith,

@@ -1,4 +1,6 @@
+pub mod LastLines
 pub mod Lengths
+pub mod LineShapes
 pub mod ManyNumbers
 pub mod Parts
 pub mod Reading
@@ -6,3 +8,4 @@ pub mod Spelled
 pub mod StepAnswers
 pub mod StepLines
 pub mod StepShapes
+pub mod Telling

@@ -1,10 +1,11 @@
 -- Words that spell numbers: their bytes, their values, and what is written of a number.
-use Rattle.std.proofs.Common.{◌≡◌, ℕ, zero, suc, ◌+◌, ◌*◌, ◌-◌, ◌<◌, ◌^◌, ◌==◌, ℤ, pos, negsuc, neg_ℤ, Bool, true, false, List, [], ◌∷◌, ◌++◌, length, map, min, Option, None, Some, nat_lt, refl, sym, ap, subst, ◌∙◌, arith, get_or, take, All, unsigned_abs}
+use Rattle.std.proofs.Common.{◌≡◌, ℕ, zero, suc, ◌+◌, ◌*◌, ◌-◌, ◌<◌, ◌^◌, ◌%◌, ◌==◌, ℤ, pos, negsuc, neg_ℤ, Bool, true, false, List, [], ◌∷◌, ◌++◌, length, map, min, Option, None, Some, nat_lt, refl, sym, ap, subst, ◌∙◌, arith, get_or, length-append, take, All, unsigned_abs}
 use Rattle.std.specs.Prelude.{slice_index}
+use Rattle.std.proofs.lemmas.List.{get_or_append_left}
 use Rattle.std.specs.Fmt.{decimal, signed_decimal}
 use Rattle.std.specs.Char.{digit_value}
 use Rattle.std.specs.Str.Parse.{AllDigits, digits_value}
-use Rattle.std.proofs.lemmas.Fmt.{decimal_is_IsNumeral, decimal-digits_value, first_decimal, decimal_digit}
+use Rattle.std.proofs.lemmas.Fmt.{decimal_is_IsNumeral_wide, decimal-digits_value, decimal_by_steps_wide, decimal_digit}
 use Rattle.std.proofs.lemmas.Str.Parse.{IsNumeralModel, digit_from_value}
 use Rattle.std.proofs.lemmas.Str.{digit_value_digit}
 use Rattle.std.proofs.lemmas.Int.Digits.{digits_value_more}
@@ -29,26 +30,30 @@ written_of word (pos n) s h = decimal_of word n s h
 written_of [] (negsuc n) s h = absurd s
 written_of (c ∷ cs) (negsuc n) s h = rw s.0 (ap (λ r. 45 ∷ r) (decimal_of cs (suc n) s.1 h))
 
--- what is written of a small number spells it
-pub decimal-spells : (n : ℕ) → n < 2 ^ 64 → IsDecimal (decimal n) n
+-- what is written of a number that isn't too long spells it
+first_wide : (n : ℕ) → 0 < n → n < 10 ^ 64 → 48 < get_or (decimal n) 0 0
+first_wide n some small = (decimal_by_steps_wide (λ m ds. (0 < length ds) × (0 < m → 48 < get_or ds 0 0)) (λ m l. (omega arith, λ a. omega arith))
+    (λ m ds l h. (omega (arith, length-append ds ((48 + m % 10) ∷ [])), λ a. omega (arith, get_or_append_left ds ((48 + m % 10) ∷ []) 0 0 h.0, h.1 (omega arith)))) n small).1 some
+
+pub decimal-spells : (n : ℕ) → n < 10 ^ 64 → IsDecimal (decimal n) n
 decimal-spells zero h = record {
-  plain = record { digits = (decimal_is_IsNumeral 0 h).0; no_leading_zero = λ e. ap length (decimal_digit 0 (omega arith)) };
-  value = (decimal_is_IsNumeral 0 h).1;
+  plain = record { digits = (decimal_is_IsNumeral_wide 0 h).0; no_leading_zero = λ e. ap length (decimal_digit 0 (omega arith)) };
+  value = (decimal_is_IsNumeral_wide 0 h).1;
 }
 decimal-spells (suc n) h = record {
   plain = record {
-    digits = (decimal_is_IsNumeral (suc n) h).0;
-    no_leading_zero = λ e. absurd (omega (arith, e, first_decimal (suc n) (omega arith) h));
+    digits = (decimal_is_IsNumeral_wide (suc n) h).0;
+    no_leading_zero = λ e. absurd (omega (arith, e, first_wide (suc n) (omega arith) h));
   };
-  value = (decimal_is_IsNumeral (suc n) h).1;
+  value = (decimal_is_IsNumeral_wide (suc n) h).1;
 }
 
-pub written-spells : (z : ℤ) → unsigned_abs z < 2 ^ 64 → Spells (signed_decimal z) z
+pub written-spells : (z : ℤ) → unsigned_abs z < 10 ^ 64 → Spells (signed_decimal z) z
 written-spells (pos n) h = decimal-spells n h
 written-spells (negsuc n) h = (refl, decimal-spells (suc n) h)
 
 -- the value of a spelling
-minus_first : (c : ℕ) (cs : List ℕ) → digit_value c < 10 → (c == 45) ≡ false
+pub minus_first : (c : ℕ) (cs : List ℕ) → digit_value c < 10 → (c == 45) ≡ false
 minus_first c cs d = by (c == 45) refl
   where
     by : (t : Bool) → (c == 45) ≡ t → t ≡ false

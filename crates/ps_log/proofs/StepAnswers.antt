@@ -173,12 +173,19 @@ written-split w (n ∷ ns) h s =
     words-cut (w ++ 32 ∷ (d ++ spaced (map signed_decimal ns))) w (d ++ spaced (map signed_decimal ns)) refl h
     ∙ ap (λ ws. w ∷ ws) (written-split d ns (lacks-all 32 d (number-lacks 32 n space_is_no_digit refl (first_in Small n ns s))) (rest_in Small n ns s))
 
-written-spelled : (ns : List ℤ) → All Fit ns → SpellAll (map signed_decimal ns) ns
-written-spelled [] h = tt
-written-spelled (n ∷ ns) h = (written-spells n (fit-narrow n (first_in Fit n ns h)), written-spelled ns (rest_in Fit n ns h))
+small-narrow : (z : ℤ) → Small z → unsigned_abs z < 10 ^ 64
+small-narrow z h = omega (arith, h)
 
-s-alone : All {X = ℕ} (λ b. b ≢ 32) (115 ∷ [])
-s-alone = All-cons {X = ℕ} (λ b. b ≢ 32) 115 [] (λ e. omega (arith, e)) (All-nil {X = ℕ} (λ b. b ≢ 32))
+pub written-spelled : (ns : List ℤ) → All Small ns → SpellAll (map signed_decimal ns) ns
+written-spelled [] h = tt
+written-spelled (n ∷ ns) h = (written-spells n (small-narrow n (first_in Small n ns h)), written-spelled ns (rest_in Small n ns h))
+
+alone : (c : ℕ) → c ≢ 32 → All {X = ℕ} (λ b. b ≢ 32) (c ∷ [])
+alone c h = All-cons {X = ℕ} (λ b. b ≢ 32) c [] h (All-nil {X = ℕ} (λ b. b ≢ 32))
+
+-- the words of a line of numbers after a letter
+pub written-words_of : (c : ℕ) (ns : List ℤ) → c ≢ 32 → All Small ns → words_of (with_numbers (c ∷ []) ns) ≡ (c ∷ []) ∷ map signed_decimal ns
+written-words_of c ns h s = ap words_of (written-line c [] ns) ∙ written-split (c ∷ []) ns (alone c h) s
 
 -- the line of a step within the limits is its text
 pub line-is-text : (s : Step) → IsStepWithin s → IsStepText (step_line s) s
@@ -186,8 +193,8 @@ unfolding step_line
 line-is-text s h =
     let ns = step_numbers s.id s.lits s.hints in record {
       spellings = map signed_decimal ns;
-      words = ap words_of (written-line 115 [] ns) ∙ written-split (115 ∷ []) ns s-alone (step_small s h);
-      spelled = written-spelled ns (within-fit s h);
+      words = written-words_of 115 ns (λ e. omega (arith, e)) (step_small s h);
+      spelled = written-spelled ns (step_small s h);
       nonzero = within-nonzero s h;
     }
 

@@ -1,3 +1,4 @@
+pub mod GoalTexts
 pub mod Lines
 pub mod Logs
 pub mod Numbers

@@ -12,9 +12,9 @@ pub record Held : Type 0 where
   pub goal : Option Constraint
   pub steps : List Step
 
--- a new goal, and no steps
+-- a log that told tells, and one that tells has the new goal and no steps
 abbrev pub Starts : Bool → Bool → Option Constraint → Option (List Step) → Constraint → Type 0
-Starts told tells goal steps new_goal = IsTrue told → IsTrue tells × (goal ≡ Some new_goal) × (steps ≡ Some [])
+Starts told tells goal steps new_goal = (IsTrue told → IsTrue tells) × (IsTrue tells → (goal ≡ Some new_goal) × (steps ≡ Some []))
 
 -- the goal stays, and the steps grow by these
 abbrev pub Grows : Bool → Option Constraint → Option (List Step) → Bool → Option Constraint → Option (List Step) → List Step → Type 0

@@ -1,10 +1,10 @@
 -- The texts of goals and steps.
-use Rattle.std.specs.Prelude.{ℕ, ◌≤◌, ◌+◌, ◌^◌, ℤ, pos, ◌≤ℤ◌, List, [], ◌∷◌, ◌++◌, All, fold, length, flat_map, unsigned_abs}
+use Rattle.std.specs.Prelude.{ℕ, ◌≤◌, ◌^◌, ℤ, pos, List, [], ◌∷◌, ◌++◌, All, fold, length, flat_map, unsigned_abs}
 use Rattle.std.specs.Fmt.{signed_decimal}
 use Rattle.ps_io.specs.LineText.{with_word}
 use Rattle.ps_steps.specs.Constraints.{Constraint}
 use Rattle.ps_steps.specs.Steps.{Step}
-use Rattle.ps_steps.specs.Weights.{Weighted, weighted, size_sum}
+use Rattle.ps_steps.specs.Weights.{Weighted, weighted, IsNormal}
 
 -- a line with one more number
 abbrev pub with_number : List ℕ → ℤ → List ℕ
@@ -56,7 +56,6 @@ pub record IsStepWithin (s : Step) : Type 0 where
 
 -- a goal is within the limits
 pub record IsGoalWithin (goal : Constraint) : Type 0 where
+  pub normal : IsNormal (weighted goal.terms) goal.degree
   pub lits : All (λ t. IsLiteral t.0) (weighted goal.terms)
-  pub positive : All (λ t. pos 1 ≤ℤ t.1) (weighted goal.terms)
   pub few : length goal.terms ≤ 1024
-  pub narrow : size_sum (weighted goal.terms) + unsigned_abs goal.degree ≤ 2 ^ 126

@@ -1,10 +1,16 @@
 -- What bytes tell of a goal and of the steps after it.
-use Rattle.std.specs.Prelude.{ℕ, ◌-◌, ◌==◌, ℤ, pos, neg_ℤ, unsigned_abs, List, [], ◌∷◌, ◌++◌, map, length, take, fold, Bool, true, false, Option, Some, None, if◌then◌else◌, ◌&&◌}
+use Rattle.std.specs.Prelude.{ℕ, ◌-◌, ◌==◌, ◌≡◌, nat_lt, ℤ, pos, neg_ℤ, unsigned_abs, List, [], ◌∷◌, ◌++◌, map, length, take, fold, slice_index, Bool, true, false, not, Option, Some, None, if◌then◌else◌, ◌&&◌, ◌||◌}
+use Rattle.std.specs.Char.{digit_value}
+use Rattle.std.specs.Cmp.Lexicographic.{pointwise}
+use Rattle.std.specs.List.{list_all}
+use Rattle.std.specs.Ordering.{int_eq}
 use Rattle.std.specs.Str.{bytes_eq}
 use Rattle.std.specs.Str.Parse.{digits_value}
 use Rattle.ps_steps.specs.Constraints.{Constraint}
 use Rattle.ps_steps.specs.Steps.{Step}
-use Rattle.ps_log.specs.Texts.{step_line, goal_line}
+use Rattle.ps_steps.specs.Weights.{weighted, are_rising}
+use Rattle.ps_log.specs.StepTexts.{words_of}
+use Rattle.ps_log.specs.Texts.{step_numbers, goal_numbers}
 
 -- the parts of bytes that end with a separator, where one is begun already
 abbrev pub parts_after : ℕ → List ℕ → List ℕ → List (List ℕ)
@@ -16,22 +22,28 @@ abbrev pub rest_after : ℕ → List ℕ → List ℕ → List ℕ
 rest_after sep part [] = part
 rest_after sep part (b ∷ bs) = if b == sep then rest_after sep [] bs else rest_after sep (part ++ b ∷ []) bs
 
--- the words of a line
-unfoldable pub words : List ℕ → List (List ℕ)
-words line = parts_after 32 [] (line ++ 32 ∷ [])
+-- the lines that end with a line feed
+abbrev pub whole_lines : List ℕ → List (List ℕ)
+whole_lines bytes = parts_after 10 [] bytes
+
+-- digits, and no leading zero before others
+abbrev pub is_plain : List ℕ → Bool
+is_plain word = nat_lt 0 (length word) && list_all (λ b. nat_lt (digit_value b) 10) word && (not (slice_index word 0 == 48) || length word == 1)
+
+-- a number as it is written, with a minus before it where it is below 0
+abbrev pub is_number : List ℕ → Bool
+is_number [] = false
+is_number (c ∷ cs) = if c == 45 then is_plain cs && nat_lt 0 (digits_value 10 cs) else is_plain (c ∷ cs)
 
 -- the number that a word spells
 abbrev pub number_of : List ℕ → ℤ
 number_of [] = pos 0
 number_of (c ∷ cs) = if c == 45 then neg_ℤ (pos (digits_value 10 cs)) else pos (digits_value 10 (c ∷ cs))
 
-abbrev pub numbers_after_first : List (List ℕ) → List ℤ
-numbers_after_first [] = []
-numbers_after_first (w ∷ ws) = map number_of ws
-
--- the numbers of a line, which follow its first word
-unfoldable pub numbers_of : List ℕ → List ℤ
-numbers_of line = numbers_after_first (words line)
+-- the numbers that follow a letter, where these are all the words
+abbrev pub numbers_after : ℕ → List (List ℕ) → Option (List ℤ)
+numbers_after letter [] = None
+numbers_after letter (w ∷ ws) = if bytes_eq w (letter ∷ []) && list_all is_number ws then Some (map number_of ws) else None
 
 -- what stands before the first 0, and after it
 abbrev pub before_zero : List ℤ → List ℤ
@@ -62,26 +74,37 @@ abbrev pub goal_from : List ℤ → Constraint
 goal_from [] = record { terms = []; degree = pos 0 }
 goal_from (z ∷ zs) = record { terms = terms_from zs; degree = z }
 
-abbrev pub first_is : ℕ → List ℕ → Bool
-first_is c [] = false
-first_is c (b ∷ bs) = b == c
+-- terms that a goal may have: coefficients of at least 1, and rising variables
+abbrev pub are_goal_terms : List (ℤ × ℕ) → Bool
+are_goal_terms terms = list_all (λ t. nat_lt 0 t.1) terms && are_rising 0 (weighted terms)
+
+-- the step whose numbers these are
+abbrev pub step_with : Option (List ℤ) → Option Step
+step_with None = None
+step_with (Some zs) = let s = step_from zs in if pointwise int_eq (step_numbers s.id s.lits s.hints) zs then Some s else None
+
+-- the goal whose numbers these are
+abbrev pub goal_with : Option (List ℤ) → Option Constraint
+goal_with None = None
+goal_with (Some zs) = let g = goal_from zs in if pointwise int_eq (goal_numbers g.degree (weighted g.terms)) zs && are_goal_terms g.terms then Some g else None
 
 -- the step whose line this is
 unfoldable pub step_of : List ℕ → Option Step
-step_of line = if bytes_eq (step_line (step_from (numbers_of line))) line then Some (step_from (numbers_of line)) else None
+step_of line = step_with (numbers_after 115 (words_of line))
 
 -- the goal whose line this is
 unfoldable pub goal_of : List ℕ → Option Constraint
-goal_of line = if first_is 103 line && bytes_eq (goal_line (goal_from (numbers_of line))) line then Some (goal_from (numbers_of line)) else None
+goal_of line = goal_with (numbers_after 103 (words_of line))
 
 -- a goal, and the steps after it
 pub record Proof : Type 0 where
   pub goal : Constraint
   pub steps : List Step
 
+-- what is told with one more step; with a line that is no step, nothing
 abbrev pub with_step : Option Proof → Option Step → Option Proof
 with_step None s = None
-with_step (Some p) None = Some p
+with_step (Some p) None = None
 with_step (Some p) (Some s) = Some (record { goal = p.goal; steps = p.steps ++ s ∷ [] })
 
 abbrev pub with_goal : Option Constraint → Option Proof → Option Proof
@@ -92,9 +115,18 @@ with_goal (Some g) p = Some (record { goal = g; steps = [] })
 abbrev pub after_line : Option Proof → List ℕ → Option Proof
 after_line p line = with_goal (goal_of line) (with_step p (step_of line))
 
--- what the whole lines of some bytes tell: the last goal, and the steps after it
+-- what the whole lines of some bytes tell: the last goal, and the steps after it, where each line after it is a step
 unfoldable pub proof_of : List ℕ → Option Proof
-proof_of bytes = fold after_line None (parts_after 10 [] bytes)
+proof_of bytes = fold after_line None (whole_lines bytes)
+
+-- the last lines are a goal's, and just those of the steps after it
+pub record EndWith (lines : List (List ℕ)) (p : Proof) : Type 0 where
+  pub before : List (List ℕ)
+  pub goal_line : List ℕ
+  pub step_lines : List (List ℕ)
+  pub are : lines ≡ before ++ goal_line ∷ step_lines
+  pub goal : goal_of goal_line ≡ Some p.goal
+  pub steps : map step_of step_lines ≡ map Some p.steps
 
 abbrev pub proof_if : Option (List ℕ) → Option Proof
 proof_if None = None

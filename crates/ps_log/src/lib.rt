@@ -3,6 +3,7 @@
 
 mod error;
 mod held;
+mod laws;
 mod limits;
 mod numbers;
 mod numeral;
@@ -16,6 +17,7 @@ mod words;
 
 pub use error::LogError;
 pub use held::HeldLog;
+pub use laws::{last_lines_are_told, lines_are_read};
 pub use limits::{is_goal_within, is_step_within};
 pub use sink::ProofSink;
 pub use step_error::StepError;

@@ -34,7 +34,6 @@ fn step(alloc: Global, id: u64, first: u64, second: u64) -> Result<Step, Fail> {
 }
 
 #[test]
-#[tactic(auto, using(crate::proofs::Lengths::step_is_short, crate::proofs::Lengths::goal_is_short))]
 fn lines_are_written(rt: HostRuntime) -> Result<(), Fail> {
     let alloc = rt.alloc();
     let goal = goal(alloc)?;

@@ -72,6 +72,7 @@ impl<O: Sink> ProofSink for TextLog<'_, O> {
         ensures cause { IfErr result (λ e. HasCause e (faults_of self.old) (faults_of self.new)) }
         ensures no_memory { IsErrOf result LogError.NoMemory → IsTrue false × IsTrue (is_unbroken self.new) }
         ensures only_fault { OnErr result (result ≡ Err LogError.Fault) }
+        ensures broken { OnErr result (is_unbroken self.new ≡ false) }
         ensures same_references { reference_of self.new ≡ reference_of self.old }
         ensures written { Wrote O.written O.faults (lines_of self.old) (lines_of self.new) result (goal_line constraint.now ∷ []) }
     {
@@ -95,6 +96,7 @@ impl<O: Sink> ProofSink for TextLog<'_, O> {
         ensures cause { IfErr result (λ e. HasCause e (faults_of self.old) (faults_of self.new)) }
         ensures no_memory { IsErrOf result LogError.NoMemory → IsTrue false × IsTrue (is_unbroken self.new) }
         ensures only_fault { OnErr result (result ≡ Err LogError.Fault) }
+        ensures broken { OnErr result (is_unbroken self.new ≡ false) }
         ensures same_references { reference_of self.new ≡ reference_of self.old }
         ensures written { Wrote O.written O.faults (lines_of self.old) (lines_of self.new) result (step_line step.now ∷ []) }
     {

@@ -1,6 +1,7 @@
 use Rattle.std.proofs.Common.{◌∙◌}
 use Rattle.ps_log.specs.Texts.{step_line}
-use Rattle.ps_log.proofs.Reading.{from_not, plain, plain_prefix, ends_whole-line, step-one_line, step_told, stays_told}
+use Rattle.ps_log.proofs.Reading.{step-one_line}
+use Rattle.ps_log.proofs.Telling.{from_not, plain, plain_prefix, ends_whole-line, step_told, stays_told}
 use Rattle.ps_log.proofs.text_log.TextLogProofSink.step.Goals as goal
 
 pub invariant_of-self : goal.invariant_of-self
