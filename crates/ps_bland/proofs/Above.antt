@@ -113,12 +113,12 @@ module _ (costs : Costs) (t : Tableau) (worlds : List (List ℤ)) (above : AreAb
   ready_above some stands values feasible = record { costs_there = above.costs_there; values = values; fits = (feasible, unit_row some stands) }
 
 -- what a test asks of costs and worlds makes a table ready for the greatest value
-pub ready_checked : (costs : Costs) (t : Tableau) (worlds : List (List ℤ)) → length t.kinds ≡ 3 → length costs.homes ≡ 3 → t.worlds ≤ length costs.worlds → t.worlds ≤ length worlds
+pub ready_checked : (n : ℕ) (costs : Costs) (t : Tableau) (worlds : List (List ℤ)) → 0 < n → length t.kinds ≡ n → length costs.homes ≡ n → t.worlds ≤ length costs.worlds → t.worlds ≤ length worlds
     → ((i : ℕ) → i < length costs.homes → pos 0 ≤ℤ get_or costs.homes i (pos 0)) → ((i : ℕ) → i < length costs.homes → get_or costs.homes i (pos 0) ≤ℤ pos 0)
     → ((i : ℕ) → i < length costs.worlds → negsuc 0 ≤ℤ get_or costs.worlds i (pos 0)) → ((i : ℕ) → i < length costs.worlds → get_or costs.worlds i (pos 0) ≤ℤ pos 0)
     → ((k : ℕ) → k < length worlds → get_or (get_or worlds k []) 0 (pos 0) ≡ pos 1)
-    → ((A : ℕ → ℕ → Rational) → AreColumns 3 worlds A → StandsFor A t) → HasValues t → IsFeasible (face_of t) → IsReady Upper costs t
-ready_checked costs t worlds rows eh lw le hl hh wl wh ones stands values feasible =
+    → ((A : ℕ → ℕ → Rational) → AreColumns n worlds A → StandsFor A t) → HasValues t → IsFeasible (face_of t) → IsReady Upper costs t
+ready_checked n costs t worlds some rows eh lw le hl hh wl wh ones stands values feasible =
     let above : AreAbove costs t worlds = record {
       costs_there = record {
         homes = eh ∙ sym rows;
@@ -137,9 +137,9 @@ ready_checked costs t worlds rows eh lw le hl hh wl wh ones stands values feasib
       worlds_high = wh;
       ones = ones;
     } in
-    ready_above costs t worlds above (omega (arith, rows)) (λ A h. stands A (subst (λ k. AreColumns k worlds A) rows h)) values feasible
+    ready_above costs t worlds above (omega (arith, rows, some)) (λ A h. stands A (subst (λ k. AreColumns k worlds A) rows h)) values feasible
 
 -- the column of the next world
-pub world_column : (A : ℕ → ℕ → Rational) (worlds : List (List ℤ)) (k : ℕ) (entries : List ℤ) (t : Tableau) → entries ≡ get_or worlds k [] → length t.kinds ≡ 3 → t.worlds ≡ k → k < length worlds → AreColumns 3 worlds A → IsColumn entries (length t.kinds) (suc (length t.kinds + t.worlds)) A
-world_column A worlds k entries t e rows count within h = λ m l.
+pub world_column : (n : ℕ) (A : ℕ → ℕ → Rational) (worlds : List (List ℤ)) (k : ℕ) (entries : List ℤ) (t : Tableau) → entries ≡ get_or worlds k [] → length t.kinds ≡ n → t.worlds ≡ k → k < length worlds → AreColumns n worlds A → IsColumn entries (length t.kinds) (suc (length t.kinds + t.worlds)) A
+world_column n A worlds k entries t e rows count within h = λ m l.
     (λ z. A m (suc (rows z + count z))) ∙ h.entries k m within (subst (λ n. m < n) rows l) ∙ ap (λ list. fraction (get_or list m (pos 0)) 1) (sym e)

@@ -15,7 +15,7 @@ use Rattle.ps_table.specs.declared.place.WideAt.{WideAt}
 use Rattle.ps_bland.specs.declared.error.SettleError.{SettleError}
 use Rattle.ps_bland.specs.declared.error.SettleError.TheVariants.{Wide, NoMemory}
 use Rattle.ps_table.specs.Tableau.{Tableau, spot, entry_at, basic_at, IsInside, IsPivot, cost_at, StandsFor, HasCosts}
-use Rattle.ps_table.specs.Places.{IsWide, IsWideAt, IsPivotPlace, IsCostWide}
+use Rattle.ps_table.specs.Places.{IsWide, IsWideAt, IsPivotPlace, IsCostPlace, IsCostWide, IsNarrow}
 use Rattle.ps_pool.specs.declared.event.Event.{Event}
 use Rattle.ps_pool.specs.declared.event.Event.TheVariants.{Pivot, Priced}
 use Rattle.ps_bland.specs.declared.phase.Phase.{Phase}
@@ -124,6 +124,10 @@ pub data IsDueWide (phase : Phase) (costs : Costs) (t : Tableau) (left : ℕ) (w
   at_ratio : (q : Col) → (IsDone phase t → ⊥) → 0 < left → IsInside (length t.kinds) t.worlds q → Enters (face_of t) (cost_at costs) (spot (length t.kinds) q) → IsLeftToRatios (stage phase) t (spot (length t.kinds) q) → IsRatioWide t (spot (length t.kinds) q) w → IsDueWide phase costs t left w
   at_pivot : (q : Col) (p : ℕ) → 0 < left → IsLawful phase costs t q p → IsWideAt (IsPivotPlace (length t.kinds) t.worlds (entry_at t) p (spot (length t.kinds) q)) w → IsDueWide phase costs t left w
 
+-- the operands at no due place of the table are too wide
+abbrev pub AreDueNarrow : Phase → Costs → Tableau → ℕ → Type 0
+AreDueNarrow phase costs t left = (w : WideAt) → ¬ IsDueWide phase costs t left w
+
 -- a number of a due place is too wide, or a pivot that is due finds no memory
 abbrev pub IsDueRefusal : Phase → Costs → Tableau → ℕ → SettleError → Type 0
 IsDueRefusal phase costs t left (Wide w) = IsDueWide phase costs t left w
@@ -140,7 +144,7 @@ IsSettled phase costs t left Feasible = IsDone phase t
 IsSettled phase costs t left AtRest = IsResting (stage phase) (face_of t) (cost_at costs)
 IsSettled phase costs t left OutOfPivots = IsMoving (stage phase) (face_of t) (cost_at costs) × (left ≡ 0)
 
--- one round: an end, a refusal, or one lawful pivot
+-- one lawful pivot, with its event, counted
 pub record IsStep (phase : Phase) (costs : Costs) (old new : Tableau) (trace longer : List Event) (had left : ℕ) : Type 0 where
   pub enter : Col
   pub leave : ℕ
@@ -156,7 +160,7 @@ pub record IsSame (old new : Tableau) (trace longer : List Event) (had left : �
   pub trace_same : longer ≡ trace
   pub left_same : left ≡ had
 
--- what one round does
+-- one round: one lawful pivot, an end, or a refusal
 abbrev pub IsRound : Phase → Costs → Tableau → Tableau → List Event → List Event → ℕ → ℕ → Result (Option Settled) SettleError → Type 0
 IsRound phase costs old new trace longer had left (Ok None) = IsStep phase costs old new trace longer had left
 IsRound phase costs old new trace longer had left (Ok (Some s)) = IsSame old new trace longer had left × IsSettled phase costs old had s
@@ -244,3 +248,21 @@ IsFirstArtificialRow t q None = (i : ℕ) → IsArtificialRow (face_of t) q i �
 abbrev pub CanLeave : RulePhase → Tableau → ℕ → Type 0
 CanLeave Second t q = ((i : ℕ) → IsArtificialRow (face_of t) q i → ⊥) → HasRising t q
 CanLeave First t q = HasRising t q
+
+-- no sum is too wide for a column that comes before each one that improves, or is the first of them
+abbrev pub AreEntriesNarrow : Costs → Tableau → Type 0
+AreEntriesNarrow costs t = (w : WideAt) → ¬ IsEntryWide costs t w
+
+-- no sum is too wide for a slack or a world before place m
+abbrev pub AreNarrowBefore : Costs → Tableau → ℕ → Type 0
+AreNarrowBefore costs t m = (c : Col) → IsInside (length t.kinds) t.worlds c → artificial_at t.kinds (spot (length t.kinds) c) ≡ false → spot (length t.kinds) c < m → IsNarrow (IsCostPlace t costs c)
+
+-- no sum is too wide up to the entering column, or before place n where none was found
+abbrev pub AreNarrowTo : Costs → Tableau → ℕ → Option Col → Type 0
+AreNarrowTo costs t n (Some q) = AreNarrowBefore costs t (suc (spot (length t.kinds) q))
+AreNarrowTo costs t n None = AreNarrowBefore costs t n
+
+-- a round that comes to an end leaves no due place too wide
+abbrev pub IsNarrowEnd : Phase → Costs → Tableau → ℕ → Option Settled → Type 0
+IsNarrowEnd phase costs t left (Some s) = AreDueNarrow phase costs t left
+IsNarrowEnd phase costs t left None = Unit {0}

@@ -3,8 +3,8 @@ ghost use Rattle.std.specs.Prelude.{◌≡◌, suc, ◌↔◌, false, length, If
 ghost use Rattle.ps_rational.specs.Order.{IsLess};
 ghost use Rattle.ps_rule.specs.Rule.{Improves};
 ghost use Rattle.ps_table.specs.Tableau.{spot, IsInside, HasCosts, cost_at};
-ghost use Rattle.ps_table.specs.Places.{IsCostWide};
-ghost use Rattle.ps_bland.specs.Runs.{artificial_at, face_of, IsEntering, IsEnteringBefore, IsEntryWide};
+ghost use Rattle.ps_table.specs.Places.{IsCostPlace, IsCostWide, IsNarrow};
+ghost use Rattle.ps_bland.specs.Runs.{artificial_at, face_of, IsEntering, IsEnteringBefore, IsEntryWide, AreEntriesNarrow, AreNarrowTo};
 
 use crate::columns::is_artificial;
 use ps_frac::Fraction;
@@ -24,6 +24,7 @@ fn improves(table: &Table, costs: &Costs, col: Col) -> Result<bool, WideAt>
     requires inside { IsInside (length table.now.kinds) table.now.worlds col }
     requires real { artificial_at table.now.kinds (spot (length table.now.kinds) col) ≡ false }
     ensures value { IfOk result (λ b. IsTrue b ↔ Improves (face_of table.now) (cost_at costs.now) (spot (length table.now.kinds) col)) }
+    ensures narrow { IfOk result (λ _. IsNarrow (IsCostPlace table.now costs.now col)) }
     ensures refused { IfErr result (IsCostWide table.now costs.now col) }
 {
     let carried = table.carried(costs, col)?;
@@ -34,6 +35,7 @@ fn improves(table: &Table, costs: &Costs, col: Col) -> Result<bool, WideAt>
 fn entering_home(table: &Table, costs: &Costs) -> Result<Option<Col>, WideAt>
     requires { HasCosts costs.now table.now }
     ensures found { IfOk result (λ o. IsEnteringBefore costs.now table.now (suc (length table.now.kinds)) o) }
+    ensures narrow { IfOk result (AreNarrowTo costs.now table.now (suc (length table.now.kinds))) }
     ensures refused { IfErr result (IsEntryWide costs.now table.now) }
 {
     for row in 0..table.rows() {
@@ -49,6 +51,7 @@ fn entering_home(table: &Table, costs: &Costs) -> Result<Option<Col>, WideAt>
 pub(crate) fn entering(table: &Table, costs: &Costs) -> Result<Option<Col>, WideAt>
     requires { HasCosts costs.now table.now }
     ensures found { IfOk result (IsEntering costs.now table.now) }
+    ensures narrow { IfOk result (λ _. AreEntriesNarrow costs.now table.now) }
     ensures refused { IfErr result (IsEntryWide costs.now table.now) }
 {
     if let Some(col) = entering_home(table, costs)? {

@@ -44,7 +44,7 @@ fn first_rising(table: &Table, col: Col) -> u32
     unreachable!()
 }
 
-/// A row, its ratio and its basic column's number.
+/// A row and its ratio.
 #[derive(Clone, Copy, Drop)]
 struct Best {
     row: u32,

@@ -2,7 +2,7 @@
 ghost use Rattle.std.specs.Prelude.{◌≡◌, ◌≢◌, ℕ, ◌+◌, ◌<◌, [], ◌∷◌, ◌++◌, length, IfOk, IfErr};
 ghost use Rattle.ps_rational.specs.Rational.{Rational, zero_q};
 ghost use Rattle.ps_table.specs.Tableau.{spot, entry_at, IsInside, IsPivot, StandsFor};
-ghost use Rattle.ps_bland.specs.Runs.{Ran, IsRound, IsEnd, IsReady, IsPivotRefusal};
+ghost use Rattle.ps_bland.specs.Runs.{Ran, IsRound, IsEnd, IsReady, IsPivotRefusal, AreDueNarrow, IsNarrowEnd};
 
 use crate::entering::entering;
 use crate::error::SettleError;
@@ -54,6 +54,7 @@ fn step(
 ) -> Result<Option<Settled>, SettleError>
     requires { IsReady phase costs.now table.old }
     ensures round { IsRound phase costs.now table.old table.new trace.old trace.new left.old left.new result }
+    ensures narrow { IfOk result (IsNarrowEnd phase costs.now table.new left.new) }
     ensures ready { IsReady phase costs.now table.new }
     ensures stands { (A : ℕ → ℕ → Rational) → StandsFor A table.old → StandsFor A table.new }
 {
@@ -96,8 +97,9 @@ fn step(
 ///
 /// `Wide` names a place of the table as it is left, with the operands there: what a column
 /// carries, where no column before it improves, or, while a pivot is left, a ratio or a number of
-/// the pivot that is due. `NoMemory` comes only where a pivot is due. After either, table, `left`
-/// and `trace` are those after the last whole pivot.
+/// the pivot that is due. Where an end is answered no such number of the table as it is left is
+/// too large. `NoMemory` comes only where a pivot is due. After either, table, `left` and `trace`
+/// are those after the last whole pivot.
 ///
 /// A table is ready for a phase with the costs that `ready_tables` names, and stays so. Then a
 /// column that improves always has a row that leaves: no answer says that there is no bound.
@@ -108,9 +110,10 @@ pub fn settle(
     left: &mut u64,
     trace: &mut Trace,
 ) -> Result<Settled, SettleError>
-    requires { IsReady phase costs.now table.old }
+    requires ready { IsReady phase costs.now table.old }
     ensures ran { Ran phase costs.now table.old table.new trace.old trace.new left.old left.new }
     ensures end { IsEnd phase costs.now table.new left.new result }
+    ensures narrow { IfOk result (λ _. AreDueNarrow phase costs.now table.new left.new) }
     ensures kinds { table.new.kinds ≡ table.old.kinds }
     ensures worlds { table.new.worlds ≡ table.old.worlds }
     ensures ready { IsReady phase costs.now table.new }

@@ -1,6 +1,6 @@
 //! Runs of all phases. The expected pivots and values were computed by hand and by another program.
 
-ghost use Rattle.std.specs.Prelude.{◌≡◌, ℕ, ◌<◌, ◌≤ℤ◌, [], length, get_or, pos, IsTrue, IfSome};
+ghost use Rattle.std.specs.Prelude.{◌≡◌, ℕ, ◌<◌, ◌≤◌, ◌≤ℤ◌, [], length, get_or, pos, IsTrue, IfSome};
 ghost use Rattle.ps_rational.specs.Rational.{Rational};
 ghost use Rattle.ps_rational.specs.Order.{IsNonneg};
 ghost use Rattle.ps_table.specs.Tableau.{entry_at, StandsFor};
@@ -11,7 +11,7 @@ mod cases;
 
 use crate::feasible::is_due_to_end;
 use crate::{Phase, SettleError, Settled, settle};
-use cases::{CASES, Case, End, Stage};
+use cases::{Case, End, FIVE_ROWS, Stage, THREE_ROWS};
 use ps_frac::Fraction;
 use ps_io::{List, NoMemory};
 use ps_pool::{Col, Event, Trace};
@@ -43,7 +43,8 @@ fn are_values_at_least_zero(table: &Table) -> bool
 }
 
 /// Whether row 0 has 1 on each world.
-fn begin_with_one(worlds: &[[i64; 3]]) -> bool
+fn begin_with_one<const N: usize>(worlds: &[[i64; N]]) -> bool
+    requires { 0 < N }
     ensures { IsTrue result → (k : ℕ) → k < length worlds.now → get_or (get_or worlds.now k []) 0 (pos 0) ≡ pos 1 }
 {
     for k in 0..worlds.len() {
@@ -73,14 +74,15 @@ fn is_ready_below(table: &Table, costs: &Costs) -> bool
     is_ready(table, costs) && is_due_to_end(Phase::One, table)
 }
 
-fn is_ready_above(table: &Table, costs: &Costs, entries: &[[i64; 3]]) -> bool
-    requires { (A : ℕ → ℕ → Rational) → AreColumns 3 entries.now A → StandsFor A table.now }
+fn is_ready_above<const N: usize>(table: &Table, costs: &Costs, entries: &[[i64; N]]) -> bool
+    requires some { 0 < N }
+    requires stands { (A : ℕ → ℕ → Rational) → AreColumns N entries.now A → StandsFor A table.now }
     ensures { IsTrue result → IsReady Phase.Upper costs.now table.now }
 {
     let homes = costs.homes.as_slice();
     let worlds = costs.worlds.as_slice();
-    table.rows() == 3
-        && homes.len() == 3
+    table.rows() as usize == N
+        && homes.len() == N
         && worlds.len() >= table.worlds() as usize
         && entries.len() >= table.worlds() as usize
         && are_between(homes, 0, 0)
@@ -91,8 +93,10 @@ fn is_ready_above(table: &Table, costs: &Costs, entries: &[[i64; 3]]) -> bool
 }
 
 /// The table of the homes and the worlds, before the first pivot.
-fn table_of(alloc: Global, homes: &[Home; 3], worlds: &[[i64; 3]]) -> Option<Table>
-    ensures { IfSome result (λ t. (A : ℕ → ℕ → Rational) → AreColumns 3 worlds.now A → StandsFor A t) }
+fn table_of<const N: usize>(alloc: Global, homes: &[Home; N], worlds: &[[i64; N]]) -> Option<Table>
+    requires some { 0 < N }
+    requires few { N ≤ 101 }
+    ensures { IfSome result (λ t. (A : ℕ → ℕ → Rational) → AreColumns N worlds.now A → StandsFor A t) }
 {
     let mut table = match Table::new(alloc, homes) {
         Ok(table) => table,
@@ -142,23 +146,28 @@ fn world_costs(alloc: Global, phase: Phase, query: &[i8]) -> Result<CostList, No
     Ok(costs)
 }
 
-fn costs_of(alloc: Global, phase: Phase, case: &Case) -> Result<Costs, NoMemory> {
+fn costs_of<const N: usize>(
+    alloc: Global,
+    phase: Phase,
+    case: &Case<N>,
+) -> Result<Costs, NoMemory> {
     let homes = home_costs(alloc, phase, &case.homes)?;
     let worlds = world_costs(alloc, phase, case.query)?;
     Ok(Costs { homes, worlds })
 }
 
 /// A phase's pivots, where the table is ready for them.
-fn settled(
+fn settled<const N: usize>(
     table: &mut Table,
     costs: &Costs,
     phase: Phase,
     left: &mut u64,
     trace: &mut Trace,
-    entries: &[[i64; 3]],
+    entries: &[[i64; N]],
 ) -> Option<Result<Settled, SettleError>>
-    requires { (A : ℕ → ℕ → Rational) → AreColumns 3 entries.now A → StandsFor A table.old }
-    ensures { (A : ℕ → ℕ → Rational) → AreColumns 3 entries.now A → StandsFor A table.new }
+    requires some { 0 < N }
+    requires stands { (A : ℕ → ℕ → Rational) → AreColumns N entries.now A → StandsFor A table.old }
+    ensures { (A : ℕ → ℕ → Rational) → AreColumns N entries.now A → StandsFor A table.new }
 {
     match phase {
         Phase::One => {
@@ -231,15 +240,13 @@ fn shows(trace: &Trace, seen: usize, pivots: &[(Col, u32)]) -> bool {
     true
 }
 
-fn has_values(table: &Table, stage: &Stage) -> bool {
-    if table.rows() != 3 {
+fn has_values<const N: usize>(table: &Table, stage: &Stage<N>) -> bool {
+    if table.rows() as usize != N {
         return false;
     }
-    let values = stage.values;
-    let basic = stage.basic;
-    for row in 0..3 {
-        if !is_fraction(&table.value(row), values[row as usize])
-            || table.basic(row) != basic[row as usize]
+    for row in 0..table.rows() {
+        if !is_fraction(&table.value(row), stage.values[row as usize])
+            || table.basic(row) != stage.basic[row as usize]
         {
             return false;
         }
@@ -248,7 +255,10 @@ fn has_values(table: &Table, stage: &Stage) -> bool {
 }
 
 /// Whether all phases of a case go as they should.
-fn goes(alloc: Global, case: &Case) -> Result<bool, NoMemory> {
+fn goes<const N: usize>(alloc: Global, case: &Case<N>) -> Result<bool, NoMemory>
+    requires some { 0 < N }
+    requires few { N ≤ 101 }
+{
     let mut table = match table_of(alloc, &case.homes, case.worlds) {
         Some(table) => table,
         None => return Ok(false),
@@ -279,9 +289,19 @@ fn goes(alloc: Global, case: &Case) -> Result<bool, NoMemory> {
 
 #[test]
 fn phases_go_as_another_program_computed(rt: HostRuntime) -> Result<(), Fail> {
-    for number in 0..CASES.len() {
-        let case = &CASES[number];
-        assert!(rt; goes(rt.alloc(), case) == Ok(true), "case {number}");
+    for number in 0..THREE_ROWS.len() {
+        let case = &THREE_ROWS[number];
+        assert!(rt;
+            goes(rt.alloc(), case) == Ok(true),
+            "three rows, case {number}"
+        );
+    }
+    for number in 0..FIVE_ROWS.len() {
+        let case = &FIVE_ROWS[number];
+        assert!(rt;
+            goes(rt.alloc(), case) == Ok(true),
+            "five rows, case {number}"
+        );
     }
     Ok(())
 }

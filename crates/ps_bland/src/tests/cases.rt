@@ -1,5 +1,5 @@
-//! Systems of three rows, and what each phase makes of them, one after the other. Computed by a
-//! Python program over `fractions`, which solves the table from its basis before each pivot.
+//! Systems, and what each phase makes of them, one after the other. Computed by a Python program
+//! over `fractions`, which solves the table from its basis before each pivot.
 
 use crate::{Phase, Settled};
 use ps_frac::Op;
@@ -21,26 +21,27 @@ pub(crate) enum End {
 /// What a phase does: its pivots (the column that enters and the row that leaves), how many are
 /// left, and the values and the basic columns after them.
 #[derive(Drop)]
-pub(crate) struct Stage {
+pub(crate) struct Stage<const N: usize> {
     pub(crate) phase: Phase,
     pub(crate) end: End,
     pub(crate) pivots: &'static [(Col, u32)],
     pub(crate) left: u64,
-    pub(crate) values: [(i128, i128); 3],
-    pub(crate) basic: [Col; 3],
+    pub(crate) values: [(i128, i128); N],
+    pub(crate) basic: [Col; N],
 }
 
-/// A system, the worlds in which the query holds, and the limit of pivots for all its phases.
+/// A system of `N` rows, the worlds in which the query holds, and the limit of pivots for all its
+/// phases.
 #[derive(Drop)]
-pub(crate) struct Case {
-    pub(crate) homes: [Home; 3],
-    pub(crate) worlds: &'static [[i64; 3]],
+pub(crate) struct Case<const N: usize> {
+    pub(crate) homes: [Home; N],
+    pub(crate) worlds: &'static [[i64; N]],
     pub(crate) query: &'static [i8],
     pub(crate) limit: u64,
-    pub(crate) stages: &'static [Stage],
+    pub(crate) stages: &'static [Stage<N>],
 }
 
-pub(crate) const CASES: [Case; 20] = [
+pub(crate) const THREE_ROWS: [Case<3>; 20] = [
     // Pivots in each phase, and none left at the last rest.
     Case {
         homes: [Home::Artificial, Home::Slack, Home::Slack],
@@ -731,5 +732,108 @@ pub(crate) const CASES: [Case; 20] = [
                 basic: [Col::World(2), Col::Home(1), Col::World(3)],
             },
         ],
+    },
+];
+
+pub(crate) const FIVE_ROWS: [Case<5>; 2] = [
+    // A sum of what a world carries is too wide, and the world improves.
+    Case {
+        homes: [
+            Home::Artificial,
+            Home::Slack,
+            Home::Artificial,
+            Home::Artificial,
+            Home::Artificial,
+        ],
+        worlds: &[
+            [
+                1,
+                1,
+                9223372036854775807,
+                9223372036854775807,
+                9223372036854775807,
+            ],
+            [
+                1,
+                -9223372036854775808,
+                9223372036854775807,
+                9223372036854775807,
+                9223372036854775807,
+            ],
+        ],
+        query: &[0, 0],
+        limit: 9,
+        stages: &[Stage {
+            phase: Phase::One,
+            end: End::Wide {
+                place: Place::Cost {
+                    col: Col::World(2),
+                    row: 3,
+                },
+                op: Op::Add,
+                left: (85070591730234615875067023894796828672, 1),
+                right: (85070591730234615865843651857942052863, 1),
+            },
+            pivots: &[(Col::World(1), 1)],
+            left: 8,
+            values: [(1, 1), (0, 1), (0, 1), (0, 1), (0, 1)],
+            basic: [
+                Col::Home(0),
+                Col::World(1),
+                Col::Home(2),
+                Col::Home(3),
+                Col::Home(4),
+            ],
+        }],
+    },
+    // The same where no column improves.
+    Case {
+        homes: [
+            Home::Artificial,
+            Home::Slack,
+            Home::Artificial,
+            Home::Artificial,
+            Home::Artificial,
+        ],
+        worlds: &[
+            [
+                1,
+                1,
+                9223372036854775807,
+                9223372036854775807,
+                9223372036854775807,
+            ],
+            [
+                1,
+                9223372036854775807,
+                -9223372036854775807,
+                -9223372036854775807,
+                -9223372036854775807,
+            ],
+        ],
+        query: &[0, 0],
+        limit: 9,
+        stages: &[Stage {
+            phase: Phase::One,
+            end: End::Wide {
+                place: Place::Cost {
+                    col: Col::World(2),
+                    row: 4,
+                },
+                op: Op::Add,
+                left: (-170141183460469231722463931679029329918, 1),
+                right: (-85070591730234615856620279821087277056, 1),
+            },
+            pivots: &[(Col::World(1), 1)],
+            left: 8,
+            values: [(1, 1), (0, 1), (0, 1), (0, 1), (0, 1)],
+            basic: [
+                Col::Home(0),
+                Col::World(1),
+                Col::Home(2),
+                Col::Home(3),
+                Col::Home(4),
+            ],
+        }],
     },
 ];

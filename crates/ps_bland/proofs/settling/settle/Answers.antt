@@ -7,7 +7,7 @@ loop-settled-init c = record {
   ran = ran_none c.args.phase c.args.costs.now c.args.table.now c.args.trace.now c.args.left.now;
   kinds = refl;
   worlds = refl;
-  ready = c.requires;
+  ready = c.requires.ready;
   stands = λ A h. h;
 }
 

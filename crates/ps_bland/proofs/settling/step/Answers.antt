@@ -1,9 +1,10 @@
-use Rattle.std.proofs.Common.{◌<◌, length, rules}
-use Rattle.ps_rule.specs.Rule.{Enters}
+use Rattle.std.proofs.Common.{◌≡◌, ◌<◌, ℕ, length, rules}
+use Rattle.ps_rule.specs.Rule.{Improves, Enters}
 use Rattle.ps_table.specs.Tableau.{spot, cost_at, IsInside}
 use Rattle.ps_bland.specs.Runs.{face_of, IsSame, IsLawful, IsDone}
 use Rattle.ps_bland.specs.Runs.IsDueWide.{at_ratio}
 use Rattle.ps_bland.proofs.Steps.{due_refusal}
+use Rattle.ps_bland.proofs.Due.{rest_narrow, out_narrow}
 use Rattle.ps_bland.proofs.Ready.{can_leave, ready_kept}
 use Rattle.ps_bland.proofs.settling.step.Goals as goal
 
@@ -37,3 +38,14 @@ returns-clause-ready c =
     let t = c.args.table.now in
     let lawful : IsLawful c.args.phase c.args.costs.now t c.in-Ok-Some.enter c.in-Ok.leave = search rules in
     ready_kept t c.pivot_with_event.new.table c.in-Ok-Some.enter c.in-Ok.leave c.is_due_to_end.ensures.tableau c.in-Ok-pivot_with_event.ensures.pivot c.args.phase c.args.costs.now c.requires lawful
+
+pub returns-in-Ok-None-clause-narrow : goal.returns-in-Ok-None-clause-narrow
+returns-in-Ok-None-clause-narrow c =
+    let t = c.args.table.now in
+    let none : (j : ℕ) → Improves (face_of t) (cost_at c.args.costs.now) j → ⊥ = rw c.in-Ok-None.field-0-is at c.in-Ok-None.ensures.found in
+    rest_narrow c.args.phase c.args.costs.now t c.args.left.now none c.in-Ok-None.ensures.narrow
+
+pub returns-then-left-eq0-clause-narrow : goal.returns-then-left-eq0-clause-narrow
+returns-then-left-eq0-clause-narrow c =
+    let none_left : c.args.left.now ≡ 0 = search rules in
+    out_narrow c.args.phase c.args.costs.now c.args.table.now c.args.left.now none_left c.in-Ok-Some.ensures.narrow

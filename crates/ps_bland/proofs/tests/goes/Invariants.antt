@@ -5,4 +5,4 @@ use Rattle.ps_bland.specs.Columns.{AreColumns}
 use Rattle.ps_bland.proofs.tests.goes.Given as goal
 
 abbrev pub invariant-loop-number : goal.invariant-loop-number
-invariant-loop-number l = (A : ℕ → ℕ → Rational) → AreColumns 3 l.case.worlds.now A → StandsFor A l.table
+invariant-loop-number g l = (A : ℕ → ℕ → Rational) → AreColumns g.row.N l.case.worlds.now A → StandsFor A l.table

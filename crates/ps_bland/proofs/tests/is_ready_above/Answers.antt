@@ -1,19 +1,16 @@
-use Rattle.std.proofs.Common.{rules, ◌≡◌, ℕ, ◌<◌, ◌≤◌, ◌≤ℤ◌, [], length, get_or, pos, negsuc, subst, sym, arith}
+use Rattle.std.proofs.Common.{rules, ◌≡◌, ℕ, ◌<◌, ◌≤◌, ◌≤ℤ◌, [], length, get_or, pos, negsuc}
 use Rattle.ps_rule.specs.Rule.{IsFeasible}
-use Rattle.ps_rational.specs.Rational.{Rational}
-use Rattle.ps_table.specs.Tableau.{StandsFor}
-use Rattle.ps_bland.specs.Columns.{AreColumns}
 use Rattle.ps_bland.specs.Runs.{face_of, HasValues}
 use Rattle.ps_bland.proofs.Above.{ready_checked}
 use Rattle.ps_bland.proofs.tests.is_ready_above.Goals as goal
 
 pub returns-then-are_values_at_least_zero : goal.returns-then-are_values_at_least_zero
-returns-then-are_values_at_least_zero c = λ last.
+returns-then-are_values_at_least_zero g c = λ last.
     let costs = c.args.costs.now in
     let t = c.args.table.now in
     let worlds = c.args.entries.now in
-    let rows : length t.kinds ≡ 3 = search rules in
-    let eh : length costs.homes ≡ 3 = search rules in
+    let rows : length t.kinds ≡ g.row.N = search rules in
+    let eh : length costs.homes ≡ g.row.N = search rules in
     let lw : t.worlds ≤ length costs.worlds = search rules in
     let le : t.worlds ≤ length worlds = search rules in
     let hl : (i : ℕ) → i < length costs.homes → pos 0 ≤ℤ get_or costs.homes i (pos 0) = search rules in
@@ -23,4 +20,4 @@ returns-then-are_values_at_least_zero c = λ last.
     let ones : (k : ℕ) → k < length worlds → get_or (get_or worlds k []) 0 (pos 0) ≡ pos 1 = search rules in
     let values : HasValues t = search rules in
     let feasible : IsFeasible (face_of t) = search rules in
-    ready_checked costs t worlds rows eh lw le hl hh wl wh ones c.requires values feasible
+    ready_checked g.row.N costs t worlds c.requires.some rows eh lw le hl hh wl wh ones c.requires.stands values feasible

@@ -5,8 +5,8 @@ use Rattle.ps_bland.specs.Columns.{AreColumns}
 use Rattle.ps_bland.proofs.tests.table_of.Given as goal
 
 abbrev pub invariant-loop-k : goal.invariant-loop-k
-invariant-loop-k l = record {
-  kinds : length l.table.kinds ≡ 3;
+invariant-loop-k g l = record {
+  kinds : length l.table.kinds ≡ g.row.N;
   count : l.table.worlds ≡ l.k;
-  stands : (A : ℕ → ℕ → Rational) → AreColumns 3 l.worlds A → StandsFor A l.table;
+  stands : (A : ℕ → ℕ → Rational) → AreColumns g.row.N l.worlds A → StandsFor A l.table;
 }
