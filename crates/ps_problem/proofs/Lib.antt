@@ -17,3 +17,5 @@ pub mod Values
 pub mod Growth
 pub mod Making
 pub mod Copied
+pub mod Writing
+pub mod Reread

@@ -95,6 +95,11 @@ abbrev pub IsLawful : Item → Type 0
 IsLawful (Stated s) = IsRatio s.value.num s.value.den × IsUpperOf s.side s.upper
 IsLawful (Asked q) = Unit {0}
 
+-- the canonical spellings of an item's formulas nest at most 100
+abbrev pub IsNested : Item → Type 0
+IsNested (Stated s) = (canonical_nesting s.formula ≤ 100) × IfSome s.given (λ g. canonical_nesting g ≤ 100)
+IsNested (Asked q) = (canonical_nesting q.formula ≤ 100) × IfSome q.given (λ g. canonical_nesting g ≤ 100)
+
 -- the formula of a number
 abbrev pub formula_at : List (Formula Name) → ℕ → Formula Name
 formula_at fs i = slice_index_or fs i formula.Truth

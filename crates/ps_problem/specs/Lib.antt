@@ -12,3 +12,5 @@ pub mod Drafts
 pub mod Entries
 pub mod Built
 pub mod Builds
+pub mod Written
+pub mod Rereading

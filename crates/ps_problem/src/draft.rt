@@ -4,7 +4,7 @@ ghost use Rattle.ps_meaning.specs.Names.{IsName};
 ghost use Rattle.ps_meaning.specs.Statements.{Stated, Asked};
 ghost use Rattle.ps_problem.specs.Numbering.{AreOnce, same_name};
 ghost use Rattle.ps_problem.specs.Entries.{AreMarks, root, item_of, IsEntry};
-ghost use Rattle.ps_problem.specs.Drafts.{formula_at, arity, NameBelow, canonical_nesting, IsRatio, IsUpper, AreBelow, IsLawful, statement_at, question_at, with_name, with_mark, with_formula, with_item};
+ghost use Rattle.ps_problem.specs.Drafts.{formula_at, arity, NameBelow, canonical_nesting, IsRatio, IsUpper, AreBelow, IsLawful, IsNested, statement_at, question_at, with_name, with_mark, with_formula, with_item};
 
 use crate::entry::Entry;
 use crate::names::Names;
@@ -133,6 +133,7 @@ impl Draft {
         ensures different { AreOnce same_name result.now }
         ensures named { All IsName result.now }
         ensures lawful { All IsLawful self.now.items }
+        ensures nested { All IsNested self.now.items }
     {
         &self.names
     }

@@ -20,7 +20,7 @@ pub use assembly::build;
 pub use bound::{Bound, Side};
 pub use build_error::BuildError;
 pub use draft::Draft;
-pub use laws::numbering_keeps_meaning;
+pub use laws::{canonical_text_is_reread, numbering_keeps_meaning};
 pub use mark::Mark;
 pub use problem::Problem;
 pub use query::{Queries, Query};

@@ -9,3 +9,13 @@ pub mod Steps
 pub mod FormulaSteps
 pub mod Derived
 pub mod Cutting
+pub mod Readback
+pub mod Once
+pub mod Laying
+pub mod Canonicals
+pub mod CanonicalExample
+pub mod Meant
+pub mod Nesting
+pub mod Lawful
+pub mod Sorting
+pub mod Spelling

@@ -73,10 +73,10 @@ longest_stops v (Number n) after t l = numeral_stops v n after t l
 longest_stops v (Sign s) after t l = tt
 
 -- the first byte of what begins with a digit or with a letter is no symbol's
-symbol_apart : (s : Symbol) (bytes after : List ℕ) → bytes ≡ symbol_spelling s ++ after → starts is_letter bytes ≡ true → ⊥
+pub symbol_apart : (s : Symbol) (bytes after : List ℕ) → bytes ≡ symbol_spelling s ++ after → starts is_letter bytes ≡ true → ⊥
 symbol_apart s bytes after e l = false_true (symbol_no_letter s after) (rw e at l)
 
-symbol_apart_digit : (s : Symbol) (bytes after : List ℕ) → bytes ≡ symbol_spelling s ++ after → starts is_digit bytes ≡ true → ⊥
+pub symbol_apart_digit : (s : Symbol) (bytes after : List ℕ) → bytes ≡ symbol_spelling s ++ after → starts is_digit bytes ≡ true → ⊥
 symbol_apart_digit s bytes after e l = false_true (symbol_no_digit s after) (rw e at l)
 
 pub numeral_starts : (n : Numeral) (more : List ℕ) → IsNumeral n → starts is_digit (numeral_spelling n ++ more) ≡ true

@@ -3,6 +3,7 @@ pub mod Pieces
 pub mod Grammar
 pub mod Meanings
 pub mod Fronts
+pub mod Canonical
 pub mod Kinds
 pub mod Due
 pub mod Refusals

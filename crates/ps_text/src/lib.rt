@@ -3,4 +3,7 @@
 
 mod laws;
 
-pub use laws::{bytes_are_cut, due_tokens_are_derived};
+pub use laws::{
+    bytes_are_cut, canonical_text_means_its_items, due_tokens_are_derived,
+    one_text_stands_at_the_front, what_is_read_is_lawful,
+};

@@ -31,6 +31,7 @@ of-requires-clause-sound c =
       items = d.items;
       formulas = r.built.formulas;
       lawful = c.names-names.ensures.lawful;
+      nested = c.names-names.ensures.nested;
       within = counted;
       numbered = is;
       named = subst (All IsName) (sym e) (named-copies d.names s.building.atoms (rw c.names-names.ensures.names at c.names-names.ensures.named) r.built.within);

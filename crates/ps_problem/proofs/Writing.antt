@@ -1,0 +1,110 @@
+-- A problem's items are those that it was made of, statements first, and make it again.
+use Rattle.std.proofs.Common.{◌≡◌, List, [], ◌∷◌, ◌++◌, map, All, Option, Some, None, IfSome, refl, ap, subst, ◌∙◌}
+use Rattle.std.specs.Prelude.{option_map}
+use Rattle.std.proofs.lemmas.List.Elements.{All-head, All-tail}
+use Rattle.ps_meaning.specs.Formula.{Formula, Truth, Falsity, Atom, Not, And, Or, Implies, Iff, with_atoms}
+use Rattle.ps_meaning.specs.Bounds as meaning
+use Rattle.ps_meaning.specs.Statements.{Name, Ratio, Statement, Question, Item, statements_of, questions_of}
+use Rattle.ps_problem.specs.Problems.{Parts, tree_at, side_of}
+use Rattle.ps_problem.specs.Numbering.{same_name, same_formula, place_in, different, names_among, node_in, side_in, bound_in, sentence_in, query_in, numbered_in_statements, numbered_in_questions, formulas_of, problem_of, numbered}
+use Rattle.ps_problem.specs.Built.{IsAmong, IsReady, HasQuestion, name_at}
+use Rattle.ps_problem.specs.Builds.{question_on as question}
+use Rattle.ps_problem.specs.Written.{named_at, ratio_at, statement_from, question_from, listed, items_from}
+use Rattle.ps_problem.proofs.NameLists.{same_name-true, same_name-refl}
+use Rattle.ps_problem.proofs.Lists.{place-below, place-get}
+use Rattle.ps_problem.proofs.Nodes.{same-true, same-refl}
+use Rattle.ps_problem.proofs.Trees.{tree-at, are-ready}
+use Rattle.ps_problem.proofs.Orders.{Ordered, are-numbered}
+
+side-back : (on : meaning.Side) → side_of (side_in on) ≡ on
+side-back meaning.AtLeast = refl
+side-back meaning.AtMost = refl
+side-back meaning.Exactly = refl
+
+upper-back : (fs : List (Formula Name)) (s : Statement) (u : Option Ratio) → option_map ratio_at (option_map (bound_in fs s meaning.AtMost) u) ≡ u
+upper-back fs s None = refl
+upper-back fs s (Some r) = refl
+
+module _ (fs : List (Formula Name)) (o : Ordered fs) where
+  pub ready : (f : Formula Name) → IsAmong fs f → IsReady fs f
+  ready f a = subst (IsReady fs) (place-get same_formula same-true same-refl fs f Truth a) (are-ready fs o.led (place_in same_formula fs f) Truth (place-below same_formula fs f a))
+
+  -- numbers replaced by names again
+  names-back : (f : Formula Name) → IsAmong fs f → with_atoms (name_at (names_among fs)) (numbered (names_among fs) f) ≡ f
+  names-back Truth a = refl
+  names-back Falsity a = refl
+  names-back (Atom n) a = ap Atom (place-get same_name same_name-true same_name-refl (names_among fs) n [] (ready (Atom n) a))
+  names-back (Not f) a = ap Not (names-back f (ready (Not f) a))
+  names-back (And f g) a = let r = ready (And f g) a in λ i. And (names-back f r.0 i) (names-back g r.1 i)
+  names-back (Or f g) a = let r = ready (Or f g) a in λ i. Or (names-back f r.0 i) (names-back g r.1 i)
+  names-back (Implies f g) a = let r = ready (Implies f g) a in λ i. Implies (names-back f r.0 i) (names-back g r.1 i)
+  names-back (Iff f g) a = let r = ready (Iff f g) a in λ i. Iff (names-back f r.0 i) (names-back g r.1 i)
+
+  formula-back : (f : Formula Name) → IsAmong fs f → with_atoms (name_at (names_among fs)) (tree_at (map (node_in fs) fs) (place_in same_formula fs f)) ≡ f
+  formula-back f a = ap (with_atoms (name_at (names_among fs))) (tree-at fs o.led f a) ∙ names-back f a
+
+  given-back : (g : Option (Formula Name)) → IfSome g (IsAmong fs) → option_map (λ i. with_atoms (name_at (names_among fs)) (tree_at (map (node_in fs) fs) i)) (option_map (place_in same_formula fs) g) ≡ g
+  given-back None h = refl
+  given-back (Some g) h = ap Some (formula-back g h)
+
+  module _ (p : Parts) (names : p.names ≡ names_among fs) (nodes : p.nodes ≡ map (node_in fs) fs) where
+    formula-at : (f : Formula Name) → IsAmong fs f → named_at p (place_in same_formula fs f) ≡ f
+    formula-at f a = (λ i. with_atoms (name_at (names i)) (tree_at (nodes i) (place_in same_formula fs f))) ∙ formula-back f a
+
+    given-at : (g : Option (Formula Name)) → IfSome g (IsAmong fs) → option_map (named_at p) (option_map (place_in same_formula fs) g) ≡ g
+    given-at None h = refl
+    given-at (Some g) h = ap Some (formula-at g h)
+
+    statement-back : (s : Statement) → HasQuestion fs (question s) → statement_from p (sentence_in fs s) ≡ s
+    statement-back s h = λ i. record {
+      formula = formula-at s.formula h.formula i;
+      given = given-at s.given h.given i;
+      side = side-back s.side i;
+      value = s.value;
+      upper = upper-back fs s s.upper i;
+    }
+
+    question-back : (q : Question) → HasQuestion fs q → question_from p (query_in fs q) ≡ q
+    question-back q h = λ i. record { formula = formula-at q.formula h.formula i; given = given-at q.given h.given i }
+
+    statements-back : (ss : List Statement) → All (λ s. HasQuestion fs (question s)) ss → map (statement_from p) (map (sentence_in fs) ss) ≡ ss
+    statements-back [] h = refl
+    statements-back (s ∷ ss) h = λ i. statement-back s (All-head (λ t. HasQuestion fs (question t)) s ss h) i ∷ statements-back ss (All-tail (λ t. HasQuestion fs (question t)) s ss h) i
+
+    questions-back : (qs : List Question) → All (HasQuestion fs) qs → map (question_from p) (map (query_in fs) qs) ≡ qs
+    questions-back [] h = refl
+    questions-back (q ∷ qs) h = λ i. question-back q (All-head (HasQuestion fs) q qs h) i ∷ questions-back qs (All-tail (HasQuestion fs) q qs h) i
+
+-- the items of a problem are those that it was made of, statements first
+pub items-back : (items : List Item) → items_from (problem_of items) ≡ listed (statements_of items) (questions_of items)
+items-back items =
+    let n = are-numbered items in
+    let fs = formulas_of items in
+    λ i. listed (statements-back (formulas_of items) n.order (problem_of items) refl refl (statements_of items) n.statements i)
+    (questions-back (formulas_of items) n.order (problem_of items) refl refl (questions_of items) n.questions i)
+
+statements-listed : (ss : List Statement) (qs : List Question) → statements_of (listed ss qs) ≡ ss
+statements-listed [] [] = refl
+statements-listed [] (q ∷ qs) = statements-listed [] qs
+statements-listed (s ∷ ss) qs = ap (λ x. s ∷ x) (statements-listed ss qs)
+
+questions-listed : (ss : List Statement) (qs : List Question) → questions_of (listed ss qs) ≡ qs
+questions-listed [] [] = refl
+questions-listed [] (q ∷ qs) = ap (λ x. q ∷ x) (questions-listed [] qs)
+questions-listed (s ∷ ss) qs = questions-listed ss qs
+
+-- the problem of statements and questions
+abbrev problem_over : List Statement → List Question → Parts
+problem_over ss qs = let fs = different same_formula (numbered_in_statements ss ++ numbered_in_questions qs) in record {
+  names = names_among fs;
+  nodes = map (node_in fs) fs;
+  sentences = map (sentence_in fs) ss;
+  queries = map (query_in fs) qs;
+}
+
+pub problem-listed : (items : List Item) → problem_of (listed (statements_of items) (questions_of items)) ≡ problem_of items
+problem-listed items = λ i. problem_over (statements-listed (statements_of items) (questions_of items) i) (questions-listed (statements_of items) (questions_of items) i)
+
+-- a problem's items make it again
+pub problem-back : (items : List Item) → problem_of (items_from (problem_of items)) ≡ problem_of items
+problem-back items = ap problem_of (items-back items) ∙ problem-listed items

@@ -1,0 +1,161 @@
+-- What is read is lawful: its canonical text means it too.
+use Rattle.std.proofs.Common.{◌≡◌, ℕ, ◌*◌, ◌^◌, ◌<◌, ◌≤◌, zero, suc, Bool, true, ◌&&◌, List, [], ◌∷◌, ◌++◌, length, Option, Some, None, refl, sym, ap, subst, ◌∙◌, arith}
+use Rattle.std.proofs.Math.Nat.{one-dvd, mul-dvd-mul_right, dvd_of_mul-dvd-mul_right, pow-le-pow_right}
+use Rattle.std.specs.Prelude.{codes}
+use Rattle.std.specs.List.{AllByRecursion, list_all}
+use Rattle.std.specs.Int.{IsGcd, ◌∣◌}
+use Rattle.ps_meaning.specs.Bounds as side
+use Rattle.ps_meaning.specs.Statements.{Ratio, Item, Stated, Asked}
+use Rattle.ps_meaning.specs.Names.{is_word}
+use Rattle.ps_text.specs.Tokens.{One, Token, Word, Sign, Numeral, Whole, Quotient, Decimal, Close, Semicolon, Ampersand, Bar, Arrow, DoubleArrow, is_word_byte, IsWord, IsToken}
+use Rattle.ps_text.specs.Pieces.{Piece, Blank, Comment, Spelled, Cuts, tokens}
+use Rattle.ps_text.specs.Grammar.{Form, Name, Truth, Falsity, Not, Group, And, Or, Implies, Iff, spelled, IsForm, Prob, Relation, Exactly, AtLeast, AtMost, Within, Entry, Sentence, Query, given_tokens, prob_tokens, relation_tokens, entry_tokens, entries_tokens, text_tokens, IsProbability, IsGiven, IsProb, IsRelation, IsEntry, AreEntries}
+use Rattle.ps_text.specs.Meanings.{formula_of, given_of, ratio_of, IsValue, States, IsItem, AreItems}
+use Rattle.ps_text.specs.Fronts.{IsFront}
+use Rattle.ps_text.specs.Canonical.{HasNames, IsWritable, IsWritableGiven, IsReduced, IsUpper, IsLawfulItem, AreLawful}
+use Rattle.ps_text.proofs.Spans.{Passes}
+use Rattle.ps_text.proofs.Nesting.{read_nests}
+use Rattle.ps_text.proofs.Meant.{denominator_some}
+
+-- values
+
+order_left : (a b g : ℕ) → 0 < g → a * g ≤ b * g → a ≤ b
+order_left a b g h le = grind arith
+
+divisor_some : (n d g : ℕ) → 0 < n → n ≡ d * g → 0 < g
+divisor_some n d zero some e = absurd (omega (arith, some, e))
+divisor_some n d (suc g) some e = omega arith
+
+quotient_some : (n d g : ℕ) → 0 < n → n ≡ d * g → 0 < d
+quotient_some n zero g some e = absurd (omega (arith, some, e))
+quotient_some n (suc d) g some e = omega arith
+
+quotient_less : (n d g : ℕ) → 0 < g → n ≡ d * g → d ≤ n
+quotient_less n d zero some e = absurd (omega (arith, some))
+quotient_less n d (suc g) some e = omega arith
+
+coprime : (m n a b g : ℕ) → 0 < g → IsGcd m n g → m ≡ a * g → n ≡ b * g → IsGcd a b 1
+coprime m n a b g some h e f = (
+  one-dvd a,
+  one-dvd b,
+  λ d p q.
+      let x : d * g ∣ m = subst (λ z. d * g ∣ z) (sym e) (mul-dvd-mul_right d p g) in
+      let y : d * g ∣ n = subst (λ z. d * g ∣ z) (sym f) (mul-dvd-mul_right d q g) in
+      let one : g ≡ 1 * g = omega arith in
+      dvd_of_mul-dvd-mul_right d some (subst (λ z. d * g ∣ z) one (h.2 (d * g) x y)),
+)
+
+denominator_small : (x : Numeral) → IsProbability x → (ratio_of x).den ≤ 1000000
+denominator_small (Whole ds) h = omega arith
+denominator_small (Quotient ds es) h = h.1
+denominator_small (Decimal ds es) h = tens (length es) h.0
+  where
+    tens : (n : ℕ) → n ≤ 6 → 10 ^ n ≤ 1000000
+    tens n l = pow-le-pow_right {n = 10} (omega arith) {i = n} {j = 6} l
+
+at_most_one : (x : Numeral) → IsProbability x → (ratio_of x).num ≤ (ratio_of x).den
+at_most_one (Whole ds) h = h
+at_most_one (Quotient ds es) h = h.2
+at_most_one (Decimal ds es) h = h.1
+
+reduced : (x : Numeral) (r : Ratio) → IsProbability x → IsValue x r → IsReduced r
+reduced x r h v =
+    let q : Ratio = ratio_of x in
+    let some : 0 < (ratio_of x).den = denominator_some x h in
+    let g : 0 < v.divisor = divisor_some (ratio_of x).den r.den v.divisor some v.den in
+    record {
+      lowest = coprime (ratio_of x).num (ratio_of x).den r.num r.den v.divisor g v.greatest v.num v.den;
+      some = quotient_some (ratio_of x).den r.den v.divisor some v.den;
+      small = le_to r.den (ratio_of x).den 1000000 (quotient_less (ratio_of x).den r.den v.divisor g v.den) (denominator_small x h);
+      probability = order_left r.num r.den v.divisor g (between (ratio_of x).num (ratio_of x).den (r.num * v.divisor) (r.den * v.divisor) v.num v.den (at_most_one x h));
+    }
+  where
+    le_to : (a b c : ℕ) → a ≤ b → b ≤ c → a ≤ c
+    le_to a b c p q = omega arith
+
+    between : (m n a b : ℕ) → m ≡ a → n ≡ b → m ≤ n → a ≤ b
+    between m n a b e f l = omega arith
+
+-- tokens
+
+AreTokens : List Token → Type 0
+AreTokens ts = AllByRecursion (λ t. IsToken One t) ts
+
+cut_tokens : (ps : List Piece) (rest : List ℕ) → Cuts One ps rest → AreTokens (tokens ps)
+unfolding AreTokens
+cut_tokens [] rest c = tt
+cut_tokens (Blank b ∷ ps) rest c = cut_tokens ps rest c.1
+cut_tokens (Comment b ∷ ps) rest c = cut_tokens ps rest c.1
+cut_tokens (Spelled t ∷ ps) rest c = (c.0.0, cut_tokens ps rest c.1)
+
+split : (ts us : List Token) → AreTokens (ts ++ us) → AreTokens ts × AreTokens us
+unfolding AreTokens
+split [] us h = (tt, h)
+split (t ∷ ts) us h = let s = split ts us h.1 in ((h.0, s.0), s.1)
+
+all_back : (p : ℕ → Bool) (bs : List ℕ) → Passes p bs → list_all p bs ≡ true
+all_back p [] h = refl
+all_back p (b ∷ bs) h = ap (λ x. x && list_all p bs) h.0 ∙ all_back p bs h.1
+
+word_back : (w : List ℕ) → IsWord w → is_word w ≡ true
+word_back [] h = absurd h
+word_back (b ∷ bs) h = ap (λ x. x && list_all is_word_byte bs) h.0 ∙ all_back is_word_byte bs h.1
+
+names_of : (f : Form) → IsForm f → AreTokens (spelled f) → HasNames (formula_of f)
+unfolding AreTokens
+names_of (Name w) i h = record { word = word_back w h.0; short = i.1; free = i.0 }
+names_of Truth i h = tt
+names_of Falsity i h = tt
+names_of (Not f) i h = names_of f i.1 h.1
+names_of (Group f) i h = names_of f i (split (spelled f) (Sign Close ∷ []) h.1).0
+names_of (And f g) i h = let s = split (spelled f) (Sign Ampersand ∷ spelled g) h in (names_of f i.2 s.0, names_of g i.3 s.1.1)
+names_of (Or f g) i h = let s = split (spelled f) (Sign Bar ∷ spelled g) h in (names_of f i.2 s.0, names_of g i.3 s.1.1)
+names_of (Implies f g) i h = let s = split (spelled f) (Sign Arrow ∷ spelled g) h in (names_of f i.2 s.0, names_of g i.3 s.1.1)
+names_of (Iff f g) i h = let s = split (spelled f) (Sign DoubleArrow ∷ spelled g) h in (names_of f i.2 s.0, names_of g i.3 s.1.1)
+
+given_writable : (g : Option Form) → IsGiven g → AreTokens (given_tokens g) → IsWritableGiven (given_of g)
+unfolding AreTokens
+given_writable None i h = tt
+given_writable (Some f) i h = record { names = names_of f i.0 h.1; nests = read_nests f i.0 i.1 }
+
+prob_writable : (p : Prob) → IsProb p → AreTokens (prob_tokens p) → IsWritable (formula_of p.form) × IsWritableGiven (given_of p.given)
+unfolding AreTokens
+prob_writable p i h =
+    let s = split (spelled p.form ++ given_tokens p.given) (Sign Close ∷ []) h.1.1 in
+    let t = split (spelled p.form) (given_tokens p.given) s.0 in
+    (record { names = names_of p.form i.form t.0; nests = read_nests p.form i.form i.nests }, given_writable p.given i.given t.1)
+
+related_lawful : (x : Relation) (s : side.Side) (r : Ratio) (upper : Option Ratio) → IsRelation x → States x s r upper → IsReduced r × IsUpper s upper
+related_lawful (Exactly x) s r upper h k = (reduced x r h k.1, subst (λ u. IsUpper s u) (sym k.2) tt)
+related_lawful (AtLeast x) s r upper h k = (reduced x r h k.1, subst (λ u. IsUpper s u) (sym k.2) tt)
+related_lawful (AtMost x) s r upper h k = (reduced x r h k.1, subst (λ u. IsUpper s u) (sym k.2) tt)
+related_lawful (Within x y) s r None h k = absurd k
+related_lawful (Within x y) s r (Some q) h k = (reduced x r h.0 k.1, subst (λ z. IsUpper z (Some q)) (sym k.0) (reduced y q h.1 k.2))
+
+item_lawful : (e : Entry) (i : Item) → IsEntry e → AreTokens (entry_tokens e) → IsItem e i → IsLawfulItem i
+unfolding AreTokens
+item_lawful (Sentence p r) (Stated s) w h m =
+    let front = split (prob_tokens p ++ relation_tokens r) (Sign Semicolon ∷ []) h in
+    let parts = split (prob_tokens p) (relation_tokens r) front.0 in
+    let k = prob_writable p w.0 parts.0 in
+    let l = related_lawful r s.side s.value s.upper w.1 m.stated in
+    (subst IsWritable (sym m.formula) k.0, subst IsWritableGiven (sym m.given) k.1, l.0, l.1)
+item_lawful (Query p) (Asked q) w h m =
+    let k = prob_writable p w (split (prob_tokens p) (Sign Semicolon ∷ []) h.1).0 in
+    (subst IsWritable (ap (λ x. x.formula) (sym m)) k.0, subst IsWritableGiven (ap (λ x. x.given) (sym m)) k.1)
+item_lawful (Sentence p r) (Asked q) w h m = absurd m
+item_lawful (Query p) (Stated s) w h m = absurd m
+
+all_lawful : (es : List Entry) (is : List Item) → AreEntries es → AreTokens (entries_tokens es) → AreItems es is → AreLawful is
+unfolding AreTokens
+all_lawful [] [] w h m = tt
+all_lawful [] (i ∷ is) w h m = absurd m
+all_lawful (e ∷ es) [] w h m = absurd m
+all_lawful (e ∷ es) (i ∷ is) w h m = let s = split (entry_tokens e) (entries_tokens es) h in (item_lawful e i w.0 s.0 m.0, all_lawful es is w.1 s.1 m.1)
+
+-- what stands at the front means lawful items
+pub front_lawful : (bytes : List ℕ) (items : List Item) (n : ℕ) → IsFront bytes items n → AreLawful items
+unfolding AreTokens
+front_lawful bytes items n f =
+    let all : AreTokens (text_tokens f.entries) = subst AreTokens f.derived (cut_tokens f.pieces f.rest f.cuts) in
+    all_lawful f.entries items f.within (split (entries_tokens f.entries) (Word (codes "end") ∷ Sign Semicolon ∷ []) all.1.1.1).0 f.meant
