@@ -1,3 +1,4 @@
+pub mod Inside
 pub mod Tidied
 pub mod Nodes
 pub mod Assigned

@@ -1,11 +1,11 @@
 //! The clauses that say what nodes mean.
-ghost use Rattle.std.specs.Prelude.{◌≡◌, ◌≤◌, ◌<◌, ◌++◌, [], ◌∷◌, length, map, IfOk, OnOk};
+ghost use Rattle.std.specs.Prelude.{◌≡◌, ◌≤◌, ◌<◌, ◌++◌, [], ◌∷◌, length, map, IfOk, OnOk, All};
 ghost use Rattle.std.specs.List.{list_any};
 ghost use Rattle.std.specs.Ordering.{int_eq};
 ghost use Rattle.ps_formula.specs.Nodes.{Fits as FitsAt, AreNodes};
 ghost use Rattle.ps_steps.specs.Weights.{clause_of};
 ghost use Rattle.ps_forms.specs.Clauses.{yes, no, once, is_tautology, tidy, clauses_at, clause_form};
-ghost use Rattle.ps_forms.specs.Forms.{is_other, form_of};
+ghost use Rattle.ps_forms.specs.Forms.{is_other, form_of, IsWithin};
 
 use crate::form::ClauseForm;
 use ps_formula::{Formulas, Node};
@@ -115,6 +115,7 @@ fn clauses_of_nodes(alloc: Global, nodes: &[Node]) -> Result<List<Constraint>, N
     requires most { length nodes.now ≤ 1024 }
     ensures value { IfOk result (λ cs. cs ≡ map clause_of (clause_form nodes.now)) }
     ensures few { IfOk result (λ cs. length cs ≤ 4096) }
+    ensures inside { IfOk result (λ cs. All (IsWithin (length nodes.now)) cs) }
 {
     let mut clauses = List::new(alloc);
     for x in 0..nodes.len() {

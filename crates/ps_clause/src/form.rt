@@ -3,7 +3,7 @@ ghost use Rattle.std.specs.Prelude.{◌≡◌, ◌≤◌, ◌<◌, ◌-◌, ◌^
 ghost use Rattle.ps_steps.specs.Assignments.{place};
 ghost use Rattle.ps_steps.specs.Weights.{clause_of};
 ghost use Rattle.ps_steps.specs.Steps.{constraint_at};
-ghost use Rattle.ps_forms.specs.Forms.{Form, is_atom_variable, clause_at, with_clause};
+ghost use Rattle.ps_forms.specs.Forms.{Form, is_atom_variable, clause_at, with_clause, IsWithin, AreInside};
 ghost use Rattle.ps_forms.specs.Settled.{IsSettled};
 
 use ps_io::{List, NoMemory};
@@ -22,15 +22,15 @@ pub struct ClauseForm {
 }
 
 impl Model for ClauseForm {
-    ghost use Rattle.std.specs.Prelude.{◌≤◌, ◌<◌, ◌^◌, length};
-    ghost use Rattle.ps_forms.specs.Forms.{Form};
+    ghost use Rattle.std.specs.Prelude.{◌≤◌, ◌<◌, ◌^◌, length, All};
+    ghost use Rattle.ps_forms.specs.Forms.{Form, IsWithin};
     ghost use Rattle.ps_forms.specs.Settled.{IsSettled};
 
     ghost Value = { Form };
 
     ghost view = { λ f. record { variables = f.variables; others = f.others; clauses = f.clauses } };
 
-    ghost invariant = { λ f. (f.variables ≤ 1024) × ((length f.clauses < 2 ^ 32) × IsSettled (record { variables = f.variables; others = f.others; clauses = f.clauses })) };
+    ghost invariant = { λ f. (f.variables ≤ 1024) × ((length f.clauses < 2 ^ 32) × (IsSettled (record { variables = f.variables; others = f.others; clauses = f.clauses }) × All (IsWithin f.variables) f.clauses)) };
 }
 
 impl ClauseForm {
@@ -52,6 +52,7 @@ impl ClauseForm {
         ensures value { result ≡ self.now.variables }
         ensures within { result ≤ 1024 }
         ensures settled { IsSettled self.now }
+        ensures inside { AreInside self.now }
     {
         self.variables
     }
@@ -128,6 +129,7 @@ impl ClauseForm {
         requires variables { variables ≤ 1024 }
         requires clauses { length clauses < 2 ^ 32 }
         requires settled { IsSettled (record { variables = variables; others = others; clauses = clauses }) }
+        requires inside { All (IsWithin variables) clauses }
         ensures { result ≡ record { variables = variables; others = others; clauses = clauses } }
     {
         ClauseForm {

@@ -1,9 +1,10 @@
 -- Forms: clauses over some variables, as constraints.
-use Rattle.std.specs.Prelude.{ℕ, zero, suc, Bool, true, false, not, ◌&&◌, nat_lt, Option, None, List, [], ◌∷◌, ◌++◌, length, map, slice_get, slice_index_or, All}
+use Rattle.std.specs.Prelude.{ℕ, zero, suc, ◌<◌, Bool, true, false, not, ◌&&◌, nat_lt, Option, None, List, [], ◌∷◌, ◌++◌, length, map, slice_get, slice_index_or, All}
 use Rattle.ps_formula.specs.declared.node.Node.{Node}
 use Rattle.ps_formula.specs.declared.node.Node.TheVariants as node
+use Rattle.ps_steps.specs.Assignments.{place}
 use Rattle.ps_steps.specs.Constraints.{Constraint, IsMet}
-use Rattle.ps_steps.specs.Weights.{clause_of}
+use Rattle.ps_steps.specs.Weights.{weighted, clause_of}
 use Rattle.ps_forms.specs.Clauses.{clause_form}
 
 -- clauses over variables from 1 on; a variable is an atom's unless it is marked, at its place, as that of another node
@@ -38,3 +39,11 @@ with_clause f c = record { variables = f.variables; others = f.others; clauses =
 -- a full assignment meets each clause
 abbrev pub MeetsForm : List Bool → Form → Type 0
 MeetsForm w f = All (IsMet w) f.clauses
+
+-- the literals of a constraint are of these variables
+abbrev pub IsWithin : ℕ → Constraint → Type 0
+IsWithin variables c = All (λ t. place t.0 < variables) (weighted c.terms)
+
+-- those of each clause are of the form's variables
+abbrev pub AreInside : Form → Type 0
+AreInside f = All (IsWithin f.variables) f.clauses
