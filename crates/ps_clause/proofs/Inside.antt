@@ -1,5 +1,5 @@
 -- The literals of clauses are of the form's variables.
-use Rattle.std.proofs.Common.{◌≡◌, ℕ, zero, suc, ◌+◌, ◌-◌, ◌<◌, ◌≤◌, ℤ, pos, negsuc, Bool, true, false, not, cond, Result, Ok, Err, OnOk, OnErr, List, [], ◌∷◌, ◌++◌, length, map, take, get_or, arith, refl, sym, ap, ◌∙◌}
+use Rattle.std.proofs.Common.{◌≡◌, ℕ, zero, suc, ◌+◌, ◌<◌, ◌≤◌, ℤ, pos, negsuc, not, Result, Ok, Err, OnOk, OnErr, List, [], ◌∷◌, ◌++◌, length, map, take, get_or, arith, refl, ap}
 use Rattle.std.specs.List.{All, filter}
 use Rattle.std.specs.Ordering.{int_eq}
 use Rattle.std.proofs.lemmas.List.Elements.{All-nil, All-append, All-cons, All-push, All-head, All-tail, All-filter}
@@ -62,17 +62,22 @@ all_once n (c ∷ cs) h = All-cons (AllIn n) (once c) (map once cs) (once_in n c
 tidy_in : (n : ℕ) (cs : List Clause) → All (AllIn n) cs → All (AllIn n) (tidy cs)
 tidy_in n cs h = all_once n (filter (λ c. not (is_tautology c)) cs) (All-filter (λ c. not (is_tautology c)) (AllIn n) cs h)
 
-one : (n : ℕ) (a : ℤ) → In n a → AllIn n (a ∷ [])
-one n a p = All-cons (In n) a [] p (All-nil (In n))
+-- the literals, one by one
+abbrev LiteralsIn : ℕ → Clause → Type 0
+LiteralsIn n [] = Unit {0}
+LiteralsIn n (l ∷ ls) = In n l × LiteralsIn n ls
 
-two : (n : ℕ) (a b : ℤ) → In n a → In n b → AllIn n (a ∷ b ∷ [])
-two n a b p q = All-cons (In n) a (b ∷ []) p (one n b q)
+abbrev ClausesIn : ℕ → List Clause → Type 0
+ClausesIn n [] = Unit {0}
+ClausesIn n (c ∷ cs) = LiteralsIn n c × ClausesIn n cs
 
-three : (n : ℕ) (a b c : ℤ) → In n a → In n b → In n c → AllIn n (a ∷ b ∷ c ∷ [])
-three n a b c p q r = All-cons (In n) a (b ∷ c ∷ []) p (two n b c q r)
+literals_in : (n : ℕ) (c : Clause) → LiteralsIn n c → AllIn n c
+literals_in n [] h = All-nil (In n)
+literals_in n (l ∷ ls) h = All-cons (In n) l ls h.0 (literals_in n ls h.1)
 
-last : (n : ℕ) (c : Clause) → AllIn n c → All (AllIn n) (c ∷ [])
-last n c p = All-cons (AllIn n) c [] p (All-nil (AllIn n))
+each_in : (n : ℕ) (cs : List Clause) → ClausesIn n cs → All (AllIn n) cs
+each_in n [] h = All-nil (AllIn n)
+each_in n (c ∷ cs) h = All-cons (AllIn n) c cs (literals_in n c h.0) (each_in n cs h.1)
 
 yes_in : (n i : ℕ) → i < n → In n (yes i)
 yes_in n i h = omega (arith, h)
@@ -81,31 +86,37 @@ no_in : (n i : ℕ) → i < n → In n (no i)
 no_in n i h = omega (arith, h)
 
 meaning_in : (n x : ℕ) (m : Node) → x < n → Fits x m → All (AllIn n) (meaning_of x m)
-meaning_in n x node.True h f = last n _ (one n _ (yes_in n x h))
-meaning_in n x node.False h f = last n _ (one n _ (no_in n x h))
+meaning_in n x node.True h f = each_in n (meaning_of x node.True) ((yes_in n x h, tt), tt)
+meaning_in n x node.False h f = each_in n (meaning_of x node.False) ((no_in n x h, tt), tt)
 meaning_in n x (node.Atom a) h f = All-nil (AllIn n)
 meaning_in n x (node.Not a) h f =
     let p : a < n = omega (arith, h, f) in
-    All-cons (AllIn n) _ _ (two n _ _ (yes_in n x h) (yes_in n a p)) (last n _ (two n _ _ (no_in n x h) (no_in n a p)))
+    each_in n (meaning_of x (node.Not a)) ((yes_in n x h, (yes_in n a p, tt)), ((no_in n x h, (no_in n a p, tt)), tt))
 meaning_in n x (node.And a b) h f =
     let p : a < n = omega (arith, h, f.0) in
     let q : b < n = omega (arith, h, f.1) in
-    All-cons (AllIn n) _ _ (two n _ _ (no_in n x h) (yes_in n a p)) (All-cons (AllIn n) _ _ (two n _ _ (no_in n x h) (yes_in n b q)) (last n _ (three n _ _ _ (yes_in n x h) (no_in n a p) (no_in n b q))))
+    each_in n (meaning_of x (node.And a b))
+    ((no_in n x h, (yes_in n a p, tt)), ((no_in n x h, (yes_in n b q, tt)), ((yes_in n x h, (no_in n a p, (no_in n b q, tt))), tt)))
 meaning_in n x (node.Or a b) h f =
     let p : a < n = omega (arith, h, f.0) in
     let q : b < n = omega (arith, h, f.1) in
-    All-cons (AllIn n) _ _ (two n _ _ (yes_in n x h) (no_in n a p)) (All-cons (AllIn n) _ _ (two n _ _ (yes_in n x h) (no_in n b q)) (last n _ (three n _ _ _ (no_in n x h) (yes_in n a p) (yes_in n b q))))
+    each_in n (meaning_of x (node.Or a b))
+    ((yes_in n x h, (no_in n a p, tt)), ((yes_in n x h, (no_in n b q, tt)), ((no_in n x h, (yes_in n a p, (yes_in n b q, tt))), tt)))
 meaning_in n x (node.Implies a b) h f =
     let p : a < n = omega (arith, h, f.0) in
     let q : b < n = omega (arith, h, f.1) in
-    All-cons (AllIn n) _ _ (two n _ _ (yes_in n x h) (yes_in n a p)) (All-cons (AllIn n) _ _ (two n _ _ (yes_in n x h) (no_in n b q)) (last n _ (three n _ _ _ (no_in n x h) (no_in n a p) (yes_in n b q))))
+    each_in n (meaning_of x (node.Implies a b))
+    ((yes_in n x h, (yes_in n a p, tt)), ((yes_in n x h, (no_in n b q, tt)), ((no_in n x h, (no_in n a p, (yes_in n b q, tt))), tt)))
 meaning_in n x (node.Iff a b) h f =
     let p : a < n = omega (arith, h, f.0) in
     let q : b < n = omega (arith, h, f.1) in
-    All-cons (AllIn n) _ _ (three n _ _ _ (no_in n x h) (no_in n a p) (yes_in n b q))
-    (All-cons (AllIn n) _ _ (three n _ _ _ (no_in n x h) (yes_in n a p) (no_in n b q))
-    (All-cons (AllIn n) _ _ (three n _ _ _ (yes_in n x h) (yes_in n a p) (yes_in n b q))
-    (last n _ (three n _ _ _ (yes_in n x h) (no_in n a p) (no_in n b q)))))
+    each_in n (meaning_of x (node.Iff a b)) (
+      (no_in n x h, (no_in n a p, (yes_in n b q, tt))),
+      (
+        (no_in n x h, (yes_in n a p, (no_in n b q, tt))),
+        ((yes_in n x h, (yes_in n a p, (yes_in n b q, tt))), ((yes_in n x h, (no_in n a p, (no_in n b q, tt))), tt)),
+      ),
+    )
 
 clauses_in : (n x : ℕ) (ms : List Node) → x + length ms ≤ n → ((i : ℕ) (d : Node) → i < length ms → Fits (x + i) (get_or ms i d)) → All (AllIn n) (clauses_from x ms)
 clauses_in n x [] h f = All-nil (AllIn n)

@@ -1,4 +1,4 @@
-use Rattle.std.proofs.Common.{◌≡◌, map, ap, ◌∙◌, sym, length, subst}
+use Rattle.std.proofs.Common.{map, ap, ◌∙◌, sym, length, subst}
 use Rattle.std.specs.List.{All}
 use Rattle.ps_steps.specs.Weights.{clause_of}
 use Rattle.ps_forms.specs.Clauses.{clause_form}
