@@ -1,0 +1,201 @@
+-- An answer is valid where it has its parts and each claim is valid, and a valid claim has no fault.
+use Rattle.std.proofs.Common.{inl, inr, ◌≡◌, ◌≢◌, ℕ, zero, suc, ◌<◌, pos, Option, Some, None, List, [], ◌∷◌, ◌++◌, length, get_or, take, All, refl, sym, ap, ◌∙◌, arith}
+use Rattle.std.specs.Prelude.{slice_get, IsSomeAnd, Any}
+use Rattle.std.specs.List.{AllZip}
+use Rattle.std.specs.Option.{IfSome}
+use Rattle.std.proofs.lemmas.Int.{ints}
+use Rattle.std.proofs.lemmas.List.{length-take, get_or_default}
+use Rattle.std.proofs.lemmas.List.Elements.{All-head, All-tail, All-append, All-cons, All-nil}
+use Rattle.ps_meaning.specs.Distribution.{Entry, total, IsDistribution}
+use Rattle.ps_meaning.specs.Bounds.{MeetsBound, MeetsAll}
+use Rattle.ps_meaning.proofs.Weights.{total-positive}
+use Rattle.ps_problem.specs.declared.query.Query as stored
+use Rattle.ps_problem.specs.Problems.{Parts, bounds_of}
+use Rattle.ps_entailment.specs.Answers.{Model, Verdict, Consistent, Inconsistent, OpenVerdict, SideAnswer, Value, OpenSide, QueryAnswer, Interval, Impossible, OpenQuery, Answer, asked_under}
+use Rattle.ps_claims.specs.Duals.{Dual, ClaimKind, Nothing, Lower, Upper, HasSign}
+use Rattle.ps_claims.specs.Faults.{DualFault}
+use Rattle.ps_claims.proofs.Faults.{no_fault}
+use Rattle.ps_claims.specs.Validity.{IsValidVerdict, IsValidSide, IsValidPart, IsValid}
+use Rattle.ps_claims.specs.Claims.{Place, AtVerdict, AtQuery, AtLower, AtUpper, Claim, Modelled, Excluded, Bounded, verdict_claims, side_claims, part_claims, claims_from, claims_of, IsValidClaim, HasParts, AreValid, Fault, WrongShape, TooManyWorlds, TotalWrong, EvidenceZero, ValueMissed, WeightZero, WorldTwice, BoundMissed, DualWrong, model_of, AreInOrder, IsRepeated, AreFew, HasTotal, IsModelRight, IsDualWrong, IsFirstIn, IsFirstAt, IsRefused}
+
+-- what all of two lists have
+front : {X : Type 0} (P : X → Type 0) (xs ys : List X) → All P (xs ++ ys) → All P xs
+front P [] ys h = All-nil P
+front P (x ∷ xs) ys h = All-cons P x xs (All-head P x (xs ++ ys) h) (front P xs ys (All-tail P x (xs ++ ys) h))
+
+back : {X : Type 0} (P : X → Type 0) (xs ys : List X) → All P (xs ++ ys) → All P ys
+back P [] ys h = h
+back P (x ∷ xs) ys h = back P xs ys (All-tail P x (xs ++ ys) h)
+
+one : (p : Parts) (place : Place) (c : Claim) → IsValidClaim p c → AreValid p ((place, c) ∷ [])
+one p place c h = All-cons (λ x. IsValidClaim p x.1) (place, c) [] h (All-nil (λ x. IsValidClaim p x.1))
+
+verdict-claims : (p : Parts) (v : Verdict Dual) → IsValidVerdict p v → AreValid p (verdict_claims v)
+verdict-claims p (Consistent m) h = one p AtVerdict (Modelled m) h
+verdict-claims p (Inconsistent d) h = one p AtVerdict (Excluded None d) h
+verdict-claims p OpenVerdict h = All-nil (λ x. IsValidClaim p x.1)
+
+claims-verdict : (p : Parts) (v : Verdict Dual) → AreValid p (verdict_claims v) → IsValidVerdict p v
+claims-verdict p (Consistent m) h = h 0 (AtVerdict, Modelled m) (omega arith)
+claims-verdict p (Inconsistent d) h = h 0 (AtVerdict, Excluded None d) (omega arith)
+claims-verdict p OpenVerdict h = tt
+
+side-claims : (p : Parts) (place : Place) (kind : ClaimKind) (q : stored.Query) (s : SideAnswer Dual) → IsValidSide p kind q s → AreValid p (side_claims place kind q s)
+side-claims p place kind q (Value value m d) h = one p place (Bounded kind q value m d) h
+side-claims p place kind q OpenSide h = All-nil (λ x. IsValidClaim p x.1)
+
+claims-side : (p : Parts) (place : Place) (kind : ClaimKind) (q : stored.Query) (s : SideAnswer Dual) → AreValid p (side_claims place kind q s) → IsValidSide p kind q s
+claims-side p place kind q (Value value m d) h = h 0 (place, Bounded kind q value m d) (omega arith)
+claims-side p place kind q OpenSide h = tt
+
+part-claims : (p : Parts) (n : ℕ) (q : stored.Query) (a : QueryAnswer Dual) → IsValidPart p q a → AreValid p (part_claims n q a)
+part-claims p n q (Interval lower upper) h =
+    All-append (λ x. IsValidClaim p x.1) (side_claims (AtLower n) Lower q lower) (side_claims (AtUpper n) Upper q upper) (side-claims p (AtLower n) Lower q lower h.0) (side-claims p (AtUpper n) Upper q upper h.1)
+part-claims p n q (Impossible d) h = one p (AtQuery n) (Excluded q.given d) h
+part-claims p n q OpenQuery h = All-nil (λ x. IsValidClaim p x.1)
+
+claims-part : (p : Parts) (n : ℕ) (q : stored.Query) (a : QueryAnswer Dual) → AreValid p (part_claims n q a) → IsValidPart p q a
+claims-part p n q (Interval lower upper) h =
+    let ls = side_claims (AtLower n) Lower q lower in
+    let us = side_claims (AtUpper n) Upper q upper in
+    (claims-side p (AtLower n) Lower q lower (front (λ x. IsValidClaim p x.1) ls us h), claims-side p (AtUpper n) Upper q upper (back (λ x. IsValidClaim p x.1) ls us h))
+claims-part p n q (Impossible d) h = h 0 (AtQuery n, Excluded q.given d) (omega arith)
+claims-part p n q OpenQuery h = tt
+
+parts-claims : (p : Parts) (n : ℕ) (qs : List stored.Query) (xs : List (QueryAnswer Dual)) → AllZip (IsValidPart p) qs xs → AreValid p (claims_from n qs xs)
+parts-claims p n [] xs h = All-nil (λ x. IsValidClaim p x.1)
+parts-claims p n (q ∷ qs) [] h = All-nil (λ x. IsValidClaim p x.1)
+parts-claims p n (q ∷ qs) (a ∷ xs) h = All-append (λ x. IsValidClaim p x.1) (part_claims n q a) (claims_from (suc n) qs xs) (part-claims p n q a h.0) (parts-claims p (suc n) qs xs h.1)
+
+claims-parts : (p : Parts) (n : ℕ) (qs : List stored.Query) (xs : List (QueryAnswer Dual)) → length xs ≡ length qs → AreValid p (claims_from n qs xs) → AllZip (IsValidPart p) qs xs
+claims-parts p n [] [] e h = tt
+claims-parts p n [] (a ∷ xs) e h = absurd (omega arith)
+claims-parts p n (q ∷ qs) [] e h = absurd (omega arith)
+claims-parts p n (q ∷ qs) (a ∷ xs) e h =
+    let here = part_claims n q a in
+    let later = claims_from (suc n) qs xs in
+    (claims-part p n q a (front (λ x. IsValidClaim p x.1) here later h), claims-parts p (suc n) qs xs (omega arith) (back (λ x. IsValidClaim p x.1) here later h))
+
+length-zip : {X Y : Type 0} (R : X → Y → Type 0) (xs : List X) (ys : List Y) → AllZip R xs ys → length ys ≡ length xs
+length-zip R [] [] h = refl
+length-zip R [] (y ∷ ys) h = absurd h
+length-zip R (x ∷ xs) [] h = absurd h
+length-zip R (x ∷ xs) (y ∷ ys) h = ap suc (length-zip R xs ys h.1)
+
+pub valid-claims : (p : Parts) (a : Answer Dual) → IsValid p a → HasParts p a × AreValid p (claims_of p a)
+valid-claims p a h =
+    let qs = asked_under a.verdict p.queries in (
+      length-zip (IsValidPart p) qs a.parts h.parts,
+      All-append (λ x. IsValidClaim p x.1) (verdict_claims a.verdict) (claims_from 1 qs a.parts) (verdict-claims p a.verdict h.verdict) (parts-claims p 1 qs a.parts h.parts),
+    )
+
+pub claims-valid : (p : Parts) (a : Answer Dual) → HasParts p a → AreValid p (claims_of p a) → IsValid p a
+claims-valid p a long h =
+    let qs = asked_under a.verdict p.queries in
+    let first = verdict_claims a.verdict in
+    let others = claims_from 1 qs a.parts in
+    record {
+      verdict = claims-verdict p a.verdict (front (λ x. IsValidClaim p x.1) first others h);
+      parts = claims-parts p 1 qs a.parts long (back (λ x. IsValidClaim p x.1) first others h);
+    }
+
+-- what a place of a list has, where all have it
+not_there : {X : Type 0} (P : X → Type 0) (xs : List X) (i : ℕ) → All P xs → IsSomeAnd (slice_get xs i) (λ x. ¬ P x) → ⊥
+not_there P [] i h s = s
+not_there P (x ∷ xs) zero h s = s (All-head P x xs h)
+not_there P (x ∷ xs) (suc i) h s = not_there P xs i (All-tail P x xs h) s
+
+both_some : {X : Type 0} (o : Option X) (P Q : X → Type 0) → IfSome o P → IsSomeAnd o Q → ((x : X) → P x → Q x → ⊥) → ⊥
+both_some None P Q h s n = s
+both_some (Some x) P Q h s n = n x h s
+
+standing : {X : Type 0} (Q : X → Type 0) (xs : List X) (i : ℕ) → IsSomeAnd (slice_get xs i) Q → (x : X) × (i < length xs) × (get_or xs i x ≡ x) × Q x
+standing Q [] i s = absurd s
+standing Q (x ∷ xs) zero s = (x, omega arith, refl, s)
+standing Q (x ∷ xs) (suc i) s = let f = standing Q xs i s in (f.0, omega (arith, f.1), f.2, f.3)
+
+taken_before : (d : List Entry) (i k : ℕ) (x : Entry) → k < length (take i d) → (k < i) × (get_or (take i d) k x ≡ get_or d k x)
+taken_before [] i k x lt = absurd (omega (arith, length-take {A = Entry} i []))
+taken_before (e ∷ d) zero k x lt = absurd (omega arith)
+taken_before (e ∷ d) (suc i) zero x lt = (omega arith, refl)
+taken_before (e ∷ d) (suc i) (suc k) x lt = let f = taken_before d i k x (omega arith) in (omega (arith, f.0), f.1)
+
+not_repeated : (d : List Entry) (n : ℕ) → AreInOrder d → IsRepeated d n → ⊥
+not_repeated d n order f =
+    let i = f.0 in
+    let e = standing (λ x. (x.weight ≢ pos 0) × Any (λ y. y.world ≡ x.world) (take i d)) d i f.3 in
+    let a = e.3.1 in
+    let before = taken_before d i a.0 a.1 a.2 in
+    order.different a.0 i a.1 before.0 e.1 (ap (λ y. y.world) (sym before.1 ∙ a.3) ∙ a.4 ∙ ap (λ y. y.world) (sym e.2 ∙ get_or_default d i e.0 a.1 e.1))
+
+pub no_model_fault : (p : Parts) (c : Claim) (f : Fault) → IsModelRight p c → ((g : DualFault) → IsDualWrong p c g → ⊥) → IsFirstIn p c f → ⊥
+no_model_fault p c WrongShape r dual f = f r.shape
+no_model_fault p c TooManyWorlds r dual f = both_some (model_of c) (AreFew p) _ r.few f.1 (λ m h g. g h)
+no_model_fault p c (WeightZero n) r dual f = both_some (model_of c) (λ m. AreInOrder m.worlds) _ r.order f.1 (λ m h g. not_there (λ e. e.weight ≢ pos 0) m.worlds g.1.0 h.weighed (weightless m.worlds g.1.0 g.1.3))
+  where
+    weightless : (d : List Entry) (i : ℕ) → IsSomeAnd (slice_get d i) (λ e. e.weight ≡ pos 0) → IsSomeAnd (slice_get d i) (λ e. ¬ (e.weight ≢ pos 0))
+    weightless [] i s = s
+    weightless (e ∷ d) zero s = λ n. n s
+    weightless (e ∷ d) (suc i) s = weightless d i s
+no_model_fault p c (WorldTwice n) r dual f = both_some (model_of c) (λ m. AreInOrder m.worlds) _ r.order f.1 (λ m h g. not_repeated m.worlds n h g.1)
+no_model_fault p c TotalWrong r dual f = both_some (model_of c) HasTotal _ r.total f.1 (λ m h g. g.2 h)
+no_model_fault p c (BoundMissed n) r dual f = both_some (model_of c) (λ m. MeetsAll (bounds_of p) m.worlds) _ r.met f.1 (λ m h g. not_there (λ b. MeetsBound b m.worlds) (bounds_of p) g.3.0 h g.3.3)
+no_model_fault p c EvidenceZero r dual f = f.2 r.evidence
+no_model_fault p c ValueMissed r dual f = f.3 r.value
+no_model_fault p c (DualWrong g) r dual f = dual g f.1
+
+entries-order : (atoms : ℕ) (d : List Entry) → IsDistribution atoms d → AreInOrder d
+entries-order atoms d h = record { weighed = λ k e lt z. (let w = h.weighed k e lt in omega (arith, ints, w, z)); different = h.different }
+
+model-total : (atoms : ℕ) (m : Model) → IsDistribution atoms m.worlds → m.total ≡ total m.worlds → HasTotal m
+model-total atoms m h e = ((λ z. (let t = total-positive atoms m.worlds h in omega (arith, ints, t, z, e))), e)
+
+-- nothing is wrong with the model of a valid claim
+valid-model : (p : Parts) (c : Claim) → IsValidClaim p c → IsModelRight p c
+valid-model p (Modelled m) h = record {
+  shape = record { worlds = h.model.distribution.worlds; rows = tt };
+  few = h.small.few;
+  order = entries-order (length p.names) m.worlds h.model.distribution;
+  total = model-total (length p.names) m h.model.distribution h.small.total;
+  met = h.model.met;
+  evidence = tt;
+  value = tt;
+}
+valid-model p (Excluded given d) h = record {
+  shape = record { worlds = tt; rows = length-zip (λ b y. HasSign b.side y) (bounds_of p) d.rows h.refuted.signs };
+  few = tt;
+  order = tt;
+  total = tt;
+  met = tt;
+  evidence = tt;
+  value = tt;
+}
+valid-model p (Bounded kind q value m d) h = record {
+  shape = record { worlds = h.reached.allowed.model.distribution.worlds; rows = length-zip (λ b y. HasSign b.side y) (bounds_of p) d.rows h.refuted.signs };
+  few = h.small.few;
+  order = entries-order (length p.names) m.worlds h.reached.allowed.model.distribution;
+  total = model-total (length p.names) m h.reached.allowed.model.distribution h.small.total;
+  met = h.reached.allowed.model.met;
+  evidence = λ z. (let e = h.reached.allowed.positive in omega (arith, ints, e, z));
+  value = h.reached.equal;
+}
+
+-- nor with its dual
+valid-dual : (p : Parts) (c : Claim) → IsValidClaim p c → (g : DualFault) → IsDualWrong p c g → ⊥
+valid-dual p (Modelled m) h g f = f
+valid-dual p (Excluded given d) h g f = no_fault p Nothing given 0 None d g (record { head = h.head; refuted = h.refuted }) f
+valid-dual p (Bounded kind q value m d) h g f = no_fault p kind q.given q.both (Some value) d g (record { head = h.head; refuted = h.refuted }) f
+
+pub valid_faultless : (p : Parts) (c : Claim) (f : Fault) → IsValidClaim p c → IsFirstIn p c f → ⊥
+valid_faultless p c f h first = no_model_fault p c f (valid-model p c h) (valid-dual p c h) first
+
+at_claim : (p : Parts) (a : Answer Dual) (place : Place) (f : Fault) → IsValid p a → IsFirstAt p a place f → ⊥
+at_claim p a place f h first =
+    let at = standing (λ c. (c.0 ≡ place) × IsFirstIn p c.1 f) (claims_of p a) first.1.0 first.1.2 in
+    let valid : IsValidClaim p (get_or (claims_of p a) first.1.0 at.0).1 = (valid-claims p a h).1 first.1.0 at.0 at.1 in
+    valid_faultless p at.0.1 f (rw at.2 at valid) at.3.1
+
+-- a valid answer isn't refused
+pub valid_accepted : (p : Parts) (a : Answer Dual) (place : Place) (f : Fault) → IsValid p a → IsRefused p a place f → ⊥
+valid_accepted p a place f h (inl other) = other.2 (valid-claims p a h).0
+valid_accepted p a place f h (inr first) = at_claim p a place f h first

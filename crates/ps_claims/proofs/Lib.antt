@@ -1,0 +1,9 @@
+pub mod Sums
+pub mod Duality
+pub mod NodeSums
+pub mod Refutations
+pub mod Valid
+pub mod Faults
+pub mod Sizes
+pub mod Claims
+pub mod Decided

@@ -1,0 +1,114 @@
+-- Combinations over nodes have at a world's extension the values of combinations in the world.
+use Rattle.std.proofs.Common.{◌≡◌, ℕ, ◌<◌, ℤ, pos, ◌+ℤ◌, ◌-ℤ◌, ◌*ℤ◌, neg_ℤ, Bool, true, false, cond, ◌&&◌, Option, Some, None, List, [], ◌∷◌, ◌++◌, length, map, All, refl, sym, ap, ◌∙◌, arith}
+use Rattle.std.specs.Option.{IfSome}
+use Rattle.std.proofs.lemmas.Int.{ints}
+use Rattle.std.proofs.lemmas.List.{get_or_default}
+use Rattle.std.proofs.lemmas.List.Elements.{All-head, All-tail}
+use Rattle.ps_meaning.specs.Formula.{World, And, is_true}
+use Rattle.ps_meaning.specs.Rows.{indicator, row_value}
+use Rattle.ps_meaning.proofs.Integers.{mul_sub, mul_assoc, mul-zero, mul-one}
+use Rattle.ps_rational.proofs.IntRing.{neg-*ℤ}
+use Rattle.ps_formula.specs.declared.node.Node.{Node}
+use Rattle.ps_formula.specs.Nodes.{truths}
+use Rattle.ps_formula.proofs.Trees.{length-truths, truths-at}
+use Rattle.ps_problem.specs.declared.bound.Bound.{Bound}
+use Rattle.ps_problem.specs.declared.query.Query as stored
+use Rattle.ps_problem.specs.Problems.{tree_at, given_at, bound_of, IsBoth, HasNodes, IsBound}
+use Rattle.ps_steps.specs.Weights.{Weighted, true_weight}
+use Rattle.ps_steps.specs.Assignments.{holds}
+use Rattle.ps_forms.specs.Extensions.{extension}
+use Rattle.ps_forms.specs.Clauses.{yes}
+use Rattle.ps_forms.proofs.Tidy.{holds-yes}
+use Rattle.ps_entailment.specs.Queries.{Query}
+use Rattle.ps_claims.specs.Duals.{Dual, ClaimKind, Nothing, Lower, Upper, sum_of_rows, claimed_in, combination}
+use Rattle.ps_claims.specs.Validity.{query_of}
+use Rattle.ps_claims.specs.Goals.{Combination, value_under, plus, at_node, at_condition, row_times, rows_times, claimed_of, combination_of}
+
+true_weight-append : (v : List Bool) (ts us : Weighted) → true_weight v (ts ++ us) ≡ true_weight v ts +ℤ true_weight v us
+true_weight-append v [] us = omega (arith, ints)
+true_weight-append v (t ∷ ts) us = omega (arith, ints, true_weight-append v ts us)
+
+value-plus : (v : List Bool) (c d : Combination) → value_under v (plus c d) ≡ value_under v c +ℤ value_under v d
+value-plus v c d = omega (arith, ints, true_weight-append v c.terms d.terms)
+
+-- the literal of a node is true in an extension where its tree is
+node-holds : (ns : List Node) (w : World) (i : ℕ) → i < length ns → holds (extension ns w) (yes i) ≡ is_true (tree_at ns i) w
+node-holds ns w i lt = holds-yes (truths ns w) i ∙ get_or_default (truths ns w) i false true (rw (length-truths ns w) lt) ∙ truths-at ns w i
+
+times-bool : (b : Bool) (k : ℤ) → (pos 0 +ℤ (cond b k (pos 0) +ℤ pos 0)) ≡ (k *ℤ cond b (pos 1) (pos 0))
+times-bool true k = omega (arith, ints, mul-one k)
+times-bool false k = omega (arith, ints, mul-zero k)
+
+value-node : (ns : List Node) (w : World) (k : ℤ) (i : ℕ) → i < length ns → value_under (extension ns w) (at_node k i) ≡ k *ℤ indicator (tree_at ns i) w
+value-node ns w k i lt = rw (node-holds ns w i lt) (times-bool (is_true (tree_at ns i) w) k)
+
+value-condition : (ns : List Node) (w : World) (k : ℤ) (given : Option ℕ) → IfSome given (λ g. g < length ns) → value_under (extension ns w) (at_condition k given) ≡ k *ℤ indicator (given_at ns given) w
+value-condition ns w k None there = omega (arith, ints, mul-one k)
+value-condition ns w k (Some g) there = value-node ns w k g there
+
+and_true : (b : Bool) → b && true ≡ b
+and_true true = refl
+and_true false = refl
+
+-- the node for formula and condition together is true where both are
+both-indicator : (ns : List Node) (w : World) (formula : ℕ) (given : Option ℕ) (both : ℕ) → IsBoth ns formula given both → indicator (tree_at ns both) w ≡ indicator (And (tree_at ns formula) (given_at ns given)) w
+both-indicator ns w formula None both e = rw (e, and_true (is_true (tree_at ns formula) w)) refl
+both-indicator ns w formula (Some g) both e = ap (λ f. indicator f w) e
+
+value-both : (ns : List Node) (w : World) (k : ℤ) (formula : ℕ) (given : Option ℕ) (both : ℕ) → HasNodes ns formula given both
+    → value_under (extension ns w) (at_node k both) ≡ k *ℤ indicator (And (tree_at ns formula) (given_at ns given)) w
+value-both ns w k formula given both has = value-node ns w k both has.both_there ∙ ap (λ z. k *ℤ z) (both-indicator ns w formula given both has.both_is)
+
+-- y*(m*a - n*c) is (y*m)*a + (-(y*n))*c
+times_difference : (y m n a c : ℤ) → (((y *ℤ m) *ℤ a) +ℤ (neg_ℤ (y *ℤ n) *ℤ c)) ≡ (y *ℤ ((m *ℤ a) -ℤ (n *ℤ c)))
+times_difference y m n a c = omega (arith, ints, mul_sub y (m *ℤ a) (n *ℤ c), mul_assoc y m a, mul_assoc y n c, neg-*ℤ (y *ℤ n) c)
+
+value-row : (ns : List Node) (w : World) (y : ℤ) (b : Bound) → HasNodes ns b.formula b.given b.both → value_under (extension ns w) (row_times y b) ≡ y *ℤ row_value (bound_of ns b) w
+value-row ns w y b has =
+    let k = y *ℤ pos b.den in
+    let l = neg_ℤ (y *ℤ pos b.num) in
+    rw (value-plus (extension ns w) (at_node k b.both) (at_condition l b.given), value-both ns w k b.formula b.given b.both has, value-condition ns w l b.given has.given_there)
+    (times_difference y (pos b.den) (pos b.num) (indicator (And (tree_at ns b.formula) (given_at ns b.given)) w) (indicator (given_at ns b.given) w))
+
+value-rows : (ns : List Node) (w : World) (ys : List ℤ) (bs : List Bound) → All (IsBound ns) bs → value_under (extension ns w) (rows_times ys bs) ≡ sum_of_rows (map (bound_of ns) bs) ys w
+value-rows ns w ys [] are = refl
+value-rows ns w [] (b ∷ bs) are = refl
+value-rows ns w (y ∷ ys) (b ∷ bs) are =
+    let first : IsBound ns b = All-head (IsBound ns) b bs are in
+    rw (value-plus (extension ns w) (row_times y b) (rows_times ys bs), value-row ns w y b first.nodes, value-rows ns w ys bs (All-tail (IsBound ns) b bs are)) refl
+
+-- the claim that nothing is allowed speaks of the evidence alone
+pub value-nothing : (ns : List Node) (w : World) (given : Option ℕ) (both : ℕ) (q : Query) (d : Dual) → IfSome given (λ g. g < length ns) → q.evidence ≡ given_at ns given
+    → value_under (extension ns w) (claimed_of Nothing given both d) ≡ claimed_in Nothing q d w
+value-nothing ns w given both q d there e = value-condition ns w d.head given there ∙ ap (λ f. d.head *ℤ indicator f w) (sym e)
+
+pub value-claimed : (kind : ClaimKind) (ns : List Node) (w : World) (q : stored.Query) (d : Dual) → HasNodes ns q.formula q.given q.both
+    → value_under (extension ns w) (claimed_of kind q.given q.both d) ≡ claimed_in kind (query_of ns q) d w
+value-claimed Nothing ns w q d has = value-nothing ns w q.given q.both (query_of ns q) d has.given_there refl
+value-claimed Lower ns w q d has =
+    let v = extension ns w in
+    omega (
+      arith,
+      ints,
+      value-plus v (at_condition d.head q.given) (at_node (neg_ℤ d.top) q.both),
+      value-condition ns w d.head q.given has.given_there,
+      value-both ns w (neg_ℤ d.top) q.formula q.given q.both has,
+      neg-*ℤ d.top (indicator (And (tree_at ns q.formula) (given_at ns q.given)) w),
+    )
+value-claimed Upper ns w q d has =
+    let v = extension ns w in
+    omega (
+      arith,
+      ints,
+      value-plus v (at_node d.top q.both) (at_condition (neg_ℤ d.head) q.given),
+      value-condition ns w (neg_ℤ d.head) q.given has.given_there,
+      value-both ns w d.top q.formula q.given q.both has,
+      neg-*ℤ d.head (indicator (given_at ns q.given) w),
+    )
+
+-- a combination over nodes, where its claim has the value of the claim in the world
+pub value-combination : (kind : ClaimKind) (ns : List Node) (w : World) (given : Option ℕ) (both : ℕ) (bs : List Bound) (q : Query) (d : Dual) → All (IsBound ns) bs
+    → value_under (extension ns w) (claimed_of kind given both d) ≡ claimed_in kind q d w
+    → value_under (extension ns w) (combination_of kind given both bs d) ≡ combination kind (map (bound_of ns) bs) q d w
+value-combination kind ns w given both bs q d are claim =
+    omega (arith, ints, value-plus (extension ns w) (claimed_of kind given both d) (rows_times d.rows bs), claim, value-rows ns w d.rows bs are)

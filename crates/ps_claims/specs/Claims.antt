@@ -1,0 +1,179 @@
+-- The claims of an answer, in the order of a report, and the first fault among them.
+use Rattle.std.specs.Prelude.{◌≡◌, ◌≢◌, ◌≤◌, ◌+◌, ◌⊎◌, ℕ, suc, pos, ◌≤ℤ◌, Option, Some, None, List, [], ◌∷◌, ◌++◌, length, map, sum, take, slice_get, All, AllPairs, Any, IfSome, IsSomeAnd}
+use Rattle.ps_meaning.specs.Distribution.{Entry, weight, total}
+use Rattle.ps_meaning.specs.Bounds.{Exactly, Bound, MeetsBound, MeetsAll}
+use Rattle.ps_problem.specs.declared.query.Query as stored
+use Rattle.ps_problem.specs.Problems.{Parts, bounds_of, given_at}
+use Rattle.ps_rational.specs.Rational.{Rational}
+use Rattle.ps_entailment.specs.Queries.{bound_on}
+use Rattle.ps_entailment.specs.Answers.{Model, Verdict, Consistent, Inconsistent, OpenVerdict, SideAnswer, Value, OpenSide, QueryAnswer, Interval, Impossible, OpenQuery, Answer, ShowsConsistent, asked_under}
+use Rattle.ps_claims.specs.Duals.{Dual, ClaimKind, Nothing, Lower, Upper}
+use Rattle.ps_claims.specs.Faults.{DualFault, IsFirstFault}
+use Rattle.ps_claims.specs.Validity.{query_of, ShowsNothing, ShowsTight}
+
+-- where a fault is: in the report's shape, or at a claim; queries are numbered from 1
+pub data Place : Type 0 where
+  AtReport AtVerdict : Place
+  AtQuery AtLower AtUpper : (number : ℕ) → Place
+
+-- what is claimed: a model of the bounds, that nothing is allowed, or a value on one side of a query
+pub data Claim : Type 0 where
+  Modelled : (model : Model) → Claim
+  Excluded : (given : Option ℕ) (dual : Dual) → Claim
+  Bounded : (kind : ClaimKind) (query : stored.Query) (value : Rational) (model : Model) (dual : Dual) → Claim
+
+abbrev pub Placed : Type 0
+Placed = Place × Claim
+
+abbrev pub verdict_claims : Verdict Dual → List Placed
+verdict_claims (Consistent m) = (AtVerdict, Modelled m) ∷ []
+verdict_claims (Inconsistent d) = (AtVerdict, Excluded None d) ∷ []
+verdict_claims OpenVerdict = []
+
+abbrev pub side_claims : Place → ClaimKind → stored.Query → SideAnswer Dual → List Placed
+side_claims place kind q (Value value m d) = (place, Bounded kind q value m d) ∷ []
+side_claims place kind q OpenSide = []
+
+abbrev pub part_claims : ℕ → stored.Query → QueryAnswer Dual → List Placed
+part_claims n q (Interval lower upper) = side_claims (AtLower n) Lower q lower ++ side_claims (AtUpper n) Upper q upper
+part_claims n q (Impossible d) = (AtQuery n, Excluded q.given d) ∷ []
+part_claims n q OpenQuery = []
+
+-- the claims on queries that are numbered from here on
+abbrev pub claims_from : ℕ → List stored.Query → List (QueryAnswer Dual) → List Placed
+claims_from n [] parts = []
+claims_from n (q ∷ qs) [] = []
+claims_from n (q ∷ qs) (a ∷ parts) = part_claims n q a ++ claims_from (suc n) qs parts
+
+abbrev pub claims_of : Parts → Answer Dual → List Placed
+claims_of p a = verdict_claims a.verdict ++ claims_from 1 (asked_under a.verdict p.queries) a.parts
+
+-- what is open: a verdict, a side of a query, or a query
+abbrev pub open_in_verdict : Verdict Dual → ℕ
+open_in_verdict OpenVerdict = 1
+open_in_verdict other = 0
+
+abbrev pub open_in_side : SideAnswer Dual → ℕ
+open_in_side OpenSide = 1
+open_in_side other = 0
+
+abbrev pub open_in_part : QueryAnswer Dual → ℕ
+open_in_part (Interval lower upper) = open_in_side lower + open_in_side upper
+open_in_part (Impossible d) = 0
+open_in_part OpenQuery = 1
+
+-- how much of an answer is open
+abbrev pub unfinished_of : Answer Dual → ℕ
+unfinished_of a = open_in_verdict a.verdict + sum (map open_in_part a.parts)
+
+abbrev pub IsValidClaim : Parts → Claim → Type 0
+IsValidClaim p (Modelled m) = ShowsConsistent (length p.names) (bounds_of p) m
+IsValidClaim p (Excluded given d) = ShowsNothing p given d
+IsValidClaim p (Bounded kind q value m d) = ShowsTight p kind q value m d
+
+-- there are as many parts as queries where the verdict is consistent, and none otherwise
+abbrev pub HasParts : Parts → Answer Dual → Type 0
+HasParts p a = length a.parts ≡ length (asked_under a.verdict p.queries)
+
+abbrev pub AreValid : Parts → List Placed → Type 0
+AreValid p claims = All (λ c. IsValidClaim p c.1) claims
+
+-- what can be wrong with a claim
+pub data Fault : Type 0 where
+  WrongShape TooManyWorlds TotalWrong EvidenceZero ValueMissed : Fault
+  WeightZero WorldTwice : (entry : ℕ) → Fault
+  BoundMissed : (bound : ℕ) → Fault
+  DualWrong : (fault : DualFault) → Fault
+
+abbrev pub model_of : Claim → Option Model
+model_of (Modelled m) = Some m
+model_of (Excluded given d) = None
+model_of (Bounded kind q value m d) = Some m
+
+-- no weight is below 0
+abbrev pub AreNotBelow : List Placed → Type 0
+AreNotBelow claims = All (λ c. IfSome (model_of c.1) (λ m. All (λ e. pos 0 ≤ℤ e.weight) m.worlds)) claims
+
+abbrev pub dual_of : Claim → Option Dual
+dual_of (Modelled m) = None
+dual_of (Excluded given d) = Some d
+dual_of (Bounded kind q value m d) = Some d
+
+-- each world has each atom, and there is a multiplier for each bound
+pub record HasShape (p : Parts) (c : Claim) : Type 0 where
+  pub worlds : IfSome (model_of c) (λ m. All (λ e. length e.world ≡ length p.names) m.worlds)
+  pub rows : IfSome (dual_of c) (λ d. length d.rows ≡ length (bounds_of p))
+
+-- each entry has a weight, and no world stands twice
+pub record AreInOrder (d : List Entry) : Type 0 where
+  pub weighed : All (λ e. e.weight ≢ pos 0) d
+  pub different : AllPairs (λ e e'. e.world ≢ e'.world) d
+
+-- the entry of this number, from 1, is the first at fault: it weighs nothing
+abbrev pub IsWeightless : List Entry → ℕ → Type 0
+IsWeightless d n = (i : ℕ) × (n ≡ i + 1) × AreInOrder (take i d) × IsSomeAnd (slice_get d i) (λ e. e.weight ≡ pos 0)
+
+-- the entry of this number, from 1, is the first at fault: it has a weight, and its world stood before
+abbrev pub IsRepeated : List Entry → ℕ → Type 0
+IsRepeated d n = (i : ℕ) × (n ≡ i + 1) × AreInOrder (take i d) × IsSomeAnd (slice_get d i) (λ e. (e.weight ≢ pos 0) × Any (λ x. x.world ≡ e.world) (take i d))
+
+-- the bound of this number, from 1, is the first that isn't met
+abbrev pub MissesFirst : List Bound → List Entry → ℕ → Type 0
+MissesFirst bs d n = (i : ℕ) × (n ≡ i + 1) × MeetsAll (take i bs) d × IsSomeAnd (slice_get bs i) (λ b. ¬ MeetsBound b d)
+
+abbrev pub AreFew : Parts → Model → Type 0
+AreFew p m = length m.worlds ≤ length (bounds_of p) + 1
+
+-- the total isn't 0 and is the sum of the weights
+abbrev pub HasTotal : Model → Type 0
+HasTotal m = (m.total ≢ pos 0) × (m.total ≡ total m.worlds)
+
+-- where a value is claimed, the evidence weighs something in its model
+abbrev pub HasEvidence : Parts → Claim → Type 0
+HasEvidence p (Bounded kind q value m d) = weight m.worlds (given_at p.nodes q.given) ≢ pos 0
+HasEvidence p other = Unit {0}
+
+-- and the value is what the model gives
+abbrev pub HasValue : Parts → Claim → Type 0
+HasValue p (Bounded kind q value m d) = MeetsBound (bound_on (query_of p.nodes q) Exactly value) m.worlds
+HasValue p other = Unit {0}
+
+-- nothing is wrong with the model, if there is one
+pub record IsModelRight (p : Parts) (c : Claim) : Type 0 where
+  pub shape : HasShape p c
+  pub few : IfSome (model_of c) (AreFew p)
+  pub order : IfSome (model_of c) (λ m. AreInOrder m.worlds)
+  pub total : IfSome (model_of c) HasTotal
+  pub met : IfSome (model_of c) (λ m. MeetsAll (bounds_of p) m.worlds)
+  pub evidence : HasEvidence p c
+  pub value : HasValue p c
+
+-- the fault is the first of the dual, if there is one
+abbrev pub IsDualWrong : Parts → Claim → DualFault → Type 0
+IsDualWrong p (Modelled m) f = ⊥
+IsDualWrong p (Excluded given d) f = IsFirstFault p Nothing given 0 None d f
+IsDualWrong p (Bounded kind q value m d) f = IsFirstFault p kind q.given q.both (Some value) d f
+
+-- the model is there, and this is true of it
+abbrev pub OfModel : Claim → (Model → Type 0) → Type 0
+OfModel c P = IsSomeAnd (model_of c) P
+
+-- the fault is there, and none before it
+abbrev pub IsFirstIn : Parts → Claim → Fault → Type 0
+IsFirstIn p c WrongShape = ¬ HasShape p c
+IsFirstIn p c TooManyWorlds = HasShape p c × OfModel c (λ m. ¬ AreFew p m)
+IsFirstIn p c (WeightZero n) = HasShape p c × OfModel c (λ m. AreFew p m × IsWeightless m.worlds n)
+IsFirstIn p c (WorldTwice n) = HasShape p c × OfModel c (λ m. AreFew p m × IsRepeated m.worlds n)
+IsFirstIn p c TotalWrong = HasShape p c × OfModel c (λ m. AreFew p m × AreInOrder m.worlds × ¬ HasTotal m)
+IsFirstIn p c (BoundMissed n) = HasShape p c × OfModel c (λ m. AreFew p m × AreInOrder m.worlds × HasTotal m × MissesFirst (bounds_of p) m.worlds n)
+IsFirstIn p c EvidenceZero = HasShape p c × OfModel c (λ m. AreFew p m × AreInOrder m.worlds × HasTotal m × MeetsAll (bounds_of p) m.worlds) × ¬ HasEvidence p c
+IsFirstIn p c ValueMissed = HasShape p c × OfModel c (λ m. AreFew p m × AreInOrder m.worlds × HasTotal m × MeetsAll (bounds_of p) m.worlds) × HasEvidence p c × ¬ HasValue p c
+IsFirstIn p c (DualWrong f) = IsModelRight p c × IsDualWrong p c f
+
+-- the claim at this place is the first that isn't valid, and this is its first fault
+abbrev pub IsFirstAt : Parts → Answer Dual → Place → Fault → Type 0
+IsFirstAt p a place f = HasParts p a × ((i : ℕ) × AreValid p (take i (claims_of p a)) × IsSomeAnd (slice_get (claims_of p a) i) (λ c. (c.0 ≡ place) × IsFirstIn p c.1 f))
+
+-- the answer is refused for this fault at this place: it hasn't its parts, or a claim isn't valid
+abbrev pub IsRefused : Parts → Answer Dual → Place → Fault → Type 0
+IsRefused p a place f = ((place ≡ AtReport) × (f ≡ WrongShape) × ¬ HasParts p a) ⊎ IsFirstAt p a place f

@@ -1,0 +1,70 @@
+-- Duals: multipliers of the bounds, with a refutation. They show that nothing is allowed, or that a value is a bound.
+use Rattle.std.specs.Prelude.{◌≡◌, ℕ, ℤ, pos, ◌+ℤ◌, ◌-ℤ◌, ◌*ℤ◌, ◌≤ℤ◌, Bool, false, if◌then◌else◌, List, [], ◌∷◌, length}
+use Rattle.std.specs.List.{AllZip}
+use Rattle.ps_meaning.specs.Formula.{World, And}
+use Rattle.ps_meaning.specs.Bounds.{Side, AtLeast, AtMost, Exactly, Bound}
+use Rattle.ps_meaning.specs.Rows.{indicator, row_value}
+use Rattle.ps_rational.specs.Rational.{Rational}
+use Rattle.ps_steps.specs.Steps.{Step}
+use Rattle.ps_entailment.specs.Queries.{Query}
+
+-- a multiplier for each bound, one for the evidence (the head) and one for the query (the top), and the steps of a refutation
+pub record Dual : Type 0 where
+  pub top : ℤ
+  pub head : ℤ
+  pub rows : List ℤ
+  pub steps : List Step
+
+-- what a dual shows: that nothing is allowed, that a value is a lower bound, or that it is an upper one
+pub data ClaimKind : Type 0 where
+  Nothing Lower Upper : ClaimKind
+
+-- the multiplier of a bound on this side isn't of the wrong sign
+abbrev pub HasSign : Side → ℤ → Type 0
+HasSign AtLeast y = pos 0 ≤ℤ y
+HasSign AtMost y = y ≤ℤ pos 0
+HasSign Exactly y = Unit {0}
+
+-- there is one multiplier for each bound, and none is of the wrong sign
+abbrev pub HaveSigns : List Bound → List ℤ → Type 0
+HaveSigns bounds ys = AllZip (λ b y. HasSign b.side y) bounds ys
+
+-- the bounds that are kept, by a truth value for each
+abbrev pub kept_bounds : List Bool → List Bound → List Bound
+kept_bounds [] bs = []
+kept_bounds (k ∷ ks) [] = []
+kept_bounds (k ∷ ks) (b ∷ bs) = if k then b ∷ kept_bounds ks bs else kept_bounds ks bs
+
+-- a bound that isn't kept has multiplier 0
+abbrev pub AreZeroElsewhere : List Bool → List ℤ → Type 0
+AreZeroElsewhere kept ys = AllZip (λ k y. k ≡ false → y ≡ pos 0) kept ys
+
+-- the sum of the bounds' rows in a world, each times its multiplier
+abbrev pub sum_of_rows : List Bound → List ℤ → World → ℤ
+sum_of_rows [] ys w = pos 0
+sum_of_rows (b ∷ bs) [] w = pos 0
+sum_of_rows (b ∷ bs) (y ∷ ys) w = (y *ℤ row_value b w) +ℤ sum_of_rows bs ys w
+
+-- what is claimed of the query, in a world
+abbrev pub claimed_in : ClaimKind → Query → Dual → World → ℤ
+claimed_in Nothing q d w = d.head *ℤ indicator q.evidence w
+claimed_in Lower q d w = (d.head *ℤ indicator q.evidence w) -ℤ (d.top *ℤ indicator (And q.formula q.evidence) w)
+claimed_in Upper q d w = (d.top *ℤ indicator (And q.formula q.evidence) w) -ℤ (d.head *ℤ indicator q.evidence w)
+
+-- the combination of the claim and the bounds' rows, in a world: a dual shows its claim where this is above 0 in no world
+abbrev pub combination : ClaimKind → List Bound → Query → Dual → World → ℤ
+combination kind bounds q d w = claimed_in kind q d w +ℤ sum_of_rows bounds d.rows w
+
+-- in no world of these atoms is the number above 0
+pub record IsNeverAbove (atoms : ℕ) (F : World → ℤ) : Type 0 where
+  pub at : (w : World) → length w ≡ atoms → F w ≤ℤ pos 0
+
+-- head and top of a dual that shows that nothing is allowed
+pub record HasNothingHead (d : Dual) : Type 0 where
+  pub top : d.top ≡ pos 0
+  pub head : pos 1 ≤ℤ d.head
+
+-- head over top is the value
+pub record HasValueHead (value : Rational) (d : Dual) : Type 0 where
+  pub top : pos 1 ≤ℤ d.top
+  pub ratio : (d.head *ℤ pos value.under) ≡ (value.over *ℤ d.top)

@@ -1,0 +1,5 @@
+-- Meaning
+pub mod Queries
+pub mod Answers
+-- Laws, as the functions of laws.rt promise them
+pub mod Laws
