@@ -1,0 +1,29 @@
+-- Which entries of a trail are causes of a conflict.
+use Rattle.std.specs.Prelude.{ℕ, ◌≡◌, ◌≤◌, ℤ, Bool, true, false, Some, List, take, slice_get, slice_index_or, ◌⊎◌}
+use Rattle.ps_steps.specs.Assignments.{Assignment, place, value_of}
+use Rattle.ps_steps.specs.Constraints.{Constraint, HasTerm}
+use Rattle.ps_steps.specs.Steps.{Known, constraint_at}
+use Rattle.ps_learning.specs.Trails.{Entry, values_of}
+
+-- marks of variables, by place
+abbrev pub Marks : Type 0
+Marks = List Bool
+
+abbrev pub is_marked : Marks → ℤ → Bool
+is_marked marks l = slice_index_or marks (place l) false
+
+-- the constraint's false literals are marked
+pub record AreCovered (c : Constraint) (a : Assignment) (marks : Marks) : Type 0 where
+  pub at : (l : ℤ) (k : ℕ) → HasTerm l k c.terms → value_of a l ≡ Some false → is_marked marks l ≡ true
+
+-- the reason's false literals are marked
+pub record IsExplained (known : Known) (a : Assignment) (marks : Marks) (e : Entry) : Type 0 where
+  pub id : ℕ
+  pub constraint : Constraint
+  pub reason : e.reason ≡ Some id
+  pub known_at : constraint_at known id ≡ Some constraint
+  pub covered : AreCovered constraint a marks
+
+-- from place i on, each marked entry is kept or explained by marked ones
+pub record AreExplained (variables : ℕ) (known : Known) (es : List Entry) (marks kept : Marks) (i : ℕ) : Type 0 where
+  pub at : (j : ℕ) (e : Entry) → i ≤ j → slice_get es j ≡ Some e → is_marked marks e.lit ≡ true → (is_marked kept e.lit ≡ true) ⊎ IsExplained known (values_of variables (take j es)) marks e

@@ -1,0 +1,7 @@
+-- Meaning
+pub mod Trails
+pub mod Causes
+pub mod Known
+-- Bridge: what marking and learning have kept so far
+pub mod Marking
+pub mod Starting

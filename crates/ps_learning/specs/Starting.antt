@@ -1,0 +1,24 @@
+-- How far the literals of a learned clause have been set false.
+use Rattle.std.specs.Prelude.{ℕ, ◌≡◌, ◌<◌, ◌≤◌, ℤ, true, Some, List, take, length, fold, slice_get, unsigned_abs, All}
+use Rattle.ps_steps.specs.Assignments.{Assignment, value_of, all_unset}
+use Rattle.ps_steps.specs.Steps.{and_false}
+use Rattle.ps_steps.proofs.Values.{Includes}
+use Rattle.ps_learning.specs.Trails.{Entry, Trail, values_of}
+use Rattle.ps_learning.specs.Causes.{Marks, is_marked}
+
+-- a literal of one of so many variables
+abbrev pub IsLit : ℕ → ℤ → Type 0
+IsLit v l = (1 ≤ unsigned_abs l) × (unsigned_abs l ≤ v)
+
+-- the opposites of the kept ones among the first entries are the literals, and all of them have been set false
+pub record Started (v : ℕ) (es : List Entry) (kept : Marks) (i : ℕ) (lits : List ℤ) (a : Assignment) : Type 0 where
+  pub lits_false : fold and_false (Some (all_unset v)) lits ≡ Some a
+  pub includes : Includes (values_of v (take i es)) a
+  pub kept_true : (j : ℕ) (e : Entry) → j < i → slice_get es j ≡ Some e → is_marked kept e.lit ≡ true → value_of a e.lit ≡ Some true
+  pub len : length a ≡ v
+  pub few : length lits ≤ i
+  pub literals : All (IsLit v) lits
+
+-- the opposites of all kept entries are the literals, all of them set false
+abbrev pub AreKeptLits : Trail → Marks → List ℤ → Assignment → Type 0
+AreKeptLits t kept lits a = Started t.variables t.entries kept (length t.entries) lits a

@@ -1,0 +1,27 @@
+-- What a trail answers.
+use Rattle.std.specs.Prelude.{ℕ, ℤ, Option, Some, None, slice_get}
+use Rattle.ps_learning.specs.Trails.{Entry, Trail, entry_of}
+
+abbrev pub level_in : Option Entry → Option ℕ
+level_in None = None
+level_in (Some e) = Some e.level
+
+abbrev pub reason_in : Option Entry → Option ℕ
+reason_in None = None
+reason_in (Some e) = e.reason
+
+abbrev pub lit_in : Option Entry → Option ℤ
+lit_in None = None
+lit_in (Some e) = Some e.lit
+
+-- the level of a variable, by its number
+abbrev pub level_of : ℕ → Trail → Option ℕ
+level_of var t = level_in (entry_of var t.entries)
+
+-- what forced a variable
+abbrev pub reason_of : ℕ → Trail → Option ℕ
+reason_of var t = reason_in (entry_of var t.entries)
+
+-- the literal at a place
+abbrev pub lit_at : ℕ → Trail → Option ℤ
+lit_at place t = lit_in (slice_get t.entries place)

@@ -1,0 +1,20 @@
+//! A literal of a trail.
+use ps_pb::Lit;
+use std::marker::Model;
+
+/// A literal that was set, the id of the constraint that forced it, or none where it was decided,
+/// and its level.
+#[derive(Drop)]
+pub struct Entry {
+    pub lit: Lit,
+    pub reason: Option<u64>,
+    pub level: u32,
+}
+
+impl Model for Entry {
+    ghost use Rattle.ps_learning.specs.Trails.{Entry as EntryValue};
+
+    ghost Value = { EntryValue };
+
+    ghost view = { λ e. record { lit = e.lit; reason = e.reason; level = e.level } };
+}
