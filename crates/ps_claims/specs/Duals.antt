@@ -7,6 +7,8 @@ use Rattle.ps_meaning.specs.Rows.{indicator, row_value}
 use Rattle.ps_rational.specs.Rational.{Rational}
 use Rattle.ps_steps.specs.Steps.{Step}
 use Rattle.ps_entailment.specs.Queries.{Query}
+pub use Rattle.ps_claims.specs.declared.claim_kind.ClaimKind.{ClaimKind}
+pub use Rattle.ps_claims.specs.declared.claim_kind.ClaimKind.TheVariants.{Nothing, Lower, Upper}
 
 -- a multiplier for each bound, one for the evidence (the head) and one for the query (the top), and the steps of a refutation
 pub record Dual : Type 0 where
@@ -14,10 +16,6 @@ pub record Dual : Type 0 where
   pub head : ℤ
   pub rows : List ℤ
   pub steps : List Step
-
--- what a dual shows: that nothing is allowed, that a value is a lower bound, or that it is an upper one
-pub data ClaimKind : Type 0 where
-  Nothing Lower Upper : ClaimKind
 
 -- the multiplier of a bound on this side isn't of the wrong sign
 abbrev pub HasSign : Side → ℤ → Type 0

@@ -1,0 +1,162 @@
+-- What the lines of a report say, and their words.
+use Rattle.std.specs.Prelude.{ℕ, ◌-◌, ◌^◌, ◌≡◌, ◌≤◌, ℤ, pos, ◌≤ℤ◌, Bool, true, false, true as yes, List, [], ◌∷◌, ◌++◌, map, All, length, unsigned_abs, codes, ⊤}
+use Rattle.std.specs.Int.{IsGcd}
+use Rattle.ps_steps.specs.Weights.{weighted, are_rising}
+use Rattle.ps_frac.specs.declared.fraction.Op.{Op}
+use Rattle.ps_frac.specs.declared.fraction.Op.TheVariants as op
+use Rattle.ps_pool.specs.declared.col.Col.{Col}
+use Rattle.ps_pool.specs.declared.col.Col.TheVariants as col
+use Rattle.ps_table.specs.declared.place.Place.{Place}
+use Rattle.ps_table.specs.declared.place.Place.TheVariants as place
+use Rattle.ps_table.specs.declared.place.TableCol.{TableCol}
+use Rattle.ps_table.specs.declared.place.TableCol.TheVariants as shown
+use Rattle.ps_log.specs.Texts.{step_numbers, goal_numbers, IsStepWithin, IsGoalWithin}
+use Rattle.ps_log.specs.StepTexts.{words_of}
+use Rattle.ps_answer.specs.declared.item.Ratio.{Ratio}
+use Rattle.ps_answer.specs.declared.item.Item.{Item}
+use Rattle.ps_answer.specs.declared.item.Item.TheVariants.{Report, Consistent, Inconsistent, OpenPivots, OpenConflicts, OpenWide, ModelHead, Entry, DualHead, Rows, StepLine, GoalLine, TraceHead, PivotLine, PricedLine, Query, Bounds, Impossible, Bound, OpenSide, End}
+use Rattle.ps_answer.specs.Words.{Word, Letters, Number, Fraction, Column, Truths, SpellWords, joined}
+
+abbrev pub count : ℕ → Word
+count n = Number (pos n)
+
+abbrev pub op_word : Op → Word
+op_word op.Add = Letters (codes "add")
+op_word op.Sub = Letters (codes "sub")
+op_word op.Mul = Letters (codes "mul")
+op_word op.Div = Letters (codes "div")
+op_word op.Lcm = Letters (codes "lcm")
+
+-- a column, or `r` for the right side
+abbrev pub shown_word : TableCol → Word
+shown_word shown.Right = Letters (codes "r")
+shown_word (shown.Of c) = Column c
+
+-- a place of the solver
+abbrev pub place_words : Place → List Word
+place_words (place.Ratio i) = Letters (codes "ratio") ∷ count i ∷ []
+place_words (place.Scale j) = Letters (codes "scale") ∷ shown_word j ∷ []
+place_words (place.Times i j) = Letters (codes "times") ∷ count i ∷ shown_word j ∷ []
+place_words (place.Minus i j) = Letters (codes "minus") ∷ count i ∷ shown_word j ∷ []
+place_words (place.Cost j i) = Letters (codes "cost") ∷ Column j ∷ count i ∷ []
+place_words (place.Whole i) = Letters (codes "whole") ∷ count i ∷ []
+place_words (place.Scaled i) = Letters (codes "scaled") ∷ count i ∷ []
+place_words (place.Weight i) = Letters (codes "weight") ∷ count i ∷ []
+place_words (place.Weighed i) = Letters (codes "weighed") ∷ count i ∷ []
+place_words (place.Total i) = Letters (codes "total") ∷ count i ∷ []
+place_words (place.NewTimes i m) = Letters (codes "new-times") ∷ count i ∷ count m ∷ []
+place_words (place.NewPlus i m) = Letters (codes "new-plus") ∷ count i ∷ count m ∷ []
+
+abbrev pub side_word : Bool → Word
+side_word false = Letters (codes "lower")
+side_word true = Letters (codes "upper")
+
+-- the words of a line
+abbrev pub item_words : Item → List Word
+item_words Report = Letters (codes "report") ∷ count 1 ∷ []
+item_words Consistent = Letters (codes "consistent") ∷ []
+item_words Inconsistent = Letters (codes "inconsistent") ∷ []
+item_words (OpenPivots limit) = Letters (codes "open") ∷ Letters (codes "pivots") ∷ count limit ∷ []
+item_words (OpenConflicts limit) = Letters (codes "open") ∷ Letters (codes "conflicts") ∷ count limit ∷ []
+item_words (OpenWide at op left right) = Letters (codes "open") ∷ Letters (codes "wide") ∷ place_words at ++ op_word op ∷ Fraction left ∷ Fraction right ∷ []
+item_words (ModelHead total n) = Letters (codes "model") ∷ Number total ∷ count n ∷ []
+item_words (Entry weight world) = Letters (codes "w") ∷ Number weight ∷ Truths world ∷ []
+item_words (DualHead top head n) = Letters (codes "dual") ∷ Number top ∷ Number head ∷ count n ∷ []
+item_words (Rows rows) = Letters (codes "y") ∷ map Number rows
+item_words (StepLine s) = Letters (codes "s") ∷ map Number (step_numbers s.id s.lits s.hints)
+item_words (GoalLine g) = Letters (codes "g") ∷ map Number (goal_numbers g.degree (weighted g.terms))
+item_words (TraceHead n) = Letters (codes "t") ∷ count n ∷ []
+item_words (PivotLine enter leave) = Letters (codes "p") ∷ Column enter ∷ count leave ∷ []
+item_words (PricedLine world) = Letters (codes "c") ∷ Truths world ∷ []
+item_words (Query number) = Letters (codes "query") ∷ count number ∷ []
+item_words Bounds = Letters (codes "bounds") ∷ []
+item_words Impossible = Letters (codes "impossible") ∷ []
+item_words (Bound upper value) = side_word upper ∷ Fraction value ∷ []
+item_words (OpenSide upper) = side_word upper ∷ []
+item_words End = Letters (codes "end") ∷ []
+
+-- what is written of a line
+abbrev pub item_line : Item → List ℕ
+item_line i = joined (item_words i)
+
+-- the greatest numerator and denominator of an operand
+abbrev pub most_operand : ℕ
+most_operand = 2 ^ 127 - 1
+
+-- a fraction whose numbers are at most this in size is in lowest terms
+abbrev pub IsReducedWithin : ℕ → Ratio → Type 0
+IsReducedWithin limit q = (1 ≤ q.under) × (unsigned_abs q.over ≤ limit → q.under ≤ limit → IsGcd (unsigned_abs q.over) q.under 1)
+
+-- what a line of any size asks of its numbers: signs, parts of steps and goals that can be told apart, and lowest terms
+abbrev pub IsProper : Item → Type 0
+IsProper (OpenWide at op left right) = IsReducedWithin most_operand left × IsReducedWithin most_operand right
+IsProper (ModelHead total n) = pos 0 ≤ℤ total
+IsProper (Entry weight world) = pos 0 ≤ℤ weight
+IsProper (DualHead top head n) = pos 0 ≤ℤ top
+IsProper (StepLine s) = All (λ l. 1 ≤ unsigned_abs l) s.lits
+IsProper (GoalLine g) = All (λ t. 1 ≤ t.1) g.terms × (are_rising 0 (weighted g.terms) ≡ yes)
+IsProper (Bound upper value) = (pos 0 ≤ℤ value.over) × IsReducedWithin (2 ^ 90) value
+IsProper i = ⊤
+
+-- literals aren't 0, coefficients are at least 1, and variables rise: so a line's numbers tell a step and a goal
+abbrev pub IsTold : Item → Type 0
+IsTold (StepLine s) = All (λ l. 1 ≤ unsigned_abs l) s.lits
+IsTold (GoalLine g) = All (λ t. 1 ≤ t.1) g.terms × (are_rising 0 (weighted g.terms) ≡ yes)
+IsTold i = ⊤
+
+-- a line spells this, with numbers of any size and any sign
+pub record IsSpelled (line : List ℕ) (i : Item) : Type 0 where
+  pub words : SpellWords (words_of line) (item_words i)
+  pub told : IsTold i
+
+-- a line says this, with numbers of any size
+pub record IsLine (line : List ℕ) (i : Item) : Type 0 where
+  pub words : SpellWords (words_of line) (item_words i)
+  pub proper : IsProper i
+
+abbrev pub IsSmall : ℤ → Type 0
+IsSmall z = unsigned_abs z ≤ 2 ^ 90
+
+-- homes are numbered from 0 to 100, worlds from 1 to 1,000,001
+abbrev pub IsColWithin : Col → Type 0
+IsColWithin (col.Home i) = i ≤ 100
+IsColWithin (col.World n) = (1 ≤ n) × (n ≤ 1000001)
+
+abbrev pub IsShownWithin : TableCol → Type 0
+IsShownWithin shown.Right = ⊤
+IsShownWithin (shown.Of c) = IsColWithin c
+
+abbrev pub IsPlaceWithin : Place → Type 0
+IsPlaceWithin (place.Ratio i) = i ≤ 100
+IsPlaceWithin (place.Scale j) = IsShownWithin j
+IsPlaceWithin (place.Times i j) = (i ≤ 100) × IsShownWithin j
+IsPlaceWithin (place.Minus i j) = (i ≤ 100) × IsShownWithin j
+IsPlaceWithin (place.Cost j i) = IsColWithin j × (i ≤ 100)
+IsPlaceWithin (place.Whole i) = i ≤ 100
+IsPlaceWithin (place.Scaled i) = i ≤ 100
+IsPlaceWithin (place.Weight i) = i ≤ 100
+IsPlaceWithin (place.Weighed i) = i ≤ 100
+IsPlaceWithin (place.Total i) = i ≤ 100
+IsPlaceWithin (place.NewTimes i m) = (i ≤ 100) × (m ≤ 100)
+IsPlaceWithin (place.NewPlus i m) = (i ≤ 100) × (m ≤ 100)
+
+abbrev pub IsRatioWithin : ℕ → Ratio → Type 0
+IsRatioWithin limit q = (unsigned_abs q.over ≤ limit) × (q.under ≤ limit)
+
+-- a line is within the limits
+abbrev pub IsWithin : Item → Type 0
+IsWithin (OpenPivots limit) = limit ≤ 1000000
+IsWithin (OpenConflicts limit) = limit ≤ 2 ^ 40
+IsWithin (OpenWide at op left right) = IsPlaceWithin at × IsRatioWithin most_operand left × IsRatioWithin most_operand right
+IsWithin (ModelHead total n) = IsSmall total × (n ≤ 101)
+IsWithin (Entry weight world) = IsSmall weight × (length world ≤ 128)
+IsWithin (DualHead top head n) = IsSmall top × IsSmall head × (n ≤ 2 ^ 41)
+IsWithin (Rows rows) = All IsSmall rows × (length rows ≤ 100)
+IsWithin (StepLine s) = IsStepWithin s
+IsWithin (GoalLine g) = IsGoalWithin g
+IsWithin (TraceHead n) = n ≤ 2000001
+IsWithin (PivotLine enter leave) = IsColWithin enter × (leave ≤ 100)
+IsWithin (PricedLine world) = length world ≤ 128
+IsWithin (Query number) = number ≤ 16
+IsWithin (Bound upper value) = IsRatioWithin (2 ^ 90) value
+IsWithin i = ⊤

@@ -1,0 +1,8 @@
+-- Meaning
+pub mod Words
+pub mod Items
+pub mod Answers
+pub mod Due
+pub mod Faults
+-- Laws, as the functions of laws.rt promise them
+pub mod Laws

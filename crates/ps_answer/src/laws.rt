@@ -1,0 +1,33 @@
+//! Laws about the text of answers: a call does nothing, and its clauses are the law.
+ghost use Rattle.ps_answer.specs.Laws.{LinesSayOneThing, TextsDetermineAnswers, ReportsAreTexts};
+ghost use Rattle.ps_answer.specs.Laws.{AnswersAreDue, DueLinesAreReports};
+ghost use Rattle.ps_answer.specs.Laws.{ReportsHaveNoFault, FaultsAreSingle};
+ghost use Rattle.ps_answer.specs.Laws.{WrittenLinesSayTheirItem, WrittenLinesAreReports};
+
+/// A line says one thing, whatever the size of its numbers. An answer is determined by its text, where each part that is
+/// open for conflicts holds as many steps as their limit.
+pub fn texts_determine_answers()
+    ensures line { LinesSayOneThing }
+    ensures answer { TextsDetermineAnswers }
+    ensures report { ReportsAreTexts }
+{}
+
+/// What is due behind each line of an answer comes next, and behind the last line nothing is due. Lines of which each is
+/// due, up to the end, are those of an answer.
+pub fn due_lines_are_answers()
+    ensures due { AnswersAreDue }
+    ensures answer { DueLinesAreReports }
+{}
+
+/// The text of an answer within the limits has no line at fault, and other bytes have at most one first one, of one kind.
+pub fn faults_are_single()
+    ensures none { ReportsHaveNoFault }
+    ensures one { FaultsAreSingle }
+{}
+
+/// What is written of a line within the limits says it. The lines that are written of an answer within the limits are
+/// its text.
+pub fn written_lines_are_lines()
+    ensures line { WrittenLinesSayTheirItem }
+    ensures report { WrittenLinesAreReports }
+{}

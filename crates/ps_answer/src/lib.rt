@@ -1,0 +1,19 @@
+//! Answers with their certificates, and the text of a report: what it is, and which line of other bytes is at fault.
+#![tactic(auto)]
+
+mod answer;
+mod error;
+mod item;
+mod laws;
+mod part;
+
+pub use answer::{
+    Answer, Cause, Dual, Model, Multipliers, Parts, QueryAnswer, QueryPart, SideAnswer, Verdict,
+    Weighted, Worlds,
+};
+pub use error::{LineKind, ReportError};
+pub use item::{Item, Ratio};
+pub use laws::{
+    due_lines_are_answers, faults_are_single, texts_determine_answers, written_lines_are_lines,
+};
+pub use part::Part;
