@@ -7,7 +7,9 @@ use Rattle.ps_io.proofs.WordLemmas.{length-with_word}
 use Rattle.ps_steps.specs.Constraints.{Constraint}
 use Rattle.ps_steps.specs.Steps.{Step}
 use Rattle.ps_steps.specs.Weights.{Weighted, weighted, size_sum}
-use Rattle.ps_log.specs.Texts.{with_number, with_numbers, hint_numbers, term_numbers, step_line, goal_line, IsId, IsLiteral, IsStepWithin, IsGoalWithin}
+use Rattle.ps_log.specs.Texts.{with_number, with_numbers, hint_numbers, term_numbers, step_line, goal_line}
+use Rattle.ps_log.specs.Limits.{IsId, IsStepWithin, IsGoalWithin}
+use Rattle.ps_pb.specs.Limits.{IsLiteral}
 use Rattle.ps_log.proofs.ManyNumbers.{with_id, with_lits, with_middle, with_hints, step_parts, with_degree, with_terms, goal_parts}
 
 first_of : {X : Type 0} (P : X → Type 0) (x : X) (xs : List X) → All P (x ∷ xs) → P x

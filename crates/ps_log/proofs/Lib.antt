@@ -9,3 +9,4 @@ pub mod StepAnswers
 pub mod StepLines
 pub mod StepShapes
 pub mod Telling
+pub mod Within

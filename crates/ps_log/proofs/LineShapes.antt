@@ -22,7 +22,8 @@ use Rattle.ps_steps.specs.Weights.{weighted, are_rising}
 use Rattle.ps_log.specs.GoalTexts.{IsGoalText}
 use Rattle.ps_log.specs.Spellings.{IsPlain, Spells, SpellAll}
 use Rattle.ps_log.specs.StepTexts.{words_of, IsStepText}
-use Rattle.ps_log.specs.Texts.{hint_numbers, term_numbers, step_numbers, goal_numbers, step_line, goal_line, IsStepWithin, IsGoalWithin}
+use Rattle.ps_log.specs.Texts.{hint_numbers, term_numbers, step_numbers, goal_numbers, step_line, goal_line}
+use Rattle.ps_log.specs.Limits.{IsStepWithin, IsGoalWithin}
 use Rattle.ps_log.specs.Told.{is_plain, is_number, number_of, numbers_after, before_zero, after_zero, but_last, step_from, terms_from, goal_from, are_goal_terms, step_with, goal_with, step_of, goal_of}
 use Rattle.ps_log.proofs.Parts.{same_byte}
 use Rattle.ps_log.proofs.Reading.{goal_small}

@@ -9,7 +9,9 @@ use Rattle.ps_io.specs.LineText.{with_word}
 use Rattle.ps_steps.specs.Weights.{Weighted, weighted, size_sum}
 use Rattle.ps_steps.specs.Constraints.{Constraint}
 use Rattle.ps_steps.specs.Steps.{Step}
-use Rattle.ps_log.specs.Texts.{with_number, with_numbers, hint_numbers, term_numbers, step_numbers, goal_numbers, step_line, goal_line, IsId, IsLiteral, IsStepWithin, IsGoalWithin}
+use Rattle.ps_log.specs.Texts.{with_number, with_numbers, hint_numbers, term_numbers, step_numbers, goal_numbers, step_line, goal_line}
+use Rattle.ps_log.specs.Limits.{IsId, IsStepWithin, IsGoalWithin}
+use Rattle.ps_pb.specs.Limits.{IsLiteral}
 use Rattle.ps_log.proofs.Parts.{Lacks, Lacks-append}
 
 -- digits are neither spaces nor line feeds

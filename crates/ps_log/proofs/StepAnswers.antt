@@ -10,7 +10,8 @@ use Rattle.std.proofs.lemmas.List.Elements.{All-cons, All-nil}
 use Rattle.std.proofs.lemmas.List.Folds.{list_all-append}
 use Rattle.std.proofs.lemmas.List.Splits.{join_with_byte-slice_split}
 use Rattle.ps_steps.specs.Steps.{Step}
-use Rattle.ps_log.specs.Texts.{with_numbers, step_numbers, step_line, IsStepWithin}
+use Rattle.ps_log.specs.Texts.{with_numbers, step_numbers, step_line}
+use Rattle.ps_log.specs.Limits.{IsStepWithin}
 use Rattle.ps_log.specs.Spellings.{Spells, SpellAll}
 use Rattle.ps_log.specs.StepTexts.{words_of, IsStepText, is_step_byte, IsOneLine, IsFirstLine, FirstLine, HasBadByte, IsNoStepText, HasStep, IsRefused, IsAnswer, Gives, IsLineAnswer}
 use Rattle.ps_log.specs.Numbers.{capped, AreNumbersOf, AreRead, AreParts, HasParts, HasNumbers, IsStepOf}

@@ -4,7 +4,9 @@ use Rattle.std.proofs.lemmas.Int.{ints}
 use Rattle.std.proofs.lemmas.List.{append_cancel_right, map-append}
 use Rattle.std.proofs.lemmas.List.Elements.{All-cons, All-nil}
 use Rattle.ps_steps.specs.Steps.{Step}
-use Rattle.ps_log.specs.Texts.{step_numbers, hint_numbers, IsId, IsLiteral, IsStepWithin}
+use Rattle.ps_log.specs.Texts.{step_numbers, hint_numbers}
+use Rattle.ps_log.specs.Limits.{IsId, IsStepWithin}
+use Rattle.ps_pb.specs.Limits.{IsLiteral}
 use Rattle.ps_log.specs.Numbers.{capped_size, capped, AreParts, HasParts, HasNumbers}
 
 abbrev pub Nonzero : ℤ → Type 0

@@ -1,4 +1,5 @@
 pub mod GoalTexts
+pub mod Limits
 pub mod Lines
 pub mod Logs
 pub mod Numbers

@@ -4,7 +4,9 @@ use Rattle.std.specs.Str.Parse.{digits_value}
 use Rattle.ps_log.specs.Spellings.{IsPlain, IsDecimal, Spells, SpellAll}
 use Rattle.ps_log.specs.StepTexts.{words_of}
 use Rattle.ps_steps.specs.Steps.{Step}
-use Rattle.ps_log.specs.Texts.{IsId, IsLiteral, IsStepWithin, hint_numbers}
+use Rattle.ps_log.specs.Texts.{hint_numbers}
+use Rattle.ps_log.specs.Limits.{most_hints, IsId, IsStepWithin}
+use Rattle.ps_pb.specs.Limits.{most_variables, IsLiteral}
 use Rattle.ps_log.specs.declared.step_error.StepError.{StepError}
 use Rattle.ps_log.specs.declared.step_error.StepError.TheVariants.{Truncated, BadByte, NotCanonical, TooLarge, NoMemory}
 
@@ -78,20 +80,20 @@ pub record HasParts (numbers : List ℤ) : Type 0 where
 
 -- literals that are these numbers
 abbrev pub AreLits : List ℤ → Result (List ℤ) StepError → Type 0
-AreLits numbers (Ok lits) = (lits ≡ numbers) × All IsLiteral lits × (length lits ≤ 1024)
+AreLits numbers (Ok lits) = (lits ≡ numbers) × All IsLiteral lits × (length lits ≤ most_variables)
 AreLits numbers (Err Truncated) = ⊥
 AreLits numbers (Err BadByte) = ⊥
 AreLits numbers (Err NotCanonical) = ⊥
-AreLits numbers (Err TooLarge) = All IsLiteral numbers → length numbers ≤ 1024 → ⊥
+AreLits numbers (Err TooLarge) = All IsLiteral numbers → length numbers ≤ most_variables → ⊥
 AreLits numbers (Err NoMemory) = ⊤
 
 -- hints that are these numbers
 abbrev pub AreHints : List ℤ → Result (List ℕ) StepError → Type 0
-AreHints numbers (Ok hints) = (hint_numbers hints ≡ numbers) × All IsId hints × (length hints ≤ 1025)
+AreHints numbers (Ok hints) = (hint_numbers hints ≡ numbers) × All IsId hints × (length hints ≤ most_hints)
 AreHints numbers (Err Truncated) = ⊥
 AreHints numbers (Err BadByte) = ⊥
 AreHints numbers (Err NotCanonical) = ⊥
-AreHints numbers (Err TooLarge) = (hints : List ℕ) → hint_numbers hints ≡ numbers → All IsId hints → length hints ≤ 1025 → ⊥
+AreHints numbers (Err TooLarge) = (hints : List ℕ) → hint_numbers hints ≡ numbers → All IsId hints → length hints ≤ most_hints → ⊥
 AreHints numbers (Err NoMemory) = ⊤
 
 -- an id that is this number

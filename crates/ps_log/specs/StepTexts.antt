@@ -3,7 +3,8 @@ use Rattle.std.specs.Prelude.{ℕ, ◌+◌, ◌==◌, ◌≡◌, ◌≢◌, ◌�
 use Rattle.std.specs.List.{slice_split, list_all}
 use Rattle.std.specs.Char.{digit_value}
 use Rattle.ps_steps.specs.Steps.{Step}
-use Rattle.ps_log.specs.Texts.{step_numbers, step_line, IsStepWithin}
+use Rattle.ps_log.specs.Texts.{step_numbers, step_line}
+use Rattle.ps_log.specs.Limits.{IsStepWithin}
 use Rattle.ps_log.specs.Spellings.{SpellAll}
 use Rattle.ps_log.specs.declared.step_error.StepError.{StepError}
 use Rattle.ps_log.specs.declared.step_error.StepError.TheVariants.{Truncated, BadByte, NotCanonical, TooLarge, NoMemory}

@@ -1,10 +1,10 @@
 -- The texts of goals and steps.
-use Rattle.std.specs.Prelude.{ℕ, ◌≤◌, ◌^◌, ℤ, pos, List, [], ◌∷◌, ◌++◌, All, fold, length, flat_map, unsigned_abs}
+use Rattle.std.specs.Prelude.{ℕ, ℤ, pos, List, [], ◌∷◌, ◌++◌, fold, flat_map}
 use Rattle.std.specs.Fmt.{signed_decimal}
 use Rattle.ps_io.specs.LineText.{with_word}
 use Rattle.ps_steps.specs.Constraints.{Constraint}
 use Rattle.ps_steps.specs.Steps.{Step}
-use Rattle.ps_steps.specs.Weights.{Weighted, weighted, IsNormal}
+use Rattle.ps_steps.specs.Weights.{Weighted, weighted}
 
 -- a line with one more number
 abbrev pub with_number : List ℕ → ℤ → List ℕ
@@ -37,25 +37,3 @@ goal_numbers degree terms = degree ∷ term_numbers terms ++ pos 0 ∷ []
 -- a goal's line: `g` and its numbers
 unfoldable pub goal_line : Constraint → List ℕ
 goal_line goal = with_numbers (103 ∷ []) (goal_numbers goal.degree (weighted goal.terms))
-
--- a number that names a constraint is within its limit
-abbrev pub IsId : ℕ → Type 0
-IsId id = (1 ≤ id) × (id ≤ 2 ^ 41)
-
--- a literal is within its limit
-abbrev pub IsLiteral : ℤ → Type 0
-IsLiteral l = (1 ≤ unsigned_abs l) × (unsigned_abs l ≤ 1024)
-
--- a step is within the limits
-pub record IsStepWithin (s : Step) : Type 0 where
-  pub id : IsId s.id
-  pub lits : All IsLiteral s.lits
-  pub hints : All IsId s.hints
-  pub few_lits : length s.lits ≤ 1024
-  pub few_hints : length s.hints ≤ 1025
-
--- a goal is within the limits
-pub record IsGoalWithin (goal : Constraint) : Type 0 where
-  pub normal : IsNormal (weighted goal.terms) goal.degree
-  pub lits : All (λ t. IsLiteral t.0) (weighted goal.terms)
-  pub few : length goal.terms ≤ 1024

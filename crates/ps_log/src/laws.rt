@@ -4,7 +4,8 @@ ghost use Rattle.ps_steps.specs.Constraints.{Constraint};
 ghost use Rattle.ps_steps.specs.Steps.{Step};
 ghost use Rattle.ps_log.specs.GoalTexts.{IsGoalText};
 ghost use Rattle.ps_log.specs.StepTexts.{IsStepText};
-ghost use Rattle.ps_log.specs.Texts.{IsGoalWithin, goal_line};
+ghost use Rattle.ps_log.specs.Texts.{goal_line};
+ghost use Rattle.ps_log.specs.Limits.{IsGoalWithin};
 ghost use Rattle.ps_log.specs.Told.{Proof, EndWith, step_of, goal_of, proof_of, whole_lines};
 
 /// A line is read as a step exactly where it is that step's text, and as a goal exactly where it is that goal's text; no line

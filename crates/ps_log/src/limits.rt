@@ -1,32 +1,45 @@
 //! The limits of goals and steps.
 ghost use Rattle.std.specs.Prelude.{◌↔◌, ◌<◌, All, length, IsTrue};
-ghost use Rattle.ps_log.specs.Texts.{IsId, IsLiteral, IsGoalWithin, IsStepWithin, goal_line, step_line};
+ghost use Rattle.ps_pb.specs.Limits.{IsLiteral};
+ghost use Rattle.ps_log.specs.Limits.{IsId, IsGoalWithin, IsStepWithin};
+ghost use Rattle.ps_log.specs.Texts.{goal_line, step_line};
 
-use ps_pb::{Constraint, Lit, Step};
+use ps_pb::{Constraint, Lit, MOST_VARIABLES, Step};
 
-const MOST_IDS: u64 = 1 << 41;
+/// The greatest number that names a constraint.
+pub const MOST_IDS: u64 = 1 << 41;
 
-/// Whether a step is within the limits: id and hints from 1 to 2^41, at most 1,024 literals and 1,025 hints. The line of such a
-/// step is shorter than 65,536 bytes.
+/// So many terms, or literals, a goal or a step has at most.
+pub const MOST_LITS: usize = MOST_VARIABLES as usize;
+
+/// So many hints a step has at most.
+pub const MOST_HINTS: usize = MOST_LITS + 1;
+
+/// Whether a step is within the limits: id and hints from 1 to 2^41, at most 1,024 literals and
+/// 1,025 hints. The line of such a step is shorter than 65,536 bytes.
 #[tactic(auto, using(crate::proofs::Lengths::step_is_short))]
 pub fn is_step_within(s: &Step) -> bool
     ensures within { IsTrue result ↔ IsStepWithin s.now }
+    ensures literals { All IsLiteral s.now.lits }
     ensures short { IsStepWithin s.now → length (step_line s.now) < 65536 }
 {
-    s.lits.len() <= 1024
-        && s.hints.len() <= 1025
+    are_literals(s.lits.as_slice())
+        && s.lits.len() <= MOST_LITS
+        && s.hints.len() <= MOST_HINTS
         && is_id(&s.id)
-        && are_literals(s.lits.as_slice())
         && are_ids(s.hints.as_slice())
 }
 
-/// Whether a goal is within the limits: at most 1,024 terms. The line of such a goal is shorter than 65,536 bytes.
+/// Whether a goal is within the limits: at most 1,024 terms. Each constraint is, since its variables
+/// rise up to 1,024. The line of such a goal is shorter than 65,536 bytes.
 #[tactic(auto, using(crate::proofs::Lengths::goal_is_short))]
 pub fn is_goal_within(goal: &Constraint) -> bool
-    ensures within { IsTrue result ↔ IsGoalWithin goal.now }
-    ensures short { IsGoalWithin goal.now → length (goal_line goal.now) < 65536 }
+    ensures always { IsTrue result }
+    ensures within { IsGoalWithin goal.now }
+    ensures short { length (goal_line goal.now) < 65536 }
 {
-    goal.terms().len() <= 1024 && have_literals(goal.terms().as_slice())
+    let terms = goal.terms().as_slice();
+    have_literals(terms) && terms.len() <= MOST_LITS
 }
 
 fn is_id(id: &u64) -> bool
@@ -36,9 +49,10 @@ fn is_id(id: &u64) -> bool
 }
 
 fn is_literal(lit: &Lit) -> bool
-    ensures { IsTrue result ↔ IsLiteral lit.now }
+    ensures always { IsTrue result }
+    ensures within { IsLiteral lit.now }
 {
-    1 <= lit.variable() && lit.variable() <= 1024
+    1 <= lit.variable() && lit.variable() <= MOST_VARIABLES
 }
 
 fn are_ids(ids: &[u64]) -> bool
@@ -48,13 +62,25 @@ fn are_ids(ids: &[u64]) -> bool
 }
 
 fn are_literals(lits: &[Lit]) -> bool
-    ensures { IsTrue result ↔ All IsLiteral lits.now }
+    ensures always { IsTrue result }
+    ensures within { All IsLiteral lits.now }
 {
-    lits.iter().all(|lit| is_literal(lit))
+    for lit in lits {
+        if !is_literal(lit) {
+            return false;
+        }
+    }
+    true
 }
 
 fn have_literals(terms: &[(Lit, i128)]) -> bool
-    ensures { IsTrue result ↔ All (λ t. IsLiteral t.0) terms.now }
+    ensures always { IsTrue result }
+    ensures within { All (λ t. IsLiteral t.0) terms.now }
 {
-    terms.iter().all(|term| is_literal(&term.0))
+    for term in terms {
+        if !is_literal(&term.0) {
+            return false;
+        }
+    }
+    true
 }

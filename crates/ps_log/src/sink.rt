@@ -4,7 +4,7 @@ ghost use Rattle.std.specs.Borrow.{GName};
 ghost use Rattle.ps_steps.specs.Constraints.{Constraint as Linear};
 ghost use Rattle.ps_steps.specs.Steps.{Step as StepValue};
 ghost use Rattle.ps_log.specs.Logs.{Starts, Grows, Stays, HasCause};
-ghost use Rattle.ps_log.specs.Texts.{IsGoalWithin, IsStepWithin};
+ghost use Rattle.ps_log.specs.Limits.{IsGoalWithin, IsStepWithin};
 
 use crate::error::LogError;
 use ps_pb::{Constraint, Step};

@@ -1,18 +1,17 @@
 //! The parts of a step among its numbers.
 ghost use Rattle.std.specs.Prelude.{◌≡◌, ◌≤◌, ◌≤ℤ◌, ◌↔◌, ◌++◌, ◌∷◌, [], All, IsTrue, IfSome, IfNone, IsSome, ℤ, List as Numbers, pos, unsigned_abs};
-ghost use Rattle.ps_log.specs.Texts.{IsLiteral};
+ghost use Rattle.ps_pb.specs.Limits.{IsLiteral};
 ghost use Rattle.ps_log.specs.Numbers.{AreParts, HasParts, AreLits, AreHints, IsIdOf, IsStepOf};
 
+use crate::limits::{MOST_HINTS, MOST_IDS, MOST_LITS};
 use crate::step_error::StepError;
 use ps_io::List;
-use ps_pb::{Hints, Lit, Lits, Step};
+use ps_pb::{Hints, Lit, Lits, MOST_VARIABLES, Step};
 use std::alloc::Global;
 
-const MOST_LITS: usize = 1024;
+const MOST_ID: i64 = MOST_IDS as i64;
 
-const MOST_HINTS: usize = 1025;
-
-const MOST_IDS: i64 = 1 << 41;
+const MOST_LITERAL: i64 = MOST_VARIABLES as i64;
 
 /// The numbers of a step in its parts.
 #[derive(Clone, Copy)]
@@ -89,7 +88,7 @@ fn are_counts(numbers: &[i64]) -> bool
 fn id(number: &i64) -> Option<u64>
     ensures { IsIdOf number.now result }
 {
-    if *number < 1 || MOST_IDS < *number {
+    if *number < 1 || MOST_ID < *number {
         return None;
     }
     Some(*number as u64)
@@ -99,7 +98,7 @@ fn lit(number: &i64) -> Option<Lit>
     ensures value { IfSome result (λ lit. lit ≡ number.now) }
     ensures exact { IsSome result ↔ IsLiteral number.now }
 {
-    if *number < -1024 || 1024 < *number {
+    if *number < -MOST_LITERAL || MOST_LITERAL < *number {
         return None;
     }
     Lit::new(*number as i32)

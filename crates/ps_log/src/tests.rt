@@ -1,6 +1,6 @@
 ghost use Rattle.std.specs.Prelude.{◌≡◌, ◌≤◌, [], IsTrue, OnOk, IfErr};
 ghost use Rattle.ps_log.specs.Logs.{HasCause};
-ghost use Rattle.ps_log.specs.Texts.{IsGoalWithin, IsStepWithin};
+ghost use Rattle.ps_log.specs.Limits.{IsGoalWithin, IsStepWithin};
 
 use crate::{
     HeldLog, LogError, ProofSink, TextLog, is_goal_within, is_step_within, write_goal, write_step,

@@ -44,7 +44,8 @@ impl<O: Sink> ProofSink for TextLog<'_, O> {
     ghost use Rattle.std.specs.Prelude.{◌≤◌, ◌∷◌, OnOk, OnErr, IfErr, IsTrue, IsErrOf};
     ghost use Rattle.ps_io.specs.Wrote.{Wrote};
     ghost use Rattle.ps_log.specs.Logs.{Starts, Grows, Stays, HasCause};
-    ghost use Rattle.ps_log.specs.Texts.{goal_line, step_line, IsGoalWithin, IsStepWithin};
+    ghost use Rattle.ps_log.specs.Texts.{goal_line, step_line};
+    ghost use Rattle.ps_log.specs.Limits.{IsGoalWithin, IsStepWithin};
     ghost use Rattle.ps_log.specs.TextLogs.{lines_of, reference_of, faults_of, is_unbroken, is_telling, goal_told, steps_told};
 
     ghost tells = { λ log. is_telling log };

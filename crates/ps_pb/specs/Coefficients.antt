@@ -1,10 +1,24 @@
 -- The coefficients of variables, by place.
-use Rattle.std.specs.Prelude.{◌≡◌, ◌<◌, ◌≤◌, ◌^◌, ℕ, ℤ, pos, ◌≤ℤ◌, unsigned_abs, List, length, slice_index_or}
-use Rattle.ps_steps.specs.Weights.{Weighted, coefficient_at, last_variable, sum_below}
+use Rattle.std.specs.Prelude.{◌≡◌, ◌+◌, ◌<◌, ◌≤◌, ◌^◌, ℕ, ℤ, pos, ◌+ℤ◌, ◌≤ℤ◌, unsigned_abs, List, length, slice_index_or, slice_set}
+use Rattle.ps_steps.specs.Assignments.{place}
+use Rattle.ps_steps.specs.Weights.{Weighted, coefficient_at, variable_part, last_variable, sum_below, terms_below, weighted}
+use Rattle.ps_pb.specs.Limits.{most_weight}
 
 -- the number at a place, or 0 past the end
 abbrev pub number_at : List ℤ → ℕ → ℤ
 number_at sums p = slice_index_or sums p (pos 0)
+
+-- the numbers with one more weighted literal
+abbrev pub with_weight : List ℤ → (ℤ × ℤ) → List ℤ
+with_weight sums t = slice_set sums (place t.0) (number_at sums (place t.0) +ℤ variable_part t)
+
+-- a weight and the number at its place sum to less than 2^127
+abbrev pub HasRoomFor : List ℤ → (ℤ × ℤ) → Type 0
+HasRoomFor sums t = unsigned_abs (number_at sums (place t.0)) + unsigned_abs t.1 < 2 ^ 127
+
+-- the terms of the variables that have these coefficients
+abbrev pub terms_of_numbers : List ℤ → Weighted
+terms_of_numbers sums = weighted (terms_below (length sums) (number_at sums))
 
 -- the numbers are the coefficients of a weighted sum
 pub record AreCoefficients (ts : Weighted) (sums : List ℤ) : Type 0 where
@@ -13,4 +27,4 @@ pub record AreCoefficients (ts : Weighted) (sums : List ℤ) : Type 0 where
 
 -- the sizes of the first numbers, however many, sum to at most 2^125
 pub record AreSmall (sums : List ℤ) : Type 0 where
-  pub below : (n : ℕ) → n ≤ length sums → sum_below n (λ p. pos (unsigned_abs (number_at sums p))) ≤ℤ pos (2 ^ 125)
+  pub below : (n : ℕ) → n ≤ length sums → sum_below n (λ p. pos (unsigned_abs (number_at sums p))) ≤ℤ pos most_weight

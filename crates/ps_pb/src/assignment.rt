@@ -1,6 +1,7 @@
 //! Partial assignments.
 ghost use Rattle.std.specs.Prelude.{◌≡◌, ℕ, length, IfOk};
-ghost use Rattle.ps_steps.specs.Assignments.{place, value_of, value_at, with_true, with_false, without, all_unset};
+ghost use Rattle.ps_steps.specs.Assignments.{place, value_of, value_at, all_unset};
+ghost use Rattle.ps_steps.specs.Assignments.{with_true, with_false, without};
 
 use crate::lit::Lit;
 use ps_io::NoMemory;
@@ -27,6 +28,13 @@ impl Assignment {
         ensures { IfOk result (λ a. a ≡ all_unset variables) }
     {
         let values = vec![in alloc; None; variables as usize]?;
+        Ok(Assignment { values })
+    }
+
+    pub fn copy(&self, alloc: Global) -> Result<Assignment, NoMemory>
+        ensures { IfOk result (λ a. a ≡ self.now) }
+    {
+        let values = Vec::from_slice(alloc, self.values.as_slice())?;
         Ok(Assignment { values })
     }
 

@@ -1,6 +1,9 @@
 //! Pseudo-Boolean constraints.
-ghost use Rattle.std.specs.Prelude.{◌≡◌, ◌≤◌, ◌+◌, ◌^◌, ◌↔◌, pos, ◌≤ℤ◌, All, IsTrue, IsSome, IfSome, IfOk, unsigned_abs};
+ghost use Rattle.std.specs.Prelude.{◌≡◌, ◌≤◌, ◌+◌, ◌↔◌, pos, ◌≤ℤ◌, All, unsigned_abs};
+ghost use Rattle.std.specs.Prelude.{IsTrue, IsSome, IfSome, IfOk};
 ghost use Rattle.ps_steps.specs.Weights.{are_rising, size_sum, weighted, terms_of, IsNormal};
+ghost use Rattle.ps_pb.specs.Limits.{most_size};
+ghost use Rattle.ps_pb.specs.Weighing.{linear};
 
 use crate::lit::Lit;
 use crate::terms::Terms;
@@ -8,8 +11,8 @@ use ps_io::NoMemory;
 use std::alloc::Global;
 use std::marker::Model;
 
-/// The coefficients of the true literals sum to at least the degree. Coefficients are at least 1, variables rise, and the
-/// coefficients and the size of the degree sum to at most 2^126.
+/// The coefficients of the true literals sum to at least the degree. Coefficients are at least 1,
+/// variables rise, and the coefficients and the size of the degree sum to at most 2^126.
 #[derive(Drop)]
 pub struct Constraint {
     terms: Terms,
@@ -28,9 +31,10 @@ impl Model for Constraint {
 }
 
 impl Constraint {
-    /// `None` exactly where a coefficient is below 1, the variables don't rise, or the sum passes 2^126.
+    /// `None` exactly where a coefficient is below 1, the variables don't rise, or the sum passes
+    /// 2^126.
     pub fn new(terms: Terms, degree: i128) -> Option<Constraint>
-        ensures value { IfSome result (λ c. c ≡ record { terms = terms_of terms; degree = degree }) }
+        ensures value { IfSome result (λ c. c ≡ linear terms degree) }
         ensures exact { IsSome result ↔ IsNormal terms degree }
     {
         if is_normal(terms.as_slice(), &degree) {
@@ -43,7 +47,7 @@ impl Constraint {
     /// The constraint of terms that are known to be in the form in which they are kept.
     pub fn of_normal(terms: Terms, degree: i128) -> Constraint
         requires { IsNormal terms degree }
-        ensures { result ≡ record { terms = terms_of terms; degree = degree } }
+        ensures { result ≡ linear terms degree }
     {
         Constraint { terms, degree }
     }
@@ -59,7 +63,7 @@ impl Constraint {
 
     pub fn degree(&self) -> i128
         ensures value { result ≡ self.now.degree }
-        ensures within { unsigned_abs result ≤ 2 ^ 126 }
+        ensures within { unsigned_abs result ≤ most_size }
     {
         self.degree
     }
@@ -101,17 +105,18 @@ fn are_rising(terms: &[(Lit, i128)]) -> bool
     true
 }
 
-const MOST: u128 = 1 << 126;
+// What the coefficients and the size of the degree sum to at most.
+const MOST_SIZE: u128 = 1 << 126;
 
 fn are_narrow(terms: &[(Lit, i128)], degree: &i128) -> bool
-    ensures { IsTrue result ↔ (size_sum terms.now + unsigned_abs degree.now ≤ 2 ^ 126) }
+    ensures { IsTrue result ↔ (size_sum terms.now + unsigned_abs degree.now ≤ most_size) }
 {
     let mut sum = degree.unsigned_abs();
     for term in terms {
-        if MOST < sum {
+        if MOST_SIZE < sum {
             return false;
         }
         sum += term.1.unsigned_abs();
     }
-    sum <= MOST
+    sum <= MOST_SIZE
 }

@@ -11,8 +11,8 @@ mod weights;
 
 pub use assignment::Assignment;
 pub use constraint::Constraint;
-pub use lit::Lit;
-pub use propagation::{Effect, forces, propagate, slack};
+pub use lit::{Lit, MOST_VARIABLES};
+pub use propagation::{Effect, forces, is_forced, propagate, slack};
 pub use step::{Hints, Lits, Step, Steps};
 pub use terms::{Terms, WeightedLits};
 pub use weights::{clause, from_weights};

@@ -1,24 +1,31 @@
 //! A variable, or its opposite.
-ghost use Rattle.std.specs.Prelude.{◌≡◌, ◌≤◌, ◌<◌, ◌+◌, ℕ, ℤ, pos, IfSome, IsSome, ◌↔◌, unsigned_abs, neg_ℤ};
+ghost use Rattle.std.specs.Prelude.{◌≡◌, ◌≤◌, ◌<◌, ◌↔◌, IfSome, IsSome, unsigned_abs, neg_ℤ};
 ghost use Rattle.ps_steps.specs.Assignments.{place, is_positive, literal_at};
+ghost use Rattle.ps_pb.specs.Limits.{IsLiteral, most_variables};
 
 use std::marker::Model;
 
-/// A nonzero number of size at most 1,024. Its size is the number of a variable; a positive one says that the variable is
-/// true, a negative one that it is false.
+/// The variables are numbered from 1 up to this.
+pub const MOST_VARIABLES: u32 = 1024;
+
+const MOST: i32 = MOST_VARIABLES as i32;
+
+/// A nonzero number of size at most 1,024. Its size is the number of a variable; a positive one
+/// says that the variable is true, a negative one that it is false.
 #[derive(Clone, Copy, Debug, PartialEq, Eq)]
 pub struct Lit {
     number: i32,
 }
 
 impl Model for Lit {
-    ghost use Rattle.std.specs.Prelude.{◌≤◌, ℤ, unsigned_abs};
+    ghost use Rattle.std.specs.Prelude.{ℤ};
+    ghost use Rattle.ps_pb.specs.Limits.{IsLiteral};
 
     ghost Value = { ℤ };
 
     ghost view = { λ l. l.number };
 
-    ghost invariant = { λ l. (1 ≤ unsigned_abs l.number) × (unsigned_abs l.number ≤ 1024) };
+    ghost invariant = { λ l. IsLiteral l.number };
 
     ghost inverse = { λ z. record { number = z } };
 }
@@ -37,9 +44,9 @@ impl Lit {
     /// `None` exactly where the number is 0 or of size above 1,024.
     pub fn new(n: i32) -> Option<Lit>
         ensures value { IfSome result (λ lit. lit ≡ n) }
-        ensures exact { IsSome result ↔ ((1 ≤ unsigned_abs n) × (unsigned_abs n ≤ 1024)) }
+        ensures exact { IsSome result ↔ IsLiteral n }
     {
-        if n == 0 || n < -1024 || 1024 < n {
+        if n == 0 || n < -MOST || MOST < n {
             return None;
         }
         Some(Lit { number: n })
@@ -47,7 +54,7 @@ impl Lit {
 
     /// The literal of the variable at a place, from 0 on.
     pub fn of_place(place: usize, positive: bool) -> Lit
-        requires { place < 1024 }
+        requires { place < most_variables }
         ensures { result ≡ literal_at place positive }
     {
         let number = place as i32 + 1;
@@ -58,7 +65,7 @@ impl Lit {
 
     pub fn number(&self) -> i32
         ensures value { result ≡ self.now }
-        ensures within { (1 ≤ unsigned_abs result) × (unsigned_abs result ≤ 1024) }
+        ensures within { IsLiteral result }
     {
         self.number
     }
@@ -66,7 +73,7 @@ impl Lit {
     /// The number of its variable, from 1 to 1,024.
     pub fn variable(&self) -> u32
         ensures value { result ≡ unsigned_abs self.now }
-        ensures within { (1 ≤ result) × (result ≤ 1024) }
+        ensures within { (1 ≤ result) × (result ≤ most_variables) }
     {
         self.number.unsigned_abs()
     }
@@ -82,7 +89,7 @@ impl Lit {
     /// The place of its variable in an assignment, from 0 on.
     pub fn place(&self) -> usize
         ensures value { result ≡ place self.now }
-        ensures within { result < 1024 }
+        ensures within { result < most_variables }
     {
         self.number.unsigned_abs() as usize - 1
     }

@@ -1,6 +1,7 @@
 //! The slack of a constraint under an assignment, and what it forces.
-ghost use Rattle.std.specs.Prelude.{◌≡◌, ◌<◌, ◌≤◌, ◌^◌, ◌↔◌, pos, ◌≤ℤ◌, ◌<ℤ◌, All, IsTrue, if◌then◌else◌};
-ghost use Rattle.ps_steps.specs.Constraints.{slack, is_open, is_forced, some_forced, with_forced, Forces};
+ghost use Rattle.std.specs.Prelude.{◌≡◌, ◌↔◌, pos, ◌≤ℤ◌, ◌<ℤ◌, All, IsTrue, if◌then◌else◌};
+ghost use Rattle.ps_steps.specs.Constraints.{slack, is_open, is_forced, Forces};
+ghost use Rattle.ps_steps.specs.Constraints.{some_forced, with_forced};
 ghost use Rattle.ps_steps.specs.Weights.{term_of, terms_of};
 ghost use Rattle.ps_pb.specs.Effects.{Propagates};
 
@@ -28,12 +29,13 @@ fn open_part(a: &Assignment, term: &(Lit, i128)) -> i128
     }
 }
 
-fn is_forced(a: &Assignment, term: &(Lit, i128), slack: &i128) -> bool
+/// Whether a term is forced under this slack: its literal is unset, and its coefficient is greater.
+pub fn is_forced(a: &Assignment, term: &(Lit, i128), slack: i128) -> bool
     requires { pos 1 ≤ℤ term.now.1 }
-    ensures { result ≡ is_forced slack.now a.now (term_of term.now) }
+    ensures { result ≡ is_forced slack a.now (term_of term.now) }
 {
     match a.value_of(term.0) {
-        None => *slack < term.1,
+        None => slack < term.1,
         Some(_) => false,
     }
 }
@@ -43,7 +45,7 @@ fn some_forced(terms: &[(Lit, i128)], a: &Assignment, slack: &i128) -> bool
     ensures { result ≡ some_forced slack.now a.now (terms_of terms.now) }
 {
     for term in terms {
-        if is_forced(a, term, slack) {
+        if is_forced(a, term, *slack) {
             return true;
         }
     }
@@ -55,13 +57,14 @@ fn set_forced(terms: &[(Lit, i128)], a: &mut Assignment, slack: &i128)
     ensures { a.new ≡ with_forced slack.now (terms_of terms.now) a.old }
 {
     for term in terms {
-        if is_forced(a, term, slack) {
+        if is_forced(a, term, *slack) {
             a.set(term.0);
         }
     }
 }
 
-/// Whether the literal is a term of the constraint, unset, with a coefficient greater than the slack.
+/// Whether the literal is a term of the constraint, unset, with a coefficient greater than the
+/// slack.
 pub fn forces(c: &Constraint, a: &Assignment, lit: Lit) -> bool
     ensures { IsTrue result ↔ Forces c.now a.now lit }
 {

@@ -9,7 +9,8 @@ pub type Hints = List<u64>;
 
 pub type Steps = List<Step>;
 
-/// A clause under its id, and the ids of the constraints from which it follows, in the order in which they are used.
+/// A clause under its id, and the ids of the constraints from which it follows, in the order in
+/// which they are used.
 #[derive(Drop)]
 pub struct Step {
     pub id: u64,

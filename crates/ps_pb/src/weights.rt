@@ -1,9 +1,14 @@
 //! The constraint that bounds a sum of weighted literals from below.
-ghost use Rattle.std.specs.Prelude.{◌≡◌, ◌<◌, ◌≤◌, ◌+◌, ◌^◌, ◌↔◌, [], ◌++◌, ℤ, pos, ◌+ℤ◌, ◌≤ℤ◌, Bool, List, length, IfOk, OnOk, replicate, slice_set, unsigned_abs};
+ghost use Rattle.std.specs.Prelude.{◌≡◌, ◌<◌, ◌≤◌, ◌+◌, ◌++◌, pos, length, IfOk, OnOk};
+ghost use Rattle.std.specs.Prelude.{replicate, unsigned_abs};
 ghost use Rattle.ps_steps.specs.Assignments.{place};
-ghost use Rattle.ps_steps.specs.Constraints.{IsMet};
-ghost use Rattle.ps_steps.specs.Weights.{true_weight, size_sum, constant_part, constant_of, variable_part, term_at, turned, terms_below, sum_below, last_variable, constraint_of, clause_of, weighted};
-ghost use Rattle.ps_pb.specs.Coefficients.{number_at, AreCoefficients, AreSmall};
+ghost use Rattle.ps_steps.specs.Weights.{size_sum, constant_part, constant_of, term_at, turned};
+ghost use Rattle.ps_steps.specs.Weights.{sum_below, last_variable, weighted};
+ghost use Rattle.ps_steps.specs.Weights.{constraint_of, clause_of};
+ghost use Rattle.ps_pb.specs.Limits.{most_variables, most_weight, most_size};
+ghost use Rattle.ps_pb.specs.Weighing.{IsBound};
+ghost use Rattle.ps_pb.specs.Coefficients.{number_at, with_weight, HasRoomFor, terms_of_numbers};
+ghost use Rattle.ps_pb.specs.Coefficients.{AreCoefficients, AreSmall};
 
 use crate::constraint::Constraint;
 use crate::lit::Lit;
@@ -11,16 +16,17 @@ use crate::terms::Terms;
 use ps_io::NoMemory;
 use std::alloc::Global;
 
-/// The constraint that is met by exactly the full assignments whose true literals weigh at least `least`: like variables
-/// added, zero coefficients dropped, and a negative coefficient turned into a positive one on the opposite literal.
+/// The constraint that is met by exactly the full assignments whose true literals weigh at least
+/// `least`: like variables added, zero coefficients dropped, and a negative coefficient turned into
+/// a positive one on the opposite literal.
 pub fn from_weights(
     alloc: Global,
     weights: &[(Lit, i128)],
     least: i128,
 ) -> Result<Constraint, NoMemory>
-    requires { size_sum weights.now + unsigned_abs least ≤ 2 ^ 125 }
+    requires { size_sum weights.now + unsigned_abs least ≤ most_weight }
     ensures value { IfOk result (λ c. c ≡ constraint_of weights.now least) }
-    ensures met { IfOk result (λ c. (w : List Bool) → IsMet w c ↔ (least ≤ℤ true_weight w weights.now)) }
+    ensures met { IfOk result (IsBound weights.now least) }
 {
     let sums = coefficients(alloc, weights)?;
     let terms = terms_of_coefficients(alloc, &sums)?;
@@ -41,7 +47,7 @@ pub fn clause(alloc: Global, lits: &[Lit]) -> Result<Constraint, NoMemory>
 
 fn last_variable(weights: &[(Lit, i128)]) -> u32
     ensures value { result ≡ last_variable weights.now }
-    ensures within { result ≤ 1024 }
+    ensures within { result ≤ most_variables }
 {
     let mut last = 0;
     for weight in weights {
@@ -54,9 +60,9 @@ fn last_variable(weights: &[(Lit, i128)]) -> u32
 }
 
 fn coefficients(alloc: Global, weights: &[(Lit, i128)]) -> Result<Vec<i128>, NoMemory>
-    requires { size_sum weights.now ≤ 2 ^ 125 }
+    requires { size_sum weights.now ≤ most_weight }
     ensures sums { IfOk result (λ sums. AreCoefficients weights.now sums.items) }
-    ensures within { IfOk result (λ sums. length sums.items ≤ 1024) }
+    ensures within { IfOk result (λ sums. length sums.items ≤ most_variables) }
 {
     let mut sums = vec![in alloc; 0i128; last_variable(weights) as usize]?;
     add_weights(&mut sums, weights);
@@ -64,7 +70,7 @@ fn coefficients(alloc: Global, weights: &[(Lit, i128)]) -> Result<Vec<i128>, NoM
 }
 
 fn add_weights(sums: &mut [i128], weights: &[(Lit, i128)])
-    requires size { size_sum weights.now ≤ 2 ^ 125 }
+    requires size { size_sum weights.now ≤ most_weight }
     requires zero { sums.old ≡ replicate (last_variable weights.now) (pos 0) }
     ensures { AreCoefficients weights.now sums.new }
 {
@@ -75,8 +81,8 @@ fn add_weights(sums: &mut [i128], weights: &[(Lit, i128)])
 
 fn add_weight(sums: &mut [i128], weight: &(Lit, i128))
     requires place { place weight.now.0 < length sums.old }
-    requires sizes { unsigned_abs (number_at sums.old (place weight.now.0)) + unsigned_abs weight.now.1 < 2 ^ 127 }
-    ensures { sums.new ≡ slice_set sums.old (place weight.now.0) (number_at sums.old (place weight.now.0) +ℤ variable_part weight.now) }
+    requires room { HasRoomFor sums.old weight.now }
+    ensures { sums.new ≡ with_weight sums.old weight.now }
 {
     let place = weight.0.place();
     if weight.0.is_positive() {
@@ -87,7 +93,7 @@ fn add_weight(sums: &mut [i128], weight: &(Lit, i128))
 }
 
 fn constant(weights: &[(Lit, i128)]) -> i128
-    requires { size_sum weights.now ≤ 2 ^ 125 }
+    requires { size_sum weights.now ≤ most_weight }
     ensures { result ≡ constant_of weights.now }
 {
     let mut sum = 0;
@@ -115,16 +121,16 @@ fn turned(sums: &[i128]) -> i128
 }
 
 fn turned_part(coefficient: &i128) -> i128
-    requires { unsigned_abs coefficient.now ≤ 2 ^ 126 }
+    requires { unsigned_abs coefficient.now ≤ most_size }
     ensures { result ≡ turned coefficient.now }
 {
     if *coefficient < 0 { -*coefficient } else { 0 }
 }
 
 fn terms_of_coefficients(alloc: Global, sums: &[i128]) -> Result<Terms, NoMemory>
-    requires places { length sums.now ≤ 1024 }
+    requires places { length sums.now ≤ most_variables }
     requires small { AreSmall sums.now }
-    ensures { IfOk result (λ terms. terms ≡ weighted (terms_below (length sums.now) (number_at sums.now))) }
+    ensures { IfOk result (λ terms. terms ≡ terms_of_numbers sums.now) }
 {
     let mut terms = Terms::new(alloc);
     for place in 0..sums.len() {
@@ -134,8 +140,8 @@ fn terms_of_coefficients(alloc: Global, sums: &[i128]) -> Result<Terms, NoMemory
 }
 
 fn push_term(terms: &mut Terms, place: usize, coefficient: &i128) -> Result<(), NoMemory>
-    requires places { place < 1024 }
-    requires size { unsigned_abs coefficient.now ≤ 2 ^ 126 }
+    requires places { place < most_variables }
+    requires size { unsigned_abs coefficient.now ≤ most_size }
     ensures { OnOk result (terms.new ≡ terms.old ++ weighted (term_at place coefficient.now)) }
 {
     if 0 < *coefficient {

@@ -1,5 +1,5 @@
 use Rattle.std.proofs.Common.{◌≡◌, All, take}
-use Rattle.ps_log.specs.Texts.{IsLiteral}
+use Rattle.ps_pb.specs.Limits.{IsLiteral}
 use Rattle.ps_log.proofs.step_parts.lits.Given as goal
 
 abbrev pub invariant-loop-number : goal.invariant-loop-number
