@@ -39,7 +39,7 @@ lt-of a b h = grind (arith, ints)
 abbrev pub next_forced : ℤ → Assignment → (ℤ × ℕ) → Assignment
 next_forced s a t = cond (is_forced s a t) (with_true a t.0) a
 
-next-includes : (s : ℤ) (a : Assignment) (t : ℤ × ℕ) → Includes (next_forced s a t) a
+pub next-includes : (s : ℤ) (a : Assignment) (t : ℤ × ℕ) → Includes (next_forced s a t) a
 next-includes s a t = elim (cases_Bool (is_forced s a t)) [
   | inl e ↦ rw e (with_true-includes a t.0 (and_parts (is_unset (value_of a t.0)) (int_lt s (pos t.1)) e).0)
   | inr e ↦ rw e (includes-refl a)

@@ -5,3 +5,11 @@ pub mod Linear
 pub mod Lawful
 pub mod Bounds
 pub mod Places
+pub mod Setting
+pub mod Covering
+pub mod Ids
+pub mod Onward
+pub mod Full
+pub mod Within
+pub mod Clauses
+pub mod Short

@@ -1,5 +1,5 @@
 -- Literals, as whole numbers that aren't 0, and the truth values of their variables.
-use Rattle.std.specs.Prelude.{ℕ, zero, suc, ◌-◌, ℤ, pos, negsuc, Bool, true, false, cond, not, Option, Some, None, List, unsigned_abs, slice_index_or, slice_set, replicate}
+use Rattle.std.specs.Prelude.{ℕ, zero, suc, ◌-◌, ◌<◌, ◌≤◌, ◌≡◌, ◌≢◌, ℤ, pos, negsuc, Bool, true, false, cond, not, Option, Some, None, List, length, map, unsigned_abs, slice_index_or, slice_set, replicate, AllPairs}
 
 -- the place of a literal's variable in an assignment: that of variable n is n - 1
 abbrev pub place : ℤ → ℕ
@@ -63,3 +63,23 @@ with_false a l = slice_set a (place l) (Some (not (is_positive l)))
 unfoldable pub without : Assignment → ℕ → Assignment
 without a zero = a
 without a (suc p) = slice_set a p None
+
+-- each variable has the value of a full assignment
+abbrev pub full : List Bool → Assignment
+full w = map Some w
+
+-- the values of the variables, false where there is none
+abbrev pub value_or_false : Option Bool → Bool
+value_or_false None = false
+value_or_false (Some b) = b
+
+abbrev pub values_of : Assignment → List Bool
+values_of a = map value_or_false a
+
+-- each variable has a value
+pub record IsComplete (a : Assignment) : Type 0 where
+  pub at : (var : ℕ) → 0 < var → var ≤ length a → is_unset (value_at a var) ≡ false
+
+-- no two of the literals are of one variable
+abbrev pub AreDifferent : List ℤ → Type 0
+AreDifferent lits = AllPairs (λ l m. place l ≢ place m) lits

@@ -53,3 +53,7 @@ some_forced s a (t ∷ ts) = if is_forced s a t then true else some_forced s a t
 abbrev pub with_forced : ℤ → List (ℤ × ℕ) → Assignment → Assignment
 with_forced s [] a = a
 with_forced s (t ∷ ts) a = with_forced s ts (if is_forced s a t then with_true a t.0 else a)
+
+-- the constraint's literals that are false in the first assignment are false in the second: it says no less of them
+pub record Covers (c : Constraint) (a b : Assignment) : Type 0 where
+  pub at : (l : ℤ) (k : ℕ) → HasTerm l k c.terms → is_open b l ≡ true → is_open a l ≡ true

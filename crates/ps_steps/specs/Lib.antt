@@ -1,4 +1,7 @@
+-- Meaning
 pub mod Assignments
 pub mod Constraints
 pub mod Weights
 pub mod Steps
+-- Laws
+pub mod Laws

@@ -1,8 +1,8 @@
 -- The steps of a refutation, and when one is lawful.
-use Rattle.std.specs.Prelude.{ℕ, zero, suc, ◌+◌, ◌==◌, nat_lt, ◌≡◌, ℤ, Bool, true, false, ◌&&◌, if◌then◌else◌, Option, Some, None, List, [], ◌∷◌, ◌++◌, length, slice_index_or, fold}
+use Rattle.std.specs.Prelude.{ℕ, zero, suc, ◌+◌, ◌==◌, nat_lt, ◌≡◌, ℤ, Bool, true, false, ◌&&◌, if◌then◌else◌, Option, Some, None, List, [], ◌∷◌, ◌++◌, length, map, slice_index_or, fold}
 use Rattle.ps_steps.specs.Assignments.{Assignment, place, value_of, with_false, is_unset, all_unset}
 use Rattle.ps_steps.specs.Constraints.{Constraint, IsMet, slack, is_violated, some_forced, with_forced}
-use Rattle.ps_steps.specs.Weights.{clause_of}
+use Rattle.ps_steps.specs.Weights.{clause_of, IsWithin}
 
 -- the constraints that are known, by id from 1 on, with none where one stands no longer
 abbrev pub Known : Type 0
@@ -14,6 +14,14 @@ constraint_at known (suc i) = slice_index_or known i None
 
 abbrev pub next_id : Known → ℕ
 next_id known = length known + 1
+
+-- each constraint stands under its place plus 1
+abbrev pub known_of : List Constraint → Known
+known_of cs = map Some cs
+
+-- the literals of each known constraint are of these variables
+pub record AreWithin (variables : ℕ) (known : Known) : Type 0 where
+  pub at : (id : ℕ) (c : Constraint) → constraint_at known id ≡ Some c → IsWithin variables c
 
 -- a step: the literals of a clause, under an id, and the ids of the constraints from which it follows by propagation
 pub record Step : Type 0 where
@@ -96,6 +104,10 @@ added s = clause_of (lits_of s)
 abbrev pub with_step : Known → Step → Known
 with_step known s = known ++ Some (added s) ∷ []
 
+-- the known constraints after a list of lawful steps
+abbrev pub with_steps : Known → List Step → Known
+with_steps known ss = fold with_step known ss
+
 -- whether a step adds a constraint that nothing meets: a clause without literals
 abbrev pub is_contradiction : Step → Bool
 is_contradiction s = length (lits_of s) == 0
@@ -104,6 +116,15 @@ is_contradiction s = length (lits_of s) == 0
 abbrev pub AreLawful : ℕ → Known → List Step → Type 0
 AreLawful variables known [] = Unit {0}
 AreLawful variables known (s ∷ ss) = IsLawful variables known s × AreLawful variables (with_step known s) ss
+
+-- the id of the first step that isn't lawful after those before it, and why it isn't
+abbrev pub or_later : ℕ → Option Refusal → Option (ℕ × Refusal) → Option (ℕ × Refusal)
+or_later id None later = later
+or_later id (Some why) later = Some (id, why)
+
+abbrev pub first_refusal : ℕ → Known → List Step → Option (ℕ × Refusal)
+first_refusal variables known [] = None
+first_refusal variables known (s ∷ ss) = or_later (id_of s) (refusal_of variables known s) (first_refusal variables (with_step known s) ss)
 
 abbrev pub ends_in_contradiction : List Step → Bool
 ends_in_contradiction [] = false

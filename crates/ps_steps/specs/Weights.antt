@@ -1,5 +1,5 @@
 -- Sums of weighted literals, the constraint that bounds one from below, and clauses.
-use Rattle.std.specs.Prelude.{ℕ, zero, suc, ◌+◌, ◌≡◌, ◌≤◌, ◌^◌, ◌==◌, nat_lt, max, ℤ, pos, negsuc, ◌+ℤ◌, ◌-ℤ◌, neg_ℤ, ◌≤ℤ◌, Bool, true, ◌&&◌, if◌then◌else◌, List, [], ◌∷◌, ◌++◌, map, All, unsigned_abs}
+use Rattle.std.specs.Prelude.{ℕ, zero, suc, ◌+◌, ◌≡◌, ◌≤◌, ◌<◌, ◌^◌, ◌==◌, nat_lt, max, ℤ, pos, negsuc, ◌+ℤ◌, ◌-ℤ◌, neg_ℤ, ◌≤ℤ◌, Bool, true, ◌&&◌, if◌then◌else◌, List, [], ◌∷◌, ◌++◌, map, All, unsigned_abs}
 use Rattle.ps_steps.specs.Assignments.{place, is_positive, holds}
 use Rattle.ps_steps.specs.Constraints.{Constraint}
 
@@ -80,6 +80,15 @@ clause_of lits = constraint_of (each_once lits) (pos 1)
 -- terms as weighted literals
 abbrev pub weighted : List (ℤ × ℕ) → Weighted
 weighted ts = map (λ t. (t.0, pos t.1)) ts
+
+-- the literals of a constraint are of these variables
+abbrev pub IsWithin : ℕ → Constraint → Type 0
+IsWithin variables c = All (λ t. place t.0 < variables) (weighted c.terms)
+
+-- at least one literal is true: the degree and each coefficient are 1
+pub record IsPlain (c : Constraint) : Type 0 where
+  pub degree : c.degree ≡ pos 1
+  pub coefficients : All (λ t. t.1 ≡ 1) c.terms
 
 -- weighted literals as terms
 abbrev pub term_of : (ℤ × ℤ) → ℤ × ℕ

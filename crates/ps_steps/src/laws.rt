@@ -1,23 +1,67 @@
 //! Laws about the definitions: a call does nothing, and its clauses are the law.
-ghost use Rattle.std.specs.Prelude.{◌≡◌, ℕ, ℤ, ◌≤ℤ◌, Bool, true, List, ◌↔◌};
-ghost use Rattle.std.specs.List.{list_any};
-ghost use Rattle.ps_steps.specs.Assignments.{holds};
-ghost use Rattle.ps_steps.specs.Constraints.{IsMet};
-ghost use Rattle.ps_steps.specs.Weights.{Weighted, true_weight, each_once, constraint_of, clause_of};
-ghost use Rattle.ps_steps.specs.Steps.{Known, Step, AreMet, IsLawful, Refutes, Entails, added, with_step, is_contradiction};
+ghost use Rattle.ps_steps.specs.Laws.{WeightsAreBounded, ClausesNeedOne, ClausesArePlain};
+ghost use Rattle.ps_steps.specs.Laws.{SlackCountsOpen, ConstraintsStayWithin, CompleteAreFull};
+ghost use Rattle.ps_steps.specs.Laws.{FullKeepValues, FullMeetOrViolate, SlackFalls, ViolatedStay};
+ghost use Rattle.ps_steps.specs.Laws.{ForcedStay, ForcedAreSet, StepsFollow, StepsAreEntailed};
+ghost use Rattle.ps_steps.specs.Laws.{ContradictionsAreUnmet, RefutedAreUnmet, OneMoreIsLawful};
+ghost use Rattle.ps_steps.specs.Laws.{OneMoreIsKnown, OneMoreEnds, NoneIsRefused, OneMoreIsRefused};
+ghost use Rattle.ps_steps.specs.Laws.{RefusalsStay, LiteralsDiffer, StepsStayWithin, StepsAreShort};
 
-/// A full assignment that meets the known constraints meets what each lawful step adds. Nothing meets what a contradiction
-/// adds, so after a lawful contradiction no full assignment meets the known constraints.
+/// A full assignment that meets the known constraints meets what each lawful step adds. Nothing
+/// meets what a contradiction adds, so after a lawful contradiction no full assignment meets the
+/// known constraints.
 pub fn lawful_steps_follow()
-    ensures step { (w : List Bool) (variables : ℕ) (known : Known) (s : Step) → AreMet w known → IsLawful variables known s → IsMet w (added s) }
-    ensures entailed { (variables : ℕ) (known : Known) (s : Step) → IsLawful variables known s → Entails known (with_step known s) }
-    ensures contradiction { (w : List Bool) (s : Step) → is_contradiction s ≡ true → ¬ IsMet w (added s) }
-    ensures refuted { (w : List Bool) (variables : ℕ) (known : Known) (steps : List Step) → Refutes variables known steps → ¬ AreMet w known }
+    ensures step { StepsFollow }
+    ensures entailed { StepsAreEntailed }
+    ensures contradiction { ContradictionsAreUnmet }
+    ensures refuted { RefutedAreUnmet }
 {}
 
-/// The constraint of weighted literals is met by exactly the full assignments whose true literals weigh at least so much, and
-/// a clause by those in which a literal is true.
+/// The constraint of weighted literals is met by exactly the full assignments whose true literals
+/// weigh at least so much, and a clause by those in which a literal is true. It is of the literals'
+/// variables.
 pub fn weights_are_bounded()
-    ensures weights { (w : List Bool) (ts : Weighted) (least : ℤ) → IsMet w (constraint_of ts least) ↔ (least ≤ℤ true_weight w ts) }
-    ensures clause { (w : List Bool) (lits : List ℤ) → IsMet w (clause_of lits) ↔ (list_any (holds w) lits ≡ true) }
+    ensures weights { WeightsAreBounded }
+    ensures clause { ClausesNeedOne }
+    ensures within { ConstraintsStayWithin }
+{}
+
+/// In a clause of different variables each literal counts 1, and 1 is asked for.
+pub fn clauses_count_literals()
+    ensures plain { ClausesArePlain }
+    ensures slack { SlackCountsOpen }
+{}
+
+/// A full assignment meets a constraint or violates it, and is the partial one of its values.
+pub fn full_assignments_decide()
+    ensures decided { FullMeetOrViolate }
+    ensures complete { CompleteAreFull }
+    ensures values { FullKeepValues }
+{}
+
+/// With more false literals the slack is less; what is violated stays so, and what is forced stays
+/// forced, unless the constraint is violated or the literal true.
+pub fn propagation_is_monotone()
+    ensures slack { SlackFalls }
+    ensures violated { ViolatedStay }
+    ensures forced { ForcedStay }
+    ensures set { ForcedAreSet }
+{}
+
+/// What holds of a list of steps, told of the list without its last step and of that step.
+pub fn one_more_step()
+    ensures lawful { OneMoreIsLawful }
+    ensures known { OneMoreIsKnown }
+    ensures contradiction { OneMoreEnds }
+    ensures none { NoneIsRefused }
+    ensures refused { OneMoreIsRefused }
+    ensures earlier { RefusalsStay }
+{}
+
+/// A lawful step over known constraints of some variables is of different ones of these, and has at
+/// most as many literals and hints as there are variables, and 1.
+pub fn lawful_steps_are_short()
+    ensures different { LiteralsDiffer }
+    ensures within { StepsStayWithin }
+    ensures short { StepsAreShort }
 {}

@@ -3,4 +3,7 @@
 
 mod laws;
 
-pub use laws::{lawful_steps_follow, weights_are_bounded};
+pub use laws::{
+    clauses_count_literals, full_assignments_decide, lawful_steps_are_short, lawful_steps_follow,
+    one_more_step, propagation_is_monotone, weights_are_bounded,
+};

@@ -1,5 +1,6 @@
 use Rattle.ps_steps.proofs.Linear.{met-weight, weight-met}
 use Rattle.ps_steps.proofs.Lawful.{clause-met, met-clause}
+use Rattle.ps_steps.proofs.Within.{constraint-within}
 use Rattle.ps_steps.proofs.laws.weights_are_bounded.Goals as goal
 
 pub returns-clause-weights : goal.returns-clause-weights
@@ -7,3 +8,6 @@ returns-clause-weights c = λ w ts least. (met-weight w ts least, weight-met w t
 
 pub returns-clause-clause : goal.returns-clause-clause
 returns-clause-clause c = λ w lits. (met-clause w lits, clause-met w lits)
+
+pub returns-clause-within : goal.returns-clause-within
+returns-clause-within c = constraint-within
