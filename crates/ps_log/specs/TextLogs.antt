@@ -1,12 +1,13 @@
 -- What contracts see of a log that writes lines.
-use Rattle.std.specs.Prelude.{ℕ, List, Bool, not, is_some, Option}
+use Rattle.std.specs.Prelude.{ℕ, List, [], ◌∷◌, Bool, not, Result}
 use Rattle.std.specs.Borrow.{GName}
 use Rattle.ps_io.specs.Lines.{sink_of, name_of}
 use Rattle.ps_io.specs.declared.lines.Lines.{Lines}
 use Rattle.ps_io.specs.declared.sink.Sink.{Ghosts}
-use Rattle.ps_steps.specs.Constraints.{Constraint}
-use Rattle.ps_steps.specs.Steps.{Step}
-use Rattle.ps_log.specs.Told.{proof_if, goal_in, steps_in}
+use Rattle.ps_io.specs.Wrote.{Wrote}
+use Rattle.ps_log.specs.Logs.{Telling}
+use Rattle.ps_log.specs.Told.{told_in}
+use Rattle.ps_log.specs.declared.error.LogError.{LogError}
 use Rattle.ps_log.specs.declared.text_log.TextLog.{TextLog}
 
 module _ {O : Type 0} {sink : Ghosts O} where
@@ -26,14 +27,10 @@ module _ {O : Type 0} {sink : Ghosts O} where
   abbrev pub faults_of : TextLog O sink → ℕ
   faults_of log = sink.faults (sink_of log.lines)
 
-  -- whether it tells what it wrote
-  abbrev pub is_telling : TextLog O sink → Bool
-  is_telling log = is_some (sink.written (sink_of log.lines))
+  -- the goal and the steps that its bytes tell
+  abbrev pub told_by : TextLog O sink → Telling
+  told_by log = told_in (sink.written (sink_of log.lines))
 
-  -- the goal that its bytes tell
-  abbrev pub goal_told : TextLog O sink → Option Constraint
-  goal_told log = goal_in (proof_if (sink.written (sink_of log.lines)))
-
-  -- the steps that its bytes tell
-  abbrev pub steps_told : TextLog O sink → Option (List Step)
-  steps_told log = steps_in (proof_if (sink.written (sink_of log.lines)))
+  -- one line was written, or a proper prefix of it where the count of faults rose
+  abbrev pub WroteLine : TextLog O sink → TextLog O sink → Result (Unit {0}) LogError → List ℕ → Type 0
+  WroteLine old new result line = Wrote sink.written sink.faults old.lines new.lines result (line ∷ [])

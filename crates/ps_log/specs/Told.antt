@@ -1,5 +1,5 @@
 -- What bytes tell of a goal and of the steps after it.
-use Rattle.std.specs.Prelude.{ℕ, ◌-◌, ◌==◌, ◌≡◌, nat_lt, ℤ, pos, neg_ℤ, unsigned_abs, List, [], ◌∷◌, ◌++◌, map, length, take, fold, slice_index, Bool, true, false, not, Option, Some, None, if◌then◌else◌, ◌&&◌, ◌||◌}
+use Rattle.std.specs.Prelude.{ℕ, ◌-◌, ◌==◌, ◌≡◌, nat_lt, ℤ, pos, neg_ℤ, unsigned_abs, List, [], ◌∷◌, ◌++◌, map, length, take, fold, slice_index, Bool, true, false, not, Option, Some, None, is_some, if◌then◌else◌, ◌&&◌, ◌||◌}
 use Rattle.std.specs.Char.{digit_value}
 use Rattle.std.specs.Cmp.Lexicographic.{pointwise}
 use Rattle.std.specs.List.{list_all}
@@ -9,6 +9,7 @@ use Rattle.std.specs.Str.Parse.{digits_value}
 use Rattle.ps_steps.specs.Constraints.{Constraint}
 use Rattle.ps_steps.specs.Steps.{Step}
 use Rattle.ps_steps.specs.Weights.{weighted, are_rising}
+use Rattle.ps_log.specs.Logs.{Telling}
 use Rattle.ps_log.specs.StepTexts.{words_of}
 use Rattle.ps_log.specs.Texts.{step_numbers, goal_numbers}
 
@@ -139,6 +140,10 @@ goal_in (Some p) = Some p.goal
 abbrev pub steps_in : Option Proof → Option (List Step)
 steps_in None = None
 steps_in (Some p) = Some p.steps
+
+-- what known bytes tell
+abbrev pub told_in : Option (List ℕ) → Telling
+told_in bytes = record { tells = is_some bytes; goal = goal_in (proof_if bytes); steps = steps_in (proof_if bytes) }
 
 -- known bytes are none, or end with a line feed
 abbrev pub ends_whole : Option (List ℕ) → Bool

@@ -48,11 +48,7 @@ impl HeldLog {
 }
 
 impl ProofSink for HeldLog {
-    ghost tells = { λ _. true };
-
-    ghost goal = { λ l. l.goal };
-
-    ghost steps = { λ l. Some l.steps };
+    ghost told = { λ l. record { tells = true; goal = l.goal; steps = Some l.steps } };
 
     ghost faults = { λ _. 0 };
 

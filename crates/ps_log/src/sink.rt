@@ -1,9 +1,7 @@
 //! Where goals and steps are handed over.
-ghost use Rattle.std.specs.Prelude.{◌≡◌, ◌≤◌, ◌∷◌, [], ℕ, List, Option, OnOk, OnErr, IfErr, IsTrue, Bool, IsErrOf};
+ghost use Rattle.std.specs.Prelude.{◌≡◌, ◌≤◌, ◌∷◌, [], ℕ, List, Bool, IsTrue, OnOk, OnErr, IfErr};
 ghost use Rattle.std.specs.Borrow.{GName};
-ghost use Rattle.ps_steps.specs.Constraints.{Constraint as Linear};
-ghost use Rattle.ps_steps.specs.Steps.{Step as StepValue};
-ghost use Rattle.ps_log.specs.Logs.{Starts, Grows, Stays, HasCause};
+ghost use Rattle.ps_log.specs.Logs.{Telling, Starts, Grows, Stays, HasCause, OnNoMemory};
 ghost use Rattle.ps_log.specs.Limits.{IsGoalWithin, IsStepWithin};
 
 use crate::error::LogError;
@@ -11,14 +9,8 @@ use ps_pb::{Constraint, Step};
 
 /// A log of refutations: a goal, and the steps that refute it.
 pub trait ProofSink {
-    /// Whether it tells its goal and its steps.
-    ghost tells: { Self → Bool };
-
-    /// The goal of the last begin.
-    ghost goal: { Self → Option Linear };
-
-    /// The steps since the last begin.
-    ghost steps: { Self → Option (List StepValue) };
+    /// What it tells: the goal of the last begin, and the steps since.
+    ghost told: { Self → Telling };
 
     /// How often a write has failed. It never falls.
     ghost faults: { Self → ℕ };
@@ -36,12 +28,12 @@ pub trait ProofSink {
     fn begin(&mut self, constraint: &Constraint) -> Result<(), LogError>
         requires whole { IsTrue (is_whole self.old) }
         requires within { IsGoalWithin constraint.now }
-        ensures ok { OnOk result (Starts (tells self.old) (tells self.new) (goal self.new) (steps self.new) constraint.now) }
+        ensures ok { OnOk result (Starts (told self.old) (told self.new) constraint.now) }
         ensures whole { OnOk result (IsTrue (is_whole self.new)) }
-        ensures err { OnErr result (Stays (tells self.old) (goal self.old) (steps self.old) (tells self.new) (goal self.new) (steps self.new)) }
+        ensures err { OnErr result (Stays (told self.old) (told self.new)) }
         ensures later { faults self.old ≤ faults self.new }
         ensures cause { IfErr result (λ e. HasCause e (faults self.old) (faults self.new)) }
-        ensures no_memory { IsErrOf result LogError.NoMemory → IsTrue (takes_memory self.old) × IsTrue (is_whole self.new) }
+        ensures no_memory { OnNoMemory result (takes_memory self.old) (is_whole self.new) }
         ensures same_kind { takes_memory self.new ≡ takes_memory self.old }
         ensures same_references { names self.new ≡ names self.old };
 
@@ -49,12 +41,12 @@ pub trait ProofSink {
     fn step(&mut self, step: &Step) -> Result<(), LogError>
         requires whole { IsTrue (is_whole self.old) }
         requires within { IsStepWithin step.now }
-        ensures ok { OnOk result (Grows (tells self.old) (goal self.old) (steps self.old) (tells self.new) (goal self.new) (steps self.new) (step.now ∷ [])) }
+        ensures ok { OnOk result (Grows (told self.old) (told self.new) (step.now ∷ [])) }
         ensures whole { OnOk result (IsTrue (is_whole self.new)) }
-        ensures err { OnErr result (Stays (tells self.old) (goal self.old) (steps self.old) (tells self.new) (goal self.new) (steps self.new)) }
+        ensures err { OnErr result (Stays (told self.old) (told self.new)) }
         ensures later { faults self.old ≤ faults self.new }
         ensures cause { IfErr result (λ e. HasCause e (faults self.old) (faults self.new)) }
-        ensures no_memory { IsErrOf result LogError.NoMemory → IsTrue (takes_memory self.old) × IsTrue (is_whole self.new) }
+        ensures no_memory { OnNoMemory result (takes_memory self.old) (is_whole self.new) }
         ensures same_kind { takes_memory self.new ≡ takes_memory self.old }
         ensures same_references { names self.new ≡ names self.old };
 

@@ -9,8 +9,8 @@ use crate::text::{write_goal, write_step};
 use ps_io::{Lines, Sink};
 use ps_pb::{Constraint, Step};
 
-/// Writes goals and steps and keeps none. What it tells is what the written bytes tell: the last whole goal line, and the
-/// step lines after it.
+/// Writes goals and steps and keeps none. What it tells is what the written bytes tell: the last
+/// whole goal line, and the step lines after it.
 #[derive(Drop)]
 pub struct TextLog<'s, O: Sink> {
     lines: Lines<'s, O>,
@@ -24,7 +24,8 @@ impl<'s, O: Sink> TextLog<'s, O> {
     ghost use Rattle.ps_io.specs.Lines.{name_of};
     ghost use Rattle.ps_log.specs.TextLogs.{lines_of, reference_of, is_unbroken};
 
-    /// A log that has written nothing yet. What the sink has already taken must be nothing or whole lines.
+    /// A log that has written nothing yet. What the sink has already taken must be nothing or whole
+    /// lines.
     pub fn new(lines: Lines<'s, O>) -> TextLog<'s, O>
         requires empty { text_of lines ≡ [] }
         requires unmarked { is_commented lines ≡ false }
@@ -41,18 +42,13 @@ impl<'s, O: Sink> TextLog<'s, O> {
 }
 
 impl<O: Sink> ProofSink for TextLog<'_, O> {
-    ghost use Rattle.std.specs.Prelude.{◌≤◌, ◌∷◌, OnOk, OnErr, IfErr, IsTrue, IsErrOf};
-    ghost use Rattle.ps_io.specs.Wrote.{Wrote};
-    ghost use Rattle.ps_log.specs.Logs.{Starts, Grows, Stays, HasCause};
+    ghost use Rattle.std.specs.Prelude.{◌≤◌, ◌∷◌, OnOk, OnErr, IfErr, IsTrue};
+    ghost use Rattle.ps_log.specs.Logs.{Starts, Grows, Stays, HasCause, OnNoMemory};
     ghost use Rattle.ps_log.specs.Texts.{goal_line, step_line};
     ghost use Rattle.ps_log.specs.Limits.{IsGoalWithin, IsStepWithin};
-    ghost use Rattle.ps_log.specs.TextLogs.{lines_of, reference_of, faults_of, is_unbroken, is_telling, goal_told, steps_told};
+    ghost use Rattle.ps_log.specs.TextLogs.{WroteLine, reference_of, faults_of, is_unbroken, told_by};
 
-    ghost tells = { λ log. is_telling log };
-
-    ghost goal = { λ log. goal_told log };
-
-    ghost steps = { λ log. steps_told log };
+    ghost told = { λ log. told_by log };
 
     ghost faults = { λ log. faults_of log };
 
@@ -66,16 +62,16 @@ impl<O: Sink> ProofSink for TextLog<'_, O> {
     fn begin(&mut self, constraint: &Constraint) -> Result<(), LogError>
         requires whole { IsTrue (is_unbroken self.old) }
         requires within { IsGoalWithin constraint.now }
-        ensures ok { OnOk result (Starts (is_telling self.old) (is_telling self.new) (goal_told self.new) (steps_told self.new) constraint.now) }
+        ensures ok { OnOk result (Starts (told_by self.old) (told_by self.new) constraint.now) }
         ensures whole { OnOk result (IsTrue (is_unbroken self.new)) }
-        ensures err { OnErr result (Stays (is_telling self.old) (goal_told self.old) (steps_told self.old) (is_telling self.new) (goal_told self.new) (steps_told self.new)) }
+        ensures err { OnErr result (Stays (told_by self.old) (told_by self.new)) }
         ensures later { faults_of self.old ≤ faults_of self.new }
         ensures cause { IfErr result (λ e. HasCause e (faults_of self.old) (faults_of self.new)) }
-        ensures no_memory { IsErrOf result LogError.NoMemory → IsTrue false × IsTrue (is_unbroken self.new) }
+        ensures no_memory { OnNoMemory result false (is_unbroken self.new) }
         ensures only_fault { OnErr result (result ≡ Err LogError.Fault) }
         ensures broken { OnErr result (is_unbroken self.new ≡ false) }
         ensures same_references { reference_of self.new ≡ reference_of self.old }
-        ensures written { Wrote O.written O.faults (lines_of self.old) (lines_of self.new) result (goal_line constraint.now ∷ []) }
+        ensures written { WroteLine self.old self.new result (goal_line constraint.now) }
     {
         match write_goal(&mut self.lines, constraint) {
             Ok(()) => Ok(()),
@@ -90,16 +86,16 @@ impl<O: Sink> ProofSink for TextLog<'_, O> {
     fn step(&mut self, step: &Step) -> Result<(), LogError>
         requires whole { IsTrue (is_unbroken self.old) }
         requires within { IsStepWithin step.now }
-        ensures ok { OnOk result (Grows (is_telling self.old) (goal_told self.old) (steps_told self.old) (is_telling self.new) (goal_told self.new) (steps_told self.new) (step.now ∷ [])) }
+        ensures ok { OnOk result (Grows (told_by self.old) (told_by self.new) (step.now ∷ [])) }
         ensures whole { OnOk result (IsTrue (is_unbroken self.new)) }
-        ensures err { OnErr result (Stays (is_telling self.old) (goal_told self.old) (steps_told self.old) (is_telling self.new) (goal_told self.new) (steps_told self.new)) }
+        ensures err { OnErr result (Stays (told_by self.old) (told_by self.new)) }
         ensures later { faults_of self.old ≤ faults_of self.new }
         ensures cause { IfErr result (λ e. HasCause e (faults_of self.old) (faults_of self.new)) }
-        ensures no_memory { IsErrOf result LogError.NoMemory → IsTrue false × IsTrue (is_unbroken self.new) }
+        ensures no_memory { OnNoMemory result false (is_unbroken self.new) }
         ensures only_fault { OnErr result (result ≡ Err LogError.Fault) }
         ensures broken { OnErr result (is_unbroken self.new ≡ false) }
         ensures same_references { reference_of self.new ≡ reference_of self.old }
-        ensures written { Wrote O.written O.faults (lines_of self.old) (lines_of self.new) result (step_line step.now ∷ []) }
+        ensures written { WroteLine self.old self.new result (step_line step.now) }
     {
         match write_step(&mut self.lines, step) {
             Ok(()) => Ok(()),
