@@ -3,13 +3,8 @@ use Rattle.std.proofs.Common.{zero, suc, get_or, drop, ◌∷◌, [], ◌∙◌,
 use Rattle.std.specs.List.{flat_map}
 use Rattle.std.proofs.lemmas.List.{take-append-le}
 use Rattle.std.proofs.Math.Seq.{take-append-add}
-use Rattle.ps_io.specs.Causes.{Rose}
 use Rattle.ps_io.specs.Transfer.{Appends, AppendsPrefix}
 use Rattle.ps_io.proofs.Bytes.{appends-then}
-
--- a count that rose after it had not fallen
-pub rose-later : (a b c : ℕ) → a ≤ b → Rose b c → Rose a c
-rose-later a b c h r = omega (arith, h, r)
 
 -- a proper prefix of the first bytes is one of all
 pub prefix-more : (a b : Option (List ℕ)) (xs ys : List ℕ) → AppendsPrefix a b xs → AppendsPrefix a b (xs ++ ys)

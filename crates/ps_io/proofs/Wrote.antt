@@ -8,10 +8,11 @@ use Rattle.std.proofs.lemmas.Grind.{flat_map-append}
 use Rattle.ps_io.specs.declared.lines.Lines.{Lines}
 use Rattle.ps_io.specs.LineText.{lines_bytes}
 use Rattle.ps_io.specs.Lines.{text_of, is_commented, sink_of}
+use Rattle.ps_io.specs.Causes.{next_count}
 use Rattle.ps_io.specs.Transfer.{Appends, AppendsPrefix}
 use Rattle.ps_io.specs.Wrote.{Wrote}
 use Rattle.ps_io.proofs.Bytes.{appends-then}
-use Rattle.ps_io.proofs.CallerLemmas.{rose-later, prefix-more, prefix-after, flat_map-at}
+use Rattle.ps_io.proofs.CallerLemmas.{prefix-more, prefix-after, flat_map-at}
 
 append_known-nil : (a : Option (List ℕ)) → a ≡ append_known a []
 append_known-nil None = refl
@@ -39,8 +40,7 @@ module _ {O E : Type 0} (written : O → Option (List ℕ)) (faults : O → ℕ)
     same_mark = refl;
     empty = empty;
     ok = append_known-nil (written (sink_of a));
-    later = omega arith;
-    fault = tt;
+    counted = record { later = omega arith; ok = refl; err = tt };
     prefix = tt;
   }
 
@@ -51,8 +51,7 @@ module _ {O E : Type 0} (written : O → Option (List ℕ)) (faults : O → ℕ)
     same_mark = q.same_mark ∙ p.same_mark;
     empty = q.empty;
     ok = lines_append (is_commented a) (is_commented b) (written (sink_of a)) (written (sink_of b)) (written (sink_of c)) xs ys p.same_mark p.ok q.ok;
-    later = omega (arith, p.later, q.later);
-    fault = tt;
+    counted = record { later = omega (arith, p.counted.later, q.counted.later); ok = q.counted.ok ∙ p.counted.ok; err = tt };
     prefix = tt;
   }
   wrote-then a b c (Err e) xs ys p q = record {
@@ -60,8 +59,7 @@ module _ {O E : Type 0} (written : O → Option (List ℕ)) (faults : O → ℕ)
     same_mark = q.same_mark ∙ p.same_mark;
     empty = q.empty;
     ok = tt;
-    later = omega (arith, p.later, q.later);
-    fault = rose-later (faults (sink_of a)) (faults (sink_of b)) (faults (sink_of c)) p.later q.fault;
+    counted = record { later = omega (arith, p.counted.later, q.counted.later); ok = tt; err = q.counted.err ∙ ap next_count p.counted.ok };
     prefix = lines_prefix (is_commented a) (is_commented b) (written (sink_of a)) (written (sink_of b)) (written (sink_of c)) xs ys p.same_mark p.ok q.prefix;
   }
 
@@ -73,8 +71,7 @@ module _ {O E : Type 0} (written : O → Option (List ℕ)) (faults : O → ℕ)
     same_mark = p.same_mark;
     empty = p.empty;
     ok = tt;
-    later = p.later;
-    fault = p.fault;
+    counted = record { later = p.counted.later; ok = tt; err = p.counted.err };
     prefix = lines_more (is_commented a) (written (sink_of a)) (written (sink_of b)) xs ys p.prefix;
   }
 

@@ -2,10 +2,11 @@
 ghost use Rattle.std.specs.Prelude.{◌≡◌, ◌≤◌, ◌+◌, ◌<◌, ◌++◌, ◌∷◌, [], length, take};
 ghost use Rattle.ps_io.specs.declared.buffer.TheConstants.{CAPACITY};
 
+use crate::limits::LONGEST_LINE;
 use std::marker::Model;
 
-/// A text of 65,536 bytes, with a mark of two bytes before it and a line feed after it.
-pub(crate) const CAPACITY: usize = 65_539;
+/// The longest line, with a mark of two bytes before it and a line feed after it.
+pub(crate) const CAPACITY: usize = LONGEST_LINE + 3;
 
 /// The bytes so far.
 #[derive(Drop)]
@@ -16,12 +17,13 @@ pub(crate) struct Buffer {
 
 impl Model for Buffer {
     ghost use Rattle.std.specs.Prelude.{ℕ, List, ◌≤◌, take};
+    ghost use Rattle.ps_io.specs.declared.buffer.TheConstants.{CAPACITY};
 
     ghost Value = { List ℕ };
 
     ghost view = { λ b. take b.len b.bytes };
 
-    ghost invariant = { λ b. b.len ≤ 65539 };
+    ghost invariant = { λ b. b.len ≤ CAPACITY };
 }
 
 impl Buffer {

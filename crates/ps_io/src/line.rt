@@ -1,11 +1,12 @@
 //! A line that is being made.
-ghost use Rattle.std.specs.Prelude.{◌≡◌, ◌≤◌, ◌+◌, ◌<◌, [], length, min, true, false, OnOk, OnErr};
+ghost use Rattle.std.specs.Prelude.{◌≡◌, ◌≤◌, ◌+◌, ◌<◌, [], length, true, false};
 ghost use Rattle.std.specs.Fmt.{signed_decimal};
-ghost use Rattle.ps_io.specs.LineText.{LineText, with_word, line_bytes};
-ghost use Rattle.ps_io.specs.Causes.{Rose};
-ghost use Rattle.ps_io.specs.Transfer.{Appends, AppendsPrefix};
+ghost use Rattle.ps_io.specs.LineText.{LineText, add_word, bytes_of, emptied, number_length};
+ghost use Rattle.ps_io.specs.Causes.{CountsFault};
+ghost use Rattle.ps_io.specs.Transfer.{Writes};
 
 use crate::buffer::Buffer;
+use crate::limits::{LONGEST_LINE, LONGEST_NUMBER};
 use crate::{Sink, WriteFault, write_all};
 use std::marker::Model;
 
@@ -18,14 +19,14 @@ pub(crate) struct Line {
 }
 
 impl Model for Line {
-    ghost use Rattle.std.specs.Prelude.{◌≡◌, ◌≤◌, ◌++◌, drop, length};
-    ghost use Rattle.ps_io.specs.LineText.{LineText, mark};
+    ghost use Rattle.std.specs.Prelude.{drop};
+    ghost use Rattle.ps_io.specs.LineText.{LineText, IsMarkedText};
 
     ghost Value = { LineText };
 
     ghost view = { λ l. record { text = drop l.start l.buffer; commented = l.commented } };
 
-    ghost invariant = { λ l. (l.start ≡ length (mark l.commented)) × (l.buffer ≡ mark l.commented ++ drop l.start l.buffer) × (length (drop l.start l.buffer) ≤ 65536) };
+    ghost invariant = { λ l. IsMarkedText l.commented l.start l.buffer };
 }
 
 impl Line {
@@ -52,8 +53,8 @@ impl Line {
 
     /// Adds a word, after a space where the line isn't empty.
     pub(crate) fn word(&mut self, text: &[u8])
-        requires { length self.old.text + length text.now < 65536 }
-        ensures line { self.new ≡ record { text = with_word self.old.text text.now; commented = self.old.commented } }
+        requires { length self.old.text + length text.now < LONGEST_LINE }
+        ensures line { self.new ≡ add_word self.old text.now }
         ensures short { length self.new.text ≤ length self.old.text + length text.now + 1 }
     {
         if self.start < self.buffer.len() {
@@ -64,9 +65,9 @@ impl Line {
 
     /// Adds a number in decimal.
     pub(crate) fn number(&mut self, n: i128)
-        requires { length self.old.text + min 40 (length (signed_decimal n)) < 65536 }
-        ensures line { self.new ≡ record { text = with_word self.old.text (signed_decimal n); commented = self.old.commented } }
-        ensures short { length self.new.text ≤ length self.old.text + 41 }
+        requires { length self.old.text + number_length n < LONGEST_LINE }
+        ensures line { self.new ≡ add_word self.old (signed_decimal n) }
+        ensures short { length self.new.text ≤ length self.old.text + LONGEST_NUMBER + 1 }
     {
         let mut digits = itoa::Buffer::new();
         self.word(digits.format(n).as_bytes());
@@ -74,11 +75,9 @@ impl Line {
 
     /// Writes the line and a line feed, and empties the line.
     pub(crate) fn end_line<O: Sink>(&mut self, sink: &mut O) -> Result<(), WriteFault>
-        ensures line { self.new ≡ record { text = []; commented = self.old.commented } }
-        ensures ok { OnOk result (Appends (O.written sink.old) (O.written sink.new) (line_bytes self.old.commented self.old.text)) }
-        ensures later { O.faults sink.old ≤ O.faults sink.new }
-        ensures fault { OnErr result (Rose (O.faults sink.old) (O.faults sink.new)) }
-        ensures prefix { OnErr result (AppendsPrefix (O.written sink.old) (O.written sink.new) (line_bytes self.old.commented self.old.text)) }
+        ensures line { self.new ≡ emptied self.old }
+        ensures text { Writes result (O.written sink.old) (O.written sink.new) (bytes_of self.old) }
+        ensures faults { CountsFault result (O.faults sink.old) (O.faults sink.new) }
     {
         self.buffer.push(b'\n');
         let written = write_all(sink, self.buffer.as_slice());

@@ -1,8 +1,9 @@
 //! A sink in memory, whose calls fail by a list and where its room is used up.
-ghost use Rattle.std.specs.Prelude.{◌≡◌, ◌≤◌, ◌<◌, ◌-◌, ◌++◌, ◌⊎◌, [], Some, length, min, take, OnErr, IfOk, IsErr, ◌↔◌, Contains};
+ghost use Rattle.std.specs.Prelude.{◌≡◌, ◌≤◌, ◌<◌, ◌↔◌, Some, length, take, OnErr, IfOk, IsErr};
 ghost use Rattle.std.specs.Io.{WritesAtMost};
-ghost use Rattle.ps_io.specs.Causes.{HasCause, next_count};
-ghost use Rattle.ps_io.specs.Transfer.{Appends};
+ghost use Rattle.ps_io.specs.Causes.{CountsFault};
+ghost use Rattle.ps_io.specs.Memory.{IsNextFault, unwritten, write_count};
+ghost use Rattle.ps_io.specs.Memory.{after_write, after_write_fault};
 
 use crate::{NoMemory, Sink, WriteFault};
 use std::alloc::Global;
@@ -35,14 +36,15 @@ impl Model for MemSink {
       faults = s.faults;
     } };
 
-    ghost invariant = { λ s. (1 ≤ s.piece) × (length s.bytes.items ≤ s.room) × (s.room ≤ vec_capacity s.bytes) };
+    ghost invariant = { λ s.
+        (1 ≤ s.piece) × (length s.bytes.items ≤ s.room) × (s.room ≤ vec_capacity s.bytes) };
 }
 
 impl MemSink {
     /// A sink that holds nothing and has not been called. All of its room is taken here.
     pub fn new(alloc: Global, piece: u64, failing: Vec<u64>, room: u64) -> Result<MemSink, NoMemory>
         requires { 1 ≤ piece }
-        ensures { IfOk result (λ s. s ≡ record { written = []; piece = piece; failing = failing.items; room = room; calls = 0; faults = 0 }) }
+        ensures { IfOk result (λ s. s ≡ unwritten piece failing.items room) }
     {
         let bytes = Vec::with_capacity(alloc, room as usize)?;
         Ok(MemSink {
@@ -71,16 +73,15 @@ impl Sink for MemSink {
     fn write(&mut self, buf: &[u8]) -> Result<usize, WriteFault>
         ensures bound { WritesAtMost result buf.now }
         ensures some { IfOk result (λ n. 0 < length buf.now → 0 < n) }
-        ensures bytes { IfOk result (λ n. Appends (Some self.old.written) (Some self.new.written) (take n buf.now)) }
-        ensures cause { HasCause self.old.faults self.new.faults result }
+        ensures ok { IfOk result (λ n. self.new ≡ after_write self.old (take n buf.now)) }
+        ensures faults { CountsFault result self.old.faults self.new.faults }
 
-        // It fails exactly at the calls of the list and where no room is left, and raises the count there.
-        ensures fails { IsErr result ↔ (Contains self.old.failing (next_count self.old.calls) ⊎ (self.old.room ≤ length self.old.written)) }
-        ensures err { OnErr result (self.new ≡ record self.old { calls = next_count self.old.calls; faults = next_count self.old.faults }) }
+        // It fails exactly at the calls of the list and where no room is left.
+        ensures fails { IsErr result ↔ IsNextFault self.old }
+        ensures err { OnErr result (self.new ≡ after_write_fault self.old) }
 
         // Else it takes as many bytes as there are, as a call may take, and as it has room for.
-        ensures count { IfOk result (λ n. n ≡ min (min (length buf.now) self.old.piece) (self.old.room - length self.old.written)) }
-        ensures ok { IfOk result (λ n. self.new ≡ record self.old { written = self.old.written ++ take n buf.now; calls = next_count self.old.calls }) }
+        ensures count { IfOk result (λ n. n ≡ write_count self.old (length buf.now)) }
     {
         self.calls = self.calls.saturating_add(1);
         let room = self.room as usize;

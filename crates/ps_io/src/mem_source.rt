@@ -1,8 +1,9 @@
 //! A source in memory, whose calls fail by a list.
-ghost use Rattle.std.specs.Prelude.{◌≡◌, ◌≤◌, ◌<◌, Some, length, min, take, drop, OnErr, IfOk, IsErr, ◌↔◌, Contains};
+ghost use Rattle.std.specs.Prelude.{◌≡◌, ◌≤◌, ◌<◌, ◌++◌, ◌↔◌, [], Some, length, take, Contains};
+ghost use Rattle.std.specs.Prelude.{OnErr, IfOk, IsErr};
 ghost use Rattle.std.specs.Io.{ReadsAtMost};
-ghost use Rattle.std.specs.Io.KnownBytes.{Consumes, IsAtEnd};
-ghost use Rattle.ps_io.specs.Causes.{HasCause, next_count};
+ghost use Rattle.ps_io.specs.Causes.{CountsFault, next_count};
+ghost use Rattle.ps_io.specs.Memory.{unread, read_count, after_read, after_read_fault};
 
 use crate::{ReadFault, Source};
 use std::marker::Model;
@@ -39,7 +40,7 @@ impl MemSource {
     /// A source of these bytes that has not been called.
     pub fn new(bytes: Vec<u8>, piece: u64, failing: Vec<u64>) -> MemSource
         requires { 1 ≤ piece }
-        ensures { result ≡ record { left = bytes.items; piece = piece; failing = failing.items; calls = 0; faults = 0 } }
+        ensures { result ≡ unread bytes.items piece failing.items }
     {
         MemSource {
             bytes,
@@ -59,17 +60,17 @@ impl Source for MemSource {
 
     fn read(&mut self, buf: &mut [u8]) -> Result<usize, ReadFault>
         ensures bound { ReadsAtMost result buf.new }
-        ensures bytes { IfOk result (λ n. Consumes (Some self.old.left) (Some self.new.left) (take n buf.new)) }
-        ensures at_end { IfOk result (λ n. n ≡ 0 → 0 < length buf.new → IsAtEnd (Some self.new.left)) }
-        ensures cause { HasCause self.old.faults self.new.faults result }
+        ensures ok { IfOk result (λ n. self.old.left ≡ take n buf.new ++ self.new.left) }
+        ensures at_end { IfOk result (λ n. n ≡ 0 → 0 < length buf.new → self.new.left ≡ []) }
+        ensures faults { CountsFault result self.old.faults self.new.faults }
 
-        // It fails exactly at the calls of the list, and raises the count there.
+        // It fails exactly at the calls of the list.
         ensures fails { IsErr result ↔ Contains self.old.failing (next_count self.old.calls) }
-        ensures err { OnErr result (self.new ≡ record self.old { calls = next_count self.old.calls; faults = next_count self.old.faults }) }
+        ensures err { OnErr result (self.new ≡ after_read_fault self.old) }
 
         // Else it gives as many bytes as there are, as a call may give, and as there is room for.
-        ensures count { IfOk result (λ n. n ≡ min (min (length self.old.left) (length buf.old)) self.old.piece) }
-        ensures ok { IfOk result (λ n. self.new ≡ record self.old { left = drop n self.old.left; calls = next_count self.old.calls }) }
+        ensures count { IfOk result (λ n. n ≡ read_count self.old (length buf.old)) }
+        ensures left { IfOk result (λ n. self.new ≡ after_read self.old n) }
     {
         self.calls = self.calls.saturating_add(1);
         if self.failing.contains(&self.calls) {

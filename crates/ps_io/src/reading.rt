@@ -1,9 +1,9 @@
 //! All bytes of a source.
-ghost use Rattle.std.specs.Prelude.{◌≡◌, ◌≤◌, ℕ, IfOk, OnErr, IsErrOf};
-ghost use Rattle.ps_io.specs.Causes.{Rose};
-ghost use Rattle.ps_io.specs.Transfer.{ReadWhole, TookMore, TookWithin};
+ghost use Rattle.std.specs.Prelude.{◌≡◌, ℕ, IfOk, IfErr, IsErrOf};
+ghost use Rattle.ps_io.specs.Causes.{CountsReadFault};
+ghost use Rattle.ps_io.specs.Transfer.{ReadAll, TookBefore};
 
-use crate::Source;
+use crate::{LONGEST_READ, Source};
 use std::alloc::Global;
 
 /// Why not all bytes were read.
@@ -17,26 +17,20 @@ pub enum ReadAllError {
     NoMemory,
 }
 
-const PIECE: usize = 65_536;
-
 /// All bytes that a source has left, if they are at most `limit`. The source is then at its end.
+/// Else no further read is made, and at most `limit` bytes and one read beyond them are taken.
 pub fn read_all<I: Source>(
     alloc: Global,
     source: &mut I,
     limit: u64,
 ) -> Result<Vec<u8>, ReadAllError>
-    ensures ok { IfOk result (λ v. ReadWhole limit (I.left source.old) (I.left source.new) v.items) }
-    ensures faults { I.faults source.old ≤ I.faults source.new }
-
-    // Where known bytes are not all read, a part of them was taken, and more than `limit` only at `TooLong`.
-    ensures fault { IsErrOf result ReadAllError.Fault → Rose (I.faults source.old) (I.faults source.new) }
-    ensures fault_within { IsErrOf result ReadAllError.Fault → TookWithin limit (I.left source.old) (I.left source.new) }
-    ensures memory_within { IsErrOf result ReadAllError.NoMemory → TookWithin limit (I.left source.old) (I.left source.new) }
-    ensures too_long { (n : ℕ) → IsErrOf result (ReadAllError.TooLong n) → TookMore limit (I.left source.old) (I.left source.new) }
+    ensures ok { IfOk result (λ v. ReadAll limit (I.left source.old) (I.left source.new) v.items) }
+    ensures err { IfErr result (λ e. TookBefore e limit (I.left source.old) (I.left source.new)) }
+    ensures faults { CountsReadFault result (I.faults source.old) (I.faults source.new) }
     ensures limit { (n : ℕ) → IsErrOf result (ReadAllError.TooLong n) → n ≡ limit }
 {
     let mut all = Vec::new(alloc);
-    let mut piece = [0u8; PIECE];
+    let mut piece = [0u8; LONGEST_READ];
     loop {
         let n = match source.read(&mut piece) {
             Ok(n) => n,

@@ -1,7 +1,7 @@
 //! Standard output as a sink.
-ghost use Rattle.std.specs.Prelude.{None, length, ◌≡◌, ◌<◌, IfOk, OnOk, OnErr};
+ghost use Rattle.std.specs.Prelude.{None, length, ◌≡◌, ◌<◌, IfOk};
 ghost use Rattle.std.specs.Io.{WritesAtMost};
-ghost use Rattle.ps_io.specs.Causes.{HasCause, next_count};
+ghost use Rattle.ps_io.specs.Causes.{CountsFault};
 ghost use Rattle.ps_io.specs.Standard.{write_faults};
 
 use crate::{Sink, WriteFault};
@@ -32,11 +32,7 @@ impl<W: Write> Sink for StdSink<W> {
     fn write(&mut self, buf: &[u8]) -> Result<usize, WriteFault>
         ensures bound { WritesAtMost result buf.now }
         ensures some { IfOk result (λ n. 0 < length buf.now → 0 < n) }
-        ensures cause { HasCause (write_faults self.old) (write_faults self.new) result }
-
-        // The count is raised exactly at an error.
-        ensures ok { OnOk result (write_faults self.new ≡ write_faults self.old) }
-        ensures err { OnErr result (write_faults self.new ≡ next_count (write_faults self.old)) }
+        ensures faults { CountsFault result (write_faults self.old) (write_faults self.new) }
     {
         match write_through(&mut self.writer, buf) {
             Ok(n) => Ok(n),

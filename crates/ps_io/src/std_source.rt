@@ -1,7 +1,7 @@
 //! Standard input as a source.
-ghost use Rattle.std.specs.Prelude.{None, ◌≡◌, OnOk, OnErr};
+ghost use Rattle.std.specs.Prelude.{None, ◌≡◌};
 ghost use Rattle.std.specs.Io.{ReadsAtMost};
-ghost use Rattle.ps_io.specs.Causes.{HasCause, next_count};
+ghost use Rattle.ps_io.specs.Causes.{CountsFault};
 ghost use Rattle.ps_io.specs.Standard.{read_faults};
 
 use crate::{ReadFault, Source};
@@ -30,11 +30,7 @@ impl<R: Read> Source for StdSource<R> {
 
     fn read(&mut self, buf: &mut [u8]) -> Result<usize, ReadFault>
         ensures bound { ReadsAtMost result buf.new }
-        ensures cause { HasCause (read_faults self.old) (read_faults self.new) result }
-
-        // The count is raised exactly at an error.
-        ensures ok { OnOk result (read_faults self.new ≡ read_faults self.old) }
-        ensures err { OnErr result (read_faults self.new ≡ next_count (read_faults self.old)) }
+        ensures faults { CountsFault result (read_faults self.old) (read_faults self.new) }
     {
         match self.reader.read(buf) {
             Ok(n) => Ok(n),

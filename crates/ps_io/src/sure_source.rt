@@ -1,8 +1,7 @@
 //! A source in memory that never fails.
-ghost use Rattle.std.specs.Prelude.{◌≡◌, ◌<◌, Some, length, min, take, drop, IfOk, IsOk};
+ghost use Rattle.std.specs.Prelude.{◌≡◌, ◌<◌, ◌++◌, [], Some, length, min, take, drop, IfOk, IsOk};
 ghost use Rattle.std.specs.Io.{ReadsAtMost};
-ghost use Rattle.std.specs.Io.KnownBytes.{Consumes, IsAtEnd};
-ghost use Rattle.ps_io.specs.Causes.{HasCause};
+ghost use Rattle.ps_io.specs.Causes.{CountsFault};
 
 use crate::{ReadFault, Source};
 use std::marker::Model;
@@ -40,14 +39,14 @@ impl Source for SureSource {
 
     fn read(&mut self, buf: &mut [u8]) -> Result<usize, ReadFault>
         ensures bound { ReadsAtMost result buf.new }
-        ensures bytes { IfOk result (λ n. Consumes (Some self.old) (Some self.new) (take n buf.new)) }
-        ensures at_end { IfOk result (λ n. n ≡ 0 → 0 < length buf.new → IsAtEnd (Some self.new)) }
-        ensures cause { HasCause 0 0 result }
+        ensures ok { IfOk result (λ n. self.old ≡ take n buf.new ++ self.new) }
+        ensures at_end { IfOk result (λ n. n ≡ 0 → 0 < length buf.new → self.new ≡ []) }
+        ensures faults { CountsFault result 0 0 }
 
         // It never fails, and gives as many bytes as there are and as there is room for.
         ensures succeeds { IsOk result }
         ensures count { IfOk result (λ n. n ≡ min (length self.old) (length buf.old)) }
-        ensures ok { IfOk result (λ n. self.new ≡ drop n self.old) }
+        ensures left { IfOk result (λ n. self.new ≡ drop n self.old) }
     {
         let rest = &self.bytes[self.at..];
         let n = rest.len().min(buf.len());

@@ -8,7 +8,7 @@ use Rattle.ps_check.specs.declared.refusal.Refusal.{Refusal}
 use Rattle.ps_check.specs.declared.refusal.CheckError.{CheckError}
 use Rattle.ps_check.specs.declared.refusal.CheckError.TheVariants.{Refused}
 use Rattle.ps_check.specs.Verdicts.{IsJudged}
-use Rattle.ps_io.specs.Transfer.{Appends, ReadWhole}
+use Rattle.ps_io.specs.Transfer.{Appends, ReadAll}
 use Rattle.psat.specs.declared.status.Status.{Status}
 use Rattle.psat.specs.declared.status.Status.TheVariants as status
 use Rattle.psat.specs.Statuses.{GoesWithText}
@@ -28,7 +28,7 @@ pub due-refused : (p : Parts) (m : Model) (e : CheckError) (f : Refusal) (o : Ou
 due-refused p m e f o is judged shown = let first = rw is at judged in RefusedFor f.reason first.1 shown
 
 -- all bytes that were left were taken
-whole-is : (most : ℕ) (old new : Option (List ℕ)) (taken bytes : List ℕ) → ReadWhole most old new taken → old ≡ Some bytes → taken ≡ bytes
+whole-is : (most : ℕ) (old new : Option (List ℕ)) (taken bytes : List ℕ) → ReadAll most old new taken → old ≡ Some bytes → taken ≡ bytes
 whole-is most None new taken bytes h e = absurd (cc)
 whole-is most (Some xs) None taken bytes h e = absurd h.consumed
 whole-is most (Some xs) (Some ys) taken bytes h e =
@@ -37,7 +37,7 @@ whole-is most (Some xs) (Some ys) taken bytes h e =
     let same : xs ≡ bytes = cc in
     sym (append-nil taken) ∙ ap (λ r. taken ++ r) (sym none) ∙ sym all ∙ same
 
-pub input-due : (old new : Option (List ℕ)) (taken given : List ℕ) (o : Output) → ReadWhole limit old new taken → given ≡ taken → DueText given o
+pub input-due : (old new : Option (List ℕ)) (taken given : List ℕ) (o : Output) → ReadAll limit old new taken → given ≡ taken → DueText given o
     → (bytes : List ℕ) → old ≡ Some bytes → DueInput bytes o
 input-due old new taken given o h same due bytes e =
     let is : taken ≡ bytes = whole-is limit old new taken bytes h e in

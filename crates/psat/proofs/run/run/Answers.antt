@@ -13,6 +13,6 @@ pub returns-clause-ran : goal.returns-clause-ran
 returns-clause-ran g c = λ bytes left. record {
   output = output_of c.in-Ok.reply;
   due = c.in-Ok.ensures.due bytes left;
-  written = rw c.as_bytes.ensures.value at c.in-Err-write_all.ensures.prefix;
+  written = rw c.as_bytes.ensures.value at c.in-Err-write_all.ensures.err;
   read = c.in-Ok.ensures.read bytes left;
 }
