@@ -3,3 +3,4 @@ pub mod PivotKeeps
 pub mod Columns
 pub mod OneTable
 pub mod Pricing
+pub mod Agreeing

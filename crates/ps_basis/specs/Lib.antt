@@ -1,1 +1,3 @@
+-- Meaning
 pub mod Table
+pub mod Laws

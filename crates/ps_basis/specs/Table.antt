@@ -38,10 +38,14 @@ pub record Stands (n w : ℕ) (A : ℕ → ℕ → Rational) (basic : ℕ → �
 abbrev pub carried_by : ℕ → (ℕ → Rational) → (ℕ → ℕ) → (ℕ → ℕ → Rational) → ℕ → Rational
 carried_by n cost basic X j = sum_to n (λ i. mul (cost (basic i)) (X i j))
 
+-- each of n rows has its basic column among w columns
+abbrev pub IsBasis : ℕ → ℕ → (ℕ → ℕ) → Type 0
+IsBasis n w basic = (i : ℕ) → i < n → basic i < w
+
 -- what a pivot needs: a row, a column, and an entry other than 0 there, in a table whose basic columns it has
 pub record CanPivot (n w p q : ℕ) (basic : ℕ → ℕ) (X : ℕ → ℕ → Rational) : Type 0 where
   pub homes : n < w
-  pub basics : (i : ℕ) → i < n → basic i < w
+  pub basics : IsBasis n w basic
   pub row : p < n
   pub column : q < w
   pub entry : X p q ≢ zero_q
@@ -55,3 +59,19 @@ pub record IsFirst (n : ℕ) (basic : ℕ → ℕ) (X : ℕ → ℕ → Rational
 pub record Widened (n w : ℕ) (A X Z : ℕ → ℕ → Rational) : Type 0 where
   pub same : (i j : ℕ) → i < n → j < w → Z i j ≡ X i j
   pub made : (i : ℕ) → i < n → Z i w ≡ sum_to n (λ m. mul (X i (suc m)) (A m w))
+
+-- the same entries in n rows and w columns
+pub record AreSameWithin (n w : ℕ) (X Y : ℕ → ℕ → Rational) : Type 0 where
+  pub same : (i j : ℕ) → i < n → j < w → X i j ≡ Y i j
+
+-- the same costs of w columns
+pub record HaveSameCosts (w : ℕ) (cost other : ℕ → Rational) : Type 0 where
+  pub same : (j : ℕ) → j < w → cost j ≡ other j
+
+-- the same basic columns in n rows
+pub record AreSameBases (n : ℕ) (old new : ℕ → ℕ) : Type 0 where
+  pub same : (i : ℕ) → i < n → old i ≡ new i
+
+-- values of the basic columns that add up to the right side
+pub record Solves (n : ℕ) (A : ℕ → ℕ → Rational) (basic : ℕ → ℕ) (values : ℕ → Rational) : Type 0 where
+  pub rows : (m : ℕ) → m < n → sum_to n (λ i. mul (values i) (A m (basic i))) ≡ A m 0

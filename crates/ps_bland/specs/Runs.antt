@@ -3,8 +3,8 @@ use Rattle.std.specs.Prelude.{◌≡◌, ◌⊎◌, ℕ, suc, ◌+◌, ◌-◌, 
 use Rattle.ps_rational.specs.Rational.{Rational, neg, zero_q, one_q}
 use Rattle.ps_rational.specs.Order.{IsNonneg}
 use Rattle.ps_basis.specs.Table.{Belongs}
-use Rattle.ps_frac.specs.declared.fraction.Op.TheVariants.{Div}
-use Rattle.ps_rule.specs.Rule.{Phase as RulePhase, First, Second, Face, Improves, IsFeasible, IsDueToEnd, IsMoving, IsResting, Enters, IsRising, IsArtificialRow, IsLeastArtificialRow, Precedes, Leaves}
+use Rattle.ps_frac.specs.declared.wide.Op.TheVariants.{Div}
+use Rattle.ps_rule.specs.Rule.{Phase as RulePhase, First, Second, SimplexTable, Improves, IsFeasible, IsDueToEnd, IsMoving, IsResting, Enters, IsRising, IsArtificialRow, IsLeastArtificialRow, Precedes, Leaves}
 use Rattle.ps_rule.specs.Pivots.{System, Pivot as BasisPivot, Pivots}
 use Rattle.ps_table.specs.declared.home.Home.{Home}
 use Rattle.ps_table.specs.declared.home.Home.TheVariants.{Slack, Artificial}
@@ -33,7 +33,7 @@ abbrev pub artificial_at : List Home → ℕ → Bool
 artificial_at kinds j = is_artificial (get_or kinds (j - 1) Slack)
 
 -- the table as the rule sees it
-abbrev pub face_of : Tableau → Face
+abbrev pub face_of : Tableau → SimplexTable
 face_of t = record {
   rows = length t.kinds;
   width = suc (length t.kinds + t.worlds);

@@ -1,0 +1,5 @@
+-- Meaning
+pub mod Refusals
+pub mod CommonMultiples
+-- Bridge: parts of results, where they fit
+pub mod Fitting

@@ -1,16 +1,10 @@
 //! Operations on 128-bit numbers whose results are at most 2^127 - 1 in size.
 
-ghost use Rattle.std.specs.Prelude.{◌≡◌, ◌*◌, ◌/◌, ◌^◌, ◌<◌, ◌≤◌, pos, ◌+ℤ◌, ◌*ℤ◌, unsigned_abs, int_div};
-ghost use Rattle.std.specs.Option.{SomeIff};
+ghost use Rattle.std.specs.Prelude.{◌≡◌, ◌*◌, ◌/◌, ◌<◌, ◌≤◌, pos, ◌+ℤ◌, ◌*ℤ◌, int_div};
+ghost use Rattle.ps_rational.specs.Wide.{Fits};
+ghost use Rattle.ps_frac.specs.Fitting.{IfFits, IfSizeFits};
 
-/// Above the size of every number that a fraction holds.
-const LIMIT: u128 = 1 << 127;
-
-/// Above every number that fits 64 bits.
-const WORD: u128 = 1 << 64;
-
-/// Two sizes below it have a product that fits.
-const HALF: u128 = 1 << 63;
+use crate::limits::{HALF, SIZE_LIMIT, WORD};
 
 /// `n / g`, rounded down; most numbers fit 64 bits, where a division is much faster.
 pub(crate) fn part(n: u128, g: u128) -> u128
@@ -30,7 +24,7 @@ pub(crate) fn part(n: u128, g: u128) -> u128
 /// `n / g`, rounded toward zero.
 pub(crate) fn divided(n: i128, g: u128) -> i128
     requires positive { 0 < g }
-    requires size { unsigned_abs n < 2 ^ 127 }
+    requires size { Fits n }
     ensures value { result ≡ int_div n (pos g) }
 {
     let size = part(n.unsigned_abs(), g) as i128;
@@ -39,20 +33,20 @@ pub(crate) fn divided(n: i128, g: u128) -> i128
 
 /// `a * b`, where it is below the limit.
 pub(crate) fn size_product(a: u128, b: u128) -> Option<u128>
-    ensures value { SomeIff result (a * b < 2 ^ 127) (a * b) }
+    ensures value { IfSizeFits (a * b) result }
 {
     if a < HALF && b < HALF {
         return Some((a as u64 as u128) * (b as u64 as u128));
     }
     match a.checked_mul(b) {
-        Some(size) if size < LIMIT => Some(size),
+        Some(size) if size < SIZE_LIMIT => Some(size),
         _ => None,
     }
 }
 
 /// `a * b`, where its size is below the limit.
 pub(crate) fn signed_product(a: i128, b: i128) -> Option<i128>
-    ensures value { SomeIff result (unsigned_abs (a *ℤ b) < 2 ^ 127) (a *ℤ b) }
+    ensures value { IfFits (a *ℤ b) result }
 {
     if a.unsigned_abs() < HALF && b.unsigned_abs() < HALF {
         return Some((a as i64 as i128) * (b as i64 as i128));
@@ -65,7 +59,7 @@ pub(crate) fn signed_product(a: i128, b: i128) -> Option<i128>
 
 /// `a + b`, where its size is below the limit.
 pub(crate) fn signed_sum(a: i128, b: i128) -> Option<i128>
-    ensures value { SomeIff result (unsigned_abs (a +ℤ b) < 2 ^ 127) (a +ℤ b) }
+    ensures value { IfFits (a +ℤ b) result }
 {
     match a.checked_add(b) {
         Some(number) if number != i128::MIN => Some(number),

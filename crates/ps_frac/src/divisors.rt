@@ -4,8 +4,7 @@ ghost use Rattle.std.specs.Prelude.{◌≡◌, ◌*◌, ◌%◌, ◌^◌, ◌<�
 ghost use Rattle.std.specs.Int.{w64, trailing_zeros, IsGcd};
 ghost use Rattle.ps_rational.specs.Gcd.{gcd as gcd_of};
 
-/// Above every number that fits 64 bits.
-const WORD: u128 = 1 << 64;
+use crate::limits::WORD;
 
 /// The greatest common divisor of `a` and `b`, by Euclid's remainders: the plain program.
 pub(crate) fn gcd_by_remainders(a: u128, b: u128) -> u128

@@ -1,29 +1,12 @@
-//! A fraction, and an operation on fractions that was refused.
+//! A fraction.
 
-ghost use Rattle.std.specs.Prelude.{◌≡◌, ◌<◌, ◌^◌, ◌↔◌, IsTrue, pos, ◌<ℤ◌, unsigned_abs};
+ghost use Rattle.std.specs.Prelude.{◌≡◌, ◌<◌, ◌↔◌, IsTrue, pos, ◌<ℤ◌, unsigned_abs};
 ghost use Rattle.ps_rational.specs.Rational.{Rational, IsLowestTerms, fraction, neg, zero_q};
+ghost use Rattle.ps_rational.specs.Wide.{Fits, size_limit};
 
 use crate::checked::divided;
 use crate::divisors::gcd;
 use std::marker::Model;
-
-/// The operations that can be refused.
-#[derive(Clone, Copy, PartialEq, Eq, Debug, Drop)]
-pub enum Op {
-    Add,
-    Sub,
-    Mul,
-    Div,
-    Lcm,
-}
-
-/// An operation that was refused, with the operands as they were handed in.
-#[derive(Clone, Copy, PartialEq, Eq, Debug, Drop)]
-pub struct Wide {
-    pub op: Op,
-    pub left: Fraction,
-    pub right: Fraction,
-}
 
 /// A reduced fraction, its numerator and denominator at most 2^127 - 1 in size. Contracts see it as
 /// the rational number, so fractions are equal where their numbers are.
@@ -35,8 +18,9 @@ pub struct Fraction {
 }
 
 impl Model for Fraction {
-    ghost use Rattle.std.specs.Prelude.{◌<◌, ◌^◌, unsigned_abs};
+    ghost use Rattle.std.specs.Prelude.{◌<◌};
     ghost use Rattle.ps_rational.specs.Rational.{Rational, IsLowestTerms, coded_rational};
+    ghost use Rattle.ps_rational.specs.Wide.{Fits, size_limit};
 
     ghost Value = { Rational };
 
@@ -46,28 +30,15 @@ impl Model for Fraction {
 
     ghost inverse = { λ r. record { numerator = r.over; denominator = r.under; lowest = r.lowest } };
 
-    ghost invariant = { λ f. (unsigned_abs f.numerator < 2 ^ 127) × (f.denominator < 2 ^ 127) };
-}
-
-impl Wide {
-    /// The refusal of an operation on two fractions.
-    pub(crate) fn of(operation: Op, first: &Fraction, second: &Fraction) -> Wide
-        ensures value { result ≡ record { op = operation; left = first.now; right = second.now } }
-    {
-        Wide {
-            op: operation,
-            left: *first,
-            right: *second,
-        }
-    }
+    ghost invariant = { λ f. Fits f.numerator × (f.denominator < size_limit) };
 }
 
 impl Fraction {
     /// The fraction of two numbers that are already in lowest terms.
     pub(crate) fn of_lowest(numerator: i128, denominator: u128) -> Fraction
         requires lowest { IsLowestTerms numerator denominator }
-        requires over_small { unsigned_abs numerator < 2 ^ 127 }
-        requires under_small { denominator < 2 ^ 127 }
+        requires over_small { Fits numerator }
+        requires under_small { denominator < size_limit }
         ensures over { result.over ≡ numerator }
         ensures under { result.under ≡ denominator }
     {
@@ -80,7 +51,7 @@ impl Fraction {
     /// `n / d`, reduced.
     pub fn new(n: i128, d: i128) -> Fraction
         requires positive { pos 0 <ℤ d }
-        requires size { unsigned_abs n < 2 ^ 127 }
+        requires size { Fits n }
         ensures value { result ≡ fraction n (unsigned_abs d) }
     {
         let bottom = d.unsigned_abs();
@@ -91,7 +62,7 @@ impl Fraction {
     /// The numerator in lowest terms.
     pub fn numerator(&self) -> i128
         ensures value { result ≡ self.now.over }
-        ensures small { unsigned_abs result < 2 ^ 127 }
+        ensures small { Fits result }
     {
         self.numerator
     }
@@ -99,7 +70,7 @@ impl Fraction {
     /// The denominator in lowest terms, as the size that it is.
     pub(crate) fn under(&self) -> u128
         ensures value { result ≡ self.now.under }
-        ensures small { result < 2 ^ 127 }
+        ensures small { result < size_limit }
         ensures positive { 0 < result }
     {
         self.denominator

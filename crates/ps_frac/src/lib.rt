@@ -1,16 +1,21 @@
-//! Exact fractions of 128-bit numbers: each result is exact, or the operation is refused with its operands.
+//! Exact fractions of 128-bit numbers: each result is exact, or the operation is refused with its
+//! operands.
 #![tactic(auto)]
 
 mod checked;
 mod comparing;
 mod divisors;
 mod fraction;
+mod limits;
 mod multiples;
 mod products;
 mod sums;
+mod wide;
 
-pub use fraction::{Fraction, Op, Wide};
+pub use fraction::Fraction;
+pub use limits::{MOST_MULTIPLE, SIZE_LIMIT};
 pub use multiples::lcm_upto;
+pub use wide::{Op, Wide};
 
 #[cfg(test)]
 mod tests;

@@ -1,11 +1,12 @@
 //! The least common multiple.
 
-ghost use Rattle.std.specs.Prelude.{◌≡◌, ◌^◌, pos, ◌<ℤ◌, ◌≤ℤ◌, unsigned_abs};
+ghost use Rattle.std.specs.Prelude.{pos, ◌<ℤ◌, ◌≤ℤ◌};
 ghost use Rattle.std.specs.Option.{SomeIff, IfSome};
-ghost use Rattle.ps_rational.specs.Gcd.{lcm, IsLeastCommonMultiple};
+ghost use Rattle.ps_frac.specs.CommonMultiples.{lcm_of, IsLcm};
 
 use crate::checked::size_product;
 use crate::divisors::gcd;
+use crate::limits::MOST_MULTIPLE;
 
 /// The least common multiple of `a` and `b`, and `None` exactly where it is above `limit`.
 pub fn lcm_upto(a: i128, b: i128, limit: i128) -> Option<i128>
@@ -13,9 +14,9 @@ pub fn lcm_upto(a: i128, b: i128, limit: i128) -> Option<i128>
     requires a_within { a ≤ℤ limit }
     requires b_positive { pos 0 <ℤ b }
     requires b_within { b ≤ℤ limit }
-    requires limit_small { limit ≤ℤ pos (2 ^ 126) }
-    ensures least { IfSome result (λ m. IsLeastCommonMultiple (unsigned_abs a) (unsigned_abs b) (unsigned_abs m)) }
-    ensures within { SomeIff result (pos (lcm (unsigned_abs a) (unsigned_abs b)) ≤ℤ limit) (pos (lcm (unsigned_abs a) (unsigned_abs b))) }
+    requires limit_small { limit ≤ℤ MOST_MULTIPLE }
+    ensures least { IfSome result (IsLcm a b) }
+    ensures within { SomeIff result (lcm_of a b ≤ℤ limit) (lcm_of a b) }
 {
     let first = a.unsigned_abs();
     let second = b.unsigned_abs();

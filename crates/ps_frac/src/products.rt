@@ -1,45 +1,46 @@
 //! Products and quotients of fractions.
 
-ghost use Rattle.std.specs.Prelude.{◌≡◌, ◌≢◌, ◌^◌, ◌<◌, ◌↔◌, unsigned_abs, IsErr, IfOk, IfErr};
-ghost use Rattle.std.specs.Option.{SomeIff};
-ghost use Rattle.ps_rational.specs.Gcd.{gcd as gcd_of};
+ghost use Rattle.std.specs.Prelude.{◌≡◌, ◌≢◌, ◌<◌, ◌↔◌, IsErr, IfOk, IfErr};
 ghost use Rattle.ps_rational.specs.Rational.{mul, div, inverse, zero_q};
-ghost use Rattle.ps_rational.specs.Wide.{product_over, product_under, ProductIsWide};
+ghost use Rattle.ps_rational.specs.Wide.{product_over, product_under, ProductIsWide, size_limit};
+ghost use Rattle.ps_frac.specs.Fitting.{IfFits, IfSizeFits, common};
+ghost use Rattle.ps_frac.specs.Refusals.{Refuses};
 
 use crate::checked::{divided, part, signed_product, size_product};
 use crate::divisors::gcd;
-use crate::fraction::{Fraction, Op, Wide};
+use crate::fraction::Fraction;
+use crate::wide::{Op, Wide};
 
 impl Fraction {
     /// What is common to this numerator and the other's denominator.
     fn crosswise(&self, other: &Fraction) -> u128
-        ensures value { result ≡ gcd_of (unsigned_abs self.now.over) other.now.under }
+        ensures value { result ≡ common self.now other.now }
         ensures positive { 0 < result }
-        ensures small { result < 2 ^ 127 }
+        ensures small { result < size_limit }
     {
         gcd(self.numerator().unsigned_abs(), other.under())
     }
 
     /// The numerator of the product; `g` and `h` are what is common crosswise.
     fn product_over(&self, other: &Fraction, g: u128, h: u128) -> Option<i128>
-        requires g_is { g ≡ gcd_of (unsigned_abs self.now.over) other.now.under }
+        requires g_is { g ≡ common self.now other.now }
         requires g_positive { 0 < g }
-        requires g_small { g < 2 ^ 127 }
-        requires h_is { h ≡ gcd_of (unsigned_abs other.now.over) self.now.under }
+        requires g_small { g < size_limit }
+        requires h_is { h ≡ common other.now self.now }
         requires h_positive { 0 < h }
-        requires h_small { h < 2 ^ 127 }
-        ensures value { SomeIff result (unsigned_abs (product_over self.now other.now) < 2 ^ 127) (product_over self.now other.now) }
+        requires h_small { h < size_limit }
+        ensures value { IfFits (product_over self.now other.now) result }
     {
         signed_product(divided(self.numerator(), g), divided(other.numerator(), h))
     }
 
     /// The denominator of the product.
     fn product_under(&self, other: &Fraction, g: u128, h: u128) -> Option<u128>
-        requires g_is { g ≡ gcd_of (unsigned_abs self.now.over) other.now.under }
+        requires g_is { g ≡ common self.now other.now }
         requires g_positive { 0 < g }
-        requires h_is { h ≡ gcd_of (unsigned_abs other.now.over) self.now.under }
+        requires h_is { h ≡ common other.now self.now }
         requires h_positive { 0 < h }
-        ensures value { SomeIff result (product_under self.now other.now < 2 ^ 127) (product_under self.now other.now) }
+        ensures value { IfSizeFits (product_under self.now other.now) result }
     {
         size_product(part(self.under(), h), part(other.under(), g))
     }
@@ -49,7 +50,7 @@ impl Fraction {
     pub fn mul(&self, other: &Fraction) -> Result<Fraction, Wide>
         ensures value { IfOk result (λ r. r ≡ mul self.now other.now) }
         ensures wide { IsErr result ↔ ProductIsWide self.now other.now }
-        ensures operands { IfErr result (λ w. w ≡ record { op = Op.Mul; left = self.now; right = other.now }) }
+        ensures operands { IfErr result (Refuses Op.Mul self.now other.now) }
     {
         let g = self.crosswise(other);
         let h = other.crosswise(self);
@@ -82,7 +83,7 @@ impl Fraction {
         requires not_zero { other.now ≢ zero_q }
         ensures value { IfOk result (λ r. r ≡ div self.now other.now) }
         ensures wide { IsErr result ↔ ProductIsWide self.now (inverse other.now) }
-        ensures operands { IfErr result (λ w. w ≡ record { op = Op.Div; left = self.now; right = other.now }) }
+        ensures operands { IfErr result (Refuses Op.Div self.now other.now) }
     {
         match self.mul(&other.turned()) {
             Ok(quotient) => Ok(quotient),

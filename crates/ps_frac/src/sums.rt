@@ -1,20 +1,22 @@
 //! Sums and differences of fractions.
 
-ghost use Rattle.std.specs.Prelude.{◌≡◌, ◌^◌, ◌<◌, ◌↔◌, pos, ◌*ℤ◌, unsigned_abs, IsErr, IfOk, IfErr};
-ghost use Rattle.std.specs.Option.{SomeIff};
+ghost use Rattle.std.specs.Prelude.{◌≡◌, ◌<◌, ◌↔◌, pos, ◌*ℤ◌, IsErr, IfOk, IfErr};
 ghost use Rattle.ps_rational.specs.Gcd.{gcd as gcd_of};
 ghost use Rattle.ps_rational.specs.Rational.{add, sub, neg};
-ghost use Rattle.ps_rational.specs.Wide.{SumOverFits, sum_over, sum_under, SumIsWide};
+ghost use Rattle.ps_rational.specs.Wide.{Fits, size_limit, sum_over, SumIsWide};
+ghost use Rattle.ps_frac.specs.Fitting.{IfFits, IfSumOverFits, IfSumUnderFits};
+ghost use Rattle.ps_frac.specs.Refusals.{Refuses};
 
 use crate::checked::{divided, part, signed_product, signed_sum, size_product};
 use crate::divisors::gcd;
-use crate::fraction::{Fraction, Op, Wide};
+use crate::fraction::Fraction;
+use crate::wide::{Op, Wide};
 
 impl Fraction {
     /// The numerator over a denominator that is `factor` times as large.
     fn scaled(&self, factor: u128) -> Option<i128>
-        requires small { factor < 2 ^ 127 }
-        ensures value { SomeIff result (unsigned_abs (self.now.over *ℤ pos factor) < 2 ^ 127) (self.now.over *ℤ pos factor) }
+        requires small { factor < size_limit }
+        ensures value { IfFits (self.now.over *ℤ pos factor) result }
     {
         signed_product(self.numerator(), factor as i128)
     }
@@ -24,7 +26,7 @@ impl Fraction {
     fn sum_over(&self, other: &Fraction, g: u128) -> Option<i128>
         requires g_is { g ≡ gcd_of self.now.under other.now.under }
         requires g_positive { 0 < g }
-        ensures value { SomeIff result (SumOverFits self.now other.now) (sum_over self.now other.now) }
+        ensures value { IfSumOverFits self.now other.now result }
     {
         match (
             self.scaled(part(other.under(), g)),
@@ -39,10 +41,10 @@ impl Fraction {
     fn sum_from(&self, other: &Fraction, g: u128, top: i128) -> Option<Fraction>
         requires g_is { g ≡ gcd_of self.now.under other.now.under }
         requires g_positive { 0 < g }
-        requires g_small { g < 2 ^ 127 }
+        requires g_small { g < size_limit }
         requires top_is { top ≡ sum_over self.now other.now }
-        requires top_small { unsigned_abs top < 2 ^ 127 }
-        ensures value { SomeIff result (sum_under self.now other.now < 2 ^ 127) (add self.now other.now) }
+        requires top_small { Fits top }
+        ensures value { IfSumUnderFits self.now other.now result }
     {
         let h = gcd(top.unsigned_abs(), g);
         match size_product(part(self.under(), g), part(other.under(), h)) {
@@ -56,7 +58,7 @@ impl Fraction {
     pub fn add(&self, other: &Fraction) -> Result<Fraction, Wide>
         ensures value { IfOk result (λ r. r ≡ add self.now other.now) }
         ensures wide { IsErr result ↔ SumIsWide self.now other.now }
-        ensures operands { IfErr result (λ w. w ≡ record { op = Op.Add; left = self.now; right = other.now }) }
+        ensures operands { IfErr result (Refuses Op.Add self.now other.now) }
     {
         let g = gcd(self.under(), other.under());
         if let Some(top) = self.sum_over(other, g) {
@@ -72,7 +74,7 @@ impl Fraction {
     pub fn sub(&self, other: &Fraction) -> Result<Fraction, Wide>
         ensures value { IfOk result (λ r. r ≡ sub self.now other.now) }
         ensures wide { IsErr result ↔ SumIsWide self.now (neg other.now) }
-        ensures operands { IfErr result (λ w. w ≡ record { op = Op.Sub; left = self.now; right = other.now }) }
+        ensures operands { IfErr result (Refuses Op.Sub self.now other.now) }
     {
         match self.add(&other.neg()) {
             Ok(difference) => Ok(difference),

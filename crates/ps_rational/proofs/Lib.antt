@@ -8,4 +8,5 @@ pub mod Sums
 pub mod Whole
 pub mod NamedNumbers
 pub mod Multiples
+pub mod Scaling
 pub mod WeightedSums

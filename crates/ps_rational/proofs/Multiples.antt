@@ -1,9 +1,11 @@
 -- The least common multiple.
-use Rattle.std.proofs.Common.{◌≡◌, ℕ, ◌*◌, ◌/◌, ◌<◌, sym, ap, ◌∙◌, subst, arith}
-use Rattle.std.proofs.Math.Nat.{div-mul_cancel, dvd-mul_left, mul-dvd-mul_right, dvd_of_mul-dvd-mul_right, dvd_antisymm, mul_assoc}
+use Rattle.std.proofs.Common.{◌≡◌, ℕ, zero, suc, ◌*◌, ◌/◌, ◌<◌, sym, ap, ◌∙◌, subst, arith, inl, inr}
+use Rattle.std.proofs.lemmas.Bool.{cases_eq}
+use Rattle.std.proofs.Math.Nat.{div-mul_cancel, dvd-mul_left, mul-dvd-mul_right, dvd_of_mul-dvd-mul_right, dvd_antisymm, dvd_trans, one-dvd, mul-pos, mul_assoc}
 use Rattle.std.specs.Int.{IsGcd, ◌∣◌}
-use Rattle.ps_rational.specs.Gcd.{gcd, lcm, IsLeastCommonMultiple}
+use Rattle.ps_rational.specs.Gcd.{gcd, lcm, lcm_to, IsLeastCommonMultiple, ArePositive, IsMultipleOfEach}
 use Rattle.ps_rational.specs.Coprime.{gcd_is, gcd_pos_right, coprime_rest, gauss}
+use Rattle.ps_rational.specs.Parts.{part_pos}
 
 -- with u and v coprime, a common multiple of u * g and v * g is a multiple of u * (v * g)
 common : (u v g k : ℕ) → 0 < g → IsGcd u v 1 → u * g ∣ k → v * g ∣ k → u * (v * g) ∣ k
@@ -36,3 +38,25 @@ lcm_is a b h =
 -- there is one least common multiple
 pub same_lcm : (a b m k : ℕ) → IsLeastCommonMultiple a b m → IsLeastCommonMultiple a b k → m ≡ k
 same_lcm a b m k p q = dvd_antisymm (p.least k q.left q.right) (q.least m p.left p.right)
+
+-- ---- of numbers one after the other
+pub lcm_to_positive : (n : ℕ) (d : ℕ → ℕ) → ArePositive n d → 0 < lcm_to n d
+lcm_to_positive zero d h = omega arith
+lcm_to_positive (suc n) d h =
+    let before : 0 < lcm_to n d = lcm_to_positive n d (λ i l. h i (omega arith)) in
+    let last : 0 < d n = h n (omega arith) in
+    mul-pos (part_pos (lcm_to n d) (gcd (lcm_to n d) (d n)) before (gcd_is (lcm_to n d) (d n)).0) last
+
+pub lcm_to_multiple : (n : ℕ) (d : ℕ → ℕ) → ArePositive n d → IsMultipleOfEach n d (lcm_to n d)
+lcm_to_multiple zero d h = λ i l. absurd (omega arith)
+lcm_to_multiple (suc n) d h = λ i l.
+    let least = lcm_is (lcm_to n d) (d n) (h n (omega arith)) in
+    elim (cases_eq i n) [
+      | inl e ↦ subst (λ k. d k ∣ lcm (lcm_to n d) (d n)) (sym e) least.right
+      | inr ne ↦ dvd_trans (d i) (lcm_to_multiple n d (λ k r. h k (omega arith)) i (omega arith)) least.left
+    ]
+
+pub lcm_to_least : (n : ℕ) (d : ℕ → ℕ) (m : ℕ) → ArePositive n d → IsMultipleOfEach n d m → lcm_to n d ∣ m
+lcm_to_least zero d m h k = one-dvd m
+lcm_to_least (suc n) d m h k =
+    (lcm_is (lcm_to n d) (d n) (h n (omega arith))).least m (lcm_to_least n d m (λ i l. h i (omega arith)) (λ i l. k i (omega arith))) (k n (omega arith))

@@ -1,5 +1,5 @@
 -- The laws of sums of rational numbers.
-use Rattle.std.proofs.Common.{◌≡◌, ◌≢◌, ℕ, zero, suc, ◌<◌, [], ◌∷◌, sym, refl, ap, ◌∙◌, arith, inl, inr}
+use Rattle.std.proofs.Common.{◌≡◌, ◌≢◌, ℕ, zero, suc, ◌+◌, ◌<◌, [], ◌∷◌, sym, refl, ap, ◌∙◌, arith, inl, inr}
 use Rattle.std.proofs.lemmas.Bool.{cases_eq}
 use Rattle.ps_rational.specs.Rational.{Rational, add, mul, neg, sub, zero_q, one_q}
 use Rattle.ps_rational.specs.Order.{IsNonneg, AtMost}
@@ -33,6 +33,17 @@ sum_swap zero m f = sym (sum_of_zeros m)
 sum_swap (suc n) m f =
     ap (λ k. add k (sum_to m (λ j. f n j))) (sum_swap n m f)
     ∙ sym (sum-add m (λ k. sum_to n (λ i. f i k)) (λ k. f n k))
+
+-- the first terms, and then the rest
+pub sum_split : (a b : ℕ) (h : ℕ → Rational) → sum_to (suc (a + b)) h ≡ add (sum_to (suc a) h) (sum_to b (λ k. h (suc (a + k))))
+sum_split a zero h =
+    let e : a + zero ≡ a = omega arith in
+    ap (λ n. sum_to (suc n) h) e ∙ ring_q (sum_to (suc a) h ∷ []) (var 0) (plus (var 0) none) refl
+sum_split a (suc b) h =
+    let e : a + suc b ≡ suc (a + b) = omega arith in
+    ap (λ n. sum_to (suc n) h) e
+    ∙ ap (λ k. add k (h (suc (a + b)))) (sum_split a b h)
+    ∙ ring_q (sum_to (suc a) h ∷ (sum_to b (λ k. h (suc (a + k))) ∷ (h (suc (a + b)) ∷ []))) (plus (plus (var 0) (var 1)) (var 2)) (plus (var 0) (plus (var 1) (var 2))) refl
 
 -- a sum with one term that counts
 pub sum_one : (n p : ℕ) (f : ℕ → Rational) → p < n → ((i : ℕ) → i ≢ p → f i ≡ zero_q) → sum_to n f ≡ f p

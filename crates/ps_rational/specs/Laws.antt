@@ -1,6 +1,9 @@
 -- What the laws of rational numbers and of sums say.
-use Rattle.std.specs.Prelude.{◌≡◌, ◌≢◌, ◌⊎◌, ◌↔◌, ℕ, ◌<◌, ℤ, pos, ◌+ℤ◌, ◌*ℤ◌, ◌≤ℤ◌, List, ◌∷◌, ◌++◌, All}
-use Rattle.ps_rational.specs.Rational.{Rational, add, mul, sub, zero_q}
+use Rattle.std.specs.Prelude.{◌≡◌, ◌≢◌, ◌⊎◌, ◌↔◌, ℕ, suc, ◌+◌, ◌<◌, ℤ, pos, ◌+ℤ◌, ◌*ℤ◌, ◌≤ℤ◌, List, ◌∷◌, ◌++◌, All}
+use Rattle.std.specs.Int.{◌∣◌}
+use Rattle.ps_rational.specs.Gcd.{lcm, lcm_to, IsLeastCommonMultiple, ArePositive, IsMultipleOfEach}
+use Rattle.ps_rational.specs.Rational.{Rational, add, mul, sub, whole, zero_q}
+use Rattle.ps_rational.specs.Scaled.{scaled}
 use Rattle.ps_rational.specs.Order.{IsNonneg, AtMost, IsLess}
 use Rattle.ps_rational.specs.Sums.{sum_to, sum_of}
 
@@ -32,6 +35,7 @@ pub record SumsOfRationals : Type 0 where
   pub added : (n : ℕ) (f g : ℕ → Rational) → sum_to n (λ i. add (f i) (g i)) ≡ add (sum_to n f) (sum_to n g)
   pub subtracted : (n : ℕ) (f g : ℕ → Rational) → sum_to n (λ i. sub (f i) (g i)) ≡ sub (sum_to n f) (sum_to n g)
   pub swapped : (n m : ℕ) (f : ℕ → ℕ → Rational) → sum_to n (λ i. sum_to m (λ k. f i k)) ≡ sum_to m (λ k. sum_to n (λ i. f i k))
+  pub split : (a b : ℕ) (f : ℕ → Rational) → sum_to (suc (a + b)) f ≡ add (sum_to (suc a) f) (sum_to b (λ k. f (suc (a + k))))
   pub single : (n p : ℕ) (f : ℕ → Rational) → p < n → ((i : ℕ) → i ≢ p → f i ≡ zero_q) → sum_to n f ≡ f p
 
 -- weighted sums of signed whole numbers over the items of lists
@@ -42,3 +46,15 @@ pub record WeightedSums (A B : Type 0) : Type 0 where
   pub swapped : (f : A → B → ℤ) (xs : List A) (ys : List B) → sum_of (λ x. sum_of (f x) ys) xs ≡ sum_of (λ y. sum_of (λ x. f x y) xs) ys
   pub single : (w : A → ℤ) (xs ys : List A) (x : A) → All (λ y. w y ≡ pos 0) xs → All (λ y. w y ≡ pos 0) ys → sum_of w (xs ++ x ∷ ys) ≡ w x
   pub ordered : (v w : A → ℤ) (xs : List A) → All (λ x. v x ≤ℤ w x) xs → sum_of v xs ≤ℤ sum_of w xs
+
+-- the least common multiple of two numbers, and of positive numbers one after the other, which is positive
+pub record CommonMultiples : Type 0 where
+  pub two : (a b : ℕ) → 0 < b → IsLeastCommonMultiple a b (lcm a b)
+  pub positive : (n : ℕ) (d : ℕ → ℕ) → ArePositive n d → 0 < lcm_to n d
+  pub multiple : (n : ℕ) (d : ℕ → ℕ) → ArePositive n d → IsMultipleOfEach n d (lcm_to n d)
+  pub least : (n : ℕ) (d : ℕ → ℕ) (m : ℕ) → ArePositive n d → IsMultipleOfEach n d m → lcm_to n d ∣ m
+
+-- a multiple of a denominator makes a whole number, and whole numbers are told apart
+pub record ScaledNumbers : Type 0 where
+  pub value : (big : ℕ) (x : Rational) → x.under ∣ big → whole (scaled big x) ≡ mul (whole (pos big)) x
+  pub whole_tells : (y z : ℤ) → whole y ≡ whole z → y ≡ z

@@ -1,8 +1,11 @@
+-- Meaning
 pub mod Gcd
-pub mod Coprime
-pub mod Parts
 pub mod Rational
 pub mod Order
 pub mod Wide
 pub mod Sums
+pub mod Scaled
 pub mod Laws
+-- Bridge: what shows that a quotient is in lowest terms
+pub mod Coprime
+pub mod Parts

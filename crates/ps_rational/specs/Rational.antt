@@ -59,11 +59,12 @@ quotient z d = record {
   lowest = lowest_of z d;
 }
 
--- n / d, and n / 1 where d is 0
+-- the number, and 1 for 0
 abbrev pub at_least_one : ℕ → Positive
 at_least_one zero = one_positive
 at_least_one (suc n) = suc_positive n
 
+-- z / d, and z / 1 where d is 0
 abbrev pub fraction : ℤ → ℕ → Rational
 fraction z d = quotient z (at_least_one d)
 

@@ -3,9 +3,13 @@ use Rattle.std.specs.Prelude.{ℕ, ◌*◌, ◌/◌, ◌^◌, ◌<◌, ℤ, pos,
 use Rattle.ps_rational.specs.Gcd.{gcd}
 use Rattle.ps_rational.specs.Rational.{Rational}
 
+-- above the size of each number that a fraction holds: 2^127
+abbrev pub size_limit : ℕ
+size_limit = 2 ^ 127
+
 -- at most 2^127 - 1 in size
 abbrev pub Fits : ℤ → Type 0
-Fits z = unsigned_abs z < 2 ^ 127
+Fits z = unsigned_abs z < size_limit
 
 -- a/b times c/d, after gcd(|a|, d) and gcd(|c|, b) were cancelled: the numerator
 abbrev pub product_over : Rational → Rational → ℤ
@@ -17,7 +21,7 @@ product_under x y = (x.under / gcd (unsigned_abs y.over) x.under) * (y.under / g
 
 -- both named numbers of a product fit
 abbrev pub ProductFits : Rational → Rational → Type 0
-ProductFits x y = Fits (product_over x y) × (product_under x y < 2 ^ 127)
+ProductFits x y = Fits (product_over x y) × (product_under x y < size_limit)
 
 -- one of them is too large
 unfoldable pub ProductIsWide : Rational → Rational → Type 0
@@ -45,7 +49,7 @@ SumOverFits x y = Fits (sum_left x y) × Fits (sum_right x y) × Fits (sum_over 
 
 -- all named numbers of a sum fit
 abbrev pub SumFits : Rational → Rational → Type 0
-SumFits x y = SumOverFits x y × (sum_under x y < 2 ^ 127)
+SumFits x y = SumOverFits x y × (sum_under x y < size_limit)
 
 -- one of them is too large
 unfoldable pub SumIsWide : Rational → Rational → Type 0

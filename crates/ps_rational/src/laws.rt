@@ -1,9 +1,9 @@
 //! The laws that contracts of other crates rest on. A call does nothing: its contract is the law.
 
-ghost use Rattle.std.specs.Prelude.{◌≡◌, ◌≢◌, ℕ, ◌<◌};
-ghost use Rattle.ps_rational.specs.Gcd.{lcm, IsLeastCommonMultiple};
+ghost use Rattle.std.specs.Prelude.{◌≡◌, ◌≢◌};
 ghost use Rattle.ps_rational.specs.Rational.{Rational, add, mul, neg, zero_q, one_q, inverse};
 ghost use Rattle.ps_rational.specs.Laws.{CommutativeRing, IsOrdered, SumsOfRationals, WeightedSums};
+ghost use Rattle.ps_rational.specs.Laws.{CommonMultiples, ScaledNumbers};
 
 /// The rational numbers are a field.
 pub fn field_laws()
@@ -27,7 +27,13 @@ pub fn weighted_sum_laws<A, B>()
     ensures sums { WeightedSums A B }
 {}
 
-/// The least common multiple divides every common multiple.
+/// The least common multiple of two numbers, and of numbers one after the other, divides each of
+/// their common multiples.
 pub fn lcm_laws()
-    ensures least { (a b : ℕ) → 0 < b → IsLeastCommonMultiple a b (lcm a b) }
+    ensures multiples { CommonMultiples }
+{}
+
+/// A rational number times a multiple of its denominator is a whole number.
+pub fn scaled_laws()
+    ensures scaled { ScaledNumbers }
 {}

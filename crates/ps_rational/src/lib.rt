@@ -1,6 +1,7 @@
-//! Rational numbers in lowest terms: their laws, order and sums, and when a fraction of 128-bit numbers is too large.
+//! Rational numbers in lowest terms: their laws, order and sums, their least common denominators,
+//! and when a fraction of 128-bit numbers is too large.
 #![tactic(auto)]
 
 mod laws;
 
-pub use laws::{field_laws, lcm_laws, order_laws, sum_laws, weighted_sum_laws};
+pub use laws::{field_laws, lcm_laws, order_laws, scaled_laws, sum_laws, weighted_sum_laws};

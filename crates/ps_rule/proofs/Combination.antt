@@ -12,8 +12,8 @@ use Rattle.ps_rational.proofs.Sums.{sum_same, sum_scale}
 use Rattle.ps_rational.proofs.Whole.{whole-add, whole-mul, whole_sum, unscaled}
 use Rattle.ps_basis.specs.Table.{Stands}
 use Rattle.ps_basis.proofs.Pricing.{carried_is_priced}
-use Rattle.ps_rule.specs.Rule.{Phase, Face, carried, Improves, IsResting}
-use Rattle.ps_rule.specs.Pivots.{System, face}
+use Rattle.ps_rule.specs.Rule.{Phase, SimplexTable, carried, Improves, IsResting}
+use Rattle.ps_rule.specs.Pivots.{System, simplex_table}
 
 -- F is a whole positive multiple of what a column carries above its cost: it is at least 1 exactly where the column improves
 pub improves_from : (big : ℕ) (z : ℤ) (carried cost : Rational) → whole z ≡ mul (whole (pos big)) (sub carried cost) → pos 0 <ℤ z → IsLess cost carried
@@ -58,25 +58,25 @@ combination_is n big P a c multiplier carried scaled priced =
     ∙ ring_q (L ∷ (carried ∷ (whole c ∷ []))) (plus (by (var 0) (var 1)) (by (minus (var 0)) (var 2))) (by (var 0) (plus (var 1) (minus (var 2)))) refl
 
 -- at rest no slack and no world of the pool carries more than its cost: a slack's multiplier is at most 0
-pub resting_most : (phase : Phase) (f : Face) (cost : ℕ → Rational) (j : ℕ) → IsResting phase f cost → 0 < j → j < f.width → f.artificial j ≡ false → AtMost (carried f cost j) (cost j)
+pub resting_most : (phase : Phase) (f : SimplexTable) (cost : ℕ → Rational) (j : ℕ) → IsResting phase f cost → 0 < j → j < f.width → f.artificial j ≡ false → AtMost (carried f cost j) (cost j)
 resting_most phase f cost j rest h l real = at_most_of (cost j) (carried f cost j) (λ less. rest.none j (record { column = h; within = l; real = real; more = less }))
 
 -- a world whose combination is at least 1 improves once its column is there, so the table is moving
 pub priced_improves : (s : System) (w : ℕ) (basic : ℕ → ℕ) (X : ℕ → ℕ → Rational) (cost : ℕ → Rational) (j big : ℕ) (z : ℤ)
     → Stands s.rows w s.columns basic X → 0 < j → j < w → s.artificial j ≡ false
-    → whole z ≡ mul (whole (pos big)) (sub (sum_to s.rows (λ m. mul (carried (face s w basic X) cost (suc m)) (s.columns m j))) (cost j))
+    → whole z ≡ mul (whole (pos big)) (sub (sum_to s.rows (λ m. mul (carried (simplex_table s w basic X) cost (suc m)) (s.columns m j))) (cost j))
     → pos 0 <ℤ z
-    → Improves (face s w basic X) cost j
+    → Improves (simplex_table s w basic X) cost j
 priced_improves s w basic X cost j big z stands h l real e above = record {
   column = h;
   within = l;
   real = real;
-  more = improves_from big z (carried (face s w basic X) cost j) (cost j) (e ∙ ap (λ k. mul (whole (pos big)) (sub k (cost j))) (sym (carried_is_priced s.rows w s.columns X basic cost stands j l))) above;
+  more = improves_from big z (carried (simplex_table s w basic X) cost j) (cost j) (e ∙ ap (λ k. mul (whole (pos big)) (sub k (cost j))) (sym (carried_is_priced s.rows w s.columns X basic cost stands j l))) above;
 }
 
 -- a column that is there and doesn't improve has a combination of at most 0: no world of the pool is priced again
 pub pool_not_priced : (phase : Phase) (s : System) (w : ℕ) (basic : ℕ → ℕ) (X : ℕ → ℕ → Rational) (cost : ℕ → Rational) (j big : ℕ) (z : ℤ)
-    → Stands s.rows w s.columns basic X → IsResting phase (face s w basic X) cost → 0 < j → j < w → s.artificial j ≡ false
-    → whole z ≡ mul (whole (pos big)) (sub (sum_to s.rows (λ m. mul (carried (face s w basic X) cost (suc m)) (s.columns m j))) (cost j))
+    → Stands s.rows w s.columns basic X → IsResting phase (simplex_table s w basic X) cost → 0 < j → j < w → s.artificial j ≡ false
+    → whole z ≡ mul (whole (pos big)) (sub (sum_to s.rows (λ m. mul (carried (simplex_table s w basic X) cost (suc m)) (s.columns m j))) (cost j))
     → pos 0 <ℤ z → ⊥
 pool_not_priced phase s w basic X cost j big z stands rest h l real e above = rest.none j (priced_improves s w basic X cost j big z stands h l real e above)

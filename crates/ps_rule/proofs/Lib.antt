@@ -1,3 +1,4 @@
 pub mod Rays
 pub mod Combination
+pub mod Alike
 pub mod OnePivot

@@ -1,2 +1,4 @@
+-- Meaning
 pub mod Rule
 pub mod Pivots
+pub mod Laws

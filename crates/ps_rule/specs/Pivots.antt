@@ -2,7 +2,7 @@
 use Rattle.std.specs.Prelude.{ℕ, Bool, List, [], ◌∷◌, ◌++◌}
 use Rattle.ps_rational.specs.Rational.{Rational}
 use Rattle.ps_basis.specs.Table.{Belongs, Based}
-use Rattle.ps_rule.specs.Rule.{Phase, Face, Enters, IsDueToEnd, Leaves}
+use Rattle.ps_rule.specs.Rule.{Phase, SimplexTable, Enters, IsDueToEnd, Leaves}
 
 -- rows and columns: column 0 is the right side, then come the homes, then the worlds
 pub record System : Type 0 where
@@ -10,17 +10,21 @@ pub record System : Type 0 where
   pub artificial : ℕ → Bool
   pub columns : ℕ → ℕ → Rational
 
+-- the system of n rows with these artificials and columns
+abbrev pub system_of : ℕ → (ℕ → Bool) → (ℕ → ℕ → Rational) → System
+system_of n artificial A = record { rows = n; artificial = artificial; columns = A }
+
 -- a table of the system, of w columns, as the rule sees it
-abbrev pub face : System → ℕ → (ℕ → ℕ) → (ℕ → ℕ → Rational) → Face
-face s w basic X = record { rows = s.rows; width = w; entry = X; basic = basic; artificial = s.artificial }
+abbrev pub simplex_table : System → ℕ → (ℕ → ℕ) → (ℕ → ℕ → Rational) → SimplexTable
+simplex_table s w basic X = record { rows = s.rows; width = w; entry = X; basic = basic; artificial = s.artificial }
 
 -- a pivot by the rule at a table of the basis, with w columns
 pub record IsLawfulAt (phase : Phase) (s : System) (cost : ℕ → Rational) (w : ℕ) (basic : ℕ → ℕ) (q p : ℕ) : Type 0 where
   pub table : ℕ → ℕ → Rational
   pub belongs : Belongs s.rows w s.columns basic table
-  pub unfinished : IsDueToEnd phase (face s w basic table) → ⊥
-  pub enters : Enters (face s w basic table) cost q
-  pub leaves : Leaves phase (face s w basic table) q p
+  pub unfinished : IsDueToEnd phase (simplex_table s w basic table) → ⊥
+  pub enters : Enters (simplex_table s w basic table) cost q
+  pub leaves : Leaves phase (simplex_table s w basic table) q p
 
 -- the column that enters and the row that leaves
 pub record Pivot : Type 0 where

@@ -4,12 +4,12 @@ use Rattle.ps_rational.specs.Rational.{Rational, div, zero_q}
 use Rattle.ps_rational.specs.Order.{AtMost, IsLess, IsAbove}
 use Rattle.ps_basis.specs.Table.{carried_by}
 
--- phase one looks for a table without artificials, phase two for the best one
+-- phase one looks for a table whose basic artificials have value 0, phase two for the best one
 pub data Phase : Type 0 where
   First Second : Phase
 
 -- a table as the rule sees it: column 0 is the right side, the others stand in their order
-pub record Face : Type 0 where
+pub record SimplexTable : Type 0 where
   pub rows : ℕ
   pub width : ℕ
   pub entry : ℕ → ℕ → Rational
@@ -17,72 +17,72 @@ pub record Face : Type 0 where
   pub artificial : ℕ → Bool
 
 -- the sum of the basic columns' costs times the entries of column j
-abbrev pub carried : Face → (ℕ → Rational) → ℕ → Rational
+abbrev pub carried : SimplexTable → (ℕ → Rational) → ℕ → Rational
 carried f cost j = carried_by f.rows cost f.basic f.entry j
 
 -- a slack or a world whose carried cost is greater than its cost; an artificial never improves
-pub record Improves (f : Face) (cost : ℕ → Rational) (j : ℕ) : Type 0 where
+pub record Improves (f : SimplexTable) (cost : ℕ → Rational) (j : ℕ) : Type 0 where
   pub column : 0 < j
   pub within : j < f.width
   pub real : f.artificial j ≡ false
   pub more : IsLess (cost j) (carried f cost j)
 
 -- each basic artificial has value 0
-pub record IsFeasible (f : Face) : Type 0 where
+pub record IsFeasible (f : SimplexTable) : Type 0 where
   pub zero : (i : ℕ) → i < f.rows → f.artificial (f.basic i) ≡ true → f.entry i 0 ≡ zero_q
 
 -- phase one is due to end at a feasible table, phase two never is
-abbrev pub IsDueToEnd : Phase → Face → Type 0
+abbrev pub IsDueToEnd : Phase → SimplexTable → Type 0
 IsDueToEnd First f = IsFeasible f
 IsDueToEnd Second f = ⊥
 
 -- not due to end, and a column improves
-pub record IsMoving (phase : Phase) (f : Face) (cost : ℕ → Rational) : Type 0 where
+pub record IsMoving (phase : Phase) (f : SimplexTable) (cost : ℕ → Rational) : Type 0 where
   pub unfinished : IsDueToEnd phase f → ⊥
   pub column : ℕ
   pub improves : Improves f cost column
 
 -- not due to end, and no column improves
-pub record IsResting (phase : Phase) (f : Face) (cost : ℕ → Rational) : Type 0 where
+pub record IsResting (phase : Phase) (f : SimplexTable) (cost : ℕ → Rational) : Type 0 where
   pub unfinished : IsDueToEnd phase f → ⊥
   pub none : (j : ℕ) → Improves f cost j → ⊥
 
 -- the improving column of least number
-pub record Enters (f : Face) (cost : ℕ → Rational) (q : ℕ) : Type 0 where
+pub record Enters (f : SimplexTable) (cost : ℕ → Rational) (q : ℕ) : Type 0 where
   pub improves : Improves f cost q
   pub least : (j : ℕ) → j < q → Improves f cost j → ⊥
 
 -- a row with an artificial basic column and an entry other than 0 in column q
-pub record IsArtificialRow (f : Face) (q i : ℕ) : Type 0 where
+pub record IsArtificialRow (f : SimplexTable) (q i : ℕ) : Type 0 where
   pub within : i < f.rows
   pub artificial : f.artificial (f.basic i) ≡ true
   pub entry : f.entry i q ≢ zero_q
 
 -- the least of them
-pub record IsLeastArtificialRow (f : Face) (q p : ℕ) : Type 0 where
+pub record IsLeastArtificialRow (f : SimplexTable) (q p : ℕ) : Type 0 where
   pub row : IsArtificialRow f q p
   pub least : (i : ℕ) → i < p → IsArtificialRow f q i → ⊥
 
 -- a row with an entry above 0
-pub record IsRising (f : Face) (q i : ℕ) : Type 0 where
+pub record IsRising (f : SimplexTable) (q i : ℕ) : Type 0 where
   pub within : i < f.rows
   pub above : IsAbove (f.entry i q)
 
 -- value over entry
-abbrev pub ratio : Face → ℕ → ℕ → Rational
+abbrev pub ratio : SimplexTable → ℕ → ℕ → Rational
 ratio f q i = div (f.entry i 0) (f.entry i q)
 
 -- row p goes before row i: a lesser ratio, or the same one and a lesser basic column
-pub record Precedes (f : Face) (q p i : ℕ) : Type 0 where
+pub record Precedes (f : SimplexTable) (q p i : ℕ) : Type 0 where
   pub at_most : AtMost (ratio f q p) (ratio f q i)
   pub tie : ratio f q p ≡ ratio f q i → f.basic p ≤ f.basic i
 
 -- of the rows with an entry above 0, one that goes before each other
-pub record HasLeastRatio (f : Face) (q p : ℕ) : Type 0 where
+pub record HasLeastRatio (f : SimplexTable) (q p : ℕ) : Type 0 where
   pub rising : IsRising f q p
   pub least : (i : ℕ) → IsRising f q i → Precedes f q p i
 
 -- the leaving row: in phase two the least artificial row, where there is one
-abbrev pub Leaves : Phase → Face → ℕ → ℕ → Type 0
+abbrev pub Leaves : Phase → SimplexTable → ℕ → ℕ → Type 0
 Leaves First f q p = HasLeastRatio f q p
 Leaves Second f q p = IsLeastArtificialRow f q p ⊎ (((i : ℕ) → IsArtificialRow f q i → ⊥) × HasLeastRatio f q p)

@@ -7,7 +7,7 @@ use Rattle.std.proofs.Common.{Result, Ok, Err, IfErr, IsErr, inl, inr}
 use Rattle.std.proofs.lemmas.Bool.{cases_eq}
 use Rattle.ps_rational.specs.Rational.{Rational}
 use Rattle.ps_rational.specs.Rational.{zero_q}
-use Rattle.ps_frac.specs.declared.fraction.Op.{Op}
+use Rattle.ps_frac.specs.declared.wide.Op.{Op}
 use Rattle.ps_table.specs.declared.place.Place.{Place}
 use Rattle.ps_table.specs.declared.place.WideAt.{WideAt}
 use Rattle.ps_table.specs.Places.{IsWide, IsWideAt}

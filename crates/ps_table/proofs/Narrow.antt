@@ -2,8 +2,8 @@
 use Rattle.std.proofs.Common.{◌≡◌, ◌≢◌, ℕ, suc, ◌+◌, ◌*◌, ◌/◌, ◌%◌, ◌<◌, List, length, get_or, arith, sym, ◌∙◌, subst, ℤ, pos, Result, Ok, Err, IfOk, IsErr, true, false, inl, inr}
 use Rattle.std.proofs.lemmas.Bool.{cases_eq}
 use Rattle.std.proofs.lemmas.Nat.{mod-mul-add, div-mul-add}
-use Rattle.ps_frac.specs.declared.fraction.Op.{Op}
-use Rattle.ps_frac.specs.declared.fraction.Op.TheVariants.{Add, Sub, Mul, Div}
+use Rattle.ps_frac.specs.declared.wide.Op.{Op}
+use Rattle.ps_frac.specs.declared.wide.Op.TheVariants.{Add, Sub, Mul, Div}
 use Rattle.ps_rational.specs.Rational.{Rational, fraction, mul, div}
 use Rattle.ps_rational.specs.Sums.{sum_to}
 use Rattle.ps_pool.specs.declared.col.Col.{Col}

@@ -1,7 +1,7 @@
 -- The places where an operation of a table can be refused, with their operands.
 use Rattle.std.specs.Prelude.{◌≡◌, ◌≢◌, ℕ, suc, ◌<◌, List, get_or, length, ℤ, pos}
-use Rattle.ps_frac.specs.declared.fraction.Op.{Op}
-use Rattle.ps_frac.specs.declared.fraction.Op.TheVariants.{Add, Sub, Mul, Div, Lcm}
+use Rattle.ps_frac.specs.declared.wide.Op.{Op}
+use Rattle.ps_frac.specs.declared.wide.Op.TheVariants.{Add, Sub, Mul, Div, Lcm}
 use Rattle.ps_rational.specs.Wide.{ProductIsWide, SumIsWide}
 use Rattle.ps_rational.specs.Rational.{Rational, fraction, mul, neg}
 use Rattle.ps_rational.specs.Rational.{div, inverse}

@@ -2,4 +2,4 @@ use Rattle.ps_basis.proofs.Pricing.{right_is_home, value_is_multiplier, carried_
 use Rattle.ps_basis.proofs.laws.prices.Goals as goal
 
 pub returns : goal.returns
-returns c = record { right_side = right_is_home; value = value_is_multiplier; columns = carried_is_priced }
+returns c = record { priced = record { right_side = right_is_home; value = value_is_multiplier; columns = carried_is_priced } }

@@ -2,4 +2,4 @@ use Rattle.ps_rule.proofs.Combination.{combination_is, priced_improves, improves
 use Rattle.ps_rule.proofs.laws.combinations.Goals as goal
 
 pub returns : goal.returns
-returns c = record { value = combination_is; improves = priced_improves; back = improves_back; rest = resting_most }
+returns c = record { priced = record { value = combination_is; improves = priced_improves; back = improves_back; rest = resting_most } }

@@ -5,7 +5,7 @@ use Rattle.ps_table.specs.Tableau.{cell_at}
 use Rattle.ps_table.specs.Places.{IsPivotPlace}
 use Rattle.ps_table.proofs.Columns.{refused_at, cell_within}
 use Rattle.ps_table.proofs.Narrow.{narrow_as}
-use Rattle.ps_frac.specs.declared.fraction.Op.TheVariants.{Sub}
+use Rattle.ps_frac.specs.declared.wide.Op.TheVariants.{Sub}
 use Rattle.ps_table.proofs.pivoting.reduced.Goals as goal
 
 pub returns-clause-refused : goal.returns-clause-refused

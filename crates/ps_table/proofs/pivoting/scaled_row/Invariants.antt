@@ -1,5 +1,5 @@
 use Rattle.std.proofs.Common.{◌≡◌, ◌<◌, ℕ, get_or, length}
-use Rattle.ps_frac.specs.declared.fraction.Op.TheVariants.{Div}
+use Rattle.ps_frac.specs.declared.wide.Op.TheVariants.{Div}
 use Rattle.ps_rational.specs.Rational.{zero_q, div}
 use Rattle.ps_table.specs.Tableau.{cell_at}
 use Rattle.ps_table.specs.Places.{IsWide}

@@ -1,5 +1,5 @@
 use Rattle.std.proofs.Common.{◌≡◌, ◌<◌, ℕ, length}
-use Rattle.ps_frac.specs.declared.fraction.Op.TheVariants.{Add}
+use Rattle.ps_frac.specs.declared.wide.Op.TheVariants.{Add}
 use Rattle.ps_table.specs.Tableau.{carried_to, part_at, spot}
 use Rattle.ps_table.specs.Places.{IsWide}
 use Rattle.ps_table.proofs.table.Table.carried.Given as goal

@@ -1,0 +1,13 @@
+//! The limits of the numbers.
+
+/// Above the size of every number that a fraction holds.
+pub const SIZE_LIMIT: u128 = 1 << 127;
+
+/// The greatest limit of a least common multiple.
+pub const MOST_MULTIPLE: i128 = 1 << 126;
+
+/// Above every number that fits 64 bits.
+pub(crate) const WORD: u128 = 1 << 64;
+
+/// Two sizes below it have a product that fits.
+pub(crate) const HALF: u128 = 1 << 63;
