@@ -1,17 +1,10 @@
 -- The limits of literals and of constraints.
-use Rattle.std.specs.Prelude.{ℕ, ◌≤◌, ◌^◌, ℤ, unsigned_abs}
+use Rattle.std.specs.Prelude.{ℕ, ◌≤◌, ℤ, unsigned_abs}
+pub use Rattle.ps_steps.specs.Limits.{most_size, most_weight}
 
 -- so many variables, numbered from 1 on
 abbrev pub most_variables : ℕ
 most_variables = 1024
-
--- what the coefficients of a constraint and the size of its degree sum to at most
-abbrev pub most_size : ℕ
-most_size = 2 ^ 126
-
--- what the sizes of weights, and of what they are to sum to at least, sum to at most
-abbrev pub most_weight : ℕ
-most_weight = 2 ^ 125
 
 -- the number of a literal: its size is that of a variable
 abbrev pub IsLiteral : ℤ → Type 0

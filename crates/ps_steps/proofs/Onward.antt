@@ -1,6 +1,7 @@
 -- Lists of steps with one more step behind them.
 use Rattle.std.proofs.Common.{◌≡◌, ℕ, Option, Some, None, List, [], ◌∷◌, ◌++◌, refl, ◌∙◌}
-use Rattle.ps_steps.specs.Steps.{Known, Step, Refusal, id_of, refusal_of, IsLawful, AreLawful, with_step, with_steps, is_contradiction, ends_in_contradiction, or_later, first_refusal}
+use Rattle.ps_steps.specs.Steps.{Known, Step, Refusal, id_of, refusal_of, IsLawful, AreLawful, with_step, with_steps, is_contradiction, ends_in_contradiction, or_later, first_refusal, Refutes, Entails, IsUnmet}
+use Rattle.ps_steps.proofs.Lawful.{lawful-entails, refutes-unmet}
 
 pub steps-append : (known : Known) (ss : List Step) (s : Step) → with_steps known (ss ++ s ∷ []) ≡ with_step (with_steps known ss) s
 steps-append known [] s = refl
@@ -51,3 +52,13 @@ refusal-kept v known (t ∷ ss) s r e = by_first (refusal_of v known t) (refusal
         → or_later (id_of t) o (first_refusal v (with_step known t) ss) ≡ Some r → or_later (id_of t) o (first_refusal v (with_step known t) (ss ++ s ∷ [])) ≡ Some r
     by_first None later e = later e
     by_first (Some why) later e = e
+
+pub onward : (first known later : Known) → Entails first known → Entails known later → Entails first later
+onward first known later p q = record { met = λ w m. q.met w (p.met w m) }
+
+pub list-entailed : (v : ℕ) (known : Known) (ss : List Step) → AreLawful v known ss → Entails known (with_steps known ss)
+list-entailed v known [] l = record { met = λ w m. m }
+list-entailed v known (s ∷ ss) l = onward known (with_step known s) (with_steps known (s ∷ ss)) (lawful-entails v known s l.0) (list-entailed v (with_step known s) ss l.1)
+
+pub refuted-unmet : (v : ℕ) (known : Known) (ss : List Step) → Refutes v known ss → IsUnmet known
+refuted-unmet v known ss r = record { none = λ w m. refutes-unmet w v known ss r m }

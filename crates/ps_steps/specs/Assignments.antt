@@ -1,5 +1,6 @@
 -- Literals, as whole numbers that aren't 0, and the truth values of their variables.
 use Rattle.std.specs.Prelude.{ℕ, zero, suc, ◌-◌, ◌<◌, ◌≤◌, ◌≡◌, ◌≢◌, ℤ, pos, negsuc, Bool, true, false, cond, not, Option, Some, None, List, length, map, unsigned_abs, slice_index_or, slice_set, replicate, AllPairs}
+pub use Rattle.ps_meaning.specs.Formula.{agree}
 
 -- the place of a literal's variable in an assignment: that of variable n is n - 1
 abbrev pub place : ℤ → ℕ
@@ -13,10 +14,6 @@ is_positive (negsuc n) = false
 -- the literal of the variable at a place
 abbrev pub literal_at : ℕ → Bool → ℤ
 literal_at p positive = cond positive (pos (suc p)) (negsuc p)
-
--- whether two truth values are the same
-abbrev pub agree : Bool → Bool → Bool
-agree a b = cond a b (not b)
 
 -- a full assignment gives each variable a truth value; past the end it is false
 unfoldable pub holds : List Bool → ℤ → Bool

@@ -4,7 +4,7 @@ use Rattle.std.specs.List.{list_any}
 use Rattle.ps_steps.specs.Assignments.{Assignment, place, value_of, holds, full, values_of, IsComplete, AreDifferent}
 use Rattle.ps_steps.specs.Constraints.{Constraint, IsMet, is_open, slack, is_violated, with_forced, Forces, Covers}
 use Rattle.ps_steps.specs.Weights.{Weighted, true_weight, constraint_of, clause_of, weighted, IsWithin, IsPlain, IsNormal}
-use Rattle.ps_steps.specs.Steps.{Known, Step, id_of, lits_of, hints_of, AreWithin, Refusal, refusal_of, IsLawful, added, with_step, with_steps, is_contradiction, AreLawful, ends_in_contradiction, or_later, first_refusal, Refutes, AreMet, Entails}
+use Rattle.ps_steps.specs.Steps.{Known, Step, id_of, lits_of, hints_of, AreWithin, Refusal, refusal_of, IsLawful, added, with_step, with_steps, is_contradiction, AreLawful, ends_in_contradiction, or_later, first_refusal, Refutes, AreMet, Entails, IsUnmet}
 
 -- ---- constraints
 -- the constraint of weighted literals is met where the true ones weigh at least so much, and nowhere else
@@ -64,13 +64,21 @@ StepsFollow = (w : List Bool) (variables : ℕ) (known : Known) (s : Step) → A
 abbrev pub StepsAreEntailed : Type 0
 StepsAreEntailed = (variables : ℕ) (known : Known) (s : Step) → IsLawful variables known s → Entails known (with_step known s)
 
+-- what is known after a list of lawful steps follows from what was known before
+abbrev pub ListsAreEntailed : Type 0
+ListsAreEntailed = (variables : ℕ) (known : Known) (ss : List Step) → AreLawful variables known ss → Entails known (with_steps known ss)
+
+-- what follows from what follows follows
+abbrev pub FollowingIsTransitive : Type 0
+FollowingIsTransitive = (first known later : Known) → Entails first known → Entails known later → Entails first later
+
 -- nothing meets a contradiction
 abbrev pub ContradictionsAreUnmet : Type 0
 ContradictionsAreUnmet = (w : List Bool) (s : Step) → is_contradiction s ≡ true → ¬ IsMet w (added s)
 
 -- nothing meets known constraints that lawful steps refute
 abbrev pub RefutedAreUnmet : Type 0
-RefutedAreUnmet = (w : List Bool) (variables : ℕ) (known : Known) (steps : List Step) → Refutes variables known steps → ¬ AreMet w known
+RefutedAreUnmet = (variables : ℕ) (known : Known) (steps : List Step) → Refutes variables known steps → IsUnmet known
 
 -- a list of steps is lawful with one more behind it where it is lawful and the step is lawful after it
 abbrev pub OneMoreIsLawful : Type 0

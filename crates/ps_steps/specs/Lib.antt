@@ -1,4 +1,5 @@
 -- Meaning
+pub mod Limits
 pub mod Assignments
 pub mod Constraints
 pub mod Weights

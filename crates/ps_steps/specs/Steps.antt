@@ -143,3 +143,7 @@ pub record AreMet (w : List Bool) (known : Known) : Type 0 where
 -- each full assignment that meets the first constraints meets the others
 pub record Entails (known later : Known) : Type 0 where
   pub met : (w : List Bool) → AreMet w known → AreMet w later
+
+-- no full assignment meets the known constraints
+pub record IsUnmet (known : Known) : Type 0 where
+  pub none : (w : List Bool) → ¬ AreMet w known

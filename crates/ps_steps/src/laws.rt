@@ -5,6 +5,7 @@ ghost use Rattle.ps_steps.specs.Laws.{FullKeepValues, FullMeetOrViolate, SlackFa
 ghost use Rattle.ps_steps.specs.Laws.{ForcedStay, ForcedAreSet, StepsFollow, StepsAreEntailed};
 ghost use Rattle.ps_steps.specs.Laws.{ContradictionsAreUnmet, RefutedAreUnmet, OneMoreIsLawful};
 ghost use Rattle.ps_steps.specs.Laws.{OneMoreIsKnown, OneMoreEnds, NoneIsRefused, OneMoreIsRefused};
+ghost use Rattle.ps_steps.specs.Laws.{ListsAreEntailed, FollowingIsTransitive};
 ghost use Rattle.ps_steps.specs.Laws.{RefusalsStay, LiteralsDiffer, StepsStayWithin, StepsAreShort};
 
 /// A full assignment that meets the known constraints meets what each lawful step adds. Nothing
@@ -13,6 +14,8 @@ ghost use Rattle.ps_steps.specs.Laws.{RefusalsStay, LiteralsDiffer, StepsStayWit
 pub fn lawful_steps_follow()
     ensures step { StepsFollow }
     ensures entailed { StepsAreEntailed }
+    ensures list { ListsAreEntailed }
+    ensures onward { FollowingIsTransitive }
     ensures contradiction { ContradictionsAreUnmet }
     ensures refuted { RefutedAreUnmet }
 {}

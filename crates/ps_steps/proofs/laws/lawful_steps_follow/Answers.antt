@@ -1,4 +1,5 @@
-use Rattle.ps_steps.proofs.Lawful.{lawful-met, lawful-entails, contradiction-unmet, refutes-unmet}
+use Rattle.ps_steps.proofs.Lawful.{lawful-met, lawful-entails, contradiction-unmet}
+use Rattle.ps_steps.proofs.Onward.{onward, list-entailed, refuted-unmet}
 use Rattle.ps_steps.proofs.laws.lawful_steps_follow.Goals as goal
 
 pub returns-clause-step : goal.returns-clause-step
@@ -11,4 +12,10 @@ pub returns-clause-contradiction : goal.returns-clause-contradiction
 returns-clause-contradiction c = contradiction-unmet
 
 pub returns-clause-refuted : goal.returns-clause-refuted
-returns-clause-refuted c = refutes-unmet
+returns-clause-refuted c = refuted-unmet
+
+pub returns-clause-list : goal.returns-clause-list
+returns-clause-list c = list-entailed
+
+pub returns-clause-onward : goal.returns-clause-onward
+returns-clause-onward c = onward

@@ -1,0 +1,10 @@
+-- The limits of constraints.
+use Rattle.std.specs.Prelude.{ℕ, ◌^◌}
+
+-- what the coefficients of a constraint and the size of its degree sum to at most
+abbrev pub most_size : ℕ
+most_size = 2 ^ 126
+
+-- what the sizes of weights, and of what they are to sum to at least, sum to at most
+abbrev pub most_weight : ℕ
+most_weight = 2 ^ 125
