@@ -6,9 +6,9 @@ use Rattle.std.proofs.lemmas.List.Sums.{fold-append}
 use Rattle.std.proofs.lemmas.Bool.{cases_lt, and_from, lt-ltb}
 use Rattle.ps_steps.specs.Assignments.{Assignment, place, value_of, with_true, with_false, is_unset, all_unset}
 use Rattle.ps_steps.specs.Steps.{and_false}
-use Rattle.ps_learning.specs.Trails.{Entry, values_of, AreFresh}
+use Rattle.ps_learning.specs.Trails.{Entry, IsLit, values_of, AreFresh}
 use Rattle.ps_learning.specs.Causes.{Marks, is_marked}
-use Rattle.ps_learning.specs.Starting.{IsLit, Started}
+use Rattle.ps_learning.specs.Starting.{Started}
 use Rattle.ps_steps.proofs.Values.{includes-refl, includes-trans, with_true-includes}
 use Rattle.ps_learning.proofs.Setting.{length-with_true, value-true, includes-both, unset-below, unset-both, place-opposite, size-opposite, opposite-false}
 use Rattle.ps_learning.proofs.Entries.{values-more, length-values, length-unset}

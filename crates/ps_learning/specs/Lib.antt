@@ -1,7 +1,9 @@
 -- Meaning
 pub mod Trails
+pub mod Levels
 pub mod Causes
 pub mod Known
 -- Bridge: what marking and learning have kept so far
 pub mod Marking
+pub mod Keeping
 pub mod Starting

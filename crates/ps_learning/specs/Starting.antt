@@ -3,12 +3,8 @@ use Rattle.std.specs.Prelude.{ℕ, ◌≡◌, ◌<◌, ◌≤◌, ℤ, true, Som
 use Rattle.ps_steps.specs.Assignments.{Assignment, value_of, all_unset}
 use Rattle.ps_steps.specs.Steps.{and_false}
 use Rattle.ps_steps.proofs.Values.{Includes}
-use Rattle.ps_learning.specs.Trails.{Entry, Trail, values_of}
+use Rattle.ps_learning.specs.Trails.{Entry, Trail, IsLit, values_of}
 use Rattle.ps_learning.specs.Causes.{Marks, is_marked}
-
--- a literal of one of so many variables
-abbrev pub IsLit : ℕ → ℤ → Type 0
-IsLit v l = (1 ≤ unsigned_abs l) × (unsigned_abs l ≤ v)
 
 -- the opposites of the kept ones among the first entries are the literals, and all of them have been set false
 pub record Started (v : ℕ) (es : List Entry) (kept : Marks) (i : ℕ) (lits : List ℤ) (a : Assignment) : Type 0 where

@@ -63,6 +63,10 @@ rank variables [] = 0
 rank zero (e ∷ es) = 0
 rank (suc n) (e ∷ es) = (if is_none e.reason then 0 else 2 ^ n) + rank n es
 
+-- a literal of one of so many variables
+abbrev pub IsLit : ℕ → ℤ → Type 0
+IsLit v l = (1 ≤ unsigned_abs l) × (unsigned_abs l ≤ v)
+
 -- the literal is one of a variable that isn't set
 pub record IsFresh (variables : ℕ) (a : Assignment) (l : ℤ) : Type 0 where
   pub some : 1 ≤ unsigned_abs l

@@ -1,0 +1,39 @@
+-- One literal more.
+use Rattle.std.proofs.Common.{◌≡◌, ℕ, zero, suc, ◌+◌, ◌<◌, ◌≤◌, ℤ, Option, Some, None, List, [], ◌∷◌, ◌++◌, length, arith, refl, sym, ap, ◌∙◌, subst}
+use Rattle.std.specs.List.{All}
+use Rattle.ps_steps.specs.Assignments.{Assignment, with_true}
+use Rattle.ps_steps.specs.Constraints.{Constraint}
+use Rattle.ps_steps.specs.Steps.{Known}
+use Rattle.ps_forms.specs.Forms.{IsWithin}
+use Rattle.ps_learning.specs.Trails.{Trail, Entry, values, values_of, level, decisions, implied, decided, IsReason, IsFresh, AreReasons}
+use Rattle.ps_learning.proofs.Entries.{values-append, reasons-append, length-values}
+use Rattle.ps_learning.specs.Trails.{unset_count}
+use Rattle.ps_learning.proofs.Counting.{fewer-unset}
+use Rattle.ps_trail.proofs.Pushing.{decisions-append}
+
+pub fresh-now : (t : Trail) (a : Assignment) (l : ℤ) → a ≡ values t → length a ≡ t.variables → IsFresh (length a) a l → IsFresh t.variables (values t) l
+fresh-now t a l e n f = subst (λ m. IsFresh m (values t) l) n (subst (λ b. IsFresh (length a) b l) e f)
+
+pub within-now : (t : Trail) (a : Assignment) (cs : List Constraint) → length a ≡ t.variables → All (IsWithin t.variables) cs → All (IsWithin (length a)) cs
+within-now t a cs n h = rw n h
+
+pub implied-reasons : (known : Known) (t u : Trail) (a : Assignment) (l : ℤ) (id : ℕ) → u ≡ implied l id t → a ≡ values t → IsReason known a l (Some id) → AreReasons t.variables known t.entries → AreReasons u.variables known u.entries
+implied-reasons known t u a l id e q h r = rw e (reasons-append t.variables known t.entries (record { lit = l; reason = Some id; level = decisions t.entries }) r (subst (λ b. IsReason known b l (Some id)) q h))
+
+pub implied-level : (t u : Trail) (l : ℤ) (id : ℕ) → u ≡ implied l id t → level u ≡ level t
+implied-level t u l id e = rw e (let d = decisions-append t.entries (record { lit = l; reason = Some id; level = decisions t.entries }) in omega (arith, d))
+
+more-fewer : (t : Trail) (e : Entry) (es : List Entry) → es ≡ t.entries ++ e ∷ [] → IsFresh t.variables (values t) e.lit → suc (unset_count (values_of t.variables es)) ≡ unset_count (values t)
+more-fewer t e es q f = rw (q, values-append t.variables t.entries e) (fewer-unset (values t) e.lit (rw (length-values t.variables t.entries) f))
+
+pub implied-fewer : (t u : Trail) (l : ℤ) (id : ℕ) → u ≡ implied l id t → IsFresh t.variables (values t) l → suc (unset_count (values u)) ≡ unset_count (values t)
+implied-fewer t u l id e f = rw e (more-fewer t (record { lit = l; reason = Some id; level = decisions t.entries }) _ refl f)
+
+pub decided-reasons : (known : Known) (t u : Trail) (l : ℤ) → u ≡ decided l t → AreReasons t.variables known t.entries → AreReasons u.variables known u.entries
+decided-reasons known t u l e r = rw e (reasons-append t.variables known t.entries (record { lit = l; reason = None; level = suc (decisions t.entries) }) r tt)
+
+pub decided-fewer : (t u : Trail) (l : ℤ) → u ≡ decided l t → IsFresh t.variables (values t) l → suc (unset_count (values u)) ≡ unset_count (values t)
+decided-fewer t u l e f = rw e (more-fewer t (record { lit = l; reason = None; level = suc (decisions t.entries) }) _ refl f)
+
+pub variables-same : (t u : Trail) (l : ℤ) (id : ℕ) → u ≡ implied l id t → u.variables ≡ t.variables
+variables-same t u l id e = ap (λ (x : Trail). x.variables) e

@@ -1,0 +1,5 @@
+pub mod Steps
+pub mod Going
+pub mod Advancing
+pub mod Scanned
+pub mod Before

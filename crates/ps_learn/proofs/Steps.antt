@@ -1,0 +1,242 @@
+-- One step of each loop.
+use Rattle.std.proofs.Common.{◌≡◌, ◌≢◌, ℕ, zero, suc, ◌+◌, ◌<◌, ◌≤◌, ◌^◌, ℤ, pos, neg_ℤ, Bool, true, false, Option, Some, None, List, [], ◌∷◌, ◌++◌, length, length-append, take, get_or, set, length-set, arith, refl, sym, ap, ◌∙◌, subst, ◌⊎◌, inl, inr}
+use Rattle.std.specs.Prelude.{slice_get, slice_set, unsigned_abs}
+use Rattle.std.specs.List.{All}
+use Rattle.std.proofs.lemmas.List.Elements.{All-push}
+use Rattle.std.proofs.lemmas.Option.{slice_get_read}
+use Rattle.std.proofs.lemmas.Bool.{cases_lt}
+use Rattle.std.proofs.lemmas.List.{get_or_default, get_or_past}
+use Rattle.ps_steps.specs.Assignments.{Assignment, place, value_of, with_true, with_false, is_unset, all_unset}
+use Rattle.ps_steps.specs.Constraints.{Constraint, HasTerm, Forces, slack, is_violated, some_forced, with_forced}
+use Rattle.ps_steps.specs.Weights.{Weighted, weighted, terms_of, IsNormal}
+use Rattle.ps_steps.specs.Steps.{Known, constraint_at, Open, Conflict, after_hints}
+use Rattle.ps_learning.specs.Trails.{Entry, Trail, values_of, IsReason, IsFresh, AreFresh, AreLevels, AreReasons, IsConflict}
+use Rattle.ps_learning.specs.Causes.{Marks, is_marked, AreCovered, IsExplained, AreExplained}
+use Rattle.ps_steps.proofs.Values.{signed-some}
+use Rattle.ps_learning.proofs.Setting.{rising-distinct, unset-same}
+use Rattle.ps_learning.specs.Starting.{Started}
+use Rattle.ps_learning.proofs.Starting.{started-none, started-skip, started-keep}
+use Rattle.ps_learning.proofs.Asserting.{Asserted, asserted-none, asserted-skip, asserted-keep}
+use Rattle.ps_learning.specs.Keeping.{IsKeptOnce}
+use Rattle.ps_learning.proofs.Following.{Followed, followed-unmarked, followed-true, followed-violated, followed-forced, followed-idle, followed-end, known-id, IsKnownId}
+use Rattle.ps_learning.specs.Marking.{Grows, AreSetIn}
+use Rattle.ps_learning.proofs.Marking.{grows-refl, grows-trans, marked-set, grows-set, own-set, explained-end, explained-next}
+use Rattle.ps_learn.specs.Marks.{MarksCause, Explains, IsCaused}
+use Rattle.ps_learn.specs.Lessons.{AddsIf, AddsKept, FollowsBy, Follows, EndsInConflict}
+use Rattle.ps_learn.specs.declared.learning.Kept.{Kept}
+use Rattle.ps_learn.specs.declared.learning.Followed.TheVariants as v
+
+-- the first terms are covered
+pub record CoveredIn (ts : Weighted) (n : ℕ) (a : Assignment) (marks : Marks) : Type 0 where
+  pub at : (i : ℕ) (t : ℤ × ℤ) → i < n → i < length ts → t ≡ get_or ts i t → value_of a t.0 ≡ Some false → is_marked marks t.0 ≡ true
+
+covered_next : (ts : Weighted) (n : ℕ) (t : ℤ × ℤ) (a : Assignment) (old new : Marks) → CoveredIn ts n a old → n < length ts → t ≡ get_or ts n t → Grows new old → (value_of a t.0 ≡ Some false → is_marked new t.0 ≡ true) → CoveredIn ts (n + 1) a new
+covered_next ts n t a old new c h at g own = record {
+  at = λ i u k len q f. elim (cases_lt i n) [
+    | inl lt ↦ g.at u.0 (c.at i u lt len q f)
+    | inr ge ↦ (let e : i ≡ n = omega (arith, k, ge) in let z : u ≡ t = q ∙ ap (λ x. get_or ts x u) e ∙ get_or_default ts n u t h ∙ sym at in rw z (own (ap (λ (x : ℤ × ℤ). value_of a x.0) (sym z) ∙ f)))
+  ];
+}
+
+place_in : (ts : Weighted) (l : ℤ) (k : ℕ) → HasTerm l k (terms_of ts) → (i : ℕ) × (t : ℤ × ℤ) × (i < length ts) × (t ≡ get_or ts i t) × (t.0 ≡ l)
+place_in [] l k h = absurd h
+place_in (t ∷ ts) l k (inl e) = (zero, t, omega arith, refl, e.0)
+place_in (t ∷ ts) l k (inr h) = let r = place_in ts l k h in (suc r.0, r.1, omega (arith, r.2), r.3, r.4)
+
+pub covered_all : (c : Constraint) (ts : Weighted) (n : ℕ) (a : Assignment) (marks : Marks) → terms_of ts ≡ c.terms → CoveredIn ts n a marks → length ts ≤ n → AreCovered c a marks
+covered_all c ts n a marks e h p = record {
+  at = λ l k m f.
+      let r = place_in ts l k (subst (λ us. HasTerm l k us) (sym e) m) in
+      let same = r.4 in
+      subst (λ x. is_marked marks x ≡ true) same (h.at r.0 r.1 (omega (arith, p, r.2)) r.2 r.3 (ap (value_of a) same ∙ f));
+}
+
+-- how far the causes have been marked
+pub record Marking (ts : Weighted) (n : ℕ) (before : Assignment) (first marks : Marks) : Type 0 where
+  pub covered : CoveredIn ts n before marks
+  pub grows : Grows marks first
+  pub set_in : AreSetIn before marks first
+  pub len : length marks ≡ length before
+
+set_within : (a : Assignment) (l : ℤ) (x : Bool) → value_of a l ≡ Some x → place l < length a
+unfolding value_of
+set_within a l x h = elim (cases_lt (place l) (length a)) [
+  | inl p ↦ p
+  | inr p ↦ absurd (let s = signed-some _ _ _ h in cc (s.1, get_or_past a (place l) None p))
+]
+
+pub marking-none : (ts : Weighted) (before : Assignment) (marks : Marks) → length marks ≡ length before → Marking ts 0 before marks marks
+marking-none ts before marks h = record { covered = record { at = λ i t k. absurd (omega (arith, k)) }; grows = grows-refl marks; set_in = record { at = λ l m. inl m }; len = h }
+
+some_set : (o : Option Bool) (x : Bool) → o ≡ Some x → is_unset o ≡ false
+some_set None x h = absurd (cc)
+some_set (Some y) x h = refl
+
+not_unset : (a : Assignment) (l k : ℤ) (b : Bool) → place k ≡ place l → value_of a l ≡ Some false → is_unset (value_of a k) ≡ b → is_unset (value_of a k) ≡ false
+not_unset a l k false q h r = r
+not_unset a l k true q h r = absurd (cc (unset-same a k l (sym q) r, some_set (value_of a l) false h))
+
+by_value : (ts : Weighted) (n : ℕ) (t : ℤ × ℤ) (before : Assignment) (first marks marks' : Marks) (o : Option Bool) → value_of before t.0 ≡ o → Marking ts n before first marks → n < length ts → t ≡ get_or ts n t → MarksCause o t.0 marks marks' → Marking ts (n + 1) before first marks'
+by_value ts n t before first marks marks' None e m h at adds = subst (λ x. Marking ts (n + 1) before first x) (sym adds) (record {
+  covered = covered_next ts n t before marks marks m.covered h at (grows-refl marks) (λ q. absurd (cc (q, e)));
+  grows = m.grows;
+  set_in = m.set_in;
+  len = m.len;
+})
+by_value ts n t before first marks marks' (Some true) e m h at adds = subst (λ x. Marking ts (n + 1) before first x) (sym adds) (record {
+  covered = covered_next ts n t before marks marks m.covered h at (grows-refl marks) (λ q. absurd (cc (q, e)));
+  grows = m.grows;
+  set_in = m.set_in;
+  len = m.len;
+})
+by_value ts n t before first marks marks' (Some false) e m h at adds = subst (λ x. Marking ts (n + 1) before first x) (sym adds) (
+    let new = slice_set marks (place t.0) true in
+    let own : is_marked new t.0 ≡ true = own-set marks t.0 (rw m.len (set_within before t.0 false e)) in
+    record {
+      covered = covered_next ts n t before marks new m.covered h at (grows-set marks t.0) (λ q. own);
+      grows = grows-trans new marks first (grows-set marks t.0) m.grows;
+      set_in = record {
+        at = λ l k. elim (marked-set marks t.0 l k) [
+          | inl old ↦ m.set_in.at l old
+          | inr here ↦ inr (not_unset before t.0 l (is_unset (value_of before l)) here e refl)
+        ];
+      };
+      len = length-set marks (place t.0) true ∙ m.len;
+    })
+
+pub marking-next : (ts : Weighted) (n : ℕ) (t : ℤ × ℤ) (before : Assignment) (first marks marks' : Marks) → Marking ts n before first marks → n < length ts → t ≡ get_or ts n t → MarksCause (value_of before t.0) t.0 marks marks' → Marking ts (n + 1) before first marks'
+marking-next ts n t before first marks marks' m h at adds = by_value ts n t before first marks marks' (value_of before t.0) refl m h at adds
+
+-- how far the kept literals have come
+pub record Drawn (t : Trail) (marks : Marks) (i : ℕ) (k : Kept) (a : Assignment) : Type 0 where
+  pub started : Started t.variables t.entries marks i k.lits a
+  pub asserted : Asserted t marks i k.lits k.last k.next
+
+pub drawn-none : (t : Trail) (marks : Marks) (k : Kept) (a : Assignment) → k.lits ≡ [] → k.last ≡ 0 → k.next ≡ 0 → a ≡ all_unset t.variables → Drawn t marks 0 k a
+drawn-none t marks k a l z n u = record {
+  started = rw (l, u) (started-none t.variables t.entries marks);
+  asserted = rw (l, z, n) (asserted-none t marks);
+}
+
+by_mark : (t : Trail) (marks : Marks) (i : ℕ) (k k' : Kept) (a a' : Assignment) (e : Entry) (b : Bool) → is_marked marks e.lit ≡ b → AreFresh t.variables t.entries → AreLevels t.entries → IsKeptOnce t marks → Drawn t marks i k a → slice_get t.entries i ≡ Some e → AddsIf b e k a k' a' → Drawn t marks (i + 1) k' a'
+by_mark t marks i k k' a a' e false m f g o d q adds = subst (λ x. Drawn t marks (i + 1) x a') (sym adds.0) (subst (λ x. Drawn t marks (i + 1) k x) (sym adds.1) (record {
+  started = started-skip t.variables t.entries marks i k.lits a e f d.started q m;
+  asserted = asserted-skip t marks i k.lits k.last k.next d.asserted;
+}))
+by_mark t marks i k k' a a' e true m f g o d q adds = record {
+  started = rw (adds.0, adds.3) (started-keep t.variables t.entries marks i k.lits a e f d.started q);
+  asserted = rw (adds.0, adds.1, adds.2) (asserted-keep t marks i k.lits k.last k.next e f g o d.asserted q m);
+}
+
+-- one entry more of the kept literals
+pub drawn-next : (t : Trail) (es : List Entry) (marks : Marks) (i : ℕ) (k k' : Kept) (a a' : Assignment) (e : Entry) → es ≡ t.entries → AreFresh t.variables t.entries → AreLevels t.entries → IsKeptOnce t marks → Drawn t marks i k a → i < length es → e ≡ get_or es i e → AddsKept e marks k a k' a' → Drawn t marks (i + 1) k' a'
+drawn-next t es marks i k k' a a' e r f g o d h at adds = by_mark t marks i k k' a a' e (is_marked marks e.lit) refl f g o d (rw r at (slice_get_read es (length es) i e refl h at)) adds
+
+-- what the reasons are gone along with
+pub record Along (n : ℕ) (known : Known) (es : List Entry) (marks kept : Marks) (start : Assignment) : Type 0 where
+  pub fresh : AreFresh n es
+  pub reasons : AreReasons n known es
+  pub explained : AreExplained n known es marks kept 0
+  pub kept_true : (j : ℕ) (e : Entry) → j < length es → slice_get es j ≡ Some e → is_marked kept e.lit ≡ true → value_of start e.lit ≡ Some true
+
+pub along : (n : ℕ) (known : Known) (t : Trail) (conflict : ℕ) (marks kept : Marks) (start : Assignment) (lits : List ℤ) → n ≡ t.variables → AreFresh n t.entries → AreReasons n known t.entries → IsCaused known t conflict marks kept → Started n t.entries kept (length t.entries) lits start → Along n known t.entries marks kept start
+along n known t conflict marks kept start lits e f r c s = record {
+  fresh = f;
+  reasons = r;
+  explained = subst (λ m. AreExplained m known t.entries marks kept 0) (sym e) c.explained;
+  kept_true = s.kept_true;
+}
+
+-- a marked entry that isn't true yet is explained
+pub open_explained : (n : ℕ) (known : Known) (es : List Entry) (marks kept : Marks) (start : Assignment) (i : ℕ) (hints : List ℕ) (a : Assignment) (e : Entry) → Along n known es marks kept start → Followed n known es marks start i hints a → i < length es → slice_get es i ≡ Some e → is_marked marks e.lit ≡ true → value_of a e.lit ≢ Some true → IsExplained known (values_of n (take i es)) marks e
+open_explained n known es marks kept start i hints a e al f h q m ne = elim (al.explained.at i e (omega arith) q m) [
+  | inl k ↦ absurd (ne (f.from.at e.lit true (al.kept_true i e h q k)))
+  | inr x ↦ x
+]
+
+reason_forces : (known : Known) (before a : Assignment) (marks : Marks) (e : Entry) (id : ℕ) (c : Constraint) → e.reason ≡ Some id → constraint_at known id ≡ Some c → IsReason known before e.lit e.reason → Forces c before e.lit
+reason_forces known before a marks e id c r k h =
+    let s = subst (λ x. IsReason known before e.lit x) r h in
+    let same : s.0 ≡ c = cc (s.1, k) in
+    subst (λ x. Forces x before e.lit) same s.2
+
+explained_by : (known : Known) (before : Assignment) (marks : Marks) (e : Entry) (id : ℕ) (c : Constraint) → e.reason ≡ Some id → constraint_at known id ≡ Some c → IsExplained known before marks e → AreCovered c before marks
+explained_by known before marks e id c r k x =
+    let one : Some x.id ≡ Some id = sym x.reason ∙ r in
+    let same_id : x.id ≡ id = cc one in
+    let two : Some x.constraint ≡ Some c = sym x.known_at ∙ ap (constraint_at known) same_id ∙ k in
+    let same : x.constraint ≡ c = cc two in
+    subst (λ y. AreCovered y before marks) same x.covered
+
+-- one entry more of the reasons
+pub followed-next : (n : ℕ) (known : Known) (es : List Entry) (marks kept : Marks) (start : Assignment) (i : ℕ) (hints : List ℕ) (a : Assignment) (e : Entry) (hints' : List ℕ) (a' : Assignment) (r : v.the_data) → Along n known es marks kept start → Followed n known es marks start i hints a → i < length es → e ≡ get_or es i e → Follows known e marks hints a hints' a' r → r ≢ v.Violated → Followed n known es marks start (i + 1) hints' a'
+followed-next n known es marks kept start i hints a e hints' a' v.Unmarked al f h at fol ne =
+    let q = slice_get_read es (length es) i e refl h at in
+    subst (λ x. Followed n known es marks start (i + 1) x a') (sym fol.1) (subst (λ x. Followed n known es marks start (i + 1) hints x) (sym fol.2) (followed-unmarked n known es marks start i hints a e al.fresh f q fol.0))
+followed-next n known es marks kept start i hints a e hints' a' v.AlreadyTrue al f h at fol ne =
+    let q = slice_get_read es (length es) i e refl h at in
+    subst (λ x. Followed n known es marks start (i + 1) x a') (sym fol.1) (subst (λ x. Followed n known es marks start (i + 1) hints x) (sym fol.2) (followed-true n known es marks start i hints a e al.fresh f q fol.0))
+followed-next n known es marks kept start i hints a e hints' a' v.Decided al f h at fol ne =
+    let q = slice_get_read es (length es) i e refl h at in
+    let x = open_explained n known es marks kept start i hints a e al f h q fol.0 fol.1 in
+    absurd (cc (x.reason, fol.2))
+followed-next n known es marks kept start i hints a e hints' a' v.Unknown al f h at fol ne =
+    let q = slice_get_read es (length es) i e refl h at in
+    let u = fol.1 in
+    let s = subst (λ x. IsReason known (values_of n (take i es)) e.lit x) u.1 (al.reasons.at i e q) in
+    absurd (cc (s.1, u.2))
+followed-next n known es marks kept start i hints a e hints' a' v.Violated al f h at fol ne = absurd (ne refl)
+followed-next n known es marks kept start i hints a e hints' a' v.Forced al f h at fol ne =
+    let q = slice_get_read es (length es) i e refl h at in
+    let b = fol.1 in
+    let before = values_of n (take i es) in
+    let c = b.constraint in
+    let forces = reason_forces known before a marks e b.id c b.reason b.known_at (al.reasons.at i e q) in
+    let covered = explained_by known before marks e b.id c b.reason b.known_at (open_explained n known es marks kept start i hints a e al f h q fol.0 b.other) in
+    let does = b.does in
+    subst (λ x. Followed n known es marks start (i + 1) x a') (sym b.hints_are)
+    (subst (λ x. Followed n known es marks start (i + 1) (hints ++ b.id ∷ []) x) (sym does.2)
+    (followed-forced n known es marks start i hints a e b.id c al.fresh f q b.known_at covered forces (rising-distinct 0 c.terms b.normal.rising) does.0 b.other))
+followed-next n known es marks kept start i hints a e hints' a' v.Idle al f h at fol ne =
+    let q = slice_get_read es (length es) i e refl h at in
+    let b = fol.1 in
+    let before = values_of n (take i es) in
+    let c = b.constraint in
+    let forces = reason_forces known before a marks e b.id c b.reason b.known_at (al.reasons.at i e q) in
+    let covered = explained_by known before marks e b.id c b.reason b.known_at (open_explained n known es marks kept start i hints a e al f h q fol.0 b.other) in
+    let does = b.does in
+    absurd (followed-idle n known es marks start i hints a e.lit c f covered forces does.0 b.other does.1)
+
+ended : (known : Known) (start : Assignment) (most i : ℕ) (hints hints' : List ℕ) (id : ℕ) (c : Constraint) → hints' ≡ hints ++ id ∷ [] → after_hints known (Open start) (hints ++ id ∷ []) ≡ Conflict → length hints ≤ i → i ≤ most → All (IsKnownId known) hints → constraint_at known id ≡ Some c → EndsInConflict known start most hints'
+ended known start most i hints hints' id c e x few m ids k = rw e (record {
+  ends = x;
+  few = omega (arith, few, m, length-append hints (id ∷ []));
+  known_ids = All-push (IsKnownId known) hints id ids (known-id known id c k);
+})
+
+-- a reason that is violated ends the propagation
+pub followed-stop : (n : ℕ) (known : Known) (es : List Entry) (marks : Marks) (start : Assignment) (i : ℕ) (hints : List ℕ) (a : Assignment) (e : Entry) (hints' : List ℕ) (a' : Assignment) (r : v.the_data) → Followed n known es marks start i hints a → i ≤ length es → Follows known e marks hints a hints' a' r → r ≡ v.Violated → EndsInConflict known start (length es) hints'
+followed-stop n known es marks start i hints a e hints' a' r f m fol is =
+    let b = subst (λ x. Follows known e marks hints a hints' a' x) is fol in
+    ended known start (length es) i hints hints' b.id b.constraint b.hints_are (followed-violated known start a hints b.id b.constraint f.going b.known_at b.does.0) f.few m f.ids b.known_at
+
+-- at the end the conflict ends the propagation
+pub followed-conflict : (n : ℕ) (known : Known) (t : Trail) (marks kept : Marks) (start : Assignment) (i : ℕ) (hints hints' : List ℕ) (a : Assignment) (id : ℕ) → n ≡ t.variables → IsCaused known t id marks kept → Followed n known t.entries marks start i hints a → length t.entries ≤ i → i ≤ length t.entries → IsConflict known (values_of t.variables t.entries) id → hints' ≡ hints ++ id ∷ [] → EndsInConflict known start (length t.entries) hints'
+followed-conflict n known t marks kept start i hints hints' a id e caused f h m x is =
+    let covered = caused.covered x.constraint x.known_at in
+    ended known start (length t.entries) i hints hints' id x.constraint is
+    (followed-end n known t.entries marks start i hints a id x.constraint f h x.known_at (subst (λ v. is_violated x.constraint (values_of v t.entries) ≡ true) (sym e) x.violated) (subst (λ v. AreCovered x.constraint (values_of v t.entries) marks) (sym e) covered)) f.few m f.ids x.known_at
+
+within_by : (v : ℕ) (l : ℤ) → (1 ≤ unsigned_abs l) × (unsigned_abs l ≤ v) → place l < v
+within_by v l h = omega (arith, h.0, h.1)
+
+-- the literals are of the trail's variables
+pub lits-inside : (v : ℕ) (lits : List ℤ) → All (λ l. (1 ≤ unsigned_abs l) × (unsigned_abs l ≤ v)) lits → All (λ l. place l < v) lits
+lits-inside v lits h = λ k d lt. within_by v (get_or lits k d) (h k d lt)
+
+-- and within the limits
+pub lits-within : (v : ℕ) (lits : List ℤ) → v ≤ 1024 → All (λ l. (1 ≤ unsigned_abs l) × (unsigned_abs l ≤ v)) lits → All (λ l. (1 ≤ unsigned_abs l) × (unsigned_abs l ≤ 1024)) lits
+lits-within v lits m h = λ k d lt. (let b = h k d lt in (b.0, omega (arith, b.1, m)))
+
+pub ids-within : (n : ℕ) (ids : List ℕ) → n < 2 ^ 41 → All (λ id. (1 ≤ id) × (id ≤ n)) ids → All (λ id. (1 ≤ id) × (id ≤ 2 ^ 41)) ids
+ids-within n ids m h = λ k d lt. (let b = h k d lt in (b.0, omega (arith, b.1, m)))

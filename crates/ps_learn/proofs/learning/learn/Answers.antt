@@ -1,0 +1,21 @@
+use Rattle.std.proofs.Common.{◌≡◌, ◌+◌, ap, ◌∙◌, sym, length, arith}
+use Rattle.ps_learning.specs.Known.{known_of}
+use Rattle.ps_learning.proofs.Ids.{known_of-length}
+use Rattle.ps_learning.proofs.Counting.{counted}
+use Rattle.ps_learning.proofs.Following.{learned-lawful}
+use Rattle.ps_learning.proofs.Asserting.{asserting-most}
+use Rattle.ps_learn.proofs.learning.learn.Goals as goal
+
+pub returns-clause-level : goal.returns-clause-level
+returns-clause-level c = asserting-most c.args.trail.now _ _ c.in_ok-kept.ensures.asserting
+
+pub returns-clause-lawful : goal.returns-clause-lawful
+returns-clause-lawful c =
+    learned-lawful c.args.trail.now.variables (known_of c.args.known.now) (record { id = c.len.result + 1; lits = c.in_ok-kept.kept.lits; hints = c.in_ok-hints.hints }) _
+    (ap (λ n. n + 1) (c.len.ensures ∙ sym (known_of-length c.args.known.now))) c.in_ok-kept.ensures.lits.lits_false c.in_ok-hints.ensures.ends
+
+pub returns-clause-few_literals : goal.returns-clause-few_literals
+returns-clause-few_literals c = omega (arith, c.in_ok-kept.ensures.lits.few, counted c.args.trail.now.variables c.args.trail.now.entries c.entries.ensures.fresh)
+
+pub returns-clause-few_hints : goal.returns-clause-few_hints
+returns-clause-few_hints c = omega (arith, c.in_ok-hints.ensures.few, counted c.args.trail.now.variables c.args.trail.now.entries c.entries.ensures.fresh)

@@ -1,0 +1,50 @@
+-- How a clause is learned.
+use Rattle.std.specs.Prelude.{ℕ, suc, ◌≡◌, ◌≢◌, ◌≤◌, ◌∷◌, [], ◌++◌, ℤ, neg_ℤ, Bool, true, false, Option, Some, None, List, length, All}
+use Rattle.ps_steps.specs.Assignments.{Assignment, value_of, with_false}
+use Rattle.ps_steps.specs.Constraints.{Constraint}
+use Rattle.ps_steps.specs.Weights.{weighted, IsNormal}
+use Rattle.ps_steps.specs.Steps.{Known, constraint_at, after_hints, Open, Conflict}
+use Rattle.ps_learning.specs.Trails.{Entry}
+use Rattle.ps_learning.specs.Causes.{Marks, is_marked}
+use Rattle.ps_learning.specs.Known.{IsIdUpTo}
+use Rattle.ps_pb.specs.Effects.{Propagates}
+use Rattle.ps_pb.specs.declared.propagation.Effect.{Effect}
+use Rattle.ps_pb.specs.declared.propagation.Effect.TheVariants as effect
+use Rattle.ps_learn.specs.declared.learning.Kept.{Kept}
+use Rattle.ps_learn.specs.declared.learning.Followed.{Followed}
+use Rattle.ps_learn.specs.declared.learning.Followed.TheVariants.{Unmarked, AlreadyTrue, Decided, Unknown, Violated, Forced, Idle}
+
+abbrev pub AddsIf : Bool → Entry → Kept → Assignment → Kept → Assignment → Type 0
+AddsIf false e k a k' a' = (k' ≡ k) × (a' ≡ a)
+AddsIf true e k a k' a' =
+    (k'.lits ≡ k.lits ++ neg_ℤ e.lit ∷ []) × (k'.last ≡ e.level) × (k'.next ≡ k.last) × (a' ≡ with_false a (neg_ℤ e.lit))
+
+-- the opposite of a kept literal is added
+abbrev pub AddsKept : Entry → Marks → Kept → Assignment → Kept → Assignment → Type 0
+AddsKept e marks k a k' a' = AddsIf (is_marked marks e.lit) e k a k' a'
+
+-- the reason was gone along
+pub record FollowsBy (f : Effect) (known : Known) (e : Entry) (hints : List ℕ) (a : Assignment) (hints' : List ℕ) (a' : Assignment) : Type 0 where
+  pub other : value_of a e.lit ≢ Some true
+  pub id : ℕ
+  pub reason : e.reason ≡ Some id
+  pub constraint : Constraint
+  pub known_at : constraint_at known id ≡ Some constraint
+  pub normal : IsNormal (weighted constraint.terms) constraint.degree
+  pub hints_are : hints' ≡ hints ++ id ∷ []
+  pub does : Propagates constraint a a' f
+
+abbrev pub Follows : Known → Entry → Marks → List ℕ → Assignment → List ℕ → Assignment → Followed → Type 0
+Follows known e marks hints a hints' a' Unmarked = (is_marked marks e.lit ≡ false) × (hints' ≡ hints) × (a' ≡ a)
+Follows known e marks hints a hints' a' AlreadyTrue = (value_of a e.lit ≡ Some true) × (hints' ≡ hints) × (a' ≡ a)
+Follows known e marks hints a hints' a' Decided = (is_marked marks e.lit ≡ true) × (value_of a e.lit ≢ Some true) × (e.reason ≡ None)
+Follows known e marks hints a hints' a' Unknown = (is_marked marks e.lit ≡ true) × ((id : ℕ) × (e.reason ≡ Some id) × (constraint_at known id ≡ None))
+Follows known e marks hints a hints' a' Violated = FollowsBy effect.Violated known e hints a hints' a'
+Follows known e marks hints a hints' a' Forced = (is_marked marks e.lit ≡ true) × FollowsBy effect.Forced known e hints a hints' a'
+Follows known e marks hints a hints' a' Idle = (is_marked marks e.lit ≡ true) × FollowsBy effect.Idle known e hints a hints' a'
+
+-- propagation along the hints ends in a conflict, and they are few
+pub record EndsInConflict (known : Known) (start : Assignment) (most : ℕ) (hints : List ℕ) : Type 0 where
+  pub ends : after_hints known (Open start) hints ≡ Conflict
+  pub few : length hints ≤ suc most
+  pub known_ids : All (IsIdUpTo (length known)) hints

@@ -1,0 +1,6 @@
+-- Meaning
+pub mod Rest
+-- Bridge: what a scan finds, how causes are marked, and how a clause is drawn from them
+pub mod Scans
+pub mod Marks
+pub mod Lessons

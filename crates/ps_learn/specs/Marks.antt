@@ -1,0 +1,55 @@
+-- Marking causes.
+use Rattle.std.specs.Prelude.{ℕ, ◌≡◌, ◌≤◌, ◌<◌, ℤ, Bool, true, false, Option, Some, None, List, length, slice_get, slice_set, ◌⊎◌}
+use Rattle.ps_steps.specs.Assignments.{Assignment, place, value_of}
+use Rattle.ps_steps.specs.Constraints.{Constraint}
+use Rattle.ps_steps.specs.Steps.{Known, constraint_at}
+use Rattle.ps_learning.specs.Trails.{Entry, Trail, values, level}
+use Rattle.ps_learning.specs.Causes.{Marks, is_marked, AreCovered, IsExplained, AreExplained}
+use Rattle.ps_learning.specs.Marking.{Grows, AreSetIn}
+use Rattle.ps_learning.specs.Keeping.{IsKeptOnce, IsToExplain, IsKeptOrNot, SomeIsAt, NoneIsMarked}
+use Rattle.ps_learn.specs.declared.explaining.Causes.{Causes}
+
+-- the variable of a false literal is marked
+abbrev pub MarksCause : Option Bool → ℤ → Marks → Marks → Type 0
+MarksCause (Some false) l old new = new ≡ slice_set old (place l) true
+MarksCause (Some true) l old new = new ≡ old
+MarksCause None l old new = new ≡ old
+
+-- whether an entry of the trail's level is marked before a place; where it is, one stands there
+abbrev pub IsMarkedBefore : Trail → Marks → ℕ → Bool → Type 0
+IsMarkedBefore t marks i true = SomeIsAt (level t) t.entries i
+IsMarkedBefore t marks i false = NoneIsMarked (level t) t.entries marks i
+
+-- an entry that is marked is kept or explained
+pub record Explains (known : Known) (e : Entry) (asked : Bool) (before : Assignment) (marks kept marks' kept' : Marks) : Type 0 where
+  pub grows : Grows marks' marks
+  pub set : AreSetIn before marks' marks
+  pub keeps : Grows kept' kept
+  pub len : length marks' ≡ length marks
+  pub kept_len : length kept' ≡ length kept
+  pub own : is_marked marks e.lit ≡ true → (is_marked kept' e.lit ≡ true) ⊎ IsExplained known before marks' e
+  pub kept_is : IsKeptOrNot known e asked marks kept marks' kept'
+
+-- it is explained where it is to be explained
+pub record ExplainsAt (known : Known) (t : Trail) (i : ℕ) (e : Entry) (before : Assignment) (marks kept marks' kept' : Marks) : Type 0 where
+  pub asked : Bool
+  pub test : is_marked marks e.lit ≡ true → IsToExplain (level t) t.entries marks i e asked
+  pub done : Explains known e asked before marks kept marks' kept'
+
+-- the false literals of the constraint of this id are marked
+abbrev pub IsCoveredAt : Known → ℕ → Assignment → Marks → Type 0
+IsCoveredAt known id a marks = (c : Constraint) → constraint_at known id ≡ Some c → AreCovered c a marks
+
+-- each marked entry of the trail is kept or explained by marked ones
+abbrev pub IsTrailExplained : Known → Trail → Marks → Marks → Type 0
+IsTrailExplained known t marks kept = AreExplained t.variables known t.entries marks kept 0
+
+-- the causes of a conflict are marked, each is kept or explained by marked ones, and one of the last level at most is kept
+pub record IsCaused (known : Known) (t : Trail) (conflict : ℕ) (marks kept : Marks) : Type 0 where
+  pub explained : IsTrailExplained known t marks kept
+  pub covered : IsCoveredAt known conflict (values t) marks
+  pub once : IsKeptOnce t kept
+
+-- these are the causes of a conflict
+abbrev pub AreCauses : Known → Trail → ℕ → Causes → Type 0
+AreCauses known t conflict causes = IsCaused known t conflict causes.marks.items causes.kept.items

@@ -1,0 +1,22 @@
+-- Where propagation ends.
+use Rattle.std.specs.Prelude.{ℕ, ◌≡◌, Option, Some, None}
+use Rattle.ps_steps.specs.Assignments.{Assignment}
+use Rattle.ps_steps.specs.Constraints.{Constraint}
+use Rattle.ps_steps.specs.Steps.{Known, constraint_at}
+use Rattle.ps_learning.specs.Trails.{IsConflict}
+use Rattle.ps_forms.specs.Forms.{Form}
+use Rattle.ps_forms.specs.Settled.{IsIdle, AtomsAreSet}
+
+-- no known constraint is violated or forces a literal
+pub record IsAtRest (known : Known) (a : Assignment) : Type 0 where
+  pub at : (id : ℕ) (c : Constraint) → constraint_at known id ≡ Some c → IsIdle c a
+
+-- where propagation ends: at a violated constraint, or at rest
+abbrev pub IsPropagated : Known → Assignment → Option ℕ → Type 0
+IsPropagated known a None = IsAtRest known a
+IsPropagated known a (Some id) = IsConflict known a id
+
+-- propagation is at its end, and each atom has a value
+pub record IsDone (form : Form) (known : Known) (a : Assignment) : Type 0 where
+  pub at_rest : IsAtRest known a
+  pub atoms : AtomsAreSet form a

@@ -1,0 +1,28 @@
+-- What a scan finds.
+use Rattle.std.specs.Prelude.{ℕ, ◌≡◌, ◌≤◌, unsigned_abs, ℤ, false, true, Option, Some, None, List, length}
+use Rattle.ps_steps.specs.Assignments.{Assignment}
+use Rattle.ps_steps.specs.Constraints.{Constraint, slack, is_violated, some_forced, Forces}
+use Rattle.ps_steps.specs.Steps.{Known, constraint_at}
+use Rattle.ps_learning.specs.Trails.{IsReason, IsFresh, IsConflict}
+use Rattle.ps_forms.specs.Forms.{Form}
+use Rattle.ps_forms.specs.Settled.{IsIdle, AtomsAreSet}
+use Rattle.ps_learn.specs.Rest.{IsAtRest}
+use Rattle.ps_learn.specs.declared.scanning.Shown.{Shown}
+use Rattle.ps_learn.specs.declared.scanning.Shown.TheVariants as shown
+use Rattle.ps_learn.specs.declared.scanning.Scan.{Scan}
+use Rattle.ps_learn.specs.declared.scanning.Scan.TheVariants.{Violated, Forced, Settled}
+
+-- the first literal that the constraint forces
+abbrev pub FirstForced : Constraint → Assignment → Option ℤ → Type 0
+FirstForced c a None = some_forced (slack c a) a c.terms ≡ false
+FirstForced c a (Some l) = Forces c a l × (1 ≤ unsigned_abs l)
+
+abbrev pub ScansOne : Constraint → Assignment → Shown → Type 0
+ScansOne c a shown.Violated = is_violated c a ≡ true
+ScansOne c a (shown.Forced l) = Forces c a l × (1 ≤ unsigned_abs l)
+ScansOne c a shown.Idle = IsIdle c a
+
+abbrev pub Scans : Known → Assignment → Scan → Type 0
+Scans known a (Violated id) = IsConflict known a id
+Scans known a (Forced l id) = IsReason known a l (Some id) × IsFresh (length a) a l
+Scans known a Settled = IsAtRest known a

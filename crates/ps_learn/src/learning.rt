@@ -1,0 +1,201 @@
+//! Learning a clause from a conflict.
+ghost use Rattle.std.specs.Prelude.{◌≡◌, ◌≤◌, ◌<◌, ◌+◌, ◌^◌, ℤ, List, length, IfOk, All};
+ghost use Rattle.ps_steps.specs.Assignments.{all_unset};
+ghost use Rattle.ps_steps.specs.Steps.{IsLawful, lits_of, hints_of, after_hints, Open, Conflict};
+ghost use Rattle.ps_learning.specs.Known.{known_of, IsIdUpTo};
+ghost use Rattle.ps_learning.specs.Trails.{values, level, IsLit, AreReasons, IsConflict};
+ghost use Rattle.ps_learning.specs.Levels.{IsAsserting};
+ghost use Rattle.ps_learning.specs.Keeping.{IsKeptOnce};
+ghost use Rattle.ps_learning.specs.Starting.{AreKeptLits};
+ghost use Rattle.ps_learn.specs.Marks.{IsCaused};
+ghost use Rattle.ps_learn.specs.Lessons.{AddsKept, Follows, EndsInConflict};
+
+use crate::explaining::explain_conflict;
+use crate::known::constraint_at;
+use crate::marks::is_marked;
+use ps_io::{List, NoMemory};
+use ps_pb::{Assignment, Constraint, Effect, Hints, Lits, Step, propagate};
+use ps_trail::{Entry, Trail};
+use std::alloc::Global;
+
+/// A step, the level to go on from, and the marked variables: those of the conflict and of the
+/// reasons that were gone along.
+#[derive(Drop)]
+pub struct Lesson {
+    pub step: Step,
+    pub level: u32,
+    pub marks: Vec<bool>,
+}
+
+/// A lawful step from a conflict. Its clause has the opposites of the causes that were kept: of the
+/// first unique implication point of the last level, and of literals of lower levels, the greatest
+/// of which is the level to go on from.
+pub fn learn(
+    alloc: Global,
+    known: &List<Constraint>,
+    trail: &Trail,
+    conflict: u64,
+) -> Result<Lesson, NoMemory>
+    requires reasons { AreReasons trail.now.variables (known_of known.now) trail.now.entries }
+    requires conflict { IsConflict (known_of known.now) (values trail.now) conflict }
+    requires few { length known.now < 2 ^ 41 }
+    ensures lawful {
+        IfOk result (λ lesson. IsLawful trail.now.variables (known_of known.now) lesson.step)
+    }
+    ensures asserting {
+        IfOk result (λ lesson. IsAsserting trail.now (lits_of lesson.step) lesson.level)
+    }
+    ensures literals {
+        IfOk result (λ lesson. All (IsLit trail.now.variables) (lits_of lesson.step))
+    }
+    ensures few_literals {
+        IfOk result (λ lesson. length (lits_of lesson.step) ≤ trail.now.variables)
+    }
+    ensures hints {
+        IfOk result (λ lesson. All (IsIdUpTo (length known.now)) (hints_of lesson.step))
+    }
+    ensures few_hints {
+        IfOk result (λ lesson. length (hints_of lesson.step) ≤ trail.now.variables + 1)
+    }
+    ensures level { IfOk result (λ lesson. lesson.level ≤ level trail.now) }
+{
+    trail.entries();
+    let causes = explain_conflict(alloc, known, trail, conflict)?;
+    let mut a = Assignment::new(alloc, trail.variables())?;
+    let kept = kept_lits(alloc, trail, &causes.kept, &mut a)?;
+    let hints = hints(alloc, known, trail, &causes.marks, &causes.kept, &mut a, conflict)?;
+    let step = Step {
+        id: known.len() as u64 + 1,
+        lits: kept.lits,
+        hints,
+    };
+    Ok(Lesson {
+        step,
+        level: kept.next,
+        marks: causes.marks,
+    })
+}
+
+// The literals of the learned clause so far, the level of the last one, and of the one before it.
+#[derive(Drop)]
+struct Kept {
+    lits: Lits,
+    last: u32,
+    next: u32,
+}
+
+// Adds the opposite of a kept literal, and sets it false.
+fn add_kept(
+    entry: &Entry,
+    marks: &[bool],
+    kept: &mut Kept,
+    a: &mut Assignment,
+) -> Result<(), NoMemory>
+    ensures { IfOk result (λ _. AddsKept entry.now marks.now kept.old a.old kept.new a.new) }
+{
+    if is_marked(marks, entry.lit) {
+        let opposite = entry.lit.opposite();
+        kept.lits.push(opposite)?;
+        kept.next = kept.last;
+        kept.last = entry.level;
+        a.set_false(opposite);
+    }
+    Ok(())
+}
+
+// The opposites of the kept literals, all set false.
+fn kept_lits(
+    alloc: Global,
+    trail: &Trail,
+    marks: &[bool],
+    a: &mut Assignment,
+) -> Result<Kept, NoMemory>
+    requires unset { a.old ≡ all_unset trail.now.variables }
+    requires once { IsKeptOnce trail.now marks.now }
+    ensures lits { IfOk result (λ kept. AreKeptLits trail.now marks.now kept.lits a.new) }
+    ensures asserting { IfOk result (λ kept. IsAsserting trail.now kept.lits kept.next) }
+{
+    let mut kept = Kept {
+        lits: List::new(alloc),
+        last: 0,
+        next: 0,
+    };
+    for entry in trail.entries() {
+        add_kept(entry, marks, &mut kept, a)?;
+    }
+    Ok(kept)
+}
+
+// What an entry's reason does.
+#[derive(Drop)]
+enum Followed {
+    Unmarked,
+    AlreadyTrue,
+    Decided,
+    Unknown,
+    Violated,
+    Forced,
+    Idle,
+}
+
+// Goes on along a marked entry's reason, unless its literal is true already.
+fn follow(
+    known: &List<Constraint>,
+    entry: &Entry,
+    marks: &[bool],
+    hints: &mut Hints,
+    a: &mut Assignment,
+) -> Result<Followed, NoMemory>
+    ensures {
+        IfOk result
+            (Follows (known_of known.now) entry.now marks.now hints.old a.old hints.new a.new)
+    }
+{
+    if !is_marked(marks, entry.lit) {
+        return Ok(Followed::Unmarked);
+    }
+    if let Some(true) = a.value_of(entry.lit) {
+        return Ok(Followed::AlreadyTrue);
+    }
+    match entry.reason {
+        None => Ok(Followed::Decided),
+        Some(id) => match constraint_at(known, id) {
+            None => Ok(Followed::Unknown),
+            Some(c) => {
+                hints.push(id)?;
+                c.terms();
+                match propagate(c, a) {
+                    Effect::Violated => Ok(Followed::Violated),
+                    Effect::Forced => Ok(Followed::Forced),
+                    Effect::Idle => Ok(Followed::Idle),
+                }
+            }
+        },
+    }
+}
+
+// The reasons of the marked entries in the trail's order, and the conflict.
+fn hints(
+    alloc: Global,
+    known: &List<Constraint>,
+    trail: &Trail,
+    marks: &[bool],
+    kept: &[bool],
+    a: &mut Assignment,
+    conflict: u64,
+) -> Result<Hints, NoMemory>
+    requires reasons { AreReasons trail.now.variables (known_of known.now) trail.now.entries }
+    requires conflict { IsConflict (known_of known.now) (values trail.now) conflict }
+    requires caused { IsCaused (known_of known.now) trail.now conflict marks.now kept.now }
+    requires started { (lits : List ℤ) × AreKeptLits trail.now kept.now lits a.old }
+    ensures { IfOk result (EndsInConflict (known_of known.now) a.old (length trail.now.entries)) }
+{
+    let mut hints = List::new(alloc);
+    for entry in trail.entries() {
+        if let Followed::Violated = follow(known, entry, marks, &mut hints, a)? {
+            return Ok(hints);
+        }
+    }
+    hints.push(conflict)?;
+    Ok(hints)
+}

@@ -1,0 +1,50 @@
+//! Marks of variables.
+ghost use Rattle.std.specs.Prelude.{◌≡◌, length, true, false, Some, slice_set};
+ghost use Rattle.ps_steps.specs.Assignments.{place, value_of};
+ghost use Rattle.ps_learning.specs.Causes.{is_marked, AreCovered};
+ghost use Rattle.ps_learning.specs.Marking.{Grows, AreSetIn};
+ghost use Rattle.ps_learn.specs.Marks.{MarksCause};
+
+use ps_pb::{Assignment, Constraint, Lit};
+
+pub fn is_marked(marks: &[bool], lit: Lit) -> bool
+    ensures { result ≡ is_marked marks.now lit }
+{
+    match marks.get(lit.place()) {
+        Some(marked) => *marked,
+        None => false,
+    }
+}
+
+/// Marks a literal's variable. Nothing happens where it is out of range.
+pub fn mark(marks: &mut [bool], lit: Lit)
+    ensures { marks.new ≡ slice_set marks.old (place lit) true }
+{
+    let place = lit.place();
+    if place < marks.len() {
+        marks[place] = true;
+    }
+}
+
+// Marks a literal that is false.
+fn mark_cause(term: &(Lit, i128), before: &Assignment, marks: &mut [bool])
+    ensures { MarksCause (value_of before.now term.now.0) term.now.0 marks.old marks.new }
+{
+    match before.value_of(term.0) {
+        Some(false) => mark(marks, term.0),
+        _ => {}
+    }
+}
+
+/// Marks the literals of a constraint that are false.
+pub fn mark_causes(c: &Constraint, before: &Assignment, marks: &mut [bool])
+    requires len { length marks.old ≡ length before.now }
+    ensures covered { AreCovered c.now before.now marks.new }
+    ensures grows { Grows marks.new marks.old }
+    ensures set { AreSetIn before.now marks.new marks.old }
+    ensures len { length marks.new ≡ length marks.old }
+{
+    for term in c.terms().as_slice() {
+        mark_cause(term, before, marks);
+    }
+}

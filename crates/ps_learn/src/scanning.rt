@@ -1,0 +1,104 @@
+//! Propagation by a scan of all constraints.
+ghost use Rattle.std.specs.Prelude.{◌≡◌, ◌≤◌, ◌<◌, ◌^◌, pos, ◌≤ℤ◌, length, All};
+ghost use Rattle.ps_steps.specs.Constraints.{slack, is_forced};
+ghost use Rattle.ps_steps.specs.Weights.{term_of};
+ghost use Rattle.ps_forms.specs.Forms.{IsWithin};
+ghost use Rattle.ps_learning.specs.Known.{known_of};
+ghost use Rattle.ps_learning.specs.Trails.{values, level, unset_count, AreReasons};
+ghost use Rattle.ps_learn.specs.Rest.{IsPropagated};
+ghost use Rattle.ps_learn.specs.Scans.{Scans, ScansOne, FirstForced};
+
+use ps_io::List;
+use ps_pb::{Assignment, Constraint, Lit, slack};
+use ps_trail::Trail;
+
+/// What a scan finds.
+#[derive(Drop)]
+pub enum Scan {
+    Violated(u64),
+    Forced(Lit, u64),
+    Settled,
+}
+
+/// What one constraint shows.
+#[derive(Drop)]
+enum Shown {
+    Violated,
+    Forced(Lit),
+    Idle,
+}
+
+// The first literal that a constraint of this slack forces.
+fn first_forced(c: &Constraint, a: &Assignment, room: &i128) -> Option<Lit>
+    requires { room.now ≡ slack c.now a.now }
+    ensures { FirstForced c.now a.now result }
+{
+    for term in c.terms().as_slice() {
+        if is_forced(a, term, room) {
+            let lit = term.0;
+            lit.variable();
+            return Some(lit);
+        }
+    }
+    None
+}
+
+fn is_forced(a: &Assignment, term: &(Lit, i128), room: &i128) -> bool
+    requires { pos 1 ≤ℤ term.now.1 }
+    ensures { result ≡ is_forced room.now a.now (term_of term.now) }
+{
+    match a.value_of(term.0) {
+        None => *room < term.1,
+        Some(_) => false,
+    }
+}
+
+fn show(c: &Constraint, a: &Assignment) -> Shown
+    ensures { ScansOne c.now a.now result }
+{
+    let room = slack(c, a);
+    if room < 0 {
+        return Shown::Violated;
+    }
+    match first_forced(c, a, &room) {
+        Some(lit) => Shown::Forced(lit),
+        None => Shown::Idle,
+    }
+}
+
+// The first constraint that is violated or forces a literal.
+fn scan_all(known: &[Constraint], a: &Assignment) -> Scan
+    requires few { length known.now < 2 ^ 41 }
+    requires inside { All (IsWithin (length a.now)) known.now }
+    ensures { Scans (known_of known.now) a.now result }
+{
+    for i in 0..known.len() {
+        match show(&known[i], a) {
+            Shown::Violated => return Scan::Violated(i as u64 + 1),
+            Shown::Forced(lit) => return Scan::Forced(lit, i as u64 + 1),
+            Shown::Idle => {}
+        }
+    }
+    Scan::Settled
+}
+
+/// Sets forced literals with their reasons. `Some` names a violated constraint; `None` comes where
+/// no constraint is violated or forces a literal.
+pub fn propagate_all(known: &List<Constraint>, trail: &mut Trail) -> Option<u64>
+    requires reasons { AreReasons trail.old.variables (known_of known.now) trail.old.entries }
+    requires inside { All (IsWithin trail.old.variables) known.now }
+    requires few { length known.now < 2 ^ 41 }
+    ensures variables { trail.new.variables ≡ trail.old.variables }
+    ensures level { level trail.new ≡ level trail.old }
+    ensures fewer { unset_count (values trail.new) ≤ unset_count (values trail.old) }
+    ensures reasons { AreReasons trail.new.variables (known_of known.now) trail.new.entries }
+    ensures ended { IsPropagated (known_of known.now) (values trail.new) result }
+{
+    'set: loop {
+        match scan_all(known.as_slice(), trail.values()) {
+            Scan::Violated(id) => return Some(id),
+            Scan::Forced(lit, id) => trail.imply(lit, id),
+            Scan::Settled => return None,
+        }
+    }
+}

@@ -1,0 +1,39 @@
+-- Which entries are kept on the way back over a trail.
+use Rattle.std.specs.Prelude.{ℕ, ◌≡◌, ◌≤◌, ◌<◌, Bool, true, false, Option, Some, None, List, slice_get, slice_set, ◌⊎◌}
+use Rattle.ps_steps.specs.Assignments.{place}
+use Rattle.ps_steps.specs.Steps.{Known, constraint_at}
+use Rattle.ps_learning.specs.Trails.{Entry, Trail, level}
+use Rattle.ps_learning.specs.Causes.{Marks, is_marked}
+
+-- one entry of the last level at most is kept, and none of level 0
+pub record IsKeptOnce (t : Trail) (kept : Marks) : Type 0 where
+  pub above : (j : ℕ) (e : Entry) → slice_get t.entries j ≡ Some e → is_marked kept e.lit ≡ true → 1 ≤ e.level
+  pub one : (j k : ℕ) (e d : Entry) → k < j → slice_get t.entries j ≡ Some e → slice_get t.entries k ≡ Some d → e.level ≡ level t → d.level ≡ level t → is_marked kept e.lit ≡ true → is_marked kept d.lit ≡ false
+
+-- no entry of this level before a place is marked
+pub record NoneIsMarked (level : ℕ) (es : List Entry) (marks : Marks) (i : ℕ) : Type 0 where
+  pub at : (k : ℕ) (d : Entry) → k < i → slice_get es k ≡ Some d → d.level ≡ level → is_marked marks d.lit ≡ false
+
+-- an entry of this level stands before a place
+pub record SomeIsAt (level : ℕ) (es : List Entry) (i : ℕ) : Type 0 where
+  pub place : ℕ
+  pub entry : Entry
+  pub before : place < i
+  pub there : slice_get es place ≡ Some entry
+  pub level_is : entry.level ≡ level
+
+-- an entry is to be explained at level 0, or at the last level after a marked one; else it is to be kept
+abbrev pub IsToExplain : ℕ → List Entry → Marks → ℕ → Entry → Bool → Type 0
+IsToExplain top es marks i e true = (e.level ≡ 0) ⊎ ((e.level ≡ top) × SomeIsAt top es i)
+IsToExplain top es marks i e false = (1 ≤ e.level) × (e.level ≡ top → NoneIsMarked top es marks i)
+
+-- an entry was decided, or its reason isn't known
+abbrev pub HasNoReason : Known → Entry → Type 0
+HasNoReason known e = (id : ℕ) → e.reason ≡ Some id → constraint_at known id ≡ None
+
+-- a marked entry is kept where it wasn't to be explained or has no reason; else nothing more is kept, and marks are added only
+-- where the entry is marked
+abbrev pub IsKeptOrNot : Known → Entry → Bool → Marks → Marks → Marks → Marks → Type 0
+IsKeptOrNot known e explained marks kept marks' kept' =
+    ((kept' ≡ kept) × ((marks' ≡ marks) ⊎ (is_marked marks e.lit ≡ true)))
+    ⊎ ((kept' ≡ slice_set kept (place e.lit) true) × (marks' ≡ marks) × (is_marked marks e.lit ≡ true) × ((explained ≡ false) ⊎ HasNoReason known e))
