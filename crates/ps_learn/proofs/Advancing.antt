@@ -1,7 +1,7 @@
 -- One literal more.
-use Rattle.std.proofs.Common.{◌≡◌, ℕ, zero, suc, ◌+◌, ◌<◌, ◌≤◌, ℤ, Option, Some, None, List, [], ◌∷◌, ◌++◌, length, arith, refl, sym, ap, ◌∙◌, subst}
+use Rattle.std.proofs.Common.{◌≡◌, ℕ, suc, ℤ, Some, None, List, [], ◌∷◌, ◌++◌, length, arith, refl, ap, subst}
 use Rattle.std.specs.List.{All}
-use Rattle.ps_steps.specs.Assignments.{Assignment, with_true}
+use Rattle.ps_steps.specs.Assignments.{Assignment}
 use Rattle.ps_steps.specs.Constraints.{Constraint}
 use Rattle.ps_steps.specs.Steps.{Known}
 use Rattle.ps_forms.specs.Forms.{IsWithin}

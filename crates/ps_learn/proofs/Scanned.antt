@@ -1,5 +1,5 @@
 -- A scan, one constraint on.
-use Rattle.std.proofs.Common.{◌≡◌, ◌≢◌, ℕ, zero, suc, ◌+◌, ◌-◌, ◌<◌, ◌≤◌, ℤ, pos, ◌<ℤ◌, Bool, true, false, Option, Some, None, List, [], ◌∷◌, length, get_or, arith, refl, sym, ap, ◌∙◌, subst, inl, inr, unsigned_abs}
+use Rattle.std.proofs.Common.{◌≡◌, ℕ, zero, suc, ◌+◌, ◌-◌, ◌<◌, ◌≤◌, ℤ, pos, ◌<ℤ◌, Bool, true, Some, List, [], ◌∷◌, length, get_or, arith, refl, sym, ap, ◌∙◌, subst, inl, inr, unsigned_abs}
 use Rattle.std.specs.Prelude.{slice_get, int_lt}
 use Rattle.std.specs.List.{All}
 use Rattle.std.proofs.lemmas.Option.{slice_get_read, slice_get_within}
@@ -7,7 +7,7 @@ use Rattle.std.proofs.lemmas.Bool.{cases_lt, and_parts}
 use Rattle.ps_steps.specs.Assignments.{Assignment, place, value_of, is_unset}
 use Rattle.ps_steps.specs.Constraints.{Constraint, HasTerm, Forces, slack, is_forced}
 use Rattle.ps_steps.specs.Weights.{Weighted, weighted, terms_of, term_of}
-use Rattle.ps_steps.specs.Steps.{Known, constraint_at}
+use Rattle.ps_steps.specs.Steps.{constraint_at}
 use Rattle.ps_forms.specs.Settled.{IsIdle}
 use Rattle.ps_learning.specs.Known.{known_of}
 use Rattle.ps_learning.specs.Trails.{IsReason, IsFresh, IsConflict}
@@ -78,7 +78,6 @@ fresh-forced n cs a i c l all h e f some = record { some = some; within = term-w
 
 pub scan-forced : (cs : List Constraint) (a : Assignment) (i : ℕ) (c : Constraint) (l : ℤ) → All (IsWithin (length a)) cs → i < length cs → c ≡ get_or cs i c → ScansOne c a (shown.Forced l) → IsReason (known_of cs) a l (Some (i + 1)) × IsFresh (length a) a l
 scan-forced cs a i c l all h e s = (scan-reason cs a i c l h e s.0, fresh-forced (length a) cs a i c l all h e s.0 s.1)
-
 
 pub first_forces : (c : Constraint) (a : Assignment) (s : ℤ) (ts : Weighted) (i : ℕ) (t : ℤ × ℤ) (b : Bool) → terms_of ts ≡ c.terms → s ≡ slack c a → i < length ts → t ≡ get_or ts i t → b ≡ is_forced s a (term_of t) → b ≡ true → Forces c a t.0
 first_forces c a s ts i t b e q h at f y =

@@ -1,16 +1,16 @@
 -- One step of each loop.
-use Rattle.std.proofs.Common.{◌≡◌, ◌≢◌, ℕ, zero, suc, ◌+◌, ◌<◌, ◌≤◌, ◌^◌, ℤ, pos, neg_ℤ, Bool, true, false, Option, Some, None, List, [], ◌∷◌, ◌++◌, length, length-append, take, get_or, set, length-set, arith, refl, sym, ap, ◌∙◌, subst, ◌⊎◌, inl, inr}
+use Rattle.std.proofs.Common.{◌≡◌, ◌≢◌, ℕ, zero, suc, ◌+◌, ◌<◌, ◌≤◌, ◌^◌, ℤ, Bool, true, false, Option, Some, None, List, [], ◌∷◌, ◌++◌, length, length-append, take, get_or, length-set, arith, refl, sym, ap, ◌∙◌, subst, inl, inr}
 use Rattle.std.specs.Prelude.{slice_get, slice_set, unsigned_abs}
 use Rattle.std.specs.List.{All}
 use Rattle.std.proofs.lemmas.List.Elements.{All-push}
 use Rattle.std.proofs.lemmas.Option.{slice_get_read}
 use Rattle.std.proofs.lemmas.Bool.{cases_lt}
 use Rattle.std.proofs.lemmas.List.{get_or_default, get_or_past}
-use Rattle.ps_steps.specs.Assignments.{Assignment, place, value_of, with_true, with_false, is_unset, all_unset}
-use Rattle.ps_steps.specs.Constraints.{Constraint, HasTerm, Forces, slack, is_violated, some_forced, with_forced}
-use Rattle.ps_steps.specs.Weights.{Weighted, weighted, terms_of, IsNormal}
+use Rattle.ps_steps.specs.Assignments.{Assignment, place, value_of, is_unset, all_unset}
+use Rattle.ps_steps.specs.Constraints.{Constraint, HasTerm, Forces, is_violated}
+use Rattle.ps_steps.specs.Weights.{Weighted, terms_of}
 use Rattle.ps_steps.specs.Steps.{Known, constraint_at, Open, Conflict, after_hints}
-use Rattle.ps_learning.specs.Trails.{Entry, Trail, values_of, IsReason, IsFresh, AreFresh, AreLevels, AreReasons, IsConflict}
+use Rattle.ps_learning.specs.Trails.{Entry, Trail, values_of, IsReason, AreFresh, AreLevels, AreReasons, IsConflict}
 use Rattle.ps_learning.specs.Causes.{Marks, is_marked, AreCovered, IsExplained, AreExplained}
 use Rattle.ps_steps.proofs.Values.{signed-some}
 use Rattle.ps_learning.proofs.Setting.{rising-distinct, unset-same}
@@ -20,9 +20,9 @@ use Rattle.ps_learning.proofs.Asserting.{Asserted, asserted-none, asserted-skip,
 use Rattle.ps_learning.specs.Keeping.{IsKeptOnce}
 use Rattle.ps_learning.proofs.Following.{Followed, followed-unmarked, followed-true, followed-violated, followed-forced, followed-idle, followed-end, known-id, IsKnownId}
 use Rattle.ps_learning.specs.Marking.{Grows, AreSetIn}
-use Rattle.ps_learning.proofs.Marking.{grows-refl, grows-trans, marked-set, grows-set, own-set, explained-end, explained-next}
-use Rattle.ps_learn.specs.Marks.{MarksCause, Explains, IsCaused}
-use Rattle.ps_learn.specs.Lessons.{AddsIf, AddsKept, FollowsBy, Follows, EndsInConflict}
+use Rattle.ps_learning.proofs.Marking.{grows-refl, grows-trans, marked-set, grows-set, own-set}
+use Rattle.ps_learn.specs.Marks.{MarksCause, IsCaused}
+use Rattle.ps_learn.specs.Lessons.{AddsIf, AddsKept, Follows, EndsInConflict}
 use Rattle.ps_learn.specs.declared.learning.Kept.{Kept}
 use Rattle.ps_learn.specs.declared.learning.Followed.TheVariants as v
 

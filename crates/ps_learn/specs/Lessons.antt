@@ -1,5 +1,5 @@
 -- How a clause is learned.
-use Rattle.std.specs.Prelude.{ℕ, suc, ◌≡◌, ◌≢◌, ◌≤◌, ◌∷◌, [], ◌++◌, ℤ, neg_ℤ, Bool, true, false, Option, Some, None, List, length, All}
+use Rattle.std.specs.Prelude.{ℕ, suc, ◌≡◌, ◌≢◌, ◌≤◌, ◌∷◌, [], ◌++◌, neg_ℤ, Bool, true, false, Some, None, List, length, All}
 use Rattle.ps_steps.specs.Assignments.{Assignment, value_of, with_false}
 use Rattle.ps_steps.specs.Constraints.{Constraint}
 use Rattle.ps_steps.specs.Weights.{weighted, IsNormal}

@@ -1,6 +1,6 @@
 -- Marking causes.
-use Rattle.std.specs.Prelude.{ℕ, ◌≡◌, ◌≤◌, ◌<◌, ℤ, Bool, true, false, Option, Some, None, List, length, slice_get, slice_set, ◌⊎◌}
-use Rattle.ps_steps.specs.Assignments.{Assignment, place, value_of}
+use Rattle.std.specs.Prelude.{ℕ, ◌≡◌, ℤ, Bool, true, false, Option, Some, None, length, slice_set, ◌⊎◌}
+use Rattle.ps_steps.specs.Assignments.{Assignment, place}
 use Rattle.ps_steps.specs.Constraints.{Constraint}
 use Rattle.ps_steps.specs.Steps.{Known, constraint_at}
 use Rattle.ps_learning.specs.Trails.{Entry, Trail, values, level}

@@ -1,11 +1,10 @@
 -- What a scan finds.
-use Rattle.std.specs.Prelude.{ℕ, ◌≡◌, ◌≤◌, unsigned_abs, ℤ, false, true, Option, Some, None, List, length}
+use Rattle.std.specs.Prelude.{◌≡◌, ◌≤◌, unsigned_abs, ℤ, false, true, Option, Some, None, length}
 use Rattle.ps_steps.specs.Assignments.{Assignment}
 use Rattle.ps_steps.specs.Constraints.{Constraint, slack, is_violated, some_forced, Forces}
-use Rattle.ps_steps.specs.Steps.{Known, constraint_at}
+use Rattle.ps_steps.specs.Steps.{Known}
 use Rattle.ps_learning.specs.Trails.{IsReason, IsFresh, IsConflict}
-use Rattle.ps_forms.specs.Forms.{Form}
-use Rattle.ps_forms.specs.Settled.{IsIdle, AtomsAreSet}
+use Rattle.ps_forms.specs.Settled.{IsIdle}
 use Rattle.ps_learn.specs.Rest.{IsAtRest}
 use Rattle.ps_learn.specs.declared.scanning.Shown.{Shown}
 use Rattle.ps_learn.specs.declared.scanning.Shown.TheVariants as shown

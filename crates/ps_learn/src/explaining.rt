@@ -166,10 +166,8 @@ fn explain(
     requires within { i < length trail.now.entries }
     requires len { length marks.old ≡ length before.now }
     requires kept_len { place entry.now.lit < length kept.old }
-    ensures {
-        ExplainsAt (known_of known.now) trail.now i entry.now before.now
-            marks.old kept.old marks.new kept.new
-    }
+    ensures { ExplainsAt (known_of known.now) trail.now i entry.now before.now
+        marks.old kept.old marks.new kept.new }
 {
     if !is_marked(marks, entry.lit) {
         return;
@@ -192,10 +190,8 @@ fn explain_by_reason(
     requires len { length marks.old ≡ length before.now }
     requires kept_len { place entry.now.lit < length kept.old }
     requires marked { is_marked marks.old entry.now.lit ≡ true }
-    ensures {
-        Explains (known_of known.now) entry.now true before.now
-            marks.old kept.old marks.new kept.new
-    }
+    ensures { Explains (known_of known.now) entry.now true before.now
+        marks.old kept.old marks.new kept.new }
 {
     match entry.reason {
         None => mark(kept, entry.lit),

@@ -39,31 +39,27 @@ pub fn learn(
     requires reasons { AreReasons trail.now.variables (known_of known.now) trail.now.entries }
     requires conflict { IsConflict (known_of known.now) (values trail.now) conflict }
     requires few { length known.now < 2 ^ 41 }
-    ensures lawful {
-        IfOk result (λ lesson. IsLawful trail.now.variables (known_of known.now) lesson.step)
-    }
-    ensures asserting {
-        IfOk result (λ lesson. IsAsserting trail.now (lits_of lesson.step) lesson.level)
-    }
-    ensures literals {
-        IfOk result (λ lesson. All (IsLit trail.now.variables) (lits_of lesson.step))
-    }
-    ensures few_literals {
-        IfOk result (λ lesson. length (lits_of lesson.step) ≤ trail.now.variables)
-    }
-    ensures hints {
-        IfOk result (λ lesson. All (IsIdUpTo (length known.now)) (hints_of lesson.step))
-    }
-    ensures few_hints {
-        IfOk result (λ lesson. length (hints_of lesson.step) ≤ trail.now.variables + 1)
-    }
+    ensures lawful { IfOk result (λ lesson. IsLawful trail.now.variables (known_of known.now) lesson.step) }
+    ensures asserting { IfOk result (λ lesson. IsAsserting trail.now (lits_of lesson.step) lesson.level) }
+    ensures literals { IfOk result (λ lesson. All (IsLit trail.now.variables) (lits_of lesson.step)) }
+    ensures few_literals { IfOk result (λ lesson. length (lits_of lesson.step) ≤ trail.now.variables) }
+    ensures hints { IfOk result (λ lesson. All (IsIdUpTo (length known.now)) (hints_of lesson.step)) }
+    ensures few_hints { IfOk result (λ lesson. length (hints_of lesson.step) ≤ trail.now.variables + 1) }
     ensures level { IfOk result (λ lesson. lesson.level ≤ level trail.now) }
 {
     trail.entries();
     let causes = explain_conflict(alloc, known, trail, conflict)?;
     let mut a = Assignment::new(alloc, trail.variables())?;
     let kept = kept_lits(alloc, trail, &causes.kept, &mut a)?;
-    let hints = hints(alloc, known, trail, &causes.marks, &causes.kept, &mut a, conflict)?;
+    let hints = hints(
+        alloc,
+        known,
+        trail,
+        &causes.marks,
+        &causes.kept,
+        &mut a,
+        conflict,
+    )?;
     let step = Step {
         id: known.len() as u64 + 1,
         lits: kept.lits,
@@ -146,10 +142,8 @@ fn follow(
     hints: &mut Hints,
     a: &mut Assignment,
 ) -> Result<Followed, NoMemory>
-    ensures {
-        IfOk result
-            (Follows (known_of known.now) entry.now marks.now hints.old a.old hints.new a.new)
-    }
+    ensures { IfOk result
+        (Follows (known_of known.now) entry.now marks.now hints.old a.old hints.new a.new) }
 {
     if !is_marked(marks, entry.lit) {
         return Ok(Followed::Unmarked);

@@ -1,15 +1,15 @@
 -- The kept literals in the trail's order: all but the last are below the trail's level.
-use Rattle.std.proofs.Common.{◌≡◌, ℕ, zero, suc, ◌+◌, ◌<◌, ◌≤◌, ℤ, neg_ℤ, Bool, true, false, Option, Some, None, List, [], ◌∷◌, ◌++◌, length, take, arith, refl, sym, ap, ◌∙◌, subst, ◌⊎◌, inl, inr}
-use Rattle.std.specs.Prelude.{slice_get, max}
+use Rattle.std.proofs.Common.{◌≡◌, ℕ, suc, ◌+◌, ◌<◌, ◌≤◌, ℤ, neg_ℤ, true, Some, List, [], ◌∷◌, ◌++◌, take, arith, refl, sym, ap, ◌∙◌, ◌⊎◌, inl, inr}
+use Rattle.std.specs.Prelude.{slice_get}
 use Rattle.std.specs.List.{All}
-use Rattle.std.proofs.lemmas.List.Elements.{All-nil, All-push, All-cons, All-head, All-tail}
+use Rattle.std.proofs.lemmas.List.Elements.{All-nil, All-push, All-head, All-tail}
 use Rattle.std.proofs.lemmas.Bool.{cases_lt}
-use Rattle.std.proofs.Math.Nat.{max-eq_right, max-eq_left, max-le, le-max_left, le-max_right}
+use Rattle.std.proofs.Math.Nat.{max-eq_right, max-eq_left, max-le}
 use Rattle.ps_learning.specs.Trails.{Entry, Trail, decisions, level, AreFresh, AreLevels}
 use Rattle.ps_learning.specs.Levels.{level_at, greatest_level, IsAsserting}
 use Rattle.ps_learning.specs.Causes.{Marks, is_marked}
 use Rattle.ps_learning.specs.Keeping.{IsKeptOnce}
-use Rattle.ps_learning.proofs.Distinct.{level-opposite, level-most, decisions-take, decisions-next}
+use Rattle.ps_learning.proofs.Distinct.{level-opposite, level-most}
 use Rattle.ps_learning.proofs.Keeping.{decisions-more, before-level}
 
 -- the level of a literal is below a number, or at most it

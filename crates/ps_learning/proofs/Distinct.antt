@@ -1,9 +1,9 @@
 -- Entries of a trail are of different variables, and each is found by its variable.
-use Rattle.std.proofs.Common.{inl, inr, ◌≡◌, ◌≢◌, ℕ, zero, suc, ◌+◌, ◌-◌, ◌<◌, ◌≤◌, ◌==◌, ℤ, neg_ℤ, Bool, true, false, cond, Option, Some, None, List, [], ◌∷◌, ◌++◌, length, take, arith, refl, sym, ap, ◌∙◌, subst}
+use Rattle.std.proofs.Common.{inl, inr, ◌≡◌, ◌≢◌, ℕ, zero, suc, ◌+◌, ◌-◌, ◌<◌, ◌≤◌, ◌==◌, ℤ, neg_ℤ, true, false, cond, Some, List, [], ◌∷◌, take, arith, refl, sym, ap, ◌∙◌}
 use Rattle.std.specs.Prelude.{slice_get, unsigned_abs, is_none}
 use Rattle.std.proofs.lemmas.Bool.{cases_eq, cases_lt}
 use Rattle.ps_steps.specs.Assignments.{place, value_of, is_unset, with_true}
-use Rattle.ps_learning.specs.Trails.{Entry, Trail, values_of, decisions, level, entry_of, AreFresh, AreLevels}
+use Rattle.ps_learning.specs.Trails.{Entry, values_of, decisions, entry_of, AreFresh, AreLevels}
 use Rattle.ps_learning.specs.Levels.{level_at, level_or_zero}
 use Rattle.ps_learning.proofs.Setting.{value-true, unset-same, size-opposite}
 use Rattle.ps_learning.proofs.Entries.{values-more, length-values}
@@ -50,7 +50,6 @@ entry-found v es i e f q = found_at es i e q (λ j d lt p. other_number d.lit e.
 -- the level of its literal, and of the opposite
 pub level-opposite : (v : ℕ) (es : List Entry) (i : ℕ) (e : Entry) → AreFresh v es → slice_get es i ≡ Some e → level_at es (neg_ℤ e.lit) ≡ e.level
 level-opposite v es i e f q = ap (λ n. level_or_zero (entry_of n es)) (size-opposite e.lit) ∙ ap level_or_zero (entry-found v es i e f q)
-
 
 -- a part of a trail has at most as many decisions
 pub decisions-take : (es : List Entry) (n : ℕ) → decisions (take n es) ≤ decisions es

@@ -1,17 +1,16 @@
 -- Of the last level at most one entry is kept.
-use Rattle.std.proofs.Common.{◌≡◌, ◌≢◌, ℕ, zero, suc, ◌+◌, ◌<◌, ◌≤◌, ℤ, Bool, true, false, cond, Option, Some, None, List, [], ◌∷◌, length, take, arith, refl, sym, ap, ◌∙◌, subst, ◌⊎◌, inl, inr}
+use Rattle.std.proofs.Common.{◌≡◌, ℕ, zero, suc, ◌+◌, ◌<◌, ◌≤◌, ℤ, Bool, true, false, cond, Option, Some, None, List, [], ◌∷◌, take, arith, refl, sym, ap, ◌∙◌, subst, ◌⊎◌, inl, inr}
 use Rattle.std.specs.Prelude.{slice_get, slice_set, slice_index_or, is_none}
-use Rattle.std.proofs.lemmas.Bool.{cases_lt, cases_eq}
+use Rattle.std.proofs.lemmas.Bool.{cases_lt}
 use Rattle.ps_steps.specs.Assignments.{Assignment, place, value_of, is_unset}
-use Rattle.ps_steps.specs.Constraints.{Constraint}
-use Rattle.ps_steps.specs.Steps.{Known, constraint_at}
-use Rattle.ps_learning.specs.Trails.{Entry, Trail, values_of, decisions, level, IsReason, AreFresh, AreLevels, AreReasons}
+use Rattle.ps_steps.specs.Steps.{Known}
+use Rattle.ps_learning.specs.Trails.{Entry, Trail, values_of, decisions, IsReason, AreFresh, AreLevels, AreReasons}
 use Rattle.ps_learning.specs.Causes.{Marks, is_marked}
 use Rattle.ps_learning.specs.Marking.{Grows, AreSetIn}
-use Rattle.ps_learning.specs.Keeping.{IsKeptOnce, NoneIsMarked, SomeIsAt, IsToExplain, HasNoReason, IsKeptOrNot}
+use Rattle.ps_learning.specs.Keeping.{IsKeptOnce, IsToExplain, HasNoReason, IsKeptOrNot}
 use Rattle.ps_learning.proofs.Levels.{levels-rise}
-use Rattle.ps_learning.proofs.Marking.{grows-trans, grows-set, marked-set, unset-earlier}
-use Rattle.ps_learning.proofs.Distinct.{same-place, other-place, decisions-next, decisions-take, level-most}
+use Rattle.ps_learning.proofs.Marking.{grows-trans, marked-set, unset-earlier}
+use Rattle.ps_learning.proofs.Distinct.{same-place, other-place, decisions-next, level-most}
 
 -- how far back entries have been kept
 pub record Keeping (es : List Entry) (marks kept : Marks) (i : ℕ) : Type 0 where
@@ -101,6 +100,7 @@ keeps v known es marks kept kept' i e s q k is m t = rw is (record {
   where
     is_there : ℕ → Bool
     is_there p = slice_index_or marks p false
+
     by_mark : (n : ℕ) (d : Entry) → n < i → slice_get es n ≡ Some d → (b : Bool) → is_marked (slice_set kept (place e.lit) true) d.lit ≡ b → is_marked (slice_set kept (place e.lit) true) d.lit ≡ false
     by_mark n d lt p false r = r
     by_mark n d lt p true r = elim (marked-set kept e.lit d.lit r) [

@@ -1,5 +1,5 @@
 -- Which entries are kept on the way back over a trail.
-use Rattle.std.specs.Prelude.{ℕ, ◌≡◌, ◌≤◌, ◌<◌, Bool, true, false, Option, Some, None, List, slice_get, slice_set, ◌⊎◌}
+use Rattle.std.specs.Prelude.{ℕ, ◌≡◌, ◌≤◌, ◌<◌, Bool, true, false, Some, None, List, slice_get, slice_set, ◌⊎◌}
 use Rattle.ps_steps.specs.Assignments.{place}
 use Rattle.ps_steps.specs.Steps.{Known, constraint_at}
 use Rattle.ps_learning.specs.Trails.{Entry, Trail, level}

@@ -1,5 +1,5 @@
 -- How far the literals of a learned clause have been set false.
-use Rattle.std.specs.Prelude.{ℕ, ◌≡◌, ◌<◌, ◌≤◌, ℤ, true, Some, List, take, length, fold, slice_get, unsigned_abs, All}
+use Rattle.std.specs.Prelude.{ℕ, ◌≡◌, ◌<◌, ◌≤◌, ℤ, true, Some, List, take, length, fold, slice_get, All}
 use Rattle.ps_steps.specs.Assignments.{Assignment, value_of, all_unset}
 use Rattle.ps_steps.specs.Steps.{and_false}
 use Rattle.ps_steps.proofs.Values.{Includes}

@@ -1,4 +1,4 @@
-use Rattle.std.proofs.Common.{◌≡◌, ◌-◌, ◌∙◌, ap, sym, refl, length, unsigned_abs, arith, get_or, List, subst}
+use Rattle.std.proofs.Common.{◌-◌, ◌∙◌, ap, sym, refl, length, unsigned_abs, arith, get_or, List}
 use Rattle.ps_steps.specs.Assignments.{without}
 use Rattle.ps_learning.specs.Trails.{Entry}
 use Rattle.ps_learn.proofs.Going.{going-start, going-end, going-len, going-place, going-next, sound}

@@ -1,4 +1,4 @@
-use Rattle.std.proofs.Common.{◌≡◌, ◌≢◌, ◌-◌, ap, ◌∙◌, sym, length, arith}
+use Rattle.std.proofs.Common.{ap, ◌∙◌, sym, length, arith}
 use Rattle.ps_learning.specs.Trails.{Entry}
 use Rattle.ps_learning.specs.Causes.{is_marked}
 use Rattle.ps_learn.proofs.Before.{before-first, before-next, before-end, before-other, before-here}

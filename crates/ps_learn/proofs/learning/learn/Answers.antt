@@ -1,4 +1,4 @@
-use Rattle.std.proofs.Common.{◌≡◌, ◌+◌, ap, ◌∙◌, sym, length, arith}
+use Rattle.std.proofs.Common.{◌+◌, ap, ◌∙◌, sym, arith}
 use Rattle.ps_learning.specs.Known.{known_of}
 use Rattle.ps_learning.proofs.Ids.{known_of-length}
 use Rattle.ps_learning.proofs.Counting.{counted}
