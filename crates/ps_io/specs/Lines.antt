@@ -3,7 +3,7 @@ use Rattle.std.specs.Prelude.{ℕ, List, length, Bool, Option, Result}
 use Rattle.std.specs.Borrow.{GName}
 use Rattle.ps_io.specs.declared.lines.Lines.{Lines}
 use Rattle.ps_io.specs.Causes.{CountsFault}
-use Rattle.ps_io.specs.LineText.{bytes_of}
+use Rattle.ps_io.specs.LineKept.{bytes_of}
 use Rattle.ps_io.specs.Transfer.{Appends, AppendsPrefix}
 
 module _ {O : Type 0} where

@@ -1,7 +1,8 @@
 //! A line that is being made.
 ghost use Rattle.std.specs.Prelude.{◌≡◌, ◌≤◌, ◌+◌, ◌<◌, [], length, true, false};
 ghost use Rattle.std.specs.Fmt.{signed_decimal};
-ghost use Rattle.ps_io.specs.LineText.{LineText, add_word, bytes_of, emptied, number_length};
+ghost use Rattle.ps_io.specs.LineText.{number_length};
+ghost use Rattle.ps_io.specs.LineKept.{LineText, add_word, bytes_of, emptied};
 ghost use Rattle.ps_io.specs.Causes.{CountsFault};
 ghost use Rattle.ps_io.specs.Transfer.{Writes};
 
@@ -20,7 +21,7 @@ pub(crate) struct Line {
 
 impl Model for Line {
     ghost use Rattle.std.specs.Prelude.{drop};
-    ghost use Rattle.ps_io.specs.LineText.{LineText, IsMarkedText};
+    ghost use Rattle.ps_io.specs.LineKept.{LineText, IsMarkedText};
 
     ghost Value = { LineText };
 

@@ -1,17 +1,18 @@
 //! Standard output as a sink.
-ghost use Rattle.std.specs.Prelude.{None, length, ◌≡◌, ◌<◌, IfOk};
+ghost use Rattle.std.specs.Prelude.{None, length, ◌≡◌, ◌<◌, IfOk, OnOk, false};
 ghost use Rattle.std.specs.Io.{WritesAtMost};
 ghost use Rattle.ps_io.specs.Causes.{CountsFault};
-ghost use Rattle.ps_io.specs.Standard.{write_faults};
+ghost use Rattle.ps_io.specs.Standard.{is_pending, write_faults};
 
+use crate::pending::Pending;
 use crate::{Sink, WriteFault};
 use std::io;
 use std::io::{ErrorKind, Stdout, Write};
 
-/// Standard output, or another writer, flushed after each write. It tells no bytes.
+/// Standard output, or another writer, flushed within each write. It tells no bytes.
 #[derive(Drop)]
 pub struct StdSink<W = Stdout> {
-    writer: W,
+    writer: Pending<W>,
     faults: u64,
 }
 
@@ -20,7 +21,10 @@ impl<W: Write> StdSink<W> {
     pub fn new(writer: W) -> StdSink<W>
         ensures { write_faults result ≡ 0 }
     {
-        StdSink { writer, faults: 0 }
+        StdSink {
+            writer: Pending::new(writer),
+            faults: 0,
+        }
     }
 }
 
@@ -32,6 +36,7 @@ impl<W: Write> Sink for StdSink<W> {
     fn write(&mut self, buf: &[u8]) -> Result<usize, WriteFault>
         ensures bound { WritesAtMost result buf.now }
         ensures some { IfOk result (λ n. 0 < length buf.now → 0 < n) }
+        ensures flushed { OnOk result (is_pending self.new ≡ false) }
         ensures faults { CountsFault result (write_faults self.old) (write_faults self.new) }
     {
         match write_through(&mut self.writer, buf) {
@@ -45,9 +50,10 @@ impl<W: Write> Sink for StdSink<W> {
 }
 
 // A write that takes nothing of a nonempty `buf` counts as an error.
-fn write_through<W: Write>(writer: &mut W, buf: &[u8]) -> io::Result<usize>
+fn write_through<W: Write>(writer: &mut Pending<W>, buf: &[u8]) -> io::Result<usize>
     ensures bound { WritesAtMost result buf.now }
     ensures some { IfOk result (λ n. 0 < length buf.now → 0 < n) }
+    ensures flushed { OnOk result (writer.new.pending ≡ false) }
 {
     let n = writer.write(buf)?;
     writer.flush()?;
