@@ -59,6 +59,15 @@ impl Fraction {
         Fraction::of_lowest(divided(n, g), bottom / g)
     }
 
+    /// Both numbers are below the limit: a law, no more than two reads.
+    pub fn fits(&self)
+        ensures over { Fits self.now.over }
+        ensures under { self.now.under < size_limit }
+    {
+        let _over = self.numerator();
+        let _under = self.under();
+    }
+
     /// The numerator in lowest terms.
     pub fn numerator(&self) -> i128
         ensures value { result ≡ self.now.over }

@@ -9,4 +9,5 @@ pub mod Whole
 pub mod NamedNumbers
 pub mod Multiples
 pub mod Scaling
+pub mod Zeros
 pub mod WeightedSums

@@ -2,8 +2,9 @@
 use Rattle.std.specs.Prelude.{◌≡◌, ◌≢◌, ◌⊎◌, ◌↔◌, ℕ, suc, ◌+◌, ◌<◌, ℤ, pos, ◌+ℤ◌, ◌*ℤ◌, ◌≤ℤ◌, List, ◌∷◌, ◌++◌, All}
 use Rattle.std.specs.Int.{◌∣◌}
 use Rattle.ps_rational.specs.Gcd.{lcm, lcm_to, IsLeastCommonMultiple, ArePositive, IsMultipleOfEach}
-use Rattle.ps_rational.specs.Rational.{Rational, add, mul, sub, whole, zero_q}
+use Rattle.ps_rational.specs.Rational.{Rational, add, mul, neg, sub, whole, zero_q}
 use Rattle.ps_rational.specs.Scaled.{scaled}
+use Rattle.ps_rational.specs.Wide.{Fits, size_limit, ProductIsWide, SumIsWide}
 use Rattle.ps_rational.specs.Order.{IsNonneg, AtMost, IsLess}
 use Rattle.ps_rational.specs.Sums.{sum_to, sum_of}
 
@@ -58,3 +59,10 @@ pub record CommonMultiples : Type 0 where
 pub record ScaledNumbers : Type 0 where
   pub value : (big : ℕ) (x : Rational) → x.under ∣ big → whole (scaled big x) ≡ mul (whole (pos big)) x
   pub whole_tells : (y z : ℤ) → whole y ≡ whole z → y ≡ z
+
+-- no named number of a product with 0 is too large, and none of a sum or difference of a number that fits and 0
+pub record ZerosAreNarrow : Type 0 where
+  pub left : (y : Rational) → ¬ ProductIsWide zero_q y
+  pub right : (x : Rational) → ¬ ProductIsWide x zero_q
+  pub sum : (x : Rational) → Fits x.over → x.under < size_limit → ¬ SumIsWide x zero_q
+  pub difference : (x : Rational) → Fits x.over → x.under < size_limit → ¬ SumIsWide x (neg zero_q)

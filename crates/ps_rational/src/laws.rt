@@ -3,7 +3,7 @@
 ghost use Rattle.std.specs.Prelude.{◌≡◌, ◌≢◌};
 ghost use Rattle.ps_rational.specs.Rational.{Rational, add, mul, neg, zero_q, one_q, inverse};
 ghost use Rattle.ps_rational.specs.Laws.{CommutativeRing, IsOrdered, SumsOfRationals, WeightedSums};
-ghost use Rattle.ps_rational.specs.Laws.{CommonMultiples, ScaledNumbers};
+ghost use Rattle.ps_rational.specs.Laws.{CommonMultiples, ScaledNumbers, ZerosAreNarrow};
 
 /// The rational numbers are a field.
 pub fn field_laws()
@@ -36,4 +36,9 @@ pub fn lcm_laws()
 /// A rational number times a multiple of its denominator is a whole number.
 pub fn scaled_laws()
     ensures scaled { ScaledNumbers }
+{}
+
+/// Products with 0, and sums and differences of a fraction and 0, are never refused.
+pub fn zero_laws()
+    ensures narrow { ZerosAreNarrow }
 {}

@@ -4,4 +4,6 @@
 
 mod laws;
 
-pub use laws::{field_laws, lcm_laws, order_laws, scaled_laws, sum_laws, weighted_sum_laws};
+pub use laws::{
+    field_laws, lcm_laws, order_laws, scaled_laws, sum_laws, weighted_sum_laws, zero_laws,
+};
