@@ -2,3 +2,4 @@ pub mod Weights
 pub mod Tables
 pub mod Order
 pub mod Validity
+pub mod FirstReasons

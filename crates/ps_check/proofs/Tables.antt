@@ -15,7 +15,8 @@ use Rattle.ps_problem.specs.declared.bound.Bound.{Bound}
 use Rattle.ps_problem.specs.Problems.{tree_at, given_at, bound_of, IsBoth, IsBound, AreBounds}
 use Rattle.ps_check.specs.declared.model.Weighted.{Weighted}
 use Rattle.ps_check.specs.declared.truth.Row.{Row}
-use Rattle.ps_check.specs.Models.{entry_of, entries, AreSmall}
+use Rattle.ps_check.specs.Models.{entry_of, entries}
+use Rattle.ps_check.specs.Sizes.{AreSmall}
 use Rattle.ps_check.specs.Rows.{row_entry, row_entries, over_nodes, AreRows, HaveNode, IsTableOf, node_at, Covers, MeetsAt, MissesFirstAt}
 use Rattle.ps_check.specs.Reasons.{HaveShape, MissesFirst}
 use Rattle.ps_meaning.proofs.Weights.{weight-and_truth}

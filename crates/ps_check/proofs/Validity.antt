@@ -8,7 +8,8 @@ use Rattle.ps_meaning.specs.Distribution.{Entry, total}
 use Rattle.ps_problem.specs.Problems.{Parts, bound_of, bounds_in, bounds_of}
 use Rattle.ps_check.specs.declared.model.Weighted.{Weighted}
 use Rattle.ps_check.specs.declared.model.Model.{Model}
-use Rattle.ps_check.specs.Models.{entry_of, entries, AreSmall, IsWithinLimits}
+use Rattle.ps_check.specs.Models.{entry_of, entries, IsWithinLimits, IsNonnegative}
+use Rattle.ps_check.specs.Sizes.{HasSmallNumbers}
 use Rattle.ps_check.specs.declared.refusal.Reason.{Reason}
 use Rattle.ps_check.specs.declared.refusal.Reason.TheVariants.{WrongShape, TooManyWorlds, WeightZero, WorldTwice, TotalWrong, BoundMissed}
 use Rattle.ps_check.specs.Reasons.{HaveShape, HaveWrongShape, AreTooMany, IsFirstAmong}
@@ -24,13 +25,16 @@ some_entry : (d : List Entry) (z : ℤ) → z ≢ pos 0 → z ≡ total d → 0 
 some_entry [] z some sum = absurd (some sum)
 some_entry (e ∷ d) z some sum = omega arith
 
-not_below : (ws : List Weighted) → AreSmall ws → All (λ e. pos 0 ≤ℤ e.weight) (entries ws)
-not_below ws small = All-map (λ e. pos 0 ≤ℤ e.weight) entry_of ws (λ k w lt. (small.weights k w lt).low)
+pub numbers_small : (m : Model) → IsWithinLimits m → IsNonnegative m → HasSmallNumbers m
+numbers_small m limits signs = record {
+  total = record { low = signs.total; high = limits.total };
+  worlds = record { few = limits.few; weights = λ k w lt. record { low = signs.weights k w lt; high = limits.weights k w lt } };
+}
 
-pub valid_shows : (p : Parts) (m : Model) → IsWithinLimits m → IsValid p m → ShowsConsistent p m
-valid_shows p m limits valid =
+pub valid_shows : (p : Parts) (m : Model) → IsNonnegative m → IsValid p m → ShowsConsistent p m
+valid_shows p m signs valid =
     let d = entries m.worlds in
-    let low = not_below m.worlds limits.worlds in
+    let low : All (λ e. pos 0 ≤ℤ e.weight) d = All-map (λ e. pos 0 ≤ℤ e.weight) entry_of m.worlds signs.weights in
     record {
       model = record {
         distribution = record {
@@ -41,7 +45,7 @@ valid_shows p m limits valid =
         };
         met = valid.met;
       };
-      few = rw (length-map m.worlds entry_of) at valid.weighed.size.few;
+      few = valid.weighed.size.few;
       total = valid.weighed.total.sum;
     }
 

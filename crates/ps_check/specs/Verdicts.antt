@@ -12,10 +12,26 @@ use Rattle.ps_check.specs.declared.refusal.CheckError.TheVariants.{Refused, NoMe
 use Rattle.ps_check.specs.Models.{entries}
 use Rattle.ps_check.specs.Reasons.{HaveWrongShape, HaveShape, AreTooMany, AreInOrder, IsWeightless, IsRepeated, HasWrongTotal, HasTotal, MissesFirst}
 
--- each world has each atom, and there are at most as many as bounds and one
+-- each world has a truth value for each of the problem's atoms
+abbrev pub HasShape : Parts → Model → Type 0
+HasShape p m = HaveShape (length p.names) (entries m.worlds)
+
+-- a world hasn't
+abbrev pub HasWrongShape : Parts → Model → Type 0
+HasWrongShape p m = HaveWrongShape (length p.names) (entries m.worlds)
+
+-- there are at most as many worlds as bounds and one
+abbrev pub HasFewWorlds : Parts → Model → Type 0
+HasFewWorlds p m = length (entries m.worlds) ≤ length (bounds_of p) + 1
+
+-- there are more
+abbrev pub HasTooManyWorlds : Parts → Model → Type 0
+HasTooManyWorlds p m = AreTooMany (length (bounds_of p)) (entries m.worlds)
+
+-- each world has each atom, and the worlds are few
 pub record HasSize (p : Parts) (m : Model) : Type 0 where
-  pub shape : HaveShape (length p.names) (entries m.worlds)
-  pub few : length (entries m.worlds) ≤ length (bounds_of p) + 1
+  pub shape : HasShape p m
+  pub few : HasFewWorlds p m
 
 -- nothing is wrong with the worlds and the total
 pub record IsWeighed (p : Parts) (m : Model) : Type 0 where
@@ -30,8 +46,8 @@ pub record IsValid (p : Parts) (m : Model) : Type 0 where
 
 -- the reason holds, and none before it
 abbrev pub IsFirst : Parts → Model → Reason → Type 0
-IsFirst p m WrongShape = HaveWrongShape (length p.names) (entries m.worlds)
-IsFirst p m TooManyWorlds = HaveShape (length p.names) (entries m.worlds) × AreTooMany (length (bounds_of p)) (entries m.worlds)
+IsFirst p m WrongShape = HasWrongShape p m
+IsFirst p m TooManyWorlds = HasShape p m × HasTooManyWorlds p m
 IsFirst p m (WeightZero n) = HasSize p m × IsWeightless (entries m.worlds) n
 IsFirst p m (WorldTwice n) = HasSize p m × IsRepeated (entries m.worlds) n
 IsFirst p m TotalWrong = HasSize p m × AreInOrder (entries m.worlds) × HasWrongTotal m.total (entries m.worlds)
@@ -46,5 +62,5 @@ IsJudged p m (Err NoMemory) = Unit {0}
 -- the model is a distribution that meets the problem, on at most one world more than there are bounds, and its total is the sum of its weights
 pub record ShowsConsistent (p : Parts) (m : Model) : Type 0 where
   pub model : IsModelOf (length p.names) (bounds_of p) (entries m.worlds)
-  pub few : length m.worlds ≤ length (bounds_of p) + 1
+  pub few : HasFewWorlds p m
   pub total : m.total ≡ total (entries m.worlds)

@@ -1,10 +1,12 @@
 //! The check of a model.
-ghost use Rattle.std.specs.Prelude.{◌≡◌, ◌≢◌, ◌≤◌, ◌+◌, ◌↔◌, Any, IfOk, OnOk, IsTrue, IsFalse, MatchOption, length};
+ghost use Rattle.std.specs.Prelude.{◌≡◌, ◌≢◌, ◌↔◌, Any, IfOk, OnOk, IsTrue, IsFalse, length};
 ghost use Rattle.ps_meaning.specs.Distribution.{total};
-ghost use Rattle.ps_problem.specs.Problems.{bounds_of};
-ghost use Rattle.ps_check.specs.Models.{AreSmall, IsWithinLimits, entries};
-ghost use Rattle.ps_check.specs.Reasons.{AreInOrder, AreTooMany, HasTotal, HasWrongTotal, HaveShape, HaveWrongShape, IsFirstAmong};
-ghost use Rattle.ps_check.specs.Verdicts.{IsFirst, IsJudged, IsValid, ShowsConsistent};
+ghost use Rattle.ps_check.specs.Models.{IsNonnegative, IsWithinLimits, entries};
+ghost use Rattle.ps_check.specs.Reasons.{HasTotal, HasWrongTotal};
+ghost use Rattle.ps_check.specs.Sizes.{AreSmall, HasSmallNumbers};
+ghost use Rattle.ps_check.specs.Tests.{FindsFault, FindsReason};
+ghost use Rattle.ps_check.specs.Verdicts.{HasFewWorlds, HasShape, HasTooManyWorlds, HasWrongShape};
+ghost use Rattle.ps_check.specs.Verdicts.{IsJudged, ShowsConsistent};
 
 use crate::meeting::missed_bound;
 use crate::{CheckError, Claim, Model, Reason, Refusal, Weighted};
@@ -20,15 +22,15 @@ fn have_wrong_shape(worlds: &[Weighted], atoms: u16) -> bool
 }
 
 fn has_wrong_shape(problem: &Problem, model: &Model) -> bool
-    ensures wrong { IsTrue result → HaveWrongShape (length problem.now.names) (entries model.now.worlds) }
-    ensures right { IsFalse result → HaveShape (length problem.now.names) (entries model.now.worlds) }
+    ensures wrong { IsTrue result → HasWrongShape problem.now model.now }
+    ensures right { IsFalse result → HasShape problem.now model.now }
 {
     have_wrong_shape(model.worlds.as_slice(), problem.atoms())
 }
 
 fn has_too_many(problem: &Problem, model: &Model) -> bool
-    ensures many { IsTrue result → AreTooMany (length (bounds_of problem.now)) (entries model.now.worlds) }
-    ensures few { IsFalse result → length (entries model.now.worlds) ≤ length (bounds_of problem.now) + 1 }
+    ensures many { IsTrue result → HasTooManyWorlds problem.now model.now }
+    ensures few { IsFalse result → HasFewWorlds problem.now model.now }
 {
     model.worlds.len() > problem.bounds() as usize + 1
 }
@@ -49,7 +51,7 @@ fn holds(worlds: &[Weighted], world: &World) -> bool
 // The first entry that has no weight or isn't new.
 fn first_among(worlds: &[Weighted]) -> Option<Reason>
     requires { AreSmall worlds.now }
-    ensures { MatchOption result (AreInOrder (entries worlds.now)) (IsFirstAmong (entries worlds.now)) }
+    ensures { FindsFault (entries worlds.now) result }
 {
     for (i, w) in worlds.iter().enumerate() {
         let number = i as u32 + 1;
@@ -84,8 +86,8 @@ fn has_wrong_total(total: i128, worlds: &[Weighted]) -> bool
 
 // The first reason against a model, or none.
 fn first_reason(alloc: Global, problem: &Problem, model: &Model) -> Result<Option<Reason>, NoMemory>
-    requires limits { IsWithinLimits model.now }
-    ensures { IfOk result (λ reason. MatchOption reason (IsValid problem.now model.now) (IsFirst problem.now model.now)) }
+    requires { HasSmallNumbers model.now }
+    ensures { IfOk result (FindsReason problem.now model.now) }
 {
     if has_wrong_shape(problem, model) {
         return Ok(Some(Reason::WrongShape));
@@ -106,11 +108,13 @@ fn first_reason(alloc: Global, problem: &Problem, model: &Model) -> Result<Optio
     }
 }
 
-/// Judges a model that is to show that a problem is consistent: accepts it, or refuses it with the first reason
-/// in the order of `Reason`.
-#[tactic(auto, using(crate::proofs::Validity::valid_shows))]
+/// Judges a model that is to show that a problem is consistent: accepts it, or refuses it with the
+/// first reason in the order of `Reason`.
+#[tactic(auto, using(crate::proofs::Validity::valid_shows, crate::proofs::Validity::numbers_small))]
 pub fn check_model(alloc: Global, problem: &Problem, model: &Model) -> Result<(), CheckError>
     requires limits { IsWithinLimits model.now }
+    requires nonnegative { IsNonnegative model.now }
+
     // It is accepted where no reason holds, and else the first one is named.
     ensures judged { IsJudged problem.now model.now result }
     // What is accepted is a distribution that meets the problem.

@@ -1,11 +1,14 @@
 //! Whether weights meet bounds.
-ghost use Rattle.std.specs.Prelude.{◌≡◌, ◌≤◌, ◌*◌, ◌^◌, ◌↔◌, pos, ◌≤ℤ◌, ◌*ℤ◌, All, IfOk, IfSome, IsTrue, MatchOption, length};
+ghost use Rattle.std.specs.Prelude.{◌≡◌, ◌≤◌, ◌*◌, ◌↔◌, pos, ◌≤ℤ◌, ◌*ℤ◌, All, length};
+ghost use Rattle.std.specs.Prelude.{IfOk, IfSome, IsTrue};
 ghost use Rattle.ps_meaning.specs.Distribution.{weight, total};
-ghost use Rattle.ps_meaning.specs.Bounds.{Compares, MeetsAll};
-ghost use Rattle.ps_problem.specs.Problems.{side_of, bounds_of};
-ghost use Rattle.ps_check.specs.Models.{AreSmall, IsSmall, entries};
-ghost use Rattle.ps_check.specs.Rows.{AreRows, Covers, HaveNode, MeetsAt, MissesFirstAt, node_at, row_entries};
-ghost use Rattle.ps_check.specs.Reasons.{HaveShape, MissesFirst};
+ghost use Rattle.ps_meaning.specs.Bounds.{Compares};
+ghost use Rattle.ps_problem.specs.Problems.{side_of};
+ghost use Rattle.ps_check.specs.Models.{entries, most_weight, most_worlds};
+ghost use Rattle.ps_check.specs.Reasons.{HaveShape};
+ghost use Rattle.ps_check.specs.Rows.{AreRows, Covers, HaveNode, MeetsAt, node_at, row_entries};
+ghost use Rattle.ps_check.specs.Sizes.{AreSmall, IsSmall};
+ghost use Rattle.ps_check.specs.Tests.{FindsMissed, FindsMissedAt};
 
 use crate::Weighted;
 use crate::truth::{Row, evaluate, weight_of};
@@ -27,7 +30,7 @@ fn compares(side: Side, x: i128, y: i128) -> bool
 fn times(k: u32, x: i128) -> i128
     requires small { k ≤ 1000000 }
     requires low { pos 0 ≤ℤ x }
-    requires high { x ≤ℤ pos (101 * 2 ^ 90) }
+    requires high { x ≤ℤ pos (most_worlds * most_weight) }
     ensures { result ≡ pos k *ℤ x }
 {
     i128::from(k) * x
@@ -41,7 +44,7 @@ fn weight_given(rows: &[Row], sum: i128, given: Option<u32>) -> i128
     requires small { IsSmall sum }
     ensures weight { result ≡ weight (row_entries rows.now) (node_at given) }
     ensures low { pos 0 ≤ℤ result }
-    ensures high { result ≤ℤ pos (101 * 2 ^ 90) }
+    ensures high { result ≤ℤ pos (most_worlds * most_weight) }
 {
     match given {
         Some(node) => weight_of(rows, node),
@@ -69,7 +72,7 @@ fn first_missed(rows: &[Row], sum: i128, bounds: &[Bound]) -> Option<u32>
     requires few { length bounds.now ≤ 100 }
     requires total { sum ≡ total (row_entries rows.now) }
     requires small { IsSmall sum }
-    ensures { MatchOption result (All (MeetsAt (row_entries rows.now)) bounds.now) (MissesFirstAt (row_entries rows.now) bounds.now) }
+    ensures { FindsMissedAt (row_entries rows.now) bounds.now result }
 {
     for (i, bound) in bounds.iter().enumerate() {
         if !is_met(rows, sum, bound) {
@@ -90,7 +93,7 @@ pub fn missed_bound(
     requires worlds { AreSmall worlds.now }
     requires total { sum ≡ total (entries worlds.now) }
     requires small { IsSmall sum }
-    ensures { IfOk result (λ missed. MatchOption missed (MeetsAll (bounds_of problem.now) (entries worlds.now)) (MissesFirst (bounds_of problem.now) (entries worlds.now))) }
+    ensures { IfOk result (FindsMissed problem.now (entries worlds.now)) }
 {
     let rows = evaluate(alloc, problem.formulas(), worlds)?;
     Ok(first_missed(&rows, sum, problem.bound_list()))

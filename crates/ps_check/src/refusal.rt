@@ -2,10 +2,12 @@
 ghost use Rattle.std.specs.Prelude.{◌≡◌};
 
 use ps_io::NoMemory;
+use thiserror::Error;
 
 /// The claim of an answer that doesn't hold.
 #[derive(Clone, Copy, Debug, PartialEq, Eq)]
 pub enum Claim {
+    /// That the problem is consistent.
     Verdict,
 }
 
@@ -34,9 +36,13 @@ pub struct Refusal {
 }
 
 /// An answer isn't accepted: it is refused, or there was not enough memory to judge it.
-#[derive(Clone, Copy, Debug, PartialEq, Eq)]
+#[derive(Clone, Copy, Debug, PartialEq, Eq, Error)]
 pub enum CheckError {
+    /// The claim doesn't hold.
+    #[error("the answer is refused")]
     Refused(Refusal),
+    /// There was not enough memory.
+    #[error("not enough memory")]
     NoMemory,
 }
 

@@ -1,10 +1,11 @@
 //! The truth of each formula in each world of a model.
-ghost use Rattle.std.specs.Prelude.{◌≡◌, ◌<◌, ◌*◌, ◌^◌, ◌≤ℤ◌, pos, All, IfOk, length, map, if◌then◌else◌};
+ghost use Rattle.std.specs.Prelude.{◌≡◌, ◌*◌, ◌≤ℤ◌, pos, All, IfOk, length, if◌then◌else◌};
 ghost use Rattle.ps_meaning.specs.Formula.{Atom};
 ghost use Rattle.ps_meaning.specs.Distribution.{weight};
 ghost use Rattle.ps_formula.specs.Nodes.{AtomBelow};
-ghost use Rattle.ps_check.specs.Models.{AreSmall, entries};
+ghost use Rattle.ps_check.specs.Models.{entries, most_weight, most_worlds};
 ghost use Rattle.ps_check.specs.Rows.{AreRows, HaveNode, IsTableOf, row_entries};
+ghost use Rattle.ps_check.specs.Sizes.{AreSmall};
 
 use crate::Weighted;
 use ps_formula::{Formulas, eval};
@@ -30,7 +31,7 @@ pub fn weight_of(rows: &[Row], node: u32) -> i128
     requires node { HaveNode rows.now node }
     ensures weight { result ≡ weight (row_entries rows.now) (Atom node) }
     ensures low { pos 0 ≤ℤ result }
-    ensures high { result ≤ℤ pos (101 * 2 ^ 90) }
+    ensures high { result ≤ℤ pos (most_worlds * most_weight) }
 {
     let mut sum = 0;
     for row in rows {

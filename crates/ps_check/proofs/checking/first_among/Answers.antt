@@ -1,6 +1,6 @@
 use Rattle.std.proofs.Common.{◌≢◌, pos, of_z, ap}
 use mir.Syntax.{w128}
-use Rattle.ps_check.specs.Models.{IsSmall}
+use Rattle.ps_check.specs.Sizes.{IsSmall}
 use Rattle.ps_check.proofs.Order.{in_order-more, refuted, repeated_at, weightless_at, zero_from}
 use Rattle.ps_check.proofs.checking.first_among.Goals as goal
 

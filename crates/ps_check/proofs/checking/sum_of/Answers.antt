@@ -2,7 +2,8 @@ use Rattle.std.proofs.Common.{◌≡◌, ◌<◌, true, ◌+ℤ◌, to_z, of_z, 
 use Rattle.std.proofs.lemmas.Int.{ints}
 use mir.Syntax.{w128}
 use Rattle.ps_meaning.specs.Formula.{Truth}
-use Rattle.ps_check.specs.Models.{entry_of, IsSmall}
+use Rattle.ps_check.specs.Models.{entry_of}
+use Rattle.ps_check.specs.Sizes.{IsSmall}
 use Rattle.ps_check.proofs.Weights.{weight-more, goes_on}
 use Rattle.ps_check.proofs.checking.sum_of.Goals as goal
 

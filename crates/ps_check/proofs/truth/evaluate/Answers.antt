@@ -1,7 +1,7 @@
 use Rattle.std.proofs.Common.{◌≡◌, to_z, of_z, arith}
 use Rattle.std.proofs.lemmas.Int.{ints}
 use mir.Syntax.{w128}
-use Rattle.ps_check.specs.Models.{IsSmall}
+use Rattle.ps_check.specs.Sizes.{IsSmall}
 use Rattle.ps_check.proofs.Tables.{table-more}
 use Rattle.ps_check.proofs.truth.evaluate.Goals as goal
 

@@ -1,7 +1,7 @@
 use Rattle.std.proofs.Common.{◌≡◌, ◌<◌, false, pos, ◌+ℤ◌, cond, length, sym, ap, ◌∙◌, arith}
 use Rattle.std.proofs.lemmas.List.{get_or_default}
 use Rattle.ps_meaning.specs.Formula.{Atom, is_true}
-use Rattle.ps_check.specs.Models.{IsSmall}
+use Rattle.ps_check.specs.Sizes.{IsSmall}
 use Rattle.ps_check.specs.Rows.{row_entry}
 use Rattle.ps_check.proofs.Weights.{weight-more, goes_on}
 use Rattle.ps_check.proofs.truth.weight_of.Goals as goal
