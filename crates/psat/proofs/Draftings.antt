@@ -16,7 +16,7 @@ use Rattle.ps_problem.specs.Numbering.{same_name, with_new}
 use Rattle.ps_problem.specs.Drafts.{Drafted, formula_at, nesting_at, canonical_nesting, statement_at, with_name, with_mark, with_formula, with_item}
 use Rattle.ps_read.specs.declared.sentence.FirstSentence.{FirstSentence}
 use Rattle.ps_read.specs.FirstForm.{IsWithinLimits, item_of, negated}
-use Rattle.psat.specs.ProblemTexts.{IsDraftOf, opens}
+use Rattle.psat.specs.Drafting.{IsDraftOf, opens}
 
 word_bytes : (bs : List ℕ) → AllByRecursion (λ c. IsTrue (text.is_word_byte c)) bs → list_all names.is_word_byte bs ≡ true
 word_bytes [] h = refl

@@ -1,28 +1,26 @@
 -- What is due for what was read and judged.
-use Rattle.std.proofs.Common.{◌≡◌, ℕ, ◌-◌, take, drop, arith, length-drop, ◌≤◌, List, [], ◌++◌, length, Option, Some, None, Result, Ok, Err, refl, sym, ap, subst, ◌∙◌, append-nil}
+use Rattle.std.proofs.Common.{◌≡◌, ℕ, ◌+◌, ◌-◌, ◌<◌, take, drop, arith, length-drop, length-append, ◌≤◌, List, [], ◌++◌, length, Option, Some, None, Err, refl, sym, ap, subst, ◌∙◌, append-nil}
 use Rattle.std.proofs.Math.Seq.{take_all}
-use Rattle.std.specs.Prelude.{IfOk, IsErrAnd, MatchResult}
 use Rattle.ps_problem.specs.Problems.{Parts}
 use Rattle.ps_check.specs.declared.model.Model.{Model}
 use Rattle.ps_check.specs.declared.refusal.Refusal.{Refusal}
 use Rattle.ps_check.specs.declared.refusal.CheckError.{CheckError}
 use Rattle.ps_check.specs.declared.refusal.CheckError.TheVariants.{Refused}
 use Rattle.ps_check.specs.Verdicts.{IsJudged}
-use Rattle.ps_io.specs.Transfer.{Appends, ReadAll}
+use Rattle.ps_io.specs.Transfer.{Appends, ReadAll, TookMore, TookWithin}
+use Rattle.ps_io.specs.declared.limits.TheConstants.{LONGEST_READ}
+use Rattle.psat.specs.declared.command.Command.{Command}
+use Rattle.psat.specs.declared.command.Command.TheVariants as commands
 use Rattle.psat.specs.declared.status.Status.{Status}
 use Rattle.psat.specs.declared.status.Status.TheVariants as status
-use Rattle.psat.specs.Statuses.{GoesWithText}
-use Rattle.psat.specs.Due.{Output, refused_verdict, DueVerdict, RefusedFor, DueText, DueInput, Within, Due, IsCheck, limit}
-use Rattle.psat.specs.Runs.{Ran, WasRead}
+use Rattle.psat.specs.Commands.{Spell, SpellNone}
+use Rattle.psat.specs.Statuses.{GoesWithText, IsAnswer}
+use Rattle.psat.specs.Due.{Output, too_long, usage, refused_verdict, DueVerdict, RefusedFor, DueText, Within, TooLong, Due, ForCommand, ForNone}
+use Rattle.psat.specs.Runs.{WasRead, Took, HasTaken, HasRead, Ran}
+use Rattle.psat.specs.Replies.{IsDueFor, IsDue}
 
 pub rest-is : (n : ℕ) (bs : List ℕ) → take (length bs - n) (drop n bs) ≡ drop n bs
 rest-is n bs = take_all (length bs - n) (drop n bs) (omega (arith, length-drop n bs))
-
--- another error in place of the error
-pub mapped : {T E F : Type 0} (r : Result T E) (s : Result T F) (P : T → Type 0) (R : E → F → Type 0) → MatchResult r (λ x. s ≡ Ok x) (λ e. IsErrAnd s (R e)) → IfOk r P → IfOk s P
-mapped (Ok x) s P R e h = rw e h
-mapped (Err e) (Ok y) P R m h = absurd m
-mapped (Err e) (Err f) P R m h = tt
 
 pub due-refused : (p : Parts) (m : Model) (e : CheckError) (f : Refusal) (o : Output) → e ≡ Refused f → IsJudged p m (Err e) → o ≡ refused_verdict f.reason → DueVerdict p m o
 due-refused p m e f o is judged shown = let first = rw is at judged in RefusedFor f.reason first.1 shown
@@ -37,18 +35,93 @@ whole-is most (Some xs) (Some ys) taken bytes h e =
     let same : xs ≡ bytes = cc in
     sym (append-nil taken) ∙ ap (λ r. taken ++ r) (sym none) ∙ sym all ∙ same
 
-pub input-due : (old new : Option (List ℕ)) (taken given : List ℕ) (o : Output) → ReadAll limit old new taken → given ≡ taken → DueText given o
-    → (bytes : List ℕ) → old ≡ Some bytes → DueInput bytes o
-input-due old new taken given o h same due bytes e =
-    let is : taken ≡ bytes = whole-is limit old new taken bytes h e in
-    Within (subst (λ (x : List ℕ). length x ≤ limit) is h.within) (subst (λ (x : List ℕ). DueText x o) (same ∙ is) due)
+pub input_due : (limit : ℕ) (old new : Option (List ℕ)) (taken given : List ℕ) (o : Output) → ReadAll limit old new taken → given ≡ taken → DueText given o
+    → IsDueFor (commands.Check limit) old o
+input_due limit old new taken given o h same due = record {
+  due = λ bytes e.
+      let is : taken ≡ bytes = whole-is limit old new taken bytes h e in
+      Within (subst (λ (x : List ℕ). length x ≤ limit) is h.within) (subst (λ (x : List ℕ). DueText x o) (same ∙ is) due);
+}
 
-pub ran_by : (words : List (List ℕ)) (bytes text : List ℕ) (s : Status) (left old new : Option (List ℕ)) → GoesWithText s
-    → Due words bytes (record { text = text; status = s }) → Appends old new text → (IsCheck words → WasRead bytes left) → Ran words bytes s left old new
-ran_by words bytes text status.Done left old new g d a r = record { output = record { text = text; status = status.Done }; due = d; status_is = refl; written = a; read = r }
-ran_by words bytes text status.Usage left old new g d a r = record { output = record { text = text; status = status.Usage }; due = d; status_is = refl; written = a; read = r }
-ran_by words bytes text status.Unreadable left old new g d a r = record { output = record { text = text; status = status.Unreadable }; due = d; status_is = refl; written = a; read = r }
-ran_by words bytes text status.Refused left old new g d a r = record { output = record { text = text; status = status.Refused }; due = d; status_is = refl; written = a; read = r }
-ran_by words bytes text status.ReadFault left old new g d a r = absurd g
-ran_by words bytes text status.WriteFault left old new g d a r = absurd g
-ran_by words bytes text status.NoMemory left old new g d a r = absurd g
+-- where more than the limit was taken, there was more
+more_is : (limit : ℕ) (xs : List ℕ) (new : Option (List ℕ)) → TookMore limit (Some xs) new → limit < length xs
+more_is limit xs None h = absurd h.consumed
+more_is limit xs (Some ys) h =
+    let all : length xs ≡ length h.taken + length ys = ap length h.consumed ∙ length-append h.taken ys in
+    omega (arith, h.more)
+
+pub long_due : (limit : ℕ) (old new : Option (List ℕ)) (o : Output) → TookMore limit old new → o ≡ too_long limit → IsDueFor (commands.Check limit) old o
+long_due limit old new o h is = record { due = λ bytes e. TooLong (more_is limit bytes new (rw e at h)) is }
+
+pub read_whole : (limit : ℕ) (old new : Option (List ℕ)) (taken : List ℕ) → ReadAll limit old new taken → WasRead limit old new
+read_whole limit None new taken h = record { within = tt; long = tt }
+read_whole limit (Some xs) new taken h =
+    let is : taken ≡ xs = whole-is limit (Some xs) new taken xs h refl in
+    let few : length xs ≤ limit = subst (λ (x : List ℕ). length x ≤ limit) is h.within in
+    record { within = λ le. h.at_end; long = λ more. absurd (omega (arith, more, few)) }
+
+pub read_more : (limit : ℕ) (old new : Option (List ℕ)) → TookMore limit old new → WasRead limit old new
+read_more limit None new h = record { within = tt; long = tt }
+read_more limit (Some xs) new h = let more = more_is limit xs new h in record { within = λ le. absurd (omega (arith, more, le)); long = λ _. h }
+
+-- where memory ran out no more was taken than one read beyond the limit
+pub took_whole : (limit : ℕ) (old new : Option (List ℕ)) (taken : List ℕ) → ReadAll limit old new taken → TookWithin (limit + LONGEST_READ) old new
+took_whole limit old new taken h = record { taken = taken; consumed = h.consumed; within = let w = h.within in omega arith }
+
+pub took_within : (limit : ℕ) (old new : Option (List ℕ)) → TookWithin limit old new → TookWithin (limit + LONGEST_READ) old new
+took_within limit old new h = record { taken = h.taken; consumed = h.consumed; within = let w = h.within in omega arith }
+
+pub took_more : (limit : ℕ) (old new : Option (List ℕ)) → TookMore limit old new → TookWithin (limit + LONGEST_READ) old new
+took_more limit old new h = record { taken = h.taken; consumed = h.consumed; within = h.within }
+
+-- at an answer the source was read
+pub took_by : (limit : ℕ) (s : Status) (old new : Option (List ℕ)) → IsAnswer s → WasRead limit old new → Took limit s old new
+took_by limit status.Done old new g r = r
+took_by limit status.Unreadable old new g r = r
+took_by limit status.Refused old new g r = r
+took_by limit status.Usage old new g r = absurd g
+took_by limit status.ReadFault old new g r = absurd g
+took_by limit status.WriteFault old new g r = absurd g
+took_by limit status.NoMemory old new g r = absurd g
+
+was_read : (limit : ℕ) (s : Status) (old new : Option (List ℕ)) → GoesWithText s → Took limit s old new → WasRead limit old new
+was_read limit status.Done old new g r = r
+was_read limit status.Unreadable old new g r = r
+was_read limit status.Refused old new g r = r
+was_read limit status.Usage old new g r = r
+was_read limit status.ReadFault old new g r = absurd g
+was_read limit status.WriteFault old new g r = absurd g
+was_read limit status.NoMemory old new g r = absurd g
+
+-- a fault of writing keeps what was read
+pub read_cut : (words : List (List ℕ)) (s : Status) (old new : Option (List ℕ)) → GoesWithText s → HasRead words s old new → HasRead words status.WriteFault old new
+read_cut words s old new g h = record { read = λ command spelled. by command (h.read command spelled) }
+  where
+    by : (command : Command) → HasTaken command s old new → HasTaken command status.WriteFault old new
+    by (commands.Check limit) taken = was_read limit s old new g taken
+
+-- words spell one command
+pub one_command : (words : List (List ℕ)) (c d : Command) → Spell words c → Spell words d → c ≡ d
+one_command words (commands.Check m) (commands.Check n) a b = ap commands.Check (a.1 ∙ sym b.1)
+
+pub command_due : (words : List (List ℕ)) (command : Command) (left : Option (List ℕ)) (o : Output) → Spell words command → IsDueFor command left o → IsDue words left o
+command_due words command left o spelled h = record { due = λ bytes given. ForCommand command spelled (h.due bytes (given.told command spelled)) }
+
+pub usage_due : (words : List (List ℕ)) (left : Option (List ℕ)) (o : Output) → SpellNone words → o ≡ usage → IsDue words left o
+usage_due words left o none is = record { due = λ bytes given. ForNone none is }
+
+pub command_read : (words : List (List ℕ)) (command : Command) (s : Status) (old new : Option (List ℕ)) → Spell words command → HasTaken command s old new → HasRead words s old new
+command_read words command s old new spelled h = record { read = λ c also. subst (λ (x : Command). HasTaken x s old new) (one_command words command c spelled also) h }
+
+pub none_read : (words : List (List ℕ)) (s : Status) (old new : Option (List ℕ)) → SpellNone words → HasRead words s old new
+none_read words s old new none = record { read = λ c spelled. absurd (none.none c spelled) }
+
+pub ran_by : (words : List (List ℕ)) (bytes text : List ℕ) (s : Status) (old new : Option (List ℕ)) → GoesWithText s
+    → Due words bytes (record { text = text; status = s }) → Appends old new text → Ran words bytes s old new
+ran_by words bytes text status.Done old new g d a = record { output = record { text = text; status = status.Done }; due = d; status_is = refl; written = a }
+ran_by words bytes text status.Usage old new g d a = record { output = record { text = text; status = status.Usage }; due = d; status_is = refl; written = a }
+ran_by words bytes text status.Unreadable old new g d a = record { output = record { text = text; status = status.Unreadable }; due = d; status_is = refl; written = a }
+ran_by words bytes text status.Refused old new g d a = record { output = record { text = text; status = status.Refused }; due = d; status_is = refl; written = a }
+ran_by words bytes text status.ReadFault old new g d a = absurd g
+ran_by words bytes text status.WriteFault old new g d a = absurd g
+ran_by words bytes text status.NoMemory old new g d a = absurd g

@@ -1,5 +1,5 @@
-pub mod OneWord
 pub mod DueLaws
+pub mod OneOutput
 pub mod Stripped
 pub mod Entries
 pub mod Numerals

@@ -4,8 +4,8 @@ use Rattle.std.specs.Prelude.{IfOk, IsErrOf}
 use Rattle.ps_check.specs.declared.model.Model.{Model}
 use Rattle.psat.specs.declared.report_error.ReportError.{ReportError}
 use Rattle.psat.specs.declared.report_error.ReportError.TheVariants.{NotFirstForm, NoMemory}
-use Rattle.ps_check.specs.Models.{IsWithinLimits}
-use Rattle.psat.specs.Reports.{IsReport, IsReadAs}
+use Rattle.ps_check.specs.Models.{IsNonnegative, IsWithinLimits}
+use Rattle.psat.specs.Reports.{IsNoReport, IsReport, IsReadAs}
 use Rattle.psat.specs.ReportReading.{Gives, report_at}
 use Rattle.psat.proofs.ReportTexts.{report-spelled, report-again}
 
@@ -22,11 +22,15 @@ report-only bytes (Err NoMemory) h m is = tt
 pub one-report : (bytes : List ℕ) (m n : Model) → IsReport bytes m → IsReport bytes n → m ≡ n
 one-report bytes m n p q = let e : Some m ≡ Some n = sym (report-again bytes m p) ∙ report-again bytes n q in cc
 
-pub report-refused : (bytes : List ℕ) (r : Result Model ReportError) → Gives (λ m. m) r (report_at bytes) → IsErrOf r NotFirstForm → (m : Model) → ¬ IsReport bytes m
-report-refused bytes (Ok n) h e m is = absurd (cc)
-report-refused bytes (Err NotFirstForm) h e m is = report-only bytes (Err NotFirstForm) h m is
-report-refused bytes (Err NoMemory) h e m is = absurd (cc)
+pub report-refused : (bytes : List ℕ) (r : Result Model ReportError) → Gives (λ m. m) r (report_at bytes) → IsErrOf r NotFirstForm → IsNoReport bytes
+report-refused bytes (Ok n) h e = absurd (cc)
+report-refused bytes (Err NotFirstForm) h e = record { none = report-only bytes (Err NotFirstForm) h }
+report-refused bytes (Err NoMemory) h e = absurd (cc)
 
 pub report-limits : (bytes : List ℕ) (r : Result Model ReportError) → Gives (λ m. m) r (report_at bytes) → IfOk r (λ m. IsWithinLimits m)
 report-limits bytes (Ok m) h = (report-spelled bytes m h).numbers
 report-limits bytes (Err e) h = tt
+
+pub report-nonnegative : (bytes : List ℕ) (r : Result Model ReportError) → Gives (λ m. m) r (report_at bytes) → IfOk r (λ m. IsNonnegative m)
+report-nonnegative bytes (Ok m) h = (report-spelled bytes m h).nonnegative
+report-nonnegative bytes (Err e) h = tt

@@ -8,7 +8,8 @@ use Rattle.std.proofs.lemmas.Int.{ints}
 use Rattle.std.proofs.lemmas.List.Elements.{All-nil, All-head, All-tail, All-push}
 use Rattle.ps_check.specs.declared.model.Weighted.{Weighted}
 use Rattle.ps_check.specs.declared.model.Model.{Model}
-use Rattle.ps_check.specs.Models.{IsSmall}
+use Rattle.ps_check.specs.Sizes.{IsSmall}
+use Rattle.ps_check.proofs.Validity.{numbers_small}
 use Rattle.psat.specs.Reports.{world_text, entry_line, entry_lines, report_text, IsReport}
 use Rattle.psat.specs.ReportReading.{◌>>=◌, strip, number_at, weight_at, entry_at, entries_from, report_at}
 use Rattle.psat.proofs.Numerals.{same_pair, EndsDigits, number-spelled, number-again}
@@ -177,7 +178,8 @@ report-spelled bytes m e =
           ∙ ap (λ x. codes " " ++ x) (n.text ∙ ap (λ k. decimal k ++ count.value.1) many ∙ ap (λ x. decimal (length worlds.value.0) ++ x) (strip-spelled (codes "\n") count.value.1 c.value c.was
           ∙ ap (λ x. codes "\n" ++ x) (es.text ∙ ap (λ x. entry_lines worlds.value.0 ++ x) end)))))
           ∙ sym (report-text read);
-      numbers = record { total = t.small; worlds = record { few = omega (arith, n.within); weights = λ k w lt. (es.good k w lt).small } };
+      numbers = record { total = t.small.high; few = omega (arith, n.within); weights = λ k w lt. (es.good k w lt).small.high };
+      nonnegative = record { total = t.small.low; weights = λ k w lt. (es.good k w lt).small.low };
       worlds = λ k w lt. (es.good k w lt).few;
     })
 
@@ -185,11 +187,12 @@ report-spelled bytes m e =
 pub report-again : (bytes : List ℕ) (m : Model) → IsReport bytes m → report_at bytes ≡ Some m
 unfolding report_at
 report-again bytes m h =
-    let good : All IsGood m.worlds = λ k w lt. record { small = h.numbers.worlds.weights k w lt; few = h.worlds k w lt } in
+    let small = numbers_small m h.numbers h.nonnegative in
+    let good : All IsGood m.worlds = λ k w lt. record { small = small.worlds.weights k w lt; few = h.worlds k w lt } in
     let after_count : List ℕ = entry_lines m.worlds ++ codes "t 0\nend\n" in
     ap report_at (h.text ∙ report-text m)
     ∙ rw (
-      weight-again m.total (32 ∷ (decimal (length m.worlds) ++ 10 ∷ after_count)) h.numbers.total refl,
-      number-again 101 (length m.worlds) (10 ∷ after_count) h.numbers.worlds.few (omega arith) refl,
+      weight-again m.total (32 ∷ (decimal (length m.worlds) ++ 10 ∷ after_count)) small.total refl,
+      number-again 101 (length m.worlds) (10 ∷ after_count) h.numbers.few (omega arith) refl,
       entries-again [] m.worlds (codes "t 0\nend\n") good,
     ) refl

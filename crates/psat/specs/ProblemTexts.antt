@@ -1,12 +1,11 @@
 -- Which problem texts are read, and as which problem.
-use Rattle.std.specs.Prelude.{◌≡◌, ℕ, ◌≤◌, List, [], ◌∷◌, length, Ok}
+use Rattle.std.specs.Prelude.{◌≡◌, ℕ, List, Ok}
 use Rattle.ps_meaning.specs.Formula.{Formula}
 use Rattle.ps_meaning.specs.Statements.{Name, Item}
 use Rattle.ps_text.specs.Fronts.{IsFirstFront}
 use Rattle.ps_problem.specs.Problems.{Parts}
 use Rattle.ps_problem.specs.Numbering.{problem_of}
 use Rattle.ps_problem.specs.Counts.{counted}
-use Rattle.ps_problem.specs.Drafts.{Drafted}
 
 -- the items are within the limits of a problem, which is theirs
 pub record IsProblemOf (items : List Item) (p : Parts) : Type 0 where
@@ -20,17 +19,10 @@ pub record SpellsFirst (bytes : List ℕ) (p : Parts) (place : ℕ) : Type 0 whe
   pub front : IsFirstFront bytes items place
   pub made : IsProblemOf items p
 
+-- no problem is spelled at the front
+pub record SpellsNone (bytes : List ℕ) : Type 0 where
+  pub none : (p : Parts) (place : ℕ) → ¬ SpellsFirst bytes p place
+
 -- items pass a limit of a problem
 pub record PassLimits (items : List Item) : Type 0 where
   pub none : (formulas : List (Formula Name)) → ¬ (counted items ≡ Ok formulas)
-
--- the draft with this formula alone open
-abbrev pub opens : Drafted → Formula Name → Drafted
-opens d f = record { names = d.names; «open» = f ∷ []; formulas = d.formulas; items = d.items }
-
--- a draft of these items, with no formula open
-pub record IsDraftOf (items : List Item) (d : Drafted) : Type 0 where
-  pub items_are : d.items ≡ items
-  pub none_open : d.«open» ≡ []
-  pub few_names : length d.names ≤ length items
-  pub few_formulas : length d.formulas ≤ length items

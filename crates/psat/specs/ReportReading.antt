@@ -1,8 +1,10 @@
 -- Reading a report from left to right, as a function: what it reads are just the texts of reports.
-use Rattle.std.specs.Prelude.{◌≡◌, ℕ, zero, suc, ℤ, pos, ◌+◌, ◌*◌, ◌-◌, ◌^◌, ◌&&◌, ◌||◌, List, [], ◌∷◌, ◌++◌, length, Option, Some, None, Result, Ok, Err, nat_lt, nat_le, ◌==◌, if◌then◌else◌, codes}
+use Rattle.std.specs.Prelude.{◌≡◌, ℕ, zero, suc, ℤ, pos, ◌+◌, ◌*◌, ◌-◌, ◌&&◌, ◌||◌, List, [], ◌∷◌, ◌++◌, length, Option, Some, None, Result, Ok, Err, nat_lt, nat_le, ◌==◌, if◌then◌else◌, codes}
 use Rattle.ps_meaning.specs.Formula.{World}
 use Rattle.ps_check.specs.declared.model.Weighted.{Weighted}
 use Rattle.ps_check.specs.declared.model.Model.{Model}
+use Rattle.ps_check.specs.Models.{most_weight, most_worlds}
+use Rattle.psat.specs.Reports.{most_atoms}
 use Rattle.psat.specs.declared.report_error.ReportError.{ReportError}
 use Rattle.psat.specs.declared.report_error.ReportError.TheVariants as errors
 
@@ -39,11 +41,11 @@ number_at limit [] = None
 number_at limit (b ∷ bs) = if b == 48 then Some (0, bs)
     else (if nat_le 49 b && nat_le b 57 then digits_from limit 0 (b ∷ bs) else None)
 
--- the truth values so far and those that digits spell, at most 128 in all, and the bytes after them
+-- the truth values so far and those that digits spell, as long as they are not too many, and the bytes after them
 abbrev pub truths_from : World → List ℕ → Option (World × List ℕ)
 truths_from w [] = Some (w, [])
 truths_from w (b ∷ bs) = if b == 48 || b == 49
-    then (if nat_lt (length w) 128 then truths_from (w ++ (b == 49) ∷ []) bs else None)
+    then (if nat_lt (length w) most_atoms then truths_from (w ++ (b == 49) ∷ []) bs else None)
     else Some (w, b ∷ bs)
 
 abbrev pub world_at : List ℕ → Option (World × List ℕ)
@@ -52,7 +54,7 @@ world_at (b ∷ bs) = if b == 45 then Some ([], bs) else (if b == 48 || b == 49 
 
 unfoldable pub weight_at : List ℕ → Option (ℤ × List ℕ)
 weight_at bytes = do
-  n ← number_at (2 ^ 90) bytes
+  n ← number_at most_weight bytes
   Some (pos n.0, n.1)
 
 unfoldable pub entry_at : List ℕ → Option (Weighted × List ℕ)
@@ -77,7 +79,7 @@ report_at bytes = do
   a ← strip (codes "report 1\nconsistent\nmodel ") bytes
   total ← weight_at a
   b ← strip (codes " ") total.1
-  count ← number_at 101 b
+  count ← number_at most_worlds b
   c ← strip (codes "\n") count.1
   worlds ← entries_from [] count.0 c
   d ← strip (codes "t 0\nend\n") worlds.1

@@ -4,7 +4,7 @@ use Rattle.std.specs.Fmt.{signed_decimal}
 use Rattle.ps_meaning.specs.Formula.{World}
 use Rattle.ps_check.specs.declared.model.Weighted.{Weighted}
 use Rattle.ps_check.specs.declared.model.Model.{Model}
-use Rattle.ps_check.specs.Models.{IsWithinLimits}
+use Rattle.ps_check.specs.Models.{IsWithinLimits, IsNonnegative}
 use Rattle.psat.specs.declared.report_error.ReportError.{ReportError}
 use Rattle.psat.specs.declared.report_error.ReportError.TheVariants.{NotFirstForm, NoMemory}
 
@@ -33,11 +33,20 @@ report_text m = codes "report 1\n" ++ codes "consistent\n"
     ++ entry_lines m.worlds
     ++ codes "t 0\n" ++ codes "end\n"
 
--- the bytes are the text of a model that is within the limits: numbers from 0 to 2^90, at most 101 worlds of at most 128 atoms
+-- the most atoms of a world
+abbrev pub most_atoms : ℕ
+most_atoms = 128
+
+-- the bytes are the text of a model: numbers from 0 to 2^90, at most 101 worlds, each of at most 128 atoms
 pub record IsReport (bytes : List ℕ) (m : Model) : Type 0 where
   pub text : bytes ≡ report_text m
   pub numbers : IsWithinLimits m
-  pub worlds : All (λ e. length e.world ≤ 128) m.worlds
+  pub nonnegative : IsNonnegative m
+  pub worlds : All (λ e. length e.world ≤ most_atoms) m.worlds
+
+-- the bytes are the text of no model
+pub record IsNoReport (bytes : List ℕ) : Type 0 where
+  pub none : (m : Model) → ¬ IsReport bytes m
 
 -- a model is read as itself, unless memory ran out
 abbrev pub IsReadAs : Model → Result Model ReportError → Type 0

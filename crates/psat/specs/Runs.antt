@@ -1,37 +1,69 @@
--- What a run of the program does to a source that tells its bytes and to a sink.
-use Rattle.std.specs.Prelude.{◌≡◌, ◌<◌, ◌≤◌, ℕ, List, [], length, map, Option, Some, String, string_bytes}
-use Rattle.std.specs.declared.alloc.Global.{Global}
+-- What a run of the program reads and writes.
+use Rattle.std.specs.Prelude.{◌≡◌, ◌+◌, ◌<◌, ◌≤◌, ℕ, List, length, Option, Some, IfSome}
+use Rattle.std.specs.Io.KnownBytes.{IsAtEnd}
+use Rattle.ps_io.specs.declared.limits.TheConstants.{LONGEST_READ}
+use Rattle.ps_io.specs.Causes.{next_count}
 use Rattle.ps_io.specs.Transfer.{Appends, AppendsPrefix, TookMore, TookWithin}
+use Rattle.psat.specs.declared.command.Command.{Command}
 use Rattle.psat.specs.declared.status.Status.{Status}
 use Rattle.psat.specs.declared.status.Status.TheVariants.{ReadFault, WriteFault, NoMemory}
-use Rattle.psat.specs.Due.{Output, Due, IsCheck, limit}
+use Rattle.psat.specs.Commands.{Spell, limit_of}
+use Rattle.psat.specs.Due.{Output, Due}
 
-abbrev pub words_of : List (String Global) → List (List ℕ)
-words_of words = map string_bytes words
+-- the bytes are those that the source had left, if the command reads
+abbrev pub IsTold : Command → Option (List ℕ) → List ℕ → Type 0
+IsTold command left bytes = IfSome (limit_of command) (λ limit. left ≡ Some bytes)
 
--- a source that had these bytes left is at its end, or more than the limit came
-pub record WasRead (bytes : List ℕ) (left : Option (List ℕ)) : Type 0 where
-  pub within : length bytes ≤ limit → left ≡ Some []
-  pub long : limit < length bytes → TookMore limit (Some bytes) left
+-- the same for the command of the words: where it reads nothing, or there is none, these may be any bytes
+pub record IsGiven (words : List (List ℕ)) (left : Option (List ℕ)) (bytes : List ℕ) : Type 0 where
+  pub told : (command : Command) → Spell words command → IsTold command left bytes
+
+-- a source that told its bytes is at its end where they were within the limit, and else more than the limit was
+-- taken, but no more than one read beyond it
+pub record WasRead (limit : ℕ) (old new : Option (List ℕ)) : Type 0 where
+  pub within : IfSome old (λ bytes. length bytes ≤ limit → IsAtEnd new)
+  pub long : IfSome old (λ bytes. limit < length bytes → TookMore limit old new)
+
+-- what a command with a limit took from the source, by the status of its run: never more than one read beyond the limit
+abbrev pub Took : ℕ → Status → Option (List ℕ) → Option (List ℕ) → Type 0
+Took limit ReadFault old new = TookWithin limit old new
+Took limit NoMemory old new = TookWithin (limit + LONGEST_READ) old new
+Took limit status old new = WasRead limit old new
+
+-- what a command took from the source
+abbrev pub HasTaken : Command → Status → Option (List ℕ) → Option (List ℕ) → Type 0
+HasTaken command status old new = IfSome (limit_of command) (λ limit. Took limit status old new)
+
+-- what the command of the words took from the source
+pub record HasRead (words : List (List ℕ)) (status : Status) (old new : Option (List ℕ)) : Type 0 where
+  pub read : (command : Command) → Spell words command → HasTaken command status old new
+
+-- a source's count of faults rises by one at a read fault, and else stays as it was
+abbrev pub CountsReads : Status → ℕ → ℕ → Type 0
+CountsReads ReadFault old new = new ≡ next_count old
+CountsReads status old new = new ≡ old
+
+-- the same of a sink's and a write fault
+abbrev pub CountsWrites : Status → ℕ → ℕ → Type 0
+CountsWrites WriteFault old new = new ≡ next_count old
+CountsWrites status old new = new ≡ old
 
 -- the due output was written whole, and its status answered
-pub record Answered (words : List (List ℕ)) (bytes : List ℕ) (status : Status) (left old new : Option (List ℕ)) : Type 0 where
+pub record Answered (words : List (List ℕ)) (bytes : List ℕ) (status : Status) (old new : Option (List ℕ)) : Type 0 where
   pub output : Output
   pub due : Due words bytes output
   pub status_is : status ≡ output.status
   pub written : Appends old new output.text
-  pub read : IsCheck words → WasRead bytes left
 
 -- a proper prefix of the due output was written
-pub record Cut (words : List (List ℕ)) (bytes : List ℕ) (left old new : Option (List ℕ)) : Type 0 where
+pub record Cut (words : List (List ℕ)) (bytes : List ℕ) (old new : Option (List ℕ)) : Type 0 where
   pub output : Output
   pub due : Due words bytes output
   pub written : AppendsPrefix old new output.text
-  pub read : IsCheck words → WasRead bytes left
 
--- what a run did, by its status: for the words, and the bytes that the source had left
-abbrev pub Ran : List (List ℕ) → List ℕ → Status → Option (List ℕ) → Option (List ℕ) → Option (List ℕ) → Type 0
-Ran words bytes ReadFault left old new = (new ≡ old) × TookWithin limit (Some bytes) left
-Ran words bytes NoMemory left old new = new ≡ old
-Ran words bytes WriteFault left old new = Cut words bytes left old new
-Ran words bytes status left old new = Answered words bytes status left old new
+-- what a run wrote, by its status, for the words and the bytes that it was given
+abbrev pub Ran : List (List ℕ) → List ℕ → Status → Option (List ℕ) → Option (List ℕ) → Type 0
+Ran words bytes ReadFault old new = new ≡ old
+Ran words bytes NoMemory old new = new ≡ old
+Ran words bytes WriteFault old new = Cut words bytes old new
+Ran words bytes status old new = Answered words bytes status old new

@@ -30,7 +30,7 @@ IsSilent ReadFault = Unit {0}
 IsSilent NoMemory = Unit {0}
 IsSilent other = ⊥
 
--- what may be answered to words other than `check`
+-- what may be answered to words that spell no command
 abbrev pub AnswersUsage : Status → Type 0
 AnswersUsage Usage = Unit {0}
 AnswersUsage WriteFault = Unit {0}

@@ -1,6 +1,6 @@
 //! The reply to an input.
 ghost use Rattle.std.specs.Prelude.{◌≡◌, ◌<◌, ◌≤◌, drop, length, IfOk};
-ghost use Rattle.ps_check.specs.Models.{IsWithinLimits};
+ghost use Rattle.ps_check.specs.Models.{IsNonnegative, IsWithinLimits};
 ghost use Rattle.psat.specs.Due.{DueReport, DueText, DueVerdict};
 ghost use Rattle.psat.specs.Replies.{output_of};
 ghost use Rattle.psat.specs.Statuses.{IsAnswer};
@@ -17,7 +17,8 @@ use std::alloc::Global;
 
 // The reply to a model.
 fn answer_model(alloc: Global, problem: &Problem, model: &Model) -> Result<Reply, NoMemory>
-    requires { IsWithinLimits model.now }
+    requires limits { IsWithinLimits model.now }
+    requires nonnegative { IsNonnegative model.now }
     ensures due { IfOk result (λ r. DueVerdict problem.now model.now (output_of r)) }
     ensures status { IfOk result (λ r. IsAnswer r.status) }
 {

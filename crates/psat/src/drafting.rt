@@ -1,8 +1,7 @@
 //! Sentences of the first form, put into a draft.
 ghost use Rattle.std.specs.Prelude.{◌≡◌, ◌≤◌, ◌++◌, ◌∷◌, [], All, OnOk, IfOk, length};
-ghost use Rattle.ps_problem.specs.Drafts.{formula_at};
-ghost use Rattle.ps_read.specs.FirstForm.{IsWithinLimits, item_of, items_of, negated};
-ghost use Rattle.psat.specs.ProblemTexts.{IsDraftOf, opens};
+ghost use Rattle.ps_read.specs.FirstForm.{IsWithinLimits, item_of, items_of};
+ghost use Rattle.psat.specs.Drafting.{IsDraftOf, IsNegated};
 
 use ps_io::NoMemory;
 use ps_problem::{Draft, Mark, Side};
@@ -12,7 +11,7 @@ use std::alloc::Global;
 // Puts so many `!` before the formula that stands open.
 fn negate(draft: &mut Draft, count: u32) -> Result<(), NoMemory>
     requires { length draft.old.«open» ≡ 1 }
-    ensures { OnOk result (draft.new ≡ opens draft.old (negated count (formula_at draft.old.«open» 0))) }
+    ensures { OnOk result (IsNegated draft.old draft.new count) }
 {
     for _ in 0..count {
         draft.mark(Mark::Not)?;

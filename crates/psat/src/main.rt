@@ -2,7 +2,10 @@
 #![tactic(auto)]
 
 mod answer;
+mod command;
 mod drafting;
+mod exit;
+mod laws;
 mod problem_text;
 mod reply;
 mod report;
@@ -13,31 +16,13 @@ mod status;
 #[cfg(test)]
 mod tests;
 
-use crate::run::run;
+use crate::exit::{exit_code, run_program};
 use ps_io::{StdSink, StdSource};
+use std::env;
 use std::process::ExitCode;
-use std::rt::Env;
-use std::{env, io};
-
-/// The status where the words can't be had.
-const NO_WORDS: u8 = 10;
-
-// The words after the program's name.
-fn words<R: Env + AllocGlobal>(rt: &R) -> io::Result<Vec<String>> {
-    let mut words = Vec::new(rt.alloc());
-    for word in env::args(rt)?.skip(1) {
-        words.push(word)?;
-    }
-    Ok(words)
-}
 
 fn main(rt: HostRuntime) -> ExitCode {
-    let alloc = rt.alloc();
-    let Ok(words) = words(&rt) else {
-        return ExitCode::from(NO_WORDS);
-    };
     let mut input = StdSource::new(rt.stdin());
     let mut output = StdSink::new(rt.stdout());
-    let status = run(alloc, words.as_slice(), &mut input, &mut output);
-    ExitCode::from(status.number())
+    exit_code(run_program(rt.alloc(), env::args(&rt), &mut input, &mut output))
 }

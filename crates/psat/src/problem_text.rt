@@ -1,8 +1,7 @@
 //! The problem at the front of an input.
-ghost use Rattle.std.specs.Prelude.{ℕ, ◌≤◌, length, All, IfOk, IsErrOf};
-ghost use Rattle.ps_problem.specs.Problems.{Parts};
+ghost use Rattle.std.specs.Prelude.{◌≤◌, length, All, IfOk, IsErrOf};
 ghost use Rattle.ps_read.specs.FirstForm.{IsWithinLimits, items_of};
-ghost use Rattle.psat.specs.ProblemTexts.{IsProblemOf, PassLimits, SpellsFirst};
+ghost use Rattle.psat.specs.ProblemTexts.{IsProblemOf, PassLimits, SpellsFirst, SpellsNone};
 
 use crate::drafting::draft_of;
 use ps_problem::{BuildError, Draft, Problem, build};
@@ -32,11 +31,12 @@ fn problem_of(alloc: Global, sentences: &[FirstSentence]) -> Result<Problem, Rea
     problem_of_draft(alloc, &draft)
 }
 
-/// The problem of a text of the first form at the front of some bytes, and the place after the text and its blanks.
+/// The problem of a text of the first form at the front of some bytes, and the place after the text
+/// and its blanks.
 pub fn read_problem(alloc: Global, bytes: &[u8]) -> Result<(Problem, usize), ReadError>
     ensures found { IfOk result (λ x. SpellsFirst bytes.now x.0 x.1) }
     ensures place { IfOk result (λ x. x.1 ≤ length bytes.now) }
-    ensures refused { IsErrOf result ReadError.NotFirstForm → (p : Parts) (place : ℕ) → ¬ SpellsFirst bytes.now p place }
+    ensures refused { IsErrOf result ReadError.NotFirstForm → SpellsNone bytes.now }
 {
     let (sentences, place) = read_first(alloc, bytes)?;
     let problem = problem_of(alloc, sentences.as_slice())?;

@@ -1,6 +1,7 @@
 //! A text to be written.
 ghost use Rattle.std.specs.Prelude.{◌≡◌, ◌++◌, codes, IfOk, string_bytes};
-ghost use Rattle.psat.specs.Due.{accepted, refused_report, refused_verdict, too_long, unreadable, usage};
+ghost use Rattle.psat.specs.Due.{accepted, refused_report, refused_verdict};
+ghost use Rattle.psat.specs.Due.{too_long, unreadable, usage};
 ghost use Rattle.psat.specs.Replies.{output_of};
 
 use crate::status::Status;
@@ -34,15 +35,15 @@ impl Reply {
         )
     }
 
-    /// The reply to an input of more bytes than are read.
-    pub fn too_long(alloc: Global) -> Result<Reply, AllocError>
-        ensures { IfOk result (λ r. output_of r ≡ too_long) }
+    /// The reply to an input of more than `limit` bytes.
+    pub fn too_long(alloc: Global, limit: u64) -> Result<Reply, AllocError>
+        ensures { IfOk result (λ r. output_of r ≡ too_long limit) }
     {
-        Reply::new(
-            alloc,
-            "unreadable: more than 1073741824 bytes\n",
-            Status::Unreadable,
-        )
+        let text = format!(in alloc; "unreadable: more than {limit} bytes\n")?;
+        Ok(Reply {
+            text,
+            status: Status::Unreadable,
+        })
     }
 
     /// The reply to an input with no problem at its front.

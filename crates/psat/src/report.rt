@@ -1,19 +1,19 @@
 //! The report in its first form: one model.
 ghost use Rattle.std.specs.Prelude.{◌≡◌, IfOk, IsErrOf, []};
 ghost use Rattle.ps_check.specs.declared.model.Model.{Model};
-ghost use Rattle.ps_check.specs.Models.{IsWithinLimits};
-ghost use Rattle.psat.specs.Reports.{IsReport, IsReadAs};
-ghost use Rattle.psat.specs.ReportReading.{Gives, weight_at, truths_from, world_at, entry_at, entries_from, report_at};
+ghost use Rattle.ps_check.specs.Models.{IsNonnegative, IsWithinLimits};
+ghost use Rattle.psat.specs.Reports.{IsNoReport, IsReadAs, IsReport};
+ghost use Rattle.psat.specs.ReportReading.{Gives, entries_from, entry_at, report_at, truths_from};
+ghost use Rattle.psat.specs.ReportReading.{weight_at, world_at};
 
 use crate::report_bytes::{after, number};
 use crate::report_error::ReportError;
-use ps_check::{Model, Weighted};
+use ps_check::{MOST_WEIGHT, MOST_WORLDS, Model, Weighted};
 use ps_formula::World;
 use ps_io::List;
 use std::alloc::Global;
 
-const MOST_WEIGHT: u128 = 1 << 90;
-
+// The most atoms of a world.
 const MOST_ATOMS: usize = 128;
 
 // The digits of a world, up to the first byte that is none.
@@ -86,7 +86,7 @@ fn read(alloc: Global, bytes: &[u8]) -> Result<Model, ReportError>
     let rest = after(bytes, b"report 1\nconsistent\nmodel ")?;
     let (total, rest) = weight(rest)?;
     let rest = after(rest, b" ")?;
-    let (count, rest) = number(rest, 101)?;
+    let (count, rest) = number(rest, MOST_WORLDS)?;
     let rest = after(rest, b"\n")?;
     let (worlds, rest) = entries(alloc, count, rest)?;
     let rest = after(rest, b"t 0\nend\n")?;
@@ -96,13 +96,14 @@ fn read(alloc: Global, bytes: &[u8]) -> Result<Model, ReportError>
     Ok(Model { total, worlds })
 }
 
-/// The model of a report, where the bytes are the text of one within the limits: a total and weights from 0 to
-/// 2^90, and at most 101 worlds of at most 128 digits.
+/// The model of a report, where the bytes are the text of one within the limits: a total and weights
+/// from 0 to 2^90, and at most 101 worlds of at most 128 digits.
 pub fn read_report(alloc: Global, bytes: &[u8]) -> Result<Model, ReportError>
     ensures found { IfOk result (λ m. IsReport bytes.now m) }
     ensures only { (m : Model) → IsReport bytes.now m → IsReadAs m result }
-    ensures refused { IsErrOf result ReportError.NotFirstForm → (m : Model) → ¬ IsReport bytes.now m }
+    ensures refused { IsErrOf result ReportError.NotFirstForm → IsNoReport bytes.now }
     ensures limits { IfOk result (λ m. IsWithinLimits m) }
+    ensures nonnegative { IfOk result (λ m. IsNonnegative m) }
 {
     read(alloc, bytes)
 }

@@ -1,5 +1,6 @@
 //! Words and numbers at the front of a report's bytes.
-ghost use Rattle.std.specs.Prelude.{◌≡◌, ◌≤◌, ◌<◌, ◌^◌, IfOk};
+ghost use Rattle.std.specs.Prelude.{◌≡◌, ◌≤◌, IfOk};
+ghost use Rattle.ps_check.specs.Models.{most_weight};
 ghost use Rattle.psat.specs.ReportReading.{Gives, strip, number_at, digits_from};
 
 use crate::report_error::ReportError;
@@ -16,7 +17,7 @@ pub fn after<'a>(bytes: &'a [u8], word: &[u8]) -> Result<&'a [u8], ReportError>
 
 /// A number of at most `limit`, with no leading zero, and the bytes after it.
 pub fn number(bytes: &[u8], limit: u128) -> Result<(u128, &[u8]), ReportError>
-    requires { limit ≤ 2 ^ 90 }
+    requires { limit ≤ most_weight }
     ensures number { Gives (λ x. (x.0, x.1.now)) result (number_at limit bytes.now) }
     ensures within { IfOk result (λ x. x.0 ≤ limit) }
 {
@@ -28,7 +29,7 @@ pub fn number(bytes: &[u8], limit: u128) -> Result<(u128, &[u8]), ReportError>
 }
 
 fn digits(bytes: &[u8], limit: u128) -> Result<(u128, &[u8]), ReportError>
-    requires { limit ≤ 2 ^ 90 }
+    requires { limit ≤ most_weight }
     ensures number { Gives (λ x. (x.0, x.1.now)) result (digits_from limit 0 bytes.now) }
     ensures within { IfOk result (λ x. x.0 ≤ limit) }
 {

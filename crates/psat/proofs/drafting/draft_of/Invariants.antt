@@ -1,6 +1,6 @@
 use Rattle.std.proofs.Common.{take}
 use Rattle.ps_read.specs.FirstForm.{items_of}
-use Rattle.psat.specs.ProblemTexts.{IsDraftOf}
+use Rattle.psat.specs.Drafting.{IsDraftOf}
 use Rattle.psat.proofs.drafting.draft_of.Given as goal
 
 abbrev pub invariant-loop-sentence : goal.invariant-loop-sentence

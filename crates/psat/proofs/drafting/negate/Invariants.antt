@@ -1,7 +1,7 @@
 use Rattle.std.proofs.Common.{◌≡◌}
 use Rattle.ps_problem.specs.Drafts.{formula_at}
 use Rattle.ps_read.specs.FirstForm.{negated}
-use Rattle.psat.specs.ProblemTexts.{opens}
+use Rattle.psat.specs.Drafting.{opens}
 use Rattle.psat.proofs.drafting.negate.Given as goal
 
 abbrev pub invariant-loop : goal.invariant-loop

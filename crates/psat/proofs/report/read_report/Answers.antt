@@ -1,4 +1,4 @@
-use Rattle.psat.proofs.ReportLaws.{report-found, report-only, report-refused, report-limits}
+use Rattle.psat.proofs.ReportLaws.{report-found, report-only, report-refused, report-limits, report-nonnegative}
 use Rattle.psat.proofs.report.read_report.Goals as goal
 
 pub returns-clause-found : goal.returns-clause-found
@@ -12,3 +12,6 @@ returns-clause-refused c = report-refused c.args.bytes.now c.read.result c.read.
 
 pub returns-clause-limits : goal.returns-clause-limits
 returns-clause-limits c = report-limits c.args.bytes.now c.read.result c.read.ensures
+
+pub returns-clause-nonnegative : goal.returns-clause-nonnegative
+returns-clause-nonnegative c = report-nonnegative c.args.bytes.now c.read.result c.read.ensures

@@ -1,0 +1,9 @@
+use Rattle.psat.proofs.DueLaws.{one_command}
+use Rattle.psat.proofs.OneOutput.{one_output}
+use Rattle.psat.proofs.laws.one_output_is_due.Goals as goal
+
+pub returns-clause-command : goal.returns-clause-command
+returns-clause-command c = one_command
+
+pub returns-clause-output : goal.returns-clause-output
+returns-clause-output c = one_output

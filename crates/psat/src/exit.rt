@@ -1,0 +1,82 @@
+//! How the program begins and ends: the words that the system hands out, and the exit code.
+ghost use Rattle.std.specs.Prelude.{◌≡◌, drop, IfOk, IsErr};
+ghost use Rattle.std.specs.Process.{exit_status};
+ghost use Rattle.std.specs.Vec.Iter.{into_iter_items};
+ghost use Rattle.psat.specs.Exits.{RanBehind, exit_number};
+
+use crate::run::run;
+use crate::status::Status;
+use ps_io::{Sink, Source};
+use std::alloc::{AllocError, Global};
+use std::env::Args;
+use std::io;
+use std::process::ExitCode;
+use thiserror::Error;
+
+/// The words can't be had.
+#[derive(Clone, Copy, Debug, PartialEq, Eq, Error)]
+#[error("the words can't be had")]
+pub struct NoWords;
+
+impl From<AllocError> for NoWords {
+    fn from(_: AllocError) -> NoWords {
+        NoWords
+    }
+}
+
+// All words, in order.
+fn collected(alloc: Global, all: Args) -> Result<Vec<String>, AllocError>
+    ensures { IfOk result (λ words. words.items ≡ into_iter_items all) }
+{
+    let mut words = Vec::new(alloc);
+    for word in all {
+        words.push(word)?;
+    }
+    Ok(words)
+}
+
+/// The words behind the first, which is the program's name.
+pub fn behind_name(all: &[String]) -> &[String]
+    ensures { result.now ≡ drop 1 all.now }
+{
+    match all {
+        [] => all,
+        [_, words @ ..] => words,
+    }
+}
+
+/// The program, run on all words that the system hands out.
+pub fn run_program<I: Source, O: Sink>(
+    alloc: Global,
+    all: io::Result<Args>,
+    input: &mut I,
+    output: &mut O,
+) -> Result<Status, NoWords>
+    // Where the words can't be had, there is no status, and nothing is read or written.
+    ensures no_words { IsErr all → IsErr result }
+    ensures unread { IsErr result → input.new ≡ input.old }
+    ensures unwritten { IsErr result → output.new ≡ output.old }
+
+    // Else it is the run of the words behind the program's name.
+    ensures ran { IfOk all (λ args. IfOk result (λ status.
+        RanBehind (into_iter_items args) status
+        (I.left input.old) (O.written output.old) (O.written output.new))) }
+{
+    let all = match all {
+        Ok(all) => collected(alloc, all)?,
+        Err(_) => return Err(NoWords),
+    };
+    Ok(run(alloc, behind_name(&all), input, output))
+}
+
+const NO_WORDS: u8 = 10;
+
+/// The exit code after a run, or where the words can't be had.
+pub fn exit_code(ended: Result<Status, NoWords>) -> ExitCode
+    ensures { exit_status result ≡ exit_number ended }
+{
+    match ended {
+        Ok(status) => ExitCode::from(status.number()),
+        Err(NoWords) => ExitCode::from(NO_WORDS),
+    }
+}
