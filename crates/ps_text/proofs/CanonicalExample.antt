@@ -1,4 +1,4 @@
--- Row 28 of the scope.
+-- The canonical text of an example.
 use Rattle.std.proofs.Common.{◌≡◌, List, [], ◌∷◌, None, refl}
 use Rattle.std.proofs.lemmas.Fmt.{decimal_digit}
 use Rattle.std.proofs.Common.{arith}
@@ -18,5 +18,5 @@ example = Stated (record {
   upper = None;
 }) ∷ []
 
-pub row_28 : canonical_text example ≡ codes "psat 1;\nP(a & b -> c -> !(a | b)) = 1/2;\nend;\n"
-row_28 = rw (decimal_digit 1 (omega arith), decimal_digit 2 (omega arith)) refl
+pub example_text : canonical_text example ≡ codes "psat 1;\nP(a & b -> c -> !(a | b)) = 1/2;\nend;\n"
+example_text = rw (decimal_digit 1 (omega arith), decimal_digit 2 (omega arith)) refl

@@ -342,14 +342,16 @@ whole items h = let es = canonical_entries items in
 -- the canonical text of lawful items is a text that means them, up to its end
 pub canonical_front : (items : List Item) → AreLawful items → IsFront (canonical_text items) items (length (canonical_text items))
 canonical_front items h = let w = whole items h in record {
-  pieces = w.pieces;
-  rest = [];
-  entries = canonical_entries items;
-  is = sym (append-nil (texts w.pieces) ∙ w.texts_are);
-  cuts = w.cuts [];
-  derived = w.tokens_are;
-  within = all_within items h;
+  text = record {
+    pieces = w.pieces;
+    rest = [];
+    entries = canonical_entries items;
+    is = sym (append-nil (texts w.pieces) ∙ w.texts_are);
+    cuts = w.cuts [];
+    derived = w.tokens_are;
+    within = all_within items h;
+    bare = tt;
+    place_is = ap length (sym w.texts_are);
+  };
   meant = all_meant items h;
-  bare = tt;
-  place_is = ap length (sym w.texts_are);
 }

@@ -1,24 +1,26 @@
 -- Tokens none of which is refused are what the grammar derives within the limits.
 use Rattle.std.proofs.Common.{◌≡◌, Bool, true, false, List, [], ◌∷◌, ◌++◌, None, sym, ap, subst, ◌∙◌, append_assoc, append-nil, true≢false}
 use Rattle.ps_text.specs.Tokens.{Token}
-use Rattle.ps_text.specs.Due.{Part, AtDone, Due, outside, refusal, Passes, AreDue}
+use Rattle.ps_text.specs.declared.part.Part.{Part}
+use Rattle.ps_text.specs.declared.part.Part.TheVariants as part
+use Rattle.ps_text.specs.ExpectedTokens.{State, outside, refusal, Passes, AreExpected}
 use Rattle.ps_text.specs.Grammar.{IsDerived}
-use Rattle.ps_text.proofs.Parsing.{Parse, InPsat, InVersion, InHeadEnd, InItem, InQueryProb, InTextEnd, InDone, InParen, InOperand, InOperator, InRelation, InBracket, InFirst, InNumber, InComma, InSecond, InBracketEnd, InItemEnd, due_of, read, Sound, parsed}
+use Rattle.ps_text.proofs.Parsing.{Parse, InPsat, InVersion, InHeadEnd, InItem, InQueryProb, InTextEnd, InDone, InParen, InOperand, InOperator, InRelation, InBracket, InFirst, InNumber, InComma, InSecond, InBracketEnd, InItemEnd, state_of, read, Sound, parsed}
 use Rattle.ps_text.proofs.Steps.{Passed, passed, Steps, at_psat, at_version, at_head_end, at_item, at_query_prob, at_text_end, at_paren, at_relation, at_number, at_bracket, at_first, at_comma, at_second, at_bracket_end, at_item_end}
 use Rattle.ps_text.proofs.FormulaSteps.{at_operand, at_operator}
 
 -- one token more that isn't refused
-pub steps : (p : Parse) (t : Token) → Sound p → refusal (due_of p) t ≡ None → Steps p t
-steps p t s h = by p s (passed (due_of p) t h)
+pub steps : (p : Parse) (t : Token) → Sound p → refusal (state_of p) t ≡ None → Steps p t
+steps p t s h = by p s (passed (state_of p) t h)
   where
-    by : (p : Parse) → Sound p → Passed (due_of p) t → Steps p t
+    by : (p : Parse) → Sound p → Passed (state_of p) t → Steps p t
     by InPsat s h = at_psat t h
     by InVersion s h = at_version t h
     by InHeadEnd s h = at_head_end t h
     by (InItem es) s h = at_item es t s h
     by (InQueryProb es) s h = at_query_prob es t s h
     by (InTextEnd es) s h = at_text_end es t s h
-    by (InDone es) s h = absurd (true≢false (sym h.due))
+    by (InDone es) s h = absurd (true≢false (sym h.expected))
     by (InParen es q) s h = at_paren es q t s h
     by (InOperand es q c fs) s h = at_operand es q c fs t s h
     by (InOperator es q c fs f) s h = at_operator es q c fs f t s h
@@ -37,23 +39,23 @@ parsed_all p [] = p
 parsed_all p (t ∷ ts) = parsed_all (parsed p t) ts
 
 -- more tokens none of which is refused
-pub record Derives (p : Parse) (ts : List Token) (e : Due) : Type 0 where
-  pub due : due_of (parsed_all p ts) ≡ e
+pub record Derives (p : Parse) (ts : List Token) (e : State) : Type 0 where
+  pub state : state_of (parsed_all p ts) ≡ e
   pub tokens : read (parsed_all p ts) ≡ read p ++ ts
   pub sound : Sound (parsed_all p ts)
 
-pub derives : (p : Parse) (ts : List Token) (e : Due) → Sound p → Passes (due_of p) ts e → Derives p ts e
-derives p [] e s h = record { due = h; tokens = sym (append-nil (read p)); sound = s }
+pub derives : (p : Parse) (ts : List Token) (e : State) → Sound p → Passes (state_of p) ts e → Derives p ts e
+derives p [] e s h = record { state = h; tokens = sym (append-nil (read p)); sound = s }
 derives p (t ∷ ts) e s h =
     let step = steps p t s h.0 in
-    let rest = derives (parsed p t) ts e step.sound (subst (λ d. Passes d ts e) (sym step.due) h.1) in
-    record { due = rest.due; tokens = rest.tokens ∙ ap (λ us. us ++ ts) step.tokens ∙ append_assoc (read p) (t ∷ []) ts; sound = rest.sound }
+    let rest = derives (parsed p t) ts e step.sound (subst (λ d. Passes d ts e) (sym step.state) h.1) in
+    record { state = rest.state; tokens = rest.tokens ∙ ap (λ us. us ++ ts) step.tokens ∙ append_assoc (read p) (t ∷ []) ts; sound = rest.sound }
 
 abbrev is_end : Part → Bool
-is_end AtDone = true
+is_end part.Done = true
 is_end p = false
 
-ends : (p : Parse) (ts : List Token) → is_end (due_of p).part ≡ true → read p ≡ ts → Sound p → IsDerived ts
+ends : (p : Parse) (ts : List Token) → is_end (state_of p).part ≡ true → read p ≡ ts → Sound p → IsDerived ts
 ends (InDone es) ts e r s = record { entries = es; tokens = sym r; within = s }
 ends InPsat ts e r s = absurd (true≢false (sym e))
 ends InVersion ts e r s = absurd (true≢false (sym e))
@@ -73,6 +75,6 @@ ends (InSecond es p x) ts e r s = absurd (true≢false (sym e))
 ends (InBracketEnd es p x y) ts e r s = absurd (true≢false (sym e))
 ends (InItemEnd es e') ts e r s = absurd (true≢false (sym e))
 
--- tokens that are due, up to the `;` behind `end`, are those of a text within the grammar's levels and limits
-pub due_are_derived : (ts : List Token) → AreDue ts → IsDerived ts
-due_are_derived ts h = let d = derives InPsat ts (outside AtDone) tt h in ends (parsed_all InPsat ts) ts (ap (λ x. is_end x.part) d.due) d.tokens d.sound
+-- tokens that are expected, up to the `;` behind `end`, are those of a text within the grammar's levels and limits
+pub expected_are_derived : (ts : List Token) → AreExpected ts → IsDerived ts
+expected_are_derived ts h = let d = derives InPsat ts (outside part.Done) tt h in ends (parsed_all InPsat ts) ts (ap (λ x. is_end x.part) d.state) d.tokens d.sound

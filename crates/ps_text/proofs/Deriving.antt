@@ -5,22 +5,26 @@ use Rattle.std.specs.Prelude.{nat_lt, nat_eq, codes}
 use Rattle.std.specs.List.{list_any}
 use Rattle.ps_text.specs.Tokens.{Token, Word, Sign, Numeral, Whole, Quotient, Decimal, Open, Close, Semicolon, Ampersand, Bar, Arrow, DoubleArrow}
 use Rattle.ps_text.specs.Grammar.{is_reserved, value, Form, Name, Truth, Falsity, Not, Group, And, Or, Implies, Iff, spelled, level, IsForm, Nests, Prob, Relation, Exactly, AtLeast, AtMost, Within, Entry, Sentence, Query, given_tokens, prob_tokens, relation_tokens, entry_tokens, entries_tokens, text_tokens, IsProbability, IsGiven, IsProb, IsRelation, IsEntry, AreEntries}
-use Rattle.ps_text.specs.Due.{Part, AtItem, AtQueryProb, AtParen, AtOperand, AtOperator, AtRelation, AtItemEnd, AtDone, Opening, NotOpen, GroupOpen, ArrowOpen, Due, outside, is_group, value_fault, refusal, without_nots, without_arrows, prob_ended, after, Passes, AreDue}
+use Rattle.ps_text.specs.declared.part.Part.{Part}
+use Rattle.ps_text.specs.declared.part.Part.TheVariants as part
+use Rattle.ps_text.specs.declared.part.Opening.{Opening}
+use Rattle.ps_text.specs.declared.part.Opening.TheVariants as opening
+use Rattle.ps_text.specs.ExpectedTokens.{State, outside, is_group, value_fault, refusal, without_nots, without_arrows, prob_ended, after, Passes, AreExpected}
 
 -- within a formula
-abbrev pub state : Part → Bool → Bool → List Opening → Due
+abbrev pub state : Part → Bool → Bool → List Opening → State
 state p q g os = record { part = p; query = q; given = g; opened = os }
 
-pub passes-append : (d e f : Due) (ts us : List Token) → Passes d ts e → Passes e us f → Passes d (ts ++ us) f
+pub passes-append : (d e f : State) (ts us : List Token) → Passes d ts e → Passes e us f → Passes d (ts ++ us) f
 passes-append d e f [] us p q = subst (λ x. Passes x us f) (sym p) q
 passes-append d e f (t ∷ ts) us p q = (p.0, passes-append (after d t) e f ts us p.1 q)
 
-one : (d e : Due) (t : Token) → refusal d t ≡ None → after d t ≡ e → Passes d (t ∷ []) e
+one : (d e : State) (t : Token) → refusal d t ≡ None → after d t ≡ e → Passes d (t ∷ []) e
 one d e t h a = (h, a)
 
 -- what is open behind a formula
 abbrev pub behind : Form → List Opening → List Opening
-behind (Implies f g) os = behind g (ArrowOpen ∷ os)
+behind (Implies f g) os = behind g (opening.Arrow ∷ os)
 behind (Iff f g) os = behind g os
 behind (And f g) os = os
 behind (Or f g) os = os
@@ -28,21 +32,21 @@ behind f os = without_nots os
 
 -- how tightly a formula has to bind where this is open
 abbrev pub needed : List Opening → ℕ
-needed (NotOpen ∷ os) = 5
-needed (ArrowOpen ∷ os) = 2
+needed (opening.Not ∷ os) = 5
+needed (opening.Arrow ∷ os) = 2
 needed os = 1
 
 pub no_nots : (os : List Opening) → needed os ≤ 4 → without_nots os ≡ os
 no_nots [] h = refl
-no_nots (GroupOpen ∷ os) h = refl
-no_nots (ArrowOpen ∷ os) h = refl
-no_nots (NotOpen ∷ os) h = absurd (omega (arith, h))
+no_nots (opening.Group ∷ os) h = refl
+no_nots (opening.Arrow ∷ os) h = refl
+no_nots (opening.Not ∷ os) h = absurd (omega (arith, h))
 
 pub no_arrows : (os : List Opening) → needed os ≤ 1 → without_arrows os ≡ os
 no_arrows [] h = refl
-no_arrows (GroupOpen ∷ os) h = refl
-no_arrows (ArrowOpen ∷ os) h = absurd (omega (arith, h))
-no_arrows (NotOpen ∷ os) h = absurd (omega (arith, h))
+no_arrows (opening.Group ∷ os) h = refl
+no_arrows (opening.Arrow ∷ os) h = absurd (omega (arith, h))
+no_arrows (opening.Not ∷ os) h = absurd (omega (arith, h))
 
 -- behind an operand of `|`, `&` or `->` nothing more is open
 pub behind_tight : (f : Form) (os : List Opening) → 3 ≤ level f → without_nots os ≡ os → behind f os ≡ os
@@ -58,7 +62,7 @@ behind_tight (Group f) os l n = n
 
 -- only right sides are open behind a formula
 pub behind_ended : (f : Form) (os : List Opening) → without_nots os ≡ os → without_arrows (behind f os) ≡ without_arrows os
-behind_ended (Implies f g) os n = behind_ended g (ArrowOpen ∷ os) refl
+behind_ended (Implies f g) os n = behind_ended g (opening.Arrow ∷ os) refl
 behind_ended (Iff f g) os n = behind_ended g os n
 behind_ended (And f g) os n = refl
 behind_ended (Or f g) os n = refl
@@ -69,7 +73,7 @@ behind_ended (Not f) os n = ap without_arrows n
 behind_ended (Group f) os n = ap without_arrows n
 
 pub behind_groups : (f : Form) (os : List Opening) → without_nots os ≡ os → list_any is_group (behind f os) ≡ list_any is_group os
-behind_groups (Implies f g) os n = behind_groups g (ArrowOpen ∷ os) refl
+behind_groups (Implies f g) os n = behind_groups g (opening.Arrow ∷ os) refl
 behind_groups (Iff f g) os n = behind_groups g os n
 behind_groups (And f g) os n = refl
 behind_groups (Or f g) os n = refl
@@ -83,23 +87,23 @@ level_some : (f : Form) → 1 ≤ level f
 level_some (Iff f g) = omega arith
 level_some f = omega arith
 
-name_due : (q g : Bool) (os : List Opening) (w : List ℕ) → is_reserved w ≡ false → length w ≤ 32 → refusal (state AtOperand q g os) (Word w) ≡ None
+name_expected : (q g : Bool) (os : List Opening) (w : List ℕ) → is_reserved w ≡ false → length w ≤ 32 → refusal (state part.Operand q g os) (Word w) ≡ None
 unfolding refusal
-name_due q g os w r l = let h : nat_lt 32 (length w) ≡ false = grind (arith, nat_tests) in rw (h, r) refl
+name_expected q g os w r l = let h : nat_lt 32 (length w) ≡ false = grind (arith, nat_tests) in rw (h, r) refl
 
 room : (n : ℕ) → n < 100 → nat_lt n 100 ≡ true
 room n h = grind (arith, nat_tests)
 
 pub form_passes : (f : Form) (q g : Bool) (os : List Opening) → IsForm f → Nests (length os) f → needed os ≤ level f
-    → Passes (state AtOperand q g os) (spelled f) (state AtOperator q g (behind f os))
+    → Passes (state part.Operand q g os) (spelled f) (state part.Operator q g (behind f os))
 unfolding refusal after
-form_passes (Name w) q g os i n u = (name_due q g os w i.0 i.1, refl)
+form_passes (Name w) q g os i n u = (name_expected q g os w i.0 i.1, refl)
 form_passes Truth q g os i n u = (refl, refl)
 form_passes Falsity q g os i n u = (refl, refl)
 form_passes (Not f) q g os i n u =
-    let inner : Passes (state AtOperand q g (NotOpen ∷ os)) (spelled f) (state AtOperator q g (behind f (NotOpen ∷ os))) =
-    form_passes f q g (NotOpen ∷ os) i.1 (subst (λ k. Nests k f) (add-one (length os)) n.1) i.0 in
-    (rw (room (length os) n.0) refl, subst (λ x. Passes (state AtOperand q g (NotOpen ∷ os)) (spelled f) (state AtOperator q g x)) (unary_behind f (NotOpen ∷ os) i.0) inner)
+    let inner : Passes (state part.Operand q g (opening.Not ∷ os)) (spelled f) (state part.Operator q g (behind f (opening.Not ∷ os))) =
+    form_passes f q g (opening.Not ∷ os) i.1 (subst (λ k. Nests k f) (add-one (length os)) n.1) i.0 in
+    (rw (room (length os) n.0) refl, subst (λ x. Passes (state part.Operand q g (opening.Not ∷ os)) (spelled f) (state part.Operator q g x)) (unary_behind f (opening.Not ∷ os) i.0) inner)
   where
     unary_behind : (f : Form) (os : List Opening) → 5 ≤ level f → behind f os ≡ without_nots os
     unary_behind (Implies f g) os l = absurd (omega (arith, l))
@@ -113,107 +117,107 @@ form_passes (Not f) q g os i n u =
     unary_behind (Group f) os l = refl
 form_passes (Group f) q g os i n u = (
   rw (room (length os) n.0) refl,
-  passes-append (state AtOperand q g (GroupOpen ∷ os)) (state AtOperator q g (behind f (GroupOpen ∷ os))) (state AtOperator q g (without_nots os)) (spelled f) (Sign Close ∷ [])
-      (form_passes f q g (GroupOpen ∷ os) i (subst (λ k. Nests k f) (add-one (length os)) n.1) (level_some f))
-      (refl, rw (behind_ended f (GroupOpen ∷ os) refl) refl),
+  passes-append (state part.Operand q g (opening.Group ∷ os)) (state part.Operator q g (behind f (opening.Group ∷ os))) (state part.Operator q g (without_nots os)) (spelled f) (Sign Close ∷ [])
+      (form_passes f q g (opening.Group ∷ os) i (subst (λ k. Nests k f) (add-one (length os)) n.1) (level_some f))
+      (refl, rw (behind_ended f (opening.Group ∷ os) refl) refl),
 )
 form_passes (And f h) q g os i n u =
     let settled : without_nots os ≡ os = no_nots os (omega (arith, u)) in
-    passes-append (state AtOperand q g os) (state AtOperator q g (behind f os)) (state AtOperator q g os) (spelled f) (Sign Ampersand ∷ spelled h)
+    passes-append (state part.Operand q g os) (state part.Operator q g (behind f os)) (state part.Operator q g os) (spelled f) (Sign Ampersand ∷ spelled h)
     (form_passes f q g os i.2 n.0 (omega (arith, u, i.0))) (
       refl,
-      subst (λ x. Passes (state AtOperand q g x) (spelled h) (state AtOperator q g os)) (sym (behind_tight f os (omega (arith, i.0)) settled))
-          (subst (λ x. Passes (state AtOperand q g os) (spelled h) (state AtOperator q g x)) (behind_tight h os (omega (arith, i.1)) settled)
+      subst (λ x. Passes (state part.Operand q g x) (spelled h) (state part.Operator q g os)) (sym (behind_tight f os (omega (arith, i.0)) settled))
+          (subst (λ x. Passes (state part.Operand q g os) (spelled h) (state part.Operator q g x)) (behind_tight h os (omega (arith, i.1)) settled)
           (form_passes h q g os i.3 n.1 (omega (arith, u, i.1)))),
     )
 form_passes (Or f h) q g os i n u =
     let settled : without_nots os ≡ os = no_nots os (omega (arith, u)) in
-    passes-append (state AtOperand q g os) (state AtOperator q g (behind f os)) (state AtOperator q g os) (spelled f) (Sign Bar ∷ spelled h)
+    passes-append (state part.Operand q g os) (state part.Operator q g (behind f os)) (state part.Operator q g os) (spelled f) (Sign Bar ∷ spelled h)
     (form_passes f q g os i.2 n.0 (omega (arith, u, i.0))) (
       refl,
-      subst (λ x. Passes (state AtOperand q g x) (spelled h) (state AtOperator q g os)) (sym (behind_tight f os (omega (arith, i.0)) settled))
-          (subst (λ x. Passes (state AtOperand q g os) (spelled h) (state AtOperator q g x)) (behind_tight h os (omega (arith, i.1)) settled)
+      subst (λ x. Passes (state part.Operand q g x) (spelled h) (state part.Operator q g os)) (sym (behind_tight f os (omega (arith, i.0)) settled))
+          (subst (λ x. Passes (state part.Operand q g os) (spelled h) (state part.Operator q g x)) (behind_tight h os (omega (arith, i.1)) settled)
           (form_passes h q g os i.3 n.1 (omega (arith, u, i.1)))),
     )
 form_passes (Implies f h) q g os i n u =
     let settled : without_nots os ≡ os = no_nots os (omega (arith, u)) in
     let tight : behind f os ≡ os = behind_tight f os i.0 settled in
-    passes-append (state AtOperand q g os) (state AtOperator q g (behind f os)) (state AtOperator q g (behind h (ArrowOpen ∷ os))) (spelled f) (Sign Arrow ∷ spelled h)
+    passes-append (state part.Operand q g os) (state part.Operator q g (behind f os)) (state part.Operator q g (behind h (opening.Arrow ∷ os))) (spelled f) (Sign Arrow ∷ spelled h)
     (form_passes f q g os i.2 n.0 (omega (arith, u, i.0))) (
       rw (tight, room (length os) n.1) refl,
-      subst (λ x. Passes (state AtOperand q g (ArrowOpen ∷ x)) (spelled h) (state AtOperator q g (behind h (ArrowOpen ∷ os)))) (sym tight)
-          (form_passes h q g (ArrowOpen ∷ os) i.3 (subst (λ k. Nests k h) (add-one (length os)) n.2) i.1),
+      subst (λ x. Passes (state part.Operand q g (opening.Arrow ∷ x)) (spelled h) (state part.Operator q g (behind h (opening.Arrow ∷ os)))) (sym tight)
+          (form_passes h q g (opening.Arrow ∷ os) i.3 (subst (λ k. Nests k h) (add-one (length os)) n.2) i.1),
     )
 form_passes (Iff f h) q g os i n u =
     let settled : without_nots os ≡ os = no_nots os (omega (arith, u)) in
     let ended : without_arrows (behind f os) ≡ os = behind_ended f os settled ∙ no_arrows os u in
-    passes-append (state AtOperand q g os) (state AtOperator q g (behind f os)) (state AtOperator q g (behind h os)) (spelled f) (Sign DoubleArrow ∷ spelled h)
+    passes-append (state part.Operand q g os) (state part.Operator q g (behind f os)) (state part.Operator q g (behind h os)) (spelled f) (Sign DoubleArrow ∷ spelled h)
     (form_passes f q g os i.2 n.0 (omega (arith, u, i.0))) (
       refl,
-      subst (λ x. Passes (state AtOperand q g x) (spelled h) (state AtOperator q g (behind h os))) (sym ended)
+      subst (λ x. Passes (state part.Operand q g x) (spelled h) (state part.Operator q g (behind h os))) (sym ended)
           (form_passes h q g os i.3 n.1 (omega (arith, u, i.1))),
     )
 
 -- behind a formula and its `)`
-prob_end : (f : Form) (q g : Bool) → Passes (state AtOperator q g (behind f [])) (Sign Close ∷ []) (prob_ended q)
+prob_end : (f : Form) (q g : Bool) → Passes (state part.Operator q g (behind f [])) (Sign Close ∷ []) (prob_ended q)
 unfolding refusal after
 prob_end f q g = (refl, rw (behind_ended f [] refl) refl)
 
-given_passes : (f : Form) (c : Option Form) (q : Bool) → IsGiven c → Passes (state AtOperator q false (behind f [])) (given_tokens c ++ Sign Close ∷ []) (prob_ended q)
+given_passes : (f : Form) (c : Option Form) (q : Bool) → IsGiven c → Passes (state part.Operator q false (behind f [])) (given_tokens c ++ Sign Close ∷ []) (prob_ended q)
 unfolding refusal after
 given_passes f None q i = prob_end f q false
 given_passes f (Some c) q i = (
   rw (behind_groups f [] refl) refl,
-  passes-append (state AtOperand q true []) (state AtOperator q true (behind c [])) (prob_ended q) (spelled c) (Sign Close ∷ [])
+  passes-append (state part.Operand q true []) (state part.Operator q true (behind c [])) (prob_ended q) (spelled c) (Sign Close ∷ [])
       (form_passes c q true [] i.0 i.1 (level_some c)) (prob_end c q true),
 )
 
-prob_passes : (p : Prob) (q : Bool) → IsProb p → Passes (state AtParen q false []) (Sign Open ∷ spelled p.form ++ given_tokens p.given ++ Sign Close ∷ []) (prob_ended q)
+prob_passes : (p : Prob) (q : Bool) → IsProb p → Passes (state part.Paren q false []) (Sign Open ∷ spelled p.form ++ given_tokens p.given ++ Sign Close ∷ []) (prob_ended q)
 unfolding refusal after
 prob_passes p q i = (
   refl,
-  subst (λ ts. Passes (state AtOperand q false []) ts (prob_ended q)) (sym (append_assoc (spelled p.form) (given_tokens p.given) (Sign Close ∷ [])))
-      (passes-append (state AtOperand q false []) (state AtOperator q false (behind p.form [])) (prob_ended q) (spelled p.form) (given_tokens p.given ++ Sign Close ∷ [])
+  subst (λ ts. Passes (state part.Operand q false []) ts (prob_ended q)) (sym (append_assoc (spelled p.form) (given_tokens p.given) (Sign Close ∷ [])))
+      (passes-append (state part.Operand q false []) (state part.Operator q false (behind p.form [])) (prob_ended q) (spelled p.form) (given_tokens p.given ++ Sign Close ∷ [])
       (form_passes p.form q false [] i.form i.nests (level_some p.form)) (given_passes p.form p.given q i.given)),
 )
 
-number_due : (x : Numeral) → IsProbability x → value_fault x ≡ None
-number_due (Whole ds) i = let h : nat_lt 1 (value ds) ≡ false = grind (arith, nat_tests) in rw h refl
-number_due (Quotient ds es) i =
+number_expected : (x : Numeral) → IsProbability x → value_fault x ≡ None
+number_expected (Whole ds) i = let h : nat_lt 1 (value ds) ≡ false = grind (arith, nat_tests) in rw h refl
+number_expected (Quotient ds es) i =
     let h0 : nat_eq (value es) 0 ≡ false = grind (arith, nat_tests, i.0) in
     let h1 : nat_lt 1000000 (value es) ≡ false = grind (arith, nat_tests, i.1) in
     let h2 : nat_lt (value es) (value ds) ≡ false = grind (arith, nat_tests, i.2) in rw (h0, h1, h2) refl
-number_due (Decimal ds es) i =
+number_expected (Decimal ds es) i =
     let h0 : nat_lt 6 (length es) ≡ false = grind (arith, nat_tests, i.0) in
     let h1 : nat_lt (10 ^ length es) (value (ds ++ es)) ≡ false = grind (arith, nat_tests, i.1) in rw (h0, h1) refl
 
-relation_passes : (r : Relation) → IsRelation r → Passes (outside AtRelation) (relation_tokens r ++ Sign Semicolon ∷ []) (outside AtItem)
+relation_passes : (r : Relation) → IsRelation r → Passes (outside part.Relation) (relation_tokens r ++ Sign Semicolon ∷ []) (outside part.Item)
 unfolding refusal after
-relation_passes (Exactly x) i = (refl, (number_due x i, (refl, refl)))
-relation_passes (AtLeast x) i = (refl, (number_due x i, (refl, refl)))
-relation_passes (AtMost x) i = (refl, (number_due x i, (refl, refl)))
-relation_passes (Within x y) i = (refl, (refl, (number_due x i.0, (refl, (number_due y i.1, (refl, (refl, refl)))))))
+relation_passes (Exactly x) i = (refl, (number_expected x i, (refl, refl)))
+relation_passes (AtLeast x) i = (refl, (number_expected x i, (refl, refl)))
+relation_passes (AtMost x) i = (refl, (number_expected x i, (refl, refl)))
+relation_passes (Within x y) i = (refl, (refl, (number_expected x i.0, (refl, (number_expected y i.1, (refl, (refl, refl)))))))
 
-entry_passes : (e : Entry) → IsEntry e → Passes (outside AtItem) (entry_tokens e) (outside AtItem)
+entry_passes : (e : Entry) → IsEntry e → Passes (outside part.Item) (entry_tokens e) (outside part.Item)
 unfolding refusal after
-entry_passes (Sentence p r) i = subst (λ ts. Passes (outside AtItem) ts (outside AtItem)) (sym (append_assoc (prob_tokens p) (relation_tokens r) (Sign Semicolon ∷ [])))
-    (passes-append (outside AtItem) (outside AtRelation) (outside AtItem) (prob_tokens p) (relation_tokens r ++ Sign Semicolon ∷ []) (refl, prob_passes p false i.0) (relation_passes r i.1))
-entry_passes (Query p) i = (refl, passes-append (outside AtQueryProb) (outside AtItemEnd) (outside AtItem) (prob_tokens p) (Sign Semicolon ∷ []) (refl, prob_passes p true i) (refl, refl))
+entry_passes (Sentence p r) i = subst (λ ts. Passes (outside part.Item) ts (outside part.Item)) (sym (append_assoc (prob_tokens p) (relation_tokens r) (Sign Semicolon ∷ [])))
+    (passes-append (outside part.Item) (outside part.Relation) (outside part.Item) (prob_tokens p) (relation_tokens r ++ Sign Semicolon ∷ []) (refl, prob_passes p false i.0) (relation_passes r i.1))
+entry_passes (Query p) i = (refl, passes-append (outside part.QueryProb) (outside part.ItemEnd) (outside part.Item) (prob_tokens p) (Sign Semicolon ∷ []) (refl, prob_passes p true i) (refl, refl))
 
-entries_pass : (es : List Entry) → AreEntries es → Passes (outside AtItem) (entries_tokens es) (outside AtItem)
+entries_pass : (es : List Entry) → AreEntries es → Passes (outside part.Item) (entries_tokens es) (outside part.Item)
 entries_pass [] i = refl
-entries_pass (e ∷ es) i = passes-append (outside AtItem) (outside AtItem) (outside AtItem) (entry_tokens e) (entries_tokens es) (entry_passes e i.0) (entries_pass es i.1)
+entries_pass (e ∷ es) i = passes-append (outside part.Item) (outside part.Item) (outside part.Item) (entry_tokens e) (entries_tokens es) (entry_passes e i.0) (entries_pass es i.1)
 
--- the tokens of a text within the grammar's levels and limits are due
-pub derived_are_due : (es : List Entry) → AreEntries es → AreDue (text_tokens es)
+-- the tokens of a text within the grammar's levels and limits are expected
+pub derived_are_expected : (es : List Entry) → AreEntries es → AreExpected (text_tokens es)
 unfolding refusal after
-derived_are_due es i = (
+derived_are_expected es i = (
   refl,
   (
     refl,
     (
       refl,
-      passes-append (outside AtItem) (outside AtItem) (outside AtDone) (entries_tokens es) (Word (codes "end") ∷ Sign Semicolon ∷ []) (entries_pass es i) (refl, (refl, refl)),
+      passes-append (outside part.Item) (outside part.Item) (outside part.Done) (entries_tokens es) (Word (codes "end") ∷ Sign Semicolon ∷ []) (entries_pass es i) (refl, (refl, refl)),
     ),
   ),
 )

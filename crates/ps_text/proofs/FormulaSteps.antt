@@ -5,13 +5,16 @@ use Rattle.std.proofs.lemmas.Slice.Eq.{bytes_eq-Decides}
 use Rattle.std.specs.Prelude.{bytes_eq, codes, if◌then◌else◌, nat_lt}
 use Rattle.std.specs.List.{list_any}
 use Rattle.ps_text.specs.Tokens.{Token, Word, Number, Sign, Open, Close, Bang, Ampersand, Bar, Arrow, DoubleArrow, is_the_sign, is_the_word}
-use Rattle.ps_text.specs.Kinds.{TooDeep}
+use Rattle.ps_text.specs.declared.kind.ReadKind.TheVariants.{TooDeep}
 use Rattle.ps_text.specs.Grammar.{is_reserved, Form, Name, Truth, Falsity, Group, spelled, level, IsForm, Nests, Entry, Query, prob_tokens, IsGiven, IsProb, AreEntries}
-use Rattle.ps_text.specs.Due.{AtOperand, AtOperator, Opening, ArrowOpen, is_operand_word, is_connective, is_group, may_be_given, is_too_long, without_arrows, closed, after}
+use Rattle.ps_text.specs.declared.part.Part.TheVariants as part
+use Rattle.ps_text.specs.declared.part.Opening.{Opening}
+use Rattle.ps_text.specs.declared.part.Opening.TheVariants as opening
+use Rattle.ps_text.specs.ExpectedTokens.{is_operand_word, is_connective, is_group, may_be_given, is_too_long, without_arrows, closed, after}
 use Rattle.ps_text.proofs.Spans.{both}
 use Rattle.ps_text.proofs.Signs.{the_word, the_sign, Either, First, Second, either}
 use Rattle.ps_text.proofs.Frames.{Frame, BegunNot, BegunGroup, BegunAnd, BegunOr, BegunImplies, BegunIff, frame_tokens, opened_of, need, Fits, joins, joins_tokens, joins_fits, joins_level, joins_need, joins_settled, nots_opened, and_opened, or_opened, all_opened, all_joined}
-use Rattle.ps_text.proofs.Parsing.{InOperand, InOperator, prob_of, due_of, before, lead, formula_lead, entry_body, read, Sound, operand_of, behind_close}
+use Rattle.ps_text.proofs.Parsing.{InOperand, InOperator, prob_of, state_of, before, lead, formula_lead, entry_body, read, Sound, operand_of, behind_close}
 use Rattle.ps_text.proofs.Steps.{Passed, Steps, unless}
 
 -- an operand of the tightest level
@@ -54,9 +57,9 @@ fault_room : (b : Bool) → (if not b then Some TooDeep else None) ≡ None → 
 fault_room true h = refl
 fault_room false h = absurd (true≢false (ap is_some h))
 
-pub at_operand : (es : List Entry) (q : Bool) (c : Option Form) (fs : List Frame) (t : Token) → Sound (InOperand es q c fs) → Passed (due_of (InOperand es q c fs)) t → Steps (InOperand es q c fs) t
+pub at_operand : (es : List Entry) (q : Bool) (c : Option Form) (fs : List Frame) (t : Token) → Sound (InOperand es q c fs) → Passed (state_of (InOperand es q c fs)) t → Steps (InOperand es q c fs) t
 unfolding after
-at_operand es q c fs t s h = by (either (is_operand_word t || is_the_sign Bang t) (is_the_sign Open t) h.due)
+at_operand es q c fs t s h = by (either (is_operand_word t || is_the_sign Bang t) (is_the_sign Open t) h.expected)
   where
     word : (u : Token) → is_too_long u ≡ false → is_operand_word u ≡ true → Steps (InOperand es q c fs) u
     word (Number x) l e = absurd (true≢false (sym e))
@@ -65,7 +68,7 @@ at_operand es q c fs t s h = by (either (is_operand_word t || is_the_sign Bang t
         let o = the_operand w l e in
         let fits : Fits fs (operand_of w) = record { needed = omega (arith, least_need fs, o.tight); form = o.form; nests = o.nests (length (opened_of fs)); frames = s.2 } in
         record {
-          due = ap (λ os. record { part = AtOperator; query = q; given = is_some c; opened = os }) (nots_opened fs (operand_of w) s.2);
+          state = ap (λ os. record { part = part.Operator; query = q; given = is_some c; opened = os }) (nots_opened fs (operand_of w) s.2);
           tokens = ap (λ ts. formula_lead es q c ++ ts) (joins_tokens 5 fs (operand_of w) (omega arith) ∙ ap (λ ts. frame_tokens fs ++ ts) o.is)
               ∙ sym (append_assoc (formula_lead es q c) (frame_tokens fs) (Word w ∷ []));
           sound = (s.0, s.1, joins_fits 5 fs (operand_of w) (omega arith) fits, joins_settled 5 fs (operand_of w) (omega arith), joins_level 5 fs (operand_of w) (omega arith) o.tight);
@@ -74,9 +77,9 @@ at_operand es q c fs t s h = by (either (is_operand_word t || is_the_sign Bang t
     sign : Either (is_operand_word t) (is_the_sign Bang t) → Steps (InOperand es q c fs) t
     sign (First e) = word t h.short e
     sign (Second e) =
-        let deep : Passed (due_of (InOperand es q c fs)) (Sign Bang) = subst (λ u. Passed (due_of (InOperand es q c fs)) u) (the_sign Bang t e) h in
+        let deep : Passed (state_of (InOperand es q c fs)) (Sign Bang) = subst (λ u. Passed (state_of (InOperand es q c fs)) u) (the_sign Bang t e) h in
         subst (λ u. Steps (InOperand es q c fs) u) (sym (the_sign Bang t e)) (record {
-          due = refl;
+          state = refl;
           tokens = sym (append_assoc (formula_lead es q c) (frame_tokens fs) (Sign Bang ∷ []));
           sound = (s.0, s.1, (room (length (opened_of fs)) (fault_room (nat_lt (length (opened_of fs)) 100) deep.fault), s.2));
         })
@@ -84,9 +87,9 @@ at_operand es q c fs t s h = by (either (is_operand_word t || is_the_sign Bang t
     by : Either (is_operand_word t || is_the_sign Bang t) (is_the_sign Open t) → Steps (InOperand es q c fs) t
     by (First e) = sign (either (is_operand_word t) (is_the_sign Bang t) e)
     by (Second e) =
-        let deep : Passed (due_of (InOperand es q c fs)) (Sign Open) = subst (λ u. Passed (due_of (InOperand es q c fs)) u) (the_sign Open t e) h in
+        let deep : Passed (state_of (InOperand es q c fs)) (Sign Open) = subst (λ u. Passed (state_of (InOperand es q c fs)) u) (the_sign Open t e) h in
         subst (λ u. Steps (InOperand es q c fs) u) (sym (the_sign Open t e)) (record {
-          due = refl;
+          state = refl;
           tokens = sym (append_assoc (formula_lead es q c) (frame_tokens fs) (Sign Open ∷ []));
           sound = (s.0, s.1, (room (length (opened_of fs)) (fault_room (nat_lt (length (opened_of fs)) 100) deep.fault), s.2));
         })
@@ -122,17 +125,17 @@ prob_sound (Some h) f g i n = record { form = g.0; nests = g.1; given = (i, n) }
 
 -- what a `)` gives, where all is joined that is begun behind its `(`
 record Closes (es : List Entry) (q : Bool) (c : Option Form) (fs : List Frame) (f : Form) : Type 0 where
-  due : due_of (behind_close es q c fs f) ≡ closed (record { part = AtOperator; query = q; given = is_some c; opened = [] }) (opened_of fs)
+  state : state_of (behind_close es q c fs f) ≡ closed (record { part = part.Operator; query = q; given = is_some c; opened = [] }) (opened_of fs)
   tokens : read (behind_close es q c fs f) ≡ formula_lead es q c ++ (frame_tokens fs ++ spelled f ++ Sign Close ∷ [])
   sound : Sound (behind_close es q c fs f)
 
 closes : (es : List Entry) (q : Bool) (c : Option Form) (fs : List Frame) (f : Form) → AreEntries es → IsGiven c → need fs ≤ 1 → Fits fs f → Closes es q c fs f
-closes es true c [] f s g n i = record { due = refl; tokens = query_end es c f ∙ append_assoc (formula_lead es true c) (spelled f) (Sign Close ∷ []); sound = (s, prob_sound c f g i.form i.nests) }
-closes es false c [] f s g n i = record { due = refl; tokens = sentence_end es c f ∙ append_assoc (formula_lead es false c) (spelled f) (Sign Close ∷ []); sound = (s, prob_sound c f g i.form i.nests) }
+closes es true c [] f s g n i = record { state = refl; tokens = query_end es c f ∙ append_assoc (formula_lead es true c) (spelled f) (Sign Close ∷ []); sound = (s, prob_sound c f g i.form i.nests) }
+closes es false c [] f s g n i = record { state = refl; tokens = sentence_end es c f ∙ append_assoc (formula_lead es false c) (spelled f) (Sign Close ∷ []); sound = (s, prob_sound c f g i.form i.nests) }
 closes es q c (BegunGroup ∷ fs) f s g n i =
     let fits : Fits fs (Group f) = record { needed = least_need fs; form = i.form; nests = (i.frames.0, subst (λ k. Nests k f) (sym (add-one (length (opened_of fs)))) i.nests); frames = i.frames.1 } in
     record {
-      due = ap (λ os. record { part = AtOperator; query = q; given = is_some c; opened = os }) (nots_opened fs (Group f) i.frames.1);
+      state = ap (λ os. record { part = part.Operator; query = q; given = is_some c; opened = os }) (nots_opened fs (Group f) i.frames.1);
       tokens = ap (λ ts. formula_lead es q c ++ ts)
           (joins_tokens 5 fs (Group f) (omega arith)
           ∙ sym (append_assoc (frame_tokens fs) (Sign Open ∷ spelled f) (Sign Close ∷ []))
@@ -152,12 +155,12 @@ at_close es q c fs f s =
     let g = (joins 1 fs f).1 in
     let x = closes es q c gs g s.0 s.1 (joins_need 1 fs f (omega arith)) (joins_fits 1 fs f (omega arith) s.2) in
     record {
-      due = x.due ∙ ap (λ os. closed (record { part = AtOperator; query = q; given = is_some c; opened = [] }) os) (all_opened fs f s.3 s.2.frames) ∙ closed_same q (is_some c) (opened_of fs) (without_arrows (opened_of fs));
+      state = x.state ∙ ap (λ os. closed (record { part = part.Operator; query = q; given = is_some c; opened = [] }) os) (all_opened fs f s.3 s.2.frames) ∙ closed_same q (is_some c) (opened_of fs) (without_arrows (opened_of fs));
       tokens = x.tokens ∙ last_two (formula_lead es q c) (frame_tokens fs ++ spelled f) (Sign Close) (frame_tokens gs ++ spelled g) (joins_tokens 1 fs f (omega arith));
       sound = x.sound;
     }
   where
-    closed_same : (q g : Bool) (os us : List Opening) → closed (record { part = AtOperator; query = q; given = g; opened = [] }) us ≡ closed (record { part = AtOperator; query = q; given = g; opened = os }) us
+    closed_same : (q g : Bool) (os us : List Opening) → closed (record { part = part.Operator; query = q; given = g; opened = [] }) us ≡ closed (record { part = part.Operator; query = q; given = g; opened = os }) us
     closed_same q g os [] = refl
     closed_same q g os (u ∷ us) = refl
 
@@ -166,7 +169,7 @@ unfolding after
 at_and es q c fs f s =
     let i = joins_fits 4 fs f (omega arith) s.2 in
     record {
-      due = ap (λ os. record { part = AtOperand; query = q; given = is_some c; opened = os }) (and_opened fs f s.3 s.2.frames);
+      state = ap (λ os. record { part = part.Operand; query = q; given = is_some c; opened = os }) (and_opened fs f s.3 s.2.frames);
       tokens = last_two (formula_lead es q c) (frame_tokens fs ++ spelled f) (Sign Ampersand) (frame_tokens (joins 4 fs f).0 ++ spelled (joins 4 fs f).1) (joins_tokens 4 fs f (omega arith));
       sound = (s.0, s.1, (joins_need 4 fs f (omega arith), record { tight = joins_level 4 fs f (omega arith) (omega (arith, s.4)); form = i.form; nests = i.nests }, i.frames));
     }
@@ -176,7 +179,7 @@ unfolding after
 at_or es q c fs f s =
     let i = joins_fits 3 fs f (omega arith) s.2 in
     record {
-      due = ap (λ os. record { part = AtOperand; query = q; given = is_some c; opened = os }) (or_opened fs f s.3 s.2.frames);
+      state = ap (λ os. record { part = part.Operand; query = q; given = is_some c; opened = os }) (or_opened fs f s.3 s.2.frames);
       tokens = last_two (formula_lead es q c) (frame_tokens fs ++ spelled f) (Sign Bar) (frame_tokens (joins 3 fs f).0 ++ spelled (joins 3 fs f).1) (joins_tokens 3 fs f (omega arith));
       sound = (s.0, s.1, (omega (arith, joins_need 3 fs f (omega arith)), record { tight = joins_level 3 fs f (omega arith) (omega (arith, s.4)); form = i.form; nests = i.nests }, i.frames));
     }
@@ -187,7 +190,7 @@ at_implies es q c fs f s l =
     let i = joins_fits 3 fs f (omega arith) s.2 in
     let o : opened_of (joins 3 fs f).0 ≡ opened_of fs = or_opened fs f s.3 s.2.frames in
     record {
-      due = ap (λ os. record { part = AtOperand; query = q; given = is_some c; opened = ArrowOpen ∷ os }) o;
+      state = ap (λ os. record { part = part.Operand; query = q; given = is_some c; opened = opening.Arrow ∷ os }) o;
       tokens = last_two (formula_lead es q c) (frame_tokens fs ++ spelled f) (Sign Arrow) (frame_tokens (joins 3 fs f).0 ++ spelled (joins 3 fs f).1) (joins_tokens 3 fs f (omega arith));
       sound = (s.0, s.1, (joins_need 3 fs f (omega arith), record { tight = joins_level 3 fs f (omega arith) (omega (arith, s.4)); form = i.form; nests = i.nests }, subst (λ os. length os < 100) (sym o) l, i.frames));
     }
@@ -197,7 +200,7 @@ unfolding after
 at_iff es q c fs f s =
     let i = joins_fits 1 fs f (omega arith) s.2 in
     record {
-      due = ap (λ os. record { part = AtOperand; query = q; given = is_some c; opened = os }) (all_opened fs f s.3 s.2.frames);
+      state = ap (λ os. record { part = part.Operand; query = q; given = is_some c; opened = os }) (all_opened fs f s.3 s.2.frames);
       tokens = last_two (formula_lead es q c) (frame_tokens fs ++ spelled f) (Sign DoubleArrow) (frame_tokens (joins 1 fs f).0 ++ spelled (joins 1 fs f).1) (joins_tokens 1 fs f (omega arith));
       sound = (s.0, s.1, (joins_need 1 fs f (omega arith), record { tight = joins_level 1 fs f (omega arith) (omega (arith, s.4)); form = i.form; nests = i.nests }, i.frames));
     }
@@ -211,7 +214,7 @@ at_given es q None fs f s n m =
     let e : (joins 1 fs f).0 ≡ [] = all_joined fs f s.3 s.2.frames n in
     let g = (joins 1 fs f).1 in
     record {
-      due = refl;
+      state = refl;
       tokens = append-nil (formula_lead es q (Some g))
           ∙ given_lead es q g
           ∙ last_two (formula_lead es q None) (frame_tokens fs ++ spelled f) (Word (codes "given")) (spelled g)
@@ -222,12 +225,12 @@ at_given es q None fs f s n m =
     given_lead : (es : List Entry) (q : Bool) (g : Form) → formula_lead es q (Some g) ≡ formula_lead es q None ++ (spelled g ++ Word (codes "given") ∷ [])
     given_lead es q g = ap (λ ts. before es ++ ts) (sym (append_assoc (lead q) (Sign Open ∷ []) (spelled g ++ Word (codes "given") ∷ []))) ∙ sym (append_assoc (before es) (lead q ++ Sign Open ∷ []) (spelled g ++ Word (codes "given") ∷ []))
 
-pub at_operator : (es : List Entry) (q : Bool) (c : Option Form) (fs : List Frame) (f : Form) (t : Token) → Sound (InOperator es q c fs f) → Passed (due_of (InOperator es q c fs f)) t → Steps (InOperator es q c fs f) t
-at_operator es q c fs f t s h = by (either (is_connective t || is_the_sign Close t) (may_be_given (due_of (InOperator es q c fs f)) && is_the_word (codes "given") t) h.due)
+pub at_operator : (es : List Entry) (q : Bool) (c : Option Form) (fs : List Frame) (f : Form) (t : Token) → Sound (InOperator es q c fs f) → Passed (state_of (InOperator es q c fs f)) t → Steps (InOperator es q c fs f) t
+at_operator es q c fs f t s h = by (either (is_connective t || is_the_sign Close t) (may_be_given (state_of (InOperator es q c fs f)) && is_the_word (codes "given") t) h.expected)
   where
     arrow : t ≡ Sign Arrow → Steps (InOperator es q c fs f) t
     arrow e =
-        let deep : Passed (due_of (InOperator es q c fs f)) (Sign Arrow) = subst (λ u. Passed (due_of (InOperator es q c fs f)) u) e h in
+        let deep : Passed (state_of (InOperator es q c fs f)) (Sign Arrow) = subst (λ u. Passed (state_of (InOperator es q c fs f)) u) e h in
         subst (λ u. Steps (InOperator es q c fs f) u) (sym e) (at_implies es q c fs f s (room (length (opened_of fs)) (fault_room (nat_lt (length (opened_of fs)) 100) deep.fault)))
 
     first : Either (is_the_sign Ampersand t) (is_the_sign Bar t) → Steps (InOperator es q c fs f) t
@@ -250,9 +253,9 @@ at_operator es q c fs f t s h = by (either (is_connective t || is_the_sign Close
     not_true true e = absurd (true≢false (sym e))
     not_true false e = refl
 
-    by : Either (is_connective t || is_the_sign Close t) (may_be_given (due_of (InOperator es q c fs f)) && is_the_word (codes "given") t) → Steps (InOperator es q c fs f) t
+    by : Either (is_connective t || is_the_sign Close t) (may_be_given (state_of (InOperator es q c fs f)) && is_the_word (codes "given") t) → Steps (InOperator es q c fs f) t
     by (First e) = signs (either (is_connective t) (is_the_sign Close t) e)
     by (Second e) =
-        let b = both (may_be_given (due_of (InOperator es q c fs f))) (is_the_word (codes "given") t) e in
+        let b = both (may_be_given (state_of (InOperator es q c fs f))) (is_the_word (codes "given") t) e in
         let m = both (not (list_any is_group (opened_of fs))) (not (is_some c)) b.0 in
         subst (λ u. Steps (InOperator es q c fs f) u) (sym (the_word (codes "given") t b.1)) (at_given es q c fs f s (not_true (list_any is_group (opened_of fs)) m.0) (not_true (is_some c) m.1))

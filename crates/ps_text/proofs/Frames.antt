@@ -5,7 +5,9 @@ use Rattle.std.specs.Prelude.{nat_le, if◌then◌else◌}
 use Rattle.std.specs.List.{list_any}
 use Rattle.ps_text.specs.Tokens.{Token, Sign, Open, Bang, Ampersand, Bar, Arrow, DoubleArrow}
 use Rattle.ps_text.specs.Grammar.{Form, Not, Group, And, Or, Implies, Iff, spelled, level, IsForm, Nests}
-use Rattle.ps_text.specs.Due.{Opening, NotOpen, GroupOpen, ArrowOpen, is_group, without_nots, without_arrows}
+use Rattle.ps_text.specs.declared.part.Opening.{Opening}
+use Rattle.ps_text.specs.declared.part.Opening.TheVariants as opening
+use Rattle.ps_text.specs.ExpectedTokens.{is_group, without_nots, without_arrows}
 
 pub data Frame : Type 0 where
   BegunNot BegunGroup : Frame
@@ -24,9 +26,9 @@ frame_tokens (BegunIff f ∷ fs) = frame_tokens fs ++ spelled f ++ Sign DoubleAr
 -- what is open
 abbrev pub opened_of : List Frame → List Opening
 opened_of [] = []
-opened_of (BegunNot ∷ fs) = NotOpen ∷ opened_of fs
-opened_of (BegunGroup ∷ fs) = GroupOpen ∷ opened_of fs
-opened_of (BegunImplies f ∷ fs) = ArrowOpen ∷ opened_of fs
+opened_of (BegunNot ∷ fs) = opening.Not ∷ opened_of fs
+opened_of (BegunGroup ∷ fs) = opening.Group ∷ opened_of fs
+opened_of (BegunImplies f ∷ fs) = opening.Arrow ∷ opened_of fs
 opened_of (x ∷ fs) = opened_of fs
 
 -- how tightly the next operand has to bind

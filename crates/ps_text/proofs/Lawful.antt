@@ -156,6 +156,6 @@ all_lawful (e ∷ es) (i ∷ is) w h m = let s = split (entry_tokens e) (entries
 -- what stands at the front means lawful items
 pub front_lawful : (bytes : List ℕ) (items : List Item) (n : ℕ) → IsFront bytes items n → AreLawful items
 unfolding AreTokens
-front_lawful bytes items n f =
-    let all : AreTokens (text_tokens f.entries) = subst AreTokens f.derived (cut_tokens f.pieces f.rest f.cuts) in
-    all_lawful f.entries items f.within (split (entries_tokens f.entries) (Word (codes "end") ∷ Sign Semicolon ∷ []) all.1.1.1).0 f.meant
+front_lawful bytes items n f = let t = f.text in
+    let all : AreTokens (text_tokens t.entries) = subst AreTokens t.derived (cut_tokens t.pieces t.rest t.cuts) in
+    all_lawful t.entries items t.within (split (entries_tokens t.entries) (Word (codes "end") ∷ Sign Semicolon ∷ []) all.1.1.1).0 f.meant

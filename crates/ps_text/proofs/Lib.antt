@@ -15,6 +15,7 @@ pub mod Laying
 pub mod Canonicals
 pub mod CanonicalExample
 pub mod Meant
+pub mod Excluding
 pub mod Nesting
 pub mod Lawful
 pub mod Sorting

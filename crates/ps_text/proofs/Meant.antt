@@ -81,7 +81,7 @@ items_once (Query p ∷ es) (Asked q ∷ is) (Stated s ∷ js) h j k = absurd k.
 
 -- what stands at the front means one list of items at most
 pub meaning_once : (bytes : List ℕ) (is js : List Item) (n m : ℕ) → IsFront bytes is n → IsFront bytes js m → is ≡ js
-meaning_once bytes is js n m f g = let s = front_once f g in items_once f.entries is js f.within f.meant (subst (λ es. AreItems es js) (sym s.entries) g.meant)
+meaning_once bytes is js n m f g = let s = front_once f.text g.text in items_once f.text.entries is js f.text.within f.meant (subst (λ es. AreItems es js) (sym s.entries) g.meant)
 
 -- a reading of the canonical text of lawful items gives these items, and ends where it ends
 pub canonical_back : (items js : List Item) (n : ℕ) → AreLawful items → IsFront (canonical_text items) js n → (js ≡ items) × (n ≡ length (canonical_text items))

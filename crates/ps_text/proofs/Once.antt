@@ -5,18 +5,19 @@ use Rattle.std.proofs.lemmas.Slice.Eq.{bytes_eq-Decides}
 use Rattle.std.proofs.lemmas.List.{length-append}
 use Rattle.std.specs.Prelude.{◌==◌}
 use Rattle.ps_meaning.specs.Statements.{Item}
-use Rattle.ps_text.specs.Tokens.{One, Token, Word, Number, Sign, Numeral, Whole, Quotient, Decimal, Open, Close, OpenBracket, CloseBracket, Comma, Semicolon, Bang, Ampersand, Bar, Arrow, DoubleArrow, Equals, GreaterEquals, LessEquals, is_letter, is_digit, IsToken, IsNumeral, spelling, numeral_spelling, symbol_spelling}
+use Rattle.ps_text.specs.Tokens.{One, Token, Word, Number, Sign, Numeral, Whole, Quotient, Decimal, Open, Close, OpenBracket, CloseBracket, Comma, Semicolon, Bang, Ampersand, Bar, Arrow, DoubleArrow, Equals, GreaterEquals, LessEquals, is_letter, is_digit, IsToken, IsNumeral, IsLongest, spelling, numeral_spelling, symbol_spelling}
 use Rattle.ps_text.specs.Pieces.{is_blank, Piece, Blank, Comment, Spelled, text, EndsLine, Fits, texts, Cuts, tokens, IsBare}
 use Rattle.ps_text.specs.Grammar.{Entry, AreEntries, text_tokens}
-use Rattle.ps_text.specs.Fronts.{IsFront}
+use Rattle.ps_text.specs.Fronts.{IsTextFront, IsFront}
 use Rattle.ps_text.proofs.Spans.{starts, refute, span_same, digits_pass, word_starts, not_both}
 use Rattle.ps_text.proofs.Longest.{IsLongest-at, numeral_starts, symbol_apart, symbol_apart_digit}
+use Rattle.ps_text.proofs.Symbols.{symbol_some}
 use Rattle.ps_text.proofs.Signs.{the_sign}
 use Rattle.ps_text.proofs.Parsing.{InPsat, InDone}
 use Rattle.ps_text.proofs.Derived.{parsed_all}
 use Rattle.ps_text.proofs.Readback.{parsed-append, text_back, text_once, done_once}
 
-append_same : (xs ys a b : List ℕ) → length xs ≡ length ys → xs ++ a ≡ ys ++ b → (xs ≡ ys) × (a ≡ b)
+pub append_same : (xs ys a b : List ℕ) → length xs ≡ length ys → xs ++ a ≡ ys ++ b → (xs ≡ ys) × (a ≡ b)
 append_same [] [] a b l e = (refl, e)
 append_same [] (y ∷ ys) a b l e = absurd (omega (arith, l))
 append_same (x ∷ xs) [] a b l e = absurd (omega (arith, l))
@@ -74,7 +75,7 @@ digit_bare : (b : ℕ) (bs : List ℕ) → is_digit b ≡ true → IsBare (b ∷
 digit_bare b bs h = bare_byte b bs (refute (is_blank b) (λ e. grind (arith, nat_tests))) (refute (b == 35) (λ e. grind (arith, nat_tests)))
 
 -- a token begins with no blank and no comment
-bare_token : (t : Token) (after : List ℕ) → IsToken One t → IsBare (spelling t ++ after)
+pub bare_token : (t : Token) (after : List ℕ) → IsToken One t → IsBare (spelling t ++ after)
 bare_token (Word []) after i = absurd i
 bare_token (Word (b ∷ bs)) after i = letter_bare b (bs ++ after) i.0
 bare_token (Number (Whole [])) after i = absurd i
@@ -98,6 +99,18 @@ bare_token (Sign Equals) after i = refl
 bare_token (Sign GreaterEquals) after i = refl
 bare_token (Sign LessEquals) after i = refl
 
+-- a token has bytes
+pub some_bytes : (t : Token) (after : List ℕ) → IsToken One t → [] ≡ spelling t ++ after → ⊥
+some_bytes (Word []) after i e = i
+some_bytes (Word (b ∷ bs)) after i e = absurd (nil_cons b (bs ++ after) e)
+some_bytes (Number (Whole [])) after i e = i
+some_bytes (Number (Whole (b ∷ bs))) after i e = absurd (nil_cons b (bs ++ after) e)
+some_bytes (Number (Quotient [] es)) after i e = i.0
+some_bytes (Number (Quotient (b ∷ bs) es)) after i e = absurd (nil_cons b ((bs ++ 47 ∷ es) ++ after) e)
+some_bytes (Number (Decimal [] es)) after i e = i.0
+some_bytes (Number (Decimal (b ∷ bs) es)) after i e = absurd (nil_cons b ((bs ++ 46 ∷ es) ++ after) e)
+some_bytes (Sign s) after i e = let l = ap length e in let a = length-append (symbol_spelling s) after in let p = symbol_some s in absurd (omega arith)
+
 -- neither a blank nor a comment stands at the front of bare bytes
 not_blank : (c : ℕ) (a bytes : List ℕ) → is_blank c ≡ true → c ∷ a ≡ bytes → IsBare bytes → ⊥
 not_blank c a bytes f e i = let j : IsBare (c ∷ a) = subst IsBare (sym e) i in true≢false (sym j ∙ ap (λ z. not (z || c == 35)) f)
@@ -110,7 +123,7 @@ stops [] h = refl
 stops (b ∷ bs) h = ap (λ c. not (c == 10)) h
 
 -- what stands at the front is one piece
-same_piece : (x y : Piece) (a b : List ℕ) → Fits One x a → Fits One y b → text x ++ a ≡ text y ++ b → (x ≡ y) × (a ≡ b)
+pub same_piece : (x y : Piece) (a b : List ℕ) → Fits One x a → Fits One y b → text x ++ a ≡ text y ++ b → (x ≡ y) × (a ≡ b)
 same_piece (Blank c) (Blank d) a b f g e = (ap Blank (heads c d a b e), tails c d a b e)
 same_piece (Blank c) (Comment ds) a b f g e = absurd (true≢false (sym f ∙ ap is_blank (heads c 35 a (ds ++ b) e)))
 same_piece (Blank c) (Spelled t) a b f g e = absurd (not_blank c a (spelling t ++ b) f e (bare_token t b g.0))
@@ -125,32 +138,41 @@ same_piece (Spelled t) (Spelled u) a b f g e =
     let m = IsLongest-at One u b g.1 t a f.0 e in
     let s = append_same (spelling t) (spelling u) a b (omega (arith, l, m)) e in (ap Spelled (spelled_once t u f.0 g.0 s.0), s.1)
 
--- two lists of pieces are the same, or one has the other's tokens and more
-data Order (ps qs : List Piece) : Type 0 where
-  Same : (is : ps ≡ qs) → Order ps qs
-  Longer : (t : Token) (more : List Token) (is : tokens ps ≡ tokens qs ++ t ∷ more) → Order ps qs
-  Shorter : (t : Token) (more : List Token) (is : tokens qs ≡ tokens ps ++ t ∷ more) → Order ps qs
+-- the longest token at the front
+pub record Begins (bytes : List ℕ) (t : Token) : Type 0 where
+  pub behind : List ℕ
+  pub is : bytes ≡ spelling t ++ behind
+  pub spelled : IsToken One t
+  pub longest : IsLongest One t behind
 
-grow : (x : Piece) (ps qs : List Piece) → Order ps qs → Order (x ∷ ps) (x ∷ qs)
-grow x ps qs (Same is) = Same (ap (λ zs. x ∷ zs) is)
-grow (Blank c) ps qs (Longer t more is) = Longer t more is
-grow (Blank c) ps qs (Shorter t more is) = Shorter t more is
-grow (Comment c) ps qs (Longer t more is) = Longer t more is
-grow (Comment c) ps qs (Shorter t more is) = Shorter t more is
-grow (Spelled u) ps qs (Longer t more is) = Longer t more (ap (λ ts. u ∷ ts) is)
-grow (Spelled u) ps qs (Shorter t more is) = Shorter t more (ap (λ ts. u ∷ ts) is)
+-- two lists of pieces are the same, or one has the other's tokens and more, of which the first stands behind the other's
+pub data Order (ps qs : List Piece) (rest others : List ℕ) : Type 0 where
+  Same : (is : ps ≡ qs) → Order ps qs rest others
+  Longer : (t : Token) (more : List Token) (is : tokens ps ≡ tokens qs ++ t ∷ more) (next : Begins others t) → Order ps qs rest others
+  Shorter : (t : Token) (more : List Token) (is : tokens qs ≡ tokens ps ++ t ∷ more) (next : Begins rest t) → Order ps qs rest others
 
-order : (ps qs : List Piece) (rest others : List ℕ) → Cuts One ps rest → Cuts One qs others → IsBare rest → IsBare others → texts ps ++ rest ≡ texts qs ++ others → Order ps qs
+grow : (x : Piece) (ps qs : List Piece) (rest others : List ℕ) → Order ps qs rest others → Order (x ∷ ps) (x ∷ qs) rest others
+grow x ps qs rest others (Same is) = Same (ap (λ zs. x ∷ zs) is)
+grow (Blank c) ps qs rest others (Longer t more is next) = Longer t more is next
+grow (Blank c) ps qs rest others (Shorter t more is next) = Shorter t more is next
+grow (Comment c) ps qs rest others (Longer t more is next) = Longer t more is next
+grow (Comment c) ps qs rest others (Shorter t more is next) = Shorter t more is next
+grow (Spelled u) ps qs rest others (Longer t more is next) = Longer t more (ap (λ ts. u ∷ ts) is) next
+grow (Spelled u) ps qs rest others (Shorter t more is next) = Shorter t more (ap (λ ts. u ∷ ts) is) next
+
+pub order : (ps qs : List Piece) (rest others : List ℕ) → Cuts One ps rest → Cuts One qs others → IsBare rest → IsBare others → texts ps ++ rest ≡ texts qs ++ others → Order ps qs rest others
 order [] [] rest others c d i j e = Same refl
 order [] (Blank b ∷ qs) rest others c d i j e = absurd (not_blank b (texts qs ++ others) rest d.0 (sym e) i)
 order [] (Comment b ∷ qs) rest others c d i j e = absurd (not_comment ((b ++ texts qs) ++ others) rest (sym e) i)
-order [] (Spelled t ∷ qs) rest others c d i j e = Shorter t (tokens qs) refl
+order [] (Spelled t ∷ qs) rest others c d i j e =
+    Shorter t (tokens qs) refl (record { behind = texts qs ++ others; is = e ∙ append_assoc (spelling t) (texts qs) others; spelled = d.0.0; longest = d.0.1 })
 order (Blank b ∷ ps) [] rest others c d i j e = absurd (not_blank b (texts ps ++ rest) others c.0 e j)
 order (Comment b ∷ ps) [] rest others c d i j e = absurd (not_comment ((b ++ texts ps) ++ rest) others e j)
-order (Spelled t ∷ ps) [] rest others c d i j e = Longer t (tokens ps) refl
+order (Spelled t ∷ ps) [] rest others c d i j e =
+    Longer t (tokens ps) refl (record { behind = texts ps ++ rest; is = sym e ∙ append_assoc (spelling t) (texts ps) rest; spelled = c.0.0; longest = c.0.1 })
 order (x ∷ ps) (y ∷ qs) rest others c d i j e =
     let s = same_piece x y (texts ps ++ rest) (texts qs ++ others) c.0 d.0 (sym (append_assoc (text x) (texts ps) rest) ∙ e ∙ append_assoc (text y) (texts qs) others) in
-    subst (λ z. Order (x ∷ ps) (z ∷ qs)) s.0 (grow x ps qs (order ps qs rest others c.1 d.1 i j s.1))
+    subst (λ z. Order (x ∷ ps) (z ∷ qs) rest others) s.0 (grow x ps qs rest others (order ps qs rest others c.1 d.1 i j s.1))
 
 done_stays : (es : List Entry) (ts : List Token) → parsed_all (InDone es) ts ≡ InDone es
 done_stays es [] = refl
@@ -166,20 +188,20 @@ no_longer es fs t more i j e =
     absurd (omega (arith, l, a))
 
 -- one text at most stands at the front
-pub record IsSame {bytes : List ℕ} {is js : List Item} {n m : ℕ} (f : IsFront bytes is n) (g : IsFront bytes js m) : Type 0 where
+pub record IsSame {bytes : List ℕ} {n m : ℕ} (f : IsTextFront bytes n) (g : IsTextFront bytes m) : Type 0 where
   pub entries : f.entries ≡ g.entries
   pub place : n ≡ m
 
-pub front_once : {bytes : List ℕ} {is js : List Item} {n m : ℕ} (f : IsFront bytes is n) (g : IsFront bytes js m) → IsSame f g
-front_once {bytes} {is} {js} {n} {m} f g = by (order f.pieces g.pieces f.rest g.rest f.cuts g.cuts f.bare g.bare (sym f.is ∙ g.is))
+pub front_once : {bytes : List ℕ} {n m : ℕ} (f : IsTextFront bytes n) (g : IsTextFront bytes m) → IsSame f g
+front_once {bytes} {n} {m} f g = by (order f.pieces g.pieces f.rest g.rest f.cuts g.cuts f.bare g.bare (sym f.is ∙ g.is))
   where
-    by : Order f.pieces g.pieces → IsSame f g
+    by : Order f.pieces g.pieces f.rest g.rest → IsSame f g
     by (Same is) = record {
       entries = text_once f.entries g.entries f.within g.within (sym f.derived ∙ ap tokens is ∙ g.derived);
       place = f.place_is ∙ ap (λ ps. length (texts ps)) is ∙ sym g.place_is;
     }
-    by (Longer t more is) = absurd (no_longer f.entries g.entries t more f.within g.within (sym f.derived ∙ is ∙ ap (λ ts. ts ++ t ∷ more) g.derived))
-    by (Shorter t more is) = absurd (no_longer g.entries f.entries t more g.within f.within (sym g.derived ∙ is ∙ ap (λ ts. ts ++ t ∷ more) f.derived))
+    by (Longer t more is next) = absurd (no_longer f.entries g.entries t more f.within g.within (sym f.derived ∙ is ∙ ap (λ ts. ts ++ t ∷ more) g.derived))
+    by (Shorter t more is next) = absurd (no_longer g.entries f.entries t more g.within f.within (sym g.derived ∙ is ∙ ap (λ ts. ts ++ t ∷ more) f.derived))
 
 pub front_place : (bytes : List ℕ) (is js : List Item) (n m : ℕ) → IsFront bytes is n → IsFront bytes js m → n ≡ m
-front_place bytes is js n m f g = (front_once f g).place
+front_place bytes is js n m f g = (front_once f.text g.text).place

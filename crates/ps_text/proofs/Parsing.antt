@@ -3,7 +3,8 @@ use Rattle.std.proofs.Common.{ℕ, ◌≤◌, Bool, true, false, List, [], ◌�
 use Rattle.std.specs.Prelude.{bytes_eq, codes, if◌then◌else◌}
 use Rattle.ps_text.specs.Tokens.{Token, Word, Number, Sign, Numeral, Whole, Symbol, Open, Close, OpenBracket, Comma, Semicolon, Bang, Ampersand, Bar, Arrow, DoubleArrow, Equals, GreaterEquals, LessEquals, is_the_word}
 use Rattle.ps_text.specs.Grammar.{Form, Name, Truth, Falsity, Group, spelled, level, Prob, Relation, Exactly, AtLeast, AtMost, Within, Entry, Sentence, Query, prob_tokens, relation_tokens, entries_tokens, text_tokens, IsProbability, IsGiven, IsProb, IsEntry, AreEntries}
-use Rattle.ps_text.specs.Due.{AtPsat, AtVersion, AtHeadEnd, AtItem, AtQueryProb, AtParen, AtOperand, AtOperator, AtRelation, AtNumber, AtItemEnd, AtBracket, AtFirst, AtComma, AtSecond, AtBracketEnd, AtTextEnd, AtDone, Due, outside}
+use Rattle.ps_text.specs.declared.part.Part.TheVariants as part
+use Rattle.ps_text.specs.ExpectedTokens.{State, outside}
 use Rattle.ps_text.proofs.Frames.{Frame, BegunNot, BegunGroup, BegunAnd, BegunOr, BegunImplies, BegunIff, frame_tokens, opened_of, AreFrames, Settled, Fits, joins}
 
 -- what was derived before, and what is begun
@@ -24,26 +25,26 @@ abbrev pub prob_of : Option Form → Form → Prob
 prob_of None f = record { form = f; given = None }
 prob_of (Some f) g = record { form = f; given = Some g }
 
--- what is due
-abbrev pub due_of : Parse → Due
-due_of InPsat = outside AtPsat
-due_of InVersion = outside AtVersion
-due_of InHeadEnd = outside AtHeadEnd
-due_of (InItem es) = outside AtItem
-due_of (InQueryProb es) = outside AtQueryProb
-due_of (InTextEnd es) = outside AtTextEnd
-due_of (InDone es) = outside AtDone
-due_of (InParen es q) = record { part = AtParen; query = q; given = false; opened = [] }
-due_of (InOperand es q c fs) = record { part = AtOperand; query = q; given = is_some c; opened = opened_of fs }
-due_of (InOperator es q c fs f) = record { part = AtOperator; query = q; given = is_some c; opened = opened_of fs }
-due_of (InRelation es p) = outside AtRelation
-due_of (InBracket es p) = outside AtBracket
-due_of (InFirst es p) = outside AtFirst
-due_of (InNumber es p s) = outside AtNumber
-due_of (InComma es p x) = outside AtComma
-due_of (InSecond es p x) = outside AtSecond
-due_of (InBracketEnd es p x y) = outside AtBracketEnd
-due_of (InItemEnd es e) = outside AtItemEnd
+-- what is expected
+abbrev pub state_of : Parse → State
+state_of InPsat = outside part.Psat
+state_of InVersion = outside part.Version
+state_of InHeadEnd = outside part.HeadEnd
+state_of (InItem es) = outside part.Item
+state_of (InQueryProb es) = outside part.QueryProb
+state_of (InTextEnd es) = outside part.TextEnd
+state_of (InDone es) = outside part.Done
+state_of (InParen es q) = record { part = part.Paren; query = q; given = false; opened = [] }
+state_of (InOperand es q c fs) = record { part = part.Operand; query = q; given = is_some c; opened = opened_of fs }
+state_of (InOperator es q c fs f) = record { part = part.Operator; query = q; given = is_some c; opened = opened_of fs }
+state_of (InRelation es p) = outside part.Relation
+state_of (InBracket es p) = outside part.Bracket
+state_of (InFirst es p) = outside part.First
+state_of (InNumber es p s) = outside part.Number
+state_of (InComma es p x) = outside part.Comma
+state_of (InSecond es p x) = outside part.Second
+state_of (InBracketEnd es p x y) = outside part.BracketEnd
+state_of (InItemEnd es e) = outside part.ItemEnd
 
 -- the tokens so far
 abbrev pub before : List Entry → List Token

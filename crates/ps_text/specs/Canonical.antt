@@ -7,6 +7,7 @@ use Rattle.ps_meaning.specs.Bounds as side
 use Rattle.ps_meaning.specs.Statements as meaning
 use Rattle.ps_meaning.specs.Statements.{Ratio, Statement, Question, Item, Stated, Asked, statements_of, questions_of}
 use Rattle.ps_meaning.specs.Names.{IsName}
+use Rattle.ps_text.specs.declared.limits.TheConstants.{GREATEST_DENOMINATOR}
 use Rattle.ps_text.specs.Tokens.{Numeral, Whole, Quotient, numeral_spelling}
 use Rattle.ps_text.specs.Grammar.{Form, Name, Truth, Falsity, Not, Group, And, Or, Implies, Iff, level, Nests, Prob, Relation, Exactly, AtLeast, AtMost, Within, Entry, Sentence, Query}
 
@@ -104,7 +105,7 @@ HasNames (formula.Or f g) = HasNames f × HasNames g
 HasNames (formula.Implies f g) = HasNames f × HasNames g
 HasNames (formula.Iff f g) = HasNames f × HasNames g
 
--- no more than 100 are ever open in what is written
+-- no more are ever open than may be in what is written
 pub record IsWritable (f : formula.Formula meaning.Name) : Type 0 where
   pub names : HasNames f
   pub nests : Nests 0 (canonical_form f)
@@ -113,11 +114,11 @@ abbrev pub IsWritableGiven : Option (formula.Formula meaning.Name) → Type 0
 IsWritableGiven None = Unit {0}
 IsWritableGiven (Some f) = IsWritable f
 
--- in lowest terms, from 0 to 1, with a denominator of at most 1,000,000
+-- in lowest terms, from 0 to 1, with a denominator within the limit
 pub record IsReduced (r : Ratio) : Type 0 where
   pub lowest : IsGcd r.num r.den 1
   pub some : 0 < r.den
-  pub small : r.den ≤ 1000000
+  pub small : r.den ≤ GREATEST_DENOMINATOR
   pub probability : r.num ≤ r.den
 
 -- an upper value stands with a least one only

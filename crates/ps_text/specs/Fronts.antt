@@ -6,8 +6,8 @@ use Rattle.ps_text.specs.Pieces.{Piece, Blank, Comment, Spelled, texts, Cuts, to
 use Rattle.ps_text.specs.Grammar.{Entry, text_tokens, AreEntries}
 use Rattle.ps_text.specs.Meanings.{AreItems}
 
--- the bytes before this place are a text that means these items, and the blanks and comments behind it
-pub record IsFront (bytes : List ℕ) (items : List Item) (place : ℕ) : Type 0 where
+-- the bytes before this place are a text within the grammar's levels and limits, and the blanks and comments behind it
+pub record IsTextFront (bytes : List ℕ) (place : ℕ) : Type 0 where
   pub pieces : List Piece
   pub rest : List ℕ
   pub entries : List Entry
@@ -15,9 +15,17 @@ pub record IsFront (bytes : List ℕ) (items : List Item) (place : ℕ) : Type 0
   pub cuts : Cuts One pieces rest
   pub derived : tokens pieces ≡ text_tokens entries
   pub within : AreEntries entries
-  pub meant : AreItems entries items
   pub bare : IsBare rest
   pub place_is : place ≡ length (texts pieces)
+
+-- and the text means these items
+pub record IsFront (bytes : List ℕ) (items : List Item) (place : ℕ) : Type 0 where
+  pub text : IsTextFront bytes place
+  pub meant : AreItems text.entries items
+
+-- all of the bytes are a text that means these items
+abbrev pub IsTextOf : List ℕ → List Item → Type 0
+IsTextOf bytes items = IsFront bytes items (length bytes)
 
 -- a symbol of the first form
 abbrev pub is_first_symbol : Symbol → Bool
@@ -66,5 +74,5 @@ AreFirstBlanks (Spelled t ∷ ps) = AreFirstBlanks ps
 -- the same in the first form: sentences such as `P(!a) = 1/2;` alone, with spaces and line feeds
 pub record IsFirstFront (bytes : List ℕ) (items : List Item) (place : ℕ) : Type 0 where
   pub front : IsFront bytes items place
-  pub blanks : AreFirstBlanks front.pieces
-  pub allowed : AreFirstTokens (tokens front.pieces)
+  pub blanks : AreFirstBlanks front.text.pieces
+  pub allowed : AreFirstTokens (tokens front.text.pieces)

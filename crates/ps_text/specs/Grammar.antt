@@ -1,6 +1,7 @@
 -- What tokens derive. A derivation is plain data, and its tokens are a function of it.
 use Rattle.std.specs.Prelude.{◌≡◌, ℕ, ◌+◌, ◌-◌, ◌*◌, ◌^◌, ◌<◌, ◌≤◌, false, List, [], ◌∷◌, ◌++◌, length, Option, Some, None, codes}
 pub use Rattle.ps_meaning.specs.Names.{is_reserved}
+use Rattle.ps_text.specs.declared.limits.TheConstants.{LONGEST_WORD, MOST_OPEN, GREATEST_DENOMINATOR, MOST_DECIMALS}
 use Rattle.ps_text.specs.Tokens.{Token, Word, Number, Sign, Numeral, Whole, Quotient, Decimal, Open, Close, OpenBracket, CloseBracket, Comma, Semicolon, Bang, Ampersand, Bar, Arrow, DoubleArrow, Equals, GreaterEquals, LessEquals}
 
 -- how a formula is written
@@ -32,7 +33,7 @@ level f = 5
 
 -- names are names, and each operand binds tightly enough: `<->`, `|` and `&` group to the left, `->` to the right
 abbrev pub IsForm : Form → Type 0
-IsForm (Name w) = (is_reserved w ≡ false) × (length w ≤ 32)
+IsForm (Name w) = (is_reserved w ≡ false) × (length w ≤ LONGEST_WORD)
 IsForm Truth = Unit {0}
 IsForm Falsity = Unit {0}
 IsForm (Not f) = (5 ≤ level f) × IsForm f
@@ -42,17 +43,17 @@ IsForm (Or f g) = (3 ≤ level f) × (4 ≤ level g) × IsForm f × IsForm g
 IsForm (Implies f g) = (3 ≤ level f) × (2 ≤ level g) × IsForm f × IsForm g
 IsForm (Iff f g) = (1 ≤ level f) × (2 ≤ level g) × IsForm f × IsForm g
 
--- where n are open before, no more than 100 of `!`, `(` and `->` are ever open:
+-- where n are open before, no more of `!`, `(` and `->` are ever open than may be:
 -- a `!` during its operand, a `(` up to its `)`, a `->` during its right side
 abbrev pub Nests : ℕ → Form → Type 0
 Nests n (Name w) = Unit {0}
 Nests n Truth = Unit {0}
 Nests n Falsity = Unit {0}
-Nests n (Not f) = (n < 100) × Nests (n + 1) f
-Nests n (Group f) = (n < 100) × Nests (n + 1) f
+Nests n (Not f) = (n < MOST_OPEN) × Nests (n + 1) f
+Nests n (Group f) = (n < MOST_OPEN) × Nests (n + 1) f
 Nests n (And f g) = Nests n f × Nests n g
 Nests n (Or f g) = Nests n f × Nests n g
-Nests n (Implies f g) = Nests n f × (n < 100) × Nests (n + 1) g
+Nests n (Implies f g) = Nests n f × (n < MOST_OPEN) × Nests (n + 1) g
 Nests n (Iff f g) = Nests n f × Nests n g
 
 -- the probability of a formula, perhaps given a condition
@@ -104,11 +105,11 @@ value_from n (d ∷ ds) = value_from (10 * n + (d - 48)) ds
 abbrev pub value : List ℕ → ℕ
 value ds = value_from 0 ds
 
--- the value is at most 1, the denominator from 1 to 1,000,000, and there are at most 6 decimals
+-- the value is at most 1, the denominator isn't 0, and denominator and decimals are within their limits
 abbrev pub IsProbability : Numeral → Type 0
 IsProbability (Whole ds) = value ds ≤ 1
-IsProbability (Quotient ds es) = (0 < value es) × (value es ≤ 1000000) × (value ds ≤ value es)
-IsProbability (Decimal ds es) = (length es ≤ 6) × (value (ds ++ es) ≤ 10 ^ length es)
+IsProbability (Quotient ds es) = (0 < value es) × (value es ≤ GREATEST_DENOMINATOR) × (value ds ≤ value es)
+IsProbability (Decimal ds es) = (length es ≤ MOST_DECIMALS) × (value (ds ++ es) ≤ 10 ^ length es)
 
 abbrev pub IsGiven : Option Form → Type 0
 IsGiven None = Unit {0}

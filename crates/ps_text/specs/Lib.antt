@@ -1,10 +1,11 @@
+-- Meaning
 pub mod Tokens
 pub mod Pieces
 pub mod Grammar
 pub mod Meanings
 pub mod Fronts
 pub mod Canonical
-pub mod Kinds
-pub mod Due
+pub mod ExpectedTokens
 pub mod Refusals
+pub mod OneAnswer
 pub mod Positions

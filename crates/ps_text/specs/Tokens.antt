@@ -2,6 +2,8 @@
 use Rattle.std.specs.Prelude.{◌≡◌, ℕ, ◌≤◌, Bool, true, false, bytes_eq, List, [], ◌∷◌, ◌++◌, length, IsTrue, codes}
 use Rattle.std.specs.List.{AllByRecursion}
 pub use Rattle.ps_meaning.specs.Names.{is_letter, is_digit, is_word_byte}
+pub use Rattle.ps_text.specs.declared.symbol.Symbol.{Symbol}
+pub use Rattle.ps_text.specs.declared.symbol.Symbol.TheVariants.{Open, Close, OpenBracket, CloseBracket, Comma, Semicolon, Bang, Ampersand, Bar, Arrow, DoubleArrow, Equals, GreaterEquals, LessEquals}
 
 -- a version of the text
 pub data Version : Type 0 where
@@ -12,10 +14,6 @@ pub data Numeral : Type 0 where
   Whole : (digits : List ℕ) → Numeral
   Quotient : (digits below : List ℕ) → Numeral
   Decimal : (digits decimals : List ℕ) → Numeral
-
-pub data Symbol : Type 0 where
-  Open Close OpenBracket CloseBracket Comma Semicolon : Symbol
-  Bang Ampersand Bar Arrow DoubleArrow Equals GreaterEquals LessEquals : Symbol
 
 pub data Token : Type 0 where
   Word : (letters : List ℕ) → Token

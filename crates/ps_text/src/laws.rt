@@ -1,43 +1,71 @@
 //! Laws about the definitions: a call does nothing, and its clauses are the law.
-ghost use Rattle.std.specs.Prelude.{List, ℕ, length};
+ghost use Rattle.std.specs.Prelude.{List, ℕ};
 ghost use Rattle.ps_text.specs.Tokens.{Token};
 ghost use Rattle.ps_text.specs.Pieces.{Cut};
 ghost use Rattle.ps_text.specs.Grammar.{Entry, AreEntries, text_tokens};
-ghost use Rattle.ps_text.specs.Due.{AreDue};
+ghost use Rattle.ps_text.specs.ExpectedTokens.{AreExpected};
 ghost use Rattle.ps_text.specs.Grammar.{IsDerived};
 ghost use Rattle.std.specs.Prelude.{◌≡◌};
 ghost use Rattle.ps_meaning.specs.Statements.{Item, statements_of, questions_of};
-ghost use Rattle.ps_text.specs.Fronts.{IsFront};
+ghost use Rattle.ps_text.specs.Fronts.{IsTextFront, IsFront, IsTextOf};
+ghost use Rattle.ps_text.specs.OneAnswer.{HasOneDerivation, HaveOneMeaning, HasOneFront, MeansOnly};
+ghost use Rattle.ps_text.specs.OneAnswer.{IsRefusedNowhere, HasOneRefusal, Answer, IsAnswer};
 ghost use Rattle.ps_text.specs.Canonical.{canonical_text, sentences_first, AreLawful};
 
-/// The table of due tokens and the grammar say the same: tokens none of which is refused, up to the `;` behind `end`, are those
-/// of a text within the grammar's levels and limits, and each such text's tokens are refused nowhere.
-pub fn due_tokens_are_derived()
-    ensures derived { (tokens : List Token) → AreDue tokens → IsDerived tokens }
-    ensures due { (entries : List Entry) → AreEntries entries → AreDue (text_tokens entries) }
+/// The table of expected tokens and the grammar say the same: tokens none of which is refused, up
+/// to the `;` behind `end`, are those of a text within the grammar's levels and limits, and each
+/// such text's tokens are refused nowhere.
+pub fn expected_tokens_are_derived()
+    ensures derived { (tokens : List Token) → AreExpected tokens → IsDerived tokens }
+    ensures expected { (es : List Entry) → AreEntries es → AreExpected (text_tokens es) }
 {}
 
-/// All bytes are blanks, comments and longest tokens, up to the end or to a place where none of them stands.
+/// All bytes are blanks, comments and longest tokens, up to the end or to a place where none of
+/// them stands.
 pub fn bytes_are_cut()
     ensures { (bytes : List ℕ) → Cut bytes }
 {}
 
-/// At most one text stands at the front of some bytes: its derivation, its meaning and the place behind it are the only ones.
+/// At most one text stands at the front of some bytes: its derivation, its meaning and the place
+/// behind it are the only ones.
 pub fn one_text_stands_at_the_front()
-    ensures derivation { (es fs : List Entry) → AreEntries es → AreEntries fs → text_tokens es ≡ text_tokens fs → es ≡ fs }
-    ensures meaning { (bytes : List ℕ) (is js : List Item) (n m : ℕ) → IsFront bytes is n → IsFront bytes js m → is ≡ js }
-    ensures place { (bytes : List ℕ) (is js : List Item) (n m : ℕ) → IsFront bytes is n → IsFront bytes js m → n ≡ m }
+    ensures derivation { (tokens : List Token) → HasOneDerivation tokens }
+    ensures front { (bytes : List ℕ) → HasOneFront bytes }
 {}
 
-/// The canonical text of lawful items is a text that means these items and no others, and ends where it ends.
+/// Entries mean one list of items at most.
+pub fn entries_have_one_meaning()
+    ensures { (entries : List Entry) → AreEntries entries → HaveOneMeaning entries }
+{}
+
+/// Where a text stands at the front, the form isn't refused.
+pub fn a_front_excludes_a_refusal()
+    ensures { (bytes : List ℕ) (place : ℕ) → IsTextFront bytes place → IsRefusedNowhere bytes }
+{}
+
+/// The form of some bytes is refused at one place at most, and for one kind.
+pub fn one_refusal_at_most()
+    ensures { (bytes : List ℕ) → HasOneRefusal bytes }
+{}
+
+/// Two answers to the same bytes are the same: the items of the text at the front and where it
+/// ends, or why and where the form is refused.
+pub fn bytes_have_one_answer()
+    ensures { (bytes : List ℕ) (a b : Answer) → IsAnswer bytes a → IsAnswer bytes b → a ≡ b }
+{}
+
+/// The canonical text of lawful items is a text that means these items and no others, and ends
+/// where it ends.
 pub fn canonical_text_means_its_items()
-    ensures front { (items : List Item) → AreLawful items → IsFront (canonical_text items) items (length (canonical_text items)) }
-    ensures only { (items js : List Item) (n : ℕ) → AreLawful items → IsFront (canonical_text items) js n → (js ≡ items) × (n ≡ length (canonical_text items)) }
+    ensures front { (is : List Item) → AreLawful is → IsTextOf (canonical_text is) is }
+    ensures only { (is : List Item) → AreLawful is → MeansOnly (canonical_text is) is }
 {}
 
-/// What a text means is lawful, and so are its sentences and then its queries, which are the same sentences and queries.
+/// What a text means is lawful, and so are its sentences and then its queries, which are the same
+/// sentences and queries.
 pub fn what_is_read_is_lawful()
-    ensures lawful { (bytes : List ℕ) (items : List Item) (n : ℕ) → IsFront bytes items n → AreLawful items }
-    ensures sorted { (items : List Item) → AreLawful items → AreLawful (sentences_first items) }
-    ensures same { (items : List Item) → (statements_of (sentences_first items) ≡ statements_of items) × (questions_of (sentences_first items) ≡ questions_of items) }
+    ensures lawful { (bytes : List ℕ) (is : List Item) (n : ℕ) → IsFront bytes is n → AreLawful is }
+    ensures sorted { (is : List Item) → AreLawful is → AreLawful (sentences_first is) }
+    ensures sentences { (is : List Item) → statements_of (sentences_first is) ≡ statements_of is }
+    ensures queries { (is : List Item) → questions_of (sentences_first is) ≡ questions_of is }
 {}

@@ -1,9 +1,19 @@
-//! The problem text: its tokens, its grammar, what is due and what is refused in it, and what it states and asks.
+//! The problem text: its tokens, its grammar, what is expected and what is refused in it, and what it
+//! states and asks.
 #![tactic(auto)]
 
+mod kind;
 mod laws;
+mod limits;
+mod part;
+mod symbol;
 
+pub use kind::{ReadKind, What};
 pub use laws::{
-    bytes_are_cut, canonical_text_means_its_items, due_tokens_are_derived,
+    a_front_excludes_a_refusal, bytes_have_one_answer, entries_have_one_meaning, one_refusal_at_most,
+    bytes_are_cut, canonical_text_means_its_items, expected_tokens_are_derived,
     one_text_stands_at_the_front, what_is_read_is_lawful,
 };
+pub use limits::{GREATEST_DENOMINATOR, LONGEST_WORD, MOST_DECIMALS, MOST_OPEN};
+pub use part::{Opening, Part};
+pub use symbol::Symbol;

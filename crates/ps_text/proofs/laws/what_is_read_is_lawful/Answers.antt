@@ -8,5 +8,8 @@ returns-clause-lawful c = front_lawful
 pub returns-clause-sorted : goal.returns-clause-sorted
 returns-clause-sorted c = sentences_first_lawful
 
-pub returns-clause-same : goal.returns-clause-same
-returns-clause-same c = λ items. (same_statements items, same_questions items)
+pub returns-clause-sentences : goal.returns-clause-sentences
+returns-clause-sentences c = same_statements
+
+pub returns-clause-queries : goal.returns-clause-queries
+returns-clause-queries c = same_questions

@@ -1,0 +1,56 @@
+//! Why a text isn't read.
+
+/// What is expected at a place.
+#[derive(Clone, Copy, Debug, PartialEq, Eq)]
+pub enum What {
+    /// `psat`, at the start.
+    Psat,
+    /// The version, behind `psat`.
+    Version,
+    /// `;`, behind the version, a relation, a query's probability and `end`.
+    Semicolon,
+    /// `P`, `query` or `end`.
+    Item,
+    /// `P`, behind `query`.
+    Prob,
+    /// `(`, behind `P`.
+    Paren,
+    /// An operand of a formula.
+    Formula,
+    /// A connective, `)`, or `given` where it may stand.
+    Operator,
+    /// `=`, `>=`, `<=` or `in`.
+    Relation,
+    Number,
+    /// `[`, behind `in`.
+    Bracket,
+    /// `,`, behind an interval's first number.
+    Comma,
+    /// `]`, behind an interval's second number.
+    BracketEnd,
+}
+
+/// Why a text isn't read.
+#[derive(Clone, Copy, Debug, PartialEq, Eq)]
+pub enum ReadKind {
+    /// No token begins with the byte.
+    BadByte,
+    /// The token isn't one that is expected.
+    Expected(What),
+    /// A word of more than 32 bytes.
+    NameTooLong,
+    /// The version isn't spelled `1`.
+    VersionUnknown,
+    /// A denominator of 0.
+    ZeroDenominator,
+    /// A denominator of more than 1,000,000.
+    DenominatorTooLarge,
+    /// More than 6 digits behind the point.
+    TooManyDecimals,
+    /// A value of more than 1.
+    NumberOutOfRange,
+    /// The token would open the 101st nesting.
+    TooDeep,
+    /// The bytes end where a token is expected.
+    EndMissing,
+}

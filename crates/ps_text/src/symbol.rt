@@ -1,0 +1,20 @@
+//! Symbols.
+
+/// The symbols `(` `)` `[` `]` `,` `;` `!` `&` `|` `->` `<->` `=` `>=` `<=`, in this order.
+#[derive(Clone, Copy, Debug, PartialEq, Eq)]
+pub enum Symbol {
+    Open,
+    Close,
+    OpenBracket,
+    CloseBracket,
+    Comma,
+    Semicolon,
+    Bang,
+    Ampersand,
+    Bar,
+    Arrow,
+    DoubleArrow,
+    Equals,
+    GreaterEquals,
+    LessEquals,
+}
