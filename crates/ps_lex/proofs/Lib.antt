@@ -1,0 +1,5 @@
+pub mod Words
+pub mod Tokens
+pub mod Told
+pub mod Places
+pub mod Begun

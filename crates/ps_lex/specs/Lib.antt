@@ -1,0 +1,7 @@
+-- Meaning
+pub mod Told
+-- Bridge: what a lexer keeps of bytes and of tokens
+pub mod Counted
+pub mod Places
+pub mod Lexing
+pub mod Seen

@@ -1,0 +1,126 @@
+//! Cuts bytes into tokens.
+ghost use Rattle.std.specs.Prelude.{◌≡◌, ◌-◌, ◌^◌};
+ghost use Rattle.ps_lex.specs.Places.{IsWithin};
+ghost use Rattle.ps_lex.specs.Lexing.{new_lexer, token_ended, with_byte, last_token};
+ghost use Rattle.ps_lex.specs.Lexing.{last_bad, bad_place, is_within_token};
+
+use crate::mode::Mode;
+use crate::step::Step;
+use crate::stepping::step;
+use crate::{Numeral, Position, Token};
+use std::marker::Model;
+
+/// Takes bytes, one after the other, and tells each token once the byte behind it, or the end,
+/// shows that it is whole. Before each byte `began` tells where a token that ends there began. At
+/// the end `finish` tells the last token. Once `bad` tells a place, no further token is told.
+#[derive(Debug, Drop)]
+pub struct Lexer {
+    mode: Mode,
+    began: Position,
+    here: Position,
+}
+
+impl Model for Lexer {
+    ghost use Rattle.ps_lex.specs.Lexing.{LexerState, IsCappedMode};
+
+    ghost Value = { LexerState };
+
+    ghost view = { λ s. record { mode = s.mode; began = s.began; here = s.here } };
+
+    ghost invariant = { λ s. IsCappedMode s.mode };
+}
+
+impl Lexer {
+    /// Before the first byte.
+    pub fn new() -> Lexer
+        ensures { result ≡ new_lexer }
+    {
+        Lexer {
+            mode: Mode::Between,
+            began: Position::start(),
+            here: Position::start(),
+        }
+    }
+
+    /// Takes one more byte, and answers the token that ended before it. Lines and columns go up to
+    /// 2^32 - 1.
+    #[tactic(auto, unfolding(crate::specs::Lexing::token_ended, crate::specs::Lexing::with_byte))]
+    pub fn take(&mut self, byte: u8) -> Option<Token>
+        requires room { IsWithin (2 ^ 32 - 2) self.old.here }
+        ensures token { result ≡ token_ended self.old byte }
+        ensures state { self.new ≡ with_byte self.old byte }
+    {
+        let mode = std::mem::replace(&mut self.mode, Mode::Between);
+        let Step { mode, began, ended } = step(mode, self.began, self.here, byte);
+        self.mode = mode;
+        self.began = began;
+        self.here = self.here.behind(byte);
+        ended
+    }
+
+    /// The token that ends with the bytes, if they end here.
+    pub fn finish(self) -> Option<Token>
+        ensures { result ≡ last_token self.mode }
+    {
+        match self.mode {
+            Mode::Word(letters) => Some(Token::Word(letters)),
+            Mode::Whole(digits)
+            | Mode::Slash { over: digits, .. }
+            | Mode::Point { whole: digits, .. } => { Some(Token::Number(Numeral::Whole(digits))) }
+            Mode::Quotient { over, under } => Some(Token::Number(Numeral::Quotient {
+                over,
+                under,
+            })),
+            Mode::Decimal { all, decimals } => Some(Token::Number(Numeral::Decimal {
+                all,
+                decimals,
+            })),
+            Mode::Sign(symbol) => Some(Token::Sign(symbol)),
+            _ => None,
+        }
+    }
+
+    /// The place where no token begins, if the bytes end here.
+    pub fn last_bad(&self) -> Option<Position>
+        ensures { result ≡ last_bad self.now.mode self.now.began }
+    {
+        match self.mode {
+            Mode::Slash { slash, .. } => Some(slash),
+            Mode::Point { point, .. } => Some(point),
+            Mode::Minus | Mode::Less | Mode::LessMinus | Mode::Greater => Some(self.began),
+            Mode::Bad(place) => Some(place),
+            _ => None,
+        }
+    }
+
+    /// The place where no token begins, if the bytes so far show one.
+    pub fn bad(&self) -> Option<Position>
+        ensures { result ≡ bad_place self.now.mode }
+    {
+        match self.mode {
+            Mode::Bad(place) => Some(place),
+            _ => None,
+        }
+    }
+
+    /// Where the token began that isn't whole yet.
+    pub fn began(&self) -> Position
+        ensures { result ≡ self.now.began }
+    {
+        self.began
+    }
+
+    /// Whether a token began that isn't whole yet.
+    pub fn is_within_token(&self) -> bool
+        ensures { result ≡ is_within_token self.now.mode }
+    {
+        !matches!(self.mode, Mode::Between | Mode::Comment | Mode::Bad(_))
+    }
+
+    /// Where the next byte stands.
+    pub fn here(&self) -> Position
+        ensures { result ≡ self.now.here }
+    {
+        self.here
+    }
+}

@@ -1,0 +1,22 @@
+//! A lexer: cuts bytes into the tokens of problem texts, one byte after the other. It takes no memory.
+#![tactic(auto)]
+
+mod bytes;
+mod digits;
+mod laws;
+mod lexer;
+mod mode;
+mod position;
+mod step;
+mod stepping;
+#[cfg(test)]
+mod tests;
+mod token;
+mod word;
+
+pub use digits::Digits;
+pub use laws::pieces_are_told;
+pub use lexer::Lexer;
+pub use position::Position;
+pub use token::{Numeral, Token};
+pub use word::{KEPT, Word};

@@ -1,0 +1,45 @@
+//! Positions in a text.
+ghost use Rattle.std.specs.Prelude.{◌≡◌, ◌-◌, ◌^◌};
+ghost use Rattle.ps_lex.specs.Places.{start, behind, IsWithin};
+
+/// A line and a column, both from 1 on, and how many bytes stand before; a column counts bytes.
+#[derive(Clone, Copy, Debug, PartialEq, Eq)]
+pub struct Position {
+    pub line: u32,
+    pub column: u32,
+    pub offset: u32,
+}
+
+impl Position {
+    /// Where a text begins.
+    pub(crate) fn start() -> Position
+        ensures { result ≡ start }
+    {
+        Position {
+            line: 1,
+            column: 1,
+            offset: 0,
+        }
+    }
+
+    /// The position behind a byte that stands here.
+    #[tactic(auto, unfolding(crate::specs::Places::behind))]
+    pub(crate) fn behind(self, byte: u8) -> Position
+        requires room { IsWithin (2 ^ 32 - 2) self }
+        ensures { result ≡ behind self byte }
+    {
+        if byte == b'\n' {
+            Position {
+                line: self.line + 1,
+                column: 1,
+                offset: self.offset + 1,
+            }
+        } else {
+            Position {
+                line: self.line,
+                column: self.column + 1,
+                offset: self.offset + 1,
+            }
+        }
+    }
+}

@@ -1,0 +1,58 @@
+//! A word.
+ghost use Rattle.std.specs.Prelude.{◌≡◌, ◌≤◌, [], ◌∷◌, length};
+ghost use Rattle.ps_lex.specs.Lexing.{letter_kept};
+
+use ps_text::LONGEST_WORD;
+use std::marker::Model;
+
+/// How many bytes of a word are kept: one more than a word may have.
+pub const KEPT: usize = LONGEST_WORD + 1;
+
+/// The first bytes of a word, as many as tell whether it is too long. They lie in place, so a word
+/// takes no memory.
+#[derive(Debug, Drop)]
+pub struct Word {
+    bytes: [u8; KEPT],
+    len: usize,
+}
+
+impl Model for Word {
+    ghost use Rattle.std.specs.Prelude.{ℕ, List, ◌≤◌, take};
+
+    ghost Value = { List ℕ };
+
+    ghost view = { λ w. take w.len w.bytes };
+
+    ghost invariant = { λ w. w.len ≤ 33 };
+}
+
+impl Word {
+    /// A word of no byte yet.
+    pub(crate) fn empty() -> Word
+        ensures { result ≡ [] }
+    {
+        Word {
+            bytes: [0; KEPT],
+            len: 0,
+        }
+    }
+
+    /// Takes one more byte, which is kept where there is room.
+    pub(crate) fn push(&mut self, byte: u8)
+        ensures { self.new ≡ letter_kept self.old byte }
+    {
+        let len = self.len;
+        if len < KEPT {
+            self.bytes[len] = byte;
+            self.len = len + 1;
+        }
+    }
+
+    /// The bytes that are kept.
+    pub fn as_slice(&self) -> &[u8]
+        ensures value { result.now ≡ self.now }
+        ensures kept { length result.now ≤ 33 }
+    {
+        &self.bytes[..self.len]
+    }
+}

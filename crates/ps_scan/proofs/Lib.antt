@@ -1,4 +1,0 @@
-pub mod Words
-pub mod Tokens
-pub mod Told
-pub mod Places

@@ -1,4 +1,0 @@
-pub mod Counted
-pub mod Places
-pub mod Scanning
-pub mod Seen
