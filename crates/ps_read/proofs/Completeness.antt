@@ -4,7 +4,8 @@ use Rattle.std.proofs.lemmas.Bool.Decides.{nat_tests}
 use Rattle.std.proofs.lemmas.List.{append-nil}
 use Rattle.std.specs.Prelude.{◌==◌, if◌then◌else◌, codes}
 use Rattle.ps_meaning.specs.Statements.{Ratio, Item}
-use Rattle.ps_text.specs.Tokens.{Token, Word, Number, Sign, Whole, Quotient, Open, Close, Semicolon, Bang, Equals, is_letter, IsWord}
+use Rattle.ps_text.specs.Tokens.{Token, Word, Number, Sign, Whole, Quotient, is_letter, IsWord}
+use Rattle.ps_text.specs.declared.symbol.Symbol.TheVariants.{Open, Close, Semicolon, Bang, Equals}
 use Rattle.ps_text.specs.Pieces.{texts, IsBare}
 use Rattle.ps_text.specs.Grammar.{Form, Name, Truth, Falsity, Not, Group, And, Or, Implies, Iff, Prob, Exactly, Entry, Sentence, Query, spelled, given_tokens, relation_tokens, entry_tokens, entries_tokens, text_tokens, IsForm, Nests, IsEntry, AreEntries, is_reserved, IsProbability}
 use Rattle.ps_text.specs.Meanings.{IsItem, AreItems, IsValue}
@@ -265,13 +266,13 @@ text_told bytes es items rest k w m a bare t =
 -- a text of the first form with at most 100 sentences is read
 pub text_read : (bytes : List ℕ) (items : List Item) (place : ℕ) → IsFirstFront bytes items place → length items ≤ 100 → IsReadText bytes items place
 text_read bytes items place f k =
-    let t : Tells bytes (text_tokens f.front.entries) f.front.rest = record { pieces = f.front.pieces; is = f.front.is; cuts = f.front.cuts; blanks = f.blanks; told = f.front.derived } in
-    let a : AreFirstTokens (text_tokens f.front.entries) = subst (λ x. AreFirstTokens x) f.front.derived f.allowed in
-    let x = text_told bytes f.front.entries items f.front.rest k f.front.within f.front.meant a f.front.bare t in
+    let t : Tells bytes (text_tokens f.front.text.entries) f.front.text.rest = record { pieces = f.front.text.pieces; is = f.front.text.is; cuts = f.front.text.cuts; blanks = f.blanks; told = f.front.text.derived } in
+    let a : AreFirstTokens (text_tokens f.front.text.entries) = subst (λ x. AreFirstTokens x) f.front.text.derived f.allowed in
+    let x = text_told bytes f.front.text.entries items f.front.text.rest k f.front.text.within f.front.meant a f.front.text.bare t in
     record {
       sentences = x.0;
-      rest = f.front.rest;
+      rest = f.front.text.rest;
       read = x.1;
       items_are = x.2;
-      place_is = let e = ap length f.front.is in let l = length-append (texts f.front.pieces) f.front.rest in let p = f.front.place_is in omega arith;
+      place_is = let e = ap length f.front.text.is in let l = length-append (texts f.front.text.pieces) f.front.text.rest in let p = f.front.text.place_is in omega arith;
     }

@@ -4,7 +4,8 @@ use Rattle.std.specs.Prelude.{◌||◌, not, bytes_eq, codes}
 use Rattle.ps_meaning.specs.Formula as formula
 use Rattle.ps_meaning.specs.Bounds as side
 use Rattle.ps_meaning.specs.Statements.{Name as AtomName, Ratio, Statement, Item, Stated, Asked}
-use Rattle.ps_text.specs.Tokens.{Token, Word, Number, Sign, Whole, Quotient, Decimal, Open, Close, Semicolon, Bang, Ampersand, Bar, Arrow, DoubleArrow, Equals, is_the_word}
+use Rattle.ps_text.specs.Tokens.{Token, Word, Number, Sign, Whole, Quotient, Decimal, is_the_word}
+use Rattle.ps_text.specs.declared.symbol.Symbol.TheVariants.{Open, Close, Semicolon, Bang, Ampersand, Bar, Arrow, DoubleArrow, Equals}
 use Rattle.ps_text.specs.Grammar.{Form, Name, Truth, Falsity, Not, Group, And, Or, Implies, Iff, spelled, level, is_reserved, IsForm, Nests, Prob, Relation, Exactly, AtLeast, AtMost, Within, Entry, Sentence, given_tokens, relation_tokens, entry_tokens, IsProbability, IsEntry}
 use Rattle.ps_text.specs.Meanings.{formula_of, given_of, IsValue, IsItem}
 use Rattle.ps_text.specs.Fronts.{is_first_token, is_first_word, AreFirstAfter}

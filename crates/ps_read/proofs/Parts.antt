@@ -4,7 +4,8 @@ use Rattle.std.proofs.lemmas.Bool.Decides.{nat_tests}
 use Rattle.std.proofs.lemmas.List.{take-append-drop, take_at, drop_at}
 use Rattle.std.proofs.lemmas.Slice.Eq.{bytes_eq-Decides}
 use Rattle.std.specs.Prelude.{nat_le, ◌==◌, ◌&&◌, not, bytes_eq, if◌then◌else◌}
-use Rattle.ps_text.specs.Tokens.{Word, Sign, Symbol, is_letter, is_word_byte, IsWord, symbol_spelling}
+use Rattle.ps_text.specs.Tokens.{Word, Sign, is_letter, is_word_byte, IsWord, symbol_spelling}
+use Rattle.ps_text.specs.declared.symbol.Symbol.{Symbol}
 use Rattle.ps_text.specs.Grammar.{is_reserved}
 use Rattle.ps_text.proofs.Spans.{starts, Passes, same_byte, both, letter_goes, word_passes}
 use Rattle.ps_read.specs.Reading.{◌>>=◌, drop_blanks, byte_at, symbol_at, prefix, split_word, word_at, keyword_at, name_at}

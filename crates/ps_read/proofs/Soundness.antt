@@ -5,7 +5,8 @@ use Rattle.std.proofs.lemmas.List.{append-nil}
 use Rattle.std.proofs.lemmas.List.Elements.{All-nil, All-cons}
 use Rattle.std.specs.Prelude.{◌==◌, if◌then◌else◌, codes, All, ◌⊎◌}
 use Rattle.ps_meaning.specs.Statements.{Item}
-use Rattle.ps_text.specs.Tokens.{Token, Word, Number, Sign, Whole, Quotient, Open, Close, Semicolon, Bang, Equals}
+use Rattle.ps_text.specs.Tokens.{Token, Word, Number, Sign, Whole, Quotient}
+use Rattle.ps_text.specs.declared.symbol.Symbol.TheVariants.{Open, Close, Semicolon, Bang, Equals}
 use Rattle.ps_text.specs.Pieces.{texts, IsBare}
 use Rattle.ps_text.specs.Grammar.{Entry, Exactly, spelled, entry_tokens, entries_tokens, text_tokens, AreEntries, IsProbability}
 use Rattle.ps_text.specs.Meanings.{AreItems, IsValue}
@@ -234,16 +235,18 @@ pub record IsToldFront (bytes : List ℕ) (entries : List Entry) (rest : List �
 pub front_of : (bytes : List ℕ) (entries : List Entry) (rest : List ℕ) (items : List Item) → IsToldFront bytes entries rest → AreItems entries items → IsFirstFront bytes items (length bytes - length rest)
 front_of bytes entries rest items t m = record {
   front = record {
-    pieces = t.told.pieces;
-    rest = rest;
-    entries = entries;
-    is = t.told.is;
-    cuts = t.told.cuts;
-    derived = t.told.told;
-    within = t.within;
+    text = record {
+      pieces = t.told.pieces;
+      rest = rest;
+      entries = entries;
+      is = t.told.is;
+      cuts = t.told.cuts;
+      derived = t.told.told;
+      within = t.within;
+      bare = t.bare;
+      place_is = let e = ap length t.told.is in let l = length-append (texts t.told.pieces) rest in omega arith;
+    };
     meant = m;
-    bare = t.bare;
-    place_is = let e = ap length t.told.is in let l = length-append (texts t.told.pieces) rest in omega arith;
   };
   blanks = t.told.blanks;
   allowed = subst (λ x. AreFirstTokens x) (sym t.told.told) t.allowed;

@@ -2,7 +2,9 @@
 use Rattle.std.proofs.Common.{◌≡◌, ℕ, Bool, true, false, List, [], ◌∷◌, ◌++◌, refl, sym, ap, subst, ◌∙◌, arith, append_assoc}
 use Rattle.std.proofs.lemmas.Bool.Decides.{nat_tests}
 use Rattle.std.specs.Prelude.{◌==◌, ◌||◌, not, if◌then◌else◌}
-use Rattle.ps_text.specs.Tokens.{One, Token, Word, Number, Sign, Symbol, Open, is_letter, is_digit, IsToken, IsLongest, spelling, numeral_spelling, symbol_spelling}
+use Rattle.ps_text.specs.Tokens.{One, Token, Word, Number, Sign, is_letter, is_digit, IsToken, IsLongest, spelling, numeral_spelling, symbol_spelling}
+use Rattle.ps_text.specs.declared.symbol.Symbol.{Symbol}
+use Rattle.ps_text.specs.declared.symbol.Symbol.TheVariants.{Open}
 use Rattle.ps_text.specs.Pieces.{Piece, Blank, Comment, Spelled, is_blank, texts, Cuts, tokens, IsBare}
 use Rattle.ps_text.specs.Fronts.{AreFirstBlanks}
 use Rattle.ps_text.proofs.Spans.{starts, false_true, word_starts}

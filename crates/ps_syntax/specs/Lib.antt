@@ -1,2 +1,4 @@
-pub mod Judging
+-- Meaning
 pub mod Syntax
+-- Bridge: the answer that is worked out token by token
+pub mod Judging

@@ -2,9 +2,9 @@
 ghost use Rattle.std.specs.Prelude.{◌≡◌};
 ghost use Rattle.ps_syntax.specs.declared.error.SyntaxError.TheVariants as errors;
 
-use ps_due::ReadKind;
 use ps_io::NoMemory;
-use ps_scan::Position;
+use ps_lex::Position;
+use ps_text::ReadKind;
 
 /// Why a text hasn't the form of a problem.
 #[derive(Clone, Copy, Debug, PartialEq, Eq)]

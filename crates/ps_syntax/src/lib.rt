@@ -1,4 +1,5 @@
-//! Tells whether bytes begin with a text of a problem's form, and else the first place that is refused.
+//! Tells whether bytes begin with a text of a problem's form, and else the first place that is
+//! refused.
 #![tactic(auto)]
 
 mod error;

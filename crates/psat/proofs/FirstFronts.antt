@@ -4,7 +4,8 @@ use lib.Dec.{ltb}
 use Rattle.std.proofs.lemmas.Bool.{false≢true, ltb-false}
 use Rattle.ps_meaning.specs.Formula.{Formula}
 use Rattle.ps_meaning.specs.Statements.{Name, Statement, Item, Stated, Asked}
-use Rattle.ps_text.specs.Tokens.{Token, Word, Sign, Semicolon}
+use Rattle.ps_text.specs.Tokens.{Token, Word, Sign}
+use Rattle.ps_text.specs.declared.symbol.Symbol.TheVariants.{Semicolon}
 use Rattle.ps_text.specs.Pieces.{texts}
 use Rattle.ps_text.specs.Grammar.{Entry, Sentence, Query, entry_tokens, entries_tokens, text_tokens}
 use Rattle.ps_text.specs.Meanings.{AreItems}
@@ -40,8 +41,8 @@ stated before (Query p ∷ es) us (Asked q ∷ items) h m = absurd (false≢true
 
 front-stated : (bytes : List ℕ) (items : List Item) (place : ℕ) → IsFirstFront bytes items place → AreStated items
 front-stated bytes items place h =
-    let first : AreFirstTokens (text_tokens h.front.entries) = subst (λ (x : List Token). AreFirstTokens x) h.front.derived h.allowed in
-    stated (Sign Semicolon) h.front.entries (Word (codes "end") ∷ Sign Semicolon ∷ []) items first.1.2.2 h.front.meant
+    let first : AreFirstTokens (text_tokens h.front.text.entries) = subst (λ (x : List Token). AreFirstTokens x) h.front.text.derived h.allowed in
+    stated (Sign Semicolon) h.front.text.entries (Word (codes "end") ∷ Sign Semicolon ∷ []) items first.1.2.2 h.front.meant
 
 count_least : (s : Statement) → 1 ≤ count_bounds s
 count_least s = by (is_some s.upper)
@@ -91,5 +92,5 @@ few-items bytes items place fs h e =
 -- the text lies within the bytes
 pub front-within : (bytes : List ℕ) (items : List Item) (place : ℕ) → IsFirstFront bytes items place → place ≤ length bytes
 front-within bytes items place h =
-    let all : length bytes ≡ length (texts h.front.pieces) + length h.front.rest = ap length h.front.is ∙ length-append (texts h.front.pieces) h.front.rest in
-    omega (arith, h.front.place_is)
+    let all : length bytes ≡ length (texts h.front.text.pieces) + length h.front.text.rest = ap length h.front.text.is ∙ length-append (texts h.front.text.pieces) h.front.text.rest in
+    omega (arith, h.front.text.place_is)

@@ -1,3 +1,0 @@
-pub mod Figures
-pub mod Openings
-pub mod Seen

@@ -1,0 +1,3 @@
+pub mod Figures
+pub mod Groups
+pub mod Seen
