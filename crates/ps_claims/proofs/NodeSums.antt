@@ -17,8 +17,8 @@ use Rattle.ps_problem.specs.Problems.{tree_at, given_at, bound_of, IsBoth, HasNo
 use Rattle.ps_steps.specs.Weights.{Weighted, true_weight}
 use Rattle.ps_steps.specs.Assignments.{holds}
 use Rattle.ps_forms.specs.Extensions.{extension}
-use Rattle.ps_forms.specs.Clauses.{yes}
-use Rattle.ps_forms.proofs.Tidy.{holds-yes}
+use Rattle.ps_forms.specs.Clauses.{positive}
+use Rattle.ps_forms.proofs.Tidy.{holds-positive}
 use Rattle.ps_entailment.specs.Queries.{Query}
 use Rattle.ps_claims.specs.Duals.{Dual, ClaimKind, Nothing, Lower, Upper, sum_of_rows, claimed_in, combination}
 use Rattle.ps_claims.specs.Validity.{query_of}
@@ -32,8 +32,8 @@ value-plus : (v : List Bool) (c d : Combination) → value_under v (plus c d) �
 value-plus v c d = omega (arith, ints, true_weight-append v c.terms d.terms)
 
 -- the literal of a node is true in an extension where its tree is
-node-holds : (ns : List Node) (w : World) (i : ℕ) → i < length ns → holds (extension ns w) (yes i) ≡ is_true (tree_at ns i) w
-node-holds ns w i lt = holds-yes (truths ns w) i ∙ get_or_default (truths ns w) i false true (rw (length-truths ns w) lt) ∙ truths-at ns w i
+node-holds : (ns : List Node) (w : World) (i : ℕ) → i < length ns → holds (extension ns w) (positive i) ≡ is_true (tree_at ns i) w
+node-holds ns w i lt = holds-positive (truths ns w) i ∙ get_or_default (truths ns w) i false true (rw (length-truths ns w) lt) ∙ truths-at ns w i
 
 times-bool : (b : Bool) (k : ℤ) → (pos 0 +ℤ (cond b k (pos 0) +ℤ pos 0)) ≡ (k *ℤ cond b (pos 1) (pos 0))
 times-bool true k = omega (arith, ints, mul-one k)

@@ -1,23 +1,39 @@
--- Forms stay settled by their atoms.
-use Rattle.std.proofs.Common.{◌≡◌, ℕ, Bool, Result, Ok, Err, List, [], ◌∷◌, ◌++◌, length, map, OnOk, OnErr}
+-- What a clause form keeps as it is made and as clauses are added.
+use Rattle.std.proofs.Common.{◌≡◌, ℕ, ◌<◌, ◌≤◌, ℤ, Bool, Result, Ok, Err, List, [], ◌∷◌, ◌++◌, length, map, OnOk, OnErr, arith}
+use Rattle.std.specs.List.{All}
+use Rattle.std.proofs.lemmas.List.{length-append}
+use Rattle.std.proofs.lemmas.List.Elements.{All-nil}
 use Rattle.ps_formula.specs.declared.node.Node.{Node}
 use Rattle.ps_formula.specs.Nodes.{AreNodes}
+use Rattle.ps_steps.specs.Assignments.{place, AreDifferent}
 use Rattle.ps_steps.specs.Constraints.{Constraint}
 use Rattle.ps_steps.specs.Weights.{clause_of}
+use Rattle.ps_pb.specs.Limits.{most_variables}
 use Rattle.ps_forms.specs.Clauses.{clause_form}
-use Rattle.ps_forms.specs.Forms.{Form, is_other}
-use Rattle.ps_forms.specs.Settled.{IsSettled}
-use Rattle.ps_forms.proofs.Settling.{nodes_settled, more_settled}
+use Rattle.ps_forms.specs.Forms.{form_over, empty_form, is_other, IsClause}
+use Rattle.ps_forms.proofs.Settling.{nodes_settled, new_settled, more_settled}
+use Rattle.ps_forms.proofs.Inside.{nodes-clauses, clause-more}
+use Rattle.ps_clause.specs.Limits.{most_clauses}
+use Rattle.ps_clause.specs.Kept.{IsKept}
+use Rattle.ps_clause.proofs.Nodes.{form_length}
 
-abbrev pub form : ℕ → List Bool → List Constraint → Form
-form variables others clauses = record { variables = variables; others = others; clauses = clauses }
+pub kept-empty : (variables : ℕ) → variables ≤ most_variables → IsKept (empty_form variables)
+kept-empty variables h = record { most = h; few = omega arith; settled = new_settled variables; clauses = All-nil (IsClause variables) }
 
-pub of_nodes : (ns : List Node) (variables : ℕ) (others : List Bool) (clauses : List Constraint) → AreNodes ns
-    → variables ≡ length ns → others ≡ map is_other ns → clauses ≡ map clause_of (clause_form ns) → IsSettled (form variables others clauses)
-of_nodes ns variables others clauses are v o c = rw (v, o, c) (nodes_settled ns are)
+pub kept-nodes : (ns : List Node) (variables : ℕ) (others : List Bool) (clauses : List Constraint) → AreNodes ns → length ns ≤ most_variables
+    → variables ≡ length ns → others ≡ map is_other ns → clauses ≡ map clause_of (clause_form ns) → IsKept (form_over variables others clauses)
+kept-nodes ns variables others clauses are h v o c =
+    rw (v, o, c) (record { most = h; few = omega (arith, h, form_length ns); settled = nodes_settled ns are; clauses = nodes-clauses ns are })
 
 -- after a clause was added, or wasn't
-pub added : {E : Type 0} (r : Result (Unit {0}) E) (variables : ℕ) (others : List Bool) (old new : List Constraint) (c : Constraint)
-    → OnOk r (new ≡ old ++ c ∷ []) → OnErr r (new ≡ old) → IsSettled (form variables others old) → IsSettled (form variables others new)
-added (Ok u) variables others old new c ok err h = rw ok (more_settled (form variables others old) c h)
-added (Err e) variables others old new c ok err h = rw err h
+pub kept-added : {E : Type 0} (r : Result (Unit {0}) E) (variables : ℕ) (others : List Bool) (old new : List Constraint) (c : Constraint) (lits : List ℤ)
+    → OnOk r (new ≡ old ++ c ∷ []) → OnErr r (new ≡ old) → c ≡ clause_of lits → All (λ l. place l < variables) lits → AreDifferent lits → length old < most_clauses
+    → IsKept (form_over variables others old) → IsKept (form_over variables others new)
+kept-added (Ok u) variables others old new c lits ok err is within different room h =
+    rw (ok, is) (record {
+      most = h.most;
+      few = omega (arith, room, length-append old (clause_of lits ∷ []));
+      settled = more_settled (form_over variables others old) (clause_of lits) h.settled;
+      clauses = clause-more (form_over variables others old) lits h.clauses within different;
+    })
+kept-added (Err e) variables others old new c lits ok err is within different room h = rw err h

@@ -1,4 +1,3 @@
-pub mod Inside
 pub mod Tidied
 pub mod Nodes
 pub mod Assigned

@@ -65,3 +65,5 @@ once_new ls i d lt new = rw (take_more ls i d lt) (once_push (take i ls) (get_or
 pub once_old : (ls : Clause) (i : ℕ) (d : ℤ) → i < length ls → list_any (int_eq (get_or ls i d)) (once (take i ls)) ≡ true
     → once (take (i + 1) ls) ≡ once (take i ls)
 once_old ls i d lt old = rw (take_more ls i d lt) (once_push (take i ls) (get_or ls i d) ∙ ap (λ b. if_new (get_or ls i d) b (once (take i ls))) old)
+
+pub ruleset adds_more_clauses = (adds_two, adds_three, adds_four)

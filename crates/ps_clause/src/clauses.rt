@@ -1,11 +1,13 @@
 //! The clauses that say what nodes mean.
-ghost use Rattle.std.specs.Prelude.{◌≡◌, ◌≤◌, ◌<◌, ◌++◌, [], ◌∷◌, length, map, IfOk, OnOk, All};
+ghost use Rattle.std.specs.Prelude.{◌≡◌, ◌≤◌, ◌<◌, ◌++◌, [], ◌∷◌, length, map, IfOk, OnOk};
 ghost use Rattle.std.specs.List.{list_any};
 ghost use Rattle.std.specs.Ordering.{int_eq};
 ghost use Rattle.ps_formula.specs.Nodes.{Fits as FitsAt, AreNodes};
 ghost use Rattle.ps_steps.specs.Weights.{clause_of};
-ghost use Rattle.ps_forms.specs.Clauses.{yes, no, once, is_tautology, tidy, clauses_at, clause_form};
-ghost use Rattle.ps_forms.specs.Forms.{is_other, form_of, IsWithin};
+ghost use Rattle.ps_pb.specs.Limits.{most_variables};
+ghost use Rattle.ps_forms.specs.Clauses.{positive, negative, once, is_tautology, tidy};
+ghost use Rattle.ps_forms.specs.Clauses.{clauses_at, clause_form};
+ghost use Rattle.ps_forms.specs.Forms.{is_other, form_of};
 
 use crate::form::ClauseForm;
 use ps_formula::{Formulas, Node};
@@ -14,17 +16,17 @@ use ps_pb::{Constraint, Lit, clause};
 use std::alloc::Global;
 
 // The literal that a node is true.
-fn yes(node: u32) -> Lit
-    requires { node < 1024 }
-    ensures { result ≡ yes node }
+fn positive(node: u32) -> Lit
+    requires { node < most_variables }
+    ensures { result ≡ positive node }
 {
     Lit::of_place(node as usize, true)
 }
 
 // The literal that a node is false.
-fn no(node: u32) -> Lit
-    requires { node < 1024 }
-    ensures { result ≡ no node }
+fn negative(node: u32) -> Lit
+    requires { node < most_variables }
+    ensures { result ≡ negative node }
 {
     Lit::of_place(node as usize, false)
 }
@@ -67,55 +69,53 @@ fn add_tidy(alloc: Global, clauses: &mut List<Constraint>, lits: &[Lit]) -> Resu
 }
 
 // Adds the clauses of one node.
-#[tactic(auto, using(crate::proofs::Tidied::adds_two, crate::proofs::Tidied::adds_three, crate::proofs::Tidied::adds_four))]
+#[tactic(auto, using(crate::proofs::Tidied::adds_more_clauses))]
 fn add_node(
     alloc: Global,
     clauses: &mut List<Constraint>,
     x: u32,
     node: Node,
 ) -> Result<(), NoMemory>
-    requires number { x < 1024 }
+    requires number { x < most_variables }
     requires fits { FitsAt x node }
     ensures { OnOk result (clauses.new ≡ clauses.old ++ map clause_of (clauses_at x node)) }
 {
     match node {
-        Node::True => add_tidy(alloc, clauses, &[yes(x)]),
-        Node::False => add_tidy(alloc, clauses, &[no(x)]),
+        Node::True => add_tidy(alloc, clauses, &[positive(x)]),
+        Node::False => add_tidy(alloc, clauses, &[negative(x)]),
         Node::Atom(_) => Ok(()),
         Node::Not(a) => {
-            add_tidy(alloc, clauses, &[yes(x), yes(a)])?;
-            add_tidy(alloc, clauses, &[no(x), no(a)])
+            add_tidy(alloc, clauses, &[positive(x), positive(a)])?;
+            add_tidy(alloc, clauses, &[negative(x), negative(a)])
         }
         Node::And(a, b) => {
-            add_tidy(alloc, clauses, &[no(x), yes(a)])?;
-            add_tidy(alloc, clauses, &[no(x), yes(b)])?;
-            add_tidy(alloc, clauses, &[yes(x), no(a), no(b)])
+            add_tidy(alloc, clauses, &[negative(x), positive(a)])?;
+            add_tidy(alloc, clauses, &[negative(x), positive(b)])?;
+            add_tidy(alloc, clauses, &[positive(x), negative(a), negative(b)])
         }
         Node::Or(a, b) => {
-            add_tidy(alloc, clauses, &[yes(x), no(a)])?;
-            add_tidy(alloc, clauses, &[yes(x), no(b)])?;
-            add_tidy(alloc, clauses, &[no(x), yes(a), yes(b)])
+            add_tidy(alloc, clauses, &[positive(x), negative(a)])?;
+            add_tidy(alloc, clauses, &[positive(x), negative(b)])?;
+            add_tidy(alloc, clauses, &[negative(x), positive(a), positive(b)])
         }
         Node::Implies(a, b) => {
-            add_tidy(alloc, clauses, &[yes(x), yes(a)])?;
-            add_tidy(alloc, clauses, &[yes(x), no(b)])?;
-            add_tidy(alloc, clauses, &[no(x), no(a), yes(b)])
+            add_tidy(alloc, clauses, &[positive(x), positive(a)])?;
+            add_tidy(alloc, clauses, &[positive(x), negative(b)])?;
+            add_tidy(alloc, clauses, &[negative(x), negative(a), positive(b)])
         }
         Node::Iff(a, b) => {
-            add_tidy(alloc, clauses, &[no(x), no(a), yes(b)])?;
-            add_tidy(alloc, clauses, &[no(x), yes(a), no(b)])?;
-            add_tidy(alloc, clauses, &[yes(x), yes(a), yes(b)])?;
-            add_tidy(alloc, clauses, &[yes(x), no(a), no(b)])
+            add_tidy(alloc, clauses, &[negative(x), negative(a), positive(b)])?;
+            add_tidy(alloc, clauses, &[negative(x), positive(a), negative(b)])?;
+            add_tidy(alloc, clauses, &[positive(x), positive(a), positive(b)])?;
+            add_tidy(alloc, clauses, &[positive(x), negative(a), negative(b)])
         }
     }
 }
 
-fn clauses_of_nodes(alloc: Global, nodes: &[Node]) -> Result<List<Constraint>, NoMemory>
+pub(crate) fn clauses_of_nodes(alloc: Global, nodes: &[Node]) -> Result<List<Constraint>, NoMemory>
     requires sound { AreNodes nodes.now }
-    requires most { length nodes.now ≤ 1024 }
-    ensures value { IfOk result (λ cs. cs ≡ map clause_of (clause_form nodes.now)) }
-    ensures few { IfOk result (λ cs. length cs ≤ 4096) }
-    ensures inside { IfOk result (λ cs. All (IsWithin (length nodes.now)) cs) }
+    requires most { length nodes.now ≤ most_variables }
+    ensures { IfOk result (λ cs. cs ≡ map clause_of (clause_form nodes.now)) }
 {
     let mut clauses = List::new(alloc);
     for x in 0..nodes.len() {
@@ -130,7 +130,7 @@ fn is_other(node: &Node) -> bool
     !matches!(node, Node::Atom(_))
 }
 
-fn others_of(alloc: Global, nodes: &[Node]) -> Result<List<bool>, NoMemory>
+pub(crate) fn others_of(alloc: Global, nodes: &[Node]) -> Result<List<bool>, NoMemory>
     ensures { IfOk result (λ others. others ≡ map is_other nodes.now) }
 {
     let mut others = List::new(alloc);
@@ -140,12 +140,11 @@ fn others_of(alloc: Global, nodes: &[Node]) -> Result<List<bool>, NoMemory>
     Ok(others)
 }
 
-/// The clause form of formulas. The variable of a node has the node's number plus 1. The clauses stand in the order of the
-/// nodes; a repeated literal stands once, and a clause with a literal and its opposite is left out.
+/// The clause form of formulas (Tseitin 1968). The variable of a node has the node's number plus 1.
+/// The clauses stand in the order of the nodes; a repeated literal stands once, and a clause with a
+/// literal and its opposite is left out.
 pub fn clauses_of(alloc: Global, formulas: &Formulas) -> Result<ClauseForm, NoMemory>
     ensures { IfOk result (λ form. form ≡ form_of formulas.now) }
 {
-    let others = others_of(alloc, formulas.nodes())?;
-    let clauses = clauses_of_nodes(alloc, formulas.nodes())?;
-    Ok(ClauseForm::of_nodes(alloc, formulas.len(), others, clauses))
+    ClauseForm::of_nodes(alloc, formulas.nodes())
 }

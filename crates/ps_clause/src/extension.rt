@@ -1,8 +1,9 @@
-//! The assignment of the nodes' variables that a world gives, and the world that an assignment gives.
-ghost use Rattle.std.specs.Prelude.{◌≡◌, ◌≤◌, ℕ, List, Bool, false, length, map, Some, All, IfOk, replicate};
+//! The assignment of the nodes' variables that a world gives, and the world that one gives.
+ghost use Rattle.std.specs.Prelude.{◌≡◌, ◌≤◌, List, Bool, false, length, All, IfOk, replicate};
 ghost use Rattle.ps_formula.specs.Nodes.{AreNodes, AtomBelow};
-ghost use Rattle.ps_steps.specs.Assignments.{all_unset};
-ghost use Rattle.ps_forms.specs.Extensions.{extension, world_of, values_of, HasAtoms};
+ghost use Rattle.ps_steps.specs.Assignments.{all_unset, full, values_of};
+ghost use Rattle.ps_pb.specs.Limits.{most_variables};
+ghost use Rattle.ps_forms.specs.Extensions.{extension, world_of, IsWorldOf, HasAtoms};
 ghost use Rattle.ps_forms.specs.Forms.{form_of};
 ghost use Rattle.ps_forms.specs.Settled.{AtomsAreSet};
 
@@ -15,7 +16,7 @@ use std::alloc::Global;
 #[tactic(auto, using(crate::proofs::Assigned::extension_length))]
 pub fn names_of(alloc: Global, formulas: &Formulas, world: &World) -> Result<Assignment, NoMemory>
     requires { All (AtomBelow (length world.now)) formulas.now }
-    ensures { IfOk result (λ a. a ≡ map Some (extension formulas.now world.now)) }
+    ensures { IfOk result (λ a. a ≡ full (extension formulas.now world.now)) }
 {
     let truths = eval(alloc, formulas, world)?;
     let mut names = Assignment::new(alloc, formulas.len())?;
@@ -27,16 +28,16 @@ pub fn names_of(alloc: Global, formulas: &Formulas, world: &World) -> Result<Ass
 #[tactic(auto, using(crate::proofs::Assigned::none_set, crate::proofs::Assigned::one_set))]
 fn set_all(assignment: &mut Assignment, truths: &[bool])
     requires unset { assignment.old ≡ all_unset (length truths.now) }
-    requires most { length truths.now ≤ 1024 }
-    ensures { assignment.new ≡ map Some truths.now }
+    requires most { length truths.now ≤ most_variables }
+    ensures { assignment.new ≡ full truths.now }
 {
     for place in 0..truths.len() {
         assignment.set(Lit::of_place(place, truths[place]));
     }
 }
 
-/// The world that an assignment gives: an atom has the value of its node's variable. It is false where that is unset, or no
-/// node is the atom.
+/// The world that an assignment gives: an atom has the value of its node's variable. It is false
+/// where that is unset, or no node is the atom.
 pub fn world_of(
     alloc: Global,
     formulas: &Formulas,
@@ -44,10 +45,10 @@ pub fn world_of(
     a: &Assignment,
 ) -> Result<World, NoMemory>
     requires { All (AtomBelow atoms) formulas.now }
-    ensures value { IfOk result (λ world. world ≡ world_of atoms formulas.now (values_of a.now)) }
+    ensures value { IfOk result (IsWorldOf atoms formulas.now (values_of a.now)) }
     ensures length { IfOk result (λ world. length world ≡ atoms) }
-    ensures atoms { AtomsAreSet (form_of formulas.now) a.now → IfOk result (λ world. HasAtoms formulas.now a.now world) }
-    ensures full { (w : List Bool) → a.now ≡ map Some w → IfOk result (λ world. world ≡ world_of atoms formulas.now w) }
+    ensures atoms { AtomsAreSet (form_of formulas.now) a.now → IfOk result (HasAtoms formulas.now a.now) }
+    ensures full { (w : List Bool) → a.now ≡ full w → IfOk result (IsWorldOf atoms formulas.now w) }
 {
     let mut values = vec![in alloc; false; atoms as usize]?;
     set_atoms(formulas.nodes(), a, &mut values);
@@ -57,7 +58,7 @@ pub fn world_of(
 // Gives each atom the value of its node's variable.
 fn set_atoms(nodes: &[Node], a: &Assignment, values: &mut [bool])
     requires sound { AreNodes nodes.now }
-    requires most { length nodes.now ≤ 1024 }
+    requires most { length nodes.now ≤ most_variables }
     requires atoms { All (AtomBelow (length values.old)) nodes.now }
     requires unset { values.old ≡ replicate (length values.old) false }
     ensures { values.new ≡ world_of (length values.old) nodes.now (values_of a.now) }

@@ -1,18 +1,24 @@
 //! Clauses over variables.
-ghost use Rattle.std.specs.Prelude.{◌≡◌, ◌≤◌, ◌<◌, ◌-◌, ◌^◌, ◌++◌, [], ◌∷◌, ℕ, zero, suc, None, true, not, nat_lt, nat_le, length, slice_get, slice_index_or, IfOk, OnOk, OnErr, All, option_copied, AllPairs, ◌≢◌};
-ghost use Rattle.ps_steps.specs.Assignments.{place};
+ghost use Rattle.std.specs.Prelude.{◌≡◌, ◌≤◌, ◌<◌, length, IfOk, OnOk, OnErr, All, option_copied};
+ghost use Rattle.ps_formula.specs.Nodes.{AreNodes};
+ghost use Rattle.ps_steps.specs.Assignments.{place, AreDifferent};
 ghost use Rattle.ps_steps.specs.Weights.{clause_of};
-ghost use Rattle.ps_steps.specs.Steps.{constraint_at};
-ghost use Rattle.ps_forms.specs.Forms.{Form, is_atom_variable, clause_at, with_clause, IsWithin, AreInside};
+ghost use Rattle.ps_pb.specs.Limits.{most_variables};
+ghost use Rattle.ps_forms.specs.Forms.{Form, form_of, empty_form, with_clause, clause_at};
+ghost use Rattle.ps_forms.specs.Forms.{is_atom_variable, AreInside, HasClauses};
 ghost use Rattle.ps_forms.specs.Settled.{IsSettled};
+ghost use Rattle.ps_clause.specs.Limits.{most_clauses};
 
+use crate::clauses::{clauses_of_nodes, others_of};
+use ps_formula::Node;
 use ps_io::{List, NoMemory};
 use ps_pb::{Constraint, Lit, clause};
 use std::alloc::Global;
 use std::marker::Model;
 
-/// Clauses over variables that are numbered from 1. Each variable is an atom's or another node's. Where each atom's variable
-/// has a value, and no clause is violated or forces a literal, each variable has a value.
+/// Clauses over variables that are numbered from 1. Each variable is an atom's or another node's.
+/// Where each atom's variable has a value, and no clause is violated or forces a literal, each
+/// variable has a value.
 #[derive(Drop)]
 pub struct ClauseForm {
     alloc: Global,
@@ -22,22 +28,21 @@ pub struct ClauseForm {
 }
 
 impl Model for ClauseForm {
-    ghost use Rattle.std.specs.Prelude.{◌≤◌, ◌<◌, ◌^◌, length, All};
-    ghost use Rattle.ps_forms.specs.Forms.{Form, IsWithin};
-    ghost use Rattle.ps_forms.specs.Settled.{IsSettled};
+    ghost use Rattle.ps_forms.specs.Forms.{Form, form_over};
+    ghost use Rattle.ps_clause.specs.Kept.{IsKept};
 
     ghost Value = { Form };
 
-    ghost view = { λ f. record { variables = f.variables; others = f.others; clauses = f.clauses } };
+    ghost view = { λ f. form_over f.variables f.others f.clauses };
 
-    ghost invariant = { λ f. (f.variables ≤ 1024) × ((length f.clauses < 2 ^ 32) × (IsSettled (record { variables = f.variables; others = f.others; clauses = f.clauses }) × All (IsWithin f.variables) f.clauses)) };
+    ghost invariant = { λ f. IsKept (form_over f.variables f.others f.clauses) };
 }
 
 impl ClauseForm {
     /// Without clauses; each variable is an atom's.
     pub fn new(alloc: Global, variables: u32) -> ClauseForm
-        requires { variables ≤ 1024 }
-        ensures { result ≡ record { variables = variables; others = []; clauses = [] } }
+        requires { variables ≤ most_variables }
+        ensures { result ≡ empty_form variables }
     {
         ClauseForm {
             alloc,
@@ -47,11 +52,13 @@ impl ClauseForm {
         }
     }
 
-    /// The number of variables.
+    /// The number of variables. Each clause is one of different literals of these, and where each
+    /// atom's variable has a value the clauses settle all others.
     pub fn variables(&self) -> u32
         ensures value { result ≡ self.now.variables }
-        ensures within { result ≤ 1024 }
+        ensures within { result ≤ most_variables }
         ensures settled { IsSettled self.now }
+        ensures clauses { HasClauses self.now }
         ensures inside { AreInside self.now }
     {
         self.variables
@@ -90,8 +97,8 @@ impl ClauseForm {
     /// Adds the clause of some literals at the end.
     pub fn add(&mut self, lits: &[Lit]) -> Result<(), NoMemory>
         requires within { All (λ l. place l < self.old.variables) lits.now }
-        requires once { AllPairs (λ l m. place l ≢ place m) lits.now }
-        requires room { length self.old.clauses < 2 ^ 32 - 1 }
+        requires once { AreDifferent lits.now }
+        requires room { length self.old.clauses < most_clauses }
         ensures ok { OnOk result (self.new ≡ with_clause self.old (clause_of lits.now)) }
         ensures err { OnErr result (self.new ≡ self.old) }
     {
@@ -120,24 +127,19 @@ impl ClauseForm {
     }
 
     // The form of all nodes.
-    pub(crate) fn of_nodes(
-        alloc: Global,
-        variables: u32,
-        others: List<bool>,
-        clauses: List<Constraint>,
-    ) -> ClauseForm
-        requires variables { variables ≤ 1024 }
-        requires clauses { length clauses < 2 ^ 32 }
-        requires settled { IsSettled (record { variables = variables; others = others; clauses = clauses }) }
-        requires inside { All (IsWithin variables) clauses }
-        ensures { result ≡ record { variables = variables; others = others; clauses = clauses } }
+    pub(crate) fn of_nodes(alloc: Global, nodes: &[Node]) -> Result<ClauseForm, NoMemory>
+        requires sound { AreNodes nodes.now }
+        requires most { length nodes.now ≤ most_variables }
+        ensures { IfOk result (λ form. form ≡ form_of nodes.now) }
     {
-        ClauseForm {
+        let others = others_of(alloc, nodes)?;
+        let clauses = clauses_of_nodes(alloc, nodes)?;
+        Ok(ClauseForm {
             alloc,
-            variables,
+            variables: nodes.len() as u32,
             others,
             clauses,
-        }
+        })
     }
 }
 

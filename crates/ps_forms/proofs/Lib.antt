@@ -5,3 +5,6 @@ pub mod Meanings
 pub mod Extends
 pub mod Worlds
 pub mod Values
+pub mod Different
+pub mod Inside
+pub mod Starts

@@ -8,7 +8,7 @@ use Rattle.ps_formula.specs.declared.node.Node.TheVariants as node
 use Rattle.ps_formula.specs.Nodes.{Fits, value_over}
 use Rattle.ps_forms.specs.Clauses.{meets, meaning_of, clauses_at}
 use Rattle.ps_forms.specs.Extensions.{AgreesAt}
-use Rattle.ps_forms.proofs.Tidy.{holds-yes, holds-no, AreClauses, met-tidy}
+use Rattle.ps_forms.proofs.Tidy.{holds-positive, holds-negative, AreClauses, met-tidy}
 
 agree-same : (x y : Bool) → x ≡ y → true ≡ agree x y
 agree-same true y e = e
@@ -64,25 +64,25 @@ iff-met false false false = refl
 
 met-meaning : (w : List Bool) (world : World) (i : ℕ) (n : Node) → Fits (length w) n → AgreesAt i w world n
     → list_all (meets w) (meaning_of i n) ≡ agree (get_or w i false) (value_over w world n)
-met-meaning w world i node.True fits at = rw (holds-yes w i) (true-met (get_or w i false))
-met-meaning w world i node.False fits at = rw (holds-no w i) (false-met (get_or w i false))
+met-meaning w world i node.True fits at = rw (holds-positive w i) (true-met (get_or w i false))
+met-meaning w world i node.False fits at = rw (holds-negative w i) (false-met (get_or w i false))
 met-meaning w world i (node.Atom n) fits at = agree-same (get_or w i false) (get_or world n false) at
 met-meaning w world i (node.Not a) fits at =
-    rw (holds-yes w i, holds-no w i, holds-yes w a, holds-no w a, get_or_default w a true false fits) (not-met (get_or w i false) (get_or w a false))
+    rw (holds-positive w i, holds-negative w i, holds-positive w a, holds-negative w a, get_or_default w a true false fits) (not-met (get_or w i false) (get_or w a false))
 met-meaning w world i (node.And a b) fits at =
-    rw (holds-yes w i, holds-no w i, holds-yes w a, holds-no w a, holds-yes w b, holds-no w b, get_or_default w a true false fits.0, get_or_default w b true false fits.1)
+    rw (holds-positive w i, holds-negative w i, holds-positive w a, holds-negative w a, holds-positive w b, holds-negative w b, get_or_default w a true false fits.0, get_or_default w b true false fits.1)
     (and-met (get_or w i false) (get_or w a false) (get_or w b false))
 met-meaning w world i (node.Or a b) fits at =
-    rw (holds-yes w i, holds-no w i, holds-yes w a, holds-no w a, holds-yes w b, holds-no w b, get_or_default w a true false fits.0, get_or_default w b true false fits.1)
+    rw (holds-positive w i, holds-negative w i, holds-positive w a, holds-negative w a, holds-positive w b, holds-negative w b, get_or_default w a true false fits.0, get_or_default w b true false fits.1)
     (or-met (get_or w i false) (get_or w a false) (get_or w b false))
 met-meaning w world i (node.Implies a b) fits at =
-    rw (holds-yes w i, holds-no w i, holds-yes w a, holds-no w a, holds-yes w b, holds-no w b, get_or_default w a true false fits.0, get_or_default w b true false fits.1)
+    rw (holds-positive w i, holds-negative w i, holds-positive w a, holds-negative w a, holds-positive w b, holds-negative w b, get_or_default w a true false fits.0, get_or_default w b true false fits.1)
     (implies-met (get_or w i false) (get_or w a false) (get_or w b false))
 met-meaning w world i (node.Iff a b) fits at =
-    rw (holds-yes w i, holds-no w i, holds-yes w a, holds-no w a, holds-yes w b, holds-no w b, get_or_default w a true false fits.0, get_or_default w b true false fits.1)
+    rw (holds-positive w i, holds-negative w i, holds-positive w a, holds-negative w a, holds-positive w b, holds-negative w b, get_or_default w a true false fits.0, get_or_default w b true false fits.1)
     (iff-met (get_or w i false) (get_or w a false) (get_or w b false))
 
-are_clauses : (i : ℕ) (n : Node) → AreClauses (meaning_of i n)
+pub are_clauses : (i : ℕ) (n : Node) → AreClauses (meaning_of i n)
 are_clauses i node.True = ((tt, tt), tt)
 are_clauses i node.False = ((tt, tt), tt)
 are_clauses i (node.Atom n) = tt

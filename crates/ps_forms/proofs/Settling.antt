@@ -12,7 +12,7 @@ use Rattle.ps_formula.specs.Nodes.{Fits, AreNodes, value_over}
 use Rattle.ps_steps.specs.Assignments.{Assignment, place, value_at, is_unset}
 use Rattle.ps_steps.specs.Constraints.{Constraint}
 use Rattle.ps_steps.specs.Weights.{clause_of}
-use Rattle.ps_forms.specs.Clauses.{Clause, meets, yes, no, meaning_of, once, is_tautology, tidy, clauses_at, clauses_from, clause_form}
+use Rattle.ps_forms.specs.Clauses.{Clause, meets, positive, negative, meaning_of, once, is_tautology, tidy, clauses_at, clauses_from, clause_form}
 use Rattle.ps_forms.specs.Extensions.{AgreesAt, value_or_false}
 use Rattle.ps_forms.specs.Forms.{Form, is_other, form_of, is_atom_variable, clause_at, with_clause}
 use Rattle.ps_forms.specs.Settled.{IsIdle, AtomsAreSet, IsSettled}
@@ -92,49 +92,49 @@ tidy-known w a i (c ∷ cs) h = elim (cases_Bool (is_tautology c)) [
 abbrev pub IsKnownBut : List Bool → Assignment → ℕ → ℤ → Type 0
 IsKnownBut w a i l = (place l ≡ i) ⊎ IsKnown w a (place l)
 
-own-yes : (w : List Bool) (a : Assignment) (i : ℕ) → IsKnownBut w a i (yes i)
-own-yes w a i = inl (omega arith)
+own-positive : (w : List Bool) (a : Assignment) (i : ℕ) → IsKnownBut w a i (positive i)
+own-positive w a i = inl (omega arith)
 
-own-no : (w : List Bool) (a : Assignment) (i : ℕ) → IsKnownBut w a i (no i)
-own-no w a i = inl (omega arith)
+own-negative : (w : List Bool) (a : Assignment) (i : ℕ) → IsKnownBut w a i (negative i)
+own-negative w a i = inl (omega arith)
 
-known-yes : (w : List Bool) (a : Assignment) (i j : ℕ) → IsKnown w a j → IsKnownBut w a i (yes j)
-known-yes w a i j k = let e : place (yes j) ≡ j = omega arith in inr (rw e k)
+known-positive : (w : List Bool) (a : Assignment) (i j : ℕ) → IsKnown w a j → IsKnownBut w a i (positive j)
+known-positive w a i j k = let e : place (positive j) ≡ j = omega arith in inr (rw e k)
 
-known-no : (w : List Bool) (a : Assignment) (i j : ℕ) → IsKnown w a j → IsKnownBut w a i (no j)
-known-no w a i j k = let e : place (no j) ≡ j = omega arith in inr (rw e k)
+known-negative : (w : List Bool) (a : Assignment) (i j : ℕ) → IsKnown w a j → IsKnownBut w a i (negative j)
+known-negative w a i j k = let e : place (negative j) ≡ j = omega arith in inr (rw e k)
 
 -- a node's clauses speak of its own variable and of those of its operands
 meaning-known : (w : List Bool) (a : Assignment) (i : ℕ) (n : Node) → Fits i n → ((j : ℕ) → j < i → IsKnown w a j) → AreClausesKnown w a i (meaning_of i n)
-meaning-known w a i node.True fits k = ((own-yes w a i, tt), tt)
-meaning-known w a i node.False fits k = ((own-no w a i, tt), tt)
+meaning-known w a i node.True fits k = ((own-positive w a i, tt), tt)
+meaning-known w a i node.False fits k = ((own-negative w a i, tt), tt)
 meaning-known w a i (node.Atom m) fits k = tt
 meaning-known w a i (node.Not b) fits k =
-    ((own-yes w a i, (known-yes w a i b (k b fits), tt)), ((own-no w a i, (known-no w a i b (k b fits), tt)), tt))
+    ((own-positive w a i, (known-positive w a i b (k b fits), tt)), ((own-negative w a i, (known-negative w a i b (k b fits), tt)), tt))
 meaning-known w a i (node.And b c) fits k =
-    let b_yes = known-yes w a i b (k b fits.0) in
-    let b_no = known-no w a i b (k b fits.0) in
-    let c_yes = known-yes w a i c (k c fits.1) in
-    let c_no = known-no w a i c (k c fits.1) in
-    ((own-no w a i, (b_yes, tt)), ((own-no w a i, (c_yes, tt)), ((own-yes w a i, (b_no, (c_no, tt))), tt)))
+    let b_yes = known-positive w a i b (k b fits.0) in
+    let b_no = known-negative w a i b (k b fits.0) in
+    let c_yes = known-positive w a i c (k c fits.1) in
+    let c_no = known-negative w a i c (k c fits.1) in
+    ((own-negative w a i, (b_yes, tt)), ((own-negative w a i, (c_yes, tt)), ((own-positive w a i, (b_no, (c_no, tt))), tt)))
 meaning-known w a i (node.Or b c) fits k =
-    let b_yes = known-yes w a i b (k b fits.0) in
-    let b_no = known-no w a i b (k b fits.0) in
-    let c_yes = known-yes w a i c (k c fits.1) in
-    let c_no = known-no w a i c (k c fits.1) in
-    ((own-yes w a i, (b_no, tt)), ((own-yes w a i, (c_no, tt)), ((own-no w a i, (b_yes, (c_yes, tt))), tt)))
+    let b_yes = known-positive w a i b (k b fits.0) in
+    let b_no = known-negative w a i b (k b fits.0) in
+    let c_yes = known-positive w a i c (k c fits.1) in
+    let c_no = known-negative w a i c (k c fits.1) in
+    ((own-positive w a i, (b_no, tt)), ((own-positive w a i, (c_no, tt)), ((own-negative w a i, (b_yes, (c_yes, tt))), tt)))
 meaning-known w a i (node.Implies b c) fits k =
-    let b_yes = known-yes w a i b (k b fits.0) in
-    let b_no = known-no w a i b (k b fits.0) in
-    let c_yes = known-yes w a i c (k c fits.1) in
-    let c_no = known-no w a i c (k c fits.1) in
-    ((own-yes w a i, (b_yes, tt)), ((own-yes w a i, (c_no, tt)), ((own-no w a i, (b_no, (c_yes, tt))), tt)))
+    let b_yes = known-positive w a i b (k b fits.0) in
+    let b_no = known-negative w a i b (k b fits.0) in
+    let c_yes = known-positive w a i c (k c fits.1) in
+    let c_no = known-negative w a i c (k c fits.1) in
+    ((own-positive w a i, (b_yes, tt)), ((own-positive w a i, (c_no, tt)), ((own-negative w a i, (b_no, (c_yes, tt))), tt)))
 meaning-known w a i (node.Iff b c) fits k =
-    let b_yes = known-yes w a i b (k b fits.0) in
-    let b_no = known-no w a i b (k b fits.0) in
-    let c_yes = known-yes w a i c (k c fits.1) in
-    let c_no = known-no w a i c (k c fits.1) in
-    ((own-no w a i, (b_no, (c_yes, tt))), ((own-no w a i, (b_yes, (c_no, tt))), ((own-yes w a i, (b_yes, (c_yes, tt))), ((own-yes w a i, (b_no, (c_no, tt))), tt))))
+    let b_yes = known-positive w a i b (k b fits.0) in
+    let b_no = known-negative w a i b (k b fits.0) in
+    let c_yes = known-positive w a i c (k c fits.1) in
+    let c_no = known-negative w a i c (k c fits.1) in
+    ((own-negative w a i, (b_no, (c_yes, tt))), ((own-negative w a i, (b_yes, (c_no, tt))), ((own-positive w a i, (b_yes, (c_yes, tt))), ((own-positive w a i, (b_no, (c_no, tt))), tt))))
 
 -- each clause is idle
 abbrev pub AreClausesIdle : Assignment → List Clause → Type 0

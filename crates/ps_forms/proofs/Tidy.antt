@@ -5,7 +5,7 @@ use Rattle.std.specs.Ordering.{int_eq}
 use Rattle.std.proofs.lemmas.Bool.Decides.{Decides-int_eq}
 use Rattle.std.proofs.lemmas.Map.Views.{any-filter_same}
 use Rattle.ps_steps.specs.Assignments.{agree, holds}
-use Rattle.ps_forms.specs.Clauses.{Clause, meets, yes, no, once, is_tautology, tidy}
+use Rattle.ps_forms.specs.Clauses.{Clause, meets, positive, negative, once, is_tautology, tidy}
 
 agree-true : (x : Bool) → agree true x ≡ x
 agree-true true = refl
@@ -15,13 +15,13 @@ agree-false : (x : Bool) → agree false x ≡ not x
 agree-false true = refl
 agree-false false = refl
 
-pub holds-yes : (w : List Bool) (i : ℕ) → holds w (yes i) ≡ get_or w i false
+pub holds-positive : (w : List Bool) (i : ℕ) → holds w (positive i) ≡ get_or w i false
 unfolding holds
-holds-yes w i = let e : suc i - 1 ≡ i = omega arith in rw e (agree-true (get_or w i false))
+holds-positive w i = let e : suc i - 1 ≡ i = omega arith in rw e (agree-true (get_or w i false))
 
-pub holds-no : (w : List Bool) (i : ℕ) → holds w (no i) ≡ not (get_or w i false)
+pub holds-negative : (w : List Bool) (i : ℕ) → holds w (negative i) ≡ not (get_or w i false)
 unfolding holds
-holds-no w i = let e : suc i - 1 ≡ i = omega arith in rw e (agree-false (get_or w i false))
+holds-negative w i = let e : suc i - 1 ≡ i = omega arith in rw e (agree-false (get_or w i false))
 
 -- a literal isn't 0
 abbrev pub IsLit : ℤ → Type 0
@@ -44,8 +44,8 @@ not-not false = refl
 -- the opposite of a literal is true where it is false
 holds-opposite : (w : List Bool) (l : ℤ) → IsLit l → holds w (neg_ℤ l) ≡ not (holds w l)
 holds-opposite w (pos zero) h = absurd h
-holds-opposite w (pos (suc k)) h = rw (holds-no w k, holds-yes w k) refl
-holds-opposite w (negsuc k) h = rw (holds-no w k, holds-yes w k) (not-not (get_or w k false))
+holds-opposite w (pos (suc k)) h = rw (holds-negative w k, holds-positive w k) refl
+holds-opposite w (negsuc k) h = rw (holds-negative w k, holds-positive w k) (not-not (get_or w k false))
 
 pub by_bool : {P : Type 0} (b : Bool) → (b ≡ true → P) → (b ≡ false → P) → P
 by_bool true t f = t refl

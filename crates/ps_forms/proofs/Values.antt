@@ -1,5 +1,5 @@
 -- The world of a partial assignment, and one node more.
-use Rattle.std.proofs.Common.{◌≡◌, ◌≢◌, inl, inr, ℕ, zero, suc, ◌+◌, ◌<◌, ◌==◌, Bool, false, Some, None, List, [], ◌∷◌, ◌++◌, length, map, set, take, get_or, get_or-set_same, get_or-set_other, length-set, replicate, refl, sym, ap, ◌∙◌, subst, arith, All}
+use Rattle.std.proofs.Common.{◌≡◌, ◌≢◌, inl, inr, ℕ, zero, suc, ◌+◌, ◌<◌, ◌==◌, Bool, false, Some, None, List, [], ◌∷◌, ◌++◌, length, set, take, get_or, get_or-set_same, get_or-set_other, length-set, replicate, refl, sym, ap, ◌∙◌, subst, arith, All}
 use Rattle.std.proofs.lemmas.Bool.{cases_eq}
 use Rattle.std.proofs.lemmas.List.{get_or_default, replicate_more, take_more, length-take-le, get_or-take, ext_get_or}
 use Rattle.ps_meaning.specs.Formula.{World}
@@ -82,10 +82,6 @@ pub values-at : (a : Assignment) (i : ℕ) → get_or (values_of a) i false ≡ 
 values-at [] i = refl
 values-at (o ∷ a) zero = refl
 values-at (o ∷ a) (suc i) = values-at a i
-
-pub values-full : (w : List Bool) → values_of (map Some w) ≡ w
-values-full [] = refl
-values-full (b ∷ w) = ap (λ r. b ∷ r) (values-full w)
 
 -- where the atoms' variables have values, the world has them
 pub world-has : (atoms : ℕ) (ns : List Node) (a : Assignment) → AreNodes ns → All (AtomBelow atoms) ns → AtomsAreSet (form_of ns) a → HasAtoms ns a (world_of atoms ns (values_of a))

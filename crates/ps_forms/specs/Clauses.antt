@@ -14,24 +14,24 @@ Clause = List ℤ
 abbrev pub meets : List Bool → Clause → Bool
 meets w c = list_any (holds w) c
 
--- a node's variable has its number plus 1: the literal that the node is true, and the one that it is false
-abbrev pub yes : ℕ → ℤ
-yes i = pos (suc i)
+-- a node's variable has its number plus 1: its positive literal says that the node is true, its negative one that it is false
+abbrev pub positive : ℕ → ℤ
+positive i = pos (suc i)
 
-abbrev pub no : ℕ → ℤ
-no i = negsuc i
+abbrev pub negative : ℕ → ℤ
+negative i = negsuc i
 
 -- what the node of this number means, over its operands: true exactly where its operation gives true
 abbrev pub meaning_of : ℕ → Node → List Clause
-meaning_of x node.True = (yes x ∷ []) ∷ []
-meaning_of x node.False = (no x ∷ []) ∷ []
+meaning_of x node.True = (positive x ∷ []) ∷ []
+meaning_of x node.False = (negative x ∷ []) ∷ []
 meaning_of x (node.Atom n) = []
-meaning_of x (node.Not a) = (yes x ∷ yes a ∷ []) ∷ (no x ∷ no a ∷ []) ∷ []
-meaning_of x (node.And a b) = (no x ∷ yes a ∷ []) ∷ (no x ∷ yes b ∷ []) ∷ (yes x ∷ no a ∷ no b ∷ []) ∷ []
-meaning_of x (node.Or a b) = (yes x ∷ no a ∷ []) ∷ (yes x ∷ no b ∷ []) ∷ (no x ∷ yes a ∷ yes b ∷ []) ∷ []
-meaning_of x (node.Implies a b) = (yes x ∷ yes a ∷ []) ∷ (yes x ∷ no b ∷ []) ∷ (no x ∷ no a ∷ yes b ∷ []) ∷ []
+meaning_of x (node.Not a) = (positive x ∷ positive a ∷ []) ∷ (negative x ∷ negative a ∷ []) ∷ []
+meaning_of x (node.And a b) = (negative x ∷ positive a ∷ []) ∷ (negative x ∷ positive b ∷ []) ∷ (positive x ∷ negative a ∷ negative b ∷ []) ∷ []
+meaning_of x (node.Or a b) = (positive x ∷ negative a ∷ []) ∷ (positive x ∷ negative b ∷ []) ∷ (negative x ∷ positive a ∷ positive b ∷ []) ∷ []
+meaning_of x (node.Implies a b) = (positive x ∷ positive a ∷ []) ∷ (positive x ∷ negative b ∷ []) ∷ (negative x ∷ negative a ∷ positive b ∷ []) ∷ []
 meaning_of x (node.Iff a b) =
-    (no x ∷ no a ∷ yes b ∷ []) ∷ (no x ∷ yes a ∷ no b ∷ []) ∷ (yes x ∷ yes a ∷ yes b ∷ []) ∷ (yes x ∷ no a ∷ no b ∷ []) ∷ []
+    (negative x ∷ negative a ∷ positive b ∷ []) ∷ (negative x ∷ positive a ∷ negative b ∷ []) ∷ (positive x ∷ positive a ∷ positive b ∷ []) ∷ (positive x ∷ negative a ∷ negative b ∷ []) ∷ []
 
 -- each literal once, where it first stands
 abbrev pub once : Clause → Clause

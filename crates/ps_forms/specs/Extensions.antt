@@ -1,10 +1,11 @@
 -- Worlds and the full assignments of the nodes' variables.
-use Rattle.std.specs.Prelude.{ℕ, zero, suc, ◌<◌, ◌≡◌, ◌==◌, Bool, false, if◌then◌else◌, Option, Some, None, List, [], ◌∷◌, ◌++◌, length, map, slice_index_or, Contains}
+use Rattle.std.specs.Prelude.{ℕ, zero, suc, ◌<◌, ◌≡◌, ◌==◌, Bool, false, if◌then◌else◌, Some, List, [], ◌∷◌, ◌++◌, length, slice_index_or, Contains}
 use Rattle.ps_meaning.specs.Formula.{World}
 use Rattle.ps_formula.specs.declared.node.Node.{Node}
 use Rattle.ps_formula.specs.declared.node.Node.TheVariants as node
 use Rattle.ps_formula.specs.Nodes.{truths}
 use Rattle.ps_steps.specs.Assignments.{Assignment, value_at}
+pub use Rattle.ps_steps.specs.Assignments.{values_of, value_or_false}
 
 -- the extension of a world gives each node's variable the truth of the node
 abbrev pub extension : List Node → World → List Bool
@@ -33,13 +34,8 @@ abbrev pub world_of : ℕ → List Node → List Bool → World
 world_of zero ns w = []
 world_of (suc n) ns w = world_of n ns w ++ value_from 0 ns w n ∷ []
 
--- the values of an assignment's variables, false where there is none
-abbrev pub value_or_false : Option Bool → Bool
-value_or_false None = false
-value_or_false (Some b) = b
-
-abbrev pub values_of : Assignment → List Bool
-values_of a = map value_or_false a
+abbrev pub IsWorldOf : ℕ → List Node → List Bool → World → Type 0
+IsWorldOf atoms ns w world = world ≡ world_of atoms ns w
 
 -- a partial assignment has for an atom's variable the truth value of the atom in the world
 abbrev pub HasAtomAt : ℕ → Assignment → World → Node → Type 0

@@ -1,10 +1,12 @@
 -- Forms: clauses over some variables, as constraints.
-use Rattle.std.specs.Prelude.{ℕ, zero, suc, ◌<◌, Bool, true, false, not, ◌&&◌, nat_lt, Option, None, List, [], ◌∷◌, ◌++◌, length, map, slice_get, slice_index_or, All}
+use Rattle.std.specs.Prelude.{ℕ, zero, suc, ◌<◌, ◌≡◌, ℤ, Bool, true, false, not, ◌&&◌, nat_lt, Option, None, List, [], ◌∷◌, ◌++◌, length, map, slice_get, slice_index_or, All}
 use Rattle.ps_formula.specs.declared.node.Node.{Node}
 use Rattle.ps_formula.specs.declared.node.Node.TheVariants as node
-use Rattle.ps_steps.specs.Assignments.{place}
+use Rattle.ps_steps.specs.Assignments.{place, AreDifferent}
 use Rattle.ps_steps.specs.Constraints.{Constraint, IsMet}
-use Rattle.ps_steps.specs.Weights.{weighted, clause_of}
+use Rattle.ps_steps.specs.Weights.{clause_of}
+use Rattle.ps_steps.specs.Steps.{Known, known_of}
+pub use Rattle.ps_steps.specs.Weights.{IsWithin}
 use Rattle.ps_forms.specs.Clauses.{clause_form}
 
 -- clauses over variables from 1 on; a variable is an atom's unless it is marked, at its place, as that of another node
@@ -12,6 +14,9 @@ pub record Form : Type 0 where
   pub variables : ℕ
   pub others : List Bool
   pub clauses : List Constraint
+
+abbrev pub form_over : ℕ → List Bool → List Constraint → Form
+form_over variables others clauses = record { variables = variables; others = others; clauses = clauses }
 
 -- whether a node is no atom
 abbrev pub is_other : Node → Bool
@@ -21,6 +26,10 @@ is_other n = true
 -- the form of all nodes
 abbrev pub form_of : List Node → Form
 form_of ns = record { variables = length ns; others = map is_other ns; clauses = map clause_of (clause_form ns) }
+
+-- a form without clauses, in which each variable is an atom's
+abbrev pub empty_form : ℕ → Form
+empty_form variables = record { variables = variables; others = []; clauses = [] }
 
 -- whether a variable, by its number, is an atom's
 abbrev pub is_atom_variable : Form → ℕ → Bool
@@ -40,10 +49,21 @@ with_clause f c = record { variables = f.variables; others = f.others; clauses =
 abbrev pub MeetsForm : List Bool → Form → Type 0
 MeetsForm w f = All (IsMet w) f.clauses
 
--- the literals of a constraint are of these variables
-abbrev pub IsWithin : ℕ → Constraint → Type 0
-IsWithin variables c = All (λ t. place t.0 < variables) (weighted c.terms)
-
--- those of each clause are of the form's variables
+-- the literals of each clause are of the form's variables
 abbrev pub AreInside : Form → Type 0
 AreInside f = All (IsWithin f.variables) f.clauses
+
+-- a constraint is the clause of different literals of these variables
+pub record IsClause (variables : ℕ) (c : Constraint) : Type 0 where
+  pub lits : List ℤ
+  pub is : c ≡ clause_of lits
+  pub within : All (λ l. place l < variables) lits
+  pub different : AreDifferent lits
+
+-- each of the form's clauses is one of its variables
+abbrev pub HasClauses : Form → Type 0
+HasClauses f = All (IsClause f.variables) f.clauses
+
+-- what is known at first: the clauses, under their numbers, and then the goal
+abbrev pub first_known : Form → Constraint → Known
+first_known f goal = known_of (f.clauses ++ goal ∷ [])

@@ -3,4 +3,7 @@
 
 mod laws;
 
-pub use laws::{atoms_settle_forms, clauses_say_what_nodes_mean, worlds_of_assignments};
+pub use laws::{
+    atoms_settle_forms, clauses_are_of_variables, clauses_say_what_nodes_mean,
+    forms_and_goals_are_known, worlds_of_assignments,
+};

@@ -1,0 +1,4 @@
+-- Meaning
+pub mod Limits
+-- Bridge: what a clause form keeps
+pub mod Kept

@@ -1,0 +1,85 @@
+-- What holds of forms.
+use Rattle.std.specs.Prelude.{ℕ, ◌<◌, ◌≡◌, ℤ, Bool, true, false, List, length, All, ◌↔◌}
+use Rattle.std.specs.List.{list_all}
+use Rattle.ps_meaning.specs.Formula.{World}
+use Rattle.ps_formula.specs.declared.node.Node.{Node}
+use Rattle.ps_formula.specs.Nodes.{AreNodes, AtomBelow}
+use Rattle.ps_steps.specs.Assignments.{Assignment, place, full, values_of, AreDifferent}
+use Rattle.ps_steps.specs.Constraints.{Constraint, IsMet, is_violated, Forces}
+use Rattle.ps_steps.specs.Weights.{clause_of, IsWithin}
+use Rattle.ps_steps.specs.Steps.{Known, AreWithin, AreMet, Entails, IsUnmet}
+use Rattle.ps_forms.specs.Clauses.{meets, clause_form}
+use Rattle.ps_forms.specs.Extensions.{extension, AgreeOnAtoms, world_of, HasAtoms, HasEachAtom}
+use Rattle.ps_forms.specs.Forms.{Form, form_of, empty_form, with_clause, MeetsForm, AreInside, HasClauses, first_known}
+use Rattle.ps_forms.specs.Settled.{IsIdle, AtomsAreSet, AllAreSet, IsSettled}
+
+-- ---- what clauses mean
+-- an assignment and a world that agree on atoms: the one meets the clauses exactly where it is the extension of the other
+abbrev pub ClausesSayExtensions : Type 0
+ClausesSayExtensions = (ns : List Node) (w : List Bool) (world : World) → AreNodes ns → length w ≡ length ns → AgreeOnAtoms ns w world
+    → (list_all (meets w) (clause_form ns) ≡ true) ↔ (w ≡ extension ns world)
+
+-- an assignment meets the clauses exactly where it is the extension of the world that its atoms' variables give
+abbrev pub ClausesSayWorlds : Type 0
+ClausesSayWorlds = (ns : List Node) (w : List Bool) (atoms : ℕ) → AreNodes ns → length w ≡ length ns → All (AtomBelow atoms) ns
+    → (list_all (meets w) (clause_form ns) ≡ true) ↔ (w ≡ extension ns (world_of atoms ns w))
+
+-- the constraints of the form say what its clauses say
+abbrev pub ConstraintsSayClauses : Type 0
+ConstraintsSayClauses = (ns : List Node) (w : List Bool) → MeetsForm w (form_of ns) ↔ (list_all (meets w) (clause_form ns) ≡ true)
+
+abbrev pub ExtensionsAgree : Type 0
+ExtensionsAgree = (ns : List Node) (world : World) → AreNodes ns → AgreeOnAtoms ns (extension ns world) world
+
+-- ---- forms that their atoms settle
+abbrev pub NodesAreSettled : Type 0
+NodesAreSettled = (ns : List Node) → AreNodes ns → IsSettled (form_of ns)
+
+abbrev pub AtomsAreSettled : Type 0
+AtomsAreSettled = (variables : ℕ) → IsSettled (empty_form variables)
+
+abbrev pub SettledStay : Type 0
+SettledStay = (f : Form) (c : Constraint) → IsSettled f → IsSettled (with_clause f c)
+
+-- a constraint is idle exactly where it is neither violated nor forces a literal
+abbrev pub IdleForceNothing : Type 0
+IdleForceNothing = (c : Constraint) (a : Assignment) → IsIdle c a ↔ ((is_violated c a ≡ false) × ((l : ℤ) → ¬ Forces c a l))
+
+-- an assignment of the form's variables in which all are set is the full one of its values
+abbrev pub AllSetAreFull : Type 0
+AllSetAreFull = (f : Form) (a : Assignment) → length a ≡ f.variables → AllAreSet f a → a ≡ full (values_of a)
+
+-- ---- worlds
+abbrev pub WorldsHaveAtoms : Type 0
+WorldsHaveAtoms = (atoms : ℕ) (ns : List Node) (a : Assignment) → AreNodes ns → All (AtomBelow atoms) ns → AtomsAreSet (form_of ns) a
+    → HasAtoms ns a (world_of atoms ns (values_of a))
+
+-- the world of an extension is the world that was extended, where each atom has a node
+abbrev pub ExtendedComeBack : Type 0
+ExtendedComeBack = (ns : List Node) (world : World) → AreNodes ns → All (AtomBelow (length world)) ns → HasEachAtom (length world) ns
+    → world_of (length world) ns (extension ns world) ≡ world
+
+-- ---- clauses of a form's variables
+abbrev pub NodesHaveClauses : Type 0
+NodesHaveClauses = (ns : List Node) → AreNodes ns → HasClauses (form_of ns)
+
+abbrev pub OneMoreClause : Type 0
+OneMoreClause = (f : Form) (lits : List ℤ) → HasClauses f → All (λ l. place l < f.variables) lits → AreDifferent lits
+    → HasClauses (with_clause f (clause_of lits))
+
+abbrev pub ClausesAreInside : Type 0
+ClausesAreInside = (f : Form) → HasClauses f → AreInside f
+
+-- ---- a form and a goal
+-- what is known at first is met exactly where the form and the goal are
+abbrev pub StartSaysBoth : Type 0
+StartSaysBoth = (f : Form) (goal : Constraint) (w : List Bool) → AreMet w (first_known f goal) ↔ (MeetsForm w f × IsMet w goal)
+
+-- and is of the form's variables where they are
+abbrev pub StartIsWithin : Type 0
+StartIsWithin = (f : Form) (goal : Constraint) → AreInside f → IsWithin f.variables goal → AreWithin f.variables (first_known f goal)
+
+-- where nothing meets what follows from it, nothing that meets the form meets the goal
+abbrev pub UnmetRefutesGoal : Type 0
+UnmetRefutesGoal = (f : Form) (goal : Constraint) (later : Known) → Entails (first_known f goal) later → IsUnmet later
+    → (w : List Bool) → MeetsForm w f → ¬ IsMet w goal
