@@ -6,7 +6,8 @@ ghost use Rattle.psat.specs.Due.{Due, Output};
 
 /// For words and bytes at most one output is due.
 pub fn one_output_is_due()
-    ensures command { (words : List (List ℕ)) (c d : Command) → Spell words c → Spell words d → c ≡ d }
+    ensures command { (words : List (List ℕ)) (c d : Command)
+        → Spell words c → Spell words d → c ≡ d }
     ensures output { (words : List (List ℕ)) (bytes : List ℕ) (o p : Output)
         → Due words bytes o → Due words bytes p → o ≡ p }
 {}

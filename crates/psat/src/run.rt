@@ -14,7 +14,8 @@ use std::alloc::Global;
 
 // The reply to the input of `check`, or the status where none is due.
 fn reply_to_input<I: Source>(alloc: Global, input: &mut I, limit: u64) -> Result<Reply, Status>
-    ensures due { IfOk result (λ r. IsDueFor (Command.Check limit) (I.left input.old) (output_of r)) }
+    ensures due { IfOk result (λ r.
+        IsDueFor (Command.Check limit) (I.left input.old) (output_of r)) }
     ensures took { Took limit (status_of result) (I.left input.old) (I.left input.new) }
     ensures status { IfOk result (λ r. IsAnswer r.status) }
     ensures silent { IfErr result IsSilent }
@@ -49,7 +50,8 @@ fn reply_to_command<I: Source>(
 // The reply to words and input, or the status where none is due.
 fn reply_to<I: Source>(alloc: Global, words: &[String], input: &mut I) -> Result<Reply, Status>
     ensures due { IfOk result (λ r. IsDue (words_of words.now) (I.left input.old) (output_of r)) }
-    ensures read { HasRead (words_of words.now) (status_of result) (I.left input.old) (I.left input.new) }
+    ensures read { HasRead (words_of words.now) (status_of result)
+        (I.left input.old) (I.left input.new) }
     ensures status { IfOk result (λ r. GoesWithText r.status) }
     ensures silent { IfErr result IsSilent }
     ensures usage { IfOk result (λ r. r.status ≡ Status.Usage → SpellNone (words_of words.now)) }
