@@ -6,7 +6,6 @@ use Rattle.ps_meaning.specs.Bounds.{Compares}
 use Rattle.ps_formula.specs.Nodes.{truths}
 use Rattle.ps_formula.specs.declared.node.Node.{Node}
 use Rattle.ps_problem.specs.declared.bound.Bound.{Bound}
-use Rattle.ps_problem.specs.Problems.{side_of}
 use Rattle.ps_check.specs.declared.truth.Row.{Row}
 use Rattle.ps_check.specs.Sizes.{IsSmall}
 use Rattle.ps_check.specs.Models.{most_worlds}
@@ -49,7 +48,7 @@ pub record Covers (rows : List Row) (b : Bound) : Type 0 where
 
 -- entries over nodes meet the bound
 unfoldable pub MeetsAt : List Entry → Bound → Type 0
-MeetsAt d b = Compares (side_of b.side) (pos b.den *ℤ weight d (Atom b.both)) (pos b.num *ℤ weight d (node_at b.given))
+MeetsAt d b = Compares b.side (pos b.den *ℤ weight d (Atom b.both)) (pos b.num *ℤ weight d (node_at b.given))
 
 -- the bound of this number, from 1, is the first that entries over nodes don't meet
 abbrev pub MissesFirstAt : List Entry → List Bound → ℕ → Type 0

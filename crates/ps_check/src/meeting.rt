@@ -3,7 +3,6 @@ ghost use Rattle.std.specs.Prelude.{◌≡◌, ◌≤◌, ◌*◌, ◌↔◌, po
 ghost use Rattle.std.specs.Prelude.{IfOk, IfSome, IsTrue};
 ghost use Rattle.ps_meaning.specs.Distribution.{weight, total};
 ghost use Rattle.ps_meaning.specs.Bounds.{Compares};
-ghost use Rattle.ps_problem.specs.Problems.{side_of};
 ghost use Rattle.ps_check.specs.Models.{entries, most_weight, most_worlds};
 ghost use Rattle.ps_check.specs.Reasons.{HaveShape};
 ghost use Rattle.ps_check.specs.Rows.{AreRows, Covers, HaveNode, MeetsAt, node_at, row_entries};
@@ -17,7 +16,7 @@ use ps_problem::{Bound, Problem, Side};
 use std::alloc::Global;
 
 fn compares(side: Side, x: i128, y: i128) -> bool
-    ensures { IsTrue result ↔ Compares (side_of side) x y }
+    ensures { IsTrue result ↔ Compares side x y }
 {
     match side {
         Side::AtLeast => y <= x,

@@ -11,7 +11,9 @@ use Rattle.std.proofs.Math.Seq.{take-length}
 use Rattle.ps_meaning.proofs.Weights.{weight-nonneg}
 use Rattle.ps_meaning.specs.Formula.{World, And}
 use Rattle.ps_meaning.specs.Distribution.{Entry, weight, total}
-use Rattle.ps_meaning.specs.Bounds.{Side, AtLeast, AtMost, Exactly, Bound, Compares, MeetsBound, MeetsAll, IsModelOf}
+use Rattle.ps_meaning.specs.declared.side.Side.{Side}
+use Rattle.ps_meaning.specs.declared.side.Side.TheVariants.{AtLeast, AtMost, Exactly}
+use Rattle.ps_meaning.specs.Bounds.{Bound, Compares, MeetsBound, MeetsAll, IsModelOf}
 use Rattle.ps_problem.specs.declared.query.Query as stored
 use Rattle.ps_problem.specs.Problems.{Parts, bounds_of, given_at}
 use Rattle.ps_rational.specs.Rational.{Rational}

@@ -3,7 +3,8 @@ use Rattle.std.proofs.Common.{ℕ, pos, ◌-ℤ◌, ◌*ℤ◌, ◌≤ℤ◌, Bo
 use Rattle.std.proofs.lemmas.Int.{ints}
 use Rattle.ps_meaning.specs.Formula.{And}
 use Rattle.ps_meaning.specs.Distribution.{Entry, weight, IsDistribution}
-use Rattle.ps_meaning.specs.Bounds.{AtLeast, AtMost, Bound}
+use Rattle.ps_meaning.specs.declared.side.Side.TheVariants.{AtLeast, AtMost}
+use Rattle.ps_meaning.specs.Bounds.{Bound}
 use Rattle.ps_meaning.specs.Rows.{indicator, weighted_sum}
 use Rattle.ps_meaning.proofs.Integers.{mul-nonneg, mul_sub, mul-one}
 use Rattle.ps_meaning.proofs.Rows.{weighted_sum-add, weighted_sum-sub}

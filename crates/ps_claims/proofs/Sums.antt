@@ -4,7 +4,9 @@ use Rattle.std.proofs.lemmas.Int.{ints}
 use Rattle.std.proofs.Math.IntN.{zero-*ℤ}
 use Rattle.ps_meaning.specs.Formula.{World, Formula}
 use Rattle.ps_meaning.specs.Distribution.{Entry, weight, IsDistribution}
-use Rattle.ps_meaning.specs.Bounds.{Side, AtLeast, AtMost, Exactly, Bound, Compares, MeetsBound, MeetsAll}
+use Rattle.ps_meaning.specs.declared.side.Side.{Side}
+use Rattle.ps_meaning.specs.declared.side.Side.TheVariants.{AtLeast, AtMost, Exactly}
+use Rattle.ps_meaning.specs.Bounds.{Bound, Compares, MeetsBound, MeetsAll}
 use Rattle.ps_meaning.specs.Rows.{indicator, row_value, weighted_sum}
 use Rattle.ps_meaning.proofs.Integers.{mul-nonneg, mul-zero}
 use Rattle.ps_meaning.proofs.Weights.{rest}

@@ -1,7 +1,8 @@
 -- The claims of an answer, in the order of a report, and the first fault among them.
 use Rattle.std.specs.Prelude.{◌≡◌, ◌≢◌, ◌≤◌, ◌+◌, ◌⊎◌, ℕ, suc, pos, ◌≤ℤ◌, Option, Some, None, List, [], ◌∷◌, ◌++◌, length, map, sum, take, slice_get, All, AllPairs, Any, IfSome, IsSomeAnd}
 use Rattle.ps_meaning.specs.Distribution.{Entry, weight, total}
-use Rattle.ps_meaning.specs.Bounds.{Exactly, Bound, MeetsBound, MeetsAll}
+use Rattle.ps_meaning.specs.declared.side.Side.TheVariants.{Exactly}
+use Rattle.ps_meaning.specs.Bounds.{Bound, MeetsBound, MeetsAll}
 use Rattle.ps_problem.specs.declared.query.Query as stored
 use Rattle.ps_problem.specs.Problems.{Parts, bounds_of, given_at}
 use Rattle.ps_rational.specs.Rational.{Rational}

@@ -1,7 +1,8 @@
 -- Laws of duals, combinations and claims.
 use Rattle.std.specs.Prelude.{◌≡◌, ◌≤◌, ◌^◌, ◌<◌, ◌*ℤ◌, ◌⊎◌, ◌↔◌, ℕ, ℤ, pos, ◌≤ℤ◌, unsigned_abs, Bool, Option, None, List, length, All}
 use Rattle.ps_meaning.specs.Formula.{World}
-use Rattle.ps_meaning.specs.Bounds.{AtLeast, AtMost, Bound}
+use Rattle.ps_meaning.specs.declared.side.Side.TheVariants.{AtLeast, AtMost}
+use Rattle.ps_meaning.specs.Bounds.{Bound}
 use Rattle.ps_rational.specs.Rational.{Rational, fraction}
 use Rattle.ps_problem.specs.Problems.{Parts, AreParts, bounds_of, bounds_in, HasNodes}
 use Rattle.ps_problem.specs.declared.query.Query as stored

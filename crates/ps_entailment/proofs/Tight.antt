@@ -3,7 +3,8 @@ use Rattle.std.proofs.Common.{◌≡◌, ℕ, zero, suc, ◌<◌, ℤ, pos, ◌-
 use Rattle.std.proofs.lemmas.Int.{ints}
 use Rattle.ps_meaning.specs.Formula.{And}
 use Rattle.ps_meaning.specs.Distribution.{Entry, weight}
-use Rattle.ps_meaning.specs.Bounds.{AtLeast, AtMost, Exactly, Bound, MeetsBound}
+use Rattle.ps_meaning.specs.declared.side.Side.TheVariants.{AtLeast, AtMost, Exactly}
+use Rattle.ps_meaning.specs.Bounds.{Bound, MeetsBound}
 use Rattle.ps_meaning.proofs.Integers.{mul_sub, swap_mul, mul-nonneg}
 use Rattle.ps_rational.specs.Rational.{Rational, fraction, suc_positive}
 use Rattle.ps_rational.specs.Order as order

@@ -2,7 +2,9 @@
 use Rattle.std.specs.Prelude.{◌≡◌, ◌≤◌, ◌+◌, ℕ, ℤ, List, [], length}
 use Rattle.std.specs.List.{AllZip}
 use Rattle.ps_meaning.specs.Distribution.{Entry, total}
-use Rattle.ps_meaning.specs.Bounds.{Side, AtLeast, AtMost, Bound, IsModelOf}
+use Rattle.ps_meaning.specs.declared.side.Side.{Side}
+use Rattle.ps_meaning.specs.declared.side.Side.TheVariants.{AtLeast, AtMost}
+use Rattle.ps_meaning.specs.Bounds.{Bound, IsModelOf}
 use Rattle.ps_rational.specs.Rational.{Rational}
 use Rattle.ps_entailment.specs.Queries.{Query, IsInconsistent, IsImpossible, Holds, Reaches}
 

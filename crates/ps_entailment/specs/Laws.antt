@@ -2,7 +2,8 @@
 use Rattle.std.specs.Prelude.{◌≡◌, ◌<◌, ◌↔◌, ℕ, pos, List}
 use Rattle.ps_meaning.specs.Formula.{And}
 use Rattle.ps_meaning.specs.Distribution.{Entry, weight}
-use Rattle.ps_meaning.specs.Bounds.{AtLeast, AtMost, Exactly, Bound, MeetsBound}
+use Rattle.ps_meaning.specs.declared.side.Side.TheVariants.{AtLeast, AtMost, Exactly}
+use Rattle.ps_meaning.specs.Bounds.{Bound, MeetsBound}
 use Rattle.ps_rational.specs.Rational.{Rational, fraction}
 use Rattle.ps_rational.specs.Order as order
 use Rattle.ps_entailment.specs.Queries.{Query, bound_on, Holds, Reaches}

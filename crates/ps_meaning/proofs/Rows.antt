@@ -3,7 +3,9 @@ use Rattle.std.proofs.Common.{◌≡◌, ◌↔◌, ℕ, ℤ, pos, ◌+ℤ◌, �
 use Rattle.std.proofs.lemmas.Int.{ints}
 use Rattle.ps_meaning.specs.Formula.{Formula, World, And, is_true}
 use Rattle.ps_meaning.specs.Distribution.{Entry, weight}
-use Rattle.ps_meaning.specs.Bounds.{Side, AtLeast, AtMost, Exactly, Bound, Compares, MeetsBound}
+use Rattle.ps_meaning.specs.declared.side.Side.{Side}
+use Rattle.ps_meaning.specs.declared.side.Side.TheVariants.{AtLeast, AtMost, Exactly}
+use Rattle.ps_meaning.specs.Bounds.{Bound, Compares, MeetsBound}
 use Rattle.ps_meaning.specs.Rows.{indicator, row_value, weighted_sum}
 use Rattle.ps_meaning.proofs.Integers.{mul_add, mul_sub, swap_mul, mul-zero, mul-one, mul-nonpos}
 use Rattle.ps_meaning.proofs.Weights.{rest}

@@ -1,11 +1,9 @@
 -- Bounds on probabilities, and the distributions that meet them.
 use Rattle.std.specs.Prelude.{◌≡◌, ℕ, ℤ, ◌*ℤ◌, ◌≤ℤ◌, List, All}
+use Rattle.ps_meaning.specs.declared.side.Side.{Side}
+use Rattle.ps_meaning.specs.declared.side.Side.TheVariants.{AtLeast, AtMost, Exactly}
 use Rattle.ps_meaning.specs.Formula.{Formula, And}
 use Rattle.ps_meaning.specs.Distribution.{Entry, weight, IsDistribution}
-
--- whether a probability is bounded from below, from above, or fixed
-pub data Side : Type 0 where
-  AtLeast AtMost Exactly : Side
 
 -- the probability of a formula, given a condition, against num/den; the condition is truth where nothing is given
 pub record Bound : Type 0 where

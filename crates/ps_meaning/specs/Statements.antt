@@ -1,7 +1,7 @@
 -- What a text states and asks, over atoms by name.
 use Rattle.std.specs.Prelude.{ℕ, List, [], ◌∷◌, Option}
 use Rattle.ps_meaning.specs.Formula.{Formula}
-use Rattle.ps_meaning.specs.Bounds.{Side}
+use Rattle.ps_meaning.specs.declared.side.Side.{Side}
 
 -- the bytes of an atom's name
 abbrev pub Name : Type 0

@@ -14,7 +14,8 @@ use Rattle.ps_problem.specs.declared.fault.Fault.TheVariants as fault
 use Rattle.ps_problem.specs.Numbering.{same_name, same_formula, place_in, names_among, node_in}
 use Rattle.ps_problem.specs.Counts.{Atoms, with_formulas}
 use Rattle.ps_problem.specs.Numbering.{AreOnce}
-use Rattle.ps_problem.specs.Built.{IsReady, name_at, Built, IsAdded, Follows, excess_of}
+use Rattle.ps_problem.specs.Numbered.{IsReady, Built, IsAdded, GivesNumber, excess_of}
+use Rattle.ps_problem.specs.Problems.{name_at}
 use Rattle.ps_problem.proofs.NameLists.{same_name-true, same_name-refl}
 use Rattle.ps_problem.proofs.Lists.{place-absent, place-below, place-new, any-new}
 use Rattle.ps_problem.proofs.Nodes.{names-append, atom-among}
@@ -92,7 +93,7 @@ module _ (names : List Name) (atoms : List ℕ) (nodes : List Node) (h : Built n
 
   -- an atom that is numbered
   pub atom-known : place_in nat_eq atoms k < length atoms → (new : List Node) (result : Result ℕ Fault) → IsAdded nodes (node.Atom (place_in nat_eq atoms k)) new result
-      → Follows names (with_formulas h.formulas (Atom (name_at names k) ∷ [])) (Atom (name_at names k)) atoms new result
+      → GivesNumber names (with_formulas h.formulas (Atom (name_at names k) ∷ [])) (Atom (name_at names k)) atoms new result
   atom-known l new result added =
       step-known names atoms nodes h (Atom (name_at names k)) (any-is ∙ there-below atoms k l) (node.Atom (place_in nat_eq atoms k)) (ap node.Atom (sym place-is)) new result added
 
@@ -148,11 +149,11 @@ module _ (names : List Name) (atoms : List ℕ) (nodes : List Node) (h : Built n
         never f r e = cc
 
     pub atom-new : place_in nat_eq atoms k < 128 → (new : List Node) (i : ℕ) → IsAdded nodes (node.Atom (place_in nat_eq atoms k)) new (Ok i)
-        → Follows names (with_formulas h.formulas (Atom (name_at names k) ∷ [])) (Atom (name_at names k)) (atoms ++ k ∷ []) new (Ok i)
+        → GivesNumber names (with_formulas h.formulas (Atom (name_at names k) ∷ [])) (Atom (name_at names k)) (atoms ++ k ∷ []) new (Ok i)
     atom-new few new i added = by added.0.grown
       where
         by : ((new ≡ nodes) × Contains nodes (node.Atom (place_in nat_eq atoms k))) ⊎ ((new ≡ nodes ++ node.Atom (place_in nat_eq atoms k) ∷ []) × ¬ Contains nodes (node.Atom (place_in nat_eq atoms k)))
-            → Follows names (with_formulas h.formulas (Atom (name_at names k) ∷ [])) (Atom (name_at names k)) (atoms ++ k ∷ []) new (Ok i)
+            → GivesNumber names (with_formulas h.formulas (Atom (name_at names k) ∷ [])) (Atom (name_at names k)) (atoms ++ k ∷ []) new (Ok i)
         by (inl s) = absurd (no-node s.1)
         by (inr s) =
             let room : length h.formulas < 1024 = on (nat_lt (length h.formulas) 1024) refl in

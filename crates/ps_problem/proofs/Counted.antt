@@ -5,7 +5,7 @@ use Rattle.std.specs.Option.{option_map}
 use Rattle.std.proofs.lemmas.List.{append-nil, length_push}
 use Rattle.std.proofs.lemmas.Bool.Decides.{nat_tests}
 use Rattle.ps_meaning.specs.Formula.{Formula, Atom}
-use Rattle.ps_meaning.specs.Bounds as meaning
+use Rattle.ps_meaning.specs.declared.side.Side.TheVariants as side
 use Rattle.ps_meaning.specs.Statements.{Name, Statement, Item, Stated, Asked, statements_of, questions_of}
 use Rattle.ps_problem.specs.declared.bound.Bound.{Bound}
 use Rattle.ps_problem.specs.declared.sentence.Sentence.{Sentence}
@@ -76,8 +76,8 @@ some-map f (Some x) = refl
 length-bounds : (gs : List (Formula Name)) (ss : List Statement) → length (bounds_in (map (sentence_in gs) ss)) ≡ bounds_for ss
 length-bounds gs [] = refl
 length-bounds gs (s ∷ ss) =
-    length-second (bound_in gs s s.side s.value) (option_map (bound_in gs s meaning.AtMost) s.upper) (map (sentence_in gs) ss)
-    ∙ ap (λ b. (if b then 2 else 1) + length (bounds_in (map (sentence_in gs) ss))) (some-map (bound_in gs s meaning.AtMost) s.upper)
+    length-second (bound_in gs s s.side s.value) (option_map (bound_in gs s side.AtMost) s.upper) (map (sentence_in gs) ss)
+    ∙ ap (λ b. (if b then 2 else 1) + length (bounds_in (map (sentence_in gs) ss))) (some-map (bound_in gs s side.AtMost) s.upper)
     ∙ ap (λ n. count_bounds s + n) (length-bounds gs ss)
 
 -- the statements, with so many bounds before

@@ -8,14 +8,14 @@ use Rattle.ps_meaning.specs.Statements.{Name}
 use Rattle.ps_meaning.specs.Names.{IsName}
 use Rattle.ps_problem.specs.declared.mark.Mark.{Mark}
 use Rattle.ps_problem.specs.declared.span.Span.{Span}
-use Rattle.ps_problem.specs.declared.entry.Entry.{Entry}
+use Rattle.ps_problem.specs.declared.draft_item.DraftItem.{DraftItem}
 use Rattle.ps_problem.specs.Numbering.{same_name, with_new}
 use Rattle.ps_problem.specs.Drafts.{arity, NameBelow, canonical_nesting, with_name, with_mark, with_formula}
-use Rattle.ps_problem.specs.Entries.{standing, part, spelled, item_of, IsEntry, drafted, IsSpan, IsDraft}
+use Rattle.ps_problem.specs.DraftLists.{standing, part, spelled, item_of, IsDraftItem, drafted, IsSpan, IsDraft}
 use Rattle.ps_problem.specs.Numbering.{AreOnce}
 use Rattle.ps_problem.proofs.NameLists.{same_name-true, same_name-refl}
 use Rattle.ps_problem.proofs.Lists.{once-push}
-use Rattle.ps_problem.proofs.Postfix.{standing-push, held-push, below-more, standing-more, held-more, part-push, map-same, item-more, entry-more}
+use Rattle.ps_problem.proofs.Postfix.{standing-push, held-push, below-more, standing-more, held-more, part-push, map-same, item-more, draft_item-more}
 
 same_spelled : (names : List Name) (ms ms' : List Mark) (spans : List Span) → All (λ s. part ms' s ≡ part ms s) spans → map (spelled names ms') spans ≡ map (spelled names ms) spans
 same_spelled names ms ms' spans h = map-same (spelled names ms') (spelled names ms) spans
@@ -26,7 +26,7 @@ only [] e = absurd (omega arith)
 only (f ∷ []) e = refl
 only (f ∷ g ∷ fs) e = absurd (omega arith)
 
-module _ (names : List Name) (ms : List Mark) (ended : ℕ) (spans : List Span) (entries : List Entry) (h : IsDraft names ms ended spans entries) where
+module _ (names : List Name) (ms : List Mark) (ended : ℕ) (spans : List Span) (items : List DraftItem) (h : IsDraft names ms ended spans items) where
   module _ (m : Mark) where
     parts-kept : All (λ s. part (ms ++ m ∷ []) s ≡ part ms s) spans
     parts-kept = All-weaker (IsSpan names ms ended) (λ s. part (ms ++ m ∷ []) s ≡ part ms s)
@@ -35,7 +35,7 @@ module _ (names : List Name) (ms : List Mark) (ended : ℕ) (spans : List Span) 
     rest-push : drop ended (ms ++ m ∷ []) ≡ drop ended ms ++ m ∷ []
     rest-push = drop-append-le ended ms (m ∷ []) h.within
 
-    pub with_mark-is : drafted names (ms ++ m ∷ []) ended spans entries ≡ with_mark (drafted names ms ended spans entries) m
+    pub with_mark-is : drafted names (ms ++ m ∷ []) ended spans items ≡ with_mark (drafted names ms ended spans items) m
     with_mark-is = rw (rest-push, standing-push names [] (drop ended ms) m, same_spelled names ms (ms ++ m ∷ []) spans parts-kept) refl
 
     span-push : (s : Span) → IsSpan names ms ended s → IsSpan names (ms ++ m ∷ []) ended s
@@ -43,7 +43,7 @@ module _ (names : List Name) (ms : List Mark) (ended : ℕ) (spans : List Span) 
         let e : part (ms ++ m ∷ []) s ≡ part ms s = part-push ms m s k.start (let e = k.end in let w = h.within in omega arith) in
         record { start = k.start; end = k.end; marks = rw e k.marks; nesting = rw e k.nesting }
 
-    pub IsDraft-mark : NameBelow (length names) m → arity m ≤ length (standing names [] (drop ended ms)) → IsDraft names (ms ++ m ∷ []) ended spans entries
+    pub IsDraft-mark : NameBelow (length names) m → arity m ≤ length (standing names [] (drop ended ms)) → IsDraft names (ms ++ m ∷ []) ended spans items
     IsDraft-mark below le = record {
       named = h.named;
       different = h.different;
@@ -51,7 +51,7 @@ module _ (names : List Name) (ms : List Mark) (ended : ℕ) (spans : List Span) 
       within = (let w = h.within in omega (arith, length_push ms m));
       held = rw rest-push (held-push names [] (drop ended ms) m h.held le);
       formulas = All-weaker (IsSpan names ms ended) (IsSpan names (ms ++ m ∷ []) ended) span-push spans h.formulas;
-      items = h.items;
+      sound = h.sound;
       few_items = h.few_items;
     }
 
@@ -80,7 +80,7 @@ module _ (names : List Name) (ms : List Mark) (ended : ℕ) (spans : List Span) 
       nesting = rw (spelled-more s k) k.nesting;
     }
 
-    IsDraft-more : All IsName more → AreOnce same_name (names ++ more) → IsDraft (names ++ more) ms ended spans entries
+    IsDraft-more : All IsName more → AreOnce same_name (names ++ more) → IsDraft (names ++ more) ms ended spans items
     IsDraft-more named different = record {
       different = different;
       named = All-append IsName names more h.named named;
@@ -88,7 +88,7 @@ module _ (names : List Name) (ms : List Mark) (ended : ℕ) (spans : List Span) 
       within = h.within;
       held = held-more names more [] (drop ended ms) (All-drop (NameBelow (length names)) ended ms h.below) h.held;
       formulas = All-weaker (IsSpan names ms ended) (IsSpan (names ++ more) ms ended) span-more spans h.formulas;
-      items = h.items;
+      sound = h.sound;
       few_items = h.few_items;
     }
 
@@ -101,13 +101,13 @@ module _ (names : List Name) (ms : List Mark) (ended : ℕ) (spans : List Span) 
     added : (more : List Name) × (All IsName (name ∷ []) → All IsName more) × AreOnce same_name (names ++ more) × (with_new same_name names name ≡ names ++ more)
     added = grown (list_any (same_name name) names) refl
 
-    pub with_name-is : drafted (with_new same_name names name) ms ended spans entries ≡ with_name (drafted names ms ended spans entries) name
+    pub with_name-is : drafted (with_new same_name names name) ms ended spans items ≡ with_name (drafted names ms ended spans items) name
     with_name-is =
         let e = added.3 in
-        ap (λ ns. drafted ns ms ended spans entries) e
-        ∙ rw (rest-more added.0, formulas-more added.0) (ap (λ ns. record { names = ns; «open» = standing names [] (drop ended ms); formulas = map (spelled names ms) spans; items = map (item_of (map (spelled names ms) spans)) entries }) (sym e))
+        ap (λ ns. drafted ns ms ended spans items) e
+        ∙ rw (rest-more added.0, formulas-more added.0) (ap (λ ns. record { names = ns; «open» = standing names [] (drop ended ms); formulas = map (spelled names ms) spans; items = map (item_of (map (spelled names ms) spans)) items }) (sym e))
 
-    pub IsDraft-name : IsName name → IsDraft (with_new same_name names name) ms ended spans entries
+    pub IsDraft-name : IsName name → IsDraft (with_new same_name names name) ms ended spans items
     IsDraft-name n = rw added.3 (IsDraft-more added.0 (added.1 (All-push IsName [] name (All-nil IsName) n)) added.2)
 
   module _ (one : length (standing names [] (drop ended ms)) ≡ 1) (shallow : All (λ f. canonical_nesting f ≤ 100) (standing names [] (drop ended ms))) where
@@ -120,12 +120,12 @@ module _ (names : List Name) (ms : List Mark) (ended : ℕ) (spans : List Span) 
     formulas-end : map (spelled names ms) (spans ++ record { start = ended; end = length ms } ∷ []) ≡ map (spelled names ms) spans ++ standing names [] (drop ended ms)
     formulas-end = map-append (spelled names ms) spans (record { start = ended; end = length ms } ∷ []) ∙ ap (λ fs. map (spelled names ms) spans ++ fs) (sym fresh-is)
 
-    items-end : map (item_of (map (spelled names ms) spans ++ standing names [] (drop ended ms))) entries ≡ map (item_of (map (spelled names ms) spans)) entries
-    items-end = map-same (item_of (map (spelled names ms) spans ++ standing names [] (drop ended ms))) (item_of (map (spelled names ms) spans)) entries
-        (All-weaker (IsEntry (length spans)) (λ e. item_of (map (spelled names ms) spans ++ standing names [] (drop ended ms)) e ≡ item_of (map (spelled names ms) spans) e)
-        (λ e k. item-more (map (spelled names ms) spans) (standing names [] (drop ended ms)) e (subst (λ n. IsEntry n e) (sym (length-map spans (spelled names ms))) k)) entries h.items)
+    items-end : map (item_of (map (spelled names ms) spans ++ standing names [] (drop ended ms))) items ≡ map (item_of (map (spelled names ms) spans)) items
+    items-end = map-same (item_of (map (spelled names ms) spans ++ standing names [] (drop ended ms))) (item_of (map (spelled names ms) spans)) items
+        (All-weaker (IsDraftItem (length spans)) (λ e. item_of (map (spelled names ms) spans ++ standing names [] (drop ended ms)) e ≡ item_of (map (spelled names ms) spans) e)
+        (λ e k. item-more (map (spelled names ms) spans) (standing names [] (drop ended ms)) e (subst (λ n. IsDraftItem n e) (sym (length-map spans (spelled names ms))) k)) items h.sound)
 
-    pub with_formula-is : drafted names ms (length ms) (spans ++ record { start = ended; end = length ms } ∷ []) entries ≡ with_formula (drafted names ms ended spans entries)
+    pub with_formula-is : drafted names ms (length ms) (spans ++ record { start = ended; end = length ms } ∷ []) items ≡ with_formula (drafted names ms ended spans items)
     with_formula-is = rw (drop_all (length ms) ms (omega arith), formulas-end, items-end) refl
 
     span-later : (s : Span) → IsSpan names ms ended s → IsSpan names ms (length ms) s
@@ -143,7 +143,7 @@ module _ (names : List Name) (ms : List Mark) (ended : ℕ) (spans : List Span) 
       nesting = (let k = rw fresh-is at shallow in k 0 Truth (omega arith));
     }
 
-    pub IsDraft-end : IsDraft names ms (length ms) (spans ++ record { start = ended; end = length ms } ∷ []) entries
+    pub IsDraft-end : IsDraft names ms (length ms) (spans ++ record { start = ended; end = length ms } ∷ []) items
     IsDraft-end = record {
       named = h.named;
       different = h.different;
@@ -152,7 +152,7 @@ module _ (names : List Name) (ms : List Mark) (ended : ℕ) (spans : List Span) 
       held = rw (drop_all (length ms) ms (omega arith)) tt;
       formulas = All-push (IsSpan names ms (length ms)) spans (record { start = ended; end = length ms })
           (All-weaker (IsSpan names ms ended) (IsSpan names ms (length ms)) span-later spans h.formulas) fresh-span;
-      items = All-weaker (IsEntry (length spans)) (IsEntry (length (spans ++ record { start = ended; end = length ms } ∷ [])))
-          (λ e k. entry-more (length spans) (length (spans ++ record { start = ended; end = length ms } ∷ [])) e (omega (arith, length_push {X = Span} spans (record { start = ended; end = length ms }))) k) entries h.items;
+      sound = All-weaker (IsDraftItem (length spans)) (IsDraftItem (length (spans ++ record { start = ended; end = length ms } ∷ [])))
+          (λ e k. draft_item-more (length spans) (length (spans ++ record { start = ended; end = length ms } ∷ [])) e (omega (arith, length_push {X = Span} spans (record { start = ended; end = length ms }))) k) items h.sound;
       few_items = h.few_items;
     }

@@ -5,37 +5,32 @@ use Rattle.std.proofs.lemmas.List.Elements.{All-push, All-weaker}
 use Rattle.ps_meaning.specs.Formula.{Formula}
 use Rattle.ps_meaning.specs.Statements.{Name, Ratio, Statement, Question}
 use Rattle.ps_problem.specs.declared.bound.Bound.{Bound}
-use Rattle.ps_problem.specs.declared.bound.Side.{Side}
-use Rattle.ps_problem.specs.declared.bound.Side.TheVariants as side
+use Rattle.ps_meaning.specs.declared.side.Side.TheVariants.{AtMost}
+use Rattle.ps_problem.specs.declared.draft_item.DraftSentence.{DraftSentence}
 use Rattle.ps_problem.specs.declared.sentence.Sentence.{Sentence}
 use Rattle.ps_problem.specs.declared.query.Query.{Query}
-use Rattle.ps_problem.specs.Problems.{bounds_in, side_of}
-use Rattle.ps_problem.specs.Numbering.{same_formula, place_in, both_of, side_in, sentence_in, query_in}
+use Rattle.ps_problem.specs.Problems.{bounds_in}
+use Rattle.ps_problem.specs.Numbering.{same_formula, place_in, both_of, sentence_in, query_in}
 use Rattle.ps_problem.specs.Counts.{count_bounds}
-use Rattle.ps_problem.specs.Drafts.{statement_at, ratio_of}
-use Rattle.ps_problem.specs.Built.{IsAmong, HasQuestion}
-use Rattle.ps_problem.specs.Builds.{Holds, bound_on, sentence_on, question_on}
+use Rattle.ps_problem.specs.Drafts.{ratio_of}
+use Rattle.ps_problem.specs.DraftLists.{statement_of}
+use Rattle.ps_problem.specs.Numbered.{IsAmong, HasQuestion}
+use Rattle.ps_problem.specs.Making.{HasItems, bound_on, sentence_on, question_on}
 use Rattle.ps_problem.proofs.Nodes.{among-more, place-more}
 use Rattle.ps_problem.proofs.Postfix.{map-same}
 
 -- a statement's sentence on a query's formula
 abbrev sentence_from : Statement → Query → Sentence
-sentence_from s q = record { first = bound_on q (side_in s.side) s.value.num s.value.den; second = option_map (λ r. bound_on q side.AtMost r.num r.den) s.upper }
-
-side-back : (s : Side) → side_in (side_of s) ≡ s
-side-back side.AtLeast = refl
-side-back side.AtMost = refl
-side-back side.Exactly = refl
+sentence_from s q = record { first = bound_on q s.side s.value.num s.value.den; second = option_map (λ r. bound_on q AtMost r.num r.den) s.upper }
 
 -- the sentence of a statement over formulas by number
-pub sentence-is : (gs fs : List (Formula Name)) (f : ℕ) (g : Option ℕ) (s : Side) (num den : ℕ) (upper : Option (ℕ × ℕ)) (q : Query) → q ≡ query_in gs (question_on (statement_at fs f g s num den upper))
-    → sentence_on q s num den upper ≡ sentence_in gs (statement_at fs f g s num den upper)
-sentence-is gs fs f g s num den upper q e = by upper (ap (λ k. bound_on q k num den) (sym (side-back s)))
-    ∙ ap (sentence_from (statement_at fs f g s num den upper)) e
+pub sentence-is : (gs fs : List (Formula Name)) (s : DraftSentence) (q : Query) → q ≡ query_in gs (question_on (statement_of fs s))
+    → sentence_on q s ≡ sentence_in gs (statement_of fs s)
+sentence-is gs fs s q e = ap (λ x. record { first = bound_on q s.side s.num s.den; second = x }) (by s.upper) ∙ ap (sentence_from (statement_of fs s)) e
   where
-    by : (u : Option (ℕ × ℕ)) → bound_on q s num den ≡ bound_on q (side_in (side_of s)) num den → sentence_on q s num den u ≡ sentence_from (statement_at fs f g s num den u) q
-    by None b = ap (λ x. record { first = x; second = None }) b
-    by (Some r) b = ap (λ x. record { first = x; second = Some (bound_on q side.AtMost r.0 r.1) }) b
+    by : (u : Option (ℕ × ℕ)) → option_map (λ r. bound_on q AtMost r.0 r.1) u ≡ option_map (λ r. bound_on q AtMost r.num r.den) (option_map ratio_of u)
+    by None = refl
+    by (Some r) = refl
 
 pub count-is : (u : Option (ℕ × ℕ)) → ◌≡◌ {A = ℕ} (if is_some (option_map ratio_of u) then 2 else 1) (if is_some u then 2 else 1)
 count-is None = refl
@@ -54,7 +49,7 @@ bounds-append (x ∷ xs) ys = by x.first x.second (bounds-append xs ys)
 pub length-bounds : (fs : List (Formula Name)) (s : Statement) → length (bounds_in (sentence_in fs s ∷ [])) ≡ count_bounds s
 length-bounds fs s = by (sentence_in fs s).first s.upper
   where
-    by : (b : Bound) (u : Option Ratio) → length (bounds_in (record { first = b; second = option_map (λ r. bound_on (query_in fs (question_on s)) side.AtMost r.num r.den) u } ∷ [])) ≡ (if is_some u then 2 else 1)
+    by : (b : Bound) (u : Option Ratio) → length (bounds_in (record { first = b; second = option_map (λ r. bound_on (query_in fs (question_on s)) AtMost r.num r.den) u } ∷ [])) ≡ (if is_some u then 2 else 1)
     by b None = refl
     by b (Some r) = refl
 
@@ -80,9 +75,9 @@ module _ (fs more : List (Formula Name)) where
   sentence-more : (s : Statement) → HasQuestion fs (question_on s) → sentence_in (fs ++ more) s ≡ sentence_in fs s
   sentence-more s h = ap (sentence_from s) (query-more (question_on s) h)
 
-module _ (fs : List (Formula Name)) (stated : List Statement) (asked : List Question) (sentences : List Sentence) (bounds : List Bound) (queries : List Query) (h : Holds fs stated asked sentences bounds queries) where
+module _ (fs : List (Formula Name)) (stated : List Statement) (asked : List Question) (sentences : List Sentence) (bounds : List Bound) (queries : List Query) (h : HasItems fs stated asked sentences bounds queries) where
   -- further formulas change nothing
-  pub holds-more : (more : List (Formula Name)) → Holds (fs ++ more) stated asked sentences bounds queries
+  pub holds-more : (more : List (Formula Name)) → HasItems (fs ++ more) stated asked sentences bounds queries
   holds-more more = record {
     stated_there = All-weaker (λ s. HasQuestion fs (question_on s)) (λ s. HasQuestion (fs ++ more) (question_on s)) (λ s. has-more fs more (question_on s)) stated h.stated_there;
     asked_there = All-weaker (HasQuestion fs) (HasQuestion (fs ++ more)) (has-more fs more) asked h.asked_there;
@@ -95,7 +90,7 @@ module _ (fs : List (Formula Name)) (stated : List Statement) (asked : List Ques
 
   -- one more statement
   pub holds-statement : (s : Statement) → HasQuestion fs (question_on s)
-      → Holds fs (stated ++ s ∷ []) asked (sentences ++ sentence_in fs s ∷ []) (bounds ++ bounds_in (sentence_in fs s ∷ [])) queries
+      → HasItems fs (stated ++ s ∷ []) asked (sentences ++ sentence_in fs s ∷ []) (bounds ++ bounds_in (sentence_in fs s ∷ [])) queries
   holds-statement s there = record {
     stated_there = All-push (λ s. HasQuestion fs (question_on s)) stated s h.stated_there there;
     asked_there = h.asked_there;
@@ -105,7 +100,7 @@ module _ (fs : List (Formula Name)) (stated : List Statement) (asked : List Ques
   }
 
   -- one more question
-  pub holds-question : (q : Question) → HasQuestion fs q → Holds fs stated (asked ++ q ∷ []) sentences bounds (queries ++ query_in fs q ∷ [])
+  pub holds-question : (q : Question) → HasQuestion fs q → HasItems fs stated (asked ++ q ∷ []) sentences bounds (queries ++ query_in fs q ∷ [])
   holds-question q there = record {
     stated_there = h.stated_there;
     asked_there = All-push (HasQuestion fs) asked q h.asked_there there;

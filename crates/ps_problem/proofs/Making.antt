@@ -10,11 +10,15 @@ use Rattle.ps_problem.specs.declared.bound.Bound.{Bound}
 use Rattle.ps_problem.specs.declared.sentence.Sentence.{Sentence}
 use Rattle.ps_problem.specs.declared.query.Query.{Query}
 use Rattle.ps_problem.specs.declared.fault.Fault.{Fault}
-use Rattle.ps_problem.specs.Problems.{bounds_in}
+use Rattle.ps_problem.specs.declared.building.Building.{Building}
+use Rattle.ps_problem.specs.declared.assembly.Assembly.{Assembly}
+use Rattle.ps_problem.specs.Drafts.{Drafted}
+use Rattle.ps_problem.specs.Problems.{parts_of, bounds_in}
 use Rattle.ps_problem.specs.Numbering.{AreOnce, same_name, names_among, sentence_in, query_in, numbered_for, problem_of, formulas_of, node_in}
 use Rattle.ps_problem.specs.Counts.{Excess, Bounds, Queries, count_bounds, with_formulas, at_item, with_statements, with_questions, after, counted}
-use Rattle.ps_problem.specs.Built.{IsReady, HasQuestion, name_at, FollowsQuestion, excess_of}
-use Rattle.ps_problem.specs.Builds.{Holds, Stating, Asking, IsExcess, question_on}
+use Rattle.ps_problem.specs.Numbered.{IsReady, HasQuestion, GivesQuery, excess_of}
+use Rattle.ps_problem.specs.Problems.{name_at}
+use Rattle.ps_problem.specs.Making.{HasItems, SentencesMade, QueriesMade, IsExcess, question_on}
 use Rattle.ps_problem.proofs.Turns.{with-more}
 use Rattle.ps_problem.proofs.Growth.{length-bounds, holds-more, holds-statement, holds-question}
 use Rattle.ps_problem.proofs.Counted.{counted-formulas}
@@ -37,120 +41,120 @@ left-at items i x at = drop_more items i x (slice_get_within items i x at) ∙ a
 done-at : (items : List Item) (i : ℕ) (x : Item) → slice_get items i ≡ Some x → take (i + 1) items ≡ take i items ++ x ∷ []
 done-at items i x at = take_more items i x (slice_get_within items i x at) ∙ ap (λ y. take i items ++ y ∷ []) (get_or_from_slice_get items i x x at)
 
-module _ (names : List Name) (items : List Item) where
-  module _ (i : ℕ) (atoms : List ℕ) (nodes : List Node) (sentences : List Sentence) (bounds : List Bound) (queries : List Query) (r : Stating names items i atoms nodes sentences bounds queries) where
+module _ (d : Drafted) where
+  module _ (i : ℕ) (a : Assembly) (r : SentencesMade d i a) where
     -- the item is a question
-    pub stating-skip : (q : Question) → slice_get items i ≡ Some (Asked q) → Stating names items (i + 1) atoms nodes sentences bounds queries
+    pub stating-skip : (q : Question) → slice_get d.items i ≡ Some (Asked q) → SentencesMade d (i + 1) a
     stating-skip q at = record {
       built = r.built;
-      holds = subst (λ ss. Holds r.built.formulas ss [] sentences bounds queries)
-          (sym (ap statements_of (done-at items i (Asked q) at) ∙ statements-append (take i items) (Asked q ∷ []) ∙ append-nil (statements_of (take i items)))) r.holds;
-      rest = ap (λ xs. after (with_statements i (length bounds) r.built.formulas xs) (λ fs. with_questions 0 0 fs items)) (sym (left-at items i (Asked q) at)) ∙ r.rest;
+      holds = subst (λ ss. HasItems r.built.formulas ss [] a.sentences a.bounds a.queries)
+          (sym (ap statements_of (done-at d.items i (Asked q) at) ∙ statements-append (take i d.items) (Asked q ∷ []) ∙ append-nil (statements_of (take i d.items)))) r.holds;
+      rest = ap (λ xs. after (with_statements i (length a.bounds) r.built.formulas xs) (λ fs. with_questions 0 0 fs d.items)) (sym (left-at d.items i (Asked q) at)) ∙ r.rest;
     }
 
-    module _ (s : Statement) (at : slice_get items i ≡ Some (Stated s)) where
-      turn : after (with_statements i (length bounds) r.built.formulas (Stated s ∷ drop (i + 1) items)) (λ fs. with_questions 0 0 fs items) ≡ counted items
-      turn = ap (λ xs. after (with_statements i (length bounds) r.built.formulas xs) (λ fs. with_questions 0 0 fs items)) (sym (left-at items i (Stated s) at)) ∙ r.rest
+    module _ (s : Statement) (at : slice_get d.items i ≡ Some (Stated s)) where
+      turn : after (with_statements i (length a.bounds) r.built.formulas (Stated s ∷ drop (i + 1) d.items)) (λ fs. with_questions 0 0 fs d.items) ≡ counted d.items
+      turn = ap (λ xs. after (with_statements i (length a.bounds) r.built.formulas xs) (λ fs. with_questions 0 0 fs d.items)) (sym (left-at d.items i (Stated s) at)) ∙ r.rest
 
-      split : (b : Bool) → nat_lt 100 (length bounds + count_bounds s) ≡ b
-          → after (at_item (i + 1) (if b then Err Bounds else with_formulas r.built.formulas (numbered_for s.formula s.given)) (λ gs. with_statements (i + 1) (length bounds + count_bounds s) gs (drop (i + 1) items))) (λ fs. with_questions 0 0 fs items)
-          ≡ counted items
-      split b e = ap (λ c. after (at_item (i + 1) (if c then Err Bounds else with_formulas r.built.formulas (numbered_for s.formula s.given)) (λ gs. with_statements (i + 1) (length bounds + count_bounds s) gs (drop (i + 1) items))) (λ fs. with_questions 0 0 fs items)) (sym e) ∙ turn
+      split : (b : Bool) → nat_lt 100 (length a.bounds + count_bounds s) ≡ b
+          → after (at_item (i + 1) (if b then Err Bounds else with_formulas r.built.formulas (numbered_for s.formula s.given)) (λ gs. with_statements (i + 1) (length a.bounds + count_bounds s) gs (drop (i + 1) d.items))) (λ fs. with_questions 0 0 fs d.items)
+          ≡ counted d.items
+      split b e = ap (λ c. after (at_item (i + 1) (if c then Err Bounds else with_formulas r.built.formulas (numbered_for s.formula s.given)) (λ gs. with_statements (i + 1) (length a.bounds + count_bounds s) gs (drop (i + 1) d.items))) (λ fs. with_questions 0 0 fs d.items)) (sym e) ∙ turn
 
       -- its bounds are too many
-      pub stating-full : 100 < length bounds + count_bounds s → counted items ≡ Err (record { excess = Bounds; item = i + 1 })
+      pub stating-full : 100 < length a.bounds + count_bounds s → counted d.items ≡ Err (record { excess = Bounds; item = i + 1 })
       stating-full lt = sym (split true (grind (arith, nat_tests)))
 
-      module _ (few : length bounds + count_bounds s ≤ 100) where
-        fits : after (at_item (i + 1) (with_formulas r.built.formulas (numbered_for s.formula s.given)) (λ gs. with_statements (i + 1) (length bounds + count_bounds s) gs (drop (i + 1) items))) (λ fs. with_questions 0 0 fs items)
-            ≡ counted items
+      module _ (few : length a.bounds + count_bounds s ≤ 100) where
+        fits : after (at_item (i + 1) (with_formulas r.built.formulas (numbered_for s.formula s.given)) (λ gs. with_statements (i + 1) (length a.bounds + count_bounds s) gs (drop (i + 1) d.items))) (λ fs. with_questions 0 0 fs d.items)
+            ≡ counted d.items
         fits = split false (grind (arith, nat_tests))
 
         -- its formulas don't fit
-        pub stating-stop : (x : Fault) → IfSome (excess_of x) (λ e. with_formulas r.built.formulas (numbered_for s.formula s.given) ≡ Err e) → IsExcess items (i + 1) x
+        pub stating-stop : (x : Fault) → IfSome (excess_of x) (λ e. with_formulas r.built.formulas (numbered_for s.formula s.given) ≡ Err e) → IsExcess d.items (i + 1) x
         stating-stop x t = by (excess_of x) t
           where
-            by : (o : Option Excess) → IfSome o (λ e. with_formulas r.built.formulas (numbered_for s.formula s.given) ≡ Err e) → IfSome o (λ e. counted items ≡ Err (record { excess = e; item = i + 1 }))
+            by : (o : Option Excess) → IfSome o (λ e. with_formulas r.built.formulas (numbered_for s.formula s.given) ≡ Err e) → IfSome o (λ e. counted d.items ≡ Err (record { excess = e; item = i + 1 }))
             by None t = tt
-            by (Some e) t = sym fits ∙ ap (λ w. after (at_item (i + 1) w (λ gs. with_statements (i + 1) (length bounds + count_bounds s) gs (drop (i + 1) items))) (λ fs. with_questions 0 0 fs items)) t
+            by (Some e) t = sym fits ∙ ap (λ w. after (at_item (i + 1) w (λ gs. with_statements (i + 1) (length a.bounds + count_bounds s) gs (drop (i + 1) d.items))) (λ fs. with_questions 0 0 fs d.items)) t
 
-        pub stating-next : (atoms' : List ℕ) (nodes' : List Node) (query : Query)
-            → (f : FollowsQuestion names (with_formulas r.built.formulas (numbered_for s.formula s.given)) (question_on s) atoms' nodes' (Ok query))
-            → Stating names items (i + 1) atoms' nodes' (sentences ++ sentence_in f.0.formulas s ∷ []) (bounds ++ bounds_in (sentence_in f.0.formulas s ∷ [])) queries
-        stating-next atoms' nodes' query f =
+        pub stating-next : (b : Building) (query : Query)
+            → (f : GivesQuery d.names (with_formulas r.built.formulas (numbered_for s.formula s.given)) (question_on s) b.atoms b.formulas (Ok query))
+            → SentencesMade d (i + 1) (record { building = b; sentences = a.sentences ++ sentence_in f.0.formulas s ∷ []; bounds = a.bounds ++ bounds_in (sentence_in f.0.formulas s ∷ []); queries = a.queries })
+        stating-next b query f =
             let more = with-more r.built.formulas (numbered_for s.formula s.given) f.0.formulas f.1 in
-            let kept = subst (λ gs. Holds gs (statements_of (take i items)) [] sentences bounds queries) (sym more.1)
-            (holds-more r.built.formulas (statements_of (take i items)) [] sentences bounds queries r.holds more.0) in
-            let n = length-append bounds (bounds_in (sentence_in f.0.formulas s ∷ [])) ∙ ap (λ k. length bounds + k) (length-bounds f.0.formulas s) in
+            let kept = subst (λ gs. HasItems gs (statements_of (take i d.items)) [] a.sentences a.bounds a.queries) (sym more.1)
+            (holds-more r.built.formulas (statements_of (take i d.items)) [] a.sentences a.bounds a.queries r.holds more.0) in
+            let n = length-append a.bounds (bounds_in (sentence_in f.0.formulas s ∷ [])) ∙ ap (λ k. length a.bounds + k) (length-bounds f.0.formulas s) in
             record {
               built = f.0;
-              holds = subst (λ ss. Holds f.0.formulas ss [] (sentences ++ sentence_in f.0.formulas s ∷ []) (bounds ++ bounds_in (sentence_in f.0.formulas s ∷ [])) queries)
-                  (sym (ap statements_of (done-at items i (Stated s) at) ∙ statements-append (take i items) (Stated s ∷ [])))
-                  (holds-statement f.0.formulas (statements_of (take i items)) [] sentences bounds queries kept s f.2);
-              rest = ap (λ k. after (with_statements (i + 1) k f.0.formulas (drop (i + 1) items)) (λ fs. with_questions 0 0 fs items)) n
-                  ∙ sym (ap (λ w. after (at_item (i + 1) w (λ gs. with_statements (i + 1) (length bounds + count_bounds s) gs (drop (i + 1) items))) (λ fs. with_questions 0 0 fs items)) f.1) ∙ fits;
+              holds = subst (λ ss. HasItems f.0.formulas ss [] (a.sentences ++ sentence_in f.0.formulas s ∷ []) (a.bounds ++ bounds_in (sentence_in f.0.formulas s ∷ [])) a.queries)
+                  (sym (ap statements_of (done-at d.items i (Stated s) at) ∙ statements-append (take i d.items) (Stated s ∷ [])))
+                  (holds-statement f.0.formulas (statements_of (take i d.items)) [] a.sentences a.bounds a.queries kept s f.2);
+              rest = ap (λ k. after (with_statements (i + 1) k f.0.formulas (drop (i + 1) d.items)) (λ fs. with_questions 0 0 fs d.items)) n
+                  ∙ sym (ap (λ w. after (at_item (i + 1) w (λ gs. with_statements (i + 1) (length a.bounds + count_bounds s) gs (drop (i + 1) d.items))) (λ fs. with_questions 0 0 fs d.items)) f.1) ∙ fits;
             }
 
-  module _ (i : ℕ) (atoms : List ℕ) (nodes : List Node) (sentences : List Sentence) (bounds : List Bound) (queries : List Query) (r : Asking names items i atoms nodes sentences bounds queries) where
+  module _ (i : ℕ) (a : Assembly) (r : QueriesMade d i a) where
     -- the item is a statement
-    pub asking-skip : (s : Statement) → slice_get items i ≡ Some (Stated s) → Asking names items (i + 1) atoms nodes sentences bounds queries
+    pub asking-skip : (s : Statement) → slice_get d.items i ≡ Some (Stated s) → QueriesMade d (i + 1) a
     asking-skip s at = record {
       built = r.built;
-      holds = subst (λ qs. Holds r.built.formulas (statements_of items) qs sentences bounds queries)
-          (sym (ap questions_of (done-at items i (Stated s) at) ∙ questions-append (take i items) (Stated s ∷ []) ∙ append-nil (questions_of (take i items)))) r.holds;
-      rest = ap (with_questions i (length queries) r.built.formulas) (sym (left-at items i (Stated s) at)) ∙ r.rest;
+      holds = subst (λ qs. HasItems r.built.formulas (statements_of d.items) qs a.sentences a.bounds a.queries)
+          (sym (ap questions_of (done-at d.items i (Stated s) at) ∙ questions-append (take i d.items) (Stated s ∷ []) ∙ append-nil (questions_of (take i d.items)))) r.holds;
+      rest = ap (with_questions i (length a.queries) r.built.formulas) (sym (left-at d.items i (Stated s) at)) ∙ r.rest;
     }
 
-    module _ (q : Question) (at : slice_get items i ≡ Some (Asked q)) where
-      asked-split : (b : Bool) → nat_lt 16 (length queries + 1) ≡ b
-          → at_item (i + 1) (if b then Err Queries else with_formulas r.built.formulas (numbered_for q.formula q.given)) (λ gs. with_questions (i + 1) (length queries + 1) gs (drop (i + 1) items)) ≡ counted items
-      asked-split b e = ap (λ c. at_item (i + 1) (if c then Err Queries else with_formulas r.built.formulas (numbered_for q.formula q.given)) (λ gs. with_questions (i + 1) (length queries + 1) gs (drop (i + 1) items))) (sym e)
-          ∙ ap (with_questions i (length queries) r.built.formulas) (sym (left-at items i (Asked q) at)) ∙ r.rest
+    module _ (q : Question) (at : slice_get d.items i ≡ Some (Asked q)) where
+      asked-split : (b : Bool) → nat_lt 16 (length a.queries + 1) ≡ b
+          → at_item (i + 1) (if b then Err Queries else with_formulas r.built.formulas (numbered_for q.formula q.given)) (λ gs. with_questions (i + 1) (length a.queries + 1) gs (drop (i + 1) d.items)) ≡ counted d.items
+      asked-split b e = ap (λ c. at_item (i + 1) (if c then Err Queries else with_formulas r.built.formulas (numbered_for q.formula q.given)) (λ gs. with_questions (i + 1) (length a.queries + 1) gs (drop (i + 1) d.items))) (sym e)
+          ∙ ap (with_questions i (length a.queries) r.built.formulas) (sym (left-at d.items i (Asked q) at)) ∙ r.rest
 
       -- there are enough questions already
-      pub asking-full : 16 ≤ length queries → counted items ≡ Err (record { excess = Queries; item = i + 1 })
+      pub asking-full : 16 ≤ length a.queries → counted d.items ≡ Err (record { excess = Queries; item = i + 1 })
       asking-full le = sym (asked-split true (grind (arith, nat_tests)))
 
-      module _ (few : length queries < 16) where
-        asked-fits : at_item (i + 1) (with_formulas r.built.formulas (numbered_for q.formula q.given)) (λ gs. with_questions (i + 1) (length queries + 1) gs (drop (i + 1) items)) ≡ counted items
+      module _ (few : length a.queries < 16) where
+        asked-fits : at_item (i + 1) (with_formulas r.built.formulas (numbered_for q.formula q.given)) (λ gs. with_questions (i + 1) (length a.queries + 1) gs (drop (i + 1) d.items)) ≡ counted d.items
         asked-fits = asked-split false (grind (arith, nat_tests))
 
         -- its formulas don't fit
-        pub asking-stop : (x : Fault) → IfSome (excess_of x) (λ e. with_formulas r.built.formulas (numbered_for q.formula q.given) ≡ Err e) → IsExcess items (i + 1) x
+        pub asking-stop : (x : Fault) → IfSome (excess_of x) (λ e. with_formulas r.built.formulas (numbered_for q.formula q.given) ≡ Err e) → IsExcess d.items (i + 1) x
         asking-stop x t = by (excess_of x) t
           where
-            by : (o : Option Excess) → IfSome o (λ e. with_formulas r.built.formulas (numbered_for q.formula q.given) ≡ Err e) → IfSome o (λ e. counted items ≡ Err (record { excess = e; item = i + 1 }))
+            by : (o : Option Excess) → IfSome o (λ e. with_formulas r.built.formulas (numbered_for q.formula q.given) ≡ Err e) → IfSome o (λ e. counted d.items ≡ Err (record { excess = e; item = i + 1 }))
             by None t = tt
-            by (Some e) t = sym asked-fits ∙ ap (λ w. at_item (i + 1) w (λ gs. with_questions (i + 1) (length queries + 1) gs (drop (i + 1) items))) t
+            by (Some e) t = sym asked-fits ∙ ap (λ w. at_item (i + 1) w (λ gs. with_questions (i + 1) (length a.queries + 1) gs (drop (i + 1) d.items))) t
 
-        pub asking-next : (atoms' : List ℕ) (nodes' : List Node) (query : Query)
-            → FollowsQuestion names (with_formulas r.built.formulas (numbered_for q.formula q.given)) q atoms' nodes' (Ok query)
-            → Asking names items (i + 1) atoms' nodes' sentences bounds (queries ++ query ∷ [])
-        asking-next atoms' nodes' query f =
+        pub asking-next : (b : Building) (query : Query)
+            → GivesQuery d.names (with_formulas r.built.formulas (numbered_for q.formula q.given)) q b.atoms b.formulas (Ok query)
+            → QueriesMade d (i + 1) (record { building = b; sentences = a.sentences; bounds = a.bounds; queries = a.queries ++ query ∷ [] })
+        asking-next b query f =
             let more = with-more r.built.formulas (numbered_for q.formula q.given) f.0.formulas f.1 in
-            let kept = subst (λ gs. Holds gs (statements_of items) (questions_of (take i items)) sentences bounds queries) (sym more.1)
-            (holds-more r.built.formulas (statements_of items) (questions_of (take i items)) sentences bounds queries r.holds more.0) in
+            let kept = subst (λ gs. HasItems gs (statements_of d.items) (questions_of (take i d.items)) a.sentences a.bounds a.queries) (sym more.1)
+            (holds-more r.built.formulas (statements_of d.items) (questions_of (take i d.items)) a.sentences a.bounds a.queries r.holds more.0) in
             record {
               built = f.0;
-              holds = subst (λ qs. Holds f.0.formulas (statements_of items) qs sentences bounds (queries ++ query ∷ []))
-                  (sym (ap questions_of (done-at items i (Asked q) at) ∙ questions-append (take i items) (Asked q ∷ [])))
-                  (subst (λ x. Holds f.0.formulas (statements_of items) (questions_of (take i items) ++ q ∷ []) sentences bounds (queries ++ x ∷ [])) (sym f.3)
-                  (holds-question f.0.formulas (statements_of items) (questions_of (take i items)) sentences bounds queries kept q f.2));
-              rest = ap (λ k. with_questions (i + 1) k f.0.formulas (drop (i + 1) items)) (length_push queries query)
-                  ∙ sym (ap (λ w. at_item (i + 1) w (λ gs. with_questions (i + 1) (length queries + 1) gs (drop (i + 1) items))) f.1) ∙ asked-fits;
+              holds = subst (λ qs. HasItems f.0.formulas (statements_of d.items) qs a.sentences a.bounds (a.queries ++ query ∷ []))
+                  (sym (ap questions_of (done-at d.items i (Asked q) at) ∙ questions-append (take i d.items) (Asked q ∷ [])))
+                  (subst (λ x. HasItems f.0.formulas (statements_of d.items) (questions_of (take i d.items) ++ q ∷ []) a.sentences a.bounds (a.queries ++ x ∷ [])) (sym f.3)
+                  (holds-question f.0.formulas (statements_of d.items) (questions_of (take i d.items)) a.sentences a.bounds a.queries kept q f.2));
+              rest = ap (λ k. with_questions (i + 1) k f.0.formulas (drop (i + 1) d.items)) (length_push a.queries query)
+                  ∙ sym (ap (λ w. at_item (i + 1) w (λ gs. with_questions (i + 1) (length a.queries + 1) gs (drop (i + 1) d.items))) f.1) ∙ asked-fits;
             }
 
   -- before the first item
-  pub stating-start : AreOnce same_name names → Stating names items 0 [] [] [] [] []
-  stating-start d = record {
+  pub stating-start : AreOnce same_name d.names → SentencesMade d 0 (record { building = record { atoms = []; formulas = [] }; sentences = []; bounds = []; queries = [] })
+  stating-start once = record {
     built = record {
       formulas = [];
-      different = d;
+      different = once;
       atoms_are = refl;
       nodes_are = refl;
       ready = All-nil (IsReady []);
-      once = λ i d lt. absurd (omega arith);
-      within = All-nil (λ a. a < length names);
+      once = λ k e lt. absurd (omega arith);
+      within = All-nil (λ a. a < length d.names);
       few_atoms = omega arith;
       few = omega arith;
     };
@@ -165,27 +169,24 @@ module _ (names : List Name) (items : List Item) where
   }
 
   -- after the last statement
-  pub asking-start : (atoms : List ℕ) (nodes : List Node) (sentences : List Sentence) (bounds : List Bound) (queries : List Query)
-      → Stating names items (length items) atoms nodes sentences bounds queries → Asking names items 0 atoms nodes sentences bounds queries
-  asking-start atoms nodes sentences bounds queries r = record {
+  pub asking-start : (a : Assembly) → SentencesMade d (length d.items) a → QueriesMade d 0 a
+  asking-start a r = record {
     built = r.built;
-    holds = subst (λ xs. Holds r.built.formulas (statements_of xs) [] sentences bounds queries) (take_all (length items) items (omega arith)) r.holds;
-    rest = ap (λ qs. with_questions 0 (length qs) r.built.formulas items) r.holds.queries_are
-        ∙ sym (ap (λ xs. after (with_statements (length items) (length bounds) r.built.formulas xs) (λ fs. with_questions 0 0 fs items)) (drop_all (length items) items (omega arith))) ∙ r.rest;
+    holds = subst (λ xs. HasItems r.built.formulas (statements_of xs) [] a.sentences a.bounds a.queries) (take_all (length d.items) d.items (omega arith)) r.holds;
+    rest = ap (λ qs. with_questions 0 (length qs) r.built.formulas d.items) r.holds.queries_are
+        ∙ sym (ap (λ xs. after (with_statements (length d.items) (length a.bounds) r.built.formulas xs) (λ fs. with_questions 0 0 fs d.items)) (drop_all (length d.items) d.items (omega arith))) ∙ r.rest;
   }
 
   -- after the last question
-  pub asking-end : (atoms : List ℕ) (nodes : List Node) (sentences : List Sentence) (bounds : List Bound) (queries : List Query)
-      → (r : Asking names items (length items) atoms nodes sentences bounds queries) → counted items ≡ Ok r.built.formulas
-  asking-end atoms nodes sentences bounds queries r =
-      sym r.rest ∙ ap (with_questions (length items) (length queries) r.built.formulas) (drop_all (length items) items (omega arith))
+  pub asking-end : (a : Assembly) (r : QueriesMade d (length d.items) a) → counted d.items ≡ Ok r.built.formulas
+  asking-end a r =
+      sym r.rest ∙ ap (with_questions (length d.items) (length a.queries) r.built.formulas) (drop_all (length d.items) d.items (omega arith))
 
-  pub asking-problem : (atoms : List ℕ) (nodes : List Node) (sentences : List Sentence) (bounds : List Bound) (queries : List Query) (texts : List Name)
-      → (r : Asking names items (length items) atoms nodes sentences bounds queries) → texts ≡ map (name_at names) atoms
-      → record { names = texts; nodes = nodes; sentences = sentences; queries = queries } ≡ problem_of items
-  asking-problem atoms nodes sentences bounds queries texts r e =
-      let fs : r.built.formulas ≡ formulas_of items = counted-formulas items r.built.formulas (asking-end atoms nodes sentences bounds queries r) in
-      let qs = r.holds.queries_are ∙ ap (λ xs. map (query_in r.built.formulas) (questions_of xs)) (take_all (length items) items (omega arith)) in
+  pub asking-problem : (a : Assembly) (texts : List Name) (r : QueriesMade d (length d.items) a) → texts ≡ map (name_at d.names) a.building.atoms
+      → parts_of texts a.building.formulas a.sentences a.queries ≡ problem_of d.items
+  asking-problem a texts r e =
+      let fs : r.built.formulas ≡ formulas_of d.items = counted-formulas d.items r.built.formulas (asking-end a r) in
+      let qs = r.holds.queries_are ∙ ap (λ xs. map (query_in r.built.formulas) (questions_of xs)) (take_all (length d.items) d.items (omega arith)) in
       let ns = e ∙ r.built.atoms_are in
       (λ t. record { names = ns t; nodes = r.built.nodes_are t; sentences = r.holds.sentences_are t; queries = qs t })
-      ∙ ap (λ gs. record { names = names_among gs; nodes = map (node_in gs) gs; sentences = map (sentence_in gs) (statements_of items); queries = map (query_in gs) (questions_of items) }) fs
+      ∙ ap (λ gs. record { names = names_among gs; nodes = map (node_in gs) gs; sentences = map (sentence_in gs) (statements_of d.items); queries = map (query_in gs) (questions_of d.items) }) fs

@@ -5,7 +5,7 @@ use Rattle.ps_meaning.specs.Formula.{Formula, Truth, Falsity, Atom, Not, And, Or
 use Rattle.ps_meaning.specs.Statements.{Name}
 use Rattle.ps_formula.specs.declared.node.Node.TheVariants as node
 use Rattle.ps_problem.specs.Numbering.{same_name, same_formula, place_in, names_among, node_in}
-use Rattle.ps_problem.specs.Built.{IsAmong, IsReady}
+use Rattle.ps_problem.specs.Numbered.{IsAmong, IsReady}
 use Rattle.ps_problem.proofs.NameLists.{same_name-true, same_name-refl}
 use Rattle.ps_problem.proofs.Lists.{and-true, any-append, place-append, place-same}
 

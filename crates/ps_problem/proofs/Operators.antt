@@ -10,13 +10,13 @@ use Rattle.ps_problem.specs.declared.mark.Mark.{Mark}
 use Rattle.ps_problem.specs.declared.mark.Mark.TheVariants as mark
 use Rattle.ps_problem.specs.Numbering.{same_formula, place_in, node_in}
 use Rattle.ps_problem.specs.Drafts.{arity, from_top, made_by, marked}
-use Rattle.ps_problem.specs.Entries.{standing, AreHeld}
-use Rattle.ps_problem.specs.Built.{IsAmong, IsReady, Stand, operand, node_over, tops}
+use Rattle.ps_problem.specs.DraftLists.{standing, AreHeld}
+use Rattle.ps_problem.specs.Numbered.{IsAmong, IsReady, IsStack, operand, node_over, tops}
 use Rattle.ps_problem.proofs.Lists.{place-below}
 use Rattle.ps_problem.proofs.Nodes.{among-more, place-more}
 use Rattle.ps_problem.proofs.Postfix.{map-same}
 
-module _ (fs ss : List (Formula Name)) (ps : List ℕ) (s : Stand fs ss ps) where
+module _ (fs ss : List (Formula Name)) (ps : List ℕ) (s : IsStack fs ss ps) where
   pub length-stand : length ps ≡ length ss
   length-stand = ap length s.places ∙ length-map ss (place_in same_formula fs)
 
@@ -55,7 +55,7 @@ module _ (fs ss : List (Formula Name)) (ps : List ℕ) (s : Stand fs ss ps) wher
 
     -- after a mark its formula stands in the place of its operands
     pub stand-marked : (more : List (Formula Name)) (m : Mark) (i : ℕ) → arity m ≤ length ps → IsAmong (fs ++ more) (made_by names ss m) → i ≡ place_in same_formula (fs ++ more) (made_by names ss m)
-        → Stand (fs ++ more) (marked names ss m) (take (length ps - arity m) ps ++ i ∷ [])
+        → IsStack (fs ++ more) (marked names ss m) (take (length ps - arity m) ps ++ i ∷ [])
     stand-marked more m i le there at = record {
       places =
           ap (λ n. take (n - arity m) ps ++ i ∷ []) length-stand
@@ -130,7 +130,7 @@ module _ (names : List Name) where
   tops-are ms f h e = sym (flat-standing [] ms h) ∙ ap (flat_map subformulas) e ∙ append-nil (subformulas f)
 
 -- the numbers that stand open are those of nodes
-pub numbers-below : (fs ss : List (Formula Name)) (ps : List ℕ) → Stand fs ss ps → All (λ i. i < length (map (node_in fs) fs)) ps
+pub numbers-below : (fs ss : List (Formula Name)) (ps : List ℕ) → IsStack fs ss ps → All (λ i. i < length (map (node_in fs) fs)) ps
 numbers-below fs ss ps s = subst (All (λ i. i < length (map (node_in fs) fs))) (sym s.places)
     (All-map (λ i. i < length (map (node_in fs) fs)) (place_in same_formula fs) ss
     (All-weaker (IsAmong fs) (λ f. place_in same_formula fs f < length (map (node_in fs) fs))

@@ -8,8 +8,8 @@ use Rattle.std.proofs.lemmas.Option.{IfSome_then}
 use Rattle.ps_meaning.specs.Formula.{Formula, Truth, Falsity, Atom, Not, And, Or, Implies, Iff, subformulas}
 use Rattle.ps_meaning.specs.Statements.{Name, Statement, Question, Item, statements_of, questions_of}
 use Rattle.ps_problem.specs.Numbering.{AreOnce, same_name, same_formula, with_new, names_among, numbered_for, numbered_in_statements, numbered_in_questions, formulas_of}
-use Rattle.ps_problem.specs.Builds.{question_on as question}
-use Rattle.ps_problem.specs.Built.{IsAmong, HasQuestion}
+use Rattle.ps_problem.specs.Making.{question_on as question}
+use Rattle.ps_problem.specs.Numbered.{IsAmong, HasQuestion}
 use Rattle.ps_problem.proofs.NameLists.{same_name-true, same_name-refl}
 use Rattle.ps_problem.proofs.Lists.{once-push, any-new}
 use Rattle.ps_problem.proofs.Nodes.{same-true, same-refl, names-append, atom-among, among-more}
@@ -26,7 +26,7 @@ led-push ms [] g l k = (subst (λ xs. Leads xs g) (append-nil ms) k, tt)
 led-push ms (r ∷ rest) g l k = (l.0, led-push (ms ++ r ∷ []) rest g l.1 (subst (λ xs. Leads xs g) (sym (append_assoc ms (r ∷ []) rest)) k))
 
 -- formulas in order, and this one among them
-record Holds (fs : List (Formula Name)) (f : Formula Name) : Type 0 where
+record HasItems (fs : List (Formula Name)) (f : Formula Name) : Type 0 where
   order : Ordered fs
   among : IsAmong fs f
 
@@ -44,10 +44,10 @@ names-push fs g e h = subst (AreOnce same_name) (sym (names-append fs (g ∷ [])
     by (Atom a) e = once-push same_name same_name-true same_name-refl (names_among fs) a (sym (atom-among fs a) ∙ e) h
     by f e = subst (AreOnce same_name) (sym (append-nil (names_among fs))) h
 
-one-more : (fs : List (Formula Name)) (g : Formula Name) → Ordered fs → Leads fs g → Holds (all fs (g ∷ [])) g
+one-more : (fs : List (Formula Name)) (g : Formula Name) → Ordered fs → Leads fs g → HasItems (all fs (g ∷ [])) g
 one-more fs g h l = by (list_any (same_formula g) fs) refl
   where
-    by : (b : Bool) → list_any (same_formula g) fs ≡ b → Holds (if b then fs else fs ++ g ∷ []) g
+    by : (b : Bool) → list_any (same_formula g) fs ≡ b → HasItems (if b then fs else fs ++ g ∷ []) g
     by true e = record { order = h; among = e }
     by false e = record {
       order = record {
@@ -74,7 +74,7 @@ record Three (fs : List (Formula Name)) (f g h : Formula Name) : Type 0 where
   both : IsAmong fs h
 
 three : (fs : List (Formula Name)) (f g h : Formula Name) → ((gs : List (Formula Name)) → IsAmong gs f → IsAmong gs g → Leads gs h)
-    → Holds (all fs (subformulas f)) f → Holds (all (all fs (subformulas f)) (subformulas g)) g → Three (all fs (subformulas f ++ subformulas g ++ h ∷ [])) f g h
+    → HasItems (all fs (subformulas f)) f → HasItems (all (all fs (subformulas f)) (subformulas g)) g → Three (all fs (subformulas f ++ subformulas g ++ h ∷ [])) f g h
 three fs f g h leads one two =
     let gs = all (all fs (subformulas f)) (subformulas g) in
     let left : IsAmong gs f = among-all (all fs (subformulas f)) (subformulas g) f one.among in
@@ -82,16 +82,16 @@ three fs f g h leads one two =
     subst (λ xs. Three xs f g h) (sym (all-append fs (subformulas f ++ subformulas g) (h ∷ []) ∙ ap (λ xs. all xs (h ∷ [])) (all-append fs (subformulas f) (subformulas g))))
     (record { order = last.order; left = among-all gs (h ∷ []) f left; right = among-all gs (h ∷ []) g two.among; both = last.among })
 
-holds : (fs : List (Formula Name)) (f g h : Formula Name) → Three fs f g h → Holds fs h
+holds : (fs : List (Formula Name)) (f g h : Formula Name) → Three fs f g h → HasItems fs h
 holds fs f g h t = record { order = t.order; among = t.both }
 
-parts : (f : Formula Name) (fs : List (Formula Name)) → Ordered fs → Holds (all fs (subformulas f)) f
+parts : (f : Formula Name) (fs : List (Formula Name)) → Ordered fs → HasItems (all fs (subformulas f)) f
 parts Truth fs o = one-more fs Truth o tt
 parts Falsity fs o = one-more fs Falsity o tt
 parts (Atom a) fs o = one-more fs (Atom a) o tt
 parts (Not f) fs o =
     let one = parts f fs o in
-    subst (λ xs. Holds xs (Not f)) (sym (all-append fs (subformulas f) (Not f ∷ []))) (one-more (all fs (subformulas f)) (Not f) one.order one.among)
+    subst (λ xs. HasItems xs (Not f)) (sym (all-append fs (subformulas f) (Not f ∷ []))) (one-more (all fs (subformulas f)) (Not f) one.order one.among)
 parts (And f g) fs o = let one = parts f fs o in holds _ f g (And f g) (three fs f g (And f g) (λ gs a b. (a, b)) one (parts g (all fs (subformulas f)) one.order))
 parts (Or f g) fs o = let one = parts f fs o in holds _ f g (Or f g) (three fs f g (Or f g) (λ gs a b. (a, b)) one (parts g (all fs (subformulas f)) one.order))
 parts (Implies f g) fs o = let one = parts f fs o in holds _ f g (Implies f g) (three fs f g (Implies f g) (λ gs a b. (a, b)) one (parts g (all fs (subformulas f)) one.order))

@@ -8,7 +8,7 @@ use Rattle.ps_formula.specs.declared.node.Node.TheVariants as node
 use Rattle.ps_problem.specs.declared.fault.Fault.{Fault}
 use Rattle.ps_problem.specs.Numbering.{same_formula, place_in, node_in, numbered_for}
 use Rattle.ps_problem.specs.Counts.{Excess, with_formulas, after}
-use Rattle.ps_problem.specs.Built.{IsAmong, IsAdded, Follows, FollowsQuestion, excess_of}
+use Rattle.ps_problem.specs.Numbered.{IsAmong, IsAdded, GivesNumber, GivesQuery, excess_of}
 use Rattle.ps_problem.proofs.Lists.{place-below}
 use Rattle.ps_problem.proofs.Nodes.{among-more, place-more}
 use Rattle.ps_problem.proofs.Steps.{step-known}
@@ -26,17 +26,17 @@ pair-first start f (Some g) x one = by (excess_of x) one
         (with-append start (subformulas f) (subformulas g) ∙ ap (λ r. after r (λ gs. with_formulas gs (subformulas g))) t)
 
 -- nothing is given
-pub pair-alone : (names : List Name) (start : List (Formula Name)) (f : Formula Name) (atoms : List ℕ) (nodes : List Node) (i : ℕ) → Follows names (with_formulas start (subformulas f)) f atoms nodes (Ok i)
-    → FollowsQuestion names (with_formulas start (numbered_for f None)) (record { formula = f; given = None }) atoms nodes (Ok (record { formula = i; given = None; both = i }))
+pub pair-alone : (names : List Name) (start : List (Formula Name)) (f : Formula Name) (atoms : List ℕ) (nodes : List Node) (i : ℕ) → GivesNumber names (with_formulas start (subformulas f)) f atoms nodes (Ok i)
+    → GivesQuery names (with_formulas start (numbered_for f None)) (record { formula = f; given = None }) atoms nodes (Ok (record { formula = i; given = None; both = i }))
 pair-alone names start f atoms nodes i one = (one.0, one.1, record { formula = one.2.0; given = tt; both = one.2.0 }, ap (λ n. record { formula = n; given = None; both = n }) one.2.1)
 
-module _ (names : List Name) (start : List (Formula Name)) (f g : Formula Name) (atoms : List ℕ) (nodes : List Node) (i : ℕ) (one : Follows names (with_formulas start (subformulas f)) f atoms nodes (Ok i)) where
+module _ (names : List Name) (start : List (Formula Name)) (f g : Formula Name) (atoms : List ℕ) (nodes : List Node) (i : ℕ) (one : GivesNumber names (with_formulas start (subformulas f)) f atoms nodes (Ok i)) where
   split : with_formulas start (numbered_for f (Some g)) ≡ after (with_formulas one.0.formulas (subformulas g)) (λ gs. with_formulas gs (And f g ∷ []))
   split = with-append start (subformulas f ++ subformulas g) (And f g ∷ [])
       ∙ ap (λ r. after r (λ gs. with_formulas gs (And f g ∷ []))) (with-append start (subformulas f) (subformulas g) ∙ ap (λ r. after r (λ gs. with_formulas gs (subformulas g))) one.1)
 
   -- the condition didn't fit
-  pub pair-second : (atoms' : List ℕ) (nodes' : List Node) (x : Fault) → Follows names (with_formulas one.0.formulas (subformulas g)) g atoms' nodes' (Err x)
+  pub pair-second : (atoms' : List ℕ) (nodes' : List Node) (x : Fault) → GivesNumber names (with_formulas one.0.formulas (subformulas g)) g atoms' nodes' (Err x)
       → IfSome (excess_of x) (λ e. with_formulas start (numbered_for f (Some g)) ≡ Err e)
   pair-second atoms' nodes' x two = by (excess_of x) two
     where
@@ -44,7 +44,7 @@ module _ (names : List Name) (start : List (Formula Name)) (f g : Formula Name) 
       by None t = tt
       by (Some e) t = split ∙ ap (λ r. after r (λ gs. with_formulas gs (And f g ∷ []))) t
 
-  module _ (atoms' : List ℕ) (nodes' : List Node) (j : ℕ) (two : Follows names (with_formulas one.0.formulas (subformulas g)) g atoms' nodes' (Ok j)) where
+  module _ (atoms' : List ℕ) (nodes' : List Node) (j : ℕ) (two : GivesNumber names (with_formulas one.0.formulas (subformulas g)) g atoms' nodes' (Ok j)) where
     grown : (more : List (Formula Name)) × (two.0.formulas ≡ one.0.formulas ++ more)
     grown = with-more one.0.formulas (subformulas g) two.0.formulas two.1
 
@@ -64,7 +64,7 @@ module _ (names : List Name) (start : List (Formula Name)) (f g : Formula Name) 
         let b = two.2.1 in
         (omega arith, omega arith)
 
-    third : (nodes'' : List Node) (result : Result ℕ Fault) → IsAdded nodes' (node.And i j) nodes'' result → Follows names (with_formulas two.0.formulas (And f g ∷ [])) (And f g) atoms' nodes'' result
+    third : (nodes'' : List Node) (result : Result ℕ Fault) → IsAdded nodes' (node.And i j) nodes'' result → GivesNumber names (with_formulas two.0.formulas (And f g ∷ [])) (And f g) atoms' nodes'' result
     third nodes'' result added = step-known names atoms' nodes' two.0 (And f g) (first-there, two.2.0) (node.And i j)
         (ap (λ n. node.And n j) first-place ∙ ap (λ n. node.And (place_in same_formula two.0.formulas f) n) two.2.1) nodes'' result added
 
@@ -79,7 +79,7 @@ module _ (names : List Name) (start : List (Formula Name)) (f g : Formula Name) 
         by (Some e) t = joined ∙ t
 
     pub pair-both : (nodes'' : List Node) (k : ℕ) → IsAdded nodes' (node.And i j) nodes'' (Ok k)
-        → FollowsQuestion names (with_formulas start (numbered_for f (Some g))) (record { formula = f; given = Some g }) atoms' nodes'' (Ok (record { formula = i; given = Some j; both = k }))
+        → GivesQuery names (with_formulas start (numbered_for f (Some g))) (record { formula = f; given = Some g }) atoms' nodes'' (Ok (record { formula = i; given = Some j; both = k }))
     pair-both nodes'' k added =
         let three = third nodes'' (Ok k) added in
         let more = with-more two.0.formulas (And f g ∷ []) three.0.formulas three.1 in

@@ -4,17 +4,18 @@ use Rattle.std.specs.Option.{option_map}
 use Rattle.std.proofs.lemmas.List.{length-map}
 use Rattle.std.proofs.lemmas.List.Elements.{All-nil, All-cons, All-head, All-tail, All-map, All-weaker}
 use Rattle.ps_meaning.specs.Formula.{Formula, And, with_atoms}
-use Rattle.ps_meaning.specs.Bounds as meaning
+use Rattle.ps_meaning.specs.declared.side.Side.{Side}
+use Rattle.ps_meaning.specs.declared.side.Side.TheVariants as side
 use Rattle.ps_meaning.specs.Statements.{Name, Ratio, Statement, Question, Item, Stated, Asked, statements_of, questions_of}
 use Rattle.ps_problem.specs.Problems.{bounds_in, tree_at, HasNodes, IsBound, AreParts}
 use Rattle.ps_problem.specs.Numbering.{same_name, same_formula, place_in, names_among, node_in, both_of, bound_in, sentence_in, query_in, formulas_of, problem_of}
 use Rattle.ps_problem.specs.Counts.{counted}
 use Rattle.ps_problem.specs.Drafts.{IsRatio, IsUpperOf, IsLawful}
-use Rattle.ps_problem.specs.Built.{IsAmong, HasQuestion}
+use Rattle.ps_problem.specs.Numbered.{IsAmong, HasQuestion}
 use Rattle.ps_problem.proofs.Lists.{place-below}
 use Rattle.ps_problem.proofs.Counted.{counted-formulas, counted-limits}
 use Rattle.ps_problem.proofs.Trees.{tree-at, are-nodes, atoms-below, different-names}
-use Rattle.ps_problem.specs.Builds.{question_on as question}
+use Rattle.ps_problem.specs.Making.{question_on as question}
 use Rattle.ps_problem.proofs.Orders.{Ordered, are-numbered}
 
 module _ (fs : List (Formula Name)) (o : Ordered fs) where
@@ -39,7 +40,7 @@ module _ (fs : List (Formula Name)) (o : Ordered fs) where
         b ∙ ap (λ t. And t (with_atoms (place_in same_name (names_among fs)) g)) (sym l) ∙ ap (λ t. And (tree_at (map (node_in fs) fs) (place_in same_formula fs f)) t) (sym r);
   }
 
-  is-bound : (s : Statement) (on : meaning.Side) (value : Ratio) → HasQuestion fs (question s) → IsRatio value.num value.den → IsBound (map (node_in fs) fs) (bound_in fs s on value)
+  is-bound : (s : Statement) (on : Side) (value : Ratio) → HasQuestion fs (question s) → IsRatio value.num value.den → IsBound (map (node_in fs) fs) (bound_in fs s on value)
   is-bound s on value h r = record { nodes = has-nodes s.formula s.given h; den_least = r.least; den_most = r.most; num_most = r.value }
 
   -- a statement's values are within their limits
@@ -57,10 +58,10 @@ module _ (fs : List (Formula Name)) (o : Ordered fs) where
       first = is-bound s s.side s.value there (All-head IsStated s ss v).0
 
       by : (u : Option Ratio) → IsUpperOf s.side u → All (IsBound (map (node_in fs) fs)) (bounds_in (map (sentence_in fs) ss))
-          → All (IsBound (map (node_in fs) fs)) (bounds_in (record { first = bound_in fs s s.side s.value; second = option_map (bound_in fs s meaning.AtMost) u } ∷ map (sentence_in fs) ss))
+          → All (IsBound (map (node_in fs) fs)) (bounds_in (record { first = bound_in fs s s.side s.value; second = option_map (bound_in fs s side.AtMost) u } ∷ map (sentence_in fs) ss))
       by None t rest = All-cons (IsBound (map (node_in fs) fs)) (bound_in fs s s.side s.value) (bounds_in (map (sentence_in fs) ss)) first rest
-      by (Some r) t rest = All-cons (IsBound (map (node_in fs) fs)) (bound_in fs s s.side s.value) (bound_in fs s meaning.AtMost r ∷ bounds_in (map (sentence_in fs) ss)) first
-          (All-cons (IsBound (map (node_in fs) fs)) (bound_in fs s meaning.AtMost r) (bounds_in (map (sentence_in fs) ss)) (is-bound s meaning.AtMost r there t.0) rest)
+      by (Some r) t rest = All-cons (IsBound (map (node_in fs) fs)) (bound_in fs s s.side s.value) (bound_in fs s side.AtMost r ∷ bounds_in (map (sentence_in fs) ss)) first
+          (All-cons (IsBound (map (node_in fs) fs)) (bound_in fs s side.AtMost r) (bounds_in (map (sentence_in fs) ss)) (is-bound s side.AtMost r there t.0) rest)
 
   are-stated : (items : List Item) → All IsLawful items → All IsStated (statements_of items)
   are-stated [] h = All-nil IsStated

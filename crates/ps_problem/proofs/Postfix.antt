@@ -1,16 +1,16 @@
 -- Marks in postfix order, and what they spell.
-use Rattle.std.proofs.Common.{◌≡◌, ℕ, ◌-◌, ◌<◌, ◌≤◌, List, [], ◌∷◌, ◌++◌, Some, None, length, map, take, drop, All, refl, ap, ◌∙◌, arith}
+use Rattle.std.proofs.Common.{◌≡◌, ℕ, ◌-◌, ◌<◌, ◌≤◌, List, [], ◌∷◌, ◌++◌, Option, Some, None, IfSome, option_map, length, map, take, drop, All, refl, ap, ◌∙◌, arith}
 use Rattle.std.proofs.lemmas.List.{length-drop, take-append-le, drop-append-le, get_or_append_left}
 use Rattle.std.proofs.lemmas.List.Elements.{All-head, All-tail}
 use Rattle.ps_meaning.specs.Formula.{Formula, Truth, Atom}
-use Rattle.ps_meaning.specs.Statements.{Name}
+use Rattle.ps_meaning.specs.Statements.{Name, Stated, Asked}
 use Rattle.ps_problem.specs.declared.mark.Mark.{Mark}
 use Rattle.ps_problem.specs.declared.mark.Mark.TheVariants as mark
 use Rattle.ps_problem.specs.declared.span.Span.{Span}
-use Rattle.ps_problem.specs.declared.entry.Entry.{Entry}
-use Rattle.ps_problem.specs.declared.entry.Entry.TheVariants as entry
-use Rattle.ps_problem.specs.Drafts.{arity, made_by, marked, NameBelow, formula_at}
-use Rattle.ps_problem.specs.Entries.{standing, AreHeld, part, item_of, IsEntry}
+use Rattle.ps_problem.specs.declared.draft_item.DraftItem.{DraftItem}
+use Rattle.ps_problem.specs.declared.draft_item.DraftItem.TheVariants as item
+use Rattle.ps_problem.specs.Drafts.{arity, made_by, marked, NameBelow, formula_at, ratio_of}
+use Rattle.ps_problem.specs.DraftLists.{standing, AreHeld, part, item_of, IsDraftItem}
 
 pub standing-push : (names : List Name) (fs : List (Formula Name)) (ms : List Mark) (m : Mark) → standing names fs (ms ++ m ∷ []) ≡ marked names (standing names fs ms) m
 standing-push names fs [] m = refl
@@ -72,15 +72,25 @@ map-same f g (x ∷ xs) h = ap (λ y. y ∷ map f xs) (All-head (λ x. f x ≡ g
 at-more : (fs more : List (Formula Name)) (i : ℕ) → i < length fs → formula_at (fs ++ more) i ≡ formula_at fs i
 at-more fs more i lt = get_or_append_left fs more Truth i lt
 
--- further formulas change nothing of an item
-pub item-more : (fs more : List (Formula Name)) (e : Entry) → IsEntry (length fs) e → item_of (fs ++ more) e ≡ item_of fs e
-item-more fs more (entry.Sentence f None s num den upper) h = rw (at-more fs more f h.0.0) refl
-item-more fs more (entry.Sentence f (Some g) s num den upper) h = rw (at-more fs more f h.0.0, at-more fs more g h.0.1) refl
-item-more fs more (entry.Query f None) h = rw (at-more fs more f h.0) refl
-item-more fs more (entry.Query f (Some g)) h = rw (at-more fs more f h.0, at-more fs more g h.1) refl
+given-more : (fs more : List (Formula Name)) (g : Option ℕ) → IfSome g (λ i. i < length fs) → option_map (formula_at (fs ++ more)) g ≡ option_map (formula_at fs) g
+given-more fs more None h = refl
+given-more fs more (Some g) h = ap Some (at-more fs more g h)
 
-pub entry-more : (n k : ℕ) (e : Entry) → n ≤ k → IsEntry n e → IsEntry k e
-entry-more n k (entry.Sentence f None s num den upper) le h = ((omega (arith, h.0.0), tt), h.1, h.2)
-entry-more n k (entry.Sentence f (Some g) s num den upper) le h = ((omega (arith, h.0.0), omega (arith, h.0.1)), h.1, h.2)
-entry-more n k (entry.Query f None) le h = (omega (arith, h.0), tt)
-entry-more n k (entry.Query f (Some g)) le h = (omega (arith, h.0), omega (arith, h.1))
+given-below : (n k : ℕ) (g : Option ℕ) → n ≤ k → IfSome g (λ i. i < n) → IfSome g (λ i. i < k)
+given-below n k None le h = tt
+given-below n k (Some g) le h = omega (arith, h)
+
+-- further formulas change nothing of an item
+pub item-more : (fs more : List (Formula Name)) (e : DraftItem) → IsDraftItem (length fs) e → item_of (fs ++ more) e ≡ item_of fs e
+item-more fs more (item.Sentence s) h = λ t. Stated (record {
+  formula = at-more fs more s.formula h.0.0 t;
+  given = given-more fs more s.given h.0.1 t;
+  side = s.side;
+  value = record { num = s.num; den = s.den };
+  upper = option_map ratio_of s.upper;
+})
+item-more fs more (item.Query q) h = λ t. Asked (record { formula = at-more fs more q.formula h.0 t; given = given-more fs more q.given h.1 t })
+
+pub draft_item-more : (n k : ℕ) (e : DraftItem) → n ≤ k → IsDraftItem n e → IsDraftItem k e
+draft_item-more n k (item.Sentence s) le h = ((omega (arith, h.0.0), given-below n k s.given le h.0.1), h.1, h.2)
+draft_item-more n k (item.Query q) le h = (omega (arith, h.0), given-below n k q.given le h.1)

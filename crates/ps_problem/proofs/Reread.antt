@@ -3,7 +3,7 @@ use Rattle.std.proofs.Common.{◌≡◌, ℕ, ◌+◌, ◌≤◌, max, nat_lt, L
 use Rattle.std.proofs.lemmas.List.Elements.{All-head, All-tail}
 use Rattle.ps_meaning.specs.Formula.{Formula, Truth, Falsity, Atom, Not, And, Or, Implies, Iff}
 use Rattle.ps_meaning.specs.Names.{IsName}
-use Rattle.ps_meaning.specs.Bounds as meaning
+use Rattle.ps_meaning.specs.declared.side.Side.{Side}
 use Rattle.ps_meaning.specs.Statements.{Name, Ratio, Statement, Question, Item, Stated, Asked, statements_of, questions_of}
 use Rattle.ps_text.specs.Canonical.{HasNames, IsWritable, IsWritableGiven, IsReduced, IsUpper, AreLawful}
 use Rattle.ps_text.proofs.Canonicals.{canonical_front}
@@ -13,8 +13,8 @@ use Rattle.ps_problem.specs.Numbering.{same_name, place_in, names_among, numbere
 use Rattle.ps_problem.specs.Counts.{Excess, Bounds, Queries, Refused, with_formulas, count_bounds, at_item, with_statements, with_questions, after, counted}
 use Rattle.ps_problem.specs.Drafts.{canonical_nesting, nesting_at, IsRatio, IsUpperOf, IsLawful, IsNested}
 use Rattle.ps_problem.specs.Soundness.{IsProblem}
-use Rattle.ps_problem.specs.Built.{IsAmong, HasQuestion}
-use Rattle.ps_problem.specs.Builds.{question_on as question}
+use Rattle.ps_problem.specs.Numbered.{IsAmong, HasQuestion}
+use Rattle.ps_problem.specs.Making.{question_on as question}
 use Rattle.ps_problem.specs.Written.{listed, items_from}
 use Rattle.ps_problem.specs.Rereading.{IsReread}
 use Rattle.ps_problem.proofs.NameLists.{same_name-true, same_name-refl}
@@ -58,7 +58,7 @@ module _ (fs : List (Formula Name)) (o : Ordered fs) (named : All IsName (names_
   reduced : (r : Ratio) → IsRatio r.num r.den → IsReduced r
   reduced r h = record { lowest = h.reduced; some = h.least; small = h.most; probability = h.value }
 
-  upper-reduced : (s : meaning.Side) (u : Option Ratio) → IsUpperOf s u → IsUpper s u
+  upper-reduced : (s : Side) (u : Option Ratio) → IsUpperOf s u → IsUpper s u
   upper-reduced s None h = tt
   upper-reduced s (Some r) h = subst (λ t. IsUpper t (Some r)) (sym h.1) (reduced r h.0)
 

@@ -3,27 +3,23 @@ use Rattle.std.proofs.Common.{◌≡◌, List, [], ◌∷◌, ◌++◌, map, All
 use Rattle.std.specs.Prelude.{option_map, option_to_list}
 use Rattle.std.proofs.lemmas.List.Elements.{All-head, All-tail}
 use Rattle.ps_meaning.specs.Formula.{Formula}
-use Rattle.ps_meaning.specs.Bounds as meaning
+use Rattle.ps_meaning.specs.declared.side.Side.{Side}
+use Rattle.ps_meaning.specs.declared.side.Side.TheVariants as side
 use Rattle.ps_meaning.specs.Statements.{Name, Ratio, Statement, Question, Item, statements_of, questions_of}
-use Rattle.ps_problem.specs.Problems.{bounds_in, bounds_of, bound_of, given_at, side_of}
-use Rattle.ps_problem.specs.Numbering.{same_formula, place_in, names_among, node_in, side_in, bound_in, sentence_in, query_in, formulas_of, problem_of, numbered_given, stated_bound, stated_bounds, numbered_question, question_of}
-use Rattle.ps_problem.specs.Built.{IsAmong, HasQuestion}
+use Rattle.ps_problem.specs.Problems.{bounds_in, bounds_of, bound_of, given_at}
+use Rattle.ps_problem.specs.Numbering.{same_formula, place_in, names_among, node_in, bound_in, sentence_in, query_in, formulas_of, problem_of, numbered_given, stated_bound, stated_bounds, numbered_question, question_of}
+use Rattle.ps_problem.specs.Numbered.{IsAmong, HasQuestion}
 use Rattle.ps_problem.proofs.Trees.{tree-at}
-use Rattle.ps_problem.specs.Builds.{question_on as question}
+use Rattle.ps_problem.specs.Making.{question_on as question}
 use Rattle.ps_problem.proofs.Orders.{Ordered, are-numbered}
-
-side-is : (on : meaning.Side) → side_of (side_in on) ≡ on
-side-is meaning.AtLeast = refl
-side-is meaning.AtMost = refl
-side-is meaning.Exactly = refl
 
 module _ (fs : List (Formula Name)) (o : Ordered fs) where
   given-is : (given : Option (Formula Name)) → IfSome given (IsAmong fs) → given_at (map (node_in fs) fs) (option_map (place_in same_formula fs) given) ≡ numbered_given (names_among fs) given
   given-is None h = refl
   given-is (Some g) h = tree-at fs o.led g h
 
-  bound-is : (s : Statement) (on : meaning.Side) (value : Ratio) → HasQuestion fs (question s) → bound_of (map (node_in fs) fs) (bound_in fs s on value) ≡ stated_bound (names_among fs) s on value
-  bound-is s on value h = rw (tree-at fs o.led s.formula h.formula, given-is s.given h.given, side-is on) refl
+  bound-is : (s : Statement) (on : Side) (value : Ratio) → HasQuestion fs (question s) → bound_of (map (node_in fs) fs) (bound_in fs s on value) ≡ stated_bound (names_among fs) s on value
+  bound-is s on value h = rw (tree-at fs o.led s.formula h.formula, given-is s.given h.given) refl
 
   bounds-are : (ss : List Statement) → All (λ s. HasQuestion fs (question s)) ss → map (bound_of (map (node_in fs) fs)) (bounds_in (map (sentence_in fs) ss)) ≡ stated_bounds (names_among fs) ss
   bounds-are [] h = refl
@@ -33,10 +29,10 @@ module _ (fs : List (Formula Name)) (o : Ordered fs) where
       there = All-head (λ t. HasQuestion fs (question t)) s ss h
 
       by : (u : Option Ratio) → map (bound_of (map (node_in fs) fs)) (bounds_in (map (sentence_in fs) ss)) ≡ stated_bounds (names_among fs) ss
-          → map (bound_of (map (node_in fs) fs)) (bounds_in (record { first = bound_in fs s s.side s.value; second = option_map (bound_in fs s meaning.AtMost) u } ∷ map (sentence_in fs) ss))
-          ≡ stated_bound (names_among fs) s s.side s.value ∷ map (stated_bound (names_among fs) s meaning.AtMost) (option_to_list u) ++ stated_bounds (names_among fs) ss
+          → map (bound_of (map (node_in fs) fs)) (bounds_in (record { first = bound_in fs s s.side s.value; second = option_map (bound_in fs s side.AtMost) u } ∷ map (sentence_in fs) ss))
+          ≡ stated_bound (names_among fs) s s.side s.value ∷ map (stated_bound (names_among fs) s side.AtMost) (option_to_list u) ++ stated_bounds (names_among fs) ss
       by None e = rw (bound-is s s.side s.value there, e) refl
-      by (Some r) e = rw (bound-is s s.side s.value there, bound-is s meaning.AtMost r there, e) refl
+      by (Some r) e = rw (bound-is s s.side s.value there, bound-is s side.AtMost r there, e) refl
 
   question-is : (q : Question) → HasQuestion fs q → question_of (map (node_in fs) fs) (query_in fs q) ≡ numbered_question (names_among fs) q
   question-is q h = rw (tree-at fs o.led q.formula h.formula, given-is q.given h.given) refl

@@ -14,7 +14,8 @@ use Rattle.ps_problem.specs.declared.fault.Fault.TheVariants as fault
 use Rattle.ps_problem.specs.Numbering.{same_formula, place_in, names_among, node_in}
 use Rattle.ps_problem.specs.Counts.{Atoms, Nodes, is_atom, with_formulas}
 use Rattle.ps_problem.specs.Numbering.{AreOnce}
-use Rattle.ps_problem.specs.Built.{IsAmong, IsReady, name_at, Built, IsAdded, Follows}
+use Rattle.ps_problem.specs.Numbered.{IsAmong, IsReady, Built, IsAdded, GivesNumber}
+use Rattle.ps_problem.specs.Problems.{name_at}
 use Rattle.ps_problem.proofs.Lists.{any-self, place-get, place-below, once-push, any-new}
 use Rattle.ps_problem.proofs.Nodes.{same-true, same-refl, names-append, atom-among, ready-more, node-more, node-same}
 use Rattle.ps_problem.proofs.Postfix.{map-same}
@@ -100,7 +101,7 @@ module _ (names : List Name) (atoms : List ℕ) (nodes : List Node) (h : Built n
   pub follows-new : (new : List Node) (i : ℕ) → list_any (same_formula g) h.formulas ≡ false → IsReady (h.formulas ++ g ∷ []) g
       → (atoms' : List ℕ) → map (name_at names) atoms' ≡ names_among (h.formulas ++ g ∷ []) → All (λ a. a < length names) atoms' → length atoms' ≤ 128 → length h.formulas < 1024
       → new ≡ nodes ++ node_in (h.formulas ++ g ∷ []) g ∷ [] → slice_get new i ≡ Some (node_in (h.formulas ++ g ∷ []) g)
-      → with_formulas h.formulas (g ∷ []) ≡ Ok (h.formulas ++ g ∷ []) → Follows names (with_formulas h.formulas (g ∷ [])) g atoms' new (Ok i)
+      → with_formulas h.formulas (g ∷ []) ≡ Ok (h.formulas ++ g ∷ []) → GivesNumber names (with_formulas h.formulas (g ∷ [])) g atoms' new (Ok i)
   follows-new new i absent ready atoms' atoms_are within few_atoms few new-is there expected =
       let k = extended atoms' absent ready atoms_are within few_atoms few in
       let at : slice_get (map (node_in (h.formulas ++ g ∷ [])) (h.formulas ++ g ∷ [])) i ≡ Some (node_in (h.formulas ++ g ∷ []) g)
@@ -129,7 +130,7 @@ module _ (names : List Name) (atoms : List ℕ) (nodes : List Node) (h : Built n
 
   -- a formula that is numbered, or whose operands are
   pub step-known : IsReady h.formulas g → (n : Node) → n ≡ node_in h.formulas g → (new : List Node) (result : Result ℕ Fault) → IsAdded nodes n new result
-      → Follows names (with_formulas h.formulas (g ∷ [])) g atoms new result
+      → GivesNumber names (with_formulas h.formulas (g ∷ [])) g atoms new result
   step-known r n e new (Err fault.NoMemory) added = tt
   step-known r n e new (Err fault.Atoms) added = absurd added
   step-known r n e new (Err fault.Bounds) added = absurd added
@@ -147,7 +148,7 @@ module _ (names : List Name) (atoms : List ℕ) (nodes : List Node) (h : Built n
       there : slice_get new i ≡ Some (node_in h.formulas g)
       there = added.0.there ∙ ap Some e
 
-      by : ((new ≡ nodes) × Contains nodes n) ⊎ ((new ≡ nodes ++ n ∷ []) × ¬ Contains nodes n) → Follows names (with_formulas h.formulas (g ∷ [])) g atoms new (Ok i)
+      by : ((new ≡ nodes) × Contains nodes n) ⊎ ((new ≡ nodes ++ n ∷ []) × ¬ Contains nodes n) → GivesNumber names (with_formulas h.formulas (g ∷ [])) g atoms new (Ok i)
       by (inl s) =
           let c = rw (h.nodes_are, e) at s.1 in
           let a : IsAmong h.formulas g = among-from h.formulas g h.ready r c in
@@ -155,7 +156,7 @@ module _ (names : List Name) (atoms : List ℕ) (nodes : List Node) (h : Built n
           (again new s.0, expected-known h.formulas g a, (a, number-is h.formulas g h.ready h.once r i at))
       by (inr s) = on (list_any (same_formula g) h.formulas) refl
         where
-          on : (b : Bool) → list_any (same_formula g) h.formulas ≡ b → Follows names (with_formulas h.formulas (g ∷ [])) g atoms new (Ok i)
+          on : (b : Bool) → list_any (same_formula g) h.formulas ≡ b → GivesNumber names (with_formulas h.formulas (g ∷ [])) g atoms new (Ok i)
           on true a = absurd (s.1 (rw (h.nodes_are, e) (contains-among h.formulas g a)))
           on false a =
               let few : length h.formulas < 1024 = room (nat_lt (length h.formulas) 1024) refl in

@@ -9,7 +9,7 @@ use Rattle.ps_formula.specs.Nodes.{tree_over, trees_from, trees, Fits, AreNodes,
 use Rattle.ps_formula.specs.declared.node.Node.{Node}
 use Rattle.ps_problem.specs.Problems.{tree_at}
 use Rattle.ps_problem.specs.Numbering.{AreOnce, same_name, same_formula, place_in, names_among, node_in, numbered}
-use Rattle.ps_problem.specs.Built.{IsAmong, IsReady}
+use Rattle.ps_problem.specs.Numbered.{IsAmong, IsReady}
 use Rattle.ps_problem.proofs.Lists.{place-append, place-below, place-get, any-self}
 use Rattle.ps_problem.proofs.Nodes.{same-true, same-refl, atom-among, among-more, place-more, node-same}
 

@@ -4,14 +4,14 @@ use Rattle.std.specs.List.{list_any}
 use Rattle.std.proofs.lemmas.List.{append-nil, append_assoc, take_more, take_all, drop_more, drop_all}
 use Rattle.ps_meaning.specs.Formula.{Formula, Truth, subformulas}
 use Rattle.ps_meaning.specs.Statements.{Name}
-use Rattle.ps_formula.specs.declared.node.Node.{Node}
 use Rattle.ps_problem.specs.declared.mark.Mark.{Mark}
 use Rattle.ps_problem.specs.declared.fault.Fault.{Fault}
+use Rattle.ps_problem.specs.declared.building.Building.{Building}
 use Rattle.ps_problem.specs.Numbering.{same_formula}
 use Rattle.ps_problem.specs.Counts.{Excess, excess_with, unless, with_formulas, after}
 use Rattle.ps_problem.specs.Drafts.{arity, made_by, marked}
-use Rattle.ps_problem.specs.Entries.{standing, AreHeld, AreMarks, root}
-use Rattle.ps_problem.specs.Built.{Built, Stand, StandsAt, Follows, excess_of, tops, Reached}
+use Rattle.ps_problem.specs.DraftLists.{standing, AreHeld, AreMarks, root}
+use Rattle.ps_problem.specs.Numbered.{Built, IsStack, IsNumberOf, GivesNumber, excess_of, tops, MarksNumbered}
 use Rattle.ps_problem.proofs.Postfix.{standing-push}
 use Rattle.ps_problem.proofs.Operators.{length-stand, stand-marked, tops-are}
 
@@ -56,10 +56,10 @@ held-at names ss (m ∷ ms) (suc i) d h lt = held-at names (marked names ss m) m
 
 module _ (names : List Name) (start : List (Formula Name)) (all : List Mark) where
   -- the first turn
-  pub reached-start : (atoms : List ℕ) (nodes : List Node) (h : Built names atoms nodes) → Reached names h.formulas all 0 atoms nodes []
-  reached-start atoms nodes h = record { built = h; stand = record { places = refl; among = λ k d lt. absurd (omega arith) }; rest = refl }
+  pub reached-start : (b : Building) (h : Built names b.atoms b.formulas) → MarksNumbered names h.formulas all 0 b []
+  reached-start b h = record { built = h; stand = record { places = refl; among = λ k d lt. absurd (omega arith) }; rest = refl }
 
-  module _ (i : ℕ) (atoms : List ℕ) (nodes : List Node) (stack : List ℕ) (r : Reached names start all i atoms nodes stack) (d : Mark) (lt : i < length all) where
+  module _ (i : ℕ) (b : Building) (stack : List ℕ) (r : MarksNumbered names start all i b stack) (d : Mark) (lt : i < length all) where
     rest-is : with_formulas r.built.formulas (made_by names (standing names [] (take i all)) (get_or all i d) ∷ tops names (marked names (standing names [] (take i all)) (get_or all i d)) (drop (i + 1) all))
         ≡ with_formulas start (tops names [] all)
     rest-is = ap (λ ms. with_formulas r.built.formulas (tops names (standing names [] (take i all)) ms)) (sym (drop_more all i d lt)) ∙ r.rest
@@ -68,40 +68,40 @@ module _ (names : List Name) (start : List (Formula Name)) (all : List Mark) whe
         (λ gs. with_formulas gs (tops names (marked names (standing names [] (take i all)) (get_or all i d)) (drop (i + 1) all)))
     split = sym rest-is ∙ with-append r.built.formulas (made_by names (standing names [] (take i all)) (get_or all i d) ∷ []) (tops names (marked names (standing names [] (take i all)) (get_or all i d)) (drop (i + 1) all))
 
-    pub reached-stop : (atoms' : List ℕ) (nodes' : List Node) (x : Fault)
-        → Follows names (with_formulas r.built.formulas (made_by names (standing names [] (take i all)) (get_or all i d) ∷ [])) (made_by names (standing names [] (take i all)) (get_or all i d)) atoms' nodes' (Err x)
+    pub reached-stop : (b' : Building) (x : Fault)
+        → GivesNumber names (with_formulas r.built.formulas (made_by names (standing names [] (take i all)) (get_or all i d) ∷ [])) (made_by names (standing names [] (take i all)) (get_or all i d)) b'.atoms b'.formulas (Err x)
         → IfSome (excess_of x) (λ e. with_formulas start (tops names [] all) ≡ Err e)
-    reached-stop atoms' nodes' x f = by (excess_of x) f
+    reached-stop b' x f = by (excess_of x) f
       where
         by : (o : Option Excess) → IfSome o (λ e. with_formulas r.built.formulas (made_by names (standing names [] (take i all)) (get_or all i d) ∷ []) ≡ Err e) → IfSome o (λ e. with_formulas start (tops names [] all) ≡ Err e)
         by None f = tt
         by (Some e) f = split ∙ ap (λ q. after q (λ gs. with_formulas gs (tops names (marked names (standing names [] (take i all)) (get_or all i d)) (drop (i + 1) all)))) f
 
-    pub reached-next : (atoms' : List ℕ) (nodes' : List Node) (n : ℕ) → arity (get_or all i d) ≤ length stack
-        → Follows names (with_formulas r.built.formulas (made_by names (standing names [] (take i all)) (get_or all i d) ∷ [])) (made_by names (standing names [] (take i all)) (get_or all i d)) atoms' nodes' (Ok n)
-        → Reached names start all (i + 1) atoms' nodes' (take (length stack - arity (get_or all i d)) stack ++ n ∷ [])
-    reached-next atoms' nodes' n le f =
+    pub reached-next : (b' : Building) (n : ℕ) → arity (get_or all i d) ≤ length stack
+        → GivesNumber names (with_formulas r.built.formulas (made_by names (standing names [] (take i all)) (get_or all i d) ∷ [])) (made_by names (standing names [] (take i all)) (get_or all i d)) b'.atoms b'.formulas (Ok n)
+        → MarksNumbered names start all (i + 1) b' (take (length stack - arity (get_or all i d)) stack ++ n ∷ [])
+    reached-next b' n le f =
         let more = with-more r.built.formulas (made_by names (standing names [] (take i all)) (get_or all i d) ∷ []) f.0.formulas f.1 in
-        let there = subst (λ gs. StandsAt gs (made_by names (standing names [] (take i all)) (get_or all i d)) n) more.1 f.2 in
+        let there = subst (λ gs. IsNumberOf gs (made_by names (standing names [] (take i all)) (get_or all i d)) n) more.1 f.2 in
         let s = stand-marked r.built.formulas (standing names [] (take i all)) stack r.stand names more.0 (get_or all i d) n le there.0 there.1 in
         let e = standing-push names [] (take i all) (get_or all i d) in
         let t = take_more all i d lt in
         record {
           built = f.0;
-          stand = subst (λ gs. Stand gs (standing names [] (take (i + 1) all)) (take (length stack - arity (get_or all i d)) stack ++ n ∷ [])) (sym more.1)
-              (subst (λ ss. Stand (r.built.formulas ++ more.0) ss (take (length stack - arity (get_or all i d)) stack ++ n ∷ [])) (sym (ap (standing names []) t ∙ e)) s);
+          stand = subst (λ gs. IsStack gs (standing names [] (take (i + 1) all)) (take (length stack - arity (get_or all i d)) stack ++ n ∷ [])) (sym more.1)
+              (subst (λ ss. IsStack (r.built.formulas ++ more.0) ss (take (length stack - arity (get_or all i d)) stack ++ n ∷ [])) (sym (ap (standing names []) t ∙ e)) s);
           rest = ap (λ ss. with_formulas f.0.formulas (tops names ss (drop (i + 1) all))) (ap (standing names []) t ∙ e)
               ∙ sym (ap (λ q. after q (λ gs. with_formulas gs (tops names (marked names (standing names [] (take i all)) (get_or all i d)) (drop (i + 1) all)))) f.1) ∙ sym split;
         }
 
-  module _ (i : ℕ) (atoms : List ℕ) (nodes : List Node) (stack : List ℕ) (r : Reached names start all i atoms nodes stack) (le : length all ≤ i) (m : AreMarks names all (root names all)) where
-    stand-end : Stand r.built.formulas (root names all ∷ []) stack
-    stand-end = subst (λ ss. Stand r.built.formulas ss stack) (ap (standing names []) (take_all i all le) ∙ m.made) r.stand
+  module _ (i : ℕ) (b : Building) (stack : List ℕ) (r : MarksNumbered names start all i b stack) (le : length all ≤ i) (m : AreMarks names all (root names all)) where
+    stand-end : IsStack r.built.formulas (root names all ∷ []) stack
+    stand-end = subst (λ ss. IsStack r.built.formulas ss stack) (ap (standing names []) (take_all i all le) ∙ m.made) r.stand
 
     pub one-left : length stack ≡ 1
     one-left = length-stand r.built.formulas (root names all ∷ []) stack stand-end
 
-    pub reached-end : Follows names (with_formulas start (subformulas (root names all))) (root names all) atoms nodes (Ok (get_or stack 0 0))
+    pub reached-end : GivesNumber names (with_formulas start (subformulas (root names all))) (root names all) b.atoms b.formulas (Ok (get_or stack 0 0))
     reached-end = (
       r.built,
       ap (with_formulas start) (sym (tops-are names all (root names all) m.held m.made)) ∙ sym r.rest

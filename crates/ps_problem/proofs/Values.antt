@@ -6,21 +6,19 @@ use Rattle.std.proofs.lemmas.List.Elements.{All-map, All-weaker}
 use Rattle.ps_meaning.specs.Formula.{Formula}
 use Rattle.ps_meaning.specs.Formula as formula
 use Rattle.ps_meaning.specs.Statements.{Name}
-use Rattle.ps_problem.specs.declared.entry.Entry.{Entry}
-use Rattle.ps_problem.specs.declared.entry.Entry.TheVariants as entry
+use Rattle.ps_problem.specs.declared.draft_item.DraftItem.{DraftItem}
+use Rattle.ps_problem.specs.declared.draft_item.DraftItem.TheVariants as item
 use Rattle.ps_problem.specs.declared.mark.Mark.{Mark}
 use Rattle.ps_problem.specs.declared.span.Span.{Span}
-use Rattle.ps_problem.specs.Problems.{side_of}
 use Rattle.ps_problem.specs.Drafts.{IsLawful, IsNested, canonical_nesting, formula_at}
-use Rattle.ps_problem.specs.Entries.{item_of, IsEntry, IsSpan, spelled}
+use Rattle.ps_problem.specs.DraftLists.{item_of, IsDraftItem, IsSpan, spelled}
 
-lawful-item : (fs : List (Formula Name)) (n : ℕ) (e : Entry) → IsEntry n e → IsLawful (item_of fs e)
-lawful-item fs n (entry.Sentence f g s num den None) h = (h.1, tt)
-lawful-item fs n (entry.Sentence f g s num den (Some u)) h = (h.1, (h.2.0, ap side_of h.2.1))
-lawful-item fs n (entry.Query f g) h = tt
+lawful-item : (fs : List (Formula Name)) (n : ℕ) (e : DraftItem) → IsDraftItem n e → IsLawful (item_of fs e)
+lawful-item fs n (item.Sentence s) h = (h.1, h.2)
+lawful-item fs n (item.Query q) h = tt
 
-pub lawful-items : (fs : List (Formula Name)) (n : ℕ) (es : List Entry) → All (IsEntry n) es → All IsLawful (map (item_of fs) es)
-lawful-items fs n es h = All-map IsLawful (item_of fs) es (All-weaker (IsEntry n) (λ e. IsLawful (item_of fs e)) (lawful-item fs n) es h)
+pub lawful-items : (fs : List (Formula Name)) (n : ℕ) (es : List DraftItem) → All (IsDraftItem n) es → All IsLawful (map (item_of fs) es)
+lawful-items fs n es h = All-map IsLawful (item_of fs) es (All-weaker (IsDraftItem n) (λ e. IsLawful (item_of fs e)) (lawful-item fs n) es h)
 
 -- the canonical spellings of an item's formulas nest at most 100 where those of the formulas do
 module _ (fs : List (Formula Name)) (n : ℕ) (all : All (λ f. canonical_nesting f ≤ 100) fs) (many : length fs ≡ n) where
@@ -31,14 +29,14 @@ module _ (fs : List (Formula Name)) (n : ℕ) (all : All (λ f. canonical_nestin
   nested-given None h = tt
   nested-given (Some g) h = nested-at g h
 
-  nested-item : (e : Entry) → IsEntry n e → IsNested (item_of fs e)
-  nested-item (entry.Sentence f g s num den upper) h = (nested-at f h.0.0, nested-given g h.0.1)
-  nested-item (entry.Query f g) h = (nested-at f h.0, nested-given g h.1)
+  nested-item : (e : DraftItem) → IsDraftItem n e → IsNested (item_of fs e)
+  nested-item (item.Sentence s) h = (nested-at s.formula h.0.0, nested-given s.given h.0.1)
+  nested-item (item.Query q) h = (nested-at q.formula h.0, nested-given q.given h.1)
 
-pub nested-items : (names : List Name) (ms : List Mark) (ended : ℕ) (spans : List Span) (es : List Entry)
-    → All (IsSpan names ms ended) spans → All (IsEntry (length spans)) es → All IsNested (map (item_of (map (spelled names ms) spans)) es)
+pub nested-items : (names : List Name) (ms : List Mark) (ended : ℕ) (spans : List Span) (es : List DraftItem)
+    → All (IsSpan names ms ended) spans → All (IsDraftItem (length spans)) es → All IsNested (map (item_of (map (spelled names ms) spans)) es)
 nested-items names ms ended spans es h k =
     let fs = map (spelled names ms) spans in
     let all : All (λ f. canonical_nesting f ≤ 100) (map (spelled names ms) spans) =
     All-map (λ f. canonical_nesting f ≤ 100) (spelled names ms) spans (All-weaker (IsSpan names ms ended) (λ s. canonical_nesting (spelled names ms s) ≤ 100) (λ s i. i.nesting) spans h) in
-    All-map IsNested (item_of fs) es (All-weaker (IsEntry (length spans)) (λ e. IsNested (item_of fs e)) (nested-item fs (length spans) all (length-map spans (spelled names ms))) es k)
+    All-map IsNested (item_of fs) es (All-weaker (IsDraftItem (length spans)) (λ e. IsNested (item_of fs e)) (nested-item fs (length spans) all (length-map spans (spelled names ms))) es k)

@@ -3,12 +3,13 @@ use Rattle.std.proofs.Common.{◌≡◌, List, [], ◌∷◌, ◌++◌, map, All
 use Rattle.std.specs.Prelude.{option_map}
 use Rattle.std.proofs.lemmas.List.Elements.{All-head, All-tail}
 use Rattle.ps_meaning.specs.Formula.{Formula, Truth, Falsity, Atom, Not, And, Or, Implies, Iff, with_atoms}
-use Rattle.ps_meaning.specs.Bounds as meaning
+use Rattle.ps_meaning.specs.declared.side.Side.TheVariants as side
 use Rattle.ps_meaning.specs.Statements.{Name, Ratio, Statement, Question, Item, statements_of, questions_of}
-use Rattle.ps_problem.specs.Problems.{Parts, tree_at, side_of}
-use Rattle.ps_problem.specs.Numbering.{same_name, same_formula, place_in, different, names_among, node_in, side_in, bound_in, sentence_in, query_in, numbered_in_statements, numbered_in_questions, formulas_of, problem_of, numbered}
-use Rattle.ps_problem.specs.Built.{IsAmong, IsReady, HasQuestion, name_at}
-use Rattle.ps_problem.specs.Builds.{question_on as question}
+use Rattle.ps_problem.specs.Problems.{Parts, tree_at}
+use Rattle.ps_problem.specs.Numbering.{same_name, same_formula, place_in, different, names_among, node_in, bound_in, sentence_in, query_in, numbered_in_statements, numbered_in_questions, formulas_of, problem_of, numbered}
+use Rattle.ps_problem.specs.Numbered.{IsAmong, IsReady, HasQuestion}
+use Rattle.ps_problem.specs.Problems.{name_at}
+use Rattle.ps_problem.specs.Making.{question_on as question}
 use Rattle.ps_problem.specs.Written.{named_at, ratio_at, statement_from, question_from, listed, items_from}
 use Rattle.ps_problem.proofs.NameLists.{same_name-true, same_name-refl}
 use Rattle.ps_problem.proofs.Lists.{place-below, place-get}
@@ -16,12 +17,7 @@ use Rattle.ps_problem.proofs.Nodes.{same-true, same-refl}
 use Rattle.ps_problem.proofs.Trees.{tree-at, are-ready}
 use Rattle.ps_problem.proofs.Orders.{Ordered, are-numbered}
 
-side-back : (on : meaning.Side) → side_of (side_in on) ≡ on
-side-back meaning.AtLeast = refl
-side-back meaning.AtMost = refl
-side-back meaning.Exactly = refl
-
-upper-back : (fs : List (Formula Name)) (s : Statement) (u : Option Ratio) → option_map ratio_at (option_map (bound_in fs s meaning.AtMost) u) ≡ u
+upper-back : (fs : List (Formula Name)) (s : Statement) (u : Option Ratio) → option_map ratio_at (option_map (bound_in fs s side.AtMost) u) ≡ u
 upper-back fs s None = refl
 upper-back fs s (Some r) = refl
 
@@ -59,7 +55,7 @@ module _ (fs : List (Formula Name)) (o : Ordered fs) where
     statement-back s h = λ i. record {
       formula = formula-at s.formula h.formula i;
       given = given-at s.given h.given i;
-      side = side-back s.side i;
+      side = s.side;
       value = s.value;
       upper = upper-back fs s s.upper i;
     }

@@ -4,6 +4,7 @@ use Rattle.std.specs.List.{list_any}
 use Rattle.ps_meaning.specs.Formula.{Formula}
 use Rattle.ps_meaning.specs.Formula as formula
 use Rattle.ps_meaning.specs.Statements.{Name, Statement, Item, Stated, Asked}
+use Rattle.ps_problem.specs.declared.limits.TheConstants.{MOST_ATOMS, MOST_NODES, MOST_BOUNDS, MOST_QUERIES}
 use Rattle.ps_problem.specs.Numbering.{same_formula, numbered_for, names_among}
 
 -- what there is too much of
@@ -21,8 +22,8 @@ is_atom f = false
 
 -- what a new formula is too much of, where it doesn't fit behind some
 abbrev pub excess_with : List (Formula Name) → Formula Name → Option Excess
-excess_with fs f = if is_atom f && nat_le 128 (length (names_among fs)) then Some Atoms
-    else (if nat_le 1024 (length fs) then Some Nodes else None)
+excess_with fs f = if is_atom f && nat_le MOST_ATOMS (length (names_among fs)) then Some Atoms
+    else (if nat_le MOST_NODES (length fs) then Some Nodes else None)
 
 -- an excess, or else what comes without it
 abbrev pub unless : {X E : Type 0} → Option E → Result X E → Result X E
@@ -49,7 +50,7 @@ abbrev pub with_statements : ℕ → ℕ → List (Formula Name) → List Item �
 with_statements before bounds fs [] = Ok fs
 with_statements before bounds fs (Asked q ∷ items) = with_statements (before + 1) bounds fs items
 with_statements before bounds fs (Stated s ∷ items) = at_item (before + 1)
-    (if nat_lt 100 (bounds + count_bounds s) then Err Bounds else with_formulas fs (numbered_for s.formula s.given))
+    (if nat_lt MOST_BOUNDS (bounds + count_bounds s) then Err Bounds else with_formulas fs (numbered_for s.formula s.given))
     (λ gs. with_statements (before + 1) (bounds + count_bounds s) gs items)
 
 -- the formulas of the questions among items behind some formulas; so many items and questions come before
@@ -57,7 +58,7 @@ abbrev pub with_questions : ℕ → ℕ → List (Formula Name) → List Item �
 with_questions before asked fs [] = Ok fs
 with_questions before asked fs (Stated s ∷ items) = with_questions (before + 1) asked fs items
 with_questions before asked fs (Asked q ∷ items) = at_item (before + 1)
-    (if nat_lt 16 (asked + 1) then Err Queries else with_formulas fs (numbered_for q.formula q.given))
+    (if nat_lt MOST_QUERIES (asked + 1) then Err Queries else with_formulas fs (numbered_for q.formula q.given))
     (λ gs. with_questions (before + 1) (asked + 1) gs items)
 
 abbrev pub after : {X E : Type 0} → Result X E → (X → Result X E) → Result X E

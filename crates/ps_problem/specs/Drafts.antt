@@ -3,13 +3,12 @@ use Rattle.std.specs.Prelude.{◌≡◌, ◌≤◌, ◌<◌, ◌+◌, ◌-◌, �
 use Rattle.std.specs.Int.{IsGcd}
 use Rattle.ps_meaning.specs.Formula.{Formula}
 use Rattle.ps_meaning.specs.Formula as formula
-use Rattle.ps_meaning.specs.Bounds as meaning
-use Rattle.ps_meaning.specs.Statements.{Name, Ratio, Statement, Question, Item, Stated, Asked}
+use Rattle.ps_meaning.specs.declared.side.Side.{Side}
+use Rattle.ps_meaning.specs.declared.side.Side.TheVariants.{AtLeast}
+use Rattle.ps_meaning.specs.Statements.{Name, Ratio, Question, Item, Stated, Asked}
+use Rattle.ps_problem.specs.declared.limits.TheConstants.{MOST_DENOMINATOR, MOST_NESTING}
 use Rattle.ps_problem.specs.declared.mark.Mark.{Mark}
 use Rattle.ps_problem.specs.declared.mark.Mark.TheVariants as mark
-use Rattle.ps_problem.specs.declared.bound.Side.{Side}
-use Rattle.ps_problem.specs.declared.bound.Side.TheVariants as side
-use Rattle.ps_problem.specs.Problems.{side_of}
 use Rattle.ps_problem.specs.Numbering.{same_name, with_new}
 
 -- the names so far, the formulas that stand open (a stack, the last one last), the formulas that have ended, and
@@ -77,45 +76,35 @@ canonical_nesting f = nesting_at 1 f
 -- a reduced fraction of at most 1, with a denominator of at most a million
 pub record IsRatio (num den : ℕ) : Type 0 where
   pub least : 1 ≤ den
-  pub most : den ≤ 1000000
+  pub most : den ≤ MOST_DENOMINATOR
   pub value : num ≤ den
   pub reduced : IsGcd num den 1
 
--- where there is an upper value it is a ratio too, and the first value is a lower one
-abbrev pub IsUpper : Side → Option (ℕ × ℕ) → Type 0
-IsUpper s None = Unit {0}
-IsUpper s (Some u) = IsRatio u.0 u.1 × (s ≡ side.AtLeast)
+abbrev pub ratio_of : ℕ × ℕ → Ratio
+ratio_of r = record { num = r.0; den = r.1 }
 
-abbrev pub IsUpperOf : meaning.Side → Option Ratio → Type 0
+-- where there is an upper value it is a ratio too, and the first value is a lower one
+abbrev pub IsUpperOf : Side → Option Ratio → Type 0
 IsUpperOf side None = Unit {0}
-IsUpperOf side (Some r) = IsRatio r.num r.den × (side ≡ meaning.AtLeast)
+IsUpperOf side (Some r) = IsRatio r.num r.den × (side ≡ AtLeast)
+
+-- the same of an upper value as numerator and denominator
+abbrev pub IsUpper : Side → Option (ℕ × ℕ) → Type 0
+IsUpper side upper = IsUpperOf side (option_map ratio_of upper)
 
 -- an item within the limits of values
 abbrev pub IsLawful : Item → Type 0
 IsLawful (Stated s) = IsRatio s.value.num s.value.den × IsUpperOf s.side s.upper
 IsLawful (Asked q) = Unit {0}
 
--- the canonical spellings of an item's formulas nest at most 100
+-- the canonical spellings of an item's formulas don't nest too deep
 abbrev pub IsNested : Item → Type 0
-IsNested (Stated s) = (canonical_nesting s.formula ≤ 100) × IfSome s.given (λ g. canonical_nesting g ≤ 100)
-IsNested (Asked q) = (canonical_nesting q.formula ≤ 100) × IfSome q.given (λ g. canonical_nesting g ≤ 100)
+IsNested (Stated s) = (canonical_nesting s.formula ≤ MOST_NESTING) × IfSome s.given (λ g. canonical_nesting g ≤ MOST_NESTING)
+IsNested (Asked q) = (canonical_nesting q.formula ≤ MOST_NESTING) × IfSome q.given (λ g. canonical_nesting g ≤ MOST_NESTING)
 
 -- the formula of a number
 abbrev pub formula_at : List (Formula Name) → ℕ → Formula Name
 formula_at fs i = slice_index_or fs i formula.Truth
-
-abbrev pub ratio_of : ℕ × ℕ → Ratio
-ratio_of r = record { num = r.0; den = r.1 }
-
--- the statement over formulas by number
-abbrev pub statement_at : List (Formula Name) → ℕ → Option ℕ → Side → ℕ → ℕ → Option (ℕ × ℕ) → Statement
-statement_at fs f g s num den upper = record {
-  formula = formula_at fs f;
-  given = option_map (formula_at fs) g;
-  side = side_of s;
-  value = record { num = num; den = den };
-  upper = option_map ratio_of upper;
-}
 
 -- the question over formulas by number
 abbrev pub question_at : List (Formula Name) → ℕ → Option ℕ → Question

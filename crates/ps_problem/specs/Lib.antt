@@ -3,14 +3,17 @@ pub use Rattle.ps_meaning.specs.Distribution
 pub use Rattle.ps_meaning.specs.Bounds
 pub use Rattle.ps_meaning.specs.Statements
 pub use Rattle.ps_formula.specs.Nodes
+-- Meaning
 pub mod Problems
 pub mod Numbering
 pub mod Counts
 pub mod Soundness
-pub mod Codes
 pub mod Drafts
-pub mod Entries
-pub mod Built
 pub mod Builds
 pub mod Written
 pub mod Rereading
+-- Bridge: what joins drafts and the making of a problem to that meaning
+pub mod Codes
+pub mod DraftLists
+pub mod Numbered
+pub mod Making

@@ -4,13 +4,13 @@ use Rattle.std.specs.List.{list_any}
 use Rattle.std.specs.Cmp.Lexicographic.{pointwise}
 use Rattle.ps_meaning.specs.Formula.{Formula, with_atoms, subformulas}
 use Rattle.ps_meaning.specs.Formula as formula
+use Rattle.ps_meaning.specs.declared.side.Side.{Side}
+use Rattle.ps_meaning.specs.declared.side.Side.TheVariants as side
 use Rattle.ps_meaning.specs.Bounds as meaning
 use Rattle.ps_meaning.specs.Statements.{Name, Ratio, Statement, Question, Item, statements_of, questions_of}
 use Rattle.ps_formula.specs.declared.node.Node.{Node}
 use Rattle.ps_formula.specs.declared.node.Node.TheVariants as node
 use Rattle.ps_problem.specs.declared.bound.Bound.{Bound}
-use Rattle.ps_problem.specs.declared.bound.Side.{Side}
-use Rattle.ps_problem.specs.declared.bound.Side.TheVariants as side
 use Rattle.ps_problem.specs.declared.sentence.Sentence.{Sentence}
 use Rattle.ps_problem.specs.declared.query.Query.{Query}
 use Rattle.ps_problem.specs.Problems.{Parts, tree_at, given_at}
@@ -87,24 +87,19 @@ abbrev pub both_of : Formula Name → Option (Formula Name) → Formula Name
 both_of f None = f
 both_of f (Some g) = formula.And f g
 
-abbrev pub side_in : meaning.Side → Side
-side_in meaning.AtLeast = side.AtLeast
-side_in meaning.AtMost = side.AtMost
-side_in meaning.Exactly = side.Exactly
-
 -- a statement's bound on one side
-abbrev pub bound_in : List (Formula Name) → Statement → meaning.Side → Ratio → Bound
+abbrev pub bound_in : List (Formula Name) → Statement → Side → Ratio → Bound
 bound_in fs s on value = record {
   formula = place_in same_formula fs s.formula;
   given = option_map (place_in same_formula fs) s.given;
   both = place_in same_formula fs (both_of s.formula s.given);
-  side = side_in on;
+  side = on;
   num = value.num;
   den = value.den;
 }
 
 abbrev pub sentence_in : List (Formula Name) → Statement → Sentence
-sentence_in fs s = record { first = bound_in fs s s.side s.value; second = option_map (bound_in fs s meaning.AtMost) s.upper }
+sentence_in fs s = record { first = bound_in fs s s.side s.value; second = option_map (bound_in fs s side.AtMost) s.upper }
 
 abbrev pub query_in : List (Formula Name) → Question → Query
 query_in fs q = record {
@@ -132,7 +127,7 @@ numbered_given names None = formula.Truth
 numbered_given names (Some g) = numbered names g
 
 -- what a statement says on one side, over numbers
-abbrev pub stated_bound : List Name → Statement → meaning.Side → Ratio → meaning.Bound
+abbrev pub stated_bound : List Name → Statement → Side → Ratio → meaning.Bound
 stated_bound names s on value = record {
   formula = numbered names s.formula;
   given = numbered_given names s.given;
@@ -144,7 +139,11 @@ stated_bound names s on value = record {
 -- what statements say, over numbers: one bound each, and an upper one too where it is an interval
 abbrev pub stated_bounds : List Name → List Statement → List meaning.Bound
 stated_bounds names [] = []
-stated_bounds names (s ∷ ss) = stated_bound names s s.side s.value ∷ map (stated_bound names s meaning.AtMost) (option_to_list s.upper) ++ stated_bounds names ss
+stated_bounds names (s ∷ ss) = stated_bound names s s.side s.value ∷ map (stated_bound names s side.AtMost) (option_to_list s.upper) ++ stated_bounds names ss
+
+-- what the statements of items say, over numbers
+abbrev pub stated_by : List Item → List meaning.Bound
+stated_by items = stated_bounds (names_among (formulas_of items)) (statements_of items)
 
 -- formula and condition of a question, over numbers
 abbrev pub numbered_question : List Name → Question → Formula ℕ × Formula ℕ
@@ -153,3 +152,11 @@ numbered_question names q = (numbered names q.formula, numbered_given names q.gi
 -- formula and condition that a query's numbers stand for
 abbrev pub question_of : List Node → Query → Formula ℕ × Formula ℕ
 question_of ns q = (tree_at ns q.formula, given_at ns q.given)
+
+-- what the questions of items ask, over numbers
+abbrev pub asked_by : List Item → List (Formula ℕ × Formula ℕ)
+asked_by items = map (numbered_question (names_among (formulas_of items))) (questions_of items)
+
+-- what the queries of a problem stand for
+abbrev pub queries_of : Parts → List (Formula ℕ × Formula ℕ)
+queries_of p = map (question_of p.nodes) p.queries

@@ -1,13 +1,12 @@
 -- What the numbers of a problem stand for, and which problems are in order.
-use Rattle.std.specs.Prelude.{◌≡◌, ◌≢◌, ◌≤◌, ◌<◌, ℕ, pos, List, [], ◌∷◌, Option, Some, None, length, map, All, AllPairs, IfSome, slice_index_or}
+use Rattle.std.specs.Prelude.{◌≡◌, ◌≢◌, ◌≤◌, ◌<◌, ◌-◌, ◌==◌, if◌then◌else◌, slice_get, ℕ, pos, List, [], ◌∷◌, Option, Some, None, length, map, All, AllPairs, IfSome, slice_index_or}
 use Rattle.ps_meaning.specs.Formula.{Formula, Truth, And}
 use Rattle.ps_meaning.specs.Bounds as meaning
 use Rattle.ps_meaning.specs.Statements.{Name}
 use Rattle.ps_formula.specs.Nodes.{trees, AreNodes, AtomBelow}
 use Rattle.ps_formula.specs.declared.node.Node.{Node}
+use Rattle.ps_problem.specs.declared.limits.TheConstants.{MOST_ATOMS, MOST_NODES, MOST_BOUNDS, MOST_QUERIES, MOST_DENOMINATOR}
 use Rattle.ps_problem.specs.declared.bound.Bound.{Bound}
-use Rattle.ps_problem.specs.declared.bound.Side.{Side}
-use Rattle.ps_problem.specs.declared.bound.Side.TheVariants as side
 use Rattle.ps_problem.specs.declared.sentence.Sentence.{Sentence}
 use Rattle.ps_problem.specs.declared.query.Query.{Query}
 
@@ -18,6 +17,9 @@ pub record Parts : Type 0 where
   pub sentences : List Sentence
   pub queries : List Query
 
+abbrev pub parts_of : List Name → List Node → List Sentence → List Query → Parts
+parts_of names nodes sentences queries = record { names = names; nodes = nodes; sentences = sentences; queries = queries }
+
 -- the bounds of sentences in order: one of each, and of an interval a second
 abbrev pub bounds_in : List Sentence → List Bound
 bounds_in [] = []
@@ -26,6 +28,14 @@ bounds_in (s ∷ ss) = s.first ∷ with_second s.second (bounds_in ss)
     with_second : Option Bound → List Bound → List Bound
     with_second None bs = bs
     with_second (Some b) bs = b ∷ bs
+
+-- the bound of sentences by its number, from 1
+abbrev pub bound_at : List Sentence → ℕ → Option Bound
+bound_at ss i = if i == 0 then None else slice_get (bounds_in ss) (i - 1)
+
+-- the name of a number
+abbrev pub name_at : List Name → ℕ → Name
+name_at names n = slice_index_or names n []
 
 -- the formula of a node
 abbrev pub tree_at : List Node → ℕ → Formula ℕ
@@ -36,14 +46,9 @@ abbrev pub given_at : List Node → Option ℕ → Formula ℕ
 given_at ns None = Truth
 given_at ns (Some g) = tree_at ns g
 
-abbrev pub side_of : Side → meaning.Side
-side_of side.AtLeast = meaning.AtLeast
-side_of side.AtMost = meaning.AtMost
-side_of side.Exactly = meaning.Exactly
-
 -- the bound that a bound's numbers stand for
 abbrev pub bound_of : List Node → Bound → meaning.Bound
-bound_of ns b = record { formula = tree_at ns b.formula; given = given_at ns b.given; side = side_of b.side; num = pos b.num; den = pos b.den }
+bound_of ns b = record { formula = tree_at ns b.formula; given = given_at ns b.given; side = b.side; num = pos b.num; den = pos b.den }
 
 -- the bounds that a problem's sentences stand for
 abbrev pub bounds_of : Parts → List meaning.Bound
@@ -65,7 +70,7 @@ pub record HasNodes (ns : List Node) (formula : ℕ) (given : Option ℕ) (both 
 pub record IsBound (ns : List Node) (b : Bound) : Type 0 where
   pub nodes : HasNodes ns b.formula b.given b.both
   pub den_least : 1 ≤ b.den
-  pub den_most : b.den ≤ 1000000
+  pub den_most : b.den ≤ MOST_DENOMINATOR
   pub num_most : b.num ≤ b.den
 
 abbrev pub AreBounds : List Node → List Bound → Type 0
@@ -74,11 +79,11 @@ AreBounds ns bs = All (IsBound ns) bs
 -- a problem within the limits, whose numbers are in range
 pub record AreParts (p : Parts) : Type 0 where
   pub nodes : AreNodes p.nodes
-  pub few_nodes : length p.nodes ≤ 1024
-  pub few_atoms : length p.names ≤ 128
+  pub few_nodes : length p.nodes ≤ MOST_NODES
+  pub few_atoms : length p.names ≤ MOST_ATOMS
   pub names : AllPairs (λ a b. a ≢ b) p.names
   pub atoms : All (AtomBelow (length p.names)) p.nodes
   pub bounds : AreBounds p.nodes (bounds_in p.sentences)
-  pub few_bounds : length (bounds_in p.sentences) ≤ 100
+  pub few_bounds : length (bounds_in p.sentences) ≤ MOST_BOUNDS
   pub queries : All (λ q. HasNodes p.nodes q.formula q.given q.both) p.queries
-  pub few_queries : length p.queries ≤ 16
+  pub few_queries : length p.queries ≤ MOST_QUERIES

@@ -5,8 +5,8 @@ use Rattle.ps_meaning.specs.Statements.{Name, Ratio, Statement, Question, Item, 
 use Rattle.ps_problem.specs.declared.bound.Bound.{Bound}
 use Rattle.ps_problem.specs.declared.sentence.Sentence.{Sentence}
 use Rattle.ps_problem.specs.declared.query.Query.{Query}
-use Rattle.ps_problem.specs.Problems.{Parts, tree_at, side_of}
-use Rattle.ps_problem.specs.Built.{name_at}
+use Rattle.ps_problem.specs.Problems.{Parts, tree_at}
+use Rattle.ps_problem.specs.Problems.{name_at}
 
 -- a node's formula, each number replaced by its name
 abbrev pub named_at : Parts → ℕ → Formula Name
@@ -19,7 +19,7 @@ abbrev pub statement_from : Parts → Sentence → Statement
 statement_from p s = record {
   formula = named_at p s.first.formula;
   given = option_map (named_at p) s.first.given;
-  side = side_of s.first.side;
+  side = s.first.side;
   value = ratio_at s.first;
   upper = option_map ratio_at s.second;
 }

@@ -1,12 +1,17 @@
 //! The making of a problem.
-ghost use Rattle.std.specs.Prelude.{◌≡◌, ◌++◌, ◌<◌, ◌≤◌, ◌+◌, [], ◌∷◌, All, OnOk, IfOk, IfErr, IfSome, Err, length, map, is_some, if◌then◌else◌};
+ghost use Rattle.std.specs.Prelude.{◌≡◌, ◌++◌, ◌<◌, ◌≤◌, ◌+◌, [], ◌∷◌, All, OnOk, IfOk, IfErr};
+ghost use Rattle.std.specs.Prelude.{length, map, is_some, if◌then◌else◌};
 ghost use Rattle.ps_problem.specs.Problems.{bounds_in};
-ghost use Rattle.ps_problem.specs.Built.{Built, name_at};
-ghost use Rattle.ps_problem.specs.Builds.{IsExcess, IsRefusal, IsBuilt, bound_on, sentence_on, Stating, Asking};
+ghost use Rattle.ps_problem.specs.Numbered.{Built};
+ghost use Rattle.ps_problem.specs.Problems.{name_at};
+ghost use Rattle.ps_problem.specs.Builds.{IsRefusal, IsBuilt};
+ghost use Rattle.ps_problem.specs.Making.{IsExcess, bound_on, sentence_on};
+ghost use Rattle.ps_problem.specs.Making.{SentencesMade, QueriesMade};
 
 use crate::building::Building;
-use crate::entry::Entry;
+use crate::draft_item::{DraftItem, DraftSentence};
 use crate::fault::Fault;
+use crate::limits::{MOST_BOUNDS, MOST_QUERIES};
 use crate::names::Names;
 use crate::{Bound, BuildError, Draft, Problem, Queries, Query, Sentence, Sentences, Side};
 use ps_io::{List, NoMemory};
@@ -38,11 +43,11 @@ fn bound(query: Query, side: Side, num: u32, den: u32) -> Bound
 }
 
 // The sentence on a query's formula.
-fn sentence(query: Query, side: Side, num: u32, den: u32, upper: Option<(u32, u32)>) -> Sentence
-    ensures { result ≡ sentence_on query side num den upper }
+fn sentence(query: Query, item: DraftSentence) -> Sentence
+    ensures { result ≡ sentence_on query item }
 {
-    let first = bound(query, side, num, den);
-    match upper {
+    let first = bound(query, item.side, item.num, item.den);
+    match item.upper {
         Some((num, den)) => Sentence {
             first,
             second: Some(bound(query, Side::AtMost, num, den)),
@@ -80,7 +85,7 @@ fn copies(alloc: Global, names: &Names, numbers: &[u32]) -> Result<List<Vec<u8>>
 
 // The parts of a problem as far as they are made.
 #[derive(Drop)]
-struct Assembly {
+pub(crate) struct Assembly {
     building: Building,
     sentences: Sentences,
     bounds: List<Bound>,
@@ -91,24 +96,22 @@ impl Assembly {
     // Makes the sentence of an item that is one.
     fn sentence(&mut self, alloc: Global, draft: &Draft, i: u32) -> Result<(), Fault>
         requires item { i < length draft.now.items }
-        requires before { Stating draft.now.names draft.now.items i self.old.building.atoms self.old.building.formulas self.old.sentences self.old.bounds self.old.queries }
-        ensures ok { OnOk result (Stating draft.now.names draft.now.items (i + 1) self.new.building.atoms self.new.building.formulas self.new.sentences self.new.bounds self.new.queries) }
+        requires before { SentencesMade draft.now i self.old }
+        ensures ok { OnOk result (SentencesMade draft.now (i + 1) self.new) }
         ensures err { IfErr result (IsExcess draft.now.items (i + 1)) }
     {
-        let (formula, given, side, num, den, upper) = match draft.entry(i) {
-            Entry::Sentence(formula, given, side, num, den, upper) => (
-                formula, given, side, num, den, upper,
-            ),
-            Entry::Query(_, _) => return Ok(()),
+        let item = match draft.item(i) {
+            DraftItem::Sentence(sentence) => sentence,
+            DraftItem::Query(_) => return Ok(()),
         };
-        if self.bounds.len() > 100 - count(upper) {
+        if self.bounds.len() > MOST_BOUNDS - count(item.upper) {
             return Err(Fault::Bounds);
         }
-        let query = match self.building.query(alloc, draft, formula, given) {
+        let query = match self.building.query(alloc, draft, item.formula, item.given) {
             Ok(query) => query,
             Err(fault) => return Err(fault),
         };
-        let made = sentence(query, side, num, den, upper);
+        let made = sentence(query, item);
         if push_bounds(&mut self.bounds, made).is_err() {
             return Err(Fault::NoMemory);
         }
@@ -121,18 +124,18 @@ impl Assembly {
     // Makes the query of an item that is one.
     fn query(&mut self, alloc: Global, draft: &Draft, i: u32) -> Result<(), Fault>
         requires item { i < length draft.now.items }
-        requires before { Asking draft.now.names draft.now.items i self.old.building.atoms self.old.building.formulas self.old.sentences self.old.bounds self.old.queries }
-        ensures ok { OnOk result (Asking draft.now.names draft.now.items (i + 1) self.new.building.atoms self.new.building.formulas self.new.sentences self.new.bounds self.new.queries) }
+        requires before { QueriesMade draft.now i self.old }
+        ensures ok { OnOk result (QueriesMade draft.now (i + 1) self.new) }
         ensures err { IfErr result (IsExcess draft.now.items (i + 1)) }
     {
-        let (formula, given) = match draft.entry(i) {
-            Entry::Query(formula, given) => (formula, given),
-            Entry::Sentence(_, _, _, _, _, _) => return Ok(()),
+        let item = match draft.item(i) {
+            DraftItem::Query(query) => query,
+            DraftItem::Sentence(_) => return Ok(()),
         };
-        if self.queries.len() >= 16 {
+        if self.queries.len() >= MOST_QUERIES {
             return Err(Fault::Queries);
         }
-        let query = match self.building.query(alloc, draft, formula, given) {
+        let query = match self.building.query(alloc, draft, item.formula, item.given) {
             Ok(query) => query,
             Err(fault) => return Err(fault),
         };
@@ -144,8 +147,8 @@ impl Assembly {
 
     // Makes the sentences of all items.
     fn sentences(&mut self, alloc: Global, draft: &Draft) -> Result<(), BuildError>
-        requires { Stating draft.now.names draft.now.items 0 self.old.building.atoms self.old.building.formulas self.old.sentences self.old.bounds self.old.queries }
-        ensures ok { OnOk result (Stating draft.now.names draft.now.items (length draft.now.items) self.new.building.atoms self.new.building.formulas self.new.sentences self.new.bounds self.new.queries) }
+        requires { SentencesMade draft.now 0 self.old }
+        ensures ok { OnOk result (SentencesMade draft.now (length draft.now.items) self.new) }
         ensures err { IfErr result (IsRefusal draft.now.items) }
     {
         for i in 0..draft.len() {
@@ -158,8 +161,8 @@ impl Assembly {
 
     // Makes the queries of all items.
     fn queries(&mut self, alloc: Global, draft: &Draft) -> Result<(), BuildError>
-        requires { Asking draft.now.names draft.now.items 0 self.old.building.atoms self.old.building.formulas self.old.sentences self.old.bounds self.old.queries }
-        ensures ok { OnOk result (Asking draft.now.names draft.now.items (length draft.now.items) self.new.building.atoms self.new.building.formulas self.new.sentences self.new.bounds self.new.queries) }
+        requires { QueriesMade draft.now 0 self.old }
+        ensures ok { OnOk result (QueriesMade draft.now (length draft.now.items) self.new) }
         ensures err { IfErr result (IsRefusal draft.now.items) }
     {
         for i in 0..draft.len() {
@@ -171,8 +174,8 @@ impl Assembly {
     }
 }
 
-/// The problem of a draft's items: formulas and atoms are numbered in the order in which they first come, those
-/// of all sentences before those of the queries.
+/// The problem of a draft's items: formulas and atoms are numbered in the order in which they first
+/// come, those of all sentences before those of the queries.
 pub fn build(alloc: Global, draft: &Draft) -> Result<Problem, BuildError>
     ensures { IsBuilt draft.now.items result }
 {

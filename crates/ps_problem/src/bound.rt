@@ -1,16 +1,9 @@
 //! Bounds on probabilities.
+use ps_meaning::Side;
 
-/// The side of a bound's value on which the probability lies.
-#[derive(Clone, Copy, Debug, PartialEq, Eq)]
-pub enum Side {
-    AtLeast,
-    AtMost,
-    Exactly,
-}
-
-/// The probability of a formula, perhaps given a condition, against `num/den`, which is reduced and at most 1.
-/// Formulas are numbers of nodes, from 0; `both` is the node of formula and condition together, or `formula`
-/// where nothing is given.
+/// The probability of a formula, perhaps given a condition, against `num/den`, which is reduced and
+/// at most 1. Formulas are numbers of nodes, from 0; `both` is the node of formula and condition
+/// together, or `formula` where nothing is given.
 #[derive(Clone, Copy, Debug, PartialEq, Eq)]
 pub struct Bound {
     pub formula: u32,

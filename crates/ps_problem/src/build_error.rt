@@ -1,30 +1,36 @@
 //! Why no problem is made of a draft.
-ghost use Rattle.std.specs.Prelude.{◌≡◌, option_map};
-ghost use Rattle.ps_problem.specs.Built.{excess_of};
+ghost use Rattle.std.specs.Prelude.{◌≡◌};
 ghost use Rattle.ps_problem.specs.Builds.{refused_of};
+ghost use Rattle.ps_problem.specs.Making.{refused_at};
 
 use crate::fault::Fault;
 use ps_io::NoMemory;
+use thiserror::Error;
 
-/// The first limit that a draft's items pass, and the item that passes it, from 1 in the draft's order; or there
-/// was not enough memory.
-#[derive(Clone, Copy, Debug, PartialEq, Eq)]
+/// The first limit that a draft's items pass, and the item that passes it, from 1 in the draft's
+/// order; or there was not enough memory.
+#[derive(Clone, Copy, Debug, PartialEq, Eq, Error)]
 pub enum BuildError {
     /// The 129th atom.
+    #[error("too many atoms at item {item}")]
     TooManyAtoms { item: u32 },
     /// The 1,025th node.
+    #[error("too many nodes at item {item}")]
     TooManyNodes { item: u32 },
     /// The 101st bound.
+    #[error("too many bounds at item {item}")]
     TooManyBounds { item: u32 },
     /// The 17th query.
+    #[error("too many queries at item {item}")]
     TooManyQueries { item: u32 },
+    #[error("not enough memory")]
     NoMemory,
 }
 
 impl BuildError {
     // The error of a fault at an item.
     pub(crate) fn at(fault: Fault, item: u32) -> BuildError
-        ensures { refused_of result ≡ option_map (λ e. record { excess = e; item = item }) (excess_of fault) }
+        ensures { refused_of result ≡ refused_at item fault }
     {
         match fault {
             Fault::Atoms => BuildError::TooManyAtoms { item },

@@ -1,15 +1,18 @@
 //! The numbering of formulas and atoms.
-ghost use Rattle.std.specs.Prelude.{◌≡◌, ◌≤◌, ◌<◌, ◌^◌, ◌-◌, ℕ, ◌++◌, [], ◌∷◌, All, Ok, IfOk, IfErr, OnOk, OnErr, List, length, map, take, nat_eq, slice_index_or, option_map};
-ghost use Rattle.ps_meaning.specs.Formula.{Formula, Atom, subformulas};
+ghost use Rattle.std.specs.Prelude.{◌≡◌, ◌≤◌, ◌<◌, ◌-◌, ◌++◌, [], ◌∷◌, All, IfErr, OnOk};
+ghost use Rattle.std.specs.Prelude.{List, length, take, nat_eq};
+ghost use Rattle.ps_meaning.specs.Formula.{Formula, Atom};
 ghost use Rattle.ps_meaning.specs.Statements.{Name};
 ghost use Rattle.ps_formula.specs.Nodes.{Fits};
-ghost use Rattle.ps_problem.specs.Numbering.{place_in, same_formula, numbered_for};
-ghost use Rattle.ps_problem.specs.Counts.{with_formulas};
-ghost use Rattle.ps_problem.specs.Drafts.{arity, NameBelow, made_by, formula_at, question_at, AreBelow};
-ghost use Rattle.ps_problem.specs.Entries.{AreMarks, root};
-ghost use Rattle.ps_problem.specs.Built.{Built, IsAmong, Stand, name_at, node_over, IsAdded, Follows, FollowsQuestion};
+ghost use Rattle.ps_problem.specs.Numbering.{place_in};
+ghost use Rattle.ps_problem.specs.Drafts.{arity, NameBelow, made_by, question_at, AreBelow};
+ghost use Rattle.ps_problem.specs.DraftLists.{AreMarks, root};
+ghost use Rattle.ps_problem.specs.Numbered.{Built, IsStack, node_over, IsAdded, IsNumbered};
+ghost use Rattle.ps_problem.specs.Numbered.{ArePartsNumbered, IsQuestionNumbered};
+ghost use Rattle.ps_problem.specs.Problems.{name_at};
 
 use crate::fault::Fault;
+use crate::limits::MOST_ATOMS;
 use crate::names::Names;
 use crate::{Draft, Mark, Query};
 use ps_formula::{AddError, Formulas, Node};
@@ -93,13 +96,13 @@ impl Building {
         requires name { name < length names.now }
         requires built { Built names.now self.old.atoms self.old.formulas }
         ensures { (h : Built names.now self.old.atoms self.old.formulas)
-            → Follows names.now (with_formulas h.formulas (Atom (name_at names.now name) ∷ [])) (Atom (name_at names.now name)) self.new.atoms self.new.formulas result }
+            → IsNumbered names.now h.formulas (Atom (name_at names.now name)) self.new result }
     {
         let place = place_of(self.atoms.as_slice(), name);
         if place < self.atoms.len() {
             return self.node(Node::Atom(place as u16));
         }
-        if place >= 128 {
+        if place >= MOST_ATOMS {
             return Err(Fault::Atoms);
         }
         let number = match self.node(Node::Atom(place as u16)) {
@@ -118,8 +121,9 @@ impl Building {
         requires operands { arity mark ≤ length stack.now }
         requires below { All (λ i. i < length self.old.formulas) stack.now }
         requires built { Built names.now self.old.atoms self.old.formulas }
-        ensures { (h : Built names.now self.old.atoms self.old.formulas) (fs : List (Formula Name)) → Stand h.formulas fs stack.now
-            → Follows names.now (with_formulas h.formulas (made_by names.now fs mark ∷ [])) (made_by names.now fs mark) self.new.atoms self.new.formulas result }
+        ensures { (h : Built names.now self.old.atoms self.old.formulas) (fs : List (Formula Name))
+            → IsStack h.formulas fs stack.now
+            → IsNumbered names.now h.formulas (made_by names.now fs mark) self.new result }
     {
         if let Mark::Name(name) = mark {
             return self.atom(names, name);
@@ -132,7 +136,7 @@ impl Building {
         requires marks { AreMarks names.now marks.now (root names.now marks.now) }
         requires built { Built names.now self.old.atoms self.old.formulas }
         ensures { (h : Built names.now self.old.atoms self.old.formulas)
-            → Follows names.now (with_formulas h.formulas (subformulas (root names.now marks.now))) (root names.now marks.now) self.new.atoms self.new.formulas result }
+            → ArePartsNumbered names.now h.formulas (root names.now marks.now) self.new result }
     {
         let mut stack = Vec::new(alloc);
         for mark in marks {
@@ -158,9 +162,8 @@ impl Building {
         requires formulas { AreBelow (length draft.now.formulas) formula given }
         requires built { Built draft.now.names self.old.atoms self.old.formulas }
         ensures { (h : Built draft.now.names self.old.atoms self.old.formulas)
-            → FollowsQuestion draft.now.names
-            (with_formulas h.formulas (numbered_for (formula_at draft.now.formulas formula) (option_map (formula_at draft.now.formulas) given)))
-            (question_at draft.now.formulas formula given) self.new.atoms self.new.formulas result }
+            → IsQuestionNumbered draft.now.names h.formulas
+            (question_at draft.now.formulas formula given) self.new result }
     {
         let first = match self.formula(alloc, draft.names(), draft.marks(formula)) {
             Ok(number) => number,
@@ -194,7 +197,8 @@ impl Building {
 // Puts a number in the place of the last ones.
 fn replace(stack: &mut Vec<u32>, count: usize, number: u32) -> Result<(), Fault>
     requires { count ≤ length stack.old.items }
-    ensures ok { OnOk result (stack.new.items ≡ take (length stack.old.items - count) stack.old.items ++ number ∷ []) }
+    ensures ok { OnOk result
+        (stack.new.items ≡ take (length stack.old.items - count) stack.old.items ++ number ∷ []) }
     ensures err { IfErr result (λ x. x ≡ Fault.NoMemory) }
 {
     let kept = stack.len() - count;

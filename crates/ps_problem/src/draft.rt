@@ -1,12 +1,17 @@
 //! Drafts of problems.
-ghost use Rattle.std.specs.Prelude.{◌≡◌, ◌<◌, ◌≤◌, ◌++◌, [], ◌∷◌, All, OnOk, OnErr, IfOk, Some, length, slice_get};
+ghost use Rattle.std.specs.Prelude.{◌≡◌, ◌<◌, ◌≤◌, [], All, OnOk, OnErr, IfOk, Some, length};
+ghost use Rattle.std.specs.Prelude.{option_map, slice_get};
 ghost use Rattle.ps_meaning.specs.Names.{IsName};
 ghost use Rattle.ps_meaning.specs.Statements.{Stated, Asked};
+ghost use Rattle.ps_problem.specs.declared.limits.TheConstants.{MOST_NESTING};
 ghost use Rattle.ps_problem.specs.Numbering.{AreOnce, same_name};
-ghost use Rattle.ps_problem.specs.Entries.{AreMarks, root, item_of, IsEntry};
-ghost use Rattle.ps_problem.specs.Drafts.{formula_at, arity, NameBelow, canonical_nesting, IsRatio, IsUpper, AreBelow, IsLawful, IsNested, statement_at, question_at, with_name, with_mark, with_formula, with_item};
+ghost use Rattle.ps_problem.specs.DraftLists.{AreMarks, root, item_of, IsDraftItem};
+ghost use Rattle.ps_problem.specs.Drafts.{arity, NameBelow, canonical_nesting};
+ghost use Rattle.ps_problem.specs.Drafts.{formula_at, question_at, ratio_of};
+ghost use Rattle.ps_problem.specs.Drafts.{AreBelow, IsRatio, IsUpper, IsLawful, IsNested};
+ghost use Rattle.ps_problem.specs.Drafts.{with_name, with_mark, with_formula, with_item};
 
-use crate::entry::Entry;
+use crate::draft_item::{DraftItem, DraftQuery, DraftSentence};
 use crate::names::Names;
 use crate::span::Span;
 use crate::{Mark, Side};
@@ -14,14 +19,15 @@ use ps_io::{List, NoMemory};
 use std::alloc::Global;
 use std::marker::Model;
 
-/// What a text of sentences and queries spells, as flat lists: names, formulas in postfix order, and items.
+/// What a text of sentences and queries spells, as flat lists: names, formulas in postfix order,
+/// and items.
 #[derive(Drop)]
 pub struct Draft {
     names: Names,
     marks: List<Mark>,
     ended: usize,
     spans: List<Span>,
-    entries: List<Entry>,
+    items: List<DraftItem>,
 }
 
 impl Model for Draft {
@@ -33,11 +39,11 @@ impl Model for Draft {
 
     ghost coded = { Prim.hlevel (codes, formula_code) };
 
-    ghost use Rattle.ps_problem.specs.Entries.{drafted, IsDraft};
+    ghost use Rattle.ps_problem.specs.DraftLists.{drafted, IsDraft};
 
-    ghost view = { λ d. drafted d.names d.marks d.ended d.spans d.entries };
+    ghost view = { λ d. drafted d.names d.marks d.ended d.spans d.items };
 
-    ghost invariant = { λ d. IsDraft d.names d.marks d.ended d.spans d.entries };
+    ghost invariant = { λ d. IsDraft d.names d.marks d.ended d.spans d.items };
 }
 
 impl Draft {
@@ -50,7 +56,7 @@ impl Draft {
             marks: List::new(alloc),
             ended: 0,
             spans: List::new(alloc),
-            entries: List::new(alloc),
+            items: List::new(alloc),
         }
     }
 
@@ -80,7 +86,7 @@ impl Draft {
     /// Ends the formula that stands open, and gives its number, from 0.
     pub fn end_formula(&mut self) -> Result<u32, NoMemory>
         requires one { length self.old.«open» ≡ 1 }
-        requires nesting { All (λ f. canonical_nesting f ≤ 100) self.old.«open» }
+        requires nesting { All (λ f. canonical_nesting f ≤ MOST_NESTING) self.old.«open» }
         requires room { length self.old.formulas < 4294967295 }
         ensures number { IfOk result (λ n. n ≡ length self.old.formulas) }
         ensures ok { OnOk result (self.new ≡ with_formula self.old) }
@@ -96,8 +102,8 @@ impl Draft {
         Ok(number)
     }
 
-    /// Adds a sentence: the probability of a formula, perhaps given a condition, on a side of `num/den`; with an
-    /// upper value, at least `num/den` and at most that.
+    /// Adds a sentence: the probability of a formula, perhaps given a condition, on a side of
+    /// `num/den`; with an upper value, at least `num/den` and at most that.
     pub fn sentence(
         &mut self,
         formula: u32,
@@ -111,21 +117,35 @@ impl Draft {
         requires value { IsRatio num den }
         requires upper { IsUpper side upper }
         requires room { length self.old.items < 4294967295 }
-        ensures ok { OnOk result (self.new ≡ with_item self.old (Stated (statement_at self.old.formulas formula given side num den upper))) }
+        ensures ok { OnOk result (self.new ≡ with_item self.old (Stated (record {
+          formula = formula_at self.old.formulas formula;
+          given = option_map (formula_at self.old.formulas) given;
+          side = side;
+          value = record { num = num; den = den };
+          upper = option_map ratio_of upper;
+        }))) }
         ensures err { OnErr result (self.new ≡ self.old) }
     {
-        self.entries
-            .push(Entry::Sentence(formula, given, side, num, den, upper))
+        self.items.push(DraftItem::Sentence(DraftSentence {
+            formula,
+            given,
+            side,
+            num,
+            den,
+            upper,
+        }))
     }
 
     /// Adds a query for the probability of a formula, perhaps given a condition.
     pub fn query(&mut self, formula: u32, given: Option<u32>) -> Result<(), NoMemory>
         requires formulas { AreBelow (length self.old.formulas) formula given }
         requires room { length self.old.items < 4294967295 }
-        ensures ok { OnOk result (self.new ≡ with_item self.old (Asked (question_at self.old.formulas formula given))) }
+        ensures ok { OnOk result
+            (self.new ≡ with_item self.old (Asked (question_at self.old.formulas formula given))) }
         ensures err { OnErr result (self.new ≡ self.old) }
     {
-        self.entries.push(Entry::Query(formula, given))
+        self.items
+            .push(DraftItem::Query(DraftQuery { formula, given }))
     }
 
     pub(crate) fn names(&self) -> &Names
@@ -152,14 +172,15 @@ impl Draft {
     pub(crate) fn len(&self) -> u32
         ensures { result ≡ length self.now.items }
     {
-        self.entries.len() as u32
+        self.items.len() as u32
     }
 
-    pub(crate) fn entry(&self, i: u32) -> Entry
+    // The item of a number, from 0.
+    pub(crate) fn item(&self, i: u32) -> DraftItem
         requires { i < length self.now.items }
         ensures item { slice_get self.now.items i ≡ Some (item_of self.now.formulas result) }
-        ensures sound { IsEntry (length self.now.formulas) result }
+        ensures sound { IsDraftItem (length self.now.formulas) result }
     {
-        self.entries.as_slice()[i as usize]
+        self.items.as_slice()[i as usize]
     }
 }

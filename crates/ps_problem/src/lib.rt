@@ -6,9 +6,10 @@ mod bound;
 mod build_error;
 mod building;
 mod draft;
-mod entry;
+mod draft_item;
 mod fault;
 mod laws;
+mod limits;
 mod mark;
 mod names;
 mod problem;
@@ -17,12 +18,16 @@ mod sentence;
 mod span;
 
 pub use assembly::build;
-pub use bound::{Bound, Side};
+pub use bound::Bound;
 pub use build_error::BuildError;
 pub use draft::Draft;
 pub use laws::{canonical_text_is_reread, numbering_keeps_meaning};
+pub use limits::{
+    MOST_ATOMS, MOST_BOUNDS, MOST_DENOMINATOR, MOST_NESTING, MOST_NODES, MOST_QUERIES,
+};
 pub use mark::Mark;
 pub use problem::Problem;
+pub use ps_meaning::Side;
 pub use query::{Queries, Query};
 pub use sentence::{Sentence, Sentences};
 

@@ -1,7 +1,7 @@
 //! Marks.
 
-/// One entry of a formula in postfix order: an operator takes the last one or two formulas before it. A name
-/// goes by the number that the draft gave it.
+/// One mark of a formula in postfix order: an operator takes the last one or two formulas before
+/// it. A name goes by the number that the draft gave it.
 #[derive(Clone, Copy, Debug, PartialEq, Eq)]
 pub enum Mark {
     True,

@@ -1,7 +1,7 @@
 //! Names by number.
-ghost use Rattle.std.specs.Prelude.{◌≡◌, ◌<◌, ◌≤◌, [], length, slice_get, OnOk, OnErr, IfOk, Some, option_copied};
+ghost use Rattle.std.specs.Prelude.{◌≡◌, ◌<◌, [], length, slice_get, OnOk, OnErr, IfOk, Some};
 ghost use Rattle.ps_problem.specs.Numbering.{same_name, with_new};
-ghost use Rattle.ps_problem.specs.Built.{name_at};
+ghost use Rattle.ps_problem.specs.Problems.{name_at};
 
 use indexmap::IndexSet;
 use ps_io::NoMemory;
@@ -38,15 +38,6 @@ impl Names {
         ensures { result ≡ length self.now }
     {
         self.set.len()
-    }
-
-    pub(crate) fn get(&self, number: usize) -> Option<&[u8]>
-        ensures { option_copied result ≡ slice_get self.now number }
-    {
-        match self.set.get_index(number) {
-            Some(name) => Some(name.as_slice()),
-            None => None,
-        }
     }
 
     /// The name of a number that was given out.

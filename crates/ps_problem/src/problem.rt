@@ -1,7 +1,8 @@
 //! A problem: atoms by name, formulas, sentences and queries.
-ghost use Rattle.std.specs.Prelude.{◌≡◌, ◌≤◌, ◌-◌, All, IfSome, length, map, option_copied, slice_get, Some, None, if◌then◌else◌, ◌==◌};
+ghost use Rattle.std.specs.Prelude.{◌≡◌, ◌≤◌, All, length, map, option_copied, slice_get};
 ghost use Rattle.ps_formula.specs.Nodes.{AreNodes, AtomBelow};
-ghost use Rattle.ps_problem.specs.Problems.{AreBounds, bounds_in};
+ghost use Rattle.ps_problem.specs.declared.limits.TheConstants.{MOST_ATOMS, MOST_BOUNDS};
+ghost use Rattle.ps_problem.specs.Problems.{parts_of, AreBounds, bounds_in, bound_at};
 ghost use Rattle.ps_problem.specs.Soundness.{IsProblem};
 
 use crate::{Bound, Queries, Sentences};
@@ -22,14 +23,15 @@ pub struct Problem {
 
 impl Model for Problem {
     ghost use Rattle.std.specs.Prelude.{◌≡◌, map};
-    ghost use Rattle.ps_problem.specs.Problems.{Parts, bounds_in};
+    ghost use Rattle.ps_problem.specs.Problems.{Parts, parts_of, bounds_in};
     ghost use Rattle.ps_problem.specs.Soundness.{IsProblem};
 
     ghost Value = { Parts };
 
-    ghost view = { λ p. record { names = map (λ v. v.items) p.names; nodes = p.formulas; sentences = p.sentences; queries = p.queries } };
+    ghost view = { λ p. parts_of (map (λ v. v.items) p.names) p.formulas p.sentences p.queries };
 
-    ghost invariant = { λ p. IsProblem (record { names = map (λ v. v.items) p.names; nodes = p.formulas; sentences = p.sentences; queries = p.queries })
+    ghost invariant = { λ p.
+        IsProblem (parts_of (map (λ v. v.items) p.names) p.formulas p.sentences p.queries)
         × (p.bounds ≡ bounds_in p.sentences) };
 }
 
@@ -42,9 +44,9 @@ impl Problem {
         bounds: List<Bound>,
         queries: Queries,
     ) -> Problem
-        requires sound { IsProblem (record { names = map (λ v. v.items) names; nodes = formulas; sentences = sentences; queries = queries }) }
+        requires sound { IsProblem (parts_of (map (λ v. v.items) names) formulas sentences queries) }
         requires bounds { bounds ≡ bounds_in sentences }
-        ensures { result ≡ record { names = map (λ v. v.items) names; nodes = formulas; sentences = sentences; queries = queries } }
+        ensures { result ≡ parts_of (map (λ v. v.items) names) formulas sentences queries }
     {
         Problem {
             names,
@@ -58,7 +60,7 @@ impl Problem {
     /// The number of atoms.
     pub fn atoms(&self) -> u16
         ensures atoms { result ≡ length self.now.names }
-        ensures few { result ≤ 128 }
+        ensures few { result ≤ MOST_ATOMS }
     {
         self.names.len() as u16
     }
@@ -101,14 +103,15 @@ impl Problem {
     /// The number of bounds; an interval has two.
     pub fn bounds(&self) -> u32
         ensures bounds { result ≡ length (bounds_in self.now.sentences) }
-        ensures few { result ≤ 100 }
+        ensures few { result ≤ MOST_BOUNDS }
     {
         self.bounds.len() as u32
     }
 
-    /// A bound by its number from 1, over the sentences in order; `None` where there is no such bound.
+    /// A bound by its number from 1, over the sentences in order; `None` where there is no such
+    /// bound.
     pub fn bound(&self, i: u32) -> Option<&Bound>
-        ensures bound { option_copied result ≡ (if i == 0 then None else slice_get (bounds_in self.now.sentences) (i - 1)) }
+        ensures bound { option_copied result ≡ bound_at self.now.sentences i }
     {
         let place = i.checked_sub(1)?;
         self.bounds.get(place as usize)
@@ -118,7 +121,7 @@ impl Problem {
     pub fn bound_list(&self) -> &[Bound]
         ensures bounds { result.now ≡ bounds_in self.now.sentences }
         ensures sound { AreBounds self.now.nodes result.now }
-        ensures few { length result.now ≤ 100 }
+        ensures few { length result.now ≤ MOST_BOUNDS }
     {
         self.bounds.as_slice()
     }

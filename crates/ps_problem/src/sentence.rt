@@ -2,8 +2,8 @@
 use crate::Bound;
 use ps_io::List;
 
-/// One bound, or the two of an interval: `first` is then at least and `second` at most, over the same
-/// formula and condition.
+/// One bound, or the two of an interval: `first` is then at least and `second` at most, over the
+/// same formula and condition.
 #[derive(Clone, Copy, Debug, PartialEq, Eq)]
 pub struct Sentence {
     pub first: Bound,

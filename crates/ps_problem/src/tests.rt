@@ -42,26 +42,28 @@ fn bound(formula: u32, given: Option<u32>, both: u32, side: Side, den: u32) -> B
     }
 }
 
+// Whether the names, bounds and query are those that `a_problem` was made of.
+fn is_as_written(problem: &Problem) -> bool {
+    let query = Query {
+        formula: 2,
+        given: None,
+        both: 2,
+    };
+    problem.name(0) == Some(b"a".as_slice())
+        && problem.name(1) == Some(b"b".as_slice())
+        && problem.bound(1) == Some(&bound(1, Some(2), 3, Side::AtLeast, 4))
+        && problem.bound(2) == Some(&bound(1, Some(2), 3, Side::AtMost, 2))
+        && problem.bound(3) == Some(&bound(1, None, 1, Side::AtLeast, 2))
+        && problem.queries().get(0) == Some(&query)
+}
+
 #[test]
 fn numbers_follow_the_order_of_sentences(rt: HostRuntime) -> Result<(), Fail> {
-    match a_problem(rt.alloc()) {
-        Err(_) => assert!(rt; false),
-        Ok(problem) => {
-            assert!(rt; problem.name(0) == Some(b"a".as_slice()));
-            assert!(rt; problem.name(1) == Some(b"b".as_slice()));
-            assert!(rt; problem.bound(1) == Some(&bound(1, Some(2), 3, Side::AtLeast, 4)));
-            assert!(rt; problem.bound(2) == Some(&bound(1, Some(2), 3, Side::AtMost, 2)));
-            assert!(rt; problem.bound(3) == Some(&bound(1, None, 1, Side::AtLeast, 2)));
-            assert!(rt;
-                problem.queries().get(0)
-                    == Some(&Query {
-                        formula: 2,
-                        given: None,
-                        both: 2
-                    })
-            );
-        }
-    }
+    let right = match a_problem(rt.alloc()) {
+        Ok(problem) => is_as_written(&problem),
+        Err(_) => false,
+    };
+    assert!(rt; right);
     Ok(())
 }
 
@@ -83,12 +85,17 @@ fn many(alloc: Global, count: u32) -> Result<Problem, BuildError> {
     build(alloc, &draft)
 }
 
+// Whether 100 bounds pass and the 101st is refused at its item.
+fn are_bounds_counted(alloc: Global) -> bool {
+    let refused = match many(alloc, 101) {
+        Ok(_) => false,
+        Err(error) => error == BuildError::TooManyBounds { item: 101 },
+    };
+    refused && many(alloc, 100).is_ok()
+}
+
 #[test]
 fn bounds_are_counted(rt: HostRuntime) -> Result<(), Fail> {
-    assert!(rt; many(rt.alloc(), 100).is_ok());
-    match many(rt.alloc(), 101) {
-        Err(error) => assert_eq!(rt; error, BuildError::TooManyBounds { item: 101 }),
-        Ok(_) => assert!(rt; false),
-    }
+    assert!(rt; are_bounds_counted(rt.alloc()));
     Ok(())
 }

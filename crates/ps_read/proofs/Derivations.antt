@@ -2,7 +2,8 @@
 use Rattle.std.proofs.Common.{◌≡◌, ℕ, suc, zero, ◌+◌, ◌≤◌, Bool, true, false, List, [], ◌∷◌, ◌++◌, length, Option, Some, None, refl, sym, ap, subst, ◌∙◌, arith, append_assoc}
 use Rattle.std.specs.Prelude.{◌||◌, not, bytes_eq, codes}
 use Rattle.ps_meaning.specs.Formula as formula
-use Rattle.ps_meaning.specs.Bounds as side
+use Rattle.ps_meaning.specs.declared.side.Side.{Side}
+use Rattle.ps_meaning.specs.declared.side.Side.TheVariants as side
 use Rattle.ps_meaning.specs.Statements.{Name as AtomName, Ratio, Statement, Item, Stated, Asked}
 use Rattle.ps_text.specs.Tokens.{Token, Word, Number, Sign, Whole, Quotient, Decimal, is_the_word}
 use Rattle.ps_text.specs.declared.symbol.Symbol.TheVariants.{Open, Close, Semicolon, Bang, Ampersand, Bar, Arrow, DoubleArrow, Equals}
@@ -150,7 +151,7 @@ plain_mean (Or f g) a = absurd a
 plain_mean (Implies f g) a = absurd a
 plain_mean (Iff f g) a = absurd a
 
-statement : formula.Formula AtomName → Option (formula.Formula AtomName) → side.Side → Ratio → Option Ratio → Statement
+statement : formula.Formula AtomName → Option (formula.Formula AtomName) → Side → Ratio → Option Ratio → Statement
 statement f g s v u = record { formula = f; given = g; side = s; value = v; upper = u }
 
 same_statement : (st : Statement) (f : formula.Formula AtomName) → st.formula ≡ f → st.given ≡ None → st.side ≡ side.Exactly → st.upper ≡ None → st ≡ statement f None side.Exactly st.value None

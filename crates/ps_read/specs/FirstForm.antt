@@ -2,7 +2,7 @@
 use Rattle.std.specs.Prelude.{◌≡◌, ℕ, zero, suc, ◌≤◌, false, List, length, map, None, Result, Ok, Err}
 use Rattle.std.specs.Int.{IsGcd}
 use Rattle.ps_meaning.specs.Formula.{Formula, Atom, Not}
-use Rattle.ps_meaning.specs.Bounds.{Exactly}
+use Rattle.ps_meaning.specs.declared.side.Side.TheVariants.{Exactly}
 use Rattle.ps_meaning.specs.Statements.{Name, Item, Stated}
 use Rattle.ps_text.specs.Tokens.{IsWord}
 use Rattle.ps_text.specs.Grammar.{is_reserved}

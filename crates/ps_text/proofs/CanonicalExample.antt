@@ -4,7 +4,7 @@ use Rattle.std.proofs.lemmas.Fmt.{decimal_digit}
 use Rattle.std.proofs.Common.{arith}
 use Rattle.std.specs.Prelude.{codes}
 use Rattle.ps_meaning.specs.Formula.{Atom, Not, And, Or, Implies}
-use Rattle.ps_meaning.specs.Bounds as side
+use Rattle.ps_meaning.specs.declared.side.Side.TheVariants as side
 use Rattle.ps_meaning.specs.Statements.{Item, Stated}
 use Rattle.ps_text.specs.Canonical.{canonical_text}
 

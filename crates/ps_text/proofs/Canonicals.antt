@@ -8,7 +8,8 @@ use Rattle.std.specs.List.{list_all}
 use Rattle.std.specs.Int.{IsGcd}
 use Rattle.std.specs.Fmt.{decimal}
 use Rattle.ps_meaning.specs.Formula as formula
-use Rattle.ps_meaning.specs.Bounds as side
+use Rattle.ps_meaning.specs.declared.side.Side.{Side}
+use Rattle.ps_meaning.specs.declared.side.Side.TheVariants as side
 use Rattle.ps_meaning.specs.Statements as meaning
 use Rattle.ps_meaning.specs.Statements.{Ratio, Statement, Question, Item, Stated, Asked}
 use Rattle.ps_meaning.specs.Names.{is_word}
@@ -277,12 +278,12 @@ given_meant None = refl
 given_meant (Some f) = ap Some (sym (form_meant f))
 
 -- a relation within the limits that states a side and values
-record Related (s : side.Side) (r : Ratio) (upper : Option Ratio) (x : Relation) : Type 0 where
+record Related (s : Side) (r : Ratio) (upper : Option Ratio) (x : Relation) : Type 0 where
   numerals : HasNumerals x
   within : IsRelation x
   states : States x s r upper
 
-related : (s : side.Side) (r : Ratio) (upper : Option Ratio) → IsReduced r → IsUpper s upper → Related s r upper (canonical_relation s r upper)
+related : (s : Side) (r : Ratio) (upper : Option Ratio) → IsReduced r → IsUpper s upper → Related s r upper (canonical_relation s r upper)
 unfolding HasNumerals
 related side.Exactly r None h u = let n = numbers r h in record { numerals = n.numeral; within = n.probability; states = (refl, n.meant, refl) }
 related side.Exactly r (Some q) h u = absurd u

@@ -4,7 +4,7 @@ use Rattle.std.proofs.Math.Nat.{one-dvd, mul-dvd-mul_right, dvd_of_mul-dvd-mul_r
 use Rattle.std.specs.Prelude.{codes}
 use Rattle.std.specs.List.{AllByRecursion, list_all}
 use Rattle.std.specs.Int.{IsGcd, ◌∣◌}
-use Rattle.ps_meaning.specs.Bounds as side
+use Rattle.ps_meaning.specs.declared.side.Side.{Side}
 use Rattle.ps_meaning.specs.Statements.{Ratio, Item, Stated, Asked}
 use Rattle.ps_meaning.specs.Names.{is_word}
 use Rattle.ps_text.specs.Tokens.{One, Token, Word, Sign, Numeral, Whole, Quotient, Decimal, Close, Semicolon, Ampersand, Bar, Arrow, DoubleArrow, is_word_byte, IsWord, IsToken}
@@ -125,7 +125,7 @@ prob_writable p i h =
     let t = split (spelled p.form) (given_tokens p.given) s.0 in
     (record { names = names_of p.form i.form t.0; nests = read_nests p.form i.form i.nests }, given_writable p.given i.given t.1)
 
-related_lawful : (x : Relation) (s : side.Side) (r : Ratio) (upper : Option Ratio) → IsRelation x → States x s r upper → IsReduced r × IsUpper s upper
+related_lawful : (x : Relation) (s : Side) (r : Ratio) (upper : Option Ratio) → IsRelation x → States x s r upper → IsReduced r × IsUpper s upper
 related_lawful (Exactly x) s r upper h k = (reduced x r h k.1, subst (λ u. IsUpper s u) (sym k.2) tt)
 related_lawful (AtLeast x) s r upper h k = (reduced x r h k.1, subst (λ u. IsUpper s u) (sym k.2) tt)
 related_lawful (AtMost x) s r upper h k = (reduced x r h k.1, subst (λ u. IsUpper s u) (sym k.2) tt)

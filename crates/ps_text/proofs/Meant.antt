@@ -2,7 +2,7 @@
 use Rattle.std.proofs.Common.{◌≡◌, ℕ, ◌*◌, ◌^◌, ◌<◌, ◌/◌, zero, suc, List, [], ◌∷◌, length, Option, Some, None, refl, sym, ap, subst, ◌∙◌, arith}
 use Rattle.std.proofs.lemmas.Nat.Gcd.{same_from_IsGcd}
 use Rattle.std.proofs.Math.Nat.{mul-div_cancel, pow-succ'}
-use Rattle.ps_meaning.specs.Bounds as side
+use Rattle.ps_meaning.specs.declared.side.Side.{Side}
 use Rattle.ps_meaning.specs.Statements.{Ratio, Statement, Item, Stated, Asked}
 use Rattle.ps_text.specs.Tokens.{Numeral, Whole, Quotient, Decimal}
 use Rattle.ps_text.specs.Grammar.{Prob, Relation, Exactly, AtLeast, AtMost, Within, Entry, Sentence, Query, IsProbability, IsRelation, AreEntries}
@@ -41,12 +41,12 @@ value_once : (x : Numeral) (r s : Ratio) → IsProbability x → IsValue x r →
 value_once x r s h j k = lowest_once (ratio_of x) r s (denominator_some x h) j k
 
 -- what a relation states
-record Same (s t : side.Side) (r q : Ratio) (u v : Option Ratio) : Type 0 where
+record Same (s t : Side) (r q : Ratio) (u v : Option Ratio) : Type 0 where
   side_is : s ≡ t
   value_is : r ≡ q
   upper_is : u ≡ v
 
-states_once : (x : Relation) (s t : side.Side) (r q : Ratio) (u v : Option Ratio) → IsRelation x → States x s r u → States x t q v → Same s t r q u v
+states_once : (x : Relation) (s t : Side) (r q : Ratio) (u v : Option Ratio) → IsRelation x → States x s r u → States x t q v → Same s t r q u v
 states_once (Exactly x) s t r q u v h j k = record { side_is = j.0 ∙ sym k.0; value_is = value_once x r q h j.1 k.1; upper_is = j.2 ∙ sym k.2 }
 states_once (AtLeast x) s t r q u v h j k = record { side_is = j.0 ∙ sym k.0; value_is = value_once x r q h j.1 k.1; upper_is = j.2 ∙ sym k.2 }
 states_once (AtMost x) s t r q u v h j k = record { side_is = j.0 ∙ sym k.0; value_is = value_once x r q h j.1 k.1; upper_is = j.2 ∙ sym k.2 }

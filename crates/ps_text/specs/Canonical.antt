@@ -3,7 +3,8 @@ use Rattle.std.specs.Prelude.{ℕ, ◌<◌, ◌≤◌, ◌==◌, nat_le, if◌th
 use Rattle.std.specs.Int.{IsGcd}
 use Rattle.std.specs.Fmt.{decimal}
 use Rattle.ps_meaning.specs.Formula as formula
-use Rattle.ps_meaning.specs.Bounds as side
+use Rattle.ps_meaning.specs.declared.side.Side.{Side}
+use Rattle.ps_meaning.specs.declared.side.Side.TheVariants as side
 use Rattle.ps_meaning.specs.Statements as meaning
 use Rattle.ps_meaning.specs.Statements.{Ratio, Statement, Question, Item, Stated, Asked, statements_of, questions_of}
 use Rattle.ps_meaning.specs.Names.{IsName}
@@ -30,7 +31,7 @@ canonical_form (formula.Iff f g) = Iff (fitted 1 (canonical_form f)) (fitted 2 (
 abbrev pub canonical_numeral : Ratio → Numeral
 canonical_numeral r = if r.den == 1 then Whole (decimal r.num) else Quotient (decimal r.num) (decimal r.den)
 
-abbrev pub canonical_relation : side.Side → Ratio → Option Ratio → Relation
+abbrev pub canonical_relation : Side → Ratio → Option Ratio → Relation
 canonical_relation side.Exactly r upper = Exactly (canonical_numeral r)
 canonical_relation side.AtMost r upper = AtMost (canonical_numeral r)
 canonical_relation side.AtLeast r None = AtLeast (canonical_numeral r)
@@ -122,7 +123,7 @@ pub record IsReduced (r : Ratio) : Type 0 where
   pub probability : r.num ≤ r.den
 
 -- an upper value stands with a least one only
-abbrev pub IsUpper : side.Side → Option Ratio → Type 0
+abbrev pub IsUpper : Side → Option Ratio → Type 0
 IsUpper s None = Unit {0}
 IsUpper side.AtLeast (Some q) = IsReduced q
 IsUpper side.AtMost (Some q) = ⊥

@@ -2,7 +2,8 @@
 use Rattle.std.specs.Prelude.{◌≡◌, ℕ, ◌*◌, ◌^◌, List, [], ◌∷◌, ◌++◌, length, Option, Some, None}
 use Rattle.std.specs.Int.{IsGcd}
 use Rattle.ps_meaning.specs.Formula as formula
-use Rattle.ps_meaning.specs.Bounds as side
+use Rattle.ps_meaning.specs.declared.side.Side.{Side}
+use Rattle.ps_meaning.specs.declared.side.Side.TheVariants as side
 use Rattle.ps_meaning.specs.Statements as meaning
 use Rattle.ps_meaning.specs.Statements.{Ratio, Statement, Question, Item, Stated, Asked}
 use Rattle.ps_text.specs.Tokens.{Numeral, Whole, Quotient, Decimal}
@@ -42,7 +43,7 @@ abbrev pub IsValue : Numeral → Ratio → Type 0
 IsValue x r = IsLowest (ratio_of x) r
 
 -- a side, a value and perhaps an upper value are what the relation states
-abbrev pub States : Relation → side.Side → Ratio → Option Ratio → Type 0
+abbrev pub States : Relation → Side → Ratio → Option Ratio → Type 0
 States (Exactly x) s r upper = (s ≡ side.Exactly) × IsValue x r × (upper ≡ None)
 States (AtLeast x) s r upper = (s ≡ side.AtLeast) × IsValue x r × (upper ≡ None)
 States (AtMost x) s r upper = (s ≡ side.AtMost) × IsValue x r × (upper ≡ None)

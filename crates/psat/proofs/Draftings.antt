@@ -5,15 +5,14 @@ use Rattle.std.proofs.lemmas.Bool.{and_from}
 use Rattle.std.proofs.lemmas.List.Elements.{All-nil, All-cons}
 use Rattle.std.proofs.lemmas.Option.{get_or_from_slice_get}
 use Rattle.ps_meaning.specs.Formula.{Formula, Atom}
-use Rattle.ps_meaning.specs.Bounds as meaning
-use Rattle.ps_meaning.specs.Statements.{Name, Stated}
+use Rattle.ps_meaning.specs.declared.side.Side.TheVariants as side
+use Rattle.ps_meaning.specs.Statements.{Name, Statement, Stated}
 use Rattle.ps_meaning.specs.Names as names
 use Rattle.ps_meaning.specs.Names.{IsName}
 use Rattle.ps_text.specs.Tokens as text
 use Rattle.ps_problem.specs.declared.mark.Mark.TheVariants as mark
-use Rattle.ps_problem.specs.declared.bound.Side.TheVariants as side
 use Rattle.ps_problem.specs.Numbering.{same_name, with_new}
-use Rattle.ps_problem.specs.Drafts.{Drafted, formula_at, nesting_at, canonical_nesting, statement_at, with_name, with_mark, with_formula, with_item}
+use Rattle.ps_problem.specs.Drafts.{Drafted, formula_at, nesting_at, canonical_nesting, with_name, with_mark, with_formula, with_item}
 use Rattle.ps_read.specs.declared.sentence.FirstSentence.{FirstSentence}
 use Rattle.ps_read.specs.FirstForm.{IsWithinLimits, item_of, negated}
 use Rattle.psat.specs.Drafting.{IsDraftOf, opens}
@@ -74,18 +73,22 @@ formula-last : (fs : List (Formula Name)) (f : Formula Name) → formula_at (fs 
 formula-last [] f = refl
 formula-last (g ∷ fs) f = formula-last fs f
 
+-- a formula by number has this probability
+abbrev exactly : List (Formula Name) → ℕ → ℕ → ℕ → Statement
+exactly fs n num den = record { formula = formula_at fs n; given = None; side = side.Exactly; value = record { num = num; den = den }; upper = None }
+
 -- and after the sentence
 pub added : (d d3 d4 d5 : Drafted) (s : FirstSentence) (n : ℕ) → IsDraftOf d.items d → d3 ≡ opens (with_name d s.name) (negated s.nots (Atom s.name)) → d4 ≡ with_formula d3
-    → n ≡ length d3.formulas → d5 ≡ with_item d4 (Stated (statement_at d4.formulas n None side.Exactly s.num s.den None)) → IsDraftOf (d.items ++ item_of s ∷ []) d5
+    → n ≡ length d3.formulas → d5 ≡ with_item d4 (Stated (exactly d4.formulas n s.num s.den)) → IsDraftOf (d.items ++ item_of s ∷ []) d5
 added d d3 d4 d5 s n h e3 e4 number e5 =
     let f : Formula Name = negated s.nots (Atom s.name) in
     let ended : Drafted = with_formula (opens (with_name d s.name) f) in
     let is4 : d4 ≡ ended = e4 ∙ ap with_formula e3 in
     let at : n ≡ length d.formulas = number ∙ ap (λ (x : Drafted). length x.formulas) e3 in
     let whole : d5 ≡ with_item ended (item_of s) = e5
-    ∙ ap (λ (x : Drafted). with_item x (Stated (statement_at x.formulas n None side.Exactly s.num s.den None))) is4
-    ∙ ap (λ (k : ℕ). with_item ended (Stated (statement_at ended.formulas k None side.Exactly s.num s.den None))) at
-    ∙ ap (λ (g : Formula Name). with_item ended (Stated (record { formula = g; given = None; side = meaning.Exactly; value = record { num = s.num; den = s.den }; upper = None }))) (formula-last d.formulas f) in
+    ∙ ap (λ (x : Drafted). with_item x (Stated (exactly x.formulas n s.num s.den))) is4
+    ∙ ap (λ (k : ℕ). with_item ended (Stated (exactly ended.formulas k s.num s.den))) at
+    ∙ ap (λ (g : Formula Name). with_item ended (Stated (record { formula = g; given = None; side = side.Exactly; value = record { num = s.num; den = s.den }; upper = None }))) (formula-last d.formulas f) in
     let P : Drafted → Type 0 = λ x. IsDraftOf (d.items ++ item_of s ∷ []) x in
     let more : length (d.items ++ item_of s ∷ []) ≡ length d.items + 1 = length-append d.items (item_of s ∷ []) in
     let names : length (with_new same_name d.names s.name) ≤ length d.names + 1 = length-with_new d.names s.name in

@@ -10,13 +10,13 @@ pub sentences-requires : goal.sentences-requires
 sentences-requires c =
     let d = c.args.draft.now in
     let different = rw c.names-names.ensures.names at c.names-names.ensures.different in
-    rw (c.new.ensures.atoms, c.new.ensures.formulas, c.new-2.ensures, c.new-3.ensures, c.new-4.ensures) (stating-start d.names d.items different)
+    rw (c.new.ensures.atoms, c.new.ensures.formulas, c.new-2.ensures, c.new-3.ensures, c.new-4.ensures) (stating-start d different)
 
 pub queries-requires : goal.queries-requires
 queries-requires c =
     let s = c.sentences.new.self in
     let d = c.args.draft.now in
-    asking-start d.names d.items s.building.atoms s.building.formulas s.sentences s.bounds s.queries c.in_default.ensures.ok
+    asking-start d s c.in_default.ensures.ok
 
 pub of-requires-clause-sound : goal.of-requires-clause-sound
 of-requires-clause-sound c =
@@ -24,8 +24,8 @@ of-requires-clause-sound c =
     let d = c.args.draft.now in
     let r = c.in_default-queries.ensures.ok in
     let e = rw (c.names-names.ensures.names, c.as_slice.ensures) at c.in-Ok.ensures in
-    let counted = asking-end d.names d.items s.building.atoms s.building.formulas s.sentences s.bounds s.queries r in
-    let is = asking-problem d.names d.items s.building.atoms s.building.formulas s.sentences s.bounds s.queries (map (λ v. v.items) c.in-Ok.texts) r e in
+    let counted = asking-end d s r in
+    let is = asking-problem d s (map (λ v. v.items) c.in-Ok.texts) r e in
     record {
       parts = subst AreParts (sym is) (parts-in-order d.items r.built.formulas c.names-names.ensures.lawful counted);
       items = d.items;
@@ -43,5 +43,5 @@ returns c =
     let d = c.args.draft.now in
     let r = c.in_default-queries.ensures.ok in
     let e = rw (c.names-names.ensures.names, c.as_slice.ensures) at c.in-Ok.ensures in
-    let counted = asking-end d.names d.items s.building.atoms s.building.formulas s.sentences s.bounds s.queries r in
-    (r.built.formulas, counted, c.of.ensures ∙ asking-problem d.names d.items s.building.atoms s.building.formulas s.sentences s.bounds s.queries (map (λ v. v.items) c.in-Ok.texts) r e)
+    let counted = asking-end d s r in
+    (r.built.formulas, counted, c.of.ensures ∙ asking-problem d s (map (λ v. v.items) c.in-Ok.texts) r e)

@@ -1,5 +1,5 @@
 use Rattle.std.proofs.Common.{◌≡◌, map, take}
-use Rattle.ps_problem.specs.Built.{name_at}
+use Rattle.ps_problem.specs.Problems.{name_at}
 use Rattle.ps_problem.proofs.assembly.copies.Given as goal
 
 abbrev pub invariant-loop-number : goal.invariant-loop-number

@@ -1,5 +1,5 @@
 use Rattle.std.proofs.Common.{◌≡◌, length, subst, arith}
-use Rattle.ps_problem.specs.Builds.{Asking}
+use Rattle.ps_problem.specs.Making.{QueriesMade}
 use Rattle.ps_problem.proofs.assembly.Assembly.queries.Goals as goal
 
 pub returns-clause-ok : goal.returns-clause-ok
@@ -10,4 +10,4 @@ returns-clause-ok c =
     let end = c.loop-i-test.false in
     let n = c.len-i-end.ensures in
     let e : c.loop-i.i ≡ length d.items = omega (arith, le, end, n, c.loop-i.auto.i-end) in
-    subst (λ i. Asking d.names d.items i s.building.atoms s.building.formulas s.sentences s.bounds s.queries) e c.loop-i.invariant.1
+    subst (λ i. QueriesMade d i s) e c.loop-i.invariant.1

@@ -1,5 +1,6 @@
 use Rattle.std.proofs.Common.{arith, ◌∙◌}
-use Rattle.ps_problem.specs.Drafts.{question_at, statement_at}
+use Rattle.ps_problem.specs.Drafts.{question_at}
+use Rattle.ps_problem.specs.DraftLists.{statement_of}
 use Rattle.ps_problem.proofs.Turns.{from-no-error}
 use Rattle.ps_problem.proofs.Growth.{count-is, sentence-is}
 use Rattle.ps_problem.proofs.Making.{stating-skip, stating-full, stating-stop, stating-next}
@@ -9,8 +10,8 @@ pub returns-in-Query-clause-ok : goal.returns-in-Query-clause-ok
 returns-in-Query-clause-ok c =
     let s = c.args.self.now in
     let d = c.args.draft.now in
-    stating-skip d.names d.items c.args.i s.building.atoms s.building.formulas s.sentences s.bounds s.queries c.requires.before
-    (question_at d.formulas c.in-Query.field-0 c.in-Query.field-1) c.in-Query.ensures.item
+    stating-skip d c.args.i s c.requires.before
+    (question_at d.formulas c.in-Query.field-0.formula c.in-Query.field-0.given) c.in-Query.ensures.item
 
 pub returns-then-len-count-clause-err : goal.returns-then-len-count-clause-err
 returns-then-len-count-clause-err c =
@@ -19,9 +20,9 @@ returns-then-len-count-clause-err c =
     let k = c.in-Sentence in
     let n = c.count.ensures.count in
     let few = c.count.ensures.few in
-    let m = count-is k.upper in
-    stating-full d.names d.items c.args.i s.building.atoms s.building.formulas s.sentences s.bounds s.queries c.requires.before
-    (statement_at d.formulas k.formula k.given k.side k.num k.den k.upper) k.ensures.item (omega arith)
+    let m = count-is k.sentence.upper in
+    stating-full d c.args.i s c.requires.before
+    (statement_of d.formulas k.sentence) k.ensures.item (omega arith)
 
 pub returns-in-Err-clause-err : goal.returns-in-Err-clause-err
 returns-in-Err-clause-err c =
@@ -30,9 +31,9 @@ returns-in-Err-clause-err c =
     let k = c.in-Sentence in
     let n = c.count.ensures.count in
     let few = c.count.ensures.few in
-    let m = count-is k.upper in
-    stating-stop d.names d.items c.args.i s.building.atoms s.building.formulas s.sentences s.bounds s.queries c.requires.before
-    (statement_at d.formulas k.formula k.given k.side k.num k.den k.upper) k.ensures.item (omega arith) c.in-Err.fault (c.in-Err.ensures c.requires.before.built)
+    let m = count-is k.sentence.upper in
+    stating-stop d c.args.i s c.requires.before
+    (statement_of d.formulas k.sentence) k.ensures.item (omega arith) c.in-Err.fault (c.in-Err.ensures c.requires.before.built)
 
 pub returns-in-Ok-push-clause-ok : goal.returns-in-Ok-push-clause-ok
 returns-in-Ok-push-clause-ok c =
@@ -41,9 +42,9 @@ returns-in-Ok-push-clause-ok c =
     let k = c.in-Sentence in
     let n = c.count.ensures.count in
     let few = c.count.ensures.few in
-    let m = count-is k.upper in
+    let m = count-is k.sentence.upper in
     let f = c.in-Ok.ensures c.requires.before.built in
-    let e = c.sentence-made.ensures ∙ sentence-is f.0.formulas d.formulas k.formula k.given k.side k.num k.den k.upper c.in-Ok.query f.3 in
+    let e = c.sentence-made.ensures ∙ sentence-is f.0.formulas d.formulas k.sentence c.in-Ok.query f.3 in
     rw (c.in-Ok-push.ensures.ok, from-no-error c.push_bounds.result c.if-is_err.ensures.value c.push_bounds.ensures, e)
-    (stating-next d.names d.items c.args.i s.building.atoms s.building.formulas s.sentences s.bounds s.queries c.requires.before
-    (statement_at d.formulas k.formula k.given k.side k.num k.den k.upper) k.ensures.item (omega arith) c.query.new.self.atoms c.query.new.self.formulas c.in-Ok.query f)
+    (stating-next d c.args.i s c.requires.before
+    (statement_of d.formulas k.sentence) k.ensures.item (omega arith) c.query.new.self c.in-Ok.query f)

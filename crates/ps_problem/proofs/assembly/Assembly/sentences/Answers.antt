@@ -1,5 +1,5 @@
 use Rattle.std.proofs.Common.{◌≡◌, length, subst, arith}
-use Rattle.ps_problem.specs.Builds.{Stating}
+use Rattle.ps_problem.specs.Making.{SentencesMade}
 use Rattle.ps_problem.proofs.assembly.Assembly.sentences.Goals as goal
 
 pub returns-clause-ok : goal.returns-clause-ok
@@ -10,4 +10,4 @@ returns-clause-ok c =
     let end = c.loop-i-test.false in
     let n = c.len-i-end.ensures in
     let e : c.loop-i.i ≡ length d.items = omega (arith, le, end, n, c.loop-i.auto.i-end) in
-    subst (λ i. Stating d.names d.items i s.building.atoms s.building.formulas s.sentences s.bounds s.queries) e c.loop-i.invariant.1
+    subst (λ i. SentencesMade d i s) e c.loop-i.invariant.1

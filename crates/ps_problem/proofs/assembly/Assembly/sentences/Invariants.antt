@@ -1,6 +1,6 @@
 use Rattle.std.proofs.Common.{◌≤◌, length}
-use Rattle.ps_problem.specs.Builds.{Stating}
+use Rattle.ps_problem.specs.Making.{SentencesMade}
 use Rattle.ps_problem.proofs.assembly.Assembly.sentences.Given as goal
 
 abbrev pub invariant-loop-i : goal.invariant-loop-i
-invariant-loop-i l = (l.i ≤ length l.draft.items) × Stating l.draft.names l.draft.items l.i l.self.building.atoms l.self.building.formulas l.self.sentences l.self.bounds l.self.queries
+invariant-loop-i l = (l.i ≤ length l.draft.items) × SentencesMade l.draft l.i l.self

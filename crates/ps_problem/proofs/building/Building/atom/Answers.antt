@@ -1,7 +1,7 @@
 use Rattle.std.proofs.Common.{◌≡◌, ap, subst, ◌∙◌, arith, nat_eq, Ok, Err}
 use Rattle.ps_formula.specs.declared.node.Node.TheVariants as node
 use Rattle.ps_problem.specs.Numbering.{place_in}
-use Rattle.ps_problem.specs.Built.{IsAdded}
+use Rattle.ps_problem.specs.Numbered.{IsAdded}
 use Rattle.ps_problem.proofs.Atoms.{atom-known, atom-full, atom-new, atom-refused}
 use Rattle.ps_problem.proofs.building.Building.atom.Goals as goal
 
@@ -12,8 +12,8 @@ returns-then-place-len c = λ h.
     rw c.node.ensures.atoms (atom-known c.args.names.now s.atoms s.formulas h c.args.name c.requires.name (omega arith) c.node.new.self.formulas c.node.result
     (subst (λ i. IsAdded s.formulas (node.Atom i) c.node.new.self.formulas c.node.result) p c.node.ensures.nodes))
 
-pub returns-then-place-ge128 : goal.returns-then-place-ge128
-returns-then-place-ge128 c = λ h.
+pub returns-then-place-ge-MOST_ATOMS : goal.returns-then-place-ge-MOST_ATOMS
+returns-then-place-ge-MOST_ATOMS c = λ h.
     let s = c.args.self.now in
     let p : c.place_of-place.result ≡ place_in nat_eq s.atoms c.args.name = c.place_of-place.ensures ∙ ap (λ xs. place_in nat_eq xs c.args.name) c.as_slice.ensures in
     atom-full c.args.names.now s.atoms s.formulas h c.args.name c.requires.name (omega arith) (omega arith)

@@ -1,14 +1,14 @@
 use Rattle.std.proofs.Common.{[], take, sym, subst, arith}
 use Rattle.std.proofs.lemmas.List.{get_or_read}
 use Rattle.ps_problem.specs.declared.mark.Mark.TheVariants as mark
-use Rattle.ps_problem.specs.Entries.{standing}
-use Rattle.ps_problem.specs.Built.{Stand}
+use Rattle.ps_problem.specs.DraftLists.{standing}
+use Rattle.ps_problem.specs.Numbered.{IsStack}
 use Rattle.ps_problem.proofs.Operators.{length-stand, tops-are, numbers-below}
 use Rattle.ps_problem.proofs.Turns.{held-at, reached-start, reached-stop, reached-next, from-no-error, one-left, reached-end}
 use Rattle.ps_problem.proofs.building.Building.formula.Goals as goal
 
 pub loop-mark-init : goal.loop-mark-init
-loop-mark-init c = λ h. rw c.new-stack.ensures.items (reached-start c.args.names.now h.formulas c.args.marks.now c.args.self.now.atoms c.args.self.now.formulas h)
+loop-mark-init c = λ h. rw c.new-stack.ensures.items (reached-start c.args.names.now h.formulas c.args.marks.now c.args.self.now h)
 
 pub mark-requires-clause-operands : goal.mark-requires-clause-operands
 mark-requires-clause-operands c =
@@ -29,10 +29,10 @@ pub returns-in-Err : goal.returns-in-Err
 returns-in-Err c = λ h.
     let r = c.loop-mark.invariant h in
     let m = c.requires.marks in
-    let s = subst (λ ps. Stand r.built.formulas (standing c.args.names.now [] (take c.loop-mark.mark-index c.args.marks.now)) ps) (sym c.deref.ensures.value) r.stand in
+    let s = subst (λ ps. IsStack r.built.formulas (standing c.args.names.now [] (take c.loop-mark.mark-index c.args.marks.now)) ps) (sym c.deref.ensures.value) r.stand in
     rw (← tops-are c.args.names.now c.args.marks.now _ m.held m.made)
-    (reached-stop c.args.names.now h.formulas c.args.marks.now c.loop-mark.mark-index c.loop-mark.self.atoms c.loop-mark.self.formulas c.loop-mark.stack.items r mark.True c.loop-mark-test.true
-    c.mark.new.self.atoms c.mark.new.self.formulas c.in-Err.fault (c.in-Err.ensures r.built _ s))
+    (reached-stop c.args.names.now h.formulas c.args.marks.now c.loop-mark.mark-index c.loop-mark.self c.loop-mark.stack.items r mark.True c.loop-mark-test.true
+    c.mark.new.self c.in-Err.fault (c.in-Err.ensures r.built _ s))
 
 pub replace-requires : goal.replace-requires
 replace-requires c =
@@ -44,22 +44,22 @@ replace-requires c =
 pub loop-mark-preserved : goal.loop-mark-preserved
 loop-mark-preserved c = λ h.
     let r = c.loop-mark.invariant h in
-    let s = subst (λ ps. Stand r.built.formulas (standing c.args.names.now [] (take c.loop-mark.mark-index c.args.marks.now)) ps) (sym c.deref.ensures.value) r.stand in
+    let s = subst (λ ps. IsStack r.built.formulas (standing c.args.names.now [] (take c.loop-mark.mark-index c.args.marks.now)) ps) (sym c.deref.ensures.value) r.stand in
     let held = held-at c.args.names.now [] c.args.marks.now c.loop-mark.mark-index mark.True c.requires.marks.held c.loop-mark-test.true in
     let l = length-stand r.built.formulas (standing c.args.names.now [] (take c.loop-mark.mark-index c.args.marks.now)) c.loop-mark.stack.items r.stand in
     rw (from-no-error c.replace.result c.if-is_err.ensures.value c.replace.ensures.ok, c.operands.ensures)
-    (reached-next c.args.names.now h.formulas c.args.marks.now c.loop-mark.mark-index c.loop-mark.self.atoms c.loop-mark.self.formulas c.loop-mark.stack.items r mark.True c.loop-mark-test.true
-    c.mark.new.self.atoms c.mark.new.self.formulas c.in-Ok.number (omega arith) (c.in-Ok.ensures r.built _ s))
+    (reached-next c.args.names.now h.formulas c.args.marks.now c.loop-mark.mark-index c.loop-mark.self c.loop-mark.stack.items r mark.True c.loop-mark-test.true
+    c.mark.new.self c.in-Ok.number (omega arith) (c.in-Ok.ensures r.built _ s))
 
 pub index-requires : goal.index-requires
 index-requires c =
     let r = c.loop-mark.invariant c.requires.built in
-    let one = one-left c.args.names.now c.requires.built.formulas c.args.marks.now c.loop-mark.mark-index c.loop-mark.self.atoms c.loop-mark.self.formulas c.loop-mark.stack.items r c.loop-mark-test.false c.requires.marks in
+    let one = one-left c.args.names.now c.requires.built.formulas c.args.marks.now c.loop-mark.mark-index c.loop-mark.self c.loop-mark.stack.items r c.loop-mark-test.false c.requires.marks in
     omega arith
 
 pub returns : goal.returns
 returns c = λ h.
     let r = c.loop-mark.invariant h in
-    let one = one-left c.args.names.now h.formulas c.args.marks.now c.loop-mark.mark-index c.loop-mark.self.atoms c.loop-mark.self.formulas c.loop-mark.stack.items r c.loop-mark-test.false c.requires.marks in
+    let one = one-left c.args.names.now h.formulas c.args.marks.now c.loop-mark.mark-index c.loop-mark.self c.loop-mark.stack.items r c.loop-mark-test.false c.requires.marks in
     let e = get_or_read c.loop-mark.stack.items 0 c.index.result.now (omega arith) c.index.ensures 0 in
-    rw e (reached-end c.args.names.now h.formulas c.args.marks.now c.loop-mark.mark-index c.loop-mark.self.atoms c.loop-mark.self.formulas c.loop-mark.stack.items r c.loop-mark-test.false c.requires.marks)
+    rw e (reached-end c.args.names.now h.formulas c.args.marks.now c.loop-mark.mark-index c.loop-mark.self c.loop-mark.stack.items r c.loop-mark-test.false c.requires.marks)

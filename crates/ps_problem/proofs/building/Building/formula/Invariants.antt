@@ -1,5 +1,5 @@
-use Rattle.ps_problem.specs.Built.{Built, Reached}
+use Rattle.ps_problem.specs.Numbered.{Built, MarksNumbered}
 use Rattle.ps_problem.proofs.building.Building.formula.Given as goal
 
 abbrev pub invariant-loop-mark : goal.invariant-loop-mark
-invariant-loop-mark l = (h : Built l.names l.initial.self.atoms l.initial.self.formulas) → Reached l.names h.formulas l.marks l.mark-index l.self.atoms l.self.formulas l.stack.items
+invariant-loop-mark l = (h : Built l.names l.initial.self.atoms l.initial.self.formulas) → MarksNumbered l.names h.formulas l.marks l.mark-index l.self l.stack.items

@@ -6,11 +6,11 @@ invariant_of-self-2 c =
     let i = c.self.inside in
     let one = rw (← c.self.view_is) at c.requires.one in
     let nesting = rw (← c.self.view_is) at c.requires.nesting in
-    rw (c.in_ok-push.ensures.ok, c.len-end.ensures) (IsDraft-end i.names i.marks i.ended i.spans i.entries c.self.invariant one nesting)
+    rw (c.in_ok-push.ensures.ok, c.len-end.ensures) (IsDraft-end i.names i.marks i.ended i.spans i.items c.self.invariant one nesting)
 
 pub returns-clause-ok : goal.returns-clause-ok
 returns-clause-ok c =
     let i = c.self.inside in
     let one = rw (← c.self.view_is) at c.requires.one in
     let nesting = rw (← c.self.view_is) at c.requires.nesting in
-    rw (← c.self.view_is, c.in_ok-push.ensures.ok, c.len-end.ensures) (with_formula-is i.names i.marks i.ended i.spans i.entries c.self.invariant one nesting)
+    rw (← c.self.view_is, c.in_ok-push.ensures.ok, c.len-end.ensures) (with_formula-is i.names i.marks i.ended i.spans i.items c.self.invariant one nesting)

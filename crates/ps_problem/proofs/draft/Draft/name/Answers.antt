@@ -4,9 +4,9 @@ use Rattle.ps_problem.proofs.draft.Draft.name.Goals as goal
 pub invariant_of-self-2 : goal.invariant_of-self-2
 invariant_of-self-2 c =
     let i = c.self.inside in
-    rw c.in_ok-number.ensures.names (IsDraft-name i.names i.marks i.ended i.spans i.entries c.self.invariant c.args.text.now c.requires.name)
+    rw c.in_ok-number.ensures.names (IsDraft-name i.names i.marks i.ended i.spans i.items c.self.invariant c.args.text.now c.requires.name)
 
 pub returns-clause-ok : goal.returns-clause-ok
 returns-clause-ok c =
     let i = c.self.inside in
-    rw (← c.self.view_is, c.in_ok-number.ensures.names) (with_name-is i.names i.marks i.ended i.spans i.entries c.self.invariant c.args.text.now)
+    rw (← c.self.view_is, c.in_ok-number.ensures.names) (with_name-is i.names i.marks i.ended i.spans i.items c.self.invariant c.args.text.now)

@@ -1,14 +1,14 @@
 use Rattle.std.proofs.Common.{length, map}
-use Rattle.ps_problem.specs.Entries.{spelled}
+use Rattle.ps_problem.specs.DraftLists.{spelled}
 use Rattle.ps_problem.proofs.Values.{lawful-items, nested-items}
 use Rattle.ps_problem.proofs.draft.Draft.names.Goals as goal
 
 pub returns-clause-lawful : goal.returns-clause-lawful
 returns-clause-lawful c =
     let i = c.self.inside in
-    rw (← c.self.view_is) (lawful-items (map (spelled i.names i.marks) i.spans) (length i.spans) i.entries c.self.invariant.items)
+    rw (← c.self.view_is) (lawful-items (map (spelled i.names i.marks) i.spans) (length i.spans) i.items c.self.invariant.sound)
 
 pub returns-clause-nested : goal.returns-clause-nested
 returns-clause-nested c =
     let i = c.self.inside in
-    rw (← c.self.view_is) (nested-items i.names i.marks i.ended i.spans i.entries c.self.invariant.formulas c.self.invariant.items)
+    rw (← c.self.view_is) (nested-items i.names i.marks i.ended i.spans i.items c.self.invariant.formulas c.self.invariant.sound)

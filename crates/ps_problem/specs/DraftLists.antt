@@ -1,15 +1,16 @@
 -- The lists of which a draft is made.
-use Rattle.std.specs.Prelude.{◌≡◌, ◌≤◌, ◌-◌, ℕ, List, [], ◌∷◌, length, map, take, drop, All, slice_index_or}
+use Rattle.std.specs.Prelude.{◌≡◌, ◌≤◌, ◌-◌, ℕ, List, [], ◌∷◌, length, map, option_map, take, drop, All, slice_index_or}
 use Rattle.ps_meaning.specs.Formula.{Formula, Truth}
-use Rattle.ps_meaning.specs.Statements.{Name, Item, Stated, Asked}
+use Rattle.ps_meaning.specs.Statements.{Name, Statement, Item, Stated, Asked}
 use Rattle.ps_meaning.specs.Names.{IsName}
+use Rattle.ps_problem.specs.declared.limits.TheConstants.{MOST_NESTING}
 use Rattle.ps_problem.specs.declared.mark.Mark.{Mark}
 use Rattle.ps_problem.specs.declared.span.Span.{Span}
-use Rattle.ps_problem.specs.declared.entry.Entry.{Entry}
-use Rattle.ps_problem.specs.declared.entry.Entry.TheVariants as entry
-use Rattle.ps_problem.specs.Numbering.{same_name}
-use Rattle.ps_problem.specs.Numbering.{AreOnce}
-use Rattle.ps_problem.specs.Drafts.{Drafted, arity, marked, NameBelow, canonical_nesting, IsRatio, IsUpper, AreBelow, statement_at, question_at}
+use Rattle.ps_problem.specs.declared.draft_item.DraftItem.{DraftItem}
+use Rattle.ps_problem.specs.declared.draft_item.DraftSentence.{DraftSentence}
+use Rattle.ps_problem.specs.declared.draft_item.DraftItem.TheVariants as item
+use Rattle.ps_problem.specs.Numbering.{same_name, AreOnce}
+use Rattle.ps_problem.specs.Drafts.{Drafted, arity, marked, NameBelow, canonical_nesting, IsRatio, IsUpper, AreBelow, formula_at, ratio_of, question_at}
 
 -- the formulas that stand open after some marks
 abbrev pub standing : List Name → List (Formula Name) → List Mark → List (Formula Name)
@@ -39,22 +40,33 @@ part ms s = take (s.end - s.start) (drop s.start ms)
 abbrev pub spelled : List Name → List Mark → Span → Formula Name
 spelled names ms s = root names (part ms s)
 
-abbrev pub item_of : List (Formula Name) → Entry → Item
-item_of fs (entry.Sentence f g s num den upper) = Stated (statement_at fs f g s num den upper)
-item_of fs (entry.Query f g) = Asked (question_at fs f g)
+-- the statement of a sentence over formulas by number
+abbrev pub statement_of : List (Formula Name) → DraftSentence → Statement
+statement_of fs s = record {
+  formula = formula_at fs s.formula;
+  given = option_map (formula_at fs) s.given;
+  side = s.side;
+  value = record { num = s.num; den = s.den };
+  upper = option_map ratio_of s.upper;
+}
 
--- the numbers of an entry are in range, and its values in order
-abbrev pub IsEntry : ℕ → Entry → Type 0
-IsEntry n (entry.Sentence f g s num den upper) = AreBelow n f g × IsRatio num den × IsUpper s upper
-IsEntry n (entry.Query f g) = AreBelow n f g
+-- the item of an item over formulas by number
+abbrev pub item_of : List (Formula Name) → DraftItem → Item
+item_of fs (item.Sentence s) = Stated (statement_of fs s)
+item_of fs (item.Query q) = Asked (question_at fs q.formula q.given)
+
+-- the numbers of an item are in range, and its values in order
+abbrev pub IsDraftItem : ℕ → DraftItem → Type 0
+IsDraftItem n (item.Sentence s) = AreBelow n s.formula s.given × IsRatio s.num s.den × IsUpper s.side s.upper
+IsDraftItem n (item.Query q) = AreBelow n q.formula q.given
 
 -- what the lists hold together; the marks of formulas that have ended come first
-abbrev pub drafted : List Name → List Mark → ℕ → List Span → List Entry → Drafted
-drafted names ms ended spans entries = record {
+abbrev pub drafted : List Name → List Mark → ℕ → List Span → List DraftItem → Drafted
+drafted names ms ended spans items = record {
   names = names;
   «open» = standing names [] (drop ended ms);
   formulas = map (spelled names ms) spans;
-  items = map (item_of (map (spelled names ms) spans)) entries;
+  items = map (item_of (map (spelled names ms) spans)) items;
 }
 
 -- the span's marks are there and spell a formula that doesn't nest too deep
@@ -62,15 +74,15 @@ pub record IsSpan (names : List Name) (ms : List Mark) (ended : ℕ) (s : Span) 
   pub start : s.start ≤ s.end
   pub end : s.end ≤ ended
   pub marks : AreMarks names (part ms s) (spelled names ms s)
-  pub nesting : canonical_nesting (spelled names ms s) ≤ 100
+  pub nesting : canonical_nesting (spelled names ms s) ≤ MOST_NESTING
 
 -- the lists are in order
-pub record IsDraft (names : List Name) (ms : List Mark) (ended : ℕ) (spans : List Span) (entries : List Entry) : Type 0 where
+pub record IsDraft (names : List Name) (ms : List Mark) (ended : ℕ) (spans : List Span) (items : List DraftItem) : Type 0 where
   pub named : All IsName names
   pub different : AreOnce same_name names
   pub below : All (NameBelow (length names)) ms
   pub within : ended ≤ length ms
   pub held : AreHeld names [] (drop ended ms)
   pub formulas : All (IsSpan names ms ended) spans
-  pub items : All (IsEntry (length spans)) entries
-  pub few_items : length entries ≤ 4294967295
+  pub sound : All (IsDraftItem (length spans)) items
+  pub few_items : length items ≤ 4294967295

@@ -1,11 +1,12 @@
--- What stands at a point of the making of a problem.
+-- Formulas of a draft as far as they are numbered.
 use Rattle.std.specs.Prelude.{◌≡◌, ◌≤◌, ◌<◌, ◌-◌, ℕ, true, List, [], ◌∷◌, Option, Some, None, Result, Ok, Err, length, map, take, drop, All, Contains, IfSome, slice_index_or}
 use Rattle.std.specs.List.{list_any}
-use Rattle.ps_meaning.specs.Formula.{Formula}
+use Rattle.ps_meaning.specs.Formula.{Formula, subformulas}
 use Rattle.ps_meaning.specs.Formula as formula
 use Rattle.ps_meaning.specs.Statements.{Name, Question}
 use Rattle.ps_formula.specs.declared.node.Node.{Node}
 use Rattle.ps_formula.specs.declared.node.Node.TheVariants as node
+use Rattle.ps_problem.specs.declared.limits.TheConstants.{MOST_ATOMS, MOST_NODES}
 use Rattle.ps_problem.specs.declared.mark.Mark.{Mark}
 use Rattle.ps_problem.specs.declared.mark.Mark.TheVariants as mark
 use Rattle.ps_problem.specs.declared.query.Query.{Query}
@@ -14,8 +15,10 @@ use Rattle.ps_problem.specs.declared.fault.Fault.TheVariants as fault
 use Rattle.ps_formula.specs.Nodes.{Adds}
 use Rattle.ps_problem.specs.Counts.{Excess, Atoms, Nodes, Bounds, Queries, with_formulas}
 use Rattle.ps_problem.specs.Drafts.{made_by, marked}
-use Rattle.ps_problem.specs.Entries.{standing}
-use Rattle.ps_problem.specs.Numbering.{AreOnce, same_name, same_formula, place_in, names_among, node_in, both_of, query_in}
+use Rattle.ps_problem.specs.DraftLists.{standing}
+use Rattle.ps_problem.specs.declared.building.Building.{Building}
+use Rattle.ps_problem.specs.Problems.{name_at}
+use Rattle.ps_problem.specs.Numbering.{AreOnce, same_name, same_formula, place_in, names_among, node_in, both_of, query_in, numbered_for}
 
 -- a formula is among some
 abbrev pub IsAmong : List (Formula Name) → Formula Name → Type 0
@@ -32,9 +35,6 @@ IsReady fs (formula.Or f g) = IsAmong fs f × IsAmong fs g
 IsReady fs (formula.Implies f g) = IsAmong fs f × IsAmong fs g
 IsReady fs (formula.Iff f g) = IsAmong fs f × IsAmong fs g
 
-abbrev pub name_at : List Name → ℕ → Name
-name_at names n = slice_index_or names n []
-
 -- some formulas whose atoms' names have these numbers among all names, and whose nodes are these
 pub record Built (names : List Name) (atoms : List ℕ) (nodes : List Node) : Type 0 where
   pub formulas : List (Formula Name)
@@ -44,12 +44,12 @@ pub record Built (names : List Name) (atoms : List ℕ) (nodes : List Node) : Ty
   pub ready : All (IsReady formulas) formulas
   pub once : AreOnce same_formula formulas
   pub within : All (λ a. a < length names) atoms
-  pub few_atoms : length atoms ≤ 128
-  pub few : length formulas ≤ 1024
+  pub few_atoms : length atoms ≤ MOST_ATOMS
+  pub few : length formulas ≤ MOST_NODES
 
--- the place of a formula that is there
-abbrev pub StandsAt : List (Formula Name) → Formula Name → ℕ → Type 0
-StandsAt fs f i = IsAmong fs f × (i ≡ place_in same_formula fs f)
+-- the number of a formula that is there
+abbrev pub IsNumberOf : List (Formula Name) → Formula Name → ℕ → Type 0
+IsNumberOf fs f i = IsAmong fs f × (i ≡ place_in same_formula fs f)
 
 -- the number so far below the top of a stack, 1 for the top
 abbrev pub operand : List ℕ → ℕ → ℕ
@@ -76,18 +76,18 @@ excess_of fault.NoMemory = None
 
 -- the node was added, or stood there; a fault is that there was no place for it, or that memory ran out
 abbrev pub IsAdded : List Node → Node → List Node → Result ℕ Fault → Type 0
-IsAdded old n new (Ok i) = Adds old n i new × (length old ≡ 1024 → ¬ Contains old n → ⊥)
-IsAdded old n new (Err fault.Nodes) = (length old ≡ 1024) × ¬ Contains old n
+IsAdded old n new (Ok i) = Adds old n i new × (length old ≡ MOST_NODES → ¬ Contains old n → ⊥)
+IsAdded old n new (Err fault.Nodes) = (length old ≡ MOST_NODES) × ¬ Contains old n
 IsAdded old n new (Err fault.NoMemory) = Unit {0}
 IsAdded old n new (Err other) = ⊥
 
 -- what is expected was built, and the formula has this number; or there is the excess that is expected
-abbrev pub Follows : List Name → Result (List (Formula Name)) Excess → Formula Name → List ℕ → List Node → Result ℕ Fault → Type 0
-Follows names expected f atoms nodes (Ok i) = (h : Built names atoms nodes) × (expected ≡ Ok h.formulas) × StandsAt h.formulas f i
-Follows names expected f atoms nodes (Err x) = IfSome (excess_of x) (λ e. expected ≡ Err e)
+abbrev pub GivesNumber : List Name → Result (List (Formula Name)) Excess → Formula Name → List ℕ → List Node → Result ℕ Fault → Type 0
+GivesNumber names expected f atoms nodes (Ok i) = (h : Built names atoms nodes) × (expected ≡ Ok h.formulas) × IsNumberOf h.formulas f i
+GivesNumber names expected f atoms nodes (Err x) = IfSome (excess_of x) (λ e. expected ≡ Err e)
 
--- formulas stand open, by the places at which they are
-pub record Stand (fs standing : List (Formula Name)) (numbers : List ℕ) : Type 0 where
+-- a stack holds the numbers of formulas that stand open
+pub record IsStack (fs standing : List (Formula Name)) (numbers : List ℕ) : Type 0 where
   pub places : numbers ≡ map (place_in same_formula fs) standing
   pub among : All (IsAmong fs) standing
 
@@ -97,9 +97,9 @@ tops names fs [] = []
 tops names fs (m ∷ ms) = made_by names fs m ∷ tops names (marked names fs m) ms
 
 -- as far as a list of marks has been gone through: what is left to be numbered gives what all of them give
-pub record Reached (names : List Name) (start : List (Formula Name)) (all : List Mark) (i : ℕ) (atoms : List ℕ) (nodes : List Node) (stack : List ℕ) : Type 0 where
-  pub built : Built names atoms nodes
-  pub stand : Stand built.formulas (standing names [] (take i all)) stack
+pub record MarksNumbered (names : List Name) (start : List (Formula Name)) (all : List Mark) (i : ℕ) (b : Building) (stack : List ℕ) : Type 0 where
+  pub built : Built names b.atoms b.formulas
+  pub stand : IsStack built.formulas (standing names [] (take i all)) stack
   pub rest : with_formulas built.formulas (tops names (standing names [] (take i all)) (drop i all)) ≡ with_formulas start (tops names [] all)
 
 -- the formulas of a question are among some
@@ -109,6 +109,18 @@ pub record HasQuestion (fs : List (Formula Name)) (q : Question) : Type 0 where
   pub both : IsAmong fs (both_of q.formula q.given)
 
 -- what is expected was built, and the question has these numbers; or there is the excess that is expected
-abbrev pub FollowsQuestion : List Name → Result (List (Formula Name)) Excess → Question → List ℕ → List Node → Result Query Fault → Type 0
-FollowsQuestion names expected q atoms nodes (Ok r) = (h : Built names atoms nodes) × (expected ≡ Ok h.formulas) × HasQuestion h.formulas q × (r ≡ query_in h.formulas q)
-FollowsQuestion names expected q atoms nodes (Err x) = IfSome (excess_of x) (λ e. expected ≡ Err e)
+abbrev pub GivesQuery : List Name → Result (List (Formula Name)) Excess → Question → List ℕ → List Node → Result Query Fault → Type 0
+GivesQuery names expected q atoms nodes (Ok r) = (h : Built names atoms nodes) × (expected ≡ Ok h.formulas) × HasQuestion h.formulas q × (r ≡ query_in h.formulas q)
+GivesQuery names expected q atoms nodes (Err x) = IfSome (excess_of x) (λ e. expected ≡ Err e)
+
+-- a formula is behind some others and has this number; or there is the excess at it
+abbrev pub IsNumbered : List Name → List (Formula Name) → Formula Name → Building → Result ℕ Fault → Type 0
+IsNumbered names fs f b result = GivesNumber names (with_formulas fs (f ∷ [])) f b.atoms b.formulas result
+
+-- all subformulas of a formula are behind some others, and it has this number; or there is the excess at one of them
+abbrev pub ArePartsNumbered : List Name → List (Formula Name) → Formula Name → Building → Result ℕ Fault → Type 0
+ArePartsNumbered names fs f b result = GivesNumber names (with_formulas fs (subformulas f)) f b.atoms b.formulas result
+
+-- all formulas of a question are behind some others, and it has these numbers; or there is the excess at one of them
+abbrev pub IsQuestionNumbered : List Name → List (Formula Name) → Question → Building → Result Query Fault → Type 0
+IsQuestionNumbered names fs q b result = GivesQuery names (with_formulas fs (numbered_for q.formula q.given)) q b.atoms b.formulas result

@@ -1,0 +1,57 @@
+-- What is made of a problem's sentences and queries at a point of the making.
+use Rattle.std.specs.Prelude.{◌≡◌, ℕ, ◌+◌, List, [], Option, Err, All, IfSome, length, map, take, drop, option_map}
+use Rattle.ps_meaning.specs.Formula.{Formula}
+use Rattle.ps_meaning.specs.declared.side.Side.{Side}
+use Rattle.ps_meaning.specs.declared.side.Side.TheVariants.{AtMost}
+use Rattle.ps_meaning.specs.Statements.{Name, Statement, Question, Item, statements_of, questions_of}
+use Rattle.ps_problem.specs.declared.bound.Bound.{Bound}
+use Rattle.ps_problem.specs.declared.sentence.Sentence.{Sentence}
+use Rattle.ps_problem.specs.declared.query.Query.{Query}
+use Rattle.ps_problem.specs.declared.draft_item.DraftSentence.{DraftSentence}
+use Rattle.ps_problem.specs.declared.fault.Fault.{Fault}
+use Rattle.ps_problem.specs.declared.assembly.Assembly.{Assembly}
+use Rattle.ps_problem.specs.Problems.{bounds_in}
+use Rattle.ps_problem.specs.Numbering.{sentence_in, query_in}
+use Rattle.ps_problem.specs.Counts.{Refused, with_statements, with_questions, after, counted}
+use Rattle.ps_problem.specs.Drafts.{Drafted}
+use Rattle.ps_problem.specs.Numbered.{Built, HasQuestion, excess_of}
+
+-- the refusal of a fault at an item, none where memory ran out
+abbrev pub refused_at : ℕ → Fault → Option Refused
+refused_at item x = option_map (λ e. record { excess = e; item = item }) (excess_of x)
+
+-- a fault at an item tells of the first excess of items
+abbrev pub IsExcess : List Item → ℕ → Fault → Type 0
+IsExcess items item x = IfSome (excess_of x) (λ e. counted items ≡ Err (record { excess = e; item = item }))
+
+-- the bound on a query's formula
+abbrev pub bound_on : Query → Side → ℕ → ℕ → Bound
+bound_on q on num den = record { formula = q.formula; given = q.given; both = q.both; side = on; num = num; den = den }
+
+-- the sentence on a query's formula
+abbrev pub sentence_on : Query → DraftSentence → Sentence
+sentence_on q s = record { first = bound_on q s.side s.num s.den; second = option_map (λ u. bound_on q AtMost u.0 u.1) s.upper }
+
+-- the question on a statement's formula
+abbrev pub question_on : Statement → Question
+question_on s = record { formula = s.formula; given = s.given }
+
+-- the sentences and queries of statements and questions, over formulas among which all of theirs are
+pub record HasItems (fs : List (Formula Name)) (stated : List Statement) (asked : List Question) (sentences : List Sentence) (bounds : List Bound) (queries : List Query) : Type 0 where
+  pub stated_there : All (λ s. HasQuestion fs (question_on s)) stated
+  pub asked_there : All (HasQuestion fs) asked
+  pub sentences_are : sentences ≡ map (sentence_in fs) stated
+  pub bounds_are : bounds ≡ bounds_in sentences
+  pub queries_are : queries ≡ map (query_in fs) asked
+
+-- the sentences of so many items of a draft are made; what is left gives what all give
+pub record SentencesMade (d : Drafted) (i : ℕ) (a : Assembly) : Type 0 where
+  pub built : Built d.names a.building.atoms a.building.formulas
+  pub holds : HasItems built.formulas (statements_of (take i d.items)) [] a.sentences a.bounds a.queries
+  pub rest : after (with_statements i (length a.bounds) built.formulas (drop i d.items)) (λ fs. with_questions 0 0 fs d.items) ≡ counted d.items
+
+-- all sentences of a draft are made, and the queries of so many items; what is left gives what all give
+pub record QueriesMade (d : Drafted) (i : ℕ) (a : Assembly) : Type 0 where
+  pub built : Built d.names a.building.atoms a.building.formulas
+  pub holds : HasItems built.formulas (statements_of d.items) (questions_of (take i d.items)) a.sentences a.bounds a.queries
+  pub rest : with_questions i (length a.queries) built.formulas (drop i d.items) ≡ counted d.items
