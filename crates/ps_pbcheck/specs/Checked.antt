@@ -1,12 +1,10 @@
--- What a checker knows.
-use Rattle.std.specs.Prelude.{ℕ, Bool, Some, List, map, ◌↔◌}
-use Rattle.ps_steps.specs.Constraints.{Constraint, IsMet}
-use Rattle.ps_steps.specs.Steps.{Known, AreMet}
-use Rattle.ps_forms.specs.Forms.{Form, MeetsForm}
-
--- each constraint stands under its id
-abbrev pub known_of : List Constraint → Known
-known_of cs = map (λ c. Some c) cs
+-- What a checker knows, and what it answers to a step.
+use Rattle.std.specs.Prelude.{ℕ, ◌≡◌, Bool, false, Option, Some, None, Result, Ok, Err, List}
+use Rattle.ps_steps.specs.declared.refused.StepRefused.{StepRefused}
+use Rattle.ps_steps.specs.declared.refused.StepRefused.TheVariants.{NoMemory}
+use Rattle.ps_steps.specs.Constraints.{Constraint}
+use Rattle.ps_steps.specs.Steps.{Known, known_of, Step, with_step, is_contradiction}
+use Rattle.ps_forms.specs.Forms.{Form, first_known}
 
 -- the number of variables, the known constraints, and whether the last step taken has no literals
 pub record Checked : Type 0 where
@@ -14,10 +12,20 @@ pub record Checked : Type 0 where
   pub known : Known
   pub refuted : Bool
 
--- the full assignments that meet what is known are those that meet the form and the goal
-pub record IsStart (f : Form) (goal : Constraint) (known : Known) : Type 0 where
-  pub met : (w : List Bool) → AreMet w known ↔ (MeetsForm w f × IsMet w goal)
+-- the clauses of a form and then the goal are known
+abbrev pub first_checked : Form → Constraint → Checked
+first_checked f goal = record { variables = f.variables; known = first_known f goal; refuted = false }
 
--- no full assignment meets what is known
-pub record IsUnmet (known : Known) : Type 0 where
-  pub none : (w : List Bool) → ¬ AreMet w known
+-- what a step adds is known too
+abbrev pub after_step : Checked → Step → Checked
+after_step c s = record { variables = c.variables; known = with_step c.known s; refuted = is_contradiction s }
+
+-- constraints in the order of their ids
+abbrev pub checked_of : ℕ → List Constraint → Bool → Checked
+checked_of variables cs refuted = record { variables = variables; known = known_of cs; refuted = refuted }
+
+-- the answer to a step: taken where nothing refuses it, else the first refusal, or want of memory
+abbrev pub IsJudged : Option StepRefused → Result (Unit {0}) StepRefused → Type 0
+IsJudged o (Ok done) = o ≡ None
+IsJudged o (Err NoMemory) = Unit {0}
+IsJudged o (Err e) = o ≡ Some e

@@ -1,2 +1,4 @@
+-- Meaning
 pub mod Checked
+-- Bridge: answers on the way
 pub mod Judged

@@ -1,14 +1,17 @@
 //! The checker of steps.
-ghost use Rattle.std.specs.Prelude.{◌≡◌, ◌++◌, ◌∷◌, [], IfOk, OnOk, OnErr, true, false, None, Some, fold};
-ghost use Rattle.ps_steps.specs.Steps.{refusal_of, with_step, is_contradiction, and_false, Entails};
-ghost use Rattle.ps_pbcheck.specs.Checked.{known_of, IsStart, IsUnmet};
-ghost use Rattle.ps_pbcheck.specs.Judged.{IsJudged, AllFalse};
+ghost use Rattle.std.specs.Prelude.{◌≡◌, ◌++◌, ◌∷◌, [], IfOk, IfErr, OnOk, OnErr};
+ghost use Rattle.std.specs.Prelude.{true, Some, fold};
+ghost use Rattle.ps_steps.specs.declared.refused.StepRefused.TheVariants.{NoMemory as Lack};
+ghost use Rattle.ps_steps.specs.Weights.{clause_of};
+ghost use Rattle.ps_steps.specs.Steps.{known_of, refusal_of, and_false, Entails, IsUnmet};
+ghost use Rattle.ps_pbcheck.specs.Checked.{first_checked, after_step, IsJudged};
+ghost use Rattle.ps_pbcheck.specs.Judged.{AllFalse};
 
 use crate::hints::follow_hints;
-use crate::refused::StepRefused;
 use ps_clause::ClauseForm;
 use ps_io::{List, NoMemory};
 use ps_pb::{Assignment, Constraint, Lit, Step, clause};
+use ps_steps::StepRefused;
 use std::alloc::Global;
 use std::marker::Model;
 
@@ -23,11 +26,13 @@ pub struct Checker {
 
 impl Model for Checker {
     ghost use Rattle.std.specs.Prelude.{◌≡◌, true};
-    ghost use Rattle.ps_pbcheck.specs.Checked.{Checked, known_of, IsUnmet};
+    ghost use Rattle.ps_steps.specs.Weights.{clause_of};
+    ghost use Rattle.ps_steps.specs.Steps.{known_of, IsUnmet};
+    ghost use Rattle.ps_pbcheck.specs.Checked.{Checked, checked_of};
 
     ghost Value = { Checked };
 
-    ghost view = { λ c. record { variables = c.variables; known = known_of c.known; refuted = c.refuted } };
+    ghost view = { λ c. checked_of c.variables c.known c.refuted };
 
     ghost invariant = { λ c. c.refuted ≡ true → IsUnmet (known_of c.known) };
 }
@@ -35,8 +40,7 @@ impl Model for Checker {
 impl Checker {
     /// Knows the clauses of a form, under the ids from 1 on, and then the goal.
     pub fn new(alloc: Global, form: ClauseForm, goal: Constraint) -> Result<Checker, NoMemory>
-        ensures value { IfOk result (λ c. c ≡ record { variables = form.variables; known = known_of (form.clauses ++ goal ∷ []); refuted = false }) }
-        ensures start { IfOk result (λ c. IsStart form goal c.known) }
+        ensures { IfOk result (λ c. c ≡ first_checked form goal) }
     {
         let variables = form.variables();
         let mut known = form.into_clauses();
@@ -49,18 +53,19 @@ impl Checker {
         })
     }
 
-    /// Takes a step where it is lawful. Otherwise the first reason is answered, and the checker is unchanged.
+    /// Takes a step where it is lawful (reverse unit propagation; Goldberg and Novikov, 2003). Otherwise
+    /// the first reason is answered, and the checker is unchanged.
     pub fn take(&mut self, s: &Step) -> Result<(), StepRefused>
         ensures judged { IsJudged (refusal_of self.old.variables self.old.known s.now) result }
-        ensures ok { OnOk result (self.new ≡ record { variables = self.old.variables; known = with_step self.old.known s.now; refuted = is_contradiction s.now }) }
+        ensures ok { OnOk result (self.new ≡ after_step self.old s.now) }
         ensures err { OnErr result (self.new ≡ self.old) }
 
         // Each full assignment that met what was known meets what is known now.
         ensures entailed { OnOk result (Entails self.old.known self.new.known) }
     {
         judge(self.alloc, self.variables, &self.known, s)?;
-        let added = clause(self.alloc, s.lits.as_slice())?;
-        self.known.push(added)?;
+        let added = added_by(self.alloc, s.lits.as_slice())?;
+        push(&mut self.known, added)?;
         self.refuted = s.lits.as_slice().is_empty();
         Ok(())
     }
@@ -74,8 +79,29 @@ impl Checker {
     }
 }
 
+fn no_memory(_: NoMemory) -> StepRefused
+    ensures { result ≡ Lack }
+{
+    StepRefused::NoMemory
+}
+
+fn added_by(alloc: Global, lits: &[Lit]) -> Result<Constraint, StepRefused>
+    ensures ok { IfOk result (λ c. c ≡ clause_of lits.now) }
+    ensures lack { IfErr result (λ e. e ≡ Lack) }
+{
+    clause(alloc, lits).map_err(no_memory)
+}
+
+fn push(known: &mut List<Constraint>, added: Constraint) -> Result<(), StepRefused>
+    ensures ok { OnOk result (known.new ≡ known.old ++ added ∷ []) }
+    ensures err { OnErr result (known.new ≡ known.old) }
+    ensures lack { IfErr result (λ e. e ≡ Lack) }
+{
+    known.push(added).map_err(no_memory)
+}
+
 /// Whether a step is lawful.
-#[tactic(auto, using(crate::proofs::Ids::ids), unfolding(ps_steps::specs::Steps::all_false))]
+#[tactic(auto, using(ps_steps::proofs::Ids::ids), unfolding(ps_steps::specs::Steps::all_false))]
 fn judge(
     alloc: Global,
     variables: u32,
@@ -87,7 +113,7 @@ fn judge(
     if s.id == 0 || s.id - 1 != known.len() as u64 {
         return Err(StepRefused::IdNotNext);
     }
-    let mut a = Assignment::new(alloc, variables)?;
+    let mut a = Assignment::new(alloc, variables).map_err(no_memory)?;
     if !set_all_false(&mut a, s.lits.as_slice()) {
         return Err(StepRefused::BadLit);
     }

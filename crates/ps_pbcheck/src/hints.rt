@@ -1,15 +1,15 @@
 //! Propagation along the hints of a step.
 ghost use Rattle.std.specs.Prelude.{◌≡◌, option_copied};
-ghost use Rattle.ps_steps.specs.Steps.{constraint_at, after_hint, after_hints, end_of, Open};
-ghost use Rattle.ps_pbcheck.specs.Checked.{known_of};
+ghost use Rattle.ps_steps.specs.Steps.{Known, Propagation, constraint_at, known_of};
+ghost use Rattle.ps_steps.specs.Steps.{after_hint, after_hints, end_of, Open};
 ghost use Rattle.ps_pbcheck.specs.Judged.{propagation_of, IsAfter, IsEnded};
 
-use crate::refused::StepRefused;
 use ps_io::List;
 use ps_pb::{Assignment, Constraint, Effect, propagate};
+use ps_steps::StepRefused;
 
 /// The constraint of an id, from 1 on.
-#[tactic(auto, using(crate::proofs::Ids::ids))]
+#[tactic(auto, using(ps_steps::proofs::Ids::ids))]
 fn constraint_at(known: &List<Constraint>, id: u64) -> Option<&Constraint>
     ensures { option_copied result ≡ constraint_at (known_of known.now) id }
 {

@@ -3,12 +3,9 @@
 
 mod checker;
 mod hints;
-mod laws;
-mod refused;
 
 pub use checker::Checker;
-pub use laws::refutations_are_sound;
-pub use refused::StepRefused;
+pub use ps_steps::StepRefused;
 
 #[cfg(test)]
 mod tests;

@@ -7,7 +7,9 @@ use Rattle.std.proofs.lemmas.Bool.{cases_Bool}
 use Rattle.ps_steps.specs.Assignments.{Assignment, place, value_of, is_unset, holds, all_unset}
 use Rattle.ps_steps.specs.Constraints.{Constraint, IsMet, slack, is_violated, some_forced}
 use Rattle.ps_steps.specs.Weights.{true_weight, each_once, clause_of}
-use Rattle.ps_steps.specs.Steps.{Known, constraint_at, next_id, Step, lits_of, Refusal, IdNotNext, Propagation, Open, Conflict, Refused, at_constraint, after_hint, after_hints, and_false, all_false, end_of, from_start, IsLawful, added, with_step, is_contradiction, AreMet, AreLawful, ends_in_contradiction, Refutes, Entails}
+use Rattle.ps_steps.specs.declared.refused.StepRefused.{StepRefused}
+use Rattle.ps_steps.specs.declared.refused.StepRefused.TheVariants.{IdNotNext}
+use Rattle.ps_steps.specs.Steps.{Known, constraint_at, next_id, Step, lits_of, Propagation, Open, Conflict, Refused, at_constraint, after_hint, after_hints, and_false, all_false, end_of, from_start, IsLawful, added, with_step, is_contradiction, AreMet, AreLawful, ends_in_contradiction, Refutes, Entails}
 use Rattle.ps_steps.proofs.Values.{Agrees, includes-refl, with_false-agrees}
 use Rattle.ps_steps.proofs.Forcing.{met-not_violated, with_forced-agrees, among-refl}
 use Rattle.ps_steps.proofs.Linear.{met-weight, weight-met}
@@ -91,7 +93,7 @@ start-agrees : (w : List Bool) (known : Known) (hints : List ℕ) (o : Option As
 start-agrees w known hints None m s e = cc
 start-agrees w known hints (Some a) m s e = ended w (after_hints known (Open a) hints) (hints-agree w known (Open a) hints m s) e
 
-step_start : (b : Bool) (r : Option Refusal) → cond b r (Some IdNotNext) ≡ None → r ≡ None
+step_start : (b : Bool) (r : Option StepRefused) → cond b r (Some IdNotNext) ≡ None → r ≡ None
 step_start true r e = e
 step_start false r e = absurd (cc)
 

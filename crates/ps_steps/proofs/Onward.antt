@@ -1,6 +1,7 @@
 -- Lists of steps with one more step behind them.
 use Rattle.std.proofs.Common.{◌≡◌, ℕ, Option, Some, None, List, [], ◌∷◌, ◌++◌, refl, ◌∙◌}
-use Rattle.ps_steps.specs.Steps.{Known, Step, Refusal, id_of, refusal_of, IsLawful, AreLawful, with_step, with_steps, is_contradiction, ends_in_contradiction, or_later, first_refusal, Refutes, Entails, IsUnmet}
+use Rattle.ps_steps.specs.declared.refused.StepRefused.{StepRefused}
+use Rattle.ps_steps.specs.Steps.{Known, Step, id_of, refusal_of, IsLawful, AreLawful, with_step, with_steps, is_contradiction, ends_in_contradiction, or_later, first_refusal, Refutes, Entails, IsUnmet}
 use Rattle.ps_steps.proofs.Lawful.{lawful-entails, refutes-unmet}
 
 pub steps-append : (known : Known) (ss : List Step) (s : Step) → with_steps known (ss ++ s ∷ []) ≡ with_step (with_steps known ss) s
@@ -20,7 +21,7 @@ ends-append [] s = refl
 ends-append (t ∷ []) s = refl
 ends-append (t ∷ u ∷ ss) s = ends-append (u ∷ ss) s
 
-or_later-none : (id : ℕ) (r : Option Refusal) (later : Option (ℕ × Refusal)) → or_later id r later ≡ None → (r ≡ None) × (later ≡ None)
+or_later-none : (id : ℕ) (r : Option StepRefused) (later : Option (ℕ × StepRefused)) → or_later id r later ≡ None → (r ≡ None) × (later ≡ None)
 or_later-none id None later e = (refl, e)
 or_later-none id (Some why) later e = absurd (cc)
 
@@ -30,7 +31,7 @@ none-lawful v known (s ∷ ss) e =
     let h = or_later-none (id_of s) (refusal_of v known s) (first_refusal v (with_step known s) ss) e in
     (h.0, none-lawful v (with_step known s) ss h.1)
 
-none_then : (id : ℕ) (r : Option Refusal) (later : Option (ℕ × Refusal)) → r ≡ None → or_later id r later ≡ later
+none_then : (id : ℕ) (r : Option StepRefused) (later : Option (ℕ × StepRefused)) → r ≡ None → or_later id r later ≡ later
 none_then id r later e = rw e refl
 
 pub lawful-none : (v : ℕ) (known : Known) (ss : List Step) → AreLawful v known ss → first_refusal v known ss ≡ None
@@ -44,11 +45,11 @@ refusal-append v known [] s l = refl
 refusal-append v known (t ∷ ss) s l = none_then (id_of t) (refusal_of v known t) _ l.0 ∙ refusal-append v (with_step known t) ss s l.1
 
 -- and a refusal before it stays the first
-pub refusal-kept : (v : ℕ) (known : Known) (ss : List Step) (s : Step) (r : ℕ × Refusal) → first_refusal v known ss ≡ Some r → first_refusal v known (ss ++ s ∷ []) ≡ Some r
+pub refusal-kept : (v : ℕ) (known : Known) (ss : List Step) (s : Step) (r : ℕ × StepRefused) → first_refusal v known ss ≡ Some r → first_refusal v known (ss ++ s ∷ []) ≡ Some r
 refusal-kept v known [] s r e = absurd (cc)
 refusal-kept v known (t ∷ ss) s r e = by_first (refusal_of v known t) (refusal-kept v (with_step known t) ss s r) e
   where
-    by_first : (o : Option Refusal) → (first_refusal v (with_step known t) ss ≡ Some r → first_refusal v (with_step known t) (ss ++ s ∷ []) ≡ Some r)
+    by_first : (o : Option StepRefused) → (first_refusal v (with_step known t) ss ≡ Some r → first_refusal v (with_step known t) (ss ++ s ∷ []) ≡ Some r)
         → or_later (id_of t) o (first_refusal v (with_step known t) ss) ≡ Some r → or_later (id_of t) o (first_refusal v (with_step known t) (ss ++ s ∷ [])) ≡ Some r
     by_first None later e = later e
     by_first (Some why) later e = e

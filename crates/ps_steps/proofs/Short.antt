@@ -8,7 +8,9 @@ use Rattle.std.proofs.lemmas.Bool.{cases_Bool, and_parts, ltb-true}
 use Rattle.ps_steps.specs.Assignments.{Assignment, place, is_positive, with_sign, value_of, with_true, with_false, is_unset, all_unset, AreDifferent}
 use Rattle.ps_steps.specs.Constraints.{Constraint, slack, is_violated, is_forced, some_forced, with_forced}
 use Rattle.ps_steps.specs.Weights.{weighted, IsWithin}
-use Rattle.ps_steps.specs.Steps.{Known, constraint_at, next_id, Step, lits_of, hints_of, Refusal, IdNotNext, Propagation, Open, Conflict, Refused, at_constraint, after_conflict, after_hint, after_hints, and_false, all_false, end_of, from_start, IsLawful, added, with_step, AreWithin}
+use Rattle.ps_steps.specs.declared.refused.StepRefused.{StepRefused}
+use Rattle.ps_steps.specs.declared.refused.StepRefused.TheVariants.{IdNotNext}
+use Rattle.ps_steps.specs.Steps.{Known, constraint_at, next_id, Step, lits_of, hints_of, Propagation, Open, Conflict, Refused, at_constraint, after_conflict, after_hint, after_hints, and_false, all_false, end_of, from_start, IsLawful, added, with_step, AreWithin}
 use Rattle.ps_steps.proofs.Values.{unset-is}
 use Rattle.ps_steps.proofs.Forcing.{next_forced}
 use Rattle.ps_steps.proofs.Places.{after_hints-refused, and_false-none}
@@ -164,7 +166,7 @@ after_open : (known : Known) (a b : Assignment) (hint : ℕ) → AreWithin (leng
 unfolding after_hint
 after_open known a b hint h e = gone_on hint a b (constraint_at known hint) (h.at hint) e
 
-refused_next : (hint : ℕ) (o : Option Constraint) → (r : Refusal) × (after_conflict hint o ≡ Refused r)
+refused_next : (hint : ℕ) (o : Option Constraint) → (r : StepRefused) × (after_conflict hint o ≡ Refused r)
 refused_next hint None = (_, refl)
 refused_next hint (Some c) = (_, refl)
 
@@ -199,7 +201,7 @@ started : (known : Known) (hints : List ℕ) (o : Option Assignment) → from_st
 started known hints None e = absurd (cc)
 started known hints (Some a) e = (a, refl, ended (after_hints known (Open a) hints) e)
 
-if_next : (b : Bool) (r : Option Refusal) → cond b r (Some IdNotNext) ≡ None → r ≡ None
+if_next : (b : Bool) (r : Option StepRefused) → cond b r (Some IdNotNext) ≡ None → r ≡ None
 if_next true r e = e
 if_next false r e = absurd (cc)
 

@@ -1,10 +1,11 @@
 -- What holds of constraints and steps.
 use Rattle.std.specs.Prelude.{ℕ, ◌+◌, ◌<◌, ◌≤◌, ◌≡◌, ℤ, pos, ◌-ℤ◌, ◌≤ℤ◌, Bool, true, false, Some, None, List, [], ◌∷◌, ◌++◌, length, filter, All, ◌⊎◌, ◌↔◌}
 use Rattle.std.specs.List.{list_any}
+use Rattle.ps_steps.specs.declared.refused.StepRefused.{StepRefused}
 use Rattle.ps_steps.specs.Assignments.{Assignment, place, value_of, holds, full, values_of, IsComplete, AreDifferent}
 use Rattle.ps_steps.specs.Constraints.{Constraint, IsMet, is_open, slack, is_violated, with_forced, Forces, Covers}
 use Rattle.ps_steps.specs.Weights.{Weighted, true_weight, constraint_of, clause_of, weighted, IsWithin, IsPlain, IsNormal}
-use Rattle.ps_steps.specs.Steps.{Known, Step, id_of, lits_of, hints_of, AreWithin, Refusal, refusal_of, IsLawful, added, with_step, with_steps, is_contradiction, AreLawful, ends_in_contradiction, or_later, first_refusal, Refutes, AreMet, Entails, IsUnmet}
+use Rattle.ps_steps.specs.Steps.{Known, Step, id_of, lits_of, hints_of, AreWithin, refusal_of, IsLawful, added, with_step, with_steps, is_contradiction, AreLawful, ends_in_contradiction, or_later, first_refusal, Refutes, AreMet, Entails, IsUnmet}
 
 -- ---- constraints
 -- the constraint of weighted literals is met where the true ones weigh at least so much, and nowhere else
@@ -103,7 +104,7 @@ OneMoreIsRefused = (variables : ℕ) (known : Known) (ss : List Step) (s : Step)
     → first_refusal variables known (ss ++ s ∷ []) ≡ or_later (id_of s) (refusal_of variables (with_steps known ss) s) None
 
 abbrev pub RefusalsStay : Type 0
-RefusalsStay = (variables : ℕ) (known : Known) (ss : List Step) (s : Step) (r : ℕ × Refusal) → first_refusal variables known ss ≡ Some r
+RefusalsStay = (variables : ℕ) (known : Known) (ss : List Step) (s : Step) (r : ℕ × StepRefused) → first_refusal variables known ss ≡ Some r
     → first_refusal variables known (ss ++ s ∷ []) ≡ Some r
 
 -- a lawful step has literals of different variables

@@ -1,5 +1,7 @@
 -- The steps of a refutation, and when one is lawful.
 use Rattle.std.specs.Prelude.{ℕ, zero, suc, ◌+◌, ◌==◌, nat_lt, ◌≡◌, ℤ, Bool, true, false, ◌&&◌, if◌then◌else◌, Option, Some, None, List, [], ◌∷◌, ◌++◌, length, map, slice_index_or, fold}
+use Rattle.ps_steps.specs.declared.refused.StepRefused.{StepRefused}
+use Rattle.ps_steps.specs.declared.refused.StepRefused.TheVariants.{IdNotNext, BadLit, UnknownHint, HintIdle, NoConflict}
 use Rattle.ps_steps.specs.Assignments.{Assignment, place, value_of, with_false, is_unset, all_unset}
 use Rattle.ps_steps.specs.Constraints.{Constraint, IsMet, slack, is_violated, some_forced, with_forced}
 use Rattle.ps_steps.specs.Weights.{clause_of, IsWithin}
@@ -38,16 +40,11 @@ lits_of s = s.lits
 abbrev pub hints_of : Step → List ℕ
 hints_of s = s.hints
 
--- why a step isn't lawful
-pub data Refusal : Type 0 where
-  IdNotNext BadLit NoConflict : Refusal
-  UnknownHint HintIdle : (hint : ℕ) → Refusal
-
 -- how far propagation along the hints has come: it goes on, has met a violated constraint, or was refused
 pub data Propagation : Type 0 where
   Open : (a : Assignment) → Propagation
   Conflict : Propagation
-  Refused : (why : Refusal) → Propagation
+  Refused : (why : StepRefused) → Propagation
 
 -- a hint's constraint is violated, or sets what it forces, or is idle
 abbrev pub at_constraint : ℕ → Assignment → Option Constraint → Propagation
@@ -78,18 +75,18 @@ and_false (Some a) l = if nat_lt (place l) (length a) && is_unset (value_of a l)
 unfoldable pub all_false : ℕ → List ℤ → Option Assignment
 all_false variables lits = fold and_false (Some (all_unset variables)) lits
 
-abbrev pub end_of : Propagation → Option Refusal
+abbrev pub end_of : Propagation → Option StepRefused
 end_of (Open a) = Some NoConflict
 end_of Conflict = None
 end_of (Refused why) = Some why
 
-abbrev pub from_start : Known → List ℕ → Option Assignment → Option Refusal
+abbrev pub from_start : Known → List ℕ → Option Assignment → Option StepRefused
 from_start known hints None = Some BadLit
 from_start known hints (Some a) = end_of (after_hints known (Open a) hints)
 
 -- why a step isn't lawful after the known constraints, or none where it is: its id isn't the next one; a literal's variable is
 -- past the last or stands twice; or, with all its literals set false, propagation along the hints finds no conflict
-abbrev pub refusal_of : ℕ → Known → Step → Option Refusal
+abbrev pub refusal_of : ℕ → Known → Step → Option StepRefused
 refusal_of variables known s =
     if id_of s == next_id known then from_start known (hints_of s) (all_false variables (lits_of s)) else Some IdNotNext
 
@@ -118,11 +115,11 @@ AreLawful variables known [] = Unit {0}
 AreLawful variables known (s ∷ ss) = IsLawful variables known s × AreLawful variables (with_step known s) ss
 
 -- the id of the first step that isn't lawful after those before it, and why it isn't
-abbrev pub or_later : ℕ → Option Refusal → Option (ℕ × Refusal) → Option (ℕ × Refusal)
+abbrev pub or_later : ℕ → Option StepRefused → Option (ℕ × StepRefused) → Option (ℕ × StepRefused)
 or_later id None later = later
 or_later id (Some why) later = Some (id, why)
 
-abbrev pub first_refusal : ℕ → Known → List Step → Option (ℕ × Refusal)
+abbrev pub first_refusal : ℕ → Known → List Step → Option (ℕ × StepRefused)
 first_refusal variables known [] = None
 first_refusal variables known (s ∷ ss) = or_later (id_of s) (refusal_of variables known s) (first_refusal variables (with_step known s) ss)
 

@@ -1,5 +1,5 @@
 use Rattle.std.proofs.Common.{sym, ◌∙◌}
-use Rattle.ps_pbcheck.proofs.Ids.{constraint_at-known}
+use Rattle.ps_steps.proofs.Ids.{constraint_at-known}
 use Rattle.ps_pbcheck.proofs.hints.constraint_at.Goals as goal
 
 pub returns : goal.returns
