@@ -2,6 +2,7 @@
 use Rattle.std.specs.Prelude.{ℕ, ◌<◌, ◌≢◌, Bool, true, false, not, ◌&&◌, ◌||◌, List, [], ◌∷◌, ◌++◌, length, map, slice_index_or, slice_get, Some, ◌≡◌, ◌⊎◌, Contains, AllPairs}
 use Rattle.ps_meaning.specs.Formula.{World, Formula, Truth, is_true, agree}
 use Rattle.ps_meaning.specs.Formula as tree
+use Rattle.ps_formula.specs.declared.limits.TheConstants.{MOST_ATOMS, MOST_NODES}
 use Rattle.ps_formula.specs.declared.node.Node.{Node}
 use Rattle.ps_formula.specs.declared.node.Node.TheVariants as node
 
@@ -29,7 +30,7 @@ trees ns = trees_from [] ns
 abbrev pub Fits : ℕ → Node → Type 0
 Fits n node.True = Unit {0}
 Fits n node.False = Unit {0}
-Fits n (node.Atom a) = a < 128
+Fits n (node.Atom a) = a < MOST_ATOMS
 Fits n (node.Not a) = a < n
 Fits n (node.And a b) = (a < n) × (b < n)
 Fits n (node.Or a b) = (a < n) × (b < n)
@@ -40,6 +41,14 @@ Fits n (node.Iff a b) = (a < n) × (b < n)
 pub record AreNodes (ns : List Node) : Type 0 where
   pub fit : (i : ℕ) (d : Node) → i < length ns → Fits i (slice_index_or ns i d)
   pub once : AllPairs (λ m n. m ≢ n) ns
+
+-- the tree of each node is its own over the trees of its operands
+pub record HaveOwnTrees (ns : List Node) : Type 0 where
+  pub over_operands : (i : ℕ) (d : Node) → i < length ns → slice_index_or (trees ns) i Truth ≡ tree_over (trees ns) (slice_index_or ns i d)
+
+-- there are as many nodes as there may be, and this one is new
+abbrev pub IsFullFor : Node → List Node → Type 0
+IsFullFor n ns = (length ns ≡ MOST_NODES) × ¬ Contains ns n
 
 -- an atom's number is below this
 abbrev pub AtomBelow : ℕ → Node → Type 0

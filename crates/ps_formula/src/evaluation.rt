@@ -24,7 +24,8 @@ fn value_of(node: Node, values: &[bool], world: &[bool]) -> bool
     }
 }
 
-/// The truth value of each node in a world, by the node's number. The world has a value for each atom.
+/// The truth value of each node in a world, by the node's number. The world has a value for each
+/// atom.
 pub fn eval(alloc: Global, formulas: &Formulas, world: &World) -> Result<Vec<bool>, NoMemory>
     requires { All (AtomBelow (length world.now)) formulas.now }
     ensures truths { IfOk result (λ v. v.items ≡ truths formulas.now world.now) }

@@ -1,8 +1,8 @@
 -- Worlds as keys of a set, and one more world.
-use Rattle.std.proofs.Common.{◌≡◌, ◌≢◌, ◌⊎◌, inl, inr, ◌↔◌, ℕ, zero, suc, ◌+◌, ◌^◌, ◌<◌, ◌≤◌, Bool, true, false, List, [], ◌∷◌, ◌++◌, length, get_or, slice_get, position, Some, Err, IsErrOf, Contains, refl, sym, ap, ◌∙◌, true≢false, if◌then◌else◌, arith}
+use Rattle.std.proofs.Common.{◌≡◌, ◌≢◌, ◌⊎◌, inl, inr, ◌↔◌, ℕ, zero, suc, ◌+◌, ◌<◌, ◌≤◌, Bool, true, false, List, [], ◌∷◌, ◌++◌, length, get_or, slice_get, position, Some, Err, IsErrOf, Contains, refl, sym, ap, ◌∙◌, true≢false, if◌then◌else◌, arith}
 use Rattle.std.specs.Cmp.{booleans_Decides, bool_eq_equiv}
 use Rattle.std.specs.Cmp.Lexicographic.{pointwise, lists_equiv}
-use Rattle.std.specs.List.{AllPairs, list_any}
+use Rattle.std.specs.List.{list_any}
 use Rattle.std.proofs.Math.Bool.{beq}
 use Rattle.std.proofs.lemmas.Bool.{cases_lt, cases_eq}
 use Rattle.std.proofs.lemmas.Slice.Eq.{slice_eq-Decides}
@@ -13,15 +13,12 @@ use Rattle.std.proofs.lemmas.Option.{none-some, slice_get-get_or, slice_get_with
 use Rattle.indexmap.specs.IndexSet.{insert_key}
 use Rattle.ps_pool.specs.declared.pool.PoolError.{PoolError}
 use Rattle.ps_pool.specs.declared.pool.PoolError.TheVariants.{Present}
-use Rattle.ps_pool.specs.Worlds.{world_of}
+use Rattle.ps_pool.specs.Worlds.{AreDifferent, world_of}
+use Rattle.ps_pool.specs.declared.pool.TheConstants.{MOST_WORLDS}
 
 -- `==` of two worlds
 abbrev pub world_eq : List Bool → List Bool → Bool
 world_eq = pointwise beq
-
--- no world stands twice
-abbrev pub Once : List (List Bool) → Type 0
-Once ws = AllPairs (λ u v. u ≢ v) ws
 
 -- equal worlds are the same list
 same_world : (x y : List Bool) → world_eq x y ≡ true → x ≡ y
@@ -34,7 +31,7 @@ placed ws w i e =
     slice_get-get_or ws i [] f.0 ∙ ap Some (sym (same_world w (get_or ws i []) f.1))
 
 -- a world has one place
-one_place : (ws : List (List Bool)) (w : List Bool) (i j : ℕ) → Once ws → slice_get ws i ≡ Some w → slice_get ws j ≡ Some w → i ≡ j
+one_place : (ws : List (List Bool)) (w : List Bool) (i j : ℕ) → AreDifferent ws → slice_get ws i ≡ Some w → slice_get ws j ≡ Some w → i ≡ j
 one_place ws w i j once a b = by_order (cases_eq i j)
   where
     same : get_or ws i [] ≡ get_or ws j []
@@ -58,7 +55,7 @@ no_number ws w zero e h = none-some w h
 no_number ws w (suc i) e h = absent ws w e (i, slice_get_within ws i w h, get_or_from_slice_get ws i w w h)
 
 -- a world that is found has the number after its place, and no other
-pub one_number : (ws : List (List Bool)) (w : List Bool) (i at : ℕ) → Once ws → Some i ≡ position (world_eq w) ws
+pub one_number : (ws : List (List Bool)) (w : List Bool) (i at : ℕ) → AreDifferent ws → Some i ≡ position (world_eq w) ws
     → IsErrOf {T = ℕ} {E = PoolError} (Err (Present (i + 1))) (Present at) ↔ (world_of ws at ≡ Some w)
 one_number ws w i zero once e =
     ((λ f. let n : i + 1 ≡ 0 = cc in absurd (omega arith)), (λ h. absurd (none-some w h)))
@@ -72,8 +69,8 @@ grown : (ws new : List (List Bool)) (w : List Bool) → false ≡ list_any (worl
 grown ws new w e k = k ∙ ap (λ b. if b then ws else ws ++ w ∷ []) (sym e)
 
 -- one more world that wasn't found stands once
-pub added : (ws new : List (List Bool)) (w : List Bool) → Once ws → length ws + 1 < 2 ^ 32 → false ≡ list_any (world_eq w) ws
-    → new ≡ insert_key world_eq ws w → Once new × (length new < 2 ^ 32)
+pub added : (ws new : List (List Bool)) (w : List Bool) → AreDifferent ws → length ws < MOST_WORLDS → false ≡ list_any (world_eq w) ws
+    → new ≡ insert_key world_eq ws w → AreDifferent new × (length new ≤ MOST_WORLDS)
 added ws new w once room e k =
     rw (grown ws new w e k) (
       all_pairs_push (λ u v. u ≢ v) ws w once (λ i d lt same. absent ws w e (i, lt, (get_or_default ws i w d lt ∙ same))),

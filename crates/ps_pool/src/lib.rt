@@ -7,7 +7,7 @@ mod pool;
 
 pub use col::Col;
 pub use event::{Event, Trace};
-pub use pool::{Pool, PoolError};
+pub use pool::{MOST_WORLDS, Pool, PoolError};
 
 #[cfg(test)]
 mod tests;

@@ -1,11 +1,15 @@
 //! Worlds in order, without repeats.
-ghost use Rattle.std.specs.Prelude.{◌≡◌, ◌≢◌, ◌↔◌, ◌++◌, ◌∷◌, [], ◌+◌, ◌^◌, ◌<◌, ℕ, length, AllPairs, OnOk, OnErr, IfOk, Some, option_copied, IsErrOf};
-ghost use Rattle.ps_pool.specs.Worlds.{world_of};
+ghost use Rattle.std.specs.Prelude.{◌≡◌, ◌↔◌, ◌++◌, ◌∷◌, [], ◌+◌, ◌<◌, ℕ, length, option_copied};
+ghost use Rattle.std.specs.Prelude.{OnOk, OnErr, IfOk, IsErrOf};
+ghost use Rattle.ps_pool.specs.Worlds.{AreDifferent, HasNumber, world_of};
 
 use indexmap::IndexSet;
 use ps_formula::World;
 use std::alloc::Global;
 use std::marker::Model;
+
+/// The most worlds of a pool.
+pub const MOST_WORLDS: u32 = u32::MAX;
 
 /// Why a world was not added.
 #[derive(Clone, Copy, Debug, PartialEq, Eq)]
@@ -22,13 +26,15 @@ pub struct Pool {
 }
 
 impl Model for Pool {
-    ghost use Rattle.std.specs.Prelude.{List, Bool, ◌≢◌, ◌^◌, ◌<◌, length, AllPairs};
+    ghost use Rattle.std.specs.Prelude.{List, Bool, ◌≤◌, length};
+    ghost use Rattle.ps_pool.specs.Worlds.{AreDifferent};
+    ghost use Rattle.ps_pool.specs.declared.pool.TheConstants.{MOST_WORLDS};
 
     ghost Value = { List (List Bool) };
 
     ghost view = { λ p. p.worlds.keys };
 
-    ghost invariant = { λ p. AllPairs (λ u v. u ≢ v) p.worlds.keys × (length p.worlds.keys < 2 ^ 32) };
+    ghost invariant = { λ p. AreDifferent p.worlds.keys × (length p.worlds.keys ≤ MOST_WORLDS) };
 }
 
 impl Pool {
@@ -44,7 +50,7 @@ impl Pool {
     /// The number of worlds.
     pub fn len(&self) -> u32
         ensures value { result ≡ length self.now }
-        ensures once { AllPairs (λ u v. u ≢ v) self.now }
+        ensures once { AreDifferent self.now }
     {
         self.worlds.len() as u32
     }
@@ -59,13 +65,13 @@ impl Pool {
         self.worlds.get_index(number as usize - 1)
     }
 
-    /// Adds a world, and answers its number. A world that is there is refused with the number that it has;
-    /// a refused world is dropped.
+    /// Adds a world, and answers its number. A world that is there is refused with the number that
+    /// it has; a refused world is dropped.
     pub fn add(&mut self, world: World) -> Result<u32, PoolError>
-        requires room { length self.old + 1 < 2 ^ 32 }
+        requires room { length self.old < MOST_WORLDS }
         ensures number { IfOk result (λ number. number ≡ length self.old + 1) }
         ensures added { OnOk result (self.new ≡ self.old ++ world ∷ []) }
-        ensures present { (at : ℕ) → IsErrOf result (PoolError.Present at) ↔ (world_of self.old at ≡ Some world) }
+        ensures present { (at : ℕ) → IsErrOf result (PoolError.Present at) ↔ HasNumber self.old world at }
         ensures same { OnErr result (self.new ≡ self.old) }
     {
         if let Some(i) = self.worlds.get_index_of(&world) {
