@@ -20,3 +20,8 @@ IsPropagated known a (Some id) = IsConflict known a id
 pub record IsDone (form : Form) (known : Known) (a : Assignment) : Type 0 where
   pub at_rest : IsAtRest known a
   pub atoms : AtomsAreSet form a
+
+-- where a search stops: at a violated constraint, or where it is done
+abbrev pub IsAdvanced : Form → Known → Assignment → Option ℕ → Type 0
+IsAdvanced form known a None = IsDone form known a
+IsAdvanced form known a (Some id) = IsConflict known a id

@@ -39,12 +39,12 @@ pub fn learn(
     requires reasons { AreReasons trail.now.variables (known_of known.now) trail.now.entries }
     requires conflict { IsConflict (known_of known.now) (values trail.now) conflict }
     requires few { length known.now < 2 ^ 41 }
-    ensures lawful { IfOk result (λ lesson. IsLawful trail.now.variables (known_of known.now) lesson.step) }
-    ensures asserting { IfOk result (λ lesson. IsAsserting trail.now (lits_of lesson.step) lesson.level) }
-    ensures literals { IfOk result (λ lesson. All (IsLit trail.now.variables) (lits_of lesson.step)) }
-    ensures few_literals { IfOk result (λ lesson. length (lits_of lesson.step) ≤ trail.now.variables) }
-    ensures hints { IfOk result (λ lesson. All (IsIdUpTo (length known.now)) (hints_of lesson.step)) }
-    ensures few_hints { IfOk result (λ lesson. length (hints_of lesson.step) ≤ trail.now.variables + 1) }
+    ensures lawful { IfOk result (λ x. IsLawful trail.now.variables (known_of known.now) x.step) }
+    ensures asserting { IfOk result (λ x. IsAsserting trail.now (lits_of x.step) x.level) }
+    ensures literals { IfOk result (λ x. All (IsLit trail.now.variables) (lits_of x.step)) }
+    ensures few_literals { IfOk result (λ x. length (lits_of x.step) ≤ trail.now.variables) }
+    ensures hints { IfOk result (λ x. All (IsIdUpTo (length known.now)) (hints_of x.step)) }
+    ensures few_hints { IfOk result (λ x. length (hints_of x.step) ≤ trail.now.variables + 1) }
     ensures level { IfOk result (λ lesson. lesson.level ≤ level trail.now) }
 {
     trail.entries();

@@ -1,0 +1,75 @@
+-- How a search ends.
+use Rattle.std.proofs.Common.{◌≡◌, ℕ, zero, suc, Bool, true, false, Option, Some, None, List, [], ◌∷◌, ◌++◌, length, get_or, map, refl, sym, ap, ◌∙◌, subst}
+use Rattle.std.specs.Prelude.{slice_get}
+use Rattle.std.specs.List.{All}
+use Rattle.std.proofs.lemmas.List.Elements.{All-push}
+use Rattle.std.proofs.lemmas.Option.{slice_get-get_or, slice_get_within, get_or_from_slice_get}
+use Rattle.ps_steps.specs.Assignments.{Assignment, full, values_of}
+use Rattle.ps_steps.specs.Constraints.{Constraint, IsMet, is_violated}
+use Rattle.ps_steps.specs.Weights.{IsWithin}
+use Rattle.ps_steps.specs.Steps.{Known, known_of, constraint_at, Step, with_step, with_steps, IsLawful, AreLawful, is_contradiction, AreMet}
+use Rattle.ps_steps.proofs.Full.{complete-full, full-met}
+use Rattle.ps_steps.proofs.Ids.{at-id, at-zero, kept-all}
+use Rattle.ps_steps.proofs.Onward.{lawful-append, ends-append}
+use Rattle.ps_steps.proofs.Lawful.{refutes-unmet}
+use Rattle.ps_forms.specs.Forms.{Form, clause_at, MeetsForm, AreInside}
+use Rattle.ps_forms.specs.Settled.{IsIdle, AreIdle, AllAreSet, IsSettled}
+use Rattle.ps_learn.specs.Rest.{IsDone}
+use Rattle.ps_sat.specs.Searches.{first_known}
+
+front_get : (cs : List Constraint) (g c : Constraint) (i : ℕ) → slice_get cs i ≡ Some c → slice_get (cs ++ g ∷ []) i ≡ Some c
+front_get [] g c i h = absurd (cc)
+front_get (x ∷ cs) g c zero h = h
+front_get (x ∷ cs) g c (suc i) h = front_get cs g c i h
+
+last_get : (cs : List Constraint) (g : Constraint) → slice_get (cs ++ g ∷ []) (length cs) ≡ Some g
+last_get [] g = refl
+last_get (x ∷ cs) g = last_get cs g
+
+by_form : (f : Form) (goal : Constraint) (id : ℕ) (c : Constraint) → clause_at f id ≡ Some c → constraint_at (first_known f goal) id ≡ Some c
+by_form f goal zero c h = absurd (cc)
+by_form f goal (suc i) c h = at-id (f.clauses ++ goal ∷ []) i ∙ front_get f.clauses goal c i h
+
+complete : (f : Form) (a : Assignment) → length a ≡ f.variables → AllAreSet f a → a ≡ full (values_of a)
+complete f a h s = complete-full a (record { at = λ var some le. s.at var some (rw (← h) le) })
+
+length_full : (w : List Bool) → length (full w) ≡ length w
+length_full [] = refl
+length_full (b ∷ w) = ap suc (length_full w)
+
+-- a search that is done has a full assignment that meets the form and the goal
+pub found : (f : Form) (goal : Constraint) (ss : List Step) (known : Known) (a : Assignment) → known ≡ with_steps (first_known f goal) ss → IsSettled f → AreInside f → IsWithin f.variables goal → length a ≡ f.variables → IsDone f known a
+    → (w : List Bool) × (a ≡ map Some w) × (length w ≡ f.variables) × MeetsForm w f × IsMet w goal
+found f goal ss known a e settled inside goal_in len done =
+    let idle : AreIdle f a = record { at = λ id c h. done.at_rest.at id c (rw e (kept-all (first_known f goal) ss id c (by_form f goal id c h))) } in
+    let q : a ≡ full (values_of a) = complete f a len (settled.settled a done.atoms idle) in
+    let w = values_of a in
+    let wl : length w ≡ f.variables = sym (length_full w) ∙ sym (ap length q) ∙ len in
+    let own : IsIdle goal a = done.at_rest.at (suc (length f.clauses)) goal (rw e (kept-all (first_known f goal) ss (suc (length f.clauses)) goal (at-id (f.clauses ++ goal ∷ []) (length f.clauses) ∙ last_get f.clauses goal))) in (
+      w,
+      q,
+      wl,
+      (λ k d lt. full-met w (get_or f.clauses k d) (rw wl (inside k d lt)) (subst (λ x. is_violated (get_or f.clauses k d) x ≡ false) q (idle.at (suc k) (get_or f.clauses k d) (slice_get-get_or f.clauses k d lt)).unviolated)),
+      full-met w goal (rw wl goal_in) (subst (λ x. is_violated goal x ≡ false) q own.unviolated),
+    )
+
+of_id : (cs : List Constraint) (id : ℕ) (c : Constraint) → constraint_at (known_of cs) id ≡ Some c → (k : ℕ) × (slice_get cs k ≡ Some c)
+of_id cs zero c h = absurd (at-zero cs c h)
+of_id cs (suc i) c h = (i, sym (at-id cs i) ∙ h)
+
+all_known : (w : List Bool) (f : Form) (goal : Constraint) → MeetsForm w f → IsMet w goal → AreMet w (first_known f goal)
+all_known w f goal all own = record {
+  at = λ id c e.
+      let cs = f.clauses ++ goal ∷ [] in
+      let q = of_id cs id c e in
+      let met : All (IsMet w) cs = All-push (IsMet w) f.clauses goal all own in
+      rw (get_or_from_slice_get cs q.0 c c q.1) at (met q.0 c (slice_get_within cs q.0 c q.1));
+}
+
+-- a contradiction refutes the form and the goal
+pub refuted : (f : Form) (goal : Constraint) (cs : List Constraint) (ss : List Step) (x : Step) → AreLawful f.variables (first_known f goal) ss → known_of cs ≡ with_steps (first_known f goal) ss → IsLawful f.variables (known_of cs) x → is_contradiction x ≡ true → (w : List Bool) → MeetsForm w f → IsMet w goal → ⊥
+refuted f goal cs ss x all known lawful non w form own =
+    refutes-unmet w f.variables (first_known f goal) (ss ++ x ∷ []) (record {
+      lawful = lawful-append f.variables (first_known f goal) ss x all (subst (λ k. IsLawful f.variables k x) known lawful);
+      contradiction = ends-append ss x ∙ non;
+    }) (all_known w f goal form own)

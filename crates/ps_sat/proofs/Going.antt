@@ -1,0 +1,107 @@
+-- How far a search has come.
+use Rattle.std.proofs.Common.{◌≡◌, ℕ, ◌+◌, ◌<◌, ℤ, Bool, true, false, Option, Some, List, [], ◌∷◌, ◌++◌, length, length-append, take, map, arith, refl, sym, ap, ◌∙◌, subst}
+use Rattle.std.specs.Option.{option_map}
+use Rattle.std.specs.List.{All}
+use Rattle.std.proofs.lemmas.List.Elements.{All-nil, All-push}
+use Rattle.ps_steps.specs.Assignments.{Assignment, place}
+use Rattle.ps_steps.specs.Constraints.{Constraint, IsMet}
+use Rattle.ps_steps.specs.Weights.{IsWithin, clause_of}
+use Rattle.ps_steps.specs.Steps.{known_of, Step, added, with_step, with_steps, IsLawful, is_contradiction}
+use Rattle.ps_steps.proofs.Within.{clause-within}
+use Rattle.ps_steps.proofs.Ids.{known_of-append}
+use Rattle.ps_steps.proofs.Onward.{lawful-append, steps-append}
+use Rattle.ps_forms.specs.Forms.{Form, MeetsForm, AreInside}
+use Rattle.ps_forms.specs.Settled.{IsSettled}
+use Rattle.ps_log.specs.Logs.{Telling, Starts, Grows, Stays}
+use Rattle.ps_learning.specs.Trails.{Trail, values, IsFresh, AreReasons}
+use Rattle.ps_learning.proofs.Entries.{reasons-take, reasons-more, reasons-none, length-values}
+use Rattle.ps_learn.specs.Rest.{IsDone}
+use Rattle.ps_sat.specs.Searches.{first_known, Holds, Handed, IsHeld}
+use Rattle.ps_sat.specs.declared.searching.Outcome.{Outcome}
+use Rattle.ps_sat.proofs.Ends.{found, refuted}
+
+-- a search: the trail's reasons are known, and what is known is the form, the goal and the steps that were handed over
+pub record Searching (f : Form) (goal : Constraint) (told : Bool) (new : Telling) (cs : List Constraint) (t : Trail) (learned : ℕ) : Type 0 where
+  pub same : t.variables ≡ f.variables
+  pub handed : Handed f goal told new
+  pub known : known_of cs ≡ with_steps (first_known f goal) handed.steps
+  pub reasons : AreReasons f.variables (known_of cs) t.entries
+  pub inside : All (IsWithin f.variables) cs
+  pub count : length handed.steps ≡ learned
+  pub literals : All (λ x. is_contradiction x ≡ false) handed.steps
+
+pub begun : (old new : Telling) (goal : Constraint) → Starts old new goal → Holds new.tells new goal []
+begun old new goal st = λ b. (let r = st.1 b in (b, r.0, r.1))
+
+-- what is held by a log that told before is held by one that tells now
+pub told-before : (f : Form) (goal : Constraint) (old start new : Telling) (conflicts : ℕ) (o : Outcome) → Starts old start goal → IsHeld f goal conflicts start.tells new o → IsHeld f goal conflicts old.tells new o
+told-before f goal old start new conflicts o st h = (record { steps = h.0.steps; held = λ b. h.0.held (st.0 b); lawful = h.0.lawful }, h.1)
+
+pub told-handed : (f : Form) (goal : Constraint) (old start new : Telling) → Starts old start goal → Handed f goal start.tells new → Handed f goal old.tells new
+told-handed f goal old start new st h = record { steps = h.steps; held = λ b. h.held (st.0 b); lawful = h.lawful }
+
+-- nothing was handed over yet
+pub handed-none : (f : Form) (goal : Constraint) (told : Bool) (new : Telling) → Holds told new goal [] → Handed f goal told new
+handed-none f goal told new st = record { steps = []; held = st; lawful = tt }
+
+pub begins : (f : Form) (goal : Constraint) (told : Bool) (new : Telling) (cs : List Constraint) (t : Trail) → Holds told new goal [] → cs ≡ f.clauses ++ goal ∷ [] → t ≡ record { variables = f.variables; entries = [] } → AreInside f → IsWithin f.variables goal → Searching f goal told new cs t 0
+begins f goal told new cs t st e q inside own = rw (e, q) (record {
+  same = refl;
+  handed = record { steps = []; held = st; lawful = tt };
+  known = refl;
+  reasons = reasons-none f.variables (first_known f goal);
+  inside = All-push (IsWithin f.variables) f.clauses goal inside own;
+  count = refl;
+  literals = All-nil (λ x. is_contradiction x ≡ false);
+})
+
+pub hold-more : (told : Bool) (old new : Telling) (c : Constraint) (ss : List Step) (x : Step) → Holds told old c ss → Grows old new (x ∷ []) → Holds told new c (ss ++ x ∷ [])
+hold-more told old new c ss x h grows = λ b.
+    let was = h b in
+    let now = grows was.0 in
+    (now.0, now.1 ∙ was.1, now.2 ∙ ap (option_map (λ ss. ss ++ x ∷ [])) was.2)
+
+-- one step more was handed over
+unfoldable pub handed-more : (f : Form) (goal : Constraint) (told : Bool) (old new : Telling) (cs : List Constraint) (t : Trail) (learned : ℕ) (x : Step) → Searching f goal told old cs t learned → IsLawful f.variables (known_of cs) x → Grows old new (x ∷ []) → Handed f goal told new
+handed-more f goal told old new cs t learned x h lawful grows = record {
+  steps = h.handed.steps ++ x ∷ [];
+  held = hold-more told old new goal h.handed.steps x h.handed.held grows;
+  lawful = lawful-append f.variables (first_known f goal) h.handed.steps x h.handed.lawful (subst (λ k. IsLawful f.variables k x) h.known lawful);
+}
+
+-- none was
+pub handed-stays : (f : Form) (goal : Constraint) (told : Bool) (old new : Telling) (cs : List Constraint) (t : Trail) (learned : ℕ) → Searching f goal told old cs t learned → Stays old new → Handed f goal told new
+handed-stays f goal told old new cs t learned h stays = record {
+  steps = h.handed.steps;
+  held = λ b. let was = h.handed.held b in let now = stays was.0 in (now.0, now.1 ∙ was.1, now.2 ∙ was.2);
+  lawful = h.handed.lawful;
+}
+
+-- the search goes on after a step
+pub goes-on : (f : Form) (goal : Constraint) (told : Bool) (old new : Telling) (cs cs' : List Constraint) (t u w : Trail) (learned k : ℕ) (x : Step) → Searching f goal told old cs t learned → u.variables ≡ f.variables → AreReasons f.variables (known_of cs) u.entries → IsLawful f.variables (known_of cs) x → Grows old new (x ∷ [])
+    → cs' ≡ cs ++ added x ∷ [] → All (λ l. place l < f.variables) x.lits → is_contradiction x ≡ false → w.variables ≡ u.variables → w.entries ≡ take k u.entries → Searching f goal told new cs' w (learned + 1)
+unfolding handed-more
+goes-on f goal told old new cs cs' t u w learned k x h tu reasons lawful grows more inside non same cut =
+    let now : known_of cs' ≡ with_step (known_of cs) x = ap known_of more ∙ known_of-append cs (added x) in
+    record {
+      same = same ∙ tu;
+      handed = handed-more f goal told old new cs t learned x h lawful grows;
+      known = now ∙ ap (λ y. with_step y x) h.known ∙ sym (steps-append (first_known f goal) h.handed.steps x);
+      reasons = rw (now, cut) (reasons-take f.variables (with_step (known_of cs) x) u.entries k (reasons-more f.variables (known_of cs) (Some (added x)) u.entries reasons));
+      inside = rw more (All-push (IsWithin f.variables) cs (clause_of x.lits) h.inside (clause-within f.variables x.lits inside));
+      count = omega (arith, h.count, length-append h.handed.steps (x ∷ []));
+      literals = All-push (λ y. is_contradiction y ≡ false) h.handed.steps x h.literals non;
+    }
+
+-- a full assignment was found
+pub search-found : (f : Form) (goal : Constraint) (told : Bool) (new : Telling) (cs : List Constraint) (t u : Trail) (learned : ℕ) (a : Assignment) → Searching f goal told new cs t learned → u.variables ≡ t.variables → IsSettled f → AreInside f → IsWithin f.variables goal → IsDone f (known_of cs) (values u) → a ≡ values u
+    → (w : List Bool) × (a ≡ map Some w) × (length w ≡ f.variables) × MeetsForm w f × IsMet w goal
+search-found f goal told new cs t u learned a h same settled inside own done e =
+    found f goal h.handed.steps (known_of cs) a h.known settled inside own (ap length e ∙ length-values u.variables u.entries ∙ same ∙ h.same) (subst (λ b. IsDone f (known_of cs) b) (sym e) done)
+
+-- the form and the goal are refuted
+pub search-refuted : (f : Form) (goal : Constraint) (told : Bool) (new : Telling) (cs : List Constraint) (t : Trail) (learned : ℕ) (x : Step) → Searching f goal told new cs t learned → IsLawful f.variables (known_of cs) x → is_contradiction x ≡ true → (w : List Bool) → MeetsForm w f → IsMet w goal → ⊥
+search-refuted f goal told new cs t learned x h lawful non = refuted f goal cs h.handed.steps x h.handed.lawful h.known lawful non
+
+pub fresh-decided : (n : ℕ) (t : Trail) (a : Assignment) (l : ℤ) → a ≡ values t → t.variables ≡ n → IsFresh n a l → IsFresh t.variables (values t) l
+fresh-decided n t a l e q f = subst (λ m. IsFresh m (values t) l) (sym q) (subst (λ b. IsFresh n b l) e f)

@@ -1,0 +1,95 @@
+-- What holds of the steps that are handed over.
+use Rattle.std.proofs.Common.{◌≡◌, ◌≢◌, ℕ, ◌+◌, ◌<◌, ◌≤◌, ◌^◌, ℤ, Bool, true, false, Option, Some, None, Result, Ok, Err, List, [], ◌∷◌, ◌++◌, length, take, cond, get_or, arith, refl, sym, ap, ◌∙◌, subst, unsigned_abs, ◌⊎◌, inl, inr}
+use Rattle.std.specs.Prelude.{◌==◌, IfOk, IfErr, IsErr}
+use Rattle.std.specs.List.{All}
+use Rattle.std.proofs.lemmas.Bool.{eqb-true, false≢true}
+use Rattle.ps_steps.specs.Assignments.{Assignment, place}
+use Rattle.ps_steps.specs.Constraints.{Constraint, IsMet}
+use Rattle.ps_steps.specs.Steps.{Known, known_of, next_id, Step, lits_of, hints_of, Refusal, IdNotNext, added, IsLawful, is_contradiction}
+use Rattle.ps_steps.proofs.Ids.{known_of-length}
+use Rattle.ps_forms.specs.Forms.{Form, MeetsForm}
+use Rattle.ps_log.specs.Logs.{Telling, Starts, Grows}
+use Rattle.ps_log.specs.Limits.{IsStepWithin}
+use Rattle.ps_learning.specs.Known.{IsIdUpTo}
+use Rattle.ps_learning.specs.Trails.{Trail, IsLit, AreReasons}
+use Rattle.ps_sat.specs.Searches.{Handed, IsHeld, IsLogged}
+use Rattle.ps_sat.specs.declared.searching.Outcome.{Outcome}
+use Rattle.ps_sat.specs.declared.error.SearchError.{SearchError}
+use Rattle.ps_sat.specs.declared.searching.Outcome.TheVariants.{Found, Refuted, Spent}
+use Rattle.ps_sat.proofs.Going.{Searching, handed-more, goes-on, search-refuted, told-before, told-handed}
+
+id_next : (b : Bool) (r : Option Refusal) → cond b r (Some IdNotNext) ≡ None → b ≡ true
+id_next true r h = refl
+id_next false r h = absurd (cc)
+
+lawful_id : (n : ℕ) (cs : List Constraint) (x : Step) → IsLawful n (known_of cs) x → x.id ≡ length cs + 1
+lawful_id n cs x h = eqb-true x.id (next_id (known_of cs)) (id_next (x.id == next_id (known_of cs)) _ h) ∙ ap (λ k. k + 1) (known_of-length cs)
+
+-- a step that was learned
+pub record IsLearned (n : ℕ) (cs : List Constraint) (x : Step) : Type 0 where
+  pub lawful : IsLawful n (known_of cs) x
+  pub literals : All (IsLit n) (lits_of x)
+  pub few_literals : length (lits_of x) ≤ n
+  pub hints : All (IsIdUpTo (length cs)) (hints_of x)
+  pub few_hints : length (hints_of x) ≤ n + 1
+
+pub is-learned : (n m : ℕ) (cs : List Constraint) (x y : Step) → x ≡ y → m ≡ n → IsLawful m (known_of cs) y → All (IsLit m) (lits_of y) → length (lits_of y) ≤ m → All (IsIdUpTo (length cs)) (hints_of y) → length (hints_of y) ≤ m + 1 → IsLearned n cs x
+is-learned n m cs x y e q lawful lits few_lits hints few_hints = subst (λ k. IsLearned k cs x) q (subst (λ z. IsLearned m cs z) (sym e) (record { lawful = lawful; literals = lits; few_literals = few_lits; hints = hints; few_hints = few_hints }))
+
+-- it is within the limits
+pub step-within : (n : ℕ) (cs : List Constraint) (x : Step) → IsLearned n cs x → n ≤ 1024 → length cs < 2 ^ 41 → IsStepWithin x
+step-within n cs x l most few = record {
+  id = let own = lawful_id n cs x l.lawful in (omega (arith, own), omega (arith, own, few));
+  lits = λ k d lt. let own = l.literals k d lt in (own.0, omega (arith, own.1, most));
+  hints = λ k d lt. let own = l.hints k d lt in (own.0, omega (arith, own.1, few));
+  few_lits = omega (arith, l.few_literals, most);
+  few_hints = omega (arith, l.few_hints, most);
+}
+
+-- what the log holds when an assignment was found
+pub held-found : (f : Form) (goal : Constraint) (told : Bool) (new : Telling) (cs : List Constraint) (t : Trail) (learned conflicts : ℕ) (a : Assignment) → Searching f goal told new cs t learned → learned ≤ conflicts → IsHeld f goal conflicts told new (Found a)
+held-found f goal told new cs t learned conflicts a h le = (h.handed, omega (arith, h.count, le))
+
+-- what it holds when no conflict is left
+pub held-spent : (f : Form) (goal : Constraint) (told : Bool) (new : Telling) (cs : List Constraint) (t : Trail) (learned conflicts : ℕ) → Searching f goal told new cs t learned → learned ≡ conflicts → IsHeld f goal conflicts told new (Spent learned)
+held-spent f goal told new cs t learned conflicts h e = (h.handed, (h.count ∙ e, h.literals))
+
+pub non-empty : (b : Bool) (ls : List ℤ) (x : Step) (r : Bool) → b ≡ (length ls == 0) → ls ≡ x.lits → b ≡ r → is_contradiction x ≡ r
+non-empty b ls x r p q e = sym (p ∙ ap (λ (z : List ℤ). length z == 0) q) ∙ e
+
+-- what it holds after a contradiction
+pub held-refuted : (f : Form) (goal : Constraint) (told : Bool) (old new : Telling) (cs : List Constraint) (t : Trail) (learned conflicts : ℕ) (x : Step) (id : ℕ) → Searching f goal told old cs t learned → IsLearned f.variables cs x → Grows old new (x ∷ []) → is_contradiction x ≡ true → x.id ≡ id → IsHeld f goal conflicts told new (Refuted id)
+unfolding handed-more
+held-refuted f goal told old new cs t learned conflicts x id h l grows non own = (handed-more f goal told old new cs t learned x h l.lawful grows, (h.handed.steps, x, refl, own, non))
+
+-- the form and the goal are refuted by what was learned
+pub learned-refutes : (f : Form) (goal : Constraint) (told : Bool) (new : Telling) (cs : List Constraint) (t : Trail) (learned : ℕ) (x : Step) → Searching f goal told new cs t learned → IsLearned f.variables cs x → is_contradiction x ≡ true → (w : List Bool) → MeetsForm w f → IsMet w goal → ⊥
+learned-refutes f goal told new cs t learned x h l non = search-refuted f goal told new cs t learned x h l.lawful non
+
+lits_inside : (v : ℕ) (lits : List ℤ) → All (IsLit v) lits → All (λ l. place l < v) lits
+lits_inside v lits h = λ k d lt. within_by (get_or lits k d) (h k d lt)
+  where
+    within_by : (l : ℤ) → IsLit v l → place l < v
+    within_by l h = omega (arith, h.0, h.1)
+
+-- the search goes on after what was learned
+pub goes-further : (f : Form) (goal : Constraint) (told : Bool) (old new : Telling) (cs cs' : List Constraint) (t u w : Trail) (learned k : ℕ) (x : Step) → Searching f goal told old cs t learned → u.variables ≡ t.variables → AreReasons u.variables (known_of cs) u.entries → IsLearned f.variables cs x → Grows old new (x ∷ [])
+    → cs' ≡ cs ++ added x ∷ [] → is_contradiction x ≡ false → w.variables ≡ u.variables → w.entries ≡ take k u.entries → Searching f goal told new cs' w (learned + 1)
+goes-further f goal told old new cs cs' t u w learned k x h tu reasons l grows more non same cut =
+    let uf : u.variables ≡ f.variables = tu ∙ h.same in
+    goes-on f goal told old new cs cs' t u w learned k x h uf (subst (λ m. AreReasons m (known_of cs) u.entries) uf reasons) l.lawful grows more (lits_inside f.variables x.lits l.literals) non same cut
+
+-- a conflict more is left
+pub least-more : (b : Bool) (l k : ℕ) → ((b ≡ false) × (l ≢ k)) ⊎ (b ≡ true) → b ≡ false → l ≤ k → l + 1 ≤ k
+least-more b l k (inl h) e le = omega (arith, h.1, le)
+least-more b l k (inr h) e le = absurd (false≢true (sym e ∙ h))
+
+-- nothing was told before an error
+pub logged-nothing : (f : Form) (goal : Constraint) (conflicts : ℕ) (old : Telling) (r : Result Outcome SearchError) → IsErr r → IsLogged f goal conflicts old old r
+logged-nothing f goal conflicts old (Ok o) h = absurd (false≢true h)
+logged-nothing f goal conflicts old (Err e) h = inl (λ b. (b, refl, refl))
+
+-- what was told since the log began
+pub logged-after : (f : Form) (goal : Constraint) (conflicts : ℕ) (old start new : Telling) (r : Result Outcome SearchError) → Starts old start goal → IfOk r (IsHeld f goal conflicts start.tells new) → IfErr r (λ _. Handed f goal start.tells new) → IsLogged f goal conflicts old new r
+logged-after f goal conflicts old start new (Ok o) st held handed = told-before f goal old start new conflicts o st held
+logged-after f goal conflicts old start new (Err e) st held handed = inr (told-handed f goal old start new st handed)

@@ -1,0 +1,4 @@
+pub mod Atoms
+pub mod Ends
+pub mod Going
+pub mod Handing

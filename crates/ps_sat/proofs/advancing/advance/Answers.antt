@@ -1,0 +1,16 @@
+use Rattle.std.proofs.Common.{◌∙◌, ap, arith}
+use Rattle.ps_learning.specs.Trails.{Trail}
+use Rattle.ps_learn.proofs.Advancing.{decided-reasons, decided-fewer}
+use Rattle.ps_sat.proofs.Going.{fresh-decided}
+use Rattle.ps_sat.proofs.advancing.advance.Goals as goal
+
+pub on-smaller : goal.on-smaller
+on-smaller c =
+    let fresh = fresh-decided _ c.propagate_all.new.trail c.values.result.now _ c.values.ensures.value (c.propagate_all.ensures.variables ∙ c.on.invariant.same ∙ c.requires.variables) c.in-Some-choose.ensures in
+    omega (arith, decided-fewer c.propagate_all.new.trail c.decide.new.self _ c.decide.ensures fresh, c.propagate_all.ensures.fewer)
+
+pub on-preserved : goal.on-preserved
+on-preserved c = record {
+  same = ap (λ (x : Trail). x.variables) c.decide.ensures ∙ c.propagate_all.ensures.variables ∙ c.on.invariant.same;
+  reasons = decided-reasons _ c.propagate_all.new.trail c.decide.new.self _ c.decide.ensures c.propagate_all.ensures.reasons;
+}

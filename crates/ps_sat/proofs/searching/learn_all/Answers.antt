@@ -1,0 +1,69 @@
+use Rattle.std.proofs.Common.{◌∷◌, [], ap, ◌∙◌, refl, length, length-append, arith}
+use Rattle.ps_steps.specs.Steps.{Step, added}
+use Rattle.ps_learn.specs.declared.learning.Lesson.{Lesson}
+use Rattle.ps_sat.proofs.Going.{begins, search-found}
+use Rattle.ps_sat.proofs.Handing.{is-learned, step-within, held-found, held-spent, held-refuted, learned-refutes, non-empty, goes-further, least-more}
+use Rattle.ps_sat.proofs.searching.learn_all.Goals as goal
+
+pub learn-init : goal.learn-init
+learn-init g c = record {
+  so_far = begins _ _ _ _ _ _ c.requires.begun c.requires.started c.requires.unset c.variables.ensures.inside c.requires.goal;
+  few = omega (arith, c.requires.small);
+  least = omega arith;
+  whole = c.requires.whole;
+  later = omega arith;
+  same_kind = refl;
+  same_references = refl;
+}
+
+pub returns-in-None-clause-outcome : goal.returns-in-None-clause-outcome
+returns-in-None-clause-outcome g c =
+    search-found c.args.base.now c.args.goal.now _ _ c.learn.known c.learn.trail c.advance.new.trail c.learn.learned _ c.learn.invariant.so_far c.advance.ensures.variables c.variables.ensures.settled c.variables.ensures.inside c.requires.goal c.in-None.ensures.ended c.into_values.ensures
+
+pub returns-in-None-clause-shown : goal.returns-in-None-clause-shown
+returns-in-None-clause-shown g c =
+    held-found c.args.base.now c.args.goal.now _ _ c.learn.known c.learn.trail c.learn.learned c.args.conflicts c.into_values.result c.learn.invariant.so_far c.learn.invariant.least
+
+pub returns-then-learned-conflicts-clause-shown : goal.returns-then-learned-conflicts-clause-shown
+returns-then-learned-conflicts-clause-shown g c =
+    held-spent c.args.base.now c.args.goal.now _ _ c.learn.known c.learn.trail c.learn.learned c.args.conflicts c.learn.invariant.so_far c.if-learned-conflicts.true
+
+pub hand_over-requires-clause-within : goal.hand_over-requires-clause-within
+hand_over-requires-clause-within g c =
+    let learned = c.in_ok-lesson.ensures in
+    step-within c.args.base.now.variables c.learn.known _
+    (is-learned c.args.base.now.variables c.advance.new.trail.variables c.learn.known _ _ (ap (λ (z : Lesson). z.step) c.lesson.view_is) (c.advance.ensures.variables ∙ c.learn.invariant.so_far.same) learned.lawful learned.literals learned.few_literals learned.hints learned.few_hints)
+    (omega (arith, c.variables.ensures.value, c.variables.ensures.within)) (omega (arith, c.learn.invariant.few, c.learn.invariant.least, c.requires.few))
+
+pub returns-then-last-clause-outcome : goal.returns-then-last-clause-outcome
+returns-then-last-clause-outcome g c =
+    let x : Step = record { id = c.lesson.inside.0.0.id; lits = c.lesson.inside.0.0.lits; hints = c.lesson.inside.0.0.hints } in
+    let learned = c.in_ok-lesson.ensures in
+    learned-refutes c.args.base.now c.args.goal.now _ _ c.learn.known c.learn.trail c.learn.learned x c.learn.invariant.so_far
+    (is-learned c.args.base.now.variables c.advance.new.trail.variables c.learn.known _ _ (ap (λ (z : Lesson). z.step) c.lesson.view_is) (c.advance.ensures.variables ∙ c.learn.invariant.so_far.same) learned.lawful learned.literals learned.few_literals learned.hints learned.few_hints)
+    (non-empty c.is_empty-last.result c.as_slice.result.now x _ c.is_empty-last.ensures c.as_slice.ensures c.if-last.true)
+
+pub returns-then-last-clause-shown : goal.returns-then-last-clause-shown
+returns-then-last-clause-shown g c =
+    let x : Step = record { id = c.lesson.inside.0.0.id; lits = c.lesson.inside.0.0.lits; hints = c.lesson.inside.0.0.hints } in
+    let learned = c.in_ok-lesson.ensures in
+    held-refuted c.args.base.now c.args.goal.now _ _ _ c.learn.known c.learn.trail c.learn.learned c.args.conflicts x _ c.learn.invariant.so_far
+    (is-learned c.args.base.now.variables c.advance.new.trail.variables c.learn.known _ _ (ap (λ (z : Lesson). z.step) c.lesson.view_is) (c.advance.ensures.variables ∙ c.learn.invariant.so_far.same) learned.lawful learned.literals learned.few_literals learned.hints learned.few_hints)
+    c.in_ok-hand_over.ensures.ok (non-empty c.is_empty-last.result c.as_slice.result.now x _ c.is_empty-last.ensures c.as_slice.ensures c.if-last.true) refl
+
+pub learn-preserved : goal.learn-preserved
+learn-preserved g c =
+    let x : Step = record { id = c.lesson.inside.0.0.id; lits = c.lesson.inside.0.0.lits; hints = c.lesson.inside.0.0.hints } in
+    let learned = c.in_ok-lesson.ensures in
+    record {
+      so_far =
+          goes-further c.args.base.now c.args.goal.now _ _ _ c.learn.known c.hand_over.new.known c.learn.trail c.advance.new.trail c.cut_to.new.self c.learn.learned _ x c.learn.invariant.so_far c.advance.ensures.variables c.advance.ensures.reasons
+          (is-learned c.args.base.now.variables c.advance.new.trail.variables c.learn.known _ _ (ap (λ (z : Lesson). z.step) c.lesson.view_is) (c.advance.ensures.variables ∙ c.learn.invariant.so_far.same) learned.lawful learned.literals learned.few_literals learned.hints learned.few_hints)
+          c.in_ok-hand_over.ensures.ok c.in_ok-hand_over.ensures.known (non-empty c.is_empty-last.result c.as_slice.result.now x _ c.is_empty-last.ensures c.as_slice.ensures c.if-last.false) c.cut_to.ensures.variables c.cut_to.ensures.prefix.1;
+      few = omega (arith, c.learn.invariant.few, ap length c.in_ok-hand_over.ensures.known, length-append c.learn.known (added x ∷ []));
+      least = least-more _ _ _ c.else-not-last.either c.if-last.false c.learn.invariant.least;
+      whole = c.in_ok-hand_over.ensures.whole;
+      later = omega (arith, c.learn.invariant.later, c.hand_over.ensures.later);
+      same_kind = c.hand_over.ensures.same_kind ∙ c.learn.invariant.same_kind;
+      same_references = c.hand_over.ensures.same_references ∙ c.learn.invariant.same_references;
+    }

@@ -1,0 +1,23 @@
+-- Which variable is chosen for a decision.
+use Rattle.std.specs.Prelude.{ℕ, ◌≡◌, ◌≤◌, ◌<◌, ◌+◌, Bool, true, false, ◌&&◌, Option, Some, None}
+use Rattle.ps_steps.specs.Assignments.{Assignment, value_at, is_unset}
+use Rattle.ps_forms.specs.Forms.{Form, is_atom_variable}
+use Rattle.ps_forms.specs.Settled.{AtomsAreSet}
+use Rattle.ps_learning.specs.Trails.{IsFresh}
+
+-- whether a variable is an atom's, and has no value
+abbrev pub is_open_atom : Form → Assignment → ℕ → Bool
+is_open_atom f a var = is_atom_variable f var && is_unset (value_at a var)
+
+-- the variable at a place may be decided on
+abbrev pub IsOpenAt : Form → Assignment → ℕ → Type 0
+IsOpenAt f a p = (p < f.variables) × (is_open_atom f a (p + 1) ≡ true)
+
+-- the first variables have values where they are atoms'
+pub record AtomsTo (f : Form) (a : Assignment) (n : ℕ) : Type 0 where
+  pub at : (var : ℕ) → var ≤ n → is_atom_variable f var ≡ true → is_unset (value_at a var) ≡ false
+
+-- the place that was chosen among the first ones, if there is one to choose
+abbrev pub IsChosen : Form → Assignment → ℕ → Option ℕ → Type 0
+IsChosen f a n None = AtomsTo f a n
+IsChosen f a n (Some p) = IsOpenAt f a p

@@ -1,0 +1,44 @@
+-- What a search answers, and what it hands over.
+use Rattle.std.specs.Prelude.{ℕ, ◌≡◌, ◌≤◌, true, false, Bool, IsTrue, Option, Some, Result, Ok, Err, List, [], ◌∷◌, ◌++◌, map, length, All, ◌⊎◌}
+use Rattle.ps_steps.specs.Constraints.{Constraint, IsMet}
+use Rattle.ps_steps.specs.Steps.{Known, known_of, Step, AreLawful, is_contradiction}
+use Rattle.ps_forms.specs.Forms.{Form, MeetsForm}
+use Rattle.ps_log.specs.Logs.{Telling, Stays}
+use Rattle.ps_sat.specs.declared.searching.Outcome.{Outcome}
+use Rattle.ps_sat.specs.declared.searching.Outcome.TheVariants.{Found, Refuted, Spent}
+use Rattle.ps_sat.specs.declared.error.SearchError.{SearchError}
+
+-- the clauses, and then the goal
+abbrev pub first_known : Form → Constraint → Known
+first_known f goal = known_of (f.clauses ++ goal ∷ [])
+
+-- what an outcome says of all assignments
+abbrev pub IsOutcome : Form → Constraint → ℕ → Outcome → Type 0
+IsOutcome f goal conflicts (Found a) = (w : List Bool) × (a ≡ map Some w) × (length w ≡ f.variables) × MeetsForm w f × IsMet w goal
+IsOutcome f goal conflicts (Refuted last) = (w : List Bool) → MeetsForm w f → IsMet w goal → ⊥
+IsOutcome f goal conflicts (Spent learned) = learned ≡ conflicts
+
+-- a log that told has this goal and these steps
+abbrev pub Holds : Bool → Telling → Constraint → List Step → Type 0
+Holds told new c ss = IsTrue told → IsTrue new.tells × (new.goal ≡ Some c) × (new.steps ≡ Some ss)
+
+-- what an outcome says of the steps that were handed over
+abbrev pub IsShown : ℕ → List Step → Outcome → Type 0
+IsShown conflicts ss (Found a) = length ss ≤ conflicts
+IsShown conflicts ss (Refuted last) = (front : List Step) × (s : Step) × (ss ≡ front ++ s ∷ []) × (s.id ≡ last) × (is_contradiction s ≡ true)
+IsShown conflicts ss (Spent learned) = (length ss ≡ conflicts) × All (λ s. is_contradiction s ≡ false) ss
+
+-- the steps that were handed over are lawful after the form and the goal, and a log that told holds just these
+pub record Handed (f : Form) (goal : Constraint) (told : Bool) (new : Telling) : Type 0 where
+  pub steps : List Step
+  pub held : Holds told new goal steps
+  pub lawful : AreLawful f.variables (first_known f goal) steps
+
+-- they are what an outcome says
+abbrev pub IsHeld : Form → Constraint → ℕ → Bool → Telling → Outcome → Type 0
+IsHeld f goal conflicts told new o = (h : Handed f goal told new) × IsShown conflicts h.steps o
+
+-- the log after a search holds the goal and the steps of this search; after an error it may also be as before
+abbrev pub IsLogged : Form → Constraint → ℕ → Telling → Telling → Result Outcome SearchError → Type 0
+IsLogged f goal conflicts old new (Ok o) = IsHeld f goal conflicts old.tells new o
+IsLogged f goal conflicts old new (Err e) = Stays old new ⊎ Handed f goal old.tells new

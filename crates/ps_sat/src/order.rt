@@ -1,0 +1,136 @@
+//! The order of decisions.
+ghost use Rattle.std.specs.Prelude.{◌≡◌, ◌≤◌, ◌+◌, Some, MatchOption, IfSome, ◌⊎◌};
+ghost use Rattle.ps_steps.specs.Assignments.{place};
+ghost use Rattle.ps_learning.specs.Trails.{IsFresh};
+ghost use Rattle.ps_forms.specs.Settled.{AtomsAreSet};
+ghost use Rattle.ps_sat.specs.Choices.{is_open_atom};
+
+use ps_clause::ClauseForm;
+use ps_io::NoMemory;
+use ps_pb::{Assignment, Constraint, Lit};
+use ps_trail::Trail;
+use std::alloc::Global;
+
+// What a variable of the first conflict gains.
+const FIRST_GAIN: u64 = 64;
+
+// Where the gain passes this, all activities are scaled down.
+const MOST_GAIN: u64 = 1 << 40;
+
+// By so many bits.
+const SCALE: u32 = 32;
+
+/// Which variable to decide on next: the most active one, where the variables that took part in a
+/// conflict gain activity, the more the later it was (M. W. Moskewicz and others, "Chaff", 2001).
+/// It gets its last value again (K. Pipatsrisawat, A. Darwiche, 2007), at first the one that the
+/// goal wants.
+#[derive(Drop)]
+pub struct Order {
+    activities: Vec<u64>,
+    values: Vec<bool>,
+    gain: u64,
+}
+
+impl Order {
+    /// No variable is active; the values are those that make the goal's literals true.
+    pub fn new(alloc: Global, goal: &Constraint, variables: u32) -> Result<Order, NoMemory> {
+        let mut order = Order {
+            activities: vec![in alloc; 0; variables as usize]?,
+            values: vec![in alloc; true; variables as usize]?,
+            gain: FIRST_GAIN,
+        };
+        for term in goal.terms().as_slice() {
+            order.keep_value(term.0);
+        }
+        Ok(order)
+    }
+
+    /// The next decision. `None` exactly where each atom has a value.
+    pub fn choose(&self, base: &ClauseForm, a: &Assignment) -> Option<Lit>
+        ensures { MatchOption result (AtomsAreSet base.now a.now) (IsFresh base.now.variables a.now) }
+    {
+        let mut best = None;
+        for place in 0..base.variables() {
+            if is_open_atom(base, a, place + 1) {
+                best = Some(self.better(best, place));
+            }
+        }
+        match best {
+            None => None,
+            Some(place) => Some(Lit::of_place(place as usize, self.value(place))),
+        }
+    }
+
+    /// Raises the activities of the marked variables, those of a conflict, and the gain of the next
+    /// conflict by a sixteenth.
+    pub fn raise(&mut self, marks: &[bool]) {
+        for place in 0..marks.len() {
+            if marks[place] && place < self.activities.len() {
+                let activity = self.activities[place];
+                self.activities[place] = activity.saturating_add(self.gain);
+            }
+        }
+        self.gain = self.gain.saturating_add(self.gain / 16);
+        if MOST_GAIN < self.gain {
+            self.scale_down();
+        }
+    }
+
+    /// Keeps the values of all literals of a trail.
+    pub fn keep_values(&mut self, trail: &Trail) {
+        for entry in trail.entries() {
+            self.keep_value(entry.lit);
+        }
+    }
+
+    fn keep_value(&mut self, lit: Lit) {
+        let place = lit.place();
+        if place < self.values.len() {
+            self.values[place] = lit.is_positive();
+        }
+    }
+
+    fn scale_down(&mut self) {
+        for place in 0..self.activities.len() {
+            self.activities[place] = self.activities[place] >> SCALE;
+        }
+        self.gain >>= SCALE;
+    }
+
+    // The more active place; the earlier one where they are equally active.
+    fn better(&self, best: Option<u32>, place: u32) -> u32
+        ensures { (result ≡ place) ⊎ (best ≡ Some result) }
+    {
+        match best {
+            None => place,
+            Some(best) => {
+                if self.activity(best) < self.activity(place) {
+                    place
+                } else {
+                    best
+                }
+            }
+        }
+    }
+
+    fn activity(&self, place: u32) -> u64 {
+        match self.activities.get(place as usize) {
+            None => 0,
+            Some(activity) => *activity,
+        }
+    }
+
+    fn value(&self, place: u32) -> bool {
+        match self.values.get(place as usize) {
+            None => true,
+            Some(value) => *value,
+        }
+    }
+}
+
+// Whether a variable is an atom's, and has no value.
+fn is_open_atom(base: &ClauseForm, a: &Assignment, var: u32) -> bool
+    ensures { result ≡ is_open_atom base.now a.now var }
+{
+    base.is_atom(var) && a.value(var).is_none()
+}

@@ -1,0 +1,165 @@
+//! The search.
+ghost use Rattle.std.specs.Prelude.{◌≡◌, ◌≤◌, ◌<◌, ◌^◌, ◌++◌, ◌∷◌, [], length, All};
+ghost use Rattle.std.specs.Prelude.{IfOk, IfErr, OnOk, OnErr, IsTrue, IsErrOf};
+ghost use Rattle.ps_steps.specs.Steps.{added};
+ghost use Rattle.ps_steps.specs.Weights.{IsWithin};
+ghost use Rattle.ps_log.specs.Logs.{Grows, Stays};
+ghost use Rattle.ps_log.specs.Limits.{IsStepWithin};
+ghost use Rattle.ps_sat.specs.Limits.{most_conflicts};
+ghost use Rattle.ps_sat.specs.Errors.{HasCause};
+ghost use Rattle.ps_sat.specs.Searches.{IsOutcome, IsLogged, IsHeld, Holds, Handed};
+
+use crate::advancing::advance;
+use crate::error::SearchError;
+use crate::order::Order;
+use ps_clause::ClauseForm;
+use ps_io::{List, NoMemory};
+use ps_learn::learn;
+use ps_log::{ProofSink, is_goal_within};
+use ps_pb::{Assignment, Constraint, Step, clause};
+use ps_trail::Trail;
+use std::alloc::Global;
+
+/// So many clauses a search is let learn at most.
+pub const MOST_CONFLICTS: u64 = 1 << 40;
+
+/// What a search answers.
+#[derive(Drop)]
+pub enum Outcome {
+    /// A full assignment that meets each clause and the goal.
+    Found(Assignment),
+    /// No full assignment does. The last step is a contradiction, of this id.
+    Refuted { last: u64 },
+    /// So many clauses were learned, and one more is due.
+    Spent { learned: u64 },
+}
+
+// The clauses of the form, and the goal.
+fn first_known(
+    alloc: Global,
+    base: &ClauseForm,
+    goal: &Constraint,
+) -> Result<List<Constraint>, NoMemory>
+    ensures value { IfOk result (λ known. known ≡ base.now.clauses ++ goal.now ∷ []) }
+    ensures few { IfOk result (λ known. length known ≤ 2 ^ 32) }
+{
+    let mut known = base.copy(alloc)?.into_clauses();
+    known.push(goal.copy(alloc)?)?;
+    Ok(known)
+}
+
+/// Looks for a full assignment that meets each clause of the form and the goal, and learns a clause
+/// from each conflict (J. P. Marques-Silva, K. A. Sakallah, "GRASP", 1999). At most `conflicts`
+/// clauses with literals are learned. Each goes to the log as a step that is lawful there.
+///
+/// After each outcome the log is whole and holds this goal and the steps of this search: after
+/// `Refuted` they end in a contradiction, and after `Spent` they are `conflicts` steps, each with a
+/// literal. `LogFault` comes only where the log's count of faults rose.
+pub fn search<S: ProofSink>(
+    alloc: Global,
+    base: &ClauseForm,
+    goal: &Constraint,
+    conflicts: u64,
+    log: &mut S,
+) -> Result<Outcome, SearchError>
+    requires whole { IsTrue (S.is_whole log.old) }
+    requires goal { IsWithin base.now.variables goal.now }
+    requires few { conflicts ≤ most_conflicts }
+    ensures outcome { IfOk result (IsOutcome base.now goal.now conflicts) }
+    ensures logged {
+        IsLogged base.now goal.now conflicts (S.told log.old) (S.told log.new) result
+    }
+    ensures whole { OnOk result (IsTrue (S.is_whole log.new)) }
+    ensures later { S.faults log.old ≤ S.faults log.new }
+    ensures cause { IfErr result (HasCause (S.faults log.old) (S.faults log.new)) }
+    ensures no_memory { IsErrOf result SearchError.NoMemory → IsTrue (S.is_whole log.new) }
+    ensures same_kind { S.takes_memory log.new ≡ S.takes_memory log.old }
+    ensures same_references { S.names log.new ≡ S.names log.old }
+{
+    let known = first_known(alloc, base, goal)?;
+    let trail = Trail::new(alloc, base.variables())?;
+    is_goal_within(goal);
+    log.begin(goal)?;
+    learn_all(alloc, base, goal, conflicts, known, trail, log)
+}
+
+// Goes on from a log that has begun.
+fn learn_all<S: ProofSink>(
+    alloc: Global,
+    base: &ClauseForm,
+    goal: &Constraint,
+    conflicts: u64,
+    mut known: List<Constraint>,
+    mut trail: Trail,
+    log: &mut S,
+) -> Result<Outcome, SearchError>
+    requires whole { IsTrue (S.is_whole log.old) }
+    requires goal { IsWithin base.now.variables goal.now }
+    requires started { known ≡ base.now.clauses ++ goal.now ∷ [] }
+    requires unset { trail ≡ record { variables = base.now.variables; entries = [] } }
+    requires begun { Holds (S.told log.old).tells (S.told log.old) goal.now [] }
+    requires small { length known ≤ 2 ^ 32 }
+    requires few { conflicts ≤ most_conflicts }
+    ensures outcome { IfOk result (IsOutcome base.now goal.now conflicts) }
+    ensures shown {
+        IfOk result (IsHeld base.now goal.now conflicts (S.told log.old).tells (S.told log.new))
+    }
+    ensures handed {
+        IfErr result (λ _. Handed base.now goal.now (S.told log.old).tells (S.told log.new))
+    }
+    ensures whole { OnOk result (IsTrue (S.is_whole log.new)) }
+    ensures later { S.faults log.old ≤ S.faults log.new }
+    ensures cause { IfErr result (HasCause (S.faults log.old) (S.faults log.new)) }
+    ensures no_memory { IsErrOf result SearchError.NoMemory → IsTrue (S.is_whole log.new) }
+    ensures same_kind { S.takes_memory log.new ≡ S.takes_memory log.old }
+    ensures same_references { S.names log.new ≡ S.names log.old }
+{
+    let mut order = Order::new(alloc, goal, base.variables())?;
+    let mut learned = 0;
+    'learn: loop {
+        let conflict = match advance(base, &known, &order, &mut trail) {
+            None => return Ok(Outcome::Found(trail.into_values())),
+            Some(conflict) => conflict,
+        };
+        let lesson = learn(alloc, &known, &trail, conflict)?;
+        let last = lesson.step.lits.as_slice().is_empty();
+        if !last && learned == conflicts {
+            return Ok(Outcome::Spent { learned });
+        }
+        hand_over(alloc, &mut known, &lesson.step, log)?;
+        if last {
+            return Ok(Outcome::Refuted {
+                last: lesson.step.id,
+            });
+        }
+        learned += 1;
+        order.raise(&lesson.marks);
+        order.keep_values(&trail);
+        trail.cut_to(lesson.level);
+    }
+}
+
+// Adds the clause of a step, and hands the step over.
+fn hand_over<S: ProofSink>(
+    alloc: Global,
+    known: &mut List<Constraint>,
+    step: &Step,
+    log: &mut S,
+) -> Result<(), SearchError>
+    requires whole { IsTrue (S.is_whole log.old) }
+    requires within { IsStepWithin step.now }
+    ensures known { OnOk result (known.new ≡ known.old ++ added step.now ∷ []) }
+    ensures ok { OnOk result (Grows (S.told log.old) (S.told log.new) (step.now ∷ [])) }
+    ensures whole { OnOk result (IsTrue (S.is_whole log.new)) }
+    ensures err { OnErr result (Stays (S.told log.old) (S.told log.new)) }
+    ensures later { S.faults log.old ≤ S.faults log.new }
+    ensures cause { IfErr result (HasCause (S.faults log.old) (S.faults log.new)) }
+    ensures no_memory { IsErrOf result SearchError.NoMemory → IsTrue (S.is_whole log.new) }
+    ensures same_kind { S.takes_memory log.new ≡ S.takes_memory log.old }
+    ensures same_references { S.names log.new ≡ S.names log.old }
+{
+    let clause = clause(alloc, step.lits.as_slice())?;
+    known.push(clause)?;
+    log.step(step)?;
+    Ok(())
+}
