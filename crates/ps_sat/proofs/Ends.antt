@@ -12,10 +12,9 @@ use Rattle.ps_steps.proofs.Full.{complete-full, full-met}
 use Rattle.ps_steps.proofs.Ids.{at-id, at-zero, kept-all}
 use Rattle.ps_steps.proofs.Onward.{lawful-append, ends-append}
 use Rattle.ps_steps.proofs.Lawful.{refutes-unmet}
-use Rattle.ps_forms.specs.Forms.{Form, clause_at, MeetsForm, AreInside}
+use Rattle.ps_forms.specs.Forms.{Form, clause_at, MeetsForm, AreInside, first_known}
 use Rattle.ps_forms.specs.Settled.{IsIdle, AreIdle, AllAreSet, IsSettled}
 use Rattle.ps_learn.specs.Rest.{IsDone}
-use Rattle.ps_sat.specs.Searches.{first_known}
 
 front_get : (cs : List Constraint) (g c : Constraint) (i : ℕ) → slice_get cs i ≡ Some c → slice_get (cs ++ g ∷ []) i ≡ Some c
 front_get [] g c i h = absurd (cc)

@@ -10,13 +10,13 @@ use Rattle.ps_steps.specs.Steps.{known_of, Step, added, with_step, with_steps, I
 use Rattle.ps_steps.proofs.Within.{clause-within}
 use Rattle.ps_steps.proofs.Ids.{known_of-append}
 use Rattle.ps_steps.proofs.Onward.{lawful-append, steps-append}
-use Rattle.ps_forms.specs.Forms.{Form, MeetsForm, AreInside}
+use Rattle.ps_forms.specs.Forms.{Form, MeetsForm, AreInside, first_known}
 use Rattle.ps_forms.specs.Settled.{IsSettled}
 use Rattle.ps_log.specs.Logs.{Telling, Starts, Grows, Stays}
 use Rattle.ps_learning.specs.Trails.{Trail, values, IsFresh, AreReasons}
 use Rattle.ps_learning.proofs.Entries.{reasons-take, reasons-more, reasons-none, length-values}
 use Rattle.ps_learn.specs.Rest.{IsDone}
-use Rattle.ps_sat.specs.Searches.{first_known, Holds, Handed, IsHeld}
+use Rattle.ps_sat.specs.Searches.{Holds, Handed, IsHeld}
 use Rattle.ps_sat.specs.declared.searching.Outcome.{Outcome}
 use Rattle.ps_sat.proofs.Ends.{found, refuted}
 

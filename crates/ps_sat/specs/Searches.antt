@@ -1,16 +1,12 @@
 -- What a search answers, and what it hands over.
 use Rattle.std.specs.Prelude.{ℕ, ◌≡◌, ◌≤◌, true, false, Bool, IsTrue, Option, Some, Result, Ok, Err, List, [], ◌∷◌, ◌++◌, map, length, All, ◌⊎◌}
 use Rattle.ps_steps.specs.Constraints.{Constraint, IsMet}
-use Rattle.ps_steps.specs.Steps.{Known, known_of, Step, AreLawful, is_contradiction}
-use Rattle.ps_forms.specs.Forms.{Form, MeetsForm}
+use Rattle.ps_steps.specs.Steps.{Step, AreLawful, is_contradiction}
+use Rattle.ps_forms.specs.Forms.{Form, MeetsForm, first_known}
 use Rattle.ps_log.specs.Logs.{Telling, Stays}
 use Rattle.ps_sat.specs.declared.searching.Outcome.{Outcome}
 use Rattle.ps_sat.specs.declared.searching.Outcome.TheVariants.{Found, Refuted, Spent}
 use Rattle.ps_sat.specs.declared.error.SearchError.{SearchError}
-
--- the clauses, and then the goal
-abbrev pub first_known : Form → Constraint → Known
-first_known f goal = known_of (f.clauses ++ goal ∷ [])
 
 -- what an outcome says of all assignments
 abbrev pub IsOutcome : Form → Constraint → ℕ → Outcome → Type 0
