@@ -1,5 +1,9 @@
 pub mod LastLines
+pub mod Comparing
+pub mod GoalAnswers
+pub mod GoalShapes
 pub mod Lengths
+pub mod LineAnswers
 pub mod LineShapes
 pub mod ManyNumbers
 pub mod Parts

@@ -21,14 +21,16 @@ use Rattle.ps_steps.specs.Steps.{Step}
 use Rattle.ps_steps.specs.Weights.{weighted, are_rising}
 use Rattle.ps_log.specs.GoalTexts.{IsGoalText}
 use Rattle.ps_log.specs.Spellings.{IsPlain, Spells, SpellAll}
-use Rattle.ps_log.specs.StepTexts.{words_of, IsStepText}
+use Rattle.ps_log.specs.Spellings.{words_of}
+use Rattle.ps_log.specs.StepTexts.{IsStepText}
 use Rattle.ps_log.specs.Texts.{hint_numbers, term_numbers, step_numbers, goal_numbers, step_line, goal_line}
 use Rattle.ps_log.specs.Limits.{IsStepWithin, IsGoalWithin}
 use Rattle.ps_log.specs.Told.{is_plain, is_number, number_of, numbers_after, before_zero, after_zero, but_last, step_from, terms_from, goal_from, are_goal_terms, step_with, goal_with, step_of, goal_of}
 use Rattle.ps_log.proofs.Parts.{same_byte}
 use Rattle.ps_log.proofs.Reading.{goal_small}
 use Rattle.ps_log.proofs.Spelled.{minus_first, spelled-values}
-use Rattle.ps_log.proofs.StepAnswers.{written-words_of, written-spelled, line-is-text}
+use Rattle.ps_log.proofs.LineAnswers.{written-words_of, written-spelled}
+use Rattle.ps_log.proofs.StepAnswers.{line-is-text}
 use Rattle.ps_log.proofs.StepShapes.{Nonzero, first_in, rest_in}
 
 -- plain words
@@ -220,7 +222,7 @@ goal-reads zs g e f h =
 positive : (k : ℕ) → pos 1 ≤ℤ pos k → nat_lt 0 k ≡ true
 positive k h = grind (arith, ints, h)
 
-positives : (ts : List (ℤ × ℕ)) → All (λ t. pos 1 ≤ℤ t.1) (weighted ts) → list_all (λ t. nat_lt 0 t.1) ts ≡ true
+pub positives : (ts : List (ℤ × ℕ)) → All (λ t. pos 1 ≤ℤ t.1) (weighted ts) → list_all (λ t. nat_lt 0 t.1) ts ≡ true
 positives [] h = refl
 positives (t ∷ ts) h =
     let P : ℤ × ℤ → Type 0 = λ u. pos 1 ≤ℤ u.1 in
@@ -244,7 +246,7 @@ one-or-more k h = grind (arith, h)
 above-none : (k : ℕ) → 1 ≤ k → nat_lt 0 k ≡ true
 above-none k h = grind (arith, h)
 
-all-positive : (ts : List (ℤ × ℕ)) → list_all (λ t. nat_lt 0 t.1) ts ≡ true → All (λ t. 1 ≤ t.1) ts
+pub all-positive : (ts : List (ℤ × ℕ)) → list_all (λ t. nat_lt 0 t.1) ts ≡ true → All (λ t. 1 ≤ t.1) ts
 all-positive [] e = All-nil (λ t. 1 ≤ t.1)
 all-positive (t ∷ ts) e =
     let p = and_parts (nat_lt 0 t.1) (list_all (λ u. nat_lt 0 u.1) ts) e in

@@ -1,12 +1,12 @@
 -- Words that spell numbers: their bytes, their values, and what is written of a number.
-use Rattle.std.proofs.Common.{◌≡◌, ℕ, zero, suc, ◌+◌, ◌*◌, ◌-◌, ◌<◌, ◌^◌, ◌%◌, ◌==◌, ℤ, pos, negsuc, neg_ℤ, Bool, true, false, List, [], ◌∷◌, ◌++◌, length, map, min, Option, None, Some, nat_lt, refl, sym, ap, subst, ◌∙◌, arith, get_or, length-append, take, All, unsigned_abs}
+use Rattle.std.proofs.Common.{◌≡◌, ℕ, zero, suc, ◌+◌, ◌*◌, ◌-◌, ◌<◌, ◌≤◌, ◌^◌, ◌%◌, ◌/◌, ◌==◌, ℤ, pos, negsuc, neg_ℤ, Bool, true, false, List, [], ◌∷◌, ◌++◌, length, map, min, Option, None, Some, nat_lt, refl, sym, ap, subst, ◌∙◌, append_assoc, append-nil, arith, get_or, length-append, take, All, unsigned_abs}
 use Rattle.std.specs.Prelude.{slice_index}
 use Rattle.std.proofs.lemmas.List.{get_or_append_left}
 use Rattle.std.specs.Fmt.{decimal, signed_decimal}
 use Rattle.std.specs.Char.{digit_value}
-use Rattle.std.specs.Str.Parse.{AllDigits, digits_value}
-use Rattle.std.proofs.lemmas.Fmt.{decimal_is_IsNumeral_wide, decimal-digits_value, decimal_by_steps_wide, decimal_digit}
-use Rattle.std.proofs.lemmas.Str.Parse.{IsNumeralModel, digit_from_value}
+use Rattle.std.specs.Str.Parse.{AllDigits, digits_value, digits_value_after}
+use Rattle.std.proofs.lemmas.Fmt.{decimal_is_IsNumeral_wide, decimal_step_wide, decimal_by_steps_wide, decimal_digit}
+use Rattle.std.proofs.lemmas.Str.Parse.{digit_from_value}
 use Rattle.std.proofs.lemmas.Str.{digit_value_digit}
 use Rattle.std.proofs.lemmas.Int.Digits.{digits_value_more}
 use Rattle.std.proofs.lemmas.List.Elements.{All-cons, All-nil}
@@ -15,17 +15,43 @@ use Rattle.ps_log.specs.Told.{number_of}
 use Rattle.ps_log.specs.Spellings.{IsPlain, IsDecimal, Spells, SpellAll}
 use Rattle.ps_log.specs.Numbers.{capped_size, IsCount, IsNegative, IsNumber}
 
--- std's digits are digits here
-digits_model : IsNumeralModel (AllDigits 10) (digits_value 10)
-digits_model = record { to = λ ds d. d; from = λ ds d. d; same = λ ds d. refl }
+-- digits after a number, of a value that isn't too long
+le_value_after : (n : ℕ) (ds : List ℕ) → n ≤ digits_value_after 10 n ds
+le_value_after n [] = omega arith
+le_value_after n (c ∷ cs) = omega (arith, le_value_after (n * 10 + digit_value c) cs)
 
--- a word that spells a small number is what is written of it
-pub decimal_of : (word : List ℕ) (n : ℕ) → IsDecimal word n → n < 2 ^ 64 → word ≡ decimal n
+decimal_value_after : (n : ℕ) (ds : List ℕ) → 0 < n → AllDigits 10 ds → digits_value_after 10 n ds < 10 ^ 64 → decimal (digits_value_after 10 n ds) ≡ decimal n ++ ds
+decimal_value_after n [] some d small = sym (append-nil (decimal n))
+decimal_value_after n (c ∷ cs) some d small =
+    let m : ℕ = n * 10 + digit_value c in
+    let k = digit_value_digit c (digit_from_value c d.0) in
+    let front : m / 10 ≡ n = omega (arith, d.0) in
+    let end : 48 + m % 10 ≡ c = omega (arith, d.0) in
+    decimal_value_after m cs (omega arith) d.1 small
+    ∙ ap (λ x. x ++ cs) (decimal_step_wide m (omega arith) (omega (arith, le_value_after m cs)) ∙ (λ i. decimal (front i) ++ (end i ∷ [])))
+    ∙ append_assoc (decimal n) (c ∷ []) cs
+
+decimal_value : (ds : List ℕ) → IsPlain ds → digits_value 10 ds < 10 ^ 64 → decimal (digits_value 10 ds) ≡ ds
+decimal_value [] p small = absurd (omega (arith, p.digits.0))
+decimal_value (c ∷ []) p small =
+    let d = p.digits.1 in
+    let k = digit_value_digit c (digit_from_value c d.0) in
+    decimal_digit (0 * 10 + digit_value c) (omega (arith, d.0)) ∙ ap (λ x. x ∷ []) (omega arith)
+decimal_value (c ∷ e ∷ cs) p small =
+    let d = p.digits.1 in
+    let k = digit_value_digit c (digit_from_value c d.0) in
+    let no : c ≡ 48 → ⊥ = λ z. omega (arith, p.no_leading_zero z) in
+    let is : 48 + (0 * 10 + digit_value c) ≡ c = omega arith in
+    decimal_value_after (0 * 10 + digit_value c) (e ∷ cs) (omega arith) d.1 small
+    ∙ ap (λ x. x ++ (e ∷ cs)) (decimal_digit (0 * 10 + digit_value c) (omega (arith, d.0)) ∙ ap (λ x. x ∷ []) is)
+
+-- a word that spells a number that isn't too long is what is written of it
+pub decimal_of : (word : List ℕ) (n : ℕ) → IsDecimal word n → n < 10 ^ 64 → word ≡ decimal n
 decimal_of word n d h =
-    let small : digits_value 10 word < 2 ^ 64 = rw d.value h in
-    sym (decimal-digits_value digits_model word d.plain.digits.1 d.plain.digits.0 d.plain.no_leading_zero small) ∙ ap decimal d.value
+    let small : digits_value 10 word < 10 ^ 64 = rw d.value h in
+    sym (decimal_value word d.plain small) ∙ ap decimal d.value
 
-pub written_of : (word : List ℕ) (z : ℤ) → Spells word z → unsigned_abs z < 2 ^ 64 → word ≡ signed_decimal z
+pub written_of : (word : List ℕ) (z : ℤ) → Spells word z → unsigned_abs z < 10 ^ 64 → word ≡ signed_decimal z
 written_of word (pos n) s h = decimal_of word n s h
 written_of [] (negsuc n) s h = absurd s
 written_of (c ∷ cs) (negsuc n) s h = rw s.0 (ap (λ r. 45 ∷ r) (decimal_of cs (suc n) s.1 h))
@@ -131,7 +157,7 @@ pub negative-of : (digits : List ℕ) (size : ℕ) (z : ℤ) → IsPlain digits 
 negative-of digits zero z p e h f = absurd (omega (arith, h))
 negative-of digits (suc m) z p e h f =
     let n = digits_value 10 digits - 1 in
-    let same : m ≡ min (2 ^ 41) n = omega (arith, e) in
+    let same : m ≡ min (2 ^ 126) n = omega (arith, e) in
     (n, record { plain = p; value = omega (arith, e) }, f ∙ ap negsuc same)
 
 -- the tests of a plain word

@@ -1,10 +1,11 @@
 -- Lines of steps that are read.
 use Rattle.std.proofs.Common.{◌≡◌, ◌≢◌, ℕ, ◌==◌, ℤ, pos, negsuc, true, false, List, [], ◌∷◌, ◌++◌, map, Option, None, Some, refl, sym, ap, subst, ◌∙◌, append_assoc, append-nil, arith, get_or, All}
-use Rattle.std.proofs.Common.{w64, to_z, of_z, FitsSigned as SFits}
+use Rattle.std.proofs.Common.{to_z, of_z, FitsSigned as SFits}
+use mir.Syntax.{w128}
 use Rattle.std.proofs.lemmas.Int.{to_z-of_z}
 use Rattle.std.proofs.lemmas.List.Splits.{slice_split_at, slice_split_none}
 use Rattle.ps_log.specs.Spellings.{Spells, SpellAll}
-use Rattle.ps_log.specs.StepTexts.{words_of}
+use Rattle.ps_log.specs.Spellings.{words_of}
 use Rattle.ps_log.specs.Numbers.{capped, AreNumbersOf, words_after}
 use Rattle.ps_log.proofs.Spelled.{spelled-push, spelled-middle}
 
@@ -65,10 +66,10 @@ read-all text numbers r =
     let e : words_of text ≡ r.done = r.words ∙ append-nil r.done in
     subst (λ ws. AreNumbersOf ws numbers) (sym e) r.numbers_are
 
-capped-fits : (z : ℤ) → SFits w64 (capped z)
+capped-fits : (z : ℤ) → SFits w128 (capped z)
 capped-fits (pos n) = omega arith
 capped-fits (negsuc n) = omega arith
 
--- a number that was cut off has 64 bits
-pub capped-kept : (n z : ℤ) → n ≡ capped z → to_z w64 (of_z w64 n) ≡ capped z
-capped-kept n z e = to_z-of_z w64 n (subst (SFits w64) (sym e) (capped-fits z)) ∙ e
+-- a number that was cut off has 128 bits
+pub capped-kept : (n z : ℤ) → n ≡ capped z → to_z w128 (of_z w128 n) ≡ capped z
+capped-kept n z e = to_z-of_z w128 n (subst (SFits w128) (sym e) (capped-fits z)) ∙ e

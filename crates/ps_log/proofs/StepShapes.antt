@@ -135,7 +135,7 @@ zero-size : (z : ℤ) → unsigned_abs z ≡ 0 → z ≡ pos 0
 zero-size (pos n) e = ap pos e
 zero-size (negsuc n) e = absurd (omega (arith, e))
 
-uncapped-zero : (z : ℤ) → capped z ≡ pos 0 → z ≡ pos 0
+pub uncapped-zero : (z : ℤ) → capped z ≡ pos 0 → z ≡ pos 0
 uncapped-zero z e = zero-size z (omega (arith, capped-abs z, ap unsigned_abs e))
 
 uncapped-count : (z : ℤ) → Counts (capped z) → z ≡ pos (unsigned_abs z)
@@ -259,7 +259,7 @@ within-nonzero s h = nonzero-lits s.lits h.lits
 
 -- numbers that aren't cut off
 abbrev pub Fit : ℤ → Type 0
-Fit z = unsigned_abs z ≤ 2 ^ 41
+Fit z = unsigned_abs z ≤ 2 ^ 126
 
 fit-lits : (lits more : List ℤ) → All IsLiteral lits → All Fit more → All Fit (lits ++ more)
 fit-lits [] more h m = m
@@ -285,7 +285,7 @@ uncut-one (pos n) y e h =
     ap pos same ∙ e
 uncut-one (negsuc n) y e h =
     let small : Fit (capped (negsuc n)) = subst Fit (sym e) h in
-    let same : n ≡ min (2 ^ 41) n = omega (arith, small) in
+    let same : n ≡ min (2 ^ 126) n = omega (arith, small) in
     ap negsuc same ∙ e
 
 pub uncut : (zs ys : List ℤ) → map capped zs ≡ ys → All Fit ys → zs ≡ ys

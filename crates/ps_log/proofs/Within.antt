@@ -7,11 +7,8 @@ use Rattle.std.proofs.lemmas.List.{length-map, take_all}
 use Rattle.std.proofs.lemmas.List.Elements.{All-head, All-tail, All-more}
 use Rattle.ps_steps.specs.Constraints.{Constraint}
 use Rattle.ps_steps.specs.Weights.{Weighted, weighted, are_rising, IsNormal}
-use Rattle.ps_pb.specs.Limits.{IsLiteral}
 use Rattle.ps_log.specs.Limits.{IsGoalWithin}
-
-abbrev pub HasLiteral : (ℤ × ℤ) → Type 0
-HasLiteral t = IsLiteral t.0
+use Rattle.ps_log.specs.GoalNumbers.{HasLiteral}
 
 -- rising variables up to a limit are few
 rising_few : (above : ℕ) (ts : Weighted) → above ≤ 1024 → are_rising above ts ≡ true → All HasLiteral ts → above + length ts ≤ 1024

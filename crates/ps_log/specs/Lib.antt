@@ -1,10 +1,14 @@
-pub mod GoalTexts
+-- Meaning
 pub mod Limits
-pub mod Lines
-pub mod Logs
-pub mod Numbers
-pub mod Spellings
-pub mod StepTexts
-pub mod TextLogs
 pub mod Texts
+pub mod Spellings
+pub mod FirstLines
+pub mod StepTexts
+pub mod GoalTexts
 pub mod Told
+pub mod Logs
+pub mod TextLogs
+-- Bridge: lines that are being made, and numbers that are read, cut off past every limit
+pub mod Lines
+pub mod Numbers
+pub mod GoalNumbers

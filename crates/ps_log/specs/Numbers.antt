@@ -1,23 +1,22 @@
 -- Numbers that are read, cut off past every limit.
-use Rattle.std.specs.Prelude.{ℕ, suc, ◌+◌, ◌^◌, ◌≡◌, ◌≤◌, ◌≤ℤ◌, ℤ, pos, negsuc, min, List, [], ◌∷◌, ◌++◌, map, All, length, unsigned_abs, Result, Ok, Err, Option, Some, None, ⊤}
+use Rattle.std.specs.Prelude.{ℕ, suc, ◌+◌, ◌^◌, ◌≡◌, ◌≢◌, ◌≤◌, ◌≤ℤ◌, ℤ, pos, negsuc, min, List, [], ◌∷◌, ◌++◌, map, All, length, unsigned_abs, Result, Ok, Err, Option, Some, None, ⊤}
 use Rattle.std.specs.Str.Parse.{digits_value}
-use Rattle.ps_log.specs.Spellings.{IsPlain, IsDecimal, Spells, SpellAll}
-use Rattle.ps_log.specs.StepTexts.{words_of}
+use Rattle.ps_log.specs.Spellings.{words_of, IsPlain, IsDecimal, Spells, SpellAll}
 use Rattle.ps_steps.specs.Steps.{Step}
 use Rattle.ps_log.specs.Texts.{hint_numbers}
 use Rattle.ps_log.specs.Limits.{most_hints, IsId, IsStepWithin}
 use Rattle.ps_pb.specs.Limits.{most_variables, IsLiteral}
-use Rattle.ps_log.specs.declared.step_error.StepError.{StepError}
-use Rattle.ps_log.specs.declared.step_error.StepError.TheVariants.{Truncated, BadByte, NotCanonical, TooLarge, NoMemory}
+use Rattle.ps_log.specs.declared.line_error.LineError.{LineError}
+use Rattle.ps_log.specs.declared.line_error.LineError.TheVariants.{Truncated, BadByte, NotCanonical, TooLarge, NoMemory}
 
 -- a size, or one above each limit
 abbrev pub capped_size : ℕ → ℕ
-capped_size n = min (2 ^ 41 + 1) n
+capped_size n = min (2 ^ 126 + 1) n
 
 -- a number whose size is cut off above each limit
 abbrev pub capped : ℤ → ℤ
 capped (pos n) = pos (capped_size n)
-capped (negsuc n) = negsuc (min (2 ^ 41) n)
+capped (negsuc n) = negsuc (min (2 ^ 126) n)
 
 -- the size that digits spell
 abbrev pub IsSize : List ℕ → Option ℕ → Type 0
@@ -45,14 +44,18 @@ pub record AreNumbersOf (words : List (List ℕ)) (numbers : List ℤ) : Type 0 
   pub spelled : SpellAll words exact
   pub cut : numbers ≡ map capped exact
 
--- the numbers that the words of a text spell
-abbrev pub AreRead : List ℕ → Result (List ℤ) StepError → Type 0
-AreRead text (Ok numbers) = AreNumbersOf (words_of text) numbers
-AreRead text (Err Truncated) = ⊥
-AreRead text (Err BadByte) = ⊥
-AreRead text (Err NotCanonical) = (exact : List ℤ) → SpellAll (words_of text) exact → ⊥
-AreRead text (Err TooLarge) = ⊥
-AreRead text (Err NoMemory) = ⊤
+-- the numbers that the words of a text spell, if they do
+abbrev pub AreRead : List ℕ → Option (List ℤ) → Type 0
+AreRead text (Some numbers) = AreNumbersOf (words_of text) numbers
+AreRead text None = (exact : List ℤ) → SpellAll (words_of text) exact → ⊥
+
+-- no byte is the separator
+abbrev pub Lacks : ℕ → List ℕ → Type 0
+Lacks separator bytes = All (λ b. b ≢ separator) bytes
+
+-- bytes are those before their first separator, that separator, and those after it
+abbrev pub IsCut : List ℕ → ℕ → List ℕ → List ℕ → Type 0
+IsCut bytes separator before after = (bytes ≡ before ++ separator ∷ after) × Lacks separator before
 
 -- the words of what follows a space, if anything does
 abbrev pub words_after : Option (List ℕ) → List (List ℕ)
@@ -79,7 +82,7 @@ pub record HasParts (numbers : List ℤ) : Type 0 where
   pub parts : AreParts numbers id lits hints
 
 -- literals that are these numbers
-abbrev pub AreLits : List ℤ → Result (List ℤ) StepError → Type 0
+abbrev pub AreLits : List ℤ → Result (List ℤ) LineError → Type 0
 AreLits numbers (Ok lits) = (lits ≡ numbers) × All IsLiteral lits × (length lits ≤ most_variables)
 AreLits numbers (Err Truncated) = ⊥
 AreLits numbers (Err BadByte) = ⊥
@@ -88,7 +91,7 @@ AreLits numbers (Err TooLarge) = All IsLiteral numbers → length numbers ≤ mo
 AreLits numbers (Err NoMemory) = ⊤
 
 -- hints that are these numbers
-abbrev pub AreHints : List ℤ → Result (List ℕ) StepError → Type 0
+abbrev pub AreHints : List ℤ → Result (List ℕ) LineError → Type 0
 AreHints numbers (Ok hints) = (hint_numbers hints ≡ numbers) × All IsId hints × (length hints ≤ most_hints)
 AreHints numbers (Err Truncated) = ⊥
 AreHints numbers (Err BadByte) = ⊥
@@ -108,7 +111,7 @@ pub record HasNumbers (s : Step) (id : ℤ) (lits hints : List ℤ) : Type 0 whe
   pub hints_are : hint_numbers s.hints ≡ hints
 
 -- the step within the limits that has these numbers
-abbrev pub IsStepOf : ℤ → List ℤ → List ℤ → Result Step StepError → Type 0
+abbrev pub IsStepOf : ℤ → List ℤ → List ℤ → Result Step LineError → Type 0
 IsStepOf id lits hints (Ok s) = HasNumbers s id lits hints × IsStepWithin s
 IsStepOf id lits hints (Err Truncated) = ⊥
 IsStepOf id lits hints (Err BadByte) = ⊥

@@ -1,6 +1,11 @@
 -- Words that spell numbers of any size.
-use Rattle.std.specs.Prelude.{ℕ, suc, ◌≡◌, ℤ, pos, negsuc, List, [], ◌∷◌, length, slice_index, ⊤}
+use Rattle.std.specs.Prelude.{ℕ, suc, ◌≡◌, ◌==◌, ℤ, pos, negsuc, List, [], ◌∷◌, length, slice_index, ⊤}
+use Rattle.std.specs.List.{slice_split}
 use Rattle.std.specs.Str.Parse.{IsNumeral, digits_value}
+
+-- the parts of a line between its spaces
+abbrev pub words_of : List ℕ → List (List ℕ)
+words_of line = slice_split (λ b. b == 32) line
 
 -- digits, and no leading zero before others
 pub record IsPlain (word : List ℕ) : Type 0 where

@@ -10,7 +10,7 @@ use Rattle.ps_steps.specs.Constraints.{Constraint}
 use Rattle.ps_steps.specs.Steps.{Step}
 use Rattle.ps_steps.specs.Weights.{weighted, are_rising}
 use Rattle.ps_log.specs.Logs.{Telling}
-use Rattle.ps_log.specs.StepTexts.{words_of}
+use Rattle.ps_log.specs.Spellings.{words_of}
 use Rattle.ps_log.specs.Texts.{step_numbers, goal_numbers}
 
 -- the parts of bytes that end with a separator, where one is begun already

@@ -2,13 +2,16 @@
 #![tactic(auto)]
 
 mod error;
+mod goal_parts;
+mod goal_reader;
 mod held;
 mod laws;
 mod limits;
+mod line_error;
 mod numbers;
 mod numeral;
+mod rising;
 mod sink;
-mod step_error;
 mod step_parts;
 mod step_reader;
 mod text;
@@ -16,11 +19,12 @@ mod text_log;
 mod words;
 
 pub use error::LogError;
+pub use goal_reader::read_goal;
 pub use held::HeldLog;
 pub use laws::{last_lines_are_told, lines_are_read};
-pub use limits::{is_goal_within, is_step_within};
+pub use limits::{MOST_HINTS, MOST_IDS, MOST_LITS, is_goal_within, is_step_within};
+pub use line_error::{GoalError, LineError, StepError};
 pub use sink::ProofSink;
-pub use step_error::StepError;
 pub use step_reader::read_step;
 pub use text::{write_goal, write_step};
 pub use text_log::TextLog;

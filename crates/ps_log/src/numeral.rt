@@ -1,15 +1,17 @@
 //! Numbers of any size, cut off past every limit.
-ghost use Rattle.std.specs.Prelude.{◌≡◌, ◌≤◌, ◌<◌, ◌↔◌, ◌∷◌, ◌+◌, ◌^◌, ℕ, List as Bytes, All, IfSome, IfNone, IsTrue, length, slice_index};
+ghost use Rattle.std.specs.Prelude.{◌≡◌, ◌≤◌, ◌<◌, ◌↔◌, ◌∷◌, ◌+◌, ◌*◌, ◌^◌, ℕ, List as Bytes, All};
+ghost use Rattle.std.specs.Prelude.{IfSome, IfNone, IsTrue, length, slice_index};
 ghost use Rattle.std.specs.Char.{digit_value};
 ghost use Rattle.std.specs.Str.Parse.{digits_value};
 ghost use Rattle.ps_log.specs.Spellings.{IsPlain};
 ghost use Rattle.ps_log.specs.Numbers.{capped_size, IsSize, IsCount, IsNegative, IsNumber};
 
-// One above the limit of ids, which is above every other one: what is more counts as this.
-const CAP: u64 = (1 << 41) + 1;
+// One above the greatest limit, that of a goal's numbers: what is more counts as this.
+const CAP: u128 = (1 << 126) + 1;
 
-/// The number that a word spells, if it spells one: digits without a leading zero, after a minus where it is below 0.
-pub(crate) fn number(word: &[u8]) -> Option<i64>
+/// The number that a word spells, if it spells one: digits without a leading zero, after a minus
+/// where it is below 0.
+pub(crate) fn number(word: &[u8]) -> Option<i128>
     ensures { IsNumber word.now result }
 {
     match without_minus(word) {
@@ -28,27 +30,27 @@ fn without_minus(word: &[u8]) -> Option<&[u8]>
     }
 }
 
-fn positive(word: &[u8]) -> Option<i64>
+fn positive(word: &[u8]) -> Option<i128>
     ensures { IsCount word.now result }
 {
     match size(word) {
-        Some(n) => Some(n as i64),
+        Some(n) => Some(n as i128),
         None => None,
     }
 }
 
-fn negative(digits: &[u8]) -> Option<i64>
+fn negative(digits: &[u8]) -> Option<i128>
     ensures { IsNegative digits.now result }
 {
     match size(digits) {
-        Some(n) if 0 < n => Some(-(n as i64)),
+        Some(n) if 0 < n => Some(-(n as i128)),
         _ => None,
     }
 }
 
-fn size(word: &[u8]) -> Option<u64>
+fn size(word: &[u8]) -> Option<u128>
     ensures size { IsSize word.now result }
-    ensures within { IfSome result (λ n. n ≤ 2 ^ 41 + 1) }
+    ensures within { IfSome result (λ n. n ≤ 2 ^ 126 + 1) }
 {
     if is_plain(word) {
         Some(value(word))
@@ -81,13 +83,20 @@ fn are_digits(word: &[u8]) -> bool
     word.iter().all(|byte| byte.is_ascii_digit())
 }
 
-fn value(digits: &[u8]) -> u64
+fn value(digits: &[u8]) -> u128
     requires { All (λ b. digit_value b < 10) digits.now }
     ensures { result ≡ capped_size (digits_value 10 digits.now) }
 {
     let mut value = 0;
     for digit in digits {
-        value = CAP.min(10 * value + u64::from(*digit - b'0'));
+        value = one_more_digit(value, *digit - b'0');
     }
     value
+}
+
+// Ten times the value and the digit; past every limit it stays there.
+fn one_more_digit(value: u128, digit: u8) -> u128
+    ensures { result ≡ capped_size (10 * value + digit) }
+{
+    CAP.min(value.saturating_mul(10).saturating_add(u128::from(digit)))
 }

@@ -4,27 +4,27 @@ ghost use Rattle.ps_pb.specs.Limits.{IsLiteral};
 ghost use Rattle.ps_log.specs.Numbers.{AreParts, HasParts, AreLits, AreHints, IsIdOf, IsStepOf};
 
 use crate::limits::{MOST_HINTS, MOST_IDS, MOST_LITS};
-use crate::step_error::StepError;
+use crate::line_error::LineError;
 use ps_io::List;
 use ps_pb::{Hints, Lit, Lits, MOST_VARIABLES, Step};
 use std::alloc::Global;
 
-const MOST_ID: i64 = MOST_IDS as i64;
+const MOST_ID: i128 = MOST_IDS as i128;
 
-const MOST_LITERAL: i64 = MOST_VARIABLES as i64;
+const MOST_LITERAL: i128 = MOST_VARIABLES as i128;
 
 /// The numbers of a step in its parts.
 #[derive(Clone, Copy)]
 pub(crate) struct StepParts<'n> {
-    id: i64,
-    lits: &'n [i64],
-    hints: &'n [i64],
+    id: i128,
+    lits: &'n [i128],
+    hints: &'n [i128],
 }
 
 impl<'n> StepParts<'n> {
     /// The parts of a step's numbers: the first 0 after the id ends the literals, and the last number is a 0, which ends the
     /// hints.
-    pub(crate) fn of(numbers: &'n [i64]) -> Option<StepParts<'n>>
+    pub(crate) fn of(numbers: &'n [i128]) -> Option<StepParts<'n>>
         ensures found { IfSome result (λ p. AreParts numbers.now p.id p.lits.now p.hints.now) }
         ensures none { IfNone result (HasParts numbers.now → ⊥) }
     {
@@ -35,12 +35,12 @@ impl<'n> StepParts<'n> {
     }
 
     /// The step that has these parts, if it is within the limits.
-    pub(crate) fn step(&self, alloc: Global) -> Result<Step, StepError>
+    pub(crate) fn step(&self, alloc: Global) -> Result<Step, LineError>
         ensures { IsStepOf self.now.id self.now.lits.now self.now.hints.now result }
     {
         let id = match id(&self.id) {
             Some(id) => id,
-            None => return Err(StepError::TooLarge),
+            None => return Err(LineError::TooLarge),
         };
         let lits = lits(alloc, self.lits)?;
         let hints = hints(alloc, self.hints)?;
@@ -48,7 +48,7 @@ impl<'n> StepParts<'n> {
     }
 }
 
-fn split_count(numbers: &[i64]) -> Option<(i64, &[i64])>
+fn split_count(numbers: &[i128]) -> Option<(i128, &[i128])>
     ensures found { IfSome result (λ r. (numbers.now ≡ r.0 ∷ r.1.now) × (pos 0 ≤ℤ r.0)) }
     ensures none { IfNone result ((id : ℤ) (rest : Numbers ℤ) → numbers.now ≡ id ∷ rest → pos 0 ≤ℤ id → ⊥) }
 {
@@ -59,7 +59,7 @@ fn split_count(numbers: &[i64]) -> Option<(i64, &[i64])>
 }
 
 // What stands before the last number, where that is 0.
-fn counts_before_zero(numbers: &[i64]) -> Option<&[i64]>
+fn counts_before_zero(numbers: &[i128]) -> Option<&[i128]>
     ensures found { IfSome result (λ r. (numbers.now ≡ r.now ++ pos 0 ∷ []) × All (λ n. pos 0 ≤ℤ n) r.now) }
     ensures none { IfNone result ((counts : Numbers ℤ) → numbers.now ≡ counts ++ pos 0 ∷ [] → All (λ n. pos 0 ≤ℤ n) counts → ⊥) }
 {
@@ -69,7 +69,7 @@ fn counts_before_zero(numbers: &[i64]) -> Option<&[i64]>
     }
 }
 
-fn split_at_zero(numbers: &[i64]) -> Option<(&[i64], &[i64])>
+fn split_at_zero(numbers: &[i128]) -> Option<(&[i128], &[i128])>
     ensures found { IfSome result (λ r. (numbers.now ≡ r.0.now ++ pos 0 ∷ r.1.now) × All (λ n. 1 ≤ unsigned_abs n) r.0.now) }
     ensures none { IfNone result (All (λ n. 1 ≤ unsigned_abs n) numbers.now) }
 {
@@ -79,13 +79,13 @@ fn split_at_zero(numbers: &[i64]) -> Option<(&[i64], &[i64])>
     }
 }
 
-fn are_counts(numbers: &[i64]) -> bool
+fn are_counts(numbers: &[i128]) -> bool
     ensures { IsTrue result ↔ All (λ n. pos 0 ≤ℤ n) numbers.now }
 {
     numbers.iter().all(|n| 0 <= *n)
 }
 
-fn id(number: &i64) -> Option<u64>
+fn id(number: &i128) -> Option<u64>
     ensures { IsIdOf number.now result }
 {
     if *number < 1 || MOST_ID < *number {
@@ -94,7 +94,8 @@ fn id(number: &i64) -> Option<u64>
     Some(*number as u64)
 }
 
-fn lit(number: &i64) -> Option<Lit>
+/// The literal that is this number.
+pub(crate) fn lit(number: &i128) -> Option<Lit>
     ensures value { IfSome result (λ lit. lit ≡ number.now) }
     ensures exact { IsSome result ↔ IsLiteral number.now }
 {
@@ -104,33 +105,33 @@ fn lit(number: &i64) -> Option<Lit>
     Lit::new(*number as i32)
 }
 
-fn lits(alloc: Global, numbers: &[i64]) -> Result<Lits, StepError>
+fn lits(alloc: Global, numbers: &[i128]) -> Result<Lits, LineError>
     ensures { AreLits numbers.now result }
 {
     if MOST_LITS < numbers.len() {
-        return Err(StepError::TooLarge);
+        return Err(LineError::TooLarge);
     }
     let mut lits = List::new(alloc);
     for number in numbers {
         match lit(number) {
             Some(lit) => lits.push(lit)?,
-            None => return Err(StepError::TooLarge),
+            None => return Err(LineError::TooLarge),
         }
     }
     Ok(lits)
 }
 
-fn hints(alloc: Global, numbers: &[i64]) -> Result<Hints, StepError>
+fn hints(alloc: Global, numbers: &[i128]) -> Result<Hints, LineError>
     ensures { AreHints numbers.now result }
 {
     if MOST_HINTS < numbers.len() {
-        return Err(StepError::TooLarge);
+        return Err(LineError::TooLarge);
     }
     let mut hints = List::new(alloc);
     for number in numbers {
         match id(number) {
             Some(id) => hints.push(id)?,
-            None => return Err(StepError::TooLarge),
+            None => return Err(LineError::TooLarge),
         }
     }
     Ok(hints)

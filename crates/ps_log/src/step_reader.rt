@@ -2,42 +2,35 @@
 ghost use Rattle.std.specs.Prelude.{◌≡◌, ◌∷◌, ℕ, List as Bytes, Ok, Err, IfSome, IfNone};
 ghost use Rattle.std.specs.List.{list_all};
 ghost use Rattle.ps_steps.specs.Steps.{Step as StepValue};
-ghost use Rattle.ps_log.specs.declared.step_error.StepError.{StepError as Refusal};
-ghost use Rattle.ps_log.specs.StepTexts.{is_step_byte, IsOneLine, IsAnswer, IsRefused, HasStep, Gives, IsLineAnswer, FirstLine};
+ghost use Rattle.ps_log.specs.declared.line_error.LineError.{LineError as Refusal};
+ghost use Rattle.ps_log.specs.Limits.{IsStepWithin};
+ghost use Rattle.ps_log.specs.FirstLines.{Gives, IsLineAnswer};
+ghost use Rattle.ps_log.specs.StepTexts.{is_step_byte, IsStepText};
+ghost use Rattle.ps_log.specs.StepTexts.{HasStep, IsStepAnswer, IsStepRefused};
 
-use crate::step_error::StepError;
+use crate::line_error::LineError;
 use crate::step_parts::StepParts;
-use crate::words::{numbers, split_once};
+use crate::words::{first_line, numbers};
 use ps_pb::Step;
 use std::alloc::Global;
 
-/// Reads the step whose line stands at the front, and says how many bytes that line has with its line feed.
-pub fn read_step(alloc: Global, bytes: &[u8]) -> Result<(Step, u64), StepError>
-    ensures answer { IsAnswer bytes.now result }
-    ensures taken { (s : StepValue) (count : ℕ) → HasStep bytes.now s count → Gives result (Ok (s, count)) }
-    ensures refused { (why : Refusal) → IsRefused bytes.now why → Gives result (Err why) }
+/// Reads the step whose line stands at the front, and says how many bytes that line has with its
+/// line feed.
+pub fn read_step(alloc: Global, bytes: &[u8]) -> Result<(Step, u64), LineError>
+    ensures answer { IsStepAnswer bytes.now result }
+    ensures taken { (s : StepValue) (n : ℕ) → HasStep bytes.now s n → Gives result (Ok (s, n)) }
+    ensures refused { (why : Refusal) → IsStepRefused bytes.now why → Gives result (Err why) }
 {
     let line = match first_line(bytes) {
         Some(line) => line,
-        None => return Err(StepError::Truncated),
+        None => return Err(LineError::Truncated),
     };
     if !are_step_bytes(line) {
-        return Err(StepError::BadByte);
+        return Err(LineError::BadByte);
     }
     match step_of(alloc, line) {
         Ok(step) => Ok((step, line.len() as u64 + 1)),
         Err(why) => Err(why),
-    }
-}
-
-// The bytes before the first line feed.
-fn first_line(bytes: &[u8]) -> Option<&[u8]>
-    ensures found { IfSome result (λ line. FirstLine bytes.now line.now) }
-    ensures none { IfNone result (IsOneLine bytes.now) }
-{
-    match split_once(bytes, b'\n') {
-        Some((line, _)) => Some(line),
-        None => None,
     }
 }
 
@@ -53,17 +46,20 @@ fn is_step_byte(b: u8) -> bool
     b == b's' || b.is_ascii_digit() || b == b'-' || b == b' '
 }
 
-fn step_of(alloc: Global, line: &[u8]) -> Result<Step, StepError>
-    ensures { IsLineAnswer line.now result }
+fn step_of(alloc: Global, line: &[u8]) -> Result<Step, LineError>
+    ensures { IsLineAnswer IsStepText IsStepWithin line.now result }
 {
     let text = match text_of(line) {
         Some(text) => text,
-        None => return Err(StepError::NotCanonical),
+        None => return Err(LineError::NotCanonical),
     };
-    let numbers = numbers(alloc, text)?;
+    let numbers = match numbers(alloc, text)? {
+        Some(numbers) => numbers,
+        None => return Err(LineError::NotCanonical),
+    };
     match StepParts::of(numbers.as_slice()) {
         Some(parts) => parts.step(alloc),
-        None => Err(StepError::NotCanonical),
+        None => Err(LineError::NotCanonical),
     }
 }
 

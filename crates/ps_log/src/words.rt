@@ -1,16 +1,16 @@
 //! Words between spaces.
-ghost use Rattle.std.specs.Prelude.{◌≡◌, ◌≢◌, ◌≤◌, ◌++◌, ◌∷◌, All, IfSome, IfNone, length, option_copied};
-ghost use Rattle.ps_log.specs.StepTexts.{words_of};
-ghost use Rattle.ps_log.specs.Numbers.{AreRead, words_after, left_of};
+ghost use Rattle.std.specs.Prelude.{◌≡◌, ◌≤◌, ◌∷◌, IfOk, IfSome, IfNone, length, option_copied};
+ghost use Rattle.ps_log.specs.Spellings.{words_of};
+ghost use Rattle.ps_log.specs.FirstLines.{FirstLine, IsOneLine};
+ghost use Rattle.ps_log.specs.Numbers.{AreRead, Lacks, IsCut, words_after, left_of};
 
 use crate::numeral::number;
-use crate::step_error::StepError;
-use ps_io::List;
+use ps_io::{List, NoMemory};
 use std::alloc::Global;
 
-/// The numbers that the words of a text spell.
-pub(crate) fn numbers(alloc: Global, text: &[u8]) -> Result<List<i64>, StepError>
-    ensures { AreRead text.now result }
+/// The numbers that the words of a text spell. `None` where a word spells none.
+pub(crate) fn numbers(alloc: Global, text: &[u8]) -> Result<Option<List<i128>>, NoMemory>
+    ensures { IfOk result (AreRead text.now) }
 {
     let mut numbers = List::new(alloc);
     let mut rest = Some(text);
@@ -18,15 +18,15 @@ pub(crate) fn numbers(alloc: Global, text: &[u8]) -> Result<List<i64>, StepError
         let (word, after) = split_word(bytes);
         match number(word) {
             Some(n) => numbers.push(n)?,
-            None => return Err(StepError::NotCanonical),
+            None => return Ok(None),
         }
         rest = after;
     }
-    Ok(numbers)
+    Ok(Some(numbers))
 }
 
-// The bytes before the first space, and those after it if there is one.
-fn split_word(text: &[u8]) -> (&[u8], Option<&[u8]>)
+/// The bytes before the first space, and those after it if there is one.
+pub(crate) fn split_word(text: &[u8]) -> (&[u8], Option<&[u8]>)
     ensures words { words_of text.now ≡ result.0.now ∷ words_after (option_copied result.1) }
     ensures shorter { left_of (option_copied result.1) ≤ length text.now }
 {
@@ -38,11 +38,23 @@ fn split_word(text: &[u8]) -> (&[u8], Option<&[u8]>)
 
 /// The bytes before the first separator, and those after it.
 pub(crate) fn split_once(bytes: &[u8], separator: u8) -> Option<(&[u8], &[u8])>
-    ensures found { IfSome result (λ r. (bytes.now ≡ r.0.now ++ separator ∷ r.1.now) × All (λ b. b ≢ separator) r.0.now) }
-    ensures none { IfNone result (All (λ b. b ≢ separator) bytes.now) }
+    ensures found { IfSome result (λ r. IsCut bytes.now separator r.0.now r.1.now) }
+    ensures none { IfNone result (Lacks separator bytes.now) }
 {
     match bytes.iter().position(|b| *b == separator) {
         Some(i) => Some((&bytes[..i], &bytes[i + 1..])),
         None => None,
     }
 }
+
+/// The bytes before the first line feed.
+pub(crate) fn first_line(bytes: &[u8]) -> Option<&[u8]>
+    ensures found { IfSome result (λ line. FirstLine bytes.now line.now) }
+    ensures none { IfNone result (IsOneLine bytes.now) }
+{
+    match split_once(bytes, b'\n') {
+        Some((line, _)) => Some(line),
+        None => None,
+    }
+}
+

@@ -1,5 +1,6 @@
 use Rattle.std.proofs.Common.{arith}
-use Rattle.ps_log.proofs.Within.{HasLiteral, all_taken, one_more}
+use Rattle.ps_log.specs.GoalNumbers.{HasLiteral}
+use Rattle.ps_log.proofs.Within.{all_taken, one_more}
 use Rattle.ps_log.proofs.limits.have_literals.Goals as goal
 
 pub loop-term-preserved : goal.loop-term-preserved

@@ -1,4 +1,5 @@
-use Rattle.std.proofs.Common.{option_copied, sym, subst, w64, to_z, of_z}
+use Rattle.std.proofs.Common.{option_copied, sym, subst, to_z, of_z}
+use mir.Syntax.{w128}
 use Rattle.ps_log.proofs.StepLines.{ReadSoFar, read-fails, read-more, capped-kept}
 use Rattle.ps_log.proofs.words.numbers.Goals as goal
 
@@ -10,7 +11,7 @@ returns-in-None c =
 pub loop-rest-preserved : goal.loop-rest-preserved
 loop-rest-preserved c =
     subst (λ ns. ReadSoFar c.args.text.now (option_copied c.split_word.result.1) ns) (sym c.in_ok-push-in-Some-number.ensures.ok)
-    (read-more c.args.text.now c.in-Some.bytes.now c.split_word.result.0.now (option_copied c.split_word.result.1) c.loop-rest.numbers (to_z w64 (of_z w64 c.in-Some-number.n))
+    (read-more c.args.text.now c.in-Some.bytes.now c.split_word.result.0.now (option_copied c.split_word.result.1) c.loop-rest.numbers (to_z w128 (of_z w128 c.in-Some-number.n))
     c.in-Some-number.ensures.0
     (subst (λ r. ReadSoFar c.args.text.now (option_copied r) c.loop-rest.numbers) c.in-Some.is c.loop-rest.invariant)
     c.split_word.ensures.words c.in-Some-number.ensures.1 (capped-kept c.in-Some-number.n c.in-Some-number.ensures.0 c.in-Some-number.ensures.2))

@@ -1,0 +1,80 @@
+//! Goals that are read.
+ghost use Rattle.std.specs.Prelude.{◌≡◌, ◌∷◌, ℕ, List as Bytes, Ok, Err, IfSome, IfNone};
+ghost use Rattle.std.specs.List.{list_all};
+ghost use Rattle.ps_steps.specs.Constraints.{Constraint as Linear};
+ghost use Rattle.ps_log.specs.declared.line_error.LineError.{LineError as Refusal};
+ghost use Rattle.ps_log.specs.Limits.{IsGoalWithin};
+ghost use Rattle.ps_log.specs.FirstLines.{Gives, IsLineAnswer};
+ghost use Rattle.ps_log.specs.GoalTexts.{is_goal_byte, IsGoalText};
+ghost use Rattle.ps_log.specs.GoalTexts.{HasGoal, IsGoalAnswer, IsGoalRefused};
+
+use crate::goal_parts::GoalParts;
+use crate::line_error::LineError;
+use crate::rising::variables_rise;
+use crate::words::{first_line, numbers};
+use ps_pb::Constraint;
+use std::alloc::Global;
+
+/// Reads the goal whose line stands at the front, and says how many bytes that line has with its
+/// line feed.
+pub fn read_goal(alloc: Global, bytes: &[u8]) -> Result<(Constraint, u64), LineError>
+    ensures answer { IsGoalAnswer bytes.now result }
+    ensures taken { (g : Linear) (n : ℕ) → HasGoal bytes.now g n → Gives result (Ok (g, n)) }
+    ensures refused { (why : Refusal) → IsGoalRefused bytes.now why → Gives result (Err why) }
+{
+    let line = match first_line(bytes) {
+        Some(line) => line,
+        None => return Err(LineError::Truncated),
+    };
+    if !are_goal_bytes(line) {
+        return Err(LineError::BadByte);
+    }
+    match goal_of(alloc, line) {
+        Ok(goal) => Ok((goal, line.len() as u64 + 1)),
+        Err(why) => Err(why),
+    }
+}
+
+fn are_goal_bytes(line: &[u8]) -> bool
+    ensures { result ≡ list_all is_goal_byte line.now }
+{
+    line.iter().all(|b| is_goal_byte(*b))
+}
+
+fn is_goal_byte(b: u8) -> bool
+    ensures { result ≡ is_goal_byte b }
+{
+    b == b'g' || b.is_ascii_digit() || b == b'-' || b == b' '
+}
+
+fn goal_of(alloc: Global, line: &[u8]) -> Result<Constraint, LineError>
+    ensures { IsLineAnswer IsGoalText IsGoalWithin line.now result }
+{
+    let text = match text_of(line) {
+        Some(text) => text,
+        None => return Err(LineError::NotCanonical),
+    };
+    let numbers = match numbers(alloc, text)? {
+        Some(numbers) => numbers,
+        None => return Err(LineError::NotCanonical),
+    };
+    let parts = match GoalParts::of(numbers.as_slice()) {
+        Some(parts) => parts,
+        None => return Err(LineError::NotCanonical),
+    };
+    if !variables_rise(text) {
+        return Err(LineError::NotCanonical);
+    }
+    parts.goal(alloc)
+}
+
+// What follows `g` and a space.
+fn text_of(line: &[u8]) -> Option<&[u8]>
+    ensures found { IfSome result (λ text. line.now ≡ 103 ∷ 32 ∷ text.now) }
+    ensures none { IfNone result ((text : Bytes ℕ) → line.now ≡ 103 ∷ 32 ∷ text → ⊥) }
+{
+    match line {
+        [b'g', b' ', text @ ..] => Some(text),
+        _ => None,
+    }
+}
