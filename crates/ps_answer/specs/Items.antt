@@ -10,7 +10,8 @@ use Rattle.ps_table.specs.declared.place.Place.{Place}
 use Rattle.ps_table.specs.declared.place.Place.TheVariants as place
 use Rattle.ps_table.specs.declared.place.TableCol.{TableCol}
 use Rattle.ps_table.specs.declared.place.TableCol.TheVariants as shown
-use Rattle.ps_log.specs.Texts.{step_numbers, goal_numbers, IsStepWithin, IsGoalWithin}
+use Rattle.ps_log.specs.Limits.{IsStepWithin, IsGoalWithin}
+use Rattle.ps_log.specs.Texts.{step_numbers, goal_numbers}
 use Rattle.ps_log.specs.StepTexts.{words_of}
 use Rattle.ps_answer.specs.declared.item.Ratio.{Ratio}
 use Rattle.ps_answer.specs.declared.item.Item.{Item}

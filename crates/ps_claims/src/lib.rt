@@ -2,9 +2,11 @@
 #![tactic(auto)]
 
 mod claim_kind;
+mod combination;
 mod laws;
 
 pub use claim_kind::ClaimKind;
+pub use combination::Combination;
 pub use laws::{
     combinations_are_sums, duals_are_faultless_or_not, duals_bound_probabilities,
     heads_are_quotients, refuted_goals_bound_combinations, valid_answers_are_right,

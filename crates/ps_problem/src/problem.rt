@@ -2,7 +2,7 @@
 ghost use Rattle.std.specs.Prelude.{◌≡◌, ◌≤◌, All, length, map, option_copied, slice_get};
 ghost use Rattle.ps_formula.specs.Nodes.{AreNodes, AtomBelow};
 ghost use Rattle.ps_problem.specs.declared.limits.TheConstants.{MOST_ATOMS, MOST_BOUNDS};
-ghost use Rattle.ps_problem.specs.Problems.{parts_of, AreBounds, bounds_in, bound_at};
+ghost use Rattle.ps_problem.specs.Problems.{parts_of, AreBounds, AreParts, bounds_in, bound_at};
 ghost use Rattle.ps_problem.specs.Soundness.{IsProblem};
 
 use crate::{Bound, Queries, Sentences};
@@ -121,6 +121,7 @@ impl Problem {
     pub fn bound_list(&self) -> &[Bound]
         ensures bounds { result.now ≡ bounds_in self.now.sentences }
         ensures sound { AreBounds self.now.nodes result.now }
+        ensures parts { AreParts self.now }
         ensures few { length result.now ≤ MOST_BOUNDS }
     {
         self.bounds.as_slice()

@@ -1,0 +1,31 @@
+-- The duals that certificates hold, and how great their numbers may be.
+use Rattle.std.specs.Prelude.{◌≢◌, ℕ, ℤ, ◌≤◌, ◌^◌, Option, All, unsigned_abs}
+use Rattle.ps_problem.specs.Problems.{Parts, bounds_in}
+use Rattle.ps_answer.specs.declared.answer.Dual.{Dual}
+use Rattle.ps_claims.specs.Duals as claimed
+use Rattle.ps_claims.specs.declared.claim_kind.ClaimKind.{ClaimKind}
+use Rattle.ps_claims.specs.declared.claim_kind.ClaimKind.TheVariants.{Nothing}
+use Rattle.ps_claims.specs.declared.combination.Combination.{Combination}
+use Rattle.ps_claims.specs.Goals.{combination_of}
+
+-- the dual of which claims speak
+abbrev pub dual_of : Dual → claimed.Dual
+dual_of d = record { top = d.top; head = d.head; rows = d.rows; steps = d.steps }
+
+-- of at most 2^90 in size
+abbrev pub IsMultiplier : ℤ → Type 0
+IsMultiplier y = unsigned_abs y ≤ 2 ^ 90
+
+-- each number of the dual is of at most 2^90 in size
+pub record IsSmallDual (d : Dual) : Type 0 where
+  pub top : IsMultiplier d.top
+  pub head : IsMultiplier d.head
+  pub rows : All IsMultiplier d.rows
+
+-- the combination of a claim on a problem, by a dual
+abbrev pub combination_over : Parts → ClaimKind → Option ℕ → ℕ → Dual → Combination
+combination_over p kind given both d = combination_of kind given both (bounds_in p.sentences) (dual_of d)
+
+-- a claim of this kind is on a query
+abbrev pub HasQuery : ClaimKind → Type 0
+HasQuery kind = kind ≢ Nothing

@@ -1,0 +1,14 @@
+-- What the sum of the bounds' rows asks of each bound.
+use Rattle.std.specs.Prelude.{ℕ, ◌≤◌, ◌<◌, Option, IfSome}
+use Rattle.ps_problem.specs.declared.bound.Bound.{Bound}
+
+-- the number of a node of a problem, or none
+abbrev pub IsNode : ℕ → Type 0
+IsNode n = n < 1024
+
+-- nodes and numbers within the limits of a problem
+pub record IsRow (b : Bound) : Type 0 where
+  pub both : IsNode b.both
+  pub given : IfSome b.given IsNode
+  pub num : b.num ≤ 1000000
+  pub den : b.den ≤ 1000000

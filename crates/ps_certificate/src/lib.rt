@@ -1,0 +1,7 @@
+//! Combinations of a claim and a problem's bounds, by the multipliers of a dual.
+#![tactic(auto)]
+
+mod combining;
+
+pub use combining::combination;
+pub use ps_claims::{ClaimKind, Combination};
