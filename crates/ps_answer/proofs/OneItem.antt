@@ -10,8 +10,8 @@ use Rattle.ps_steps.specs.Constraints.{Constraint}
 use Rattle.ps_steps.specs.Weights.{weighted}
 use Rattle.ps_pool.specs.declared.col.Col.{Col}
 use Rattle.ps_pool.specs.declared.col.Col.TheVariants as col
-use Rattle.ps_frac.specs.declared.fraction.Op.{Op}
-use Rattle.ps_frac.specs.declared.fraction.Op.TheVariants as op
+use Rattle.ps_frac.specs.declared.wide.Op.{Op}
+use Rattle.ps_frac.specs.declared.wide.Op.TheVariants as op
 use Rattle.ps_table.specs.declared.place.Place.{Place}
 use Rattle.ps_table.specs.declared.place.Place.TheVariants as place
 use Rattle.ps_table.specs.declared.place.TableCol.{TableCol}

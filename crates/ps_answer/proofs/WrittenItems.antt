@@ -3,8 +3,8 @@ use Rattle.std.proofs.Common.{ℕ, ◌≤◌, ◌^◌, ℤ, true, false, List, [
 use Rattle.std.specs.Prelude.{codes}
 use Rattle.std.specs.List.{AllByRecursion}
 use Rattle.ps_steps.specs.Weights.{weighted}
-use Rattle.ps_frac.specs.declared.fraction.Op.{Op}
-use Rattle.ps_frac.specs.declared.fraction.Op.TheVariants as op
+use Rattle.ps_frac.specs.declared.wide.Op.{Op}
+use Rattle.ps_frac.specs.declared.wide.Op.TheVariants as op
 use Rattle.ps_pool.specs.declared.col.Col.{Col}
 use Rattle.ps_pool.specs.declared.col.Col.TheVariants as col
 use Rattle.ps_table.specs.declared.place.Place.{Place}

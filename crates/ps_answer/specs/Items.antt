@@ -2,8 +2,8 @@
 use Rattle.std.specs.Prelude.{ℕ, ◌-◌, ◌^◌, ◌≡◌, ◌≤◌, ℤ, pos, ◌≤ℤ◌, Bool, true, false, true as yes, List, [], ◌∷◌, ◌++◌, map, All, length, unsigned_abs, codes, ⊤}
 use Rattle.std.specs.Int.{IsGcd}
 use Rattle.ps_steps.specs.Weights.{weighted, are_rising}
-use Rattle.ps_frac.specs.declared.fraction.Op.{Op}
-use Rattle.ps_frac.specs.declared.fraction.Op.TheVariants as op
+use Rattle.ps_frac.specs.declared.wide.Op.{Op}
+use Rattle.ps_frac.specs.declared.wide.Op.TheVariants as op
 use Rattle.ps_pool.specs.declared.col.Col.{Col}
 use Rattle.ps_pool.specs.declared.col.Col.TheVariants as col
 use Rattle.ps_table.specs.declared.place.Place.{Place}
