@@ -6,9 +6,7 @@ use Rattle.ps_formula.specs.declared.node.Node.{Node}
 use Rattle.ps_formula.specs.declared.node.Node.TheVariants as node
 use Rattle.ps_formula.specs.Nodes.{AreNodes, AtomBelow}
 use Rattle.ps_steps.specs.Assignments.{Assignment, value_at}
-use Rattle.ps_forms.specs.Extensions.{value_or_false, values_of, world_of, is_atom, HasAtoms}
-use Rattle.ps_forms.specs.Forms.{form_of}
-use Rattle.ps_forms.specs.Settled.{AtomsAreSet}
+use Rattle.ps_forms.specs.Extensions.{value_or_false, values_of, world_of, is_atom, HasSetAtoms}
 use Rattle.ps_forms.proofs.Values.{next_atom, next_other, values-at, world-has}
 use Rattle.ps_steps.proofs.Full.{values-full}
 use Rattle.ps_forms.proofs.Worlds.{by_bool, same_atom, atom_below}
@@ -33,9 +31,9 @@ pub other_passed : (atoms : ℕ) (ns : List Node) (a : Assignment) (i : ℕ) (ol
 other_passed atoms ns a i old new lt other same before =
     same ∙ before ∙ next_other atoms ns (values_of a) i node.True lt (λ k. by_bool (is_atom k (get_or ns i node.True)) (λ t. absurd (other k (sym (same_atom k (get_or ns i node.True) t)))) (λ f. f))
 
-pub world_has : {E : Type 0} (r : Result World E) (atoms : ℕ) (ns : List Node) (a : Assignment) → AreNodes ns → All (AtomBelow atoms) ns → IfOk r (λ world. world ≡ world_of atoms ns (values_of a)) → AtomsAreSet (form_of ns) a → IfOk r (λ world. HasAtoms ns a world)
-world_has (Ok world) atoms ns a are within is are_set = rw is (world-has atoms ns a are within are_set)
-world_has (Err e) atoms ns a are within is are_set = tt
+pub world_has : {E : Type 0} (r : Result World E) (atoms : ℕ) (ns : List Node) (a : Assignment) → AreNodes ns → All (AtomBelow atoms) ns → IfOk r (λ world. world ≡ world_of atoms ns (values_of a)) → IfOk r (λ world. HasSetAtoms ns a world)
+world_has (Ok world) atoms ns a are within is = λ are_set. rw is (world-has atoms ns a are within are_set)
+world_has (Err e) atoms ns a are within is = tt
 
 pub world_full : {E : Type 0} (r : Result World E) (atoms : ℕ) (ns : List Node) (a : Assignment) → IfOk r (λ world. world ≡ world_of atoms ns (values_of a)) → (w : List Bool) → a ≡ map Some w → IfOk r (λ world. world ≡ world_of atoms ns w)
 world_full (Ok world) atoms ns a is w full = is ∙ ap (world_of atoms ns) (ap values_of full ∙ values-full w)

@@ -3,9 +3,7 @@ ghost use Rattle.std.specs.Prelude.{◌≡◌, ◌≤◌, List, Bool, false, len
 ghost use Rattle.ps_formula.specs.Nodes.{AreNodes, AtomBelow};
 ghost use Rattle.ps_steps.specs.Assignments.{all_unset, full, values_of};
 ghost use Rattle.ps_pb.specs.Limits.{most_variables};
-ghost use Rattle.ps_forms.specs.Extensions.{extension, world_of, IsWorldOf, HasAtoms};
-ghost use Rattle.ps_forms.specs.Forms.{form_of};
-ghost use Rattle.ps_forms.specs.Settled.{AtomsAreSet};
+ghost use Rattle.ps_forms.specs.Extensions.{extension, world_of, IsWorldOf, HasSetAtoms};
 
 use ps_formula::{Formulas, Node, World, eval};
 use ps_io::NoMemory;
@@ -47,7 +45,7 @@ pub fn world_of(
     requires { All (AtomBelow atoms) formulas.now }
     ensures value { IfOk result (IsWorldOf atoms formulas.now (values_of a.now)) }
     ensures length { IfOk result (λ world. length world ≡ atoms) }
-    ensures atoms { AtomsAreSet (form_of formulas.now) a.now → IfOk result (HasAtoms formulas.now a.now) }
+    ensures atoms { IfOk result (HasSetAtoms formulas.now a.now) }
     ensures full { (w : List Bool) → a.now ≡ full w → IfOk result (IsWorldOf atoms formulas.now w) }
 {
     let mut values = vec![in alloc; false; atoms as usize]?;

@@ -5,6 +5,8 @@ use Rattle.ps_formula.specs.declared.node.Node.{Node}
 use Rattle.ps_formula.specs.declared.node.Node.TheVariants as node
 use Rattle.ps_formula.specs.Nodes.{truths}
 use Rattle.ps_steps.specs.Assignments.{Assignment, value_at}
+use Rattle.ps_forms.specs.Forms.{form_of}
+use Rattle.ps_forms.specs.Settled.{AtomsAreSet}
 pub use Rattle.ps_steps.specs.Assignments.{values_of, value_or_false}
 
 -- the extension of a world gives each node's variable the truth of the node
@@ -49,3 +51,7 @@ pub record HasAtoms (ns : List Node) (a : Assignment) (world : World) : Type 0 w
 -- the atoms below a number each have a node
 pub record HasEachAtom (atoms : ℕ) (ns : List Node) : Type 0 where
   pub at : (n : ℕ) → n < atoms → Contains ns (node.Atom n)
+
+-- the world has the values of the atoms' variables, where these are set
+abbrev pub HasSetAtoms : List Node → Assignment → World → Type 0
+HasSetAtoms ns a world = AtomsAreSet (form_of ns) a → HasAtoms ns a world

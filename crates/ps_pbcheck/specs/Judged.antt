@@ -1,12 +1,18 @@
 -- How far the check of a step has come.
-use Rattle.std.specs.Prelude.{◌≡◌, Bool, true, false, Option, Some, None, Result, Ok, Err}
+use Rattle.std.specs.Prelude.{ℕ, ◌≡◌, Bool, true, false, Option, Some, None, Result, Ok, Err, List}
 use Rattle.ps_steps.specs.declared.refused.StepRefused.{StepRefused}
 use Rattle.ps_steps.specs.Assignments.{Assignment}
-use Rattle.ps_steps.specs.Steps.{Propagation, Open, Conflict, Refused}
+use Rattle.ps_steps.specs.Constraints.{Constraint}
+use Rattle.ps_steps.specs.Steps.{known_of, Propagation, Open, Conflict, Refused, after_hint}
 
+-- a conflict, or the assignment from which propagation goes on
 abbrev pub propagation_of : Bool → Assignment → Propagation
 propagation_of true a = Conflict
 propagation_of false a = Open a
+
+-- a hint taken after as much
+abbrev pub gone_along : List Constraint → Bool → Assignment → ℕ → Propagation
+gone_along known conflict a hint = after_hint (known_of known) (propagation_of conflict a) hint
 
 -- propagation has come this far
 abbrev pub IsAfter : Propagation → Assignment → Result Bool StepRefused → Type 0

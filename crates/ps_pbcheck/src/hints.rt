@@ -1,8 +1,7 @@
 //! Propagation along the hints of a step.
 ghost use Rattle.std.specs.Prelude.{◌≡◌, option_copied};
-ghost use Rattle.ps_steps.specs.Steps.{Known, Propagation, constraint_at, known_of};
-ghost use Rattle.ps_steps.specs.Steps.{after_hint, after_hints, end_of, Open};
-ghost use Rattle.ps_pbcheck.specs.Judged.{propagation_of, IsAfter, IsEnded};
+ghost use Rattle.ps_steps.specs.Steps.{constraint_at, known_of, after_hints, end_of, Open};
+ghost use Rattle.ps_pbcheck.specs.Judged.{gone_along, IsAfter, IsEnded};
 
 use ps_io::List;
 use ps_pb::{Assignment, Constraint, Effect, propagate};
@@ -27,7 +26,7 @@ fn follow_hint(
     conflict: bool,
     hint: u64,
 ) -> Result<bool, StepRefused>
-    ensures { IsAfter (after_hint (known_of known.now) (propagation_of conflict a.old) hint) a.new result }
+    ensures { IsAfter (gone_along known.now conflict a.old hint) a.new result }
 {
     match constraint_at(known, hint) {
         None => Err(StepRefused::UnknownHint { hint }),

@@ -5,22 +5,59 @@ use ps_pb::{Hints, Lit, Lits, Step, clause, from_weights};
 use std::alloc::Global;
 use std::test::Fail;
 
-fn lits(alloc: Global, numbers: &[i32]) -> Result<Lits, Fail> {
+/// Literals, hints, and why the step with the next id is refused.
+const REFUSED: [(&[i32], &[u64], StepRefused); 8] = [
+    (&[3], &[0], StepRefused::BadLit),
+    (&[1, -1], &[0], StepRefused::BadLit),
+    (&[1], &[0], StepRefused::UnknownHint { hint: 0 }),
+    (&[1], &[1, 4], StepRefused::UnknownHint { hint: 4 }),
+    (&[1], &[1, 2, 9], StepRefused::UnknownHint { hint: 9 }),
+    (&[1], &[1, 2, 1], StepRefused::HintIdle { hint: 1 }),
+    (&[], &[1], StepRefused::HintIdle { hint: 1 }),
+    (&[1], &[1], StepRefused::NoConflict),
+];
+
+fn lits(alloc: Global, numbers: &[i32]) -> Option<Lits> {
     let mut lits = Lits::new(alloc);
     for number in numbers {
-        let lit = Lit::new(*number).ok_or("a literal")?;
-        lits.push(lit).ok().ok_or("memory")?;
+        lits.push(Lit::new(*number)?).ok()?;
     }
-    Ok(lits)
+    Some(lits)
 }
 
-fn step(alloc: Global, id: u64, numbers: &[i32], ids: &[u64]) -> Result<Step, Fail> {
-    let lits = lits(alloc, numbers)?;
+fn hints(alloc: Global, ids: &[u64]) -> Option<Hints> {
     let mut hints = Hints::new(alloc);
     for id in ids {
-        hints.push(*id).ok().ok_or("memory")?;
+        hints.push(*id).ok()?;
     }
-    Ok(Step { id, lits, hints })
+    Some(hints)
+}
+
+/// What the checker answers to a step; none where there is no memory for one.
+fn answer(
+    alloc: Global,
+    checker: &mut Checker,
+    id: u64,
+    numbers: &[i32],
+    ids: &[u64],
+) -> Option<Result<(), StepRefused>> {
+    let lits = lits(alloc, numbers)?;
+    let hints = hints(alloc, ids)?;
+    Some(checker.take(&Step { id, lits, hints }))
+}
+
+fn is_taken(alloc: Global, checker: &mut Checker, id: u64, numbers: &[i32], ids: &[u64]) -> bool {
+    answer(alloc, checker, id, numbers, ids) == Some(Ok(()))
+}
+
+/// The first row whose step isn't refused for its reason.
+fn first_wrong_row(alloc: Global, checker: &mut Checker) -> Option<usize> {
+    for (row, (numbers, ids, reason)) in REFUSED.iter().enumerate() {
+        if answer(alloc, checker, 4, numbers, ids) != Some(Err(*reason)) {
+            return Some(row);
+        }
+    }
+    None
 }
 
 /// Either of two variables, the first where the second is true, and as the goal the first false.
@@ -36,58 +73,40 @@ fn checker(alloc: Global) -> Result<Checker, Fail> {
 fn a_refutation_is_taken(rt: HostRuntime) -> Result<(), Fail> {
     let alloc = rt.alloc();
     let mut checker = checker(alloc)?;
-    assert!(rt; checker.take(&step(alloc, 4, &[1], &[1, 2])?).is_ok());
-    assert!(rt; !checker.refuted());
-    assert!(rt; checker.take(&step(alloc, 5, &[], &[4, 3])?).is_ok());
-    assert!(rt; checker.refuted());
+    assert!(rt; is_taken(alloc, &mut checker, 4, &[1], &[1, 2]) && !checker.refuted());
+    assert!(rt; is_taken(alloc, &mut checker, 5, &[], &[4, 3]) && checker.refuted());
     Ok(())
 }
-
-/// Each step has the next id.
-const REFUSED: [(&[i32], &[u64], StepRefused); 8] = [
-    (&[3], &[0], StepRefused::BadLit),
-    (&[1, -1], &[0], StepRefused::BadLit),
-    (&[1], &[0], StepRefused::UnknownHint { hint: 0 }),
-    (&[1], &[1, 4], StepRefused::UnknownHint { hint: 4 }),
-    (&[1], &[1, 2, 9], StepRefused::UnknownHint { hint: 9 }),
-    (&[1], &[1, 2, 1], StepRefused::HintIdle { hint: 1 }),
-    (&[], &[1], StepRefused::HintIdle { hint: 1 }),
-    (&[1], &[1], StepRefused::NoConflict),
-];
 
 #[test]
 fn the_first_reason_is_named(rt: HostRuntime) -> Result<(), Fail> {
     let alloc = rt.alloc();
     let mut checker = checker(alloc)?;
-    for (lits, hints, reason) in REFUSED {
-        let step = step(alloc, 4, lits, hints)?;
-        assert_eq!(rt; checker.take(&step).err(), Some(reason));
-    }
+    assert_eq!(rt; first_wrong_row(alloc, &mut checker), None);
     Ok(())
 }
 
-/// With the first atom true and the implication true, the second atom is.
-#[test]
-fn an_implication_is_refuted(rt: HostRuntime) -> Result<(), Fail> {
-    let alloc = rt.alloc();
+/// The clauses of the implication are 3 1; 3 -2; -3 -1 2. The goal is that the first atom and the
+/// implication are true, and the second atom isn't.
+fn implied(alloc: Global) -> Result<Checker, Fail> {
     let mut formulas = Formulas::new(alloc);
     formulas.add(Node::Atom(0))?;
     formulas.add(Node::Atom(1))?;
     formulas.add(Node::Implies(0, 1))?;
     let form = clauses_of(alloc, &formulas)?;
-    // The clauses are 3 1; 3 -2; -3 -1 2.
     let terms = [
         (Lit::of_place(0, true), 1),
         (Lit::of_place(1, false), 1),
         (Lit::of_place(2, true), 1),
     ];
     let goal = from_weights(alloc, &terms, 3)?;
-    let mut checker = Checker::new(alloc, form, goal)?;
-    assert_eq!(rt;
-        checker.take(&step(alloc, 5, &[], &[3])?).err(),
-        Some(StepRefused::HintIdle { hint: 3 })
-    );
-    assert!(rt; checker.take(&step(alloc, 5, &[], &[4, 3])?).is_ok());
-    assert!(rt; checker.refuted());
+    Ok(Checker::new(alloc, form, goal)?)
+}
+
+#[test]
+fn an_implication_is_refuted(rt: HostRuntime) -> Result<(), Fail> {
+    let alloc = rt.alloc();
+    let mut checker = implied(alloc)?;
+    assert!(rt; is_taken(alloc, &mut checker, 5, &[], &[4, 3]) && checker.refuted());
     Ok(())
 }
