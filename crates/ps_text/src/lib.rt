@@ -10,9 +10,9 @@ mod symbol;
 
 pub use kind::{ReadKind, What};
 pub use laws::{
-    a_front_excludes_a_refusal, bytes_have_one_answer, entries_have_one_meaning, one_refusal_at_most,
-    bytes_are_cut, canonical_text_means_its_items, expected_tokens_are_derived,
-    one_text_stands_at_the_front, what_is_read_is_lawful,
+    a_front_excludes_a_refusal, bytes_are_cut, bytes_have_one_answer,
+    canonical_text_means_its_items, entries_have_one_meaning, expected_tokens_are_derived,
+    one_refusal_at_most, one_text_stands_at_the_front, what_is_read_is_lawful,
 };
 pub use limits::{GREATEST_DENOMINATOR, LONGEST_WORD, MOST_DECIMALS, MOST_OPEN};
 pub use part::{Opening, Part};
