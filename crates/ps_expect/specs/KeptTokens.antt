@@ -2,6 +2,7 @@
 use Rattle.std.specs.Prelude.{◌≡◌, ℕ, zero, suc, ◌+◌, ◌==◌, if◌then◌else◌, List, [], ◌∷◌, ◌++◌, replicate}
 use Rattle.ps_text.specs.Tokens as text
 use Rattle.ps_text.specs.ExpectedTokens as expected
+use Rattle.ps_lex.specs.declared.digits.Digits.{Digits}
 use Rattle.ps_lex.specs.declared.token.Numeral.{Numeral}
 use Rattle.ps_lex.specs.declared.token.Numeral.TheVariants as numeral
 use Rattle.ps_lex.specs.declared.token.Token.{Token}
@@ -13,9 +14,9 @@ use Rattle.ps_expect.specs.declared.state.State.{State}
 unfoldable pub figures : ℕ → ℕ → List ℕ
 figures count value = if count == 1 then (48 + value) ∷ [] else 48 ∷ (48 + value) ∷ []
 
--- a quotient by count and value of its digits
-abbrev pub quotient_of : ℕ → ℕ → ℕ → ℕ → text.Numeral
-quotient_of over_count over under_count under = text.Quotient (figures over_count over) (figures under_count under)
+-- the same for digits as they are kept
+abbrev pub digits_of : Digits → List ℕ
+digits_of d = figures d.count d.value
 
 -- a decimal with so many digits behind the point, whose digits are together worth this value
 unfoldable pub decimal_of : ℕ → ℕ → text.Numeral
@@ -24,8 +25,8 @@ decimal_of (suc k) value = text.Decimal [] (replicate k 48 ++ (48 + value) ∷ [
 
 -- a number with what counts of the digits
 abbrev pub numeral_of : Numeral → text.Numeral
-numeral_of (numeral.Whole d) = text.Whole (figures d.count d.value)
-numeral_of (numeral.Quotient d e) = text.Quotient (figures d.count d.value) (figures e.count e.value)
+numeral_of (numeral.Whole d) = text.Whole (digits_of d)
+numeral_of (numeral.Quotient d e) = text.Quotient (digits_of d) (digits_of e)
 numeral_of (numeral.Decimal d k) = decimal_of k d.value
 
 -- a token that is judged as each one of which this is kept

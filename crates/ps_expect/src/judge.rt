@@ -6,10 +6,9 @@ ghost use Rattle.ps_text.specs.ExpectedTokens.{is_number, is_operand_word, begin
 ghost use Rattle.ps_text.specs.ExpectedTokens.{is_connective, is_too_long};
 ghost use Rattle.ps_text.specs.ExpectedTokens.{version_fault, value_fault, number_fault};
 ghost use Rattle.ps_text.specs.Tokens as text;
-ghost use Rattle.ps_expect.specs.KeptTokens.{figures, quotient_of, decimal_of};
-ghost use Rattle.ps_expect.specs.KeptTokens.{numeral_of, token_of};
+ghost use Rattle.ps_expect.specs.KeptTokens.{digits_of, decimal_of, numeral_of, token_of};
 
-use ps_lex::{Numeral, Token};
+use ps_lex::{Digits, Numeral, Token};
 use ps_text::{GREATEST_DENOMINATOR, LONGEST_WORD, MOST_DECIMALS, ReadKind, Symbol};
 
 fn same(letters: &[u8], word: &[u8]) -> bool
@@ -113,17 +112,17 @@ fn numeral_version(numeral: &Numeral) -> Option<ReadKind>
     ensures { result ≡ version_fault (text.Number (numeral_of numeral.now)) }
 {
     match numeral {
-        Numeral::Whole(digits) => whole_version(digits.count, digits.value),
+        Numeral::Whole(digits) => whole_version(*digits),
         Numeral::Quotient { .. } => Some(ReadKind::VersionUnknown),
         Numeral::Decimal { .. } => Some(ReadKind::VersionUnknown),
     }
 }
 
 #[tactic(auto, using(crate::proofs::Figures::version_of))]
-fn whole_version(count: u8, value: u32) -> Option<ReadKind>
-    ensures { result ≡ version_fault (text.Number (text.Whole (figures count value))) }
+fn whole_version(digits: Digits) -> Option<ReadKind>
+    ensures { result ≡ version_fault (text.Number (text.Whole (digits_of digits))) }
 {
-    if count == 1 && value == 1 {
+    if digits.count == 1 && digits.value == 1 {
         None
     } else {
         Some(ReadKind::VersionUnknown)
@@ -135,23 +134,17 @@ fn value_fault(numeral: &Numeral) -> Option<ReadKind>
     ensures { result ≡ value_fault (numeral_of numeral.now) }
 {
     match numeral {
-        Numeral::Whole(digits) => whole_fault(digits.count, digits.value),
-        Numeral::Quotient { over, under } => quotient_fault(
-            over.count,
-            over.value,
-            under.count,
-            under.value,
-        ),
+        Numeral::Whole(digits) => whole_fault(*digits),
+        Numeral::Quotient { over, under } => quotient_fault(*over, *under),
         Numeral::Decimal { all, decimals } => decimal_fault(all.value, *decimals),
     }
 }
 
 #[tactic(auto, using(crate::proofs::Figures::whole_fault))]
-fn whole_fault(count: u8, value: u32) -> Option<ReadKind>
-    ensures { result ≡ value_fault (text.Whole (figures count value)) }
+fn whole_fault(digits: Digits) -> Option<ReadKind>
+    ensures { result ≡ value_fault (text.Whole (digits_of digits)) }
 {
-    let _ = count;
-    if value > 1 {
+    if digits.value > 1 {
         Some(ReadKind::NumberOutOfRange)
     } else {
         None
@@ -159,15 +152,14 @@ fn whole_fault(count: u8, value: u32) -> Option<ReadKind>
 }
 
 #[tactic(auto, using(crate::proofs::Figures::quotient_fault))]
-fn quotient_fault(over_count: u8, over: u32, under_count: u8, under: u32) -> Option<ReadKind>
-    ensures { result ≡ value_fault (quotient_of over_count over under_count under) }
+fn quotient_fault(over: Digits, under: Digits) -> Option<ReadKind>
+    ensures { result ≡ value_fault (text.Quotient (digits_of over) (digits_of under)) }
 {
-    let _ = (over_count, under_count);
-    if under == 0 {
+    if under.value == 0 {
         Some(ReadKind::ZeroDenominator)
-    } else if under > GREATEST_DENOMINATOR {
+    } else if under.value > GREATEST_DENOMINATOR {
         Some(ReadKind::DenominatorTooLarge)
-    } else if over > under {
+    } else if over.value > under.value {
         Some(ReadKind::NumberOutOfRange)
     } else {
         None

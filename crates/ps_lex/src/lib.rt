@@ -1,4 +1,5 @@
-//! A lexer: cuts bytes into the tokens of problem texts, one byte after the other. It takes no memory.
+//! A lexer: cuts bytes into the tokens of problem texts, one byte after the other. It takes no
+//! memory.
 #![tactic(auto)]
 
 mod bytes;

@@ -2,8 +2,8 @@
 use crate::{Digits, Word};
 use ps_text::Symbol;
 
-/// A number as it is spelled: digits, digits `/` digits, or digits `.` digits. Of the digits is kept
-/// what counts.
+/// A number as it is spelled: digits, digits `/` digits, or digits `.` digits. Of the digits is
+/// kept what counts.
 #[derive(Clone, Copy, Debug, PartialEq, Eq)]
 pub enum Numeral {
     Whole(Digits),

@@ -6,6 +6,8 @@ use Rattle.ps_meaning.specs.declared.side.Side.TheVariants.{Exactly}
 use Rattle.ps_meaning.specs.Statements.{Name, Item, Stated}
 use Rattle.ps_text.specs.Tokens.{IsWord}
 use Rattle.ps_text.specs.Grammar.{is_reserved}
+use Rattle.ps_text.specs.declared.limits.TheConstants.{LONGEST_WORD, MOST_OPEN, GREATEST_DENOMINATOR}
+use Rattle.ps_read.specs.declared.first.TheConstants.{MOST_SENTENCES}
 use Rattle.ps_text.specs.Fronts.{IsFirstFront}
 use Rattle.ps_read.specs.declared.error.ReadError.{ReadError}
 use Rattle.ps_read.specs.declared.error.ReadError.TheVariants.{NotFirstForm, NoMemory}
@@ -25,14 +27,14 @@ items_of ss = map item_of ss
 
 -- the name is a name, the value is in lowest terms and at most 1, and the numbers are within their limits
 pub record IsWithinLimits (s : FirstSentence) : Type 0 where
-  pub nots : s.nots ≤ 100
+  pub nots : s.nots ≤ MOST_OPEN
   pub word : IsWord s.name
   pub free : is_reserved s.name ≡ false
-  pub short : length s.name ≤ 32
+  pub short : length s.name ≤ LONGEST_WORD
   pub lowest : IsGcd s.num s.den 1
   pub at_most_one : s.num ≤ s.den
   pub den_least : 1 ≤ s.den
-  pub den_most : s.den ≤ 1000000
+  pub den_most : s.den ≤ GREATEST_DENOMINATOR
 
 -- the answer is these items and this place, unless memory ran out
 abbrev pub GivesFront : Result (List FirstSentence × ℕ) ReadError → List Item → ℕ → Type 0
@@ -40,13 +42,13 @@ GivesFront (Ok x) items place = (items_of x.0 ≡ items) × (x.1 ≡ place)
 GivesFront (Err NotFirstForm) items place = ⊥
 GivesFront (Err NoMemory) items place = Unit {0}
 
--- each text of the first form with at most 100 sentences that is at the front is answered so
+-- each text of the first form within the limit of sentences that is at the front is answered so
 pub record AnswersEach (bytes : List ℕ) (result : Result (List FirstSentence × ℕ) ReadError) : Type 0 where
-  pub answer : (items : List Item) (place : ℕ) → IsFirstFront bytes items place → length items ≤ 100 → GivesFront result items place
+  pub answer : (items : List Item) (place : ℕ) → IsFirstFront bytes items place → length items ≤ MOST_SENTENCES → GivesFront result items place
 
--- no text of the first form with at most 100 sentences is at the front
+-- no text of the first form within the limit of sentences is at the front
 pub record BeginsWithNone (bytes : List ℕ) : Type 0 where
-  pub none : (items : List Item) (place : ℕ) → IsFirstFront bytes items place → length items ≤ 100 → ⊥
+  pub none : (items : List Item) (place : ℕ) → IsFirstFront bytes items place → length items ≤ MOST_SENTENCES → ⊥
 
 -- an answer that the text isn't of the first form is right
 abbrev pub Refuses : List ℕ → Result (List FirstSentence × ℕ) ReadError → Type 0

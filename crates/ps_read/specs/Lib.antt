@@ -1,2 +1,4 @@
-pub mod Reading
+-- Meaning
 pub mod FirstForm
+-- Bridge: the answers of the reader's parts
+pub mod Reading

@@ -2,6 +2,8 @@
 use Rattle.std.specs.Prelude.{◌≡◌, ℕ, zero, suc, ◌+◌, ◌*◌, ◌-◌, ◌/◌, min, List, [], ◌∷◌, ◌++◌, length, take, drop, Bool, true, not, ◌&&◌, ◌||◌, Option, Some, None, Result, Ok, Err, nat_lt, nat_le, ◌==◌, if◌then◌else◌, bytes_eq, codes}
 use Rattle.ps_text.specs.Tokens.{is_letter, is_digit, is_word_byte}
 use Rattle.ps_text.specs.Pieces.{is_blank}
+use Rattle.ps_text.specs.declared.limits.TheConstants.{LONGEST_WORD, MOST_OPEN, GREATEST_DENOMINATOR}
+use Rattle.ps_read.specs.declared.first.TheConstants.{MOST_SENTENCES}
 use Rattle.ps_text.specs.Grammar.{is_reserved}
 use Rattle.ps_read.specs.declared.error.ReadError.{ReadError}
 use Rattle.ps_read.specs.declared.error.ReadError.TheVariants as errors
@@ -66,12 +68,12 @@ keyword_at w bytes = do
 unfoldable pub name_at : List ℕ → Option (List ℕ × List ℕ)
 name_at bytes = do
   x ← word_at bytes
-  if nat_le (length x.0) 32 && not (is_reserved x.0) then Some x else None
+  if nat_le (length x.0) LONGEST_WORD && not (is_reserved x.0) then Some x else None
 
 -- the value so far and that of more digits, never more than one above the greatest denominator
 abbrev pub capped_from : ℕ → List ℕ → ℕ × List ℕ
 capped_from n [] = (n, [])
-capped_from n (b ∷ bs) = if is_digit b then capped_from (min 1000001 (10 * n + (b - 48))) bs else (n, b ∷ bs)
+capped_from n (b ∷ bs) = if is_digit b then capped_from (min (GREATEST_DENOMINATOR + 1) (10 * n + (b - 48))) bs else (n, b ∷ bs)
 
 abbrev pub digits_at : List ℕ → Option (ℕ × List ℕ)
 digits_at [] = None
@@ -89,14 +91,14 @@ quotient_at bytes = do
 unfoldable pub probability_at : List ℕ → Option ((ℕ × ℕ) × List ℕ)
 probability_at bytes = do
   q ← quotient_at bytes
-  if q.0.1 == 0 || nat_le 1000001 q.0.1 || nat_lt q.0.1 q.0.0 then None
+  if q.0.1 == 0 || nat_le (GREATEST_DENOMINATOR + 1) q.0.1 || nat_lt q.0.1 q.0.0 then None
       else Some ((q.0.0 / gcd q.0.0 q.0.1, q.0.1 / gcd q.0.0 q.0.1), q.1)
 
 -- the `!` so far and those at the front, and the bytes after them and blanks
 abbrev pub bangs_from : ℕ → List ℕ → Option (ℕ × List ℕ)
 bangs_from n [] = Some (n, [])
 bangs_from n (b ∷ bs) = if is_space b then bangs_from n bs
-    else (if b == 33 then (if n == 100 then None else bangs_from (n + 1) bs) else Some (n, b ∷ bs))
+    else (if b == 33 then (if n == MOST_OPEN then None else bangs_from (n + 1) bs) else Some (n, b ∷ bs))
 
 -- what stands after `P`
 unfoldable pub sentence_at : List ℕ → Option (FirstSentence × List ℕ)
@@ -139,6 +141,6 @@ front_at bytes = do
   a ← keyword_at (codes "psat") bytes
   b ← symbol_at 49 a
   c ← symbol_at 59 b
-  ss ← sentences_from [] 100 c
+  ss ← sentences_from [] MOST_SENTENCES c
   d ← symbol_at 59 ss.1
   if is_bare (drop_blanks d) then Some (ss.0, drop_blanks d) else None

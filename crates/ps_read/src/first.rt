@@ -2,6 +2,7 @@
 ghost use Rattle.std.specs.Prelude.{◌≡◌, ◌≤◌, ◌<◌, [], IfOk, length, All};
 ghost use Rattle.ps_text.specs.Fronts.{IsFirstFront};
 ghost use Rattle.ps_read.specs.Reading.{Gives, is_bare as bare, sentences_from, front_at};
+ghost use Rattle.ps_read.specs.declared.first.TheConstants.{MOST_SENTENCES};
 ghost use Rattle.ps_read.specs.FirstForm.{items_of, IsWithinLimits, AnswersEach, Refuses};
 
 use crate::sentence::sentence;
@@ -11,16 +12,16 @@ use ps_io::List;
 use std::alloc::Global;
 
 /// The most sentences that a text may have.
-const MOST: usize = 100;
+pub const MOST_SENTENCES: usize = 100;
 
 // The sentences up to `end`, and the bytes after it.
 #[tactic(auto, using(crate::proofs::Sentences::steps))]
 fn sentences(alloc: Global, bytes: &[u8]) -> Result<(List<FirstSentence>, &[u8]), ReadError>
-    ensures { Gives (λ x. (x.0, x.1.now)) result (sentences_from [] 100 bytes.now) }
+    ensures { Gives (λ x. (x.0, x.1.now)) result (sentences_from [] MOST_SENTENCES bytes.now) }
 {
     let mut sentences = List::new(alloc);
     let mut rest = bytes;
-    for _ in 0..MOST {
+    for _ in 0..MOST_SENTENCES {
         if let Ok(after) = keyword(rest, b"end") {
             return Ok((sentences, after));
         }
@@ -54,13 +55,14 @@ fn front(alloc: Global, bytes: &[u8]) -> Result<(List<FirstSentence>, &[u8]), Re
     Err(ReadError::NotFirstForm)
 }
 
-/// The sentences of a text of the first form at the front of some bytes, and the place after the text and its blanks.
+/// The sentences of a text of the first form at the front of some bytes, and the place after the
+/// text and its blanks.
 pub fn read_first(alloc: Global, bytes: &[u8]) -> Result<(List<FirstSentence>, usize), ReadError>
     // What is read is a text of the first form.
     ensures found { IfOk result (λ x. IsFirstFront bytes.now (items_of x.0) x.1) }
-    ensures few { IfOk result (λ x. length x.0 ≤ 100) }
+    ensures few { IfOk result (λ x. length x.0 ≤ MOST_SENTENCES) }
     ensures within { IfOk result (λ x. All IsWithinLimits x.0) }
-    // A text of the first form with at most 100 sentences is read so, unless memory runs out.
+    // A text of the first form within the limit of sentences is read so, unless memory runs out.
     ensures only { AnswersEach bytes.now result }
     // What is refused begins with none.
     ensures refused { Refuses bytes.now result }

@@ -8,7 +8,7 @@ mod sentence;
 mod text;
 
 pub use error::ReadError;
-pub use first::read_first;
+pub use first::{MOST_SENTENCES, read_first};
 pub use sentence::FirstSentence;
 
 #[cfg(test)]

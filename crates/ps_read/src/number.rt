@@ -1,14 +1,16 @@
 //! Fractions at the front of some bytes.
 ghost use Rattle.std.specs.Prelude.{◌≡◌, ◌≤◌, ◌<◌, IfOk, Some};
 ghost use Rattle.ps_meaning.specs.Statements.{Ratio};
-ghost use Rattle.ps_read.specs.Reading.{Gives, byte_at, capped_from, digits_at, quotient_at, probability_at};
+ghost use Rattle.ps_read.specs.Reading.{Gives, byte_at, capped_from, digits_at};
+ghost use Rattle.ps_read.specs.Reading.{quotient_at, probability_at};
 ghost use Rattle.ps_rational.specs.Gcd.{gcd as gcd_of};
 
 use crate::ReadError;
 use crate::text::skip_blanks;
+use ps_text::GREATEST_DENOMINATOR;
 
 // One above the greatest denominator: what is more counts as this.
-const CAP: u32 = 1_000_001;
+const CAP: u32 = GREATEST_DENOMINATOR + 1;
 
 // The value of the digits at the front, where it is below the cap, and the bytes after them.
 fn digits(bytes: &[u8]) -> Result<(u32, &[u8]), ReadError>

@@ -11,17 +11,17 @@ use std::alloc::{AllocError, Global};
 /// A sentence of the first form: the probability of a name, under some `!`, is a value.
 #[derive(Debug, Drop)]
 pub struct FirstSentence {
-    /// How many `!` stand before the name: at most 100.
+    /// How many `!` stand before the name.
     pub nots: u32,
-    /// The bytes of the atom's name: 1 to 32.
+    /// The bytes of the atom's name.
     pub name: List<u8>,
     /// The value is `num/den`, in lowest terms and at most 1.
     pub num: u32,
-    /// From 1 to 1,000,000.
+    /// At least 1.
     pub den: u32,
 }
 
-// The number of `!` at the front, at most 100, and what comes after them and blanks.
+// The number of `!` at the front, within the limit, and what comes after them and blanks.
 fn bangs(bytes: &[u8]) -> Result<(u32, &[u8]), ReadError>
     ensures { Gives (λ x. (x.0, x.1.now)) result (bangs_from 0 bytes.now) }
 {

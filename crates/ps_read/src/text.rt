@@ -3,9 +3,11 @@ ghost use Rattle.std.specs.Prelude.{◌≡◌, ◌≤◌, ◌<◌, length, bytes
 ghost use Rattle.ps_text.specs.Tokens.{is_letter as letter, is_word_byte as word_byte};
 ghost use Rattle.ps_text.specs.Grammar.{is_reserved as reserved};
 ghost use Rattle.ps_read.specs.declared.error.ReadError.TheVariants as errors;
-ghost use Rattle.ps_read.specs.Reading.{Gives, drop_blanks, symbol_at, prefix, word_at, keyword_at, name_at};
+ghost use Rattle.ps_read.specs.Reading.{Gives, drop_blanks, symbol_at, prefix};
+ghost use Rattle.ps_read.specs.Reading.{word_at, keyword_at, name_at};
 
 use crate::ReadError;
+use ps_text::LONGEST_WORD;
 
 /// The bytes after the spaces and line feeds.
 pub(crate) fn skip_blanks(bytes: &[u8]) -> &[u8]
@@ -107,7 +109,7 @@ pub(crate) fn name(bytes: &[u8]) -> Result<(&[u8], &[u8]), ReadError>
     ensures { Gives (λ x. (x.0.now, x.1.now)) result (name_at bytes.now) }
 {
     let (word, rest) = word(bytes)?;
-    if word.len() <= 32 && !is_reserved(word) {
+    if word.len() <= LONGEST_WORD && !is_reserved(word) {
         return Ok((word, rest));
     }
     Err(ReadError::NotFirstForm)

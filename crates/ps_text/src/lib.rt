@@ -1,5 +1,5 @@
-//! The problem text: its tokens, its grammar, what is expected and what is refused in it, and what it
-//! states and asks.
+//! The problem text: its tokens, its grammar, what is expected and what is refused in it, and what
+//! it states and asks.
 #![tactic(auto)]
 
 mod kind;

@@ -36,7 +36,8 @@ pub enum Part {
     Done,
 }
 
-/// What is open in a formula: a `!` during its operand, a `(` up to its `)`, a `->` during its right side.
+/// What is open in a formula: a `!` during its operand, a `(` up to its `)`, a `->` during its right
+/// side.
 #[derive(Clone, Copy, Debug, PartialEq, Eq)]
 pub enum Opening {
     Not,
