@@ -17,7 +17,7 @@ use Rattle.ps_table.specs.declared.place.Place.TheVariants as place
 use Rattle.ps_table.specs.declared.place.TableCol.{TableCol}
 use Rattle.ps_table.specs.declared.place.TableCol.TheVariants as shown
 use Rattle.ps_log.specs.Spellings.{Spells, SpellAll}
-use Rattle.ps_log.specs.StepTexts.{words_of}
+use Rattle.ps_log.specs.Spellings.{words_of}
 use Rattle.ps_log.specs.Texts.{step_numbers, goal_numbers}
 use Rattle.ps_log.specs.Told.{number_of, step_of, goal_of}
 use Rattle.ps_log.proofs.Spelled.{value_of_spelling, spelled-values}

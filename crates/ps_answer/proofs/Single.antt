@@ -4,7 +4,8 @@ use Rattle.std.specs.Prelude.{bytes_eq}
 use Rattle.std.specs.List.{AllByRecursion, list_any}
 use Rattle.std.proofs.lemmas.Option.{none-some, same_Some}
 use Rattle.ps_io.specs.LineText.{lines_bytes}
-use Rattle.ps_log.specs.StepTexts.{words_of, IsOneLine, IsFirstLine}
+use Rattle.ps_log.specs.Spellings.{words_of}
+use Rattle.ps_log.specs.FirstLines.{IsOneLine, IsFirstLine}
 use Rattle.ps_log.proofs.StepShapes.{first_in, rest_in}
 use Rattle.ps_answer.specs.declared.item.Item.{Item}
 use Rattle.ps_answer.specs.declared.item.Item.TheVariants as line

@@ -11,7 +11,8 @@ use Rattle.ps_io.specs.LineText.{with_word}
 use Rattle.ps_meaning.specs.Formula.{World}
 use Rattle.ps_pool.specs.declared.col.Col.TheVariants as col
 use Rattle.ps_log.specs.Spellings.{Spells}
-use Rattle.ps_log.specs.StepTexts.{words_of, IsOneLine}
+use Rattle.ps_log.specs.Spellings.{words_of}
+use Rattle.ps_log.specs.FirstLines.{IsOneLine}
 use Rattle.ps_log.proofs.Spelled.{written-spells, decimal-spells}
 use Rattle.ps_log.proofs.StepLines.{words-cut, words-one}
 use Rattle.ps_answer.specs.Words.{Word, Letters, Number, Fraction, Column, Truths, SpellsWord, SpellWords, digit_of, word_text, joined}

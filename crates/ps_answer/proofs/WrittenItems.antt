@@ -18,7 +18,8 @@ use Rattle.ps_answer.specs.declared.item.Ratio.{Ratio}
 use Rattle.ps_answer.specs.declared.item.Item.{Item}
 use Rattle.ps_answer.specs.declared.item.Item.TheVariants as line
 use Rattle.ps_answer.specs.Words.{Word, Letters, Number, Fraction, Column, Truths, SpellWords}
-use Rattle.ps_log.specs.StepTexts.{words_of, IsOneLine}
+use Rattle.ps_log.specs.Spellings.{words_of}
+use Rattle.ps_log.specs.FirstLines.{IsOneLine}
 use Rattle.ps_io.specs.LineText.{lines_bytes}
 use Rattle.ps_answer.specs.declared.answer.Answer.{Answer}
 use Rattle.ps_answer.specs.Answers.{answer_items, answer_lines, IsAnswerCounted}

@@ -2,7 +2,8 @@
 use Rattle.std.specs.Prelude.{ℕ, ◌+◌, ◌≡◌, ◌≢◌, false, List, [], ◌∷◌, ◌++◌, length, Some, None, Bool, true, bytes_eq, ⊤}
 use Rattle.std.specs.List.{AllByRecursion, list_any}
 use Rattle.ps_io.specs.LineText.{lines_bytes}
-use Rattle.ps_log.specs.StepTexts.{words_of, IsOneLine, IsFirstLine}
+use Rattle.ps_log.specs.Spellings.{words_of}
+use Rattle.ps_log.specs.FirstLines.{IsOneLine, IsFirstLine}
 use Rattle.ps_answer.specs.declared.item.Item.{Item}
 use Rattle.ps_answer.specs.declared.answer.Answer.{Answer}
 use Rattle.ps_answer.specs.declared.error.LineKind.{LineKind}

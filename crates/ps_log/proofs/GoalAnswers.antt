@@ -111,12 +111,15 @@ goal-answer line text ns degree terms (Err TooLarge) e n p rise a =
     let own : goal_numbers g.degree (weighted g.terms) ≡ n.exact = parts-numbers w.of w.more w.fit ∙ sym w.same in
     let told = rise.at w.of (w.more ++ pos 0 ∷ []) (subst (SpellAll (words_of text)) w.same n.spelled) in
     let rising : are_rising 0 (weighted g.terms) ≡ true = ap (are_rising 0) (restored w.more w.fit) ∙ sym (ap (are_rising 0) (pairs-end w.more w.fit)) ∙ sym told in
-    let t : IsGoalText line g = text-of line text g e (subst (SpellAll (words_of text)) (sym own) n.spelled) (terms-positive (pairs_from w.more) (pairs-positive w.more w.fit)) rising in
-    (g, t, λ h. (let kept : map capped n.exact ≡ n.exact = subst (λ xs. map capped xs ≡ xs) own (not-cut (goal_numbers g.degree (weighted g.terms)) (goal_small g h)) in
-        let all : w.of ∷ (w.more ++ pos 0 ∷ []) ≡ degree ∷ (terms ++ pos 0 ∷ []) = sym w.same ∙ sym kept ∙ sym n.cut ∙ p.is in
-        let first : w.of ≡ degree = ap (λ l. get_or l 0 degree) all in
-        let rest : w.more ≡ terms = append_cancel_right w.more terms (pos 0 ∷ []) (same_rest w.of degree (w.more ++ pos 0 ∷ []) (terms ++ pos 0 ∷ []) all) in
-        a (subst (λ z. IsGoalWithin (linear (pairs_from terms) z)) first (subst (λ zs. IsGoalWithin (linear (pairs_from zs) w.of)) rest h))))
+    let t : IsGoalText line g = text-of line text g e (subst (SpellAll (words_of text)) (sym own) n.spelled) (terms-positive (pairs_from w.more) (pairs-positive w.more w.fit)) rising in (
+      g,
+      t,
+      λ h. (let kept : map capped n.exact ≡ n.exact = subst (λ xs. map capped xs ≡ xs) own (not-cut (goal_numbers g.degree (weighted g.terms)) (goal_small g h)) in
+          let all : w.of ∷ (w.more ++ pos 0 ∷ []) ≡ degree ∷ (terms ++ pos 0 ∷ []) = sym w.same ∙ sym kept ∙ sym n.cut ∙ p.is in
+          let first : w.of ≡ degree = ap (λ l. get_or l 0 degree) all in
+          let rest : w.more ≡ terms = append_cancel_right w.more terms (pos 0 ∷ []) (same_rest w.of degree (w.more ++ pos 0 ∷ []) (terms ++ pos 0 ∷ []) all) in
+          a (subst (λ z. IsGoalWithin (linear (pairs_from terms) z)) first (subst (λ zs. IsGoalWithin (linear (pairs_from zs) w.of)) rest h))),
+    )
 goal-answer line text ns degree terms (Err NoMemory) e n p rise a = tt
 
 -- the bytes of a goal's text

@@ -83,3 +83,8 @@ IsLineAnswer IsText IsWithin line (Err BadByte) = ⊥
 IsLineAnswer {X} IsText IsWithin line (Err NotCanonical) = (x : X) → IsText line x → ⊥
 IsLineAnswer {X} IsText IsWithin line (Err TooLarge) = (x : X) × IsText line x × (IsWithin x → ⊥)
 IsLineAnswer IsText IsWithin line (Err NoMemory) = ⊤
+
+-- what is within the limits has one text, which is its line
+pub record HaveOneText {X : Type 0} (IsText : List ℕ → X → Type 0) (IsWithin : X → Type 0) (line_of : X → List ℕ) : Type 0 where
+  pub is_text : (x : X) → IsWithin x → IsText (line_of x) x
+  pub is_line : (line : List ℕ) (x : X) → IsText line x → IsWithin x → line ≡ line_of x

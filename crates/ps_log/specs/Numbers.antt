@@ -67,6 +67,22 @@ abbrev pub left_of : Option (List ℕ) → ℕ
 left_of None = 0
 left_of (Some text) = length text + 1
 
+-- numbers begin with no count
+abbrev pub LacksCount : List ℤ → Type 0
+LacksCount numbers = (id : ℤ) (rest : List ℤ) → numbers ≡ id ∷ rest → pos 0 ≤ℤ id → ⊥
+
+-- numbers are those before their first 0, the 0, and those after it
+abbrev pub IsCutAtZero : List ℤ → List ℤ → List ℤ → Type 0
+IsCutAtZero numbers before after = (numbers ≡ before ++ pos 0 ∷ after) × All (λ n. 1 ≤ unsigned_abs n) before
+
+-- numbers are counts and a 0
+abbrev pub AreCountsAndZero : List ℤ → List ℤ → Type 0
+AreCountsAndZero numbers counts = (numbers ≡ counts ++ pos 0 ∷ []) × All (λ n. pos 0 ≤ℤ n) counts
+
+-- numbers are no counts and a 0
+abbrev pub LacksCounts : List ℤ → Type 0
+LacksCounts numbers = (counts : List ℤ) → numbers ≡ counts ++ pos 0 ∷ [] → All (λ n. pos 0 ≤ℤ n) counts → ⊥
+
 -- numbers are those of a step: its id, its literals, 0, its hints, 0
 pub record AreParts (numbers : List ℤ) (id : ℤ) (lits hints : List ℤ) : Type 0 where
   pub is : numbers ≡ id ∷ (lits ++ (pos 0 ∷ (hints ++ pos 0 ∷ [])))

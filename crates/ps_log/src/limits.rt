@@ -4,6 +4,7 @@ ghost use Rattle.ps_pb.specs.Limits.{IsLiteral};
 ghost use Rattle.ps_log.specs.Limits.{IsId, IsGoalWithin, IsStepWithin};
 ghost use Rattle.ps_log.specs.Texts.{goal_line, step_line};
 
+use ps_io::LONGEST_LINE;
 use ps_pb::{Constraint, Lit, MOST_VARIABLES, Step};
 
 /// The greatest number that names a constraint.
@@ -21,7 +22,7 @@ pub const MOST_HINTS: usize = MOST_LITS + 1;
 pub fn is_step_within(s: &Step) -> bool
     ensures within { IsTrue result ↔ IsStepWithin s.now }
     ensures literals { All IsLiteral s.now.lits }
-    ensures short { IsStepWithin s.now → length (step_line s.now) < 65536 }
+    ensures short { IsStepWithin s.now → length (step_line s.now) < LONGEST_LINE }
 {
     are_literals(s.lits.as_slice())
         && s.lits.len() <= MOST_LITS
@@ -36,7 +37,7 @@ pub fn is_step_within(s: &Step) -> bool
 pub fn is_goal_within(goal: &Constraint) -> bool
     ensures always { IsTrue result }
     ensures within { IsGoalWithin goal.now }
-    ensures short { length (goal_line goal.now) < 65536 }
+    ensures short { length (goal_line goal.now) < LONGEST_LINE }
 {
     let terms = goal.terms().as_slice();
     have_literals(terms) && terms.len() <= MOST_LITS

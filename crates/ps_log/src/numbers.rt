@@ -1,52 +1,51 @@
 //! Numbers of a line.
-ghost use Rattle.std.specs.Prelude.{◌<◌, [], ◌∷◌, length, pos};
-ghost use Rattle.ps_io.specs.Lines.{text_of};
-ghost use Rattle.ps_log.specs.Lines.{HoldsLine};
-ghost use Rattle.ps_log.specs.Texts.{with_number, with_numbers, hint_numbers, term_numbers, step_numbers, goal_numbers};
+ghost use Rattle.std.specs.Prelude.{◌<◌, [], ◌∷◌, pos};
+ghost use Rattle.ps_log.specs.Lines.{AddsNumbers, length_with};
+ghost use Rattle.ps_log.specs.Texts.{hint_numbers, term_numbers, step_numbers, goal_numbers};
 
-use ps_io::{Lines, Sink};
+use ps_io::{LONGEST_LINE, Lines, Sink};
 use ps_pb::Lit;
 
 #[tactic(auto, using(crate::proofs::ManyNumbers::word_fits))]
 fn add_number<O: Sink>(lines: &mut Lines<'_, O>, n: i128)
-    requires { length (with_number (text_of lines.old) n) < 65536 }
-    ensures { HoldsLine lines.old lines.new (with_number (text_of lines.old) n) }
+    requires { length_with lines.old (n ∷ []) < LONGEST_LINE }
+    ensures { AddsNumbers lines.old lines.new (n ∷ []) }
 {
     lines.number(n);
 }
 
 fn add_lit<O: Sink>(lines: &mut Lines<'_, O>, lit: &Lit)
-    requires { length (with_number (text_of lines.old) lit.now) < 65536 }
-    ensures { HoldsLine lines.old lines.new (with_number (text_of lines.old) lit.now) }
+    requires { length_with lines.old (lit.now ∷ []) < LONGEST_LINE }
+    ensures { AddsNumbers lines.old lines.new (lit.now ∷ []) }
 {
     add_number(lines, lit.number() as i128);
 }
 
 fn add_hint<O: Sink>(lines: &mut Lines<'_, O>, hint: &u64)
-    requires { length (with_number (text_of lines.old) (pos hint.now)) < 65536 }
-    ensures { HoldsLine lines.old lines.new (with_number (text_of lines.old) (pos hint.now)) }
+    requires { length_with lines.old ((pos hint.now) ∷ []) < LONGEST_LINE }
+    ensures { AddsNumbers lines.old lines.new ((pos hint.now) ∷ []) }
 {
     add_number(lines, *hint as i128);
 }
 
 fn add_degree<O: Sink>(lines: &mut Lines<'_, O>, degree: &i128)
-    requires { length (with_number (text_of lines.old) degree.now) < 65536 }
-    ensures { HoldsLine lines.old lines.new (with_number (text_of lines.old) degree.now) }
+    requires { length_with lines.old (degree.now ∷ []) < LONGEST_LINE }
+    ensures { AddsNumbers lines.old lines.new (degree.now ∷ []) }
 {
     add_number(lines, *degree);
 }
 
 fn add_term<O: Sink>(lines: &mut Lines<'_, O>, term: &(Lit, i128))
-    requires { length (with_number (with_number (text_of lines.old) term.now.1) term.now.0) < 65536 }
-    ensures { HoldsLine lines.old lines.new (with_number (with_number (text_of lines.old) term.now.1) term.now.0) }
+    requires { length_with lines.old (term.now.1 ∷ term.now.0 ∷ []) < LONGEST_LINE }
+    ensures { AddsNumbers lines.old lines.new (term.now.1 ∷ term.now.0 ∷ []) }
 {
     add_number(lines, term.1);
     add_number(lines, term.0.number() as i128);
 }
 
 fn add_lits<O: Sink>(lines: &mut Lines<'_, O>, lits: &[Lit])
-    requires { length (with_numbers (text_of lines.old) lits.now) < 65536 }
-    ensures { HoldsLine lines.old lines.new (with_numbers (text_of lines.old) lits.now) }
+    requires { length_with lines.old lits.now < LONGEST_LINE }
+    ensures { AddsNumbers lines.old lines.new lits.now }
 {
     for lit in lits {
         add_lit(lines, lit);
@@ -54,8 +53,8 @@ fn add_lits<O: Sink>(lines: &mut Lines<'_, O>, lits: &[Lit])
 }
 
 fn add_hints<O: Sink>(lines: &mut Lines<'_, O>, hints: &[u64])
-    requires { length (with_numbers (text_of lines.old) (hint_numbers hints.now)) < 65536 }
-    ensures { HoldsLine lines.old lines.new (with_numbers (text_of lines.old) (hint_numbers hints.now)) }
+    requires { length_with lines.old (hint_numbers hints.now) < LONGEST_LINE }
+    ensures { AddsNumbers lines.old lines.new (hint_numbers hints.now) }
 {
     for hint in hints {
         add_hint(lines, hint);
@@ -63,8 +62,8 @@ fn add_hints<O: Sink>(lines: &mut Lines<'_, O>, hints: &[u64])
 }
 
 fn add_terms<O: Sink>(lines: &mut Lines<'_, O>, terms: &[(Lit, i128)])
-    requires { length (with_numbers (text_of lines.old) (term_numbers terms.now)) < 65536 }
-    ensures { HoldsLine lines.old lines.new (with_numbers (text_of lines.old) (term_numbers terms.now)) }
+    requires { length_with lines.old (term_numbers terms.now) < LONGEST_LINE }
+    ensures { AddsNumbers lines.old lines.new (term_numbers terms.now) }
 {
     for term in terms {
         add_term(lines, term);
@@ -78,8 +77,8 @@ pub(crate) fn add_step_numbers<O: Sink>(
     lits: &[Lit],
     hints: &[u64],
 )
-    requires { length (with_numbers (text_of lines.old) (step_numbers id.now lits.now hints.now)) < 65536 }
-    ensures { HoldsLine lines.old lines.new (with_numbers (text_of lines.old) (step_numbers id.now lits.now hints.now)) }
+    requires { length_with lines.old (step_numbers id.now lits.now hints.now) < LONGEST_LINE }
+    ensures { AddsNumbers lines.old lines.new (step_numbers id.now lits.now hints.now) }
 {
     add_hint(lines, id);
     add_lits(lines, lits);
@@ -94,8 +93,8 @@ pub(crate) fn add_goal_numbers<O: Sink>(
     degree: &i128,
     terms: &[(Lit, i128)],
 )
-    requires { length (with_numbers (text_of lines.old) (goal_numbers degree.now terms.now)) < 65536 }
-    ensures { HoldsLine lines.old lines.new (with_numbers (text_of lines.old) (goal_numbers degree.now terms.now)) }
+    requires { length_with lines.old (goal_numbers degree.now terms.now) < LONGEST_LINE }
+    ensures { AddsNumbers lines.old lines.new (goal_numbers degree.now terms.now) }
 {
     add_degree(lines, degree);
     add_terms(lines, terms);

@@ -1,6 +1,7 @@
 //! The parts of a step among its numbers.
 ghost use Rattle.std.specs.Prelude.{◌≡◌, ◌≤◌, ◌≤ℤ◌, ◌↔◌, ◌++◌, ◌∷◌, [], All, IsTrue, IfSome, IfNone, IsSome, ℤ, List as Numbers, pos, unsigned_abs};
 ghost use Rattle.ps_pb.specs.Limits.{IsLiteral};
+ghost use Rattle.ps_log.specs.Numbers.{LacksCount, IsCutAtZero, AreCountsAndZero, LacksCounts};
 ghost use Rattle.ps_log.specs.Numbers.{AreParts, HasParts, AreLits, AreHints, IsIdOf, IsStepOf};
 
 use crate::limits::{MOST_HINTS, MOST_IDS, MOST_LITS};
@@ -50,7 +51,7 @@ impl<'n> StepParts<'n> {
 
 fn split_count(numbers: &[i128]) -> Option<(i128, &[i128])>
     ensures found { IfSome result (λ r. (numbers.now ≡ r.0 ∷ r.1.now) × (pos 0 ≤ℤ r.0)) }
-    ensures none { IfNone result ((id : ℤ) (rest : Numbers ℤ) → numbers.now ≡ id ∷ rest → pos 0 ≤ℤ id → ⊥) }
+    ensures none { IfNone result (LacksCount numbers.now) }
 {
     match numbers {
         [id, rest @ ..] if 0 <= *id => Some((*id, rest)),
@@ -60,8 +61,8 @@ fn split_count(numbers: &[i128]) -> Option<(i128, &[i128])>
 
 // What stands before the last number, where that is 0.
 fn counts_before_zero(numbers: &[i128]) -> Option<&[i128]>
-    ensures found { IfSome result (λ r. (numbers.now ≡ r.now ++ pos 0 ∷ []) × All (λ n. pos 0 ≤ℤ n) r.now) }
-    ensures none { IfNone result ((counts : Numbers ℤ) → numbers.now ≡ counts ++ pos 0 ∷ [] → All (λ n. pos 0 ≤ℤ n) counts → ⊥) }
+    ensures found { IfSome result (λ counts. AreCountsAndZero numbers.now counts.now) }
+    ensures none { IfNone result (LacksCounts numbers.now) }
 {
     match numbers {
         [counts @ .., 0] if are_counts(counts) => Some(counts),
@@ -70,7 +71,7 @@ fn counts_before_zero(numbers: &[i128]) -> Option<&[i128]>
 }
 
 fn split_at_zero(numbers: &[i128]) -> Option<(&[i128], &[i128])>
-    ensures found { IfSome result (λ r. (numbers.now ≡ r.0.now ++ pos 0 ∷ r.1.now) × All (λ n. 1 ≤ unsigned_abs n) r.0.now) }
+    ensures found { IfSome result (λ r. IsCutAtZero numbers.now r.0.now r.1.now) }
     ensures none { IfNone result (All (λ n. 1 ≤ unsigned_abs n) numbers.now) }
 {
     match numbers.iter().position(|n| *n == 0) {

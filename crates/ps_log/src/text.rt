@@ -4,16 +4,16 @@ ghost use Rattle.ps_io.specs.Lines.{text_of};
 ghost use Rattle.ps_io.specs.Wrote.{Wrote};
 ghost use Rattle.ps_log.specs.Lines.{HoldsLine};
 ghost use Rattle.ps_steps.specs.Weights.{weighted};
-ghost use Rattle.ps_log.specs.Texts.{with_numbers, goal_numbers, step_numbers, step_line, goal_line};
+ghost use Rattle.ps_log.specs.Texts.{step_line, goal_line};
 
 use crate::numbers::{add_goal_numbers, add_step_numbers};
-use ps_io::{Lines, Sink, WriteFault};
+use ps_io::{LONGEST_LINE, Lines, Sink, WriteFault};
 use ps_pb::{Constraint, Step};
 
 /// Writes a goal's line: `g`, the degree, coefficient and literal for each term, `0`.
 pub fn write_goal<O: Sink>(lines: &mut Lines<'_, O>, goal: &Constraint) -> Result<(), WriteFault>
     requires empty { text_of lines.old ≡ [] }
-    requires short { length (goal_line goal.now) < 65536 }
+    requires short { length (goal_line goal.now) < LONGEST_LINE }
     ensures { Wrote O.written O.faults lines.old lines.new result (goal_line goal.now ∷ []) }
 {
     add_goal(lines, goal);
@@ -23,7 +23,7 @@ pub fn write_goal<O: Sink>(lines: &mut Lines<'_, O>, goal: &Constraint) -> Resul
 /// Writes a step's line: `s`, the id, the literals, `0`, the hints, `0`.
 pub fn write_step<O: Sink>(lines: &mut Lines<'_, O>, s: &Step) -> Result<(), WriteFault>
     requires empty { text_of lines.old ≡ [] }
-    requires short { length (step_line s.now) < 65536 }
+    requires short { length (step_line s.now) < LONGEST_LINE }
     ensures { Wrote O.written O.faults lines.old lines.new result (step_line s.now ∷ []) }
 {
     add_step(lines, s);
@@ -33,7 +33,7 @@ pub fn write_step<O: Sink>(lines: &mut Lines<'_, O>, s: &Step) -> Result<(), Wri
 #[tactic(auto, unfolding(crate::specs::Texts::goal_line))]
 fn add_goal<O: Sink>(lines: &mut Lines<'_, O>, goal: &Constraint)
     requires empty { text_of lines.old ≡ [] }
-    requires short { length (goal_line goal.now) < 65536 }
+    requires short { length (goal_line goal.now) < LONGEST_LINE }
     ensures { HoldsLine lines.old lines.new (goal_line goal.now) }
 {
     lines.word(b"g");
@@ -43,7 +43,7 @@ fn add_goal<O: Sink>(lines: &mut Lines<'_, O>, goal: &Constraint)
 #[tactic(auto, unfolding(crate::specs::Texts::step_line))]
 fn add_step<O: Sink>(lines: &mut Lines<'_, O>, s: &Step)
     requires empty { text_of lines.old ≡ [] }
-    requires short { length (step_line s.now) < 65536 }
+    requires short { length (step_line s.now) < LONGEST_LINE }
     ensures { HoldsLine lines.old lines.new (step_line s.now) }
 {
     lines.word(b"s");

@@ -57,4 +57,3 @@ pub(crate) fn first_line(bytes: &[u8]) -> Option<&[u8]>
         None => None,
     }
 }
-
