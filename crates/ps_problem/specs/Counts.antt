@@ -4,7 +4,8 @@ use Rattle.std.specs.List.{list_any}
 use Rattle.ps_meaning.specs.Formula.{Formula}
 use Rattle.ps_meaning.specs.Formula as formula
 use Rattle.ps_meaning.specs.Statements.{Name, Statement, Item, Stated, Asked}
-use Rattle.ps_problem.specs.declared.limits.TheConstants.{MOST_ATOMS, MOST_NODES, MOST_BOUNDS, MOST_QUERIES}
+use Rattle.ps_formula.specs.declared.limits.TheConstants.{MOST_ATOMS, MOST_NODES}
+use Rattle.ps_problem.specs.declared.limits.TheConstants.{MOST_BOUNDS, MOST_QUERIES}
 use Rattle.ps_problem.specs.Numbering.{same_formula, numbered_for, names_among}
 
 -- what there is too much of

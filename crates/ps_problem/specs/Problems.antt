@@ -5,7 +5,8 @@ use Rattle.ps_meaning.specs.Bounds as meaning
 use Rattle.ps_meaning.specs.Statements.{Name}
 use Rattle.ps_formula.specs.Nodes.{trees, AreNodes, AtomBelow}
 use Rattle.ps_formula.specs.declared.node.Node.{Node}
-use Rattle.ps_problem.specs.declared.limits.TheConstants.{MOST_ATOMS, MOST_NODES, MOST_BOUNDS, MOST_QUERIES, MOST_DENOMINATOR}
+use Rattle.ps_formula.specs.declared.limits.TheConstants.{MOST_ATOMS, MOST_NODES}
+use Rattle.ps_problem.specs.declared.limits.TheConstants.{MOST_BOUNDS, MOST_QUERIES, MOST_DENOMINATOR}
 use Rattle.ps_problem.specs.declared.bound.Bound.{Bound}
 use Rattle.ps_problem.specs.declared.sentence.Sentence.{Sentence}
 use Rattle.ps_problem.specs.declared.query.Query.{Query}

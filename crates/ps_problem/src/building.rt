@@ -12,10 +12,9 @@ ghost use Rattle.ps_problem.specs.Numbered.{ArePartsNumbered, IsQuestionNumbered
 ghost use Rattle.ps_problem.specs.Problems.{name_at};
 
 use crate::fault::Fault;
-use crate::limits::MOST_ATOMS;
 use crate::names::Names;
 use crate::{Draft, Mark, Query};
-use ps_formula::{AddError, Formulas, Node};
+use ps_formula::{AddError, Formulas, MOST_ATOMS, Node};
 use ps_io::List;
 use std::alloc::Global;
 

@@ -22,9 +22,7 @@ pub use bound::Bound;
 pub use build_error::BuildError;
 pub use draft::Draft;
 pub use laws::{canonical_text_is_reread, numbering_keeps_meaning};
-pub use limits::{
-    MOST_ATOMS, MOST_BOUNDS, MOST_DENOMINATOR, MOST_NESTING, MOST_NODES, MOST_QUERIES,
-};
+pub use limits::{MOST_BOUNDS, MOST_DENOMINATOR, MOST_NESTING, MOST_QUERIES};
 pub use mark::Mark;
 pub use problem::Problem;
 pub use ps_meaning::Side;

@@ -1,9 +1,5 @@
 //! The limits of a problem.
 
-/// The most atoms.
-pub const MOST_ATOMS: usize = 128;
-/// The most nodes, which are the different subformulas.
-pub const MOST_NODES: usize = 1024;
 /// The most bounds; an interval has two.
 pub const MOST_BOUNDS: usize = 100;
 /// The most queries.

@@ -1,7 +1,8 @@
 //! A problem: atoms by name, formulas, sentences and queries.
 ghost use Rattle.std.specs.Prelude.{◌≡◌, ◌≤◌, All, length, map, option_copied, slice_get};
 ghost use Rattle.ps_formula.specs.Nodes.{AreNodes, AtomBelow};
-ghost use Rattle.ps_problem.specs.declared.limits.TheConstants.{MOST_ATOMS, MOST_BOUNDS};
+ghost use Rattle.ps_formula.specs.declared.limits.TheConstants.{MOST_ATOMS};
+ghost use Rattle.ps_problem.specs.declared.limits.TheConstants.{MOST_BOUNDS};
 ghost use Rattle.ps_problem.specs.Problems.{parts_of, AreBounds, AreParts, bounds_in, bound_at};
 ghost use Rattle.ps_problem.specs.Soundness.{IsProblem};
 
