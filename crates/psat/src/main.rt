@@ -8,6 +8,7 @@ mod exit;
 mod laws;
 mod problem_text;
 mod reply;
+mod reply_error;
 mod report;
 mod report_bytes;
 mod report_error;

@@ -1,5 +1,5 @@
 //! The top call.
-ghost use Rattle.std.specs.Prelude.{◌≡◌, ℕ, List, None, IfOk, IfErr};
+ghost use Rattle.std.specs.Prelude.{◌≡◌, ℕ, List, None, IfOk};
 ghost use Rattle.psat.specs.Commands.{ReadNothing, SpellNone, limit_of, words_of};
 ghost use Rattle.psat.specs.Replies.{IsDue, IsDueFor, output_of, status_of};
 ghost use Rattle.psat.specs.Runs.{CountsReads, CountsWrites, HasRead, HasTaken, IsGiven, Ran, Took};
@@ -8,37 +8,36 @@ ghost use Rattle.psat.specs.Statuses.{AnswersUsage, GoesWithText, IsAnswer, IsSi
 use crate::answer::answer;
 use crate::command::{Command, parse_words};
 use crate::reply::Reply;
+use crate::reply_error::ReplyError;
 use crate::status::Status;
 use ps_io::{ReadAllError, Sink, Source, read_all, write_all};
 use std::alloc::Global;
 
-// The reply to the input of `check`, or the status where none is due.
-fn reply_to_input<I: Source>(alloc: Global, input: &mut I, limit: u64) -> Result<Reply, Status>
+// The reply to the input of `check`, or why there is none.
+fn reply_to_input<I: Source>(alloc: Global, input: &mut I, limit: u64) -> Result<Reply, ReplyError>
     ensures due { IfOk result (λ r.
         IsDueFor (Command.Check limit) (I.left input.old) (output_of r)) }
     ensures took { Took limit (status_of result) (I.left input.old) (I.left input.new) }
     ensures status { IfOk result (λ r. IsAnswer r.status) }
-    ensures silent { IfErr result IsSilent }
     ensures faults { CountsReads (status_of result) (I.faults input.old) (I.faults input.new) }
 {
     match read_all(alloc, input, limit) {
         Ok(bytes) => Ok(answer(alloc, &bytes)?),
         Err(ReadAllError::TooLong { .. }) => Ok(Reply::too_long(alloc, limit)?),
-        Err(ReadAllError::Fault) => Err(Status::ReadFault),
-        Err(ReadAllError::NoMemory) => Err(Status::NoMemory),
+        Err(ReadAllError::Fault) => Err(ReplyError::ReadFault),
+        Err(ReadAllError::NoMemory) => Err(ReplyError::NoMemory),
     }
 }
 
-// The reply to a command and its input, or the status where none is due.
+// The reply to a command and its input, or why there is none.
 fn reply_to_command<I: Source>(
     alloc: Global,
     command: Command,
     input: &mut I,
-) -> Result<Reply, Status>
+) -> Result<Reply, ReplyError>
     ensures due { IfOk result (λ r. IsDueFor command (I.left input.old) (output_of r)) }
     ensures taken { HasTaken command (status_of result) (I.left input.old) (I.left input.new) }
     ensures status { IfOk result (λ r. IsAnswer r.status) }
-    ensures silent { IfErr result IsSilent }
     ensures unread { limit_of command ≡ None → input.new ≡ input.old }
     ensures faults { CountsReads (status_of result) (I.faults input.old) (I.faults input.new) }
 {
@@ -47,13 +46,12 @@ fn reply_to_command<I: Source>(
     }
 }
 
-// The reply to words and input, or the status where none is due.
-fn reply_to<I: Source>(alloc: Global, words: &[String], input: &mut I) -> Result<Reply, Status>
+// The reply to words and input, or why there is none.
+fn reply_to<I: Source>(alloc: Global, words: &[String], input: &mut I) -> Result<Reply, ReplyError>
     ensures due { IfOk result (λ r. IsDue (words_of words.now) (I.left input.old) (output_of r)) }
     ensures read { HasRead (words_of words.now) (status_of result)
         (I.left input.old) (I.left input.new) }
     ensures status { IfOk result (λ r. GoesWithText r.status) }
-    ensures silent { IfErr result IsSilent }
     ensures usage { IfOk result (λ r. r.status ≡ Status.Usage → SpellNone (words_of words.now)) }
     ensures other_words { SpellNone (words_of words.now) → AnswersUsage (status_of result) }
     ensures unread { ReadNothing (words_of words.now) → input.new ≡ input.old }
@@ -94,7 +92,7 @@ pub fn run<I: Source, O: Sink>(
 {
     let reply = match reply_to(alloc, words, input) {
         Ok(reply) => reply,
-        Err(status) => return status,
+        Err(error) => return error.status(),
     };
     match write_all(output, reply.text.as_bytes()) {
         Ok(()) => reply.status,

@@ -1,9 +1,6 @@
 //! How the program ends.
 ghost use Rattle.std.specs.Prelude.{◌≡◌};
 
-use ps_io::NoMemory;
-use std::alloc::AllocError;
-
 /// How the program ends.
 #[derive(Clone, Copy, Debug, PartialEq, Eq)]
 pub enum Status {
@@ -39,25 +36,5 @@ impl Status {
             Status::NoMemory => 7,
             Status::Refused => 8,
         }
-    }
-}
-
-impl From<NoMemory> for Status {
-    ghost use Rattle.psat.specs.declared.status.Status.TheVariants as status;
-
-    ghost from_gives = { λ _ s. s ≡ status.NoMemory };
-
-    fn from(_: NoMemory) -> Status {
-        Status::NoMemory
-    }
-}
-
-impl From<AllocError> for Status {
-    ghost use Rattle.psat.specs.declared.status.Status.TheVariants as status;
-
-    ghost from_gives = { λ _ s. s ≡ status.NoMemory };
-
-    fn from(_: AllocError) -> Status {
-        Status::NoMemory
     }
 }
