@@ -6,6 +6,7 @@ use Rattle.ps_meaning.specs.Bounds.{Compares}
 use Rattle.ps_formula.specs.Nodes.{truths}
 use Rattle.ps_formula.specs.declared.node.Node.{Node}
 use Rattle.ps_problem.specs.declared.bound.Bound.{Bound}
+use Rattle.ps_problem.specs.declared.limits.TheConstants.{MOST_DENOMINATOR}
 use Rattle.ps_check.specs.declared.truth.Row.{Row}
 use Rattle.ps_check.specs.Sizes.{IsSmall}
 use Rattle.ps_check.specs.Models.{most_worlds}
@@ -43,8 +44,8 @@ node_at (Some n) = Atom n
 pub record Covers (rows : List Row) (b : Bound) : Type 0 where
   pub both : HaveNode rows b.both
   pub given : IfSome b.given (HaveNode rows)
-  pub num : b.num ≤ 1000000
-  pub den : b.den ≤ 1000000
+  pub num : b.num ≤ MOST_DENOMINATOR
+  pub den : b.den ≤ MOST_DENOMINATOR
 
 -- entries over nodes meet the bound
 unfoldable pub MeetsAt : List Entry → Bound → Type 0

@@ -3,6 +3,7 @@ ghost use Rattle.std.specs.Prelude.{◌≡◌, ◌≤◌, ◌*◌, ◌↔◌, po
 ghost use Rattle.std.specs.Prelude.{IfOk, IfSome, IsTrue};
 ghost use Rattle.ps_meaning.specs.Distribution.{weight, total};
 ghost use Rattle.ps_meaning.specs.Bounds.{Compares};
+ghost use Rattle.ps_problem.specs.declared.limits.TheConstants.{MOST_BOUNDS, MOST_DENOMINATOR};
 ghost use Rattle.ps_check.specs.Models.{entries, most_weight, most_worlds};
 ghost use Rattle.ps_check.specs.Reasons.{HaveShape};
 ghost use Rattle.ps_check.specs.Rows.{AreRows, Covers, HaveNode, MeetsAt, node_at, row_entries};
@@ -27,7 +28,7 @@ fn compares(side: Side, x: i128, y: i128) -> bool
 
 // A weight times a numerator or a denominator.
 fn times(k: u32, x: i128) -> i128
-    requires small { k ≤ 1000000 }
+    requires small { k ≤ MOST_DENOMINATOR }
     requires low { pos 0 ≤ℤ x }
     requires high { x ≤ℤ pos (most_worlds * most_weight) }
     ensures { result ≡ pos k *ℤ x }
@@ -68,7 +69,7 @@ fn is_met(rows: &[Row], sum: i128, bound: &Bound) -> bool
 fn first_missed(rows: &[Row], sum: i128, bounds: &[Bound]) -> Option<u32>
     requires rows { AreRows rows.now }
     requires bounds { All (Covers rows.now) bounds.now }
-    requires few { length bounds.now ≤ 100 }
+    requires few { length bounds.now ≤ MOST_BOUNDS }
     requires total { sum ≡ total (row_entries rows.now) }
     requires small { IsSmall sum }
     ensures { FindsMissedAt (row_entries rows.now) bounds.now result }

@@ -1,10 +1,10 @@
 -- Reading a report from left to right, as a function: what it reads are just the texts of reports.
 use Rattle.std.specs.Prelude.{◌≡◌, ℕ, zero, suc, ℤ, pos, ◌+◌, ◌*◌, ◌-◌, ◌&&◌, ◌||◌, List, [], ◌∷◌, ◌++◌, length, Option, Some, None, Result, Ok, Err, nat_lt, nat_le, ◌==◌, if◌then◌else◌, codes}
 use Rattle.ps_meaning.specs.Formula.{World}
+use Rattle.ps_problem.specs.declared.limits.TheConstants.{MOST_ATOMS}
 use Rattle.ps_check.specs.declared.model.Weighted.{Weighted}
 use Rattle.ps_check.specs.declared.model.Model.{Model}
 use Rattle.ps_check.specs.Models.{most_weight, most_worlds}
-use Rattle.psat.specs.Reports.{most_atoms}
 use Rattle.psat.specs.declared.report_error.ReportError.{ReportError}
 use Rattle.psat.specs.declared.report_error.ReportError.TheVariants as errors
 
@@ -45,7 +45,7 @@ number_at limit (b ∷ bs) = if b == 48 then Some (0, bs)
 abbrev pub truths_from : World → List ℕ → Option (World × List ℕ)
 truths_from w [] = Some (w, [])
 truths_from w (b ∷ bs) = if b == 48 || b == 49
-    then (if nat_lt (length w) most_atoms then truths_from (w ++ (b == 49) ∷ []) bs else None)
+    then (if nat_lt (length w) MOST_ATOMS then truths_from (w ++ (b == 49) ∷ []) bs else None)
     else Some (w, b ∷ bs)
 
 abbrev pub world_at : List ℕ → Option (World × List ℕ)

@@ -2,6 +2,7 @@
 use Rattle.std.specs.Prelude.{◌≡◌, ◌≤◌, ℕ, Bool, true, false, List, [], ◌∷◌, ◌++◌, length, map, All, Result, Ok, Err, codes, decimal}
 use Rattle.std.specs.Fmt.{signed_decimal}
 use Rattle.ps_meaning.specs.Formula.{World}
+use Rattle.ps_problem.specs.declared.limits.TheConstants.{MOST_ATOMS}
 use Rattle.ps_check.specs.declared.model.Weighted.{Weighted}
 use Rattle.ps_check.specs.declared.model.Model.{Model}
 use Rattle.ps_check.specs.Models.{IsWithinLimits, IsNonnegative}
@@ -33,16 +34,12 @@ report_text m = codes "report 1\n" ++ codes "consistent\n"
     ++ entry_lines m.worlds
     ++ codes "t 0\n" ++ codes "end\n"
 
--- the most atoms of a world
-abbrev pub most_atoms : ℕ
-most_atoms = 128
-
 -- the bytes are the text of a model: numbers from 0 to 2^90, at most 101 worlds, each of at most 128 atoms
 pub record IsReport (bytes : List ℕ) (m : Model) : Type 0 where
   pub text : bytes ≡ report_text m
   pub numbers : IsWithinLimits m
   pub nonnegative : IsNonnegative m
-  pub worlds : All (λ e. length e.world ≤ most_atoms) m.worlds
+  pub worlds : All (λ e. length e.world ≤ MOST_ATOMS) m.worlds
 
 -- the bytes are the text of no model
 pub record IsNoReport (bytes : List ℕ) : Type 0 where

@@ -1,5 +1,6 @@
 //! Sentences of the first form, put into a draft.
 ghost use Rattle.std.specs.Prelude.{◌≡◌, ◌≤◌, ◌++◌, ◌∷◌, [], All, OnOk, IfOk, length};
+ghost use Rattle.ps_problem.specs.declared.limits.TheConstants.{MOST_BOUNDS};
 ghost use Rattle.ps_read.specs.FirstForm.{IsWithinLimits, item_of, items_of};
 ghost use Rattle.psat.specs.Drafting.{IsDraftOf, IsNegated};
 
@@ -23,7 +24,7 @@ fn negate(draft: &mut Draft, count: u32) -> Result<(), NoMemory>
 fn add(draft: &mut Draft, sentence: &FirstSentence) -> Result<(), NoMemory>
     requires within { IsWithinLimits sentence.now }
     requires draft { IsDraftOf draft.old.items draft.old }
-    requires few { length draft.old.items ≤ 100 }
+    requires few { length draft.old.items ≤ MOST_BOUNDS }
     ensures { OnOk result (IsDraftOf (draft.old.items ++ item_of sentence.now ∷ []) draft.new) }
 {
     let name = draft.name(sentence.name.as_slice())?;
@@ -43,7 +44,7 @@ fn add(draft: &mut Draft, sentence: &FirstSentence) -> Result<(), NoMemory>
 /// The draft of some sentences.
 pub fn draft_of(alloc: Global, sentences: &[FirstSentence]) -> Result<Draft, NoMemory>
     requires within { All IsWithinLimits sentences.now }
-    requires few { length sentences.now ≤ 100 }
+    requires few { length sentences.now ≤ MOST_BOUNDS }
     ensures { IfOk result (λ d. IsDraftOf (items_of sentences.now) d) }
 {
     let mut draft = Draft::new(alloc);

@@ -1,5 +1,6 @@
 //! The problem at the front of an input.
 ghost use Rattle.std.specs.Prelude.{◌≤◌, length, All, IfOk, IsErrOf};
+ghost use Rattle.ps_problem.specs.declared.limits.TheConstants.{MOST_BOUNDS};
 ghost use Rattle.ps_read.specs.FirstForm.{IsWithinLimits, items_of};
 ghost use Rattle.psat.specs.ProblemTexts.{IsProblemOf, PassLimits, SpellsFirst, SpellsNone};
 
@@ -23,7 +24,7 @@ fn problem_of_draft(alloc: Global, draft: &Draft) -> Result<Problem, ReadError>
 // The problem of some sentences, where they are within the limits.
 fn problem_of(alloc: Global, sentences: &[FirstSentence]) -> Result<Problem, ReadError>
     requires within { All IsWithinLimits sentences.now }
-    requires few { length sentences.now ≤ 100 }
+    requires few { length sentences.now ≤ MOST_BOUNDS }
     ensures made { IfOk result (λ p. IsProblemOf (items_of sentences.now) p) }
     ensures refused { IsErrOf result ReadError.NotFirstForm → PassLimits (items_of sentences.now) }
 {

@@ -11,10 +11,8 @@ use crate::report_error::ReportError;
 use ps_check::{MOST_WEIGHT, MOST_WORLDS, Model, Weighted};
 use ps_formula::World;
 use ps_io::List;
+use ps_problem::MOST_ATOMS;
 use std::alloc::Global;
-
-// The most atoms of a world.
-const MOST_ATOMS: usize = 128;
 
 // The digits of a world, up to the first byte that is none.
 fn digits(alloc: Global, bytes: &[u8]) -> Result<(World, &[u8]), ReportError>
