@@ -9,9 +9,9 @@ use Rattle.ps_steps.specs.Constraints.{Constraint, HasTerm, Forces, slack, is_fo
 use Rattle.ps_steps.specs.Weights.{Weighted, weighted, terms_of, term_of}
 use Rattle.ps_steps.specs.Steps.{constraint_at}
 use Rattle.ps_forms.specs.Settled.{IsIdle}
-use Rattle.ps_learning.specs.Known.{known_of}
+use Rattle.ps_steps.specs.Steps.{known_of}
 use Rattle.ps_learning.specs.Trails.{IsReason, IsFresh, IsConflict}
-use Rattle.ps_learning.proofs.Ids.{constraint_at-known, zero_unknown}
+use Rattle.ps_steps.proofs.Ids.{constraint_at-known, zero_unknown}
 use Rattle.ps_steps.proofs.Forcing.{lt-of}
 use Rattle.ps_pb.proofs.Searched.{has_term-at}
 use Rattle.ps_forms.specs.Forms.{IsWithin}

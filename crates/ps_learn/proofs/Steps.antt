@@ -13,7 +13,7 @@ use Rattle.ps_steps.specs.Steps.{Known, constraint_at, Open, Conflict, after_hin
 use Rattle.ps_learning.specs.Trails.{Entry, Trail, values_of, IsReason, AreFresh, AreLevels, AreReasons, IsConflict}
 use Rattle.ps_learning.specs.Causes.{Marks, is_marked, AreCovered, IsExplained, AreExplained}
 use Rattle.ps_steps.proofs.Values.{signed-some}
-use Rattle.ps_learning.proofs.Setting.{rising-distinct, unset-same}
+use Rattle.ps_steps.proofs.Setting.{rising-distinct, unset-same}
 use Rattle.ps_learning.specs.Starting.{Started}
 use Rattle.ps_learning.proofs.Starting.{started-none, started-skip, started-keep}
 use Rattle.ps_learning.proofs.Asserting.{Asserted, asserted-none, asserted-skip, asserted-keep}
@@ -226,17 +226,3 @@ followed-conflict n known t marks kept start i hints hints' a id e caused f h m 
     let covered = caused.covered x.constraint x.known_at in
     ended known start (length t.entries) i hints hints' id x.constraint is
     (followed-end n known t.entries marks start i hints a id x.constraint f h x.known_at (subst (λ v. is_violated x.constraint (values_of v t.entries) ≡ true) (sym e) x.violated) (subst (λ v. AreCovered x.constraint (values_of v t.entries) marks) (sym e) covered)) f.few m f.ids x.known_at
-
-within_by : (v : ℕ) (l : ℤ) → (1 ≤ unsigned_abs l) × (unsigned_abs l ≤ v) → place l < v
-within_by v l h = omega (arith, h.0, h.1)
-
--- the literals are of the trail's variables
-pub lits-inside : (v : ℕ) (lits : List ℤ) → All (λ l. (1 ≤ unsigned_abs l) × (unsigned_abs l ≤ v)) lits → All (λ l. place l < v) lits
-lits-inside v lits h = λ k d lt. within_by v (get_or lits k d) (h k d lt)
-
--- and within the limits
-pub lits-within : (v : ℕ) (lits : List ℤ) → v ≤ 1024 → All (λ l. (1 ≤ unsigned_abs l) × (unsigned_abs l ≤ v)) lits → All (λ l. (1 ≤ unsigned_abs l) × (unsigned_abs l ≤ 1024)) lits
-lits-within v lits m h = λ k d lt. (let b = h k d lt in (b.0, omega (arith, b.1, m)))
-
-pub ids-within : (n : ℕ) (ids : List ℕ) → n < 2 ^ 41 → All (λ id. (1 ≤ id) × (id ≤ n)) ids → All (λ id. (1 ≤ id) × (id ≤ 2 ^ 41)) ids
-ids-within n ids m h = λ k d lt. (let b = h k d lt in (b.0, omega (arith, b.1, m)))

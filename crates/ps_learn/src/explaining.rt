@@ -1,7 +1,7 @@
 //! The causes of a conflict: back over the trail up to the first unique implication point.
 ghost use Rattle.std.specs.Prelude.{◌≡◌, ◌≤◌, ◌<◌, ℤ, true, false, length, IfOk};
 ghost use Rattle.ps_steps.specs.Assignments.{place};
-ghost use Rattle.ps_learning.specs.Known.{known_of};
+ghost use Rattle.ps_steps.specs.Steps.{known_of};
 ghost use Rattle.ps_learning.specs.Trails.{values, level, IsConflict, AreReasons};
 ghost use Rattle.ps_learning.specs.Causes.{is_marked};
 ghost use Rattle.ps_learning.specs.Marking.{Grows};

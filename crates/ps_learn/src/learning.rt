@@ -2,7 +2,8 @@
 ghost use Rattle.std.specs.Prelude.{◌≡◌, ◌≤◌, ◌<◌, ◌+◌, ◌^◌, ℤ, List, length, IfOk, All};
 ghost use Rattle.ps_steps.specs.Assignments.{all_unset};
 ghost use Rattle.ps_steps.specs.Steps.{IsLawful, lits_of, hints_of, after_hints, Open, Conflict};
-ghost use Rattle.ps_learning.specs.Known.{known_of, IsIdUpTo};
+ghost use Rattle.ps_steps.specs.Steps.{known_of};
+ghost use Rattle.ps_learning.specs.Known.{most_known, IsIdUpTo};
 ghost use Rattle.ps_learning.specs.Trails.{values, level, IsLit, AreReasons, IsConflict};
 ghost use Rattle.ps_learning.specs.Levels.{IsAsserting};
 ghost use Rattle.ps_learning.specs.Keeping.{IsKeptOnce};
@@ -38,7 +39,7 @@ pub fn learn(
 ) -> Result<Lesson, NoMemory>
     requires reasons { AreReasons trail.now.variables (known_of known.now) trail.now.entries }
     requires conflict { IsConflict (known_of known.now) (values trail.now) conflict }
-    requires few { length known.now < 2 ^ 41 }
+    requires few { length known.now ≤ most_known }
     ensures lawful { IfOk result (λ x. IsLawful trail.now.variables (known_of known.now) x.step) }
     ensures asserting { IfOk result (λ x. IsAsserting trail.now (lits_of x.step) x.level) }
     ensures literals { IfOk result (λ x. All (IsLit trail.now.variables) (lits_of x.step)) }

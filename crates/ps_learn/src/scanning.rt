@@ -3,7 +3,8 @@ ghost use Rattle.std.specs.Prelude.{◌≡◌, ◌≤◌, ◌<◌, ◌^◌, pos,
 ghost use Rattle.ps_steps.specs.Constraints.{slack, is_forced};
 ghost use Rattle.ps_steps.specs.Weights.{term_of};
 ghost use Rattle.ps_forms.specs.Forms.{IsWithin};
-ghost use Rattle.ps_learning.specs.Known.{known_of};
+ghost use Rattle.ps_steps.specs.Steps.{known_of};
+ghost use Rattle.ps_learning.specs.Known.{most_known};
 ghost use Rattle.ps_learning.specs.Trails.{values, level, unset_count, AreReasons};
 ghost use Rattle.ps_learn.specs.Rest.{IsPropagated};
 ghost use Rattle.ps_learn.specs.Scans.{Scans, ScansOne, FirstForced};
@@ -68,7 +69,7 @@ fn show(c: &Constraint, a: &Assignment) -> Shown
 
 // The first constraint that is violated or forces a literal.
 fn scan_all(known: &[Constraint], a: &Assignment) -> Scan
-    requires few { length known.now < 2 ^ 41 }
+    requires few { length known.now ≤ most_known }
     requires inside { All (IsWithin (length a.now)) known.now }
     ensures { Scans (known_of known.now) a.now result }
 {
@@ -87,7 +88,7 @@ fn scan_all(known: &[Constraint], a: &Assignment) -> Scan
 pub fn propagate_all(known: &List<Constraint>, trail: &mut Trail) -> Option<u64>
     requires reasons { AreReasons trail.old.variables (known_of known.now) trail.old.entries }
     requires inside { All (IsWithin trail.old.variables) known.now }
-    requires few { length known.now < 2 ^ 41 }
+    requires few { length known.now ≤ most_known }
     ensures variables { trail.new.variables ≡ trail.old.variables }
     ensures level { level trail.new ≡ level trail.old }
     ensures fewer { unset_count (values trail.new) ≤ unset_count (values trail.old) }

@@ -10,7 +10,8 @@ use Rattle.ps_learning.specs.Levels.{level_at, greatest_level, IsAsserting}
 use Rattle.ps_learning.specs.Causes.{Marks, is_marked}
 use Rattle.ps_learning.specs.Keeping.{IsKeptOnce}
 use Rattle.ps_learning.proofs.Distinct.{level-opposite, level-most}
-use Rattle.ps_learning.proofs.Keeping.{decisions-more, before-level}
+use Rattle.ps_learning.proofs.Levels.{decisions-more}
+use Rattle.ps_learning.proofs.Keeping.{before-level}
 
 -- the level of a literal is below a number, or at most it
 abbrev pub Under : List Entry → ℕ → ℤ → Type 0

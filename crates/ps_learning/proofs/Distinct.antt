@@ -5,7 +5,7 @@ use Rattle.std.proofs.lemmas.Bool.{cases_eq, cases_lt}
 use Rattle.ps_steps.specs.Assignments.{place, value_of, is_unset, with_true}
 use Rattle.ps_learning.specs.Trails.{Entry, values_of, decisions, entry_of, AreFresh, AreLevels}
 use Rattle.ps_learning.specs.Levels.{level_at, level_or_zero}
-use Rattle.ps_learning.proofs.Setting.{value-true, unset-same, size-opposite}
+use Rattle.ps_steps.proofs.Setting.{value-true, unset-same, size-opposite}
 use Rattle.ps_learning.proofs.Entries.{values-more, length-values}
 use Rattle.ps_learning.proofs.Marking.{unset-earlier}
 

@@ -13,8 +13,9 @@ use Rattle.ps_learning.specs.Trails.{Entry, values_of, AreFresh}
 use Rattle.ps_learning.specs.Causes.{Marks, is_marked, AreCovered}
 use Rattle.ps_steps.proofs.Values.{Includes, includes-refl, includes-trans}
 use Rattle.ps_steps.proofs.Lawful.{value-unset}
-use Rattle.ps_learning.proofs.Setting.{AreDistinct, forced-includes, length-forced, value-other, value-own, value-same}
-use Rattle.ps_learning.proofs.Covering.{Covers, covers-violated, covers-some, covers-true}
+use Rattle.ps_steps.proofs.Setting.{AreDistinct, forced-includes, length-forced, value-other, value-own, value-same}
+use Rattle.ps_steps.specs.Constraints.{Covers}
+use Rattle.ps_steps.proofs.Covering.{covers-violated, covers-some, covers-true}
 use Rattle.ps_learning.proofs.Entries.{values-more, length-values}
 
 -- the id of a known constraint

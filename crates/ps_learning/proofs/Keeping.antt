@@ -8,7 +8,7 @@ use Rattle.ps_learning.specs.Trails.{Entry, Trail, values_of, decisions, IsReaso
 use Rattle.ps_learning.specs.Causes.{Marks, is_marked}
 use Rattle.ps_learning.specs.Marking.{Grows, AreSetIn}
 use Rattle.ps_learning.specs.Keeping.{IsKeptOnce, IsToExplain, HasNoReason, IsKeptOrNot}
-use Rattle.ps_learning.proofs.Levels.{levels-rise}
+use Rattle.ps_learning.proofs.Levels.{levels-rise, decisions-more}
 use Rattle.ps_learning.proofs.Marking.{grows-trans, marked-set, unset-earlier}
 use Rattle.ps_learning.proofs.Distinct.{same-place, other-place, decisions-next, level-most}
 
@@ -56,13 +56,6 @@ no_reason v known es i e r q n = reason_is known (values_of v (take i es)) e e.r
 -- so it is above level 0, and the first of its level
 first_of_level : (v : ℕ) (known : Known) (es : List Entry) (i : ℕ) (e : Entry) → IsSound v known es → slice_get es i ≡ Some e → HasNoReason known e → e.level ≡ decisions (take i es) + 1
 first_of_level v known es i e s q n = s.levels.at i e q ∙ decisions-next es i e q ∙ ap (λ b. decisions (take i es) + cond b 1 0) (no_reason v known es i e s.reasons q n)
-
--- an earlier part of a trail has at most as many decisions
-pub decisions-more : (es : List Entry) (a b : ℕ) → a ≤ b → decisions (take a es) ≤ decisions (take b es)
-decisions-more es zero b h = omega arith
-decisions-more es (suc a) zero h = absurd (omega (arith, h))
-decisions-more [] (suc a) (suc b) h = omega arith
-decisions-more (x ∷ es) (suc a) (suc b) h = omega (arith, decisions-more es a b (omega (arith, h)))
 
 pub before-level : (es : List Entry) (i k : ℕ) (d : Entry) → AreLevels es → k < i → slice_get es k ≡ Some d → d.level ≤ decisions (take i es)
 before-level es i k d f lt q = omega (arith, f.at k d q, decisions-more es (suc k) i (omega (arith, lt)))

@@ -8,7 +8,8 @@ use Rattle.ps_learning.specs.Trails.{Entry, decisions, AreLevels}
 pub record AreRising (es : List Entry) : Type 0 where
   pub at : (i j : ℕ) (d e : Entry) → i ≤ j → slice_get es i ≡ Some d → slice_get es j ≡ Some e → d.level ≤ e.level
 
-decisions-more : (es : List Entry) (i j : ℕ) → i ≤ j → decisions (take i es) ≤ decisions (take j es)
+-- an earlier part of a trail has at most as many decisions
+pub decisions-more : (es : List Entry) (i j : ℕ) → i ≤ j → decisions (take i es) ≤ decisions (take j es)
 decisions-more es zero j h = omega arith
 decisions-more es (suc i) zero h = absurd (omega (arith, h))
 decisions-more [] (suc i) (suc j) h = omega arith

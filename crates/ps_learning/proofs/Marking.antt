@@ -10,7 +10,7 @@ use Rattle.ps_learning.specs.Trails.{Entry, values_of, AreFresh}
 use Rattle.ps_learning.specs.Causes.{Marks, is_marked, AreCovered, IsExplained, AreExplained}
 use Rattle.ps_learning.specs.Marking.{Grows, AreSetIn}
 use Rattle.ps_steps.proofs.Values.{Includes, includes-refl, includes-trans, with_true-includes}
-use Rattle.ps_learning.proofs.Setting.{unset-below}
+use Rattle.ps_steps.proofs.Setting.{unset-below}
 use Rattle.ps_learning.proofs.Entries.{values-more}
 
 pub grows-refl : (m : Marks) → Grows m m

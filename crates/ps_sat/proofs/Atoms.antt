@@ -63,16 +63,23 @@ lit_unset : (a : Assignment) (p : ℕ) (s : Bool) → is_unset (get_or a p None)
 unfolding value_of
 lit_unset a p s h = rw (place_of p s) (unset_both (is_positive (literal_at p s)) (get_or a p None) h)
 
+number_of : (p : ℕ) (s : Bool) → unsigned_abs (literal_at p s) ≡ p + 1
+number_of p true = omega arith
+number_of p false = omega arith
+
 -- the literal of what was chosen
-pub chosen-fresh : (f : Form) (a : Assignment) (n : ℕ) (best : Option ℕ) (p : ℕ) (s : Bool) (l : ℤ) → IsChosen f a n best → best ≡ Some p → l ≡ literal_at p s → IsFresh f.variables a l
-chosen-fresh f a n best p s l h e q =
+pub chosen-decision : (f : Form) (a : Assignment) (n : ℕ) (best : Option ℕ) (p : ℕ) (s : Bool) (l : ℤ) → IsChosen f a n best → best ≡ Some p → l ≡ literal_at p s → IsFresh f.variables a l × (is_atom_variable f (unsigned_abs l) ≡ true)
+chosen-decision f a n best p s l h e q =
     let g : IsOpenAt f a p = rw e at h in
     let two = and_parts (is_atom_variable f (p + 1)) (is_unset (value_at a (p + 1))) g.1 in
-    rw q (record {
-      some = some_of p s;
-      within = omega (arith, g.0, place_of p s);
-      unset = lit_unset a p s (ap is_unset (sym (value_here a p)) ∙ two.1);
-    })
+    rw q (
+      record {
+        some = some_of p s;
+        within = omega (arith, g.0, place_of p s);
+        unset = lit_unset a p s (ap is_unset (sym (value_here a p)) ∙ two.1);
+      },
+      ap (is_atom_variable f) (number_of p s) ∙ two.0,
+    )
 
 pub chosen-within : (f : Form) (a : Assignment) (n : ℕ) (best : Option ℕ) (p : ℕ) → IsChosen f a n best → best ≡ Some p → p < f.variables
 chosen-within f a n best p h e = let g : IsOpenAt f a p = rw e at h in g.0

@@ -5,12 +5,15 @@ use Rattle.std.specs.List.{All}
 use Rattle.std.proofs.lemmas.Bool.{eqb-true, false≢true}
 use Rattle.ps_steps.specs.Assignments.{Assignment, place}
 use Rattle.ps_steps.specs.Constraints.{Constraint, IsMet}
-use Rattle.ps_steps.specs.Steps.{Known, known_of, next_id, Step, lits_of, hints_of, Refusal, IdNotNext, added, IsLawful, is_contradiction}
+use Rattle.ps_steps.specs.declared.refused.StepRefused.{StepRefused}
+use Rattle.ps_steps.specs.declared.refused.StepRefused.TheVariants.{IdNotNext}
+use Rattle.ps_steps.specs.Steps.{Known, known_of, next_id, Step, lits_of, hints_of, added, IsLawful, is_contradiction}
 use Rattle.ps_steps.proofs.Ids.{known_of-length}
 use Rattle.ps_forms.specs.Forms.{Form, MeetsForm}
 use Rattle.ps_log.specs.Logs.{Telling, Starts, Grows}
 use Rattle.ps_log.specs.Limits.{IsStepWithin}
-use Rattle.ps_learning.specs.Known.{IsIdUpTo}
+use Rattle.ps_pb.specs.Limits.{most_variables}
+use Rattle.ps_learning.specs.Known.{most_known, IsIdUpTo}
 use Rattle.ps_learning.specs.Trails.{Trail, IsLit, AreReasons}
 use Rattle.ps_sat.specs.Searches.{Handed, IsHeld, IsLogged}
 use Rattle.ps_sat.specs.declared.searching.Outcome.{Outcome}
@@ -18,7 +21,7 @@ use Rattle.ps_sat.specs.declared.error.SearchError.{SearchError}
 use Rattle.ps_sat.specs.declared.searching.Outcome.TheVariants.{Found, Refuted, Spent}
 use Rattle.ps_sat.proofs.Going.{Searching, handed-more, goes-on, search-refuted, told-before, told-handed}
 
-id_next : (b : Bool) (r : Option Refusal) → cond b r (Some IdNotNext) ≡ None → b ≡ true
+id_next : (b : Bool) (r : Option StepRefused) → cond b r (Some IdNotNext) ≡ None → b ≡ true
 id_next true r h = refl
 id_next false r h = absurd (cc)
 
@@ -37,7 +40,7 @@ pub is-learned : (n m : ℕ) (cs : List Constraint) (x y : Step) → x ≡ y →
 is-learned n m cs x y e q lawful lits few_lits hints few_hints = subst (λ k. IsLearned k cs x) q (subst (λ z. IsLearned m cs z) (sym e) (record { lawful = lawful; literals = lits; few_literals = few_lits; hints = hints; few_hints = few_hints }))
 
 -- it is within the limits
-pub step-within : (n : ℕ) (cs : List Constraint) (x : Step) → IsLearned n cs x → n ≤ 1024 → length cs < 2 ^ 41 → IsStepWithin x
+pub step-within : (n : ℕ) (cs : List Constraint) (x : Step) → IsLearned n cs x → n ≤ most_variables → length cs ≤ most_known → IsStepWithin x
 step-within n cs x l most few = record {
   id = let own = lawful_id n cs x l.lawful in (omega (arith, own), omega (arith, own, few));
   lits = λ k d lt. let own = l.literals k d lt in (own.0, omega (arith, own.1, most));

@@ -1,5 +1,5 @@
 -- Which variable is chosen for a decision.
-use Rattle.std.specs.Prelude.{ℕ, ◌≡◌, ◌≤◌, ◌<◌, ◌+◌, Bool, true, false, ◌&&◌, Option, Some, None}
+use Rattle.std.specs.Prelude.{ℕ, ◌≡◌, ◌≤◌, ◌<◌, ◌+◌, Bool, true, false, ◌&&◌, Option, Some, None, ℤ, unsigned_abs}
 use Rattle.ps_steps.specs.Assignments.{Assignment, value_at, is_unset}
 use Rattle.ps_forms.specs.Forms.{Form, is_atom_variable}
 use Rattle.ps_forms.specs.Settled.{AtomsAreSet}
@@ -21,3 +21,8 @@ pub record AtomsTo (f : Form) (a : Assignment) (n : ℕ) : Type 0 where
 abbrev pub IsChosen : Form → Assignment → ℕ → Option ℕ → Type 0
 IsChosen f a n None = AtomsTo f a n
 IsChosen f a n (Some p) = IsOpenAt f a p
+
+-- a decision: a literal of an atom's variable without a value, and none where each atom has a value
+abbrev pub IsDecision : Form → Assignment → Option ℤ → Type 0
+IsDecision f a None = AtomsAreSet f a
+IsDecision f a (Some l) = IsFresh f.variables a l × (is_atom_variable f (unsigned_abs l) ≡ true)

@@ -1,7 +1,8 @@
 //! Propagation and decisions.
-ghost use Rattle.std.specs.Prelude.{◌≡◌, ◌<◌, ◌^◌, length, All};
+ghost use Rattle.std.specs.Prelude.{◌≡◌, ◌≤◌, length, All};
 ghost use Rattle.ps_steps.specs.Steps.{known_of};
 ghost use Rattle.ps_steps.specs.Weights.{IsWithin};
+ghost use Rattle.ps_learning.specs.Known.{most_known};
 ghost use Rattle.ps_learning.specs.Trails.{values, AreReasons};
 ghost use Rattle.ps_learn.specs.Rest.{IsAdvanced};
 
@@ -23,7 +24,7 @@ pub fn advance(
     requires variables { trail.old.variables ≡ base.now.variables }
     requires reasons { AreReasons trail.old.variables (known_of known.now) trail.old.entries }
     requires inside { All (IsWithin base.now.variables) known.now }
-    requires few { length known.now < 2 ^ 41 }
+    requires few { length known.now ≤ most_known }
     ensures variables { trail.new.variables ≡ trail.old.variables }
     ensures reasons { AreReasons trail.new.variables (known_of known.now) trail.new.entries }
     ensures ended { IsAdvanced base.now (known_of known.now) (values trail.new) result }

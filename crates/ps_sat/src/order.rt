@@ -1,9 +1,6 @@
 //! The order of decisions.
-ghost use Rattle.std.specs.Prelude.{◌≡◌, ◌≤◌, ◌+◌, Some, MatchOption, IfSome, ◌⊎◌};
-ghost use Rattle.ps_steps.specs.Assignments.{place};
-ghost use Rattle.ps_learning.specs.Trails.{IsFresh};
-ghost use Rattle.ps_forms.specs.Settled.{AtomsAreSet};
-ghost use Rattle.ps_sat.specs.Choices.{is_open_atom};
+ghost use Rattle.std.specs.Prelude.{◌≡◌, Some, ◌⊎◌};
+ghost use Rattle.ps_sat.specs.Choices.{is_open_atom, IsDecision};
 
 use ps_clause::ClauseForm;
 use ps_io::NoMemory;
@@ -47,7 +44,7 @@ impl Order {
 
     /// The next decision. `None` exactly where each atom has a value.
     pub fn choose(&self, base: &ClauseForm, a: &Assignment) -> Option<Lit>
-        ensures { MatchOption result (AtomsAreSet base.now a.now) (IsFresh base.now.variables a.now) }
+        ensures { IsDecision base.now a.now result }
     {
         let mut best = None;
         for place in 0..base.variables() {

@@ -3,7 +3,7 @@ use Rattle.std.proofs.Common.{◌≡◌, ℕ, zero, suc, ◌+◌, ◌<◌, ◌�
 use Rattle.std.specs.Prelude.{slice_get, slice_set, is_none, unsigned_abs, ◌==◌}
 use Rattle.ps_steps.specs.Assignments.{Assignment, with_true, all_unset}
 use Rattle.ps_learning.specs.Trails.{Entry, Trail, values_of, values, decided, implied, entry_of, decisions, IsFresh, AreLevels}
-use Rattle.ps_learning.proofs.Setting.{length-with_true}
+use Rattle.ps_steps.proofs.Setting.{length-with_true}
 use Rattle.ps_learning.proofs.Entries.{values-append, fresh-append, get-last, length-values, length-unset}
 use Rattle.ps_learning.proofs.Counting.{counted, fewer-unset}
 use Rattle.ps_trail.specs.Fields.{IsTrail}

@@ -1,6 +1,6 @@
 use Rattle.std.proofs.Common.{◌+◌, ap, ◌∙◌, sym, arith}
-use Rattle.ps_learning.specs.Known.{known_of}
-use Rattle.ps_learning.proofs.Ids.{known_of-length}
+use Rattle.ps_steps.specs.Steps.{known_of}
+use Rattle.ps_steps.proofs.Ids.{known_of-length}
 use Rattle.ps_learning.proofs.Counting.{counted}
 use Rattle.ps_learning.proofs.Following.{learned-lawful}
 use Rattle.ps_learning.proofs.Asserting.{asserting-most}

@@ -1,5 +1,5 @@
 use Rattle.std.proofs.Common.{◌≡◌, ◌≤◌}
-use Rattle.ps_learning.specs.Known.{known_of}
+use Rattle.ps_steps.specs.Steps.{known_of}
 use Rattle.ps_learning.specs.Trails.{values, level, AreReasons}
 use Rattle.ps_learning.specs.Trails.{unset_count}
 use Rattle.ps_learn.proofs.scanning.propagate_all.Given as goal

@@ -6,7 +6,7 @@ use Rattle.ps_sat.proofs.advancing.advance.Goals as goal
 
 pub on-smaller : goal.on-smaller
 on-smaller c =
-    let fresh = fresh-decided _ c.propagate_all.new.trail c.values.result.now _ c.values.ensures.value (c.propagate_all.ensures.variables ∙ c.on.invariant.same ∙ c.requires.variables) c.in-Some-choose.ensures in
+    let fresh = fresh-decided _ c.propagate_all.new.trail c.values.result.now _ c.values.ensures.value (c.propagate_all.ensures.variables ∙ c.on.invariant.same ∙ c.requires.variables) c.in-Some-choose.ensures.0 in
     omega (arith, decided-fewer c.propagate_all.new.trail c.decide.new.self _ c.decide.ensures fresh, c.propagate_all.ensures.fewer)
 
 pub on-preserved : goal.on-preserved

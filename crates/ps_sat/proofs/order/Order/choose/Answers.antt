@@ -1,9 +1,9 @@
 use Rattle.std.proofs.Common.{arith}
-use Rattle.ps_sat.proofs.Atoms.{chosen-none, chosen-skip, chosen-more, none-open, chosen-fresh, chosen-within}
+use Rattle.ps_sat.proofs.Atoms.{chosen-none, chosen-skip, chosen-more, none-open, chosen-decision, chosen-within}
 use Rattle.ps_sat.proofs.order.Order.choose.Goals as goal
 
 pub loop-place-init : goal.loop-place-init
 loop-place-init c = chosen-none _ _
 
 pub returns-in-Some : goal.returns-in-Some
-returns-in-Some c = chosen-fresh _ _ _ c.loop-place.best _ _ _ c.loop-place.invariant c.in-Some.is c.of_place.ensures
+returns-in-Some c = chosen-decision _ _ _ c.loop-place.best _ _ _ c.loop-place.invariant c.in-Some.is c.of_place.ensures
