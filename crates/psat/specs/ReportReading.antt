@@ -1,7 +1,7 @@
 -- Reading a report from left to right, as a function: what it reads are just the texts of reports.
 use Rattle.std.specs.Prelude.{◌≡◌, ℕ, zero, suc, ℤ, pos, ◌+◌, ◌*◌, ◌-◌, ◌&&◌, ◌||◌, List, [], ◌∷◌, ◌++◌, length, Option, Some, None, Result, Ok, Err, nat_lt, nat_le, ◌==◌, if◌then◌else◌, codes}
 use Rattle.ps_meaning.specs.Formula.{World}
-use Rattle.ps_problem.specs.declared.limits.TheConstants.{MOST_ATOMS}
+use Rattle.ps_formula.specs.declared.limits.TheConstants.{MOST_ATOMS}
 use Rattle.ps_check.specs.declared.model.Weighted.{Weighted}
 use Rattle.ps_check.specs.declared.model.Model.{Model}
 use Rattle.ps_check.specs.Models.{most_weight, most_worlds}

@@ -2,7 +2,7 @@
 use Rattle.std.specs.Prelude.{◌≡◌, ◌≤◌, ℕ, Bool, true, false, List, [], ◌∷◌, ◌++◌, length, map, All, Result, Ok, Err, codes, decimal}
 use Rattle.std.specs.Fmt.{signed_decimal}
 use Rattle.ps_meaning.specs.Formula.{World}
-use Rattle.ps_problem.specs.declared.limits.TheConstants.{MOST_ATOMS}
+use Rattle.ps_formula.specs.declared.limits.TheConstants.{MOST_ATOMS}
 use Rattle.ps_check.specs.declared.model.Weighted.{Weighted}
 use Rattle.ps_check.specs.declared.model.Model.{Model}
 use Rattle.ps_check.specs.Models.{IsWithinLimits, IsNonnegative}

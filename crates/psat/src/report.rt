@@ -9,9 +9,8 @@ ghost use Rattle.psat.specs.ReportReading.{weight_at, world_at};
 use crate::report_bytes::{after, number};
 use crate::report_error::ReportError;
 use ps_check::{MOST_WEIGHT, MOST_WORLDS, Model, Weighted};
-use ps_formula::World;
+use ps_formula::{MOST_ATOMS, World};
 use ps_io::List;
-use ps_problem::MOST_ATOMS;
 use std::alloc::Global;
 
 // The digits of a world, up to the first byte that is none.
