@@ -2,8 +2,9 @@
 ghost use Rattle.std.specs.Prelude.{◌≡◌, ◌≤◌, All, length, map, option_copied, slice_get};
 ghost use Rattle.ps_formula.specs.Nodes.{AreNodes, AtomBelow};
 ghost use Rattle.ps_formula.specs.declared.limits.TheConstants.{MOST_ATOMS};
-ghost use Rattle.ps_problem.specs.declared.limits.TheConstants.{MOST_BOUNDS};
-ghost use Rattle.ps_problem.specs.Problems.{parts_of, AreBounds, AreParts, bounds_in, bound_at};
+ghost use Rattle.ps_problem.specs.declared.limits.TheConstants.{MOST_BOUNDS, MOST_QUERIES};
+ghost use Rattle.ps_problem.specs.Problems.{parts_of, AreBounds, AreParts, HasNodes};
+ghost use Rattle.ps_problem.specs.Problems.{bounds_in, bound_at};
 ghost use Rattle.ps_problem.specs.Soundness.{IsProblem};
 
 use crate::{Bound, Queries, Sentences};
@@ -97,6 +98,8 @@ impl Problem {
     /// The queries in order.
     pub fn queries(&self) -> &Queries
         ensures queries { result.now ≡ self.now.queries }
+        ensures sound { All (λ q. HasNodes self.now.nodes q.formula q.given q.both) result.now }
+        ensures few { length result.now ≤ MOST_QUERIES }
     {
         &self.queries
     }

@@ -1,0 +1,8 @@
+use Rattle.std.proofs.Common.{◌∙◌, ◌++◌, ap}
+use Rattle.std.specs.Prelude.{codes}
+use Rattle.ps_canonical.proofs.Laid.{whole}
+use Rattle.ps_canonical.proofs.writing.canonical_text.Goals as goal
+
+pub returns : goal.returns
+returns c = whole c.args.problem.now c.append.new.out.items c.sentences.new.out.items c.queries.new.out.items c.append-2.new.out.items
+    (c.in_ok-append.ensures ∙ ap (λ bs. bs ++ codes "psat 1;\n") c.new-out.ensures.items) c.in_ok-sentences.ensures c.in_ok-queries.ensures c.in_ok-append-2.ensures

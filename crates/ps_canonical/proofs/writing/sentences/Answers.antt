@@ -1,0 +1,24 @@
+use Rattle.std.proofs.Common.{◌∙◌}
+use Rattle.ps_canonical.specs.Lines.{sentence_line, sentence_lines}
+use Rattle.ps_canonical.proofs.Laid.{first-there, sentences-push, lines-more, lines-all}
+use Rattle.ps_canonical.proofs.writing.sentences.Goals as goal
+
+pub write_sentence-requires-clause-formula : goal.write_sentence-requires-clause-formula
+write_sentence-requires-clause-formula c = (first-there c.args.problem.now c.sentences.ensures.sound.parts c.as_slice-sentence-items.result.now
+    (c.as_slice-sentence-items.ensures ∙ c.sentences.ensures.sentences) c.loop-sentence.sentence-index _ c.loop-sentence-test.true).nodes.formula_there
+
+pub write_sentence-requires-clause-given : goal.write_sentence-requires-clause-given
+write_sentence-requires-clause-given c = (first-there c.args.problem.now c.sentences.ensures.sound.parts c.as_slice-sentence-items.result.now
+    (c.as_slice-sentence-items.ensures ∙ c.sentences.ensures.sentences) c.loop-sentence.sentence-index _ c.loop-sentence-test.true).nodes.given_there
+
+pub loop-sentence-preserved : goal.loop-sentence-preserved
+loop-sentence-preserved c =
+    let p = c.args.problem.now in
+    lines-more (sentence_lines p) (sentence_line p) (sentences-push p) c.as_slice-sentence-items.result.now p.sentences (c.as_slice-sentence-items.ensures ∙ c.sentences.ensures.sentences)
+    c.loop-sentence.sentence-index _ c.loop-sentence-test.true c.args.out.now.items c.loop-sentence.out.items c.write_sentence.new.out.items c.loop-sentence.invariant c.in_ok-write_sentence.ensures
+
+pub returns : goal.returns
+returns c =
+    let p = c.args.problem.now in
+    lines-all (sentence_lines p) c.as_slice-sentence-items.result.now p.sentences (c.as_slice-sentence-items.ensures ∙ c.sentences.ensures.sentences)
+    c.loop-sentence.sentence-index c.loop-sentence-test.false c.args.out.now.items c.loop-sentence.out.items c.loop-sentence.invariant

@@ -1,0 +1,3 @@
+-- Bridge: what is still to be written of a formula, and the lines of a text
+pub mod Tasks
+pub mod Lines

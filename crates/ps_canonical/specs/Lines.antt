@@ -1,0 +1,45 @@
+-- The lines of a problem's canonical text.
+use Rattle.std.specs.Prelude.{ℕ, List, [], ◌∷◌, ◌++◌, Option, option_map}
+use Rattle.ps_meaning.specs.Statements.{Stated, Asked}
+use Rattle.ps_text.specs.Grammar.{Relation}
+use Rattle.ps_text.specs.Tokens.{numeral_spelling}
+use Rattle.ps_text.specs.Canonical.{canonical_form, canonical_given, canonical_numeral, canonical_relation, canonical_prob, canonical_entry, form_text, given_text, prob_text, entry_text}
+use Rattle.ps_problem.specs.declared.bound.Bound.{Bound}
+use Rattle.ps_problem.specs.declared.sentence.Sentence.{Sentence}
+use Rattle.ps_problem.specs.declared.query.Query.{Query}
+use Rattle.ps_problem.specs.Problems.{Parts}
+use Rattle.ps_problem.specs.Written.{named_at, ratio_at, statement_from, question_from}
+
+-- the text of a formula by number
+abbrev pub formula_text : Parts → ℕ → List ℕ
+formula_text p i = form_text (canonical_form (named_at p i))
+
+-- a condition's text, by number
+abbrev pub condition_text : Parts → Option ℕ → List ℕ
+condition_text p g = given_text (canonical_given (option_map (named_at p) g))
+
+-- a probability's text, by numbers
+abbrev pub probability_text : Parts → ℕ → Option ℕ → List ℕ
+probability_text p f g = prob_text (canonical_prob (named_at p f) (option_map (named_at p) g))
+
+-- the text of a bound's value
+abbrev pub value_text : Bound → List ℕ
+value_text b = numeral_spelling (canonical_numeral (ratio_at b))
+
+-- how a sentence bounds its probability
+abbrev pub relation_of : Sentence → Relation
+relation_of s = canonical_relation s.first.side (ratio_at s.first) (option_map ratio_at s.second)
+
+abbrev pub sentence_line : Parts → Sentence → List ℕ
+sentence_line p s = entry_text (canonical_entry (Stated (statement_from p s)))
+
+abbrev pub query_line : Parts → Query → List ℕ
+query_line p q = entry_text (canonical_entry (Asked (question_from p q)))
+
+abbrev pub sentence_lines : Parts → List Sentence → List ℕ
+sentence_lines p [] = []
+sentence_lines p (s ∷ ss) = sentence_line p s ++ sentence_lines p ss
+
+abbrev pub query_lines : Parts → List Query → List ℕ
+query_lines p [] = []
+query_lines p (q ∷ qs) = query_line p q ++ query_lines p qs

@@ -1,0 +1,105 @@
+-- What is still to be written of a formula: the tasks on a stack, the last one first.
+use Rattle.std.specs.Prelude.{◌≡◌, ℕ, ◌+◌, ◌<◌, ◌≤◌, Bool, List, [], ◌∷◌, ◌++◌, All, length, codes, if◌then◌else◌}
+use Rattle.ps_meaning.specs.Formula as formula
+use Rattle.ps_meaning.specs.Statements.{Name}
+use Rattle.ps_text.specs.Grammar.{Form, And, Or, Implies, Iff}
+use Rattle.ps_text.specs.Canonical.{fitted, canonical_form, form_text}
+use Rattle.ps_problem.specs.Problems.{Parts}
+use Rattle.ps_problem.specs.Written.{named_at}
+use Rattle.ps_canonical.specs.declared.connective.Connective.{Connective}
+use Rattle.ps_canonical.specs.declared.connective.Connective.TheVariants as connective
+use Rattle.ps_canonical.specs.declared.task.Task.{Task}
+use Rattle.ps_canonical.specs.declared.task.Task.TheVariants as task
+
+-- a connective's level, the levels that its operands need, and its sign
+abbrev pub level_of : Connective → ℕ
+level_of connective.And = 4
+level_of connective.Or = 3
+level_of connective.Implies = 2
+level_of connective.Iff = 1
+
+abbrev pub left_of : Connective → ℕ
+left_of connective.And = 4
+left_of connective.Or = 3
+left_of connective.Implies = 3
+left_of connective.Iff = 1
+
+abbrev pub right_of : Connective → ℕ
+right_of connective.And = 5
+right_of connective.Or = 4
+right_of connective.Implies = 2
+right_of connective.Iff = 2
+
+abbrev pub sign_of : Connective → List ℕ
+sign_of connective.And = codes " & "
+sign_of connective.Or = codes " | "
+sign_of connective.Implies = codes " -> "
+sign_of connective.Iff = codes " <-> "
+
+-- a formula of two formulas
+abbrev pub joined : Connective → formula.Formula Name → formula.Formula Name → formula.Formula Name
+joined connective.And f g = formula.And f g
+joined connective.Or f g = formula.Or f g
+joined connective.Implies f g = formula.Implies f g
+joined connective.Iff f g = formula.Iff f g
+
+-- the text of a formula where an operand of this level is required
+abbrev pub operand_text : ℕ → formula.Formula Name → List ℕ
+operand_text k f = form_text (fitted k (canonical_form f))
+
+-- the text of a task
+abbrev pub task_text : Parts → Task → List ℕ
+task_text p (task.Formula i k) = operand_text k (named_at p i)
+task_text p (task.Connective c) = sign_of c
+task_text p task.Close = codes ")"
+
+-- the text of the tasks on a stack
+abbrev pub tasks_text : Parts → List Task → List ℕ
+tasks_text p [] = []
+tasks_text p (t ∷ ts) = tasks_text p ts ++ task_text p t
+
+-- the node of a task is there, and the required level is one of the five
+abbrev pub IsTask : ℕ → Task → Type 0
+IsTask n (task.Formula i k) = (i < n) × (k ≤ 5)
+IsTask n other = Unit {0}
+
+-- the `(` and the `)` of a formula, where it needs them
+abbrev pub opening : Bool → List ℕ
+opening b = if b then codes "(" else []
+
+abbrev pub closing : Bool → List ℕ
+closing b = if b then codes ")" else []
+
+abbrev pub closing_task : Bool → List Task
+closing_task b = if b then task.Close ∷ [] else []
+
+-- the tasks of two operands and the connective between them, behind others
+abbrev pub with_operands : List Task → Bool → ℕ → Connective → ℕ → List Task
+with_operands ts b l c r =
+    (((ts ++ closing_task b) ++ task.Formula r (right_of c) ∷ []) ++ task.Connective c ∷ []) ++ task.Formula l (left_of c) ∷ []
+
+-- how many steps a formula takes at most
+abbrev pub steps_of : {A : Type 0} → formula.Formula A → ℕ
+steps_of formula.Truth = 1
+steps_of formula.Falsity = 1
+steps_of (formula.Atom a) = 1
+steps_of (formula.Not f) = 1 + steps_of f
+steps_of (formula.And f g) = 3 + steps_of f + steps_of g
+steps_of (formula.Or f g) = 3 + steps_of f + steps_of g
+steps_of (formula.Implies f g) = 3 + steps_of f + steps_of g
+steps_of (formula.Iff f g) = 3 + steps_of f + steps_of g
+
+abbrev pub task_steps : Parts → Task → ℕ
+task_steps p (task.Formula i k) = steps_of (named_at p i)
+task_steps p (task.Connective c) = 1
+task_steps p task.Close = 1
+
+abbrev pub tasks_steps : Parts → List Task → ℕ
+tasks_steps p [] = 0
+tasks_steps p (t ∷ ts) = task_steps p t + tasks_steps p ts
+
+-- a task was carried out: what was written and what is to be written is the same text, and fewer steps are left
+pub record IsDone (p : Parts) (t : Task) (ts : List Task) (out : List ℕ) (ts' : List Task) (out' : List ℕ) : Type 0 where
+  pub text : out' ++ tasks_text p ts' ≡ out ++ (task_text p t ++ tasks_text p ts)
+  pub there : All (IsTask (length p.nodes)) ts'
+  pub fewer : tasks_steps p ts' < task_steps p t + tasks_steps p ts

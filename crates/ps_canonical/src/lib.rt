@@ -1,0 +1,13 @@
+//! The canonical text of a problem.
+#![tactic(auto)]
+
+mod connective;
+mod formulas;
+mod laws;
+mod lines;
+mod task;
+mod values;
+mod writing;
+
+pub use laws::equal_texts_are_of_equal_problems;
+pub use writing::canonical_text;

@@ -1,0 +1,83 @@
+//! The lines of sentences and queries.
+ghost use Rattle.std.specs.Prelude.{◌≡◌, ◌<◌, ◌++◌, IfSome, OnOk, length};
+ghost use Rattle.ps_problem.specs.Problems.{HasNodes};
+ghost use Rattle.ps_canonical.specs.Lines.{condition_text, probability_text};
+ghost use Rattle.ps_canonical.specs.Lines.{sentence_line, query_line};
+
+use crate::formulas::formula;
+use crate::values::{append, relation};
+use ps_io::NoMemory;
+use ps_problem::{Problem, Query, Sentence};
+use std::alloc::Global;
+
+// Writes a condition, where there is one.
+fn condition(
+    alloc: Global,
+    problem: &Problem,
+    given: Option<u32>,
+    out: &mut Vec<u8>,
+) -> Result<(), NoMemory>
+    requires { IfSome given (λ g. g < length problem.now.nodes) }
+    ensures { OnOk result (out.new.items ≡ out.old.items ++ condition_text problem.now given) }
+{
+    match given {
+        Some(node) => {
+            append(out, b" given ")?;
+            formula(alloc, problem, node, out)
+        }
+        None => Ok(()),
+    }
+}
+
+// Writes the probability of a formula, perhaps given a condition.
+fn probability(
+    alloc: Global,
+    problem: &Problem,
+    node: u32,
+    given: Option<u32>,
+    out: &mut Vec<u8>,
+) -> Result<(), NoMemory>
+    requires formula { node < length problem.now.nodes }
+    requires given { IfSome given (λ g. g < length problem.now.nodes) }
+    ensures { OnOk result
+        (out.new.items ≡ out.old.items ++ probability_text problem.now node given) }
+{
+    append(out, b"P(")?;
+    formula(alloc, problem, node, out)?;
+    condition(alloc, problem, given, out)?;
+    append(out, b")")
+}
+
+// Writes the line of a sentence.
+pub(crate) fn write_sentence(
+    alloc: Global,
+    problem: &Problem,
+    sentence: &Sentence,
+    out: &mut Vec<u8>,
+) -> Result<(), NoMemory>
+    requires formula { sentence.now.first.formula < length problem.now.nodes }
+    requires given { IfSome sentence.now.first.given (λ g. g < length problem.now.nodes) }
+    ensures { OnOk result
+        (out.new.items ≡ out.old.items ++ sentence_line problem.now sentence.now) }
+{
+    let first = sentence.first;
+    probability(alloc, problem, first.formula, first.given, out)?;
+    relation(out, sentence)?;
+    append(out, b";\n")
+}
+
+// Writes the line of a query.
+pub(crate) fn write_query(
+    alloc: Global,
+    problem: &Problem,
+    query: &Query,
+    out: &mut Vec<u8>,
+) -> Result<(), NoMemory>
+    requires formula { query.now.formula < length problem.now.nodes }
+    requires given { IfSome query.now.given (λ g. g < length problem.now.nodes) }
+    ensures { OnOk result (out.new.items ≡ out.old.items ++ query_line problem.now query.now) }
+{
+    append(out, b"query ")?;
+    probability(alloc, problem, query.formula, query.given, out)?;
+    append(out, b";\n")
+}
