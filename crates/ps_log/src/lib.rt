@@ -22,14 +22,16 @@ pub use error::LogError;
 pub use goal_reader::read_goal;
 pub use held::HeldLog;
 pub use laws::{decimals_are_spelled, last_lines_are_told, lines_are_read, texts_are_lines};
-pub use ps_pb::{Constraint, Step};
 pub use limits::{MOST_HINTS, MOST_IDS, MOST_LITS, is_goal_within, is_step_within};
 pub use line_error::{GoalError, LineError, StepError};
+pub use ps_pb::{Constraint, Step};
 pub use sink::ProofSink;
 pub use step_reader::read_step;
 pub use text::{write_goal, write_step};
 pub use text_log::TextLog;
 
+#[cfg(test)]
+mod goal_tests;
 #[cfg(test)]
 mod step_tests;
 #[cfg(test)]

@@ -8,49 +8,47 @@ use crate::{
 use ps_io::{Lines, List, MemSink};
 use ps_pb::{Constraint, Lit, Step, Terms};
 use std::alloc::Global;
-use std::test::Fail;
 
-fn lit(number: i32) -> Result<Lit, Fail> {
-    Ok(Lit::new(number).ok_or("a literal")?)
-}
+const WRITTEN: &[u8] = b"g 21 10 1 10 -2 10 3 0\ns 5 0 4 3 0\ns 5 0 4 3 0\n";
 
-fn goal(alloc: Global) -> Result<Constraint, Fail> {
+// The number of the write that fails, and how many bytes were written by pieces of 8.
+const PREFIXES: [(u64, usize); 7] = [(1, 0), (2, 8), (3, 16), (4, 23), (5, 31), (6, 35), (7, 43)];
+
+fn goal(alloc: Global) -> Option<Constraint> {
     let mut terms = Terms::new(alloc);
-    terms.push((lit(1)?, 10)).ok().ok_or("memory")?;
-    terms.push((lit(-2)?, 10)).ok().ok_or("memory")?;
-    terms.push((lit(3)?, 10)).ok().ok_or("memory")?;
-    Ok(Constraint::new(terms, 21).ok_or("a constraint")?)
+    terms.push((Lit::new(1)?, 10)).ok()?;
+    terms.push((Lit::new(-2)?, 10)).ok()?;
+    terms.push((Lit::new(3)?, 10)).ok()?;
+    Constraint::new(terms, 21)
 }
 
-fn step(alloc: Global, id: u64, first: u64, second: u64) -> Result<Step, Fail> {
+fn step(alloc: Global) -> Option<Step> {
     let mut hints = List::new(alloc);
-    hints.push(first).ok().ok_or("memory")?;
-    hints.push(second).ok().ok_or("memory")?;
-    Ok(Step {
-        id,
+    hints.push(4).ok()?;
+    hints.push(3).ok()?;
+    Some(Step {
+        id: 5,
         lits: List::new(alloc),
         hints,
     })
 }
 
-#[test]
-fn lines_are_written(rt: HostRuntime) -> Result<(), Fail> {
-    let alloc = rt.alloc();
+fn written(alloc: Global) -> Option<bool> {
     let goal = goal(alloc)?;
-    let step = step(alloc, 5, 4, 3)?;
-    assert!(rt; is_goal_within(&goal));
-    assert!(rt; is_step_within(&step));
-    let mut sink = MemSink::new(alloc, 7, Vec::new(alloc), 100)
-        .ok()
-        .ok_or("memory")?;
-    let mut lines = Lines::new(alloc, &mut sink).ok().ok_or("memory")?;
-    write_goal(&mut lines, &goal).ok().ok_or("fault")?;
-    write_step(&mut lines, &step).ok().ok_or("fault")?;
-    assert_eq!(rt;
-        sink.bytes(),
-        b"g 21 10 1 10 -2 10 3 0\ns 5 0 4 3 0\n".as_slice()
-    );
-    Ok(())
+    let step = step(alloc)?;
+    if !is_goal_within(&goal) || !is_step_within(&step) {
+        return None;
+    }
+    let mut sink = MemSink::new(alloc, 7, Vec::new(alloc), 100).ok()?;
+    let mut lines = Lines::new(alloc, &mut sink).ok()?;
+    write_goal(&mut lines, &goal).ok()?;
+    write_step(&mut lines, &step).ok()?;
+    Some(sink.bytes() == &WRITTEN[..35])
+}
+
+#[test]
+fn lines_are_written(rt: HostRuntime) {
+    assert!(rt; written(rt.alloc()) == Some(true));
 }
 
 fn hand_over<S: ProofSink>(log: &mut S, goal: &Constraint, step: &Step) -> Result<(), LogError>
@@ -66,67 +64,65 @@ fn hand_over<S: ProofSink>(log: &mut S, goal: &Constraint, step: &Step) -> Resul
     log.step(step)
 }
 
-#[test]
-fn a_log_holds_steps(rt: HostRuntime) -> Result<(), Fail> {
-    let alloc = rt.alloc();
+fn held(alloc: Global) -> Option<(usize, usize)> {
     let goal = goal(alloc)?;
-    let step = step(alloc, 5, 4, 3)?;
-    assert!(rt; is_goal_within(&goal));
-    assert!(rt; is_step_within(&step));
+    let step = step(alloc)?;
+    if !is_goal_within(&goal) || !is_step_within(&step) {
+        return None;
+    }
     let mut log = HeldLog::new(alloc);
-    hand_over(&mut log, &goal, &step).ok().ok_or("memory")?;
-    assert!(rt; log.whole());
-    assert_eq!(rt; log.take_steps().len(), 2);
-    assert_eq!(rt; log.take_steps().len(), 0);
-    Ok(())
+    hand_over(&mut log, &goal, &step).ok()?;
+    Some((log.take_steps().len(), log.take_steps().len()))
 }
 
+#[test]
+fn a_log_holds_steps(rt: HostRuntime) {
+    assert!(rt; held(rt.alloc()) == Some((2, 0)));
+}
+
+// Whether all was handed over, and whether the log is then whole.
 fn hand_over_as_text(
     alloc: Global,
     sink: &mut MemSink,
     goal: &Constraint,
     step: &Step,
-) -> Result<(), LogError>
+) -> Option<(bool, bool)>
     requires empty { sink.old.written ≡ [] }
     requires goal { IsGoalWithin goal.now }
     requires step { IsStepWithin step.now }
 {
-    let lines = Lines::new(alloc, sink)?;
+    let lines = Lines::new(alloc, sink).ok()?;
     let mut log = TextLog::new(lines);
-    hand_over(&mut log, goal, step)
+    let done = hand_over(&mut log, goal, step).is_ok();
+    Some((done, log.whole()))
 }
 
-#[test]
-fn a_log_writes_lines(rt: HostRuntime) -> Result<(), Fail> {
-    let alloc = rt.alloc();
+// What is written by pieces of 8 bytes, where one write fails; then the log is no longer whole.
+fn stops(alloc: Global, call: u64, length: usize, whole: bool) -> Option<bool> {
     let goal = goal(alloc)?;
-    let step = step(alloc, 5, 4, 3)?;
-    assert!(rt; is_goal_within(&goal));
-    assert!(rt; is_step_within(&step));
-    let mut sink = MemSink::new(alloc, 100, Vec::new(alloc), 100)
-        .ok()
-        .ok_or("memory")?;
-    assert!(rt; sink.bytes().is_empty());
-    assert!(rt; hand_over_as_text(alloc, &mut sink, &goal, &step).is_ok());
-    assert_eq!(rt;
-        sink.bytes(),
-        b"g 21 10 1 10 -2 10 3 0\ns 5 0 4 3 0\ns 5 0 4 3 0\n".as_slice()
-    );
-    Ok(())
-}
-
-#[test]
-fn a_log_stops_at_each_fault(rt: HostRuntime) -> Result<(), Fail> {
-    let alloc = rt.alloc();
-    let goal = goal(alloc)?;
-    let step = step(alloc, 5, 4, 3)?;
-    assert!(rt; is_goal_within(&goal));
-    assert!(rt; is_step_within(&step));
-    for call in 1..4 {
-        let failing = vec![in alloc; call].ok().ok_or("memory")?;
-        let mut sink = MemSink::new(alloc, 100, failing, 100).ok().ok_or("memory")?;
-        assert!(rt; sink.bytes().is_empty());
-        assert!(rt; hand_over_as_text(alloc, &mut sink, &goal, &step) == Err(LogError::Fault));
+    let step = step(alloc)?;
+    if !is_goal_within(&goal) || !is_step_within(&step) {
+        return None;
     }
-    Ok(())
+    let mut sink = MemSink::new(alloc, 8, vec![in alloc; call].ok()?, 100).ok()?;
+    if !sink.bytes().is_empty() {
+        return None;
+    }
+    let shown = hand_over_as_text(alloc, &mut sink, &goal, &step)?;
+    Some(shown == (whole, whole) && WRITTEN.get(..length) == Some(sink.bytes()))
+}
+
+fn stops_at_each_write(alloc: Global) -> bool {
+    for (call, length) in &PREFIXES {
+        if stops(alloc, *call, *length, false) != Some(true) {
+            return false;
+        }
+    }
+    true
+}
+
+#[test]
+fn a_log_of_lines_stops_at_each_fault(rt: HostRuntime) {
+    assert!(rt; stops_at_each_write(rt.alloc()));
+    assert!(rt; stops(rt.alloc(), 8, 47, true) == Some(true));
 }
