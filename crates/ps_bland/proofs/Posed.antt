@@ -5,10 +5,12 @@ use Rattle.ps_rational.specs.Rational.{Rational, neg, zero_q, one_q}
 use Rattle.ps_rational.specs.Order.{IsNonneg}
 use Rattle.ps_rational.proofs.Order.{zero_nonneg, above_nonneg, one_above}
 use Rattle.ps_table.specs.declared.costs.Costs.{Costs}
-use Rattle.ps_table.specs.Tableau.{Tableau, cost_at, HasCosts}
+use Rattle.ps_table.specs.Tableau.{Tableau}
+use Rattle.ps_table.specs.Pricing.{cost_at, HasCosts}
 use Rattle.ps_bland.specs.declared.phase.Phase.{Phase}
 use Rattle.ps_bland.specs.declared.phase.Phase.TheVariants.{One, Lower, Upper}
-use Rattle.ps_bland.specs.Runs.{artificial_at, HasNoNegativeCost, HasUnitRow, FitsPhase, HasValues, IsReady, HasFirstCosts, HasWorldCosts, HasWorldRow, IsPosed}
+use Rattle.ps_bland.specs.Rules.{artificial_at}
+use Rattle.ps_bland.specs.Ready.{HasNoNegativeCost, HasUnitRow, FitsPhase, HasValues, IsReady, HasFirstCosts, HasWorldCosts, HasWorldRow, IsPosed}
 
 one_nonneg : IsNonneg one_q
 one_nonneg = above_nonneg one_q one_above

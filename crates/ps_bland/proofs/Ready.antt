@@ -14,17 +14,20 @@ use Rattle.ps_basis.specs.Table.{unit_at, Belongs}
 use Rattle.ps_basis.proofs.PivotKeeps.{swapped}
 use Rattle.ps_basis.proofs.Units.{unit_at-same, unit_at-other}
 use Rattle.std.proofs.Common.{List, ◌≤◌, ◌-◌}
-use Rattle.ps_table.specs.Tableau.{HasCosts}
+use Rattle.ps_table.specs.Pricing.{HasCosts}
 use Rattle.ps_rule.proofs.Rays.{no_ray, no_ray_upper}
 use Rattle.ps_rule.specs.Rule.{Second, Improves, IsFeasible, IsArtificialRow, HasLeastRatio, Leaves}
 use Rattle.ps_table.specs.declared.costs.Costs.{Costs}
 use Rattle.ps_pool.specs.declared.col.Col.{Col}
 use Rattle.ps_pool.specs.declared.col.Col.TheVariants as col
-use Rattle.ps_table.specs.Tableau.{Tableau, IsTableau, IsInside, IsPivot, IsAdded, basic_at, entry_at, cost_at, spot}
-use Rattle.ps_table.proofs.Columns.{spot_within}
+use Rattle.ps_table.specs.Tableau.{Tableau, IsTableau, IsInside, IsPivot, IsAdded, basic_at, entry_at, number_in}
+use Rattle.ps_table.specs.Pricing.{cost_at}
+use Rattle.ps_table.proofs.Columns.{number_within}
 use Rattle.ps_bland.specs.declared.phase.Phase.{Phase}
 use Rattle.ps_bland.specs.declared.phase.Phase.TheVariants.{One, Lower, Upper}
-use Rattle.ps_bland.specs.Runs.{face_of, artificial_at, stage, HasNoNegativeCost, HasUnitRow, BelongsTo, FitsPhase, IsReady, IsLawful, HasRising, CanLeave}
+use Rattle.ps_bland.specs.Rules.{simplex_of, artificial_at, stage, IsLawful}
+use Rattle.ps_bland.specs.Ready.{HasNoNegativeCost, HasUnitRow, BelongsTo, FitsPhase, IsReady}
+use Rattle.ps_bland.specs.Rounds.{HasRising, CanLeave}
 use Rattle.ps_bland.proofs.Steps.{not_above, costs_kept}
 
 above_or_not_z : (z : ℤ) → (pos 0 <ℤ z) ⊎ (pos 0 ≤ℤ neg_ℤ z)
@@ -68,13 +71,13 @@ module _ (t u : Tableau) (enter : Col) (leave : ℕ) (ok : IsTableau t) (pivot :
   w = suc (length t.kinds + t.worlds)
 
   abbrev q : ℕ
-  q = spot (length t.kinds) enter
+  q = number_in (length t.kinds) enter
 
   first : 0 < w
   first = omega arith
 
   -- the values by the least ratio
-  by_ratio : ((i : ℕ) → i < n → IsNonneg (entry_at t i 0)) → HasLeastRatio (face_of t) q leave → (i : ℕ) → i < n → IsNonneg (entry_at u i 0)
+  by_ratio : ((i : ℕ) → i < n → IsNonneg (entry_at t i 0)) → HasLeastRatio (simplex_of t) q leave → (i : ℕ) → i < n → IsNonneg (entry_at u i 0)
   by_ratio h least = λ i l.
       let own : IsNonneg (entry_at u leave 0) = subst IsNonneg (sym (pivot.cells.row 0 first)) (nonneg-div (entry_at t leave 0) (entry_at t leave q) (h leave least.rising.within) least.rising.above) in
       elim (cases_eq i leave) [
@@ -102,18 +105,18 @@ module _ (t u : Tableau) (enter : Col) (leave : ℕ) (ok : IsTableau t) (pivot :
 
   -- the basis after the pivot
   basic_other : (i : ℕ) → i ≢ leave → basic_at u i ≡ basic_at t i
-  basic_other i ne = (λ z. spot (length (pivot.kinds z)) (get_or (pivot.basic z) i (col.Home 0))) ∙ ap (spot n) (rw get_or-set_other refl)
+  basic_other i ne = (λ z. number_in (length (pivot.kinds z)) (get_or (pivot.basic z) i (col.Home 0))) ∙ ap (number_in n) (rw get_or-set_other refl)
 
   basic_own : leave < n → basic_at u leave ≡ q
   basic_own l =
       let hb : leave < length t.basic = omega (arith, ok.basics) in
-      (λ z. spot (length (pivot.kinds z)) (get_or (pivot.basic z) leave (col.Home 0))) ∙ ap (spot n) (get_or-set_same t.basic leave enter (col.Home 0) hb)
+      (λ z. number_in (length (pivot.kinds z)) (get_or (pivot.basic z) leave (col.Home 0))) ∙ ap (number_in n) (get_or-set_same t.basic leave enter (col.Home 0) hb)
 
-  artificial_blank : IsFeasible (face_of t) → IsArtificialRow (face_of t) q leave → entry_at t leave 0 ≡ zero_q
+  artificial_blank : IsFeasible (simplex_of t) → IsArtificialRow (simplex_of t) q leave → entry_at t leave 0 ≡ zero_q
   artificial_blank feasible row = feasible.zero leave row.within row.artificial
 
   -- in phase two the basic artificials stay at 0
-  second_zero : IsFeasible (face_of t) → artificial_at t.kinds q ≡ false → Leaves Second (face_of t) q leave → (i : ℕ) → i < n → artificial_at t.kinds (basic_at u i) ≡ true → entry_at u i 0 ≡ zero_q
+  second_zero : IsFeasible (simplex_of t) → artificial_at t.kinds q ≡ false → Leaves Second (simplex_of t) q leave → (i : ℕ) → i < n → artificial_at t.kinds (basic_at u i) ≡ true → entry_at u i 0 ≡ zero_q
   second_zero feasible real leaves = λ i l a.
       elim (cases_eq i leave) [
         | inl e ↦ absurd (true≢false (sym a ∙ ap (artificial_at t.kinds) (ap (basic_at u) e ∙ basic_own (subst (λ k. k < n) e l)) ∙ real))
@@ -130,12 +133,12 @@ module _ (t u : Tableau) (enter : Col) (leave : ℕ) (ok : IsTableau t) (pivot :
             ]
       ]
 
-  second_feasible : IsFeasible (face_of t) → artificial_at t.kinds q ≡ false → Leaves Second (face_of t) q leave → IsFeasible (face_of u)
+  second_feasible : IsFeasible (simplex_of t) → artificial_at t.kinds q ≡ false → Leaves Second (simplex_of t) q leave → IsFeasible (simplex_of u)
   second_feasible feasible real leaves = record {
     zero = λ i l a. second_zero feasible real leaves i (subst (λ k. i < length k) pivot.kinds l) (subst (λ k. artificial_at k (basic_at u i) ≡ true) pivot.kinds a);
   }
 
-  second_values : IsFeasible (face_of t) → ((i : ℕ) → i < n → IsNonneg (entry_at t i 0)) → Leaves Second (face_of t) q leave → (i : ℕ) → i < n → IsNonneg (entry_at u i 0)
+  second_values : IsFeasible (simplex_of t) → ((i : ℕ) → i < n → IsNonneg (entry_at t i 0)) → Leaves Second (simplex_of t) q leave → (i : ℕ) → i < n → IsNonneg (entry_at u i 0)
   second_values feasible values leaves = λ i l.
       elim leaves [
         | inl row ↦ subst IsNonneg (sym (unchanged i l (artificial_blank feasible row.row))) (values i l)
@@ -173,15 +176,15 @@ module _ (t u : Tableau) (enter : Col) (leave : ℕ) (ok : IsTableau t) (pivot :
     cost = λ j a b. h.cost j a (subst (λ k. j < k) width_same b);
   }
 
-  all_values : (phase : Phase) (costs : Costs) → FitsPhase phase costs t → ((i : ℕ) → i < n → IsNonneg (entry_at t i 0)) → Leaves (stage phase) (face_of t) q leave → (i : ℕ) → i < n → IsNonneg (entry_at u i 0)
+  all_values : (phase : Phase) (costs : Costs) → FitsPhase phase costs t → ((i : ℕ) → i < n → IsNonneg (entry_at t i 0)) → Leaves (stage phase) (simplex_of t) q leave → (i : ℕ) → i < n → IsNonneg (entry_at u i 0)
   all_values One costs fits values leaves = by_ratio values leaves
   all_values Lower costs fits values leaves = second_values fits.0 values leaves
   all_values Upper costs fits values leaves = second_values fits.0 values leaves
 
-  leaving_filled : Leaves Second (face_of t) q leave → (leave < n) × (entry_at t leave q ≢ zero_q)
+  leaving_filled : Leaves Second (simplex_of t) q leave → (leave < n) × (entry_at t leave q ≢ zero_q)
   leaving_filled leaves = elim leaves [ inl row ↦ (row.row.within, row.row.entry) | inr least ↦ (least.1.rising.within, above_not_zero (entry_at t leave q) least.1.rising.above) ]
 
-  fits_kept : (phase : Phase) (costs : Costs) → FitsPhase phase costs t → Improves (face_of t) (cost_at costs) q → Leaves (stage phase) (face_of t) q leave → FitsPhase phase costs u
+  fits_kept : (phase : Phase) (costs : Costs) → FitsPhase phase costs t → Improves (simplex_of t) (cost_at costs) q → Leaves (stage phase) (simplex_of t) q leave → FitsPhase phase costs u
   fits_kept One costs fits improves leaves = costs_not_negative costs fits
   fits_kept Lower costs fits improves leaves = (second_feasible fits.0 improves.real leaves, costs_not_negative costs fits.1)
   fits_kept Upper costs fits improves leaves =
@@ -195,7 +198,7 @@ module _ (t u : Tableau) (enter : Col) (leave : ℕ) (ok : IsTableau t) (pivot :
   }
 
 -- ---- no ray
-spot_above : (m worlds : ℕ) (c : Col) → IsInside m worlds c → 0 < spot m c
+spot_above : (m worlds : ℕ) (c : Col) → IsInside m worlds c → 0 < number_in m c
 spot_above m worlds (col.Home i) h = omega arith
 spot_above m worlds (col.World k) h = omega (arith, h.0)
 
@@ -203,9 +206,9 @@ basic_above : (t : Tableau) (i : ℕ) → IsTableau t → i < length t.kinds →
 basic_above t i ok l = spot_above (length t.kinds) t.worlds (get_or t.basic i (col.Home 0)) (ok.inside i l)
 
 basic_within : (t : Tableau) (i : ℕ) → IsTableau t → i < length t.kinds → basic_at t i < suc (length t.kinds + t.worlds)
-basic_within t i ok l = spot_within (length t.kinds) t.worlds (get_or t.basic i (col.Home 0)) (ok.inside i l)
+basic_within t i ok l = number_within (length t.kinds) t.worlds (get_or t.basic i (col.Home 0)) (ok.inside i l)
 
-rising_first : (costs : Costs) (t : Tableau) (q : ℕ) → IsTableau t → HasNoNegativeCost costs t → Improves (face_of t) (cost_at costs) q → HasRising t q
+rising_first : (costs : Costs) (t : Tableau) (q : ℕ) → IsTableau t → HasNoNegativeCost costs t → Improves (simplex_of t) (cost_at costs) q → HasRising t q
 rising_first costs t q ok gain improves = λ none.
     no_ray (length t.kinds) (λ i. cost_at costs (basic_at t i)) (λ i. entry_at t i q) (cost_at costs q)
     (λ i l. gain.cost (basic_at t i) (basic_above t i ok l) (basic_within t i ok l))
@@ -213,7 +216,7 @@ rising_first costs t q ok gain improves = λ none.
     (gain.cost q improves.column improves.within)
     improves.more
 
-rising_upper : (costs : Costs) (t : Tableau) (q : ℕ) → IsTableau t → HasUnitRow costs t → Improves (face_of t) (cost_at costs) q → HasRising t q
+rising_upper : (costs : Costs) (t : Tableau) (q : ℕ) → IsTableau t → HasUnitRow costs t → Improves (simplex_of t) (cost_at costs) q → HasRising t q
 rising_upper costs t q ok upper improves = λ none.
     no_ray_upper (length t.kinds) (λ i. upper.columns 0 (basic_at t i)) (λ i. cost_at costs (basic_at t i)) (λ i. entry_at t i q) (upper.columns 0 q) (cost_at costs q)
     (λ i l. upper.row (basic_at t i) (basic_above t i ok l) (basic_within t i ok l))
@@ -225,7 +228,7 @@ rising_upper costs t q ok upper improves = λ none.
     improves.more
 
 -- in no phase is a column that improves a ray
-pub can_leave : (phase : Phase) (costs : Costs) (t : Tableau) (q : ℕ) → IsTableau t → FitsPhase phase costs t → Improves (face_of t) (cost_at costs) q → CanLeave (stage phase) t q
+pub can_leave : (phase : Phase) (costs : Costs) (t : Tableau) (q : ℕ) → IsTableau t → FitsPhase phase costs t → Improves (simplex_of t) (cost_at costs) q → CanLeave (stage phase) t q
 can_leave One costs t q ok fits improves = rising_first costs t q ok fits improves
 can_leave Lower costs t q ok fits improves = λ none. rising_first costs t q ok fits.1 improves
 can_leave Upper costs t q ok fits improves = λ none. rising_upper costs t q ok fits.1 improves
@@ -258,11 +261,11 @@ ready_added phase costs more entries t u ready added has fits = record {
 }
 
 -- a world that is added keeps the end of phase one
-pub feasible_added : (entries : List ℤ) (t u : Tableau) → IsAdded entries t u → IsFeasible (face_of t) → IsFeasible (face_of u)
+pub feasible_added : (entries : List ℤ) (t u : Tableau) → IsAdded entries t u → IsFeasible (simplex_of t) → IsFeasible (simplex_of u)
 feasible_added entries t u added feasible = record {
   zero = λ i l a.
       let h : i < length t.kinds = subst (λ k. i < length k) added.kinds l in
-      let same : basic_at u i ≡ basic_at t i = λ z. spot (length (added.kinds z)) (get_or (added.basic z) i (col.Home 0)) in
+      let same : basic_at u i ≡ basic_at t i = λ z. number_in (length (added.kinds z)) (get_or (added.basic z) i (col.Home 0)) in
       let b : artificial_at t.kinds (basic_at t i) ≡ true = (λ z. artificial_at (sym added.kinds z) (sym same z)) ∙ a in
       added.before i 0 h (omega arith) ∙ feasible.zero i h b;
 }

@@ -14,15 +14,19 @@ use Rattle.ps_pool.specs.declared.col.Col.{Col}
 use Rattle.std.proofs.Common.{append-nil, append_assoc, length-append}
 use Rattle.ps_pool.specs.declared.event.Event.{Event}
 use Rattle.ps_pool.specs.declared.event.Event.TheVariants.{Pivot, Priced}
-use Rattle.ps_table.specs.Tableau.{Tableau, basic_at, entry_at, cost_at, IsPivot, HasCosts, spot, StandsFor}
-use Rattle.ps_bland.specs.Runs.{face_of, IsLeastBefore, stage, system_of, pivots_of, IsPivotRefusal, ArePivots, Ran, Run, IsStep, IsSame, IsLawful, IsDueRefusal, IsSettled}
+use Rattle.ps_table.specs.Tableau.{Tableau, basic_at, entry_at, IsPivot, number_in, StandsFor}
+use Rattle.ps_table.specs.Pricing.{cost_at, HasCosts}
+use Rattle.ps_bland.specs.Rules.{simplex_of, stage, IsLawful}
+use Rattle.ps_bland.specs.Runs.{system_of, pivots_of, ArePivots, Ran, Run}
+use Rattle.ps_bland.specs.Ends.{IsDueRefusal, IsSettled}
+use Rattle.ps_bland.specs.Rounds.{IsLeastBefore, IsPivotRefusal, IsStep, IsSame}
 use Rattle.ps_bland.specs.declared.settled.Settled.{Settled}
 use Rattle.ps_basis.specs.Table.{Based}
 use Rattle.ps_rule.specs.Pivots.{Pivots, IsLawfulAt}
 use Rattle.ps_rule.specs.Pivots.Pivots.{still as no_moves, more as one_move}
 use Rattle.ps_table.specs.declared.home.Home.{Home}
 use Rattle.ps_bland.specs.declared.phase.Phase.{Phase}
-use Rattle.ps_bland.specs.Runs.IsDueWide.{at_pivot}
+use Rattle.ps_bland.specs.Ends.IsDueWide.{at_pivot}
 use Rattle.ps_bland.specs.declared.error.SettleError.{SettleError}
 use Rattle.ps_bland.specs.declared.error.SettleError.TheVariants.{Wide, NoMemory}
 use Rattle.ps_bland.specs.Runs.Run.{still, more}
@@ -77,25 +81,25 @@ unfolding neg
 not_above x h = nonneg_of (neg_ℤ x.over) (den x) (not_above_z x.over h)
 
 -- the best row so far, with one row more
-pub next_kept : (t : Tableau) (q n p : ℕ) → IsLeastBefore t q n p → (IsRising (face_of t) q n → Precedes (face_of t) q p n) → IsLeastBefore t q (suc n) p
+pub next_kept : (t : Tableau) (q n p : ℕ) → IsLeastBefore t q n p → (IsRising (simplex_of t) q n → Precedes (simplex_of t) q p n) → IsLeastBefore t q (suc n) p
 next_kept t q n p h k = record {
   rising = h.rising;
-  least = λ i l r. elim (cases_eq i n) [ inl e ↦ subst (Precedes (face_of t) q p) (sym e) (k (subst (IsRising (face_of t) q) e r)) | inr ne ↦ h.least i (omega arith) r ];
+  least = λ i l r. elim (cases_eq i n) [ inl e ↦ subst (Precedes (simplex_of t) q p) (sym e) (k (subst (IsRising (simplex_of t) q) e r)) | inr ne ↦ h.least i (omega arith) r ];
 }
 
-pub next_better : (t : Tableau) (q n p : ℕ) → IsLeastBefore t q n p → IsRising (face_of t) q n → Precedes (face_of t) q n p → IsLeastBefore t q (suc n) n
+pub next_better : (t : Tableau) (q n p : ℕ) → IsLeastBefore t q n p → IsRising (simplex_of t) q n → Precedes (simplex_of t) q n p → IsLeastBefore t q (suc n) n
 next_better t q n p h r k = record {
   rising = r;
-  least = λ i l s. elim (cases_eq i n) [ inl e ↦ subst (Precedes (face_of t) q n) (sym e) (precedes_itself (face_of t) q n) | inr ne ↦ precedes_trans (face_of t) q n p i k (h.least i (omega arith) s) ];
+  least = λ i l s. elim (cases_eq i n) [ inl e ↦ subst (Precedes (simplex_of t) q n) (sym e) (precedes_itself (simplex_of t) q n) | inr ne ↦ precedes_trans (simplex_of t) q n p i k (h.least i (omega arith) s) ];
 }
 
-pub first_least : (t : Tableau) (q p : ℕ) → IsRising (face_of t) q p → ((i : ℕ) → i < p → IsRising (face_of t) q i → ⊥) → IsLeastBefore t q (p + 1) p
+pub first_least : (t : Tableau) (q p : ℕ) → IsRising (simplex_of t) q p → ((i : ℕ) → i < p → IsRising (simplex_of t) q i → ⊥) → IsLeastBefore t q (p + 1) p
 first_least t q p r h = record {
   rising = r;
-  least = λ i l s. elim (cases_eq i p) [ inl e ↦ subst (Precedes (face_of t) q p) (sym e) (precedes_itself (face_of t) q p) | inr ne ↦ absurd (h i (omega arith) s) ];
+  least = λ i l s. elim (cases_eq i p) [ inl e ↦ subst (Precedes (simplex_of t) q p) (sym e) (precedes_itself (simplex_of t) q p) | inr ne ↦ absurd (h i (omega arith) s) ];
 }
 
-pub all_least : (t : Tableau) (q n p : ℕ) → length t.kinds ≤ n → IsLeastBefore t q n p → HasLeastRatio (face_of t) q p
+pub all_least : (t : Tableau) (q n p : ℕ) → length t.kinds ≤ n → IsLeastBefore t q n p → HasLeastRatio (simplex_of t) q p
 all_least t q n p l h = record {
   rising = h.rising;
   least = λ i r. let k = r.within in h.least i (omega arith) r;
@@ -111,7 +115,7 @@ run_worlds phase costs s t events (still _) = refl
 run_worlds phase costs s t events (more _ r _ es enter leave run lawful pivot keeps) = pivot.worlds ∙ run_worlds phase costs s r es run
 
 abbrev LawfulIn : (phase : Phase) (costs : Costs) (A : ℕ → ℕ → Rational) (t : Tableau) (enter : Col) (leave : ℕ) → List Home → ℕ → Type 0
-LawfulIn phase costs A t enter leave k v = IsLawfulAt (stage phase) (system_of k A) (cost_at costs) (suc (length k + v)) (basic_at t) (spot (length k) enter) leave
+LawfulIn phase costs A t enter leave k v = IsLawfulAt (stage phase) (system_of k A) (cost_at costs) (suc (length k + v)) (basic_at t) (number_in (length k) enter) leave
 
 lawful_at : (phase : Phase) (costs : Costs) (A : ℕ → ℕ → Rational) (t : Tableau) (enter : Col) (leave : ℕ) → IsLawful phase costs t enter leave → StandsFor A t → LawfulIn phase costs A t enter leave t.kinds t.worlds
 lawful_at phase costs A t enter leave lawful stands = record {
@@ -122,9 +126,9 @@ lawful_at phase costs A t enter leave lawful stands = record {
   leaves = lawful.leaves;
 }
 
-pivots_of-append : (n : ℕ) (events : List Event) (enter : Col) (leave : ℕ) → pivots_of n (events ++ Pivot enter leave ∷ []) ≡ pivots_of n events ++ record { enter = spot n enter; leave = leave } ∷ []
+pivots_of-append : (n : ℕ) (events : List Event) (enter : Col) (leave : ℕ) → pivots_of n (events ++ Pivot enter leave ∷ []) ≡ pivots_of n events ++ record { enter = number_in n enter; leave = leave } ∷ []
 pivots_of-append n [] enter leave = refl
-pivots_of-append n (Pivot q p ∷ events) enter leave = ap (λ ps. record { enter = spot n q; leave = p } ∷ ps) (pivots_of-append n events enter leave)
+pivots_of-append n (Pivot q p ∷ events) enter leave = ap (λ ps. record { enter = number_in n q; leave = p } ∷ ps) (pivots_of-append n events enter leave)
 pivots_of-append n (Priced world ∷ events) enter leave = pivots_of-append n events enter leave
 
 pub are_pivots : (phase : Phase) (costs : Costs) (s t : Tableau) (events : List Event) → Run phase costs s events t → ArePivots phase costs s events t
@@ -134,10 +138,10 @@ are_pivots phase costs s t events (more _ r _ es enter leave run lawful pivot ke
     let ek = run_kinds phase costs s r es run in
     let ew = run_worlds phase costs s r es run in
     let at : LawfulIn phase costs A r enter leave s.kinds s.worlds = subst (λ k. LawfulIn phase costs A r enter leave k s.worlds) ek (subst (λ v. LawfulIn phase costs A r enter leave r.kinds v) ew (lawful_at phase costs A r enter leave lawful before.0)) in
-    let based : Based (length s.kinds) leave (spot (length s.kinds) enter) (basic_at r) (basic_at t) = subst (λ k. Based (length k) leave (spot (length k) enter) (basic_at r) (basic_at t)) ek pivot.based in (
+    let based : Based (length s.kinds) leave (number_in (length s.kinds) enter) (basic_at r) (basic_at t) = subst (λ k. Based (length k) leave (number_in (length k) enter) (basic_at r) (basic_at t)) ek pivot.based in (
       keeps A before.0,
       subst (λ pivots. Pivots (stage phase) (system_of s.kinds A) (cost_at costs) (suc (length s.kinds + s.worlds)) (basic_at s) pivots (basic_at t)) (sym (pivots_of-append (length s.kinds) es enter leave))
-          (one_move (basic_at s) (basic_at r) (basic_at t) (pivots_of (length s.kinds) es) (spot (length s.kinds) enter) leave before.1 at based),
+          (one_move (basic_at s) (basic_at r) (basic_at t) (pivots_of (length s.kinds) es) (number_in (length s.kinds) enter) leave before.1 at based),
     )
 
 pub ran_none : (phase : Phase) (costs : Costs) (t : Tableau) (trace : List Event) (left : ℕ) → Ran phase costs t t trace trace left left

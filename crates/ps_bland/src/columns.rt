@@ -1,13 +1,14 @@
 //! Columns of a table as the rule sees them.
-ghost use Rattle.std.specs.Prelude.{◌≡◌, ◌↔◌, length, IsTrue};
+ghost use Rattle.std.specs.Prelude.{◌≡◌, ◌↔◌, IsTrue};
 ghost use Rattle.ps_rational.specs.Order.{IsAbove};
-ghost use Rattle.ps_table.specs.Tableau.{spot, IsInside};
-ghost use Rattle.ps_bland.specs.Runs.{artificial_at};
+ghost use Rattle.ps_table.specs.Tableau.{HasColumn, number_of};
+ghost use Rattle.ps_bland.specs.Rules.{is_artificial_column};
 
 use ps_frac::Fraction;
 use ps_pool::Col;
 use ps_table::{Home, Table};
 
+/// Whether a number is above 0.
 pub(crate) fn is_above(number: &Fraction) -> bool
     ensures value { IsTrue result ↔ IsAbove number.now }
 {
@@ -16,8 +17,8 @@ pub(crate) fn is_above(number: &Fraction) -> bool
 
 /// Whether a column is an artificial one.
 pub(crate) fn is_artificial(table: &Table, col: Col) -> bool
-    requires { IsInside (length table.now.kinds) table.now.worlds col }
-    ensures value { result ≡ artificial_at table.now.kinds (spot (length table.now.kinds) col) }
+    requires { HasColumn table.now col }
+    ensures value { result ≡ is_artificial_column table.now col }
 {
     match col {
         Col::Home(row) => table.home(row) == Home::Artificial,
@@ -25,10 +26,10 @@ pub(crate) fn is_artificial(table: &Table, col: Col) -> bool
     }
 }
 
-/// The place of a column in the order.
-pub(crate) fn place_of(table: &Table, col: Col) -> u64
-    requires { IsInside (length table.now.kinds) table.now.worlds col }
-    ensures value { result ≡ spot (length table.now.kinds) col }
+/// The number of a column, where the right side is 0.
+pub(crate) fn number_of(table: &Table, col: Col) -> u64
+    requires { HasColumn table.now col }
+    ensures value { result ≡ number_of table.now col }
 {
     match col {
         Col::Home(row) => row as u64 + 1,

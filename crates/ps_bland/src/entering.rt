@@ -1,10 +1,13 @@
 //! The entering column.
-ghost use Rattle.std.specs.Prelude.{◌≡◌, suc, ◌↔◌, false, length, IfOk, IfErr, IsTrue};
+ghost use Rattle.std.specs.Prelude.{◌≡◌, ◌↔◌, false, IfOk, IfErr, IsTrue};
 ghost use Rattle.ps_rational.specs.Order.{IsLess};
-ghost use Rattle.ps_rule.specs.Rule.{Improves};
-ghost use Rattle.ps_table.specs.Tableau.{spot, IsInside, HasCosts, cost_at};
-ghost use Rattle.ps_table.specs.Places.{IsCostPlace, IsCostWide, IsNarrow};
-ghost use Rattle.ps_bland.specs.Runs.{artificial_at, face_of, IsEntering, IsEnteringBefore, IsEntryWide, AreEntriesNarrow, AreNarrowTo};
+ghost use Rattle.ps_table.specs.Tableau.{HasColumn};
+ghost use Rattle.ps_table.specs.Pricing.{HasCosts};
+ghost use Rattle.ps_table.specs.Places.{CostPlaces, IsWideAt, IsNarrow};
+ghost use Rattle.ps_bland.specs.Rules.{is_artificial_column};
+ghost use Rattle.ps_bland.specs.Ends.{IsEntryWide};
+ghost use Rattle.ps_bland.specs.Rounds.{ImprovesIn, IsEntering, AreEntriesNarrow};
+ghost use Rattle.ps_bland.specs.Rounds.{IsEnteringHome, AreHomesNarrow};
 
 use crate::columns::is_artificial;
 use ps_frac::Fraction;
@@ -12,6 +15,7 @@ use ps_pool::Col;
 use ps_table::{Costs, Table, WideAt};
 use std::cmp::Ordering;
 
+/// Whether a number is less than another.
 fn is_less(left: &Fraction, right: &Fraction) -> bool
     ensures value { IsTrue result ↔ IsLess left.now right.now }
 {
@@ -21,11 +25,11 @@ fn is_less(left: &Fraction, right: &Fraction) -> bool
 /// Whether a slack or a world carries more than its cost.
 fn improves(table: &Table, costs: &Costs, col: Col) -> Result<bool, WideAt>
     requires costs { HasCosts costs.now table.now }
-    requires inside { IsInside (length table.now.kinds) table.now.worlds col }
-    requires real { artificial_at table.now.kinds (spot (length table.now.kinds) col) ≡ false }
-    ensures value { IfOk result (λ b. IsTrue b ↔ Improves (face_of table.now) (cost_at costs.now) (spot (length table.now.kinds) col)) }
-    ensures narrow { IfOk result (λ _. IsNarrow (IsCostPlace table.now costs.now col)) }
-    ensures refused { IfErr result (IsCostWide table.now costs.now col) }
+    requires inside { HasColumn table.now col }
+    requires real { is_artificial_column table.now col ≡ false }
+    ensures value { IfOk result (λ b. IsTrue b ↔ ImprovesIn costs.now table.now col) }
+    ensures narrow { IfOk result (λ _. IsNarrow (CostPlaces table.now costs.now col)) }
+    ensures refused { IfErr result (IsWideAt (CostPlaces table.now costs.now col)) }
 {
     let carried = table.carried(costs, col)?;
     Ok(is_less(&table.cost(costs, col), &carried))
@@ -34,8 +38,8 @@ fn improves(table: &Table, costs: &Costs, col: Col) -> Result<bool, WideAt>
 /// The first slack that improves.
 fn entering_home(table: &Table, costs: &Costs) -> Result<Option<Col>, WideAt>
     requires { HasCosts costs.now table.now }
-    ensures found { IfOk result (λ o. IsEnteringBefore costs.now table.now (suc (length table.now.kinds)) o) }
-    ensures narrow { IfOk result (AreNarrowTo costs.now table.now (suc (length table.now.kinds))) }
+    ensures found { IfOk result (IsEnteringHome costs.now table.now) }
+    ensures narrow { IfOk result (AreHomesNarrow costs.now table.now) }
     ensures refused { IfErr result (IsEntryWide costs.now table.now) }
 {
     for row in 0..table.rows() {
@@ -59,10 +63,8 @@ pub(crate) fn entering(table: &Table, costs: &Costs) -> Result<Option<Col>, Wide
     }
     for before in 0..table.worlds() {
         let col = Col::World(before + 1);
-        match improves(table, costs, col) {
-            Ok(true) => return Ok(Some(col)),
-            Ok(false) => {}
-            Err(wide) => return Err(wide),
+        if improves(table, costs, col)? {
+            return Ok(Some(col));
         }
     }
     Ok(None)

@@ -1,9 +1,9 @@
 //! Whether phase one is due to end.
-ghost use Rattle.std.specs.Prelude.{◌≡◌, ◌<◌, ◌↔◌, true, length, IsTrue};
-ghost use Rattle.ps_rational.specs.Rational.{zero_q};
+ghost use Rattle.std.specs.Prelude.{◌<◌, ◌↔◌, IsTrue};
 ghost use Rattle.ps_rule.specs.Rule.{IsFeasible};
-ghost use Rattle.ps_table.specs.Tableau.{entry_at, basic_at, IsTableau};
-ghost use Rattle.ps_bland.specs.Runs.{artificial_at, face_of, IsDone};
+ghost use Rattle.ps_table.specs.Tableau.{rows_of, IsTableau};
+ghost use Rattle.ps_bland.specs.Rules.{simplex_of, IsDone};
+ghost use Rattle.ps_bland.specs.Rounds.{IsRowFeasible};
 
 use crate::columns::is_artificial;
 use crate::phase::Phase;
@@ -11,8 +11,8 @@ use ps_table::Table;
 
 /// Whether a row has no artificial column above 0.
 fn is_row_feasible(table: &Table, row: u32) -> bool
-    requires { row < length table.now.kinds }
-    ensures value { IsTrue result ↔ (artificial_at table.now.kinds (basic_at table.now row) ≡ true → entry_at table.now row 0 ≡ zero_q) }
+    requires { row < rows_of table.now }
+    ensures value { IsTrue result ↔ IsRowFeasible table.now row }
 {
     if is_artificial(table, table.basic(row)) {
         table.value(row).is_zero()
@@ -23,7 +23,7 @@ fn is_row_feasible(table: &Table, row: u32) -> bool
 
 /// Whether each basic artificial has value 0.
 fn is_feasible(table: &Table) -> bool
-    ensures value { IsTrue result ↔ IsFeasible (face_of table.now) }
+    ensures value { IsTrue result ↔ IsFeasible (simplex_of table.now) }
 {
     for row in 0..table.rows() {
         if !is_row_feasible(table, row) {

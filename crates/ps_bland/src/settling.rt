@@ -1,8 +1,11 @@
 //! Pivots until an end.
-ghost use Rattle.std.specs.Prelude.{◌≡◌, ◌≢◌, ℕ, ◌+◌, ◌<◌, [], ◌∷◌, ◌++◌, length, IfOk, IfErr};
-ghost use Rattle.ps_rational.specs.Rational.{Rational, zero_q};
-ghost use Rattle.ps_table.specs.Tableau.{spot, entry_at, IsInside, IsPivot, StandsFor};
-ghost use Rattle.ps_bland.specs.Runs.{Ran, IsRound, IsEnd, IsReady, IsPivotRefusal, AreDueNarrow, IsNarrowEnd};
+ghost use Rattle.std.specs.Prelude.{◌≡◌, ◌≢◌, ◌<◌, [], ◌∷◌, ◌++◌, IfOk, IfErr};
+ghost use Rattle.ps_rational.specs.Rational.{zero_q};
+ghost use Rattle.ps_table.specs.Tableau.{rows_of, HasColumn, entry_of, IsPivot, StandsOn};
+ghost use Rattle.ps_bland.specs.Runs.{Ran};
+ghost use Rattle.ps_bland.specs.Ready.{IsReady};
+ghost use Rattle.ps_bland.specs.Ends.{IsEnd, AreDueNarrow};
+ghost use Rattle.ps_bland.specs.Rounds.{IsRound, IsPivotRefusal, IsNarrowEnd};
 
 use crate::entering::entering;
 use crate::error::SettleError;
@@ -20,12 +23,12 @@ fn pivot_with_event(
     enter: Col,
     leave: u32,
 ) -> Result<(), SettleError>
-    requires inside { IsInside (length table.old.kinds) table.old.worlds enter }
-    requires leave { leave < length table.old.kinds }
-    requires pivot { entry_at table.old leave (spot (length table.old.kinds) enter) ≢ zero_q }
+    requires inside { HasColumn table.old enter }
+    requires leave { leave < rows_of table.old }
+    requires pivot { entry_of table.old leave enter ≢ zero_q }
     ensures pivot { IfOk result (λ _. IsPivot leave enter table.old table.new) }
     ensures event { IfOk result (λ _. trace.new ≡ trace.old ++ Event.Pivot enter leave ∷ []) }
-    ensures stands { IfOk result (λ _. (A : ℕ → ℕ → Rational) → StandsFor A table.old → StandsFor A table.new) }
+    ensures stands { IfOk result (λ _. StandsOn table.old table.new) }
     ensures table_same { IfErr result (λ _. table.new ≡ table.old) }
     ensures trace_same { IfErr result (λ _. trace.new ≡ trace.old) }
     ensures refused { IfErr result (IsPivotRefusal table.old enter leave) }
@@ -53,10 +56,12 @@ fn step(
     trace: &mut Trace,
 ) -> Result<Option<Settled>, SettleError>
     requires { IsReady phase costs.now table.old }
-    ensures round { IsRound phase costs.now table.old table.new trace.old trace.new left.old left.new result }
+    ensures round {
+        IsRound phase costs.now table.old table.new trace.old trace.new left.old left.new result
+    }
     ensures narrow { IfOk result (IsNarrowEnd phase costs.now table.new left.new) }
     ensures ready { IsReady phase costs.now table.new }
-    ensures stands { (A : ℕ → ℕ → Rational) → StandsFor A table.old → StandsFor A table.new }
+    ensures stands { StandsOn table.old table.new }
 {
     if is_due_to_end(phase, table) {
         return Ok(Some(Settled::Feasible));
@@ -117,7 +122,7 @@ pub fn settle(
     ensures kinds { table.new.kinds ≡ table.old.kinds }
     ensures worlds { table.new.worlds ≡ table.old.worlds }
     ensures ready { IsReady phase costs.now table.new }
-    ensures stands { (A : ℕ → ℕ → Rational) → StandsFor A table.old → StandsFor A table.new }
+    ensures stands { StandsOn table.old table.new }
 {
     loop {
         match step(table, costs, phase, left, trace) {

@@ -4,7 +4,7 @@ ghost use Rattle.std.specs.Prelude.{◌≡◌, ℕ, ◌<◌, ◌≤◌, ◌≤�
 ghost use Rattle.ps_rational.specs.Rational.{Rational};
 ghost use Rattle.ps_rational.specs.Order.{IsNonneg};
 ghost use Rattle.ps_table.specs.Tableau.{entry_at, StandsFor};
-ghost use Rattle.ps_bland.specs.Runs.{IsReady};
+ghost use Rattle.ps_bland.specs.Ready.{IsReady};
 ghost use Rattle.ps_bland.specs.Columns.{AreColumns};
 
 mod cases;

@@ -27,7 +27,8 @@ use Rattle.ps_rational.proofs.Field.{ring_q, one_is_fraction, zero_is_fraction, 
 use Rattle.ps_basis.proofs.PivotKeeps.{stands_kept}
 use Rattle.ps_pool.specs.declared.col.Col.{Col}
 use Rattle.ps_pool.specs.declared.col.Col.TheVariants as col
-use Rattle.ps_table.specs.Tableau.{Tableau, IsTableau, IsInside, IsPivot, entry_at, cell_at, basic_at, pivot_cell, spot, StandsFor, IsAdded, IsColumn}
+use Rattle.ps_table.specs.Tableau.{Tableau, IsTableau, IsInside, IsPivot, entry_at, cell_at, basic_at, number_in, StandsFor, IsAdded, IsColumn}
+use Rattle.ps_table.specs.Grids.{pivot_cell}
 use Rattle.std.proofs.Math.Nat.{mul-le-mul_right}
 
 pub cell_within : (i j n w len : ℕ) → i < n → j < w → len ≡ w * n → j * n + i < len
@@ -41,14 +42,16 @@ kept_more f xs ys x k e ey h ex = λ m l.
       | inr ne ↦ get_or-append xs (x ∷ []) zero_q m (omega arith) ∙ h m (omega arith)
     ]
 
-pub refused_at : (P : Place → Op → Rational → Rational → Type 0) (r : Result Rational WideAt) (place : Place) (op : Op) (x y : Rational) → IfErr r (λ w. w ≡ record { place = place; op = op; left = x; right = y }) → (IsErr r → IsWide op x y) → P place op x y → IfErr r (IsWideAt P)
-refused_at P (Ok v) place op x y e h p = tt
-refused_at P (Err w) place op x y e h p = subst (IsWideAt P) (sym e) (record { at = p; wide = h refl })
+-- what is refused where it is wide, with its place and operands, is refused at one of the places
+pub refused_at : (P : Place → Op → Rational → Rational → Type 0) (r : Result Rational WideAt) (place : Place) (op : Op) (x y a b : Rational) → x ≡ a → y ≡ b → IfErr r (λ w. w ≡ record { place = place; op = op; left = x; right = y }) → (IsErr r → IsWide place op x y) → P place op a b → IfErr r (IsWideAt P)
+refused_at P (Ok v) place op x y a b ex ey e h p = tt
+refused_at P (Err w) place op x y a b ex ey e h p =
+    subst (IsWideAt P) (sym e) (record { at = subst (λ k. P place op k y) (sym ex) (subst (λ k. P place op a k) (sym ey) p); wide = h refl })
 
 -- a column that is there has a place in the order
-pub spot_within : (n worlds : ℕ) (q : Col) → IsInside n worlds q → spot n q < suc (n + worlds)
-spot_within n worlds (col.Home i) h = omega arith
-spot_within n worlds (col.World k) h = omega (arith, h.1)
+pub number_within : (n worlds : ℕ) (q : Col) → IsInside n worlds q → number_in n q < suc (n + worlds)
+number_within n worlds (col.Home i) h = omega arith
+number_within n worlds (col.World k) h = omega (arith, h.1)
 
 pivot_at : (X : ℕ → ℕ → Rational) (n p q i j k : ℕ) → k ≡ j * n + i → i < n → pivot_cell X p q (k % n) (k / n) ≡ pivot_cell X p q i j
 pivot_at X n p q i j k e h = (λ z. pivot_cell X p q ((ap (λ m. m % n) e ∙ mod-mul-add j n i h) z) ((ap (λ m. m / n) e ∙ div-mul-add j n i h) z))
@@ -56,26 +59,26 @@ pivot_at X n p q i j k e h = (λ z. pivot_cell X p q ((ap (λ m. m % n) e ∙ mo
 pivot_own : (X : ℕ → ℕ → Rational) (p q j : ℕ) → pivot_cell X p q p j ≡ div (X p j) (X p q)
 pivot_own X p q j = ap (λ b. cond b (div (X p j) (X p q)) (sub (X p j) (mul (X p q) (div (X p j) (X p q))))) (eq-eqb p p refl)
 
-pivot_other : (X : ℕ → ℕ → Rational) (p q i j : ℕ) → i ≢ p → pivot_cell X p q i j ≡ sub (X i j) (mul (X i q) (div (X p j) (X p q)))
+pub pivot_other : (X : ℕ → ℕ → Rational) (p q i j : ℕ) → i ≢ p → pivot_cell X p q i j ≡ sub (X i j) (mul (X i q) (div (X p j) (X p q)))
 pivot_other X p q i j ne = ap (λ b. cond b (div (X p j) (X p q)) (sub (X i j) (mul (X i q) (div (X p j) (X p q))))) (ne_eqb i p ne)
 
-pivot_based : (p : ℕ) (q : Col) (t : Tableau) (made : List Rational) → IsTableau t → p < length t.kinds → Based (length t.kinds) p (spot (length t.kinds) q) (basic_at t) (basic_at (record { kinds = t.kinds; worlds = t.worlds; cells = made; basic = set t.basic p q }))
+pivot_based : (p : ℕ) (q : Col) (t : Tableau) (made : List Rational) → IsTableau t → p < length t.kinds → Based (length t.kinds) p (number_in (length t.kinds) q) (basic_at t) (basic_at (record { kinds = t.kinds; worlds = t.worlds; cells = made; basic = set t.basic p q }))
 pivot_based p q t made ok hp =
     let n = length t.kinds in
     let hb : p < length t.basic = omega (arith, ok.basics) in
     record {
-      here = ap (spot n) (get_or-set_same t.basic p q (col.Home 0) hb);
-      others = λ i hi ne. ap (spot n) (rw get_or-set_other refl);
+      here = ap (number_in n) (get_or-set_same t.basic p q (col.Home 0) hb);
+      others = λ i hi ne. ap (number_in n) (rw get_or-set_other refl);
     }
 
 pub pivot_is : (p : ℕ) (q : Col) (t : Tableau) (made : List Rational) → IsTableau t → p < length t.kinds → IsInside (length t.kinds) t.worlds q
-    → ((k : ℕ) → k < length t.cells → get_or made k zero_q ≡ pivot_cell (entry_at t) p (spot (length t.kinds) q) (k % length t.kinds) (k / length t.kinds))
+    → ((k : ℕ) → k < length t.cells → get_or made k zero_q ≡ pivot_cell (entry_at t) p (number_in (length t.kinds) q) (k % length t.kinds) (k / length t.kinds))
     → IsPivot p q t (record { kinds = t.kinds; worlds = t.worlds; cells = made; basic = set t.basic p q })
 pivot_is p q t made ok hp hq hv =
     let n = length t.kinds in
     let w = suc (n + t.worlds) in
     let X = entry_at t in
-    let s = spot n q in
+    let s = number_in n q in
     let at : (i j : ℕ) → i < n → j < w → cell_at n made i j ≡ pivot_cell X p s i j = λ i j hi hj. hv (j * n + i) (cell_within i j n w (length t.cells) hi hj ok.cells) ∙ pivot_at X n p s i j (j * n + i) refl hi in
     record {
       kinds = refl;
@@ -89,13 +92,13 @@ pivot_is p q t made ok hp hq hv =
     }
 
 pub pivot_stands : (A : ℕ → ℕ → Rational) (p : ℕ) (q : Col) (t : Tableau) (made : List Rational) → IsTableau t → p < length t.kinds → IsInside (length t.kinds) t.worlds q
-    → entry_at t p (spot (length t.kinds) q) ≢ zero_q
+    → entry_at t p (number_in (length t.kinds) q) ≢ zero_q
     → IsPivot p q t (record { kinds = t.kinds; worlds = t.worlds; cells = made; basic = set t.basic p q })
     → StandsFor A t → StandsFor A (record { kinds = t.kinds; worlds = t.worlds; cells = made; basic = set t.basic p q })
 pivot_stands A p q t made ok hp hq nz h stands =
     let n = length t.kinds in
-    stands_kept n (suc (n + t.worlds)) p (spot n q) A (entry_at t) (cell_at n made) (basic_at t) (λ i. spot n (get_or (set t.basic p q) i (col.Home 0)))
-    (omega arith) (λ i hi. spot_within n t.worlds (get_or t.basic i (col.Home 0)) (ok.inside i hi)) hp (spot_within n t.worlds q hq) nz h.cells h.based stands
+    stands_kept n (suc (n + t.worlds)) p (number_in n q) A (entry_at t) (cell_at n made) (basic_at t) (λ i. number_in n (get_or (set t.basic p q) i (col.Home 0)))
+    (omega arith) (λ i hi. number_within n t.worlds (get_or t.basic i (col.Home 0)) (ok.inside i hi)) hp (number_within n t.worlds q hq) nz h.cells h.based stands
 
 pub cost_of_one : (x : Rational) → x ≡ mul (fraction (pos 1) 1) x
 cost_of_one x = ring_q (x ∷ []) (var 0) (by unit (var 0)) refl ∙ ap (λ k. mul k x) (sym one_is_fraction)
@@ -127,10 +130,10 @@ pub new_stands : (n : ℕ) (kinds : List Home) (cells : List Rational) (basic : 
     → ((i : ℕ) → i < n → get_or basic i (col.Home 0) ≡ col.Home i)
     → (A : ℕ → ℕ → Rational) → HasHomes n A → StandsFor A (record { kinds = kinds; worlds = 0; cells = cells; basic = basic })
 new_stands n kinds cells basic e h0 count value basics A homes =
-    subst (λ m. Stands m (suc (m + 0)) A (λ i. spot m (get_or basic i (col.Home 0))) (cell_at m cells)) (sym e)
-    (stands_new n (suc (n + 0)) A (cell_at n cells) (λ i. spot n (get_or basic i (col.Home 0))) h0 (omega arith) homes
+    subst (λ m. Stands m (suc (m + 0)) A (λ i. number_in m (get_or basic i (col.Home 0))) (cell_at m cells)) (sym e)
+    (stands_new n (suc (n + 0)) A (cell_at n cells) (λ i. number_in n (get_or basic i (col.Home 0))) h0 (omega arith) homes
     (λ i j hi hj. value (j * n + i) (cell_within i j n (suc n) (suc n * n) hi (omega arith) refl) ∙ first_at n i j (j * n + i) refl hi)
-    (λ i hi. ap (spot n) (basics i hi))
+    (λ i hi. ap (number_in n) (basics i hi))
     (omega arith))
 
 pub added_is : (entries : List ℤ) (t : Tableau) (column cells : List Rational) → IsTableau t → cells ≡ t.cells ++ column
@@ -156,7 +159,7 @@ added_stands entries t cells ok added A column stands =
     let w = suc (n + t.worlds) in
     let e : suc w ≡ suc (n + (t.worlds + 1)) = omega arith in
     subst (λ k. Stands n k A (basic_at t) (cell_at n cells)) e
-    (stands_more n w A (entry_at t) (cell_at n cells) (basic_at t) (omega arith) (λ i hi. spot_within n t.worlds (get_or t.basic i (col.Home 0)) (ok.inside i hi))
+    (stands_more n w A (entry_at t) (cell_at n cells) (basic_at t) (omega arith) (λ i hi. number_within n t.worlds (get_or t.basic i (col.Home 0)) (ok.inside i hi))
     added.before
     (λ i hi. added.here i hi ∙ sum_same n (λ m. mul (entry_at t i (suc m)) (fraction (get_or entries m (pos 0)) 1)) (λ m. mul (entry_at t i (suc m)) (A m w)) (λ m l. ap (mul (entry_at t i (suc m))) (sym (column m l))))
     stands)

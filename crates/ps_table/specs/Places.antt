@@ -1,101 +1,157 @@
--- The places where an operation of a table can be refused, with their operands.
-use Rattle.std.specs.Prelude.{◌≡◌, ◌≢◌, ℕ, suc, ◌<◌, List, get_or, length, ℤ, pos}
+-- The places where an operation can be refused, each with its operands, over a basis and the entries of its table.
+use Rattle.std.specs.Prelude.{◌≢◌, ℕ, suc, ◌^◌, ◌<◌, List, length, ℤ, pos, unsigned_abs, if◌then◌else◌}
+use Rattle.std.proofs.Common.{ltb}
 use Rattle.ps_frac.specs.declared.wide.Op.{Op}
 use Rattle.ps_frac.specs.declared.wide.Op.TheVariants.{Add, Sub, Mul, Div, Lcm}
+use Rattle.ps_rational.specs.Gcd.{lcm, lcm_to}
 use Rattle.ps_rational.specs.Wide.{ProductIsWide, SumIsWide}
-use Rattle.ps_rational.specs.Rational.{Rational, fraction, mul, neg}
-use Rattle.ps_rational.specs.Rational.{div, inverse}
-use Rattle.ps_rational.specs.Sums.{sum_to}
+use Rattle.ps_rational.specs.Order.{IsAbove}
+use Rattle.ps_rational.specs.Rational.{Rational, whole, add, mul, neg, div, inverse}
+use Rattle.ps_rational.specs.Scaled.{scaled}
+use Rattle.ps_rational.specs.Sums.{sum_to, int_sum_to}
+use Rattle.ps_basis.specs.Table.{carried_by}
 use Rattle.ps_table.specs.declared.place.Place.{Place}
 use Rattle.ps_table.specs.declared.place.Place.TheVariants.{Ratio, Scale, Times, Minus, Cost, Whole, Scaled, Weight, Weighed, Total, NewTimes, NewPlus}
+use Rattle.ps_table.specs.declared.place.TableCol.{TableCol}
 use Rattle.ps_table.specs.declared.place.WideAt.{WideAt}
 use Rattle.ps_table.specs.declared.error.TableError.{TableError}
-use Rattle.ps_table.specs.declared.error.TableError.TheVariants.{Wide, NoMemory}
+use Rattle.ps_table.specs.declared.error.TableError.TheVariants as refused
 use Rattle.ps_table.specs.declared.costs.Costs.{Costs}
 use Rattle.ps_pool.specs.declared.col.Col.{Col}
-use Rattle.ps_table.specs.Tableau.{Tableau, spot, spot_of, IsShown, carried_to, part_at}
+use Rattle.ps_pool.specs.declared.col.Col.TheVariants as col
+use Rattle.ps_table.specs.Tableau.{Tableau, number_in, number_shown, number_of, IsShown, entry_at, basic_at, world_entry}
+use Rattle.ps_table.specs.Pricing.{cost_at}
 
+-- ---- when an operation is refused
 -- a named number of the operation is too large
-abbrev pub IsWide : Op → Rational → Rational → Type 0
-IsWide Add x y = SumIsWide x y
-IsWide Sub x y = SumIsWide x (neg y)
-IsWide Mul x y = ProductIsWide x y
-IsWide Div x y = ProductIsWide x (inverse y)
-IsWide Lcm x y = ⊥
+abbrev pub IsOperationWide : Op → Rational → Rational → Type 0
+IsOperationWide Add x y = SumIsWide x y
+IsOperationWide Sub x y = SumIsWide x (neg y)
+IsOperationWide Mul x y = ProductIsWide x y
+IsOperationWide Div x y = ProductIsWide x (inverse y)
+IsOperationWide Lcm x y = ⊥
 
--- the operands that stand at a place of a pivot in row p and column q of a table X
-abbrev pub IsPivotPlace : ℕ → ℕ → (ℕ → ℕ → Rational) → ℕ → ℕ → Place → Op → Rational → Rational → Type 0
-IsPivotPlace n worlds X p q (Scale c) op l r = IsShown n worlds c × (op ≡ Div) × (l ≡ X p (spot_of n c)) × (r ≡ X p q)
-IsPivotPlace n worlds X p q (Times i c) op l r = (i < n) × (i ≢ p) × IsShown n worlds c × (op ≡ Mul) × (l ≡ X i q) × (r ≡ div (X p (spot_of n c)) (X p q))
-IsPivotPlace n worlds X p q (Minus i c) op l r = (i < n) × (i ≢ p) × IsShown n worlds c × (op ≡ Sub) × (l ≡ X i (spot_of n c)) × (r ≡ mul (X i q) (div (X p (spot_of n c)) (X p q)))
-IsPivotPlace n worlds X p q (Whole i) op l r = ⊥
-IsPivotPlace n worlds X p q (Scaled i) op l r = ⊥
-IsPivotPlace n worlds X p q (Weight i) op l r = ⊥
-IsPivotPlace n worlds X p q (Weighed i) op l r = ⊥
-IsPivotPlace n worlds X p q (Total i) op l r = ⊥
-IsPivotPlace n worlds X p q (Ratio i) op l r = ⊥
-IsPivotPlace n worlds X p q (Cost c i) op l r = ⊥
-IsPivotPlace n worlds X p q (NewTimes i m) op l r = ⊥
-IsPivotPlace n worlds X p q (NewPlus i m) op l r = ⊥
+-- the greatest size of a number that an answer prints
+abbrev pub printed_limit : ℕ
+printed_limit = 2 ^ 90
+
+-- a number that an answer prints is too large
+abbrev pub IsPast : ℤ → Type 0
+IsPast z = printed_limit < unsigned_abs z
+
+-- at a place of a printed number the result is too large to be printed, at each other one a named number is too large
+abbrev pub IsWide : Place → Op → Rational → Rational → Type 0
+IsWide (Whole i) op x y = printed_limit < lcm (unsigned_abs x.over) (unsigned_abs y.over)
+IsWide (Scaled i) op x y = IsPast (mul x y).over
+IsWide (Weight i) op x y = printed_limit < lcm (unsigned_abs x.over) (unsigned_abs y.over)
+IsWide (Weighed i) op x y = IsPast (mul x y).over
+IsWide (Total i) op x y = IsPast (add x y).over
+IsWide (Ratio i) op x y = IsOperationWide op x y
+IsWide (Scale c) op x y = IsOperationWide op x y
+IsWide (Times i c) op x y = IsOperationWide op x y
+IsWide (Minus i c) op x y = IsOperationWide op x y
+IsWide (Cost c i) op x y = IsOperationWide op x y
+IsWide (NewTimes i m) op x y = IsOperationWide op x y
+IsWide (NewPlus i m) op x y = IsOperationWide op x y
+
+-- ---- the places of each call, in a table of n rows with entries X
+-- of a pivot in row p and column q
+pub data PivotPlace (n worlds : ℕ) (X : ℕ → ℕ → Rational) (p q : ℕ) : Place → Op → Rational → Rational → Type 0 where
+  at_scale : (c : TableCol) → IsShown n worlds c
+      → PivotPlace n worlds X p q (Scale c) Div (X p (number_shown n c)) (X p q)
+  at_times : (i : ℕ) (c : TableCol) → i < n → i ≢ p → IsShown n worlds c
+      → PivotPlace n worlds X p q (Times i c) Mul (X i q) (div (X p (number_shown n c)) (X p q))
+  at_minus : (i : ℕ) (c : TableCol) → i < n → i ≢ p → IsShown n worlds c
+      → PivotPlace n worlds X p q (Minus i c) Sub (X i (number_shown n c)) (mul (X i q) (div (X p (number_shown n c)) (X p q)))
 
 -- row m of a new world's column, times the home of row m in row i
 abbrev pub new_part : (ℕ → ℕ → Rational) → List ℤ → ℕ → ℕ → Rational
-new_part X entries i m = mul (X i (suc m)) (fraction (get_or entries m (pos 0)) 1)
+new_part X entries i m = mul (X i (suc m)) (world_entry entries m)
 
--- the operands that stand at a place of a new world's column
-abbrev pub IsNewPlace : ℕ → (ℕ → ℕ → Rational) → List ℤ → Place → Op → Rational → Rational → Type 0
-IsNewPlace n X entries (NewTimes i m) op l r = (i < n) × (m < n) × (op ≡ Mul) × (l ≡ X i (suc m)) × (r ≡ fraction (get_or entries m (pos 0)) 1)
-IsNewPlace n X entries (NewPlus i m) op l r = (i < n) × (m < n) × (op ≡ Add) × (l ≡ sum_to m (new_part X entries i)) × (r ≡ new_part X entries i m)
-IsNewPlace n X entries (Whole i) op l r = ⊥
-IsNewPlace n X entries (Scaled i) op l r = ⊥
-IsNewPlace n X entries (Weight i) op l r = ⊥
-IsNewPlace n X entries (Weighed i) op l r = ⊥
-IsNewPlace n X entries (Total i) op l r = ⊥
-IsNewPlace n X entries (Ratio i) op l r = ⊥
-IsNewPlace n X entries (Cost c i) op l r = ⊥
-IsNewPlace n X entries (Scale c) op l r = ⊥
-IsNewPlace n X entries (Times i c) op l r = ⊥
-IsNewPlace n X entries (Minus i c) op l r = ⊥
+-- of a new world's column
+pub data NewPlace (n : ℕ) (X : ℕ → ℕ → Rational) (entries : List ℤ) : Place → Op → Rational → Rational → Type 0 where
+  at_new_times : (i m : ℕ) → i < n → m < n → NewPlace n X entries (NewTimes i m) Mul (X i (suc m)) (world_entry entries m)
+  at_new_plus : (i m : ℕ) → i < n → m < n
+      → NewPlace n X entries (NewPlus i m) Add (sum_to m (new_part X entries i)) (new_part X entries i m)
 
--- the operands that stand at a place of what the rows carry of column q
-abbrev pub IsCostPlace : Tableau → Costs → Col → Place → Op → Rational → Rational → Type 0
-IsCostPlace t costs q (Cost c i) op l r = (c ≡ q) × (i < length t.kinds) × (op ≡ Add) × (l ≡ carried_to t costs (spot (length t.kinds) q) i) × (r ≡ part_at t costs (spot (length t.kinds) q) i)
-IsCostPlace t costs q (Whole i) op l r = ⊥
-IsCostPlace t costs q (Scaled i) op l r = ⊥
-IsCostPlace t costs q (Weight i) op l r = ⊥
-IsCostPlace t costs q (Weighed i) op l r = ⊥
-IsCostPlace t costs q (Total i) op l r = ⊥
-IsCostPlace t costs q (Ratio i) op l r = ⊥
-IsCostPlace t costs q (Scale c) op l r = ⊥
-IsCostPlace t costs q (Times i c) op l r = ⊥
-IsCostPlace t costs q (Minus i c) op l r = ⊥
-IsCostPlace t costs q (NewTimes i m) op l r = ⊥
-IsCostPlace t costs q (NewPlus i m) op l r = ⊥
+-- what row i carries of column j
+abbrev pub cost_part : (ℕ → Rational) → (ℕ → ℕ) → (ℕ → ℕ → Rational) → ℕ → ℕ → Rational
+cost_part cost basic X j i = mul (cost (basic i)) (X i j)
 
--- the operation at none of these places is wide
+-- of what the rows carry of column c
+pub data CostPlace (n : ℕ) (cost : ℕ → Rational) (basic : ℕ → ℕ) (X : ℕ → ℕ → Rational) (c : Col) : Place → Op → Rational → Rational → Type 0 where
+  at_cost : (i : ℕ) → i < n
+      → CostPlace n cost basic X c (Cost c i) Add (sum_to i (cost_part cost basic X (number_in n c))) (cost_part cost basic X (number_in n c) i)
+
+-- the multiplier of a row: what is carried of its home
+abbrev pub multiplier : ℕ → (ℕ → Rational) → (ℕ → ℕ) → (ℕ → ℕ → Rational) → ℕ → Rational
+multiplier n cost basic X m = carried_by n cost basic X (suc m)
+
+-- the least common multiple of the denominators of the multipliers before row i
+abbrev pub multiple_to : ℕ → (ℕ → Rational) → (ℕ → ℕ) → (ℕ → ℕ → Rational) → ℕ → ℕ
+multiple_to n cost basic X i = lcm_to i (λ m. (multiplier n cost basic X m).under)
+
+-- of the whole multiples of the multipliers that a dual prints
+pub data MultiplierPlace (n : ℕ) (cost : ℕ → Rational) (basic : ℕ → ℕ) (X : ℕ → ℕ → Rational) : Place → Op → Rational → Rational → Type 0 where
+  at_whole : (i : ℕ) → i < n
+      → MultiplierPlace n cost basic X (Whole i) Lcm (whole (pos (multiple_to n cost basic X i))) (whole (pos (multiplier n cost basic X i).under))
+  at_scaled : (i : ℕ) → i < n
+      → MultiplierPlace n cost basic X (Scaled i) Mul (multiplier n cost basic X i) (whole (pos (multiple_to n cost basic X n)))
+
+-- the basic column of a row is a world, and its value is above 0
+pub record IsWeighed (n : ℕ) (basic : ℕ → ℕ) (X : ℕ → ℕ → Rational) (i : ℕ) : Type 0 where
+  pub world : n < basic i
+  pub above : IsAbove (X i 0)
+
+-- the denominator of a row's value where its basic column is a world, else 1; a value 0 has denominator 1
+abbrev pub weight_under : ℕ → (ℕ → ℕ) → (ℕ → ℕ → Rational) → ℕ → ℕ
+weight_under n basic X i = if ltb n (basic i) then (X i 0).under else 1
+
+-- the least common multiple of the denominators of the values that make weights, before row i
+abbrev pub weight_multiple_to : ℕ → (ℕ → ℕ) → (ℕ → ℕ → Rational) → ℕ → ℕ
+weight_multiple_to n basic X i = lcm_to i (weight_under n basic X)
+
+-- the weight of a row: its value times the multiple of all rows where its basic column is a world, else 0
+abbrev pub weight_at : ℕ → (ℕ → ℕ) → (ℕ → ℕ → Rational) → ℕ → ℤ
+weight_at n basic X i = if ltb n (basic i) then scaled (weight_multiple_to n basic X n) (X i 0) else pos 0
+
+-- of the weights that a model prints, and their sums
+pub data WeightPlace (n : ℕ) (basic : ℕ → ℕ) (X : ℕ → ℕ → Rational) : Place → Op → Rational → Rational → Type 0 where
+  at_weight : (i : ℕ) → i < n → IsWeighed n basic X i
+      → WeightPlace n basic X (Weight i) Lcm (whole (pos (weight_multiple_to n basic X i))) (whole (pos (X i 0).under))
+  at_weighed : (i : ℕ) → i < n → IsWeighed n basic X i
+      → WeightPlace n basic X (Weighed i) Mul (X i 0) (whole (pos (weight_multiple_to n basic X n)))
+  at_total : (i : ℕ) → i < n → IsWeighed n basic X i
+      → WeightPlace n basic X (Total i) Add (whole (int_sum_to i (weight_at n basic X))) (whole (weight_at n basic X i))
+
+-- ---- the places of a table's calls
+-- of a pivot
+abbrev pub PivotPlaces : Tableau → ℕ → Col → Place → Op → Rational → Rational → Type 0
+PivotPlaces t p q = PivotPlace (length t.kinds) t.worlds (entry_at t) p (number_of t q)
+
+-- of a new world's column
+abbrev pub NewPlaces : Tableau → List ℤ → Place → Op → Rational → Rational → Type 0
+NewPlaces t entries = NewPlace (length t.kinds) (entry_at t) entries
+
+-- of what the rows carry of a column
+abbrev pub CostPlaces : Tableau → Costs → Col → Place → Op → Rational → Rational → Type 0
+CostPlaces t costs c = CostPlace (length t.kinds) (cost_at costs) (basic_at t) (entry_at t) c
+
+-- of the multiplier of a row
+abbrev pub HomePlaces : Tableau → Costs → ℕ → Place → Op → Rational → Rational → Type 0
+HomePlaces t costs m = CostPlaces t costs (col.Home m)
+
+-- ---- refusals
+-- the operation at none of these places is refused
 pub record IsNarrow (P : Place → Op → Rational → Rational → Type 0) : Type 0 where
-  pub nowhere : (place : Place) (op : Op) (l r : Rational) → P place op l r → ¬ IsWide op l r
-
--- neither operation on row i of column j is wide in a pivot in row p and column q of a table X
-pub record IsNarrowCell (X : ℕ → ℕ → Rational) (p q i j : ℕ) : Type 0 where
-  pub times : ¬ IsWide Mul (X i q) (div (X p j) (X p q))
-  pub minus : ¬ IsWide Sub (X i j) (mul (X i q) (div (X p j) (X p q)))
-
--- neither operation on row m of a new world's column is wide in row i of a table X
-pub record IsNarrowPart (X : ℕ → ℕ → Rational) (entries : List ℤ) (i m : ℕ) : Type 0 where
-  pub times : ¬ IsWide Mul (X i (suc m)) (fraction (get_or entries m (pos 0)) 1)
-  pub plus : ¬ IsWide Add (sum_to m (new_part X entries i)) (new_part X entries i m)
+  pub nowhere : (place : Place) (op : Op) (l r : Rational) → P place op l r → ¬ IsWide place op l r
 
 -- the refusal stands at a place with its operands, and is wide there
 pub record IsWideAt (P : Place → Op → Rational → Rational → Type 0) (w : WideAt) : Type 0 where
   pub at : P w.place w.op w.left w.right
-  pub wide : IsWide w.op w.left w.right
+  pub wide : IsWide w.place w.op w.left w.right
 
 -- where it isn't want of memory
 abbrev pub IsRefusedAt : (Place → Op → Rational → Rational → Type 0) → TableError → Type 0
-IsRefusedAt P (Wide w) = IsWideAt P w
-IsRefusedAt P NoMemory = Unit {0}
-
--- what the rows carry of column q was refused
-abbrev pub IsCostWide : Tableau → Costs → Col → WideAt → Type 0
-IsCostWide t costs q = IsWideAt (IsCostPlace t costs q)
+IsRefusedAt P (refused.Wide w) = IsWideAt P w
+IsRefusedAt P refused.NoMemory = Unit {0}

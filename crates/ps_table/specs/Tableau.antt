@@ -1,16 +1,21 @@
 -- A table as its callers see it: the kinds of the homes, the columns one after the other, and the basic columns.
-use Rattle.std.specs.Prelude.{◌≡◌, ℕ, suc, ◌+◌, ◌-◌, ◌*◌, ◌^◌, ◌<◌, ◌≤◌, ◌≤ℤ◌, List, ◌++◌, get_or, length, set, ℤ, pos, negsuc, cond}
-use Rattle.std.proofs.Common.{eqb}
+use Rattle.std.specs.Prelude.{◌≡◌, ℕ, suc, ◌+◌, ◌-◌, ◌*◌, ◌^◌, ◌<◌, ◌≤◌, List, get_or, length, set, ℤ, pos}
 use Rattle.ps_table.specs.declared.home.Home.{Home}
 use Rattle.ps_pool.specs.declared.col.Col.{Col}
 use Rattle.ps_pool.specs.declared.col.Col.TheVariants as col
-use Rattle.ps_table.specs.declared.costs.Costs.{Costs}
 use Rattle.ps_table.specs.declared.place.TableCol.{TableCol}
 use Rattle.ps_table.specs.declared.place.TableCol.TheVariants.{Right, Of}
-use Rattle.ps_rational.specs.Rational.{Rational, fraction, mul}
-use Rattle.ps_rational.specs.Rational.{zero_q, sub, div}
+use Rattle.ps_rational.specs.Rational.{Rational, fraction, mul, zero_q}
 use Rattle.ps_rational.specs.Sums.{sum_to}
-use Rattle.ps_basis.specs.Table.{Stands, Pivoted, Based}
+use Rattle.ps_basis.specs.Table.{Stands, Pivoted, Based, HasHomes, unit_at}
+
+-- the most rows of a table
+abbrev pub most_rows : ℕ
+most_rows = 101
+
+-- above the count of a table's worlds
+abbrev pub world_limit : ℕ
+world_limit = 2 ^ 32
 
 pub record Tableau : Type 0 where
   pub kinds : List Home
@@ -18,14 +23,15 @@ pub record Tableau : Type 0 where
   pub cells : List Rational
   pub basic : List Col
 
--- the place of a column in the order: the right side, the homes, the worlds
-abbrev pub spot : ℕ → Col → ℕ
-spot n (col.Home i) = suc i
-spot n (col.World k) = n + k
+-- ---- rows and columns
+-- the number of a column among those of n rows: the right side is 0, then come the homes and the worlds
+abbrev pub number_in : ℕ → Col → ℕ
+number_in n (col.Home i) = suc i
+number_in n (col.World k) = n + k
 
-abbrev pub spot_of : ℕ → TableCol → ℕ
-spot_of n Right = 0
-spot_of n (Of c) = spot n c
+abbrev pub number_shown : ℕ → TableCol → ℕ
+number_shown n Right = 0
+number_shown n (Of c) = number_in n c
 
 -- there is such a column
 abbrev pub IsInside : ℕ → ℕ → Col → Type 0
@@ -36,88 +42,93 @@ abbrev pub IsShown : ℕ → ℕ → TableCol → Type 0
 IsShown n worlds Right = Unit {0}
 IsShown n worlds (Of c) = IsInside n worlds c
 
+-- how many rows a table has
 abbrev pub rows_of : Tableau → ℕ
 rows_of t = length t.kinds
 
+-- how many columns, with the right side
 abbrev pub width_of : Tableau → ℕ
 width_of t = suc (length t.kinds + t.worlds)
 
--- row i of column j, where columns of n rows stand one after the other
+-- the number of a table's column
+abbrev pub number_of : Tableau → Col → ℕ
+number_of t c = number_in (length t.kinds) c
+
+-- a table has the column
+abbrev pub HasColumn : Tableau → Col → Type 0
+HasColumn t c = IsInside (length t.kinds) t.worlds c
+
+-- row i of column j, in columns of n rows
 abbrev pub cell_at : ℕ → List Rational → ℕ → ℕ → Rational
 cell_at n cells i j = get_or cells (j * n + i) zero_q
 
+-- the entry of a row in the column of this number
 abbrev pub entry_at : Tableau → ℕ → ℕ → Rational
-entry_at t = cell_at (length t.kinds) t.cells
+entry_at t i j = cell_at (length t.kinds) t.cells i j
 
+-- the entry of a row in a column
+abbrev pub entry_of : Tableau → ℕ → Col → Rational
+entry_of t i c = entry_at t i (number_of t c)
+
+-- the number of the column that is basic in a row
 abbrev pub basic_at : Tableau → ℕ → ℕ
-basic_at t i = spot (length t.kinds) (get_or t.basic i (col.Home 0))
-
--- columns of n rows: the right side, n homes and the worlds
-pub record IsGrid (n worlds : ℕ) (cells : List Rational) : Type 0 where
-  pub few : n ≤ 101
-  pub many : worlds < 2 ^ 32
-  pub size : length cells ≡ suc (n + worlds) * n
-
--- row i of column j after a pivot in row p and column q
-abbrev pub pivot_cell : (ℕ → ℕ → Rational) → ℕ → ℕ → ℕ → ℕ → Rational
-pivot_cell X p q i j = cond (eqb i p) (div (X p j) (X p q)) (sub (X i j) (mul (X i q) (div (X p j) (X p q))))
+basic_at t i = number_in (length t.kinds) (get_or t.basic i (col.Home 0))
 
 pub record IsTableau (t : Tableau) : Type 0 where
   pub some : 0 < length t.kinds
-  pub few : length t.kinds ≤ 101
-  pub many : t.worlds < 2 ^ 32
+  pub few : length t.kinds ≤ most_rows
+  pub many : t.worlds < world_limit
   pub cells : length t.cells ≡ suc (length t.kinds + t.worlds) * length t.kinds
   pub basics : length t.basic ≡ length t.kinds
   pub inside : (i : ℕ) → i < length t.kinds → IsInside (length t.kinds) t.worlds (get_or t.basic i (col.Home 0))
 
+-- ---- what a table stands for
 -- the table is that of its basis, for rows and columns A
 abbrev pub StandsFor : (ℕ → ℕ → Rational) → Tableau → Type 0
 StandsFor A t = Stands (length t.kinds) (suc (length t.kinds + t.worlds)) A (basic_at t) (entry_at t)
 
+-- whatever a table stood for it stands for after the change
+abbrev pub StandsOn : Tableau → Tableau → Type 0
+StandsOn old new = (A : ℕ → ℕ → Rational) → StandsFor A old → StandsFor A new
+
+-- ---- the first table
+-- in each row its home is basic
+abbrev pub HasBasicHomes : List Home → Tableau → Type 0
+HasBasicHomes kinds t = (i : ℕ) → i < length kinds → get_or t.basic i (col.Home 0) ≡ col.Home i
+
+-- the homes' columns are units, and the right side is the first of them
+abbrev pub HasUnitHomes : List Home → Tableau → Type 0
+HasUnitHomes kinds t = (i j : ℕ) → i < length kinds → j ≤ length kinds → entry_at t i j ≡ unit_at i (j - 1)
+
+-- a table stands for all columns that begin with these homes
+abbrev pub StandsForHomes : List Home → Tableau → Type 0
+StandsForHomes kinds t = (A : ℕ → ℕ → Rational) → HasHomes (length kinds) A → StandsFor A t
+
+-- ---- changes
 -- column q became basic in row p
 pub record IsPivot (p : ℕ) (q : Col) (old new : Tableau) : Type 0 where
   pub kinds : new.kinds ≡ old.kinds
   pub worlds : new.worlds ≡ old.worlds
   pub basic : new.basic ≡ set old.basic p q
-  pub based : Based (length old.kinds) p (spot (length old.kinds) q) (basic_at old) (basic_at new)
-  pub cells : Pivoted (length old.kinds) (suc (length old.kinds + old.worlds)) p (spot (length old.kinds) q) (entry_at old) (entry_at new)
+  pub based : Based (rows_of old) p (number_of old q) (basic_at old) (basic_at new)
+  pub cells : Pivoted (rows_of old) (width_of old) p (number_of old q) (entry_at old) (entry_at new)
+
+-- entry m of a world, as a rational number
+abbrev pub world_entry : List ℤ → ℕ → Rational
+world_entry entries m = fraction (get_or entries m (pos 0)) 1
 
 -- column j of A is that of the entries
 abbrev pub IsColumn : List ℤ → ℕ → ℕ → (ℕ → ℕ → Rational) → Type 0
-IsColumn entries n j A = (m : ℕ) → m < n → A m j ≡ fraction (get_or entries m (pos 0)) 1
+IsColumn entries n j A = (m : ℕ) → m < n → A m j ≡ world_entry entries m
 
 -- the column of a world with these entries was added
 pub record IsAdded (entries : List ℤ) (old new : Tableau) : Type 0 where
   pub kinds : new.kinds ≡ old.kinds
   pub worlds : new.worlds ≡ suc old.worlds
   pub basic : new.basic ≡ old.basic
-  pub before : (i j : ℕ) → i < length old.kinds → j < suc (length old.kinds + old.worlds) → entry_at new i j ≡ entry_at old i j
-  pub here : (i : ℕ) → i < length old.kinds → entry_at new i (suc (length old.kinds + old.worlds)) ≡ sum_to (length old.kinds) (λ m. mul (entry_at old i (suc m)) (fraction (get_or entries m (pos 0)) 1))
+  pub before : (i j : ℕ) → i < rows_of old → j < width_of old → entry_at new i j ≡ entry_at old i j
+  pub here : (i : ℕ) → i < rows_of old → entry_at new i (width_of old) ≡ sum_to (rows_of old) (λ m. mul (entry_at old i (suc m)) (world_entry entries m))
 
--- ---- costs
-pub record HasSmallCosts (costs : Costs) : Type 0 where
-  pub homes_low : (i : ℕ) → i < length costs.homes → negsuc 0 ≤ℤ get_or costs.homes i (pos 0)
-  pub homes_high : (i : ℕ) → i < length costs.homes → get_or costs.homes i (pos 0) ≤ℤ pos 1
-  pub worlds_low : (i : ℕ) → i < length costs.worlds → negsuc 0 ≤ℤ get_or costs.worlds i (pos 0)
-  pub worlds_high : (i : ℕ) → i < length costs.worlds → get_or costs.worlds i (pos 0) ≤ℤ pos 1
-
--- there is a cost for each column
-pub record HasCosts (costs : Costs) (t : Tableau) : Type 0 where
-  pub homes : length costs.homes ≡ length t.kinds
-  pub worlds : t.worlds ≤ length costs.worlds
-  pub small : HasSmallCosts costs
-
--- the cost of the column at a place
-abbrev pub cost_number : Costs → ℕ → ℤ
-cost_number costs j = get_or (costs.homes ++ costs.worlds) (j - 1) (pos 0)
-
-abbrev pub cost_at : Costs → ℕ → Rational
-cost_at costs j = fraction (cost_number costs j) 1
-
--- what row i carries of column j
-abbrev pub part_at : Tableau → Costs → ℕ → ℕ → Rational
-part_at t costs j i = mul (cost_at costs (basic_at t i)) (entry_at t i j)
-
--- what the rows before row n carry
-abbrev pub carried_to : Tableau → Costs → ℕ → ℕ → Rational
-carried_to t costs j n = sum_to n (part_at t costs j)
+-- whatever a table stood for whose next column is that of the entries, it stands for with that column
+abbrev pub StandsWith : List ℤ → Tableau → Tableau → Type 0
+StandsWith entries old new = (A : ℕ → ℕ → Rational) → IsColumn entries (rows_of old) (width_of old) A → StandsFor A old → StandsFor A new

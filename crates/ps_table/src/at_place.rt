@@ -2,12 +2,14 @@
 ghost use Rattle.std.specs.Prelude.{◌≡◌, ◌≢◌, ◌↔◌, IfOk, IfErr, IsErr};
 ghost use Rattle.ps_rational.specs.Rational.{add, mul, neg, sub, div, inverse, zero_q};
 ghost use Rattle.ps_rational.specs.Wide.{SumIsWide, ProductIsWide};
+ghost use Rattle.ps_table.specs.Grids.{Names};
 
 use crate::place::{Place, WideAt};
 use ps_frac::{Fraction, Op, Wide};
 
-pub(crate) fn named(place: Place, wide: Wide) -> WideAt
-    ensures value { result ≡ record { place = place; op = wide.op; left = wide.left; right = wide.right } }
+/// A refusal, with its place.
+fn named(place: Place, wide: Wide) -> WideAt
+    ensures value { Names place wide.op wide.left wide.right result }
 {
     WideAt {
         place,
@@ -26,7 +28,7 @@ pub(crate) fn divided_at(
     requires { right.now ≢ zero_q }
     ensures value { IfOk result (λ r. r ≡ div left.now right.now) }
     ensures wide { IsErr result ↔ ProductIsWide left.now (inverse right.now) }
-    ensures operands { IfErr result (λ w. w ≡ record { place = place; op = Op.Div; left = left.now; right = right.now }) }
+    ensures operands { IfErr result (Names place Op.Div left.now right.now) }
 {
     match left.div(right) {
         Ok(quotient) => Ok(quotient),
@@ -38,7 +40,7 @@ pub(crate) fn divided_at(
 pub(crate) fn times_at(place: Place, left: &Fraction, right: &Fraction) -> Result<Fraction, WideAt>
     ensures value { IfOk result (λ r. r ≡ mul left.now right.now) }
     ensures wide { IsErr result ↔ ProductIsWide left.now right.now }
-    ensures operands { IfErr result (λ w. w ≡ record { place = place; op = Op.Mul; left = left.now; right = right.now }) }
+    ensures operands { IfErr result (Names place Op.Mul left.now right.now) }
 {
     match left.mul(right) {
         Ok(product) => Ok(product),
@@ -50,7 +52,7 @@ pub(crate) fn times_at(place: Place, left: &Fraction, right: &Fraction) -> Resul
 pub(crate) fn minus_at(place: Place, left: &Fraction, right: &Fraction) -> Result<Fraction, WideAt>
     ensures value { IfOk result (λ r. r ≡ sub left.now right.now) }
     ensures wide { IsErr result ↔ SumIsWide left.now (neg right.now) }
-    ensures operands { IfErr result (λ w. w ≡ record { place = place; op = Op.Sub; left = left.now; right = right.now }) }
+    ensures operands { IfErr result (Names place Op.Sub left.now right.now) }
 {
     match left.sub(right) {
         Ok(difference) => Ok(difference),
@@ -62,7 +64,7 @@ pub(crate) fn minus_at(place: Place, left: &Fraction, right: &Fraction) -> Resul
 pub(crate) fn plus_at(place: Place, left: &Fraction, right: &Fraction) -> Result<Fraction, WideAt>
     ensures value { IfOk result (λ r. r ≡ add left.now right.now) }
     ensures wide { IsErr result ↔ SumIsWide left.now right.now }
-    ensures operands { IfErr result (λ w. w ≡ record { place = place; op = Op.Add; left = left.now; right = right.now }) }
+    ensures operands { IfErr result (Names place Op.Add left.now right.now) }
 {
     match left.add(right) {
         Ok(sum) => Ok(sum),

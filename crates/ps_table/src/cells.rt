@@ -1,6 +1,7 @@
-//! Cells of columns that stand one after the other.
+//! Cells of columns that stand one after the other, and the numbers of columns.
 ghost use Rattle.std.specs.Prelude.{◌≡◌, ℕ, suc, ◌+◌, ◌*◌, ◌^◌, ◌<◌, ◌≤◌, length};
-ghost use Rattle.ps_table.specs.Tableau.{spot, spot_of, IsInside, IsShown, cell_at};
+ghost use Rattle.ps_table.specs.Tableau.{number_in, number_shown, IsInside, IsShown, cell_at};
+ghost use Rattle.ps_table.specs.Tableau.{most_rows, world_limit};
 
 use crate::place::TableCol;
 use ps_frac::Fraction;
@@ -14,10 +15,10 @@ pub(crate) fn cell(cells: &[Fraction], rows: usize, row: usize, column: usize) -
     cells[column * rows + row]
 }
 
-/// The place of a column in the order, where the right side comes first.
-pub(crate) fn place_of(rows: usize, col: Col) -> usize
-    requires { rows ≤ 101 }
-    ensures value { result ≡ spot rows col }
+/// The number of a column, where the right side is 0.
+pub(crate) fn number_of(rows: usize, col: Col) -> usize
+    requires { rows ≤ most_rows }
+    ensures value { result ≡ number_in rows col }
     ensures within { (worlds : ℕ) → IsInside rows worlds col → result < suc (rows + worlds) }
 {
     match col {
@@ -26,11 +27,11 @@ pub(crate) fn place_of(rows: usize, col: Col) -> usize
     }
 }
 
-/// The column at a place in the order.
+/// The column of a number.
 pub(crate) fn shown(rows: usize, column: usize) -> TableCol
-    requires few { rows ≤ 101 }
-    requires many { column < rows + 2 ^ 32 }
-    ensures spot { spot_of rows result ≡ column }
+    requires few { rows ≤ most_rows }
+    requires many { column < rows + world_limit }
+    ensures number { number_shown rows result ≡ column }
     ensures shown { (worlds : ℕ) → column ≤ rows + worlds → IsShown rows worlds result }
 {
     if column == 0 {

@@ -1,7 +1,8 @@
 //! Costs of columns.
 ghost use Rattle.std.specs.Prelude.{◌≡◌, ◌≤◌, length, pos, negsuc, ◌≤ℤ◌};
 ghost use Rattle.ps_rational.specs.Rational.{fraction, mul};
-ghost use Rattle.ps_table.specs.Tableau.{spot, IsInside, HasSmallCosts, cost_number};
+ghost use Rattle.ps_table.specs.Tableau.{number_in, IsInside};
+ghost use Rattle.ps_table.specs.Pricing.{HasSmallCosts, cost_number};
 
 use ps_frac::Fraction;
 use ps_io::List;
@@ -23,7 +24,7 @@ pub(crate) fn cost_of(costs: &Costs, rows: usize, worlds: usize, col: Col) -> i8
     requires worlds { worlds ≤ length costs.now.worlds }
     requires small { HasSmallCosts costs.now }
     requires inside { IsInside rows worlds col }
-    ensures value { result ≡ cost_number costs.now (spot rows col) }
+    ensures value { result ≡ cost_number costs.now (number_in rows col) }
     ensures low { negsuc 0 ≤ℤ result }
     ensures high { result ≤ℤ pos 1 }
 {

@@ -4,11 +4,16 @@ ghost use Rattle.std.specs.Prelude.{◌≡◌};
 use crate::place::WideAt;
 use ps_io::NoMemory;
 use std::alloc::{AllocError, AllocFailed};
+use thiserror::Error;
 
 /// Why a change of a table was refused.
-#[derive(Drop)]
+#[derive(Clone, Copy, PartialEq, Eq, Debug, Drop, Error)]
 pub enum TableError {
+    /// A number is too large: its place, operation and operands.
+    #[error("a number of the table is too large")]
     Wide(WideAt),
+    /// There was not enough memory.
+    #[error("not enough memory")]
     NoMemory,
 }
 

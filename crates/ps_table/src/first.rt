@@ -1,7 +1,8 @@
 //! The first table.
-ghost use Rattle.std.specs.Prelude.{◌≡◌, ℕ, suc, ◌-◌, ◌*◌, ◌/◌, ◌%◌, ◌<◌, ◌≤◌, length, get_or, IfOk};
-ghost use Rattle.ps_rational.specs.Rational.{zero_q};
+ghost use Rattle.std.specs.Prelude.{◌≡◌, suc, ◌-◌, ◌*◌, ◌<◌, ◌≤◌, length, IfOk};
 ghost use Rattle.ps_basis.specs.Table.{unit_at};
+ghost use Rattle.ps_table.specs.Tableau.{most_rows};
+ghost use Rattle.ps_table.specs.Grids.{AreUnits, AreHomes};
 
 use ps_frac::Fraction;
 use ps_io::NoMemory;
@@ -22,9 +23,9 @@ fn home_cell(row: usize, column: usize) -> Fraction
 /// The cells of a new table.
 pub(crate) fn first_cells(alloc: Global, rows: usize) -> Result<Vec<Fraction>, NoMemory>
     requires some { 0 < rows }
-    requires few { rows ≤ 101 }
+    requires few { rows ≤ most_rows }
     ensures count { IfOk result (λ v. length v.items ≡ suc rows * rows) }
-    ensures value { IfOk result (λ v. (k : ℕ) → k < suc rows * rows → get_or v.items k zero_q ≡ unit_at (k % rows) (k / rows - 1)) }
+    ensures value { IfOk result (λ v. AreUnits rows v.items) }
 {
     let mut made = Vec::new(alloc);
     for k in 0..(1 + rows) * rows {
@@ -35,9 +36,9 @@ pub(crate) fn first_cells(alloc: Global, rows: usize) -> Result<Vec<Fraction>, N
 
 /// The homes of so many rows.
 pub(crate) fn first_basic(alloc: Global, rows: usize) -> Result<Vec<Col>, NoMemory>
-    requires few { rows ≤ 101 }
+    requires few { rows ≤ most_rows }
     ensures count { IfOk result (λ v. length v.items ≡ rows) }
-    ensures value { IfOk result (λ v. (i : ℕ) → i < rows → get_or v.items i (Col.Home 0) ≡ Col.Home i) }
+    ensures value { IfOk result (λ v. AreHomes rows v.items) }
 {
     let mut made = Vec::new(alloc);
     for i in 0..rows {

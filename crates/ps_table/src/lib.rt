@@ -7,7 +7,10 @@ mod cells;
 mod costs;
 mod error;
 mod first;
+mod grid;
 mod home;
+mod limits;
+mod pivot;
 mod pivoting;
 mod place;
 mod table;
@@ -15,6 +18,7 @@ mod table;
 pub use costs::{CostList, Costs};
 pub use error::TableError;
 pub use home::Home;
+pub use limits::{MOST_ROWS, PRINTED_LIMIT};
 pub use place::{Place, TableCol, WideAt};
 pub use table::Table;
 

@@ -1,178 +1,180 @@
-//! The cells after a pivot.
-ghost use Rattle.std.specs.Prelude.{◌≡◌, ◌≢◌, ℕ, suc, ◌+◌, ◌/◌, ◌%◌, ◌<◌, length, get_or, IfOk, IfErr};
-ghost use Rattle.ps_rational.specs.Rational.{mul, sub, div, zero_q};
-ghost use Rattle.ps_table.specs.Tableau.{cell_at, pivot_cell, IsGrid};
-ghost use Rattle.ps_table.specs.Places.{IsWide, IsPivotPlace, IsWideAt, IsRefusedAt, IsNarrow, IsNarrowCell};
+//! The cells after a pivot. A cell with a 0 in the pivot's row or column stays as it is.
+ghost use Rattle.std.specs.Prelude.{◌≡◌, ◌<◌, IfOk, IfErr};
+ghost use Rattle.ps_table.specs.Places.{IsWideAt, IsRefusedAt, IsNarrow};
+ghost use Rattle.ps_table.specs.Grids.{width, IsPivotOf, IsOtherCell, GridPivotPlaces};
+ghost use Rattle.ps_table.specs.Grids.{scaled_in, IsScaleNarrow, IsScaledRow, IsRowNarrow};
+ghost use Rattle.ps_table.specs.Grids.{lost_in, IsTimesNarrow, IsMinusNarrow, IsCellNarrow};
+ghost use Rattle.ps_table.specs.Grids.{LosesNothing, pivoted_in, IsNarrowBeside, ArePivoted};
 
 use crate::at_place::{divided_at, minus_at, times_at};
-use crate::cells::{cell, shown};
 use crate::error::TableError;
+use crate::grid::Grid;
+use crate::pivot::Pivot;
 use crate::place::{Place, WideAt};
-use ps_frac::{Fraction, Op};
+use ps_frac::Fraction;
 use std::alloc::Global;
 
-/// The cell of row `p` and column `j` after a pivot in row `p` and column `q`, whose entry there is `by`.
-#[tactic(auto, using(crate::proofs::Columns::cell_within))]
-fn scaled_cell(
-    cells: &[Fraction],
-    rows: usize,
-    worlds: usize,
-    by: &Fraction,
-    p: usize,
-    q: usize,
-    j: usize,
-) -> Result<Fraction, WideAt>
-    requires grid { IsGrid rows worlds cells.now }
-    requires p_in { p < rows }
-    requires j_in { j < suc (rows + worlds) }
-    requires by { by.now ≡ cell_at rows cells.now p q }
-    requires pivot { by.now ≢ zero_q }
-    ensures value { IfOk result (λ r. r ≡ div (cell_at rows cells.now p j) (cell_at rows cells.now p q)) }
-    ensures narrow { IfOk result (λ _. ¬ IsWide Op.Div (cell_at rows cells.now p j) (cell_at rows cells.now p q)) }
-    ensures refused { IfErr result (IsWideAt (IsPivotPlace rows worlds (cell_at rows cells.now) p q)) }
+/// A quotient of the pivot's row, where its entry isn't 0.
+fn quotient(grid: &Grid<'_>, pivot: &Pivot, column: usize) -> Result<Fraction, WideAt>
+    requires pivot { IsPivotOf grid.now pivot.now }
+    requires column { column < width grid.now }
+    ensures value { IfOk result (λ r. r ≡ scaled_in grid.now pivot.now column) }
+    ensures narrow { IfOk result (λ _. IsScaleNarrow grid.now pivot.now column) }
+    ensures refused { IfErr result (IsWideAt (GridPivotPlaces grid.now pivot.now)) }
 {
     let place = Place::Scale {
-        col: shown(rows, j),
+        col: grid.shown(column),
     };
-    divided_at(place, &cell(cells, rows, p, j), by)
+    divided_at(place, &grid.cell(pivot.row, column), &pivot.by)
 }
 
-/// Row `p` divided by its entry in column `q`.
-#[tactic(auto, using(crate::proofs::Columns::cell_within))]
-fn scaled_row(
-    alloc: Global,
-    cells: &[Fraction],
-    rows: usize,
-    worlds: usize,
-    p: usize,
-    q: usize,
-) -> Result<Vec<Fraction>, TableError>
-    requires grid { IsGrid rows worlds cells.now }
-    requires p_in { p < rows }
-    requires q_in { q < suc (rows + worlds) }
-    requires pivot { cell_at rows cells.now p q ≢ zero_q }
-    ensures count { IfOk result (λ v. length v.items ≡ suc (rows + worlds)) }
-    ensures value { IfOk result (λ v. (j : ℕ) → j < suc (rows + worlds) → get_or v.items j zero_q ≡ div (cell_at rows cells.now p j) (cell_at rows cells.now p q)) }
-    ensures narrow { IfOk result (λ _. (j : ℕ) → j < suc (rows + worlds) → ¬ IsWide Op.Div (cell_at rows cells.now p j) (cell_at rows cells.now p q)) }
-    ensures refused { IfErr result (IsRefusedAt (IsPivotPlace rows worlds (cell_at rows cells.now) p q)) }
+/// The entry of the pivot's row in a column, after the pivot.
+fn scaled_entry(grid: &Grid<'_>, pivot: &Pivot, column: usize) -> Result<Fraction, WideAt>
+    requires pivot { IsPivotOf grid.now pivot.now }
+    requires column { column < width grid.now }
+    ensures value { IfOk result (λ r. r ≡ scaled_in grid.now pivot.now column) }
+    ensures narrow { IfOk result (λ _. IsScaleNarrow grid.now pivot.now column) }
+    ensures refused { IfErr result (IsWideAt (GridPivotPlaces grid.now pivot.now)) }
 {
-    let by = cell(cells, rows, p, q);
+    let entry = grid.cell(pivot.row, column);
+    if entry.is_zero() {
+        return Ok(entry);
+    }
+    quotient(grid, pivot, column)
+}
+
+/// The pivot's row after it.
+fn scaled_row(alloc: Global, grid: &Grid<'_>, pivot: &Pivot) -> Result<Vec<Fraction>, TableError>
+    requires pivot { IsPivotOf grid.now pivot.now }
+    ensures row { IfOk result (λ v. IsScaledRow grid.now pivot.now v.items) }
+    ensures narrow { IfOk result (λ _. IsRowNarrow grid.now pivot.now) }
+    ensures refused { IfErr result (IsRefusedAt (GridPivotPlaces grid.now pivot.now)) }
+{
     let mut made = Vec::new(alloc);
-    for j in 0..1 + rows + worlds {
-        let quotient = scaled_cell(cells, rows, worlds, &by, p, q, j)?;
-        made.push(quotient)?;
+    for column in 0..grid.width() {
+        let entry = scaled_entry(grid, pivot, column)?;
+        made.push(entry)?;
     }
     Ok(made)
 }
 
-/// How much row `i` of column `j` loses by a pivot in row `p` and column `q`, whose new row has `scaled` there.
-#[tactic(auto, using(crate::proofs::Columns::cell_within))]
+/// What a cell loses, by the new entry of the pivot's row in its column.
 fn lost(
-    cells: &[Fraction],
-    rows: usize,
-    worlds: usize,
+    grid: &Grid<'_>,
+    pivot: &Pivot,
     scaled: &Fraction,
-    p: usize,
-    q: usize,
-    i: usize,
-    j: usize,
+    row: usize,
+    column: usize,
 ) -> Result<Fraction, WideAt>
-    requires grid { IsGrid rows worlds cells.now }
-    requires q_in { q < suc (rows + worlds) }
-    requires i_in { i < rows }
-    requires other { i ≢ p }
-    requires j_in { j < suc (rows + worlds) }
-    requires scaled { scaled.now ≡ div (cell_at rows cells.now p j) (cell_at rows cells.now p q) }
-    ensures value { IfOk result (λ r. r ≡ mul (cell_at rows cells.now i q) (div (cell_at rows cells.now p j) (cell_at rows cells.now p q))) }
-    ensures narrow { IfOk result (λ _. ¬ IsWide Op.Mul (cell_at rows cells.now i q) (div (cell_at rows cells.now p j) (cell_at rows cells.now p q))) }
-    ensures refused { IfErr result (IsWideAt (IsPivotPlace rows worlds (cell_at rows cells.now) p q)) }
+    requires pivot { IsPivotOf grid.now pivot.now }
+    requires cell { IsOtherCell grid.now pivot.now row column }
+    requires scaled { scaled.now ≡ scaled_in grid.now pivot.now column }
+    ensures value { IfOk result (λ r. r ≡ lost_in grid.now pivot.now row column) }
+    ensures narrow { IfOk result (λ _. IsTimesNarrow grid.now pivot.now row column) }
+    ensures refused { IfErr result (IsWideAt (GridPivotPlaces grid.now pivot.now)) }
 {
     let place = Place::Times {
-        row: i as u32,
-        col: shown(rows, j),
+        row: row as u32,
+        col: grid.shown(column),
     };
-    times_at(place, &cell(cells, rows, i, q), scaled)
+    times_at(place, &grid.cell(row, pivot.column), scaled)
 }
 
-/// Row `i` of column `j` less what it loses by a pivot in row `p` and column `q`.
-#[tactic(auto, using(crate::proofs::Columns::cell_within))]
+/// A cell less what it loses.
 fn reduced(
-    cells: &[Fraction],
-    rows: usize,
-    worlds: usize,
+    grid: &Grid<'_>,
+    pivot: &Pivot,
     lost: &Fraction,
-    p: usize,
-    q: usize,
-    i: usize,
-    j: usize,
+    row: usize,
+    column: usize,
 ) -> Result<Fraction, WideAt>
-    requires grid { IsGrid rows worlds cells.now }
-    requires i_in { i < rows }
-    requires other { i ≢ p }
-    requires j_in { j < suc (rows + worlds) }
-    requires lost { lost.now ≡ mul (cell_at rows cells.now i q) (div (cell_at rows cells.now p j) (cell_at rows cells.now p q)) }
-    ensures value { IfOk result (λ r. r ≡ sub (cell_at rows cells.now i j) (mul (cell_at rows cells.now i q) (div (cell_at rows cells.now p j) (cell_at rows cells.now p q)))) }
-    ensures narrow { IfOk result (λ _. ¬ IsWide Op.Sub (cell_at rows cells.now i j) (mul (cell_at rows cells.now i q) (div (cell_at rows cells.now p j) (cell_at rows cells.now p q)))) }
-    ensures refused { IfErr result (IsWideAt (IsPivotPlace rows worlds (cell_at rows cells.now) p q)) }
+    requires pivot { IsPivotOf grid.now pivot.now }
+    requires cell { IsOtherCell grid.now pivot.now row column }
+    requires lost { lost.now ≡ lost_in grid.now pivot.now row column }
+    ensures value { IfOk result (λ r. r ≡ pivoted_in grid.now pivot.now row column) }
+    ensures narrow { IfOk result (λ _. IsMinusNarrow grid.now pivot.now row column) }
+    ensures refused { IfErr result (IsWideAt (GridPivotPlaces grid.now pivot.now)) }
 {
     let place = Place::Minus {
-        row: i as u32,
-        col: shown(rows, j),
+        row: row as u32,
+        col: grid.shown(column),
     };
-    minus_at(place, &cell(cells, rows, i, j), lost)
+    minus_at(place, &grid.cell(row, column), lost)
 }
 
-/// The cell of row `i` and column `j` after a pivot in row `p` and column `q`, whose new row is `scaled`.
-fn new_cell(
-    cells: &[Fraction],
-    rows: usize,
-    worlds: usize,
-    scaled: &[Fraction],
-    p: usize,
-    q: usize,
-    i: usize,
-    j: usize,
+/// A cell of another row than the pivot's, after the pivot.
+fn changed(
+    grid: &Grid<'_>,
+    pivot: &Pivot,
+    scaled: &Fraction,
+    row: usize,
+    column: usize,
 ) -> Result<Fraction, WideAt>
-    requires grid { IsGrid rows worlds cells.now }
-    requires p_in { p < rows }
-    requires q_in { q < suc (rows + worlds) }
-    requires i_in { i < rows }
-    requires j_in { j < suc (rows + worlds) }
-    requires count { length scaled.now ≡ suc (rows + worlds) }
-    requires scaled { (k : ℕ) → k < suc (rows + worlds) → get_or scaled.now k zero_q ≡ div (cell_at rows cells.now p k) (cell_at rows cells.now p q) }
-    ensures value { IfOk result (λ r. r ≡ pivot_cell (cell_at rows cells.now) p q i j) }
-    ensures narrow { IfOk result (λ _. i ≢ p → IsNarrowCell (cell_at rows cells.now) p q i j) }
-    ensures refused { IfErr result (IsWideAt (IsPivotPlace rows worlds (cell_at rows cells.now) p q)) }
+    requires pivot { IsPivotOf grid.now pivot.now }
+    requires cell { IsOtherCell grid.now pivot.now row column }
+    requires scaled { scaled.now ≡ scaled_in grid.now pivot.now column }
+    ensures value { IfOk result (λ r. r ≡ pivoted_in grid.now pivot.now row column) }
+    ensures narrow { IfOk result (λ _. IsCellNarrow grid.now pivot.now row column) }
+    ensures refused { IfErr result (IsWideAt (GridPivotPlaces grid.now pivot.now)) }
 {
-    if i == p {
-        return Ok(scaled[j]);
-    }
-    let product = lost(cells, rows, worlds, &scaled[j], p, q, i, j)?;
-    reduced(cells, rows, worlds, &product, p, q, i, j)
+    let product = lost(grid, pivot, scaled, row, column)?;
+    reduced(grid, pivot, &product, row, column)
 }
 
-/// The cells after a pivot in row `p` and column `q`.
+/// A cell with a 0 in the pivot's row or column, which loses nothing.
+fn kept(grid: &Grid<'_>, pivot: &Pivot, row: usize, column: usize) -> Fraction
+    requires pivot { IsPivotOf grid.now pivot.now }
+    requires cell { IsOtherCell grid.now pivot.now row column }
+    requires zero { LosesNothing grid.now pivot.now row column }
+    ensures value { result ≡ pivoted_in grid.now pivot.now row column }
+    ensures narrow { IsCellNarrow grid.now pivot.now row column }
+{
+    let entry = grid.cell(row, column);
+    entry.fits();
+    entry
+}
+
+/// A cell after the pivot, by the pivot's new row.
+fn new_cell(
+    grid: &Grid<'_>,
+    pivot: &Pivot,
+    scaled: &[Fraction],
+    row: usize,
+    column: usize,
+) -> Result<Fraction, WideAt>
+    requires pivot { IsPivotOf grid.now pivot.now }
+    requires scaled { IsScaledRow grid.now pivot.now scaled.now }
+    requires row { row < grid.now.rows }
+    requires column { column < width grid.now }
+    ensures value { IfOk result (λ r. r ≡ pivoted_in grid.now pivot.now row column) }
+    ensures narrow { IfOk result (λ _. IsNarrowBeside grid.now pivot.now row column) }
+    ensures refused { IfErr result (IsWideAt (GridPivotPlaces grid.now pivot.now)) }
+{
+    if row == pivot.row {
+        return Ok(scaled[column]);
+    }
+    if scaled[column].is_zero() || grid.cell(row, pivot.column).is_zero() {
+        return Ok(kept(grid, pivot, row, column));
+    }
+    changed(grid, pivot, &scaled[column], row, column)
+}
+
+/// All cells after a pivot.
 pub(crate) fn pivoted_cells(
     alloc: Global,
-    cells: &[Fraction],
-    rows: usize,
-    worlds: usize,
-    p: usize,
-    q: usize,
+    grid: &Grid<'_>,
+    pivot: &Pivot,
 ) -> Result<Vec<Fraction>, TableError>
-    requires grid { IsGrid rows worlds cells.now }
-    requires p_in { p < rows }
-    requires q_in { q < suc (rows + worlds) }
-    requires pivot { cell_at rows cells.now p q ≢ zero_q }
-    ensures count { IfOk result (λ v. length v.items ≡ length cells.now) }
-    ensures value { IfOk result (λ v. (k : ℕ) → k < length cells.now → get_or v.items k zero_q ≡ pivot_cell (cell_at rows cells.now) p q (k % rows) (k / rows)) }
-    ensures narrow { IfOk result (λ _. IsNarrow (IsPivotPlace rows worlds (cell_at rows cells.now) p q)) }
-    ensures refused { IfErr result (IsRefusedAt (IsPivotPlace rows worlds (cell_at rows cells.now) p q)) }
+    requires pivot { IsPivotOf grid.now pivot.now }
+    ensures pivoted { IfOk result (λ v. ArePivoted grid.now pivot.now v.items) }
+    ensures narrow { IfOk result (λ _. IsNarrow (GridPivotPlaces grid.now pivot.now)) }
+    ensures refused { IfErr result (IsRefusedAt (GridPivotPlaces grid.now pivot.now)) }
 {
-    let scaled = scaled_row(alloc, cells, rows, worlds, p, q)?;
+    let scaled = scaled_row(alloc, grid, pivot)?;
+    let rows = grid.rows();
     let mut made = Vec::new(alloc);
-    for k in 0..cells.len() {
-        let next = new_cell(cells, rows, worlds, &scaled, p, q, k % rows, k / rows)?;
+    for k in 0..grid.len() {
+        let next = new_cell(grid, pivot, &scaled, k % rows, k / rows)?;
         made.push(next)?;
     }
     Ok(made)

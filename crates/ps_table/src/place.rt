@@ -2,6 +2,7 @@
 
 use ps_frac::{Fraction, Op};
 use ps_pool::Col;
+use thiserror::Error;
 
 /// A column or the right side.
 #[derive(Clone, Copy, PartialEq, Eq, Debug, Drop)]
@@ -28,7 +29,8 @@ pub enum Place {
 }
 
 /// An operation that was refused, with its place and operands.
-#[derive(Clone, Copy, PartialEq, Eq, Debug, Drop)]
+#[derive(Clone, Copy, PartialEq, Eq, Debug, Drop, Error)]
+#[error("a number of the table is too large")]
 pub struct WideAt {
     pub place: Place,
     pub op: Op,

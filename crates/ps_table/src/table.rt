@@ -1,17 +1,25 @@
 //! The table of a basis.
-ghost use Rattle.std.specs.Prelude.{◌≡◌, ◌≢◌, ℕ, suc, ◌+◌, ◌-◌, ◌^◌, ◌<◌, ◌≤◌, length, get_or, IfOk, IfErr};
-ghost use Rattle.ps_rational.specs.Rational.{Rational, zero_q};
-ghost use Rattle.ps_basis.specs.Table.{unit_at, HasHomes};
-ghost use Rattle.ps_table.specs.Tableau.{Tableau, spot, IsInside, entry_at, IsTableau, StandsFor, IsPivot, HasCosts, IsAdded, IsColumn, cost_at, part_at, carried_to};
-ghost use Rattle.ps_table.specs.Places.{IsPivotPlace, IsNewPlace, IsRefusedAt, IsCostWide, IsNarrow, IsCostPlace};
+ghost use Rattle.std.specs.Prelude.{◌≡◌, ◌≢◌, suc, ◌+◌, ◌<◌, ◌≤◌, length, get_or, IfOk, IfErr};
+ghost use Rattle.ps_rational.specs.Rational.{zero_q};
+ghost use Rattle.ps_table.specs.Tableau.{Tableau, IsTableau, most_rows, world_limit, rows_of};
+ghost use Rattle.ps_table.specs.Tableau.{HasColumn, number_of, entry_at, entry_of};
+ghost use Rattle.ps_table.specs.Tableau.{HasBasicHomes, HasUnitHomes, StandsForHomes};
+ghost use Rattle.ps_table.specs.Tableau.{IsPivot, IsAdded, StandsOn, StandsWith};
+ghost use Rattle.ps_table.specs.Pricing.{HasCosts, cost_at, part_at, carried_of, multiplier_of};
+ghost use Rattle.ps_table.specs.Places.{PivotPlaces, NewPlaces, CostPlaces, HomePlaces};
+ghost use Rattle.ps_table.specs.Places.{IsWideAt, IsRefusedAt, IsNarrow};
+ghost use Rattle.ps_table.specs.Grids.{grid_of, ArePivotedIn, IsMadeColumn};
+ghost use Rattle.ps_table.specs.Grids.{carried_before, IsSumNarrowAt};
 
 use crate::adding::new_column;
 use crate::at_place::plus_at;
-use crate::cells::{cell, place_of};
+use crate::cells::{cell, number_of as column_number};
 use crate::costs::{Costs, cost_of, cost_times};
 use crate::error::TableError;
 use crate::first::{first_basic, first_cells};
+use crate::grid::Grid;
 use crate::home::Home;
+use crate::pivot::Pivot;
 use crate::pivoting::pivoted_cells;
 use crate::place::{Place, WideAt};
 use ps_frac::Fraction;
@@ -20,7 +28,8 @@ use ps_pool::Col;
 use std::alloc::Global;
 use std::marker::Model;
 
-/// A table: the kinds of its homes, its columns one after the other, and the column that is basic in each row.
+/// A table: the kinds of its homes, its columns one after the other, and the column that is basic
+/// in each row.
 #[derive(Drop)]
 pub struct Table {
     alloc: Global,
@@ -35,21 +44,31 @@ impl Model for Table {
 
     ghost Value = { Tableau };
 
-    ghost view = { λ t. record { kinds = t.homes.items; worlds = t.worlds; cells = t.cells.items; basic = t.basic.items } };
+    ghost view = { λ t. record {
+      kinds = t.homes.items;
+      worlds = t.worlds;
+      cells = t.cells.items;
+      basic = t.basic.items;
+    } };
 
-    ghost invariant = { λ t. IsTableau (record { kinds = t.homes.items; worlds = t.worlds; cells = t.cells.items; basic = t.basic.items }) };
+    ghost invariant = { λ t. IsTableau (record {
+      kinds = t.homes.items;
+      worlds = t.worlds;
+      cells = t.cells.items;
+      basic = t.basic.items;
+    }) };
 }
 
 impl Table {
     /// The table of these homes, which are basic.
     pub fn new(alloc: Global, homes: &[Home]) -> Result<Table, NoMemory>
         requires some { 0 < length homes.now }
-        requires few { length homes.now ≤ 101 }
+        requires few { length homes.now ≤ most_rows }
         ensures kinds { IfOk result (λ t. t.kinds ≡ homes.now) }
         ensures worlds { IfOk result (λ t. t.worlds ≡ 0) }
-        ensures basic { IfOk result (λ t. (i : ℕ) → i < length homes.now → get_or t.basic i (Col.Home 0) ≡ Col.Home i) }
-        ensures cells { IfOk result (λ t. (i j : ℕ) → i < length homes.now → j ≤ length homes.now → entry_at t i j ≡ unit_at i (j - 1)) }
-        ensures stands { IfOk result (λ t. (A : ℕ → ℕ → Rational) → HasHomes (length homes.now) A → StandsFor A t) }
+        ensures basic { IfOk result (HasBasicHomes homes.now) }
+        ensures cells { IfOk result (HasUnitHomes homes.now) }
+        ensures stands { IfOk result (StandsForHomes homes.now) }
     {
         let cells = first_cells(alloc, homes.len())?;
         let basic = first_basic(alloc, homes.len())?;
@@ -66,9 +85,9 @@ impl Table {
 
     /// How many rows there are.
     pub fn rows(&self) -> u32
-        ensures value { result ≡ length self.now.kinds }
+        ensures value { result ≡ rows_of self.now }
         ensures some { 0 < result }
-        ensures few { result ≤ 101 }
+        ensures few { result ≤ most_rows }
         ensures tableau { IsTableau self.now }
     {
         self.homes.len() as u32
@@ -83,7 +102,7 @@ impl Table {
 
     /// The kind of a row's home.
     pub fn home(&self, row: u32) -> Home
-        requires { row < length self.now.kinds }
+        requires { row < rows_of self.now }
         ensures value { result ≡ get_or self.now.kinds row Home.Slack }
     {
         self.homes[row as usize]
@@ -91,9 +110,9 @@ impl Table {
 
     /// The column that is basic in a row.
     pub fn basic(&self, row: u32) -> Col
-        requires { row < length self.now.kinds }
+        requires { row < rows_of self.now }
         ensures value { result ≡ get_or self.now.basic row (Col.Home 0) }
-        ensures inside { IsInside (length self.now.kinds) self.now.worlds result }
+        ensures inside { HasColumn self.now result }
     {
         self.basic[row as usize]
     }
@@ -101,7 +120,7 @@ impl Table {
     /// The entry of the right side in a row.
     #[tactic(auto, using(crate::proofs::Columns::cell_within))]
     pub fn value(&self, row: u32) -> Fraction
-        requires { row < length self.now.kinds }
+        requires { row < rows_of self.now }
         ensures value { result ≡ entry_at self.now row 0 }
     {
         cell(&self.cells, self.homes.len(), row as usize, 0)
@@ -110,38 +129,53 @@ impl Table {
     /// The entry of a column in a row.
     #[tactic(auto, using(crate::proofs::Columns::cell_within))]
     pub fn entry(&self, row: u32, col: Col) -> Fraction
-        requires row { row < length self.now.kinds }
-        requires col { IsInside (length self.now.kinds) self.now.worlds col }
-        ensures value { result ≡ entry_at self.now row (spot (length self.now.kinds) col) }
+        requires row { row < rows_of self.now }
+        requires col { HasColumn self.now col }
+        ensures value { result ≡ entry_of self.now row col }
     {
         let rows = self.homes.len();
-        cell(&self.cells, rows, row as usize, place_of(rows, col))
+        cell(&self.cells, rows, row as usize, column_number(rows, col))
     }
 
     /// What the rows carry of a column: the sum of the basic columns' costs times the entries.
     pub fn carried(&self, costs: &Costs, col: Col) -> Result<Fraction, WideAt>
         requires costs { HasCosts costs.now self.now }
-        requires col { IsInside (length self.now.kinds) self.now.worlds col }
-        ensures value { IfOk result (λ r. r ≡ carried_to self.now costs.now (spot (length self.now.kinds) col) (length self.now.kinds)) }
-        ensures narrow { IfOk result (λ _. IsNarrow (IsCostPlace self.now costs.now col)) }
-        ensures refused { IfErr result (IsCostWide self.now costs.now col) }
+        requires col { HasColumn self.now col }
+        ensures value { IfOk result (λ r. r ≡ carried_of self.now costs.now col) }
+        ensures narrow { IfOk result (λ _. IsNarrow (CostPlaces self.now costs.now col)) }
+        ensures refused { IfErr result (IsWideAt (CostPlaces self.now costs.now col)) }
     {
         let mut sum = Fraction::new(0, 1);
         for row in 0..self.rows() {
-            let part = self.part(costs, col, row);
-            match plus_at(Place::Cost { col, row }, &sum, &part) {
-                Ok(next) => sum = next,
-                Err(wide) => return Err(wide),
-            }
+            sum = self.sum_with(costs, col, row, &sum)?;
         }
         Ok(sum)
+    }
+
+    /// The sum of what the rows before row `row` carry of a column, and of what that row does.
+    fn sum_with(
+        &self,
+        costs: &Costs,
+        col: Col,
+        row: u32,
+        sum: &Fraction,
+    ) -> Result<Fraction, WideAt>
+        requires costs { HasCosts costs.now self.now }
+        requires col { HasColumn self.now col }
+        requires row { row < rows_of self.now }
+        requires sum { sum.now ≡ carried_before self.now costs.now col row }
+        ensures value { IfOk result (λ r. r ≡ carried_before self.now costs.now col (suc row)) }
+        ensures narrow { IfOk result (λ _. IsSumNarrowAt self.now costs.now col row) }
+        ensures refused { IfErr result (IsWideAt (CostPlaces self.now costs.now col)) }
+    {
+        plus_at(Place::Cost { col, row }, sum, &self.part(costs, col, row))
     }
 
     /// The cost of a column.
     pub fn cost(&self, costs: &Costs, col: Col) -> Fraction
         requires costs { HasCosts costs.now self.now }
-        requires col { IsInside (length self.now.kinds) self.now.worlds col }
-        ensures value { result ≡ cost_at costs.now (spot (length self.now.kinds) col) }
+        requires col { HasColumn self.now col }
+        ensures value { result ≡ cost_at costs.now (number_of self.now col) }
     {
         let cost = cost_of(costs, self.rows() as usize, self.worlds() as usize, col);
         Fraction::new(cost as i128, 1)
@@ -150,9 +184,9 @@ impl Table {
     /// What row `row` carries of a column.
     fn part(&self, costs: &Costs, col: Col, row: u32) -> Fraction
         requires costs { HasCosts costs.now self.now }
-        requires col { IsInside (length self.now.kinds) self.now.worlds col }
-        requires row { row < length self.now.kinds }
-        ensures value { result ≡ part_at self.now costs.now (spot (length self.now.kinds) col) row }
+        requires col { HasColumn self.now col }
+        requires row { row < rows_of self.now }
+        ensures value { result ≡ part_at self.now costs.now (number_of self.now col) row }
     {
         let cost = cost_of(
             costs,
@@ -166,57 +200,78 @@ impl Table {
     /// What the rows carry of a row's home.
     pub fn multiplier(&self, costs: &Costs, row: u32) -> Result<Fraction, WideAt>
         requires costs { HasCosts costs.now self.now }
-        requires row { row < length self.now.kinds }
-        ensures value { IfOk result (λ r. r ≡ carried_to self.now costs.now (suc row) (length self.now.kinds)) }
-        ensures narrow { IfOk result (λ _. IsNarrow (IsCostPlace self.now costs.now (Col.Home row))) }
-        ensures refused { IfErr result (IsCostWide self.now costs.now (Col.Home row)) }
+        requires row { row < rows_of self.now }
+        ensures value { IfOk result (λ r. r ≡ multiplier_of self.now costs.now row) }
+        ensures narrow { IfOk result (λ _. IsNarrow (HomePlaces self.now costs.now row)) }
+        ensures refused { IfErr result (IsWideAt (HomePlaces self.now costs.now row)) }
     {
         self.carried(costs, Col::Home(row))
     }
 
+    /// The entries by row and column.
+    fn grid(&self) -> Grid<'_>
+        ensures value { result ≡ grid_of self.now }
+    {
+        Grid::of(self.homes.len(), self.worlds as usize, &self.cells)
+    }
+
+    /// The column of a new world with these entries.
+    fn new_column(&self, entries: &[i64]) -> Result<Vec<Fraction>, TableError>
+        requires count { length entries.now ≡ rows_of self.now }
+        ensures made { IfOk result (λ v. IsMadeColumn (grid_of self.now) entries.now v.items) }
+        ensures narrow { IfOk result (λ _. IsNarrow (NewPlaces self.now entries.now)) }
+        ensures refused { IfErr result (IsRefusedAt (NewPlaces self.now entries.now)) }
+    {
+        new_column(self.alloc, &self.grid(), entries)
+    }
+
     /// Adds the column of a world with these entries, and answers its number.
     pub fn add_world(&mut self, entries: &[i64]) -> Result<u32, TableError>
-        requires count { length entries.now ≡ length self.old.kinds }
-        requires room { self.old.worlds + 1 < 2 ^ 32 }
+        requires count { length entries.now ≡ rows_of self.old }
+        requires room { self.old.worlds + 1 < world_limit }
         ensures number { IfOk result (λ n. n ≡ self.old.worlds + 1) }
         ensures added { IfOk result (λ _. IsAdded entries.now self.old self.new) }
-        ensures stands { IfOk result (λ _. (A : ℕ → ℕ → Rational) → IsColumn entries.now (length self.old.kinds) (suc (length self.old.kinds + self.old.worlds)) A → StandsFor A self.old → StandsFor A self.new) }
-        ensures narrow { IfOk result (λ _. IsNarrow (IsNewPlace (length self.old.kinds) (entry_at self.old) entries.now)) }
-        ensures refused { IfErr result (IsRefusedAt (IsNewPlace (length self.old.kinds) (entry_at self.old) entries.now)) }
+        ensures stands { IfOk result (λ _. StandsWith entries.now self.old self.new) }
+        ensures narrow { IfOk result (λ _. IsNarrow (NewPlaces self.old entries.now)) }
+        ensures refused { IfErr result (IsRefusedAt (NewPlaces self.old entries.now)) }
         ensures same { IfErr result (λ _. self.new ≡ self.old) }
     {
-        let column = new_column(
-            self.alloc,
-            &self.cells,
-            self.homes.len(),
-            self.worlds as usize,
-            entries,
-        )?;
+        let column = self.new_column(entries)?;
         self.cells.extend_from_slice(&column)?;
         self.worlds += 1;
         Ok(self.worlds)
     }
 
+    /// The cells after a pivot in a row and a column.
+    fn pivoted(&self, row: u32, col: Col) -> Result<Vec<Fraction>, TableError>
+        requires row { row < rows_of self.now }
+        requires col { HasColumn self.now col }
+        requires pivot { entry_of self.now row col ≢ zero_q }
+        ensures count { IfOk result (λ v. length v.items ≡ length self.now.cells) }
+        ensures pivoted { IfOk result (λ v. ArePivotedIn self.now row col v.items) }
+        ensures narrow { IfOk result (λ _. IsNarrow (PivotPlaces self.now row col)) }
+        ensures refused { IfErr result (IsRefusedAt (PivotPlaces self.now row col)) }
+    {
+        let pivot = Pivot {
+            row: row as usize,
+            column: column_number(self.homes.len(), col),
+            by: self.entry(row, col),
+        };
+        pivoted_cells(self.alloc, &self.grid(), &pivot)
+    }
+
     /// Makes column `col` basic in row `row`.
     pub fn pivot(&mut self, row: u32, col: Col) -> Result<(), TableError>
-        requires row { row < length self.old.kinds }
-        requires col { IsInside (length self.old.kinds) self.old.worlds col }
-        requires pivot { entry_at self.old row (spot (length self.old.kinds) col) ≢ zero_q }
+        requires row { row < rows_of self.old }
+        requires col { HasColumn self.old col }
+        requires pivot { entry_of self.old row col ≢ zero_q }
         ensures pivot { IfOk result (λ _. IsPivot row col self.old self.new) }
-        ensures stands { IfOk result (λ _. (A : ℕ → ℕ → Rational) → StandsFor A self.old → StandsFor A self.new) }
-        ensures narrow { IfOk result (λ _. IsNarrow (IsPivotPlace (length self.old.kinds) self.old.worlds (entry_at self.old) row (spot (length self.old.kinds) col))) }
-        ensures refused { IfErr result (IsRefusedAt (IsPivotPlace (length self.old.kinds) self.old.worlds (entry_at self.old) row (spot (length self.old.kinds) col))) }
+        ensures stands { IfOk result (λ _. StandsOn self.old self.new) }
+        ensures narrow { IfOk result (λ _. IsNarrow (PivotPlaces self.old row col)) }
+        ensures refused { IfErr result (IsRefusedAt (PivotPlaces self.old row col)) }
         ensures same { IfErr result (λ _. self.new ≡ self.old) }
     {
-        let rows = self.homes.len();
-        let made = pivoted_cells(
-            self.alloc,
-            &self.cells,
-            rows,
-            self.worlds as usize,
-            row as usize,
-            place_of(rows, col),
-        )?;
+        let made = self.pivoted(row, col)?;
         self.cells = made;
         self.basic[row as usize] = col;
         Ok(())

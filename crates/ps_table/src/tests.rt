@@ -5,28 +5,22 @@ mod conditions;
 mod refusals;
 
 use crate::{Home, Table};
-use ps_frac::Fraction;
+use conditions::{adds, has_entry, has_value, pivots};
 use ps_pool::Col;
 use std::test::Fail;
+
+/// A world of entry 3 becomes basic, so the value is 1/3, and a world of entry 2 has entry 2/3.
+fn one_row(table: &mut Table) -> bool {
+    adds(table, &[3])
+        && pivots(table, 0, Col::World(1))
+        && has_value(table, 0, (1, 3))
+        && adds(table, &[2])
+        && has_entry(table, 0, Col::World(2), (2, 3))
+}
 
 #[test]
 fn a_pivot_makes_a_world_basic(rt: HostRuntime) -> Result<(), Fail> {
     let mut table = Table::new(rt.alloc(), &[Home::Artificial])?;
-    let first = Col::World(1);
-    assert!(rt; table.home(0) == Home::Artificial);
-    assert!(rt; table.add_world(&[3]).is_ok());
-    if table.worlds() == 1 && table.rows() == 1 && !table.entry(0, first).is_zero() {
-        assert!(rt; table.pivot(0, first).is_ok());
-        if table.worlds() == 1 && table.rows() == 1 {
-            assert!(rt; table.value(0) == Fraction::new(1, 3));
-            assert!(rt; table.basic(0) == first);
-            assert!(rt; table.add_world(&[2]).is_ok());
-            if table.worlds() == 2 && table.rows() == 1 {
-                assert!(rt; table.entry(0, Col::World(2)) == Fraction::new(2, 3));
-                return Ok(());
-            }
-        }
-    }
-    assert!(rt; false);
+    assert!(rt; one_row(&mut table));
     Ok(())
 }

@@ -1,6 +1,6 @@
 //! What rows carry of columns, worked out by hand.
 
-use super::conditions::{has_costs, is_fraction, is_inside};
+use super::conditions::{adds, has_costs, is_fraction, is_inside, pivots};
 use crate::{Costs, Home, Table};
 use ps_frac::Fraction;
 use ps_io::List;
@@ -46,21 +46,10 @@ fn costs(alloc: Global, case: &Case) -> Result<Costs, Fail> {
     })
 }
 
-/// Rows 1/3, 1/3, 0, 1, 1/3 and -2/3, -2/3, 1, 0, -14/3, where the first world and the second home are basic.
-fn table(alloc: Global) -> Result<Option<Table>, Fail> {
-    let mut table = Table::new(alloc, &[Home::Artificial, Home::Slack])?;
-    let added = table.add_world(&[3, 2]).is_ok();
-    if !added || table.rows() != 2 || table.worlds() != 1 {
-        return Ok(None);
-    }
-    let added = table.add_world(&[1, -4]).is_ok();
-    if !added || table.rows() != 2 || table.worlds() != 2 {
-        return Ok(None);
-    }
-    if table.entry(0, Col::World(1)).is_zero() || table.pivot(0, Col::World(1)).is_err() {
-        return Ok(None);
-    }
-    Ok(Some(table))
+/// Rows 1/3, 1/3, 0, 1, 1/3 and -2/3, -2/3, 1, 0, -14/3, where the first world and the second home
+/// are basic.
+fn is_made(table: &mut Table) -> bool {
+    adds(table, &[3, 2]) && adds(table, &[1, -4]) && pivots(table, 0, Col::World(1))
 }
 
 /// Whether the rows carry so much of a column.
@@ -92,24 +81,39 @@ fn has_cost(table: &Table, costs: &Costs, col: Col, expected: i8) -> bool {
         && is_fraction(&table.cost(costs, col), (expected as i128, 1))
 }
 
+/// Whether the rows carry what the case says of each column.
+fn carries_all(table: &Table, costs: &Costs, case: &Case) -> bool {
+    for k in 0..4 {
+        if !carries(table, costs, COLUMNS[k], case.carried[k]) {
+            return false;
+        }
+    }
+    true
+}
+
+/// Whether a row's multiplier and the costs of its columns are those of the case.
+fn is_priced(table: &Table, costs: &Costs, case: &Case, row: usize) -> bool {
+    row < 2
+        && multiplies(table, costs, row as u32, case.carried[row])
+        && has_cost(table, costs, COLUMNS[row], case.homes[row])
+        && has_cost(table, costs, COLUMNS[2 + row], case.worlds[row])
+}
+
+/// Whether a table with the costs of the case is as it says.
+fn is_case(table: &Table, costs: &Costs, case: &Case) -> bool {
+    carries_all(table, costs, case)
+        && is_priced(table, costs, case, 0)
+        && is_priced(table, costs, case, 1)
+}
+
 #[test]
 fn rows_carry_columns(rt: HostRuntime) -> Result<(), Fail> {
     let alloc = rt.alloc();
-    match table(alloc)? {
-        Some(table) => {
-            for case in &CASES {
-                let costs = costs(alloc, case)?;
-                for k in 0..4 {
-                    assert!(rt; carries(&table, &costs, COLUMNS[k], case.carried[k]));
-                }
-                for row in 0..2 {
-                    assert!(rt; multiplies(&table, &costs, row as u32, case.carried[row]));
-                    assert!(rt; has_cost(&table, &costs, COLUMNS[row], case.homes[row]));
-                    assert!(rt; has_cost(&table, &costs, COLUMNS[2 + row], case.worlds[row]));
-                }
-            }
-        }
-        None => assert!(rt; false),
+    let mut table = Table::new(alloc, &[Home::Artificial, Home::Slack])?;
+    assert!(rt; is_made(&mut table));
+    for case in &CASES {
+        let costs = costs(alloc, case)?;
+        assert!(rt; is_case(&table, &costs, case));
     }
     Ok(())
 }

@@ -1,7 +1,8 @@
 //! The conditions of calls, as tests.
 
 ghost use Rattle.std.specs.Prelude.{◌≡◌, ℕ, ◌<◌, ◌≤ℤ◌, length, get_or, pos, negsuc, IsTrue};
-ghost use Rattle.ps_table.specs.Tableau.{HasCosts, IsInside};
+ghost use Rattle.ps_table.specs.Tableau.{HasColumn};
+ghost use Rattle.ps_table.specs.Pricing.{HasCosts};
 
 use crate::{Costs, Table};
 use ps_frac::Fraction;
@@ -34,7 +35,7 @@ pub(crate) fn has_costs(table: &Table, costs: &Costs) -> bool
 
 /// Whether there is such a column.
 pub(crate) fn is_inside(table: &Table, col: Col) -> bool
-    ensures { IsTrue result → IsInside (length table.now.kinds) table.now.worlds col }
+    ensures { IsTrue result → HasColumn table.now col }
 {
     match col {
         Col::Home(home) => home < table.rows(),
@@ -45,4 +46,30 @@ pub(crate) fn is_inside(table: &Table, col: Col) -> bool
 /// Whether the answer is the fraction of a numerator and a denominator.
 pub(crate) fn is_fraction(answer: &Fraction, expected: (i128, i128)) -> bool {
     answer.numerator() == expected.0 && answer.denominator() == expected.1
+}
+
+/// Adds a world, and tells whether it was added.
+pub(crate) fn adds(table: &mut Table, entries: &[i64]) -> bool {
+    if entries.len() != table.rows() as usize || table.worlds() >= 10 {
+        return false;
+    }
+    table.add_world(entries).is_ok()
+}
+
+/// Makes a column basic, and tells whether it was done.
+pub(crate) fn pivots(table: &mut Table, row: u32, col: Col) -> bool {
+    if row >= table.rows() || !is_inside(table, col) || table.entry(row, col).is_zero() {
+        return false;
+    }
+    table.pivot(row, col).is_ok()
+}
+
+/// Whether a row has this value.
+pub(crate) fn has_value(table: &Table, row: u32, expected: (i128, i128)) -> bool {
+    row < table.rows() && is_fraction(&table.value(row), expected)
+}
+
+/// Whether a column has this entry in a row.
+pub(crate) fn has_entry(table: &Table, row: u32, col: Col, expected: (i128, i128)) -> bool {
+    row < table.rows() && is_inside(table, col) && is_fraction(&table.entry(row, col), expected)
 }

@@ -1,7 +1,7 @@
-//! Refusals at each kind of place. The operands were computed by Python's `fractions`, by which a single
-//! operation is wide in each case.
+//! Refusals at each kind of place. The operands were computed by Python's `fractions`, by which a
+//! single operation is wide in each case.
 
-use super::conditions::{has_costs, is_fraction, is_inside};
+use super::conditions::{adds, has_costs, is_fraction, is_inside, pivots};
 use crate::{Costs, Home, Place, Table, TableCol, TableError, WideAt};
 use ps_frac::{Fraction, Op};
 use ps_io::List;
@@ -23,8 +23,8 @@ enum Change {
     Pivot(u32, Col),
 }
 
-/// A table of 9 rows, of which rows 1 to 6 have basic worlds, each with entry `own` in its row and `next` in
-/// the row below; changes that are done; and a change that is refused.
+/// A table of 9 rows, of which rows 1 to 6 have basic worlds, each with entry `own` in its row and
+/// `next` in the row below; changes that are done; and a change that is refused.
 struct Case {
     own: i64,
     next: i64,
@@ -130,33 +130,49 @@ fn changed(table: &mut Table, change: Change) -> Option<Result<(), TableError>> 
     }
 }
 
-/// Whether a change is done.
+/// Makes a change, and tells whether it was done.
 fn is_done(table: &mut Table, change: Change) -> bool {
-    match changed(table, change) {
-        Some(answer) => answer.is_ok(),
-        None => false,
+    match change {
+        Change::World(entries) => adds(table, &entries),
+        Change::Pivot(row, col) => pivots(table, row, col),
     }
 }
 
-/// The table of a case, before its changes.
-fn chain(alloc: Global, own: i64, next: i64) -> Result<Option<Table>, Fail> {
-    let homes = [Home::Slack; 9];
-    let mut table = Table::new(alloc, &homes)?;
-    for row in 1..7usize {
-        let mut entries = [0i64; 9];
+/// Makes a change, where there is one, and tells whether it was done.
+fn is_done_or_none(table: &mut Table, change: Option<Change>) -> bool {
+    match change {
+        Some(change) => is_done(table, change),
+        None => true,
+    }
+}
+
+/// The entries of a world of the chain.
+fn link(row: usize, own: i64, next: i64) -> [i64; 9] {
+    let mut entries = [0i64; 9];
+    if row < 8 {
         entries[row] = own;
         entries[row + 1] = next;
-        let added = is_done(&mut table, Change::World(entries));
-        if !added
-            || !is_done(
-                &mut table,
-                Change::Pivot(row as u32, Col::World(row as u32)),
-            )
-        {
-            return Ok(None);
+    }
+    entries
+}
+
+/// Makes worlds basic in rows 1 to 6, one after the other.
+fn is_chained(table: &mut Table, own: i64, next: i64) -> bool {
+    for row in 1..7u32 {
+        let added = adds(table, &link(row as usize, own, next));
+        if !added || !pivots(table, row, Col::World(row)) {
+            return false;
         }
     }
-    Ok(Some(table))
+    true
+}
+
+/// Makes the table of a case.
+fn is_prepared(table: &mut Table, case: &Case) -> bool {
+    is_chained(table, case.own, case.next)
+        && is_done_or_none(table, case.done[0])
+        && is_done_or_none(table, case.done[1])
+        && is_done_or_none(table, case.done[2])
 }
 
 /// The entries of all rows, one row after the other.
@@ -200,20 +216,12 @@ fn is_refused(answer: Option<Result<(), TableError>>, case: &Case) -> bool {
 fn wide_places_are_named(rt: HostRuntime) -> Result<(), Fail> {
     let alloc = rt.alloc();
     for case in &CASES {
-        match chain(alloc, case.own, case.next)? {
-            Some(mut table) => {
-                for k in 0..3 {
-                    if let Some(change) = case.done[k] {
-                        assert!(rt; is_done(&mut table, change));
-                    }
-                }
-                let before = (entries(alloc, &table)?, basics(alloc, &table)?);
-                assert!(rt; is_refused(changed(&mut table, case.refused), case));
-                assert!(rt; before.0 == entries(alloc, &table)?);
-                assert!(rt; before.1 == basics(alloc, &table)?);
-            }
-            None => assert!(rt; false),
-        }
+        let mut table = Table::new(alloc, &[Home::Slack; 9])?;
+        assert!(rt; is_prepared(&mut table, case));
+        let before = (entries(alloc, &table)?, basics(alloc, &table)?);
+        assert!(rt; is_refused(changed(&mut table, case.refused), case));
+        let after = (entries(alloc, &table)?, basics(alloc, &table)?);
+        assert!(rt; before.0 == after.0 && before.1 == after.1);
     }
     Ok(())
 }
@@ -250,22 +258,27 @@ fn is_sum_refused(answer: Result<Fraction, WideAt>) -> bool {
     }
 }
 
+/// Makes the table whose rows carry too much of home 1.
+fn is_heavy(table: &mut Table) -> bool {
+    is_chained(table, 1, LARGE)
+        && adds(table, &[0, 0, 0, 0, 0, 0, 0, 1, -1])
+        && pivots(table, 7, Col::World(7))
+}
+
+/// Whether what is carried of home 1, and its multiplier, are refused.
+fn are_sums_refused(table: &Table, costs: &Costs) -> bool {
+    has_costs(table, costs)
+        && is_inside(table, Col::Home(1))
+        && is_sum_refused(table.carried(costs, Col::Home(1)))
+        && is_sum_refused(table.multiplier(costs, 1))
+}
+
 #[test]
 fn wide_sums_are_named(rt: HostRuntime) -> Result<(), Fail> {
     let alloc = rt.alloc();
     let costs = costs(alloc, 8, 6)?;
-    match chain(alloc, 1, LARGE)? {
-        Some(mut table) => {
-            assert!(rt; is_done(&mut table, Change::World([0, 0, 0, 0, 0, 0, 0, 1, -1])));
-            assert!(rt; is_done(&mut table, Change::Pivot(7, Col::World(7))));
-            let met = has_costs(&table, &costs) && is_inside(&table, Col::Home(1));
-            assert!(rt; met);
-            if met {
-                assert!(rt; is_sum_refused(table.carried(&costs, Col::Home(1))));
-                assert!(rt; is_sum_refused(table.multiplier(&costs, 1)));
-            }
-        }
-        None => assert!(rt; false),
-    }
+    let mut table = Table::new(alloc, &[Home::Slack; 9])?;
+    assert!(rt; is_heavy(&mut table));
+    assert!(rt; are_sums_refused(&table, &costs));
     Ok(())
 }

@@ -1,26 +1,34 @@
-use Rattle.std.proofs.Common.{rules, suc, ◌+◌, length, arith}
+use Rattle.std.proofs.Common.{rules, suc, ◌+◌, length, arith, IfErr}
 use Rattle.ps_pool.specs.declared.col.Col.{Col}
 use Rattle.ps_pool.specs.declared.col.Col.TheVariants as col
-use Rattle.ps_rule.specs.Rule.{Improves}
-use Rattle.ps_table.specs.Tableau.{spot, IsInside, cost_at}
-use Rattle.ps_bland.specs.Runs.{face_of}
-use Rattle.ps_bland.proofs.Due.{narrow_next, entries_first}
+use Rattle.ps_table.specs.Tableau.{HasColumn}
+use Rattle.ps_table.specs.Places.{CostPlaces, IsWideAt}
+use Rattle.ps_bland.specs.Rounds.{ImprovesIn}
+use Rattle.ps_bland.proofs.Due.{narrow_next, entries_first, entry_wide, world_real}
 use Rattle.ps_bland.proofs.entering.entering.Goals as goal
 
-pub returns-in-Ok-true-clause-narrow : goal.returns-in-Ok-true-clause-narrow
-returns-in-Ok-true-clause-narrow c =
+pub returns-in_err-improves-clause-refused : goal.returns-in_err-improves-clause-refused
+returns-in_err-improves-clause-refused c =
     let t = c.args.table.now in
     let world : Col = col.World (c.loop-before.before + 1) in
-    let inside : IsInside (length t.kinds) t.worlds world = search rules in
-    let improves : Improves (face_of t) (cost_at c.args.costs.now) (spot (length t.kinds) world) = search rules in
-    entries_first c.args.costs.now t world improves (narrow_next c.args.costs.now t world (suc (length t.kinds + c.loop-before.before)) c.loop-before.invariant.narrow inside (omega arith) (λ _. c.in-Ok-true.ensures.narrow))
+    let inside : HasColumn t world = search rules in
+    let refused : IfErr c.from_residual-in_err-improves.result (IsWideAt (CostPlaces t c.args.costs.now world)) = search rules in
+    entry_wide c.args.costs.now t world c.from_residual-in_err-improves.result inside (world_real t c.loop-before.before) (λ j l. c.loop-before.invariant.none j (omega (arith, l))) refused
+
+pub returns-then-branch-clause-narrow : goal.returns-then-branch-clause-narrow
+returns-then-branch-clause-narrow c =
+    let t = c.args.table.now in
+    let world : Col = col.World (c.loop-before.before + 1) in
+    let inside : HasColumn t world = search rules in
+    let improves : ImprovesIn c.args.costs.now t world = search rules in
+    entries_first c.args.costs.now t world improves (narrow_next c.args.costs.now t world (suc (length t.kinds + c.loop-before.before)) c.loop-before.invariant.narrow inside (omega arith) (λ _. c.in_ok-improves.ensures.narrow))
 
 pub loop-before-preserved : goal.loop-before-preserved
 loop-before-preserved c =
     let t = c.args.table.now in
     let world : Col = col.World (c.loop-before.before + 1) in
-    let inside : IsInside (length t.kinds) t.worlds world = search rules in
+    let inside : HasColumn t world = search rules in
     record {
       none = search rules;
-      narrow = narrow_next c.args.costs.now t world (suc (length t.kinds + c.loop-before.before)) c.loop-before.invariant.narrow inside (omega arith) (λ _. c.in-Ok-false.ensures.narrow);
+      narrow = narrow_next c.args.costs.now t world (suc (length t.kinds + c.loop-before.before)) c.loop-before.invariant.narrow inside (omega arith) (λ _. c.in_ok-improves.ensures.narrow);
     }

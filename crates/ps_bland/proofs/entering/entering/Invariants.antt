@@ -1,11 +1,12 @@
 use Rattle.std.proofs.Common.{◌<◌, ◌+◌, ℕ, suc, length}
 use Rattle.ps_rule.specs.Rule.{Improves}
-use Rattle.ps_table.specs.Tableau.{cost_at}
-use Rattle.ps_bland.specs.Runs.{face_of, AreNarrowBefore}
+use Rattle.ps_table.specs.Pricing.{cost_at}
+use Rattle.ps_bland.specs.Rules.{simplex_of}
+use Rattle.ps_bland.specs.Rounds.{AreNarrowBefore}
 use Rattle.ps_bland.proofs.entering.entering.Given as goal
 
 abbrev pub invariant-loop-before : goal.invariant-loop-before
 invariant-loop-before l = record {
-  none : (j : ℕ) → j < suc (length l.table.kinds + l.before) → Improves (face_of l.table) (cost_at l.costs) j → ⊥;
+  none : (j : ℕ) → j < suc (length l.table.kinds + l.before) → Improves (simplex_of l.table) (cost_at l.costs) j → ⊥;
   narrow : AreNarrowBefore l.costs l.table (suc (length l.table.kinds + l.before));
 }

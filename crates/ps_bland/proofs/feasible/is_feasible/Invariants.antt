@@ -1,7 +1,7 @@
 use Rattle.std.proofs.Common.{◌≡◌, ◌<◌, ℕ, true}
 use Rattle.ps_rational.specs.Rational.{zero_q}
 use Rattle.ps_table.specs.Tableau.{basic_at, entry_at}
-use Rattle.ps_bland.specs.Runs.{artificial_at}
+use Rattle.ps_bland.specs.Rules.{artificial_at}
 use Rattle.ps_bland.proofs.feasible.is_feasible.Given as goal
 
 abbrev pub invariant-loop-row : goal.invariant-loop-row

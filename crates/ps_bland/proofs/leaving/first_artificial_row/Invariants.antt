@@ -1,8 +1,8 @@
 use Rattle.std.proofs.Common.{◌<◌, ℕ, length}
 use Rattle.ps_rule.specs.Rule.{IsArtificialRow}
-use Rattle.ps_table.specs.Tableau.{spot}
-use Rattle.ps_bland.specs.Runs.{face_of}
+use Rattle.ps_table.specs.Tableau.{number_in}
+use Rattle.ps_bland.specs.Rules.{simplex_of}
 use Rattle.ps_bland.proofs.leaving.first_artificial_row.Given as goal
 
 abbrev pub invariant-loop-row : goal.invariant-loop-row
-invariant-loop-row l = (i : ℕ) → i < l.row → IsArtificialRow (face_of l.table) (spot (length l.table.kinds) l.col) i → ⊥
+invariant-loop-row l = (i : ℕ) → i < l.row → IsArtificialRow (simplex_of l.table) (number_in (length l.table.kinds) l.col) i → ⊥

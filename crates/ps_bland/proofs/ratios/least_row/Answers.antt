@@ -1,12 +1,12 @@
 use Rattle.std.proofs.Common.{length}
-use Rattle.ps_table.specs.Tableau.{spot}
+use Rattle.ps_table.specs.Tableau.{number_in}
 use Rattle.ps_rational.proofs.Order.{above_not_zero}
 use Rattle.ps_bland.proofs.Steps.{first_least}
 use Rattle.ps_bland.proofs.ratios.least_row.Goals as goal
 
 pub loop-row-init : goal.loop-row-init
 loop-row-init c = record {
-  best = first_least c.args.table.now (spot (length c.args.table.now.kinds) c.args.col) c.first_rising-first.result c.first_rising-first.ensures.rising c.first_rising-first.ensures.first;
+  best = first_least c.args.table.now (number_in (length c.args.table.now.kinds) c.args.col) c.first_rising-first.result c.first_rising-first.ensures.rising c.first_rising-first.ensures.first;
   best_ratio = c.in_ok-ratio.ensures.value;
 }
 

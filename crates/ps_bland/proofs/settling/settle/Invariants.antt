@@ -1,7 +1,8 @@
 use Rattle.std.proofs.Common.{◌≡◌, ℕ}
 use Rattle.ps_rational.specs.Rational.{Rational}
 use Rattle.ps_table.specs.Tableau.{StandsFor}
-use Rattle.ps_bland.specs.Runs.{Ran, IsReady}
+use Rattle.ps_bland.specs.Runs.{Ran}
+use Rattle.ps_bland.specs.Ready.{IsReady}
 use Rattle.ps_bland.proofs.settling.settle.Given as goal
 
 abbrev pub invariant-loop-settled : goal.invariant-loop-settled

@@ -1,8 +1,10 @@
 use Rattle.std.proofs.Common.{◌≡◌, ◌<◌, ℕ, length, rules}
 use Rattle.ps_rule.specs.Rule.{Improves, Enters}
-use Rattle.ps_table.specs.Tableau.{spot, cost_at, IsInside}
-use Rattle.ps_bland.specs.Runs.{face_of, IsSame, IsLawful, IsDone}
-use Rattle.ps_bland.specs.Runs.IsDueWide.{at_ratio}
+use Rattle.ps_table.specs.Tableau.{number_in, IsInside}
+use Rattle.ps_table.specs.Pricing.{cost_at}
+use Rattle.ps_bland.specs.Rules.{simplex_of, IsLawful, IsDone}
+use Rattle.ps_bland.specs.Rounds.{IsSame}
+use Rattle.ps_bland.specs.Ends.IsDueWide.{at_ratio}
 use Rattle.ps_bland.proofs.Steps.{due_refusal}
 use Rattle.ps_bland.proofs.Due.{rest_narrow, out_narrow}
 use Rattle.ps_bland.proofs.Ready.{can_leave, ready_kept}
@@ -10,16 +12,16 @@ use Rattle.ps_bland.proofs.settling.step.Goals as goal
 
 pub leaving-requires-clause-can_leave : goal.leaving-requires-clause-can_leave
 leaving-requires-clause-can_leave c =
-    let q = spot (length c.args.table.now.kinds) c.in-Ok-Some.enter in
-    let enters : Enters (face_of c.args.table.now) (cost_at c.args.costs.now) q = search rules in
+    let q = number_in (length c.args.table.now.kinds) c.in-Ok-Some.enter in
+    let enters : Enters (simplex_of c.args.table.now) (cost_at c.args.costs.now) q = search rules in
     can_leave c.args.phase c.args.costs.now c.args.table.now q c.is_due_to_end.ensures.tableau c.requires.fits enters.improves
 
 pub returns-in-Err-leaving-clause-round : goal.returns-in-Err-leaving-clause-round
 returns-in-Err-leaving-clause-round c =
     let t = c.args.table.now in
-    let q = spot (length t.kinds) c.in-Ok-Some.enter in
+    let q = number_in (length t.kinds) c.in-Ok-Some.enter in
     let inside : IsInside (length t.kinds) t.worlds c.in-Ok-Some.enter = search rules in
-    let enters : Enters (face_of t) (cost_at c.args.costs.now) q = search rules in
+    let enters : Enters (simplex_of t) (cost_at c.args.costs.now) q = search rules in
     let unfinished : IsDone c.args.phase t → ⊥ = search rules in
     let same : IsSame t t c.args.trace.now c.args.trace.now c.args.left.now c.args.left.now = search rules in
     let some : 0 < c.args.left.now = search rules in
@@ -42,7 +44,7 @@ returns-clause-ready c =
 pub returns-in-Ok-None-clause-narrow : goal.returns-in-Ok-None-clause-narrow
 returns-in-Ok-None-clause-narrow c =
     let t = c.args.table.now in
-    let none : (j : ℕ) → Improves (face_of t) (cost_at c.args.costs.now) j → ⊥ = rw c.in-Ok-None.field-0-is at c.in-Ok-None.ensures.found in
+    let none : (j : ℕ) → Improves (simplex_of t) (cost_at c.args.costs.now) j → ⊥ = rw c.in-Ok-None.field-0-is at c.in-Ok-None.ensures.found in
     rest_narrow c.args.phase c.args.costs.now t c.args.left.now none c.in-Ok-None.ensures.narrow
 
 pub returns-then-left-eq0-clause-narrow : goal.returns-then-left-eq0-clause-narrow

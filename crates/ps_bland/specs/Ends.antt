@@ -1,0 +1,74 @@
+-- How the pivots of a phase end, and which places are due.
+use Rattle.std.specs.Prelude.{◌≡◌, ℕ, ◌<◌, false, Result, Ok, Err}
+use Rattle.ps_frac.specs.declared.wide.Op.TheVariants.{Div}
+use Rattle.ps_rule.specs.Rule.{Phase as RulePhase, First, Second, Improves, IsMoving, IsResting, Enters, IsRising, IsArtificialRow, ratio}
+use Rattle.ps_pool.specs.declared.col.Col.{Col}
+use Rattle.ps_table.specs.declared.costs.Costs.{Costs}
+use Rattle.ps_table.specs.declared.place.Place.TheVariants.{Ratio}
+use Rattle.ps_table.specs.declared.place.WideAt.{WideAt}
+use Rattle.ps_bland.specs.declared.error.SettleError.{SettleError}
+use Rattle.ps_bland.specs.declared.error.SettleError.TheVariants.{Wide, NoMemory}
+use Rattle.ps_table.specs.Tableau.{Tableau, number_of, entry_at, HasColumn}
+use Rattle.ps_table.specs.Pricing.{cost_at}
+use Rattle.ps_table.specs.Places.{IsOperationWide, IsWideAt, PivotPlaces, CostPlaces}
+use Rattle.ps_bland.specs.declared.phase.Phase.{Phase}
+use Rattle.ps_bland.specs.declared.settled.Settled.{Settled}
+use Rattle.ps_bland.specs.declared.settled.Settled.TheVariants.{Feasible, AtRest, OutOfPivots}
+use Rattle.ps_bland.specs.Rules.{stage, IsDone, IsLawful, is_artificial_column, simplex_of}
+
+-- the ratio of row i is too wide
+pub record IsRatioWide (t : Tableau) (q : ℕ) (w : WideAt) : Type 0 where
+  pub row : ℕ
+  pub rising : IsRising (simplex_of t) q row
+  pub is : w ≡ record { place = Ratio row; op = Div; left = entry_at t row 0; right = entry_at t row q }
+  pub wide : IsOperationWide Div (entry_at t row 0) (entry_at t row q)
+
+-- the sum for column q is too wide, and no column before it improves
+pub record IsEntryWide (costs : Costs) (t : Tableau) (w : WideAt) : Type 0 where
+  pub column : Col
+  pub inside : HasColumn t column
+  pub real : is_artificial_column t column ≡ false
+  pub least : (j : ℕ) → j < number_of t column → Improves (simplex_of t) (cost_at costs) j → ⊥
+  pub wide : IsWideAt (CostPlaces t costs column) w
+
+-- the least ratio decides which row leaves: in phase two there is no artificial row
+abbrev pub IsLeftToRatios : RulePhase → Tableau → ℕ → Type 0
+IsLeftToRatios First t q = Unit {0}
+IsLeftToRatios Second t q = (i : ℕ) → IsArtificialRow (simplex_of t) q i → ⊥
+
+-- a pivot is due: there is one by the rule, and one is left
+pub record IsPivotDue (phase : Phase) (costs : Costs) (t : Tableau) (left : ℕ) : Type 0 where
+  pub enter : Col
+  pub leave : ℕ
+  pub lawful : IsLawful phase costs t enter leave
+  pub some_left : 0 < left
+
+-- the operands at a due place of the table, where they are too wide; ratios and pivots are due only while a pivot is left
+pub data IsDueWide (phase : Phase) (costs : Costs) (t : Tableau) (left : ℕ) (w : WideAt) : Type 0 where
+  at_cost : (IsDone phase t → ⊥) → IsEntryWide costs t w → IsDueWide phase costs t left w
+  at_ratio : (q : Col) → (IsDone phase t → ⊥) → 0 < left → HasColumn t q
+      → Enters (simplex_of t) (cost_at costs) (number_of t q)
+      → IsLeftToRatios (stage phase) t (number_of t q) → IsRatioWide t (number_of t q) w → IsDueWide phase costs t left w
+  at_pivot : (q : Col) (p : ℕ) → 0 < left
+      → IsLawful phase costs t q p
+      → IsWideAt (PivotPlaces t p q) w → IsDueWide phase costs t left w
+
+-- the operands at no due place of the table are too wide
+abbrev pub AreDueNarrow : Phase → Costs → Tableau → ℕ → Type 0
+AreDueNarrow phase costs t left = (w : WideAt) → ¬ IsDueWide phase costs t left w
+
+-- a number of a due place is too wide, or a pivot that is due finds no memory
+abbrev pub IsDueRefusal : Phase → Costs → Tableau → ℕ → SettleError → Type 0
+IsDueRefusal phase costs t left (Wide w) = IsDueWide phase costs t left w
+IsDueRefusal phase costs t left NoMemory = IsPivotDue phase costs t left
+
+-- how the pivots of a phase end
+abbrev pub IsSettled : Phase → Costs → Tableau → ℕ → Settled → Type 0
+IsSettled phase costs t left Feasible = IsDone phase t
+IsSettled phase costs t left AtRest = IsResting (stage phase) (simplex_of t) (cost_at costs)
+IsSettled phase costs t left OutOfPivots = IsMoving (stage phase) (simplex_of t) (cost_at costs) × (left ≡ 0)
+
+-- an end, or a refusal at a due place of the table as it is left
+abbrev pub IsEnd : Phase → Costs → Tableau → ℕ → Result Settled SettleError → Type 0
+IsEnd phase costs t left (Ok s) = IsSettled phase costs t left s
+IsEnd phase costs t left (Err e) = IsDueRefusal phase costs t left e

@@ -1,0 +1,155 @@
+-- What the code has looked at so far, and what one round does.
+use Rattle.std.specs.Prelude.{◌≡◌, ◌≢◌, ℕ, suc, ◌+◌, ◌<◌, true, false, List, [], ◌∷◌, ◌++◌, length, Option, Some, None, Result, Ok, Err}
+use Rattle.ps_rational.specs.Rational.{Rational, zero_q}
+use Rattle.ps_rule.specs.Rule.{Phase as RulePhase, First, Second, Improves, Enters, IsRising, IsArtificialRow, IsLeastArtificialRow, ratio, Precedes, HasLeastRatio, Leaves}
+use Rattle.ps_pool.specs.declared.col.Col.{Col}
+use Rattle.ps_table.specs.declared.costs.Costs.{Costs}
+use Rattle.ps_table.specs.declared.place.WideAt.{WideAt}
+use Rattle.ps_bland.specs.declared.error.SettleError.{SettleError}
+use Rattle.ps_bland.specs.declared.error.SettleError.TheVariants.{Wide, NoMemory}
+use Rattle.ps_table.specs.Tableau.{Tableau, number_of, entry_at, entry_of, basic_at, HasColumn, IsPivot, StandsOn}
+use Rattle.ps_table.specs.Pricing.{cost_at}
+use Rattle.ps_table.specs.Places.{IsWideAt, PivotPlaces, CostPlaces, IsNarrow}
+use Rattle.ps_pool.specs.declared.event.Event.{Event}
+use Rattle.ps_pool.specs.declared.event.Event.TheVariants.{Pivot}
+use Rattle.ps_bland.specs.declared.phase.Phase.{Phase}
+use Rattle.ps_bland.specs.declared.settled.Settled.{Settled}
+use Rattle.ps_bland.specs.Rules.{artificial_at, IsLawful, is_artificial_column, simplex_of}
+use Rattle.ps_bland.specs.Ends.{IsRatioWide, IsEntryWide, IsLeftToRatios, AreDueNarrow, IsDueRefusal, IsSettled}
+
+-- the row of least ratio among the rows before row n
+pub record IsLeastBefore (t : Tableau) (q n p : ℕ) : Type 0 where
+  pub rising : IsRising (simplex_of t) q p
+  pub least : (i : ℕ) → i < n → IsRising (simplex_of t) q i → Precedes (simplex_of t) q p i
+
+-- ---- the rule's words, said of a column by its name
+abbrev pub ImprovesIn : Costs → Tableau → Col → Type 0
+ImprovesIn costs t c = Improves (simplex_of t) (cost_at costs) (number_of t c)
+
+abbrev pub IsRisingIn : Tableau → Col → ℕ → Type 0
+IsRisingIn t c i = IsRising (simplex_of t) (number_of t c) i
+
+abbrev pub IsArtificialRowIn : Tableau → Col → ℕ → Type 0
+IsArtificialRowIn t c i = IsArtificialRow (simplex_of t) (number_of t c) i
+
+abbrev pub LeavesIn : RulePhase → Tableau → Col → ℕ → Type 0
+LeavesIn phase t c p = Leaves phase (simplex_of t) (number_of t c) p
+
+abbrev pub ratio_in : Tableau → Col → ℕ → Rational
+ratio_in t c i = ratio (simplex_of t) (number_of t c) i
+
+abbrev pub PrecedesIn : Tableau → Col → ℕ → ℕ → Type 0
+PrecedesIn t c p i = Precedes (simplex_of t) (number_of t c) p i
+
+abbrev pub HasLeastRatioIn : Tableau → Col → ℕ → Type 0
+HasLeastRatioIn t c p = HasLeastRatio (simplex_of t) (number_of t c) p
+
+-- the column's entry is 0 in no leaving row
+abbrev pub HasEntryIn : Tableau → Col → ℕ → Type 0
+HasEntryIn t c p = entry_of t p c ≢ zero_q
+
+-- no row before this one has an entry above 0 in the column
+abbrev pub NoneRisesBefore : Tableau → Col → ℕ → Type 0
+NoneRisesBefore t c n = (i : ℕ) → i < n → IsRising (simplex_of t) (number_of t c) i → ⊥
+
+-- a ratio of the column is too wide
+abbrev pub IsRatioWideIn : Tableau → Col → WideAt → Type 0
+IsRatioWideIn t c = IsRatioWide t (number_of t c)
+
+-- the least ratio decides which row leaves
+abbrev pub IsLeftToRatiosIn : RulePhase → Tableau → Col → Type 0
+IsLeftToRatiosIn phase t c = IsLeftToRatios phase t (number_of t c)
+
+-- the basic column of a row is no artificial above 0
+abbrev pub IsRowFeasible : Tableau → ℕ → Type 0
+IsRowFeasible t i = artificial_at t.kinds (basic_at t i) ≡ true → entry_at t i 0 ≡ zero_q
+
+-- why a pivot is refused, where it isn't want of memory
+abbrev pub IsPivotRefusal : Tableau → Col → ℕ → SettleError → Type 0
+IsPivotRefusal t q p (Wide w) = IsWideAt (PivotPlaces t p q) w
+IsPivotRefusal t q p NoMemory = Unit {0}
+
+-- one lawful pivot, with its event, counted
+pub record IsStep (phase : Phase) (costs : Costs) (old new : Tableau) (trace longer : List Event) (had left : ℕ) : Type 0 where
+  pub enter : Col
+  pub leave : ℕ
+  pub lawful : IsLawful phase costs old enter leave
+  pub pivot : IsPivot leave enter old new
+  pub stands : StandsOn old new
+  pub appended : longer ≡ trace ++ Pivot enter leave ∷ []
+  pub counted : left + 1 ≡ had
+
+-- nothing has changed
+pub record IsSame (old new : Tableau) (trace longer : List Event) (had left : ℕ) : Type 0 where
+  pub table_same : new ≡ old
+  pub trace_same : longer ≡ trace
+  pub left_same : left ≡ had
+
+-- one round: one lawful pivot, an end, or a refusal
+abbrev pub IsRound : Phase → Costs → Tableau → Tableau → List Event → List Event → ℕ → ℕ → Result (Option Settled) SettleError → Type 0
+IsRound phase costs old new trace longer had left (Ok None) = IsStep phase costs old new trace longer had left
+IsRound phase costs old new trace longer had left (Ok (Some s)) = IsSame old new trace longer had left × IsSettled phase costs old had s
+IsRound phase costs old new trace longer had left (Err e) = IsSame old new trace longer had left × IsDueRefusal phase costs old had e
+
+-- the entering column, or none
+abbrev pub IsEntering : Costs → Tableau → Option Col → Type 0
+IsEntering costs t (Some q) = HasColumn t q × Enters (simplex_of t) (cost_at costs) (number_of t q)
+IsEntering costs t None = (j : ℕ) → Improves (simplex_of t) (cost_at costs) j → ⊥
+
+-- the same, where only the columns before place n were looked at
+abbrev pub IsEnteringBefore : Costs → Tableau → ℕ → Option Col → Type 0
+IsEnteringBefore costs t n (Some q) = HasColumn t q × Enters (simplex_of t) (cost_at costs) (number_of t q)
+IsEnteringBefore costs t n None = (j : ℕ) → j < n → Improves (simplex_of t) (cost_at costs) j → ⊥
+
+-- column q has an entry above 0
+abbrev pub HasRising : Tableau → ℕ → Type 0
+HasRising t q = ((i : ℕ) → IsRising (simplex_of t) q i → ⊥) → ⊥
+
+-- the first artificial row, if there is one
+abbrev pub IsFirstArtificialRow : Tableau → ℕ → Option ℕ → Type 0
+IsFirstArtificialRow t q (Some p) = IsLeastArtificialRow (simplex_of t) q p
+IsFirstArtificialRow t q None = (i : ℕ) → IsArtificialRow (simplex_of t) q i → ⊥
+
+-- column q has an entry above 0, unless an artificial row leaves
+abbrev pub CanLeave : RulePhase → Tableau → ℕ → Type 0
+CanLeave Second t q = ((i : ℕ) → IsArtificialRow (simplex_of t) q i → ⊥) → HasRising t q
+CanLeave First t q = HasRising t q
+
+-- no sum is too wide for a column that comes before each one that improves, or is the first of them
+abbrev pub AreEntriesNarrow : Costs → Tableau → Type 0
+AreEntriesNarrow costs t = (w : WideAt) → ¬ IsEntryWide costs t w
+
+-- no sum is too wide for a slack or a world before number m
+abbrev pub AreNarrowBefore : Costs → Tableau → ℕ → Type 0
+AreNarrowBefore costs t m = (c : Col) → HasColumn t c → is_artificial_column t c ≡ false → number_of t c < m → IsNarrow (CostPlaces t costs c)
+
+-- no sum is too wide up to the entering column, or before number n where none was found
+abbrev pub AreNarrowTo : Costs → Tableau → ℕ → Option Col → Type 0
+AreNarrowTo costs t n (Some q) = AreNarrowBefore costs t (suc (number_of t q))
+AreNarrowTo costs t n None = AreNarrowBefore costs t n
+
+-- a round that comes to an end leaves no due place too wide
+abbrev pub IsNarrowEnd : Phase → Costs → Tableau → ℕ → Option Settled → Type 0
+IsNarrowEnd phase costs t left (Some s) = AreDueNarrow phase costs t left
+IsNarrowEnd phase costs t left None = Unit {0}
+
+-- column c has an entry above 0, unless an artificial row leaves
+abbrev pub CanLeaveIn : RulePhase → Tableau → Col → Type 0
+CanLeaveIn phase t c = CanLeave phase t (number_of t c)
+
+abbrev pub HasRisingIn : Tableau → Col → Type 0
+HasRisingIn t c = HasRising t (number_of t c)
+
+abbrev pub IsFirstArtificialRowIn : Tableau → Col → Option ℕ → Type 0
+IsFirstArtificialRowIn t c = IsFirstArtificialRow t (number_of t c)
+
+abbrev pub IsLeastBeforeIn : Tableau → Col → ℕ → ℕ → Type 0
+IsLeastBeforeIn t c n p = IsLeastBefore t (number_of t c) n p
+
+-- the first slack that improves, or none
+abbrev pub IsEnteringHome : Costs → Tableau → Option Col → Type 0
+IsEnteringHome costs t = IsEnteringBefore costs t (suc (length t.kinds))
+
+-- no sum is too wide up to it
+abbrev pub AreHomesNarrow : Costs → Tableau → Option Col → Type 0
+AreHomesNarrow costs t = AreNarrowTo costs t (suc (length t.kinds))

@@ -1,0 +1,51 @@
+-- A table as the rule sees it, and its pivots by the rule.
+use Rattle.std.specs.Prelude.{ℕ, suc, ◌+◌, ◌-◌, Bool, true, false, List, length, get_or}
+use Rattle.ps_rule.specs.Rule.{Phase as RulePhase, First, Second, SimplexTable, IsDueToEnd, Enters, Leaves}
+use Rattle.ps_table.specs.declared.home.Home.{Home}
+use Rattle.ps_table.specs.declared.home.Home.TheVariants.{Slack, Artificial}
+use Rattle.ps_pool.specs.declared.col.Col.{Col}
+use Rattle.ps_table.specs.declared.costs.Costs.{Costs}
+use Rattle.ps_table.specs.Tableau.{Tableau, number_of, entry_at, basic_at, HasColumn}
+use Rattle.ps_table.specs.Pricing.{cost_at}
+use Rattle.ps_bland.specs.declared.phase.Phase.{Phase}
+use Rattle.ps_bland.specs.declared.phase.Phase.TheVariants.{One, Lower, Upper}
+
+-- an artificial home
+abbrev pub is_artificial : Home → Bool
+is_artificial Slack = false
+is_artificial Artificial = true
+
+-- whether the column of this number is artificial; a world is none
+abbrev pub artificial_at : List Home → ℕ → Bool
+artificial_at kinds j = is_artificial (get_or kinds (j - 1) Slack)
+
+-- the table as the rule sees it
+abbrev pub simplex_of : Tableau → SimplexTable
+simplex_of t = record {
+  rows = length t.kinds;
+  width = suc (length t.kinds + t.worlds);
+  entry = entry_at t;
+  basic = basic_at t;
+  artificial = artificial_at t.kinds;
+}
+
+-- whether a column is an artificial one
+abbrev pub is_artificial_column : Tableau → Col → Bool
+is_artificial_column t c = artificial_at t.kinds (number_of t c)
+
+-- the phase of the simplex method: Lower and Upper are both phase two
+abbrev pub stage : Phase → RulePhase
+stage One = First
+stage Lower = Second
+stage Upper = Second
+
+-- phase one is due to end
+abbrev pub IsDone : Phase → Tableau → Type 0
+IsDone phase t = IsDueToEnd (stage phase) (simplex_of t)
+
+-- a pivot by the rule
+pub record IsLawful (phase : Phase) (costs : Costs) (t : Tableau) (enter : Col) (leave : ℕ) : Type 0 where
+  pub inside : HasColumn t enter
+  pub unfinished : IsDone phase t → ⊥
+  pub enters : Enters (simplex_of t) (cost_at costs) (number_of t enter)
+  pub leaves : Leaves (stage phase) (simplex_of t) (number_of t enter) leave

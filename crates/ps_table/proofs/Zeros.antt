@@ -1,0 +1,39 @@
+-- A cell with a 0 in the pivot's row or column.
+use Rattle.std.proofs.Common.{◌≡◌, ◌≢◌, ℕ, ◌<◌, [], ◌∷◌, sym, refl, ap, ◌∙◌, subst, inl, inr}
+use Rattle.ps_rational.specs.Rational.{Rational, mul, sub, neg, div, inverse, zero_q}
+use Rattle.ps_rational.specs.Wide.{Fits, size_limit, ProductIsWide, SumIsWide}
+use Rattle.ps_rational.proofs.Ring.{var, plus, by, minus, none}
+use Rattle.ps_rational.proofs.Field.{ring_q}
+use Rattle.ps_rational.proofs.Zeros.{left_narrow, right_narrow, difference_narrow}
+use Rattle.ps_table.specs.declared.pivot.Pivot.{Pivot}
+use Rattle.ps_table.specs.Grids.{GridCells, cell_in, scaled_in, lost_in, pivoted_in, LosesNothing, IsCellNarrow}
+use Rattle.ps_table.proofs.Columns.{pivot_other}
+
+-- 0 divided by the pivot's entry
+pub zero_scaled : (x by : Rational) → x ≡ zero_q → x ≡ div x by
+zero_scaled x y e = e ∙ ring_q (inverse y ∷ []) none (by none (var 0)) refl ∙ ap (λ k. div k y) (sym e)
+
+pub zero_scale_narrow : (x y : Rational) → x ≡ zero_q → ¬ ProductIsWide x (inverse y)
+zero_scale_narrow x y e = subst (λ k. ¬ ProductIsWide k (inverse y)) (sym e) (left_narrow (inverse y))
+
+module _ (g : GridCells) (p : Pivot) (i j : ℕ) (zero : LosesNothing g p i j) where
+  nothing : lost_in g p i j ≡ zero_q
+  nothing = elim zero [
+    | inl e ↦ ap (mul (cell_in g i p.column)) e ∙ ring_q (cell_in g i p.column ∷ []) (by (var 0) none) none refl
+    | inr e ↦ ap (λ k. mul k (scaled_in g p j)) e ∙ ring_q (scaled_in g p j ∷ []) (by none (var 0)) none refl
+  ]
+
+  pub kept_value : i ≢ p.row → cell_in g i j ≡ pivoted_in g p i j
+  kept_value ne =
+      ring_q (cell_in g i j ∷ []) (var 0) (plus (var 0) (minus none)) refl
+      ∙ ap (sub (cell_in g i j)) (sym nothing)
+      ∙ sym (pivot_other (cell_in g) p.row p.column i j ne)
+
+  pub kept_narrow : Fits (cell_in g i j).over → (cell_in g i j).under < size_limit → IsCellNarrow g p i j
+  kept_narrow ho hu = record {
+    times = elim zero [
+      | inl e ↦ subst (λ k. ¬ ProductIsWide (cell_in g i p.column) k) (sym e) (right_narrow (cell_in g i p.column))
+      | inr e ↦ subst (λ k. ¬ ProductIsWide k (scaled_in g p j)) (sym e) (left_narrow (scaled_in g p j))
+    ];
+    minus = subst (λ k. ¬ SumIsWide (cell_in g i j) (neg k)) (sym nothing) (difference_narrow (cell_in g i j) ho hu);
+  }

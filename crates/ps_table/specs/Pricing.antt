@@ -1,0 +1,43 @@
+-- Costs of columns, and what the rows of a table carry of them.
+use Rattle.std.specs.Prelude.{◌≡◌, ℕ, suc, ◌-◌, ◌<◌, ◌≤◌, ◌≤ℤ◌, ◌++◌, get_or, length, ℤ, pos, negsuc}
+use Rattle.ps_pool.specs.declared.col.Col.{Col}
+use Rattle.ps_table.specs.declared.costs.Costs.{Costs}
+use Rattle.ps_rational.specs.Rational.{Rational, fraction, mul}
+use Rattle.ps_rational.specs.Sums.{sum_to}
+use Rattle.ps_table.specs.Tableau.{Tableau, entry_at, basic_at, number_of, rows_of}
+
+-- the costs are from -1 to 1
+pub record HasSmallCosts (costs : Costs) : Type 0 where
+  pub homes_low : (i : ℕ) → i < length costs.homes → negsuc 0 ≤ℤ get_or costs.homes i (pos 0)
+  pub homes_high : (i : ℕ) → i < length costs.homes → get_or costs.homes i (pos 0) ≤ℤ pos 1
+  pub worlds_low : (i : ℕ) → i < length costs.worlds → negsuc 0 ≤ℤ get_or costs.worlds i (pos 0)
+  pub worlds_high : (i : ℕ) → i < length costs.worlds → get_or costs.worlds i (pos 0) ≤ℤ pos 1
+
+-- there is a cost for each column
+pub record HasCosts (costs : Costs) (t : Tableau) : Type 0 where
+  pub homes : length costs.homes ≡ length t.kinds
+  pub worlds : t.worlds ≤ length costs.worlds
+  pub small : HasSmallCosts costs
+
+-- the cost of the column of this number
+abbrev pub cost_number : Costs → ℕ → ℤ
+cost_number costs j = get_or (costs.homes ++ costs.worlds) (j - 1) (pos 0)
+
+abbrev pub cost_at : Costs → ℕ → Rational
+cost_at costs j = fraction (cost_number costs j) 1
+
+-- what row i carries of column j
+abbrev pub part_at : Tableau → Costs → ℕ → ℕ → Rational
+part_at t costs j i = mul (cost_at costs (basic_at t i)) (entry_at t i j)
+
+-- what the rows before row n carry
+abbrev pub carried_to : Tableau → Costs → ℕ → ℕ → Rational
+carried_to t costs j n = sum_to n (part_at t costs j)
+
+-- what the rows carry of a column
+abbrev pub carried_of : Tableau → Costs → Col → Rational
+carried_of t costs c = carried_to t costs (number_of t c) (rows_of t)
+
+-- the multiplier of a row: what the rows carry of its home
+abbrev pub multiplier_of : Tableau → Costs → ℕ → Rational
+multiplier_of t costs m = carried_to t costs (suc m) (rows_of t)

@@ -1,0 +1,86 @@
+//! The entries of a table by row and column.
+ghost use Rattle.std.specs.Prelude.{◌≡◌, suc, ◌+◌, ◌*◌, ◌<◌, ◌≤◌, length};
+ghost use Rattle.ps_table.specs.Tableau.{most_rows, world_limit, number_shown, IsShown};
+ghost use Rattle.ps_table.specs.Grids.{GridCells, IsGrid, cell_in, width};
+
+use crate::cells::{cell, shown};
+use crate::place::TableCol;
+use ps_frac::Fraction;
+use std::marker::Model;
+
+/// The entries of a table: columns one after the other, the right side, the homes, the worlds.
+#[derive(Drop)]
+pub(crate) struct Grid<'a> {
+    rows: usize,
+    worlds: usize,
+    cells: &'a [Fraction],
+}
+
+impl<'a> Model for Grid<'a> {
+    ghost use Rattle.ps_table.specs.Grids.{GridCells, IsGrid};
+
+    ghost Value = { GridCells };
+
+    ghost view = { λ g. record { rows = g.rows; worlds = g.worlds; cells = g.cells.now } };
+
+    ghost invariant = { λ g. IsGrid (record { rows = g.rows; worlds = g.worlds; cells = g.cells.now }) };
+}
+
+impl<'a> Grid<'a> {
+    /// The grid of columns of so many rows.
+    pub(crate) fn of(rows: usize, worlds: usize, cells: &'a [Fraction]) -> Grid<'a>
+        requires few { rows ≤ most_rows }
+        requires many { worlds < world_limit }
+        requires size { length cells.now ≡ suc (rows + worlds) * rows }
+        ensures value { result ≡ record { rows = rows; worlds = worlds; cells = cells.now } }
+    {
+        Grid {
+            rows,
+            worlds,
+            cells,
+        }
+    }
+
+    /// How many rows there are.
+    pub(crate) fn rows(&self) -> usize
+        ensures value { result ≡ self.now.rows }
+        ensures grid { IsGrid self.now }
+    {
+        self.rows
+    }
+
+    /// How many columns there are, with the right side.
+    pub(crate) fn width(&self) -> usize
+        ensures value { result ≡ width self.now }
+        ensures grid { IsGrid self.now }
+    {
+        1 + self.rows + self.worlds
+    }
+
+    /// How many cells there are.
+    pub(crate) fn len(&self) -> usize
+        ensures value { result ≡ length self.now.cells }
+        ensures grid { IsGrid self.now }
+    {
+        self.cells.len()
+    }
+
+    /// The cell of a row and a column.
+    #[tactic(auto, using(crate::proofs::Columns::cell_within))]
+    pub(crate) fn cell(&self, row: usize, column: usize) -> Fraction
+        requires row { row < self.now.rows }
+        requires column { column < width self.now }
+        ensures value { result ≡ cell_in self.now row column }
+    {
+        cell(self.cells, self.rows, row, column)
+    }
+
+    /// The column of a number, as a refusal names it.
+    pub(crate) fn shown(&self, column: usize) -> TableCol
+        requires column { column < width self.now }
+        ensures number { number_shown self.now.rows result ≡ column }
+        ensures shown { IsShown self.now.rows self.now.worlds result }
+    {
+        shown(self.rows, column)
+    }
+}
