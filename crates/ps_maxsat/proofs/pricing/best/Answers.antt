@@ -1,0 +1,97 @@
+use Rattle.std.proofs.Common.{◌≡◌, ◌≤◌, ◌∙◌, ◌+ℤ◌, ◌-ℤ◌, ℤ, pos, refl, to_z, of_z, arith}
+use mir.Syntax.{w128}
+use Rattle.std.proofs.lemmas.Int.{ints}
+use Rattle.ps_maxsat.proofs.Halving.{halved-first, halved-next, halved-few, halves-up, halves-down, least-up}
+use Rattle.ps_maxsat.proofs.Rounds.{refuted-none, none-same, found-of, held-end, spent-is}
+use Rattle.ps_maxsat.proofs.pricing.best.Goals as goal
+
+pub returns-in-Refuted-clause-priced : goal.returns-in-Refuted-clause-priced
+returns-in-Refuted-clause-priced g c = refuted-none c.args.wcnf.now (pos 1) (pos 0) c.args.conflicts c.in_ok-last.field-0 _ c.in-Refuted.is c.in_ok-last.ensures.outcome refl
+
+pub returns-in-Refuted-clause-logged : goal.returns-in-Refuted-clause-logged
+returns-in-Refuted-clause-logged g c = held-end c.args.wcnf.now (pos 1) (pos 1) c.args.conflicts _ _ _ c.in_ok-last.field-0 _ c.in-Refuted.is refl (λ b. b) c.in_ok-last.ensures.logged
+
+pub returns-in-Spent-clause-logged : goal.returns-in-Spent-clause-logged
+returns-in-Spent-clause-logged g c = held-end c.args.wcnf.now (pos 1) (pos 1) c.args.conflicts _ _ _ c.in_ok-last.field-0 _ c.in-Spent.is refl (λ b. b) c.in_ok-last.ensures.logged
+
+pub loop-found-init : goal.loop-found-init
+loop-found-init g c =
+    let v : ℤ = to_z w128 (of_z w128 (to_z w128 (of_z w128 c.value-found.result))) in
+    let same : v ≡ c.value-found.result = omega (arith, ints, c.value-found.ensures.size) in
+    let b : to_z w128 (of_z w128 c.most-bound.result) ≡ c.most-bound.result = omega (arith, ints, c.most-bound.ensures.size) in
+    let found = found-of c.args.wcnf.now (pos 1) c.args.conflicts c.in_ok-last.field-0 c.in-Found.assignment v c.value-found.result c.in-Found.is c.in_ok-last.ensures.outcome c.value-found.ensures.full c.requires.soft same in
+    record {
+      own = found.own;
+      least = found.up;
+      none = none-same c.args.wcnf.now c.most-bound.result (to_z w128 (of_z w128 c.most-bound.result)) c.most-bound.ensures.above (omega (arith, ints, b));
+      halved = halved-first v (to_z w128 (of_z w128 c.most-bound.result)) found.up (omega (arith, ints, b, c.most-bound.ensures.size));
+      found_size = omega (arith, ints, same, c.value-found.ensures.size);
+      bound_size = omega (arith, ints, b, c.most-bound.ensures.size);
+      telling = c.in_ok-last.ensures.telling;
+      whole = c.in_ok-last.ensures.whole;
+      later = c.search_above.ensures.later;
+      same_kind = c.search_above.ensures.same_kind;
+      same_references = c.search_above.ensures.same_references;
+    }
+
+pub loop-found-preserved-in-Refuted-2 : goal.loop-found-preserved-in-Refuted-2
+loop-found-preserved-in-Refuted-2 g c =
+    let i = c.loop-found.invariant in
+    let m = c.middle-goal.ensures in
+    let r : ℤ = to_z w128 (of_z w128 c.middle-goal.result) in
+    let same : r ≡ c.middle-goal.result = omega (arith, ints) in
+    let b : ℤ = to_z w128 (of_z w128 (to_z w128 (of_z w128 c.middle-goal.result) -ℤ pos 1)) in
+    let down : b +ℤ pos 1 ≡ r = omega (arith, ints, same, m.above, m.within, i.found_size, i.bound_size) in
+    record {
+      own = i.own;
+      least = i.least;
+      none = refuted-none c.args.wcnf.now r b c.args.conflicts c.in_ok-search_above.field-0 _ c.in-Refuted-2.is c.in_ok-search_above.ensures.outcome down;
+      halved = halved-next _ _ _ b c.loop-found.searches i.halved (omega (arith, ints, c.loop-found-test.true)) (halves-down (to_z w128 c.loop-found.found-bits) (to_z w128 c.loop-found.bound-bits) c.middle-goal.result r b m.half_down same down);
+      found_size = i.found_size;
+      bound_size = omega (arith, ints, down, same, m.above, m.within, i.found_size, i.bound_size);
+      telling = λ t. c.in_ok-search_above.ensures.telling (i.telling t);
+      whole = c.in_ok-search_above.ensures.whole;
+      later = omega (arith, i.later, c.search_above-in-loop-found.ensures.later);
+      same_kind = c.search_above-in-loop-found.ensures.same_kind ∙ i.same_kind;
+      same_references = c.search_above-in-loop-found.ensures.same_references ∙ i.same_references;
+    }
+
+pub loop-found-preserved : goal.loop-found-preserved
+loop-found-preserved g c =
+    let i = c.loop-found.invariant in
+    let m = c.middle-goal.ensures in
+    let r : ℤ = to_z w128 (of_z w128 c.middle-goal.result) in
+    let same : r ≡ c.middle-goal.result = omega (arith, ints) in
+    let v : ℤ = to_z w128 (of_z w128 c.value-found-in-Found-2.result) in
+    let value_same : v ≡ c.value-found-in-Found-2.result = omega (arith, ints, c.value-found-in-Found-2.ensures.size) in
+    let found = found-of c.args.wcnf.now r c.args.conflicts c.in_ok-search_above.field-0 c.in-Found-2.better v c.value-found-in-Found-2.result c.in-Found-2.is c.in_ok-search_above.ensures.outcome c.value-found-in-Found-2.ensures.full c.requires.soft value_same in
+    record {
+      own = found.own;
+      least = least-up (to_z w128 c.loop-found.found-bits) c.middle-goal.result r v i.least m.above same found.up;
+      none = i.none;
+      halved = halved-next _ _ v _ c.loop-found.searches i.halved (omega (arith, ints, c.loop-found-test.true)) (halves-up (to_z w128 c.loop-found.found-bits) (to_z w128 c.loop-found.bound-bits) c.middle-goal.result r v m.half_up same found.up);
+      found_size = omega (arith, ints, value_same, c.value-found-in-Found-2.ensures.size);
+      bound_size = i.bound_size;
+      telling = λ t. c.in_ok-search_above.ensures.telling (i.telling t);
+      whole = c.in_ok-search_above.ensures.whole;
+      later = omega (arith, i.later, c.search_above-in-loop-found.ensures.later);
+      same_kind = c.search_above-in-loop-found.ensures.same_kind ∙ i.same_kind;
+      same_references = c.search_above-in-loop-found.ensures.same_references ∙ i.same_references;
+    }
+
+pub returns-in-Spent-2-clause-priced : goal.returns-in-Spent-2-clause-priced
+returns-in-Spent-2-clause-priced g c =
+    let i = c.loop-found.invariant in
+    let m = c.middle-goal.ensures in
+    (i.own, i.least, (omega (arith, ints, m.above)), (omega (arith, halved-few _ _ c.loop-found.searches i.halved)))
+
+pub returns-in-Spent-2-clause-logged : goal.returns-in-Spent-2-clause-logged
+returns-in-Spent-2-clause-logged g c =
+    let r : ℤ = to_z w128 (of_z w128 c.middle-goal.result) in
+    held-end c.args.wcnf.now r _ c.args.conflicts _ _ _ c.in_ok-search_above.field-0 _ (spent-is c.args.wcnf.now r c.args.conflicts c.in_ok-search_above.field-0 _ c.in-Spent-2.is c.in_ok-search_above.ensures.outcome) refl c.loop-found.invariant.telling c.in_ok-search_above.ensures.logged
+
+pub loop-found-smaller-in-Refuted-2 : goal.loop-found-smaller-in-Refuted-2
+loop-found-smaller-in-Refuted-2 g c = let few : c.loop-found.searches ≤ 121 = halved-few _ _ c.loop-found.searches c.loop-found.invariant.halved in omega (arith, few)
+
+pub loop-found-smaller : goal.loop-found-smaller
+loop-found-smaller g c = let few : c.loop-found.searches ≤ 121 = halved-few _ _ c.loop-found.searches c.loop-found.invariant.halved in omega (arith, few)

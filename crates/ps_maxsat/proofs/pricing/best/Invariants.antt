@@ -1,0 +1,23 @@
+use Rattle.std.proofs.Common.{◌≡◌, ◌≤◌, ◌^◌, ◌-◌, unsigned_abs, pos, ◌≤ℤ◌}
+use Rattle.std.specs.Prelude.{IsTrue}
+use Rattle.ps_maxsat.specs.Values.{IsOf, NoneIsAbove}
+use Rattle.ps_maxsat.proofs.Halving.{IsHalved}
+use Rattle.ps_maxsat.proofs.pricing.best.Given as goal
+
+abbrev pub invariant-loop-found : goal.invariant-loop-found
+invariant-loop-found g l = record {
+  own : IsOf l.wcnf l.assignment l.found;
+  least : pos 1 ≤ℤ l.found;
+  none : NoneIsAbove l.wcnf l.bound;
+  halved : IsHalved l.found l.bound l.searches;
+  found_size : unsigned_abs l.found ≤ 2 ^ 120;
+  bound_size : unsigned_abs l.bound ≤ 2 ^ 120;
+  telling : IsTrue (g.S.ProofSink.told l.fn.log).tells → IsTrue (g.S.ProofSink.told l.log).tells;
+  whole : IsTrue (g.S.ProofSink.is_whole l.log);
+  later : g.S.ProofSink.faults l.fn.log ≤ g.S.ProofSink.faults l.log;
+  same_kind : g.S.ProofSink.takes_memory l.log ≡ g.S.ProofSink.takes_memory l.fn.log;
+  same_references : g.S.ProofSink.names l.log ≡ g.S.ProofSink.names l.fn.log;
+}
+
+abbrev pub decreases-loop-found : goal.decreases-loop-found
+decreases-loop-found g l = 122 - l.searches

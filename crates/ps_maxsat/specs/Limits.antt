@@ -1,0 +1,21 @@
+-- The limits of a search for the greatest value.
+use Rattle.std.specs.Prelude.{ℕ, ◌+◌, ◌<◌, ◌≤◌, ◌^◌, unsigned_abs, All}
+use Rattle.ps_steps.specs.Assignments.{place}
+use Rattle.ps_steps.specs.Weights.{size_sum}
+use Rattle.ps_maxsat.specs.declared.problem.Wcnf.{Wcnf}
+
+-- what the sizes of the weights and of the base sum to at most
+abbrev pub most_total : ℕ
+most_total = 2 ^ 120
+
+-- so many searches are made at most
+abbrev pub most_searches : ℕ
+most_searches = 124
+
+-- the weights and the base are small enough that no sum of them wraps
+abbrev pub IsNarrow : Wcnf → Type 0
+IsNarrow p = size_sum p.soft + unsigned_abs p.base ≤ most_total
+
+-- the soft literals are of the variables of the clauses
+abbrev pub IsSoftWithin : Wcnf → Type 0
+IsSoftWithin p = All (λ t. place t.0 < p.hard.variables) p.soft

@@ -1,0 +1,159 @@
+//! The greatest value.
+ghost use Rattle.std.specs.Prelude.{◌≤◌, ◌^◌, ◌<ℤ◌, ◌≤ℤ◌, ◌≡◌, ◌+ℤ◌, ◌-ℤ◌, pos, unsigned_abs};
+ghost use Rattle.std.specs.Prelude.{IsTrue, IfOk, IfErr, OnOk, IsErrOf};
+ghost use Rattle.ps_sat.specs.Limits.{most_conflicts};
+ghost use Rattle.ps_sat.specs.Errors.{HasCause};
+ghost use Rattle.ps_sat.specs.Searches.{IsOutcome};
+ghost use Rattle.ps_maxsat.specs.Limits.{most_total, IsNarrow, IsSoftWithin};
+ghost use Rattle.ps_maxsat.specs.Values.{IsPriced, IsPricedLog, goal_of, HoldsSearch};
+
+use crate::problem::{Wcnf, most, value};
+use ps_clause::ClauseForm;
+use ps_log::ProofSink;
+use ps_pb::{Assignment, from_weights};
+use ps_sat::{Outcome, SearchError, search};
+use std::alloc::Global;
+
+/// What the greatest value is.
+#[derive(Drop)]
+pub enum Priced {
+    /// No assignment that meets the clauses has value 1 or more. The last step of the refutation is
+    /// a contradiction, of this id.
+    NoneAbove { last: u64 },
+    /// This one has a value of at least 1, and none has a greater one.
+    Best {
+        assignment: Assignment,
+        value: i128,
+        searches: u32,
+    },
+    /// This one has a value of at least 1, and the search for a value of at least the goal, which is
+    /// above it, was spent.
+    Cut {
+        assignment: Assignment,
+        value: i128,
+        goal: i128,
+        searches: u32,
+    },
+    /// The search for a value of at least 1 was spent.
+    Spent { learned: u64 },
+}
+
+// A search for a value of at least so much.
+fn search_above<S: ProofSink>(
+    alloc: Global,
+    wcnf: &Wcnf,
+    least: i128,
+    conflicts: u64,
+    log: &mut S,
+) -> Result<Outcome, SearchError>
+    requires whole { IsTrue (S.is_whole log.old) }
+    requires soft { IsSoftWithin wcnf.now }
+    requires sizes { IsNarrow wcnf.now }
+    requires least { unsigned_abs least ≤ 2 ^ 121 }
+    requires few { conflicts ≤ most_conflicts }
+    ensures outcome { IfOk result (IsOutcome wcnf.now.hard (goal_of wcnf.now least) conflicts) }
+    ensures logged {
+        IfOk result (HoldsSearch wcnf.now least conflicts (S.told log.old).tells (S.told log.new))
+    }
+    ensures whole { OnOk result (IsTrue (S.is_whole log.new)) }
+    ensures telling {
+        OnOk result (IsTrue (S.told log.old).tells → IsTrue (S.told log.new).tells)
+    }
+    ensures later { S.faults log.old ≤ S.faults log.new }
+    ensures cause { IfErr result (HasCause (S.faults log.old) (S.faults log.new)) }
+    ensures no_memory { IsErrOf result SearchError.NoMemory → IsTrue (S.is_whole log.new) }
+    ensures same_kind { S.takes_memory log.new ≡ S.takes_memory log.old }
+    ensures same_references { S.names log.new ≡ S.names log.old }
+{
+    let goal = from_weights(alloc, wcnf.soft.as_slice(), least - wcnf.base)?;
+    search(alloc, &wcnf.hard, &goal, conflicts, log)
+}
+
+// Half of a distance, rounded down.
+fn half(distance: i128) -> i128
+    requires { pos 0 ≤ℤ distance }
+    ensures low { (result +ℤ result) ≤ℤ distance }
+    ensures high { distance ≤ℤ ((result +ℤ result) +ℤ pos 1) }
+    ensures some { pos 0 ≤ℤ result }
+{
+    distance / 2
+}
+
+// The goal that halves the way from what was found to what nothing is above.
+fn middle(found: i128, bound: i128) -> i128
+    requires found_size { unsigned_abs found ≤ most_total }
+    requires bound_size { unsigned_abs bound ≤ most_total }
+    requires below { found <ℤ bound }
+    ensures above { found <ℤ result }
+    ensures within { result ≤ℤ bound }
+    ensures half_up { ((bound -ℤ result) +ℤ (bound -ℤ result)) <ℤ (bound -ℤ found) }
+    ensures half_down { ((result -ℤ found) +ℤ (result -ℤ found)) ≤ℤ ((bound -ℤ found) +ℤ pos 2) }
+{
+    bound - half(bound - found - 1)
+}
+
+/// So many searches are made at most.
+pub const MOST_SEARCHES: u32 = 124;
+
+/// Looks for the greatest value of an assignment that meets the clauses, if it is at least 1. Each
+/// search is for a value of at least a goal, the first for 1, and each other goal halves what is
+/// left between the best value found and the least one that nothing is above.
+///
+/// The log holds the refutation after `NoneAbove`, and the search that was spent after `Cut` and
+/// `Spent`. `LogFault` comes only where the log's count of faults rose.
+pub fn best<S: ProofSink>(
+    alloc: Global,
+    wcnf: &Wcnf,
+    conflicts: u64,
+    log: &mut S,
+) -> Result<Priced, SearchError>
+    requires whole { IsTrue (S.is_whole log.old) }
+    requires soft { IsSoftWithin wcnf.now }
+    requires sizes { IsNarrow wcnf.now }
+    requires few { conflicts ≤ most_conflicts }
+    ensures priced { IfOk result (IsPriced wcnf.now conflicts) }
+    ensures logged {
+        IfOk result (IsPricedLog wcnf.now conflicts (S.told log.old).tells (S.told log.new))
+    }
+    ensures whole { OnOk result (IsTrue (S.is_whole log.new)) }
+    ensures later { S.faults log.old ≤ S.faults log.new }
+    ensures cause { IfErr result (HasCause (S.faults log.old) (S.faults log.new)) }
+    ensures no_memory { IsErrOf result SearchError.NoMemory → IsTrue (S.is_whole log.new) }
+    ensures same_kind { S.takes_memory log.new ≡ S.takes_memory log.old }
+    ensures same_references { S.names log.new ≡ S.names log.old }
+{
+    let (mut assignment, mut found) = match search_above(alloc, wcnf, 1, conflicts, log)? {
+        Outcome::Refuted { last } => return Ok(Priced::NoneAbove { last }),
+        Outcome::Spent { learned } => return Ok(Priced::Spent { learned }),
+        Outcome::Found(assignment) => {
+            let found = value(wcnf, &assignment);
+            (assignment, found)
+        }
+    };
+    let mut bound = most(wcnf);
+    let mut searches = 1;
+    while found < bound {
+        let goal = middle(found, bound);
+        searches += 1;
+        match search_above(alloc, wcnf, goal, conflicts, log)? {
+            Outcome::Refuted { last: _ } => bound = goal - 1,
+            Outcome::Found(better) => {
+                found = value(wcnf, &better);
+                assignment = better;
+            }
+            Outcome::Spent { learned: _ } => {
+                return Ok(Priced::Cut {
+                    assignment,
+                    value: found,
+                    goal,
+                    searches,
+                });
+            }
+        }
+    }
+    Ok(Priced::Best {
+        assignment,
+        value: found,
+        searches,
+    })
+}

@@ -1,0 +1,100 @@
+//! Clauses, and weighted literals.
+ghost use Rattle.std.specs.Prelude.{◌≡◌, ◌≤◌, ◌<◌, ◌+◌, ◌+ℤ◌, ◌↔◌, unsigned_abs, IsTrue, All};
+ghost use Rattle.ps_steps.specs.Assignments.{place};
+ghost use Rattle.ps_steps.specs.Weights.{size_sum};
+ghost use Rattle.ps_maxsat.specs.Limits.{IsNarrow, IsSoftWithin, most_total};
+ghost use Rattle.ps_maxsat.specs.Sums.{sum_of, weight_in, weight_if_positive};
+ghost use Rattle.ps_maxsat.specs.Values.{most, IsValueOfFull, NoneIsAbove};
+
+use ps_clause::ClauseForm;
+use ps_pb::{Assignment, Lit, WeightedLits};
+
+/// Clauses that are to be met, and literals with weights. The value of a full assignment is the base
+/// plus the weights of the soft literals that are true.
+#[derive(Drop)]
+pub struct Wcnf {
+    pub hard: ClauseForm,
+    pub soft: WeightedLits,
+    pub base: i128,
+}
+
+/// What the sizes of the weights and of the base sum to at most.
+pub const MOST_TOTAL: u128 = 1 << 120;
+
+impl Wcnf {
+    /// Whether the sizes of the weights and of the base sum to at most 2^120.
+    pub fn is_narrow(&self) -> bool
+        ensures { IsTrue result ↔ IsNarrow self.now }
+    {
+        sum_fits(self.soft.as_slice(), &self.base)
+    }
+
+    /// Whether the soft literals are of the variables of the clauses.
+    pub fn is_soft_within(&self) -> bool
+        ensures { IsTrue result ↔ IsSoftWithin self.now }
+    {
+        are_within(self.soft.as_slice(), self.hard.variables() as usize)
+    }
+}
+
+fn sum_fits(soft: &[(Lit, i128)], base: &i128) -> bool
+    ensures { IsTrue result ↔ (size_sum soft.now + unsigned_abs base.now ≤ most_total) }
+{
+    let mut sum = base.unsigned_abs();
+    for term in soft {
+        if MOST_TOTAL < sum {
+            return false;
+        }
+        sum += term.1.unsigned_abs();
+    }
+    sum <= MOST_TOTAL
+}
+
+fn are_within(soft: &[(Lit, i128)], variables: usize) -> bool
+    ensures { IsTrue result ↔ All (λ t. place t.0 < variables) soft.now }
+{
+    soft.iter().all(|term| term.0.place() < variables)
+}
+
+fn weight_in(a: &Assignment, term: &(Lit, i128)) -> i128
+    ensures { result ≡ weight_in a.now term.now }
+{
+    match a.value_of(term.0) {
+        Some(true) => term.1,
+        _ => 0,
+    }
+}
+
+fn weight_if_positive(term: &(Lit, i128)) -> i128
+    ensures { result ≡ weight_if_positive term.now }
+{
+    if 0 < term.1 { term.1 } else { 0 }
+}
+
+/// The value of an assignment.
+pub fn value(wcnf: &Wcnf, a: &Assignment) -> i128
+    requires { IsNarrow wcnf.now }
+    ensures sum { result ≡ wcnf.now.base +ℤ sum_of (weight_in a.now) wcnf.now.soft }
+    ensures full { IsValueOfFull wcnf.now a.now result }
+    ensures size { unsigned_abs result ≤ most_total }
+{
+    let mut sum = wcnf.base;
+    for term in wcnf.soft.as_slice() {
+        sum += weight_in(a, term);
+    }
+    sum
+}
+
+/// What no value is above: the base plus the positive weights.
+pub fn most(wcnf: &Wcnf) -> i128
+    requires { IsNarrow wcnf.now }
+    ensures value { result ≡ most wcnf.now }
+    ensures above { NoneIsAbove wcnf.now result }
+    ensures size { unsigned_abs result ≤ most_total }
+{
+    let mut sum = wcnf.base;
+    for term in wcnf.soft.as_slice() {
+        sum += weight_if_positive(term);
+    }
+    sum
+}
