@@ -6,8 +6,7 @@ use lib.Dec.{ltb}
 use Rattle.std.proofs.lemmas.Bool.{ltb-true, ltb-false}
 use Rattle.std.proofs.lemmas.List.{get_or-take, get_or_default, length-take-le, take_all}
 use Rattle.std.proofs.lemmas.Option.{slice_get_within, get_or_from_slice_get}
-use Rattle.ps_meaning.specs.Formula.{World}
-use Rattle.ps_meaning.specs.Distribution.{Entry, total}
+use Rattle.ps_meaning.specs.Distribution.{Entry}
 use Rattle.ps_meaning.specs.Bounds as meaning
 use Rattle.ps_meaning.specs.Bounds.{MeetsBound, MeetsAll}
 use Rattle.ps_problem.specs.Problems.{Parts, bounds_of}

@@ -1,5 +1,5 @@
 -- The weight of one more entry, and sums that don't wrap.
-use Rattle.std.proofs.Common.{◌≡◌, ℕ, ◌+◌, ◌<◌, ◌*◌, ◌^◌, ℤ, pos, ◌+ℤ◌, ◌≤ℤ◌, to_z, of_z, Bool, true, false, cond, List, [], ◌∷◌, ◌++◌, length, map, take, get_or, refl, arith}
+use Rattle.std.proofs.Common.{◌≡◌, ℕ, ◌+◌, ◌<◌, ◌*◌, ◌^◌, ℤ, pos, ◌+ℤ◌, ◌≤ℤ◌, to_z, of_z, Bool, true, false, cond, List, [], ◌∷◌, ◌++◌, length, map, take, get_or, arith}
 use Rattle.std.proofs.lemmas.Int.{ints}
 use mir.Syntax.{w128}
 use Rattle.std.proofs.lemmas.List.{map-append, take_more}

@@ -1,5 +1,5 @@
 -- What a model's worlds stand for, and the limits of its numbers.
-use Rattle.std.specs.Prelude.{ℕ, ℤ, pos, ◌≤◌, ◌≤ℤ◌, ◌^◌, List, length, map, All}
+use Rattle.std.specs.Prelude.{ℕ, pos, ◌≤◌, ◌≤ℤ◌, ◌^◌, List, length, map, All}
 use Rattle.ps_meaning.specs.Distribution.{Entry}
 use Rattle.ps_check.specs.declared.model.Weighted.{Weighted}
 use Rattle.ps_check.specs.declared.model.Model.{Model}
