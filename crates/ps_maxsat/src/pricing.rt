@@ -19,7 +19,9 @@ use std::alloc::Global;
 pub enum Priced {
     /// No assignment that meets the clauses has value 1 or more. The last step of the refutation is
     /// a contradiction, of this id.
-    NoneAbove { last: u64 },
+    NoneAbove {
+        last: u64,
+    },
     /// This one has a value of at least 1, and none has a greater one.
     Best {
         assignment: Assignment,
@@ -35,7 +37,9 @@ pub enum Priced {
         searches: u32,
     },
     /// The search for a value of at least 1 was spent.
-    Spent { learned: u64 },
+    Spent {
+        learned: u64,
+    },
 }
 
 // A search for a value of at least so much.
@@ -52,13 +56,10 @@ fn search_above<S: ProofSink>(
     requires least { unsigned_abs least ≤ 2 ^ 121 }
     requires few { conflicts ≤ most_conflicts }
     ensures outcome { IfOk result (IsOutcome wcnf.now.hard (goal_of wcnf.now least) conflicts) }
-    ensures logged {
-        IfOk result (HoldsSearch wcnf.now least conflicts (S.told log.old).tells (S.told log.new))
-    }
+    ensures logged { IfOk result (HoldsSearch wcnf.now least conflicts
+        (S.told log.old).tells (S.told log.new)) }
     ensures whole { OnOk result (IsTrue (S.is_whole log.new)) }
-    ensures telling {
-        OnOk result (IsTrue (S.told log.old).tells → IsTrue (S.told log.new).tells)
-    }
+    ensures telling { OnOk result (IsTrue (S.told log.old).tells → IsTrue (S.told log.new).tells) }
     ensures later { S.faults log.old ≤ S.faults log.new }
     ensures cause { IfErr result (HasCause (S.faults log.old) (S.faults log.new)) }
     ensures no_memory { IsErrOf result SearchError.NoMemory → IsTrue (S.is_whole log.new) }
@@ -112,9 +113,8 @@ pub fn best<S: ProofSink>(
     requires sizes { IsNarrow wcnf.now }
     requires few { conflicts ≤ most_conflicts }
     ensures priced { IfOk result (IsPriced wcnf.now conflicts) }
-    ensures logged {
-        IfOk result (IsPricedLog wcnf.now conflicts (S.told log.old).tells (S.told log.new))
-    }
+    ensures logged { IfOk result (IsPricedLog wcnf.now conflicts
+        (S.told log.old).tells (S.told log.new)) }
     ensures whole { OnOk result (IsTrue (S.is_whole log.new)) }
     ensures later { S.faults log.old ≤ S.faults log.new }
     ensures cause { IfErr result (HasCause (S.faults log.old) (S.faults log.new)) }

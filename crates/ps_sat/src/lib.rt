@@ -8,4 +8,3 @@ mod searching;
 
 pub use error::SearchError;
 pub use searching::{MOST_CONFLICTS, Outcome, search};
-

@@ -66,9 +66,7 @@ pub fn search<S: ProofSink>(
     requires goal { IsWithin base.now.variables goal.now }
     requires few { conflicts ≤ most_conflicts }
     ensures outcome { IfOk result (IsOutcome base.now goal.now conflicts) }
-    ensures logged {
-        IsLogged base.now goal.now conflicts (S.told log.old) (S.told log.new) result
-    }
+    ensures logged { IsLogged base.now goal.now conflicts (S.told log.old) (S.told log.new) result }
     ensures whole { OnOk result (IsTrue (S.is_whole log.new)) }
     ensures later { S.faults log.old ≤ S.faults log.new }
     ensures cause { IfErr result (HasCause (S.faults log.old) (S.faults log.new)) }
@@ -101,12 +99,10 @@ fn learn_all<S: ProofSink>(
     requires small { length known ≤ 2 ^ 32 }
     requires few { conflicts ≤ most_conflicts }
     ensures outcome { IfOk result (IsOutcome base.now goal.now conflicts) }
-    ensures shown {
-        IfOk result (IsHeld base.now goal.now conflicts (S.told log.old).tells (S.told log.new))
-    }
-    ensures handed {
-        IfErr result (λ _. Handed base.now goal.now (S.told log.old).tells (S.told log.new))
-    }
+    ensures shown { IfOk result (IsHeld base.now goal.now conflicts
+        (S.told log.old).tells (S.told log.new)) }
+    ensures handed { IfErr result (λ _. Handed base.now goal.now
+        (S.told log.old).tells (S.told log.new)) }
     ensures whole { OnOk result (IsTrue (S.is_whole log.new)) }
     ensures later { S.faults log.old ≤ S.faults log.new }
     ensures cause { IfErr result (HasCause (S.faults log.old) (S.faults log.new)) }
