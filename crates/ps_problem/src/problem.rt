@@ -46,7 +46,7 @@ impl Problem {
         bounds: List<Bound>,
         queries: Queries,
     ) -> Problem
-        requires sound { IsProblem (parts_of (map (λ v. v.items) names) formulas sentences queries) }
+        requires is { IsProblem (parts_of (map (λ v. v.items) names) formulas sentences queries) }
         requires bounds { bounds ≡ bounds_in sentences }
         ensures { result ≡ parts_of (map (λ v. v.items) names) formulas sentences queries }
     {

@@ -18,8 +18,8 @@ queries-requires c =
     let d = c.args.draft.now in
     asking-start d s c.in_default.ensures.ok
 
-pub of-requires-clause-sound : goal.of-requires-clause-sound
-of-requires-clause-sound c =
+pub of-requires-clause-is : goal.of-requires-clause-is
+of-requires-clause-is c =
     let s = c.queries.new.self in
     let d = c.args.draft.now in
     let r = c.in_default-queries.ensures.ok in
