@@ -1,5 +1,5 @@
 -- Laws of duals, combinations and claims.
-use Rattle.std.specs.Prelude.{◌≡◌, ◌≤◌, ◌^◌, ◌<◌, ◌*ℤ◌, ◌⊎◌, ◌↔◌, ℕ, ℤ, pos, ◌≤ℤ◌, unsigned_abs, Bool, Option, None, List, length, All}
+use Rattle.std.specs.Prelude.{◌≡◌, ◌≤◌, ◌^◌, ◌<◌, ◌*ℤ◌, ◌⊎◌, ◌↔◌, ℕ, ℤ, pos, ◌≤ℤ◌, unsigned_abs, Bool, Option, List, length, All}
 use Rattle.ps_meaning.specs.Formula.{World}
 use Rattle.ps_meaning.specs.declared.side.Side.TheVariants.{AtLeast, AtMost}
 use Rattle.ps_meaning.specs.Bounds.{Bound}
@@ -7,13 +7,12 @@ use Rattle.ps_rational.specs.Rational.{Rational, fraction}
 use Rattle.ps_problem.specs.Problems.{Parts, AreParts, bounds_of, bounds_in, HasNodes}
 use Rattle.ps_problem.specs.declared.query.Query as stored
 use Rattle.ps_steps.specs.Constraints.{IsMet}
-use Rattle.ps_steps.specs.Steps.{Known, Step, AreLawful}
 use Rattle.ps_forms.specs.Extensions.{extension}
 use Rattle.ps_entailment.specs.Queries.{Query, IsImpossible, Holds}
 use Rattle.ps_entailment.specs.Answers.{Answer}
 use Rattle.ps_claims.specs.Duals.{Dual, ClaimKind, Nothing, Lower, Upper, HaveSigns, kept_bounds, AreZeroElsewhere, combination, IsNeverAbove, HasNothingHead, HasValueHead}
 use Rattle.ps_claims.specs.Goals.{Combination, value_under, size_of, combination_of, goal_of}
-use Rattle.ps_claims.specs.Faults.{DualFault, IsFaultless, IsFirstFault, first_refusal}
+use Rattle.ps_claims.specs.Faults.{DualFault, IsFaultless, IsFirstFault}
 use Rattle.ps_claims.specs.Claims.{claims_of, HasParts, AreValid, AreNotBelow, Place, Fault, IsRefused}
 use Rattle.ps_claims.specs.Validity.{query_of, IsRefuted, IsValid, IsRightFor}
 
@@ -65,10 +64,6 @@ DualsAreFaultlessOrFaulty = (p : Parts) (kind : ClaimKind) (given : Option ℕ) 
 abbrev pub FaultlessDualsHaveNoFault : Type 0
 FaultlessDualsHaveNoFault = (p : Parts) (kind : ClaimKind) (given : Option ℕ) (both : ℕ) (value : Option Rational) (d : Dual) (f : DualFault)
     → IsFaultless p kind given both value d → ¬ IsFirstFault p kind given both value d f
-
--- no step is the first refused one exactly where all are lawful
-abbrev pub UnrefusedStepsAreLawful : Type 0
-UnrefusedStepsAreLawful = (variables : ℕ) (known : Known) (steps : List Step) → (first_refusal variables known steps ≡ None) ↔ AreLawful variables known steps
 
 -- head over top is a value exactly where their quotient is
 abbrev pub HeadsAreQuotients : Type 0

@@ -3,7 +3,7 @@ ghost use Rattle.ps_claims.specs.Laws.{DualsExcludeAll, KeptBoundsExcludeAll, Du
 ghost use Rattle.ps_claims.specs.Laws.{CombinationsAreSums, CombinationsAreSmall, GoalsSayAtLeastOne};
 ghost use Rattle.ps_claims.specs.Laws.{RefutedGoalsBoundCombinations, HeadsAreQuotients};
 ghost use Rattle.ps_claims.specs.Laws.{DualsAreFaultlessOrFaulty, FaultlessDualsHaveNoFault};
-ghost use Rattle.ps_claims.specs.Laws.{UnrefusedStepsAreLawful, ValidAnswersAreRight};
+ghost use Rattle.ps_claims.specs.Laws.{ValidAnswersAreRight};
 ghost use Rattle.ps_claims.specs.Laws.{ValidAnswersHaveValidClaims, AnswersAreValidOrRefused};
 ghost use Rattle.ps_claims.specs.Laws.{ValidAnswersAreNotRefused};
 
@@ -34,7 +34,6 @@ pub fn refuted_goals_bound_combinations()
 pub fn duals_are_faultless_or_not()
     ensures either { DualsAreFaultlessOrFaulty }
     ensures never_both { FaultlessDualsHaveNoFault }
-    ensures steps { UnrefusedStepsAreLawful }
 {}
 
 /// Head over top is a value exactly where their quotient in lowest terms is.
