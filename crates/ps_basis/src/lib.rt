@@ -7,4 +7,6 @@
 
 mod laws;
 
-pub use laws::{home_table, one_solution, one_table, pivot_keeps, prices, same_tables, wider_table};
+pub use laws::{
+    home_table, one_solution, one_table, pivot_keeps, prices, same_tables, wider_table,
+};

@@ -5,3 +5,6 @@ mod combining;
 
 pub use combining::combination;
 pub use ps_claims::{ClaimKind, Combination};
+
+#[cfg(test)]
+mod tests;

@@ -12,6 +12,7 @@ opposite z y small e = rw (read_back z y small e) (read_back (pos 0 -ℤ y) (neg
   where
     negative : (y : ℤ) → (pos 0 -ℤ y) ≡ neg_ℤ y
     negative y = omega (arith, ints)
+
     size : (y : ℤ) → unsigned_abs y ≤ 2 ^ 90 * 1000000 → unsigned_abs (pos 0 -ℤ y) ≤ 2 ^ 90 * 1000000
     size y s = omega (arith, ints, s)
 
