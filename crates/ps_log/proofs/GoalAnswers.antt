@@ -4,7 +4,7 @@ use Rattle.std.specs.List.{list_all}
 use Rattle.std.specs.Char.{digit_value}
 use Rattle.std.proofs.lemmas.List.{append_cancel_right, map-append}
 use Rattle.ps_steps.specs.Constraints.{Constraint}
-use Rattle.ps_steps.specs.Weights.{Weighted, weighted, terms_of, are_rising}
+use Rattle.ps_steps.specs.Weights.{weighted, terms_of, are_rising}
 use Rattle.ps_pb.specs.Weighing.{linear}
 use Rattle.ps_log.specs.Texts.{goal_numbers, term_numbers, goal_line}
 use Rattle.ps_log.specs.Limits.{IsGoalWithin}
@@ -13,14 +13,13 @@ use Rattle.ps_log.specs.FirstLines.{IsLineAnswer}
 use Rattle.ps_log.specs.GoalTexts.{IsGoalText, is_goal_byte}
 use Rattle.ps_log.specs.Numbers.{capped, AreNumbersOf, AreRead}
 use Rattle.ps_log.specs.GoalNumbers.{pairs_from, are_terms, AreGoalParts, HasGoalParts, IsGoalOf, TellsRising}
-use Rattle.ps_log.specs.Told.{goal_of}
 use Rattle.ps_log.specs.declared.line_error.LineError.{LineError}
 use Rattle.ps_log.specs.declared.line_error.LineError.TheVariants.{Truncated, BadByte, NotCanonical, TooLarge, NoMemory}
 use Rattle.ps_log.proofs.LineAnswers.{same_rest, words-text, text-starts, text-spells, AreTextBytes, line-fits, line-written, AreTexts}
 use Rattle.ps_log.proofs.LineShapes.{text-goal, goal-text, reads_goal, all-positive, positives}
 use Rattle.ps_log.proofs.Reading.{goal_small, goal-one_line}
 use Rattle.ps_log.proofs.Spelled.{spelled-unique}
-use Rattle.ps_log.proofs.StepShapes.{Fit, uncut}
+use Rattle.ps_log.proofs.StepShapes.{uncut}
 use Rattle.ps_log.proofs.GoalShapes.{restored, pairs-positive, uncapped-terms, terms-uncapped, terms-capped, numbers-terms, pairs-numbers, pairs-end, numbers-pairs, terms-positive, not-cut}
 
 g_is_letter : ◌≢◌ {A = ℕ} 103 32

@@ -1,5 +1,5 @@
 -- What is answered of the line of a step.
-use Rattle.std.proofs.Common.{◌≡◌, ◌≢◌, ℕ, ◌<◌, ◌==◌, ℤ, Bool, true, false, ◌||◌, List, [], ◌∷◌, map, Result, Ok, Err, Option, None, refl, sym, ap, subst, ◌∙◌, arith, All, nat_lt}
+use Rattle.std.proofs.Common.{◌≡◌, ◌≢◌, ℕ, ◌<◌, ◌==◌, ℤ, Bool, true, false, ◌||◌, List, [], ◌∷◌, map, Result, Ok, Err, None, refl, sym, ap, subst, ◌∙◌, arith, All, nat_lt}
 use Rattle.std.specs.List.{list_all}
 use Rattle.std.specs.Fmt.{signed_decimal}
 use Rattle.std.specs.Char.{digit_value}

@@ -1,4 +1,4 @@
-use Rattle.std.proofs.Common.{sym, ◌∙◌, subst}
+use Rattle.std.proofs.Common.{sym, subst}
 use Rattle.std.specs.List.{All}
 use Rattle.ps_steps.specs.Weights.{IsNormal}
 use Rattle.ps_log.proofs.Lengths.{goal_is_short}

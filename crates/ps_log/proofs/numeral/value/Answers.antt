@@ -1,4 +1,3 @@
-use Rattle.std.proofs.Common.{arith}
 use Rattle.ps_log.proofs.Spelled.{capped_more}
 use Rattle.ps_log.proofs.numeral.value.Goals as goal
 
