@@ -9,6 +9,7 @@ mod error;
 mod first;
 mod grid;
 mod home;
+mod laws;
 mod limits;
 mod pivot;
 mod pivoting;
@@ -18,7 +19,8 @@ mod table;
 pub use costs::{CostList, Costs};
 pub use error::TableError;
 pub use home::Home;
-pub use limits::{MOST_ROWS, PRINTED_LIMIT};
+pub use laws::printed_places;
+pub use limits::{MOST_ROWS, PRINTED_LIMIT, is_printed};
 pub use place::{Place, TableCol, WideAt};
 pub use table::Table;
 

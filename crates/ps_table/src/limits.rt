@@ -1,7 +1,16 @@
-//! The limits of a table.
+//! The limits of a table, and of the numbers that an answer prints.
+ghost use Rattle.std.specs.Prelude.{◌↔◌, IsTrue};
+ghost use Rattle.ps_table.specs.Places.{IsPast};
 
 /// The most rows of a table.
 pub const MOST_ROWS: usize = 101;
 
 /// The greatest size of a number that an answer prints.
-pub const PRINTED_LIMIT: i128 = 1 << 90;
+pub const PRINTED_LIMIT: u128 = 1 << 90;
+
+/// Whether a number is small enough to be printed.
+pub fn is_printed(number: i128) -> bool
+    ensures value { IsTrue result ↔ (¬ IsPast number) }
+{
+    number.unsigned_abs() <= PRINTED_LIMIT
+}
