@@ -11,3 +11,6 @@ mod writing;
 
 pub use laws::equal_texts_are_of_equal_problems;
 pub use writing::canonical_text;
+
+#[cfg(test)]
+mod tests;
