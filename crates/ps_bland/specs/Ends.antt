@@ -1,7 +1,7 @@
 -- How the pivots of a phase end, and which places are due.
 use Rattle.std.specs.Prelude.{◌≡◌, ℕ, ◌<◌, false, Result, Ok, Err}
 use Rattle.ps_frac.specs.declared.wide.Op.TheVariants.{Div}
-use Rattle.ps_rule.specs.Rule.{Phase as RulePhase, First, Second, Improves, IsMoving, IsResting, Enters, IsRising, IsArtificialRow, ratio}
+use Rattle.ps_rule.specs.Rule.{Phase as RulePhase, First, Second, Improves, IsMoving, IsResting, Enters, IsRising, IsArtificialRow}
 use Rattle.ps_pool.specs.declared.col.Col.{Col}
 use Rattle.ps_table.specs.declared.costs.Costs.{Costs}
 use Rattle.ps_table.specs.declared.place.Place.TheVariants.{Ratio}

@@ -1,5 +1,6 @@
-//! What callers show before they call `settle`.
+//! What callers show before they call `settle`, and what its refusals name.
 
+ghost use Rattle.ps_bland.specs.DuePlaces.{DuePlacesAreOfTheTable};
 ghost use Rattle.ps_bland.specs.Ready.{PosedTablesAreReady, ValuesStay, FeasibilityStays};
 
 /// A table without values below 0 is ready for a phase where the costs are those of the phase: for
@@ -12,4 +13,9 @@ pub fn ready_tables()
     ensures posed { PosedTablesAreReady }
     ensures values { ValuesStay }
     ensures feasible { FeasibilityStays }
+{}
+
+/// The places that are due at a table are told by its basis, its entries and the costs.
+pub fn due_places()
+    ensures due { DuePlacesAreOfTheTable }
 {}

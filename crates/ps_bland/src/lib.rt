@@ -13,7 +13,7 @@ mod settled;
 mod settling;
 
 pub use error::SettleError;
-pub use laws::ready_tables;
+pub use laws::{due_places, ready_tables};
 pub use phase::Phase;
 pub use settled::Settled;
 pub use settling::settle;

@@ -104,10 +104,7 @@ pub(crate) fn least_row(table: &Table, col: Col) -> Result<u32, WideAt>
     let ratio = ratio_at(table, col, first)?;
     let mut best = Best { row: first, ratio };
     for row in first + 1..rows {
-        match with_row(table, col, row, best) {
-            Ok(next) => best = next,
-            Err(wide) => return Err(wide),
-        }
+        best = with_row(table, col, row, best)?;
     }
     Ok(best.row)
 }

@@ -56,9 +56,7 @@ fn step(
     trace: &mut Trace,
 ) -> Result<Option<Settled>, SettleError>
     requires { IsReady phase costs.now table.old }
-    ensures round {
-        IsRound phase costs.now table.old table.new trace.old trace.new left.old left.new result
-    }
+    ensures round { IsRound phase costs.now table.old table.new trace.old trace.new left.old left.new result }
     ensures narrow { IfOk result (IsNarrowEnd phase costs.now table.new left.new) }
     ensures ready { IsReady phase costs.now table.new }
     ensures stands { StandsOn table.old table.new }

@@ -7,17 +7,24 @@ ghost use Rattle.ps_table.specs.Tableau.{entry_at, StandsFor};
 ghost use Rattle.ps_bland.specs.Ready.{IsReady};
 ghost use Rattle.ps_bland.specs.Columns.{AreColumns};
 
-mod cases;
+mod case;
+mod few_rows;
+mod five_rows;
+mod three_rows;
+mod three_rows_wide;
 
 use crate::feasible::is_due_to_end;
 use crate::{Phase, SettleError, Settled, settle};
-use cases::{Case, End, FIVE_ROWS, Stage, THREE_ROWS};
+use case::{Case, End, Stage};
+use few_rows::{ONE_ROW, TWO_ROWS};
+use five_rows::FIVE_ROWS;
 use ps_frac::Fraction;
 use ps_io::{List, NoMemory};
 use ps_pool::{Col, Event, Trace};
 use ps_table::{CostList, Costs, Home, Table, WideAt};
 use std::alloc::Global;
-use std::test::Fail;
+use three_rows::THREE_ROWS;
+use three_rows_wide::THREE_ROWS_WIDE;
 
 fn are_between(costs: &[i8], low: i8, high: i8) -> bool
     ensures low { IsTrue result → (i : ℕ) → i < length costs.now → low ≤ℤ get_or costs.now i (pos 0) }
@@ -287,81 +294,36 @@ fn goes<const N: usize>(alloc: Global, case: &Case<N>) -> Result<bool, NoMemory>
     Ok(true)
 }
 
-#[test]
-fn phases_go_as_another_program_computed(rt: HostRuntime) -> Result<(), Fail> {
-    for number in 0..THREE_ROWS.len() {
-        let case = &THREE_ROWS[number];
-        assert!(rt;
-            goes(rt.alloc(), case) == Ok(true),
-            "three rows, case {number}"
-        );
+/// Whether all cases go as they should.
+fn all_go<const N: usize>(alloc: Global, cases: &[Case<N>]) -> Result<bool, NoMemory>
+    requires some { 0 < N }
+    requires few { N ≤ 101 }
+{
+    for number in 0..cases.len() {
+        if !goes(alloc, &cases[number])? {
+            return Ok(false);
+        }
     }
-    for number in 0..FIVE_ROWS.len() {
-        let case = &FIVE_ROWS[number];
-        assert!(rt;
-            goes(rt.alloc(), case) == Ok(true),
-            "five rows, case {number}"
-        );
-    }
-    Ok(())
+    Ok(true)
 }
 
 #[test]
-fn two_worlds_make_phase_one_feasible(rt: HostRuntime) -> Result<(), Fail> {
-    let alloc = rt.alloc();
-    let mut table = Table::new(alloc, &[Home::Artificial, Home::Slack])?;
-    let costs = Costs {
-        homes: List::from_vec(vec![in alloc; 1, 0]?),
-        worlds: List::from_vec(vec![in alloc; 0, 0]?),
-    };
-    let mut trace: Trace = List::new(alloc);
-    let mut left = 5;
-    assert!(rt; table.add_world(&[1, 2]).is_ok());
-    if table.worlds() == 1 && table.rows() == 2 {
-        assert!(rt; table.add_world(&[1, -1]).is_ok());
-    }
-    assert!(rt; is_ready(&table, &costs));
-    let settled = settle(&mut table, &costs, Phase::One, &mut left, &mut trace);
-    assert!(rt; settled == Ok(Settled::Feasible));
-    assert!(rt; left == 3);
-    assert!(rt;
-        trace.as_slice()
-            == [
-                Event::Pivot {
-                    enter: Col::World(1),
-                    leave: 1
-                },
-                Event::Pivot {
-                    enter: Col::World(2),
-                    leave: 0
-                },
-            ]
-            .as_slice()
-    );
-    if table.rows() == 2 {
-        assert!(rt; table.value(0) == Fraction::new(2, 3));
-        assert!(rt; table.value(1) == Fraction::new(1, 3));
-    }
-    Ok(())
+fn few_rows_go(rt: HostRuntime) {
+    assert!(rt; all_go(rt.alloc(), &ONE_ROW) == Ok(true));
+    assert!(rt; all_go(rt.alloc(), &TWO_ROWS) == Ok(true));
 }
 
 #[test]
-fn a_limit_of_no_pivots_leaves_all_as_it_was(rt: HostRuntime) -> Result<(), Fail> {
-    let alloc = rt.alloc();
-    let mut table = Table::new(alloc, &[Home::Artificial])?;
-    let costs = Costs {
-        homes: List::from_vec(vec![in alloc; 1]?),
-        worlds: List::from_vec(vec![in alloc; 0]?),
-    };
-    let mut trace: Trace = List::new(alloc);
-    let mut left = 0;
-    assert!(rt; table.add_world(&[3]).is_ok());
-    assert!(rt; is_ready(&table, &costs));
-    let settled = settle(&mut table, &costs, Phase::One, &mut left, &mut trace);
-    assert!(rt; settled == Ok(Settled::OutOfPivots));
-    assert!(rt; trace.len() == 0);
-    if table.rows() == 1 {
-        assert!(rt; table.value(0) == Fraction::new(1, 1));
-    }
-    Ok(())
+fn three_rows_go(rt: HostRuntime) {
+    assert!(rt; all_go(rt.alloc(), &THREE_ROWS) == Ok(true));
+}
+
+#[test]
+fn three_rows_with_wide_numbers_go(rt: HostRuntime) {
+    assert!(rt; all_go(rt.alloc(), &THREE_ROWS_WIDE) == Ok(true));
+}
+
+#[test]
+fn five_rows_go(rt: HostRuntime) {
+    assert!(rt; all_go(rt.alloc(), &FIVE_ROWS) == Ok(true));
 }
