@@ -71,7 +71,8 @@ impl Pool {
         requires room { length self.old < MOST_WORLDS }
         ensures number { IfOk result (λ number. number ≡ length self.old + 1) }
         ensures added { OnOk result (self.new ≡ self.old ++ world ∷ []) }
-        ensures present { (at : ℕ) → IsErrOf result (PoolError.Present at) ↔ HasNumber self.old world at }
+        ensures present { (at : ℕ) → IsErrOf result (PoolError.Present at)
+            ↔ HasNumber self.old world at }
         ensures same { OnErr result (self.new ≡ self.old) }
     {
         if let Some(i) = self.worlds.get_index_of(&world) {
