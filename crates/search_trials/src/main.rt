@@ -1,0 +1,77 @@
+//! Trials of the search: small searches over logs in memory and of lines, random forms whose
+//! refutations the checker takes, and random weighted problems against an answer from trying all
+//! assignments. The words `sixty`, `pigeons` and `forty` run what is timed from outside.
+#![tactic(auto)]
+
+mod draw;
+mod forms;
+mod problems;
+mod refutations;
+mod rows;
+mod trials;
+
+use crate::trials::{
+    forty_variables, refutations, rows, six_pigeons, sixty_variables, weighted_problems,
+};
+use std::env;
+
+/// How many forms, or problems, are timed.
+const TIMED: u32 = 20;
+
+/// What is to be run.
+#[derive(Clone, Copy)]
+enum Command {
+    Trials,
+    Sixty,
+    Pigeons,
+    Forty,
+}
+
+fn command_of(rt: &HostRuntime) -> anyhow::Result<Command> {
+    let mut command = Command::Trials;
+    let mut place = 0usize;
+    for word in env::args(rt)? {
+        if place == 1 {
+            command = match word.as_str() {
+                "sixty" => Command::Sixty,
+                "pigeons" => Command::Pigeons,
+                "forty" => Command::Forty,
+                _ => Command::Trials,
+            };
+        }
+        place = place.wrapping_add(1);
+    }
+    Ok(command)
+}
+
+fn main(rt: HostRuntime) -> anyhow::Result<()> {
+    let alloc = rt.alloc();
+    match command_of(&rt)? {
+        Command::Sixty => {
+            let (decided, steps) = sixty_variables(alloc, TIMED)?;
+            println!(rt; "{decided} decided, {steps} steps")?;
+        }
+        Command::Pigeons => {
+            let (refuted, steps) = six_pigeons(alloc)?;
+            println!(rt; "refuted: {refuted}, {steps} steps")?;
+        }
+        Command::Forty => {
+            let some = forty_variables(alloc, TIMED)?;
+            println!(rt; "{some} have a value")?;
+        }
+        Command::Trials => {
+            println!(rt; "small searches: {} of 4", rows(alloc)?)?;
+            println!(rt;
+                "random forms decided: {} of 10",
+                sixty_variables(alloc, 10)?.0
+            )?;
+            println!(rt; "refutations taken: {} of 200", refutations(alloc, 200)?)?;
+            println!(rt; "pigeons refuted: {}", six_pigeons(alloc)?.0)?;
+            println!(rt;
+                "values as by trying: {} of 300",
+                weighted_problems(alloc, 300)?
+            )?;
+        }
+    }
+    Ok(())
+}

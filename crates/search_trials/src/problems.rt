@@ -1,0 +1,126 @@
+//! Random weighted problems, and their greatest values by trying all assignments.
+ghost use Rattle.std.specs.Prelude.{◌<◌, ◌≤◌};
+ghost use Rattle.ps_pb.specs.Limits.{most_variables};
+
+use crate::draw::Draw;
+use crate::forms::{add_three, literal};
+use ps_clause::ClauseForm;
+use ps_io::List;
+use ps_log::HeldLog;
+use ps_maxsat::{Priced, Wcnf, best};
+use ps_pb::Lit;
+use ps_sat::{MOST_CONFLICTS, SearchError};
+use std::alloc::Global;
+
+/// Clauses of three literals, and weighted literals.
+#[derive(Drop)]
+pub struct Problem {
+    variables: u32,
+    clauses: List<(Lit, Lit, Lit)>,
+    soft: List<(Lit, i64)>,
+    base: i64,
+}
+
+/// A problem of so many variables, clauses and soft literals, of weights and base from -9 to 9.
+pub fn random_problem(
+    alloc: Global,
+    draw: &mut Draw,
+    variables: u32,
+    clauses: u32,
+    soft: u32,
+) -> Result<Problem, SearchError>
+    requires some { 0 < variables }
+    requires most { variables ≤ most_variables }
+{
+    let mut problem = Problem {
+        variables,
+        clauses: List::new(alloc),
+        soft: List::new(alloc),
+        base: weight(draw),
+    };
+    for _ in 0..clauses {
+        let a = literal(draw, variables);
+        let b = literal(draw, variables);
+        let c = literal(draw, variables);
+        if a.place() != b.place() && a.place() != c.place() && b.place() != c.place() {
+            problem.clauses.push((a, b, c))?;
+        }
+    }
+    for _ in 0..soft {
+        problem.soft.push((literal(draw, variables), weight(draw)))?;
+    }
+    Ok(problem)
+}
+
+fn weight(draw: &mut Draw) -> i64 {
+    draw.below(19) as i64 - 9
+}
+
+impl Problem {
+    fn wcnf(&self, alloc: Global) -> Result<Wcnf, SearchError> {
+        let mut hard = ClauseForm::new(alloc, self.variables.min(1024));
+        for clause in self.clauses.as_slice() {
+            add_three(&mut hard, clause.0, clause.1, clause.2)?;
+        }
+        let mut soft = List::new(alloc);
+        for term in self.soft.as_slice() {
+            soft.push((term.0, term.1 as i128))?;
+        }
+        Ok(Wcnf {
+            hard,
+            soft,
+            base: self.base as i128,
+        })
+    }
+
+    /// The greatest value by search, where it is at least 1.
+    pub fn by_search(&self, alloc: Global) -> Result<Option<i128>, SearchError> {
+        let wcnf = self.wcnf(alloc)?;
+        let mut log = HeldLog::new(alloc);
+        if !wcnf.is_narrow() || !wcnf.is_soft_within() {
+            return Ok(None);
+        }
+        let priced = best(alloc, &wcnf, MOST_CONFLICTS, &mut log)?;
+        Ok(match priced {
+            Priced::Best { value, .. } => Some(value),
+            _ => None,
+        })
+    }
+
+    /// The greatest value by trying all assignments, where it is at least 1.
+    pub fn by_trying(&self) -> Option<i128> {
+        let mut best = 0i128;
+        let end = 1u32 << self.variables.min(20);
+        for mask in 0..end {
+            if let Some(value) = self.value_of(mask) {
+                if best < value {
+                    best = value;
+                }
+            }
+        }
+        if best == 0 { None } else { Some(best) }
+    }
+
+    // The value of an assignment, where it meets the clauses.
+    fn value_of(&self, mask: u32) -> Option<i128> {
+        for clause in self.clauses.as_slice() {
+            if !(holds(mask, clause.0) || holds(mask, clause.1) || holds(mask, clause.2)) {
+                return None;
+            }
+        }
+        let mut value = self.base;
+        for term in self.soft.as_slice() {
+            if holds(mask, term.0) {
+                value = value.wrapping_add(term.1);
+            }
+        }
+        Some(value as i128)
+    }
+}
+
+// Whether a literal is true where the bits are the values of the variables.
+fn holds(mask: u32, lit: Lit) -> bool {
+    let place = lit.place();
+    let value = place < 32 && (mask >> place) & 1 == 1;
+    value == lit.is_positive()
+}
