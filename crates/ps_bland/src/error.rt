@@ -13,3 +13,14 @@ pub enum SettleError {
     #[error("not enough memory")]
     NoMemory,
 }
+
+impl From<WideAt> for SettleError {
+    ghost use Rattle.std.specs.Prelude.{◌≡◌};
+    ghost use Rattle.ps_bland.specs.declared.error.SettleError.TheVariants as refused;
+
+    ghost from_gives = { λ w e. e ≡ refused.Wide w };
+
+    fn from(wide: WideAt) -> SettleError {
+        SettleError::Wide(wide)
+    }
+}

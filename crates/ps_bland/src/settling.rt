@@ -56,7 +56,8 @@ fn step(
     trace: &mut Trace,
 ) -> Result<Option<Settled>, SettleError>
     requires { IsReady phase costs.now table.old }
-    ensures round { IsRound phase costs.now table.old table.new trace.old trace.new left.old left.new result }
+    ensures round { IsRound phase costs.now table.old table.new
+        trace.old trace.new left.old left.new result }
     ensures narrow { IfOk result (IsNarrowEnd phase costs.now table.new left.new) }
     ensures ready { IsReady phase costs.now table.new }
     ensures stands { StandsOn table.old table.new }
@@ -64,22 +65,15 @@ fn step(
     if is_due_to_end(phase, table) {
         return Ok(Some(Settled::Feasible));
     }
-    let enter = match entering(table, costs) {
-        Ok(Some(enter)) => enter,
-        Ok(None) => return Ok(Some(Settled::AtRest)),
-        Err(wide) => return Err(SettleError::Wide(wide)),
+    let enter = match entering(table, costs)? {
+        Some(enter) => enter,
+        None => return Ok(Some(Settled::AtRest)),
     };
     if *left == 0 {
         return Ok(Some(Settled::OutOfPivots));
     }
-    let leave = match leaving(table, phase, enter) {
-        Ok(leave) => leave,
-        Err(wide) => return Err(SettleError::Wide(wide)),
-    };
-    match pivot_with_event(table, trace, enter, leave) {
-        Ok(()) => {}
-        Err(refused) => return Err(refused),
-    }
+    let leave = leaving(table, phase, enter)?;
+    pivot_with_event(table, trace, enter, leave)?;
     *left -= 1;
     Ok(None)
 }

@@ -36,6 +36,10 @@ pub record IsGrid (g : GridCells) : Type 0 where
   pub many : g.worlds < world_limit
   pub size : length g.cells ≡ suc (g.rows + g.worlds) * g.rows
 
+-- the cells of so many rows and worlds
+abbrev pub cells_of : ℕ → ℕ → List Rational → GridCells
+cells_of n worlds cells = record { rows = n; worlds = worlds; cells = cells }
+
 -- the grid of a table
 abbrev pub grid_of : Tableau → GridCells
 grid_of t = record { rows = length t.kinds; worlds = t.worlds; cells = t.cells }

@@ -17,13 +17,13 @@ pub(crate) struct Grid<'a> {
 }
 
 impl<'a> Model for Grid<'a> {
-    ghost use Rattle.ps_table.specs.Grids.{GridCells, IsGrid};
+    ghost use Rattle.ps_table.specs.Grids.{GridCells, IsGrid, cells_of};
 
     ghost Value = { GridCells };
 
-    ghost view = { λ g. record { rows = g.rows; worlds = g.worlds; cells = g.cells.now } };
+    ghost view = { λ g. cells_of g.rows g.worlds g.cells.now };
 
-    ghost invariant = { λ g. IsGrid (record { rows = g.rows; worlds = g.worlds; cells = g.cells.now }) };
+    ghost invariant = { λ g. IsGrid (cells_of g.rows g.worlds g.cells.now) };
 }
 
 impl<'a> Grid<'a> {

@@ -1,6 +1,6 @@
-use Rattle.std.proofs.Common.{◌≡◌, ◌<◌, ℕ, length, rules}
+use Rattle.std.proofs.Common.{◌≡◌, ◌<◌, ℕ, length, Err, rules}
 use Rattle.ps_rule.specs.Rule.{Improves, Enters}
-use Rattle.ps_table.specs.Tableau.{number_in, IsInside}
+use Rattle.ps_table.specs.Tableau.{number_in, number_of, HasColumn}
 use Rattle.ps_table.specs.Pricing.{cost_at}
 use Rattle.ps_bland.specs.Rules.{simplex_of, IsLawful, IsDone}
 use Rattle.ps_bland.specs.Rounds.{IsSame}
@@ -8,46 +8,50 @@ use Rattle.ps_bland.specs.Ends.IsDueWide.{at_ratio}
 use Rattle.ps_bland.proofs.Steps.{due_refusal}
 use Rattle.ps_bland.proofs.Due.{rest_narrow, out_narrow}
 use Rattle.ps_bland.proofs.Ready.{can_leave, ready_kept}
+use Rattle.ps_bland.specs.declared.error.SettleError.TheVariants as refused
 use Rattle.ps_bland.proofs.settling.step.Goals as goal
 
 pub leaving-requires-clause-can_leave : goal.leaving-requires-clause-can_leave
 leaving-requires-clause-can_leave c =
-    let q = number_in (length c.args.table.now.kinds) c.in-Ok-Some.enter in
+    let q = number_in (length c.args.table.now.kinds) c.in-Some.enter in
     let enters : Enters (simplex_of c.args.table.now) (cost_at c.args.costs.now) q = search rules in
     can_leave c.args.phase c.args.costs.now c.args.table.now q c.is_due_to_end.ensures.tableau c.requires.fits enters.improves
 
-pub returns-in-Err-leaving-clause-round : goal.returns-in-Err-leaving-clause-round
-returns-in-Err-leaving-clause-round c =
+pub returns-in_err-leave-clause-round : goal.returns-in_err-leave-clause-round
+returns-in_err-leave-clause-round c =
     let t = c.args.table.now in
-    let q = number_in (length t.kinds) c.in-Ok-Some.enter in
-    let inside : IsInside (length t.kinds) t.worlds c.in-Ok-Some.enter = search rules in
-    let enters : Enters (simplex_of t) (cost_at c.args.costs.now) q = search rules in
+    let w = c.in_err-leave.field-0.0 in
+    let inside : HasColumn t c.in-Some.enter = search rules in
+    let enters : Enters (simplex_of t) (cost_at c.args.costs.now) (number_of t c.in-Some.enter) = search rules in
     let unfinished : IsDone c.args.phase t → ⊥ = search rules in
     let same : IsSame t t c.args.trace.now c.args.trace.now c.args.left.now c.args.left.now = search rules in
     let some : 0 < c.args.left.now = search rules in
-    (same, at_ratio c.in-Ok-Some.enter unfinished some inside enters c.in-Err-leaving.ensures.ratios c.in-Err-leaving.ensures.refused)
+    let e : c.from_residual-in_err-leave.result ≡ Err (refused.Wide w) = search rules in
+    rw e (same, at_ratio c.in-Some.enter unfinished some inside enters c.in_err-leave.ensures.ratios c.in_err-leave.ensures.refused)
 
-pub returns-in-Err-pivot_with_event-clause-round : goal.returns-in-Err-pivot_with_event-clause-round
-returns-in-Err-pivot_with_event-clause-round c =
+pub returns-in_err-pivot_with_event-clause-round : goal.returns-in_err-pivot_with_event-clause-round
+returns-in_err-pivot_with_event-clause-round c =
     let t = c.args.table.now in
-    let lawful : IsLawful c.args.phase c.args.costs.now t c.in-Ok-Some.enter c.in-Ok.leave = search rules in
+    let r = c.in_err-pivot_with_event.field-0.0 in
+    let lawful : IsLawful c.args.phase c.args.costs.now t c.in-Some.enter c.in_ok-leave.leave = search rules in
     let same : IsSame t c.pivot_with_event.new.table c.args.trace.now c.pivot_with_event.new.trace c.args.left.now c.args.left.now = search rules in
     let some : 0 < c.args.left.now = search rules in
-    (same, due_refusal c.args.phase c.args.costs.now t c.args.left.now c.in-Ok-Some.enter c.in-Ok.leave some lawful c.in-Err-pivot_with_event.refused c.in-Err-pivot_with_event.ensures.refused)
+    let e : c.from_residual-in_err-pivot_with_event.result ≡ Err r = search rules in
+    rw e (same, due_refusal c.args.phase c.args.costs.now t c.args.left.now c.in-Some.enter c.in_ok-leave.leave some lawful r c.in_err-pivot_with_event.ensures.refused)
 
 pub returns-clause-ready : goal.returns-clause-ready
 returns-clause-ready c =
     let t = c.args.table.now in
-    let lawful : IsLawful c.args.phase c.args.costs.now t c.in-Ok-Some.enter c.in-Ok.leave = search rules in
-    ready_kept t c.pivot_with_event.new.table c.in-Ok-Some.enter c.in-Ok.leave c.is_due_to_end.ensures.tableau c.in-Ok-pivot_with_event.ensures.pivot c.args.phase c.args.costs.now c.requires lawful
+    let lawful : IsLawful c.args.phase c.args.costs.now t c.in-Some.enter c.in_ok-leave.leave = search rules in
+    ready_kept t c.pivot_with_event.new.table c.in-Some.enter c.in_ok-leave.leave c.is_due_to_end.ensures.tableau c.in_ok-pivot_with_event.ensures.pivot c.args.phase c.args.costs.now c.requires lawful
 
-pub returns-in-Ok-None-clause-narrow : goal.returns-in-Ok-None-clause-narrow
-returns-in-Ok-None-clause-narrow c =
+pub returns-in-None-clause-narrow : goal.returns-in-None-clause-narrow
+returns-in-None-clause-narrow c =
     let t = c.args.table.now in
-    let none : (j : ℕ) → Improves (simplex_of t) (cost_at c.args.costs.now) j → ⊥ = rw c.in-Ok-None.field-0-is at c.in-Ok-None.ensures.found in
-    rest_narrow c.args.phase c.args.costs.now t c.args.left.now none c.in-Ok-None.ensures.narrow
+    let none : (j : ℕ) → Improves (simplex_of t) (cost_at c.args.costs.now) j → ⊥ = rw c.in-None.is at c.in_ok-enter.ensures.found in
+    rest_narrow c.args.phase c.args.costs.now t c.args.left.now none c.in_ok-enter.ensures.narrow
 
 pub returns-then-left-eq0-clause-narrow : goal.returns-then-left-eq0-clause-narrow
 returns-then-left-eq0-clause-narrow c =
     let none_left : c.args.left.now ≡ 0 = search rules in
-    out_narrow c.args.phase c.args.costs.now c.args.table.now c.args.left.now none_left c.in-Ok-Some.ensures.narrow
+    out_narrow c.args.phase c.args.costs.now c.args.table.now c.args.left.now none_left c.in_ok-enter.ensures.narrow
