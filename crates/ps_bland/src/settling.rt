@@ -117,10 +117,9 @@ pub fn settle(
     ensures stands { StandsOn table.old table.new }
 {
     loop {
-        match step(table, costs, phase, left, trace) {
-            Ok(None) => {}
-            Ok(Some(settled)) => return Ok(settled),
-            Err(refused) => return Err(refused),
+        match step(table, costs, phase, left, trace)? {
+            None => {}
+            Some(settled) => return Ok(settled),
         }
     }
 }
