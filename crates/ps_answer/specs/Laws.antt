@@ -38,11 +38,11 @@ ReportsHaveNoFault = (bytes : List ℕ) (a : Answer) (k : LineKind) (n : ℕ) �
 abbrev pub FaultsAreSingle : Type 0
 FaultsAreSingle = (bytes : List ℕ) (k l : LineKind) (m n : ℕ) → IsFirstFault bytes k m → IsFirstFault bytes l n → (k ≡ l) × (m ≡ n)
 
--- what is written of a line within the limits says it
+-- what is written of a line within the limits, with the signs that it asks, says it
 abbrev pub WrittenLinesSayTheirItem : Type 0
 WrittenLinesSayTheirItem = (i : Item) → IsProper i → IsWithin i → IsLine (item_line i) i
 
--- the lines that are written of an answer within the limits are its report
+-- the lines that are written of an answer within the limits, with the signs and counts that it asks, are its report
 abbrev pub WrittenLinesAreReports : Type 0
 WrittenLinesAreReports = (a : Answer) → IsAnswerCounted a → AllByRecursion (λ i. IsProper i × IsWithin i) (answer_items a)
     → IsReport (lines_bytes false (answer_lines a)) a

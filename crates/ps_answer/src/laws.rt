@@ -12,8 +12,8 @@ pub fn texts_determine_answers()
     ensures report { ReportsAreTexts }
 {}
 
-/// What is due behind each line of an answer comes next, and behind the last line nothing is due. Lines of which each is
-/// due, up to the end, are those of an answer.
+/// What is due behind each line of an answer comes next, and behind the last line nothing is due. Lines within the limits
+/// of which each is due, up to the end, are the report of an answer.
 pub fn due_lines_are_answers()
     ensures due { AnswersAreDue }
     ensures answer { DueLinesAreReports }
@@ -25,8 +25,8 @@ pub fn faults_are_single()
     ensures one { FaultsAreSingle }
 {}
 
-/// What is written of a line within the limits says it. The lines that are written of an answer within the limits are
-/// its text.
+/// What is written of a line within the limits says it, where no number is negative that may not be. So the lines that
+/// are written of such an answer are its report, where each part that is open for conflicts has as many steps as its limit.
 pub fn written_lines_are_lines()
     ensures line { WrittenLinesSayTheirItem }
     ensures report { WrittenLinesAreReports }

@@ -25,7 +25,8 @@ pub fn combinations_are_sums()
     ensures goal { GoalsSayAtLeastOne }
 {}
 
-/// Where steps refute the goal of a combination, the combination is above 0 in no world.
+/// Where no multiplier is of the wrong sign and steps refute the goal of a combination, the combination is above 0 in no
+/// world.
 pub fn refuted_goals_bound_combinations()
     ensures refuted { RefutedGoalsBoundCombinations }
 {}
