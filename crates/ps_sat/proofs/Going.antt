@@ -1,5 +1,5 @@
 -- How far a search has come.
-use Rattle.std.proofs.Common.{◌≡◌, ℕ, ◌+◌, ◌<◌, ℤ, Bool, true, false, Option, Some, List, [], ◌∷◌, ◌++◌, length, length-append, take, map, arith, refl, sym, ap, ◌∙◌, subst}
+use Rattle.std.proofs.Common.{◌≡◌, ℕ, ◌+◌, ◌<◌, ◌≤◌, ℤ, Bool, true, false, Option, Some, List, [], ◌∷◌, ◌++◌, length, length-append, take, map, arith, refl, sym, ap, ◌∙◌, subst}
 use Rattle.std.specs.Option.{option_map}
 use Rattle.std.specs.List.{All}
 use Rattle.std.proofs.lemmas.List.Elements.{All-nil, All-push}
@@ -16,7 +16,7 @@ use Rattle.ps_log.specs.Logs.{Telling, Starts, Grows, Stays}
 use Rattle.ps_learning.specs.Trails.{Trail, values, IsFresh, AreReasons}
 use Rattle.ps_learning.proofs.Entries.{reasons-take, reasons-more, reasons-none, length-values}
 use Rattle.ps_learn.specs.Rest.{IsDone}
-use Rattle.ps_sat.specs.Searches.{Holds, Handed, IsHeld}
+use Rattle.ps_sat.specs.Searches.{Holds, Handed, IsHeld, HoldsLearned}
 use Rattle.ps_sat.specs.declared.searching.Outcome.{Outcome}
 use Rattle.ps_sat.proofs.Ends.{found, refuted}
 
@@ -37,12 +37,12 @@ begun old new goal st = λ b. (let r = st.1 b in (b, r.0, r.1))
 pub told-before : (f : Form) (goal : Constraint) (old start new : Telling) (conflicts : ℕ) (o : Outcome) → Starts old start goal → IsHeld f goal conflicts start.tells new o → IsHeld f goal conflicts old.tells new o
 told-before f goal old start new conflicts o st h = (record { steps = h.0.steps; held = λ b. h.0.held (st.0 b); lawful = h.0.lawful }, h.1)
 
-pub told-handed : (f : Form) (goal : Constraint) (old start new : Telling) → Starts old start goal → Handed f goal start.tells new → Handed f goal old.tells new
-told-handed f goal old start new st h = record { steps = h.steps; held = λ b. h.held (st.0 b); lawful = h.lawful }
+pub told-learned : (f : Form) (goal : Constraint) (conflicts : ℕ) (old start new : Telling) → Starts old start goal → HoldsLearned f goal conflicts start.tells new → HoldsLearned f goal conflicts old.tells new
+told-learned f goal conflicts old start new st h = (record { steps = h.0.steps; held = λ b. h.0.held (st.0 b); lawful = h.0.lawful }, h.1)
 
 -- nothing was handed over yet
-pub handed-none : (f : Form) (goal : Constraint) (told : Bool) (new : Telling) → Holds told new goal [] → Handed f goal told new
-handed-none f goal told new st = record { steps = []; held = st; lawful = tt }
+pub handed-none : (f : Form) (goal : Constraint) (told : Bool) (new : Telling) (conflicts : ℕ) → Holds told new goal [] → HoldsLearned f goal conflicts told new
+handed-none f goal told new conflicts st = (record { steps = []; held = st; lawful = tt }, (omega arith, All-nil (λ x. is_contradiction x ≡ false)))
 
 pub begins : (f : Form) (goal : Constraint) (told : Bool) (new : Telling) (cs : List Constraint) (t : Trail) → Holds told new goal [] → cs ≡ f.clauses ++ goal ∷ [] → t ≡ record { variables = f.variables; entries = [] } → AreInside f → IsWithin f.variables goal → Searching f goal told new cs t 0
 begins f goal told new cs t st e q inside own = rw (e, q) (record {
@@ -69,13 +69,20 @@ handed-more f goal told old new cs t learned x h lawful grows = record {
   lawful = lawful-append f.variables (first_known f goal) h.handed.steps x h.handed.lawful (subst (λ k. IsLawful f.variables k x) h.known lawful);
 }
 
+-- the steps that were handed over are of clauses that were learned
+pub handed-learned : (f : Form) (goal : Constraint) (told : Bool) (new : Telling) (cs : List Constraint) (t : Trail) (learned conflicts : ℕ) → Searching f goal told new cs t learned → learned ≤ conflicts → HoldsLearned f goal conflicts told new
+handed-learned f goal told new cs t learned conflicts h le = (h.handed, (omega (arith, h.count, le), h.literals))
+
 -- none was
-pub handed-stays : (f : Form) (goal : Constraint) (told : Bool) (old new : Telling) (cs : List Constraint) (t : Trail) (learned : ℕ) → Searching f goal told old cs t learned → Stays old new → Handed f goal told new
-handed-stays f goal told old new cs t learned h stays = record {
-  steps = h.handed.steps;
-  held = λ b. let was = h.handed.held b in let now = stays was.0 in (now.0, now.1 ∙ was.1, now.2 ∙ was.2);
-  lawful = h.handed.lawful;
-}
+pub handed-stays : (f : Form) (goal : Constraint) (told : Bool) (old new : Telling) (cs : List Constraint) (t : Trail) (learned conflicts : ℕ) → Searching f goal told old cs t learned → learned ≤ conflicts → Stays old new → HoldsLearned f goal conflicts told new
+handed-stays f goal told old new cs t learned conflicts h le stays = (
+  record {
+    steps = h.handed.steps;
+    held = λ b. let was = h.handed.held b in let now = stays was.0 in (now.0, now.1 ∙ was.1, now.2 ∙ was.2);
+    lawful = h.handed.lawful;
+  },
+  (omega (arith, h.count, le), h.literals),
+)
 
 -- the search goes on after a step
 pub goes-on : (f : Form) (goal : Constraint) (told : Bool) (old new : Telling) (cs cs' : List Constraint) (t u w : Trail) (learned k : ℕ) (x : Step) → Searching f goal told old cs t learned → u.variables ≡ f.variables → AreReasons f.variables (known_of cs) u.entries → IsLawful f.variables (known_of cs) x → Grows old new (x ∷ [])

@@ -15,11 +15,11 @@ use Rattle.ps_log.specs.Limits.{IsStepWithin}
 use Rattle.ps_pb.specs.Limits.{most_variables}
 use Rattle.ps_learning.specs.Known.{most_known, IsIdUpTo}
 use Rattle.ps_learning.specs.Trails.{Trail, IsLit, AreReasons}
-use Rattle.ps_sat.specs.Searches.{Handed, IsHeld, IsLogged}
+use Rattle.ps_sat.specs.Searches.{HoldsLearned, IsHeld, IsLogged}
 use Rattle.ps_sat.specs.declared.searching.Outcome.{Outcome}
 use Rattle.ps_sat.specs.declared.error.SearchError.{SearchError}
 use Rattle.ps_sat.specs.declared.searching.Outcome.TheVariants.{Found, Refuted, Spent}
-use Rattle.ps_sat.proofs.Going.{Searching, handed-more, goes-on, search-refuted, told-before, told-handed}
+use Rattle.ps_sat.proofs.Going.{Searching, handed-more, goes-on, search-refuted, told-before, told-learned, handed-learned}
 
 id_next : (b : Bool) (r : Option StepRefused) → cond b r (Some IdNotNext) ≡ None → b ≡ true
 id_next true r h = refl
@@ -51,7 +51,7 @@ step-within n cs x l most few = record {
 
 -- what the log holds when an assignment was found
 pub held-found : (f : Form) (goal : Constraint) (told : Bool) (new : Telling) (cs : List Constraint) (t : Trail) (learned conflicts : ℕ) (a : Assignment) → Searching f goal told new cs t learned → learned ≤ conflicts → IsHeld f goal conflicts told new (Found a)
-held-found f goal told new cs t learned conflicts a h le = (h.handed, omega (arith, h.count, le))
+held-found f goal told new cs t learned conflicts a h le = handed-learned f goal told new cs t learned conflicts h le
 
 -- what it holds when no conflict is left
 pub held-spent : (f : Form) (goal : Constraint) (told : Bool) (new : Telling) (cs : List Constraint) (t : Trail) (learned conflicts : ℕ) → Searching f goal told new cs t learned → learned ≡ conflicts → IsHeld f goal conflicts told new (Spent learned)
@@ -61,9 +61,9 @@ pub non-empty : (b : Bool) (ls : List ℤ) (x : Step) (r : Bool) → b ≡ (leng
 non-empty b ls x r p q e = sym (p ∙ ap (λ (z : List ℤ). length z == 0) q) ∙ e
 
 -- what it holds after a contradiction
-pub held-refuted : (f : Form) (goal : Constraint) (told : Bool) (old new : Telling) (cs : List Constraint) (t : Trail) (learned conflicts : ℕ) (x : Step) (id : ℕ) → Searching f goal told old cs t learned → IsLearned f.variables cs x → Grows old new (x ∷ []) → is_contradiction x ≡ true → x.id ≡ id → IsHeld f goal conflicts told new (Refuted id)
+pub held-refuted : (f : Form) (goal : Constraint) (told : Bool) (old new : Telling) (cs : List Constraint) (t : Trail) (learned conflicts : ℕ) (x : Step) (id : ℕ) → Searching f goal told old cs t learned → learned ≤ conflicts → IsLearned f.variables cs x → Grows old new (x ∷ []) → is_contradiction x ≡ true → x.id ≡ id → IsHeld f goal conflicts told new (Refuted id)
 unfolding handed-more
-held-refuted f goal told old new cs t learned conflicts x id h l grows non own = (handed-more f goal told old new cs t learned x h l.lawful grows, (h.handed.steps, x, refl, own, non))
+held-refuted f goal told old new cs t learned conflicts x id h le l grows non own = (handed-more f goal told old new cs t learned x h l.lawful grows, (h.handed.steps, x, refl, (omega (arith, h.count, le), h.literals), own, non))
 
 -- the form and the goal are refuted by what was learned
 pub learned-refutes : (f : Form) (goal : Constraint) (told : Bool) (new : Telling) (cs : List Constraint) (t : Trail) (learned : ℕ) (x : Step) → Searching f goal told new cs t learned → IsLearned f.variables cs x → is_contradiction x ≡ true → (w : List Bool) → MeetsForm w f → IsMet w goal → ⊥
@@ -93,6 +93,11 @@ logged-nothing f goal conflicts old (Ok o) h = absurd (false≢true h)
 logged-nothing f goal conflicts old (Err e) h = inl (λ b. (b, refl, refl))
 
 -- what was told since the log began
-pub logged-after : (f : Form) (goal : Constraint) (conflicts : ℕ) (old start new : Telling) (r : Result Outcome SearchError) → Starts old start goal → IfOk r (IsHeld f goal conflicts start.tells new) → IfErr r (λ _. Handed f goal start.tells new) → IsLogged f goal conflicts old new r
+pub logged-after : (f : Form) (goal : Constraint) (conflicts : ℕ) (old start new : Telling) (r : Result Outcome SearchError) → Starts old start goal → IfOk r (IsHeld f goal conflicts start.tells new) → IfErr r (λ _. HoldsLearned f goal conflicts start.tells new) → IsLogged f goal conflicts old new r
 logged-after f goal conflicts old start new (Ok o) st held handed = told-before f goal old start new conflicts o st held
-logged-after f goal conflicts old start new (Err e) st held handed = inr (told-handed f goal old start new st handed)
+logged-after f goal conflicts old start new (Err e) st held handed = inr (told-learned f goal conflicts old start new st handed)
+
+-- an error comes after clauses that were learned
+pub err-learned : (f : Form) (goal : Constraint) (told : Bool) (new : Telling) (conflicts : ℕ) (r : Result Outcome SearchError) → HoldsLearned f goal conflicts told new → IfErr r (λ _. HoldsLearned f goal conflicts told new)
+err-learned f goal told new conflicts (Ok o) h = tt
+err-learned f goal told new conflicts (Err e) h = h

@@ -18,11 +18,19 @@ IsOutcome f goal conflicts (Spent learned) = learned ≡ conflicts
 abbrev pub Holds : Bool → Telling → Constraint → List Step → Type 0
 Holds told new c ss = IsTrue told → IsTrue new.tells × (new.goal ≡ Some c) × (new.steps ≡ Some ss)
 
--- what an outcome says of the steps that were handed over
+-- each step has a literal
+abbrev pub HaveLiterals : List Step → Type 0
+HaveLiterals ss = All (λ s. is_contradiction s ≡ false) ss
+
+-- so many steps at most, each with a literal
+abbrev pub AreLearned : ℕ → List Step → Type 0
+AreLearned conflicts ss = (length ss ≤ conflicts) × HaveLiterals ss
+
+-- what an outcome says of the steps that were handed over: a refutation ends in its only contradiction
 abbrev pub IsShown : ℕ → List Step → Outcome → Type 0
-IsShown conflicts ss (Found a) = length ss ≤ conflicts
-IsShown conflicts ss (Refuted last) = (front : List Step) × (s : Step) × (ss ≡ front ++ s ∷ []) × (s.id ≡ last) × (is_contradiction s ≡ true)
-IsShown conflicts ss (Spent learned) = (length ss ≡ conflicts) × All (λ s. is_contradiction s ≡ false) ss
+IsShown conflicts ss (Found a) = AreLearned conflicts ss
+IsShown conflicts ss (Refuted last) = (front : List Step) × (s : Step) × (ss ≡ front ++ s ∷ []) × AreLearned conflicts front × (s.id ≡ last) × (is_contradiction s ≡ true)
+IsShown conflicts ss (Spent learned) = (length ss ≡ conflicts) × HaveLiterals ss
 
 -- the steps that were handed over are lawful after the form and the goal, and a log that told holds just these
 pub record Handed (f : Form) (goal : Constraint) (told : Bool) (new : Telling) : Type 0 where
@@ -34,7 +42,11 @@ pub record Handed (f : Form) (goal : Constraint) (told : Bool) (new : Telling) :
 abbrev pub IsHeld : Form → Constraint → ℕ → Bool → Telling → Outcome → Type 0
 IsHeld f goal conflicts told new o = (h : Handed f goal told new) × IsShown conflicts h.steps o
 
+-- before an error they are so many at most, each with a literal
+abbrev pub HoldsLearned : Form → Constraint → ℕ → Bool → Telling → Type 0
+HoldsLearned f goal conflicts told new = (h : Handed f goal told new) × AreLearned conflicts h.steps
+
 -- the log after a search holds the goal and the steps of this search; after an error it may also be as before
 abbrev pub IsLogged : Form → Constraint → ℕ → Telling → Telling → Result Outcome SearchError → Type 0
 IsLogged f goal conflicts old new (Ok o) = IsHeld f goal conflicts old.tells new o
-IsLogged f goal conflicts old new (Err e) = Stays old new ⊎ Handed f goal old.tells new
+IsLogged f goal conflicts old new (Err e) = Stays old new ⊎ HoldsLearned f goal conflicts old.tells new

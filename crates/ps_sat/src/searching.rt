@@ -7,7 +7,7 @@ ghost use Rattle.ps_log.specs.Logs.{Grows, Stays};
 ghost use Rattle.ps_log.specs.Limits.{IsStepWithin};
 ghost use Rattle.ps_sat.specs.Limits.{most_conflicts};
 ghost use Rattle.ps_sat.specs.Errors.{HasCause};
-ghost use Rattle.ps_sat.specs.Searches.{IsOutcome, IsLogged, IsHeld, Holds, Handed};
+ghost use Rattle.ps_sat.specs.Searches.{IsOutcome, IsLogged, IsHeld, Holds, HoldsLearned};
 
 use crate::advancing::advance;
 use crate::error::SearchError;
@@ -53,8 +53,8 @@ fn first_known(
 /// clauses with literals are learned. Each goes to the log as a step that is lawful there.
 ///
 /// After each outcome the log is whole and holds this goal and the steps of this search: after
-/// `Refuted` they end in a contradiction, and after `Spent` they are `conflicts` steps, each with a
-/// literal. `LogFault` comes only where the log's count of faults rose.
+/// `Refuted` the last one, and no other, is a contradiction, and after `Spent` they are `conflicts`
+/// steps, each with a literal. `LogFault` comes only where the log's count of faults rose.
 pub fn search<S: ProofSink>(
     alloc: Global,
     base: &ClauseForm,
@@ -101,7 +101,7 @@ fn learn_all<S: ProofSink>(
     ensures outcome { IfOk result (IsOutcome base.now goal.now conflicts) }
     ensures shown { IfOk result (IsHeld base.now goal.now conflicts
         (S.told log.old).tells (S.told log.new)) }
-    ensures handed { IfErr result (λ _. Handed base.now goal.now
+    ensures handed { IfErr result (λ _. HoldsLearned base.now goal.now conflicts
         (S.told log.old).tells (S.told log.new)) }
     ensures whole { OnOk result (IsTrue (S.is_whole log.new)) }
     ensures later { S.faults log.old ≤ S.faults log.new }

@@ -1,8 +1,8 @@
 use Rattle.std.proofs.Common.{◌∷◌, [], ap, ◌∙◌, refl, length, length-append, arith}
 use Rattle.ps_steps.specs.Steps.{Step, added}
 use Rattle.ps_learn.specs.declared.learning.Lesson.{Lesson}
-use Rattle.ps_sat.proofs.Going.{begins, search-found}
-use Rattle.ps_sat.proofs.Handing.{is-learned, step-within, held-found, held-spent, held-refuted, learned-refutes, non-empty, goes-further, least-more}
+use Rattle.ps_sat.proofs.Going.{begins, search-found, handed-none, handed-learned, handed-stays}
+use Rattle.ps_sat.proofs.Handing.{is-learned, step-within, held-found, held-spent, held-refuted, learned-refutes, non-empty, goes-further, least-more, err-learned}
 use Rattle.ps_sat.proofs.searching.learn_all.Goals as goal
 
 pub learn-init : goal.learn-init
@@ -47,7 +47,7 @@ pub returns-then-last-clause-shown : goal.returns-then-last-clause-shown
 returns-then-last-clause-shown g c =
     let x : Step = record { id = c.lesson.inside.0.0.id; lits = c.lesson.inside.0.0.lits; hints = c.lesson.inside.0.0.hints } in
     let learned = c.in_ok-lesson.ensures in
-    held-refuted c.args.base.now c.args.goal.now _ _ _ c.learn.known c.learn.trail c.learn.learned c.args.conflicts x _ c.learn.invariant.so_far
+    held-refuted c.args.base.now c.args.goal.now _ _ _ c.learn.known c.learn.trail c.learn.learned c.args.conflicts x _ c.learn.invariant.so_far c.learn.invariant.least
     (is-learned c.args.base.now.variables c.advance.new.trail.variables c.learn.known _ _ (ap (λ (z : Lesson). z.step) c.lesson.view_is) (c.advance.ensures.variables ∙ c.learn.invariant.so_far.same) learned.lawful learned.literals learned.few_literals learned.hints learned.few_hints)
     c.in_ok-hand_over.ensures.ok (non-empty c.is_empty-last.result c.as_slice.result.now x _ c.is_empty-last.ensures c.as_slice.ensures c.if-last.true) refl
 
@@ -67,3 +67,17 @@ learn-preserved g c =
       same_kind = c.hand_over.ensures.same_kind ∙ c.learn.invariant.same_kind;
       same_references = c.hand_over.ensures.same_references ∙ c.learn.invariant.same_references;
     }
+
+pub returns-in_err-order-clause-handed : goal.returns-in_err-order-clause-handed
+returns-in_err-order-clause-handed g c =
+    err-learned c.args.base.now c.args.goal.now _ _ c.args.conflicts c.from_residual.result (handed-none c.args.base.now c.args.goal.now _ _ c.args.conflicts c.requires.begun)
+
+pub returns-in_err-lesson-clause-handed : goal.returns-in_err-lesson-clause-handed
+returns-in_err-lesson-clause-handed g c =
+    err-learned c.args.base.now c.args.goal.now _ _ c.args.conflicts c.from_residual-in_err-lesson.result
+    (handed-learned c.args.base.now c.args.goal.now _ _ c.learn.known c.learn.trail c.learn.learned c.args.conflicts c.learn.invariant.so_far c.learn.invariant.least)
+
+pub returns-in_err-hand_over-clause-handed : goal.returns-in_err-hand_over-clause-handed
+returns-in_err-hand_over-clause-handed g c =
+    err-learned c.args.base.now c.args.goal.now _ _ c.args.conflicts c.from_residual-in_err-hand_over.result
+    (handed-stays c.args.base.now c.args.goal.now _ _ _ c.learn.known c.learn.trail c.learn.learned c.args.conflicts c.learn.invariant.so_far c.learn.invariant.least c.in_err-hand_over.ensures.err)
