@@ -1,0 +1,155 @@
+-- The machine over tokens: what a token that isn't refused does to a draft.
+use Rattle.std.specs.Prelude.{ℕ, ◌/◌, Bool, true, false, if◌then◌else◌, bytes_eq, codes, List, [], ◌∷◌, ◌++◌, Option, Some, None, length, option_map}
+use Rattle.ps_meaning.specs.Formula as formula
+use Rattle.ps_meaning.specs.Statements.{Name, Ratio, Item, Stated, Asked}
+use Rattle.ps_meaning.specs.declared.side.Side.{Side}
+use Rattle.ps_meaning.specs.declared.side.Side.TheVariants as side
+use Rattle.ps_rational.specs.Gcd.{gcd}
+use Rattle.ps_text.specs.Tokens.{Token, Word, Sign}
+use Rattle.ps_text.specs.declared.symbol.Symbol.TheVariants.{Close, Bang, Ampersand, Bar, Arrow, DoubleArrow, Equals, LessEquals}
+use Rattle.ps_text.specs.Meanings.{ratio_of}
+use Rattle.ps_text.specs.ExpectedTokens.{State, at_start, after}
+use Rattle.ps_text.specs.declared.part.Part.{Part}
+use Rattle.ps_text.specs.declared.part.Part.TheVariants as part
+use Rattle.ps_text.proofs.Parsing.{number_in}
+use Rattle.ps_problem.specs.declared.mark.Mark.TheVariants as mark
+use Rattle.ps_problem.specs.Numbering.{same_name, with_new}
+use Rattle.ps_problem.specs.Drafts.{Drafted, with_mark, with_formula, with_item, formula_at, question_at}
+use Rattle.ps_parse.specs.declared.operator.Operator.{Operator}
+use Rattle.ps_parse.specs.declared.operator.Operator.TheVariants as operator
+use Rattle.ps_parse.specs.Pending.{Pending, waiting, settled}
+
+-- what of an item was read: the numbers of its formula and of its condition, how it is bounded, and an interval's least value
+pub record ItemSoFar : Type 0 where
+  pub formula : ℕ
+  pub given : Option ℕ
+  pub side : Side
+  pub least : Ratio
+
+-- what waits with the draft, and the item so far
+pub record Work : Type 0 where
+  pub pending : Pending
+  pub item : ItemSoFar
+
+-- what is expected, and the work
+pub record Machine : Type 0 where
+  pub state : State
+  pub work : Work
+
+-- before the first token
+abbrev pub at_first : Machine
+at_first = record {
+  state = at_start;
+  work = record {
+    pending = record { operators = []; draft = record { names = []; «open» = []; formulas = []; items = [] } };
+    item = record { formula = 0; given = None; side = side.Exactly; least = record { num = 0; den = 1 } };
+  };
+}
+
+-- a fraction in lowest terms
+abbrev pub lowest : Ratio → Ratio
+lowest r = record { num = r.num / gcd r.num r.den; den = r.den / gcd r.num r.den }
+
+-- the value of a token that is a number
+abbrev pub value_in : Token → Ratio
+value_in t = lowest (ratio_of (number_in t))
+
+abbrev pub with_draft : Work → Drafted → Work
+with_draft w d = record { pending = record { operators = w.pending.operators; draft = d }; item = w.item }
+
+abbrev pub with_pending : Work → Pending → Work
+with_pending w p = record { pending = p; item = w.item }
+
+-- an atom stands open last
+abbrev pub with_atom : Drafted → Name → Drafted
+with_atom d name = record { names = with_new same_name d.names name; «open» = d.«open» ++ formula.Atom name ∷ []; formulas = d.formulas; items = d.items }
+
+-- the formula of a word stands open last
+abbrev pub with_word : Drafted → List ℕ → Drafted
+with_word d w = if bytes_eq w (codes "true") then with_mark d mark.True else (if bytes_eq w (codes "false") then with_mark d mark.False else with_atom d w)
+
+-- behind an operand each `!` before it is marked
+abbrev pub operand_ended : Pending → Drafted → Pending
+operand_ended p d = settled 5 (record { operators = p.operators; draft = d })
+
+-- in the place of an operand
+abbrev pub operand_taken : Pending → Token → Pending
+operand_taken p (Sign Bang) = waiting operator.Not p
+operand_taken p (Sign s) = waiting operator.Group p
+operand_taken p (Word w) = operand_ended p (with_word p.draft w)
+operand_taken p t = operand_ended p (with_mark p.draft mark.True)
+
+-- the number of a formula that ended is that of the item's formula, or behind `given` that of its condition
+abbrev pub numbered : Bool → ItemSoFar → ℕ → ItemSoFar
+numbered false i n = record { formula = n; given = None; side = i.side; least = i.least }
+numbered true i n = record { formula = i.formula; given = Some n; side = i.side; least = i.least }
+
+-- the open formula ends
+abbrev pub formula_ended : Bool → Work → Work
+formula_ended given w = record {
+  pending = record { operators = []; draft = with_formula w.pending.draft };
+  item = numbered given w.item (length w.pending.draft.formulas);
+}
+
+-- the item's probability is asked
+abbrev pub asked : Work → Work
+asked w = with_draft w (with_item w.pending.draft (Asked (question_at w.pending.draft.formulas w.item.formula w.item.given)))
+
+-- a probability ends; that of a query is asked
+abbrev pub probability_ended : Bool → Bool → Work → Work
+probability_ended true given w = asked (formula_ended given w)
+probability_ended false given w = formula_ended given w
+
+-- at a `)`, where all is marked that waits behind its `(`
+-- at a `)`, where all is marked that waits behind its `(`
+abbrev pub closed_behind : Bool → Bool → ItemSoFar → List Operator → Drafted → Work
+closed_behind query given i [] d = probability_ended query given (record { pending = record { operators = []; draft = d }; item = i })
+closed_behind query given i (o ∷ os) d = record { pending = settled 5 (record { operators = os; draft = d }); item = i }
+
+abbrev pub closed : State → ItemSoFar → Pending → Work
+closed s i p = closed_behind s.query s.given i p.operators p.draft
+
+-- behind an operand
+abbrev pub operator_taken : State → Work → Token → Work
+operator_taken s w (Sign Close) = closed s w.item (settled 1 w.pending)
+operator_taken s w (Sign Ampersand) = with_pending w (waiting operator.And (settled 4 w.pending))
+operator_taken s w (Sign Bar) = with_pending w (waiting operator.Or (settled 3 w.pending))
+operator_taken s w (Sign Arrow) = with_pending w (waiting operator.Implies (settled 3 w.pending))
+operator_taken s w (Sign DoubleArrow) = with_pending w (waiting operator.Iff (settled 1 w.pending))
+operator_taken s w t = formula_ended false (with_pending w (settled 1 w.pending))
+
+-- the side of a relation; an interval is at least its least value
+abbrev pub side_in : Token → Side
+side_in (Sign Equals) = side.Exactly
+side_in (Sign LessEquals) = side.AtMost
+side_in t = side.AtLeast
+
+abbrev pub with_side : Work → Side → Work
+with_side w s = record { pending = w.pending; item = record { formula = w.item.formula; given = w.item.given; side = s; least = w.item.least } }
+
+abbrev pub with_least : Work → Ratio → Work
+with_least w r = record { pending = w.pending; item = record { formula = w.item.formula; given = w.item.given; side = w.item.side; least = r } }
+
+-- the item so far is stated with these values
+abbrev pub stated : List (formula.Formula Name) → ItemSoFar → Ratio → Option Ratio → Item
+stated fs i r upper = Stated (record { formula = formula_at fs i.formula; given = option_map (formula_at fs) i.given; side = i.side; value = r; upper = upper })
+
+abbrev pub with_sentence : Work → Ratio → Option Ratio → Work
+with_sentence w r upper = with_draft w (with_item w.pending.draft (stated w.pending.draft.formulas w.item r upper))
+
+-- what a token does, by the part where it stands; the others change only what is expected
+abbrev pub taken_at : Part → State → Work → Token → Work
+taken_at part.Operand s w t = with_pending w (operand_taken w.pending t)
+taken_at part.Operator s w t = operator_taken s w t
+taken_at part.Relation s w t = with_side w (side_in t)
+taken_at part.Number s w t = with_sentence w (value_in t) None
+taken_at part.First s w t = with_least w (value_in t)
+taken_at part.Second s w t = with_sentence w w.item.least (Some (value_in t))
+taken_at p s w t = w
+
+abbrev pub taken : State → Work → Token → Work
+taken s w t = taken_at s.part s w t
+
+-- behind a token that isn't refused
+abbrev pub next : Machine → Token → Machine
+next m t = record { state = after m.state t; work = taken m.state m.work t }

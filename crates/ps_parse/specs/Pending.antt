@@ -1,0 +1,42 @@
+-- Operators that wait for their last operand, and the draft whose open formulas are their first ones.
+use Rattle.std.specs.Prelude.{ℕ, nat_le, if◌then◌else◌, List, [], ◌∷◌}
+use Rattle.ps_problem.specs.declared.mark.Mark.{Mark}
+use Rattle.ps_problem.specs.declared.mark.Mark.TheVariants as mark
+use Rattle.ps_problem.specs.Drafts.{Drafted, with_mark}
+use Rattle.ps_parse.specs.declared.operator.Operator.{Operator}
+use Rattle.ps_parse.specs.declared.operator.Operator.TheVariants as operator
+
+-- how tightly an operator binds; a `(` waits for its `)`
+abbrev pub binding : Operator → ℕ
+binding operator.Group = 0
+binding operator.Iff = 1
+binding operator.Implies = 2
+binding operator.Or = 3
+binding operator.And = 4
+binding operator.Not = 5
+
+-- the mark of an operator; a `(` has none of its own, and is never marked
+abbrev pub mark_of : Operator → Mark
+mark_of operator.Not = mark.Not
+mark_of operator.And = mark.And
+mark_of operator.Or = mark.Or
+mark_of operator.Implies = mark.Implies
+mark_of operator.Iff = mark.Iff
+mark_of operator.Group = mark.Not
+
+-- the operators that wait, the last one first, and the draft
+pub record Pending : Type 0 where
+  pub operators : List Operator
+  pub draft : Drafted
+
+-- one more operator waits
+abbrev pub waiting : Operator → Pending → Pending
+waiting o p = record { operators = o ∷ p.operators; draft = p.draft }
+
+-- each operator that waits last and binds at least so tightly is marked
+abbrev pub settled_from : ℕ → List Operator → Drafted → Pending
+settled_from k [] d = record { operators = []; draft = d }
+settled_from k (o ∷ os) d = if nat_le k (binding o) then settled_from k os (with_mark d (mark_of o)) else record { operators = o ∷ os; draft = d }
+
+abbrev pub settled : ℕ → Pending → Pending
+settled k p = settled_from k p.operators p.draft

@@ -1,0 +1,111 @@
+-- Which derivation a state of the machine stands for.
+use Rattle.std.specs.Prelude.{◌≡◌, ◌<◌, List, [], ◌∷◌, ◌++◌, Option, Some, None, length, option_map}
+use Rattle.ps_meaning.specs.Formula.{Formula}
+use Rattle.ps_meaning.specs.Statements.{Name}
+use Rattle.ps_meaning.specs.declared.side.Side.TheVariants as side
+use Rattle.ps_text.specs.Tokens.{Token, Sign}
+use Rattle.ps_text.specs.Grammar.{Form, Prob, Within, Entry, Sentence}
+use Rattle.ps_text.specs.Meanings.{formula_of, given_of, IsValue, AreItems}
+use Rattle.ps_text.specs.ExpectedTokens.{refusal}
+use Rattle.ps_text.proofs.Frames.{Frame, BegunNot, BegunGroup, BegunAnd, BegunOr, BegunImplies, BegunIff}
+use Rattle.ps_text.proofs.Parsing.{Parse, InPsat, InVersion, InHeadEnd, InItem, InQueryProb, InTextEnd, InDone, InParen, InOperand, InOperator, InRelation, InBracket, InFirst, InNumber, InComma, InSecond, InBracketEnd, InItemEnd, state_of, Sound, parsed}
+use Rattle.ps_problem.specs.Drafts.{formula_at, AreBelow}
+use Rattle.ps_parse.specs.declared.operator.Operator.{Operator}
+use Rattle.ps_parse.specs.declared.operator.Operator.TheVariants as operator
+use Rattle.ps_parse.specs.Machine.{ItemSoFar, Work, Machine, side_in, next}
+
+-- the operator of what is begun in a formula
+abbrev pub operator_of : Frame → Operator
+operator_of BegunNot = operator.Not
+operator_of BegunGroup = operator.Group
+operator_of (BegunAnd f) = operator.And
+operator_of (BegunOr f) = operator.Or
+operator_of (BegunImplies f) = operator.Implies
+operator_of (BegunIff f) = operator.Iff
+
+abbrev pub operators_of : List Frame → List Operator
+operators_of [] = []
+operators_of (x ∷ fs) = operator_of x ∷ operators_of fs
+
+-- their left operands, the last one last
+abbrev pub lefts_of : List Frame → List (Formula Name)
+lefts_of [] = []
+lefts_of (BegunNot ∷ fs) = lefts_of fs
+lefts_of (BegunGroup ∷ fs) = lefts_of fs
+lefts_of (BegunAnd f ∷ fs) = lefts_of fs ++ formula_of f ∷ []
+lefts_of (BegunOr f ∷ fs) = lefts_of fs ++ formula_of f ∷ []
+lefts_of (BegunImplies f ∷ fs) = lefts_of fs ++ formula_of f ∷ []
+lefts_of (BegunIff f ∷ fs) = lefts_of fs ++ formula_of f ∷ []
+
+-- what waits
+abbrev pub waits : Parse → List Operator
+waits (InOperand es q c fs) = operators_of fs
+waits (InOperator es q c fs f) = operators_of fs
+waits p = []
+
+-- which formulas stand open
+abbrev pub stands_open : Parse → List (Formula Name)
+stands_open (InOperand es q c fs) = lefts_of fs
+stands_open (InOperator es q c fs f) = lefts_of fs ++ formula_of f ∷ []
+stands_open p = []
+
+-- the items that are in the draft: an item is there as soon as its last value is, or a query's probability
+abbrev pub drafted_entries : Parse → List Entry
+drafted_entries InPsat = []
+drafted_entries InVersion = []
+drafted_entries InHeadEnd = []
+drafted_entries (InItem es) = es
+drafted_entries (InQueryProb es) = es
+drafted_entries (InTextEnd es) = es
+drafted_entries (InDone es) = es
+drafted_entries (InParen es q) = es
+drafted_entries (InOperand es q c fs) = es
+drafted_entries (InOperator es q c fs f) = es
+drafted_entries (InRelation es p) = es
+drafted_entries (InBracket es p) = es
+drafted_entries (InFirst es p) = es
+drafted_entries (InNumber es p s) = es
+drafted_entries (InComma es p x) = es
+drafted_entries (InSecond es p x) = es
+drafted_entries (InBracketEnd es p x y) = es ++ Sentence p (Within x y) ∷ []
+drafted_entries (InItemEnd es e) = es ++ e ∷ []
+
+-- before `given` nothing is known; behind it the item's formula is the one before it
+abbrev pub HasFormula : List (Formula Name) → Option Form → ItemSoFar → Type 0
+HasFormula fs None i = Unit {0}
+HasFormula fs (Some f) i = (formula_at fs i.formula ≡ formula_of f) × (i.formula < length fs)
+
+-- the item's formulas are those of the probability
+pub record HasProb (fs : List (Formula Name)) (p : Prob) (i : ItemSoFar) : Type 0 where
+  pub formula : formula_at fs i.formula ≡ formula_of p.form
+  pub given : option_map (formula_at fs) i.given ≡ given_of p.given
+  pub below : AreBelow (length fs) i.formula i.given
+
+-- the item so far is what was derived of it
+abbrev pub IsItemSoFar : List (Formula Name) → Parse → ItemSoFar → Type 0
+IsItemSoFar fs (InOperand es q c gs) i = HasFormula fs c i
+IsItemSoFar fs (InOperator es q c gs f) i = HasFormula fs c i
+IsItemSoFar fs (InRelation es p) i = HasProb fs p i
+IsItemSoFar fs (InBracket es p) i = HasProb fs p i × (i.side ≡ side.AtLeast)
+IsItemSoFar fs (InFirst es p) i = HasProb fs p i × (i.side ≡ side.AtLeast)
+IsItemSoFar fs (InNumber es p s) i = HasProb fs p i × (i.side ≡ side_in (Sign s))
+IsItemSoFar fs (InComma es p x) i = HasProb fs p i × (i.side ≡ side.AtLeast) × IsValue x i.least
+IsItemSoFar fs (InSecond es p x) i = HasProb fs p i × (i.side ≡ side.AtLeast) × IsValue x i.least
+IsItemSoFar fs p i = Unit {0}
+
+-- the work is that of a derivation
+pub record Does (p : Parse) (w : Work) : Type 0 where
+  pub operators : w.pending.operators ≡ waits p
+  pub «open» : w.pending.draft.«open» ≡ stands_open p
+  pub items : AreItems (drafted_entries p) w.pending.draft.items
+  pub item : IsItemSoFar w.pending.draft.formulas p w.item
+
+-- the machine stands for a derivation within the grammar's levels and limits
+pub record StandsFor (p : Parse) (m : Machine) : Type 0 where
+  pub sound : Sound p
+  pub state : m.state ≡ state_of p
+  pub work : Does p m.work
+
+-- behind a token that isn't refused the machine stands for the derivation with that token
+abbrev pub IsFollowed : Parse → Machine → Token → Type 0
+IsFollowed p m t = StandsFor p m → refusal m.state t ≡ None → StandsFor (parsed p t) (next m t)

@@ -1,0 +1,8 @@
+//! A parser of problem texts: from tokens it fills the draft of a problem.
+#![tactic(auto)]
+
+mod laws;
+mod operator;
+
+pub use laws::the_machine_stands_for_a_derivation;
+pub use operator::Operator;
