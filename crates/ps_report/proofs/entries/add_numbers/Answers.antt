@@ -1,0 +1,8 @@
+use Rattle.std.proofs.Common.{get_or, pos, refl}
+use Rattle.ps_log.proofs.ManyNumbers.{lit_short}
+use Rattle.ps_report.proofs.entries.add_numbers.Goals as goal
+
+pub add_multiplier-requires : goal.add_multiplier-requires
+add_multiplier-requires g c =
+    rw c.loop-number.invariant.line
+    (lit_short _ c.args.numbers.now c.loop-number.number-index (get_or c.args.numbers.now c.loop-number.number-index (pos 0)) (pos 0) c.loop-number-test.true refl c.requires)

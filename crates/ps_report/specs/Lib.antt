@@ -1,0 +1,2 @@
+-- Bridge: what writes the lines of a report
+pub mod Written

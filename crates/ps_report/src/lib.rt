@@ -1,0 +1,22 @@
+//! The writer of reports: the text of an answer, line by line.
+#![tactic(auto)]
+
+mod ends;
+mod entries;
+mod heads;
+mod open;
+mod place;
+mod words;
+
+pub use ends::{
+    write_bounds, write_consistent, write_end, write_impossible, write_inconsistent,
+    write_report_head,
+};
+pub use entries::{write_entry, write_event, write_goal_line, write_rows, write_step_line};
+pub use heads::{write_dual_head, write_model_head, write_query, write_trace_head};
+pub use open::{
+    write_bound, write_open_conflicts, write_open_pivots, write_open_side, write_open_wide,
+};
+
+#[cfg(test)]
+mod tests;
