@@ -3,3 +3,4 @@ pub mod Going
 pub mod Advancing
 pub mod Scanned
 pub mod Before
+pub mod Falsity

@@ -1,5 +1,6 @@
 -- Meaning
 pub mod Rest
+pub mod Falsity
 -- Bridge: what a scan finds, how causes are marked, and how a clause is drawn from them
 pub mod Scans
 pub mod Marks

@@ -9,6 +9,7 @@ ghost use Rattle.ps_learning.specs.Levels.{IsAsserting};
 ghost use Rattle.ps_learning.specs.Keeping.{IsKeptOnce};
 ghost use Rattle.ps_learning.specs.Starting.{AreKeptLits};
 ghost use Rattle.ps_learn.specs.Marks.{IsCaused};
+ghost use Rattle.ps_learn.specs.Falsity.{AreFalseIn};
 ghost use Rattle.ps_learn.specs.Lessons.{AddsKept, Follows, EndsInConflict};
 
 use crate::explaining::explain_conflict;
@@ -30,7 +31,7 @@ pub struct Lesson {
 
 /// A lawful step from a conflict. Its clause has the opposites of the causes that were kept: of the
 /// first unique implication point of the last level, and of literals of lower levels, the greatest
-/// of which is the level to go on from.
+/// of which is the level to go on from. All of them are false on the trail.
 pub fn learn(
     alloc: Global,
     known: &List<Constraint>,
@@ -43,6 +44,7 @@ pub fn learn(
     ensures lawful { IfOk result (λ x. IsLawful trail.now.variables (known_of known.now) x.step) }
     ensures asserting { IfOk result (λ x. IsAsserting trail.now (lits_of x.step) x.level) }
     ensures literals { IfOk result (λ x. All (IsLit trail.now.variables) (lits_of x.step)) }
+    ensures falsified { IfOk result (λ x. AreFalseIn (values trail.now) (lits_of x.step)) }
     ensures few_literals { IfOk result (λ x. length (lits_of x.step) ≤ trail.now.variables) }
     ensures hints { IfOk result (λ x. All (IsIdUpTo (length known.now)) (hints_of x.step)) }
     ensures few_hints { IfOk result (λ x. length (hints_of x.step) ≤ trail.now.variables + 1) }

@@ -4,6 +4,7 @@ use Rattle.ps_steps.proofs.Ids.{known_of-length}
 use Rattle.ps_learning.proofs.Counting.{counted}
 use Rattle.ps_learning.proofs.Following.{learned-lawful}
 use Rattle.ps_learning.proofs.Asserting.{asserting-most}
+use Rattle.ps_learn.proofs.Falsity.{kept-false}
 use Rattle.ps_learn.proofs.learning.learn.Goals as goal
 
 pub returns-clause-level : goal.returns-clause-level
@@ -19,3 +20,6 @@ returns-clause-few_literals c = omega (arith, c.in_ok-kept.ensures.lits.few, cou
 
 pub returns-clause-few_hints : goal.returns-clause-few_hints
 returns-clause-few_hints c = omega (arith, c.in_ok-hints.ensures.few, counted c.args.trail.now.variables c.args.trail.now.entries c.entries.ensures.fresh)
+
+pub returns-clause-falsified : goal.returns-clause-falsified
+returns-clause-falsified c = kept-false c.args.trail.now _ _ _ c.in_ok-kept.ensures.lits
