@@ -1,0 +1,4 @@
+pub mod Weights
+pub mod Tables
+pub mod Order
+pub mod ModelFaults

@@ -1,0 +1,110 @@
+-- The first reason against a model, and the claim that it makes.
+use Rattle.std.proofs.Common.{◌≡◌, ◌≢◌, ℕ, zero, suc, negsuc, ◌+◌, ◌<◌, ◌≤◌, ℤ, pos, ◌≤ℤ◌, Option, Some, None, List, [], ◌∷◌, length, get_or, All, refl, ap, arith}
+use Rattle.std.specs.Prelude.{Any, MatchOption}
+use Rattle.std.proofs.lemmas.Int.{ints}
+use Rattle.std.proofs.lemmas.List.{length-map}
+use Rattle.std.proofs.lemmas.List.Elements.{All-map}
+use Rattle.ps_meaning.specs.Distribution.{Entry, total}
+use Rattle.ps_problem.specs.Problems.{Parts, bound_of, bounds_in, bounds_of}
+use Rattle.ps_answer.specs.declared.answer.Weighted.{Weighted}
+use Rattle.ps_answer.specs.declared.answer.Model.{Model}
+use Rattle.ps_entailment.specs.Answers as claimed
+use Rattle.ps_entailment.specs.Answers.{ShowsConsistent}
+use Rattle.ps_claims.specs.Claims as claims
+use Rattle.ps_claims.specs.Claims.{Claim, Modelled, HasShape, AreFew, IsFirstIn}
+use Rattle.ps_valid.specs.declared.refusal.Reason.{Reason}
+use Rattle.ps_valid.specs.declared.refusal.Reason.TheVariants.{WrongShape, TooManyWorlds, WeightZero, WorldTwice, TotalWrong, BoundMissed, EvidenceZero, ValueMissed, HeadWrong, MultiplierSign, StepRefused, NotRefuted}
+use Rattle.ps_valid.specs.Answers.{entry_of, entries, model_of}
+use Rattle.ps_valid.specs.Judged.{fault_of, FindsReason}
+use Rattle.ps_valid.specs.Limits.{IsSmallModel}
+use Rattle.ps_valid.specs.Tests.{HaveShape, IsFirstAmong, IsSound, IsFirstAgainst, FindsAgainst}
+use Rattle.ps_valid.proofs.Order.{any_entry, each_entry}
+
+at_least_one : (z : ℤ) → z ≢ pos 0 → pos 0 ≤ℤ z → pos 1 ≤ℤ z
+at_least_one (pos zero) n low = absurd (n refl)
+at_least_one (pos (suc k)) n low = omega (arith, ints)
+at_least_one (negsuc k) n low = absurd (omega (arith, ints))
+
+some_entry : (d : List Entry) (z : ℤ) → z ≢ pos 0 → z ≡ total d → 0 < length d
+some_entry [] z some sum = absurd (some sum)
+some_entry (e ∷ d) z some sum = omega arith
+
+-- where no weight is below 0, a sound model is a small distribution that meets each bound
+pub shows : (p : Parts) (m : claimed.Model) → All (λ e. pos 0 ≤ℤ e.weight) m.worlds → HaveShape (length p.names) m.worlds → IsSound p m → ShowsConsistent (length p.names) (bounds_of p) m
+shows p m low shape sound = record {
+  model = record {
+    distribution = record {
+      some = some_entry m.worlds m.total sound.total.0 sound.total.1;
+      worlds = shape;
+      weighed = λ k e lt. at_least_one (get_or m.worlds k e).weight (sound.order.weighed k e lt) (low k e lt);
+      different = sound.order.different;
+    };
+    met = sound.met;
+  };
+  small = record { few = sound.few; total = sound.total.1 };
+}
+
+pub low_weights : (m : Model) → IsSmallModel m → All (λ e. pos 0 ≤ℤ e.weight) (entries m.worlds)
+low_weights m small = All-map (λ e. pos 0 ≤ℤ e.weight) entry_of m.worlds (λ k w lt. (small.worlds.weights k w lt).low)
+
+model_shape : (p : Parts) (m : claimed.Model) → HaveShape (length p.names) m.worlds → HasShape p (Modelled m)
+model_shape p m shape = record { worlds = shape; rows = tt }
+
+first_modelled : (p : Parts) (m : claimed.Model) (r : Reason) → HasShape p (Modelled m) → IsFirstAgainst p m r → IsFirstIn p (Modelled m) (fault_of r)
+first_modelled p m WrongShape shape f = absurd f
+first_modelled p m TooManyWorlds shape f = (shape, f)
+first_modelled p m (WeightZero n) shape f = (shape, f)
+first_modelled p m (WorldTwice n) shape f = (shape, f)
+first_modelled p m TotalWrong shape f = (shape, f)
+first_modelled p m (BoundMissed n) shape f = (shape, f)
+first_modelled p m EvidenceZero shape f = absurd f
+first_modelled p m ValueMissed shape f = absurd f
+first_modelled p m HeadWrong shape f = absurd f
+first_modelled p m (MultiplierSign n) shape f = absurd f
+first_modelled p m (StepRefused id why) shape f = absurd f
+first_modelled p m NotRefuted shape f = absurd f
+
+-- what is found against a model whose worlds have the problem's atoms is found against its claim
+pub judged_model : (p : Parts) (m : Model) (found : Option Reason) → IsSmallModel m → HaveShape (length p.names) (entries m.worlds) → FindsAgainst p (model_of m) found
+    → FindsReason p (Modelled (model_of m)) found
+judged_model p m None small shape sound = shows p (model_of m) (low_weights m small) shape sound
+judged_model p m (Some r) small shape f = first_modelled p (model_of m) r (model_shape p (model_of m) shape) f
+
+stable : (m n : ℕ) → ¬ (m ≢ n) → m ≡ n
+stable zero zero s = refl
+stable zero (suc n) s = absurd (s (λ e. omega (arith, e)))
+stable (suc m) zero s = absurd (s (λ e. omega (arith, e)))
+stable (suc m) (suc n) s = ap suc (stable m n (λ other. s (λ e. other (omega (arith, e)))))
+
+-- a world of another length stands among entries of no shape
+pub wrong_shape : (n : ℕ) (ws : List Weighted) → Any (λ w. length w.world ≢ n) ws → ¬ HaveShape n (entries ws)
+wrong_shape n ws any shape = by (any_entry (λ e. length e.world ≢ n) ws any)
+  where
+    by : Any (λ e. length e.world ≢ n) (entries ws) → ⊥
+    by (k, x, lt, is, other) = other (rw is at (shape k x lt))
+
+pub right_shape : (n : ℕ) (ws : List Weighted) → ¬ Any (λ w. length w.world ≢ n) ws → HaveShape n (entries ws)
+right_shape n ws none = each_entry (λ e. length e.world ≡ n) (λ e. length e.world ≢ n) ws (λ e not. stable (length e.world) n not) none
+
+pub not_few : (p : Parts) (m : Model) → length (bounds_in p.sentences) + 1 < length m.worlds → ¬ AreFew p (model_of m)
+not_few p m many few = (let e = length-map m.worlds entry_of in let f = length-map (bounds_in p.sentences) (bound_of p.nodes) in omega (arith, many, few, e, f))
+
+pub are_few : (p : Parts) (m : Model) → length m.worlds ≤ length (bounds_in p.sentences) + 1 → AreFew p (model_of m)
+are_few p m few = rw (length-map m.worlds entry_of, length-map (bounds_in p.sentences) (bound_of p.nodes)) few
+
+pub wrong_shape_first : (p : Parts) (m : claimed.Model) → ¬ HaveShape (length p.names) m.worlds → FindsReason p (Modelled m) (Some WrongShape)
+wrong_shape_first p m not = λ shape. not shape.worlds
+
+pub first_entry : (p : Parts) (m : claimed.Model) (r : Reason) → AreFew p m → IsFirstAmong m.worlds r → IsFirstAgainst p m r
+first_entry p m WrongShape few first = absurd first
+first_entry p m TooManyWorlds few first = absurd first
+first_entry p m (WeightZero n) few first = (few, first)
+first_entry p m (WorldTwice n) few first = (few, first)
+first_entry p m TotalWrong few first = absurd first
+first_entry p m (BoundMissed n) few first = absurd first
+first_entry p m EvidenceZero few first = absurd first
+first_entry p m ValueMissed few first = absurd first
+first_entry p m HeadWrong few first = absurd first
+first_entry p m (MultiplierSign n) few first = absurd first
+first_entry p m (StepRefused id why) few first = absurd first
+first_entry p m NotRefuted few first = absurd first

@@ -1,0 +1,48 @@
+-- What an answer claims: its models as entries, its duals, and its parts without their causes and traces.
+use Rattle.std.specs.Prelude.{List, map}
+use Rattle.ps_meaning.specs.Distribution.{Entry}
+use Rattle.ps_answer.specs.declared.answer.Weighted.{Weighted}
+use Rattle.ps_answer.specs.declared.answer.Model.{Model}
+use Rattle.ps_answer.specs.declared.answer.Verdict.{Verdict}
+use Rattle.ps_answer.specs.declared.answer.Verdict.TheVariants.{Consistent, Inconsistent, Open}
+use Rattle.ps_answer.specs.declared.answer.SideAnswer.{SideAnswer}
+use Rattle.ps_answer.specs.declared.answer.SideAnswer.TheVariants as side
+use Rattle.ps_answer.specs.declared.answer.QueryAnswer.{QueryAnswer}
+use Rattle.ps_answer.specs.declared.answer.QueryAnswer.TheVariants as query
+use Rattle.ps_answer.specs.declared.answer.QueryPart.{QueryPart}
+use Rattle.ps_answer.specs.declared.answer.Answer.{Answer}
+use Rattle.ps_certificate.specs.Certificates.{dual_of}
+use Rattle.ps_entailment.specs.Answers as claimed
+use Rattle.ps_claims.specs.Duals.{Dual}
+
+abbrev pub entry_of : Weighted → Entry
+entry_of w = record { weight = w.weight; world = w.world }
+
+-- the entries that weighted worlds stand for
+abbrev pub entries : List Weighted → List Entry
+entries ws = map entry_of ws
+
+-- the model of which claims speak
+abbrev pub model_of : Model → claimed.Model
+model_of m = record { total = m.total; worlds = entries m.worlds }
+
+abbrev pub verdict_of : Verdict → claimed.Verdict Dual
+verdict_of (Consistent m) = claimed.Consistent (model_of m)
+verdict_of (Inconsistent d) = claimed.Inconsistent (dual_of d)
+verdict_of (Open cause) = claimed.OpenVerdict
+
+abbrev pub side_of : SideAnswer → claimed.SideAnswer Dual
+side_of (side.Bound value m d) = claimed.Value value (model_of m) (dual_of d)
+side_of (side.Open cause) = claimed.OpenSide
+
+abbrev pub part_of : QueryAnswer → claimed.QueryAnswer Dual
+part_of (query.Bounds lower lower_trace upper upper_trace) = claimed.Interval (side_of lower) (side_of upper)
+part_of (query.Impossible d) = claimed.Impossible (dual_of d)
+part_of (query.Open cause) = claimed.OpenQuery
+
+abbrev pub parts_of : List QueryPart → List (claimed.QueryAnswer Dual)
+parts_of parts = map (λ part. part_of part.answer) parts
+
+-- the answer of which claims speak
+abbrev pub answer_of : Answer → claimed.Answer Dual
+answer_of a = record { verdict = verdict_of a.verdict; parts = parts_of a.parts }

@@ -1,0 +1,53 @@
+-- What the tests of a model find.
+use Rattle.std.specs.Prelude.{ℕ, ◌≡◌, List, All, Option, MatchOption, length}
+use Rattle.ps_meaning.specs.Distribution.{Entry}
+use Rattle.ps_meaning.specs.Bounds.{MeetsAll}
+use Rattle.ps_problem.specs.declared.bound.Bound.{Bound}
+use Rattle.ps_problem.specs.Problems.{Parts, bounds_of}
+use Rattle.ps_entailment.specs.Answers.{Model}
+use Rattle.ps_claims.specs.Claims.{AreInOrder, IsWeightless, IsRepeated, MissesFirst, AreFew, HasTotal}
+use Rattle.ps_valid.specs.declared.refusal.Reason.{Reason}
+use Rattle.ps_valid.specs.declared.refusal.Reason.TheVariants.{TooManyWorlds, WeightZero, WorldTwice, TotalWrong, BoundMissed}
+use Rattle.ps_valid.specs.Rows.{MeetsAt, MissesFirstAt}
+
+-- each world has a truth value for each atom
+abbrev pub HaveShape : ℕ → List Entry → Type 0
+HaveShape atoms d = All (λ e. length e.world ≡ atoms) d
+
+-- the reason is the first against an entry
+abbrev pub IsFirstAmong : List Entry → Reason → Type 0
+IsFirstAmong d (WeightZero n) = IsWeightless d n
+IsFirstAmong d (WorldTwice n) = IsRepeated d n
+IsFirstAmong d other = ⊥
+
+-- the reason is the first against an entry, and there is none where the entries are in order
+abbrev pub FindsFault : List Entry → Option Reason → Type 0
+FindsFault d found = MatchOption found (AreInOrder d) (IsFirstAmong d)
+
+-- the bound is the first that entries over nodes miss, and there is none where they meet all
+abbrev pub FindsMissedAt : List Entry → List Bound → Option ℕ → Type 0
+FindsMissedAt d bounds found = MatchOption found (All (MeetsAt d) bounds) (MissesFirstAt d bounds)
+
+-- the bound is the problem's first that the entries miss, and there is none where they meet all
+abbrev pub FindsMissed : Parts → List Entry → Option ℕ → Type 0
+FindsMissed p d found = MatchOption found (MeetsAll (bounds_of p) d) (MissesFirst (bounds_of p) d)
+
+-- nothing is wrong with a model whose worlds have the problem's atoms
+pub record IsSound (p : Parts) (m : Model) : Type 0 where
+  pub few : AreFew p m
+  pub order : AreInOrder m.worlds
+  pub total : HasTotal m
+  pub met : MeetsAll (bounds_of p) m.worlds
+
+-- the reason is the first against such a model
+abbrev pub IsFirstAgainst : Parts → Model → Reason → Type 0
+IsFirstAgainst p m TooManyWorlds = ¬ AreFew p m
+IsFirstAgainst p m (WeightZero n) = AreFew p m × IsWeightless m.worlds n
+IsFirstAgainst p m (WorldTwice n) = AreFew p m × IsRepeated m.worlds n
+IsFirstAgainst p m TotalWrong = AreFew p m × AreInOrder m.worlds × ¬ HasTotal m
+IsFirstAgainst p m (BoundMissed n) = AreFew p m × AreInOrder m.worlds × HasTotal m × MissesFirst (bounds_of p) m.worlds n
+IsFirstAgainst p m other = ⊥
+
+-- the reason is the first against such a model, and there is none where nothing is wrong with it
+abbrev pub FindsAgainst : Parts → Model → Option Reason → Type 0
+FindsAgainst p m found = MatchOption found (IsSound p m) (IsFirstAgainst p m)

@@ -1,0 +1,13 @@
+//! The check of an answer's claims: each is valid, or the first that isn't is named with its first fault.
+#![tactic(auto)]
+
+mod limits;
+mod meeting;
+mod modelled;
+mod refusal;
+mod truth;
+mod weighing;
+
+pub use limits::{MOST_WEIGHT, MOST_WORLDS};
+pub use modelled::check_model;
+pub use refusal::{Accepted, CheckError, Claim, Reason, Refusal};

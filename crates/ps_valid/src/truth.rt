@@ -1,0 +1,62 @@
+//! The truth of each formula in each world of a model.
+ghost use Rattle.std.specs.Prelude.{◌≡◌, ◌*◌, ◌≤ℤ◌, pos, All, IfOk, length, if◌then◌else◌};
+ghost use Rattle.ps_meaning.specs.Formula.{Atom};
+ghost use Rattle.ps_meaning.specs.Distribution.{weight};
+ghost use Rattle.ps_formula.specs.Nodes.{AtomBelow};
+ghost use Rattle.ps_valid.specs.Answers.{entries};
+ghost use Rattle.ps_valid.specs.Limits.{AreSmall, most_weight, most_worlds};
+ghost use Rattle.ps_valid.specs.Rows.{AreRows, HaveNode, IsTableOf, row_entries};
+
+use ps_answer::Weighted;
+use ps_formula::{Formulas, eval};
+use ps_io::NoMemory;
+use std::alloc::Global;
+
+/// The weight of a world, and the truth of each formula in it.
+#[derive(Drop)]
+pub struct Row {
+    pub weight: i128,
+    pub values: Vec<bool>,
+}
+
+fn share(value: bool, weight: i128) -> i128
+    ensures { result ≡ (if value then weight else pos 0) }
+{
+    if value { weight } else { 0 }
+}
+
+/// The weight of the worlds in which the formula of a node is true.
+pub fn weight_of(rows: &[Row], node: u32) -> i128
+    requires rows { AreRows rows.now }
+    requires node { HaveNode rows.now node }
+    ensures weight { result ≡ weight (row_entries rows.now) (Atom node) }
+    ensures low { pos 0 ≤ℤ result }
+    ensures high { result ≤ℤ pos (most_worlds * most_weight) }
+{
+    let mut sum = 0;
+    for row in rows {
+        sum += share(row.values[node as usize], row.weight);
+    }
+    sum
+}
+
+/// A row for each world.
+pub fn evaluate(
+    alloc: Global,
+    formulas: &Formulas,
+    worlds: &[Weighted],
+) -> Result<Vec<Row>, NoMemory>
+    requires atoms { All (λ w. All (AtomBelow (length w.world)) formulas.now) worlds.now }
+    requires small { AreSmall worlds.now }
+    ensures table { IfOk result (λ rows. IsTableOf formulas.now (entries worlds.now) rows.items) }
+{
+    let mut rows = Vec::new(alloc);
+    for w in worlds {
+        let values = eval(alloc, formulas, &w.world)?;
+        rows.push(Row {
+            weight: w.weight,
+            values,
+        })?;
+    }
+    Ok(rows)
+}

@@ -1,0 +1,84 @@
+//! The entries of a model: shape, number, order and total.
+ghost use Rattle.std.specs.Prelude.{◌≡◌, ◌≢◌, ◌↔◌, Any, IsTrue, IsFalse, length};
+ghost use Rattle.ps_meaning.specs.Distribution.{total};
+ghost use Rattle.ps_claims.specs.Claims.{AreFew, HasTotal};
+ghost use Rattle.ps_valid.specs.Answers.{entries, model_of};
+ghost use Rattle.ps_valid.specs.Limits.{AreSmall, IsSmallModel};
+ghost use Rattle.ps_valid.specs.Tests.{FindsFault, HaveShape};
+
+use crate::Reason;
+use ps_answer::{Model, Weighted};
+use ps_formula::World;
+use ps_problem::Problem;
+
+fn have_wrong_shape(worlds: &[Weighted], atoms: u16) -> bool
+    ensures { IsTrue result ↔ Any (λ w. length w.world ≢ atoms) worlds.now }
+{
+    worlds.iter().any(|w| w.world.len() != atoms as usize)
+}
+
+/// Whether a world has another length than the number of atoms.
+pub fn has_wrong_shape(problem: &Problem, model: &Model) -> bool
+    ensures wrong { IsTrue result → ¬ HaveShape (length problem.now.names) (entries model.now.worlds) }
+    ensures right { IsFalse result → HaveShape (length problem.now.names) (entries model.now.worlds) }
+{
+    have_wrong_shape(model.worlds.as_slice(), problem.atoms())
+}
+
+/// Whether there are more worlds than bounds and one.
+pub fn has_too_many(problem: &Problem, model: &Model) -> bool
+    ensures many { IsTrue result → ¬ AreFew problem.now (model_of model.now) }
+    ensures few { IsFalse result → AreFew problem.now (model_of model.now) }
+{
+    model.worlds.len() > problem.bounds() as usize + 1
+}
+
+fn same(a: &World, b: &World) -> bool
+    ensures { IsTrue result ↔ (a.now ≡ b.now) }
+{
+    a.as_slice() == b.as_slice()
+}
+
+// Whether a world stands among these.
+fn holds(worlds: &[Weighted], world: &World) -> bool
+    ensures { IsTrue result ↔ Any (λ w. w.world ≡ world.now) worlds.now }
+{
+    worlds.iter().any(|w| same(&w.world, world))
+}
+
+/// The first entry that has no weight or isn't new.
+pub fn first_among(worlds: &[Weighted]) -> Option<Reason>
+    requires { AreSmall worlds.now }
+    ensures { FindsFault (entries worlds.now) result }
+{
+    for (i, w) in worlds.iter().enumerate() {
+        let number = i as u32 + 1;
+        if w.weight == 0 {
+            return Some(Reason::WeightZero { entry: number });
+        }
+        if holds(&worlds[..i], &w.world) {
+            return Some(Reason::WorldTwice { entry: number });
+        }
+    }
+    None
+}
+
+fn sum_of(worlds: &[Weighted]) -> i128
+    requires { AreSmall worlds.now }
+    ensures { result ≡ total (entries worlds.now) }
+{
+    let mut sum = 0;
+    for w in worlds {
+        sum += w.weight;
+    }
+    sum
+}
+
+/// Whether the total is 0 or isn't the sum of the weights.
+pub fn has_wrong_total(model: &Model) -> bool
+    requires { IsSmallModel model.now }
+    ensures wrong { IsTrue result → ¬ HasTotal (model_of model.now) }
+    ensures right { IsFalse result → HasTotal (model_of model.now) }
+{
+    model.total == 0 || model.total != sum_of(model.worlds.as_slice())
+}
