@@ -2,7 +2,10 @@
 ghost use Rattle.std.specs.Prelude.{◌≡◌, drop, IfOk, IsErr};
 ghost use Rattle.std.specs.Process.{exit_status};
 ghost use Rattle.std.specs.Vec.Iter.{into_iter_items};
-ghost use Rattle.psat.specs.Exits.{RanBehind, exit_number};
+ghost use Rattle.psat.specs.Commands.{ReadNothing, SpellNone};
+ghost use Rattle.psat.specs.Exits.{HasWritten, IfRan, exit_number};
+ghost use Rattle.psat.specs.Runs.{CountsReads, CountsWrites, HasRead};
+ghost use Rattle.psat.specs.Statuses.{AnswersUsage, IsSilent};
 
 use crate::run::run;
 use crate::status::Status;
@@ -54,13 +57,29 @@ pub fn run_program<I: Source, O: Sink>(
 ) -> Result<Status, NoWords>
     // Where the words can't be had, there is no status, and nothing is read or written.
     ensures no_words { IsErr all → IsErr result }
-    ensures unread { IsErr result → input.new ≡ input.old }
-    ensures unwritten { IsErr result → output.new ≡ output.old }
+    ensures nothing_read { IsErr result → input.new ≡ input.old }
+    ensures nothing_written { IsErr result → output.new ≡ output.old }
 
-    // Else it is the run of the words behind the program's name.
-    ensures ran { IfOk all (λ args. IfOk result (λ status.
-        RanBehind (into_iter_items args) status
-        (I.left input.old) (O.written output.old) (O.written output.new))) }
+    // Else all that holds of a run holds with the words behind the program's name: what is written,
+    ensures ran { IfRan all result (λ words status.
+        HasWritten words status (I.left input.old) (O.written output.old) (O.written output.new)) }
+    ensures silent { IfRan all result (λ words status. IsSilent status → output.new ≡ output.old) }
+
+    // when the usage line comes,
+    ensures usage { IfRan all result (λ words status. status ≡ Status.Usage → SpellNone words) }
+    ensures other_words { IfRan all result (λ words status.
+        SpellNone words → AnswersUsage status) }
+
+    // how much is read,
+    ensures read { IfRan all result (λ words status.
+        HasRead words status (I.left input.old) (I.left input.new)) }
+    ensures unread { IfRan all result (λ words status. ReadNothing words → input.new ≡ input.old) }
+
+    // and that a fault is answered exactly where a count rose, and then by one.
+    ensures read_faults { IfRan all result (λ words status.
+        CountsReads status (I.faults input.old) (I.faults input.new)) }
+    ensures write_faults { IfRan all result (λ words status.
+        CountsWrites status (O.faults output.old) (O.faults output.new)) }
 {
     let all = match all {
         Ok(all) => collected(alloc, all)?,

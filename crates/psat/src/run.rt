@@ -71,7 +71,7 @@ pub fn run<I: Source, O: Sink>(
     output: &mut O,
 ) -> Status
     // The due output is written and its status answered, or what takes their place. The bytes are
-    // those that the source tells that it had left; where nothing is read, the source tells none.
+    // those that the source tells that it had left; where the words read nothing, any bytes.
     ensures ran { (bytes : List ℕ) → IsGiven (words_of words.now) (I.left input.old) bytes
         → Ran (words_of words.now) bytes result (O.written output.old) (O.written output.new) }
 
@@ -82,7 +82,7 @@ pub fn run<I: Source, O: Sink>(
     ensures usage { result ≡ Status.Usage → SpellNone (words_of words.now) }
     ensures other_words { SpellNone (words_of words.now) → AnswersUsage result }
 
-    // The source is read to its end or past the limit, and not at all where the command reads nothing.
+    // How much is read, by the status; and nothing where the words are of no command that reads.
     ensures read { HasRead (words_of words.now) result (I.left input.old) (I.left input.new) }
     ensures unread { ReadNothing (words_of words.now) → input.new ≡ input.old }
 
