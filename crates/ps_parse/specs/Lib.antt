@@ -1,4 +1,5 @@
--- Bridge: the machine over tokens, and which derivation its state stands for
+-- Bridge: the machine over tokens, which derivation its state stands for, and what the parser keeps
 pub mod Pending
 pub mod Machine
 pub mod Standing
+pub mod Kept

@@ -64,9 +64,14 @@ with_pending w p = record { pending = p; item = w.item }
 abbrev pub with_atom : Drafted → Name → Drafted
 with_atom d name = record { names = with_new same_name d.names name; «open» = d.«open» ++ formula.Atom name ∷ []; formulas = d.formulas; items = d.items }
 
+-- a truth value stands open last
+abbrev pub with_constant : Drafted → Bool → Drafted
+with_constant d true = with_mark d mark.True
+with_constant d false = with_mark d mark.False
+
 -- the formula of a word stands open last
 abbrev pub with_word : Drafted → List ℕ → Drafted
-with_word d w = if bytes_eq w (codes "true") then with_mark d mark.True else (if bytes_eq w (codes "false") then with_mark d mark.False else with_atom d w)
+with_word d w = if bytes_eq w (codes "true") then with_constant d true else (if bytes_eq w (codes "false") then with_constant d false else with_atom d w)
 
 -- behind an operand each `!` before it is marked
 abbrev pub operand_ended : Pending → Drafted → Pending

@@ -1,5 +1,5 @@
 -- Operators that wait for their last operand, and the draft whose open formulas are their first ones.
-use Rattle.std.specs.Prelude.{ℕ, nat_le, if◌then◌else◌, List, [], ◌∷◌}
+use Rattle.std.specs.Prelude.{◌≡◌, ℕ, suc, nat_le, if◌then◌else◌, List, [], ◌∷◌, length, Option, Some, None}
 use Rattle.ps_problem.specs.declared.mark.Mark.{Mark}
 use Rattle.ps_problem.specs.declared.mark.Mark.TheVariants as mark
 use Rattle.ps_problem.specs.Drafts.{Drafted, with_mark}
@@ -40,3 +40,26 @@ settled_from k (o ∷ os) d = if nat_le k (binding o) then settled_from k os (wi
 
 abbrev pub settled : ℕ → Pending → Pending
 settled k p = settled_from k p.operators p.draft
+
+-- the operator that waits last, if it binds at least so tightly
+abbrev pub due : ℕ → List Operator → Option Operator
+due k [] = None
+due k (o ∷ os) = if nat_le k (binding o) then Some o else None
+
+-- how many operators have a first operand
+abbrev pub firsts : List Operator → ℕ
+firsts [] = 0
+firsts (operator.Not ∷ os) = firsts os
+firsts (operator.Group ∷ os) = firsts os
+firsts (operator.And ∷ os) = suc (firsts os)
+firsts (operator.Or ∷ os) = suc (firsts os)
+firsts (operator.Implies ∷ os) = suc (firsts os)
+firsts (operator.Iff ∷ os) = suc (firsts os)
+
+-- the first operands of what waits stand open, and no formula behind them
+abbrev pub HaveFirst : Pending → Type 0
+HaveFirst p = length p.draft.«open» ≡ firsts p.operators
+
+-- the first operands of what waits stand open, and one formula behind them
+abbrev pub HaveAll : Pending → Type 0
+HaveAll p = length p.draft.«open» ≡ suc (firsts p.operators)
