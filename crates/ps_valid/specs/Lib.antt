@@ -2,6 +2,7 @@
 pub mod Answers
 pub mod Judged
 pub mod Limits
--- Bridge: what the tests of a model find, and a distribution by the truth of each node
+pub mod Laws
+-- Bridge: what the tests of a model and of a dual find, and a distribution by the truth of each node
 pub mod Tests
 pub mod Rows

@@ -1,6 +1,7 @@
 //! The check of an answer's claims: each is valid, or the first that isn't is named with its first fault.
 #![tactic(auto)]
 
+mod laws;
 mod limits;
 mod meeting;
 mod modelled;
@@ -8,6 +9,7 @@ mod refusal;
 mod truth;
 mod weighing;
 
+pub use laws::refusals_are_single;
 pub use limits::{MOST_WEIGHT, MOST_WORLDS};
 pub use modelled::check_model;
 pub use refusal::{Accepted, CheckError, Claim, Reason, Refusal};
