@@ -1,2 +1,3 @@
--- Bridge: what writes the lines of a report
+-- Bridge: what writes the lines of a report, and its parts
 pub mod Written
+pub mod Parts

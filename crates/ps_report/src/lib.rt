@@ -5,6 +5,7 @@ mod ends;
 mod entries;
 mod heads;
 mod open;
+mod parts;
 mod place;
 mod words;
 
@@ -17,6 +18,7 @@ pub use heads::{write_dual_head, write_model_head, write_query, write_trace_head
 pub use open::{
     write_bound, write_open_conflicts, write_open_pivots, write_open_side, write_open_wide,
 };
+pub use parts::{write_dual, write_model, write_trace};
 
 #[cfg(test)]
 mod tests;
