@@ -14,6 +14,10 @@ use Rattle.ps_valid.specs.Rows.{MeetsAt, MissesFirstAt}
 abbrev pub HaveShape : ℕ → List Entry → Type 0
 HaveShape atoms d = All (λ e. length e.world ≡ atoms) d
 
+-- each world has a truth value for each of the problem's atoms
+abbrev pub HasAtoms : Parts → Model → Type 0
+HasAtoms p m = HaveShape (length p.names) m.worlds
+
 -- the reason is the first against an entry
 abbrev pub IsFirstAmong : List Entry → Reason → Type 0
 IsFirstAmong d (WeightZero n) = IsWeightless d n

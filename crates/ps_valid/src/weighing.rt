@@ -4,7 +4,7 @@ ghost use Rattle.ps_meaning.specs.Distribution.{total};
 ghost use Rattle.ps_claims.specs.Claims.{AreFew, HasTotal};
 ghost use Rattle.ps_valid.specs.Answers.{entries, model_of};
 ghost use Rattle.ps_valid.specs.Limits.{AreSmall, IsSmallModel};
-ghost use Rattle.ps_valid.specs.Tests.{FindsFault, HaveShape};
+ghost use Rattle.ps_valid.specs.Tests.{FindsFault, HasAtoms};
 
 use crate::Reason;
 use ps_answer::{Model, Weighted};
@@ -19,8 +19,8 @@ fn have_wrong_shape(worlds: &[Weighted], atoms: u16) -> bool
 
 /// Whether a world has another length than the number of atoms.
 pub fn has_wrong_shape(problem: &Problem, model: &Model) -> bool
-    ensures wrong { IsTrue result → ¬ HaveShape (length problem.now.names) (entries model.now.worlds) }
-    ensures right { IsFalse result → HaveShape (length problem.now.names) (entries model.now.worlds) }
+    ensures wrong { IsTrue result → ¬ HasAtoms problem.now (model_of model.now) }
+    ensures right { IsFalse result → HasAtoms problem.now (model_of model.now) }
 {
     have_wrong_shape(model.worlds.as_slice(), problem.atoms())
 }
