@@ -1,11 +1,18 @@
 -- What a call does that writes parts of a report.
-use Rattle.std.specs.Prelude.{ℕ, List, map, Option, Result}
+use Rattle.std.specs.Prelude.{ℕ, List, ◌∷◌, ◌++◌, map, Option, Result}
 use Rattle.std.specs.List.{AllByRecursion}
 use Rattle.ps_io.specs.Wrote.{Wrote}
 use Rattle.ps_io.specs.declared.lines.Lines.{Lines}
 use Rattle.ps_io.specs.declared.sink.WriteFault.{WriteFault}
+use Rattle.ps_steps.specs.Constraints.{Constraint}
+use Rattle.ps_steps.specs.Steps.{Step}
+use Rattle.ps_pool.specs.declared.event.Event.{Event}
+use Rattle.ps_answer.specs.declared.answer.Model.{Model}
+use Rattle.ps_answer.specs.declared.answer.Dual.{Dual}
 use Rattle.ps_answer.specs.declared.item.Item.{Item}
+use Rattle.ps_answer.specs.declared.item.Item.TheVariants as line
 use Rattle.ps_answer.specs.Items.{item_line}
+use Rattle.ps_answer.specs.Answers.{model_items, dual_items, trace_items}
 use Rattle.ps_report.specs.Written.{IsShort}
 
 -- the lines of these items were written, or a proper prefix of them where a write failed
@@ -15,3 +22,15 @@ WroteItems written faults old new result items = Wrote written faults old new re
 -- the line of each item is shorter than the longest that is written
 abbrev pub AreShort : List Item → Type 0
 AreShort items = AllByRecursion IsShort items
+
+-- the lines of a goal and of steps
+abbrev pub goal_items : Constraint → List Step → List Item
+goal_items goal steps = line.GoalLine goal ∷ map line.StepLine steps
+
+-- the lines of a search that used up its conflicts
+abbrev pub conflict_items : ℕ → Constraint → List Step → List Item
+conflict_items limit goal steps = line.OpenConflicts limit ∷ goal_items goal steps
+
+-- the lines of a model, a dual and a trace
+abbrev pub proved_items : Model → Dual → List Event → List Item
+proved_items m d trace = model_items m ++ (dual_items d ++ trace_items trace)

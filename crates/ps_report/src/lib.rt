@@ -1,14 +1,17 @@
 //! The writer of reports: the text of an answer, line by line.
 #![tactic(auto)]
 
+mod causes;
 mod ends;
 mod entries;
 mod heads;
 mod open;
 mod parts;
 mod place;
+mod sides;
 mod words;
 
+pub use causes::{write_cause, write_verdict};
 pub use ends::{
     write_bounds, write_consistent, write_end, write_impossible, write_inconsistent,
     write_report_head,
@@ -19,6 +22,7 @@ pub use open::{
     write_bound, write_open_conflicts, write_open_pivots, write_open_side, write_open_wide,
 };
 pub use parts::{write_dual, write_model, write_trace};
+pub use sides::write_side;
 
 #[cfg(test)]
 mod tests;

@@ -54,7 +54,10 @@ fn write_rows_and_steps<O: Sink>(lines: &mut Lines<'_, O>, dual: &Dual) -> Resul
     write_steps(lines, dual.steps.as_slice())
 }
 
-fn write_steps<O: Sink>(lines: &mut Lines<'_, O>, steps: &[Step]) -> Result<(), WriteFault>
+pub(crate) fn write_steps<O: Sink>(
+    lines: &mut Lines<'_, O>,
+    steps: &[Step],
+) -> Result<(), WriteFault>
     requires empty { text_of lines.old ≡ [] }
     requires short { AreShort (map StepLine steps.now) }
     ensures { WroteItems O.written O.faults lines.old lines.new result (map StepLine steps.now) }
