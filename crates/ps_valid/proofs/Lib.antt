@@ -2,5 +2,9 @@ pub mod Weights
 pub mod Tables
 pub mod Order
 pub mod ModelFaults
+pub mod Quotients
+pub mod WrongSigns
+pub mod StepRuns
+pub mod DualFaults
 pub mod FirstPlaces
 pub mod SingleFaults

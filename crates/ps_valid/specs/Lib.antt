@@ -5,4 +5,5 @@ pub mod Limits
 pub mod Laws
 -- Bridge: what the tests of a model and of a dual find, and a distribution by the truth of each node
 pub mod Tests
+pub mod Signs
 pub mod Rows

@@ -5,7 +5,11 @@ mod laws;
 mod limits;
 mod meeting;
 mod modelled;
+mod quotient;
 mod refusal;
+mod refuting;
+mod signs;
+mod steps;
 mod truth;
 mod weighing;
 
@@ -13,3 +17,4 @@ pub use laws::refusals_are_single;
 pub use limits::{MOST_WEIGHT, MOST_WORLDS};
 pub use modelled::check_model;
 pub use refusal::{Accepted, CheckError, Claim, Reason, Refusal};
+pub use refuting::check_dual;

@@ -1,0 +1,49 @@
+-- What the tests of a dual find.
+use Rattle.std.specs.Prelude.{ℕ, ◌≡◌, ◌+◌, ℤ, false, List, Option, MatchOption, IsSomeAnd, length, take, slice_get}
+use Rattle.std.specs.List.{AllZip}
+use Rattle.ps_problem.specs.declared.bound.Bound.{Bound}
+use Rattle.ps_problem.specs.Problems.{Parts}
+use Rattle.ps_rational.specs.Rational.{Rational}
+use Rattle.ps_steps.specs.Steps.{Refutes, AreLawful, ends_in_contradiction, first_refusal}
+use Rattle.std.specs.Prelude.{Some}
+use Rattle.ps_claims.specs.declared.claim_kind.ClaimKind.{ClaimKind}
+use Rattle.ps_claims.specs.Duals.{Dual, HasSign}
+use Rattle.ps_claims.specs.Faults.{start_for, IsFaultless, IsFirstFault, WrongStep, NoContradiction}
+use Rattle.ps_claims.specs.Claims.{Fault, DualWrong}
+use Rattle.ps_valid.specs.declared.refusal.Reason.{Reason}
+use Rattle.ps_valid.specs.declared.refusal.Reason.TheVariants.{StepRefused, NotRefuted}
+use Rattle.ps_valid.specs.Judged.{fault_of}
+
+-- no multiplier of the stored bounds is of the wrong sign
+abbrev pub HaveSignsAt : List Bound → List ℤ → Type 0
+HaveSignsAt bounds ys = AllZip (λ b y. HasSign b.side y) bounds ys
+
+-- the stored bound of this number, from 1, is the first whose multiplier is of the wrong sign
+abbrev pub IsFirstSignAt : List Bound → List ℤ → ℕ → Type 0
+IsFirstSignAt bounds ys n = (i : ℕ) × (n ≡ i + 1) × HaveSignsAt (take i bounds) (take i ys) × IsSomeAnd (slice_get bounds i) (λ b. IsSomeAnd (slice_get ys i) (λ y. ¬ HasSign b.side y))
+
+-- the bound is the first with a wrong sign, and there is none where no sign is wrong
+abbrev pub FindsSignAt : List Bound → List ℤ → Option ℕ → Type 0
+FindsSignAt bounds ys found = MatchOption found (HaveSignsAt bounds ys) (IsFirstSignAt bounds ys)
+
+-- the steps of a dual refute its goal
+abbrev pub HasRun : Parts → ClaimKind → Option ℕ → ℕ → Dual → Type 0
+HasRun p kind given both d = Refutes (length p.nodes) (start_for p kind given both d) d.steps
+
+-- the reason is the first against the steps
+abbrev pub IsFirstInRun : Parts → ClaimKind → Option ℕ → ℕ → Dual → Reason → Type 0
+IsFirstInRun p kind given both d (StepRefused id why) = first_refusal (length p.nodes) (start_for p kind given both d) d.steps ≡ Some (id, why)
+IsFirstInRun p kind given both d NotRefuted = AreLawful (length p.nodes) (start_for p kind given both d) d.steps × (ends_in_contradiction d.steps ≡ false)
+IsFirstInRun p kind given both d other = ⊥
+
+abbrev pub FindsInRun : Parts → ClaimKind → Option ℕ → ℕ → Dual → Option Reason → Type 0
+FindsInRun p kind given both d found = MatchOption found (HasRun p kind given both d) (IsFirstInRun p kind given both d)
+
+-- the fault is the first of the dual
+abbrev pub IsFirstOfDual : Parts → ClaimKind → Option ℕ → ℕ → Option Rational → Dual → Fault → Type 0
+IsFirstOfDual p kind given both value d (DualWrong f) = IsFirstFault p kind given both value d f
+IsFirstOfDual p kind given both value d other = ⊥
+
+-- the reason is the first against the dual, and there is none where nothing is wrong with it
+abbrev pub FindsInDual : Parts → ClaimKind → Option ℕ → ℕ → Option Rational → Dual → Option Reason → Type 0
+FindsInDual p kind given both value d found = MatchOption found (IsFaultless p kind given both value d) (λ r. IsFirstOfDual p kind given both value d (fault_of r))
