@@ -1,3 +1,4 @@
 pub mod Made
+pub mod Numbered
 pub mod Sequence
 pub mod Spelled

@@ -8,6 +8,8 @@ mod heads;
 mod open;
 mod parts;
 mod place;
+mod queries;
+mod report;
 mod sides;
 mod words;
 
@@ -22,6 +24,8 @@ pub use open::{
     write_bound, write_open_conflicts, write_open_pivots, write_open_side, write_open_wide,
 };
 pub use parts::{write_dual, write_model, write_trace};
+pub use queries::{write_parts, write_query_answer};
+pub use report::write_report;
 pub use sides::write_side;
 
 #[cfg(test)]
