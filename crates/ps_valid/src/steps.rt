@@ -26,7 +26,8 @@ pub fn checker_of(alloc: Global, problem: &Problem, sum: &Combination) -> Result
 
 // Why a step is refused; it is taken where it isn't.
 fn refusal(checker: &mut Checker, step: &Step) -> Result<Option<StepRefused>, NoMemory>
-    ensures found { IfOk result (λ o. o ≡ refusal_of checker.old.variables checker.old.known step.now) }
+    ensures found { IfOk result
+        (λ o. o ≡ refusal_of checker.old.variables checker.old.known step.now) }
     ensures taken { IfOk result (λ o. o ≡ None → checker.new ≡ after_step checker.old step.now) }
 {
     match checker.take(step) {
@@ -48,8 +49,10 @@ pub fn first_refused(
     steps: &[Step],
 ) -> Result<Option<(u64, StepRefused)>, NoMemory>
     requires fresh { checker.old.refuted ≡ false }
-    ensures found { IfOk result (λ o. o ≡ first_refusal checker.old.variables checker.old.known steps.now) }
-    ensures refuted { IfOk result (λ o. o ≡ None → checker.new.refuted ≡ ends_in_contradiction steps.now) }
+    ensures found { IfOk result
+        (λ o. o ≡ first_refusal checker.old.variables checker.old.known steps.now) }
+    ensures refuted { IfOk result
+        (λ o. o ≡ None → checker.new.refuted ≡ ends_in_contradiction steps.now) }
 {
     for step in steps {
         match refusal(checker, step)? {
