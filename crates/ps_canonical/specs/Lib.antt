@@ -1,3 +1,5 @@
+-- Meaning
+pub mod Laws
 -- Bridge: what is still to be written of a formula, and the lines of a text
 pub mod Tasks
 pub mod Lines

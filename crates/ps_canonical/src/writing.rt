@@ -33,8 +33,8 @@ fn queries(alloc: Global, problem: &Problem, out: &mut Vec<u8>) -> Result<(), No
 }
 
 /// The canonical text of a problem: its sentences in order and then its queries in order, one line
-/// each, with no parentheses but the needed ones and values in lowest terms. Reading it gives an
-/// equal problem.
+/// each, with no parentheses but the needed ones and values in lowest terms. By the law
+/// `canonical_text_is_reread` of `ps_problem` what stands there is the problem.
 pub fn canonical_text(alloc: Global, problem: &Problem) -> Result<Vec<u8>, NoMemory>
     ensures { IfOk result (λ v. v.items ≡ canonical_text (items_from problem.now)) }
 {

@@ -109,7 +109,8 @@ fn first_reason(alloc: Global, problem: &Problem, model: &Model) -> Result<Optio
 }
 
 /// Judges a model that is to show that a problem is consistent: accepts it, or refuses it with the
-/// first reason in the order of `Reason`.
+/// first reason in the order of `Reason`, where `WeightZero` and `WorldTwice` are looked for entry by
+/// entry.
 #[tactic(auto, using(crate::proofs::Validity::valid_shows, crate::proofs::Validity::numbers_small))]
 pub fn check_model(alloc: Global, problem: &Problem, model: &Model) -> Result<(), CheckError>
     requires limits { IsWithinLimits model.now }

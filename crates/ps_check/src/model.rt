@@ -14,10 +14,11 @@ pub struct Weighted {
 /// Worlds with their weights, in order.
 pub type Worlds = List<Weighted>;
 
-/// A distribution (Nilsson 1986): each world has the probability `weight/total`.
+/// Weighted worlds that are said to be a distribution (Nilsson 1986): then each world has the
+/// probability `weight/total`.
 #[derive(Drop)]
 pub struct Model {
-    /// The sum of the weights.
+    /// What the weights are said to sum to.
     pub total: i128,
     pub worlds: Worlds,
 }

@@ -14,8 +14,7 @@ use std::alloc::Global;
 
 /// How many bytes at the front are a text of a problem's form together with the blanks and comments
 /// behind it. Where the form is refused, the first refusal is answered: its kind, and where the
-/// token stands at which it comes. Numbers of items, nodes and atoms are not looked at. No byte
-/// behind the first one of a token behind the text is looked at.
+/// token stands at which it comes. Numbers of items, nodes and atoms are not looked at.
 #[tactic(auto, using(crate::proofs::Right::answered_right))]
 pub fn syntax(alloc: Global, bytes: &[u8]) -> Result<u32, SyntaxError>
     requires room { length bytes.now + 1 < 2 ^ 32 }

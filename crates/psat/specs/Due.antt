@@ -78,3 +78,7 @@ DueFor (Check limit) bytes o = DueInput limit bytes o
 pub data Due (words : List (List ℕ)) (bytes : List ℕ) (o : Output) : Type 0 where
   ForCommand : (command : Command) (spelled : Spell words command) (due : DueFor command bytes o) → Due words bytes o
   ForNone : (none : SpellNone words) (is : o ≡ usage) → Due words bytes o
+
+-- for words and bytes at most one output is due
+abbrev pub OneOutputIsDue : Type 0
+OneOutputIsDue = (words : List (List ℕ)) (bytes : List ℕ) (o p : Output) → Due words bytes o → Due words bytes p → o ≡ p

@@ -2,12 +2,11 @@
 ghost use Rattle.std.specs.Prelude.{◌≡◌, ℕ, List};
 ghost use Rattle.psat.specs.declared.command.Command.{Command};
 ghost use Rattle.psat.specs.Commands.{Spell};
-ghost use Rattle.psat.specs.Due.{Due, Output};
+ghost use Rattle.psat.specs.Due.{OneOutputIsDue};
 
 /// For words and bytes at most one output is due.
 pub fn one_output_is_due()
     ensures command { (words : List (List ℕ)) (c d : Command)
         → Spell words c → Spell words d → c ≡ d }
-    ensures output { (words : List (List ℕ)) (bytes : List ℕ) (o p : Output)
-        → Due words bytes o → Due words bytes p → o ≡ p }
+    ensures output { OneOutputIsDue }
 {}
