@@ -1,3 +1,5 @@
 pub mod Settling
 pub mod Next
 pub mod Marking
+pub mod CanonicalNesting
+pub mod KeptTokens
