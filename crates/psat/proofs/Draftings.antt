@@ -13,8 +13,8 @@ use Rattle.ps_text.specs.Tokens as text
 use Rattle.ps_problem.specs.declared.mark.Mark.TheVariants as mark
 use Rattle.ps_problem.specs.Numbering.{same_name, with_new}
 use Rattle.ps_problem.specs.Drafts.{Drafted, formula_at, nesting_at, canonical_nesting, with_name, with_mark, with_formula, with_item}
-use Rattle.ps_read.specs.declared.sentence.FirstSentence.{FirstSentence}
-use Rattle.ps_read.specs.FirstForm.{IsWithinLimits, item_of, negated}
+use Rattle.ps_first.specs.declared.sentence.FirstSentence.{FirstSentence}
+use Rattle.ps_first.specs.FirstForm.{IsWithinLimits, item_of, negated}
 use Rattle.psat.specs.Drafting.{IsDraftOf, opens}
 
 word_bytes : (bs : List ℕ) → AllByRecursion (λ c. IsTrue (text.is_word_byte c)) bs → list_all names.is_word_byte bs ≡ true

@@ -3,10 +3,10 @@ use Rattle.std.proofs.Common.{◌≡◌, ℕ, ◌≤◌, List, length, Err, IsEr
 use Rattle.ps_meaning.specs.Statements.{Item}
 use Rattle.ps_text.specs.Fronts.{IsFirstFront}
 use Rattle.ps_problem.specs.Counts.{counted}
-use Rattle.ps_read.specs.declared.sentence.FirstSentence.{FirstSentence}
-use Rattle.ps_read.specs.declared.error.ReadError.{ReadError}
-use Rattle.ps_read.specs.declared.error.ReadError.TheVariants.{NotFirstForm, NoMemory}
-use Rattle.ps_read.specs.FirstForm.{items_of, BeginsWithNone, Refuses}
+use Rattle.ps_first.specs.declared.sentence.FirstSentence.{FirstSentence}
+use Rattle.ps_first.specs.declared.error.ReadError.{ReadError}
+use Rattle.ps_first.specs.declared.error.ReadError.TheVariants.{NotFirstForm, NoMemory}
+use Rattle.ps_first.specs.FirstForm.{items_of, BeginsWithNone, Refuses}
 use Rattle.psat.specs.ProblemTexts.{SpellsNone, PassLimits}
 use Rattle.psat.proofs.FirstFronts.{few-items}
 

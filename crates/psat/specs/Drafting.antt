@@ -3,7 +3,7 @@ use Rattle.std.specs.Prelude.{◌≡◌, ◌≤◌, ℕ, List, [], ◌∷◌, le
 use Rattle.ps_meaning.specs.Formula.{Formula}
 use Rattle.ps_meaning.specs.Statements.{Name, Item}
 use Rattle.ps_problem.specs.Drafts.{Drafted, formula_at}
-use Rattle.ps_read.specs.FirstForm.{negated}
+use Rattle.ps_first.specs.FirstForm.{negated}
 
 -- the draft with this formula alone open
 abbrev pub opens : Drafted → Formula Name → Drafted

@@ -12,7 +12,7 @@ use crate::report_error::ReportError;
 use ps_check::{CheckError, Model, check_model};
 use ps_io::NoMemory;
 use ps_problem::Problem;
-use ps_read::ReadError;
+use ps_first::ReadError;
 use std::alloc::Global;
 
 // The reply to a model.

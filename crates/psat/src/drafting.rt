@@ -1,12 +1,12 @@
 //! Sentences of the first form, put into a draft.
 ghost use Rattle.std.specs.Prelude.{◌≡◌, ◌≤◌, ◌++◌, ◌∷◌, [], All, OnOk, IfOk, length};
 ghost use Rattle.ps_problem.specs.declared.limits.TheConstants.{MOST_BOUNDS};
-ghost use Rattle.ps_read.specs.FirstForm.{IsWithinLimits, item_of, items_of};
+ghost use Rattle.ps_first.specs.FirstForm.{IsWithinLimits, item_of, items_of};
 ghost use Rattle.psat.specs.Drafting.{IsDraftOf, IsNegated};
 
 use ps_io::NoMemory;
 use ps_problem::{Draft, Mark, Side};
-use ps_read::FirstSentence;
+use ps_first::FirstSentence;
 use std::alloc::Global;
 
 // Puts so many `!` before the formula that stands open.

@@ -1,12 +1,12 @@
 //! The problem at the front of an input.
 ghost use Rattle.std.specs.Prelude.{◌≤◌, length, All, IfOk, IsErrOf};
 ghost use Rattle.ps_problem.specs.declared.limits.TheConstants.{MOST_BOUNDS};
-ghost use Rattle.ps_read.specs.FirstForm.{IsWithinLimits, items_of};
+ghost use Rattle.ps_first.specs.FirstForm.{IsWithinLimits, items_of};
 ghost use Rattle.psat.specs.ProblemTexts.{IsProblemOf, PassLimits, SpellsFirst, SpellsNone};
 
 use crate::drafting::draft_of;
 use ps_problem::{BuildError, Draft, Problem, build};
-use ps_read::{FirstSentence, ReadError, read_first};
+use ps_first::{FirstSentence, ReadError, read_first};
 use std::alloc::Global;
 
 // The problem of a draft, where its items are within the limits.

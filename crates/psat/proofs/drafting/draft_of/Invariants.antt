@@ -1,5 +1,5 @@
 use Rattle.std.proofs.Common.{take}
-use Rattle.ps_read.specs.FirstForm.{items_of}
+use Rattle.ps_first.specs.FirstForm.{items_of}
 use Rattle.psat.specs.Drafting.{IsDraftOf}
 use Rattle.psat.proofs.drafting.draft_of.Given as goal
 

@@ -1,6 +1,6 @@
 use Rattle.std.proofs.Common.{◌≡◌}
 use Rattle.ps_problem.specs.Drafts.{formula_at}
-use Rattle.ps_read.specs.FirstForm.{negated}
+use Rattle.ps_first.specs.FirstForm.{negated}
 use Rattle.psat.specs.Drafting.{opens}
 use Rattle.psat.proofs.drafting.negate.Given as goal
 
