@@ -1,0 +1,14 @@
+pub mod Combination
+pub mod Lists
+pub mod Columns
+pub mod Resting
+pub mod BasicSolution
+pub mod Weights
+pub mod Counts
+pub mod Models
+pub mod Ends
+pub mod Starts
+pub mod Pricing
+pub mod Shown
+pub mod Totals
+pub mod Composed

@@ -1,0 +1,30 @@
+-- What the ends of phases show, in the words of claims.
+use Rattle.std.proofs.Common.{◌≡◌, ◌≢◌, ◌+◌, ◌≤◌, ℕ, ℤ, pos, ◌≤ℤ◌, List, length, All, AllPairs, refl, arith}
+use Rattle.std.proofs.lemmas.Int.{ints}
+use Rattle.ps_rational.specs.Rational.{Rational}
+use Rattle.ps_meaning.specs.Formula.{World}
+use Rattle.ps_rule.specs.Rule.{IsFeasible}
+use Rattle.ps_entailment.specs.Queries.{IsAllowed}
+use Rattle.ps_entailment.specs.Answers.{IsSmall}
+use Rattle.ps_claims.specs.declared.claim_kind.ClaimKind.TheVariants.{Nothing}
+use Rattle.ps_claims.specs.Duals.{HasNothingHead}
+use Rattle.ps_runs.specs.Rows.{Setting, cost_of, table_of, IsTable}
+use Rattle.ps_runs.specs.Certificates.{table_dual, weighted_worlds, table_model}
+use Rattle.ps_runs.proofs.Models.{big_positive, evidence_weight, bounds_met, few_worlds, is_distribution}
+use Rattle.ps_runs.proofs.Ends.{head_above}
+
+module _ (s : Setting) (pool : List World) (basic : ℕ → ℕ) (X : ℕ → ℕ → Rational) (t : IsTable s pool basic X) where
+  -- the worlds of a feasible table are allowed
+  pub allowed_at_end : (atoms : ℕ) → IsFeasible (table_of s pool basic X) → AllPairs (λ u v. u ≢ v) pool → All (λ (w : World). length w ≡ atoms) pool
+      → IsAllowed atoms s.bounds s.query.evidence (weighted_worlds (table_of s pool basic X) pool)
+  allowed_at_end atoms feasible apart sized = record {
+    model = record { distribution = is_distribution s pool basic X t atoms feasible apart sized; met = bounds_met s pool basic X t feasible };
+    positive = let e = evidence_weight s pool basic X t feasible in let h = big_positive s pool basic X t in omega (arith, ints, e, h);
+  }
+
+  pub small_at_end : IsSmall s.bounds (table_model (table_of s pool basic X) pool)
+  small_at_end = record { few = let a = few_worlds s pool basic X t in omega (arith, a); total = refl }
+
+  -- phase one rests above 0
+  pub nothing_head : (IsFeasible (table_of s pool basic X) → ⊥) → HasNothingHead (table_dual Nothing s (table_of s pool basic X) (cost_of Nothing s pool))
+  nothing_head unfinished = record { top = refl; head = head_above s pool basic X t unfinished }

@@ -1,0 +1,94 @@
+-- Laws of runs.
+use Rattle.std.specs.Prelude.{◌≡◌, ◌≢◌, ◌⊎◌, ◌↔◌, Option, ℕ, ◌+◌, ◌-◌, ◌<◌, ◌≤◌, ℤ, pos, ◌<ℤ◌, ◌≤ℤ◌, ◌*ℤ◌, cond, List, [], ◌∷◌, ◌++◌, length, get_or}
+use Rattle.ps_rational.specs.Rational.{Rational, whole, mul, sub, neg, zero_q, one_q}
+use Rattle.ps_rational.specs.Order.{IsLess, IsNonneg}
+use Rattle.ps_rational.specs.Sums.{int_sum_to}
+use Rattle.ps_meaning.specs.Formula.{World}
+use Rattle.ps_meaning.specs.Distribution.{total, weight}
+use Rattle.ps_basis.specs.Table.{IsFirst, Widened}
+use Rattle.ps_rule.specs.Rule.{SimplexTable, IsFeasible, IsMoving, IsResting}
+use Rattle.ps_pool.specs.declared.event.Event.{Event}
+use Rattle.ps_table.specs.Places.{weight_at}
+use Rattle.ps_entailment.specs.Queries.{IsAllowed}
+use Rattle.ps_entailment.specs.Answers.{IsSmall}
+use Rattle.ps_claims.specs.declared.claim_kind.ClaimKind.{ClaimKind}
+use Rattle.ps_claims.specs.declared.claim_kind.ClaimKind.TheVariants.{Nothing, Lower, Upper}
+use Rattle.ps_claims.specs.Duals.{HaveSigns, HasNothingHead}
+use Rattle.ps_runs.specs.Rows.{Setting, both_of, stage_of, artificial_of, rows_of, columns_of, width_of, world_cost, cost_of, table_of, IsTable}
+use Rattle.ps_runs.specs.Runs.{Subject, Stage, IsPool, LeadsTo, LeadsToPending, pivots_in}
+use Rattle.ps_runs.specs.Certificates.{table_dual, combination_at, multiple_of, price, weighted_worlds, table_model}
+
+-- the combination of a table's dual in a world is a positive multiple of what the multipliers price the world's column above
+-- its cost, so it is above 0 exactly where the column is priced above its cost
+pub record CombinationsArePrices : Type 0 where
+  pub multiple : (kind : ClaimKind) (s : Setting) (t : SimplexTable) (cost : ℕ → Rational) (w : World) → t.rows ≡ rows_of s
+      → whole (combination_at kind s t cost w) ≡ mul (whole (pos (multiple_of t cost))) (sub (price s t cost w) (whole (world_cost kind s w)))
+  pub positive : (t : SimplexTable) (cost : ℕ → Rational) → 0 < multiple_of t cost
+  pub above : (kind : ClaimKind) (s : Setting) (t : SimplexTable) (cost : ℕ → Rational) (w : World) → t.rows ≡ rows_of s
+      → (pos 0 <ℤ combination_at kind s t cost w) ↔ IsLess (whole (world_cost kind s w)) (price s t cost w)
+
+-- where each basic artificial has value 0 the weighted worlds of the table are a small distribution that the query allows
+pub record FeasibleTablesGiveModels : Type 0 where
+  pub allowed : (s : Setting) (pool : List World) (basic : ℕ → ℕ) (X : ℕ → ℕ → Rational) (atoms : ℕ) → IsTable s pool basic X
+      → IsFeasible (table_of s pool basic X) → IsPool atoms pool
+      → IsAllowed atoms s.bounds s.query.evidence (weighted_worlds (table_of s pool basic X) pool)
+  pub small : (s : Setting) (pool : List World) (basic : ℕ → ℕ) (X : ℕ → ℕ → Rational) → IsTable s pool basic X
+      → IsSmall s.bounds (table_model (table_of s pool basic X) pool)
+  pub total : (s : Setting) (pool : List World) (basic : ℕ → ℕ) (X : ℕ → ℕ → Rational) → IsTable s pool basic X
+      → int_sum_to (rows_of s) (weight_at (rows_of s) basic X) ≡ total (weighted_worlds (table_of s pool basic X) pool)
+
+-- at rest no multiplier of the table's dual is of the wrong sign, and where phase one is not due to end its head is at least 1;
+-- in a side head over top is what the worlds of a feasible table reach
+pub record RestingTablesGiveDuals : Type 0 where
+  pub signs : (kind : ClaimKind) (s : Setting) (pool : List World) (basic : ℕ → ℕ) (X : ℕ → ℕ → Rational)
+      → IsResting (stage_of kind) (table_of s pool basic X) (cost_of kind s pool)
+      → HaveSigns s.bounds (table_dual kind s (table_of s pool basic X) (cost_of kind s pool)).rows
+  pub head : (s : Setting) (pool : List World) (basic : ℕ → ℕ) (X : ℕ → ℕ → Rational) → IsTable s pool basic X
+      → (IsFeasible (table_of s pool basic X) → ⊥) → HasNothingHead (table_dual Nothing s (table_of s pool basic X) (cost_of Nothing s pool))
+  pub reached : (kind : ClaimKind) (s : Setting) (pool : List World) (basic : ℕ → ℕ) (X : ℕ → ℕ → Rational) → kind ≢ Nothing
+      → IsTable s pool basic X → IsFeasible (table_of s pool basic X)
+      → (table_dual kind s (table_of s pool basic X) (cost_of kind s pool)).top *ℤ weight (weighted_worlds (table_of s pool basic X) pool) (both_of s)
+      ≡ (table_dual kind s (table_of s pool basic X) (cost_of kind s pool)).head *ℤ weight (weighted_worlds (table_of s pool basic X) pool) s.query.evidence
+
+-- the homes' table is one of the run, and so is a table with a world more
+pub record TablesOfRuns : Type 0 where
+  pub first : (s : Setting) (basic : ℕ → ℕ) (X : ℕ → ℕ → Rational) → IsFirst (rows_of s) basic X → IsTable s [] basic X
+  pub added : (s : Setting) (pool : List World) (w : World) (basic : ℕ → ℕ) (X Z : ℕ → ℕ → Rational) → IsTable s pool basic X
+      → Widened (rows_of s) (width_of s pool) (columns_of s (pool ++ w ∷ [])) X Z → IsTable s (pool ++ w ∷ []) basic Z
+
+-- in phase one an artificial costs 1 and all else 0; in a side homes cost 0, and worlds 0 or 1, or 0 or -1
+pub record CostsOfPhases : Type 0 where
+  pub first : (s : Setting) (pool : List World) (j : ℕ) → 0 < j → j < width_of s pool → cost_of Nothing s pool j ≡ cond (artificial_of s j) one_q zero_q
+  pub homes : (kind : ClaimKind) (s : Setting) (pool : List World) (j : ℕ) → kind ≢ Nothing → 0 < j → j ≤ rows_of s → cost_of kind s pool j ≡ zero_q
+  pub lower : (s : Setting) (pool : List World) (j : ℕ) → rows_of s < j → j < width_of s pool
+      → (cost_of Lower s pool j ≡ zero_q) ⊎ (cost_of Lower s pool j ≡ one_q)
+  pub upper : (s : Setting) (pool : List World) (j : ℕ) → rows_of s < j → j < width_of s pool
+      → (cost_of Upper s pool j ≡ zero_q) ⊎ (cost_of Upper s pool j ≡ neg one_q)
+
+-- row 0 is 0 or 1 on worlds, 1 where the cost is -1, and never below 0 on homes
+pub record EvidenceRow : Type 0 where
+  pub homes : (s : Setting) (pool : List World) (j : ℕ) → j ≤ rows_of s → IsNonneg (columns_of s pool 0 j)
+  pub worlds : (s : Setting) (pool : List World) (j : ℕ) → rows_of s < j → j < width_of s pool
+      → (columns_of s pool 0 j ≡ zero_q) ⊎ (columns_of s pool 0 j ≡ one_q)
+  pub costly : (s : Setting) (pool : List World) (j : ℕ) → rows_of s < j → j < width_of s pool
+      → cost_of Upper s pool j ≡ neg one_q → columns_of s pool 0 j ≡ one_q
+
+-- a world with a combination of at least 1 at a resting table isn't in the pool, and once its column is there the table is moving
+pub record PricedWorldsMove : Type 0 where
+  pub fresh : (kind : ClaimKind) (s : Setting) (pool : List World) (basic : ℕ → ℕ) (X : ℕ → ℕ → Rational) (k : ℕ) → IsTable s pool basic X
+      → IsResting (stage_of kind) (table_of s pool basic X) (cost_of kind s pool) → k < length pool
+      → pos 1 ≤ℤ combination_at kind s (table_of s pool basic X) (cost_of kind s pool) (get_or pool k []) → ⊥
+  pub moving : (kind : ClaimKind) (s : Setting) (pool : List World) (w : World) (basic : ℕ → ℕ) (X Z : ℕ → ℕ → Rational) → IsTable s pool basic X
+      → Widened (rows_of s) (width_of s pool) (columns_of s (pool ++ w ∷ [])) X Z
+      → IsResting (stage_of kind) (table_of s pool basic X) (cost_of kind s pool)
+      → pos 1 ≤ℤ combination_at kind s (table_of s pool basic X) (cost_of kind s pool) w
+      → IsMoving (stage_of kind) (table_of s (pool ++ w ∷ []) basic Z) (cost_of kind s (pool ++ w ∷ []))
+
+-- events that follow lawful ones lead on, also to a pending world, and their pivots sum
+pub record EventsCompose : Type 0 where
+  pub leads : (kind : ClaimKind) (s : Subject) (conflicts : ℕ) (a b c : Stage) (before after : List Event)
+      → LeadsTo kind s conflicts a before b → LeadsTo kind s conflicts b after c → LeadsTo kind s conflicts a (before ++ after) c
+  pub pending : (kind : ClaimKind) (s : Subject) (conflicts : ℕ) (a b c : Stage) (before after : List Event) (world : Option World)
+      → LeadsTo kind s conflicts a before b → LeadsToPending kind s conflicts b after world c
+      → LeadsToPending kind s conflicts a (before ++ after) world c
+  pub pivots : (before after : List Event) → pivots_in (before ++ after) ≡ pivots_in before + pivots_in after

@@ -1,0 +1,7 @@
+-- Meaning
+pub mod Rows
+pub mod Certificates
+pub mod Searches
+pub mod Runs
+-- Laws, as the functions of laws.rt promise them
+pub mod Laws

@@ -1,0 +1,109 @@
+-- The rows and columns of a run: what its bounds and its query make of each world.
+use Rattle.std.specs.Prelude.{ℕ, suc, ◌-◌, ℤ, pos, neg_ℤ, Bool, true, false, cond, List, [], ◌∷◌, ◌++◌, map, length, get_or, ◌+◌, ◌<◌}
+use Rattle.std.proofs.Common.{leb}
+use Rattle.ps_meaning.specs.Formula.{World, Formula, And}
+use Rattle.ps_meaning.specs.declared.side.Side.{Side}
+use Rattle.ps_meaning.specs.declared.side.Side.TheVariants.{AtLeast, AtMost, Exactly}
+use Rattle.ps_meaning.specs.Bounds.{Bound}
+use Rattle.ps_meaning.specs.Rows.{indicator, row_value}
+use Rattle.ps_rational.specs.Rational.{Rational, fraction}
+use Rattle.ps_rational.specs.Order.{IsNonneg}
+use Rattle.ps_basis.specs.Table.{unit_at, Stands}
+use Rattle.ps_rule.specs.Rule.{Phase, First, Second, SimplexTable}
+use Rattle.ps_rule.specs.Pivots.{System, simplex_table}
+use Rattle.ps_entailment.specs.Queries.{Query}
+use Rattle.ps_claims.specs.declared.claim_kind.ClaimKind.{ClaimKind}
+use Rattle.ps_claims.specs.declared.claim_kind.ClaimKind.TheVariants.{Nothing, Lower, Upper}
+
+-- what rows and columns are made of: the bounds that a distribution is to meet, and the query, whose evidence is to weigh
+-- something
+pub record Setting : Type 0 where
+  pub bounds : List Bound
+  pub query : Query
+
+-- formula and evidence of the query together
+abbrev pub both_of : Setting → Formula ℕ
+both_of s = And s.query.formula s.query.evidence
+
+-- the phase of the simplex method: the first is to show that nothing is allowed, the second what bounds the query
+abbrev pub stage_of : ClaimKind → Phase
+stage_of Nothing = First
+stage_of Lower = Second
+stage_of Upper = Second
+
+-- ---- columns
+-- a number of a bound's row, with the sign that leaves it at most 0 where the bound is met: turned round at a lower bound
+abbrev pub turned : Side → ℤ → ℤ
+turned AtLeast z = neg_ℤ z
+turned AtMost z = z
+turned Exactly z = z
+
+-- a bound's entry in a world's column
+abbrev pub entry_in : World → Bound → ℤ
+entry_in w b = turned b.side (row_value b w)
+
+-- a world's column: whether the evidence is true in it, and its entry of each bound's row
+abbrev pub entries_of : Setting → World → List ℤ
+entries_of s w = indicator s.query.evidence w ∷ map (entry_in w) s.bounds
+
+-- an equation has no slack
+abbrev pub is_exact : Side → Bool
+is_exact AtLeast = false
+is_exact AtMost = false
+is_exact Exactly = true
+
+-- whether the home of each row is artificial: row 0 says that the evidence weighs 1; each bound has a row
+abbrev pub artificial_rows : Setting → List Bool
+artificial_rows s = true ∷ map (λ b. is_exact b.side) s.bounds
+
+abbrev pub rows_of : Setting → ℕ
+rows_of s = suc (length s.bounds)
+
+-- the right side, the homes, and the worlds of the pool
+abbrev pub columns_of : Setting → List World → ℕ → ℕ → Rational
+columns_of s pool m j =
+    cond (leb j (rows_of s)) (unit_at m (j - 1)) (fraction (get_or (entries_of s (get_or pool (j - suc (rows_of s)) [])) m (pos 0)) 1)
+
+-- whether the column of a number is artificial
+abbrev pub artificial_of : Setting → ℕ → Bool
+artificial_of s j = get_or (artificial_rows s) (j - 1) false
+
+abbrev pub system_of : Setting → List World → System
+system_of s pool = record { rows = rows_of s; artificial = artificial_of s; columns = columns_of s pool }
+
+-- the width of its tables
+abbrev pub width_of : Setting → List World → ℕ
+width_of s pool = suc (rows_of s + length pool)
+
+-- ---- costs
+-- phase one makes the artificials as small as it can
+abbrev pub home_cost : ClaimKind → Bool → ℤ
+home_cost Nothing artificial = cond artificial (pos 1) (pos 0)
+home_cost Lower artificial = pos 0
+home_cost Upper artificial = pos 0
+
+-- the sides make the query as small or as great as they can
+abbrev pub world_cost : ClaimKind → Setting → World → ℤ
+world_cost Nothing s w = pos 0
+world_cost Lower s w = indicator (both_of s) w
+world_cost Upper s w = neg_ℤ (indicator (both_of s) w)
+
+-- the cost of each home and each world
+abbrev pub costs_of : ClaimKind → Setting → List World → List ℤ
+costs_of kind s pool = map (home_cost kind) (artificial_rows s) ++ map (world_cost kind s) pool
+
+-- the cost of the column of a number
+abbrev pub cost_of : ClaimKind → Setting → List World → ℕ → Rational
+cost_of kind s pool j = fraction (get_or (costs_of kind s pool) (j - 1) (pos 0)) 1
+
+-- ---- tables
+-- a table of a pool's worlds, as the rule sees it
+abbrev pub table_of : Setting → List World → (ℕ → ℕ) → (ℕ → ℕ → Rational) → SimplexTable
+table_of s pool basic X = simplex_table (system_of s pool) (width_of s pool) basic X
+
+-- the table is that of its basis, which names homes and worlds of the pool, and no value is below 0
+pub record IsTable (s : Setting) (pool : List World) (basic : ℕ → ℕ) (X : ℕ → ℕ → Rational) : Type 0 where
+  pub stands : Stands (rows_of s) (width_of s pool) (columns_of s pool) basic X
+  pub first : (i : ℕ) → i < rows_of s → 0 < basic i
+  pub last : (i : ℕ) → i < rows_of s → basic i < width_of s pool
+  pub values : (i : ℕ) → i < rows_of s → IsNonneg (X i 0)

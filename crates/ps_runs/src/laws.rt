@@ -1,0 +1,42 @@
+//! The laws of runs.
+
+ghost use Rattle.ps_runs.specs.Laws.{CombinationsArePrices, FeasibleTablesGiveModels};
+ghost use Rattle.ps_runs.specs.Laws.{RestingTablesGiveDuals, TablesOfRuns, CostsOfPhases};
+ghost use Rattle.ps_runs.specs.Laws.{EvidenceRow, PricedWorldsMove, EventsCompose};
+
+/// The combination of a table's dual in a world is a whole positive multiple of what the
+/// multipliers price the world's column above its cost. So it is at least 1 exactly where the
+/// column is priced above its cost.
+pub fn reduced_costs()
+    ensures prices { CombinationsArePrices }
+{}
+
+/// Where each basic artificial has value 0, the values of the basic worlds, each times the least
+/// common multiple of the denominators, are a distribution that meets the bounds and gives the
+/// evidence a weight, on at most one world more than there are bounds. At rest the multipliers,
+/// each times the least common multiple of their denominators, have the signs of a dual; where
+/// phase one rests its head is at least 1; in a side the model reaches head over top.
+pub fn phase_ends()
+    ensures models { FeasibleTablesGiveModels }
+    ensures duals { RestingTablesGiveDuals }
+{}
+
+/// The homes' table is one of the run, and so is a table with a world more. In phase one an
+/// artificial costs 1 and all else 0; in a side homes cost 0, and worlds 0 or 1, or 0 or -1; row 0
+/// is 0 or 1 on worlds, 1 where the cost is -1, and never below 0 on homes.
+pub fn phase_starts()
+    ensures tables { TablesOfRuns }
+    ensures costs { CostsOfPhases }
+    ensures row { EvidenceRow }
+{}
+
+/// A world that is priced above its cost at a resting table isn't in the pool, and once its column
+/// is there the table is moving.
+pub fn priced_worlds()
+    ensures moving { PricedWorldsMove }
+{}
+
+/// Events that follow lawful ones lead on, and their pivots sum.
+pub fn composed_runs()
+    ensures composed { EventsCompose }
+{}
