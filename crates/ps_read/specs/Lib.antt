@@ -1,0 +1,4 @@
+-- Meaning
+pub mod Kinds
+pub mod Readings
+pub mod Reads
