@@ -12,3 +12,4 @@ pub mod Pricing
 pub mod Shown
 pub mod Totals
 pub mod Composed
+pub mod Certified

@@ -1,5 +1,5 @@
 -- Laws of runs.
-use Rattle.std.specs.Prelude.{◌≡◌, ◌≢◌, ◌⊎◌, ◌↔◌, Option, ℕ, ◌+◌, ◌-◌, ◌<◌, ◌≤◌, ℤ, pos, ◌<ℤ◌, ◌≤ℤ◌, ◌*ℤ◌, cond, List, [], ◌∷◌, ◌++◌, length, get_or}
+use Rattle.std.specs.Prelude.{◌≡◌, ◌≢◌, ◌⊎◌, ◌↔◌, Option, ℕ, ◌+◌, ◌-◌, ◌<◌, ◌≤◌, ℤ, pos, ◌<ℤ◌, ◌≤ℤ◌, ◌*ℤ◌, cond, Bool, List, [], ◌∷◌, ◌++◌, length, get_or}
 use Rattle.ps_rational.specs.Rational.{Rational, whole, mul, sub, neg, zero_q, one_q}
 use Rattle.ps_rational.specs.Order.{IsLess, IsNonneg}
 use Rattle.ps_rational.specs.Sums.{int_sum_to}
@@ -9,14 +9,20 @@ use Rattle.ps_basis.specs.Table.{IsFirst, Widened}
 use Rattle.ps_rule.specs.Rule.{SimplexTable, IsFeasible, IsMoving, IsResting}
 use Rattle.ps_pool.specs.declared.event.Event.{Event}
 use Rattle.ps_table.specs.Places.{weight_at}
+use Rattle.ps_steps.specs.Steps.{Refutes}
+use Rattle.ps_forms.specs.Forms.{form_of, first_known, MeetsForm}
+use Rattle.ps_forms.specs.Extensions.{extension}
+use Rattle.ps_problem.specs.Problems.{AreParts, bounds_of}
 use Rattle.ps_entailment.specs.Queries.{IsAllowed}
-use Rattle.ps_entailment.specs.Answers.{IsSmall}
+use Rattle.ps_entailment.specs.Answers.{IsSmall, ShowsConsistent}
 use Rattle.ps_claims.specs.declared.claim_kind.ClaimKind.{ClaimKind}
 use Rattle.ps_claims.specs.declared.claim_kind.ClaimKind.TheVariants.{Nothing, Lower, Upper}
-use Rattle.ps_claims.specs.Duals.{HaveSigns, HasNothingHead}
+use Rattle.ps_claims.specs.Duals.{Dual, combination, HaveSigns, HasNothingHead}
+use Rattle.ps_claims.specs.Goals.{value_under}
+use Rattle.ps_claims.specs.Validity.{IsRefuted, ShowsNothing}
 use Rattle.ps_runs.specs.Rows.{Setting, both_of, stage_of, artificial_of, rows_of, columns_of, width_of, world_cost, cost_of, table_of, IsTable}
-use Rattle.ps_runs.specs.Runs.{Subject, Stage, IsPool, LeadsTo, LeadsToPending, pivots_in}
-use Rattle.ps_runs.specs.Certificates.{table_dual, combination_at, multiple_of, price, weighted_worlds, table_model}
+use Rattle.ps_runs.specs.Runs.{Subject, setting_of, given_in, both_in, IsAsked, atoms_of, combination_over, goal_at_least, Stage, IsPool, table_at, costs_at, dual_at, AreAtMost, LeadsTo, LeadsToPending, pivots_in}
+use Rattle.ps_runs.specs.Certificates.{HaveSameNumbers, table_dual, combination_at, multiple_of, price, weighted_worlds, table_model}
 
 -- the combination of a table's dual in a world is a positive multiple of what the multipliers price the world's column above
 -- its cost, so it is above 0 exactly where the column is priced above its cost
@@ -92,3 +98,26 @@ pub record EventsCompose : Type 0 where
       → LeadsTo kind s conflicts a before b → LeadsToPending kind s conflicts b after world c
       → LeadsToPending kind s conflicts a (before ++ after) world c
   pub pivots : (before after : List Event) → pivots_in (before ++ after) ≡ pivots_in before + pivots_in after
+
+-- the combination over the nodes has at a world's extension its value in the world; so what no assignment that meets the form is
+-- above, no world is above
+pub record GainsAreValues : Type 0 where
+  pub value : (kind : ClaimKind) (s : Subject) (d : Dual) (w : World) → AreParts s.parts → IsAsked kind s.parts s.query
+      → value_under (extension s.parts.nodes w) (combination_over kind s d) ≡ combination kind (setting_of s).bounds (setting_of s).query d w
+  pub most : (kind : ClaimKind) (s : Subject) (g : Stage) (X : ℕ → ℕ → Rational) (most : ℤ) → AreParts s.parts → IsAsked kind s.parts s.query
+      → ((v : List Bool) → MeetsForm v (form_of s.parts.nodes) → value_under v (combination_over kind s (dual_at kind s g X)) ≤ℤ most)
+      → AreAtMost kind s g X most
+
+-- a dual with the numbers of a resting table, whose steps refute that its combination is at least 1, is refuted; in phase one it
+-- shows that nothing is allowed; and the model of a feasible table shows that the bounds are consistent
+pub record EndsAreValid : Type 0 where
+  pub refuted : (kind : ClaimKind) (s : Subject) (g : Stage) (X : ℕ → ℕ → Rational) (d : Dual) → HaveSameNumbers d (dual_at kind s g X)
+      → IsResting (stage_of kind) (table_at s g X) (costs_at kind s g)
+      → Refutes (length s.parts.nodes) (first_known (form_of s.parts.nodes) (goal_at_least (pos 1) kind s (dual_at kind s g X))) d.steps
+      → IsRefuted s.parts kind (given_in s.query) (both_in s.query) d
+  pub nothing : (s : Subject) (g : Stage) (X : ℕ → ℕ → Rational) (d : Dual) → HaveSameNumbers d (dual_at Nothing s g X)
+      → IsTable (setting_of s) g.pool g.basis X → IsResting (stage_of Nothing) (table_at s g X) (costs_at Nothing s g)
+      → Refutes (length s.parts.nodes) (first_known (form_of s.parts.nodes) (goal_at_least (pos 1) Nothing s (dual_at Nothing s g X))) d.steps
+      → ShowsNothing s.parts (given_in s.query) d
+  pub consistent : (s : Subject) (g : Stage) (X : ℕ → ℕ → Rational) → IsTable (setting_of s) g.pool g.basis X → IsFeasible (table_at s g X)
+      → IsPool (atoms_of s) g.pool → ShowsConsistent (atoms_of s) (bounds_of s.parts) (table_model (table_at s g X) g.pool)

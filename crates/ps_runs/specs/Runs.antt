@@ -10,7 +10,7 @@ use Rattle.ps_steps.specs.Weights.{constraint_of}
 use Rattle.ps_steps.specs.Steps.{Step}
 use Rattle.ps_forms.specs.Forms.{form_of}
 use Rattle.ps_problem.specs.declared.query.Query as stored
-use Rattle.ps_problem.specs.Problems.{Parts, bounds_in, bounds_of}
+use Rattle.ps_problem.specs.Problems.{Parts, HasNodes, bounds_in, bounds_of}
 use Rattle.ps_pool.specs.Worlds.{AreDifferent}
 use Rattle.ps_pool.specs.declared.col.Col.{Col}
 use Rattle.ps_pool.specs.declared.event.Event.{Event}
@@ -19,6 +19,7 @@ use Rattle.ps_table.specs.Tableau.{number_in, IsInside}
 use Rattle.ps_entailment.specs.Queries.{Query}
 use Rattle.ps_entailment.specs.Answers.{Model}
 use Rattle.ps_claims.specs.declared.claim_kind.ClaimKind.{ClaimKind}
+use Rattle.ps_claims.specs.declared.claim_kind.ClaimKind.TheVariants.{Nothing}
 use Rattle.ps_claims.specs.Duals.{Dual}
 use Rattle.ps_claims.specs.declared.combination.Combination.{Combination}
 use Rattle.ps_claims.specs.Goals.{combination_of}
@@ -52,6 +53,11 @@ both_in (Some q) = q.both
 
 abbrev pub atoms_of : Subject → ℕ
 atoms_of s = length s.parts.names
+
+-- the nodes of the query are there; without a query there is only phase one
+abbrev pub IsAsked : ClaimKind → Parts → Option stored.Query → Type 0
+IsAsked kind p None = kind ≡ Nothing
+IsAsked kind p (Some q) = HasNodes p.nodes q.formula q.given q.both
 
 -- the combination of a dual over the problem's nodes
 abbrev pub combination_over : ClaimKind → Subject → Dual → Combination
@@ -132,12 +138,16 @@ pub record IsCutAbove (kind : ClaimKind) (s : Subject) (conflicts : ℕ) (g : St
 
 -- a world is priced at a resting table: the combination of its dual is at least 1 there, and is greater in no world, unless a
 -- search for a greater one was spent
+pub record IsPricedBy (kind : ClaimKind) (s : Subject) (conflicts : ℕ) (g : Stage) (X : ℕ → ℕ → Rational) (w : World) : Type 0 where
+  pub rests : IsRestingAt kind s g X
+  pub sized : length w ≡ atoms_of s
+  pub above : pos 1 ≤ℤ gain_at kind s g X w
+  pub greatest : AreAtMost kind s g X (gain_at kind s g X w) ⊎ IsCutAbove kind s conflicts g X (gain_at kind s g X w)
+
+-- a table of the stage prices the world
 pub record IsPricedAt (kind : ClaimKind) (s : Subject) (conflicts : ℕ) (g : Stage) (w : World) : Type 0 where
   pub table : ℕ → ℕ → Rational
-  pub rests : IsRestingAt kind s g table
-  pub sized : length w ≡ atoms_of s
-  pub above : pos 1 ≤ℤ gain_at kind s g table w
-  pub greatest : AreAtMost kind s g table (gain_at kind s g table w) ⊎ IsCutAbove kind s conflicts g table (gain_at kind s g table w)
+  pub priced : IsPricedBy kind s conflicts g table w
 
 -- events of a phase lead lawfully from one stage to another
 pub data LeadsTo (kind : ClaimKind) (s : Subject) (conflicts : ℕ) : Stage → List Event → Stage → Type 0 where

@@ -3,6 +3,7 @@
 ghost use Rattle.ps_runs.specs.Laws.{CombinationsArePrices, FeasibleTablesGiveModels};
 ghost use Rattle.ps_runs.specs.Laws.{RestingTablesGiveDuals, TablesOfRuns, CostsOfPhases};
 ghost use Rattle.ps_runs.specs.Laws.{EvidenceRow, PricedWorldsMove, EventsCompose};
+ghost use Rattle.ps_runs.specs.Laws.{GainsAreValues, EndsAreValid};
 
 /// The combination of a table's dual in a world is a whole positive multiple of what the
 /// multipliers price the world's column above its cost. So it is at least 1 exactly where the
@@ -39,4 +40,17 @@ pub fn priced_worlds()
 /// Events that follow lawful ones lead on, and their pivots sum.
 pub fn composed_runs()
     ensures composed { EventsCompose }
+{}
+
+/// The combination of a dual over the variables of the nodes has at a world's extension its value
+/// in the world. So what no assignment that meets the clauses is above, no world is above.
+pub fn gains()
+    ensures values { GainsAreValues }
+{}
+
+/// The model of a table at which phase one is due to end shows that the bounds are consistent. A
+/// dual with the numbers of a resting table, whose steps refute that its combination is at least 1,
+/// is a valid one; in phase one it shows that nothing is allowed.
+pub fn valid_ends()
+    ensures valid { EndsAreValid }
 {}

@@ -6,4 +6,6 @@
 
 mod laws;
 
-pub use laws::{composed_runs, phase_ends, phase_starts, priced_worlds, reduced_costs};
+pub use laws::{
+    composed_runs, gains, phase_ends, phase_starts, priced_worlds, reduced_costs, valid_ends,
+};

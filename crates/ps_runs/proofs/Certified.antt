@@ -1,0 +1,99 @@
+-- What is found over the nodes' variables, as what it says of worlds, and the ends of phases as valid claims.
+use Rattle.std.proofs.Common.{◌≡◌, ◌<◌, ℕ, ℤ, pos, ◌≤ℤ◌, neg_ℤ, Bool, Option, Some, None, List, length, sym, refl, ap, ◌∙◌, subst}
+use Rattle.ps_meaning.specs.Formula.{World}
+use Rattle.ps_meaning.specs.Bounds as meaning
+use Rattle.ps_rational.specs.Rational.{Rational}
+use Rattle.ps_rule.specs.Rule.{IsFeasible, IsResting}
+use Rattle.ps_formula.specs.declared.node.Node.{Node}
+use Rattle.ps_formula.specs.Nodes.{AreNodes}
+use Rattle.ps_formula.proofs.Trees.{length-truths}
+use Rattle.ps_forms.specs.Clauses.{clause_form}
+use Rattle.ps_forms.specs.Forms.{form_of, first_known, MeetsForm}
+use Rattle.ps_forms.specs.Extensions.{extension}
+use Rattle.ps_forms.proofs.Idle.{clauses-form}
+use Rattle.ps_forms.proofs.Extends.{extension-met}
+use Rattle.ps_forms.proofs.Worlds.{extension-agrees}
+use Rattle.ps_steps.specs.Steps.{Refutes}
+use Rattle.ps_problem.specs.declared.query.Query as stored
+use Rattle.ps_problem.specs.declared.bound.Bound.{Bound}
+use Rattle.ps_problem.specs.Problems.{Parts, AreParts, bounds_in, bounds_of}
+use Rattle.ps_entailment.specs.Answers.{ShowsConsistent}
+use Rattle.ps_claims.specs.declared.claim_kind.ClaimKind.{ClaimKind}
+use Rattle.ps_claims.specs.declared.claim_kind.ClaimKind.TheVariants.{Nothing, Lower, Upper}
+use Rattle.ps_claims.specs.declared.combination.Combination.{Combination}
+use Rattle.ps_claims.specs.Duals.{Dual, combination, HaveSigns, HasNothingHead}
+use Rattle.ps_claims.specs.Goals.{value_under, plus, at_node, at_condition, rows_times, claimed_of, combination_of, goal_of}
+use Rattle.ps_claims.specs.Validity.{IsRefuted, ShowsNothing}
+use Rattle.ps_claims.proofs.NodeSums.{value-nothing, value-claimed, value-combination}
+use Rattle.ps_runs.specs.Rows.{stage_of, IsTable}
+use Rattle.ps_runs.specs.Certificates.{table_model, HaveSameNumbers}
+use Rattle.ps_runs.specs.Runs.{Subject, setting_of, asked_in, given_in, both_in, IsAsked, atoms_of, combination_over, goal_at_least, Stage, IsPool, table_at, costs_at, dual_at, gain_at, AreAtMost}
+use Rattle.ps_runs.proofs.Resting.{rest_signs}
+use Rattle.ps_runs.proofs.Shown.{allowed_at_end, small_at_end, nothing_head}
+
+value_is : (kind : ClaimKind) (p : Parts) (q : Option stored.Query) (d : Dual) (w : World) → AreParts p → IsAsked kind p q
+    → value_under (extension p.nodes w) (combination_of kind (given_in q) (both_in q) (bounds_in p.sentences) d) ≡ combination kind (bounds_of p) (asked_in p q) d w
+value_is kind p None d w are asked =
+    subst (λ k. value_under (extension p.nodes w) (combination_of k None 0 (bounds_in p.sentences) d) ≡ combination k (bounds_of p) (asked_in p None) d w) (sym asked)
+    (value-combination Nothing p.nodes w None 0 (bounds_in p.sentences) (asked_in p None) d are.bounds (value-nothing p.nodes w None 0 (asked_in p None) d tt refl))
+value_is kind p (Some q) d w are has =
+    value-combination kind p.nodes w q.given q.both (bounds_in p.sentences) (asked_in p (Some q)) d are.bounds (value-claimed kind p.nodes w q d has)
+
+-- the combination over the nodes has at a world's extension its value in the world
+pub value_of_gain : (kind : ClaimKind) (s : Subject) (d : Dual) (w : World) → AreParts s.parts → IsAsked kind s.parts s.query
+    → value_under (extension s.parts.nodes w) (combination_over kind s d) ≡ combination kind (setting_of s).bounds (setting_of s).query d w
+value_of_gain kind s d w are asked = value_is kind s.parts s.query d w are asked
+
+extension_meets : (ns : List Node) (w : World) → AreNodes ns → MeetsForm (extension ns w) (form_of ns)
+extension_meets ns w are = clauses-form (extension ns w) (clause_form ns) (extension-met ns (extension ns w) w are (length-truths ns w) (extension-agrees ns w are) refl)
+
+-- what no assignment that meets the form is above, no world is above
+pub most_of_gains : (kind : ClaimKind) (s : Subject) (g : Stage) (X : ℕ → ℕ → Rational) (most : ℤ) → AreParts s.parts → IsAsked kind s.parts s.query
+    → ((v : List Bool) → MeetsForm v (form_of s.parts.nodes) → value_under v (combination_over kind s (dual_at kind s g X)) ≤ℤ most)
+    → AreAtMost kind s g X most
+most_of_gains kind s g X most are asked h = record {
+  at = λ w long. subst (λ z. z ≤ℤ most) (value_of_gain kind s (dual_at kind s g X) w are asked) (h (extension s.parts.nodes w) (extension_meets s.parts.nodes w are.nodes));
+}
+
+-- ---- claims
+same_claim : (kind : ClaimKind) (given : Option ℕ) (both : ℕ) (d e : Dual) → HaveSameNumbers d e → claimed_of kind given both d ≡ claimed_of kind given both e
+same_claim Nothing given both d e same = ap (λ h. at_condition h given) same.head
+same_claim Lower given both d e same = λ i. plus (at_condition (same.head i) given) (at_node (neg_ℤ (same.top i)) both)
+same_claim Upper given both d e same = λ i. plus (at_node (same.top i) both) (at_condition (neg_ℤ (same.head i)) given)
+
+pub same_combination : (kind : ClaimKind) (given : Option ℕ) (both : ℕ) (bounds : List Bound) (d e : Dual) → HaveSameNumbers d e
+    → combination_of kind given both bounds d ≡ combination_of kind given both bounds e
+same_combination kind given both bounds d e same = λ i. plus (same_claim kind given both d e same i) (rows_times (same.rows i) bounds)
+
+module _ (kind : ClaimKind) (s : Subject) (g : Stage) (X : ℕ → ℕ → Rational) (d : Dual) (same : HaveSameNumbers d (dual_at kind s g X)) where
+  -- steps that refute the table's goal make a dual with its numbers a refutation
+  pub refuted_at_rest : IsResting (stage_of kind) (table_at s g X) (costs_at kind s g)
+      → Refutes (length s.parts.nodes) (first_known (form_of s.parts.nodes) (goal_at_least (pos 1) kind s (dual_at kind s g X))) d.steps
+      → IsRefuted s.parts kind (given_in s.query) (both_in s.query) d
+  refuted_at_rest rest steps = record {
+    signs = subst (HaveSigns (bounds_of s.parts)) (sym same.rows) (rest_signs kind (setting_of s) g.pool g.basis X rest);
+    steps =
+        subst (λ c. Refutes (length s.parts.nodes) (first_known (form_of s.parts.nodes) (goal_of c)) d.steps)
+        (sym (same_combination kind (given_in s.query) (both_in s.query) (bounds_in s.parts.sentences) d (dual_at kind s g X) same)) steps;
+  }
+
+-- where phase one so rests, nothing is allowed
+pub nothing_at_rest : (s : Subject) (g : Stage) (X : ℕ → ℕ → Rational) (d : Dual) → HaveSameNumbers d (dual_at Nothing s g X)
+    → IsTable (setting_of s) g.pool g.basis X → IsResting (stage_of Nothing) (table_at s g X) (costs_at Nothing s g)
+    → Refutes (length s.parts.nodes) (first_known (form_of s.parts.nodes) (goal_at_least (pos 1) Nothing s (dual_at Nothing s g X))) d.steps
+    → ShowsNothing s.parts (given_in s.query) d
+nothing_at_rest s g X d same t rest steps =
+    let head = nothing_head (setting_of s) g.pool g.basis X t rest.unfinished in
+    let refuted = refuted_at_rest Nothing s g X d same rest steps in
+    record {
+      head = record { top = same.top ∙ head.top; head = subst (λ z. pos 1 ≤ℤ z) (sym same.head) head.head };
+      refuted = record { signs = refuted.signs; steps = refuted.steps };
+    }
+
+-- a feasible table's model shows that the bounds are consistent
+pub consistent_at_end : (s : Subject) (g : Stage) (X : ℕ → ℕ → Rational) → IsTable (setting_of s) g.pool g.basis X → IsFeasible (table_at s g X) → IsPool (atoms_of s) g.pool
+    → ShowsConsistent (atoms_of s) (bounds_of s.parts) (table_model (table_at s g X) g.pool)
+consistent_at_end s g X t feasible pooled = record {
+  model = (allowed_at_end (setting_of s) g.pool g.basis X t (atoms_of s) feasible pooled.different pooled.sized).model;
+  small = small_at_end (setting_of s) g.pool g.basis X t;
+}
