@@ -1,0 +1,81 @@
+-- The homes, the entries and the costs of a table over bounds, by the truth values of nodes.
+use Rattle.std.specs.Prelude.{ℕ, ◌<◌, ◌≤◌, ℤ, pos, neg_ℤ, ◌-ℤ◌, ◌*ℤ◌, Bool, true, if◌then◌else◌, List, ◌∷◌, map, length, slice_index_or, Option, Some, None, IfSome}
+use Rattle.ps_meaning.specs.declared.side.Side.{Side}
+use Rattle.ps_meaning.specs.declared.side.Side.TheVariants.{AtLeast, AtMost, Exactly}
+use Rattle.ps_meaning.specs.Formula.{World}
+use Rattle.ps_formula.specs.declared.node.Node.{Node}
+use Rattle.ps_formula.specs.Nodes.{truths}
+use Rattle.ps_problem.specs.declared.bound.Bound.{Bound}
+use Rattle.ps_problem.specs.declared.limits.TheConstants.{MOST_DENOMINATOR}
+use Rattle.ps_table.specs.declared.home.Home.{Home}
+use Rattle.ps_table.specs.declared.home.Home.TheVariants.{Slack, Artificial}
+use Rattle.ps_bland.specs.declared.phase.Phase.{Phase}
+use Rattle.ps_bland.specs.declared.phase.Phase.TheVariants.{One, Lower, Upper}
+
+-- ---- columns of worlds
+-- the node is there
+abbrev pub HasNode : List Bool → ℕ → Type 0
+HasNode values i = i < length values
+
+-- the nodes of a bound are there, and its numbers are within the limits
+pub record IsRow (values : List Bool) (b : Bound) : Type 0 where
+  pub both : b.both < length values
+  pub given : IfSome b.given (HasNode values)
+  pub num : b.num ≤ MOST_DENOMINATOR
+  pub den : b.den ≤ MOST_DENOMINATOR
+
+-- 1 where a node is true, else 0
+abbrev pub indicator_of : List Bool → ℕ → ℤ
+indicator_of values i = if slice_index_or values i true then pos 1 else pos 0
+
+-- 1 where a condition is true, which it always is where nothing is given
+abbrev pub given_indicator : List Bool → Option ℕ → ℤ
+given_indicator values None = pos 1
+given_indicator values (Some i) = indicator_of values i
+
+-- the denominator where formula and condition are true, less the numerator where the condition is
+abbrev pub row_over : List Bool → Bound → ℤ
+row_over values b = (pos b.den *ℤ indicator_of values b.both) -ℤ (pos b.num *ℤ given_indicator values b.given)
+
+-- turned round at a lower bound
+abbrev pub turned_for : Side → ℤ → ℤ
+turned_for AtLeast z = neg_ℤ z
+turned_for AtMost z = z
+turned_for Exactly z = z
+
+-- a bound's entry in a world's column
+abbrev pub entry_over : List Bool → Bound → ℤ
+entry_over values b = turned_for b.side (row_over values b)
+
+-- the column of a world: whether the evidence is true in it, and the entry of each bound's row
+abbrev pub column_over : List Bool → List Bound → Option ℕ → List ℤ
+column_over values bounds evidence = given_indicator values evidence ∷ map (entry_over values) bounds
+
+-- ---- homes
+-- the home of a bound's row: an equation has no slack
+abbrev pub home_for : Side → Home
+home_for AtLeast = Slack
+home_for AtMost = Slack
+home_for Exactly = Artificial
+
+-- the homes of the rows: that of row 0 is artificial, and each bound has a row
+abbrev pub homes_over : List Bound → List Home
+homes_over bounds = Artificial ∷ map (λ b. home_for b.side) bounds
+
+-- ---- costs
+-- phase one makes the artificials as small as it can
+abbrev pub home_cost : Phase → Home → ℤ
+home_cost One Artificial = pos 1
+home_cost One Slack = pos 0
+home_cost Lower h = pos 0
+home_cost Upper h = pos 0
+
+-- the sides make the query, whose node with its evidence is this, as small or as great as they can
+abbrev pub cost_over : Phase → ℕ → List Bool → ℤ
+cost_over One both values = pos 0
+cost_over Lower both values = indicator_of values both
+cost_over Upper both values = neg_ℤ (indicator_of values both)
+
+-- the costs of worlds
+abbrev pub costs_over : Phase → List Node → ℕ → List World → List ℤ
+costs_over phase nodes both worlds = map (λ w. cost_over phase both (truths nodes w)) worlds
