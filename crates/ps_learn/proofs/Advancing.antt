@@ -1,10 +1,12 @@
 -- One literal more.
-use Rattle.std.proofs.Common.{◌≡◌, ℕ, suc, ℤ, Some, None, List, [], ◌∷◌, ◌++◌, length, arith, refl, ap, subst}
+use Rattle.std.proofs.Common.{◌≡◌, ℕ, suc, ℤ, Some, None, List, [], ◌∷◌, ◌++◌, length, ◌∙◌, arith, refl, sym, ap, subst}
 use Rattle.std.specs.List.{All}
+use Rattle.std.proofs.lemmas.List.{append_assoc, append-nil}
 use Rattle.ps_steps.specs.Assignments.{Assignment}
 use Rattle.ps_steps.specs.Constraints.{Constraint}
 use Rattle.ps_steps.specs.Steps.{Known}
 use Rattle.ps_forms.specs.Forms.{IsWithin}
+use Rattle.ps_learn.specs.Rest.{IsLonger}
 use Rattle.ps_learning.specs.Trails.{Trail, Entry, values, values_of, level, decisions, implied, decided, IsReason, IsFresh, AreReasons}
 use Rattle.ps_learning.proofs.Entries.{values-append, reasons-append, length-values}
 use Rattle.ps_learning.specs.Trails.{unset_count}
@@ -37,3 +39,18 @@ decided-fewer t u l e f = rw e (more-fewer t (record { lit = l; reason = None; l
 
 pub variables-same : (t u : Trail) (l : ℤ) (id : ℕ) → u ≡ implied l id t → u.variables ≡ t.variables
 variables-same t u l id e = ap (λ (x : Trail). x.variables) e
+
+pub longer_none : (es : List Entry) → IsLonger es es
+longer_none es = record { more = []; is = sym (append-nil es) }
+
+pub longer-more : (old es new more : List Entry) → new ≡ es ++ more → IsLonger old es → IsLonger old new
+longer-more old es new more e h = record { more = h.more ++ more; is = e ∙ ap (λ x. x ++ more) h.is ∙ append_assoc old h.more more }
+
+pub implied-longer : (old : List Entry) (t u : Trail) (l : ℤ) (id : ℕ) → u ≡ implied l id t → IsLonger old t.entries → IsLonger old u.entries
+implied-longer old t u l id e h = longer-more old t.entries u.entries _ (ap (λ (x : Trail). x.entries) e) h
+
+pub decided-longer : (old : List Entry) (t u : Trail) (l : ℤ) → u ≡ decided l t → IsLonger old t.entries → IsLonger old u.entries
+decided-longer old t u l e h = longer-more old t.entries u.entries _ (ap (λ (x : Trail). x.entries) e) h
+
+pub longer_then : (a b c : List Entry) → IsLonger a b → IsLonger b c → IsLonger a c
+longer_then a b c h k = longer-more a b c k.more k.is h

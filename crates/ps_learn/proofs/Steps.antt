@@ -22,7 +22,7 @@ use Rattle.ps_learning.proofs.Following.{Followed, followed-unmarked, followed-t
 use Rattle.ps_learning.specs.Marking.{Grows, AreSetIn}
 use Rattle.ps_learning.proofs.Marking.{grows-refl, grows-trans, marked-set, grows-set, own-set}
 use Rattle.ps_learn.specs.Marks.{MarksCause, IsCaused}
-use Rattle.ps_learn.specs.Lessons.{AddsIf, AddsKept, Follows, EndsInConflict}
+use Rattle.ps_learn.specs.Drawing.{AddsIf, AddsKept, Follows, EndsInConflict}
 use Rattle.ps_learn.specs.declared.learning.Kept.{Kept}
 use Rattle.ps_learn.specs.declared.learning.Followed.TheVariants as v
 

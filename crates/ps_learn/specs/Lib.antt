@@ -4,4 +4,4 @@ pub mod Falsity
 -- Bridge: what a scan finds, how causes are marked, and how a clause is drawn from them
 pub mod Scans
 pub mod Marks
-pub mod Lessons
+pub mod Drawing

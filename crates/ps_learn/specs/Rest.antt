@@ -1,9 +1,9 @@
 -- Where propagation ends.
-use Rattle.std.specs.Prelude.{ℕ, ◌≡◌, Option, Some, None}
+use Rattle.std.specs.Prelude.{ℕ, ◌≡◌, Option, Some, None, List, ◌++◌}
 use Rattle.ps_steps.specs.Assignments.{Assignment}
 use Rattle.ps_steps.specs.Constraints.{Constraint}
 use Rattle.ps_steps.specs.Steps.{Known, constraint_at}
-use Rattle.ps_learning.specs.Trails.{IsConflict}
+use Rattle.ps_learning.specs.Trails.{Entry, IsConflict}
 use Rattle.ps_forms.specs.Forms.{Form}
 use Rattle.ps_forms.specs.Settled.{IsIdle, AtomsAreSet}
 
@@ -15,6 +15,11 @@ pub record IsAtRest (known : Known) (a : Assignment) : Type 0 where
 abbrev pub IsPropagated : Known → Assignment → Option ℕ → Type 0
 IsPropagated known a None = IsAtRest known a
 IsPropagated known a (Some id) = IsConflict known a id
+
+-- the literals that were set stay, and others come after them
+pub record IsLonger (old new : List Entry) : Type 0 where
+  pub more : List Entry
+  pub is : new ≡ old ++ more
 
 -- propagation is at its end, and each atom has a value
 pub record IsDone (form : Form) (known : Known) (a : Assignment) : Type 0 where

@@ -1,4 +1,4 @@
-//! The causes of a conflict: back over the trail up to the first unique implication point.
+//! The causes of a conflict, back over the trail.
 ghost use Rattle.std.specs.Prelude.{◌≡◌, ◌≤◌, ◌<◌, ℤ, true, false, length, IfOk};
 ghost use Rattle.ps_steps.specs.Assignments.{place};
 ghost use Rattle.ps_steps.specs.Steps.{known_of};
@@ -23,9 +23,10 @@ pub struct Causes {
     pub kept: Vec<bool>,
 }
 
-/// Goes back from the conflict: a marked literal of level 0, or of the last level with another one
-/// marked before it there, is explained by its reason, and each other marked one is kept. So the
-/// last of the kept literals is the first unique implication point (L. Zhang and others, 2001).
+/// Goes back from the conflict, as for the first unique implication point (L. Zhang and others,
+/// 2001): a marked literal of level 0, or of the last level with another one marked before it there,
+/// is explained by its reason, and each other marked one is kept. So one literal of the last level
+/// at most is kept.
 pub fn explain_conflict(
     alloc: Global,
     known: &List<Constraint>,

@@ -10,7 +10,7 @@ ghost use Rattle.ps_learning.specs.Keeping.{IsKeptOnce};
 ghost use Rattle.ps_learning.specs.Starting.{AreKeptLits};
 ghost use Rattle.ps_learn.specs.Marks.{IsCaused};
 ghost use Rattle.ps_learn.specs.Falsity.{AreFalseIn};
-ghost use Rattle.ps_learn.specs.Lessons.{AddsKept, Follows, EndsInConflict};
+ghost use Rattle.ps_learn.specs.Drawing.{AddsKept, Follows, EndsInConflict};
 
 use crate::explaining::explain_conflict;
 use crate::known::constraint_at;
@@ -23,21 +23,21 @@ use std::alloc::Global;
 /// A step, the level to go on from, and the marked variables: those of the conflict and of the
 /// reasons that were gone along.
 #[derive(Drop)]
-pub struct Lesson {
+pub struct Learned {
     pub step: Step,
     pub level: u32,
     pub marks: Vec<bool>,
 }
 
-/// A lawful step from a conflict. Its clause has the opposites of the causes that were kept: of the
-/// first unique implication point of the last level, and of literals of lower levels, the greatest
-/// of which is the level to go on from. All of them are false on the trail.
+/// A lawful step from a conflict. Its clause has the opposites of the causes that were kept: of one
+/// literal of the last level at most, and of literals of lower levels, the greatest of which is the
+/// level to go on from. All of them are false on the trail.
 pub fn learn(
     alloc: Global,
     known: &List<Constraint>,
     trail: &Trail,
     conflict: u64,
-) -> Result<Lesson, NoMemory>
+) -> Result<Learned, NoMemory>
     requires reasons { AreReasons trail.now.variables (known_of known.now) trail.now.entries }
     requires conflict { IsConflict (known_of known.now) (values trail.now) conflict }
     requires few { length known.now ≤ most_known }
@@ -48,7 +48,7 @@ pub fn learn(
     ensures few_literals { IfOk result (λ x. length (lits_of x.step) ≤ trail.now.variables) }
     ensures hints { IfOk result (λ x. All (IsIdUpTo (length known.now)) (hints_of x.step)) }
     ensures few_hints { IfOk result (λ x. length (hints_of x.step) ≤ trail.now.variables + 1) }
-    ensures level { IfOk result (λ lesson. lesson.level ≤ level trail.now) }
+    ensures level { IfOk result (λ x. x.level ≤ level trail.now) }
 {
     trail.entries();
     let causes = explain_conflict(alloc, known, trail, conflict)?;
@@ -68,7 +68,7 @@ pub fn learn(
         lits: kept.lits,
         hints,
     };
-    Ok(Lesson {
+    Ok(Learned {
         step,
         level: kept.next,
         marks: causes.marks,

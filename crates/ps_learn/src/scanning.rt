@@ -6,7 +6,7 @@ ghost use Rattle.ps_forms.specs.Forms.{IsWithin};
 ghost use Rattle.ps_steps.specs.Steps.{known_of};
 ghost use Rattle.ps_learning.specs.Known.{most_known};
 ghost use Rattle.ps_learning.specs.Trails.{values, level, unset_count, AreReasons};
-ghost use Rattle.ps_learn.specs.Rest.{IsPropagated};
+ghost use Rattle.ps_learn.specs.Rest.{IsPropagated, IsLonger};
 ghost use Rattle.ps_learn.specs.Scans.{Scans, ScansOne, FirstForced};
 
 use ps_io::List;
@@ -83,8 +83,9 @@ fn scan_all(known: &[Constraint], a: &Assignment) -> Scan
     Scan::Settled
 }
 
-/// Sets forced literals with their reasons. `Some` names a violated constraint; `None` comes where
-/// no constraint is violated or forces a literal.
+/// Sets forced literals with their reasons, after those that are set. `Some` names a violated
+/// constraint; `None` comes where no constraint is violated or forces a literal.
+#[tactic(auto, using(crate::proofs::Advancing::longer_none))]
 pub fn propagate_all(known: &List<Constraint>, trail: &mut Trail) -> Option<u64>
     requires reasons { AreReasons trail.old.variables (known_of known.now) trail.old.entries }
     requires inside { All (IsWithin trail.old.variables) known.now }
@@ -92,6 +93,7 @@ pub fn propagate_all(known: &List<Constraint>, trail: &mut Trail) -> Option<u64>
     ensures variables { trail.new.variables ≡ trail.old.variables }
     ensures level { level trail.new ≡ level trail.old }
     ensures fewer { unset_count (values trail.new) ≤ unset_count (values trail.old) }
+    ensures longer { IsLonger trail.old.entries trail.new.entries }
     ensures reasons { AreReasons trail.new.variables (known_of known.now) trail.new.entries }
     ensures ended { IsPropagated (known_of known.now) (values trail.new) result }
 {

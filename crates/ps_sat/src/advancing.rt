@@ -4,7 +4,7 @@ ghost use Rattle.ps_steps.specs.Steps.{known_of};
 ghost use Rattle.ps_steps.specs.Weights.{IsWithin};
 ghost use Rattle.ps_learning.specs.Known.{most_known};
 ghost use Rattle.ps_learning.specs.Trails.{values, AreReasons};
-ghost use Rattle.ps_learn.specs.Rest.{IsAdvanced};
+ghost use Rattle.ps_learn.specs.Rest.{IsAdvanced, IsLonger};
 
 use crate::order::Order;
 use ps_clause::ClauseForm;
@@ -15,6 +15,7 @@ use ps_trail::Trail;
 
 /// Propagates, and decides on variables of atoms in this order, until a constraint is violated,
 /// which is named, or all is set.
+#[tactic(auto, using(ps_learn::proofs::Advancing::longer_none))]
 pub fn advance(
     base: &ClauseForm,
     known: &List<Constraint>,
@@ -26,6 +27,7 @@ pub fn advance(
     requires inside { All (IsWithin base.now.variables) known.now }
     requires few { length known.now ≤ most_known }
     ensures variables { trail.new.variables ≡ trail.old.variables }
+    ensures longer { IsLonger trail.old.entries trail.new.entries }
     ensures reasons { AreReasons trail.new.variables (known_of known.now) trail.new.entries }
     ensures ended { IsAdvanced base.now (known_of known.now) (values trail.new) result }
 {

@@ -117,21 +117,21 @@ fn learn_all<S: ProofSink>(
             None => return Ok(Outcome::Found(trail.into_values())),
             Some(conflict) => conflict,
         };
-        let lesson = learn(alloc, &known, &trail, conflict)?;
-        let last = lesson.step.lits.as_slice().is_empty();
+        let found = learn(alloc, &known, &trail, conflict)?;
+        let last = found.step.lits.as_slice().is_empty();
         if !last && learned == conflicts {
             return Ok(Outcome::Spent { learned });
         }
-        hand_over(alloc, &mut known, &lesson.step, log)?;
+        hand_over(alloc, &mut known, &found.step, log)?;
         if last {
             return Ok(Outcome::Refuted {
-                last: lesson.step.id,
+                last: found.step.id,
             });
         }
         learned += 1;
-        order.raise(&lesson.marks);
+        order.raise(&found.marks);
         order.keep_values(&trail);
-        trail.cut_to(lesson.level);
+        trail.cut_to(found.level);
     }
 }
 

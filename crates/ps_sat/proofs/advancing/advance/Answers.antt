@@ -1,6 +1,6 @@
 use Rattle.std.proofs.Common.{◌∙◌, ap, arith}
 use Rattle.ps_learning.specs.Trails.{Trail}
-use Rattle.ps_learn.proofs.Advancing.{decided-reasons, decided-fewer}
+use Rattle.ps_learn.proofs.Advancing.{decided-reasons, decided-fewer, decided-longer, longer_then}
 use Rattle.ps_sat.proofs.Going.{fresh-decided}
 use Rattle.ps_sat.proofs.advancing.advance.Goals as goal
 
@@ -12,5 +12,6 @@ on-smaller c =
 pub on-preserved : goal.on-preserved
 on-preserved c = record {
   same = ap (λ (x : Trail). x.variables) c.decide.ensures ∙ c.propagate_all.ensures.variables ∙ c.on.invariant.same;
+  longer = decided-longer _ c.propagate_all.new.trail c.decide.new.self _ c.decide.ensures (longer_then _ _ _ c.on.invariant.longer c.propagate_all.ensures.longer);
   reasons = decided-reasons _ c.propagate_all.new.trail c.decide.new.self _ c.decide.ensures c.propagate_all.ensures.reasons;
 }

@@ -1,6 +1,6 @@
 use Rattle.std.proofs.Common.{◌∷◌, [], ap, ◌∙◌, refl, length, length-append, arith}
 use Rattle.ps_steps.specs.Steps.{Step, added}
-use Rattle.ps_learn.specs.declared.learning.Lesson.{Lesson}
+use Rattle.ps_learn.specs.declared.learning.Learned.{Learned}
 use Rattle.ps_sat.proofs.Going.{begins, search-found, handed-none, handed-learned, handed-stays}
 use Rattle.ps_sat.proofs.Handing.{is-learned, step-within, held-found, held-spent, held-refuted, learned-refutes, non-empty, goes-further, least-more, err-learned}
 use Rattle.ps_sat.proofs.searching.learn_all.Goals as goal
@@ -30,35 +30,35 @@ returns-then-learned-conflicts-clause-shown g c =
 
 pub hand_over-requires-clause-within : goal.hand_over-requires-clause-within
 hand_over-requires-clause-within g c =
-    let learned = c.in_ok-lesson.ensures in
+    let learned = c.in_ok-found.ensures in
     step-within c.args.base.now.variables c.learn.known _
-    (is-learned c.args.base.now.variables c.advance.new.trail.variables c.learn.known _ _ (ap (λ (z : Lesson). z.step) c.lesson.view_is) (c.advance.ensures.variables ∙ c.learn.invariant.so_far.same) learned.lawful learned.literals learned.few_literals learned.hints learned.few_hints)
+    (is-learned c.args.base.now.variables c.advance.new.trail.variables c.learn.known _ _ (ap (λ (z : Learned). z.step) c.found.view_is) (c.advance.ensures.variables ∙ c.learn.invariant.so_far.same) learned.lawful learned.literals learned.few_literals learned.hints learned.few_hints)
     (omega (arith, c.variables.ensures.value, c.variables.ensures.within)) (omega (arith, c.learn.invariant.few, c.learn.invariant.least, c.requires.few))
 
 pub returns-then-last-clause-outcome : goal.returns-then-last-clause-outcome
 returns-then-last-clause-outcome g c =
-    let x : Step = record { id = c.lesson.inside.0.0.id; lits = c.lesson.inside.0.0.lits; hints = c.lesson.inside.0.0.hints } in
-    let learned = c.in_ok-lesson.ensures in
+    let x : Step = record { id = c.found.inside.0.0.id; lits = c.found.inside.0.0.lits; hints = c.found.inside.0.0.hints } in
+    let learned = c.in_ok-found.ensures in
     learned-refutes c.args.base.now c.args.goal.now _ _ c.learn.known c.learn.trail c.learn.learned x c.learn.invariant.so_far
-    (is-learned c.args.base.now.variables c.advance.new.trail.variables c.learn.known _ _ (ap (λ (z : Lesson). z.step) c.lesson.view_is) (c.advance.ensures.variables ∙ c.learn.invariant.so_far.same) learned.lawful learned.literals learned.few_literals learned.hints learned.few_hints)
+    (is-learned c.args.base.now.variables c.advance.new.trail.variables c.learn.known _ _ (ap (λ (z : Learned). z.step) c.found.view_is) (c.advance.ensures.variables ∙ c.learn.invariant.so_far.same) learned.lawful learned.literals learned.few_literals learned.hints learned.few_hints)
     (non-empty c.is_empty-last.result c.as_slice.result.now x _ c.is_empty-last.ensures c.as_slice.ensures c.if-last.true)
 
 pub returns-then-last-clause-shown : goal.returns-then-last-clause-shown
 returns-then-last-clause-shown g c =
-    let x : Step = record { id = c.lesson.inside.0.0.id; lits = c.lesson.inside.0.0.lits; hints = c.lesson.inside.0.0.hints } in
-    let learned = c.in_ok-lesson.ensures in
+    let x : Step = record { id = c.found.inside.0.0.id; lits = c.found.inside.0.0.lits; hints = c.found.inside.0.0.hints } in
+    let learned = c.in_ok-found.ensures in
     held-refuted c.args.base.now c.args.goal.now _ _ _ c.learn.known c.learn.trail c.learn.learned c.args.conflicts x _ c.learn.invariant.so_far c.learn.invariant.least
-    (is-learned c.args.base.now.variables c.advance.new.trail.variables c.learn.known _ _ (ap (λ (z : Lesson). z.step) c.lesson.view_is) (c.advance.ensures.variables ∙ c.learn.invariant.so_far.same) learned.lawful learned.literals learned.few_literals learned.hints learned.few_hints)
+    (is-learned c.args.base.now.variables c.advance.new.trail.variables c.learn.known _ _ (ap (λ (z : Learned). z.step) c.found.view_is) (c.advance.ensures.variables ∙ c.learn.invariant.so_far.same) learned.lawful learned.literals learned.few_literals learned.hints learned.few_hints)
     c.in_ok-hand_over.ensures.ok (non-empty c.is_empty-last.result c.as_slice.result.now x _ c.is_empty-last.ensures c.as_slice.ensures c.if-last.true) refl
 
 pub learn-preserved : goal.learn-preserved
 learn-preserved g c =
-    let x : Step = record { id = c.lesson.inside.0.0.id; lits = c.lesson.inside.0.0.lits; hints = c.lesson.inside.0.0.hints } in
-    let learned = c.in_ok-lesson.ensures in
+    let x : Step = record { id = c.found.inside.0.0.id; lits = c.found.inside.0.0.lits; hints = c.found.inside.0.0.hints } in
+    let learned = c.in_ok-found.ensures in
     record {
       so_far =
           goes-further c.args.base.now c.args.goal.now _ _ _ c.learn.known c.hand_over.new.known c.learn.trail c.advance.new.trail c.cut_to.new.self c.learn.learned _ x c.learn.invariant.so_far c.advance.ensures.variables c.advance.ensures.reasons
-          (is-learned c.args.base.now.variables c.advance.new.trail.variables c.learn.known _ _ (ap (λ (z : Lesson). z.step) c.lesson.view_is) (c.advance.ensures.variables ∙ c.learn.invariant.so_far.same) learned.lawful learned.literals learned.few_literals learned.hints learned.few_hints)
+          (is-learned c.args.base.now.variables c.advance.new.trail.variables c.learn.known _ _ (ap (λ (z : Learned). z.step) c.found.view_is) (c.advance.ensures.variables ∙ c.learn.invariant.so_far.same) learned.lawful learned.literals learned.few_literals learned.hints learned.few_hints)
           c.in_ok-hand_over.ensures.ok c.in_ok-hand_over.ensures.known (non-empty c.is_empty-last.result c.as_slice.result.now x _ c.is_empty-last.ensures c.as_slice.ensures c.if-last.false) c.cut_to.ensures.variables c.cut_to.ensures.prefix.1;
       few = omega (arith, c.learn.invariant.few, ap length c.in_ok-hand_over.ensures.known, length-append c.learn.known (added x ∷ []));
       least = least-more _ _ _ c.else-not-last.either c.if-last.false c.learn.invariant.least;
@@ -72,9 +72,9 @@ pub returns-in_err-order-clause-handed : goal.returns-in_err-order-clause-handed
 returns-in_err-order-clause-handed g c =
     err-learned c.args.base.now c.args.goal.now _ _ c.args.conflicts c.from_residual.result (handed-none c.args.base.now c.args.goal.now _ _ c.args.conflicts c.requires.begun)
 
-pub returns-in_err-lesson-clause-handed : goal.returns-in_err-lesson-clause-handed
-returns-in_err-lesson-clause-handed g c =
-    err-learned c.args.base.now c.args.goal.now _ _ c.args.conflicts c.from_residual-in_err-lesson.result
+pub returns-in_err-found-clause-handed : goal.returns-in_err-found-clause-handed
+returns-in_err-found-clause-handed g c =
+    err-learned c.args.base.now c.args.goal.now _ _ c.args.conflicts c.from_residual-in_err-found.result
     (handed-learned c.args.base.now c.args.goal.now _ _ c.learn.known c.learn.trail c.learn.learned c.args.conflicts c.learn.invariant.so_far c.learn.invariant.least)
 
 pub returns-in_err-hand_over-clause-handed : goal.returns-in_err-hand_over-clause-handed
