@@ -1,6 +1,6 @@
 -- Searches for values.
-use Rattle.std.proofs.Common.{◌≡◌, ℕ, ◌<◌, ℤ, pos, ◌-ℤ◌, ◌+ℤ◌, ◌≤ℤ◌, Bool, true, false, Option, Some, Result, Ok, Err, List, length, map, arith, refl, sym, ap, ◌∙◌, subst}
-use Rattle.std.specs.Prelude.{IsTrue, IfOk, OnOk, int_lt}
+use Rattle.std.proofs.Common.{◌≡◌, ℕ, ◌<◌, ℤ, pos, ◌-ℤ◌, ◌+ℤ◌, ◌≤ℤ◌, Bool, true, false, Option, Some, Result, Ok, Err, List, [], ◌∷◌, ◌++◌, length, length-append, map, arith, refl, sym, ap, ◌∙◌, subst, ◌⊎◌, inl, inr, ◌+◌, ◌≤◌}
+use Rattle.std.specs.Prelude.{IsTrue, IfOk, OnOk, OnErr, int_lt}
 use Rattle.std.specs.List.{All}
 use Rattle.std.proofs.lemmas.Int.{ints}
 use Rattle.ps_steps.specs.Assignments.{Assignment, place}
@@ -9,14 +9,16 @@ use Rattle.ps_steps.specs.Weights.{Weighted, constraint_of}
 use Rattle.ps_steps.proofs.Linear.{met-weight, weight-met}
 use Rattle.ps_forms.specs.Forms.{Form, MeetsForm}
 use Rattle.ps_steps.specs.Weights.{IsWithin}
-use Rattle.ps_sat.specs.Searches.{IsOutcome, IsLogged, IsHeld}
+use Rattle.ps_steps.specs.Steps.{Step}
+use Rattle.ps_sat.specs.Searches.{IsOutcome, IsLogged, IsHeld, HoldsLearned}
 use Rattle.ps_sat.specs.declared.searching.Outcome.{Outcome}
 use Rattle.ps_sat.specs.declared.error.SearchError.{SearchError}
 use Rattle.ps_sat.specs.declared.searching.Outcome.TheVariants.{Found, Refuted, Spent}
 use Rattle.ps_maxsat.specs.declared.problem.Wcnf.{Wcnf}
-use Rattle.ps_maxsat.specs.Values.{value, goal_of, IsValueOfFull, IsOf, NoneIsAbove, HoldsSearch}
+use Rattle.ps_maxsat.specs.declared.pricing.Priced.{Priced}
+use Rattle.ps_maxsat.specs.Values.{value, goal_of, IsValueOfFull, IsOf, NoneIsAbove, HoldsSearch, HoldsFound, HoldsRefutation, HoldsLast, HoldsSteps, IsLogAfterError}
 use Rattle.ps_steps.proofs.Within.{constraint-within}
-use Rattle.ps_log.specs.Logs.{Telling}
+use Rattle.ps_log.specs.Logs.{Telling, Stays}
 
 -- a goal of literals of these variables
 pub goal-within : (n : ℕ) (g h : Constraint) (ts us : Weighted) (r least : ℤ) → g ≡ h → h ≡ constraint_of ts r → ts ≡ us → r ≡ least → All (λ t. place t.0 < n) us → IsWithin n g
@@ -73,3 +75,74 @@ held-end p m least conflicts told later new o o' e q tell h = subst (λ x. Holds
 
 pub spent-is : (p : Wcnf) (least : ℤ) (conflicts : ℕ) (o : Outcome) (learned : ℕ) → o ≡ Spent learned → IsOutcome p.hard (goal_of p least) conflicts o → o ≡ Spent conflicts
 spent-is p least conflicts o learned e out = let same : learned ≡ conflicts = subst (λ x. IsOutcome p.hard (goal_of p least) conflicts x) e out in e ∙ ap Spent same
+
+-- an assignment was found by the search that the log holds
+pub held-found : (p : Wcnf) (m v : ℤ) (conflicts : ℕ) (told later : Bool) (new : Telling) (o : Outcome) (a : Assignment) → o ≡ Found a → m ≤ℤ v → (IsTrue told → IsTrue later) → HoldsSearch p m conflicts later new o → HoldsFound p v conflicts told new
+held-found p m v conflicts told later new o a e up tell h =
+    let own = held-end p m m conflicts told later new o (Found a) e refl tell h in
+    record { least = m; up = up; handed = own.0; learned = own.1 }
+
+-- a goal was refuted by it
+pub held-refutation : (p : Wcnf) (m least : ℤ) (conflicts : ℕ) (told later : Bool) (new : Telling) (o : Outcome) (last : ℕ) → o ≡ Refuted last → m ≡ least → (IsTrue told → IsTrue later) → HoldsSearch p m conflicts later new o → HoldsRefutation p least conflicts told new
+held-refutation p m least conflicts told later new o last e q tell h = record { last = last; held = held-end p m least conflicts told later new o (Refuted last) e q tell h }
+
+-- the last search, where the value is the bound
+pub held-last : (p : Wcnf) (v bound : ℤ) (conflicts : ℕ) (told : Bool) (new : Telling) → bound ≡ v → HoldsLast p v bound conflicts told new → HoldsLast p v v conflicts told new
+held-last p v bound conflicts told new e h = subst (λ x. HoldsLast p v x conflicts told new) e h
+
+-- no value is below that of an assignment that meets the clauses
+pub bound-above : (p : Wcnf) (a : Assignment) (v bound : ℤ) → IsOf p a v → NoneIsAbove p bound → v ≤ℤ bound
+bound-above p a v bound own none = omega (arith, ints, own.4, none own.0 own.3)
+
+refuted_few : (conflicts : ℕ) (ss front : List Step) (s : Step) → ss ≡ front ++ s ∷ [] → length front ≤ conflicts → length ss ≤ conflicts + 1
+refuted_few conflicts ss front s e h = omega (arith, ap length e, length-append front (s ∷ []), h)
+
+-- the steps of the last search
+pub last-steps : (p : Wcnf) (v bound : ℤ) (conflicts : ℕ) (told : Bool) (new : Telling) → HoldsLast p v bound conflicts told new → HoldsSteps p conflicts told new
+last-steps p v bound conflicts told new (inl h) = record { least = h.least; handed = h.handed; few = omega (arith, h.learned.0) }
+last-steps p v bound conflicts told new (inr h) = record { least = bound +ℤ pos 1; handed = h.held.0; few = let shown = h.held.1 in refuted_few conflicts h.held.0.steps shown.0 shown.1 shown.2 shown.3.0 }
+
+-- they stay with the log
+stay_held : (p : Wcnf) (conflicts : ℕ) (told : Bool) (mid new : Telling) → Stays mid new → HoldsSteps p conflicts told mid → HoldsSteps p conflicts told new
+stay_held p conflicts told mid new st h = record {
+  least = h.least;
+  handed = record {
+    steps = h.handed.steps;
+    held = λ b. (let own = h.handed.held b in let now = st own.0 in (now.0, now.1 ∙ own.1, now.2 ∙ own.2));
+    lawful = h.handed.lawful;
+  };
+  few = h.few;
+}
+
+later_held : (p : Wcnf) (conflicts : ℕ) (told later : Bool) (new : Telling) → (IsTrue told → IsTrue later) → HoldsSteps p conflicts later new → HoldsSteps p conflicts told new
+later_held p conflicts told later new tell h = record {
+  least = h.least;
+  handed = record { steps = h.handed.steps; held = λ b. h.handed.held (tell b); lawful = h.handed.lawful };
+  few = h.few;
+}
+
+-- after an error in a later search the log holds its steps, or those of the last one
+pub later-error : (p : Wcnf) (v bound : ℤ) (conflicts : ℕ) (old mid new : Telling) → HoldsLast p v bound conflicts old.tells mid → (IsTrue old.tells → IsTrue mid.tells) → IsLogAfterError p conflicts mid new → IsLogAfterError p conflicts old new
+later-error p v bound conflicts old mid new last tell (inl st) = inr (stay_held p conflicts old.tells mid new st (last-steps p v bound conflicts old.tells mid last))
+later-error p v bound conflicts old mid new last tell (inr h) = inr (later_held p conflicts old.tells mid.tells new tell h)
+
+pub on-error : (p : Wcnf) (conflicts : ℕ) (old new : Telling) (r : Result Priced SearchError) → IsLogAfterError p conflicts old new → OnErr r (IsLogAfterError p conflicts old new)
+on-error p conflicts old new (Ok o) h = tt
+on-error p conflicts old new (Err e) h = h
+
+-- an error of a search is one of the search for a value
+learned_steps : (p : Wcnf) (least : ℤ) (conflicts : ℕ) (told : Bool) (new : Telling) → HoldsLearned p.hard (goal_of p least) conflicts told new → HoldsSteps p conflicts told new
+learned_steps p least conflicts told new h = record { least = least; handed = h.0; few = omega (arith, h.1.0) }
+
+after_error : (p : Wcnf) (least : ℤ) (conflicts : ℕ) (old new : Telling) (r : Result Outcome SearchError) → IsLogged p.hard (goal_of p least) conflicts old new r → OnErr r (IsLogAfterError p conflicts old new)
+after_error p least conflicts old new (Ok o) h = tt
+after_error p least conflicts old new (Err e) (inl st) = inl st
+after_error p least conflicts old new (Err e) (inr h) = inr (learned_steps p least conflicts old.tells new h)
+
+pub error-same : (p : Wcnf) (goal h : Constraint) (ts : Weighted) (m least : ℤ) (conflicts : ℕ) (old new : Telling) (r : Result Outcome SearchError) → goal ≡ h → h ≡ constraint_of ts m → ts ≡ p.soft → m ≡ least -ℤ p.base → IsLogged p.hard goal conflicts old new r → OnErr r (IsLogAfterError p conflicts old new)
+error-same p goal h ts m least conflicts old new r gh e q ls x = after_error p least conflicts old new r (subst (λ c. IsLogged p.hard c conflicts old new r) (goal_same goal h ts p.soft m (least -ℤ p.base) gh e q ls) x)
+
+-- nothing was told before an error
+pub error-first : (p : Wcnf) (conflicts : ℕ) (old : Telling) (r : Result Outcome SearchError) → OnErr r (IsLogAfterError p conflicts old old)
+error-first p conflicts old (Ok o) = tt
+error-first p conflicts old (Err e) = inl (λ b. (b, refl, refl))

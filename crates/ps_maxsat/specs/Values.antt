@@ -1,11 +1,11 @@
 -- Values of assignments, and which is the greatest.
-use Rattle.std.specs.Prelude.{ℕ, ◌≡◌, ◌≤◌, ◌<◌, ℤ, pos, ◌+ℤ◌, ◌-ℤ◌, ◌≤ℤ◌, ◌<ℤ◌, Bool, Some, List, map, length, All}
+use Rattle.std.specs.Prelude.{ℕ, ◌≡◌, ◌≤◌, ◌<◌, ◌+◌, ℤ, pos, ◌+ℤ◌, ◌-ℤ◌, ◌≤ℤ◌, ◌<ℤ◌, Bool, Some, List, map, length, All, ◌⊎◌}
 use Rattle.ps_steps.specs.Assignments.{Assignment, place}
 use Rattle.ps_steps.specs.Constraints.{Constraint}
 use Rattle.ps_steps.specs.Weights.{true_weight, constraint_of}
 use Rattle.ps_forms.specs.Forms.{MeetsForm}
-use Rattle.ps_log.specs.Logs.{Telling}
-use Rattle.ps_sat.specs.Searches.{Handed}
+use Rattle.ps_log.specs.Logs.{Telling, Stays}
+use Rattle.ps_sat.specs.Searches.{Handed, AreLearned}
 use Rattle.ps_sat.specs.declared.searching.Outcome.TheVariants as search
 use Rattle.ps_sat.specs.Searches.{IsShown}
 use Rattle.ps_maxsat.specs.Limits.{most_searches}
@@ -49,9 +49,35 @@ IsPriced p conflicts (Spent learned) = learned ≡ conflicts
 abbrev pub HoldsSearch : Wcnf → ℤ → ℕ → Bool → Telling → search.the_data → Type 0
 HoldsSearch p least conflicts told new o = (h : Handed p.hard (goal_of p least) told new) × IsShown conflicts h.steps o
 
--- what it holds after an answer: the search for a value of at least 1, or at least the goal, that the answer speaks of
+-- it holds a search that found an assignment, for a value that is no greater than this
+pub record HoldsFound (p : Wcnf) (v : ℤ) (conflicts : ℕ) (told : Bool) (new : Telling) : Type 0 where
+  pub least : ℤ
+  pub up : least ≤ℤ v
+  pub handed : Handed p.hard (goal_of p least) told new
+  pub learned : AreLearned conflicts handed.steps
+
+-- it holds the refutation of a value of at least so much
+pub record HoldsRefutation (p : Wcnf) (least : ℤ) (conflicts : ℕ) (told : Bool) (new : Telling) : Type 0 where
+  pub last : ℕ
+  pub held : HoldsSearch p least conflicts told new (search.Refuted last)
+
+-- the last search: it found an assignment of at most the one value, or none was there above the other
+abbrev pub HoldsLast : Wcnf → ℤ → ℤ → ℕ → Bool → Telling → Type 0
+HoldsLast p v bound conflicts told new = HoldsFound p v conflicts told new ⊎ HoldsRefutation p (bound +ℤ pos 1) conflicts told new
+
+-- what the log holds after an answer: the search that the answer speaks of, and after the greatest value the last one
 abbrev pub IsPricedLog : Wcnf → ℕ → Bool → Telling → Priced → Type 0
 IsPricedLog p conflicts told new (NoneAbove last) = HoldsSearch p (pos 1) conflicts told new (search.Refuted last)
-IsPricedLog p conflicts told new (Best a v searches) = Unit {0}
+IsPricedLog p conflicts told new (Best a v searches) = HoldsLast p v v conflicts told new
 IsPricedLog p conflicts told new (Cut a v least searches) = HoldsSearch p least conflicts told new (search.Spent conflicts)
 IsPricedLog p conflicts told new (Spent learned) = HoldsSearch p (pos 1) conflicts told new (search.Spent learned)
+
+-- it holds the goal of a search, and lawful steps, at most one more than clauses may be learned
+pub record HoldsSteps (p : Wcnf) (conflicts : ℕ) (told : Bool) (new : Telling) : Type 0 where
+  pub least : ℤ
+  pub handed : Handed p.hard (goal_of p least) told new
+  pub few : length handed.steps ≤ conflicts + 1
+
+-- after an error the log is as before, or holds the steps of a search
+abbrev pub IsLogAfterError : Wcnf → ℕ → Telling → Telling → Type 0
+IsLogAfterError p conflicts old new = Stays old new ⊎ HoldsSteps p conflicts old.tells new

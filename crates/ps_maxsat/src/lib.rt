@@ -4,5 +4,5 @@
 mod pricing;
 mod problem;
 
-pub use pricing::{MOST_SEARCHES, Priced, best};
+pub use pricing::{Priced, best};
 pub use problem::{MOST_TOTAL, Wcnf};

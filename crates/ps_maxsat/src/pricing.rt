@@ -1,11 +1,12 @@
 //! The greatest value.
 ghost use Rattle.std.specs.Prelude.{◌≤◌, ◌^◌, ◌<ℤ◌, ◌≤ℤ◌, ◌≡◌, ◌+ℤ◌, ◌-ℤ◌, pos, unsigned_abs};
-ghost use Rattle.std.specs.Prelude.{IsTrue, IfOk, IfErr, OnOk, IsErrOf};
+ghost use Rattle.std.specs.Prelude.{IsTrue, IfOk, IfErr, OnOk, OnErr, IsErrOf};
 ghost use Rattle.ps_sat.specs.Limits.{most_conflicts};
 ghost use Rattle.ps_sat.specs.Errors.{HasCause};
 ghost use Rattle.ps_sat.specs.Searches.{IsOutcome};
 ghost use Rattle.ps_maxsat.specs.Limits.{most_total, IsNarrow, IsSoftWithin};
-ghost use Rattle.ps_maxsat.specs.Values.{IsPriced, IsPricedLog, goal_of, HoldsSearch};
+ghost use Rattle.ps_maxsat.specs.Values.{IsPriced, IsPricedLog, IsLogAfterError};
+ghost use Rattle.ps_maxsat.specs.Values.{goal_of, HoldsSearch};
 
 use crate::problem::{Wcnf, most, value};
 use ps_clause::ClauseForm;
@@ -58,6 +59,8 @@ fn search_above<S: ProofSink>(
     ensures outcome { IfOk result (IsOutcome wcnf.now.hard (goal_of wcnf.now least) conflicts) }
     ensures logged { IfOk result (HoldsSearch wcnf.now least conflicts
         (S.told log.old).tells (S.told log.new)) }
+    ensures refused { OnErr result
+        (IsLogAfterError wcnf.now conflicts (S.told log.old) (S.told log.new)) }
     ensures whole { OnOk result (IsTrue (S.is_whole log.new)) }
     ensures telling { OnOk result (IsTrue (S.told log.old).tells → IsTrue (S.told log.new).tells) }
     ensures later { S.faults log.old ≤ S.faults log.new }
@@ -93,15 +96,14 @@ fn middle(found: i128, bound: i128) -> i128
     bound - half(bound - found - 1)
 }
 
-/// So many searches are made at most.
-pub const MOST_SEARCHES: u32 = 124;
-
 /// Looks for the greatest value of an assignment that meets the clauses, if it is at least 1. Each
 /// search is for a value of at least a goal, the first for 1, and each other goal halves what is
-/// left between the best value found and the least one that nothing is above.
+/// left between the best value found and the least one that nothing is above. At most 124 searches
+/// are made.
 ///
-/// The log holds the refutation after `NoneAbove`, and the search that was spent after `Cut` and
-/// `Spent`. `LogFault` comes only where the log's count of faults rose.
+/// The log holds the refutation after `NoneAbove`, the search that was spent after `Cut` and `Spent`,
+/// and the last search after `Best`. After an error it is as it was, or holds the goal of a search
+/// and lawful steps. `LogFault` comes only where the log's count of faults rose.
 pub fn best<S: ProofSink>(
     alloc: Global,
     wcnf: &Wcnf,
@@ -115,6 +117,8 @@ pub fn best<S: ProofSink>(
     ensures priced { IfOk result (IsPriced wcnf.now conflicts) }
     ensures logged { IfOk result (IsPricedLog wcnf.now conflicts
         (S.told log.old).tells (S.told log.new)) }
+    ensures refused { OnErr result
+        (IsLogAfterError wcnf.now conflicts (S.told log.old) (S.told log.new)) }
     ensures whole { OnOk result (IsTrue (S.is_whole log.new)) }
     ensures later { S.faults log.old ≤ S.faults log.new }
     ensures cause { IfErr result (HasCause (S.faults log.old) (S.faults log.new)) }

@@ -1,8 +1,8 @@
-use Rattle.std.proofs.Common.{◌≡◌, ◌≤◌, ◌∙◌, ◌+ℤ◌, ◌-ℤ◌, ℤ, pos, refl, to_z, of_z, arith}
+use Rattle.std.proofs.Common.{◌≡◌, ◌≤◌, ◌∙◌, ◌+ℤ◌, ◌-ℤ◌, ℤ, pos, refl, sym, inl, inr, to_z, of_z, arith}
 use mir.Syntax.{w128}
 use Rattle.std.proofs.lemmas.Int.{ints}
 use Rattle.ps_maxsat.proofs.Halving.{halved-first, halved-next, halved-few, halves-up, halves-down, least-up}
-use Rattle.ps_maxsat.proofs.Rounds.{refuted-none, none-same, found-of, held-end, spent-is}
+use Rattle.ps_maxsat.proofs.Rounds.{refuted-none, none-same, found-of, held-end, spent-is, held-found, held-refutation, held-last, bound-above, later-error, on-error}
 use Rattle.ps_maxsat.proofs.pricing.best.Goals as goal
 
 pub returns-in-Refuted-clause-priced : goal.returns-in-Refuted-clause-priced
@@ -27,6 +27,7 @@ loop-found-init g c =
       halved = halved-first v (to_z w128 (of_z w128 c.most-bound.result)) found.up (omega (arith, ints, b, c.most-bound.ensures.size));
       found_size = omega (arith, ints, same, c.value-found.ensures.size);
       bound_size = omega (arith, ints, b, c.most-bound.ensures.size);
+      logged = inl (held-found c.args.wcnf.now (pos 1) v c.args.conflicts _ _ _ c.in_ok-last.field-0 c.in-Found.assignment c.in-Found.is found.up (λ b. b) c.in_ok-last.ensures.logged);
       telling = c.in_ok-last.ensures.telling;
       whole = c.in_ok-last.ensures.whole;
       later = c.search_above.ensures.later;
@@ -49,6 +50,7 @@ loop-found-preserved-in-Refuted-2 g c =
       halved = halved-next _ _ _ b c.loop-found.searches i.halved (omega (arith, ints, c.loop-found-test.true)) (halves-down (to_z w128 c.loop-found.found-bits) (to_z w128 c.loop-found.bound-bits) c.middle-goal.result r b m.half_down same down);
       found_size = i.found_size;
       bound_size = omega (arith, ints, down, same, m.above, m.within, i.found_size, i.bound_size);
+      logged = inr (held-refutation c.args.wcnf.now r (b +ℤ pos 1) c.args.conflicts _ _ _ c.in_ok-search_above.field-0 _ c.in-Refuted-2.is (sym down) i.telling c.in_ok-search_above.ensures.logged);
       telling = λ t. c.in_ok-search_above.ensures.telling (i.telling t);
       whole = c.in_ok-search_above.ensures.whole;
       later = omega (arith, i.later, c.search_above-in-loop-found.ensures.later);
@@ -72,6 +74,7 @@ loop-found-preserved g c =
       halved = halved-next _ _ v _ c.loop-found.searches i.halved (omega (arith, ints, c.loop-found-test.true)) (halves-up (to_z w128 c.loop-found.found-bits) (to_z w128 c.loop-found.bound-bits) c.middle-goal.result r v m.half_up same found.up);
       found_size = omega (arith, ints, value_same, c.value-found-in-Found-2.ensures.size);
       bound_size = i.bound_size;
+      logged = inl (held-found c.args.wcnf.now r v c.args.conflicts _ _ _ c.in_ok-search_above.field-0 c.in-Found-2.better c.in-Found-2.is found.up i.telling c.in_ok-search_above.ensures.logged);
       telling = λ t. c.in_ok-search_above.ensures.telling (i.telling t);
       whole = c.in_ok-search_above.ensures.whole;
       later = omega (arith, i.later, c.search_above-in-loop-found.ensures.later);
@@ -95,3 +98,14 @@ loop-found-smaller-in-Refuted-2 g c = let few : c.loop-found.searches ≤ 121 = 
 
 pub loop-found-smaller : goal.loop-found-smaller
 loop-found-smaller g c = let few : c.loop-found.searches ≤ 121 = halved-few _ _ c.loop-found.searches c.loop-found.invariant.halved in omega (arith, few)
+
+pub returns-in_err-search_above-clause-refused : goal.returns-in_err-search_above-clause-refused
+returns-in_err-search_above-clause-refused g c =
+    on-error c.args.wcnf.now c.args.conflicts _ _ c.from_residual-in_err-search_above.result
+    (later-error c.args.wcnf.now (to_z w128 c.loop-found.found-bits) (to_z w128 c.loop-found.bound-bits) c.args.conflicts _ _ _ c.loop-found.invariant.logged c.loop-found.invariant.telling c.in_err-search_above.ensures.refused)
+
+pub returns-clause-logged : goal.returns-clause-logged
+returns-clause-logged g c =
+    let i = c.loop-found.invariant in
+    let up = bound-above c.args.wcnf.now c.loop-found.assignment (to_z w128 c.loop-found.found-bits) (to_z w128 c.loop-found.bound-bits) i.own i.none in
+    held-last c.args.wcnf.now (to_z w128 c.loop-found.found-bits) (to_z w128 c.loop-found.bound-bits) c.args.conflicts _ _ (omega (arith, ints, up, c.loop-found-test.false)) i.logged

@@ -1,6 +1,6 @@
 use Rattle.std.proofs.Common.{◌≡◌, ◌≤◌, ◌^◌, ◌-◌, unsigned_abs, pos, ◌≤ℤ◌}
 use Rattle.std.specs.Prelude.{IsTrue}
-use Rattle.ps_maxsat.specs.Values.{IsOf, NoneIsAbove}
+use Rattle.ps_maxsat.specs.Values.{IsOf, NoneIsAbove, HoldsLast}
 use Rattle.ps_maxsat.proofs.Halving.{IsHalved}
 use Rattle.ps_maxsat.proofs.pricing.best.Given as goal
 
@@ -12,6 +12,7 @@ invariant-loop-found g l = record {
   halved : IsHalved l.found l.bound l.searches;
   found_size : unsigned_abs l.found ≤ 2 ^ 120;
   bound_size : unsigned_abs l.bound ≤ 2 ^ 120;
+  logged : HoldsLast l.wcnf l.found l.bound l.conflicts (g.S.ProofSink.told l.fn.log).tells (g.S.ProofSink.told l.log);
   telling : IsTrue (g.S.ProofSink.told l.fn.log).tells → IsTrue (g.S.ProofSink.told l.log).tells;
   whole : IsTrue (g.S.ProofSink.is_whole l.log);
   later : g.S.ProofSink.faults l.fn.log ≤ g.S.ProofSink.faults l.log;

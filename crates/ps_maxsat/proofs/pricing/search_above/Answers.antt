@@ -1,7 +1,7 @@
 use Rattle.std.proofs.Common.{◌≡◌, ◌-ℤ◌, refl, ℤ, to_z, of_z, arith}
 use mir.Syntax.{w128}
 use Rattle.std.proofs.lemmas.Int.{ints}
-use Rattle.ps_maxsat.proofs.Rounds.{goal-within, outcome-same, held-same, still-tells}
+use Rattle.ps_maxsat.proofs.Rounds.{goal-within, outcome-same, held-same, still-tells, error-same, error-first}
 use Rattle.ps_maxsat.proofs.pricing.search_above.Goals as goal
 
 pub search-requires-clause-goal : goal.search-requires-clause-goal
@@ -24,3 +24,12 @@ returns-clause-logged g c =
 
 pub returns-clause-telling : goal.returns-clause-telling
 returns-clause-telling g c = still-tells c.args.wcnf.now.hard _ c.args.conflicts _ _ c.search.result c.search.ensures.logged
+
+pub returns-in_err-goal-clause-refused : goal.returns-in_err-goal-clause-refused
+returns-in_err-goal-clause-refused g c = error-first c.args.wcnf.now c.args.conflicts _ c.from_residual.result
+
+pub returns-clause-refused : goal.returns-clause-refused
+returns-clause-refused g c =
+    let r : ℤ = to_z w128 (of_z w128 (to_z w128 (of_z w128 c.args.least) -ℤ to_z w128 (of_z w128 c.args.wcnf.now.base))) in
+    let e : r ≡ c.args.least -ℤ c.args.wcnf.now.base = omega (arith, ints, c.requires.sizes, c.requires.least) in
+    error-same c.args.wcnf.now c.in_ok-goal.goal c.in_ok-goal.goal c.as_slice.result.now r c.args.least c.args.conflicts _ _ c.search.result refl c.in_ok-goal.ensures.value c.as_slice.ensures e c.search.ensures.logged
