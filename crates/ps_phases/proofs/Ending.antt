@@ -1,0 +1,49 @@
+-- A phase one that ends where it has come to is lawful.
+use Rattle.std.proofs.Common.{◌≡◌, ℕ, ◌+◌, Some, None, List, [], ◌∷◌, ◌++◌, refl, ap, ◌∙◌, sym, subst, arith}
+use Rattle.ps_meaning.specs.Formula.{World}
+use Rattle.ps_pool.specs.declared.event.Event.{Event}
+use Rattle.ps_pool.specs.declared.event.Event.TheVariants.{Priced}
+use Rattle.ps_table.specs.declared.place.WideAt.{WideAt}
+use Rattle.ps_table.specs.Tableau.{Tableau, entry_at}
+use Rattle.ps_answer.specs.declared.answer.Cause.TheVariants.{Wide}
+use Rattle.ps_answer.specs.declared.answer.Verdict.{Verdict}
+use Rattle.ps_answer.specs.declared.answer.Verdict.TheVariants.{Open}
+use Rattle.ps_claims.specs.declared.claim_kind.ClaimKind.TheVariants.{Nothing}
+use Rattle.ps_runs.specs.Runs.{Subject, Stage, IsStart, IsPricedBy, LeadsTo, LeadsToPending, entire, pivots_in}
+use Rattle.ps_runs.proofs.Composed.{pivots_in-append}
+use Rattle.ps_phases.specs.Licences.{IsColumnTooWide}
+use Rattle.ps_phases.specs.Verdicts.{IsVerdictAt, IsLawfulPhaseOne}
+use Rattle.ps_phases.specs.Tables.{stage_at, IsUnderWay}
+use Rattle.ps_phases.proofs.GoingOn.{priced_pends}
+
+module _ (s : Subject) (pivots conflicts : ℕ) (from : Stage) (pool : List World) (t : Tableau) (trace : List Event) (left : ℕ)
+    (starts : IsStart s from) (way : IsUnderWay Nothing s conflicts from pivots [] pool t trace left) where
+  pub ended : (answer : Verdict) → IsVerdictAt s pivots conflicts (stage_at pool t) left None answer → IsLawfulPhaseOne s pivots conflicts answer trace
+  ended answer answered = record {
+    start = from;
+    starts = starts;
+    end = stage_at pool t;
+    left = left;
+    pending = None;
+    leads = entire from (stage_at pool t) trace (subst (λ es. LeadsTo Nothing s conflicts from es (stage_at pool t)) (sym way.appended) way.leads);
+    counted = subst (λ es. left + pivots_in es ≡ pivots) (sym way.appended) way.counted;
+    answered = answered;
+  }
+
+  pub ended_pending : (w : World) (at : WideAt) → IsPricedBy Nothing s conflicts (stage_at pool t) (entry_at t) w → IsColumnTooWide s (stage_at pool t) w at
+      → IsLawfulPhaseOne s pivots conflicts (Open (Wide at)) (trace ++ Priced w ∷ [])
+  ended_pending w at is wide =
+      let longer : way.events ++ Priced w ∷ [] ≡ trace ++ Priced w ∷ [] = ap (λ es. es ++ Priced w ∷ []) (sym way.appended) in
+      record {
+        start = from;
+        starts = starts;
+        end = stage_at pool t;
+        left = left;
+        pending = Some w;
+        leads = subst (λ es. LeadsToPending Nothing s conflicts from es (Some w) (stage_at pool t)) longer (priced_pends Nothing s conflicts from pivots [] pool t trace left w way is);
+        counted =
+            let a = way.counted in
+            let d = pivots_in-append way.events (Priced w ∷ []) in
+            subst (λ es. left + pivots_in es ≡ pivots) longer (omega (arith, a, d));
+        answered = wide;
+      }

@@ -1,0 +1,5 @@
+use Rattle.ps_phases.proofs.Ending.{ended, ended_pending}
+use Rattle.ps_phases.proofs.laws.lawful_ends.Goals as goal
+
+pub returns : goal.returns
+returns c = record { lawful = record { ended = ended; pending = ended_pending } }

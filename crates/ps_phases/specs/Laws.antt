@@ -1,0 +1,119 @@
+-- Laws of runs over the solver's tables.
+use Rattle.std.specs.Prelude.{◌≡◌, ℕ, ◌<◌, Some, None, List, [], ◌∷◌, ◌++◌, length}
+use Rattle.ps_meaning.specs.Formula.{World}
+use Rattle.ps_rational.specs.Rational.{Rational}
+use Rattle.ps_rule.specs.Rule.{IsFeasible, IsMoving, IsResting}
+use Rattle.ps_pool.specs.Worlds.{HasNumber}
+use Rattle.ps_pool.specs.declared.event.Event.{Event}
+use Rattle.ps_pool.specs.declared.event.Event.TheVariants.{Priced}
+use Rattle.ps_table.specs.declared.place.WideAt.{WideAt}
+use Rattle.ps_table.specs.Tableau.{Tableau, IsTableau, IsAdded, StandsWith, StandsForHomes, HasUnitHomes, HasBasicHomes, rows_of as table_rows, entry_at, basic_at}
+use Rattle.ps_table.specs.Pricing.{cost_at}
+use Rattle.ps_table.specs.Places.{MultiplierPlace, WeightPlace, IsWideAt, HomePlaces, NewPlaces}
+use Rattle.ps_bland.specs.Rules.{simplex_of, stage, IsDone}
+use Rattle.ps_bland.specs.Ends.{IsDueWide}
+use Rattle.ps_bland.specs.Ready.{HasValues, IsReady}
+use Rattle.ps_bland.specs.Runs as bland
+use Rattle.ps_answer.specs.declared.answer.Cause.TheVariants.{Wide}
+use Rattle.ps_answer.specs.declared.answer.Verdict.{Verdict}
+use Rattle.ps_answer.specs.declared.answer.Verdict.TheVariants.{Open}
+use Rattle.ps_claims.specs.declared.claim_kind.ClaimKind.{ClaimKind}
+use Rattle.ps_claims.specs.declared.claim_kind.ClaimKind.TheVariants.{Nothing, Lower, Upper}
+use Rattle.ps_runs.specs.Rows.{Setting, world_cost, table_of, entries_of, IsTable}
+use Rattle.ps_runs.specs.Runs.{Subject, setting_of, atoms_of, Stage, IsStart, IsPool, IsMovingAt, IsRestingAt, IsFeasibleAt, IsPricedBy, LeadsTo, LeadsToPending, pivots_in}
+use Rattle.ps_phases.specs.Tables.{phase_of, homes_of, costs_for, IsRunTable, stage_at, IsUnderWay}
+use Rattle.ps_phases.specs.Licences.{IsModelDue, IsTooWide, IsColumnTooWide}
+use Rattle.ps_phases.specs.Verdicts.{IsVerdictAt, IsLawfulPhaseOne}
+
+-- a new table of the homes is one of the run, at its start
+pub record NewTablesStart : Type 0 where
+  pub table : (s : Setting) (t : Tableau) → t.kinds ≡ homes_of s → t.worlds ≡ 0 → HasUnitHomes (homes_of s) t → StandsForHomes (homes_of s) t
+      → IsTableau t → IsRunTable s [] t
+  pub stage : (s : Subject) (t : Tableau) → t.kinds ≡ homes_of (setting_of s) → HasBasicHomes (homes_of (setting_of s)) t → IsStart s (stage_at [] t)
+
+-- as the rule sees it a run's table is that of its setting, and it is ready for each phase with the phase's costs: for the sides
+-- where each basic artificial has value 0
+pub record RunTablesAreReady : Type 0 where
+  pub same : (s : Setting) (pool : List World) (t : Tableau) → IsRunTable s pool t → simplex_of t ≡ table_of s pool (basic_at t) (entry_at t)
+  pub table : (s : Setting) (pool : List World) (t : Tableau) → IsRunTable s pool t → IsTable s pool (basic_at t) (entry_at t)
+  pub first : (s : Setting) (pool : List World) (t : Tableau) → IsRunTable s pool t → IsReady (phase_of Nothing) (costs_for Nothing s pool) t
+  pub lower : (s : Setting) (pool : List World) (t : Tableau) → IsRunTable s pool t → IsFeasible (simplex_of t)
+      → IsReady (phase_of Lower) (costs_for Lower s pool) t
+  pub upper : (s : Setting) (pool : List World) (t : Tableau) → IsRunTable s pool t → IsFeasible (simplex_of t)
+      → IsReady (phase_of Upper) (costs_for Upper s pool) t
+
+-- a phase begins at any table of the run, goes on by the pivots of `settle` and by a world that is priced, which isn't in the
+-- pool, and has a pending world where its column is refused
+pub record PhasesGoOn : Type 0 where
+  pub begun : (kind : ClaimKind) (s : Subject) (conflicts : ℕ) (pool : List World) (t : Tableau) (trace : List Event) (left : ℕ)
+      → IsRunTable (setting_of s) pool t → IsPool (atoms_of s) pool
+      → IsUnderWay kind s conflicts (stage_at pool t) left trace pool t trace left
+  pub settled : (kind : ClaimKind) (s : Subject) (conflicts : ℕ) (from : Stage) (had : ℕ) (before : List Event) (pool : List World)
+      (t u : Tableau) (trace longer : List Event) (left now : ℕ) → IsUnderWay kind s conflicts from had before pool t trace left
+      → bland.Ran (phase_of kind) (costs_for kind (setting_of s) pool) t u trace longer left now → IsTableau u → HasValues u
+      → IsUnderWay kind s conflicts from had before pool u longer now
+  pub fresh : (kind : ClaimKind) (s : Subject) (conflicts : ℕ) (pool : List World) (t : Tableau) (w : World) (number : ℕ)
+      → IsRunTable (setting_of s) pool t → IsPricedBy kind s conflicts (stage_at pool t) (entry_at t) w → HasNumber pool w number → ⊥
+  pub priced : (kind : ClaimKind) (s : Subject) (conflicts : ℕ) (from : Stage) (had : ℕ) (before : List Event) (pool : List World)
+      (t u : Tableau) (trace : List Event) (left : ℕ) (w : World) → IsUnderWay kind s conflicts from had before pool t trace left
+      → IsPricedBy kind s conflicts (stage_at pool t) (entry_at t) w
+      → IsAdded (entries_of (setting_of s) w) t u → StandsWith (entries_of (setting_of s) w) t u → IsTableau u
+      → IsUnderWay kind s conflicts from had before (pool ++ w ∷ []) u (trace ++ Priced w ∷ []) left
+  pub pends : (kind : ClaimKind) (s : Subject) (conflicts : ℕ) (from : Stage) (had : ℕ) (before : List Event) (pool : List World)
+      (t : Tableau) (trace : List Event) (left : ℕ) (w : World) (way : IsUnderWay kind s conflicts from had before pool t trace left)
+      → IsPricedBy kind s conflicts (stage_at pool t) (entry_at t) w
+      → LeadsToPending kind s conflicts from (way.events ++ Priced w ∷ []) (Some w) (stage_at pool t)
+
+-- once the column of a priced world is there the table is moving, so that fewer pivots are left where it ends otherwise
+pub record PricedWorldsTakePivots : Type 0 where
+  pub moving : (kind : ClaimKind) (s : Subject) (conflicts : ℕ) (pool : List World) (t u : Tableau) (w : World) → IsRunTable (setting_of s) pool t
+      → IsPricedBy kind s conflicts (stage_at pool t) (entry_at t) w → IsAdded (entries_of (setting_of s) w) t u
+      → IsMoving (stage (phase_of kind)) (simplex_of u) (cost_at (costs_for kind (setting_of s) (pool ++ w ∷ [])))
+  pub fewer : (kind : ClaimKind) (s : Subject) (conflicts : ℕ) (pool : List World) (t u : Tableau) (w : World) → IsRunTable (setting_of s) pool t
+      → IsPricedBy kind s conflicts (stage_at pool t) (entry_at t) w → IsAdded (entries_of (setting_of s) w) t u
+      → (v : Tableau) (trace longer : List Event) (left now : ℕ)
+      → bland.Ran (phase_of kind) (costs_for kind (setting_of s) (pool ++ w ∷ [])) u v trace longer left now
+      → (IsMoving (stage (phase_of kind)) (simplex_of v) (cost_at (costs_for kind (setting_of s) (pool ++ w ∷ []))) → ⊥) → now < left
+
+-- where `settle` leaves a run's table, its stage is so
+pub record SettledStages : Type 0 where
+  pub feasible : (s : Subject) (pool : List World) (t : Tableau) → IsRunTable (setting_of s) pool t → IsDone (phase_of Nothing) t
+      → IsFeasibleAt s (stage_at pool t) (entry_at t)
+  pub resting : (s : Subject) (pool : List World) (t : Tableau) → IsRunTable (setting_of s) pool t → (kind : ClaimKind)
+      → IsResting (stage (phase_of kind)) (simplex_of t) (cost_at (costs_for kind (setting_of s) pool))
+      → IsRestingAt kind s (stage_at pool t) (entry_at t)
+  pub moving : (s : Subject) (pool : List World) (t : Tableau) → IsRunTable (setting_of s) pool t → (kind : ClaimKind)
+      → IsMoving (stage (phase_of kind)) (simplex_of t) (cost_at (costs_for kind (setting_of s) pool)) → IsMovingAt kind s (stage_at pool t)
+
+-- a number that is too wide at a place of a run's table is so at a due place: in `settle`; at rest in the multiplier of a row and
+-- in the whole multiples of the multipliers; in the weights of a model that is due; and in the column of a world
+pub record RefusalsAreLicensed : Type 0 where
+  pub settling : (s : Subject) (pool : List World) (t : Tableau) → IsRunTable (setting_of s) pool t → (kind : ClaimKind) (left : ℕ) (w : WideAt)
+      → IsDueWide (phase_of kind) (costs_for kind (setting_of s) pool) t left w → IsTooWide kind s (stage_at pool t) left w
+  pub multiplier : (s : Subject) (pool : List World) (t : Tableau) → IsRunTable (setting_of s) pool t → (kind : ClaimKind) (left i : ℕ) (w : WideAt)
+      → IsRestingAt kind s (stage_at pool t) (entry_at t) → i < table_rows t → IsWideAt (HomePlaces t (costs_for kind (setting_of s) pool) i) w
+      → IsTooWide kind s (stage_at pool t) left w
+  pub dual : (s : Subject) (pool : List World) (t : Tableau) → IsRunTable (setting_of s) pool t → (kind : ClaimKind) (left : ℕ) (w : WideAt)
+      → IsRestingAt kind s (stage_at pool t) (entry_at t)
+      → IsWideAt (MultiplierPlace (table_rows t) (cost_at (costs_for kind (setting_of s) pool)) (basic_at t) (entry_at t)) w
+      → IsTooWide kind s (stage_at pool t) left w
+  pub model : (s : Subject) (pool : List World) (t : Tableau) → IsRunTable (setting_of s) pool t → (kind : ClaimKind) (left : ℕ) (w : WideAt)
+      → IsModelDue kind s (stage_at pool t) (entry_at t) → IsWideAt (WeightPlace (table_rows t) (basic_at t) (entry_at t)) w
+      → IsTooWide kind s (stage_at pool t) left w
+  pub column : (s : Subject) (pool : List World) (t : Tableau) → IsRunTable (setting_of s) pool t → (world : World) (w : WideAt)
+      → IsWideAt (NewPlaces t (entries_of (setting_of s) world)) w → IsColumnTooWide s (stage_at pool t) world w
+
+-- where phase one is under way from the start, an answer that is due there is lawful, and so is one that a pending world leaves open
+pub record PhaseOneEndsLawfully : Type 0 where
+  pub ended : (s : Subject) (pivots conflicts : ℕ) (from : Stage) (pool : List World) (t : Tableau) (trace : List Event) (left : ℕ)
+      → IsStart s from → IsUnderWay Nothing s conflicts from pivots [] pool t trace left
+      → (answer : Verdict) → IsVerdictAt s pivots conflicts (stage_at pool t) left None answer → IsLawfulPhaseOne s pivots conflicts answer trace
+  pub pending : (s : Subject) (pivots conflicts : ℕ) (from : Stage) (pool : List World) (t : Tableau) (trace : List Event) (left : ℕ)
+      → IsStart s from → IsUnderWay Nothing s conflicts from pivots [] pool t trace left
+      → (w : World) (at : WideAt) → IsPricedBy Nothing s conflicts (stage_at pool t) (entry_at t) w → IsColumnTooWide s (stage_at pool t) w at
+      → IsLawfulPhaseOne s pivots conflicts (Open (Wide at)) (trace ++ Priced w ∷ [])
+
+-- the costs of a longer pool have the world's behind them
+abbrev pub CostsGrow : Type 0
+CostsGrow = (kind : ClaimKind) (s : Setting) (pool : List World) (w : World)
+    → costs_for kind s (pool ++ w ∷ []) ≡ record { homes = (costs_for kind s pool).homes; worlds = (costs_for kind s pool).worlds ++ world_cost kind s w ∷ [] }

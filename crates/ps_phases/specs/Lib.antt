@@ -1,0 +1,7 @@
+-- Meaning
+pub mod Answers
+pub mod Licences
+pub mod Verdicts
+pub mod Tables
+-- Laws, as the functions of laws.rt promise them
+pub mod Laws

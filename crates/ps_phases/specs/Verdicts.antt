@@ -1,0 +1,93 @@
+-- Lawful answers: what is answered is what the events of its runs lead to, within the limits of pivots and conflicts.
+use Rattle.std.specs.Prelude.{◌≡◌, ℕ, ◌+◌, Option, Some, None, List, []}
+use Rattle.std.specs.List.{AllZip}
+use Rattle.ps_meaning.specs.Formula.{World}
+use Rattle.ps_rational.specs.Rational.{Rational}
+use Rattle.ps_problem.specs.declared.query.Query.{Query}
+use Rattle.ps_problem.specs.Problems.{Parts}
+use Rattle.ps_pool.specs.declared.event.Event.{Event}
+use Rattle.ps_answer.specs.declared.answer.Verdict.{Verdict}
+use Rattle.ps_answer.specs.declared.answer.Verdict.TheVariants.{Consistent, Inconsistent, Open}
+use Rattle.ps_answer.specs.declared.answer.SideAnswer.{SideAnswer}
+use Rattle.ps_answer.specs.declared.answer.SideAnswer.TheVariants as side
+use Rattle.ps_answer.specs.declared.answer.QueryAnswer.{QueryAnswer}
+use Rattle.ps_answer.specs.declared.answer.QueryAnswer.TheVariants as query
+use Rattle.ps_answer.specs.declared.answer.QueryPart.{QueryPart}
+use Rattle.ps_answer.specs.declared.answer.Answer.{Answer}
+use Rattle.ps_claims.specs.declared.claim_kind.ClaimKind.{ClaimKind}
+use Rattle.ps_claims.specs.declared.claim_kind.ClaimKind.TheVariants.{Nothing, Lower, Upper}
+use Rattle.ps_claims.specs.Duals.{HasValueHead}
+use Rattle.ps_runs.specs.Runs.{Subject, Stage, IsStart, LeadsTo, LeadsToPending, pivots_in, IsFeasibleAt, IsModelAt, IsDualAt}
+use Rattle.ps_phases.specs.Answers.{model_of, dual_of}
+use Rattle.ps_phases.specs.Licences.{IsLicensed}
+
+-- what phase one answers at a stage
+abbrev pub IsVerdictAt : Subject → ℕ → ℕ → Stage → ℕ → Option World → Verdict → Type 0
+IsVerdictAt s pivots conflicts g left pending (Consistent m) = (pending ≡ None) × IsModelAt s g (model_of m)
+IsVerdictAt s pivots conflicts g left pending (Inconsistent d) = (pending ≡ None) × IsDualAt Nothing s g (dual_of d)
+IsVerdictAt s pivots conflicts g left pending (Open cause) = IsLicensed Nothing s pivots conflicts g left pending cause
+
+-- the events of phase one lead from the homes, within the limit of pivots, to where this is its answer
+pub record IsLawfulPhaseOne (s : Subject) (pivots conflicts : ℕ) (answer : Verdict) (events : List Event) : Type 0 where
+  pub start : Stage
+  pub starts : IsStart s start
+  pub end : Stage
+  pub left : ℕ
+  pub pending : Option World
+  pub leads : LeadsToPending Nothing s conflicts start events pending end
+  pub counted : left + pivots_in events ≡ pivots
+  pub answered : IsVerdictAt s pivots conflicts end left pending answer
+
+-- the verdict on a problem's sentences is that of a run without a query
+abbrev pub IsLawfulVerdict : Parts → ℕ → ℕ → Verdict → List Event → Type 0
+IsLawfulVerdict p pivots conflicts verdict events = IsLawfulPhaseOne (record { parts = p; query = None }) pivots conflicts verdict events
+
+-- what a side answers at a stage
+abbrev pub IsSideAt : ClaimKind → Subject → ℕ → ℕ → Stage → ℕ → Option World → SideAnswer → Type 0
+IsSideAt kind s pivots conflicts g left pending (side.Bound value m d) = (pending ≡ None) × IsModelAt s g (model_of m) × IsDualAt kind s g (dual_of d) × HasValueHead value (dual_of d)
+IsSideAt kind s pivots conflicts g left pending (side.Open cause) = IsLicensed kind s pivots conflicts g left pending cause
+
+-- the events of a side lead from one stage, with so many pivots left, to another where this is its answer
+pub record IsLawfulSide (kind : ClaimKind) (s : Subject) (pivots conflicts : ℕ) (a : Stage) (had : ℕ) (b : Stage) (left : ℕ) (answer : SideAnswer) (events : List Event) : Type 0 where
+  pub pending : Option World
+  pub leads : LeadsToPending kind s conflicts a events pending b
+  pub counted : left + pivots_in events ≡ had
+  pub answered : IsSideAt kind s pivots conflicts b left pending answer
+
+-- phase one is over at a feasible table, and both sides go on from there, the upper one from where the lower one ended
+pub record AreLawfulBounds (s : Subject) (pivots conflicts : ℕ) (first : List Event) (lower : SideAnswer) (lower_events : List Event) (upper : SideAnswer) (upper_events : List Event) : Type 0 where
+  pub start : Stage
+  pub starts : IsStart s start
+  pub after_first : Stage
+  pub left_first : ℕ
+  pub leads : LeadsTo Nothing s conflicts start first after_first
+  pub counted : left_first + pivots_in first ≡ pivots
+  pub table : ℕ → ℕ → Rational
+  pub feasible : IsFeasibleAt s after_first table
+  pub after_lower : Stage
+  pub left_lower : ℕ
+  pub least : IsLawfulSide Lower s pivots conflicts after_first left_first after_lower left_lower lower lower_events
+  pub end : Stage
+  pub left : ℕ
+  pub greatest : IsLawfulSide Upper s pivots conflicts after_lower left_lower end left upper upper_events
+
+-- what is answered to a query is what its run leads to; where it is open or impossible, phase one says so
+abbrev pub IsLawfulAnswerTo : Subject → ℕ → ℕ → List Event → QueryAnswer → Type 0
+IsLawfulAnswerTo s pivots conflicts first (query.Bounds lower lower_events upper upper_events) = AreLawfulBounds s pivots conflicts first lower lower_events upper upper_events
+IsLawfulAnswerTo s pivots conflicts first (query.Impossible d) = IsLawfulPhaseOne s pivots conflicts (Inconsistent d) first
+IsLawfulAnswerTo s pivots conflicts first (query.Open cause) = IsLawfulPhaseOne s pivots conflicts (Open cause) first
+
+-- each query has a run of its own
+abbrev pub IsLawfulPart : Parts → ℕ → ℕ → Query → QueryPart → Type 0
+IsLawfulPart p pivots conflicts q part = IsLawfulAnswerTo (record { parts = p; query = Some q }) pivots conflicts part.first part.answer
+
+-- the queries that are gone into: each where the verdict is consistent, else none
+abbrev pub asked_after : Verdict → List Query → List Query
+asked_after (Consistent m) qs = qs
+asked_after (Inconsistent d) qs = []
+asked_after (Open cause) qs = []
+
+-- the runs of an answer are lawful, and what is open is licensed
+pub record IsLawfulAnswer (p : Parts) (pivots conflicts : ℕ) (a : Answer) : Type 0 where
+  pub verdict : IsLawfulVerdict p pivots conflicts a.verdict a.first
+  pub parts : AllZip (IsLawfulPart p pivots conflicts) (asked_after a.verdict p.queries) a.parts

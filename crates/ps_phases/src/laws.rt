@@ -1,0 +1,33 @@
+//! The laws of a run's tables.
+
+ghost use Rattle.ps_phases.specs.Laws.{NewTablesStart, RunTablesAreReady, PhasesGoOn};
+ghost use Rattle.ps_phases.specs.Laws.{SettledStages, RefusalsAreLicensed, PhaseOneEndsLawfully, CostsGrow};
+ghost use Rattle.ps_phases.specs.Laws.{PricedWorldsTakePivots};
+
+/// A new table of the homes is one of the run, at its start. As the rule sees it a run's table is
+/// that of its setting, and it is ready for each phase with the phase's costs: for the sides where
+/// each basic artificial has value 0. The costs of a longer pool have the world's behind them.
+pub fn run_tables()
+    ensures new { NewTablesStart }
+    ensures ready { RunTablesAreReady }
+    ensures costs { CostsGrow }
+{}
+
+/// A phase goes on by the pivots of `settle`, and by a world that is priced: this isn't in the
+/// pool. Where its column is refused the world is pending; else a pivot follows, unless none is
+/// left or a number is too wide.
+pub fn phases_go_on()
+    ensures go_on { PhasesGoOn }
+    ensures pivots { PricedWorldsTakePivots }
+    ensures stages { SettledStages }
+{}
+
+/// A number that is too wide at a place of a run's table licenses an open part.
+pub fn licences()
+    ensures licensed { RefusalsAreLicensed }
+{}
+
+/// Where phase one has come from the start to a stage, the answer that is due there is lawful.
+pub fn lawful_ends()
+    ensures lawful { PhaseOneEndsLawfully }
+{}
