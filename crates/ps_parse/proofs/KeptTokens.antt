@@ -1,5 +1,5 @@
 -- What is kept of a token does what the token does.
-use Rattle.std.proofs.Common.{◌≡◌, ℕ, zero, suc, ◌+◌, ◌-◌, ◌*◌, ◌^◌, ◌≤◌, min, ◌==◌, Bool, true, false, not, List, [], ◌∷◌, ◌++◌, length, replicate, take, Option, Some, None, inl, inr, refl, sym, ap, ◌∙◌, arith, true≢false, is_some}
+use Rattle.std.proofs.Common.{◌≡◌, ℕ, zero, suc, ◌+◌, ◌-◌, ◌*◌, ◌^◌, ◌≤◌, min, ◌==◌, Bool, true, false, List, [], ◌∷◌, ◌++◌, length, replicate, take, Some, None, inl, inr, refl, sym, ap, ◌∙◌, arith, true≢false, is_some}
 use Rattle.std.proofs.lemmas.Bool.Decides.{nat_tests}
 use Rattle.std.proofs.lemmas.List.{take_all, length-append, length-replicate}
 use Rattle.std.specs.Prelude.{nat_lt, if◌then◌else◌}
@@ -8,8 +8,7 @@ use Rattle.ps_text.specs.Tokens as text
 use Rattle.ps_text.specs.Tokens.{Token}
 use Rattle.ps_text.specs.Grammar.{value_from, value}
 use Rattle.ps_text.specs.Meanings.{ratio_of}
-use Rattle.ps_text.specs.declared.kind.ReadKind.{ReadKind}
-use Rattle.ps_text.specs.declared.kind.ReadKind.TheVariants.{NameTooLong, Expected, ZeroDenominator, DenominatorTooLarge, TooManyDecimals, NumberOutOfRange}
+use Rattle.ps_text.specs.declared.kind.ReadKind.TheVariants.{NameTooLong, ZeroDenominator, DenominatorTooLarge, TooManyDecimals, NumberOutOfRange}
 use Rattle.ps_text.specs.declared.part.Part.{Part}
 use Rattle.ps_text.specs.declared.part.Part.TheVariants as part
 use Rattle.ps_text.specs.declared.part.Opening.{Opening}
@@ -20,7 +19,7 @@ use Rattle.ps_lex.specs.Counted.{no_digits, with_digit, with_digits}
 use Rattle.ps_lex.specs.Seen.{seen, numeral_seen}
 use Rattle.ps_expect.specs.KeptTokens.{figures, decimal_of, numeral_of, token_of}
 use Rattle.ps_expect.proofs.Figures.{value-figures}
-use Rattle.ps_parse.specs.Machine.{Work, lowest, taken, taken_at}
+use Rattle.ps_parse.specs.Machine.{Work, taken, taken_at}
 
 capped_value : (d : Digits) (n : ℕ) (bs : List ℕ) → d.value ≡ min n 1000001 → (with_digits d bs).value ≡ min (value_from n bs) 1000001
 capped_value d n [] e = e
@@ -38,7 +37,7 @@ value-zeros : (k v : ℕ) → value_from 0 (replicate k 48 ++ (48 + v) ∷ []) �
 value-zeros zero v = omega arith
 value-zeros (suc k) v = value-zeros k v
 
-decimal_ratio : (k v : ℕ) → ratio_of (decimal_of k v) ≡ record { num = v; den = 10 ^ k }
+pub decimal_ratio : (k v : ℕ) → ratio_of (decimal_of k v) ≡ record { num = v; den = 10 ^ k }
 unfolding decimal_of
 decimal_ratio zero v = ap (λ n. record { num = n; den = 1 }) (value-zeros zero v)
 decimal_ratio (suc k) v =
@@ -117,7 +116,7 @@ second_fault_there q g os n = refl
 
 module _ (q g : Bool) (os : List Opening) where
   number_taken : (p : Part) (w : Work) (n : text.Numeral) → refusal (record { part = p; query = q; given = g; opened = os }) (text.Number n) ≡ None
-      → taken_at p (record { part = p; query = q; given = g; opened = os }) w (text.Number (numeral_of (numeral_seen n))) ≡ taken_at p (record { part = p; query = q; given = g; opened = os }) w (text.Number n)
+      → taken_at p w (text.Number (numeral_of (numeral_seen n))) ≡ taken_at p w (text.Number n)
   number_taken part.Psat w n h = refl
   number_taken part.Version w n h = refl
   number_taken part.HeadEnd w n h = refl

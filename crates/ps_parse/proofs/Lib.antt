@@ -3,3 +3,8 @@ pub mod Next
 pub mod Marking
 pub mod CanonicalNesting
 pub mod KeptTokens
+pub mod Values
+pub mod Readiness
+pub mod Counting
+pub mod Closing
+pub mod Taken

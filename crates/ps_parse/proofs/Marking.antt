@@ -10,7 +10,7 @@ use Rattle.ps_problem.specs.Drafts.{Drafted, arity, made_by, marked, with_mark}
 use Rattle.ps_expect.specs.Stacks.{IsPopped}
 use Rattle.ps_parse.specs.declared.operator.Operator.{Operator}
 use Rattle.ps_parse.specs.declared.operator.Operator.TheVariants as operator
-use Rattle.ps_parse.specs.Pending.{Pending, binding, mark_of, due, firsts, settled, settled_from, HaveFirst, HaveAll}
+use Rattle.ps_parse.specs.Pending.{Pending, binding, mark_of, due, firsts, settled, settled_from, is_waiting, is_grouped, group_ended, group_closed, HaveFirst, HaveAll}
 
 pub length_marked : (names : List Name) (open' : List (Formula Name)) (m : Mark) → length (marked names open' m) ≡ (length open' - arity m) + 1
 length_marked names open' m =
@@ -125,3 +125,43 @@ is_none (Some x) h = absurd (h x refl)
 -- behind `true` or `false` all operands stand open
 pub constant_there : (p : Pending) (m : Mark) → arity m ≡ 0 → HaveFirst p → HaveAll (record { operators = p.operators; draft = with_mark p.draft m })
 constant_there p m z h = length_marked p.draft.names p.draft.«open» m ∙ (let e : (length p.draft.«open» - arity m) + 1 ≡ suc (firsts p.operators) = omega (arith, z, h) in e)
+
+-- behind what is settled none is due
+pub none_left : (k : ℕ) (os : List Operator) (d : Drafted) → due k (settled_from k os d).operators ≡ None
+none_left k [] d = refl
+none_left k (o ∷ os) d = by (nat_le k (binding o)) refl (none_left k os (with_mark d (mark_of o)))
+  where
+    by : (b : Bool) → nat_le k (binding o) ≡ b → due k (settled_from k os (with_mark d (mark_of o))).operators ≡ None
+        → due k (if b then settled_from k os (with_mark d (mark_of o)) else record { operators = o ∷ os; draft = d }).operators ≡ None
+    by true e rest = rest
+    by false e rest = ap (λ b. if b then Some o else None) e
+
+-- of what waits behind a `)` the last is a `(`, which has no first operand
+group_left : (o : Operator) (os : List Operator) → due 1 (o ∷ os) ≡ None → firsts (o ∷ os) ≡ firsts os
+group_left operator.Not os e = refl
+group_left operator.Group os e = refl
+group_left operator.And os e = absurd (true≢false (ap is_some e))
+group_left operator.Or os e = absurd (true≢false (ap is_some e))
+group_left operator.Implies os e = absurd (true≢false (ap is_some e))
+group_left operator.Iff os e = absurd (true≢false (ap is_some e))
+
+-- so all operands are there behind it
+behind_group : (p q : Pending) (o : Operator) (os : List Operator) → p ≡ settled 1 q → HaveAll p → p.operators ≡ o ∷ os → HaveAll (record { operators = os; draft = p.draft })
+behind_group p q o os e a i =
+    let none : due 1 p.operators ≡ None = ap (λ x. due 1 x.operators) e ∙ none_left 1 q.operators q.draft in
+    a ∙ ap (λ xs. suc (firsts xs)) i ∙ ap suc (group_left o os (ap (due 1) (sym i) ∙ none))
+
+pub group_operands : (p q : Pending) (r : Option Operator) (o : Operator) (os : List Operator) → p ≡ settled 1 q → HaveAll p → r ≡ Some o → IsPopped p.operators os r → HaveAll (record { operators = os; draft = p.draft })
+group_operands p q r o os e a s i = behind_group p q o os e a (subst (λ x. IsPopped p.operators os x) s i)
+
+pub not_waiting : (os : List Operator) → is_waiting os ≡ false → os ≡ []
+not_waiting [] e = refl
+not_waiting (o ∷ os) e = absurd (true≢false e)
+
+-- where no `(` is open all that waits is marked at a `)`
+pub ungrouped : (p : Pending) → is_grouped p ≡ false → group_closed p ≡ settled 1 p
+ungrouped p e = by (settled 1 p).operators (settled 1 p).draft e
+  where
+    by : (os : List Operator) (d : Drafted) → is_waiting os ≡ false → group_ended os d ≡ record { operators = os; draft = d }
+    by [] d e = refl
+    by (o ∷ os) d e = absurd (true≢false e)

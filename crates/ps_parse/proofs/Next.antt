@@ -29,7 +29,7 @@ use Rattle.ps_problem.specs.Drafts.{Drafted, with_mark, question_at}
 use Rattle.ps_parse.specs.declared.operator.Operator.{Operator}
 use Rattle.ps_parse.specs.declared.operator.Operator.TheVariants as operator
 use Rattle.ps_parse.specs.Pending.{waiting, settled, settled_from}
-use Rattle.ps_parse.specs.Machine.{ItemSoFar, Work, Machine, lowest, value_in, with_pending, with_atom, operand_ended, numbered, formula_ended, closed_behind, stated, with_side, side_in, taken}
+use Rattle.ps_parse.specs.Machine.{ItemSoFar, Work, Machine, lowest, value_in, with_pending, with_atom, operand_ended, numbered, numbered_as, with_query, with_conditional, formula_ended, probability_ended, closed_behind, stated, with_side, side_in, taken}
 use Rattle.ps_parse.specs.Standing.{operators_of, lefts_of, HasFormula, HasProb, Does, IsFollowed}
 use Rattle.ps_parse.proofs.Settling.{IsSettled, settles}
 
@@ -41,7 +41,7 @@ items_push [] (x ∷ is) e i h k = absurd h
 items_push (x ∷ es) [] e i h k = absurd h
 items_push (x ∷ es) (y ∷ is) e i h k = (h.0, items_push es is e i h.1 k)
 
-value_is : (x : Numeral) → IsValue x (lowest (ratio_of x))
+pub value_is : (x : Numeral) → IsValue x (lowest (ratio_of x))
 value_is x =
     let g = gcd_is (ratio_of x).num (ratio_of x).den in
     record {
@@ -81,23 +81,27 @@ record IsBehind (d e : Drafted) (f : Formula Name) : Type 0 where
   formulas : e.formulas ≡ d.formulas
   items : e.items ≡ d.items
 
-has_formula : (c : Option Form) (fs gs : List (Formula Name)) (i : ItemSoFar) → gs ≡ fs → HasFormula fs c i → HasFormula gs c i
-has_formula c fs gs i e h = subst (λ xs. HasFormula xs c i) (sym e) h
+-- what was read of the item in a formula
+abbrev HasBegun : Bool → List (Formula Name) → Option Form → ItemSoFar → Type 0
+HasBegun q fs c i = (i.query ≡ q) × HasFormula fs c i
+
+has_begun : (q : Bool) (c : Option Form) (fs gs : List (Formula Name)) (i : ItemSoFar) → gs ≡ fs → HasBegun q fs c i → HasBegun q gs c i
+has_begun q c fs gs i e h = (h.0, subst (λ xs. HasFormula xs c i) (sym e) h.1)
 
 module _ (es : List Entry) (q : Bool) (c : Option Form) where
-  ended_does : (fs : List Frame) (f : Form) (os : List Operator) (d : Drafted) (i : ItemSoFar) → os ≡ operators_of fs → d.«open» ≡ lefts_of fs ++ formula_of f ∷ [] → AreItems es d.items → HasFormula d.formulas c i
+  ended_does : (fs : List Frame) (f : Form) (os : List Operator) (d : Drafted) (i : ItemSoFar) → os ≡ operators_of fs → d.«open» ≡ lefts_of fs ++ formula_of f ∷ [] → AreItems es d.items → HasBegun q d.formulas c i
       → Does (ended es q c fs f) (record { pending = settled_from 5 os d; item = i })
   ended_does fs f os d i o e k h = subst (λ xs. Does (ended es q c fs f) (record { pending = settled_from 5 xs d; item = i })) (sym o)
       (let s = settles 5 fs f d (omega arith) e in record {
         operators = s.operators;
         «open» = s.«open»;
         items = subst (λ is. AreItems es is) (sym s.items) k;
-        item = has_formula c d.formulas (settled_from 5 (operators_of fs) d).draft.formulas i s.formulas h;
+        item = has_begun q c d.formulas (settled_from 5 (operators_of fs) d).draft.formulas i s.formulas h;
       })
 
   operand_does : (fs : List Frame) (f : Form) (w : Work) (d : Drafted) → Does (InOperand es q c fs) w → IsBehind w.pending.draft d (formula_of f) → Does (ended es q c fs f) (with_pending w (operand_ended w.pending d))
   operand_does fs f w d h b = ended_does fs f w.pending.operators d w.item h.operators (b.«open» ∙ ap (λ os. os ++ formula_of f ∷ []) h.«open»)
-      (subst (λ is. AreItems es is) (sym b.items) h.items) (has_formula c w.pending.draft.formulas d.formulas w.item b.formulas h.item)
+      (subst (λ is. AreItems es is) (sym b.items) h.items) (has_begun q c w.pending.draft.formulas d.formulas w.item b.formulas h.item)
 
   word_does : (fs : List Frame) (u : List ℕ) (w : Work) → Does (InOperand es q c fs) w → Does (parsed (InOperand es q c fs) (Word u)) (taken (state_of (InOperand es q c fs)) w (Word u))
   word_does fs u w h = by (bytes_eq u (codes "true")) (bytes_eq u (codes "false"))
@@ -134,29 +138,40 @@ module _ (es : List Entry) (q : Bool) (c : Option Form) where
 one_more : (fs : List (Formula Name)) (f : Formula Name) → length fs < length (fs ++ f ∷ [])
 one_more fs f = let l : length (fs ++ f ∷ []) ≡ length fs + 1 = length-append fs (f ∷ []) in omega (arith, l)
 
-ended_prob : (c : Option Form) (g : Form) (fs : List (Formula Name)) (i : ItemSoFar) → HasFormula fs c i → HasProb (fs ++ formula_of g ∷ []) (prob_of c g) (numbered (is_some c) i (length fs))
-ended_prob None g fs i h = record { formula = get_or-append_seam fs (formula_of g) [] Truth; given = refl; below = (one_more fs (formula_of g), tt) }
-ended_prob (Some f) g fs i h = record {
+conditional_is : (c : Option Form) (fs : List (Formula Name)) (i : ItemSoFar) → HasFormula fs c i → i.conditional ≡ is_some c
+conditional_is None fs i h = h
+conditional_is (Some f) fs i h = h.2
+
+ended_prob : (c : Option Form) (g : Form) (fs : List (Formula Name)) (i : ItemSoFar) (b : Bool) → b ≡ is_some c → HasFormula fs c i → HasProb (fs ++ formula_of g ∷ []) (prob_of c g) (numbered_as b i (length fs))
+ended_prob None g fs i true e h = absurd (true≢false e)
+ended_prob None g fs i false e h = record { formula = get_or-append_seam fs (formula_of g) [] Truth; given = refl; below = (one_more fs (formula_of g), tt) }
+ended_prob (Some f) g fs i false e h = absurd (true≢false (sym e))
+ended_prob (Some f) g fs i true e h = record {
   formula = get_or_append_left fs (formula_of g ∷ []) Truth i.formula h.1 ∙ h.0;
   given = ap Some (get_or-append_seam fs (formula_of g) [] Truth);
   below = (let l = one_more fs (formula_of g) in omega (arith, l, h.1), one_more fs (formula_of g));
 }
 
-prob_ended : (c : Option Form) (g : Form) (d : Drafted) (i : ItemSoFar) → d.«open» ≡ formula_of g ∷ [] → HasFormula d.formulas c i → HasProb (d.formulas ++ d.«open») (prob_of c g) (numbered (is_some c) i (length d.formulas))
-prob_ended c g d i e h = subst (λ os. HasProb (d.formulas ++ os) (prob_of c g) (numbered (is_some c) i (length d.formulas))) (sym e) (ended_prob c g d.formulas i h)
+prob_ended : (c : Option Form) (g : Form) (d : Drafted) (i : ItemSoFar) → d.«open» ≡ formula_of g ∷ [] → HasFormula d.formulas c i → HasProb (d.formulas ++ d.«open») (prob_of c g) (numbered i (length d.formulas))
+prob_ended c g d i e h = subst (λ os. HasProb (d.formulas ++ os) (prob_of c g) (numbered i (length d.formulas))) (sym e) (ended_prob c g d.formulas i i.conditional (conditional_is c d.formulas i h) h)
 
-close_does : (es : List Entry) (q : Bool) (c : Option Form) (fs : List Frame) (f : Form) (d : Drafted) (i : ItemSoFar) → need fs ≤ 1 → d.«open» ≡ lefts_of fs ++ formula_of f ∷ [] → AreItems es d.items → HasFormula d.formulas c i
-    → Does (behind_close es q c fs f) (closed_behind q (is_some c) i (operators_of fs) d)
-close_does es false c [] f d i n e k h = record { operators = refl; «open» = refl; items = k; item = prob_ended c f d i e h }
-close_does es true c [] f d i n e k h = record {
+-- where nothing waits
+abbrev ended_work : Drafted → ItemSoFar → Work
+ended_work d i = record { pending = record { operators = []; draft = d }; item = i }
+
+close_does : (es : List Entry) (q : Bool) (c : Option Form) (fs : List Frame) (f : Form) (d : Drafted) (i : ItemSoFar) → need fs ≤ 1 → d.«open» ≡ lefts_of fs ++ formula_of f ∷ [] → AreItems es d.items → HasBegun q d.formulas c i
+    → Does (behind_close es q c fs f) (closed_behind i (operators_of fs) d)
+close_does es false c [] f d i n e k h = subst (λ b. Does (behind_close es false c [] f) (probability_ended b (ended_work d i))) (sym h.0)
+    (record { operators = refl; «open» = refl; items = k; item = prob_ended c f d i e h.1 })
+close_does es true c [] f d i n e k h = subst (λ b. Does (behind_close es true c [] f) (probability_ended b (ended_work d i))) (sym h.0) (record {
   operators = refl;
   «open» = refl;
   items =
-      let p = prob_ended c f d i e h in
-      let j = numbered (is_some c) i (length d.formulas) in
+      let p = prob_ended c f d i e h.1 in
+      let j = numbered i (length d.formulas) in
       items_push es d.items (Query (prob_of c f)) (Asked (question_at (d.formulas ++ d.«open») j.formula j.given)) k (λ t. record { formula = p.formula t; given = p.given t });
   item = tt;
-}
+})
 close_does es q c (BegunGroup ∷ fs) f d i n e k h = ended_does es q c fs (Group f) (operators_of fs) d i refl e k h
 close_does es q c (BegunNot ∷ fs) f d i n e k h = absurd (omega (arith, n))
 close_does es q c (BegunAnd g ∷ fs) f d i n e k h = absurd (omega (arith, n))
@@ -166,7 +181,11 @@ close_does es q c (BegunIff g ∷ fs) f d i n e k h = absurd (omega (arith, n))
 
 -- behind an operand
 
-not_true : (b : Bool) → not b ≡ true → b ≡ false
+query_kept : (b : Bool) (i : ItemSoFar) (n : ℕ) → (numbered_as b i n).query ≡ i.query
+query_kept true i n = refl
+query_kept false i n = refl
+
+pub not_true : (b : Bool) → not b ≡ true → b ≡ false
 not_true true e = absurd (true≢false (sym e))
 not_true false e = refl
 
@@ -178,8 +197,8 @@ module _ (es : List Entry) (q : Bool) (c : Option Form) (fs : List Frame) (f : F
   kept_items : (k : ℕ) → 1 ≤ k → AreItems es (settled k w.pending).draft.items
   kept_items k l = subst (λ is. AreItems es is) (sym (joined_at k l).items) h.items
 
-  kept_formula : (k : ℕ) → 1 ≤ k → HasFormula (settled k w.pending).draft.formulas c w.item
-  kept_formula k l = has_formula c w.pending.draft.formulas (settled k w.pending).draft.formulas w.item (joined_at k l).formulas h.item
+  kept_formula : (k : ℕ) → 1 ≤ k → HasBegun q (settled k w.pending).draft.formulas c w.item
+  kept_formula k l = has_begun q c w.pending.draft.formulas (settled k w.pending).draft.formulas w.item (joined_at k l).formulas h.item
 
   and_does : Does (parsed (InOperator es q c fs f) (Sign Ampersand)) (taken (state_of (InOperator es q c fs f)) w (Sign Ampersand))
   and_does = let j = joined_at 4 (omega arith) in record { operators = ap (λ os. operator.And ∷ os) j.operators; «open» = j.«open»; items = kept_items 4 (omega arith); item = kept_formula 4 (omega arith) }
@@ -196,18 +215,20 @@ module _ (es : List Entry) (q : Bool) (c : Option Form) (fs : List Frame) (f : F
   closing_does : Does (parsed (InOperator es q c fs f) (Sign Close)) (taken (state_of (InOperator es q c fs f)) w (Sign Close))
   closing_does =
       let j = joined_at 1 (omega arith) in
-      subst (λ os. Does (behind_close es q c (joins 1 fs f).0 (joins 1 fs f).1) (closed_behind q (is_some c) w.item os (settled 1 w.pending).draft)) (sym j.operators)
+      subst (λ os. Does (behind_close es q c (joins 1 fs f).0 (joins 1 fs f).1) (closed_behind w.item os (settled 1 w.pending).draft)) (sym j.operators)
       (close_does es q c (joins 1 fs f).0 (joins 1 fs f).1 (settled 1 w.pending).draft w.item (joins_need 1 fs f (omega arith)) j.«open» (kept_items 1 (omega arith)) (kept_formula 1 (omega arith)))
 
-  given_does : (b : Bool) → (may_be_given (state_of (InOperator es q c fs f)) && b) ≡ true → Does (InOperand es q (Some (joins 1 fs f).1) []) (formula_ended false (with_pending w (settled 1 w.pending)))
+  given_does : (b : Bool) → (may_be_given (state_of (InOperator es q c fs f)) && b) ≡ true → Does (InOperand es q (Some (joins 1 fs f).1) []) (with_conditional (formula_ended (with_pending w (settled 1 w.pending))) true)
   given_does b e =
       let m = both (may_be_given (state_of (InOperator es q c fs f))) b e in
       let none = both (not (list_any is_group (opened_of fs))) (not (is_some c)) m.0 in
       let all : (joins 1 fs f).0 ≡ [] = all_joined fs f s.3 s.2.frames (not_true (list_any is_group (opened_of fs)) none.0) in
       let j = joined_at 1 (omega arith) in
       let one : (settled 1 w.pending).draft.«open» ≡ formula_of (joins 1 fs f).1 ∷ [] = j.«open» ∙ ap (λ gs. lefts_of gs ++ formula_of (joins 1 fs f).1 ∷ []) all in
-      let p = prob_ended None (joins 1 fs f).1 (settled 1 w.pending).draft w.item one tt in
-      record { operators = refl; «open» = refl; items = kept_items 1 (omega arith); item = (p.formula, p.below.0) }
+      let k = kept_formula 1 (omega arith) in
+      let u : w.item.conditional ≡ false = conditional_is c (settled 1 w.pending).draft.formulas w.item k.1 ∙ not_true (is_some c) none.1 in
+      let p = prob_ended None (joins 1 fs f).1 (settled 1 w.pending).draft w.item one u in
+      record { operators = refl; «open» = refl; items = kept_items 1 (omega arith); item = (query_kept w.item.conditional w.item (length (settled 1 w.pending).draft.formulas) ∙ k.0, (p.formula, p.below.0, refl)) }
 
   at_operator : (t : Token) → refusal (state_of (InOperator es q c fs f)) t ≡ None → Does (parsed (InOperator es q c fs f) t) (taken (state_of (InOperator es q c fs f)) w t)
   at_operator (Sign Close) r = closing_does
@@ -229,12 +250,12 @@ module _ (es : List Entry) (q : Bool) (c : Option Form) (fs : List Frame) (f : F
 
 -- outside of a formula
 
-item_does : (es : List Entry) (w : Work) (b c : Bool) → Does (InItem es) w → Does (if b then InParen es false else (if c then InQueryProb es else InTextEnd es)) w
-item_does es w true c h = record { operators = h.operators; «open» = h.«open»; items = h.items; item = tt }
+item_does : (es : List Entry) (w : Work) (b c : Bool) → Does (InItem es) w → Does (if b then InParen es false else (if c then InQueryProb es else InTextEnd es)) (with_query w false)
+item_does es w true c h = record { operators = h.operators; «open» = h.«open»; items = h.items; item = refl }
 item_does es w false true h = record { operators = h.operators; «open» = h.«open»; items = h.items; item = tt }
 item_does es w false false h = record { operators = h.operators; «open» = h.«open»; items = h.items; item = tt }
 
-prob_kept : (fs : List (Formula Name)) (p : Prob) (i : ItemSoFar) (s : Side) (r : Ratio) → HasProb fs p i → HasProb fs p (record { formula = i.formula; given = i.given; side = s; least = r })
+prob_kept : (fs : List (Formula Name)) (p : Prob) (i : ItemSoFar) (s : Side) (r : Ratio) → HasProb fs p i → HasProb fs p (record { query = i.query; conditional = i.conditional; formula = i.formula; given = i.given; side = s; least = r })
 prob_kept fs p i s r h = record { formula = h.formula; given = h.given; below = h.below }
 
 at_relation : (es : List Entry) (p : Prob) (w : Work) (t : Token) → Does (InRelation es p) w → Does (parsed (InRelation es p) t) (with_side w (side_in t))
@@ -247,10 +268,10 @@ does InPsat t w s h r = record { operators = h.operators; «open» = h.«open»;
 does InVersion t w s h r = record { operators = h.operators; «open» = h.«open»; items = h.items; item = tt }
 does InHeadEnd t w s h r = record { operators = h.operators; «open» = h.«open»; items = h.items; item = tt }
 does (InItem es) t w s h r = item_does es w (is_the_word (codes "P") t) (is_the_word (codes "query") t) h
-does (InQueryProb es) t w s h r = record { operators = h.operators; «open» = h.«open»; items = h.items; item = tt }
+does (InQueryProb es) t w s h r = record { operators = h.operators; «open» = h.«open»; items = h.items; item = refl }
 does (InTextEnd es) t w s h r = record { operators = h.operators; «open» = h.«open»; items = h.items; item = tt }
 does (InDone es) t w s h r = h
-does (InParen es q) t w s h r = record { operators = h.operators; «open» = h.«open»; items = h.items; item = tt }
+does (InParen es q) t w s h r = record { operators = h.operators; «open» = h.«open»; items = h.items; item = (h.item, refl) }
 does (InOperand es q c fs) t w s h r = at_operand es q c fs t w h
 does (InOperator es q c fs f) t w s h r = at_operator es q c fs f w s h t r
 does (InRelation es p) t w s h r = at_relation es p w t h

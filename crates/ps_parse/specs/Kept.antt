@@ -1,10 +1,39 @@
--- What waits, as a parser keeps it.
+-- What waits, what of an item was read, and the machine, as a parser keeps them.
+use Rattle.std.specs.Prelude.{List}
+use Rattle.ps_meaning.specs.Statements.{Ratio}
+use Rattle.ps_lex.specs.declared.position.Position.{Position}
+use Rattle.ps_expect.specs.KeptTokens as expected
 use Rattle.ps_problem.specs.Drafts.{Drafted}
 use Rattle.ps_parse.specs.declared.formula_parser.FormulaParser.{FormulaParser}
+use Rattle.ps_parse.specs.declared.value.Value.{Value}
+use Rattle.ps_parse.specs.declared.item_so_far.ItemSoFar as declared
+use Rattle.ps_parse.specs.declared.item_parser.ItemParser.{ItemParser}
+use Rattle.ps_parse.specs.declared.parser.Parser.{Parser}
 use Rattle.ps_parse.specs.Pending.{Pending}
+use Rattle.ps_parse.specs.Machine.{ItemSoFar, Work, Machine}
 
 abbrev pub pending_of : FormulaParser → Pending
 pending_of p = record { operators = p.operators; draft = p.draft }
 
 abbrev pub draft_of : FormulaParser → Drafted
 draft_of p = p.draft
+
+abbrev pub ratio_of : Value → Ratio
+ratio_of v = record { num = v.num; den = v.den }
+
+abbrev pub item_of : declared.ItemSoFar → ItemSoFar
+item_of i = record { query = i.query; conditional = i.conditional; formula = i.formula; given = i.given; side = i.side; least = ratio_of i.least }
+
+abbrev pub work_of : ItemParser → Work
+work_of p = record { pending = pending_of p.formulas; item = item_of p.item }
+
+abbrev pub machine_of : Parser → Machine
+machine_of p = record { state = expected.state_of p.state; work = work_of p.items }
+
+-- the draft of the items so far
+abbrev pub drafted_in : Machine → Drafted
+drafted_in m = m.work.pending.draft
+
+-- where the items' first tokens stand
+abbrev pub places_of : Parser → List Position
+places_of p = p.places

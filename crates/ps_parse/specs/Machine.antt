@@ -19,8 +19,11 @@ use Rattle.ps_parse.specs.declared.operator.Operator.{Operator}
 use Rattle.ps_parse.specs.declared.operator.Operator.TheVariants as operator
 use Rattle.ps_parse.specs.Pending.{Pending, waiting, settled}
 
--- what of an item was read: the numbers of its formula and of its condition, how it is bounded, and an interval's least value
+-- what of an item was read: whether it is a query, whether `given` stood, the numbers of its formula and of its condition, how it
+-- is bounded, and an interval's least value
 pub record ItemSoFar : Type 0 where
+  pub query : Bool
+  pub conditional : Bool
   pub formula : ℕ
   pub given : Option ℕ
   pub side : Side
@@ -36,13 +39,17 @@ pub record Machine : Type 0 where
   pub state : State
   pub work : Work
 
+-- before the first item
+abbrev pub none_yet : ItemSoFar
+none_yet = record { query = false; conditional = false; formula = 0; given = None; side = side.Exactly; least = record { num = 0; den = 1 } }
+
 -- before the first token
 abbrev pub at_first : Machine
 at_first = record {
   state = at_start;
   work = record {
     pending = record { operators = []; draft = record { names = []; «open» = []; formulas = []; items = [] } };
-    item = record { formula = 0; given = None; side = side.Exactly; least = record { num = 0; den = 1 } };
+    item = none_yet;
   };
 }
 
@@ -85,15 +92,26 @@ operand_taken p (Word w) = operand_ended p (with_word p.draft w)
 operand_taken p t = operand_ended p (with_mark p.draft mark.True)
 
 -- the number of a formula that ended is that of the item's formula, or behind `given` that of its condition
-abbrev pub numbered : Bool → ItemSoFar → ℕ → ItemSoFar
-numbered false i n = record { formula = n; given = None; side = i.side; least = i.least }
-numbered true i n = record { formula = i.formula; given = Some n; side = i.side; least = i.least }
+abbrev pub numbered_as : Bool → ItemSoFar → ℕ → ItemSoFar
+numbered_as false i n = record { query = i.query; conditional = i.conditional; formula = n; given = None; side = i.side; least = i.least }
+numbered_as true i n = record { query = i.query; conditional = i.conditional; formula = i.formula; given = Some n; side = i.side; least = i.least }
+
+abbrev pub numbered : ItemSoFar → ℕ → ItemSoFar
+numbered i n = numbered_as i.conditional i n
+
+-- a query, or a sentence, begins
+abbrev pub with_query : Work → Bool → Work
+with_query w q = record { pending = w.pending; item = record { query = q; conditional = w.item.conditional; formula = w.item.formula; given = w.item.given; side = w.item.side; least = w.item.least } }
+
+-- `given` stood, or nothing of the probability yet
+abbrev pub with_conditional : Work → Bool → Work
+with_conditional w c = record { pending = w.pending; item = record { query = w.item.query; conditional = c; formula = w.item.formula; given = w.item.given; side = w.item.side; least = w.item.least } }
 
 -- the open formula ends
-abbrev pub formula_ended : Bool → Work → Work
-formula_ended given w = record {
+abbrev pub formula_ended : Work → Work
+formula_ended w = record {
   pending = record { operators = []; draft = with_formula w.pending.draft };
-  item = numbered given w.item (length w.pending.draft.formulas);
+  item = numbered w.item (length w.pending.draft.formulas);
 }
 
 -- the item's probability is asked
@@ -101,27 +119,30 @@ abbrev pub asked : Work → Work
 asked w = with_draft w (with_item w.pending.draft (Asked (question_at w.pending.draft.formulas w.item.formula w.item.given)))
 
 -- a probability ends; that of a query is asked
-abbrev pub probability_ended : Bool → Bool → Work → Work
-probability_ended true given w = asked (formula_ended given w)
-probability_ended false given w = formula_ended given w
+abbrev pub probability_ended : Bool → Work → Work
+probability_ended true w = asked (formula_ended w)
+probability_ended false w = formula_ended w
 
 -- at a `)`, where all is marked that waits behind its `(`
--- at a `)`, where all is marked that waits behind its `(`
-abbrev pub closed_behind : Bool → Bool → ItemSoFar → List Operator → Drafted → Work
-closed_behind query given i [] d = probability_ended query given (record { pending = record { operators = []; draft = d }; item = i })
-closed_behind query given i (o ∷ os) d = record { pending = settled 5 (record { operators = os; draft = d }); item = i }
+abbrev pub closed_behind : ItemSoFar → List Operator → Drafted → Work
+closed_behind i [] d = probability_ended i.query (record { pending = record { operators = []; draft = d }; item = i })
+closed_behind i (o ∷ os) d = record { pending = settled 5 (record { operators = os; draft = d }); item = i }
 
-abbrev pub closed : State → ItemSoFar → Pending → Work
-closed s i p = closed_behind s.query s.given i p.operators p.draft
+abbrev pub closed : ItemSoFar → Pending → Work
+closed i p = closed_behind i p.operators p.draft
+
+-- at a `given`
+abbrev pub given_taken : Work → Work
+given_taken w = with_conditional (formula_ended (with_pending w (settled 1 w.pending))) true
 
 -- behind an operand
-abbrev pub operator_taken : State → Work → Token → Work
-operator_taken s w (Sign Close) = closed s w.item (settled 1 w.pending)
-operator_taken s w (Sign Ampersand) = with_pending w (waiting operator.And (settled 4 w.pending))
-operator_taken s w (Sign Bar) = with_pending w (waiting operator.Or (settled 3 w.pending))
-operator_taken s w (Sign Arrow) = with_pending w (waiting operator.Implies (settled 3 w.pending))
-operator_taken s w (Sign DoubleArrow) = with_pending w (waiting operator.Iff (settled 1 w.pending))
-operator_taken s w t = formula_ended false (with_pending w (settled 1 w.pending))
+abbrev pub operator_taken : Work → Token → Work
+operator_taken w (Sign Close) = closed w.item (settled 1 w.pending)
+operator_taken w (Sign Ampersand) = with_pending w (waiting operator.And (settled 4 w.pending))
+operator_taken w (Sign Bar) = with_pending w (waiting operator.Or (settled 3 w.pending))
+operator_taken w (Sign Arrow) = with_pending w (waiting operator.Implies (settled 3 w.pending))
+operator_taken w (Sign DoubleArrow) = with_pending w (waiting operator.Iff (settled 1 w.pending))
+operator_taken w t = given_taken w
 
 -- the side of a relation; an interval is at least its least value
 abbrev pub side_in : Token → Side
@@ -130,10 +151,10 @@ side_in (Sign LessEquals) = side.AtMost
 side_in t = side.AtLeast
 
 abbrev pub with_side : Work → Side → Work
-with_side w s = record { pending = w.pending; item = record { formula = w.item.formula; given = w.item.given; side = s; least = w.item.least } }
+with_side w s = record { pending = w.pending; item = record { query = w.item.query; conditional = w.item.conditional; formula = w.item.formula; given = w.item.given; side = s; least = w.item.least } }
 
 abbrev pub with_least : Work → Ratio → Work
-with_least w r = record { pending = w.pending; item = record { formula = w.item.formula; given = w.item.given; side = w.item.side; least = r } }
+with_least w r = record { pending = w.pending; item = record { query = w.item.query; conditional = w.item.conditional; formula = w.item.formula; given = w.item.given; side = w.item.side; least = r } }
 
 -- the item so far is stated with these values
 abbrev pub stated : List (formula.Formula Name) → ItemSoFar → Ratio → Option Ratio → Item
@@ -143,17 +164,20 @@ abbrev pub with_sentence : Work → Ratio → Option Ratio → Work
 with_sentence w r upper = with_draft w (with_item w.pending.draft (stated w.pending.draft.formulas w.item r upper))
 
 -- what a token does, by the part where it stands; the others change only what is expected
-abbrev pub taken_at : Part → State → Work → Token → Work
-taken_at part.Operand s w t = with_pending w (operand_taken w.pending t)
-taken_at part.Operator s w t = operator_taken s w t
-taken_at part.Relation s w t = with_side w (side_in t)
-taken_at part.Number s w t = with_sentence w (value_in t) None
-taken_at part.First s w t = with_least w (value_in t)
-taken_at part.Second s w t = with_sentence w w.item.least (Some (value_in t))
-taken_at p s w t = w
+abbrev pub taken_at : Part → Work → Token → Work
+taken_at part.Item w t = with_query w false
+taken_at part.QueryProb w t = with_query w true
+taken_at part.Paren w t = with_conditional w false
+taken_at part.Operand w t = with_pending w (operand_taken w.pending t)
+taken_at part.Operator w t = operator_taken w t
+taken_at part.Relation w t = with_side w (side_in t)
+taken_at part.Number w t = with_sentence w (value_in t) None
+taken_at part.First w t = with_least w (value_in t)
+taken_at part.Second w t = with_sentence w w.item.least (Some (value_in t))
+taken_at p w t = w
 
 abbrev pub taken : State → Work → Token → Work
-taken s w t = taken_at s.part s w t
+taken s w t = taken_at s.part w t
 
 -- behind a token that isn't refused
 abbrev pub next : Machine → Token → Machine

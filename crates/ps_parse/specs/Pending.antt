@@ -1,8 +1,9 @@
 -- Operators that wait for their last operand, and the draft whose open formulas are their first ones.
-use Rattle.std.specs.Prelude.{◌≡◌, ℕ, suc, nat_le, if◌then◌else◌, List, [], ◌∷◌, length, Option, Some, None}
+use Rattle.std.specs.Prelude.{◌≡◌, ◌≤◌, All, ℕ, suc, nat_le, if◌then◌else◌, Bool, true, false, List, [], ◌∷◌, length, Option, Some, None}
 use Rattle.ps_problem.specs.declared.mark.Mark.{Mark}
 use Rattle.ps_problem.specs.declared.mark.Mark.TheVariants as mark
-use Rattle.ps_problem.specs.Drafts.{Drafted, with_mark}
+use Rattle.ps_problem.specs.declared.limits.TheConstants.{MOST_NESTING}
+use Rattle.ps_problem.specs.Drafts.{Drafted, with_mark, canonical_nesting}
 use Rattle.ps_parse.specs.declared.operator.Operator.{Operator}
 use Rattle.ps_parse.specs.declared.operator.Operator.TheVariants as operator
 
@@ -46,6 +47,24 @@ abbrev pub due : ℕ → List Operator → Option Operator
 due k [] = None
 due k (o ∷ os) = if nat_le k (binding o) then Some o else None
 
+-- something waits
+abbrev pub is_waiting : List Operator → Bool
+is_waiting [] = false
+is_waiting (o ∷ os) = true
+
+-- a `(` is open: something waits that isn't marked at a `)`
+abbrev pub is_grouped : Pending → Bool
+is_grouped p = is_waiting (settled 1 p).operators
+
+-- behind a `)`: the `(` that waits last waits no more, and each `!` before it is marked
+abbrev pub group_ended : List Operator → Drafted → Pending
+group_ended [] d = record { operators = []; draft = d }
+group_ended (o ∷ os) d = settled 5 (record { operators = os; draft = d })
+
+-- at a `)` all is marked that waits behind the last `(`, or all that waits
+abbrev pub group_closed : Pending → Pending
+group_closed p = group_ended (settled 1 p).operators (settled 1 p).draft
+
 -- how many operators have a first operand
 abbrev pub firsts : List Operator → ℕ
 firsts [] = 0
@@ -63,3 +82,8 @@ HaveFirst p = length p.draft.«open» ≡ firsts p.operators
 -- the first operands of what waits stand open, and one formula behind them
 abbrev pub HaveAll : Pending → Type 0
 HaveAll p = length p.draft.«open» ≡ suc (firsts p.operators)
+
+-- one formula stands open, and its canonical spelling doesn't nest too deep
+pub record IsEndable (d : Drafted) : Type 0 where
+  pub one : length d.«open» ≡ 1
+  pub nesting : All (λ f. canonical_nesting f ≤ MOST_NESTING) d.«open»

@@ -1,5 +1,5 @@
 -- Which derivation a state of the machine stands for.
-use Rattle.std.specs.Prelude.{◌≡◌, ◌<◌, List, [], ◌∷◌, ◌++◌, Option, Some, None, length, option_map}
+use Rattle.std.specs.Prelude.{◌≡◌, ◌<◌, true, false, List, [], ◌∷◌, ◌++◌, Option, Some, None, length, option_map}
 use Rattle.ps_meaning.specs.Formula.{Formula}
 use Rattle.ps_meaning.specs.Statements.{Name}
 use Rattle.ps_meaning.specs.declared.side.Side.TheVariants as side
@@ -70,10 +70,10 @@ drafted_entries (InSecond es p x) = es
 drafted_entries (InBracketEnd es p x y) = es ++ Sentence p (Within x y) ∷ []
 drafted_entries (InItemEnd es e) = es ++ e ∷ []
 
--- before `given` nothing is known; behind it the item's formula is the one before it
+-- behind `given` the item's formula is the one before it
 abbrev pub HasFormula : List (Formula Name) → Option Form → ItemSoFar → Type 0
-HasFormula fs None i = Unit {0}
-HasFormula fs (Some f) i = (formula_at fs i.formula ≡ formula_of f) × (i.formula < length fs)
+HasFormula fs None i = i.conditional ≡ false
+HasFormula fs (Some f) i = (formula_at fs i.formula ≡ formula_of f) × (i.formula < length fs) × (i.conditional ≡ true)
 
 -- the item's formulas are those of the probability
 pub record HasProb (fs : List (Formula Name)) (p : Prob) (i : ItemSoFar) : Type 0 where
@@ -83,8 +83,9 @@ pub record HasProb (fs : List (Formula Name)) (p : Prob) (i : ItemSoFar) : Type 
 
 -- the item so far is what was derived of it
 abbrev pub IsItemSoFar : List (Formula Name) → Parse → ItemSoFar → Type 0
-IsItemSoFar fs (InOperand es q c gs) i = HasFormula fs c i
-IsItemSoFar fs (InOperator es q c gs f) i = HasFormula fs c i
+IsItemSoFar fs (InParen es q) i = i.query ≡ q
+IsItemSoFar fs (InOperand es q c gs) i = (i.query ≡ q) × HasFormula fs c i
+IsItemSoFar fs (InOperator es q c gs f) i = (i.query ≡ q) × HasFormula fs c i
 IsItemSoFar fs (InRelation es p) i = HasProb fs p i
 IsItemSoFar fs (InBracket es p) i = HasProb fs p i × (i.side ≡ side.AtLeast)
 IsItemSoFar fs (InFirst es p) i = HasProb fs p i × (i.side ≡ side.AtLeast)
@@ -105,6 +106,11 @@ pub record StandsFor (p : Parse) (m : Machine) : Type 0 where
   pub sound : Sound p
   pub state : m.state ≡ state_of p
   pub work : Does p m.work
+
+-- the machine stands for some derivation
+pub record IsParsed (m : Machine) : Type 0 where
+  pub parse : Parse
+  pub stands : StandsFor parse m
 
 -- behind a token that isn't refused the machine stands for the derivation with that token
 abbrev pub IsFollowed : Parse → Machine → Token → Type 0

@@ -1,14 +1,21 @@
 //! Formulas as they are parsed.
-ghost use Rattle.std.specs.Prelude.{◌≡◌, ◌≤◌, ◌<◌, [], length, OnOk};
+ghost use Rattle.std.specs.Prelude.{◌≡◌, ◌≤◌, ◌<◌, [], length, OnOk, IfOk};
 ghost use Rattle.ps_meaning.specs.Names.{IsName};
+ghost use Rattle.ps_problem.specs.Drafts.{with_formula};
+ghost use Rattle.ps_expect.specs.KeptTokens.{token_of};
 ghost use Rattle.ps_parse.specs.Pending.{binding, due, settled, waiting, HaveFirst, HaveAll};
-ghost use Rattle.ps_parse.specs.Machine.{operand_ended, with_atom, with_constant};
+ghost use Rattle.ps_parse.specs.Pending.{is_grouped, group_closed, IsEndable};
+ghost use Rattle.ps_parse.specs.Machine.{operand_taken, operand_ended};
+ghost use Rattle.ps_parse.specs.Machine.{with_atom, with_constant, with_word};
+ghost use Rattle.ps_parse.specs.Ready.{IsOperand, IsOperandWord};
 ghost use Rattle.ps_parse.specs.Kept.{pending_of, draft_of};
 
 use crate::Operator;
 use ps_expect::Stack;
 use ps_io::NoMemory;
+use ps_lex::Token;
 use ps_problem::{Draft, Mark};
+use ps_text::Symbol;
 use std::alloc::Global;
 
 /// Parses formulas into a draft: the operators that wait for their last operand, whose first
@@ -95,6 +102,81 @@ impl FormulaParser {
         let number = self.draft.name(name)?;
         self.draft.mark(Mark::Name(number))?;
         self.settle(Operator::Not)
+    }
+
+    /// Takes a token in the place of an operand: `!` or `(`, which waits, or a word, an operand. For
+    /// want of memory only some of this may be done.
+    pub fn operand(&mut self, token: &Token) -> Result<(), NoMemory>
+        requires operand { IsOperand (token_of token.now) }
+        requires room { length (draft_of self.old).names < 4294967295 }
+        requires operands { HaveFirst (pending_of self.old) }
+        ensures { OnOk result
+            (pending_of self.new ≡ operand_taken (pending_of self.old) (token_of token.now)) }
+    {
+        match token {
+            Token::Sign(Symbol::Bang) => self.wait(Operator::Not),
+            Token::Sign(_) => self.wait(Operator::Group),
+            Token::Word(letters) => self.word(letters.as_slice()),
+            Token::Number(_) => self.constant(true),
+        }
+    }
+
+    fn word(&mut self, letters: &[u8]) -> Result<(), NoMemory>
+        requires word { IsOperandWord letters.now }
+        requires room { length (draft_of self.old).names < 4294967295 }
+        requires operands { HaveFirst (pending_of self.old) }
+        ensures { OnOk result (pending_of self.new
+            ≡ operand_ended (pending_of self.old) (with_word (draft_of self.old) letters.now)) }
+    {
+        if letters == b"true".as_slice() {
+            self.constant(true)
+        } else if letters == b"false".as_slice() {
+            self.constant(false)
+        } else {
+            self.atom(letters)
+        }
+    }
+
+    /// A connective: what waits and binds at least as tightly as `level` is marked, and the
+    /// operator waits for its last operand. For want of memory only some of this may be done.
+    pub fn connective(&mut self, level: Operator, operator: Operator) -> Result<(), NoMemory>
+        requires level { 1 ≤ binding level }
+        requires operands { HaveAll (pending_of self.old) }
+        ensures { OnOk result (pending_of self.new
+            ≡ waiting operator (settled (binding level) (pending_of self.old))) }
+    {
+        self.settle(level)?;
+        self.wait(operator)
+    }
+
+    /// A `)`: marks all that waits behind the last `(`, and each `!` before that; else, where no
+    /// `(` is open, all that waits. Answers whether one was open. For want of memory only some of
+    /// this may be done.
+    pub fn close(&mut self) -> Result<bool, NoMemory>
+        requires operands { HaveAll (pending_of self.old) }
+        ensures grouped { IfOk result (λ r. r ≡ is_grouped (pending_of self.old)) }
+        ensures closed { OnOk result (pending_of self.new ≡ group_closed (pending_of self.old)) }
+    {
+        self.settle(Operator::Iff)?;
+        match self.operators.pop() {
+            Some(_) => {
+                self.settle(Operator::Not)?;
+                Ok(true)
+            }
+            None => Ok(false),
+        }
+    }
+
+    /// Ends the formula that stands open, and gives its number, from 0. For want of memory nothing
+    /// changes.
+    pub fn end(&mut self) -> Result<u32, NoMemory>
+        requires formula { IsEndable (draft_of self.old) }
+        requires room { length (draft_of self.old).formulas < 4294967295 }
+        ensures number { IfOk result (λ n. n ≡ length (draft_of self.old).formulas) }
+        ensures operators { (pending_of self.new).operators ≡ (pending_of self.old).operators }
+        ensures draft { OnOk result (draft_of self.new ≡ with_formula (draft_of self.old)) }
+    {
+        self.draft.end_formula()
     }
 
     /// The draft.

@@ -2,12 +2,19 @@
 #![tactic(auto)]
 
 mod formula_parser;
+mod item_parser;
+mod item_so_far;
 mod laws;
 mod operator;
+mod parse_error;
+mod parser;
+mod value;
 
 pub use formula_parser::FormulaParser;
 pub use laws::the_machine_stands_for_a_derivation;
 pub use operator::Operator;
+pub use parse_error::ParseError;
+pub use parser::Parser;
 
 #[cfg(test)]
 mod tests;

@@ -1,0 +1,173 @@
+-- Where the machine stands for a derivation, the draft takes each token that isn't refused.
+use Rattle.std.proofs.Common.{◌≡◌, ℕ, suc, ◌+◌, ◌<◌, ◌≤◌, Bool, true, false, ◌&&◌, ◌||◌, not, List, [], ◌∷◌, ◌++◌, length, Option, Some, None, refl, sym, ap, subst, ◌∙◌, arith, true≢false, is_some}
+use Rattle.std.proofs.lemmas.Bool.Decides.{nat_tests}
+use Rattle.std.proofs.lemmas.List.{length-append}
+use Rattle.std.proofs.lemmas.List.Elements.{All-cons, All-nil}
+use Rattle.std.specs.Prelude.{All, bytes_eq, codes, nat_lt, IsTrue}
+use Rattle.std.specs.List.{list_any}
+use Rattle.ps_meaning.specs.Formula.{Formula}
+use Rattle.ps_meaning.specs.Statements.{Name}
+use Rattle.ps_meaning.specs.Names.{is_word, is_reserved}
+use Rattle.ps_text.specs.Tokens as text
+use Rattle.ps_text.specs.Tokens.{Word, Number, Sign, Numeral, is_the_word}
+use Rattle.ps_text.specs.declared.symbol.Symbol.TheVariants.{Open, Close, OpenBracket, CloseBracket, Comma, Semicolon, Bang, Ampersand, Bar, Arrow, DoubleArrow, Equals, GreaterEquals, LessEquals}
+use Rattle.ps_text.specs.declared.part.Part.TheVariants as part
+use Rattle.ps_text.specs.Grammar.{Form, IsForm, Nests, Prob, Entry, IsProbability, IsProb, AreEntries}
+use Rattle.ps_text.specs.Meanings.{formula_of}
+use Rattle.ps_text.specs.ExpectedTokens.{outside, refusal, may_be_given, is_group}
+use Rattle.ps_text.proofs.Spans.{both}
+use Rattle.ps_text.proofs.Frames.{Frame, BegunNot, BegunGroup, BegunAnd, BegunOr, BegunImplies, BegunIff, Fits, opened_of, joins, joins_fits, all_joined}
+use Rattle.ps_text.proofs.Parsing.{Parse, InPsat, InVersion, InHeadEnd, InItem, InQueryProb, InTextEnd, InDone, InParen, InOperand, InOperator, InRelation, InBracket, InFirst, InNumber, InComma, InSecond, InBracketEnd, InItemEnd, state_of, Sound, number_in}
+use Rattle.ps_text.proofs.Steps.{passed}
+use Rattle.ps_text.proofs.Derived.{steps}
+use Rattle.ps_lex.specs.declared.token.Token.{Token}
+use Rattle.ps_lex.specs.declared.token.Token.TheVariants as token
+use Rattle.ps_expect.specs.KeptTokens.{token_of}
+use Rattle.ps_problem.specs.Drafts.{Drafted, canonical_nesting}
+use Rattle.ps_parse.specs.Pending.{Pending, settled, settled_from, firsts, HaveFirst, HaveAll, IsEndable}
+use Rattle.ps_parse.specs.Machine.{ItemSoFar, Work, Machine}
+use Rattle.ps_parse.specs.Standing.{operators_of, lefts_of, HasFormula, Does, IsParsed}
+use Rattle.ps_parse.specs.Taking.{IsKept}
+use Rattle.ps_parse.specs.Ready.{IsOperand, IsWhole, MayClose, MayEnd, IsReady}
+use Rattle.ps_parse.proofs.CanonicalNesting.{canonical_nests}
+use Rattle.ps_parse.proofs.Settling.{IsSettled, settles}
+use Rattle.ps_parse.proofs.Values.{is_ratio}
+use Rattle.ps_parse.proofs.Next.{not_true}
+
+-- operands
+
+length_after : (os : List (Formula Name)) (f : Formula Name) (n : ℕ) → length os ≡ n → length (os ++ f ∷ []) ≡ suc n
+length_after os f n e = let l : length (os ++ f ∷ []) ≡ length os + 1 = length-append os (f ∷ []) in omega (arith, l, e)
+
+length_lefts : (fs : List Frame) → length (lefts_of fs) ≡ firsts (operators_of fs)
+length_lefts [] = refl
+length_lefts (BegunNot ∷ fs) = length_lefts fs
+length_lefts (BegunGroup ∷ fs) = length_lefts fs
+length_lefts (BegunAnd f ∷ fs) = length_after (lefts_of fs) (formula_of f) (firsts (operators_of fs)) (length_lefts fs)
+length_lefts (BegunOr f ∷ fs) = length_after (lefts_of fs) (formula_of f) (firsts (operators_of fs)) (length_lefts fs)
+length_lefts (BegunImplies f ∷ fs) = length_after (lefts_of fs) (formula_of f) (firsts (operators_of fs)) (length_lefts fs)
+length_lefts (BegunIff f ∷ fs) = length_after (lefts_of fs) (formula_of f) (firsts (operators_of fs)) (length_lefts fs)
+
+have_first : (fs : List Frame) (p : Pending) → p.operators ≡ operators_of fs → p.draft.«open» ≡ lefts_of fs → HaveFirst p
+have_first fs p o e = ap length e ∙ length_lefts fs ∙ ap firsts (sym o)
+
+have_all : (fs : List Frame) (f : Form) (p : Pending) → p.operators ≡ operators_of fs → p.draft.«open» ≡ lefts_of fs ++ formula_of f ∷ [] → HaveAll p
+have_all fs f p o e = ap length e ∙ length_after (lefts_of fs) (formula_of f) (firsts (operators_of fs)) (length_lefts fs) ∙ ap (λ os. suc (firsts os)) (sym o)
+
+-- names
+
+is_free : (r a b : Bool) → a ≡ false → b ≡ false → ((((not r || a) || b) || false) || false) ≡ true → r ≡ false
+is_free false a b e f h = refl
+is_free true false false e f h = absurd (true≢false (sym h))
+is_free true true b e f h = absurd (true≢false e)
+is_free true false true e f h = absurd (true≢false f)
+
+-- a word that is kept
+abbrev IsWordKept : text.Token → Type 0
+IsWordKept (Word w) = IsTrue (is_word w)
+IsWordKept t = Unit {0}
+
+word_kept : (t : Token) → IsKept t → IsWordKept (token_of t)
+word_kept (token.Word w) k = k
+word_kept (token.Number n) k = tt
+word_kept (token.Sign s) k = tt
+
+few_letters : (w : List ℕ) → nat_lt 32 (length w) ≡ false → length w ≤ 32
+few_letters w e = grind (arith, nat_tests)
+
+is_operand : (es : List Entry) (q : Bool) (c : Option Form) (fs : List Frame) (t : text.Token) → IsWordKept t → refusal (state_of (InOperand es q c fs)) t ≡ None → IsOperand t
+is_operand es q c fs (Word w) k r =
+    let p = passed (state_of (InOperand es q c fs)) (Word w) r in
+    λ a b. record { word = k; short = few_letters w p.short; free = is_free (is_reserved w) (bytes_eq w (codes "true")) (bytes_eq w (codes "false")) a b p.expected }
+is_operand es q c fs (Number n) k r = tt
+is_operand es q c fs (Sign s) k r = tt
+
+-- the end of a formula
+
+all_of_one : (f : Formula Name) → canonical_nesting f ≤ 100 → All (λ g. canonical_nesting g ≤ 100) (f ∷ [])
+all_of_one f h = All-cons (λ g. canonical_nesting g ≤ 100) f [] h (All-nil (λ g. canonical_nesting g ≤ 100))
+
+endable : (d : Drafted) (f : Form) → d.«open» ≡ formula_of f ∷ [] → IsForm f → Nests 0 f → IsEndable d
+endable d f e i n = record { one = ap length e; nesting = subst (λ os. All (λ g. canonical_nesting g ≤ 100) os) (sym e) (all_of_one (formula_of f) (canonical_nests f i n)) }
+
+no_frames : (fs : List Frame) → operators_of fs ≡ [] → fs ≡ []
+no_frames [] e = refl
+no_frames (x ∷ fs) e = cc
+
+below : (c : Option Form) (fs : List (Formula Name)) (i : ItemSoFar) → HasFormula fs c i → i.conditional ≡ true → i.formula < length fs
+below None fs i h e = absurd (true≢false (sym e ∙ h))
+below (Some f) fs i h e = h.1
+
+module _ (es : List Entry) (q : Bool) (c : Option Form) (fs : List Frame) (f : Form) (w : Work) (s : Sound (InOperator es q c fs f)) (h : Does (InOperator es q c fs f) w) where
+  settled_is : IsSettled w.pending.draft (settled 1 w.pending) (joins 1 fs f).0 (joins 1 fs f).1
+  settled_is = subst (λ os. IsSettled w.pending.draft (settled_from 1 os w.pending.draft) (joins 1 fs f).0 (joins 1 fs f).1) (sym h.operators) (settles 1 fs f w.pending.draft (omega arith) h.«open»)
+
+  ends : (joins 1 fs f).0 ≡ [] → IsEndable (settled 1 w.pending).draft
+  ends e =
+      let i : Fits (joins 1 fs f).0 (joins 1 fs f).1 = joins_fits 1 fs f (omega arith) s.2 in
+      endable (settled 1 w.pending).draft (joins 1 fs f).1 (settled_is.«open» ∙ ap (λ gs. lefts_of gs ++ formula_of (joins 1 fs f).1 ∷ []) e) i.form
+      (subst (λ gs. Nests (length (opened_of gs)) (joins 1 fs f).1) e i.nests)
+
+  may_close : MayClose w
+  may_close = record {
+    formula = λ e. ends (no_frames (joins 1 fs f).0 (sym settled_is.operators ∙ e));
+    given = λ e. subst (λ gs. w.item.formula < length gs) (sym settled_is.formulas) (below c w.pending.draft.formulas w.item h.item.1 e);
+  }
+
+  is_whole : (b : Bool) → (may_be_given (state_of (InOperator es q c fs f)) && b) ≡ true → IsWhole w
+  is_whole b e =
+      let m = both (may_be_given (state_of (InOperator es q c fs f))) b e in
+      let none = both (not (list_any is_group (opened_of fs))) (not (is_some c)) m.0 in
+      let all : (joins 1 fs f).0 ≡ [] = all_joined fs f s.3 s.2.frames (not_true (list_any is_group (opened_of fs)) none.0) in
+      record { operators = settled_is.operators ∙ ap operators_of all; formula = ends all }
+
+  may_end : (t : text.Token) → refusal (state_of (InOperator es q c fs f)) t ≡ None → MayEnd w t
+  may_end (Sign Close) r = may_close
+  may_end (Sign Ampersand) r = tt
+  may_end (Sign Bar) r = tt
+  may_end (Sign Arrow) r = tt
+  may_end (Sign DoubleArrow) r = tt
+  may_end (Word u) r = is_whole (is_the_word (codes "given") (Word u)) (passed (state_of (InOperator es q c fs f)) (Word u) r).expected
+  may_end (Number x) r = is_whole false (passed (state_of (InOperator es q c fs f)) (Number x) r).expected
+  may_end (Sign Open) r = is_whole false (passed (state_of (InOperator es q c fs f)) (Sign Open) r).expected
+  may_end (Sign OpenBracket) r = is_whole false (passed (state_of (InOperator es q c fs f)) (Sign OpenBracket) r).expected
+  may_end (Sign CloseBracket) r = is_whole false (passed (state_of (InOperator es q c fs f)) (Sign CloseBracket) r).expected
+  may_end (Sign Comma) r = is_whole false (passed (state_of (InOperator es q c fs f)) (Sign Comma) r).expected
+  may_end (Sign Semicolon) r = is_whole false (passed (state_of (InOperator es q c fs f)) (Sign Semicolon) r).expected
+  may_end (Sign Bang) r = is_whole false (passed (state_of (InOperator es q c fs f)) (Sign Bang) r).expected
+  may_end (Sign Equals) r = is_whole false (passed (state_of (InOperator es q c fs f)) (Sign Equals) r).expected
+  may_end (Sign GreaterEquals) r = is_whole false (passed (state_of (InOperator es q c fs f)) (Sign GreaterEquals) r).expected
+  may_end (Sign LessEquals) r = is_whole false (passed (state_of (InOperator es q c fs f)) (Sign LessEquals) r).expected
+
+-- a number is refused alike wherever one is expected
+number_alike : (t : text.Token) → refusal (outside part.Number) t ≡ refusal (outside part.First) t
+unfolding refusal
+number_alike t = refl
+
+first_sound : (es : List Entry) (p : Prob) (t : text.Token) → AreEntries es × IsProb p → refusal (outside part.First) t ≡ None → IsProbability (number_in t)
+first_sound es p t s r = (steps (InFirst es p) t s r).sound.2
+
+ready : (p : Parse) (t : text.Token) (w : Work) → IsWordKept t → Sound p → Does p w → refusal (state_of p) t ≡ None → IsReady (state_of p).part w t
+ready InPsat t w k s h r = tt
+ready InVersion t w k s h r = tt
+ready InHeadEnd t w k s h r = tt
+ready (InItem es) t w k s h r = tt
+ready (InQueryProb es) t w k s h r = tt
+ready (InTextEnd es) t w k s h r = tt
+ready (InDone es) t w k s h r = tt
+ready (InParen es q) t w k s h r = tt
+ready (InOperand es q c fs) t w k s h r = (have_first fs w.pending h.operators h.«open», is_operand es q c fs t k r)
+ready (InOperator es q c fs f) t w k s h r = (have_all fs f w.pending h.operators h.«open», may_end es q c fs f w s h t r)
+ready (InRelation es p) t w k s h r = tt
+ready (InBracket es p) t w k s h r = tt
+ready (InFirst es p) t w k s h r = first_sound es p t s r
+ready (InNumber es p x) t w k s h r = (h.item.0.below, first_sound es p t (s.0, s.1) (sym (number_alike t) ∙ r))
+ready (InComma es p x) t w k s h r = tt
+ready (InSecond es p x) t w k s h r = (h.item.0.below, (steps (InSecond es p x) t s r).sound.3, is_ratio x w.item.least s.2 h.item.2, h.item.1)
+ready (InBracketEnd es p x y) t w k s h r = tt
+ready (InItemEnd es e) t w k s h r = tt
+
+pub ready_at : (m : Machine) (t : Token) → IsParsed m → IsKept t → refusal m.state (token_of t) ≡ None → IsReady m.state.part m.work (token_of t)
+ready_at m t i k r =
+    let same = i.stands.state in
+    subst (λ s. IsReady s.part m.work (token_of t)) (sym same) (ready i.parse (token_of t) m.work (word_kept t k) i.stands.sound i.stands.work (subst (λ s. refusal s (token_of t) ≡ None) same r))

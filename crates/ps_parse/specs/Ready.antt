@@ -1,0 +1,60 @@
+-- What a draft asks of a token that is to be taken.
+use Rattle.std.specs.Prelude.{◌≡◌, ◌<◌, ℕ, true, false, List, [], bytes_eq, codes, length}
+use Rattle.ps_meaning.specs.Names.{IsName}
+use Rattle.ps_meaning.specs.declared.side.Side.TheVariants as side
+use Rattle.ps_text.specs.Tokens as text
+use Rattle.ps_text.specs.Tokens.{Word, Sign}
+use Rattle.ps_text.specs.declared.symbol.Symbol.TheVariants.{Close, Ampersand, Bar, Arrow, DoubleArrow}
+use Rattle.ps_text.specs.declared.part.Part.{Part}
+use Rattle.ps_text.specs.declared.part.Part.TheVariants as part
+use Rattle.ps_text.specs.Grammar.{IsProbability}
+use Rattle.ps_text.proofs.Parsing.{number_in}
+use Rattle.ps_problem.specs.Drafts.{AreBelow, IsRatio}
+use Rattle.ps_parse.specs.Pending.{settled, HaveFirst, HaveAll, IsEndable}
+use Rattle.ps_parse.specs.Machine.{Work}
+
+-- a word other than `true` and `false` is a name
+abbrev pub IsOperandWord : List ℕ → Type 0
+IsOperandWord w = bytes_eq w (codes "true") ≡ false → bytes_eq w (codes "false") ≡ false → IsName w
+
+abbrev pub IsOperand : text.Token → Type 0
+IsOperand (Word w) = IsOperandWord w
+IsOperand t = Unit {0}
+
+-- a name, a formula and an item more can be counted
+pub record HasRoom (w : Work) : Type 0 where
+  pub names : length w.pending.draft.names < 4294967295
+  pub formulas : length w.pending.draft.formulas < 4294967295
+  pub items : length w.pending.draft.items < 4294967295
+
+-- the item's formulas are in the draft
+abbrev pub IsNumbered : Work → Type 0
+IsNumbered w = AreBelow (length w.pending.draft.formulas) w.item.formula w.item.given
+
+-- all that waits is marked before a formula ends
+pub record IsWhole (w : Work) : Type 0 where
+  pub operators : (settled 1 w.pending).operators ≡ []
+  pub formula : IsEndable (settled 1 w.pending).draft
+
+-- a `)` may end the formula where no `(` is open
+pub record MayClose (w : Work) : Type 0 where
+  pub formula : (settled 1 w.pending).operators ≡ [] → IsEndable (settled 1 w.pending).draft
+  pub given : w.item.conditional ≡ true → w.item.formula < length (settled 1 w.pending).draft.formulas
+
+-- the formula may end where the token ends it
+abbrev pub MayEnd : Work → text.Token → Type 0
+MayEnd w (Sign Close) = MayClose w
+MayEnd w (Sign Ampersand) = Unit {0}
+MayEnd w (Sign Bar) = Unit {0}
+MayEnd w (Sign Arrow) = Unit {0}
+MayEnd w (Sign DoubleArrow) = Unit {0}
+MayEnd w t = IsWhole w
+
+-- the token may be taken at this part
+abbrev pub IsReady : Part → Work → text.Token → Type 0
+IsReady part.Operand w t = HaveFirst w.pending × IsOperand t
+IsReady part.Operator w t = HaveAll w.pending × MayEnd w t
+IsReady part.Number w t = IsNumbered w × IsProbability (number_in t)
+IsReady part.First w t = IsProbability (number_in t)
+IsReady part.Second w t = IsNumbered w × IsProbability (number_in t) × IsRatio w.item.least.num w.item.least.den × (w.item.side ≡ side.AtLeast)
+IsReady p w t = Unit {0}
