@@ -6,5 +6,8 @@ pub mod Quotients
 pub mod WrongSigns
 pub mod StepRuns
 pub mod DualFaults
+pub mod BoundFaults
+pub mod ClaimsInOrder
 pub mod FirstPlaces
 pub mod SingleFaults
+pub mod SmallAnswers

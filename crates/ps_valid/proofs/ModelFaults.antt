@@ -11,7 +11,7 @@ use Rattle.ps_answer.specs.declared.answer.Model.{Model}
 use Rattle.ps_entailment.specs.Answers as claimed
 use Rattle.ps_entailment.specs.Answers.{ShowsConsistent}
 use Rattle.ps_claims.specs.Claims as claims
-use Rattle.ps_claims.specs.Claims.{Claim, Modelled, HasShape, AreFew, IsFirstIn}
+use Rattle.ps_claims.specs.Claims.{Claim, Modelled, HasShape, AreFew, IsFirstIn, model_of as claim_model}
 use Rattle.ps_valid.specs.declared.refusal.Reason.{Reason}
 use Rattle.ps_valid.specs.declared.refusal.Reason.TheVariants.{WrongShape, TooManyWorlds, WeightZero, WorldTwice, TotalWrong, BoundMissed, EvidenceZero, ValueMissed, HeadWrong, MultiplierSign, StepRefused, NotRefuted}
 use Rattle.ps_valid.specs.Answers.{entry_of, entries, model_of}
@@ -20,7 +20,7 @@ use Rattle.ps_valid.specs.Limits.{IsSmallModel}
 use Rattle.ps_valid.specs.Tests.{HaveShape, IsFirstAmong, IsSound, IsFirstAgainst, FindsAgainst}
 use Rattle.ps_valid.proofs.Order.{any_entry, each_entry}
 
-at_least_one : (z : ℤ) → z ≢ pos 0 → pos 0 ≤ℤ z → pos 1 ≤ℤ z
+pub at_least_one : (z : ℤ) → z ≢ pos 0 → pos 0 ≤ℤ z → pos 1 ≤ℤ z
 at_least_one (pos zero) n low = absurd (n refl)
 at_least_one (pos (suc k)) n low = omega (arith, ints)
 at_least_one (negsuc k) n low = absurd (omega (arith, ints))
@@ -50,25 +50,26 @@ low_weights m small = All-map (λ e. pos 0 ≤ℤ e.weight) entry_of m.worlds (�
 model_shape : (p : Parts) (m : claimed.Model) → HaveShape (length p.names) m.worlds → HasShape p (Modelled m)
 model_shape p m shape = record { worlds = shape; rows = tt }
 
-first_modelled : (p : Parts) (m : claimed.Model) (r : Reason) → HasShape p (Modelled m) → IsFirstAgainst p m r → IsFirstIn p (Modelled m) (fault_of r)
-first_modelled p m WrongShape shape f = absurd f
-first_modelled p m TooManyWorlds shape f = (shape, f)
-first_modelled p m (WeightZero n) shape f = (shape, f)
-first_modelled p m (WorldTwice n) shape f = (shape, f)
-first_modelled p m TotalWrong shape f = (shape, f)
-first_modelled p m (BoundMissed n) shape f = (shape, f)
-first_modelled p m EvidenceZero shape f = absurd f
-first_modelled p m ValueMissed shape f = absurd f
-first_modelled p m HeadWrong shape f = absurd f
-first_modelled p m (MultiplierSign n) shape f = absurd f
-first_modelled p m (StepRefused id why) shape f = absurd f
-first_modelled p m NotRefuted shape f = absurd f
+-- the first reason against the model of a claim of the right shape is the first against the claim
+pub first_in_model : (p : Parts) (c : Claim) (m : claimed.Model) (r : Reason) → claim_model c ≡ Some m → HasShape p c → IsFirstAgainst p m r → IsFirstIn p c (fault_of r)
+first_in_model p c m WrongShape is shape f = absurd f
+first_in_model p c m TooManyWorlds is shape f = (shape, rw is f)
+first_in_model p c m (WeightZero n) is shape f = (shape, rw is f)
+first_in_model p c m (WorldTwice n) is shape f = (shape, rw is f)
+first_in_model p c m TotalWrong is shape f = (shape, rw is f)
+first_in_model p c m (BoundMissed n) is shape f = (shape, rw is f)
+first_in_model p c m EvidenceZero is shape f = absurd f
+first_in_model p c m ValueMissed is shape f = absurd f
+first_in_model p c m HeadWrong is shape f = absurd f
+first_in_model p c m (MultiplierSign n) is shape f = absurd f
+first_in_model p c m (StepRefused id why) is shape f = absurd f
+first_in_model p c m NotRefuted is shape f = absurd f
 
 -- what is found against a model whose worlds have the problem's atoms is found against its claim
 pub judged_model : (p : Parts) (m : Model) (found : Option Reason) → IsSmallModel m → HaveShape (length p.names) (entries m.worlds) → FindsAgainst p (model_of m) found
     → FindsReason p (Modelled (model_of m)) found
 judged_model p m None small shape sound = shows p (model_of m) (low_weights m small) shape sound
-judged_model p m (Some r) small shape f = first_modelled p (model_of m) r (model_shape p (model_of m) shape) f
+judged_model p m (Some r) small shape f = first_in_model p (Modelled (model_of m)) (model_of m) r refl (model_shape p (model_of m) shape) f
 
 stable : (m n : ℕ) → ¬ (m ≢ n) → m ≡ n
 stable zero zero s = refl

@@ -95,9 +95,12 @@ rows_small ns ws rows small table = record {
   weights = λ k r lt. rw (weight-at ns ws rows k r table lt) (small.weights k some_world (rw (length-rows ns ws rows table) at lt));
 }
 
+pub have_node : (ns : List Node) (rows : List Row) (n : ℕ) → All (λ r. length r.values.items ≡ length ns) rows → n < length ns → HaveNode rows n
+have_node ns rows n widths there k r lt = rw (widths k r lt) there
+
 pub have_given : (ns : List Node) (rows : List Row) (given : Option ℕ) → All (λ r. length r.values.items ≡ length ns) rows → IfSome given (λ g. g < length ns) → IfSome given (HaveNode rows)
 have_given ns rows None widths there = tt
-have_given ns rows (Some g) widths there = λ k r lt. rw (widths k r lt) there
+have_given ns rows (Some g) widths there = have_node ns rows g widths there
 
 pub rows_cover : (ns : List Node) (rows : List Row) (bs : List Bound) → All (λ r. length r.values.items ≡ length ns) rows → AreBounds ns bs → All (Covers rows) bs
 rows_cover ns rows bs widths bounds k b lt = let bound = bounds k b lt in record {

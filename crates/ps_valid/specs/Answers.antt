@@ -1,5 +1,6 @@
 -- What an answer claims: its models as entries, its duals, and its parts without their causes and traces.
 use Rattle.std.specs.Prelude.{List, map}
+use Rattle.ps_problem.specs.Problems.{Parts}
 use Rattle.ps_meaning.specs.Distribution.{Entry}
 use Rattle.ps_answer.specs.declared.answer.Weighted.{Weighted}
 use Rattle.ps_answer.specs.declared.answer.Model.{Model}
@@ -14,6 +15,7 @@ use Rattle.ps_answer.specs.declared.answer.Answer.{Answer}
 use Rattle.ps_certificate.specs.Certificates.{dual_of}
 use Rattle.ps_entailment.specs.Answers as claimed
 use Rattle.ps_claims.specs.Duals.{Dual}
+use Rattle.ps_claims.specs.Validity.{IsRightFor}
 
 abbrev pub entry_of : Weighted → Entry
 entry_of w = record { weight = w.weight; world = w.world }
@@ -46,3 +48,7 @@ parts_of parts = map (λ part. part_of part.answer) parts
 -- the answer of which claims speak
 abbrev pub answer_of : Answer → claimed.Answer Dual
 answer_of a = record { verdict = verdict_of a.verdict; parts = parts_of a.parts }
+
+-- the answer is right: so are its verdict and each of its parts, of the problem's bounds and queries
+abbrev pub IsRightOf : Parts → Answer → Type 0
+IsRightOf p a = IsRightFor p (answer_of a)

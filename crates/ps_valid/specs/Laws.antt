@@ -1,5 +1,11 @@
--- Laws of refusals.
-use Rattle.std.specs.Prelude.{◌≡◌}
+-- Laws of refusals and of limits.
+use Rattle.std.specs.Prelude.{◌≡◌, ℕ, List}
+use Rattle.std.specs.List.{AllByRecursion}
+use Rattle.ps_answer.specs.declared.answer.Answer as found
+use Rattle.ps_answer.specs.Items.{IsProper, IsWithin}
+use Rattle.ps_answer.specs.Answers.{answer_items}
+use Rattle.ps_answer.specs.Faults.{IsReport}
+use Rattle.ps_valid.specs.Limits.{IsSmallAnswer}
 use Rattle.ps_problem.specs.Problems.{Parts}
 use Rattle.ps_entailment.specs.Answers.{Answer}
 use Rattle.ps_claims.specs.Duals.{Dual}
@@ -8,3 +14,11 @@ use Rattle.ps_claims.specs.Claims.{Place, Fault, IsRefused}
 -- an answer is refused for one fault at one place
 abbrev pub RefusalsAreSingle : Type 0
 RefusalsAreSingle = (p : Parts) (a : Answer Dual) (place other : Place) (f g : Fault) → IsRefused p a place f → IsRefused p a other g → (place ≡ other) × (f ≡ g)
+
+-- where each line of an answer is within the limits and has the signs that it asks, the answer is within those of a check
+abbrev pub AnswersWithinAreSmall : Type 0
+AnswersWithinAreSmall = (a : found.Answer) → AllByRecursion (λ i. IsProper i × IsWithin i) (answer_items a) → IsSmallAnswer a
+
+-- so is each answer of a report
+abbrev pub ReportsAreSmall : Type 0
+ReportsAreSmall = (bytes : List ℕ) (a : found.Answer) → IsReport bytes a → IsSmallAnswer a

@@ -3,7 +3,9 @@ pub mod Answers
 pub mod Judged
 pub mod Limits
 pub mod Laws
--- Bridge: what the tests of a model and of a dual find, and a distribution by the truth of each node
+-- Bridge: what is found of some claims in their order, what the tests of a model and of a dual find, and a distribution by
+-- the truth of each node
+pub mod ClaimLists
 pub mod Tests
 pub mod Signs
 pub mod Rows

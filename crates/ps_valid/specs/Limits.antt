@@ -1,7 +1,15 @@
--- The limits of an answer's numbers.
+-- The limits of an answer's numbers. Those of a report's text are within them.
 use Rattle.std.specs.Prelude.{ℕ, ℤ, pos, ◌≤◌, ◌≤ℤ◌, ◌^◌, List, length, All}
 use Rattle.ps_answer.specs.declared.answer.Weighted.{Weighted}
 use Rattle.ps_answer.specs.declared.answer.Model.{Model}
+use Rattle.ps_answer.specs.declared.answer.Verdict.{Verdict}
+use Rattle.ps_answer.specs.declared.answer.Verdict.TheVariants.{Consistent, Inconsistent, Open}
+use Rattle.ps_answer.specs.declared.answer.SideAnswer.{SideAnswer}
+use Rattle.ps_answer.specs.declared.answer.SideAnswer.TheVariants as side
+use Rattle.ps_answer.specs.declared.answer.QueryAnswer.{QueryAnswer}
+use Rattle.ps_answer.specs.declared.answer.QueryAnswer.TheVariants as query
+use Rattle.ps_answer.specs.declared.answer.Answer.{Answer}
+use Rattle.ps_certificate.specs.Certificates.{IsSmallDual}
 
 -- the most that a total or a weight is
 abbrev pub most_weight : ℕ
@@ -25,3 +33,22 @@ pub record AreSmall (ws : List Weighted) : Type 0 where
 pub record IsSmallModel (m : Model) : Type 0 where
   pub total : IsSmall m.total
   pub worlds : AreSmall m.worlds
+
+abbrev pub IsSmallVerdict : Verdict → Type 0
+IsSmallVerdict (Consistent m) = IsSmallModel m
+IsSmallVerdict (Inconsistent d) = IsSmallDual d
+IsSmallVerdict (Open cause) = Unit {0}
+
+abbrev pub IsSmallSide : SideAnswer → Type 0
+IsSmallSide (side.Bound value m d) = IsSmallModel m × IsSmallDual d
+IsSmallSide (side.Open cause) = Unit {0}
+
+abbrev pub IsSmallPart : QueryAnswer → Type 0
+IsSmallPart (query.Bounds lower lower_trace upper upper_trace) = IsSmallSide lower × IsSmallSide upper
+IsSmallPart (query.Impossible d) = IsSmallDual d
+IsSmallPart (query.Open cause) = Unit {0}
+
+-- each model and dual of an answer is within these limits
+pub record IsSmallAnswer (a : Answer) : Type 0 where
+  pub verdict : IsSmallVerdict a.verdict
+  pub parts : All (λ part. IsSmallPart part.answer) a.parts

@@ -1,10 +1,15 @@
 -- What the tests of a model find.
-use Rattle.std.specs.Prelude.{ℕ, ◌≡◌, List, All, Option, MatchOption, length}
-use Rattle.ps_meaning.specs.Distribution.{Entry}
-use Rattle.ps_meaning.specs.Bounds.{MeetsAll}
+use Rattle.std.specs.Prelude.{ℕ, ℤ, ◌≡◌, List, All, Option, MatchOption, length}
+use Rattle.ps_meaning.specs.declared.side.Side.TheVariants.{Exactly}
+use Rattle.ps_meaning.specs.Distribution.{Entry, weight}
+use Rattle.ps_meaning.specs.Bounds.{MeetsBound, MeetsAll}
 use Rattle.ps_problem.specs.declared.bound.Bound.{Bound}
-use Rattle.ps_problem.specs.Problems.{Parts, bounds_of}
+use Rattle.ps_problem.specs.declared.query.Query.{Query}
+use Rattle.ps_problem.specs.Problems.{Parts, bounds_of, given_at}
+use Rattle.ps_rational.specs.Rational.{Rational}
+use Rattle.ps_entailment.specs.Queries.{bound_on}
 use Rattle.ps_entailment.specs.Answers.{Model}
+use Rattle.ps_claims.specs.Validity.{query_of}
 use Rattle.ps_claims.specs.Claims.{AreInOrder, IsWeightless, IsRepeated, MissesFirst, AreFew, HasTotal}
 use Rattle.ps_valid.specs.declared.refusal.Reason.{Reason}
 use Rattle.ps_valid.specs.declared.refusal.Reason.TheVariants.{TooManyWorlds, WeightZero, WorldTwice, TotalWrong, BoundMissed}
@@ -55,3 +60,11 @@ IsFirstAgainst p m other = ⊥
 -- the reason is the first against such a model, and there is none where nothing is wrong with it
 abbrev pub FindsAgainst : Parts → Model → Option Reason → Type 0
 FindsAgainst p m found = MatchOption found (IsSound p m) (IsFirstAgainst p m)
+
+-- the weight that a model gives a query's evidence
+abbrev pub evidence_weight : Parts → Query → Model → ℤ
+evidence_weight p q m = weight m.worlds (given_at p.nodes q.given)
+
+-- a model gives a query the value
+abbrev pub GivesValue : Parts → Query → Rational → Model → Type 0
+GivesValue p q value m = MeetsBound (bound_on (query_of p.nodes q) Exactly value) m.worlds

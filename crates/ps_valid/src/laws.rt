@@ -1,7 +1,14 @@
 //! Laws about the definitions: a call does nothing, and its clauses are the law.
 ghost use Rattle.ps_valid.specs.Laws.{RefusalsAreSingle};
+ghost use Rattle.ps_valid.specs.Laws.{AnswersWithinAreSmall, ReportsAreSmall};
 
 /// An answer is refused for at most one fault, at one place.
 pub fn refusals_are_single()
     ensures single { RefusalsAreSingle }
+{}
+
+/// The answer of a report is within the limits that the check asks, and so is each one whose lines are within a report's.
+pub fn reports_are_small()
+    ensures answer { AnswersWithinAreSmall }
+    ensures report { ReportsAreSmall }
 {}

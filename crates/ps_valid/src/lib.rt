@@ -1,6 +1,8 @@
 //! The check of an answer's claims: each is valid, or the first that isn't is named with its first fault.
 #![tactic(auto)]
 
+mod bounded;
+mod checking;
 mod laws;
 mod limits;
 mod meeting;
@@ -13,7 +15,9 @@ mod steps;
 mod truth;
 mod weighing;
 
-pub use laws::refusals_are_single;
+pub use bounded::check_bound;
+pub use checking::check;
+pub use laws::{refusals_are_single, reports_are_small};
 pub use limits::{MOST_WEIGHT, MOST_WORLDS};
 pub use modelled::check_model;
 pub use refusal::{Accepted, CheckError, Claim, Reason, Refusal};

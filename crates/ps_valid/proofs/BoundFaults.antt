@@ -1,0 +1,105 @@
+-- The first reason against a bound of a query, and the claim that it makes.
+use Rattle.std.proofs.Common.{◌≡◌, ◌≢◌, ℕ, ◌<◌, ◌*◌, ◌^◌, ℤ, pos, ◌≤ℤ◌, ◌*ℤ◌, Option, Some, None, Result, Ok, Err, List, length, map, All, refl, sym, ap, ◌∙◌, arith}
+use Rattle.std.specs.Prelude.{◌↔◌, IfOk}
+use Rattle.std.proofs.lemmas.Int.{ints}
+use Rattle.std.proofs.lemmas.List.{length-map}
+use Rattle.ps_meaning.specs.Formula.{Atom}
+use Rattle.ps_meaning.specs.declared.side.Side.TheVariants.{Exactly}
+use Rattle.ps_meaning.specs.Distribution.{Entry, weight}
+use Rattle.ps_meaning.specs.Bounds.{MeetsBound, MeetsAll}
+use Rattle.ps_meaning.proofs.Weights.{weight-nonneg}
+use Rattle.ps_formula.specs.declared.node.Node.{Node}
+use Rattle.ps_problem.specs.declared.query.Query.{Query}
+use Rattle.ps_problem.specs.Problems.{Parts, bound_of, bounds_in, bounds_of, given_at, HasNodes}
+use Rattle.ps_rational.specs.Rational.{Rational}
+use Rattle.ps_rational.proofs.IntRing.{*ℤ_comm}
+use Rattle.ps_entailment.specs.Queries.{bound_on}
+use Rattle.ps_entailment.specs.Answers as claimed
+use Rattle.ps_entailment.specs.Answers.{ShowsConsistent}
+use Rattle.ps_claims.specs.declared.claim_kind.ClaimKind.{ClaimKind}
+use Rattle.ps_claims.specs.Duals.{Dual}
+use Rattle.ps_claims.specs.Faults.{IsFaultless}
+use Rattle.ps_claims.specs.Validity.{query_of, ShowsTight}
+use Rattle.ps_claims.specs.Claims as claims
+use Rattle.ps_claims.specs.Claims.{Claim, Bounded, HasShape, IsModelRight, IsFirstIn}
+use Rattle.ps_valid.specs.declared.refusal.Reason.{Reason}
+use Rattle.ps_valid.specs.declared.refusal.Reason.TheVariants.{WrongShape, EvidenceZero, ValueMissed}
+use Rattle.ps_valid.specs.Judged.{fault_of, FindsReason}
+use Rattle.ps_valid.specs.Rows.{over_nodes}
+use Rattle.ps_valid.specs.Signs.{IsFirstOfDual, FindsInDual}
+use Rattle.ps_valid.specs.Tests.{HaveShape, IsSound, IsFirstAgainst, evidence_weight, GivesValue}
+use Rattle.ps_valid.proofs.ModelFaults.{at_least_one, shows, first_in_model}
+use Rattle.ps_valid.proofs.Tables.{weight-node, weight-both}
+
+-- a value over the evidence's weight, by the truth of each node
+pub value_given : (ns : List Node) (d : List Entry) (q : Query) (value : Rational) (b e : ℤ) → HasNodes ns q.formula q.given q.both → b ≡ weight (map (over_nodes ns) d) (Atom q.both) → e ≡ weight d (given_at ns q.given)
+    → ((b *ℤ pos value.under) ≡ (value.over *ℤ e)) ↔ MeetsBound (bound_on (query_of ns q) Exactly value) d
+value_given ns d q value b e nodes both evidence =
+    let same = both ∙ weight-node ns d q.both nodes.both_there ∙ weight-both ns d q.formula q.given q.both nodes.both_is in (
+      λ h. ap (λ x. pos value.under *ℤ x) (sym same) ∙ *ℤ_comm (pos value.under) b ∙ h ∙ ap (λ x. value.over *ℤ x) evidence,
+      λ h. *ℤ_comm b (pos value.under) ∙ ap (λ x. pos value.under *ℤ x) same ∙ h ∙ ap (λ x. value.over *ℤ x) (sym evidence),
+    )
+
+module _ (p : Parts) (kind : ClaimKind) (q : Query) (value : Rational) (m : claimed.Model) (d : Dual) where
+  abbrev claim : Claim
+  claim = Bounded kind q value m d
+
+  -- worlds of another shape, or multipliers of another number
+  pub worlds_wrong : ¬ HaveShape (length p.names) m.worlds → FindsReason p claim (Some WrongShape)
+  worlds_wrong other = λ shape. other shape.worlds
+
+  pub multipliers_wrong : length d.rows ≢ length (bounds_in p.sentences) → FindsReason p claim (Some WrongShape)
+  multipliers_wrong other = λ shape. other (shape.rows ∙ length-map (bounds_in p.sentences) (bound_of p.nodes))
+
+  bound_shape : HaveShape (length p.names) m.worlds → length d.rows ≡ length (bounds_in p.sentences) → HasShape p claim
+  bound_shape worlds rows = record { worlds = worlds; rows = rows ∙ sym (length-map (bounds_in p.sentences) (bound_of p.nodes)) }
+
+  pub model_wrong : (r : Reason) → HaveShape (length p.names) m.worlds → length d.rows ≡ length (bounds_in p.sentences) → IsFirstAgainst p m r → FindsReason p claim (Some r)
+  model_wrong r worlds rows f = first_in_model p claim m r refl (bound_shape worlds rows) f
+
+  pub evidence_wrong : HaveShape (length p.names) m.worlds → length d.rows ≡ length (bounds_in p.sentences) → IsSound p m → evidence_weight p q m ≡ pos 0 → FindsReason p claim (Some EvidenceZero)
+  evidence_wrong worlds rows sound none = (bound_shape worlds rows, (sound.few, sound.order, sound.total, sound.met), λ some. some none)
+
+  pub value_wrong : HaveShape (length p.names) m.worlds → length d.rows ≡ length (bounds_in p.sentences) → IsSound p m → evidence_weight p q m ≢ pos 0 → ¬ GivesValue p q value m → FindsReason p claim (Some ValueMissed)
+  value_wrong worlds rows sound some other = (bound_shape worlds rows, (sound.few, sound.order, sound.total, sound.met), some, other)
+
+  model_right : HasShape p claim → IsSound p m → evidence_weight p q m ≢ pos 0 → GivesValue p q value m → IsModelRight p claim
+  model_right shape sound some gives = record { shape = shape; few = sound.few; order = sound.order; total = sound.total; met = sound.met; evidence = some; value = gives }
+
+  first_bounded : (f : claims.Fault) → IsModelRight p claim → IsFirstOfDual p kind q.given q.both (Some value) d f → IsFirstIn p claim f
+  first_bounded claims.WrongShape right h = absurd h
+  first_bounded claims.TooManyWorlds right h = absurd h
+  first_bounded claims.TotalWrong right h = absurd h
+  first_bounded claims.EvidenceZero right h = absurd h
+  first_bounded claims.ValueMissed right h = absurd h
+  first_bounded (claims.WeightZero n) right h = absurd h
+  first_bounded (claims.WorldTwice n) right h = absurd h
+  first_bounded (claims.BoundMissed n) right h = absurd h
+  first_bounded (claims.DualWrong g) right h = (right, h)
+
+  tight : All (λ e. pos 0 ≤ℤ e.weight) m.worlds → IsModelRight p claim → IsFaultless p kind q.given q.both (Some value) d → IsSound p m → ShowsTight p kind q value m d
+  tight low right faultless sound =
+      let shown : ShowsConsistent (length p.names) (bounds_of p) m = shows p m low right.shape.worlds sound in
+      record {
+        reached = record {
+          allowed = record {
+            model = shown.model;
+            positive = at_least_one (evidence_weight p q m) right.evidence (weight-nonneg m.worlds (given_at p.nodes q.given) shown.model.distribution.weighed);
+          };
+          equal = right.value;
+        };
+        small = shown.small;
+        head = faultless.head;
+        refuted = faultless.refuted;
+      }
+
+  -- what is found against the dual of a bound whose model is right is found against its claim
+  pub judged_bound : (found : Option Reason) → All (λ e. pos 0 ≤ℤ e.weight) m.worlds → HaveShape (length p.names) m.worlds → length d.rows ≡ length (bounds_in p.sentences) → IsSound p m
+      → evidence_weight p q m ≢ pos 0 → GivesValue p q value m → FindsInDual p kind q.given q.both (Some value) d found → FindsReason p claim found
+  judged_bound None low worlds rows sound some gives faultless = tight low (model_right (bound_shape worlds rows) sound some gives) faultless sound
+  judged_bound (Some r) low worlds rows sound some gives first = first_bounded (fault_of r) (model_right (bound_shape worlds rows) sound some gives) first
+
+  pub bound_found : {E : Type 0} (result : Result (Option Reason) E) → All (λ e. pos 0 ≤ℤ e.weight) m.worlds → HaveShape (length p.names) m.worlds → length d.rows ≡ length (bounds_in p.sentences) → IsSound p m
+      → evidence_weight p q m ≢ pos 0 → GivesValue p q value m → IfOk result (FindsInDual p kind q.given q.both (Some value) d) → IfOk result (FindsReason p claim)
+  bound_found (Ok found) low worlds rows sound some gives h = judged_bound found low worlds rows sound some gives h
+  bound_found (Err e) low worlds rows sound some gives h = tt
