@@ -1,7 +1,6 @@
 -- What is found over the nodes' variables, as what it says of worlds, and the ends of phases as valid claims.
-use Rattle.std.proofs.Common.{◌≡◌, ◌<◌, ℕ, ℤ, pos, ◌≤ℤ◌, neg_ℤ, Bool, Option, Some, None, List, length, sym, refl, ap, ◌∙◌, subst}
+use Rattle.std.proofs.Common.{◌≡◌, ℕ, ℤ, pos, ◌≤ℤ◌, neg_ℤ, Bool, Option, Some, None, List, length, sym, refl, ap, ◌∙◌, subst}
 use Rattle.ps_meaning.specs.Formula.{World}
-use Rattle.ps_meaning.specs.Bounds as meaning
 use Rattle.ps_rational.specs.Rational.{Rational}
 use Rattle.ps_rule.specs.Rule.{IsFeasible, IsResting}
 use Rattle.ps_formula.specs.declared.node.Node.{Node}
@@ -20,14 +19,13 @@ use Rattle.ps_problem.specs.Problems.{Parts, AreParts, bounds_in, bounds_of}
 use Rattle.ps_entailment.specs.Answers.{ShowsConsistent}
 use Rattle.ps_claims.specs.declared.claim_kind.ClaimKind.{ClaimKind}
 use Rattle.ps_claims.specs.declared.claim_kind.ClaimKind.TheVariants.{Nothing, Lower, Upper}
-use Rattle.ps_claims.specs.declared.combination.Combination.{Combination}
-use Rattle.ps_claims.specs.Duals.{Dual, combination, HaveSigns, HasNothingHead}
+use Rattle.ps_claims.specs.Duals.{Dual, combination, HaveSigns}
 use Rattle.ps_claims.specs.Goals.{value_under, plus, at_node, at_condition, rows_times, claimed_of, combination_of, goal_of}
 use Rattle.ps_claims.specs.Validity.{IsRefuted, ShowsNothing}
 use Rattle.ps_claims.proofs.NodeSums.{value-nothing, value-claimed, value-combination}
 use Rattle.ps_runs.specs.Rows.{stage_of, IsTable}
 use Rattle.ps_runs.specs.Certificates.{table_model, HaveSameNumbers}
-use Rattle.ps_runs.specs.Runs.{Subject, setting_of, asked_in, given_in, both_in, IsAsked, atoms_of, combination_over, goal_at_least, Stage, IsPool, table_at, costs_at, dual_at, gain_at, AreAtMost}
+use Rattle.ps_runs.specs.Runs.{Subject, setting_of, asked_in, given_in, both_in, IsAsked, atoms_of, combination_over, goal_at_least, Stage, IsPool, table_at, costs_at, dual_at, AreAtMost}
 use Rattle.ps_runs.proofs.Resting.{rest_signs}
 use Rattle.ps_runs.proofs.Shown.{allowed_at_end, small_at_end, nothing_head}
 

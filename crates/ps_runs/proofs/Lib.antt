@@ -13,3 +13,4 @@ pub mod Shown
 pub mod Totals
 pub mod Composed
 pub mod Certified
+pub mod Tight

@@ -1,10 +1,8 @@
 -- The weights by rows sum to the model's total.
-use Rattle.std.proofs.Common.{◌≡◌, ℕ, zero, suc, ◌+◌, ◌<◌, ◌≤◌, ℤ, pos, Bool, true, false, cond, ltb, lt-ltb, List, [], ◌∷◌, length, get_or, sym, refl, ap, ◌∙◌, subst, arith, inl, inr}
-use Rattle.std.proofs.lemmas.Int.{ints}
+use Rattle.std.proofs.Common.{◌≡◌, ℕ, suc, ◌+◌, ◌<◌, pos, Bool, true, false, cond, ltb, lt-ltb, List, [], ◌∷◌, length, get_or, sym, refl, ap, ◌∙◌, subst, arith}
 use Rattle.std.proofs.lemmas.Bool.{le-ltb}
 use Rattle.std.specs.Int.{◌∣◌}
 use Rattle.ps_rational.specs.Rational.{Rational, whole, add, mul, zero_q, one_q}
-use Rattle.ps_rational.specs.Order.{IsNonneg}
 use Rattle.ps_rational.specs.Sums.{sum_to, int_sum_to}
 use Rattle.ps_rational.proofs.Ring.{var, plus, by, none, unit}
 use Rattle.ps_rational.proofs.Field.{ring_q, zero_is_fraction, one_is_fraction}
@@ -12,7 +10,7 @@ use Rattle.ps_rational.proofs.Sums.{sum_same, sum_scale, sum_of_zeros, sum_split
 use Rattle.ps_rational.proofs.Whole.{whole_sum}
 use Rattle.ps_meaning.specs.Formula.{World, Truth}
 use Rattle.ps_meaning.specs.Distribution.{total}
-use Rattle.ps_meaning.specs.Rows.{indicator, weighted_sum}
+use Rattle.ps_meaning.specs.Rows.{indicator}
 use Rattle.ps_meaning.proofs.Rows.{weighted_sum-indicator}
 use Rattle.ps_rule.specs.Rule.{SimplexTable}
 use Rattle.ps_runs.specs.Rows.{Setting, rows_of, width_of, table_of, IsTable}

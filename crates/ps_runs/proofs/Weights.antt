@@ -6,12 +6,10 @@ use Rattle.std.proofs.lemmas.List.Elements.{All-nil, All-append, All-cons}
 use Rattle.std.proofs.Math.Nat.{mul-pos}
 use Rattle.std.specs.Int.{◌∣◌}
 use Rattle.ps_rational.specs.Parts.{part_pos}
-use Rattle.ps_rational.specs.Rational.{Rational, at_least_one, whole, add, mul, zero_q}
+use Rattle.ps_rational.specs.Rational.{Rational, whole, add, mul, zero_q}
 use Rattle.ps_rational.specs.Order.{IsNonneg}
 use Rattle.ps_rational.specs.Sums.{sum_to}
-use Rattle.ps_rational.proofs.IntRing.{*ℤ_cancel}
 use Rattle.ps_rational.proofs.Ring.{var, plus, by, none}
-use Rattle.ps_rational.proofs.Cross.{quotient_cross}
 use Rattle.ps_rational.proofs.Field.{ring_q, over_is_zero, zero_is_fraction}
 use Rattle.ps_rational.proofs.Whole.{whole-add, whole-mul}
 use Rattle.ps_meaning.specs.Formula.{World}

@@ -1,5 +1,5 @@
 -- The whole numbers that certify an answer: duals, from the multipliers of a table, and models, from its values.
-use Rattle.std.specs.Prelude.{◌≡◌, ℕ, zero, suc, ◌+◌, ℤ, pos, neg_ℤ, ◌≤ℤ◌, Bool, true, false, cond, if◌then◌else◌, List, [], ◌∷◌, ◌++◌, length, get_or, negsuc}
+use Rattle.std.specs.Prelude.{◌≡◌, ℕ, zero, suc, ◌+◌, ℤ, pos, neg_ℤ, Bool, true, false, cond, if◌then◌else◌, List, [], ◌∷◌, ◌++◌, length, get_or, negsuc}
 use Rattle.std.proofs.Common.{eqb}
 use Rattle.ps_rational.specs.Rational.{Rational, whole, mul, zero_q}
 use Rattle.ps_rational.specs.Scaled.{scaled}

@@ -1,5 +1,5 @@
 -- Laws of runs.
-use Rattle.std.specs.Prelude.{◌≡◌, ◌≢◌, ◌⊎◌, ◌↔◌, Option, ℕ, ◌+◌, ◌-◌, ◌<◌, ◌≤◌, ℤ, pos, ◌<ℤ◌, ◌≤ℤ◌, ◌*ℤ◌, cond, Bool, List, [], ◌∷◌, ◌++◌, length, get_or}
+use Rattle.std.specs.Prelude.{◌≡◌, ◌≢◌, ◌⊎◌, ◌↔◌, Option, ℕ, ◌+◌, ◌<◌, ◌≤◌, ℤ, pos, ◌<ℤ◌, ◌≤ℤ◌, ◌*ℤ◌, cond, Bool, List, [], ◌∷◌, ◌++◌, length, get_or}
 use Rattle.ps_rational.specs.Rational.{Rational, whole, mul, sub, neg, zero_q, one_q}
 use Rattle.ps_rational.specs.Order.{IsLess, IsNonneg}
 use Rattle.ps_rational.specs.Sums.{int_sum_to}
@@ -12,16 +12,17 @@ use Rattle.ps_table.specs.Places.{weight_at}
 use Rattle.ps_steps.specs.Steps.{Refutes}
 use Rattle.ps_forms.specs.Forms.{form_of, first_known, MeetsForm}
 use Rattle.ps_forms.specs.Extensions.{extension}
-use Rattle.ps_problem.specs.Problems.{AreParts, bounds_of}
+use Rattle.ps_problem.specs.declared.query.Query as stored
+use Rattle.ps_problem.specs.Problems.{Parts, AreParts, bounds_of}
 use Rattle.ps_entailment.specs.Queries.{IsAllowed}
 use Rattle.ps_entailment.specs.Answers.{IsSmall, ShowsConsistent}
 use Rattle.ps_claims.specs.declared.claim_kind.ClaimKind.{ClaimKind}
 use Rattle.ps_claims.specs.declared.claim_kind.ClaimKind.TheVariants.{Nothing, Lower, Upper}
-use Rattle.ps_claims.specs.Duals.{Dual, combination, HaveSigns, HasNothingHead}
+use Rattle.ps_claims.specs.Duals.{Dual, combination, HaveSigns, HasNothingHead, HasValueHead}
 use Rattle.ps_claims.specs.Goals.{value_under}
-use Rattle.ps_claims.specs.Validity.{IsRefuted, ShowsNothing}
+use Rattle.ps_claims.specs.Validity.{IsRefuted, ShowsNothing, ShowsTight}
 use Rattle.ps_runs.specs.Rows.{Setting, both_of, stage_of, artificial_of, rows_of, columns_of, width_of, world_cost, cost_of, table_of, IsTable}
-use Rattle.ps_runs.specs.Runs.{Subject, setting_of, given_in, both_in, IsAsked, atoms_of, combination_over, goal_at_least, Stage, IsPool, table_at, costs_at, dual_at, AreAtMost, LeadsTo, LeadsToPending, pivots_in}
+use Rattle.ps_runs.specs.Runs.{Subject, subject_of, setting_of, given_in, both_in, IsAsked, atoms_of, combination_over, goal_at_least, Stage, IsPool, table_at, costs_at, dual_at, AreAtMost, LeadsTo, LeadsToPending, pivots_in}
 use Rattle.ps_runs.specs.Certificates.{HaveSameNumbers, table_dual, combination_at, multiple_of, price, weighted_worlds, table_model}
 
 -- the combination of a table's dual in a world is a positive multiple of what the multipliers price the world's column above
@@ -109,7 +110,8 @@ pub record GainsAreValues : Type 0 where
       → AreAtMost kind s g X most
 
 -- a dual with the numbers of a resting table, whose steps refute that its combination is at least 1, is refuted; in phase one it
--- shows that nothing is allowed; and the model of a feasible table shows that the bounds are consistent
+-- shows that nothing is allowed, and in a side, with the model of the table, that the value is tight; and the model of a feasible
+-- table shows that the bounds are consistent
 pub record EndsAreValid : Type 0 where
   pub refuted : (kind : ClaimKind) (s : Subject) (g : Stage) (X : ℕ → ℕ → Rational) (d : Dual) → HaveSameNumbers d (dual_at kind s g X)
       → IsResting (stage_of kind) (table_at s g X) (costs_at kind s g)
@@ -119,5 +121,11 @@ pub record EndsAreValid : Type 0 where
       → IsTable (setting_of s) g.pool g.basis X → IsResting (stage_of Nothing) (table_at s g X) (costs_at Nothing s g)
       → Refutes (length s.parts.nodes) (first_known (form_of s.parts.nodes) (goal_at_least (pos 1) Nothing s (dual_at Nothing s g X))) d.steps
       → ShowsNothing s.parts (given_in s.query) d
+  pub tight : (kind : ClaimKind) (p : Parts) (q : stored.Query) (g : Stage) (X : ℕ → ℕ → Rational) (value : Rational) (d : Dual) → kind ≢ Nothing
+      → HaveSameNumbers d (dual_at kind (subject_of p q) g X) → HasValueHead value d
+      → IsTable (setting_of (subject_of p q)) g.pool g.basis X → IsFeasible (table_at (subject_of p q) g X) → IsPool (length p.names) g.pool
+      → IsResting (stage_of kind) (table_at (subject_of p q) g X) (costs_at kind (subject_of p q) g)
+      → Refutes (length p.nodes) (first_known (form_of p.nodes) (goal_at_least (pos 1) kind (subject_of p q) (dual_at kind (subject_of p q) g X))) d.steps
+      → ShowsTight p kind q value (table_model (table_at (subject_of p q) g X) g.pool) d
   pub consistent : (s : Subject) (g : Stage) (X : ℕ → ℕ → Rational) → IsTable (setting_of s) g.pool g.basis X → IsFeasible (table_at s g X)
       → IsPool (atoms_of s) g.pool → ShowsConsistent (atoms_of s) (bounds_of s.parts) (table_model (table_at s g X) g.pool)

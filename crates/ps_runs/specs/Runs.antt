@@ -34,6 +34,14 @@ pub record Subject : Type 0 where
   pub parts : Parts
   pub query : Option stored.Query
 
+-- a query of the problem
+abbrev pub subject_of : Parts → stored.Query → Subject
+subject_of p q = record { parts = p; query = Some q }
+
+-- the problem's sentences alone
+abbrev pub sentences_of : Parts → Subject
+sentences_of p = record { parts = p; query = None }
+
 -- the sure query, where there is none
 abbrev pub asked_in : Parts → Option stored.Query → Query
 asked_in p None = record { formula = Truth; evidence = Truth }

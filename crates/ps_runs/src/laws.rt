@@ -50,7 +50,8 @@ pub fn gains()
 
 /// The model of a table at which phase one is due to end shows that the bounds are consistent. A
 /// dual with the numbers of a resting table, whose steps refute that its combination is at least 1,
-/// is a valid one; in phase one it shows that nothing is allowed.
+/// is a valid one; in phase one it shows that nothing is allowed, and in a side, with the model of
+/// the table, that head over top is tight.
 pub fn valid_ends()
     ensures valid { EndsAreValid }
 {}
