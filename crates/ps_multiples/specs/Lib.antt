@@ -1,0 +1,4 @@
+-- Meaning
+pub mod Multiples
+-- Bridge: what the code has gone through so far
+pub mod Rows
