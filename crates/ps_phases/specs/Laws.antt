@@ -15,6 +15,8 @@ use Rattle.ps_bland.specs.Ends.{IsDueWide}
 use Rattle.ps_bland.specs.Ready.{HasValues, IsReady}
 use Rattle.ps_bland.specs.Runs as bland
 use Rattle.ps_answer.specs.declared.answer.Cause.TheVariants.{Wide}
+use Rattle.ps_answer.specs.declared.answer.SideAnswer.{SideAnswer}
+use Rattle.ps_answer.specs.declared.answer.SideAnswer.TheVariants as side
 use Rattle.ps_answer.specs.declared.answer.Verdict.{Verdict}
 use Rattle.ps_answer.specs.declared.answer.Verdict.TheVariants.{Open}
 use Rattle.ps_claims.specs.declared.claim_kind.ClaimKind.{ClaimKind}
@@ -23,7 +25,7 @@ use Rattle.ps_runs.specs.Rows.{Setting, world_cost, table_of, entries_of, IsTabl
 use Rattle.ps_runs.specs.Runs.{Subject, setting_of, atoms_of, Stage, IsStart, IsPool, IsMovingAt, IsRestingAt, IsFeasibleAt, IsPricedBy, LeadsTo, LeadsToPending, pivots_in}
 use Rattle.ps_phases.specs.Tables.{phase_of, homes_of, costs_for, IsRunTable, stage_at, IsUnderWay}
 use Rattle.ps_phases.specs.Licences.{IsModelDue, IsTooWide, IsColumnTooWide}
-use Rattle.ps_phases.specs.Verdicts.{IsVerdictAt, IsLawfulPhaseOne}
+use Rattle.ps_phases.specs.Verdicts.{IsVerdictAt, IsLawfulPhaseOne, IsSideAt, IsLawfulSide}
 
 -- a new table of the homes is one of the run, at its start
 pub record NewTablesStart : Type 0 where
@@ -112,6 +114,17 @@ pub record PhaseOneEndsLawfully : Type 0 where
       → IsStart s from → IsUnderWay Nothing s conflicts from pivots [] pool t trace left
       → (w : World) (at : WideAt) → IsPricedBy Nothing s conflicts (stage_at pool t) (entry_at t) w → IsColumnTooWide s (stage_at pool t) w at
       → IsLawfulPhaseOne s pivots conflicts (Open (Wide at)) (trace ++ Priced w ∷ [])
+
+-- where a side is under way, an answer that is due there is lawful, and so is one that a pending world leaves open
+pub record SidesEndLawfully : Type 0 where
+  pub ended : (kind : ClaimKind) (s : Subject) (pivots conflicts : ℕ) (from : Stage) (had : ℕ) (pool : List World) (t : Tableau)
+      (trace : List Event) (left : ℕ) → IsUnderWay kind s conflicts from had [] pool t trace left
+      → (answer : SideAnswer) → IsSideAt kind s pivots conflicts (stage_at pool t) left None answer
+      → IsLawfulSide kind s pivots conflicts from had (stage_at pool t) left answer trace
+  pub pending : (kind : ClaimKind) (s : Subject) (pivots conflicts : ℕ) (from : Stage) (had : ℕ) (pool : List World) (t : Tableau)
+      (trace : List Event) (left : ℕ) → IsUnderWay kind s conflicts from had [] pool t trace left
+      → (w : World) (at : WideAt) → IsPricedBy kind s conflicts (stage_at pool t) (entry_at t) w → IsColumnTooWide s (stage_at pool t) w at
+      → IsLawfulSide kind s pivots conflicts from had (stage_at pool t) left (side.Open (Wide at)) (trace ++ Priced w ∷ [])
 
 -- the costs of a longer pool have the world's behind them
 abbrev pub CostsGrow : Type 0

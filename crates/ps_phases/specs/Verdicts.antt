@@ -17,7 +17,7 @@ use Rattle.ps_answer.specs.declared.answer.Answer.{Answer}
 use Rattle.ps_claims.specs.declared.claim_kind.ClaimKind.{ClaimKind}
 use Rattle.ps_claims.specs.declared.claim_kind.ClaimKind.TheVariants.{Nothing, Lower, Upper}
 use Rattle.ps_claims.specs.Duals.{HasValueHead}
-use Rattle.ps_runs.specs.Runs.{Subject, Stage, IsStart, LeadsTo, LeadsToPending, pivots_in, IsFeasibleAt, IsModelAt, IsDualAt}
+use Rattle.ps_runs.specs.Runs.{Subject, subject_of, sentences_of, Stage, IsStart, LeadsTo, LeadsToPending, pivots_in, IsFeasibleAt, IsModelAt, IsDualAt}
 use Rattle.ps_phases.specs.Answers.{model_of, dual_of}
 use Rattle.ps_phases.specs.Licences.{IsLicensed}
 
@@ -40,7 +40,7 @@ pub record IsLawfulPhaseOne (s : Subject) (pivots conflicts : ℕ) (answer : Ver
 
 -- the verdict on a problem's sentences is that of a run without a query
 abbrev pub IsLawfulVerdict : Parts → ℕ → ℕ → Verdict → List Event → Type 0
-IsLawfulVerdict p pivots conflicts verdict events = IsLawfulPhaseOne (record { parts = p; query = None }) pivots conflicts verdict events
+IsLawfulVerdict p pivots conflicts verdict events = IsLawfulPhaseOne (sentences_of p) pivots conflicts verdict events
 
 -- what a side answers at a stage
 abbrev pub IsSideAt : ClaimKind → Subject → ℕ → ℕ → Stage → ℕ → Option World → SideAnswer → Type 0
@@ -79,7 +79,7 @@ IsLawfulAnswerTo s pivots conflicts first (query.Open cause) = IsLawfulPhaseOne 
 
 -- each query has a run of its own
 abbrev pub IsLawfulPart : Parts → ℕ → ℕ → Query → QueryPart → Type 0
-IsLawfulPart p pivots conflicts q part = IsLawfulAnswerTo (record { parts = p; query = Some q }) pivots conflicts part.first part.answer
+IsLawfulPart p pivots conflicts q part = IsLawfulAnswerTo (subject_of p q) pivots conflicts part.first part.answer
 
 -- the queries that are gone into: each where the verdict is consistent, else none
 abbrev pub asked_after : Verdict → List Query → List Query

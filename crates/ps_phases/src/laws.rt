@@ -2,7 +2,7 @@
 
 ghost use Rattle.ps_phases.specs.Laws.{NewTablesStart, RunTablesAreReady, PhasesGoOn};
 ghost use Rattle.ps_phases.specs.Laws.{SettledStages, RefusalsAreLicensed, PhaseOneEndsLawfully, CostsGrow};
-ghost use Rattle.ps_phases.specs.Laws.{PricedWorldsTakePivots};
+ghost use Rattle.ps_phases.specs.Laws.{PricedWorldsTakePivots, SidesEndLawfully};
 
 /// A new table of the homes is one of the run, at its start. As the rule sees it a run's table is
 /// that of its setting, and it is ready for each phase with the phase's costs: for the sides where
@@ -27,7 +27,9 @@ pub fn licences()
     ensures licensed { RefusalsAreLicensed }
 {}
 
-/// Where phase one has come from the start to a stage, the answer that is due there is lawful.
+/// Where phase one has come from the start to a stage, the answer that is due there is lawful; and
+/// so for a side that has come from where the phase before it ended.
 pub fn lawful_ends()
     ensures lawful { PhaseOneEndsLawfully }
+    ensures sides { SidesEndLawfully }
 {}
