@@ -14,3 +14,4 @@ pub mod Totals
 pub mod Composed
 pub mod Certified
 pub mod Tight
+pub mod Weighing

@@ -1,5 +1,5 @@
 -- The whole numbers that certify an answer: duals, from the multipliers of a table, and models, from its values.
-use Rattle.std.specs.Prelude.{◌≡◌, ℕ, zero, suc, ◌+◌, ℤ, pos, neg_ℤ, Bool, true, false, cond, if◌then◌else◌, List, [], ◌∷◌, ◌++◌, length, get_or, negsuc}
+use Rattle.std.specs.Prelude.{◌≡◌, ℕ, zero, suc, ◌+◌, ℤ, pos, neg_ℤ, int_lt, Bool, true, false, cond, if◌then◌else◌, List, [], ◌∷◌, ◌++◌, length, get_or, negsuc}
 use Rattle.std.proofs.Common.{eqb}
 use Rattle.ps_rational.specs.Rational.{Rational, whole, mul, zero_q}
 use Rattle.ps_rational.specs.Scaled.{scaled}
@@ -84,6 +84,10 @@ weight_multiple t = places.weight_multiple_to t.rows t.basic t.entry t.rows
 -- an entry where the value is above 0
 abbrev pub entry_for : ℕ → Rational → World → List Entry
 entry_for big x w = if is_above x then record { weight = scaled big x; world = w } ∷ [] else []
+
+-- an entry of this weight, where it is above 0
+abbrev pub entry_weighing : ℤ → World → List Entry
+entry_weighing z w = if int_lt (pos 0) z then record { weight = z; world = w } ∷ [] else []
 
 -- the first worlds of the pool, each with its value times the multiple, where it is above 0
 abbrev pub entries_to : SimplexTable → ℕ → List World → ℕ → List Entry

@@ -1,5 +1,5 @@
 -- Laws of runs.
-use Rattle.std.specs.Prelude.{◌≡◌, ◌≢◌, ◌⊎◌, ◌↔◌, Option, ℕ, ◌+◌, ◌<◌, ◌≤◌, ℤ, pos, ◌<ℤ◌, ◌≤ℤ◌, ◌*ℤ◌, cond, Bool, List, [], ◌∷◌, ◌++◌, length, get_or}
+use Rattle.std.specs.Prelude.{◌≡◌, ◌≢◌, ◌⊎◌, ◌↔◌, Option, ℕ, suc, ◌+◌, ◌<◌, ◌≤◌, ℤ, pos, ◌<ℤ◌, ◌≤ℤ◌, ◌*ℤ◌, cond, Bool, List, [], ◌∷◌, ◌++◌, length, get_or}
 use Rattle.ps_rational.specs.Rational.{Rational, whole, mul, sub, neg, zero_q, one_q}
 use Rattle.ps_rational.specs.Order.{IsLess, IsNonneg}
 use Rattle.ps_rational.specs.Sums.{int_sum_to}
@@ -23,7 +23,7 @@ use Rattle.ps_claims.specs.Goals.{value_under}
 use Rattle.ps_claims.specs.Validity.{IsRefuted, ShowsNothing, ShowsTight}
 use Rattle.ps_runs.specs.Rows.{Setting, both_of, stage_of, artificial_of, rows_of, columns_of, width_of, world_cost, cost_of, table_of, IsTable}
 use Rattle.ps_runs.specs.Runs.{Subject, subject_of, setting_of, given_in, both_in, IsAsked, atoms_of, combination_over, goal_at_least, Stage, IsPool, table_at, costs_at, dual_at, AreAtMost, LeadsTo, LeadsToPending, pivots_in}
-use Rattle.ps_runs.specs.Certificates.{HaveSameNumbers, table_dual, combination_at, multiple_of, price, weighted_worlds, table_model}
+use Rattle.ps_runs.specs.Certificates.{HaveSameNumbers, table_dual, combination_at, multiple_of, price, value_of, weight_multiple, entry_for, entry_weighing, weighted_worlds, table_model}
 
 -- the combination of a table's dual in a world is a positive multiple of what the multipliers price the world's column above
 -- its cost, so it is above 0 exactly where the column is priced above its cost
@@ -129,3 +129,13 @@ pub record EndsAreValid : Type 0 where
       → ShowsTight p kind q value (table_model (table_at (subject_of p q) g X) g.pool) d
   pub consistent : (s : Subject) (g : Stage) (X : ℕ → ℕ → Rational) → IsTable (setting_of s) g.pool g.basis X → IsFeasible (table_at s g X)
       → IsPool (atoms_of s) g.pool → ShowsConsistent (atoms_of s) (bounds_of s.parts) (table_model (table_at s g X) g.pool)
+
+-- a world of the pool has in the model the weight of the row in which it is basic, where that is above 0, and isn't there where
+-- it is basic in none
+pub record WorldsWeighTheirRows : Type 0 where
+  pub row : (s : Setting) (pool : List World) (basic : ℕ → ℕ) (X : ℕ → ℕ → Rational) → IsTable s pool basic X → (i k : ℕ) (w : World)
+      → i < rows_of s → basic i ≡ suc (rows_of s + k)
+      → entry_for (weight_multiple (table_of s pool basic X)) (value_of (table_of s pool basic X) (suc (rows_of s + k))) w ≡ entry_weighing (weight_at (rows_of s) basic X i) w
+  pub none : (s : Setting) (pool : List World) (basic : ℕ → ℕ) (X : ℕ → ℕ → Rational) → IsTable s pool basic X → (k : ℕ) (w : World)
+      → ((i : ℕ) → i < rows_of s → basic i ≢ suc (rows_of s + k))
+      → entry_for (weight_multiple (table_of s pool basic X)) (value_of (table_of s pool basic X) (suc (rows_of s + k))) w ≡ []

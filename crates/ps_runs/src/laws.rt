@@ -3,7 +3,7 @@
 ghost use Rattle.ps_runs.specs.Laws.{CombinationsArePrices, FeasibleTablesGiveModels};
 ghost use Rattle.ps_runs.specs.Laws.{RestingTablesGiveDuals, TablesOfRuns, CostsOfPhases};
 ghost use Rattle.ps_runs.specs.Laws.{EvidenceRow, PricedWorldsMove, EventsCompose};
-ghost use Rattle.ps_runs.specs.Laws.{GainsAreValues, EndsAreValid};
+ghost use Rattle.ps_runs.specs.Laws.{GainsAreValues, EndsAreValid, WorldsWeighTheirRows};
 
 /// The combination of a table's dual in a world is a whole positive multiple of what the
 /// multipliers price the world's column above its cost. So it is at least 1 exactly where the
@@ -17,8 +17,11 @@ pub fn reduced_costs()
 /// evidence a weight, on at most one world more than there are bounds. At rest the multipliers,
 /// each times the least common multiple of their denominators, have the signs of a dual; where
 /// phase one rests its head is at least 1; in a side the model reaches head over top.
+///
+/// In the model a world has the weight of the row in which it is basic.
 pub fn phase_ends()
     ensures models { FeasibleTablesGiveModels }
+    ensures weights { WorldsWeighTheirRows }
     ensures duals { RestingTablesGiveDuals }
 {}
 

@@ -2,6 +2,7 @@ use Rattle.ps_runs.proofs.Shown.{allowed_at_end, small_at_end, nothing_head}
 use Rattle.ps_runs.proofs.Totals.{total_by_rows}
 use Rattle.ps_runs.proofs.Resting.{rest_signs}
 use Rattle.ps_runs.proofs.Ends as ends
+use Rattle.ps_runs.proofs.Weighing.{entry_of_row, no_entry}
 use Rattle.ps_runs.proofs.laws.phase_ends.Goals as goal
 
 pub returns : goal.returns
@@ -11,5 +12,6 @@ returns c = record {
     small = small_at_end;
     total = total_by_rows;
   };
+  weights = record { row = entry_of_row; none = no_entry };
   duals = record { signs = rest_signs; head = nothing_head; reached = ends.reached };
 }
