@@ -5,13 +5,14 @@
 
 mod draw;
 mod forms;
+mod pricings;
 mod problems;
 mod refutations;
 mod rows;
 mod trials;
 
 use crate::trials::{
-    forty_variables, refutations, rows, six_pigeons, sixty_variables, weighted_problems,
+    forty_variables, pricings, refutations, rows, six_pigeons, sixty_variables, weighted_problems,
 };
 use std::env;
 
@@ -60,7 +61,8 @@ fn main(rt: HostRuntime) -> anyhow::Result<()> {
             println!(rt; "{some} have a value")?;
         }
         Command::Trials => {
-            println!(rt; "small searches: {} of 4", rows(alloc)?)?;
+            println!(rt; "small searches: {} of 5", rows(alloc)?)?;
+            println!(rt; "small problems: {} of 4", pricings(alloc)?)?;
             println!(rt;
                 "random forms decided: {} of 10",
                 sixty_variables(alloc, 10)?.0

@@ -21,6 +21,17 @@ pub struct Problem {
     base: i64,
 }
 
+/// What is known of the greatest value.
+#[derive(Clone, Copy, PartialEq, Eq)]
+pub enum Greatest {
+    /// No value is 1 or more.
+    NoneAbove,
+    /// It is this one, of at least 1.
+    Is(i128),
+    /// A search was spent, or the problem is too large.
+    Unsettled,
+}
+
 /// A problem of so many variables, clauses and soft literals, of weights and base from -9 to 9.
 pub fn random_problem(
     alloc: Global,
@@ -73,22 +84,24 @@ impl Problem {
         })
     }
 
-    /// The greatest value by search, where it is at least 1.
-    pub fn by_search(&self, alloc: Global) -> Result<Option<i128>, SearchError> {
+    /// The greatest value by search.
+    pub fn by_search(&self, alloc: Global) -> Result<Greatest, SearchError> {
         let wcnf = self.wcnf(alloc)?;
         let mut log = HeldLog::new(alloc);
         if !wcnf.is_narrow() || !wcnf.is_soft_within() {
-            return Ok(None);
+            return Ok(Greatest::Unsettled);
         }
         let priced = best(alloc, &wcnf, MOST_CONFLICTS, &mut log)?;
         Ok(match priced {
-            Priced::Best { value, .. } => Some(value),
-            _ => None,
+            Priced::NoneAbove { last: _ } => Greatest::NoneAbove,
+            Priced::Best { value, .. } => Greatest::Is(value),
+            Priced::Cut { .. } => Greatest::Unsettled,
+            Priced::Spent { learned: _ } => Greatest::Unsettled,
         })
     }
 
-    /// The greatest value by trying all assignments, where it is at least 1.
-    pub fn by_trying(&self) -> Option<i128> {
+    /// The greatest value by trying all assignments.
+    pub fn by_trying(&self) -> Greatest {
         let mut best = 0i128;
         let end = 1u32 << self.variables.min(20);
         for mask in 0..end {
@@ -98,7 +111,11 @@ impl Problem {
                 }
             }
         }
-        if best == 0 { None } else { Some(best) }
+        if best == 0 {
+            Greatest::NoneAbove
+        } else {
+            Greatest::Is(best)
+        }
     }
 
     // The value of an assignment, where it meets the clauses.

@@ -1,6 +1,7 @@
-//! Four clauses over two variables that nothing meets, over logs in memory and logs of lines.
+//! Four clauses over two variables that nothing meets, over a log in memory and logs of lines.
 ghost use Rattle.std.specs.Prelude.{◌≡◌, ◌≤◌, [], IsTrue};
 ghost use Rattle.ps_steps.specs.Weights.{IsWithin};
+ghost use Rattle.ps_sat.specs.Limits.{most_conflicts};
 
 use crate::refutations::{is_within, no_goal};
 use ps_clause::ClauseForm;
@@ -9,6 +10,9 @@ use ps_log::{HeldLog, TextLog};
 use ps_pb::{Constraint, Lit};
 use ps_sat::{MOST_CONFLICTS, Outcome, SearchError, search};
 use std::alloc::Global;
+
+/// The line of the goal that everything meets.
+const NO_GOAL: &[u8] = b"g 0 0\n";
 
 /// Each clause of two literals of two variables.
 fn all_four(alloc: Global) -> Result<ClauseForm, NoMemory> {
@@ -44,34 +48,39 @@ fn held(alloc: Global, conflicts: u64) -> Result<(Option<Outcome>, usize), Searc
     Ok((Some(outcome), log.take_steps().as_slice().len()))
 }
 
-/// The same over a log of lines, whose sink takes a goal line and two step lines.
-pub fn is_written(alloc: Global) -> Result<bool, SearchError> {
+/// The same over a log of lines: with no conflict to spend only the goal is written.
+pub fn is_spent_in_lines(alloc: Global) -> Result<bool, SearchError> {
     let form = all_four(alloc)?;
     let goal = no_goal(alloc)?;
-    if !is_within(form.variables(), &goal) {
-        return Ok(false);
-    }
     let mut sink = MemSink::new(alloc, 100, Vec::new(alloc), 100)?;
-    if !sink.bytes().is_empty() {
+    if !is_within(form.variables(), &goal) || !sink.bytes().is_empty() {
         return Ok(false);
     }
-    let outcome = written(alloc, &form, &goal, &mut sink);
-    let refuted = matches!(outcome, Ok(Outcome::Refuted { last: 7 }));
-    Ok(refuted && lines(sink.bytes()) == 3)
+    let outcome = written(alloc, &form, &goal, 0, &mut sink)?;
+    Ok(matches!(outcome, Outcome::Spent { learned: 0 }) && sink.bytes() == NO_GOAL)
 }
 
-/// And the fault where the sink fails at the line of the second step.
+/// And with one the goal and two steps.
+pub fn is_refuted_in_lines(alloc: Global) -> Result<bool, SearchError> {
+    let form = all_four(alloc)?;
+    let goal = no_goal(alloc)?;
+    let mut sink = MemSink::new(alloc, 100, Vec::new(alloc), 100)?;
+    if !is_within(form.variables(), &goal) || !sink.bytes().is_empty() {
+        return Ok(false);
+    }
+    let outcome = written(alloc, &form, &goal, 1, &mut sink)?;
+    Ok(matches!(outcome, Outcome::Refuted { last: 7 }) && lines(sink.bytes()) == 3)
+}
+
+/// The log fails where the sink does at the line of the second step.
 pub fn is_fault(alloc: Global) -> Result<bool, SearchError> {
     let form = all_four(alloc)?;
     let goal = no_goal(alloc)?;
-    if !is_within(form.variables(), &goal) {
-        return Ok(false);
-    }
     let mut sink = MemSink::new(alloc, 100, failing_at(alloc, 3)?, 100)?;
-    if !sink.bytes().is_empty() {
+    if !is_within(form.variables(), &goal) || !sink.bytes().is_empty() {
         return Ok(false);
     }
-    let outcome = written(alloc, &form, &goal, &mut sink);
+    let outcome = written(alloc, &form, &goal, 1, &mut sink);
     let fault = matches!(outcome, Err(SearchError::LogFault));
     Ok(fault && lines(sink.bytes()) == 2)
 }
@@ -87,14 +96,16 @@ fn written(
     alloc: Global,
     form: &ClauseForm,
     goal: &Constraint,
+    conflicts: u64,
     sink: &mut MemSink,
 ) -> Result<Outcome, SearchError>
     requires empty { sink.old.written ≡ [] }
     requires goal { IsWithin form.now.variables goal.now }
+    requires few { conflicts ≤ most_conflicts }
 {
     let lines = Lines::new(alloc, sink)?;
     let mut log = TextLog::new(lines);
-    search(alloc, form, goal, 1, &mut log)
+    search(alloc, form, goal, conflicts, &mut log)
 }
 
 fn lines(bytes: &[u8]) -> u64 {

@@ -3,9 +3,12 @@ ghost use Rattle.std.specs.Prelude.{◌≤◌};
 
 use crate::draw::Draw;
 use crate::forms::{pigeons, three_clauses};
-use crate::problems::random_problem;
+use crate::pricings::{is_3, is_none_above, is_written_3, is_written_none_above};
+use crate::problems::{Greatest, random_problem};
 use crate::refutations::{Ended, searched};
-use crate::rows::{is_fault, is_refuted_at_1, is_spent_at_0, is_written};
+use crate::rows::{
+    is_fault, is_refuted_at_1, is_refuted_in_lines, is_spent_at_0, is_spent_in_lines,
+};
 use ps_sat::SearchError;
 use std::alloc::Global;
 
@@ -15,13 +18,23 @@ fn one(holds: bool) -> u32
     if holds { 1 } else { 0 }
 }
 
-/// How many of four small searches end as they should.
+/// How many of five small searches end as they should.
 pub fn rows(alloc: Global) -> Result<u32, SearchError> {
     let spent = one(is_spent_at_0(alloc)?);
     let refuted = one(is_refuted_at_1(alloc)?);
-    let written = one(is_written(alloc)?);
+    let spent_in_lines = one(is_spent_in_lines(alloc)?);
+    let refuted_in_lines = one(is_refuted_in_lines(alloc)?);
     let fault = one(is_fault(alloc)?);
-    Ok(spent + refuted + written + fault)
+    Ok(spent + refuted + spent_in_lines + refuted_in_lines + fault)
+}
+
+/// How many of four small problems have the greatest value that they should.
+pub fn pricings(alloc: Global) -> Result<u32, SearchError> {
+    let three = one(is_3(alloc)?);
+    let none = one(is_none_above(alloc)?);
+    let written_three = one(is_written_3(alloc)?);
+    let written_none = one(is_written_none_above(alloc)?);
+    Ok(three + none + written_three + written_none)
 }
 
 /// How many of so many forms of 60 variables and 258 clauses were found or refuted to the checker's
@@ -84,7 +97,8 @@ pub fn forty_variables(alloc: Global, problems: u32) -> Result<u32, SearchError>
     let mut some = 0u32;
     for _ in 0..problems {
         let problem = random_problem(alloc, &mut draw, 40, 100, 20)?;
-        some = some.wrapping_add(one(problem.by_search(alloc)?.is_some()));
+        let greatest = problem.by_search(alloc)?;
+        some = some.wrapping_add(one(matches!(greatest, Greatest::Is(_))));
     }
     Ok(some)
 }
