@@ -11,3 +11,4 @@ pub mod ClaimsInOrder
 pub mod FirstPlaces
 pub mod SingleFaults
 pub mod SmallAnswers
+pub mod ShortLines

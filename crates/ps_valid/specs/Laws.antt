@@ -1,8 +1,9 @@
 -- Laws of refusals and of limits.
-use Rattle.std.specs.Prelude.{◌≡◌, ℕ, List}
+use Rattle.std.specs.Prelude.{◌≡◌, ◌<◌, ℕ, List, length}
 use Rattle.std.specs.List.{AllByRecursion}
 use Rattle.ps_answer.specs.declared.answer.Answer as found
-use Rattle.ps_answer.specs.Items.{IsProper, IsWithin}
+use Rattle.ps_io.specs.declared.limits.TheConstants.{LONGEST_LINE}
+use Rattle.ps_answer.specs.Items.{IsProper, IsWithin, item_line}
 use Rattle.ps_answer.specs.Answers.{answer_items}
 use Rattle.ps_answer.specs.Faults.{IsReport}
 use Rattle.ps_valid.specs.Limits.{IsSmallAnswer}
@@ -22,3 +23,7 @@ AnswersWithinAreSmall = (a : found.Answer) → AllByRecursion (λ i. IsProper i 
 -- so is each answer of a report
 abbrev pub ReportsAreSmall : Type 0
 ReportsAreSmall = (bytes : List ℕ) (a : found.Answer) → IsReport bytes a → IsSmallAnswer a
+
+-- where each line of an answer is within the limits, each is short enough to be written
+abbrev pub LinesWithinAreShort : Type 0
+LinesWithinAreShort = (a : found.Answer) → AllByRecursion IsWithin (answer_items a) → AllByRecursion (λ i. length (item_line i) < LONGEST_LINE) (answer_items a)

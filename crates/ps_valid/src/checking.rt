@@ -88,8 +88,8 @@ fn check_side(
 ) -> Result<Accepted, CheckError>
     requires query { HasNodes problem.now.nodes query.now.formula query.now.given query.now.both }
     requires limits { IsSmallSide side.now }
-    ensures { let s = side_of side.now in
-        AreJudged problem.now (side_claims (place_of claim) kind query.now s) (open_in_side s) result }
+    ensures { let s = side_of side.now in AreJudged problem.now
+        (side_claims (place_of claim) kind query.now s) (open_in_side s) result }
 {
     match side {
         SideAnswer::Bound { value, model, dual } => {

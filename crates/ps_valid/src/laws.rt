@@ -1,6 +1,7 @@
 //! Laws about the definitions: a call does nothing, and its clauses are the law.
 ghost use Rattle.ps_valid.specs.Laws.{RefusalsAreSingle};
 ghost use Rattle.ps_valid.specs.Laws.{AnswersWithinAreSmall, ReportsAreSmall};
+ghost use Rattle.ps_valid.specs.Laws.{LinesWithinAreShort};
 
 /// An answer is refused for at most one fault, at one place.
 pub fn refusals_are_single()
@@ -11,4 +12,9 @@ pub fn refusals_are_single()
 pub fn reports_are_small()
     ensures answer { AnswersWithinAreSmall }
     ensures report { ReportsAreSmall }
+{}
+
+/// Where each line of an answer is within the limits of a report, each is short enough to be written.
+pub fn report_lines_are_short()
+    ensures short { LinesWithinAreShort }
 {}

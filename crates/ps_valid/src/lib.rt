@@ -17,7 +17,7 @@ mod weighing;
 
 pub use bounded::check_bound;
 pub use checking::check;
-pub use laws::{refusals_are_single, reports_are_small};
+pub use laws::{refusals_are_single, report_lines_are_short, reports_are_small};
 pub use limits::{MOST_WEIGHT, MOST_WORLDS};
 pub use modelled::check_model;
 pub use refusal::{Accepted, CheckError, Claim, Reason, Refusal};
