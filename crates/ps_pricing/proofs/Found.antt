@@ -1,0 +1,131 @@
+-- The world of an assignment that meets the clauses, and the values of worlds.
+use Rattle.std.proofs.Common.{◌≡◌, ℕ, ◌<◌, ℤ, pos, ◌+ℤ◌, ◌-ℤ◌, ◌≤ℤ◌, ◌<ℤ◌, Bool, true, false, List, [], ◌∷◌, ◌++◌, length, map, Some, All, refl, sym, ap, ◌∙◌, subst, inl, inr, arith}
+use Rattle.std.specs.Prelude.{◌⊎◌, IsTrue}
+use Rattle.std.proofs.lemmas.Int.{ints}
+use Rattle.ps_meaning.specs.Formula.{World}
+use Rattle.ps_formula.specs.declared.node.Node.{Node}
+use Rattle.ps_formula.specs.Nodes.{AreNodes, AtomBelow}
+use Rattle.ps_formula.proofs.Trees.{length-truths}
+use Rattle.ps_steps.specs.Assignments.{Assignment, full}
+use Rattle.ps_steps.specs.Constraints.{Constraint}
+use Rattle.ps_steps.specs.Weights.{true_weight, constraint_of}
+use Rattle.ps_steps.specs.Steps.{Step, Known, AreLawful, Refutes, is_contradiction, ends_in_contradiction}
+use Rattle.ps_forms.specs.Clauses.{clause_form}
+use Rattle.ps_forms.specs.Forms.{Form, form_of, first_known, MeetsForm}
+use Rattle.ps_forms.specs.Extensions.{extension, world_of, IsWorldOf}
+use Rattle.ps_forms.proofs.Idle.{form-clauses, clauses-form}
+use Rattle.ps_forms.proofs.Extends.{met-extension, extension-met}
+use Rattle.ps_forms.proofs.Worlds.{world_of-agrees, extension-agrees}
+use Rattle.ps_log.specs.Logs.{Telling}
+use Rattle.ps_sat.specs.Searches.{Handed, IsShown}
+use Rattle.ps_sat.specs.declared.searching.Outcome.TheVariants as search
+use Rattle.ps_maxsat.specs.declared.problem.Wcnf.{Wcnf}
+use Rattle.ps_maxsat.specs.declared.pricing.Priced.{Priced}
+use Rattle.ps_maxsat.specs.declared.pricing.Priced.TheVariants.{NoneAbove, Best, Cut, Spent}
+use Rattle.ps_maxsat.specs.Values.{value, IsOf, NoneIsAbove, HoldsSearch, IsPricedLog, goal_of}
+use Rattle.ps_answer.specs.declared.answer.Dual.{Dual}
+use Rattle.ps_claims.specs.declared.claim_kind.ClaimKind.{ClaimKind}
+use Rattle.ps_claims.specs.Goals.{value_under}
+use Rattle.ps_runs.specs.Searches.{IsSpentSearch}
+use Rattle.ps_pricing.specs.Sought.{HasSteps}
+use Rattle.ps_pricing.specs.Pricings.{Asked, gain, goal_at_least, IsGreatest, IsCutAbove, IsFound, IsSpent, IsRefuted, IsWcnf}
+
+-- ---- steps of a log
+ends_so : (front : List Step) (s : Step) → is_contradiction s ≡ true → ends_in_contradiction (front ++ s ∷ []) ≡ true
+ends_so [] s h = h
+ends_so (t ∷ []) s h = h
+ends_so (t ∷ u ∷ front) s h = ends_so (u ∷ front) s h
+
+-- the steps that a log told, where it holds these
+told_steps : (told : Bool) (new : Telling) (goal : Constraint) (f : Form) (steps : List Step) (h : Handed f goal told new) → IsTrue told → new.steps ≡ Some steps
+    → h.steps ≡ steps
+told_steps told new goal f steps h tells is =
+    let same : Some h.steps ≡ Some steps = sym (h.held tells).2 ∙ is in
+    cc
+
+pub log_steps : (p : Wcnf) (conflicts : ℕ) (told : Bool) (new : Telling) (priced : Priced) (steps : List Step) → IsTrue told → new.steps ≡ Some steps
+    → IsPricedLog p conflicts told new priced → HasSteps p conflicts priced steps
+log_steps p conflicts told new (NoneAbove last) steps tells is h =
+    let same = told_steps told new (goal_of p (pos 1)) p.hard steps h.0 tells is in
+    rw (← same) (record { lawful = h.0.lawful; contradiction = rw h.1.2 (ends_so h.1.0 h.1.1 h.1.5) })
+log_steps p conflicts told new (Best a v searches) steps tells is h = tt
+log_steps p conflicts told new (Cut a v least searches) steps tells is h =
+    let same = told_steps told new (goal_of p least) p.hard steps h.0 tells is in
+    rw (← same) (record { lawful = h.0.lawful; count = h.1.0; literals = h.1.1 })
+log_steps p conflicts told new (Spent learned) steps tells is h =
+    let same = told_steps told new (goal_of p (pos 1)) p.hard steps h.0 tells is in
+    rw (← same) (record { lawful = h.0.lawful; count = h.1.0; literals = h.1.1 })
+
+-- ---- worlds
+-- an assignment that meets the clauses is the extension of its world
+extends : (ns : List Node) (atoms : ℕ) (w : List Bool) → AreNodes ns → All (AtomBelow atoms) ns → length w ≡ length ns → MeetsForm w (form_of ns)
+    → w ≡ extension ns (world_of atoms ns w)
+extends ns atoms w are below long met =
+    met-extension ns w (world_of atoms ns w) are long (world_of-agrees atoms ns w are below) (form-clauses w (clause_form ns) met)
+
+-- a world's extension meets the clauses
+extension-meets : (ns : List Node) (w : World) → AreNodes ns → MeetsForm (extension ns w) (form_of ns)
+extension-meets ns w are =
+    clauses-form (extension ns w) (clause_form ns) (extension-met ns (extension ns w) w are (length-truths ns w) (extension-agrees ns w are) refl)
+
+-- the value of an assignment that meets the clauses is that of its world
+module _ (kind : ClaimKind) (q : Asked) (d : Dual) (p : Wcnf) (is : IsWcnf kind q.subject d p) (are : AreNodes q.subject.parts.nodes) where
+  value_is : (u : World) → value p (extension q.subject.parts.nodes u) ≡ gain kind q.subject d u
+  value_is u = λ k. is.base k +ℤ true_weight (extension q.subject.parts.nodes u) (is.soft k)
+
+  found_value : (a : Assignment) (v : ℤ) (u : World) → All (AtomBelow (length q.subject.parts.names)) q.subject.parts.nodes → IsOf p a v
+      → ((w : List Bool) → a ≡ full w → IsWorldOf (length q.subject.parts.names) q.subject.parts.nodes w u) → v ≡ gain kind q.subject d u
+  found_value a v u below of of_world =
+      let ns = q.subject.parts.nodes in
+      let w = of.0 in
+      let long : length w ≡ length ns = of.2 ∙ ap (λ f. f.variables) is.hard in
+      let met : MeetsForm w (form_of ns) = subst (λ (f : Form). MeetsForm w f) is.hard of.3 in
+      let world : u ≡ world_of (length q.subject.parts.names) ns w = of_world w of.1 in
+      let ext : w ≡ extension ns u = subst (λ (x : World). w ≡ extension ns x) (sym world) (extends ns (length q.subject.parts.names) w are below long met) in
+      of.4 ∙ ap (value p) ext ∙ value_is u
+
+  -- where no value is greater, the combination is greater in no world
+  greatest_value : (v : ℤ) → NoneIsAbove p v → IsGreatest kind q.subject d v
+  greatest_value v none = record {
+    at = λ u _. subst (λ (z : ℤ). z ≤ℤ v) (value_is u)
+        (none (extension q.subject.parts.nodes u) (subst (λ (f : Form). MeetsForm (extension q.subject.parts.nodes u) f) (sym is.hard) (extension-meets q.subject.parts.nodes u are)));
+  }
+
+  goal_same : (least : ℤ) → goal_of p least ≡ goal_at_least least kind q.subject d
+  goal_same least = λ k. constraint_of (is.soft k) (least -ℤ is.base k)
+
+  spent_is : (least : ℤ) (steps : List Step) → IsSpentSearch p.hard (goal_of p least) q.conflicts steps
+      → IsSpentSearch (form_of q.subject.parts.nodes) (goal_at_least least kind q.subject d) q.conflicts steps
+  spent_is least steps h =
+      subst (λ (c : Constraint). IsSpentSearch (form_of q.subject.parts.nodes) c q.conflicts steps) (goal_same least)
+      (subst (λ (f : Form). IsSpentSearch f (goal_of p least) q.conflicts steps) is.hard h)
+
+  refutes_is : (steps : List Step) → Refutes p.hard.variables (first_known p.hard (goal_of p (pos 1))) steps
+      → Refutes (length q.subject.parts.nodes) (first_known (form_of q.subject.parts.nodes) (goal_at_least (pos 1) kind q.subject d)) steps
+  refutes_is steps h =
+      subst (λ (c : Constraint). Refutes (length q.subject.parts.nodes) (first_known (form_of q.subject.parts.nodes) c) steps) (goal_same (pos 1))
+      (subst (λ (f : Form). Refutes f.variables (first_known f (goal_of p (pos 1))) steps) is.hard h)
+
+  -- a best world is one of greatest combination, and where a search for a greater one was spent there is that search
+  pub best_found : (a : Assignment) (v : ℤ) (u : World) → All (AtomBelow (length q.subject.parts.names)) q.subject.parts.nodes → IsOf p a v
+      → ((w : List Bool) → a ≡ full w → IsWorldOf (length q.subject.parts.names) q.subject.parts.nodes w u) → length u ≡ length q.subject.parts.names
+      → pos 1 ≤ℤ v → NoneIsAbove p v → IsFound kind q d u
+  best_found a v u below of of_world long above none =
+      let same = found_value a v u below of of_world in
+      record { sized = long; above = subst (λ (z : ℤ). pos 1 ≤ℤ z) same above; greatest = inl (subst (IsGreatest kind q.subject d) same (greatest_value v none)) }
+
+  pub cut_found : (a : Assignment) (v least : ℤ) (u : World) (steps : List Step) → All (AtomBelow (length q.subject.parts.names)) q.subject.parts.nodes → IsOf p a v
+      → ((w : List Bool) → a ≡ full w → IsWorldOf (length q.subject.parts.names) q.subject.parts.nodes w u) → length u ≡ length q.subject.parts.names
+      → pos 1 ≤ℤ v → v <ℤ least → IsSpentSearch p.hard (goal_of p least) q.conflicts steps → IsFound kind q d u
+  cut_found a v least u steps below of of_world long above more spent =
+      let same = found_value a v u below of of_world in
+      let cut : IsCutAbove kind q d v = record { least = least; above = more; steps = steps; spent = spent_is least steps spent } in
+      record { sized = long; above = subst (λ (z : ℤ). pos 1 ≤ℤ z) same above; greatest = inr (subst (IsCutAbove kind q d) same cut) }
+
+  -- a dual with the steps of a refutation, and a search that was spent
+  pub refuted_found : (steps : List Step) → Refutes p.hard.variables (first_known p.hard (goal_of p (pos 1))) steps → IsRefuted kind q.subject d (record d { steps = steps })
+  refuted_found steps h = record { top = refl; head = refl; rows = refl; steps = refutes_is steps h }
+
+  pub spent_found : (goal : Constraint) (steps : List Step) → goal ≡ constraint_of p.soft (pos 1 -ℤ p.base)
+      → IsSpentSearch p.hard (goal_of p (pos 1)) q.conflicts steps → IsSpent kind q d goal steps
+  spent_found goal steps same h = record { goal_is = same ∙ goal_same (pos 1); search = spent_is (pos 1) steps h }

@@ -1,0 +1,33 @@
+use Rattle.std.proofs.Common.{rules, ◌≡◌, pos, ◌-ℤ◌}
+use Rattle.ps_steps.specs.Weights.{constraint_of}
+use Rattle.ps_problem.specs.Problems.{AreParts}
+use Rattle.ps_runs.specs.Searches.{IsSpentSearch}
+use Rattle.ps_maxsat.specs.Values.{IsPriced, goal_of}
+use Rattle.ps_maxsat.specs.declared.pricing.Priced.TheVariants.{Best, Cut}
+use Rattle.ps_pricing.proofs.Found.{best_found, cut_found, spent_found}
+use Rattle.ps_pricing.proofs.pricer.Pricer.price.Goals as goal
+
+pub returns-in_ok-from_weights-in-Spent : goal.returns-in_ok-from_weights-in-Spent
+returns-in_ok-from_weights-in-Spent c =
+    let p = c.in_ok-wcnf.wcnf in
+    let are : AreParts c.args.self.now.subject.parts = search rules in
+    let h : IsSpentSearch p.hard (goal_of p (pos 1)) c.args.self.now.conflicts c.in_ok-priced.field-0.steps = search rules in
+    let g : c.in_ok-from_weights-in-Spent.field-0 ≡ constraint_of p.soft (pos 1 -ℤ p.base) = search rules in
+    spent_found c.args.kind c.args.self.now c.args.dual p c.in_ok-wcnf.ensures.value are.nodes c.in_ok-from_weights-in-Spent.field-0 c.in_ok-priced.field-0.steps g h
+
+pub returns-in_ok-world-in-Best : goal.returns-in_ok-world-in-Best
+returns-in_ok-world-in-Best c =
+    let p = c.in_ok-wcnf.wcnf in
+    let are : AreParts c.args.self.now.subject.parts = search rules in
+    let h : IsPriced p c.args.self.now.conflicts (Best c.in-Best.assignment c.in-Best.value c.in-Best.searches) = search rules in
+    best_found c.args.kind c.args.self.now c.args.dual p c.in_ok-wcnf.ensures.value are.nodes c.in-Best.assignment c.in-Best.value c.in_ok-world-in-Best.field-0
+    are.atoms h.0 c.in_ok-world-in-Best.ensures.of c.in_ok-world-in-Best.ensures.length h.1 h.2
+
+pub returns-in_ok-world-in-Cut : goal.returns-in_ok-world-in-Cut
+returns-in_ok-world-in-Cut c =
+    let p = c.in_ok-wcnf.wcnf in
+    let are : AreParts c.args.self.now.subject.parts = search rules in
+    let h : IsPriced p c.args.self.now.conflicts (Cut c.in-Cut.assignment c.in-Cut.value c.in-Cut.goal c.in-Cut.searches) = search rules in
+    let spent : IsSpentSearch p.hard (goal_of p c.in-Cut.goal) c.args.self.now.conflicts c.in_ok-priced.field-0.steps = search rules in
+    cut_found c.args.kind c.args.self.now c.args.dual p c.in_ok-wcnf.ensures.value are.nodes c.in-Cut.assignment c.in-Cut.value c.in-Cut.goal c.in_ok-world-in-Cut.field-0
+    c.in_ok-priced.field-0.steps are.atoms h.0 c.in_ok-world-in-Cut.ensures.of c.in_ok-world-in-Cut.ensures.length h.1 h.2 spent

@@ -1,0 +1,83 @@
+-- What the pricing of a dual gives: a world in which its combination is at least 1, or a refutation.
+use Rattle.std.specs.Prelude.{◌≡◌, ◌⊎◌, ℕ, ◌≤◌, ℤ, pos, ◌-ℤ◌, ◌<ℤ◌, ◌≤ℤ◌, List, length}
+use Rattle.ps_meaning.specs.Formula.{World}
+use Rattle.ps_steps.specs.Constraints.{Constraint}
+use Rattle.ps_steps.specs.Weights.{constraint_of}
+use Rattle.ps_steps.specs.Steps.{Step, Refutes}
+use Rattle.ps_forms.specs.Forms.{form_of, first_known}
+use Rattle.ps_forms.specs.Extensions.{extension}
+use Rattle.ps_problem.specs.Problems.{Parts, bounds_in}
+use Rattle.ps_answer.specs.declared.answer.Dual.{Dual}
+use Rattle.ps_claims.specs.declared.claim_kind.ClaimKind.{ClaimKind}
+use Rattle.ps_claims.specs.declared.combination.Combination.{Combination}
+use Rattle.ps_claims.specs.Goals.{value_under}
+use Rattle.ps_certificate.specs.Certificates.{dual_of, IsSmallDual}
+use Rattle.ps_maxsat.specs.declared.problem.Wcnf.{Wcnf}
+use Rattle.ps_runs.specs.Searches.{IsSpentSearch}
+use Rattle.ps_runs.specs.Runs.{Subject, atoms_of, combination_over}
+use Rattle.ps_pricing.specs.declared.pricing.Pricing.{Pricing}
+use Rattle.ps_pricing.specs.declared.pricing.Pricing.TheVariants.{Found, Refuted, Spent}
+
+-- what duals are priced over, and how many clauses a search may learn
+pub record Asked : Type 0 where
+  pub subject : Subject
+  pub conflicts : ℕ
+
+-- the dual has a multiplier for each bound, and its numbers are small enough to be printed
+pub record IsDualFor (p : Parts) (d : Dual) : Type 0 where
+  pub rows : length d.rows ≡ length (bounds_in p.sentences)
+  pub small : IsSmallDual d
+
+-- ---- combinations
+-- the combination of a dual
+abbrev pub combined : ClaimKind → Subject → Dual → Combination
+combined kind s d = combination_over kind s (dual_of d)
+
+-- what it is in a world
+abbrev pub gain : ClaimKind → Subject → Dual → World → ℤ
+gain kind s d w = value_under (extension s.parts.nodes w) (combined kind s d)
+
+-- the goal that it is at least this
+abbrev pub goal_at_least : ℤ → ClaimKind → Subject → Dual → Constraint
+goal_at_least least kind s d = constraint_of (combined kind s d).terms (least -ℤ (combined kind s d).base)
+
+-- ---- pricings
+-- in no world is the combination greater than this
+pub record IsGreatest (kind : ClaimKind) (s : Subject) (d : Dual) (most : ℤ) : Type 0 where
+  pub at : (w : World) → length w ≡ atoms_of s → gain kind s d w ≤ℤ most
+
+-- a search for a combination greater than this was spent
+pub record IsCutAbove (kind : ClaimKind) (a : Asked) (d : Dual) (found : ℤ) : Type 0 where
+  pub least : ℤ
+  pub above : found <ℤ least
+  pub steps : List Step
+  pub spent : IsSpentSearch (form_of a.subject.parts.nodes) (goal_at_least least kind a.subject d) a.conflicts steps
+
+-- in the world the combination is at least 1, and it is greater in none, unless a search for a greater one was spent
+pub record IsFound (kind : ClaimKind) (a : Asked) (d : Dual) (w : World) : Type 0 where
+  pub sized : length w ≡ atoms_of a.subject
+  pub above : pos 1 ≤ℤ gain kind a.subject d w
+  pub greatest : IsGreatest kind a.subject d (gain kind a.subject d w) ⊎ IsCutAbove kind a d (gain kind a.subject d w)
+
+-- a dual with the same numbers, whose steps refute that the combination is at least 1
+pub record IsRefuted (kind : ClaimKind) (s : Subject) (d e : Dual) : Type 0 where
+  pub top : e.top ≡ d.top
+  pub head : e.head ≡ d.head
+  pub rows : e.rows ≡ d.rows
+  pub steps : Refutes (length s.parts.nodes) (first_known (form_of s.parts.nodes) (goal_at_least (pos 1) kind s d)) e.steps
+
+-- the search for a combination of at least 1 was spent
+pub record IsSpent (kind : ClaimKind) (a : Asked) (d : Dual) (goal : Constraint) (steps : List Step) : Type 0 where
+  pub goal_is : goal ≡ goal_at_least (pos 1) kind a.subject d
+  pub search : IsSpentSearch (form_of a.subject.parts.nodes) (goal_at_least (pos 1) kind a.subject d) a.conflicts steps
+
+abbrev pub IsPricing : ClaimKind → Asked → Dual → Pricing → Type 0
+IsPricing kind a d (Found w) = IsFound kind a d w
+IsPricing kind a d (Refuted e) = IsRefuted kind a.subject d e
+IsPricing kind a d (Spent goal steps) = IsSpent kind a d goal steps
+
+-- the clauses and the combination, as a search for the greatest value takes them
+pub record IsWcnf (kind : ClaimKind) (s : Subject) (d : Dual) (p : Wcnf) : Type 0 where
+  pub hard : p.hard ≡ form_of s.parts.nodes
+  pub soft : p.soft ≡ (combined kind s d).terms
+  pub base : p.base ≡ (combined kind s d).base

@@ -1,0 +1,16 @@
+-- The steps of the last search for a greatest value.
+use Rattle.std.specs.Prelude.{ℕ, List, pos}
+use Rattle.ps_steps.specs.Steps.{Step, Refutes}
+use Rattle.ps_forms.specs.Forms.{first_known}
+use Rattle.ps_maxsat.specs.declared.problem.Wcnf.{Wcnf}
+use Rattle.ps_maxsat.specs.declared.pricing.Priced.{Priced}
+use Rattle.ps_maxsat.specs.declared.pricing.Priced.TheVariants.{NoneAbove, Best, Cut, Spent}
+use Rattle.ps_maxsat.specs.Values.{goal_of}
+use Rattle.ps_runs.specs.Searches.{IsSpentSearch}
+
+-- the steps refute that a value is at least 1, or are those of the search that was spent
+abbrev pub HasSteps : Wcnf → ℕ → Priced → List Step → Type 0
+HasSteps p conflicts (NoneAbove last) steps = Refutes p.hard.variables (first_known p.hard (goal_of p (pos 1))) steps
+HasSteps p conflicts (Best a v searches) steps = Unit {0}
+HasSteps p conflicts (Cut a v least searches) steps = IsSpentSearch p.hard (goal_of p least) conflicts steps
+HasSteps p conflicts (Spent learned) steps = IsSpentSearch p.hard (goal_of p (pos 1)) conflicts steps

@@ -1,0 +1,9 @@
+//! Pricing: a world in which a dual's combination is at least 1, or the refutation that there is one.
+#![tactic(auto)]
+
+mod pricer;
+mod pricing;
+mod sought;
+
+pub use pricer::Pricer;
+pub use pricing::Pricing;

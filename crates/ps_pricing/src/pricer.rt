@@ -1,0 +1,168 @@
+//! The pricing of a problem's duals.
+ghost use Rattle.std.specs.Prelude.{◌≡◌, ◌≤◌, List, Bool, length, IfOk};
+ghost use Rattle.ps_steps.specs.Assignments.{full};
+ghost use Rattle.ps_forms.specs.Extensions.{IsWorldOf};
+ghost use Rattle.ps_sat.specs.Limits.{most_conflicts};
+ghost use Rattle.ps_maxsat.specs.Limits.{IsNarrow, IsSoftWithin};
+ghost use Rattle.ps_runs.specs.Runs.{IsAsked, atoms_of, given_in, both_in};
+ghost use Rattle.ps_pricing.specs.Pricings.{IsDualFor, IsPricing, IsWcnf};
+
+use crate::pricing::Pricing;
+use crate::sought::{Sought, seek};
+use ps_answer::Dual;
+use ps_certificate::{ClaimKind, Combination, combination};
+use ps_clause::{ClauseForm, clauses_of, world_of};
+use ps_formula::World;
+use ps_io::NoMemory;
+use ps_maxsat::{Priced, Wcnf};
+use ps_pb::{Assignment, Steps, from_weights};
+use ps_problem::{Problem, Query};
+use std::alloc::Global;
+use std::marker::Model;
+
+/// What duals are priced over: a problem with the clause form of its nodes, and a query, or none; and how many clauses a
+/// search may learn.
+#[derive(Drop)]
+pub struct Pricer<'p> {
+    problem: &'p Problem,
+    form: ClauseForm,
+    query: Option<Query>,
+    conflicts: u64,
+}
+
+impl<'p> Model for Pricer<'p> {
+    ghost use Rattle.std.specs.Prelude.{◌≡◌, ◌≤◌};
+    ghost use Rattle.ps_forms.specs.Forms.{form_of};
+    ghost use Rattle.ps_sat.specs.Limits.{most_conflicts};
+    ghost use Rattle.ps_pricing.specs.Pricings.{Asked};
+
+    ghost Value = { Asked };
+
+    ghost view = { λ p. record {
+      subject = record { parts = p.problem.now; query = p.query };
+      conflicts = p.conflicts;
+    } };
+
+    ghost invariant = { λ p.
+        (p.form ≡ form_of p.problem.now.nodes) × (p.conflicts ≤ most_conflicts) };
+}
+
+impl<'p> Pricer<'p> {
+    /// For a problem and a query, or none.
+    pub fn new(
+        alloc: Global,
+        problem: &'p Problem,
+        query: Option<Query>,
+        conflicts: u64,
+    ) -> Result<Pricer<'p>, NoMemory>
+        requires { conflicts ≤ most_conflicts }
+        ensures value { IfOk result (λ p. p ≡ record {
+          subject = record { parts = problem.now; query = query };
+          conflicts = conflicts;
+        }) }
+    {
+        Ok(Pricer {
+            problem,
+            form: clauses_of(alloc, problem.formulas())?,
+            query,
+            conflicts,
+        })
+    }
+
+    /// The evidence of the query.
+    fn given(&self) -> Option<u32>
+        ensures { result ≡ given_in self.now.subject.query }
+    {
+        match self.query {
+            Some(query) => query.given,
+            None => None,
+        }
+    }
+
+    /// The node of the query with its evidence, and 0 without a query.
+    fn both(&self) -> u32
+        ensures { result ≡ both_in self.now.subject.query }
+    {
+        match self.query {
+            Some(query) => query.both,
+            None => 0,
+        }
+    }
+
+    /// The clauses, with the combination of a dual as what is to be greatest.
+    #[tactic(auto, using(crate::proofs::Terms::given_there, crate::proofs::Terms::both_there))]
+    fn wcnf(&self, alloc: Global, kind: ClaimKind, dual: &Dual) -> Result<Wcnf, NoMemory>
+        requires asked { IsAsked kind self.now.subject.parts self.now.subject.query }
+        requires dual { IsDualFor self.now.subject.parts dual.now }
+        ensures value { IfOk result (IsWcnf kind self.now.subject dual.now) }
+        ensures narrow { IfOk result IsNarrow }
+        ensures within { IfOk result IsSoftWithin }
+    {
+        let _sound = self.problem.bound_list();
+        let (given, both) = (self.given(), self.both());
+        let Combination { terms, base } = combination(
+            alloc,
+            self.problem,
+            kind,
+            given,
+            both,
+            dual,
+        )?;
+        Ok(Wcnf {
+            hard: self.form.copy(alloc)?,
+            soft: terms,
+            base,
+        })
+    }
+
+    /// The world of an assignment.
+    fn world(&self, alloc: Global, assignment: &Assignment) -> Result<World, NoMemory>
+        ensures length { IfOk result (λ w. length w ≡ atoms_of self.now.subject) }
+        ensures of { (w : List Bool) → assignment.now ≡ full w → IfOk result
+            (IsWorldOf (atoms_of self.now.subject) self.now.subject.parts.nodes w) }
+    {
+        world_of(
+            alloc,
+            self.problem.formulas(),
+            self.problem.atoms(),
+            assignment,
+        )
+    }
+
+    /// Looks for a world of greatest combination of a dual, if one is at least 1. The claim's condition has as many
+    /// multipliers as the problem has bounds, and numbers of at most 2^90 in size.
+    pub fn price(&self, alloc: Global, kind: ClaimKind, dual: Dual) -> Result<Pricing, NoMemory>
+        requires asked { IsAsked kind self.now.subject.parts self.now.subject.query }
+        requires dual { IsDualFor self.now.subject.parts dual }
+        ensures { IfOk result (IsPricing kind self.now dual) }
+    {
+        let _sound = self.problem.bound_list();
+        let wcnf = self.wcnf(alloc, kind, &dual)?;
+        let Sought { priced, steps } = seek(alloc, &wcnf, self.conflicts)?;
+        match priced {
+            Priced::NoneAbove { last: _ } => Ok(Pricing::Refuted(refuted(dual, steps))),
+            Priced::Spent { learned: _ } => Ok(Pricing::Spent {
+                goal: from_weights(alloc, wcnf.soft.as_slice(), 1 - wcnf.base)?,
+                steps,
+            }),
+            Priced::Best { assignment, .. } => {
+                Ok(Pricing::Found(self.world(alloc, &assignment)?))
+            }
+            Priced::Cut { assignment, .. } => {
+                Ok(Pricing::Found(self.world(alloc, &assignment)?))
+            }
+        }
+    }
+}
+
+/// A dual with the steps of a refutation.
+fn refuted(dual: Dual, steps: Steps) -> Dual
+    ensures { result ≡ record dual { steps = steps } }
+{
+    Dual {
+        top: dual.top,
+        head: dual.head,
+        rows: dual.rows,
+        steps,
+    }
+}

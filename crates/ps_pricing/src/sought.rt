@@ -1,0 +1,39 @@
+//! A search for the greatest value, with its steps.
+ghost use Rattle.std.specs.Prelude.{◌≤◌, IfOk};
+ghost use Rattle.ps_sat.specs.Limits.{most_conflicts};
+ghost use Rattle.ps_maxsat.specs.Limits.{IsNarrow, IsSoftWithin};
+ghost use Rattle.ps_maxsat.specs.Values.{IsPriced};
+ghost use Rattle.ps_pricing.specs.Sought.{HasSteps};
+
+use ps_io::NoMemory;
+use ps_log::HeldLog;
+use ps_maxsat::{Priced, Wcnf, best};
+use ps_pb::Steps;
+use ps_sat::SearchError;
+use std::alloc::Global;
+
+/// What was found, and the steps of the last search.
+#[derive(Drop)]
+pub(crate) struct Sought {
+    pub(crate) priced: Priced,
+    pub(crate) steps: Steps,
+}
+
+/// Looks for the greatest value.
+pub(crate) fn seek(alloc: Global, wcnf: &Wcnf, conflicts: u64) -> Result<Sought, NoMemory>
+    requires soft { IsSoftWithin wcnf.now }
+    requires sizes { IsNarrow wcnf.now }
+    requires few { conflicts ≤ most_conflicts }
+    ensures priced { IfOk result (λ s. IsPriced wcnf.now conflicts s.priced) }
+    ensures steps { IfOk result (λ s. HasSteps wcnf.now conflicts s.priced s.steps) }
+{
+    let mut log = HeldLog::new(alloc);
+    match best(alloc, wcnf, conflicts, &mut log) {
+        Ok(priced) => Ok(Sought {
+            priced,
+            steps: log.take_steps(),
+        }),
+        Err(SearchError::NoMemory) => Err(NoMemory),
+        Err(SearchError::LogFault) => unreachable!(),
+    }
+}
