@@ -1,11 +1,10 @@
 -- A run's table with the column of one world more.
-use Rattle.std.proofs.Common.{◌≡◌, ℕ, zero, suc, ◌+◌, ◌-◌, ◌<◌, ◌≤◌, pos, List, [], ◌∷◌, ◌++◌, map, length, get_or, get_or-append-add, sym, refl, ap, ◌∙◌, subst, arith}
+use Rattle.std.proofs.Common.{◌≡◌, suc, ◌+◌, ◌-◌, ◌<◌, pos, List, [], ◌∷◌, ◌++◌, map, length, get_or, sym, refl, ap, ◌∙◌, subst, arith}
 use Rattle.std.proofs.lemmas.List.{length-append, map-append}
 use Rattle.ps_meaning.specs.Formula.{World}
-use Rattle.ps_rational.specs.Rational.{Rational, fraction}
+use Rattle.ps_rational.specs.Rational.{fraction}
 use Rattle.ps_rational.specs.Order.{IsNonneg}
-use Rattle.ps_basis.specs.Table.{HasHomes, Stands}
-use Rattle.ps_table.specs.declared.costs.Costs.{Costs}
+use Rattle.ps_basis.specs.Table.{HasHomes}
 use Rattle.ps_table.specs.Tableau.{Tableau, IsTableau, IsAdded, StandsWith, StandsFor, StandsForHomes, HasUnitHomes, HasBasicHomes, IsColumn, rows_of as table_rows, width_of as table_width, number_in, entry_at, basic_at}
 use Rattle.ps_claims.specs.declared.claim_kind.ClaimKind.{ClaimKind}
 use Rattle.ps_runs.specs.Rows.{Setting, artificial_rows, home_cost, world_cost, entries_of, rows_of, width_of, columns_of}
@@ -14,7 +13,7 @@ use Rattle.ps_runs.proofs.Columns.{has_homes, world_at}
 use Rattle.ps_runs.proofs.Starts.{stands_same, more_worlds, unit_nonneg}
 use Rattle.ps_runs.proofs.Pricing.{last_world}
 use Rattle.ps_phases.specs.Tables.{homes_of, costs_for, IsRunTable, stage_at}
-use Rattle.ps_phases.proofs.Shapes.{rows_are, width_is, stands_there, stands_back, run_table, homes_count}
+use Rattle.ps_phases.proofs.Shapes.{rows_are, stands_there, stands_back, run_table, homes_count}
 
 module _ (s : Setting) (pool : List World) (w : World) (t : Tableau) (run : IsRunTable s pool t) where
   abbrev more : List World

@@ -1,5 +1,5 @@
 -- A phase one that ends where it has come to is lawful.
-use Rattle.std.proofs.Common.{◌≡◌, ℕ, ◌+◌, Some, None, List, [], ◌∷◌, ◌++◌, refl, ap, ◌∙◌, sym, subst, arith}
+use Rattle.std.proofs.Common.{◌≡◌, ℕ, ◌+◌, Some, None, List, [], ◌∷◌, ◌++◌, ap, sym, subst, arith}
 use Rattle.ps_meaning.specs.Formula.{World}
 use Rattle.ps_pool.specs.declared.event.Event.{Event}
 use Rattle.ps_pool.specs.declared.event.Event.TheVariants.{Priced}

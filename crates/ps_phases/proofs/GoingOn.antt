@@ -1,22 +1,21 @@
 -- A phase that is under way goes on: by the pivots of `settle`, and by worlds that are priced.
-use Rattle.std.proofs.Common.{◌≡◌, ◌≢◌, ℕ, zero, suc, ◌+◌, ◌<◌, pos, ◌≤ℤ◌, Some, None, List, [], ◌∷◌, ◌++◌, length, get_or, All, sym, refl, ap, ◌∙◌, subst, arith}
+use Rattle.std.proofs.Common.{◌≡◌, ◌≢◌, ℕ, zero, suc, ◌<◌, pos, ◌≤ℤ◌, Some, None, List, [], ◌∷◌, ◌++◌, length, get_or, sym, ap, ◌∙◌, subst, arith}
 use Rattle.std.proofs.lemmas.List.{append-nil, append_assoc, get_or_default}
 use Rattle.std.proofs.lemmas.Option.{slice_get_within, get_or_from_slice_get}
 use Rattle.std.proofs.lemmas.List.Elements.{All-nil, All-append, All-cons}
 use Rattle.std.proofs.lemmas.List.Quantifiers.{all_pairs_push}
 use Rattle.ps_meaning.specs.Formula.{World}
-use Rattle.ps_rational.specs.Rational.{Rational}
 use Rattle.ps_pool.specs.Worlds.{HasNumber}
 use Rattle.ps_pool.specs.declared.event.Event.{Event}
-use Rattle.ps_pool.specs.declared.event.Event.TheVariants.{Pivot, Priced}
+use Rattle.ps_pool.specs.declared.event.Event.TheVariants.{Priced}
 use Rattle.ps_pool.specs.declared.col.Col.TheVariants as col
 use Rattle.ps_table.specs.Tableau.{Tableau, IsTableau, IsAdded, StandsWith, number_in, entry_at, basic_at}
 use Rattle.ps_bland.specs.Ready.{HasValues}
 use Rattle.ps_bland.specs.Runs as bland
 use Rattle.ps_claims.specs.declared.claim_kind.ClaimKind.{ClaimKind}
 use Rattle.ps_runs.specs.Rows.{entries_of}
-use Rattle.ps_runs.specs.Runs.{Subject, setting_of, atoms_of, Stage, IsPool, gain_at, IsPricedBy, LeadsTo, still, priced, LeadsToPending, pending, pivots_in}
-use Rattle.ps_runs.proofs.Composed.{pivots_in-append, leads_on, leads_on_pending}
+use Rattle.ps_runs.specs.Runs.{Subject, setting_of, atoms_of, Stage, IsPool, gain_at, IsPricedBy, LeadsTo, still, priced, LeadsToPending, pending}
+use Rattle.ps_runs.proofs.Composed.{pivots_in-append, leads_on}
 use Rattle.ps_runs.proofs.Pricing.{priced_is_new}
 use Rattle.ps_phases.specs.Tables.{phase_of, costs_for, IsRunTable, stage_at, IsUnderWay}
 use Rattle.ps_phases.proofs.Shapes.{run_table}

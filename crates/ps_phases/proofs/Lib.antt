@@ -6,3 +6,5 @@ pub mod Licensing
 pub mod GoingOn
 pub mod Ending
 pub mod Progress
+pub mod NodeColumns
+pub mod Counted

@@ -1,9 +1,9 @@
 -- Where a run's table stands, and that a refusal at one of its places licenses an open part.
-use Rattle.std.proofs.Common.{◌≡◌, ◌↔◌, ℕ, ◌<◌, List, length, sym, refl, subst}
+use Rattle.std.proofs.Common.{◌≡◌, ℕ, ◌<◌, List, length, subst}
 use Rattle.ps_meaning.specs.Formula.{World}
 use Rattle.ps_rational.specs.Rational.{Rational}
 use Rattle.ps_frac.specs.declared.wide.Op.{Op}
-use Rattle.ps_rule.specs.Rule.{Phase, SimplexTable, IsDueToEnd, IsMoving, IsResting}
+use Rattle.ps_rule.specs.Rule.{IsDueToEnd, IsMoving, IsResting}
 use Rattle.ps_pool.specs.declared.col.Col.TheVariants.{Home}
 use Rattle.ps_table.specs.declared.place.Place.{Place}
 use Rattle.ps_table.specs.declared.place.WideAt.{WideAt}
@@ -16,7 +16,7 @@ use Rattle.ps_bland.specs.DuePlaces.{DuePlace}
 use Rattle.ps_bland.proofs.DuePlaces.{due_there}
 use Rattle.ps_claims.specs.declared.claim_kind.ClaimKind.{ClaimKind}
 use Rattle.ps_claims.specs.declared.claim_kind.ClaimKind.TheVariants.{Nothing}
-use Rattle.ps_runs.specs.Rows.{stage_of, rows_of, width_of, columns_of, cost_of, entries_of, table_of}
+use Rattle.ps_runs.specs.Rows.{stage_of, rows_of, columns_of, entries_of}
 use Rattle.ps_runs.specs.Runs.{Subject, setting_of, Stage, table_at, costs_at, BelongsTo, IsMovingAt, IsRestingAt, IsFeasibleAt}
 use Rattle.ps_phases.specs.Tables.{phase_of, costs_for, IsRunTable, stage_at}
 use Rattle.ps_phases.specs.Licences.{DueAt, for_pivots, for_multiplier, for_dual, for_model, IsModelDue, IsTooWide, IsColumnTooWide}

@@ -1,8 +1,8 @@
 -- After the column of a priced world the table is moving, so `settle` makes a pivot before it ends.
-use Rattle.std.proofs.Common.{◌≡◌, ℕ, suc, ◌+◌, ◌<◌, pos, List, [], ◌∷◌, ◌++◌, length, get_or, sym, refl, ap, ◌∙◌, subst, arith}
+use Rattle.std.proofs.Common.{◌≡◌, ℕ, suc, ◌+◌, ◌<◌, List, [], ◌∷◌, ◌++◌, length, get_or, sym, ap, ◌∙◌, subst, arith}
 use Rattle.std.proofs.lemmas.List.{length-append}
 use Rattle.ps_meaning.specs.Formula.{World}
-use Rattle.ps_rational.specs.Rational.{Rational, mul}
+use Rattle.ps_rational.specs.Rational.{mul}
 use Rattle.ps_rational.proofs.Sums.{sum_same}
 use Rattle.ps_basis.specs.Table.{Widened}
 use Rattle.ps_rule.specs.Rule.{IsMoving}

@@ -1,11 +1,10 @@
 -- A run's table is ready for each phase with the phase's costs.
-use Rattle.std.proofs.Common.{◌≡◌, ◌≢◌, ◌⊎◌, ℕ, zero, suc, ◌+◌, ◌-◌, ◌<◌, ◌≤◌, ℤ, pos, negsuc, neg_ℤ, ◌≤ℤ◌, Bool, true, false, cond, List, [], ◌∷◌, ◌++◌, map, length, get_or, sym, refl, ap, ◌∙◌, subst, arith}
+use Rattle.std.proofs.Common.{◌≡◌, ℕ, suc, ◌+◌, ◌<◌, ◌≤◌, ℤ, pos, negsuc, neg_ℤ, ◌≤ℤ◌, Bool, true, false, cond, List, [], map, length, get_or, sym, ap, ◌∙◌, subst, arith}
 use Rattle.std.proofs.lemmas.Int.{ints}
 use Rattle.ps_meaning.specs.Formula.{World, is_true}
-use Rattle.ps_rational.specs.Rational.{Rational, one_q, zero_q}
+use Rattle.ps_rational.specs.Rational.{one_q, zero_q}
 use Rattle.ps_rule.specs.Rule.{IsFeasible}
-use Rattle.ps_table.specs.declared.costs.Costs.{Costs}
-use Rattle.ps_table.specs.Tableau.{Tableau, basic_at, entry_at}
+use Rattle.ps_table.specs.Tableau.{Tableau}
 use Rattle.ps_table.specs.Pricing.{HasCosts}
 use Rattle.ps_bland.specs.declared.phase.Phase.TheVariants as phase
 use Rattle.ps_bland.specs.Rules.{simplex_of}
@@ -13,12 +12,12 @@ use Rattle.ps_bland.specs.Ready.{IsReady}
 use Rattle.ps_bland.proofs.Posed.{ready_posed}
 use Rattle.ps_claims.specs.declared.claim_kind.ClaimKind.{ClaimKind}
 use Rattle.ps_claims.specs.declared.claim_kind.ClaimKind.TheVariants.{Nothing, Lower, Upper}
-use Rattle.ps_runs.specs.Rows.{Setting, both_of, artificial_rows, rows_of, width_of, columns_of, home_cost, world_cost, cost_of, table_of}
+use Rattle.ps_runs.specs.Rows.{Setting, both_of, artificial_rows, rows_of, width_of, columns_of, home_cost, world_cost}
 use Rattle.ps_runs.proofs.Lists.{get_map, length_map}
 use Rattle.ps_runs.proofs.Columns.{rows_length}
 use Rattle.ps_runs.proofs.Starts.{first_costs, side_homes, lower_worlds, upper_worlds, row_homes, row_worlds, row_costly}
-use Rattle.ps_phases.specs.Tables.{phase_of, costs_for, IsRunTable}
-use Rattle.ps_phases.proofs.Shapes.{rows_are, width_is, artificial_is, same_table}
+use Rattle.ps_phases.specs.Tables.{costs_for, IsRunTable}
+use Rattle.ps_phases.proofs.Shapes.{rows_are, width_is, artificial_is}
 
 abbrev is_first : ClaimKind → Type 0
 is_first Nothing = Unit {0}

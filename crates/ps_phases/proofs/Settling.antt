@@ -1,5 +1,5 @@
 -- The pivots of `settle` lead lawfully from stage to stage.
-use Rattle.std.proofs.Common.{◌≡◌, ℕ, suc, ◌+◌, ◌<◌, List, [], ◌∷◌, ◌++◌, length, sym, refl, ap, ◌∙◌, subst, arith}
+use Rattle.std.proofs.Common.{◌≡◌, ℕ, List, [], ◌∷◌, length, refl, ◌∙◌, subst, arith}
 use Rattle.std.proofs.lemmas.List.{length-append}
 use Rattle.ps_meaning.specs.Formula.{World}
 use Rattle.ps_rational.specs.Rational.{Rational}
@@ -7,18 +7,16 @@ use Rattle.ps_basis.specs.Table.{Based, Stands}
 use Rattle.ps_rule.specs.Rule.{Phase, SimplexTable, IsDueToEnd, Enters, Leaves}
 use Rattle.ps_pool.specs.declared.col.Col.{Col}
 use Rattle.ps_pool.specs.declared.event.Event.{Event}
-use Rattle.ps_pool.specs.declared.event.Event.TheVariants.{Pivot, Priced}
-use Rattle.ps_table.specs.declared.costs.Costs.{Costs}
+use Rattle.ps_pool.specs.declared.event.Event.TheVariants.{Pivot}
 use Rattle.ps_table.specs.Tableau.{Tableau, IsInside, StandsFor, number_in, entry_at, basic_at}
-use Rattle.ps_table.specs.Pricing.{cost_at}
-use Rattle.ps_bland.specs.Rules.{simplex_of, stage, IsLawful}
+use Rattle.ps_bland.specs.Rules.{simplex_of, IsLawful}
 use Rattle.ps_bland.specs.Runs as bland
 use Rattle.ps_claims.specs.declared.claim_kind.ClaimKind.{ClaimKind}
 use Rattle.ps_runs.specs.Rows.{stage_of, rows_of, width_of, columns_of, cost_of, table_of}
-use Rattle.ps_runs.specs.Runs.{Subject, setting_of, Stage, LeadsTo, still, pivoted, IsLawfulPivot, pivots_in}
+use Rattle.ps_runs.specs.Runs.{Subject, setting_of, LeadsTo, still, pivoted, IsLawfulPivot, pivots_in}
 use Rattle.ps_runs.proofs.Composed.{pivots_in-append}
 use Rattle.ps_phases.specs.Tables.{phase_of, homes_of, costs_for, stage_at}
-use Rattle.ps_phases.proofs.Shapes.{rows_are, width_is, same_table, stands_there, stages}
+use Rattle.ps_phases.proofs.Shapes.{rows_are, same_table, stands_there, stages}
 
 -- what the rule says of a table and of a column's number, where they are the same
 abbrev RuleAllows : Phase → SimplexTable → (ℕ → Rational) → ℕ → ℕ → Type 0

@@ -1,12 +1,11 @@
 -- A solver's table of the setting's rows and the pool's worlds is, as the rule sees it, the table of the setting.
-use Rattle.std.proofs.Common.{◌≡◌, ℕ, zero, suc, ◌+◌, ◌-◌, ◌<◌, ◌≤◌, Bool, true, false, List, [], ◌∷◌, map, length, get_or, sym, refl, ap, ◌∙◌, subst, arith}
+use Rattle.std.proofs.Common.{◌≡◌, ℕ, zero, suc, ◌+◌, ◌-◌, ◌<◌, Bool, true, false, List, [], ◌∷◌, map, length, get_or, sym, refl, ap, ◌∙◌, subst, arith}
 use Rattle.ps_meaning.specs.Formula.{World}
 use Rattle.ps_rational.specs.Rational.{Rational}
-use Rattle.ps_basis.specs.Table.{Stands, Belongs}
+use Rattle.ps_basis.specs.Table.{Stands}
 use Rattle.ps_pool.specs.declared.col.Col.{Col}
 use Rattle.ps_pool.specs.declared.col.Col.TheVariants as col
-use Rattle.ps_table.specs.declared.home.Home.{Home}
-use Rattle.ps_table.specs.declared.home.Home.TheVariants.{Slack, Artificial}
+use Rattle.ps_table.specs.declared.home.Home.TheVariants.{Slack}
 use Rattle.ps_table.specs.Tableau.{Tableau, IsInside, StandsFor, number_in, entry_at, basic_at}
 use Rattle.ps_bland.specs.Rules.{simplex_of, is_artificial, artificial_at, stage}
 use Rattle.ps_claims.specs.declared.claim_kind.ClaimKind.{ClaimKind}

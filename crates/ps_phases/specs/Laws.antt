@@ -1,8 +1,12 @@
 -- Laws of runs over the solver's tables.
-use Rattle.std.specs.Prelude.{◌≡◌, ℕ, ◌<◌, Some, None, List, [], ◌∷◌, ◌++◌, length}
+use Rattle.std.specs.Prelude.{◌≡◌, ℕ, ◌<◌, Some, None, List, [], ◌∷◌, ◌++◌, map}
 use Rattle.ps_meaning.specs.Formula.{World}
-use Rattle.ps_rational.specs.Rational.{Rational}
 use Rattle.ps_rule.specs.Rule.{IsFeasible, IsMoving, IsResting}
+use Rattle.ps_formula.specs.Nodes.{truths}
+use Rattle.ps_problem.specs.Problems.{Parts, AreParts, bounds_in}
+use Rattle.ps_table.specs.declared.home.Home.{Home}
+use Rattle.ps_table.specs.declared.costs.Costs.{Costs}
+use Rattle.ps_columns.specs.Columns.{column_over, homes_over, home_cost, cost_over, costs_over}
 use Rattle.ps_pool.specs.Worlds.{HasNumber}
 use Rattle.ps_pool.specs.declared.event.Event.{Event}
 use Rattle.ps_pool.specs.declared.event.Event.TheVariants.{Priced}
@@ -15,6 +19,8 @@ use Rattle.ps_bland.specs.Ends.{IsDueWide}
 use Rattle.ps_bland.specs.Ready.{HasValues, IsReady}
 use Rattle.ps_bland.specs.Runs as bland
 use Rattle.ps_answer.specs.declared.answer.Cause.TheVariants.{Wide}
+use Rattle.ps_answer.specs.declared.answer.Answer.{Answer}
+use Rattle.ps_answer.specs.Answers.{IsAnswerCounted}
 use Rattle.ps_answer.specs.declared.answer.SideAnswer.{SideAnswer}
 use Rattle.ps_answer.specs.declared.answer.SideAnswer.TheVariants as side
 use Rattle.ps_answer.specs.declared.answer.Verdict.{Verdict}
@@ -22,10 +28,10 @@ use Rattle.ps_answer.specs.declared.answer.Verdict.TheVariants.{Open}
 use Rattle.ps_claims.specs.declared.claim_kind.ClaimKind.{ClaimKind}
 use Rattle.ps_claims.specs.declared.claim_kind.ClaimKind.TheVariants.{Nothing, Lower, Upper}
 use Rattle.ps_runs.specs.Rows.{Setting, world_cost, table_of, entries_of, IsTable}
-use Rattle.ps_runs.specs.Runs.{Subject, setting_of, atoms_of, Stage, IsStart, IsPool, IsMovingAt, IsRestingAt, IsFeasibleAt, IsPricedBy, LeadsTo, LeadsToPending, pivots_in}
+use Rattle.ps_runs.specs.Runs.{Subject, setting_of, given_in, both_in, IsAsked, atoms_of, Stage, IsStart, IsPool, IsMovingAt, IsRestingAt, IsFeasibleAt, IsPricedBy, LeadsToPending}
 use Rattle.ps_phases.specs.Tables.{phase_of, homes_of, costs_for, IsRunTable, stage_at, IsUnderWay}
 use Rattle.ps_phases.specs.Licences.{IsModelDue, IsTooWide, IsColumnTooWide}
-use Rattle.ps_phases.specs.Verdicts.{IsVerdictAt, IsLawfulPhaseOne, IsSideAt, IsLawfulSide}
+use Rattle.ps_phases.specs.Verdicts.{IsVerdictAt, IsLawfulPhaseOne, IsSideAt, IsLawfulSide, IsLawfulAnswer}
 
 -- a new table of the homes is one of the run, at its start
 pub record NewTablesStart : Type 0 where
@@ -130,3 +136,19 @@ pub record SidesEndLawfully : Type 0 where
 abbrev pub CostsGrow : Type 0
 CostsGrow = (kind : ClaimKind) (s : Setting) (pool : List World) (w : World)
     → costs_for kind s (pool ++ w ∷ []) ≡ record { homes = (costs_for kind s pool).homes; worlds = (costs_for kind s pool).worlds ++ world_cost kind s w ∷ [] }
+
+-- columns, homes and costs by the truth values of a problem's nodes are those of the setting
+pub record NodesGiveTheSetting : Type 0 where
+  pub column : (s : Subject) (w : World) → AreParts s.parts
+      → column_over (truths s.parts.nodes w) (bounds_in s.parts.sentences) (given_in s.query) ≡ entries_of (setting_of s) w
+  pub homes : (s : Subject) → homes_over (bounds_in s.parts.sentences) ≡ homes_of (setting_of s)
+  pub cost : (kind : ClaimKind) (s : Subject) (w : World) → IsAsked kind s.parts s.query
+      → cost_over (phase_of kind) (both_in s.query) (truths s.parts.nodes w) ≡ world_cost kind (setting_of s) w
+  pub costs : (kind : ClaimKind) (s : Subject) (pool : List World) (kinds : List Home) → IsAsked kind s.parts s.query
+      → kinds ≡ homes_of (setting_of s)
+      → record { homes = map (home_cost (phase_of kind)) kinds; worlds = costs_over (phase_of kind) s.parts.nodes (both_in s.query) pool }
+      ≡ costs_for kind (setting_of s) pool
+
+-- a lawful answer holds as many steps as their limit in each part that is open for conflicts
+abbrev pub LawfulAnswersAreCounted : Type 0
+LawfulAnswersAreCounted = (p : Parts) (pivots conflicts : ℕ) (a : Answer) → IsLawfulAnswer p pivots conflicts a → IsAnswerCounted a

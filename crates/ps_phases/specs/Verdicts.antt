@@ -1,5 +1,5 @@
 -- Lawful answers: what is answered is what the events of its runs lead to, within the limits of pivots and conflicts.
-use Rattle.std.specs.Prelude.{◌≡◌, ℕ, ◌+◌, Option, Some, None, List, []}
+use Rattle.std.specs.Prelude.{◌≡◌, ℕ, ◌+◌, Option, None, List, []}
 use Rattle.std.specs.List.{AllZip}
 use Rattle.ps_meaning.specs.Formula.{World}
 use Rattle.ps_rational.specs.Rational.{Rational}

@@ -2,7 +2,8 @@
 
 ghost use Rattle.ps_phases.specs.Laws.{NewTablesStart, RunTablesAreReady, PhasesGoOn};
 ghost use Rattle.ps_phases.specs.Laws.{SettledStages, RefusalsAreLicensed, PhaseOneEndsLawfully, CostsGrow};
-ghost use Rattle.ps_phases.specs.Laws.{PricedWorldsTakePivots, SidesEndLawfully};
+ghost use Rattle.ps_phases.specs.Laws.{PricedWorldsTakePivots, SidesEndLawfully, NodesGiveTheSetting};
+ghost use Rattle.ps_phases.specs.Laws.{LawfulAnswersAreCounted};
 
 /// A new table of the homes is one of the run, at its start. As the rule sees it a run's table is
 /// that of its setting, and it is ready for each phase with the phase's costs: for the sides where
@@ -28,8 +29,16 @@ pub fn licences()
 {}
 
 /// Where phase one has come from the start to a stage, the answer that is due there is lawful; and
-/// so for a side that has come from where the phase before it ended.
+/// so for a side that has come from where the phase before it ended. A lawful answer that is open
+/// for conflicts has as many steps as their limit.
 pub fn lawful_ends()
     ensures lawful { PhaseOneEndsLawfully }
     ensures sides { SidesEndLawfully }
+    ensures counted { LawfulAnswersAreCounted }
+{}
+
+/// The columns, the homes and the costs that are told by the truth values of a problem's nodes are
+/// those of its bounds and of the query.
+pub fn node_columns()
+    ensures setting { NodesGiveTheSetting }
 {}

@@ -6,4 +6,4 @@
 
 mod laws;
 
-pub use laws::{lawful_ends, licences, phases_go_on, run_tables};
+pub use laws::{lawful_ends, licences, node_columns, phases_go_on, run_tables};
