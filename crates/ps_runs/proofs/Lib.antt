@@ -15,3 +15,4 @@ pub mod Composed
 pub mod Certified
 pub mod Tight
 pub mod Weighing
+pub mod Priced

@@ -9,7 +9,7 @@ use Rattle.ps_basis.specs.Table.{IsFirst, Widened}
 use Rattle.ps_rule.specs.Rule.{SimplexTable, IsFeasible, IsMoving, IsResting}
 use Rattle.ps_pool.specs.declared.event.Event.{Event}
 use Rattle.ps_table.specs.Places.{weight_at}
-use Rattle.ps_steps.specs.Steps.{Refutes}
+use Rattle.ps_steps.specs.Steps.{Step, Refutes}
 use Rattle.ps_forms.specs.Forms.{form_of, first_known, MeetsForm}
 use Rattle.ps_forms.specs.Extensions.{extension}
 use Rattle.ps_problem.specs.declared.query.Query as stored
@@ -22,7 +22,8 @@ use Rattle.ps_claims.specs.Duals.{Dual, combination, HaveSigns, HasNothingHead, 
 use Rattle.ps_claims.specs.Goals.{value_under}
 use Rattle.ps_claims.specs.Validity.{IsRefuted, ShowsNothing, ShowsTight}
 use Rattle.ps_runs.specs.Rows.{Setting, both_of, stage_of, artificial_of, rows_of, columns_of, width_of, world_cost, cost_of, table_of, IsTable}
-use Rattle.ps_runs.specs.Runs.{Subject, subject_of, setting_of, given_in, both_in, IsAsked, atoms_of, combination_over, goal_at_least, Stage, IsPool, table_at, costs_at, dual_at, AreAtMost, LeadsTo, LeadsToPending, pivots_in}
+use Rattle.ps_runs.specs.Searches.{IsSpentSearch}
+use Rattle.ps_runs.specs.Runs.{Subject, subject_of, setting_of, given_in, both_in, IsAsked, atoms_of, combination_over, goal_at_least, Stage, IsPool, table_at, costs_at, dual_at, AreAtMost, IsRestingAt, IsPricedBy, IsDualAt, LeadsTo, LeadsToPending, pivots_in}
 use Rattle.ps_runs.specs.Certificates.{HaveSameNumbers, table_dual, combination_at, multiple_of, price, value_of, weight_multiple, entry_for, entry_weighing, weighted_worlds, table_model}
 
 -- the combination of a table's dual in a world is a positive multiple of what the multipliers price the world's column above
@@ -139,3 +140,23 @@ pub record WorldsWeighTheirRows : Type 0 where
   pub none : (s : Setting) (pool : List World) (basic : ℕ → ℕ) (X : ℕ → ℕ → Rational) → IsTable s pool basic X → (k : ℕ) (w : World)
       → ((i : ℕ) → i < rows_of s → basic i ≢ suc (rows_of s + k))
       → entry_for (weight_multiple (table_of s pool basic X)) (value_of (table_of s pool basic X) (suc (rows_of s + k))) w ≡ []
+
+-- duals with the same numbers have the same goals; and what is found, over the nodes, of a dual with the numbers of a resting
+-- table is so of the table: a world is priced, or the table ends with the dual
+pub record PricingsAreOfTheTable : Type 0 where
+  pub goal : (least : ℤ) (kind : ClaimKind) (s : Subject) (d e : Dual) → HaveSameNumbers d e → goal_at_least least kind s d ≡ goal_at_least least kind s e
+  pub greatest : (kind : ClaimKind) (s : Subject) (conflicts : ℕ) (g : Stage) (X : ℕ → ℕ → Rational) (d : Dual)
+      → HaveSameNumbers d (dual_at kind s g X) → AreParts s.parts → IsAsked kind s.parts s.query → IsRestingAt kind s g X
+      → (w : World) → length w ≡ atoms_of s → pos 1 ≤ℤ value_under (extension s.parts.nodes w) (combination_over kind s d)
+      → ((v : World) → length v ≡ atoms_of s
+      → value_under (extension s.parts.nodes v) (combination_over kind s d) ≤ℤ value_under (extension s.parts.nodes w) (combination_over kind s d))
+      → IsPricedBy kind s conflicts g X w
+  pub cut : (kind : ClaimKind) (s : Subject) (conflicts : ℕ) (g : Stage) (X : ℕ → ℕ → Rational) (d : Dual)
+      → HaveSameNumbers d (dual_at kind s g X) → AreParts s.parts → IsAsked kind s.parts s.query → IsRestingAt kind s g X
+      → (w : World) → length w ≡ atoms_of s → pos 1 ≤ℤ value_under (extension s.parts.nodes w) (combination_over kind s d)
+      → (least : ℤ) (steps : List Step) → value_under (extension s.parts.nodes w) (combination_over kind s d) <ℤ least
+      → IsSpentSearch (form_of s.parts.nodes) (goal_at_least least kind s d) conflicts steps → IsPricedBy kind s conflicts g X w
+  pub dual : (kind : ClaimKind) (s : Subject) (conflicts : ℕ) (g : Stage) (X : ℕ → ℕ → Rational) (d : Dual)
+      → HaveSameNumbers d (dual_at kind s g X) → AreParts s.parts → IsAsked kind s.parts s.query → IsRestingAt kind s g X
+      → (e : Dual) → HaveSameNumbers e d
+      → Refutes (length s.parts.nodes) (first_known (form_of s.parts.nodes) (goal_at_least (pos 1) kind s d)) e.steps → IsDualAt kind s g e

@@ -4,6 +4,7 @@ ghost use Rattle.ps_runs.specs.Laws.{CombinationsArePrices, FeasibleTablesGiveMo
 ghost use Rattle.ps_runs.specs.Laws.{RestingTablesGiveDuals, TablesOfRuns, CostsOfPhases};
 ghost use Rattle.ps_runs.specs.Laws.{EvidenceRow, PricedWorldsMove, EventsCompose};
 ghost use Rattle.ps_runs.specs.Laws.{GainsAreValues, EndsAreValid, WorldsWeighTheirRows};
+ghost use Rattle.ps_runs.specs.Laws.{PricingsAreOfTheTable};
 
 /// The combination of a table's dual in a world is a whole positive multiple of what the
 /// multipliers price the world's column above its cost. So it is at least 1 exactly where the
@@ -46,9 +47,11 @@ pub fn composed_runs()
 {}
 
 /// The combination of a dual over the variables of the nodes has at a world's extension its value
-/// in the world. So what no assignment that meets the clauses is above, no world is above.
+/// in the world. So what no assignment that meets the clauses is above, no world is above, and what
+/// is found over the variables is found of the table.
 pub fn gains()
     ensures values { GainsAreValues }
+    ensures pricings { PricingsAreOfTheTable }
 {}
 
 /// The model of a table at which phase one is due to end shows that the bounds are consistent. A
