@@ -8,3 +8,4 @@ pub mod Ending
 pub mod Progress
 pub mod NodeColumns
 pub mod Counted
+pub mod TableEnds

@@ -1,7 +1,9 @@
 -- A solver's table of the setting's rows and the pool's worlds is, as the rule sees it, the table of the setting.
-use Rattle.std.proofs.Common.{◌≡◌, ℕ, zero, suc, ◌+◌, ◌-◌, ◌<◌, Bool, true, false, List, [], ◌∷◌, map, length, get_or, sym, refl, ap, ◌∙◌, subst, arith}
+use Rattle.std.proofs.Common.{◌≡◌, ℕ, zero, suc, ◌+◌, ◌-◌, ◌<◌, Bool, true, false, List, [], ◌∷◌, map, length, get_or, sym, refl, ap, ◌∙◌, subst, arith, inl, inr}
+use Rattle.std.proofs.lemmas.Bool.{cases_eq}
 use Rattle.ps_meaning.specs.Formula.{World}
 use Rattle.ps_rational.specs.Rational.{Rational}
+use Rattle.ps_rational.proofs.Field.{one_not_zero}
 use Rattle.ps_basis.specs.Table.{Stands}
 use Rattle.ps_pool.specs.declared.col.Col.{Col}
 use Rattle.ps_pool.specs.declared.col.Col.TheVariants as col
@@ -67,3 +69,11 @@ run_table s pool t run =
       last = λ i l. let p = (inside_number (length t.kinds) t.worlds (get_or t.basic i (col.Home 0)) (run.tableau.inside i (omega (arith, l, e)))).1 in omega (arith, p, w);
       values = λ i l. run.values i (omega (arith, l, e));
     }
+
+-- no column is basic in two rows
+pub basics_differ : (s : Setting) (pool : List World) (t : Tableau) → IsRunTable s pool t → (i k : ℕ) → i < length t.kinds → k < length t.kinds → basic_at t i ≡ basic_at t k → i ≡ k
+basics_differ s pool t run i k h l e =
+    elim (cases_eq k i) [
+      | inl same ↦ sym same
+      | inr ne ↦ absurd (one_not_zero (sym (run.stands.here i h) ∙ ap (entry_at t i) e ∙ run.stands.apart i k h l ne))
+    ]

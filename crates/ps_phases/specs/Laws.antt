@@ -1,6 +1,10 @@
 -- Laws of runs over the solver's tables.
-use Rattle.std.specs.Prelude.{◌≡◌, ℕ, ◌<◌, Some, None, List, [], ◌∷◌, ◌++◌, map}
+use Rattle.std.specs.Prelude.{◌≡◌, ℕ, ◌<◌, pos, Some, None, List, [], ◌∷◌, ◌++◌, map}
 use Rattle.ps_meaning.specs.Formula.{World}
+use Rattle.ps_rational.specs.Rational.{Rational}
+use Rattle.ps_rational.specs.Sums.{int_sum_to}
+use Rattle.ps_steps.specs.Steps.{Step}
+use Rattle.ps_forms.specs.Forms.{form_of}
 use Rattle.ps_rule.specs.Rule.{IsFeasible, IsMoving, IsResting}
 use Rattle.ps_formula.specs.Nodes.{truths}
 use Rattle.ps_problem.specs.Problems.{Parts, AreParts, bounds_in}
@@ -13,7 +17,7 @@ use Rattle.ps_pool.specs.declared.event.Event.TheVariants.{Priced}
 use Rattle.ps_table.specs.declared.place.WideAt.{WideAt}
 use Rattle.ps_table.specs.Tableau.{Tableau, IsTableau, IsAdded, StandsWith, StandsForHomes, HasUnitHomes, HasBasicHomes, rows_of as table_rows, entry_at, basic_at}
 use Rattle.ps_table.specs.Pricing.{cost_at}
-use Rattle.ps_table.specs.Places.{MultiplierPlace, WeightPlace, IsWideAt, HomePlaces, NewPlaces}
+use Rattle.ps_table.specs.Places.{MultiplierPlace, WeightPlace, weight_at, IsWideAt, HomePlaces, NewPlaces}
 use Rattle.ps_bland.specs.Rules.{simplex_of, stage, IsDone}
 use Rattle.ps_bland.specs.Ends.{IsDueWide}
 use Rattle.ps_bland.specs.Ready.{HasValues, IsReady}
@@ -27,10 +31,14 @@ use Rattle.ps_answer.specs.declared.answer.Verdict.{Verdict}
 use Rattle.ps_answer.specs.declared.answer.Verdict.TheVariants.{Open}
 use Rattle.ps_claims.specs.declared.claim_kind.ClaimKind.{ClaimKind}
 use Rattle.ps_claims.specs.declared.claim_kind.ClaimKind.TheVariants.{Nothing, Lower, Upper}
+use Rattle.ps_entailment.specs.Answers.{Model}
+use Rattle.ps_claims.specs.Duals.{Dual}
+use Rattle.ps_runs.specs.Certificates.{HaveSameNumbers, table_dual, weighted_worlds, table_model}
+use Rattle.ps_runs.specs.Searches.{IsSpentSearch}
 use Rattle.ps_runs.specs.Rows.{Setting, world_cost, table_of, entries_of, IsTable}
-use Rattle.ps_runs.specs.Runs.{Subject, setting_of, given_in, both_in, IsAsked, atoms_of, Stage, IsStart, IsPool, IsMovingAt, IsRestingAt, IsFeasibleAt, IsPricedBy, LeadsToPending}
+use Rattle.ps_runs.specs.Runs.{Subject, setting_of, given_in, both_in, IsAsked, atoms_of, goal_at_least, Stage, table_at, dual_at, IsStart, IsPool, IsMovingAt, IsRestingAt, IsFeasibleAt, IsPricedBy, LeadsToPending}
 use Rattle.ps_phases.specs.Tables.{phase_of, homes_of, costs_for, IsRunTable, stage_at, IsUnderWay}
-use Rattle.ps_phases.specs.Licences.{IsModelDue, IsTooWide, IsColumnTooWide}
+use Rattle.ps_phases.specs.Licences.{IsModelDue, IsOutOfConflicts, IsTooWide, IsColumnTooWide}
 use Rattle.ps_phases.specs.Verdicts.{IsVerdictAt, IsLawfulPhaseOne, IsSideAt, IsLawfulSide, IsLawfulAnswer}
 
 -- a new table of the homes is one of the run, at its start
@@ -152,3 +160,19 @@ pub record NodesGiveTheSetting : Type 0 where
 -- a lawful answer holds as many steps as their limit in each part that is open for conflicts
 abbrev pub LawfulAnswersAreCounted : Type 0
 LawfulAnswersAreCounted = (p : Parts) (pivots conflicts : ℕ) (a : Answer) → IsLawfulAnswer p pivots conflicts a → IsAnswerCounted a
+
+-- in a run's table no column is basic in two rows; the dual and the model that are made of it are those of its stage; and a spent
+-- search for the goal of the dual at rest leaves the phase out of conflicts
+pub record TablesGiveTheirStage : Type 0 where
+  pub apart : (s : Setting) (pool : List World) (t : Tableau) → IsRunTable s pool t → (i k : ℕ) → i < table_rows t → k < table_rows t
+      → basic_at t i ≡ basic_at t k → i ≡ k
+  pub dual : (s : Subject) (pool : List World) (t : Tableau) → IsRunTable (setting_of s) pool t → (kind : ClaimKind) (costs : Costs) (d : Dual)
+      → costs ≡ costs_for kind (setting_of s) pool → HaveSameNumbers d (table_dual kind (setting_of s) (simplex_of t) (cost_at costs))
+      → HaveSameNumbers d (dual_at kind s (stage_at pool t) (entry_at t))
+  pub model : (s : Subject) (pool : List World) (t : Tableau) → IsRunTable (setting_of s) pool t → (m : Model)
+      → m.total ≡ int_sum_to (table_rows t) (weight_at (table_rows t) (basic_at t) (entry_at t)) → m.worlds ≡ weighted_worlds (simplex_of t) pool
+      → m ≡ table_model (table_at s (stage_at pool t) (entry_at t)) pool
+  pub conflicts : (kind : ClaimKind) (s : Subject) (conflicts : ℕ) (g : Stage) (X : ℕ → ℕ → Rational) (d : Dual)
+      → HaveSameNumbers d (dual_at kind s g X) → IsRestingAt kind s g X → (steps : List Step)
+      → IsSpentSearch (form_of s.parts.nodes) (goal_at_least (pos 1) kind s d) conflicts steps
+      → IsOutOfConflicts kind s conflicts g conflicts (goal_at_least (pos 1) kind s d) steps

@@ -3,15 +3,17 @@
 ghost use Rattle.ps_phases.specs.Laws.{NewTablesStart, RunTablesAreReady, PhasesGoOn};
 ghost use Rattle.ps_phases.specs.Laws.{SettledStages, RefusalsAreLicensed, PhaseOneEndsLawfully, CostsGrow};
 ghost use Rattle.ps_phases.specs.Laws.{PricedWorldsTakePivots, SidesEndLawfully, NodesGiveTheSetting};
-ghost use Rattle.ps_phases.specs.Laws.{LawfulAnswersAreCounted};
+ghost use Rattle.ps_phases.specs.Laws.{LawfulAnswersAreCounted, TablesGiveTheirStage};
 
 /// A new table of the homes is one of the run, at its start. As the rule sees it a run's table is
 /// that of its setting, and it is ready for each phase with the phase's costs: for the sides where
-/// each basic artificial has value 0. The costs of a longer pool have the world's behind them.
+/// each basic artificial has value 0. The costs of a longer pool have the world's behind them. The
+/// dual and the model that are made of a table are those of its stage.
 pub fn run_tables()
     ensures new { NewTablesStart }
     ensures ready { RunTablesAreReady }
     ensures costs { CostsGrow }
+    ensures stages { TablesGiveTheirStage }
 {}
 
 /// A phase goes on by the pivots of `settle`, and by a world that is priced: this isn't in the

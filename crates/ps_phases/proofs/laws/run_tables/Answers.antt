@@ -1,6 +1,7 @@
-use Rattle.ps_phases.proofs.Shapes.{same_table, run_table}
+use Rattle.ps_phases.proofs.Shapes.{same_table, run_table, basics_differ}
 use Rattle.ps_phases.proofs.Ready.{ready_first, ready_lower, ready_upper}
 use Rattle.ps_phases.proofs.Adding.{new_table, new_stage, costs_grow}
+use Rattle.ps_phases.proofs.TableEnds.{dual_of_stage, model_of_stage, spent_at_rest}
 use Rattle.ps_phases.proofs.laws.run_tables.Goals as goal
 
 pub returns : goal.returns
@@ -14,4 +15,5 @@ returns c = record {
     upper = ready_upper;
   };
   costs = costs_grow;
+  stages = record { apart = basics_differ; dual = dual_of_stage; model = model_of_stage; conflicts = spent_at_rest };
 }
