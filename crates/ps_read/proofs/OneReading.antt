@@ -109,13 +109,13 @@ forms_once bytes k l x y f g =
     let e = refusal_once bytes f.reason g.reason f.place g.place f.refused g.refused in
     (f.kind_is ∙ ap form_kind e.0 ∙ sym g.kind_is, f.position_is ∙ ap (position_of bytes) e.1 ∙ sym g.position_is)
 
-unread_once : (bytes : List ℕ) (k l : ReadKind) (x y : Position) → IsUnread bytes k x → IsUnread bytes l y → (k ≡ l) × (x ≡ y)
+pub unread_once : (bytes : List ℕ) (k l : ReadKind) (x y : Position) → IsUnread bytes k x → IsUnread bytes l y → (k ≡ l) × (x ≡ y)
 unread_once bytes k l x y (inl f) (inl g) = forms_once bytes k l x y f g
 unread_once bytes k l x y (inl f) (inr g) = absurd (front_excludes bytes g.behind f.place f.reason g.front.text f.refused)
 unread_once bytes k l x y (inr f) (inl g) = absurd (front_excludes bytes f.behind g.place g.reason f.front.text g.refused)
 unread_once bytes k l x y (inr f) (inr g) = counts_once bytes k l x y f g
 
-read_once : (bytes : List ℕ) (p q : Parts) (n m : ℕ) → SpellsProblem bytes p n → SpellsProblem bytes q m → (p ≡ q) × (n ≡ m)
+pub read_once : (bytes : List ℕ) (p q : Parts) (n m : ℕ) → SpellsProblem bytes p n → SpellsProblem bytes q m → (p ≡ q) × (n ≡ m)
 read_once bytes p q n m f g =
     (f.made.problem ∙ ap problem_of (meaning_once bytes f.items g.items n m f.front g.front) ∙ sym g.made.problem, front_place bytes f.items g.items n m f.front g.front)
 
@@ -141,7 +141,7 @@ pub whole_excludes : (bytes : List ℕ) (p : Parts) (k : ReadKind) (x : Position
 whole_excludes bytes p k x f (inl g) = read_excludes bytes p (length bytes) k x f g
 whole_excludes bytes p k x f (inr g) = more_excludes bytes p x f g.1
 
-unread_whole_once : (bytes : List ℕ) (k l : ReadKind) (x y : Position) → IsUnreadWhole bytes k x → IsUnreadWhole bytes l y → (k ≡ l) × (x ≡ y)
+pub unread_whole_once : (bytes : List ℕ) (k l : ReadKind) (x y : Position) → IsUnreadWhole bytes k x → IsUnreadWhole bytes l y → (k ≡ l) × (x ≡ y)
 unread_whole_once bytes k l x y (inl f) (inl g) = unread_once bytes k l x y f g
 unread_whole_once bytes k l x y (inl f) (inr g) = absurd (read_excludes bytes g.1.problem g.1.place k x g.1.spells f)
 unread_whole_once bytes k l x y (inr f) (inl g) = absurd (read_excludes bytes f.1.problem f.1.place l y f.1.spells g)

@@ -1,9 +1,11 @@
 //! Why no problem is read, and where.
 ghost use Rattle.std.specs.Prelude.{◌≡◌};
 ghost use Rattle.ps_read.specs.declared.read_error.ReadError.TheVariants as errors;
+ghost use Rattle.ps_read.specs.Kinds.{form_kind};
 
 use crate::ReadKind;
 use ps_io::NoMemory;
+use ps_lex::Position;
 
 /// Why no problem is read.
 #[derive(Clone, Copy, Debug, PartialEq, Eq)]
@@ -17,6 +19,26 @@ pub enum ReadError {
     },
     /// There was not enough memory.
     NoMemory,
+}
+
+impl ReadError {
+    // A refusal at a position.
+    pub(crate) fn at(kind: ReadKind, place: Position) -> ReadError
+        ensures { result ≡ errors.At kind place.line place.column }
+    {
+        ReadError::At {
+            kind,
+            line: place.line,
+            column: place.column,
+        }
+    }
+
+    // A refusal of the form at a position.
+    pub(crate) fn of_form(kind: ps_text::ReadKind, place: Position) -> ReadError
+        ensures { result ≡ errors.At (form_kind kind) place.line place.column }
+    {
+        ReadError::at(ReadKind::of_form(kind), place)
+    }
 }
 
 impl From<NoMemory> for ReadError {

@@ -1,0 +1,138 @@
+//! A problem's text, byte by byte.
+ghost use Rattle.std.specs.Prelude.{◌≡◌, ◌<◌, ◌≤◌, ◌+◌, ◌^◌, OnOk};
+ghost use Rattle.ps_lex.specs.Lexing.{new_lexer};
+ghost use Rattle.ps_parse.specs.Standing.{IsParsed};
+ghost use Rattle.ps_parse.specs.Kept.{machine_of};
+ghost use Rattle.ps_parse.specs.Taking.{IsKept, CountsAtMost};
+ghost use Rattle.ps_read.specs.Answers.{nothing_parsed, parsed_by, begun_behind, is_done};
+ghost use Rattle.ps_read.specs.Answers.{part_of, ended, AgreesAtEnd, IsJudged, IsFed, IsFinished};
+ghost use Rattle.ps_read.specs.Answers.{IsReady, IsKeptIn, IsOneMore};
+
+use crate::{ReadError, ReadKind};
+use ps_lex::{Lexer, Position, Token};
+use ps_parse::{ParseError, Parser};
+use ps_text::Part;
+use std::alloc::Global;
+
+/// Reads a problem's text that it is fed byte by byte.
+#[derive(Drop)]
+pub(crate) struct Reader {
+    lexer: Lexer,
+    parser: Parser,
+}
+
+// Whether the text is whole.
+fn is_done(parser: &Parser) -> bool
+    ensures { result ≡ is_done (part_of (parsed_by parser.now)) }
+{
+    matches!(parser.part(), Part::Done)
+}
+
+// At the end of the bytes, or where no token begins: where the text ended, or the refusal.
+fn end(parser: &Parser, kind: ps_text::ReadKind, place: Position) -> Result<Position, ReadError>
+    ensures { AgreesAtEnd (ended (parsed_by parser.now) kind place) (parsed_by parser.now) result }
+{
+    if is_done(parser) {
+        return Ok(place);
+    }
+    Err(ReadError::of_form(kind, place))
+}
+
+// Takes a token that ended, and stops where none begins.
+fn judge(
+    parser: &mut Parser,
+    token: Option<Token>,
+    began: Position,
+    bad: Option<Position>,
+) -> Result<Option<Position>, ReadError>
+    requires derivation { IsParsed (machine_of parser.old) }
+    requires word { IsKeptIn token }
+    requires room { CountsAtMost 4294967294 (machine_of parser.old) }
+    ensures judged { IsJudged token began bad (parsed_by parser.old) (parsed_by parser.new) result }
+    ensures derivation { OnOk result (IsParsed (machine_of parser.new)) }
+    ensures counts { OnOk result (IsOneMore parser.old parser.new) }
+{
+    if let Some(token) = token {
+        if is_done(parser) {
+            return Ok(Some(began));
+        }
+        match parser.take(&token, began) {
+            Ok(()) => {}
+            Err(ParseError::Refused(kind)) => return Err(ReadError::of_form(kind, began)),
+            Err(ParseError::NoMemory) => return Err(ReadError::NoMemory),
+        }
+    }
+    match bad {
+        Some(place) => match end(parser, ps_text::ReadKind::BadByte, place) {
+            Ok(place) => Ok(Some(place)),
+            Err(error) => Err(error),
+        },
+        None => Ok(None),
+    }
+}
+
+impl Reader {
+    /// Before the first byte.
+    pub(crate) fn new(alloc: Global) -> Reader
+        ensures lexer { result.lexer ≡ new_lexer }
+        ensures parser { parsed_by result.parser ≡ nothing_parsed }
+        ensures ready { IsReady result }
+    {
+        Reader {
+            lexer: Lexer::new(),
+            parser: Parser::new(alloc),
+        }
+    }
+
+    // Where the token begins that stands behind a whole text, if one has begun.
+    fn begun_behind(&self) -> Option<Position>
+        ensures { result ≡ begun_behind (parsed_by self.now.parser) self.now.lexer }
+    {
+        if is_done(&self.parser) && self.lexer.is_within_token() {
+            Some(self.lexer.began())
+        } else {
+            None
+        }
+    }
+
+    /// Takes one more byte. Answers where the text and the blanks behind it ended, if that is known
+    /// then, or the first refusal.
+    pub(crate) fn feed(&mut self, byte: u8) -> Result<Option<Position>, ReadError>
+        requires ready { IsReady self.old }
+        requires room { self.old.lexer.here.offset + 2 < 2 ^ 32 }
+        ensures fed { IsFed byte self.old self.new result }
+        ensures ready { OnOk result (IsReady self.new) }
+        ensures taken { self.new.lexer.here.offset ≡ self.old.lexer.here.offset + 1 }
+    {
+        let began = self.lexer.began();
+        let token = self.lexer.take(byte);
+        if let Some(place) = judge(&mut self.parser, token, began, self.lexer.bad())? {
+            return Ok(Some(place));
+        }
+        Ok(self.begun_behind())
+    }
+
+    /// At the end of the bytes: the parser, and where the text and the blanks behind it ended.
+    pub(crate) fn finish(self) -> Result<(Parser, Position), ReadError>
+        requires ready { IsReady self }
+        requires room { self.lexer.here.offset + 1 < 2 ^ 32 }
+        ensures { IsFinished self result }
+    {
+        let Reader { lexer, mut parser } = self;
+        let began = lexer.began();
+        let here = lexer.here();
+        let bad = lexer.last_bad();
+        if let Some(place) = judge(&mut parser, lexer.finish(), began, bad)? {
+            return Ok((parser, place));
+        }
+        let place = end(&parser, ps_text::ReadKind::EndMissing, here)?;
+        Ok((parser, place))
+    }
+
+    /// The parser, once the text's end is known.
+    pub(crate) fn into_parser(self) -> Parser
+        ensures { result ≡ self.parser }
+    {
+        self.parser
+    }
+}
