@@ -9,3 +9,4 @@ pub mod Progress
 pub mod NodeColumns
 pub mod Counted
 pub mod TableEnds
+pub mod Alone

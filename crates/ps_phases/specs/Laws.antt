@@ -31,7 +31,9 @@ use Rattle.ps_answer.specs.declared.answer.Verdict.{Verdict}
 use Rattle.ps_answer.specs.declared.answer.Verdict.TheVariants.{Open}
 use Rattle.ps_claims.specs.declared.claim_kind.ClaimKind.{ClaimKind}
 use Rattle.ps_claims.specs.declared.claim_kind.ClaimKind.TheVariants.{Nothing, Lower, Upper}
+use Rattle.ps_entailment.specs.Answers as claimed
 use Rattle.ps_entailment.specs.Answers.{Model}
+use Rattle.ps_claims.specs.Validity.{IsValidVerdict, IsValid}
 use Rattle.ps_claims.specs.Duals.{Dual}
 use Rattle.ps_runs.specs.Certificates.{HaveSameNumbers, table_dual, weighted_worlds, table_model}
 use Rattle.ps_runs.specs.Searches.{IsSpentSearch}
@@ -39,7 +41,7 @@ use Rattle.ps_runs.specs.Rows.{Setting, world_cost, table_of, entries_of, IsTabl
 use Rattle.ps_runs.specs.Runs.{Subject, setting_of, given_in, both_in, IsAsked, atoms_of, goal_at_least, Stage, table_at, dual_at, IsStart, IsPool, IsMovingAt, IsRestingAt, IsFeasibleAt, IsPricedBy, LeadsToPending}
 use Rattle.ps_phases.specs.Tables.{phase_of, homes_of, costs_for, IsRunTable, stage_at, IsUnderWay}
 use Rattle.ps_phases.specs.Licences.{IsModelDue, IsOutOfConflicts, IsTooWide, IsColumnTooWide}
-use Rattle.ps_phases.specs.Verdicts.{IsVerdictAt, IsLawfulPhaseOne, IsSideAt, IsLawfulSide, IsLawfulAnswer}
+use Rattle.ps_phases.specs.Verdicts.{IsVerdictAt, IsLawfulPhaseOne, IsLawfulVerdict, IsSideAt, IsLawfulSide, IsLawfulAnswer}
 
 -- a new table of the homes is one of the run, at its start
 pub record NewTablesStart : Type 0 where
@@ -176,3 +178,9 @@ pub record TablesGiveTheirStage : Type 0 where
       → HaveSameNumbers d (dual_at kind s g X) → IsRestingAt kind s g X → (steps : List Step)
       → IsSpentSearch (form_of s.parts.nodes) (goal_at_least (pos 1) kind s d) conflicts steps
       → IsOutOfConflicts kind s conflicts g conflicts (goal_at_least (pos 1) kind s d) steps
+
+-- where there is no query, a verdict that is lawful, or valid, is the whole of an answer that is so
+pub record VerdictsAreAnswers : Type 0 where
+  pub lawful : (p : Parts) (pivots conflicts : ℕ) (v : Verdict) (events : List Event) → p.queries ≡ [] → IsLawfulVerdict p pivots conflicts v events
+      → IsLawfulAnswer p pivots conflicts (record { verdict = v; first = events; parts = [] })
+  pub valid : (p : Parts) (v : claimed.Verdict Dual) → p.queries ≡ [] → IsValidVerdict p v → IsValid p (record { verdict = v; parts = [] })

@@ -3,7 +3,7 @@
 ghost use Rattle.ps_phases.specs.Laws.{NewTablesStart, RunTablesAreReady, PhasesGoOn};
 ghost use Rattle.ps_phases.specs.Laws.{SettledStages, RefusalsAreLicensed, PhaseOneEndsLawfully, CostsGrow};
 ghost use Rattle.ps_phases.specs.Laws.{PricedWorldsTakePivots, SidesEndLawfully, NodesGiveTheSetting};
-ghost use Rattle.ps_phases.specs.Laws.{LawfulAnswersAreCounted, TablesGiveTheirStage};
+ghost use Rattle.ps_phases.specs.Laws.{LawfulAnswersAreCounted, TablesGiveTheirStage, VerdictsAreAnswers};
 
 /// A new table of the homes is one of the run, at its start. As the rule sees it a run's table is
 /// that of its setting, and it is ready for each phase with the phase's costs: for the sides where
@@ -32,11 +32,13 @@ pub fn licences()
 
 /// Where phase one has come from the start to a stage, the answer that is due there is lawful; and
 /// so for a side that has come from where the phase before it ended. A lawful answer that is open
-/// for conflicts has as many steps as their limit.
+/// for conflicts has as many steps as their limit. Where there is no query the verdict is the whole
+/// answer.
 pub fn lawful_ends()
     ensures lawful { PhaseOneEndsLawfully }
     ensures sides { SidesEndLawfully }
     ensures counted { LawfulAnswersAreCounted }
+    ensures alone { VerdictsAreAnswers }
 {}
 
 /// The columns, the homes and the costs that are told by the truth values of a problem's nodes are

@@ -1,0 +1,36 @@
+-- Where there is no query the verdict is the whole answer.
+use Rattle.std.proofs.Common.{◌≡◌, ℕ, List, [], sym, subst}
+use Rattle.std.specs.List.{AllZip}
+use Rattle.ps_problem.specs.declared.query.Query.{Query}
+use Rattle.ps_problem.specs.Problems.{Parts}
+use Rattle.ps_pool.specs.declared.event.Event.{Event}
+use Rattle.ps_answer.specs.declared.answer.Verdict.{Verdict}
+use Rattle.ps_answer.specs.declared.answer.Verdict.TheVariants.{Consistent, Inconsistent, Open}
+use Rattle.ps_answer.specs.declared.answer.Answer.{Answer}
+use Rattle.ps_entailment.specs.Answers as claimed
+use Rattle.ps_claims.specs.Duals.{Dual}
+use Rattle.ps_claims.specs.Validity.{IsValidVerdict, IsValidPart, IsValid}
+use Rattle.ps_phases.specs.Verdicts.{IsLawfulVerdict, IsLawfulPart, IsLawfulAnswer, asked_after}
+
+no_parts : (p : Parts) (pivots conflicts : ℕ) (v : Verdict) → AllZip (IsLawfulPart p pivots conflicts) (asked_after v []) []
+no_parts p pivots conflicts (Consistent m) = tt
+no_parts p pivots conflicts (Inconsistent d) = tt
+no_parts p pivots conflicts (Open cause) = tt
+
+pub lawful_alone : (p : Parts) (pivots conflicts : ℕ) (v : Verdict) (events : List Event) → p.queries ≡ [] → IsLawfulVerdict p pivots conflicts v events
+    → IsLawfulAnswer p pivots conflicts (record { verdict = v; first = events; parts = [] })
+lawful_alone p pivots conflicts v events e h = record {
+  verdict = h;
+  parts = subst (λ qs. AllZip (IsLawfulPart p pivots conflicts) (asked_after v qs) []) (sym e) (no_parts p pivots conflicts v);
+}
+
+no_claims : (p : Parts) (v : claimed.Verdict Dual) → AllZip (IsValidPart p) (claimed.asked_under v []) []
+no_claims p (claimed.Consistent m) = tt
+no_claims p (claimed.Inconsistent d) = tt
+no_claims p claimed.OpenVerdict = tt
+
+pub valid_alone : (p : Parts) (v : claimed.Verdict Dual) → p.queries ≡ [] → IsValidVerdict p v → IsValid p (record { verdict = v; parts = [] })
+valid_alone p v e h = record {
+  verdict = h;
+  parts = subst (λ qs. AllZip (IsValidPart p) (claimed.asked_under v qs) []) (sym e) (no_claims p v);
+}
