@@ -1,5 +1,5 @@
 -- One token more counts for at most one name, one formula and one item.
-use Rattle.std.proofs.Common.{◌≡◌, ℕ, ◌+◌, ◌≤◌, Bool, true, false, List, [], ◌∷◌, ◌++◌, length, refl, arith}
+use Rattle.std.proofs.Common.{◌≡◌, ℕ, ◌+◌, ◌≤◌, Bool, true, false, List, [], ◌∷◌, ◌++◌, length, refl, sym, subst, arith}
 use Rattle.std.proofs.lemmas.List.{length-append}
 use Rattle.std.specs.Prelude.{bytes_eq, codes, nat_le, if◌then◌else◌}
 use Rattle.std.specs.List.{list_any}
@@ -14,7 +14,7 @@ use Rattle.ps_problem.specs.Numbering.{same_name}
 use Rattle.ps_problem.specs.Drafts.{Drafted, with_mark, with_formula, with_item}
 use Rattle.ps_parse.specs.declared.operator.Operator.{Operator}
 use Rattle.ps_parse.specs.Pending.{Pending, binding, mark_of, settled, settled_from, IsEndable}
-use Rattle.ps_parse.specs.Machine.{ItemSoFar, Work, Machine, with_pending, with_atom, with_word, operand_taken, given_taken, probability_ended, closed_behind, operator_taken, taken_at, next}
+use Rattle.ps_parse.specs.Machine.{at_first, ItemSoFar, Work, Machine, with_pending, with_atom, with_word, operand_taken, given_taken, probability_ended, closed_behind, operator_taken, taken_at, next}
 use Rattle.ps_parse.specs.Taking.{CountsAtMost}
 use Rattle.ps_parse.specs.Ready.{HasRoom, IsWhole, MayEnd, IsReady}
 
@@ -151,3 +151,10 @@ pub room_settled : (k : ℕ) (w : Work) → HasRoom w → HasRoom (with_pending 
 room_settled k w h =
     let f = few_settled 4294967294 k w.pending.operators w.pending.draft (record { names = omega (arith, h.names); formulas = omega (arith, h.formulas); items = omega (arith, h.items) }) in
     record { names = omega (arith, f.names); formulas = omega (arith, f.formulas); items = omega (arith, f.items) }
+
+pub counts_more : (n : ℕ) (m : Machine) → CountsAtMost n m → CountsAtMost (n + 1) m
+counts_more n m h = record { names = omega (arith, h.names); formulas = omega (arith, h.formulas); items = omega (arith, h.items) }
+
+-- before the first token nothing is counted
+pub first_counts : (m : Machine) → m ≡ at_first → CountsAtMost 0 m
+first_counts m e = subst (λ x. CountsAtMost 0 x) (sym e) (record { names = omega arith; formulas = omega arith; items = omega arith })

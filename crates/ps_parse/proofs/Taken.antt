@@ -5,9 +5,9 @@ use Rattle.ps_text.specs.ExpectedTokens.{State, refusal, after}
 use Rattle.ps_lex.specs.declared.position.Position.{Position}
 use Rattle.ps_lex.specs.declared.token.Token.{Token}
 use Rattle.ps_expect.specs.KeptTokens.{token_of}
-use Rattle.ps_text.proofs.Parsing.{parsed}
+use Rattle.ps_text.proofs.Parsing.{InPsat, parsed}
 use Rattle.ps_parse.specs.declared.parser.Parser.{Parser}
-use Rattle.ps_parse.specs.Machine.{Work, Machine, taken_at, next}
+use Rattle.ps_parse.specs.Machine.{at_first, Work, Machine, taken_at, next}
 use Rattle.ps_parse.specs.Standing.{IsParsed}
 use Rattle.ps_parse.specs.Taking.{IsKept, CountsAtMost, begun_at, IsTaken}
 use Rattle.ps_parse.specs.Kept.{machine_of, places_of}
@@ -45,3 +45,7 @@ is_taken old new t place part i k d =
       counts = λ n h. subst (λ x. CountsAtMost (n + 1) x) (sym m) (counted n (machine_of old) (token_of t) (ready_at (machine_of old) t i k d.passed) h);
       places = d.places ∙ ap (λ p. places_of old ++ begun_at p (token_of t) place) d.part_is;
     }
+
+-- before the first token
+pub first_parsed : (m : Machine) → m ≡ at_first → IsParsed m
+first_parsed m e = subst (λ x. IsParsed x) (sym e) (record { parse = InPsat; stands = record { sound = tt; state = refl; work = record { operators = refl; «open» = refl; items = tt; item = tt } } })

@@ -10,7 +10,7 @@ ghost use Rattle.ps_parse.specs.Machine.{with_atom, with_constant, with_word};
 ghost use Rattle.ps_parse.specs.Ready.{IsOperand, IsOperandWord};
 ghost use Rattle.ps_parse.specs.Kept.{pending_of, draft_of};
 
-use crate::Operator;
+use crate::operator::Operator;
 use ps_expect::Stack;
 use ps_io::NoMemory;
 use ps_lex::Token;
@@ -21,14 +21,14 @@ use std::alloc::Global;
 /// Parses formulas into a draft: the operators that wait for their last operand, whose first
 /// operands stand open in the draft.
 #[derive(Drop)]
-pub struct FormulaParser {
+pub(crate) struct FormulaParser {
     pub(crate) operators: Stack<Operator>,
     pub(crate) draft: Draft,
 }
 
 impl FormulaParser {
     /// A parser of formulas into this draft.
-    pub fn new(alloc: Global, draft: Draft) -> FormulaParser
+    pub(crate) fn new(alloc: Global, draft: Draft) -> FormulaParser
         ensures operators { (pending_of result).operators ≡ [] }
         ensures draft { draft_of result ≡ draft }
     {
@@ -39,7 +39,7 @@ impl FormulaParser {
     }
 
     /// The operator waits for its last operand.
-    pub fn wait(&mut self, operator: Operator) -> Result<(), NoMemory>
+    pub(crate) fn wait(&mut self, operator: Operator) -> Result<(), NoMemory>
         ensures { OnOk result (pending_of self.new ≡ waiting operator (pending_of self.old)) }
     {
         self.operators.push(operator)
@@ -57,7 +57,7 @@ impl FormulaParser {
 
     /// Marks each operator that waits last and binds at least as tightly as this one. For want of
     /// memory only some of them may be marked.
-    pub fn settle(&mut self, operator: Operator) -> Result<(), NoMemory>
+    pub(crate) fn settle(&mut self, operator: Operator) -> Result<(), NoMemory>
         requires operator { 1 ≤ binding operator }
         requires operands { HaveAll (pending_of self.old) }
         ensures settled { OnOk result
@@ -75,7 +75,7 @@ impl FormulaParser {
     /// `true` or `false` is the next operand, and each `!` before it is marked. For want of memory
     /// only some of this may be done.
     #[tactic(auto, using(crate::proofs::Marking::constant_there))]
-    pub fn constant(&mut self, value: bool) -> Result<(), NoMemory>
+    pub(crate) fn constant(&mut self, value: bool) -> Result<(), NoMemory>
         requires operands { HaveFirst (pending_of self.old) }
         ensures constant { OnOk result (pending_of self.new
             ≡ operand_ended (pending_of self.old) (with_constant (draft_of self.old) value)) }
@@ -91,7 +91,7 @@ impl FormulaParser {
 
     /// An atom is the next operand, and each `!` before it is marked. For want of memory only
     /// some of this may be done.
-    pub fn atom(&mut self, name: &[u8]) -> Result<(), NoMemory>
+    pub(crate) fn atom(&mut self, name: &[u8]) -> Result<(), NoMemory>
         requires name { IsName name.now }
         requires room { length (draft_of self.old).names < 4294967295 }
         requires operands { HaveFirst (pending_of self.old) }
@@ -106,7 +106,7 @@ impl FormulaParser {
 
     /// Takes a token in the place of an operand: `!` or `(`, which waits, or a word, an operand. For
     /// want of memory only some of this may be done.
-    pub fn operand(&mut self, token: &Token) -> Result<(), NoMemory>
+    pub(crate) fn operand(&mut self, token: &Token) -> Result<(), NoMemory>
         requires operand { IsOperand (token_of token.now) }
         requires room { length (draft_of self.old).names < 4294967295 }
         requires operands { HaveFirst (pending_of self.old) }
@@ -139,7 +139,7 @@ impl FormulaParser {
 
     /// A connective: what waits and binds at least as tightly as `level` is marked, and the
     /// operator waits for its last operand. For want of memory only some of this may be done.
-    pub fn connective(&mut self, level: Operator, operator: Operator) -> Result<(), NoMemory>
+    pub(crate) fn connective(&mut self, level: Operator, operator: Operator) -> Result<(), NoMemory>
         requires level { 1 ≤ binding level }
         requires operands { HaveAll (pending_of self.old) }
         ensures { OnOk result (pending_of self.new
@@ -152,7 +152,7 @@ impl FormulaParser {
     /// A `)`: marks all that waits behind the last `(`, and each `!` before that; else, where no
     /// `(` is open, all that waits. Answers whether one was open. For want of memory only some of
     /// this may be done.
-    pub fn close(&mut self) -> Result<bool, NoMemory>
+    pub(crate) fn close(&mut self) -> Result<bool, NoMemory>
         requires operands { HaveAll (pending_of self.old) }
         ensures grouped { IfOk result (λ r. r ≡ is_grouped (pending_of self.old)) }
         ensures closed { OnOk result (pending_of self.new ≡ group_closed (pending_of self.old)) }
@@ -169,7 +169,7 @@ impl FormulaParser {
 
     /// Ends the formula that stands open, and gives its number, from 0. For want of memory nothing
     /// changes.
-    pub fn end(&mut self) -> Result<u32, NoMemory>
+    pub(crate) fn end(&mut self) -> Result<u32, NoMemory>
         requires formula { IsEndable (draft_of self.old) }
         requires room { length (draft_of self.old).formulas < 4294967295 }
         ensures number { IfOk result (λ n. n ≡ length (draft_of self.old).formulas) }
@@ -177,12 +177,5 @@ impl FormulaParser {
         ensures draft { OnOk result (draft_of self.new ≡ with_formula (draft_of self.old)) }
     {
         self.draft.end_formula()
-    }
-
-    /// The draft.
-    pub fn into_draft(self) -> Draft
-        ensures { result ≡ draft_of self }
-    {
-        self.draft
     }
 }

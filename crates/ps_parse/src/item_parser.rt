@@ -8,9 +8,10 @@ ghost use Rattle.ps_parse.specs.Machine.{at_first, given_taken, with_sentence, s
 ghost use Rattle.ps_parse.specs.Ready.{HasRoom, IsNumbered, IsWhole, MayClose, MayEnd, IsReady};
 ghost use Rattle.ps_parse.specs.Kept.{draft_of, ratio_of, work_of};
 
+use crate::formula_parser::FormulaParser;
 use crate::item_so_far::ItemSoFar;
+use crate::operator::Operator;
 use crate::value::Value;
-use crate::{FormulaParser, Operator};
 use ps_io::NoMemory;
 use ps_lex::Token;
 use ps_problem::{Draft, Side};

@@ -10,9 +10,7 @@ mod parse_error;
 mod parser;
 mod value;
 
-pub use formula_parser::FormulaParser;
 pub use laws::the_machine_stands_for_a_derivation;
-pub use operator::Operator;
 pub use parse_error::ParseError;
 pub use parser::Parser;
 

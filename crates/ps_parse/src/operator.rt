@@ -6,7 +6,7 @@ use ps_problem::Mark;
 
 /// An operator of a formula that waits for its last operand, or a `(` for its `)`.
 #[derive(Clone, Copy, Debug, PartialEq, Eq)]
-pub enum Operator {
+pub(crate) enum Operator {
     Not,
     Group,
     And,

@@ -67,7 +67,8 @@ impl Parser {
     /// Takes the next token, which begins at this place, or refuses it: where it is too long a
     /// word, or else isn't expected, or else is no version, no probability, or one nesting too
     /// many. A refused token changes nothing. For want of memory only some of a token's work may
-    /// be done.
+    /// be done, and then the parser takes no more. The tokens are those of a lexer, fewer than
+    /// 2^32 - 1.
     pub fn take(&mut self, token: &Token, place: Position) -> Result<(), ParseError>
         requires derivation { IsParsed (machine_of self.old) }
         requires word { IsKept token.now }

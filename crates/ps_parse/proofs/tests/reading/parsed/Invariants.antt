@@ -1,0 +1,12 @@
+use Rattle.std.proofs.Common.{◌≤◌, length}
+use Rattle.ps_parse.specs.Standing.{IsParsed}
+use Rattle.ps_parse.specs.Taking.{CountsAtMost}
+use Rattle.ps_parse.specs.Kept.{machine_of}
+use Rattle.ps_parse.proofs.tests.reading.parsed.Given as goal
+
+abbrev pub invariant-loop-k : goal.invariant-loop-k
+invariant-loop-k l = record {
+  parsed : IsParsed (machine_of l.parser);
+  counts : CountsAtMost l.k (machine_of l.parser);
+  short : length l.text ≤ 1000;
+}

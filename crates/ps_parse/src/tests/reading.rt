@@ -1,0 +1,95 @@
+//! Feeds the tokens of a text to a `Parser`.
+ghost use Rattle.std.specs.Prelude.{◌≡◌, ◌-◌, ◌^◌, ◌+◌, ℕ, IsTrue, OnOk};
+ghost use Rattle.std.specs.List.{list_all};
+ghost use Rattle.ps_meaning.specs.Names.{is_letter as letter, is_word_byte as word_byte};
+ghost use Rattle.ps_meaning.specs.Names.{is_word as word};
+ghost use Rattle.ps_lex.specs.Places.{IsWithin};
+ghost use Rattle.ps_parse.specs.Standing.{IsParsed};
+ghost use Rattle.ps_parse.specs.Taking.{IsKept, CountsAtMost};
+ghost use Rattle.ps_parse.specs.Kept.{machine_of};
+
+use crate::{ParseError, Parser};
+use ps_lex::{Lexer, Position, Token};
+use std::alloc::Global;
+
+fn has_room(lexer: &Lexer) -> bool
+    ensures { IsTrue result → IsWithin (2 ^ 32 - 2) lexer.now.here }
+{
+    let here = lexer.here();
+    here.line < u32::MAX && here.column < u32::MAX && here.offset < u32::MAX
+}
+
+fn is_letter(byte: u8) -> bool
+    ensures { result ≡ letter byte }
+{
+    byte.is_ascii_alphabetic()
+}
+
+fn is_word_byte(byte: &u8) -> bool
+    ensures { result ≡ word_byte byte.now }
+{
+    is_letter(*byte) || byte.is_ascii_digit() || *byte == b'_'
+}
+
+fn are_word_bytes(bytes: &[u8]) -> bool
+    ensures { result ≡ list_all word_byte bytes.now }
+{
+    bytes.iter().all(|byte| is_word_byte(byte))
+}
+
+fn is_word(letters: &[u8]) -> bool
+    ensures { result ≡ word letters.now }
+{
+    match letters {
+        [first, rest @ ..] => is_letter(*first) && are_word_bytes(rest),
+        [] => false,
+    }
+}
+
+fn is_kept(token: &Token) -> bool
+    ensures { IsTrue result → IsKept token.now }
+{
+    match token {
+        Token::Word(letters) => is_word(letters.as_slice()),
+        _ => true,
+    }
+}
+
+// Takes a token, if there is one.
+#[tactic(auto, using(crate::proofs::Counting::counts_more))]
+fn feed(parser: &mut Parser, token: Option<Token>, place: Position) -> Result<(), ParseError>
+    requires derivation { IsParsed (machine_of parser.old) }
+    requires room { CountsAtMost 4294967294 (machine_of parser.old) }
+    ensures derivation { OnOk result (IsParsed (machine_of parser.new)) }
+    ensures counts { OnOk result ((n : ℕ) → CountsAtMost n (machine_of parser.old)
+        → CountsAtMost (n + 1) (machine_of parser.new)) }
+{
+    let Some(token) = token else {
+        return Ok(());
+    };
+    if !is_kept(&token) {
+        return Err(ParseError::NoMemory);
+    }
+    parser.take(&token, place)
+}
+
+/// The parser behind all tokens of a short text, or why one of them is refused.
+#[tactic(auto, using(crate::proofs::Taken::first_parsed, crate::proofs::Counting::first_counts))]
+pub(crate) fn parsed(alloc: Global, text: &[u8]) -> Result<Parser, ParseError> {
+    let mut parser = Parser::new(alloc);
+    let mut lexer = Lexer::new();
+    if text.len() > 1000 {
+        return Err(ParseError::NoMemory);
+    }
+    for k in 0..text.len() {
+        if !has_room(&lexer) {
+            return Err(ParseError::NoMemory);
+        }
+        let began = lexer.began();
+        let token = lexer.take(text[k]);
+        feed(&mut parser, token, began)?;
+    }
+    let began = lexer.began();
+    feed(&mut parser, lexer.finish(), began)?;
+    Ok(parser)
+}
