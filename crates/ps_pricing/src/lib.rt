@@ -7,3 +7,6 @@ mod sought;
 
 pub use pricer::Pricer;
 pub use pricing::Pricing;
+
+#[cfg(test)]
+mod tests;
