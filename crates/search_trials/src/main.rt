@@ -1,8 +1,9 @@
 //! Trials of the search: small searches over logs in memory and of lines, random forms whose
 //! refutations the checker takes, and random weighted problems against an answer from trying all
-//! assignments. The words `sixty`, `pigeons` and `forty` run what is timed from outside.
+//! assignments. The words `sixty`, `pigeons`, `forty` and `chain` run what is timed from outside.
 #![tactic(auto)]
 
+mod chain;
 mod draw;
 mod forms;
 mod pricings;
@@ -11,6 +12,7 @@ mod refutations;
 mod rows;
 mod trials;
 
+use crate::chain::chain_pricings;
 use crate::trials::{
     forty_variables, pricings, refutations, rows, six_pigeons, sixty_variables, weighted_problems,
 };
@@ -26,6 +28,7 @@ enum Command {
     Sixty,
     Pigeons,
     Forty,
+    Chain,
 }
 
 fn command_of(rt: &HostRuntime) -> anyhow::Result<Command> {
@@ -37,6 +40,7 @@ fn command_of(rt: &HostRuntime) -> anyhow::Result<Command> {
                 "sixty" => Command::Sixty,
                 "pigeons" => Command::Pigeons,
                 "forty" => Command::Forty,
+                "chain" => Command::Chain,
                 _ => Command::Trials,
             };
         }
@@ -60,6 +64,9 @@ fn main(rt: HostRuntime) -> anyhow::Result<()> {
             let some = forty_variables(alloc, TIMED)?;
             println!(rt; "{some} have a value")?;
         }
+        Command::Chain => {
+            println!(rt; "{} of 92 pricings", chain_pricings(alloc)?)?;
+        }
         Command::Trials => {
             println!(rt; "small searches: {} of 5", rows(alloc)?)?;
             println!(rt; "small problems: {} of 4", pricings(alloc)?)?;
@@ -73,6 +80,7 @@ fn main(rt: HostRuntime) -> anyhow::Result<()> {
                 "values as by trying: {} of 300",
                 weighted_problems(alloc, 300)?
             )?;
+            println!(rt; "pricings of a chain: {} of 92", chain_pricings(alloc)?)?;
         }
     }
     Ok(())
