@@ -1,0 +1,11 @@
+pub mod Cut
+pub mod Sequences
+pub mod Fractions
+pub mod WorldWords
+pub mod RowWords
+pub mod Items
+pub mod OpeningLines
+pub mod StepsAndGoals
+pub mod FirstLine
+pub mod PlaceWords
+pub mod ItemSteps

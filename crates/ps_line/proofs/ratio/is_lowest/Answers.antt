@@ -1,0 +1,5 @@
+use Rattle.ps_line.proofs.Fractions.{is_lowest}
+use Rattle.ps_line.proofs.ratio.is_lowest.Goals as goal
+
+pub returns : goal.returns
+returns c = is_lowest c.args.over.now c.args.under.now c.reduced-fraction.result c.has_numbers.result c.requires.positive c.reduced-fraction.ensures c.has_numbers.ensures

@@ -1,0 +1,23 @@
+-- What is answered of the line at the front of some bytes, where a part is due.
+use Rattle.std.specs.Prelude.{ℕ, List, ◌∷◌, ⊤}
+use Rattle.ps_log.specs.FirstLines.{IsFirstLine}
+use Rattle.ps_answer.specs.declared.item.Item.{Item}
+use Rattle.ps_answer.specs.declared.part.Part.{Part}
+use Rattle.ps_answer.specs.Items.{IsLine, IsWithin}
+use Rattle.ps_answer.specs.Faults.{IsFault}
+use Rattle.ps_line.specs.declared.error.LineError.{LineError}
+use Rattle.ps_line.specs.declared.error.LineError.TheVariants.{Fault, NoMemory}
+use Rattle.ps_line.specs.Read.{Fits}
+
+-- the first line says this, within the limits, the part may begin so, and this follows it
+pub record TakesLine (p : Part) (bytes : List ℕ) (i : Item) (rest : List ℕ) : Type 0 where
+  pub line : List ℕ
+  pub first : IsFirstLine bytes line rest
+  pub says : IsLine line i
+  pub within : IsWithin i
+  pub fits : Fits p i
+
+-- the first line is at fault, whatever is due behind the part; want of memory may come at any
+abbrev pub IsLineFault : Part → List ℕ → LineError → Type 0
+IsLineFault p bytes (Fault kind) = (due : List Part) → IsFault (p ∷ due) bytes kind
+IsLineFault p bytes NoMemory = ⊤

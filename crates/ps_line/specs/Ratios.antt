@@ -1,0 +1,30 @@
+-- The parts of a fraction.
+use Rattle.std.specs.Prelude.{ℕ, ◌≡◌, ◌≤◌, ◌<◌, ◌^◌, ℤ, pos, List, Result, Ok, Err, unsigned_abs, ⊤}
+use Rattle.std.specs.Int.{IsGcd}
+use Rattle.ps_log.specs.Spellings.{IsDecimal, Spells}
+use Rattle.ps_answer.specs.declared.item.Ratio.{Ratio}
+use Rattle.ps_line.specs.declared.line_fault.LineFault.{LineFault}
+use Rattle.ps_line.specs.declared.line_fault.LineFault.TheVariants.{NotCanonical, TooLarge, NoMemory}
+use Rattle.ps_line.specs.Read.{IsRead, both}
+
+-- a numerator that asks this is read
+abbrev pub IsOver : (ℤ → Type 0) → ℕ → List ℕ → Result ℤ LineFault → Type 0
+IsOver Asks limit word result = IsRead (λ z. Spells word z × Asks z) (λ z. unsigned_abs z ≤ limit) result
+
+-- a denominator is read
+abbrev pub IsUnder : ℕ → List ℕ → Result ℕ LineFault → Type 0
+IsUnder limit word result = IsRead (λ n. IsDecimal word n × (1 ≤ n)) (λ n. n ≤ limit) result
+
+-- the parts fit a fraction
+abbrev pub AreParts : Result ℤ LineFault → Result ℕ LineFault → Type 0
+AreParts (Ok z) (Ok n) = (unsigned_abs z < 2 ^ 127) × (n < 2 ^ 127) × (1 ≤ n)
+AreParts over under = ⊤
+
+-- the fraction of these parts, where it is in lowest terms
+abbrev pub IsLowestOf : Result (ℤ × ℕ) LineFault → Result Ratio LineFault → Type 0
+IsLowestOf (Ok p) (Ok q) = (q.over ≡ p.0) × (q.under ≡ p.1) × IsGcd (unsigned_abs p.0) p.1 1
+IsLowestOf (Ok p) (Err why) = (why ≡ NotCanonical) × (IsGcd (unsigned_abs p.0) p.1 1 → ⊥)
+IsLowestOf (Err why) result = result ≡ Err why
+
+abbrev pub IsLowest : Result ℤ LineFault → Result ℕ LineFault → Result Ratio LineFault → Type 0
+IsLowest over under result = IsLowestOf (both over under) result

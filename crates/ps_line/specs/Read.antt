@@ -1,0 +1,53 @@
+-- What is answered of words that should say something.
+use Rattle.std.specs.Prelude.{ℕ, ◌≡◌, List, [], ◌∷◌, Some, None, Result, Ok, Err, ⊤}
+use Rattle.ps_answer.specs.Words.{Word, SpellsWord, SpellWords}
+use Rattle.ps_answer.specs.declared.item.Item.{Item}
+use Rattle.ps_answer.specs.declared.part.Part.{Part}
+use Rattle.ps_answer.specs.Items.{item_words, IsProper, IsWithin}
+use Rattle.ps_answer.specs.Due.{behind}
+use Rattle.ps_line.specs.declared.line_fault.LineFault.{LineFault}
+use Rattle.ps_line.specs.declared.line_fault.LineFault.TheVariants.{NotCanonical, TooLarge, NoMemory}
+
+-- what is said, within its limits; or nothing is; or what is said is past a limit. Want of memory may come at any
+abbrev pub IsRead : {A : Type 0} → (A → Type 0) → (A → Type 0) → Result A LineFault → Type 0
+IsRead Says Fits (Ok a) = Says a × Fits a
+IsRead {A} Says Fits (Err NotCanonical) = (a : A) → Says a → ⊥
+IsRead {A} Says Fits (Err TooLarge) = (a : A) × Says a × (Fits a → ⊥)
+IsRead Says Fits (Err NoMemory) = ⊤
+
+-- a word is read: how it is written, what it asks, and its limit
+abbrev pub IsWordRead : {A : Type 0} → (A → Word) → (A → Type 0) → (A → Type 0) → List ℕ → Result A LineFault → Type 0
+IsWordRead written Asks Fits word result = IsRead (λ a. SpellsWord word (written a) × Asks a) Fits result
+
+-- words are read
+abbrev pub AreWordsRead : {A : Type 0} → (A → List Word) → (A → Type 0) → (A → Type 0) → List (List ℕ) → Result A LineFault → Type 0
+AreWordsRead written Asks Fits words result = IsRead (λ a. SpellWords words (written a) × Asks a) Fits result
+
+-- both of two readings, or why not; that something isn't written so comes before that it is too large
+abbrev pub both : {A B : Type 0} → Result A LineFault → Result B LineFault → Result (A × B) LineFault
+both (Ok a) (Ok b) = Ok (a, b)
+both (Ok a) (Err why) = Err why
+both (Err TooLarge) (Ok b) = Err TooLarge
+both (Err TooLarge) (Err why) = Err why
+both (Err NotCanonical) r = Err NotCanonical
+both (Err NoMemory) r = Err NoMemory
+
+-- the part may begin with what a line says, whatever is due after it
+abbrev pub Fits : Part → Item → Type 0
+Fits p i = (due : List Part) → (next : List Part) × (behind p i due ≡ Some next)
+
+-- the part can't begin so
+abbrev pub FitsNot : Part → Item → Type 0
+FitsNot p i = (due : List Part) → behind p i due ≡ None
+
+-- words say this
+pub record IsSaid (words : List (List ℕ)) (i : Item) : Type 0 where
+  pub spelled : SpellWords words (item_words i)
+  pub proper : IsProper i
+
+-- what is answered of the words of a line, where a part is due
+abbrev pub IsItemRead : Part → List (List ℕ) → Result Item LineFault → Type 0
+IsItemRead p words (Ok i) = IsSaid words i × IsWithin i × Fits p i
+IsItemRead p words (Err NotCanonical) = (i : Item) → IsSaid words i → FitsNot p i
+IsItemRead p words (Err TooLarge) = (i : Item) × IsSaid words i × Fits p i × (IsWithin i → ⊥)
+IsItemRead p words (Err NoMemory) = ⊤

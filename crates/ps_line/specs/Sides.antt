@@ -1,0 +1,6 @@
+-- The word of a side.
+use Rattle.std.specs.Prelude.{ℕ, Bool, true, false, List, codes}
+
+abbrev pub side_letters : Bool → List ℕ
+side_letters false = codes "lower"
+side_letters true = codes "upper"

@@ -1,0 +1,121 @@
+//! Numbers of any size, cut off past every limit.
+ghost use Rattle.std.specs.Prelude.{◌≡◌, ◌≤◌, ◌<◌, ◌↔◌, ◌∷◌, ◌+◌, ◌*◌, ◌^◌, ℕ, ℤ, pos, List as Bytes, All};
+ghost use Rattle.std.specs.Prelude.{IfSome, IfNone, IsTrue, length, slice_index};
+ghost use Rattle.std.specs.Char.{digit_value};
+ghost use Rattle.std.specs.Str.Parse.{digits_value};
+ghost use Rattle.ps_log.specs.Spellings.{IsPlain};
+ghost use Rattle.ps_line.specs.Numerals.{cut_size, IsSize, IsCountUpTo, IsNumberUpTo};
+
+use crate::line_fault::LineFault;
+
+// One above the greatest limit, that of an operand: what is more counts as this.
+const CAP: u128 = 1 << 127;
+
+/// The size that a word spells, if it spells one: digits without a leading zero.
+fn size(word: &[u8]) -> Option<u128>
+    ensures size { IsSize word.now result }
+    ensures within { IfSome result (λ n. n ≤ 2 ^ 127) }
+{
+    if is_plain(word) {
+        Some(value(word))
+    } else {
+        None
+    }
+}
+
+fn is_plain(word: &[u8]) -> bool
+    ensures { IsTrue result ↔ IsPlain word.now }
+{
+    if word.is_empty() {
+        return false;
+    }
+    if has_leading_zero(word) {
+        return false;
+    }
+    are_digits(word)
+}
+
+fn has_leading_zero(word: &[u8]) -> bool
+    ensures { IsTrue result ↔ ((slice_index word.now 0 ≡ 48) × (1 < length word.now)) }
+{
+    1 < word.len() && word[0] == b'0'
+}
+
+fn are_digits(word: &[u8]) -> bool
+    ensures { IsTrue result ↔ All (λ b. digit_value b < 10) word.now }
+{
+    word.iter().all(|byte| byte.is_ascii_digit())
+}
+
+fn value(digits: &[u8]) -> u128
+    requires { All (λ b. digit_value b < 10) digits.now }
+    ensures { result ≡ cut_size (digits_value 10 digits.now) }
+{
+    let mut value = 0;
+    for digit in digits {
+        value = one_more_digit(value, *digit - b'0');
+    }
+    value
+}
+
+// Ten times the value and the digit; past every limit it stays there.
+fn one_more_digit(value: u128, digit: u8) -> u128
+    ensures { result ≡ cut_size (10 * value + digit) }
+{
+    CAP.min(value.saturating_mul(10).saturating_add(u128::from(digit)))
+}
+
+/// A number that is no less than 0, up to a limit.
+pub(crate) fn count_up_to(limit: u128, word: &[u8]) -> Result<u128, LineFault>
+    requires { limit < 2 ^ 127 }
+    ensures { IsCountUpTo limit word.now result }
+{
+    match size(word) {
+        None => Err(LineFault::NotCanonical),
+        Some(n) if n <= limit => Ok(n),
+        Some(_) => Err(LineFault::TooLarge),
+    }
+}
+
+/// A number up to a limit in size.
+pub(crate) fn number_up_to(limit: u128, word: &[u8]) -> Result<i128, LineFault>
+    requires { limit < 2 ^ 127 }
+    ensures { IsNumberUpTo limit word.now result }
+{
+    match without_minus(word) {
+        Some(digits) => negative_up_to(limit, digits),
+        None => positive_up_to(limit, word),
+    }
+}
+
+fn without_minus(word: &[u8]) -> Option<&[u8]>
+    ensures found { IfSome result (λ rest. word.now ≡ 45 ∷ rest.now) }
+    ensures none { IfNone result ((rest : Bytes ℕ) → word.now ≡ 45 ∷ rest → ⊥) }
+{
+    match word {
+        [b'-', rest @ ..] => Some(rest),
+        _ => None,
+    }
+}
+
+fn positive_up_to(limit: u128, word: &[u8]) -> Result<i128, LineFault>
+    requires limit { limit < 2 ^ 127 }
+    requires no_minus { (rest : Bytes ℕ) → word.now ≡ 45 ∷ rest → ⊥ }
+    ensures { IsNumberUpTo limit word.now result }
+{
+    match count_up_to(limit, word) {
+        Ok(n) => Ok(n as i128),
+        Err(why) => Err(why),
+    }
+}
+
+fn negative_up_to(limit: u128, digits: &[u8]) -> Result<i128, LineFault>
+    requires { limit < 2 ^ 127 }
+    ensures { IsNumberUpTo limit (45 ∷ digits.now) result }
+{
+    match count_up_to(limit, digits) {
+        Ok(0) => Err(LineFault::NotCanonical),
+        Ok(n) => Ok(-(n as i128)),
+        Err(why) => Err(why),
+    }
+}

@@ -1,0 +1,104 @@
+//! Places of the solver, behind their names.
+ghost use Rattle.std.specs.Prelude.{◌≡◌, ◌∷◌, codes};
+ghost use Rattle.ps_line.specs.Cursor.{words_in};
+ghost use Rattle.ps_line.specs.Places.{IsPlaceRead};
+
+use crate::both::both;
+use crate::kinds::{column, row, shown};
+use crate::line_fault::LineFault;
+use crate::words::Words;
+use ps_table::Place;
+
+pub(crate) fn ratio(words: &mut Words<'_>) -> Result<Place, LineFault>
+    ensures { IsPlaceRead (codes "ratio" ∷ words_in words.old) (words_in words.new) result }
+{
+    let row = row(words.next())?;
+    Ok(Place::Ratio { row })
+}
+
+pub(crate) fn scale(words: &mut Words<'_>) -> Result<Place, LineFault>
+    ensures { IsPlaceRead (codes "scale" ∷ words_in words.old) (words_in words.new) result }
+{
+    let col = shown(words.next())?;
+    Ok(Place::Scale { col })
+}
+
+pub(crate) fn times(words: &mut Words<'_>) -> Result<Place, LineFault>
+    ensures { IsPlaceRead (codes "times" ∷ words_in words.old) (words_in words.new) result }
+{
+    let row = row(words.next());
+    let col = shown(words.next());
+    let (row, col) = both(row, col)?;
+    Ok(Place::Times { row, col })
+}
+
+pub(crate) fn minus(words: &mut Words<'_>) -> Result<Place, LineFault>
+    ensures { IsPlaceRead (codes "minus" ∷ words_in words.old) (words_in words.new) result }
+{
+    let row = row(words.next());
+    let col = shown(words.next());
+    let (row, col) = both(row, col)?;
+    Ok(Place::Minus { row, col })
+}
+
+pub(crate) fn cost(words: &mut Words<'_>) -> Result<Place, LineFault>
+    ensures { IsPlaceRead (codes "cost" ∷ words_in words.old) (words_in words.new) result }
+{
+    let col = column(words.next());
+    let row = row(words.next());
+    let (col, row) = both(col, row)?;
+    Ok(Place::Cost { col, row })
+}
+
+pub(crate) fn whole(words: &mut Words<'_>) -> Result<Place, LineFault>
+    ensures { IsPlaceRead (codes "whole" ∷ words_in words.old) (words_in words.new) result }
+{
+    let row = row(words.next())?;
+    Ok(Place::Whole { row })
+}
+
+pub(crate) fn scaled(words: &mut Words<'_>) -> Result<Place, LineFault>
+    ensures { IsPlaceRead (codes "scaled" ∷ words_in words.old) (words_in words.new) result }
+{
+    let row = row(words.next())?;
+    Ok(Place::Scaled { row })
+}
+
+pub(crate) fn weight(words: &mut Words<'_>) -> Result<Place, LineFault>
+    ensures { IsPlaceRead (codes "weight" ∷ words_in words.old) (words_in words.new) result }
+{
+    let row = row(words.next())?;
+    Ok(Place::Weight { row })
+}
+
+pub(crate) fn weighed(words: &mut Words<'_>) -> Result<Place, LineFault>
+    ensures { IsPlaceRead (codes "weighed" ∷ words_in words.old) (words_in words.new) result }
+{
+    let row = row(words.next())?;
+    Ok(Place::Weighed { row })
+}
+
+pub(crate) fn total(words: &mut Words<'_>) -> Result<Place, LineFault>
+    ensures { IsPlaceRead (codes "total" ∷ words_in words.old) (words_in words.new) result }
+{
+    let row = row(words.next())?;
+    Ok(Place::Total { row })
+}
+
+pub(crate) fn new_times(words: &mut Words<'_>) -> Result<Place, LineFault>
+    ensures { IsPlaceRead (codes "new-times" ∷ words_in words.old) (words_in words.new) result }
+{
+    let row = row(words.next());
+    let home = crate::kinds::row(words.next());
+    let (row, home) = both(row, home)?;
+    Ok(Place::NewTimes { row, home })
+}
+
+pub(crate) fn new_plus(words: &mut Words<'_>) -> Result<Place, LineFault>
+    ensures { IsPlaceRead (codes "new-plus" ∷ words_in words.old) (words_in words.new) result }
+{
+    let row = row(words.next());
+    let home = crate::kinds::row(words.next());
+    let (row, home) = both(row, home)?;
+    Ok(Place::NewPlus { row, home })
+}

@@ -1,0 +1,132 @@
+//! Words that say a fraction.
+ghost use Rattle.std.specs.Prelude.{◌≡◌, Ok, ◌≤◌, ◌<◌, ◌-◌, ◌≤ℤ◌, ◌↔◌, ◌^◌, pos, ℤ, IfSome, IfNone, IsTrue, unsigned_abs};
+ghost use Rattle.std.specs.Int.{IsGcd};
+ghost use Rattle.ps_answer.specs.Items.{IsRatioWithin, IsReducedWithin};
+ghost use Rattle.ps_answer.specs.Words.{Fraction as FractionWord};
+ghost use Rattle.ps_log.specs.Numbers.{Lacks, IsCut};
+ghost use Rattle.ps_line.specs.Read.{IsRead, IsWordRead};
+ghost use Rattle.ps_line.specs.Ratios.{IsOver, IsUnder, IsLowest, IsLowestOf, AreParts};
+ghost use Rattle.ps_rational.specs.Rational.{fraction};
+
+use crate::both::both;
+use crate::line_fault::LineFault;
+use crate::numeral::{count_up_to, number_up_to};
+use ps_answer::Ratio;
+use ps_frac::Fraction;
+
+const MOST_VALUE: u128 = 1 << 90;
+
+const MOST_OPERAND: u128 = (1 << 127) - 1;
+
+/// The value of a side: no less than 0, with numbers up to 2^90.
+pub(crate) fn value(word: &[u8]) -> Result<Ratio, LineFault>
+    ensures { IsWordRead (λ q. FractionWord q) (λ q. (pos 0 ≤ℤ q.over) × IsReducedWithin (2 ^ 90) q)
+        (λ q. IsRatioWithin (2 ^ 90) q) word.now result }
+{
+    match split_slash(word) {
+        Some((over, under)) => lowest(amount_of(over), positive(MOST_VALUE, under)),
+        None => Err(LineFault::NotCanonical),
+    }
+}
+
+/// An operand of the solver, with numbers below 2^127.
+pub(crate) fn operand(word: &[u8]) -> Result<Ratio, LineFault>
+    ensures { IsWordRead (λ q. FractionWord q) (λ q. IsReducedWithin (2 ^ 127 - 1) q)
+        (λ q. IsRatioWithin (2 ^ 127 - 1) q) word.now result }
+{
+    match split_slash(word) {
+        Some((over, under)) => {
+            lowest(
+                number_up_to(MOST_OPERAND, over),
+                positive(MOST_OPERAND, under),
+            )
+        }
+        None => Err(LineFault::NotCanonical),
+    }
+}
+
+fn split_slash(bytes: &[u8]) -> Option<(&[u8], &[u8])>
+    ensures found { IfSome result (λ r. IsCut bytes.now 47 r.0.now r.1.now) }
+    ensures none { IfNone result (Lacks 47 bytes.now) }
+{
+    match bytes.iter().position(|b| *b == b'/') {
+        Some(i) => Some((&bytes[..i], &bytes[i + 1..])),
+        None => None,
+    }
+}
+
+fn amount_of(word: &[u8]) -> Result<i128, LineFault>
+    ensures { IsOver (λ z. pos 0 ≤ℤ z) (2 ^ 90) word.now result }
+{
+    match count_up_to(MOST_VALUE, word) {
+        Ok(n) => Ok(n as i128),
+        Err(why) => Err(why),
+    }
+}
+
+// A denominator: at least 1.
+fn positive(limit: u128, word: &[u8]) -> Result<u128, LineFault>
+    requires { limit < 2 ^ 127 }
+    ensures { IsUnder limit word.now result }
+{
+    match count_up_to(limit, word) {
+        Ok(0) => Err(LineFault::NotCanonical),
+        Ok(n) => Ok(n),
+        Err(why) => Err(why),
+    }
+}
+
+// The fraction of two numbers, where it is in lowest terms.
+fn lowest(over: Result<i128, LineFault>, under: Result<u128, LineFault>) -> Result<Ratio, LineFault>
+    requires { AreParts over under }
+    ensures { IsLowest over under result }
+{
+    match both(over, under) {
+        Ok((over, under)) => lowest_of(&over, &under),
+        Err(why) => Err(why),
+    }
+}
+
+fn lowest_of(over: &i128, under: &u128) -> Result<Ratio, LineFault>
+    requires over { unsigned_abs over.now < 2 ^ 127 }
+    requires under { under.now < 2 ^ 127 }
+    requires positive { 1 ≤ under.now }
+    ensures { IsLowestOf (Ok (over.now, under.now)) result }
+{
+    if is_lowest(over, under) {
+        Ok(Ratio {
+            over: *over,
+            under: *under,
+        })
+    } else {
+        Err(LineFault::NotCanonical)
+    }
+}
+
+fn is_lowest(over: &i128, under: &u128) -> bool
+    requires over { unsigned_abs over.now < 2 ^ 127 }
+    requires under { under.now < 2 ^ 127 }
+    requires positive { 1 ≤ under.now }
+    ensures { IsTrue result ↔ IsGcd (unsigned_abs over.now) under.now 1 }
+{
+    let fraction = reduced(over, under);
+    has_numbers(&fraction, over, under)
+}
+
+fn reduced(over: &i128, under: &u128) -> Fraction
+    requires over { unsigned_abs over.now < 2 ^ 127 }
+    requires under { under.now < 2 ^ 127 }
+    requires positive { 1 ≤ under.now }
+    ensures { result ≡ fraction over.now under.now }
+{
+    Fraction::new(*over, *under as i128)
+}
+
+fn has_numbers(fraction: &Fraction, over: &i128, under: &u128) -> bool
+    ensures { IsTrue result ↔ ((fraction.now.over ≡ over.now) × (fraction.now.under ≡ under.now)) }
+{
+    if fraction.numerator() != *over {
+        return false;
+    }
+    fraction.denominator().unsigned_abs() == *under
+}
