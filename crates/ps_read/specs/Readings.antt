@@ -103,3 +103,11 @@ IsReading bytes (Unread kind position) = IsUnread bytes kind position
 abbrev pub IsWholeReading : List ℕ → Reading → Type 0
 IsWholeReading bytes (Read p place) = SpellsWhole bytes p × (place ≡ length bytes)
 IsWholeReading bytes (Unread kind position) = IsUnreadWhole bytes kind position
+
+-- there is one thing at most to read at the front
+abbrev pub HasOneReading : List ℕ → Type 0
+HasOneReading bytes = (a b : Reading) → IsReading bytes a → IsReading bytes b → a ≡ b
+
+-- and one in all the bytes
+abbrev pub HasOneWholeReading : List ℕ → Type 0
+HasOneWholeReading bytes = (a b : Reading) → IsWholeReading bytes a → IsWholeReading bytes b → a ≡ b
