@@ -1,5 +1,5 @@
 -- What is due for what was read and judged.
-use Rattle.std.proofs.Common.{◌≡◌, ℕ, ◌+◌, ◌-◌, ◌<◌, take, drop, arith, length-drop, length-append, ◌≤◌, List, [], ◌++◌, length, Option, Some, None, Err, refl, sym, ap, subst, ◌∙◌, append-nil}
+use Rattle.std.proofs.Common.{◌≡◌, ℕ, zero, suc, ◌+◌, ◌-◌, ◌<◌, take, drop, arith, length-drop, length-append, ◌≤◌, List, [], ◌++◌, length, Option, Some, None, Result, Ok, Err, IfOk, refl, sym, ap, subst, ◌∙◌, append-nil}
 use Rattle.std.proofs.Math.Seq.{take_all}
 use Rattle.ps_problem.specs.Problems.{Parts}
 use Rattle.ps_check.specs.declared.model.Model.{Model}
@@ -7,6 +7,11 @@ use Rattle.ps_check.specs.declared.refusal.Refusal.{Refusal}
 use Rattle.ps_check.specs.declared.refusal.CheckError.{CheckError}
 use Rattle.ps_check.specs.declared.refusal.CheckError.TheVariants.{Refused}
 use Rattle.ps_check.specs.Verdicts.{IsJudged}
+use Rattle.ps_read.specs.declared.read_error.ReadError.{ReadError}
+use Rattle.ps_read.specs.declared.read_error.ReadError.TheVariants as unread
+use Rattle.ps_read.specs.declared.read_kind.ReadKind.{ReadKind}
+use Rattle.ps_read.specs.Readings.{IsUnread}
+use Rattle.ps_read.specs.Reads.{Tells}
 use Rattle.ps_io.specs.Transfer.{Appends, ReadAll, TookMore, TookWithin}
 use Rattle.ps_io.specs.declared.limits.TheConstants.{LONGEST_READ}
 use Rattle.psat.specs.declared.command.Command.{Command}
@@ -15,15 +20,34 @@ use Rattle.psat.specs.declared.status.Status.{Status}
 use Rattle.psat.specs.declared.status.Status.TheVariants as status
 use Rattle.psat.specs.Commands.{Spell, SpellNone}
 use Rattle.psat.specs.Statuses.{GoesWithText, IsAnswer}
-use Rattle.psat.specs.Due.{Output, too_long, usage, refused_verdict, DueVerdict, RefusedFor, DueText, Within, TooLong, Due, ForCommand, ForNone}
+use Rattle.psat.specs.Due.{Output, too_long, usage, refused_verdict, unreadable, searched, DueVerdict, RefusedFor, DueModel, WithoutQueries, DueText, NotRead, Within, TooLong, Due, ForCommand, ForNone}
+use Rattle.psat.proofs.CommandLaws.{one_command}
 use Rattle.psat.specs.Runs.{WasRead, Took, HasTaken, HasRead, Ran}
-use Rattle.psat.specs.Replies.{IsDueFor, IsDue}
+use Rattle.ps_io.specs.declared.no_memory.NoMemory.{NoMemory}
+use Rattle.psat.specs.declared.reply.Reply.{Reply}
+use Rattle.psat.specs.Replies.{IsDueFor, IsDue, output_of}
 
 pub rest-is : (n : ℕ) (bs : List ℕ) → take (length bs - n) (drop n bs) ≡ drop n bs
 rest-is n bs = take_all (length bs - n) (drop n bs) (omega (arith, length-drop n bs))
 
 pub due-refused : (p : Parts) (m : Model) (e : CheckError) (f : Refusal) (o : Output) → e ≡ Refused f → IsJudged p m (Err e) → o ≡ refused_verdict f.reason → DueVerdict p m o
 due-refused p m e f o is judged shown = let first = rw is at judged in RefusedFor f.reason first.1 shown
+
+no_less : (n : ℕ) → ¬ (0 < n) → n ≡ 0
+no_less zero h = refl
+no_less (suc n) h = absurd (h (omega arith))
+
+-- what is due for a model where nothing is asked
+pub model_unasked : (p : Parts) (m : Model) (r : Result Reply NoMemory) → IfOk r (λ x. DueVerdict p m (output_of x)) → ¬ (0 < length p.queries) → IfOk r (λ x. DueModel p m (output_of x))
+model_unasked p m (Ok x) h none = WithoutQueries (no_less (length p.queries) none) h
+model_unasked p m (Err e) h none = tt
+
+-- what is due for a problem that isn't read
+pub problem-unread : (bytes front : List ℕ) (e : ReadError) (kind : ReadKind) (l k : ℕ) (o : Output) → front ≡ searched bytes → e ≡ unread.At kind l k → Tells (IsUnread front) e
+    → o ≡ unreadable kind (record { line = l; column = k }) → DueText bytes o
+problem-unread bytes front e kind l k o same is told shown =
+    let at = rw is at told in
+    NotRead kind (record { line = l; column = k }) (subst (λ (x : List ℕ). IsUnread x kind (record { line = l; column = k })) same at) shown
 
 -- all bytes that were left were taken
 whole-is : (most : ℕ) (old new : Option (List ℕ)) (taken bytes : List ℕ) → ReadAll most old new taken → old ≡ Some bytes → taken ≡ bytes
@@ -99,10 +123,6 @@ read_cut words s old new g h = record { read = λ command spelled. by command (h
   where
     by : (command : Command) → HasTaken command s old new → HasTaken command status.WriteFault old new
     by (commands.Check limit) taken = was_read limit s old new g taken
-
--- words spell one command
-pub one_command : (words : List (List ℕ)) (c d : Command) → Spell words c → Spell words d → c ≡ d
-one_command words (commands.Check m) (commands.Check n) a b = ap commands.Check (a.1 ∙ sym b.1)
 
 pub command_due : (words : List (List ℕ)) (command : Command) (left : Option (List ℕ)) (o : Output) → Spell words command → IsDueFor command left o → IsDue words left o
 command_due words command left o spelled h = record { due = λ bytes given. ForCommand command spelled (h.due bytes (given.told command spelled)) }

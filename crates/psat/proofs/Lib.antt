@@ -1,3 +1,4 @@
+pub mod CommandLaws
 pub mod DueLaws
 pub mod OneOutput
 pub mod Stripped
@@ -6,6 +7,3 @@ pub mod Numerals
 pub mod Worlds
 pub mod ReportTexts
 pub mod ReportLaws
-pub mod Draftings
-pub mod FirstFronts
-pub mod ProblemLaws

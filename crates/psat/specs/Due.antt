@@ -1,17 +1,19 @@
 -- What the program writes for words and an input, and the status with which it ends.
-use Rattle.std.specs.Prelude.{◌≡◌, ◌<◌, ◌≤◌, ℕ, List, ◌++◌, length, drop, codes, decimal}
+use Rattle.std.specs.Prelude.{◌≡◌, ◌<◌, ◌≤◌, ◌-◌, ◌^◌, ℕ, List, ◌++◌, length, take, drop, codes, decimal}
+use Rattle.ps_text.specs.Positions.{Position}
+use Rattle.ps_read.specs.declared.read_kind.ReadKind.{ReadKind}
+use Rattle.ps_read.specs.Readings.{SpellsProblem, IsUnread}
 use Rattle.ps_problem.specs.Problems.{Parts}
 use Rattle.ps_check.specs.declared.model.Model.{Model}
 use Rattle.ps_check.specs.declared.refusal.Reason.{Reason}
-use Rattle.ps_check.specs.declared.refusal.Reason.TheVariants.{WrongShape, TooManyWorlds, WeightZero, WorldTwice, TotalWrong, BoundMissed}
 use Rattle.ps_check.specs.Verdicts.{IsValid, IsFirst, ShowsConsistent}
 use Rattle.psat.specs.declared.status.Status.{Status}
 use Rattle.psat.specs.declared.status.Status.TheVariants.{Done, Usage, Unreadable, Refused}
 use Rattle.psat.specs.declared.command.Command.{Command}
 use Rattle.psat.specs.declared.command.Command.TheVariants.{Check}
 use Rattle.psat.specs.Commands.{Spell, SpellNone}
-use Rattle.psat.specs.ProblemTexts.{SpellsFirst, SpellsNone}
 use Rattle.psat.specs.Reports.{IsReport, IsNoReport}
+use Rattle.psat.specs.Words.{kind_words, reason_words}
 
 -- a text, and the status after it
 pub record Output : Type 0 where
@@ -22,29 +24,25 @@ pub record Output : Type 0 where
 abbrev pub line : List ℕ → Status → Output
 line words status = record { text = words ++ codes "\n"; status = status }
 
--- how a reason is shown
-unfoldable pub reason_words : Reason → List ℕ
-reason_words WrongShape = codes "wrong-shape"
-reason_words TooManyWorlds = codes "too-many-worlds"
-reason_words (WeightZero n) = codes "weight-zero " ++ decimal n
-reason_words (WorldTwice n) = codes "world-twice " ++ decimal n
-reason_words TotalWrong = codes "total-wrong"
-reason_words (BoundMissed n) = codes "bound-missed " ++ decimal n
-
 abbrev pub accepted : Output
 accepted = line (codes "accepted: claims 1, open 0") Done
 
 abbrev pub refused_verdict : Reason → Output
 refused_verdict r = line (codes "refused verdict " ++ reason_words r) Refused
 
+-- a report of this form has no parts, and the problem asks
+abbrev pub refused_shape : Output
+refused_shape = line (codes "refused report wrong-shape") Refused
+
 abbrev pub refused_report : Output
 refused_report = line (codes "refused report not in the first form") Refused
 
-abbrev pub unreadable : Output
-unreadable = line (codes "unreadable: not in the first form") Unreadable
+-- no problem is read, for a kind of refusal at a line and a column
+abbrev pub unreadable : ReadKind → Position → Output
+unreadable kind at = line (codes "unreadable: " ++ (kind_words kind ++ (codes " at " ++ (decimal at.line ++ (codes ":" ++ decimal at.column))))) Unreadable
 
 abbrev pub too_long : ℕ → Output
-too_long limit = record { text = codes "unreadable: more than " ++ decimal limit ++ codes " bytes\n"; status = Unreadable }
+too_long limit = line (codes "unreadable: more than " ++ decimal limit ++ codes " bytes") Unreadable
 
 abbrev pub usage : Output
 usage = line (codes "usage: psat solve|explain|check|make N [--pivots N] [--conflicts N] [--bytes N]") Usage
@@ -55,15 +53,25 @@ pub data DueVerdict (p : Parts) (m : Model) (o : Output) : Type 0 where
   Accepted : (valid : IsValid p m) (shows : ShowsConsistent p m) (is : o ≡ accepted) → DueVerdict p m o
   RefusedFor : (reason : Reason) (first : IsFirst p m reason) (is : o ≡ refused_verdict reason) → DueVerdict p m o
 
+-- due for a problem and the model of a report: the problem asks nothing, or it has queries and the report no parts
+pub data DueModel (p : Parts) (m : Model) (o : Output) : Type 0 where
+  WithoutQueries : (none : length p.queries ≡ 0) (verdict : DueVerdict p m o) → DueModel p m o
+  WithQueries : (some : 0 < length p.queries) (is : o ≡ refused_shape) → DueModel p m o
+
 -- due for a problem and the bytes behind its text: they are the report of a model, or of none
 pub data DueReport (p : Parts) (rest : List ℕ) (o : Output) : Type 0 where
-  ReadAs : (m : Model) (report : IsReport rest m) (verdict : DueVerdict p m o) → DueReport p rest o
+  ReadAs : (m : Model) (report : IsReport rest m) (model : DueModel p m o) → DueReport p rest o
   ReadAsNone : (none : IsNoReport rest) (is : o ≡ refused_report) → DueReport p rest o
 
--- due for bytes within the limit: a problem is spelled at the front, or none
+-- the bytes in which a problem is looked for: the first 2^32 - 2
+abbrev pub searched : List ℕ → List ℕ
+searched bytes = take (2 ^ 32 - 2) bytes
+
+-- due for bytes within the limit: a problem is spelled at the front of those in which one is looked for, or none is read there, for a
+-- kind of refusal at a position
 pub data DueText (bytes : List ℕ) (o : Output) : Type 0 where
-  Spelled : (p : Parts) (place : ℕ) (spells : SpellsFirst bytes p place) (report : DueReport p (drop place bytes) o) → DueText bytes o
-  SpelledByNone : (none : SpellsNone bytes) (is : o ≡ unreadable) → DueText bytes o
+  Spelled : (p : Parts) (place : ℕ) (spells : SpellsProblem (searched bytes) p place) (report : DueReport p (drop place bytes) o) → DueText bytes o
+  NotRead : (kind : ReadKind) (at : Position) (unread : IsUnread (searched bytes) kind at) (is : o ≡ unreadable kind at) → DueText bytes o
 
 -- due for what the source had left, where at most so many bytes are read
 pub data DueInput (limit : ℕ) (bytes : List ℕ) (o : Output) : Type 0 where

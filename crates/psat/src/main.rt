@@ -3,16 +3,15 @@
 
 mod answer;
 mod command;
-mod drafting;
 mod exit;
 mod laws;
-mod problem_text;
 mod reply;
 mod reply_error;
 mod report;
 mod report_bytes;
 mod report_error;
 mod run;
+mod shown;
 mod status;
 #[cfg(test)]
 mod tests;

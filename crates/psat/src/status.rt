@@ -4,11 +4,11 @@ ghost use Rattle.std.specs.Prelude.{◌≡◌};
 /// How the program ends.
 #[derive(Clone, Copy, Debug, PartialEq, Eq)]
 pub enum Status {
-    /// The report was accepted.
+    /// Each claim of the report is valid.
     Done,
     /// The words are not those of a command.
     Usage,
-    /// The input is too long, or no problem in the first form stands at its front.
+    /// The input is too long, or no problem stands at its front.
     Unreadable,
     /// A read failed.
     ReadFault,
@@ -16,7 +16,7 @@ pub enum Status {
     WriteFault,
     /// There was not enough memory.
     NoMemory,
-    /// The report was refused.
+    /// The bytes behind the problem are no report, or a claim of it is not valid.
     Refused,
 }
 

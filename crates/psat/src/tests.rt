@@ -8,8 +8,6 @@ const ACCEPTED: &str = "accepted: claims 1, open 0\n";
 
 const NO_REPORT: &str = "refused report not in the first form\n";
 
-const UNREADABLE: &str = "unreadable: not in the first form\n";
-
 const USAGE: &str =
     "usage: psat solve|explain|check|make N [--pivots N] [--conflicts N] [--bytes N]\n";
 
@@ -17,20 +15,48 @@ const HALF: &str =
     "psat 1; P(a) = 1/2; end;\nreport 1\nconsistent\nmodel 2 2\nw 1 1\nw 1 0\nt 0\nend\n";
 
 // Inputs of `check` that are accepted.
-const GOOD: [&str; 3] = [
+const GOOD: [&str; 4] = [
     HALF,
     " psat\n1 ;end ;\n\nreport 1\nconsistent\nmodel 1 1\nw 1 -\nt 0\nend\n",
+    "# Nothing.\r\n psat\n1 ;\tend ;\n# Nothing.\nreport 1\nconsistent\nmodel 1 1\nw 1 -\nt 0\nend\n",
     "psat 1; P(!a) = 02/4; end;report 1\nconsistent\nmodel 2 2\nw 1 1\nw 1 0\nt 0\nend\n",
 ];
 
-// Inputs with no problem at the front.
-const BAD: [&str; 6] = [
-    "",
-    "psat 1; end",
-    "psat 1; end;\t",
-    "psat 1; end; # no\n",
-    "psat 1; query P(a); end;",
-    "psat 1; P(a) = 3/2; end;",
+// A problem that asks, and a report without parts.
+const ASKED: &str = "psat 1; query P(a); end;\nreport 1\nconsistent\nmodel 1 1\nw 1 0\nt 0\nend\n";
+
+const NO_PARTS: &str = "refused report wrong-shape\n";
+
+// Inputs with no problem at the front, and their lines.
+const UNREADABLE: [(&str, &str); 13] = [
+    ("", "end missing at 1:1"),
+    ("psat 1; end", "end missing at 1:12"),
+    ("psat 2; end;", "version unknown at 1:6"),
+    ("psat 1;\nP(a) = 3/2;\nend;", "number out of range at 2:8"),
+    (
+        "psat 1;\nP(a) = 0.1234567;\nend;",
+        "too many decimals at 2:8",
+    ),
+    ("psat 1;\nP(a) = 1/0;\nend;", "zero denominator at 2:8"),
+    (
+        "psat 1;\nP(a) = 1/1000001;\nend;",
+        "denominator too large at 2:8",
+    ),
+    ("psat 1;\nP(a) > 1/2;\nend;", "bad byte at 2:6"),
+    ("psat 1;\nP(a &) = 1/2;\nend;", "expected formula at 2:6"),
+    (
+        "psat 1;\nP((a) = 1/2;\nend;",
+        "expected operator or ) at 2:7",
+    ),
+    ("psat 1;\nP(a)\n\t= 1/2 end;", "expected ; at 3:8"),
+    (
+        "psat 1; Q(a) = 1/2; end;",
+        "expected P, query or end at 1:9",
+    ),
+    (
+        "psat 1;\nP(a2345678901234567890123456789012b) = 1;",
+        "name too long at 2:3",
+    ),
 ];
 
 // The lines of a report on `P(a) = 1/2`, and what its refusal says.
@@ -83,7 +109,17 @@ const LIMITS: [(u64, u64, &str); 4] = [
     (1, 129, NO_REPORT),
 ];
 
-const OTHER_WORDS: [&[&str]; 4] = [&[], &["--help"], &["check", "check"], &["solve"]];
+const OTHER_WORDS: [&[&str]; 9] = [
+    &[],
+    &["--help"],
+    &["check", "check"],
+    &["solve"],
+    &["check", "--bytes"],
+    &["check", "--bytes", "01"],
+    &["check", "--bytes", "+1"],
+    &["check", "--bytes", "1099511627777"],
+    &["check", "--bytes", "1", "--bytes", "1"],
+];
 
 fn given(alloc: Global, words: &[&str]) -> Result<Vec<String>, NoMemory> {
     let mut given = Vec::new(alloc);
@@ -130,6 +166,19 @@ fn all_answer(alloc: Global, inputs: &[&str], line: &str, due: Status) -> bool {
     right
 }
 
+fn is_unreadable(alloc: Global, input: &str, why: &str) -> Result<bool, NoMemory> {
+    let line = format!(in alloc; "unreadable: {why}\n")?;
+    Ok(answers(alloc, &["check"], input, line.as_str(), Status::Unreadable))
+}
+
+fn all_are_unreadable(alloc: Global) -> bool {
+    let mut right = true;
+    for (input, why) in UNREADABLE {
+        right = right && matches!(is_unreadable(alloc, input, why), Ok(true));
+    }
+    right
+}
+
 fn refuses(alloc: Global, model: &str, reason: &str) -> Result<bool, NoMemory> {
     let input = format!(in alloc;
         "psat 1; P(a) = 1/2; end;\nreport 1\nconsistent\n{model}t 0\nend\n"
@@ -157,9 +206,10 @@ fn inputs_get_their_lines(rt: HostRuntime) -> Result<(), Fail> {
     let alloc = rt.alloc();
     assert!(rt;
         all_answer(alloc, &GOOD, ACCEPTED, Status::Done)
-            && all_answer(alloc, &BAD, UNREADABLE, Status::Unreadable)
+            && all_are_unreadable(alloc)
             && all_answer(alloc, &NO_REPORTS, NO_REPORT, Status::Refused)
             && all_refuse(alloc)
+            && answers(alloc, &["check"], ASKED, NO_PARTS, Status::Refused)
     );
     Ok(())
 }
@@ -203,10 +253,28 @@ fn get_usage(alloc: Global) -> bool {
     right
 }
 
+// Whether `--bytes` is the limit: an input of 75 bytes is read within 75 and not within 74.
+fn are_bytes_limited(alloc: Global) -> bool {
+    let long = "unreadable: more than 74 bytes\n";
+    answers(
+        alloc,
+        &["check", "--bytes", "75"],
+        HALF,
+        ACCEPTED,
+        Status::Done,
+    ) && answers(
+        alloc,
+        &["check", "--bytes", "74"],
+        HALF,
+        long,
+        Status::Unreadable,
+    )
+}
+
 #[test]
 fn limits_and_other_words(rt: HostRuntime) -> Result<(), Fail> {
     let alloc = rt.alloc();
-    assert!(rt; are_limited(alloc) && get_usage(alloc));
+    assert!(rt; are_limited(alloc) && get_usage(alloc) && are_bytes_limited(alloc));
     Ok(())
 }
 

@@ -1,4 +1,4 @@
-use Rattle.psat.proofs.DueLaws.{one_command}
+use Rattle.psat.proofs.CommandLaws.{one_command}
 use Rattle.psat.proofs.OneOutput.{one_output}
 use Rattle.psat.proofs.laws.one_output_is_due.Goals as goal
 

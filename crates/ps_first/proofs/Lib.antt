@@ -1,9 +1,0 @@
-pub mod Divisors
-pub mod Sentences
-pub mod Telling
-pub mod Parts
-pub mod Values
-pub mod Derivations
-pub mod Soundness
-pub mod Completeness
-pub mod Answered

@@ -1,0 +1,19 @@
+use Rattle.std.proofs.Common.{◌∙◌, ◌^◌, ℕ, List, [], ◌∷◌, codes, subst, sym, ap, string_bytes, arith}
+use Rattle.std.proofs.lemmas.List.{length-map}
+use Rattle.psat.specs.declared.command.Command.TheVariants.{Check}
+use Rattle.psat.specs.Commands.{Spell, words_of}
+use Rattle.psat.proofs.CommandLaws.{default_spelled, words-empty, words-two, two_spelled, long_unspelled}
+use Rattle.psat.proofs.command.parse_check.Goals as goal
+
+pub returns-in-empty : goal.returns-in-empty
+returns-in-empty c = subst (λ (ws : List (List ℕ)). Spell (codes "check" ∷ ws) (Check (2 ^ 30))) (sym (words-empty c.args.settings.now (omega arith))) default_spelled
+
+pub returns-in-len2 : goal.returns-in-len2
+returns-in-len2 c =
+    two_spelled c.number.result (words_of c.args.settings.now) (string_bytes c.bytes-item.result)
+    (words-two c.args.settings.now c.limit-item.result c.bytes-item.result (omega arith) c.limit-item.is c.bytes-item.is
+    ∙ ap (λ (x : List ℕ). x ∷ string_bytes c.bytes-item.result ∷ []) (c.is.ensures.0 c.if-is.true))
+    c.number.ensures.spelled c.number.ensures.within c.number.ensures.none
+
+pub returns-in_default-3 : goal.returns-in_default-3
+returns-in_default-3 c = long_unspelled (words_of c.args.settings.now) (omega (arith, length-map c.args.settings.now string_bytes))
