@@ -1,0 +1,23 @@
+use Rattle.std.proofs.Common.{◌∙◌, ap, Err, arith, map}
+use Rattle.std.proofs.lemmas.Result.{err_from_is_err_and}
+use Rattle.ps_answer.specs.declared.item.Item.TheVariants as line
+use Rattle.ps_answer.specs.declared.part.Part.TheVariants.{AStep}
+use Rattle.ps_reader.specs.Taken.{repeated}
+use Rattle.ps_reader.proofs.Taking.{takes_push, stopped_within}
+use Rattle.ps_reader.proofs.Values.{value_stopped, one_longer, step_passes}
+use Rattle.ps_reader.proofs.models.steps.Goals as goal
+
+pub returns-in_err-step-clause-steps : goal.returns-in_err-step-clause-steps
+returns-in_err-step-clause-steps c =
+    let f = err_from_is_err_and c.from_residual.result c.from_residual.ensures.1 in
+    value_stopped (map (λ s. line.StepLine s)) (repeated c.args.count AStep) c.args.lines.now c.step.new.lines c.in_err-step.field-0.0 c.from_residual.result
+    (stopped_within (λ s. line.StepLine s) AStep step_passes c.args.lines.now c.loop.lines c.loop.steps c.args.count c.in_err-step.field-0.0
+    c.loop.invariant.taken (omega (arith, c.loop-test.true, c.loop.invariant.counted)) c.in_err-step.ensures)
+    (f.1 ∙ ap Err f.2)
+
+pub loop-preserved : goal.loop-preserved
+loop-preserved c = record {
+  taken = takes_push (λ s. line.StepLine s) c.args.lines.now c.loop.lines c.step.new.lines c.loop.steps c.push.new.self c.in_ok-step.field-0
+      c.loop.invariant.taken c.in_ok-step.ensures c.in_ok-push.ensures.ok;
+  counted = one_longer c.loop.steps c.push.new.self c.in_ok-step.field-0 c.loop.counter c.in_ok-push.ensures.ok c.loop.invariant.counted;
+}

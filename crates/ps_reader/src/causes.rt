@@ -1,0 +1,139 @@
+//! Causes and verdicts that are read.
+ghost use Rattle.std.specs.Prelude.{◌≡◌, ◌≤◌, ◌<◌, ◌-◌, ◌^◌, ◌∷◌, [], unsigned_abs, IfOk};
+ghost use Rattle.ps_rational.specs.Rational.{fraction as quotient};
+ghost use Rattle.ps_answer.specs.Answers.{ratio_of, cause_items, verdict_items, IsCounted, IsVerdictCounted};
+ghost use Rattle.ps_answer.specs.Items.{IsReducedWithin, IsRatioWithin, most_operand};
+ghost use Rattle.ps_answer.specs.declared.item.Item.TheVariants as line;
+ghost use Rattle.ps_answer.specs.declared.part.Part.TheVariants.{ACause, AGoal, AStep, AModel, ADual, AVerdict};
+ghost use Rattle.ps_line.specs.Read.{Fits};
+ghost use Rattle.ps_reader.specs.Taken.{IsValueRead, repeated};
+ghost use Rattle.ps_reader.specs.Reports.{IsRestRead, IsGood, behind_opening};
+
+use crate::lines::Lines;
+use crate::models::{dual, model, steps};
+use ps_answer::{Cause, Item, Part, Ratio, ReportError, Verdict};
+use ps_frac::{Fraction, Op};
+use ps_pb::Constraint;
+use ps_table::{Place, WideAt};
+
+/// Why a part is open.
+pub(crate) fn cause(lines: &mut Lines<'_>) -> Result<Cause, ReportError>
+    ensures cause { IsValueRead cause_items (ACause ∷ []) lines.old lines.new result }
+    ensures counted { IfOk result IsCounted }
+{
+    let item = lines.take(Part::ACause)?;
+    cause_behind(item, lines)
+}
+
+/// The cause that a line begins.
+pub(crate) fn cause_behind(item: Item, lines: &mut Lines<'_>) -> Result<Cause, ReportError>
+    requires fits { Fits ACause item }
+    requires good { IsGood item }
+    ensures cause { IsRestRead item cause_items (behind_opening item) lines.old lines.new result }
+    ensures counted { IfOk result IsCounted }
+{
+    match item {
+        Item::OpenPivots { limit } => Ok(Cause::Pivots { limit }),
+        Item::OpenConflicts { limit } => conflicts(limit, lines),
+        Item::OpenWide {
+            place,
+            op,
+            left,
+            right,
+        } => Ok(wide(place, op, &left, &right)),
+        _ => unreachable!(),
+    }
+}
+
+fn wide(place: Place, op: Op, left: &Ratio, right: &Ratio) -> Cause
+    requires left { IsReducedWithin most_operand left.now }
+    requires left_within { IsRatioWithin most_operand left.now }
+    requires right { IsReducedWithin most_operand right.now }
+    requires right_within { IsRatioWithin most_operand right.now }
+    ensures wide { cause_items result ≡ line.OpenWide place op left.now right.now ∷ [] }
+    ensures counted { IsCounted result }
+{
+    Cause::Wide {
+        at: WideAt {
+            place,
+            op,
+            left: fraction(left),
+            right: fraction(right),
+        },
+    }
+}
+
+fn conflicts(limit: u64, lines: &mut Lines<'_>) -> Result<Cause, ReportError>
+    ensures cause { IsRestRead (line.OpenConflicts limit) cause_items (AGoal ∷ repeated limit AStep)
+        lines.old lines.new result }
+    ensures counted { IfOk result IsCounted }
+{
+    let goal = goal(lines)?;
+    let steps = steps(lines, limit)?;
+    Ok(Cause::Conflicts { limit, goal, steps })
+}
+
+fn goal(lines: &mut Lines<'_>) -> Result<Constraint, ReportError>
+    ensures { IsValueRead (λ g. line.GoalLine g ∷ []) (AGoal ∷ []) lines.old lines.new result }
+{
+    match lines.take(Part::AGoal)? {
+        Item::GoalLine { goal } => Ok(goal),
+        _ => unreachable!(),
+    }
+}
+
+/// A fraction in lowest terms.
+pub(crate) fn fraction(ratio: &Ratio) -> Fraction
+    requires reduced { IsReducedWithin most_operand ratio.now }
+    requires within { IsRatioWithin most_operand ratio.now }
+    ensures { ratio_of result ≡ ratio.now }
+{
+    reduced(&ratio.over, &ratio.under)
+}
+
+fn reduced(over: &i128, under: &u128) -> Fraction
+    requires over { unsigned_abs over.now < 2 ^ 127 }
+    requires under { under.now < 2 ^ 127 }
+    requires positive { 1 ≤ under.now }
+    ensures { result ≡ quotient over.now under.now }
+{
+    Fraction::new(*over, *under as i128)
+}
+
+/// What is answered to a problem's sentences.
+pub(crate) fn verdict(lines: &mut Lines<'_>) -> Result<Verdict, ReportError>
+    ensures verdict { IsValueRead verdict_items (AVerdict ∷ []) lines.old lines.new result }
+    ensures counted { IfOk result IsVerdictCounted }
+{
+    match lines.take(Part::AVerdict)? {
+        Item::Consistent => consistent(lines),
+        Item::Inconsistent => inconsistent(lines),
+        item => open(item, lines),
+    }
+}
+
+fn consistent(lines: &mut Lines<'_>) -> Result<Verdict, ReportError>
+    ensures verdict { IsRestRead line.Consistent verdict_items (AModel ∷ []) lines.old lines.new
+        result }
+    ensures counted { IfOk result IsVerdictCounted }
+{
+    Ok(Verdict::Consistent(model(lines)?))
+}
+
+fn inconsistent(lines: &mut Lines<'_>) -> Result<Verdict, ReportError>
+    ensures verdict { IsRestRead line.Inconsistent verdict_items (ADual ∷ []) lines.old lines.new
+        result }
+    ensures counted { IfOk result IsVerdictCounted }
+{
+    Ok(Verdict::Inconsistent(dual(lines)?))
+}
+
+fn open(item: Item, lines: &mut Lines<'_>) -> Result<Verdict, ReportError>
+    requires fits { Fits ACause item }
+    requires good { IsGood item }
+    ensures verdict { IsRestRead item verdict_items (behind_opening item) lines.old lines.new
+        result }
+    ensures counted { IfOk result IsVerdictCounted }
+{
+    Ok(Verdict::Open(cause_behind(item, lines)?))
+}

@@ -1,0 +1,76 @@
+//! The lines of a report, one after another.
+ghost use Rattle.std.specs.Prelude.{◌≤◌, ◌+◌, ◌^◌, length};
+
+use ps_answer::{Item, LineKind, Part, ReportError};
+use ps_line::{LineError, read_line};
+use std::alloc::Global;
+
+/// The lines that are still to be taken, and how many were.
+#[derive(Clone, Copy, Drop)]
+pub(crate) struct Lines<'b> {
+    alloc: Global,
+    rest: &'b [u8],
+    taken: u64,
+    ghost counted: { taken + length rest.now ≤ 2 ^ 63 },
+}
+
+impl<'b> Lines<'b> {
+    ghost use Rattle.std.specs.Prelude.{◌≡◌, ◌∷◌, [], IfOk, IfErr};
+    ghost use Rattle.ps_line.specs.Read.{Fits};
+    ghost use Rattle.ps_reader.specs.Taken.{Takes, IsStopped, IsMore, left_in};
+
+    /// All lines of some bytes.
+    pub(crate) fn of(alloc: Global, bytes: &'b [u8]) -> Lines<'b>
+        ensures left { left_in result ≡ bytes.now }
+        ensures none_taken { result.taken ≡ 0 }
+    {
+        Lines {
+            alloc,
+            rest: bytes,
+            taken: 0,
+        }
+    }
+
+    /// What hands out memory.
+    pub(crate) fn alloc(&self) -> Global {
+        self.alloc
+    }
+
+    /// Takes a line, where a part is due.
+    pub(crate) fn take(&mut self, part: Part) -> Result<Item, ReportError>
+        ensures line { IfOk result (λ i. Takes self.old self.new (i ∷ [])) }
+        ensures fits { IfOk result (λ i. Fits part i) }
+        ensures stopped { IfErr result (λ e. IsStopped self.old (part ∷ []) e) }
+    {
+        match read_line(self.alloc, part, self.rest) {
+            Ok((item, rest)) => {
+                *self = Lines {
+                    alloc: self.alloc,
+                    rest,
+                    taken: self.taken + 1,
+                };
+                Ok(item)
+            }
+            Err(LineError::Fault(kind)) => Err(ReportError::At {
+                kind,
+                line: self.taken + 1,
+            }),
+            Err(LineError::NoMemory) => Err(ReportError::NoMemory),
+        }
+    }
+
+    /// That nothing is left.
+    pub(crate) fn end(&self) -> Result<(), ReportError>
+        ensures none { IfOk result (λ u. left_in self.now ≡ []) }
+        ensures more { IfErr result (λ e. IsMore self.now e) }
+    {
+        if self.rest.is_empty() {
+            Ok(())
+        } else {
+            Err(ReportError::At {
+                kind: LineKind::MoreAfterEnd,
+                line: self.taken + 1,
+            })
+        }
+    }
+}

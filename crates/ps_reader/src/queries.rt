@@ -1,0 +1,142 @@
+//! Queries and their sides that are read.
+ghost use Rattle.std.specs.Prelude.{◌≡◌, ◌≤◌, true, false, ◌∷◌, ◌++◌, [], IfOk};
+ghost use Rattle.ps_answer.specs.Answers.{ArePartsCounted};
+ghost use Rattle.ps_answer.specs.Items.{IsReducedWithin, IsRatioWithin, most_operand};
+ghost use Rattle.ps_answer.specs.declared.item.Item.TheVariants as line;
+ghost use Rattle.ps_answer.specs.declared.part.Part.TheVariants.{ACause, AModel, ADual, ATrace, AnAnswer, ASide, AQuery};
+ghost use Rattle.ps_line.specs.Read.{Fits};
+ghost use Rattle.ps_reader.specs.Taken.{IsValueRead};
+ghost use Rattle.ps_reader.specs.Reports.{IsRestRead, IsGood, behind_opening, side_lines, IsSideTold};
+ghost use Rattle.ps_reader.specs.Reports.{answer_lines, IsPartTold, parts_lines, query_line, IsNumbered};
+
+use crate::causes::{cause, cause_behind, fraction};
+use crate::lines::Lines;
+use crate::models::{dual, model};
+use crate::traces::trace;
+use ps_answer::{Item, Part, Parts, QueryAnswer, QueryPart, Ratio, ReportError, SideAnswer};
+use ps_io::List;
+use ps_pool::Trace;
+
+// A side of a query, and its events.
+fn side(upper: bool, lines: &mut Lines<'_>) -> Result<(SideAnswer, Trace), ReportError>
+    ensures side { IsValueRead (side_lines upper) (ASide upper ∷ []) lines.old lines.new result }
+    ensures counted { IfOk result IsSideTold }
+{
+    match lines.take(Part::ASide { upper })? {
+        Item::Bound { value, .. } => bound(upper, &value, lines),
+        Item::OpenSide { .. } => open_side(upper, lines),
+        _ => unreachable!(),
+    }
+}
+
+fn bound(
+    upper: bool,
+    value: &Ratio,
+    lines: &mut Lines<'_>,
+) -> Result<(SideAnswer, Trace), ReportError>
+    requires reduced { IsReducedWithin most_operand value.now }
+    requires within { IsRatioWithin most_operand value.now }
+    ensures side { IsRestRead (line.Bound upper value.now) (side_lines upper)
+        (AModel ∷ ADual ∷ ATrace ∷ []) lines.old lines.new result }
+    ensures counted { IfOk result IsSideTold }
+{
+    let model = model(lines)?;
+    let dual = dual(lines)?;
+    let trace = trace(lines)?;
+    let value = fraction(value);
+    Ok((SideAnswer::Bound { value, model, dual }, trace))
+}
+
+fn open_side(upper: bool, lines: &mut Lines<'_>) -> Result<(SideAnswer, Trace), ReportError>
+    ensures side { IsRestRead (line.OpenSide upper) (side_lines upper) (ACause ∷ ATrace ∷ [])
+        lines.old lines.new result }
+    ensures counted { IfOk result IsSideTold }
+{
+    let cause = cause(lines)?;
+    let trace = trace(lines)?;
+    Ok((SideAnswer::Open(cause), trace))
+}
+
+// What is answered to a query, and the events of its first phase.
+fn part(lines: &mut Lines<'_>) -> Result<QueryPart, ReportError>
+    ensures part { IsValueRead answer_lines (AnAnswer ∷ []) lines.old lines.new result }
+    ensures counted { IfOk result IsPartTold }
+{
+    match lines.take(Part::AnAnswer)? {
+        Item::Bounds => sides(lines),
+        Item::Impossible => impossible(lines),
+        item => open(item, lines),
+    }
+}
+
+fn sides(lines: &mut Lines<'_>) -> Result<QueryPart, ReportError>
+    ensures part { IsRestRead line.Bounds answer_lines
+        (ATrace ∷ ASide false ∷ ASide true ∷ []) lines.old lines.new result }
+    ensures counted { IfOk result IsPartTold }
+{
+    let first = trace(lines)?;
+    let (lower, lower_trace) = side(false, lines)?;
+    let (upper, upper_trace) = side(true, lines)?;
+    Ok(QueryPart {
+        answer: QueryAnswer::Bounds {
+            lower,
+            lower_trace,
+            upper,
+            upper_trace,
+        },
+        first,
+    })
+}
+
+fn impossible(lines: &mut Lines<'_>) -> Result<QueryPart, ReportError>
+    ensures part { IsRestRead line.Impossible answer_lines (ADual ∷ ATrace ∷ []) lines.old
+        lines.new result }
+    ensures counted { IfOk result IsPartTold }
+{
+    let dual = dual(lines)?;
+    let first = trace(lines)?;
+    Ok(QueryPart {
+        answer: QueryAnswer::Impossible(dual),
+        first,
+    })
+}
+
+fn open(item: Item, lines: &mut Lines<'_>) -> Result<QueryPart, ReportError>
+    requires fits { Fits ACause item }
+    requires good { IsGood item }
+    ensures part { IsRestRead item answer_lines (behind_opening item ++ ATrace ∷ []) lines.old
+        lines.new result }
+    ensures counted { IfOk result IsPartTold }
+{
+    let cause = cause_behind(item, lines)?;
+    let first = trace(lines)?;
+    Ok(QueryPart {
+        answer: QueryAnswer::Open(cause),
+        first,
+    })
+}
+
+/// The queries in their order, up to the line that ends a report.
+pub(crate) fn parts(lines: &mut Lines<'_>) -> Result<Parts, ReportError>
+    ensures parts { IsValueRead parts_lines (AQuery 1 ∷ []) lines.old lines.new result }
+    ensures counted { IfOk result ArePartsCounted }
+{
+    let mut parts = List::new(lines.alloc());
+    let mut number = 1;
+    while is_query(number, lines)? {
+        parts.push(part(lines)?)?;
+        number += 1;
+    }
+    Ok(parts)
+}
+
+fn is_query(number: u64, lines: &mut Lines<'_>) -> Result<bool, ReportError>
+    ensures line { IsValueRead (query_line number) (AQuery number ∷ []) lines.old lines.new result }
+    ensures number { IfOk result (IsNumbered number) }
+{
+    match lines.take(Part::AQuery { number })? {
+        Item::Query { .. } => Ok(true),
+        Item::End => Ok(false),
+        _ => unreachable!(),
+    }
+}
