@@ -1,17 +1,24 @@
 -- What is due for what was read and judged.
-use Rattle.std.proofs.Common.{◌≡◌, ℕ, zero, suc, ◌+◌, ◌-◌, ◌<◌, take, drop, arith, length-drop, length-append, ◌≤◌, List, [], ◌++◌, length, Option, Some, None, Result, Ok, Err, IfOk, refl, sym, ap, subst, ◌∙◌, append-nil}
+use Rattle.std.proofs.Common.{◌≡◌, ℕ, ◌+◌, ◌-◌, ◌<◌, take, drop, arith, length-drop, length-append, ◌≤◌, List, [], ◌++◌, length, Option, Some, None, Err, refl, sym, ap, subst, ◌∙◌, append-nil}
 use Rattle.std.proofs.Math.Seq.{take_all}
 use Rattle.ps_problem.specs.Problems.{Parts}
-use Rattle.ps_check.specs.declared.model.Model.{Model}
-use Rattle.ps_check.specs.declared.refusal.Refusal.{Refusal}
-use Rattle.ps_check.specs.declared.refusal.CheckError.{CheckError}
-use Rattle.ps_check.specs.declared.refusal.CheckError.TheVariants.{Refused}
-use Rattle.ps_check.specs.Verdicts.{IsJudged}
+use Rattle.ps_answer.specs.declared.answer.Answer.{Answer}
+use Rattle.ps_answer.specs.declared.error.LineKind.{LineKind}
+use Rattle.ps_answer.specs.declared.error.ReportError.{ReportError}
+use Rattle.ps_answer.specs.declared.error.ReportError.TheVariants as errors
 use Rattle.ps_read.specs.declared.read_error.ReadError.{ReadError}
 use Rattle.ps_read.specs.declared.read_error.ReadError.TheVariants as unread
 use Rattle.ps_read.specs.declared.read_kind.ReadKind.{ReadKind}
 use Rattle.ps_read.specs.Readings.{IsUnread}
 use Rattle.ps_read.specs.Reads.{Tells}
+use Rattle.ps_reader.specs.Reports.{TellsFault}
+use Rattle.ps_claims.specs.Claims.{claims_of}
+use Rattle.ps_valid.specs.declared.refusal.Accepted.{Accepted}
+use Rattle.ps_valid.specs.declared.refusal.Refusal.{Refusal}
+use Rattle.ps_valid.specs.declared.refusal.CheckError.{CheckError}
+use Rattle.ps_valid.specs.declared.refusal.CheckError.TheVariants.{Refused}
+use Rattle.ps_valid.specs.Answers.{answer_of, IsRightOf}
+use Rattle.ps_valid.specs.Judged.{IsJudged, IsAccepted, place_of, fault_of}
 use Rattle.ps_io.specs.Transfer.{Appends, ReadAll, TookMore, TookWithin}
 use Rattle.ps_io.specs.declared.limits.TheConstants.{LONGEST_READ}
 use Rattle.psat.specs.declared.command.Command.{Command}
@@ -20,29 +27,29 @@ use Rattle.psat.specs.declared.status.Status.{Status}
 use Rattle.psat.specs.declared.status.Status.TheVariants as status
 use Rattle.psat.specs.Commands.{Spell, SpellNone}
 use Rattle.psat.specs.Statuses.{GoesWithText, IsAnswer}
-use Rattle.psat.specs.Due.{Output, too_long, usage, refused_verdict, unreadable, searched, DueVerdict, RefusedFor, DueModel, WithoutQueries, DueText, NotRead, Within, TooLong, Due, ForCommand, ForNone}
+use Rattle.psat.specs.Due as due
+use Rattle.psat.specs.Due.{Output, too_long, usage, refused_line, unreadable, searched, DueAnswer, DueReport, FaultAt, DueText, NotRead, Within, TooLong, Due, ForCommand, ForNone}
 use Rattle.psat.proofs.CommandLaws.{one_command}
 use Rattle.psat.specs.Runs.{WasRead, Took, HasTaken, HasRead, Ran}
-use Rattle.ps_io.specs.declared.no_memory.NoMemory.{NoMemory}
-use Rattle.psat.specs.declared.reply.Reply.{Reply}
-use Rattle.psat.specs.Replies.{IsDueFor, IsDue, output_of}
+use Rattle.psat.specs.Replies.{IsDueFor, IsDue}
 
 pub rest-is : (n : ℕ) (bs : List ℕ) → take (length bs - n) (drop n bs) ≡ drop n bs
 rest-is n bs = take_all (length bs - n) (drop n bs) (omega (arith, length-drop n bs))
 
-pub due-refused : (p : Parts) (m : Model) (e : CheckError) (f : Refusal) (o : Output) → e ≡ Refused f → IsJudged p m (Err e) → o ≡ refused_verdict f.reason → DueVerdict p m o
-due-refused p m e f o is judged shown = let first = rw is at judged in RefusedFor f.reason first.1 shown
+-- what is due for what a check answered of the report's answer
+pub judged-accepted : (p : Parts) (a : Answer) (accepted : Accepted) (o : Output) → IsAccepted p a accepted → IsRightOf p a
+    → o ≡ due.accepted accepted.claims accepted.unfinished → DueAnswer p a o
+judged-accepted p a accepted o is right shown =
+    due.Accepted is.valid right (shown ∙ ap (λ (n : ℕ). due.accepted n accepted.unfinished) is.claims ∙ ap (λ (n : ℕ). due.accepted (length (claims_of p (answer_of a))) n) is.unfinished)
 
-no_less : (n : ℕ) → ¬ (0 < n) → n ≡ 0
-no_less zero h = refl
-no_less (suc n) h = absurd (h (omega arith))
+pub judged-refused : (p : Parts) (a : Answer) (e : CheckError) (f : Refusal) (o : Output) → e ≡ Refused f → IsJudged p a (Err e) → o ≡ due.refused (place_of f.claim) (fault_of f.reason) → DueAnswer p a o
+judged-refused p a e f o is judged shown = let first = rw is at judged in due.RefusedFor (place_of f.claim) (fault_of f.reason) first shown
 
--- what is due for a model where nothing is asked
-pub model_unasked : (p : Parts) (m : Model) (r : Result Reply NoMemory) → IfOk r (λ x. DueVerdict p m (output_of x)) → ¬ (0 < length p.queries) → IfOk r (λ x. DueModel p m (output_of x))
-model_unasked p m (Ok x) h none = WithoutQueries (no_less (length p.queries) none) h
-model_unasked p m (Err e) h none = tt
+-- for a report that isn't read
+pub report-fault : (p : Parts) (rest : List ℕ) (e : ReportError) (kind : LineKind) (n : ℕ) (o : Output) → e ≡ errors.At kind n → TellsFault rest e → o ≡ refused_line kind n → DueReport p rest o
+report-fault p rest e kind n o is told shown = let fault = rw is at told in FaultAt kind n fault shown
 
--- what is due for a problem that isn't read
+-- and for a problem that isn't read
 pub problem-unread : (bytes front : List ℕ) (e : ReadError) (kind : ReadKind) (l k : ℕ) (o : Output) → front ≡ searched bytes → e ≡ unread.At kind l k → Tells (IsUnread front) e
     → o ≡ unreadable kind (record { line = l; column = k }) → DueText bytes o
 problem-unread bytes front e kind l k o same is told shown =

@@ -1,9 +1,3 @@
 pub mod CommandLaws
 pub mod DueLaws
 pub mod OneOutput
-pub mod Stripped
-pub mod Entries
-pub mod Numerals
-pub mod Worlds
-pub mod ReportTexts
-pub mod ReportLaws

@@ -3,31 +3,33 @@ use Rattle.std.proofs.Common.{◌≡◌, ℕ, List, drop, sym, ap, subst, ◌∙
 use Rattle.ps_read.specs.Readings.{Read, Unread}
 use Rattle.ps_read.proofs.OneReading.{one_reading}
 use Rattle.ps_problem.specs.Problems.{Parts}
-use Rattle.ps_check.specs.declared.model.Model.{Model}
-use Rattle.ps_check.proofs.FirstReasons.{one_is_first, valid_has_none}
+use Rattle.ps_answer.specs.declared.answer.Answer.{Answer}
+use Rattle.ps_answer.proofs.Single.{no_fault, one_fault, one_answer, report_is_text}
+use Rattle.ps_claims.proofs.Claims.{valid_accepted}
+use Rattle.ps_valid.specs.Answers.{answer_of}
+use Rattle.ps_valid.proofs.SingleFaults.{one_refused}
 use Rattle.psat.specs.declared.command.Command.{Command}
 use Rattle.psat.specs.declared.command.Command.TheVariants as commands
-use Rattle.psat.specs.Due.{Output, refused_verdict, unreadable, DueVerdict, Accepted, RefusedFor, DueModel, WithoutQueries, WithQueries, DueReport, ReadAs, ReadAsNone, DueText, Spelled, NotRead, searched, DueInput, Within, TooLong, DueFor, Due, ForCommand, ForNone}
+use Rattle.psat.specs.Due.{Output, refused, refused_line, unreadable, DueAnswer, Accepted, RefusedFor, DueReport, ReadAs, FaultAt, DueText, Spelled, NotRead, searched, DueInput, Within, TooLong, DueFor, Due, ForCommand, ForNone}
 use Rattle.psat.proofs.CommandLaws.{one_command}
-use Rattle.psat.proofs.ReportLaws.{one-report}
 
-one_verdict : (p : Parts) (m : Model) (o o' : Output) → DueVerdict p m o → DueVerdict p m o' → o ≡ o'
-one_verdict p m o o' (Accepted v s is) (Accepted v' s' is') = is ∙ sym is'
-one_verdict p m o o' (Accepted v s is) (RefusedFor r first is') = absurd (valid_has_none p m r v first)
-one_verdict p m o o' (RefusedFor r first is) (Accepted v s is') = absurd (valid_has_none p m r v first)
-one_verdict p m o o' (RefusedFor r first is) (RefusedFor r' first' is') = is ∙ ap refused_verdict (one_is_first p m r r' first first') ∙ sym is'
-
-one_model : (p : Parts) (m : Model) (o o' : Output) → DueModel p m o → DueModel p m o' → o ≡ o'
-one_model p m o o' (WithoutQueries none v) (WithoutQueries none' v') = one_verdict p m o o' v v'
-one_model p m o o' (WithoutQueries none v) (WithQueries some is) = absurd (omega (arith, none, some))
-one_model p m o o' (WithQueries some is) (WithoutQueries none v) = absurd (omega (arith, none, some))
-one_model p m o o' (WithQueries some is) (WithQueries some' is') = is ∙ sym is'
+one_judged : (p : Parts) (a : Answer) (o o' : Output) → DueAnswer p a o → DueAnswer p a o' → o ≡ o'
+one_judged p a o o' (Accepted v r is) (Accepted v' r' is') = is ∙ sym is'
+one_judged p a o o' (Accepted v r is) (RefusedFor place f first is') = absurd (valid_accepted p (answer_of a) place f v first)
+one_judged p a o o' (RefusedFor place f first is) (Accepted v r is') = absurd (valid_accepted p (answer_of a) place f v first)
+one_judged p a o o' (RefusedFor place f first is) (RefusedFor other g second is') =
+    let same = one_refused p (answer_of a) place other f g first second in
+    is ∙ ap (λ x. refused x f) same.0 ∙ ap (λ x. refused other x) same.1 ∙ sym is'
 
 one_report : (p : Parts) (rest : List ℕ) (o o' : Output) → DueReport p rest o → DueReport p rest o' → o ≡ o'
-one_report p rest o o' (ReadAs m report v) (ReadAs n other v') = one_model p m o o' v (subst (λ (x : Model). DueModel p x o') (one-report rest n m other report) v')
-one_report p rest o o' (ReadAs m report v) (ReadAsNone none is) = absurd (none.none m report)
-one_report p rest o o' (ReadAsNone none is) (ReadAs m report v) = absurd (none.none m report)
-one_report p rest o o' (ReadAsNone none is) (ReadAsNone none' is') = is ∙ sym is'
+one_report p rest o o' (ReadAs a r j) (ReadAs b s k) =
+    let same : b ≡ a = one_answer rest b a (report_is_text rest b s) (report_is_text rest a r) in
+    one_judged p a o o' j (subst (λ (x : Answer). DueAnswer p x o') same k)
+one_report p rest o o' (ReadAs a r j) (FaultAt kind n f is) = absurd (no_fault rest a kind n r f)
+one_report p rest o o' (FaultAt kind n f is) (ReadAs a r j) = absurd (no_fault rest a kind n r f)
+one_report p rest o o' (FaultAt kind n f is) (FaultAt other m g is') =
+    let same = one_fault rest kind other n m f g in
+    is ∙ ap (λ x. refused_line x n) same.0 ∙ ap (λ x. refused_line other x) same.1 ∙ sym is'
 
 one_text : (bytes : List ℕ) (o o' : Output) → DueText bytes o → DueText bytes o' → o ≡ o'
 one_text bytes o o' (Spelled p i a r) (Spelled q j b r') =

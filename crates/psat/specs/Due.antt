@@ -4,16 +4,18 @@ use Rattle.ps_text.specs.Positions.{Position}
 use Rattle.ps_read.specs.declared.read_kind.ReadKind.{ReadKind}
 use Rattle.ps_read.specs.Readings.{SpellsProblem, IsUnread}
 use Rattle.ps_problem.specs.Problems.{Parts}
-use Rattle.ps_check.specs.declared.model.Model.{Model}
-use Rattle.ps_check.specs.declared.refusal.Reason.{Reason}
-use Rattle.ps_check.specs.Verdicts.{IsValid, IsFirst, ShowsConsistent}
+use Rattle.ps_answer.specs.declared.answer.Answer.{Answer}
+use Rattle.ps_answer.specs.declared.error.LineKind.{LineKind}
+use Rattle.ps_answer.specs.Faults.{IsReport, IsFirstFault}
+use Rattle.ps_claims.specs.Claims.{Place, Fault, IsRefused, claims_of, unfinished_of}
+use Rattle.ps_claims.specs.Validity.{IsValid}
+use Rattle.ps_valid.specs.Answers.{answer_of, IsRightOf}
 use Rattle.psat.specs.declared.status.Status.{Status}
 use Rattle.psat.specs.declared.status.Status.TheVariants.{Done, Usage, Unreadable, Refused}
 use Rattle.psat.specs.declared.command.Command.{Command}
 use Rattle.psat.specs.declared.command.Command.TheVariants.{Check}
 use Rattle.psat.specs.Commands.{Spell, SpellNone}
-use Rattle.psat.specs.Reports.{IsReport, IsNoReport}
-use Rattle.psat.specs.Words.{kind_words, reason_words}
+use Rattle.psat.specs.Words.{kind_words, line_words, place_words, fault_words}
 
 -- a text, and the status after it
 pub record Output : Type 0 where
@@ -24,18 +26,17 @@ pub record Output : Type 0 where
 abbrev pub line : List ℕ → Status → Output
 line words status = record { text = words ++ codes "\n"; status = status }
 
-abbrev pub accepted : Output
-accepted = line (codes "accepted: claims 1, open 0") Done
+-- so many claims are accepted, and so much is open
+abbrev pub accepted : ℕ → ℕ → Output
+accepted claims unfinished = line (codes "accepted: claims " ++ (decimal claims ++ (codes ", open " ++ decimal unfinished))) Done
 
-abbrev pub refused_verdict : Reason → Output
-refused_verdict r = line (codes "refused verdict " ++ reason_words r) Refused
+-- a claim is refused for its first fault
+abbrev pub refused : Place → Fault → Output
+refused place fault = line (codes "refused " ++ (place_words place ++ (codes " " ++ fault_words fault))) Refused
 
--- a report of this form has no parts, and the problem asks
-abbrev pub refused_shape : Output
-refused_shape = line (codes "refused report wrong-shape") Refused
-
-abbrev pub refused_report : Output
-refused_report = line (codes "refused report not in the first form") Refused
+-- a line of the report is at fault
+abbrev pub refused_line : LineKind → ℕ → Output
+refused_line kind n = line (codes "refused report line " ++ (decimal n ++ (codes " " ++ line_words kind))) Refused
 
 -- no problem is read, for a kind of refusal at a line and a column
 abbrev pub unreadable : ReadKind → Position → Output
@@ -47,21 +48,17 @@ too_long limit = line (codes "unreadable: more than " ++ decimal limit ++ codes 
 abbrev pub usage : Output
 usage = line (codes "usage: psat solve|explain|check|make N [--pivots N] [--conflicts N] [--bytes N]") Usage
 
--- due for a problem and a model: the model is accepted where no reason stands against it, and it is then a distribution
--- over the problem's worlds that meets each bound; or else one reason is the first
-pub data DueVerdict (p : Parts) (m : Model) (o : Output) : Type 0 where
-  Accepted : (valid : IsValid p m) (shows : ShowsConsistent p m) (is : o ≡ accepted) → DueVerdict p m o
-  RefusedFor : (reason : Reason) (first : IsFirst p m reason) (is : o ≡ refused_verdict reason) → DueVerdict p m o
+-- due for a problem and an answer to it: the answer is accepted where it is valid, and it is then right; or else its first claim
+-- that isn't valid is refused, for its first fault
+pub data DueAnswer (p : Parts) (a : Answer) (o : Output) : Type 0 where
+  Accepted : (valid : IsValid p (answer_of a)) (right : IsRightOf p a)
+      (is : o ≡ accepted (length (claims_of p (answer_of a))) (unfinished_of (answer_of a))) → DueAnswer p a o
+  RefusedFor : (place : Place) (fault : Fault) (first : IsRefused p (answer_of a) place fault) (is : o ≡ refused place fault) → DueAnswer p a o
 
--- due for a problem and the model of a report: the problem asks nothing, or it has queries and the report no parts
-pub data DueModel (p : Parts) (m : Model) (o : Output) : Type 0 where
-  WithoutQueries : (none : length p.queries ≡ 0) (verdict : DueVerdict p m o) → DueModel p m o
-  WithQueries : (some : 0 < length p.queries) (is : o ≡ refused_shape) → DueModel p m o
-
--- due for a problem and the bytes behind its text: they are the report of a model, or of none
+-- due for a problem and the bytes behind its text: they are the report of an answer within the limits, or a line is the first at fault
 pub data DueReport (p : Parts) (rest : List ℕ) (o : Output) : Type 0 where
-  ReadAs : (m : Model) (report : IsReport rest m) (model : DueModel p m o) → DueReport p rest o
-  ReadAsNone : (none : IsNoReport rest) (is : o ≡ refused_report) → DueReport p rest o
+  ReadAs : (a : Answer) (report : IsReport rest a) (judged : DueAnswer p a o) → DueReport p rest o
+  FaultAt : (kind : LineKind) (n : ℕ) (fault : IsFirstFault rest kind n) (is : o ≡ refused_line kind n) → DueReport p rest o
 
 -- the bytes in which a problem is looked for: the first 2^32 - 2
 abbrev pub searched : List ℕ → List ℕ

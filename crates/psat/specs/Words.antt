@@ -1,11 +1,15 @@
 -- How a refusal is shown.
-use Rattle.std.specs.Prelude.{ℕ, List, ◌++◌, codes, decimal}
+use Rattle.std.specs.Prelude.{ℕ, List, [], ◌++◌, codes, decimal}
 use Rattle.ps_text.specs.declared.kind.What.{What}
 use Rattle.ps_text.specs.declared.kind.What.TheVariants as what
 use Rattle.ps_read.specs.declared.read_kind.ReadKind.{ReadKind}
 use Rattle.ps_read.specs.declared.read_kind.ReadKind.TheVariants as kind
-use Rattle.ps_check.specs.declared.refusal.Reason.{Reason}
-use Rattle.ps_check.specs.declared.refusal.Reason.TheVariants.{WrongShape, TooManyWorlds, WeightZero, WorldTwice, TotalWrong, BoundMissed}
+use Rattle.ps_answer.specs.declared.error.LineKind.{LineKind}
+use Rattle.ps_answer.specs.declared.error.LineKind.TheVariants as line
+use Rattle.ps_steps.specs.declared.refused.StepRefused.{StepRefused}
+use Rattle.ps_steps.specs.declared.refused.StepRefused.TheVariants as step
+use Rattle.ps_claims.specs.Faults.{DualFault, WrongHead, WrongSign, WrongStep, NoContradiction}
+use Rattle.ps_claims.specs.Claims.{Place, AtReport, AtVerdict, AtQuery, AtLower, AtUpper, Fault, WrongShape, TooManyWorlds, TotalWrong, EvidenceZero, ValueMissed, WeightZero, WorldTwice, BoundMissed, DualWrong}
 
 -- what is expected at a place of a problem text
 unfoldable pub what_words : What → List ℕ
@@ -41,11 +45,46 @@ kind_words kind.TooManyBounds = codes "too many bounds"
 kind_words kind.TooManyQueries = codes "too many queries"
 kind_words kind.MoreAfterEnd = codes "more after end"
 
--- what is wrong with a model
-unfoldable pub reason_words : Reason → List ℕ
-reason_words WrongShape = codes "wrong-shape"
-reason_words TooManyWorlds = codes "too-many-worlds"
-reason_words (WeightZero n) = codes "weight-zero " ++ decimal n
-reason_words (WorldTwice n) = codes "world-twice " ++ decimal n
-reason_words TotalWrong = codes "total-wrong"
-reason_words (BoundMissed n) = codes "bound-missed " ++ decimal n
+-- what is wrong with a line of a report
+unfoldable pub line_words : LineKind → List ℕ
+line_words line.Truncated = codes "truncated"
+line_words line.BadLine = codes "bad-line"
+line_words line.NotCanonical = codes "not-canonical"
+line_words line.TooLarge = codes "too-large"
+line_words line.MoreAfterEnd = codes "more-after-end"
+
+-- which claim is refused
+unfoldable pub place_words : Place → List ℕ
+place_words AtReport = codes "report"
+place_words AtVerdict = codes "verdict"
+place_words (AtQuery n) = codes "query " ++ decimal n
+place_words (AtLower n) = codes "query " ++ decimal n ++ codes " lower"
+place_words (AtUpper n) = codes "query " ++ decimal n ++ codes " upper"
+
+-- why a step is refused; want of memory is no reason against a step, and is never shown
+unfoldable pub why_words : StepRefused → List ℕ
+why_words step.IdNotNext = codes "id-not-next"
+why_words step.BadLit = codes "bad-lit"
+why_words (step.UnknownHint n) = codes "unknown-hint " ++ decimal n
+why_words (step.HintIdle n) = codes "hint-idle " ++ decimal n
+why_words step.NoConflict = codes "no-conflict"
+why_words step.NoMemory = []
+
+-- what is wrong with a dual
+unfoldable pub dual_words : DualFault → List ℕ
+dual_words WrongHead = codes "head-wrong"
+dual_words (WrongSign n) = codes "multiplier-sign " ++ decimal n
+dual_words (WrongStep id why) = codes "step " ++ (decimal id ++ (codes " " ++ why_words why))
+dual_words NoContradiction = codes "not-refuted"
+
+-- what is wrong with a claim
+unfoldable pub fault_words : Fault → List ℕ
+fault_words WrongShape = codes "wrong-shape"
+fault_words TooManyWorlds = codes "too-many-worlds"
+fault_words (WeightZero n) = codes "weight-zero " ++ decimal n
+fault_words (WorldTwice n) = codes "world-twice " ++ decimal n
+fault_words TotalWrong = codes "total-wrong"
+fault_words (BoundMissed n) = codes "bound-missed " ++ decimal n
+fault_words EvidenceZero = codes "evidence-zero"
+fault_words ValueMissed = codes "value-missed"
+fault_words (DualWrong f) = dual_words f

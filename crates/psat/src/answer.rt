@@ -1,56 +1,34 @@
 //! The reply to an input.
-ghost use Rattle.std.specs.Prelude.{◌≡◌, ◌↔◌, ◌+◌, ◌<◌, ◌≤◌, ◌^◌, length, IfOk, IsTrue};
-ghost use Rattle.ps_check.specs.Models.{IsNonnegative, IsWithinLimits};
+ghost use Rattle.std.specs.Prelude.{◌≡◌, ◌+◌, ◌<◌, ◌≤◌, ◌^◌, length, IfOk};
+ghost use Rattle.ps_valid.specs.Limits.{IsSmallAnswer};
 ghost use Rattle.psat.specs.Due as due;
-ghost use Rattle.psat.specs.Due.{DueModel, DueReport, DueText, DueVerdict};
+ghost use Rattle.psat.specs.Due.{DueAnswer, DueReport, DueText};
 ghost use Rattle.psat.specs.Replies.{output_of};
 ghost use Rattle.psat.specs.Statuses.{IsAnswer};
 
 use crate::reply::Reply;
-use crate::report::read_report;
-use crate::report_error::ReportError;
-use ps_check::{CheckError, Model, check_model};
+use ps_answer::{Answer, ReportError};
 use ps_io::NoMemory;
 use ps_problem::Problem;
 use ps_read::{ReadError, read_problem};
+use ps_reader::read_report;
+use ps_valid::{CheckError, check};
 use std::alloc::Global;
 
 // The most bytes in which a problem is looked for: one fewer than a line or a column can number.
 const MOST_SEARCHED: usize = (1 << 32) - 2;
 
-// The reply to a model, on a problem without queries.
-fn answer_verdict(alloc: Global, problem: &Problem, model: &Model) -> Result<Reply, NoMemory>
-    requires limits { IsWithinLimits model.now }
-    requires nonnegative { IsNonnegative model.now }
-    ensures due { IfOk result (λ r. DueVerdict problem.now model.now (output_of r)) }
+// The reply to the answer of a report.
+fn answer_claims(alloc: Global, problem: &Problem, answer: &Answer) -> Result<Reply, NoMemory>
+    requires limits { IsSmallAnswer answer.now }
+    ensures due { IfOk result (λ r. DueAnswer problem.now answer.now (output_of r)) }
     ensures status { IfOk result (λ r. IsAnswer r.status) }
 {
-    match check_model(alloc, problem, model) {
-        Ok(()) => Ok(Reply::accepted(alloc)?),
-        Err(CheckError::Refused(refusal)) => Ok(Reply::refused_verdict(alloc, refusal.reason)?),
+    match check(alloc, problem, answer) {
+        Ok(accepted) => Ok(Reply::accepted(alloc, accepted)?),
+        Err(CheckError::Refused(refusal)) => Ok(Reply::refused(alloc, refusal)?),
         Err(CheckError::NoMemory) => Err(NoMemory),
     }
-}
-
-// Whether a problem has queries.
-fn asks(problem: &Problem) -> bool
-    ensures { IsTrue result ↔ (0 < length problem.now.queries) }
-{
-    0 < problem.queries().len()
-}
-
-// The reply to a model.
-#[tactic(auto, using(crate::proofs::DueLaws::model_unasked))]
-fn answer_model(alloc: Global, problem: &Problem, model: &Model) -> Result<Reply, NoMemory>
-    requires limits { IsWithinLimits model.now }
-    requires nonnegative { IsNonnegative model.now }
-    ensures due { IfOk result (λ r. DueModel problem.now model.now (output_of r)) }
-    ensures status { IfOk result (λ r. IsAnswer r.status) }
-{
-    if asks(problem) {
-        return Ok(Reply::refused_shape(alloc)?);
-    }
-    answer_verdict(alloc, problem, model)
 }
 
 // The reply to what stands behind the problem.
@@ -59,8 +37,8 @@ fn answer_report(alloc: Global, problem: &Problem, rest: &[u8]) -> Result<Reply,
     ensures status { IfOk result (λ r. IsAnswer r.status) }
 {
     match read_report(alloc, rest) {
-        Ok(model) => answer_model(alloc, problem, &model),
-        Err(ReportError::NotFirstForm) => Ok(Reply::refused_report(alloc)?),
+        Ok(answer) => answer_claims(alloc, problem, &answer),
+        Err(ReportError::At { kind, line }) => Ok(Reply::refused_line(alloc, kind, line)?),
         Err(ReportError::NoMemory) => Err(NoMemory),
     }
 }

@@ -1,4 +1,4 @@
-//! A checker for probabilistic logic: it judges a distribution that is said to meet a problem.
+//! A checker for probabilistic logic: it judges a report on a problem.
 #![tactic(auto)]
 
 mod answer;
@@ -7,9 +7,6 @@ mod exit;
 mod laws;
 mod reply;
 mod reply_error;
-mod report;
-mod report_bytes;
-mod report_error;
 mod run;
 mod shown;
 mod status;

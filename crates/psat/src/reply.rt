@@ -1,13 +1,15 @@
 //! A text to be written.
 ghost use Rattle.std.specs.Prelude.{◌≡◌, ◌++◌, codes, IfOk, string_bytes};
-ghost use Rattle.psat.specs.Due.{accepted, line, refused_report, refused_shape};
-ghost use Rattle.psat.specs.Due.{refused_verdict, too_long, unreadable, usage};
+ghost use Rattle.ps_valid.specs.Judged.{fault_of, place_of};
+ghost use Rattle.psat.specs.Due.{accepted, line, refused, refused_line};
+ghost use Rattle.psat.specs.Due.{too_long, unreadable, usage};
 ghost use Rattle.psat.specs.Replies.{output_of};
 
-use crate::shown::{kind_text, reason_text};
+use crate::shown::{claim_text, kind_text, line_text, reason_text};
 use crate::status::Status;
-use ps_check::Reason;
+use ps_answer::LineKind;
 use ps_read::ReadKind;
+use ps_valid::{Accepted, Refusal};
 use std::alloc::{AllocError, Global};
 
 /// A text that is to be written, and the status after it.
@@ -60,36 +62,33 @@ impl Reply {
         Reply::line(text, Status::Unreadable)
     }
 
-    /// The reply to a report that isn't read.
-    pub fn refused_report(alloc: Global) -> Result<Reply, AllocError>
-        ensures { IfOk result (λ r. output_of r ≡ refused_report) }
+    /// The reply to a report with a line at fault.
+    pub fn refused_line(alloc: Global, kind: LineKind, line: u64) -> Result<Reply, AllocError>
+        ensures { IfOk result (λ r. output_of r ≡ refused_line kind line) }
     {
-        let text = String::from_str(alloc, "refused report not in the first form")?;
+        let kind = line_text(kind);
+        let text = format!(in alloc; "refused report line {line} {kind}")?;
         Reply::line(text, Status::Refused)
     }
 
-    /// The reply to a report without parts on a problem with queries.
-    pub fn refused_shape(alloc: Global) -> Result<Reply, AllocError>
-        ensures { IfOk result (λ r. output_of r ≡ refused_shape) }
+    /// The reply to an answer with a claim that isn't valid.
+    pub fn refused(alloc: Global, refusal: Refusal) -> Result<Reply, AllocError>
+        ensures { IfOk result (λ r.
+            output_of r ≡ refused (place_of refusal.claim) (fault_of refusal.reason)) }
     {
-        let text = String::from_str(alloc, "refused report wrong-shape")?;
+        let claim = claim_text(alloc, refusal.claim)?;
+        let reason = reason_text(alloc, refusal.reason)?;
+        let text = format!(in alloc; "refused {claim} {reason}")?;
         Reply::line(text, Status::Refused)
     }
 
-    /// The reply to a model against which a reason stands.
-    pub fn refused_verdict(alloc: Global, reason: Reason) -> Result<Reply, AllocError>
-        ensures { IfOk result (λ r. output_of r ≡ refused_verdict reason) }
+    /// The reply to an answer that is valid.
+    pub fn accepted(alloc: Global, answer: Accepted) -> Result<Reply, AllocError>
+        ensures { IfOk result (λ r. output_of r ≡ accepted answer.claims answer.unfinished) }
     {
-        let reason = reason_text(alloc, reason)?;
-        let text = format!(in alloc; "refused verdict {reason}")?;
-        Reply::line(text, Status::Refused)
-    }
-
-    /// The reply to a model that is accepted.
-    pub fn accepted(alloc: Global) -> Result<Reply, AllocError>
-        ensures { IfOk result (λ r. output_of r ≡ accepted) }
-    {
-        let text = String::from_str(alloc, "accepted: claims 1, open 0")?;
+        let claims = answer.claims;
+        let unfinished = answer.unfinished;
+        let text = format!(in alloc; "accepted: claims {claims}, open {unfinished}")?;
         Reply::line(text, Status::Done)
     }
 }

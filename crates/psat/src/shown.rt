@@ -1,9 +1,14 @@
 //! How a refusal is shown.
 ghost use Rattle.std.specs.Prelude.{◌≡◌, IfOk, string_bytes};
-ghost use Rattle.psat.specs.Words.{kind_words, reason_words, what_words};
+ghost use Rattle.ps_claims.specs.Faults.{WrongStep};
+ghost use Rattle.psat.specs.Words.{dual_words, fault_words, kind_words, line_words, place_words};
+ghost use Rattle.psat.specs.Words.{what_words, why_words};
+ghost use Rattle.ps_valid.specs.Judged.{fault_of, place_of};
 
-use ps_check::Reason;
+use ps_answer::LineKind;
 use ps_read::{ReadKind, What};
+use ps_steps::StepRefused;
+use ps_valid::{Claim, Reason};
 use std::alloc::{AllocError, Global};
 
 // What is expected at a place of a problem text.
@@ -55,10 +60,62 @@ pub fn kind_text(alloc: Global, kind: ReadKind) -> Result<String, AllocError>
     }
 }
 
-/// What is wrong with a model.
-#[tactic(auto, unfolding(crate::specs::Words::reason_words))]
+/// What is wrong with a line of a report.
+#[tactic(auto, unfolding(crate::specs::Words::line_words))]
+pub fn line_text(kind: LineKind) -> &'static str
+    ensures { result.now ≡ line_words kind }
+{
+    match kind {
+        LineKind::Truncated => "truncated",
+        LineKind::BadLine => "bad-line",
+        LineKind::NotCanonical => "not-canonical",
+        LineKind::TooLarge => "too-large",
+        LineKind::MoreAfterEnd => "more-after-end",
+    }
+}
+
+/// Which claim is refused.
+#[tactic(auto, unfolding(crate::specs::Words::place_words))]
+pub fn claim_text(alloc: Global, claim: Claim) -> Result<String, AllocError>
+    ensures { IfOk result (λ text. string_bytes text ≡ place_words (place_of claim)) }
+{
+    match claim {
+        Claim::Report => String::from_str(alloc, "report"),
+        Claim::Verdict => String::from_str(alloc, "verdict"),
+        Claim::Query { number } => format!(in alloc; "query {number}"),
+        Claim::Lower { number } => format!(in alloc; "query {number} lower"),
+        Claim::Upper { number } => format!(in alloc; "query {number} upper"),
+    }
+}
+
+// Why a step is refused. Want of memory is no reason against a step.
+#[tactic(auto, unfolding(crate::specs::Words::why_words))]
+fn why_text(alloc: Global, why: StepRefused) -> Result<String, AllocError>
+    ensures { IfOk result (λ text. string_bytes text ≡ why_words why) }
+{
+    match why {
+        StepRefused::IdNotNext => String::from_str(alloc, "id-not-next"),
+        StepRefused::BadLit => String::from_str(alloc, "bad-lit"),
+        StepRefused::UnknownHint { hint } => format!(in alloc; "unknown-hint {hint}"),
+        StepRefused::HintIdle { hint } => format!(in alloc; "hint-idle {hint}"),
+        StepRefused::NoConflict => String::from_str(alloc, "no-conflict"),
+        StepRefused::NoMemory => Ok(String::new(alloc)),
+    }
+}
+
+// Which step isn't lawful, and why.
+#[tactic(auto, unfolding(crate::specs::Words::dual_words))]
+fn step_text(alloc: Global, step: u64, why: StepRefused) -> Result<String, AllocError>
+    ensures { IfOk result (λ text. string_bytes text ≡ dual_words (WrongStep step why)) }
+{
+    let why = why_text(alloc, why)?;
+    format!(in alloc; "step {step} {why}")
+}
+
+/// What is wrong with a claim.
+#[tactic(auto, unfolding(crate::specs::Words::fault_words, crate::specs::Words::dual_words))]
 pub fn reason_text(alloc: Global, reason: Reason) -> Result<String, AllocError>
-    ensures { IfOk result (λ text. string_bytes text ≡ reason_words reason) }
+    ensures { IfOk result (λ text. string_bytes text ≡ fault_words (fault_of reason)) }
 {
     match reason {
         Reason::WrongShape => String::from_str(alloc, "wrong-shape"),
@@ -67,5 +124,11 @@ pub fn reason_text(alloc: Global, reason: Reason) -> Result<String, AllocError>
         Reason::WorldTwice { entry } => format!(in alloc; "world-twice {entry}"),
         Reason::TotalWrong => String::from_str(alloc, "total-wrong"),
         Reason::BoundMissed { bound } => format!(in alloc; "bound-missed {bound}"),
+        Reason::EvidenceZero => String::from_str(alloc, "evidence-zero"),
+        Reason::ValueMissed => String::from_str(alloc, "value-missed"),
+        Reason::HeadWrong => String::from_str(alloc, "head-wrong"),
+        Reason::MultiplierSign { bound } => format!(in alloc; "multiplier-sign {bound}"),
+        Reason::StepRefused { step, why } => step_text(alloc, step, why),
+        Reason::NotRefuted => String::from_str(alloc, "not-refuted"),
     }
 }

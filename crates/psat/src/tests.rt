@@ -6,26 +6,54 @@ use std::test::*;
 
 const ACCEPTED: &str = "accepted: claims 1, open 0\n";
 
-const NO_REPORT: &str = "refused report not in the first form\n";
-
 const USAGE: &str =
     "usage: psat solve|explain|check|make N [--pivots N] [--conflicts N] [--bytes N]\n";
 
 const HALF: &str =
     "psat 1; P(a) = 1/2; end;\nreport 1\nconsistent\nmodel 2 2\nw 1 1\nw 1 0\nt 0\nend\n";
 
-// Inputs of `check` that are accepted.
-const GOOD: [&str; 4] = [
-    HALF,
-    " psat\n1 ;end ;\n\nreport 1\nconsistent\nmodel 1 1\nw 1 -\nt 0\nend\n",
-    "# Nothing.\r\n psat\n1 ;\tend ;\n# Nothing.\nreport 1\nconsistent\nmodel 1 1\nw 1 -\nt 0\nend\n",
-    "psat 1; P(!a) = 02/4; end;report 1\nconsistent\nmodel 2 2\nw 1 1\nw 1 0\nt 0\nend\n",
+// Inputs that are accepted or refused, and their lines.
+const JUDGED: [(&str, &str); 9] = [
+    (HALF, ACCEPTED),
+    (
+        "# Nothing.\r\n psat\n1 ;\tend ;\n\nreport 1\nconsistent\nmodel 1 1\nw 1 -\nt 0\nend\n",
+        ACCEPTED,
+    ),
+    (
+        "psat 1; P(!a) = 0.5; end;report 1\nconsistent\nmodel 2 2\nw 1 1\nw 1 0\nt 0\nend\n",
+        ACCEPTED,
+    ),
+    (
+        "psat 1; P(a & !a) >= 1/1000000; end;\n\
+         report 1\ninconsistent\ndual 0 1 1\ny 1\ns 7 0 6 3 4 2 0\nt 0\nend\n",
+        ACCEPTED,
+    ),
+    (
+        "psat 1; P(a) in [3/4, 1/4]; end;\n\
+         report 1\ninconsistent\ndual 0 2 1\ny 1 -1\ns 2 0 1 0\nt 0\nend\n",
+        ACCEPTED,
+    ),
+    (
+        "psat 1; P(a) in [3/4, 1/4]; end;\n\
+         report 1\ninconsistent\ndual 0 2 1\ny -1 -1\ns 2 0 1 0\nt 0\nend\n",
+        "refused verdict multiplier-sign 1\n",
+    ),
+    (
+        "psat 1; P(b) = 0; query P(a given b); end;\n\
+         report 1\nconsistent\nmodel 1 1\nw 1 00\nt 0\n\
+         query 1\nimpossible\ndual 0 1 1\ny -1\ns 5 0 4 0\nt 0\nend\n",
+        "accepted: claims 2, open 0\n",
+    ),
+    (
+        "psat 1; P(a) = 7/10; P(a -> b) = 9/10; query P(b); end;\n\
+         report 1\nopen pivots 0\nt 1\nc 11\nend\n",
+        "accepted: claims 0, open 1\n",
+    ),
+    (
+        "psat 1; query P(a); end;\nreport 1\nconsistent\nmodel 1 1\nw 1 0\nt 0\nend\n",
+        "refused report wrong-shape\n",
+    ),
 ];
-
-// A problem that asks, and a report without parts.
-const ASKED: &str = "psat 1; query P(a); end;\nreport 1\nconsistent\nmodel 1 1\nw 1 0\nt 0\nend\n";
-
-const NO_PARTS: &str = "refused report wrong-shape\n";
 
 // Inputs with no problem at the front, and their lines.
 const UNREADABLE: [(&str, &str); 13] = [
@@ -59,56 +87,86 @@ const UNREADABLE: [(&str, &str); 13] = [
     ),
 ];
 
-// The lines of a report on `P(a) = 1/2`, and what its refusal says.
-const REFUSED: [(&str, &str); 12] = [
-    ("model 2 2\nw 2 1\nw 1 0\n", "verdict total-wrong\n"),
-    ("model 3 2\nw 2 1\nw 1 0\n", "verdict bound-missed 1\n"),
-    ("model 2 2\nw 1 1\nw 1 1\n", "verdict world-twice 2\n"),
-    ("model 1 1\nw 0 1\n", "verdict weight-zero 1\n"),
-    ("model 1 1\nw 1 10\n", "verdict wrong-shape\n"),
-    (
-        "model 3 3\nw 1 1\nw 1 0\nw 1 1\n",
-        "verdict too-many-worlds\n",
-    ),
-    ("model 0 0\n", "verdict total-wrong\n"),
-    (
-        "model 2 2\nw 01 1\nw 1 0\n",
-        "report not in the first form\n",
-    ),
-    (
-        "model 2 2\nw 1 1\nw -1 0\n",
-        "report not in the first form\n",
-    ),
-    (
-        "model 2 3\nw 1 1\nw 1 0\n",
-        "report not in the first form\n",
-    ),
-    (
-        "model 2 2\nw 1  1\nw 1 0\n",
-        "report not in the first form\n",
-    ),
-    (
-        " model 2 2\nw 1 1\nw 1 0\n",
-        "report not in the first form\n",
-    ),
+// The lines of a report on the problem `RAIN`.
+const RAIN: &str = "psat 1; P(a) = 7/10; P(a -> b) = 9/10; query P(b); end;\n";
+
+const LINES: [&str; 29] = [
+    "report 1",
+    "consistent",
+    "model 10 3",
+    "w 6 11",
+    "w 1 10",
+    "w 3 00",
+    "t 0",
+    "query 1",
+    "bounds",
+    "t 0",
+    "lower 3/5",
+    "model 10 3",
+    "w 6 11",
+    "w 1 10",
+    "w 3 00",
+    "dual 10 6 1",
+    "y 1 1",
+    "s 5 0 4 3 0",
+    "t 0",
+    "upper 9/10",
+    "model 10 3",
+    "w 6 11",
+    "w 1 10",
+    "w 3 01",
+    "dual 10 9 1",
+    "y 0 -1",
+    "s 5 0 4 2 0",
+    "t 0",
+    "end",
 ];
 
-// Texts behind a problem that are no report.
-const NO_REPORTS: [&str; 4] = [
-    "psat 1; end;",
-    "psat 1; end;report 1\nconsistent\nmodel 1 1\nw 1 -\nt 0\nend",
-    "psat 1; end;report 1\nconsistent\nmodel 1 1\nw 1 -\nt 0\nend\n\n",
-    "psat 1; end;report 1\nconsistent\nmodel 1 1\nw 1 -\nt 0\nend\nend\n",
+// From which line on, by its number from 1, how many of the lines are left out, what stands in their place, and the line
+// that is due.
+const CHANGES: [(u64, u64, &str, &str); 16] = [
+    (1, 0, "", "accepted: claims 3, open 0\n"),
+    (4, 1, "w 06 11\n", "refused report line 4 not-canonical\n"),
+    (5, 1, "w 1 11\n", "refused verdict world-twice 2\n"),
+    (5, 1, "w 0 10\n", "refused verdict weight-zero 2\n"),
+    (6, 1, "w 2 00\n", "refused verdict total-wrong\n"),
+    (6, 1, "w 3 000\n", "refused verdict wrong-shape\n"),
+    (4, 2, "w 5 11\nw 2 10\n", "refused verdict bound-missed 2\n"),
+    (11, 1, "lower 1/2\n", "refused query 1 lower value-missed\n"),
+    (25, 1, "dual 10 8 1\n", "refused query 1 upper head-wrong\n"),
+    (
+        26,
+        1,
+        "y 0 1\n",
+        "refused query 1 upper step 5 hint-idle 2\n",
+    ),
+    (
+        27,
+        1,
+        "s 5 0 4 0\n",
+        "refused query 1 upper step 5 no-conflict\n",
+    ),
+    (
+        25,
+        3,
+        "dual 10 9 0\ny 0 -1\n",
+        "refused query 1 upper not-refuted\n",
+    ),
+    (27, 1, "", "refused report line 27 bad-line\n"),
+    (29, 1, "", "refused report line 29 truncated\n"),
+    (29, 1, "end\n\n", "refused report line 30 more-after-end\n"),
+    (1, 29, "", "refused report line 1 truncated\n"),
 ];
 
-// How many worlds of weight 1 a report has, of how many digits, and what its refusal says.
+// How many worlds of weight 1 a report has, of how many digits, and its line.
 const LIMITS: [(u64, u64, &str); 4] = [
     (101, 1, "refused verdict too-many-worlds\n"),
-    (102, 1, NO_REPORT),
+    (102, 1, "refused report line 3 too-large\n"),
     (1, 128, "refused verdict wrong-shape\n"),
-    (1, 129, NO_REPORT),
+    (1, 129, "refused report line 4 too-large\n"),
 ];
 
+// Words of no command.
 const OTHER_WORDS: [&[&str]; 9] = [
     &[],
     &["--help"],
@@ -158,10 +216,15 @@ fn answers(alloc: Global, words: &[&str], input: &str, line: &str, due: Status) 
     }
 }
 
-fn all_answer(alloc: Global, inputs: &[&str], line: &str, due: Status) -> bool {
+fn all_are_judged(alloc: Global) -> bool {
     let mut right = true;
-    for input in inputs {
-        right = right && answers(alloc, &["check"], *input, line, due);
+    for (input, line) in JUDGED {
+        let due = if line.starts_with("accepted") {
+            Status::Done
+        } else {
+            Status::Refused
+        };
+        right = right && answers(alloc, &["check"], input, line, due);
     }
     right
 }
@@ -179,24 +242,39 @@ fn all_are_unreadable(alloc: Global) -> bool {
     right
 }
 
-fn refuses(alloc: Global, model: &str, reason: &str) -> Result<bool, NoMemory> {
-    let input = format!(in alloc;
-        "psat 1; P(a) = 1/2; end;\nreport 1\nconsistent\n{model}t 0\nend\n"
-    )?;
-    let line = format!(in alloc; "refused {reason}")?;
-    Ok(answers(
-        alloc,
-        &["check"],
-        input.as_str(),
-        line.as_str(),
-        Status::Refused,
-    ))
+// The report on `RAIN` with so many lines from one on replaced.
+fn changed(alloc: Global, from: u64, count: u64, put: &str) -> Result<String, NoMemory> {
+    let mut text = String::from_str(alloc, RAIN)?;
+    let mut number = 0u64;
+    for line in LINES {
+        number = number.saturating_add(1);
+        if number == from {
+            text.push_str(put)?;
+        }
+        if number < from || from.saturating_add(count) <= number {
+            text.push_str(line)?;
+            text.push_str("\n")?;
+        }
+    }
+    Ok(text)
 }
 
-fn all_refuse(alloc: Global) -> bool {
+fn is_changed(alloc: Global, from: u64, count: u64, put: &str, line: &str) -> bool {
+    let due = if line.starts_with("accepted") {
+        Status::Done
+    } else {
+        Status::Refused
+    };
+    match changed(alloc, from, count, put) {
+        Ok(input) => answers(alloc, &["check"], input.as_str(), line, due),
+        Err(_) => false,
+    }
+}
+
+fn all_are_changed(alloc: Global) -> bool {
     let mut right = true;
-    for (model, reason) in REFUSED {
-        right = right && matches!(refuses(alloc, model, reason), Ok(true));
+    for (from, count, put, line) in CHANGES {
+        right = right && is_changed(alloc, from, count, put, line);
     }
     right
 }
@@ -204,13 +282,7 @@ fn all_refuse(alloc: Global) -> bool {
 #[test]
 fn inputs_get_their_lines(rt: HostRuntime) -> Result<(), Fail> {
     let alloc = rt.alloc();
-    assert!(rt;
-        all_answer(alloc, &GOOD, ACCEPTED, Status::Done)
-            && all_are_unreadable(alloc)
-            && all_answer(alloc, &NO_REPORTS, NO_REPORT, Status::Refused)
-            && all_refuse(alloc)
-            && answers(alloc, &["check"], ASKED, NO_PARTS, Status::Refused)
-    );
+    assert!(rt; all_are_judged(alloc) && all_are_unreadable(alloc) && all_are_changed(alloc));
     Ok(())
 }
 

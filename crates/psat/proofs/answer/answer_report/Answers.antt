@@ -1,11 +1,22 @@
 use Rattle.std.proofs.lemmas.Result.{IfOk-weaker}
 use Rattle.psat.specs.declared.reply.Reply.{Reply}
-use Rattle.psat.specs.Due.{DueModel, DueReport, ReadAs}
+use Rattle.psat.specs.Due.{DueAnswer, DueReport, ReadAs}
 use Rattle.psat.specs.Replies.{output_of}
+use Rattle.psat.proofs.DueLaws.{report-fault}
+use Rattle.ps_valid.proofs.SmallAnswers.{report_small}
 use Rattle.psat.proofs.answer.answer_report.Goals as goal
+
+pub answer_claims-requires : goal.answer_claims-requires
+answer_claims-requires c = record { limits = report_small c.args.rest.now c.in-Ok.answer c.in-Ok.ensures.found }
 
 pub returns-in-Ok-clause-due : goal.returns-in-Ok-clause-due
 returns-in-Ok-clause-due c =
-    IfOk-weaker c.answer_model.result (λ (r : Reply). DueModel c.args.problem.now c.in-Ok.model (output_of r))
+    IfOk-weaker c.answer_claims.result (λ (r : Reply). DueAnswer c.args.problem.now c.in-Ok.answer (output_of r))
     (λ (r : Reply). DueReport c.args.problem.now c.args.rest.now (output_of r))
-    (λ r judged. ReadAs c.in-Ok.model c.in-Ok.ensures.found judged) c.answer_model.ensures.due
+    (λ r judged. ReadAs c.in-Ok.answer c.in-Ok.ensures.found judged) c.answer_claims.ensures.due
+
+pub returns-in_ok-refused_line-in-Err-At-clause-due :
+    goal.returns-in_ok-refused_line-in-Err-At-clause-due
+returns-in_ok-refused_line-in-Err-At-clause-due c =
+    report-fault c.args.problem.now c.args.rest.now c.in-Err-At.field-0 c.in-Err-At.kind c.in-Err-At.line (output_of c.in_ok-refused_line-in-Err-At.field-0)
+    c.in-Err-At.field-0-is c.in-Err-At.ensures.told c.in_ok-refused_line-in-Err-At.ensures

@@ -1,5 +1,0 @@
-pub mod Weights
-pub mod Tables
-pub mod Order
-pub mod Validity
-pub mod FirstReasons
