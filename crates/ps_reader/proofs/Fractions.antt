@@ -1,5 +1,5 @@
 -- Fractions of a report.
-use Rattle.std.proofs.Common.{◌≡◌, ◌≤◌, ◌<◌, ◌^◌, ◌-◌, ℤ, pos, ◌<ℤ◌, ap, ◌∙◌, arith, unsigned_abs}
+use Rattle.std.proofs.Common.{◌≡◌, ◌^◌, ap, ◌∙◌, arith}
 use Rattle.ps_rational.specs.Rational.{Rational, fraction}
 use Rattle.ps_answer.specs.declared.item.Ratio.{Ratio}
 use Rattle.ps_answer.specs.Items.{IsReducedWithin, IsRatioWithin, most_operand}

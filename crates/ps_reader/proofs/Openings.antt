@@ -1,5 +1,5 @@
 -- First lines of causes, verdicts, sides and answers, and the parts that follow them.
-use Rattle.std.proofs.Common.{◌≡◌, Bool, true, false, List, [], ◌∷◌, ◌++◌, Some, refl, sym, ap, subst, ◌∙◌, append_assoc}
+use Rattle.std.proofs.Common.{◌≡◌, Bool, true, false, List, [], ◌∷◌, ◌++◌, Some, refl, sym, ap, ◌∙◌, append_assoc}
 use Rattle.std.proofs.lemmas.Option.{none-some}
 use Rattle.ps_answer.specs.declared.item.Ratio.{Ratio}
 use Rattle.ps_answer.specs.declared.item.Item.{Item}

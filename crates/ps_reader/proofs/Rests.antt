@@ -9,7 +9,7 @@ use Rattle.ps_answer.specs.declared.part.Part.TheVariants.{AGoal, AnAnswer, AQue
 use Rattle.std.proofs.lemmas.Option.{none-some}
 use Rattle.ps_line.specs.Read.{Fits}
 use Rattle.ps_answer.specs.declared.error.ReportError.{ReportError}
-use Rattle.ps_answer.specs.Items.{IsProper, IsWithin}
+use Rattle.ps_answer.specs.Items.{IsProper}
 use Rattle.ps_answer.specs.Due.{behind, due_behind}
 use Rattle.ps_answer.specs.Faults.{AreLines}
 use Rattle.ps_reader.specs.declared.lines.Lines.{Lines}

@@ -1,10 +1,9 @@
 -- Queries in their order, and whole reports.
-use Rattle.std.proofs.Common.{◌≡◌, ℕ, suc, ◌+◌, ◌≤◌, List, [], ◌∷◌, ◌++◌, length, None, Some, Result, Ok, Err, refl, sym, ap, subst, ◌∙◌, arith}
+use Rattle.std.proofs.Common.{◌≡◌, ℕ, suc, ◌+◌, List, [], ◌∷◌, ◌++◌, length, Some, refl, sym, ap, subst, ◌∙◌, arith}
 use Rattle.std.proofs.lemmas.Option.{none-some}
 use Rattle.ps_pool.specs.declared.event.Event.{Event}
 use Rattle.ps_answer.specs.declared.item.Item.{Item}
 use Rattle.ps_answer.specs.declared.item.Item.TheVariants as line
-use Rattle.ps_answer.specs.declared.part.Part.{Part}
 use Rattle.ps_answer.specs.declared.part.Part.TheVariants.{AReport, AVerdict, ATrace, AnAnswer, AQuery}
 use Rattle.ps_answer.specs.declared.error.ReportError.{ReportError}
 use Rattle.ps_answer.specs.declared.error.ReportError.TheVariants.{At, NoMemory}
@@ -13,13 +12,14 @@ use Rattle.ps_answer.specs.declared.answer.Verdict.{Verdict}
 use Rattle.ps_answer.specs.declared.answer.QueryPart.{QueryPart}
 use Rattle.ps_answer.specs.declared.answer.Answer.{Answer}
 use Rattle.ps_answer.specs.Answers.{verdict_items, trace_items, part_items, answer_items, IsVerdictCounted, ArePartsCounted, IsAnswerCounted}
-use Rattle.ps_answer.specs.Due.{behind, at_start, due_behind}
+use Rattle.ps_answer.specs.Due.{behind, at_start}
 use Rattle.ps_answer.specs.Faults.{BeginWith, IsReport, IsFirstFault}
 use Rattle.ps_answer.proofs.Dues.{answer_due}
 use Rattle.ps_line.specs.Read.{Fits}
 use Rattle.ps_reader.specs.declared.lines.Lines.{Lines}
 use Rattle.ps_reader.specs.Taken.{left_in, Takes, FaultAt, IsStopped, IsMore}
-use Rattle.ps_reader.specs.Reports.{TellsFault, answer_lines, IsPartTold, parts_lines}
+use Rattle.ps_reader.specs.Errors.{TellsFault}
+use Rattle.ps_reader.specs.Reports.{answer_lines, IsPartTold, parts_lines}
 use Rattle.ps_reader.proofs.Taking.{takes_both, fault_later, stopped_later, stopped_more, stopped_behind}
 use Rattle.ps_reader.proofs.Passing.{Passes, both_pass, trace_passes, verdict_passes, query_due, parts_due, parts_push, counted_push}
 use Rattle.ps_reader.proofs.Rests.{stopped_after}

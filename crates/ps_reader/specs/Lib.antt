@@ -1,4 +1,5 @@
+-- Meaning
+pub mod Errors
 -- Bridge: lines that are taken, one after another
 pub mod Taken
--- Meaning: what a reader of reports answers
 pub mod Reports

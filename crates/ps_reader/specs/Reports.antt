@@ -1,4 +1,4 @@
--- What is read of a report behind a first line, and of a whole report.
+-- What is read of a report behind a first line.
 use Rattle.std.specs.Prelude.{ℕ, ◌≡◌, ◌≤◌, Bool, true, false, List, [], ◌∷◌, ◌++◌, Result, Ok, Err, ⊤}
 use Rattle.ps_pool.specs.declared.event.Event.{Event}
 use Rattle.ps_answer.specs.declared.item.Item.{Item}
@@ -6,19 +6,12 @@ use Rattle.ps_answer.specs.declared.item.Item.TheVariants as line
 use Rattle.ps_answer.specs.declared.part.Part.{Part}
 use Rattle.ps_answer.specs.declared.part.Part.TheVariants.{AGoal, AStep}
 use Rattle.ps_answer.specs.declared.error.ReportError.{ReportError}
-use Rattle.ps_answer.specs.declared.error.ReportError.TheVariants.{At, NoMemory}
 use Rattle.ps_answer.specs.Items.{IsProper, IsWithin}
 use Rattle.ps_answer.specs.declared.answer.SideAnswer.{SideAnswer}
 use Rattle.ps_answer.specs.declared.answer.QueryPart.{QueryPart}
 use Rattle.ps_answer.specs.Answers.{side_items, query_items, part_items, IsSideCounted, IsQueryCounted}
-use Rattle.ps_answer.specs.Faults.{IsFirstFault}
 use Rattle.ps_reader.specs.declared.lines.Lines.{Lines}
 use Rattle.ps_reader.specs.Taken.{Takes, IsStopped, repeated}
-
--- the first line at fault; want of memory may come at any
-abbrev pub TellsFault : List ℕ → ReportError → Type 0
-TellsFault bytes (At kind line) = IsFirstFault bytes kind line
-TellsFault bytes NoMemory = ⊤
 
 -- the rest of a value is read, whose first line says this, or its parts are at fault
 abbrev pub IsRestRead : {X : Type 0} → Item → (X → List Item) → List Part → Lines → Lines → Result X ReportError → Type 0

@@ -4,7 +4,7 @@ ghost use Rattle.ps_answer.specs.Answers.{answer_items, IsAnswerCounted};
 ghost use Rattle.ps_answer.specs.Due.{at_start};
 ghost use Rattle.ps_answer.specs.Faults.{IsReport};
 ghost use Rattle.ps_reader.specs.Taken.{IsValueRead};
-ghost use Rattle.ps_reader.specs.Reports.{TellsFault};
+ghost use Rattle.ps_reader.specs.Errors.{TellsFault};
 
 use crate::causes::verdict;
 use crate::lines::Lines;

@@ -11,7 +11,7 @@ use Rattle.ps_read.specs.declared.read_error.ReadError.TheVariants as unread
 use Rattle.ps_read.specs.declared.read_kind.ReadKind.{ReadKind}
 use Rattle.ps_read.specs.Readings.{IsUnread}
 use Rattle.ps_read.specs.Reads.{Tells}
-use Rattle.ps_reader.specs.Reports.{TellsFault}
+use Rattle.ps_reader.specs.Errors.{TellsFault}
 use Rattle.ps_claims.specs.Claims.{claims_of}
 use Rattle.ps_valid.specs.declared.refusal.Accepted.{Accepted}
 use Rattle.ps_valid.specs.declared.refusal.Refusal.{Refusal}

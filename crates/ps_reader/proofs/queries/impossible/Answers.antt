@@ -1,4 +1,4 @@
-use Rattle.std.proofs.Common.{◌≡◌, refl, sym, ap, subst, Err, ◌∙◌, ◌∷◌}
+use Rattle.std.proofs.Common.{refl, sym, ap, subst, Err, ◌∙◌, ◌∷◌}
 use Rattle.std.specs.Prelude.{[]}
 use Rattle.std.proofs.lemmas.Result.{err_from_is_err_and}
 use Rattle.ps_answer.specs.declared.item.Item.TheVariants as line
