@@ -1,0 +1,66 @@
+-- Models, duals and causes whose numbers can be printed.
+use Rattle.std.specs.Prelude.{ℕ, ℤ, ◌≤◌, ◌^◌, List, All, length, unsigned_abs}
+use Rattle.ps_rational.specs.Rational.{Rational}
+use Rattle.ps_rational.specs.Wide.{Fits, size_limit}
+use Rattle.ps_table.specs.Places.{printed_limit}
+use Rattle.ps_log.specs.Limits.{IsGoalWithin}
+use Rattle.ps_table.specs.declared.place.WideAt.{WideAt}
+use Rattle.ps_answer.specs.declared.answer.Model.{Model}
+use Rattle.ps_answer.specs.declared.answer.Dual.{Dual}
+use Rattle.ps_answer.specs.declared.answer.Cause.{Cause}
+use Rattle.ps_answer.specs.declared.answer.Cause.TheVariants.{Pivots, Conflicts, Wide}
+use Rattle.ps_answer.specs.declared.answer.Verdict.{Verdict}
+use Rattle.ps_answer.specs.declared.answer.Verdict.TheVariants.{Consistent, Inconsistent, Open}
+use Rattle.ps_answer.specs.declared.answer.SideAnswer.{SideAnswer}
+use Rattle.ps_answer.specs.declared.answer.SideAnswer.TheVariants as side
+use Rattle.ps_answer.specs.declared.answer.QueryAnswer.{QueryAnswer}
+use Rattle.ps_answer.specs.declared.answer.QueryAnswer.TheVariants as query
+use Rattle.ps_answer.specs.declared.answer.Answer.{Answer}
+use Rattle.ps_certificate.specs.Certificates.{IsSmallDual}
+
+-- the most steps that a refutation has in print
+abbrev pub most_steps : ℕ
+most_steps = 2 ^ 41
+
+-- the total, and with it each weight, is at most 2^90
+pub record IsPrintedModel (m : Model) : Type 0 where
+  pub total : unsigned_abs m.total ≤ printed_limit
+
+-- each number is at most 2^90 in size, and the steps are at most 2^41
+pub record IsPrintedDual (d : Dual) : Type 0 where
+  pub numbers : IsSmallDual d
+  pub steps : length d.steps ≤ most_steps
+
+-- numerator and denominator are below 2^127
+pub record IsOperand (x : Rational) : Type 0 where
+  pub over : Fits x.over
+  pub under : x.under < size_limit
+
+-- the operands that were refused
+pub record ArePrintedOperands (w : WideAt) : Type 0 where
+  pub left : IsOperand w.left
+  pub right : IsOperand w.right
+
+abbrev pub IsPrintedCause : Cause → Type 0
+IsPrintedCause (Pivots limit) = Unit {0}
+IsPrintedCause (Conflicts limit goal steps) = IsGoalWithin goal
+IsPrintedCause (Wide at) = ArePrintedOperands at
+
+abbrev pub IsPrintedVerdict : Verdict → Type 0
+IsPrintedVerdict (Consistent m) = IsPrintedModel m
+IsPrintedVerdict (Inconsistent d) = IsPrintedDual d
+IsPrintedVerdict (Open cause) = IsPrintedCause cause
+
+abbrev pub IsPrintedSide : SideAnswer → Type 0
+IsPrintedSide (side.Bound value m d) = IsPrintedModel m × IsPrintedDual d
+IsPrintedSide (side.Open cause) = IsPrintedCause cause
+
+abbrev pub IsPrintedPart : QueryAnswer → Type 0
+IsPrintedPart (query.Bounds lower lower_trace upper upper_trace) = IsPrintedSide lower × IsPrintedSide upper
+IsPrintedPart (query.Impossible d) = IsPrintedDual d
+IsPrintedPart (query.Open cause) = IsPrintedCause cause
+
+-- all that an answer found can be printed
+pub record IsPrintedAnswer (a : Answer) : Type 0 where
+  pub verdict : IsPrintedVerdict a.verdict
+  pub parts : All (λ part. IsPrintedPart part.answer) a.parts
