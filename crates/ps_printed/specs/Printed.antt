@@ -1,8 +1,11 @@
 -- Models, duals and causes whose numbers can be printed.
-use Rattle.std.specs.Prelude.{ℕ, ℤ, ◌≤◌, ◌^◌, List, All, length, unsigned_abs}
+use Rattle.std.specs.Prelude.{ℕ, ℤ, ◌≤◌, ◌+◌, ◌^◌, List, All, length, unsigned_abs}
 use Rattle.ps_rational.specs.Rational.{Rational}
 use Rattle.ps_rational.specs.Wide.{Fits, size_limit}
 use Rattle.ps_table.specs.Places.{printed_limit}
+use Rattle.ps_steps.specs.Constraints.{Constraint}
+use Rattle.ps_steps.specs.Steps.{Step}
+use Rattle.ps_pb.specs.Limits.{IsLiteral}
 use Rattle.ps_log.specs.Limits.{IsGoalWithin}
 use Rattle.ps_table.specs.declared.place.WideAt.{WideAt}
 use Rattle.ps_answer.specs.declared.answer.Model.{Model}
@@ -18,18 +21,28 @@ use Rattle.ps_answer.specs.declared.answer.QueryAnswer.TheVariants as query
 use Rattle.ps_answer.specs.declared.answer.Answer.{Answer}
 use Rattle.ps_certificate.specs.Certificates.{IsSmallDual}
 
--- the most steps that a refutation has in print
+-- the most steps that a refutation has: one more than a search may learn clauses
 abbrev pub most_steps : ℕ
-most_steps = 2 ^ 41
+most_steps = 2 ^ 40 + 1
+
+-- the literals of each step are those of variables: none is 0
+abbrev pub AreOfLiterals : List Step → Type 0
+AreOfLiterals steps = All (λ s. All IsLiteral s.lits) steps
 
 -- the total, and with it each weight, is at most 2^90
 pub record IsPrintedModel (m : Model) : Type 0 where
   pub total : unsigned_abs m.total ≤ printed_limit
 
--- each number is at most 2^90 in size, and the steps are at most 2^41
+-- each number is at most 2^90 in size, and the steps, of literals, are at most 2^40 + 1
 pub record IsPrintedDual (d : Dual) : Type 0 where
   pub numbers : IsSmallDual d
   pub steps : length d.steps ≤ most_steps
+  pub literals : AreOfLiterals d.steps
+
+-- the goal of a search is within the limits, and its steps are of literals
+pub record IsPrintedSearch (goal : Constraint) (steps : List Step) : Type 0 where
+  pub goal : IsGoalWithin goal
+  pub literals : AreOfLiterals steps
 
 -- numerator and denominator are below 2^127
 pub record IsOperand (x : Rational) : Type 0 where
@@ -43,7 +56,7 @@ pub record ArePrintedOperands (w : WideAt) : Type 0 where
 
 abbrev pub IsPrintedCause : Cause → Type 0
 IsPrintedCause (Pivots limit) = Unit {0}
-IsPrintedCause (Conflicts limit goal steps) = IsGoalWithin goal
+IsPrintedCause (Conflicts limit goal steps) = IsPrintedSearch goal steps
 IsPrintedCause (Wide at) = ArePrintedOperands at
 
 abbrev pub IsPrintedVerdict : Verdict → Type 0
