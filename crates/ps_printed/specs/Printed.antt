@@ -1,5 +1,5 @@
 -- Models, duals and causes whose numbers can be printed.
-use Rattle.std.specs.Prelude.{ℕ, ℤ, ◌≤◌, ◌+◌, ◌^◌, List, All, length, unsigned_abs}
+use Rattle.std.specs.Prelude.{ℕ, ◌<◌, ◌≤◌, ◌+◌, ◌^◌, List, All, length, unsigned_abs}
 use Rattle.ps_rational.specs.Rational.{Rational}
 use Rattle.ps_rational.specs.Wide.{Fits, size_limit}
 use Rattle.ps_table.specs.Places.{printed_limit}
@@ -40,8 +40,8 @@ pub record IsPrintedDual (d : Dual) : Type 0 where
   pub literals : AreOfLiterals d.steps
 
 -- the goal of a search is within the limits, and its steps are of literals
-pub record IsPrintedSearch (goal : Constraint) (steps : List Step) : Type 0 where
-  pub goal : IsGoalWithin goal
+pub record IsPrintedSearch (g : Constraint) (steps : List Step) : Type 0 where
+  pub goal : IsGoalWithin g
   pub literals : AreOfLiterals steps
 
 -- numerator and denominator are below 2^127
