@@ -27,7 +27,7 @@ unfolding quotient
 whole_under z = ap (λ g. 1 / g) (eq-one_of_dvd-one (gcd_is (unsigned_abs z) 1).1)
 
 -- a number that is 0 has denominator 1
-zero_under : (x : Rational) → x.over ≡ pos 0 → x.under ≡ 1
+pub zero_under : (x : Rational) → x.over ≡ pos 0 → x.under ≡ 1
 zero_under x e =
     let same : x ≡ whole (pos 0) = over_is_zero x e ∙ sym zero_is_fraction in
     (λ i. (same i).under) ∙ whole_under (pos 0)

@@ -1,0 +1,3 @@
+-- Meaning
+pub mod Models
+pub mod Duals
