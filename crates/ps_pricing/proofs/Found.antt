@@ -1,7 +1,8 @@
 -- The world of an assignment that meets the clauses, and the values of worlds.
-use Rattle.std.proofs.Common.{◌≡◌, ℕ, ◌<◌, ℤ, pos, ◌+ℤ◌, ◌-ℤ◌, ◌≤ℤ◌, ◌<ℤ◌, Bool, true, false, List, [], ◌∷◌, ◌++◌, length, map, Some, All, refl, sym, ap, ◌∙◌, subst, inl, inr, arith}
+use Rattle.std.proofs.Common.{◌≡◌, ℕ, ◌+◌, ◌<◌, ◌≤◌, ℤ, pos, ◌+ℤ◌, ◌-ℤ◌, ◌≤ℤ◌, ◌<ℤ◌, Bool, true, false, List, [], ◌∷◌, ◌++◌, length, map, Some, All, refl, sym, ap, ◌∙◌, subst, inl, inr, arith}
 use Rattle.std.specs.Prelude.{◌⊎◌, IsTrue}
 use Rattle.std.proofs.lemmas.Int.{ints}
+use Rattle.std.proofs.lemmas.List.{length-append}
 use Rattle.ps_meaning.specs.Formula.{World}
 use Rattle.ps_formula.specs.declared.node.Node.{Node}
 use Rattle.ps_formula.specs.Nodes.{AreNodes, AtomBelow}
@@ -27,7 +28,7 @@ use Rattle.ps_answer.specs.declared.answer.Dual.{Dual}
 use Rattle.ps_claims.specs.declared.claim_kind.ClaimKind.{ClaimKind}
 use Rattle.ps_claims.specs.Goals.{value_under}
 use Rattle.ps_runs.specs.Searches.{IsSpentSearch}
-use Rattle.ps_pricing.specs.Sought.{HasSteps}
+use Rattle.ps_pricing.specs.Sought.{HasSteps, HasFewSteps}
 use Rattle.ps_pricing.specs.Pricings.{Asked, gain, goal_at_least, IsGreatest, IsCutAbove, IsFound, IsSpent, IsRefuted, IsWcnf}
 
 -- ---- steps of a log
@@ -55,6 +56,17 @@ log_steps p conflicts told new (Cut a v least searches) steps tells is h =
 log_steps p conflicts told new (Spent learned) steps tells is h =
     let same = told_steps told new (goal_of p (pos 1)) p.hard steps h.0 tells is in
     rw (← same) (record { lawful = h.0.lawful; count = h.1.0; literals = h.1.1 })
+
+-- a refutation that it holds has at most one step more than clauses may be learned
+pub few_steps : (p : Wcnf) (conflicts : ℕ) (told : Bool) (new : Telling) (priced : Priced) (steps : List Step) → IsTrue told → new.steps ≡ Some steps
+    → IsPricedLog p conflicts told new priced → HasFewSteps conflicts priced steps
+few_steps p conflicts told new (NoneAbove last) steps tells is h =
+    let same : h.0.steps ≡ steps = told_steps told new (goal_of p (pos 1)) p.hard steps h.0 tells is in
+    let sized : length h.0.steps ≡ length h.1.0 + 1 = rw (h.1.2) (simp length-append (omega arith)) in
+    rw (← same) (omega (arith, sized, h.1.3.0))
+few_steps p conflicts told new (Best a v searches) steps tells is h = tt
+few_steps p conflicts told new (Cut a v least searches) steps tells is h = tt
+few_steps p conflicts told new (Spent learned) steps tells is h = tt
 
 -- ---- worlds
 -- an assignment that meets the clauses is the extension of its world

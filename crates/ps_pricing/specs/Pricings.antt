@@ -12,6 +12,7 @@ use Rattle.ps_claims.specs.declared.claim_kind.ClaimKind.{ClaimKind}
 use Rattle.ps_claims.specs.declared.combination.Combination.{Combination}
 use Rattle.ps_claims.specs.Goals.{value_under}
 use Rattle.ps_certificate.specs.Certificates.{dual_of, IsSmallDual}
+use Rattle.ps_printed.specs.Printed.{IsPrintedDual, IsPrintedSearch}
 use Rattle.ps_maxsat.specs.declared.problem.Wcnf.{Wcnf}
 use Rattle.ps_runs.specs.Searches.{IsSpentSearch}
 use Rattle.ps_runs.specs.Runs.{Subject, atoms_of, combination_over}
@@ -75,6 +76,12 @@ abbrev pub IsPricing : ClaimKind → Asked → Dual → Pricing → Type 0
 IsPricing kind a d (Found w) = IsFound kind a d w
 IsPricing kind a d (Refuted e) = IsRefuted kind a.subject d e
 IsPricing kind a d (Spent goal steps) = IsSpent kind a d goal steps
+
+-- the dual of a refutation can be printed, and so can a spent search
+abbrev pub IsPrintedPricing : Pricing → Type 0
+IsPrintedPricing (Found w) = Unit {0}
+IsPrintedPricing (Refuted e) = IsPrintedDual e
+IsPrintedPricing (Spent goal steps) = IsPrintedSearch goal steps
 
 -- the clauses and the combination, as a search for the greatest value takes them
 pub record IsWcnf (kind : ClaimKind) (s : Subject) (d : Dual) (p : Wcnf) : Type 0 where

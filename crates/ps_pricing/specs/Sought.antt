@@ -1,5 +1,5 @@
 -- The steps of the last search for a greatest value.
-use Rattle.std.specs.Prelude.{ℕ, List, pos}
+use Rattle.std.specs.Prelude.{ℕ, ◌+◌, ◌≤◌, List, length, pos}
 use Rattle.ps_steps.specs.Steps.{Step, Refutes}
 use Rattle.ps_forms.specs.Forms.{first_known}
 use Rattle.ps_maxsat.specs.declared.problem.Wcnf.{Wcnf}
@@ -14,3 +14,10 @@ HasSteps p conflicts (NoneAbove last) steps = Refutes p.hard.variables (first_kn
 HasSteps p conflicts (Best a v searches) steps = Unit {0}
 HasSteps p conflicts (Cut a v least searches) steps = IsSpentSearch p.hard (goal_of p least) conflicts steps
 HasSteps p conflicts (Spent learned) steps = IsSpentSearch p.hard (goal_of p (pos 1)) conflicts steps
+
+-- a refutation has at most one step more than clauses may be learned
+abbrev pub HasFewSteps : ℕ → Priced → List Step → Type 0
+HasFewSteps conflicts (NoneAbove last) steps = length steps ≤ conflicts + 1
+HasFewSteps conflicts (Best a v searches) steps = Unit {0}
+HasFewSteps conflicts (Cut a v least searches) steps = Unit {0}
+HasFewSteps conflicts (Spent learned) steps = Unit {0}

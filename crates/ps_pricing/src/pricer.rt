@@ -5,7 +5,7 @@ ghost use Rattle.ps_forms.specs.Extensions.{IsWorldOf};
 ghost use Rattle.ps_sat.specs.Limits.{most_conflicts};
 ghost use Rattle.ps_maxsat.specs.Limits.{IsNarrow, IsSoftWithin};
 ghost use Rattle.ps_runs.specs.Runs.{IsAsked, atoms_of, given_in, both_in};
-ghost use Rattle.ps_pricing.specs.Pricings.{IsDualFor, IsPricing, IsWcnf};
+ghost use Rattle.ps_pricing.specs.Pricings.{IsDualFor, IsPricing, IsPrintedPricing, IsWcnf};
 
 use crate::pricing::Pricing;
 use crate::sought::{Sought, seek};
@@ -14,6 +14,7 @@ use ps_certificate::{ClaimKind, Combination, combination};
 use ps_clause::{ClauseForm, clauses_of, world_of};
 use ps_formula::World;
 use ps_io::NoMemory;
+use ps_log::is_goal_within;
 use ps_maxsat::{Priced, Wcnf};
 use ps_pb::{Assignment, Steps, from_weights};
 use ps_problem::{Problem, Query};
@@ -134,17 +135,19 @@ impl<'p> Pricer<'p> {
     pub fn price(&self, alloc: Global, kind: ClaimKind, dual: Dual) -> Result<Pricing, NoMemory>
         requires asked { IsAsked kind self.now.subject.parts self.now.subject.query }
         requires dual { IsDualFor self.now.subject.parts dual }
-        ensures { IfOk result (IsPricing kind self.now dual) }
+        ensures pricing { IfOk result (IsPricing kind self.now dual) }
+        ensures printed { IfOk result IsPrintedPricing }
     {
         let _sound = self.problem.bound_list();
         let wcnf = self.wcnf(alloc, kind, &dual)?;
         let Sought { priced, steps } = seek(alloc, &wcnf, self.conflicts)?;
         match priced {
             Priced::NoneAbove { last: _ } => Ok(Pricing::Refuted(refuted(dual, steps))),
-            Priced::Spent { learned: _ } => Ok(Pricing::Spent {
-                goal: from_weights(alloc, wcnf.soft.as_slice(), 1 - wcnf.base)?,
-                steps,
-            }),
+            Priced::Spent { learned: _ } => {
+                let goal = from_weights(alloc, wcnf.soft.as_slice(), 1 - wcnf.base)?;
+                let _within = is_goal_within(&goal);
+                Ok(Pricing::Spent { goal, steps })
+            }
             Priced::Best { assignment, .. } => {
                 Ok(Pricing::Found(self.world(alloc, &assignment)?))
             }

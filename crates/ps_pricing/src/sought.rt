@@ -3,12 +3,13 @@ ghost use Rattle.std.specs.Prelude.{◌≤◌, IfOk};
 ghost use Rattle.ps_sat.specs.Limits.{most_conflicts};
 ghost use Rattle.ps_maxsat.specs.Limits.{IsNarrow, IsSoftWithin};
 ghost use Rattle.ps_maxsat.specs.Values.{IsPriced};
-ghost use Rattle.ps_pricing.specs.Sought.{HasSteps};
+ghost use Rattle.ps_printed.specs.Printed.{AreOfLiterals};
+ghost use Rattle.ps_pricing.specs.Sought.{HasSteps, HasFewSteps};
 
 use ps_io::NoMemory;
-use ps_log::HeldLog;
+use ps_log::{HeldLog, is_step_within};
 use ps_maxsat::{Priced, Wcnf, best};
-use ps_pb::Steps;
+use ps_pb::{Step, Steps};
 use ps_sat::SearchError;
 use std::alloc::Global;
 
@@ -26,14 +27,26 @@ pub(crate) fn seek(alloc: Global, wcnf: &Wcnf, conflicts: u64) -> Result<Sought,
     requires few { conflicts ≤ most_conflicts }
     ensures priced { IfOk result (λ s. IsPriced wcnf.now conflicts s.priced) }
     ensures steps { IfOk result (λ s. HasSteps wcnf.now conflicts s.priced s.steps) }
+    ensures few { IfOk result (λ s. HasFewSteps conflicts s.priced s.steps) }
+    ensures literals { IfOk result (λ s. AreOfLiterals s.steps) }
 {
     let mut log = HeldLog::new(alloc);
     match best(alloc, wcnf, conflicts, &mut log) {
-        Ok(priced) => Ok(Sought {
-            priced,
-            steps: log.take_steps(),
-        }),
+        Ok(priced) => {
+            let steps = log.take_steps();
+            go_through(steps.as_slice());
+            Ok(Sought { priced, steps })
+        }
         Err(SearchError::NoMemory) => Err(NoMemory),
         Err(SearchError::LogFault) => unreachable!(),
+    }
+}
+
+/// Goes through the steps: each is of literals.
+fn go_through(steps: &[Step])
+    ensures { AreOfLiterals steps.now }
+{
+    for step in steps {
+        let _within = is_step_within(step);
     }
 }

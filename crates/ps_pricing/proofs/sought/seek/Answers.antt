@@ -1,10 +1,16 @@
 use Rattle.std.proofs.Common.{rules, ◌≡◌, Some, true, sym, ap}
 use Rattle.std.specs.Prelude.{IsTrue}
-use Rattle.ps_pricing.proofs.Found.{log_steps}
+use Rattle.ps_pricing.proofs.Found.{log_steps, few_steps}
 use Rattle.ps_pricing.proofs.sought.seek.Goals as goal
 
 pub returns-in-Ok-clause-steps : goal.returns-in-Ok-clause-steps
 returns-in-Ok-clause-steps c =
     let tells : IsTrue true = search rules in
-    log_steps c.args.wcnf.now c.args.conflicts true (record { tells = true; goal = c.best.new.log.goal; steps = Some c.best.new.log.steps }) c.in-Ok.priced c.take_steps.result
-    tells (ap Some (sym c.take_steps.ensures.taken)) c.in-Ok.ensures.logged
+    log_steps c.args.wcnf.now c.args.conflicts true (record { tells = true; goal = c.best.new.log.goal; steps = Some c.best.new.log.steps }) c.in-Ok.priced c.take_steps-steps.result
+    tells (ap Some (sym c.take_steps-steps.ensures.taken)) c.in-Ok.ensures.logged
+
+pub returns-in-Ok-clause-few : goal.returns-in-Ok-clause-few
+returns-in-Ok-clause-few c =
+    let tells : IsTrue true = search rules in
+    few_steps c.args.wcnf.now c.args.conflicts true (record { tells = true; goal = c.best.new.log.goal; steps = Some c.best.new.log.steps }) c.in-Ok.priced c.take_steps-steps.result
+    tells (ap Some (sym c.take_steps-steps.ensures.taken)) c.in-Ok.ensures.logged

@@ -7,24 +7,24 @@ use Rattle.ps_maxsat.specs.declared.pricing.Priced.TheVariants.{Best, Cut}
 use Rattle.ps_pricing.proofs.Found.{best_found, cut_found, spent_found}
 use Rattle.ps_pricing.proofs.pricer.Pricer.price.Goals as goal
 
-pub returns-in_ok-from_weights-in-Spent : goal.returns-in_ok-from_weights-in-Spent
-returns-in_ok-from_weights-in-Spent c =
+pub returns-in_ok-goal-in-Spent-clause-pricing : goal.returns-in_ok-goal-in-Spent-clause-pricing
+returns-in_ok-goal-in-Spent-clause-pricing c =
     let p = c.in_ok-wcnf.wcnf in
     let are : AreParts c.args.self.now.subject.parts = search rules in
     let h : IsSpentSearch p.hard (goal_of p (pos 1)) c.args.self.now.conflicts c.in_ok-priced.field-0.steps = search rules in
-    let g : c.in_ok-from_weights-in-Spent.field-0 ≡ constraint_of p.soft (pos 1 -ℤ p.base) = search rules in
-    spent_found c.args.kind c.args.self.now c.args.dual p c.in_ok-wcnf.ensures.value are.nodes c.in_ok-from_weights-in-Spent.field-0 c.in_ok-priced.field-0.steps g h
+    let g : c.in_ok-goal-in-Spent.goal ≡ constraint_of p.soft (pos 1 -ℤ p.base) = search rules in
+    spent_found c.args.kind c.args.self.now c.args.dual p c.in_ok-wcnf.ensures.value are.nodes c.in_ok-goal-in-Spent.goal c.in_ok-priced.field-0.steps g h
 
-pub returns-in_ok-world-in-Best : goal.returns-in_ok-world-in-Best
-returns-in_ok-world-in-Best c =
+pub returns-in_ok-world-in-Best-clause-pricing : goal.returns-in_ok-world-in-Best-clause-pricing
+returns-in_ok-world-in-Best-clause-pricing c =
     let p = c.in_ok-wcnf.wcnf in
     let are : AreParts c.args.self.now.subject.parts = search rules in
     let h : IsPriced p c.args.self.now.conflicts (Best c.in-Best.assignment c.in-Best.value c.in-Best.searches) = search rules in
     best_found c.args.kind c.args.self.now c.args.dual p c.in_ok-wcnf.ensures.value are.nodes c.in-Best.assignment c.in-Best.value c.in_ok-world-in-Best.field-0
     are.atoms h.0 c.in_ok-world-in-Best.ensures.of c.in_ok-world-in-Best.ensures.length h.1 h.2
 
-pub returns-in_ok-world-in-Cut : goal.returns-in_ok-world-in-Cut
-returns-in_ok-world-in-Cut c =
+pub returns-in_ok-world-in-Cut-clause-pricing : goal.returns-in_ok-world-in-Cut-clause-pricing
+returns-in_ok-world-in-Cut-clause-pricing c =
     let p = c.in_ok-wcnf.wcnf in
     let are : AreParts c.args.self.now.subject.parts = search rules in
     let h : IsPriced p c.args.self.now.conflicts (Cut c.in-Cut.assignment c.in-Cut.value c.in-Cut.goal c.in-Cut.searches) = search rules in
