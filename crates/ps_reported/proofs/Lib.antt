@@ -1,0 +1,14 @@
+pub mod All
+pub mod Stages
+pub mod Counting
+pub mod Steps
+pub mod Combinations
+pub mod Values
+pub mod Models
+pub mod Duals
+pub mod Places
+pub mod ShortPlaces
+pub mod Causes
+pub mod Traces
+pub mod Sides
+pub mod Reports

@@ -1,0 +1,121 @@
+-- The lines of what a run answers.
+use Rattle.std.proofs.Common.{◌≡◌, ℕ, suc, ◌+◌, ◌<◌, ◌≤◌, None, List, [], ◌∷◌, ◌++◌, length, map, sum, All, inl, inr, refl, subst, arith}
+use Rattle.std.specs.List.{AllByRecursion, AllZip}
+use Rattle.std.proofs.lemmas.List.Elements.{All-head, All-tail}
+use Rattle.std.proofs.lemmas.List.Sums.{sum_by-cons}
+use Rattle.ps_problem.specs.declared.query.Query.{Query}
+use Rattle.ps_problem.specs.Problems.{Parts, HasNodes}
+use Rattle.ps_answer.specs.declared.item.Item.{Item}
+use Rattle.ps_answer.specs.declared.item.Item.TheVariants as line
+use Rattle.ps_answer.specs.declared.answer.Verdict.{Verdict}
+use Rattle.ps_answer.specs.declared.answer.Verdict.TheVariants.{Consistent, Inconsistent, Open}
+use Rattle.ps_answer.specs.declared.answer.QueryPart.{QueryPart}
+use Rattle.ps_answer.specs.declared.answer.Answer.{Answer}
+use Rattle.ps_answer.specs.Items.{item_line, most_operand}
+use Rattle.ps_answer.specs.Answers.{ratio_of, verdict_items, trace_items, query_items, part_items, answer_items}
+use Rattle.ps_claims.specs.Claims.{open_in_part, unfinished_of}
+use Rattle.ps_claims.specs.Validity.{IsValidPart}
+use Rattle.ps_entailment.specs.Answers.{asked_under}
+use Rattle.ps_phases.specs.Verdicts.{IsLawfulPart, asked_after}
+use Rattle.ps_printed.specs.Printed.{IsPrintedPart}
+use Rattle.ps_valid.specs.Answers.{verdict_of, part_of, parts_of, answer_of}
+use Rattle.ps_valid.proofs.ShortLines.{short_line}
+use Rattle.ps_reported.specs.Laws.{IsAnswered, NamesFewWorlds}
+use Rattle.ps_reported.proofs.All.{both, by_recursion}
+use Rattle.ps_reported.proofs.Models.{IsFit}
+use Rattle.ps_reported.proofs.Places.{place_more, place_within}
+use Rattle.ps_reported.proofs.ShortPlaces.{wide_short}
+use Rattle.ps_reported.proofs.Causes.{AreLimits, AreLines, operand_proper, operand_within}
+use Rattle.ps_reported.proofs.Traces.{first_pool, first_trace}
+use Rattle.ps_reported.proofs.Sides.{verdict_fit, query_fit}
+
+HasItsNodes : Parts → Query → Type 0
+HasItsNodes p q = HasNodes p.nodes q.formula q.given q.both
+
+asked_same : (v : Verdict) (qs : List Query) → asked_under (verdict_of v) qs ≡ asked_after v qs
+asked_same (Consistent m) qs = refl
+asked_same (Inconsistent d) qs = refl
+asked_same (Open cause) qs = refl
+
+asked_nodes : (p : Parts) (v : Verdict) (qs : List Query) → All (λ q. HasNodes p.nodes q.formula q.given q.both) qs → AllByRecursion (HasItsNodes p) (asked_after v qs)
+unfolding HasItsNodes
+asked_nodes p (Consistent m) qs h = by_recursion (λ q. HasNodes p.nodes q.formula q.given q.both) qs h
+asked_nodes p (Inconsistent d) qs h = tt
+asked_nodes p (Open cause) qs h = tt
+
+asked_few : (v : Verdict) (qs : List Query) → length (asked_after v qs) ≤ length qs
+asked_few (Consistent m) qs = omega arith
+asked_few (Inconsistent d) qs = omega arith
+asked_few (Open cause) qs = omega arith
+
+module _ (p : Parts) (pivots conflicts : ℕ) (limits : AreLimits p pivots conflicts) (Q : Item → Type 0) (AnyOpen : Type 0) (lines : AreLines pivots Q AnyOpen) where
+  parts_fit : (j : ℕ) (qs : List Query) (parts : List QueryPart) → AllZip (IsLawfulPart p pivots conflicts) qs parts → AllZip (IsValidPart p) qs (parts_of parts)
+      → All (λ part. IsPrintedPart part.answer) parts → AllByRecursion (HasItsNodes p) qs → j + length qs ≤ 17 → (0 < sum (map open_in_part (parts_of parts)) → AnyOpen)
+      → AllByRecursion Q (part_items j parts)
+  unfolding HasItsNodes
+  parts_fit j [] [] h valid printed nodes few if_open = tt
+  parts_fit j [] (x ∷ xs) h valid printed nodes few if_open = absurd h
+  parts_fit j (q ∷ qs) [] h valid printed nodes few if_open = tt
+  parts_fit j (q ∷ qs) (x ∷ xs) h valid printed nodes few if_open =
+      let all : sum (map open_in_part (parts_of (x ∷ xs))) ≡ open_in_part (part_of x.answer) + sum (map open_in_part (parts_of xs)) = sum_by-cons (λ k. k) (open_in_part (part_of x.answer)) (map open_in_part (parts_of xs)) in (
+        lines.fit (line.Query j) (tt, omega (arith, few)),
+        both Q (query_items x.answer x.first) (part_items (suc j) xs)
+            (query_fit p pivots conflicts limits Q AnyOpen lines q nodes.0 x.first x.answer h.0 valid.0 (All-head (λ part. IsPrintedPart part.answer) x xs printed) (λ k. if_open (omega (arith, all, k))))
+            (parts_fit (suc j) qs xs h.1 valid.1 (All-tail (λ part. IsPrintedPart part.answer) x xs printed) nodes.1 (omega (arith, few)) (λ k. if_open (omega (arith, all, k)))),
+      )
+
+  pub answer_fit : (a : Answer) → IsAnswered p pivots conflicts a → (0 < unfinished_of (answer_of a) → AnyOpen) → AllByRecursion Q (answer_items a)
+  unfolding answer_items
+  answer_fit a h if_open =
+      let run = h.lawful.verdict in
+      let qs = asked_after a.verdict p.queries in
+      let few = limits.parts.few_queries in
+      let asked = asked_few a.verdict p.queries in
+      let valid = subst (λ xs. AllZip (IsValidPart p) xs (parts_of a.parts)) (asked_same a.verdict p.queries) h.valid.parts in (
+        lines.fit line.Report (tt, tt),
+        both Q (verdict_items a.verdict) (trace_items a.first ++ (part_items 1 a.parts ++ line.End ∷ []))
+            (verdict_fit p pivots conflicts limits Q AnyOpen lines run.end run.left run.pending a.verdict run.answered h.valid.verdict h.printed.verdict
+            (first_pool p None pivots conflicts limits Q AnyOpen lines a.verdict a.first run) (λ k. if_open (omega (arith, k))))
+            (both Q (trace_items a.first) (part_items 1 a.parts ++ line.End ∷ []) (first_trace p None pivots conflicts limits Q AnyOpen lines a.verdict a.first run)
+            (both Q (part_items 1 a.parts) (line.End ∷ [])
+            (parts_fit 1 qs a.parts h.lawful.parts valid h.printed.parts (asked_nodes p a.verdict p.queries limits.parts.queries) (omega (arith, few, asked)) (λ k. if_open (omega (arith, k))))
+            (lines.fit line.End (tt, tt), tt))),
+      )
+
+-- ---- the laws
+module _ (p : Parts) (pivots conflicts : ℕ) (a : Answer) (h : IsAnswered p pivots conflicts a) where
+  limits_are : AreLimits p pivots conflicts
+  limits_are = record { parts = h.parts; few_pivots = h.few_pivots; few_conflicts = h.few_conflicts }
+
+  few_open : pivots < 1000000 → AreLines pivots IsFit (Unit {0})
+  few_open few = record {
+    fit = λ i k. k;
+    wide = λ _ at under printed. (
+      (operand_proper at.left most_operand, operand_proper at.right most_operand),
+      (place_within 101 (pivots + 2) at.place (omega arith) (omega (arith, few)) under, operand_within at.left printed.left, operand_within at.right printed.right),
+    );
+  }
+
+  none_open : AreLines pivots IsFit ⊥
+  none_open = record { fit = λ i k. k; wide = λ if_open at under printed. absurd if_open }
+
+  pub all_within : NamesFewWorlds pivots a → AllByRecursion IsFit (answer_items a)
+  all_within names = elim names [
+    | inl few ↦ answer_fit p pivots conflicts limits_are IsFit (Unit {0}) (few_open few) a h (λ k. tt)
+    | inr none ↦ answer_fit p pivots conflicts limits_are IsFit ⊥ none_open a h (λ k. absurd (omega (arith, none, k)))
+  ]
+
+  abbrev IsShort : Item → Type 0
+  IsShort i = length (item_line i) < 65536
+
+  any_open : AreLines pivots IsShort (Unit {0})
+  any_open = record {
+    fit = λ i k. short_line i k.1;
+    wide = λ _ at under printed.
+        let most = h.few_pivots in
+        wide_short 101 at.place at.op (ratio_of at.left) (ratio_of at.right) (omega arith)
+        (place_more 101 101 (pivots + 2) 1000002 at.place (omega arith) (omega (arith, most)) under) (operand_within at.left printed.left) (operand_within at.right printed.right);
+  }
+
+  pub all_short : AllByRecursion IsShort (answer_items a)
+  all_short = answer_fit p pivots conflicts limits_are IsShort (Unit {0}) any_open a h (λ k. tt)

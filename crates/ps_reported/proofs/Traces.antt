@@ -1,0 +1,63 @@
+-- The lines of the traces of a run.
+use Rattle.std.proofs.Common.{◌≡◌, ℕ, ◌+◌, ◌≤◌, Option, List, length, ap, arith}
+use Rattle.std.specs.List.{AllByRecursion}
+use Rattle.ps_problem.specs.declared.query.Query as stored
+use Rattle.ps_problem.specs.Problems.{Parts}
+use Rattle.ps_pool.specs.declared.event.Event.{Event}
+use Rattle.ps_pool.specs.declared.event.Event.TheVariants.{Pivot, Priced}
+use Rattle.ps_answer.specs.declared.item.Item.{Item}
+use Rattle.ps_answer.specs.declared.item.Item.TheVariants as line
+use Rattle.ps_answer.specs.declared.answer.Verdict.{Verdict}
+use Rattle.ps_answer.specs.Answers.{event_item, trace_items}
+use Rattle.ps_claims.specs.declared.claim_kind.ClaimKind.TheVariants.{Nothing}
+use Rattle.ps_runs.specs.Rows.{rows_of}
+use Rattle.ps_runs.specs.Runs.{Subject, setting_of, atoms_of, pivots_in}
+use Rattle.ps_phases.specs.Verdicts.{IsLawfulPhaseOne}
+use Rattle.ps_reported.proofs.All.{mapped}
+use Rattle.ps_reported.proofs.Models.{IsFit}
+use Rattle.ps_reported.proofs.Stages.{start_table}
+use Rattle.ps_reported.proofs.Counting.{worlds_in, all_counted, IsEventUnder, HasComePending, has_come_pending}
+use Rattle.ps_reported.proofs.Places.{col_within}
+use Rattle.ps_reported.proofs.Causes.{AreLimits, AreLines, few_rows}
+
+module _ (p : Parts) (q : Option stored.Query) (pivots conflicts : ℕ) (limits : AreLimits p pivots conflicts) (Q : Item → Type 0) (Open : Type 0) (lines : AreLines pivots Q Open) where
+  abbrev s : Subject
+  s = record { parts = p; query = q }
+
+  event_fit : (most : ℕ) → most ≤ 1000001 → (e : Event) → IsEventUnder (rows_of (setting_of s)) most (atoms_of s) e → IsFit (event_item e)
+  event_fit most few (Pivot enter leave) h =
+      let rows = few_rows p q limits.parts in
+      (tt, (col_within (rows_of (setting_of s)) most enter rows few h.0, omega (arith, rows, h.1)))
+  event_fit most few (Priced world) h =
+      let atoms = limits.parts.few_atoms in
+      (tt, omega (arith, h, atoms))
+
+  -- a trace with at most one more world than pivots, whose pivots name few worlds
+  pub trace_fit : (events : List Event) (most : ℕ) → pivots_in events ≤ pivots → worlds_in events ≤ pivots_in events + 1 → most ≤ pivots + 1
+      → AllByRecursion (IsEventUnder (rows_of (setting_of s)) most (atoms_of s)) events → AllByRecursion Q (trace_items events)
+  trace_fit events most few worlds under h =
+      let limit = limits.few_pivots in (
+        lines.fit (line.TraceHead (length events)) (tt, omega (arith, few, worlds, limit, all_counted events)),
+        mapped (IsEventUnder (rows_of (setting_of s)) most (atoms_of s)) Q event_item events (λ e k. lines.fit (event_item e) (event_fit most (omega (arith, under, limit)) e k)) h,
+      )
+
+  -- ---- phase one
+  module _ (answer : Verdict) (events : List Event) (h : IsLawfulPhaseOne s pivots conflicts answer events) where
+    came : HasComePending Nothing s h.start events h.end
+    came = has_come_pending Nothing s conflicts h.start h.end events h.pending (start_table s h.start h.starts) h.leads
+
+    empty : length h.start.pool ≡ 0
+    empty = ap length h.starts.pool
+
+    pub first_pool : length h.end.pool ≤ pivots + 2
+    first_pool =
+        let none = empty in
+        let pool = came.pool in
+        let count = h.counted in
+        omega (arith, none, pool, count)
+
+    pub first_trace : AllByRecursion Q (trace_items events)
+    first_trace =
+        let none = empty in
+        let count = h.counted in
+        trace_fit events (length h.start.pool + pivots_in events) (omega (arith, count)) came.few (omega (arith, none, count)) came.under

@@ -1,0 +1,11 @@
+use Rattle.ps_answer.proofs.WrittenItems.{written_report}
+use Rattle.ps_phases.proofs.Counted.{answer_counted}
+use Rattle.ps_reported.proofs.Reports.{all_within, all_short}
+use Rattle.ps_reported.proofs.laws.answers_are_reported.Goals as goal
+
+pub returns : goal.returns
+returns c = record {
+  within = all_within;
+  short = all_short;
+  reports = λ p pivots conflicts a h names. written_report a (answer_counted p pivots conflicts a h.lawful) (all_within p pivots conflicts a h names);
+}

@@ -1,0 +1,51 @@
+-- Laws of writing what a run answers.
+use Rattle.std.specs.Prelude.{◌≡◌, ◌⊎◌, ℕ, ◌<◌, ◌≤◌, ◌^◌, false, length}
+use Rattle.std.specs.List.{AllByRecursion}
+use Rattle.ps_io.specs.LineText.{lines_bytes}
+use Rattle.ps_io.specs.declared.limits.TheConstants.{LONGEST_LINE}
+use Rattle.ps_problem.specs.Problems.{Parts, AreParts}
+use Rattle.ps_answer.specs.declared.answer.Answer.{Answer}
+use Rattle.ps_answer.specs.Items.{IsProper, IsWithin, item_line}
+use Rattle.ps_answer.specs.Answers.{answer_items, answer_lines}
+use Rattle.ps_answer.specs.Faults.{IsReport}
+use Rattle.ps_claims.specs.Claims.{unfinished_of}
+use Rattle.ps_claims.specs.Validity.{IsValid}
+use Rattle.ps_valid.specs.Answers.{answer_of}
+use Rattle.ps_printed.specs.Printed.{IsPrintedAnswer}
+use Rattle.ps_phases.specs.Verdicts.{IsLawfulAnswer}
+
+-- the most pivots that a run may be allowed
+abbrev pub most_pivots : ℕ
+most_pivots = 1000000
+
+-- the most clauses that a search may learn
+abbrev pub most_conflicts : ℕ
+most_conflicts = 2 ^ 40
+
+-- an answer of a run within the limits of pivots and conflicts: lawful, valid, and of numbers that can be printed
+pub record IsAnswered (p : Parts) (pivots conflicts : ℕ) (a : Answer) : Type 0 where
+  pub parts : AreParts p
+  pub few_pivots : pivots ≤ most_pivots
+  pub few_conflicts : conflicts ≤ most_conflicts
+  pub lawful : IsLawfulAnswer p pivots conflicts a
+  pub valid : IsValid p (answer_of a)
+  pub printed : IsPrintedAnswer a
+
+-- what an open part may name lies within the limits: fewer pivots are allowed than a run may be, or nothing is open
+abbrev pub NamesFewWorlds : ℕ → Answer → Type 0
+NamesFewWorlds pivots a = (pivots < most_pivots) ⊎ (unfinished_of (answer_of a) ≡ 0)
+
+-- each line of it is within the limits of a report, and has the signs that it asks
+abbrev pub AnswersAreWithin : Type 0
+AnswersAreWithin = (p : Parts) (pivots conflicts : ℕ) (a : Answer) → IsAnswered p pivots conflicts a → NamesFewWorlds pivots a
+    → AllByRecursion (λ i. IsProper i × IsWithin i) (answer_items a)
+
+-- each line is short enough to be written
+abbrev pub AnswersAreShort : Type 0
+AnswersAreShort = (p : Parts) (pivots conflicts : ℕ) (a : Answer) → IsAnswered p pivots conflicts a
+    → AllByRecursion (λ i. length (item_line i) < LONGEST_LINE) (answer_items a)
+
+-- the lines, as they are written, are a report of it
+abbrev pub AnswersAreReports : Type 0
+AnswersAreReports = (p : Parts) (pivots conflicts : ℕ) (a : Answer) → IsAnswered p pivots conflicts a → NamesFewWorlds pivots a
+    → IsReport (lines_bytes false (answer_lines a)) a

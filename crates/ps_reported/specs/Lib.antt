@@ -1,0 +1,2 @@
+-- Laws, as the functions of laws.rt promise them
+pub mod Laws
