@@ -3,3 +3,4 @@ pub mod Tokens
 pub mod Told
 pub mod Places
 pub mod Begun
+pub mod Passing

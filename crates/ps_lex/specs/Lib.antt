@@ -5,3 +5,4 @@ pub mod Counted
 pub mod Places
 pub mod Lexing
 pub mod Seen
+pub mod Passing

@@ -1,5 +1,5 @@
 -- Positions as they are kept.
-use Rattle.std.specs.Prelude.{ℕ, ◌+◌, ◌≤◌, ◌==◌, if◌then◌else◌}
+use Rattle.std.specs.Prelude.{ℕ, ◌+◌, ◌≤◌, ◌<◌, ◌^◌, ◌==◌, if◌then◌else◌}
 use Rattle.ps_text.specs.Positions as text
 use Rattle.ps_lex.specs.declared.position.Position.{Position}
 
@@ -20,3 +20,13 @@ pub record IsWithin (most : ℕ) (p : Position) : Type 0 where
   pub line : p.line ≤ most
   pub column : p.column ≤ most
   pub offset : p.offset ≤ most
+
+-- so many bytes more have positions that are kept
+pub record HasRoom (count : ℕ) (p : Position) : Type 0 where
+  pub line : p.line + count < 2 ^ 32
+  pub column : p.column + count < 2 ^ 32
+  pub offset : p.offset + count < 2 ^ 32
+
+-- the position behind so many bytes of a line
+abbrev pub along : Position → ℕ → Position
+along p n = record { line = p.line; column = p.column + n; offset = p.offset + n }

@@ -1,9 +1,11 @@
 //! Cuts bytes into tokens.
-ghost use Rattle.std.specs.Prelude.{◌≡◌, ◌-◌, ◌^◌};
-ghost use Rattle.ps_lex.specs.Places.{IsWithin};
+ghost use Rattle.std.specs.Prelude.{◌≡◌, ◌-◌, ◌^◌, length};
+ghost use Rattle.ps_lex.specs.Places.{IsWithin, HasRoom};
 ghost use Rattle.ps_lex.specs.Lexing.{new_lexer, token_ended, with_byte, last_token};
 ghost use Rattle.ps_lex.specs.Lexing.{last_bad, bad_place, is_within_token};
+ghost use Rattle.ps_lex.specs.Passing.{Passes, AllPassed};
 
+use crate::gap::Gap;
 use crate::mode::Mode;
 use crate::step::Step;
 use crate::stepping::step;
@@ -56,6 +58,35 @@ impl Lexer {
         self.began = began;
         self.here = self.here.behind(byte);
         ended
+    }
+
+    /// Passes the blanks and comments at the front of some bytes, where the lexer stands outside
+    /// of tokens, and gives the bytes that are left. It is as if each byte that is passed were taken:
+    /// no token would be told. Lines and columns go up to 2^32 - 1.
+    pub fn pass<'a>(&mut self, bytes: &'a [u8]) -> &'a [u8]
+        requires room { HasRoom (length bytes.now) self.old.here }
+        ensures passes { Passes self.old bytes.now self.new result.now }
+        ensures all { AllPassed self.new.mode result.now }
+    {
+        let is_comment = match self.mode {
+            Mode::Between => false,
+            Mode::Comment => true,
+            _ => return bytes,
+        };
+        let gap = Gap {
+            is_comment,
+            began: self.began,
+            here: self.here,
+        };
+        let (gap, left) = gap.pass(bytes);
+        self.mode = if gap.is_comment {
+            Mode::Comment
+        } else {
+            Mode::Between
+        };
+        self.began = gap.began;
+        self.here = gap.here;
+        left
     }
 
     /// The token that ends with the bytes, if they end here.

@@ -4,6 +4,7 @@
 
 mod bytes;
 mod digits;
+mod gap;
 mod laws;
 mod lexer;
 mod mode;

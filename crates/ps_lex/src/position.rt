@@ -1,6 +1,6 @@
 //! Positions in a text.
 ghost use Rattle.std.specs.Prelude.{◌≡◌, ◌-◌, ◌^◌};
-ghost use Rattle.ps_lex.specs.Places.{start, behind, IsWithin};
+ghost use Rattle.ps_lex.specs.Places.{start, behind, along, IsWithin, HasRoom};
 
 /// A line and a column, both from 1 on, and how many bytes stand before; a column counts bytes.
 #[derive(Clone, Copy, Debug, PartialEq, Eq)]
@@ -40,6 +40,18 @@ impl Position {
                 column: self.column + 1,
                 offset: self.offset + 1,
             }
+        }
+    }
+
+    /// The position behind so many bytes of a line.
+    pub(crate) fn along(self, count: u32) -> Position
+        requires room { HasRoom count self }
+        ensures { result ≡ along self count }
+    {
+        Position {
+            line: self.line,
+            column: self.column + count,
+            offset: self.offset + count,
         }
     }
 }

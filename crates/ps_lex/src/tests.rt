@@ -175,6 +175,33 @@ const PLACES: [(&str, (u32, u32), (u32, u32)); 5] = [
     ("a\r\n\n<", (3, 1), (3, 2)),
 ];
 
+// What is left behind the blanks and comments at the front, and where it stands.
+const PASSED: [(&str, &str, (u32, u32)); 9] = [
+    ("", "", (1, 1)),
+    ("a b", "a b", (1, 1)),
+    ("@ a", "@ a", (1, 1)),
+    ("   ;", ";", (1, 4)),
+    (" \t\r\n  a # b", "a # b", (2, 3)),
+    ("# a; @\n##\n\n(", "(", (4, 1)),
+    (" #\r \n\r/", "/", (2, 2)),
+    ("# a", "", (1, 4)),
+    ("\n \n  ", "", (3, 3)),
+];
+
+fn all_are_passed() -> Result<bool, Fail> {
+    for (text, expected, here) in PASSED {
+        if text.len() > 1000 {
+            return Err("a long text".into());
+        }
+        let mut lexer = Lexer::new();
+        let left = lexer.pass(text.as_bytes());
+        if left != expected.as_bytes() || (lexer.here().line, lexer.here().column) != here {
+            return Ok(false);
+        }
+    }
+    Ok(true)
+}
+
 fn all_are_told(alloc: Global, cases: &[(&str, &str)]) -> Result<bool, Fail> {
     for (text, tokens) in cases {
         if tokens_of(alloc, text)?.as_str() != *tokens {
@@ -207,5 +234,11 @@ fn tokens_are_told(rt: HostRuntime) -> Result<(), Fail> {
 #[test]
 fn places_are_told(rt: HostRuntime) -> Result<(), Fail> {
     assert!(rt; all_stand(rt.alloc())?);
+    Ok(())
+}
+
+#[test]
+fn blanks_and_comments_are_passed(rt: HostRuntime) -> Result<(), Fail> {
+    assert!(rt; all_are_passed()?);
     Ok(())
 }
