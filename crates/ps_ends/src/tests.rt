@@ -1,0 +1,195 @@
+ghost use Rattle.std.specs.Prelude.{ℕ, ◌<◌, ◌≤ℤ◌, IsTrue, length, get_or, pos, negsuc};
+ghost use Rattle.ps_rational.specs.Order.{IsNonneg};
+ghost use Rattle.ps_table.specs.Tableau.{entry_at};
+ghost use Rattle.ps_table.specs.Pricing.{HasCosts};
+ghost use Rattle.ps_bland.specs.Ready.{HasValues};
+ghost use Rattle.ps_ends.specs.Models.{AreApart};
+
+use super::*;
+use ps_answer::{Dual, Model, Weighted};
+use ps_claims::ClaimKind;
+use ps_formula::World;
+use ps_io::List;
+use ps_pool::{Col, Pool};
+use ps_problem::{Bound, Side};
+use ps_table::{CostList, Costs, Home, Table};
+use std::alloc::Global;
+use std::test::*;
+
+const BOUND: Bound = Bound {
+    formula: 0,
+    given: None,
+    both: 0,
+    side: Side::AtLeast,
+    num: 1,
+    den: 2,
+};
+
+// The worlds' truth values, and their columns.
+const WORLDS: [([bool; 2], [i64; 2]); 3] = [
+    ([true, false], [1, 2]),
+    ([true, true], [1, 0]),
+    ([false, false], [1, -1]),
+];
+
+fn adds_column(table: &mut Table, entries: &[i64]) -> bool {
+    if entries.len() != table.rows() as usize || table.worlds() >= 10 {
+        return false;
+    }
+    table.add_world(entries).is_ok()
+}
+
+fn pivots(table: &mut Table, row: u32, number: u32) -> bool {
+    if row >= table.rows() || number == 0 || number > table.worlds() {
+        return false;
+    }
+    let col = Col::World(number);
+    !table.entry(row, col).is_zero() && table.pivot(row, col).is_ok()
+}
+
+// Over the sum 1 and the row `2 * first - third = 0` the first world has 1/3 and the third 2/3.
+fn a_table(alloc: Global) -> Option<Table> {
+    let mut table = Table::new(alloc, &[Home::Artificial, Home::Artificial]).ok()?;
+    for world in &WORLDS {
+        if !adds_column(&mut table, &world.1) {
+            return None;
+        }
+    }
+    if !pivots(&mut table, 0, 1) || !pivots(&mut table, 1, 3) {
+        return None;
+    }
+    Some(table)
+}
+
+fn adds_world(alloc: Global, pool: &mut Pool, values: &[bool]) -> bool {
+    let mut world = World::new(alloc);
+    for value in values {
+        if world.push(*value).is_err() {
+            return false;
+        }
+    }
+    pool.len() < 10 && pool.add(world).is_ok()
+}
+
+fn a_pool(alloc: Global) -> Option<Pool> {
+    let mut pool = Pool::new(alloc);
+    for world in &WORLDS {
+        if !adds_world(alloc, &mut pool, &world.0) {
+            return None;
+        }
+    }
+    Some(pool)
+}
+
+fn list_of(alloc: Global, items: &[i8]) -> Option<CostList> {
+    let mut list = List::new(alloc);
+    for item in items {
+        list.push(*item).ok()?;
+    }
+    Some(list)
+}
+
+// The first world costs 1.
+fn some_costs(alloc: Global) -> Option<Costs> {
+    Some(Costs {
+        homes: list_of(alloc, &[0, 0])?,
+        worlds: list_of(alloc, &[1, 0, 0])?,
+    })
+}
+
+fn are_values_at_least_zero(table: &Table) -> bool
+    ensures { IsTrue result → HasValues table.now }
+{
+    for row in 0..table.rows() {
+        if table.value(row).numerator() < 0 {
+            return false;
+        }
+    }
+    true
+}
+
+fn are_first_and_third(table: &Table) -> bool
+    ensures { IsTrue result → AreApart table.now }
+{
+    table.rows() == 2 && table.basic(0) == Col::World(1) && table.basic(1) == Col::World(3)
+}
+
+fn are_small(costs: &[i8]) -> bool
+    ensures low { IsTrue result → (i : ℕ) → i < length costs.now → negsuc 0 ≤ℤ get_or costs.now i (pos 0) }
+    ensures high { IsTrue result → (i : ℕ) → i < length costs.now → get_or costs.now i (pos 0) ≤ℤ pos 1 }
+{
+    for k in 0..costs.len() {
+        if costs[k] < -1 || costs[k] > 1 {
+            return false;
+        }
+    }
+    true
+}
+
+fn has_costs(table: &Table, costs: &Costs) -> bool
+    ensures { IsTrue result → HasCosts costs.now table.now }
+{
+    let homes = costs.homes.as_slice();
+    let worlds = costs.worlds.as_slice();
+    homes.len() == table.rows() as usize
+        && worlds.len() >= table.worlds() as usize
+        && are_small(homes)
+        && are_small(worlds)
+}
+
+fn weighs(weighted: &Weighted, weight: i128, values: &[bool]) -> bool {
+    weighted.weight == weight && weighted.world.as_slice() == values
+}
+
+fn is_right_model(model: &Model) -> bool {
+    let worlds = model.worlds.as_slice();
+    model.total == 3
+        && worlds.len() == 2
+        && weighs(&worlds[0], 1, &WORLDS[0].0)
+        && weighs(&worlds[1], 2, &WORLDS[2].0)
+}
+
+fn is_right_dual(dual: &Dual) -> bool {
+    dual.top == 3
+        && dual.head == 1
+        && dual.rows.as_slice() == [-1].as_slice()
+        && dual.steps.len() == 0
+}
+
+fn found_model(alloc: Global) -> Option<Model> {
+    let table = a_table(alloc)?;
+    let pool = a_pool(alloc)?;
+    if !are_values_at_least_zero(&table) || !are_first_and_third(&table) {
+        return None;
+    }
+    model_of(alloc, &table, &pool).ok()
+}
+
+fn found_dual(alloc: Global) -> Option<Dual> {
+    let table = a_table(alloc)?;
+    let costs = some_costs(alloc)?;
+    if table.rows() != 2 || !has_costs(&table, &costs) {
+        return None;
+    }
+    dual_of(alloc, &[BOUND], ClaimKind::Lower, &table, &costs).ok()
+}
+
+#[test]
+fn a_third_weighs_one(rt: HostRuntime) -> Result<(), Fail> {
+    let right = match found_model(rt.alloc()) {
+        Some(model) => is_right_model(&model),
+        None => false,
+    };
+    assert!(rt; right);
+    Ok(())
+}
+
+#[test]
+fn multipliers_are_turned_at_lower_bounds(rt: HostRuntime) -> Result<(), Fail> {
+    let right = match found_dual(rt.alloc()) {
+        Some(dual) => is_right_dual(&dual),
+        None => false,
+    };
+    assert!(rt; right);
+    Ok(())
+}
