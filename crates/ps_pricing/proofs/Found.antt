@@ -1,7 +1,6 @@
 -- The world of an assignment that meets the clauses, and the values of worlds.
-use Rattle.std.proofs.Common.{◌≡◌, ℕ, ◌+◌, ◌<◌, ◌≤◌, ℤ, pos, ◌+ℤ◌, ◌-ℤ◌, ◌≤ℤ◌, ◌<ℤ◌, Bool, true, false, List, [], ◌∷◌, ◌++◌, length, map, Some, All, refl, sym, ap, ◌∙◌, subst, inl, inr, arith}
-use Rattle.std.specs.Prelude.{◌⊎◌, IsTrue}
-use Rattle.std.proofs.lemmas.Int.{ints}
+use Rattle.std.proofs.Common.{◌≡◌, ℕ, ◌+◌, ℤ, pos, ◌+ℤ◌, ◌-ℤ◌, ◌≤ℤ◌, ◌<ℤ◌, Bool, true, List, [], ◌∷◌, ◌++◌, length, Some, All, refl, sym, ap, ◌∙◌, subst, inl, inr, arith}
+use Rattle.std.specs.Prelude.{IsTrue}
 use Rattle.std.proofs.lemmas.List.{length-append}
 use Rattle.ps_meaning.specs.Formula.{World}
 use Rattle.ps_formula.specs.declared.node.Node.{Node}
@@ -10,7 +9,7 @@ use Rattle.ps_formula.proofs.Trees.{length-truths}
 use Rattle.ps_steps.specs.Assignments.{Assignment, full}
 use Rattle.ps_steps.specs.Constraints.{Constraint}
 use Rattle.ps_steps.specs.Weights.{true_weight, constraint_of}
-use Rattle.ps_steps.specs.Steps.{Step, Known, AreLawful, Refutes, is_contradiction, ends_in_contradiction}
+use Rattle.ps_steps.specs.Steps.{Step, Refutes, is_contradiction, ends_in_contradiction}
 use Rattle.ps_forms.specs.Clauses.{clause_form}
 use Rattle.ps_forms.specs.Forms.{Form, form_of, first_known, MeetsForm}
 use Rattle.ps_forms.specs.Extensions.{extension, world_of, IsWorldOf}
@@ -18,15 +17,13 @@ use Rattle.ps_forms.proofs.Idle.{form-clauses, clauses-form}
 use Rattle.ps_forms.proofs.Extends.{met-extension, extension-met}
 use Rattle.ps_forms.proofs.Worlds.{world_of-agrees, extension-agrees}
 use Rattle.ps_log.specs.Logs.{Telling}
-use Rattle.ps_sat.specs.Searches.{Handed, IsShown}
-use Rattle.ps_sat.specs.declared.searching.Outcome.TheVariants as search
+use Rattle.ps_sat.specs.Searches.{Handed}
 use Rattle.ps_maxsat.specs.declared.problem.Wcnf.{Wcnf}
 use Rattle.ps_maxsat.specs.declared.pricing.Priced.{Priced}
 use Rattle.ps_maxsat.specs.declared.pricing.Priced.TheVariants.{NoneAbove, Best, Cut, Spent}
-use Rattle.ps_maxsat.specs.Values.{value, IsOf, NoneIsAbove, HoldsSearch, IsPricedLog, goal_of}
+use Rattle.ps_maxsat.specs.Values.{value, IsOf, NoneIsAbove, IsPricedLog, goal_of}
 use Rattle.ps_answer.specs.declared.answer.Dual.{Dual}
 use Rattle.ps_claims.specs.declared.claim_kind.ClaimKind.{ClaimKind}
-use Rattle.ps_claims.specs.Goals.{value_under}
 use Rattle.ps_runs.specs.Searches.{IsSpentSearch}
 use Rattle.ps_pricing.specs.Sought.{HasSteps, HasFewSteps}
 use Rattle.ps_pricing.specs.Pricings.{Asked, gain, goal_at_least, IsGreatest, IsCutAbove, IsFound, IsSpent, IsRefuted, IsWcnf}

@@ -1,5 +1,5 @@
 -- The literals of a combination are of the nodes' variables.
-use Rattle.std.proofs.Common.{◌≡◌, ℕ, ◌<◌, ℤ, pos, neg_ℤ, ◌*ℤ◌, List, [], ◌∷◌, ◌++◌, length, All, Option, Some, None, IfSome, sym, ap, subst, arith}
+use Rattle.std.proofs.Common.{◌≡◌, ℕ, ◌<◌, ℤ, pos, neg_ℤ, ◌*ℤ◌, List, [], ◌∷◌, length, All, Option, Some, None, IfSome, sym, ap, subst, arith}
 use Rattle.std.proofs.lemmas.List.Elements.{All-nil, All-append, All-cons, All-head, All-tail}
 use Rattle.ps_steps.specs.Assignments.{place}
 use Rattle.ps_forms.specs.Clauses.{positive}

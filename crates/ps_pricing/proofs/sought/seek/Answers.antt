@@ -1,4 +1,4 @@
-use Rattle.std.proofs.Common.{rules, ◌≡◌, Some, true, sym, ap}
+use Rattle.std.proofs.Common.{rules, Some, true, sym, ap}
 use Rattle.std.specs.Prelude.{IsTrue}
 use Rattle.ps_pricing.proofs.Found.{log_steps, few_steps}
 use Rattle.ps_pricing.proofs.sought.seek.Goals as goal
