@@ -1,6 +1,6 @@
 -- What a count's refusal says of the items and of the text.
-use Rattle.std.proofs.Common.{◌≡◌, ℕ, zero, suc, ◌+◌, ◌-◌, ◌<◌, ◌≤◌, Bool, true, false, List, [], ◌∷◌, ◌++◌, length, take, drop, get_or, Option, Some, None, inl, inr, refl, sym, ap, subst, ◌∙◌, arith, append_assoc}
-use Rattle.std.proofs.lemmas.List.{length-append, length-take-le}
+use Rattle.std.proofs.Common.{◌≡◌, ℕ, zero, suc, ◌+◌, ◌-◌, ◌<◌, ◌≤◌, List, [], ◌∷◌, ◌++◌, length, take, inr, refl, sym, ap, subst, ◌∙◌, arith, append_assoc}
+use Rattle.std.proofs.lemmas.List.{length-take-le}
 use Rattle.std.specs.Prelude.{Result, Ok, Err, nat_lt, if◌then◌else◌}
 use Rattle.ps_meaning.specs.Formula.{Formula}
 use Rattle.ps_meaning.specs.Statements.{Name, Item, Stated, Asked}
@@ -9,17 +9,15 @@ use Rattle.ps_text.specs.Grammar.{Entry}
 use Rattle.ps_text.specs.Meanings.{AreItems}
 use Rattle.ps_text.specs.Positions as text
 use Rattle.ps_lex.specs.declared.position.Position.{Position}
-use Rattle.ps_lex.specs.Places.{start, position_of}
+use Rattle.ps_lex.specs.Places.{position_of}
 use Rattle.ps_problem.specs.declared.limits.TheConstants.{MOST_BOUNDS, MOST_QUERIES}
 use Rattle.ps_problem.specs.Numbering.{numbered_for}
 use Rattle.ps_problem.specs.Problems.{Parts}
 use Rattle.ps_problem.specs.Counts.{Excess, Bounds, Queries, Refused, count_bounds, with_formulas, at_item, with_statements, with_questions, after, counted}
 use Rattle.ps_parse.specs.Kept.{drafted_in}
 use Rattle.ps_read.specs.declared.read_kind.ReadKind.{ReadKind}
-use Rattle.ps_read.specs.Kinds.{count_kind}
-use Rattle.ps_read.specs.Readings.{IsProblemOf, SpellsProblem, BeginsEntry, IsUnread}
+use Rattle.ps_read.specs.Readings.{IsProblemOf, SpellsProblem, IsUnread}
 use Rattle.ps_read.specs.Answers.{Parsed, IsExcessIn}
-use Rattle.ps_read.proofs.Places.{IsBegun}
 use Rattle.ps_read.proofs.Right.{IsParsedText, is_position}
 
 -- an item's number is one of those from `before` on

@@ -1,13 +1,13 @@
 -- There is one thing at most to read in some bytes.
-use Rattle.std.proofs.Common.{◌≡◌, ℕ, ◌+◌, ◌<◌, inl, inr, List, [], ◌∷◌, ◌++◌, length, refl, sym, ap, subst, ◌∙◌, arith}
+use Rattle.std.proofs.Common.{◌≡◌, ℕ, inl, inr, List, [], ◌∷◌, ◌++◌, length, refl, sym, ap, subst, ◌∙◌, arith}
 use Rattle.std.specs.Prelude.{Result, Ok, Err}
 use Rattle.std.proofs.lemmas.List.{length-append}
 use Rattle.ps_meaning.specs.Formula.{Formula}
-use Rattle.ps_meaning.specs.Statements.{Name, Item}
+use Rattle.ps_meaning.specs.Statements.{Name}
 use Rattle.ps_text.specs.Tokens.{Token}
 use Rattle.ps_text.specs.Pieces.{Piece, Blank, Comment, Spelled, texts, tokens}
 use Rattle.ps_text.specs.Grammar.{Entry, text_tokens}
-use Rattle.ps_text.specs.Fronts.{IsTextFront, IsFront}
+use Rattle.ps_text.specs.Fronts.{IsTextFront}
 use Rattle.ps_text.specs.Positions.{Position, position_of}
 use Rattle.ps_text.proofs.Once.{Order, Same, Longer, Shorter, order, front_once, front_place}
 use Rattle.ps_text.proofs.Meant.{meaning_once}
@@ -16,7 +16,6 @@ use Rattle.ps_problem.specs.Problems.{Parts}
 use Rattle.ps_problem.specs.Numbering.{problem_of}
 use Rattle.ps_problem.specs.Counts.{Refused, counted}
 use Rattle.ps_read.specs.declared.read_kind.ReadKind.{ReadKind}
-use Rattle.ps_read.specs.declared.read_kind.ReadKind.TheVariants.{MoreAfterEnd}
 use Rattle.ps_read.specs.Kinds.{form_kind, count_kind}
 use Rattle.ps_read.specs.Readings.{SpellsProblem, tokens_up_to, BeginsEntry, IsFormRefused, IsCountRefused, IsUnread, IsFollowedByMore, SpellsWhole, IsUnreadWhole, Reading, Read, Unread, IsReading, IsWholeReading}
 

@@ -1,13 +1,12 @@
 -- Where the items' first tokens stand.
-use Rattle.std.proofs.Common.{◌≡◌, ℕ, zero, suc, ◌+◌, ◌<◌, ◌≤◌, Bool, true, false, not, ◌&&◌, ◌||◌, inl, inr, List, [], ◌∷◌, ◌++◌, length, get_or, take, drop, Option, Some, None, refl, sym, ap, subst, ◌∙◌, arith, append_assoc, append-nil, true≢false, is_some}
+use Rattle.std.proofs.Common.{◌≡◌, ℕ, zero, suc, ◌+◌, ◌<◌, ◌≤◌, Bool, true, false, ◌||◌, inl, inr, List, [], ◌∷◌, ◌++◌, length, get_or, take, Option, Some, None, refl, sym, ap, subst, ◌∙◌, arith, append_assoc, append-nil, true≢false, is_some}
 use Rattle.std.proofs.lemmas.List.{length-append, take_all, take-append-le}
 use Rattle.std.proofs.lemmas.Bool.Decides.{nat_tests}
-use Rattle.std.specs.Prelude.{nat_lt, bytes_eq, codes, if◌then◌else◌}
+use Rattle.std.specs.Prelude.{nat_lt, bytes_eq, codes}
 use Rattle.ps_text.specs.Tokens.{Token, Word, Number, Sign, is_the_word}
-use Rattle.ps_text.specs.declared.symbol.Symbol.{Symbol}
 use Rattle.ps_text.specs.declared.symbol.Symbol.TheVariants.{Open, Close, OpenBracket, CloseBracket, Comma, Semicolon, Bang, Ampersand, Bar, Arrow, DoubleArrow, Equals, GreaterEquals, LessEquals}
-use Rattle.ps_text.specs.Pieces.{Piece, Blank, Comment, Spelled, text, texts, tokens}
-use Rattle.ps_text.specs.Grammar.{Form, Prob, Entry, Group}
+use Rattle.ps_text.specs.Pieces.{Piece, Spelled, texts, tokens}
+use Rattle.ps_text.specs.Grammar.{Form, Prob, Entry}
 use Rattle.ps_text.specs.declared.part.Part.{Part}
 use Rattle.ps_text.specs.declared.part.Part.TheVariants as part
 use Rattle.ps_text.specs.declared.kind.ReadKind.TheVariants.{NameTooLong}

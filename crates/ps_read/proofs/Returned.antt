@@ -1,8 +1,7 @@
 -- What is returned is right, and the only right answer.
-use Rattle.std.proofs.Common.{◌≡◌, ℕ, zero, suc, ◌+◌, ◌-◌, ◌<◌, ◌≤◌, inl, inr, List, [], ◌∷◌, ◌++◌, length, get_or, drop, add-one, drop-cons, Option, Some, None, refl, sym, ap, subst, ◌∙◌, arith, true≢false}
-use Rattle.std.proofs.Math.ListN.{drop_of_length-le}
+use Rattle.std.proofs.Common.{◌≡◌, ℕ, zero, suc, ◌-◌, ◌<◌, ◌≤◌, inl, inr, List, [], ◌∷◌, length, get_or, Option, Some, None, refl, sym, ap, subst, ◌∙◌, arith}
 use Rattle.std.proofs.lemmas.List.{length-append}
-use Rattle.std.specs.Prelude.{Result, Ok, Err, IfOk, IfErr, IfSome, option_map}
+use Rattle.std.specs.Prelude.{Result, Ok, Err, IfErr, IfSome, option_map}
 use Rattle.ps_text.specs.Pieces.{texts}
 use Rattle.ps_text.specs.Positions as text
 use Rattle.ps_text.specs.Fronts.{IsTextFront}
@@ -21,35 +20,35 @@ use Rattle.ps_read.specs.declared.read_error.ReadError.TheVariants as error
 use Rattle.ps_read.specs.declared.read_kind.ReadKind.{ReadKind}
 use Rattle.ps_read.specs.declared.read_kind.ReadKind.TheVariants.{MoreAfterEnd}
 use Rattle.ps_read.specs.declared.reader.Reader.{Reader}
-use Rattle.ps_read.specs.Readings.{SpellsProblem, SpellsWhole, IsUnread, IsUnreadWhole, Reading, Read, Unread}
-use Rattle.ps_read.specs.Reads.{Tells, Gives, Refuses, ReadsEach, RefusesEach, ReadsEachWhole, RefusesEachWhole}
-use Rattle.ps_read.specs.Answers.{Parsed, nothing_parsed, parsed_by, Answer, answer, Agrees, IsFed, IsFinished, Answers, IsExcessIn, IsBuiltOf, AreWhole, IsRight}
+use Rattle.ps_read.specs.Readings.{SpellsProblem, SpellsWhole, IsUnread, IsUnreadWhole}
+use Rattle.ps_read.specs.Reads.{Tells, ReadsEach, RefusesEach, ReadsEachWhole, RefusesEachWhole}
+use Rattle.ps_read.specs.Answers.{Parsed, nothing_parsed, parsed_by, Answer, answer, IsFed, HasPassed, IsFinished, Answers, IsExcessIn, IsBuiltOf, AreWhole, IsRight}
 use Rattle.ps_read.proofs.OneReading.{read_once, unread_once, read_excludes, whole_excludes, unread_whole_once}
 use Rattle.ps_read.proofs.Right.{IsParsedText, IsSo, answer_so}
 use Rattle.ps_read.proofs.Counts.{refused_least, refused_most, items_many, spelled, refused}
 
 -- the loop
 
--- behind a byte with which nothing is known
-pub not_yet : (old new : Reader) (bs : List ℕ) (i : ℕ) (all : Answer) → i < length bs → IsFed (get_or bs i 0) old new (Ok None) → answer old.lexer (parsed_by old.parser) (drop i bs) ≡ all
-    → answer new.lexer (parsed_by new.parser) (drop (i + 1) bs) ≡ all
-not_yet old new bs i all l f h = rw add-one (sym (f.agrees (drop (suc i) bs)) ∙ sym (ap (answer old.lexer (parsed_by old.parser)) (drop-cons bs i 0 l)) ∙ h)
+-- behind a byte with which nothing is known, and the bytes that were passed then
+pub not_yet : (old fed new : Reader) (b : ℕ) (more left : List ℕ) (all : Answer) → IsFed b old fed (Ok None) → HasPassed more fed left new → answer old.lexer (parsed_by old.parser) (b ∷ more) ≡ all
+    → answer new.lexer (parsed_by new.parser) left ≡ all
+not_yet old fed new b more left all f p h = sym (f.agrees more ∙ p.answer_is) ∙ h
 
 -- behind a byte with which the text's end is known
-pub known : (old new : Reader) (bs : List ℕ) (i : ℕ) (all : Answer) (place : Position) → i < length bs → IsFed (get_or bs i 0) old new (Ok (Some place)) → answer old.lexer (parsed_by old.parser) (drop i bs) ≡ all
+pub known : (old new : Reader) (b : ℕ) (more : List ℕ) (all : Answer) (place : Position) → IsFed b old new (Ok (Some place)) → answer old.lexer (parsed_by old.parser) (b ∷ more) ≡ all
     → all ≡ Ok (place, parsed_by new.parser)
-known old new bs i all place l f h = sym h ∙ ap (answer old.lexer (parsed_by old.parser)) (drop-cons bs i 0 l) ∙ f.agrees (drop (suc i) bs)
+known old new b more all place f h = sym h ∙ f.agrees more
 
 -- behind a byte at which the form is refused
-pub known_err : (old new : Reader) (bs : List ℕ) (i : ℕ) (all : Answer) (e : ReadError) (r : Result (Parser × Position) ReadError) → i < length bs → IsFed (get_or bs i 0) old new (Err e)
-    → answer old.lexer (parsed_by old.parser) (drop i bs) ≡ all → r ≡ Err e → Answers all r
-known_err old new bs i all (error.At k l c) r lt f h er =
-    subst (Answers all) (sym er) (sym h ∙ ap (answer old.lexer (parsed_by old.parser)) (drop-cons bs i 0 lt) ∙ f.agrees (drop (suc i) bs))
-known_err old new bs i all error.NoMemory r lt f h er = subst (Answers all) (sym er) tt
+pub known_err : (old new : Reader) (b : ℕ) (more : List ℕ) (all : Answer) (e : ReadError) (r : Result (Parser × Position) ReadError) → IsFed b old new (Err e)
+    → answer old.lexer (parsed_by old.parser) (b ∷ more) ≡ all → r ≡ Err e → Answers all r
+known_err old new b more all (error.At k l c) r f h er = subst (Answers all) (sym er) (sym h ∙ f.agrees more)
+known_err old new b more all error.NoMemory r f h er = subst (Answers all) (sym er) tt
 
 -- at the end of the bytes
-pub at_last : (reader : Reader) (bs : List ℕ) (i : ℕ) (all : Answer) (r : Result (Parser × Position) ReadError) → length bs ≤ i → IsFinished reader r → answer reader.lexer (parsed_by reader.parser) (drop i bs) ≡ all → Answers all r
-at_last reader bs i all r l f h = subst (λ a. Answers a r) (ap (answer reader.lexer (parsed_by reader.parser)) (sym (drop_of_length-le bs {i = i} l)) ∙ h) f
+pub at_last : (reader : Reader) (left : List ℕ) (all : Answer) (r : Result (Parser × Position) ReadError) → length left < 1 → IsFinished reader r → answer reader.lexer (parsed_by reader.parser) left ≡ all → Answers all r
+at_last reader [] all r l f h = subst (λ a. Answers a r) h f
+at_last reader (b ∷ bs) all r l f h = absurd (omega (arith, l))
 
 -- what was parsed
 

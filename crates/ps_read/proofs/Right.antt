@@ -1,21 +1,20 @@
 -- The answer to all bytes is right.
-use Rattle.std.proofs.Common.{◌≡◌, ℕ, ◌+◌, ◌<◌, ◌≤◌, Bool, true, false, ◌⊎◌, inl, inr, List, [], ◌∷◌, ◌++◌, length, take, Option, Some, None, refl, sym, ap, subst, ◌∙◌, arith, append_assoc, append-nil, true≢false}
+use Rattle.std.proofs.Common.{◌≡◌, ℕ, Bool, true, false, ◌⊎◌, inl, inr, List, [], ◌∷◌, ◌++◌, length, take, Option, Some, None, refl, sym, ap, subst, ◌∙◌, arith, append_assoc, append-nil, true≢false}
 use Rattle.std.proofs.lemmas.List.{take-append-le, take_all}
-use Rattle.std.specs.Prelude.{if◌then◌else◌, Result, Ok, Err}
+use Rattle.std.specs.Prelude.{if◌then◌else◌, Ok, Err}
 use Rattle.ps_text.specs.Tokens.{One, Token, IsToken, IsLongest, spelling}
 use Rattle.ps_text.specs.Pieces.{Piece, Blank, Comment, Spelled, text, texts, Cuts, Fits, tokens, IsBare, IsBad, Cut}
 use Rattle.ps_text.specs.declared.kind.ReadKind.{ReadKind as FormKind}
 use Rattle.ps_text.specs.declared.kind.ReadKind.TheVariants.{BadByte, EndMissing}
 use Rattle.ps_text.specs.Positions as text
-use Rattle.ps_text.specs.declared.part.Part.TheVariants as part
-use Rattle.ps_text.specs.ExpectedTokens.{State, at_start, outside, refusal, after, Passes}
+use Rattle.ps_text.specs.ExpectedTokens.{State, at_start, refusal, after, Passes}
 use Rattle.ps_text.specs.Refusals.{Why}
 use Rattle.ps_text.specs.Grammar.{Entry, text_tokens, AreEntries}
 use Rattle.ps_text.specs.Meanings.{AreItems}
 use Rattle.ps_text.specs.Fronts.{IsTextFront}
 use Rattle.ps_text.proofs.Once.{bare_token, some_bytes}
 use Rattle.ps_text.proofs.Cutting.{cut}
-use Rattle.ps_text.proofs.Parsing.{Parse, InPsat, InVersion, InHeadEnd, InItem, InQueryProb, InTextEnd, InDone, InParen, InOperand, InOperator, InRelation, InBracket, InFirst, InNumber, InComma, InSecond, InBracketEnd, InItemEnd, state_of, read, Sound, parsed}
+use Rattle.ps_text.proofs.Parsing.{Parse, InPsat, InVersion, InHeadEnd, InItem, InQueryProb, InTextEnd, InDone, InParen, InOperand, InOperator, InRelation, InBracket, InFirst, InNumber, InComma, InSecond, InBracketEnd, InItemEnd, state_of, read, parsed}
 use Rattle.ps_text.proofs.Derived.{steps}
 use Rattle.ps_text.proofs.Deriving.{passes-append}
 use Rattle.ps_lex.specs.declared.position.Position.{Position}
@@ -28,13 +27,12 @@ use Rattle.ps_lex.proofs.Tokens.{behind_append}
 use Rattle.ps_lex.proofs.Told.{whole_told, bad_told}
 use Rattle.ps_expect.specs.KeptTokens.{token_of}
 use Rattle.ps_expect.proofs.Seen.{judged as judged_alike, goes_on}
-use Rattle.ps_parse.specs.Machine.{Machine, at_first, next, taken}
-use Rattle.ps_parse.specs.Standing.{StandsFor, Does}
+use Rattle.ps_parse.specs.Machine.{Machine, next}
+use Rattle.ps_parse.specs.Standing.{StandsFor}
 use Rattle.ps_parse.specs.Kept.{drafted_in}
 use Rattle.ps_parse.specs.Taking.{begun_at}
 use Rattle.ps_parse.proofs.Next.{followed}
 use Rattle.ps_parse.proofs.KeptTokens.{taken_alike}
-use Rattle.ps_read.specs.declared.read_kind.ReadKind.{ReadKind}
 use Rattle.ps_read.specs.Kinds.{form_kind}
 use Rattle.ps_read.specs.Readings.{IsFormRefused}
 use Rattle.ps_read.specs.Answers.{Parsed, nothing_parsed, part_of, with_token, is_done, Answer, ended, refused_or, judged, answer}

@@ -1,27 +1,26 @@
 -- The answer to all bytes, byte by byte.
-use Rattle.std.proofs.Common.{◌≡◌, ℕ, suc, ◌+◌, ◌<◌, ◌≤◌, length, get_or, drop, add-one, drop-cons, Bool, true, false, ◌&&◌, List, [], ◌∷◌, ◌++◌, Option, Some, None, refl, sym, ap, subst, ◌∙◌, arith, true≢false}
-use Rattle.std.proofs.Math.ListN.{drop_of_length-le}
-use Rattle.std.specs.Prelude.{◌==◌, if◌then◌else◌, Result, Ok, Err, IsTrue, IsErr}
+use Rattle.std.proofs.Common.{◌≡◌, ℕ, ◌+◌, ◌≤◌, length, Bool, true, false, ◌&&◌, List, [], ◌∷◌, ◌++◌, Option, Some, None, refl, sym, ap, subst, ◌∙◌, arith, true≢false}
+use Rattle.std.proofs.lemmas.List.{length-append}
+use Rattle.std.specs.Prelude.{◌==◌, if◌then◌else◌, Result, Ok, Err, IsErr}
 use Rattle.std.specs.Result.{IsErrAnd}
-use Rattle.std.proofs.lemmas.Bool.Decides.{nat_tests}
-use Rattle.ps_meaning.specs.Names.{is_letter, is_word_byte, is_word}
 use Rattle.ps_lex.specs.declared.position.Position.{Position}
 use Rattle.ps_lex.specs.declared.token.Token.{Token}
 use Rattle.ps_lex.specs.Places.{behind, IsWithin}
 use Rattle.ps_lex.specs.Seen.{behind_all}
 use Rattle.ps_lex.specs.Lexing.{LexerState, token_ended, with_byte, last_token, last_bad, bad_place, with_place, stops_or, after_tokens, is_within_token, new_lexer, lexed}
+use Rattle.ps_lex.specs.Passing.{with_bytes, IsQuiet, AreQuiet, Passes}
 use Rattle.ps_lex.proofs.Begun.{First, Told, Bare, begun_first}
 use Rattle.ps_text.specs.declared.kind.ReadKind.TheVariants.{EndMissing}
 use Rattle.ps_read.specs.declared.read_error.ReadError.{ReadError}
 use Rattle.ps_read.specs.declared.read_error.ReadError.TheVariants as error
 use Rattle.ps_text.proofs.Parsing.{InPsat}
 use Rattle.ps_parse.specs.Machine.{Machine, at_first}
-use Rattle.ps_parse.specs.Standing.{StandsFor, Does, IsParsed}
+use Rattle.ps_parse.specs.Standing.{StandsFor, IsParsed}
 use Rattle.ps_parse.specs.declared.parser.Parser.{Parser}
 use Rattle.ps_parse.specs.Kept.{machine_of}
 use Rattle.ps_parse.specs.Taking.{CountsAtMost}
 use Rattle.ps_read.specs.declared.reader.Reader.{Reader}
-use Rattle.ps_read.specs.Answers.{Parsed, part_of, with_token, is_done, begun_behind, Answer, ended, judged, answer, bad_or, step_answer, Agrees, IsJudged, IsWordMode, IsOneMore, IsReady, AgreesAtEnd, Answers}
+use Rattle.ps_read.specs.Answers.{Parsed, part_of, with_token, is_done, begun_behind, Answer, ended, judged, answer, bad_or, step_answer, Agrees, IsJudged, IsWordMode, IsOneMore, IsReady, HasPassed, AgreesAtEnd, Answers, parsed_by}
 use Rattle.ps_read.proofs.Words.{word_behind}
 
 -- the rest is looked at only where no token is bad before it
@@ -166,3 +165,45 @@ ended_err all rest y r j e ej er h a = subst (Answers all) (sym er) (err_answers
     err_answers : (e : ReadError) → AgreesAtEnd rest y (Err e) → Answers all (Err e)
     err_answers (error.At k l c) a = h ∙ a
     err_answers error.NoMemory a = tt
+
+-- bytes that tell nothing are passed
+
+quiet_step : (s : LexerState) (x : Parsed) (b : ℕ) (bs : List ℕ) → IsQuiet s b → answer s x (b ∷ bs) ≡ answer (with_byte s b) x bs
+quiet_step s x b bs q =
+    answer_step s x b bs
+    ∙ ap (λ t. step_answer t s.began (bad_place (with_byte s b).mode) x (λ y. answer (with_byte s b) y bs)) q.token
+    ∙ ap (λ p. bad_or p x (λ y. answer (with_byte s b) y bs)) q.place
+
+quiet_answer : (s : LexerState) (x : Parsed) (passed left : List ℕ) → AreQuiet s passed → answer s x (passed ++ left) ≡ answer (with_bytes s passed) x left
+quiet_answer s x [] left q = refl
+quiet_answer s x (b ∷ bs) left q = quiet_step s x b (bs ++ left) q.0 ∙ quiet_answer (with_byte s b) x bs left q.1
+
+quiet_word : (s : LexerState) (passed : List ℕ) → IsWordMode s.mode → IsWordMode (with_bytes s passed).mode
+quiet_word s [] h = h
+quiet_word s (b ∷ bs) h = quiet_word (with_byte s b) bs (word_behind s b h)
+
+quiet_within : (s : LexerState) (passed : List ℕ) → IsWithin (s.here.offset + 1) s.here → IsWithin ((with_bytes s passed).here.offset + 1) (with_bytes s passed).here
+quiet_within s [] h = h
+quiet_within s (b ∷ bs) h = quiet_within (with_byte s b) bs (within_behind s b h)
+
+quiet_offset : (s : LexerState) (passed : List ℕ) → (with_bytes s passed).here.offset ≡ s.here.offset + length passed
+quiet_offset s [] = omega arith
+quiet_offset s (b ∷ bs) = omega (arith, quiet_offset (with_byte s b) bs, offset_behind s (with_byte s b) b refl)
+
+pub has_passed : (bytes left : List ℕ) (old new : Reader) → Passes old.lexer bytes new.lexer left → new.parser ≡ old.parser → HasPassed bytes old left new
+has_passed bytes left old new p e = record {
+  answer_is = ap (answer old.lexer (parsed_by old.parser)) p.bytes_are ∙ quiet_answer old.lexer (parsed_by old.parser) p.passed left p.quiet
+      ∙ ap (λ s. answer s (parsed_by old.parser) left) (sym p.state) ∙ ap (λ x. answer new.lexer (parsed_by x) left) (sym e);
+  taken = let l = ap length p.bytes_are in let m = length-append p.passed left in
+      let o = ap (λ s. s.here.offset) p.state in omega (arith, l, m, o, quiet_offset old.lexer p.passed);
+}
+
+pub ready_passed : (bytes left : List ℕ) (old new : Reader) → Passes old.lexer bytes new.lexer left → new.parser ≡ old.parser → IsReady old → IsReady new
+ready_passed bytes left old new p e r = record {
+  word = subst (λ s. IsWordMode s.mode) (sym p.state) (quiet_word old.lexer p.passed r.word);
+  here = subst (λ s. IsWithin (s.here.offset + 1) s.here) (sym p.state) (quiet_within old.lexer p.passed r.here);
+  parsed = subst (λ x. IsParsed (machine_of x)) (sym e) r.parsed;
+  counts = subst (λ x. CountsAtMost new.lexer.here.offset (machine_of x)) (sym e)
+      (at_most old.lexer.here.offset new.lexer.here.offset (machine_of old.parser) r.counts
+      (let o = ap (λ s. s.here.offset) p.state in omega (arith, o, quiet_offset old.lexer p.passed)));
+}

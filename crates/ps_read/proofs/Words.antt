@@ -1,18 +1,16 @@
 -- What a lexer keeps of a word is a word.
-use Rattle.std.proofs.Common.{◌≡◌, ℕ, ◌+◌, Bool, true, false, ◌&&◌, List, [], ◌∷◌, ◌++◌, length, Option, Some, None, refl, sym, ap, ◌∙◌, true≢false, min}
+use Rattle.std.proofs.Common.{◌≡◌, ℕ, ◌+◌, Bool, true, false, ◌&&◌, List, [], ◌∷◌, ◌++◌, length, Some, refl, sym, true≢false, min}
 use Rattle.std.specs.Prelude.{◌==◌, nat_lt, if◌then◌else◌, IsTrue}
 use Rattle.std.specs.List.{list_all}
 use Rattle.ps_meaning.specs.Names.{is_letter, is_digit, is_word_byte, is_word}
 use Rattle.ps_text.specs.Pieces.{is_blank}
 use Rattle.ps_text.specs.declared.symbol.Symbol.TheVariants as symbol
-use Rattle.ps_lex.specs.declared.digits.Digits.{Digits}
 use Rattle.ps_lex.specs.declared.position.Position.{Position}
 use Rattle.ps_lex.specs.declared.mode.Mode.{Mode}
 use Rattle.ps_lex.specs.declared.mode.Mode.TheVariants as mode
 use Rattle.ps_lex.specs.declared.step.Step.{Step}
 use Rattle.ps_lex.specs.declared.token.Token.{Token}
 use Rattle.ps_lex.specs.declared.token.Token.TheVariants as token
-use Rattle.ps_lex.specs.declared.token.Numeral.TheVariants as numeral
 use Rattle.ps_lex.specs.Counted.{no_digits, with_digit}
 use Rattle.ps_lex.specs.Lexing.{LexerState, begun, symbol_begun, letter_kept, ended, goes_on, stepped_in, token_ended, with_byte, last_token}
 use Rattle.ps_read.specs.Answers.{IsKeptIn, IsWordMode}

@@ -1,5 +1,5 @@
 -- What bytes tell of a problem's text, worked out token by token.
-use Rattle.std.specs.Prelude.{◌≡◌, ◌≤◌, ◌+◌, ◌-◌, ◌++◌, ℕ, length, get_or, Bool, true, false, ◌&&◌, if◌then◌else◌, List, [], ◌∷◌, Option, Some, None, Result, Ok, Err, IsTrue}
+use Rattle.std.specs.Prelude.{◌≡◌, ◌+◌, ◌-◌, ◌++◌, ℕ, length, get_or, Bool, true, false, ◌&&◌, if◌then◌else◌, List, [], ◌∷◌, Option, Some, None, Result, Ok, Err, IsTrue}
 use Rattle.ps_meaning.specs.Names.{is_word}
 use Rattle.ps_text.specs.Positions as text
 use Rattle.ps_text.specs.declared.part.Part.{Part}
@@ -118,6 +118,11 @@ begun_behind x s = if is_done (part_of x) && is_within_token s.mode then Some s.
 pub record IsFed (byte : ℕ) (old new : Reader) (result : Result (Option Position) ReadError) : Type 0 where
   pub agrees : (more : List ℕ) →
       Agrees (answer old.lexer (parsed_by old.parser) (byte ∷ more)) (answer new.lexer (parsed_by new.parser) more) (parsed_by new.parser) result
+
+-- bytes at the front were passed: the answer to all of them is that to those that are left
+pub record HasPassed (bytes : List ℕ) (old : Reader) (left : List ℕ) (new : Reader) : Type 0 where
+  pub answer_is : answer old.lexer (parsed_by old.parser) bytes ≡ answer new.lexer (parsed_by new.parser) left
+  pub taken : new.lexer.here.offset + length left ≡ old.lexer.here.offset + length bytes
 
 -- what was returned is the answer
 abbrev pub Answers : Answer → Result (Parser × Position) ReadError → Type 0

@@ -1,12 +1,12 @@
 //! A problem's text, byte by byte.
-ghost use Rattle.std.specs.Prelude.{◌≡◌, ◌<◌, ◌≤◌, ◌+◌, ◌^◌, OnOk};
+ghost use Rattle.std.specs.Prelude.{◌≡◌, ◌<◌, ◌≤◌, ◌+◌, ◌^◌, OnOk, length};
 ghost use Rattle.ps_lex.specs.Lexing.{new_lexer};
 ghost use Rattle.ps_parse.specs.Standing.{IsParsed};
 ghost use Rattle.ps_parse.specs.Kept.{machine_of};
 ghost use Rattle.ps_parse.specs.Taking.{IsKept, CountsAtMost};
 ghost use Rattle.ps_read.specs.Answers.{nothing_parsed, parsed_by, begun_behind, is_done};
 ghost use Rattle.ps_read.specs.Answers.{part_of, ended, AgreesAtEnd, IsJudged, IsFed, IsFinished};
-ghost use Rattle.ps_read.specs.Answers.{IsReady, IsKeptIn, IsOneMore};
+ghost use Rattle.ps_read.specs.Answers.{IsReady, IsKeptIn, IsOneMore, HasPassed};
 
 use crate::{ReadError, ReadKind};
 use ps_lex::{Lexer, Position, Token};
@@ -39,6 +39,7 @@ fn end(parser: &Parser, kind: ps_text::ReadKind, place: Position) -> Result<Posi
 }
 
 // Takes a token that ended, and stops where none begins.
+#[inline(always)]
 fn judge(
     parser: &mut Parser,
     token: Option<Token>,
@@ -110,6 +111,18 @@ impl Reader {
             return Ok(Some(place));
         }
         Ok(self.begun_behind())
+    }
+
+    /// Passes the blanks and comments at the front of some bytes, where no token has begun, and
+    /// gives the bytes that are left.
+    pub(crate) fn pass<'a>(&mut self, bytes: &'a [u8]) -> &'a [u8]
+        requires ready { IsReady self.old }
+        requires room { self.old.lexer.here.offset + length bytes.now + 1 < 2 ^ 32 }
+        ensures passed { HasPassed bytes.now self.old result.now self.new }
+        ensures ready { IsReady self.new }
+        ensures shorter { length result.now ≤ length bytes.now }
+    {
+        self.lexer.pass(bytes)
     }
 
     /// At the end of the bytes: the parser, and where the text and the blanks behind it ended.

@@ -22,10 +22,12 @@ fn parse(alloc: Global, bytes: &[u8]) -> Result<(Parser, Position), ReadError>
     ensures { Answers (answer_of new_lexer nothing_parsed bytes.now) result }
 {
     let mut reader = Reader::new(alloc);
-    for byte in bytes {
+    let mut left = bytes;
+    while let [byte, more @ ..] = left {
         if let Some(place) = reader.feed(*byte)? {
             return Ok((reader.into_parser(), place));
         }
+        left = reader.pass(more);
     }
     reader.finish()
 }

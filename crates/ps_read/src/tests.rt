@@ -154,8 +154,16 @@ const MORE: [(&[u8], u32, u32); 3] = [
     (b"psat 1; end;@", 1, 13),
 ];
 
-// Lines, each with how often it stands, and what is read of them between `psat 1;` and `end;`.
-const COUNTED: [(&[(&[u8], u32)], Result<u32, (ReadKind, u32, u32)>); 8] = [
+// A formula of 128 atoms.
+const ATOMS: &[u8] =
+    b"a|b|c|d|e|f|g|h|i|j|k|l|m|n|o|p|q|r|s|t|u|v|w|x|y|z|a0|b0|c0|d0|e0|f0|g0|h0|i0|j0|k0|l0|\
+    m0|n0|o0|p0|q0|r0|s0|t0|u0|v0|w0|x0|y0|z0|a1|b1|c1|d1|e1|f1|g1|h1|i1|j1|k1|l1|m1|n1|o1|\
+    p1|q1|r1|s1|t1|u1|v1|w1|x1|y1|z1|a2|b2|c2|d2|e2|f2|g2|h2|i2|j2|k2|l2|m2|n2|o2|p2|q2|r2|\
+    s2|t2|u2|v2|w2|x2|y2|z2|a3|b3|c3|d3|e3|f3|g3|h3|i3|j3|k3|l3|m3|n3|o3|p3|q3|r3|s3|t3|u3|\
+    v3|w3|x3";
+
+// Pieces, each with how often it stands, and what is read of them between `psat 1;` and `end;`.
+const COUNTED: [(&[(&[u8], u32)], Result<u32, (ReadKind, u32, u32)>); 12] = [
     (&[(b"P(a) >= 0;\n", 100)], Ok(100)),
     (
         &[(b"P(a) >= 0;\n", 101)],
@@ -180,6 +188,16 @@ const COUNTED: [(&[(&[u8], u32)], Result<u32, (ReadKind, u32, u32)>); 8] = [
     (
         &[(b"query P(a);\n", 17), (b"P(a >= 0;\n", 1)],
         Err((ReadKind::Expected(What::Operator), 19, 5)),
+    ),
+    (&[(b"P(", 1), (ATOMS, 1), (b") >= 0;\n", 1)], Ok(1)),
+    (
+        &[(b"P(", 1), (ATOMS, 1), (b"|z3) >= 0;\n", 1)],
+        Err((ReadKind::TooManyAtoms, 2, 1)),
+    ),
+    (&[(b"P(a", 1), (b"|a", 1023), (b") >= 0;\n", 1)], Ok(1)),
+    (
+        &[(b"P(a", 1), (b"|a", 1024), (b") >= 0;\n", 1)],
+        Err((ReadKind::TooManyNodes, 2, 1)),
     ),
 ];
 
@@ -213,13 +231,13 @@ fn more_is_refused(alloc: Global) -> Result<bool, Fail> {
     Ok(true)
 }
 
-// A text of these lines.
-fn text_of(alloc: Global, lines: &[(&[u8], u32)]) -> Result<Vec<u8>, Fail> {
+// A text of these pieces.
+fn text_of(alloc: Global, pieces: &[(&[u8], u32)]) -> Result<Vec<u8>, Fail> {
     let mut text = Vec::new(alloc);
     text.extend_from_slice(b"psat 1;\n")?;
-    for (line, count) in lines {
+    for (piece, count) in pieces {
         for _ in 0..*count {
-            text.extend_from_slice(line)?;
+            text.extend_from_slice(piece)?;
         }
     }
     text.extend_from_slice(b"end;\n")?;
@@ -227,8 +245,8 @@ fn text_of(alloc: Global, lines: &[(&[u8], u32)]) -> Result<Vec<u8>, Fail> {
 }
 
 fn counts_are_refused(alloc: Global) -> Result<bool, Fail> {
-    for (lines, expected) in COUNTED {
-        let text = text_of(alloc, lines)?;
+    for (pieces, expected) in COUNTED {
+        let text = text_of(alloc, pieces)?;
         if read_all(alloc, text.as_slice())? != expected {
             return Ok(false);
         }

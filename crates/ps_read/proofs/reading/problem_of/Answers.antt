@@ -1,4 +1,4 @@
-use Rattle.std.proofs.Common.{◌≡◌, ◌<◌, ◌≤◌, length, refl, sym, ap, ◌∙◌}
+use Rattle.std.proofs.Common.{refl, sym, ◌∙◌}
 use Rattle.ps_problem.specs.Builds.{refused_of}
 use Rattle.ps_read.specs.Answers.{parsed_by}
 use Rattle.ps_read.proofs.Returned.{excess_least, excess_below, excess_told}

@@ -1,4 +1,4 @@
-use Rattle.std.proofs.Common.{◌≡◌, subst, sym, ◌∙◌}
+use Rattle.std.proofs.Common.{subst}
 use Rattle.ps_lex.specs.Lexing.{new_lexer}
 use Rattle.ps_read.specs.Answers.{answer, nothing_parsed, parsed_by, Answers, IsBuiltOf}
 use Rattle.ps_read.proofs.Steps.{passed_on}

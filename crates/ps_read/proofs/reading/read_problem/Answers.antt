@@ -1,4 +1,4 @@
-use Rattle.std.proofs.Common.{◌≡◌, subst, sym, ◌∙◌}
+use Rattle.std.proofs.Common.{subst, sym}
 use Rattle.std.specs.Prelude.{Ok}
 use Rattle.ps_read.specs.Reads.{ReadsEach, RefusesEach}
 use Rattle.ps_read.specs.Answers.{IsRight}

@@ -1,4 +1,4 @@
-use Rattle.std.proofs.Common.{◌≡◌, ◌<◌, ◌≤◌, length, subst, sym, ◌∙◌, refl, arith}
+use Rattle.std.proofs.Common.{subst, refl}
 use Rattle.ps_read.specs.Answers.{IsRight}
 use Rattle.ps_read.proofs.Steps.{passed_on}
 use Rattle.ps_read.proofs.Returned.{whole_told, reads_each_whole, reads_none_whole, refuses_each_whole, refuses_none_whole, more_told, all_spell}

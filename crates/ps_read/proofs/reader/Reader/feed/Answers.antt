@@ -1,8 +1,8 @@
-use Rattle.std.proofs.Common.{◌≡◌, ◌+◌, ◌≤◌, ◌∷◌, Some, sym, subst, ap, ◌∙◌, arith}
+use Rattle.std.proofs.Common.{◌∷◌, sym, subst, ap, ◌∙◌}
 use Rattle.std.specs.Prelude.{Ok}
 use Rattle.ps_read.specs.Answers.{answer, parsed_by, Agrees, IsKeptIn}
 use Rattle.ps_read.proofs.Words.{kept_ended}
-use Rattle.ps_read.proofs.Steps.{fed, fed_behind, ready_behind, offset_behind, at_most, passed_on}
+use Rattle.ps_read.proofs.Steps.{fed, fed_behind, ready_behind, offset_behind, passed_on}
 use Rattle.ps_read.proofs.reader.Reader.feed.Goals as goal
 
 pub judge-requires-clause-word : goal.judge-requires-clause-word

@@ -1,8 +1,7 @@
-use Rattle.std.proofs.Common.{◌≡◌, [], sym, subst, ap, ◌∙◌}
+use Rattle.std.proofs.Common.{[], subst, ap, ◌∙◌}
 use Rattle.std.specs.Prelude.{Ok}
 use Rattle.ps_text.specs.declared.kind.ReadKind.TheVariants.{EndMissing}
-use Rattle.ps_read.specs.Answers.{answer, ended, parsed_by, Agrees, AgreesAtEnd, Answers, IsKeptIn}
-use Rattle.ps_read.proofs.Words.{kept_last}
+use Rattle.ps_read.specs.Answers.{answer, ended, parsed_by, Agrees, AgreesAtEnd}
 use Rattle.ps_read.proofs.Steps.{finished, finished_err, ended_err, passed_on}
 use Rattle.ps_read.proofs.reader.Reader.finish.Goals as goal
 

@@ -1,4 +1,3 @@
-use Rattle.std.proofs.Common.{ap}
 use Rattle.ps_read.proofs.Steps.{ready_first}
 use Rattle.ps_read.proofs.reader.Reader.new.Goals as goal
 
