@@ -1,0 +1,5 @@
+pub mod Coming
+pub mod Settled
+pub mod Entered
+pub mod Priced
+pub mod Begun

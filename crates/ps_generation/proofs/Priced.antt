@@ -1,0 +1,85 @@
+-- What a pricing of the table's dual finds, as an event or an end of the phase.
+use Rattle.std.proofs.Common.{pos, List, length, inl, inr, sym, ◌∙◌, subst}
+use Rattle.ps_meaning.specs.Formula.{World}
+use Rattle.ps_steps.specs.Constraints.{Constraint}
+use Rattle.ps_steps.specs.Steps.{Step, Refutes}
+use Rattle.ps_forms.specs.Forms.{form_of, first_known}
+use Rattle.ps_problem.specs.Problems.{AreParts}
+use Rattle.ps_table.specs.declared.costs.Costs.{Costs}
+use Rattle.ps_frac.specs.declared.wide.Op.{Op}
+use Rattle.ps_rational.specs.Rational.{Rational}
+use Rattle.ps_table.specs.declared.place.Place.{Place}
+use Rattle.ps_table.specs.declared.place.WideAt.{WideAt}
+use Rattle.ps_table.specs.Tableau.{rows_of as table_rows, entry_at, basic_at}
+use Rattle.ps_table.specs.Pricing.{cost_at}
+use Rattle.ps_table.specs.Places.{IsWide, IsWideAt, HomePlaces, MultiplierPlace}
+use Rattle.ps_bland.specs.Rules.{simplex_of}
+use Rattle.ps_multiples.specs.Multiples.{DualPlaces}
+use Rattle.ps_multiples.specs.Multiples.DualPlaces.{of_home, of_multiplier}
+use Rattle.ps_answer.specs.declared.answer.Cause.TheVariants.{Conflicts, Wide}
+use Rattle.ps_answer.specs.declared.answer.Dual.{Dual}
+use Rattle.ps_certificate.specs.Certificates.{dual_of}
+use Rattle.ps_claims.specs.declared.claim_kind.ClaimKind.{ClaimKind}
+use Rattle.ps_runs.specs.Certificates.{HaveSameNumbers, table_dual}
+use Rattle.ps_runs.specs.Runs.{setting_of, IsAsked, dual_at}
+use Rattle.ps_runs.proofs.Priced.{same_goal, priced_greatest, priced_cut, refuted_most}
+use Rattle.ps_phases.specs.Licences.{IsOutOfConflicts, IsTooWide}
+use Rattle.ps_phases.proofs.Licensing.{multiplier_due, dual_due}
+use Rattle.ps_phases.proofs.TableEnds.{dual_of_stage, spent_at_rest}
+use Rattle.ps_pricing.specs.Pricings.{IsFound, IsRefuted, IsSpent}
+use Rattle.ps_generation.specs.declared.state.State.{State}
+use Rattle.ps_generation.specs.declared.end.End.TheVariants.{NoneAbove, Open}
+use Rattle.ps_generation.specs.Phases.{Limited, stage_of, IsInPhase, IsEnd}
+use Rattle.ps_generation.specs.Rounds.{asked_of, IsAtRest, IsPricedIn}
+use Rattle.ps_generation.proofs.Coming.{come_none}
+
+module _ (kind : ClaimKind) (r : Limited) (costs : Costs) (old : State) (phase : IsInPhase kind r.subject costs old) (rests : IsAtRest kind r.subject old) where
+  refused_at : (place : Place) (op : Op) (a b : Rational) → DualPlaces old.table costs place op a b → IsWide place op a b
+      → IsTooWide kind r.subject (stage_of old) old.left (record { place = place; op = op; left = a; right = b })
+  refused_at place op a b (of_home m p o x y low there) wide =
+      let w : WideAt = record { place = place; op = op; left = a; right = b } in
+      multiplier_due r.subject old.pool old.table phase.table kind old.left m w rests low
+      (subst (λ (c : Costs). IsWideAt (HomePlaces old.table c m) w) phase.costs_are (record { at = there; wide = wide }))
+  refused_at place op a b (of_multiplier p o x y there) wide =
+      let w : WideAt = record { place = place; op = op; left = a; right = b } in
+      dual_due r.subject old.pool old.table phase.table kind old.left w rests
+      (subst (λ (c : Costs). IsWideAt (MultiplierPlace (table_rows old.table) (cost_at c) (basic_at old.table) (entry_at old.table)) w) phase.costs_are (record { at = there; wide = wide }))
+
+  -- a number of the dual is too wide
+  pub dual_wide : (at : WideAt) → IsWideAt (DualPlaces old.table costs) at → IsEnd kind r old old (Open (Wide at))
+  dual_wide at wide = inl (record { come = come_none kind r costs old phase; licensed = refused_at at.place at.op at.left at.right wide.at wide.wide })
+
+  module _ (d : Dual) (same : HaveSameNumbers (dual_of d) (table_dual kind (setting_of r.subject) (simplex_of old.table) (cost_at costs)))
+      (are : AreParts r.subject.parts) (asked : IsAsked kind r.subject.parts r.subject.query) where
+    same_at : HaveSameNumbers (dual_of d) (dual_at kind r.subject (stage_of old) (entry_at old.table))
+    same_at = dual_of_stage r.subject old.pool old.table phase.table kind costs (dual_of d) phase.costs_are same
+
+    pub found_priced : (w : World) → IsFound kind (asked_of r) d w → IsPricedIn kind r old w
+    found_priced w found =
+        elim found.greatest as (λ _. IsPricedIn kind r old w) [
+          | inl most ↦ priced_greatest kind r.subject r.limits.conflicts (stage_of old) (entry_at old.table) (dual_of d) same_at are asked rests w found.sized found.above most.at
+          | inr cut ↦
+              priced_cut kind r.subject r.limits.conflicts (stage_of old) (entry_at old.table) (dual_of d) same_at are asked rests w found.sized found.above
+              cut.least cut.steps cut.above cut.spent
+        ]
+
+    pub refuted_end : (e : Dual) → IsRefuted kind r.subject d e → IsEnd kind r old old (NoneAbove e)
+    refuted_end e refuted = (
+      come_none kind r costs old phase,
+      record {
+        rests = rests;
+        none = refuted_most kind r.subject r.limits.conflicts (stage_of old) (entry_at old.table) (dual_of d) same_at are asked rests e.steps refuted.steps;
+        numbers = record { top = refuted.top ∙ same_at.top; head = refuted.head ∙ same_at.head; rows = refuted.rows ∙ same_at.rows };
+        steps =
+            subst (λ (c : Constraint). Refutes (length r.subject.parts.nodes) (first_known (form_of r.subject.parts.nodes) c) e.steps)
+            (same_goal (pos 1) kind r.subject (dual_of d) (dual_at kind r.subject (stage_of old) (entry_at old.table)) same_at) refuted.steps;
+      },
+    )
+
+    pub spent_end : (goal : Constraint) (steps : List Step) → IsSpent kind (asked_of r) d goal steps → IsEnd kind r old old (Open (Conflicts r.limits.conflicts goal steps))
+    spent_end goal steps spent = record {
+      come = come_none kind r costs old phase;
+      licensed =
+          subst (λ (c : Constraint). IsOutOfConflicts kind r.subject r.limits.conflicts (stage_of old) r.limits.conflicts c steps) (sym spent.goal_is)
+          (spent_at_rest kind r.subject r.limits.conflicts (stage_of old) (entry_at old.table) (dual_of d) same_at rests steps spent.search);
+    }

@@ -1,0 +1,40 @@
+use Rattle.std.proofs.Common.{rules, ap, arith, length}
+use Rattle.ps_generation.specs.Rounds.{HasRested, HasGoneRound}
+use Rattle.ps_generation.specs.Phases.{IsEnd}
+use Rattle.ps_generation.proofs.Coming.{come_on, end_on, left_so}
+use Rattle.ps_generation.proofs.phases.run_phase.Goals as goal
+
+pub loop-end-init : goal.loop-end-init
+loop-end-init c =
+    let rested : HasRested c.args.kind c.args.setting.now c.args.state.now c.settled.new.state = search rules in
+    let left = c.settled.ensures.left in
+    let pool = ap (λ ws. length ws) c.settled.ensures.pool in
+    record { come = rested.come; phase = c.settled.ensures.phase; rests = rested.rests; room = omega (arith, left, pool) }
+
+pub round-requires-clause-room : goal.round-requires-clause-room
+round-requires-clause-room c = record { room = let a = c.loop-end.invariant.room in let b = c.requires.room.room in omega (arith, a, b) }
+
+pub returns-in-Some-2-clause-end : goal.returns-in-Some-2-clause-end
+returns-in-Some-2-clause-end c =
+    let end : IsEnd c.args.kind c.args.setting.now c.loop-end.state c.round.new.state c.in-Some-2.end = search rules in
+    end_on c.args.kind c.args.setting.now c.args.state.now c.loop-end.state c.round.new.state c.loop-end.invariant.come c.in-Some-2.end end
+
+pub returns-in-Some-2-clause-left : goal.returns-in-Some-2-clause-left
+returns-in-Some-2-clause-left c =
+    left_so c.args.kind c.args.setting.now.subject c.round.new.costs c.args.state.now c.round.new.state c.in_ok-end-2.ensures.phase
+    (let a = c.loop-end.invariant.room in let b = c.in_ok-end-2.ensures.room in omega (arith, a, b))
+
+pub loop-end-smaller : goal.loop-end-smaller
+loop-end-smaller c =
+    let gone : HasGoneRound c.args.kind c.args.setting.now c.loop-end.state c.round.new.state = search rules in
+    gone.fewer
+
+pub loop-end-preserved : goal.loop-end-preserved
+loop-end-preserved c =
+    let gone : HasGoneRound c.args.kind c.args.setting.now c.loop-end.state c.round.new.state = search rules in
+    record {
+      come = come_on c.args.kind c.args.setting.now c.args.state.now c.loop-end.state c.round.new.state c.loop-end.invariant.come gone.come;
+      phase = c.in_ok-end-2.ensures.phase;
+      rests = gone.rests;
+      room = let a = gone.room in let b = c.loop-end.invariant.room in omega (arith, a, b);
+    }

@@ -1,0 +1,52 @@
+use Rattle.std.proofs.Common.{rules, ◌≡◌, ℤ, List, [], ◌∷◌, ◌++◌, subst}
+use Rattle.ps_pool.specs.declared.event.Event.TheVariants.{Priced}
+use Rattle.ps_table.specs.Tableau.{IsAdded, StandsWith}
+use Rattle.ps_table.specs.Places.{IsWideAt, NewPlaces}
+use Rattle.ps_answer.specs.declared.answer.Cause.TheVariants.{Wide}
+use Rattle.ps_runs.specs.Rows.{entries_of, world_cost}
+use Rattle.ps_runs.specs.Runs.{setting_of}
+use Rattle.ps_generation.specs.declared.end.End.TheVariants.{Open}
+use Rattle.ps_generation.proofs.Entered.{not_there, pending_wide, entered_phase, entered}
+use Rattle.ps_generation.proofs.pricing.enter.Goals as goal
+
+pub returns-in-Err-Wide-clause-end : goal.returns-in-Err-Wide-clause-end
+returns-in-Err-Wide-clause-end c =
+    let old = c.args.state.now in
+    let r = c.args.setting.now in
+    let same : c.add_world.new.self ≡ old.table = search rules in
+    let longer : c.push.new.self ≡ old.trace ++ Priced c.args.world ∷ [] = search rules in
+    let entries : c.deref.result.now ≡ entries_of (setting_of r.subject) c.args.world = search rules in
+    let wide : IsWideAt (NewPlaces old.table c.deref.result.now) c.in-Err-Wide.at = search rules in
+    let is : c.too_wide.result ≡ Open (Wide c.in-Err-Wide.at) = search rules in
+    rw is (pending_wide c.args.kind r c.args.costs.now old c.args.world c.requires.phase c.requires.priced c.add_world.new.self c.push.new.self c.deref.result.now
+    c.in-Err-Wide.at same longer entries wide)
+
+pub add_to_pool-requires-clause-fresh : goal.add_to_pool-requires-clause-fresh
+add_to_pool-requires-clause-fresh c = not_there c.args.kind c.args.setting.now c.args.costs.now c.args.state.now c.args.world c.requires.phase c.requires.priced
+
+pub returns-clause-phase : goal.returns-clause-phase
+returns-clause-phase c =
+    let old = c.args.state.now in
+    let r = c.args.setting.now in
+    let longer : c.push.new.self ≡ old.trace ++ Priced c.args.world ∷ [] = search rules in
+    let entries : c.deref.result.now ≡ entries_of (setting_of r.subject) c.args.world = search rules in
+    let more : c.add_to_pool.new.pool ≡ old.pool ++ c.args.world ∷ [] = search rules in
+    let costs : c.push-2.new.self ≡ c.args.costs.now.worlds ++ world_cost c.args.kind (setting_of r.subject) c.args.world ∷ [] = search rules in
+    let added : IsAdded c.deref.result.now old.table c.add_world.new.self = search rules in
+    let stands : StandsWith c.deref.result.now old.table c.add_world.new.self = search rules in
+    entered_phase c.args.kind r c.args.costs.now old c.args.world c.requires.phase c.requires.priced c.add_world.new.self
+    (subst (λ (es : List ℤ). IsAdded es old.table c.add_world.new.self) entries added) (subst (λ (es : List ℤ). StandsWith es old.table c.add_world.new.self) entries stands)
+    c.rows-sound.ensures.tableau c.add_to_pool.new.pool c.push.new.self c.push-2.new.self more longer costs
+
+pub returns-clause-end : goal.returns-clause-end
+returns-clause-end c =
+    let old = c.args.state.now in
+    let r = c.args.setting.now in
+    let longer : c.push.new.self ≡ old.trace ++ Priced c.args.world ∷ [] = search rules in
+    let entries : c.deref.result.now ≡ entries_of (setting_of r.subject) c.args.world = search rules in
+    let more : c.add_to_pool.new.pool ≡ old.pool ++ c.args.world ∷ [] = search rules in
+    let added : IsAdded c.deref.result.now old.table c.add_world.new.self = search rules in
+    let stands : StandsWith c.deref.result.now old.table c.add_world.new.self = search rules in
+    entered c.args.kind r c.args.costs.now old c.args.world c.requires.phase c.requires.priced c.add_world.new.self
+    (subst (λ (es : List ℤ). IsAdded es old.table c.add_world.new.self) entries added) (subst (λ (es : List ℤ). StandsWith es old.table c.add_world.new.self) entries stands)
+    c.rows-sound.ensures.tableau c.add_to_pool.new.pool c.push.new.self more longer

@@ -1,0 +1,28 @@
+use Rattle.std.proofs.Common.{rules, ◌≡◌, w8, ap, ◌∙◌, FitsSigned}
+use Rattle.std.proofs.lemmas.Int.{to_z-of_z}
+use Rattle.ps_problem.specs.Problems.{AreParts, bounds_in}
+use Rattle.ps_formula.specs.Nodes.{truths}
+use Rattle.ps_columns.specs.Columns.{column_over, cost_over}
+use Rattle.ps_runs.specs.Runs.{given_in, both_in}
+use Rattle.ps_phases.specs.Tables.{phase_of}
+use Rattle.ps_phases.proofs.NodeColumns.{column_is, cost_is}
+use Rattle.ps_generation.proofs.setting.Setting.column.Goals as goal
+
+pub returns : goal.returns
+returns c =
+    let s = c.args.self.now.subject in
+    let are : AreParts s.parts = search rules in
+    let nodes : c.formulas.result.now ≡ s.parts.nodes = search rules in
+    let bounds : c.bound_list-bounds.result.now ≡ bounds_in s.parts.sentences = search rules in
+    let given : c.self.inside.given ≡ given_in s.query = search rules in
+    let both : c.self.inside.both ≡ both_in s.query = search rules in
+    let first : c.deref.result.now ≡ truths s.parts.nodes c.args.world.now =
+    c.deref.ensures.value ∙ c.in_ok-values.ensures.truths ∙ ap (λ ns. truths ns c.args.world.now) nodes in
+    let second : c.deref-2.result.now ≡ truths s.parts.nodes c.args.world.now =
+    c.deref-2.ensures.value ∙ c.in_ok-values.ensures.truths ∙ ap (λ ns. truths ns c.args.world.now) nodes in
+    let entries : c.in_ok-column_of.field-0.items ≡ column_over (truths s.parts.nodes c.args.world.now) (bounds_in s.parts.sentences) (given_in s.query) =
+    c.in_ok-column_of.ensures ∙ (λ i. column_over (first i) (bounds i) (given i)) in
+    let cost : c.world_cost.result ≡ cost_over (phase_of c.args.kind) (both_in s.query) (truths s.parts.nodes c.args.world.now) =
+    c.world_cost.ensures.value ∙ (λ i. cost_over (c.phase_of.ensures i) (both i) (second i)) in
+    let fits : FitsSigned w8 c.world_cost.result = search rules in
+    record { entries = entries ∙ column_is s c.args.world.now are; cost = to_z-of_z w8 c.world_cost.result fits ∙ cost ∙ cost_is c.args.kind s c.args.world.now c.requires.asked }

@@ -1,0 +1,58 @@
+use Rattle.std.proofs.Common.{rules, ◌≡◌, ap}
+use Rattle.ps_rule.specs.Rule.{IsMoving, IsResting}
+use Rattle.ps_table.specs.Pricing.{cost_at}
+use Rattle.ps_bland.specs.Rules.{simplex_of, stage, IsDone}
+use Rattle.ps_bland.specs.Ends.{IsDueWide}
+use Rattle.ps_answer.specs.declared.answer.Cause.TheVariants.{Wide}
+use Rattle.ps_phases.specs.Tables.{phase_of}
+use Rattle.ps_generation.specs.declared.end.End.TheVariants.{Open}
+use Rattle.ps_generation.specs.Phases.{IsInPhase}
+use Rattle.ps_generation.proofs.Settled.{settled_phase, settled_rest, settled_done, settled_out, settled_wide}
+use Rattle.ps_generation.proofs.settling.settled.Goals as goal
+use Rattle.ps_generation.proofs.settling.settled.Goals.{After-pivoted}
+
+phase_kept : (c : After-pivoted) → IsInPhase c.args.kind c.args.setting.now.subject c.args.costs.now c.pivoted.new.state
+phase_kept c =
+    settled_phase c.args.kind c.args.setting.now c.args.costs.now c.args.state.now c.pivoted.new.state c.requires.phase c.pivoted.ensures.pool c.pivoted.ensures.ran
+    c.pivoted.ensures.tableau c.pivoted.ensures.ready
+
+pub returns-in-Ok-AtRest-clause-phase : goal.returns-in-Ok-AtRest-clause-phase
+returns-in-Ok-AtRest-clause-phase c = phase_kept (goal.at.returns-in-Ok-AtRest-clause-phase c).After-pivoted
+
+pub returns-in-Ok-AtRest-clause-end : goal.returns-in-Ok-AtRest-clause-end
+returns-in-Ok-AtRest-clause-end c =
+    let rest : IsResting (stage (phase_of c.args.kind)) (simplex_of c.pivoted.new.state.table) (cost_at c.args.costs.now) = search rules in
+    settled_rest c.args.kind c.args.setting.now c.args.costs.now c.args.state.now c.pivoted.new.state c.requires.phase c.pivoted.ensures.pool c.pivoted.ensures.ran
+    c.pivoted.ensures.tableau c.pivoted.ensures.ready rest
+
+pub returns-in-Ok-Feasible-clause-phase : goal.returns-in-Ok-Feasible-clause-phase
+returns-in-Ok-Feasible-clause-phase c = phase_kept (goal.at.returns-in-Ok-Feasible-clause-phase c).After-pivoted
+
+pub returns-in-Ok-Feasible-clause-end : goal.returns-in-Ok-Feasible-clause-end
+returns-in-Ok-Feasible-clause-end c =
+    let done : IsDone (phase_of c.args.kind) c.pivoted.new.state.table = rw c.in-Ok-Feasible.field-0-is at c.in-Ok-Feasible.ensures.end in
+    settled_done c.args.kind c.args.setting.now c.args.costs.now c.args.state.now c.pivoted.new.state c.requires.phase c.pivoted.ensures.pool c.pivoted.ensures.ran
+    c.pivoted.ensures.tableau c.pivoted.ensures.ready done
+
+pub returns-in-Ok-OutOfPivots-clause-phase : goal.returns-in-Ok-OutOfPivots-clause-phase
+returns-in-Ok-OutOfPivots-clause-phase c = phase_kept (goal.at.returns-in-Ok-OutOfPivots-clause-phase c).After-pivoted
+
+pub returns-in-Ok-OutOfPivots-clause-end : goal.returns-in-Ok-OutOfPivots-clause-end
+returns-in-Ok-OutOfPivots-clause-end c =
+    let out : IsMoving (stage (phase_of c.args.kind)) (simplex_of c.pivoted.new.state.table) (cost_at c.args.costs.now) × (c.pivoted.new.state.left ≡ 0) = search rules in
+    let limit : c.limits.result.pivots ≡ c.args.setting.now.limits.pivots = ap (λ l. l.pivots) c.limits.ensures.value in
+    settled_out c.args.kind c.args.setting.now c.args.costs.now c.args.state.now c.pivoted.new.state c.requires.phase c.pivoted.ensures.pool c.pivoted.ensures.ran
+    c.pivoted.ensures.tableau c.pivoted.ensures.ready c.limits.result.pivots limit out
+
+pub returns-in-Err-Wide-clause-phase : goal.returns-in-Err-Wide-clause-phase
+returns-in-Err-Wide-clause-phase c = phase_kept (goal.at.returns-in-Err-Wide-clause-phase c).After-pivoted
+
+pub returns-in-Err-Wide-clause-end : goal.returns-in-Err-Wide-clause-end
+returns-in-Err-Wide-clause-end c =
+    let due : IsDueWide (phase_of c.args.kind) c.args.costs.now c.pivoted.new.state.table c.pivoted.new.state.left c.in-Err-Wide.at = search rules in
+    let is : c.too_wide.result ≡ Open (Wide c.in-Err-Wide.at) = search rules in
+    rw is (settled_wide c.args.kind c.args.setting.now c.args.costs.now c.args.state.now c.pivoted.new.state c.requires.phase c.pivoted.ensures.pool
+    c.pivoted.ensures.ran c.pivoted.ensures.tableau c.pivoted.ensures.ready c.in-Err-Wide.at due)
+
+pub returns-in-Err-NoMemory-clause-phase : goal.returns-in-Err-NoMemory-clause-phase
+returns-in-Err-NoMemory-clause-phase c = phase_kept (goal.at.returns-in-Err-NoMemory-clause-phase c).After-pivoted

@@ -1,0 +1,119 @@
+-- How a phase of a run goes to its end, from one state of the solver to another.
+use Rattle.std.specs.Prelude.{◌≡◌, ◌≢◌, ◌+◌, ◌≤◌, ◌++◌, ◌⊎◌, ℕ, pos, None, List, [], ◌∷◌, length}
+use Rattle.ps_meaning.specs.Formula.{World}
+use Rattle.ps_rational.specs.Rational.{Rational}
+use Rattle.ps_rule.specs.Rule.{IsFeasible}
+use Rattle.ps_steps.specs.Steps.{Refutes}
+use Rattle.ps_forms.specs.Forms.{form_of, first_known}
+use Rattle.ps_sat.specs.Limits.{most_conflicts}
+use Rattle.ps_pool.specs.declared.event.Event.{Event}
+use Rattle.ps_pool.specs.declared.event.Event.TheVariants.{Priced}
+use Rattle.ps_table.specs.declared.costs.Costs.{Costs}
+use Rattle.ps_table.specs.declared.place.WideAt.{WideAt}
+use Rattle.ps_table.specs.Tableau.{entry_at}
+use Rattle.ps_bland.specs.Rules.{simplex_of, IsDone}
+use Rattle.ps_bland.specs.Ready.{IsReady}
+use Rattle.ps_answer.specs.declared.answer.Cause.{Cause}
+use Rattle.ps_answer.specs.declared.answer.Cause.TheVariants.{Wide}
+use Rattle.ps_answer.specs.declared.answer.Dual.{Dual}
+use Rattle.ps_claims.specs.declared.claim_kind.ClaimKind.{ClaimKind}
+use Rattle.ps_claims.specs.declared.claim_kind.ClaimKind.TheVariants.{Nothing}
+use Rattle.ps_runs.specs.Certificates.{HaveSameNumbers}
+use Rattle.ps_runs.specs.Runs.{Subject, setting_of, atoms_of, goal_at_least, Stage, IsStart, IsPool, dual_at, AreAtMost, IsRestingAt, IsPricedBy}
+use Rattle.ps_phases.specs.Answers.{dual_of}
+use Rattle.ps_phases.specs.Tables.{phase_of, costs_for, IsRunTable, stage_at, IsUnderWay}
+use Rattle.ps_phases.specs.Licences.{IsLicensed, IsColumnTooWide}
+use Rattle.ps_printed.specs.Printed.{IsPrintedDual, IsPrintedCause}
+use Rattle.ps_generation.specs.declared.limits.Limits.{Limits}
+use Rattle.ps_generation.specs.declared.limits.TheConstants.{MOST_PIVOTS}
+use Rattle.ps_generation.specs.declared.state.State.{State}
+use Rattle.ps_generation.specs.declared.end.End.{End}
+use Rattle.ps_generation.specs.declared.end.End.TheVariants.{Feasible, NoneAbove, Open}
+
+-- ---- what a run is over
+-- the limits are those that words may set, or less
+pub record AreLimits (limits : Limits) : Type 0 where
+  pub pivots : limits.pivots ≤ MOST_PIVOTS
+  pub conflicts : limits.conflicts ≤ most_conflicts
+
+-- a problem with a query, or none, and the limits of its run
+pub record Limited : Type 0 where
+  pub subject : Subject
+  pub limits : Limits
+
+-- ---- states
+-- the stage at which a run stands
+abbrev pub stage_of : State → Stage
+stage_of state = stage_at state.pool state.table
+
+-- table, pool and costs are those of a run in this phase
+pub record IsInPhase (kind : ClaimKind) (s : Subject) (costs : Costs) (state : State) : Type 0 where
+  pub table : IsRunTable (setting_of s) state.pool state.table
+  pub pool_kept : IsPool (atoms_of s) state.pool
+  pub costs_are : costs ≡ costs_for kind (setting_of s) state.pool
+  pub ready : IsReady (phase_of kind) costs state.table
+
+-- with so many worlds and pivots left a phase has room for its columns
+abbrev pub most_columns : ℕ
+most_columns = 1000010
+
+-- worlds and pivots left are together at most so many
+pub record HasRoom (most : ℕ) (state : State) : Type 0 where
+  pub room : length state.pool + state.left ≤ most
+
+-- a run at its start: the table of the homes, no world, no event, and all pivots left
+pub record IsNewState (r : Limited) (state : State) : Type 0 where
+  pub table : IsRunTable (setting_of r.subject) state.pool state.table
+  pub start : IsStart r.subject (stage_of state)
+  pub trace : state.trace ≡ []
+  pub left : state.left ≡ r.limits.pivots
+
+-- a phase has come from one state to another, lawfully
+pub record HasCome (kind : ClaimKind) (r : Limited) (old new : State) : Type 0 where
+  pub way : IsUnderWay kind r.subject r.limits.conflicts (stage_of old) old.left old.trace new.pool new.table new.trace new.left
+
+-- ---- ends
+-- the table rests, its dual's combination is above 0 in no world, and the steps refute that it is
+pub record IsDualEnd (kind : ClaimKind) (s : Subject) (g : Stage) (X : ℕ → ℕ → Rational) (d : Dual) : Type 0 where
+  pub rests : IsRestingAt kind s g X
+  pub none : AreAtMost kind s g X (pos 0)
+  pub numbers : HaveSameNumbers (dual_of d) (dual_at kind s g X)
+  pub steps : Refutes (length s.parts.nodes) (first_known (form_of s.parts.nodes) (goal_at_least (pos 1) kind s (dual_at kind s g X))) d.steps
+
+-- a world was priced, and its column is too wide: its event is there, and it is pending
+pub record IsPendingEnd (kind : ClaimKind) (r : Limited) (old new : State) (at : WideAt) : Type 0 where
+  pub trace : List Event
+  pub world : World
+  pub appended : new.trace ≡ trace ++ Priced world ∷ []
+  pub way : IsUnderWay kind r.subject r.limits.conflicts (stage_of old) old.left old.trace new.pool new.table trace new.left
+  pub priced : IsPricedBy kind r.subject r.limits.conflicts (stage_of new) (entry_at new.table) world
+  pub wide : IsColumnTooWide r.subject (stage_of new) world at
+
+-- the phase is open where it has come to, by a licence
+pub record IsOpenEnd (kind : ClaimKind) (r : Limited) (old new : State) (cause : Cause) : Type 0 where
+  pub come : HasCome kind r old new
+  pub licensed : IsLicensed kind r.subject r.limits.pivots r.limits.conflicts (stage_of new) new.left None cause
+
+-- why the phase is open: where it has come to, or with a pending world
+abbrev pub IsOpen : ClaimKind → Limited → State → State → Cause → Type 0
+IsOpen kind r old new (Wide at) = IsOpenEnd kind r old new (Wide at) ⊎ IsPendingEnd kind r old new at
+IsOpen kind r old new cause = IsOpenEnd kind r old new cause
+
+-- how a phase ends
+abbrev pub IsEnd : ClaimKind → Limited → State → State → End → Type 0
+IsEnd kind r old new Feasible = HasCome kind r old new × IsDone (phase_of kind) new.table
+IsEnd kind r old new (NoneAbove d) = HasCome kind r old new × IsDualEnd kind r.subject (stage_of new) (entry_at new.table) d
+IsEnd kind r old new (Open cause) = IsOpen kind r old new cause
+
+-- what an end shows can be printed
+abbrev pub IsPrintedEnd : End → Type 0
+IsPrintedEnd Feasible = Unit {0}
+IsPrintedEnd (NoneAbove d) = IsPrintedDual d
+IsPrintedEnd (Open cause) = IsPrintedCause cause
+
+-- where the state is left: the table is one of the run, in a side feasible, and there is as much room as before but for one world
+pub record IsLeft (kind : ClaimKind) (s : Subject) (old new : State) : Type 0 where
+  pub table : IsRunTable (setting_of s) new.pool new.table
+  pub pool_kept : IsPool (atoms_of s) new.pool
+  pub feasible : kind ≢ Nothing → IsFeasible (simplex_of new.table)
+  pub room : length new.pool + new.left ≤ length old.pool + old.left + 1

@@ -1,0 +1,105 @@
+//! The pricing of a table at rest.
+ghost use Rattle.std.specs.Prelude.{◌≡◌, ◌≤◌, ◌<◌, ◌+◌, ◌++◌, ◌∷◌, [], ℕ, length};
+ghost use Rattle.std.specs.Prelude.{IfOk, IfSome};
+ghost use Rattle.ps_pool.specs.Worlds.{HasNumber};
+ghost use Rattle.ps_pool.specs.declared.pool.TheConstants.{MOST_WORLDS};
+ghost use Rattle.ps_runs.specs.Runs.{IsAsked};
+ghost use Rattle.ps_generation.specs.Phases.{IsInPhase, IsPrintedEnd, most_columns};
+ghost use Rattle.ps_generation.specs.Rounds.{IsAtRest, IsPricedIn, IsEntered};
+
+use crate::column::Column;
+use crate::end::{End, too_wide};
+use crate::setting::Setting;
+use crate::state::State;
+use ps_answer::Cause;
+use ps_claims::ClaimKind;
+use ps_formula::World;
+use ps_io::NoMemory;
+use ps_pool::{Event, Pool, PoolError};
+use ps_pricing::Pricing;
+use ps_table::{Costs, TableError};
+use std::alloc::Global;
+
+/// Adds a world that isn't there to the pool.
+fn add_to_pool(pool: &mut Pool, world: World) -> Result<(), NoMemory>
+    requires room { length pool.old < MOST_WORLDS }
+    requires fresh { (at : ℕ) → HasNumber pool.old world at → ⊥ }
+    ensures { IfOk result (λ _. pool.new ≡ pool.old ++ world ∷ []) }
+{
+    match pool.add(world) {
+        Ok(_) => Ok(()),
+        Err(PoolError::NoMemory) => Err(NoMemory),
+        Err(PoolError::Present { at: _ }) => unreachable!(),
+    }
+}
+
+/// Enters a priced world: its event, its column with its cost, and its place in the pool. Where a
+/// number of its column is too wide its event alone is there, and the phase ends.
+fn enter(
+    alloc: Global,
+    setting: &Setting<'_>,
+    kind: ClaimKind,
+    state: &mut State,
+    costs: &mut Costs,
+    world: World,
+) -> Result<Option<End>, NoMemory>
+    requires asked { IsAsked kind setting.now.subject.parts setting.now.subject.query }
+    requires phase { IsInPhase kind setting.now.subject costs.old state.old }
+    requires priced { IsPricedIn kind setting.now state.old world }
+    requires room { length state.old.pool ≤ most_columns }
+    ensures phase { IfOk result
+        (λ _. IsInPhase kind setting.now.subject costs.new state.new) }
+    ensures room { IfOk result (λ _.
+        length state.new.pool + state.new.left ≤ length state.old.pool + state.old.left + 1) }
+    ensures end { IfOk result (IsEntered kind setting.now state.old state.new) }
+    ensures printed { IfOk result (λ end. IfSome end IsPrintedEnd) }
+{
+    let Column { entries, cost } = setting.column(alloc, kind, &world)?;
+    state.trace.push(Event::Priced {
+        world: world.copy(alloc)?,
+    })?;
+    match state.table.add_world(&entries) {
+        Ok(_) => {}
+        Err(TableError::Wide(at)) => return Ok(Some(too_wide(at))),
+        Err(TableError::NoMemory) => return Err(NoMemory),
+    }
+    let _sound = state.table.rows();
+    add_to_pool(&mut state.pool, world)?;
+    costs.worlds.push(cost)?;
+    Ok(None)
+}
+
+/// The pricing of a table at rest: a world enters, or there is an end.
+pub(crate) fn priced(
+    alloc: Global,
+    setting: &Setting<'_>,
+    kind: ClaimKind,
+    state: &mut State,
+    costs: &mut Costs,
+) -> Result<Option<End>, NoMemory>
+    requires asked { IsAsked kind setting.now.subject.parts setting.now.subject.query }
+    requires phase { IsInPhase kind setting.now.subject costs.old state.old }
+    requires rests { IsAtRest kind setting.now.subject state.old }
+    requires room { length state.old.pool ≤ most_columns }
+    ensures phase { IfOk result
+        (λ _. IsInPhase kind setting.now.subject costs.new state.new) }
+    ensures room { IfOk result (λ _.
+        length state.new.pool + state.new.left ≤ length state.old.pool + state.old.left + 1) }
+    ensures end { IfOk result (IsEntered kind setting.now state.old state.new) }
+    ensures printed { IfOk result (λ end. IfSome end IsPrintedEnd) }
+{
+    let dual = match setting.dual(alloc, kind, &state.table, costs) {
+        Ok(dual) => dual,
+        Err(TableError::Wide(at)) => return Ok(Some(too_wide(at))),
+        Err(TableError::NoMemory) => return Err(NoMemory),
+    };
+    match setting.price(alloc, kind, dual)? {
+        Pricing::Found(world) => enter(alloc, setting, kind, state, costs, world),
+        Pricing::Refuted(dual) => Ok(Some(End::NoneAbove(dual))),
+        Pricing::Spent { goal, steps } => Ok(Some(End::Open(Cause::Conflicts {
+            limit: setting.limits().conflicts,
+            goal,
+            steps,
+        }))),
+    }
+}

@@ -1,0 +1,166 @@
+//! What a run is over.
+ghost use Rattle.std.specs.Prelude.{◌≡◌, length, IfOk, IfErr, IfSome};
+ghost use Rattle.ps_problem.specs.Problems.{HasNodes, AreParts};
+ghost use Rattle.ps_table.specs.Tableau.{rows_of as table_rows};
+ghost use Rattle.ps_table.specs.Pricing.{HasCosts, cost_at};
+ghost use Rattle.ps_table.specs.Places.{IsRefusedAt};
+ghost use Rattle.ps_bland.specs.Rules.{simplex_of};
+ghost use Rattle.ps_multiples.specs.Multiples.{DualPlaces};
+ghost use Rattle.ps_certificate.specs.Certificates.{dual_of};
+ghost use Rattle.ps_runs.specs.Certificates.{HaveSameNumbers, table_dual};
+ghost use Rattle.ps_runs.specs.Rows.{rows_of};
+ghost use Rattle.ps_runs.specs.Runs.{IsAsked, atoms_of, setting_of};
+ghost use Rattle.ps_pricing.specs.Pricings.{IsDualFor, IsPricing, IsPrintedPricing};
+ghost use Rattle.ps_generation.specs.Phases.{AreLimits, IsNewState};
+ghost use Rattle.ps_generation.specs.Rounds.{IsColumnOf, asked_of};
+
+use crate::column::Column;
+use crate::limits::Limits;
+use crate::settling::phase_of;
+use crate::state::State;
+use ps_answer::Dual;
+use ps_claims::ClaimKind;
+use ps_columns::{column_of, homes_of, world_cost};
+use ps_ends::dual_of;
+use ps_formula::{World, eval};
+use ps_io::{List, NoMemory};
+use ps_pool::Pool;
+use ps_pricing::{Pricer, Pricing};
+use ps_problem::{Problem, Query};
+use ps_table::{Costs, Table, TableError};
+use std::alloc::Global;
+use std::marker::Model;
+
+/// What a run is over: a problem with the pricing of its duals, the evidence that is to weigh 1,
+/// the node of the query with its evidence, and the limits.
+#[derive(Drop)]
+pub struct Setting<'p> {
+    problem: &'p Problem,
+    pricer: Pricer<'p>,
+    given: Option<u32>,
+    both: u32,
+    limits: Limits,
+}
+
+impl<'p> Model for Setting<'p> {
+    ghost use Rattle.std.specs.Prelude.{◌≡◌};
+    ghost use Rattle.ps_runs.specs.Runs.{IsAsked, given_in, both_in};
+    ghost use Rattle.ps_claims.specs.declared.claim_kind.ClaimKind.TheVariants.{Nothing};
+    ghost use Rattle.ps_generation.specs.Phases.{Limited, AreLimits};
+
+    ghost Value = { Limited };
+
+    ghost view = { λ s. record { subject = s.pricer.subject; limits = s.limits } };
+
+    ghost invariant = { λ s.
+        (s.problem.now ≡ s.pricer.subject.parts) × (s.pricer.conflicts ≡ s.limits.conflicts)
+        × (s.given ≡ given_in s.pricer.subject.query) × (s.both ≡ both_in s.pricer.subject.query)
+        × AreLimits s.limits × IsAsked Nothing s.pricer.subject.parts s.pricer.subject.query };
+}
+
+impl<'p> Setting<'p> {
+    /// For a problem and a query, or none.
+    pub fn new(
+        alloc: Global,
+        problem: &'p Problem,
+        query: Option<Query>,
+        limits: Limits,
+    ) -> Result<Setting<'p>, NoMemory>
+        requires query { IfSome query
+            (λ q. HasNodes problem.now.nodes q.formula q.given q.both) }
+        requires limits { AreLimits limits }
+        ensures value { IfOk result (λ s. s ≡ record {
+          subject = record { parts = problem.now; query = query };
+          limits = limits;
+        }) }
+    {
+        let (given, both) = match query {
+            Some(query) => (query.given, query.both),
+            None => (None, 0),
+        };
+        Ok(Setting {
+            problem,
+            pricer: Pricer::new(alloc, problem, query, limits.conflicts)?,
+            given,
+            both,
+            limits,
+        })
+    }
+
+    /// The limits.
+    pub(crate) fn limits(&self) -> Limits
+        ensures value { result ≡ self.now.limits }
+    {
+        self.limits
+    }
+
+    /// A run at its start.
+    pub fn start(&self, alloc: Global) -> Result<State, NoMemory>
+        ensures { IfOk result (IsNewState self.now) }
+    {
+        let homes = homes_of(alloc, self.problem.bound_list())?;
+        let table = Table::new(alloc, &homes)?;
+        let _sound = table.rows();
+        Ok(State {
+            table,
+            pool: Pool::new(alloc),
+            trace: List::new(alloc),
+            left: self.limits.pivots,
+        })
+    }
+
+    /// The column of a world, and its cost.
+    pub(crate) fn column(
+        &self,
+        alloc: Global,
+        kind: ClaimKind,
+        world: &World,
+    ) -> Result<Column, NoMemory>
+        requires asked { IsAsked kind self.now.subject.parts self.now.subject.query }
+        requires sized { length world.now ≡ atoms_of self.now.subject }
+        ensures { IfOk result (IsColumnOf kind self.now.subject world.now) }
+    {
+        let bounds = self.problem.bound_list();
+        let values = eval(alloc, self.problem.formulas(), world)?;
+        Ok(Column {
+            entries: column_of(alloc, &values, bounds, self.given)?,
+            cost: world_cost(phase_of(kind), self.both, &values),
+        })
+    }
+
+    /// The dual of a table, without steps.
+    pub(crate) fn dual(
+        &self,
+        alloc: Global,
+        kind: ClaimKind,
+        table: &Table,
+        costs: &Costs,
+    ) -> Result<Dual, TableError>
+        requires costs { HasCosts costs.now table.now }
+        requires rows { table_rows table.now ≡ rows_of (setting_of self.now.subject) }
+        ensures numbers { IfOk result (λ d. HaveSameNumbers (dual_of d)
+            (table_dual kind (setting_of self.now.subject) (simplex_of table.now)
+            (cost_at costs.now))) }
+        ensures fit { IfOk result (IsDualFor self.now.subject.parts) }
+        ensures refused { IfErr result (IsRefusedAt (DualPlaces table.now costs.now)) }
+    {
+        dual_of(alloc, self.problem.bound_list(), kind, table, costs)
+    }
+
+    /// Looks for a world of greatest combination of a dual, if one is at least 1.
+    pub(crate) fn price(
+        &self,
+        alloc: Global,
+        kind: ClaimKind,
+        dual: Dual,
+    ) -> Result<Pricing, NoMemory>
+        requires asked { IsAsked kind self.now.subject.parts self.now.subject.query }
+        requires dual { IsDualFor self.now.subject.parts dual }
+        ensures parts { AreParts self.now.subject.parts }
+        ensures pricing { IfOk result (IsPricing kind (asked_of self.now) dual) }
+        ensures printed { IfOk result IsPrintedPricing }
+    {
+        let _sound = self.problem.bound_list();
+        self.pricer.price(alloc, kind, dual)
+    }
+}

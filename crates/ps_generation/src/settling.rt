@@ -1,0 +1,75 @@
+//! Pivots between pricings.
+ghost use Rattle.std.specs.Prelude.{◌≡◌, ◌≤◌, IfOk, IfSome};
+ghost use Rattle.ps_table.specs.Tableau.{IsTableau};
+ghost use Rattle.ps_bland.specs.Ready.{IsReady};
+ghost use Rattle.ps_bland.specs.Runs.{Ran};
+ghost use Rattle.ps_bland.specs.Ends.{IsEnd};
+ghost use Rattle.ps_phases.specs.Tables.{phase_of};
+ghost use Rattle.ps_generation.specs.Phases.{IsInPhase, IsPrintedEnd};
+ghost use Rattle.ps_generation.specs.Rounds.{IsSettled};
+
+use crate::end::{End, too_wide};
+use crate::setting::Setting;
+use crate::state::State;
+use ps_answer::Cause;
+use ps_bland::{Phase, SettleError, Settled, settle};
+use ps_claims::ClaimKind;
+use ps_io::NoMemory;
+use ps_table::Costs;
+
+/// The phase that shows a claim of this kind.
+pub(crate) fn phase_of(kind: ClaimKind) -> Phase
+    ensures { result ≡ phase_of kind }
+{
+    match kind {
+        ClaimKind::Nothing => Phase::One,
+        ClaimKind::Lower => Phase::Lower,
+        ClaimKind::Upper => Phase::Upper,
+    }
+}
+
+/// Pivots by Bland's rule until an end.
+fn pivoted(kind: ClaimKind, state: &mut State, costs: &Costs) -> Result<Settled, SettleError>
+    requires { IsReady (phase_of kind) costs.now state.old.table }
+    ensures ran { Ran (phase_of kind) costs.now state.old.table state.new.table
+        state.old.trace state.new.trace state.old.left state.new.left }
+    ensures end { IsEnd (phase_of kind) costs.now state.new.table state.new.left result }
+    ensures ready { IsReady (phase_of kind) costs.now state.new.table }
+    ensures tableau { IsTableau state.new.table }
+    ensures pool { state.new.pool ≡ state.old.pool }
+{
+    let settled = settle(
+        &mut state.table,
+        costs,
+        phase_of(kind),
+        &mut state.left,
+        &mut state.trace,
+    );
+    let _sound = state.table.rows();
+    settled
+}
+
+/// Pivots until an end; none where the table comes to rest.
+pub(crate) fn settled(
+    setting: &Setting<'_>,
+    kind: ClaimKind,
+    state: &mut State,
+    costs: &Costs,
+) -> Result<Option<End>, NoMemory>
+    requires phase { IsInPhase kind setting.now.subject costs.now state.old }
+    ensures phase { IsInPhase kind setting.now.subject costs.now state.new }
+    ensures pool { state.new.pool ≡ state.old.pool }
+    ensures left { state.new.left ≤ state.old.left }
+    ensures end { IfOk result (IsSettled kind setting.now state.old state.new) }
+    ensures printed { IfOk result (λ end. IfSome end IsPrintedEnd) }
+{
+    match pivoted(kind, state, costs) {
+        Ok(Settled::AtRest) => Ok(None),
+        Ok(Settled::Feasible) => Ok(Some(End::Feasible)),
+        Ok(Settled::OutOfPivots) => Ok(Some(End::Open(Cause::Pivots {
+            limit: setting.limits().pivots,
+        }))),
+        Err(SettleError::Wide(at)) => Ok(Some(too_wide(at))),
+        Err(SettleError::NoMemory) => Err(NoMemory),
+    }
+}

@@ -1,0 +1,71 @@
+use super::*;
+use ps_bland::Phase;
+use ps_claims::ClaimKind;
+use ps_columns::costs_for;
+use ps_io::NoMemory;
+use ps_problem::{BuildError, Draft, Mark, Problem, Side, build};
+use std::alloc::Global;
+use std::test::*;
+
+// The problem of `P(a) = 1/3;`, or of that and `P(a) = 2/3;`.
+fn a_problem(alloc: Global, both: bool) -> Result<Problem, BuildError> {
+    let mut draft = Draft::new(alloc);
+    let a = draft.name(b"a")?;
+    draft.mark(Mark::Name(a))?;
+    draft.end_formula()?;
+    draft.sentence(0, None, Side::Exactly, 1, 3, None)?;
+    if both {
+        draft.sentence(0, None, Side::Exactly, 2, 3, None)?;
+    }
+    build(alloc, &draft)
+}
+
+// How phase one ends, and how many worlds and pivots it takes.
+fn ended(alloc: Global, problem: &Problem) -> Result<(End, u32, u64), NoMemory> {
+    let limits = Limits {
+        pivots: 100,
+        conflicts: 20_000,
+    };
+    let setting = Setting::new(alloc, problem, None, limits)?;
+    let mut state = setting.start(alloc)?;
+    let mut costs = costs_for(
+        alloc,
+        Phase::One,
+        problem.formulas(),
+        0,
+        &state.table,
+        &state.pool,
+    )?;
+    let end = run_phase(alloc, &setting, ClaimKind::Nothing, &mut state, &mut costs)?;
+    Ok((end, state.pool.len(), 100 - state.left))
+}
+
+// Each world is a column, and a pivot brings it into the basis.
+fn is_feasible(alloc: Global) -> bool {
+    match a_problem(alloc, false) {
+        Ok(problem) => match ended(alloc, &problem) {
+            Ok((End::Feasible, worlds, pivots)) => worlds == 2 && pivots == 2,
+            Ok(_) | Err(_) => false,
+        },
+        Err(_) => false,
+    }
+}
+
+// The bounds contradict each other: the steps of the dual refute that a world improves.
+fn is_refuted(alloc: Global) -> bool {
+    match a_problem(alloc, true) {
+        Ok(problem) => match ended(alloc, &problem) {
+            Ok((End::NoneAbove(dual), _, _)) => dual.head >= 1 && dual.steps.len() > 0,
+            Ok(_) | Err(_) => false,
+        },
+        Err(_) => false,
+    }
+}
+
+#[test]
+fn phase_one_ends_feasible_or_refuted(rt: HostRuntime) -> Result<(), Fail> {
+    let alloc = rt.alloc();
+    assert!(rt; is_feasible(alloc));
+    assert!(rt; is_refuted(alloc));
+    Ok(())
+}
