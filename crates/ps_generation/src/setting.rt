@@ -9,7 +9,8 @@ ghost use Rattle.ps_multiples.specs.Multiples.{DualPlaces};
 ghost use Rattle.ps_certificate.specs.Certificates.{dual_of};
 ghost use Rattle.ps_runs.specs.Certificates.{HaveSameNumbers, table_dual};
 ghost use Rattle.ps_runs.specs.Rows.{rows_of};
-ghost use Rattle.ps_runs.specs.Runs.{IsAsked, atoms_of, setting_of};
+ghost use Rattle.ps_runs.specs.Runs.{IsAsked, IsPool, atoms_of, setting_of};
+ghost use Rattle.ps_phases.specs.Tables.{IsRunTable, costs_for};
 ghost use Rattle.ps_pricing.specs.Pricings.{IsDualFor, IsPricing, IsPrintedPricing};
 ghost use Rattle.ps_generation.specs.Phases.{AreLimits, IsNewState};
 ghost use Rattle.ps_generation.specs.Rounds.{IsColumnOf, asked_of};
@@ -20,7 +21,7 @@ use crate::settling::phase_of;
 use crate::state::State;
 use ps_answer::Dual;
 use ps_claims::ClaimKind;
-use ps_columns::{column_of, homes_of, world_cost};
+use ps_columns::{column_of, costs_for, homes_of, world_cost};
 use ps_ends::dual_of;
 use ps_formula::{World, eval};
 use ps_io::{List, NoMemory};
@@ -107,6 +108,24 @@ impl<'p> Setting<'p> {
             trace: List::new(alloc),
             left: self.limits.pivots,
         })
+    }
+
+    /// The costs of a phase in a state.
+    pub fn costs(&self, alloc: Global, kind: ClaimKind, state: &State) -> Result<Costs, NoMemory>
+        requires asked { IsAsked kind self.now.subject.parts self.now.subject.query }
+        requires table { IsRunTable (setting_of self.now.subject) state.now.pool state.now.table }
+        requires pool { IsPool (atoms_of self.now.subject) state.now.pool }
+        ensures { IfOk result
+            (λ c. c ≡ costs_for kind (setting_of self.now.subject) state.now.pool) }
+    {
+        costs_for(
+            alloc,
+            phase_of(kind),
+            self.problem.formulas(),
+            self.both,
+            &state.table,
+            &state.pool,
+        )
     }
 
     /// The column of a world, and its cost.
