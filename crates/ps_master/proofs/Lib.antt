@@ -1,0 +1,6 @@
+pub mod Ways
+pub mod Models
+pub mod Firsts
+pub mod Sides
+pub mod Ready
+pub mod Values

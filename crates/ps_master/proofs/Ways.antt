@@ -1,0 +1,25 @@
+-- The events of a phase, which stand behind those that were not yet taken.
+use Rattle.std.proofs.Common.{◌≡◌, ℕ, List, [], ◌∷◌, ◌++◌, refl, append_assoc, ap, ◌∙◌}
+use Rattle.ps_meaning.specs.Formula.{World}
+use Rattle.ps_pool.specs.declared.event.Event.{Event}
+use Rattle.ps_table.specs.Tableau.{Tableau}
+use Rattle.ps_claims.specs.declared.claim_kind.ClaimKind.{ClaimKind}
+use Rattle.ps_runs.specs.Runs.{Subject, Stage}
+use Rattle.ps_phases.specs.Tables.{IsUnderWay}
+
+module _ (kind : ClaimKind) (s : Subject) (conflicts : ℕ) (from : Stage) (had : ℕ) (before : List Event) (pool : List World) (t : Tableau) (trace : List Event) (left : ℕ)
+    (way : IsUnderWay kind s conflicts from had before pool t trace left) where
+  -- seen by its own events alone
+  pub own_way : IsUnderWay kind s conflicts from had [] pool t way.events left
+  own_way = record {
+    table = way.table;
+    pool_kept = way.pool_kept;
+    events = way.events;
+    appended = refl;
+    leads = way.leads;
+    counted = way.counted;
+  }
+
+  -- with one event more
+  pub one_more : (longer : List Event) (e : Event) → longer ≡ trace ++ e ∷ [] → longer ≡ before ++ (way.events ++ e ∷ [])
+  one_more longer e is = is ∙ ap (λ es. es ++ e ∷ []) way.appended ∙ append_assoc before way.events (e ∷ [])

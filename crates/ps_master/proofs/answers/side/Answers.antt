@@ -1,0 +1,27 @@
+use Rattle.ps_table.specs.Tableau.{entry_at}
+use Rattle.ps_phases.proofs.Shapes.{basics_differ}
+use Rattle.ps_runs.specs.Runs.{setting_of}
+use Rattle.ps_generation.specs.Phases.{stage_of}
+use Rattle.ps_master.proofs.Sides.{top_at_least, side_bound, side_open, ok_so}
+use Rattle.ps_master.proofs.answers.side.Goals as goal
+
+pub bound-requires-clause-apart : goal.bound-requires-clause-apart
+bound-requires-clause-apart c =
+    let new = c.phase.new.state in
+    record { same = basics_differ (setting_of c.args.setting.now.subject) new.pool new.table c.in_ok-phase.ensures.left.table }
+
+pub bound-requires-clause-top : goal.bound-requires-clause-top
+bound-requires-clause-top c =
+    let new = c.phase.new.state in
+    let end = rw c.in-NoneAbove.is at c.in_ok-phase.ensures.end in
+    top_at_least c.args.kind c.args.setting.now.subject (stage_of new) (entry_at new.table) c.in-NoneAbove.dual c.requires.side end.1
+
+pub returns-in-NoneAbove-clause-answer : goal.returns-in-NoneAbove-clause-answer
+returns-in-NoneAbove-clause-answer c =
+    let end = rw c.in-NoneAbove.is at c.in_ok-phase.ensures.end in
+    ok_so c.bound.result c.bound.ensures.bound (side_bound c.args.kind c.args.setting.now c.args.state.now c.phase.new.state c.requires.side c.in-NoneAbove.dual end.0 end.1 c.in_ok-phase.ensures.left)
+
+pub returns-in-Open-clause-answer : goal.returns-in-Open-clause-answer
+returns-in-Open-clause-answer c =
+    let end = rw c.in-Open.is at c.in_ok-phase.ensures.end in
+    side_open c.args.kind c.args.setting.now c.args.state.now c.phase.new.state c.requires.side c.in-Open.cause end

@@ -1,0 +1,122 @@
+-- The phases of a run: what each answers, and how the run goes on behind it.
+use Rattle.std.specs.Prelude.{◌≡◌, ◌+◌, ◌≤◌, ◌++◌, ℕ, Bool, false, Option, Some, List, [], length}
+use Rattle.ps_meaning.specs.Formula.{World}
+use Rattle.ps_rule.specs.Rule.{IsFeasible}
+use Rattle.ps_pool.specs.declared.event.Event.{Event}
+use Rattle.ps_problem.specs.declared.query.Query.{Query}
+use Rattle.ps_problem.specs.Problems.{Parts, bounds_of}
+use Rattle.ps_table.specs.Tableau.{Tableau, entry_at}
+use Rattle.ps_bland.specs.Rules.{simplex_of}
+use Rattle.ps_answer.specs.declared.answer.Verdict.{Verdict}
+use Rattle.ps_answer.specs.declared.answer.Verdict.TheVariants as verdict
+use Rattle.ps_answer.specs.declared.answer.SideAnswer.{SideAnswer}
+use Rattle.ps_answer.specs.declared.answer.SideAnswer.TheVariants as side
+use Rattle.ps_entailment.specs.Queries.{IsAllowed}
+use Rattle.ps_entailment.specs.Answers.{ShowsConsistent}
+use Rattle.ps_claims.specs.declared.claim_kind.ClaimKind.{ClaimKind}
+use Rattle.ps_claims.specs.declared.claim_kind.ClaimKind.TheVariants.{Nothing}
+use Rattle.ps_claims.specs.Validity.{ShowsNothing, ShowsTight}
+use Rattle.ps_runs.specs.Runs.{Subject, setting_of, given_in, atoms_of, Stage, IsStart, LeadsTo, pivots_in, IsFeasibleAt}
+use Rattle.ps_phases.specs.Answers.{model_of, dual_of}
+use Rattle.ps_phases.specs.Tables.{stage_at}
+use Rattle.ps_phases.specs.Verdicts.{IsLawfulPhaseOne, IsLawfulSide}
+use Rattle.ps_printed.specs.Printed.{IsPrintedVerdict}
+use Rattle.ps_generation.specs.declared.limits.Limits.{Limits}
+use Rattle.ps_generation.specs.Phases.{Limited}
+use Rattle.ps_master.specs.declared.first.First.{First}
+use Rattle.ps_master.specs.declared.first.First.TheVariants as first
+
+-- ---- runs
+-- a run: what it is over, and where it stands; the events that were not yet taken, how many pivots are left, and whether memory
+-- ran out
+pub record RunState : Type 0 where
+  pub over : Limited
+  pub pool : List World
+  pub table : Tableau
+  pub trace : List Event
+  pub left : ℕ
+  pub is_broken : Bool
+
+-- the stage at which it stands
+abbrev pub stage_of : RunState → Stage
+stage_of r = stage_at r.pool r.table
+
+-- a run at its start: the homes are basic, there is no world, and all pivots are left
+pub record IsAtStart (r : RunState) : Type 0 where
+  pub start : IsStart r.over.subject (stage_of r)
+  pub left : r.left ≡ r.over.limits.pivots
+
+-- a new run over a problem and a query, or none
+pub record IsNew (p : Parts) (query : Option Query) (limits : Limits) (r : RunState) : Type 0 where
+  pub over : r.over ≡ record { subject = record { parts = p; query = query }; limits = limits }
+  pub start : IsAtStart r
+  pub trace : r.trace ≡ []
+  pub broken : r.is_broken ≡ false
+
+-- a run whose basic artificials have value 0, with so many worlds more than pivots at most
+pub record IsFeasibleRun (surplus : ℕ) (r : RunState) : Type 0 where
+  pub feasible : IsFeasible (simplex_of r.table)
+  pub room : length r.pool + r.left ≤ r.over.limits.pivots + surplus
+
+-- phase one has reached a distribution, so that a side may follow
+pub record IsReached (r : RunState) : Type 0 where
+  pub feasible : IsFeasibleRun 1 r
+
+-- a side was answered, so that another may follow
+pub record IsLowered (r : RunState) : Type 0 where
+  pub feasible : IsFeasibleRun 2 r
+
+-- the run is over the same, and these events are behind those not yet taken
+pub record HasTraced (old new : RunState) (events : List Event) : Type 0 where
+  pub over : new.over ≡ old.over
+  pub appended : new.trace ≡ old.trace ++ events
+
+-- ---- phase one
+-- what it answers, as a verdict
+abbrev pub verdict_of : First → Verdict
+verdict_of (first.Reached m) = verdict.Consistent m
+verdict_of (first.Nothing d) = verdict.Inconsistent d
+verdict_of (first.Open cause) = verdict.Open cause
+
+-- a distribution meets the bounds and gives the evidence a positive probability, or none does
+abbrev pub IsValidFirst : Subject → First → Type 0
+IsValidFirst s (first.Reached m) = ShowsConsistent (atoms_of s) (bounds_of s.parts) (model_of m) × IsAllowed (atoms_of s) (bounds_of s.parts) (setting_of s).query.evidence (model_of m).worlds
+IsValidFirst s (first.Nothing d) = ShowsNothing s.parts (given_in s.query) (dual_of d)
+IsValidFirst s (first.Open cause) = Unit {0}
+
+-- the events have led to a table whose basic artificials have value 0
+pub record HasReached (old new : RunState) (events : List Event) : Type 0 where
+  pub leads : LeadsTo Nothing old.over.subject old.over.limits.conflicts (stage_of old) events (stage_of new)
+  pub counted : new.left + pivots_in events ≡ old.left
+  pub feasible : IsFeasibleAt old.over.subject (stage_of new) (entry_at new.table)
+  pub reached : IsReached new
+
+-- where a distribution was reached, a query's sides go on from there
+abbrev pub GoesOn : RunState → RunState → List Event → First → Type 0
+GoesOn old new events (first.Reached m) = HasReached old new events
+GoesOn old new events (first.Nothing d) = Unit {0}
+GoesOn old new events (first.Open cause) = Unit {0}
+
+-- what phase one answers: lawful events lead to it, and it is valid
+pub record IsPhaseOneAnswer (old new : RunState) (answer : First) : Type 0 where
+  pub events : List Event
+  pub traced : HasTraced old new events
+  pub lawful : IsLawfulPhaseOne old.over.subject old.over.limits.pivots old.over.limits.conflicts (verdict_of answer) events
+  pub valid : IsValidFirst old.over.subject answer
+  pub goes_on : GoesOn old new events answer
+
+abbrev pub IsPrintedFirst : First → Type 0
+IsPrintedFirst answer = IsPrintedVerdict (verdict_of answer)
+
+-- ---- sides
+-- the value is tight for the query
+abbrev pub IsValidSide : ClaimKind → Parts → Query → SideAnswer → Type 0
+IsValidSide kind p q (side.Bound value m d) = ShowsTight p kind q value (model_of m) (dual_of d)
+IsValidSide kind p q (side.Open cause) = Unit {0}
+
+-- what a side answers: lawful events lead to it, and it is valid
+pub record IsSideAnswerOf (kind : ClaimKind) (old new : RunState) (answer : SideAnswer) : Type 0 where
+  pub events : List Event
+  pub traced : HasTraced old new events
+  pub lawful : IsLawfulSide kind old.over.subject old.over.limits.pivots old.over.limits.conflicts (stage_of old) old.left (stage_of new) new.left answer events
+  pub valid : (q : Query) → old.over.subject.query ≡ Some q → IsValidSide kind old.over.subject.parts q answer

@@ -1,0 +1,12 @@
+//! How phase one ends.
+use ps_answer::{Cause, Dual, Model};
+
+/// How phase one ended.
+#[derive(Drop)]
+pub enum First {
+    /// A distribution that meets the sentences and gives the evidence a positive probability.
+    Reached(Model),
+    /// What shows that there is none.
+    Nothing(Dual),
+    Open(Cause),
+}

@@ -1,0 +1,15 @@
+//! Runs of the simplex method with column generation: over a problem's bounds, for the verdict or
+//! for a query.
+#![tactic(auto)]
+
+mod answers;
+mod first;
+mod phase;
+mod run;
+
+pub use first::First;
+pub use ps_generation::{Limits, MOST_PIVOTS};
+pub use run::Run;
+
+#[cfg(test)]
+mod tests;

@@ -1,0 +1,139 @@
+//! A run.
+ghost use Rattle.std.specs.Prelude.{◌≡◌, ◌≢◌, [], None, false, true, IfOk, IfSome, IsErr, OnErr, IsTrue};
+ghost use Rattle.ps_problem.specs.Problems.{HasNodes};
+ghost use Rattle.ps_claims.specs.declared.claim_kind.ClaimKind.TheVariants.{Lower, Nothing, Upper};
+ghost use Rattle.ps_printed.specs.Printed.{IsPrintedSide};
+ghost use Rattle.ps_generation.specs.Phases.{AreLimits};
+ghost use Rattle.ps_master.specs.Runs.{IsAtStart, IsPhaseOneAnswer, IsLowered, IsNew};
+ghost use Rattle.ps_master.specs.Runs.{IsFeasibleRun, IsPrintedFirst, IsReached, IsSideAnswerOf};
+ghost use Rattle.ps_master.specs.States.{HasGoneOn};
+
+use crate::answers::{first, side};
+use crate::first::First;
+use ps_answer::SideAnswer;
+use ps_claims::ClaimKind;
+use ps_generation::{Limits, Setting, State};
+use ps_io::{List, NoMemory};
+use ps_pool::Trace;
+use ps_problem::{Problem, Query};
+use std::alloc::Global;
+use std::marker::Model;
+
+/// A run of the simplex method with column generation (D. Bertsimas, J. N. Tsitsiklis,
+/// "Introduction to Linear Optimization", 1997) over a problem's bounds, for the verdict or for a
+/// query.
+#[derive(Drop)]
+pub struct Run<'p> {
+    alloc: Global,
+    setting: Setting<'p>,
+    state: State,
+    broken: bool,
+}
+
+impl<'p> Model for Run<'p> {
+    ghost use Rattle.ps_master.specs.Runs.{RunState};
+    ghost use Rattle.ps_master.specs.States.{run_of, IsRun};
+
+    ghost Value = { RunState };
+
+    ghost view = { λ r. run_of r.setting r.state r.broken };
+
+    ghost invariant = { λ r. IsRun r.setting r.state r.broken };
+}
+
+impl<'p> Run<'p> {
+    /// A run at its start, over all sentences of a problem, and for a query or none.
+    pub fn new(
+        alloc: Global,
+        problem: &'p Problem,
+        query: Option<Query>,
+        limits: Limits,
+    ) -> Result<Run<'p>, NoMemory>
+        requires query { IfSome query
+            (λ q. HasNodes problem.now.nodes q.formula q.given q.both) }
+        requires limits { AreLimits limits }
+        ensures { IfOk result (IsNew problem.now query limits) }
+    {
+        let setting = Setting::new(alloc, problem, query, limits)?;
+        let state = setting.start(alloc)?;
+        Ok(Run {
+            alloc,
+            setting,
+            state,
+            broken: false,
+        })
+    }
+
+    /// Whether the sentences can be met with evidence of a positive probability; without a query
+    /// the evidence is sure. It comes first, once.
+    pub fn phase_one(&mut self) -> Result<First, NoMemory>
+        requires start { self.old.is_broken ≡ false → IsAtStart self.old }
+        ensures answer { IfOk result (IsPhaseOneAnswer self.old self.new) }
+        ensures printed { IfOk result IsPrintedFirst }
+        ensures over { self.new.over ≡ self.old.over }
+        ensures broken { IsTrue self.old.is_broken → IsErr result }
+        ensures breaks { OnErr result (self.new.is_broken ≡ true) }
+    {
+        if self.broken {
+            return Err(NoMemory);
+        }
+        let reached = first(self.alloc, &self.setting, &mut self.state);
+        self.broken = reached.is_err();
+        reached
+    }
+
+    /// The answer of a side, unless memory ran out, here or before.
+    fn side(&mut self, kind: ClaimKind) -> Result<SideAnswer, NoMemory>
+        requires side { kind ≢ Nothing }
+        requires query { self.old.over.subject.query ≢ None }
+        requires feasible { self.old.is_broken ≡ false → IsFeasibleRun 2 self.old }
+        ensures answer { IfOk result (IsSideAnswerOf kind self.old self.new) }
+        ensures kept { IfOk result (λ _. HasGoneOn self.old self.new) }
+        ensures printed { IfOk result IsPrintedSide }
+        ensures over { self.new.over ≡ self.old.over }
+        ensures broken { IsTrue self.old.is_broken → IsErr result }
+        ensures breaks { OnErr result (self.new.is_broken ≡ true) }
+    {
+        if self.broken {
+            return Err(NoMemory);
+        }
+        let answer = side(self.alloc, &self.setting, kind, &mut self.state);
+        self.broken = answer.is_err();
+        answer
+    }
+
+    /// The greatest lower bound of the query.
+    pub fn lower(&mut self) -> Result<SideAnswer, NoMemory>
+        requires query { self.old.over.subject.query ≢ None }
+        requires reached { self.old.is_broken ≡ false → IsReached self.old }
+        ensures answer { IfOk result (IsSideAnswerOf Lower self.old self.new) }
+        ensures lowered { IfOk result (λ _. IsLowered self.new) }
+        ensures printed { IfOk result IsPrintedSide }
+        ensures over { self.new.over ≡ self.old.over }
+        ensures broken { IsTrue self.old.is_broken → IsErr result }
+        ensures breaks { OnErr result (self.new.is_broken ≡ true) }
+    {
+        self.side(ClaimKind::Lower)
+    }
+
+    /// The least upper bound of the query. Where the lower side is open, it goes on from there.
+    pub fn upper(&mut self) -> Result<SideAnswer, NoMemory>
+        requires query { self.old.over.subject.query ≢ None }
+        requires lowered { self.old.is_broken ≡ false → IsLowered self.old }
+        ensures answer { IfOk result (IsSideAnswerOf Upper self.old self.new) }
+        ensures printed { IfOk result IsPrintedSide }
+        ensures over { self.new.over ≡ self.old.over }
+        ensures broken { IsTrue self.old.is_broken → IsErr result }
+        ensures breaks { OnErr result (self.new.is_broken ≡ true) }
+    {
+        self.side(ClaimKind::Upper)
+    }
+
+    /// Hands out the events since it was last called; the run keeps none of them.
+    pub fn take_trace(&mut self) -> Trace
+        ensures events { result ≡ self.old.trace }
+        ensures rest { self.new ≡ record self.old { trace = [] } }
+    {
+        std::mem::replace(&mut self.state.trace, List::new(self.alloc))
+    }
+}
