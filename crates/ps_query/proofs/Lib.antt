@@ -1,0 +1,4 @@
+pub mod Taken
+pub mod Queries
+pub mod Answering
+pub mod Loops

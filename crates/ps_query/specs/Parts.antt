@@ -1,0 +1,61 @@
+-- What is found of a query.
+use Rattle.std.specs.Prelude.{◌≡◌, ℕ, Some, List}
+use Rattle.ps_problem.specs.declared.query.Query.{Query}
+use Rattle.ps_problem.specs.Problems.{Parts}
+use Rattle.ps_pool.specs.declared.event.Event.{Event}
+use Rattle.ps_answer.specs.declared.answer.QueryAnswer.{QueryAnswer}
+use Rattle.ps_answer.specs.declared.answer.QueryAnswer.TheVariants as query
+use Rattle.ps_answer.specs.declared.answer.QueryPart.{QueryPart}
+use Rattle.ps_answer.specs.declared.answer.SideAnswer.{SideAnswer}
+use Rattle.ps_answer.specs.declared.answer.Verdict.{Verdict}
+use Rattle.ps_claims.specs.declared.claim_kind.ClaimKind.TheVariants.{Lower, Upper}
+use Rattle.ps_claims.specs.Validity.{IsValidVerdict, IsValidPart}
+use Rattle.ps_valid.specs.Answers.{part_of, verdict_of}
+use Rattle.ps_runs.specs.Runs.{Stage}
+use Rattle.ps_phases.specs.Verdicts.{IsLawfulSide, IsLawfulVerdict, IsLawfulPart}
+use Rattle.ps_printed.specs.Printed.{IsPrintedPart, IsPrintedVerdict}
+use Rattle.ps_generation.specs.declared.limits.Limits.{Limits}
+use Rattle.ps_master.specs.declared.first.First.{First}
+use Rattle.ps_master.specs.declared.first.First.TheVariants as first
+use Rattle.ps_master.specs.Runs.{RunState, stage_of, IsReached, IsValidSide}
+
+-- both sides of the run's query, the upper one from where the lower one ended
+pub record AreSidesOf (r : RunState) (lower : SideAnswer) (lower_events : List Event) (upper : SideAnswer) (upper_events : List Event) : Type 0 where
+  pub after_lower : Stage
+  pub left_lower : ℕ
+  pub least : IsLawfulSide Lower r.over.subject r.over.limits.pivots r.over.limits.conflicts (stage_of r) r.left after_lower left_lower lower lower_events
+  pub end : Stage
+  pub left : ℕ
+  pub greatest : IsLawfulSide Upper r.over.subject r.over.limits.pivots r.over.limits.conflicts after_lower left_lower end left upper upper_events
+  pub valid_lower : (q : Query) → r.over.subject.query ≡ Some q → IsValidSide Lower r.over.subject.parts q lower
+  pub valid_upper : (q : Query) → r.over.subject.query ≡ Some q → IsValidSide Upper r.over.subject.parts q upper
+
+-- the answer is of both sides
+abbrev pub AreBoundsOf : RunState → QueryAnswer → Type 0
+AreBoundsOf r (query.Bounds lower lower_events upper upper_events) = AreSidesOf r lower lower_events upper upper_events
+AreBoundsOf r (query.Impossible d) = ⊥
+AreBoundsOf r (query.Open cause) = ⊥
+
+-- where phase one reached a distribution, a side may follow
+abbrev pub MayGoOn : First → RunState → Type 0
+MayGoOn (first.Reached m) r = IsReached r
+MayGoOn (first.Nothing d) r = Unit {0}
+MayGoOn (first.Open cause) r = Unit {0}
+
+-- what is answered behind phase one: both sides where it reached a distribution, and else how it ended
+abbrev pub IsBehind : RunState → First → QueryAnswer → Type 0
+IsBehind r (first.Reached m) answer = AreBoundsOf r answer
+IsBehind r (first.Nothing d) answer = answer ≡ query.Impossible d
+IsBehind r (first.Open cause) answer = answer ≡ query.Open cause
+
+-- the verdict, from a run without a query
+pub record IsVerdictOf (limits : Limits) (p : Parts) (verdict : Verdict) (first : List Event) : Type 0 where
+  pub lawful : IsLawfulVerdict p limits.pivots limits.conflicts verdict first
+  pub valid : IsValidVerdict p (verdict_of verdict)
+  pub printed : IsPrintedVerdict verdict
+
+-- the answer to a query, from a run of its own
+pub record IsPartOf (limits : Limits) (p : Parts) (q : Query) (part : QueryPart) : Type 0 where
+  pub lawful : IsLawfulPart p limits.pivots limits.conflicts q part
+  pub valid : IsValidPart p q (part_of part.answer)
+  pub printed : IsPrintedPart part.answer

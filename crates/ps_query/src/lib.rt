@@ -1,0 +1,10 @@
+//! Answers to problems: the verdict, and the tightest bounds of the queries.
+#![tactic(auto)]
+
+mod solving;
+
+pub use ps_master::{Limits, MOST_PIVOTS};
+pub use solving::solve;
+
+#[cfg(test)]
+mod tests;

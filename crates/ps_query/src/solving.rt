@@ -1,0 +1,137 @@
+//! The answer to a problem.
+ghost use Rattle.std.specs.Prelude.{◌≡◌, ◌≢◌, [], None, IfOk};
+ghost use Rattle.std.specs.List.{AllZip};
+ghost use Rattle.ps_problem.specs.Problems.{AreParts, HasNodes};
+ghost use Rattle.ps_phases.specs.Verdicts.{asked_after};
+ghost use Rattle.ps_printed.specs.Printed.{IsPrintedAnswer, IsPrintedPart};
+ghost use Rattle.ps_generation.specs.Phases.{AreLimits};
+ghost use Rattle.ps_master.specs.Runs.{IsPrintedFirst, IsReached, verdict_of};
+ghost use Rattle.ps_query.specs.Parts.{AreBoundsOf, IsBehind, IsPartOf, MayGoOn};
+ghost use Rattle.ps_query.specs.Solutions.{AreShortLines, IsReadBack, IsSolution};
+
+use ps_answer::{Answer, Parts, QueryAnswer, QueryPart, Verdict};
+use ps_io::{List, NoMemory};
+use ps_master::{First, Limits, Run};
+use ps_problem::{Problem, Query};
+use std::alloc::Global;
+
+/// The verdict of phase one.
+fn verdict_of(first: First) -> Verdict
+    ensures { result ≡ verdict_of first }
+{
+    match first {
+        First::Reached(model) => Verdict::Consistent(model),
+        First::Nothing(dual) => Verdict::Inconsistent(dual),
+        First::Open(cause) => Verdict::Open(cause),
+    }
+}
+
+/// The two sides of a query.
+fn bounds(run: &mut Run<'_>) -> Result<QueryAnswer, NoMemory>
+    requires query { run.old.over.subject.query ≢ None }
+    requires reached { IsReached run.old }
+    requires taken { run.old.trace ≡ [] }
+    ensures bounds { IfOk result (AreBoundsOf run.old) }
+    ensures printed { IfOk result IsPrintedPart }
+{
+    let lower = run.lower()?;
+    let lower_trace = run.take_trace();
+    let upper = run.upper()?;
+    Ok(QueryAnswer::Bounds {
+        lower,
+        lower_trace,
+        upper,
+        upper_trace: run.take_trace(),
+    })
+}
+
+/// What is answered to a query behind phase one.
+fn answer_behind(run: &mut Run<'_>, first: First) -> Result<QueryAnswer, NoMemory>
+    requires query { run.old.over.subject.query ≢ None }
+    requires reached { MayGoOn first run.old }
+    requires taken { run.old.trace ≡ [] }
+    requires printed { IsPrintedFirst first }
+    ensures behind { IfOk result (IsBehind run.old first) }
+    ensures printed { IfOk result IsPrintedPart }
+{
+    match first {
+        First::Reached(_) => bounds(run),
+        First::Nothing(dual) => Ok(QueryAnswer::Impossible(dual)),
+        First::Open(cause) => Ok(QueryAnswer::Open(cause)),
+    }
+}
+
+/// The answer to a query, from a run of its own.
+fn query_part(
+    alloc: Global,
+    problem: &Problem,
+    query: Query,
+    limits: Limits,
+) -> Result<QueryPart, NoMemory>
+    requires query { HasNodes problem.now.nodes query.formula query.given query.both }
+    requires limits { AreLimits limits }
+    ensures { IfOk result (IsPartOf limits problem.now query) }
+{
+    let mut run = Run::new(alloc, problem, Some(query), limits)?;
+    let reached = run.phase_one()?;
+    let first = run.take_trace();
+    let answer = answer_behind(&mut run, reached)?;
+    Ok(QueryPart { answer, first })
+}
+
+/// The answers to all queries.
+fn query_parts(alloc: Global, problem: &Problem, limits: Limits) -> Result<Parts, NoMemory>
+    requires limits { AreLimits limits }
+    ensures { IfOk result (AllZip (IsPartOf limits problem.now) problem.now.queries) }
+{
+    let mut parts = List::new(alloc);
+    for query in problem.queries().as_slice() {
+        parts.push(query_part(alloc, problem, *query, limits)?)?;
+    }
+    Ok(parts)
+}
+
+/// The answers to the queries of a problem with this verdict.
+fn parts_under(
+    alloc: Global,
+    problem: &Problem,
+    verdict: &Verdict,
+    limits: Limits,
+) -> Result<Parts, NoMemory>
+    requires limits { AreLimits limits }
+    ensures { IfOk result
+        (AllZip (IsPartOf limits problem.now) (asked_after verdict.now problem.now.queries)) }
+{
+    match verdict {
+        Verdict::Consistent(_) => query_parts(alloc, problem, limits),
+        Verdict::Inconsistent(_) | Verdict::Open(_) => Ok(List::new(alloc)),
+    }
+}
+
+// Each problem is in order.
+fn in_order(problem: &Problem)
+    ensures { AreParts problem.now }
+{
+    let _ = problem.bound_list();
+}
+
+/// The answer to a problem within limits of pivots and conflicts: the verdict, and where that is
+/// consistent the tightest bounds of each query. A part is open only by the limits or for a number
+/// that is too wide.
+pub fn solve(alloc: Global, problem: &Problem, limits: Limits) -> Result<Answer, NoMemory>
+    requires limits { AreLimits limits }
+    ensures solution { IfOk result (IsSolution limits problem.now) }
+    ensures short { IfOk result AreShortLines }
+    ensures read_back { IfOk result (IsReadBack limits) }
+{
+    in_order(problem);
+    let mut run = Run::new(alloc, problem, None, limits)?;
+    let verdict = verdict_of(run.phase_one()?);
+    let first = run.take_trace();
+    let parts = parts_under(alloc, problem, &verdict, limits)?;
+    Ok(Answer {
+        verdict,
+        first,
+        parts,
+    })
+}
