@@ -4,3 +4,4 @@ pub mod Firsts
 pub mod Sides
 pub mod Ready
 pub mod Values
+pub mod Memory

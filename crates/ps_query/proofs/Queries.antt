@@ -64,6 +64,12 @@ module _ (r low mid up : RunState) (lower upper : SideAnswer) (none : r.trace �
         subst (λ (o : Limited). IsValidSide Upper o.subject.parts q upper) over_mid (above.valid q (ap (λ (o : Limited). o.subject.query) over_mid ∙ is));
   }
 
+-- with the events as they were taken
+pub as_taken : (r : RunState) (lower upper : SideAnswer) (below below_taken above above_taken : List Event) → below_taken ≡ below → above_taken ≡ above → AreSidesOf r lower below upper above
+    → AreSidesOf r lower below_taken upper above_taken
+as_taken r lower upper below below_taken above above_taken same_below same_above h =
+    subst (λ es. AreSidesOf r lower es upper above_taken) (sym same_below) (subst (λ es. AreSidesOf r lower below upper es) (sym same_above) h)
+
 -- ---- what a claim speaks of
 valid_side : (kind : ClaimKind) (p : Parts) (q : Query) (answer : SideAnswer) → IsValidSide kind p q answer → claims.IsValidSide p kind q (side_of answer)
 valid_side kind p q (side.Bound value m d) h = h
