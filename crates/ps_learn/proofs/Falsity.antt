@@ -1,5 +1,5 @@
 -- The literals of a learned clause are false on the trail.
-use Rattle.std.proofs.Common.{◌≡◌, ℤ, Bool, true, false, not, ◌&&◌, Option, Some, None, List, [], ◌∷◌, length, get_or, get_or-set_same, refl, ap, ◌∙◌, subst, inl, inr}
+use Rattle.std.proofs.Common.{◌≡◌, ℤ, Bool, true, false, not, ◌&&◌, Some, None, List, [], ◌∷◌, length, get_or, get_or-set_same, refl, ap, ◌∙◌, subst, inl, inr}
 use Rattle.std.specs.Prelude.{nat_lt, ◌<◌}
 use Rattle.std.specs.List.{All, fold}
 use Rattle.std.proofs.Math.Seq.{take-length}

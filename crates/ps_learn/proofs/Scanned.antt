@@ -16,7 +16,9 @@ use Rattle.ps_steps.proofs.Forcing.{lt-of}
 use Rattle.ps_pb.proofs.Searched.{has_term-at}
 use Rattle.ps_forms.specs.Forms.{IsWithin}
 use Rattle.ps_learn.specs.Rest.{IsAtRest}
-use Rattle.ps_learn.specs.Scans.{ScansOne}
+use Rattle.ps_learn.specs.Scans.{ScansOne, ScansPart, Scans, AreIdle}
+use Rattle.ps_learn.specs.declared.scanning.Scan.{Scan}
+use Rattle.ps_learn.specs.declared.scanning.Scan.TheVariants.{Violated, Forced, Settled}
 use Rattle.ps_learn.specs.declared.scanning.Shown.TheVariants as shown
 
 abbrev pub Below : ℕ → (ℤ × ℤ) → Type 0
@@ -37,17 +39,13 @@ term_within n l k (t ∷ ts) h (inr m) = term_within n l k ts (all_rest n t ts h
 pub term-within : (n : ℕ) (c : Constraint) (l : ℤ) (k : ℕ) → IsWithin n c → HasTerm l k c.terms → place l < n
 term-within n c l k h t = term_within n l k c.terms h t
 
--- the first constraints are idle
-pub record IdleTo (cs : List Constraint) (a : Assignment) (n : ℕ) : Type 0 where
-  pub at : (i : ℕ) (c : Constraint) → i < n → slice_get cs i ≡ Some c → IsIdle c a
+pub idle-none : (cs : List Constraint) (a : Assignment) (from : ℕ) → AreIdle cs a from from
+idle-none cs a from = record { at = λ i c g h. absurd (omega (arith, g, h)) }
 
-pub idle-none : (cs : List Constraint) (a : Assignment) → IdleTo cs a 0
-idle-none cs a = record { at = λ i c h. absurd (omega (arith, h)) }
-
-pub idle-next : (cs : List Constraint) (a : Assignment) (n : ℕ) (c : Constraint) → IdleTo cs a n → n < length cs → c ≡ get_or cs n c → IsIdle c a → IdleTo cs a (n + 1)
-idle-next cs a n c h lt at own = record {
-  at = λ i d k q. elim (cases_lt i n) [
-    | inl less ↦ h.at i d less q
+pub idle-next : (cs : List Constraint) (a : Assignment) (from n : ℕ) (c : Constraint) → AreIdle cs a from n → n < length cs → c ≡ get_or cs n c → IsIdle c a → AreIdle cs a from (n + 1)
+idle-next cs a from n c h lt at own = record {
+  at = λ i d g k q. elim (cases_lt i n) [
+    | inl less ↦ h.at i d g less q
     | inr ge ↦ (let e : i ≡ n = omega (arith, k, ge) in
         let z : Some d ≡ Some c = sym q ∙ ap (slice_get cs) e ∙ slice_get_read cs (length cs) n c refl lt at in
         let same : d ≡ c = cc z in rw same own)
@@ -61,8 +59,22 @@ of_id : (cs : List Constraint) (id : ℕ) (c : Constraint) → constraint_at (kn
 of_id cs zero c h = absurd (cc (zero_unknown cs, h))
 of_id cs (suc i) c h = sym (constraint_at-known cs (suc i) (λ q. absurd (omega (arith, q)))) ∙ h
 
-pub all-idle : (cs : List Constraint) (a : Assignment) (n : ℕ) → IdleTo cs a n → length cs ≤ n → IsAtRest (known_of cs) a
-all-idle cs a n h m = record { at = λ id c k. let q = of_id cs id c k in h.at (id - 1) c (omega (arith, m, slice_get_within cs (id - 1) c q)) q }
+all_idle : (cs : List Constraint) (a : Assignment) (m : ℕ) → AreIdle cs a m (length cs) → AreIdle cs a 0 m → IsAtRest (known_of cs) a
+all_idle cs a m behind front = record {
+  at = λ id c k.
+      let q = of_id cs id c k in
+      let within = slice_get_within cs (id - 1) c q in
+      elim (cases_lt (id - 1) m) [
+        | inl less ↦ front.at (id - 1) c (omega arith) less q
+        | inr ge ↦ behind.at (id - 1) c ge within q
+      ];
+}
+
+-- what the part in front of a place shows, where those behind it are idle
+pub scan_front : (cs : List Constraint) (a : Assignment) (m : ℕ) (s : Scan) → AreIdle cs a m (length cs) → ScansPart cs a 0 m s → Scans (known_of cs) a s
+scan_front cs a m (Violated id) behind h = h
+scan_front cs a m (Forced l id) behind h = h
+scan_front cs a m Settled behind h = all_idle cs a m behind h
 
 pub scan-violated : (cs : List Constraint) (a : Assignment) (i : ℕ) (c : Constraint) → i < length cs → c ≡ get_or cs i c → ScansOne c a shown.Violated → IsConflict (known_of cs) a (i + 1)
 scan-violated cs a i c h e s = record { constraint = c; known_at = at_id cs i c (slice_get_read cs (length cs) i c refl h e); violated = s }

@@ -7,7 +7,7 @@ ghost use Rattle.ps_steps.specs.Steps.{known_of};
 ghost use Rattle.ps_learning.specs.Known.{most_known};
 ghost use Rattle.ps_learning.specs.Trails.{values, level, unset_count, AreReasons};
 ghost use Rattle.ps_learn.specs.Rest.{IsPropagated, IsLonger};
-ghost use Rattle.ps_learn.specs.Scans.{Scans, ScansOne, FirstForced};
+ghost use Rattle.ps_learn.specs.Scans.{Scans, ScansOne, ScansPart, FirstForced};
 
 use ps_io::List;
 use ps_pb::{Assignment, Constraint, Lit, slack};
@@ -67,13 +67,14 @@ fn show(c: &Constraint, a: &Assignment) -> Shown
     }
 }
 
-// The first constraint that is violated or forces a literal.
-fn scan_all(known: &[Constraint], a: &Assignment) -> Scan
+// The first constraint of a part that is violated or forces a literal.
+fn scan_part(known: &[Constraint], a: &Assignment, from: usize, to: usize) -> Scan
     requires few { length known.now ≤ most_known }
     requires inside { All (IsWithin (length a.now)) known.now }
-    ensures { Scans (known_of known.now) a.now result }
+    requires to { to ≤ length known.now }
+    ensures { ScansPart known.now a.now from to result }
 {
-    for i in 0..known.len() {
+    for i in from..to {
         match show(&known[i], a) {
             Shown::Violated => return Scan::Violated(i as u64 + 1),
             Shown::Forced(lit) => return Scan::Forced(lit, i as u64 + 1),
@@ -81,6 +82,28 @@ fn scan_all(known: &[Constraint], a: &Assignment) -> Scan
         }
     }
     Scan::Settled
+}
+
+// A place of a list of so many, or its front where there is no such place.
+fn place_within(place: usize, count: usize) -> usize
+    ensures { result ≤ count }
+{
+    if place < count { place } else { 0 }
+}
+
+// The first constraint that is violated or forces a literal, from a place on and then from the
+// front: most of those before the place were idle when it was come to.
+fn scan_round(known: &[Constraint], a: &Assignment, start: usize) -> Scan
+    requires few { length known.now ≤ most_known }
+    requires inside { All (IsWithin (length a.now)) known.now }
+    ensures { Scans (known_of known.now) a.now result }
+{
+    let start = place_within(start, known.len());
+    match scan_part(known, a, start, known.len()) {
+        Scan::Violated(id) => Scan::Violated(id),
+        Scan::Forced(lit, id) => Scan::Forced(lit, id),
+        Scan::Settled => scan_part(known, a, 0, start),
+    }
 }
 
 /// Sets forced literals with their reasons, after those that are set. `Some` names a violated
@@ -97,10 +120,14 @@ pub fn propagate_all(known: &List<Constraint>, trail: &mut Trail) -> Option<u64>
     ensures reasons { AreReasons trail.new.variables (known_of known.now) trail.new.entries }
     ensures ended { IsPropagated (known_of known.now) (values trail.new) result }
 {
+    let mut start = 0;
     'set: loop {
-        match scan_all(known.as_slice(), trail.values()) {
+        match scan_round(known.as_slice(), trail.values(), start) {
             Scan::Violated(id) => return Some(id),
-            Scan::Forced(lit, id) => trail.imply(lit, id),
+            Scan::Forced(lit, id) => {
+                trail.imply(lit, id);
+                start = (id as usize).saturating_sub(1);
+            }
             Scan::Settled => return None,
         }
     }
