@@ -59,7 +59,8 @@ pub(crate) fn first(
     requires there { IsThere setting.now.subject state.old }
     requires start { IsAtStart (run_of setting.now state.old false) }
     ensures answer { IfOk result
-        (IsPhaseOneAnswer (run_of setting.now state.old false) (run_of setting.now state.new false)) }
+        (IsPhaseOneAnswer (run_of setting.now state.old false)
+        (run_of setting.now state.new false)) }
     ensures there { IfOk result (λ _. IsThere setting.now.subject state.new) }
     ensures printed { IfOk result IsPrintedFirst }
 {
@@ -105,7 +106,8 @@ pub(crate) fn side(
     requires feasible { IsFeasible (simplex_of state.old.table) }
     requires room { HasRoom most_columns state.old }
     ensures answer { IfOk result
-        (IsSideAnswerOf kind (run_of setting.now state.old false) (run_of setting.now state.new false)) }
+        (IsSideAnswerOf kind (run_of setting.now state.old false)
+        (run_of setting.now state.new false)) }
     ensures left { IfOk result (λ _. IsLeft kind setting.now.subject state.old state.new) }
     ensures printed { IfOk result IsPrintedSide }
 {
