@@ -1,14 +1,21 @@
--- Which words spell `check`.
-use Rattle.std.proofs.Common.{◌≡◌, ◌⊎◌, inl, inr, ℕ, zero, suc, ◌^◌, ◌<◌, ◌≤◌, List, [], ◌∷◌, length, All, Contains, get_or, drop, codes, Option, Some, None, String, string_bytes, refl, sym, ap, subst, ◌∙◌, arith}
+-- Which words spell a command.
+use Rattle.std.proofs.Common.{◌≡◌, ◌≢◌, ◌⊎◌, inl, inr, ℕ, zero, suc, ◌^◌, ◌<◌, ◌≤◌, List, [], ◌∷◌, length, All, Contains, get_or, drop, codes, Option, Some, None, String, string_bytes, refl, sym, ap, subst, ◌∙◌, arith}
 use Rattle.std.specs.declared.alloc.Global.{Global}
-use Rattle.std.specs.Prelude.{IfSome, IfNone, MatchOption}
+use Rattle.std.specs.Prelude.{IfSome, IfNone, MatchOption, AllPairs}
 use Rattle.std.specs.Fmt.{decimal}
-use Rattle.std.proofs.lemmas.Fmt.{decimal_injective}
 use Rattle.std.proofs.lemmas.List.Elements.{All-nil, All-cons}
+use Rattle.ps_generation.specs.declared.limits.Limits.{Limits}
+use Rattle.ps_generation.specs.Phases.{AreLimits}
 use Rattle.psat.specs.declared.command.Command.{Command}
-use Rattle.psat.specs.declared.command.Command.TheVariants.{Check}
-use Rattle.psat.specs.Commands.{words_of, Limit, Bytes, limit_word, most_of, Setting, setting_words, AreSettings, IsSetTo, Spell, SpellNone}
+use Rattle.psat.specs.declared.command.Command.TheVariants.{Check, Solve}
+use Rattle.psat.specs.declared.command.SolveSetting.{SolveSetting}
+use Rattle.psat.specs.declared.command.SolveSetting.TheVariants as set
+use Rattle.psat.specs.Commands.{words_of, Limit, Bytes, Pivots, Conflicts, limit_word, most_of, default_of, LimitSetting, setting_words, AreSettings, IsSetTo, AreWordsOf, Spell, SpellNone}
+use Rattle.psat.specs.Settings.{search_limits, SpellSetting, SpellNoSetting, setting_of, limits_by, limits_by_both}
+use Rattle.psat.specs.Replies.{AreLimitsOf}
+use Rattle.psat.proofs.Settings.{limit-is, head-is, tail-is, setting-is, one_number, AreSmall, settings-are, set-small}
 
+-- ---- `check`
 -- no limit is set
 pub default_spelled : Spell (codes "check" ∷ []) (Check (2 ^ 30))
 default_spelled = (
@@ -21,10 +28,10 @@ default_spelled = (
 )
 
 -- the limit is set
-abbrev set_to : ℕ → Setting
+abbrev set_to : ℕ → LimitSetting
 set_to n = record { limit = Bytes; number = n }
 
-alone : (P : Setting → Type 0) (s : Setting) → P s → All P (s ∷ [])
+alone : (P : LimitSetting → Type 0) (s : LimitSetting) → P s → All P (s ∷ [])
 alone P s p = All-cons P s [] p (All-nil P)
 
 pub set_spelled : (n : ℕ) → n ≤ 2 ^ 40 → Spell (codes "check" ∷ codes "--bytes" ∷ decimal n ∷ []) (Check n)
@@ -46,59 +53,87 @@ pub data Behind (words : List (List ℕ)) (bytes : ℕ) : Type 0 where
   Default : (none : words ≡ []) (is : bytes ≡ 2 ^ 30) → Behind words bytes
   Set : (n : ℕ) (set : words ≡ codes "--bytes" ∷ decimal n ∷ []) (within : n ≤ 2 ^ 40) (is : bytes ≡ n) → Behind words bytes
 
-limit-is : (a : Limit) → a ≡ Bytes
-limit-is Bytes = refl
+only-bytes : (l : Limit) → Contains (Bytes ∷ []) l → l ≡ Bytes
+only-bytes l h = at h.0 h.1 h.2
+  where
+    at : (k : ℕ) → k < 1 → get_or (Bytes ∷ []) k l ≡ l → l ≡ Bytes
+    at zero lt e = sym e
+    at (suc k) lt e = absurd (omega arith)
 
-same_limit : (a b : Limit) → a ≡ b
-same_limit a b = limit-is a ∙ sym (limit-is b)
-
-one_setting : (s : Setting) (bytes k : ℕ) → k < 1 → get_or (s ∷ []) k (record { limit = Bytes; number = bytes }) ≡ record { limit = Bytes; number = bytes } → bytes ≡ s.number
-one_setting s bytes zero lt e = ap (λ (x : Setting). x.number) (sym e)
+one_setting : (s : LimitSetting) (bytes k : ℕ) → k < 1 → get_or (s ∷ []) k (record { limit = Bytes; number = bytes }) ≡ record { limit = Bytes; number = bytes } → bytes ≡ s.number
+one_setting s bytes zero lt e = ap (λ (x : LimitSetting). x.number) (sym e)
 one_setting s bytes (suc k) lt e = absurd (omega arith)
 
-behind : (words : List (List ℕ)) (bytes : ℕ) (ss : List Setting) → words ≡ setting_words ss → AreSettings (Bytes ∷ []) ss → IsSetTo ss Bytes bytes → Behind words bytes
+behind : (words : List (List ℕ)) (bytes : ℕ) (ss : List LimitSetting) → words ≡ setting_words ss → AreSettings (Bytes ∷ []) ss → IsSetTo ss Bytes bytes → Behind words bytes
 behind words bytes [] e are (inl h) = absurd (omega (arith, h.1))
 behind words bytes [] e are (inr h) = Default e h.1
-behind words bytes (s ∷ []) e are (inl h) =
-    Set s.number (e ∙ ap (λ l. limit_word l ∷ decimal s.number ∷ []) (limit-is s.limit)) (subst (λ l. s.number ≤ most_of l) (limit-is s.limit) (are.within 0 s (omega arith)))
-    (one_setting s bytes h.0 h.1 h.2)
-behind words bytes (s ∷ []) e are (inr h) = absurd (h.0 0 s (omega arith) (limit-is s.limit))
-behind words bytes (s ∷ t ∷ ss) e are h = absurd (are.once 0 1 s (omega arith) (omega arith) (same_limit s.limit t.limit))
-
-tail-is : {X : Type 0} (x y : X) (xs ys : List X) → x ∷ xs ≡ y ∷ ys → xs ≡ ys
-tail-is x y xs ys e = cc
+behind words bytes (s ∷ []) e are h = by (only-bytes s.limit (are.known 0 s (omega arith))) h
+  where
+    by : s.limit ≡ Bytes → IsSetTo (s ∷ []) Bytes bytes → Behind words bytes
+    by l (inl h) =
+        Set s.number (e ∙ ap (λ l. limit_word l ∷ decimal s.number ∷ []) l) (subst (λ l. s.number ≤ most_of l) l (are.within 0 s (omega arith)))
+        (one_setting s bytes h.0 h.1 h.2)
+    by l (inr h) = absurd (h.0 0 s (omega arith) l)
+behind words bytes (s ∷ t ∷ ss) e are h =
+    absurd (are.once 0 1 s (omega arith) (omega arith) (only-bytes s.limit (are.known 0 s (omega arith)) ∙ sym (only-bytes t.limit (are.known 1 s (omega arith)))))
 
 pub behind_check : (words : List (List ℕ)) (bytes : ℕ) → Spell (codes "check" ∷ words) (Check bytes) → Behind words bytes
 behind_check words bytes h = behind words bytes h.0.settings (tail-is _ _ words (setting_words h.0.settings) h.0.words_are) h.0.are h.1
 
--- the first word is the command's name
-pub name-is : (name : List ℕ) (words : List (List ℕ)) (c : Command) → Spell (name ∷ words) c → name ≡ codes "check"
-name-is name words (Check n) h = let e = h.0.words_are in cc
+-- ---- the command's name
+abbrev pub name_of : Command → List ℕ
+name_of (Check n) = codes "check"
+name_of (Solve limits) = codes "solve"
+
+pub name-is : (name : List ℕ) (words : List (List ℕ)) (c : Command) → Spell (name ∷ words) c → name ≡ name_of c
+name-is name words (Check n) h = head-is _ _ _ _ h.0.words_are
+name-is name words (Solve limits) h = head-is _ _ _ _ h.0.words_are
 
 pub no_words : (c : Command) → ¬ Spell [] c
 no_words (Check n) h = let e = h.0.words_are in absurd (cc)
+no_words (Solve limits) h = let e = h.0.words_are in absurd (cc)
 
--- words spell one command
-one_number : (words : List (List ℕ)) (m n : ℕ) → Behind words m → Behind words n → m ≡ n
-one_number words m n (Default e p) (Default f q) = p ∙ sym q
-one_number words m n (Default e p) (Set k f le q) = absurd (cc)
-one_number words m n (Set j e le p) (Default f q) = absurd (cc)
-one_number words m n (Set j e le p) (Set k f less q) =
-    let same : decimal j ≡ decimal k = cc in
-    p ∙ decimal_injective j k (omega arith) (omega arith) same ∙ sym q
+first_of : List ℕ → ℕ
+first_of w = get_or w 0 0
 
-behind_name : (words : List (List ℕ)) (n : ℕ) → Spell words (Check n) → (rest : List (List ℕ)) × (words ≡ codes "check" ∷ rest) × Behind rest n
-behind_name words n h = (setting_words h.0.settings, h.0.words_are, behind (setting_words h.0.settings) n h.0.settings refl h.0.are h.1)
+pub other_names : codes "check" ≡ codes "solve" → ⊥
+unfolding first_of
+other_names e = omega (arith, ap first_of e)
+
+-- words that no command has a name for
+pub unnamed : (name : List ℕ) (words : List (List ℕ)) → ¬ (name ≡ codes "solve") → ¬ (name ≡ codes "check") → SpellNone (name ∷ words)
+unnamed name words p q = record { none = by }
+  where
+    by : (c : Command) → ¬ Spell (name ∷ words) c
+    by (Check n) h = q (name-is name words (Check n) h)
+    by (Solve limits) h = p (name-is name words (Solve limits) h)
+
+-- ---- words spell one command
+one_limits : (l m : Limits) → l.pivots ≡ m.pivots → l.conflicts ≡ m.conflicts → l ≡ m
+one_limits l m p q = ap (λ (x : ℕ). record { pivots = x; conflicts = l.conflicts }) p ∙ ap (λ (x : ℕ). record { pivots = m.pivots; conflicts = x }) q
+
+same_settings : (name : List ℕ) (limits : List Limit) (words : List (List ℕ)) (a b : AreWordsOf name limits words) → b.settings ≡ a.settings
+same_settings name limits words a b = settings-are b.settings a.settings b.are.within a.are.within (tail-is _ _ _ _ (sym b.words_are ∙ a.words_are))
 
 pub one_command : (words : List (List ℕ)) (c d : Command) → Spell words c → Spell words d → c ≡ d
 one_command words (Check m) (Check n) a b =
-    let p = behind_name words m a in
-    let q = behind_name words n b in
-    let same : q.0 ≡ p.0 = tail-is _ _ q.0 p.0 (sym q.1 ∙ p.1) in
-    ap Check (one_number p.0 m n p.2 (subst (λ x. Behind x n) same q.2))
+    let same = same_settings (codes "check") (Bytes ∷ []) words a.0 b.0 in
+    ap Check (one_number a.0.settings a.0.are.once Bytes m n a.1 (subst (λ (ss : List LimitSetting). IsSetTo ss Bytes n) same b.1))
+one_command words (Solve l) (Solve m) a b =
+    let same = same_settings (codes "solve") (Pivots ∷ Conflicts ∷ []) words a.0 b.0 in
+    ap Solve (one_limits l m
+    (one_number a.0.settings a.0.are.once Pivots l.pivots m.pivots a.1 (subst (λ (ss : List LimitSetting). IsSetTo ss Pivots m.pivots) same b.1))
+    (one_number a.0.settings a.0.are.once Conflicts l.conflicts m.conflicts a.2 (subst (λ (ss : List LimitSetting). IsSetTo ss Conflicts m.conflicts) same b.2)))
+one_command words (Check m) (Solve l) a b = absurd (other_names (head-is _ _ _ _ (sym a.0.words_are ∙ b.0.words_are)))
+one_command words (Solve l) (Check m) a b = absurd (other_names (head-is _ _ _ _ (sym b.0.words_are ∙ a.0.words_are)))
 
--- the words of strings
+-- the limits that words spell are within theirs
+pub spelled_limits : (words : List (List ℕ)) (c : Command) → Spell words c → AreLimitsOf c
+spelled_limits words (Check n) h = tt
+spelled_limits words (Solve l) h =
+    record { pivots = set-small h.0.settings h.0.are.within Pivots l.pivots h.1; conflicts = set-small h.0.settings h.0.are.within Conflicts l.conflicts h.2 }
 
+-- ---- the words of strings
 pub words-empty : (xs : List (String Global)) → length xs ≡ 0 → words_of xs ≡ []
 words-empty [] e = refl
 words-empty (x ∷ xs) e = absurd (omega arith)
@@ -118,35 +153,52 @@ pub none_spelled : (r : Option ℕ) (word : List ℕ) (most : ℕ) → most < 2 
     → ((n : ℕ) → r ≡ Some n → n ≤ most → word ≡ decimal n → ⊥) → (n : ℕ) → n ≤ most → word ≡ decimal n → ⊥
 none_spelled r word most fits reads not n le e = not n (reads n (omega arith) e) le e
 
+-- words that spell no command of their own name spell none
+pub check_unspelled : (words : List (List ℕ)) → ((n : ℕ) → ¬ Behind words n) → SpellNone (codes "check" ∷ words)
+check_unspelled words not = record { none = by }
+  where
+    by : (c : Command) → ¬ Spell (codes "check" ∷ words) c
+    by (Check n) h = not n (behind_check words n h)
+    by (Solve l) h = absurd (other_names (name-is (codes "check") words (Solve l) h))
+
 -- what two words behind the command's name set
 pub two_spelled : (r : Option ℕ) (words : List (List ℕ)) (word : List ℕ) → words ≡ codes "--bytes" ∷ word ∷ [] → IfSome r (λ n. word ≡ decimal n) → IfSome r (λ n. n ≤ 2 ^ 40)
     → IfNone r ((n : ℕ) → n ≤ 2 ^ 40 → ¬ (word ≡ decimal n)) → MatchOption r (SpellNone (codes "check" ∷ words)) (λ n. Spell (codes "check" ∷ words) (Check n))
 two_spelled (Some n) words word e spelled within none =
     subst (λ (ws : List (List ℕ)). Spell (codes "check" ∷ ws) (Check n)) (sym (e ∙ ap (λ (x : List ℕ). codes "--bytes" ∷ x ∷ []) spelled)) (set_spelled n within)
-two_spelled None words word e spelled within none = record { none = by }
+two_spelled None words word e spelled within none = check_unspelled words not
   where
     not : (n : ℕ) → Behind words n → ⊥
     not n (Default f p) = absurd (cc)
     not n (Set k f le p) = let same : word ≡ decimal k = cc in none k le same
 
-    by : (c : Command) → ¬ Spell (codes "check" ∷ words) c
-    by (Check n) h = not n (behind_check words n h)
+-- two words of another limit set nothing
+pub other_unspelled : (word number : List ℕ) → ¬ (word ≡ codes "--bytes") → SpellNone (codes "check" ∷ word ∷ number ∷ [])
+other_unspelled word number other = check_unspelled (word ∷ number ∷ []) not
+  where
+    not : (n : ℕ) → Behind (word ∷ number ∷ []) n → ⊥
+    not n (Default f p) = omega (arith, ap length f)
+    not n (Set k f le p) = other (head-is _ _ _ _ f)
 
 -- more than two words set nothing
 pub long_unspelled : (words : List (List ℕ)) → 3 ≤ length words → SpellNone (codes "check" ∷ words)
-long_unspelled words long = record { none = by }
+long_unspelled words long = check_unspelled words (λ n b. not (behind-shape words n b))
   where
-    not : (n : ℕ) → (length words ≡ 0) ⊎ (length words ≡ 2) → ⊥
-    not n (inl e) = omega (arith, e)
-    not n (inr e) = omega (arith, e)
-
-    by : (c : Command) → ¬ Spell (codes "check" ∷ words) c
-    by (Check n) h = not n (behind-shape words n (behind_check words n h))
+    not : (length words ≡ 0) ⊎ (length words ≡ 2) → ⊥
+    not (inl e) = omega (arith, e)
+    not (inr e) = omega (arith, e)
 
 -- the command's name, and the words behind it
-pub named_spelled : (xs rest : List (String Global)) (x : String Global) (n : ℕ) → 1 ≤ length xs → x ≡ get_or xs 0 x → string_bytes x ≡ codes "check" → rest ≡ drop 1 xs
-    → Spell (codes "check" ∷ words_of rest) (Check n) → Spell (words_of xs) (Check n)
-named_spelled [] rest x n some e is behind h = absurd (omega arith)
-named_spelled (a ∷ xs) rest x n some e is behind h =
-    let name : codes "check" ≡ string_bytes a = sym is ∙ ap (λ (s : String Global). string_bytes s) e in
-    subst (λ (w : List ℕ). Spell (w ∷ words_of xs) (Check n)) name (subst (λ (ys : List (String Global)). Spell (codes "check" ∷ words_of ys) (Check n)) behind h)
+pub named_spelled : (c : Command) (name : List ℕ) (xs rest : List (String Global)) (x : String Global) → 1 ≤ length xs → x ≡ get_or xs 0 x → string_bytes x ≡ name → rest ≡ drop 1 xs
+    → Spell (name ∷ words_of rest) c → Spell (words_of xs) c
+named_spelled c name [] rest x some e is behind h = absurd (omega arith)
+named_spelled c name (a ∷ xs) rest x some e is behind h =
+    let named : name ≡ string_bytes a = sym is ∙ ap (λ (s : String Global). string_bytes s) e in
+    subst (λ (w : List ℕ). Spell (w ∷ words_of xs) c) named (subst (λ (ys : List (String Global)). Spell (name ∷ words_of ys) c) behind h)
+
+pub named_unspelled : (name : List ℕ) (xs rest : List (String Global)) (x : String Global) → 1 ≤ length xs → x ≡ get_or xs 0 x → string_bytes x ≡ name → rest ≡ drop 1 xs
+    → SpellNone (name ∷ words_of rest) → SpellNone (words_of xs)
+named_unspelled name [] rest x some e is behind h = absurd (omega arith)
+named_unspelled name (a ∷ xs) rest x some e is behind h =
+    let named : name ≡ string_bytes a = sym is ∙ ap (λ (s : String Global). string_bytes s) e in
+    subst (λ (w : List ℕ). SpellNone (w ∷ words_of xs)) named (subst (λ (ys : List (String Global)). SpellNone (name ∷ words_of ys)) behind h)

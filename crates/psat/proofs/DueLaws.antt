@@ -1,6 +1,7 @@
 -- What is due for what was read and judged.
-use Rattle.std.proofs.Common.{◌≡◌, ℕ, ◌+◌, ◌-◌, ◌<◌, take, drop, arith, length-drop, length-append, ◌≤◌, List, [], ◌++◌, length, Option, Some, None, Err, refl, sym, ap, subst, ◌∙◌, append-nil}
+use Rattle.std.proofs.Common.{◌≡◌, ◌⊎◌, inl, inr, ℕ, ◌+◌, ◌-◌, ◌<◌, ◌^◌, take, drop, arith, length-drop, length-append, ◌≤◌, List, [], ◌++◌, length, Option, Some, None, Err, refl, sym, ap, subst, ◌∙◌, append-nil}
 use Rattle.std.proofs.Math.Seq.{take_all}
+use Rattle.std.proofs.lemmas.Option.{same_Some}
 use Rattle.ps_problem.specs.Problems.{Parts}
 use Rattle.ps_answer.specs.declared.answer.Answer.{Answer}
 use Rattle.ps_answer.specs.declared.error.LineKind.{LineKind}
@@ -9,7 +10,7 @@ use Rattle.ps_answer.specs.declared.error.ReportError.TheVariants as errors
 use Rattle.ps_read.specs.declared.read_error.ReadError.{ReadError}
 use Rattle.ps_read.specs.declared.read_error.ReadError.TheVariants as unread
 use Rattle.ps_read.specs.declared.read_kind.ReadKind.{ReadKind}
-use Rattle.ps_read.specs.Readings.{IsUnread}
+use Rattle.ps_read.specs.Readings.{SpellsWhole, IsUnread, IsUnreadWhole}
 use Rattle.ps_read.specs.Reads.{Tells}
 use Rattle.ps_reader.specs.Errors.{TellsFault}
 use Rattle.ps_claims.specs.Claims.{claims_of}
@@ -21,17 +22,19 @@ use Rattle.ps_valid.specs.Answers.{answer_of, IsRightOf}
 use Rattle.ps_valid.specs.Judged.{IsJudged, IsAccepted, place_of, fault_of}
 use Rattle.ps_io.specs.Transfer.{Appends, ReadAll, TookMore, TookWithin}
 use Rattle.ps_io.specs.declared.limits.TheConstants.{LONGEST_READ}
+use Rattle.ps_generation.specs.declared.limits.Limits.{Limits}
+use Rattle.ps_query.specs.Solutions.{IsReadBack, IsSolution}
 use Rattle.psat.specs.declared.command.Command.{Command}
 use Rattle.psat.specs.declared.command.Command.TheVariants as commands
 use Rattle.psat.specs.declared.status.Status.{Status}
 use Rattle.psat.specs.declared.status.Status.TheVariants as status
-use Rattle.psat.specs.Commands.{Spell, SpellNone}
-use Rattle.psat.specs.Statuses.{GoesWithText, IsAnswer}
+use Rattle.psat.specs.Commands.{Spell, SpellNone, limit_of}
+use Rattle.psat.specs.Statuses.{EndsCheck, EndsSolve, GoesWithText, IsAnswerOf, MayAnswer}
 use Rattle.psat.specs.Due as due
-use Rattle.psat.specs.Due.{Output, too_long, usage, refused_line, unreadable, searched, DueAnswer, DueReport, FaultAt, DueText, NotRead, Within, TooLong, Due, ForCommand, ForNone}
+use Rattle.psat.specs.Due.{Output, too_long, usage, refused_line, unreadable, searched, DueAnswer, DueReport, FaultAt, DueText, NotRead, DueAnswered, NoProblem, IsSolvedBy, Solved, Within, TooLong, DueFor, Due, ForCommand, ForNone, report_of, status_by, status_after}
 use Rattle.psat.proofs.CommandLaws.{one_command}
-use Rattle.psat.specs.Runs.{WasRead, Took, HasTaken, HasRead, Ran}
-use Rattle.psat.specs.Replies.{IsDueFor, IsDue}
+use Rattle.psat.specs.Runs.{IsTold, WasRead, Took, HasAnswered, HasTaken, HasRead, Cut, Ran, CountsWrites}
+use Rattle.psat.specs.Replies.{AreWithin, DueBytes, IsDueFor, IsDue}
 
 pub rest-is : (n : ℕ) (bs : List ℕ) → take (length bs - n) (drop n bs) ≡ drop n bs
 rest-is n bs = take_all (length bs - n) (drop n bs) (omega (arith, length-drop n bs))
@@ -66,12 +69,32 @@ whole-is most (Some xs) (Some ys) taken bytes h e =
     let same : xs ≡ bytes = cc in
     sym (append-nil taken) ∙ ap (λ r. taken ++ r) (sym none) ∙ sym all ∙ same
 
-pub input_due : (limit : ℕ) (old new : Option (List ℕ)) (taken given : List ℕ) (o : Output) → ReadAll limit old new taken → given ≡ taken → DueText given o
-    → IsDueFor (commands.Check limit) old o
-input_due limit old new taken given o h same due = record {
-  due = λ bytes e.
-      let is : taken ≡ bytes = whole-is limit old new taken bytes h e in
-      Within (subst (λ (x : List ℕ). length x ≤ limit) is h.within) (subst (λ (x : List ℕ). DueText x o) (same ∙ is) due);
+-- a command that reads so many bytes at most is told what the source had left
+told-is : (c : Command) (limit : ℕ) (left : Option (List ℕ)) (bytes : List ℕ) → limit_of c ≡ Some limit → IsTold c left bytes → left ≡ Some bytes
+told-is (commands.Check n) limit left bytes e h = h
+told-is (commands.Solve l) limit left bytes e h = h
+
+within_due : (c : Command) (limit : ℕ) (bytes : List ℕ) (o : Output) → limit_of c ≡ Some limit → length bytes ≤ limit → DueBytes c bytes o → DueFor c bytes o
+within_due (commands.Check n) limit bytes o e few d = let same : n ≡ limit = same_Some n limit e in Within (subst (λ (m : ℕ). length bytes ≤ m) (sym same) few) d
+within_due (commands.Solve l) limit bytes o e few d = let same : 2 ^ 20 ≡ limit = same_Some (2 ^ 20) limit e in Within (subst (λ (m : ℕ). length bytes ≤ m) (sym same) few) d
+
+more_due : (c : Command) (limit : ℕ) (bytes : List ℕ) (o : Output) → limit_of c ≡ Some limit → limit < length bytes → o ≡ too_long limit → DueFor c bytes o
+more_due (commands.Check n) limit bytes o e more is =
+    let same : n ≡ limit = same_Some n limit e in TooLong (subst (λ (m : ℕ). m < length bytes) (sym same) more) (subst (λ (m : ℕ). o ≡ too_long m) (sym same) is)
+more_due (commands.Solve l) limit bytes o e more is =
+    let same : 2 ^ 20 ≡ limit = same_Some (2 ^ 20) limit e in
+    TooLong (subst (λ (m : ℕ). m < length bytes) (sym same) more) (subst (λ (m : ℕ). o ≡ too_long m) (sym same) is)
+
+pub within_limit : (c : Command) (limit n : ℕ) → limit_of c ≡ Some limit → n ≤ limit → AreWithin c n
+within_limit (commands.Check m) limit n e le = let same : m ≡ limit = same_Some m limit e in omega (arith, le, same)
+within_limit (commands.Solve l) limit n e le = let same : 2 ^ 20 ≡ limit = same_Some (2 ^ 20) limit e in omega (arith, le, same)
+
+pub input_due : (c : Command) (limit : ℕ) (old new : Option (List ℕ)) (taken given : List ℕ) (o : Output) → limit_of c ≡ Some limit → ReadAll limit old new taken → given ≡ taken
+    → DueBytes c given o → IsDueFor c old o
+input_due c limit old new taken given o reads h same due = record {
+  due = λ bytes told.
+      let is : taken ≡ bytes = whole-is limit old new taken bytes h (told-is c limit old bytes reads told) in
+      within_due c limit bytes o reads (subst (λ (x : List ℕ). length x ≤ limit) is h.within) (subst (λ (x : List ℕ). DueBytes c x o) (same ∙ is) due);
 }
 
 -- where more than the limit was taken, there was more
@@ -81,8 +104,10 @@ more_is limit xs (Some ys) h =
     let all : length xs ≡ length h.taken + length ys = ap length h.consumed ∙ length-append h.taken ys in
     omega (arith, h.more)
 
-pub long_due : (limit : ℕ) (old new : Option (List ℕ)) (o : Output) → TookMore limit old new → o ≡ too_long limit → IsDueFor (commands.Check limit) old o
-long_due limit old new o h is = record { due = λ bytes e. TooLong (more_is limit bytes new (rw e at h)) is }
+pub long_due : (c : Command) (limit : ℕ) (old new : Option (List ℕ)) (o : Output) → limit_of c ≡ Some limit → TookMore limit old new → o ≡ too_long limit → IsDueFor c old o
+long_due c limit old new o reads h is = record {
+  due = λ bytes told. let e = told-is c limit old bytes reads told in more_due c limit bytes o reads (more_is limit bytes new (rw e at h)) is;
+}
 
 pub read_whole : (limit : ℕ) (old new : Option (List ℕ)) (taken : List ℕ) → ReadAll limit old new taken → WasRead limit old new
 read_whole limit None new taken h = record { within = tt; long = tt }
@@ -105,21 +130,42 @@ took_within limit old new h = record { taken = h.taken; consumed = h.consumed; w
 pub took_more : (limit : ℕ) (old new : Option (List ℕ)) → TookMore limit old new → TookWithin (limit + LONGEST_READ) old new
 took_more limit old new h = record { taken = h.taken; consumed = h.consumed; within = h.within }
 
+-- an answer of a command goes with a text
+check_goes : (s : Status) → EndsCheck s → GoesWithText s
+check_goes status.ReadFault g = g
+check_goes status.WriteFault g = g
+check_goes status.NoMemory g = g
+check_goes s g = tt
+
+solve_goes : (s : Status) → EndsSolve s → GoesWithText s
+solve_goes status.ReadFault g = g
+solve_goes status.WriteFault g = g
+solve_goes status.NoMemory g = g
+solve_goes s g = tt
+
+pub answer_goes : (c : Command) (s : Status) → IsAnswerOf c s → GoesWithText s
+answer_goes (commands.Check n) s g = check_goes s g
+answer_goes (commands.Solve l) s g = solve_goes s g
+
 -- at an answer the source was read
-pub took_by : (limit : ℕ) (s : Status) (old new : Option (List ℕ)) → IsAnswer s → WasRead limit old new → Took limit s old new
+pub took_by : (limit : ℕ) (s : Status) (old new : Option (List ℕ)) → GoesWithText s → WasRead limit old new → Took limit s old new
 took_by limit status.Done old new g r = r
+took_by limit status.Inconsistent old new g r = r
+took_by limit status.Usage old new g r = r
 took_by limit status.Unreadable old new g r = r
+took_by limit status.Unfinished old new g r = r
 took_by limit status.Refused old new g r = r
-took_by limit status.Usage old new g r = absurd g
 took_by limit status.ReadFault old new g r = absurd g
 took_by limit status.WriteFault old new g r = absurd g
 took_by limit status.NoMemory old new g r = absurd g
 
 was_read : (limit : ℕ) (s : Status) (old new : Option (List ℕ)) → GoesWithText s → Took limit s old new → WasRead limit old new
 was_read limit status.Done old new g r = r
-was_read limit status.Unreadable old new g r = r
-was_read limit status.Refused old new g r = r
+was_read limit status.Inconsistent old new g r = r
 was_read limit status.Usage old new g r = r
+was_read limit status.Unreadable old new g r = r
+was_read limit status.Unfinished old new g r = r
+was_read limit status.Refused old new g r = r
 was_read limit status.ReadFault old new g r = absurd g
 was_read limit status.WriteFault old new g r = absurd g
 was_read limit status.NoMemory old new g r = absurd g
@@ -130,6 +176,7 @@ read_cut words s old new g h = record { read = λ command spelled. by command (h
   where
     by : (command : Command) → HasTaken command s old new → HasTaken command status.WriteFault old new
     by (commands.Check limit) taken = was_read limit s old new g taken
+    by (commands.Solve limits) taken = was_read (2 ^ 20) s old new g taken
 
 pub command_due : (words : List (List ℕ)) (command : Command) (left : Option (List ℕ)) (o : Output) → Spell words command → IsDueFor command left o → IsDue words left o
 command_due words command left o spelled h = record { due = λ bytes given. ForCommand command spelled (h.due bytes (given.told command spelled)) }
@@ -140,15 +187,33 @@ usage_due words left o none is = record { due = λ bytes given. ForNone none is 
 pub command_read : (words : List (List ℕ)) (command : Command) (s : Status) (old new : Option (List ℕ)) → Spell words command → HasTaken command s old new → HasRead words s old new
 command_read words command s old new spelled h = record { read = λ c also. subst (λ (x : Command). HasTaken x s old new) (one_command words command c spelled also) h }
 
+-- the status is one of the words' command
+pub command_answered : (words : List (List ℕ)) (command : Command) (s : Status) → Spell words command → IsAnswerOf command s → HasAnswered words s
+command_answered words command s spelled h = record { answered = λ c also. inl (subst (λ (x : Command). IsAnswerOf x s) (one_command words command c spelled also) h) }
+
+pub none_answered : (words : List (List ℕ)) (s : Status) → SpellNone words → HasAnswered words s
+none_answered words s none = record { answered = λ c spelled. absurd (none.none c spelled) }
+
 pub none_read : (words : List (List ℕ)) (s : Status) (old new : Option (List ℕ)) → SpellNone words → HasRead words s old new
 none_read words s old new none = record { read = λ c spelled. absurd (none.none c spelled) }
 
 pub ran_by : (words : List (List ℕ)) (bytes text : List ℕ) (s : Status) (old new : Option (List ℕ)) → GoesWithText s
     → Due words bytes (record { text = text; status = s }) → Appends old new text → Ran words bytes s old new
 ran_by words bytes text status.Done old new g d a = record { output = record { text = text; status = status.Done }; due = d; status_is = refl; written = a }
+ran_by words bytes text status.Inconsistent old new g d a = record { output = record { text = text; status = status.Inconsistent }; due = d; status_is = refl; written = a }
+ran_by words bytes text status.Unfinished old new g d a = record { output = record { text = text; status = status.Unfinished }; due = d; status_is = refl; written = a }
 ran_by words bytes text status.Usage old new g d a = record { output = record { text = text; status = status.Usage }; due = d; status_is = refl; written = a }
 ran_by words bytes text status.Unreadable old new g d a = record { output = record { text = text; status = status.Unreadable }; due = d; status_is = refl; written = a }
 ran_by words bytes text status.Refused old new g d a = record { output = record { text = text; status = status.Refused }; due = d; status_is = refl; written = a }
 ran_by words bytes text status.ReadFault old new g d a = absurd g
 ran_by words bytes text status.WriteFault old new g d a = absurd g
 ran_by words bytes text status.NoMemory old new g d a = absurd g
+
+-- ---- due for the bytes of a problem
+pub solved_due : (limits : Limits) (bytes : List ℕ) (p : Parts) (a : Answer) → SpellsWhole bytes p → IsSolution limits p a → IsReadBack limits a
+    → DueAnswered limits bytes (record { text = report_of a; status = status_after a })
+solved_due limits bytes p a spells solution back = Solved p a (record { spells = spells; solution = solution; read_back = back; is = refl })
+
+pub unsolved_due : (limits : Limits) (bytes : List ℕ) (e : ReadError) (kind : ReadKind) (l k : ℕ) (o : Output) → e ≡ unread.At kind l k → Tells (IsUnreadWhole bytes) e
+    → o ≡ unreadable kind (record { line = l; column = k }) → DueAnswered limits bytes o
+unsolved_due limits bytes e kind l k o is told shown = let at = rw is at told in NoProblem kind (record { line = l; column = k }) at shown

@@ -1,3 +1,9 @@
+pub mod Settings
 pub mod CommandLaws
+pub mod SolveWords
 pub mod DueLaws
 pub mod OneOutput
+pub mod Behind
+pub mod Accepted
+pub mod RunLaws
+pub mod OpenParts

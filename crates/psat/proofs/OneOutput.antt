@@ -1,16 +1,18 @@
 -- For words and bytes at most one output is due.
-use Rattle.std.proofs.Common.{◌≡◌, ℕ, List, drop, sym, ap, subst, ◌∙◌, arith}
-use Rattle.ps_read.specs.Readings.{Read, Unread}
-use Rattle.ps_read.proofs.OneReading.{one_reading}
+use Rattle.std.proofs.Common.{◌≡◌, ◌≤◌, ◌^◌, ℕ, List, length, drop, sym, ap, subst, ◌∙◌, arith}
+use Rattle.ps_read.specs.Readings.{SpellsWhole, Read, Unread}
+use Rattle.ps_read.proofs.OneReading.{one_reading, one_whole_reading}
 use Rattle.ps_problem.specs.Problems.{Parts}
 use Rattle.ps_answer.specs.declared.answer.Answer.{Answer}
 use Rattle.ps_answer.proofs.Single.{no_fault, one_fault, one_answer, report_is_text}
 use Rattle.ps_claims.proofs.Claims.{valid_accepted}
 use Rattle.ps_valid.specs.Answers.{answer_of}
 use Rattle.ps_valid.proofs.SingleFaults.{one_refused}
+use Rattle.ps_generation.specs.declared.limits.Limits.{Limits}
 use Rattle.psat.specs.declared.command.Command.{Command}
 use Rattle.psat.specs.declared.command.Command.TheVariants as commands
-use Rattle.psat.specs.Due.{Output, refused, refused_line, unreadable, DueAnswer, Accepted, RefusedFor, DueReport, ReadAs, FaultAt, DueText, Spelled, NotRead, searched, DueInput, Within, TooLong, DueFor, Due, ForCommand, ForNone}
+use Rattle.psat.specs.Commands.{Spell}
+use Rattle.psat.specs.Due.{Output, refused, refused_line, unreadable, DueAnswer, Accepted, RefusedFor, DueReport, ReadAs, FaultAt, DueText, Spelled, NotRead, searched, DueAnswered, Solved, NoProblem, DueWithin, Within, TooLong, DueFor, Due, ForCommand, ForNone, IsSingle}
 use Rattle.psat.proofs.CommandLaws.{one_command}
 
 one_judged : (p : Parts) (a : Answer) (o o' : Output) → DueAnswer p a o → DueAnswer p a o' → o ≡ o'
@@ -45,18 +47,30 @@ one_text bytes o o' (NotRead kind at u is) (NotRead other there v is') =
     let l : at ≡ there = cc in
     is ∙ ap (λ x. unreadable x at) k ∙ ap (λ x. unreadable other x) l ∙ sym is'
 
-one_input : (limit : ℕ) (bytes : List ℕ) (o o' : Output) → DueInput limit bytes o → DueInput limit bytes o' → o ≡ o'
-one_input limit bytes o o' (Within few t) (Within few' t') = one_text bytes o o' t t'
-one_input limit bytes o o' (Within few t) (TooLong more is) = absurd (omega (arith, few, more))
-one_input limit bytes o o' (TooLong more is) (Within few t) = absurd (omega (arith, few, more))
-one_input limit bytes o o' (TooLong more is) (TooLong more' is') = is ∙ sym is'
+-- which of the bytes within the limit are answered
+one_within : (limit : ℕ) (D : List ℕ → Output → Type 0) (bytes : List ℕ) (o o' : Output) → (length bytes ≤ limit → D bytes o → D bytes o' → o ≡ o') → DueWithin limit D bytes o
+    → DueWithin limit D bytes o' → o ≡ o'
+one_within limit D bytes o o' one (Within few d) (Within few' d') = one few d d'
+one_within limit D bytes o o' one (Within few d) (TooLong more is) = absurd (omega (arith, few, more))
+one_within limit D bytes o o' one (TooLong more is) (Within few d) = absurd (omega (arith, few, more))
+one_within limit D bytes o o' one (TooLong more is) (TooLong more' is') = is ∙ sym is'
 
-one_for_command : (c : Command) (bytes : List ℕ) (o o' : Output) → DueFor c bytes o → DueFor c bytes o' → o ≡ o'
-one_for_command (commands.Check limit) bytes o o' d e = one_input limit bytes o o' d e
+one_unread : (limits : Limits) (bytes : List ℕ) (o o' : Output) → ((p : Parts) → ¬ SpellsWhole bytes p) → DueAnswered limits bytes o → DueAnswered limits bytes o' → o ≡ o'
+one_unread limits bytes o o' none (Solved p a h) d = absurd (none p h.spells)
+one_unread limits bytes o o' none (NoProblem kind at u is) (Solved p a h) = absurd (none p h.spells)
+one_unread limits bytes o o' none (NoProblem kind at u is) (NoProblem other there v is') =
+    let same : Unread kind at ≡ Unread other there = one_whole_reading bytes (Unread kind at) (Unread other there) u v in
+    let k : kind ≡ other = cc in
+    let l : at ≡ there = cc in
+    is ∙ ap (λ x. unreadable x at) k ∙ ap (λ x. unreadable other x) l ∙ sym is'
 
-pub one_output : (words : List (List ℕ)) (bytes : List ℕ) (o o' : Output) → Due words bytes o → Due words bytes o' → o ≡ o'
-one_output words bytes o o' (ForCommand c spelled d) (ForCommand c' spelled' d') =
-    one_for_command c bytes o o' d (subst (λ (x : Command). DueFor x bytes o') (one_command words c' c spelled' spelled) d')
-one_output words bytes o o' (ForCommand c spelled d) (ForNone none is) = absurd (none.none c spelled)
-one_output words bytes o o' (ForNone none is) (ForCommand c spelled d) = absurd (none.none c spelled)
-one_output words bytes o o' (ForNone none is) (ForNone none' is') = is ∙ sym is'
+one_for_command : (c : Command) (bytes : List ℕ) (o o' : Output) → IsSingle c bytes → DueFor c bytes o → DueFor c bytes o' → o ≡ o'
+one_for_command (commands.Check limit) bytes o o' single d e = one_within limit DueText bytes o o' (λ few. one_text bytes o o') d e
+one_for_command (commands.Solve limits) bytes o o' single d e = one_within (2 ^ 20) (DueAnswered limits) bytes o o' (λ few. one_unread limits bytes o o' (λ p. single p few)) d e
+
+pub one_output : (words : List (List ℕ)) (bytes : List ℕ) (o o' : Output) → ((c : Command) → Spell words c → IsSingle c bytes) → Due words bytes o → Due words bytes o' → o ≡ o'
+one_output words bytes o o' single (ForCommand c spelled d) (ForCommand c' spelled' d') =
+    one_for_command c bytes o o' (single c spelled) d (subst (λ (x : Command). DueFor x bytes o') (one_command words c' c spelled' spelled) d')
+one_output words bytes o o' single (ForCommand c spelled d) (ForNone none is) = absurd (none.none c spelled)
+one_output words bytes o o' single (ForNone none is) (ForCommand c spelled d) = absurd (none.none c spelled)
+one_output words bytes o o' single (ForNone none is) (ForNone none' is') = is ∙ sym is'

@@ -1,19 +1,25 @@
 -- What the program writes for words and an input, and the status with which it ends.
-use Rattle.std.specs.Prelude.{◌≡◌, ◌<◌, ◌≤◌, ◌-◌, ◌^◌, ℕ, List, ◌++◌, length, take, drop, codes, decimal}
+use Rattle.std.specs.Prelude.{◌≡◌, ◌<◌, ◌≤◌, ◌-◌, ◌^◌, ℕ, zero, suc, false, List, ◌++◌, length, take, drop, codes, decimal}
+use Rattle.ps_io.specs.LineText.{lines_bytes}
 use Rattle.ps_text.specs.Positions.{Position}
 use Rattle.ps_read.specs.declared.read_kind.ReadKind.{ReadKind}
-use Rattle.ps_read.specs.Readings.{SpellsProblem, IsUnread}
+use Rattle.ps_read.specs.Readings.{SpellsProblem, SpellsWhole, IsUnread, IsUnreadWhole}
 use Rattle.ps_problem.specs.Problems.{Parts}
 use Rattle.ps_answer.specs.declared.answer.Answer.{Answer}
+use Rattle.ps_answer.specs.declared.answer.Verdict.{Verdict}
+use Rattle.ps_answer.specs.declared.answer.Verdict.TheVariants as answer
+use Rattle.ps_answer.specs.Answers.{answer_lines}
 use Rattle.ps_answer.specs.declared.error.LineKind.{LineKind}
 use Rattle.ps_answer.specs.Faults.{IsReport, IsFirstFault}
 use Rattle.ps_claims.specs.Claims.{Place, Fault, IsRefused, claims_of, unfinished_of}
 use Rattle.ps_claims.specs.Validity.{IsValid}
 use Rattle.ps_valid.specs.Answers.{answer_of, IsRightOf}
+use Rattle.ps_generation.specs.declared.limits.Limits.{Limits}
+use Rattle.ps_query.specs.Solutions.{IsReadBack, IsSolution}
 use Rattle.psat.specs.declared.status.Status.{Status}
-use Rattle.psat.specs.declared.status.Status.TheVariants.{Done, Usage, Unreadable, Refused}
+use Rattle.psat.specs.declared.status.Status.TheVariants.{Done, Inconsistent, Usage, Unreadable, Unfinished, Refused}
 use Rattle.psat.specs.declared.command.Command.{Command}
-use Rattle.psat.specs.declared.command.Command.TheVariants.{Check}
+use Rattle.psat.specs.declared.command.Command.TheVariants.{Check, Solve}
 use Rattle.psat.specs.Commands.{Spell, SpellNone}
 use Rattle.psat.specs.Words.{kind_words, line_words, place_words, fault_words}
 
@@ -70,20 +76,55 @@ pub data DueText (bytes : List ℕ) (o : Output) : Type 0 where
   Spelled : (p : Parts) (place : ℕ) (spells : SpellsProblem (searched bytes) p place) (report : DueReport p (drop place bytes) o) → DueText bytes o
   NotRead : (kind : ReadKind) (at : Position) (unread : IsUnread (searched bytes) kind at) (is : o ≡ unreadable kind at) → DueText bytes o
 
--- due for what the source had left, where at most so many bytes are read
-pub data DueInput (limit : ℕ) (bytes : List ℕ) (o : Output) : Type 0 where
-  Within : (within : length bytes ≤ limit) (text : DueText bytes o) → DueInput limit bytes o
-  TooLong : (more : limit < length bytes) (is : o ≡ too_long limit) → DueInput limit bytes o
+-- what is written of an answer: its report
+abbrev pub report_of : Answer → List ℕ
+report_of a = lines_bytes false (answer_lines a)
+
+-- the status after a verdict, where so much is open
+abbrev pub status_by : Verdict → ℕ → Status
+status_by (answer.Inconsistent d) n = Inconsistent
+status_by other zero = Done
+status_by other (suc n) = Unfinished
+
+-- the status after the report of an answer
+abbrev pub status_after : Answer → Status
+status_after a = status_by a.verdict (unfinished_of (answer_of a))
+
+-- the output is the report of an answer to the problem that all of the bytes spell: it is valid and right, its runs are lawful within
+-- the limits, what is open is licensed, and where nothing is open or the pivots were fewer than the most, the report is read back
+pub record IsSolvedBy (limits : Limits) (bytes : List ℕ) (o : Output) (p : Parts) (a : Answer) : Type 0 where
+  pub spells : SpellsWhole bytes p
+  pub solution : IsSolution limits p a
+  pub read_back : IsReadBack limits a
+  pub is : o ≡ record { text = report_of a; status = status_after a }
+
+-- due for the bytes of a problem: the report of an answer to it, or they are no problem, for a kind of refusal at a position
+pub data DueAnswered (limits : Limits) (bytes : List ℕ) (o : Output) : Type 0 where
+  Solved : (p : Parts) (a : Answer) (answered : IsSolvedBy limits bytes o p a) → DueAnswered limits bytes o
+  NoProblem : (kind : ReadKind) (at : Position) (unread : IsUnreadWhole bytes kind at) (is : o ≡ unreadable kind at) → DueAnswered limits bytes o
+
+-- due for what the source had left, of which so many bytes are read at most, by what is due for bytes within the limit
+pub data DueWithin (limit : ℕ) (DueOf : List ℕ → Output → Type 0) (bytes : List ℕ) (o : Output) : Type 0 where
+  Within : (within : length bytes ≤ limit) (due : DueOf bytes o) → DueWithin limit DueOf bytes o
+  TooLong : (more : limit < length bytes) (is : o ≡ too_long limit) → DueWithin limit DueOf bytes o
 
 -- due for a command and what the source had left
 abbrev pub DueFor : Command → List ℕ → Output → Type 0
-DueFor (Check limit) bytes o = DueInput limit bytes o
+DueFor (Check limit) bytes o = DueWithin limit DueText bytes o
+DueFor (Solve limits) bytes o = DueWithin (2 ^ 20) (DueAnswered limits) bytes o
 
 -- due for words and bytes: what is due for the command that the words spell, or else the usage line
 pub data Due (words : List (List ℕ)) (bytes : List ℕ) (o : Output) : Type 0 where
   ForCommand : (command : Command) (spelled : Spell words command) (due : DueFor command bytes o) → Due words bytes o
   ForNone : (none : SpellNone words) (is : o ≡ usage) → Due words bytes o
 
--- for words and bytes at most one output is due
+-- one output at most is due for a command and bytes: for `solve` where the bytes are too long or no problem, since several answers to
+-- one problem may be right
+abbrev pub IsSingle : Command → List ℕ → Type 0
+IsSingle (Check limit) bytes = Unit {0}
+IsSingle (Solve limits) bytes = (p : Parts) → length bytes ≤ 2 ^ 20 → ¬ SpellsWhole bytes p
+
+-- for words and bytes at most one output is due, but for the words of `solve` and a problem
 abbrev pub OneOutputIsDue : Type 0
-OneOutputIsDue = (words : List (List ℕ)) (bytes : List ℕ) (o p : Output) → Due words bytes o → Due words bytes p → o ≡ p
+OneOutputIsDue = (words : List (List ℕ)) (bytes : List ℕ) (o p : Output) → ((c : Command) → Spell words c → IsSingle c bytes)
+    → Due words bytes o → Due words bytes p → o ≡ p

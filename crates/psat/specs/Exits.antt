@@ -1,10 +1,11 @@
 -- The number with which the program ends.
-use Rattle.std.specs.Prelude.{ℕ, List, drop, Option, Result, Ok, Err, IfOk, String}
+use Rattle.std.specs.Prelude.{ℕ, List, drop, codes, Option, Some, None, Result, Ok, Err, IfOk, String}
 use Rattle.std.specs.Vec.Iter.{into_iter_items}
 use Rattle.std.specs.declared.alloc.Global.{Global}
 use Rattle.std.specs.declared.vec.IntoIter.{IntoIter}
 use Rattle.psat.specs.declared.exit.NoWords.{NoWords}
 use Rattle.psat.specs.declared.status.Status.{Status}
+use Rattle.psat.specs.declared.status.Status.TheVariants.{ReadFault, WriteFault, NoMemory}
 use Rattle.psat.specs.Commands.{words_of}
 use Rattle.psat.specs.Runs.{IsGiven, Ran}
 use Rattle.psat.specs.Statuses.{status_number}
@@ -25,3 +26,11 @@ pub record HasWritten (words : List (List ℕ)) (status : Status) (left old new 
 abbrev pub exit_number : Result Status NoWords → ℕ
 exit_number (Ok status) = status_number status
 exit_number (Err none) = 10
+
+-- what `main` tells of a failure: none where the due text was written
+abbrev pub failure_words : Result Status NoWords → Option (List ℕ)
+failure_words (Ok ReadFault) = Some (codes "standard input failed")
+failure_words (Ok WriteFault) = Some (codes "standard output failed")
+failure_words (Ok NoMemory) = Some (codes "not enough memory")
+failure_words (Ok status) = None
+failure_words (Err none) = Some (codes "the words can't be had")

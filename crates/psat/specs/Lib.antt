@@ -3,7 +3,9 @@ pub mod Statuses
 pub mod Commands
 pub mod Words
 pub mod Due
+pub mod Accepting
 pub mod Runs
 pub mod Exits
--- Bridge: what a reply stands for
+-- Bridge: what two words set, and what a reply stands for
+pub mod Settings
 pub mod Replies

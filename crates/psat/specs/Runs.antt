@@ -8,6 +8,7 @@ use Rattle.psat.specs.declared.command.Command.{Command}
 use Rattle.psat.specs.declared.status.Status.{Status}
 use Rattle.psat.specs.declared.status.Status.TheVariants.{ReadFault, WriteFault, NoMemory}
 use Rattle.psat.specs.Commands.{Spell, limit_of}
+use Rattle.psat.specs.Statuses.{MayAnswer}
 use Rattle.psat.specs.Due.{Output, Due}
 
 -- the bytes are those that the source had left, if the command reads
@@ -37,6 +38,10 @@ HasTaken command status old new = IfSome (limit_of command) (λ limit. Took limi
 -- what the command of the words took from the source
 pub record HasRead (words : List (List ℕ)) (status : Status) (old new : Option (List ℕ)) : Type 0 where
   pub read : (command : Command) → Spell words command → HasTaken command status old new
+
+-- the status is one of the command of the words, or a call failed
+pub record HasAnswered (words : List (List ℕ)) (status : Status) : Type 0 where
+  pub answered : (command : Command) → Spell words command → MayAnswer command status
 
 -- a source's count of faults rises by one at a read fault, and else stays as it was
 abbrev pub CountsReads : Status → ℕ → ℕ → Type 0

@@ -1,28 +1,58 @@
 -- The numbers of statuses, and which of them go with a text.
-use Rattle.std.specs.Prelude.{ℕ}
+use Rattle.std.specs.Prelude.{ℕ, ◌⊎◌}
+use Rattle.psat.specs.declared.command.Command.{Command}
+use Rattle.psat.specs.declared.command.Command.TheVariants.{Check, Solve}
 use Rattle.psat.specs.declared.status.Status.{Status}
-use Rattle.psat.specs.declared.status.Status.TheVariants.{Done, Usage, Unreadable, ReadFault, WriteFault, NoMemory, Refused}
+use Rattle.psat.specs.declared.status.Status.TheVariants.{Done, Inconsistent, Usage, Unreadable, Unfinished, ReadFault, WriteFault, NoMemory, Refused}
 
 abbrev pub status_number : Status → ℕ
 status_number Done = 0
+status_number Inconsistent = 1
 status_number Usage = 2
 status_number Unreadable = 3
+status_number Unfinished = 4
 status_number ReadFault = 5
 status_number WriteFault = 6
 status_number NoMemory = 7
 status_number Refused = 8
 
--- the answer to an input that was read
-abbrev pub IsAnswer : Status → Type 0
-IsAnswer Done = Unit {0}
-IsAnswer Unreadable = Unit {0}
-IsAnswer Refused = Unit {0}
-IsAnswer other = ⊥
+-- the answer of `check` to an input that was read
+abbrev pub EndsCheck : Status → Type 0
+EndsCheck Done = Unit {0}
+EndsCheck Unreadable = Unit {0}
+EndsCheck Refused = Unit {0}
+EndsCheck other = ⊥
+
+-- the answer of `solve` to an input that was read
+abbrev pub EndsSolve : Status → Type 0
+EndsSolve Done = Unit {0}
+EndsSolve Inconsistent = Unit {0}
+EndsSolve Unreadable = Unit {0}
+EndsSolve Unfinished = Unit {0}
+EndsSolve other = ⊥
+
+-- the answer of a command to an input that was read
+abbrev pub IsAnswerOf : Command → Status → Type 0
+IsAnswerOf (Check limit) status = EndsCheck status
+IsAnswerOf (Solve limits) status = EndsSolve status
 
 -- a status that goes with a text
 abbrev pub GoesWithText : Status → Type 0
-GoesWithText Usage = Unit {0}
-GoesWithText status = IsAnswer status
+GoesWithText ReadFault = ⊥
+GoesWithText WriteFault = ⊥
+GoesWithText NoMemory = ⊥
+GoesWithText status = Unit {0}
+
+-- a status that is answered where a call failed
+abbrev pub IsFailure : Status → Type 0
+IsFailure ReadFault = Unit {0}
+IsFailure WriteFault = Unit {0}
+IsFailure NoMemory = Unit {0}
+IsFailure status = ⊥
+
+-- the status is one of the command's, or a call failed
+abbrev pub MayAnswer : Command → Status → Type 0
+MayAnswer command status = IsAnswerOf command status ⊎ IsFailure status
 
 -- a status with which nothing is written
 abbrev pub IsSilent : Status → Type 0

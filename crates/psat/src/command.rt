@@ -2,20 +2,44 @@
 ghost use Rattle.std.specs.Prelude.{◌≡◌, ◌≤◌, ◌<◌, ◌^◌, ◌↔◌, ◌∷◌, ℕ, IfNone, IfSome, IsTrue, MatchOption};
 ghost use Rattle.std.specs.Prelude.{codes, decimal, string_bytes};
 ghost use Rattle.psat.specs.Commands.{Spell, SpellNone, words_of};
+ghost use Rattle.psat.specs.Settings.{SpellNoSetting, SpellSetting, setting_of};
+ghost use Rattle.psat.specs.Settings.{limits_by, limits_by_both};
 
 use itoa::Buffer;
+use ps_query::{Limits, MOST_PIVOTS};
 
-/// The most bytes that are read where the words name no number.
+/// The most bytes that `check` reads where the words name no number.
 pub const DEFAULT_BYTES: u64 = 1 << 30;
 
 /// The most bytes that words may name.
 pub const MOST_BYTES: u64 = 1 << 40;
 
+/// The most bytes of a problem that is to be answered.
+pub const MOST_PROBLEM: u64 = 1 << 20;
+
+/// How many pivots a run makes at most where the words name no number.
+pub const DEFAULT_PIVOTS: u64 = 10_000;
+
+/// How many clauses a search learns at most where the words name no number.
+pub const DEFAULT_CONFLICTS: u64 = 20_000;
+
+/// The most clauses that words may name.
+pub const MOST_CONFLICTS: u64 = 1 << 40;
+
 /// What the program is to do.
 #[derive(Clone, Copy, Debug, PartialEq, Eq)]
 pub enum Command {
+    /// Answers a problem, within limits of pivots and conflicts.
+    Solve { limits: Limits },
     /// Judges the report behind a problem, and reads at most so many bytes.
     Check { bytes: u64 },
+}
+
+// A limit of `solve` that words set.
+#[derive(Clone, Copy)]
+enum SolveSetting {
+    Pivots(u64),
+    Conflicts(u64),
 }
 
 // Whether a word is this text.
@@ -64,11 +88,80 @@ fn parse_check(settings: &[String]) -> Option<u64>
     }
 }
 
+// The limit of `solve` that two words set, or None where they set none.
+fn parse_setting(word: &String, digits: &String) -> Option<SolveSetting>
+    ensures { MatchOption result (SpellNoSetting (string_bytes word.now) (string_bytes digits.now))
+        (λ s. SpellSetting (string_bytes word.now) (string_bytes digits.now) (setting_of s)) }
+{
+    if is(word, "--pivots") {
+        let pivots = number(digits, MOST_PIVOTS)?;
+        return Some(SolveSetting::Pivots(pivots));
+    }
+    if is(word, "--conflicts") {
+        let conflicts = number(digits, MOST_CONFLICTS)?;
+        return Some(SolveSetting::Conflicts(conflicts));
+    }
+    None
+}
+
+// The limits where one setting alone is named.
+fn limits_by(setting: SolveSetting) -> Limits
+    ensures { result ≡ limits_by setting }
+{
+    match setting {
+        SolveSetting::Pivots(pivots) => Limits {
+            pivots,
+            conflicts: DEFAULT_CONFLICTS,
+        },
+        SolveSetting::Conflicts(conflicts) => Limits {
+            pivots: DEFAULT_PIVOTS,
+            conflicts,
+        },
+    }
+}
+
+// The limits where two settings are named, or None where they set one limit twice.
+fn limits_by_both(a: SolveSetting, b: SolveSetting) -> Option<Limits>
+    ensures { result ≡ limits_by_both a b }
+{
+    match (a, b) {
+        (SolveSetting::Pivots(pivots), SolveSetting::Conflicts(conflicts))
+        | (SolveSetting::Conflicts(conflicts), SolveSetting::Pivots(pivots)) => {
+            Some(Limits { pivots, conflicts })
+        }
+        _ => None,
+    }
+}
+
+// The limits that the words behind `solve` set, or None where they aren't its settings.
+fn parse_solve(settings: &[String]) -> Option<Limits>
+    ensures { MatchOption result (SpellNone (codes "solve" ∷ words_of settings.now))
+        (λ limits. Spell (codes "solve" ∷ words_of settings.now) (Command.Solve limits)) }
+{
+    match settings {
+        [] => Some(Limits {
+            pivots: DEFAULT_PIVOTS,
+            conflicts: DEFAULT_CONFLICTS,
+        }),
+        [word, digits] => Some(limits_by(parse_setting(word, digits)?)),
+        [first, m, second, n] => {
+            let first = parse_setting(first, m)?;
+            let second = parse_setting(second, n)?;
+            limits_by_both(first, second)
+        }
+        _ => None,
+    }
+}
+
 /// The command that words spell, or None where they spell none. It takes no memory.
 pub fn parse_words(words: &[String]) -> Option<Command>
     ensures { MatchOption result (SpellNone (words_of words.now)) (Spell (words_of words.now)) }
 {
     match words {
+        [name, settings @ ..] if is(name, "solve") => {
+            let limits = parse_solve(settings)?;
+            Some(Command::Solve { limits })
+        }
         [name, settings @ ..] if is(name, "check") => {
             let bytes = parse_check(settings)?;
             Some(Command::Check { bytes })

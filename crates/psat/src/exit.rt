@@ -1,10 +1,10 @@
 //! How the program begins and ends: the words that the system hands out, and the exit code.
-ghost use Rattle.std.specs.Prelude.{◌≡◌, drop, IfOk, IsErr};
+ghost use Rattle.std.specs.Prelude.{◌≡◌, drop, IfOk, IsErr, MatchOption, None, Some};
 ghost use Rattle.std.specs.Process.{exit_status};
 ghost use Rattle.std.specs.Vec.Iter.{into_iter_items};
 ghost use Rattle.psat.specs.Commands.{ReadNothing, SpellNone};
-ghost use Rattle.psat.specs.Exits.{HasWritten, IfRan, exit_number};
-ghost use Rattle.psat.specs.Runs.{CountsReads, CountsWrites, HasRead};
+ghost use Rattle.psat.specs.Exits.{HasWritten, IfRan, exit_number, failure_words};
+ghost use Rattle.psat.specs.Runs.{CountsReads, CountsWrites, HasAnswered, HasRead};
 ghost use Rattle.psat.specs.Statuses.{AnswersUsage, IsSilent};
 
 use crate::run::run;
@@ -70,6 +70,9 @@ pub fn run_program<I: Source, O: Sink>(
     ensures other_words { IfRan all result (λ words status.
         SpellNone words → AnswersUsage status) }
 
+    // which statuses the command has,
+    ensures answered { IfRan all result HasAnswered }
+
     // how much is read,
     ensures read { IfRan all result (λ words status.
         HasRead words status (I.left input.old) (I.left input.new)) }
@@ -86,6 +89,20 @@ pub fn run_program<I: Source, O: Sink>(
         Err(_) => return Err(NoWords),
     };
     Ok(run(alloc, behind_name(&all), input, output))
+}
+
+/// What failed, where a status without its text, or none, is answered.
+pub fn failure(ended: Result<Status, NoWords>) -> Option<&'static str>
+    ensures { MatchOption result (failure_words ended ≡ None)
+        (λ text. failure_words ended ≡ Some text.now) }
+{
+    match ended {
+        Ok(Status::ReadFault) => Some("standard input failed"),
+        Ok(Status::WriteFault) => Some("standard output failed"),
+        Ok(Status::NoMemory) => Some("not enough memory"),
+        Ok(_) => None,
+        Err(NoWords) => Some("the words can't be had"),
+    }
 }
 
 const NO_WORDS: u8 = 10;

@@ -1,19 +1,26 @@
-//! A checker for probabilistic logic: it judges a report on a problem.
+//! A solver and checker for probabilistic logic: it answers a problem with a report, and judges a
+//! report on a problem.
 #![tactic(auto)]
 
 mod answer;
+mod answered;
 mod command;
 mod exit;
 mod laws;
+mod message;
 mod reply;
 mod reply_error;
 mod run;
 mod shown;
+#[cfg(test)]
+mod solve_tests;
+mod solved;
 mod status;
 #[cfg(test)]
 mod tests;
+mod writing;
 
-use crate::exit::{exit_code, run_program};
+use crate::exit::{exit_code, failure, run_program};
 use ps_io::{StdSink, StdSource};
 use std::env;
 use std::process::ExitCode;
@@ -21,5 +28,9 @@ use std::process::ExitCode;
 fn main(rt: HostRuntime) -> ExitCode {
     let mut input = StdSource::new(rt.stdin());
     let mut output = StdSink::new(rt.stdout());
-    exit_code(run_program(rt.alloc(), env::args(&rt), &mut input, &mut output))
+    let ended = run_program(rt.alloc(), env::args(&rt), &mut input, &mut output);
+    if let Some(failure) = failure(ended) {
+        let _ = eprintln!(rt; "psat: {failure}");
+    }
+    exit_code(ended)
 }

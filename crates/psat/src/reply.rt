@@ -1,94 +1,29 @@
-//! A text to be written.
-ghost use Rattle.std.specs.Prelude.{◌≡◌, ◌++◌, codes, IfOk, string_bytes};
-ghost use Rattle.ps_valid.specs.Judged.{fault_of, place_of};
-ghost use Rattle.psat.specs.Due.{accepted, line, refused, refused_line};
-ghost use Rattle.psat.specs.Due.{too_long, unreadable, usage};
-ghost use Rattle.psat.specs.Replies.{output_of};
+//! What is to be written.
+ghost use Rattle.std.specs.Prelude.{◌≡◌};
+ghost use Rattle.psat.specs.Replies.{reply_status};
 
-use crate::shown::{claim_text, kind_text, line_text, reason_text};
+use crate::answered::status_of;
+use crate::message::Message;
 use crate::status::Status;
-use ps_answer::LineKind;
-use ps_read::ReadKind;
-use ps_valid::{Accepted, Refusal};
-use std::alloc::{AllocError, Global};
+use ps_answer::Answer;
 
-/// A text that is to be written, and the status after it.
+/// What is to be written.
 #[derive(Drop)]
-pub struct Reply {
-    pub text: String,
-    pub status: Status,
+pub enum Reply {
+    /// One line.
+    Line(Message),
+    /// The report of an answer.
+    Report(Answer),
 }
 
 impl Reply {
-    // One line, and the status after it.
-    fn line(mut text: String, status: Status) -> Result<Reply, AllocError>
-        ensures { IfOk result (λ r. output_of r ≡ line (string_bytes text) status) }
+    /// The status after it.
+    pub fn status(&self) -> Status
+        ensures { result ≡ reply_status self.now }
     {
-        text.push_str("\n")?;
-        Ok(Reply { text, status })
-    }
-
-    /// The reply to words that are not those of a command.
-    pub fn usage(alloc: Global) -> Result<Reply, AllocError>
-        ensures { IfOk result (λ r. output_of r ≡ usage) }
-    {
-        let text = String::from_str(
-            alloc,
-            "usage: psat solve|explain|check|make N [--pivots N] [--conflicts N] [--bytes N]",
-        )?;
-        Reply::line(text, Status::Usage)
-    }
-
-    /// The reply to an input of more than `limit` bytes.
-    pub fn too_long(alloc: Global, limit: u64) -> Result<Reply, AllocError>
-        ensures { IfOk result (λ r. output_of r ≡ too_long limit) }
-    {
-        let text = format!(in alloc; "unreadable: more than {limit} bytes")?;
-        Reply::line(text, Status::Unreadable)
-    }
-
-    /// The reply to an input with no problem at its front: why, and at which line and column.
-    pub fn unreadable(
-        alloc: Global,
-        kind: ReadKind,
-        line: u32,
-        column: u32,
-    ) -> Result<Reply, AllocError>
-        ensures { IfOk result (λ r.
-            output_of r ≡ unreadable kind (record { line = line; column = column })) }
-    {
-        let kind = kind_text(alloc, kind)?;
-        let text = format!(in alloc; "unreadable: {kind} at {line}:{column}")?;
-        Reply::line(text, Status::Unreadable)
-    }
-
-    /// The reply to a report with a line at fault.
-    pub fn refused_line(alloc: Global, kind: LineKind, line: u64) -> Result<Reply, AllocError>
-        ensures { IfOk result (λ r. output_of r ≡ refused_line kind line) }
-    {
-        let kind = line_text(kind);
-        let text = format!(in alloc; "refused report line {line} {kind}")?;
-        Reply::line(text, Status::Refused)
-    }
-
-    /// The reply to an answer with a claim that isn't valid.
-    pub fn refused(alloc: Global, refusal: Refusal) -> Result<Reply, AllocError>
-        ensures { IfOk result (λ r.
-            output_of r ≡ refused (place_of refusal.claim) (fault_of refusal.reason)) }
-    {
-        let claim = claim_text(alloc, refusal.claim)?;
-        let reason = reason_text(alloc, refusal.reason)?;
-        let text = format!(in alloc; "refused {claim} {reason}")?;
-        Reply::line(text, Status::Refused)
-    }
-
-    /// The reply to an answer that is valid.
-    pub fn accepted(alloc: Global, answer: Accepted) -> Result<Reply, AllocError>
-        ensures { IfOk result (λ r. output_of r ≡ accepted answer.claims answer.unfinished) }
-    {
-        let claims = answer.claims;
-        let unfinished = answer.unfinished;
-        let text = format!(in alloc; "accepted: claims {claims}, open {unfinished}")?;
-        Reply::line(text, Status::Done)
+        match self {
+            Reply::Line(message) => message.status,
+            Reply::Report(answer) => status_of(answer),
+        }
     }
 }

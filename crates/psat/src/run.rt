@@ -1,29 +1,55 @@
 //! The top call.
-ghost use Rattle.std.specs.Prelude.{◌≡◌, ℕ, List, None, IfOk};
+ghost use Rattle.std.specs.Prelude.{◌≡◌, ℕ, List, None, Some, IfOk, length};
 ghost use Rattle.psat.specs.Commands.{ReadNothing, SpellNone, limit_of, words_of};
-ghost use Rattle.psat.specs.Replies.{IsDue, IsDueFor, output_of, status_of};
+ghost use Rattle.psat.specs.Replies.{AreLimitsOf, AreWithin, DueBytes, IsDue, IsDueFor};
+ghost use Rattle.psat.specs.Replies.{IsShortReply, output_of, reply_status, status_of};
 ghost use Rattle.psat.specs.Runs.{CountsReads, CountsWrites, HasRead, HasTaken, IsGiven, Ran, Took};
-ghost use Rattle.psat.specs.Statuses.{AnswersUsage, GoesWithText, IsAnswer, IsSilent};
+ghost use Rattle.psat.specs.Runs.{HasAnswered};
+ghost use Rattle.psat.specs.Statuses.{AnswersUsage, GoesWithText, IsAnswerOf, IsSilent};
 
 use crate::answer::answer;
-use crate::command::{Command, parse_words};
+use crate::command::{Command, MOST_PROBLEM, parse_words};
+use crate::message::Message;
 use crate::reply::Reply;
 use crate::reply_error::ReplyError;
+use crate::solved::solved;
 use crate::status::Status;
-use ps_io::{ReadAllError, Sink, Source, read_all, write_all};
+use crate::writing::write_reply;
+use ps_io::{NoMemory, ReadAllError, Sink, Source, read_all};
 use std::alloc::Global;
 
-// The reply to the input of `check`, or why there is none.
-fn reply_to_input<I: Source>(alloc: Global, input: &mut I, limit: u64) -> Result<Reply, ReplyError>
-    ensures due { IfOk result (λ r.
-        IsDueFor (Command.Check limit) (I.left input.old) (output_of r)) }
+// The reply to bytes that are within the limit of a command.
+fn reply_to_bytes(alloc: Global, command: Command, bytes: &[u8]) -> Result<Reply, NoMemory>
+    requires limits { AreLimitsOf command }
+    requires within { AreWithin command (length bytes.now) }
+    ensures due { IfOk result (λ r. DueBytes command bytes.now (output_of r)) }
+    ensures status { IfOk result (λ r. IsAnswerOf command (reply_status r)) }
+    ensures short { IfOk result IsShortReply }
+{
+    match command {
+        Command::Solve { limits } => solved(alloc, bytes, limits),
+        Command::Check { .. } => Ok(Reply::Line(answer(alloc, bytes)?)),
+    }
+}
+
+// The reply to an input of which a command reads so many bytes at most, or why there is none.
+fn reply_to_input<I: Source>(
+    alloc: Global,
+    command: Command,
+    limit: u64,
+    input: &mut I,
+) -> Result<Reply, ReplyError>
+    requires limits { AreLimitsOf command }
+    requires limit { limit_of command ≡ Some limit }
+    ensures due { IfOk result (λ r. IsDueFor command (I.left input.old) (output_of r)) }
     ensures took { Took limit (status_of result) (I.left input.old) (I.left input.new) }
-    ensures status { IfOk result (λ r. IsAnswer r.status) }
+    ensures status { IfOk result (λ r. IsAnswerOf command (reply_status r)) }
+    ensures short { IfOk result IsShortReply }
     ensures faults { CountsReads (status_of result) (I.faults input.old) (I.faults input.new) }
 {
     match read_all(alloc, input, limit) {
-        Ok(bytes) => Ok(answer(alloc, &bytes)?),
-        Err(ReadAllError::TooLong { .. }) => Ok(Reply::too_long(alloc, limit)?),
+        Ok(bytes) => Ok(reply_to_bytes(alloc, command, &bytes)?),
+        Err(ReadAllError::TooLong { .. }) => Ok(Reply::Line(Message::too_long(alloc, limit)?)),
         Err(ReadAllError::Fault) => Err(ReplyError::ReadFault),
         Err(ReadAllError::NoMemory) => Err(ReplyError::NoMemory),
     }
@@ -35,14 +61,17 @@ fn reply_to_command<I: Source>(
     command: Command,
     input: &mut I,
 ) -> Result<Reply, ReplyError>
+    requires limits { AreLimitsOf command }
     ensures due { IfOk result (λ r. IsDueFor command (I.left input.old) (output_of r)) }
     ensures taken { HasTaken command (status_of result) (I.left input.old) (I.left input.new) }
-    ensures status { IfOk result (λ r. IsAnswer r.status) }
+    ensures status { IfOk result (λ r. IsAnswerOf command (reply_status r)) }
+    ensures short { IfOk result IsShortReply }
     ensures unread { limit_of command ≡ None → input.new ≡ input.old }
     ensures faults { CountsReads (status_of result) (I.faults input.old) (I.faults input.new) }
 {
     match command {
-        Command::Check { bytes } => reply_to_input(alloc, input, bytes),
+        Command::Solve { .. } => reply_to_input(alloc, command, MOST_PROBLEM, input),
+        Command::Check { bytes } => reply_to_input(alloc, command, bytes, input),
     }
 }
 
@@ -51,15 +80,18 @@ fn reply_to<I: Source>(alloc: Global, words: &[String], input: &mut I) -> Result
     ensures due { IfOk result (λ r. IsDue (words_of words.now) (I.left input.old) (output_of r)) }
     ensures read { HasRead (words_of words.now) (status_of result)
         (I.left input.old) (I.left input.new) }
-    ensures status { IfOk result (λ r. GoesWithText r.status) }
-    ensures usage { IfOk result (λ r. r.status ≡ Status.Usage → SpellNone (words_of words.now)) }
+    ensures status { IfOk result (λ r. GoesWithText (reply_status r)) }
+    ensures answered { IfOk result (λ r. HasAnswered (words_of words.now) (reply_status r)) }
+    ensures short { IfOk result IsShortReply }
+    ensures usage { IfOk result (λ r.
+        reply_status r ≡ Status.Usage → SpellNone (words_of words.now)) }
     ensures other_words { SpellNone (words_of words.now) → AnswersUsage (status_of result) }
     ensures unread { ReadNothing (words_of words.now) → input.new ≡ input.old }
     ensures faults { CountsReads (status_of result) (I.faults input.old) (I.faults input.new) }
 {
     match parse_words(words) {
         Some(command) => reply_to_command(alloc, command, input),
-        None => Ok(Reply::usage(alloc)?),
+        None => Ok(Reply::Line(Message::usage(alloc)?)),
     }
 }
 
@@ -82,6 +114,9 @@ pub fn run<I: Source, O: Sink>(
     ensures usage { result ≡ Status.Usage → SpellNone (words_of words.now) }
     ensures other_words { SpellNone (words_of words.now) → AnswersUsage result }
 
+    // Each command has its statuses, beside those of failures.
+    ensures answered { HasAnswered (words_of words.now) result }
+
     // How much is read, by the status; and nothing where the words are of no command that reads.
     ensures read { HasRead (words_of words.now) result (I.left input.old) (I.left input.new) }
     ensures unread { ReadNothing (words_of words.now) → input.new ≡ input.old }
@@ -94,8 +129,8 @@ pub fn run<I: Source, O: Sink>(
         Ok(reply) => reply,
         Err(error) => return error.status(),
     };
-    match write_all(output, reply.text.as_bytes()) {
-        Ok(()) => reply.status,
+    match write_reply(alloc, output, &reply) {
+        Ok(()) => reply.status(),
         Err(_) => Status::WriteFault,
     }
 }

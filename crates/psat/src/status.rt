@@ -4,19 +4,24 @@ ghost use Rattle.std.specs.Prelude.{◌≡◌};
 /// How the program ends.
 #[derive(Clone, Copy, Debug, PartialEq, Eq)]
 pub enum Status {
-    /// Each claim of the report is valid.
+    /// `check`: each claim of the report is valid. `solve`: the sentences are consistent, and nothing
+    /// is open.
     Done,
+    /// `solve`: the sentences are inconsistent.
+    Inconsistent,
     /// The words are not those of a command.
     Usage,
-    /// The input is too long, or no problem stands at its front.
+    /// The input is too long, or the problem that is due isn't there.
     Unreadable,
+    /// `solve`: some part of the answer is open.
+    Unfinished,
     /// A read failed.
     ReadFault,
     /// A write failed.
     WriteFault,
     /// There was not enough memory.
     NoMemory,
-    /// The bytes behind the problem are no report, or a claim of it is not valid.
+    /// `check`: the bytes behind the problem are no report, or a claim of it is not valid.
     Refused,
 }
 
@@ -29,8 +34,10 @@ impl Status {
     {
         match self {
             Status::Done => 0,
+            Status::Inconsistent => 1,
             Status::Usage => 2,
             Status::Unreadable => 3,
+            Status::Unfinished => 4,
             Status::ReadFault => 5,
             Status::WriteFault => 6,
             Status::NoMemory => 7,

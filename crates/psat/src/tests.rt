@@ -6,7 +6,7 @@ use std::test::*;
 
 const ACCEPTED: &str = "accepted: claims 1, open 0\n";
 
-const USAGE: &str =
+pub const USAGE: &str =
     "usage: psat solve|explain|check|make N [--pivots N] [--conflicts N] [--bytes N]\n";
 
 const HALF: &str =
@@ -167,11 +167,10 @@ const LIMITS: [(u64, u64, &str); 4] = [
 ];
 
 // Words of no command.
-const OTHER_WORDS: [&[&str]; 9] = [
+const OTHER_WORDS: [&[&str]; 8] = [
     &[],
     &["--help"],
     &["check", "check"],
-    &["solve"],
     &["check", "--bytes"],
     &["check", "--bytes", "01"],
     &["check", "--bytes", "+1"],
@@ -194,7 +193,7 @@ fn source(alloc: Global, input: &[u8], reads: &[u64]) -> Result<MemSource, NoMem
 }
 
 // A run on words and input, in pieces, where these calls of the source and the sink fail.
-fn ended(
+pub fn ended(
     alloc: Global,
     words: &[&str],
     input: &[u8],
@@ -203,13 +202,13 @@ fn ended(
 ) -> Result<(Status, MemSink), NoMemory> {
     let given = given(alloc, words)?;
     let mut source = source(alloc, input, reads)?;
-    let mut sink = MemSink::new(alloc, 8, Vec::from_slice(alloc, writes)?, 100)?;
+    let mut sink = MemSink::new(alloc, 8, Vec::from_slice(alloc, writes)?, 100_000)?;
     let status = run(alloc, given.as_slice(), &mut source, &mut sink);
     Ok((status, sink))
 }
 
 // Whether a run writes the line and ends with the status.
-fn answers(alloc: Global, words: &[&str], input: &str, line: &str, due: Status) -> bool {
+pub fn answers(alloc: Global, words: &[&str], input: &str, line: &str, due: Status) -> bool {
     match ended(alloc, words, input.as_bytes(), &[], &[]) {
         Ok((status, sink)) => status == due && sink.bytes() == line.as_bytes(),
         Err(_) => false,

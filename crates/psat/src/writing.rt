@@ -1,0 +1,36 @@
+//! Writes what is due.
+ghost use Rattle.ps_io.specs.Causes.{CountsFault};
+ghost use Rattle.ps_io.specs.Transfer.{Writes};
+ghost use Rattle.ps_query.specs.Solutions.{AreShortLines};
+ghost use Rattle.psat.specs.Due.{report_of};
+ghost use Rattle.psat.specs.Replies.{IsShortReply, output_of};
+
+use crate::reply::Reply;
+use ps_answer::Answer;
+use ps_io::{Lines, Sink, WriteFault, write_all};
+use ps_report::write_report;
+use std::alloc::Global;
+
+// Writes the report of an answer, line by line. The writer of lines never wants memory.
+fn write_answer<O: Sink>(alloc: Global, output: &mut O, answer: &Answer) -> Result<(), WriteFault>
+    requires short { AreShortLines answer.now }
+    ensures wrote { Writes result (O.written output.old) (O.written output.new)
+        (report_of answer.now) }
+    ensures faults { CountsFault result (O.faults output.old) (O.faults output.new) }
+{
+    let mut lines = Lines::new(alloc, output).unwrap();
+    write_report(answer, &mut lines)
+}
+
+/// Writes a reply. After a fault a proper prefix of it was written.
+pub fn write_reply<O: Sink>(alloc: Global, output: &mut O, reply: &Reply) -> Result<(), WriteFault>
+    requires short { IsShortReply reply.now }
+    ensures wrote { Writes result (O.written output.old) (O.written output.new)
+        (output_of reply.now).text }
+    ensures faults { CountsFault result (O.faults output.old) (O.faults output.new) }
+{
+    match reply {
+        Reply::Line(message) => write_all(output, message.text.as_bytes()),
+        Reply::Report(answer) => write_answer(alloc, output, answer),
+    }
+}
