@@ -311,13 +311,18 @@ fn all_are_unsolved(alloc: Global) -> bool {
     right
 }
 
-// Whether the second write fails in the middle of the first line, and the first read before any line.
-fn faults_are_told(alloc: Global) -> bool {
+// Whether a run where these calls fail ends with the status, and has written this.
+fn is_cut(alloc: Global, reads: &[u64], writes: &[u64], due: Status, written: &str) -> bool {
     let input = "psat 1; P(a) = 0.6; P(b) = 0.7; query P(a & b); end;";
-    let write = ended(alloc, SOLVE, input.as_bytes(), &[], &[2]);
-    let read = ended(alloc, SOLVE, input.as_bytes(), &[1], &[]);
-    matches!(write, Ok((Status::WriteFault, sink)) if sink.bytes() == b"report 1".as_slice())
-        && matches!(read, Ok((Status::ReadFault, sink)) if sink.bytes().is_empty())
+    match ended(alloc, SOLVE, input.as_bytes(), reads, writes) {
+        Ok((status, sink)) => status == due && sink.bytes() == written.as_bytes(),
+        Err(_) => false,
+    }
+}
+
+fn faults_are_told(alloc: Global) -> bool {
+    is_cut(alloc, &[], &[2], Status::WriteFault, "report 1")
+        && is_cut(alloc, &[1], &[], Status::ReadFault, "")
 }
 
 #[test]
