@@ -16,9 +16,9 @@ pub fn no_ray()
 {}
 
 /// A combination of a column's whole entries by whole multiples of the multipliers, less the same
-/// multiple of its cost, is that multiple of what the column carries above its cost. So it is at
-/// least 1 exactly where the column improves; at rest no column has one of at least 1, and none
-/// carries more than its cost.
+/// multiple of its cost, is that multiple of what the column carries above its cost. So of a slack
+/// or a world it is at least 1 exactly where that column improves; at rest none of these has one of
+/// at least 1, and none carries more than its cost.
 pub fn combinations()
     ensures priced { CombinationsPrice }
 {}

@@ -40,7 +40,7 @@ FullKeepValues = (w : List Bool) → values_of (full w) ≡ w
 abbrev pub FullMeetOrViolate : Type 0
 FullMeetOrViolate = (w : List Bool) (c : Constraint) → IsWithin (length w) c → IsMet w c ↔ (is_violated c (full w) ≡ false)
 
--- the more literals are false, the less is the slack
+-- where more literals are false, the slack is no greater
 abbrev pub SlackFalls : Type 0
 SlackFalls = (c : Constraint) (a b : Assignment) → Covers c a b → slack c b ≤ℤ slack c a
 

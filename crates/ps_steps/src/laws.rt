@@ -42,8 +42,8 @@ pub fn full_assignments_decide()
     ensures values { FullKeepValues }
 {}
 
-/// With more false literals the slack is less; what is violated stays so, and what is forced stays
-/// forced, unless the constraint is violated or the literal true.
+/// With more false literals the slack is no greater; what is violated stays so, and what is forced
+/// stays forced, unless the constraint is violated or the literal true.
 pub fn propagation_is_monotone()
     ensures slack { SlackFalls }
     ensures violated { ViolatedStay }
