@@ -1,12 +1,13 @@
--- A cell with a 0 in the pivot's row or column.
-use Rattle.std.proofs.Common.{◌≡◌, ◌≢◌, ℕ, ◌<◌, [], ◌∷◌, sym, refl, ap, ◌∙◌, subst, inl, inr}
-use Rattle.ps_rational.specs.Rational.{Rational, mul, sub, neg, div, inverse, zero_q}
+-- A cell with a 0 in the pivot's row or column, and parts of sums that are 0.
+use Rattle.std.proofs.Common.{◌≡◌, ◌≢◌, ℕ, suc, ◌<◌, List, [], ◌∷◌, get_or, sym, refl, ap, ◌∙◌, subst, inl, inr, ℤ, pos}
+use Rattle.ps_rational.specs.Rational.{Rational, add, mul, sub, neg, div, inverse, fraction, zero_q}
 use Rattle.ps_rational.specs.Wide.{Fits, size_limit, ProductIsWide, SumIsWide}
 use Rattle.ps_rational.proofs.Ring.{var, plus, by, minus, none}
-use Rattle.ps_rational.proofs.Field.{ring_q}
-use Rattle.ps_rational.proofs.Zeros.{left_narrow, right_narrow, difference_narrow}
+use Rattle.ps_rational.proofs.Field.{ring_q, zero_is_fraction}
+use Rattle.ps_rational.proofs.Zeros.{left_narrow, right_narrow, sum_narrow, difference_narrow}
+use Rattle.ps_table.specs.Tableau.{world_entry}
 use Rattle.ps_table.specs.declared.pivot.Pivot.{Pivot}
-use Rattle.ps_table.specs.Grids.{GridCells, cell_in, scaled_in, lost_in, pivoted_in, LosesNothing, IsCellNarrow}
+use Rattle.ps_table.specs.Grids.{GridCells, cell_in, scaled_in, lost_in, pivoted_in, LosesNothing, IsCellNarrow, AddsNothing, part_in, sum_in, IsNarrowPart}
 use Rattle.ps_table.proofs.Columns.{pivot_other}
 
 -- 0 divided by the pivot's entry
@@ -36,4 +37,33 @@ module _ (g : GridCells) (p : Pivot) (i j : ℕ) (zero : LosesNothing g p i j) w
       | inr e ↦ subst (λ k. ¬ ProductIsWide k (scaled_in g p j)) (sym e) (left_narrow (scaled_in g p j))
     ];
     minus = subst (λ k. ¬ SumIsWide (cell_in g i j) (neg k)) (sym nothing) (difference_narrow (cell_in g i j) ho hu);
+  }
+
+-- 0 added to a number
+pub zero_added : (x y : Rational) → y ≡ zero_q → x ≡ add x y
+zero_added x y e = ring_q (x ∷ []) (var 0) (plus (var 0) none) refl ∙ ap (add x) (sym e)
+
+pub zero_sum_narrow : (x y : Rational) → y ≡ zero_q → Fits x.over → x.under < size_limit → ¬ SumIsWide x y
+zero_sum_narrow x y e ho hu = subst (λ k. ¬ SumIsWide x k) (sym e) (sum_narrow x ho hu)
+
+module _ (g : GridCells) (entries : List ℤ) (i m : ℕ) (zero : AddsNothing g entries i m) where
+  whole_zero : get_or entries m (pos 0) ≡ pos 0 → world_entry entries m ≡ zero_q
+  whole_zero e = ap (λ z. fraction z 1) e ∙ zero_is_fraction
+
+  no_part : part_in g entries i m ≡ zero_q
+  no_part = elim zero [
+    | inl e ↦ ap (mul (cell_in g i (suc m))) (whole_zero e) ∙ ring_q (cell_in g i (suc m) ∷ []) (by (var 0) none) none refl
+    | inr e ↦ ap (λ k. mul k (world_entry entries m)) e ∙ ring_q (world_entry entries m ∷ []) (by none (var 0)) none refl
+  ]
+
+  pub same_sum : sum_in g entries i m ≡ sum_in g entries i (suc m)
+  same_sum = zero_added (sum_in g entries i m) (part_in g entries i m) no_part
+
+  pub part_narrow : Fits (sum_in g entries i m).over → (sum_in g entries i m).under < size_limit → IsNarrowPart (cell_in g) entries i m
+  part_narrow ho hu = record {
+    times = elim zero [
+      | inl e ↦ subst (λ k. ¬ ProductIsWide (cell_in g i (suc m)) k) (sym (whole_zero e)) (right_narrow (cell_in g i (suc m)))
+      | inr e ↦ subst (λ k. ¬ ProductIsWide k (world_entry entries m)) (sym e) (left_narrow (world_entry entries m))
+    ];
+    plus = zero_sum_narrow (sum_in g entries i m) (part_in g entries i m) no_part ho hu;
   }

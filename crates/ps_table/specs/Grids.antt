@@ -1,5 +1,5 @@
 -- The entries of a table as the code reads them, and what it has made so far of a pivot and of a new column.
-use Rattle.std.specs.Prelude.{◌≡◌, ◌≢◌, ◌⊎◌, ℕ, suc, ◌+◌, ◌-◌, ◌*◌, ◌/◌, ◌%◌, ◌<◌, ◌≤◌, List, length, get_or, ℤ, cond}
+use Rattle.std.specs.Prelude.{◌≡◌, ◌≢◌, ◌⊎◌, ℕ, suc, ◌+◌, ◌-◌, ◌*◌, ◌/◌, ◌%◌, ◌<◌, ◌≤◌, List, length, get_or, ℤ, pos, cond}
 use Rattle.std.proofs.Common.{eqb}
 use Rattle.ps_frac.specs.declared.wide.Op.{Op}
 use Rattle.ps_frac.specs.declared.wide.Op.TheVariants.{Add, Sub, Mul, Div}
@@ -168,6 +168,10 @@ sum_in g entries i m = sum_to m (new_part (cell_in g) entries i)
 pub record IsNarrowPart (X : ℕ → ℕ → Rational) (entries : List ℤ) (i m : ℕ) : Type 0 where
   pub times : ¬ IsOperationWide Mul (X i (suc m)) (world_entry entries m)
   pub plus : ¬ IsOperationWide Add (sum_to m (new_part X entries i)) (new_part X entries i m)
+
+-- the entry of row m is 0, or its home is in row i
+abbrev pub AddsNothing : GridCells → List ℤ → ℕ → ℕ → Type 0
+AddsNothing g entries i m = (get_or entries m (pos 0) ≡ pos 0) ⊎ (cell_in g i (suc m) ≡ zero_q)
 
 -- the product in row i isn't refused
 abbrev pub IsProductNarrow : GridCells → List ℤ → ℕ → ℕ → Type 0

@@ -3,6 +3,7 @@ ghost use Rattle.std.specs.Prelude.{◌≡◌, suc, ◌<◌, IfOk, IfErr};
 ghost use Rattle.ps_table.specs.Places.{IsWideAt, IsRefusedAt, IsNarrow};
 ghost use Rattle.ps_table.specs.Grids.{IsNewColumn, GridNewPlaces, part_in, sum_in};
 ghost use Rattle.ps_table.specs.Grids.{IsProductNarrow, IsSumNarrow, IsEntryNarrow, IsMadeColumn};
+ghost use Rattle.ps_table.specs.Grids.{cell_in, AddsNothing, IsNarrowPart};
 
 use crate::at_place::{plus_at, times_at};
 use crate::error::TableError;
@@ -53,6 +54,41 @@ fn new_sum(
     plus_at(place, sum, product)
 }
 
+/// The sum with row `m` in it, where it adds nothing.
+fn kept_sum(grid: &Grid<'_>, entries: &[i64], sum: &Fraction, i: usize, m: usize) -> Fraction
+    requires zero { AddsNothing grid.now entries.now i m }
+    requires sum { sum.now ≡ sum_in grid.now entries.now i m }
+    ensures value { result ≡ sum_in grid.now entries.now i (suc m) }
+    ensures narrow { IsNarrowPart (cell_in grid.now) entries.now i m }
+{
+    sum.fits();
+    *sum
+}
+
+/// The sum of the products before row `m`, and of that of row `m`; where its entry or its home's
+/// cell is 0, no operation is made.
+fn sum_with(
+    grid: &Grid<'_>,
+    entries: &[i64],
+    sum: &Fraction,
+    i: usize,
+    m: usize,
+) -> Result<Fraction, WideAt>
+    requires column { IsNewColumn grid.now entries.now }
+    requires i_in { i < grid.now.rows }
+    requires m_in { m < grid.now.rows }
+    requires sum { sum.now ≡ sum_in grid.now entries.now i m }
+    ensures value { IfOk result (λ r. r ≡ sum_in grid.now entries.now i (suc m)) }
+    ensures narrow { IfOk result (λ _. IsNarrowPart (cell_in grid.now) entries.now i m) }
+    ensures refused { IfErr result (IsWideAt (GridNewPlaces grid.now entries.now)) }
+{
+    if entries[m] == 0 || grid.cell(i, 1 + m).is_zero() {
+        return Ok(kept_sum(grid, entries, sum, i, m));
+    }
+    let product = new_product(grid, entries, i, m)?;
+    new_sum(grid, entries, sum, &product, i, m)
+}
+
 /// Row `i` of a new world's column.
 fn new_entry(grid: &Grid<'_>, entries: &[i64], i: usize) -> Result<Fraction, WideAt>
     requires column { IsNewColumn grid.now entries.now }
@@ -63,8 +99,7 @@ fn new_entry(grid: &Grid<'_>, entries: &[i64], i: usize) -> Result<Fraction, Wid
 {
     let mut sum = Fraction::new(0, 1);
     for m in 0..grid.rows() {
-        let product = new_product(grid, entries, i, m)?;
-        sum = new_sum(grid, entries, &sum, &product, i, m)?;
+        sum = sum_with(grid, entries, &sum, i, m)?;
     }
     Ok(sum)
 }

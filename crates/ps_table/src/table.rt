@@ -152,7 +152,8 @@ impl Table {
         Ok(sum)
     }
 
-    /// The sum of what the rows before row `row` carry of a column, and of what that row does.
+    /// The sum of what the rows before row `row` carry of a column, and of what that row does; a
+    /// row that carries 0 takes no operation.
     fn sum_with(
         &self,
         costs: &Costs,
@@ -168,7 +169,12 @@ impl Table {
         ensures narrow { IfOk result (λ _. IsSumNarrowAt self.now costs.now col row) }
         ensures refused { IfErr result (IsWideAt (CostPlaces self.now costs.now col)) }
     {
-        plus_at(Place::Cost { col, row }, sum, &self.part(costs, col, row))
+        let part = self.part(costs, col, row);
+        if part.is_zero() {
+            sum.fits();
+            return Ok(*sum);
+        }
+        plus_at(Place::Cost { col, row }, sum, &part)
     }
 
     /// The cost of a column.
