@@ -11,7 +11,7 @@ const NO_PIVOTS: &[&str] = &["solve", "--pivots", "0"];
 const NO_CONFLICTS: &[&str] = &["solve", "--conflicts", "0"];
 
 // Words, problems without their frame, reports or parts of them, and the lines of `check` on the whole reports.
-const SOLVED: [(&[&str], &str, &str, Status, &str); 30] = [
+const SOLVED: [(&[&str], &str, &str, Status, &str); 31] = [
     (
         SOLVE,
         "P(a) = 7/10; P(a -> b) = 9/10; query P(b);",
@@ -155,6 +155,13 @@ const SOLVED: [(&[&str], &str, &str, Status, &str); 30] = [
     (
         NO_PIVOTS,
         "P(a) = 7/10; P(a -> b) = 9/10; query P(b);",
+        "report 1\nopen pivots 0\nt 1\nc 11\nend\n",
+        Status::Unfinished,
+        "accepted: claims 0, open 1\n",
+    ),
+    (
+        NO_PIVOTS,
+        "P(a) = 7/10; P(a -> b) = 9/10;",
         "report 1\nopen pivots 0\nt 1\nc 11\nend\n",
         Status::Unfinished,
         "accepted: claims 0, open 1\n",

@@ -56,9 +56,13 @@ const JUDGED: [(&str, &str); 9] = [
 ];
 
 // Inputs with no problem at the front, and their lines.
-const UNREADABLE: [(&str, &str); 13] = [
+const UNREADABLE: [(&str, &str); 14] = [
     ("", "end missing at 1:1"),
     ("psat 1; end", "end missing at 1:12"),
+    (
+        "psat 1;\nP(a) = 7/10;\nP(a -> b) = 9/10;\nquery P(b);\n",
+        "end missing at 5:1",
+    ),
     ("psat 2; end;", "version unknown at 1:6"),
     ("psat 1;\nP(a) = 3/2;\nend;", "number out of range at 2:8"),
     (
@@ -238,7 +242,22 @@ fn all_are_unreadable(alloc: Global) -> bool {
     for (input, why) in UNREADABLE {
         right = right && matches!(is_unreadable(alloc, input, why), Ok(true));
     }
-    right
+    right && matches!(is_crowded(alloc), Ok(true))
+}
+
+// A problem with a bound too many.
+fn crowded(alloc: Global) -> Result<String, NoMemory> {
+    let mut text = String::from_str(alloc, "psat 1;\n")?;
+    for _ in 0..101u64 {
+        text.push_str("P(a) >= 0;\n")?;
+    }
+    text.push_str("end;\n")?;
+    Ok(text)
+}
+
+fn is_crowded(alloc: Global) -> Result<bool, NoMemory> {
+    let input = crowded(alloc)?;
+    is_unreadable(alloc, input.as_str(), "too many bounds at 102:1")
 }
 
 // The report on `RAIN` with so many lines from one on replaced.
