@@ -307,8 +307,30 @@ fn all_are_solved(alloc: Global) -> bool {
     right
 }
 
+// A problem with a bound too many.
+fn crowded(alloc: Global) -> Result<String, NoMemory> {
+    let mut text = String::from_str(alloc, "psat 1;\n")?;
+    for _ in 0..101u64 {
+        text.push_str("P(a) >= 0;\n")?;
+    }
+    text.push_str("end;\n")?;
+    Ok(text)
+}
+
+// Whether both commands refuse that problem at its last bound.
+fn is_too_crowded(alloc: Global) -> bool {
+    let line = "unreadable: too many bounds at 102:1\n";
+    match crowded(alloc) {
+        Ok(input) => {
+            answers(alloc, SOLVE, input.as_str(), line, Status::Unreadable)
+                && answers(alloc, &["check"], input.as_str(), line, Status::Unreadable)
+        }
+        Err(_) => false,
+    }
+}
+
 fn all_are_unsolved(alloc: Global) -> bool {
-    let mut right = true;
+    let mut right = is_too_crowded(alloc);
     for (input, line) in UNSOLVED {
         right = right && answers(alloc, SOLVE, input, line, Status::Unreadable);
     }

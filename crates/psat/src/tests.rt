@@ -242,22 +242,7 @@ fn all_are_unreadable(alloc: Global) -> bool {
     for (input, why) in UNREADABLE {
         right = right && matches!(is_unreadable(alloc, input, why), Ok(true));
     }
-    right && matches!(is_crowded(alloc), Ok(true))
-}
-
-// A problem with a bound too many.
-fn crowded(alloc: Global) -> Result<String, NoMemory> {
-    let mut text = String::from_str(alloc, "psat 1;\n")?;
-    for _ in 0..101u64 {
-        text.push_str("P(a) >= 0;\n")?;
-    }
-    text.push_str("end;\n")?;
-    Ok(text)
-}
-
-fn is_crowded(alloc: Global) -> Result<bool, NoMemory> {
-    let input = crowded(alloc)?;
-    is_unreadable(alloc, input.as_str(), "too many bounds at 102:1")
+    right
 }
 
 // The report on `RAIN` with so many lines from one on replaced.
