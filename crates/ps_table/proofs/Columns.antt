@@ -1,10 +1,8 @@
 -- Places in a list of columns.
 use Rattle.std.proofs.Common.{◌≡◌, ◌≢◌, ℕ, suc, ◌+◌, ◌-◌, ◌*◌, ◌/◌, ◌%◌, ◌<◌, ◌≤◌, List, [], ◌∷◌, ◌++◌, length, get_or, arith, refl, ap, sym, ◌∙◌, subst}
 use Rattle.std.proofs.lemmas.Nat.{mod-mul-add, div-mul-add}
-use Rattle.std.proofs.Math.Seq.{get_or-append_seam}
 use Rattle.std.proofs.Math.ListN.{get_or-append}
-use Rattle.std.proofs.Common.{Result, Ok, Err, IfErr, IsErr, inl, inr}
-use Rattle.std.proofs.lemmas.Bool.{cases_eq}
+use Rattle.std.proofs.Common.{Result, Ok, Err, IfErr, IsErr}
 use Rattle.ps_rational.specs.Rational.{Rational}
 use Rattle.ps_rational.specs.Rational.{zero_q}
 use Rattle.ps_frac.specs.declared.wide.Op.{Op}
@@ -34,14 +32,6 @@ use Rattle.std.proofs.Math.Nat.{mul-le-mul_right}
 pub cell_within : (i j n w len : ℕ) → i < n → j < w → len ≡ w * n → j * n + i < len
 cell_within i j n w len hi hj e = let l : suc j ≤ w = omega arith in omega (arith, mul-le-mul_right n l)
 
-pub kept_more : (f : ℕ → Rational) (xs ys : List Rational) (x : Rational) (k : ℕ) → length xs ≡ k → ys ≡ xs ++ x ∷ [] → ((m : ℕ) → m < k → get_or xs m zero_q ≡ f m) → x ≡ f k → (m : ℕ) → m < k + 1 → get_or ys m zero_q ≡ f m
-kept_more f xs ys x k e ey h ex = λ m l.
-    ap (λ zs. get_or zs m zero_q) ey
-    ∙ elim (cases_eq m k) [
-      | inl em ↦ ap (λ i. get_or (xs ++ x ∷ []) i zero_q) (em ∙ sym e) ∙ get_or-append_seam xs x [] zero_q ∙ ex ∙ ap f (sym em)
-      | inr ne ↦ get_or-append xs (x ∷ []) zero_q m (omega arith) ∙ h m (omega arith)
-    ]
-
 -- what is refused where it is wide, with its place and operands, is refused at one of the places
 pub refused_at : (P : Place → Op → Rational → Rational → Type 0) (r : Result Rational WideAt) (place : Place) (op : Op) (x y a b : Rational) → x ≡ a → y ≡ b → IfErr r (λ w. w ≡ record { place = place; op = op; left = x; right = y }) → (IsErr r → IsWide place op x y) → P place op a b → IfErr r (IsWideAt P)
 refused_at P (Ok v) place op x y a b ex ey e h p = tt
@@ -56,7 +46,7 @@ number_within n worlds (col.World k) h = omega (arith, h.1)
 pivot_at : (X : ℕ → ℕ → Rational) (n p q i j k : ℕ) → k ≡ j * n + i → i < n → pivot_cell X p q (k % n) (k / n) ≡ pivot_cell X p q i j
 pivot_at X n p q i j k e h = (λ z. pivot_cell X p q ((ap (λ m. m % n) e ∙ mod-mul-add j n i h) z) ((ap (λ m. m / n) e ∙ div-mul-add j n i h) z))
 
-pivot_own : (X : ℕ → ℕ → Rational) (p q j : ℕ) → pivot_cell X p q p j ≡ div (X p j) (X p q)
+pub pivot_own : (X : ℕ → ℕ → Rational) (p q j : ℕ) → pivot_cell X p q p j ≡ div (X p j) (X p q)
 pivot_own X p q j = ap (λ b. cond b (div (X p j) (X p q)) (sub (X p j) (mul (X p q) (div (X p j) (X p q))))) (eq-eqb p p refl)
 
 pub pivot_other : (X : ℕ → ℕ → Rational) (p q i j : ℕ) → i ≢ p → pivot_cell X p q i j ≡ sub (X i j) (mul (X i q) (div (X p j) (X p q)))

@@ -8,11 +8,18 @@ use Rattle.ps_rational.proofs.Zeros.{left_narrow, right_narrow, sum_narrow, diff
 use Rattle.ps_table.specs.Tableau.{world_entry}
 use Rattle.ps_table.specs.declared.pivot.Pivot.{Pivot}
 use Rattle.ps_table.specs.Grids.{GridCells, cell_in, scaled_in, lost_in, pivoted_in, LosesNothing, IsCellNarrow, AddsNothing, part_in, sum_in, IsNarrowPart}
-use Rattle.ps_table.proofs.Columns.{pivot_other}
+use Rattle.ps_table.proofs.Columns.{pivot_own, pivot_other}
 
 -- 0 divided by the pivot's entry
 pub zero_scaled : (x by : Rational) → x ≡ zero_q → x ≡ div x by
 zero_scaled x y e = e ∙ ring_q (inverse y ∷ []) none (by none (var 0)) refl ∙ ap (λ k. div k y) (sym e)
+
+-- the pivot's own row
+pub own_scaled : (g : GridCells) (p : Pivot) (i j : ℕ) → i ≡ p.row → scaled_in g p j ≡ pivoted_in g p i j
+own_scaled g p i j e = sym (pivot_own (cell_in g) p.row p.column j) ∙ ap (λ k. pivoted_in g p k j) (sym e)
+
+pub own_kept : (g : GridCells) (p : Pivot) (i j : ℕ) → i ≡ p.row → cell_in g p.row j ≡ zero_q → cell_in g i j ≡ pivoted_in g p i j
+own_kept g p i j e zero = ap (λ k. cell_in g k j) e ∙ zero_scaled (cell_in g p.row j) (cell_in g p.row p.column) zero ∙ own_scaled g p i j e
 
 pub zero_scale_narrow : (x y : Rational) → x ≡ zero_q → ¬ ProductIsWide x (inverse y)
 zero_scale_narrow x y e = subst (λ k. ¬ ProductIsWide k (inverse y)) (sym e) (left_narrow (inverse y))

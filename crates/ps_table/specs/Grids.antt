@@ -103,15 +103,6 @@ GridPivotPlaces g p = PivotPlace g.rows g.worlds (cell_in g) p.row p.column
 abbrev pub IsScaleNarrow : GridCells → Pivot → ℕ → Type 0
 IsScaleNarrow g p j = ¬ IsOperationWide Div (cell_in g p.row j) (cell_in g p.row p.column)
 
--- the division in no column is refused
-abbrev pub IsRowNarrow : GridCells → Pivot → Type 0
-IsRowNarrow g p = (j : ℕ) → j < suc (g.rows + g.worlds) → IsScaleNarrow g p j
-
--- the pivot's row after it
-pub record IsScaledRow (g : GridCells) (p : Pivot) (scaled : List Rational) : Type 0 where
-  pub count : length scaled ≡ suc (g.rows + g.worlds)
-  pub entries : (j : ℕ) → j < suc (g.rows + g.worlds) → get_or scaled j zero_q ≡ scaled_in g p j
-
 -- neither operation on row i of column j is refused in a pivot in row p and column q of a table X
 pub record IsNarrowCell (X : ℕ → ℕ → Rational) (p q i j : ℕ) : Type 0 where
   pub times : ¬ IsOperationWide Mul (X i q) (div (X p j) (X p q))

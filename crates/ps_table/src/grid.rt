@@ -3,7 +3,7 @@ ghost use Rattle.std.specs.Prelude.{◌≡◌, suc, ◌+◌, ◌*◌, ◌<◌, �
 ghost use Rattle.ps_table.specs.Tableau.{most_rows, world_limit, number_shown, IsShown};
 ghost use Rattle.ps_table.specs.Grids.{GridCells, IsGrid, cell_in, width};
 
-use crate::cells::{cell, shown};
+use crate::cells::{cell, place, shown};
 use crate::place::TableCol;
 use ps_frac::Fraction;
 use std::marker::Model;
@@ -57,12 +57,15 @@ impl<'a> Grid<'a> {
         1 + self.rows + self.worlds
     }
 
-    /// How many cells there are.
-    pub(crate) fn len(&self) -> usize
-        ensures value { result ≡ length self.now.cells }
-        ensures grid { IsGrid self.now }
+    /// The place of a row and a column among the cells.
+    #[tactic(auto, using(crate::proofs::Columns::cell_within))]
+    pub(crate) fn place(&self, row: usize, column: usize) -> usize
+        requires row { row < self.now.rows }
+        requires column { column < width self.now }
+        ensures value { result ≡ column * self.now.rows + row }
+        ensures within { result < length self.now.cells }
     {
-        self.cells.len()
+        place(self.cells.len(), self.rows, row, column)
     }
 
     /// The cell of a row and a column.

@@ -4,6 +4,7 @@
 mod adding;
 mod at_place;
 mod cells;
+mod change;
 mod costs;
 mod error;
 mod first;

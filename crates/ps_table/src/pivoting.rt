@@ -1,12 +1,15 @@
-//! The cells after a pivot. A cell with a 0 in the pivot's row or column stays as it is.
-ghost use Rattle.std.specs.Prelude.{◌≡◌, ◌<◌, IfOk, IfErr};
+//! The cells that change in a pivot. A cell with a 0 in the pivot's row or column stays as it is.
+ghost use Rattle.std.specs.Prelude.{◌≡◌, suc, ◌+◌, ◌*◌, ◌<◌, IfOk, IfErr};
+ghost use Rattle.ps_rational.specs.Rational.{zero_q};
 ghost use Rattle.ps_table.specs.Places.{IsWideAt, IsRefusedAt, IsNarrow};
 ghost use Rattle.ps_table.specs.Grids.{width, IsPivotOf, IsOtherCell, GridPivotPlaces};
-ghost use Rattle.ps_table.specs.Grids.{scaled_in, IsScaleNarrow, IsScaledRow, IsRowNarrow};
+ghost use Rattle.ps_table.specs.Grids.{cell_in, scaled_in, IsScaleNarrow};
 ghost use Rattle.ps_table.specs.Grids.{lost_in, IsTimesNarrow, IsMinusNarrow, IsCellNarrow};
-ghost use Rattle.ps_table.specs.Grids.{LosesNothing, pivoted_in, IsNarrowBeside, ArePivoted};
+ghost use Rattle.ps_table.specs.Grids.{LosesNothing, pivoted_in, ArePivoted};
+ghost use Rattle.ps_table.specs.Changes.{written, AreInside, IsUpTo};
 
 use crate::at_place::{divided_at, minus_at, times_at};
+use crate::change::Change;
 use crate::error::TableError;
 use crate::grid::Grid;
 use crate::pivot::Pivot;
@@ -26,36 +29,6 @@ fn quotient(grid: &Grid<'_>, pivot: &Pivot, column: usize) -> Result<Fraction, W
         col: grid.shown(column),
     };
     divided_at(place, &grid.cell(pivot.row, column), &pivot.by)
-}
-
-/// The entry of the pivot's row in a column, after the pivot.
-fn scaled_entry(grid: &Grid<'_>, pivot: &Pivot, column: usize) -> Result<Fraction, WideAt>
-    requires pivot { IsPivotOf grid.now pivot.now }
-    requires column { column < width grid.now }
-    ensures value { IfOk result (λ r. r ≡ scaled_in grid.now pivot.now column) }
-    ensures narrow { IfOk result (λ _. IsScaleNarrow grid.now pivot.now column) }
-    ensures refused { IfErr result (IsWideAt (GridPivotPlaces grid.now pivot.now)) }
-{
-    let entry = grid.cell(pivot.row, column);
-    if entry.is_zero() {
-        return Ok(entry);
-    }
-    quotient(grid, pivot, column)
-}
-
-/// The pivot's row after it.
-fn scaled_row(alloc: Global, grid: &Grid<'_>, pivot: &Pivot) -> Result<Vec<Fraction>, TableError>
-    requires pivot { IsPivotOf grid.now pivot.now }
-    ensures row { IfOk result (λ v. IsScaledRow grid.now pivot.now v.items) }
-    ensures narrow { IfOk result (λ _. IsRowNarrow grid.now pivot.now) }
-    ensures refused { IfErr result (IsRefusedAt (GridPivotPlaces grid.now pivot.now)) }
-{
-    let mut made = Vec::new(alloc);
-    for column in 0..grid.width() {
-        let entry = scaled_entry(grid, pivot, column)?;
-        made.push(entry)?;
-    }
-    Ok(made)
 }
 
 /// What a cell loses, by the new entry of the pivot's row in its column.
@@ -121,61 +94,139 @@ fn changed(
     reduced(grid, pivot, &product, row, column)
 }
 
-/// A cell with a 0 in the pivot's row or column, which loses nothing.
-fn kept(grid: &Grid<'_>, pivot: &Pivot, row: usize, column: usize) -> Fraction
+/// A cell with a 0 in the pivot's row or column stays as it is: a law, no more than reads.
+fn kept(grid: &Grid<'_>, pivot: &Pivot, row: usize, column: usize)
     requires pivot { IsPivotOf grid.now pivot.now }
     requires cell { IsOtherCell grid.now pivot.now row column }
     requires zero { LosesNothing grid.now pivot.now row column }
-    ensures value { result ≡ pivoted_in grid.now pivot.now row column }
+    ensures value { cell_in grid.now row column ≡ pivoted_in grid.now pivot.now row column }
     ensures narrow { IsCellNarrow grid.now pivot.now row column }
 {
-    let entry = grid.cell(row, column);
-    entry.fits();
-    entry
+    grid.cell(row, column).fits();
 }
 
-/// A cell after the pivot, by the pivot's new row.
-fn new_cell(
-    grid: &Grid<'_>,
-    pivot: &Pivot,
-    scaled: &[Fraction],
-    row: usize,
-    column: usize,
-) -> Result<Fraction, WideAt>
+/// A cell whose column has a 0 in the pivot's row: no change is due.
+fn skip_cell(changes: &[Change], grid: &Grid<'_>, pivot: &Pivot, row: usize, column: usize)
     requires pivot { IsPivotOf grid.now pivot.now }
-    requires scaled { IsScaledRow grid.now pivot.now scaled.now }
     requires row { row < grid.now.rows }
     requires column { column < width grid.now }
-    ensures value { IfOk result (λ r. r ≡ pivoted_in grid.now pivot.now row column) }
-    ensures narrow { IfOk result (λ _. IsNarrowBeside grid.now pivot.now row column) }
-    ensures refused { IfErr result (IsWideAt (GridPivotPlaces grid.now pivot.now)) }
+    requires zero { cell_in grid.now pivot.now.row column ≡ zero_q }
+    requires before { IsUpTo grid.now pivot.now (column * grid.now.rows + row) changes.now }
+    ensures after { IsUpTo grid.now pivot.now (column * grid.now.rows + suc row) changes.now }
 {
-    if row == pivot.row {
-        return Ok(scaled[column]);
+    if pivot.row == row {
+        return;
     }
-    if scaled[column].is_zero() || grid.cell(row, pivot.column).is_zero() {
-        return Ok(kept(grid, pivot, row, column));
-    }
-    changed(grid, pivot, &scaled[column], row, column)
+    kept(grid, pivot, row, column);
 }
 
-/// All cells after a pivot.
-pub(crate) fn pivoted_cells(
+/// A column with a 0 in the pivot's row: no change is due. A law, no more than reads.
+fn skip_column(changes: &[Change], grid: &Grid<'_>, pivot: &Pivot, column: usize)
+    requires pivot { IsPivotOf grid.now pivot.now }
+    requires column { column < width grid.now }
+    requires zero { cell_in grid.now pivot.now.row column ≡ zero_q }
+    requires before { IsUpTo grid.now pivot.now (column * grid.now.rows) changes.now }
+    ensures after { IsUpTo grid.now pivot.now (suc column * grid.now.rows) changes.now }
+{
+    for row in 0..grid.rows() {
+        skip_cell(changes, grid, pivot, row, column);
+    }
+}
+
+/// Appends the change of a cell, by the pivot's new row, where the cell changes.
+fn push_cell(
+    changes: &mut Vec<Change>,
+    grid: &Grid<'_>,
+    pivot: &Pivot,
+    scaled: &Fraction,
+    row: usize,
+    column: usize,
+) -> Result<(), TableError>
+    requires pivot { IsPivotOf grid.now pivot.now }
+    requires row { row < grid.now.rows }
+    requires column { column < width grid.now }
+    requires scaled { scaled.now ≡ scaled_in grid.now pivot.now column }
+    requires before { IsUpTo grid.now pivot.now (column * grid.now.rows + row) changes.old.items }
+    ensures after { IfOk result (λ _. IsUpTo grid.now pivot.now
+        (column * grid.now.rows + suc row) changes.new.items) }
+    ensures refused { IfErr result (IsRefusedAt (GridPivotPlaces grid.now pivot.now)) }
+{
+    let place = grid.place(row, column);
+    if row == pivot.row {
+        let entry = *scaled;
+        changes.push(Change { place, entry })?;
+        return Ok(());
+    }
+    if grid.cell(row, pivot.column).is_zero() {
+        kept(grid, pivot, row, column);
+        return Ok(());
+    }
+    let entry = changed(grid, pivot, scaled, row, column)?;
+    changes.push(Change { place, entry })?;
+    Ok(())
+}
+
+/// Appends the changes of a column, by the pivot's new row.
+fn push_column(
+    changes: &mut Vec<Change>,
+    grid: &Grid<'_>,
+    pivot: &Pivot,
+    scaled: &Fraction,
+    column: usize,
+) -> Result<(), TableError>
+    requires pivot { IsPivotOf grid.now pivot.now }
+    requires column { column < width grid.now }
+    requires scaled { scaled.now ≡ scaled_in grid.now pivot.now column }
+    requires before { IsUpTo grid.now pivot.now (column * grid.now.rows) changes.old.items }
+    ensures after { IfOk result (λ _. IsUpTo grid.now pivot.now
+        (suc column * grid.now.rows) changes.new.items) }
+    ensures refused { IfErr result (IsRefusedAt (GridPivotPlaces grid.now pivot.now)) }
+{
+    for row in 0..grid.rows() {
+        push_cell(changes, grid, pivot, scaled, row, column)?;
+    }
+    Ok(())
+}
+
+/// Appends the changes of a column; a column with a 0 in the pivot's row has none.
+fn with_column(
+    changes: &mut Vec<Change>,
+    grid: &Grid<'_>,
+    pivot: &Pivot,
+    column: usize,
+) -> Result<(), TableError>
+    requires pivot { IsPivotOf grid.now pivot.now }
+    requires column { column < width grid.now }
+    requires before { IsUpTo grid.now pivot.now (column * grid.now.rows) changes.old.items }
+    ensures after { IfOk result (λ _. IsUpTo grid.now pivot.now
+        (suc column * grid.now.rows) changes.new.items) }
+    ensures narrow { IfOk result (λ _. IsScaleNarrow grid.now pivot.now column) }
+    ensures refused { IfErr result (IsRefusedAt (GridPivotPlaces grid.now pivot.now)) }
+{
+    if grid.cell(pivot.row, column).is_zero() {
+        skip_column(changes, grid, pivot, column);
+        return Ok(());
+    }
+    let scaled = quotient(grid, pivot, column)?;
+    push_column(changes, grid, pivot, &scaled, column)
+}
+
+/// The changes of a pivot.
+pub(crate) fn pivot_changes(
     alloc: Global,
     grid: &Grid<'_>,
     pivot: &Pivot,
-) -> Result<Vec<Fraction>, TableError>
+) -> Result<Vec<Change>, TableError>
     requires pivot { IsPivotOf grid.now pivot.now }
-    ensures pivoted { IfOk result (λ v. ArePivoted grid.now pivot.now v.items) }
+    ensures inside { IfOk result (λ v. AreInside grid.now.cells v.items) }
+    ensures pivoted { IfOk result (λ v. ArePivoted grid.now pivot.now
+        (written grid.now.cells v.items)) }
     ensures narrow { IfOk result (λ _. IsNarrow (GridPivotPlaces grid.now pivot.now)) }
     ensures refused { IfErr result (IsRefusedAt (GridPivotPlaces grid.now pivot.now)) }
 {
-    let scaled = scaled_row(alloc, grid, pivot)?;
-    let rows = grid.rows();
-    let mut made = Vec::new(alloc);
-    for k in 0..grid.len() {
-        let next = new_cell(grid, pivot, &scaled, k % rows, k / rows)?;
-        made.push(next)?;
+    let mut changes = Vec::new(alloc);
+    for column in 0..grid.width() {
+        with_column(&mut changes, grid, pivot, column)?;
     }
-    Ok(made)
+    Ok(changes)
 }

@@ -10,17 +10,19 @@ ghost use Rattle.ps_table.specs.Places.{PivotPlaces, NewPlaces, CostPlaces, Home
 ghost use Rattle.ps_table.specs.Places.{IsWideAt, IsRefusedAt, IsNarrow};
 ghost use Rattle.ps_table.specs.Grids.{grid_of, ArePivotedIn, IsMadeColumn};
 ghost use Rattle.ps_table.specs.Grids.{carried_before, IsSumNarrowAt};
+ghost use Rattle.ps_table.specs.Changes.{written, AreInside};
 
 use crate::adding::new_column;
 use crate::at_place::plus_at;
 use crate::cells::{cell, number_of as column_number};
+use crate::change::{Change, write_all};
 use crate::costs::{Costs, cost_of, cost_times};
 use crate::error::TableError;
 use crate::first::{first_basic, first_cells};
 use crate::grid::Grid;
 use crate::home::Home;
 use crate::pivot::Pivot;
-use crate::pivoting::pivoted_cells;
+use crate::pivoting::pivot_changes;
 use crate::place::{Place, WideAt};
 use ps_frac::Fraction;
 use ps_io::NoMemory;
@@ -248,13 +250,14 @@ impl Table {
         Ok(self.worlds)
     }
 
-    /// The cells after a pivot in a row and a column.
-    fn pivoted(&self, row: u32, col: Col) -> Result<Vec<Fraction>, TableError>
+    /// The changes of a pivot in a row and a column.
+    fn changes(&self, row: u32, col: Col) -> Result<Vec<Change>, TableError>
         requires row { row < rows_of self.now }
         requires col { HasColumn self.now col }
         requires pivot { entry_of self.now row col ≢ zero_q }
-        ensures count { IfOk result (λ v. length v.items ≡ length self.now.cells) }
-        ensures pivoted { IfOk result (λ v. ArePivotedIn self.now row col v.items) }
+        ensures inside { IfOk result (λ v. AreInside self.now.cells v.items) }
+        ensures pivoted { IfOk result (λ v. ArePivotedIn self.now row col
+            (written self.now.cells v.items)) }
         ensures narrow { IfOk result (λ _. IsNarrow (PivotPlaces self.now row col)) }
         ensures refused { IfErr result (IsRefusedAt (PivotPlaces self.now row col)) }
     {
@@ -263,7 +266,7 @@ impl Table {
             column: column_number(self.homes.len(), col),
             by: self.entry(row, col),
         };
-        pivoted_cells(self.alloc, &self.grid(), &pivot)
+        pivot_changes(self.alloc, &self.grid(), &pivot)
     }
 
     /// Makes column `col` basic in row `row`.
@@ -277,8 +280,8 @@ impl Table {
         ensures refused { IfErr result (IsRefusedAt (PivotPlaces self.old row col)) }
         ensures same { IfErr result (λ _. self.new ≡ self.old) }
     {
-        let made = self.pivoted(row, col)?;
-        self.cells = made;
+        let changes = self.changes(row, col)?;
+        write_all(&mut self.cells, &changes);
         self.basic[row as usize] = col;
         Ok(())
     }

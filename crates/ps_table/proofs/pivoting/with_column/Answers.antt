@@ -1,0 +1,12 @@
+use Rattle.std.proofs.Common.{◌≡◌, ◌∙◌, sym, rules}
+use Rattle.ps_rational.specs.Rational.{zero_q}
+use Rattle.ps_table.specs.Grids.{cell_in}
+use Rattle.ps_table.proofs.Zeros.{zero_scale_narrow}
+use Rattle.ps_table.proofs.pivoting.with_column.Goals as goal
+
+pub returns-then-is_zero-clause-narrow : goal.returns-then-is_zero-clause-narrow
+returns-then-is_zero-clause-narrow c =
+    let g = c.args.grid.now in
+    let p = c.args.pivot.now in
+    let z : c.cell.result ≡ zero_q = search rules in
+    zero_scale_narrow (cell_in g p.row c.args.column) (cell_in g p.row p.column) (sym c.cell.ensures.value ∙ z)
