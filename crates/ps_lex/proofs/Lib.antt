@@ -4,3 +4,4 @@ pub mod Told
 pub mod Places
 pub mod Begun
 pub mod Passing
+pub mod Letters

@@ -125,10 +125,10 @@ line_quiet c began here [] h = tt
 line_quiet c began here (b ∷ bs) h =
     (gap_quiet c began here b (line_passed c b h.0), subst (λ s. AreQuiet s bs) (sym (line_step c began here b h.0)) (line_quiet c (if c then began else here) (along here 1) bs h.1))
 
-along_none : (p : Position) → along p 0 ≡ p
+pub along_none : (p : Position) → along p 0 ≡ p
 along_none p = let e : p.column + 0 ≡ p.column = omega arith in let f : p.offset + 0 ≡ p.offset = omega arith in λ i. record { line = p.line; column = e i; offset = f i }
 
-along_more : (p : Position) (n : ℕ) → along (along p 1) n ≡ along p (suc n)
+pub along_more : (p : Position) (n : ℕ) → along (along p 1) n ≡ along p (suc n)
 along_more p n = let e : p.column + 1 + n ≡ p.column + suc n = omega arith in let f : p.offset + 1 + n ≡ p.offset + suc n = omega arith in λ i. record { line = p.line; column = e i; offset = f i }
 
 along_less : (p : Position) (n : ℕ) → along (along p 1) (suc n - 1) ≡ along p (suc (suc n) - 1)
@@ -146,7 +146,7 @@ line_state false began here b (d ∷ ds) h =
     ∙ line_state false here (along here 1) d ds h.1
     ∙ (let e = along_less here (length ds) in let f = along_more here (suc (length ds)) in λ i. gap_state false (e i) (f i))
 
-with_place : (s : LexerState) (bs : List ℕ) → (with_bytes s bs).here ≡ behind_all s.here bs
+pub with_place : (s : LexerState) (bs : List ℕ) → (with_bytes s bs).here ≡ behind_all s.here bs
 with_place s [] = refl
 with_place s (b ∷ bs) = with_place (with_byte s b) bs ∙ ap (λ h. behind_all h bs) (place_next s b)
 
@@ -173,7 +173,7 @@ line_along c began here bytes left count n a k e f =
 pub line_none : (c : Bool) (bytes : List ℕ) → AreInLine c bytes bytes
 line_none c bytes = record { passed = []; bytes_are = refl; all = tt }
 
-all_more : (p : ℕ → Bool) (bs : List ℕ) (b : ℕ) → AllByRecursion (λ x. IsTrue (p x)) bs → p b ≡ true → AllByRecursion (λ x. IsTrue (p x)) (bs ++ b ∷ [])
+pub all_more : (p : ℕ → Bool) (bs : List ℕ) (b : ℕ) → AllByRecursion (λ x. IsTrue (p x)) bs → p b ≡ true → AllByRecursion (λ x. IsTrue (p x)) (bs ++ b ∷ [])
 all_more p [] b h k = (k, tt)
 all_more p (c ∷ cs) b h k = (h.0, all_more p cs b h.1 k)
 

@@ -1,13 +1,14 @@
 -- Runs of bytes that tell nothing.
 use Rattle.std.specs.Prelude.{◌≡◌, ℕ, Bool, true, false, ◌-◌, ◌||◌, ◌==◌, not, IsTrue, List, [], ◌∷◌, ◌++◌, None}
 use Rattle.std.specs.List.{AllByRecursion}
+use Rattle.ps_text.specs.Tokens.{is_word_byte}
 use Rattle.ps_text.specs.Pieces.{is_blank}
 use Rattle.ps_lex.specs.declared.position.Position.{Position}
 use Rattle.ps_lex.specs.declared.mode.Mode.{Mode}
 use Rattle.ps_lex.specs.declared.mode.Mode.TheVariants as mode
 use Rattle.ps_lex.specs.Places.{along}
 use Rattle.ps_lex.specs.Seen.{behind_all}
-use Rattle.ps_lex.specs.Lexing.{LexerState, token_ended, with_byte, bad_place}
+use Rattle.ps_lex.specs.Lexing.{LexerState, token_ended, with_byte, bad_place, letter_kept}
 
 -- what the bytes and more stand in
 abbrev pub with_bytes : LexerState → List ℕ → LexerState
@@ -32,10 +33,11 @@ pub record Passes (s : LexerState) (bytes : List ℕ) (n : LexerState) (left : L
   pub state : n ≡ with_bytes s passed
   pub place : n.here ≡ behind_all s.here passed
 
--- the byte is one of a comment, or a blank or a `#` outside of tokens
+-- the byte is one of a comment, or a blank or a `#` outside of tokens, or goes on with a word
 abbrev pub is_passed : Mode → ℕ → Bool
 is_passed mode.Between b = is_blank b || b == 35
 is_passed mode.Comment b = true
+is_passed (mode.Word w) b = is_word_byte b
 is_passed m b = false
 
 -- the first of the bytes is none of these
@@ -66,3 +68,20 @@ pub record AreInLine (c : Bool) (bytes left : List ℕ) : Type 0 where
 abbrev pub along_line : Bool → Position → Position → ℕ → LexerState
 along_line true began here n = gap_state true began (along here n)
 along_line false began here n = gap_state false (along here (n - 1)) (along here n)
+
+-- these bytes more of a word, as many as are kept
+abbrev pub letters_kept : List ℕ → List ℕ → List ℕ
+letters_kept w [] = w
+letters_kept w (b ∷ bs) = letters_kept (letter_kept w b) bs
+
+-- bytes of words stand at the front and were added to a word, and these are left
+pub record TakesLetters (w bytes n left : List ℕ) : Type 0 where
+  pub passed : List ℕ
+  pub bytes_are : bytes ≡ passed ++ left
+  pub all : AllByRecursion (λ b. IsTrue (is_word_byte b)) passed
+  pub kept : n ≡ letters_kept w passed
+
+-- none stands at the front
+abbrev pub EndsLetters : List ℕ → Type 0
+EndsLetters [] = Unit {0}
+EndsLetters (b ∷ bs) = is_word_byte b ≡ false

@@ -35,7 +35,8 @@ impl Gap {
         ensures { gap_state result.is_comment result.began result.here
             ≡ with_byte (gap_state self.is_comment self.began self.here) byte }
     {
-        let here = self.here.behind(byte);
+        let mut here = self.here;
+        here.advance(byte);
         if self.is_comment {
             Gap {
                 is_comment: byte != b'\n',

@@ -1,14 +1,14 @@
 //! Cuts bytes into tokens.
 ghost use Rattle.std.specs.Prelude.{◌≡◌, ◌-◌, ◌^◌, length};
-ghost use Rattle.ps_lex.specs.Places.{IsWithin, HasRoom};
+ghost use Rattle.ps_lex.specs.Places.{behind, IsWithin, HasRoom};
 ghost use Rattle.ps_lex.specs.Lexing.{new_lexer, token_ended, with_byte, last_token};
-ghost use Rattle.ps_lex.specs.Lexing.{last_bad, bad_place, is_within_token};
+ghost use Rattle.ps_lex.specs.Lexing.{last_bad, bad_place, is_within_token, begun};
 ghost use Rattle.ps_lex.specs.Passing.{Passes, AllPassed};
 
 use crate::gap::Gap;
 use crate::mode::Mode;
 use crate::step::Step;
-use crate::stepping::step;
+use crate::stepping::{begin, step};
 use crate::{Numeral, Position, Token};
 use std::marker::Model;
 
@@ -52,25 +52,66 @@ impl Lexer {
         ensures token { result ≡ token_ended self.old byte }
         ensures state { self.new ≡ with_byte self.old byte }
     {
+        match self.mode {
+            Mode::Between => {
+                self.begin(byte);
+                None
+            }
+            Mode::Sign(symbol) => {
+                self.begin(byte);
+                Some(Token::Sign(symbol))
+            }
+            _ => self.step(byte),
+        }
+    }
+
+    // The byte stands outside of tokens, or begins one.
+    #[inline(always)]
+    fn begin(&mut self, byte: u8)
+        requires room { IsWithin (2 ^ 32 - 2) self.old.here }
+        ensures { self.new ≡ record {
+          mode = begun self.old.here byte;
+          began = self.old.here;
+          here = behind self.old.here byte;
+        } }
+    {
+        self.mode = begin(self.here, byte);
+        self.began = self.here;
+        self.here.advance(byte);
+    }
+
+    // The byte goes on with what is begun, or ends it.
+    #[tactic(auto, unfolding(crate::specs::Lexing::token_ended, crate::specs::Lexing::with_byte))]
+    fn step(&mut self, byte: u8) -> Option<Token>
+        requires room { IsWithin (2 ^ 32 - 2) self.old.here }
+        ensures token { result ≡ token_ended self.old byte }
+        ensures state { self.new ≡ with_byte self.old byte }
+    {
         let mode = std::mem::replace(&mut self.mode, Mode::Between);
         let Step { mode, began, ended } = step(mode, self.began, self.here, byte);
         self.mode = mode;
         self.began = began;
-        self.here = self.here.behind(byte);
+        self.here.advance(byte);
         ended
     }
 
-    /// Passes the blanks and comments at the front of some bytes, where the lexer stands outside
-    /// of tokens, and gives the bytes that are left. It is as if each byte that is passed were taken:
-    /// no token would be told. Lines and columns go up to 2^32 - 1.
+    /// Passes the bytes at the front of some that go on with what the lexer stands in, and gives the
+    /// bytes that are left: the blanks and comments outside of tokens, or the bytes of a word. It is
+    /// as if each byte that is passed were taken: no token would be told. Lines and columns go up
+    /// to 2^32 - 1.
     pub fn pass<'a>(&mut self, bytes: &'a [u8]) -> &'a [u8]
         requires room { HasRoom (length bytes.now) self.old.here }
         ensures passes { Passes self.old bytes.now self.new result.now }
         ensures all { AllPassed self.new.mode result.now }
     {
-        let is_comment = match self.mode {
+        let is_comment = match &mut self.mode {
             Mode::Between => false,
             Mode::Comment => true,
+            Mode::Word(letters) => {
+                let left = letters.take(bytes);
+                self.here = self.here.along((bytes.len() - left.len()) as u32);
+                return left;
+            }
             _ => return bytes,
         };
         let gap = Gap {

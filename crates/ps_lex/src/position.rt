@@ -22,24 +22,19 @@ impl Position {
         }
     }
 
-    /// The position behind a byte that stands here.
+    /// Goes behind the byte that stands here.
+    #[inline(always)]
     #[tactic(auto, unfolding(crate::specs::Places::behind))]
-    pub(crate) fn behind(self, byte: u8) -> Position
-        requires room { IsWithin (2 ^ 32 - 2) self }
-        ensures { result ≡ behind self byte }
+    pub(crate) fn advance(&mut self, byte: u8)
+        requires room { IsWithin (2 ^ 32 - 2) self.old }
+        ensures { self.new ≡ behind self.old byte }
     {
+        self.offset += 1;
         if byte == b'\n' {
-            Position {
-                line: self.line + 1,
-                column: 1,
-                offset: self.offset + 1,
-            }
+            self.line += 1;
+            self.column = 1;
         } else {
-            Position {
-                line: self.line,
-                column: self.column + 1,
-                offset: self.offset + 1,
-            }
+            self.column += 1;
         }
     }
 

@@ -13,6 +13,7 @@ use crate::{Digits, Numeral, Position, Token, Word};
 use ps_text::Symbol;
 
 // The mode behind a symbol's first byte.
+#[inline(always)]
 fn begin_symbol(here: Position, byte: u8) -> Mode
     ensures { result ≡ symbol_begun here byte }
 {
@@ -34,9 +35,10 @@ fn begin_symbol(here: Position, byte: u8) -> Mode
     }
 }
 
-// The mode behind a byte that stands outside of tokens, or begins one.
+/// The mode behind a byte that stands outside of tokens, or begins one.
+#[inline(always)]
 #[tactic(auto, unfolding(crate::specs::Lexing::begun))]
-fn begin(here: Position, byte: u8) -> Mode
+pub(crate) fn begin(here: Position, byte: u8) -> Mode
     ensures mode { result ≡ begun here byte }
     ensures capped { IsCappedMode result }
 {

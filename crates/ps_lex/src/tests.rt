@@ -202,6 +202,57 @@ fn all_are_passed() -> Result<bool, Fail> {
     Ok(true)
 }
 
+// Texts, the word at the front, what is left behind it, and its column.
+const RESTS: [(&[u8], &[u8], &[u8], u32); 5] = [
+    (b"a", b"a", b"", 2),
+    (b"ab_9Z c", b"ab_9Z", b" c", 6),
+    (b"P(a)", b"P", b"(a)", 2),
+    (
+        b"abcdefghijklmnopqrstuvwxyzABCDEF;",
+        b"abcdefghijklmnopqrstuvwxyzABCDEF",
+        b";",
+        33,
+    ),
+    (
+        b"abcdefghijklmnopqrstuvwxyzABCDEFGHI\n",
+        b"abcdefghijklmnopqrstuvwxyzABCDEFG",
+        b"\n",
+        36,
+    ),
+];
+
+// Whether behind the first byte the rest of a word is passed, up to what is left at a column.
+fn is_passed(text: &[u8], word: &[u8], left: &[u8], column: u32) -> Result<bool, Fail> {
+    let mut lexer = Lexer::new();
+    let more = match text {
+        [byte, more @ ..] => {
+            let _ = lexer.take(*byte);
+            more
+        }
+        _ => return Ok(false),
+    };
+    let here = lexer.here();
+    if here.offset > 1000 || here.line > 1000 || here.column > 1000 || more.len() > 1000 {
+        return Err("a long text".into());
+    }
+    if lexer.pass(more) != left || lexer.here().column != column {
+        return Ok(false);
+    }
+    match lexer.finish() {
+        Some(Token::Word(letters)) => Ok(letters.as_slice() == word),
+        _ => Ok(false),
+    }
+}
+
+fn all_rests_are_passed() -> Result<bool, Fail> {
+    for (text, word, left, column) in RESTS {
+        if !is_passed(text, word, left, column)? {
+            return Ok(false);
+        }
+    }
+    Ok(true)
+}
+
 fn all_are_told(alloc: Global, cases: &[(&str, &str)]) -> Result<bool, Fail> {
     for (text, tokens) in cases {
         if tokens_of(alloc, text)?.as_str() != *tokens {
@@ -240,5 +291,11 @@ fn places_are_told(rt: HostRuntime) -> Result<(), Fail> {
 #[test]
 fn blanks_and_comments_are_passed(rt: HostRuntime) -> Result<(), Fail> {
     assert!(rt; all_are_passed()?);
+    Ok(())
+}
+
+#[test]
+fn rests_of_words_are_passed(rt: HostRuntime) -> Result<(), Fail> {
+    assert!(rt; all_rests_are_passed()?);
     Ok(())
 }

@@ -1,7 +1,9 @@
 //! A word.
 ghost use Rattle.std.specs.Prelude.{◌≡◌, ◌≤◌, [], ◌∷◌, length};
 ghost use Rattle.ps_lex.specs.Lexing.{letter_kept};
+ghost use Rattle.ps_lex.specs.Passing.{TakesLetters, EndsLetters};
 
+use crate::bytes::is_word_byte;
 use ps_text::LONGEST_WORD;
 use std::marker::Model;
 
@@ -46,6 +48,23 @@ impl Word {
             self.bytes[len] = byte;
             self.len = len + 1;
         }
+    }
+
+    /// Takes the bytes of words at the front of some bytes, and gives the bytes that are left.
+    pub(crate) fn take<'a>(&mut self, bytes: &'a [u8]) -> &'a [u8]
+        ensures letters { TakesLetters self.old bytes.now self.new result.now }
+        ensures all { EndsLetters result.now }
+        ensures shorter { length result.now ≤ length bytes.now }
+    {
+        let mut left = bytes;
+        while let [byte, more @ ..] = left {
+            if !is_word_byte(*byte) {
+                return left;
+            }
+            self.push(*byte);
+            left = more;
+        }
+        left
     }
 
     /// The bytes that are kept.

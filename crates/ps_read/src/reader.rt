@@ -113,8 +113,8 @@ impl Reader {
         Ok(self.begun_behind())
     }
 
-    /// Passes the blanks and comments at the front of some bytes, where no token has begun, and
-    /// gives the bytes that are left.
+    /// Passes the bytes at the front of some that tell nothing, blanks and comments or the rest of
+    /// a word, and gives the bytes that are left.
     pub(crate) fn pass<'a>(&mut self, bytes: &'a [u8]) -> &'a [u8]
         requires ready { IsReady self.old }
         requires room { self.old.lexer.here.offset + length bytes.now + 1 < 2 ^ 32 }
