@@ -20,7 +20,7 @@ mod table;
 pub use costs::{CostList, Costs};
 pub use error::TableError;
 pub use home::Home;
-pub use laws::printed_places;
+pub use laws::{printed_places, row_limit};
 pub use limits::{MOST_ROWS, PRINTED_LIMIT, is_printed};
 pub use place::{Place, TableCol, WideAt};
 pub use table::Table;
