@@ -6,37 +6,13 @@ use Rattle.ps_meaning.specs.Formula.{World}
 use Rattle.ps_formula.specs.declared.node.Node.{Node}
 use Rattle.ps_formula.specs.Nodes.{truths}
 use Rattle.ps_problem.specs.declared.bound.Bound.{Bound}
-use Rattle.ps_problem.specs.declared.limits.TheConstants.{MOST_DENOMINATOR}
+use Rattle.ps_problem.specs.Rows.{indicator_of, given_indicator, row_over}
 use Rattle.ps_table.specs.declared.home.Home.{Home}
 use Rattle.ps_table.specs.declared.home.Home.TheVariants.{Slack, Artificial}
 use Rattle.ps_bland.specs.declared.phase.Phase.{Phase}
 use Rattle.ps_bland.specs.declared.phase.Phase.TheVariants.{One, Lower, Upper}
 
 -- ---- columns of worlds
--- the node is there
-abbrev pub HasNode : List Bool → ℕ → Type 0
-HasNode values i = i < length values
-
--- the nodes of a bound are there, and its numbers are within the limits
-pub record IsRow (values : List Bool) (b : Bound) : Type 0 where
-  pub both : b.both < length values
-  pub given : IfSome b.given (HasNode values)
-  pub num : b.num ≤ MOST_DENOMINATOR
-  pub den : b.den ≤ MOST_DENOMINATOR
-
--- 1 where a node is true, else 0
-abbrev pub indicator_of : List Bool → ℕ → ℤ
-indicator_of values i = if slice_index_or values i true then pos 1 else pos 0
-
--- 1 where a condition is true, which it always is where nothing is given
-abbrev pub given_indicator : List Bool → Option ℕ → ℤ
-given_indicator values None = pos 1
-given_indicator values (Some i) = indicator_of values i
-
--- the denominator where formula and condition are true, less the numerator where the condition is
-abbrev pub row_over : List Bool → Bound → ℤ
-row_over values b = (pos b.den *ℤ indicator_of values b.both) -ℤ (pos b.num *ℤ given_indicator values b.given)
-
 -- turned round at a lower bound
 abbrev pub turned_for : Side → ℤ → ℤ
 turned_for AtLeast z = neg_ℤ z

@@ -2,7 +2,7 @@
 ghost use Rattle.std.specs.Prelude.{◌≡◌, ◌≢◌, ◌<◌, ◌≤ℤ◌, pos, negsuc, All, IfOk, length, map};
 ghost use Rattle.std.specs.Prelude.{◌-◌, ◌≤◌, [], get_or};
 ghost use Rattle.ps_formula.specs.Nodes.{AtomBelow, truths};
-ghost use Rattle.ps_columns.specs.Columns.{HasNode, indicator_of};
+ghost use Rattle.ps_problem.specs.Rows.{HasNode, indicator_of};
 ghost use Rattle.ps_columns.specs.Columns.{home_cost, cost_over, costs_over};
 
 use ps_bland::Phase;

@@ -17,15 +17,16 @@ use Rattle.ps_table.specs.declared.costs.Costs.{Costs}
 use Rattle.ps_claims.specs.declared.claim_kind.ClaimKind.{ClaimKind}
 use Rattle.ps_claims.specs.declared.claim_kind.ClaimKind.TheVariants.{Nothing, Lower, Upper}
 use Rattle.ps_columns.specs.Columns as over
+use Rattle.ps_problem.specs.Rows as rows
 use Rattle.ps_runs.specs.Rows.{Setting, turned, entry_in, entries_of, is_exact, artificial_rows, home_cost, world_cost, both_of}
 use Rattle.ps_runs.specs.Runs.{Subject, setting_of, asked_in, given_in, both_in, IsAsked}
 use Rattle.ps_phases.specs.Tables.{phase_of, home_of, homes_of, costs_for}
 
 module _ (ns : List Node) (w : World) where
-  indicator_at : (i : ℕ) → over.indicator_of (truths ns w) i ≡ indicator (tree_at ns i) w
+  indicator_at : (i : ℕ) → rows.indicator_of (truths ns w) i ≡ indicator (tree_at ns i) w
   indicator_at i = ap (λ b. cond b (pos 1) (pos 0)) (truths-at ns w i)
 
-  given_is : (given : Option ℕ) → over.given_indicator (truths ns w) given ≡ indicator (given_at ns given) w
+  given_is : (given : Option ℕ) → rows.given_indicator (truths ns w) given ≡ indicator (given_at ns given) w
   given_is None = refl
   given_is (Some i) = indicator_at i
 
@@ -37,7 +38,7 @@ module _ (ns : List Node) (w : World) where
   both_is formula None both e = ap (λ i. indicator (tree_at ns i) w) e ∙ ap (λ b. cond b (pos 1) (pos 0)) (sym (and_true (is_true (tree_at ns formula) w)))
   both_is formula (Some g) both e = ap (λ f. indicator f w) e
 
-  row_is : (b : Bound) → IsBound ns b → over.row_over (truths ns w) b ≡ row_value (bound_of ns b) w
+  row_is : (b : Bound) → IsBound ns b → rows.row_over (truths ns w) b ≡ row_value (bound_of ns b) w
   row_is b is = λ i. (pos b.den *ℤ (indicator_at b.both ∙ both_is b.formula b.given b.both is.nodes.both_is) i) -ℤ (pos b.num *ℤ given_is b.given i)
 
   turned_is : (side : Side) (z : ℤ) → over.turned_for side z ≡ turned side z
@@ -46,13 +47,13 @@ module _ (ns : List Node) (w : World) where
   turned_is Exactly z = refl
 
   entry_is : (b : Bound) → IsBound ns b → over.entry_over (truths ns w) b ≡ entry_in w (bound_of ns b)
-  entry_is b is = turned_is b.side (over.row_over (truths ns w) b) ∙ ap (turned b.side) (row_is b is)
+  entry_is b is = turned_is b.side (rows.row_over (truths ns w) b) ∙ ap (turned b.side) (row_is b is)
 
   entries_are : (bs : List Bound) → All (IsBound ns) bs → map (over.entry_over (truths ns w)) bs ≡ map (entry_in w) (map (bound_of ns) bs)
   entries_are [] are = refl
   entries_are (b ∷ bs) are = λ i. entry_is b (All-head (IsBound ns) b bs are) i ∷ entries_are bs (All-tail (IsBound ns) b bs are) i
 
-evidence_is : (p : Parts) (q : Option stored.Query) (w : World) → over.given_indicator (truths p.nodes w) (given_in q) ≡ indicator (asked_in p q).evidence w
+evidence_is : (p : Parts) (q : Option stored.Query) (w : World) → rows.given_indicator (truths p.nodes w) (given_in q) ≡ indicator (asked_in p q).evidence w
 evidence_is p None w = refl
 evidence_is p (Some q) w = given_is p.nodes w q.given
 
@@ -92,7 +93,7 @@ is_first Lower = ⊥
 is_first Upper = ⊥
 
 query_is : (p : Parts) (q : stored.Query) (w : World) → IsBoth p.nodes q.formula q.given q.both
-    → over.indicator_of (truths p.nodes w) q.both ≡ indicator (both_of (setting_of (record { parts = p; query = Some q }))) w
+    → rows.indicator_of (truths p.nodes w) q.both ≡ indicator (both_of (setting_of (record { parts = p; query = Some q }))) w
 query_is p q w both = indicator_at p.nodes w q.both ∙ both_is p.nodes w q.formula q.given q.both both
 
 world_cost_is : (kind : ClaimKind) (p : Parts) (q : Option stored.Query) (w : World) → IsAsked kind p q

@@ -5,6 +5,7 @@ pub use Rattle.ps_meaning.specs.Statements
 pub use Rattle.ps_formula.specs.Nodes
 -- Meaning
 pub mod Problems
+pub mod Rows
 pub mod Numbering
 pub mod Counts
 pub mod Soundness

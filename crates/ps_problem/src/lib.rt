@@ -14,6 +14,7 @@ mod mark;
 mod names;
 mod problem;
 mod query;
+mod row;
 mod sentence;
 mod span;
 
@@ -27,6 +28,7 @@ pub use mark::Mark;
 pub use problem::Problem;
 pub use ps_meaning::Side;
 pub use query::{Queries, Query};
+pub use row::{given_indicator, row_value};
 pub use sentence::{Sentence, Sentences};
 
 #[cfg(test)]
