@@ -5,11 +5,12 @@ ghost use Rattle.ps_lex.specs.Lexing.{new_lexer, token_ended, with_byte, last_to
 ghost use Rattle.ps_lex.specs.Lexing.{last_bad, bad_place, is_within_token, begun};
 ghost use Rattle.ps_lex.specs.Passing.{Passes, AllPassed};
 
+use crate::bytes::is_word_byte;
 use crate::gap::Gap;
 use crate::mode::Mode;
 use crate::step::Step;
 use crate::stepping::{begin, step};
-use crate::{Numeral, Position, Token};
+use crate::{Position, Token};
 use std::marker::Model;
 
 /// Takes bytes, one after the other, and tells each token once the byte behind it, or the end,
@@ -61,8 +62,25 @@ impl Lexer {
                 self.begin(byte);
                 Some(Token::Sign(symbol))
             }
+            Mode::Word(_) if !is_word_byte(byte) => self.end(byte),
             _ => self.step(byte),
         }
+    }
+
+    // What is begun ends before the byte.
+    #[inline(always)]
+    fn end(&mut self, byte: u8) -> Option<Token>
+        requires room { IsWithin (2 ^ 32 - 2) self.old.here }
+        ensures token { result ≡ last_token self.old.mode }
+        ensures state { self.new ≡ record {
+          mode = begun self.old.here byte;
+          began = self.old.here;
+          here = behind self.old.here byte;
+        } }
+    {
+        let mode = std::mem::replace(&mut self.mode, Mode::Between);
+        self.begin(byte);
+        mode.last_token()
     }
 
     // The byte stands outside of tokens, or begins one.
@@ -134,22 +152,7 @@ impl Lexer {
     pub fn finish(self) -> Option<Token>
         ensures { result ≡ last_token self.mode }
     {
-        match self.mode {
-            Mode::Word(letters) => Some(Token::Word(letters)),
-            Mode::Whole(digits)
-            | Mode::Slash { over: digits, .. }
-            | Mode::Point { whole: digits, .. } => { Some(Token::Number(Numeral::Whole(digits))) }
-            Mode::Quotient { over, under } => Some(Token::Number(Numeral::Quotient {
-                over,
-                under,
-            })),
-            Mode::Decimal { all, decimals } => Some(Token::Number(Numeral::Decimal {
-                all,
-                decimals,
-            })),
-            Mode::Sign(symbol) => Some(Token::Sign(symbol)),
-            _ => None,
-        }
+        self.mode.last_token()
     }
 
     /// The place where no token begins, if the bytes end here.

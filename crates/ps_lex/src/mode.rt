@@ -1,5 +1,8 @@
 //! What the bytes so far stand in.
-use crate::{Digits, Position, Word};
+ghost use Rattle.std.specs.Prelude.{◌≡◌};
+ghost use Rattle.ps_lex.specs.Lexing.{last_token};
+
+use crate::{Digits, Numeral, Position, Token, Word};
 use ps_text::Symbol;
 
 /// What the last byte stands in.
@@ -30,4 +33,29 @@ pub enum Mode {
     Sign(Symbol),
     /// No token begins here.
     Bad(Position),
+}
+
+impl Mode {
+    /// The token that ends with the bytes, if they end here.
+    #[inline(always)]
+    pub(crate) fn last_token(self) -> Option<Token>
+        ensures { result ≡ last_token self }
+    {
+        match self {
+            Mode::Word(letters) => Some(Token::Word(letters)),
+            Mode::Whole(digits)
+            | Mode::Slash { over: digits, .. }
+            | Mode::Point { whole: digits, .. } => { Some(Token::Number(Numeral::Whole(digits))) }
+            Mode::Quotient { over, under } => Some(Token::Number(Numeral::Quotient {
+                over,
+                under,
+            })),
+            Mode::Decimal { all, decimals } => Some(Token::Number(Numeral::Decimal {
+                all,
+                decimals,
+            })),
+            Mode::Sign(symbol) => Some(Token::Sign(symbol)),
+            _ => None,
+        }
+    }
 }
