@@ -1,5 +1,5 @@
 -- Searches for values.
-use Rattle.std.proofs.Common.{◌≡◌, ℕ, ◌<◌, ℤ, pos, ◌-ℤ◌, ◌+ℤ◌, ◌≤ℤ◌, Bool, true, false, Option, Some, Result, Ok, Err, List, [], ◌∷◌, ◌++◌, length, length-append, map, arith, refl, sym, ap, ◌∙◌, subst, ◌⊎◌, inl, inr, ◌+◌, ◌≤◌}
+use Rattle.std.proofs.Common.{◌≡◌, ℕ, ◌<◌, ℤ, pos, ◌-ℤ◌, ◌+ℤ◌, ◌≤ℤ◌, ◌<ℤ◌, Bool, true, false, Some, Result, Ok, Err, List, [], ◌∷◌, ◌++◌, length, length-append, map, arith, refl, sym, ap, ◌∙◌, subst, inl, inr, ◌+◌, ◌≤◌}
 use Rattle.std.specs.Prelude.{IsTrue, IfOk, OnOk, OnErr, int_lt}
 use Rattle.std.specs.List.{All}
 use Rattle.std.proofs.lemmas.Int.{ints}
@@ -16,7 +16,7 @@ use Rattle.ps_sat.specs.declared.error.SearchError.{SearchError}
 use Rattle.ps_sat.specs.declared.searching.Outcome.TheVariants.{Found, Refuted, Spent}
 use Rattle.ps_maxsat.specs.declared.problem.Wcnf.{Wcnf}
 use Rattle.ps_maxsat.specs.declared.pricing.Priced.{Priced}
-use Rattle.ps_maxsat.specs.Values.{value, goal_of, IsValueOfFull, IsOf, NoneIsAbove, HoldsSearch, HoldsFound, HoldsRefutation, HoldsLast, HoldsSteps, IsLogAfterError}
+use Rattle.ps_maxsat.specs.Values.{value, goal_of, IsOf, NoneIsAbove, HoldsSearch, HoldsFound, HoldsRefutation, HoldsLast, HoldsSteps, HoldsSome, IsGoal, most, IsLogAfterFailed, IsLogAfterError}
 use Rattle.ps_steps.proofs.Within.{constraint-within}
 use Rattle.ps_log.specs.Logs.{Telling, Stays}
 
@@ -76,15 +76,19 @@ held-end p m least conflicts told later new o o' e q tell h = subst (λ x. Holds
 pub spent-is : (p : Wcnf) (least : ℤ) (conflicts : ℕ) (o : Outcome) (learned : ℕ) → o ≡ Spent learned → IsOutcome p.hard (goal_of p least) conflicts o → o ≡ Spent conflicts
 spent-is p least conflicts o learned e out = let same : learned ≡ conflicts = subst (λ x. IsOutcome p.hard (goal_of p least) conflicts x) e out in e ∙ ap Spent same
 
+-- the goal of a later search
+pub later-goal : (p : Wcnf) (found m least bound : ℤ) → least ≡ m → pos 1 ≤ℤ found → found <ℤ m → m ≤ℤ bound → bound ≤ℤ most p → IsGoal p least
+later-goal p found m least bound e some up within none = inr (omega (arith, ints, e, some, up), omega (arith, ints, e, within, none))
+
 -- an assignment was found by the search that the log holds
-pub held-found : (p : Wcnf) (m v : ℤ) (conflicts : ℕ) (told later : Bool) (new : Telling) (o : Outcome) (a : Assignment) → o ≡ Found a → m ≤ℤ v → (IsTrue told → IsTrue later) → HoldsSearch p m conflicts later new o → HoldsFound p v conflicts told new
-held-found p m v conflicts told later new o a e up tell h =
+pub held-found : (p : Wcnf) (m v : ℤ) (conflicts : ℕ) (told later : Bool) (new : Telling) (o : Outcome) (a : Assignment) → o ≡ Found a → IsGoal p m → m ≤ℤ v → (IsTrue told → IsTrue later) → HoldsSearch p m conflicts later new o → HoldsFound p v conflicts told new
+held-found p m v conflicts told later new o a e goal up tell h =
     let own = held-end p m m conflicts told later new o (Found a) e refl tell h in
-    record { least = m; up = up; handed = own.0; learned = own.1 }
+    record { least = m; goal = goal; up = up; handed = own.0; learned = own.1 }
 
 -- a goal was refuted by it
-pub held-refutation : (p : Wcnf) (m least : ℤ) (conflicts : ℕ) (told later : Bool) (new : Telling) (o : Outcome) (last : ℕ) → o ≡ Refuted last → m ≡ least → (IsTrue told → IsTrue later) → HoldsSearch p m conflicts later new o → HoldsRefutation p least conflicts told new
-held-refutation p m least conflicts told later new o last e q tell h = record { last = last; held = held-end p m least conflicts told later new o (Refuted last) e q tell h }
+pub held-refutation : (p : Wcnf) (m least : ℤ) (conflicts : ℕ) (told later : Bool) (new : Telling) (o : Outcome) (last : ℕ) → o ≡ Refuted last → IsGoal p m → m ≡ least → (IsTrue told → IsTrue later) → HoldsSearch p m conflicts later new o → HoldsRefutation p least conflicts told new
+held-refutation p m least conflicts told later new o last e goal q tell h = record { last = last; goal = subst (IsGoal p) q goal; held = held-end p m least conflicts told later new o (Refuted last) e q tell h }
 
 -- the last search, where the value is the bound
 pub held-last : (p : Wcnf) (v bound : ℤ) (conflicts : ℕ) (told : Bool) (new : Telling) → bound ≡ v → HoldsLast p v bound conflicts told new → HoldsLast p v v conflicts told new
@@ -98,51 +102,57 @@ refuted_few : (conflicts : ℕ) (ss front : List Step) (s : Step) → ss ≡ fro
 refuted_few conflicts ss front s e h = omega (arith, ap length e, length-append front (s ∷ []), h)
 
 -- the steps of the last search
-pub last-steps : (p : Wcnf) (v bound : ℤ) (conflicts : ℕ) (told : Bool) (new : Telling) → HoldsLast p v bound conflicts told new → HoldsSteps p conflicts told new
-last-steps p v bound conflicts told new (inl h) = record { least = h.least; handed = h.handed; few = omega (arith, h.learned.0) }
-last-steps p v bound conflicts told new (inr h) = record { least = bound +ℤ pos 1; handed = h.held.0; few = let shown = h.held.1 in refuted_few conflicts h.held.0.steps shown.0 shown.1 shown.2 shown.3.0 }
-
--- they stay with the log
-stay_held : (p : Wcnf) (conflicts : ℕ) (told : Bool) (mid new : Telling) → Stays mid new → HoldsSteps p conflicts told mid → HoldsSteps p conflicts told new
-stay_held p conflicts told mid new st h = record {
-  least = h.least;
-  handed = record {
-    steps = h.handed.steps;
-    held = λ b. (let own = h.handed.held b in let now = st own.0 in (now.0, now.1 ∙ own.1, now.2 ∙ own.2));
-    lawful = h.handed.lawful;
-  };
-  few = h.few;
+pub last-steps : (p : Wcnf) (v bound : ℤ) (conflicts : ℕ) (told : Bool) (new : Telling) → HoldsLast p v bound conflicts told new → HoldsSome p conflicts told new
+last-steps p v bound conflicts told new (inl h) = record { least = h.least; goal = h.goal; held = record { handed = h.handed; few = omega (arith, h.learned.0) } }
+last-steps p v bound conflicts told new (inr h) = record {
+  least = bound +ℤ pos 1;
+  goal = h.goal;
+  held = record { handed = h.held.0; few = let shown = h.held.1 in refuted_few conflicts h.held.0.steps shown.0 shown.1 shown.2 shown.3.0 };
 }
 
-later_held : (p : Wcnf) (conflicts : ℕ) (told later : Bool) (new : Telling) → (IsTrue told → IsTrue later) → HoldsSteps p conflicts later new → HoldsSteps p conflicts told new
-later_held p conflicts told later new tell h = record {
+-- they stay with the log
+stay_held : (p : Wcnf) (conflicts : ℕ) (told : Bool) (mid new : Telling) → Stays mid new → HoldsSome p conflicts told mid → HoldsSome p conflicts told new
+stay_held p conflicts told mid new st h = record {
   least = h.least;
+  goal = h.goal;
+  held = record {
+    handed = record {
+      steps = h.held.handed.steps;
+      held = λ b. (let own = h.held.handed.held b in let now = st own.0 in (now.0, now.1 ∙ own.1, now.2 ∙ own.2));
+      lawful = h.held.handed.lawful;
+    };
+    few = h.held.few;
+  };
+}
+
+later_held : (p : Wcnf) (least : ℤ) (conflicts : ℕ) (told later : Bool) (new : Telling) → (IsTrue told → IsTrue later) → HoldsSteps p least conflicts later new → HoldsSteps p least conflicts told new
+later_held p least conflicts told later new tell h = record {
   handed = record { steps = h.handed.steps; held = λ b. h.handed.held (tell b); lawful = h.handed.lawful };
   few = h.few;
 }
 
 -- after an error in a later search the log holds its steps, or those of the last one
-pub later-error : (p : Wcnf) (v bound : ℤ) (conflicts : ℕ) (old mid new : Telling) → HoldsLast p v bound conflicts old.tells mid → (IsTrue old.tells → IsTrue mid.tells) → IsLogAfterError p conflicts mid new → IsLogAfterError p conflicts old new
-later-error p v bound conflicts old mid new last tell (inl st) = inr (stay_held p conflicts old.tells mid new st (last-steps p v bound conflicts old.tells mid last))
-later-error p v bound conflicts old mid new last tell (inr h) = inr (later_held p conflicts old.tells mid.tells new tell h)
+pub later-error : (p : Wcnf) (v bound least : ℤ) (conflicts : ℕ) (old mid new : Telling) → HoldsLast p v bound conflicts old.tells mid → (IsTrue old.tells → IsTrue mid.tells) → IsGoal p least → IsLogAfterFailed p least conflicts mid new → IsLogAfterError p conflicts old new
+later-error p v bound least conflicts old mid new last tell goal (inl st) = inr (stay_held p conflicts old.tells mid new st (last-steps p v bound conflicts old.tells mid last))
+later-error p v bound least conflicts old mid new last tell goal (inr h) = inr (record { least = least; goal = goal; held = later_held p least conflicts old.tells mid.tells new tell h })
 
 pub on-error : (p : Wcnf) (conflicts : ℕ) (old new : Telling) (r : Result Priced SearchError) → IsLogAfterError p conflicts old new → OnErr r (IsLogAfterError p conflicts old new)
 on-error p conflicts old new (Ok o) h = tt
 on-error p conflicts old new (Err e) h = h
 
 -- an error of a search is one of the search for a value
-learned_steps : (p : Wcnf) (least : ℤ) (conflicts : ℕ) (told : Bool) (new : Telling) → HoldsLearned p.hard (goal_of p least) conflicts told new → HoldsSteps p conflicts told new
-learned_steps p least conflicts told new h = record { least = least; handed = h.0; few = omega (arith, h.1.0) }
+learned_steps : (p : Wcnf) (least : ℤ) (conflicts : ℕ) (told : Bool) (new : Telling) → HoldsLearned p.hard (goal_of p least) conflicts told new → HoldsSteps p least conflicts told new
+learned_steps p least conflicts told new h = record { handed = h.0; few = omega (arith, h.1.0) }
 
-after_error : (p : Wcnf) (least : ℤ) (conflicts : ℕ) (old new : Telling) (r : Result Outcome SearchError) → IsLogged p.hard (goal_of p least) conflicts old new r → OnErr r (IsLogAfterError p conflicts old new)
+after_error : (p : Wcnf) (least : ℤ) (conflicts : ℕ) (old new : Telling) (r : Result Outcome SearchError) → IsLogged p.hard (goal_of p least) conflicts old new r → OnErr r (IsLogAfterFailed p least conflicts old new)
 after_error p least conflicts old new (Ok o) h = tt
 after_error p least conflicts old new (Err e) (inl st) = inl st
 after_error p least conflicts old new (Err e) (inr h) = inr (learned_steps p least conflicts old.tells new h)
 
-pub error-same : (p : Wcnf) (goal h : Constraint) (ts : Weighted) (m least : ℤ) (conflicts : ℕ) (old new : Telling) (r : Result Outcome SearchError) → goal ≡ h → h ≡ constraint_of ts m → ts ≡ p.soft → m ≡ least -ℤ p.base → IsLogged p.hard goal conflicts old new r → OnErr r (IsLogAfterError p conflicts old new)
+pub error-same : (p : Wcnf) (goal h : Constraint) (ts : Weighted) (m least : ℤ) (conflicts : ℕ) (old new : Telling) (r : Result Outcome SearchError) → goal ≡ h → h ≡ constraint_of ts m → ts ≡ p.soft → m ≡ least -ℤ p.base → IsLogged p.hard goal conflicts old new r → OnErr r (IsLogAfterFailed p least conflicts old new)
 error-same p goal h ts m least conflicts old new r gh e q ls x = after_error p least conflicts old new r (subst (λ c. IsLogged p.hard c conflicts old new r) (goal_same goal h ts p.soft m (least -ℤ p.base) gh e q ls) x)
 
 -- nothing was told before an error
-pub error-first : (p : Wcnf) (conflicts : ℕ) (old : Telling) (r : Result Outcome SearchError) → OnErr r (IsLogAfterError p conflicts old old)
-error-first p conflicts old (Ok o) = tt
-error-first p conflicts old (Err e) = inl (λ b. (b, refl, refl))
+pub error-first : (p : Wcnf) (least : ℤ) (conflicts : ℕ) (old : Telling) (r : Result Outcome SearchError) → OnErr r (IsLogAfterFailed p least conflicts old old)
+error-first p least conflicts old (Ok o) = tt
+error-first p least conflicts old (Err e) = inl (λ b. (b, refl, refl))

@@ -30,6 +30,10 @@ most p = p.base +ℤ sum_of weight_if_positive p.soft
 abbrev pub goal_of : Wcnf → ℤ → Constraint
 goal_of p least = constraint_of p.soft (least -ℤ p.base)
 
+-- what a search is for: a value of at least 1, or of at least a greater goal, which the positive weights reach
+abbrev pub IsGoal : Wcnf → ℤ → Type 0
+IsGoal p least = (least ≡ pos 1) ⊎ ((pos 1 <ℤ least) × (least ≤ℤ most p))
+
 -- a full assignment that meets the clauses, and has this value
 abbrev pub IsOf : Wcnf → Assignment → ℤ → Type 0
 IsOf p a v = (w : List Bool) × (a ≡ map Some w) × (length w ≡ p.hard.variables) × MeetsForm w p.hard × (v ≡ value p w)
@@ -41,8 +45,8 @@ NoneIsAbove p v = (w : List Bool) → MeetsForm w p.hard → value p w ≤ℤ v
 -- what an answer says of all assignments
 abbrev pub IsPriced : Wcnf → ℕ → Priced → Type 0
 IsPriced p conflicts (NoneAbove last) = NoneIsAbove p (pos 0)
-IsPriced p conflicts (Best a v searches) = IsOf p a v × (pos 1 ≤ℤ v) × NoneIsAbove p v × (searches ≤ most_searches)
-IsPriced p conflicts (Cut a v goal searches) = IsOf p a v × (pos 1 ≤ℤ v) × (v <ℤ goal) × (searches ≤ most_searches)
+IsPriced p conflicts (Best a v searches) = IsOf p a v × (pos 1 ≤ℤ v) × NoneIsAbove p v × (1 ≤ searches) × (searches ≤ most_searches)
+IsPriced p conflicts (Cut a v goal searches) = IsOf p a v × (pos 1 ≤ℤ v) × (v <ℤ goal) × (goal ≤ℤ most p) × (2 ≤ searches) × (searches ≤ most_searches)
 IsPriced p conflicts (Spent learned) = learned ≡ conflicts
 
 -- the log holds the search of a goal with this end
@@ -52,6 +56,7 @@ HoldsSearch p least conflicts told new o = (h : Handed p.hard (goal_of p least) 
 -- it holds a search that found an assignment, for a value that is no greater than this
 pub record HoldsFound (p : Wcnf) (v : ℤ) (conflicts : ℕ) (told : Bool) (new : Telling) : Type 0 where
   pub least : ℤ
+  pub goal : IsGoal p least
   pub up : least ≤ℤ v
   pub handed : Handed p.hard (goal_of p least) told new
   pub learned : AreLearned conflicts handed.steps
@@ -59,6 +64,7 @@ pub record HoldsFound (p : Wcnf) (v : ℤ) (conflicts : ℕ) (told : Bool) (new 
 -- it holds the refutation of a value of at least so much
 pub record HoldsRefutation (p : Wcnf) (least : ℤ) (conflicts : ℕ) (told : Bool) (new : Telling) : Type 0 where
   pub last : ℕ
+  pub goal : IsGoal p least
   pub held : HoldsSearch p least conflicts told new (search.Refuted last)
 
 -- the last search: it found an assignment of at most the one value, or none was there above the other
@@ -72,12 +78,21 @@ IsPricedLog p conflicts told new (Best a v searches) = HoldsLast p v v conflicts
 IsPricedLog p conflicts told new (Cut a v least searches) = HoldsSearch p least conflicts told new (search.Spent conflicts)
 IsPricedLog p conflicts told new (Spent learned) = HoldsSearch p (pos 1) conflicts told new (search.Spent learned)
 
--- it holds the goal of a search, and lawful steps, at most one more than clauses may be learned
-pub record HoldsSteps (p : Wcnf) (conflicts : ℕ) (told : Bool) (new : Telling) : Type 0 where
-  pub least : ℤ
+-- it holds the goal of a search for a value of at least so much, and lawful steps, at most one more than clauses may be learned
+pub record HoldsSteps (p : Wcnf) (least : ℤ) (conflicts : ℕ) (told : Bool) (new : Telling) : Type 0 where
   pub handed : Handed p.hard (goal_of p least) told new
   pub few : length handed.steps ≤ conflicts + 1
 
+-- after an error in this search the log is as before, or holds its steps
+abbrev pub IsLogAfterFailed : Wcnf → ℤ → ℕ → Telling → Telling → Type 0
+IsLogAfterFailed p least conflicts old new = Stays old new ⊎ HoldsSteps p least conflicts old.tells new
+
+-- it holds the steps of a search for such a value
+pub record HoldsSome (p : Wcnf) (conflicts : ℕ) (told : Bool) (new : Telling) : Type 0 where
+  pub least : ℤ
+  pub goal : IsGoal p least
+  pub held : HoldsSteps p least conflicts told new
+
 -- after an error the log is as before, or holds the steps of a search
 abbrev pub IsLogAfterError : Wcnf → ℕ → Telling → Telling → Type 0
-IsLogAfterError p conflicts old new = Stays old new ⊎ HoldsSteps p conflicts old.tells new
+IsLogAfterError p conflicts old new = Stays old new ⊎ HoldsSome p conflicts old.tells new

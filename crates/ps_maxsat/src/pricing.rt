@@ -6,7 +6,7 @@ ghost use Rattle.ps_sat.specs.Errors.{HasCause};
 ghost use Rattle.ps_sat.specs.Searches.{IsOutcome};
 ghost use Rattle.ps_maxsat.specs.Limits.{most_total, IsNarrow, IsSoftWithin};
 ghost use Rattle.ps_maxsat.specs.Values.{IsPriced, IsPricedLog, IsLogAfterError};
-ghost use Rattle.ps_maxsat.specs.Values.{goal_of, HoldsSearch};
+ghost use Rattle.ps_maxsat.specs.Values.{goal_of, HoldsSearch, IsLogAfterFailed};
 
 use crate::problem::{Wcnf, most, value};
 use ps_clause::ClauseForm;
@@ -30,7 +30,7 @@ pub enum Priced {
         searches: u32,
     },
     /// This one has a value of at least 1, and the search for a value of at least the goal, which is
-    /// above it, was spent.
+    /// above it, and not above `most`, was spent.
     Cut {
         assignment: Assignment,
         value: i128,
@@ -60,7 +60,7 @@ fn search_above<S: ProofSink>(
     ensures logged { IfOk result (HoldsSearch wcnf.now least conflicts
         (S.told log.old).tells (S.told log.new)) }
     ensures refused { OnErr result
-        (IsLogAfterError wcnf.now conflicts (S.told log.old) (S.told log.new)) }
+        (IsLogAfterFailed wcnf.now least conflicts (S.told log.old) (S.told log.new)) }
     ensures whole { OnOk result (IsTrue (S.is_whole log.new)) }
     ensures telling { OnOk result (IsTrue (S.told log.old).tells → IsTrue (S.told log.new).tells) }
     ensures later { S.faults log.old ≤ S.faults log.new }
@@ -98,8 +98,8 @@ fn middle(found: i128, bound: i128) -> i128
 
 /// Looks for the greatest value of an assignment that meets the clauses, if it is at least 1. Each
 /// search is for a value of at least a goal, the first for 1, and each other goal halves what is
-/// left between the best value found and the least one that nothing is above. At most 124 searches
-/// are made.
+/// left between the best value found and the least one that nothing is above. At least 1 search is
+/// made, and at most 124.
 ///
 /// The log holds the refutation after `NoneAbove`, the search that was spent after `Cut` and `Spent`,
 /// and the last search after `Best`. After an error it is as it was, or holds the goal of a search

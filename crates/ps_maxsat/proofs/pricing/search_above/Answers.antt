@@ -26,7 +26,7 @@ pub returns-clause-telling : goal.returns-clause-telling
 returns-clause-telling g c = still-tells c.args.wcnf.now.hard _ c.args.conflicts _ _ c.search.result c.search.ensures.logged
 
 pub returns-in_err-goal-clause-refused : goal.returns-in_err-goal-clause-refused
-returns-in_err-goal-clause-refused g c = error-first c.args.wcnf.now c.args.conflicts _ c.from_residual.result
+returns-in_err-goal-clause-refused g c = error-first c.args.wcnf.now c.args.least c.args.conflicts _ c.from_residual.result
 
 pub returns-clause-refused : goal.returns-clause-refused
 returns-clause-refused g c =
