@@ -11,7 +11,7 @@ use Rattle.ps_formula.specs.declared.node.Node.{Node}
 use Rattle.ps_problem.specs.declared.bound.Bound.{Bound}
 use Rattle.ps_problem.specs.Problems.{Parts, IsBound, bounds_in}
 use Rattle.ps_claims.specs.declared.combination.Combination.{Combination}
-use Rattle.ps_claims.specs.Goals.{plus, nothing, at_node, at_condition, row_times, rows_times, claimed_of}
+use Rattle.ps_claims.specs.Goals.{plus, nothing, at_node, at_condition, row_times, rows_times, claimed_of, combination_of}
 use Rattle.ps_certificate.specs.Certificates.{IsMultiplier, dual_of, combination_over}
 use Rattle.ps_answer.specs.declared.answer.Dual.{Dual}
 use Rattle.ps_claims.specs.declared.claim_kind.ClaimKind.{ClaimKind}
@@ -134,8 +134,7 @@ sum-whole ts claim rows mid now e p q = q ∙ ap (λ c. plus c rows) (p ∙ ap (
 pub node-both : (ns : List Node) (both : ℕ) → both < length ns → length ns ≤ 1024 → IsNode both
 node-both ns both p few = omega (arith, p, few)
 
--- the two sums together are the combination over the problem
-pub whole : (p : Parts) (kind : ClaimKind) (given : Option ℕ) (both : ℕ) (d : Dual) (ts : Weighted) (ys : List ℤ) (bs : List Bound) (mid now : Combination) → ts ≡ [] → ys ≡ d.rows
-    → bs ≡ bounds_in p.sentences → mid ≡ plus (made ts (pos 0)) (claimed_of kind given both (dual_of d)) → now ≡ plus mid (rows_times ys bs) → now ≡ combination_over p kind given both d
-whole p kind given both d ts ys bs mid now e y b m n =
-    sum-whole ts (claimed_of kind given both (dual_of d)) (rows_times ys bs) mid now e m n ∙ rw (y, b) refl
+-- the two sums together are the combination over the bounds
+pub whole : (bounds : List Bound) (kind : ClaimKind) (given : Option ℕ) (both : ℕ) (d : Dual) (ts : Weighted) (ys : List ℤ) (mid now : Combination) → ts ≡ [] → ys ≡ d.rows
+    → mid ≡ plus (made ts (pos 0)) (claimed_of kind given both (dual_of d)) → now ≡ plus mid (rows_times ys bounds) → now ≡ combination_of kind given both bounds (dual_of d)
+whole bounds kind given both d ts ys mid now e y m n = sum-whole ts (claimed_of kind given both (dual_of d)) (rows_times ys bounds) mid now e m n ∙ rw y refl

@@ -1,5 +1,7 @@
 -- What the sum of the bounds' rows asks of each bound.
-use Rattle.std.specs.Prelude.{ℕ, ◌≤◌, ◌<◌, Option, IfSome}
+use Rattle.std.specs.Prelude.{ℕ, ◌≤◌, ◌<◌, Option, List, length, IfSome}
+use Rattle.ps_formula.specs.declared.node.Node.{Node}
+use Rattle.ps_problem.specs.Problems.{AreBounds}
 use Rattle.ps_problem.specs.declared.bound.Bound.{Bound}
 
 -- the number of a node of a problem, or none
@@ -12,3 +14,10 @@ pub record IsRow (b : Bound) : Type 0 where
   pub given : IfSome b.given IsNode
   pub num : b.num ≤ 1000000
   pub den : b.den ≤ 1000000
+
+-- at most 100 bounds, over at most 1,024 nodes that are there
+pub record AreOverNodes (bs : List Bound) : Type 0 where
+  pub nodes : List Node
+  pub few_nodes : length nodes ≤ 1024
+  pub bounds : AreBounds nodes bs
+  pub few : length bs ≤ 100

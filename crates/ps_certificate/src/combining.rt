@@ -3,10 +3,10 @@ ghost use Rattle.std.specs.Prelude.{◌≡◌, ◌≤◌, ◌<◌, ◌+◌, ◌*
 ghost use Rattle.std.specs.Prelude.{IfOk, OnOk, IfSome, unsigned_abs};
 ghost use Rattle.ps_problem.specs.Problems.{bounds_in};
 ghost use Rattle.ps_claims.specs.Goals.{plus, at_node, at_condition, row_times, rows_times};
-ghost use Rattle.ps_claims.specs.Goals.{claimed_of, size_of};
+ghost use Rattle.ps_claims.specs.Goals.{claimed_of, combination_of, size_of};
 ghost use Rattle.ps_certificate.specs.Certificates.{dual_of, combination_over, HasQuery};
 ghost use Rattle.ps_certificate.specs.Certificates.{IsMultiplier, IsSmallDual};
-ghost use Rattle.ps_certificate.specs.Rows.{IsNode, IsRow};
+ghost use Rattle.ps_certificate.specs.Rows.{AreOverNodes, IsNode, IsRow};
 
 use ps_answer::Dual;
 use ps_claims::{ClaimKind, Combination};
@@ -33,6 +33,27 @@ pub fn combination(
     ensures small { IfOk result (λ c. size_of c ≤ 2 ^ 120) }
 {
     let bounds = problem.bound_list();
+    combination_of(alloc, bounds, kind, given, both, dual)
+}
+
+/// The same over these bounds alone.
+pub fn combination_of(
+    alloc: Global,
+    bounds: &[Bound],
+    kind: ClaimKind,
+    given: Option<u32>,
+    both: u32,
+    dual: &Dual,
+) -> Result<Combination, NoMemory>
+    requires bounds { AreOverNodes bounds.now }
+    requires given { IfSome given IsNode }
+    requires both { HasQuery kind → IsNode both }
+    requires rows { length dual.now.rows ≡ length bounds.now }
+    requires small { IsSmallDual dual.now }
+    ensures exact { IfOk result
+        (λ c. c ≡ combination_of kind given both bounds.now (dual_of dual.now)) }
+    ensures small { IfOk result (λ c. size_of c ≤ 2 ^ 120) }
+{
     let mut sum = Combination {
         terms: List::new(alloc),
         base: 0,

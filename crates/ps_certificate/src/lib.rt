@@ -3,7 +3,7 @@
 
 mod combining;
 
-pub use combining::combination;
+pub use combining::{combination, combination_of};
 pub use ps_claims::{ClaimKind, Combination};
 
 #[cfg(test)]

@@ -12,9 +12,9 @@ use Rattle.ps_phases.specs.Tables.{costs_for}
 use Rattle.ps_phases.proofs.NodeColumns.{costs_are}
 use Rattle.ps_phases.proofs.Ready.{ready_first}
 use Rattle.ps_generation.specs.declared.state.State.{State}
-use Rattle.ps_generation.specs.Phases.{Limited, IsNewState, IsInPhase}
+use Rattle.ps_generation.specs.Phases.{LimitedSubject, IsNewState, IsInPhase}
 
-pub begun_phase : (r : Limited) (state : State) (costs : Costs) → IsNewState r state → IsAsked Nothing r.subject.parts r.subject.query
+pub begun_phase : (r : LimitedSubject) (state : State) (costs : Costs) → IsNewState r state → IsAsked Nothing r.subject.parts r.subject.query
     → costs.homes ≡ map (over.home_cost One) state.table.kinds → costs.worlds ≡ over.costs_over One r.subject.parts.nodes (both_in r.subject.query) state.pool
     → IsInPhase Nothing r.subject costs state
 begun_phase r state costs new asked homes worlds =

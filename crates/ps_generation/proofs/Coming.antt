@@ -19,7 +19,7 @@ use Rattle.ps_phases.proofs.GoingOn.{begun}
 use Rattle.ps_generation.specs.declared.state.State.{State}
 use Rattle.ps_generation.specs.declared.end.End.{End}
 use Rattle.ps_generation.specs.declared.end.End.TheVariants.{Feasible, NoneAbove, Open}
-use Rattle.ps_generation.specs.Phases.{Limited, IsInPhase, HasCome, IsOpenEnd, IsPendingEnd, IsEnd, IsLeft}
+use Rattle.ps_generation.specs.Phases.{LimitedSubject, IsInPhase, HasCome, IsOpenEnd, IsPendingEnd, IsEnd, IsLeft}
 use Rattle.ps_generation.specs.Rounds.{HasEntered, IsSettled, IsRound}
 
 pub way_on : (kind : ClaimKind) (s : Subject) (conflicts : ℕ) (from : Stage) (had : ℕ) (before : List Event) (pool : List World) (t : Tableau) (trace : List Event) (left : ℕ)
@@ -38,7 +38,7 @@ way_on kind s conflicts from had before pool t trace left more u longer now a b 
       omega (arith, x, y, p);
 }
 
-module _ (kind : ClaimKind) (r : Limited) where
+module _ (kind : ClaimKind) (r : LimitedSubject) where
   -- a phase begins where it is
   pub come_none : (costs : Costs) (old : State) → IsInPhase kind r.subject costs old → HasCome kind r old old
   come_none costs old phase = record { way = begun kind r.subject r.limits.conflicts old.pool old.table old.trace old.left phase.table phase.pool_kept }

@@ -24,7 +24,7 @@ use Rattle.ps_phases.proofs.Progress.{moving_after}
 use Rattle.ps_phases.proofs.Ready.{ready_first, ready_lower, ready_upper}
 use Rattle.ps_generation.specs.declared.state.State.{State}
 use Rattle.ps_generation.specs.declared.end.End.TheVariants.{Open}
-use Rattle.ps_generation.specs.Phases.{Limited, stage_of, IsInPhase, HasCome, IsEnd}
+use Rattle.ps_generation.specs.Phases.{LimitedSubject, stage_of, IsInPhase, HasCome, IsEnd}
 use Rattle.ps_generation.specs.Rounds.{IsPricedIn, HasEntered}
 
 same_state : (t : Tableau) (pool more : List World) (trace longer : List Event) (left : ℕ) → more ≡ pool → longer ≡ trace
@@ -38,7 +38,7 @@ ready_with Nothing s costs pool more entries t u ready added run = ready_first (
 ready_with Lower s costs pool more entries t u ready added run = ready_lower (setting_of s) more u run (feasible_added entries t u added ready.fits.0)
 ready_with Upper s costs pool more entries t u ready added run = ready_upper (setting_of s) more u run (feasible_added entries t u added ready.fits.0)
 
-module _ (kind : ClaimKind) (r : Limited) (costs : Costs) (old : State) (w : World) (phase : IsInPhase kind r.subject costs old) (is : IsPricedIn kind r old w) where
+module _ (kind : ClaimKind) (r : LimitedSubject) (costs : Costs) (old : State) (w : World) (phase : IsInPhase kind r.subject costs old) (is : IsPricedIn kind r old w) where
   -- the world isn't in the pool
   pub not_there : (at : ℕ) → HasNumber old.pool w at → ⊥
   not_there at there = priced_fresh kind r.subject r.limits.conflicts old.pool old.table w at phase.table is there

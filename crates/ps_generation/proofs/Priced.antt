@@ -29,11 +29,11 @@ use Rattle.ps_phases.proofs.TableEnds.{dual_of_stage, spent_at_rest}
 use Rattle.ps_pricing.specs.Pricings.{IsFound, IsRefuted, IsSpent}
 use Rattle.ps_generation.specs.declared.state.State.{State}
 use Rattle.ps_generation.specs.declared.end.End.TheVariants.{NoneAbove, Open}
-use Rattle.ps_generation.specs.Phases.{Limited, stage_of, IsInPhase, IsEnd}
+use Rattle.ps_generation.specs.Phases.{LimitedSubject, stage_of, IsInPhase, IsEnd}
 use Rattle.ps_generation.specs.Rounds.{asked_of, IsAtRest, IsPricedIn}
 use Rattle.ps_generation.proofs.Coming.{come_none}
 
-module _ (kind : ClaimKind) (r : Limited) (costs : Costs) (old : State) (phase : IsInPhase kind r.subject costs old) (rests : IsAtRest kind r.subject old) where
+module _ (kind : ClaimKind) (r : LimitedSubject) (costs : Costs) (old : State) (phase : IsInPhase kind r.subject costs old) (rests : IsAtRest kind r.subject old) where
   refused_at : (place : Place) (op : Op) (a b : Rational) → DualPlaces old.table costs place op a b → IsWide place op a b
       → IsTooWide kind r.subject (stage_of old) old.left (record { place = place; op = op; left = a; right = b })
   refused_at place op a b (of_home m p o x y low there) wide =

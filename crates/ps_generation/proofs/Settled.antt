@@ -23,7 +23,7 @@ use Rattle.ps_phases.proofs.GoingOn.{begun, settled_goes_on}
 use Rattle.ps_phases.proofs.Licensing.{resting_there, moving_there, settling_due}
 use Rattle.ps_generation.specs.declared.state.State.{State}
 use Rattle.ps_generation.specs.declared.end.End.TheVariants.{Feasible, Open}
-use Rattle.ps_generation.specs.Phases.{Limited, stage_of, IsInPhase, HasCome, IsEnd}
+use Rattle.ps_generation.specs.Phases.{LimitedSubject, stage_of, IsInPhase, HasCome, IsEnd}
 use Rattle.ps_generation.specs.Rounds.{HasRested}
 
 -- a resting table isn't moving
@@ -40,7 +40,7 @@ some_pivots phase costs t u events (bland.more x m y es enter leave run lawful p
 same_state : (old new : State) → new.pool ≡ old.pool → record { table = new.table; pool = old.pool; trace = new.trace; left = new.left } ≡ new
 same_state old new same = λ i. record { table = new.table; pool = sym same i; trace = new.trace; left = new.left }
 
-module _ (kind : ClaimKind) (r : Limited) (costs : Costs) (old new : State) (phase : IsInPhase kind r.subject costs old) (same : new.pool ≡ old.pool)
+module _ (kind : ClaimKind) (r : LimitedSubject) (costs : Costs) (old new : State) (phase : IsInPhase kind r.subject costs old) (same : new.pool ≡ old.pool)
     (ran : bland.Ran (phase_of kind) costs old.table new.table old.trace new.trace old.left new.left) (tableau : IsTableau new.table)
     (ready : IsReady (phase_of kind) costs new.table) where
   pub settled_come : HasCome kind r old new

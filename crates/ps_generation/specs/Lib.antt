@@ -1,4 +1,5 @@
 -- Meaning
 pub mod Phases
--- Bridge: what a phase does between two rests of its table
+-- Bridge: what a phase does between two rests of its table, and the multipliers that its end is told with
 pub mod Rounds
+pub mod Spreading

@@ -1,5 +1,10 @@
 -- How a phase of a run goes to its end, from one state of the solver to another.
-use Rattle.std.specs.Prelude.{◌≡◌, ◌≢◌, ◌+◌, ◌≤◌, ◌++◌, ◌⊎◌, ℕ, pos, None, List, [], ◌∷◌, length}
+use Rattle.std.specs.Prelude.{◌≡◌, ◌≢◌, ◌+◌, ◌≤◌, ◌++◌, ◌⊎◌, ℕ, pos, Bool, Option, None, List, [], ◌∷◌, length}
+use Rattle.ps_problem.specs.declared.query.Query.{Query}
+use Rattle.ps_problem.specs.Problems.{Parts}
+use Rattle.ps_claims.specs.Duals.{AreZeroElsewhere}
+use Rattle.ps_claims.specs.Validity.{IsRefuted}
+use Rattle.ps_runs.specs.Kept.{kept_of, flags_of, kept_parts}
 use Rattle.ps_meaning.specs.Formula.{World}
 use Rattle.ps_rational.specs.Rational.{Rational}
 use Rattle.ps_rule.specs.Rule.{IsFeasible}
@@ -19,7 +24,7 @@ use Rattle.ps_answer.specs.declared.answer.Dual.{Dual}
 use Rattle.ps_claims.specs.declared.claim_kind.ClaimKind.{ClaimKind}
 use Rattle.ps_claims.specs.declared.claim_kind.ClaimKind.TheVariants.{Nothing}
 use Rattle.ps_runs.specs.Certificates.{HaveSameNumbers}
-use Rattle.ps_runs.specs.Runs.{Subject, setting_of, atoms_of, goal_at_least, Stage, IsStart, IsPool, dual_at, AreAtMost, IsRestingAt, IsPricedBy}
+use Rattle.ps_runs.specs.Runs.{Subject, setting_of, given_in, both_in, atoms_of, goal_at_least, Stage, IsStart, IsPool, dual_at, AreAtMost, IsRestingAt, IsPricedBy}
 use Rattle.ps_phases.specs.Answers.{dual_of}
 use Rattle.ps_phases.specs.Tables.{phase_of, costs_for, IsRunTable, stage_at, IsUnderWay}
 use Rattle.ps_phases.specs.Licences.{IsLicensed, IsColumnTooWide}
@@ -36,10 +41,34 @@ pub record AreLimits (limits : Limits) : Type 0 where
   pub pivots : limits.pivots ≤ MOST_PIVOTS
   pub conflicts : limits.conflicts ≤ most_conflicts
 
--- a problem with a query, or none, and the limits of its run
-pub record Limited : Type 0 where
+-- the kept sentences of a problem with a query, or none, and the limits of its run; the whole problem, and whether each of its
+-- bounds is kept
+pub record LimitedSubject : Type 0 where
+  pub whole : Parts
+  pub flags : List Bool
   pub subject : Subject
   pub limits : Limits
+
+-- the kept sentences of a problem with a query, or none
+abbrev pub limited : Parts → List Bool → Option Query → Limits → LimitedSubject
+limited p kept query limits = record {
+  whole = p;
+  flags = flags_of kept p.sentences;
+  subject = record { parts = kept_parts kept p; query = query };
+  limits = limits;
+}
+
+-- ---- duals of the whole problem
+-- the multipliers of the kept bounds
+abbrev pub kept_dual : List Bool → Dual → Dual
+kept_dual flags d = record { top = d.top; head = d.head; rows = kept_of flags d.rows; steps = d.steps }
+
+-- a dual of the kept bounds as one of the whole problem: the others have multiplier 0, and what it refutes it refutes over all
+pub record IsSpread (r : LimitedSubject) (e d : Dual) : Type 0 where
+  pub numbers : kept_dual r.flags d ≡ e
+  pub others : AreZeroElsewhere r.flags d.rows
+  pub refuted : (kind : ClaimKind) → IsRefuted r.subject.parts kind (given_in r.subject.query) (both_in r.subject.query) (dual_of e)
+      → IsRefuted r.whole kind (given_in r.subject.query) (both_in r.subject.query) (dual_of d)
 
 -- ---- states
 -- the stage at which a run stands
@@ -62,14 +91,14 @@ pub record HasRoom (most : ℕ) (state : State) : Type 0 where
   pub room : length state.pool + state.left ≤ most
 
 -- a run at its start: the table of the homes, no world, no event, and all pivots left
-pub record IsNewState (r : Limited) (state : State) : Type 0 where
+pub record IsNewState (r : LimitedSubject) (state : State) : Type 0 where
   pub table : IsRunTable (setting_of r.subject) state.pool state.table
   pub start : IsStart r.subject (stage_of state)
   pub trace : state.trace ≡ []
   pub left : state.left ≡ r.limits.pivots
 
 -- a phase has come from one state to another, lawfully
-pub record HasCome (kind : ClaimKind) (r : Limited) (old new : State) : Type 0 where
+pub record HasCome (kind : ClaimKind) (r : LimitedSubject) (old new : State) : Type 0 where
   pub way : IsUnderWay kind r.subject r.limits.conflicts (stage_of old) old.left old.trace new.pool new.table new.trace new.left
 
 -- ---- ends
@@ -81,7 +110,7 @@ pub record IsDualEnd (kind : ClaimKind) (s : Subject) (g : Stage) (X : ℕ → �
   pub steps : Refutes (length s.parts.nodes) (first_known (form_of s.parts.nodes) (goal_at_least (pos 1) kind s (dual_at kind s g X))) d.steps
 
 -- a world was priced, and its column is too wide: its event is there, and it is pending
-pub record IsPendingEnd (kind : ClaimKind) (r : Limited) (old new : State) (at : WideAt) : Type 0 where
+pub record IsPendingEnd (kind : ClaimKind) (r : LimitedSubject) (old new : State) (at : WideAt) : Type 0 where
   pub trace : List Event
   pub world : World
   pub appended : new.trace ≡ trace ++ Priced world ∷ []
@@ -90,17 +119,17 @@ pub record IsPendingEnd (kind : ClaimKind) (r : Limited) (old new : State) (at :
   pub wide : IsColumnTooWide r.subject (stage_of new) world at
 
 -- the phase is open where it has come to, by a licence
-pub record IsOpenEnd (kind : ClaimKind) (r : Limited) (old new : State) (cause : Cause) : Type 0 where
+pub record IsOpenEnd (kind : ClaimKind) (r : LimitedSubject) (old new : State) (cause : Cause) : Type 0 where
   pub come : HasCome kind r old new
   pub licensed : IsLicensed kind r.subject r.limits.pivots r.limits.conflicts (stage_of new) new.left None cause
 
 -- why the phase is open: where it has come to, or with a pending world
-abbrev pub IsOpen : ClaimKind → Limited → State → State → Cause → Type 0
+abbrev pub IsOpen : ClaimKind → LimitedSubject → State → State → Cause → Type 0
 IsOpen kind r old new (Wide at) = IsOpenEnd kind r old new (Wide at) ⊎ IsPendingEnd kind r old new at
 IsOpen kind r old new cause = IsOpenEnd kind r old new cause
 
 -- how a phase ends
-abbrev pub IsEnd : ClaimKind → Limited → State → State → End → Type 0
+abbrev pub IsEnd : ClaimKind → LimitedSubject → State → State → End → Type 0
 IsEnd kind r old new Feasible = HasCome kind r old new × IsDone (phase_of kind) new.table
 IsEnd kind r old new (NoneAbove d) = HasCome kind r old new × IsDualEnd kind r.subject (stage_of new) (entry_at new.table) d
 IsEnd kind r old new (Open cause) = IsOpen kind r old new cause

@@ -13,10 +13,10 @@ use Rattle.ps_pricing.specs.Pricings.{Asked}
 use Rattle.ps_generation.specs.declared.column.Column.{Column}
 use Rattle.ps_generation.specs.declared.state.State.{State}
 use Rattle.ps_generation.specs.declared.end.End.{End}
-use Rattle.ps_generation.specs.Phases.{Limited, stage_of, HasCome, IsEnd}
+use Rattle.ps_generation.specs.Phases.{LimitedSubject, stage_of, HasCome, IsEnd}
 
 -- what duals are priced over
-abbrev pub asked_of : Limited → Asked
+abbrev pub asked_of : LimitedSubject → Asked
 asked_of r = record { subject = r.subject; conflicts = r.limits.conflicts }
 
 -- the column of a world and its cost
@@ -33,40 +33,40 @@ abbrev pub IsAtRest : ClaimKind → Subject → State → Type 0
 IsAtRest kind s state = IsRestingAt kind s (stage_of state) (entry_at state.table)
 
 -- the world is priced at the table
-abbrev pub IsPricedIn : ClaimKind → Limited → State → World → Type 0
+abbrev pub IsPricedIn : ClaimKind → LimitedSubject → State → World → Type 0
 IsPricedIn kind r state w = IsPricedBy kind r.subject r.limits.conflicts (stage_of state) (entry_at state.table) w
 
 -- the table has come to rest, and not without a pivot if it was moving
-pub record HasRested (kind : ClaimKind) (r : Limited) (old new : State) : Type 0 where
+pub record HasRested (kind : ClaimKind) (r : LimitedSubject) (old new : State) : Type 0 where
   pub come : HasCome kind r old new
   pub rests : IsAtRest kind r.subject new
   pub fewer : IsInMotion kind r.subject old → new.left < old.left
 
 -- pivots until the table rests, or an end
-abbrev pub IsSettled : ClaimKind → Limited → State → State → Option End → Type 0
+abbrev pub IsSettled : ClaimKind → LimitedSubject → State → State → Option End → Type 0
 IsSettled kind r old new None = HasRested kind r old new
 IsSettled kind r old new (Some end) = IsEnd kind r old new end
 
 -- a priced world has entered, so that the table is moving
-pub record HasEntered (kind : ClaimKind) (r : Limited) (old new : State) : Type 0 where
+pub record HasEntered (kind : ClaimKind) (r : LimitedSubject) (old new : State) : Type 0 where
   pub come : HasCome kind r old new
   pub moves : IsInMotion kind r.subject new
   pub pool : length new.pool ≡ suc (length old.pool)
   pub left : new.left ≡ old.left
 
 -- a world has entered, or there is an end
-abbrev pub IsEntered : ClaimKind → Limited → State → State → Option End → Type 0
+abbrev pub IsEntered : ClaimKind → LimitedSubject → State → State → Option End → Type 0
 IsEntered kind r old new None = HasEntered kind r old new
 IsEntered kind r old new (Some end) = IsEnd kind r old new end
 
 -- a world has entered, and with fewer pivots left the table has come to rest again
-pub record HasGoneRound (kind : ClaimKind) (r : Limited) (old new : State) : Type 0 where
+pub record HasGoneRound (kind : ClaimKind) (r : LimitedSubject) (old new : State) : Type 0 where
   pub come : HasCome kind r old new
   pub rests : IsAtRest kind r.subject new
   pub fewer : new.left < old.left
   pub room : length new.pool + new.left ≤ length old.pool + old.left
 
 -- a round, or an end
-abbrev pub IsRound : ClaimKind → Limited → State → State → Option End → Type 0
+abbrev pub IsRound : ClaimKind → LimitedSubject → State → State → Option End → Type 0
 IsRound kind r old new None = HasGoneRound kind r old new
 IsRound kind r old new (Some end) = IsEnd kind r old new end

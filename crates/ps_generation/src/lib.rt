@@ -9,6 +9,7 @@ mod phases;
 mod pricing;
 mod setting;
 mod settling;
+mod spreading;
 mod state;
 
 pub use end::End;

@@ -1,6 +1,6 @@
 //! What a run is over.
 ghost use Rattle.std.specs.Prelude.{◌≡◌, length, IfOk, IfErr, IfSome};
-ghost use Rattle.ps_problem.specs.Problems.{HasNodes, AreParts};
+ghost use Rattle.ps_problem.specs.Problems.{HasNodes, AreParts, bounds_in};
 ghost use Rattle.ps_table.specs.Tableau.{rows_of as table_rows};
 ghost use Rattle.ps_table.specs.Pricing.{HasCosts, cost_at};
 ghost use Rattle.ps_table.specs.Places.{IsRefusedAt};
@@ -9,15 +9,18 @@ ghost use Rattle.ps_multiples.specs.Multiples.{DualPlaces};
 ghost use Rattle.ps_certificate.specs.Certificates.{dual_of};
 ghost use Rattle.ps_runs.specs.Certificates.{HaveSameNumbers, table_dual};
 ghost use Rattle.ps_runs.specs.Rows.{rows_of};
+ghost use Rattle.ps_runs.specs.Kept.{IsChoice};
 ghost use Rattle.ps_runs.specs.Runs.{IsAsked, IsPool, atoms_of, setting_of};
 ghost use Rattle.ps_phases.specs.Tables.{IsRunTable, costs_for};
 ghost use Rattle.ps_pricing.specs.Pricings.{IsDualFor, IsPricing, IsPrintedPricing};
-ghost use Rattle.ps_generation.specs.Phases.{AreLimits, IsNewState};
+ghost use Rattle.ps_printed.specs.Printed.{IsPrintedDual};
+ghost use Rattle.ps_generation.specs.Phases.{AreLimits, IsNewState, IsSpread, limited};
 ghost use Rattle.ps_generation.specs.Rounds.{IsColumnOf, asked_of};
 
 use crate::column::Column;
 use crate::limits::Limits;
 use crate::settling::phase_of;
+use crate::spreading::{flags_of, spread, with_rows};
 use crate::state::State;
 use ps_answer::Dual;
 use ps_claims::ClaimKind;
@@ -32,11 +35,12 @@ use ps_table::{Costs, Table, TableError};
 use std::alloc::Global;
 use std::marker::Model;
 
-/// What a run is over: a problem with the pricing of its duals, the evidence that is to weigh 1,
-/// the node of the query with its evidence, and the limits.
+/// What a run is over: a problem, which of its bounds are kept, with the pricing of their duals,
+/// the evidence that is to weigh 1, the node of the query with its evidence, and the limits.
 #[derive(Drop)]
 pub struct Setting<'p> {
     problem: &'p Problem,
+    flags: List<bool>,
     pricer: Pricer<'p>,
     given: Option<u32>,
     both: u32,
@@ -47,33 +51,39 @@ impl<'p> Model for Setting<'p> {
     ghost use Rattle.std.specs.Prelude.{◌≡◌};
     ghost use Rattle.ps_runs.specs.Runs.{IsAsked, given_in, both_in};
     ghost use Rattle.ps_claims.specs.declared.claim_kind.ClaimKind.TheVariants.{Nothing};
-    ghost use Rattle.ps_generation.specs.Phases.{Limited, AreLimits};
+    ghost use Rattle.ps_generation.specs.Phases.{LimitedSubject, AreLimits};
+    ghost use Rattle.ps_generation.specs.Spreading.{IsKeptOf};
 
-    ghost Value = { Limited };
+    ghost Value = { LimitedSubject };
 
-    ghost view = { λ s. record { subject = s.pricer.subject; limits = s.limits } };
+    ghost view = { λ s. record {
+      whole = s.problem.now;
+      flags = s.flags;
+      subject = s.pricer.subject;
+      limits = s.limits;
+    } };
 
     ghost invariant = { λ s.
-        (s.problem.now ≡ s.pricer.subject.parts) × (s.pricer.conflicts ≡ s.limits.conflicts)
+        IsKeptOf s.problem.now s.flags s.pricer.subject.parts
+        × (s.pricer.conflicts ≡ s.limits.conflicts)
         × (s.given ≡ given_in s.pricer.subject.query) × (s.both ≡ both_in s.pricer.subject.query)
         × AreLimits s.limits × IsAsked Nothing s.pricer.subject.parts s.pricer.subject.query };
 }
 
 impl<'p> Setting<'p> {
-    /// For a problem and a query, or none.
+    /// For the kept sentences of a problem, by a truth value for each, and a query, or none.
     pub fn new(
         alloc: Global,
         problem: &'p Problem,
+        kept: &[bool],
         query: Option<Query>,
         limits: Limits,
     ) -> Result<Setting<'p>, NoMemory>
+        requires kept { IsChoice kept.now problem.now }
         requires query { IfSome query
             (λ q. HasNodes problem.now.nodes q.formula q.given q.both) }
         requires limits { AreLimits limits }
-        ensures value { IfOk result (λ s. s ≡ record {
-          subject = record { parts = problem.now; query = query };
-          limits = limits;
-        }) }
+        ensures value { IfOk result (λ s. s ≡ limited problem.now kept.now query limits) }
     {
         let (given, both) = match query {
             Some(query) => (query.given, query.both),
@@ -81,7 +91,8 @@ impl<'p> Setting<'p> {
         };
         Ok(Setting {
             problem,
-            pricer: Pricer::new(alloc, problem, query, limits.conflicts)?,
+            flags: flags_of(alloc, problem.sentences().as_slice(), kept)?,
+            pricer: Pricer::new(alloc, problem, kept, query, limits.conflicts)?,
             given,
             both,
             limits,
@@ -99,7 +110,7 @@ impl<'p> Setting<'p> {
     pub fn start(&self, alloc: Global) -> Result<State, NoMemory>
         ensures { IfOk result (IsNewState self.now) }
     {
-        let homes = homes_of(alloc, self.problem.bound_list())?;
+        let homes = homes_of(alloc, self.pricer.bounds())?;
         let table = Table::new(alloc, &homes)?;
         let _sound = table.rows();
         Ok(State {
@@ -139,7 +150,7 @@ impl<'p> Setting<'p> {
         requires sized { length world.now ≡ atoms_of self.now.subject }
         ensures { IfOk result (IsColumnOf kind self.now.subject world.now) }
     {
-        let bounds = self.problem.bound_list();
+        let bounds = self.pricer.bounds();
         let values = eval(alloc, self.problem.formulas(), world)?;
         Ok(Column {
             entries: column_of(alloc, &values, bounds, self.given)?,
@@ -163,7 +174,7 @@ impl<'p> Setting<'p> {
         ensures fit { IfOk result (IsDualFor self.now.subject.parts) }
         ensures refused { IfErr result (IsRefusedAt (DualPlaces table.now costs.now)) }
     {
-        dual_of(alloc, self.problem.bound_list(), kind, table, costs)
+        dual_of(alloc, self.pricer.bounds(), kind, table, costs)
     }
 
     /// Looks for a world of greatest combination of a dual, if one is at least 1.
@@ -179,7 +190,16 @@ impl<'p> Setting<'p> {
         ensures pricing { IfOk result (IsPricing kind (asked_of self.now) dual) }
         ensures printed { IfOk result IsPrintedPricing }
     {
-        let _sound = self.problem.bound_list();
+        let _sound = self.pricer.bounds();
         self.pricer.price(alloc, kind, dual)
+    }
+    /// A dual of the kept bounds as one of the whole problem, with multiplier 0 at each other.
+    pub fn spread(&self, alloc: Global, dual: Dual) -> Result<Dual, NoMemory>
+        requires rows { length dual.rows ≡ length (bounds_in self.now.subject.parts.sentences) }
+        ensures spread { IfOk result (IsSpread self.now dual) }
+        ensures printed { IsPrintedDual dual → IfOk result IsPrintedDual }
+    {
+        let rows = spread(alloc, self.flags.as_slice(), dual.rows.as_slice())?;
+        Ok(with_rows(dual, rows))
     }
 }

@@ -21,12 +21,15 @@ fn a_problem(alloc: Global, both: bool) -> Result<Problem, BuildError> {
 }
 
 // How phase one ends, and how many worlds and pivots it takes.
-fn ended(alloc: Global, problem: &Problem) -> Result<(End, u32, u64), NoMemory> {
+fn ended(alloc: Global, problem: &Problem, kept: &[bool]) -> Result<(End, u32, u64), NoMemory> {
     let limits = Limits {
         pivots: 100,
         conflicts: 20_000,
     };
-    let setting = Setting::new(alloc, problem, None, limits)?;
+    if problem.sentences().len() != kept.len() {
+        return Err(NoMemory);
+    }
+    let setting = Setting::new(alloc, problem, kept, None, limits)?;
     let mut state = setting.start(alloc)?;
     let mut costs = costs_for(
         alloc,
@@ -43,7 +46,7 @@ fn ended(alloc: Global, problem: &Problem) -> Result<(End, u32, u64), NoMemory> 
 // Each world is a column, and a pivot brings it into the basis.
 fn is_feasible(alloc: Global) -> bool {
     match a_problem(alloc, false) {
-        Ok(problem) => match ended(alloc, &problem) {
+        Ok(problem) => match ended(alloc, &problem, &[true]) {
             Ok((End::Feasible, worlds, pivots)) => worlds == 2 && pivots == 2,
             Ok(_) | Err(_) => false,
         },
@@ -54,7 +57,7 @@ fn is_feasible(alloc: Global) -> bool {
 // The bounds contradict each other: the steps of the dual refute that a world improves.
 fn is_refuted(alloc: Global) -> bool {
     match a_problem(alloc, true) {
-        Ok(problem) => match ended(alloc, &problem) {
+        Ok(problem) => match ended(alloc, &problem, &[true, true]) {
             Ok((End::NoneAbove(dual), _, _)) => dual.head >= 1 && dual.steps.len() > 0,
             Ok(_) | Err(_) => false,
         },

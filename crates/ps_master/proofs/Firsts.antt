@@ -1,5 +1,5 @@
 -- What phase one answers is lawful and valid.
-use Rattle.std.proofs.Common.{◌≡◌, ◌+◌, ◌≤◌, None, List, [], ◌∷◌, ◌++◌, length, refl, ap, subst, arith, inl, inr, false}
+use Rattle.std.proofs.Common.{◌≡◌, ◌+◌, ◌≤◌, None, List, [], ◌∷◌, ◌++◌, length, refl, sym, ap, subst, arith, inl, inr, false}
 use Rattle.ps_pool.specs.declared.event.Event.{Event}
 use Rattle.ps_pool.specs.declared.event.Event.TheVariants.{Priced}
 use Rattle.ps_table.specs.Tableau.{entry_at}
@@ -12,7 +12,8 @@ use Rattle.ps_answer.specs.declared.answer.Cause.TheVariants.{Pivots, Conflicts,
 use Rattle.ps_answer.specs.declared.answer.Dual.{Dual}
 use Rattle.ps_answer.specs.declared.answer.Model.{Model}
 use Rattle.ps_claims.specs.declared.claim_kind.ClaimKind.TheVariants.{Nothing}
-use Rattle.ps_runs.specs.Runs.{setting_of, IsFeasibleAt}
+use Rattle.ps_claims.specs.Validity.{ShowsNothing}
+use Rattle.ps_runs.specs.Runs.{setting_of, given_in, both_in, IsFeasibleAt, IsDualAt}
 use Rattle.ps_runs.proofs.Certified.{nothing_at_rest}
 use Rattle.ps_phases.specs.Answers.{dual_of}
 use Rattle.ps_phases.specs.Tables.{phase_of, IsUnderWay}
@@ -22,15 +23,15 @@ use Rattle.ps_phases.proofs.Licensing.{feasible_there}
 use Rattle.ps_phases.proofs.Ending.{ended, ended_pending}
 use Rattle.ps_ends.specs.Models.{IsTableModel}
 use Rattle.ps_generation.specs.declared.state.State.{State}
-use Rattle.ps_generation.specs.Phases.{Limited, stage_of, HasCome, IsDualEnd, IsOpenEnd, IsPendingEnd, IsOpen, IsLeft}
+use Rattle.ps_generation.specs.Phases.{LimitedSubject, IsSpread, stage_of, HasCome, IsDualEnd, IsOpenEnd, IsPendingEnd, IsOpen, IsLeft}
 use Rattle.ps_master.specs.declared.first.First.{First}
 use Rattle.ps_master.specs.declared.first.First.TheVariants as first
-use Rattle.ps_master.specs.Runs.{IsAtStart, IsPhaseOneAnswer, IsValidFirst, GoesOn, HasReached, verdict_of}
+use Rattle.ps_master.specs.Runs.{IsAtStart, IsPhaseOneAnswer, IsValidFirst, IsWholeFirst, GoesOn, HasReached, verdict_of, kept_first}
 use Rattle.ps_master.specs.States.{run_of}
 use Rattle.ps_master.proofs.Models as models
 use Rattle.ps_master.proofs.Ways.{own_way, one_more}
 
-module _ (r : Limited) (old new : State) (start : IsAtStart (run_of r old false)) where
+module _ (r : LimitedSubject) (old new : State) (start : IsAtStart (run_of r old false)) where
   -- the way with as many pivots left at first as the limit says
   from_start : (trace : List Event) (way : IsUnderWay Nothing r.subject r.limits.conflicts (stage_of old) old.left old.trace new.pool new.table trace new.left)
       → IsUnderWay Nothing r.subject r.limits.conflicts (stage_of old) r.limits.pivots [] new.pool new.table way.events new.left
@@ -38,14 +39,15 @@ module _ (r : Limited) (old new : State) (start : IsAtStart (run_of r old false)
       subst (λ had. IsUnderWay Nothing r.subject r.limits.conflicts (stage_of old) had [] new.pool new.table way.events new.left) start.left
       (own_way Nothing r.subject r.limits.conflicts (stage_of old) old.left old.trace new.pool new.table trace new.left way)
 
-  answered : (come : HasCome Nothing r old new) (answer : First) → IsVerdictAt r.subject r.limits.pivots r.limits.conflicts (stage_of new) new.left None (verdict_of answer)
-      → IsValidFirst r.subject answer → GoesOn (run_of r old false) (run_of r new false) come.way.events answer
+  answered : (come : HasCome Nothing r old new) (answer : First) → IsVerdictAt r.subject r.limits.pivots r.limits.conflicts (stage_of new) new.left None (verdict_of (kept_first r.flags answer))
+      → IsValidFirst r.subject (kept_first r.flags answer) → IsWholeFirst r answer → GoesOn (run_of r old false) (run_of r new false) come.way.events answer
       → IsPhaseOneAnswer (run_of r old false) (run_of r new false) answer
-  answered come answer due valid on = record {
+  answered come answer due valid whole on = record {
     events = come.way.events;
     traced = record { over = refl; appended = come.way.appended };
-    lawful = ended r.subject r.limits.pivots r.limits.conflicts (stage_of old) new.pool new.table come.way.events new.left start.start (from_start new.trace come.way) (verdict_of answer) due;
+    lawful = ended r.subject r.limits.pivots r.limits.conflicts (stage_of old) new.pool new.table come.way.events new.left start.start (from_start new.trace come.way) (verdict_of (kept_first r.flags answer)) due;
     valid = valid;
+    whole = whole;
     goes_on = on;
   }
 
@@ -74,21 +76,29 @@ module _ (r : Limited) (old new : State) (start : IsAtStart (run_of r old false)
     pub first_reached : (m : Model) → IsTableModel new.table new.pool m → IsPhaseOneAnswer (run_of r old false) (run_of r new false) (first.Reached m)
     first_reached m is =
         answered come (first.Reached m) (refl, models.model_at r.subject new.pool new.table left.table m feasible is)
-        (models.consistent r.subject new.pool new.table left.table m left.pool_kept feasible is, models.allowed r.subject new.pool new.table left.table m left.pool_kept feasible is) reached
+        (models.consistent r.subject new.pool new.table left.table m left.pool_kept feasible is, models.allowed r.subject new.pool new.table left.table m left.pool_kept feasible is) tt reached
 
     pub first_wide : (at : WideAt) → IsWideAt (ModelPlaces new.table) at → IsPhaseOneAnswer (run_of r old false) (run_of r new false) (first.Open (Wide at))
-    first_wide at wide = answered come (first.Open (Wide at)) (models.model_wide r.subject new.pool new.table left.table Nothing new.left at feasible wide) tt tt
+    first_wide at wide = answered come (first.Open (Wide at)) (models.model_wide r.subject new.pool new.table left.table Nothing new.left at feasible wide) tt tt tt
 
-  pub first_nothing : (d : Dual) → HasCome Nothing r old new × IsDualEnd Nothing r.subject (stage_of new) (entry_at new.table) d → IsLeft Nothing r.subject old new
+  pub first_nothing : (e d : Dual) → IsSpread r e d → HasCome Nothing r old new × IsDualEnd Nothing r.subject (stage_of new) (entry_at new.table) e → IsLeft Nothing r.subject old new
       → IsPhaseOneAnswer (run_of r old false) (run_of r new false) (first.Nothing d)
-  first_nothing d h left =
+  first_nothing e d spread h left =
       let end = h.1 in
-      answered h.0 (first.Nothing d) (refl, record { table = entry_at new.table; rests = end.rests; none = end.none; numbers = end.numbers })
-      (nothing_at_rest r.subject (stage_of new) (entry_at new.table) (dual_of d) end.numbers (run_table (setting_of r.subject) new.pool new.table left.table) end.rests.resting end.steps)
+      let shown : ShowsNothing r.subject.parts (given_in r.subject.query) (dual_of e) =
+      nothing_at_rest r.subject (stage_of new) (entry_at new.table) (dual_of e) end.numbers (run_table (setting_of r.subject) new.pool new.table left.table) end.rests.resting end.steps in
+      let due : IsDualAt Nothing r.subject (stage_of new) (dual_of e) = record { table = entry_at new.table; rests = end.rests; none = end.none; numbers = end.numbers } in
+      answered h.0 (first.Nothing d) (refl, subst (λ (x : Dual). IsDualAt Nothing r.subject (stage_of new) (dual_of x)) (sym spread.numbers) due)
+      (subst (λ (x : Dual). ShowsNothing r.subject.parts (given_in r.subject.query) (dual_of x)) (sym spread.numbers) shown)
+      (record {
+        others = spread.others;
+        refuted =
+            spread.refuted Nothing (record { signs = shown.refuted.signs; steps = shown.refuted.steps });
+      })
       tt
 
   open_end : (cause : Cause) → IsOpenEnd Nothing r old new cause → IsPhaseOneAnswer (run_of r old false) (run_of r new false) (first.Open cause)
-  open_end cause end = answered end.come (first.Open cause) end.licensed tt tt
+  open_end cause end = answered end.come (first.Open cause) end.licensed tt tt tt
 
   pending_end : (at : WideAt) → IsPendingEnd Nothing r old new at → IsPhaseOneAnswer (run_of r old false) (run_of r new false) (first.Open (Wide at))
   pending_end at end = record {
@@ -101,6 +111,7 @@ module _ (r : Limited) (old new : State) (start : IsAtStart (run_of r old false)
         ended_pending r.subject r.limits.pivots r.limits.conflicts (stage_of old) new.pool new.table end.way.events new.left start.start (from_start end.trace end.way) end.world at end.priced
         end.wide;
     valid = tt;
+    whole = tt;
     goes_on = tt;
   }
 

@@ -1,13 +1,14 @@
 -- What a side answers is lawful and valid.
-use Rattle.std.proofs.Common.{◌≡◌, ◌≢◌, ℕ, pos, ◌≤ℤ◌, Some, None, [], ◌∷◌, ◌++◌, length, refl, sym, subst, arith, inl, inr, false, Result, Ok, Err, IfOk}
+use Rattle.std.proofs.Common.{◌≡◌, ◌≢◌, ℕ, suc, ℤ, pos, ◌≤ℤ◌, Some, None, List, [], ◌∷◌, ◌++◌, length, refl, sym, ap, ◌∙◌, subst, arith, inl, inr, false, Result, Ok, Err, IfOk}
 use Rattle.std.proofs.lemmas.Int.{ints}
+use Rattle.std.proofs.lemmas.List.{length-map}
 use Rattle.ps_pool.specs.declared.event.Event.TheVariants.{Priced}
 use Rattle.ps_rational.specs.Rational.{Rational}
 use Rattle.ps_table.specs.Tableau.{Tableau, entry_at}
 use Rattle.ps_table.specs.declared.place.WideAt.{WideAt}
 use Rattle.ps_bland.specs.Rules.{IsDone}
 use Rattle.ps_problem.specs.declared.query.Query as stored
-use Rattle.ps_problem.specs.Problems.{Parts}
+use Rattle.ps_problem.specs.Problems.{Parts, bounds_in, bound_of}
 use Rattle.ps_steps.specs.Steps.{Refutes}
 use Rattle.ps_forms.specs.Forms.{form_of, first_known}
 use Rattle.ps_rule.specs.Rule.{IsFeasible, IsResting}
@@ -21,11 +22,13 @@ use Rattle.ps_claims.specs.declared.claim_kind.ClaimKind.{ClaimKind}
 use Rattle.ps_claims.specs.declared.claim_kind.ClaimKind.TheVariants.{Nothing, Lower, Upper}
 use Rattle.ps_claims.specs.Duals as claims
 use Rattle.ps_claims.specs.Duals.{HasValueHead}
-use Rattle.ps_claims.specs.Validity.{ShowsTight}
+use Rattle.ps_claims.specs.Validity.{IsRefuted, ShowsTight}
 use Rattle.ps_runs.specs.Rows.{stage_of as rule_stage, IsTable}
-use Rattle.ps_runs.specs.Certificates.{HaveSameNumbers, table_model}
-use Rattle.ps_runs.specs.Runs.{Subject, subject_of, setting_of, atoms_of, IsPool, Stage, table_at, costs_at, dual_at, goal_at_least, AreAtMost, IsRestingAt}
+use Rattle.ps_meaning.specs.Bounds.{Bound}
+use Rattle.ps_runs.specs.Certificates.{HaveSameNumbers, table_model, signed}
+use Rattle.ps_runs.specs.Runs.{Subject, subject_of, setting_of, given_in, both_in, atoms_of, IsPool, Stage, table_at, costs_at, dual_at, goal_at_least, AreAtMost, IsRestingAt}
 use Rattle.ps_runs.proofs.Combination.{multiple_positive}
+use Rattle.ps_runs.proofs.Certified.{refuted_at_rest}
 use Rattle.ps_runs.proofs.Tight.{tight_at_end}
 use Rattle.ps_phases.specs.Answers.{dual_of}
 use Rattle.ps_phases.specs.Tables.{phase_of}
@@ -35,8 +38,8 @@ use Rattle.ps_phases.proofs.Shapes.{run_table}
 use Rattle.ps_phases.proofs.Ending.{side_ended, side_pending}
 use Rattle.ps_ends.specs.Models.{IsTableModel}
 use Rattle.ps_generation.specs.declared.state.State.{State}
-use Rattle.ps_generation.specs.Phases.{Limited, stage_of, HasCome, IsDualEnd, IsOpenEnd, IsPendingEnd, IsOpen, IsLeft}
-use Rattle.ps_master.specs.Runs.{IsSideAnswerOf, IsValidSide}
+use Rattle.ps_generation.specs.Phases.{LimitedSubject, IsSpread, stage_of, HasCome, IsDualEnd, IsOpenEnd, IsPendingEnd, IsOpen, IsLeft}
+use Rattle.ps_master.specs.Runs.{IsSideAnswerOf, IsValidSide, IsWholeSide, kept_side}
 use Rattle.ps_master.specs.States.{run_of, IsBoundOf}
 use Rattle.ps_master.proofs.Models as models
 use Rattle.ps_master.proofs.Ways.{own_way, one_more}
@@ -59,8 +62,12 @@ top_above Nothing s g X apart = absurd (apart refl)
 top_above Lower s g X apart = let h = multiple_positive (table_at s g X) (costs_at Lower s g) in omega (arith, ints, h)
 top_above Upper s g X apart = let h = multiple_positive (table_at s g X) (costs_at Upper s g) in omega (arith, ints, h)
 
-pub top_at_least : (kind : ClaimKind) (s : Subject) (g : Stage) (X : ℕ → ℕ → Rational) (d : Dual) → kind ≢ Nothing → IsDualEnd kind s g X d → pos 1 ≤ℤ d.top
+top_at_least : (kind : ClaimKind) (s : Subject) (g : Stage) (X : ℕ → ℕ → Rational) (d : Dual) → kind ≢ Nothing → IsDualEnd kind s g X d → pos 1 ≤ℤ d.top
 top_at_least kind s g X d apart end = subst (λ z. pos 1 ≤ℤ z) (sym end.numbers.top) (top_above kind s g X apart)
+
+-- and so is that of the dual spread over all bounds
+pub spread_top : (kind : ClaimKind) (r : LimitedSubject) (g : Stage) (X : ℕ → ℕ → Rational) (e d : Dual) → kind ≢ Nothing → IsDualEnd kind r.subject g X e → IsSpread r e d → pos 1 ≤ℤ d.top
+spread_top kind r g X e d apart end spread = subst (λ (x : Dual). pos 1 ≤ℤ x.top) (sym spread.numbers) (top_at_least kind r.subject g X e apart end)
 
 -- what makes a value tight
 record ShowsAtEnd (kind : ClaimKind) (g : Stage) (X : ℕ → ℕ → Rational) (value : Rational) (d : claims.Dual) (s : Subject) : Type 0 where
@@ -76,17 +83,18 @@ tight_so : (kind : ClaimKind) (p : Parts) (q : stored.Query) (g : Stage) (X : �
     → ShowsAtEnd kind g X value d (subject_of p q) → ShowsTight p kind q value (table_model (table_at (subject_of p q) g X) g.pool) d
 tight_so kind p q g X value d apart h = tight_at_end kind p q g X value d apart h.numbers h.head h.table h.feasible h.pooled h.resting h.steps
 
-module _ (kind : ClaimKind) (r : Limited) (old new : State) (apart : kind ≢ Nothing) where
-  answered : (come : HasCome kind r old new) (answer : SideAnswer) → IsSideAt kind r.subject r.limits.pivots r.limits.conflicts (stage_of new) new.left None answer
-      → ((q : stored.Query) → r.subject.query ≡ Some q → IsValidSide kind r.subject.parts q answer)
+module _ (kind : ClaimKind) (r : LimitedSubject) (old new : State) (apart : kind ≢ Nothing) where
+  answered : (come : HasCome kind r old new) (answer : SideAnswer) → IsSideAt kind r.subject r.limits.pivots r.limits.conflicts (stage_of new) new.left None (kept_side r.flags answer)
+      → ((q : stored.Query) → r.subject.query ≡ Some q → IsValidSide kind r.subject.parts q (kept_side r.flags answer)) → IsWholeSide kind r answer
       → IsSideAnswerOf kind (run_of r old false) (run_of r new false) answer
-  answered come answer due valid = record {
+  answered come answer due valid whole = record {
     events = come.way.events;
     traced = record { over = refl; appended = come.way.appended };
     lawful =
         side_ended kind r.subject r.limits.pivots r.limits.conflicts (stage_of old) old.left new.pool new.table come.way.events new.left
-        (own_way kind r.subject r.limits.conflicts (stage_of old) old.left old.trace new.pool new.table new.trace new.left come.way) answer due;
+        (own_way kind r.subject r.limits.conflicts (stage_of old) old.left old.trace new.pool new.table new.trace new.left come.way) (kept_side r.flags answer) due;
     valid = valid;
+    whole = whole;
   }
 
   -- at rest, where no world's combination is above 0
@@ -110,27 +118,42 @@ module _ (kind : ClaimKind) (r : Limited) (old new : State) (apart : kind ≢ No
         (tight_so kind r.subject.parts q (stage_of new) (entry_at new.table) value (dual_of d) apart
         (subst (ShowsAtEnd kind (stage_of new) (entry_at new.table) value (dual_of d)) same (shown value head)))
 
-    bound : (value : Rational) (m : Model) → IsTableModel new.table new.pool m → HasValueHead value (dual_of d) → IsSideAnswerOf kind (run_of r old false) (run_of r new false) (side.Bound value m d)
-    bound value m is head =
-        answered come (side.Bound value m d) (
-          refl,
-          models.model_at r.subject new.pool new.table left.table m (models.feasible_at r.subject new.pool new.table left.table (left.feasible apart)) is,
-          record { table = entry_at new.table; rests = end.rests; none = end.none; numbers = end.numbers },
-          head,
-        )
-        (λ q e. subst (λ n. ShowsTight r.subject.parts kind q value n (dual_of d)) (sym (models.is_table_model r.subject new.pool new.table left.table m is)) (tight value head q e))
+    -- the value with its dual spread over all bounds
+    module _ (f : Dual) (spread : IsSpread r d f) where
+      due : (value : Rational) (m : Model) → IsTableModel new.table new.pool m → HasValueHead value (dual_of d)
+          → IsSideAt kind r.subject r.limits.pivots r.limits.conflicts (stage_of new) new.left None (side.Bound value m d)
+      due value m is head = (
+        refl,
+        models.model_at r.subject new.pool new.table left.table m (models.feasible_at r.subject new.pool new.table left.table (left.feasible apart)) is,
+        record { table = entry_at new.table; rests = end.rests; none = end.none; numbers = end.numbers },
+        head,
+      )
 
-    pub side_bound : (answer : SideAnswer) → IsBoundOf new d answer → IsSideAnswerOf kind (run_of r old false) (run_of r new false) answer
-    side_bound (side.Bound value m shown_by) h =
-        subst (λ e. IsSideAnswerOf kind (run_of r old false) (run_of r new false) (side.Bound value m e)) (sym h.1) (bound value m h.0 h.2)
-    side_bound (side.Open (Wide at)) wide =
-        answered come (side.Open (Wide at))
-        (models.model_wide r.subject new.pool new.table left.table kind new.left at (due_at_rest kind r.subject (stage_of new) (entry_at new.table) apart end.rests end.none) wide) (λ q e. tt)
-    side_bound (side.Open (Pivots limit)) none = absurd none
-    side_bound (side.Open (Conflicts limit goal steps)) none = absurd none
+      refuted : IsRefuted r.subject.parts kind (given_in r.subject.query) (both_in r.subject.query) (dual_of d)
+      refuted = refuted_at_rest kind r.subject (stage_of new) (entry_at new.table) (dual_of d) end.numbers end.rests.resting end.steps
+
+      bound : (value : Rational) (m : Model) → IsTableModel new.table new.pool m → HasValueHead value (dual_of d) → IsSideAnswerOf kind (run_of r old false) (run_of r new false) (side.Bound value m f)
+      bound value m is head =
+          answered come (side.Bound value m f)
+          (subst (λ (x : Dual). IsSideAt kind r.subject r.limits.pivots r.limits.conflicts (stage_of new) new.left None (side.Bound value m x)) (sym spread.numbers) (due value m is head))
+          (λ q e. subst (λ (x : Dual). IsValidSide kind r.subject.parts q (side.Bound value m x)) (sym spread.numbers)
+          (subst (λ n. ShowsTight r.subject.parts kind q value n (dual_of d)) (sym (models.is_table_model r.subject new.pool new.table left.table m is)) (tight value head q e)))
+          (record { others = spread.others; refuted = spread.refuted kind refuted })
+
+      same_head : (value : Rational) → HasValueHead value (dual_of f) → HasValueHead value (dual_of d)
+      same_head value h = subst (λ (x : Dual). HasValueHead value (dual_of x)) spread.numbers (record { top = h.top; ratio = h.ratio })
+
+      pub side_bound : (answer : SideAnswer) → IsBoundOf new f answer → IsSideAnswerOf kind (run_of r old false) (run_of r new false) answer
+      side_bound (side.Bound value m shown_by) h =
+          subst (λ e. IsSideAnswerOf kind (run_of r old false) (run_of r new false) (side.Bound value m e)) (sym h.1) (bound value m h.0 (same_head value h.2))
+      side_bound (side.Open (Wide at)) wide =
+          answered come (side.Open (Wide at))
+          (models.model_wide r.subject new.pool new.table left.table kind new.left at (due_at_rest kind r.subject (stage_of new) (entry_at new.table) apart end.rests end.none) wide) (λ q e. tt) tt
+      side_bound (side.Open (Pivots limit)) none = absurd none
+      side_bound (side.Open (Conflicts limit goal steps)) none = absurd none
 
   open_end : (cause : Cause) → IsOpenEnd kind r old new cause → IsSideAnswerOf kind (run_of r old false) (run_of r new false) (side.Open cause)
-  open_end cause end = answered end.come (side.Open cause) end.licensed (λ q e. tt)
+  open_end cause end = answered end.come (side.Open cause) end.licensed (λ q e. tt) tt
 
   pending_end : (at : WideAt) → IsPendingEnd kind r old new at → IsSideAnswerOf kind (run_of r old false) (run_of r new false) (side.Open (Wide at))
   pending_end at end = record {
@@ -143,6 +166,7 @@ module _ (kind : ClaimKind) (r : Limited) (old new : State) (apart : kind ≢ No
         side_pending kind r.subject r.limits.pivots r.limits.conflicts (stage_of old) old.left new.pool new.table end.way.events new.left
         (own_way kind r.subject r.limits.conflicts (stage_of old) old.left old.trace new.pool new.table end.trace new.left end.way) end.world at end.priced end.wide;
     valid = λ q e. tt;
+    whole = tt;
   }
 
   pub side_open : (cause : Cause) → IsOpen kind r old new cause → IsSideAnswerOf kind (run_of r old false) (run_of r new false) (side.Open cause)
@@ -154,3 +178,12 @@ module _ (kind : ClaimKind) (r : Limited) (old new : State) (apart : kind ≢ No
 pub ok_so : {A E : Type 0} {P Q : A → Type 0} (found : Result A E) → IfOk found P → ((x : A) → P x → Q x) → IfOk found Q
 ok_so (Ok x) h so = so x h
 ok_so (Err e) h so = tt
+
+-- as many multipliers as the part has bounds
+signed_count : (bs : List Bound) (P : ℕ → ℤ) → length (signed bs P) ≡ length bs
+signed_count [] P = refl
+signed_count (b ∷ bs) P = ap suc (signed_count bs (λ i. P (suc i)))
+
+pub as_many_rows : (kind : ClaimKind) (s : Subject) (g : Stage) (X : ℕ → ℕ → Rational) (d : Dual) → IsDualEnd kind s g X d → length d.rows ≡ length (bounds_in s.parts.sentences)
+as_many_rows kind s g X d end =
+    ap (λ (ys : List ℤ). length ys) end.numbers.rows ∙ signed_count (setting_of s).bounds _ ∙ length-map (bounds_in s.parts.sentences) (bound_of s.parts.nodes)

@@ -7,6 +7,7 @@ use Rattle.ps_problem.specs.declared.query.Query.{Query}
 use Rattle.ps_problem.specs.Problems.{Parts, bounds_of}
 use Rattle.ps_table.specs.Tableau.{Tableau, entry_at}
 use Rattle.ps_bland.specs.Rules.{simplex_of}
+use Rattle.ps_answer.specs.declared.answer.Dual.{Dual}
 use Rattle.ps_answer.specs.declared.answer.Verdict.{Verdict}
 use Rattle.ps_answer.specs.declared.answer.Verdict.TheVariants as verdict
 use Rattle.ps_answer.specs.declared.answer.SideAnswer.{SideAnswer}
@@ -15,14 +16,15 @@ use Rattle.ps_entailment.specs.Queries.{IsAllowed}
 use Rattle.ps_entailment.specs.Answers.{ShowsConsistent}
 use Rattle.ps_claims.specs.declared.claim_kind.ClaimKind.{ClaimKind}
 use Rattle.ps_claims.specs.declared.claim_kind.ClaimKind.TheVariants.{Nothing}
-use Rattle.ps_claims.specs.Validity.{ShowsNothing, ShowsTight}
-use Rattle.ps_runs.specs.Runs.{Subject, setting_of, given_in, atoms_of, Stage, IsStart, LeadsTo, pivots_in, IsFeasibleAt}
+use Rattle.ps_claims.specs.Duals.{AreZeroElsewhere}
+use Rattle.ps_claims.specs.Validity.{IsRefuted, ShowsNothing, ShowsTight}
+use Rattle.ps_runs.specs.Runs.{Subject, setting_of, given_in, both_in, atoms_of, Stage, IsStart, LeadsTo, pivots_in, IsFeasibleAt}
 use Rattle.ps_phases.specs.Answers.{model_of, dual_of}
 use Rattle.ps_phases.specs.Tables.{stage_at}
 use Rattle.ps_phases.specs.Verdicts.{IsLawfulPhaseOne, IsLawfulSide}
 use Rattle.ps_printed.specs.Printed.{IsPrintedVerdict}
 use Rattle.ps_generation.specs.declared.limits.Limits.{Limits}
-use Rattle.ps_generation.specs.Phases.{Limited}
+use Rattle.ps_generation.specs.Phases.{LimitedSubject, limited, kept_dual}
 use Rattle.ps_master.specs.declared.first.First.{First}
 use Rattle.ps_master.specs.declared.first.First.TheVariants as first
 
@@ -30,7 +32,7 @@ use Rattle.ps_master.specs.declared.first.First.TheVariants as first
 -- a run: what it is over, and where it stands; the events that were not yet taken, how many pivots are left, and whether memory
 -- ran out
 pub record RunState : Type 0 where
-  pub over : Limited
+  pub over : LimitedSubject
   pub pool : List World
   pub table : Tableau
   pub trace : List Event
@@ -46,9 +48,9 @@ pub record IsAtStart (r : RunState) : Type 0 where
   pub start : IsStart r.over.subject (stage_of r)
   pub left : r.left ≡ r.over.limits.pivots
 
--- a new run over a problem and a query, or none
-pub record IsNew (p : Parts) (query : Option Query) (limits : Limits) (r : RunState) : Type 0 where
-  pub over : r.over ≡ record { subject = record { parts = p; query = query }; limits = limits }
+-- a new run over the kept sentences of a problem, by a truth value for each, and a query, or none
+pub record IsNew (p : Parts) (kept : List Bool) (query : Option Query) (limits : Limits) (r : RunState) : Type 0 where
+  pub over : r.over ≡ limited p kept query limits
   pub start : IsAtStart r
   pub trace : r.trace ≡ []
   pub broken : r.is_broken ≡ false
@@ -71,7 +73,25 @@ pub record HasTraced (old new : RunState) (events : List Event) : Type 0 where
   pub over : new.over ≡ old.over
   pub appended : new.trace ≡ old.trace ++ events
 
+-- ---- duals
+-- the dual has a multiplier for each bound of the whole problem, and 0 for each that isn't kept, and is refuted over all
+pub record IsOfTheWhole (over : LimitedSubject) (kind : ClaimKind) (d : Dual) : Type 0 where
+  pub others : AreZeroElsewhere over.flags d.rows
+  pub refuted : IsRefuted over.whole kind (given_in over.subject.query) (both_in over.subject.query) (dual_of d)
+
 -- ---- phase one
+-- what it answers, with the multipliers of the kept bounds alone
+abbrev pub kept_first : List Bool → First → First
+kept_first flags (first.Reached m) = first.Reached m
+kept_first flags (first.Nothing d) = first.Nothing (kept_dual flags d)
+kept_first flags (first.Open cause) = first.Open cause
+
+-- its dual is one of the whole problem
+abbrev pub IsWholeFirst : LimitedSubject → First → Type 0
+IsWholeFirst over (first.Reached m) = Unit {0}
+IsWholeFirst over (first.Nothing d) = IsOfTheWhole over Nothing d
+IsWholeFirst over (first.Open cause) = Unit {0}
+
 -- what it answers, as a verdict
 abbrev pub verdict_of : First → Verdict
 verdict_of (first.Reached m) = verdict.Consistent m
@@ -97,26 +117,38 @@ GoesOn old new events (first.Reached m) = HasReached old new events
 GoesOn old new events (first.Nothing d) = Unit {0}
 GoesOn old new events (first.Open cause) = Unit {0}
 
--- what phase one answers: lawful events lead to it, and it is valid
+-- what phase one answers: lawful events lead to it, it is valid over the kept sentences, and its dual is one of the whole
 pub record IsPhaseOneAnswer (old new : RunState) (answer : First) : Type 0 where
   pub events : List Event
   pub traced : HasTraced old new events
-  pub lawful : IsLawfulPhaseOne old.over.subject old.over.limits.pivots old.over.limits.conflicts (verdict_of answer) events
-  pub valid : IsValidFirst old.over.subject answer
+  pub lawful : IsLawfulPhaseOne old.over.subject old.over.limits.pivots old.over.limits.conflicts (verdict_of (kept_first old.over.flags answer)) events
+  pub valid : IsValidFirst old.over.subject (kept_first old.over.flags answer)
+  pub whole : IsWholeFirst old.over answer
   pub goes_on : GoesOn old new events answer
 
 abbrev pub IsPrintedFirst : First → Type 0
 IsPrintedFirst answer = IsPrintedVerdict (verdict_of answer)
 
 -- ---- sides
+-- what a side answers, with the multipliers of the kept bounds alone
+abbrev pub kept_side : List Bool → SideAnswer → SideAnswer
+kept_side flags (side.Bound value m d) = side.Bound value m (kept_dual flags d)
+kept_side flags (side.Open cause) = side.Open cause
+
+-- its dual is one of the whole problem
+abbrev pub IsWholeSide : ClaimKind → LimitedSubject → SideAnswer → Type 0
+IsWholeSide kind over (side.Bound value m d) = IsOfTheWhole over kind d
+IsWholeSide kind over (side.Open cause) = Unit {0}
+
 -- the value is tight for the query
 abbrev pub IsValidSide : ClaimKind → Parts → Query → SideAnswer → Type 0
 IsValidSide kind p q (side.Bound value m d) = ShowsTight p kind q value (model_of m) (dual_of d)
 IsValidSide kind p q (side.Open cause) = Unit {0}
 
--- what a side answers: lawful events lead to it, and it is valid
+-- what a side answers: lawful events lead to it, it is valid over the kept sentences, and its dual is one of the whole
 pub record IsSideAnswerOf (kind : ClaimKind) (old new : RunState) (answer : SideAnswer) : Type 0 where
   pub events : List Event
   pub traced : HasTraced old new events
-  pub lawful : IsLawfulSide kind old.over.subject old.over.limits.pivots old.over.limits.conflicts (stage_of old) old.left (stage_of new) new.left answer events
-  pub valid : (q : Query) → old.over.subject.query ≡ Some q → IsValidSide kind old.over.subject.parts q answer
+  pub lawful : IsLawfulSide kind old.over.subject old.over.limits.pivots old.over.limits.conflicts (stage_of old) old.left (stage_of new) new.left (kept_side old.over.flags answer) events
+  pub valid : (q : Query) → old.over.subject.query ≡ Some q → IsValidSide kind old.over.subject.parts q (kept_side old.over.flags answer)
+  pub whole : IsWholeSide kind old.over answer

@@ -17,11 +17,11 @@ use Rattle.ps_phases.specs.Answers.{dual_of}
 use Rattle.ps_phases.specs.Tables.{IsRunTable}
 use Rattle.ps_ends.specs.Models.{IsTableModel}
 use Rattle.ps_generation.specs.declared.state.State.{State}
-use Rattle.ps_generation.specs.Phases.{AreLimits, Limited}
+use Rattle.ps_generation.specs.Phases.{AreLimits, LimitedSubject}
 use Rattle.ps_master.specs.Runs.{RunState}
 
 -- a run by what it is over, its state, and whether memory ran out
-abbrev pub run_of : Limited → State → Bool → RunState
+abbrev pub run_of : LimitedSubject → State → Bool → RunState
 run_of over state broken = record { over = over; pool = state.pool; table = state.table; trace = state.trace; left = state.left; is_broken = broken }
 
 -- table and pool are those of a run
@@ -30,7 +30,7 @@ pub record IsThere (s : Subject) (state : State) : Type 0 where
   pub pool_kept : IsPool (atoms_of s) state.pool
 
 -- the nodes of the query are there, the limits are such as words may set, and unless memory ran out so are table and pool
-pub record IsRun (over : Limited) (state : State) (broken : Bool) : Type 0 where
+pub record IsRun (over : LimitedSubject) (state : State) (broken : Bool) : Type 0 where
   pub asked : IsAsked Nothing over.subject.parts over.subject.query
   pub limits : AreLimits over.limits
   pub there : broken ≡ false → IsThere over.subject state

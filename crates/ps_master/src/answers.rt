@@ -69,7 +69,7 @@ pub(crate) fn first(
             Ok(model) => Ok(First::Reached(model)),
             Err(at) => Ok(First::Open(Cause::Wide { at })),
         },
-        End::NoneAbove(dual) => Ok(First::Nothing(dual)),
+        End::NoneAbove(dual) => Ok(First::Nothing(setting.spread(alloc, dual)?)),
         End::Open(cause) => Ok(First::Open(cause)),
     }
 }
@@ -113,7 +113,7 @@ pub(crate) fn side(
 {
     match phase(alloc, setting, kind, state)? {
         End::Feasible => unreachable!(),
-        End::NoneAbove(dual) => bound(alloc, state, dual),
+        End::NoneAbove(dual) => bound(alloc, state, setting.spread(alloc, dual)?),
         End::Open(cause) => Ok(SideAnswer::Open(cause)),
     }
 }

@@ -1,4 +1,4 @@
-//! Runs of the simplex method with column generation: over a problem's bounds, for the verdict or
+//! Runs of the simplex method with column generation: over the bounds of a problem's kept sentences, for the verdict or
 //! for a query.
 #![tactic(auto)]
 

@@ -2,6 +2,7 @@
 ghost use Rattle.std.specs.Prelude.{◌≡◌, ◌≢◌, [], None, false, true, IfOk, IfSome, IsErr, OnErr, IsTrue};
 ghost use Rattle.ps_problem.specs.Problems.{HasNodes};
 ghost use Rattle.ps_claims.specs.declared.claim_kind.ClaimKind.TheVariants.{Lower, Nothing, Upper};
+ghost use Rattle.ps_runs.specs.Kept.{IsChoice};
 ghost use Rattle.ps_printed.specs.Printed.{IsPrintedSide};
 ghost use Rattle.ps_generation.specs.Phases.{AreLimits};
 ghost use Rattle.ps_master.specs.Runs.{IsAtStart, IsPhaseOneAnswer, IsLowered, IsNew};
@@ -20,8 +21,8 @@ use std::alloc::Global;
 use std::marker::Model;
 
 /// A run of the simplex method with column generation (D. Bertsimas, J. N. Tsitsiklis,
-/// "Introduction to Linear Optimization", 1997) over a problem's bounds, for the verdict or for a
-/// query.
+/// "Introduction to Linear Optimization", 1997) over the bounds of a problem's kept sentences, for
+/// the verdict or for a query.
 #[derive(Drop)]
 pub struct Run<'p> {
     alloc: Global,
@@ -42,19 +43,23 @@ impl<'p> Model for Run<'p> {
 }
 
 impl<'p> Run<'p> {
-    /// A run at its start, over all sentences of a problem, and for a query or none.
+    /// A run at its start, over the kept sentences of a problem, by a truth value for each, and for
+    /// a query or none. Its duals have a multiplier for each bound of the problem, 0 for each that
+    /// isn't kept.
     pub fn new(
         alloc: Global,
         problem: &'p Problem,
+        kept: &[bool],
         query: Option<Query>,
         limits: Limits,
     ) -> Result<Run<'p>, NoMemory>
+        requires kept { IsChoice kept.now problem.now }
         requires query { IfSome query
             (λ q. HasNodes problem.now.nodes q.formula q.given q.both) }
         requires limits { AreLimits limits }
-        ensures { IfOk result (IsNew problem.now query limits) }
+        ensures { IfOk result (IsNew problem.now kept.now query limits) }
     {
-        let setting = Setting::new(alloc, problem, query, limits)?;
+        let setting = Setting::new(alloc, problem, kept, query, limits)?;
         let state = setting.start(alloc)?;
         Ok(Run {
             alloc,
@@ -64,7 +69,7 @@ impl<'p> Run<'p> {
         })
     }
 
-    /// Whether the sentences can be met with evidence of a positive probability; without a query
+    /// Whether the kept sentences can be met with evidence of a positive probability; without a query
     /// the evidence is sure. It comes first, once.
     pub fn phase_one(&mut self) -> Result<First, NoMemory>
         requires start { self.old.is_broken ≡ false → IsAtStart self.old }

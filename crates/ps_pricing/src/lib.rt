@@ -1,6 +1,7 @@
 //! Pricing: a world in which a dual's combination is at least 1, or the refutation that there is one.
 #![tactic(auto)]
 
+mod kept;
 mod pricer;
 mod pricing;
 mod sought;

@@ -1,31 +1,36 @@
 //! The pricing of a problem's duals.
 ghost use Rattle.std.specs.Prelude.{◌≡◌, ◌≤◌, List, Bool, length, IfOk};
+ghost use Rattle.ps_problem.specs.Problems.{AreParts, bounds_in};
 ghost use Rattle.ps_steps.specs.Assignments.{full};
 ghost use Rattle.ps_forms.specs.Extensions.{IsWorldOf};
 ghost use Rattle.ps_sat.specs.Limits.{most_conflicts};
 ghost use Rattle.ps_maxsat.specs.Limits.{IsNarrow, IsSoftWithin};
+ghost use Rattle.ps_runs.specs.Kept.{IsChoice, kept_parts};
 ghost use Rattle.ps_runs.specs.Runs.{IsAsked, atoms_of, given_in, both_in};
 ghost use Rattle.ps_pricing.specs.Pricings.{IsDualFor, IsPricing, IsPrintedPricing, IsWcnf};
 
+use crate::kept::{bounds_of, kept_sentences};
 use crate::pricing::Pricing;
 use crate::sought::{Sought, seek};
 use ps_answer::Dual;
-use ps_certificate::{ClaimKind, Combination, combination};
+use ps_certificate::{ClaimKind, Combination, combination_of};
 use ps_clause::{ClauseForm, clauses_of, world_of};
 use ps_formula::World;
-use ps_io::NoMemory;
+use ps_io::{List, NoMemory};
 use ps_log::is_goal_within;
 use ps_maxsat::{Priced, Wcnf};
 use ps_pb::{Assignment, Steps, from_weights};
-use ps_problem::{Problem, Query};
+use ps_problem::{Bound, Problem, Query, Sentences};
 use std::alloc::Global;
 use std::marker::Model;
 
-/// What duals are priced over: a problem with the clause form of its nodes, and a query, or none; and how many clauses a
-/// search may learn.
+/// What duals are priced over: the kept sentences of a problem with their bounds, the clause form of the problem's nodes,
+/// and a query, or none; and how many clauses a search may learn.
 #[derive(Drop)]
 pub struct Pricer<'p> {
     problem: &'p Problem,
+    sentences: Sentences,
+    bounds: List<Bound>,
     form: ClauseForm,
     query: Option<Query>,
     conflicts: u64,
@@ -33,41 +38,59 @@ pub struct Pricer<'p> {
 
 impl<'p> Model for Pricer<'p> {
     ghost use Rattle.std.specs.Prelude.{◌≡◌, ◌≤◌};
+    ghost use Rattle.ps_problem.specs.Problems.{AreParts, bounds_in};
     ghost use Rattle.ps_forms.specs.Forms.{form_of};
+    ghost use Rattle.ps_runs.specs.Kept.{with_sentences};
     ghost use Rattle.ps_sat.specs.Limits.{most_conflicts};
     ghost use Rattle.ps_pricing.specs.Pricings.{Asked};
 
     ghost Value = { Asked };
 
     ghost view = { λ p. record {
-      subject = record { parts = p.problem.now; query = p.query };
+      subject = record { parts = with_sentences p.problem.now p.sentences; query = p.query };
       conflicts = p.conflicts;
     } };
 
     ghost invariant = { λ p.
-        (p.form ≡ form_of p.problem.now.nodes) × (p.conflicts ≤ most_conflicts) };
+        (p.form ≡ form_of p.problem.now.nodes) × (p.conflicts ≤ most_conflicts)
+        × (p.bounds ≡ bounds_in p.sentences)
+        × AreParts (with_sentences p.problem.now p.sentences) };
 }
 
 impl<'p> Pricer<'p> {
-    /// For a problem and a query, or none.
+    /// For the kept sentences of a problem, by a truth value for each, and a query, or none.
     pub fn new(
         alloc: Global,
         problem: &'p Problem,
+        kept: &[bool],
         query: Option<Query>,
         conflicts: u64,
     ) -> Result<Pricer<'p>, NoMemory>
-        requires { conflicts ≤ most_conflicts }
+        requires kept { IsChoice kept.now problem.now }
+        requires conflicts { conflicts ≤ most_conflicts }
         ensures value { IfOk result (λ p. p ≡ record {
-          subject = record { parts = problem.now; query = query };
+          subject = record { parts = kept_parts kept.now problem.now; query = query };
           conflicts = conflicts;
         }) }
     {
+        let _sound = problem.bound_list();
+        let sentences = kept_sentences(alloc, problem.sentences().as_slice(), kept)?;
         Ok(Pricer {
             problem,
+            bounds: bounds_of(alloc, sentences.as_slice())?,
+            sentences,
             form: clauses_of(alloc, problem.formulas())?,
             query,
             conflicts,
         })
+    }
+
+    /// The bounds of the kept sentences.
+    pub fn bounds(&self) -> &[Bound]
+        ensures bounds { result.now ≡ bounds_in self.now.subject.parts.sentences }
+        ensures parts { AreParts self.now.subject.parts }
+    {
+        self.bounds.as_slice()
     }
 
     /// The evidence of the query.
@@ -91,7 +114,6 @@ impl<'p> Pricer<'p> {
     }
 
     /// The clauses, with the combination of a dual as what is to be greatest.
-    #[tactic(auto, using(crate::proofs::Terms::given_there, crate::proofs::Terms::both_there))]
     fn wcnf(&self, alloc: Global, kind: ClaimKind, dual: &Dual) -> Result<Wcnf, NoMemory>
         requires asked { IsAsked kind self.now.subject.parts self.now.subject.query }
         requires dual { IsDualFor self.now.subject.parts dual.now }
@@ -99,16 +121,9 @@ impl<'p> Pricer<'p> {
         ensures narrow { IfOk result IsNarrow }
         ensures within { IfOk result IsSoftWithin }
     {
-        let _sound = self.problem.bound_list();
+        let bounds = self.bounds();
         let (given, both) = (self.given(), self.both());
-        let Combination { terms, base } = combination(
-            alloc,
-            self.problem,
-            kind,
-            given,
-            both,
-            dual,
-        )?;
+        let Combination { terms, base } = combination_of(alloc, bounds, kind, given, both, dual)?;
         Ok(Wcnf {
             hard: self.form.copy(alloc)?,
             soft: terms,
@@ -138,7 +153,7 @@ impl<'p> Pricer<'p> {
         ensures pricing { IfOk result (IsPricing kind self.now dual) }
         ensures printed { IfOk result IsPrintedPricing }
     {
-        let _sound = self.problem.bound_list();
+        let _sound = self.bounds();
         let wcnf = self.wcnf(alloc, kind, &dual)?;
         let Sought { priced, steps } = seek(alloc, &wcnf, self.conflicts)?;
         match priced {

@@ -13,21 +13,22 @@ use Rattle.ps_claims.specs.Validity.{IsValidVerdict, IsValidPart, IsValid}
 use Rattle.ps_claims.proofs.Valid.{valid-right}
 use Rattle.ps_entailment.specs.Answers.{asked_under}
 use Rattle.ps_valid.specs.Answers.{answer_of, parts_of, verdict_of as claimed_verdict}
+use Rattle.ps_runs.specs.Kept.{AreAllKept}
 use Rattle.ps_runs.specs.Runs.{sentences_of}
 use Rattle.ps_answer.proofs.WrittenItems.{written_report}
 use Rattle.ps_phases.proofs.Counted.{answer_counted}
 use Rattle.ps_phases.specs.Verdicts.{IsLawfulPart, IsLawfulPhaseOne, IsLawfulVerdict, asked_after}
 use Rattle.ps_printed.specs.Printed.{IsPrintedAnswer, IsPrintedPart}
 use Rattle.ps_generation.specs.declared.limits.Limits.{Limits}
-use Rattle.ps_generation.specs.Phases.{AreLimits, Limited}
+use Rattle.ps_generation.specs.Phases.{AreLimits, LimitedSubject}
 use Rattle.ps_reported.specs.Laws.{IsAnswered}
 use Rattle.ps_reported.proofs.Reports.{all_within, all_short}
 use Rattle.ps_master.specs.declared.first.First.{First}
 use Rattle.ps_master.specs.declared.first.First.TheVariants as first
-use Rattle.ps_master.specs.Runs.{RunState, IsNew, IsPhaseOneAnswer, IsValidFirst, IsPrintedFirst, verdict_of}
-use Rattle.ps_query.specs.Parts.{IsPartOf, IsVerdictOf}
+use Rattle.ps_master.specs.Runs.{RunState, IsPhaseOneAnswer, IsValidFirst, IsPrintedFirst, verdict_of}
+use Rattle.ps_query.specs.Parts.{IsNewOverAll, IsPartOf, IsVerdictOf}
 use Rattle.ps_query.specs.Solutions.{AreShortLines, IsReadBack, IsSolution}
-use Rattle.ps_query.proofs.Queries.{traced_alone}
+use Rattle.ps_query.proofs.Queries.{traced_alone, lawful_whole, valid_whole}
 
 -- ---- the verdict
 valid_first : (p : Parts) (answer : First) → IsValidFirst (sentences_of p) answer → IsValidVerdict p (claimed_verdict (verdict_of answer))
@@ -35,15 +36,16 @@ valid_first p (first.Reached m) h = h.0
 valid_first p (first.Nothing d) h = h
 valid_first p (first.Open cause) h = tt
 
-pub is_verdict : (limits : Limits) (p : Parts) (new done : RunState) (answer : First) → IsNew p None limits new → IsPhaseOneAnswer new done answer → IsPrintedFirst answer
+pub is_verdict : (limits : Limits) (p : Parts) (new done : RunState) (answer : First) → IsNewOverAll p None limits new → IsPhaseOneAnswer new done answer → IsPrintedFirst answer
     → IsVerdictOf limits p (verdict_of answer) done.trace
 is_verdict limits p new done answer is_new of printed =
     let events : done.trace ≡ of.events = traced_alone new.trace of.events done.trace is_new.trace of.traced.appended in
+    let all : AreAllKept new.over.flags = subst (λ (o : LimitedSubject). AreAllKept o.flags) (sym is_new.over) is_new.all in
     record {
       lawful =
           subst (λ es. IsLawfulVerdict p limits.pivots limits.conflicts (verdict_of answer) es) (sym events)
-          (subst (λ (o : Limited). IsLawfulPhaseOne o.subject o.limits.pivots o.limits.conflicts (verdict_of answer) of.events) is_new.over of.lawful);
-      valid = valid_first p answer (subst (λ (o : Limited). IsValidFirst o.subject answer) is_new.over of.valid);
+          (subst (λ (o : LimitedSubject). IsLawfulPhaseOne o.subject o.limits.pivots o.limits.conflicts (verdict_of answer) of.events) is_new.over (lawful_whole new done answer all of));
+      valid = valid_first p answer (subst (λ (o : LimitedSubject). IsValidFirst o.subject answer) is_new.over (valid_whole new done answer all of));
       printed = printed;
     }
 

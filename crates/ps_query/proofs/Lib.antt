@@ -2,3 +2,4 @@ pub mod Taken
 pub mod Queries
 pub mod Answering
 pub mod Loops
+pub mod Whole

@@ -1,5 +1,5 @@
 -- The parts of a query's answer make a lawful and valid one.
-use Rattle.std.proofs.Common.{◌≡◌, Some, List, [], ◌++◌, sym, subst, ap, ◌∙◌}
+use Rattle.std.proofs.Common.{◌≡◌, ℤ, Some, List, [], ◌++◌, refl, sym, subst, ap, ◌∙◌}
 use Rattle.ps_problem.specs.declared.query.Query.{Query}
 use Rattle.ps_problem.specs.Problems.{Parts}
 use Rattle.ps_pool.specs.declared.event.Event.{Event}
@@ -14,21 +14,41 @@ use Rattle.ps_claims.specs.declared.claim_kind.ClaimKind.{ClaimKind}
 use Rattle.ps_claims.specs.declared.claim_kind.ClaimKind.TheVariants.{Lower, Upper}
 use Rattle.ps_claims.specs.Validity as claims
 use Rattle.ps_valid.specs.Answers.{side_of}
+use Rattle.ps_runs.specs.Kept.{AreAllKept}
 use Rattle.ps_runs.specs.Runs.{subject_of, given_in}
+use Rattle.ps_runs.proofs.Kept.{rows-all}
 use Rattle.ps_phases.specs.Answers.{dual_of}
-use Rattle.ps_phases.specs.Verdicts.{IsLawfulSide, IsLawfulAnswerTo, AreLawfulBounds}
+use Rattle.ps_phases.specs.Verdicts.{IsLawfulPhaseOne, IsLawfulSide, IsLawfulAnswerTo, AreLawfulBounds}
 use Rattle.ps_printed.specs.Printed.{IsPrintedPart}
 use Rattle.ps_generation.specs.declared.limits.Limits.{Limits}
-use Rattle.ps_generation.specs.Phases.{Limited}
+use Rattle.ps_generation.specs.Phases.{LimitedSubject}
 use Rattle.ps_master.specs.declared.first.First.{First}
 use Rattle.ps_master.specs.declared.first.First.TheVariants as first
-use Rattle.ps_master.specs.Runs.{RunState, stage_of, IsNew, IsPhaseOneAnswer, IsSideAnswerOf, IsValidSide}
-use Rattle.ps_query.specs.Parts.{AreSidesOf, IsBehind, MayGoOn, IsPartOf}
+use Rattle.ps_master.specs.Runs.{RunState, stage_of, IsPhaseOneAnswer, IsSideAnswerOf, IsValidFirst, IsValidSide, IsWholeFirst, IsWholeSide, kept_first, kept_side, verdict_of}
+use Rattle.ps_query.specs.Parts.{IsNewOverAll, AreSidesOf, IsBehind, MayGoOn, IsPartOf}
 use Rattle.ps_query.proofs.Taken.{taken_from, reached_taken, trace_taken}
 
 -- what stands in a trace that was empty are the events
 pub traced_alone : (trace events longer : List Event) → trace ≡ [] → longer ≡ trace ++ events → longer ≡ events
 traced_alone trace events longer none is = is ∙ ap (λ es. es ++ events) none
+
+-- ---- answers of runs over all sentences
+side_whole : (kind : ClaimKind) (over : LimitedSubject) (answer : SideAnswer) → AreAllKept over.flags → IsWholeSide kind over answer → kept_side over.flags answer ≡ answer
+side_whole kind over (side.Bound value m d) all whole = ap (λ (ys : List ℤ). side.Bound value m (record { top = d.top; head = d.head; rows = ys; steps = d.steps })) (rows-all over.flags d.rows all whole.others)
+side_whole kind over (side.Open cause) all whole = refl
+
+first_whole : (over : LimitedSubject) (answer : First) → AreAllKept over.flags → IsWholeFirst over answer → kept_first over.flags answer ≡ answer
+first_whole over (first.Reached m) all whole = refl
+first_whole over (first.Nothing d) all whole = ap (λ (ys : List ℤ). first.Nothing (record { top = d.top; head = d.head; rows = ys; steps = d.steps })) (rows-all over.flags d.rows all whole.others)
+first_whole over (first.Open cause) all whole = refl
+
+module _ (new done : RunState) (answer : First) (all : AreAllKept new.over.flags) (of : IsPhaseOneAnswer new done answer) where
+  pub lawful_whole : IsLawfulPhaseOne new.over.subject new.over.limits.pivots new.over.limits.conflicts (verdict_of answer) of.events
+  lawful_whole =
+      subst (λ (a : First). IsLawfulPhaseOne new.over.subject new.over.limits.pivots new.over.limits.conflicts (verdict_of a) of.events) (first_whole new.over answer all of.whole) of.lawful
+
+  pub valid_whole : IsValidFirst new.over.subject answer
+  valid_whole = subst (λ (a : First). IsValidFirst new.over.subject a) (first_whole new.over answer all of.whole) of.valid
 
 -- ---- sides
 module _ (r low mid up : RunState) (lower upper : SideAnswer) (none : r.trace ≡ []) (below : IsSideAnswerOf Lower r low lower) (same : mid ≡ taken_from low) (above : IsSideAnswerOf Upper mid up upper) where
@@ -42,8 +62,8 @@ module _ (r low mid up : RunState) (lower upper : SideAnswer) (none : r.trace �
   over_mid = ap (λ (x : RunState). x.over) same ∙ below.traced.over
 
   -- an upper side from a run in which so much is left, over this
-  abbrev Greatest : RunState → Limited → List Event → Type 0
-  Greatest from over events = IsLawfulSide Upper over.subject over.limits.pivots over.limits.conflicts (stage_of from) from.left (stage_of up) up.left upper events
+  abbrev Greatest : RunState → LimitedSubject → List Event → Type 0
+  Greatest from over events = IsLawfulSide Upper over.subject over.limits.pivots over.limits.conflicts (stage_of from) from.left (stage_of up) up.left (kept_side over.flags upper) events
 
   greatest : Greatest low r.over up.trace
   greatest =
@@ -55,13 +75,15 @@ module _ (r low mid up : RunState) (lower upper : SideAnswer) (none : r.trace �
     after_lower = stage_of low;
     left_lower = low.left;
     least =
-        subst (λ es. IsLawfulSide Lower r.over.subject r.over.limits.pivots r.over.limits.conflicts (stage_of r) r.left (stage_of low) low.left lower es) (sym lower_events) below.lawful;
+        subst (λ es. IsLawfulSide Lower r.over.subject r.over.limits.pivots r.over.limits.conflicts (stage_of r) r.left (stage_of low) low.left (kept_side r.over.flags lower) es) (sym lower_events) below.lawful;
     end = stage_of up;
     left = up.left;
     greatest = greatest;
     valid_lower = below.valid;
     valid_upper = λ q is.
-        subst (λ (o : Limited). IsValidSide Upper o.subject.parts q upper) over_mid (above.valid q (ap (λ (o : Limited). o.subject.query) over_mid ∙ is));
+        subst (λ (o : LimitedSubject). IsValidSide Upper o.subject.parts q (kept_side o.flags upper)) over_mid (above.valid q (ap (λ (o : LimitedSubject). o.subject.query) over_mid ∙ is));
+    whole_lower = below.whole;
+    whole_upper = subst (λ (o : LimitedSubject). IsWholeSide Upper o upper) over_mid above.whole;
   }
 
 -- with the events as they were taken
@@ -76,11 +98,17 @@ valid_side kind p q (side.Bound value m d) h = h
 valid_side kind p q (side.Open cause) h = tt
 
 -- ---- queries
-module _ (limits : Limits) (p : Parts) (q : Query) (new done : RunState) (is_new : IsNew p (Some q) limits new) where
-  over_is : new.over ≡ record { subject = subject_of p q; limits = limits }
+module _ (limits : Limits) (p : Parts) (q : Query) (new done : RunState) (is_new : IsNewOverAll p (Some q) limits new) where
+  abbrev Over : LimitedSubject
+  Over = record { whole = p; flags = is_new.flags; subject = subject_of p q; limits = limits }
+
+  over_is : new.over ≡ Over
   over_is = is_new.over
 
-  abbrev Lawful : Limited → QueryAnswer → List Event → Type 0
+  all_kept : AreAllKept new.over.flags
+  all_kept = subst (λ (o : LimitedSubject). AreAllKept o.flags) (sym over_is) is_new.all
+
+  abbrev Lawful : LimitedSubject → QueryAnswer → List Event → Type 0
   Lawful o answer events = IsLawfulAnswerTo o.subject o.limits.pivots o.limits.conflicts events answer
 
   pub part_impossible : (d : Dual) → IsPhaseOneAnswer new done (first.Nothing d) → IsPrintedPart (query.Impossible d)
@@ -88,8 +116,8 @@ module _ (limits : Limits) (p : Parts) (q : Query) (new done : RunState) (is_new
   part_impossible d of printed =
       let events : done.trace ≡ of.events = traced_alone new.trace of.events done.trace is_new.trace of.traced.appended in
       record {
-        lawful = subst (λ es. IsLawfulAnswerTo (subject_of p q) limits.pivots limits.conflicts es (query.Impossible d)) (sym events) (subst (λ o. Lawful o (query.Impossible d) of.events) over_is of.lawful);
-        valid = subst (λ (o : Limited). claims.ShowsNothing o.subject.parts (given_in o.subject.query) (dual_of d)) over_is of.valid;
+        lawful = subst (λ es. IsLawfulAnswerTo (subject_of p q) limits.pivots limits.conflicts es (query.Impossible d)) (sym events) (subst (λ o. Lawful o (query.Impossible d) of.events) over_is (lawful_whole new done (first.Nothing d) all_kept of));
+        valid = subst (λ (o : LimitedSubject). claims.ShowsNothing o.subject.parts (given_in o.subject.query) (dual_of d)) over_is (valid_whole new done (first.Nothing d) all_kept of);
         printed = printed;
       }
 
@@ -109,8 +137,17 @@ module _ (limits : Limits) (p : Parts) (q : Query) (new done : RunState) (is_new
     sides : AreSidesOf on lower lower_events upper upper_events → AreSidesOf (taken_from done) lower lower_events upper upper_events
     sides h = subst (λ r. AreSidesOf r lower lower_events upper upper_events) same h
 
-    over_done : done.over ≡ record { subject = subject_of p q; limits = limits }
+    over_done : done.over ≡ Over
     over_done = of.traced.over ∙ over_is
+
+    all_done : AreAllKept done.over.flags
+    all_done = subst (λ (o : LimitedSubject). AreAllKept o.flags) (sym over_done) is_new.all
+
+    lower_is : AreSidesOf (taken_from done) lower lower_events upper upper_events → kept_side done.over.flags lower ≡ lower
+    lower_is h = side_whole Lower done.over lower all_done h.whole_lower
+
+    upper_is : AreSidesOf (taken_from done) lower lower_events upper upper_events → kept_side done.over.flags upper ≡ upper
+    upper_is h = side_whole Upper done.over upper all_done h.whole_upper
 
     lawful_bounds : AreSidesOf (taken_from done) lower lower_events upper upper_events
         → AreLawfulBounds new.over.subject new.over.limits.pivots new.over.limits.conflicts of.events lower lower_events upper upper_events
@@ -125,10 +162,12 @@ module _ (limits : Limits) (p : Parts) (q : Query) (new done : RunState) (is_new
       feasible = of.goes_on.feasible;
       after_lower = h.after_lower;
       left_lower = h.left_lower;
-      least = subst (λ (o : Limited). IsLawfulSide Lower o.subject o.limits.pivots o.limits.conflicts (stage_of done) done.left h.after_lower h.left_lower lower lower_events) of.traced.over h.least;
+      least = subst (λ (o : LimitedSubject). IsLawfulSide Lower o.subject o.limits.pivots o.limits.conflicts (stage_of done) done.left h.after_lower h.left_lower lower lower_events) of.traced.over
+          (subst (λ (a : SideAnswer). IsLawfulSide Lower done.over.subject done.over.limits.pivots done.over.limits.conflicts (stage_of done) done.left h.after_lower h.left_lower a lower_events) (lower_is h) h.least);
       end = h.end;
       left = h.left;
-      greatest = subst (λ (o : Limited). IsLawfulSide Upper o.subject o.limits.pivots o.limits.conflicts h.after_lower h.left_lower h.end h.left upper upper_events) of.traced.over h.greatest;
+      greatest = subst (λ (o : LimitedSubject). IsLawfulSide Upper o.subject o.limits.pivots o.limits.conflicts h.after_lower h.left_lower h.end h.left upper upper_events) of.traced.over
+          (subst (λ (a : SideAnswer). IsLawfulSide Upper done.over.subject done.over.limits.pivots done.over.limits.conflicts h.after_lower h.left_lower h.end h.left a upper_events) (upper_is h) h.greatest);
     }
 
     pub part_bounds : AreSidesOf on lower lower_events upper upper_events → IsPrintedPart (query.Bounds lower lower_events upper upper_events)
@@ -136,14 +175,16 @@ module _ (limits : Limits) (p : Parts) (q : Query) (new done : RunState) (is_new
     part_bounds found printed =
         let h = sides found in
         let events : done.trace ≡ of.events = traced_alone new.trace of.events done.trace is_new.trace of.traced.appended in
-        let asked : done.over.subject.query ≡ Some q = ap (λ (o : Limited). o.subject.query) over_done in
+        let asked : done.over.subject.query ≡ Some q = ap (λ (o : LimitedSubject). o.subject.query) over_done in
         record {
           lawful =
               subst (λ es. AreLawfulBounds (subject_of p q) limits.pivots limits.conflicts es lower lower_events upper upper_events) (sym events)
-              (subst (λ (o : Limited). AreLawfulBounds o.subject o.limits.pivots o.limits.conflicts of.events lower lower_events upper upper_events) over_is (lawful_bounds h));
+              (subst (λ (o : LimitedSubject). AreLawfulBounds o.subject o.limits.pivots o.limits.conflicts of.events lower lower_events upper upper_events) over_is (lawful_bounds h));
           valid = (
-            valid_side Lower p q lower (subst (λ (o : Limited). IsValidSide Lower o.subject.parts q lower) over_done (h.valid_lower q asked)),
-            valid_side Upper p q upper (subst (λ (o : Limited). IsValidSide Upper o.subject.parts q upper) over_done (h.valid_upper q asked)),
+            valid_side Lower p q lower (subst (λ (o : LimitedSubject). IsValidSide Lower o.subject.parts q lower) over_done
+                (subst (λ (a : SideAnswer). IsValidSide Lower done.over.subject.parts q a) (lower_is h) (h.valid_lower q asked))),
+            valid_side Upper p q upper (subst (λ (o : LimitedSubject). IsValidSide Upper o.subject.parts q upper) over_done
+                (subst (λ (a : SideAnswer). IsValidSide Upper done.over.subject.parts q a) (upper_is h) (h.valid_upper q asked))),
           );
           printed = printed;
         }

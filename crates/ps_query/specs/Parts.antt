@@ -1,5 +1,5 @@
 -- What is found of a query.
-use Rattle.std.specs.Prelude.{◌≡◌, ℕ, Some, List}
+use Rattle.std.specs.Prelude.{◌≡◌, ℕ, Bool, Option, Some, List, []}
 use Rattle.ps_problem.specs.declared.query.Query.{Query}
 use Rattle.ps_problem.specs.Problems.{Parts}
 use Rattle.ps_pool.specs.declared.event.Event.{Event}
@@ -11,24 +11,35 @@ use Rattle.ps_answer.specs.declared.answer.Verdict.{Verdict}
 use Rattle.ps_claims.specs.declared.claim_kind.ClaimKind.TheVariants.{Lower, Upper}
 use Rattle.ps_claims.specs.Validity.{IsValidVerdict, IsValidPart}
 use Rattle.ps_valid.specs.Answers.{part_of, verdict_of}
+use Rattle.ps_runs.specs.Kept.{AreAllKept}
 use Rattle.ps_runs.specs.Runs.{Stage}
 use Rattle.ps_phases.specs.Verdicts.{IsLawfulSide, IsLawfulVerdict, IsLawfulPart}
 use Rattle.ps_printed.specs.Printed.{IsPrintedPart, IsPrintedVerdict}
 use Rattle.ps_generation.specs.declared.limits.Limits.{Limits}
 use Rattle.ps_master.specs.declared.first.First.{First}
 use Rattle.ps_master.specs.declared.first.First.TheVariants as first
-use Rattle.ps_master.specs.Runs.{RunState, stage_of, IsReached, IsValidSide}
+use Rattle.ps_master.specs.Runs.{RunState, stage_of, IsAtStart, IsReached, IsValidSide, IsWholeSide, kept_side}
+
+-- a new run over all sentences of a problem, and a query, or none
+pub record IsNewOverAll (p : Parts) (query : Option Query) (limits : Limits) (r : RunState) : Type 0 where
+  pub flags : List Bool
+  pub all : AreAllKept flags
+  pub over : r.over ≡ record { whole = p; flags = flags; subject = record { parts = p; query = query }; limits = limits }
+  pub start : IsAtStart r
+  pub trace : r.trace ≡ []
 
 -- both sides of the run's query, the upper one from where the lower one ended
 pub record AreSidesOf (r : RunState) (lower : SideAnswer) (lower_events : List Event) (upper : SideAnswer) (upper_events : List Event) : Type 0 where
   pub after_lower : Stage
   pub left_lower : ℕ
-  pub least : IsLawfulSide Lower r.over.subject r.over.limits.pivots r.over.limits.conflicts (stage_of r) r.left after_lower left_lower lower lower_events
+  pub least : IsLawfulSide Lower r.over.subject r.over.limits.pivots r.over.limits.conflicts (stage_of r) r.left after_lower left_lower (kept_side r.over.flags lower) lower_events
   pub end : Stage
   pub left : ℕ
-  pub greatest : IsLawfulSide Upper r.over.subject r.over.limits.pivots r.over.limits.conflicts after_lower left_lower end left upper upper_events
-  pub valid_lower : (q : Query) → r.over.subject.query ≡ Some q → IsValidSide Lower r.over.subject.parts q lower
-  pub valid_upper : (q : Query) → r.over.subject.query ≡ Some q → IsValidSide Upper r.over.subject.parts q upper
+  pub greatest : IsLawfulSide Upper r.over.subject r.over.limits.pivots r.over.limits.conflicts after_lower left_lower end left (kept_side r.over.flags upper) upper_events
+  pub valid_lower : (q : Query) → r.over.subject.query ≡ Some q → IsValidSide Lower r.over.subject.parts q (kept_side r.over.flags lower)
+  pub valid_upper : (q : Query) → r.over.subject.query ≡ Some q → IsValidSide Upper r.over.subject.parts q (kept_side r.over.flags upper)
+  pub whole_lower : IsWholeSide Lower r.over lower
+  pub whole_upper : IsWholeSide Upper r.over upper
 
 -- the answer is of both sides
 abbrev pub AreBoundsOf : RunState → QueryAnswer → Type 0

@@ -2,6 +2,7 @@
 #![tactic(auto)]
 
 mod solving;
+mod starting;
 
 pub use ps_master::{Limits, MOST_PIVOTS};
 pub use solving::solve;

@@ -9,6 +9,7 @@ ghost use Rattle.ps_master.specs.Runs.{IsPrintedFirst, IsReached, verdict_of};
 ghost use Rattle.ps_query.specs.Parts.{AreBoundsOf, IsBehind, IsPartOf, MayGoOn};
 ghost use Rattle.ps_query.specs.Solutions.{AreShortLines, IsReadBack, IsSolution};
 
+use crate::starting::run_over_all;
 use ps_answer::{Answer, Parts, QueryAnswer, QueryPart, Verdict};
 use ps_io::{List, NoMemory};
 use ps_master::{First, Limits, Run};
@@ -72,7 +73,7 @@ fn query_part(
     requires limits { AreLimits limits }
     ensures { IfOk result (IsPartOf limits problem.now query) }
 {
-    let mut run = Run::new(alloc, problem, Some(query), limits)?;
+    let mut run = run_over_all(alloc, problem, Some(query), limits)?;
     let reached = run.phase_one()?;
     let first = run.take_trace();
     let answer = answer_behind(&mut run, reached)?;
@@ -125,7 +126,7 @@ pub fn solve(alloc: Global, problem: &Problem, limits: Limits) -> Result<Answer,
     ensures read_back { IfOk result (IsReadBack limits) }
 {
     in_order(problem);
-    let mut run = Run::new(alloc, problem, None, limits)?;
+    let mut run = run_over_all(alloc, problem, None, limits)?;
     let verdict = verdict_of(run.phase_one()?);
     let first = run.take_trace();
     let parts = parts_under(alloc, problem, &verdict, limits)?;

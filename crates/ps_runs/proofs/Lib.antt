@@ -16,3 +16,4 @@ pub mod Certified
 pub mod Tight
 pub mod Weighing
 pub mod Priced
+pub mod Kept

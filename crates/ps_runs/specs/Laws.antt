@@ -13,17 +13,18 @@ use Rattle.ps_steps.specs.Steps.{Step, Refutes}
 use Rattle.ps_forms.specs.Forms.{form_of, first_known, MeetsForm}
 use Rattle.ps_forms.specs.Extensions.{extension}
 use Rattle.ps_problem.specs.declared.query.Query as stored
-use Rattle.ps_problem.specs.Problems.{Parts, AreParts, bounds_of}
+use Rattle.ps_problem.specs.Problems.{Parts, AreParts, bounds_in, bounds_of}
 use Rattle.ps_entailment.specs.Queries.{IsAllowed}
 use Rattle.ps_entailment.specs.Answers.{IsSmall, ShowsConsistent}
 use Rattle.ps_claims.specs.declared.claim_kind.ClaimKind.{ClaimKind}
 use Rattle.ps_claims.specs.declared.claim_kind.ClaimKind.TheVariants.{Nothing, Lower, Upper}
-use Rattle.ps_claims.specs.Duals.{Dual, combination, HaveSigns, HasNothingHead, HasValueHead}
+use Rattle.ps_claims.specs.Duals.{Dual, combination, HaveSigns, AreZeroElsewhere, HasNothingHead, HasValueHead}
 use Rattle.ps_claims.specs.Goals.{value_under}
 use Rattle.ps_claims.specs.Validity.{IsRefuted, ShowsNothing, ShowsTight}
 use Rattle.ps_runs.specs.Rows.{Setting, both_of, stage_of, artificial_of, rows_of, columns_of, width_of, world_cost, cost_of, table_of, IsTable}
 use Rattle.ps_runs.specs.Searches.{IsSpentSearch}
 use Rattle.ps_runs.specs.Runs.{Subject, subject_of, setting_of, given_in, both_in, IsAsked, atoms_of, combination_over, goal_at_least, Stage, IsPool, table_at, costs_at, dual_at, AreAtMost, IsRestingAt, IsPricedBy, IsDualAt, LeadsTo, LeadsToPending, pivots_in}
+use Rattle.ps_runs.specs.Kept.{kept_of, flags_of, kept_parts, kept_dual, IsChoice, AreAllKept}
 use Rattle.ps_runs.specs.Certificates.{HaveSameNumbers, table_dual, combination_at, multiple_of, price, value_of, weight_multiple, entry_for, entry_weighing, weighted_worlds, table_model}
 
 -- the combination of a table's dual in a world is a positive multiple of what the multipliers price the world's column above
@@ -160,3 +161,13 @@ pub record PricingsAreOfTheTable : Type 0 where
       → HaveSameNumbers d (dual_at kind s g X) → AreParts s.parts → IsAsked kind s.parts s.query → IsRestingAt kind s g X
       → (e : Dual) → HaveSameNumbers e d
       → Refutes (length s.parts.nodes) (first_known (form_of s.parts.nodes) (goal_at_least (pos 1) kind s d)) e.steps → IsDualAt kind s g e
+
+-- the kept sentences of a problem in order make one in order, and their bounds are the kept ones; all of them are the whole
+-- problem; and a dual that is refuted over them is so over the whole problem, where it has 0 at the other bounds
+pub record KeptSentences : Type 0 where
+  pub parts : (kept : List Bool) (p : Parts) → AreParts p → AreParts (kept_parts kept p)
+  pub bounds : (kept : List Bool) (p : Parts) → bounds_in (kept_parts kept p).sentences ≡ kept_of (flags_of kept p.sentences) (bounds_in p.sentences)
+  pub all : (kept : List Bool) (p : Parts) → IsChoice kept p → AreAllKept kept → kept_parts kept p ≡ p
+  pub refuted : (kept : List Bool) (p : Parts) (kind : ClaimKind) (given : Option ℕ) (both : ℕ) (d : Dual) → IsChoice kept p
+      → AreZeroElsewhere (flags_of kept p.sentences) d.rows → IsRefuted (kept_parts kept p) kind given both (kept_dual (flags_of kept p.sentences) d)
+      → IsRefuted p kind given both d

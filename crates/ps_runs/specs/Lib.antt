@@ -3,5 +3,6 @@ pub mod Rows
 pub mod Certificates
 pub mod Searches
 pub mod Runs
+pub mod Kept
 -- Laws, as the functions of laws.rt promise them
 pub mod Laws

@@ -4,7 +4,7 @@ ghost use Rattle.ps_runs.specs.Laws.{CombinationsArePrices, FeasibleTablesGiveMo
 ghost use Rattle.ps_runs.specs.Laws.{RestingTablesGiveDuals, TablesOfRuns, CostsOfPhases};
 ghost use Rattle.ps_runs.specs.Laws.{EvidenceRow, PricedWorldsMove, EventsCompose};
 ghost use Rattle.ps_runs.specs.Laws.{GainsAreValues, EndsAreValid, WorldsWeighTheirRows};
-ghost use Rattle.ps_runs.specs.Laws.{PricingsAreOfTheTable};
+ghost use Rattle.ps_runs.specs.Laws.{PricingsAreOfTheTable, KeptSentences};
 
 /// The combination of a table's dual in a world is a whole positive multiple of what the
 /// multipliers price the world's column above its cost. So it is at least 1 exactly where the
@@ -60,4 +60,11 @@ pub fn gains()
 /// the table, that head over top is tight.
 pub fn valid_ends()
     ensures valid { EndsAreValid }
+{}
+
+/// A run over some of a problem's sentences is one of the problem that has these alone: it is in
+/// order, and the whole problem where all are kept. A dual that is refuted over these alone is so
+/// over the whole problem, where its multipliers of the other bounds are 0.
+pub fn kept_sentences()
+    ensures kept { KeptSentences }
 {}

@@ -1,4 +1,4 @@
-use Rattle.std.proofs.Common.{◌≡◌, ℕ, Result, Ok, Err, IfOk, List, map, ◌∙◌, ap}
+use Rattle.std.proofs.Common.{◌≡◌, ℕ, Result, Ok, Err, IfOk, List, map, ◌∙◌, ap, sym}
 use Rattle.ps_meaning.specs.Formula.{World}
 use Rattle.ps_formula.specs.declared.node.Node.{Node}
 use Rattle.ps_table.specs.declared.home.Home.{Home}
@@ -10,7 +10,7 @@ use Rattle.ps_runs.specs.Runs.{Subject, setting_of, IsAsked, both_in}
 use Rattle.ps_phases.specs.Tables.{phase_of, homes_of, costs_for}
 use Rattle.ps_phases.proofs.NodeColumns.{costs_are}
 use Rattle.ps_problem.specs.Problems.{Parts}
-use Rattle.ps_generation.specs.Phases.{Limited}
+use Rattle.ps_generation.specs.Phases.{LimitedSubject}
 use Rattle.ps_generation.proofs.setting.Setting.costs.Goals as goal
 
 -- the costs that are found are those of the setting
@@ -30,5 +30,5 @@ pub returns : goal.returns
 returns c =
     costs_found c.args.kind c.args.self.now.subject c.args.state.now.pool c.args.state.now.table.kinds c.phase_of.result c.formulas.result.now c.self.inside.both c.requires.asked
     c.requires.table.kinds c.phase_of.ensures
-    (c.formulas.ensures.nodes ∙ ap (λ (p : Parts). p.nodes) c.self.invariant.0 ∙ ap (λ (r : Limited). r.subject.parts.nodes) c.self.view_is)
-    (c.self.invariant.3 ∙ ap (λ (r : Limited). both_in r.subject.query) c.self.view_is) c.costs_for.result c.costs_for.ensures.homes c.costs_for.ensures.worlds
+    (c.formulas.ensures.nodes ∙ ap (λ (p : Parts). p.nodes) (sym c.self.invariant.0.parts) ∙ ap (λ (r : LimitedSubject). r.subject.parts.nodes) c.self.view_is)
+    (c.self.invariant.3 ∙ ap (λ (r : LimitedSubject). both_in r.subject.query) c.self.view_is) c.costs_for.result c.costs_for.ensures.homes c.costs_for.ensures.worlds

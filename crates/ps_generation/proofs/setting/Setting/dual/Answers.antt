@@ -13,8 +13,8 @@ use Rattle.ps_generation.proofs.setting.Setting.dual.Goals as goal
 pub returns-clause-numbers : goal.returns-clause-numbers
 returns-clause-numbers c =
     let s = c.args.self.now.subject in
-    let bounds : c.bound_list.result.now ≡ bounds_in s.parts.sentences = search rules in
-    IfOk-weaker c.dual_of.result (IsTableDual c.args.kind c.bound_list.result.now c.args.table.now c.args.costs.now)
+    let bounds : c.bounds.result.now ≡ bounds_in s.parts.sentences = search rules in
+    IfOk-weaker c.dual_of.result (IsTableDual c.args.kind c.bounds.result.now c.args.table.now c.args.costs.now)
     (λ d. HaveSameNumbers (dual_of d) (table_dual c.args.kind (setting_of s) (simplex_of c.args.table.now) (cost_at c.args.costs.now)))
     (λ d h.
     subst (λ (bs : List Bound). HaveSameNumbers (dual_of d)

@@ -1,9 +1,36 @@
-use Rattle.std.proofs.Common.{rules}
-use Rattle.ps_problem.specs.Problems.{AreParts}
+use Rattle.std.proofs.Common.{rules, ◌≡◌, ℕ, Option, All, sym, subst, length}
+use Rattle.std.specs.Option.{IfSome}
+use Rattle.ps_runs.specs.Runs.{given_in, both_in}
+use Rattle.ps_problem.specs.declared.bound.Bound.{Bound}
+use Rattle.ps_problem.specs.Problems.{AreParts, AreBounds, bounds_in}
+use Rattle.ps_certificate.specs.Rows.{AreOverNodes, IsNode}
+use Rattle.ps_certificate.proofs.Sums.{node-given, node-both}
 use Rattle.ps_maxsat.specs.declared.problem.Wcnf.{Wcnf}
 use Rattle.ps_pricing.specs.Pricings.{IsWcnf}
-use Rattle.ps_pricing.proofs.Terms.{soft_within}
+use Rattle.ps_pricing.proofs.Terms.{given_there, both_there, soft_within}
 use Rattle.ps_pricing.proofs.pricer.Pricer.wcnf.Goals as goal
+
+pub combination_of-requires-clause-bounds : goal.combination_of-requires-clause-bounds
+combination_of-requires-clause-bounds c =
+    let p = c.args.self.now.subject.parts in
+    let are : AreParts p = search rules in
+    let same : c.bounds-bounds.result.now ≡ bounds_in p.sentences = search rules in
+    subst AreOverNodes (sym same) (record { nodes = p.nodes; few_nodes = are.few_nodes; bounds = are.bounds; few = are.few_bounds })
+
+pub combination_of-requires-clause-given : goal.combination_of-requires-clause-given
+combination_of-requires-clause-given c =
+    let s = c.args.self.now.subject in
+    let are : AreParts s.parts = search rules in
+    let is : c.given-given.result ≡ given_in s.query = search rules in
+    subst (λ (g : Option ℕ). IfSome g IsNode) (sym is)
+    (node-given s.parts.nodes (given_in s.query) (given_there c.args.kind s.parts s.query c.requires.asked) are.few_nodes)
+
+pub combination_of-requires-clause-both : goal.combination_of-requires-clause-both
+combination_of-requires-clause-both c = λ asked.
+    let s = c.args.self.now.subject in
+    let are : AreParts s.parts = search rules in
+    let is : c.both-both.result ≡ both_in s.query = search rules in
+    subst IsNode (sym is) (node-both s.parts.nodes (both_in s.query) (both_there c.args.kind s.parts s.query c.requires.asked asked) are.few_nodes)
 
 pub returns-clause-within : goal.returns-clause-within
 returns-clause-within c =

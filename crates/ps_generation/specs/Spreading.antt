@@ -1,0 +1,26 @@
+-- The multipliers of all bounds, by those of the kept ones.
+use Rattle.std.specs.Prelude.{◌≡◌, ◌+◌, ℕ, ℤ, pos, Bool, true, false, if◌then◌else◌, List, [], ◌∷◌, get_or}
+use Rattle.ps_problem.specs.Problems.{Parts}
+use Rattle.ps_runs.specs.Kept.{flags_of, kept_parts, IsChoice}
+
+-- in order those of the kept bounds, and 0 for each other
+abbrev pub spread_of : List Bool → List ℤ → List ℤ
+spread_of [] ys = []
+spread_of (false ∷ ks) ys = pos 0 ∷ spread_of ks ys
+spread_of (true ∷ ks) [] = pos 0 ∷ spread_of ks []
+spread_of (true ∷ ks) (y ∷ ys) = y ∷ spread_of ks ys
+
+-- the number of a bound, where the next kept one's is at this place
+abbrev pub number_for : Bool → List ℤ → ℕ → ℤ
+number_for kept ys next = if kept then get_or ys next (pos 0) else pos 0
+
+-- the place of the next kept one's behind it
+abbrev pub next_for : Bool → ℕ → ℕ
+next_for kept next = if kept then next + 1 else next
+
+-- the sentences of a part are the kept ones of the whole, and so are the bounds
+pub record IsKeptOf (p : Parts) (flags : List Bool) (part : Parts) : Type 0 where
+  pub kept : List Bool
+  pub each : IsChoice kept p
+  pub flags_are : flags ≡ flags_of kept p.sentences
+  pub parts : part ≡ kept_parts kept p
