@@ -41,10 +41,14 @@ fn priced(alloc: Global, problem: &Problem, first: i128) -> Result<Pricing, NoMe
     requires { unsigned_abs first ≤ 1 }
 {
     let dual = a_dual(alloc, first)?;
-    if problem.bounds() != 2 || problem.sentences().len() != 2 {
+    if problem.sentences().len() != 2 {
         return Err(NoMemory);
     }
-    Pricer::new(alloc, problem, &[true, true], None, 20_000)?.price(alloc, ClaimKind::Nothing, dual)
+    let pricer = Pricer::new(alloc, problem, &[true, true], None, 20_000)?;
+    if pricer.bounds().len() != 2 {
+        return Err(NoMemory);
+    }
+    pricer.price(alloc, ClaimKind::Nothing, dual)
 }
 
 fn is_found(pricing: &Pricing) -> bool {
