@@ -8,6 +8,7 @@ use Rattle.ps_generation.specs.declared.limits.Limits.{Limits}
 use Rattle.ps_generation.specs.declared.limits.TheConstants.{MOST_PIVOTS}
 use Rattle.psat.specs.declared.status.Status.TheVariants.{Unfinished}
 use Rattle.psat.specs.declared.command.Command.TheVariants.{Check, Solve}
+use Rattle.psat.specs.declared.command.TheConstants.{MOST_PROBLEM}
 use Rattle.psat.specs.Due.{Output, DueFor, IsSolvedBy, accepted}
 
 -- the output is read back: nothing is open, or the pivots were fewer than the most
@@ -23,5 +24,5 @@ OneAnswerIsDue = (limits : Limits) (bytes : List ℕ) (o : Output) (p q : Parts)
 -- answer's counts of claims and of what is open
 abbrev pub ReportsAreAccepted : Type 0
 ReportsAreAccepted = (limits : Limits) (bytes : List ℕ) (o : Output) (p : Parts) (a : Answer) (most : ℕ) → IsReadable limits o → IsSolvedBy limits bytes o p a
-    → length bytes ≤ 2 ^ 20 → length (bytes ++ (codes "\n" ++ o.text)) ≤ most
+    → length bytes ≤ MOST_PROBLEM → length (bytes ++ (codes "\n" ++ o.text)) ≤ most
     → DueFor (Check most) (bytes ++ (codes "\n" ++ o.text)) (accepted (length (claims_of p (answer_of a))) (unfinished_of (answer_of a)))

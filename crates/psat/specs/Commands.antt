@@ -2,8 +2,10 @@
 use Rattle.std.specs.Prelude.{◌≡◌, ◌≢◌, ◌≤◌, ◌⊎◌, ◌^◌, ℕ, List, [], ◌∷◌, Option, Some, None, map, All, AllPairs, Contains, codes, decimal, String, string_bytes}
 use Rattle.std.specs.declared.alloc.Global.{Global}
 use Rattle.ps_generation.specs.declared.limits.Limits.{Limits}
+use Rattle.ps_generation.specs.declared.limits.TheConstants.{MOST_PIVOTS}
 use Rattle.psat.specs.declared.command.Command.{Command}
 use Rattle.psat.specs.declared.command.Command.TheVariants.{Check, Solve}
+use Rattle.psat.specs.declared.command.TheConstants.{DEFAULT_BYTES, MOST_BYTES, MOST_PROBLEM, DEFAULT_PIVOTS, DEFAULT_CONFLICTS, MOST_CONFLICTS}
 
 -- the bytes of words
 abbrev pub words_of : List (String Global) → List (List ℕ)
@@ -20,15 +22,15 @@ limit_word Conflicts = codes "--conflicts"
 
 -- the most to which words set a limit
 abbrev pub most_of : Limit → ℕ
-most_of Bytes = 2 ^ 40
-most_of Pivots = 1000000
-most_of Conflicts = 2 ^ 40
+most_of Bytes = MOST_BYTES
+most_of Pivots = MOST_PIVOTS
+most_of Conflicts = MOST_CONFLICTS
 
 -- a limit that no words set
 abbrev pub default_of : Limit → ℕ
-default_of Bytes = 2 ^ 30
-default_of Pivots = 10000
-default_of Conflicts = 20000
+default_of Bytes = DEFAULT_BYTES
+default_of Pivots = DEFAULT_PIVOTS
+default_of Conflicts = DEFAULT_CONFLICTS
 
 -- a limit, set to a number
 pub record LimitSetting : Type 0 where
@@ -68,7 +70,7 @@ pub record SpellNone (words : List (List ℕ)) : Type 0 where
 -- the most bytes that a command reads, and None where it reads nothing
 abbrev pub limit_of : Command → Option ℕ
 limit_of (Check bytes) = Some bytes
-limit_of (Solve limits) = Some (2 ^ 20)
+limit_of (Solve limits) = Some MOST_PROBLEM
 
 -- the words are of no command that reads
 pub record ReadNothing (words : List (List ℕ)) : Type 0 where

@@ -20,6 +20,7 @@ use Rattle.psat.specs.declared.status.Status.{Status}
 use Rattle.psat.specs.declared.status.Status.TheVariants.{Done, Inconsistent, Usage, Unreadable, Unfinished, Refused}
 use Rattle.psat.specs.declared.command.Command.{Command}
 use Rattle.psat.specs.declared.command.Command.TheVariants.{Check, Solve}
+use Rattle.psat.specs.declared.command.TheConstants.{MOST_PROBLEM}
 use Rattle.psat.specs.Commands.{Spell, SpellNone}
 use Rattle.psat.specs.Words.{kind_words, line_words, place_words, fault_words}
 
@@ -111,7 +112,7 @@ pub data DueWithin (limit : ℕ) (DueOf : List ℕ → Output → Type 0) (bytes
 -- due for a command and what the source had left
 abbrev pub DueFor : Command → List ℕ → Output → Type 0
 DueFor (Check limit) bytes o = DueWithin limit DueText bytes o
-DueFor (Solve limits) bytes o = DueWithin (2 ^ 20) (DueAnswered limits) bytes o
+DueFor (Solve limits) bytes o = DueWithin MOST_PROBLEM (DueAnswered limits) bytes o
 
 -- due for words and bytes: what is due for the command that the words spell, or else the usage line
 pub data Due (words : List (List ℕ)) (bytes : List ℕ) (o : Output) : Type 0 where
@@ -122,7 +123,7 @@ pub data Due (words : List (List ℕ)) (bytes : List ℕ) (o : Output) : Type 0 
 -- one problem may be right
 abbrev pub IsSingle : Command → List ℕ → Type 0
 IsSingle (Check limit) bytes = Unit {0}
-IsSingle (Solve limits) bytes = (p : Parts) → length bytes ≤ 2 ^ 20 → ¬ SpellsWhole bytes p
+IsSingle (Solve limits) bytes = (p : Parts) → length bytes ≤ MOST_PROBLEM → ¬ SpellsWhole bytes p
 
 -- for words and bytes at most one output is due, but for the words of `solve` and a problem
 abbrev pub OneOutputIsDue : Type 0

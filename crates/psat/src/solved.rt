@@ -1,6 +1,7 @@
 //! The reply to a problem that is to be answered.
 ghost use Rattle.std.specs.Prelude.{◌≤◌, ◌^◌, length, IfOk};
 ghost use Rattle.ps_generation.specs.Phases.{AreLimits};
+ghost use Rattle.psat.specs.declared.command.TheConstants.{MOST_PROBLEM};
 ghost use Rattle.psat.specs.Due.{DueAnswered};
 ghost use Rattle.psat.specs.Replies.{IsShortReply, output_of, reply_status};
 ghost use Rattle.psat.specs.Statuses.{EndsSolve};
@@ -15,7 +16,7 @@ use std::alloc::Global;
 /// The reply to all bytes of a problem.
 pub fn solved(alloc: Global, bytes: &[u8], limits: Limits) -> Result<Reply, NoMemory>
     requires limits { AreLimits limits }
-    requires few { length bytes.now ≤ 2 ^ 20 }
+    requires few { length bytes.now ≤ MOST_PROBLEM }
     ensures due { IfOk result (λ r. DueAnswered limits bytes.now (output_of r)) }
     ensures status { IfOk result (λ r. EndsSolve (reply_status r)) }
     ensures short { IfOk result IsShortReply }
