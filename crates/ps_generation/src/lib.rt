@@ -17,6 +17,3 @@ pub use limits::{Limits, MOST_PIVOTS};
 pub use phases::run_phase;
 pub use setting::Setting;
 pub use state::State;
-
-#[cfg(test)]
-mod tests;

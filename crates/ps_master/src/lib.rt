@@ -10,6 +10,3 @@ mod run;
 pub use first::First;
 pub use ps_generation::{Limits, MOST_PIVOTS};
 pub use run::Run;
-
-#[cfg(test)]
-mod tests;

@@ -1,24 +1,12 @@
-use super::*;
+use crate::problems::{contradictory, single};
 use ps_bland::Phase;
 use ps_claims::ClaimKind;
 use ps_columns::costs_for;
+use ps_generation::{End, Limits, Setting, run_phase};
 use ps_io::NoMemory;
-use ps_problem::{BuildError, Draft, Mark, Problem, Side, build};
+use ps_problem::Problem;
 use std::alloc::Global;
 use std::test::*;
-
-// The problem of `P(a) = 1/3;`, or of that and `P(a) = 2/3;`.
-fn a_problem(alloc: Global, both: bool) -> Result<Problem, BuildError> {
-    let mut draft = Draft::new(alloc);
-    let a = draft.name(b"a")?;
-    draft.mark(Mark::Name(a))?;
-    draft.end_formula()?;
-    draft.sentence(0, None, Side::Exactly, 1, 3, None)?;
-    if both {
-        draft.sentence(0, None, Side::Exactly, 2, 3, None)?;
-    }
-    build(alloc, &draft)
-}
 
 // How phase one ends, and how many worlds and pivots it takes.
 fn ended(alloc: Global, problem: &Problem, kept: &[bool]) -> Result<(End, u32, u64), NoMemory> {
@@ -45,7 +33,7 @@ fn ended(alloc: Global, problem: &Problem, kept: &[bool]) -> Result<(End, u32, u
 
 // Each world is a column, and a pivot brings it into the basis.
 fn is_feasible(alloc: Global) -> bool {
-    match a_problem(alloc, false) {
+    match single(alloc) {
         Ok(problem) => match ended(alloc, &problem, &[true]) {
             Ok((End::Feasible, worlds, pivots)) => worlds == 2 && pivots == 2,
             Ok(_) | Err(_) => false,
@@ -56,7 +44,7 @@ fn is_feasible(alloc: Global) -> bool {
 
 // The bounds contradict each other: the steps of the dual refute that a world improves.
 fn is_refuted(alloc: Global) -> bool {
-    match a_problem(alloc, true) {
+    match contradictory(alloc) {
         Ok(problem) => match ended(alloc, &problem, &[true, true]) {
             Ok((End::NoneAbove(dual), _, _)) => dual.head >= 1 && dual.steps.len() > 0,
             Ok(_) | Err(_) => false,

@@ -1,17 +1,26 @@
+-- The ratios of the problems.
 use Rattle.std.proofs.Common.{refl, arith}
 use Rattle.std.proofs.lemmas.Nat.Gcd.{IsGcd-from_mod, IsGcd-from_zero}
-use Rattle.ps_master.proofs.tests.contradictory.Goals as goal
+use Rattle.ps_problem.specs.Drafts.{IsRatio}
 
-pub sentence-requires-clause-value : goal.sentence-requires-clause-value
-sentence-requires-clause-value c = record {
+pub third : IsRatio 1 3
+third = record {
   least = omega arith;
   most = omega arith;
   value = omega arith;
   reduced = IsGcd-from_mod 1 3 1 (IsGcd-from_mod 3 1 1 (IsGcd-from_zero 1 0 refl));
 }
 
-pub sentence-requires-2-clause-value : goal.sentence-requires-2-clause-value
-sentence-requires-2-clause-value c = record {
+pub half : IsRatio 1 2
+half = record {
+  least = omega arith;
+  most = omega arith;
+  value = omega arith;
+  reduced = IsGcd-from_mod 1 2 1 (IsGcd-from_mod 2 1 1 (IsGcd-from_zero 1 0 refl));
+}
+
+pub two_thirds : IsRatio 2 3
+two_thirds = record {
   least = omega arith;
   most = omega arith;
   value = omega arith;

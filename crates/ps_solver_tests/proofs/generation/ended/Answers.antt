@@ -4,7 +4,7 @@ use Rattle.ps_claims.specs.declared.claim_kind.ClaimKind.TheVariants.{Nothing}
 use Rattle.ps_columns.specs.Columns as over
 use Rattle.ps_runs.specs.Runs.{both_in, IsAsked}
 use Rattle.ps_generation.proofs.Begun.{begun_phase}
-use Rattle.ps_generation.proofs.tests.ended.Goals as goal
+use Rattle.ps_solver_tests.proofs.generation.ended.Goals as goal
 
 pub run_phase-requires-clause-phase : goal.run_phase-requires-clause-phase
 run_phase-requires-clause-phase c =

@@ -1,4 +1,5 @@
-use super::*;
+use crate::problems::{contradictory, single};
+use ps_master::{First, Limits, Run};
 use ps_problem::{BuildError, Draft, Mark, Problem, Side, build};
 use std::alloc::Global;
 use std::test::*;
@@ -7,27 +8,6 @@ const LIMITS: Limits = Limits {
     pivots: 1_000,
     conflicts: 20_000,
 };
-
-// The problem of `P(a) = 1/3; P(a) = 2/3;`.
-fn contradictory(alloc: Global) -> Result<Problem, BuildError> {
-    let mut draft = Draft::new(alloc);
-    let a = draft.name(b"a")?;
-    draft.mark(Mark::Name(a))?;
-    draft.end_formula()?;
-    draft.sentence(0, None, Side::Exactly, 1, 3, None)?;
-    draft.sentence(0, None, Side::Exactly, 2, 3, None)?;
-    build(alloc, &draft)
-}
-
-// The problem of `P(a) = 1/3;`.
-fn single(alloc: Global) -> Result<Problem, BuildError> {
-    let mut draft = Draft::new(alloc);
-    let a = draft.name(b"a")?;
-    draft.mark(Mark::Name(a))?;
-    draft.end_formula()?;
-    draft.sentence(0, None, Side::Exactly, 1, 3, None)?;
-    build(alloc, &draft)
-}
 
 // The problem of `P(a) = 1/3; P(a) >= 1/2; P(a) = 2/3;`.
 fn three(alloc: Global) -> Result<Problem, BuildError> {

@@ -1,0 +1,11 @@
+use Rattle.ps_solver_tests.proofs.Ratios.{third, half, two_thirds}
+use Rattle.ps_solver_tests.proofs.master.three.Goals as goal
+
+pub sentence-requires-clause-value : goal.sentence-requires-clause-value
+sentence-requires-clause-value c = third
+
+pub sentence-requires-2-clause-value : goal.sentence-requires-2-clause-value
+sentence-requires-2-clause-value c = half
+
+pub sentence-requires-3-clause-value : goal.sentence-requires-3-clause-value
+sentence-requires-3-clause-value c = two_thirds
