@@ -20,6 +20,3 @@ mod words;
 
 pub use error::LineError;
 pub use line::read_line;
-
-#[cfg(test)]
-mod tests;

@@ -29,10 +29,3 @@ pub use sink::ProofSink;
 pub use step_reader::read_step;
 pub use text::{write_goal, write_step};
 pub use text_log::TextLog;
-
-#[cfg(test)]
-mod goal_tests;
-#[cfg(test)]
-mod step_tests;
-#[cfg(test)]
-mod tests;

@@ -1,5 +1,5 @@
 // The expected answers come from another reader, by regular expressions over unbounded integers.
-use crate::{GoalError, read_goal};
+use ps_log::{GoalError, read_goal};
 use ps_pb::{Constraint, Lit};
 use std::alloc::Global;
 

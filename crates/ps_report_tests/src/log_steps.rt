@@ -1,5 +1,5 @@
 // The expected answers come from another reader, by regular expressions over unbounded integers.
-use crate::{StepError, read_step};
+use ps_log::{StepError, read_step};
 use ps_pb::{Lit, Step};
 use std::alloc::Global;
 

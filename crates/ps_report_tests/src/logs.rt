@@ -2,10 +2,10 @@ ghost use Rattle.std.specs.Prelude.{◌≡◌, ◌≤◌, [], IsTrue, OnOk, IfEr
 ghost use Rattle.ps_log.specs.Logs.{HasCause};
 ghost use Rattle.ps_log.specs.Limits.{IsGoalWithin, IsStepWithin};
 
-use crate::{
+use ps_io::{Lines, List, MemSink};
+use ps_log::{
     HeldLog, LogError, ProofSink, TextLog, is_goal_within, is_step_within, write_goal, write_step,
 };
-use ps_io::{Lines, List, MemSink};
 use ps_pb::{Constraint, Lit, Step, Terms};
 use std::alloc::Global;
 

@@ -1,0 +1,11 @@
+//! Tests of the crates that write and read reports: logs, lines, whole reports.
+#![tactic(auto)]
+
+#[cfg(test)]
+mod log_goals;
+#[cfg(test)]
+mod log_steps;
+#[cfg(test)]
+mod logs;
+#[cfg(test)]
+mod report_lines;
