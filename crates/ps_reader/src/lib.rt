@@ -9,6 +9,3 @@ mod report;
 mod traces;
 
 pub use report::read_report;
-
-#[cfg(test)]
-mod tests;

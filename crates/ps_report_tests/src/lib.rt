@@ -9,3 +9,7 @@ mod log_steps;
 mod logs;
 #[cfg(test)]
 mod report_lines;
+#[cfg(test)]
+mod report_reading;
+#[cfg(test)]
+mod report_writing;

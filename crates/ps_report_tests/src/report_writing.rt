@@ -1,13 +1,13 @@
 ghost use Rattle.std.specs.Prelude.{◌≡◌, []};
 ghost use Rattle.ps_io.specs.Lines.{text_of};
 
-use crate::{
-    write_bound, write_dual_head, write_end, write_model_head, write_open_conflicts,
-    write_open_wide, write_query, write_report_head,
-};
 use ps_frac::{Fraction, Op};
 use ps_io::{Lines, MemSink, Sink, WriteFault};
 use ps_pool::Col;
+use ps_report::{
+    write_bound, write_dual_head, write_end, write_model_head, write_open_conflicts,
+    write_open_wide, write_query, write_report_head,
+};
 use ps_table::{Place, TableCol, WideAt};
 use std::alloc::Global;
 

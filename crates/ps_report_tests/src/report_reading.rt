@@ -1,5 +1,5 @@
-use crate::read_report;
 use ps_answer::{LineKind, ReportError};
+use ps_reader::read_report;
 use std::alloc::Global;
 
 // A report with a verdict, one query and its two sides.
