@@ -16,6 +16,3 @@ pub use propagation::{Effect, forces, is_forced, propagate, slack};
 pub use step::{Hints, Lits, Step, Steps};
 pub use terms::{Terms, WeightedLits};
 pub use weights::{clause, from_weights};
-
-#[cfg(test)]
-mod tests;

@@ -1,6 +1,8 @@
-//! Tests of the crates that write and read reports: logs, lines, whole reports.
+//! Tests of the crates that write and read reports: constraints, logs, lines, whole reports.
 #![tactic(auto)]
 
+#[cfg(test)]
+mod constraints;
 #[cfg(test)]
 mod log_goals;
 #[cfg(test)]

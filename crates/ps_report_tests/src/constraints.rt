@@ -1,4 +1,4 @@
-use crate::{Assignment, Constraint, Lit, Terms, forces, from_weights, slack};
+use ps_pb::{Assignment, Constraint, Lit, Terms, forces, from_weights, slack};
 use std::alloc::Global;
 use std::test::Fail;
 
