@@ -13,6 +13,3 @@ mod value;
 pub use laws::the_machine_stands_for_a_derivation;
 pub use parse_error::ParseError;
 pub use parser::Parser;
-
-#[cfg(test)]
-mod tests;

@@ -30,6 +30,3 @@ pub use ps_meaning::Side;
 pub use query::{Queries, Query};
 pub use row::{given_indicator, row_value};
 pub use sentence::{Sentence, Sentences};
-
-#[cfg(test)]
-mod tests;

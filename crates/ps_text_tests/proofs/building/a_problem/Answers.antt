@@ -1,7 +1,7 @@
 use Rattle.std.proofs.Common.{refl, arith}
 use Rattle.std.proofs.lemmas.Nat.Gcd.{IsGcd-from_mod, IsGcd-from_zero}
 use Rattle.ps_problem.specs.Drafts.{IsRatio}
-use Rattle.ps_problem.proofs.tests.a_problem.Goals as goal
+use Rattle.ps_text_tests.proofs.building.a_problem.Goals as goal
 
 half : IsRatio 1 2
 half = record {

@@ -2,8 +2,8 @@
 mod reading;
 
 use self::reading::parsed;
-use crate::{ParseError, Parser};
 use ps_formula::Node;
+use ps_parse::{ParseError, Parser};
 use ps_problem::{Problem, Side, build};
 use ps_text::{Part, ReadKind, What};
 use std::alloc::Global;

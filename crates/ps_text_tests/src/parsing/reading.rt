@@ -8,8 +8,8 @@ ghost use Rattle.ps_parse.specs.Standing.{IsParsed};
 ghost use Rattle.ps_parse.specs.Taking.{IsKept, CountsAtMost};
 ghost use Rattle.ps_parse.specs.Kept.{machine_of};
 
-use crate::{ParseError, Parser};
 use ps_lex::{Lexer, Position, Token};
+use ps_parse::{ParseError, Parser};
 use std::alloc::Global;
 
 fn has_room(lexer: &Lexer) -> bool
@@ -56,7 +56,7 @@ fn is_kept(token: &Token) -> bool
 }
 
 // Takes a token, if there is one.
-#[tactic(auto, using(crate::proofs::Counting::counts_more))]
+#[tactic(auto, using(ps_parse::proofs::Counting::counts_more))]
 fn feed(parser: &mut Parser, token: Option<Token>, place: Position) -> Result<(), ParseError>
     requires derivation { IsParsed (machine_of parser.old) }
     requires room { CountsAtMost 4294967294 (machine_of parser.old) }
@@ -74,7 +74,7 @@ fn feed(parser: &mut Parser, token: Option<Token>, place: Position) -> Result<()
 }
 
 /// The parser behind all tokens of a short text, or why one of them is refused.
-#[tactic(auto, using(crate::proofs::Taken::first_parsed, crate::proofs::Counting::first_counts))]
+#[tactic(auto, using(ps_parse::proofs::Taken::first_parsed, ps_parse::proofs::Counting::first_counts))]
 pub(crate) fn parsed(alloc: Global, text: &[u8]) -> Result<Parser, ParseError> {
     let mut parser = Parser::new(alloc);
     let mut lexer = Lexer::new();

@@ -1,7 +1,8 @@
+//! A problem and its numbers, worked out by hand, and the most bounds of one.
 ghost use Rattle.std.specs.Prelude.{◌≡◌, IfOk, length};
 
-use super::*;
 use ps_io::NoMemory;
+use ps_problem::{Bound, BuildError, Draft, Mark, Problem, Query, Side, build};
 use std::alloc::Global;
 use std::test::*;
 
