@@ -8,6 +8,3 @@ mod sought;
 
 pub use pricer::Pricer;
 pub use pricing::Pricing;
-
-#[cfg(test)]
-mod tests;

@@ -6,6 +6,3 @@ mod starting;
 
 pub use ps_master::{Limits, MOST_PIVOTS};
 pub use solving::solve;
-
-#[cfg(test)]
-mod tests;

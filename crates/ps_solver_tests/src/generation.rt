@@ -1,4 +1,4 @@
-use crate::problems::{contradictory, single};
+use crate::problems::{CONTRADICTORY, SINGLE, problem};
 use ps_bland::Phase;
 use ps_claims::ClaimKind;
 use ps_columns::costs_for;
@@ -33,23 +33,23 @@ fn ended(alloc: Global, problem: &Problem, kept: &[bool]) -> Result<(End, u32, u
 
 // Each world is a column, and a pivot brings it into the basis.
 fn is_feasible(alloc: Global) -> bool {
-    match single(alloc) {
-        Ok(problem) => match ended(alloc, &problem, &[true]) {
+    match problem(alloc, SINGLE) {
+        Some(problem) => match ended(alloc, &problem, &[true]) {
             Ok((End::Feasible, worlds, pivots)) => worlds == 2 && pivots == 2,
             Ok(_) | Err(_) => false,
         },
-        Err(_) => false,
+        None => false,
     }
 }
 
 // The bounds contradict each other: the steps of the dual refute that a world improves.
 fn is_refuted(alloc: Global) -> bool {
-    match contradictory(alloc) {
-        Ok(problem) => match ended(alloc, &problem, &[true, true]) {
+    match problem(alloc, CONTRADICTORY) {
+        Some(problem) => match ended(alloc, &problem, &[true, true]) {
             Ok((End::NoneAbove(dual), _, _)) => dual.head >= 1 && dual.steps.len() > 0,
             Ok(_) | Err(_) => false,
         },
-        Err(_) => false,
+        None => false,
     }
 }
 

@@ -6,4 +6,8 @@ mod generation;
 #[cfg(test)]
 mod master;
 #[cfg(test)]
+mod pricing;
+#[cfg(test)]
 mod problems;
+#[cfg(test)]
+mod query;

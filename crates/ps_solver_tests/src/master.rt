@@ -1,6 +1,6 @@
-use crate::problems::{contradictory, single};
+use crate::problems::{CONTRADICTORY, SINGLE, THREE, problem};
 use ps_master::{First, Limits, Run};
-use ps_problem::{BuildError, Draft, Mark, Problem, Side, build};
+use ps_problem::Problem;
 use std::alloc::Global;
 use std::test::*;
 
@@ -8,18 +8,6 @@ const LIMITS: Limits = Limits {
     pivots: 1_000,
     conflicts: 20_000,
 };
-
-// The problem of `P(a) = 1/3; P(a) >= 1/2; P(a) = 2/3;`.
-fn three(alloc: Global) -> Result<Problem, BuildError> {
-    let mut draft = Draft::new(alloc);
-    let a = draft.name(b"a")?;
-    draft.mark(Mark::Name(a))?;
-    draft.end_formula()?;
-    draft.sentence(0, None, Side::Exactly, 1, 3, None)?;
-    draft.sentence(0, None, Side::AtLeast, 1, 2, None)?;
-    draft.sentence(0, None, Side::Exactly, 2, 3, None)?;
-    build(alloc, &draft)
-}
 
 fn first_of(alloc: Global, problem: &Problem, kept: &[bool]) -> Option<First> {
     if problem.sentences().len() != kept.len() {
@@ -64,9 +52,9 @@ fn are_rows_of(rows: &[i128], kept: &[bool]) -> bool {
 #[test]
 fn a_single_sentence_is_reached(rt: HostRuntime) -> Result<(), Fail> {
     let alloc = rt.alloc();
-    let right = match single(alloc) {
-        Ok(problem) => is_reached(alloc, &problem, &[true]),
-        Err(_) => false,
+    let right = match problem(alloc, SINGLE) {
+        Some(problem) => is_reached(alloc, &problem, &[true]),
+        None => false,
     };
     assert!(rt; right);
     Ok(())
@@ -75,12 +63,12 @@ fn a_single_sentence_is_reached(rt: HostRuntime) -> Result<(), Fail> {
 #[test]
 fn sentences_that_contradict_each_other_end_with_a_dual(rt: HostRuntime) -> Result<(), Fail> {
     let alloc = rt.alloc();
-    let right = match contradictory(alloc) {
-        Ok(problem) => {
+    let right = match problem(alloc, CONTRADICTORY) {
+        Some(problem) => {
             is_nothing(alloc, &problem, &[true, true])
                 && is_reached(alloc, &problem, &[true, false])
         }
-        Err(_) => false,
+        None => false,
     };
     assert!(rt; right);
     Ok(())
@@ -89,12 +77,12 @@ fn sentences_that_contradict_each_other_end_with_a_dual(rt: HostRuntime) -> Resu
 #[test]
 fn bounds_that_are_left_out_have_multiplier_0(rt: HostRuntime) -> Result<(), Fail> {
     let alloc = rt.alloc();
-    let right = match three(alloc) {
-        Ok(problem) => {
+    let right = match problem(alloc, THREE) {
+        Some(problem) => {
             is_nothing(alloc, &problem, &[true, false, true])
                 && is_nothing(alloc, &problem, &[true, true, false])
         }
-        Err(_) => false,
+        None => false,
     };
     assert!(rt; right);
     Ok(())

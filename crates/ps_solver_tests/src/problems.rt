@@ -1,24 +1,21 @@
-//! Problems that the tests share.
-use ps_problem::{BuildError, Draft, Mark, Problem, Side, build};
+//! Problems that the tests share, by their texts.
+ghost use Rattle.std.specs.Prelude.{◌+◌, ◌<◌, ◌^◌, length};
+
+use ps_problem::Problem;
+use ps_read::read_whole;
 use std::alloc::Global;
 
-// The problem of `P(a) = 1/3; P(a) = 2/3;`.
-pub(crate) fn contradictory(alloc: Global) -> Result<Problem, BuildError> {
-    let mut draft = Draft::new(alloc);
-    let a = draft.name(b"a")?;
-    draft.mark(Mark::Name(a))?;
-    draft.end_formula()?;
-    draft.sentence(0, None, Side::Exactly, 1, 3, None)?;
-    draft.sentence(0, None, Side::Exactly, 2, 3, None)?;
-    build(alloc, &draft)
-}
+pub(crate) const SINGLE: &[u8] = b"psat 1; P(a) = 1/3; end;";
 
-// The problem of `P(a) = 1/3;`.
-pub(crate) fn single(alloc: Global) -> Result<Problem, BuildError> {
-    let mut draft = Draft::new(alloc);
-    let a = draft.name(b"a")?;
-    draft.mark(Mark::Name(a))?;
-    draft.end_formula()?;
-    draft.sentence(0, None, Side::Exactly, 1, 3, None)?;
-    build(alloc, &draft)
+pub(crate) const CONTRADICTORY: &[u8] = b"psat 1; P(a) = 1/3; P(a) = 2/3; end;";
+
+pub(crate) const THREE: &[u8] = b"psat 1; P(a) = 1/3; P(a) >= 1/2; P(a) = 2/3; end;";
+
+pub(crate) const ASKED: &[u8] = b"psat 1; P(a) >= 1/3; query P(a); end;";
+
+// The problem that a text spells.
+pub(crate) fn problem(alloc: Global, text: &[u8]) -> Option<Problem>
+    requires { length text.now + 1 < 2 ^ 32 }
+{
+    read_whole(alloc, text).ok()
 }

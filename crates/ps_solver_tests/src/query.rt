@@ -1,6 +1,7 @@
-use super::*;
+use crate::problems::{ASKED, problem};
 use ps_answer::{QueryAnswer, SideAnswer};
-use ps_problem::{BuildError, Draft, Mark, Problem, Side, build};
+use ps_problem::Problem;
+use ps_query::{Limits, solve};
 use std::alloc::Global;
 use std::test::*;
 
@@ -8,17 +9,6 @@ const LIMITS: Limits = Limits {
     pivots: 1_000,
     conflicts: 20_000,
 };
-
-// The problem of `P(a) >= 1/3; P(a) = ?;`.
-fn a_problem(alloc: Global) -> Result<Problem, BuildError> {
-    let mut draft = Draft::new(alloc);
-    let a = draft.name(b"a")?;
-    draft.mark(Mark::Name(a))?;
-    draft.end_formula()?;
-    draft.sentence(0, None, Side::AtLeast, 1, 3, None)?;
-    draft.query(0, None)?;
-    build(alloc, &draft)
-}
 
 fn is_value(side: &SideAnswer, over: i128, under: i128) -> bool {
     match side {
@@ -49,9 +39,9 @@ fn is_answered(alloc: Global, problem: &Problem) -> bool {
 #[test]
 fn a_query_has_its_bounds(rt: HostRuntime) -> Result<(), Fail> {
     let alloc = rt.alloc();
-    let right = match a_problem(alloc) {
-        Ok(problem) => is_answered(alloc, &problem),
-        Err(_) => false,
+    let right = match problem(alloc, ASKED) {
+        Some(problem) => is_answered(alloc, &problem),
+        None => false,
     };
     assert!(rt; right);
     Ok(())

@@ -1,24 +1,14 @@
 ghost use Rattle.std.specs.Prelude.{◌≡◌, ◌≤◌, IfOk, length, unsigned_abs};
 ghost use Rattle.ps_certificate.specs.Certificates.{IsSmallDual};
 
-use super::*;
+use crate::problems::{CONTRADICTORY, problem};
 use ps_answer::Dual;
 use ps_certificate::ClaimKind;
 use ps_io::{List, NoMemory};
-use ps_problem::{BuildError, Draft, Mark, Problem, Side, build};
+use ps_pricing::{Pricer, Pricing};
+use ps_problem::Problem;
 use std::alloc::Global;
 use std::test::*;
-
-// The problem of `P(a) = 1/3; P(a) = 2/3;`.
-fn a_problem(alloc: Global) -> Result<Problem, BuildError> {
-    let mut draft = Draft::new(alloc);
-    let a = draft.name(b"a")?;
-    draft.mark(Mark::Name(a))?;
-    draft.end_formula()?;
-    draft.sentence(0, None, Side::Exactly, 1, 3, None)?;
-    draft.sentence(0, None, Side::Exactly, 2, 3, None)?;
-    build(alloc, &draft)
-}
 
 // A dual of head 1 with this multiplier of the first bound, and 1 of the second.
 fn a_dual(alloc: Global, first: i128) -> Result<Dual, NoMemory>
@@ -81,9 +71,9 @@ fn is_priced(alloc: Global, problem: &Problem) -> bool {
 #[test]
 fn the_greatest_combination_is_found_or_refuted(rt: HostRuntime) -> Result<(), Fail> {
     let alloc = rt.alloc();
-    let right = match a_problem(alloc) {
-        Ok(problem) => is_priced(alloc, &problem),
-        Err(_) => false,
+    let right = match problem(alloc, CONTRADICTORY) {
+        Some(problem) => is_priced(alloc, &problem),
+        None => false,
     };
     assert!(rt; right);
     Ok(())
