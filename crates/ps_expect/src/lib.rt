@@ -10,6 +10,3 @@ mod state;
 pub use laws::kept_tokens_are_judged;
 pub use stack::Stack;
 pub use state::State;
-
-#[cfg(test)]
-mod tests;

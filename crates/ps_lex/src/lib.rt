@@ -11,8 +11,6 @@ mod mode;
 mod position;
 mod step;
 mod stepping;
-#[cfg(test)]
-mod tests;
 mod token;
 mod word;
 

@@ -12,6 +12,3 @@ pub use ps_text::What;
 pub use read_error::ReadError;
 pub use read_kind::ReadKind;
 pub use reading::{read_problem, read_whole};
-
-#[cfg(test)]
-mod tests;

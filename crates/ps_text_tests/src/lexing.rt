@@ -1,6 +1,6 @@
 //! Texts and their tokens, worked by hand.
 
-use super::*;
+use ps_lex::{Lexer, Numeral, Position, Token};
 use std::alloc::{AllocError, Global};
 use std::test::Fail;
 

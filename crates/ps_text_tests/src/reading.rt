@@ -1,5 +1,5 @@
 //! Texts worked out by hand from the grammar, the tables of refusals and the limits.
-use crate::{ReadError, ReadKind, What, read_problem, read_whole};
+use ps_read::{ReadError, ReadKind, What, read_problem, read_whole};
 use std::alloc::Global;
 use std::test::Fail;
 

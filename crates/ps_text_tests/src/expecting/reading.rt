@@ -3,7 +3,7 @@
 ghost use Rattle.std.specs.Prelude.{◌-◌, ◌^◌, IsTrue};
 ghost use Rattle.ps_lex.specs.Places.{IsWithin};
 
-use crate::State;
+use ps_expect::State;
 use ps_lex::{Lexer, Token};
 use ps_text::{Part, ReadKind};
 use std::alloc::Global;
