@@ -11,6 +11,3 @@ mod writing;
 
 pub use laws::equal_texts_are_of_equal_problems;
 pub use writing::canonical_text;
-
-#[cfg(test)]
-mod tests;

@@ -5,6 +5,3 @@ mod combining;
 
 pub use combining::{combination, combination_of};
 pub use ps_claims::{ClaimKind, Combination};
-
-#[cfg(test)]
-mod tests;

@@ -6,6 +6,3 @@ mod table_dual;
 
 pub use modelled::model_of;
 pub use table_dual::dual_of;
-
-#[cfg(test)]
-mod tests;

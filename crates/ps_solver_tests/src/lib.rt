@@ -2,6 +2,10 @@
 #![tactic(auto)]
 
 #[cfg(test)]
+mod certificate;
+#[cfg(test)]
+mod ends;
+#[cfg(test)]
 mod generation;
 #[cfg(test)]
 mod master;
@@ -11,3 +15,5 @@ mod pricing;
 mod problems;
 #[cfg(test)]
 mod query;
+#[cfg(test)]
+mod tables;

@@ -13,6 +13,8 @@ pub(crate) const THREE: &[u8] = b"psat 1; P(a) = 1/3; P(a) >= 1/2; P(a) = 2/3; e
 
 pub(crate) const ASKED: &[u8] = b"psat 1; P(a) >= 1/3; query P(a); end;";
 
+pub(crate) const CONDITIONAL: &[u8] = b"psat 1; P(!a given b) in [1/4, 1/2]; P(!a) >= 1/2; end;";
+
 // The problem that a text spells.
 pub(crate) fn problem(alloc: Global, text: &[u8]) -> Option<Problem>
     requires { length text.now + 1 < 2 ^ 32 }

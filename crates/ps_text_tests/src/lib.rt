@@ -5,6 +5,8 @@
 #[cfg(test)]
 mod building;
 #[cfg(test)]
+mod canonical;
+#[cfg(test)]
 mod expecting;
 #[cfg(test)]
 mod lexing;

@@ -5,9 +5,10 @@ ghost use Rattle.ps_table.specs.Pricing.{HasCosts};
 ghost use Rattle.ps_bland.specs.Ready.{HasValues};
 ghost use Rattle.ps_ends.specs.Models.{AreApart};
 
-use super::*;
+use crate::tables::are_values_at_least_zero;
 use ps_answer::{Dual, Model, Weighted};
 use ps_claims::ClaimKind;
+use ps_ends::{dual_of, model_of};
 use ps_formula::World;
 use ps_io::List;
 use ps_pool::{Col, Pool};
@@ -95,17 +96,6 @@ fn some_costs(alloc: Global) -> Option<Costs> {
         homes: list_of(alloc, &[0, 0])?,
         worlds: list_of(alloc, &[1, 0, 0])?,
     })
-}
-
-fn are_values_at_least_zero(table: &Table) -> bool
-    ensures { IsTrue result → HasValues table.now }
-{
-    for row in 0..table.rows() {
-        if table.value(row).numerator() < 0 {
-            return false;
-        }
-    }
-    true
 }
 
 fn are_first_and_third(table: &Table) -> bool

@@ -1,29 +1,16 @@
 ghost use Rattle.std.specs.Prelude.{◌≡◌, IfOk, length};
 ghost use Rattle.ps_certificate.specs.Certificates.{IsSmallDual};
 
-use super::*;
+use crate::problems::{CONDITIONAL, problem};
 use ps_answer::Dual;
+use ps_certificate::{ClaimKind, combination};
 use ps_io::{List, NoMemory};
 use ps_pb::Lit;
-use ps_problem::{BuildError, Draft, Mark, Problem, Side, build};
+use ps_problem::Problem;
 use std::alloc::Global;
 use std::test::*;
 
-// The problem of `P(!a given b) in [1/4, 1/2]; P(!a) >= 1/2;`: node 0 is `a`, 1 is `!a`, 2 is `b`, 3 is `!a & b`.
-fn a_problem(alloc: Global) -> Result<Problem, BuildError> {
-    let mut draft = Draft::new(alloc);
-    let a = draft.name(b"a")?;
-    draft.mark(Mark::Name(a))?;
-    draft.mark(Mark::Not)?;
-    draft.end_formula()?;
-    let b = draft.name(b"b")?;
-    draft.mark(Mark::Name(b))?;
-    draft.end_formula()?;
-    draft.sentence(0, Some(1), Side::AtLeast, 1, 4, Some((1, 2)))?;
-    draft.sentence(0, None, Side::AtLeast, 1, 2, None)?;
-    build(alloc, &draft)
-}
-
+// Over `P(!a given b) in [1/4, 1/2]; P(!a) >= 1/2;`, where node 0 is `a`, 1 is `!a`, 2 is `b`, 3 is `!a & b`.
 fn a_dual(alloc: Global) -> Result<Dual, NoMemory>
     ensures small { IfOk result IsSmallDual }
     ensures rows { IfOk result (λ d. length d.rows ≡ 3) }
@@ -113,8 +100,8 @@ fn are_combined(alloc: Global, problem: &Problem, dual: &Dual) -> bool
 #[test]
 fn terms_stand_in_order(rt: HostRuntime) -> Result<(), Fail> {
     let alloc = rt.alloc();
-    let right = match (a_problem(alloc), a_dual(alloc)) {
-        (Ok(problem), Ok(dual)) => are_combined(alloc, &problem, &dual),
+    let right = match (problem(alloc, CONDITIONAL), a_dual(alloc)) {
+        (Some(problem), Ok(dual)) => are_combined(alloc, &problem, &dual),
         _ => false,
     };
     assert!(rt; right);
