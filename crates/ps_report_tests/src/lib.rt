@@ -1,4 +1,4 @@
-//! Tests of the crates that write and read reports: constraints, logs, lines, whole reports.
+//! Tests of the crates that write, read and judge reports: constraints, logs, lines, whole reports, claims.
 #![tactic(auto)]
 
 #[cfg(test)]
@@ -15,3 +15,5 @@ mod report_lines;
 mod report_reading;
 #[cfg(test)]
 mod report_writing;
+#[cfg(test)]
+mod validity;

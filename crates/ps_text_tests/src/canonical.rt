@@ -8,7 +8,7 @@ const SENTENCES_FIRST: [(&[u8], &[u8]); 1] = [(
     b"psat 1;\nP(!a given b) in [1/4, 1/2];\nP(!a) <= 1;\nquery P(b);\nend;\n",
 )];
 
-const NEEDED: [(&[u8], &[u8]); 4] = [
+const NEEDED: [(&[u8], &[u8]); 5] = [
     (
         b"psat 1; P((a -> a) -> a) = 1; end;",
         b"psat 1;\nP((a -> a) -> a) = 1;\nend;\n",
@@ -25,9 +25,13 @@ const NEEDED: [(&[u8], &[u8]); 4] = [
         b"psat 1; P(a & (b & (c | d))) = 1; end;",
         b"psat 1;\nP(a & (b & (c | d))) = 1;\nend;\n",
     ),
+    (
+        b"psat 1; P(a <-> (b <-> c)) = 1; end;",
+        b"psat 1;\nP(a <-> (b <-> c)) = 1;\nend;\n",
+    ),
 ];
 
-const NOT_NEEDED: [(&[u8], &[u8]); 3] = [
+const NOT_NEEDED: [(&[u8], &[u8]); 4] = [
     (
         b"psat 1; P(a <-> (a | !a)) >= 1; end;",
         b"psat 1;\nP(a <-> a | !a) >= 1;\nend;\n",
@@ -35,6 +39,10 @@ const NOT_NEEDED: [(&[u8], &[u8]); 3] = [
     (
         b"psat 1; P(((a & b) & c) | (!((!d)))) = 1; end;",
         b"psat 1;\nP(a & b & c | !!d) = 1;\nend;\n",
+    ),
+    (
+        b"psat 1; P((a <-> b) <-> c) = 1; end;",
+        b"psat 1;\nP(a <-> b <-> c) = 1;\nend;\n",
     ),
     (
         b"psat 1; P((true)->((false))) = 1; end;",
@@ -48,8 +56,8 @@ const ARROWS: [(&[u8], &[u8]); 2] = [
         b"psat 1;\nP(a & b -> c -> !(a | b)) = 1/2;\nend;\n",
     ),
     (
-        b"psat 1; P(a -> (b -> c)) = 1/2; P((a <-> b) <-> c) = 1/2; P(a <-> (b <-> c)) = 1/2; end;",
-        b"psat 1;\nP(a -> b -> c) = 1/2;\nP(a <-> b <-> c) = 1/2;\nP(a <-> (b <-> c)) = 1/2;\nend;\n",
+        b"psat 1; P(a -> (b -> c)) = 1/2; end;",
+        b"psat 1;\nP(a -> b -> c) = 1/2;\nend;\n",
     ),
 ];
 
