@@ -9,7 +9,9 @@ use ps_table::WideAt;
 /// A world and its weight.
 #[derive(Drop)]
 pub struct Weighted {
+    /// The weight, to be divided by the total of the model.
     pub weight: i128,
+    /// The truth values of the atoms.
     pub world: World,
 }
 
@@ -19,15 +21,18 @@ pub type Worlds = List<Weighted>;
 /// A distribution: each world has the probability `weight/total`.
 #[derive(Drop)]
 pub struct Model {
+    /// The sum of the weights.
     pub total: i128,
+    /// The worlds that have a weight.
     pub worlds: Worlds,
 }
 
 /// A multiplier for each bound of a problem, in their order.
 pub type Multipliers = List<i128>;
 
-/// A multiplier for each bound, the number of the evidence (`head`) and of the query (`top`), and the steps that refute
-/// that their combination is above 0 in some world (linear-programming duality, with the refutation of a pricing problem).
+/// A multiplier for each bound, the number of the evidence (`head`) and of the query (`top`), and
+/// the steps that refute that their combination is above 0 in some world (linear-programming
+/// duality, with the refutation of a pricing problem).
 #[derive(Drop)]
 pub struct Dual {
     pub top: i128,
@@ -86,7 +91,8 @@ pub enum QueryAnswer {
         upper: SideAnswer,
         upper_trace: Trace,
     },
-    /// What shows that no distribution that meets the sentences gives the evidence positive probability.
+    /// What shows that no distribution that meets the sentences gives the evidence positive
+    /// probability.
     Impossible(Dual),
     Open(Cause),
 }

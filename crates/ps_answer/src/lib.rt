@@ -1,4 +1,5 @@
-//! Answers with their certificates, and the text of a report: what it is, and which line of other bytes is at fault.
+//! Answers with their certificates, and the text of a report: what it is, and which line of other
+//! bytes is at fault.
 #![tactic(auto)]
 
 mod answer;

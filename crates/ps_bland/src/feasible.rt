@@ -9,7 +9,7 @@ use crate::columns::is_artificial;
 use crate::phase::Phase;
 use ps_table::Table;
 
-/// Whether a row has no artificial column above 0.
+/// Whether a row has value 0, or a basic column that isn't artificial.
 fn is_row_feasible(table: &Table, row: u32) -> bool
     requires { row < rows_of table.now }
     ensures value { IsTrue result ↔ IsRowFeasible table.now row }

@@ -15,8 +15,9 @@ use ps_pb::Lit;
 use ps_problem::{Bound, Problem};
 use std::alloc::Global;
 
-/// The combination whose value in a world is the claim's and the sum of the bounds' rows there, each times its
-/// multiplier: its terms are those of the claim, then of each bound formula and condition together, then the condition.
+/// The combination whose value in a world is the claim's and the sum of the bounds' rows there,
+/// each times its multiplier: its terms are those of the claim, then of each bound formula and
+/// condition together, then the condition.
 pub fn combination(
     alloc: Global,
     problem: &Problem,

@@ -1,9 +1,12 @@
 //! What a dual shows.
 
-/// What a dual shows: that no distribution is allowed, that a value is a lower bound of a query, or that it is an upper one.
+/// What a dual shows.
 #[derive(Clone, Copy, PartialEq, Eq, Debug, Drop)]
 pub enum ClaimKind {
+    /// That no distribution is allowed that gives the evidence positive probability.
     Nothing,
+    /// That a value is a lower bound of a query.
     Lower,
+    /// That a value is an upper bound of a query.
     Upper,
 }

@@ -1,7 +1,8 @@
 //! Combinations of a claim and bounds.
 use ps_pb::WeightedLits;
 
-/// A whole number and weighted literals: in an assignment its value is the number and the weights of the true literals.
+/// A whole number and weighted literals: in an assignment its value is the number and the weights
+/// of the true literals.
 #[derive(Drop)]
 pub struct Combination {
     pub terms: WeightedLits,

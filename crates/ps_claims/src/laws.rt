@@ -7,9 +7,9 @@ ghost use Rattle.ps_claims.specs.Laws.{ValidAnswersAreRight};
 ghost use Rattle.ps_claims.specs.Laws.{ValidAnswersHaveValidClaims, AnswersAreValidOrRefused};
 ghost use Rattle.ps_claims.specs.Laws.{ValidAnswersAreNotRefused};
 
-/// Weak duality. Where no multiplier is of the wrong sign and the combination is above 0 in no world, what a dual's head
-/// says is true of every distribution: none is allowed, even by those bounds alone whose multiplier isn't 0, or the
-/// query's probability is on its side of the value.
+/// Weak duality. Where no multiplier is of the wrong sign and the combination is above 0 in no
+/// world, what a dual's head says is true of every distribution: none is allowed, even by those
+/// bounds alone whose multiplier isn't 0, or the query's probability is on its side of the value.
 pub fn duals_bound_probabilities()
     ensures nothing { DualsExcludeAll }
     ensures kept { KeptBoundsExcludeAll }
@@ -17,21 +17,23 @@ pub fn duals_bound_probabilities()
     ensures upper { DualsBoundAbove }
 {}
 
-/// A combination over nodes has at a world's extension the value of the combination in the world, and its goal is met
-/// there exactly where this is at least 1. With numbers of at most 2^90 in size, its own sum in size to at most 2^120.
+/// A combination over nodes has at a world's extension the value of the combination in the world,
+/// and its goal is met there exactly where this is at least 1. With numbers of at most 2^90 in
+/// size, its own sum in size to at most 2^120.
 pub fn combinations_are_sums()
     ensures value { CombinationsAreSums }
     ensures size { CombinationsAreSmall }
     ensures goal { GoalsSayAtLeastOne }
 {}
 
-/// Where no multiplier is of the wrong sign and steps refute the goal of a combination, the combination is above 0 in no
-/// world.
+/// Where no multiplier is of the wrong sign and steps refute the goal of a combination, the
+/// combination is above 0 in no world.
 pub fn refuted_goals_bound_combinations()
     ensures refuted { RefutedGoalsBoundCombinations }
 {}
 
-/// Either nothing is wrong with a dual that has a multiplier for each bound, or there is a first fault, never both.
+/// Either nothing is wrong with a dual that has a multiplier for each bound, or there is a first
+/// fault, never both.
 pub fn duals_are_faultless_or_not()
     ensures either { DualsAreFaultlessOrFaulty }
     ensures never_both { FaultlessDualsHaveNoFault }
@@ -47,8 +49,8 @@ pub fn valid_answers_are_right()
     ensures right { ValidAnswersAreRight }
 {}
 
-/// An answer is valid where it has its parts and each of its claims is valid, and then it is refused for no fault.
-/// Where no weight is below 0 it is valid or refused.
+/// An answer is valid where it has its parts and each of its claims is valid, and then it is
+/// refused for no fault. Where no weight is below 0 it is valid or refused.
 pub fn valid_claims_have_no_fault()
     ensures claims { ValidAnswersHaveValidClaims }
     ensures either { AnswersAreValidOrRefused }

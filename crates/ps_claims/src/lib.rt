@@ -1,4 +1,5 @@
-//! The words in which contracts speak of answers to a problem: when they are right, and when their certificates are valid.
+//! The words in which contracts speak of answers to a problem: when they are right, and when their
+//! certificates are valid.
 #![tactic(auto)]
 
 mod claim_kind;

@@ -39,7 +39,7 @@ impl Model for ClauseForm {
 }
 
 impl ClauseForm {
-    /// Without clauses; each variable is an atom's.
+    /// The form of so many variables, each an atom's, without clauses.
     pub fn new(alloc: Global, variables: u32) -> ClauseForm
         requires { variables ≤ most_variables }
         ensures { result ≡ empty_form variables }
@@ -106,6 +106,7 @@ impl ClauseForm {
         self.clauses.push(constraint)
     }
 
+    /// An equal form.
     pub fn copy(&self, alloc: Global) -> Result<ClauseForm, NoMemory>
         ensures { IfOk result (λ f. f ≡ self.now) }
     {

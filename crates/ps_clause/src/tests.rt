@@ -1,5 +1,5 @@
-//! What no clause says: that calls succeed where there is memory. And the clauses of an implication,
-//! and the world of its atoms, by hand.
+//! What no clause says: that calls succeed where there is memory. And the clauses of an
+//! implication, and the world of its atoms, by hand.
 ghost use Rattle.std.specs.Prelude.{◌≤◌, length, All, OnOk, IfOk};
 ghost use Rattle.ps_formula.specs.Nodes.{Fits, AtomBelow};
 ghost use Rattle.ps_pb.specs.Limits.{most_variables};

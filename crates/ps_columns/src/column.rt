@@ -19,8 +19,8 @@ fn entry(values: &[bool], bound: &Bound) -> i64
     }
 }
 
-/// The column of a world, by the truth values of the nodes: whether the evidence is true, and the entry of each
-/// bound's row.
+/// The column of a world, by the truth values of the nodes: whether the evidence is true, and the
+/// entry of each bound's row.
 pub fn column_of(
     alloc: Global,
     values: &[bool],

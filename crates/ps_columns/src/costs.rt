@@ -32,8 +32,8 @@ fn unit(values: &[bool], node: u32) -> i8
     if values[node as usize] { 1 } else { 0 }
 }
 
-/// The cost of a world, by the truth values of the nodes: the sides make the query, whose node with its evidence is
-/// `both`, as small or as great as they can.
+/// The cost of a world, by the truth values of the nodes: the sides make the query, whose node with
+/// its evidence is `both`, as small or as great as they can.
 pub fn world_cost(phase: Phase, both: u32, values: &[bool]) -> i8
     requires { phase ≢ Phase.One → HasNode values.now both }
     ensures value { result ≡ cost_over phase both values.now }

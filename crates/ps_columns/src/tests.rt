@@ -17,7 +17,8 @@ const BOUND: Bound = Bound {
     den: 4,
 };
 
-// Truth values of the nodes, whether the evidence `b` is true, and the bound's entry: -4*[a & b] + [b].
+// Truth values of the nodes, whether the evidence `b` is true, and the bound's entry:
+// -4*[a & b] + [b].
 const COLUMNS: [([bool; 3], i64, i64); 3] = [
     ([true, true, true], 1, -3),
     ([false, true, false], 1, 1),

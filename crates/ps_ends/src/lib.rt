@@ -1,4 +1,5 @@
-//! What a table shows at the end of a phase: the distribution of its values, and the dual of its multipliers.
+//! What a table shows at the end of a phase: the distribution of its values, and the dual of its
+//! multipliers.
 #![tactic(auto)]
 
 mod modelled;

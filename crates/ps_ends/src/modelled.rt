@@ -110,8 +110,8 @@ fn weighed_worlds(
     Ok(worlds)
 }
 
-/// The distribution of a table: the worlds of its pool that are basic with a value above 0, in their order, each with its
-/// value times the least common multiple of the denominators.
+/// The distribution of a table: the worlds of its pool that are basic with a value above 0, in
+/// their order, each with its value times the least common multiple of the denominators.
 pub fn model_of(alloc: Global, table: &Table, pool: &Pool) -> Result<Model, TableError>
     requires values { HasValues table.now }
     requires apart { AreApart table.now }

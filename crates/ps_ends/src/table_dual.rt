@@ -70,8 +70,9 @@ fn bound_rows(alloc: Global, bounds: &[Bound], numbers: &[i128]) -> Result<List<
     Ok(rows)
 }
 
-/// The dual of a table, without steps: the multipliers of its rows, each times the least common multiple of their
-/// denominators. Row 0 gives the head, and the row of each bound the bound's multiplier.
+/// The dual of a table, without steps: the multipliers of its rows, each times the least common
+/// multiple of their denominators. Row 0 gives the head, and the row of each bound the bound's
+/// multiplier.
 pub fn dual_of(
     alloc: Global,
     bounds: &[Bound],

@@ -7,8 +7,8 @@ pub fn reached_bounds_are_tight()
     ensures upper { NoUpperBoundIsBelowReached }
 {}
 
-/// A distribution that gives the evidence a weight above 0 gives a query a value exactly where the quotient of the two
-/// weights is the value.
+/// A distribution that gives the evidence a weight above 0 gives a query a value exactly where the
+/// quotient of the two weights is the value.
 pub fn reached_values_are_quotients()
     ensures reached { ReachedValuesAreQuotients }
 {}

@@ -1,5 +1,6 @@
-//! The words in which contracts say what a problem's sentences entail: which distributions are allowed, when bounds are
-//! inconsistent and evidence impossible, what bounds a query's probability, and when an answer is right.
+//! The words in which contracts say what a problem's sentences entail: which distributions are
+//! allowed, when bounds are inconsistent and evidence impossible, what bounds a query's
+//! probability, and when an answer is right.
 #![tactic(auto)]
 
 mod laws;

@@ -149,7 +149,8 @@ impl State {
     }
 
     /// Why a token is refused here, if it is: because it is too long a word, or else isn't
-    /// expected, or else is no version, no probability, or one nesting too many.
+    /// expected, or else is no version, no probability, or one nesting too many. Behind a whole
+    /// text it isn't asked.
     #[tactic(auto, unfolding(ps_text::specs::ExpectedTokens::refusal))]
     pub fn refusal(&self, token: &Token) -> Option<ReadKind>
         ensures { result ≡ refusal (state_of self.now) (token_of token.now) }

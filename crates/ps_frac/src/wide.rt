@@ -8,10 +8,15 @@ use thiserror::Error;
 /// The operations that can be refused.
 #[derive(Clone, Copy, PartialEq, Eq, Debug, Drop)]
 pub enum Op {
+    /// A sum.
     Add,
+    /// A difference.
     Sub,
+    /// A product.
     Mul,
+    /// A quotient.
     Div,
+    /// A least common multiple.
     Lcm,
 }
 

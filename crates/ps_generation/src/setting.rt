@@ -193,6 +193,7 @@ impl<'p> Setting<'p> {
         let _sound = self.pricer.bounds();
         self.pricer.price(alloc, kind, dual)
     }
+
     /// A dual of the kept bounds as one of the whole problem, with multiplier 0 at each other.
     pub fn spread(&self, alloc: Global, dual: Dual) -> Result<Dual, NoMemory>
         requires rows { length dual.rows ≡ length (bounds_in self.now.subject.parts.sentences) }

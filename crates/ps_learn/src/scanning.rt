@@ -17,6 +17,7 @@ use ps_trail::Trail;
 #[derive(Drop)]
 pub enum Scan {
     Violated(u64),
+    /// The constraint of this id forces the literal.
     Forced(Lit, u64),
     Settled,
 }

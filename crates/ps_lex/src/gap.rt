@@ -85,7 +85,8 @@ impl Gap {
         (self.along(count), left)
     }
 
-    /// Passes the blanks and comments at the front of some bytes, and gives the bytes that are left.
+    /// Passes the blanks and comments at the front of some bytes, and gives the bytes that are
+    /// left.
     pub(crate) fn pass(self, bytes: &[u8]) -> (Gap, &[u8])
         requires room { HasRoom (length bytes.now) self.here }
         ensures passes { Passes (gap_state self.is_comment self.began self.here) bytes.now

@@ -113,10 +113,10 @@ impl Lexer {
         ended
     }
 
-    /// Passes the bytes at the front of some that go on with what the lexer stands in, and gives the
-    /// bytes that are left: the blanks and comments outside of tokens, or the bytes of a word. It is
-    /// as if each byte that is passed were taken: no token would be told. Lines and columns go up
-    /// to 2^32 - 1.
+    /// Passes the bytes at the front of some that go on with what the lexer stands in, and gives
+    /// the bytes that are left: the blanks and comments outside of tokens, or the bytes of a word.
+    /// It is as if each byte that is passed were taken: no token would be told. Lines and columns
+    /// go up to 2^32 - 1.
     pub fn pass<'a>(&mut self, bytes: &'a [u8]) -> &'a [u8]
         requires room { HasRoom (length bytes.now) self.old.here }
         ensures passes { Passes self.old bytes.now self.new result.now }

@@ -6,16 +6,21 @@ use ps_text::Symbol;
 /// kept what counts.
 #[derive(Clone, Copy, Debug, PartialEq, Eq)]
 pub enum Numeral {
+    /// Digits alone.
     Whole(Digits),
+    /// The digits before the `/` and those behind it.
     Quotient { over: Digits, under: Digits },
-    /// All digits together, and how many of them stand behind the point, 7 for more.
+    /// All digits together, and how many of them stand behind the point, `MANY_DIGITS` for more.
     Decimal { all: Digits, decimals: u8 },
 }
 
 /// A token.
 #[derive(Debug, Drop)]
 pub enum Token {
+    /// A letter, with the letters, digits and `_` behind it.
     Word(Word),
+    /// A number.
     Number(Numeral),
+    /// A symbol.
     Sign(Symbol),
 }

@@ -2,6 +2,7 @@
 use ps_io::NoMemory as Lack;
 use thiserror::Error;
 
+/// Why a log refuses.
 #[derive(Clone, Copy, Debug, PartialEq, Eq, Error, Drop)]
 pub enum LogError {
     /// A write failed.

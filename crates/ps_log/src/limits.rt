@@ -31,8 +31,8 @@ pub fn is_step_within(s: &Step) -> bool
         && are_ids(s.hints.as_slice())
 }
 
-/// Whether a goal is within the limits: at most 1,024 terms. Each constraint is, since its variables
-/// rise up to 1,024. The line of such a goal is shorter than 65,536 bytes.
+/// Whether a goal is within the limits: at most 1,024 terms. Each constraint is, since its
+/// variables rise up to 1,024. The line of such a goal is shorter than 65,536 bytes.
 #[tactic(auto, using(crate::proofs::Lengths::goal_is_short))]
 pub fn is_goal_within(goal: &Constraint) -> bool
     ensures always { IsTrue result }

@@ -23,8 +23,8 @@ pub(crate) struct StepParts<'n> {
 }
 
 impl<'n> StepParts<'n> {
-    /// The parts of a step's numbers: the first 0 after the id ends the literals, and the last number is a 0, which ends the
-    /// hints.
+    /// The parts of a step's numbers: the first 0 after the id ends the literals, and the last
+    /// number is a 0, which ends the hints.
     pub(crate) fn of(numbers: &'n [i128]) -> Option<StepParts<'n>>
         ensures found { IfSome result (λ p. AreParts numbers.now p.id p.lits.now p.hints.now) }
         ensures none { IfNone result (HasParts numbers.now → ⊥) }

@@ -1,5 +1,5 @@
-//! Runs of the simplex method with column generation: over the bounds of a problem's kept sentences, for the verdict or
-//! for a query.
+//! Runs of the simplex method with column generation: over the bounds of a problem's kept
+//! sentences, for the verdict or for a query.
 #![tactic(auto)]
 
 mod answers;

@@ -69,8 +69,8 @@ impl<'p> Run<'p> {
         })
     }
 
-    /// Whether the kept sentences can be met with evidence of a positive probability; without a query
-    /// the evidence is sure. It comes first, once.
+    /// Whether the kept sentences can be met with evidence of a positive probability; without a
+    /// query the evidence is sure. It comes first, once.
     pub fn phase_one(&mut self) -> Result<First, NoMemory>
         requires start { self.old.is_broken ≡ false → IsAtStart self.old }
         ensures answer { IfOk result (IsPhaseOneAnswer self.old self.new) }

@@ -29,8 +29,8 @@ pub enum Priced {
         value: i128,
         searches: u32,
     },
-    /// This one has a value of at least 1, and the search for a value of at least the goal, which is
-    /// above it, and not above `most`, was spent.
+    /// This one has a value of at least 1, and the search for a value of at least the goal, which
+    /// is above it, and not above `most`, was spent.
     Cut {
         assignment: Assignment,
         value: i128,
@@ -101,9 +101,9 @@ fn middle(found: i128, bound: i128) -> i128
 /// left between the best value found and the least one that nothing is above. At least 1 search is
 /// made, and at most 124.
 ///
-/// The log holds the refutation after `NoneAbove`, the search that was spent after `Cut` and `Spent`,
-/// and the last search after `Best`. After an error it is as it was, or holds the goal of a search
-/// and lawful steps. `LogFault` comes only where the log's count of faults rose.
+/// The log holds the refutation after `NoneAbove`, the search that was spent after `Cut` and
+/// `Spent`, and the last search after `Best`. After an error it is as it was, or holds the goal of
+/// a search and lawful steps. `LogFault` comes only where the log's count of faults rose.
 pub fn best<S: ProofSink>(
     alloc: Global,
     wcnf: &Wcnf,

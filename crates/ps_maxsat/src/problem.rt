@@ -9,8 +9,8 @@ ghost use Rattle.ps_maxsat.specs.Values.{most, IsValueOfFull, NoneIsAbove};
 use ps_clause::ClauseForm;
 use ps_pb::{Assignment, Lit, WeightedLits};
 
-/// Clauses that are to be met, and literals with weights. The value of a full assignment is the base
-/// plus the weights of the soft literals that are true.
+/// Clauses that are to be met, and literals with weights. The value of a full assignment is the
+/// base plus the weights of the soft literals that are true.
 #[derive(Drop)]
 pub struct Wcnf {
     pub hard: ClauseForm,

@@ -1,4 +1,5 @@
-//! Whole multiples of a table's numbers: of its multipliers, for a dual, and of its values, for a distribution.
+//! Whole multiples of a table's numbers: of its multipliers, for a dual, and of its values, for a
+//! distribution.
 #![tactic(auto)]
 
 mod at_place;

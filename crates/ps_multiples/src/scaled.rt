@@ -1,7 +1,8 @@
 //! Whole multiples of numbers.
 use ps_io::List;
 
-/// A common multiple of the denominators of some numbers, and the whole number that each makes with it.
+/// A common multiple of the denominators of some numbers, and the whole number that each makes with
+/// it.
 #[derive(Drop)]
 pub struct Scaled {
     pub multiple: u128,

@@ -125,8 +125,8 @@ fn total_of(table: &Table, rows: &[i128]) -> Result<i128, WideAt>
     Ok(total)
 }
 
-/// The weights of a table's rows: the values of the rows whose basic column is a world, each times the least common
-/// multiple of their denominators, and their sum.
+/// The weights of a table's rows: the values of the rows whose basic column is a world, each times
+/// the least common multiple of their denominators, and their sum.
 pub fn weights_of(alloc: Global, table: &Table) -> Result<Weights, TableError>
     requires { HasValues table.now }
     ensures value { IfOk result (AreWeights table.now) }

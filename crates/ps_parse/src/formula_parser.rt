@@ -104,8 +104,8 @@ impl FormulaParser {
         self.settle(Operator::Not)
     }
 
-    /// Takes a token in the place of an operand: `!` or `(`, which waits, or a word, an operand. For
-    /// want of memory only some of this may be done.
+    /// Takes a token in the place of an operand: `!` or `(`, which waits, or a word, an operand.
+    /// For want of memory only some of this may be done.
     pub(crate) fn operand(&mut self, token: &Token) -> Result<(), NoMemory>
         requires operand { IsOperand (token_of token.now) }
         requires room { length (draft_of self.old).names < 4294967295 }

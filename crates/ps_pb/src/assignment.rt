@@ -23,7 +23,7 @@ impl Model for Assignment {
 }
 
 impl Assignment {
-    /// All unset.
+    /// The assignment of so many variables in which all are unset.
     pub fn new(alloc: Global, variables: u32) -> Result<Assignment, NoMemory>
         ensures { IfOk result (λ a. a ≡ all_unset variables) }
     {
@@ -31,6 +31,7 @@ impl Assignment {
         Ok(Assignment { values })
     }
 
+    /// An equal assignment.
     pub fn copy(&self, alloc: Global) -> Result<Assignment, NoMemory>
         ensures { IfOk result (λ a. a ≡ self.now) }
     {

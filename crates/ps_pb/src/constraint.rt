@@ -52,7 +52,7 @@ impl Constraint {
         Constraint { terms, degree }
     }
 
-    /// By rising variable.
+    /// Its terms, by rising variable.
     pub fn terms(&self) -> &Terms
         ensures value { result.now ≡ weighted self.now.terms }
         ensures same { terms_of result.now ≡ self.now.terms }
@@ -61,6 +61,7 @@ impl Constraint {
         &self.terms
     }
 
+    /// What the coefficients of the true literals sum to at least.
     pub fn degree(&self) -> i128
         ensures value { result ≡ self.now.degree }
         ensures within { unsigned_abs result ≤ most_size }
@@ -68,6 +69,7 @@ impl Constraint {
         self.degree
     }
 
+    /// An equal constraint.
     pub fn copy(&self, alloc: Global) -> Result<Constraint, NoMemory>
         ensures { IfOk result (λ c. c ≡ self.now) }
     {

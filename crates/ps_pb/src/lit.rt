@@ -63,6 +63,7 @@ impl Lit {
         }
     }
 
+    /// Its number: that of its variable, with a minus where it says that the variable is false.
     pub fn number(&self) -> i32
         ensures value { result ≡ self.now }
         ensures within { IsLiteral result }
@@ -78,6 +79,7 @@ impl Lit {
         self.number.unsigned_abs()
     }
 
+    /// The literal of the same variable that says the opposite.
     pub fn opposite(&self) -> Lit
         ensures { result ≡ neg_ℤ self.now }
     {
@@ -94,6 +96,7 @@ impl Lit {
         self.number.unsigned_abs() as usize - 1
     }
 
+    /// Whether it says that its variable is true.
     pub fn is_positive(&self) -> bool
         ensures { result ≡ is_positive self.now }
     {

@@ -89,8 +89,11 @@ fn is_above(term: &(Lit, i128), lit: Lit, slack: &i128) -> bool
 /// What a constraint does to an assignment.
 #[derive(Clone, Copy, Debug, PartialEq, Eq)]
 pub enum Effect {
+    /// It is violated; nothing was set.
     Violated,
+    /// It forced literals, which are set.
     Forced,
+    /// It is neither violated nor forces a literal.
     Idle,
 }
 

@@ -3,10 +3,13 @@ use crate::lit::Lit;
 use ps_io::List;
 use std::marker::Model;
 
+/// Literals, in order.
 pub type Lits = List<Lit>;
 
+/// The ids of constraints, in order.
 pub type Hints = List<u64>;
 
+/// Steps, in order.
 pub type Steps = List<Step>;
 
 /// A clause under its id, and the ids of the constraints from which it follows, in the order in

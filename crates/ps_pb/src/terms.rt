@@ -11,7 +11,7 @@ use std::marker::Model;
 /// Literals with weights, in which a literal may stand more than once.
 pub type WeightedLits = List<(Lit, i128)>;
 
-/// Literals with their coefficients; up to four stand in place.
+/// Literals with their coefficients; the first few stand in place.
 #[derive(Drop)]
 pub struct Terms {
     items: SmallVec<(Lit, i128), 4>,
@@ -26,6 +26,7 @@ impl Model for Terms {
 }
 
 impl Terms {
+    /// No terms.
     pub fn new(alloc: Global) -> Terms
         ensures { result ≡ [] }
     {
@@ -34,6 +35,7 @@ impl Terms {
         }
     }
 
+    /// The same terms.
     pub fn copy(&self, alloc: Global) -> Result<Terms, NoMemory>
         ensures { IfOk result (λ terms. terms ≡ self.now) }
     {
@@ -41,18 +43,21 @@ impl Terms {
         Ok(Terms { items })
     }
 
+    /// The number of terms.
     pub fn len(&self) -> usize
         ensures { result ≡ length self.now }
     {
         self.items.len()
     }
 
+    /// The term at a place, from 0 on; `None` where there is none.
     pub fn get(&self, i: usize) -> Option<&(Lit, i128)>
         ensures { option_copied result ≡ slice_get self.now i }
     {
         self.as_slice().get(i)
     }
 
+    /// The terms, in order.
     pub fn as_slice(&self) -> &[(Lit, i128)]
         ensures { result.now ≡ self.now }
     {
@@ -68,7 +73,7 @@ impl Terms {
         Ok(())
     }
 
-    /// Takes the last term out.
+    /// Takes the last term out; `None` where there is none.
     pub fn pop(&mut self) -> Option<(Lit, i128)>
         ensures some { IfSome result (λ x. self.old ≡ self.new ++ x ∷ []) }
         ensures none { IfNone result ((self.old ≡ []) × (self.new ≡ [])) }

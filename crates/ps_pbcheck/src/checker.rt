@@ -53,8 +53,8 @@ impl Checker {
         })
     }
 
-    /// Takes a step where it is lawful (reverse unit propagation; Goldberg and Novikov, 2003). Otherwise
-    /// the first reason is answered, and the checker is unchanged.
+    /// Takes a step where it is lawful (reverse unit propagation; Goldberg and Novikov, 2003).
+    /// Otherwise the first reason is answered, and the checker is unchanged.
     pub fn take(&mut self, s: &Step) -> Result<(), StepRefused>
         ensures judged { IsJudged (refusal_of self.old.variables self.old.known s.now) result }
         ensures ok { OnOk result (self.new ≡ after_step self.old s.now) }

@@ -4,7 +4,7 @@ use crate::col::Col;
 use ps_formula::World;
 use ps_io::List;
 
-/// A step of a run.
+/// An event of a run.
 #[derive(Debug, Drop, PartialEq, Eq)]
 pub enum Event {
     /// Column `enter` became basic in row `leave`, from 0.

@@ -16,6 +16,7 @@ pub const MOST_WORLDS: u32 = u32::MAX;
 pub enum PoolError {
     /// The world is there already, with this number.
     Present { at: u32 },
+    /// There was not enough memory.
     NoMemory,
 }
 

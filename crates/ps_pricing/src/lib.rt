@@ -1,4 +1,5 @@
-//! Pricing: a world in which a dual's combination is at least 1, or the refutation that there is one.
+//! Pricing: a world in which a dual's combination is at least 1, or the refutation that there is
+//! one.
 #![tactic(auto)]
 
 mod kept;

@@ -24,8 +24,8 @@ use ps_problem::{Bound, Problem, Query, Sentences};
 use std::alloc::Global;
 use std::marker::Model;
 
-/// What duals are priced over: the kept sentences of a problem with their bounds, the clause form of the problem's nodes,
-/// and a query, or none; and how many clauses a search may learn.
+/// What duals are priced over: the kept sentences of a problem with their bounds, the clause form
+/// of the problem's nodes, and a query, or none; and how many clauses a search may learn.
 #[derive(Drop)]
 pub struct Pricer<'p> {
     problem: &'p Problem,
@@ -145,8 +145,8 @@ impl<'p> Pricer<'p> {
         )
     }
 
-    /// Looks for a world of greatest combination of a dual, if one is at least 1. The claim's condition has as many
-    /// multipliers as the problem has bounds, and numbers of at most 2^90 in size.
+    /// Looks for a world of greatest combination of a dual, if one is at least 1. The dual has a
+    /// multiplier for each bound of the kept sentences, and its numbers are at most 2^90 in size.
     pub fn price(&self, alloc: Global, kind: ClaimKind, dual: Dual) -> Result<Pricing, NoMemory>
         requires asked { IsAsked kind self.now.subject.parts self.now.subject.query }
         requires dual { IsDualFor self.now.subject.parts dual }

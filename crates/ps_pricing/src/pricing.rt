@@ -6,8 +6,8 @@ use ps_pb::{Constraint, Steps};
 /// What a pricing finds.
 #[derive(Drop)]
 pub enum Pricing {
-    /// A world in which the dual's combination is at least 1. It is greater in no world, unless a search for a greater
-    /// one was spent.
+    /// A world in which the dual's combination is at least 1. It is greater in no world, unless a
+    /// search for a greater one was spent.
     Found(World),
     /// There is no such world; the dual has the steps that refute it.
     Refuted(Dual),

@@ -23,6 +23,7 @@ pub enum BuildError {
     /// The 17th query.
     #[error("too many queries at item {item}")]
     TooManyQueries { item: u32 },
+    /// There was not enough memory.
     #[error("not enough memory")]
     NoMemory,
 }

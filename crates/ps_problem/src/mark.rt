@@ -4,12 +4,20 @@
 /// it. A name goes by the number that the draft gave it.
 #[derive(Clone, Copy, Debug, PartialEq, Eq)]
 pub enum Mark {
+    /// `true`.
     True,
+    /// `false`.
     False,
+    /// The atom of this name.
     Name(u32),
+    /// `!` over the last formula.
     Not,
+    /// `&` between the last two formulas.
     And,
+    /// `|` between them.
     Or,
+    /// `->` between them.
     Implies,
+    /// `<->` between them.
     Iff,
 }

@@ -1,5 +1,6 @@
-//! The rows of bounds, in the words of linear programs: a distribution meets a bound where the mean of its row over the worlds
-//! is on its side of 0 (N. J. Nilsson, "Probabilistic logic", Artificial Intelligence 28, 1986).
+//! The rows of bounds, in the words of linear programs: a distribution meets a bound where the mean
+//! of its row over the worlds is on its side of 0 (N. J. Nilsson, "Probabilistic logic", Artificial
+//! Intelligence 28, 1986).
 ghost use Rattle.std.specs.Prelude.{◌≡◌, ◌≤◌, ◌≤ℤ◌, ◌*ℤ◌, pos, IfSome, unsigned_abs};
 ghost use Rattle.ps_problem.specs.Rows.{HasNode, HasRow, indicator_of, given_indicator, row_over};
 
@@ -39,8 +40,8 @@ fn times(number: u32, by: i64) -> i64
     if by == 0 { 0 } else { number as i64 }
 }
 
-/// What the row of a bound has in a world, by the truth values of the nodes there: the denominator where
-/// formula and condition are true, less the numerator where the condition is.
+/// What the row of a bound has in a world, by the truth values of the nodes there: the denominator
+/// where formula and condition are true, less the numerator where the condition is.
 pub fn row_value(bound: &Bound, truth: &[bool]) -> i64
     requires { HasRow truth.now bound.now }
     ensures value { result ≡ row_over truth.now bound.now }

@@ -1,4 +1,5 @@
-//! The words in which contracts speak of constraints over literals and of the steps of a refutation.
+//! The words in which contracts speak of constraints over literals and of the steps of a
+//! refutation.
 #![tactic(auto)]
 
 mod laws;

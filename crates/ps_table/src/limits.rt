@@ -2,7 +2,7 @@
 ghost use Rattle.std.specs.Prelude.{◌↔◌, IsTrue};
 ghost use Rattle.ps_table.specs.Places.{IsPast};
 
-/// The most rows of a table.
+/// The most rows of a table: one for each of 100 bounds, and one that normalises.
 pub const MOST_ROWS: usize = 101;
 
 /// The greatest size of a number that an answer prints.

@@ -21,6 +21,7 @@ pub enum What {
     Operator,
     /// `=`, `>=`, `<=` or `in`.
     Relation,
+    /// The number of a relation, or one of an interval.
     Number,
     /// `[`, behind `in`.
     Bracket,

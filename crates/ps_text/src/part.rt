@@ -3,7 +3,9 @@
 /// The part of a text that is next.
 #[derive(Clone, Copy, Debug, PartialEq, Eq)]
 pub enum Part {
+    /// `psat`, at the start.
     Psat,
+    /// The version, behind `psat`.
     Version,
     /// The `;` behind the version.
     HeadEnd,
@@ -17,6 +19,7 @@ pub enum Part {
     Operand,
     /// What stands behind an operand.
     Operator,
+    /// The relation behind the probability of a sentence.
     Relation,
     /// The number of a relation with one bound.
     Number,
@@ -26,9 +29,11 @@ pub enum Part {
     Bracket,
     /// An interval's first number.
     First,
+    /// The `,` behind an interval's first number.
     Comma,
     /// An interval's second number.
     Second,
+    /// The `]` behind an interval's second number.
     BracketEnd,
     /// The `;` behind `end`.
     TextEnd,
@@ -36,11 +41,13 @@ pub enum Part {
     Done,
 }
 
-/// What is open in a formula: a `!` during its operand, a `(` up to its `)`, a `->` during its right
-/// side.
+/// What is open in a formula.
 #[derive(Clone, Copy, Debug, PartialEq, Eq)]
 pub enum Opening {
+    /// A `!`, during its operand.
     Not,
+    /// A `(`, up to its `)`.
     Group,
+    /// A `->`, during its right side.
     Arrow,
 }

@@ -1,20 +1,34 @@
 //! Symbols.
 
-/// The symbols `(` `)` `[` `]` `,` `;` `!` `&` `|` `->` `<->` `=` `>=` `<=`, in this order.
+/// A symbol.
 #[derive(Clone, Copy, Debug, PartialEq, Eq)]
 pub enum Symbol {
+    /// `(`.
     Open,
+    /// `)`.
     Close,
+    /// `[`.
     OpenBracket,
+    /// `]`.
     CloseBracket,
+    /// `,`.
     Comma,
+    /// `;`.
     Semicolon,
+    /// `!`.
     Bang,
+    /// `&`.
     Ampersand,
+    /// `|`.
     Bar,
+    /// `->`.
     Arrow,
+    /// `<->`.
     DoubleArrow,
+    /// `=`.
     Equals,
+    /// `>=`.
     GreaterEquals,
+    /// `<=`.
     LessEquals,
 }

@@ -4,8 +4,8 @@ use ps_lex::{Lexer, Numeral, Position, Token};
 use std::alloc::{AllocError, Global};
 use std::test::Fail;
 
-// A word stands in quotes, a symbol by its name, and `V#N` for N digits of value V; behind the digits of a decimal
-// number stands how many follow its point.
+// A word stands in quotes, a symbol by its name, and `V#N` for N digits of value V; behind the
+// digits of a decimal number stands how many follow its point.
 fn shown(alloc: Global, token: &Token) -> Result<String, Fail> {
     match token {
         Token::Word(letters) => {
@@ -62,7 +62,8 @@ fn take_all(alloc: Global, lexer: &mut Lexer, text: &str, told: &mut String) -> 
     Ok(())
 }
 
-// What is told of a text: each token with the line and the column where it begins, and the place where none begins.
+// What is told of a text: each token with the line and the column where it begins, and the place
+// where none begins.
 fn tokens_of(alloc: Global, text: &str) -> Result<String, Fail> {
     let mut lexer = Lexer::new();
     let mut told = String::new(alloc);

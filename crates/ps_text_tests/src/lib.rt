@@ -1,5 +1,5 @@
-//! Tests of the crates that read problem texts. They call only what these crates offer to all, so they stand above them,
-//! in a crate that has nothing else.
+//! Tests of the crates that read problem texts. They call only what these crates offer to all, so
+//! they stand above them, in a crate that has nothing else.
 #![tactic(auto)]
 
 #[cfg(test)]

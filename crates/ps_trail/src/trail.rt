@@ -115,6 +115,7 @@ impl Trail {
         ensures variables { self.new.variables ≡ self.old.variables }
         ensures prefix { (k : ℕ) × (self.new.entries ≡ take k self.old.entries) }
     {
+        // A field is read, so that what holds of each trail is known.
         let _ = &self.values;
         self.cut_all(most)
     }
@@ -181,6 +182,7 @@ impl Trail {
         ensures variables { self.new.variables ≡ self.old.variables }
         ensures moved { IsCutBy result self.old self.new most }
     {
+        // A field is read, so that what holds of each trail is known.
         let _ = &self.values;
         if self.used == 0 {
             return false;

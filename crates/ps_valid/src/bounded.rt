@@ -23,7 +23,8 @@ use ps_io::NoMemory;
 use ps_problem::{Problem, Query};
 use std::alloc::Global;
 
-// The weight that a model gives a query's evidence; the rows have the truth of each node in its worlds.
+// The weight that a model gives a query's evidence; the rows have the truth of each node in its
+// worlds.
 fn evidence_of(problem: &Problem, query: &Query, model: &Model, rows: &[Row]) -> i128
     requires table { IsTableOf problem.now.nodes (entries model.now.worlds) rows.now }
     requires query { HasNodes problem.now.nodes query.now.formula query.now.given query.now.both }
@@ -54,9 +55,10 @@ fn gives_value(
     is_quotient(value, weight_of(rows, query.both), evidence)
 }
 
-/// The first reason against a bound of a query, or none where it is tight: a distribution that meets each bound of the
-/// problem gives the evidence positive probability and the query the value, and the dual shows that no such distribution
-/// gives it less (`Lower`) or more (`Upper`). Model and dual are one claim: the dual's shape is looked at with the model's.
+/// The first reason against a bound of a query, or none where it is tight: a distribution that
+/// meets each bound of the problem gives the evidence positive probability and the query the value,
+/// and the dual shows that no such distribution gives it less (`Lower`) or more (`Upper`). Model
+/// and dual are one claim: the dual's shape is looked at with the model's.
 pub fn check_bound(
     alloc: Global,
     problem: &Problem,

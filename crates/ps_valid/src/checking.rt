@@ -188,8 +188,9 @@ fn in_order(problem: &Problem)
     let _ = problem.bound_list();
 }
 
-/// Judges an answer to a problem. It is accepted where each of its claims is valid, and then it is right; otherwise the
-/// first claim in the order of a report that isn't valid is refused, for the first reason in the order of `Reason`.
+/// Judges an answer to a problem. It is accepted where each of its claims is valid, and then it is
+/// right; otherwise the first claim in the order of a report that isn't valid is refused, for the
+/// first reason in the order of `Reason`.
 pub fn check(alloc: Global, problem: &Problem, answer: &Answer) -> Result<Accepted, CheckError>
     requires limits { IsSmallAnswer answer.now }
     ensures judged { IsJudged problem.now answer.now result }

@@ -8,13 +8,15 @@ pub fn refusals_are_single()
     ensures single { RefusalsAreSingle }
 {}
 
-/// The answer of a report is within the limits that the check asks, and so is each one whose lines are within a report's.
+/// The answer of a report is within the limits that the check asks, and so is each one whose lines
+/// are within a report's.
 pub fn reports_are_small()
     ensures answer { AnswersWithinAreSmall }
     ensures report { ReportsAreSmall }
 {}
 
-/// Where each line of an answer is within the limits of a report, each is short enough to be written.
+/// Where each line of an answer is within the limits of a report, each is short enough to be
+/// written.
 pub fn report_lines_are_short()
     ensures short { LinesWithinAreShort }
 {}

@@ -1,4 +1,5 @@
-//! The check of an answer's claims: each is valid, or the first that isn't is named with its first fault.
+//! The check of an answer's claims: each is valid, or the first that isn't is named with its first
+//! fault.
 #![tactic(auto)]
 
 mod bounded;

@@ -81,7 +81,8 @@ fn first_missed(rows: &[Row], sum: i128, bounds: &[Bound]) -> Option<u32>
     None
 }
 
-/// The number of a problem's first bound that a model doesn't meet; the rows have the truth of each node in its worlds.
+/// The number of a problem's first bound that a model doesn't meet; the rows have the truth of each
+/// node in its worlds.
 pub fn missed_bound(problem: &Problem, model: &Model, rows: &[Row]) -> Option<u32>
     requires table { IsTableOf problem.now.nodes (entries model.now.worlds) rows.now }
     requires small { IsSmallModel model.now }

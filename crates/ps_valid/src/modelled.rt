@@ -16,8 +16,8 @@ use ps_io::NoMemory;
 use ps_problem::Problem;
 use std::alloc::Global;
 
-/// The first reason against a model whose worlds have the problem's atoms, or none; the rows have the truth of each node
-/// in its worlds.
+/// The first reason against a model whose worlds have the problem's atoms, or none; the rows have
+/// the truth of each node in its worlds.
 pub fn first_against(problem: &Problem, model: &Model, rows: &[Row]) -> Option<Reason>
     requires table { IsTableOf problem.now.nodes (entries model.now.worlds) rows.now }
     requires small { IsSmallModel model.now }
@@ -38,8 +38,9 @@ pub fn first_against(problem: &Problem, model: &Model, rows: &[Row]) -> Option<R
     }
 }
 
-/// The first reason against a model that is to show that a problem is consistent, or none where it does: it is a
-/// distribution that meets each bound, on at most one world more than there are bounds, and its total is right.
+/// The first reason against a model that is to show that a problem is consistent, or none where it
+/// does: it is a distribution that meets each bound, on at most one world more than there are
+/// bounds, and its total is right.
 #[tactic(auto, using(crate::proofs::ModelFaults::judged_model))]
 pub fn check_model(
     alloc: Global,

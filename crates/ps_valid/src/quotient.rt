@@ -17,7 +17,8 @@ fn same(a: &Fraction, b: &Fraction) -> bool
     equal(a.numerator(), b.numerator()) && equal(a.denominator(), b.denominator())
 }
 
-/// Whether `over / under` is a value, by their quotient in lowest terms, since the cross products may not fit.
+/// Whether `over / under` is a value, by their quotient in lowest terms, since the cross products
+/// may not fit.
 #[tactic(auto, using(crate::proofs::Quotients::quotients))]
 pub fn is_quotient(value: &Fraction, over: i128, under: i128) -> bool
     requires positive { pos 0 <ℤ under }

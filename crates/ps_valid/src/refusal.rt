@@ -17,7 +17,8 @@ pub struct Accepted {
 /// A claim of an answer; queries are numbered from 1.
 #[derive(Clone, Copy, Debug, PartialEq, Eq)]
 pub enum Claim {
-    /// That the answer has a part for each query where the problem is consistent, and none otherwise.
+    /// That the answer has a part for each query where the problem is consistent, and none
+    /// otherwise.
     Report,
     Verdict,
     /// That the query's evidence is impossible.
@@ -26,10 +27,12 @@ pub enum Claim {
     Upper { number: u32 },
 }
 
-/// What is wrong with a claim, in the order in which it is looked for; entries and bounds are numbered from 1.
+/// What is wrong with a claim, in the order in which it is looked for; entries and bounds are
+/// numbered from 1.
 #[derive(Clone, Copy, Debug, PartialEq)]
 pub enum Reason {
-    /// A world has another length than the number of atoms, or the multipliers aren't as many as the bounds.
+    /// A world has another length than the number of atoms, or the multipliers aren't as many as
+    /// the bounds.
     WrongShape,
     /// There are more worlds than bounds and one.
     TooManyWorlds,

@@ -85,8 +85,8 @@ pub fn first_in_dual(
     first_in_run(alloc, problem, kind, given, both, dual)
 }
 
-/// The first reason against a dual that is to show that no distribution which meets each bound gives the evidence positive
-/// probability, or none where it does.
+/// The first reason against a dual that is to show that no distribution which meets each bound
+/// gives the evidence positive probability, or none where it does.
 #[tactic(auto, using(crate::proofs::DualFaults::judged_excluded, crate::proofs::DualFaults::rows_wrong))]
 pub fn check_dual(
     alloc: Global,

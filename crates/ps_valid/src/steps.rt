@@ -14,7 +14,8 @@ use ps_problem::Problem;
 use ps_steps::StepRefused;
 use std::alloc::Global;
 
-/// The checker that knows the clauses of a problem's formulas, and the goal that a combination is at least 1.
+/// The checker that knows the clauses of a problem's formulas, and the goal that a combination is
+/// at least 1.
 pub fn checker_of(alloc: Global, problem: &Problem, sum: &Combination) -> Result<Checker, NoMemory>
     requires { size_of sum.now ≤ 2 ^ 120 }
     ensures { IfOk result (λ c. c ≡ first_checked (form_of problem.now.nodes) (goal_of sum.now)) }
@@ -41,8 +42,8 @@ fn refusal(checker: &mut Checker, step: &Step) -> Result<Option<StepRefused>, No
     }
 }
 
-/// Takes steps up to the first that isn't lawful, and answers its id and why it isn't. Where all are taken the checker
-/// is refuted where the last one has no literals.
+/// Takes steps up to the first that isn't lawful, and answers its id and why it isn't. Where all
+/// are taken the checker is refuted where the last one has no literals.
 #[tactic(auto, using(crate::proofs::StepRuns::taken_next))]
 pub fn first_refused(
     checker: &mut Checker,

@@ -10,7 +10,8 @@ const NO_PIVOTS: &[&str] = &["solve", "--pivots", "0"];
 
 const NO_CONFLICTS: &[&str] = &["solve", "--conflicts", "0"];
 
-// Words, problems without their frame, reports or parts of them, and the lines of `check` on the whole reports.
+// Words, problems without their frame, reports or parts of them, and the lines of `check` on the
+// whole reports.
 const SOLVED: [(&[&str], &str, &str, Status, &str); 31] = [
     (
         SOLVE,

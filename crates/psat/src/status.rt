@@ -4,8 +4,8 @@ ghost use Rattle.std.specs.Prelude.{◌≡◌};
 /// How the program ends.
 #[derive(Clone, Copy, Debug, PartialEq, Eq)]
 pub enum Status {
-    /// `check`: each claim of the report is valid. `solve`: the sentences are consistent, and nothing
-    /// is open.
+    /// `check`: each claim of the report is valid. `solve`: the sentences are consistent, and
+    /// nothing is open.
     Done,
     /// `solve`: the sentences are inconsistent.
     Inconsistent,

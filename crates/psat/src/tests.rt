@@ -126,8 +126,8 @@ const LINES: [&str; 29] = [
     "end",
 ];
 
-// From which line on, by its number from 1, how many of the lines are left out, what stands in their place, and the line
-// that is due.
+// From which line on, by its number from 1, how many of the lines are left out, what stands in
+// their place, and the line that is due.
 const CHANGES: [(u64, u64, &str, &str); 16] = [
     (1, 0, "", "accepted: claims 3, open 0\n"),
     (4, 1, "w 06 11\n", "refused report line 4 not-canonical\n"),

@@ -1,5 +1,5 @@
-//! How fast a table is pivoted. The word is a count of pivots of a table of 101 rows and 401 columns; it
-//! writes a checksum of the entries, and the time is taken from outside.
+//! How fast a table is pivoted. The word is a count of pivots of a table of 101 rows and 401
+//! columns; it writes a checksum of the entries, and the time is taken from outside.
 #![tactic(auto)]
 
 use ps_frac::Fraction;

@@ -1,5 +1,6 @@
-//! A system, and what each phase makes of it, one after the other. The tables of cases were computed
-//! by a Python program over `fractions`, which solves the table from its basis before each pivot.
+//! A system, and what each phase makes of it, one after the other. The tables of cases were
+//! computed by a Python program over `fractions`, which solves the table from its basis before each
+//! pivot.
 
 use crate::{Phase, Settled};
 use ps_frac::Op;

@@ -1,4 +1,5 @@
-//! Numbers with their least common multiples and greatest common divisors, computed by Python's `math`.
+//! Numbers with their least common multiples and greatest common divisors, computed by Python's
+//! `math`.
 
 /// Two numbers, a limit, and their least common multiple, where it is at most the limit.
 pub(crate) const MULTIPLES: [(i128, i128, i128, Option<i128>); 17] = [

@@ -9,7 +9,8 @@ use ps_text::{Part, ReadKind};
 use std::alloc::Global;
 use std::test::Fail;
 
-/// How a text was read: the first token that is refused, or the part that is next behind the last token.
+/// How a text was read: the first token that is refused, or the part that is next behind the last
+/// token.
 #[derive(Clone, Copy, Debug, PartialEq, Eq)]
 pub(crate) enum Answer {
     Refused(ReadKind),
