@@ -80,6 +80,7 @@ item_words End = Letters (codes "end") ∷ []
 abbrev pub item_line : Item → List ℕ
 item_line i = joined (item_words i)
 
+-- ---- limits
 -- the greatest numerator and denominator of an operand
 abbrev pub most_operand : ℕ
 most_operand = 2 ^ 127 - 1
@@ -118,7 +119,6 @@ pub record IsLine (line : List ℕ) (i : Item) : Type 0 where
 abbrev pub IsSmall : ℤ → Type 0
 IsSmall z = unsigned_abs z ≤ 2 ^ 90
 
--- homes are numbered from 0 to 100, worlds from 1 to 1,000,001
 abbrev pub IsColWithin : Col → Type 0
 IsColWithin (col.Home i) = i ≤ 100
 IsColWithin (col.World n) = (1 ≤ n) × (n ≤ 1000001)

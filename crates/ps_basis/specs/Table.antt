@@ -60,7 +60,7 @@ pub record Widened (n w : ℕ) (A X Z : ℕ → ℕ → Rational) : Type 0 where
   pub same : (i j : ℕ) → i < n → j < w → Z i j ≡ X i j
   pub made : (i : ℕ) → i < n → Z i w ≡ sum_to n (λ m. mul (X i (suc m)) (A m w))
 
--- the same entries in n rows and w columns
+-- two tables have the same entries in n rows and w columns
 pub record AreSameWithin (n w : ℕ) (X Y : ℕ → ℕ → Rational) : Type 0 where
   pub same : (i j : ℕ) → i < n → j < w → X i j ≡ Y i j
 

@@ -74,6 +74,6 @@ PosedTablesAreReady = (phase : Phase) (costs : Costs) (t : Tableau) → HasCosts
 abbrev pub ValuesStay : Type 0
 ValuesStay = (entries : List ℤ) (old new : Tableau) → IsAdded entries old new → HasValues old → HasValues new
 
--- nor any basic artificial's value other than 0
+-- a world that is added leaves each basic artificial's value at 0 where all of them are 0
 abbrev pub FeasibilityStays : Type 0
 FeasibilityStays = (entries : List ℤ) (old new : Tableau) → IsAdded entries old new → IsFeasible (simplex_of old) → IsFeasible (simplex_of new)

@@ -17,34 +17,41 @@ use Rattle.ps_bland.specs.declared.settled.Settled.{Settled}
 use Rattle.ps_bland.specs.Rules.{artificial_at, IsLawful, is_artificial_column, simplex_of}
 use Rattle.ps_bland.specs.Ends.{IsRatioWide, IsEntryWide, IsLeftToRatios, AreDueNarrow, IsDueRefusal, IsSettled}
 
--- the row of least ratio among the rows before row n
+-- a row with an entry above 0 that goes before each such row before row n
 pub record IsLeastBefore (t : Tableau) (q n p : ℕ) : Type 0 where
   pub rising : IsRising (simplex_of t) q p
   pub least : (i : ℕ) → i < n → IsRising (simplex_of t) q i → Precedes (simplex_of t) q p i
 
 -- ---- the rule's words, said of a column by its name
+-- the column improves
 abbrev pub ImprovesIn : Costs → Tableau → Col → Type 0
 ImprovesIn costs t c = Improves (simplex_of t) (cost_at costs) (number_of t c)
 
+-- the column's entry in row i is above 0
 abbrev pub IsRisingIn : Tableau → Col → ℕ → Type 0
 IsRisingIn t c i = IsRising (simplex_of t) (number_of t c) i
 
+-- row i is an artificial row of the column
 abbrev pub IsArtificialRowIn : Tableau → Col → ℕ → Type 0
 IsArtificialRowIn t c i = IsArtificialRow (simplex_of t) (number_of t c) i
 
+-- row p leaves for the column, by the rule
 abbrev pub LeavesIn : RulePhase → Tableau → Col → ℕ → Type 0
 LeavesIn phase t c p = Leaves phase (simplex_of t) (number_of t c) p
 
+-- the ratio of row i in the column
 abbrev pub ratio_in : Tableau → Col → ℕ → Rational
 ratio_in t c i = ratio (simplex_of t) (number_of t c) i
 
+-- row p goes before row i in the column
 abbrev pub PrecedesIn : Tableau → Col → ℕ → ℕ → Type 0
 PrecedesIn t c p i = Precedes (simplex_of t) (number_of t c) p i
 
+-- row p has the least ratio of the column
 abbrev pub HasLeastRatioIn : Tableau → Col → ℕ → Type 0
 HasLeastRatioIn t c p = HasLeastRatio (simplex_of t) (number_of t c) p
 
--- the column's entry is 0 in no leaving row
+-- the column's entry in this row isn't 0
 abbrev pub HasEntryIn : Tableau → Col → ℕ → Type 0
 HasEntryIn t c p = entry_of t p c ≢ zero_q
 
@@ -60,7 +67,7 @@ IsRatioWideIn t c = IsRatioWide t (number_of t c)
 abbrev pub IsLeftToRatiosIn : RulePhase → Tableau → Col → Type 0
 IsLeftToRatiosIn phase t c = IsLeftToRatios phase t (number_of t c)
 
--- the basic column of a row is no artificial above 0
+-- a row whose basic column is artificial has value 0
 abbrev pub IsRowFeasible : Tableau → ℕ → Type 0
 IsRowFeasible t i = artificial_at t.kinds (basic_at t i) ≡ true → entry_at t i 0 ≡ zero_q
 
@@ -96,7 +103,7 @@ abbrev pub IsEntering : Costs → Tableau → Option Col → Type 0
 IsEntering costs t (Some q) = HasColumn t q × Enters (simplex_of t) (cost_at costs) (number_of t q)
 IsEntering costs t None = (j : ℕ) → Improves (simplex_of t) (cost_at costs) j → ⊥
 
--- the same, where only the columns before place n were looked at
+-- the entering column, or none among the columns before number n
 abbrev pub IsEnteringBefore : Costs → Tableau → ℕ → Option Col → Type 0
 IsEnteringBefore costs t n (Some q) = HasColumn t q × Enters (simplex_of t) (cost_at costs) (number_of t q)
 IsEnteringBefore costs t n None = (j : ℕ) → j < n → Improves (simplex_of t) (cost_at costs) j → ⊥
@@ -137,12 +144,15 @@ IsNarrowEnd phase costs t left None = Unit {0}
 abbrev pub CanLeaveIn : RulePhase → Tableau → Col → Type 0
 CanLeaveIn phase t c = CanLeave phase t (number_of t c)
 
+-- the column has an entry above 0
 abbrev pub HasRisingIn : Tableau → Col → Type 0
 HasRisingIn t c = HasRising t (number_of t c)
 
+-- the first artificial row of the column, if there is one
 abbrev pub IsFirstArtificialRowIn : Tableau → Col → Option ℕ → Type 0
 IsFirstArtificialRowIn t c = IsFirstArtificialRow t (number_of t c)
 
+-- a row with an entry above 0 in the column that goes before each such row before row n
 abbrev pub IsLeastBeforeIn : Tableau → Col → ℕ → ℕ → Type 0
 IsLeastBeforeIn t c n p = IsLeastBefore t (number_of t c) n p
 
@@ -150,6 +160,6 @@ IsLeastBeforeIn t c n p = IsLeastBefore t (number_of t c) n p
 abbrev pub IsEnteringHome : Costs → Tableau → Option Col → Type 0
 IsEnteringHome costs t = IsEnteringBefore costs t (suc (length t.kinds))
 
--- no sum is too wide up to it
+-- no sum is too wide up to the first slack that improves, or for any slack where none was found
 abbrev pub AreHomesNarrow : Costs → Tableau → Option Col → Type 0
 AreHomesNarrow costs t = AreNarrowTo costs t (suc (length t.kinds))

@@ -15,7 +15,7 @@ pub record IsRow (b : Bound) : Type 0 where
   pub num : b.num ≤ 1000000
   pub den : b.den ≤ 1000000
 
--- at most 100 bounds, over at most 1,024 nodes that are there
+-- as many bounds as a problem may have, over nodes that are there, as many as it may have
 pub record AreOverNodes (bs : List Bound) : Type 0 where
   pub nodes : List Node
   pub few_nodes : length nodes ≤ 1024

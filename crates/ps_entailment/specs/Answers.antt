@@ -65,13 +65,13 @@ IsRightPart atoms bounds q (Interval lower upper) = IsRightSide atoms bounds q A
 IsRightPart atoms bounds q (Impossible c) = IsImpossible atoms bounds q.evidence
 IsRightPart atoms bounds q OpenQuery = Unit {0}
 
--- the queries that have a part: each where the bounds are consistent, else none
+-- the queries that have a part: each where the verdict is consistent, else none
 abbrev pub asked_under : {C Q : Type 0} → Verdict C → List Q → List Q
 asked_under (Consistent m) qs = qs
 asked_under (Inconsistent c) qs = []
 asked_under OpenVerdict qs = []
 
--- the verdict is right, and so is each part, of which there is one for each query, in order, where the bounds are consistent,
+-- the verdict is right, and so is each part, of which there is one for each query, in order, where the verdict is consistent,
 -- and none otherwise
 pub record IsRight {C : Type 0} (atoms : ℕ) (bounds : List Bound) (queries : List Query) (a : Answer C) : Type 0 where
   pub verdict : IsRightVerdict atoms bounds a.verdict

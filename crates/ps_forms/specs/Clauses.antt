@@ -14,10 +14,11 @@ Clause = List ℤ
 abbrev pub meets : List Bool → Clause → Bool
 meets w c = list_any (holds w) c
 
--- a node's variable has its number plus 1: its positive literal says that the node is true, its negative one that it is false
+-- a node's variable has its number plus 1: its positive literal says that the node is true
 abbrev pub positive : ℕ → ℤ
 positive i = pos (suc i)
 
+-- the negative literal of a node's variable says that the node is false
 abbrev pub negative : ℕ → ℤ
 negative i = negsuc i
 

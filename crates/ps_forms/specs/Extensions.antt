@@ -22,6 +22,7 @@ AgreesAt i w world other = Unit {0}
 pub record AgreeOnAtoms (ns : List Node) (w : List Bool) (world : World) : Type 0 where
   pub at : (i : ℕ) (d : Node) → i < length ns → AgreesAt i w world (slice_index_or ns i d)
 
+-- whether a node is the atom of number n
 abbrev pub is_atom : ℕ → Node → Bool
 is_atom n (node.Atom m) = m == n
 is_atom n other = false
@@ -36,6 +37,7 @@ abbrev pub world_of : ℕ → List Node → List Bool → World
 world_of zero ns w = []
 world_of (suc n) ns w = world_of n ns w ++ value_from 0 ns w n ∷ []
 
+-- the world is the one that an assignment gives
 abbrev pub IsWorldOf : ℕ → List Node → List Bool → World → Type 0
 IsWorldOf atoms ns w world = world ≡ world_of atoms ns w
 

@@ -15,6 +15,7 @@ pub record Form : Type 0 where
   pub others : List Bool
   pub clauses : List Constraint
 
+-- the form of these parts
 abbrev pub form_over : ℕ → List Bool → List Constraint → Form
 form_over variables others clauses = record { variables = variables; others = others; clauses = clauses }
 

@@ -28,16 +28,20 @@ ClausesSayWorlds = (ns : List Node) (w : List Bool) (atoms : ℕ) → AreNodes n
 abbrev pub ConstraintsSayClauses : Type 0
 ConstraintsSayClauses = (ns : List Node) (w : List Bool) → MeetsForm w (form_of ns) ↔ (list_all (meets w) (clause_form ns) ≡ true)
 
+-- the extension of a world agrees with it on atoms
 abbrev pub ExtensionsAgree : Type 0
 ExtensionsAgree = (ns : List Node) (world : World) → AreNodes ns → AgreeOnAtoms ns (extension ns world) world
 
 -- ---- forms that their atoms settle
+-- the form of all nodes is settled by its atoms
 abbrev pub NodesAreSettled : Type 0
 NodesAreSettled = (ns : List Node) → AreNodes ns → IsSettled (form_of ns)
 
+-- a form without clauses is settled by its atoms
 abbrev pub AtomsAreSettled : Type 0
 AtomsAreSettled = (variables : ℕ) → IsSettled (empty_form variables)
 
+-- a form that its atoms settle is settled with one more clause too
 abbrev pub SettledStay : Type 0
 SettledStay = (f : Form) (c : Constraint) → IsSettled f → IsSettled (with_clause f c)
 
@@ -50,6 +54,7 @@ abbrev pub AllSetAreFull : Type 0
 AllSetAreFull = (f : Form) (a : Assignment) → length a ≡ f.variables → AllAreSet f a → a ≡ full (values_of a)
 
 -- ---- worlds
+-- where the atoms' variables are set, they have the values of the atoms in the assignment's world
 abbrev pub WorldsHaveAtoms : Type 0
 WorldsHaveAtoms = (atoms : ℕ) (ns : List Node) (a : Assignment) → AreNodes ns → All (AtomBelow atoms) ns → AtomsAreSet (form_of ns) a
     → HasAtoms ns a (world_of atoms ns (values_of a))
@@ -60,13 +65,16 @@ ExtendedComeBack = (ns : List Node) (world : World) → AreNodes ns → All (Ato
     → world_of (length world) ns (extension ns world) ≡ world
 
 -- ---- clauses of a form's variables
+-- each clause of all nodes is one of the form's variables
 abbrev pub NodesHaveClauses : Type 0
 NodesHaveClauses = (ns : List Node) → AreNodes ns → HasClauses (form_of ns)
 
+-- a form whose clauses are of its variables stays so with one more clause of different literals of them
 abbrev pub OneMoreClause : Type 0
 OneMoreClause = (f : Form) (lits : List ℤ) → HasClauses f → All (λ l. place l < f.variables) lits → AreDifferent lits
     → HasClauses (with_clause f (clause_of lits))
 
+-- where each clause is one of the form's variables, its literals are of them
 abbrev pub ClausesAreInside : Type 0
 ClausesAreInside = (f : Form) → HasClauses f → AreInside f
 
@@ -75,11 +83,11 @@ ClausesAreInside = (f : Form) → HasClauses f → AreInside f
 abbrev pub StartSaysBoth : Type 0
 StartSaysBoth = (f : Form) (goal : Constraint) (w : List Bool) → AreMet w (first_known f goal) ↔ (MeetsForm w f × IsMet w goal)
 
--- and is of the form's variables where they are
+-- what is known at first is of the form's variables where the form and the goal are
 abbrev pub StartIsWithin : Type 0
 StartIsWithin = (f : Form) (goal : Constraint) → AreInside f → IsWithin f.variables goal → AreWithin f.variables (first_known f goal)
 
--- where nothing meets what follows from it, nothing that meets the form meets the goal
+-- where nothing meets what follows from what is known at first, nothing that meets the form meets the goal
 abbrev pub UnmetRefutesGoal : Type 0
 UnmetRefutesGoal = (f : Form) (goal : Constraint) (later : Known) → Entails (first_known f goal) later → IsUnmet later
     → (w : List Bool) → MeetsForm w f → ¬ IsMet w goal

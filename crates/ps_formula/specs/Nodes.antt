@@ -37,7 +37,7 @@ Fits n (node.Or a b) = (a < n) × (b < n)
 Fits n (node.Implies a b) = (a < n) × (b < n)
 Fits n (node.Iff a b) = (a < n) × (b < n)
 
--- each node's operands stand before it, and no node stands twice
+-- each node's operands stand before it, each atom's number is below the limit, and no node stands twice
 pub record AreNodes (ns : List Node) : Type 0 where
   pub fit : (i : ℕ) (d : Node) → i < length ns → Fits i (slice_index_or ns i d)
   pub once : AllPairs (λ m n. m ≢ n) ns

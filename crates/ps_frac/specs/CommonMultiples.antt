@@ -6,6 +6,6 @@ use Rattle.ps_rational.specs.Gcd.{lcm, IsLeastCommonMultiple}
 abbrev pub lcm_of : ℤ → ℤ → ℤ
 lcm_of a b = pos (lcm (unsigned_abs a) (unsigned_abs b))
 
--- a number's size is a common multiple of the sizes of two others, and divides each of them
+-- the size of m is a common multiple of the sizes of a and b, and divides each common multiple of them
 abbrev pub IsLcm : ℤ → ℤ → ℤ → Type 0
 IsLcm a b m = IsLeastCommonMultiple (unsigned_abs a) (unsigned_abs b) (unsigned_abs m)

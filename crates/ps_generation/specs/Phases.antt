@@ -82,7 +82,8 @@ pub record IsInPhase (kind : ClaimKind) (s : Subject) (costs : Costs) (state : S
   pub costs_are : costs ≡ costs_for kind (setting_of s) state.pool
   pub ready : IsReady (phase_of kind) costs state.table
 
--- with so many worlds and pivots left a phase has room for its columns
+-- the most worlds and pivots left, together: the pivots that a run may be allowed, and ten more, since a run prices few
+-- worlds more than it pivots; so a phase has room for its columns
 abbrev pub most_columns : ℕ
 most_columns = 1000010
 

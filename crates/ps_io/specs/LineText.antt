@@ -4,7 +4,7 @@ use Rattle.std.specs.Fmt.{signed_decimal}
 use Rattle.std.specs.List.{list_all}
 use Rattle.ps_io.specs.declared.limits.TheConstants.{LONGEST_NUMBER}
 
--- no space and no line feed is among the bytes
+-- no space and no line feed is among the bytes; there may be none
 abbrev pub IsWord : List ℕ → Type 0
 IsWord bytes = IsTrue (list_all (λ b. not (b == 32) && not (b == 10)) bytes)
 
@@ -13,7 +13,7 @@ abbrev pub with_word : List ℕ → List ℕ → List ℕ
 with_word [] word = word
 with_word (x ∷ xs) word = (x ∷ xs) ++ 32 ∷ word
 
--- how many bytes a number takes in a line
+-- how many bytes a number of 128 bits takes in a line: its digits and its sign, at most 40 of them
 abbrev pub number_length : ℤ → ℕ
 number_length n = min LONGEST_NUMBER (length (signed_decimal n))
 

@@ -15,12 +15,13 @@ MarksCause (Some false) l old new = new ≡ slice_set old (place l) true
 MarksCause (Some true) l old new = new ≡ old
 MarksCause None l old new = new ≡ old
 
--- whether an entry of the trail's level is marked before a place; where it is, one stands there
+-- whether an entry of the trail's level is marked before a place: `true` says that an entry of the level stands there, `false`
+-- that none of them is marked
 abbrev pub IsMarkedBefore : Trail → Marks → ℕ → Bool → Type 0
 IsMarkedBefore t marks i true = SomeIsAt (level t) t.entries i
 IsMarkedBefore t marks i false = NoneIsMarked (level t) t.entries marks i
 
--- an entry that is marked is kept or explained
+-- an entry that is marked is kept or explained; what was marked or kept stays so, and what is marked more was set
 pub record Explains (known : Known) (e : Entry) (asked : Bool) (before : Assignment) (marks kept marks' kept' : Marks) : Type 0 where
   pub grows : Grows marks' marks
   pub set : AreSetIn before marks' marks
@@ -30,7 +31,7 @@ pub record Explains (known : Known) (e : Entry) (asked : Bool) (before : Assignm
   pub own : is_marked marks e.lit ≡ true → (is_marked kept' e.lit ≡ true) ⊎ IsExplained known before marks' e
   pub kept_is : IsKeptOrNot known e asked marks kept marks' kept'
 
--- it is explained where it is to be explained
+-- an entry that is marked is kept or explained, and kept only where it isn't to be explained or has no known reason
 pub record ExplainsAt (known : Known) (t : Trail) (i : ℕ) (e : Entry) (before : Assignment) (marks kept marks' kept' : Marks) : Type 0 where
   pub asked : Bool
   pub test : is_marked marks e.lit ≡ true → IsToExplain (level t) t.entries marks i e asked

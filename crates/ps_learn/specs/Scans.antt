@@ -16,6 +16,7 @@ abbrev pub FirstForced : Constraint → Assignment → Option ℤ → Type 0
 FirstForced c a None = some_forced (slack c a) a c.terms ≡ false
 FirstForced c a (Some l) = Forces c a l × (1 ≤ unsigned_abs l)
 
+-- what one constraint shows
 abbrev pub ScansOne : Constraint → Assignment → Shown → Type 0
 ScansOne c a shown.Violated = is_violated c a ≡ true
 ScansOne c a (shown.Forced l) = Forces c a l × (1 ≤ unsigned_abs l)
@@ -31,6 +32,7 @@ ScansPart cs a from to (Violated id) = IsConflict (known_of cs) a id
 ScansPart cs a from to (Forced l id) = IsReason (known_of cs) a l (Some id) × IsFresh (length a) a l
 ScansPart cs a from to Settled = AreIdle cs a from to
 
+-- what the scan of all known constraints finds
 abbrev pub Scans : Known → Assignment → Scan → Type 0
 Scans known a (Violated id) = IsConflict known a id
 Scans known a (Forced l id) = IsReason known a l (Some id) × IsFresh (length a) a l

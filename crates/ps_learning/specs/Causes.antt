@@ -9,6 +9,7 @@ use Rattle.ps_learning.specs.Trails.{Entry, values_of}
 abbrev pub Marks : Type 0
 Marks = List Bool
 
+-- whether a literal's variable is marked; past the end none is
 abbrev pub is_marked : Marks → ℤ → Bool
 is_marked marks l = slice_index_or marks (place l) false
 

@@ -22,7 +22,8 @@ pub record SomeIsAt (level : ℕ) (es : List Entry) (i : ℕ) : Type 0 where
   pub there : slice_get es place ≡ Some entry
   pub level_is : entry.level ≡ level
 
--- an entry is to be explained at level 0, or at the last level after a marked one; else it is to be kept
+-- an entry is to be explained at level 0, or at the last level after another entry of it; else it is to be kept, and at the
+-- last level no entry of it before this one is marked
 abbrev pub IsToExplain : ℕ → List Entry → Marks → ℕ → Entry → Bool → Type 0
 IsToExplain top es marks i e true = (e.level ≡ 0) ⊎ ((e.level ≡ top) × SomeIsAt top es i)
 IsToExplain top es marks i e false = (1 ≤ e.level) × (e.level ≡ top → NoneIsMarked top es marks i)

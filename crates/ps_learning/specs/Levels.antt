@@ -2,6 +2,7 @@
 use Rattle.std.specs.Prelude.{ℕ, ◌≡◌, ◌≤◌, ◌<◌, max, ℤ, Option, Some, None, List, [], ◌∷◌, ◌++◌, length, unsigned_abs, All}
 use Rattle.ps_learning.specs.Trails.{Entry, Trail, level, entry_of}
 
+-- the level of an entry; 0 where there is none
 abbrev pub level_or_zero : Option Entry → ℕ
 level_or_zero None = 0
 level_or_zero (Some e) = e.level
@@ -15,7 +16,8 @@ abbrev pub greatest_level : List Entry → List ℤ → ℕ
 greatest_level es [] = 0
 greatest_level es (l ∷ ls) = max (level_at es l) (greatest_level es ls)
 
--- all of the literals but one at most are below the trail's level, and `next` is their greatest level; none is at level 0
+-- all of the literals but one at most are below the trail's level, and `next` is their greatest level; none is at level 0; a
+-- literal of the trail's level may stand last, or none
 pub record IsAsserting (t : Trail) (lits : List ℤ) (next : ℕ) : Type 0 where
   pub others : List ℤ
   pub last : List ℤ

@@ -16,13 +16,15 @@ pub record Trail : Type 0 where
   pub variables : ℕ
   pub entries : List Entry
 
+-- the values with one more literal set true
 abbrev pub and_entry : Assignment → Entry → Assignment
 and_entry a e = with_true a e.lit
 
--- the values of the variables
+-- the values of the variables after these entries
 unfoldable pub values_of : ℕ → List Entry → Assignment
 values_of variables es = fold and_entry (all_unset variables) es
 
+-- the values of the variables
 abbrev pub values : Trail → Assignment
 values t = values_of t.variables t.entries
 
@@ -32,18 +34,20 @@ unset_count [] = 0
 unset_count (None ∷ a) = suc (unset_count a)
 unset_count (Some b ∷ a) = unset_count a
 
--- how many of the literals were decided: the level of the last one
+-- how many of the literals were decided
 abbrev pub decisions : List Entry → ℕ
 decisions [] = 0
 decisions (e ∷ es) = (if is_none e.reason then 1 else 0) + decisions es
 
+-- the level of a trail: how many of its literals were decided
 abbrev pub level : Trail → ℕ
 level t = decisions t.entries
 
--- one literal more
+-- one literal more, decided: it opens a level
 abbrev pub decided : ℤ → Trail → Trail
 decided l t = record { variables = t.variables; entries = t.entries ++ record { lit = l; reason = None; level = suc (decisions t.entries) } ∷ [] }
 
+-- one literal more, implied by the constraint of this id: it stays in the level
 abbrev pub implied : ℤ → ℕ → Trail → Trail
 implied l id t = record { variables = t.variables; entries = t.entries ++ record { lit = l; reason = Some id; level = decisions t.entries } ∷ [] }
 

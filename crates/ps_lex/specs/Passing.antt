@@ -64,7 +64,7 @@ pub record AreInLine (c : Bool) (bytes left : List ℕ) : Type 0 where
   pub bytes_are : bytes ≡ passed ++ left
   pub all : AllByRecursion (λ b. IsTrue (is_in_line c b)) passed
 
--- blanks and comments with so many more of these bytes
+-- the state behind so many more bytes of a comment's line, or spaces
 abbrev pub along_line : Bool → Position → Position → ℕ → LexerState
 along_line true began here n = gap_state true began (along here n)
 along_line false began here n = gap_state false (along here (n - 1)) (along here n)

@@ -46,11 +46,12 @@ abbrev pub numbers_after : ℕ → List (List ℕ) → Option (List ℤ)
 numbers_after letter [] = None
 numbers_after letter (w ∷ ws) = if bytes_eq w (letter ∷ []) && list_all is_number ws then Some (map number_of ws) else None
 
--- what stands before the first 0, and after it
+-- what stands before the first 0
 abbrev pub before_zero : List ℤ → List ℤ
 before_zero [] = []
 before_zero (z ∷ zs) = if unsigned_abs z == 0 then [] else z ∷ before_zero zs
 
+-- what stands after the first 0
 abbrev pub after_zero : List ℤ → List ℤ
 after_zero [] = []
 after_zero (z ∷ zs) = if unsigned_abs z == 0 then zs else after_zero zs
@@ -108,6 +109,7 @@ with_step None s = None
 with_step (Some p) None = None
 with_step (Some p) (Some s) = Some (record { goal = p.goal; steps = p.steps ++ s ∷ [] })
 
+-- what is told after a line: where it is a goal, that goal and no steps; else as before
 abbrev pub with_goal : Option Constraint → Option Proof → Option Proof
 with_goal None p = p
 with_goal (Some g) p = Some (record { goal = g; steps = [] })
@@ -129,14 +131,17 @@ pub record EndWith (lines : List (List ℕ)) (p : Proof) : Type 0 where
   pub goal : goal_of goal_line ≡ Some p.goal
   pub steps : map step_of step_lines ≡ map Some p.steps
 
+-- what the whole lines of known bytes tell; of unknown ones, nothing
 abbrev pub proof_if : Option (List ℕ) → Option Proof
 proof_if None = None
 proof_if (Some bytes) = proof_of bytes
 
+-- the goal that is told
 abbrev pub goal_in : Option Proof → Option Constraint
 goal_in None = None
 goal_in (Some p) = Some p.goal
 
+-- the steps that are told
 abbrev pub steps_in : Option Proof → Option (List Step)
 steps_in None = None
 steps_in (Some p) = Some p.steps

@@ -53,7 +53,7 @@ IsPriced p conflicts (Spent learned) = learned ≡ conflicts
 abbrev pub HoldsSearch : Wcnf → ℤ → ℕ → Bool → Telling → search.the_data → Type 0
 HoldsSearch p least conflicts told new o = (h : Handed p.hard (goal_of p least) told new) × IsShown conflicts h.steps o
 
--- it holds a search that found an assignment, for a value that is no greater than this
+-- the log holds a search that found an assignment, for a value that is no greater than this
 pub record HoldsFound (p : Wcnf) (v : ℤ) (conflicts : ℕ) (told : Bool) (new : Telling) : Type 0 where
   pub least : ℤ
   pub goal : IsGoal p least
@@ -61,7 +61,7 @@ pub record HoldsFound (p : Wcnf) (v : ℤ) (conflicts : ℕ) (told : Bool) (new 
   pub handed : Handed p.hard (goal_of p least) told new
   pub learned : AreLearned conflicts handed.steps
 
--- it holds the refutation of a value of at least so much
+-- the log holds the refutation of a value of at least so much
 pub record HoldsRefutation (p : Wcnf) (least : ℤ) (conflicts : ℕ) (told : Bool) (new : Telling) : Type 0 where
   pub last : ℕ
   pub goal : IsGoal p least
@@ -78,7 +78,8 @@ IsPricedLog p conflicts told new (Best a v searches) = HoldsLast p v v conflicts
 IsPricedLog p conflicts told new (Cut a v least searches) = HoldsSearch p least conflicts told new (search.Spent conflicts)
 IsPricedLog p conflicts told new (Spent learned) = HoldsSearch p (pos 1) conflicts told new (search.Spent learned)
 
--- it holds the goal of a search for a value of at least so much, and lawful steps, at most one more than clauses may be learned
+-- the log holds the goal of a search for a value of at least so much, and lawful steps, at most one more than clauses may be
+-- learned
 pub record HoldsSteps (p : Wcnf) (least : ℤ) (conflicts : ℕ) (told : Bool) (new : Telling) : Type 0 where
   pub handed : Handed p.hard (goal_of p least) told new
   pub few : length handed.steps ≤ conflicts + 1
@@ -87,7 +88,7 @@ pub record HoldsSteps (p : Wcnf) (least : ℤ) (conflicts : ℕ) (told : Bool) (
 abbrev pub IsLogAfterFailed : Wcnf → ℤ → ℕ → Telling → Telling → Type 0
 IsLogAfterFailed p least conflicts old new = Stays old new ⊎ HoldsSteps p least conflicts old.tells new
 
--- it holds the steps of a search for such a value
+-- the log holds the goal and the steps of a search, for a value of at least a goal that a search may have
 pub record HoldsSome (p : Wcnf) (conflicts : ℕ) (told : Bool) (new : Telling) : Type 0 where
   pub least : ℤ
   pub goal : IsGoal p least

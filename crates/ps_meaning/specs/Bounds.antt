@@ -23,7 +23,7 @@ Compares Exactly x y = x ≡ y
 abbrev pub MeetsBound : Bound → List Entry → Type 0
 MeetsBound b d = Compares b.side (b.den *ℤ weight d (And b.formula b.given)) (b.num *ℤ weight d b.given)
 
--- it meets each bound
+-- the distribution meets each bound
 abbrev pub MeetsAll : List Bound → List Entry → Type 0
 MeetsAll bounds d = All (λ b. MeetsBound b d) bounds
 

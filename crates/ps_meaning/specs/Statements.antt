@@ -31,11 +31,13 @@ pub data Item : Type 0 where
   Stated : (statement : Statement) → Item
   Asked : (question : Question) → Item
 
+-- the sentences among the items, in order
 abbrev pub statements_of : List Item → List Statement
 statements_of [] = []
 statements_of (Stated s ∷ items) = s ∷ statements_of items
 statements_of (Asked q ∷ items) = statements_of items
 
+-- the queries among the items, in order
 abbrev pub questions_of : List Item → List Question
 questions_of [] = []
 questions_of (Stated s ∷ items) = questions_of items

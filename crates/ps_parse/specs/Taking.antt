@@ -17,7 +17,7 @@ use Rattle.ps_parse.specs.Machine.{Machine, next}
 use Rattle.ps_parse.specs.Standing.{IsParsed}
 use Rattle.ps_parse.specs.Kept.{machine_of, drafted_in, places_of}
 
--- a word is a letter and then bytes of words
+-- where the token is a word, it is spelled as one
 abbrev pub IsKept : Token → Type 0
 IsKept (token.Word w) = IsTrue (is_word w)
 IsKept t = Unit {0}

@@ -12,7 +12,7 @@ number_at sums p = slice_index_or sums p (pos 0)
 abbrev pub with_weight : List ℤ → (ℤ × ℤ) → List ℤ
 with_weight sums t = slice_set sums (place t.0) (number_at sums (place t.0) +ℤ variable_part t)
 
--- a weight and the number at its place sum to less than 2^127
+-- a weight and the number at its place sum to a number that fits 128 bits with its sign
 abbrev pub HasRoomFor : List ℤ → (ℤ × ℤ) → Type 0
 HasRoomFor sums t = unsigned_abs (number_at sums (place t.0)) + unsigned_abs t.1 < 2 ^ 127
 

@@ -10,7 +10,7 @@ abbrev pub propagation_of : Bool → Assignment → Propagation
 propagation_of true a = Conflict
 propagation_of false a = Open a
 
--- a hint taken after as much
+-- propagation along one more hint, from where it has come
 abbrev pub gone_along : List Constraint → Bool → Assignment → ℕ → Propagation
 gone_along known conflict a hint = after_hint (known_of known) (propagation_of conflict a) hint
 

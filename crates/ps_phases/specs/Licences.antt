@@ -44,7 +44,7 @@ pub record IsOutOfPivots (kind : ClaimKind) (s : Subject) (pivots : ℕ) (g : St
   pub none_left : left ≡ 0
   pub moving : IsMovingAt kind s g
 
--- the table is resting, and the search for a world of combination at least 1 was spent
+-- the table is resting, and the steps are those of a spent search for a world of combination at least 1
 pub record IsOutOfConflicts (kind : ClaimKind) (s : Subject) (conflicts : ℕ) (g : Stage) (limit : ℕ) (goal : Constraint) (steps : List Step) : Type 0 where
   pub limit_is : limit ≡ conflicts
   pub table : ℕ → ℕ → Rational

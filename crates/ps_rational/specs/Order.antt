@@ -12,6 +12,7 @@ IsNonneg x = pos 0 ≤ℤ x.over
 abbrev pub IsAbove : Rational → Type 0
 IsAbove x = pos 0 <ℤ x.over
 
+-- the first number is at most the second
 abbrev pub AtMost : Rational → Rational → Type 0
 AtMost x y = IsNonneg (sub y x)
 

@@ -29,6 +29,7 @@ pub record Positive : Type 0 where
 abbrev pub suc_positive : ℕ → Positive
 suc_positive n = record { value = suc n; positive = suc_is_positive n }
 
+-- 1, as a positive number
 abbrev pub one_positive : Positive
 one_positive = record { value = 1; positive = lit≤ tt }
 
@@ -72,9 +73,11 @@ fraction z d = quotient z (at_least_one d)
 abbrev pub whole : ℤ → Rational
 whole z = fraction z 1
 
+-- 0
 unfoldable pub zero_q : Rational
 zero_q = quotient (pos 0) one_positive
 
+-- 1
 unfoldable pub one_q : Rational
 one_q = quotient (pos 1) one_positive
 
@@ -82,12 +85,15 @@ one_q = quotient (pos 1) one_positive
 unfoldable pub add : Rational → Rational → Rational
 add x y = quotient (x.over *ℤ pos y.under +ℤ y.over *ℤ pos x.under) (times (den x) (den y))
 
+-- a/b * c/d = (a*c) / (b*d)
 unfoldable pub mul : Rational → Rational → Rational
 mul x y = quotient (x.over *ℤ y.over) (times (den x) (den y))
 
+-- -x
 unfoldable pub neg : Rational → Rational
 neg x = quotient (neg_ℤ x.over) (den x)
 
+-- x - y
 abbrev pub sub : Rational → Rational → Rational
 sub x y = add x (neg y)
 
@@ -101,6 +107,7 @@ inverse_of (negsuc n) d = quotient (neg_ℤ (pos d.value)) (suc_positive n)
 unfoldable pub inverse : Rational → Rational
 inverse x = inverse_of x.over (den x)
 
+-- x / y, and 0 where y is 0
 abbrev pub div : Rational → Rational → Rational
 div x y = mul x (inverse y)
 
@@ -115,15 +122,19 @@ rational_path x y e f = λ i. record {
   lowest = is_prop→PathP (λ j. IsLowestTerms (e j) (f j)) (λ j. IsLowestTerms_prop (e j) (f j)) x.lowest y.lowest i;
 }
 
+-- numerator and denominator
 abbrev parts_of : Rational → ℤ × ℕ
 parts_of x = (x.over, x.under)
 
+-- the first of two
 abbrev first : ℤ × ℕ → ℤ
 first p = p.0
 
+-- the second of two
 abbrev second : ℤ × ℕ → ℕ
 second p = p.1
 
+-- rational numbers of the same numerator and denominator are the same
 pub from_pairs : (x y : Rational) → parts_of x ≡ parts_of y → x ≡ y
 from_pairs x y e = rational_path x y (ap first e) (ap second e)
 

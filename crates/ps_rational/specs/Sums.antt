@@ -7,7 +7,7 @@ abbrev pub sum_to : ℕ → (ℕ → Rational) → Rational
 sum_to zero f = zero_q
 sum_to (suc n) f = add (sum_to n f) (f n)
 
--- the same sum of whole numbers
+-- f 0 + .. + f (n - 1), of whole numbers
 abbrev pub int_sum_to : ℕ → (ℕ → ℤ) → ℤ
 int_sum_to zero f = pos 0
 int_sum_to (suc n) f = int_sum_to n f +ℤ f n

@@ -15,7 +15,7 @@ Fits z = unsigned_abs z < size_limit
 abbrev pub product_over : Rational → Rational → ℤ
 product_over x y = int_div x.over (pos (gcd (unsigned_abs x.over) y.under)) *ℤ int_div y.over (pos (gcd (unsigned_abs y.over) x.under))
 
--- and the denominator
+-- the denominator of a/b times c/d, after the same was cancelled
 abbrev pub product_under : Rational → Rational → ℕ
 product_under x y = (x.under / gcd (unsigned_abs y.over) x.under) * (y.under / gcd (unsigned_abs x.over) y.under)
 
@@ -23,7 +23,7 @@ product_under x y = (x.under / gcd (unsigned_abs y.over) x.under) * (y.under / g
 abbrev pub ProductFits : Rational → Rational → Type 0
 ProductFits x y = Fits (product_over x y) × (product_under x y < size_limit)
 
--- one of them is too large
+-- a named number of a product is too large
 unfoldable pub ProductIsWide : Rational → Rational → Type 0
 ProductIsWide x y = ¬ ProductFits x y
 
@@ -31,15 +31,15 @@ ProductIsWide x y = ¬ ProductFits x y
 abbrev pub sum_left : Rational → Rational → ℤ
 sum_left x y = x.over *ℤ pos (y.under / gcd x.under y.under)
 
--- c * (b/g)
+-- a/b plus c/d, with g = gcd(b, d): c * (b/g)
 abbrev pub sum_right : Rational → Rational → ℤ
 sum_right x y = y.over *ℤ pos (x.under / gcd x.under y.under)
 
--- their sum t
+-- a/b plus c/d, with g = gcd(b, d): the sum t = a * (d/g) + c * (b/g)
 abbrev pub sum_over : Rational → Rational → ℤ
 sum_over x y = sum_left x y +ℤ sum_right x y
 
--- the denominator (b/g) * (d/h), with h = gcd(t, g)
+-- a/b plus c/d, with g = gcd(b, d) and h = gcd(t, g): the denominator (b/g) * (d/h)
 abbrev pub sum_under : Rational → Rational → ℕ
 sum_under x y = (x.under / gcd x.under y.under) * (y.under / gcd (unsigned_abs (sum_over x y)) (gcd x.under y.under))
 
@@ -51,6 +51,6 @@ SumOverFits x y = Fits (sum_left x y) × Fits (sum_right x y) × Fits (sum_over 
 abbrev pub SumFits : Rational → Rational → Type 0
 SumFits x y = SumOverFits x y × (sum_under x y < size_limit)
 
--- one of them is too large
+-- a named number of a sum is too large
 unfoldable pub SumIsWide : Rational → Rational → Type 0
 SumIsWide x y = ¬ SumFits x y

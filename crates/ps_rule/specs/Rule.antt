@@ -58,7 +58,7 @@ pub record IsArtificialRow (f : SimplexTable) (q i : ℕ) : Type 0 where
   pub artificial : f.artificial (f.basic i) ≡ true
   pub entry : f.entry i q ≢ zero_q
 
--- the least of them
+-- the artificial row of least number
 pub record IsLeastArtificialRow (f : SimplexTable) (q p : ℕ) : Type 0 where
   pub row : IsArtificialRow f q p
   pub least : (i : ℕ) → i < p → IsArtificialRow f q i → ⊥

@@ -1,4 +1,5 @@
--- Searches that were spent: as many clauses as the limit were learned, and neither an assignment nor a refutation found.
+-- Spent searches, by their steps alone: lawful ones, as many as the limit, each with a literal. That a search made them, or
+-- could not have gone on, isn't asked.
 use Rattle.std.specs.Prelude.{◌≡◌, ℕ, false, List, length, All}
 use Rattle.ps_steps.specs.Constraints.{Constraint}
 use Rattle.ps_steps.specs.Steps.{Step, AreLawful, is_contradiction}

@@ -17,7 +17,7 @@ IsOpenAt f a p = (p < f.variables) × (is_open_atom f a (p + 1) ≡ true)
 pub record AtomsTo (f : Form) (a : Assignment) (n : ℕ) : Type 0 where
   pub at : (var : ℕ) → var ≤ n → is_atom_variable f var ≡ true → is_unset (value_at a var) ≡ false
 
--- the place that was chosen among the first ones, if there is one to choose
+-- the place that was chosen after the first n were looked at, if there was one to choose
 abbrev pub IsChosen : Form → Assignment → ℕ → Option ℕ → Type 0
 IsChosen f a n None = AtomsTo f a n
 IsChosen f a n (Some p) = IsOpenAt f a p

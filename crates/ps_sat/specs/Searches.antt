@@ -38,11 +38,11 @@ pub record Handed (f : Form) (goal : Constraint) (told : Bool) (new : Telling) :
   pub held : Holds told new goal steps
   pub lawful : AreLawful f.variables (first_known f goal) steps
 
--- they are what an outcome says
+-- the steps that were handed over are as an outcome says
 abbrev pub IsHeld : Form → Constraint → ℕ → Bool → Telling → Outcome → Type 0
 IsHeld f goal conflicts told new o = (h : Handed f goal told new) × IsShown conflicts h.steps o
 
--- before an error they are so many at most, each with a literal
+-- the steps that were handed over before an error are so many at most, each with a literal
 abbrev pub HoldsLearned : Form → Constraint → ℕ → Bool → Telling → Type 0
 HoldsLearned f goal conflicts told new = (h : Handed f goal told new) × AreLearned conflicts h.steps
 

@@ -37,10 +37,12 @@ unfoldable pub value_at : Assignment → ℕ → Option Bool
 value_at a zero = None
 value_at a (suc p) = slice_index_or a p None
 
+-- whether there is a value, and it is false
 abbrev pub is_false : Option Bool → Bool
 is_false None = false
 is_false (Some b) = not b
 
+-- whether there is no value
 abbrev pub is_unset : Option Bool → Bool
 is_unset None = true
 is_unset (Some b) = false
@@ -49,10 +51,11 @@ is_unset (Some b) = false
 abbrev pub all_unset : ℕ → Assignment
 all_unset variables = replicate variables None
 
--- one literal set true, or false
+-- one literal set true
 unfoldable pub with_true : Assignment → ℤ → Assignment
 with_true a l = slice_set a (place l) (Some (is_positive l))
 
+-- one literal set false
 unfoldable pub with_false : Assignment → ℤ → Assignment
 with_false a l = slice_set a (place l) (Some (not (is_positive l)))
 
@@ -65,11 +68,12 @@ without a (suc p) = slice_set a p None
 abbrev pub full : List Bool → Assignment
 full w = map Some w
 
--- the values of the variables, false where there is none
+-- a value, and false where there is none
 abbrev pub value_or_false : Option Bool → Bool
 value_or_false None = false
 value_or_false (Some b) = b
 
+-- the values of the variables, false where there is none
 abbrev pub values_of : Assignment → List Bool
 values_of a = map value_or_false a
 

@@ -24,7 +24,7 @@ is_open a l = not (is_false (value_of a l))
 abbrev pub slack : Constraint → Assignment → ℤ
 slack c a = pos (sum_where (is_open a) c.terms) -ℤ c.degree
 
--- no way to go on meets it
+-- the slack is below 0, so no full assignment with these values meets the constraint
 abbrev pub is_violated : Constraint → Assignment → Bool
 is_violated c a = int_lt (slack c a) (pos 0)
 
@@ -54,6 +54,6 @@ abbrev pub with_forced : ℤ → List (ℤ × ℕ) → Assignment → Assignment
 with_forced s [] a = a
 with_forced s (t ∷ ts) a = with_forced s ts (if is_forced s a t then with_true a t.0 else a)
 
--- the constraint's literals that are false in the first assignment are false in the second: it says no less of them
+-- the constraint's literals that are false in the first assignment are false in the second
 pub record Covers (c : Constraint) (a b : Assignment) : Type 0 where
   pub at : (l : ℤ) (k : ℕ) → HasTerm l k c.terms → is_open b l ≡ true → is_open a l ≡ true

@@ -12,7 +12,7 @@ use Rattle.ps_steps.specs.Steps.{Known, Step, id_of, lits_of, hints_of, AreWithi
 abbrev pub WeightsAreBounded : Type 0
 WeightsAreBounded = (w : List Bool) (ts : Weighted) (least : ℤ) → IsMet w (constraint_of ts least) ↔ (least ≤ℤ true_weight w ts)
 
--- and a clause where one of its literals is true
+-- a clause is met where one of its literals is true, and nowhere else
 abbrev pub ClausesNeedOne : Type 0
 ClausesNeedOne = (w : List Bool) (lits : List ℤ) → IsMet w (clause_of lits) ↔ (list_any (holds w) lits ≡ true)
 
@@ -20,7 +20,7 @@ ClausesNeedOne = (w : List Bool) (lits : List ℤ) → IsMet w (clause_of lits) 
 abbrev pub ClausesArePlain : Type 0
 ClausesArePlain = (lits : List ℤ) → AreDifferent lits → IsPlain (clause_of lits)
 
--- its slack is the number of the literals that aren't false, less 1
+-- the slack of a clause of different variables is the number of its literals that aren't false, less 1
 abbrev pub SlackCountsOpen : Type 0
 SlackCountsOpen = (a : Assignment) (lits : List ℤ) → AreDifferent lits → slack (clause_of lits) a ≡ pos (length (filter (is_open a) lits)) -ℤ pos 1
 
@@ -29,10 +29,11 @@ abbrev pub ConstraintsStayWithin : Type 0
 ConstraintsStayWithin = (n : ℕ) (ts : Weighted) (least : ℤ) → All (λ t. place t.0 < n) ts → IsWithin n (constraint_of ts least)
 
 -- ---- assignments
--- an assignment in which each variable has a value is the one of its values, and each full one is such
+-- an assignment gives each variable a value exactly where it is the full one of its values
 abbrev pub CompleteAreFull : Type 0
 CompleteAreFull = (a : Assignment) → IsComplete a ↔ (a ≡ full (values_of a))
 
+-- a full assignment has the values of which it was made
 abbrev pub FullKeepValues : Type 0
 FullKeepValues = (w : List Bool) → values_of (full w) ≡ w
 
@@ -44,6 +45,7 @@ FullMeetOrViolate = (w : List Bool) (c : Constraint) → IsWithin (length w) c �
 abbrev pub SlackFalls : Type 0
 SlackFalls = (c : Constraint) (a b : Assignment) → Covers c a b → slack c b ≤ℤ slack c a
 
+-- where more literals are false, a violated constraint stays violated
 abbrev pub ViolatedStay : Type 0
 ViolatedStay = (c : Constraint) (a b : Assignment) → Covers c a b → is_violated c a ≡ true → is_violated c b ≡ true
 
@@ -62,6 +64,7 @@ ForcedAreSet = (c : Constraint) (a : Assignment) (l : ℤ) → IsNormal (weighte
 abbrev pub StepsFollow : Type 0
 StepsFollow = (w : List Bool) (variables : ℕ) (known : Known) (s : Step) → AreMet w known → IsLawful variables known s → IsMet w (added s)
 
+-- what is known with a lawful step follows from what was known before it
 abbrev pub StepsAreEntailed : Type 0
 StepsAreEntailed = (variables : ℕ) (known : Known) (s : Step) → IsLawful variables known s → Entails known (with_step known s)
 
@@ -86,11 +89,11 @@ abbrev pub OneMoreIsLawful : Type 0
 OneMoreIsLawful = (variables : ℕ) (known : Known) (ss : List Step) (s : Step)
     → AreLawful variables known (ss ++ s ∷ []) ↔ (AreLawful variables known ss × IsLawful variables (with_steps known ss) s)
 
--- it adds one constraint behind the others
+-- one more step in a list adds one constraint behind the others
 abbrev pub OneMoreIsKnown : Type 0
 OneMoreIsKnown = (known : Known) (ss : List Step) (s : Step) → with_steps known (ss ++ s ∷ []) ≡ with_step (with_steps known ss) s
 
--- and the list ends in a contradiction where the step is one
+-- a list with one more step ends in a contradiction exactly where that step is one
 abbrev pub OneMoreEnds : Type 0
 OneMoreEnds = (ss : List Step) (s : Step) → ends_in_contradiction (ss ++ s ∷ []) ≡ is_contradiction s
 
@@ -98,11 +101,12 @@ OneMoreEnds = (ss : List Step) (s : Step) → ends_in_contradiction (ss ++ s ∷
 abbrev pub NoneIsRefused : Type 0
 NoneIsRefused = (variables : ℕ) (known : Known) (ss : List Step) → (first_refusal variables known ss ≡ None) ↔ AreLawful variables known ss
 
--- after lawful steps the first refusal is that of the step behind them, and a refusal before it stays the first
+-- after lawful steps the first refusal is that of the step behind them
 abbrev pub OneMoreIsRefused : Type 0
 OneMoreIsRefused = (variables : ℕ) (known : Known) (ss : List Step) (s : Step) → AreLawful variables known ss
     → first_refusal variables known (ss ++ s ∷ []) ≡ or_later (id_of s) (refusal_of variables (with_steps known ss) s) None
 
+-- a refusal among the first steps stays the first with one more step behind them
 abbrev pub RefusalsStay : Type 0
 RefusalsStay = (variables : ℕ) (known : Known) (ss : List Step) (s : Step) (r : ℕ × StepRefused) → first_refusal variables known ss ≡ Some r
     → first_refusal variables known (ss ++ s ∷ []) ≡ Some r
@@ -115,7 +119,7 @@ LiteralsDiffer = (variables : ℕ) (known : Known) (s : Step) → IsLawful varia
 abbrev pub StepsStayWithin : Type 0
 StepsStayWithin = (variables : ℕ) (known : Known) (s : Step) → AreWithin variables known → IsLawful variables known s → AreWithin variables (with_step known s)
 
--- and it has at most as many literals and hints together as there are variables, and 1
+-- after constraints of the variables a lawful step has at most one more literals and hints, together, than there are variables
 abbrev pub StepsAreShort : Type 0
 StepsAreShort = (variables : ℕ) (known : Known) (s : Step) → AreWithin variables known → IsLawful variables known s
     → (length (lits_of s) + length (hints_of s)) ≤ (variables + 1)

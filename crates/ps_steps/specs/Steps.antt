@@ -10,10 +10,12 @@ use Rattle.ps_steps.specs.Weights.{clause_of, IsWithin}
 abbrev pub Known : Type 0
 Known = List (Option Constraint)
 
+-- the known constraint of an id, if there is one
 unfoldable pub constraint_at : Known → ℕ → Option Constraint
 constraint_at known zero = None
 constraint_at known (suc i) = slice_index_or known i None
 
+-- the id of the next constraint
 abbrev pub next_id : Known → ℕ
 next_id known = length known + 1
 
@@ -31,12 +33,15 @@ pub record Step : Type 0 where
   pub lits : List ℤ
   pub hints : List ℕ
 
+-- a step's id
 abbrev pub id_of : Step → ℕ
 id_of s = s.id
 
+-- the literals of a step's clause
 abbrev pub lits_of : Step → List ℤ
 lits_of s = s.lits
 
+-- a step's hints
 abbrev pub hints_of : Step → List ℕ
 hints_of s = s.hints
 
@@ -58,11 +63,13 @@ abbrev pub after_conflict : ℕ → Option Constraint → Propagation
 after_conflict hint None = Refused (UnknownHint hint)
 after_conflict hint (Some c) = Refused (HintIdle hint)
 
+-- propagation along one more hint; a refusal stays
 unfoldable pub after_hint : Known → Propagation → ℕ → Propagation
 after_hint known (Open a) hint = at_constraint hint a (constraint_at known hint)
 after_hint known Conflict hint = after_conflict hint (constraint_at known hint)
 after_hint known (Refused why) hint = Refused why
 
+-- propagation along these hints, in order
 abbrev pub after_hints : Known → Propagation → List ℕ → Propagation
 after_hints known x hints = fold (after_hint known) x hints
 
@@ -75,11 +82,13 @@ and_false (Some a) l = if nat_lt (place l) (length a) && is_unset (value_of a l)
 unfoldable pub all_false : ℕ → List ℤ → Option Assignment
 all_false variables lits = fold and_false (Some (all_unset variables)) lits
 
+-- why propagation at its end shows nothing, or none where it has met a conflict
 abbrev pub end_of : Propagation → Option StepRefused
 end_of (Open a) = Some NoConflict
 end_of Conflict = None
 end_of (Refused why) = Some why
 
+-- why propagation along the hints from an assignment shows nothing, if it shows nothing; without an assignment a literal is bad
 abbrev pub from_start : Known → List ℕ → Option Assignment → Option StepRefused
 from_start known hints None = Some BadLit
 from_start known hints (Some a) = end_of (after_hints known (Open a) hints)
@@ -90,6 +99,7 @@ abbrev pub refusal_of : ℕ → Known → Step → Option StepRefused
 refusal_of variables known s =
     if id_of s == next_id known then from_start known (hints_of s) (all_false variables (lits_of s)) else Some IdNotNext
 
+-- the step is refused for no reason
 abbrev pub IsLawful : ℕ → Known → Step → Type 0
 IsLawful variables known s = refusal_of variables known s ≡ None
 
@@ -114,15 +124,17 @@ abbrev pub AreLawful : ℕ → Known → List Step → Type 0
 AreLawful variables known [] = Unit {0}
 AreLawful variables known (s ∷ ss) = IsLawful variables known s × AreLawful variables (with_step known s) ss
 
--- the id of the first step that isn't lawful after those before it, and why it isn't
+-- a refusal of this id, or else what comes later
 abbrev pub or_later : ℕ → Option StepRefused → Option (ℕ × StepRefused) → Option (ℕ × StepRefused)
 or_later id None later = later
 or_later id (Some why) later = Some (id, why)
 
+-- the id of the first step that isn't lawful after those before it, and why it isn't
 abbrev pub first_refusal : ℕ → Known → List Step → Option (ℕ × StepRefused)
 first_refusal variables known [] = None
 first_refusal variables known (s ∷ ss) = or_later (id_of s) (refusal_of variables known s) (first_refusal variables (with_step known s) ss)
 
+-- whether the last of some steps is a contradiction
 abbrev pub ends_in_contradiction : List Step → Bool
 ends_in_contradiction [] = false
 ends_in_contradiction (s ∷ []) = is_contradiction s

@@ -19,15 +19,16 @@ size_sum [] = 0
 size_sum (t ∷ ts) = unsigned_abs t.1 + size_sum ts
 
 -- a negative literal counts 1 less its variable, so that a sum of weighted literals is a constant and a sum over variables:
--- the part of a weighted literal in the constant
+-- the part of one weighted literal in the constant
 abbrev pub constant_part : (ℤ × ℤ) → ℤ
 constant_part t = if is_positive t.0 then pos 0 else t.1
 
+-- the constant of a sum of weighted literals
 abbrev pub constant_of : Weighted → ℤ
 constant_of [] = pos 0
 constant_of (t ∷ ts) = constant_part t +ℤ constant_of ts
 
--- its part in the coefficient of its variable
+-- the part of a weighted literal in the coefficient of its variable
 abbrev pub variable_part : (ℤ × ℤ) → ℤ
 variable_part t = if is_positive t.0 then t.1 else neg_ℤ t.1
 
@@ -91,10 +92,11 @@ pub record IsPlain (c : Constraint) : Type 0 where
   pub degree : c.degree ≡ pos 1
   pub coefficients : All (λ t. t.1 ≡ 1) c.terms
 
--- weighted literals as terms
+-- a weighted literal as a term
 abbrev pub term_of : (ℤ × ℤ) → ℤ × ℕ
 term_of t = (t.0, unsigned_abs t.1)
 
+-- weighted literals as terms
 abbrev pub terms_of : Weighted → List (ℤ × ℕ)
 terms_of ts = map term_of ts
 

@@ -112,7 +112,7 @@ pub record IsNarrowCell (X : ℕ → ℕ → Rational) (p q i j : ℕ) : Type 0 
 abbrev pub IsTimesNarrow : GridCells → Pivot → ℕ → ℕ → Type 0
 IsTimesNarrow g p i j = ¬ IsOperationWide Mul (cell_in g i p.column) (scaled_in g p j)
 
--- nor the difference
+-- the difference in row i of column j isn't refused
 abbrev pub IsMinusNarrow : GridCells → Pivot → ℕ → ℕ → Type 0
 IsMinusNarrow g p i j = ¬ IsOperationWide Sub (cell_in g i j) (lost_in g p i j)
 
@@ -120,11 +120,11 @@ IsMinusNarrow g p i j = ¬ IsOperationWide Sub (cell_in g i j) (lost_in g p i j)
 abbrev pub IsCellNarrow : GridCells → Pivot → ℕ → ℕ → Type 0
 IsCellNarrow g p i j = IsNarrowCell (cell_in g) p.row p.column i j
 
--- there is a 0 in the pivot's row or column
+-- the pivot's row has a 0 in column j, or the pivot's column has a 0 in row i
 abbrev pub LosesNothing : GridCells → Pivot → ℕ → ℕ → Type 0
 LosesNothing g p i j = (scaled_in g p j ≡ zero_q) ⊎ (cell_in g i p.column ≡ zero_q)
 
--- neither operation is refused, in another row than the pivot's
+-- neither operation on row i of column j is refused, unless row i is the pivot's
 abbrev pub IsNarrowBeside : GridCells → Pivot → ℕ → ℕ → Type 0
 IsNarrowBeside g p i j = i ≢ p.row → IsCellNarrow g p i j
 
@@ -147,11 +147,11 @@ pub record IsNewColumn (g : GridCells) (entries : List ℤ) : Type 0 where
 abbrev pub GridNewPlaces : GridCells → List ℤ → Place → Op → Rational → Rational → Type 0
 GridNewPlaces g entries = NewPlace g.rows (cell_in g) entries
 
--- row m of the new column, times the home of row m in row i
+-- row m of a new world's column, times the home of row m in row i
 abbrev pub part_in : GridCells → List ℤ → ℕ → ℕ → Rational
 part_in g entries i m = new_part (cell_in g) entries i m
 
--- the sum of these before row m
+-- the sum of these products before row m, in row i
 abbrev pub sum_in : GridCells → List ℤ → ℕ → ℕ → Rational
 sum_in g entries i m = sum_to m (new_part (cell_in g) entries i)
 
@@ -160,19 +160,19 @@ pub record IsNarrowPart (X : ℕ → ℕ → Rational) (entries : List ℤ) (i m
   pub times : ¬ IsOperationWide Mul (X i (suc m)) (world_entry entries m)
   pub plus : ¬ IsOperationWide Add (sum_to m (new_part X entries i)) (new_part X entries i m)
 
--- the entry of row m is 0, or its home is in row i
+-- the entry of row m is 0, or the cell of its home in row i is
 abbrev pub AddsNothing : GridCells → List ℤ → ℕ → ℕ → Type 0
 AddsNothing g entries i m = (get_or entries m (pos 0) ≡ pos 0) ⊎ (cell_in g i (suc m) ≡ zero_q)
 
--- the product in row i isn't refused
+-- the product in row i isn't refused as row m of a new world's column is added
 abbrev pub IsProductNarrow : GridCells → List ℤ → ℕ → ℕ → Type 0
 IsProductNarrow g entries i m = ¬ IsOperationWide Mul (cell_in g i (suc m)) (world_entry entries m)
 
--- nor the sum
+-- the sum in row i isn't refused as row m of a new world's column is added
 abbrev pub IsSumNarrow : GridCells → List ℤ → ℕ → ℕ → Type 0
 IsSumNarrow g entries i m = ¬ IsOperationWide Add (sum_in g entries i m) (part_in g entries i m)
 
--- neither is refused in row i
+-- no operation of a new world's column is refused in row i
 abbrev pub IsEntryNarrow : GridCells → List ℤ → ℕ → Type 0
 IsEntryNarrow g entries i = (m : ℕ) → m < g.rows → IsNarrowPart (cell_in g) entries i m
 

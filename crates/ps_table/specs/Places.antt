@@ -23,7 +23,7 @@ use Rattle.ps_table.specs.Tableau.{Tableau, number_in, number_shown, number_of, 
 use Rattle.ps_table.specs.Pricing.{cost_at}
 
 -- ---- when an operation is refused
--- a named number of the operation is too large
+-- a named number of the operation is too large; a common multiple has none, since its places are of printed numbers
 abbrev pub IsOperationWide : Op → Rational → Rational → Type 0
 IsOperationWide Add x y = SumIsWide x y
 IsOperationWide Sub x y = SumIsWide x (neg y)
@@ -55,7 +55,7 @@ IsWide (NewTimes i m) op x y = IsOperationWide op x y
 IsWide (NewPlus i m) op x y = IsOperationWide op x y
 
 -- ---- the places of each call, in a table of n rows with entries X
--- of a pivot in row p and column q
+-- the places of a pivot in row p and column q, each with its operation and operands
 pub data PivotPlace (n worlds : ℕ) (X : ℕ → ℕ → Rational) (p q : ℕ) : Place → Op → Rational → Rational → Type 0 where
   at_scale : (c : TableCol) → IsShown n worlds c
       → PivotPlace n worlds X p q (Scale c) Div (X p (number_shown n c)) (X p q)
@@ -68,7 +68,7 @@ pub data PivotPlace (n worlds : ℕ) (X : ℕ → ℕ → Rational) (p q : ℕ) 
 abbrev pub new_part : (ℕ → ℕ → Rational) → List ℤ → ℕ → ℕ → Rational
 new_part X entries i m = mul (X i (suc m)) (world_entry entries m)
 
--- of a new world's column
+-- the places of a new world's column, each with its operation and operands
 pub data NewPlace (n : ℕ) (X : ℕ → ℕ → Rational) (entries : List ℤ) : Place → Op → Rational → Rational → Type 0 where
   at_new_times : (i m : ℕ) → i < n → m < n → NewPlace n X entries (NewTimes i m) Mul (X i (suc m)) (world_entry entries m)
   at_new_plus : (i m : ℕ) → i < n → m < n
@@ -78,7 +78,7 @@ pub data NewPlace (n : ℕ) (X : ℕ → ℕ → Rational) (entries : List ℤ) 
 abbrev pub cost_part : (ℕ → Rational) → (ℕ → ℕ) → (ℕ → ℕ → Rational) → ℕ → ℕ → Rational
 cost_part cost basic X j i = mul (cost (basic i)) (X i j)
 
--- of what the rows carry of column c
+-- the places of what the rows carry of column c, each with its operation and operands
 pub data CostPlace (n : ℕ) (cost : ℕ → Rational) (basic : ℕ → ℕ) (X : ℕ → ℕ → Rational) (c : Col) : Place → Op → Rational → Rational → Type 0 where
   at_cost : (i : ℕ) → i < n
       → CostPlace n cost basic X c (Cost c i) Add (sum_to i (cost_part cost basic X (number_in n c))) (cost_part cost basic X (number_in n c) i)
@@ -91,7 +91,7 @@ multiplier n cost basic X m = carried_by n cost basic X (suc m)
 abbrev pub multiple_to : ℕ → (ℕ → Rational) → (ℕ → ℕ) → (ℕ → ℕ → Rational) → ℕ → ℕ
 multiple_to n cost basic X i = lcm_to i (λ m. (multiplier n cost basic X m).under)
 
--- of the whole multiples of the multipliers that a dual prints
+-- the places of the whole multiples of the multipliers that a dual prints, each with its operation and operands
 pub data MultiplierPlace (n : ℕ) (cost : ℕ → Rational) (basic : ℕ → ℕ) (X : ℕ → ℕ → Rational) : Place → Op → Rational → Rational → Type 0 where
   at_whole : (i : ℕ) → i < n
       → MultiplierPlace n cost basic X (Whole i) Lcm (whole (pos (multiple_to n cost basic X i))) (whole (pos (multiplier n cost basic X i).under))
@@ -115,7 +115,7 @@ weight_multiple_to n basic X i = lcm_to i (weight_under n basic X)
 abbrev pub weight_at : ℕ → (ℕ → ℕ) → (ℕ → ℕ → Rational) → ℕ → ℤ
 weight_at n basic X i = if ltb n (basic i) then scaled (weight_multiple_to n basic X n) (X i 0) else pos 0
 
--- of the weights that a model prints, and their sums
+-- the places of the weights that a model prints, and of their sums, each with its operation and operands
 pub data WeightPlace (n : ℕ) (basic : ℕ → ℕ) (X : ℕ → ℕ → Rational) : Place → Op → Rational → Rational → Type 0 where
   at_weight : (i : ℕ) → i < n → IsWeighed n basic X i
       → WeightPlace n basic X (Weight i) Lcm (whole (pos (weight_multiple_to n basic X i))) (whole (pos (X i 0).under))
@@ -125,19 +125,19 @@ pub data WeightPlace (n : ℕ) (basic : ℕ → ℕ) (X : ℕ → ℕ → Ration
       → WeightPlace n basic X (Total i) Add (whole (int_sum_to i (weight_at n basic X))) (whole (weight_at n basic X i))
 
 -- ---- the places of a table's calls
--- of a pivot
+-- the places of a pivot in a table
 abbrev pub PivotPlaces : Tableau → ℕ → Col → Place → Op → Rational → Rational → Type 0
 PivotPlaces t p q = PivotPlace (length t.kinds) t.worlds (entry_at t) p (number_of t q)
 
--- of a new world's column
+-- the places of a new world's column in a table
 abbrev pub NewPlaces : Tableau → List ℤ → Place → Op → Rational → Rational → Type 0
 NewPlaces t entries = NewPlace (length t.kinds) (entry_at t) entries
 
--- of what the rows carry of a column
+-- the places of what the rows of a table carry of a column
 abbrev pub CostPlaces : Tableau → Costs → Col → Place → Op → Rational → Rational → Type 0
 CostPlaces t costs c = CostPlace (length t.kinds) (cost_at costs) (basic_at t) (entry_at t) c
 
--- of the multiplier of a row
+-- the places of the multiplier of a row of a table
 abbrev pub HomePlaces : Tableau → Costs → ℕ → Place → Op → Rational → Rational → Type 0
 HomePlaces t costs m = CostPlaces t costs (col.Home m)
 
@@ -151,7 +151,7 @@ pub record IsWideAt (P : Place → Op → Rational → Rational → Type 0) (w :
   pub at : P w.place w.op w.left w.right
   pub wide : IsWide w.place w.op w.left w.right
 
--- where it isn't want of memory
+-- a refusal stands at one of these places and is wide there, or is want of memory
 abbrev pub IsRefusedAt : (Place → Op → Rational → Rational → Type 0) → TableError → Type 0
 IsRefusedAt P (refused.Wide w) = IsWideAt P w
 IsRefusedAt P refused.NoMemory = Unit {0}

@@ -23,6 +23,7 @@ pub record HasCosts (costs : Costs) (t : Tableau) : Type 0 where
 abbrev pub cost_number : Costs → ℕ → ℤ
 cost_number costs j = get_or (costs.homes ++ costs.worlds) (j - 1) (pos 0)
 
+-- the cost of the column of this number, as a rational number
 abbrev pub cost_at : Costs → ℕ → Rational
 cost_at costs j = fraction (cost_number costs j) 1
 
@@ -30,7 +31,7 @@ cost_at costs j = fraction (cost_number costs j) 1
 abbrev pub part_at : Tableau → Costs → ℕ → ℕ → Rational
 part_at t costs j i = mul (cost_at costs (basic_at t i)) (entry_at t i j)
 
--- what the rows before row n carry
+-- what the rows before row n carry of column j
 abbrev pub carried_to : Tableau → Costs → ℕ → ℕ → Rational
 carried_to t costs j n = sum_to n (part_at t costs j)
 

@@ -13,10 +13,11 @@ use Rattle.ps_basis.specs.Table.{Stands, Pivoted, Based, HasHomes, unit_at}
 abbrev pub most_rows : ℕ
 most_rows = 101
 
--- above the count of a table's worlds
+-- a table has fewer worlds than this
 abbrev pub world_limit : ℕ
 world_limit = 2 ^ 32
 
+-- a table as it is seen: the kind of each home, the number of worlds, the cells column by column, and the basic columns
 pub record Tableau : Type 0 where
   pub kinds : List Home
   pub worlds : ℕ
@@ -29,6 +30,7 @@ abbrev pub number_in : ℕ → Col → ℕ
 number_in n (col.Home i) = suc i
 number_in n (col.World k) = n + k
 
+-- the number of a column as a refusal names it: the right side is 0
 abbrev pub number_shown : ℕ → TableCol → ℕ
 number_shown n Right = 0
 number_shown n (Of c) = number_in n c
@@ -38,6 +40,7 @@ abbrev pub IsInside : ℕ → ℕ → Col → Type 0
 IsInside n worlds (col.Home i) = i < n
 IsInside n worlds (col.World k) = (0 < k) × (k ≤ worlds)
 
+-- a refusal may name the column: the right side, or a column that there is
 abbrev pub IsShown : ℕ → ℕ → TableCol → Type 0
 IsShown n worlds Right = Unit {0}
 IsShown n worlds (Of c) = IsInside n worlds c
@@ -74,6 +77,8 @@ entry_of t i c = entry_at t i (number_of t c)
 abbrev pub basic_at : Tableau → ℕ → ℕ
 basic_at t i = number_in (length t.kinds) (get_or t.basic i (col.Home 0))
 
+-- a table as it is kept: some rows, at most as many as may be; a cell for each row and column; in each row one of its columns
+-- is basic
 pub record IsTableau (t : Tableau) : Type 0 where
   pub some : 0 < length t.kinds
   pub few : length t.kinds ≤ most_rows

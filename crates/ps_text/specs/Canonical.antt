@@ -31,16 +31,19 @@ canonical_form (formula.Iff f g) = Iff (fitted 1 (canonical_form f)) (fitted 2 (
 abbrev pub canonical_numeral : Ratio → Numeral
 canonical_numeral r = if r.den == 1 then Whole (decimal r.num) else Quotient (decimal r.num) (decimal r.den)
 
+-- how a side, a value and perhaps an upper value are written
 abbrev pub canonical_relation : Side → Ratio → Option Ratio → Relation
 canonical_relation side.Exactly r upper = Exactly (canonical_numeral r)
 canonical_relation side.AtMost r upper = AtMost (canonical_numeral r)
 canonical_relation side.AtLeast r None = AtLeast (canonical_numeral r)
 canonical_relation side.AtLeast r (Some q) = Within (canonical_numeral r) (canonical_numeral q)
 
+-- how a condition is written, if there is one
 abbrev pub canonical_given : Option (formula.Formula meaning.Name) → Option Form
 canonical_given None = None
 canonical_given (Some f) = Some (canonical_form f)
 
+-- how the probability of a formula, perhaps given a condition, is written
 abbrev pub canonical_prob : formula.Formula meaning.Name → Option (formula.Formula meaning.Name) → Prob
 canonical_prob f g = record { form = canonical_form f; given = canonical_given g }
 
@@ -66,13 +69,16 @@ form_text (Or f g) = form_text f ++ (codes " | " ++ form_text g)
 form_text (Implies f g) = form_text f ++ (codes " -> " ++ form_text g)
 form_text (Iff f g) = form_text f ++ (codes " <-> " ++ form_text g)
 
+-- the text of a condition: none where there is none
 abbrev pub given_text : Option Form → List ℕ
 given_text None = []
 given_text (Some f) = codes " given " ++ form_text f
 
+-- the text of a probability
 abbrev pub prob_text : Prob → List ℕ
 prob_text p = codes "P(" ++ (form_text p.form ++ (given_text p.given ++ codes ")"))
 
+-- the text of a relation, with a space before it
 abbrev pub relation_text : Relation → List ℕ
 relation_text (Exactly x) = codes " = " ++ numeral_spelling x
 relation_text (AtLeast x) = codes " >= " ++ numeral_spelling x
@@ -84,10 +90,12 @@ abbrev pub entry_text : Entry → List ℕ
 entry_text (Sentence p r) = prob_text p ++ (relation_text r ++ codes ";\n")
 entry_text (Query p) = codes "query " ++ (prob_text p ++ codes ";\n")
 
+-- the texts of these entries, one after the other
 abbrev pub entries_text : List Entry → List ℕ
 entries_text [] = []
 entries_text (e ∷ es) = entry_text e ++ entries_text es
 
+-- the canonical text of these items
 abbrev pub canonical_text : List Item → List ℕ
 canonical_text items = codes "psat 1;\n" ++ (entries_text (canonical_entries items) ++ codes "end;\n")
 
@@ -111,6 +119,7 @@ pub record IsWritable (f : formula.Formula meaning.Name) : Type 0 where
   pub names : HasNames f
   pub nests : Nests 0 (canonical_form f)
 
+-- a condition, where there is one, can be written
 abbrev pub IsWritableGiven : Option (formula.Formula meaning.Name) → Type 0
 IsWritableGiven None = Unit {0}
 IsWritableGiven (Some f) = IsWritable f
@@ -134,6 +143,7 @@ abbrev pub IsLawfulItem : Item → Type 0
 IsLawfulItem (Stated s) = IsWritable s.formula × IsWritableGiven s.given × IsReduced s.value × IsUpper s.side s.upper
 IsLawfulItem (Asked q) = IsWritable q.formula × IsWritableGiven q.given
 
+-- each item is lawful
 abbrev pub AreLawful : List Item → Type 0
 AreLawful [] = Unit {0}
 AreLawful (i ∷ is) = IsLawfulItem i × AreLawful is

@@ -28,6 +28,7 @@ outside p = record { part = p; query = false; given = false; opened = [] }
 abbrev pub at_start : State
 at_start = outside part.Psat
 
+-- whether a token is a number
 abbrev pub is_number : Token → Bool
 is_number (Number n) = true
 is_number t = false
@@ -53,6 +54,7 @@ is_relation t = is_the_sign Equals t || is_the_sign GreaterEquals t || is_the_si
 abbrev pub is_connective : Token → Bool
 is_connective t = is_the_sign Ampersand t || is_the_sign Bar t || is_the_sign Arrow t || is_the_sign DoubleArrow t
 
+-- whether an opening is a `(` of a formula
 abbrev pub is_group : Opening → Bool
 is_group opening.Group = true
 is_group o = false
@@ -79,6 +81,7 @@ value_fault (Quotient ds es) = if value es == 0 then Some ZeroDenominator
 value_fault (Decimal ds es) = if nat_lt MOST_DECIMALS (length es) then Some TooManyDecimals
     else (if nat_lt (10 ^ length es) (value (ds ++ es)) then Some NumberOutOfRange else None)
 
+-- the fault of a number as a value, if it has one; another token has none
 abbrev pub number_fault : Token → Option ReadKind
 number_fault (Number n) = value_fault n
 number_fault t = None
@@ -150,7 +153,7 @@ pub record Row : Type 0 where
   pub fault : State → Token → Option ReadKind
   pub next : State → Token → State
 
--- the table of parts; behind the text nothing is expected, and nothing is refused there
+-- the table of parts; behind the text no token is expected, and a refusal of the form (`IsRefused`) doesn't come there
 abbrev pub row : Part → Row
 row part.Psat = record { what = what.Psat; expects = λ d t. is_the_word (codes "psat") t; fault = λ d t. None; next = λ d t. outside part.Version }
 row part.Version = record { what = what.Version; expects = λ d t. is_number t; fault = λ d t. version_fault t; next = λ d t. outside part.HeadEnd }

@@ -18,7 +18,7 @@ pub record IsTextFront (bytes : List ℕ) (place : ℕ) : Type 0 where
   pub bare : IsBare rest
   pub place_is : place ≡ length (texts pieces)
 
--- and the text means these items
+-- the bytes before this place are a text that means these items, and the blanks and comments behind it
 pub record IsFront (bytes : List ℕ) (items : List Item) (place : ℕ) : Type 0 where
   pub text : IsTextFront bytes place
   pub meant : AreItems text.entries items

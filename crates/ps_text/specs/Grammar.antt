@@ -12,6 +12,7 @@ pub data Form : Type 0 where
   Group : (inner : Form) → Form
   And Or Implies Iff : (left right : Form) → Form
 
+-- the tokens of a formula
 abbrev pub spelled : Form → List Token
 spelled (Name w) = Word w ∷ []
 spelled Truth = Word (codes "true") ∷ []
@@ -71,23 +72,28 @@ pub data Entry : Type 0 where
   Sentence : (prob : Prob) (relation : Relation) → Entry
   Query : (prob : Prob) → Entry
 
+-- the tokens of a condition: none where there is none
 abbrev pub given_tokens : Option Form → List Token
 given_tokens None = []
 given_tokens (Some f) = Word (codes "given") ∷ spelled f
 
+-- the tokens of a probability
 abbrev pub prob_tokens : Prob → List Token
 prob_tokens p = Word (codes "P") ∷ Sign Open ∷ spelled p.form ++ given_tokens p.given ++ Sign Close ∷ []
 
+-- the tokens of a relation
 abbrev pub relation_tokens : Relation → List Token
 relation_tokens (Exactly x) = Sign Equals ∷ Number x ∷ []
 relation_tokens (AtLeast x) = Sign GreaterEquals ∷ Number x ∷ []
 relation_tokens (AtMost x) = Sign LessEquals ∷ Number x ∷ []
 relation_tokens (Within x y) = Word (codes "in") ∷ Sign OpenBracket ∷ Number x ∷ Sign Comma ∷ Number y ∷ Sign CloseBracket ∷ []
 
+-- the tokens of a sentence or a query
 abbrev pub entry_tokens : Entry → List Token
 entry_tokens (Sentence p r) = prob_tokens p ++ relation_tokens r ++ Sign Semicolon ∷ []
 entry_tokens (Query p) = Word (codes "query") ∷ prob_tokens p ++ Sign Semicolon ∷ []
 
+-- the tokens of these entries, one after the other
 abbrev pub entries_tokens : List Entry → List Token
 entries_tokens [] = []
 entries_tokens (e ∷ es) = entry_tokens e ++ entries_tokens es
@@ -111,6 +117,7 @@ IsProbability (Whole ds) = value ds ≤ 1
 IsProbability (Quotient ds es) = (0 < value es) × (value es ≤ GREATEST_DENOMINATOR) × (value ds ≤ value es)
 IsProbability (Decimal ds es) = (length es ≤ MOST_DECIMALS) × (value (ds ++ es) ≤ 10 ^ length es)
 
+-- a condition, where there is one, is within the grammar's levels and limits
 abbrev pub IsGiven : Option Form → Type 0
 IsGiven None = Unit {0}
 IsGiven (Some f) = IsForm f × Nests 0 f
@@ -121,6 +128,7 @@ pub record IsProb (p : Prob) : Type 0 where
   pub nests : Nests 0 p.form
   pub given : IsGiven p.given
 
+-- the values of a relation are probabilities
 abbrev pub IsRelation : Relation → Type 0
 IsRelation (Exactly x) = IsProbability x
 IsRelation (AtLeast x) = IsProbability x
@@ -132,6 +140,7 @@ abbrev pub IsEntry : Entry → Type 0
 IsEntry (Sentence p r) = IsProb p × IsRelation r
 IsEntry (Query p) = IsProb p
 
+-- each entry is within the grammar's levels and limits
 abbrev pub AreEntries : List Entry → Type 0
 AreEntries [] = Unit {0}
 AreEntries (e ∷ es) = IsEntry e × AreEntries es

@@ -21,6 +21,7 @@ formula_of (Or f g) = formula.Or (formula_of f) (formula_of g)
 formula_of (Implies f g) = formula.Implies (formula_of f) (formula_of g)
 formula_of (Iff f g) = formula.Iff (formula_of f) (formula_of g)
 
+-- the formula of a condition, if there is one
 abbrev pub given_of : Option Form → Option (formula.Formula meaning.Name)
 given_of None = None
 given_of (Some f) = Some (formula_of f)
@@ -56,6 +57,7 @@ pub record IsStatement (p : Prob) (r : Relation) (s : Statement) : Type 0 where
   pub given : s.given ≡ given_of p.given
   pub stated : States r s.side s.value s.upper
 
+-- what a query asks
 abbrev pub question_of : Prob → Question
 question_of p = record { formula = formula_of p.form; given = given_of p.given }
 

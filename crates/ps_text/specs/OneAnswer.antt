@@ -39,7 +39,7 @@ pub data Answer : Type 0 where
   Front : (items : List Item) (place : ℕ) → Answer
   Refusal : (kind : ReadKind) (place : ℕ) → Answer
 
--- it is so
+-- what is said of bytes is so
 abbrev pub IsAnswer : List ℕ → Answer → Type 0
 IsAnswer bytes (Front items place) = IsFront bytes items place
 IsAnswer bytes (Refusal kind place) = IsRefused bytes kind place

@@ -13,6 +13,7 @@ pub data Piece : Type 0 where
   Comment : (bytes : List ℕ) → Piece
   Spelled : (token : Token) → Piece
 
+-- the bytes of a piece
 abbrev pub text : Piece → List ℕ
 text (Blank b) = b ∷ []
 text (Comment c) = 35 ∷ c

@@ -15,6 +15,7 @@ pub data Numeral : Type 0 where
   Quotient : (digits below : List ℕ) → Numeral
   Decimal : (digits decimals : List ℕ) → Numeral
 
+-- a word, a number or a symbol
 pub data Token : Type 0 where
   Word : (letters : List ℕ) → Token
   Number : (numeral : Numeral) → Token
@@ -30,6 +31,7 @@ abbrev pub IsWord : List ℕ → Type 0
 IsWord [] = ⊥
 IsWord (b ∷ bs) = IsTrue (is_letter b) × AllByRecursion (λ c. IsTrue (is_word_byte c)) bs
 
+-- each of its parts is one digit or more
 abbrev pub IsNumeral : Numeral → Type 0
 IsNumeral (Whole ds) = AreDigits ds
 IsNumeral (Quotient ds es) = AreDigits ds × AreDigits es
@@ -45,11 +47,13 @@ IsToken v (Word w) = IsWord w
 IsToken v (Number n) = IsNumeral n
 IsToken v (Sign s) = IsTrue (has_symbol v s)
 
+-- the bytes of a number: `/` before the denominator, `.` before the decimals
 abbrev pub numeral_spelling : Numeral → List ℕ
 numeral_spelling (Whole ds) = ds
 numeral_spelling (Quotient ds es) = ds ++ 47 ∷ es
 numeral_spelling (Decimal ds es) = ds ++ 46 ∷ es
 
+-- the bytes of a symbol
 abbrev pub symbol_spelling : Symbol → List ℕ
 symbol_spelling Open = codes "("
 symbol_spelling Close = codes ")"
@@ -66,6 +70,7 @@ symbol_spelling Equals = codes "="
 symbol_spelling GreaterEquals = codes ">="
 symbol_spelling LessEquals = codes "<="
 
+-- the bytes of a token
 abbrev pub spelling : Token → List ℕ
 spelling (Word w) = w
 spelling (Number n) = numeral_spelling n

@@ -16,14 +16,14 @@ status_number WriteFault = 6
 status_number NoMemory = 7
 status_number Refused = 8
 
--- the answer of `check` to an input that was read
+-- a status of `check` that goes with a text
 abbrev pub EndsCheck : Status → Type 0
 EndsCheck Done = Unit {0}
 EndsCheck Unreadable = Unit {0}
 EndsCheck Refused = Unit {0}
 EndsCheck other = ⊥
 
--- the answer of `solve` to an input that was read
+-- a status of `solve` that goes with a text
 abbrev pub EndsSolve : Status → Type 0
 EndsSolve Done = Unit {0}
 EndsSolve Inconsistent = Unit {0}
@@ -31,7 +31,7 @@ EndsSolve Unreadable = Unit {0}
 EndsSolve Unfinished = Unit {0}
 EndsSolve other = ⊥
 
--- the answer of a command to an input that was read
+-- a status of a command that goes with a text
 abbrev pub IsAnswerOf : Command → Status → Type 0
 IsAnswerOf (Check limit) status = EndsCheck status
 IsAnswerOf (Solve limits) status = EndsSolve status
