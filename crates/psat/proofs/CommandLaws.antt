@@ -11,7 +11,7 @@ use Rattle.psat.specs.declared.command.Command.TheVariants.{Check, Solve}
 use Rattle.psat.specs.declared.command.SolveSetting.{SolveSetting}
 use Rattle.psat.specs.declared.command.SolveSetting.TheVariants as set
 use Rattle.psat.specs.Commands.{words_of, Limit, Bytes, Pivots, Conflicts, limit_word, most_of, default_of, LimitSetting, setting_words, AreSettings, IsSetTo, AreWordsOf, Spell, SpellNone}
-use Rattle.psat.specs.Settings.{search_limits, SpellSetting, SpellNoSetting, setting_of, limits_by, limits_by_both}
+use Rattle.psat.specs.Settings.{solve_limits, SpellSetting, SpellNoSetting, setting_of, limits_by, limits_by_both}
 use Rattle.psat.specs.Replies.{AreLimitsOf}
 use Rattle.psat.proofs.Settings.{limit-is, head-is, tail-is, setting-is, one_number, AreSmall, settings-are, set-small}
 

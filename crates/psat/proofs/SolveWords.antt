@@ -10,15 +10,15 @@ use Rattle.psat.specs.declared.command.Command.TheVariants.{Check, Solve}
 use Rattle.psat.specs.declared.command.SolveSetting.{SolveSetting}
 use Rattle.psat.specs.declared.command.SolveSetting.TheVariants as set
 use Rattle.psat.specs.Commands.{words_of, Limit, Bytes, Pivots, Conflicts, limit_word, most_of, LimitSetting, setting_words, AreSettings, IsSetTo, Spell, SpellNone}
-use Rattle.psat.specs.Settings.{search_limits, SpellSetting, SpellNoSetting, setting_of, limits_by, limits_by_both}
+use Rattle.psat.specs.Settings.{solve_limits, SpellSetting, SpellNoSetting, setting_of, limits_by, limits_by_both}
 use Rattle.psat.proofs.Settings.{limit-is, head-is, tail-is, one_number, AreSmall}
 use Rattle.psat.proofs.CommandLaws.{name-is, other_names}
 
 -- ---- what the words behind the command's name may be
-of-search : (l : Limit) → Contains search_limits l → (l ≡ Pivots) ⊎ (l ≡ Conflicts)
+of-search : (l : Limit) → Contains solve_limits l → (l ≡ Pivots) ⊎ (l ≡ Conflicts)
 of-search l h = at h.0 h.1 h.2
   where
-    at : (k : ℕ) → k < 2 → get_or search_limits k l ≡ l → (l ≡ Pivots) ⊎ (l ≡ Conflicts)
+    at : (k : ℕ) → k < 2 → get_or solve_limits k l ≡ l → (l ≡ Pivots) ⊎ (l ≡ Conflicts)
     at zero lt e = inl (sym e)
     at (suc zero) lt e = inr (sym e)
     at (suc (suc k)) lt e = absurd (omega arith)
@@ -33,7 +33,7 @@ three a b c (inr p) (inl q) (inr r) ab ac bc = ac (p ∙ sym r)
 
 -- a setting of a limit of `solve`, spelled by these words
 pub record IsOne (word number : List ℕ) (s : LimitSetting) : Type 0 where
-  pub known : Contains search_limits s.limit
+  pub known : Contains solve_limits s.limit
   pub spelled : SpellSetting word number s
 
 pub data Sets (words : List (List ℕ)) : Type 0 where
@@ -41,10 +41,10 @@ pub data Sets (words : List (List ℕ)) : Type 0 where
   One : (w n : List ℕ) (s : LimitSetting) (is : words ≡ w ∷ n ∷ []) (one : IsOne w n s) → Sets words
   Two : (w n v m : List ℕ) (s t : LimitSetting) (is : words ≡ w ∷ n ∷ v ∷ m ∷ []) (first : IsOne w n s) (second : IsOne v m t) (apart : s.limit ≢ t.limit) → Sets words
 
-one-of : (s : LimitSetting) → Contains search_limits s.limit → s.number ≤ most_of s.limit → IsOne (limit_word s.limit) (decimal s.number) s
+one-of : (s : LimitSetting) → Contains solve_limits s.limit → s.number ≤ most_of s.limit → IsOne (limit_word s.limit) (decimal s.number) s
 one-of s known within = record { known = known; spelled = record { word_is = refl; number_is = refl; within = within } }
 
-sets : (words : List (List ℕ)) (ss : List LimitSetting) → words ≡ setting_words ss → AreSettings search_limits ss → Sets words
+sets : (words : List (List ℕ)) (ss : List LimitSetting) → words ≡ setting_words ss → AreSettings solve_limits ss → Sets words
 sets words [] e are = Nothing e
 sets words (s ∷ []) e are = One _ _ s e (one-of s (are.known 0 s (omega arith)) (are.within 0 s (omega arith)))
 sets words (s ∷ t ∷ []) e are =
@@ -115,15 +115,15 @@ twice a b w n v m same p q = solve_unspelled (w ∷ n ∷ v ∷ m ∷ []) not
         apart (limit-is s.limit t.limit (sym first.spelled.word_is ∙ sym word ∙ p.word_is ∙ ap limit_word same ∙ sym q.word_is ∙ other ∙ second.spelled.word_is))
 
 -- ---- words that spell `solve`
-no_settings : AreSettings search_limits []
+no_settings : AreSettings solve_limits []
 no_settings = record { known = λ k d lt. absurd (omega (arith, lt)); once = λ i j d lt less. absurd (omega (arith, less)); within = λ k d lt. absurd (omega (arith, lt)) }
 
 alone : (P : LimitSetting → Type 0) (s : LimitSetting) → P s → All P (s ∷ [])
 alone P s p = All-cons P s [] p (All-nil P)
 
-one_known : (s : LimitSetting) → Contains search_limits s.limit → s.number ≤ most_of s.limit → AreSettings search_limits (s ∷ [])
+one_known : (s : LimitSetting) → Contains solve_limits s.limit → s.number ≤ most_of s.limit → AreSettings solve_limits (s ∷ [])
 one_known s known within = record {
-  known = alone (λ s. Contains search_limits s.limit) s known;
+  known = alone (λ s. Contains solve_limits s.limit) s known;
   once = λ i j d lt less. absurd (omega (arith, lt, less));
   within = alone (λ s. s.number ≤ most_of s.limit) s within;
 }
@@ -136,15 +136,15 @@ two_apart s t h (suc i) zero d lt less = absurd (omega (arith, lt))
 two_apart s t h (suc i) (suc zero) d lt less = absurd (omega (arith, lt))
 two_apart s t h (suc i) (suc (suc j)) d lt less = absurd (omega (arith, less))
 
-two_known : (s t : LimitSetting) → Contains search_limits s.limit → Contains search_limits t.limit → s.number ≤ most_of s.limit → t.number ≤ most_of t.limit → s.limit ≢ t.limit
-    → AreSettings search_limits (s ∷ t ∷ [])
+two_known : (s t : LimitSetting) → Contains solve_limits s.limit → Contains solve_limits t.limit → s.number ≤ most_of s.limit → t.number ≤ most_of t.limit → s.limit ≢ t.limit
+    → AreSettings solve_limits (s ∷ t ∷ [])
 two_known s t p q le less apart = record {
-  known = All-cons (λ s. Contains search_limits s.limit) s (t ∷ []) p (alone (λ s. Contains search_limits s.limit) t q);
+  known = All-cons (λ s. Contains solve_limits s.limit) s (t ∷ []) p (alone (λ s. Contains solve_limits s.limit) t q);
   once = two_apart s t apart;
   within = All-cons (λ s. s.number ≤ most_of s.limit) s (t ∷ []) le (alone (λ s. s.number ≤ most_of s.limit) t less);
 }
 
-spelled_by : (limits : Limits) (words : List (List ℕ)) (ss : List LimitSetting) → words ≡ setting_words ss → AreSettings search_limits ss → IsSetTo ss Pivots limits.pivots
+spelled_by : (limits : Limits) (words : List (List ℕ)) (ss : List LimitSetting) → words ≡ setting_words ss → AreSettings solve_limits ss → IsSetTo ss Pivots limits.pivots
     → IsSetTo ss Conflicts limits.conflicts → Spell (codes "solve" ∷ words) (Solve limits)
 spelled_by limits words ss e are p q = (record { settings = ss; words_are = ap (λ ws. codes "solve" ∷ ws) e; are = are }, p, q)
 
@@ -157,10 +157,10 @@ pivots-apart e = absurd (cc)
 conflicts-apart : Conflicts ≢ Pivots
 conflicts-apart e = absurd (cc)
 
-has_pivots : Contains search_limits Pivots
+has_pivots : Contains solve_limits Pivots
 has_pivots = (0, omega arith, refl)
 
-has_conflicts : Contains search_limits Conflicts
+has_conflicts : Contains solve_limits Conflicts
 has_conflicts = (1, omega arith, refl)
 
 pub none_set : (words : List (List ℕ)) → words ≡ [] → Spell (codes "solve" ∷ words) (Solve (record { pivots = 10000; conflicts = 20000 }))
@@ -207,13 +207,13 @@ number_set a word number p q le = record { word_is = p; number_is = q; within = 
 pub number_unset : (l : Limit) (word number : List ℕ) → word ≡ limit_word l → ((n : ℕ) → n ≤ most_of l → ¬ (number ≡ decimal n)) → SpellNoSetting word number
 number_unset l word number p none = record { none = by }
   where
-    by : (s : LimitSetting) → Contains search_limits s.limit → ¬ SpellSetting word number s
+    by : (s : LimitSetting) → Contains solve_limits s.limit → ¬ SpellSetting word number s
     by s known h = none s.number (subst (λ x. s.number ≤ most_of x) (limit-is s.limit l (sym h.word_is ∙ p)) h.within) h.number_is
 
 pub word_unset : (word number : List ℕ) → ¬ (word ≡ codes "--pivots") → ¬ (word ≡ codes "--conflicts") → SpellNoSetting word number
 word_unset word number p q = record { none = by }
   where
-    by : (s : LimitSetting) → Contains search_limits s.limit → ¬ SpellSetting word number s
+    by : (s : LimitSetting) → Contains solve_limits s.limit → ¬ SpellSetting word number s
     by s known h = one-of-both (of-search s.limit known)
       where
         one-of-both : (s.limit ≡ Pivots) ⊎ (s.limit ≡ Conflicts) → ⊥

@@ -6,8 +6,8 @@ use Rattle.psat.specs.declared.command.SolveSetting.TheVariants as set
 use Rattle.psat.specs.Commands.{Limit, Pivots, Conflicts, limit_word, most_of, default_of, LimitSetting}
 
 -- the limits of `solve`
-abbrev pub search_limits : List Limit
-search_limits = Pivots ∷ Conflicts ∷ []
+abbrev pub solve_limits : List Limit
+solve_limits = Pivots ∷ Conflicts ∷ []
 
 -- the two words are those of the setting
 pub record SpellSetting (word number : List ℕ) (s : LimitSetting) : Type 0 where
@@ -17,7 +17,7 @@ pub record SpellSetting (word number : List ℕ) (s : LimitSetting) : Type 0 whe
 
 -- they set no limit of `solve`
 pub record SpellNoSetting (word number : List ℕ) : Type 0 where
-  pub none : (s : LimitSetting) → Contains search_limits s.limit → ¬ SpellSetting word number s
+  pub none : (s : LimitSetting) → Contains solve_limits s.limit → ¬ SpellSetting word number s
 
 -- the setting of a limit of `solve`
 abbrev pub setting_of : SolveSetting → LimitSetting

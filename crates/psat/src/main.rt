@@ -2,8 +2,8 @@
 //! report on a problem.
 #![tactic(auto)]
 
-mod answer;
 mod answered;
+mod checked;
 mod command;
 mod exit;
 mod laws;

@@ -7,7 +7,7 @@ ghost use Rattle.psat.specs.Runs.{CountsReads, CountsWrites, HasRead, HasTaken, 
 ghost use Rattle.psat.specs.Runs.{HasAnswered};
 ghost use Rattle.psat.specs.Statuses.{AnswersUsage, GoesWithText, IsAnswerOf, IsSilent};
 
-use crate::answer::answer;
+use crate::checked::checked;
 use crate::command::{Command, MOST_PROBLEM, parse_words};
 use crate::message::Message;
 use crate::reply::Reply;
@@ -28,7 +28,7 @@ fn reply_to_bytes(alloc: Global, command: Command, bytes: &[u8]) -> Result<Reply
 {
     match command {
         Command::Solve { limits } => solved(alloc, bytes, limits),
-        Command::Check { .. } => Ok(Reply::Line(answer(alloc, bytes)?)),
+        Command::Check { .. } => Ok(Reply::Line(checked(alloc, bytes)?)),
     }
 }
 

@@ -5,7 +5,7 @@ use Rattle.psat.specs.declared.message.Message.{Message}
 use Rattle.psat.specs.Due.{DueReport, DueText, Spelled}
 use Rattle.psat.specs.Replies.{message_output}
 use Rattle.psat.proofs.DueLaws.{rest-is, problem-unread}
-use Rattle.psat.proofs.answer.answer.Goals as goal
+use Rattle.psat.proofs.checked.checked.Goals as goal
 
 pub returns-in-Ok-clause-due : goal.returns-in-Ok-clause-due
 returns-in-Ok-clause-due c =

@@ -1,6 +1,6 @@
 use Rattle.std.proofs.Common.{sym, arith}
 use Rattle.std.proofs.lemmas.List.{take_all, length-take-le}
-use Rattle.psat.proofs.answer.searched.Goals as goal
+use Rattle.psat.proofs.checked.searched.Goals as goal
 
 pub slice_bounds-result-end : goal.slice_bounds-result-end
 slice_bounds-result-end c = sym (length-take-le 4294967294 c.args.bytes.now (omega arith))

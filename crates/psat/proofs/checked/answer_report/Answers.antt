@@ -4,7 +4,7 @@ use Rattle.psat.specs.Due.{DueAnswer, DueReport, ReadAs}
 use Rattle.psat.specs.Replies.{message_output}
 use Rattle.psat.proofs.DueLaws.{report-fault}
 use Rattle.ps_valid.proofs.SmallAnswers.{report_small}
-use Rattle.psat.proofs.answer.answer_report.Goals as goal
+use Rattle.psat.proofs.checked.answer_report.Goals as goal
 
 pub answer_claims-requires : goal.answer_claims-requires
 answer_claims-requires c = record { limits = report_small c.args.rest.now c.in-Ok.answer c.in-Ok.ensures.found }

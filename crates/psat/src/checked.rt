@@ -57,7 +57,7 @@ fn searched(bytes: &[u8]) -> &[u8]
 }
 
 /// The message for all bytes of an input.
-pub fn answer(alloc: Global, bytes: &[u8]) -> Result<Message, NoMemory>
+pub fn checked(alloc: Global, bytes: &[u8]) -> Result<Message, NoMemory>
     ensures due { IfOk result (λ r. DueText bytes.now (message_output r)) }
     ensures status { IfOk result (λ r. EndsCheck r.status) }
 {

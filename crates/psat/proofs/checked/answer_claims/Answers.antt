@@ -1,6 +1,6 @@
 use Rattle.psat.specs.Replies.{message_output}
 use Rattle.psat.proofs.DueLaws.{judged-accepted, judged-refused}
-use Rattle.psat.proofs.answer.answer_claims.Goals as goal
+use Rattle.psat.proofs.checked.answer_claims.Goals as goal
 
 pub returns-in_ok-accepted-in-Ok-clause-due : goal.returns-in_ok-accepted-in-Ok-clause-due
 returns-in_ok-accepted-in-Ok-clause-due c =
