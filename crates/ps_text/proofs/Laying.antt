@@ -62,9 +62,6 @@ pub record Laid (ts : List Token) (bytes : List ℕ) : Type 0 where
 pub laid_none : Laid [] []
 laid_none = record { pieces = []; texts_are = refl; tokens_are = refl; cuts = λ rest q. tt }
 
-pub laid_at : (ts : List Token) (xs ys : List ℕ) → xs ≡ ys → Laid ts xs → Laid ts ys
-laid_at ts xs ys e l = subst (λ x. Laid ts x) e l
-
 -- one after the other: what comes is quiet
 pub laid_over : (ts us : List Token) (xs ys : List ℕ) → Laid ts xs → Laid us ys → ((rest : List ℕ) → Quiet rest → Quiet (ys ++ rest)) → Laid (ts ++ us) (xs ++ ys)
 laid_over ts us xs ys l m q = record {

@@ -13,10 +13,8 @@ pub mod Readback
 pub mod Once
 pub mod Laying
 pub mod Canonicals
-pub mod CanonicalExample
 pub mod Meant
 pub mod Excluding
 pub mod Nesting
 pub mod Lawful
 pub mod Sorting
-pub mod Spelling

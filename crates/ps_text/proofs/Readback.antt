@@ -125,17 +125,6 @@ name_operand w h = by (bytes_eq w (codes "true")) (bytes_eq w (codes "false")) r
     by : (a b : Bool) → bytes_eq w (codes "true") ≡ a → bytes_eq w (codes "false") ≡ b → operand_of w ≡ Name w
     by a b e f = rw (parts.0, parts.1) refl
 
-level_most : (f : Form) → level f ≤ 5
-level_most (Iff f g) = omega arith
-level_most (Implies f g) = omega arith
-level_most (Or f g) = omega arith
-level_most (And f g) = omega arith
-level_most (Name w) = omega arith
-level_most Truth = omega arith
-level_most Falsity = omega arith
-level_most (Not f) = omega arith
-level_most (Group f) = omega arith
-
 level_least : (f : Form) → 1 ≤ level f
 level_least (Iff f g) = omega arith
 level_least (Implies f g) = omega arith
