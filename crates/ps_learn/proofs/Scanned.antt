@@ -18,7 +18,7 @@ use Rattle.ps_forms.specs.Forms.{IsWithin}
 use Rattle.ps_learn.specs.Rest.{IsAtRest}
 use Rattle.ps_learn.specs.Scans.{ScansOne, ScansPart, Scans, AreIdle}
 use Rattle.ps_learn.specs.declared.scanning.Scan.{Scan}
-use Rattle.ps_learn.specs.declared.scanning.Scan.TheVariants.{Violated, Forced, Settled}
+use Rattle.ps_learn.specs.declared.scanning.Scan.TheVariants.{Violated, Forced, Idle}
 use Rattle.ps_learn.specs.declared.scanning.Shown.TheVariants as shown
 
 abbrev pub Below : ℕ → (ℤ × ℤ) → Type 0
@@ -74,7 +74,7 @@ all_idle cs a m behind front = record {
 pub scan_front : (cs : List Constraint) (a : Assignment) (m : ℕ) (s : Scan) → AreIdle cs a m (length cs) → ScansPart cs a 0 m s → Scans (known_of cs) a s
 scan_front cs a m (Violated id) behind h = h
 scan_front cs a m (Forced l id) behind h = h
-scan_front cs a m Settled behind h = all_idle cs a m behind h
+scan_front cs a m Idle behind h = all_idle cs a m behind h
 
 pub scan-violated : (cs : List Constraint) (a : Assignment) (i : ℕ) (c : Constraint) → i < length cs → c ≡ get_or cs i c → ScansOne c a shown.Violated → IsConflict (known_of cs) a (i + 1)
 scan-violated cs a i c h e s = record { constraint = c; known_at = at_id cs i c (slice_get_read cs (length cs) i c refl h e); violated = s }

@@ -9,7 +9,7 @@ use Rattle.ps_learn.specs.Rest.{IsAtRest}
 use Rattle.ps_learn.specs.declared.scanning.Shown.{Shown}
 use Rattle.ps_learn.specs.declared.scanning.Shown.TheVariants as shown
 use Rattle.ps_learn.specs.declared.scanning.Scan.{Scan}
-use Rattle.ps_learn.specs.declared.scanning.Scan.TheVariants.{Violated, Forced, Settled}
+use Rattle.ps_learn.specs.declared.scanning.Scan.TheVariants.{Violated, Forced, Idle}
 
 -- the first literal that the constraint forces
 abbrev pub FirstForced : Constraint → Assignment → Option ℤ → Type 0
@@ -30,10 +30,10 @@ pub record AreIdle (cs : List Constraint) (a : Assignment) (from to : ℕ) : Typ
 abbrev pub ScansPart : List Constraint → Assignment → ℕ → ℕ → Scan → Type 0
 ScansPart cs a from to (Violated id) = IsConflict (known_of cs) a id
 ScansPart cs a from to (Forced l id) = IsReason (known_of cs) a l (Some id) × IsFresh (length a) a l
-ScansPart cs a from to Settled = AreIdle cs a from to
+ScansPart cs a from to Idle = AreIdle cs a from to
 
 -- what the scan of all known constraints finds
 abbrev pub Scans : Known → Assignment → Scan → Type 0
 Scans known a (Violated id) = IsConflict known a id
 Scans known a (Forced l id) = IsReason known a l (Some id) × IsFresh (length a) a l
-Scans known a Settled = IsAtRest known a
+Scans known a Idle = IsAtRest known a

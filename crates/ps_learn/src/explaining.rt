@@ -18,16 +18,16 @@ use std::alloc::Global;
 
 /// The marked variables are causes, and those of the learned clause are kept.
 #[derive(Drop)]
-pub struct Causes {
+pub(crate) struct Causes {
     pub marks: Vec<bool>,
     pub kept: Vec<bool>,
 }
 
 /// Goes back from the conflict, as for the first unique implication point (L. Zhang and others,
-/// 2001): a marked literal of level 0, or of the last level with another one marked before it there,
-/// is explained by its reason, and each other marked one is kept. So one literal of the last level
-/// at most is kept.
-pub fn explain_conflict(
+/// 2001): a marked literal of level 0, or of the last level with another one marked before it
+/// there, is explained by its reason, and each other marked one is kept. So one literal of the last
+/// level at most is kept.
+pub(crate) fn explain_conflict(
     alloc: Global,
     known: &List<Constraint>,
     trail: &Trail,

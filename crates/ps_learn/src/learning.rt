@@ -50,7 +50,8 @@ pub fn learn(
     ensures few_hints { IfOk result (λ x. length (hints_of x.step) ≤ trail.now.variables + 1) }
     ensures level { IfOk result (λ x. x.level ≤ level trail.now) }
 {
-    trail.entries();
+    // Read for its clauses: each literal of a trail is of a variable of its own.
+    let _entries = trail.entries();
     let causes = explain_conflict(alloc, known, trail, conflict)?;
     let mut a = Assignment::new(alloc, trail.variables())?;
     let kept = kept_lits(alloc, trail, &causes.kept, &mut a)?;
@@ -160,7 +161,8 @@ fn follow(
             None => Ok(Followed::Unknown),
             Some(c) => {
                 hints.push(id)?;
-                c.terms();
+                // Read for its clauses: the constraint is in the form in which they are kept.
+                let _terms = c.terms();
                 match propagate(c, a) {
                     Effect::Violated => Ok(Followed::Violated),
                     Effect::Forced => Ok(Followed::Forced),

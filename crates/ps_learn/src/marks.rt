@@ -7,7 +7,8 @@ ghost use Rattle.ps_learn.specs.Marks.{MarksCause};
 
 use ps_pb::{Assignment, Constraint, Lit};
 
-pub fn is_marked(marks: &[bool], lit: Lit) -> bool
+/// Whether a literal's variable is marked. One that is out of range isn't.
+pub(crate) fn is_marked(marks: &[bool], lit: Lit) -> bool
     ensures { result ≡ is_marked marks.now lit }
 {
     match marks.get(lit.place()) {
@@ -17,7 +18,7 @@ pub fn is_marked(marks: &[bool], lit: Lit) -> bool
 }
 
 /// Marks a literal's variable. Nothing happens where it is out of range.
-pub fn mark(marks: &mut [bool], lit: Lit)
+pub(crate) fn mark(marks: &mut [bool], lit: Lit)
     ensures { marks.new ≡ slice_set marks.old (place lit) true }
 {
     let place = lit.place();
@@ -37,7 +38,7 @@ fn mark_cause(term: &(Lit, i128), before: &Assignment, marks: &mut [bool])
 }
 
 /// Marks the literals of a constraint that are false.
-pub fn mark_causes(c: &Constraint, before: &Assignment, marks: &mut [bool])
+pub(crate) fn mark_causes(c: &Constraint, before: &Assignment, marks: &mut [bool])
     requires len { length marks.old ≡ length before.now }
     ensures covered { AreCovered c.now before.now marks.new }
     ensures grows { Grows marks.new marks.old }

@@ -15,11 +15,13 @@ use ps_trail::Trail;
 
 /// What a scan finds.
 #[derive(Drop)]
-pub enum Scan {
+pub(crate) enum Scan {
+    /// The constraint of this id is violated.
     Violated(u64),
     /// The constraint of this id forces the literal.
     Forced(Lit, u64),
-    Settled,
+    /// No constraint is violated or forces a literal.
+    Idle,
 }
 
 /// What one constraint shows.
@@ -38,7 +40,8 @@ fn first_forced(c: &Constraint, a: &Assignment, room: &i128) -> Option<Lit>
     for term in c.terms().as_slice() {
         if is_forced(a, term, room) {
             let lit = term.0;
-            lit.variable();
+            // Called for its clauses: a literal is of a variable, numbered from 1 on.
+            let _variable = lit.variable();
             return Some(lit);
         }
     }
@@ -82,7 +85,7 @@ fn scan_part(known: &[Constraint], a: &Assignment, from: usize, to: usize) -> Sc
             Shown::Idle => {}
         }
     }
-    Scan::Settled
+    Scan::Idle
 }
 
 // A place of a list of so many, or its front where there is no such place.
@@ -103,7 +106,7 @@ fn scan_round(known: &[Constraint], a: &Assignment, start: usize) -> Scan
     match scan_part(known, a, start, known.len()) {
         Scan::Violated(id) => Scan::Violated(id),
         Scan::Forced(lit, id) => Scan::Forced(lit, id),
-        Scan::Settled => scan_part(known, a, 0, start),
+        Scan::Idle => scan_part(known, a, 0, start),
     }
 }
 
@@ -129,7 +132,7 @@ pub fn propagate_all(known: &List<Constraint>, trail: &mut Trail) -> Option<u64>
                 trail.imply(lit, id);
                 start = (id as usize).saturating_sub(1);
             }
-            Scan::Settled => return None,
+            Scan::Idle => return None,
         }
     }
 }

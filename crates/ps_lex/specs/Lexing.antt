@@ -8,7 +8,7 @@ use Rattle.ps_lex.specs.declared.token.Numeral.TheVariants as numeral
 use Rattle.ps_text.specs.declared.symbol.Symbol.TheVariants as symbol
 use Rattle.ps_lex.specs.declared.token.Token.{Token}
 use Rattle.ps_lex.specs.declared.token.Token.TheVariants as token
-use Rattle.ps_lex.specs.declared.word.TheConstants.{KEPT}
+use Rattle.ps_lex.specs.declared.word.TheConstants.{KEPT_LETTERS}
 use Rattle.ps_lex.specs.declared.digits.TheConstants.{MANY_DIGITS}
 use Rattle.ps_lex.specs.declared.mode.Mode.{Mode}
 use Rattle.ps_lex.specs.declared.mode.Mode.TheVariants as mode
@@ -44,7 +44,7 @@ goes_on m began = record { mode = m; began = began; ended = None }
 
 -- one byte more of a word, of which so many are kept
 abbrev pub letter_kept : List ℕ → ℕ → List ℕ
-letter_kept w b = if nat_lt (length w) KEPT then w ++ b ∷ [] else w
+letter_kept w b = if nat_lt (length w) KEPT_LETTERS then w ++ b ∷ [] else w
 
 -- digits without `/` or `.`
 abbrev pub whole : Digits → Token
@@ -129,7 +129,7 @@ is_within_token m = true
 
 -- of letters and digits no more is kept than counts
 abbrev pub IsCappedMode : Mode → Type 0
-IsCappedMode (mode.Word w) = length w ≤ KEPT
+IsCappedMode (mode.Word w) = length w ≤ KEPT_LETTERS
 IsCappedMode (mode.Whole d) = IsCapped d
 IsCappedMode (mode.Slash d p) = IsCapped d
 IsCappedMode (mode.Quotient d e) = IsCapped d × IsCapped e

@@ -7,7 +7,7 @@ use Rattle.ps_lex.specs.declared.token.Numeral.{Numeral}
 use Rattle.ps_lex.specs.declared.token.Numeral.TheVariants as numeral
 use Rattle.ps_lex.specs.declared.token.Token.{Token}
 use Rattle.ps_lex.specs.declared.token.Token.TheVariants as token
-use Rattle.ps_lex.specs.declared.word.TheConstants.{KEPT}
+use Rattle.ps_lex.specs.declared.word.TheConstants.{KEPT_LETTERS}
 use Rattle.ps_lex.specs.declared.digits.TheConstants.{MANY_DIGITS}
 use Rattle.ps_lex.specs.Counted.{no_digits, with_digits}
 use Rattle.ps_lex.specs.Places.{behind}
@@ -20,7 +20,7 @@ numeral_seen (text.Decimal ds es) = numeral.Decimal (with_digits (with_digits no
 
 -- what is kept of a token: the first bytes of a word, and of digits what counts
 abbrev pub seen : text.Token → Token
-seen (text.Word w) = token.Word (take KEPT w)
+seen (text.Word w) = token.Word (take KEPT_LETTERS w)
 seen (text.Number n) = token.Number (numeral_seen n)
 seen (text.Sign s) = token.Sign s
 

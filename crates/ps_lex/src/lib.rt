@@ -19,4 +19,4 @@ pub use laws::pieces_are_told;
 pub use lexer::Lexer;
 pub use position::Position;
 pub use token::{Numeral, Token};
-pub use word::{KEPT, Word};
+pub use word::{KEPT_LETTERS, Word};

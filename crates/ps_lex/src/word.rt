@@ -1,5 +1,6 @@
 //! A word.
-ghost use Rattle.std.specs.Prelude.{◌≡◌, ◌≤◌, [], ◌∷◌, length};
+ghost use Rattle.std.specs.Prelude.{◌≡◌, ◌≤◌, [], length};
+ghost use Rattle.ps_lex.specs.declared.word.TheConstants.{KEPT_LETTERS};
 ghost use Rattle.ps_lex.specs.Lexing.{letter_kept};
 ghost use Rattle.ps_lex.specs.Passing.{TakesLetters, EndsLetters};
 
@@ -8,24 +9,25 @@ use ps_text::LONGEST_WORD;
 use std::marker::Model;
 
 /// How many bytes of a word are kept: one more than a word may have.
-pub const KEPT: usize = LONGEST_WORD + 1;
+pub const KEPT_LETTERS: usize = LONGEST_WORD + 1;
 
 /// The first bytes of a word, as many as tell whether it is too long. They lie in place, so a word
 /// takes no memory.
 #[derive(Debug, Drop)]
 pub struct Word {
-    bytes: [u8; KEPT],
+    bytes: [u8; KEPT_LETTERS],
     len: usize,
 }
 
 impl Model for Word {
     ghost use Rattle.std.specs.Prelude.{ℕ, List, ◌≤◌, take};
+    ghost use Rattle.ps_lex.specs.declared.word.TheConstants.{KEPT_LETTERS};
 
     ghost Value = { List ℕ };
 
     ghost view = { λ w. take w.len w.bytes };
 
-    ghost invariant = { λ w. w.len ≤ 33 };
+    ghost invariant = { λ w. w.len ≤ KEPT_LETTERS };
 }
 
 impl Word {
@@ -34,7 +36,7 @@ impl Word {
         ensures { result ≡ [] }
     {
         Word {
-            bytes: [0; KEPT],
+            bytes: [0; KEPT_LETTERS],
             len: 0,
         }
     }
@@ -44,7 +46,7 @@ impl Word {
         ensures { self.new ≡ letter_kept self.old byte }
     {
         let len = self.len;
-        if len < KEPT {
+        if len < KEPT_LETTERS {
             self.bytes[len] = byte;
             self.len = len + 1;
         }
@@ -70,7 +72,7 @@ impl Word {
     /// The bytes that are kept.
     pub fn as_slice(&self) -> &[u8]
         ensures value { result.now ≡ self.now }
-        ensures kept { length result.now ≤ 33 }
+        ensures kept { length result.now ≤ KEPT_LETTERS }
     {
         &self.bytes[..self.len]
     }

@@ -72,7 +72,7 @@ fn weight_if_positive(term: &(Lit, i128)) -> i128
 }
 
 /// The value of an assignment.
-pub fn value(wcnf: &Wcnf, a: &Assignment) -> i128
+pub(crate) fn value(wcnf: &Wcnf, a: &Assignment) -> i128
     requires { IsNarrow wcnf.now }
     ensures sum { result ≡ wcnf.now.base +ℤ sum_of (weight_in a.now) wcnf.now.soft }
     ensures full { IsValueOfFull wcnf.now a.now result }
@@ -86,7 +86,7 @@ pub fn value(wcnf: &Wcnf, a: &Assignment) -> i128
 }
 
 /// What no value is above: the base plus the positive weights.
-pub fn most(wcnf: &Wcnf) -> i128
+pub(crate) fn most(wcnf: &Wcnf) -> i128
     requires { IsNarrow wcnf.now }
     ensures value { result ≡ most wcnf.now }
     ensures above { NoneIsAbove wcnf.now result }

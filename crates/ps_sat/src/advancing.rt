@@ -16,7 +16,7 @@ use ps_trail::Trail;
 /// Propagates, and decides on variables of atoms in this order, until a constraint is violated,
 /// which is named, or all is set.
 #[tactic(auto, using(ps_learn::proofs::Advancing::longer_none))]
-pub fn advance(
+pub(crate) fn advance(
     base: &ClauseForm,
     known: &List<Constraint>,
     order: &Order,

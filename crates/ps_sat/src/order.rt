@@ -11,6 +11,9 @@ use std::alloc::Global;
 // What a variable of the first conflict gains.
 const FIRST_GAIN: u64 = 64;
 
+// The gain grows by one part in so many.
+const GROWTH: u64 = 16;
+
 // Where the gain passes this, all activities are scaled down.
 const MOST_GAIN: u64 = 1 << 40;
 
@@ -22,7 +25,7 @@ const SCALE: u32 = 32;
 /// It gets its last value again (K. Pipatsrisawat, A. Darwiche, 2007), at first the one that the
 /// goal wants.
 #[derive(Drop)]
-pub struct Order {
+pub(crate) struct Order {
     activities: Vec<u64>,
     values: Vec<bool>,
     gain: u64,
@@ -30,7 +33,7 @@ pub struct Order {
 
 impl Order {
     /// No variable is active; the values are those that make the goal's literals true.
-    pub fn new(alloc: Global, goal: &Constraint, variables: u32) -> Result<Order, NoMemory> {
+    pub(crate) fn new(alloc: Global, goal: &Constraint, variables: u32) -> Result<Order, NoMemory> {
         let mut order = Order {
             activities: vec![in alloc; 0; variables as usize]?,
             values: vec![in alloc; true; variables as usize]?,
@@ -43,7 +46,7 @@ impl Order {
     }
 
     /// The next decision. `None` exactly where each atom has a value.
-    pub fn choose(&self, base: &ClauseForm, a: &Assignment) -> Option<Lit>
+    pub(crate) fn choose(&self, base: &ClauseForm, a: &Assignment) -> Option<Lit>
         ensures { IsDecision base.now a.now result }
     {
         let mut best = None;
@@ -59,22 +62,22 @@ impl Order {
     }
 
     /// Raises the activities of the marked variables, those of a conflict, and the gain of the next
-    /// conflict by a sixteenth.
-    pub fn raise(&mut self, marks: &[bool]) {
+    /// conflict.
+    pub(crate) fn raise(&mut self, marks: &[bool]) {
         for place in 0..marks.len() {
             if marks[place] && place < self.activities.len() {
                 let activity = self.activities[place];
                 self.activities[place] = activity.saturating_add(self.gain);
             }
         }
-        self.gain = self.gain.saturating_add(self.gain / 16);
+        self.gain = self.gain.saturating_add(self.gain / GROWTH);
         if MOST_GAIN < self.gain {
             self.scale_down();
         }
     }
 
     /// Keeps the values of all literals of a trail.
-    pub fn keep_values(&mut self, trail: &Trail) {
+    pub(crate) fn keep_values(&mut self, trail: &Trail) {
         for entry in trail.entries() {
             self.keep_value(entry.lit);
         }

@@ -76,7 +76,8 @@ pub fn search<S: ProofSink>(
 {
     let known = first_known(alloc, base, goal)?;
     let trail = Trail::new(alloc, base.variables())?;
-    is_goal_within(goal);
+    // Called for its clauses: each constraint is within the limits of a goal.
+    let _within = is_goal_within(goal);
     log.begin(goal)?;
     learn_all(alloc, base, goal, conflicts, known, trail, log)
 }

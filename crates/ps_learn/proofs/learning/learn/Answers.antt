@@ -16,10 +16,10 @@ returns-clause-lawful c =
     (ap (λ n. n + 1) (c.len.ensures ∙ sym (known_of-length c.args.known.now))) c.in_ok-kept.ensures.lits.lits_false c.in_ok-hints.ensures.ends
 
 pub returns-clause-few_literals : goal.returns-clause-few_literals
-returns-clause-few_literals c = omega (arith, c.in_ok-kept.ensures.lits.few, counted c.args.trail.now.variables c.args.trail.now.entries c.entries.ensures.fresh)
+returns-clause-few_literals c = omega (arith, c.in_ok-kept.ensures.lits.few, counted c.args.trail.now.variables c.args.trail.now.entries c.entries-entries.ensures.fresh)
 
 pub returns-clause-few_hints : goal.returns-clause-few_hints
-returns-clause-few_hints c = omega (arith, c.in_ok-hints.ensures.few, counted c.args.trail.now.variables c.args.trail.now.entries c.entries.ensures.fresh)
+returns-clause-few_hints c = omega (arith, c.in_ok-hints.ensures.few, counted c.args.trail.now.variables c.args.trail.now.entries c.entries-entries.ensures.fresh)
 
 pub returns-clause-falsified : goal.returns-clause-falsified
 returns-clause-falsified c = kept-false c.args.trail.now _ _ _ c.in_ok-kept.ensures.lits
