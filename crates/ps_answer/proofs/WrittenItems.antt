@@ -24,7 +24,7 @@ use Rattle.ps_io.specs.LineText.{lines_bytes}
 use Rattle.ps_answer.specs.declared.answer.Answer.{Answer}
 use Rattle.ps_answer.specs.Answers.{answer_items, answer_lines, IsAnswerCounted}
 use Rattle.ps_answer.specs.Faults.{AreLines, IsReport}
-use Rattle.ps_answer.specs.Items.{item_words, item_line, place_words, op_word, shown_word, count, IsProper, IsWithin, IsLine, IsSmall, IsColWithin, IsShownWithin, IsPlaceWithin, IsRatioWithin, most_operand}
+use Rattle.ps_answer.specs.Items.{item_words, item_line, place_words, op_word, shown_word, count, IsProper, IsWithin, IsLine, IsPrintable, IsColWithin, IsShownWithin, IsPlaceWithin, IsRatioWithin, most_operand}
 use Rattle.ps_answer.proofs.Written.{IsWordSmall, written_both}
 
 col_small : (c : Col) → IsColWithin c → IsWordSmall (Column c)
@@ -59,7 +59,7 @@ place_small (place.Total i) more h m = (refl, (row_small i h, m))
 place_small (place.NewTimes i j) more h m = (refl, (row_small i h.0, (row_small j h.1, m)))
 place_small (place.NewPlus i j) more h m = (refl, (row_small i h.0, (row_small j h.1, m)))
 
-number_small : (z : ℤ) → IsSmall z → IsWordSmall (Number z)
+number_small : (z : ℤ) → IsPrintable z → IsWordSmall (Number z)
 number_small z h = omega (arith, h)
 
 up_to_small : (n limit : ℕ) → n ≤ limit → limit ≤ 2 ^ 127 → IsWordSmall (count n)
@@ -72,9 +72,9 @@ numbers_small : (zs : List ℤ) → All Small zs → AllByRecursion IsWordSmall 
 numbers_small [] h = tt
 numbers_small (z ∷ zs) h = let f : unsigned_abs z ≤ 2 ^ 126 = first_in Small z zs h in (omega (arith, f), numbers_small zs (rest_in Small z zs h))
 
-rows_small : (zs : List ℤ) → All IsSmall zs → AllByRecursion IsWordSmall (map Number zs)
+rows_small : (zs : List ℤ) → All IsPrintable zs → AllByRecursion IsWordSmall (map Number zs)
 rows_small [] h = tt
-rows_small (z ∷ zs) h = (number_small z (first_in IsSmall z zs h), rows_small zs (rest_in IsSmall z zs h))
+rows_small (z ∷ zs) h = (number_small z (first_in IsPrintable z zs h), rows_small zs (rest_in IsPrintable z zs h))
 
 -- the words of the line that is written of an item within the limits, and that it is one line
 written_words : (i : Item) → IsProper i → IsWithin i → SpellWords (words_of (item_line i)) (item_words i) × IsOneLine (item_line i)

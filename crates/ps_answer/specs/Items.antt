@@ -2,6 +2,7 @@
 use Rattle.std.specs.Prelude.{ℕ, ◌-◌, ◌^◌, ◌≡◌, ◌≤◌, ℤ, pos, ◌≤ℤ◌, Bool, true, false, true as yes, List, [], ◌∷◌, ◌++◌, map, All, length, unsigned_abs, codes, ⊤}
 use Rattle.std.specs.Int.{IsGcd}
 use Rattle.ps_steps.specs.Weights.{weighted, are_rising}
+use Rattle.ps_formula.specs.declared.limits.TheConstants.{MOST_ATOMS}
 use Rattle.ps_frac.specs.declared.wide.Op.{Op}
 use Rattle.ps_frac.specs.declared.wide.Op.TheVariants as op
 use Rattle.ps_pool.specs.declared.col.Col.{Col}
@@ -10,6 +11,7 @@ use Rattle.ps_table.specs.declared.place.Place.{Place}
 use Rattle.ps_table.specs.declared.place.Place.TheVariants as place
 use Rattle.ps_table.specs.declared.place.TableCol.{TableCol}
 use Rattle.ps_table.specs.declared.place.TableCol.TheVariants as shown
+use Rattle.ps_table.specs.Places.{printed_limit}
 use Rattle.ps_log.specs.Texts.{step_numbers, goal_numbers}
 use Rattle.ps_log.specs.Limits.{IsStepWithin, IsGoalWithin}
 use Rattle.ps_log.specs.Spellings.{words_of}
@@ -85,7 +87,43 @@ item_line i = joined (item_words i)
 abbrev pub most_operand : ℕ
 most_operand = 2 ^ 127 - 1
 
--- a fraction whose numbers are at most this in size is in lowest terms
+-- rows and homes are numbered from 0 up to this
+abbrev pub most_row : ℕ
+most_row = 100
+
+-- worlds are numbered from 1 up to this
+abbrev pub most_world : ℕ
+most_world = 1000001
+
+-- the greatest limit of pivots
+abbrev pub most_pivots : ℕ
+most_pivots = 1000000
+
+-- the greatest limit of conflicts
+abbrev pub most_conflicts : ℕ
+most_conflicts = 2 ^ 40
+
+-- the most worlds of a model
+abbrev pub most_entries : ℕ
+most_entries = 101
+
+-- the most multipliers of a dual
+abbrev pub most_multipliers : ℕ
+most_multipliers = 100
+
+-- the most steps of a dual
+abbrev pub most_dual_steps : ℕ
+most_dual_steps = 2 ^ 41
+
+-- the most events of a trace
+abbrev pub most_events : ℕ
+most_events = 2000001
+
+-- the most queries
+abbrev pub most_queries : ℕ
+most_queries = 16
+
+-- the denominator is at least 1, and where both numbers are at most this in size the fraction is in lowest terms
 abbrev pub IsReducedWithin : ℕ → Ratio → Type 0
 IsReducedWithin limit q = (1 ≤ q.under) × (unsigned_abs q.over ≤ limit → q.under ≤ limit → IsGcd (unsigned_abs q.over) q.under 1)
 
@@ -97,7 +135,7 @@ IsProper (Entry weight world) = pos 0 ≤ℤ weight
 IsProper (DualHead top head n) = pos 0 ≤ℤ top
 IsProper (StepLine s) = All (λ l. 1 ≤ unsigned_abs l) s.lits
 IsProper (GoalLine g) = All (λ t. 1 ≤ t.1) g.terms × (are_rising 0 (weighted g.terms) ≡ yes)
-IsProper (Bound upper value) = (pos 0 ≤ℤ value.over) × IsReducedWithin (2 ^ 90) value
+IsProper (Bound upper value) = (pos 0 ≤ℤ value.over) × IsReducedWithin printed_limit value
 IsProper i = ⊤
 
 -- literals aren't 0, coefficients are at least 1, and variables rise: so a line's numbers tell a step and a goal
@@ -116,48 +154,49 @@ pub record IsLine (line : List ℕ) (i : Item) : Type 0 where
   pub words : SpellWords (words_of line) (item_words i)
   pub proper : IsProper i
 
-abbrev pub IsSmall : ℤ → Type 0
-IsSmall z = unsigned_abs z ≤ 2 ^ 90
+-- small enough to be printed
+abbrev pub IsPrintable : ℤ → Type 0
+IsPrintable z = unsigned_abs z ≤ printed_limit
 
 abbrev pub IsColWithin : Col → Type 0
-IsColWithin (col.Home i) = i ≤ 100
-IsColWithin (col.World n) = (1 ≤ n) × (n ≤ 1000001)
+IsColWithin (col.Home i) = i ≤ most_row
+IsColWithin (col.World n) = (1 ≤ n) × (n ≤ most_world)
 
 abbrev pub IsShownWithin : TableCol → Type 0
 IsShownWithin shown.Right = ⊤
 IsShownWithin (shown.Of c) = IsColWithin c
 
 abbrev pub IsPlaceWithin : Place → Type 0
-IsPlaceWithin (place.Ratio i) = i ≤ 100
+IsPlaceWithin (place.Ratio i) = i ≤ most_row
 IsPlaceWithin (place.Scale j) = IsShownWithin j
-IsPlaceWithin (place.Times i j) = (i ≤ 100) × IsShownWithin j
-IsPlaceWithin (place.Minus i j) = (i ≤ 100) × IsShownWithin j
-IsPlaceWithin (place.Cost j i) = IsColWithin j × (i ≤ 100)
-IsPlaceWithin (place.Whole i) = i ≤ 100
-IsPlaceWithin (place.Scaled i) = i ≤ 100
-IsPlaceWithin (place.Weight i) = i ≤ 100
-IsPlaceWithin (place.Weighed i) = i ≤ 100
-IsPlaceWithin (place.Total i) = i ≤ 100
-IsPlaceWithin (place.NewTimes i m) = (i ≤ 100) × (m ≤ 100)
-IsPlaceWithin (place.NewPlus i m) = (i ≤ 100) × (m ≤ 100)
+IsPlaceWithin (place.Times i j) = (i ≤ most_row) × IsShownWithin j
+IsPlaceWithin (place.Minus i j) = (i ≤ most_row) × IsShownWithin j
+IsPlaceWithin (place.Cost j i) = IsColWithin j × (i ≤ most_row)
+IsPlaceWithin (place.Whole i) = i ≤ most_row
+IsPlaceWithin (place.Scaled i) = i ≤ most_row
+IsPlaceWithin (place.Weight i) = i ≤ most_row
+IsPlaceWithin (place.Weighed i) = i ≤ most_row
+IsPlaceWithin (place.Total i) = i ≤ most_row
+IsPlaceWithin (place.NewTimes i m) = (i ≤ most_row) × (m ≤ most_row)
+IsPlaceWithin (place.NewPlus i m) = (i ≤ most_row) × (m ≤ most_row)
 
 abbrev pub IsRatioWithin : ℕ → Ratio → Type 0
 IsRatioWithin limit q = (unsigned_abs q.over ≤ limit) × (q.under ≤ limit)
 
 -- a line is within the limits
 abbrev pub IsWithin : Item → Type 0
-IsWithin (OpenPivots limit) = limit ≤ 1000000
-IsWithin (OpenConflicts limit) = limit ≤ 2 ^ 40
+IsWithin (OpenPivots limit) = limit ≤ most_pivots
+IsWithin (OpenConflicts limit) = limit ≤ most_conflicts
 IsWithin (OpenWide at op left right) = IsPlaceWithin at × IsRatioWithin most_operand left × IsRatioWithin most_operand right
-IsWithin (ModelHead total n) = IsSmall total × (n ≤ 101)
-IsWithin (Entry weight world) = IsSmall weight × (length world ≤ 128)
-IsWithin (DualHead top head n) = IsSmall top × IsSmall head × (n ≤ 2 ^ 41)
-IsWithin (Rows rows) = All IsSmall rows × (length rows ≤ 100)
+IsWithin (ModelHead total n) = IsPrintable total × (n ≤ most_entries)
+IsWithin (Entry weight world) = IsPrintable weight × (length world ≤ MOST_ATOMS)
+IsWithin (DualHead top head n) = IsPrintable top × IsPrintable head × (n ≤ most_dual_steps)
+IsWithin (Rows rows) = All IsPrintable rows × (length rows ≤ most_multipliers)
 IsWithin (StepLine s) = IsStepWithin s
 IsWithin (GoalLine g) = IsGoalWithin g
-IsWithin (TraceHead n) = n ≤ 2000001
-IsWithin (PivotLine enter leave) = IsColWithin enter × (leave ≤ 100)
-IsWithin (PricedLine world) = length world ≤ 128
-IsWithin (Query number) = number ≤ 16
-IsWithin (Bound upper value) = IsRatioWithin (2 ^ 90) value
+IsWithin (TraceHead n) = n ≤ most_events
+IsWithin (PivotLine enter leave) = IsColWithin enter × (leave ≤ most_row)
+IsWithin (PricedLine world) = length world ≤ MOST_ATOMS
+IsWithin (Query number) = number ≤ most_queries
+IsWithin (Bound upper value) = IsRatioWithin printed_limit value
 IsWithin i = ⊤

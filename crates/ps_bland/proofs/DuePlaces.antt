@@ -13,15 +13,7 @@ use Rattle.ps_bland.specs.declared.phase.Phase.{Phase}
 use Rattle.ps_bland.specs.Rules.{stage, simplex_of}
 use Rattle.ps_bland.specs.Ends.{IsLeftToRatios, IsDueWide}
 use Rattle.ps_bland.specs.Ends.IsDueWide.{at_cost, at_ratio, at_pivot}
-use Rattle.ps_bland.specs.DuePlaces.{RatiosDecide, DuePlace, of_cost, of_ratio, of_pivot}
-
-decide : (phase : RulePhase) (t : Tableau) (q : ℕ) → IsLeftToRatios phase t q → RatiosDecide phase (simplex_of t) q
-decide First t q h = tt
-decide Second t q h = h
-
-decided : (phase : RulePhase) (t : Tableau) (q : ℕ) → RatiosDecide phase (simplex_of t) q → IsLeftToRatios phase t q
-decided First t q h = tt
-decided Second t q h = h
+use Rattle.ps_bland.specs.DuePlaces.{DuePlace, of_cost, of_ratio, of_pivot}
 
 pub due_there : (phase : Phase) (costs : Costs) (t : Tableau) (left : ℕ) (w : WideAt) → IsDueWide phase costs t left w → IsWideAt (DuePlace (stage phase) (simplex_of t) t.worlds left (cost_at costs)) w
 due_there phase costs t left w (at_cost unfinished h) = record {
@@ -30,7 +22,7 @@ due_there phase costs t left w (at_cost unfinished h) = record {
 }
 due_there phase costs t left w (at_ratio q unfinished some inside enters ratios h) =
     subst (IsWideAt (DuePlace (stage phase) (simplex_of t) t.worlds left (cost_at costs))) (sym h.is)
-    (record { at = of_ratio q h.row unfinished some inside enters (decide (stage phase) t (number_of t q) ratios) h.rising; wide = h.wide })
+    (record { at = of_ratio q h.row unfinished some inside enters ratios h.rising; wide = h.wide })
 due_there phase costs t left w (at_pivot q p some lawful h) = record {
   at = of_pivot q p w.place w.op w.left w.right lawful.unfinished some lawful.inside lawful.enters lawful.leaves h.at;
   wide = h.wide;
@@ -42,7 +34,7 @@ due_at : (phase : Phase) (costs : Costs) (t : Tableau) (left : ℕ) (place : Pla
 due_at phase costs t left _ _ _ _ (of_cost c place op l r unfinished inside real least at) wide =
     at_cost unfinished (record { column = c; inside = inside; real = real; least = least; wide = record { at = at; wide = wide } })
 due_at phase costs t left _ _ _ _ (of_ratio c i unfinished some inside enters ratios rising) wide =
-    at_ratio c unfinished some inside enters (decided (stage phase) t (number_of t c) ratios) (record { row = i; rising = rising; is = refl; wide = wide })
+    at_ratio c unfinished some inside enters ratios (record { row = i; rising = rising; is = refl; wide = wide })
 due_at phase costs t left _ _ _ _ (of_pivot c p place op l r unfinished some inside enters leaves at) wide =
     at_pivot c p some (record { inside = inside; unfinished = unfinished; enters = enters; leaves = leaves }) (record { at = at; wide = wide })
 

@@ -14,12 +14,7 @@ use Rattle.ps_table.specs.Pricing.{cost_at}
 use Rattle.ps_table.specs.Places.{CostPlace, PivotPlace, IsWideAt}
 use Rattle.ps_bland.specs.declared.phase.Phase.{Phase}
 use Rattle.ps_bland.specs.Rules.{stage, simplex_of}
-use Rattle.ps_bland.specs.Ends.{IsDueWide}
-
--- the least ratio decides which row leaves: in phase two there is no artificial row
-abbrev pub RatiosDecide : RulePhase → SimplexTable → ℕ → Type 0
-RatiosDecide First t q = Unit {0}
-RatiosDecide Second t q = (i : ℕ) → IsArtificialRow t q i → ⊥
+use Rattle.ps_bland.specs.Ends.{RatiosDecide, IsDueWide}
 
 -- a place is due, with its operands: of what a slack or a world carries, where no column before it improves; and, while a
 -- pivot is left, of the ratios of the column that enters, where they decide, and of the pivot by the rule

@@ -1,7 +1,7 @@
 -- How the pivots of a phase end, and which places are due.
 use Rattle.std.specs.Prelude.{◌≡◌, ℕ, ◌<◌, false, Result, Ok, Err}
 use Rattle.ps_frac.specs.declared.wide.Op.TheVariants.{Div}
-use Rattle.ps_rule.specs.Rule.{Phase as RulePhase, First, Second, Improves, IsMoving, IsResting, Enters, IsRising, IsArtificialRow}
+use Rattle.ps_rule.specs.Rule.{Phase as RulePhase, First, Second, SimplexTable, Improves, IsMoving, IsResting, Enters, IsRising, IsArtificialRow}
 use Rattle.ps_pool.specs.declared.col.Col.{Col}
 use Rattle.ps_table.specs.declared.costs.Costs.{Costs}
 use Rattle.ps_table.specs.declared.place.Place.TheVariants.{Ratio}
@@ -32,9 +32,13 @@ pub record IsEntryWide (costs : Costs) (t : Tableau) (w : WideAt) : Type 0 where
   pub wide : IsWideAt (CostPlaces t costs column) w
 
 -- the least ratio decides which row leaves: in phase two there is no artificial row
+abbrev pub RatiosDecide : RulePhase → SimplexTable → ℕ → Type 0
+RatiosDecide First t q = Unit {0}
+RatiosDecide Second t q = (i : ℕ) → IsArtificialRow t q i → ⊥
+
+-- the least ratio decides which row of a solver's table leaves
 abbrev pub IsLeftToRatios : RulePhase → Tableau → ℕ → Type 0
-IsLeftToRatios First t q = Unit {0}
-IsLeftToRatios Second t q = (i : ℕ) → IsArtificialRow (simplex_of t) q i → ⊥
+IsLeftToRatios phase t q = RatiosDecide phase (simplex_of t) q
 
 -- a pivot is due: there is one by the rule, and one is left
 pub record IsPivotDue (phase : Phase) (costs : Costs) (t : Tableau) (left : ℕ) : Type 0 where

@@ -27,8 +27,10 @@ use three_rows::THREE_ROWS;
 use three_rows_wide::THREE_ROWS_WIDE;
 
 fn are_between(costs: &[i8], low: i8, high: i8) -> bool
-    ensures low { IsTrue result → (i : ℕ) → i < length costs.now → low ≤ℤ get_or costs.now i (pos 0) }
-    ensures high { IsTrue result → (i : ℕ) → i < length costs.now → get_or costs.now i (pos 0) ≤ℤ high }
+    ensures low { IsTrue result
+        → (i : ℕ) → i < length costs.now → low ≤ℤ get_or costs.now i (pos 0) }
+    ensures high { IsTrue result
+        → (i : ℕ) → i < length costs.now → get_or costs.now i (pos 0) ≤ℤ high }
 {
     for k in 0..costs.len() {
         if costs[k] < low || costs[k] > high {
@@ -39,7 +41,8 @@ fn are_between(costs: &[i8], low: i8, high: i8) -> bool
 }
 
 fn are_values_at_least_zero(table: &Table) -> bool
-    ensures { IsTrue result → (i : ℕ) → i < length table.now.kinds → IsNonneg (entry_at table.now i 0) }
+    ensures { IsTrue result
+        → (i : ℕ) → i < length table.now.kinds → IsNonneg (entry_at table.now i 0) }
 {
     for row in 0..table.rows() {
         if table.value(row).numerator() < 0 {
@@ -52,7 +55,8 @@ fn are_values_at_least_zero(table: &Table) -> bool
 /// Whether row 0 has 1 on each world.
 fn begin_with_one<const N: usize>(worlds: &[[i64; N]]) -> bool
     requires { 0 < N }
-    ensures { IsTrue result → (k : ℕ) → k < length worlds.now → get_or (get_or worlds.now k []) 0 (pos 0) ≡ pos 1 }
+    ensures { IsTrue result
+        → (k : ℕ) → k < length worlds.now → get_or (get_or worlds.now k []) 0 (pos 0) ≡ pos 1 }
 {
     for k in 0..worlds.len() {
         let world = worlds[k];
@@ -103,7 +107,8 @@ fn is_ready_above<const N: usize>(table: &Table, costs: &Costs, entries: &[[i64;
 fn table_of<const N: usize>(alloc: Global, homes: &[Home; N], worlds: &[[i64; N]]) -> Option<Table>
     requires some { 0 < N }
     requires few { N ≤ 101 }
-    ensures { IfSome result (λ t. (A : ℕ → ℕ → Rational) → AreColumns N worlds.now A → StandsFor A t) }
+    ensures { IfSome result
+        (λ t. (A : ℕ → ℕ → Rational) → AreColumns N worlds.now A → StandsFor A t) }
 {
     let mut table = match Table::new(alloc, homes) {
         Ok(table) => table,

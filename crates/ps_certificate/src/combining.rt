@@ -1,6 +1,7 @@
 //! The combination of a claim and the bounds' rows.
 ghost use Rattle.std.specs.Prelude.{◌≡◌, ◌≤◌, ◌<◌, ◌+◌, ◌*◌, ◌^◌, ◌*ℤ◌, pos, length, All};
 ghost use Rattle.std.specs.Prelude.{IfOk, OnOk, IfSome, unsigned_abs};
+ghost use Rattle.ps_problem.specs.declared.limits.TheConstants.{MOST_BOUNDS};
 ghost use Rattle.ps_problem.specs.Problems.{bounds_in};
 ghost use Rattle.ps_claims.specs.Goals.{plus, at_node, at_condition, row_times, rows_times};
 ghost use Rattle.ps_claims.specs.Goals.{claimed_of, combination_of, size_of};
@@ -110,7 +111,7 @@ fn add_row(sum: &mut Combination, multiplier: &i128, bound: &Bound) -> Result<()
 
 fn add_rows(sum: &mut Combination, rows: &[i128], bounds: &[Bound]) -> Result<(), NoMemory>
     requires lengths { length rows.now ≡ length bounds.now }
-    requires few { length bounds.now ≤ 100 }
+    requires few { length bounds.now ≤ MOST_BOUNDS }
     requires small { All IsMultiplier rows.now }
     requires rows { All IsRow bounds.now }
     requires fits { unsigned_abs sum.old.base ≤ 2 ^ 91 }

@@ -18,12 +18,12 @@ use Rattle.ps_problem.specs.declared.query.Query as stored
 use Rattle.ps_problem.specs.Problems.{Parts, bounds_of, given_at}
 use Rattle.ps_rational.specs.Rational.{Rational}
 use Rattle.ps_entailment.specs.Queries.{bound_on}
-use Rattle.ps_entailment.specs.Answers.{Model, Answer, IsSmall, asked_under}
+use Rattle.ps_entailment.specs.Answers.{Model, Answer, IsBasicModel, asked_under}
 use Rattle.ps_claims.specs.Duals.{Dual, ClaimKind, Nothing}
 use Rattle.ps_claims.specs.Faults.{IsFaultless}
 use Rattle.ps_claims.specs.Validity.{query_of, IsValid}
 use Rattle.ps_claims.proofs.Claims.{claims-valid}
-use Rattle.ps_claims.specs.Claims.{Place, AtReport, Claim, Placed, claims_of, AreValid, AreNotBelow, IsRefused, Modelled, Excluded, Bounded, IsValidClaim, Fault, WrongShape, TooManyWorlds, TotalWrong, EvidenceZero, ValueMissed, WeightZero, WorldTwice, BoundMissed, DualWrong, model_of, dual_of, HasShape, AreInOrder, IsWeightless, IsRepeated, MissesFirst, AreFew, HasTotal, HasEvidence, HasValue, IsModelRight, OfModel, IsFirstIn}
+use Rattle.ps_claims.specs.Claims.{Place, AtReport, Claim, Placed, claims_of, AreValid, HaveWeightsNotBelow0, IsRefused, Modelled, Excluded, Bounded, IsValidClaim, Fault, WrongShape, TooManyWorlds, TotalWrong, EvidenceZero, ValueMissed, WeightZero, WorldTwice, BoundMissed, DualWrong, model_of, dual_of, HasShape, AreProperEntries, IsWeightless, IsRepeated, MissesFirst, AreFew, HasTotal, HasEvidence, HasValue, IsModelRight, OfModel, IsFirstIn}
 use Rattle.ps_claims.proofs.Faults.{int_equal_cases, least_cases, fault_cases}
 
 nat_equal_cases : (m n : ℕ) → (m ≡ n) ⊎ ¬ (m ≡ n)
@@ -87,16 +87,13 @@ some_from : {X : Type 0} (xs : List X) (i : ℕ) → i < length xs → X
 some_from [] i lt = absurd (omega arith)
 some_from (x ∷ xs) i lt = x
 
-OrderCases : List Entry → ℕ → Type 0
-OrderCases d i = AreInOrder (take i d) ⊎ ((n : ℕ) × (IsWeightless d n ⊎ IsRepeated d n))
-
-in_order-next : (d : List Entry) (i : ℕ) (x : Entry) → i < length d → AreInOrder (take i d) → (get_or d i x).weight ≢ pos 0 → All (λ y. y.world ≢ (get_or d i x).world) (take i d) → AreInOrder (take (i + 1) d)
+in_order-next : (d : List Entry) (i : ℕ) (x : Entry) → i < length d → AreProperEntries (take i d) → (get_or d i x).weight ≢ pos 0 → All (λ y. y.world ≢ (get_or d i x).world) (take i d) → AreProperEntries (take (i + 1) d)
 in_order-next d i x lt order weighs new = rw (take_more d i x lt) (record {
   weighed = All-push (λ e. e.weight ≢ pos 0) (take i d) (get_or d i x) order.weighed weighs;
   different = all_pairs_push (λ e e'. e.world ≢ e'.world) (take i d) (get_or d i x) order.different new;
 })
 
-next_cases : (d : List Entry) (i : ℕ) (x : Entry) → i < length d → AreInOrder (take i d) → AreInOrder (take (i + 1) d) ⊎ ((n : ℕ) × (IsWeightless d n ⊎ IsRepeated d n))
+next_cases : (d : List Entry) (i : ℕ) (x : Entry) → i < length d → AreProperEntries (take i d) → AreProperEntries (take (i + 1) d) ⊎ ((n : ℕ) × (IsWeightless d n ⊎ IsRepeated d n))
 next_cases d i x lt order = elim (int_equal_cases (get_or d i x).weight (pos 0)) [
   | inl nothing ↦ inr (i + 1, inl (i, refl, order, there (λ e. e.weight ≡ pos 0) d i x lt nothing))
   | inr weighs ↦ elim (among_cases (get_or d i x).world (take i d)) [
@@ -105,14 +102,14 @@ next_cases d i x lt order = elim (int_equal_cases (get_or d i x).weight (pos 0))
   ]
 ]
 
-upto_cases : (d : List Entry) (i : ℕ) → i ≤ length d → AreInOrder (take i d) ⊎ ((n : ℕ) × (IsWeightless d n ⊎ IsRepeated d n))
+upto_cases : (d : List Entry) (i : ℕ) → i ≤ length d → AreProperEntries (take i d) ⊎ ((n : ℕ) × (IsWeightless d n ⊎ IsRepeated d n))
 upto_cases d zero le = inl (record { weighed = All-nil (λ e. e.weight ≢ pos 0); different = λ i j x before lt. absurd (omega (arith, lt)) })
 upto_cases d (suc i) le = elim (upto_cases d i (omega arith)) [
   | inr fault ↦ inr fault
   | inl order ↦ (let e : i + 1 ≡ suc i = omega arith in rw e at (next_cases d i (some_from d i (omega arith)) (omega arith) order))
 ]
 
-order_cases : (d : List Entry) → AreInOrder d ⊎ ((n : ℕ) × (IsWeightless d n ⊎ IsRepeated d n))
+order_cases : (d : List Entry) → AreProperEntries d ⊎ ((n : ℕ) × (IsWeightless d n ⊎ IsRepeated d n))
 order_cases d = rw (take-length d) at (upto_cases d (length d) (omega arith))
 
 compares_cases : (side : Side) (x y : ℤ) → Compares side x y ⊎ ¬ Compares side x y
@@ -145,7 +142,7 @@ few_cases p m = elim (cases_lt (length (bounds_of p) + 1) (length m.worlds)) [ i
 -- nothing is wrong with the worlds, the total and the bounds
 record IsGood (p : Parts) (m : Model) : Type 0 where
   few : AreFew p m
-  order : AreInOrder m.worlds
+  order : AreProperEntries m.worlds
   total : HasTotal m
   met : MeetsAll (bounds_of p) m.worlds
 
@@ -158,9 +155,9 @@ model_cases p c m shape of = elim (few_cases p m) [
       | inr twice ↦ inr (WorldTwice fault.0, (shape, of (λ n. AreFew p n × IsRepeated n.worlds fault.0) (few, twice)))
     ]
     | inl order ↦ elim (total_cases m) [
-      | inr wrong ↦ inr (TotalWrong, (shape, of (λ n. AreFew p n × AreInOrder n.worlds × ¬ HasTotal n) (few, order, wrong)))
+      | inr wrong ↦ inr (TotalWrong, (shape, of (λ n. AreFew p n × AreProperEntries n.worlds × ¬ HasTotal n) (few, order, wrong)))
       | inl sum ↦ elim (met_cases (bounds_of p) m.worlds) [
-        | inr missed ↦ inr (BoundMissed missed.0, (shape, of (λ n. AreFew p n × AreInOrder n.worlds × HasTotal n × MissesFirst (bounds_of p) n.worlds missed.0) (few, order, sum, missed.1)))
+        | inr missed ↦ inr (BoundMissed missed.0, (shape, of (λ n. AreFew p n × AreProperEntries n.worlds × HasTotal n × MissesFirst (bounds_of p) n.worlds missed.0) (few, order, sum, missed.1)))
         | inl met ↦ inl (record { few = few; order = order; total = sum; met = met })
       ]
     ]
@@ -188,7 +185,7 @@ good-model p m shape low good = record {
   met = good.met;
 }
 
-good-small : (p : Parts) (m : Model) → IsGood p m → IsSmall (bounds_of p) m
+good-small : (p : Parts) (m : Model) → IsGood p m → IsBasicModel (bounds_of p) m
 good-small p m good = record { few = good.few; total = good.total.1 }
 
 evidence_cases : (p : Parts) (m : Model) (given : Option ℕ) → (weight m.worlds (given_at p.nodes given) ≢ pos 0) ⊎ ¬ (weight m.worlds (given_at p.nodes given) ≢ pos 0)
@@ -273,7 +270,7 @@ claims_upto p (c ∷ cs) low = elim (claim_cases p c.1 (All-head (λ x. IfSome (
   ]
 ]
 
-pub answer_cases : (p : Parts) (a : Answer Dual) → AreNotBelow (claims_of p a) → IsValid p a ⊎ ((place : Place) × (f : Fault) × IsRefused p a place f)
+pub answer_cases : (p : Parts) (a : Answer Dual) → HaveWeightsNotBelow0 (claims_of p a) → IsValid p a ⊎ ((place : Place) × (f : Fault) × IsRefused p a place f)
 answer_cases p a low = elim (nat_equal_cases (length a.parts) (length (asked_under a.verdict p.queries))) [
   | inr other ↦ inr (AtReport, WrongShape, inl (refl, refl, other))
   | inl parts ↦ elim (claims_upto p (claims_of p a) low) [

@@ -92,8 +92,8 @@ model_of (Excluded given d) = None
 model_of (Bounded kind q value m d) = Some m
 
 -- no weight is below 0
-abbrev pub AreNotBelow : List Placed → Type 0
-AreNotBelow claims = All (λ c. IfSome (model_of c.1) (λ m. All (λ e. pos 0 ≤ℤ e.weight) m.worlds)) claims
+abbrev pub HaveWeightsNotBelow0 : List Placed → Type 0
+HaveWeightsNotBelow0 claims = All (λ c. IfSome (model_of c.1) (λ m. All (λ e. pos 0 ≤ℤ e.weight) m.worlds)) claims
 
 abbrev pub dual_of : Claim → Option Dual
 dual_of (Modelled m) = None
@@ -106,17 +106,17 @@ pub record HasShape (p : Parts) (c : Claim) : Type 0 where
   pub rows : IfSome (dual_of c) (λ d. length d.rows ≡ length (bounds_of p))
 
 -- each entry has a weight, and no world stands twice
-pub record AreInOrder (d : List Entry) : Type 0 where
+pub record AreProperEntries (d : List Entry) : Type 0 where
   pub weighed : All (λ e. e.weight ≢ pos 0) d
   pub different : AllPairs (λ e e'. e.world ≢ e'.world) d
 
 -- the entry of this number, from 1, is the first at fault: it weighs nothing
 abbrev pub IsWeightless : List Entry → ℕ → Type 0
-IsWeightless d n = (i : ℕ) × (n ≡ i + 1) × AreInOrder (take i d) × IsSomeAnd (slice_get d i) (λ e. e.weight ≡ pos 0)
+IsWeightless d n = (i : ℕ) × (n ≡ i + 1) × AreProperEntries (take i d) × IsSomeAnd (slice_get d i) (λ e. e.weight ≡ pos 0)
 
 -- the entry of this number, from 1, is the first at fault: it has a weight, and its world stood before
 abbrev pub IsRepeated : List Entry → ℕ → Type 0
-IsRepeated d n = (i : ℕ) × (n ≡ i + 1) × AreInOrder (take i d) × IsSomeAnd (slice_get d i) (λ e. (e.weight ≢ pos 0) × Any (λ x. x.world ≡ e.world) (take i d))
+IsRepeated d n = (i : ℕ) × (n ≡ i + 1) × AreProperEntries (take i d) × IsSomeAnd (slice_get d i) (λ e. (e.weight ≢ pos 0) × Any (λ x. x.world ≡ e.world) (take i d))
 
 -- the bound of this number, from 1, is the first that isn't met
 abbrev pub MissesFirst : List Bound → List Entry → ℕ → Type 0
@@ -143,7 +143,7 @@ HasValue p other = Unit {0}
 pub record IsModelRight (p : Parts) (c : Claim) : Type 0 where
   pub shape : HasShape p c
   pub few : IfSome (model_of c) (AreFew p)
-  pub order : IfSome (model_of c) (λ m. AreInOrder m.worlds)
+  pub order : IfSome (model_of c) (λ m. AreProperEntries m.worlds)
   pub total : IfSome (model_of c) HasTotal
   pub met : IfSome (model_of c) (λ m. MeetsAll (bounds_of p) m.worlds)
   pub evidence : HasEvidence p c
@@ -165,10 +165,10 @@ IsFirstIn p c WrongShape = ¬ HasShape p c
 IsFirstIn p c TooManyWorlds = HasShape p c × OfModel c (λ m. ¬ AreFew p m)
 IsFirstIn p c (WeightZero n) = HasShape p c × OfModel c (λ m. AreFew p m × IsWeightless m.worlds n)
 IsFirstIn p c (WorldTwice n) = HasShape p c × OfModel c (λ m. AreFew p m × IsRepeated m.worlds n)
-IsFirstIn p c TotalWrong = HasShape p c × OfModel c (λ m. AreFew p m × AreInOrder m.worlds × ¬ HasTotal m)
-IsFirstIn p c (BoundMissed n) = HasShape p c × OfModel c (λ m. AreFew p m × AreInOrder m.worlds × HasTotal m × MissesFirst (bounds_of p) m.worlds n)
-IsFirstIn p c EvidenceZero = HasShape p c × OfModel c (λ m. AreFew p m × AreInOrder m.worlds × HasTotal m × MeetsAll (bounds_of p) m.worlds) × ¬ HasEvidence p c
-IsFirstIn p c ValueMissed = HasShape p c × OfModel c (λ m. AreFew p m × AreInOrder m.worlds × HasTotal m × MeetsAll (bounds_of p) m.worlds) × HasEvidence p c × ¬ HasValue p c
+IsFirstIn p c TotalWrong = HasShape p c × OfModel c (λ m. AreFew p m × AreProperEntries m.worlds × ¬ HasTotal m)
+IsFirstIn p c (BoundMissed n) = HasShape p c × OfModel c (λ m. AreFew p m × AreProperEntries m.worlds × HasTotal m × MissesFirst (bounds_of p) m.worlds n)
+IsFirstIn p c EvidenceZero = HasShape p c × OfModel c (λ m. AreFew p m × AreProperEntries m.worlds × HasTotal m × MeetsAll (bounds_of p) m.worlds) × ¬ HasEvidence p c
+IsFirstIn p c ValueMissed = HasShape p c × OfModel c (λ m. AreFew p m × AreProperEntries m.worlds × HasTotal m × MeetsAll (bounds_of p) m.worlds) × HasEvidence p c × ¬ HasValue p c
 IsFirstIn p c (DualWrong f) = IsModelRight p c × IsDualWrong p c f
 
 -- the claim at this place is the first that isn't valid, and this is its first fault

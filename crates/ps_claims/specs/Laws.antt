@@ -13,7 +13,7 @@ use Rattle.ps_entailment.specs.Answers.{Answer}
 use Rattle.ps_claims.specs.Duals.{Dual, ClaimKind, Nothing, Lower, Upper, HaveSigns, kept_bounds, AreZeroElsewhere, combination, IsNeverAbove, HasNothingHead, HasValueHead}
 use Rattle.ps_claims.specs.Goals.{Combination, value_under, size_of, combination_of, goal_of}
 use Rattle.ps_claims.specs.Faults.{DualFault, IsFaultless, IsFirstFault}
-use Rattle.ps_claims.specs.Claims.{claims_of, HasParts, AreValid, AreNotBelow, Place, Fault, IsRefused}
+use Rattle.ps_claims.specs.Claims.{claims_of, HasParts, AreValid, HaveWeightsNotBelow0, Place, Fault, IsRefused}
 use Rattle.ps_claims.specs.Validity.{query_of, IsRefuted, IsValid, IsRightFor}
 
 -- a dual of head at least 1 and top 0 shows that no distribution is allowed
@@ -79,7 +79,7 @@ ValidAnswersHaveValidClaims = (p : Parts) (a : Answer Dual) → IsValid p a ↔ 
 
 -- an answer in which no weight is below 0 is valid or refused
 abbrev pub AnswersAreValidOrRefused : Type 0
-AnswersAreValidOrRefused = (p : Parts) (a : Answer Dual) → AreNotBelow (claims_of p a) → IsValid p a ⊎ ((place : Place) × (f : Fault) × IsRefused p a place f)
+AnswersAreValidOrRefused = (p : Parts) (a : Answer Dual) → HaveWeightsNotBelow0 (claims_of p a) → IsValid p a ⊎ ((place : Place) × (f : Fault) × IsRefused p a place f)
 
 -- a valid answer is refused for no fault
 abbrev pub ValidAnswersAreNotRefused : Type 0

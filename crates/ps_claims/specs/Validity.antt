@@ -8,7 +8,7 @@ use Rattle.ps_rational.specs.Rational.{Rational}
 use Rattle.ps_steps.specs.Steps.{Refutes}
 use Rattle.ps_forms.specs.Forms.{form_of, first_known}
 use Rattle.ps_entailment.specs.Queries.{Query, Reaches}
-use Rattle.ps_entailment.specs.Answers.{Model, Verdict, Consistent, Inconsistent, OpenVerdict, SideAnswer, Value, OpenSide, QueryAnswer, Interval, Impossible, OpenQuery, Answer, IsSmall, ShowsConsistent, asked_under, IsRight}
+use Rattle.ps_entailment.specs.Answers.{Model, Verdict, Consistent, Inconsistent, OpenVerdict, SideAnswer, Value, OpenSide, QueryAnswer, Interval, Impossible, OpenQuery, Answer, IsBasicModel, ShowsConsistent, asked_under, IsRight}
 use Rattle.ps_claims.specs.Duals.{Dual, ClaimKind, Nothing, Lower, Upper, HaveSigns, HasNothingHead, HasValueHead}
 use Rattle.ps_claims.specs.Goals.{combination_of, goal_of}
 
@@ -29,7 +29,7 @@ pub record ShowsNothing (p : Parts) (given : Option ℕ) (d : Dual) : Type 0 whe
 -- a small distribution reaches the value, and a dual shows that it is a bound
 pub record ShowsTight (p : Parts) (kind : ClaimKind) (q : stored.Query) (value : Rational) (m : Model) (d : Dual) : Type 0 where
   pub reached : Reaches (length p.names) (bounds_of p) (query_of p.nodes q) value m.worlds
-  pub small : IsSmall (bounds_of p) m
+  pub small : IsBasicModel (bounds_of p) m
   pub head : HasValueHead value d
   pub refuted : IsRefuted p kind q.given q.both d
 

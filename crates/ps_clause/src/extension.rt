@@ -17,9 +17,9 @@ pub fn names_of(alloc: Global, formulas: &Formulas, world: &World) -> Result<Ass
     ensures { IfOk result (λ a. a ≡ full (extension formulas.now world.now)) }
 {
     let truths = eval(alloc, formulas, world)?;
-    let mut names = Assignment::new(alloc, formulas.len())?;
-    set_all(&mut names, &truths);
-    Ok(names)
+    let mut assignment = Assignment::new(alloc, formulas.len())?;
+    set_all(&mut assignment, &truths);
+    Ok(assignment)
 }
 
 // Sets each variable.

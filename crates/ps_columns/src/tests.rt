@@ -1,5 +1,3 @@
-ghost use Rattle.std.specs.Prelude.{◌≡◌, length};
-
 use super::*;
 use ps_bland::Phase;
 use ps_problem::{Bound, Side};

@@ -36,20 +36,20 @@ pub record Answer (C : Type 0) : Type 0 where
   pub parts : List (QueryAnswer C)
 
 -- at most one world more than there are bounds, and the total is the sum of the weights
-pub record IsSmall (bounds : List Bound) (m : Model) : Type 0 where
+pub record IsBasicModel (bounds : List Bound) (m : Model) : Type 0 where
   pub few : length m.worlds ≤ length bounds + 1
   pub total : m.total ≡ total m.worlds
 
 -- a small distribution that meets each bound
 pub record ShowsConsistent (atoms : ℕ) (bounds : List Bound) (m : Model) : Type 0 where
   pub model : IsModelOf atoms bounds m.worlds
-  pub small : IsSmall bounds m
+  pub small : IsBasicModel bounds m
 
 -- a value that bounds the query's probability, and that a small distribution reaches
 pub record IsTight (atoms : ℕ) (bounds : List Bound) (q : Query) (side : Side) (value : Rational) (m : Model) : Type 0 where
   pub holds : Holds atoms bounds q side value
   pub reached : Reaches atoms bounds q value m.worlds
-  pub small : IsSmall bounds m
+  pub small : IsBasicModel bounds m
 
 abbrev pub IsRightVerdict : {C : Type 0} → ℕ → List Bound → Verdict C → Type 0
 IsRightVerdict atoms bounds (Consistent m) = ShowsConsistent atoms bounds m

@@ -4,7 +4,7 @@ ghost use Rattle.std.specs.Prelude.{◌≡◌, ◌*◌, ◌/◌, ◌<◌, ◌≤
 ghost use Rattle.ps_rational.specs.Wide.{Fits};
 ghost use Rattle.ps_frac.specs.Fitting.{IfFits, IfSizeFits};
 
-use crate::limits::{HALF, SIZE_LIMIT, WORD};
+use crate::limits::{HALF_WORD, SIZE_LIMIT, WORD};
 
 /// `n / g`, rounded down; most numbers fit 64 bits, where a division is much faster.
 pub(crate) fn part(n: u128, g: u128) -> u128
@@ -35,7 +35,7 @@ pub(crate) fn divided(n: i128, g: u128) -> i128
 pub(crate) fn size_product(a: u128, b: u128) -> Option<u128>
     ensures value { IfSizeFits (a * b) result }
 {
-    if a < HALF && b < HALF {
+    if a < HALF_WORD && b < HALF_WORD {
         return Some((a as u64 as u128) * (b as u64 as u128));
     }
     match a.checked_mul(b) {
@@ -48,7 +48,7 @@ pub(crate) fn size_product(a: u128, b: u128) -> Option<u128>
 pub(crate) fn signed_product(a: i128, b: i128) -> Option<i128>
     ensures value { IfFits (a *ℤ b) result }
 {
-    if a.unsigned_abs() < HALF && b.unsigned_abs() < HALF {
+    if a.unsigned_abs() < HALF_WORD && b.unsigned_abs() < HALF_WORD {
         return Some((a as i64 as i128) * (b as i64 as i128));
     }
     match a.checked_mul(b) {

@@ -9,5 +9,5 @@ pub const MOST_MULTIPLE: i128 = 1 << 126;
 /// Above every number that fits 64 bits.
 pub(crate) const WORD: u128 = 1 << 64;
 
-/// Two sizes below it have a product that fits.
-pub(crate) const HALF: u128 = 1 << 63;
+/// Sizes below it fit `i64`, and the product of two of them fits a fraction.
+pub(crate) const HALF_WORD: u128 = 1 << 63;

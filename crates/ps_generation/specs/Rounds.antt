@@ -9,14 +9,14 @@ use Rattle.ps_claims.specs.declared.claim_kind.ClaimKind.{ClaimKind}
 use Rattle.ps_runs.specs.Rows.{entries_of, world_cost}
 use Rattle.ps_runs.specs.Runs.{Subject, setting_of, IsRestingAt, IsPricedBy}
 use Rattle.ps_phases.specs.Tables.{phase_of, costs_for}
-use Rattle.ps_pricing.specs.Pricings.{Asked}
+use Rattle.ps_pricing.specs.Pricings.{PricingSubject}
 use Rattle.ps_generation.specs.declared.column.Column.{Column}
 use Rattle.ps_generation.specs.declared.state.State.{State}
 use Rattle.ps_generation.specs.declared.end.End.{End}
 use Rattle.ps_generation.specs.Phases.{LimitedSubject, stage_of, HasCome, IsEnd}
 
 -- what duals are priced over
-abbrev pub asked_of : LimitedSubject → Asked
+abbrev pub asked_of : LimitedSubject → PricingSubject
 asked_of r = record { subject = r.subject; conflicts = r.limits.conflicts }
 
 -- the column of a world and its cost

@@ -9,7 +9,7 @@ use Rattle.ps_answer.specs.declared.item.Item.{Item}
 use Rattle.ps_answer.specs.declared.item.Item.TheVariants as line
 use Rattle.ps_answer.specs.declared.part.Part.TheVariants as part
 use Rattle.ps_answer.specs.Faults.{first_of}
-use Rattle.ps_answer.specs.Items.{count, IsSmall, IsColWithin}
+use Rattle.ps_answer.specs.Items.{count, IsPrintable, IsColWithin}
 use Rattle.ps_line.specs.declared.line_fault.LineFault.{LineFault}
 use Rattle.ps_line.specs.Cursor.{later}
 use Rattle.ps_line.specs.Read.{IsWordRead, both, IsItemRead}
@@ -31,37 +31,37 @@ report_item ws ws1 a t e r p0 q0 h0 l f =
 -- `model`
 pub model_item : (ws ws1 ws2 : List (List ℕ)) (a b : List ℕ) (t : Result (ℤ) LineFault) (u : Result (ℕ) LineFault) (e : Result (Unit {0}) LineFault) (r : Result (ℤ × (ℕ × Unit {0})) LineFault)
     → a ≡ first_of ws → ws1 ≡ later ws → b ≡ first_of ws1 → ws2 ≡ later ws1
-    → IsWordRead Number (λ z. pos 0 ≤ℤ z) IsSmall a t → IsWordRead count (λ n. ⊤) (λ n. n ≤ 101) b u → IsEndRead ws2 e
+    → IsWordRead Number (λ z. pos 0 ≤ℤ z) IsPrintable a t → IsWordRead count (λ n. ⊤) (λ n. n ≤ 101) b u → IsEndRead ws2 e
     → r ≡ both t (both u e) → IsItemRead part.AModel (codes "model" ∷ ws) (made (λ a. line.ModelHead a.0 a.1.0) r)
 model_item ws ws1 ws2 a b t u e r p0 q0 p1 q1 h0 h1 l f =
     subst (λ x. IsItemRead part.AModel (codes "model" ∷ ws) (made (λ a. line.ModelHead a.0 a.1.0) x)) (sym f)
     (model_read ws t u e
-    (subst (λ z. IsWordRead Number (λ z. pos 0 ≤ℤ z) IsSmall z t) p0 h0)
+    (subst (λ z. IsWordRead Number (λ z. pos 0 ≤ℤ z) IsPrintable z t) p0 h0)
     (subst (λ z. IsWordRead count (λ n. ⊤) (λ n. n ≤ 101) z u) (p1 ∙ ap first_of q0) h1)
     (subst (λ z. IsEndRead z e) (q1 ∙ ap later q0) l))
 
 -- `w`
 pub entry_item : (ws ws1 ws2 : List (List ℕ)) (a b : List ℕ) (t : Result (ℤ) LineFault) (u : Result (World) LineFault) (e : Result (Unit {0}) LineFault) (r : Result (ℤ × (World × Unit {0})) LineFault)
     → a ≡ first_of ws → ws1 ≡ later ws → b ≡ first_of ws1 → ws2 ≡ later ws1
-    → IsWordRead Number (λ z. pos 0 ≤ℤ z) IsSmall a t → IsWordRead Truths (λ w. ⊤) (λ w. length w ≤ 128) b u → IsEndRead ws2 e
+    → IsWordRead Number (λ z. pos 0 ≤ℤ z) IsPrintable a t → IsWordRead Truths (λ w. ⊤) (λ w. length w ≤ 128) b u → IsEndRead ws2 e
     → r ≡ both t (both u e) → IsItemRead part.AnEntry (codes "w" ∷ ws) (made (λ a. line.Entry a.0 a.1.0) r)
 entry_item ws ws1 ws2 a b t u e r p0 q0 p1 q1 h0 h1 l f =
     subst (λ x. IsItemRead part.AnEntry (codes "w" ∷ ws) (made (λ a. line.Entry a.0 a.1.0) x)) (sym f)
     (entry_read ws t u e
-    (subst (λ z. IsWordRead Number (λ z. pos 0 ≤ℤ z) IsSmall z t) p0 h0)
+    (subst (λ z. IsWordRead Number (λ z. pos 0 ≤ℤ z) IsPrintable z t) p0 h0)
     (subst (λ z. IsWordRead Truths (λ w. ⊤) (λ w. length w ≤ 128) z u) (p1 ∙ ap first_of q0) h1)
     (subst (λ z. IsEndRead z e) (q1 ∙ ap later q0) l))
 
 -- `dual`
 pub dual_item : (ws ws1 ws2 ws3 : List (List ℕ)) (a b c : List ℕ) (t : Result (ℤ) LineFault) (u : Result (ℤ) LineFault) (v : Result (ℕ) LineFault) (e : Result (Unit {0}) LineFault) (r : Result (ℤ × (ℤ × (ℕ × Unit {0}))) LineFault)
     → a ≡ first_of ws → ws1 ≡ later ws → b ≡ first_of ws1 → ws2 ≡ later ws1 → c ≡ first_of ws2 → ws3 ≡ later ws2
-    → IsWordRead Number (λ z. pos 0 ≤ℤ z) IsSmall a t → IsWordRead Number (λ z. ⊤) IsSmall b u → IsWordRead count (λ n. ⊤) (λ n. n ≤ 2 ^ 41) c v → IsEndRead ws3 e
+    → IsWordRead Number (λ z. pos 0 ≤ℤ z) IsPrintable a t → IsWordRead Number (λ z. ⊤) IsPrintable b u → IsWordRead count (λ n. ⊤) (λ n. n ≤ 2 ^ 41) c v → IsEndRead ws3 e
     → r ≡ both t (both u (both v e)) → IsItemRead part.ADual (codes "dual" ∷ ws) (made (λ a. line.DualHead a.0 a.1.0 a.1.1.0) r)
 dual_item ws ws1 ws2 ws3 a b c t u v e r p0 q0 p1 q1 p2 q2 h0 h1 h2 l f =
     subst (λ x. IsItemRead part.ADual (codes "dual" ∷ ws) (made (λ a. line.DualHead a.0 a.1.0 a.1.1.0) x)) (sym f)
     (dual_read ws t u v e
-    (subst (λ z. IsWordRead Number (λ z. pos 0 ≤ℤ z) IsSmall z t) p0 h0)
-    (subst (λ z. IsWordRead Number (λ z. ⊤) IsSmall z u) (p1 ∙ ap first_of q0) h1)
+    (subst (λ z. IsWordRead Number (λ z. pos 0 ≤ℤ z) IsPrintable z t) p0 h0)
+    (subst (λ z. IsWordRead Number (λ z. ⊤) IsPrintable z u) (p1 ∙ ap first_of q0) h1)
     (subst (λ z. IsWordRead count (λ n. ⊤) (λ n. n ≤ 2 ^ 41) z v) (p2 ∙ ap first_of (q1 ∙ ap later q0)) h2)
     (subst (λ z. IsEndRead z e) (q2 ∙ ap later (q1 ∙ ap later q0)) l))
 

@@ -14,7 +14,7 @@ use Rattle.ps_answer.specs.declared.item.Ratio.{Ratio}
 use Rattle.ps_answer.specs.declared.part.Part.{Part}
 use Rattle.ps_answer.specs.declared.part.Part.TheVariants as part
 use Rattle.ps_answer.specs.Faults.{first_of}
-use Rattle.ps_answer.specs.Items.{count, item_words, IsProper, IsWithin, IsSmall, IsColWithin, IsReducedWithin, IsRatioWithin}
+use Rattle.ps_answer.specs.Items.{count, item_words, IsProper, IsWithin, IsPrintable, IsColWithin, IsReducedWithin, IsRatioWithin}
 use Rattle.ps_answer.specs.Due.{behind, first_words}
 use Rattle.ps_line.specs.declared.line_fault.LineFault.{LineFault}
 use Rattle.ps_line.specs.declared.line_fault.LineFault.TheVariants.{NotCanonical, TooLarge, NoMemory}
@@ -76,7 +76,7 @@ report_read ws r e h k = item_read part.AReport (codes "report" ∷ []) _ _ _ _ 
 abbrev pub Two : Type 0 → Type 0 → Type 0
 Two A B = A × (B × Unit {0})
 
-model_makes : (ws : List (List ℕ)) → Makes {A = Two ℤ ℕ} part.AModel (codes "model" ∷ []) ws (λ a. line.ModelHead a.0 a.1.0) (λ a. Number a.0 ∷ count a.1.0 ∷ []) (λ a. (pos 0 ≤ℤ a.0) × (⊤ × ⊤)) (λ a. IsSmall a.0 × ((a.1.0 ≤ 101) × ⊤))
+model_makes : (ws : List (List ℕ)) → Makes {A = Two ℤ ℕ} part.AModel (codes "model" ∷ []) ws (λ a. line.ModelHead a.0 a.1.0) (λ a. Number a.0 ∷ count a.1.0 ∷ []) (λ a. (pos 0 ≤ℤ a.0) × (⊤ × ⊤)) (λ a. IsPrintable a.0 × ((a.1.0 ≤ 101) × ⊤))
 unfolding behind
 model_makes ws = record { words = λ a. refl; proper = λ a p. p.0; within = λ a f. (f.0, f.1.0); back = λ a w. (w.0, (w.1, tt)); fits = λ a p due. (_, refl); only = only }
   where
@@ -85,14 +85,14 @@ model_makes ws = record { words = λ a. refl; proper = λ a p. p.0; within = λ 
     only i s = inl (λ due. refl)
 
 pub model_read : (ws : List (List ℕ)) (t : Result ℤ LineFault) (n : Result ℕ LineFault) (e : Result (Unit {0}) LineFault)
-    → IsWordRead Number (λ z. pos 0 ≤ℤ z) IsSmall (first_of ws) t → IsWordRead count (λ n. ⊤) (λ n. n ≤ 101) (first_of (later ws)) n → IsEndRead (later (later ws)) e
+    → IsWordRead Number (λ z. pos 0 ≤ℤ z) IsPrintable (first_of ws) t → IsWordRead count (λ n. ⊤) (λ n. n ≤ 101) (first_of (later ws)) n → IsEndRead (later (later ws)) e
     → IsItemRead part.AModel (codes "model" ∷ ws) (made (λ a. line.ModelHead a.0 a.1.0) (both t (both n e)))
 model_read ws t n e h k l =
     item_read part.AModel (codes "model" ∷ []) _ _ _ _ ws (model_makes ws) (both t (both n e))
     (word_then Number _ _ _ _ _ ws t (both n e) number_word h (last_word count _ _ (later ws) n e count_word k l))
 
 -- a model's world
-entry_makes : (ws : List (List ℕ)) → Makes {A = Two ℤ World} part.AnEntry (codes "w" ∷ []) ws (λ a. line.Entry a.0 a.1.0) (λ a. Number a.0 ∷ Truths a.1.0 ∷ []) (λ a. (pos 0 ≤ℤ a.0) × (⊤ × ⊤)) (λ a. IsSmall a.0 × ((length a.1.0 ≤ 128) × ⊤))
+entry_makes : (ws : List (List ℕ)) → Makes {A = Two ℤ World} part.AnEntry (codes "w" ∷ []) ws (λ a. line.Entry a.0 a.1.0) (λ a. Number a.0 ∷ Truths a.1.0 ∷ []) (λ a. (pos 0 ≤ℤ a.0) × (⊤ × ⊤)) (λ a. IsPrintable a.0 × ((length a.1.0 ≤ 128) × ⊤))
 unfolding behind
 entry_makes ws = record { words = λ a. refl; proper = λ a p. p.0; within = λ a f. (f.0, f.1.0); back = λ a w. (w.0, (w.1, tt)); fits = λ a p due. (_, refl); only = only }
   where
@@ -101,7 +101,7 @@ entry_makes ws = record { words = λ a. refl; proper = λ a p. p.0; within = λ 
     only i s = inl (λ due. refl)
 
 pub entry_read : (ws : List (List ℕ)) (t : Result ℤ LineFault) (w : Result World LineFault) (e : Result (Unit {0}) LineFault)
-    → IsWordRead Number (λ z. pos 0 ≤ℤ z) IsSmall (first_of ws) t → IsWordRead Truths (λ w. ⊤) (λ w. length w ≤ 128) (first_of (later ws)) w → IsEndRead (later (later ws)) e
+    → IsWordRead Number (λ z. pos 0 ≤ℤ z) IsPrintable (first_of ws) t → IsWordRead Truths (λ w. ⊤) (λ w. length w ≤ 128) (first_of (later ws)) w → IsEndRead (later (later ws)) e
     → IsItemRead part.AnEntry (codes "w" ∷ ws) (made (λ a. line.Entry a.0 a.1.0) (both t (both w e)))
 entry_read ws t w e h k l =
     item_read part.AnEntry (codes "w" ∷ []) _ _ _ _ ws (entry_makes ws) (both t (both w e))
@@ -112,7 +112,7 @@ abbrev pub Three : Type 0 → Type 0 → Type 0 → Type 0
 Three A B C = A × (B × (C × Unit {0}))
 
 dual_makes : (ws : List (List ℕ)) → Makes {A = Three ℤ ℤ ℕ} part.ADual (codes "dual" ∷ []) ws (λ a. line.DualHead a.0 a.1.0 a.1.1.0) (λ a. Number a.0 ∷ Number a.1.0 ∷ count a.1.1.0 ∷ [])
-    (λ a. (pos 0 ≤ℤ a.0) × (⊤ × (⊤ × ⊤))) (λ a. IsSmall a.0 × (IsSmall a.1.0 × ((a.1.1.0 ≤ 2 ^ 41) × ⊤)))
+    (λ a. (pos 0 ≤ℤ a.0) × (⊤ × (⊤ × ⊤))) (λ a. IsPrintable a.0 × (IsPrintable a.1.0 × ((a.1.1.0 ≤ 2 ^ 41) × ⊤)))
 unfolding behind
 dual_makes ws = record { words = λ a. refl; proper = λ a p. p.0; within = λ a f. (f.0, f.1.0, f.1.1.0); back = λ a w. (w.0, (w.1, (w.2, tt))); fits = λ a p due. (_, refl); only = only }
   where
@@ -121,7 +121,7 @@ dual_makes ws = record { words = λ a. refl; proper = λ a p. p.0; within = λ a
     only i s = inl (λ due. refl)
 
 pub dual_read : (ws : List (List ℕ)) (t h : Result ℤ LineFault) (n : Result ℕ LineFault) (e : Result (Unit {0}) LineFault)
-    → IsWordRead Number (λ z. pos 0 ≤ℤ z) IsSmall (first_of ws) t → IsWordRead Number (λ z. ⊤) IsSmall (first_of (later ws)) h
+    → IsWordRead Number (λ z. pos 0 ≤ℤ z) IsPrintable (first_of ws) t → IsWordRead Number (λ z. ⊤) IsPrintable (first_of (later ws)) h
     → IsWordRead count (λ n. ⊤) (λ n. n ≤ 2 ^ 41) (first_of (later (later ws))) n → IsEndRead (later (later (later ws))) e
     → IsItemRead part.ADual (codes "dual" ∷ ws) (made (λ a. line.DualHead a.0 a.1.0 a.1.1.0) (both t (both h (both n e))))
 dual_read ws t h n e a b c d =

@@ -21,7 +21,7 @@ use Rattle.ps_line.specs.declared.line_fault.LineFault.{LineFault}
 use Rattle.ps_line.specs.declared.line_fault.LineFault.TheVariants.{NotCanonical, TooLarge, NoMemory}
 use Rattle.ps_line.specs.Cursor.{later}
 use Rattle.ps_line.specs.Read.{IsRead, IsWordRead, AreWordsRead, both, Fits, FitsNot, IsSaid, IsItemRead}
-use Rattle.ps_line.specs.Places.{Begins, Leaves, IsFrontRead, IsPlaceRead, IsPrinted}
+use Rattle.ps_line.specs.Places.{Begins, Leaves, IsFrontRead, IsPlaceRead, IsPrintedPlace}
 use Rattle.ps_line.proofs.Sequences.{Makes, IsMade, item_read, made, word_then, IsNeverEmpty}
 use Rattle.ps_line.proofs.Items.{other, IsEndRead, last_word, count_word, column_word, fraction_word}
 
@@ -274,7 +274,7 @@ new_plus_read ws r q h k = place_front (codes "new-plus") _ _ _ ws (later (later
     (front_then count (λ i. i ≤ 100) (λ i. count i ∷ []) (λ i. i ≤ 100) ws (later (later ws)) r q count_word h (front_one count _ (later ws) q count_word k))
 
 -- no other name is one of a place
-pub no_place : (name : List ℕ) (ws rest : List (List ℕ)) → IsPrinted name → (name ≡ codes "whole" → ⊥) → (name ≡ codes "scaled" → ⊥) → (name ≡ codes "weight" → ⊥) → (name ≡ codes "weighed" → ⊥) → (name ≡ codes "total" → ⊥)
+pub no_place : (name : List ℕ) (ws rest : List (List ℕ)) → IsPrintedPlace name → (name ≡ codes "whole" → ⊥) → (name ≡ codes "scaled" → ⊥) → (name ≡ codes "weight" → ⊥) → (name ≡ codes "weighed" → ⊥) → (name ≡ codes "total" → ⊥)
     → IsPlaceRead (name ∷ ws) rest (Err NotCanonical)
 no_place name ws rest h a b c d e (place.Ratio i) tail s = h.not_ratio s.0
 no_place name ws rest h a b c d e (place.Scale j) tail s = h.not_scale s.0

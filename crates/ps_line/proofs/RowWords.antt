@@ -8,7 +8,7 @@ use Rattle.ps_log.proofs.Spelled.{value_of_spelling}
 use Rattle.std.proofs.lemmas.List.Elements.{All-cons, All-nil}
 use Rattle.ps_log.proofs.StepShapes.{first_in, rest_in}
 use Rattle.ps_answer.specs.Faults.{first_of}
-use Rattle.ps_answer.specs.Items.{IsSmall}
+use Rattle.ps_answer.specs.Items.{IsPrintable}
 use Rattle.ps_answer.specs.Words.{Number, SpellWords}
 use Rattle.ps_line.specs.declared.line_fault.LineFault.{LineFault}
 use Rattle.ps_line.specs.declared.line_fault.LineFault.TheVariants.{NotCanonical, TooLarge, NoMemory}
@@ -38,29 +38,29 @@ no_words = ([], tt)
 pub record RowsSoFar (words left : List (List ℕ)) (rows : List ℤ) : Type 0 where
   pub numbered : IsNumbered left
   pub so_far : (zs : List ℤ) → SpellWords left (map Number zs) → SpellWords words (map Number (rows ++ zs))
-  pub small : All IsSmall rows
+  pub small : All IsPrintable rows
   pub few : length rows ≤ 100
 
 pub rows_start : (words : List (List ℕ)) → IsNumbered words → RowsSoFar words words []
-rows_start words n = record { numbered = n; so_far = λ zs s. s; small = All-nil IsSmall; few = omega arith }
+rows_start words n = record { numbered = n; so_far = λ zs s. s; small = All-nil IsPrintable; few = omega arith }
 
-all_push : (rows : List ℤ) (z : ℤ) → All IsSmall rows → IsSmall z → All IsSmall (rows ++ z ∷ [])
-all_push [] z h s = All-cons IsSmall z [] s h
-all_push (r ∷ rows) z h s = All-cons IsSmall r (rows ++ z ∷ []) (first_in IsSmall r rows h) (all_push rows z (rest_in IsSmall r rows h) s)
+all_push : (rows : List ℤ) (z : ℤ) → All IsPrintable rows → IsPrintable z → All IsPrintable (rows ++ z ∷ [])
+all_push [] z h s = All-cons IsPrintable z [] s h
+all_push (r ∷ rows) z h s = All-cons IsPrintable r (rows ++ z ∷ []) (first_in IsPrintable r rows h) (all_push rows z (rest_in IsPrintable r rows h) s)
 
-last_small : (rows more : List ℤ) (z : ℤ) → All IsSmall (rows ++ z ∷ more) → IsSmall z
-last_small [] more z h = first_in IsSmall z more h
-last_small (r ∷ rows) more z h = last_small rows more z (rest_in IsSmall r (rows ++ z ∷ more) h)
+last_small : (rows more : List ℤ) (z : ℤ) → All IsPrintable (rows ++ z ∷ more) → IsPrintable z
+last_small [] more z h = first_in IsPrintable z more h
+last_small (r ∷ rows) more z h = last_small rows more z (rest_in IsPrintable r (rows ++ z ∷ more) h)
 
-pub small_kept : (z : ℤ) → IsSmall z → to_z w128 (of_z w128 z) ≡ z
+pub small_kept : (z : ℤ) → IsPrintable z → to_z w128 (of_z w128 z) ≡ z
 small_kept z h = to_z-of_z w128 z (fits z h)
   where
-    fits : (z : ℤ) → IsSmall z → SFits w128 z
+    fits : (z : ℤ) → IsPrintable z → SFits w128 z
     fits z h = omega (arith, ints, h)
 
 -- one more row
 pub rows_more : (words left : List (List ℕ)) (rows new : List ℤ) (z : ℤ) → (left ≡ [] → ⊥) → RowsSoFar words left rows → length rows < 100
-    → Spells (first_of left) z → IsSmall z → new ≡ rows ++ z ∷ [] → RowsSoFar words (later left) new
+    → Spells (first_of left) z → IsPrintable z → new ≡ rows ++ z ∷ [] → RowsSoFar words (later left) new
 rows_more words [] rows new z n r l s k e = absurd (n refl)
 rows_more words (w ∷ ws) rows new z n r l s k e = rw e (record {
   numbered = numbered_later (w ∷ ws) r.numbered;
@@ -86,16 +86,16 @@ rows_many words left rows n r h = by left n r.numbered r.so_far
 
 -- the next word is no number up to the limit
 pub rows_stop : (words left : List (List ℕ)) (rows : List ℤ) (why : LineFault) → (left ≡ [] → ⊥) → RowsSoFar words left rows
-    → IsWordRead (λ z. Number z) (λ z. ⊤) IsSmall (first_of left) (Err why) → IsRowsRead words (Err why)
+    → IsWordRead (λ z. Number z) (λ z. ⊤) IsPrintable (first_of left) (Err why) → IsRowsRead words (Err why)
 rows_stop words left rows NotCanonical n r h = absurd (first_numbered left n r.numbered (λ z s. h z (s, tt)))
 rows_stop words left rows TooLarge n r h = by left n r.numbered r.so_far h
   where
     by : (left : List (List ℕ)) → (left ≡ [] → ⊥) → IsNumbered left → ((zs : List ℤ) → SpellWords left (map Number zs) → SpellWords words (map Number (rows ++ zs)))
-        → IsWordRead (λ z. Number z) (λ z. ⊤) IsSmall (first_of left) (Err TooLarge) → IsRowsRead words (Err TooLarge)
+        → IsWordRead (λ z. Number z) (λ z. ⊤) IsPrintable (first_of left) (Err TooLarge) → IsRowsRead words (Err TooLarge)
     by [] n m f h = absurd (n refl)
     by (w ∷ ws) n ([], s) f h = absurd s
     by (w ∷ ws) n (z ∷ zs, s) f h =
-        (rows ++ z ∷ zs, (f (z ∷ zs) s, tt), λ k. h.2 (subst IsSmall (sym (value_of_spelling w z s.0) ∙ value_of_spelling w h.0 h.1.0) (last_small rows zs z k.0)))
+        (rows ++ z ∷ zs, (f (z ∷ zs) s, tt), λ k. h.2 (subst IsPrintable (sym (value_of_spelling w z s.0) ∙ value_of_spelling w h.0 h.1.0) (last_small rows zs z k.0)))
 rows_stop words left rows NoMemory n r h = tt
 
 pub numbers_refused : (words : List (List ℕ)) (why : LineFault) → TellsNumbers words (Err why) → IsRowsRead words (Err why)
@@ -112,5 +112,5 @@ number_refused words left NoMemory e f h = tt
 pub number_told : (left : List (List ℕ)) (word : List ℕ) (r s : Result (Unit {0}) LineFault) → word ≡ first_of left → r ≡ s → TellsNumber word r → TellsNumber (first_of left) s
 number_told left word r s p e h = subst (λ w. TellsNumber w s) p (subst (λ x. TellsNumber word x) e h)
 
-pub row_told : (left : List (List ℕ)) (word : List ℕ) (r s : Result ℤ LineFault) → word ≡ first_of left → r ≡ s → IsWordRead (λ z. Number z) (λ z. ⊤) IsSmall word r → IsWordRead (λ z. Number z) (λ z. ⊤) IsSmall (first_of left) s
-row_told left word r s p e h = subst (λ w. IsWordRead (λ z. Number z) (λ z. ⊤) IsSmall w s) p (subst (λ x. IsWordRead (λ z. Number z) (λ z. ⊤) IsSmall word x) e h)
+pub row_told : (left : List (List ℕ)) (word : List ℕ) (r s : Result ℤ LineFault) → word ≡ first_of left → r ≡ s → IsWordRead (λ z. Number z) (λ z. ⊤) IsPrintable word r → IsWordRead (λ z. Number z) (λ z. ⊤) IsPrintable (first_of left) s
+row_told left word r s p e h = subst (λ w. IsWordRead (λ z. Number z) (λ z. ⊤) IsPrintable w s) p (subst (λ x. IsWordRead (λ z. Number z) (λ z. ⊤) IsPrintable word x) e h)

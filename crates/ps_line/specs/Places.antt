@@ -26,7 +26,7 @@ abbrev pub IsPlaceRead : List (List ℕ) → List (List ℕ) → Result Place Li
 IsPlaceRead words rest result = IsFrontRead place_words IsPlaceWithin words rest result
 
 -- a name is none of a place within the table
-pub record IsPrinted (name : List ℕ) : Type 0 where
+pub record IsPrintedPlace (name : List ℕ) : Type 0 where
   pub not_ratio : name ≡ codes "ratio" → ⊥
   pub not_scale : name ≡ codes "scale" → ⊥
   pub not_times : name ≡ codes "times" → ⊥

@@ -14,6 +14,12 @@ use ps_answer::Item;
 use std::alloc::Global;
 
 /// The words behind `report`.
+const MOST_ENTRIES: u64 = 101;
+
+const MOST_STEPS: u64 = 1 << 41;
+
+const MOST_EVENTS: u64 = 2_000_001;
+
 pub(crate) fn report(words: &mut Words<'_>) -> Result<Item, LineFault>
     ensures { IsItemRead AReport (codes "report" ∷ words_in words.old) result }
 {
@@ -27,7 +33,7 @@ pub(crate) fn model(words: &mut Words<'_>) -> Result<Item, LineFault>
     ensures { IsItemRead AModel (codes "model" ∷ words_in words.old) result }
 {
     let total = amount(words.next());
-    let count = count(words.next(), 101);
+    let count = count(words.next(), MOST_ENTRIES);
     let (total, (count, ())) = both(total, both(count, words.end()))?;
     Ok(Item::ModelHead { total, count })
 }
@@ -48,7 +54,7 @@ pub(crate) fn dual(words: &mut Words<'_>) -> Result<Item, LineFault>
 {
     let top = amount(words.next());
     let head = number(words.next());
-    let count = count(words.next(), 1 << 41);
+    let count = count(words.next(), MOST_STEPS);
     let (top, (head, (count, ()))) = both(top, both(head, both(count, words.end())))?;
     Ok(Item::DualHead { top, head, count })
 }
@@ -65,7 +71,7 @@ pub(crate) fn multipliers(alloc: Global, words: &Words<'_>) -> Result<Item, Line
 pub(crate) fn trace(words: &mut Words<'_>) -> Result<Item, LineFault>
     ensures { IsItemRead ATrace (codes "t" ∷ words_in words.old) result }
 {
-    let count = count(words.next(), 2_000_001);
+    let count = count(words.next(), MOST_EVENTS);
     let (count, ()) = both(count, words.end())?;
     Ok(Item::TraceHead { count })
 }

@@ -1,6 +1,7 @@
 //! Words that say a number, a column, an operation or a fraction.
 ghost use Rattle.std.specs.Prelude.{◌≡◌, ◌≤◌, ◌<◌, ◌≤ℤ◌, ◌^◌, pos, ⊤};
-ghost use Rattle.ps_answer.specs.Items.{count, IsSmall, IsColWithin, IsShownWithin, shown_word, op_word};
+ghost use Rattle.ps_answer.specs.Items.{count, IsPrintable, IsColWithin, IsShownWithin, shown_word};
+ghost use Rattle.ps_answer.specs.Items.{op_word, most_row, most_world, most_queries};
 ghost use Rattle.ps_answer.specs.Words.{Number, Column};
 ghost use Rattle.ps_line.specs.Read.{IsWordRead};
 ghost use Rattle.ps_line.specs.Kinds.{IsHome, IsWorld, IsQuery, IsVersion, IsNumberedWorld};
@@ -10,9 +11,13 @@ use crate::numeral::{count_up_to, number_up_to};
 use crate::words::is;
 use ps_frac::Op;
 use ps_pool::Col;
-use ps_table::TableCol;
+use ps_table::{PRINTED_LIMIT, TableCol};
 
-const MOST_SIZE: u128 = 1 << 90;
+const MOST_ROW: u128 = 100;
+
+const MOST_WORLD: u128 = 1_000_001;
+
+const MOST_QUERIES: u64 = 16;
 
 /// A count up to a limit.
 pub(crate) fn count(word: &[u8], limit: u64) -> Result<u64, LineFault>
@@ -26,9 +31,9 @@ pub(crate) fn count(word: &[u8], limit: u64) -> Result<u64, LineFault>
 
 /// The number of a row or of its home, up to 100.
 pub(crate) fn row(word: &[u8]) -> Result<u32, LineFault>
-    ensures { IsWordRead (λ n. count n) (λ n. ⊤) (λ n. n ≤ 100) word.now result }
+    ensures { IsWordRead (λ n. count n) (λ n. ⊤) (λ n. n ≤ most_row) word.now result }
 {
-    match count_up_to(100, word) {
+    match count_up_to(MOST_ROW, word) {
         Ok(n) => Ok(n as u32),
         Err(why) => Err(why),
     }
@@ -36,16 +41,16 @@ pub(crate) fn row(word: &[u8]) -> Result<u32, LineFault>
 
 /// A number up to 2^90 in size.
 pub(crate) fn number(word: &[u8]) -> Result<i128, LineFault>
-    ensures { IsWordRead (λ z. Number z) (λ z. ⊤) IsSmall word.now result }
+    ensures { IsWordRead (λ z. Number z) (λ z. ⊤) IsPrintable word.now result }
 {
-    number_up_to(MOST_SIZE, word)
+    number_up_to(PRINTED_LIMIT, word)
 }
 
 /// A number from 0 to 2^90.
 pub(crate) fn amount(word: &[u8]) -> Result<i128, LineFault>
-    ensures { IsWordRead (λ z. Number z) (λ z. pos 0 ≤ℤ z) IsSmall word.now result }
+    ensures { IsWordRead (λ z. Number z) (λ z. pos 0 ≤ℤ z) IsPrintable word.now result }
 {
-    match count_up_to(MOST_SIZE, word) {
+    match count_up_to(PRINTED_LIMIT, word) {
         Ok(n) => Ok(n as i128),
         Err(why) => Err(why),
     }
@@ -73,7 +78,7 @@ fn version_of(n: u128) -> Result<(), LineFault>
 
 /// The number of the query that is due, of any size; up to 16.
 pub(crate) fn query_number(word: &[u8], due: u64) -> Result<u64, LineFault>
-    ensures { IsWordRead (λ n. count n) (λ n. n ≡ due) (λ n. n ≤ 16) word.now result }
+    ensures { IsWordRead (λ n. count n) (λ n. n ≡ due) (λ n. n ≤ most_queries) word.now result }
 {
     match count_up_to(u128::from(u64::MAX), word) {
         Ok(n) => query_within(n, due),
@@ -87,7 +92,7 @@ fn query_within(n: u128, due: u64) -> Result<u64, LineFault>
     if n != u128::from(due) {
         return Err(LineFault::NotCanonical);
     }
-    if due <= 16 {
+    if due <= MOST_QUERIES {
         Ok(due)
     } else {
         Err(LineFault::TooLarge)
@@ -108,7 +113,7 @@ pub(crate) fn column(word: &[u8]) -> Result<Col, LineFault>
 fn home(digits: &[u8]) -> Result<Col, LineFault>
     ensures { IsHome digits.now result }
 {
-    match count_up_to(100, digits) {
+    match count_up_to(MOST_ROW, digits) {
         Ok(n) => Ok(Col::Home(n as u32)),
         Err(why) => Err(why),
     }
@@ -117,14 +122,14 @@ fn home(digits: &[u8]) -> Result<Col, LineFault>
 fn world(digits: &[u8]) -> Result<Col, LineFault>
     ensures { IsWorld digits.now result }
 {
-    match count_up_to(1_000_001, digits) {
+    match count_up_to(MOST_WORLD, digits) {
         Ok(n) => numbered_world(n),
         Err(why) => Err(why),
     }
 }
 
 fn numbered_world(n: u128) -> Result<Col, LineFault>
-    requires { n ≤ 1000001 }
+    requires { n ≤ most_world }
     ensures { IsNumberedWorld n result }
 {
     if n == 0 {

@@ -17,6 +17,10 @@ use crate::words::{Words, is};
 use ps_answer::Item;
 use std::alloc::Global;
 
+const MOST_PIVOTS: u64 = 1_000_000;
+
+const MOST_CONFLICTS: u64 = 1 << 40;
+
 /// A verdict's words.
 pub(crate) fn verdict(word: &[u8], words: &mut Words<'_>) -> Result<Item, LineFault>
     requires { list_any (λ w. bytes_eq word.now w) (first_words part.AVerdict) ≡ true }
@@ -65,7 +69,7 @@ pub(crate) fn cause(words: &mut Words<'_>) -> Result<Item, LineFault>
 fn open_pivots(words: &mut Words<'_>) -> Result<Item, LineFault>
     ensures { IsItemRead part.ACause (codes "open" ∷ codes "pivots" ∷ words_in words.old) result }
 {
-    let limit = count(words.next(), 1_000_000);
+    let limit = count(words.next(), MOST_PIVOTS);
     let (limit, ()) = both(limit, words.end())?;
     Ok(Item::OpenPivots { limit })
 }
@@ -74,7 +78,7 @@ fn open_conflicts(words: &mut Words<'_>) -> Result<Item, LineFault>
     ensures { IsItemRead part.ACause (codes "open" ∷ codes "conflicts" ∷ words_in words.old)
         result }
 {
-    let limit = count(words.next(), 1 << 40);
+    let limit = count(words.next(), MOST_CONFLICTS);
     let (limit, ()) = both(limit, words.end())?;
     Ok(Item::OpenConflicts { limit })
 }

@@ -1,10 +1,11 @@
 //! Words that say a fraction.
 ghost use Rattle.std.specs.Prelude.{◌≡◌, Ok, ◌≤◌, ◌<◌, ◌-◌, ◌≤ℤ◌, ◌↔◌, ◌^◌, pos, ℤ, IfSome, IfNone, IsTrue, unsigned_abs};
 ghost use Rattle.std.specs.Int.{IsGcd};
-ghost use Rattle.ps_answer.specs.Items.{IsRatioWithin, IsReducedWithin};
+ghost use Rattle.ps_answer.specs.Items.{IsRatioWithin, IsReducedWithin, most_operand};
 ghost use Rattle.ps_answer.specs.Words.{Fraction as FractionWord};
 ghost use Rattle.ps_log.specs.Numbers.{Lacks, IsCut};
-ghost use Rattle.ps_line.specs.Read.{IsRead, IsWordRead};
+ghost use Rattle.ps_table.specs.Places.{printed_limit};
+ghost use Rattle.ps_line.specs.Read.{IsWordRead};
 ghost use Rattle.ps_line.specs.Ratios.{IsOver, IsUnder, IsLowest, IsLowestOf, AreParts};
 ghost use Rattle.ps_rational.specs.Rational.{fraction};
 
@@ -13,26 +14,26 @@ use crate::line_fault::LineFault;
 use crate::numeral::{count_up_to, number_up_to};
 use ps_answer::Ratio;
 use ps_frac::Fraction;
-
-const MOST_VALUE: u128 = 1 << 90;
+use ps_table::PRINTED_LIMIT;
 
 const MOST_OPERAND: u128 = (1 << 127) - 1;
 
 /// The value of a side: no less than 0, with numbers up to 2^90.
 pub(crate) fn value(word: &[u8]) -> Result<Ratio, LineFault>
-    ensures { IsWordRead (λ q. FractionWord q) (λ q. (pos 0 ≤ℤ q.over) × IsReducedWithin (2 ^ 90) q)
-        (λ q. IsRatioWithin (2 ^ 90) q) word.now result }
+    ensures { IsWordRead (λ q. FractionWord q)
+        (λ q. (pos 0 ≤ℤ q.over) × IsReducedWithin printed_limit q)
+        (λ q. IsRatioWithin printed_limit q) word.now result }
 {
     match split_slash(word) {
-        Some((over, under)) => lowest(amount_of(over), positive(MOST_VALUE, under)),
+        Some((over, under)) => lowest(amount_of(over), positive(PRINTED_LIMIT, under)),
         None => Err(LineFault::NotCanonical),
     }
 }
 
 /// An operand of the solver, with numbers below 2^127.
 pub(crate) fn operand(word: &[u8]) -> Result<Ratio, LineFault>
-    ensures { IsWordRead (λ q. FractionWord q) (λ q. IsReducedWithin (2 ^ 127 - 1) q)
-        (λ q. IsRatioWithin (2 ^ 127 - 1) q) word.now result }
+    ensures { IsWordRead (λ q. FractionWord q) (λ q. IsReducedWithin most_operand q)
+        (λ q. IsRatioWithin most_operand q) word.now result }
 {
     match split_slash(word) {
         Some((over, under)) => {
@@ -56,9 +57,9 @@ fn split_slash(bytes: &[u8]) -> Option<(&[u8], &[u8])>
 }
 
 fn amount_of(word: &[u8]) -> Result<i128, LineFault>
-    ensures { IsOver (λ z. pos 0 ≤ℤ z) (2 ^ 90) word.now result }
+    ensures { IsOver (λ z. pos 0 ≤ℤ z) printed_limit word.now result }
 {
-    match count_up_to(MOST_VALUE, word) {
+    match count_up_to(PRINTED_LIMIT, word) {
         Ok(n) => Ok(n as i128),
         Err(why) => Err(why),
     }

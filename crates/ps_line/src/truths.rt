@@ -1,20 +1,20 @@
 //! Words that say a world.
-ghost use Rattle.std.specs.Prelude.{◌≡◌, ◌≢◌, [], ◌==◌, ◌≤◌, ◌↔◌, ◌⊎◌, All, IfOk, IsTrue, map, length, ⊤};
+ghost use Rattle.std.specs.Prelude.{◌≡◌, ◌≢◌, [], ◌==◌, ◌≤◌, ◌↔◌, All, IfOk, IsTrue, map};
+ghost use Rattle.std.specs.Prelude.{length, ⊤};
+ghost use Rattle.ps_formula.specs.declared.limits.TheConstants.{MOST_ATOMS};
 ghost use Rattle.ps_answer.specs.Words.{Truths};
 ghost use Rattle.ps_line.specs.Read.{IsWordRead};
 ghost use Rattle.ps_line.specs.Truths.{IsTruth};
 
 use crate::line_fault::LineFault;
 use crate::words::is;
-use ps_formula::World;
+use ps_formula::{MOST_ATOMS, World};
 use ps_io::NoMemory;
 use std::alloc::Global;
 
-const MOST_ATOMS: usize = 128;
-
 /// A world of at most 128 atoms: a digit for each, or a dash where there is none.
 pub(crate) fn world(alloc: Global, word: &[u8]) -> Result<World, LineFault>
-    ensures { IsWordRead (λ w. Truths w) (λ w. ⊤) (λ w. length w ≤ 128) word.now result }
+    ensures { IsWordRead (λ w. Truths w) (λ w. ⊤) (λ w. length w ≤ MOST_ATOMS) word.now result }
 {
     if is(word, b"-") {
         return Ok(World::new(alloc));
@@ -32,7 +32,7 @@ pub(crate) fn world(alloc: Global, word: &[u8]) -> Result<World, LineFault>
 fn few_truths(alloc: Global, word: &[u8]) -> Result<World, LineFault>
     requires some { word.now ≢ [] }
     requires truths { All IsTruth word.now }
-    ensures { IsWordRead (λ w. Truths w) (λ w. ⊤) (λ w. length w ≤ 128) word.now result }
+    ensures { IsWordRead (λ w. Truths w) (λ w. ⊤) (λ w. length w ≤ MOST_ATOMS) word.now result }
 {
     if MOST_ATOMS < word.len() {
         return Err(LineFault::TooLarge);

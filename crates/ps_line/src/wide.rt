@@ -2,7 +2,7 @@
 ghost use Rattle.std.specs.Prelude.{◌≡◌, ◌∷◌, codes};
 ghost use Rattle.ps_answer.specs.declared.part.Part.TheVariants.{ACause};
 ghost use Rattle.ps_line.specs.Cursor.{words_in};
-ghost use Rattle.ps_line.specs.Places.{IsPlaceRead, IsPrinted};
+ghost use Rattle.ps_line.specs.Places.{IsPlaceRead, IsPrintedPlace};
 ghost use Rattle.ps_line.specs.Read.{IsItemRead};
 
 use crate::both::both;
@@ -65,7 +65,7 @@ fn place(words: &mut Words<'_>) -> Result<Place, LineFault>
 
 // A place of one of the numbers that are printed.
 fn place_of_value(name: &[u8], words: &mut Words<'_>) -> Result<Place, LineFault>
-    requires { IsPrinted name.now }
+    requires { IsPrintedPlace name.now }
     ensures { IsPlaceRead (name.now ∷ words_in words.old) (words_in words.new) result }
 {
     if is(name, b"whole") {

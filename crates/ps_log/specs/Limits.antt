@@ -3,11 +3,8 @@ use Rattle.std.specs.Prelude.{ℕ, ◌≤◌, ◌^◌, All, length}
 use Rattle.ps_steps.specs.Constraints.{Constraint}
 use Rattle.ps_steps.specs.Steps.{Step}
 use Rattle.ps_steps.specs.Weights.{weighted, IsNormal}
+pub use Rattle.ps_steps.specs.Limits.{most_ids}
 use Rattle.ps_pb.specs.Limits.{most_variables, IsLiteral}
-
--- the greatest number that names a constraint
-abbrev pub most_ids : ℕ
-most_ids = 2 ^ 41
 
 -- so many hints a step has at most
 abbrev pub most_hints : ℕ

@@ -5,18 +5,18 @@ use Rattle.ps_log.specs.Spellings.{words_of, IsPlain, IsDecimal, Spells, SpellAl
 use Rattle.ps_steps.specs.Steps.{Step}
 use Rattle.ps_log.specs.Texts.{hint_numbers}
 use Rattle.ps_log.specs.Limits.{most_hints, IsId, IsStepWithin}
-use Rattle.ps_pb.specs.Limits.{most_variables, IsLiteral}
+use Rattle.ps_pb.specs.Limits.{most_size, most_variables, IsLiteral}
 use Rattle.ps_log.specs.declared.line_error.LineError.{LineError}
 use Rattle.ps_log.specs.declared.line_error.LineError.TheVariants.{Truncated, BadByte, NotCanonical, TooLarge, NoMemory}
 
 -- a size, or one above each limit
 abbrev pub capped_size : ℕ → ℕ
-capped_size n = min (2 ^ 126 + 1) n
+capped_size n = min (most_size + 1) n
 
 -- a number whose size is cut off above each limit
 abbrev pub capped : ℤ → ℤ
 capped (pos n) = pos (capped_size n)
-capped (negsuc n) = negsuc (min (2 ^ 126) n)
+capped (negsuc n) = negsuc (min most_size n)
 
 -- the size that digits spell
 abbrev pub IsSize : List ℕ → Option ℕ → Type 0

@@ -3,11 +3,14 @@ ghost use Rattle.std.specs.Prelude.{◌≡◌, ◌≤◌, ◌<◌, ◌↔◌, �
 ghost use Rattle.std.specs.Prelude.{IfSome, IfNone, IsTrue, length, slice_index};
 ghost use Rattle.std.specs.Char.{digit_value};
 ghost use Rattle.std.specs.Str.Parse.{digits_value};
+ghost use Rattle.ps_pb.specs.Limits.{most_size};
 ghost use Rattle.ps_log.specs.Spellings.{IsPlain};
 ghost use Rattle.ps_log.specs.Numbers.{capped_size, IsSize, IsCount, IsNegative, IsNumber};
 
+use ps_pb::MOST_SIZE;
+
 // One above the greatest limit, that of a goal's numbers: what is more counts as this.
-const CAP: u128 = (1 << 126) + 1;
+const CAP: u128 = MOST_SIZE + 1;
 
 /// The number that a word spells, if it spells one: digits without a leading zero, after a minus
 /// where it is below 0.
@@ -50,7 +53,7 @@ fn negative(digits: &[u8]) -> Option<i128>
 
 fn size(word: &[u8]) -> Option<u128>
     ensures size { IsSize word.now result }
-    ensures within { IfSome result (λ n. n ≤ 2 ^ 126 + 1) }
+    ensures within { IfSome result (λ n. n ≤ most_size + 1) }
 {
     if is_plain(word) {
         Some(value(word))

@@ -16,7 +16,7 @@ use Rattle.ps_phases.specs.Tables.{phase_of, costs_for, IsRunTable}
 use Rattle.ps_phases.proofs.Ready.{ready_first, ready_lower, ready_upper}
 use Rattle.ps_generation.specs.declared.state.State.{State}
 use Rattle.ps_generation.specs.Phases.{IsInPhase}
-use Rattle.ps_master.specs.States.{IsThere}
+use Rattle.ps_master.specs.States.{HasRunTable}
 
 ready_apart : Lower ≡ Nothing → ⊥
 ready_apart e = cc
@@ -29,7 +29,7 @@ ready Nothing s pool t run feasible = ready_first s pool t run
 ready Lower s pool t run feasible = ready_lower s pool t run (feasible ready_apart)
 ready Upper s pool t run feasible = ready_upper s pool t run (feasible upper_apart)
 
-pub in_phase : (kind : ClaimKind) (s : Subject) (costs : Costs) (state : State) → IsThere s state → (kind ≢ Nothing → IsFeasible (simplex_of state.table))
+pub in_phase : (kind : ClaimKind) (s : Subject) (costs : Costs) (state : State) → HasRunTable s state → (kind ≢ Nothing → IsFeasible (simplex_of state.table))
     → costs ≡ costs_for kind (setting_of s) state.pool → IsInPhase kind s costs state
 in_phase kind s costs state there feasible is = record {
   table = there.table;

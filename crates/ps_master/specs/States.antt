@@ -25,7 +25,7 @@ abbrev pub run_of : LimitedSubject → State → Bool → RunState
 run_of over state broken = record { over = over; pool = state.pool; table = state.table; trace = state.trace; left = state.left; is_broken = broken }
 
 -- table and pool are those of a run
-pub record IsThere (s : Subject) (state : State) : Type 0 where
+pub record HasRunTable (s : Subject) (state : State) : Type 0 where
   pub table : IsRunTable (setting_of s) state.pool state.table
   pub pool_kept : IsPool (atoms_of s) state.pool
 
@@ -33,7 +33,7 @@ pub record IsThere (s : Subject) (state : State) : Type 0 where
 pub record IsRun (over : LimitedSubject) (state : State) (broken : Bool) : Type 0 where
   pub asked : IsAsked Nothing over.subject.parts over.subject.query
   pub limits : AreLimits over.limits
-  pub there : broken ≡ false → IsThere over.subject state
+  pub there : broken ≡ false → HasRunTable over.subject state
 
 -- the distribution of the state's table, or the place at which a number of it is too wide
 abbrev pub IsModelOrWide : State → Result Model WideAt → Type 0

@@ -10,7 +10,7 @@ ghost use Rattle.ps_printed.specs.Printed.{IsPrintedSide};
 ghost use Rattle.ps_ends.specs.Models.{AreApart};
 ghost use Rattle.ps_generation.specs.Phases.{AreLimits, HasRoom, IsLeft, most_columns};
 ghost use Rattle.ps_master.specs.Runs.{IsAtStart, IsPhaseOneAnswer, IsPrintedFirst, IsSideAnswerOf};
-ghost use Rattle.ps_master.specs.States.{IsBoundOf, IsModelOrWide, IsThere, run_of};
+ghost use Rattle.ps_master.specs.States.{IsBoundOf, IsModelOrWide, HasRunTable, run_of};
 
 use crate::first::First;
 use crate::phase::phase;
@@ -56,12 +56,12 @@ pub(crate) fn first(
 ) -> Result<First, NoMemory>
     requires asked { IsAsked Nothing setting.now.subject.parts setting.now.subject.query }
     requires limits { AreLimits setting.now.limits }
-    requires there { IsThere setting.now.subject state.old }
+    requires there { HasRunTable setting.now.subject state.old }
     requires start { IsAtStart (run_of setting.now state.old false) }
     ensures answer { IfOk result
         (IsPhaseOneAnswer (run_of setting.now state.old false)
         (run_of setting.now state.new false)) }
-    ensures there { IfOk result (λ _. IsThere setting.now.subject state.new) }
+    ensures there { IfOk result (λ _. HasRunTable setting.now.subject state.new) }
     ensures printed { IfOk result IsPrintedFirst }
 {
     match phase(alloc, setting, ClaimKind::Nothing, state)? {
@@ -102,7 +102,7 @@ pub(crate) fn side(
 ) -> Result<SideAnswer, NoMemory>
     requires side { kind ≢ Nothing }
     requires asked { IsAsked kind setting.now.subject.parts setting.now.subject.query }
-    requires there { IsThere setting.now.subject state.old }
+    requires there { HasRunTable setting.now.subject state.old }
     requires feasible { IsFeasible (simplex_of state.old.table) }
     requires room { HasRoom most_columns state.old }
     ensures answer { IfOk result

@@ -5,7 +5,7 @@ ghost use Rattle.ps_bland.specs.Rules.{simplex_of};
 ghost use Rattle.ps_claims.specs.declared.claim_kind.ClaimKind.TheVariants.{Nothing};
 ghost use Rattle.ps_runs.specs.Runs.{IsAsked};
 ghost use Rattle.ps_generation.specs.Phases.{HasRoom, IsEnd, IsLeft, IsPrintedEnd, most_columns};
-ghost use Rattle.ps_master.specs.States.{IsThere};
+ghost use Rattle.ps_master.specs.States.{HasRunTable};
 
 use ps_claims::ClaimKind;
 use ps_generation::{End, Setting, State, run_phase};
@@ -20,7 +20,7 @@ pub(crate) fn phase(
     state: &mut State,
 ) -> Result<End, NoMemory>
     requires asked { IsAsked kind setting.now.subject.parts setting.now.subject.query }
-    requires there { IsThere setting.now.subject state.old }
+    requires there { HasRunTable setting.now.subject state.old }
     requires feasible { kind ≢ Nothing → IsFeasible (simplex_of state.old.table) }
     requires room { HasRoom most_columns state.old }
     ensures end { IfOk result (IsEnd kind setting.now state.old state.new) }

@@ -26,8 +26,12 @@ abbrev pub is_reserved : List ℕ → Bool
 is_reserved w = bytes_eq w (codes "psat") || bytes_eq w (codes "P") || bytes_eq w (codes "given") || bytes_eq w (codes "in")
     || bytes_eq w (codes "query") || bytes_eq w (codes "end") || bytes_eq w (codes "true") || bytes_eq w (codes "false")
 
--- the name of an atom: a word of at most 32 bytes that isn't reserved
+-- the most bytes of a name
+abbrev pub longest_name : ℕ
+longest_name = 32
+
+-- the name of an atom: a word that isn't too long, nor reserved
 pub record IsName (text : List ℕ) : Type 0 where
   pub word : IsTrue (is_word text)
-  pub short : length text ≤ 32
+  pub short : length text ≤ longest_name
   pub free : is_reserved text ≡ false

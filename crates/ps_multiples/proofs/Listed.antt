@@ -17,9 +17,9 @@ use Rattle.ps_table.specs.declared.place.WideAt.{WideAt}
 use Rattle.ps_table.specs.declared.error.TableError.{TableError}
 use Rattle.ps_table.specs.declared.error.TableError.TheVariants as refused
 use Rattle.ps_table.specs.declared.costs.Costs.{Costs}
-use Rattle.ps_table.specs.Tableau.{Tableau, IsTableau, rows_of, most_rows, basic_at, entry_at}
-use Rattle.ps_table.specs.Pricing.{cost_at, multiplier_of}
-use Rattle.ps_table.specs.Places.{IsWideAt, IsRefusedAt, IsPast, HomePlaces, printed_limit, at_whole, at_scaled, MultiplierPlace, multiple_to}
+use Rattle.ps_table.specs.Tableau.{Tableau, IsTableau, rows_of, most_rows}
+use Rattle.ps_table.specs.Pricing.{multiplier_of}
+use Rattle.ps_table.specs.Places.{IsWideAt, IsRefusedAt, IsTooLargeToPrint, HomePlaces, printed_limit, at_whole, at_scaled}
 use Rattle.ps_table.specs.Grids.{Names}
 use Rattle.ps_table.proofs.Printed.{printed_exact}
 use Rattle.ps_multiples.specs.Multiples.{multiple_of, DualPlaces, of_multiplier, of_home, AreScaled}
@@ -56,12 +56,12 @@ wide_multiple xs i m w h e names wide =
 
 -- a product that is too large
 pub wide_product : (xs : List Rational) (i m : ℕ) (x : Rational) (w : WideAt) → i < length xs → m ≡ multiple_before xs (length xs) → x ≡ get_or xs i zero_q
-    → Names (Scaled i) Mul x (whole (pos m)) w → IsPast (scaled m x) → IsWideAt (ListPlaces xs) w
+    → Names (Scaled i) Mul x (whole (pos m)) w → IsTooLargeToPrint (scaled m x) → IsWideAt (ListPlaces xs) w
 wide_product xs i m x w h e ex names wide =
     let big = multiple_before xs (length xs) in
     let y = get_or xs i zero_q in
     let P : ℕ → Rational → Type 0 = λ k z. IsWideAt (ListPlaces xs) (record { place = Scaled i; op = Mul; left = z; right = whole (pos k) }) in
-    let past : IsPast (scaled big y) = subst (λ (k : ℕ). IsPast (scaled k y)) e (subst (λ (z : Rational). IsPast (scaled m z)) ex wide) in
+    let past : IsTooLargeToPrint (scaled big y) = subst (λ (k : ℕ). IsTooLargeToPrint (scaled k y)) e (subst (λ (z : Rational). IsTooLargeToPrint (scaled m z)) ex wide) in
     let here : P big y = record { at = at_product i h; wide = (printed_exact.multiplier i big Mul y (divides xs i h)).1 past } in
     subst (IsWideAt (ListPlaces xs)) (sym names) (subst (λ (k : ℕ). P k x) (sym e) (subst (P big) (sym ex) here))
 

@@ -15,7 +15,7 @@ use Rattle.ps_rational.proofs.Multiples.{lcm_to_multiple}
 use Rattle.ps_table.specs.declared.place.Place.TheVariants.{Weight, Weighed, Total}
 use Rattle.ps_table.specs.declared.place.WideAt.{WideAt}
 use Rattle.ps_table.specs.Tableau.{Tableau, rows_of, basic_at, entry_at}
-use Rattle.ps_table.specs.Places.{IsWideAt, IsPast, printed_limit, IsWeighed, weight_under, weight_at, weight_multiple_to, at_weight, at_weighed, at_total}
+use Rattle.ps_table.specs.Places.{IsWideAt, IsTooLargeToPrint, printed_limit, IsWeighed, weight_under, weight_at, weight_multiple_to, at_weight, at_weighed, at_total}
 use Rattle.ps_table.specs.Grids.{Names}
 use Rattle.ps_table.proofs.Printed.{printed_exact}
 use Rattle.ps_multiples.specs.Multiples.{weight_of, weight_multiple_of, ModelPlaces}
@@ -132,21 +132,21 @@ wide_weight t i m x w h weighed p ex names wide =
     subst (IsWideAt (ModelPlaces t)) (sym names) (subst (λ (k : ℕ). P k x) (sym p.value) (subst (P a) (sym ex) here))
 
 pub wide_weighed : (t : Tableau) (i m : ℕ) (x : Rational) (w : WideAt) → i < rows_of t → IsWeighedIn t i → IsPrintedMultiple (weight_multiple_of t) m → x ≡ entry_at t i 0
-    → Names (Weighed i) Mul x (whole (pos m)) w → IsPast (scaled m x) → IsWideAt (ModelPlaces t) w
+    → Names (Weighed i) Mul x (whole (pos m)) w → IsTooLargeToPrint (scaled m x) → IsWideAt (ModelPlaces t) w
 wide_weighed t i m x w h weighed p ex names wide =
     let P : ℕ → Rational → Type 0 = λ k y. IsWideAt (ModelPlaces t) (record { place = Weighed i; op = Mul; left = y; right = whole (pos k) }) in
     let a = weight_multiple_of t in
     let b = entry_at t i 0 in
-    let past : IsPast (scaled a b) = subst (λ (k : ℕ). IsPast (scaled k b)) p.value (subst (λ (y : Rational). IsPast (scaled m y)) ex wide) in
+    let past : IsTooLargeToPrint (scaled a b) = subst (λ (k : ℕ). IsTooLargeToPrint (scaled k b)) p.value (subst (λ (y : Rational). IsTooLargeToPrint (scaled m y)) ex wide) in
     let here : P a b = record { at = at_weighed i h weighed; wide = (printed_exact.weight i a Mul b (weighed_divides t i h weighed)).1 past } in
     subst (IsWideAt (ModelPlaces t)) (sym names) (subst (λ (k : ℕ). P k x) (sym p.value) (subst (P a) (sym ex) here))
 
 pub wide_total : (t : Tableau) (i : ℕ) (total weight : ℤ) (w : WideAt) → i < rows_of t → IsWeighedIn t i → total ≡ total_to_row t i → weight ≡ weight_of t i
-    → Names (Total i) Add (whole total) (whole weight) w → IsPast (total +ℤ weight) → IsWideAt (ModelPlaces t) w
+    → Names (Total i) Add (whole total) (whole weight) w → IsTooLargeToPrint (total +ℤ weight) → IsWideAt (ModelPlaces t) w
 wide_total t i total weight w h weighed et ew names wide =
     let P : ℤ → ℤ → Type 0 = λ y z. IsWideAt (ModelPlaces t) (record { place = Total i; op = Add; left = whole y; right = whole z }) in
     let a = total_to_row t i in
     let b = weight_of t i in
-    let past : IsPast (a +ℤ b) = subst (λ (y : ℤ). IsPast (y +ℤ b)) et (subst (λ (z : ℤ). IsPast (total +ℤ z)) ew wide) in
+    let past : IsTooLargeToPrint (a +ℤ b) = subst (λ (y : ℤ). IsTooLargeToPrint (y +ℤ b)) et (subst (λ (z : ℤ). IsTooLargeToPrint (total +ℤ z)) ew wide) in
     let here : P a b = record { at = at_total i h weighed; wide = (printed_exact.total i Add a b).1 past } in
     subst (IsWideAt (ModelPlaces t)) (sym names) (subst (λ (y : ℤ). P y weight) (sym et) (subst (P a) (sym ew) here))

@@ -33,10 +33,6 @@ pub data ListPlaces (xs : List Rational) : Place → Op → Rational → Rationa
   at_multiple : (i : ℕ) → i < length xs → ListPlaces xs (Whole i) Lcm (whole (pos (multiple_before xs i))) (whole (pos (under_at xs i)))
   at_product : (i : ℕ) → i < length xs → ListPlaces xs (Scaled i) Mul (get_or xs i zero_q) (whole (pos (multiple_before xs (length xs))))
 
--- a multiple of the denominator of each number of a list
-abbrev pub IsMultiple : List Rational → ℕ → Type 0
-IsMultiple xs big = (i : ℕ) → i < length xs → under_at xs i ∣ big
-
 -- the first n numbers of a list times a multiple, each small enough to be printed
 pub record AreProducts (xs : List Rational) (big n : ℕ) (numbers : List ℤ) : Type 0 where
   pub count : length numbers ≡ n

@@ -6,18 +6,11 @@ ghost use Rattle.std.specs.Option.{SomeIff};
 ghost use Rattle.ps_rational.specs.Gcd.{lcm};
 ghost use Rattle.ps_rational.specs.Rational.{whole};
 ghost use Rattle.ps_rational.specs.Scaled.{scaled};
-ghost use Rattle.ps_table.specs.Places.{printed_limit, IsPast};
+ghost use Rattle.ps_table.specs.Places.{printed_limit, IsTooLargeToPrint};
 ghost use Rattle.ps_table.specs.Grids.{Names};
 
 use ps_frac::{Fraction, Op, lcm_upto};
-use ps_table::{PRINTED_LIMIT, Place, WideAt};
-
-/// Whether a number is small enough to be printed.
-fn is_small(number: i128) -> bool
-    ensures { IsTrue result ↔ (unsigned_abs number ≤ printed_limit) }
-{
-    number.unsigned_abs() <= PRINTED_LIMIT
-}
+use ps_table::{PRINTED_LIMIT, Place, WideAt, can_be_printed};
 
 /// The least common multiple, where it is small enough to be printed.
 #[tactic(auto, using(crate::proofs::Least::past_multiple))]
@@ -68,7 +61,7 @@ fn printed_product(number: &Fraction, multiple: u128) -> Option<i128>
 {
     let times = multiple / number.denominator().unsigned_abs();
     let product = number.numerator().checked_mul(times as i128)?;
-    if is_small(product) {
+    if can_be_printed(product) {
         Some(product)
     } else {
         None
@@ -80,7 +73,7 @@ pub(crate) fn product_at(place: Place, number: &Fraction, multiple: u128) -> Res
     requires { multiple ≤ printed_limit }
     ensures value { IfOk result (λ r. r ≡ scaled multiple number.now) }
     ensures within { IfOk result (λ r. unsigned_abs r ≤ printed_limit) }
-    ensures wide { IfErr result (λ _. IsPast (scaled multiple number.now)) }
+    ensures wide { IfErr result (λ _. IsTooLargeToPrint (scaled multiple number.now)) }
     ensures operands { IfErr result (Names place Op.Mul number.now (whole (pos multiple))) }
 {
     match printed_product(number, multiple) {
@@ -100,11 +93,11 @@ pub(crate) fn sum_at(place: Place, total: i128, weight: i128) -> Result<i128, Wi
     requires weight { unsigned_abs weight ≤ printed_limit }
     ensures value { IfOk result (λ r. r ≡ total +ℤ weight) }
     ensures within { IfOk result (λ r. unsigned_abs r ≤ printed_limit) }
-    ensures wide { IfErr result (λ _. IsPast (total +ℤ weight)) }
+    ensures wide { IfErr result (λ _. IsTooLargeToPrint (total +ℤ weight)) }
     ensures operands { IfErr result (Names place Op.Add (whole total) (whole weight)) }
 {
     let sum = total + weight;
-    if is_small(sum) {
+    if can_be_printed(sum) {
         return Ok(sum);
     }
     Err(WideAt {

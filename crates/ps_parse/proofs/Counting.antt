@@ -1,5 +1,5 @@
 -- One token more counts for at most one name, one formula and one item.
-use Rattle.std.proofs.Common.{◌≡◌, ℕ, ◌+◌, ◌≤◌, Bool, true, false, List, [], ◌∷◌, ◌++◌, length, refl, sym, subst, arith}
+use Rattle.std.proofs.Common.{◌≡◌, ℕ, ◌+◌, ◌-◌, ◌≤◌, Bool, true, false, List, [], ◌∷◌, ◌++◌, length, refl, sym, subst, arith}
 use Rattle.std.proofs.lemmas.List.{length-append}
 use Rattle.std.specs.Prelude.{bytes_eq, codes, nat_le, if◌then◌else◌}
 use Rattle.std.specs.List.{list_any}
@@ -9,6 +9,7 @@ use Rattle.ps_text.specs.declared.symbol.Symbol.{Symbol}
 use Rattle.ps_text.specs.declared.symbol.Symbol.TheVariants.{Open, Close, OpenBracket, CloseBracket, Comma, Semicolon, Bang, Ampersand, Bar, Arrow, DoubleArrow, Equals, GreaterEquals, LessEquals}
 use Rattle.ps_text.specs.declared.part.Part.{Part}
 use Rattle.ps_text.specs.declared.part.Part.TheVariants as part
+use Rattle.ps_problem.specs.declared.limits.TheConstants.{MOST_DRAFTED}
 use Rattle.ps_problem.specs.declared.mark.Mark.TheVariants as mark
 use Rattle.ps_problem.specs.Numbering.{same_name}
 use Rattle.ps_problem.specs.Drafts.{Drafted, with_mark, with_formula, with_item}
@@ -143,13 +144,13 @@ counted n m t r h =
     let f = few n m.state.part m.work t r (record { names = h.names; formulas = h.formulas; items = h.items }) in
     record { names = f.names; formulas = f.formulas; items = f.items }
 
-pub has_room : (m : Machine) → CountsAtMost 4294967294 m → HasRoom m.work
+pub has_room : (m : Machine) → CountsAtMost (MOST_DRAFTED - 1) m → HasRoom m.work
 has_room m h = record { names = omega (arith, h.names); formulas = omega (arith, h.formulas); items = omega (arith, h.items) }
 
 -- what is marked takes no room
 pub room_settled : (k : ℕ) (w : Work) → HasRoom w → HasRoom (with_pending w (settled k w.pending))
 room_settled k w h =
-    let f = few_settled 4294967294 k w.pending.operators w.pending.draft (record { names = omega (arith, h.names); formulas = omega (arith, h.formulas); items = omega (arith, h.items) }) in
+    let f = few_settled (MOST_DRAFTED - 1) k w.pending.operators w.pending.draft (record { names = omega (arith, h.names); formulas = omega (arith, h.formulas); items = omega (arith, h.items) }) in
     record { names = omega (arith, f.names); formulas = omega (arith, f.formulas); items = omega (arith, f.items) }
 
 pub counts_more : (n : ℕ) (m : Machine) → CountsAtMost n m → CountsAtMost (n + 1) m

@@ -30,7 +30,7 @@ use Rattle.ps_parse.specs.declared.operator.Operator.{Operator}
 use Rattle.ps_parse.specs.declared.operator.Operator.TheVariants as operator
 use Rattle.ps_parse.specs.Pending.{waiting, settled, settled_from}
 use Rattle.ps_parse.specs.Machine.{ItemSoFar, Work, Machine, lowest, value_in, with_pending, with_atom, operand_ended, numbered, numbered_as, with_query, with_conditional, formula_ended, probability_ended, closed_behind, stated, with_side, side_in, taken}
-use Rattle.ps_parse.specs.Standing.{operators_of, lefts_of, HasFormula, HasProb, Does, IsFollowed}
+use Rattle.ps_parse.specs.Standing.{operators_of, lefts_of, HasFormula, HasProb, IsWorkOf, IsFollowed}
 use Rattle.ps_parse.proofs.Settling.{IsSettled, settles}
 
 -- items
@@ -90,8 +90,8 @@ has_begun q c fs gs i e h = (h.0, subst (λ xs. HasFormula xs c i) (sym e) h.1)
 
 module _ (es : List Entry) (q : Bool) (c : Option Form) where
   ended_does : (fs : List Frame) (f : Form) (os : List Operator) (d : Drafted) (i : ItemSoFar) → os ≡ operators_of fs → d.«open» ≡ lefts_of fs ++ formula_of f ∷ [] → AreItems es d.items → HasBegun q d.formulas c i
-      → Does (ended es q c fs f) (record { pending = settled_from 5 os d; item = i })
-  ended_does fs f os d i o e k h = subst (λ xs. Does (ended es q c fs f) (record { pending = settled_from 5 xs d; item = i })) (sym o)
+      → IsWorkOf (ended es q c fs f) (record { pending = settled_from 5 os d; item = i })
+  ended_does fs f os d i o e k h = subst (λ xs. IsWorkOf (ended es q c fs f) (record { pending = settled_from 5 xs d; item = i })) (sym o)
       (let s = settles 5 fs f d (omega arith) e in record {
         operators = s.operators;
         «open» = s.«open»;
@@ -99,23 +99,23 @@ module _ (es : List Entry) (q : Bool) (c : Option Form) where
         item = has_begun q c d.formulas (settled_from 5 (operators_of fs) d).draft.formulas i s.formulas h;
       })
 
-  operand_does : (fs : List Frame) (f : Form) (w : Work) (d : Drafted) → Does (InOperand es q c fs) w → IsBehind w.pending.draft d (formula_of f) → Does (ended es q c fs f) (with_pending w (operand_ended w.pending d))
+  operand_does : (fs : List Frame) (f : Form) (w : Work) (d : Drafted) → IsWorkOf (InOperand es q c fs) w → IsBehind w.pending.draft d (formula_of f) → IsWorkOf (ended es q c fs f) (with_pending w (operand_ended w.pending d))
   operand_does fs f w d h b = ended_does fs f w.pending.operators d w.item h.operators (b.«open» ∙ ap (λ os. os ++ formula_of f ∷ []) h.«open»)
       (subst (λ is. AreItems es is) (sym b.items) h.items) (has_begun q c w.pending.draft.formulas d.formulas w.item b.formulas h.item)
 
-  word_does : (fs : List Frame) (u : List ℕ) (w : Work) → Does (InOperand es q c fs) w → Does (parsed (InOperand es q c fs) (Word u)) (taken (state_of (InOperand es q c fs)) w (Word u))
+  word_does : (fs : List Frame) (u : List ℕ) (w : Work) → IsWorkOf (InOperand es q c fs) w → IsWorkOf (parsed (InOperand es q c fs) (Word u)) (taken (state_of (InOperand es q c fs)) w (Word u))
   word_does fs u w h = by (bytes_eq u (codes "true")) (bytes_eq u (codes "false"))
     where
-      by : (a b : Bool) → Does (ended es q c fs (if a then grammar.Truth else (if b then grammar.Falsity else grammar.Name u)))
+      by : (a b : Bool) → IsWorkOf (ended es q c fs (if a then grammar.Truth else (if b then grammar.Falsity else grammar.Name u)))
           (with_pending w (operand_ended w.pending (if a then with_mark w.pending.draft mark.True else (if b then with_mark w.pending.draft mark.False else with_atom w.pending.draft u))))
       by true b = operand_does fs grammar.Truth w (with_mark w.pending.draft mark.True) h (record { «open» = ap (λ os. os ++ Truth ∷ []) (whole w.pending.draft.«open»); formulas = refl; items = refl })
       by false true = operand_does fs grammar.Falsity w (with_mark w.pending.draft mark.False) h (record { «open» = ap (λ os. os ++ formula.Falsity ∷ []) (whole w.pending.draft.«open»); formulas = refl; items = refl })
       by false false = operand_does fs (grammar.Name u) w (with_atom w.pending.draft u) h (record { «open» = refl; formulas = refl; items = refl })
 
-  group_does : (fs : List Frame) (w : Work) → Does (InOperand es q c fs) w → Does (InOperand es q c (BegunGroup ∷ fs)) (with_pending w (waiting operator.Group w.pending))
+  group_does : (fs : List Frame) (w : Work) → IsWorkOf (InOperand es q c fs) w → IsWorkOf (InOperand es q c (BegunGroup ∷ fs)) (with_pending w (waiting operator.Group w.pending))
   group_does fs w h = record { operators = ap (λ os. operator.Group ∷ os) h.operators; «open» = h.«open»; items = h.items; item = h.item }
 
-  at_operand : (fs : List Frame) (t : Token) (w : Work) → Does (InOperand es q c fs) w → Does (parsed (InOperand es q c fs) t) (taken (state_of (InOperand es q c fs)) w t)
+  at_operand : (fs : List Frame) (t : Token) (w : Work) → IsWorkOf (InOperand es q c fs) w → IsWorkOf (parsed (InOperand es q c fs) t) (taken (state_of (InOperand es q c fs)) w t)
   at_operand fs (Word u) w h = word_does fs u w h
   at_operand fs (Number x) w h = operand_does fs grammar.Truth w (with_mark w.pending.draft mark.True) h (record { «open» = ap (λ os. os ++ Truth ∷ []) (whole w.pending.draft.«open»); formulas = refl; items = refl })
   at_operand fs (Sign Bang) w h = record { operators = ap (λ os. operator.Not ∷ os) h.operators; «open» = h.«open»; items = h.items; item = h.item }
@@ -160,10 +160,10 @@ abbrev ended_work : Drafted → ItemSoFar → Work
 ended_work d i = record { pending = record { operators = []; draft = d }; item = i }
 
 close_does : (es : List Entry) (q : Bool) (c : Option Form) (fs : List Frame) (f : Form) (d : Drafted) (i : ItemSoFar) → need fs ≤ 1 → d.«open» ≡ lefts_of fs ++ formula_of f ∷ [] → AreItems es d.items → HasBegun q d.formulas c i
-    → Does (behind_close es q c fs f) (closed_behind i (operators_of fs) d)
-close_does es false c [] f d i n e k h = subst (λ b. Does (behind_close es false c [] f) (probability_ended b (ended_work d i))) (sym h.0)
+    → IsWorkOf (behind_close es q c fs f) (closed_behind i (operators_of fs) d)
+close_does es false c [] f d i n e k h = subst (λ b. IsWorkOf (behind_close es false c [] f) (probability_ended b (ended_work d i))) (sym h.0)
     (record { operators = refl; «open» = refl; items = k; item = prob_ended c f d i e h.1 })
-close_does es true c [] f d i n e k h = subst (λ b. Does (behind_close es true c [] f) (probability_ended b (ended_work d i))) (sym h.0) (record {
+close_does es true c [] f d i n e k h = subst (λ b. IsWorkOf (behind_close es true c [] f) (probability_ended b (ended_work d i))) (sym h.0) (record {
   operators = refl;
   «open» = refl;
   items =
@@ -189,7 +189,7 @@ pub not_true : (b : Bool) → not b ≡ true → b ≡ false
 not_true true e = absurd (true≢false (sym e))
 not_true false e = refl
 
-module _ (es : List Entry) (q : Bool) (c : Option Form) (fs : List Frame) (f : Form) (w : Work) (s : Sound (InOperator es q c fs f)) (h : Does (InOperator es q c fs f) w) where
+module _ (es : List Entry) (q : Bool) (c : Option Form) (fs : List Frame) (f : Form) (w : Work) (s : Sound (InOperator es q c fs f)) (h : IsWorkOf (InOperator es q c fs f) w) where
   -- the frames of a level are joined
   joined_at : (k : ℕ) → 1 ≤ k → IsSettled w.pending.draft (settled k w.pending) (joins k fs f).0 (joins k fs f).1
   joined_at k l = subst (λ os. IsSettled w.pending.draft (settled_from k os w.pending.draft) (joins k fs f).0 (joins k fs f).1) (sym h.operators) (settles k fs f w.pending.draft l h.«open»)
@@ -200,25 +200,25 @@ module _ (es : List Entry) (q : Bool) (c : Option Form) (fs : List Frame) (f : F
   kept_formula : (k : ℕ) → 1 ≤ k → HasBegun q (settled k w.pending).draft.formulas c w.item
   kept_formula k l = has_begun q c w.pending.draft.formulas (settled k w.pending).draft.formulas w.item (joined_at k l).formulas h.item
 
-  and_does : Does (parsed (InOperator es q c fs f) (Sign Ampersand)) (taken (state_of (InOperator es q c fs f)) w (Sign Ampersand))
+  and_does : IsWorkOf (parsed (InOperator es q c fs f) (Sign Ampersand)) (taken (state_of (InOperator es q c fs f)) w (Sign Ampersand))
   and_does = let j = joined_at 4 (omega arith) in record { operators = ap (λ os. operator.And ∷ os) j.operators; «open» = j.«open»; items = kept_items 4 (omega arith); item = kept_formula 4 (omega arith) }
 
-  or_does : Does (parsed (InOperator es q c fs f) (Sign Bar)) (taken (state_of (InOperator es q c fs f)) w (Sign Bar))
+  or_does : IsWorkOf (parsed (InOperator es q c fs f) (Sign Bar)) (taken (state_of (InOperator es q c fs f)) w (Sign Bar))
   or_does = let j = joined_at 3 (omega arith) in record { operators = ap (λ os. operator.Or ∷ os) j.operators; «open» = j.«open»; items = kept_items 3 (omega arith); item = kept_formula 3 (omega arith) }
 
-  implies_does : Does (parsed (InOperator es q c fs f) (Sign Arrow)) (taken (state_of (InOperator es q c fs f)) w (Sign Arrow))
+  implies_does : IsWorkOf (parsed (InOperator es q c fs f) (Sign Arrow)) (taken (state_of (InOperator es q c fs f)) w (Sign Arrow))
   implies_does = let j = joined_at 3 (omega arith) in record { operators = ap (λ os. operator.Implies ∷ os) j.operators; «open» = j.«open»; items = kept_items 3 (omega arith); item = kept_formula 3 (omega arith) }
 
-  iff_does : Does (parsed (InOperator es q c fs f) (Sign DoubleArrow)) (taken (state_of (InOperator es q c fs f)) w (Sign DoubleArrow))
+  iff_does : IsWorkOf (parsed (InOperator es q c fs f) (Sign DoubleArrow)) (taken (state_of (InOperator es q c fs f)) w (Sign DoubleArrow))
   iff_does = let j = joined_at 1 (omega arith) in record { operators = ap (λ os. operator.Iff ∷ os) j.operators; «open» = j.«open»; items = kept_items 1 (omega arith); item = kept_formula 1 (omega arith) }
 
-  closing_does : Does (parsed (InOperator es q c fs f) (Sign Close)) (taken (state_of (InOperator es q c fs f)) w (Sign Close))
+  closing_does : IsWorkOf (parsed (InOperator es q c fs f) (Sign Close)) (taken (state_of (InOperator es q c fs f)) w (Sign Close))
   closing_does =
       let j = joined_at 1 (omega arith) in
-      subst (λ os. Does (behind_close es q c (joins 1 fs f).0 (joins 1 fs f).1) (closed_behind w.item os (settled 1 w.pending).draft)) (sym j.operators)
+      subst (λ os. IsWorkOf (behind_close es q c (joins 1 fs f).0 (joins 1 fs f).1) (closed_behind w.item os (settled 1 w.pending).draft)) (sym j.operators)
       (close_does es q c (joins 1 fs f).0 (joins 1 fs f).1 (settled 1 w.pending).draft w.item (joins_need 1 fs f (omega arith)) j.«open» (kept_items 1 (omega arith)) (kept_formula 1 (omega arith)))
 
-  given_does : (b : Bool) → (may_be_given (state_of (InOperator es q c fs f)) && b) ≡ true → Does (InOperand es q (Some (joins 1 fs f).1) []) (with_conditional (formula_ended (with_pending w (settled 1 w.pending))) true)
+  given_does : (b : Bool) → (may_be_given (state_of (InOperator es q c fs f)) && b) ≡ true → IsWorkOf (InOperand es q (Some (joins 1 fs f).1) []) (with_conditional (formula_ended (with_pending w (settled 1 w.pending))) true)
   given_does b e =
       let m = both (may_be_given (state_of (InOperator es q c fs f))) b e in
       let none = both (not (list_any is_group (opened_of fs))) (not (is_some c)) m.0 in
@@ -230,7 +230,7 @@ module _ (es : List Entry) (q : Bool) (c : Option Form) (fs : List Frame) (f : F
       let p = prob_ended None (joins 1 fs f).1 (settled 1 w.pending).draft w.item one u in
       record { operators = refl; «open» = refl; items = kept_items 1 (omega arith); item = (query_kept w.item.conditional w.item (length (settled 1 w.pending).draft.formulas) ∙ k.0, (p.formula, p.below.0, refl)) }
 
-  at_operator : (t : Token) → refusal (state_of (InOperator es q c fs f)) t ≡ None → Does (parsed (InOperator es q c fs f) t) (taken (state_of (InOperator es q c fs f)) w t)
+  at_operator : (t : Token) → refusal (state_of (InOperator es q c fs f)) t ≡ None → IsWorkOf (parsed (InOperator es q c fs f) t) (taken (state_of (InOperator es q c fs f)) w t)
   at_operator (Sign Close) r = closing_does
   at_operator (Sign Ampersand) r = and_does
   at_operator (Sign Bar) r = or_does
@@ -250,7 +250,7 @@ module _ (es : List Entry) (q : Bool) (c : Option Form) (fs : List Frame) (f : F
 
 -- outside of a formula
 
-item_does : (es : List Entry) (w : Work) (b c : Bool) → Does (InItem es) w → Does (if b then InParen es false else (if c then InQueryProb es else InTextEnd es)) (with_query w false)
+item_does : (es : List Entry) (w : Work) (b c : Bool) → IsWorkOf (InItem es) w → IsWorkOf (if b then InParen es false else (if c then InQueryProb es else InTextEnd es)) (with_query w false)
 item_does es w true c h = record { operators = h.operators; «open» = h.«open»; items = h.items; item = refl }
 item_does es w false true h = record { operators = h.operators; «open» = h.«open»; items = h.items; item = tt }
 item_does es w false false h = record { operators = h.operators; «open» = h.«open»; items = h.items; item = tt }
@@ -258,12 +258,12 @@ item_does es w false false h = record { operators = h.operators; «open» = h.«
 prob_kept : (fs : List (Formula Name)) (p : Prob) (i : ItemSoFar) (s : Side) (r : Ratio) → HasProb fs p i → HasProb fs p (record { query = i.query; conditional = i.conditional; formula = i.formula; given = i.given; side = s; least = r })
 prob_kept fs p i s r h = record { formula = h.formula; given = h.given; below = h.below }
 
-at_relation : (es : List Entry) (p : Prob) (w : Work) (t : Token) → Does (InRelation es p) w → Does (parsed (InRelation es p) t) (with_side w (side_in t))
+at_relation : (es : List Entry) (p : Prob) (w : Work) (t : Token) → IsWorkOf (InRelation es p) w → IsWorkOf (parsed (InRelation es p) t) (with_side w (side_in t))
 at_relation es p w (Sign s) h = record { operators = h.operators; «open» = h.«open»; items = h.items; item = (prob_kept w.pending.draft.formulas p w.item (side_in (Sign s)) w.item.least h.item, refl) }
 at_relation es p w (Word u) h = record { operators = h.operators; «open» = h.«open»; items = h.items; item = (prob_kept w.pending.draft.formulas p w.item side.AtLeast w.item.least h.item, refl) }
 at_relation es p w (Number x) h = record { operators = h.operators; «open» = h.«open»; items = h.items; item = (prob_kept w.pending.draft.formulas p w.item side.AtLeast w.item.least h.item, refl) }
 
-does : (p : Parse) (t : Token) (w : Work) → Sound p → Does p w → refusal (state_of p) t ≡ None → Does (parsed p t) (taken (state_of p) w t)
+does : (p : Parse) (t : Token) (w : Work) → Sound p → IsWorkOf p w → refusal (state_of p) t ≡ None → IsWorkOf (parsed p t) (taken (state_of p) w t)
 does InPsat t w s h r = record { operators = h.operators; «open» = h.«open»; items = h.items; item = tt }
 does InVersion t w s h r = record { operators = h.operators; «open» = h.«open»; items = h.items; item = tt }
 does InHeadEnd t w s h r = record { operators = h.operators; «open» = h.«open»; items = h.items; item = tt }
@@ -308,5 +308,5 @@ followed p m t f r =
     record {
       sound = step.sound;
       state = ap (λ s. after s t) f.state ∙ sym step.state;
-      work = subst (λ s. Does (parsed p t) (taken s m.work t)) (sym f.state) (does p t m.work f.sound f.work k);
+      work = subst (λ s. IsWorkOf (parsed p t) (taken s m.work t)) (sym f.state) (does p t m.work f.sound f.work k);
     }

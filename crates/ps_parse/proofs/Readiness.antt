@@ -26,7 +26,7 @@ use Rattle.ps_expect.specs.KeptTokens.{token_of}
 use Rattle.ps_problem.specs.Drafts.{Drafted, canonical_nesting}
 use Rattle.ps_parse.specs.Pending.{Pending, settled, settled_from, firsts, HaveFirst, HaveAll, IsEndable}
 use Rattle.ps_parse.specs.Machine.{ItemSoFar, Work, Machine}
-use Rattle.ps_parse.specs.Standing.{operators_of, lefts_of, HasFormula, Does, IsParsed}
+use Rattle.ps_parse.specs.Standing.{operators_of, lefts_of, HasFormula, IsWorkOf, IsParsed}
 use Rattle.ps_parse.specs.Taking.{IsKept}
 use Rattle.ps_parse.specs.Ready.{IsOperand, IsWhole, MayClose, MayEnd, IsReady}
 use Rattle.ps_parse.proofs.CanonicalNesting.{canonical_nests}
@@ -98,7 +98,7 @@ below : (c : Option Form) (fs : List (Formula Name)) (i : ItemSoFar) → HasForm
 below None fs i h e = absurd (true≢false (sym e ∙ h))
 below (Some f) fs i h e = h.1
 
-module _ (es : List Entry) (q : Bool) (c : Option Form) (fs : List Frame) (f : Form) (w : Work) (s : Sound (InOperator es q c fs f)) (h : Does (InOperator es q c fs f) w) where
+module _ (es : List Entry) (q : Bool) (c : Option Form) (fs : List Frame) (f : Form) (w : Work) (s : Sound (InOperator es q c fs f)) (h : IsWorkOf (InOperator es q c fs f) w) where
   settled_is : IsSettled w.pending.draft (settled 1 w.pending) (joins 1 fs f).0 (joins 1 fs f).1
   settled_is = subst (λ os. IsSettled w.pending.draft (settled_from 1 os w.pending.draft) (joins 1 fs f).0 (joins 1 fs f).1) (sym h.operators) (settles 1 fs f w.pending.draft (omega arith) h.«open»)
 
@@ -147,7 +147,7 @@ number_alike t = refl
 first_sound : (es : List Entry) (p : Prob) (t : text.Token) → AreEntries es × IsProb p → refusal (outside part.First) t ≡ None → IsProbability (number_in t)
 first_sound es p t s r = (steps (InFirst es p) t s r).sound.2
 
-ready : (p : Parse) (t : text.Token) (w : Work) → IsWordKept t → Sound p → Does p w → refusal (state_of p) t ≡ None → IsReady (state_of p).part w t
+ready : (p : Parse) (t : text.Token) (w : Work) → IsWordKept t → Sound p → IsWorkOf p w → refusal (state_of p) t ≡ None → IsReady (state_of p).part w t
 ready InPsat t w k s h r = tt
 ready InVersion t w k s h r = tt
 ready InHeadEnd t w k s h r = tt

@@ -9,6 +9,7 @@ use Rattle.ps_text.specs.declared.part.Part.{Part}
 use Rattle.ps_text.specs.declared.part.Part.TheVariants as part
 use Rattle.ps_text.specs.Grammar.{IsProbability}
 use Rattle.ps_text.proofs.Parsing.{number_in}
+use Rattle.ps_problem.specs.declared.limits.TheConstants.{MOST_DRAFTED}
 use Rattle.ps_problem.specs.Drafts.{AreBelow, IsRatio}
 use Rattle.ps_parse.specs.Pending.{settled, HaveFirst, HaveAll, IsEndable}
 use Rattle.ps_parse.specs.Machine.{Work}
@@ -23,9 +24,9 @@ IsOperand t = Unit {0}
 
 -- a name, a formula and an item more can be counted
 pub record HasRoom (w : Work) : Type 0 where
-  pub names : length w.pending.draft.names < 4294967295
-  pub formulas : length w.pending.draft.formulas < 4294967295
-  pub items : length w.pending.draft.items < 4294967295
+  pub names : length w.pending.draft.names < MOST_DRAFTED
+  pub formulas : length w.pending.draft.formulas < MOST_DRAFTED
+  pub items : length w.pending.draft.items < MOST_DRAFTED
 
 -- the item's formulas are in the draft
 abbrev pub IsNumbered : Work → Type 0

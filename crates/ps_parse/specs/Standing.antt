@@ -95,7 +95,7 @@ IsItemSoFar fs (InSecond es p x) i = HasProb fs p i × (i.side ≡ side.AtLeast)
 IsItemSoFar fs p i = Unit {0}
 
 -- the work is that of a derivation
-pub record Does (p : Parse) (w : Work) : Type 0 where
+pub record IsWorkOf (p : Parse) (w : Work) : Type 0 where
   pub operators : w.pending.operators ≡ waits p
   pub «open» : w.pending.draft.«open» ≡ stands_open p
   pub items : AreItems (drafted_entries p) w.pending.draft.items
@@ -105,7 +105,7 @@ pub record Does (p : Parse) (w : Work) : Type 0 where
 pub record StandsFor (p : Parse) (m : Machine) : Type 0 where
   pub sound : Sound p
   pub state : m.state ≡ state_of p
-  pub work : Does p m.work
+  pub work : IsWorkOf p m.work
 
 -- the machine stands for some derivation
 pub record IsParsed (m : Machine) : Type 0 where

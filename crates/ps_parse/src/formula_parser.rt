@@ -1,6 +1,7 @@
 //! Formulas as they are parsed.
 ghost use Rattle.std.specs.Prelude.{◌≡◌, ◌≤◌, ◌<◌, [], length, OnOk, IfOk};
 ghost use Rattle.ps_meaning.specs.Names.{IsName};
+ghost use Rattle.ps_problem.specs.declared.limits.TheConstants.{MOST_DRAFTED};
 ghost use Rattle.ps_problem.specs.Drafts.{with_formula};
 ghost use Rattle.ps_expect.specs.KeptTokens.{token_of};
 ghost use Rattle.ps_parse.specs.Pending.{binding, due, settled, waiting, HaveFirst, HaveAll};
@@ -93,7 +94,7 @@ impl FormulaParser {
     /// some of this may be done.
     pub(crate) fn atom(&mut self, name: &[u8]) -> Result<(), NoMemory>
         requires name { IsName name.now }
-        requires room { length (draft_of self.old).names < 4294967295 }
+        requires room { length (draft_of self.old).names < MOST_DRAFTED }
         requires operands { HaveFirst (pending_of self.old) }
         ensures atom { OnOk result (pending_of self.new
             ≡ operand_ended (pending_of self.old) (with_atom (draft_of self.old) name.now)) }
@@ -108,7 +109,7 @@ impl FormulaParser {
     /// For want of memory only some of this may be done.
     pub(crate) fn operand(&mut self, token: &Token) -> Result<(), NoMemory>
         requires operand { IsOperand (token_of token.now) }
-        requires room { length (draft_of self.old).names < 4294967295 }
+        requires room { length (draft_of self.old).names < MOST_DRAFTED }
         requires operands { HaveFirst (pending_of self.old) }
         ensures { OnOk result
             (pending_of self.new ≡ operand_taken (pending_of self.old) (token_of token.now)) }
@@ -123,7 +124,7 @@ impl FormulaParser {
 
     fn word(&mut self, letters: &[u8]) -> Result<(), NoMemory>
         requires word { IsOperandWord letters.now }
-        requires room { length (draft_of self.old).names < 4294967295 }
+        requires room { length (draft_of self.old).names < MOST_DRAFTED }
         requires operands { HaveFirst (pending_of self.old) }
         ensures { OnOk result (pending_of self.new
             ≡ operand_ended (pending_of self.old) (with_word (draft_of self.old) letters.now)) }
@@ -171,7 +172,7 @@ impl FormulaParser {
     /// changes.
     pub(crate) fn end(&mut self) -> Result<u32, NoMemory>
         requires formula { IsEndable (draft_of self.old) }
-        requires room { length (draft_of self.old).formulas < 4294967295 }
+        requires room { length (draft_of self.old).formulas < MOST_DRAFTED }
         ensures number { IfOk result (λ n. n ≡ length (draft_of self.old).formulas) }
         ensures operators { (pending_of self.new).operators ≡ (pending_of self.old).operators }
         ensures draft { OnOk result (draft_of self.new ≡ with_formula (draft_of self.old)) }

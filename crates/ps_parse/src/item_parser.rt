@@ -1,5 +1,6 @@
 //! Items as they are parsed.
 ghost use Rattle.std.specs.Prelude.{◌≡◌, ◌<◌, [], length, OnOk, option_map};
+ghost use Rattle.ps_problem.specs.declared.limits.TheConstants.{MOST_DRAFTED};
 ghost use Rattle.ps_problem.specs.Drafts.{IsRatio, IsUpperOf};
 ghost use Rattle.ps_expect.specs.KeptTokens.{token_of};
 ghost use Rattle.ps_parse.specs.Pending.{settled, HaveAll, IsEndable};
@@ -67,7 +68,7 @@ impl ItemParser {
     // Asks for the item's probability.
     fn query(&mut self) -> Result<(), NoMemory>
         requires formulas { IsNumbered (work_of self.old) }
-        requires room { length (draft_of self.old.formulas).items < 4294967295 }
+        requires room { length (draft_of self.old.formulas).items < MOST_DRAFTED }
         ensures { OnOk result (work_of self.new ≡ asked (work_of self.old)) }
     {
         let ItemSoFar { formula, given, .. } = self.item;

@@ -4,13 +4,16 @@ ghost use Rattle.ps_parse.specs.declared.parse_error.ParseError.TheVariants as e
 
 use ps_io::NoMemory;
 use ps_text::ReadKind;
+use thiserror::Error;
 
 /// Why a token isn't taken.
-#[derive(Clone, Copy, Debug, PartialEq, Eq)]
+#[derive(Clone, Copy, Debug, PartialEq, Eq, Error)]
 pub enum ParseError {
     /// The token is refused.
+    #[error("the token is refused")]
     Refused(ReadKind),
     /// There was not enough memory.
+    #[error("not enough memory")]
     NoMemory,
 }
 

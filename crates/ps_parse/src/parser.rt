@@ -1,6 +1,7 @@
 //! Problem texts as they are parsed.
-ghost use Rattle.std.specs.Prelude.{◌≡◌, ◌++◌, [], OnOk, IfErr};
-ghost use Rattle.ps_expect.specs.KeptTokens.{token_of, state_of};
+ghost use Rattle.std.specs.Prelude.{◌≡◌, ◌++◌, ◌-◌, [], OnOk, IfErr};
+ghost use Rattle.ps_problem.specs.declared.limits.TheConstants.{MOST_DRAFTED};
+ghost use Rattle.ps_expect.specs.KeptTokens.{token_of};
 ghost use Rattle.ps_parse.specs.Machine.{at_first};
 ghost use Rattle.ps_parse.specs.Standing.{IsParsed};
 ghost use Rattle.ps_parse.specs.Taking.{IsKept, CountsAtMost, begins, begun_at, IsTaken, IsRefusal};
@@ -72,7 +73,7 @@ impl Parser {
     pub fn take(&mut self, token: &Token, place: Position) -> Result<(), ParseError>
         requires derivation { IsParsed (machine_of self.old) }
         requires word { IsKept token.now }
-        requires room { CountsAtMost 4294967294 (machine_of self.old) }
+        requires room { CountsAtMost (MOST_DRAFTED - 1) (machine_of self.old) }
         ensures taken { OnOk result (IsTaken self.old token.now place self.new) }
         ensures refused { IfErr result (IsRefusal self.old token.now self.new) }
     {

@@ -4,8 +4,8 @@ use Rattle.ps_steps.specs.Constraints.{Constraint, IsMet}
 use Rattle.ps_steps.specs.Weights.{Weighted, true_weight, terms_of}
 
 -- full assignments meet the constraint exactly where their true literals weigh at least so much
-abbrev pub IsBound : Weighted → ℤ → Constraint → Type 0
-IsBound weights least c = (w : List Bool) → IsMet w c ↔ (least ≤ℤ true_weight w weights)
+abbrev pub SaysAtLeast : Weighted → ℤ → Constraint → Type 0
+SaysAtLeast weights least c = (w : List Bool) → IsMet w c ↔ (least ≤ℤ true_weight w weights)
 
 -- the coefficients of the true literals sum to at least the degree
 abbrev pub linear : Weighted → ℤ → Constraint

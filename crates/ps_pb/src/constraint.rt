@@ -11,6 +11,9 @@ use ps_io::NoMemory;
 use std::alloc::Global;
 use std::marker::Model;
 
+/// What the coefficients of a constraint and the size of its degree sum to at most.
+pub const MOST_SIZE: u128 = 1 << 126;
+
 /// The coefficients of the true literals sum to at least the degree. Coefficients are at least 1,
 /// variables rise, and the coefficients and the size of the degree sum to at most 2^126.
 #[derive(Drop)]
@@ -106,9 +109,6 @@ fn are_rising(terms: &[(Lit, i128)]) -> bool
     }
     true
 }
-
-// What the coefficients and the size of the degree sum to at most.
-const MOST_SIZE: u128 = 1 << 126;
 
 fn are_narrow(terms: &[(Lit, i128)], degree: &i128) -> bool
     ensures { IsTrue result ↔ (size_sum terms.now + unsigned_abs degree.now ≤ most_size) }

@@ -10,7 +10,7 @@ mod terms;
 mod weights;
 
 pub use assignment::Assignment;
-pub use constraint::Constraint;
+pub use constraint::{Constraint, MOST_SIZE};
 pub use lit::{Lit, MOST_VARIABLES};
 pub use propagation::{Effect, forces, is_forced, propagate, slack};
 pub use step::{Hints, Lits, Step, Steps};

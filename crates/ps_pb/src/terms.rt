@@ -8,13 +8,16 @@ use smallvec::SmallVec;
 use std::alloc::Global;
 use std::marker::Model;
 
+// So many terms stand in place.
+const IN_PLACE: usize = 4;
+
 /// Literals with weights, in which a literal may stand more than once.
 pub type WeightedLits = List<(Lit, i128)>;
 
 /// Literals with their coefficients; the first few stand in place.
 #[derive(Drop)]
 pub struct Terms {
-    items: SmallVec<(Lit, i128), 4>,
+    items: SmallVec<(Lit, i128), IN_PLACE>,
 }
 
 impl Model for Terms {

@@ -6,7 +6,7 @@ ghost use Rattle.ps_steps.specs.Weights.{size_sum, constant_part, constant_of, t
 ghost use Rattle.ps_steps.specs.Weights.{sum_below, last_variable, weighted};
 ghost use Rattle.ps_steps.specs.Weights.{constraint_of, clause_of};
 ghost use Rattle.ps_pb.specs.Limits.{most_variables, most_weight, most_size};
-ghost use Rattle.ps_pb.specs.Weighing.{IsBound};
+ghost use Rattle.ps_pb.specs.Weighing.{SaysAtLeast};
 ghost use Rattle.ps_pb.specs.Coefficients.{number_at, with_weight, HasRoomFor, terms_of_numbers};
 ghost use Rattle.ps_pb.specs.Coefficients.{AreCoefficients, AreSmall};
 
@@ -26,7 +26,7 @@ pub fn from_weights(
 ) -> Result<Constraint, NoMemory>
     requires { size_sum weights.now + unsigned_abs least ≤ most_weight }
     ensures value { IfOk result (λ c. c ≡ constraint_of weights.now least) }
-    ensures met { IfOk result (IsBound weights.now least) }
+    ensures met { IfOk result (SaysAtLeast weights.now least) }
 {
     let sums = coefficients(alloc, weights)?;
     let terms = terms_of_coefficients(alloc, &sums)?;

@@ -44,7 +44,7 @@ fn follow_hint(
 }
 
 /// Goes along the hints up to a conflict at the last one.
-pub fn follow_hints(
+pub(crate) fn follow_hints(
     known: &List<Constraint>,
     a: &mut Assignment,
     hints: &[u64],

@@ -26,7 +26,7 @@ use Rattle.ps_answer.specs.declared.answer.Dual.{Dual}
 use Rattle.ps_claims.specs.declared.claim_kind.ClaimKind.{ClaimKind}
 use Rattle.ps_runs.specs.Searches.{IsSpentSearch}
 use Rattle.ps_pricing.specs.Sought.{HasSteps, HasFewSteps}
-use Rattle.ps_pricing.specs.Pricings.{Asked, gain, goal_at_least, IsGreatest, IsCutAbove, IsFound, IsSpent, IsRefuted, IsWcnf}
+use Rattle.ps_pricing.specs.Pricings.{PricingSubject, gain, goal_at_least, IsGreatest, IsCutAbove, IsFound, IsSpent, IsRefuted, IsWcnf}
 
 -- ---- steps of a log
 ends_so : (front : List Step) (s : Step) → is_contradiction s ≡ true → ends_in_contradiction (front ++ s ∷ []) ≡ true
@@ -78,7 +78,7 @@ extension-meets ns w are =
     clauses-form (extension ns w) (clause_form ns) (extension-met ns (extension ns w) w are (length-truths ns w) (extension-agrees ns w are) refl)
 
 -- the value of an assignment that meets the clauses is that of its world
-module _ (kind : ClaimKind) (q : Asked) (d : Dual) (p : Wcnf) (is : IsWcnf kind q.subject d p) (are : AreNodes q.subject.parts.nodes) where
+module _ (kind : ClaimKind) (q : PricingSubject) (d : Dual) (p : Wcnf) (is : IsWcnf kind q.subject d p) (are : AreNodes q.subject.parts.nodes) where
   value_is : (u : World) → value p (extension q.subject.parts.nodes u) ≡ gain kind q.subject d u
   value_is u = λ k. is.base k +ℤ true_weight (extension q.subject.parts.nodes u) (is.soft k)
 

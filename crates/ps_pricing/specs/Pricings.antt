@@ -20,7 +20,7 @@ use Rattle.ps_pricing.specs.declared.pricing.Pricing.{Pricing}
 use Rattle.ps_pricing.specs.declared.pricing.Pricing.TheVariants.{Found, Refuted, Spent}
 
 -- what duals are priced over, and how many clauses a search may learn
-pub record Asked : Type 0 where
+pub record PricingSubject : Type 0 where
   pub subject : Subject
   pub conflicts : ℕ
 
@@ -48,14 +48,14 @@ pub record IsGreatest (kind : ClaimKind) (s : Subject) (d : Dual) (most : ℤ) :
   pub at : (w : World) → length w ≡ atoms_of s → gain kind s d w ≤ℤ most
 
 -- a search for a combination greater than this was spent
-pub record IsCutAbove (kind : ClaimKind) (a : Asked) (d : Dual) (found : ℤ) : Type 0 where
+pub record IsCutAbove (kind : ClaimKind) (a : PricingSubject) (d : Dual) (found : ℤ) : Type 0 where
   pub least : ℤ
   pub above : found <ℤ least
   pub steps : List Step
   pub spent : IsSpentSearch (form_of a.subject.parts.nodes) (goal_at_least least kind a.subject d) a.conflicts steps
 
 -- in the world the combination is at least 1, and it is greater in none, unless a search for a greater one was spent
-pub record IsFound (kind : ClaimKind) (a : Asked) (d : Dual) (w : World) : Type 0 where
+pub record IsFound (kind : ClaimKind) (a : PricingSubject) (d : Dual) (w : World) : Type 0 where
   pub sized : length w ≡ atoms_of a.subject
   pub above : pos 1 ≤ℤ gain kind a.subject d w
   pub greatest : IsGreatest kind a.subject d (gain kind a.subject d w) ⊎ IsCutAbove kind a d (gain kind a.subject d w)
@@ -68,11 +68,11 @@ pub record IsRefuted (kind : ClaimKind) (s : Subject) (d e : Dual) : Type 0 wher
   pub steps : Refutes (length s.parts.nodes) (first_known (form_of s.parts.nodes) (goal_at_least (pos 1) kind s d)) e.steps
 
 -- the search for a combination of at least 1 was spent
-pub record IsSpent (kind : ClaimKind) (a : Asked) (d : Dual) (goal : Constraint) (steps : List Step) : Type 0 where
+pub record IsSpent (kind : ClaimKind) (a : PricingSubject) (d : Dual) (goal : Constraint) (steps : List Step) : Type 0 where
   pub goal_is : goal ≡ goal_at_least (pos 1) kind a.subject d
   pub search : IsSpentSearch (form_of a.subject.parts.nodes) (goal_at_least (pos 1) kind a.subject d) a.conflicts steps
 
-abbrev pub IsPricing : ClaimKind → Asked → Dual → Pricing → Type 0
+abbrev pub IsPricing : ClaimKind → PricingSubject → Dual → Pricing → Type 0
 IsPricing kind a d (Found w) = IsFound kind a d w
 IsPricing kind a d (Refuted e) = IsRefuted kind a.subject d e
 IsPricing kind a d (Spent goal steps) = IsSpent kind a d goal steps

@@ -42,9 +42,9 @@ impl<'p> Model for Pricer<'p> {
     ghost use Rattle.ps_forms.specs.Forms.{form_of};
     ghost use Rattle.ps_runs.specs.Kept.{with_sentences};
     ghost use Rattle.ps_sat.specs.Limits.{most_conflicts};
-    ghost use Rattle.ps_pricing.specs.Pricings.{Asked};
+    ghost use Rattle.ps_pricing.specs.Pricings.{PricingSubject};
 
-    ghost Value = { Asked };
+    ghost Value = { PricingSubject };
 
     ghost view = { λ p. record {
       subject = record { parts = with_sentences p.problem.now p.sentences; query = p.query };

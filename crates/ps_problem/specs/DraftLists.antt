@@ -3,7 +3,7 @@ use Rattle.std.specs.Prelude.{◌≡◌, ◌≤◌, ◌-◌, ℕ, List, [], ◌�
 use Rattle.ps_meaning.specs.Formula.{Formula, Truth}
 use Rattle.ps_meaning.specs.Statements.{Name, Statement, Item, Stated, Asked}
 use Rattle.ps_meaning.specs.Names.{IsName}
-use Rattle.ps_problem.specs.declared.limits.TheConstants.{MOST_NESTING}
+use Rattle.ps_problem.specs.declared.limits.TheConstants.{MOST_DRAFTED, MOST_NESTING}
 use Rattle.ps_problem.specs.declared.mark.Mark.{Mark}
 use Rattle.ps_problem.specs.declared.span.Span.{Span}
 use Rattle.ps_problem.specs.declared.draft_item.DraftItem.{DraftItem}
@@ -85,4 +85,4 @@ pub record IsDraft (names : List Name) (ms : List Mark) (ended : ℕ) (spans : L
   pub held : AreHeld names [] (drop ended ms)
   pub formulas : All (IsSpan names ms ended) spans
   pub sound : All (IsDraftItem (length spans)) items
-  pub few_items : length items ≤ 4294967295
+  pub few_items : length items ≤ MOST_DRAFTED

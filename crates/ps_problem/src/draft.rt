@@ -3,7 +3,7 @@ ghost use Rattle.std.specs.Prelude.{◌≡◌, ◌<◌, ◌≤◌, [], All, OnOk
 ghost use Rattle.std.specs.Prelude.{option_map, slice_get};
 ghost use Rattle.ps_meaning.specs.Names.{IsName};
 ghost use Rattle.ps_meaning.specs.Statements.{Stated, Asked};
-ghost use Rattle.ps_problem.specs.declared.limits.TheConstants.{MOST_NESTING};
+ghost use Rattle.ps_problem.specs.declared.limits.TheConstants.{MOST_DRAFTED, MOST_NESTING};
 ghost use Rattle.ps_problem.specs.Numbering.{AreOnce, same_name};
 ghost use Rattle.ps_problem.specs.DraftLists.{AreMarks, root, item_of, IsDraftItem};
 ghost use Rattle.ps_problem.specs.Drafts.{arity, NameBelow, canonical_nesting};
@@ -63,7 +63,7 @@ impl Draft {
     /// The number of a name, from 0; a name that is new gets the next one.
     pub fn name(&mut self, text: &[u8]) -> Result<u32, NoMemory>
         requires name { IsName text.now }
-        requires room { length self.old.names < 4294967295 }
+        requires room { length self.old.names < MOST_DRAFTED }
         ensures number { IfOk result (λ n. slice_get self.new.names n ≡ Some text.now) }
         ensures ok { OnOk result (self.new ≡ with_name self.old text.now) }
         ensures err { OnErr result (self.new ≡ self.old) }
@@ -87,7 +87,7 @@ impl Draft {
     pub fn end_formula(&mut self) -> Result<u32, NoMemory>
         requires one { length self.old.«open» ≡ 1 }
         requires nesting { All (λ f. canonical_nesting f ≤ MOST_NESTING) self.old.«open» }
-        requires room { length self.old.formulas < 4294967295 }
+        requires room { length self.old.formulas < MOST_DRAFTED }
         ensures number { IfOk result (λ n. n ≡ length self.old.formulas) }
         ensures ok { OnOk result (self.new ≡ with_formula self.old) }
         ensures err { OnErr result (self.new ≡ self.old) }
@@ -116,7 +116,7 @@ impl Draft {
         requires formulas { AreBelow (length self.old.formulas) formula given }
         requires value { IsRatio num den }
         requires upper { IsUpper side upper }
-        requires room { length self.old.items < 4294967295 }
+        requires room { length self.old.items < MOST_DRAFTED }
         ensures ok { OnOk result (self.new ≡ with_item self.old (Stated (record {
           formula = formula_at self.old.formulas formula;
           given = option_map (formula_at self.old.formulas) given;
@@ -139,7 +139,7 @@ impl Draft {
     /// Adds a query for the probability of a formula, perhaps given a condition.
     pub fn query(&mut self, formula: u32, given: Option<u32>) -> Result<(), NoMemory>
         requires formulas { AreBelow (length self.old.formulas) formula given }
-        requires room { length self.old.items < 4294967295 }
+        requires room { length self.old.items < MOST_DRAFTED }
         ensures ok { OnOk result
             (self.new ≡ with_item self.old (Asked (question_at self.old.formulas formula given))) }
         ensures err { OnErr result (self.new ≡ self.old) }

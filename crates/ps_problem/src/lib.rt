@@ -23,7 +23,9 @@ pub use bound::Bound;
 pub use build_error::BuildError;
 pub use draft::Draft;
 pub use laws::{canonical_text_is_reread, numbering_keeps_meaning};
-pub use limits::{MOST_BOUNDS, MOST_DENOMINATOR, MOST_NESTING, MOST_QUERIES};
+pub use limits::{
+    MOST_BOUNDS, MOST_DENOMINATOR, MOST_DRAFTED, MOST_ENTRY, MOST_NESTING, MOST_QUERIES,
+};
 pub use mark::Mark;
 pub use problem::Problem;
 pub use ps_meaning::Side;

@@ -8,3 +8,7 @@ pub const MOST_QUERIES: usize = 16;
 pub const MOST_NESTING: usize = 100;
 /// The greatest denominator of a value.
 pub const MOST_DENOMINATOR: usize = 1_000_000;
+/// The most names, formulas and items of a draft.
+pub const MOST_DRAFTED: u32 = u32::MAX;
+/// The greatest size of what the row of a bound has in a world.
+pub const MOST_ENTRY: u32 = u32::MAX;

@@ -1,5 +1,6 @@
 //! Names by number.
 ghost use Rattle.std.specs.Prelude.{◌≡◌, ◌<◌, [], length, slice_get, OnOk, OnErr, IfOk, Some};
+ghost use Rattle.ps_problem.specs.declared.limits.TheConstants.{MOST_DRAFTED};
 ghost use Rattle.ps_problem.specs.Numbering.{same_name, with_new};
 ghost use Rattle.ps_problem.specs.Problems.{name_at};
 
@@ -50,7 +51,7 @@ impl Names {
 
     /// The number of a name, which is added at the end where it isn't there.
     pub(crate) fn number(&mut self, text: &[u8]) -> Result<u32, NoMemory>
-        requires { length self.old < 4294967295 }
+        requires { length self.old < MOST_DRAFTED }
         ensures number { IfOk result (λ n. slice_get self.new n ≡ Some text.now) }
         ensures names { OnOk result (self.new ≡ with_new same_name self.old text.now) }
         ensures err { OnErr result (self.new ≡ self.old) }

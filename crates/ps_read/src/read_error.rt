@@ -6,18 +6,21 @@ ghost use Rattle.ps_read.specs.Kinds.{form_kind};
 use crate::ReadKind;
 use ps_io::NoMemory;
 use ps_lex::Position;
+use thiserror::Error;
 
 /// Why no problem is read.
-#[derive(Clone, Copy, Debug, PartialEq, Eq)]
+#[derive(Clone, Copy, Debug, PartialEq, Eq, Error)]
 pub enum ReadError {
     /// The first refusal: its kind, and the line and the column, from 1 on, of the token, byte or
     /// end at which it comes. A column counts bytes.
+    #[error("unreadable at {line}:{column}")]
     At {
         kind: ReadKind,
         line: u32,
         column: u32,
     },
     /// There was not enough memory.
+    #[error("not enough memory")]
     NoMemory,
 }
 

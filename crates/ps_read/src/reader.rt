@@ -1,6 +1,7 @@
 //! A problem's text, byte by byte.
-ghost use Rattle.std.specs.Prelude.{◌≡◌, ◌<◌, ◌≤◌, ◌+◌, ◌^◌, OnOk, length};
+ghost use Rattle.std.specs.Prelude.{◌≡◌, ◌<◌, ◌≤◌, ◌+◌, ◌-◌, ◌^◌, OnOk, length};
 ghost use Rattle.ps_lex.specs.Lexing.{new_lexer};
+ghost use Rattle.ps_problem.specs.declared.limits.TheConstants.{MOST_DRAFTED};
 ghost use Rattle.ps_parse.specs.Standing.{IsParsed};
 ghost use Rattle.ps_parse.specs.Kept.{machine_of};
 ghost use Rattle.ps_parse.specs.Taking.{IsKept, CountsAtMost};
@@ -48,7 +49,7 @@ fn judge(
 ) -> Result<Option<Position>, ReadError>
     requires derivation { IsParsed (machine_of parser.old) }
     requires word { IsKeptIn token }
-    requires room { CountsAtMost 4294967294 (machine_of parser.old) }
+    requires room { CountsAtMost (MOST_DRAFTED - 1) (machine_of parser.old) }
     ensures judged { IsJudged token began bad (parsed_by parser.old) (parsed_by parser.new) result }
     ensures derivation { OnOk result (IsParsed (machine_of parser.new)) }
     ensures counts { OnOk result (IsOneMore parser.old parser.new) }

@@ -18,14 +18,13 @@ use Rattle.ps_answer.specs.declared.item.Item.{Item}
 use Rattle.ps_answer.specs.declared.item.Item.TheVariants as line
 use Rattle.ps_answer.specs.declared.answer.Cause.{Cause}
 use Rattle.ps_answer.specs.declared.answer.Cause.TheVariants.{Pivots, Conflicts, Wide}
-use Rattle.ps_answer.specs.Items.{IsReducedWithin, IsRatioWithin, most_operand}
+use Rattle.ps_answer.specs.Items.{IsReducedWithin, IsRatioWithin, most_operand, most_pivots, most_conflicts}
 use Rattle.ps_answer.specs.Answers.{ratio_of, cause_items}
 use Rattle.ps_claims.specs.declared.claim_kind.ClaimKind.{ClaimKind}
 use Rattle.ps_runs.specs.Rows.{rows_of, entries_of}
 use Rattle.ps_runs.specs.Runs.{Subject, setting_of, given_in, both_in, IsAsked, Stage, dual_at}
 use Rattle.ps_phases.specs.Licences.{IsOutOfConflicts, IsLicensed}
 use Rattle.ps_printed.specs.Printed.{IsOperand, ArePrintedOperands, IsPrintedSearch, IsPrintedCause}
-use Rattle.ps_reported.specs.Laws.{most_pivots, most_conflicts}
 use Rattle.ps_reported.proofs.All.{each}
 use Rattle.ps_reported.proofs.Combinations.{given_there, both_there}
 use Rattle.ps_reported.proofs.Models.{IsFit}

@@ -12,7 +12,7 @@ use Rattle.ps_entailment.specs.Answers as claimed
 use Rattle.ps_answer.specs.declared.item.Item.{Item}
 use Rattle.ps_answer.specs.declared.answer.Weighted.{Weighted}
 use Rattle.ps_answer.specs.declared.answer.Model.{Model}
-use Rattle.ps_answer.specs.Items.{IsProper, IsWithin, IsSmall}
+use Rattle.ps_answer.specs.Items.{IsProper, IsWithin, IsPrintable}
 use Rattle.ps_answer.specs.Answers.{entry_item, model_items}
 use Rattle.ps_printed.specs.Printed.{IsPrintedModel}
 use Rattle.ps_valid.specs.Answers.{entry_of, entries, model_of}
@@ -22,11 +22,11 @@ abbrev pub IsFit : Item → Type 0
 IsFit i = IsProper i × IsWithin i
 
 -- from 0 to a number that is small
-small_below : (z most : ℤ) → pos 0 ≤ℤ z → z ≤ℤ most → IsSmall most → IsSmall z
+small_below : (z most : ℤ) → pos 0 ≤ℤ z → z ≤ℤ most → IsPrintable most → IsPrintable z
 small_below z most low high small = omega (arith, ints, low, high, small)
 
 -- each entry has its weight, at most the total, and a world of so many atoms
-fit_entries : (atoms : ℕ) (ws : List Weighted) (most : ℤ) → atoms ≤ 128 → IsSmall most → All (λ e. length e.world ≡ atoms) (entries ws) → All (λ e. pos 1 ≤ℤ e.weight) (entries ws)
+fit_entries : (atoms : ℕ) (ws : List Weighted) (most : ℤ) → atoms ≤ 128 → IsPrintable most → All (λ e. length e.world ≡ atoms) (entries ws) → All (λ e. pos 1 ≤ℤ e.weight) (entries ws)
     → total (entries ws) ≤ℤ most → AllByRecursion IsFit (map entry_item ws)
 fit_entries atoms [] most few small sized weighed high = tt
 fit_entries atoms (w ∷ ws) most few small sized weighed high =
@@ -39,7 +39,7 @@ fit_entries atoms (w ∷ ws) most few small sized weighed high =
       fit_entries atoms ws most few small (All-tail (λ e. length e.world ≡ atoms) (entry_of w) (entries ws) sized) rest (omega (arith, ints, one, sum)),
     )
 
-pub fit_model : (atoms : ℕ) (bounds : List Bound) (m : Model) → atoms ≤ 128 → length bounds ≤ 100 → IsDistribution atoms (entries m.worlds) → claimed.IsSmall bounds (model_of m) → IsPrintedModel m
+pub fit_model : (atoms : ℕ) (bounds : List Bound) (m : Model) → atoms ≤ 128 → length bounds ≤ 100 → IsDistribution atoms (entries m.worlds) → claimed.IsBasicModel bounds (model_of m) → IsPrintedModel m
     → AllByRecursion IsFit (model_items m)
 fit_model atoms bounds m few few_bounds distribution small printed =
     let low : pos 0 ≤ℤ total (entries m.worlds) = weight-nonneg (entries m.worlds) Truth distribution.weighed in

@@ -40,7 +40,7 @@ use Rattle.ps_reported.proofs.Causes.{AreLimits, AreLines, operand_proper, cause
 use Rattle.ps_reported.proofs.Traces.{trace_fit, first_pool, first_trace}
 
 module _ (p : Parts) (pivots conflicts : ℕ) (limits : AreLimits p pivots conflicts) (Q : Item → Type 0) (AnyOpen : Type 0) (lines : AreLines pivots Q AnyOpen) where
-  model_fit : (m : Model) → IsDistribution (length p.names) (entries m.worlds) → claimed.IsSmall (bounds_of p) (model_of m) → IsPrintedModel m → AllByRecursion Q (model_items m)
+  model_fit : (m : Model) → IsDistribution (length p.names) (entries m.worlds) → claimed.IsBasicModel (bounds_of p) (model_of m) → IsPrintedModel m → AllByRecursion Q (model_items m)
   model_fit m distribution small printed =
       let bounds = limits.parts.few_bounds in
       let same = length-map (bounds_in p.sentences) (bound_of p.nodes) in

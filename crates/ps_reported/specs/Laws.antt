@@ -5,7 +5,7 @@ use Rattle.ps_io.specs.LineText.{lines_bytes}
 use Rattle.ps_io.specs.declared.limits.TheConstants.{LONGEST_LINE}
 use Rattle.ps_problem.specs.Problems.{Parts, AreParts}
 use Rattle.ps_answer.specs.declared.answer.Answer.{Answer}
-use Rattle.ps_answer.specs.Items.{IsProper, IsWithin, item_line}
+use Rattle.ps_answer.specs.Items.{IsProper, IsWithin, item_line, most_pivots, most_conflicts}
 use Rattle.ps_answer.specs.Answers.{answer_items, answer_lines}
 use Rattle.ps_answer.specs.Faults.{IsReport}
 use Rattle.ps_claims.specs.Claims.{unfinished_of}
@@ -13,14 +13,6 @@ use Rattle.ps_claims.specs.Validity.{IsValid}
 use Rattle.ps_valid.specs.Answers.{answer_of}
 use Rattle.ps_printed.specs.Printed.{IsPrintedAnswer}
 use Rattle.ps_phases.specs.Verdicts.{IsLawfulAnswer}
-
--- the most pivots that a run may be allowed
-abbrev pub most_pivots : ℕ
-most_pivots = 1000000
-
--- the most clauses that a search may learn
-abbrev pub most_conflicts : ℕ
-most_conflicts = 2 ^ 40
 
 -- an answer of a run within the limits of pivots and conflicts: lawful, valid, and of numbers that can be printed
 pub record IsAnswered (p : Parts) (pivots conflicts : ℕ) (a : Answer) : Type 0 where

@@ -5,7 +5,7 @@ use Rattle.ps_rational.specs.Rational.{Rational}
 use Rattle.ps_meaning.specs.Formula.{World}
 use Rattle.ps_rule.specs.Rule.{IsFeasible}
 use Rattle.ps_entailment.specs.Queries.{IsAllowed}
-use Rattle.ps_entailment.specs.Answers.{IsSmall}
+use Rattle.ps_entailment.specs.Answers.{IsBasicModel}
 use Rattle.ps_claims.specs.declared.claim_kind.ClaimKind.TheVariants.{Nothing}
 use Rattle.ps_claims.specs.Duals.{HasNothingHead}
 use Rattle.ps_runs.specs.Rows.{Setting, cost_of, table_of, IsTable}
@@ -22,7 +22,7 @@ module _ (s : Setting) (pool : List World) (basic : ℕ → ℕ) (X : ℕ → �
     positive = let e = evidence_weight s pool basic X t feasible in let h = big_positive s pool basic X t in omega (arith, ints, e, h);
   }
 
-  pub small_at_end : IsSmall s.bounds (table_model (table_of s pool basic X) pool)
+  pub small_at_end : IsBasicModel s.bounds (table_model (table_of s pool basic X) pool)
   small_at_end = record { few = let a = few_worlds s pool basic X t in omega (arith, a); total = refl }
 
   -- phase one rests above 0

@@ -15,7 +15,7 @@ use Rattle.ps_forms.specs.Extensions.{extension}
 use Rattle.ps_problem.specs.declared.query.Query as stored
 use Rattle.ps_problem.specs.Problems.{Parts, AreParts, bounds_in, bounds_of}
 use Rattle.ps_entailment.specs.Queries.{IsAllowed}
-use Rattle.ps_entailment.specs.Answers.{IsSmall, ShowsConsistent}
+use Rattle.ps_entailment.specs.Answers.{IsBasicModel, ShowsConsistent}
 use Rattle.ps_claims.specs.declared.claim_kind.ClaimKind.{ClaimKind}
 use Rattle.ps_claims.specs.declared.claim_kind.ClaimKind.TheVariants.{Nothing, Lower, Upper}
 use Rattle.ps_claims.specs.Duals.{Dual, combination, HaveSigns, AreZeroElsewhere, HasNothingHead, HasValueHead}
@@ -42,7 +42,7 @@ pub record FeasibleTablesGiveModels : Type 0 where
       → IsFeasible (table_of s pool basic X) → IsPool atoms pool
       → IsAllowed atoms s.bounds s.query.evidence (weighted_worlds (table_of s pool basic X) pool)
   pub small : (s : Setting) (pool : List World) (basic : ℕ → ℕ) (X : ℕ → ℕ → Rational) → IsTable s pool basic X
-      → IsSmall s.bounds (table_model (table_of s pool basic X) pool)
+      → IsBasicModel s.bounds (table_model (table_of s pool basic X) pool)
   pub total : (s : Setting) (pool : List World) (basic : ℕ → ℕ) (X : ℕ → ℕ → Rational) → IsTable s pool basic X
       → int_sum_to (rows_of s) (weight_at (rows_of s) basic X) ≡ total (weighted_worlds (table_of s pool basic X) pool)
 

@@ -105,8 +105,10 @@ fn are_first_and_third(table: &Table) -> bool
 }
 
 fn are_small(costs: &[i8]) -> bool
-    ensures low { IsTrue result → (i : ℕ) → i < length costs.now → negsuc 0 ≤ℤ get_or costs.now i (pos 0) }
-    ensures high { IsTrue result → (i : ℕ) → i < length costs.now → get_or costs.now i (pos 0) ≤ℤ pos 1 }
+    ensures low { IsTrue result
+        → (i : ℕ) → i < length costs.now → negsuc 0 ≤ℤ get_or costs.now i (pos 0) }
+    ensures high { IsTrue result
+        → (i : ℕ) → i < length costs.now → get_or costs.now i (pos 0) ≤ℤ pos 1 }
 {
     for k in 0..costs.len() {
         if costs[k] < -1 || costs[k] > 1 {

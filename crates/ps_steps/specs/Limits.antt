@@ -8,3 +8,7 @@ most_size = 2 ^ 126
 -- what the sizes of weights, and of what they are to sum to at least, sum to at most
 abbrev pub most_weight : ℕ
 most_weight = 2 ^ 125
+
+-- the greatest number that names a constraint
+abbrev pub most_ids : ℕ
+most_ids = 2 ^ 41

@@ -36,16 +36,16 @@ abbrev pub printed_limit : ℕ
 printed_limit = 2 ^ 90
 
 -- a number that an answer prints is too large
-abbrev pub IsPast : ℤ → Type 0
-IsPast z = printed_limit < unsigned_abs z
+abbrev pub IsTooLargeToPrint : ℤ → Type 0
+IsTooLargeToPrint z = printed_limit < unsigned_abs z
 
 -- at a place of a printed number the result is too large to be printed, at each other one a named number is too large
 abbrev pub IsWide : Place → Op → Rational → Rational → Type 0
 IsWide (Whole i) op x y = printed_limit < lcm (unsigned_abs x.over) (unsigned_abs y.over)
-IsWide (Scaled i) op x y = IsPast (mul x y).over
+IsWide (Scaled i) op x y = IsTooLargeToPrint (mul x y).over
 IsWide (Weight i) op x y = printed_limit < lcm (unsigned_abs x.over) (unsigned_abs y.over)
-IsWide (Weighed i) op x y = IsPast (mul x y).over
-IsWide (Total i) op x y = IsPast (add x y).over
+IsWide (Weighed i) op x y = IsTooLargeToPrint (mul x y).over
+IsWide (Total i) op x y = IsTooLargeToPrint (add x y).over
 IsWide (Ratio i) op x y = IsOperationWide op x y
 IsWide (Scale c) op x y = IsOperationWide op x y
 IsWide (Times i c) op x y = IsOperationWide op x y

@@ -21,7 +21,7 @@ pub use costs::{CostList, Costs};
 pub use error::TableError;
 pub use home::Home;
 pub use laws::{printed_places, row_limit};
-pub use limits::{MOST_ROWS, PRINTED_LIMIT, is_printed};
+pub use limits::{MOST_ROWS, PRINTED_LIMIT, can_be_printed};
 pub use place::{Place, TableCol, WideAt};
 pub use table::Table;
 

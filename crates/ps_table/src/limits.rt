@@ -1,6 +1,6 @@
 //! The limits of a table, and of the numbers that an answer prints.
-ghost use Rattle.std.specs.Prelude.{◌↔◌, IsTrue};
-ghost use Rattle.ps_table.specs.Places.{IsPast};
+ghost use Rattle.std.specs.Prelude.{◌↔◌, ◌≤◌, IsTrue, unsigned_abs};
+ghost use Rattle.ps_table.specs.Places.{printed_limit};
 
 /// The most rows of a table: one for each of 100 bounds, and one that normalises.
 pub const MOST_ROWS: usize = 101;
@@ -9,8 +9,8 @@ pub const MOST_ROWS: usize = 101;
 pub const PRINTED_LIMIT: u128 = 1 << 90;
 
 /// Whether a number is small enough to be printed.
-pub fn is_printed(number: i128) -> bool
-    ensures value { IsTrue result ↔ (¬ IsPast number) }
+pub fn can_be_printed(number: i128) -> bool
+    ensures { IsTrue result ↔ (unsigned_abs number ≤ printed_limit) }
 {
     number.unsigned_abs() <= PRINTED_LIMIT
 }

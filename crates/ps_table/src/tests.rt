@@ -4,7 +4,7 @@ mod carrying;
 mod conditions;
 mod refusals;
 
-use crate::{Home, PRINTED_LIMIT, Table, is_printed};
+use crate::{Home, PRINTED_LIMIT, Table, can_be_printed};
 use conditions::{adds, has_entry, has_value, pivots};
 use ps_pool::Col;
 use std::test::Fail;
@@ -28,6 +28,6 @@ fn a_pivot_makes_a_world_basic(rt: HostRuntime) -> Result<(), Fail> {
 #[test]
 fn the_limit_of_printed_numbers(rt: HostRuntime) {
     let limit = PRINTED_LIMIT as i128;
-    assert!(rt; is_printed(limit) && is_printed(-limit));
-    assert!(rt; !is_printed(limit + 1) && !is_printed(-limit - 1));
+    assert!(rt; can_be_printed(limit) && can_be_printed(-limit));
+    assert!(rt; !can_be_printed(limit + 1) && !can_be_printed(-limit - 1));
 }

@@ -26,7 +26,7 @@ use Rattle.ps_valid.specs.declared.refusal.Reason.{Reason}
 use Rattle.ps_valid.specs.declared.refusal.Reason.TheVariants.{WrongShape, EvidenceZero, ValueMissed}
 use Rattle.ps_valid.specs.Judged.{fault_of, FindsReason}
 use Rattle.ps_valid.specs.Rows.{over_nodes}
-use Rattle.ps_valid.specs.Signs.{IsFirstOfDual, FindsInDual}
+use Rattle.ps_valid.specs.DualTests.{IsFirstOfDual, FindsInDual}
 use Rattle.ps_valid.specs.Tests.{HaveShape, IsSound, IsFirstAgainst, evidence_weight, GivesValue}
 use Rattle.ps_valid.proofs.ModelFaults.{at_least_one, shows, first_in_model}
 use Rattle.ps_valid.proofs.Tables.{weight-node, weight-both}

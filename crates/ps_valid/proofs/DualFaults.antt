@@ -22,7 +22,7 @@ use Rattle.ps_claims.specs.declared.combination.Combination.{Combination}
 use Rattle.ps_claims.specs.Goals.{combination_of, goal_of}
 use Rattle.ps_problem.specs.declared.bound.Bound.{Bound}
 use Rattle.ps_valid.proofs.WrongSigns.{judged_signs}
-use Rattle.ps_valid.specs.Signs.{IsFirstSignAt, HaveSignsAt, HasRun, IsFirstInRun, FindsInRun, IsFirstOfDual, FindsInDual}
+use Rattle.ps_valid.specs.DualTests.{IsFirstSignAt, HaveSignsAt, HasRun, IsFirstInRun, FindsInRun, IsFirstOfDual, FindsInDual}
 
 module _ (p : Parts) (kind : ClaimKind) (given : Option ℕ) (both : ℕ) (d : Dual) where
   pub run_refutes : None ≡ first_refusal (length p.nodes) (start_for p kind given both d) d.steps → ends_in_contradiction d.steps ≡ true → HasRun p kind given both d

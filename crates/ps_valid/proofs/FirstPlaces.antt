@@ -9,7 +9,7 @@ use Rattle.std.proofs.lemmas.Option.{slice_get_within, get_or_from_slice_get}
 use Rattle.ps_meaning.specs.Distribution.{Entry}
 use Rattle.ps_meaning.specs.Bounds as meaning
 use Rattle.ps_meaning.specs.Bounds.{MeetsBound, MeetsAll}
-use Rattle.ps_claims.specs.Claims.{AreInOrder, IsWeightless, IsRepeated, MissesFirst}
+use Rattle.ps_claims.specs.Claims.{AreProperEntries, IsWeightless, IsRepeated, MissesFirst}
 
 -- an element at a place stands at it in each longer front
 at_place : {X : Type 0} (xs : List X) (i j : ℕ) (x : X) → i < j → slice_get xs i ≡ Some x → get_or (take j xs) i x ≡ x
@@ -31,7 +31,7 @@ abbrev pub IsFaulty : List Entry → ℕ → Type 0
 IsFaulty d i = IsSomeAnd (slice_get d i) (λ e. (e.weight ≡ pos 0) ⊎ Any (λ x. x.world ≡ e.world) (take i d))
 
 -- a world that stood before stands twice in a longer front
-stood : (d : List Entry) (i j : ℕ) (e : Entry) → i < j → j ≤ length d → slice_get d i ≡ Some e → AreInOrder (take j d) → ¬ Any (λ x. x.world ≡ e.world) (take i d)
+stood : (d : List Entry) (i j : ℕ) (e : Entry) → i < j → j ≤ length d → slice_get d i ≡ Some e → AreProperEntries (take j d) → ¬ Any (λ x. x.world ≡ e.world) (take i d)
 stood d i j e lt le at order (k, x, within, is, same) =
     let low : k < i = rw (length-take-le i d (omega arith)) at within in
     let here : get_or d k x ≡ x = sym (get_or-take i d k x low) ∙ is in
@@ -39,7 +39,7 @@ stood d i j e lt le at order (k, x, within, is, same) =
     order.different k i e low (place_within d i j e lt le) (ap (λ (y : Entry). y.world) there ∙ same ∙ ap (λ (y : Entry). y.world) (sym (at_place d i j e lt at)))
 
 -- no entry at fault stands among entries in order
-in_order : (d : List Entry) (i j : ℕ) → i < j → j ≤ length d → AreInOrder (take j d) → ¬ IsFaulty d i
+in_order : (d : List Entry) (i j : ℕ) → i < j → j ≤ length d → AreProperEntries (take j d) → ¬ IsFaulty d i
 in_order d i j lt le order faulty = by (slice_get d i) refl faulty
   where
     by : (o : Option Entry) → slice_get d i ≡ o → IsSomeAnd o (λ e. (e.weight ≡ pos 0) ⊎ Any (λ x. x.world ≡ e.world) (take i d)) → ⊥
@@ -58,7 +58,7 @@ within_faulty d i faulty = by (slice_get d i) refl faulty
 pub record IsFirstFaulty (d : List Entry) (n : ℕ) : Type 0 where
   place : ℕ
   number : n ≡ place + 1
-  before : AreInOrder (take place d)
+  before : AreProperEntries (take place d)
   faulty : IsFaulty d place
 
 pub weightless_faulty : (o : Option Entry) (d : List Entry) (i : ℕ) → IsSomeAnd o (λ e. e.weight ≡ pos 0) → IsSomeAnd o (λ e. (e.weight ≡ pos 0) ⊎ Any (λ x. x.world ≡ e.world) (take i d))
@@ -93,15 +93,15 @@ pub one_number : (d : List Entry) (m n : ℕ) → IsFirstFaulty d m → IsFirstF
 one_number d m n a b = let same = one_place d m n a b in omega (arith, a.number, b.number, same)
 
 -- entries in order have none at fault
-whole_order : (d : List Entry) (n : ℕ) → IsFirstFaulty d n → ¬ AreInOrder d
+whole_order : (d : List Entry) (n : ℕ) → IsFirstFaulty d n → ¬ AreProperEntries d
 whole_order d n a order =
     let within = within_faulty d a.place a.faulty in
-    in_order d a.place (length d) within (omega arith) (subst AreInOrder (sym (take_all (length d) d (omega arith))) order) a.faulty
+    in_order d a.place (length d) within (omega arith) (subst AreProperEntries (sym (take_all (length d) d (omega arith))) order) a.faulty
 
-pub weightless_faulty_order : (d : List Entry) (n : ℕ) → IsWeightless d n → ¬ AreInOrder d
+pub weightless_faulty_order : (d : List Entry) (n : ℕ) → IsWeightless d n → ¬ AreProperEntries d
 weightless_faulty_order d n a = whole_order d n (of_weightless d n a)
 
-pub repeated_faulty_order : (d : List Entry) (n : ℕ) → IsRepeated d n → ¬ AreInOrder d
+pub repeated_faulty_order : (d : List Entry) (n : ℕ) → IsRepeated d n → ¬ AreProperEntries d
 repeated_faulty_order d n a = whole_order d n (of_repeated d n a)
 
 -- an entry of no weight isn't one that has a weight

@@ -11,7 +11,7 @@ use Rattle.std.proofs.lemmas.Option.{slice_get-get_or, slice_get-map}
 use Rattle.ps_meaning.specs.Distribution.{Entry}
 use Rattle.ps_answer.specs.declared.answer.Weighted.{Weighted}
 use Rattle.ps_valid.specs.Answers.{entry_of, entries}
-use Rattle.ps_claims.specs.Claims.{AreInOrder, IsWeightless, IsRepeated}
+use Rattle.ps_claims.specs.Claims.{AreProperEntries, IsWeightless, IsRepeated}
 
 -- what a test that fails would tell doesn't hold
 pub refuted : {P : Type 0} (b : Bool) → b ≡ false → (P → IsTrue b) → ¬ P
@@ -35,8 +35,8 @@ each_entry P Q ws else none k e lt =
     let w = get_or ws k (back e) in
     rw (get_or-map entry_of ws k (back e) e lt') (else (entry_of w) (λ q. none (k, w, lt', get_or_default ws k w (back e) lt', q)))
 
-pub in_order-more : (ws : List Weighted) (i : ℕ) (w : Weighted) → i < length ws → AreInOrder (entries (take i ws)) → (get_or ws i w).weight ≢ pos 0
-    → ¬ Any (λ before. before.world ≡ (get_or ws i w).world) (take i ws) → AreInOrder (entries (take (i + 1) ws))
+pub in_order-more : (ws : List Weighted) (i : ℕ) (w : Weighted) → i < length ws → AreProperEntries (entries (take i ws)) → (get_or ws i w).weight ≢ pos 0
+    → ¬ Any (λ before. before.world ≡ (get_or ws i w).world) (take i ws) → AreProperEntries (entries (take (i + 1) ws))
 in_order-more ws i w lt order weighed new =
     let e = entry_of (get_or ws i w) in
     let others : All (λ before. before.world ≢ e.world) (entries (take i ws)) = each_entry (λ before. before.world ≢ e.world) (λ before. before.world ≡ e.world) (take i ws) (λ _ other. other) new in
@@ -48,10 +48,10 @@ in_order-more ws i w lt order weighed new =
 entry_at : (ws : List Weighted) (i : ℕ) (w : Weighted) → i < length ws → slice_get (entries ws) i ≡ slice_get (entry_of (get_or ws i w) ∷ []) 0
 entry_at ws i w lt = slice_get-map entry_of ws i ∙ rw (slice_get-get_or ws i w lt) refl
 
-pub weightless_at : (ws : List Weighted) (i : ℕ) (w : Weighted) → i < length ws → AreInOrder (entries (take i ws)) → (get_or ws i w).weight ≡ pos 0 → IsWeightless (entries ws) (i + 1)
+pub weightless_at : (ws : List Weighted) (i : ℕ) (w : Weighted) → i < length ws → AreProperEntries (entries (take i ws)) → (get_or ws i w).weight ≡ pos 0 → IsWeightless (entries ws) (i + 1)
 weightless_at ws i w lt order none = (i, refl, rw (take-map entry_of i ws) order, rw (entry_at ws i w lt) none)
 
-pub repeated_at : (ws : List Weighted) (i : ℕ) (w : Weighted) → i < length ws → AreInOrder (entries (take i ws)) → (get_or ws i w).weight ≢ pos 0
+pub repeated_at : (ws : List Weighted) (i : ℕ) (w : Weighted) → i < length ws → AreProperEntries (entries (take i ws)) → (get_or ws i w).weight ≢ pos 0
     → Any (λ before. before.world ≡ (get_or ws i w).world) (take i ws) → IsRepeated (entries ws) (i + 1)
 repeated_at ws i w lt order weighed twice =
     let stood : Any (λ before. before.world ≡ (get_or ws i w).world) (take i (entries ws)) = rw (take-map entry_of i ws) (any_entry (λ before. before.world ≡ (get_or ws i w).world) (take i ws) twice) in

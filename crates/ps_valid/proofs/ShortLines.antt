@@ -27,7 +27,7 @@ use Rattle.ps_answer.specs.declared.item.Ratio.{Ratio}
 use Rattle.ps_answer.specs.declared.item.Item.{Item}
 use Rattle.ps_answer.specs.declared.item.Item.TheVariants.{Report, Consistent, Inconsistent, OpenPivots, OpenConflicts, OpenWide, ModelHead, Entry, DualHead, Rows, StepLine, GoalLine, TraceHead, PivotLine, PricedLine, Query, Bounds, Impossible, Bound, OpenSide, End}
 use Rattle.ps_answer.specs.Words.{Word, Letters, Number, Fraction, Column, Truths, digit_of, word_text, joined}
-use Rattle.ps_answer.specs.Items.{count, op_word, shown_word, place_words, side_word, item_words, item_line, IsWithin, IsSmall, IsColWithin, IsShownWithin, IsPlaceWithin, IsRatioWithin, most_operand}
+use Rattle.ps_answer.specs.Items.{count, op_word, shown_word, place_words, side_word, item_words, item_line, IsWithin, IsPrintable, IsColWithin, IsShownWithin, IsPlaceWithin, IsRatioWithin, most_operand}
 
 -- a word of at most 128 bytes
 IsBrief : Word → Type 0
@@ -89,12 +89,12 @@ brief_letters : (text : List ℕ) → length text ≤ 128 → IsBrief (Letters t
 unfolding IsBrief
 brief_letters text h = h
 
-small_number : (z : ℤ) → IsSmall z → IsBrief (Number z)
+small_number : (z : ℤ) → IsPrintable z → IsBrief (Number z)
 small_number z h = brief_number z (omega (arith, h))
 
-brief_rows : (rows : List ℤ) → All IsSmall rows → AllByRecursion IsBrief (map Number rows)
+brief_rows : (rows : List ℤ) → All IsPrintable rows → AllByRecursion IsBrief (map Number rows)
 brief_rows [] h = tt
-brief_rows (y ∷ rows) h = (small_number y (All-head IsSmall y rows h), brief_rows rows (All-tail IsSmall y rows h))
+brief_rows (y ∷ rows) h = (small_number y (All-head IsPrintable y rows h), brief_rows rows (All-tail IsPrintable y rows h))
 
 -- a place has two or three words
 record IsBriefPlace (at : Place) : Type 0 where

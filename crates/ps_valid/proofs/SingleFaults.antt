@@ -16,7 +16,7 @@ use Rattle.ps_claims.specs.declared.claim_kind.ClaimKind.{ClaimKind}
 use Rattle.ps_claims.specs.declared.claim_kind.ClaimKind.TheVariants.{Nothing}
 use Rattle.ps_claims.specs.Duals.{Dual, HasSign, HaveSigns}
 use Rattle.ps_claims.specs.Faults.{DualFault, WrongHead, WrongSign, WrongStep, NoContradiction, HasHead, IsFirstWrongSign, start_for, IsFirstFault}
-use Rattle.ps_claims.specs.Claims.{Place, AtReport, Claim, Placed, Modelled, Excluded, Bounded, claims_of, HasParts, AreValid, IsValidClaim, Fault, WrongShape, TooManyWorlds, TotalWrong, EvidenceZero, ValueMissed, WeightZero, WorldTwice, BoundMissed, DualWrong, HasShape, AreInOrder, IsWeightless, IsRepeated, MissesFirst, AreFew, HasTotal, HasEvidence, HasValue, IsModelRight, IsDualWrong, IsFirstIn, IsFirstAt, IsRefused}
+use Rattle.ps_claims.specs.Claims.{Place, AtReport, Claim, Placed, Modelled, Excluded, Bounded, claims_of, HasParts, AreValid, IsValidClaim, Fault, WrongShape, TooManyWorlds, TotalWrong, EvidenceZero, ValueMissed, WeightZero, WorldTwice, BoundMissed, DualWrong, HasShape, AreProperEntries, IsWeightless, IsRepeated, MissesFirst, AreFew, HasTotal, HasEvidence, HasValue, IsModelRight, IsDualWrong, IsFirstIn, IsFirstAt, IsRefused}
 use Rattle.ps_claims.proofs.Claims.{valid_faultless}
 use Rattle.ps_valid.proofs.FirstPlaces.{one_number, of_weightless, of_repeated, weightless_faulty_order, repeated_faulty_order, weightless_or_repeated, missed_bound, one_missed, holds_before}
 
@@ -82,11 +82,11 @@ First p m S E V W WrongShape = ¬ S
 First p m S E V W TooManyWorlds = S × ¬ AreFew p m
 First p m S E V W (WeightZero n) = S × (AreFew p m × IsWeightless m.worlds n)
 First p m S E V W (WorldTwice n) = S × (AreFew p m × IsRepeated m.worlds n)
-First p m S E V W TotalWrong = S × (AreFew p m × AreInOrder m.worlds × ¬ HasTotal m)
-First p m S E V W (BoundMissed n) = S × (AreFew p m × AreInOrder m.worlds × HasTotal m × MissesFirst (bounds_of p) m.worlds n)
-First p m S E V W EvidenceZero = S × (AreFew p m × AreInOrder m.worlds × HasTotal m × MeetsAll (bounds_of p) m.worlds) × ¬ E
-First p m S E V W ValueMissed = S × (AreFew p m × AreInOrder m.worlds × HasTotal m × MeetsAll (bounds_of p) m.worlds) × E × ¬ V
-First p m S E V W (DualWrong f) = S × (AreFew p m × AreInOrder m.worlds × HasTotal m × MeetsAll (bounds_of p) m.worlds) × E × V × W f
+First p m S E V W TotalWrong = S × (AreFew p m × AreProperEntries m.worlds × ¬ HasTotal m)
+First p m S E V W (BoundMissed n) = S × (AreFew p m × AreProperEntries m.worlds × HasTotal m × MissesFirst (bounds_of p) m.worlds n)
+First p m S E V W EvidenceZero = S × (AreFew p m × AreProperEntries m.worlds × HasTotal m × MeetsAll (bounds_of p) m.worlds) × ¬ E
+First p m S E V W ValueMissed = S × (AreFew p m × AreProperEntries m.worlds × HasTotal m × MeetsAll (bounds_of p) m.worlds) × E × ¬ V
+First p m S E V W (DualWrong f) = S × (AreFew p m × AreProperEntries m.worlds × HasTotal m × MeetsAll (bounds_of p) m.worlds) × E × V × W f
 
 module _ (p : Parts) (m : Model) (S E V : Type 0) (W : DualFault → Type 0) (same : (f g : DualFault) → W f → W g → f ≡ g) where
   one : (f g : Fault) → First p m S E V W f → First p m S E V W g → f ≡ g

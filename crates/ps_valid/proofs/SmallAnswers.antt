@@ -22,7 +22,7 @@ use Rattle.ps_answer.specs.Items.{IsLine, IsProper, IsWithin}
 use Rattle.ps_answer.specs.Answers.{entry_item, model_items, dual_items, trace_items, verdict_items, side_items, query_items, part_items, answer_items}
 use Rattle.ps_answer.specs.Faults.{AreLines, IsReport}
 use Rattle.ps_certificate.specs.Certificates.{IsSmallDual}
-use Rattle.ps_valid.specs.Limits.{IsSmall, IsSmallModel, IsSmallVerdict, IsSmallSide, IsSmallPart, IsSmallAnswer}
+use Rattle.ps_valid.specs.Limits.{IsAmount, IsSmallModel, IsSmallVerdict, IsSmallSide, IsSmallPart, IsSmallAnswer}
 
 front : {X : Type 0} (P : X → Type 0) (xs ys : List X) → AllByRecursion P (xs ++ ys) → AllByRecursion P xs
 front P [] ys h = tt
@@ -32,12 +32,12 @@ back : {X : Type 0} (P : X → Type 0) (xs ys : List X) → AllByRecursion P (xs
 back P [] ys h = h
 back P (x ∷ xs) ys h = back P xs ys h.1
 
-small : (z : ℤ) → pos 0 ≤ℤ z → unsigned_abs z ≤ 2 ^ 90 → IsSmall z
+small : (z : ℤ) → pos 0 ≤ℤ z → unsigned_abs z ≤ 2 ^ 90 → IsAmount z
 small z low size = record { low = low; high = omega (arith, ints, low, size) }
 
-small_entries : (ws : List Weighted) → AllByRecursion (λ i. IsProper i × IsWithin i) (map entry_item ws) → All (λ w. IsSmall w.weight) ws
-small_entries [] h = All-nil (λ w. IsSmall w.weight)
-small_entries (w ∷ ws) h = All-cons (λ w. IsSmall w.weight) w ws (small w.weight h.0.0 h.0.1.0) (small_entries ws h.1)
+small_entries : (ws : List Weighted) → AllByRecursion (λ i. IsProper i × IsWithin i) (map entry_item ws) → All (λ w. IsAmount w.weight) ws
+small_entries [] h = All-nil (λ w. IsAmount w.weight)
+small_entries (w ∷ ws) h = All-cons (λ w. IsAmount w.weight) w ws (small w.weight h.0.0 h.0.1.0) (small_entries ws h.1)
 
 small_model : (m : Model) → AllByRecursion (λ i. IsProper i × IsWithin i) (model_items m) → IsSmallModel m
 small_model m h = record {

@@ -10,7 +10,7 @@ use Rattle.ps_problem.specs.declared.bound.Bound.{Bound}
 use Rattle.ps_problem.specs.Problems.{bound_of}
 use Rattle.ps_claims.specs.Duals.{HasSign, HaveSigns}
 use Rattle.ps_claims.specs.Faults.{IsFirstWrongSign}
-use Rattle.ps_valid.specs.Signs.{HaveSignsAt, IsFirstSignAt, FindsSignAt}
+use Rattle.ps_valid.specs.DualTests.{HaveSignsAt, IsFirstSignAt, FindsSignAt}
 
 sign_of : Bound → ℤ → Type 0
 sign_of b y = HasSign b.side y

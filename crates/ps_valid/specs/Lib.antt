@@ -7,5 +7,5 @@ pub mod Laws
 -- the truth of each node
 pub mod ClaimLists
 pub mod Tests
-pub mod Signs
+pub mod DualTests
 pub mod Rows

@@ -20,18 +20,18 @@ abbrev pub most_worlds : ℕ
 most_worlds = 101
 
 -- from 0 to the most that a weight is
-pub record IsSmall (z : ℤ) : Type 0 where
+pub record IsAmount (z : ℤ) : Type 0 where
   pub low : pos 0 ≤ℤ z
   pub high : z ≤ℤ pos most_weight
 
 -- few worlds, each of a small weight
 pub record AreSmall (ws : List Weighted) : Type 0 where
   pub few : length ws ≤ most_worlds
-  pub weights : All (λ w. IsSmall w.weight) ws
+  pub weights : All (λ w. IsAmount w.weight) ws
 
 -- a model with a small total and such worlds
 pub record IsSmallModel (m : Model) : Type 0 where
-  pub total : IsSmall m.total
+  pub total : IsAmount m.total
   pub worlds : AreSmall m.worlds
 
 abbrev pub IsSmallVerdict : Verdict → Type 0

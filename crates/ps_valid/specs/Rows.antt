@@ -8,7 +8,7 @@ use Rattle.ps_formula.specs.declared.node.Node.{Node}
 use Rattle.ps_problem.specs.declared.bound.Bound.{Bound}
 use Rattle.ps_problem.specs.declared.limits.TheConstants.{MOST_DENOMINATOR}
 use Rattle.ps_valid.specs.declared.truth.Row.{Row}
-use Rattle.ps_valid.specs.Limits.{IsSmall, most_worlds}
+use Rattle.ps_valid.specs.Limits.{IsAmount, most_worlds}
 
 abbrev pub row_entry : Row → Entry
 row_entry r = record { weight = r.weight; world = r.values.items }
@@ -23,7 +23,7 @@ over_nodes ns e = record { weight = e.weight; world = truths ns e.world }
 -- few rows, each of a small weight
 pub record AreRows (rows : List Row) : Type 0 where
   pub few : length rows ≤ most_worlds
-  pub weights : All (λ r. IsSmall r.weight) rows
+  pub weights : All (λ r. IsAmount r.weight) rows
 
 -- each row has the truth of this node
 abbrev pub HaveNode : List Row → ℕ → Type 0

@@ -10,7 +10,7 @@ use Rattle.ps_rational.specs.Rational.{Rational}
 use Rattle.ps_entailment.specs.Queries.{bound_on}
 use Rattle.ps_entailment.specs.Answers.{Model}
 use Rattle.ps_claims.specs.Validity.{query_of}
-use Rattle.ps_claims.specs.Claims.{AreInOrder, IsWeightless, IsRepeated, MissesFirst, AreFew, HasTotal}
+use Rattle.ps_claims.specs.Claims.{AreProperEntries, IsWeightless, IsRepeated, MissesFirst, AreFew, HasTotal}
 use Rattle.ps_valid.specs.declared.refusal.Reason.{Reason}
 use Rattle.ps_valid.specs.declared.refusal.Reason.TheVariants.{TooManyWorlds, WeightZero, WorldTwice, TotalWrong, BoundMissed}
 use Rattle.ps_valid.specs.Rows.{MeetsAt, MissesFirstAt}
@@ -31,7 +31,7 @@ IsFirstAmong d other = ⊥
 
 -- the reason is the first against an entry, and there is none where the entries are in order
 abbrev pub FindsFault : List Entry → Option Reason → Type 0
-FindsFault d found = MatchOption found (AreInOrder d) (IsFirstAmong d)
+FindsFault d found = MatchOption found (AreProperEntries d) (IsFirstAmong d)
 
 -- the bound is the first that entries over nodes miss, and there is none where they meet all
 abbrev pub FindsMissedAt : List Entry → List Bound → Option ℕ → Type 0
@@ -44,7 +44,7 @@ FindsMissed p d found = MatchOption found (MeetsAll (bounds_of p) d) (MissesFirs
 -- nothing is wrong with a model whose worlds have the problem's atoms
 pub record IsSound (p : Parts) (m : Model) : Type 0 where
   pub few : AreFew p m
-  pub order : AreInOrder m.worlds
+  pub order : AreProperEntries m.worlds
   pub total : HasTotal m
   pub met : MeetsAll (bounds_of p) m.worlds
 
@@ -53,8 +53,8 @@ abbrev pub IsFirstAgainst : Parts → Model → Reason → Type 0
 IsFirstAgainst p m TooManyWorlds = ¬ AreFew p m
 IsFirstAgainst p m (WeightZero n) = AreFew p m × IsWeightless m.worlds n
 IsFirstAgainst p m (WorldTwice n) = AreFew p m × IsRepeated m.worlds n
-IsFirstAgainst p m TotalWrong = AreFew p m × AreInOrder m.worlds × ¬ HasTotal m
-IsFirstAgainst p m (BoundMissed n) = AreFew p m × AreInOrder m.worlds × HasTotal m × MissesFirst (bounds_of p) m.worlds n
+IsFirstAgainst p m TotalWrong = AreFew p m × AreProperEntries m.worlds × ¬ HasTotal m
+IsFirstAgainst p m (BoundMissed n) = AreFew p m × AreProperEntries m.worlds × HasTotal m × MissesFirst (bounds_of p) m.worlds n
 IsFirstAgainst p m other = ⊥
 
 -- the reason is the first against such a model, and there is none where nothing is wrong with it

@@ -5,7 +5,6 @@
 mod bounded;
 mod checking;
 mod laws;
-mod limits;
 mod meeting;
 mod modelled;
 mod quotient;
@@ -19,7 +18,6 @@ mod weighing;
 pub use bounded::check_bound;
 pub use checking::check;
 pub use laws::{refusals_are_single, report_lines_are_short, reports_are_small};
-pub use limits::{MOST_WEIGHT, MOST_WORLDS};
 pub use modelled::check_model;
 pub use refusal::{Accepted, CheckError, Claim, Reason, Refusal};
 pub use refuting::check_dual;

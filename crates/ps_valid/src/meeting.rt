@@ -6,7 +6,7 @@ ghost use Rattle.ps_meaning.specs.Bounds.{Compares};
 ghost use Rattle.ps_problem.specs.declared.limits.TheConstants.{MOST_BOUNDS, MOST_DENOMINATOR};
 ghost use Rattle.ps_claims.specs.Claims.{HasTotal};
 ghost use Rattle.ps_valid.specs.Answers.{entries, model_of};
-ghost use Rattle.ps_valid.specs.Limits.{IsSmall, IsSmallModel, most_weight, most_worlds};
+ghost use Rattle.ps_valid.specs.Limits.{IsAmount, IsSmallModel, most_weight, most_worlds};
 ghost use Rattle.ps_valid.specs.Rows.{AreRows, Covers, HaveNode, IsTableOf, MeetsAt};
 ghost use Rattle.ps_valid.specs.Rows.{node_at, row_entries};
 ghost use Rattle.ps_valid.specs.Tests.{FindsMissed, FindsMissedAt};
@@ -40,7 +40,7 @@ pub fn weight_given(rows: &[Row], sum: i128, given: Option<u32>) -> i128
     requires rows { AreRows rows.now }
     requires given { IfSome given (HaveNode rows.now) }
     requires total { sum ≡ total (row_entries rows.now) }
-    requires small { IsSmall sum }
+    requires small { IsAmount sum }
     ensures weight { result ≡ weight (row_entries rows.now) (node_at given) }
     ensures low { pos 0 ≤ℤ result }
     ensures high { result ≤ℤ pos (most_worlds * most_weight) }
@@ -56,7 +56,7 @@ fn is_met(rows: &[Row], sum: i128, bound: &Bound) -> bool
     requires rows { AreRows rows.now }
     requires bound { Covers rows.now bound.now }
     requires total { sum ≡ total (row_entries rows.now) }
-    requires small { IsSmall sum }
+    requires small { IsAmount sum }
     ensures { IsTrue result ↔ MeetsAt (row_entries rows.now) bound.now }
 {
     let both = weight_of(rows, bound.both);
@@ -70,7 +70,7 @@ fn first_missed(rows: &[Row], sum: i128, bounds: &[Bound]) -> Option<u32>
     requires bounds { All (Covers rows.now) bounds.now }
     requires few { length bounds.now ≤ MOST_BOUNDS }
     requires total { sum ≡ total (row_entries rows.now) }
-    requires small { IsSmall sum }
+    requires small { IsAmount sum }
     ensures { FindsMissedAt (row_entries rows.now) bounds.now result }
 {
     for (i, bound) in bounds.iter().enumerate() {

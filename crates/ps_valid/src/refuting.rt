@@ -5,7 +5,7 @@ ghost use Rattle.ps_claims.specs.Claims.{Excluded};
 ghost use Rattle.ps_claims.specs.Faults.{HasHead};
 ghost use Rattle.ps_certificate.specs.Certificates.{dual_of, HasQuery, IsSmallDual};
 ghost use Rattle.ps_valid.specs.Judged.{FindsReason};
-ghost use Rattle.ps_valid.specs.Signs.{FindsInDual, FindsInRun};
+ghost use Rattle.ps_valid.specs.DualTests.{FindsInDual, FindsInRun};
 
 use crate::Reason;
 use crate::quotient::is_quotient;

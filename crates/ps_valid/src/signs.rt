@@ -2,7 +2,7 @@
 ghost use Rattle.std.specs.Prelude.{◌≡◌, ◌≤◌, ◌↔◌, IsTrue, length};
 ghost use Rattle.ps_problem.specs.declared.limits.TheConstants.{MOST_BOUNDS};
 ghost use Rattle.ps_claims.specs.Duals.{HasSign};
-ghost use Rattle.ps_valid.specs.Signs.{FindsSignAt};
+ghost use Rattle.ps_valid.specs.DualTests.{FindsSignAt};
 
 use ps_problem::{Bound, Side};
 

@@ -4,6 +4,7 @@ ghost use Rattle.std.specs.List.{list_all};
 ghost use Rattle.ps_meaning.specs.Names.{is_letter as letter, is_word_byte as word_byte};
 ghost use Rattle.ps_meaning.specs.Names.{is_word as word};
 ghost use Rattle.ps_lex.specs.Places.{IsWithin};
+ghost use Rattle.ps_problem.specs.declared.limits.TheConstants.{MOST_DRAFTED};
 ghost use Rattle.ps_parse.specs.Standing.{IsParsed};
 ghost use Rattle.ps_parse.specs.Taking.{IsKept, CountsAtMost};
 ghost use Rattle.ps_parse.specs.Kept.{machine_of};
@@ -59,7 +60,7 @@ fn is_kept(token: &Token) -> bool
 #[tactic(auto, using(ps_parse::proofs::Counting::counts_more))]
 fn feed(parser: &mut Parser, token: Option<Token>, place: Position) -> Result<(), ParseError>
     requires derivation { IsParsed (machine_of parser.old) }
-    requires room { CountsAtMost 4294967294 (machine_of parser.old) }
+    requires room { CountsAtMost (MOST_DRAFTED - 1) (machine_of parser.old) }
     ensures derivation { OnOk result (IsParsed (machine_of parser.new)) }
     ensures counts { OnOk result ((n : ℕ) → CountsAtMost n (machine_of parser.old)
         → CountsAtMost (n + 1) (machine_of parser.new)) }

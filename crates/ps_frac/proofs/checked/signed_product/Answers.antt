@@ -4,8 +4,8 @@ use Rattle.std.proofs.lemmas.Int.{ints}
 use Rattle.ps_frac.proofs.Sizes.{small_signed_product}
 use Rattle.ps_frac.proofs.checked.signed_product.Goals as goal
 
-pub returns-then-unsigned_abs-lt-HALF-2 : goal.returns-then-unsigned_abs-lt-HALF-2
-returns-then-unsigned_abs-lt-HALF-2 c =
+pub returns-then-unsigned_abs-lt-HALF_WORD-2 : goal.returns-then-unsigned_abs-lt-HALF_WORD-2
+returns-then-unsigned_abs-lt-HALF_WORD-2 c =
     let a = c.args.a in
     let b = c.args.b in
     let ha : unsigned_abs a < 2 ^ 63 = omega (arith, ints) in

@@ -1,7 +1,7 @@
 use Rattle.std.proofs.Common.{◌≡◌, ◌<◌, false, pos, ◌+ℤ◌, cond, length, sym, ap, ◌∙◌, arith}
 use Rattle.std.proofs.lemmas.List.{get_or_default}
 use Rattle.ps_meaning.specs.Formula.{Atom, is_true}
-use Rattle.ps_valid.specs.Limits.{IsSmall}
+use Rattle.ps_valid.specs.Limits.{IsAmount}
 use Rattle.ps_valid.specs.Rows.{row_entry}
 use Rattle.ps_valid.proofs.Weights.{weight-more, goes_on}
 use Rattle.ps_valid.proofs.truth.weight_of.Goals as goal
@@ -11,7 +11,7 @@ loop-row-preserved c =
     let r = c.row-item.result in
     let f = Atom c.args.node in
     let more = weight-more row_entry c.args.rows.now c.loop-row.row-index r f c.loop-row-test.true in
-    let small : IsSmall r.weight = rw c.row-item.is (c.requires.rows.weights c.loop-row.row-index r c.loop-row-test.true) in
+    let small : IsAmount r.weight = rw c.row-item.is (c.requires.rows.weights c.loop-row.row-index r c.loop-row-test.true) in
     let few : c.loop-row.row-index < 101 = omega (arith, c.requires.rows.few) in
     let within : c.args.node < length r.values.items = rw c.row-item.is (c.requires.node c.loop-row.row-index r c.loop-row-test.true) in
     let value : c.index.result.now ≡ is_true f r.values.items = c.index.ensures ∙ get_or_default r.values.items c.args.node c.index.result.now false within in

@@ -1,4 +1,5 @@
 use Rattle.std.proofs.Common.{◌≡◌, ◌<◌, false, length, sym, ap, subst, ◌∙◌}
+use Rattle.ps_problem.specs.declared.limits.TheConstants.{MOST_DRAFTED}
 use Rattle.ps_parse.specs.Pending.{settled, is_grouped}
 use Rattle.ps_parse.specs.Machine.{Work, with_pending, formula_ended}
 use Rattle.ps_parse.specs.Ready.{HasRoom, IsNumbered}
@@ -29,4 +30,4 @@ query-requires-clause-room c =
     let same : pending_of c.close.new.self ≡ settled 1 p = c.in_ok-close.ensures.closed ∙ ungrouped p (sym c.in_ok-close.ensures.grouped ∙ c.if-branch.false) in
     let w : Work = with_pending (work_of c.args.self.now) (settled 1 p) in
     let ended : work_of c.end_formula.new.self ≡ formula_ended w = c.in_ok-end_formula.ensures ∙ ap (λ q. formula_ended (record { pending = q; item = item_of c.args.self.now.item })) same in
-    subst (λ v. length v.pending.draft.items < 4294967295) (sym ended) (room_settled 1 (work_of c.args.self.now) c.requires.room).items
+    subst (λ v. length v.pending.draft.items < MOST_DRAFTED) (sym ended) (room_settled 1 (work_of c.args.self.now) c.requires.room).items

@@ -1,5 +1,5 @@
 -- What the tests of a dual find.
-use Rattle.std.specs.Prelude.{ℕ, ◌≡◌, ◌+◌, ℤ, false, List, Option, MatchOption, IsSomeAnd, length, take, slice_get}
+use Rattle.std.specs.Prelude.{ℕ, ◌≡◌, ◌+◌, ℤ, false, List, Option, Some, MatchOption, IsSomeAnd, length, take, slice_get}
 use Rattle.std.specs.List.{AllZip}
 use Rattle.ps_problem.specs.declared.bound.Bound.{Bound}
 use Rattle.ps_problem.specs.Problems.{Parts}
