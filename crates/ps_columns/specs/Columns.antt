@@ -6,22 +6,16 @@ use Rattle.ps_meaning.specs.Formula.{World}
 use Rattle.ps_formula.specs.declared.node.Node.{Node}
 use Rattle.ps_formula.specs.Nodes.{truths}
 use Rattle.ps_problem.specs.declared.bound.Bound.{Bound}
-use Rattle.ps_problem.specs.Rows.{indicator_of, given_indicator, row_over}
+use Rattle.ps_problem.specs.Rows.{indicator_of, given_indicator, row_over, turned}
 use Rattle.ps_table.specs.declared.home.Home.{Home}
 use Rattle.ps_table.specs.declared.home.Home.TheVariants.{Slack, Artificial}
 use Rattle.ps_bland.specs.declared.phase.Phase.{Phase}
 use Rattle.ps_bland.specs.declared.phase.Phase.TheVariants.{One, Lower, Upper}
 
 -- ---- columns of worlds
--- turned round at a lower bound
-abbrev pub turned_for : Side → ℤ → ℤ
-turned_for AtLeast z = neg_ℤ z
-turned_for AtMost z = z
-turned_for Exactly z = z
-
 -- a bound's entry in a world's column
 abbrev pub entry_over : List Bool → Bound → ℤ
-entry_over values b = turned_for b.side (row_over values b)
+entry_over values b = turned b.side (row_over values b)
 
 -- the column of a world: whether the evidence is true in it, and the entry of each bound's row
 abbrev pub column_over : List Bool → List Bound → Option ℕ → List ℤ

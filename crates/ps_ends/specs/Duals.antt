@@ -11,7 +11,7 @@ use Rattle.ps_bland.specs.Rules.{simplex_of}
 use Rattle.ps_claims.specs.declared.claim_kind.ClaimKind.{ClaimKind}
 use Rattle.ps_answer.specs.declared.answer.Dual.{Dual}
 use Rattle.ps_certificate.specs.Certificates.{dual_of}
-use Rattle.ps_runs.specs.Rows.{turned}
+use Rattle.ps_problem.specs.Rows.{turned}
 use Rattle.ps_runs.specs.Certificates.{table_dual, HaveSameNumbers}
 
 -- the whole numbers of the rows of bounds, turned round at lower bounds

@@ -5,7 +5,7 @@ ghost use Rattle.ps_table.specs.Tableau.{rows_of};
 ghost use Rattle.ps_table.specs.Pricing.{HasCosts};
 ghost use Rattle.ps_table.specs.Places.{IsRefusedAt, printed_limit};
 ghost use Rattle.ps_multiples.specs.Multiples.{DualPlaces};
-ghost use Rattle.ps_runs.specs.Rows.{turned};
+ghost use Rattle.ps_problem.specs.Rows.{turned};
 ghost use Rattle.ps_runs.specs.Certificates.{top_of, head_of};
 ghost use Rattle.ps_certificate.specs.Certificates.{IsMultiplier, IsSmallDual};
 ghost use Rattle.ps_ends.specs.Duals.{IsTableDual, signed_rows};

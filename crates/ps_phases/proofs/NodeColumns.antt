@@ -18,7 +18,7 @@ use Rattle.ps_claims.specs.declared.claim_kind.ClaimKind.{ClaimKind}
 use Rattle.ps_claims.specs.declared.claim_kind.ClaimKind.TheVariants.{Nothing, Lower, Upper}
 use Rattle.ps_columns.specs.Columns as over
 use Rattle.ps_problem.specs.Rows as rows
-use Rattle.ps_runs.specs.Rows.{Setting, turned, entry_in, entries_of, is_exact, artificial_rows, home_cost, world_cost, both_of}
+use Rattle.ps_runs.specs.Rows.{Setting, entry_in, entries_of, is_exact, artificial_rows, home_cost, world_cost, both_of}
 use Rattle.ps_runs.specs.Runs.{Subject, setting_of, asked_in, given_in, both_in, IsAsked}
 use Rattle.ps_phases.specs.Tables.{phase_of, home_of, homes_of, costs_for}
 
@@ -41,13 +41,8 @@ module _ (ns : List Node) (w : World) where
   row_is : (b : Bound) → IsBound ns b → rows.row_over (truths ns w) b ≡ row_value (bound_of ns b) w
   row_is b is = λ i. (pos b.den *ℤ (indicator_at b.both ∙ both_is b.formula b.given b.both is.nodes.both_is) i) -ℤ (pos b.num *ℤ given_is b.given i)
 
-  turned_is : (side : Side) (z : ℤ) → over.turned_for side z ≡ turned side z
-  turned_is AtLeast z = refl
-  turned_is AtMost z = refl
-  turned_is Exactly z = refl
-
   entry_is : (b : Bound) → IsBound ns b → over.entry_over (truths ns w) b ≡ entry_in w (bound_of ns b)
-  entry_is b is = turned_is b.side (rows.row_over (truths ns w) b) ∙ ap (turned b.side) (row_is b is)
+  entry_is b is = ap (rows.turned b.side) (row_is b is)
 
   entries_are : (bs : List Bound) → All (IsBound ns) bs → map (over.entry_over (truths ns w)) bs ≡ map (entry_in w) (map (bound_of ns) bs)
   entries_are [] are = refl

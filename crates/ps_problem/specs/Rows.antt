@@ -1,5 +1,7 @@
 -- What the row of a bound has in a world, by the truth values of nodes there.
-use Rattle.std.specs.Prelude.{ℕ, ◌<◌, ℤ, pos, ◌-ℤ◌, ◌*ℤ◌, Bool, true, if◌then◌else◌, List, length, slice_index_or, Option, Some, None, IfSome}
+use Rattle.std.specs.Prelude.{ℕ, ◌<◌, ℤ, pos, neg_ℤ, ◌-ℤ◌, ◌*ℤ◌, Bool, true, if◌then◌else◌, List, length, slice_index_or, Option, Some, None, IfSome}
+use Rattle.ps_meaning.specs.declared.side.Side.{Side}
+use Rattle.ps_meaning.specs.declared.side.Side.TheVariants.{AtLeast, AtMost, Exactly}
 use Rattle.ps_problem.specs.declared.bound.Bound.{Bound}
 
 -- the node is there
@@ -23,3 +25,9 @@ given_indicator truth (Some i) = indicator_of truth i
 -- the denominator where formula and condition are true, less the numerator where the condition is
 abbrev pub row_over : List Bool → Bound → ℤ
 row_over truth b = (pos b.den *ℤ indicator_of truth b.both) -ℤ (pos b.num *ℤ given_indicator truth b.given)
+
+-- a number of a bound's row, with the sign that leaves it at most 0 where the bound is met: turned round at a lower bound
+abbrev pub turned : Side → ℤ → ℤ
+turned AtLeast z = neg_ℤ z
+turned AtMost z = z
+turned Exactly z = z

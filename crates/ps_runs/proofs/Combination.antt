@@ -12,7 +12,8 @@ use Rattle.ps_meaning.specs.Bounds.{Bound}
 use Rattle.ps_meaning.specs.Rows.{indicator, row_value}
 use Rattle.ps_rule.specs.Rule.{SimplexTable}
 use Rattle.ps_rule.proofs.Combination.{combination_is, improves_from, improves_back}
-use Rattle.ps_runs.specs.Rows.{Setting, both_of, turned, entry_in, entries_of, rows_of, world_cost}
+use Rattle.ps_problem.specs.Rows.{turned}
+use Rattle.ps_runs.specs.Rows.{Setting, both_of, entry_in, entries_of, rows_of, world_cost}
 use Rattle.ps_runs.specs.Certificates.{signed, table_dual, multiple_of, whole_multiplier, price}
 use Rattle.ps_rational.proofs.Scaling.{scaled_is}
 use Rattle.ps_rational.proofs.Multiples.{lcm_to_positive, lcm_to_multiple}

@@ -21,7 +21,8 @@ use Rattle.ps_meaning.proofs.Rows.{weighted_sum-indicator, meets_row}
 use Rattle.ps_basis.specs.Table.{unit_at}
 use Rattle.ps_basis.proofs.Units.{less_one, unit_at-same, unit_at-other}
 use Rattle.ps_rule.specs.Rule.{SimplexTable, IsFeasible}
-use Rattle.ps_runs.specs.Rows.{Setting, turned, is_exact, entry_in, entries_of, artificial_rows, rows_of, table_of, IsTable}
+use Rattle.ps_problem.specs.Rows.{turned}
+use Rattle.ps_runs.specs.Rows.{Setting, is_exact, entry_in, entries_of, artificial_rows, rows_of, table_of, IsTable}
 use Rattle.ps_runs.specs.Certificates.{value_of, exceeds_zero, is_above, weight_multiple, entries_to, weighted_worlds}
 use Rattle.ps_runs.proofs.Lists.{get_map}
 use Rattle.ps_runs.proofs.Combination.{neg_out}

@@ -18,7 +18,8 @@ use Rattle.ps_basis.proofs.Pricing.{carried_is_priced}
 use Rattle.ps_basis.proofs.Units.{less_one}
 use Rattle.ps_rule.specs.Rule.{carried, IsResting}
 use Rattle.ps_rule.proofs.Combination.{resting_most}
-use Rattle.ps_runs.specs.Rows.{Setting, stage_of, turned, is_exact, entries_of, artificial_rows, rows_of, columns_of, width_of, cost_of, table_of, IsTable}
+use Rattle.ps_problem.specs.Rows.{turned}
+use Rattle.ps_runs.specs.Rows.{Setting, stage_of, is_exact, entries_of, artificial_rows, rows_of, columns_of, width_of, cost_of, table_of, IsTable}
 use Rattle.ps_runs.specs.Certificates.{signed, table_dual, multiple_of, whole_multiplier, price}
 use Rattle.ps_runs.proofs.Columns.{world_at, slack_cost}
 use Rattle.ps_rule.specs.Laws.{multipliers}

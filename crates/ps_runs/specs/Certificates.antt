@@ -14,7 +14,8 @@ use Rattle.ps_entailment.specs.Answers.{Model}
 use Rattle.ps_claims.specs.declared.claim_kind.ClaimKind.{ClaimKind}
 use Rattle.ps_claims.specs.declared.claim_kind.ClaimKind.TheVariants.{Nothing, Lower, Upper}
 use Rattle.ps_claims.specs.Duals.{Dual, combination}
-use Rattle.ps_runs.specs.Rows.{Setting, turned, rows_of, entries_of}
+use Rattle.ps_problem.specs.Rows.{turned}
+use Rattle.ps_runs.specs.Rows.{Setting, rows_of, entries_of}
 
 -- ---- duals
 -- the least common multiple of the multipliers' denominators

@@ -11,6 +11,7 @@ use Rattle.ps_rational.specs.Order.{IsNonneg}
 use Rattle.ps_basis.specs.Table.{unit_at, Stands}
 use Rattle.ps_rule.specs.Rule.{Phase, First, Second, SimplexTable}
 use Rattle.ps_rule.specs.Pivots.{System, simplex_table}
+use Rattle.ps_problem.specs.Rows.{turned}
 use Rattle.ps_entailment.specs.Queries.{Query}
 use Rattle.ps_claims.specs.declared.claim_kind.ClaimKind.{ClaimKind}
 use Rattle.ps_claims.specs.declared.claim_kind.ClaimKind.TheVariants.{Nothing, Lower, Upper}
@@ -32,12 +33,6 @@ stage_of Lower = Second
 stage_of Upper = Second
 
 -- ---- columns
--- a number of a bound's row, with the sign that leaves it at most 0 where the bound is met: turned round at a lower bound
-abbrev pub turned : Side → ℤ → ℤ
-turned AtLeast z = neg_ℤ z
-turned AtMost z = z
-turned Exactly z = z
-
 -- a bound's entry in a world's column
 abbrev pub entry_in : World → Bound → ℤ
 entry_in w b = turned b.side (row_value b w)
