@@ -10,7 +10,7 @@ use Rattle.ps_meaning.proofs.Integers.{mul-nonneg, mul_sub, mul-one}
 use Rattle.ps_meaning.proofs.Rows.{weighted_sum-add, weighted_sum-sub}
 use Rattle.ps_rational.specs.Rational.{Rational}
 use Rattle.ps_entailment.specs.Queries.{Query, IsImpossible, Holds}
-use Rattle.ps_claims.specs.Duals.{Dual, ClaimKind, Nothing, Lower, Upper, HaveSigns, kept_bounds, AreZeroElsewhere, sum_of_rows, claimed_in, combination, IsNeverAbove, HasNothingHead, HasValueHead}
+use Rattle.ps_claims.specs.Duals.{Dual, ClaimKind, Nothing, Lower, Upper, HaveSigns, kept_of, AreZeroElsewhere, sum_of_rows, claimed_in, combination, IsNeverAbove, HasNothingHead, HasValueHead}
 use Rattle.ps_entailment.proofs.Products.{ratio-least, ratio-most}
 use Rattle.ps_claims.proofs.Sums.{weighted_sum-rows, weighted_sum-kept, weighted_sum-times, weighted_sum-never_above}
 
@@ -37,7 +37,7 @@ shows_nothing atoms bounds q a signs head never = record {
 
 -- the bounds with a multiplier other than 0 allow nothing by themselves
 pub shows_nothing_kept : (atoms : ℕ) (kept : List Bool) (bounds : List Bound) (q : Query) (a : Dual) → HaveSigns bounds a.rows → AreZeroElsewhere kept a.rows → HasNothingHead a
-    → IsNeverAbove atoms (combination Nothing bounds q a) → IsImpossible atoms (kept_bounds kept bounds) q.evidence
+    → IsNeverAbove atoms (combination Nothing bounds q a) → IsImpossible atoms (kept_of kept bounds) q.evidence
 shows_nothing_kept atoms kept bounds q a signs zero head never = record {
   none = λ d h. nothing_weighs atoms bounds q a d h.model.distribution head never (weighted_sum-kept kept bounds a.rows d signs zero h.model.met) h.positive;
 }

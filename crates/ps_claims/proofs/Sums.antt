@@ -11,7 +11,7 @@ use Rattle.ps_meaning.specs.Rows.{indicator, row_value, weighted_sum}
 use Rattle.ps_meaning.proofs.Integers.{mul-nonneg, mul-zero}
 use Rattle.ps_meaning.proofs.Weights.{rest}
 use Rattle.ps_meaning.proofs.Rows.{weighted_sum-indicator, weighted_sum-add, weighted_sum-scale, weighted_sum-nonpos, meets_row}
-use Rattle.ps_claims.specs.Duals.{HasSign, HaveSigns, kept_bounds, AreZeroElsewhere, sum_of_rows, IsNeverAbove}
+use Rattle.ps_claims.specs.Duals.{HasSign, HaveSigns, kept_of, AreZeroElsewhere, sum_of_rows, IsNeverAbove}
 use Rattle.ps_entailment.proofs.Products.{mul-nonpos_nonpos}
 
 -- a number on its side of 0, times a multiplier that isn't of the wrong sign
@@ -40,13 +40,13 @@ weighted_sum-rows (b ∷ bs) (y ∷ ys) d signs met =
     rows-more b bs y ys d (row-met b y d signs.0 (met 0 b (omega arith))) (weighted_sum-rows bs ys d signs.1 (rest (λ x. MeetsBound x d) b bs met))
 
 -- it need meet only the bounds that are kept, where the others have multiplier 0
-pub weighted_sum-kept : (kept : List Bool) (bounds : List Bound) (ys : List ℤ) (d : List Entry) → HaveSigns bounds ys → AreZeroElsewhere kept ys → MeetsAll (kept_bounds kept bounds) d
+pub weighted_sum-kept : (kept : List Bool) (bounds : List Bound) (ys : List ℤ) (d : List Entry) → HaveSigns bounds ys → AreZeroElsewhere kept ys → MeetsAll (kept_of kept bounds) d
     → pos 0 ≤ℤ weighted_sum d (sum_of_rows bounds ys)
 weighted_sum-kept kept [] ys d signs zero met = rw (weighted_sum-none d) (omega (arith, ints))
 weighted_sum-kept kept (b ∷ bs) [] d signs zero met = absurd signs
 weighted_sum-kept [] (b ∷ bs) (y ∷ ys) d signs zero met = absurd zero
 weighted_sum-kept (true ∷ ks) (b ∷ bs) (y ∷ ys) d signs zero met =
-    rows-more b bs y ys d (row-met b y d signs.0 (met 0 b (omega arith))) (weighted_sum-kept ks bs ys d signs.1 zero.1 (rest (λ x. MeetsBound x d) b (kept_bounds ks bs) met))
+    rows-more b bs y ys d (row-met b y d signs.0 (met 0 b (omega arith))) (weighted_sum-kept ks bs ys d signs.1 zero.1 (rest (λ x. MeetsBound x d) b (kept_of ks bs) met))
 weighted_sum-kept (false ∷ ks) (b ∷ bs) (y ∷ ys) d signs zero met =
     let none : pos 0 ≤ℤ (y *ℤ weighted_sum d (row_value b)) = rw (zero.0 refl, zero-*ℤ (weighted_sum d (row_value b))) (omega (arith, ints)) in
     rows-more b bs y ys d none (weighted_sum-kept ks bs ys d signs.1 zero.1 met)

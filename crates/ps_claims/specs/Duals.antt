@@ -29,11 +29,11 @@ HasSign Exactly y = Unit {0}
 abbrev pub HaveSigns : List Bound → List ℤ → Type 0
 HaveSigns bounds ys = AllZip (λ b y. HasSign b.side y) bounds ys
 
--- the bounds that are kept, by a truth value for each
-abbrev pub kept_bounds : List Bool → List Bound → List Bound
-kept_bounds [] bs = []
-kept_bounds (k ∷ ks) [] = []
-kept_bounds (k ∷ ks) (b ∷ bs) = if k then b ∷ kept_bounds ks bs else kept_bounds ks bs
+-- the items that are kept, by a truth value for each
+abbrev pub kept_of : {T : Type 0} → List Bool → List T → List T
+kept_of [] xs = []
+kept_of (k ∷ ks) [] = []
+kept_of (k ∷ ks) (x ∷ xs) = if k then x ∷ kept_of ks xs else kept_of ks xs
 
 -- a bound that isn't kept has multiplier 0
 abbrev pub AreZeroElsewhere : List Bool → List ℤ → Type 0

@@ -10,7 +10,7 @@ use Rattle.ps_steps.specs.Constraints.{IsMet}
 use Rattle.ps_forms.specs.Extensions.{extension}
 use Rattle.ps_entailment.specs.Queries.{Query, IsImpossible, Holds}
 use Rattle.ps_entailment.specs.Answers.{Answer}
-use Rattle.ps_claims.specs.Duals.{Dual, ClaimKind, Nothing, Lower, Upper, HaveSigns, kept_bounds, AreZeroElsewhere, combination, IsNeverAbove, HasNothingHead, HasValueHead}
+use Rattle.ps_claims.specs.Duals.{Dual, ClaimKind, Nothing, Lower, Upper, HaveSigns, kept_of, AreZeroElsewhere, combination, IsNeverAbove, HasNothingHead, HasValueHead}
 use Rattle.ps_claims.specs.Goals.{Combination, value_under, size_of, combination_of, goal_of}
 use Rattle.ps_claims.specs.Faults.{DualFault, IsFaultless, IsFirstFault}
 use Rattle.ps_claims.specs.Claims.{claims_of, HasParts, AreValid, HaveWeightsNotBelow0, Place, Fault, IsRefused}
@@ -24,7 +24,7 @@ DualsExcludeAll = (atoms : ℕ) (bounds : List Bound) (q : Query) (d : Dual) →
 -- it shows so of those bounds alone whose multiplier isn't 0
 abbrev pub KeptBoundsExcludeAll : Type 0
 KeptBoundsExcludeAll = (atoms : ℕ) (kept : List Bool) (bounds : List Bound) (q : Query) (d : Dual) → HaveSigns bounds d.rows → AreZeroElsewhere kept d.rows
-    → HasNothingHead d → IsNeverAbove atoms (combination Nothing bounds q d) → IsImpossible atoms (kept_bounds kept bounds) q.evidence
+    → HasNothingHead d → IsNeverAbove atoms (combination Nothing bounds q d) → IsImpossible atoms (kept_of kept bounds) q.evidence
 
 -- a dual whose head over its top is the value shows that the query's probability is at least the value
 abbrev pub DualsBoundBelow : Type 0

@@ -1,15 +1,10 @@
 -- Runs over some of a problem's sentences: a run over them is one of the problem that has them alone.
-use Rattle.std.specs.Prelude.{◌≡◌, ℕ, Bool, true, if◌then◌else◌, Option, Some, None, List, [], ◌∷◌, length, All}
+use Rattle.std.specs.Prelude.{◌≡◌, ℕ, Bool, true, Option, Some, None, List, [], ◌∷◌, length, All}
 use Rattle.ps_problem.specs.declared.bound.Bound.{Bound}
 use Rattle.ps_problem.specs.declared.sentence.Sentence.{Sentence}
 use Rattle.ps_problem.specs.Problems.{Parts, parts_of}
 use Rattle.ps_claims.specs.Duals.{Dual}
-
--- the items that are kept, by a truth value for each
-abbrev pub kept_of : {T : Type 0} → List Bool → List T → List T
-kept_of [] xs = []
-kept_of (k ∷ ks) [] = []
-kept_of (k ∷ ks) (x ∷ xs) = if k then x ∷ kept_of ks xs else kept_of ks xs
+pub use Rattle.ps_claims.specs.Duals.{kept_of}
 
 -- whether each bound is kept, by a truth value for each sentence: an interval has two bounds
 abbrev pub flags_of : List Bool → List Sentence → List Bool
