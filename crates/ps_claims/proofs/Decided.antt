@@ -13,17 +13,17 @@ use Rattle.ps_meaning.specs.Formula.{World, And}
 use Rattle.ps_meaning.specs.Distribution.{Entry, weight, total}
 use Rattle.ps_meaning.specs.declared.side.Side.{Side}
 use Rattle.ps_meaning.specs.declared.side.Side.TheVariants.{AtLeast, AtMost, Exactly}
-use Rattle.ps_meaning.specs.Bounds.{Bound, Compares, MeetsBound, MeetsAll, IsModelOf}
+use Rattle.ps_meaning.specs.Bounds.{Bound, Compares, MeetsBound, MeetsAll}
 use Rattle.ps_problem.specs.declared.query.Query as stored
 use Rattle.ps_problem.specs.Problems.{Parts, bounds_of, given_at}
 use Rattle.ps_rational.specs.Rational.{Rational}
 use Rattle.ps_entailment.specs.Queries.{bound_on}
-use Rattle.ps_entailment.specs.Answers.{Model, Answer, IsBasicModel, asked_under}
+use Rattle.ps_entailment.specs.Answers.{Model, Answer, ShowsConsistent, asked_under}
 use Rattle.ps_claims.specs.Duals.{Dual, ClaimKind, Nothing}
 use Rattle.ps_claims.specs.Faults.{IsFaultless}
 use Rattle.ps_claims.specs.Validity.{query_of, IsValid}
 use Rattle.ps_claims.proofs.Claims.{claims-valid}
-use Rattle.ps_claims.specs.Claims.{Place, AtReport, Claim, Placed, claims_of, AreValid, HaveWeightsNotBelow0, IsRefused, Modelled, Excluded, Bounded, IsValidClaim, Fault, WrongShape, TooManyWorlds, TotalWrong, EvidenceZero, ValueMissed, WeightZero, WorldTwice, BoundMissed, DualWrong, model_of, dual_of, HasShape, AreProperEntries, IsWeightless, IsRepeated, MissesFirst, AreFew, HasTotal, HasEvidence, HasValue, IsModelRight, OfModel, IsFirstIn}
+use Rattle.ps_claims.specs.Claims.{Place, AtReport, Claim, Placed, claims_of, AreValid, HaveWeightsNotBelow0, IsRefused, Modelled, Excluded, Bounded, IsValidClaim, Fault, WrongShape, TooManyWorlds, TotalWrong, EvidenceZero, ValueMissed, WeightZero, WorldTwice, BoundMissed, DualWrong, model_of, dual_of, HasShape, AreProperEntries, IsWeightless, IsRepeated, MissesFirst, AreFew, HasTotal, IsSound, HasEvidence, HasValue, IsModelRight, OfModel, IsFirstIn}
 use Rattle.ps_claims.proofs.Faults.{int_equal_cases, least_cases, fault_cases}
 
 nat_equal_cases : (m n : ℕ) → (m ≡ n) ⊎ ¬ (m ≡ n)
@@ -139,14 +139,7 @@ total_cases m = elim (int_equal_cases m.total (pos 0)) [
 few_cases : (p : Parts) (m : Model) → AreFew p m ⊎ ¬ AreFew p m
 few_cases p m = elim (cases_lt (length (bounds_of p) + 1) (length m.worlds)) [ inl many ↦ inr (λ few. omega (arith, many, few)) | inr few ↦ inl few ]
 
--- nothing is wrong with the worlds, the total and the bounds
-record IsGood (p : Parts) (m : Model) : Type 0 where
-  few : AreFew p m
-  order : AreProperEntries m.worlds
-  total : HasTotal m
-  met : MeetsAll (bounds_of p) m.worlds
-
-model_cases : (p : Parts) (c : Claim) (m : Model) → HasShape p c → ((P : Model → Type 0) → P m → OfModel c P) → IsGood p m ⊎ ((f : Fault) × IsFirstIn p c f)
+model_cases : (p : Parts) (c : Claim) (m : Model) → HasShape p c → ((P : Model → Type 0) → P m → OfModel c P) → IsSound p m ⊎ ((f : Fault) × IsFirstIn p c f)
 model_cases p c m shape of = elim (few_cases p m) [
   | inr many ↦ inr (TooManyWorlds, (shape, of (λ n. ¬ AreFew p n) many))
   | inl few ↦ elim (order_cases m.worlds) [
@@ -173,20 +166,21 @@ some_entry : (d : List Entry) (z : ℤ) → z ≢ pos 0 → z ≡ total d → 0 
 some_entry [] z some sum = absurd (some sum)
 some_entry (e ∷ d) z some sum = omega arith
 
--- a model with which nothing is wrong, and no weight of which is below 0, is one of the bounds
-good-model : (p : Parts) (m : Model) → All (λ e. length e.world ≡ length p.names) m.worlds → All (λ e. pos 0 ≤ℤ e.weight) m.worlds → IsGood p m → IsModelOf (length p.names) (bounds_of p) m.worlds
-good-model p m shape low good = record {
-  distribution = record {
-    some = some_entry m.worlds m.total good.total.0 good.total.1;
-    worlds = shape;
-    weighed = λ k e lt. at_least_one (get_or m.worlds k e).weight (good.order.weighed k e lt) (low k e lt);
-    different = good.order.different;
+-- where no weight is below 0, a sound model is a small distribution that meets each bound
+pub sound-shows : (p : Parts) (m : Model) → All (λ e. length e.world ≡ length p.names) m.worlds → All (λ e. pos 0 ≤ℤ e.weight) m.worlds → IsSound p m
+    → ShowsConsistent (length p.names) (bounds_of p) m
+sound-shows p m shape low sound = record {
+  model = record {
+    distribution = record {
+      some = some_entry m.worlds m.total sound.total.0 sound.total.1;
+      worlds = shape;
+      weighed = λ k e lt. at_least_one (get_or m.worlds k e).weight (sound.order.weighed k e lt) (low k e lt);
+      different = sound.order.different;
+    };
+    met = sound.met;
   };
-  met = good.met;
+  small = record { few = sound.few; total = sound.total.1 };
 }
-
-good-small : (p : Parts) (m : Model) → IsGood p m → IsBasicModel (bounds_of p) m
-good-small p m good = record { few = good.few; total = good.total.1 }
 
 evidence_cases : (p : Parts) (m : Model) (given : Option ℕ) → (weight m.worlds (given_at p.nodes given) ≢ pos 0) ⊎ ¬ (weight m.worlds (given_at p.nodes given) ≢ pos 0)
 evidence_cases p m given = elim (int_equal_cases (weight m.worlds (given_at p.nodes given)) (pos 0)) [ inl nothing ↦ inr (λ h. h nothing) | inr some ↦ inl some ]
@@ -196,7 +190,7 @@ modelled_cases p m low = elim (shape_cases p (Modelled m)) [
   | inr bad ↦ inr (WrongShape, bad)
   | inl shape ↦ elim (model_cases p (Modelled m) m shape (λ P h. h)) [
     | inr fault ↦ inr fault
-    | inl good ↦ inl (record { model = good-model p m shape.worlds low good; small = good-small p m good })
+    | inl good ↦ inl (sound-shows p m shape.worlds low good)
   ]
 ]
 
@@ -209,7 +203,7 @@ excluded_cases p given d = elim (shape_cases p (Excluded given d)) [
   ]
 ]
 
-bounded-model : (p : Parts) (kind : ClaimKind) (q : stored.Query) (value : Rational) (m : Model) (d : Dual) → HasShape p (Bounded kind q value m d) → IsGood p m
+bounded-model : (p : Parts) (kind : ClaimKind) (q : stored.Query) (value : Rational) (m : Model) (d : Dual) → HasShape p (Bounded kind q value m d) → IsSound p m
     → HasEvidence p (Bounded kind q value m d) → HasValue p (Bounded kind q value m d) → IsModelRight p (Bounded kind q value m d)
 bounded-model p kind q value m d shape good evidence is = record {
   shape = shape;
@@ -221,14 +215,15 @@ bounded-model p kind q value m d shape good evidence is = record {
   value = is;
 }
 
-bounded-valid : (p : Parts) (kind : ClaimKind) (q : stored.Query) (value : Rational) (m : Model) (d : Dual) → All (λ e. pos 0 ≤ℤ e.weight) m.worlds → HasShape p (Bounded kind q value m d) → IsGood p m
+-- a bound with such a model and a faultless dual is valid
+pub bounded-valid : (p : Parts) (kind : ClaimKind) (q : stored.Query) (value : Rational) (m : Model) (d : Dual) → All (λ e. pos 0 ≤ℤ e.weight) m.worlds → HasShape p (Bounded kind q value m d) → IsSound p m
     → HasEvidence p (Bounded kind q value m d) → HasValue p (Bounded kind q value m d) → IsFaultless p kind q.given q.both (Some value) d → IsValidClaim p (Bounded kind q value m d)
 bounded-valid p kind q value m d low shape good evidence is right =
-    let model = good-model p m shape.worlds low good in
-    let least = weight-nonneg m.worlds (given_at p.nodes q.given) model.distribution.weighed in
+    let shown = sound-shows p m shape.worlds low good in
+    let least = weight-nonneg m.worlds (given_at p.nodes q.given) shown.model.distribution.weighed in
     record {
-      reached = record { allowed = record { model = model; positive = at_least_one (weight m.worlds (given_at p.nodes q.given)) evidence least }; equal = is };
-      small = good-small p m good;
+      reached = record { allowed = record { model = shown.model; positive = at_least_one (weight m.worlds (given_at p.nodes q.given)) evidence least }; equal = is };
+      small = shown.small;
       head = right.head;
       refuted = right.refuted;
     }

@@ -129,6 +129,13 @@ AreFew p m = length m.worlds ≤ length (bounds_of p) + 1
 abbrev pub HasTotal : Model → Type 0
 HasTotal m = (m.total ≢ pos 0) × (m.total ≡ total m.worlds)
 
+-- nothing is wrong with a model whose worlds have the problem's atoms
+pub record IsSound (p : Parts) (m : Model) : Type 0 where
+  pub few : AreFew p m
+  pub order : AreProperEntries m.worlds
+  pub total : HasTotal m
+  pub met : MeetsAll (bounds_of p) m.worlds
+
 -- where a value is claimed, the evidence weighs something in its model
 abbrev pub HasEvidence : Parts → Claim → Type 0
 HasEvidence p (Bounded kind q value m d) = weight m.worlds (given_at p.nodes q.given) ≢ pos 0

@@ -21,14 +21,15 @@ use Rattle.ps_claims.specs.Duals.{Dual}
 use Rattle.ps_claims.specs.Faults.{IsFaultless}
 use Rattle.ps_claims.specs.Validity.{query_of, ShowsTight}
 use Rattle.ps_claims.specs.Claims as claims
-use Rattle.ps_claims.specs.Claims.{Claim, Bounded, HasShape, IsModelRight, IsFirstIn}
+use Rattle.ps_claims.specs.Claims.{Claim, Bounded, HasShape, IsModelRight, IsFirstIn, IsSound}
+use Rattle.ps_claims.proofs.Decided.{bounded-valid}
 use Rattle.ps_valid.specs.declared.refusal.Reason.{Reason}
 use Rattle.ps_valid.specs.declared.refusal.Reason.TheVariants.{WrongShape, EvidenceZero, ValueMissed}
 use Rattle.ps_valid.specs.Judged.{fault_of, FindsReason}
 use Rattle.ps_valid.specs.Rows.{over_nodes}
 use Rattle.ps_valid.specs.DualTests.{IsFirstOfDual, FindsInDual}
-use Rattle.ps_valid.specs.Tests.{HaveShape, IsSound, IsFirstAgainst, evidence_weight, GivesValue}
-use Rattle.ps_valid.proofs.ModelFaults.{at_least_one, shows, first_in_model}
+use Rattle.ps_valid.specs.Tests.{HaveShape, IsFirstAgainst, evidence_weight, GivesValue}
+use Rattle.ps_valid.proofs.ModelFaults.{first_in_model}
 use Rattle.ps_valid.proofs.Tables.{weight-node, weight-both}
 
 -- a value over the evidence's weight, by the truth of each node
@@ -78,20 +79,7 @@ module _ (p : Parts) (kind : ClaimKind) (q : Query) (value : Rational) (m : clai
   first_bounded (claims.DualWrong g) right h = (right, h)
 
   tight : All (λ e. pos 0 ≤ℤ e.weight) m.worlds → IsModelRight p claim → IsFaultless p kind q.given q.both (Some value) d → IsSound p m → ShowsTight p kind q value m d
-  tight low right faultless sound =
-      let shown : ShowsConsistent (length p.names) (bounds_of p) m = shows p m low right.shape.worlds sound in
-      record {
-        reached = record {
-          allowed = record {
-            model = shown.model;
-            positive = at_least_one (evidence_weight p q m) right.evidence (weight-nonneg m.worlds (given_at p.nodes q.given) shown.model.distribution.weighed);
-          };
-          equal = right.value;
-        };
-        small = shown.small;
-        head = faultless.head;
-        refuted = faultless.refuted;
-      }
+  tight low right faultless sound = bounded-valid p kind q value m d low right.shape sound right.evidence right.value faultless
 
   -- what is found against the dual of a bound whose model is right is found against its claim
   pub judged_bound : (found : Option Reason) → All (λ e. pos 0 ≤ℤ e.weight) m.worlds → HaveShape (length p.names) m.worlds → length d.rows ≡ length (bounds_in p.sentences) → IsSound p m

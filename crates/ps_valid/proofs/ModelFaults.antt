@@ -11,38 +11,15 @@ use Rattle.ps_answer.specs.declared.answer.Model.{Model}
 use Rattle.ps_entailment.specs.Answers as claimed
 use Rattle.ps_entailment.specs.Answers.{ShowsConsistent}
 use Rattle.ps_claims.specs.Claims as claims
-use Rattle.ps_claims.specs.Claims.{Claim, Modelled, HasShape, AreFew, IsFirstIn, model_of as claim_model}
+use Rattle.ps_claims.specs.Claims.{Claim, Modelled, HasShape, AreFew, IsSound, IsFirstIn, model_of as claim_model}
+use Rattle.ps_claims.proofs.Decided.{sound-shows}
 use Rattle.ps_valid.specs.declared.refusal.Reason.{Reason}
 use Rattle.ps_valid.specs.declared.refusal.Reason.TheVariants.{WrongShape, TooManyWorlds, WeightZero, WorldTwice, TotalWrong, BoundMissed, EvidenceZero, ValueMissed, HeadWrong, MultiplierSign, StepRefused, NotRefuted}
 use Rattle.ps_valid.specs.Answers.{entry_of, entries, model_of}
 use Rattle.ps_valid.specs.Judged.{fault_of, FindsReason}
 use Rattle.ps_valid.specs.Limits.{IsSmallModel}
-use Rattle.ps_valid.specs.Tests.{HaveShape, IsFirstAmong, IsSound, IsFirstAgainst, FindsAgainst}
+use Rattle.ps_valid.specs.Tests.{HaveShape, IsFirstAmong, IsFirstAgainst, FindsAgainst}
 use Rattle.ps_valid.proofs.Order.{any_entry, each_entry}
-
-pub at_least_one : (z : ℤ) → z ≢ pos 0 → pos 0 ≤ℤ z → pos 1 ≤ℤ z
-at_least_one (pos zero) n low = absurd (n refl)
-at_least_one (pos (suc k)) n low = omega (arith, ints)
-at_least_one (negsuc k) n low = absurd (omega (arith, ints))
-
-some_entry : (d : List Entry) (z : ℤ) → z ≢ pos 0 → z ≡ total d → 0 < length d
-some_entry [] z some sum = absurd (some sum)
-some_entry (e ∷ d) z some sum = omega arith
-
--- where no weight is below 0, a sound model is a small distribution that meets each bound
-pub shows : (p : Parts) (m : claimed.Model) → All (λ e. pos 0 ≤ℤ e.weight) m.worlds → HaveShape (length p.names) m.worlds → IsSound p m → ShowsConsistent (length p.names) (bounds_of p) m
-shows p m low shape sound = record {
-  model = record {
-    distribution = record {
-      some = some_entry m.worlds m.total sound.total.0 sound.total.1;
-      worlds = shape;
-      weighed = λ k e lt. at_least_one (get_or m.worlds k e).weight (sound.order.weighed k e lt) (low k e lt);
-      different = sound.order.different;
-    };
-    met = sound.met;
-  };
-  small = record { few = sound.few; total = sound.total.1 };
-}
 
 pub low_weights : (m : Model) → IsSmallModel m → All (λ e. pos 0 ≤ℤ e.weight) (entries m.worlds)
 low_weights m small = All-map (λ e. pos 0 ≤ℤ e.weight) entry_of m.worlds (λ k w lt. (small.worlds.weights k w lt).low)
@@ -68,7 +45,7 @@ first_in_model p c m NotRefuted is shape f = absurd f
 -- what is found against a model whose worlds have the problem's atoms is found against its claim
 pub judged_model : (p : Parts) (m : Model) (found : Option Reason) → IsSmallModel m → HaveShape (length p.names) (entries m.worlds) → FindsAgainst p (model_of m) found
     → FindsReason p (Modelled (model_of m)) found
-judged_model p m None small shape sound = shows p (model_of m) (low_weights m small) shape sound
+judged_model p m None small shape sound = sound-shows p (model_of m) shape (low_weights m small) sound
 judged_model p m (Some r) small shape f = first_in_model p (Modelled (model_of m)) (model_of m) r refl (model_shape p (model_of m) shape) f
 
 stable : (m n : ℕ) → ¬ (m ≢ n) → m ≡ n

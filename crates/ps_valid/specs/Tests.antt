@@ -10,7 +10,7 @@ use Rattle.ps_rational.specs.Rational.{Rational}
 use Rattle.ps_entailment.specs.Queries.{bound_on}
 use Rattle.ps_entailment.specs.Answers.{Model}
 use Rattle.ps_claims.specs.Validity.{query_of}
-use Rattle.ps_claims.specs.Claims.{AreProperEntries, IsWeightless, IsRepeated, MissesFirst, AreFew, HasTotal}
+use Rattle.ps_claims.specs.Claims.{AreProperEntries, IsWeightless, IsRepeated, MissesFirst, AreFew, HasTotal, IsSound}
 use Rattle.ps_valid.specs.declared.refusal.Reason.{Reason}
 use Rattle.ps_valid.specs.declared.refusal.Reason.TheVariants.{TooManyWorlds, WeightZero, WorldTwice, TotalWrong, BoundMissed}
 use Rattle.ps_valid.specs.Rows.{MeetsAt, MissesFirstAt}
@@ -40,13 +40,6 @@ FindsMissedAt d bounds found = MatchOption found (All (MeetsAt d) bounds) (Misse
 -- the bound is the problem's first that the entries miss, and there is none where they meet all
 abbrev pub FindsMissed : Parts → List Entry → Option ℕ → Type 0
 FindsMissed p d found = MatchOption found (MeetsAll (bounds_of p) d) (MissesFirst (bounds_of p) d)
-
--- nothing is wrong with a model whose worlds have the problem's atoms
-pub record IsSound (p : Parts) (m : Model) : Type 0 where
-  pub few : AreFew p m
-  pub order : AreProperEntries m.worlds
-  pub total : HasTotal m
-  pub met : MeetsAll (bounds_of p) m.worlds
 
 -- the reason is the first against such a model
 abbrev pub IsFirstAgainst : Parts → Model → Reason → Type 0
