@@ -1,5 +1,5 @@
 -- The weights of worlds' columns.
-use Rattle.std.proofs.Common.{◌≡◌, ◌≢◌, ℕ, zero, suc, ◌+◌, ◌-◌, ◌*◌, ◌/◌, ◌^◌, ◌<◌, ◌≤◌, unsigned_abs, to_z, of_z, ℤ, pos, negsuc, ◌*ℤ◌, ◌<ℤ◌, ◌≤ℤ◌, ltb, Bool, true, false, cond, eqb, eq-eqb, ne_eqb, List, [], ◌∷◌, ◌++◌, map, get_or, refl, sym, ap, ◌∙◌, subst, arith}
+use Rattle.std.proofs.Common.{◌≡◌, ◌≢◌, ℕ, zero, suc, ◌+◌, ◌-◌, ◌*◌, ◌/◌, ◌^◌, ◌<◌, ◌≤◌, unsigned_abs, to_z, of_z, ℤ, pos, negsuc, ◌*ℤ◌, ◌<ℤ◌, ◌≤ℤ◌, ltb, Bool, true, false, cond, eqb, List, [], ◌∷◌, ◌++◌, map, get_or, refl, sym, ap, ◌∙◌, subst, arith}
 use Rattle.std.proofs.lemmas.Int.{ints, to_z-of_z, fits_signed_from_abs}
 use Rattle.std.proofs.lemmas.Bool.{lt-ltb}
 use Rattle.std.proofs.lemmas.List.{map-append}
@@ -23,14 +23,9 @@ use Rattle.ps_answer.specs.declared.answer.Weighted.{Weighted}
 use Rattle.ps_multiples.specs.declared.weights.Weights.{Weights}
 use Rattle.ps_multiples.specs.Multiples.{weight_multiple_of, weight_of, AreWeights}
 use Rattle.ps_runs.specs.Certificates.{value_of, exceeds_zero, is_above, entry_for, entries_to}
+use Rattle.ps_runs.proofs.BasicSolution.{part_here, part_apart}
 use Rattle.ps_ends.specs.Models.{AreApart, IsBasicIn, column_value, column_weight, weighed}
 use Rattle.ps_phases.specs.Answers.{entry_of}
-
-part_here : (b j : ℕ) (x : Rational) → b ≡ j → cond (eqb b j) x zero_q ≡ x
-part_here b j x e = ap (λ c. cond c x zero_q) (eq-eqb b j e)
-
-part_apart : (b j : ℕ) (x : Rational) → b ≢ j → cond (eqb b j) x zero_q ≡ zero_q
-part_apart b j x ne = ap (λ c. cond c x zero_q) (ne_eqb b j ne)
 
 unit_part : (b : Bool) (x : Rational) → cond b x zero_q ≡ mul x (cond b one_q zero_q)
 unit_part true x = ring_q (x ∷ []) (var 0) (by (var 0) unit) refl

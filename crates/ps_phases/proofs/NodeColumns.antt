@@ -21,6 +21,7 @@ use Rattle.ps_problem.specs.Rows as rows
 use Rattle.ps_runs.specs.Rows.{Setting, entry_in, entries_of, is_exact, artificial_rows, home_cost, world_cost, both_of}
 use Rattle.ps_runs.specs.Runs.{Subject, setting_of, asked_in, given_in, both_in, IsAsked}
 use Rattle.ps_phases.specs.Tables.{phase_of, home_of, homes_of, costs_for}
+use Rattle.ps_phases.proofs.Ready.{lower_apart, upper_apart}
 
 module _ (ns : List Node) (w : World) where
   indicator_at : (i : ℕ) → rows.indicator_of (truths ns w) i ≡ indicator (tree_at ns i) w
@@ -82,11 +83,6 @@ home_costs_are : (kind : ClaimKind) (bs : List Bool) → map (over.home_cost (ph
 home_costs_are kind [] = refl
 home_costs_are kind (b ∷ bs) = λ i. home_cost_is kind b i ∷ home_costs_are kind bs i
 
-abbrev is_first : ClaimKind → Type 0
-is_first Nothing = Unit {0}
-is_first Lower = ⊥
-is_first Upper = ⊥
-
 query_is : (p : Parts) (q : stored.Query) (w : World) → IsBoth p.nodes q.formula q.given q.both
     → rows.indicator_of (truths p.nodes w) q.both ≡ indicator (both_of (setting_of (record { parts = p; query = Some q }))) w
 query_is p q w both = indicator_at p.nodes w q.both ∙ both_is p.nodes w q.formula q.given q.both both
@@ -94,8 +90,8 @@ query_is p q w both = indicator_at p.nodes w q.both ∙ both_is p.nodes w q.form
 world_cost_is : (kind : ClaimKind) (p : Parts) (q : Option stored.Query) (w : World) → IsAsked kind p q
     → over.cost_over (phase_of kind) (both_in q) (truths p.nodes w) ≡ world_cost kind (setting_of (record { parts = p; query = q })) w
 world_cost_is Nothing p q w asked = refl
-world_cost_is Lower p None w asked = absurd (subst is_first (sym asked) tt)
-world_cost_is Upper p None w asked = absurd (subst is_first (sym asked) tt)
+world_cost_is Lower p None w asked = absurd (lower_apart asked)
+world_cost_is Upper p None w asked = absurd (upper_apart asked)
 world_cost_is Lower p (Some q) w has = query_is p q w has.both_is
 world_cost_is Upper p (Some q) w has = ap neg_ℤ (query_is p q w has.both_is)
 

@@ -24,10 +24,11 @@ is_first Nothing = Unit {0}
 is_first Lower = ⊥
 is_first Upper = ⊥
 
-lower_apart : Lower ≡ Nothing → ⊥
+-- the sides aren't phase one
+pub lower_apart : Lower ≡ Nothing → ⊥
 lower_apart e = subst is_first (sym e) tt
 
-upper_apart : Upper ≡ Nothing → ⊥
+pub upper_apart : Upper ≡ Nothing → ⊥
 upper_apart e = subst is_first (sym e) tt
 
 abbrev Narrow : ℤ → Type 0

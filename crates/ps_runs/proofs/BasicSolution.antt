@@ -38,10 +38,11 @@ find_row (suc n) basic j =
           ]
     ]
 
-part_here : (b j : ℕ) (x : Rational) → b ≡ j → cond (eqb b j) x zero_q ≡ x
+-- what a row gives to the value of a column: its number where the column is basic in it, else nothing
+pub part_here : (b j : ℕ) (x : Rational) → b ≡ j → cond (eqb b j) x zero_q ≡ x
 part_here b j x e = ap (λ c. cond c x zero_q) (eq-eqb b j e)
 
-part_apart : (b j : ℕ) (x : Rational) → b ≢ j → cond (eqb b j) x zero_q ≡ zero_q
+pub part_apart : (b j : ℕ) (x : Rational) → b ≢ j → cond (eqb b j) x zero_q ≡ zero_q
 part_apart b j x ne = ap (λ c. cond c x zero_q) (ne_eqb b j ne)
 
 -- a sum over rows by basic columns is a sum over all columns

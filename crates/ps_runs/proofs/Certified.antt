@@ -3,15 +3,8 @@ use Rattle.std.proofs.Common.{◌≡◌, ℕ, ℤ, pos, ◌≤ℤ◌, neg_ℤ, B
 use Rattle.ps_meaning.specs.Formula.{World}
 use Rattle.ps_rational.specs.Rational.{Rational}
 use Rattle.ps_rule.specs.Rule.{IsFeasible, IsResting}
-use Rattle.ps_formula.specs.declared.node.Node.{Node}
-use Rattle.ps_formula.specs.Nodes.{AreNodes}
-use Rattle.ps_formula.proofs.Trees.{length-truths}
-use Rattle.ps_forms.specs.Clauses.{clause_form}
 use Rattle.ps_forms.specs.Forms.{form_of, first_known, MeetsForm}
 use Rattle.ps_forms.specs.Extensions.{extension}
-use Rattle.ps_forms.proofs.Idle.{clauses-form}
-use Rattle.ps_forms.proofs.Extends.{extension-met}
-use Rattle.ps_forms.proofs.Worlds.{extension-agrees}
 use Rattle.ps_steps.specs.Steps.{Refutes}
 use Rattle.ps_problem.specs.declared.query.Query as stored
 use Rattle.ps_problem.specs.declared.bound.Bound.{Bound}
@@ -23,6 +16,7 @@ use Rattle.ps_claims.specs.Duals.{Dual, combination, HaveSigns}
 use Rattle.ps_claims.specs.Goals.{value_under, plus, at_node, at_condition, rows_times, claimed_of, combination_of, goal_of}
 use Rattle.ps_claims.specs.Validity.{IsRefuted, ShowsNothing}
 use Rattle.ps_claims.proofs.NodeSums.{value-nothing, value-claimed, value-combination}
+use Rattle.ps_claims.proofs.Refutations.{extension-meets}
 use Rattle.ps_runs.specs.Rows.{stage_of, IsTable}
 use Rattle.ps_runs.specs.Certificates.{table_model, HaveSameNumbers}
 use Rattle.ps_runs.specs.Runs.{Subject, setting_of, asked_in, given_in, both_in, IsAsked, atoms_of, combination_over, goal_at_least, Stage, IsPool, table_at, costs_at, dual_at, AreAtMost}
@@ -42,15 +36,12 @@ pub value_of_gain : (kind : ClaimKind) (s : Subject) (d : Dual) (w : World) → 
     → value_under (extension s.parts.nodes w) (combination_over kind s d) ≡ combination kind (setting_of s).bounds (setting_of s).query d w
 value_of_gain kind s d w are asked = value_is kind s.parts s.query d w are asked
 
-extension_meets : (ns : List Node) (w : World) → AreNodes ns → MeetsForm (extension ns w) (form_of ns)
-extension_meets ns w are = clauses-form (extension ns w) (clause_form ns) (extension-met ns (extension ns w) w are (length-truths ns w) (extension-agrees ns w are) refl)
-
 -- what no assignment that meets the form is above, no world is above
 pub most_of_gains : (kind : ClaimKind) (s : Subject) (g : Stage) (X : ℕ → ℕ → Rational) (most : ℤ) → AreParts s.parts → IsAsked kind s.parts s.query
     → ((v : List Bool) → MeetsForm v (form_of s.parts.nodes) → value_under v (combination_over kind s (dual_at kind s g X)) ≤ℤ most)
     → AreAtMost kind s g X most
 most_of_gains kind s g X most are asked h = record {
-  at = λ w long. subst (λ z. z ≤ℤ most) (value_of_gain kind s (dual_at kind s g X) w are asked) (h (extension s.parts.nodes w) (extension_meets s.parts.nodes w are.nodes));
+  at = λ w long. subst (λ z. z ≤ℤ most) (value_of_gain kind s (dual_at kind s g X) w are asked) (h (extension s.parts.nodes w) (extension-meets s.parts.nodes w are.nodes));
 }
 
 -- ---- claims

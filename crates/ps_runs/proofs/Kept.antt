@@ -24,7 +24,7 @@ use Rattle.ps_claims.specs.declared.claim_kind.ClaimKind.{ClaimKind}
 use Rattle.ps_claims.specs.declared.claim_kind.ClaimKind.TheVariants.{Nothing, Lower, Upper}
 use Rattle.ps_claims.specs.Duals.{Dual, HasSign, HaveSigns, AreZeroElsewhere}
 use Rattle.ps_claims.specs.declared.combination.Combination.{Combination}
-use Rattle.ps_claims.specs.Goals.{plus, at_node, at_condition, row_times, rows_times, claimed_of, combination_of, goal_of}
+use Rattle.ps_claims.specs.Goals.{nothing, plus, at_node, at_condition, row_times, rows_times, claimed_of, combination_of, goal_of}
 use Rattle.ps_claims.specs.Validity.{IsRefuted}
 use Rattle.ps_runs.specs.Kept.{kept_of, flags_of, kept_parts, kept_dual, IsChoice, AreAllKept}
 
@@ -273,17 +273,14 @@ same_through a b c h k = record {
   terms = record { constant = h.terms.constant ∙ k.terms.constant; at = λ p. h.terms.at p ∙ k.terms.at p };
 }
 
-abbrev none : Combination
-none = record { base = pos 0; terms = [] }
-
-none_plus : (c : Combination) → GiveSame (plus none c) c
-none_plus c = record { base = nothing_more c.base; terms = record { constant = refl; at = λ p. refl } }
+nothing_plus : (c : Combination) → GiveSame (plus nothing c) c
+nothing_plus c = record { base = nothing_more c.base; terms = record { constant = refl; at = λ p. refl } }
   where
     nothing_more : (a : ℤ) → (pos 0 +ℤ a) ≡ a
     nothing_more a = omega (arith, ints)
 
 -- a literal of weight 0 changes nothing
-node_zero : (k : ℤ) (i : ℕ) → k ≡ pos 0 → GiveSame (at_node k i) none
+node_zero : (k : ℤ) (i : ℕ) → k ≡ pos 0 → GiveSame (at_node k i) nothing
 node_zero k i e = record {
   base = refl;
   terms = record {
@@ -299,21 +296,21 @@ node_zero k i e = record {
     either true = refl
     either false = refl
 
-condition_zero : (k : ℤ) (given : Option ℕ) → k ≡ pos 0 → GiveSame (at_condition k given) none
+condition_zero : (k : ℤ) (given : Option ℕ) → k ≡ pos 0 → GiveSame (at_condition k given) nothing
 condition_zero k None e = record { base = e; terms = record { constant = refl; at = λ p. refl } }
 condition_zero k (Some i) e = node_zero k i e
 
 times_zero : (y : ℤ) (n : ℕ) → y ≡ pos 0 → y *ℤ pos n ≡ pos 0
 times_zero y n e = ap (λ z. z *ℤ pos n) e ∙ *ℤ_comm (pos 0) (pos n) ∙ mul-zero (pos n)
 
-row_zero : (y : ℤ) (b : Bound) → y ≡ pos 0 → GiveSame (row_times y b) none
+row_zero : (y : ℤ) (b : Bound) → y ≡ pos 0 → GiveSame (row_times y b) nothing
 row_zero y b e =
-    plus_same (at_node (y *ℤ pos b.den) b.both) none (at_condition (neg_ℤ (y *ℤ pos b.num)) b.given) none (node_zero (y *ℤ pos b.den) b.both (times_zero y b.den e))
+    plus_same (at_node (y *ℤ pos b.den) b.both) nothing (at_condition (neg_ℤ (y *ℤ pos b.num)) b.given) nothing (node_zero (y *ℤ pos b.den) b.both (times_zero y b.den e))
     (condition_zero (neg_ℤ (y *ℤ pos b.num)) b.given (ap neg_ℤ (times_zero y b.num e)))
 
 rows_kept : (flags : List Bool) (ys : List ℤ) (bs : List Bound) → length flags ≡ length bs → AreZeroElsewhere flags ys
     → GiveSame (rows_times ys bs) (rows_times (kept_of flags ys) (kept_of flags bs))
-rows_kept [] [] [] e off = same_self none
+rows_kept [] [] [] e off = same_self nothing
 rows_kept [] (y ∷ ys) [] e off = absurd off
 rows_kept [] ys (b ∷ bs) e off = absurd (omega (arith, e))
 rows_kept (k ∷ ks) ys [] e off = absurd (omega (arith, e))
@@ -322,9 +319,9 @@ rows_kept (true ∷ ks) (y ∷ ys) (b ∷ bs) e off =
     plus_same (row_times y b) (row_times y b) (rows_times ys bs) (rows_times (kept_of ks ys) (kept_of ks bs)) (same_self (row_times y b))
     (rows_kept ks ys bs (omega (arith, e)) off.1)
 rows_kept (false ∷ ks) (y ∷ ys) (b ∷ bs) e off =
-    same_through (plus (row_times y b) (rows_times ys bs)) (plus none (rows_times (kept_of ks ys) (kept_of ks bs))) (rows_times (kept_of ks ys) (kept_of ks bs))
-    (plus_same (row_times y b) none (rows_times ys bs) (rows_times (kept_of ks ys) (kept_of ks bs)) (row_zero y b (off.0 refl)) (rows_kept ks ys bs (omega (arith, e)) off.1))
-    (none_plus (rows_times (kept_of ks ys) (kept_of ks bs)))
+    same_through (plus (row_times y b) (rows_times ys bs)) (plus nothing (rows_times (kept_of ks ys) (kept_of ks bs))) (rows_times (kept_of ks ys) (kept_of ks bs))
+    (plus_same (row_times y b) nothing (rows_times ys bs) (rows_times (kept_of ks ys) (kept_of ks bs)) (row_zero y b (off.0 refl)) (rows_kept ks ys bs (omega (arith, e)) off.1))
+    (nothing_plus (rows_times (kept_of ks ys) (kept_of ks bs)))
 
 -- the goal of a dual of the whole problem is that of its kept multipliers
 pub goal-kept : (flags : List Bool) (kind : ClaimKind) (given : Option ℕ) (both : ℕ) (bs : List Bound) (d : Dual) → length flags ≡ length bs → AreZeroElsewhere flags d.rows
