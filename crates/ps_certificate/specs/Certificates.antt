@@ -1,12 +1,28 @@
--- The duals that certificates hold, and how great their numbers may be.
-use Rattle.std.specs.Prelude.{◌≢◌, ℕ, ℤ, ◌≤◌, ◌^◌, Option, All, unsigned_abs}
+-- The models and duals that certificates hold, as claims speak of them, and how great the numbers of duals may be.
+use Rattle.std.specs.Prelude.{◌≢◌, ℕ, ℤ, ◌≤◌, ◌^◌, List, map, Option, All, unsigned_abs}
+use Rattle.ps_meaning.specs.Distribution.{Entry}
 use Rattle.ps_problem.specs.Problems.{Parts, bounds_in}
+use Rattle.ps_answer.specs.declared.answer.Weighted.{Weighted}
+use Rattle.ps_answer.specs.declared.answer.Model.{Model}
 use Rattle.ps_answer.specs.declared.answer.Dual.{Dual}
+use Rattle.ps_entailment.specs.Answers as answers
 use Rattle.ps_claims.specs.Duals as claimed
 use Rattle.ps_claims.specs.declared.claim_kind.ClaimKind.{ClaimKind}
 use Rattle.ps_claims.specs.declared.claim_kind.ClaimKind.TheVariants.{Nothing}
 use Rattle.ps_claims.specs.declared.combination.Combination.{Combination}
 use Rattle.ps_claims.specs.Goals.{combination_of}
+
+-- the entry that a weighted world stands for
+abbrev pub entry_of : Weighted → Entry
+entry_of w = record { weight = w.weight; world = w.world }
+
+-- the entries that weighted worlds stand for
+abbrev pub entries : List Weighted → List Entry
+entries ws = map entry_of ws
+
+-- the model of which claims speak
+abbrev pub model_of : Model → answers.Model
+model_of m = record { total = m.total; worlds = entries m.worlds }
 
 -- the dual of which claims speak
 abbrev pub dual_of : Dual → claimed.Dual

@@ -25,7 +25,7 @@ use Rattle.ps_multiples.specs.Multiples.{weight_multiple_of, weight_of, AreWeigh
 use Rattle.ps_runs.specs.Certificates.{value_of, exceeds_zero, is_above, entry_for, entries_to}
 use Rattle.ps_runs.proofs.BasicSolution.{part_here, part_apart}
 use Rattle.ps_ends.specs.Models.{AreApart, IsBasicIn, column_value, column_weight, weighed}
-use Rattle.ps_phases.specs.Answers.{entry_of}
+use Rattle.ps_certificate.specs.Certificates.{entry_of}
 
 unit_part : (b : Bool) (x : Rational) → cond b x zero_q ≡ mul x (cond b one_q zero_q)
 unit_part true x = ring_q (x ∷ []) (var 0) (by (var 0) unit) refl

@@ -10,7 +10,7 @@ use Rattle.ps_answer.specs.declared.answer.Weighted.{Weighted}
 use Rattle.ps_answer.specs.declared.answer.Model.{Model}
 use Rattle.ps_multiples.specs.Multiples.{weight_multiple_of, total_of}
 use Rattle.ps_runs.specs.Certificates.{value_of, exceeds_zero, weighted_worlds}
-use Rattle.ps_phases.specs.Answers.{entry_of}
+use Rattle.ps_certificate.specs.Certificates.{entry_of}
 
 -- no column is basic in two rows
 pub record AreApart (t : Tableau) : Type 0 where

@@ -10,7 +10,7 @@ ghost use Rattle.ps_multiples.specs.Multiples.{AreWeights, ModelPlaces, weight_m
 ghost use Rattle.ps_runs.specs.Certificates.{weighted_worlds};
 ghost use Rattle.ps_ends.specs.Models.{AreApart, IsBasicIn, IsRowOf, column_value, column_weight};
 ghost use Rattle.ps_ends.specs.Models.{weighed, IsTableModel};
-ghost use Rattle.ps_phases.specs.Answers.{entry_of};
+ghost use Rattle.ps_certificate.specs.Certificates.{entry_of};
 ghost use Rattle.ps_printed.specs.Printed.{IsPrintedModel};
 
 use ps_answer::{Model, Weighted, Worlds};

@@ -10,12 +10,11 @@ use Rattle.ps_claims.specs.Duals as claims
 use Rattle.ps_claims.specs.Duals.{AreZeroElsewhere}
 use Rattle.ps_claims.specs.Validity.{IsRefuted}
 use Rattle.ps_answer.specs.declared.answer.Dual.{Dual}
-use Rattle.ps_certificate.specs.Certificates.{IsMultiplier}
+use Rattle.ps_certificate.specs.Certificates.{dual_of, IsMultiplier}
 use Rattle.ps_printed.specs.Printed.{IsPrintedDual}
 use Rattle.ps_runs.specs.Kept.{kept_of, flags_of, kept_parts}
 use Rattle.ps_runs.specs.Runs.{given_in, both_in}
 use Rattle.ps_runs.proofs.Kept.{same-count, bounds-kept, length-flags, refuted-kept, part-next}
-use Rattle.ps_phases.specs.Answers.{dual_of}
 use Rattle.ps_generation.specs.Phases.{LimitedSubject, IsSpread, kept_dual}
 use Rattle.ps_generation.specs.Spreading.{spread_of, number_for, next_for, IsKeptOf}
 

@@ -15,7 +15,7 @@ use Rattle.ps_problem.specs.Problems.{bounds_of}
 use Rattle.ps_entailment.specs.Queries.{IsAllowed}
 use Rattle.ps_entailment.specs.Answers as claimed
 use Rattle.ps_entailment.specs.Answers.{ShowsConsistent}
-use Rattle.ps_phases.specs.Answers.{model_of}
+use Rattle.ps_certificate.specs.Certificates.{model_of}
 use Rattle.ps_phases.specs.Tables.{IsRunTable, stage_at}
 use Rattle.ps_phases.specs.Licences.{IsModelDue, IsTooWide}
 use Rattle.ps_phases.proofs.Shapes.{same_table, run_table}

@@ -30,7 +30,7 @@ use Rattle.ps_runs.specs.Runs.{Subject, subject_of, setting_of, given_in, both_i
 use Rattle.ps_runs.proofs.Combination.{multiple_positive}
 use Rattle.ps_runs.proofs.Certified.{refuted_at_rest}
 use Rattle.ps_runs.proofs.Tight.{tight_at_end}
-use Rattle.ps_phases.specs.Answers.{dual_of}
+use Rattle.ps_certificate.specs.Certificates.{dual_of}
 use Rattle.ps_phases.specs.Tables.{phase_of}
 use Rattle.ps_phases.specs.Licences.{IsModelDue}
 use Rattle.ps_phases.specs.Verdicts.{IsSideAt}

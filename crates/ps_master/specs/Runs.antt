@@ -19,7 +19,7 @@ use Rattle.ps_claims.specs.declared.claim_kind.ClaimKind.TheVariants.{Nothing}
 use Rattle.ps_claims.specs.Duals.{AreZeroElsewhere}
 use Rattle.ps_claims.specs.Validity.{IsRefuted, ShowsNothing, ShowsTight}
 use Rattle.ps_runs.specs.Runs.{Subject, setting_of, given_in, both_in, atoms_of, Stage, IsStart, LeadsTo, pivots_in, IsFeasibleAt}
-use Rattle.ps_phases.specs.Answers.{model_of, dual_of}
+use Rattle.ps_certificate.specs.Certificates.{model_of, dual_of}
 use Rattle.ps_phases.specs.Tables.{stage_at}
 use Rattle.ps_phases.specs.Verdicts.{IsLawfulPhaseOne, IsLawfulSide}
 use Rattle.ps_printed.specs.Printed.{IsPrintedVerdict}

@@ -13,7 +13,7 @@ use Rattle.ps_claims.specs.declared.claim_kind.ClaimKind.TheVariants.{Nothing}
 use Rattle.ps_claims.specs.Duals.{HasValueHead}
 use Rattle.ps_multiples.specs.Multiples.{ModelPlaces}
 use Rattle.ps_runs.specs.Runs.{Subject, setting_of, IsAsked, atoms_of, IsPool}
-use Rattle.ps_phases.specs.Answers.{dual_of}
+use Rattle.ps_certificate.specs.Certificates.{dual_of}
 use Rattle.ps_phases.specs.Tables.{IsRunTable}
 use Rattle.ps_ends.specs.Models.{IsTableModel}
 use Rattle.ps_generation.specs.declared.state.State.{State}

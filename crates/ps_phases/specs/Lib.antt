@@ -1,5 +1,4 @@
 -- Meaning
-pub mod Answers
 pub mod Licences
 pub mod Verdicts
 pub mod Tables

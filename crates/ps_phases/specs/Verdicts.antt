@@ -18,7 +18,7 @@ use Rattle.ps_claims.specs.declared.claim_kind.ClaimKind.{ClaimKind}
 use Rattle.ps_claims.specs.declared.claim_kind.ClaimKind.TheVariants.{Nothing, Lower, Upper}
 use Rattle.ps_claims.specs.Duals.{HasValueHead}
 use Rattle.ps_runs.specs.Runs.{Subject, subject_of, sentences_of, Stage, IsStart, LeadsTo, LeadsToPending, pivots_in, IsFeasibleAt, IsModelAt, IsDualAt}
-use Rattle.ps_phases.specs.Answers.{model_of, dual_of}
+use Rattle.ps_certificate.specs.Certificates.{model_of, dual_of}
 use Rattle.ps_phases.specs.Licences.{IsLicensed}
 
 -- what phase one answers at a stage

@@ -17,7 +17,7 @@ use Rattle.ps_valid.specs.Answers.{side_of}
 use Rattle.ps_runs.specs.Kept.{AreAllKept}
 use Rattle.ps_runs.specs.Runs.{subject_of, given_in}
 use Rattle.ps_runs.proofs.Kept.{rows-all}
-use Rattle.ps_phases.specs.Answers.{dual_of}
+use Rattle.ps_certificate.specs.Certificates.{dual_of}
 use Rattle.ps_phases.specs.Verdicts.{IsLawfulPhaseOne, IsLawfulSide, IsLawfulAnswerTo, AreLawfulBounds}
 use Rattle.ps_printed.specs.Printed.{IsPrintedPart}
 use Rattle.ps_generation.specs.declared.limits.Limits.{Limits}

@@ -15,7 +15,7 @@ use Rattle.ps_answer.specs.declared.answer.Model.{Model}
 use Rattle.ps_answer.specs.Items.{IsProper, IsWithin, IsPrintable}
 use Rattle.ps_answer.specs.Answers.{entry_item, model_items}
 use Rattle.ps_printed.specs.Printed.{IsPrintedModel}
-use Rattle.ps_valid.specs.Answers.{entry_of, entries, model_of}
+use Rattle.ps_certificate.specs.Certificates.{entry_of, entries, model_of}
 
 -- what is asked of a line
 abbrev pub IsFit : Item → Type 0

@@ -24,11 +24,11 @@ use Rattle.ps_claims.specs.declared.claim_kind.ClaimKind.{ClaimKind}
 use Rattle.ps_claims.specs.declared.claim_kind.ClaimKind.TheVariants.{Nothing, Lower, Upper}
 use Rattle.ps_claims.specs.Claims.{open_in_verdict, open_in_side, open_in_part}
 use Rattle.ps_claims.specs.Validity.{query_of, IsRefuted, IsValidVerdict, IsValidSide, IsValidPart}
-use Rattle.ps_certificate.specs.Certificates.{dual_of}
+use Rattle.ps_certificate.specs.Certificates.{entries, model_of, dual_of}
 use Rattle.ps_runs.specs.Runs.{Subject, IsAsked, given_in, both_in, Stage, pivots_in}
 use Rattle.ps_phases.specs.Verdicts.{IsVerdictAt, IsSideAt, AreLawfulBounds, IsLawfulAnswerTo}
 use Rattle.ps_printed.specs.Printed.{IsPrintedModel, IsPrintedDual, IsPrintedVerdict, IsPrintedSide, IsPrintedPart}
-use Rattle.ps_valid.specs.Answers.{entries, model_of, verdict_of, side_of, part_of}
+use Rattle.ps_valid.specs.Answers.{verdict_of, side_of, part_of}
 use Rattle.ps_reported.proofs.All.{both, each}
 use Rattle.ps_reported.proofs.Combinations.{given_there, both_there}
 use Rattle.ps_reported.proofs.Values.{value_small, value_low}

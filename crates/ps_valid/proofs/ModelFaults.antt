@@ -15,7 +15,7 @@ use Rattle.ps_claims.specs.Claims.{Claim, Modelled, HasShape, AreFew, IsSound, I
 use Rattle.ps_claims.proofs.Decided.{sound-shows}
 use Rattle.ps_valid.specs.declared.refusal.Reason.{Reason}
 use Rattle.ps_valid.specs.declared.refusal.Reason.TheVariants.{WrongShape, TooManyWorlds, WeightZero, WorldTwice, TotalWrong, BoundMissed, EvidenceZero, ValueMissed, HeadWrong, MultiplierSign, StepRefused, NotRefuted}
-use Rattle.ps_valid.specs.Answers.{entry_of, entries, model_of}
+use Rattle.ps_certificate.specs.Certificates.{entry_of, entries, model_of}
 use Rattle.ps_valid.specs.Judged.{fault_of, FindsReason}
 use Rattle.ps_valid.specs.Limits.{IsSmallModel}
 use Rattle.ps_valid.specs.Tests.{HaveShape, IsFirstAmong, IsFirstAgainst, FindsAgainst}

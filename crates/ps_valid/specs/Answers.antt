@@ -1,9 +1,6 @@
--- What an answer claims: its models as entries, its duals, and its parts without their causes and traces.
+-- What an answer claims: its models, its duals, and its parts without their causes and traces.
 use Rattle.std.specs.Prelude.{List, map}
 use Rattle.ps_problem.specs.Problems.{Parts}
-use Rattle.ps_meaning.specs.Distribution.{Entry}
-use Rattle.ps_answer.specs.declared.answer.Weighted.{Weighted}
-use Rattle.ps_answer.specs.declared.answer.Model.{Model}
 use Rattle.ps_answer.specs.declared.answer.Verdict.{Verdict}
 use Rattle.ps_answer.specs.declared.answer.Verdict.TheVariants.{Consistent, Inconsistent, Open}
 use Rattle.ps_answer.specs.declared.answer.SideAnswer.{SideAnswer}
@@ -12,21 +9,10 @@ use Rattle.ps_answer.specs.declared.answer.QueryAnswer.{QueryAnswer}
 use Rattle.ps_answer.specs.declared.answer.QueryAnswer.TheVariants as query
 use Rattle.ps_answer.specs.declared.answer.QueryPart.{QueryPart}
 use Rattle.ps_answer.specs.declared.answer.Answer.{Answer}
-use Rattle.ps_certificate.specs.Certificates.{dual_of}
+use Rattle.ps_certificate.specs.Certificates.{model_of, dual_of}
 use Rattle.ps_entailment.specs.Answers as claimed
 use Rattle.ps_claims.specs.Duals.{Dual}
 use Rattle.ps_claims.specs.Validity.{IsRightFor}
-
-abbrev pub entry_of : Weighted → Entry
-entry_of w = record { weight = w.weight; world = w.world }
-
--- the entries that weighted worlds stand for
-abbrev pub entries : List Weighted → List Entry
-entries ws = map entry_of ws
-
--- the model of which claims speak
-abbrev pub model_of : Model → claimed.Model
-model_of m = record { total = m.total; worlds = entries m.worlds }
 
 abbrev pub verdict_of : Verdict → claimed.Verdict Dual
 verdict_of (Consistent m) = claimed.Consistent (model_of m)

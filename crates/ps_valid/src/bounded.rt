@@ -2,8 +2,7 @@
 ghost use Rattle.std.specs.Prelude.{◌≡◌, ◌*◌, ◌↔◌, ◌≤ℤ◌, pos, IfOk, IsTrue, IsFalse, length};
 ghost use Rattle.ps_problem.specs.Problems.{HasNodes, bounds_in};
 ghost use Rattle.ps_claims.specs.Claims.{Bounded, HasTotal};
-ghost use Rattle.ps_certificate.specs.Certificates.{dual_of, IsSmallDual};
-ghost use Rattle.ps_valid.specs.Answers.{entries, model_of};
+ghost use Rattle.ps_certificate.specs.Certificates.{entries, model_of, dual_of, IsSmallDual};
 ghost use Rattle.ps_valid.specs.Judged.{FindsReason};
 ghost use Rattle.ps_valid.specs.Limits.{IsSmallModel, most_weight, most_worlds};
 ghost use Rattle.ps_valid.specs.Rows.{IsTableOf};

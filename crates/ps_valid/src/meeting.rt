@@ -5,7 +5,7 @@ ghost use Rattle.ps_meaning.specs.Distribution.{weight, total};
 ghost use Rattle.ps_meaning.specs.Bounds.{Compares};
 ghost use Rattle.ps_problem.specs.declared.limits.TheConstants.{MOST_BOUNDS, MOST_DENOMINATOR};
 ghost use Rattle.ps_claims.specs.Claims.{HasTotal};
-ghost use Rattle.ps_valid.specs.Answers.{entries, model_of};
+ghost use Rattle.ps_certificate.specs.Certificates.{entries, model_of};
 ghost use Rattle.ps_valid.specs.Limits.{IsAmount, IsSmallModel, most_weight, most_worlds};
 ghost use Rattle.ps_valid.specs.Rows.{AreRows, Covers, HaveNode, IsTableOf, MeetsAt};
 ghost use Rattle.ps_valid.specs.Rows.{node_at, row_entries};

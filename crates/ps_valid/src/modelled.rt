@@ -1,7 +1,7 @@
 //! The check of a model that is to show that a problem is consistent.
 ghost use Rattle.std.specs.Prelude.{IfOk};
 ghost use Rattle.ps_claims.specs.Claims.{Modelled};
-ghost use Rattle.ps_valid.specs.Answers.{entries, model_of};
+ghost use Rattle.ps_certificate.specs.Certificates.{entries, model_of};
 ghost use Rattle.ps_valid.specs.Judged.{FindsReason};
 ghost use Rattle.ps_valid.specs.Limits.{IsSmallModel};
 ghost use Rattle.ps_valid.specs.Rows.{IsTableOf};

@@ -3,7 +3,7 @@ ghost use Rattle.std.specs.Prelude.{◌≡◌, ◌*◌, ◌≤ℤ◌, pos, All, 
 ghost use Rattle.ps_meaning.specs.Formula.{Atom};
 ghost use Rattle.ps_meaning.specs.Distribution.{weight};
 ghost use Rattle.ps_formula.specs.Nodes.{AtomBelow};
-ghost use Rattle.ps_valid.specs.Answers.{entries};
+ghost use Rattle.ps_certificate.specs.Certificates.{entries};
 ghost use Rattle.ps_valid.specs.Limits.{AreSmall, most_weight, most_worlds};
 ghost use Rattle.ps_valid.specs.Rows.{AreRows, HaveNode, IsTableOf, row_entries};
 

@@ -2,7 +2,7 @@
 ghost use Rattle.std.specs.Prelude.{◌≡◌, ◌≢◌, ◌↔◌, Any, IsTrue, IsFalse, length};
 ghost use Rattle.ps_meaning.specs.Distribution.{total};
 ghost use Rattle.ps_claims.specs.Claims.{AreFew, HasTotal};
-ghost use Rattle.ps_valid.specs.Answers.{entries, model_of};
+ghost use Rattle.ps_certificate.specs.Certificates.{entries, model_of};
 ghost use Rattle.ps_valid.specs.Limits.{AreSmall, IsSmallModel};
 ghost use Rattle.ps_valid.specs.Tests.{FindsFault, HasAtoms};
 

@@ -1,7 +1,7 @@
 use Rattle.std.proofs.Common.{◌≡◌, refl, rules}
 use Rattle.std.specs.Prelude.{unsigned_abs}
 use Rattle.ps_rational.specs.Rational.{fraction}
-use Rattle.ps_phases.specs.Answers.{dual_of}
+use Rattle.ps_certificate.specs.Certificates.{dual_of}
 use Rattle.ps_master.proofs.Values.{head_of_value}
 use Rattle.ps_master.proofs.answers.bound.Goals as goal
 

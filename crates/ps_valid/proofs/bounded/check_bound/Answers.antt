@@ -1,8 +1,7 @@
 use Rattle.std.proofs.Common.{◌≡◌, ◌≢◌, pos, of_z, length, sym, ap, ◌∙◌, arith}
 use mir.Syntax.{w128}
 use Rattle.ps_problem.specs.Problems.{bounds_in}
-use Rattle.ps_certificate.specs.Certificates.{dual_of}
-use Rattle.ps_valid.specs.Answers.{model_of}
+use Rattle.ps_certificate.specs.Certificates.{model_of, dual_of}
 use Rattle.ps_valid.specs.Tests.{evidence_weight}
 use Rattle.ps_valid.proofs.BoundFaults.{bound_found, evidence_wrong, value_wrong}
 use Rattle.ps_valid.proofs.ModelFaults.{low_weights}

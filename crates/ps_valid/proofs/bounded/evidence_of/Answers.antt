@@ -2,7 +2,7 @@ use Rattle.std.proofs.Common.{◌≡◌, to_z, of_z, sym, ap, ◌∙◌, arith}
 use Rattle.std.proofs.lemmas.Int.{ints}
 use mir.Syntax.{w128}
 use Rattle.ps_meaning.specs.Distribution.{weight}
-use Rattle.ps_valid.specs.Answers.{entries}
+use Rattle.ps_certificate.specs.Certificates.{entries}
 use Rattle.ps_valid.specs.Rows.{node_at}
 use Rattle.ps_valid.proofs.Tables.{have_given, rows_small, total-rows, weight-given}
 use Rattle.ps_valid.proofs.bounded.evidence_of.Goals as goal

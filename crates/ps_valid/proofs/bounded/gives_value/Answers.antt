@@ -3,7 +3,7 @@ use Rattle.std.proofs.lemmas.Int.{ints, to_z-of_z}
 use mir.Syntax.{w128}
 use Rattle.ps_meaning.specs.Formula.{Atom}
 use Rattle.ps_meaning.specs.Distribution.{weight}
-use Rattle.ps_valid.specs.Answers.{entries}
+use Rattle.ps_certificate.specs.Certificates.{entries}
 use Rattle.ps_valid.proofs.BoundFaults.{value_given}
 use Rattle.ps_valid.proofs.Tables.{have_node, rows_small}
 use Rattle.ps_valid.proofs.bounded.gives_value.Goals as goal
