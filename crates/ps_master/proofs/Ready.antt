@@ -13,20 +13,14 @@ use Rattle.ps_claims.specs.declared.claim_kind.ClaimKind.TheVariants.{Nothing, L
 use Rattle.ps_runs.specs.Rows.{Setting}
 use Rattle.ps_runs.specs.Runs.{Subject, setting_of, IsAsked}
 use Rattle.ps_phases.specs.Tables.{phase_of, costs_for, IsRunTable}
-use Rattle.ps_phases.proofs.Ready.{ready_first, ready_lower, ready_upper}
+use Rattle.ps_phases.proofs.Ready.{lower_apart, upper_apart, ready_first, ready_lower, ready_upper}
 use Rattle.ps_generation.specs.declared.state.State.{State}
 use Rattle.ps_generation.specs.Phases.{IsInPhase}
 use Rattle.ps_master.specs.States.{HasRunTable}
 
-ready_apart : Lower ≡ Nothing → ⊥
-ready_apart e = cc
-
-upper_apart : Upper ≡ Nothing → ⊥
-upper_apart e = cc
-
 ready : (kind : ClaimKind) (s : Setting) (pool : List World) (t : Tableau) → IsRunTable s pool t → (kind ≢ Nothing → IsFeasible (simplex_of t)) → IsReady (phase_of kind) (costs_for kind s pool) t
 ready Nothing s pool t run feasible = ready_first s pool t run
-ready Lower s pool t run feasible = ready_lower s pool t run (feasible ready_apart)
+ready Lower s pool t run feasible = ready_lower s pool t run (feasible lower_apart)
 ready Upper s pool t run feasible = ready_upper s pool t run (feasible upper_apart)
 
 pub in_phase : (kind : ClaimKind) (s : Subject) (costs : Costs) (state : State) → HasRunTable s state → (kind ≢ Nothing → IsFeasible (simplex_of state.table))

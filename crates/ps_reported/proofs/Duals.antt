@@ -11,13 +11,14 @@ use Rattle.ps_answer.specs.declared.item.Item.TheVariants as line
 use Rattle.ps_answer.specs.declared.answer.Dual.{Dual}
 use Rattle.ps_answer.specs.Answers.{dual_items}
 use Rattle.ps_certificate.specs.Certificates.{dual_of, HasQuery}
+use Rattle.ps_certificate.proofs.Variables.{combination_below}
 use Rattle.ps_claims.specs.declared.claim_kind.ClaimKind.{ClaimKind}
 use Rattle.ps_claims.specs.Duals as claims
 use Rattle.ps_claims.specs.Goals.{combination_of, goal_of}
 use Rattle.ps_claims.specs.Validity.{IsRefuted}
 use Rattle.ps_printed.specs.Printed.{AreOfLiterals, IsPrintedDual}
 use Rattle.ps_reported.proofs.All.{mapped}
-use Rattle.ps_reported.proofs.Combinations.{combination_below, known_within, few_known}
+use Rattle.ps_reported.proofs.Combinations.{known_within, few_known}
 use Rattle.ps_reported.proofs.Steps.{steps_within}
 use Rattle.ps_reported.proofs.Models.{IsFit}
 
