@@ -60,7 +60,7 @@ fn home_costs(alloc: Global, phase: Phase, table: &Table) -> Result<CostList, No
 
 /// The world of a number in a pool.
 #[tactic(auto, using(crate::proofs::Pools::world_is, crate::proofs::Pools::no_world))]
-fn world_in(pool: &Pool, number: u32) -> &World
+pub fn world_in(pool: &Pool, number: u32) -> &World
     requires some { 0 < number }
     requires there { number ≤ length pool.now }
     ensures { result.now ≡ get_or pool.now (number - 1) [] }

@@ -6,7 +6,7 @@ mod costs;
 mod homes;
 
 pub use column::column_of;
-pub use costs::{costs_for, world_cost};
+pub use costs::{costs_for, world_cost, world_in};
 pub use homes::homes_of;
 
 #[cfg(test)]

@@ -1,5 +1,5 @@
 //! The distribution of a table.
-ghost use Rattle.std.specs.Prelude.{◌≡◌, ◌↔◌, ℕ, ◌<◌, ◌≤◌, ◌-◌, ◌++◌, [], get_or, length, map};
+ghost use Rattle.std.specs.Prelude.{◌≡◌, ◌↔◌, ℕ, ◌<◌, ◌≤◌, ◌++◌, length, map};
 ghost use Rattle.std.specs.Prelude.{IfOk, IfErr, OnOk, IsTrue, unsigned_abs};
 ghost use Rattle.std.specs.Int.{◌∣◌};
 ghost use Rattle.ps_table.specs.Tableau.{rows_of};
@@ -14,6 +14,7 @@ ghost use Rattle.ps_certificate.specs.Certificates.{entry_of};
 ghost use Rattle.ps_printed.specs.Printed.{IsPrintedModel};
 
 use ps_answer::{Model, Weighted, Worlds};
+use ps_columns::world_in;
 use ps_formula::World;
 use ps_io::{List, NoMemory};
 use ps_multiples::{Weights, weights_of};
@@ -58,19 +59,6 @@ fn weight_of(table: &Table, weights: &Weights, number: u32) -> i128
     match row_of(table, number) {
         Some(row) => weights.rows.as_slice()[row as usize],
         None => 0,
-    }
-}
-
-/// The world of a number in a pool.
-#[tactic(auto, using(ps_columns::proofs::Pools::world_is, ps_columns::proofs::Pools::no_world))]
-fn world_in(pool: &Pool, number: u32) -> &World
-    requires some { 0 < number }
-    requires there { number ≤ length pool.now }
-    ensures { result.now ≡ get_or pool.now (number - 1) [] }
-{
-    match pool.world(number) {
-        Some(world) => world,
-        None => unreachable!(),
     }
 }
 
