@@ -1,7 +1,7 @@
 //! The answer to a problem.
 ghost use Rattle.std.specs.Prelude.{◌≡◌, ◌≢◌, [], None, IfOk};
 ghost use Rattle.std.specs.List.{AllZip};
-ghost use Rattle.ps_problem.specs.Problems.{AreParts, HasNodes};
+ghost use Rattle.ps_problem.specs.Problems.{HasNodes};
 ghost use Rattle.ps_phases.specs.Verdicts.{asked_after};
 ghost use Rattle.ps_printed.specs.Printed.{IsPrintedAnswer, IsPrintedPart};
 ghost use Rattle.ps_generation.specs.Phases.{AreLimits};
@@ -109,13 +109,6 @@ fn parts_under(
     }
 }
 
-// Each problem is in order.
-fn in_order(problem: &Problem)
-    ensures { AreParts problem.now }
-{
-    let _ = problem.bound_list();
-}
-
 /// The answer to a problem within limits of pivots and conflicts: the verdict, and where that is
 /// consistent the tightest bounds of each query. A part is open only by the limits or for a number
 /// that is too wide.
@@ -125,7 +118,7 @@ pub fn solve(alloc: Global, problem: &Problem, limits: Limits) -> Result<Answer,
     ensures short { IfOk result AreShortLines }
     ensures read_back { IfOk result (IsReadBack limits) }
 {
-    in_order(problem);
+    let _sound = problem.bound_list();
     let mut run = run_over_all(alloc, problem, None, limits)?;
     let verdict = verdict_of(run.phase_one()?);
     let first = run.take_trace();

@@ -1,7 +1,7 @@
 //! The check of all claims of an answer, in their order.
 ghost use Rattle.std.specs.Prelude.{◌≡◌, ◌+◌, ◌<◌, ◌≤◌, ◌^◌, ◌∷◌, [], All, OnOk, length, map, sum};
 ghost use Rattle.ps_problem.specs.declared.limits.TheConstants.{MOST_QUERIES};
-ghost use Rattle.ps_problem.specs.Problems.{AreParts, HasNodes};
+ghost use Rattle.ps_problem.specs.Problems.{HasNodes};
 ghost use Rattle.ps_entailment.specs.Answers.{Interval, asked_under};
 ghost use Rattle.ps_claims.specs.Claims.{verdict_claims, side_claims, part_claims, claims_from};
 ghost use Rattle.ps_claims.specs.Claims.{open_in_verdict, open_in_side, open_in_part};
@@ -181,13 +181,6 @@ fn asked<'p>(problem: &'p Problem, verdict: &Verdict) -> &'p [Query]
     }
 }
 
-// Each problem is in order.
-fn in_order(problem: &Problem)
-    ensures { AreParts problem.now }
-{
-    let _ = problem.bound_list();
-}
-
 /// Judges an answer to a problem. It is accepted where each of its claims is valid, and then it is
 /// right; otherwise the first claim in the order of a report that isn't valid is refused, for the
 /// first reason in the order of `Reason`.
@@ -196,7 +189,7 @@ pub fn check(alloc: Global, problem: &Problem, answer: &Answer) -> Result<Accept
     ensures judged { IsJudged problem.now answer.now result }
     ensures right { OnOk result (IsRightOf problem.now answer.now) }
 {
-    in_order(problem);
+    let _sound = problem.bound_list();
     let queries = asked(problem, &answer.verdict);
     let parts = answer.parts.as_slice();
     if parts.len() != queries.len() {
