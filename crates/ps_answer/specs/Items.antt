@@ -15,6 +15,7 @@ use Rattle.ps_table.specs.Places.{printed_limit}
 use Rattle.ps_log.specs.Texts.{step_numbers, goal_numbers}
 use Rattle.ps_log.specs.Limits.{IsStepWithin, IsGoalWithin}
 use Rattle.ps_log.specs.Spellings.{words_of}
+use Rattle.ps_answer.specs.declared.limits.TheConstants.{MOST_PIVOTS, MOST_CONFLICTS}
 use Rattle.ps_answer.specs.declared.item.Ratio.{Ratio}
 use Rattle.ps_answer.specs.declared.item.Item.{Item}
 use Rattle.ps_answer.specs.declared.item.Item.TheVariants.{Report, Consistent, Inconsistent, OpenPivots, OpenConflicts, OpenWide, ModelHead, Entry, DualHead, Rows, StepLine, GoalLine, TraceHead, PivotLine, PricedLine, Query, Bounds, Impossible, Bound, OpenSide, End}
@@ -94,14 +95,6 @@ most_row = 100
 -- worlds are numbered from 1 up to this
 abbrev pub most_world : ℕ
 most_world = 1000001
-
--- the greatest limit of pivots
-abbrev pub most_pivots : ℕ
-most_pivots = 1000000
-
--- the greatest limit of conflicts
-abbrev pub most_conflicts : ℕ
-most_conflicts = 2 ^ 40
 
 -- the most worlds of a model
 abbrev pub most_entries : ℕ
@@ -185,8 +178,8 @@ IsRatioWithin limit q = (unsigned_abs q.over ≤ limit) × (q.under ≤ limit)
 
 -- a line is within the limits
 abbrev pub IsWithin : Item → Type 0
-IsWithin (OpenPivots limit) = limit ≤ most_pivots
-IsWithin (OpenConflicts limit) = limit ≤ most_conflicts
+IsWithin (OpenPivots limit) = limit ≤ MOST_PIVOTS
+IsWithin (OpenConflicts limit) = limit ≤ MOST_CONFLICTS
 IsWithin (OpenWide at op left right) = IsPlaceWithin at × IsRatioWithin most_operand left × IsRatioWithin most_operand right
 IsWithin (ModelHead total n) = IsPrintable total × (n ≤ most_entries)
 IsWithin (Entry weight world) = IsPrintable weight × (length world ≤ MOST_ATOMS)

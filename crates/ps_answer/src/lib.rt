@@ -6,6 +6,7 @@ mod answer;
 mod error;
 mod item;
 mod laws;
+mod limits;
 mod part;
 
 pub use answer::{
@@ -17,4 +18,5 @@ pub use item::{Item, Ratio};
 pub use laws::{
     due_lines_are_answers, faults_are_single, texts_determine_answers, written_lines_are_lines,
 };
+pub use limits::{MOST_CONFLICTS, MOST_PIVOTS};
 pub use part::Part;

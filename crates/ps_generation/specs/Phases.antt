@@ -10,7 +10,7 @@ use Rattle.ps_rational.specs.Rational.{Rational}
 use Rattle.ps_rule.specs.Rule.{IsFeasible}
 use Rattle.ps_steps.specs.Steps.{Refutes}
 use Rattle.ps_forms.specs.Forms.{form_of, first_known}
-use Rattle.ps_sat.specs.Limits.{most_conflicts}
+use Rattle.ps_answer.specs.declared.limits.TheConstants.{MOST_PIVOTS, MOST_CONFLICTS}
 use Rattle.ps_pool.specs.declared.event.Event.{Event}
 use Rattle.ps_pool.specs.declared.event.Event.TheVariants.{Priced}
 use Rattle.ps_table.specs.declared.costs.Costs.{Costs}
@@ -30,7 +30,6 @@ use Rattle.ps_phases.specs.Tables.{phase_of, costs_for, IsRunTable, stage_at, Is
 use Rattle.ps_phases.specs.Licences.{IsLicensed, IsColumnTooWide}
 use Rattle.ps_printed.specs.Printed.{IsPrintedDual, IsPrintedCause}
 use Rattle.ps_generation.specs.declared.limits.Limits.{Limits}
-use Rattle.ps_generation.specs.declared.limits.TheConstants.{MOST_PIVOTS}
 use Rattle.ps_generation.specs.declared.state.State.{State}
 use Rattle.ps_generation.specs.declared.end.End.{End}
 use Rattle.ps_generation.specs.declared.end.End.TheVariants.{Feasible, NoneAbove, Open}
@@ -39,7 +38,7 @@ use Rattle.ps_generation.specs.declared.end.End.TheVariants.{Feasible, NoneAbove
 -- the limits are those that words may set, or less
 pub record AreLimits (limits : Limits) : Type 0 where
   pub pivots : limits.pivots ≤ MOST_PIVOTS
-  pub conflicts : limits.conflicts ≤ most_conflicts
+  pub conflicts : limits.conflicts ≤ MOST_CONFLICTS
 
 -- the kept sentences of a problem with a query, or none, and the limits of its run; the whole problem, and whether each of its
 -- bounds is kept
@@ -85,7 +84,7 @@ pub record IsInPhase (kind : ClaimKind) (s : Subject) (costs : Costs) (state : S
 -- the most worlds and pivots left, together: the pivots that a run may be allowed, and ten more, since a run prices few
 -- worlds more than it pivots; so a phase has room for its columns
 abbrev pub most_columns : ℕ
-most_columns = 1000010
+most_columns = MOST_PIVOTS + 10
 
 -- worlds and pivots left are together at most so many
 pub record HasRoom (most : ℕ) (state : State) : Type 0 where

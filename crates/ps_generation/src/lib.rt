@@ -13,7 +13,7 @@ mod spreading;
 mod state;
 
 pub use end::End;
-pub use limits::{Limits, MOST_PIVOTS};
+pub use limits::Limits;
 pub use phases::run_phase;
 pub use setting::Setting;
 pub use state::State;

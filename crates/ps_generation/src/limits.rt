@@ -1,8 +1,5 @@
 //! The limits of a run.
 
-/// The most pivots that a run may be allowed.
-pub const MOST_PIVOTS: u64 = 1_000_000;
-
 /// How many pivots a run makes at most, and how many clauses each of its searches learns at most.
 #[derive(Clone, Copy, Debug, PartialEq, Eq, Drop)]
 pub struct Limits {

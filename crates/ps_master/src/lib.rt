@@ -8,5 +8,5 @@ mod phase;
 mod run;
 
 pub use first::First;
-pub use ps_generation::{Limits, MOST_PIVOTS};
+pub use ps_generation::Limits;
 pub use run::Run;

@@ -14,7 +14,7 @@ use Rattle.ps_valid.specs.Answers.{answer_of, IsRightOf}
 use Rattle.ps_phases.specs.Verdicts.{IsLawfulAnswer}
 use Rattle.ps_printed.specs.Printed.{IsPrintedAnswer}
 use Rattle.ps_generation.specs.declared.limits.Limits.{Limits}
-use Rattle.ps_generation.specs.declared.limits.TheConstants.{MOST_PIVOTS}
+use Rattle.ps_answer.specs.declared.limits.TheConstants.{MOST_PIVOTS}
 
 -- an answer to a problem within limits: each claim is valid and right, its runs are lawful, what is open is licensed, and all of it can be printed
 pub record IsSolution (limits : Limits) (p : Parts) (a : Answer) : Type 0 where

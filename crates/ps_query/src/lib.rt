@@ -4,5 +4,5 @@
 mod solving;
 mod starting;
 
-pub use ps_master::{Limits, MOST_PIVOTS};
+pub use ps_master::Limits;
 pub use solving::solve;

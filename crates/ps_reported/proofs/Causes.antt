@@ -14,11 +14,12 @@ use Rattle.ps_log.specs.Limits.{IsGoalWithin}
 use Rattle.ps_problem.specs.declared.query.Query as stored
 use Rattle.ps_problem.specs.Problems.{Parts, AreParts, bounds_in, bound_of}
 use Rattle.ps_table.specs.declared.place.WideAt.{WideAt}
+use Rattle.ps_answer.specs.declared.limits.TheConstants.{MOST_PIVOTS, MOST_CONFLICTS}
 use Rattle.ps_answer.specs.declared.item.Item.{Item}
 use Rattle.ps_answer.specs.declared.item.Item.TheVariants as line
 use Rattle.ps_answer.specs.declared.answer.Cause.{Cause}
 use Rattle.ps_answer.specs.declared.answer.Cause.TheVariants.{Pivots, Conflicts, Wide}
-use Rattle.ps_answer.specs.Items.{IsReducedWithin, IsRatioWithin, most_operand, most_pivots, most_conflicts}
+use Rattle.ps_answer.specs.Items.{IsReducedWithin, IsRatioWithin, most_operand}
 use Rattle.ps_answer.specs.Answers.{ratio_of, cause_items}
 use Rattle.ps_claims.specs.declared.claim_kind.ClaimKind.{ClaimKind}
 use Rattle.ps_runs.specs.Rows.{rows_of, entries_of}
@@ -34,8 +35,8 @@ use Rattle.ps_reported.proofs.Places.{IsPlaceUnder, place_more, due_under, new_u
 -- a problem, and limits of pivots and conflicts
 pub record AreLimits (p : Parts) (pivots conflicts : ℕ) : Type 0 where
   pub parts : AreParts p
-  pub few_pivots : pivots ≤ most_pivots
-  pub few_conflicts : conflicts ≤ most_conflicts
+  pub few_pivots : pivots ≤ MOST_PIVOTS
+  pub few_conflicts : conflicts ≤ MOST_CONFLICTS
 
 -- what is so of a line that is fit, and of the line of an open part where a number is too wide, if any part may be open
 pub record AreLines (pivots : ℕ) (Q : Item → Type 0) (Open : Type 0) : Type 0 where

@@ -4,8 +4,9 @@ use Rattle.std.specs.List.{AllByRecursion}
 use Rattle.ps_io.specs.LineText.{lines_bytes}
 use Rattle.ps_io.specs.declared.limits.TheConstants.{LONGEST_LINE}
 use Rattle.ps_problem.specs.Problems.{Parts, AreParts}
+use Rattle.ps_answer.specs.declared.limits.TheConstants.{MOST_PIVOTS, MOST_CONFLICTS}
 use Rattle.ps_answer.specs.declared.answer.Answer.{Answer}
-use Rattle.ps_answer.specs.Items.{IsProper, IsWithin, item_line, most_pivots, most_conflicts}
+use Rattle.ps_answer.specs.Items.{IsProper, IsWithin, item_line}
 use Rattle.ps_answer.specs.Answers.{answer_items, answer_lines}
 use Rattle.ps_answer.specs.Faults.{IsReport}
 use Rattle.ps_claims.specs.Claims.{unfinished_of}
@@ -17,15 +18,15 @@ use Rattle.ps_phases.specs.Verdicts.{IsLawfulAnswer}
 -- an answer of a run within the limits of pivots and conflicts: lawful, valid, and of numbers that can be printed
 pub record IsAnswered (p : Parts) (pivots conflicts : ℕ) (a : Answer) : Type 0 where
   pub parts : AreParts p
-  pub few_pivots : pivots ≤ most_pivots
-  pub few_conflicts : conflicts ≤ most_conflicts
+  pub few_pivots : pivots ≤ MOST_PIVOTS
+  pub few_conflicts : conflicts ≤ MOST_CONFLICTS
   pub lawful : IsLawfulAnswer p pivots conflicts a
   pub valid : IsValid p (answer_of a)
   pub printed : IsPrintedAnswer a
 
 -- what an open part may name lies within the limits: fewer pivots are allowed than a run may be, or nothing is open
 abbrev pub NamesFewWorlds : ℕ → Answer → Type 0
-NamesFewWorlds pivots a = (pivots < most_pivots) ⊎ (unfinished_of (answer_of a) ≡ 0)
+NamesFewWorlds pivots a = (pivots < MOST_PIVOTS) ⊎ (unfinished_of (answer_of a) ≡ 0)
 
 -- each line of it is within the limits of a report, and has the signs that it asks
 abbrev pub AnswersAreWithin : Type 0

@@ -18,7 +18,7 @@ use Rattle.ps_claims.specs.Validity.{IsValid, IsValidPart}
 use Rattle.ps_read.specs.Readings.{SpellsProblem}
 use Rattle.ps_valid.specs.Answers.{answer_of, verdict_of}
 use Rattle.ps_generation.specs.declared.limits.Limits.{Limits}
-use Rattle.ps_generation.specs.declared.limits.TheConstants.{MOST_PIVOTS}
+use Rattle.ps_answer.specs.declared.limits.TheConstants.{MOST_PIVOTS}
 use Rattle.psat.specs.declared.status.Status.{Status}
 use Rattle.psat.specs.declared.status.Status.TheVariants.{Unfinished}
 use Rattle.psat.specs.declared.command.Command.TheVariants.{Check}

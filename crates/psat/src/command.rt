@@ -6,7 +6,8 @@ ghost use Rattle.psat.specs.Settings.{SpellNoSetting, SpellSetting, setting_of};
 ghost use Rattle.psat.specs.Settings.{limits_by, limits_by_both};
 
 use itoa::Buffer;
-use ps_query::{Limits, MOST_PIVOTS};
+use ps_answer::{MOST_CONFLICTS, MOST_PIVOTS};
+use ps_query::Limits;
 
 /// The most bytes that `check` reads where the words name no number.
 pub const DEFAULT_BYTES: u64 = 1 << 30;
@@ -22,9 +23,6 @@ pub const DEFAULT_PIVOTS: u64 = 10_000;
 
 /// How many clauses a search learns at most where the words name no number.
 pub const DEFAULT_CONFLICTS: u64 = 20_000;
-
-/// The most clauses that words may name.
-pub const MOST_CONFLICTS: u64 = 1 << 40;
 
 /// What the program is to do.
 #[derive(Clone, Copy, Debug, PartialEq, Eq)]
