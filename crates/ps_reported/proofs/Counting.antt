@@ -35,17 +35,12 @@ all_counted [] = omega arith
 all_counted (Pivot enter leave ∷ events) = let e = all_counted events in omega (arith, e)
 all_counted (Priced world ∷ events) = let e = all_counted events in omega (arith, e)
 
--- a column is a home of these rows, or one of the first worlds
-abbrev pub IsColUnder : ℕ → ℕ → Col → Type 0
-IsColUnder rows most (col.Home i) = i < rows
-IsColUnder rows most (col.World n) = (0 < n) × (n ≤ most)
-
 -- an event is over these rows and worlds, of so many atoms
 abbrev pub IsEventUnder : ℕ → ℕ → ℕ → Event → Type 0
-IsEventUnder rows most atoms (Pivot enter leave) = IsColUnder rows most enter × (leave < rows)
+IsEventUnder rows most atoms (Pivot enter leave) = IsInside rows most enter × (leave < rows)
 IsEventUnder rows most atoms (Priced world) = length world ≡ atoms
 
-pub col_more : (rows more few most : ℕ) (c : Col) → rows ≤ more → few ≤ most → IsColUnder rows few c → IsColUnder more most c
+pub col_more : (rows more few most : ℕ) (c : Col) → rows ≤ more → few ≤ most → IsInside rows few c → IsInside more most c
 col_more rows more few most (col.Home i) h k l = omega (arith, h, l)
 col_more rows more few most (col.World n) h k l = (l.0, omega (arith, k, l.1))
 
@@ -55,10 +50,6 @@ event_more rows few most atoms h (Priced world) k = k
 
 pub events_more : (rows few most atoms : ℕ) (events : List Event) → few ≤ most → AllByRecursion (IsEventUnder rows few atoms) events → AllByRecursion (IsEventUnder rows most atoms) events
 events_more rows few most atoms events h k = each (IsEventUnder rows few atoms) (IsEventUnder rows most atoms) events (event_more rows few most atoms h) k
-
-pub inside_under : (rows worlds most : ℕ) (c : Col) → worlds ≤ most → IsInside rows worlds c → IsColUnder rows most c
-inside_under rows worlds most (col.Home i) h k = k
-inside_under rows worlds most (col.World n) h k = (k.0, omega (arith, h, k.1))
 
 -- at a stage no world is priced, nor does phase one end
 pub record IsSettling (kind : ClaimKind) (s : Subject) (conflicts : ℕ) (g : Stage) : Type 0 where
@@ -99,7 +90,7 @@ module _ (kind : ClaimKind) (s : Subject) (conflicts : ℕ) (a b : Stage) (event
         under =
             both (IsEventUnder rows (length a.pool + pivots_in (events ++ Pivot enter leave ∷ [])) (atoms_of s)) events (Pivot enter leave ∷ [])
             (events_more rows (length a.pool + pivots_in events) (length a.pool + pivots_in (events ++ Pivot enter leave ∷ [])) (atoms_of s) events (omega (arith, up)) come.under)
-            ((inside_under rows (length b.pool) (length a.pool + pivots_in (events ++ Pivot enter leave ∷ [])) enter (omega (arith, pool, few, up)) there, row), tt);
+            ((col_more rows rows (length b.pool) (length a.pool + pivots_in (events ++ Pivot enter leave ∷ [])) enter (omega arith) (omega (arith, pool, few, up)) there, row), tt);
       }
 
   -- where a world is priced there are at most as many as pivots

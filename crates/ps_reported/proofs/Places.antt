@@ -9,7 +9,7 @@ use Rattle.ps_table.specs.declared.place.Place.{Place}
 use Rattle.ps_table.specs.declared.place.Place.TheVariants as place
 use Rattle.ps_table.specs.declared.place.TableCol.{TableCol}
 use Rattle.ps_table.specs.declared.place.TableCol.TheVariants as shown
-use Rattle.ps_table.specs.Tableau.{IsShown}
+use Rattle.ps_table.specs.Tableau.{IsInside, IsShown}
 use Rattle.ps_table.specs.Places.{PivotPlace, at_scale, at_times, at_minus, NewPlace, at_new_times, at_new_plus, CostPlace, at_cost, MultiplierPlace, at_whole, at_scaled, WeightPlace, at_weight, at_weighed, at_total}
 use Rattle.ps_bland.specs.DuePlaces.{DuePlace, of_cost, of_ratio, of_pivot}
 use Rattle.ps_claims.specs.declared.claim_kind.ClaimKind.{ClaimKind}
@@ -17,19 +17,15 @@ use Rattle.ps_runs.specs.Rows.{rows_of}
 use Rattle.ps_runs.specs.Runs.{Subject, setting_of, Stage}
 use Rattle.ps_phases.specs.Licences.{DueAt, for_pivots, for_multiplier, for_dual, for_model}
 use Rattle.ps_answer.specs.Items.{IsColWithin, IsShownWithin, IsPlaceWithin}
-use Rattle.ps_reported.proofs.Counting.{IsColUnder, col_more, inside_under}
-
-abbrev pub IsShownUnder : ℕ → ℕ → TableCol → Type 0
-IsShownUnder rows most shown.Right = Unit {0}
-IsShownUnder rows most (shown.Of c) = IsColUnder rows most c
+use Rattle.ps_reported.proofs.Counting.{col_more}
 
 -- a place is over these rows and worlds
 abbrev pub IsPlaceUnder : ℕ → ℕ → Place → Type 0
 IsPlaceUnder rows most (place.Ratio i) = i < rows
-IsPlaceUnder rows most (place.Scale j) = IsShownUnder rows most j
-IsPlaceUnder rows most (place.Times i j) = (i < rows) × IsShownUnder rows most j
-IsPlaceUnder rows most (place.Minus i j) = (i < rows) × IsShownUnder rows most j
-IsPlaceUnder rows most (place.Cost j i) = IsColUnder rows most j × (i < rows)
+IsPlaceUnder rows most (place.Scale j) = IsShown rows most j
+IsPlaceUnder rows most (place.Times i j) = (i < rows) × IsShown rows most j
+IsPlaceUnder rows most (place.Minus i j) = (i < rows) × IsShown rows most j
+IsPlaceUnder rows most (place.Cost j i) = IsInside rows most j × (i < rows)
 IsPlaceUnder rows most (place.Whole i) = i < rows
 IsPlaceUnder rows most (place.Scaled i) = i < rows
 IsPlaceUnder rows most (place.Weight i) = i < rows
@@ -39,16 +35,12 @@ IsPlaceUnder rows most (place.NewTimes i m) = (i < rows) × (m < rows)
 IsPlaceUnder rows most (place.NewPlus i m) = (i < rows) × (m < rows)
 
 module _ (rows most : ℕ) where
-  shown_under : (c : TableCol) → IsShown rows most c → IsShownUnder rows most c
-  shown_under shown.Right h = tt
-  shown_under (shown.Of c) h = inside_under rows most most c (omega arith) h
-
   pivot_under : (X : ℕ → ℕ → Rational) (p q : ℕ) (at : Place) (op : Op) (l r : Rational) → PivotPlace rows most X p q at op l r → IsPlaceUnder rows most at
-  pivot_under X p q at op l r (at_scale c h) = shown_under c h
-  pivot_under X p q at op l r (at_times i c h ne k) = (h, shown_under c k)
-  pivot_under X p q at op l r (at_minus i c h ne k) = (h, shown_under c k)
+  pivot_under X p q at op l r (at_scale c h) = h
+  pivot_under X p q at op l r (at_times i c h ne k) = (h, k)
+  pivot_under X p q at op l r (at_minus i c h ne k) = (h, k)
 
-  cost_under : (cost : ℕ → Rational) (basic : ℕ → ℕ) (X : ℕ → ℕ → Rational) (c : Col) (at : Place) (op : Op) (l r : Rational) → IsColUnder rows most c
+  cost_under : (cost : ℕ → Rational) (basic : ℕ → ℕ) (X : ℕ → ℕ → Rational) (c : Col) (at : Place) (op : Op) (l r : Rational) → IsInside rows most c
       → CostPlace rows cost basic X c at op l r → IsPlaceUnder rows most at
   cost_under cost basic X c at op l r h (at_cost i k) = (h, k)
 
@@ -69,7 +61,7 @@ module _ (rows most : ℕ) where
 settle_under : (phase : Phase) (t : SimplexTable) (worlds left : ℕ) (cost : ℕ → Rational) (at : Place) (op : Op) (l r : Rational) → DuePlace phase t worlds left cost at op l r
     → IsPlaceUnder t.rows worlds at
 settle_under phase t worlds left cost at op l r (of_cost c at' op' l' r' unfinished inside real least h) =
-    cost_under t.rows worlds cost t.basic t.entry c at' op' l' r' (inside_under t.rows worlds worlds c (omega arith) inside) h
+    cost_under t.rows worlds cost t.basic t.entry c at' op' l' r' inside h
 settle_under phase t worlds left cost at op l r (of_ratio c i unfinished some inside enters decide rising) = rising.within
 settle_under phase t worlds left cost at op l r (of_pivot c p at' op' l' r' unfinished some inside enters leaves h) =
     pivot_under t.rows worlds t.entry p _ at' op' l' r' h
@@ -83,7 +75,7 @@ due_under kind s g left X at op l r (for_dual at' op' l' r' rests h) = multiplie
 due_under kind s g left X at op l r (for_model at' op' l' r' due h) = weight_under (rows_of (setting_of s)) (length g.pool) g.basis X at' op' l' r' h
 
 -- ---- over more rows and worlds
-shown_more : (rows more few most : ℕ) (c : TableCol) → rows ≤ more → few ≤ most → IsShownUnder rows few c → IsShownUnder more most c
+shown_more : (rows more few most : ℕ) (c : TableCol) → rows ≤ more → few ≤ most → IsShown rows few c → IsShown more most c
 shown_more rows more few most shown.Right h k l = tt
 shown_more rows more few most (shown.Of c) h k l = col_more rows more few most c h k l
 
@@ -102,11 +94,11 @@ place_more rows more few most (place.NewTimes i m) h k l = (omega (arith, h, l.0
 place_more rows more few most (place.NewPlus i m) h k l = (omega (arith, h, l.0), omega (arith, h, l.1))
 
 -- ---- within the limits of a report
-pub col_within : (rows most : ℕ) (c : Col) → rows ≤ 101 → most ≤ 1000001 → IsColUnder rows most c → IsColWithin c
+pub col_within : (rows most : ℕ) (c : Col) → rows ≤ 101 → most ≤ 1000001 → IsInside rows most c → IsColWithin c
 col_within rows most (col.Home i) few worlds h = omega (arith, few, h)
 col_within rows most (col.World n) few worlds h = (omega (arith, h.0), omega (arith, worlds, h.1))
 
-shown_within : (rows most : ℕ) (c : TableCol) → rows ≤ 101 → most ≤ 1000001 → IsShownUnder rows most c → IsShownWithin c
+shown_within : (rows most : ℕ) (c : TableCol) → rows ≤ 101 → most ≤ 1000001 → IsShown rows most c → IsShownWithin c
 shown_within rows most shown.Right few worlds h = tt
 shown_within rows most (shown.Of c) few worlds h = col_within rows most c few worlds h
 

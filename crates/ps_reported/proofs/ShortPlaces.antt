@@ -13,13 +13,13 @@ use Rattle.ps_table.specs.declared.place.Place.{Place}
 use Rattle.ps_table.specs.declared.place.Place.TheVariants as place
 use Rattle.ps_table.specs.declared.place.TableCol.{TableCol}
 use Rattle.ps_table.specs.declared.place.TableCol.TheVariants as shown
+use Rattle.ps_table.specs.Tableau.{IsInside, IsShown}
 use Rattle.ps_answer.specs.declared.item.Ratio.{Ratio}
 use Rattle.ps_answer.specs.declared.item.Item.TheVariants.{OpenWide}
 use Rattle.ps_answer.specs.Words.{Word, Fraction, Column, word_text}
 use Rattle.ps_answer.specs.Items.{op_word, shown_word, place_words, item_words, item_line, IsRatioWithin, most_operand}
 use Rattle.ps_valid.proofs.ShortLines.{short_line}
-use Rattle.ps_reported.proofs.Counting.{IsColUnder}
-use Rattle.ps_reported.proofs.Places.{IsShownUnder, IsPlaceUnder, place_within}
+use Rattle.ps_reported.proofs.Places.{IsPlaceUnder, place_within}
 
 -- ---- words of the same length
 AreAsLong : List Word → List Word → Type 0
@@ -100,12 +100,12 @@ place_before (place.Total i) = place.Total i
 place_before (place.NewTimes i m) = place.NewTimes i m
 place_before (place.NewPlus i m) = place.NewPlus i m
 
-col_under : (rows : ℕ) (c : Col) → IsColUnder rows 1000002 c → IsColUnder rows 1000001 (col_before c)
+col_under : (rows : ℕ) (c : Col) → IsInside rows 1000002 c → IsInside rows 1000001 (col_before c)
 unfolding col_before
 col_under rows (col.Home i) h = h
 col_under rows (col.World n) h = ((is_before n).some h.0, (is_before n).most h.1)
 
-shown_under : (rows : ℕ) (c : TableCol) → IsShownUnder rows 1000002 c → IsShownUnder rows 1000001 (shown_before c)
+shown_under : (rows : ℕ) (c : TableCol) → IsShown rows 1000002 c → IsShown rows 1000001 (shown_before c)
 unfolding shown_before
 shown_under rows shown.Right h = tt
 shown_under rows (shown.Of c) h = col_under rows c h
