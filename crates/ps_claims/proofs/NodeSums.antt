@@ -51,7 +51,7 @@ and_true true = refl
 and_true false = refl
 
 -- the node for formula and condition together is true where both are
-both-indicator : (ns : List Node) (w : World) (formula : ℕ) (given : Option ℕ) (both : ℕ) → IsBoth ns formula given both → indicator (tree_at ns both) w ≡ indicator (And (tree_at ns formula) (given_at ns given)) w
+pub both-indicator : (ns : List Node) (w : World) (formula : ℕ) (given : Option ℕ) (both : ℕ) → IsBoth ns formula given both → indicator (tree_at ns both) w ≡ indicator (And (tree_at ns formula) (given_at ns given)) w
 both-indicator ns w formula None both e = rw (e, and_true (is_true (tree_at ns formula) w)) refl
 both-indicator ns w formula (Some g) both e = ap (λ f. indicator f w) e
 

@@ -1,9 +1,9 @@
 -- Columns, homes and costs by the truth values of nodes are those of the setting.
-use Rattle.std.proofs.Common.{◌≡◌, ◌≢◌, ℕ, ℤ, pos, neg_ℤ, ◌-ℤ◌, ◌*ℤ◌, Bool, true, false, ◌&&◌, cond, Option, Some, None, List, [], ◌∷◌, map, All, sym, refl, ap, ◌∙◌, subst}
+use Rattle.std.proofs.Common.{◌≡◌, ℕ, ℤ, pos, neg_ℤ, ◌-ℤ◌, ◌*ℤ◌, Bool, true, false, cond, Option, Some, None, List, [], ◌∷◌, map, All, refl, ap, ◌∙◌}
 use Rattle.std.proofs.lemmas.List.Elements.{All-head, All-tail}
 use Rattle.ps_meaning.specs.declared.side.Side.{Side}
 use Rattle.ps_meaning.specs.declared.side.Side.TheVariants.{AtLeast, AtMost, Exactly}
-use Rattle.ps_meaning.specs.Formula.{World, And, is_true}
+use Rattle.ps_meaning.specs.Formula.{World}
 use Rattle.ps_meaning.specs.Bounds as meaning
 use Rattle.ps_meaning.specs.Rows.{indicator, row_value}
 use Rattle.ps_formula.specs.declared.node.Node.{Node}
@@ -13,12 +13,12 @@ use Rattle.ps_problem.specs.declared.bound.Bound.{Bound}
 use Rattle.ps_problem.specs.declared.query.Query as stored
 use Rattle.ps_problem.specs.Problems.{Parts, AreParts, IsBound, IsBoth, tree_at, given_at, bound_of, bounds_in}
 use Rattle.ps_table.specs.declared.home.Home.{Home}
-use Rattle.ps_table.specs.declared.costs.Costs.{Costs}
 use Rattle.ps_claims.specs.declared.claim_kind.ClaimKind.{ClaimKind}
 use Rattle.ps_claims.specs.declared.claim_kind.ClaimKind.TheVariants.{Nothing, Lower, Upper}
+use Rattle.ps_claims.proofs.NodeSums.{both-indicator}
 use Rattle.ps_columns.specs.Columns as over
 use Rattle.ps_problem.specs.Rows as rows
-use Rattle.ps_runs.specs.Rows.{Setting, entry_in, entries_of, is_exact, artificial_rows, home_cost, world_cost, both_of}
+use Rattle.ps_runs.specs.Rows.{entry_in, entries_of, is_exact, artificial_rows, home_cost, world_cost, both_of}
 use Rattle.ps_runs.specs.Runs.{Subject, setting_of, asked_in, given_in, both_in, IsAsked}
 use Rattle.ps_phases.specs.Tables.{phase_of, home_of, homes_of, costs_for}
 use Rattle.ps_phases.proofs.Ready.{lower_apart, upper_apart}
@@ -31,16 +31,8 @@ module _ (ns : List Node) (w : World) where
   given_is None = refl
   given_is (Some i) = indicator_at i
 
-  and_true : (b : Bool) → b && true ≡ b
-  and_true true = refl
-  and_true false = refl
-
-  both_is : (formula : ℕ) (given : Option ℕ) (both : ℕ) → IsBoth ns formula given both → indicator (tree_at ns both) w ≡ indicator (And (tree_at ns formula) (given_at ns given)) w
-  both_is formula None both e = ap (λ i. indicator (tree_at ns i) w) e ∙ ap (λ b. cond b (pos 1) (pos 0)) (sym (and_true (is_true (tree_at ns formula) w)))
-  both_is formula (Some g) both e = ap (λ f. indicator f w) e
-
   row_is : (b : Bound) → IsBound ns b → rows.row_over (truths ns w) b ≡ row_value (bound_of ns b) w
-  row_is b is = λ i. (pos b.den *ℤ (indicator_at b.both ∙ both_is b.formula b.given b.both is.nodes.both_is) i) -ℤ (pos b.num *ℤ given_is b.given i)
+  row_is b is = λ i. (pos b.den *ℤ (indicator_at b.both ∙ both-indicator ns w b.formula b.given b.both is.nodes.both_is) i) -ℤ (pos b.num *ℤ given_is b.given i)
 
   entry_is : (b : Bound) → IsBound ns b → over.entry_over (truths ns w) b ≡ entry_in w (bound_of ns b)
   entry_is b is = ap (rows.turned b.side) (row_is b is)
@@ -85,7 +77,7 @@ home_costs_are kind (b ∷ bs) = λ i. home_cost_is kind b i ∷ home_costs_are 
 
 query_is : (p : Parts) (q : stored.Query) (w : World) → IsBoth p.nodes q.formula q.given q.both
     → rows.indicator_of (truths p.nodes w) q.both ≡ indicator (both_of (setting_of (record { parts = p; query = Some q }))) w
-query_is p q w both = indicator_at p.nodes w q.both ∙ both_is p.nodes w q.formula q.given q.both both
+query_is p q w both = indicator_at p.nodes w q.both ∙ both-indicator p.nodes w q.formula q.given q.both both
 
 world_cost_is : (kind : ClaimKind) (p : Parts) (q : Option stored.Query) (w : World) → IsAsked kind p q
     → over.cost_over (phase_of kind) (both_in q) (truths p.nodes w) ≡ world_cost kind (setting_of (record { parts = p; query = q })) w

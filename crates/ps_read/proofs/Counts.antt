@@ -1,13 +1,14 @@
 -- What a count's refusal says of the items and of the text.
-use Rattle.std.proofs.Common.{◌≡◌, ℕ, zero, suc, ◌+◌, ◌-◌, ◌<◌, ◌≤◌, List, [], ◌∷◌, ◌++◌, length, take, inr, refl, sym, ap, subst, ◌∙◌, arith, append_assoc}
+use Rattle.std.proofs.Common.{◌≡◌, ℕ, zero, suc, ◌+◌, ◌-◌, ◌<◌, ◌≤◌, List, [], ◌∷◌, ◌++◌, length, take, inr, refl, ap, subst, ◌∙◌, arith, append_assoc}
 use Rattle.std.proofs.lemmas.List.{length-take-le}
 use Rattle.std.specs.Prelude.{Result, Ok, Err, nat_lt, if◌then◌else◌}
 use Rattle.ps_meaning.specs.Formula.{Formula}
 use Rattle.ps_meaning.specs.Statements.{Name, Item, Stated, Asked}
-use Rattle.ps_text.specs.Pieces.{Piece, Spelled, text, texts}
+use Rattle.ps_text.specs.Pieces.{Spelled, text, texts}
 use Rattle.ps_text.specs.Grammar.{Entry}
 use Rattle.ps_text.specs.Meanings.{AreItems}
 use Rattle.ps_text.specs.Positions as text
+use Rattle.ps_text.proofs.Laying.{texts-append}
 use Rattle.ps_lex.specs.declared.position.Position.{Position}
 use Rattle.ps_lex.specs.Places.{position_of}
 use Rattle.ps_problem.specs.declared.limits.TheConstants.{MOST_BOUNDS, MOST_QUERIES}
@@ -18,6 +19,7 @@ use Rattle.ps_parse.specs.Kept.{drafted_in}
 use Rattle.ps_read.specs.declared.read_kind.ReadKind.{ReadKind}
 use Rattle.ps_read.specs.Readings.{IsProblemOf, SpellsProblem, IsUnread}
 use Rattle.ps_read.specs.Answers.{Parsed, IsExcessIn}
+use Rattle.ps_read.proofs.OneReading.{err_same}
 use Rattle.ps_read.proofs.Right.{IsParsedText, is_position}
 
 -- an item's number is one of those from `before` on
@@ -27,9 +29,6 @@ record IsAmong (before : ℕ) (items : List Item) (r : Refused) : Type 0 where
 
 further_on : (before : ℕ) (i : Item) (items : List Item) (r : Refused) → IsAmong (before + 1) items r → IsAmong before (i ∷ items) r
 further_on before i items r h = record { least = omega (arith, h.least); most = omega (arith, h.most) }
-
-err_same : (a b : Refused) (x : Result (List (Formula Name)) Refused) → x ≡ Err a → x ≡ Err b → a ≡ b
-err_same a b x e f = cc
 
 at_this : (before : ℕ) (i : Item) (items : List Item) (x : Result (List (Formula Name)) Excess) (more : List (Formula Name) → Result (List (Formula Name)) Refused) (r : Refused)
     → at_item (before + 1) x more ≡ Err r → ((fs : List (Formula Name)) → more fs ≡ Err r → IsAmong before (i ∷ items) r) → IsAmong before (i ∷ items) r
@@ -84,10 +83,6 @@ split [] i l = absurd (omega (arith, l))
 split (e ∷ es) zero l = record { entry = e; later = es; is = refl }
 split (e ∷ es) (suc i) l = let s = split es i (omega (arith, l)) in record { entry = s.entry; later = s.later; is = ap (λ fs. e ∷ fs) s.is }
 
-texts_both : (ps qs : List Piece) → texts (ps ++ qs) ≡ texts ps ++ texts qs
-texts_both [] qs = refl
-texts_both (p ∷ ps) qs = ap (λ bs. text p ++ bs) (texts_both ps qs) ∙ sym (append_assoc (text p) (texts ps) (texts qs))
-
 -- a problem is spelled where what was parsed makes it
 pub spelled : (bytes : List ℕ) (place : Position) (x : Parsed) (p : Parts) → IsParsedText bytes place x → IsProblemOf (drafted_in x.machine).items p → SpellsProblem bytes p place.offset
 spelled bytes place x p t m = record { items = (drafted_in x.machine).items; front = record { text = t.front; meant = t.items }; made = m }
@@ -103,7 +98,7 @@ refused bytes place x kind position t e =
     let s = split t.front.entries (e.refusal.item - 1) (omega (arith, least, most, many)) in
     let b = t.begun.each (e.refusal.item - 1) (omega (arith, least, most, many, t.begun.many)) in
     let there : bytes ≡ texts b.before ++ (texts (Spelled b.first ∷ b.behind) ++ t.front.rest) =
-    t.front.is ∙ ap (λ ps. texts ps ++ t.front.rest) b.pieces_are ∙ ap (λ bs. bs ++ t.front.rest) (texts_both b.before (Spelled b.first ∷ b.behind))
+    t.front.is ∙ ap (λ ps. texts ps ++ t.front.rest) b.pieces_are ∙ ap (λ bs. bs ++ t.front.rest) (texts-append b.before (Spelled b.first ∷ b.behind))
     ∙ append_assoc (texts b.before) (texts (Spelled b.first ∷ b.behind)) t.front.rest in
     inr (record {
       items = items;

@@ -83,7 +83,8 @@ begins_once pieces entries number n m f g =
     let before = split_once f.before g.before f.behind g.behind f.first g.first (sym f.pieces_are ∙ g.pieces_are) alike in
     f.place_is ∙ ap (λ ps. length (texts ps)) before ∙ sym g.place_is
 
-err_same : (a b : Refused) (x : Result (List (Formula Name)) Refused) → x ≡ Err a → x ≡ Err b → a ≡ b
+-- an error is one
+pub err_same : (a b : Refused) (x : Result (List (Formula Name)) Refused) → x ≡ Err a → x ≡ Err b → a ≡ b
 err_same a b x e f = cc
 
 ok_is_no_err : (fs : List (Formula Name)) (r : Refused) (x : Result (List (Formula Name)) Refused) → x ≡ Ok fs → x ≡ Err r → ⊥
