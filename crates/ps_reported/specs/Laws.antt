@@ -1,5 +1,5 @@
 -- Laws of writing what a run answers.
-use Rattle.std.specs.Prelude.{◌≡◌, ◌⊎◌, ℕ, ◌<◌, ◌≤◌, ◌^◌, false, length}
+use Rattle.std.specs.Prelude.{◌≡◌, ◌⊎◌, ℕ, ◌<◌, ◌≤◌, false, length}
 use Rattle.std.specs.List.{AllByRecursion}
 use Rattle.ps_io.specs.LineText.{lines_bytes}
 use Rattle.ps_io.specs.declared.limits.TheConstants.{LONGEST_LINE}

@@ -1,5 +1,5 @@
 -- Runs over some of a problem's sentences: a run over them is one of the problem that has them alone.
-use Rattle.std.specs.Prelude.{◌≡◌, ℕ, Bool, true, Option, Some, None, List, [], ◌∷◌, length, All}
+use Rattle.std.specs.Prelude.{◌≡◌, Bool, true, Option, Some, None, List, [], ◌∷◌, length, All}
 use Rattle.ps_problem.specs.declared.bound.Bound.{Bound}
 use Rattle.ps_problem.specs.declared.sentence.Sentence.{Sentence}
 use Rattle.ps_problem.specs.Problems.{Parts, parts_of}

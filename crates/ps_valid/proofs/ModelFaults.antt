@@ -1,17 +1,13 @@
 -- The first reason against a model, and the claim that it makes.
-use Rattle.std.proofs.Common.{◌≡◌, ◌≢◌, ℕ, zero, suc, negsuc, ◌+◌, ◌<◌, ◌≤◌, ℤ, pos, ◌≤ℤ◌, Option, Some, None, List, [], ◌∷◌, length, get_or, All, refl, ap, arith}
-use Rattle.std.specs.Prelude.{Any, MatchOption}
-use Rattle.std.proofs.lemmas.Int.{ints}
+use Rattle.std.proofs.Common.{◌≡◌, ◌≢◌, ℕ, zero, suc, ◌+◌, ◌<◌, ◌≤◌, ℤ, pos, ◌≤ℤ◌, Option, Some, None, List, length, All, refl, ap, arith}
+use Rattle.std.specs.Prelude.{Any}
 use Rattle.std.proofs.lemmas.List.{length-map}
 use Rattle.std.proofs.lemmas.List.Elements.{All-map}
-use Rattle.ps_meaning.specs.Distribution.{Entry, total}
-use Rattle.ps_problem.specs.Problems.{Parts, bound_of, bounds_in, bounds_of}
+use Rattle.ps_problem.specs.Problems.{Parts, bound_of, bounds_in}
 use Rattle.ps_answer.specs.declared.answer.Weighted.{Weighted}
 use Rattle.ps_answer.specs.declared.answer.Model.{Model}
 use Rattle.ps_entailment.specs.Answers as claimed
-use Rattle.ps_entailment.specs.Answers.{ShowsConsistent}
-use Rattle.ps_claims.specs.Claims as claims
-use Rattle.ps_claims.specs.Claims.{Claim, Modelled, HasShape, AreFew, IsSound, IsFirstIn, model_of as claim_model}
+use Rattle.ps_claims.specs.Claims.{Claim, Modelled, HasShape, AreFew, IsFirstIn, model_of as claim_model}
 use Rattle.ps_claims.proofs.Decided.{sound-shows}
 use Rattle.ps_valid.specs.declared.refusal.Reason.{Reason}
 use Rattle.ps_valid.specs.declared.refusal.Reason.TheVariants.{WrongShape, TooManyWorlds, WeightZero, WorldTwice, TotalWrong, BoundMissed, EvidenceZero, ValueMissed, HeadWrong, MultiplierSign, StepRefused, NotRefuted}
