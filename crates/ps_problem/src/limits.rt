@@ -1,4 +1,8 @@
 //! The limits of a problem.
+ghost use Rattle.std.specs.Prelude.{◌≡◌, ◌-◌, ◌^◌};
+ghost use Rattle.ps_problem.specs.declared.limits.TheConstants.{MOST_BOUNDS, MOST_QUERIES};
+ghost use Rattle.ps_problem.specs.declared.limits.TheConstants.{MOST_NESTING, MOST_DENOMINATOR};
+ghost use Rattle.ps_problem.specs.declared.limits.TheConstants.{MOST_DRAFTED, MOST_ENTRY};
 
 /// The most bounds; an interval has two.
 pub const MOST_BOUNDS: usize = 100;
@@ -12,3 +16,13 @@ pub const MOST_DENOMINATOR: usize = 1_000_000;
 pub const MOST_DRAFTED: u32 = u32::MAX;
 /// The greatest size of what the row of a bound has in a world.
 pub const MOST_ENTRY: u32 = u32::MAX;
+
+/// The limits by their numbers.
+pub fn limits_have_these_numbers()
+    ensures bounds { MOST_BOUNDS ≡ 100 }
+    ensures queries { MOST_QUERIES ≡ 16 }
+    ensures nesting { MOST_NESTING ≡ 100 }
+    ensures denominator { MOST_DENOMINATOR ≡ 1000000 }
+    ensures drafted { MOST_DRAFTED ≡ 2 ^ 32 - 1 }
+    ensures entry { MOST_ENTRY ≡ 2 ^ 32 - 1 }
+{}

@@ -14,6 +14,8 @@ pub use laws::{
     canonical_text_means_its_items, entries_have_one_meaning, expected_tokens_are_derived,
     one_refusal_at_most, one_text_stands_at_the_front, what_is_read_is_lawful,
 };
-pub use limits::{GREATEST_DENOMINATOR, LONGEST_WORD, MOST_DECIMALS, MOST_OPEN};
+pub use limits::{
+    GREATEST_DENOMINATOR, LONGEST_WORD, MOST_DECIMALS, MOST_OPEN, limits_have_these_numbers,
+};
 pub use part::{Opening, Part};
 pub use symbol::Symbol;
