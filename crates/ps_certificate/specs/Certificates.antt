@@ -11,6 +11,7 @@ use Rattle.ps_claims.specs.declared.claim_kind.ClaimKind.{ClaimKind}
 use Rattle.ps_claims.specs.declared.claim_kind.ClaimKind.TheVariants.{Nothing}
 use Rattle.ps_claims.specs.declared.combination.Combination.{Combination}
 use Rattle.ps_claims.specs.Goals.{combination_of}
+use Rattle.ps_claims.specs.Limits.{most_dual_number}
 
 -- the entry that a weighted world stands for
 abbrev pub entry_of : Weighted → Entry
@@ -28,11 +29,11 @@ model_of m = record { total = m.total; worlds = entries m.worlds }
 abbrev pub dual_of : Dual → claimed.Dual
 dual_of d = record { top = d.top; head = d.head; rows = d.rows; steps = d.steps }
 
--- of at most 2^90 in size
+-- small enough for a number of a dual
 abbrev pub IsMultiplier : ℤ → Type 0
-IsMultiplier y = unsigned_abs y ≤ 2 ^ 90
+IsMultiplier y = unsigned_abs y ≤ most_dual_number
 
--- each number of the dual is of at most 2^90 in size
+-- each number of the dual is small enough
 pub record IsSmallDual (d : Dual) : Type 0 where
   pub top : IsMultiplier d.top
   pub head : IsMultiplier d.head

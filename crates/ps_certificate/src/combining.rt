@@ -1,8 +1,9 @@
 //! The combination of a claim and the bounds' rows.
 ghost use Rattle.std.specs.Prelude.{◌≡◌, ◌≤◌, ◌<◌, ◌+◌, ◌*◌, ◌^◌, ◌*ℤ◌, pos, length, All};
 ghost use Rattle.std.specs.Prelude.{IfOk, OnOk, IfSome, unsigned_abs};
-ghost use Rattle.ps_problem.specs.declared.limits.TheConstants.{MOST_BOUNDS};
+ghost use Rattle.ps_problem.specs.declared.limits.TheConstants.{MOST_BOUNDS, MOST_DENOMINATOR};
 ghost use Rattle.ps_problem.specs.Problems.{bounds_in};
+ghost use Rattle.ps_claims.specs.Limits.{most_combination, most_dual_number};
 ghost use Rattle.ps_claims.specs.Goals.{plus, at_node, at_condition, row_times, rows_times};
 ghost use Rattle.ps_claims.specs.Goals.{claimed_of, combination_of, size_of};
 ghost use Rattle.ps_certificate.specs.Certificates.{dual_of, combination_over, HasQuery};
@@ -32,7 +33,7 @@ pub fn combination(
     requires rows { length dual.now.rows ≡ length (bounds_in problem.now.sentences) }
     requires small { IsSmallDual dual.now }
     ensures exact { IfOk result (λ c. c ≡ combination_over problem.now kind given both dual.now) }
-    ensures small { IfOk result (λ c. size_of c ≤ 2 ^ 120) }
+    ensures small { IfOk result (λ c. size_of c ≤ most_combination) }
 {
     let bounds = problem.bound_list();
     combination_of(alloc, bounds, kind, given, both, dual)
@@ -54,7 +55,7 @@ pub fn combination_of(
     requires small { IsSmallDual dual.now }
     ensures exact { IfOk result
         (λ c. c ≡ combination_of kind given both bounds.now (dual_of dual.now)) }
-    ensures small { IfOk result (λ c. size_of c ≤ 2 ^ 120) }
+    ensures small { IfOk result (λ c. size_of c ≤ most_combination) }
 {
     let mut sum = Combination {
         terms: List::new(alloc),
@@ -90,9 +91,9 @@ fn add_condition(sum: &mut Combination, weight: &i128, given: Option<u32>) -> Re
 
 fn times(multiplier: &i128, number: u32) -> i128
     requires small { IsMultiplier multiplier.now }
-    requires number { number ≤ 1000000 }
+    requires number { number ≤ MOST_DENOMINATOR }
     ensures value { result ≡ multiplier.now *ℤ pos number }
-    ensures size { unsigned_abs result ≤ 2 ^ 90 * 1000000 }
+    ensures size { unsigned_abs result ≤ most_dual_number * MOST_DENOMINATOR }
 {
     *multiplier * i128::from(number)
 }
@@ -133,7 +134,7 @@ fn add_claim(
     requires given { IfSome given IsNode }
     requires both { HasQuery kind → IsNode both }
     requires small { IsSmallDual dual.now }
-    requires fits { unsigned_abs sum.old.base ≤ 2 ^ 90 }
+    requires fits { IsMultiplier sum.old.base }
     ensures { OnOk result (sum.new ≡ plus sum.old (claimed_of kind given both (dual_of dual.now))) }
 {
     match kind {

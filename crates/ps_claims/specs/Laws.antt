@@ -12,6 +12,7 @@ use Rattle.ps_entailment.specs.Queries.{Query, IsImpossible, Holds}
 use Rattle.ps_entailment.specs.Answers.{Answer}
 use Rattle.ps_claims.specs.Duals.{Dual, ClaimKind, Nothing, Lower, Upper, HaveSigns, kept_of, AreZeroElsewhere, combination, IsNeverAbove, HasNothingHead, HasValueHead}
 use Rattle.ps_claims.specs.Goals.{Combination, value_under, size_of, combination_of, goal_of}
+use Rattle.ps_claims.specs.Limits.{most_dual_number, most_combination}
 use Rattle.ps_claims.specs.Faults.{DualFault, IsFaultless, IsFirstFault}
 use Rattle.ps_claims.specs.Claims.{claims_of, HasParts, AreValid, HaveWeightsNotBelow0, Place, Fault, IsRefused}
 use Rattle.ps_claims.specs.Validity.{query_of, IsRefuted, IsValid, IsRightFor}
@@ -41,10 +42,11 @@ abbrev pub CombinationsAreSums : Type 0
 CombinationsAreSums = (p : Parts) (kind : ClaimKind) (q : stored.Query) (d : Dual) (w : World) → AreParts p → HasNodes p.nodes q.formula q.given q.both
     → value_under (extension p.nodes w) (combination_of kind q.given q.both (bounds_in p.sentences) d) ≡ combination kind (bounds_of p) (query_of p.nodes q) d w
 
--- with numbers of at most 2^90 in size, the sizes in a combination sum to at most 2^120
+-- by a dual of numbers of at most this size, the sizes in a combination sum to at most that
 abbrev pub CombinationsAreSmall : Type 0
-CombinationsAreSmall = (p : Parts) (kind : ClaimKind) (given : Option ℕ) (both : ℕ) (d : Dual) → AreParts p → All (λ y. unsigned_abs y ≤ 2 ^ 90) d.rows
-    → unsigned_abs d.head ≤ 2 ^ 90 → unsigned_abs d.top ≤ 2 ^ 90 → size_of (combination_of kind given both (bounds_in p.sentences) d) ≤ 2 ^ 120
+CombinationsAreSmall = (p : Parts) (kind : ClaimKind) (given : Option ℕ) (both : ℕ) (d : Dual) → AreParts p → All (λ y. unsigned_abs y ≤ most_dual_number) d.rows
+    → unsigned_abs d.head ≤ most_dual_number → unsigned_abs d.top ≤ most_dual_number
+    → size_of (combination_of kind given both (bounds_in p.sentences) d) ≤ most_combination
 
 -- the goal of a combination is met exactly where the combination's value is at least 1
 abbrev pub GoalsSayAtLeastOne : Type 0

@@ -1,6 +1,7 @@
 -- Meaning
 pub mod Duals
 pub mod Goals
+pub mod Limits
 pub mod Validity
 pub mod Faults
 pub mod Claims

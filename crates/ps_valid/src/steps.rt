@@ -1,9 +1,10 @@
 //! The run of a dual's steps.
-ghost use Rattle.std.specs.Prelude.{◌≡◌, ◌≤◌, ◌^◌, false, None, IfOk};
+ghost use Rattle.std.specs.Prelude.{◌≡◌, ◌≤◌, false, None, IfOk};
 ghost use Rattle.ps_steps.specs.Steps.{first_refusal, refusal_of, ends_in_contradiction};
 ghost use Rattle.ps_forms.specs.Forms.{form_of};
 ghost use Rattle.ps_pbcheck.specs.Checked.{after_step, first_checked};
 ghost use Rattle.ps_claims.specs.Goals.{goal_of, size_of};
+ghost use Rattle.ps_claims.specs.Limits.{most_combination};
 
 use ps_claims::Combination;
 use ps_clause::clauses_of;
@@ -17,7 +18,7 @@ use std::alloc::Global;
 /// The checker that knows the clauses of a problem's formulas, and the goal that a combination is
 /// at least 1.
 pub fn checker_of(alloc: Global, problem: &Problem, sum: &Combination) -> Result<Checker, NoMemory>
-    requires { size_of sum.now ≤ 2 ^ 120 }
+    requires { size_of sum.now ≤ most_combination }
     ensures { IfOk result (λ c. c ≡ first_checked (form_of problem.now.nodes) (goal_of sum.now)) }
 {
     let goal = from_weights(alloc, sum.terms.as_slice(), 1 - sum.base)?;

@@ -1,6 +1,10 @@
 //! Laws about the definitions: a call does nothing, and its clauses are the law.
-ghost use Rattle.std.specs.Prelude.{◌≡◌, ℕ, List};
+ghost use Rattle.std.specs.Prelude.{◌≡◌, ◌^◌, ℕ, List};
 ghost use Rattle.psat.specs.declared.command.Command.{Command};
+ghost use Rattle.psat.specs.declared.command.TheConstants.{DEFAULT_BYTES, MOST_BYTES, MOST_PROBLEM};
+ghost use Rattle.psat.specs.declared.command.TheConstants.{DEFAULT_PIVOTS, DEFAULT_CONFLICTS};
+ghost use Rattle.psat.specs.declared.command.TheConstants.{MOST_CONFLICTS};
+ghost use Rattle.ps_generation.specs.declared.limits.TheConstants.{MOST_PIVOTS};
 ghost use Rattle.psat.specs.Accepting.{OneAnswerIsDue, ReportsAreAccepted};
 ghost use Rattle.psat.specs.Commands.{Spell};
 ghost use Rattle.psat.specs.Due.{OneOutputIsDue};
@@ -19,4 +23,15 @@ pub fn one_output_is_due()
 /// `check`, where nothing is open or the pivots were fewer than the most.
 pub fn reports_are_accepted()
     ensures { ReportsAreAccepted }
+{}
+
+/// The limits of the commands by their numbers.
+pub fn limits_have_these_numbers()
+    ensures default_bytes { DEFAULT_BYTES ≡ 2 ^ 30 }
+    ensures most_bytes { MOST_BYTES ≡ 2 ^ 40 }
+    ensures most_problem { MOST_PROBLEM ≡ 2 ^ 20 }
+    ensures default_pivots { DEFAULT_PIVOTS ≡ 10000 }
+    ensures most_pivots { MOST_PIVOTS ≡ 1000000 }
+    ensures default_conflicts { DEFAULT_CONFLICTS ≡ 20000 }
+    ensures most_conflicts { MOST_CONFLICTS ≡ 2 ^ 40 }
 {}
