@@ -1,7 +1,7 @@
 -- What a log tells before and after a call, and why it refuses.
-use Rattle.std.specs.Prelude.{ℕ, ◌≡◌, List, [], ◌++◌, Option, Some, Bool, IsTrue, IsErrOf, Result, ⊤}
+use Rattle.std.specs.Prelude.{ℕ, ◌≡◌, ◌≤◌, List, [], ◌++◌, Option, Some, Bool, IsTrue, IsErrOf, Result, OnOk, IfErr}
 use Rattle.std.specs.Option.{option_map}
-use Rattle.ps_io.specs.Causes.{Rose}
+use Rattle.ps_io.specs.Causes.{next_count}
 use Rattle.ps_steps.specs.Constraints.{Constraint}
 use Rattle.ps_steps.specs.Steps.{Step}
 use Rattle.ps_log.specs.declared.error.LogError.{LogError}
@@ -30,10 +30,16 @@ Grows old new more = IsTrue old.tells → IsTrue new.tells × (new.goal ≡ old.
 abbrev pub Stays : Telling → Telling → Type 0
 Stays old new = IsTrue old.tells → IsTrue new.tells × (new.goal ≡ old.goal) × (new.steps ≡ old.steps)
 
--- a fault comes only where the count rose
-abbrev pub HasCause : LogError → ℕ → ℕ → Type 0
-HasCause Fault before now = Rose before now
-HasCause NoMemory before now = ⊤
+-- of the reasons why a log refuses, a fault alone raises the count
+abbrev pub FaultAlone : LogError → ℕ → ℕ → Type 0
+FaultAlone Fault old new = new ≡ next_count old
+FaultAlone NoMemory old new = new ≡ old
+
+-- the count never falls; a fault of the log raises it by one, and every other answer leaves it as it was
+pub record CountsLogFault {T : Type 0} (result : Result T LogError) (old new : ℕ) : Type 0 where
+  pub later : old ≤ new
+  pub ok : OnOk result (new ≡ old)
+  pub err : IfErr result (λ e. FaultAlone e old new)
 
 -- want of memory comes only where memory is taken, and more can be handed over after it
 abbrev pub OnNoMemory : Result (Unit {0}) LogError → Bool → Bool → Type 0

@@ -1,7 +1,7 @@
 //! Where goals and steps are handed over.
-ghost use Rattle.std.specs.Prelude.{◌≡◌, ◌≤◌, ◌∷◌, [], ℕ, List, Bool, IsTrue, OnOk, OnErr, IfErr};
+ghost use Rattle.std.specs.Prelude.{◌≡◌, ◌∷◌, [], ℕ, List, Bool, IsTrue, OnOk, OnErr};
 ghost use Rattle.std.specs.Borrow.{GName};
-ghost use Rattle.ps_log.specs.Logs.{Telling, Starts, Grows, Stays, HasCause, OnNoMemory};
+ghost use Rattle.ps_log.specs.Logs.{Telling, Starts, Grows, Stays, CountsLogFault, OnNoMemory};
 ghost use Rattle.ps_log.specs.Limits.{IsGoalWithin, IsStepWithin};
 
 use crate::error::LogError;
@@ -31,8 +31,7 @@ pub trait ProofSink {
         ensures ok { OnOk result (Starts (told self.old) (told self.new) constraint.now) }
         ensures whole { OnOk result (IsTrue (is_whole self.new)) }
         ensures err { OnErr result (Stays (told self.old) (told self.new)) }
-        ensures later { faults self.old ≤ faults self.new }
-        ensures cause { IfErr result (λ e. HasCause e (faults self.old) (faults self.new)) }
+        ensures counted { CountsLogFault result (faults self.old) (faults self.new) }
         ensures no_memory { OnNoMemory result (takes_memory self.old) (is_whole self.new) }
         ensures same_kind { takes_memory self.new ≡ takes_memory self.old }
         ensures same_references { names self.new ≡ names self.old };
@@ -44,8 +43,7 @@ pub trait ProofSink {
         ensures ok { OnOk result (Grows (told self.old) (told self.new) (step.now ∷ [])) }
         ensures whole { OnOk result (IsTrue (is_whole self.new)) }
         ensures err { OnErr result (Stays (told self.old) (told self.new)) }
-        ensures later { faults self.old ≤ faults self.new }
-        ensures cause { IfErr result (λ e. HasCause e (faults self.old) (faults self.new)) }
+        ensures counted { CountsLogFault result (faults self.old) (faults self.new) }
         ensures no_memory { OnNoMemory result (takes_memory self.old) (is_whole self.new) }
         ensures same_kind { takes_memory self.new ≡ takes_memory self.old }
         ensures same_references { names self.new ≡ names self.old };

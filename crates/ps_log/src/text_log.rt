@@ -42,8 +42,8 @@ impl<'s, O: Sink> TextLog<'s, O> {
 }
 
 impl<O: Sink> ProofSink for TextLog<'_, O> {
-    ghost use Rattle.std.specs.Prelude.{◌≤◌, ◌∷◌, OnOk, OnErr, IfErr, IsTrue};
-    ghost use Rattle.ps_log.specs.Logs.{Starts, Grows, Stays, HasCause, OnNoMemory};
+    ghost use Rattle.std.specs.Prelude.{◌∷◌, OnOk, OnErr, IsTrue};
+    ghost use Rattle.ps_log.specs.Logs.{Starts, Grows, Stays, CountsLogFault, OnNoMemory};
     ghost use Rattle.ps_log.specs.Texts.{goal_line, step_line};
     ghost use Rattle.ps_log.specs.Limits.{IsGoalWithin, IsStepWithin};
     ghost use Rattle.ps_log.specs.TextLogs.{WroteLine, reference_of, faults_of, is_unbroken, told_by};
@@ -65,8 +65,7 @@ impl<O: Sink> ProofSink for TextLog<'_, O> {
         ensures ok { OnOk result (Starts (told_by self.old) (told_by self.new) constraint.now) }
         ensures whole { OnOk result (IsTrue (is_unbroken self.new)) }
         ensures err { OnErr result (Stays (told_by self.old) (told_by self.new)) }
-        ensures later { faults_of self.old ≤ faults_of self.new }
-        ensures cause { IfErr result (λ e. HasCause e (faults_of self.old) (faults_of self.new)) }
+        ensures counted { CountsLogFault result (faults_of self.old) (faults_of self.new) }
         ensures no_memory { OnNoMemory result false (is_unbroken self.new) }
         ensures only_fault { OnErr result (result ≡ Err LogError.Fault) }
         ensures broken { OnErr result (is_unbroken self.new ≡ false) }
@@ -89,8 +88,7 @@ impl<O: Sink> ProofSink for TextLog<'_, O> {
         ensures ok { OnOk result (Grows (told_by self.old) (told_by self.new) (step.now ∷ [])) }
         ensures whole { OnOk result (IsTrue (is_unbroken self.new)) }
         ensures err { OnErr result (Stays (told_by self.old) (told_by self.new)) }
-        ensures later { faults_of self.old ≤ faults_of self.new }
-        ensures cause { IfErr result (λ e. HasCause e (faults_of self.old) (faults_of self.new)) }
+        ensures counted { CountsLogFault result (faults_of self.old) (faults_of self.new) }
         ensures no_memory { OnNoMemory result false (is_unbroken self.new) }
         ensures only_fault { OnErr result (result ≡ Err LogError.Fault) }
         ensures broken { OnErr result (is_unbroken self.new ≡ false) }
