@@ -6,7 +6,7 @@ ghost use Rattle.ps_steps.specs.Weights.{IsWithin};
 ghost use Rattle.ps_log.specs.Logs.{Grows, Stays};
 ghost use Rattle.ps_log.specs.Limits.{IsStepWithin};
 ghost use Rattle.ps_sat.specs.Limits.{most_conflicts};
-ghost use Rattle.ps_sat.specs.Errors.{HasCause};
+ghost use Rattle.ps_sat.specs.Errors.{CountsSearchFault};
 ghost use Rattle.ps_sat.specs.Searches.{IsOutcome, IsLogged, IsHeld, Holds, HoldsLearned};
 
 use crate::advancing::advance;
@@ -54,7 +54,8 @@ fn first_known(
 ///
 /// After each outcome the log is whole and holds this goal and the steps of this search: after
 /// `Refuted` the last one, and no other, is a contradiction, and after `Spent` they are `conflicts`
-/// steps, each with a literal. `LogFault` comes only where the log's count of faults rose.
+/// steps, each with a literal. `LogFault`, and no other answer, raises the log's count of faults,
+/// by one.
 pub fn search<S: ProofSink>(
     alloc: Global,
     base: &ClauseForm,
@@ -68,8 +69,7 @@ pub fn search<S: ProofSink>(
     ensures outcome { IfOk result (IsOutcome base.now goal.now conflicts) }
     ensures logged { IsLogged base.now goal.now conflicts (S.told log.old) (S.told log.new) result }
     ensures whole { OnOk result (IsTrue (S.is_whole log.new)) }
-    ensures later { S.faults log.old ≤ S.faults log.new }
-    ensures cause { IfErr result (HasCause (S.faults log.old) (S.faults log.new)) }
+    ensures counted { CountsSearchFault result (S.faults log.old) (S.faults log.new) }
     ensures no_memory { IsErrOf result SearchError.NoMemory → IsTrue (S.is_whole log.new) }
     ensures same_kind { S.takes_memory log.new ≡ S.takes_memory log.old }
     ensures same_references { S.names log.new ≡ S.names log.old }
@@ -105,8 +105,7 @@ fn learn_all<S: ProofSink>(
     ensures handed { IfErr result (λ _. HoldsLearned base.now goal.now conflicts
         (S.told log.old).tells (S.told log.new)) }
     ensures whole { OnOk result (IsTrue (S.is_whole log.new)) }
-    ensures later { S.faults log.old ≤ S.faults log.new }
-    ensures cause { IfErr result (HasCause (S.faults log.old) (S.faults log.new)) }
+    ensures counted { CountsSearchFault result (S.faults log.old) (S.faults log.new) }
     ensures no_memory { IsErrOf result SearchError.NoMemory → IsTrue (S.is_whole log.new) }
     ensures same_kind { S.takes_memory log.new ≡ S.takes_memory log.old }
     ensures same_references { S.names log.new ≡ S.names log.old }
@@ -149,8 +148,7 @@ fn hand_over<S: ProofSink>(
     ensures ok { OnOk result (Grows (S.told log.old) (S.told log.new) (step.now ∷ [])) }
     ensures whole { OnOk result (IsTrue (S.is_whole log.new)) }
     ensures err { OnErr result (Stays (S.told log.old) (S.told log.new)) }
-    ensures later { S.faults log.old ≤ S.faults log.new }
-    ensures cause { IfErr result (HasCause (S.faults log.old) (S.faults log.new)) }
+    ensures counted { CountsSearchFault result (S.faults log.old) (S.faults log.new) }
     ensures no_memory { IsErrOf result SearchError.NoMemory → IsTrue (S.is_whole log.new) }
     ensures same_kind { S.takes_memory log.new ≡ S.takes_memory log.old }
     ensures same_references { S.names log.new ≡ S.names log.old }

@@ -11,7 +11,7 @@ learn-init g c = record {
   few = omega (arith, c.requires.small);
   least = omega arith;
   whole = c.requires.whole;
-  later = omega arith;
+  same_faults = refl;
   same_kind = refl;
   same_references = refl;
 }
@@ -63,7 +63,7 @@ learn-preserved g c =
       few = omega (arith, c.learn.invariant.few, ap length c.in_ok-hand_over.ensures.known, length-append c.learn.known (added x ∷ []));
       least = least-more _ _ _ c.else-not-last.either c.if-last.false c.learn.invariant.least;
       whole = c.in_ok-hand_over.ensures.whole;
-      later = omega (arith, c.learn.invariant.later, c.hand_over.ensures.later);
+      same_faults = c.in_ok-hand_over.ensures.counted.ok ∙ c.learn.invariant.same_faults;
       same_kind = c.hand_over.ensures.same_kind ∙ c.learn.invariant.same_kind;
       same_references = c.hand_over.ensures.same_references ∙ c.learn.invariant.same_references;
     }

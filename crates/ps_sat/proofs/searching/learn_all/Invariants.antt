@@ -9,7 +9,7 @@ invariant-learn g l = record {
   few : length l.known ≤ 2 ^ 32 + l.learned;
   least : l.learned ≤ l.conflicts;
   whole : IsTrue (g.S.ProofSink.is_whole l.log);
-  later : g.S.ProofSink.faults l.fn.log ≤ g.S.ProofSink.faults l.log;
+  same_faults : g.S.ProofSink.faults l.log ≡ g.S.ProofSink.faults l.fn.log;
   same_kind : g.S.ProofSink.takes_memory l.log ≡ g.S.ProofSink.takes_memory l.fn.log;
   same_references : g.S.ProofSink.names l.log ≡ g.S.ProofSink.names l.fn.log;
 }
