@@ -2,7 +2,7 @@
 ghost use Rattle.std.specs.Prelude.{◌≤◌, ◌^◌, ◌<ℤ◌, ◌≤ℤ◌, ◌≡◌, ◌+ℤ◌, ◌-ℤ◌, pos, unsigned_abs};
 ghost use Rattle.std.specs.Prelude.{IsTrue, IfOk, IfErr, OnOk, OnErr, IsErrOf};
 ghost use Rattle.ps_sat.specs.Limits.{most_conflicts};
-ghost use Rattle.ps_sat.specs.Errors.{HasCause};
+ghost use Rattle.ps_sat.specs.Errors.{CountsSearchFault};
 ghost use Rattle.ps_sat.specs.Searches.{IsOutcome};
 ghost use Rattle.ps_maxsat.specs.Limits.{most_total, IsNarrow, IsSoftWithin};
 ghost use Rattle.ps_maxsat.specs.Values.{IsPriced, IsPricedLog, IsLogAfterError};
@@ -63,8 +63,7 @@ fn search_above<S: ProofSink>(
         (IsLogAfterFailed wcnf.now least conflicts (S.told log.old) (S.told log.new)) }
     ensures whole { OnOk result (IsTrue (S.is_whole log.new)) }
     ensures telling { OnOk result (IsTrue (S.told log.old).tells → IsTrue (S.told log.new).tells) }
-    ensures later { S.faults log.old ≤ S.faults log.new }
-    ensures cause { IfErr result (HasCause (S.faults log.old) (S.faults log.new)) }
+    ensures counted { CountsSearchFault result (S.faults log.old) (S.faults log.new) }
     ensures no_memory { IsErrOf result SearchError.NoMemory → IsTrue (S.is_whole log.new) }
     ensures same_kind { S.takes_memory log.new ≡ S.takes_memory log.old }
     ensures same_references { S.names log.new ≡ S.names log.old }
@@ -103,7 +102,8 @@ fn middle(found: i128, bound: i128) -> i128
 ///
 /// The log holds the refutation after `NoneAbove`, the search that was spent after `Cut` and
 /// `Spent`, and the last search after `Best`. After an error it is as it was, or holds the goal of
-/// a search and lawful steps. `LogFault` comes only where the log's count of faults rose.
+/// a search and lawful steps. `LogFault`, and no other answer, raises the log's count of faults, by
+/// one.
 pub fn best<S: ProofSink>(
     alloc: Global,
     wcnf: &Wcnf,
@@ -120,8 +120,7 @@ pub fn best<S: ProofSink>(
     ensures refused { OnErr result
         (IsLogAfterError wcnf.now conflicts (S.told log.old) (S.told log.new)) }
     ensures whole { OnOk result (IsTrue (S.is_whole log.new)) }
-    ensures later { S.faults log.old ≤ S.faults log.new }
-    ensures cause { IfErr result (HasCause (S.faults log.old) (S.faults log.new)) }
+    ensures counted { CountsSearchFault result (S.faults log.old) (S.faults log.new) }
     ensures no_memory { IsErrOf result SearchError.NoMemory → IsTrue (S.is_whole log.new) }
     ensures same_kind { S.takes_memory log.new ≡ S.takes_memory log.old }
     ensures same_references { S.names log.new ≡ S.names log.old }

@@ -32,7 +32,7 @@ loop-found-init g c =
       logged = inl (held-found c.args.wcnf.now (pos 1) v c.args.conflicts _ _ _ c.in_ok-last.field-0 c.in-Found.assignment c.in-Found.is (inl refl) found.up (λ b. b) c.in_ok-last.ensures.logged);
       telling = c.in_ok-last.ensures.telling;
       whole = c.in_ok-last.ensures.whole;
-      later = c.search_above.ensures.later;
+      same_faults = c.in_ok-last.ensures.counted.ok;
       same_kind = c.search_above.ensures.same_kind;
       same_references = c.search_above.ensures.same_references;
     }
@@ -58,7 +58,7 @@ loop-found-preserved-in-Refuted-2 g c =
       logged = inr (held-refutation c.args.wcnf.now r (b +ℤ pos 1) c.args.conflicts _ _ _ c.in_ok-search_above.field-0 _ c.in-Refuted-2.is goal_is (sym down) i.telling c.in_ok-search_above.ensures.logged);
       telling = λ t. c.in_ok-search_above.ensures.telling (i.telling t);
       whole = c.in_ok-search_above.ensures.whole;
-      later = omega (arith, i.later, c.search_above-in-loop-found.ensures.later);
+      same_faults = c.in_ok-search_above.ensures.counted.ok ∙ i.same_faults;
       same_kind = c.search_above-in-loop-found.ensures.same_kind ∙ i.same_kind;
       same_references = c.search_above-in-loop-found.ensures.same_references ∙ i.same_references;
     }
@@ -85,7 +85,7 @@ loop-found-preserved g c =
       logged = inl (held-found c.args.wcnf.now r v c.args.conflicts _ _ _ c.in_ok-search_above.field-0 c.in-Found-2.better c.in-Found-2.is goal_is found.up i.telling c.in_ok-search_above.ensures.logged);
       telling = λ t. c.in_ok-search_above.ensures.telling (i.telling t);
       whole = c.in_ok-search_above.ensures.whole;
-      later = omega (arith, i.later, c.search_above-in-loop-found.ensures.later);
+      same_faults = c.in_ok-search_above.ensures.counted.ok ∙ i.same_faults;
       same_kind = c.search_above-in-loop-found.ensures.same_kind ∙ i.same_kind;
       same_references = c.search_above-in-loop-found.ensures.same_references ∙ i.same_references;
     }

@@ -17,7 +17,7 @@ invariant-loop-found g l = record {
   logged : HoldsLast l.wcnf l.found l.bound l.conflicts (g.S.ProofSink.told l.fn.log).tells (g.S.ProofSink.told l.log);
   telling : IsTrue (g.S.ProofSink.told l.fn.log).tells → IsTrue (g.S.ProofSink.told l.log).tells;
   whole : IsTrue (g.S.ProofSink.is_whole l.log);
-  later : g.S.ProofSink.faults l.fn.log ≤ g.S.ProofSink.faults l.log;
+  same_faults : g.S.ProofSink.faults l.log ≡ g.S.ProofSink.faults l.fn.log;
   same_kind : g.S.ProofSink.takes_memory l.log ≡ g.S.ProofSink.takes_memory l.fn.log;
   same_references : g.S.ProofSink.names l.log ≡ g.S.ProofSink.names l.fn.log;
 }
