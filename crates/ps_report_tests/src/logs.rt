@@ -1,5 +1,5 @@
-ghost use Rattle.std.specs.Prelude.{◌≡◌, ◌≤◌, [], IsTrue, OnOk, IfErr};
-ghost use Rattle.ps_log.specs.Logs.{HasCause};
+ghost use Rattle.std.specs.Prelude.{◌≡◌, [], IsTrue, OnOk};
+ghost use Rattle.ps_log.specs.Logs.{CountsLogFault};
 ghost use Rattle.ps_log.specs.Limits.{IsGoalWithin, IsStepWithin};
 
 use ps_io::{Lines, List, MemSink};
@@ -56,8 +56,7 @@ fn hand_over<S: ProofSink>(log: &mut S, goal: &Constraint, step: &Step) -> Resul
     requires goal { IsGoalWithin goal.now }
     requires step { IsStepWithin step.now }
     ensures whole { OnOk result (IsTrue (S.is_whole log.new)) }
-    ensures later { S.faults log.old ≤ S.faults log.new }
-    ensures cause { IfErr result (λ e. HasCause e (S.faults log.old) (S.faults log.new)) }
+    ensures counted { CountsLogFault result (S.faults log.old) (S.faults log.new) }
 {
     log.begin(goal)?;
     log.step(step)?;
