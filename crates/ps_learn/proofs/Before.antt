@@ -5,7 +5,7 @@ use Rattle.std.proofs.lemmas.Bool.{cases_lt}
 use Rattle.std.proofs.lemmas.Option.{slice_get_read}
 use Rattle.ps_learning.specs.Trails.{Entry, Trail, decisions, level, AreLevels}
 use Rattle.ps_learning.specs.Causes.{Marks, is_marked}
-use Rattle.ps_learning.specs.Keeping.{NoneIsMarked, SomeIsAt, IsToExplain}
+use Rattle.ps_learning.specs.Keeping.{NoneIsMarked, SomeIsMarked, IsToExplain}
 use Rattle.ps_learning.proofs.Levels.{levels-rise}
 use Rattle.ps_learning.proofs.Distinct.{level-most}
 use Rattle.ps_learn.specs.Marks.{IsMarkedBefore}
@@ -50,13 +50,14 @@ before-other t es top marks j i e r q g n p w at ne =
     }
 
 -- an entry of the level that is marked
-pub before-here : (t : Trail) (es : List Entry) (top : ℕ) (j i : ℕ) (e : Entry) → es ≡ t.entries → top ≡ level t → 0 < j → j ≤ i → j ≤ length es → e ≡ get_or es (j - 1) e → e.level ≡ top → SomeIsAt (level t) t.entries i
-before-here t es top j i e r q p le w at own = record {
+pub before-here : (t : Trail) (es : List Entry) (top : ℕ) (marks : Marks) (j i : ℕ) (e : Entry) (b : Bool) → es ≡ t.entries → top ≡ level t → 0 < j → j ≤ i → j ≤ length es → e ≡ get_or es (j - 1) e → e.level ≡ top → b ≡ is_marked marks e.lit → b ≡ true → SomeIsMarked (level t) t.entries marks i
+before-here t es top marks j i e b r q p le w at own m h = record {
   place = j - 1;
   entry = e;
   before = omega (arith, p, le);
   there = rw (← r) (slice_get_read es (length es) (j - 1) e refl (omega (arith, p, w)) at);
   level_is = own ∙ q;
+  marked = sym m ∙ h;
 }
 
 -- with the entry's own level

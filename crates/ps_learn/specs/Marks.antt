@@ -6,7 +6,7 @@ use Rattle.ps_steps.specs.Steps.{Known, constraint_at}
 use Rattle.ps_learning.specs.Trails.{Entry, Trail, values, level}
 use Rattle.ps_learning.specs.Causes.{Marks, is_marked, AreCovered, IsExplained, AreExplained}
 use Rattle.ps_learning.specs.Marking.{Grows, AreSetIn}
-use Rattle.ps_learning.specs.Keeping.{IsKeptOnce, IsToExplain, IsKeptOrNot, SomeIsAt, NoneIsMarked}
+use Rattle.ps_learning.specs.Keeping.{IsKeptOnce, IsToExplain, IsKeptOrNot, SomeIsMarked, NoneIsMarked}
 use Rattle.ps_learn.specs.declared.explaining.Causes.{Causes}
 
 -- the variable of a false literal is marked
@@ -15,10 +15,9 @@ MarksCause (Some false) l old new = new ≡ slice_set old (place l) true
 MarksCause (Some true) l old new = new ≡ old
 MarksCause None l old new = new ≡ old
 
--- whether an entry of the trail's level is marked before a place: `true` says that an entry of the level stands there, `false`
--- that none of them is marked
+-- whether an entry of the trail's level is marked before a place
 abbrev pub IsMarkedBefore : Trail → Marks → ℕ → Bool → Type 0
-IsMarkedBefore t marks i true = SomeIsAt (level t) t.entries i
+IsMarkedBefore t marks i true = SomeIsMarked (level t) t.entries marks i
 IsMarkedBefore t marks i false = NoneIsMarked (level t) t.entries marks i
 
 -- an entry that is marked is kept or explained; what was marked or kept stays so, and what is marked more was set

@@ -14,18 +14,19 @@ pub record IsKeptOnce (t : Trail) (kept : Marks) : Type 0 where
 pub record NoneIsMarked (level : ℕ) (es : List Entry) (marks : Marks) (i : ℕ) : Type 0 where
   pub at : (k : ℕ) (d : Entry) → k < i → slice_get es k ≡ Some d → d.level ≡ level → is_marked marks d.lit ≡ false
 
--- an entry of this level stands before a place
-pub record SomeIsAt (level : ℕ) (es : List Entry) (i : ℕ) : Type 0 where
+-- a marked entry of this level stands before a place
+pub record SomeIsMarked (level : ℕ) (es : List Entry) (marks : Marks) (i : ℕ) : Type 0 where
   pub place : ℕ
   pub entry : Entry
   pub before : place < i
   pub there : slice_get es place ≡ Some entry
   pub level_is : entry.level ≡ level
+  pub marked : is_marked marks entry.lit ≡ true
 
--- an entry is to be explained at level 0, or at the last level after another entry of it; else it is to be kept, and at the
+-- an entry is to be explained at level 0, or at the last level after a marked entry of it; else it is to be kept, and at the
 -- last level no entry of it before this one is marked
 abbrev pub IsToExplain : ℕ → List Entry → Marks → ℕ → Entry → Bool → Type 0
-IsToExplain top es marks i e true = (e.level ≡ 0) ⊎ ((e.level ≡ top) × SomeIsAt top es i)
+IsToExplain top es marks i e true = (e.level ≡ 0) ⊎ ((e.level ≡ top) × SomeIsMarked top es marks i)
 IsToExplain top es marks i e false = (1 ≤ e.level) × (e.level ≡ top → NoneIsMarked top es marks i)
 
 -- an entry was decided, or its reason isn't known

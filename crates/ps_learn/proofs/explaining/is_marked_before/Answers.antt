@@ -14,8 +14,9 @@ returns-then-entry-level c =
 
 pub returns-then-is_marked : goal.returns-then-is_marked
 returns-then-is_marked c =
-    before-here c.args.trail.now _ c.level-level.result c.down.j _ c.index-entries-j.result c.entries-entries.ensures.entries c.level-level.ensures c.down-test.true c.down.invariant.within
+    before-here c.args.trail.now _ c.level-level.result c.args.marks.now c.down.j _ c.index-entries-j.result c.is_marked.result c.entries-entries.ensures.entries c.level-level.ensures c.down-test.true c.down.invariant.within
     (omega (arith, c.down.invariant.within, c.requires, ap length c.entries-entries.ensures.entries)) c.index-entries-j.is (ap (λ (x : Entry). x.level) (sym c.entry.view_is) ∙ c.if-entry-level.false)
+    (c.is_marked.ensures ∙ ap (λ (x : Entry). is_marked c.args.marks.now x.lit) c.entry.view_is) c.if-is_marked.true
 
 pub down-preserved : goal.down-preserved
 down-preserved c =
