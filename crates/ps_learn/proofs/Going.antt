@@ -8,13 +8,13 @@ use Rattle.ps_steps.specs.Assignments.{Assignment, place, with_true, without, al
 use Rattle.ps_steps.specs.Constraints.{Constraint}
 use Rattle.ps_steps.specs.Steps.{Known, constraint_at}
 use Rattle.ps_learning.specs.Trails.{Entry, Trail, values, level, values_of, AreFresh, AreLevels, AreReasons}
-use Rattle.ps_learning.specs.Causes.{Marks, is_marked, AreCovered, AreExplained, IsExplained}
+use Rattle.ps_learning.specs.Causes.{Marks, is_marked, AreCovered, IsCoveredAt, AreExplained, IsExplained}
 use Rattle.ps_learning.proofs.Entries.{values-cut, values-more, fresh-take, length-values}
 use Rattle.ps_learning.specs.Marking.{Grows, AreSetIn}
 use Rattle.ps_learning.proofs.Marking.{grows-refl, grows-trans, grows-set, own-set, covered-grows, explained-end, explained-next}
 use Rattle.ps_learning.specs.Keeping.{IsKeptOnce, IsToExplain, HasNoReason}
 use Rattle.ps_learning.proofs.Keeping.{Keeping, IsSound, keeping-first, keeping-next}
-use Rattle.ps_learn.specs.Marks.{Explains, ExplainsAt, IsCaused, IsCoveredAt, IsTrailExplained}
+use Rattle.ps_learn.specs.Marks.{Explains, ExplainsAt, IsCaused, IsTrailExplained}
 
 -- how far back the marked entries have been explained
 pub record Going (n : ℕ) (known : Known) (es : List Entry) (first : Marks) (i : ℕ) (before : Assignment) (marks kept : Marks) : Type 0 where

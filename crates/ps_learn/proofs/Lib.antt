@@ -4,3 +4,4 @@ pub mod Advancing
 pub mod Scanned
 pub mod Before
 pub mod Falsity
+pub mod Marked

@@ -1,10 +1,9 @@
 -- Marking causes.
 use Rattle.std.specs.Prelude.{ℕ, ◌≡◌, ℤ, Bool, true, false, Option, Some, None, length, slice_set, ◌⊎◌}
 use Rattle.ps_steps.specs.Assignments.{Assignment, place}
-use Rattle.ps_steps.specs.Constraints.{Constraint}
-use Rattle.ps_steps.specs.Steps.{Known, constraint_at}
+use Rattle.ps_steps.specs.Steps.{Known}
 use Rattle.ps_learning.specs.Trails.{Entry, Trail, values, level}
-use Rattle.ps_learning.specs.Causes.{Marks, is_marked, AreCovered, IsExplained, AreExplained}
+use Rattle.ps_learning.specs.Causes.{Marks, is_marked, IsCoveredAt, IsExplained, AreExplained}
 use Rattle.ps_learning.specs.Marking.{Grows, AreSetIn}
 use Rattle.ps_learning.specs.Keeping.{IsKeptOnce, IsToExplain, IsKeptOrNot, SomeIsMarked, NoneIsMarked}
 use Rattle.ps_learn.specs.declared.explaining.Causes.{Causes}
@@ -35,10 +34,6 @@ pub record ExplainsAt (known : Known) (t : Trail) (i : ℕ) (e : Entry) (before 
   pub asked : Bool
   pub test : is_marked marks e.lit ≡ true → IsToExplain (level t) t.entries marks i e asked
   pub done : Explains known e asked before marks kept marks' kept'
-
--- the false literals of the constraint of this id are marked
-abbrev pub IsCoveredAt : Known → ℕ → Assignment → Marks → Type 0
-IsCoveredAt known id a marks = (c : Constraint) → constraint_at known id ≡ Some c → AreCovered c a marks
 
 -- each marked entry of the trail is kept or explained by marked ones
 abbrev pub IsTrailExplained : Known → Trail → Marks → Marks → Type 0

@@ -3,11 +3,11 @@ ghost use Rattle.std.specs.Prelude.{◌≡◌, ◌≤◌, ◌<◌, ℤ, true, fa
 ghost use Rattle.ps_steps.specs.Assignments.{place};
 ghost use Rattle.ps_steps.specs.Steps.{known_of};
 ghost use Rattle.ps_learning.specs.Trails.{values, level, IsConflict, AreReasons};
-ghost use Rattle.ps_learning.specs.Causes.{is_marked};
+ghost use Rattle.ps_learning.specs.Causes.{is_marked, IsCoveredAt};
 ghost use Rattle.ps_learning.specs.Marking.{Grows};
 ghost use Rattle.ps_learning.specs.Keeping.{IsKeptOnce, IsToExplain};
 ghost use Rattle.ps_learn.specs.Marks.{Explains, ExplainsAt, IsMarkedBefore};
-ghost use Rattle.ps_learn.specs.Marks.{IsCaused, IsCoveredAt, IsTrailExplained, AreCauses};
+ghost use Rattle.ps_learn.specs.Marks.{IsCaused, IsTrailExplained, AreCauses};
 
 use crate::known::constraint_at;
 use crate::marks::{is_marked, mark, mark_causes};

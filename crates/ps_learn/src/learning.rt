@@ -1,11 +1,11 @@
 //! Learning a clause from a conflict.
-ghost use Rattle.std.specs.Prelude.{◌≡◌, ◌≤◌, ◌<◌, ◌+◌, ◌^◌, ℤ, List, length, IfOk, All};
+ghost use Rattle.std.specs.Prelude.{◌≡◌, ◌≤◌, ◌+◌, ℤ, List, length, IfOk, All};
 ghost use Rattle.ps_steps.specs.Assignments.{all_unset};
-ghost use Rattle.ps_steps.specs.Steps.{IsLawful, lits_of, hints_of, after_hints, Open, Conflict};
-ghost use Rattle.ps_steps.specs.Steps.{known_of};
+ghost use Rattle.ps_steps.specs.Steps.{IsLawful, known_of, lits_of, hints_of};
 ghost use Rattle.ps_learning.specs.Known.{most_known, IsIdUpTo};
 ghost use Rattle.ps_learning.specs.Trails.{values, level, IsLit, AreReasons, IsConflict};
 ghost use Rattle.ps_learning.specs.Levels.{IsAsserting};
+ghost use Rattle.ps_learning.specs.Causes.{HasMarkedCauses};
 ghost use Rattle.ps_learning.specs.Keeping.{IsKeptOnce};
 ghost use Rattle.ps_learning.specs.Starting.{AreKeptLits};
 ghost use Rattle.ps_learn.specs.Marks.{IsCaused};
@@ -49,6 +49,8 @@ pub fn learn(
     ensures hints { IfOk result (λ x. All (IsIdUpTo (length known.now)) (hints_of x.step)) }
     ensures few_hints { IfOk result (λ x. length (hints_of x.step) ≤ trail.now.variables + 1) }
     ensures level { IfOk result (λ x. x.level ≤ level trail.now) }
+    ensures marks { IfOk result (λ x. HasMarkedCauses (known_of known.now) trail.now conflict
+        (lits_of x.step) x.marks.items) }
 {
     // Read for its clauses: each literal of a trail is of a variable of its own.
     let _entries = trail.entries();

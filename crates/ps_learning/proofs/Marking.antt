@@ -1,10 +1,11 @@
 -- Marking causes, back over a trail.
 use Rattle.std.proofs.Common.{◌≡◌, ℕ, zero, suc, ◌+◌, ◌<◌, ◌≤◌, ℤ, true, false, Some, List, [], ◌∷◌, length, take, get_or, get_or-set_same, get_or-set_other, arith, refl, sym, ap, ◌∙◌, ◌⊎◌, inl, inr}
 use Rattle.std.specs.Prelude.{slice_get, slice_set}
-use Rattle.std.proofs.lemmas.List.{get_or_default, get_or_past}
+use Rattle.std.proofs.lemmas.List.{get_or_past}
+use Rattle.std.proofs.lemmas.Option.{slice_get_within}
 use Rattle.std.proofs.lemmas.Bool.{cases_eq, cases_lt}
 use Rattle.ps_steps.specs.Assignments.{Assignment, place, value_of, is_unset}
-use Rattle.ps_steps.specs.Constraints.{Constraint, HasTerm}
+use Rattle.ps_steps.specs.Constraints.{Constraint}
 use Rattle.ps_steps.specs.Steps.{Known}
 use Rattle.ps_learning.specs.Trails.{Entry, values_of, AreFresh}
 use Rattle.ps_learning.specs.Causes.{Marks, is_marked, AreCovered, IsExplained, AreExplained}
@@ -40,29 +41,6 @@ grows-set m l = record {
 pub own-set : (m : Marks) (l : ℤ) → place l < length m → is_marked (slice_set m (place l) true) l ≡ true
 own-set m l p = get_or-set_same m (place l) true false p
 
--- the first terms are covered
-pub record CoveredTo (ts : List (ℤ × ℕ)) (n : ℕ) (a : Assignment) (marks : Marks) : Type 0 where
-  pub at : (i : ℕ) (t : ℤ × ℕ) → i < n → i < length ts → t ≡ get_or ts i t → value_of a t.0 ≡ Some false → is_marked marks t.0 ≡ true
-
-pub covered-none : (ts : List (ℤ × ℕ)) (a : Assignment) (marks : Marks) → CoveredTo ts 0 a marks
-covered-none ts a marks = record { at = λ i t h. absurd (omega arith) }
-
-pub covered-next : (ts : List (ℤ × ℕ)) (n : ℕ) (t : ℤ × ℕ) (a : Assignment) (old new : Marks) → CoveredTo ts n a old → n < length ts → t ≡ get_or ts n t → Grows new old → (value_of a t.0 ≡ Some false → is_marked new t.0 ≡ true) → CoveredTo ts (n + 1) a new
-covered-next ts n t a old new c h at g own = record {
-  at = λ i u k len q f. elim (cases_lt i n) [
-    | inl lt ↦ g.at u.0 (c.at i u lt len q f)
-    | inr ge ↦ (let e : i ≡ n = omega arith in let z : u ≡ t = q ∙ ap (λ x. get_or ts x u) e ∙ get_or_default ts n u t h ∙ sym at in rw z (own (ap (λ (x : ℤ × ℕ). value_of a x.0) (sym z) ∙ f)))
-  ];
-}
-
-place_of : (ts : List (ℤ × ℕ)) (l : ℤ) (k : ℕ) → HasTerm l k ts → (i : ℕ) × (i < length ts) × ((l, k) ≡ get_or ts i (l, k))
-place_of [] l k h = absurd h
-place_of (t ∷ ts) l k (inl e) = (zero, omega arith, (λ i. (sym e.0 i, sym e.1 i)))
-place_of (t ∷ ts) l k (inr h) = let r = place_of ts l k h in (suc r.0, omega (arith, r.1), r.2)
-
-pub covered-all : (c : Constraint) (n : ℕ) (a : Assignment) (marks : Marks) → CoveredTo c.terms n a marks → length c.terms ≤ n → AreCovered c a marks
-covered-all c n a marks h p = record { at = λ l k m f. let r = place_of c.terms l k m in h.at r.0 (l, k) (omega (arith, p, r.1)) r.1 r.2 f }
-
 -- more marks cover as much
 pub covered-grows : (c : Constraint) (a : Assignment) (old new : Marks) → Grows new old → AreCovered c a old → AreCovered c a new
 covered-grows c a old new g h = record { at = λ l k t f. g.at l (h.at l k t f) }
@@ -88,17 +66,12 @@ pub unset-earlier : (v : ℕ) (es : List Entry) (i j : ℕ) (e : Entry) → AreF
 unset-earlier v es i j e f h at =
     let d : (n : ℕ) × (j ≡ i + n) = difference i j h in
     let later : is_unset (value_of (values_of v (take (i + d.0) es)) e.lit) ≡ true = rw (← d.1) (f.at j e at).unset in
-    unset-below (values_of v (take (i + d.0) es)) (values_of v (take i es)) e.lit (values-earlier v es i d.0 f (omega (arith, d.1, within es j e at))) later
+    unset-below (values_of v (take (i + d.0) es)) (values_of v (take i es)) e.lit (values-earlier v es i d.0 f (omega (arith, d.1, slice_get_within es j e at))) later
   where
     difference : (i j : ℕ) → i ≤ j → (n : ℕ) × (j ≡ i + n)
     difference zero j h = (j, omega arith)
     difference (suc i) zero h = absurd (omega arith)
     difference (suc i) (suc j) h = let r = difference i j (omega (arith, h)) in (r.0, omega (arith, r.1))
-
-    within : (es : List Entry) (j : ℕ) (e : Entry) → slice_get es j ≡ Some e → j < length es
-    within [] j e h = absurd (cc)
-    within (x ∷ es) zero e h = omega arith
-    within (x ∷ es) (suc j) e h = omega (arith, within es j e h)
 
 -- at the end nothing is to be explained
 pub explained-end : (v : ℕ) (known : Known) (es : List Entry) (marks kept : Marks) → AreExplained v known es marks kept (length es)

@@ -1,7 +1,7 @@
 -- The literals of a learned clause, all set false: the kept entries of a trail.
 use Rattle.std.proofs.Common.{◌≡◌, ℕ, suc, ◌+◌, ◌<◌, ℤ, neg_ℤ, true, false, ◌&&◌, Some, List, [], ◌∷◌, ◌++◌, length, take, arith, refl, sym, ap, ◌∙◌, inl, inr}
 use Rattle.std.specs.Prelude.{nat_lt, slice_get}
-use Rattle.std.proofs.lemmas.List.Elements.{All-nil, All-push}
+use Rattle.std.proofs.lemmas.List.Elements.{All-nil, All-push, Contains-push, Contains-append_left}
 use Rattle.std.proofs.lemmas.List.Sums.{fold-append}
 use Rattle.std.proofs.lemmas.Bool.{cases_lt, and_from, lt-ltb}
 use Rattle.ps_steps.specs.Assignments.{Assignment, place, value_of, with_true, with_false, is_unset, all_unset}
@@ -15,7 +15,7 @@ use Rattle.ps_learning.proofs.Entries.{values-more, length-values, length-unset}
 
 pub started-none : (v : ℕ) (es : List Entry) (kept : Marks) → Started v es kept 0 [] (all_unset v)
 unfolding values_of
-started-none v es kept = record { lits_false = refl; includes = includes-refl (all_unset v); kept_true = λ j e h. absurd (omega arith); len = length-unset v; few = omega arith; literals = All-nil (IsLit v) }
+started-none v es kept = record { lits_false = refl; includes = includes-refl (all_unset v); kept_true = λ j e h. absurd (omega arith); listed = λ j e h. absurd (omega arith); len = length-unset v; few = omega arith; literals = All-nil (IsLit v) }
 
 pub started-skip : (v : ℕ) (es : List Entry) (kept : Marks) (i : ℕ) (lits : List ℤ) (a : Assignment) (e : Entry) → AreFresh v es → Started v es kept i lits a → slice_get es i ≡ Some e → is_marked kept e.lit ≡ false → Started v es kept (i + 1) lits a
 started-skip v es kept i lits a e f s at non = record {
@@ -23,6 +23,10 @@ started-skip v es kept i lits a e f s at non = record {
   includes = rw (values-more v es i e at) (includes-trans _ _ _ (with_true-includes (values_of v (take i es)) e.lit (f.at i e at).unset) s.includes);
   kept_true = λ j d h k n. elim (cases_lt j i) [
     | inl lt ↦ s.kept_true j d lt k n
+    | inr ge ↦ (let q : j ≡ i = omega arith in let r : Some d ≡ Some e = sym k ∙ ap (slice_get es) q ∙ at in let z : d ≡ e = cc r in absurd (cc (non, n, ap (λ (x : Entry). is_marked kept x.lit) z)))
+  ];
+  listed = λ j d h k n. elim (cases_lt j i) [
+    | inl lt ↦ s.listed j d lt k n
     | inr ge ↦ (let q : j ≡ i = omega arith in let r : Some d ≡ Some e = sym k ∙ ap (slice_get es) q ∙ at in let z : d ≡ e = cc r in absurd (cc (non, n, ap (λ (x : Entry). is_marked kept x.lit) z)))
   ];
   len = s.len;
@@ -43,6 +47,10 @@ started-keep v es kept i lits a e f s at =
       kept_true = λ j d h k n. elim (cases_lt j i) [
         | inl lt ↦ rw same ((with_true-includes a e.lit unset).at d.lit true (s.kept_true j d lt k n))
         | inr ge ↦ (let q : j ≡ i = omega arith in let r : Some d ≡ Some e = sym k ∙ ap (slice_get es) q ∙ at in let z : d ≡ e = cc r in rw (same, z) (value-true a e.lit within))
+      ];
+      listed = λ j d h k n. elim (cases_lt j i) [
+        | inl lt ↦ Contains-append_left lits (neg_ℤ e.lit ∷ []) (neg_ℤ d.lit) (s.listed j d lt k n)
+        | inr ge ↦ (let q : j ≡ i = omega arith in let r : Some d ≡ Some e = sym k ∙ ap (slice_get es) q ∙ at in let z : d ≡ e = cc r in rw z (Contains-push lits (neg_ℤ e.lit)))
       ];
       len = ap length same ∙ length-with_true a e.lit ∙ s.len;
       literals = All-push (IsLit v) lits (neg_ℤ e.lit) s.literals (let q = size-opposite e.lit in (omega (arith, q, fresh.some), omega (arith, q, fresh.within)));

@@ -1,5 +1,5 @@
 -- How far the literals of a learned clause have been set false.
-use Rattle.std.specs.Prelude.{ℕ, ◌≡◌, ◌<◌, ◌≤◌, ℤ, true, Some, List, take, length, fold, slice_get, All}
+use Rattle.std.specs.Prelude.{ℕ, ◌≡◌, ◌<◌, ◌≤◌, ℤ, neg_ℤ, true, Some, List, take, length, fold, slice_get, All, Contains}
 use Rattle.ps_steps.specs.Assignments.{Assignment, value_of, all_unset}
 use Rattle.ps_steps.specs.Steps.{and_false}
 use Rattle.ps_steps.proofs.Values.{Includes}
@@ -11,6 +11,7 @@ pub record Started (v : ℕ) (es : List Entry) (kept : Marks) (i : ℕ) (lits : 
   pub lits_false : fold and_false (Some (all_unset v)) lits ≡ Some a
   pub includes : Includes (values_of v (take i es)) a
   pub kept_true : (j : ℕ) (e : Entry) → j < i → slice_get es j ≡ Some e → is_marked kept e.lit ≡ true → value_of a e.lit ≡ Some true
+  pub listed : (j : ℕ) (e : Entry) → j < i → slice_get es j ≡ Some e → is_marked kept e.lit ≡ true → Contains lits (neg_ℤ e.lit)
   pub len : length a ≡ v
   pub few : length lits ≤ i
   pub literals : All (IsLit v) lits

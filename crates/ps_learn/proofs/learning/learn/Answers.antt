@@ -1,10 +1,12 @@
-use Rattle.std.proofs.Common.{◌+◌, ap, ◌∙◌, sym, arith}
+use Rattle.std.proofs.Common.{◌+◌, ap, ◌∙◌, sym, subst, arith}
 use Rattle.ps_steps.specs.Steps.{known_of}
 use Rattle.ps_steps.proofs.Ids.{known_of-length}
+use Rattle.ps_learning.specs.Starting.{AreKeptLits}
 use Rattle.ps_learning.proofs.Counting.{counted}
 use Rattle.ps_learning.proofs.Following.{learned-lawful}
 use Rattle.ps_learning.proofs.Asserting.{asserting-most}
 use Rattle.ps_learn.proofs.Falsity.{kept-false}
+use Rattle.ps_learn.proofs.Marked.{has_marked_causes}
 use Rattle.ps_learn.proofs.learning.learn.Goals as goal
 
 pub returns-clause-level : goal.returns-clause-level
@@ -23,3 +25,8 @@ returns-clause-few_hints c = omega (arith, c.in_ok-hints.ensures.few, counted c.
 
 pub returns-clause-falsified : goal.returns-clause-falsified
 returns-clause-falsified c = kept-false c.args.trail.now _ _ _ c.in_ok-kept.ensures.lits
+
+pub returns-clause-marks : goal.returns-clause-marks
+returns-clause-marks c =
+    has_marked_causes (known_of c.args.known.now) c.args.trail.now c.args.conflict _ c.in_ok-causes.causes.kept.items c.in_ok-kept.kept.lits c.kept_lits.new.a c.in_ok-causes.ensures
+    (subst (λ kept. AreKeptLits c.args.trail.now kept c.in_ok-kept.kept.lits c.kept_lits.new.a) c.deref.ensures.value c.in_ok-kept.ensures.lits)

@@ -1,0 +1,18 @@
+-- The causes of a conflict are marked back to the learned clause.
+use Rattle.std.proofs.Common.{ℕ, ℤ, List, arith, inl, inr}
+use Rattle.std.proofs.lemmas.Option.{slice_get_within}
+use Rattle.ps_steps.specs.Assignments.{Assignment}
+use Rattle.ps_steps.specs.Steps.{Known}
+use Rattle.ps_learning.specs.Trails.{Trail}
+use Rattle.ps_learning.specs.Causes.{Marks, HasMarkedCauses}
+use Rattle.ps_learning.specs.Starting.{AreKeptLits}
+use Rattle.ps_learn.specs.Marks.{IsCaused}
+
+pub has_marked_causes : (known : Known) (t : Trail) (conflict : ℕ) (marks kept : Marks) (lits : List ℤ) (a : Assignment) → IsCaused known t conflict marks kept → AreKeptLits t kept lits a → HasMarkedCauses known t conflict lits marks
+has_marked_causes known t conflict marks kept lits a c k = record {
+  conflict_is_marked = c.covered;
+  explained = λ i e at m. elim (c.explained.at i e (omega arith) at m) [
+    | inl own ↦ inl (k.listed i e (slice_get_within t.entries i e at) at own)
+    | inr by ↦ inr by
+  ];
+}
