@@ -4,12 +4,12 @@ use Rattle.std.specs.Prelude.{slice_set, unsigned_abs}
 use Rattle.std.proofs.Math.Seq.{take-suc}
 use Rattle.std.proofs.lemmas.List.{take_all}
 use Rattle.std.proofs.lemmas.Option.{slice_get_read}
-use Rattle.ps_steps.specs.Assignments.{Assignment, place, with_true, without, all_unset}
+use Rattle.ps_steps.specs.Assignments.{Assignment, place, without}
 use Rattle.ps_steps.specs.Constraints.{Constraint}
 use Rattle.ps_steps.specs.Steps.{Known, constraint_at}
 use Rattle.ps_learning.specs.Trails.{Entry, Trail, values, level, values_of, AreFresh, AreLevels, AreReasons}
 use Rattle.ps_learning.specs.Causes.{Marks, is_marked, AreCovered, IsCoveredAt, AreExplained, IsExplained}
-use Rattle.ps_learning.proofs.Entries.{values-cut, values-more, fresh-take, length-values}
+use Rattle.ps_learning.proofs.Entries.{values-cut, fresh-take, length-values}
 use Rattle.ps_learning.specs.Marking.{Grows, AreSetIn}
 use Rattle.ps_learning.proofs.Marking.{grows-refl, grows-trans, grows-set, own-set, covered-grows, explained-end, explained-next}
 use Rattle.ps_learning.specs.Keeping.{IsKeptOnce, IsToExplain, HasNoReason}
@@ -142,17 +142,6 @@ reason_explains known e before marks marks' kept id c r k cov g s l m = record {
   own = λ m. inr (record { id = id; constraint = c; reason = r; known_at = k; covered = cov });
   kept_is = inl (refl, inr m);
 }
-
--- the values of one entry more
-pub values-next : (v : ℕ) (es : List Entry) (i : ℕ) (e : Entry) (a a' : Assignment) → i < length es → e ≡ get_or es i e → a ≡ values_of v (take i es) → a' ≡ with_true a e.lit → a' ≡ values_of v (take (i + 1) es)
-values-next v es i e a a' h at q p = p ∙ ap (λ b. with_true b e.lit) q ∙ sym (values-more v es i e (slice_get_read es (length es) i e refl h at))
-
-pub values-none : (v : ℕ) (es : List Entry) → all_unset v ≡ values_of v (take 0 es)
-unfolding values_of
-values-none v es = refl
-
-pub values-all : (v : ℕ) (es : List Entry) (i : ℕ) (a : Assignment) → length es ≤ i → a ≡ values_of v (take i es) → a ≡ values_of v es
-values-all v es i a h q = q ∙ ap (values_of v) (take_all i es h)
 
 pub is_caused : (known : Known) (t : Trail) (conflict : ℕ) (a : Assignment) (first marks kept : Marks) → a ≡ values t → IsTrailExplained known t marks kept → Grows marks first → IsCoveredAt known conflict a first → IsKeptOnce t kept → IsCaused known t conflict marks kept
 is_caused known t conflict a first marks kept q x g cov once = record {

@@ -1,5 +1,5 @@
 //! The causes of a conflict, back over the trail.
-ghost use Rattle.std.specs.Prelude.{◌≡◌, ◌≤◌, ◌<◌, ℤ, true, false, length, IfOk};
+ghost use Rattle.std.specs.Prelude.{◌≡◌, ◌<◌, ℤ, true, false, length, IfOk};
 ghost use Rattle.ps_steps.specs.Assignments.{place};
 ghost use Rattle.ps_steps.specs.Steps.{known_of};
 ghost use Rattle.ps_learning.specs.Trails.{values, level, IsConflict, AreReasons};
@@ -37,7 +37,7 @@ pub(crate) fn explain_conflict(
     requires conflict { IsConflict (known_of known.now) (values trail.now) conflict }
     ensures { IfOk result (AreCauses (known_of known.now) trail.now conflict) }
 {
-    let mut before = values_of(alloc, trail)?;
+    let mut before = trail.values().copy(alloc)?;
     let mut marks = vec![in alloc; false; before.len()]?;
     let mut kept = vec![in alloc; false; before.len()]?;
     explain_marks(known, trail, conflict, &mut before, &mut marks, &mut kept);
@@ -76,17 +76,6 @@ fn mark_conflict(known: &List<Constraint>, conflict: u64, before: &Assignment, m
     if let Some(c) = constraint_at(known, conflict) {
         mark_causes(c, before, marks);
     }
-}
-
-// The values of a trail.
-fn values_of(alloc: Global, trail: &Trail) -> Result<Assignment, NoMemory>
-    ensures { IfOk result (λ a. a ≡ values trail.now) }
-{
-    let mut values = Assignment::new(alloc, trail.variables())?;
-    for entry in trail.entries() {
-        values.set(entry.lit);
-    }
-    Ok(values)
 }
 
 // Goes back over all entries.

@@ -1,7 +1,6 @@
 //! Propagation by a scan of all constraints.
-ghost use Rattle.std.specs.Prelude.{◌≡◌, ◌≤◌, ◌<◌, ◌^◌, pos, ◌≤ℤ◌, length, All};
-ghost use Rattle.ps_steps.specs.Constraints.{slack, is_forced};
-ghost use Rattle.ps_steps.specs.Weights.{term_of};
+ghost use Rattle.std.specs.Prelude.{◌≡◌, ◌≤◌, length, All};
+ghost use Rattle.ps_steps.specs.Constraints.{slack};
 ghost use Rattle.ps_forms.specs.Forms.{IsWithin};
 ghost use Rattle.ps_steps.specs.Steps.{known_of};
 ghost use Rattle.ps_learning.specs.Known.{most_known};
@@ -10,7 +9,7 @@ ghost use Rattle.ps_learn.specs.Rest.{IsPropagated, IsLonger};
 ghost use Rattle.ps_learn.specs.Scans.{Scans, ScansOne, ScansPart, FirstForced};
 
 use ps_io::List;
-use ps_pb::{Assignment, Constraint, Lit, slack};
+use ps_pb::{Assignment, Constraint, Lit, is_forced, slack};
 use ps_trail::Trail;
 
 /// What a scan finds.
@@ -46,16 +45,6 @@ fn first_forced(c: &Constraint, a: &Assignment, room: &i128) -> Option<Lit>
         }
     }
     None
-}
-
-fn is_forced(a: &Assignment, term: &(Lit, i128), room: &i128) -> bool
-    requires { pos 1 ≤ℤ term.now.1 }
-    ensures { result ≡ is_forced room.now a.now (term_of term.now) }
-{
-    match a.value_of(term.0) {
-        None => *room < term.1,
-        Some(_) => false,
-    }
 }
 
 fn show(c: &Constraint, a: &Assignment) -> Shown

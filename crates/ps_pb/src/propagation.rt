@@ -30,12 +30,12 @@ fn open_part(a: &Assignment, term: &(Lit, i128)) -> i128
 }
 
 /// Whether a term is forced under this slack: its literal is unset, and its coefficient is greater.
-pub fn is_forced(a: &Assignment, term: &(Lit, i128), slack: i128) -> bool
+pub fn is_forced(a: &Assignment, term: &(Lit, i128), slack: &i128) -> bool
     requires { pos 1 ≤ℤ term.now.1 }
-    ensures { result ≡ is_forced slack a.now (term_of term.now) }
+    ensures { result ≡ is_forced slack.now a.now (term_of term.now) }
 {
     match a.value_of(term.0) {
-        None => slack < term.1,
+        None => *slack < term.1,
         Some(_) => false,
     }
 }
@@ -45,7 +45,7 @@ fn some_forced(terms: &[(Lit, i128)], a: &Assignment, slack: &i128) -> bool
     ensures { result ≡ some_forced slack.now a.now (terms_of terms.now) }
 {
     for term in terms {
-        if is_forced(a, term, *slack) {
+        if is_forced(a, term, slack) {
             return true;
         }
     }
@@ -57,7 +57,7 @@ fn set_forced(terms: &[(Lit, i128)], a: &mut Assignment, slack: &i128)
     ensures { a.new ≡ with_forced slack.now (terms_of terms.now) a.old }
 {
     for term in terms {
-        if is_forced(a, term, *slack) {
+        if is_forced(a, term, slack) {
             a.set(term.0);
         }
     }
