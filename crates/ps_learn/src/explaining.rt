@@ -9,10 +9,9 @@ ghost use Rattle.ps_learning.specs.Keeping.{IsKeptOnce, IsToExplain};
 ghost use Rattle.ps_learn.specs.Marks.{Explains, ExplainsAt, IsMarkedBefore};
 ghost use Rattle.ps_learn.specs.Marks.{IsCaused, IsTrailExplained, AreCauses};
 
-use crate::known::constraint_at;
 use crate::marks::{is_marked, mark, mark_causes};
 use ps_io::{List, NoMemory};
-use ps_pb::{Assignment, Constraint};
+use ps_pb::{Assignment, Constraint, constraint_at};
 use ps_trail::{Entry, Trail};
 use std::alloc::Global;
 

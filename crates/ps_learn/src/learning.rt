@@ -13,10 +13,9 @@ ghost use Rattle.ps_learn.specs.Falsity.{AreFalseIn};
 ghost use Rattle.ps_learn.specs.Drawing.{AddsKept, Follows, EndsInConflict};
 
 use crate::explaining::explain_conflict;
-use crate::known::constraint_at;
 use crate::marks::is_marked;
 use ps_io::{List, NoMemory};
-use ps_pb::{Assignment, Constraint, Effect, Hints, Lits, Step, propagate};
+use ps_pb::{Assignment, Constraint, Effect, Hints, Lits, Step, constraint_at, propagate};
 use ps_trail::{Entry, Trail};
 use std::alloc::Global;
 

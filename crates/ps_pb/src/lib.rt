@@ -3,6 +3,7 @@
 
 mod assignment;
 mod constraint;
+mod known;
 mod lit;
 mod propagation;
 mod step;
@@ -11,6 +12,7 @@ mod weights;
 
 pub use assignment::Assignment;
 pub use constraint::{Constraint, MOST_SIZE};
+pub use known::constraint_at;
 pub use lit::{Lit, MOST_VARIABLES};
 pub use propagation::{Effect, forces, is_forced, propagate, slack};
 pub use step::{Hints, Lits, Step, Steps};

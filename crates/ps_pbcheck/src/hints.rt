@@ -1,22 +1,10 @@
 //! Propagation along the hints of a step.
-ghost use Rattle.std.specs.Prelude.{◌≡◌, option_copied};
-ghost use Rattle.ps_steps.specs.Steps.{constraint_at, known_of, after_hints, end_of, Open};
+ghost use Rattle.ps_steps.specs.Steps.{known_of, after_hints, end_of, Open};
 ghost use Rattle.ps_pbcheck.specs.Judged.{gone_along, IsAfter, IsEnded};
 
 use ps_io::List;
-use ps_pb::{Assignment, Constraint, Effect, propagate};
+use ps_pb::{Assignment, Constraint, Effect, constraint_at, propagate};
 use ps_steps::StepRefused;
-
-/// The constraint of an id, from 1 on.
-#[tactic(auto, using(ps_steps::proofs::Ids::ids))]
-fn constraint_at(known: &List<Constraint>, id: u64) -> Option<&Constraint>
-    ensures { option_copied result ≡ constraint_at (known_of known.now) id }
-{
-    if id == 0 {
-        return None;
-    }
-    known.get((id - 1) as usize)
-}
 
 /// Goes on along one hint, and answers whether it is violated.
 #[tactic(auto, unfolding(ps_steps::specs::Steps::after_hint))]
