@@ -1,5 +1,5 @@
 -- Least common multiples are at least the numbers.
-use Rattle.std.proofs.Common.{◌≡◌, ℕ, zero, suc, ◌+◌, ◌*◌, ◌/◌, ◌<◌, ◌≤◌, ◌∙◌, ap, arith}
+use Rattle.std.proofs.Common.{ℕ, zero, suc, ◌*◌, ◌/◌, ◌<◌, ◌≤◌, arith}
 use Rattle.std.proofs.Math.Nat.{mul-pos}
 use Rattle.ps_rational.specs.Coprime.{gcd_is}
 use Rattle.ps_rational.specs.Parts.{part_pos}

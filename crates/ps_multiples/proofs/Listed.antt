@@ -7,7 +7,7 @@ use Rattle.std.proofs.lemmas.Bool.{cases_eq}
 use Rattle.std.specs.Int.{◌∣◌}
 use Rattle.ps_frac.specs.declared.wide.Op.{Op}
 use Rattle.ps_frac.specs.declared.wide.Op.TheVariants.{Mul, Lcm}
-use Rattle.ps_rational.specs.Gcd.{lcm, lcm_to, ArePositive}
+use Rattle.ps_rational.specs.Gcd.{lcm, lcm_to}
 use Rattle.ps_rational.specs.Rational.{Rational, whole, zero_q}
 use Rattle.ps_rational.specs.Scaled.{scaled}
 use Rattle.ps_rational.proofs.Multiples.{lcm_to_multiple}

@@ -1,14 +1,14 @@
 -- The rows whose basic column is a world of value above 0, and the others.
-use Rattle.std.proofs.Common.{◌≡◌, ℕ, zero, suc, ◌/◌, ◌*◌, ◌<◌, ◌≤◌, ℤ, pos, negsuc, ◌+ℤ◌, ◌*ℤ◌, ◌<ℤ◌, ◌≤ℤ◌, unsigned_abs, Bool, true, false, if◌then◌else◌, ltb, List, get_or, length, refl, sym, ap, ◌∙◌, subst, arith}
+use Rattle.std.proofs.Common.{◌≡◌, ℕ, zero, suc, ◌/◌, ◌*◌, ◌<◌, ◌≤◌, ℤ, pos, negsuc, ◌+ℤ◌, ◌*ℤ◌, ◌<ℤ◌, ◌≤ℤ◌, unsigned_abs, Bool, true, false, if◌then◌else◌, ltb, refl, sym, ap, ◌∙◌, subst, arith}
 use Rattle.std.proofs.lemmas.Int.{ints}
 use Rattle.std.proofs.lemmas.Bool.{lt-ltb, ltb-true}
 use Rattle.std.proofs.Math.Nat.{eq-one_of_dvd-one}
 use Rattle.std.specs.Int.{◌∣◌}
 use Rattle.ps_frac.specs.declared.wide.Op.TheVariants.{Add, Mul, Lcm}
 use Rattle.ps_rational.specs.Coprime.{gcd_is}
-use Rattle.ps_rational.specs.Gcd.{gcd, lcm, lcm_to}
-use Rattle.ps_rational.specs.Rational.{Rational, quotient, whole, zero_q}
-use Rattle.ps_rational.specs.Order.{IsNonneg, IsAbove}
+use Rattle.ps_rational.specs.Gcd.{gcd, lcm}
+use Rattle.ps_rational.specs.Rational.{Rational, quotient, whole}
+use Rattle.ps_rational.specs.Order.{IsNonneg}
 use Rattle.ps_rational.specs.Scaled.{scaled}
 use Rattle.ps_rational.proofs.Field.{over_is_zero, zero_is_fraction}
 use Rattle.ps_rational.proofs.Multiples.{lcm_to_multiple}
@@ -73,7 +73,7 @@ module _ (n : ℕ) (basic : ℕ → ℕ) (X : ℕ → ℕ → Rational) (i : ℕ
   pub weighed_weight : IsWeighed n basic X i → weight_at n basic X i ≡ scaled (weight_multiple_to n basic X n) (X i 0)
   weighed_weight w = ap (λ b. if b then scaled (weight_multiple_to n basic X n) (X i 0) else pos 0) (lt-ltb n (basic i) w.world)
 
-under_above : (n : ℕ) (basic : ℕ → ℕ) (X : ℕ → ℕ → Rational) (i : ℕ) → 0 < weight_under n basic X i
+pub under_above : (n : ℕ) (basic : ℕ → ℕ) (X : ℕ → ℕ → Rational) (i : ℕ) → 0 < weight_under n basic X i
 under_above n basic X i = cases (ltb n (basic i))
   where
     cases : (b : Bool) → 0 < (if b then (X i 0).under else 1)

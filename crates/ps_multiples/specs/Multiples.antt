@@ -1,5 +1,5 @@
 -- Whole multiples of a table's multipliers and values.
-use Rattle.std.specs.Prelude.{◌≡◌, ℕ, ◌<◌, ◌≤◌, ℤ, pos, unsigned_abs, List, length, get_or}
+use Rattle.std.specs.Prelude.{◌≡◌, ℕ, ◌<◌, ◌≤◌, ℤ, pos, unsigned_abs, length, get_or}
 use Rattle.ps_frac.specs.declared.wide.Op.{Op}
 use Rattle.ps_rational.specs.Rational.{Rational}
 use Rattle.ps_rational.specs.Scaled.{scaled}

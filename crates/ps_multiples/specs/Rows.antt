@@ -1,6 +1,5 @@
 -- Lists of a table's multipliers and weights.
 use Rattle.std.specs.Prelude.{◌≡◌, ℕ, ◌<◌, ◌≤◌, ℤ, pos, unsigned_abs, List, length, get_or}
-use Rattle.std.specs.Int.{◌∣◌}
 use Rattle.ps_frac.specs.declared.wide.Op.{Op}
 use Rattle.ps_frac.specs.declared.wide.Op.TheVariants.{Mul, Lcm}
 use Rattle.ps_rational.specs.Gcd.{lcm_to}
@@ -12,13 +11,17 @@ use Rattle.ps_table.specs.declared.costs.Costs.{Costs}
 use Rattle.ps_table.specs.Tableau.{Tableau, rows_of, basic_at, entry_at}
 use Rattle.ps_table.specs.Pricing.{multiplier_of}
 use Rattle.ps_rational.specs.Sums.{int_sum_to}
-use Rattle.ps_table.specs.Places.{printed_limit, IsWeighed, weight_multiple_to}
+use Rattle.ps_table.specs.Places.{printed_limit, HomePlaces, IsNarrow, IsWeighed, weight_multiple_to}
 use Rattle.ps_multiples.specs.Multiples.{weight_of}
 
 -- the multiplier of each row
 pub record AreMultipliers (t : Tableau) (costs : Costs) (xs : List Rational) : Type 0 where
   pub count : length xs ≡ rows_of t
   pub each : (m : ℕ) → m < rows_of t → get_or xs m zero_q ≡ multiplier_of t costs m
+
+-- nothing that is carried of the first n homes is too large
+abbrev pub AreHomesNarrow : Tableau → Costs → ℕ → Type 0
+AreHomesNarrow t costs n = (m : ℕ) → m < n → IsNarrow (HomePlaces t costs m)
 
 -- the denominator of a number of a list
 abbrev pub under_at : List Rational → ℕ → ℕ

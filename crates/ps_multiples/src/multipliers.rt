@@ -1,10 +1,11 @@
 //! Whole multiples of a table's multipliers.
 ghost use Rattle.std.specs.Prelude.{◌≡◌, ◌<◌, ◌≤◌, length, IfOk, IfErr};
-ghost use Rattle.ps_table.specs.Tableau.{most_rows};
+ghost use Rattle.ps_table.specs.Tableau.{most_rows, rows_of};
 ghost use Rattle.ps_table.specs.Pricing.{HasCosts};
-ghost use Rattle.ps_table.specs.Places.{printed_limit, IsWideAt, IsRefusedAt};
+ghost use Rattle.ps_table.specs.Places.{printed_limit, IsWideAt, IsRefusedAt, IsNarrow};
 ghost use Rattle.ps_multiples.specs.Multiples.{AreScaled, DualPlaces};
-ghost use Rattle.ps_multiples.specs.Rows.{AreMultipliers, multiple_before, ListPlaces, AreProducts};
+ghost use Rattle.ps_multiples.specs.Rows.{AreMultipliers, AreHomesNarrow};
+ghost use Rattle.ps_multiples.specs.Rows.{multiple_before, ListPlaces, AreProducts};
 
 use crate::at_place::{multiple_at, product_at};
 use crate::scaled::Scaled;
@@ -14,10 +15,11 @@ use ps_table::{Costs, Place, Table, TableError, WideAt};
 use std::alloc::Global;
 
 /// The multiplier of each row.
-#[tactic(auto, using(crate::proofs::Listed::refused_home))]
+#[tactic(auto, using(crate::proofs::Listed::refused_home, crate::proofs::Narrow::homes_more))]
 fn multipliers(alloc: Global, table: &Table, costs: &Costs) -> Result<List<Fraction>, TableError>
     requires { HasCosts costs.now table.now }
     ensures value { IfOk result (AreMultipliers table.now costs.now) }
+    ensures narrow { IfOk result (λ _. AreHomesNarrow table.now costs.now (rows_of table.now)) }
     ensures refused { IfErr result (IsRefusedAt (DualPlaces table.now costs.now)) }
 {
     let mut made = List::new(alloc);
@@ -64,6 +66,7 @@ fn products(alloc: Global, numbers: &[Fraction], multiple: u128) -> Result<List<
 pub fn scaled_multipliers(alloc: Global, table: &Table, costs: &Costs) -> Result<Scaled, TableError>
     requires { HasCosts costs.now table.now }
     ensures value { IfOk result (AreScaled table.now costs.now) }
+    ensures narrow { IfOk result (λ _. IsNarrow (DualPlaces table.now costs.now)) }
     ensures refused { IfErr result (IsRefusedAt (DualPlaces table.now costs.now)) }
 {
     let _rows = table.rows();

@@ -2,7 +2,7 @@
 ghost use Rattle.std.specs.Prelude.{◌≡◌, suc, ◌<◌, ◌≤◌, ◌≤ℤ◌, ◌<ℤ◌, pos, length, get_or};
 ghost use Rattle.std.specs.Prelude.{◌↔◌, IsTrue, IfOk, IfErr, unsigned_abs};
 ghost use Rattle.ps_table.specs.Tableau.{rows_of};
-ghost use Rattle.ps_table.specs.Places.{printed_limit, IsWideAt, IsRefusedAt};
+ghost use Rattle.ps_table.specs.Places.{printed_limit, IsWideAt, IsRefusedAt, IsNarrow};
 ghost use Rattle.ps_bland.specs.Ready.{HasValues};
 ghost use Rattle.ps_multiples.specs.Multiples.{weight_of, weight_multiple_of, ModelPlaces};
 ghost use Rattle.ps_multiples.specs.Multiples.{AreWeights, total_of};
@@ -130,6 +130,7 @@ fn total_of(table: &Table, rows: &[i128]) -> Result<i128, WideAt>
 pub fn weights_of(alloc: Global, table: &Table) -> Result<Weights, TableError>
     requires { HasValues table.now }
     ensures value { IfOk result (AreWeights table.now) }
+    ensures narrow { IfOk result (λ _. IsNarrow (ModelPlaces table.now)) }
     ensures refused { IfErr result (IsRefusedAt (ModelPlaces table.now)) }
 {
     let multiple = weight_multiple(table)?;
