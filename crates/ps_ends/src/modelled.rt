@@ -3,7 +3,7 @@ ghost use Rattle.std.specs.Prelude.{◌≡◌, ◌↔◌, ◌<◌, ◌≤◌, �
 ghost use Rattle.std.specs.Prelude.{IfOk, IfErr, OnOk, IsTrue, unsigned_abs};
 ghost use Rattle.std.specs.Int.{◌∣◌};
 ghost use Rattle.ps_table.specs.Tableau.{rows_of};
-ghost use Rattle.ps_table.specs.Places.{IsRefusedAt, printed_limit};
+ghost use Rattle.ps_table.specs.Places.{IsNarrow, IsRefusedAt, printed_limit};
 ghost use Rattle.ps_bland.specs.Rules.{simplex_of};
 ghost use Rattle.ps_bland.specs.Ready.{HasValues};
 ghost use Rattle.ps_multiples.specs.Multiples.{AreWeights, ModelPlaces, weight_multiple_of};
@@ -105,6 +105,7 @@ pub fn model_of(alloc: Global, table: &Table, pool: &Pool) -> Result<Model, Tabl
     requires apart { AreApart table.now }
     ensures value { IfOk result (IsTableModel table.now pool.now) }
     ensures printed { IfOk result IsPrintedModel }
+    ensures narrow { IfOk result (λ _. IsNarrow (ModelPlaces table.now)) }
     ensures refused { IfErr result (IsRefusedAt (ModelPlaces table.now)) }
 {
     let weights = weights_of(alloc, table)?;

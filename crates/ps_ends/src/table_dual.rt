@@ -3,7 +3,7 @@ ghost use Rattle.std.specs.Prelude.{◌≡◌, ℕ, suc, ◌<◌, ◌≤◌, pos
 ghost use Rattle.std.specs.Prelude.{IfOk, IfErr, [], length, get_or};
 ghost use Rattle.ps_table.specs.Tableau.{rows_of};
 ghost use Rattle.ps_table.specs.Pricing.{HasCosts};
-ghost use Rattle.ps_table.specs.Places.{IsRefusedAt, printed_limit};
+ghost use Rattle.ps_table.specs.Places.{IsNarrow, IsRefusedAt, printed_limit};
 ghost use Rattle.ps_multiples.specs.Multiples.{DualPlaces};
 ghost use Rattle.ps_problem.specs.Rows.{turned};
 ghost use Rattle.ps_runs.specs.Certificates.{top_of, head_of};
@@ -86,6 +86,7 @@ pub fn dual_of(
     ensures small { IfOk result IsSmallDual }
     ensures count { IfOk result (λ d. length d.rows ≡ length bounds.now) }
     ensures steps { IfOk result (λ d. d.steps ≡ []) }
+    ensures narrow { IfOk result (λ _. IsNarrow (DualPlaces table.now costs.now)) }
     ensures refused { IfErr result (IsRefusedAt (DualPlaces table.now costs.now)) }
 {
     let scaled = scaled_multipliers(alloc, table, costs)?;
