@@ -3,7 +3,7 @@ ghost use Rattle.std.specs.Prelude.{◌≡◌, length, IfOk, IfErr, IfSome};
 ghost use Rattle.ps_problem.specs.Problems.{HasNodes, AreParts, bounds_in};
 ghost use Rattle.ps_table.specs.Tableau.{rows_of as table_rows};
 ghost use Rattle.ps_table.specs.Pricing.{HasCosts, cost_at};
-ghost use Rattle.ps_table.specs.Places.{IsRefusedAt};
+ghost use Rattle.ps_table.specs.Places.{IsNarrow, IsRefusedAt};
 ghost use Rattle.ps_bland.specs.Rules.{simplex_of};
 ghost use Rattle.ps_multiples.specs.Multiples.{DualPlaces};
 ghost use Rattle.ps_certificate.specs.Certificates.{dual_of};
@@ -35,21 +35,19 @@ use ps_table::{Costs, Table, TableError};
 use std::alloc::Global;
 use std::marker::Model;
 
-/// What a run is over: a problem, which of its bounds are kept, with the pricing of their duals,
-/// the evidence that is to weigh 1, the node of the query with its evidence, and the limits.
+/// What a run is over: a problem, which of its bounds are kept, the pricing of duals over these and
+/// the query, and the limits.
 #[derive(Drop)]
 pub struct Setting<'p> {
     problem: &'p Problem,
     flags: List<bool>,
     pricer: Pricer<'p>,
-    given: Option<u32>,
-    both: u32,
     limits: Limits,
 }
 
 impl<'p> Model for Setting<'p> {
     ghost use Rattle.std.specs.Prelude.{◌≡◌};
-    ghost use Rattle.ps_runs.specs.Runs.{IsAsked, given_in, both_in};
+    ghost use Rattle.ps_runs.specs.Runs.{IsAsked};
     ghost use Rattle.ps_claims.specs.declared.claim_kind.ClaimKind.TheVariants.{Nothing};
     ghost use Rattle.ps_generation.specs.Phases.{LimitedSubject, AreLimits};
     ghost use Rattle.ps_generation.specs.Spreading.{IsKeptOf};
@@ -66,7 +64,6 @@ impl<'p> Model for Setting<'p> {
     ghost invariant = { λ s.
         IsKeptOf s.problem.now s.flags s.pricer.subject.parts
         × (s.pricer.conflicts ≡ s.limits.conflicts)
-        × (s.given ≡ given_in s.pricer.subject.query) × (s.both ≡ both_in s.pricer.subject.query)
         × AreLimits s.limits × IsAsked Nothing s.pricer.subject.parts s.pricer.subject.query };
 }
 
@@ -85,16 +82,10 @@ impl<'p> Setting<'p> {
         requires limits { AreLimits limits }
         ensures value { IfOk result (λ s. s ≡ limited problem.now kept.now query limits) }
     {
-        let (given, both) = match query {
-            Some(query) => (query.given, query.both),
-            None => (None, 0),
-        };
         Ok(Setting {
             problem,
             flags: flags_of(alloc, problem.sentences().as_slice(), kept)?,
             pricer: Pricer::new(alloc, problem, kept, query, limits.conflicts)?,
-            given,
-            both,
             limits,
         })
     }
@@ -133,7 +124,7 @@ impl<'p> Setting<'p> {
             alloc,
             phase_of(kind),
             self.problem.formulas(),
-            self.both,
+            self.pricer.both(),
             &state.table,
             &state.pool,
         )
@@ -153,8 +144,8 @@ impl<'p> Setting<'p> {
         let bounds = self.pricer.bounds();
         let values = eval(alloc, self.problem.formulas(), world)?;
         Ok(Column {
-            entries: column_of(alloc, &values, bounds, self.given)?,
-            cost: world_cost(phase_of(kind), self.both, &values),
+            entries: column_of(alloc, &values, bounds, self.pricer.given())?,
+            cost: world_cost(phase_of(kind), self.pricer.both(), &values),
         })
     }
 
@@ -172,6 +163,7 @@ impl<'p> Setting<'p> {
             (table_dual kind (setting_of self.now.subject) (simplex_of table.now)
             (cost_at costs.now))) }
         ensures fit { IfOk result (IsDualFor self.now.subject.parts) }
+        ensures narrow { IfOk result (λ _. IsNarrow (DualPlaces table.now costs.now)) }
         ensures refused { IfErr result (IsRefusedAt (DualPlaces table.now costs.now)) }
     {
         dual_of(alloc, self.pricer.bounds(), kind, table, costs)

@@ -94,7 +94,7 @@ impl<'p> Pricer<'p> {
     }
 
     /// The evidence of the query.
-    fn given(&self) -> Option<u32>
+    pub fn given(&self) -> Option<u32>
         ensures { result ≡ given_in self.now.subject.query }
     {
         match self.query {
@@ -104,7 +104,7 @@ impl<'p> Pricer<'p> {
     }
 
     /// The node of the query with its evidence, and 0 without a query.
-    fn both(&self) -> u32
+    pub fn both(&self) -> u32
         ensures { result ≡ both_in self.now.subject.query }
     {
         match self.query {

@@ -28,7 +28,7 @@ module _ (kind : ClaimKind) (s : Subject) (pool : List World) (kinds : List Home
 
 pub returns : goal.returns
 returns c =
-    costs_found c.args.kind c.args.self.now.subject c.args.state.now.pool c.args.state.now.table.kinds c.phase_of.result c.formulas.result.now c.self.inside.both c.requires.asked
+    costs_found c.args.kind c.args.self.now.subject c.args.state.now.pool c.args.state.now.table.kinds c.phase_of.result c.formulas.result.now c.both.result c.requires.asked
     c.requires.table.kinds c.phase_of.ensures
     (c.formulas.ensures.nodes ∙ ap (λ (p : Parts). p.nodes) (sym c.self.invariant.0.parts) ∙ ap (λ (r : LimitedSubject). r.subject.parts.nodes) c.self.view_is)
-    (c.self.invariant.3 ∙ ap (λ (r : LimitedSubject). both_in r.subject.query) c.self.view_is) c.costs_for.result c.costs_for.ensures.homes c.costs_for.ensures.worlds
+    (c.both.ensures ∙ ap (λ (r : LimitedSubject). both_in r.subject.query) c.self.view_is) c.costs_for.result c.costs_for.ensures.homes c.costs_for.ensures.worlds

@@ -7,6 +7,4 @@ invariant_of-result c = (
   search rules,
   search rules,
   search rules,
-  search rules,
-  search rules,
 )
