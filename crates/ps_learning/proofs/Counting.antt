@@ -1,30 +1,20 @@
 -- How many variables are unset, and how long a trail is.
-use Rattle.std.proofs.Common.{◌≡◌, ℕ, zero, suc, ◌+◌, ◌<◌, ◌≤◌, ℤ, Bool, Some, None, List, [], ◌∷◌, length, take, get_or, set, arith, refl, ap, ◌∙◌, subst}
+use Rattle.std.proofs.Common.{◌≡◌, ℕ, zero, suc, ◌+◌, ◌<◌, ◌≤◌, ℤ, Some, List, [], ◌∷◌, length, take, arith, refl, ap, ◌∙◌, subst}
 use Rattle.std.specs.Prelude.{slice_get}
-use Rattle.ps_steps.specs.Assignments.{Assignment, place, is_positive, with_true, all_unset}
+use Rattle.ps_steps.specs.Assignments.{Assignment, place, is_positive, with_true}
 use Rattle.ps_learning.specs.Trails.{Entry, values_of, unset_count, IsFresh, AreFresh}
 use Rattle.ps_steps.proofs.Values.{unset-is}
+use Rattle.ps_steps.proofs.Short.{one_less, unset-all}
 use Rattle.ps_learning.proofs.Entries.{length-values, values-more}
 use Rattle.std.proofs.lemmas.List.{take_all}
-
-one_less : (a : Assignment) (i : ℕ) (b : Bool) → get_or a i None ≡ None → i < length a → suc (unset_count (set a i (Some b))) ≡ unset_count a
-one_less [] i b e h = absurd (omega arith)
-one_less (None ∷ a) zero b e h = refl
-one_less (Some c ∷ a) zero b e h = absurd (cc)
-one_less (None ∷ a) (suc i) b e h = ap suc (one_less a i b e (omega arith))
-one_less (Some c ∷ a) (suc i) b e h = one_less a i b e (omega arith)
 
 pub fewer-unset : (a : Assignment) (l : ℤ) → IsFresh (length a) a l → suc (unset_count (with_true a l)) ≡ unset_count a
 unfolding with_true
 fewer-unset a l f = one_less a (place l) (is_positive l) (unset-is a l f.unset) f.within
 
-unset_all : (n : ℕ) → unset_count (all_unset n) ≡ n
-unset_all zero = refl
-unset_all (suc n) = ap suc (unset_all n)
-
 counted_to : (v : ℕ) (es : List Entry) (n : ℕ) → AreFresh v es → n ≤ length es → unset_count (values_of v (take n es)) + n ≡ v
 unfolding values_of
-counted_to v es zero f h = omega (arith, unset_all v)
+counted_to v es zero f h = omega (arith, unset-all v)
 counted_to v es (suc n) f h =
     let r = entry_at es n (omega (arith, h)) in
     let e : suc n ≡ n + 1 = omega arith in

@@ -12,8 +12,9 @@ use Rattle.ps_steps.specs.Steps.{Known, constraint_at, next_id, Step, Open, Conf
 use Rattle.ps_learning.specs.Trails.{Entry, values_of, AreFresh}
 use Rattle.ps_learning.specs.Causes.{Marks, is_marked, AreCovered}
 use Rattle.ps_steps.proofs.Values.{Includes, includes-refl, includes-trans}
+use Rattle.ps_steps.proofs.Forcing.{with_forced-includes}
 use Rattle.ps_steps.proofs.Lawful.{value-unset}
-use Rattle.ps_steps.proofs.Setting.{AreDistinct, forced-includes, length-forced, value-other, value-own, value-same}
+use Rattle.ps_steps.proofs.Setting.{AreDistinct, length-forced, value-other, value-own, value-same}
 use Rattle.ps_steps.specs.Constraints.{Covers}
 use Rattle.ps_steps.proofs.Covering.{covers-violated, covers-some, covers-true}
 use Rattle.ps_learning.proofs.Entries.{values-more, length-values}
@@ -104,7 +105,7 @@ followed-forced v known es marks start i hints a e id c fresh f at k covered for
     let after = with_forced (slack c a) c.terms a in
     let covers = covered-covers c before a marks covered f.includes in
     let some : some_forced (slack c a) a c.terms ≡ true = covers-some c before a e.lit covers forces well ne in
-    let inc : Includes after a = forced-includes (slack c a) c.terms a in
+    let inc : Includes after a = with_forced-includes (slack c a) c.terms a in
     let own : value_of after e.lit ≡ Some true = covers-true c before a e.lit covers forces d well ne (rw f.len (fresh.at i e at).within) in
     record {
       going = hint_more known start a hints id c f.going k ∙ rw (well, some) refl;

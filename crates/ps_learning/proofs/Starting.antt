@@ -11,7 +11,8 @@ use Rattle.ps_learning.specs.Causes.{Marks, is_marked}
 use Rattle.ps_learning.specs.Starting.{Started}
 use Rattle.ps_steps.proofs.Values.{includes-refl, includes-trans, with_true-includes}
 use Rattle.ps_steps.proofs.Setting.{length-with_true, value-true, includes-both, unset-below, unset-both, place-opposite, size-opposite, opposite-false}
-use Rattle.ps_learning.proofs.Entries.{values-more, length-values, length-unset}
+use Rattle.ps_learning.proofs.Entries.{values-more, length-values}
+use Rattle.ps_steps.proofs.Short.{length-unset}
 
 pub started-none : (v : ℕ) (es : List Entry) (kept : Marks) → Started v es kept 0 [] (all_unset v)
 unfolding values_of

@@ -2,6 +2,7 @@
 use Rattle.std.specs.Prelude.{ℕ, zero, suc, ◌+◌, ◌<◌, ◌≤◌, ◌≡◌, ◌^◌, ◌==◌, nat_le, ℤ, true, if◌then◌else◌, Option, Some, None, is_none, List, [], ◌∷◌, ◌++◌, take, fold, slice_get, unsigned_abs}
 use Rattle.std.specs.List.{filter}
 use Rattle.ps_steps.specs.Assignments.{Assignment, place, value_of, with_true, is_unset, all_unset}
+pub use Rattle.ps_steps.specs.Assignments.{unset_count}
 use Rattle.ps_steps.specs.Constraints.{Constraint, is_violated, Forces}
 use Rattle.ps_steps.specs.Steps.{Known, constraint_at}
 
@@ -27,12 +28,6 @@ values_of variables es = fold and_entry (all_unset variables) es
 -- the values of the variables
 abbrev pub values : Trail → Assignment
 values t = values_of t.variables t.entries
-
--- how many variables have no value
-abbrev pub unset_count : Assignment → ℕ
-unset_count [] = 0
-unset_count (None ∷ a) = suc (unset_count a)
-unset_count (Some b ∷ a) = unset_count a
 
 -- how many of the literals were decided
 abbrev pub decisions : List Entry → ℕ

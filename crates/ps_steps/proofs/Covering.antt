@@ -4,26 +4,16 @@ use Rattle.std.proofs.lemmas.Int.{ints}
 use Rattle.ps_steps.specs.Assignments.{Assignment, place, value_of, is_false, is_unset}
 use Rattle.ps_steps.specs.Constraints.{Constraint, Covers, sum_where, is_open, HasTerm, Forces, slack, is_violated, some_forced, with_forced}
 use Rattle.ps_steps.specs.Weights.{weighted, IsNormal}
+use Rattle.ps_steps.proofs.Sums.{part, gap_part}
 use Rattle.ps_steps.proofs.Forcing.{lt-of}
 use Rattle.ps_steps.proofs.Setting.{lt-from, forced-some, forced-true, rising-distinct, AreDistinct}
 
 abbrev pub On : (ℤ → Bool) → (ℤ → Bool) → List (ℤ × ℕ) → Type 0
 On f g ts = (l : ℤ) (k : ℕ) → HasTerm l k ts → f l ≡ true → g l ≡ true
 
-part : (x y : Bool) (k : ℕ) → (x ≡ true → y ≡ true) → cond x k 0 ≤ cond y k 0
-part true true k h = omega arith
-part true false k h = absurd (cc (h refl))
-part false true k h = omega arith
-part false false k h = omega arith
-
 le_on : (f g : ℤ → Bool) (ts : List (ℤ × ℕ)) → On f g ts → sum_where f ts ≤ sum_where g ts
 le_on f g [] h = omega arith
 le_on f g (t ∷ ts) h = omega (arith, part (f t.0) (g t.0) t.1 (h t.0 t.1 (inl (refl, refl))), le_on f g ts (λ l k m. h l k (inr m)))
-
-gap_part : (x y : Bool) (k s r : ℕ) → x ≡ false → y ≡ true → s ≤ r → cond x k 0 + s + k ≤ cond y k 0 + r
-gap_part true y k s r p q h = absurd (cc)
-gap_part false true k s r p q h = omega arith
-gap_part false false k s r p q h = absurd (cc)
 
 gap_on : (f g : ℤ → Bool) (ts : List (ℤ × ℕ)) (l : ℤ) (k : ℕ) → On f g ts → HasTerm l k ts → f l ≡ false → g l ≡ true → sum_where f ts + k ≤ sum_where g ts
 gap_on f g [] l k h m p q = absurd m

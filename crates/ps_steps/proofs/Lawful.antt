@@ -93,7 +93,8 @@ start-agrees : (w : List Bool) (known : Known) (hints : List ℕ) (o : Option As
 start-agrees w known hints None m s e = cc
 start-agrees w known hints (Some a) m s e = ended w (after_hints known (Open a) hints) (hints-agree w known (Open a) hints m s) e
 
-step_start : (b : Bool) (r : Option StepRefused) → cond b r (Some IdNotNext) ≡ None → r ≡ None
+-- where nothing is refused, nothing is refused behind the id
+pub step_start : (b : Bool) (r : Option StepRefused) → cond b r (Some IdNotNext) ≡ None → r ≡ None
 step_start true r e = e
 step_start false r e = absurd (cc)
 

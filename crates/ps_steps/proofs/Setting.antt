@@ -6,8 +6,8 @@ use Rattle.std.proofs.lemmas.Bool.{cases_Bool, and_parts, and_from, ltb-true}
 use Rattle.ps_steps.specs.Assignments.{Assignment, place, is_positive, agree, with_sign, value_of, with_true, with_false, is_unset}
 use Rattle.ps_steps.specs.Constraints.{HasTerm, is_forced, some_forced, with_forced}
 use Rattle.ps_steps.specs.Weights.{weighted, are_rising}
-use Rattle.ps_steps.proofs.Values.{Includes, includes-refl, includes-trans, signed-some, value-set, with_true-includes, agree-same}
-use Rattle.ps_steps.proofs.Forcing.{next_forced, next-includes}
+use Rattle.ps_steps.proofs.Values.{Includes, includes-trans, signed-some, value-set, with_true-includes, agree-same, agree-is}
+use Rattle.ps_steps.proofs.Forcing.{next_forced, with_forced-includes}
 
 pub length-with_true : (a : Assignment) (l : ℤ) → length (with_true a l) ≡ length a
 unfolding with_true
@@ -21,15 +21,10 @@ value-own a l m e h = rw e (rw get_or-set_same refl)
 pub value-true : (a : Assignment) (l : ℤ) → place l < length a → value_of (with_true a l) l ≡ Some true
 value-true a l h = value-own a l l refl h ∙ ap Some (agree-same (is_positive l))
 
-own : (p b : Bool) → agree p b ≡ true → b ≡ p
-own true b h = h
-own false true h = absurd (cc)
-own false false h = refl
-
 -- literals of one variable have values that fit
 pub value-same : (a : Assignment) (l m : ℤ) → place m ≡ place l → value_of a l ≡ Some true → value_of a m ≡ Some (agree (is_positive m) (is_positive l))
 unfolding value_of
-value-same a l m e h = let s = signed-some _ _ _ h in rw (e, s.1) (ap (λ b. Some (agree (is_positive m) b)) (own (is_positive l) s.0 s.2))
+value-same a l m e h = let s = signed-some _ _ _ h in rw (e, s.1) (ap (λ b. Some (agree (is_positive m) b)) (agree-is (is_positive l) s.0 s.2))
 
 pub value-other : (a : Assignment) (l m : ℤ) → place m ≢ place l → value_of (with_true a l) m ≡ value_of a m
 unfolding value_of with_true
@@ -118,7 +113,7 @@ none_at l k p [] h n = absurd h
 none_at l k p (t ∷ ts) (inl e) n = λ q. n.0 (ap place e.0 ∙ q)
 none_at l k p (t ∷ ts) (inr h) n = none_at l k p ts h n.1
 
-length_next : (s : ℤ) (a : Assignment) (t : ℤ × ℕ) → length (next_forced s a t) ≡ length a
+pub length_next : (s : ℤ) (a : Assignment) (t : ℤ × ℕ) → length (next_forced s a t) ≡ length a
 length_next s a t = elim (cases_Bool (is_forced s a t)) [
   | inl e ↦ rw e (length-with_true a t.0)
   | inr e ↦ rw e refl
@@ -137,14 +132,10 @@ next_other s a t l ne = elim (cases_Bool (is_forced s a t)) [
 next_own : (s : ℤ) (a : Assignment) (t : ℤ × ℕ) (l : ℤ) (k : ℕ) → (t.0 ≡ l) × (t.1 ≡ k) → is_unset (value_of a l) ≡ true → place l < length a → s <ℤ pos k → value_of (next_forced s a t) l ≡ Some true
 next_own s a t l k e u p m = rw (is_forced_at s a t l k e u m) (rw e.0 (value-true a l p))
 
-pub forced-includes : (s : ℤ) (ts : List (ℤ × ℕ)) (a : Assignment) → Includes (with_forced s ts a) a
-forced-includes s [] a = includes-refl a
-forced-includes s (t ∷ ts) a = includes-trans _ _ _ (forced-includes s ts (next_forced s a t)) (next-includes s a t)
-
 -- what is forced is true afterwards
 pub forced-true : (s : ℤ) (ts : List (ℤ × ℕ)) (a : Assignment) (l : ℤ) (k : ℕ) → HasTerm l k ts → AreDistinct ts → is_unset (value_of a l) ≡ true → place l < length a → s <ℤ pos k → value_of (with_forced s ts a) l ≡ Some true
 forced-true s [] a l k h d u p m = absurd h
-forced-true s (t ∷ ts) a l k (inl e) d u p m = (forced-includes s ts (next_forced s a t)).at l true (next_own s a t l k e u p m)
+forced-true s (t ∷ ts) a l k (inl e) d u p m = (with_forced-includes s ts (next_forced s a t)).at l true (next_own s a t l k e u p m)
 forced-true s (t ∷ ts) a l k (inr h) d u p m =
     forced-true s ts (next_forced s a t) l k h d.1 (ap is_unset (next_other s a t l (none_at l k (place t.0) ts h d.0)) ∙ u) (rw (length_next s a t) p) m
 

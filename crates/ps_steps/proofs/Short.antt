@@ -5,27 +5,21 @@ use Rattle.std.specs.List.{All, AllPairs, fold}
 use Rattle.std.proofs.lemmas.List.Elements.{All-nil, All-cons}
 use Rattle.std.proofs.lemmas.List.Kept.{AllPairs-cons}
 use Rattle.std.proofs.lemmas.Bool.{cases_Bool, and_parts, ltb-true}
-use Rattle.ps_steps.specs.Assignments.{Assignment, place, is_positive, with_sign, value_of, with_true, with_false, is_unset, all_unset, AreDifferent}
+use Rattle.ps_steps.specs.Assignments.{Assignment, place, is_positive, with_sign, value_of, with_true, with_false, is_unset, all_unset, unset_count, AreDifferent}
 use Rattle.ps_steps.specs.Constraints.{Constraint, slack, is_violated, is_forced, some_forced, with_forced}
 use Rattle.ps_steps.specs.Weights.{weighted, IsWithin}
 use Rattle.ps_steps.specs.declared.refused.StepRefused.{StepRefused}
-use Rattle.ps_steps.specs.declared.refused.StepRefused.TheVariants.{IdNotNext}
 use Rattle.ps_steps.specs.Steps.{Known, constraint_at, next_id, Step, lits_of, hints_of, Propagation, Open, Conflict, Refused, at_constraint, after_conflict, after_hint, after_hints, and_false, all_false, end_of, from_start, IsLawful, added, with_step, AreWithin}
 use Rattle.ps_steps.proofs.Values.{unset-is}
 use Rattle.ps_steps.proofs.Forcing.{next_forced}
 use Rattle.ps_steps.proofs.Places.{after_hints-refused, and_false-none}
-use Rattle.ps_steps.proofs.Setting.{length-with_true, length-forced}
-use Rattle.ps_steps.proofs.Lawful.{constraint_at-more}
+use Rattle.ps_steps.proofs.Setting.{length-forced, length_next}
+use Rattle.ps_steps.proofs.Lawful.{constraint_at-more, step_start}
 use Rattle.ps_steps.proofs.Full.{Below, all-head, all-rest}
 use Rattle.ps_steps.proofs.Within.{clause-within}
 
--- how many variables have no value
-abbrev pub unset_count : Assignment → ℕ
-unset_count [] = 0
-unset_count (None ∷ a) = suc (unset_count a)
-unset_count (Some b ∷ a) = unset_count a
-
-one_less : (a : Assignment) (i : ℕ) (b : Bool) → get_or a i None ≡ None → i < length a → suc (unset_count (set a i (Some b))) ≡ unset_count a
+-- one variable without a value fewer
+pub one_less : (a : Assignment) (i : ℕ) (b : Bool) → get_or a i None ≡ None → i < length a → suc (unset_count (set a i (Some b))) ≡ unset_count a
 one_less [] i b e h = absurd (omega arith)
 one_less (None ∷ a) zero b e h = refl
 one_less (Some c ∷ a) zero b e h = absurd (cc)
@@ -119,12 +113,6 @@ set_different b a (l ∷ ls) e = elim (cases_Bool (nat_lt (place l) (length b) &
 counts_next : (s : ℤ) (a : Assignment) (t : ℤ × ℕ) → place t.0 < length a → is_forced s a t ≡ true → suc (unset_count (next_forced s a t)) ≡ unset_count a
 counts_next s a t h f = rw f (fewer-true a t.0 (and_parts (is_unset (value_of a t.0)) (int_lt s (pos t.1)) f).0 h)
 
-length_next : (s : ℤ) (a : Assignment) (t : ℤ × ℕ) → length (next_forced s a t) ≡ length a
-length_next s a t = elim (cases_Bool (is_forced s a t)) [
-  | inl e ↦ rw e (length-with_true a t.0)
-  | inr e ↦ rw e refl
-]
-
 no_more : (s : ℤ) (ts : List (ℤ × ℕ)) (a : Assignment) → All (Below (length a)) (weighted ts) → unset_count (with_forced s ts a) ≤ unset_count a
 no_more s [] a h = omega arith
 no_more s (t ∷ ts) a h =
@@ -201,12 +189,8 @@ started : (known : Known) (hints : List ℕ) (o : Option Assignment) → from_st
 started known hints None e = absurd (cc)
 started known hints (Some a) e = (a, refl, ended (after_hints known (Open a) hints) e)
 
-if_next : (b : Bool) (r : Option StepRefused) → cond b r (Some IdNotNext) ≡ None → r ≡ None
-if_next true r e = e
-if_next false r e = absurd (cc)
-
 pub lawful-start : (v : ℕ) (known : Known) (s : Step) → IsLawful v known s → (a : Assignment) × (all_false v (lits_of s) ≡ Some a) × (after_hints known (Open a) (hints_of s) ≡ Conflict)
-lawful-start v known s e = started known (hints_of s) (all_false v (lits_of s)) (if_next (s.id == next_id known) _ e)
+lawful-start v known s e = started known (hints_of s) (all_false v (lits_of s)) (step_start (s.id == next_id known) _ e)
 
 all-set : (v : ℕ) (a : Assignment) (ls : List ℤ) → all_false v ls ≡ Some a → WereSet (all_unset v) a ls
 unfolding all_false

@@ -8,7 +8,8 @@ use Rattle.ps_steps.proofs.Values.{Includes, Agrees}
 pub record Implies (f g : ℤ → Bool) : Type 0 where
   pub at : (l : ℤ) → f l ≡ true → g l ≡ true
 
-part : (x y : Bool) (k : ℕ) → (x ≡ true → y ≡ true) → cond x k 0 ≤ cond y k 0
+-- a term that passes counts no less where it passes a weaker test
+pub part : (x y : Bool) (k : ℕ) → (x ≡ true → y ≡ true) → cond x k 0 ≤ cond y k 0
 part true true k h = omega arith
 part true false k h = absurd (cc (h refl))
 part false true k h = omega arith
@@ -18,7 +19,7 @@ pub sum_where-le : (f g : ℤ → Bool) (ts : List (ℤ × ℕ)) → Implies f g
 sum_where-le f g [] h = omega arith
 sum_where-le f g (t ∷ ts) h = omega (arith, part (f t.0) (g t.0) t.1 (h.at t.0), sum_where-le f g ts h)
 
-gap_part : (x y : Bool) (k s r : ℕ) → x ≡ false → y ≡ true → s ≤ r → cond x k 0 + s + k ≤ cond y k 0 + r
+pub gap_part : (x y : Bool) (k s r : ℕ) → x ≡ false → y ≡ true → s ≤ r → cond x k 0 + s + k ≤ cond y k 0 + r
 gap_part true y k s r p q h = absurd (cc)
 gap_part false true k s r p q h = omega arith
 gap_part false false k s r p q h = absurd (cc)

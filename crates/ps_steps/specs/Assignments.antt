@@ -1,5 +1,5 @@
 -- Literals, as whole numbers that aren't 0, and the truth values of their variables.
-use Rattle.std.specs.Prelude.{ℕ, zero, suc, ◌-◌, ◌<◌, ◌≤◌, ◌≡◌, ◌≢◌, ℤ, pos, negsuc, Bool, true, false, cond, not, Option, Some, None, List, length, map, unsigned_abs, slice_index_or, slice_set, replicate, AllPairs}
+use Rattle.std.specs.Prelude.{ℕ, zero, suc, ◌-◌, ◌<◌, ◌≤◌, ◌≡◌, ◌≢◌, ℤ, pos, negsuc, Bool, true, false, cond, not, Option, Some, None, List, [], ◌∷◌, length, map, unsigned_abs, slice_index_or, slice_set, replicate, AllPairs}
 pub use Rattle.ps_meaning.specs.Formula.{agree}
 
 -- the place of a literal's variable in an assignment: that of variable n is n - 1
@@ -50,6 +50,12 @@ is_unset (Some b) = false
 -- no variable has a value
 abbrev pub all_unset : ℕ → Assignment
 all_unset variables = replicate variables None
+
+-- how many variables have no value
+abbrev pub unset_count : Assignment → ℕ
+unset_count [] = 0
+unset_count (None ∷ a) = suc (unset_count a)
+unset_count (Some b ∷ a) = unset_count a
 
 -- one literal set true
 unfoldable pub with_true : Assignment → ℤ → Assignment

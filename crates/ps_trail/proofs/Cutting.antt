@@ -6,9 +6,10 @@ use Rattle.std.proofs.Math.Seq.{take-suc}
 use Rattle.ps_steps.specs.Assignments.{Assignment, without}
 use Rattle.ps_learning.specs.Trails.{Entry, Trail, values_of, decisions, up_to, AreFresh, AreLevels}
 use Rattle.ps_learning.proofs.Entries.{values-cut, fresh-front}
+use Rattle.ps_learning.proofs.Distinct.{decisions-take}
 use Rattle.ps_learning.proofs.Levels.{up_to-take}
-use Rattle.ps_trail.specs.Fields.{IsTrail}
-use Rattle.ps_trail.proofs.Pushing.{decisions-append, one_if, trail_of}
+use Rattle.ps_trail.specs.Fields.{trail_of, IsTrail}
+use Rattle.ps_trail.proofs.Pushing.{decisions-append, one_if}
 
 length-without : (a : Assignment) (n : ℕ) → length (without a n) ≡ length a
 unfolding without
@@ -58,11 +59,6 @@ cut-one a slots used level d t =
       within = omega (arith, t.within);
       narrow = rw l t.narrow;
     }
-
-decisions-take : (es : List Entry) (n : ℕ) → decisions (take n es) ≤ decisions es
-decisions-take es zero = omega arith
-decisions-take [] (suc n) = omega arith
-decisions-take (e ∷ es) (suc n) = omega (arith, decisions-take es n)
 
 filter-all : (n : ℕ) (es : List Entry) → ((i : ℕ) (e : Entry) → slice_get es i ≡ Some e → e.level ≤ n) → filter (λ e. nat_le e.level n) es ≡ es
 filter-all n [] h = refl

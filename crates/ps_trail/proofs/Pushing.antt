@@ -4,9 +4,10 @@ use Rattle.std.specs.Prelude.{slice_get, slice_set, is_none, unsigned_abs, ◌==
 use Rattle.ps_steps.specs.Assignments.{Assignment, with_true, all_unset}
 use Rattle.ps_learning.specs.Trails.{Entry, Trail, values_of, values, decided, implied, entry_of, decisions, IsFresh, AreLevels}
 use Rattle.ps_steps.proofs.Setting.{length-with_true}
-use Rattle.ps_learning.proofs.Entries.{values-append, fresh-append, get-last, length-values, length-unset}
+use Rattle.ps_steps.proofs.Short.{length-unset}
+use Rattle.ps_learning.proofs.Entries.{values-append, fresh-append, get-last, length-values}
 use Rattle.ps_learning.proofs.Counting.{counted, fewer-unset}
-use Rattle.ps_trail.specs.Fields.{IsTrail}
+use Rattle.ps_trail.specs.Fields.{trail_of, IsTrail}
 
 -- one slot more is used
 pub take-set : (xs : List Entry) (n : ℕ) (e : Entry) → n < length xs → take (suc n) (set xs n e) ≡ take n xs ++ e ∷ []
@@ -86,9 +87,6 @@ pushed a slots used level e t f h =
       within = rw (length-put slots used e) (omega (arith, room));
       narrow = rw l t.narrow;
     }
-
-abbrev pub trail_of : Assignment → List Entry → ℕ → Trail
-trail_of a slots used = record { variables = length a; entries = take used slots }
 
 pub pushed-view : (a : Assignment) (slots : List Entry) (used level : ℕ) (e : Entry) → IsTrail a slots used level → IsFresh (length a) (values_of (length a) (take used slots)) e.lit → trail_of (with_true a e.lit) (slice_set slots used e) (used + 1) ≡ record { variables = length a; entries = take used slots ++ e ∷ [] }
 pushed-view a slots used level e t f =
