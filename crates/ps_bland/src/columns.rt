@@ -1,7 +1,7 @@
 //! Columns of a table as the rule sees them.
 ghost use Rattle.std.specs.Prelude.{◌≡◌, ◌↔◌, IsTrue};
 ghost use Rattle.ps_rational.specs.Order.{IsAbove};
-ghost use Rattle.ps_table.specs.Tableau.{HasColumn, number_of};
+ghost use Rattle.ps_table.specs.Tableau.{HasColumn};
 ghost use Rattle.ps_bland.specs.Rules.{is_artificial_column};
 
 use ps_frac::Fraction;
@@ -23,16 +23,5 @@ pub(crate) fn is_artificial(table: &Table, col: Col) -> bool
     match col {
         Col::Home(row) => table.home(row) == Home::Artificial,
         Col::World(_) => false,
-    }
-}
-
-/// The number of a column, where the right side is 0.
-pub(crate) fn number_of(table: &Table, col: Col) -> u64
-    requires { HasColumn table.now col }
-    ensures value { result ≡ number_of table.now col }
-{
-    match col {
-        Col::Home(row) => row as u64 + 1,
-        Col::World(number) => table.rows() as u64 + number as u64,
     }
 }

@@ -5,7 +5,7 @@ ghost use Rattle.ps_bland.specs.Rounds.{IsRisingIn, HasRisingIn, NoneRisesBefore
 ghost use Rattle.ps_bland.specs.Rounds.{ratio_in, IsRatioWideIn, PrecedesIn};
 ghost use Rattle.ps_bland.specs.Rounds.{IsLeastBeforeIn, HasLeastRatioIn};
 
-use crate::columns::{is_above, number_of};
+use crate::columns::is_above;
 use ps_frac::Fraction;
 use ps_pool::Col;
 use ps_table::{Place, Table, WideAt};
@@ -63,9 +63,7 @@ fn is_better(table: &Table, col: Col, row: u32, ratio: &Fraction, best: &Best) -
 {
     match ratio.cmp(&best.ratio) {
         Ordering::Less => true,
-        Ordering::Equal => {
-            number_of(table, table.basic(row)) < number_of(table, table.basic(best.row))
-        }
+        Ordering::Equal => table.number(table.basic(row)) < table.number(table.basic(best.row)),
         Ordering::Greater => false,
     }
 }

@@ -139,6 +139,14 @@ impl Table {
         cell(&self.cells, rows, row as usize, column_number(rows, col))
     }
 
+    /// The number of a column, where the right side is 0.
+    pub fn number(&self, col: Col) -> u64
+        requires { HasColumn self.now col }
+        ensures value { result ≡ number_of self.now col }
+    {
+        column_number(self.homes.len(), col) as u64
+    }
+
     /// What the rows carry of a column: the sum of the basic columns' costs times the entries.
     pub fn carried(&self, costs: &Costs, col: Col) -> Result<Fraction, WideAt>
         requires costs { HasCosts costs.now self.now }
