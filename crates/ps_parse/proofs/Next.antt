@@ -20,8 +20,9 @@ use Rattle.ps_text.specs.Grammar.{Form, Group, Prob, Relation, Within, Entry, Se
 use Rattle.ps_text.specs.Meanings.{formula_of, ratio_of, IsValue, States, IsItem, AreItems}
 use Rattle.ps_text.specs.ExpectedTokens.{refusal, after, may_be_given, is_group}
 use Rattle.ps_text.proofs.Spans.{both}
-use Rattle.ps_text.proofs.Frames.{Frame, BegunNot, BegunGroup, BegunAnd, BegunOr, BegunImplies, BegunIff, need, opened_of, joins, joins_need, all_joined}
-use Rattle.ps_text.proofs.Parsing.{Parse, InPsat, InVersion, InHeadEnd, InItem, InQueryProb, InTextEnd, InDone, InParen, InOperand, InOperator, InRelation, InBracket, InFirst, InNumber, InComma, InSecond, InBracketEnd, InItemEnd, prob_of, state_of, relation_of, IsRelationSign, Sound, ended, behind_close, number_in, parsed}
+use Rattle.ps_text.specs.BegunFormulas.{Frame, BegunNot, BegunGroup, BegunAnd, BegunOr, BegunImplies, BegunIff, required_level, opened_of, joins}
+use Rattle.ps_text.proofs.Frames.{joins_need, all_joined}
+use Rattle.ps_text.specs.PartialParses.{Parse, InPsat, InVersion, InHeadEnd, InItem, InQueryProb, InTextEnd, InDone, InParen, InOperand, InOperator, InRelation, InBracket, InFirst, InNumber, InComma, InSecond, InBracketEnd, InItemEnd, prob_of, state_of, relation_of, IsRelationSign, IsParse, behind_operand, behind_close, number_in, parsed}
 use Rattle.ps_text.proofs.Steps.{passed}
 use Rattle.ps_text.proofs.Derived.{steps}
 use Rattle.ps_problem.specs.declared.mark.Mark.TheVariants as mark
@@ -90,8 +91,8 @@ has_begun q c fs gs i e h = (h.0, subst (λ xs. HasFormula xs c i) (sym e) h.1)
 
 module _ (es : List Entry) (q : Bool) (c : Option Form) where
   ended_does : (fs : List Frame) (f : Form) (os : List Operator) (d : Drafted) (i : ItemSoFar) → os ≡ operators_of fs → d.«open» ≡ lefts_of fs ++ formula_of f ∷ [] → AreItems es d.items → HasBegun q d.formulas c i
-      → IsWorkOf (ended es q c fs f) (record { pending = settled_from 5 os d; item = i })
-  ended_does fs f os d i o e k h = subst (λ xs. IsWorkOf (ended es q c fs f) (record { pending = settled_from 5 xs d; item = i })) (sym o)
+      → IsWorkOf (behind_operand es q c fs f) (record { pending = settled_from 5 os d; item = i })
+  ended_does fs f os d i o e k h = subst (λ xs. IsWorkOf (behind_operand es q c fs f) (record { pending = settled_from 5 xs d; item = i })) (sym o)
       (let s = settles 5 fs f d (omega arith) e in record {
         operators = s.operators;
         «open» = s.«open»;
@@ -99,14 +100,14 @@ module _ (es : List Entry) (q : Bool) (c : Option Form) where
         item = has_begun q c d.formulas (settled_from 5 (operators_of fs) d).draft.formulas i s.formulas h;
       })
 
-  operand_does : (fs : List Frame) (f : Form) (w : Work) (d : Drafted) → IsWorkOf (InOperand es q c fs) w → IsBehind w.pending.draft d (formula_of f) → IsWorkOf (ended es q c fs f) (with_pending w (operand_ended w.pending d))
+  operand_does : (fs : List Frame) (f : Form) (w : Work) (d : Drafted) → IsWorkOf (InOperand es q c fs) w → IsBehind w.pending.draft d (formula_of f) → IsWorkOf (behind_operand es q c fs f) (with_pending w (operand_ended w.pending d))
   operand_does fs f w d h b = ended_does fs f w.pending.operators d w.item h.operators (b.«open» ∙ ap (λ os. os ++ formula_of f ∷ []) h.«open»)
       (subst (λ is. AreItems es is) (sym b.items) h.items) (has_begun q c w.pending.draft.formulas d.formulas w.item b.formulas h.item)
 
   word_does : (fs : List Frame) (u : List ℕ) (w : Work) → IsWorkOf (InOperand es q c fs) w → IsWorkOf (parsed (InOperand es q c fs) (Word u)) (taken (state_of (InOperand es q c fs)) w (Word u))
   word_does fs u w h = by (bytes_eq u (codes "true")) (bytes_eq u (codes "false"))
     where
-      by : (a b : Bool) → IsWorkOf (ended es q c fs (if a then grammar.Truth else (if b then grammar.Falsity else grammar.Name u)))
+      by : (a b : Bool) → IsWorkOf (behind_operand es q c fs (if a then grammar.Truth else (if b then grammar.Falsity else grammar.Name u)))
           (with_pending w (operand_ended w.pending (if a then with_mark w.pending.draft mark.True else (if b then with_mark w.pending.draft mark.False else with_atom w.pending.draft u))))
       by true b = operand_does fs grammar.Truth w (with_mark w.pending.draft mark.True) h (record { «open» = ap (λ os. os ++ Truth ∷ []) (whole w.pending.draft.«open»); formulas = refl; items = refl })
       by false true = operand_does fs grammar.Falsity w (with_mark w.pending.draft mark.False) h (record { «open» = ap (λ os. os ++ formula.Falsity ∷ []) (whole w.pending.draft.«open»); formulas = refl; items = refl })
@@ -159,7 +160,7 @@ prob_ended c g d i e h = subst (λ os. HasProb (d.formulas ++ os) (prob_of c g) 
 abbrev ended_work : Drafted → ItemSoFar → Work
 ended_work d i = record { pending = record { operators = []; draft = d }; item = i }
 
-close_does : (es : List Entry) (q : Bool) (c : Option Form) (fs : List Frame) (f : Form) (d : Drafted) (i : ItemSoFar) → need fs ≤ 1 → d.«open» ≡ lefts_of fs ++ formula_of f ∷ [] → AreItems es d.items → HasBegun q d.formulas c i
+close_does : (es : List Entry) (q : Bool) (c : Option Form) (fs : List Frame) (f : Form) (d : Drafted) (i : ItemSoFar) → required_level fs ≤ 1 → d.«open» ≡ lefts_of fs ++ formula_of f ∷ [] → AreItems es d.items → HasBegun q d.formulas c i
     → IsWorkOf (behind_close es q c fs f) (closed_behind i (operators_of fs) d)
 close_does es false c [] f d i n e k h = subst (λ b. IsWorkOf (behind_close es false c [] f) (probability_ended b (ended_work d i))) (sym h.0)
     (record { operators = refl; «open» = refl; items = k; item = prob_ended c f d i e h.1 })
@@ -189,7 +190,7 @@ pub not_true : (b : Bool) → not b ≡ true → b ≡ false
 not_true true e = absurd (true≢false (sym e))
 not_true false e = refl
 
-module _ (es : List Entry) (q : Bool) (c : Option Form) (fs : List Frame) (f : Form) (w : Work) (s : Sound (InOperator es q c fs f)) (h : IsWorkOf (InOperator es q c fs f) w) where
+module _ (es : List Entry) (q : Bool) (c : Option Form) (fs : List Frame) (f : Form) (w : Work) (s : IsParse (InOperator es q c fs f)) (h : IsWorkOf (InOperator es q c fs f) w) where
   -- the frames of a level are joined
   joined_at : (k : ℕ) → 1 ≤ k → IsSettled w.pending.draft (settled k w.pending) (joins k fs f).0 (joins k fs f).1
   joined_at k l = subst (λ os. IsSettled w.pending.draft (settled_from k os w.pending.draft) (joins k fs f).0 (joins k fs f).1) (sym h.operators) (settles k fs f w.pending.draft l h.«open»)
@@ -263,7 +264,7 @@ at_relation es p w (Sign s) h = record { operators = h.operators; «open» = h.�
 at_relation es p w (Word u) h = record { operators = h.operators; «open» = h.«open»; items = h.items; item = (prob_kept w.pending.draft.formulas p w.item side.AtLeast w.item.least h.item, refl) }
 at_relation es p w (Number x) h = record { operators = h.operators; «open» = h.«open»; items = h.items; item = (prob_kept w.pending.draft.formulas p w.item side.AtLeast w.item.least h.item, refl) }
 
-does : (p : Parse) (t : Token) (w : Work) → Sound p → IsWorkOf p w → refusal (state_of p) t ≡ None → IsWorkOf (parsed p t) (taken (state_of p) w t)
+does : (p : Parse) (t : Token) (w : Work) → IsParse p → IsWorkOf p w → refusal (state_of p) t ≡ None → IsWorkOf (parsed p t) (taken (state_of p) w t)
 does InPsat t w s h r = record { operators = h.operators; «open» = h.«open»; items = h.items; item = tt }
 does InVersion t w s h r = record { operators = h.operators; «open» = h.«open»; items = h.items; item = tt }
 does InHeadEnd t w s h r = record { operators = h.operators; «open» = h.«open»; items = h.items; item = tt }
@@ -306,7 +307,7 @@ followed p m t f r =
     let k : refusal (state_of p) t ≡ None = subst (λ s. refusal s t ≡ None) f.state r in
     let step = steps p t f.sound k in
     record {
-      sound = step.sound;
+      sound = step.within;
       state = ap (λ s. after s t) f.state ∙ sym step.state;
       work = subst (λ s. IsWorkOf (parsed p t) (taken s m.work t)) (sym f.state) (does p t m.work f.sound f.work k);
     }

@@ -16,8 +16,9 @@ use Rattle.ps_text.specs.Grammar.{Form, IsForm, Nests, Prob, Entry, IsProbabilit
 use Rattle.ps_text.specs.Meanings.{formula_of}
 use Rattle.ps_text.specs.ExpectedTokens.{outside, refusal, may_be_given, is_group}
 use Rattle.ps_text.proofs.Spans.{both}
-use Rattle.ps_text.proofs.Frames.{Frame, BegunNot, BegunGroup, BegunAnd, BegunOr, BegunImplies, BegunIff, Fits, opened_of, joins, joins_fits, all_joined}
-use Rattle.ps_text.proofs.Parsing.{Parse, InPsat, InVersion, InHeadEnd, InItem, InQueryProb, InTextEnd, InDone, InParen, InOperand, InOperator, InRelation, InBracket, InFirst, InNumber, InComma, InSecond, InBracketEnd, InItemEnd, state_of, Sound, number_in}
+use Rattle.ps_text.specs.BegunFormulas.{Frame, BegunNot, BegunGroup, BegunAnd, BegunOr, BegunImplies, BegunIff, IsNextOperand, opened_of, joins}
+use Rattle.ps_text.proofs.Frames.{joins_fits, all_joined}
+use Rattle.ps_text.specs.PartialParses.{Parse, InPsat, InVersion, InHeadEnd, InItem, InQueryProb, InTextEnd, InDone, InParen, InOperand, InOperator, InRelation, InBracket, InFirst, InNumber, InComma, InSecond, InBracketEnd, InItemEnd, state_of, IsParse, number_in}
 use Rattle.ps_text.proofs.Steps.{passed}
 use Rattle.ps_text.proofs.Derived.{steps}
 use Rattle.ps_lex.specs.declared.token.Token.{Token}
@@ -98,13 +99,13 @@ below : (c : Option Form) (fs : List (Formula Name)) (i : ItemSoFar) → HasForm
 below None fs i h e = absurd (true≢false (sym e ∙ h))
 below (Some f) fs i h e = h.1
 
-module _ (es : List Entry) (q : Bool) (c : Option Form) (fs : List Frame) (f : Form) (w : Work) (s : Sound (InOperator es q c fs f)) (h : IsWorkOf (InOperator es q c fs f) w) where
+module _ (es : List Entry) (q : Bool) (c : Option Form) (fs : List Frame) (f : Form) (w : Work) (s : IsParse (InOperator es q c fs f)) (h : IsWorkOf (InOperator es q c fs f) w) where
   settled_is : IsSettled w.pending.draft (settled 1 w.pending) (joins 1 fs f).0 (joins 1 fs f).1
   settled_is = subst (λ os. IsSettled w.pending.draft (settled_from 1 os w.pending.draft) (joins 1 fs f).0 (joins 1 fs f).1) (sym h.operators) (settles 1 fs f w.pending.draft (omega arith) h.«open»)
 
   ends : (joins 1 fs f).0 ≡ [] → IsEndable (settled 1 w.pending).draft
   ends e =
-      let i : Fits (joins 1 fs f).0 (joins 1 fs f).1 = joins_fits 1 fs f (omega arith) s.2 in
+      let i : IsNextOperand (joins 1 fs f).0 (joins 1 fs f).1 = joins_fits 1 fs f (omega arith) s.2 in
       endable (settled 1 w.pending).draft (joins 1 fs f).1 (settled_is.«open» ∙ ap (λ gs. lefts_of gs ++ formula_of (joins 1 fs f).1 ∷ []) e) i.form
       (subst (λ gs. Nests (length (opened_of gs)) (joins 1 fs f).1) e i.nests)
 
@@ -145,9 +146,9 @@ unfolding refusal
 number_alike t = refl
 
 first_sound : (es : List Entry) (p : Prob) (t : text.Token) → AreEntries es × IsProb p → refusal (outside part.First) t ≡ None → IsProbability (number_in t)
-first_sound es p t s r = (steps (InFirst es p) t s r).sound.2
+first_sound es p t s r = (steps (InFirst es p) t s r).within.2
 
-ready : (p : Parse) (t : text.Token) (w : Work) → IsWordKept t → Sound p → IsWorkOf p w → refusal (state_of p) t ≡ None → IsReady (state_of p).part w t
+ready : (p : Parse) (t : text.Token) (w : Work) → IsWordKept t → IsParse p → IsWorkOf p w → refusal (state_of p) t ≡ None → IsReady (state_of p).part w t
 ready InPsat t w k s h r = tt
 ready InVersion t w k s h r = tt
 ready InHeadEnd t w k s h r = tt
@@ -163,7 +164,7 @@ ready (InBracket es p) t w k s h r = tt
 ready (InFirst es p) t w k s h r = first_sound es p t s r
 ready (InNumber es p x) t w k s h r = (h.item.0.below, first_sound es p t (s.0, s.1) (sym (number_alike t) ∙ r))
 ready (InComma es p x) t w k s h r = tt
-ready (InSecond es p x) t w k s h r = (h.item.0.below, (steps (InSecond es p x) t s r).sound.3, is_ratio x w.item.least s.2 h.item.2, h.item.1)
+ready (InSecond es p x) t w k s h r = (h.item.0.below, (steps (InSecond es p x) t s r).within.3, is_ratio x w.item.least s.2 h.item.2, h.item.1)
 ready (InBracketEnd es p x y) t w k s h r = tt
 ready (InItemEnd es e) t w k s h r = tt
 

@@ -9,7 +9,7 @@ use Rattle.ps_meaning.specs.Formula as formula
 use Rattle.ps_meaning.specs.Statements.{Name}
 use Rattle.ps_text.specs.Grammar.{Form}
 use Rattle.ps_text.specs.Meanings.{formula_of}
-use Rattle.ps_text.proofs.Frames.{Frame, BegunNot, BegunGroup, BegunAnd, BegunOr, BegunImplies, BegunIff, own, joined, joins}
+use Rattle.ps_text.specs.BegunFormulas.{Frame, BegunNot, BegunGroup, BegunAnd, BegunOr, BegunImplies, BegunIff, own_level, joined, joins}
 use Rattle.ps_problem.specs.declared.mark.Mark.TheVariants as mark
 use Rattle.ps_problem.specs.Drafts.{Drafted, from_top, marked, with_mark}
 use Rattle.ps_parse.specs.declared.operator.Operator.{Operator}
@@ -44,7 +44,7 @@ two op os f g =
     ∙ ap (λ xs. xs ++ op f g ∷ []) (take-append_seam os (f ∷ g ∷ []))
 
 -- the mark of what was begun makes the formula of the join
-join_marked : (names : List Name) (x : Frame) (fs : List Frame) (f : Form) → 1 ≤ own x
+join_marked : (names : List Name) (x : Frame) (fs : List Frame) (f : Form) → 1 ≤ own_level x
     → marked names (lefts_of (x ∷ fs) ++ formula_of f ∷ []) (mark_of (operator_of x)) ≡ lefts_of fs ++ formula_of (joined x f) ∷ []
 join_marked names BegunNot fs f h = one names (lefts_of fs) (formula_of f)
 join_marked names BegunGroup fs f h = absurd (omega (arith, h))
@@ -53,7 +53,7 @@ join_marked names (BegunOr g) fs f h = two formula.Or (lefts_of fs) (formula_of 
 join_marked names (BegunImplies g) fs f h = two formula.Implies (lefts_of fs) (formula_of g) (formula_of f)
 join_marked names (BegunIff g) fs f h = two formula.Iff (lefts_of fs) (formula_of g) (formula_of f)
 
-binding_is : (x : Frame) → binding (operator_of x) ≡ own x
+binding_is : (x : Frame) → binding (operator_of x) ≡ own_level x
 binding_is BegunNot = refl
 binding_is BegunGroup = refl
 binding_is (BegunAnd g) = refl
@@ -80,13 +80,13 @@ chosen_join k x fs f b = if b then joins k fs (joined x f) else (x ∷ fs, f)
 pub settles : (k : ℕ) (fs : List Frame) (f : Form) (d : Drafted) → 1 ≤ k → d.«open» ≡ lefts_of fs ++ formula_of f ∷ []
     → IsSettled d (settled_from k (operators_of fs) d) (joins k fs f).0 (joins k fs f).1
 settles k [] f d h e = record { operators = refl; «open» = e; formulas = refl; items = refl }
-settles k (x ∷ fs) f d h e = by (nat_le k (binding (operator_of x))) (nat_le k (own x)) refl (ap (nat_le k) (binding_is x))
+settles k (x ∷ fs) f d h e = by (nat_le k (binding (operator_of x))) (nat_le k (own_level x)) refl (ap (nat_le k) (binding_is x))
     (λ l. settles k fs (joined x f) (with_mark d (mark_of (operator_of x))) h (ap (λ os. marked d.names os (mark_of (operator_of x))) e ∙ join_marked d.names x fs f l))
   where
-    by : (b c : Bool) → nat_le k (own x) ≡ c → b ≡ c
-        → (1 ≤ own x → IsSettled (with_mark d (mark_of (operator_of x))) (settled_from k (operators_of fs) (with_mark d (mark_of (operator_of x)))) (joins k fs (joined x f)).0 (joins k fs (joined x f)).1)
+    by : (b c : Bool) → nat_le k (own_level x) ≡ c → b ≡ c
+        → (1 ≤ own_level x → IsSettled (with_mark d (mark_of (operator_of x))) (settled_from k (operators_of fs) (with_mark d (mark_of (operator_of x)))) (joins k fs (joined x f)).0 (joins k fs (joined x f)).1)
         → IsSettled d (chosen_pending k (operator_of x) (operators_of fs) d b) (chosen_join k x fs f c).0 (chosen_join k x fs f c).1
-    by true true t s rest = let r = rest (least_one k (own x) h t) in record { operators = r.operators; «open» = r.«open»; formulas = r.formulas; items = r.items }
+    by true true t s rest = let r = rest (least_one k (own_level x) h t) in record { operators = r.operators; «open» = r.«open»; formulas = r.formulas; items = r.items }
     by false false t s rest = record { operators = refl; «open» = e; formulas = refl; items = refl }
     by true false t s rest = absurd (true≢false s)
     by false true t s rest = absurd (true≢false (sym s))

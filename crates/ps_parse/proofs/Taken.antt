@@ -5,7 +5,7 @@ use Rattle.ps_text.specs.ExpectedTokens.{State, refusal, after}
 use Rattle.ps_lex.specs.declared.position.Position.{Position}
 use Rattle.ps_lex.specs.declared.token.Token.{Token}
 use Rattle.ps_expect.specs.KeptTokens.{token_of}
-use Rattle.ps_text.proofs.Parsing.{InPsat, parsed}
+use Rattle.ps_text.specs.PartialParses.{InPsat, parsed}
 use Rattle.ps_parse.specs.declared.parser.Parser.{Parser}
 use Rattle.ps_parse.specs.Machine.{at_first, Work, Machine, taken_at, next}
 use Rattle.ps_parse.specs.Standing.{IsParsed}

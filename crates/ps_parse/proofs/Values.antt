@@ -9,7 +9,7 @@ use Rattle.ps_text.specs.Tokens.{Numeral, Whole, Quotient, Decimal}
 use Rattle.ps_text.specs.Grammar.{value, IsProbability}
 use Rattle.ps_text.specs.Meanings.{ratio_of, IsValue}
 use Rattle.ps_text.proofs.Meant.{denominator_some}
-use Rattle.ps_text.proofs.Parsing.{number_in}
+use Rattle.ps_text.specs.PartialParses.{number_in}
 use Rattle.ps_lex.specs.declared.token.Numeral as kept
 use Rattle.ps_lex.specs.declared.token.Token.{Token}
 use Rattle.ps_lex.specs.declared.token.Token.TheVariants as token

@@ -11,7 +11,7 @@ use Rattle.ps_text.specs.Meanings.{ratio_of}
 use Rattle.ps_text.specs.ExpectedTokens.{State, at_start, after}
 use Rattle.ps_text.specs.declared.part.Part.{Part}
 use Rattle.ps_text.specs.declared.part.Part.TheVariants as part
-use Rattle.ps_text.proofs.Parsing.{number_in}
+use Rattle.ps_text.specs.PartialParses.{number_in}
 use Rattle.ps_problem.specs.declared.mark.Mark.TheVariants as mark
 use Rattle.ps_problem.specs.Numbering.{same_name, with_new}
 use Rattle.ps_problem.specs.Drafts.{Drafted, with_mark, with_formula, with_item, formula_at, question_at}

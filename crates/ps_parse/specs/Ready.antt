@@ -8,7 +8,7 @@ use Rattle.ps_text.specs.declared.symbol.Symbol.TheVariants.{Close, Ampersand, B
 use Rattle.ps_text.specs.declared.part.Part.{Part}
 use Rattle.ps_text.specs.declared.part.Part.TheVariants as part
 use Rattle.ps_text.specs.Grammar.{IsProbability}
-use Rattle.ps_text.proofs.Parsing.{number_in}
+use Rattle.ps_text.specs.PartialParses.{number_in}
 use Rattle.ps_problem.specs.declared.limits.TheConstants.{MOST_DRAFTED}
 use Rattle.ps_problem.specs.Drafts.{AreBelow, IsRatio}
 use Rattle.ps_parse.specs.Pending.{settled, HaveFirst, HaveAll, IsEndable}

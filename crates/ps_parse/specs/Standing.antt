@@ -7,8 +7,8 @@ use Rattle.ps_text.specs.Tokens.{Token, Sign}
 use Rattle.ps_text.specs.Grammar.{Form, Prob, Within, Entry, Sentence}
 use Rattle.ps_text.specs.Meanings.{formula_of, given_of, IsValue, AreItems}
 use Rattle.ps_text.specs.ExpectedTokens.{refusal}
-use Rattle.ps_text.proofs.Frames.{Frame, BegunNot, BegunGroup, BegunAnd, BegunOr, BegunImplies, BegunIff}
-use Rattle.ps_text.proofs.Parsing.{Parse, InPsat, InVersion, InHeadEnd, InItem, InQueryProb, InTextEnd, InDone, InParen, InOperand, InOperator, InRelation, InBracket, InFirst, InNumber, InComma, InSecond, InBracketEnd, InItemEnd, state_of, Sound, parsed}
+use Rattle.ps_text.specs.BegunFormulas.{Frame, BegunNot, BegunGroup, BegunAnd, BegunOr, BegunImplies, BegunIff}
+use Rattle.ps_text.specs.PartialParses.{Parse, InPsat, InVersion, InHeadEnd, InItem, InQueryProb, InTextEnd, InDone, InParen, InOperand, InOperator, InRelation, InBracket, InFirst, InNumber, InComma, InSecond, InBracketEnd, InItemEnd, state_of, IsParse, parsed}
 use Rattle.ps_problem.specs.Drafts.{formula_at, AreBelow}
 use Rattle.ps_parse.specs.declared.operator.Operator.{Operator}
 use Rattle.ps_parse.specs.declared.operator.Operator.TheVariants as operator
@@ -103,7 +103,7 @@ pub record IsWorkOf (p : Parse) (w : Work) : Type 0 where
 
 -- the machine stands for a derivation within the grammar's levels and limits
 pub record StandsFor (p : Parse) (m : Machine) : Type 0 where
-  pub sound : Sound p
+  pub sound : IsParse p
   pub state : m.state ≡ state_of p
   pub work : IsWorkOf p m.work
 

@@ -1,6 +1,6 @@
 //! What the machine over tokens stands for. A call does nothing: its contract is the law.
 ghost use Rattle.ps_text.specs.Tokens.{Token};
-ghost use Rattle.ps_text.proofs.Parsing.{Parse, InPsat};
+ghost use Rattle.ps_text.specs.PartialParses.{Parse, InPsat};
 ghost use Rattle.ps_parse.specs.Machine.{Machine, at_first};
 ghost use Rattle.ps_parse.specs.Standing.{StandsFor, IsFollowed};
 

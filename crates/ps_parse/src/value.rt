@@ -3,7 +3,7 @@ ghost use Rattle.std.specs.Prelude.{◌≡◌, ◌<◌};
 ghost use Rattle.ps_rational.specs.Gcd.{gcd as gcd_of};
 ghost use Rattle.ps_text.specs.Grammar.{IsProbability};
 ghost use Rattle.ps_text.specs.Meanings.{ratio_of as spelled_ratio};
-ghost use Rattle.ps_text.proofs.Parsing.{number_in};
+ghost use Rattle.ps_text.specs.PartialParses.{number_in};
 ghost use Rattle.ps_expect.specs.KeptTokens.{token_of, numeral_of};
 ghost use Rattle.ps_parse.specs.Machine.{lowest, value_in};
 ghost use Rattle.ps_parse.specs.Kept.{ratio_of};

@@ -12,10 +12,10 @@ use Rattle.ps_text.specs.declared.part.Part.TheVariants as part
 use Rattle.ps_text.specs.declared.kind.ReadKind.TheVariants.{NameTooLong}
 use Rattle.ps_text.specs.ExpectedTokens.{State, refusal}
 use Rattle.ps_text.proofs.Cutting.{decide}
-use Rattle.ps_text.proofs.Frames.{Frame, BegunNot, BegunGroup, BegunAnd, BegunOr, BegunImplies, BegunIff, joins}
+use Rattle.ps_text.specs.BegunFormulas.{Frame, BegunNot, BegunGroup, BegunAnd, BegunOr, BegunImplies, BegunIff, joins}
 use Rattle.ps_text.proofs.Signs.{the_word, Either, First, Second, either}
 use Rattle.ps_text.proofs.Steps.{passed}
-use Rattle.ps_text.proofs.Parsing.{Parse, InPsat, InVersion, InHeadEnd, InItem, InQueryProb, InTextEnd, InDone, InParen, InOperand, InOperator, InRelation, InBracket, InFirst, InNumber, InComma, InSecond, InBracketEnd, InItemEnd, state_of, read, behind_close, parsed}
+use Rattle.ps_text.specs.PartialParses.{Parse, InPsat, InVersion, InHeadEnd, InItem, InQueryProb, InTextEnd, InDone, InParen, InOperand, InOperator, InRelation, InBracket, InFirst, InNumber, InComma, InSecond, InBracketEnd, InItemEnd, state_of, parsed_tokens, behind_close, parsed}
 use Rattle.ps_lex.specs.declared.position.Position.{Position}
 use Rattle.ps_lex.specs.Places.{start}
 use Rattle.ps_lex.specs.Seen.{seen, behind_all}
@@ -244,7 +244,7 @@ module _ (done : List Piece) (t : Token) (places : List Position) (position : Po
       (later done (Spelled t) es (e ∷ []) (length es + 1) (length (es ++ e ∷ []) + 0) places (let l = length-append es (e ∷ []) in omega (arith, l)) b)
 
   -- behind a token that isn't refused
-  pub more_begun : (p : Parse) → read p ≡ tokens done → position ≡ behind_all start (texts done) → refusal (state_of p) t ≡ None → HaveBegun done p places
+  pub more_begun : (p : Parse) → parsed_tokens p ≡ tokens done → position ≡ behind_all start (texts done) → refusal (state_of p) t ≡ None → HaveBegun done p places
       → HaveBegun (done ++ Spelled t ∷ []) (parsed p t) (places ++ begun_at (state_of p).part t position)
   more_begun InPsat e at r b = within InPsat refl (record { entries = refl; more = refl }) b
   more_begun InVersion e at r b = within InVersion refl (record { entries = refl; more = refl }) b

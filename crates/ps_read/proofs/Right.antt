@@ -14,7 +14,7 @@ use Rattle.ps_text.specs.Meanings.{AreItems}
 use Rattle.ps_text.specs.Fronts.{IsTextFront}
 use Rattle.ps_text.proofs.Once.{bare_token, some_bytes}
 use Rattle.ps_text.proofs.Cutting.{cut}
-use Rattle.ps_text.proofs.Parsing.{Parse, InPsat, InVersion, InHeadEnd, InItem, InQueryProb, InTextEnd, InDone, InParen, InOperand, InOperator, InRelation, InBracket, InFirst, InNumber, InComma, InSecond, InBracketEnd, InItemEnd, state_of, read, parsed}
+use Rattle.ps_text.specs.PartialParses.{Parse, InPsat, InVersion, InHeadEnd, InItem, InQueryProb, InTextEnd, InDone, InParen, InOperand, InOperator, InRelation, InBracket, InFirst, InNumber, InComma, InSecond, InBracketEnd, InItemEnd, state_of, parsed_tokens, parsed}
 use Rattle.ps_text.proofs.Derived.{steps}
 use Rattle.ps_text.proofs.Deriving.{passes-append}
 use Rattle.ps_lex.specs.declared.position.Position.{Position}
@@ -55,7 +55,7 @@ IsSo bytes (Err e) = IsFormRefused bytes e.0 e.1
 record Stands (done : List Piece) (x : Parsed) : Type 0 where
   parse : Parse
   stands : StandsFor parse x.machine
-  read_is : read parse ≡ tokens done
+  read_is : parsed_tokens parse ≡ tokens done
   begun : HaveBegun done parse x.places
 
 -- the pieces so far, and what was parsed of them
@@ -87,7 +87,7 @@ record Whole (done : List Piece) (x : Parsed) : Type 0 where
   items : AreItems entries (drafted_in x.machine).items
   begun : AreBegun done entries (length entries) x.places
 
-done_parse : (done : List Piece) (x : Parsed) (p : Parse) → is_done (state_of p).part ≡ true → read p ≡ tokens done → StandsFor p x.machine → HaveBegun done p x.places → Whole done x
+done_parse : (done : List Piece) (x : Parsed) (p : Parse) → is_done (state_of p).part ≡ true → parsed_tokens p ≡ tokens done → StandsFor p x.machine → HaveBegun done p x.places → Whole done x
 done_parse done x (InDone es) h e s b = record {
   entries = es;
   tokens_are = sym e;

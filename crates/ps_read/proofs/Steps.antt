@@ -13,7 +13,7 @@ use Rattle.ps_lex.proofs.Begun.{First, Told, Bare, begun_first}
 use Rattle.ps_text.specs.declared.kind.ReadKind.TheVariants.{EndMissing}
 use Rattle.ps_read.specs.declared.read_error.ReadError.{ReadError}
 use Rattle.ps_read.specs.declared.read_error.ReadError.TheVariants as error
-use Rattle.ps_text.proofs.Parsing.{InPsat}
+use Rattle.ps_text.specs.PartialParses.{InPsat}
 use Rattle.ps_parse.specs.Machine.{Machine, at_first}
 use Rattle.ps_parse.specs.Standing.{StandsFor, IsParsed}
 use Rattle.ps_parse.specs.declared.parser.Parser.{Parser}

@@ -1,19 +1,19 @@
 -- Tokens none of which is refused are what the grammar derives within the limits.
-use Rattle.std.proofs.Common.{◌≡◌, Bool, true, false, List, [], ◌∷◌, ◌++◌, None, sym, ap, subst, ◌∙◌, append_assoc, append-nil, true≢false}
+use Rattle.std.proofs.Common.{◌≡◌, Bool, true, false, List, [], ◌∷◌, ◌++◌, sym, ap, subst, ◌∙◌, append_assoc, append-nil, true≢false}
 use Rattle.ps_text.specs.Tokens.{Token}
 use Rattle.ps_text.specs.declared.part.Part.{Part}
 use Rattle.ps_text.specs.declared.part.Part.TheVariants as part
-use Rattle.ps_text.specs.ExpectedTokens.{State, outside, refusal, Passes, AreExpected}
+use Rattle.ps_text.specs.ExpectedTokens.{State, outside, Passes, AreExpected}
 use Rattle.ps_text.specs.Grammar.{IsDerived}
-use Rattle.ps_text.proofs.Parsing.{Parse, InPsat, InVersion, InHeadEnd, InItem, InQueryProb, InTextEnd, InDone, InParen, InOperand, InOperator, InRelation, InBracket, InFirst, InNumber, InComma, InSecond, InBracketEnd, InItemEnd, state_of, read, Sound, parsed}
-use Rattle.ps_text.proofs.Steps.{Passed, passed, Steps, at_psat, at_version, at_head_end, at_item, at_query_prob, at_text_end, at_paren, at_relation, at_number, at_bracket, at_first, at_comma, at_second, at_bracket_end, at_item_end}
+use Rattle.ps_text.specs.PartialParses.{Parse, InPsat, InVersion, InHeadEnd, InItem, InQueryProb, InTextEnd, InDone, InParen, InOperand, InOperator, InRelation, InBracket, InFirst, InNumber, InComma, InSecond, InBracketEnd, InItemEnd, state_of, parsed_tokens, IsExtendedBy, IsParse, parsed, TakesToken}
+use Rattle.ps_text.proofs.Steps.{Passed, passed, at_psat, at_version, at_head_end, at_item, at_query_prob, at_text_end, at_paren, at_relation, at_number, at_bracket, at_first, at_comma, at_second, at_bracket_end, at_item_end}
 use Rattle.ps_text.proofs.FormulaSteps.{at_operand, at_operator}
 
 -- one token more that isn't refused
-pub steps : (p : Parse) (t : Token) → Sound p → refusal (state_of p) t ≡ None → Steps p t
+pub steps : (p : Parse) (t : Token) → TakesToken p t
 steps p t s h = by p s (passed (state_of p) t h)
   where
-    by : (p : Parse) → Sound p → Passed (state_of p) t → Steps p t
+    by : (p : Parse) → IsParse p → Passed (state_of p) t → IsExtendedBy p t
     by InPsat s h = at_psat t h
     by InVersion s h = at_version t h
     by InHeadEnd s h = at_head_end t h
@@ -41,21 +41,21 @@ parsed_all p (t ∷ ts) = parsed_all (parsed p t) ts
 -- more tokens none of which is refused
 pub record Derives (p : Parse) (ts : List Token) (e : State) : Type 0 where
   pub state : state_of (parsed_all p ts) ≡ e
-  pub tokens : read (parsed_all p ts) ≡ read p ++ ts
-  pub sound : Sound (parsed_all p ts)
+  pub tokens : parsed_tokens (parsed_all p ts) ≡ parsed_tokens p ++ ts
+  pub within : IsParse (parsed_all p ts)
 
-pub derives : (p : Parse) (ts : List Token) (e : State) → Sound p → Passes (state_of p) ts e → Derives p ts e
-derives p [] e s h = record { state = h; tokens = sym (append-nil (read p)); sound = s }
+pub derives : (p : Parse) (ts : List Token) (e : State) → IsParse p → Passes (state_of p) ts e → Derives p ts e
+derives p [] e s h = record { state = h; tokens = sym (append-nil (parsed_tokens p)); within = s }
 derives p (t ∷ ts) e s h =
     let step = steps p t s h.0 in
-    let rest = derives (parsed p t) ts e step.sound (subst (λ d. Passes d ts e) (sym step.state) h.1) in
-    record { state = rest.state; tokens = rest.tokens ∙ ap (λ us. us ++ ts) step.tokens ∙ append_assoc (read p) (t ∷ []) ts; sound = rest.sound }
+    let rest = derives (parsed p t) ts e step.within (subst (λ d. Passes d ts e) (sym step.state) h.1) in
+    record { state = rest.state; tokens = rest.tokens ∙ ap (λ us. us ++ ts) step.tokens ∙ append_assoc (parsed_tokens p) (t ∷ []) ts; within = rest.within }
 
 abbrev is_end : Part → Bool
 is_end part.Done = true
 is_end p = false
 
-ends : (p : Parse) (ts : List Token) → is_end (state_of p).part ≡ true → read p ≡ ts → Sound p → IsDerived ts
+ends : (p : Parse) (ts : List Token) → is_end (state_of p).part ≡ true → parsed_tokens p ≡ ts → IsParse p → IsDerived ts
 ends (InDone es) ts e r s = record { entries = es; tokens = sym r; within = s }
 ends InPsat ts e r s = absurd (true≢false (sym e))
 ends InVersion ts e r s = absurd (true≢false (sym e))
@@ -77,4 +77,4 @@ ends (InItemEnd es e') ts e r s = absurd (true≢false (sym e))
 
 -- tokens that are expected, up to the `;` behind `end`, are those of a text within the grammar's levels and limits
 pub expected_are_derived : (ts : List Token) → AreExpected ts → IsDerived ts
-expected_are_derived ts h = let d = derives InPsat ts (outside part.Done) tt h in ends (parsed_all InPsat ts) ts (ap (λ x. is_end x.part) d.state) d.tokens d.sound
+expected_are_derived ts h = let d = derives InPsat ts (outside part.Done) tt h in ends (parsed_all InPsat ts) ts (ap (λ x. is_end x.part) d.state) d.tokens d.within

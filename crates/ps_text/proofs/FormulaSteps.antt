@@ -13,9 +13,10 @@ use Rattle.ps_text.specs.declared.part.Opening.TheVariants as opening
 use Rattle.ps_text.specs.ExpectedTokens.{is_operand_word, is_connective, is_group, may_be_given, is_too_long, without_arrows, closed, after}
 use Rattle.ps_text.proofs.Spans.{both}
 use Rattle.ps_text.proofs.Signs.{the_word, the_sign, Either, First, Second, either}
-use Rattle.ps_text.proofs.Frames.{Frame, BegunNot, BegunGroup, BegunAnd, BegunOr, BegunImplies, BegunIff, frame_tokens, opened_of, need, Fits, joins, joins_tokens, joins_fits, joins_level, joins_need, joins_settled, nots_opened, and_opened, or_opened, all_opened, all_joined}
-use Rattle.ps_text.proofs.Parsing.{InOperand, InOperator, prob_of, state_of, before, lead, formula_lead, entry_body, read, Sound, operand_of, behind_close}
-use Rattle.ps_text.proofs.Steps.{Passed, Steps, unless}
+use Rattle.ps_text.specs.BegunFormulas.{Frame, BegunNot, BegunGroup, BegunAnd, BegunOr, BegunImplies, BegunIff, frame_tokens, opened_of, required_level, IsNextOperand, joins}
+use Rattle.ps_text.proofs.Frames.{joins_tokens, joins_fits, joins_level, joins_need, joins_settled, nots_opened, and_opened, or_opened, all_opened, all_joined}
+use Rattle.ps_text.specs.PartialParses.{InOperand, InOperator, prob_of, state_of, entries_lead, prob_lead, formula_lead, entry_body, parsed_tokens, IsExtendedBy, IsParse, operand_of, behind_close}
+use Rattle.ps_text.proofs.Steps.{Passed, unless}
 
 -- an operand of the tightest level
 record IsOperand (w : List ℕ) (f : Form) : Type 0 where
@@ -36,7 +37,7 @@ the_operand w short h = by (bytes_eq w (codes "true")) refl (bytes_eq w (codes "
     by false e true f = record { is = ap (λ u. Word u ∷ []) (sym ((bytes_eq-Decides w (codes "false")).0 f)); form = tt; nests = λ n. tt; tight = omega arith }
     by false e false f = record { is = refl; form = (name (is_reserved w) refl h e f, grind (arith, nat_tests)); nests = λ n. tt; tight = omega arith }
 
-least_need : (fs : List Frame) → need fs ≤ 5
+least_need : (fs : List Frame) → required_level fs ≤ 5
 least_need [] = omega arith
 least_need (BegunNot ∷ fs) = omega arith
 least_need (BegunGroup ∷ fs) = omega arith
@@ -57,41 +58,41 @@ fault_room : (b : Bool) → (if not b then Some TooDeep else None) ≡ None → 
 fault_room true h = refl
 fault_room false h = absurd (true≢false (ap is_some h))
 
-pub at_operand : (es : List Entry) (q : Bool) (c : Option Form) (fs : List Frame) (t : Token) → Sound (InOperand es q c fs) → Passed (state_of (InOperand es q c fs)) t → Steps (InOperand es q c fs) t
+pub at_operand : (es : List Entry) (q : Bool) (c : Option Form) (fs : List Frame) (t : Token) → IsParse (InOperand es q c fs) → Passed (state_of (InOperand es q c fs)) t → IsExtendedBy (InOperand es q c fs) t
 unfolding after
 at_operand es q c fs t s h = by (either (is_operand_word t || is_the_sign Bang t) (is_the_sign Open t) h.expected)
   where
-    word : (u : Token) → is_too_long u ≡ false → is_operand_word u ≡ true → Steps (InOperand es q c fs) u
+    word : (u : Token) → is_too_long u ≡ false → is_operand_word u ≡ true → IsExtendedBy (InOperand es q c fs) u
     word (Number x) l e = absurd (true≢false (sym e))
     word (Sign x) l e = absurd (true≢false (sym e))
     word (Word w) l e =
         let o = the_operand w l e in
-        let fits : Fits fs (operand_of w) = record { needed = omega (arith, least_need fs, o.tight); form = o.form; nests = o.nests (length (opened_of fs)); frames = s.2 } in
+        let fits : IsNextOperand fs (operand_of w) = record { needed = omega (arith, least_need fs, o.tight); form = o.form; nests = o.nests (length (opened_of fs)); frames = s.2 } in
         record {
           state = ap (λ os. record { part = part.Operator; query = q; given = is_some c; opened = os }) (nots_opened fs (operand_of w) s.2);
           tokens = ap (λ ts. formula_lead es q c ++ ts) (joins_tokens 5 fs (operand_of w) (omega arith) ∙ ap (λ ts. frame_tokens fs ++ ts) o.is)
               ∙ sym (append_assoc (formula_lead es q c) (frame_tokens fs) (Word w ∷ []));
-          sound = (s.0, s.1, joins_fits 5 fs (operand_of w) (omega arith) fits, joins_settled 5 fs (operand_of w) (omega arith), joins_level 5 fs (operand_of w) (omega arith) o.tight);
+          within = (s.0, s.1, joins_fits 5 fs (operand_of w) (omega arith) fits, joins_settled 5 fs (operand_of w) (omega arith), joins_level 5 fs (operand_of w) (omega arith) o.tight);
         }
 
-    sign : Either (is_operand_word t) (is_the_sign Bang t) → Steps (InOperand es q c fs) t
+    sign : Either (is_operand_word t) (is_the_sign Bang t) → IsExtendedBy (InOperand es q c fs) t
     sign (First e) = word t h.short e
     sign (Second e) =
         let deep : Passed (state_of (InOperand es q c fs)) (Sign Bang) = subst (λ u. Passed (state_of (InOperand es q c fs)) u) (the_sign Bang t e) h in
-        subst (λ u. Steps (InOperand es q c fs) u) (sym (the_sign Bang t e)) (record {
+        subst (λ u. IsExtendedBy (InOperand es q c fs) u) (sym (the_sign Bang t e)) (record {
           state = refl;
           tokens = sym (append_assoc (formula_lead es q c) (frame_tokens fs) (Sign Bang ∷ []));
-          sound = (s.0, s.1, (room (length (opened_of fs)) (fault_room (nat_lt (length (opened_of fs)) 100) deep.fault), s.2));
+          within = (s.0, s.1, (room (length (opened_of fs)) (fault_room (nat_lt (length (opened_of fs)) 100) deep.fault), s.2));
         })
 
-    by : Either (is_operand_word t || is_the_sign Bang t) (is_the_sign Open t) → Steps (InOperand es q c fs) t
+    by : Either (is_operand_word t || is_the_sign Bang t) (is_the_sign Open t) → IsExtendedBy (InOperand es q c fs) t
     by (First e) = sign (either (is_operand_word t) (is_the_sign Bang t) e)
     by (Second e) =
         let deep : Passed (state_of (InOperand es q c fs)) (Sign Open) = subst (λ u. Passed (state_of (InOperand es q c fs)) u) (the_sign Open t e) h in
-        subst (λ u. Steps (InOperand es q c fs) u) (sym (the_sign Open t e)) (record {
+        subst (λ u. IsExtendedBy (InOperand es q c fs) u) (sym (the_sign Open t e)) (record {
           state = refl;
           tokens = sym (append_assoc (formula_lead es q c) (frame_tokens fs) (Sign Open ∷ []));
-          sound = (s.0, s.1, (room (length (opened_of fs)) (fault_room (nat_lt (length (opened_of fs)) 100) deep.fault), s.2));
+          within = (s.0, s.1, (room (length (opened_of fs)) (fault_room (nat_lt (length (opened_of fs)) 100) deep.fault), s.2));
         })
 
 -- the last entries of a formula's tokens
@@ -99,25 +100,25 @@ last_two : (l x : List Token) (t : Token) (y : List Token) → y ≡ x → l ++ 
 last_two l x t y e = ap (λ ts. l ++ (ts ++ t ∷ [])) e ∙ sym (append_assoc l x (t ∷ []))
 
 -- where a probability ends
-query_end : (es : List Entry) (c : Option Form) (f : Form) → before es ++ entry_body (Query (prob_of c f)) ≡ formula_lead es true c ++ spelled f ++ Sign Close ∷ []
+query_end : (es : List Entry) (c : Option Form) (f : Form) → entries_lead es ++ entry_body (Query (prob_of c f)) ≡ formula_lead es true c ++ spelled f ++ Sign Close ∷ []
 query_end es None f =
-    ap (λ ts. before es ++ (Word (codes "query") ∷ Word (codes "P") ∷ Sign Open ∷ (ts ++ Sign Close ∷ []))) (append-nil (spelled f))
-    ∙ sym (append_assoc (before es) (Word (codes "query") ∷ Word (codes "P") ∷ Sign Open ∷ spelled f) (Sign Close ∷ []))
-    ∙ ap (λ ts. ts ++ Sign Close ∷ []) (sym (append_assoc (before es) (Word (codes "query") ∷ Word (codes "P") ∷ Sign Open ∷ []) (spelled f)))
+    ap (λ ts. entries_lead es ++ (Word (codes "query") ∷ Word (codes "P") ∷ Sign Open ∷ (ts ++ Sign Close ∷ []))) (append-nil (spelled f))
+    ∙ sym (append_assoc (entries_lead es) (Word (codes "query") ∷ Word (codes "P") ∷ Sign Open ∷ spelled f) (Sign Close ∷ []))
+    ∙ ap (λ ts. ts ++ Sign Close ∷ []) (sym (append_assoc (entries_lead es) (Word (codes "query") ∷ Word (codes "P") ∷ Sign Open ∷ []) (spelled f)))
 query_end es (Some g) f =
-    sym (append_assoc (before es) (Word (codes "query") ∷ Word (codes "P") ∷ Sign Open ∷ (spelled g ++ Word (codes "given") ∷ spelled f)) (Sign Close ∷ []))
-    ∙ ap (λ ts. ts ++ Sign Close ∷ []) (ap (λ ts. before es ++ (Word (codes "query") ∷ Word (codes "P") ∷ Sign Open ∷ ts)) (sym (append_assoc (spelled g) (Word (codes "given") ∷ []) (spelled f)))
-    ∙ sym (append_assoc (before es) (Word (codes "query") ∷ Word (codes "P") ∷ Sign Open ∷ (spelled g ++ Word (codes "given") ∷ [])) (spelled f)))
+    sym (append_assoc (entries_lead es) (Word (codes "query") ∷ Word (codes "P") ∷ Sign Open ∷ (spelled g ++ Word (codes "given") ∷ spelled f)) (Sign Close ∷ []))
+    ∙ ap (λ ts. ts ++ Sign Close ∷ []) (ap (λ ts. entries_lead es ++ (Word (codes "query") ∷ Word (codes "P") ∷ Sign Open ∷ ts)) (sym (append_assoc (spelled g) (Word (codes "given") ∷ []) (spelled f)))
+    ∙ sym (append_assoc (entries_lead es) (Word (codes "query") ∷ Word (codes "P") ∷ Sign Open ∷ (spelled g ++ Word (codes "given") ∷ [])) (spelled f)))
 
-sentence_end : (es : List Entry) (c : Option Form) (f : Form) → before es ++ prob_tokens (prob_of c f) ≡ formula_lead es false c ++ spelled f ++ Sign Close ∷ []
+sentence_end : (es : List Entry) (c : Option Form) (f : Form) → entries_lead es ++ prob_tokens (prob_of c f) ≡ formula_lead es false c ++ spelled f ++ Sign Close ∷ []
 sentence_end es None f =
-    ap (λ ts. before es ++ (Word (codes "P") ∷ Sign Open ∷ (ts ++ Sign Close ∷ []))) (append-nil (spelled f))
-    ∙ sym (append_assoc (before es) (Word (codes "P") ∷ Sign Open ∷ spelled f) (Sign Close ∷ []))
-    ∙ ap (λ ts. ts ++ Sign Close ∷ []) (sym (append_assoc (before es) (Word (codes "P") ∷ Sign Open ∷ []) (spelled f)))
+    ap (λ ts. entries_lead es ++ (Word (codes "P") ∷ Sign Open ∷ (ts ++ Sign Close ∷ []))) (append-nil (spelled f))
+    ∙ sym (append_assoc (entries_lead es) (Word (codes "P") ∷ Sign Open ∷ spelled f) (Sign Close ∷ []))
+    ∙ ap (λ ts. ts ++ Sign Close ∷ []) (sym (append_assoc (entries_lead es) (Word (codes "P") ∷ Sign Open ∷ []) (spelled f)))
 sentence_end es (Some g) f =
-    sym (append_assoc (before es) (Word (codes "P") ∷ Sign Open ∷ (spelled g ++ Word (codes "given") ∷ spelled f)) (Sign Close ∷ []))
-    ∙ ap (λ ts. ts ++ Sign Close ∷ []) (ap (λ ts. before es ++ (Word (codes "P") ∷ Sign Open ∷ ts)) (sym (append_assoc (spelled g) (Word (codes "given") ∷ []) (spelled f)))
-    ∙ sym (append_assoc (before es) (Word (codes "P") ∷ Sign Open ∷ (spelled g ++ Word (codes "given") ∷ [])) (spelled f)))
+    sym (append_assoc (entries_lead es) (Word (codes "P") ∷ Sign Open ∷ (spelled g ++ Word (codes "given") ∷ spelled f)) (Sign Close ∷ []))
+    ∙ ap (λ ts. ts ++ Sign Close ∷ []) (ap (λ ts. entries_lead es ++ (Word (codes "P") ∷ Sign Open ∷ ts)) (sym (append_assoc (spelled g) (Word (codes "given") ∷ []) (spelled f)))
+    ∙ sym (append_assoc (entries_lead es) (Word (codes "P") ∷ Sign Open ∷ (spelled g ++ Word (codes "given") ∷ [])) (spelled f)))
 
 prob_sound : (c : Option Form) (f : Form) → IsGiven c → IsForm f → Nests 0 f → IsProb (prob_of c f)
 prob_sound None f g i n = record { form = i; nests = n; given = tt }
@@ -126,21 +127,21 @@ prob_sound (Some h) f g i n = record { form = g.0; nests = g.1; given = (i, n) }
 -- what a `)` gives, where all is joined that is begun behind its `(`
 record Closes (es : List Entry) (q : Bool) (c : Option Form) (fs : List Frame) (f : Form) : Type 0 where
   state : state_of (behind_close es q c fs f) ≡ closed (record { part = part.Operator; query = q; given = is_some c; opened = [] }) (opened_of fs)
-  tokens : read (behind_close es q c fs f) ≡ formula_lead es q c ++ (frame_tokens fs ++ spelled f ++ Sign Close ∷ [])
-  sound : Sound (behind_close es q c fs f)
+  tokens : parsed_tokens (behind_close es q c fs f) ≡ formula_lead es q c ++ (frame_tokens fs ++ spelled f ++ Sign Close ∷ [])
+  within : IsParse (behind_close es q c fs f)
 
-closes : (es : List Entry) (q : Bool) (c : Option Form) (fs : List Frame) (f : Form) → AreEntries es → IsGiven c → need fs ≤ 1 → Fits fs f → Closes es q c fs f
-closes es true c [] f s g n i = record { state = refl; tokens = query_end es c f ∙ append_assoc (formula_lead es true c) (spelled f) (Sign Close ∷ []); sound = (s, prob_sound c f g i.form i.nests) }
-closes es false c [] f s g n i = record { state = refl; tokens = sentence_end es c f ∙ append_assoc (formula_lead es false c) (spelled f) (Sign Close ∷ []); sound = (s, prob_sound c f g i.form i.nests) }
+closes : (es : List Entry) (q : Bool) (c : Option Form) (fs : List Frame) (f : Form) → AreEntries es → IsGiven c → required_level fs ≤ 1 → IsNextOperand fs f → Closes es q c fs f
+closes es true c [] f s g n i = record { state = refl; tokens = query_end es c f ∙ append_assoc (formula_lead es true c) (spelled f) (Sign Close ∷ []); within = (s, prob_sound c f g i.form i.nests) }
+closes es false c [] f s g n i = record { state = refl; tokens = sentence_end es c f ∙ append_assoc (formula_lead es false c) (spelled f) (Sign Close ∷ []); within = (s, prob_sound c f g i.form i.nests) }
 closes es q c (BegunGroup ∷ fs) f s g n i =
-    let fits : Fits fs (Group f) = record { needed = least_need fs; form = i.form; nests = (i.frames.0, subst (λ k. Nests k f) (sym (add-one (length (opened_of fs)))) i.nests); frames = i.frames.1 } in
+    let fits : IsNextOperand fs (Group f) = record { needed = least_need fs; form = i.form; nests = (i.frames.0, subst (λ k. Nests k f) (sym (add-one (length (opened_of fs)))) i.nests); frames = i.frames.1 } in
     record {
       state = ap (λ os. record { part = part.Operator; query = q; given = is_some c; opened = os }) (nots_opened fs (Group f) i.frames.1);
       tokens = ap (λ ts. formula_lead es q c ++ ts)
           (joins_tokens 5 fs (Group f) (omega arith)
           ∙ sym (append_assoc (frame_tokens fs) (Sign Open ∷ spelled f) (Sign Close ∷ []))
           ∙ ap (λ ts. ts ++ Sign Close ∷ []) (sym (append_assoc (frame_tokens fs) (Sign Open ∷ []) (spelled f))));
-      sound = (s, g, joins_fits 5 fs (Group f) (omega arith) fits, joins_settled 5 fs (Group f) (omega arith), joins_level 5 fs (Group f) (omega arith) (omega arith));
+      within = (s, g, joins_fits 5 fs (Group f) (omega arith) fits, joins_settled 5 fs (Group f) (omega arith), joins_level 5 fs (Group f) (omega arith) (omega arith));
     }
 closes es q c (BegunNot ∷ fs) f s g n i = absurd (omega (arith, n))
 closes es q c (BegunAnd h ∷ fs) f s g n i = absurd (omega (arith, n))
@@ -148,7 +149,7 @@ closes es q c (BegunOr h ∷ fs) f s g n i = absurd (omega (arith, n))
 closes es q c (BegunImplies h ∷ fs) f s g n i = absurd (omega (arith, n))
 closes es q c (BegunIff h ∷ fs) f s g n i = absurd (omega (arith, n))
 
-at_close : (es : List Entry) (q : Bool) (c : Option Form) (fs : List Frame) (f : Form) → Sound (InOperator es q c fs f) → Steps (InOperator es q c fs f) (Sign Close)
+at_close : (es : List Entry) (q : Bool) (c : Option Form) (fs : List Frame) (f : Form) → IsParse (InOperator es q c fs f) → IsExtendedBy (InOperator es q c fs f) (Sign Close)
 unfolding after
 at_close es q c fs f s =
     let gs = (joins 1 fs f).0 in
@@ -157,34 +158,34 @@ at_close es q c fs f s =
     record {
       state = x.state ∙ ap (λ os. closed (record { part = part.Operator; query = q; given = is_some c; opened = [] }) os) (all_opened fs f s.3 s.2.frames) ∙ closed_same q (is_some c) (opened_of fs) (without_arrows (opened_of fs));
       tokens = x.tokens ∙ last_two (formula_lead es q c) (frame_tokens fs ++ spelled f) (Sign Close) (frame_tokens gs ++ spelled g) (joins_tokens 1 fs f (omega arith));
-      sound = x.sound;
+      within = x.within;
     }
   where
     closed_same : (q g : Bool) (os us : List Opening) → closed (record { part = part.Operator; query = q; given = g; opened = [] }) us ≡ closed (record { part = part.Operator; query = q; given = g; opened = os }) us
     closed_same q g os [] = refl
     closed_same q g os (u ∷ us) = refl
 
-at_and : (es : List Entry) (q : Bool) (c : Option Form) (fs : List Frame) (f : Form) → Sound (InOperator es q c fs f) → Steps (InOperator es q c fs f) (Sign Ampersand)
+at_and : (es : List Entry) (q : Bool) (c : Option Form) (fs : List Frame) (f : Form) → IsParse (InOperator es q c fs f) → IsExtendedBy (InOperator es q c fs f) (Sign Ampersand)
 unfolding after
 at_and es q c fs f s =
     let i = joins_fits 4 fs f (omega arith) s.2 in
     record {
       state = ap (λ os. record { part = part.Operand; query = q; given = is_some c; opened = os }) (and_opened fs f s.3 s.2.frames);
       tokens = last_two (formula_lead es q c) (frame_tokens fs ++ spelled f) (Sign Ampersand) (frame_tokens (joins 4 fs f).0 ++ spelled (joins 4 fs f).1) (joins_tokens 4 fs f (omega arith));
-      sound = (s.0, s.1, (joins_need 4 fs f (omega arith), record { tight = joins_level 4 fs f (omega arith) (omega (arith, s.4)); form = i.form; nests = i.nests }, i.frames));
+      within = (s.0, s.1, (joins_need 4 fs f (omega arith), record { tight = joins_level 4 fs f (omega arith) (omega (arith, s.4)); form = i.form; nests = i.nests }, i.frames));
     }
 
-at_or : (es : List Entry) (q : Bool) (c : Option Form) (fs : List Frame) (f : Form) → Sound (InOperator es q c fs f) → Steps (InOperator es q c fs f) (Sign Bar)
+at_or : (es : List Entry) (q : Bool) (c : Option Form) (fs : List Frame) (f : Form) → IsParse (InOperator es q c fs f) → IsExtendedBy (InOperator es q c fs f) (Sign Bar)
 unfolding after
 at_or es q c fs f s =
     let i = joins_fits 3 fs f (omega arith) s.2 in
     record {
       state = ap (λ os. record { part = part.Operand; query = q; given = is_some c; opened = os }) (or_opened fs f s.3 s.2.frames);
       tokens = last_two (formula_lead es q c) (frame_tokens fs ++ spelled f) (Sign Bar) (frame_tokens (joins 3 fs f).0 ++ spelled (joins 3 fs f).1) (joins_tokens 3 fs f (omega arith));
-      sound = (s.0, s.1, (omega (arith, joins_need 3 fs f (omega arith)), record { tight = joins_level 3 fs f (omega arith) (omega (arith, s.4)); form = i.form; nests = i.nests }, i.frames));
+      within = (s.0, s.1, (omega (arith, joins_need 3 fs f (omega arith)), record { tight = joins_level 3 fs f (omega arith) (omega (arith, s.4)); form = i.form; nests = i.nests }, i.frames));
     }
 
-at_implies : (es : List Entry) (q : Bool) (c : Option Form) (fs : List Frame) (f : Form) → Sound (InOperator es q c fs f) → length (opened_of fs) < 100 → Steps (InOperator es q c fs f) (Sign Arrow)
+at_implies : (es : List Entry) (q : Bool) (c : Option Form) (fs : List Frame) (f : Form) → IsParse (InOperator es q c fs f) → length (opened_of fs) < 100 → IsExtendedBy (InOperator es q c fs f) (Sign Arrow)
 unfolding after
 at_implies es q c fs f s l =
     let i = joins_fits 3 fs f (omega arith) s.2 in
@@ -192,21 +193,21 @@ at_implies es q c fs f s l =
     record {
       state = ap (λ os. record { part = part.Operand; query = q; given = is_some c; opened = opening.Arrow ∷ os }) o;
       tokens = last_two (formula_lead es q c) (frame_tokens fs ++ spelled f) (Sign Arrow) (frame_tokens (joins 3 fs f).0 ++ spelled (joins 3 fs f).1) (joins_tokens 3 fs f (omega arith));
-      sound = (s.0, s.1, (joins_need 3 fs f (omega arith), record { tight = joins_level 3 fs f (omega arith) (omega (arith, s.4)); form = i.form; nests = i.nests }, subst (λ os. length os < 100) (sym o) l, i.frames));
+      within = (s.0, s.1, (joins_need 3 fs f (omega arith), record { tight = joins_level 3 fs f (omega arith) (omega (arith, s.4)); form = i.form; nests = i.nests }, subst (λ os. length os < 100) (sym o) l, i.frames));
     }
 
-at_iff : (es : List Entry) (q : Bool) (c : Option Form) (fs : List Frame) (f : Form) → Sound (InOperator es q c fs f) → Steps (InOperator es q c fs f) (Sign DoubleArrow)
+at_iff : (es : List Entry) (q : Bool) (c : Option Form) (fs : List Frame) (f : Form) → IsParse (InOperator es q c fs f) → IsExtendedBy (InOperator es q c fs f) (Sign DoubleArrow)
 unfolding after
 at_iff es q c fs f s =
     let i = joins_fits 1 fs f (omega arith) s.2 in
     record {
       state = ap (λ os. record { part = part.Operand; query = q; given = is_some c; opened = os }) (all_opened fs f s.3 s.2.frames);
       tokens = last_two (formula_lead es q c) (frame_tokens fs ++ spelled f) (Sign DoubleArrow) (frame_tokens (joins 1 fs f).0 ++ spelled (joins 1 fs f).1) (joins_tokens 1 fs f (omega arith));
-      sound = (s.0, s.1, (joins_need 1 fs f (omega arith), record { tight = joins_level 1 fs f (omega arith) (omega (arith, s.4)); form = i.form; nests = i.nests }, i.frames));
+      within = (s.0, s.1, (joins_need 1 fs f (omega arith), record { tight = joins_level 1 fs f (omega arith) (omega (arith, s.4)); form = i.form; nests = i.nests }, i.frames));
     }
 
-at_given : (es : List Entry) (q : Bool) (c : Option Form) (fs : List Frame) (f : Form) → Sound (InOperator es q c fs f) → list_any is_group (opened_of fs) ≡ false → is_some c ≡ false
-    → Steps (InOperator es q c fs f) (Word (codes "given"))
+at_given : (es : List Entry) (q : Bool) (c : Option Form) (fs : List Frame) (f : Form) → IsParse (InOperator es q c fs f) → list_any is_group (opened_of fs) ≡ false → is_some c ≡ false
+    → IsExtendedBy (InOperator es q c fs f) (Word (codes "given"))
 unfolding after
 at_given es q (Some h) fs f s n m = absurd (true≢false m)
 at_given es q None fs f s n m =
@@ -219,43 +220,43 @@ at_given es q None fs f s n m =
           ∙ given_lead es q g
           ∙ last_two (formula_lead es q None) (frame_tokens fs ++ spelled f) (Word (codes "given")) (spelled g)
           (ap (λ xs. frame_tokens xs ++ spelled g) (sym e) ∙ joins_tokens 1 fs f (omega arith));
-      sound = (s.0, (i.form, subst (λ xs. Nests (length (opened_of xs)) g) e i.nests), tt);
+      within = (s.0, (i.form, subst (λ xs. Nests (length (opened_of xs)) g) e i.nests), tt);
     }
   where
     given_lead : (es : List Entry) (q : Bool) (g : Form) → formula_lead es q (Some g) ≡ formula_lead es q None ++ (spelled g ++ Word (codes "given") ∷ [])
-    given_lead es q g = ap (λ ts. before es ++ ts) (sym (append_assoc (lead q) (Sign Open ∷ []) (spelled g ++ Word (codes "given") ∷ []))) ∙ sym (append_assoc (before es) (lead q ++ Sign Open ∷ []) (spelled g ++ Word (codes "given") ∷ []))
+    given_lead es q g = ap (λ ts. entries_lead es ++ ts) (sym (append_assoc (prob_lead q) (Sign Open ∷ []) (spelled g ++ Word (codes "given") ∷ []))) ∙ sym (append_assoc (entries_lead es) (prob_lead q ++ Sign Open ∷ []) (spelled g ++ Word (codes "given") ∷ []))
 
-pub at_operator : (es : List Entry) (q : Bool) (c : Option Form) (fs : List Frame) (f : Form) (t : Token) → Sound (InOperator es q c fs f) → Passed (state_of (InOperator es q c fs f)) t → Steps (InOperator es q c fs f) t
+pub at_operator : (es : List Entry) (q : Bool) (c : Option Form) (fs : List Frame) (f : Form) (t : Token) → IsParse (InOperator es q c fs f) → Passed (state_of (InOperator es q c fs f)) t → IsExtendedBy (InOperator es q c fs f) t
 at_operator es q c fs f t s h = by (either (is_connective t || is_the_sign Close t) (may_be_given (state_of (InOperator es q c fs f)) && is_the_word (codes "given") t) h.expected)
   where
-    arrow : t ≡ Sign Arrow → Steps (InOperator es q c fs f) t
+    arrow : t ≡ Sign Arrow → IsExtendedBy (InOperator es q c fs f) t
     arrow e =
         let deep : Passed (state_of (InOperator es q c fs f)) (Sign Arrow) = subst (λ u. Passed (state_of (InOperator es q c fs f)) u) e h in
-        subst (λ u. Steps (InOperator es q c fs f) u) (sym e) (at_implies es q c fs f s (room (length (opened_of fs)) (fault_room (nat_lt (length (opened_of fs)) 100) deep.fault)))
+        subst (λ u. IsExtendedBy (InOperator es q c fs f) u) (sym e) (at_implies es q c fs f s (room (length (opened_of fs)) (fault_room (nat_lt (length (opened_of fs)) 100) deep.fault)))
 
-    first : Either (is_the_sign Ampersand t) (is_the_sign Bar t) → Steps (InOperator es q c fs f) t
-    first (First e) = subst (λ u. Steps (InOperator es q c fs f) u) (sym (the_sign Ampersand t e)) (at_and es q c fs f s)
-    first (Second e) = subst (λ u. Steps (InOperator es q c fs f) u) (sym (the_sign Bar t e)) (at_or es q c fs f s)
+    first : Either (is_the_sign Ampersand t) (is_the_sign Bar t) → IsExtendedBy (InOperator es q c fs f) t
+    first (First e) = subst (λ u. IsExtendedBy (InOperator es q c fs f) u) (sym (the_sign Ampersand t e)) (at_and es q c fs f s)
+    first (Second e) = subst (λ u. IsExtendedBy (InOperator es q c fs f) u) (sym (the_sign Bar t e)) (at_or es q c fs f s)
 
-    second : Either (is_the_sign Ampersand t || is_the_sign Bar t) (is_the_sign Arrow t) → Steps (InOperator es q c fs f) t
+    second : Either (is_the_sign Ampersand t || is_the_sign Bar t) (is_the_sign Arrow t) → IsExtendedBy (InOperator es q c fs f) t
     second (First e) = first (either (is_the_sign Ampersand t) (is_the_sign Bar t) e)
     second (Second e) = arrow (the_sign Arrow t e)
 
-    connective : Either (is_the_sign Ampersand t || is_the_sign Bar t || is_the_sign Arrow t) (is_the_sign DoubleArrow t) → Steps (InOperator es q c fs f) t
+    connective : Either (is_the_sign Ampersand t || is_the_sign Bar t || is_the_sign Arrow t) (is_the_sign DoubleArrow t) → IsExtendedBy (InOperator es q c fs f) t
     connective (First e) = second (either (is_the_sign Ampersand t || is_the_sign Bar t) (is_the_sign Arrow t) e)
-    connective (Second e) = subst (λ u. Steps (InOperator es q c fs f) u) (sym (the_sign DoubleArrow t e)) (at_iff es q c fs f s)
+    connective (Second e) = subst (λ u. IsExtendedBy (InOperator es q c fs f) u) (sym (the_sign DoubleArrow t e)) (at_iff es q c fs f s)
 
-    signs : Either (is_connective t) (is_the_sign Close t) → Steps (InOperator es q c fs f) t
+    signs : Either (is_connective t) (is_the_sign Close t) → IsExtendedBy (InOperator es q c fs f) t
     signs (First e) = connective (either (is_the_sign Ampersand t || is_the_sign Bar t || is_the_sign Arrow t) (is_the_sign DoubleArrow t) e)
-    signs (Second e) = subst (λ u. Steps (InOperator es q c fs f) u) (sym (the_sign Close t e)) (at_close es q c fs f s)
+    signs (Second e) = subst (λ u. IsExtendedBy (InOperator es q c fs f) u) (sym (the_sign Close t e)) (at_close es q c fs f s)
 
     not_true : (b : Bool) → not b ≡ true → b ≡ false
     not_true true e = absurd (true≢false (sym e))
     not_true false e = refl
 
-    by : Either (is_connective t || is_the_sign Close t) (may_be_given (state_of (InOperator es q c fs f)) && is_the_word (codes "given") t) → Steps (InOperator es q c fs f) t
+    by : Either (is_connective t || is_the_sign Close t) (may_be_given (state_of (InOperator es q c fs f)) && is_the_word (codes "given") t) → IsExtendedBy (InOperator es q c fs f) t
     by (First e) = signs (either (is_connective t) (is_the_sign Close t) e)
     by (Second e) =
         let b = both (may_be_given (state_of (InOperator es q c fs f))) (is_the_word (codes "given") t) e in
         let m = both (not (list_any is_group (opened_of fs))) (not (is_some c)) b.0 in
-        subst (λ u. Steps (InOperator es q c fs f) u) (sym (the_word (codes "given") t b.1)) (at_given es q c fs f s (not_true (list_any is_group (opened_of fs)) m.0) (not_true (is_some c) m.1))
+        subst (λ u. IsExtendedBy (InOperator es q c fs f) u) (sym (the_word (codes "given") t b.1)) (at_given es q c fs f s (not_true (list_any is_group (opened_of fs)) m.0) (not_true (is_some c) m.1))

@@ -1,99 +1,17 @@
--- What is begun in a formula: each operator that waits for its last operand, with its first one.
+-- Joining what is begun in a formula: its tokens, its level, and what stays open.
 use Rattle.std.proofs.Common.{◌≡◌, ℕ, suc, zero, ◌<◌, ◌≤◌, Bool, true, false, List, [], ◌∷◌, ◌++◌, length, refl, sym, subst, ◌∙◌, arith, add-one, append_assoc, true≢false}
 use Rattle.std.proofs.lemmas.Bool.Decides.{nat_tests}
 use Rattle.std.specs.Prelude.{nat_le, if◌then◌else◌}
 use Rattle.std.specs.List.{list_any}
-use Rattle.ps_text.specs.Tokens.{Token, Sign, Open, Bang, Ampersand, Bar, Arrow, DoubleArrow}
-use Rattle.ps_text.specs.Grammar.{Form, Not, Group, And, Or, Implies, Iff, spelled, level, IsForm, Nests}
-use Rattle.ps_text.specs.declared.part.Opening.{Opening}
-use Rattle.ps_text.specs.declared.part.Opening.TheVariants as opening
+use Rattle.ps_text.specs.Tokens.{Sign, Bang, Ampersand, Bar, Arrow, DoubleArrow}
+use Rattle.ps_text.specs.Grammar.{Form, Not, And, Or, Implies, Iff, spelled, level, Nests}
 use Rattle.ps_text.specs.ExpectedTokens.{is_group, without_nots, without_arrows}
-
-pub data Frame : Type 0 where
-  BegunNot BegunGroup : Frame
-  BegunAnd BegunOr BegunImplies BegunIff : (left : Form) → Frame
-
--- the last begun stands first
-abbrev pub frame_tokens : List Frame → List Token
-frame_tokens [] = []
-frame_tokens (BegunNot ∷ fs) = frame_tokens fs ++ Sign Bang ∷ []
-frame_tokens (BegunGroup ∷ fs) = frame_tokens fs ++ Sign Open ∷ []
-frame_tokens (BegunAnd f ∷ fs) = frame_tokens fs ++ spelled f ++ Sign Ampersand ∷ []
-frame_tokens (BegunOr f ∷ fs) = frame_tokens fs ++ spelled f ++ Sign Bar ∷ []
-frame_tokens (BegunImplies f ∷ fs) = frame_tokens fs ++ spelled f ++ Sign Arrow ∷ []
-frame_tokens (BegunIff f ∷ fs) = frame_tokens fs ++ spelled f ++ Sign DoubleArrow ∷ []
-
--- what is open
-abbrev pub opened_of : List Frame → List Opening
-opened_of [] = []
-opened_of (BegunNot ∷ fs) = opening.Not ∷ opened_of fs
-opened_of (BegunGroup ∷ fs) = opening.Group ∷ opened_of fs
-opened_of (BegunImplies f ∷ fs) = opening.Arrow ∷ opened_of fs
-opened_of (x ∷ fs) = opened_of fs
-
--- how tightly the next operand has to bind
-abbrev pub need : List Frame → ℕ
-need [] = 1
-need (BegunGroup ∷ fs) = 1
-need (BegunIff f ∷ fs) = 2
-need (BegunImplies f ∷ fs) = 2
-need (BegunOr f ∷ fs) = 4
-need (BegunAnd f ∷ fs) = 5
-need (BegunNot ∷ fs) = 5
-
--- how tightly the whole binds
-abbrev pub own : Frame → ℕ
-own BegunGroup = 0
-own (BegunIff f) = 1
-own (BegunImplies f) = 2
-own (BegunOr f) = 3
-own (BegunAnd f) = 4
-own BegunNot = 5
-
-abbrev pub joined : Frame → Form → Form
-joined BegunNot f = Not f
-joined BegunGroup f = Group f
-joined (BegunAnd g) f = And g f
-joined (BegunOr g) f = Or g f
-joined (BegunImplies g) f = Implies g f
-joined (BegunIff g) f = Iff g f
-
--- a first operand that binds tightly enough, over what is begun before
-pub record IsLeft (f : Form) (least : ℕ) (fs : List Frame) : Type 0 where
-  pub tight : least ≤ level f
-  pub form : IsForm f
-  pub nests : Nests (length (opened_of fs)) f
-
-abbrev pub AreFrames : List Frame → Type 0
-AreFrames [] = Unit {0}
-AreFrames (BegunNot ∷ fs) = (length (opened_of fs) < 100) × AreFrames fs
-AreFrames (BegunGroup ∷ fs) = (length (opened_of fs) < 100) × AreFrames fs
-AreFrames (BegunAnd f ∷ fs) = (need fs ≤ 4) × IsLeft f 4 fs × AreFrames fs
-AreFrames (BegunOr f ∷ fs) = (need fs ≤ 3) × IsLeft f 3 fs × AreFrames fs
-AreFrames (BegunImplies f ∷ fs) = (need fs ≤ 2) × IsLeft f 3 fs × (length (opened_of fs) < 100) × AreFrames fs
-AreFrames (BegunIff f ∷ fs) = (need fs ≤ 1) × IsLeft f 1 fs × AreFrames fs
-
--- the last begun is no `!`
-abbrev pub Settled : List Frame → Type 0
-Settled (BegunNot ∷ fs) = ⊥
-Settled fs = Unit {0}
-
--- a formula that may be the next operand
-pub record Fits (fs : List Frame) (f : Form) : Type 0 where
-  pub needed : need fs ≤ level f
-  pub form : IsForm f
-  pub nests : Nests (length (opened_of fs)) f
-  pub frames : AreFrames fs
-
--- the formula joined with all that is begun and binds at least so tightly
-abbrev pub joins : ℕ → List Frame → Form → List Frame × Form
-joins k [] f = ([], f)
-joins k (x ∷ fs) f = if nat_le k (own x) then joins k fs (joined x f) else (x ∷ fs, f)
+use Rattle.ps_text.specs.BegunFormulas.{Frame, BegunNot, BegunGroup, BegunAnd, BegunOr, BegunImplies, BegunIff, frame_tokens, opened_of, required_level, own_level, joined, AreFrames, LastIsNoNot, IsNextOperand, joins}
 
 abbrev chosen : ℕ → Frame → List Frame → Form → Bool → List Frame × Form
 chosen k x fs f b = if b then joins k fs (joined x f) else (x ∷ fs, f)
 
-join_tokens : (x : Frame) (fs : List Frame) (f : Form) → 1 ≤ own x → frame_tokens (x ∷ fs) ++ spelled f ≡ frame_tokens fs ++ spelled (joined x f)
+join_tokens : (x : Frame) (fs : List Frame) (f : Form) → 1 ≤ own_level x → frame_tokens (x ∷ fs) ++ spelled f ≡ frame_tokens fs ++ spelled (joined x f)
 join_tokens BegunNot fs f h = append_assoc (frame_tokens fs) (Sign Bang ∷ []) (spelled f)
 join_tokens BegunGroup fs f h = absurd (omega (arith, h))
 join_tokens (BegunAnd g) fs f h = append_assoc (frame_tokens fs ++ spelled g) (Sign Ampersand ∷ []) (spelled f) ∙ append_assoc (frame_tokens fs) (spelled g) (Sign Ampersand ∷ spelled f)
@@ -101,11 +19,11 @@ join_tokens (BegunOr g) fs f h = append_assoc (frame_tokens fs ++ spelled g) (Si
 join_tokens (BegunImplies g) fs f h = append_assoc (frame_tokens fs ++ spelled g) (Sign Arrow ∷ []) (spelled f) ∙ append_assoc (frame_tokens fs) (spelled g) (Sign Arrow ∷ spelled f)
 join_tokens (BegunIff g) fs f h = append_assoc (frame_tokens fs ++ spelled g) (Sign DoubleArrow ∷ []) (spelled f) ∙ append_assoc (frame_tokens fs) (spelled g) (Sign DoubleArrow ∷ spelled f)
 
-join_fits : (x : Frame) (fs : List Frame) (f : Form) → 1 ≤ own x → Fits (x ∷ fs) f → Fits fs (joined x f)
+join_fits : (x : Frame) (fs : List Frame) (f : Form) → 1 ≤ own_level x → IsNextOperand (x ∷ fs) f → IsNextOperand fs (joined x f)
 join_fits BegunGroup fs f h i = absurd (omega (arith, h))
 join_fits BegunNot fs f h i = record { needed = most fs; form = (i.needed, i.form); nests = (i.frames.0, subst (λ k. Nests k f) (sym (add-one (length (opened_of fs)))) i.nests); frames = i.frames.1 }
   where
-    most : (fs : List Frame) → need fs ≤ 5
+    most : (fs : List Frame) → required_level fs ≤ 5
     most [] = omega arith
     most (BegunNot ∷ fs) = omega arith
     most (BegunGroup ∷ fs) = omega arith
@@ -118,7 +36,7 @@ join_fits (BegunOr g) fs f h i = record { needed = i.frames.0; form = (i.frames.
 join_fits (BegunImplies g) fs f h i = record { needed = i.frames.0; form = (i.frames.1.tight, i.needed, i.frames.1.form, i.form); nests = (i.frames.1.nests, i.frames.2, subst (λ k. Nests k f) (sym (add-one (length (opened_of fs)))) i.nests); frames = i.frames.3 }
 join_fits (BegunIff g) fs f h i = record { needed = i.frames.0; form = (i.frames.1.tight, i.needed, i.frames.1.form, i.form); nests = (i.frames.1.nests, i.nests); frames = i.frames.2 }
 
-join_level : (x : Frame) (f : Form) → 1 ≤ own x → level (joined x f) ≡ own x
+join_level : (x : Frame) (f : Form) → 1 ≤ own_level x → level (joined x f) ≡ own_level x
 join_level BegunNot f h = refl
 join_level BegunGroup f h = absurd (omega (arith, h))
 join_level (BegunAnd g) f h = refl
@@ -135,27 +53,27 @@ test_lt k n h = grind (arith, nat_tests)
 -- what was begun and is joined stays as it is spelled
 pub joins_tokens : (k : ℕ) (fs : List Frame) (f : Form) → 1 ≤ k → frame_tokens (joins k fs f).0 ++ spelled (joins k fs f).1 ≡ frame_tokens fs ++ spelled f
 joins_tokens k [] f h = refl
-joins_tokens k (x ∷ fs) f h = by (nat_le k (own x)) refl (joins_tokens k fs (joined x f) h)
+joins_tokens k (x ∷ fs) f h = by (nat_le k (own_level x)) refl (joins_tokens k fs (joined x f) h)
   where
-    by : (b : Bool) → nat_le k (own x) ≡ b → frame_tokens (joins k fs (joined x f)).0 ++ spelled (joins k fs (joined x f)).1 ≡ frame_tokens fs ++ spelled (joined x f)
+    by : (b : Bool) → nat_le k (own_level x) ≡ b → frame_tokens (joins k fs (joined x f)).0 ++ spelled (joins k fs (joined x f)).1 ≡ frame_tokens fs ++ spelled (joined x f)
         → frame_tokens (chosen k x fs f b).0 ++ spelled (chosen k x fs f b).1 ≡ frame_tokens (x ∷ fs) ++ spelled f
-    by true e m = m ∙ sym (join_tokens x fs f (omega (arith, h, test_le k (own x) e)))
+    by true e m = m ∙ sym (join_tokens x fs f (omega (arith, h, test_le k (own_level x) e)))
     by false e m = refl
 
-pub joins_fits : (k : ℕ) (fs : List Frame) (f : Form) → 1 ≤ k → Fits fs f → Fits (joins k fs f).0 (joins k fs f).1
+pub joins_fits : (k : ℕ) (fs : List Frame) (f : Form) → 1 ≤ k → IsNextOperand fs f → IsNextOperand (joins k fs f).0 (joins k fs f).1
 joins_fits k [] f h i = i
-joins_fits k (x ∷ fs) f h i = by (nat_le k (own x)) refl (joins_fits k fs (joined x f) h)
+joins_fits k (x ∷ fs) f h i = by (nat_le k (own_level x)) refl (joins_fits k fs (joined x f) h)
   where
-    by : (b : Bool) → nat_le k (own x) ≡ b → (Fits fs (joined x f) → Fits (joins k fs (joined x f)).0 (joins k fs (joined x f)).1) → Fits (chosen k x fs f b).0 (chosen k x fs f b).1
-    by true e m = m (join_fits x fs f (omega (arith, h, test_le k (own x) e)) i)
+    by : (b : Bool) → nat_le k (own_level x) ≡ b → (IsNextOperand fs (joined x f) → IsNextOperand (joins k fs (joined x f)).0 (joins k fs (joined x f)).1) → IsNextOperand (chosen k x fs f b).0 (chosen k x fs f b).1
+    by true e m = m (join_fits x fs f (omega (arith, h, test_le k (own_level x) e)) i)
     by false e m = i
 
 pub joins_level : (k : ℕ) (fs : List Frame) (f : Form) → 1 ≤ k → k ≤ level f → k ≤ level (joins k fs f).1
 joins_level k [] f h i = i
-joins_level k (x ∷ fs) f h i = by (nat_le k (own x)) refl (joins_level k fs (joined x f) h)
+joins_level k (x ∷ fs) f h i = by (nat_le k (own_level x)) refl (joins_level k fs (joined x f) h)
   where
-    by : (b : Bool) → nat_le k (own x) ≡ b → (k ≤ level (joined x f) → k ≤ level (joins k fs (joined x f)).1) → k ≤ level (chosen k x fs f b).1
-    by true e m = m (subst (λ l. k ≤ l) (sym (join_level x f (omega (arith, h, test_le k (own x) e)))) (test_le k (own x) e))
+    by : (b : Bool) → nat_le k (own_level x) ≡ b → (k ≤ level (joined x f) → k ≤ level (joins k fs (joined x f)).1) → k ≤ level (chosen k x fs f b).1
+    by true e m = m (subst (λ l. k ≤ l) (sym (join_level x f (omega (arith, h, test_le k (own_level x) e)))) (test_le k (own_level x) e))
     by false e m = i
 
 -- how tightly the next operand has to bind behind what isn't joined
@@ -167,7 +85,7 @@ need_over (suc (suc (suc zero))) = 2
 need_over (suc (suc (suc (suc zero)))) = 4
 need_over (suc (suc (suc (suc (suc n))))) = 5
 
-need_left : (k : ℕ) (x : Frame) (fs : List Frame) → own x < k → need (x ∷ fs) ≤ need_over k
+need_left : (k : ℕ) (x : Frame) (fs : List Frame) → own_level x < k → required_level (x ∷ fs) ≤ need_over k
 need_left zero x fs h = absurd (omega (arith, h))
 need_left (suc zero) BegunGroup fs h = omega arith
 need_left (suc zero) BegunNot fs h = absurd (omega (arith, h))
@@ -200,20 +118,20 @@ need_left (suc (suc (suc (suc (suc n))))) (BegunOr g) fs h = omega arith
 need_left (suc (suc (suc (suc (suc n))))) BegunNot fs h = omega arith
 need_left (suc (suc (suc (suc (suc n))))) (BegunAnd g) fs h = omega arith
 
-pub joins_need : (k : ℕ) (fs : List Frame) (f : Form) → 1 ≤ need_over k → need (joins k fs f).0 ≤ need_over k
+pub joins_need : (k : ℕ) (fs : List Frame) (f : Form) → 1 ≤ need_over k → required_level (joins k fs f).0 ≤ need_over k
 joins_need k [] f h = h
-joins_need k (x ∷ fs) f h = by (nat_le k (own x)) refl (joins_need k fs (joined x f) h)
+joins_need k (x ∷ fs) f h = by (nat_le k (own_level x)) refl (joins_need k fs (joined x f) h)
   where
-    by : (b : Bool) → nat_le k (own x) ≡ b → need (joins k fs (joined x f)).0 ≤ need_over k → need (chosen k x fs f b).0 ≤ need_over k
+    by : (b : Bool) → nat_le k (own_level x) ≡ b → required_level (joins k fs (joined x f)).0 ≤ need_over k → required_level (chosen k x fs f b).0 ≤ need_over k
     by true e m = m
-    by false e m = need_left k x fs (test_lt k (own x) e)
+    by false e m = need_left k x fs (test_lt k (own_level x) e)
 
 -- a `!` is joined whenever anything is
-pub joins_settled : (k : ℕ) (fs : List Frame) (f : Form) → k ≤ 5 → Settled (joins k fs f).0
+pub joins_settled : (k : ℕ) (fs : List Frame) (f : Form) → k ≤ 5 → LastIsNoNot (joins k fs f).0
 joins_settled k [] f h = tt
-joins_settled k (x ∷ fs) f h = by (nat_le k (own x)) refl (joins_settled k fs (joined x f) h)
+joins_settled k (x ∷ fs) f h = by (nat_le k (own_level x)) refl (joins_settled k fs (joined x f) h)
   where
-    settled : (x : Frame) → own x < 5 → Settled (x ∷ fs)
+    settled : (x : Frame) → own_level x < 5 → LastIsNoNot (x ∷ fs)
     settled BegunNot h = absurd (omega (arith, h))
     settled BegunGroup h = tt
     settled (BegunAnd g) h = tt
@@ -221,12 +139,12 @@ joins_settled k (x ∷ fs) f h = by (nat_le k (own x)) refl (joins_settled k fs 
     settled (BegunImplies g) h = tt
     settled (BegunIff g) h = tt
 
-    by : (b : Bool) → nat_le k (own x) ≡ b → Settled (joins k fs (joined x f)).0 → Settled (chosen k x fs f b).0
+    by : (b : Bool) → nat_le k (own_level x) ≡ b → LastIsNoNot (joins k fs (joined x f)).0 → LastIsNoNot (chosen k x fs f b).0
     by true e m = m
-    by false e m = settled x (omega (arith, h, test_lt k (own x) e))
+    by false e m = settled x (omega (arith, h, test_lt k (own_level x) e))
 
 -- nothing that is open is a `!`, up to what is begun
-pub loose : (fs : List Frame) → need fs ≤ 4 → AreFrames fs → (without_nots (opened_of fs) ≡ opened_of fs) × Settled fs
+pub loose : (fs : List Frame) → required_level fs ≤ 4 → AreFrames fs → (without_nots (opened_of fs) ≡ opened_of fs) × LastIsNoNot fs
 loose [] n a = (refl, tt)
 loose (BegunNot ∷ fs) n a = absurd (omega (arith, n))
 loose (BegunGroup ∷ fs) n a = (refl, tt)
@@ -246,7 +164,7 @@ nots_opened (BegunImplies g ∷ fs) f a = refl
 nots_opened (BegunIff g ∷ fs) f a = sym (loose fs (omega (arith, a.0)) a.2).0
 
 -- before `&`
-pub and_opened : (fs : List Frame) (f : Form) → Settled fs → AreFrames fs → opened_of (joins 4 fs f).0 ≡ opened_of fs
+pub and_opened : (fs : List Frame) (f : Form) → LastIsNoNot fs → AreFrames fs → opened_of (joins 4 fs f).0 ≡ opened_of fs
 and_opened [] f s a = refl
 and_opened (BegunNot ∷ fs) f s a = absurd s
 and_opened (BegunGroup ∷ fs) f s a = refl
@@ -256,7 +174,7 @@ and_opened (BegunImplies g ∷ fs) f s a = refl
 and_opened (BegunIff g ∷ fs) f s a = refl
 
 -- before `|` and `->`
-pub or_opened : (fs : List Frame) (f : Form) → Settled fs → AreFrames fs → opened_of (joins 3 fs f).0 ≡ opened_of fs
+pub or_opened : (fs : List Frame) (f : Form) → LastIsNoNot fs → AreFrames fs → opened_of (joins 3 fs f).0 ≡ opened_of fs
 or_opened [] f s a = refl
 or_opened (BegunNot ∷ fs) f s a = absurd s
 or_opened (BegunGroup ∷ fs) f s a = refl
@@ -266,7 +184,7 @@ or_opened (BegunImplies g ∷ fs) f s a = refl
 or_opened (BegunIff g ∷ fs) f s a = refl
 
 -- before `<->`, `)` and `given`
-pub all_opened : (fs : List Frame) (f : Form) → Settled fs → AreFrames fs → opened_of (joins 1 fs f).0 ≡ without_arrows (opened_of fs)
+pub all_opened : (fs : List Frame) (f : Form) → LastIsNoNot fs → AreFrames fs → opened_of (joins 1 fs f).0 ≡ without_arrows (opened_of fs)
 all_opened [] f s a = refl
 all_opened (BegunNot ∷ fs) f s a = absurd s
 all_opened (BegunGroup ∷ fs) f s a = refl
@@ -276,7 +194,7 @@ all_opened (BegunImplies g ∷ fs) f s a = all_opened fs (Implies g f) (loose fs
 all_opened (BegunIff g ∷ fs) f s a = all_opened fs (Iff g f) (loose fs (omega (arith, a.0)) a.2).1 a.2
 
 -- where no `(` is open, all is joined
-pub all_joined : (fs : List Frame) (f : Form) → Settled fs → AreFrames fs → list_any is_group (opened_of fs) ≡ false → (joins 1 fs f).0 ≡ []
+pub all_joined : (fs : List Frame) (f : Form) → LastIsNoNot fs → AreFrames fs → list_any is_group (opened_of fs) ≡ false → (joins 1 fs f).0 ≡ []
 all_joined [] f s a n = refl
 all_joined (BegunNot ∷ fs) f s a n = absurd s
 all_joined (BegunGroup ∷ fs) f s a n = absurd (true≢false n)

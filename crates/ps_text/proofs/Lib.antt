@@ -4,7 +4,6 @@ pub mod Longest
 pub mod Deriving
 pub mod Frames
 pub mod Signs
-pub mod Parsing
 pub mod Steps
 pub mod FormulaSteps
 pub mod Derived

@@ -13,7 +13,7 @@ use Rattle.ps_text.proofs.Spans.{starts, refute, span_same, digits_pass, word_st
 use Rattle.ps_text.proofs.Longest.{IsLongest-at, numeral_starts, symbol_apart, symbol_apart_digit}
 use Rattle.ps_text.proofs.Symbols.{symbol_some}
 use Rattle.ps_text.proofs.Signs.{the_sign}
-use Rattle.ps_text.proofs.Parsing.{InPsat, InDone}
+use Rattle.ps_text.specs.PartialParses.{InPsat, InDone}
 use Rattle.ps_text.proofs.Derived.{parsed_all}
 use Rattle.ps_text.proofs.Readback.{parsed-append, text_back, text_once, done_once}
 

@@ -4,8 +4,8 @@ use Rattle.std.proofs.lemmas.Bool.Decides.{nat_tests}
 use Rattle.std.specs.Prelude.{nat_le, bytes_eq, codes, if◌then◌else◌}
 use Rattle.ps_text.specs.Tokens.{Token, Word, Sign, Open, Close, Semicolon, Ampersand, Bar, Arrow, DoubleArrow}
 use Rattle.ps_text.specs.Grammar.{is_reserved, Form, Name, Truth, Falsity, Not, Group, And, Or, Implies, Iff, spelled, level, IsForm, Prob, Relation, Exactly, AtLeast, AtMost, Within, Entry, Sentence, Query, given_tokens, prob_tokens, relation_tokens, entry_tokens, entries_tokens, text_tokens, IsGiven, IsEntry, AreEntries}
-use Rattle.ps_text.proofs.Frames.{Frame, BegunNot, BegunGroup, BegunAnd, BegunOr, BegunImplies, BegunIff, need, own, joined, joins}
-use Rattle.ps_text.proofs.Parsing.{Parse, InPsat, InItem, InDone, InParen, InOperand, InOperator, InRelation, InItemEnd, prob_of, ended, operand_of, behind_close, parsed}
+use Rattle.ps_text.specs.BegunFormulas.{Frame, BegunNot, BegunGroup, BegunAnd, BegunOr, BegunImplies, BegunIff, required_level, own_level, joined, joins}
+use Rattle.ps_text.specs.PartialParses.{Parse, InPsat, InItem, InDone, InParen, InOperand, InOperator, InRelation, InItemEnd, prob_of, behind_operand, operand_of, behind_close, parsed}
 use Rattle.ps_text.proofs.Derived.{parsed_all}
 
 pub parsed-append : (p : Parse) (ts us : List Token) → parsed_all p (ts ++ us) ≡ parsed_all (parsed_all p ts) us
@@ -22,32 +22,32 @@ test_le : (k n : ℕ) → nat_le k n ≡ true → k ≤ n
 test_le k n h = grind (arith, nat_tests)
 
 -- what binds tightly enough is joined
-join_over : (k : ℕ) (x : Frame) (fs : List Frame) (f : Form) → k ≤ own x → joins k (x ∷ fs) f ≡ joins k fs (joined x f)
-join_over k x fs f h = rw (test_true k (own x) h) refl
+join_over : (k : ℕ) (x : Frame) (fs : List Frame) (f : Form) → k ≤ own_level x → joins k (x ∷ fs) f ≡ joins k fs (joined x f)
+join_over k x fs f h = rw (test_true k (own_level x) h) refl
 
 -- joining more tightly first changes nothing
 joins_again : (k m : ℕ) (fs : List Frame) (f : Form) → k ≤ m → joins k (joins m fs f).0 (joins m fs f).1 ≡ joins k fs f
 joins_again k m [] f h = refl
-joins_again k m (x ∷ fs) f h = by (nat_le m (own x)) refl (joins_again k m fs (joined x f) h)
+joins_again k m (x ∷ fs) f h = by (nat_le m (own_level x)) refl (joins_again k m fs (joined x f) h)
   where
     chosen : Bool → List Frame × Form
     chosen b = if b then joins m fs (joined x f) else (x ∷ fs, f)
 
-    by : (b : Bool) → nat_le m (own x) ≡ b → joins k (joins m fs (joined x f)).0 (joins m fs (joined x f)).1 ≡ joins k fs (joined x f) → joins k (chosen b).0 (chosen b).1 ≡ joins k (x ∷ fs) f
-    by true e s = s ∙ sym (join_over k x fs f (omega (arith, h, test_le m (own x) e)))
+    by : (b : Bool) → nat_le m (own_level x) ≡ b → joins k (joins m fs (joined x f)).0 (joins m fs (joined x f)).1 ≡ joins k fs (joined x f) → joins k (chosen b).0 (chosen b).1 ≡ joins k (x ∷ fs) f
+    by true e s = s ∙ sym (join_over k x fs f (omega (arith, h, test_le m (own_level x) e)))
     by false e s = refl
 
 -- the last begun binds less tightly
 Below : ℕ → List Frame → Type 0
 Below k [] = Unit {0}
-Below k (x ∷ fs) = own x < k
+Below k (x ∷ fs) = own_level x < k
 
 stays : (k : ℕ) (fs : List Frame) (f : Form) → Below k fs → joins k fs f ≡ (fs, f)
 unfolding Below
 stays k [] f h = refl
-stays k (x ∷ fs) f h = rw (test_false k (own x) h) refl
+stays k (x ∷ fs) f h = rw (test_false k (own_level x) h) refl
 
-below_one : (fs : List Frame) → need fs ≤ 1 → Below 1 fs
+below_one : (fs : List Frame) → required_level fs ≤ 1 → Below 1 fs
 unfolding Below
 below_one [] h = tt
 below_one (BegunGroup ∷ fs) h = omega arith
@@ -57,7 +57,7 @@ below_one (BegunOr g ∷ fs) h = absurd (omega (arith, h))
 below_one (BegunImplies g ∷ fs) h = absurd (omega (arith, h))
 below_one (BegunIff g ∷ fs) h = absurd (omega (arith, h))
 
-below_three : (fs : List Frame) → need fs ≤ 3 → Below 3 fs
+below_three : (fs : List Frame) → required_level fs ≤ 3 → Below 3 fs
 unfolding Below
 below_three [] h = tt
 below_three (BegunGroup ∷ fs) h = omega arith
@@ -67,7 +67,7 @@ below_three (BegunOr g ∷ fs) h = absurd (omega (arith, h))
 below_three (BegunImplies g ∷ fs) h = omega arith
 below_three (BegunIff g ∷ fs) h = omega arith
 
-below_four : (fs : List Frame) → need fs ≤ 4 → Below 4 fs
+below_four : (fs : List Frame) → required_level fs ≤ 4 → Below 4 fs
 unfolding Below
 below_four [] h = tt
 below_four (BegunGroup ∷ fs) h = omega arith
@@ -85,7 +85,7 @@ record Behind (es : List Entry) (q : Bool) (c : Option Form) (fs : List Frame) (
   same : (k : ℕ) → k ≤ level f → joins k frames operand ≡ joins k fs f
 
 -- an operand of the tightest level
-operand_behind : (es : List Entry) (q : Bool) (c : Option Form) (fs : List Frame) (f : Form) → level f ≤ 5 → Behind es q c fs f (ended es q c fs f)
+operand_behind : (es : List Entry) (q : Bool) (c : Option Form) (fs : List Frame) (f : Form) → level f ≤ 5 → Behind es q c fs f (behind_operand es q c fs f)
 operand_behind es q c fs f h = record { frames = (joins 5 fs f).0; operand = (joins 5 fs f).1; is = refl; same = λ k l. joins_again k 5 fs f (omega (arith, h, l)) }
 
 -- a connective behind its first operand
@@ -100,7 +100,7 @@ at_sign es q c fs f p t m begun b l s h =
 at_both : (es : List Entry) (q : Bool) (c : Option Form) (fs : List Frame) (f g : Form) (t : Token) (whole : Form) (x : Frame)
     → parsed (parsed_all (InOperand es q c fs) (spelled f)) t ≡ InOperand es q c (x ∷ fs)
     → Behind es q c (x ∷ fs) g (parsed_all (InOperand es q c (x ∷ fs)) (spelled g))
-    → level whole ≤ level g → level whole ≤ own x → joined x g ≡ whole
+    → level whole ≤ level g → level whole ≤ own_level x → joined x g ≡ whole
     → Behind es q c fs whole (parsed_all (InOperand es q c fs) (spelled f ++ t ∷ spelled g))
 at_both es q c fs f g t whole x a b l o j = record {
   frames = b.frames;
@@ -137,8 +137,8 @@ level_least (Not f) = omega arith
 level_least (Group f) = omega arith
 
 -- the tokens of a formula make the formula
-form_back : (f : Form) (es : List Entry) (q : Bool) (c : Option Form) (fs : List Frame) → IsForm f → need fs ≤ level f → Behind es q c fs f (parsed_all (InOperand es q c fs) (spelled f))
-form_back (Name w) es q c fs i n = subst (λ g. Behind es q c fs (Name w) (ended es q c fs g)) (sym (name_operand w i.0)) (operand_behind es q c fs (Name w) (omega arith))
+form_back : (f : Form) (es : List Entry) (q : Bool) (c : Option Form) (fs : List Frame) → IsForm f → required_level fs ≤ level f → Behind es q c fs f (parsed_all (InOperand es q c fs) (spelled f))
+form_back (Name w) es q c fs i n = subst (λ g. Behind es q c fs (Name w) (behind_operand es q c fs g)) (sym (name_operand w i.0)) (operand_behind es q c fs (Name w) (omega arith))
 form_back Truth es q c fs i n = operand_behind es q c fs Truth (omega arith)
 form_back Falsity es q c fs i n = operand_behind es q c fs Falsity (omega arith)
 form_back (Not f) es q c fs i n =
@@ -146,7 +146,7 @@ form_back (Not f) es q c fs i n =
     record { frames = b.frames; operand = b.operand; is = b.is; same = λ k h. b.same k (omega (arith, h, i.0)) ∙ join_over k BegunNot fs f h }
 form_back (Group f) es q c fs i n =
     let b = form_back f es q c (BegunGroup ∷ fs) i (level_least f) in
-    let closed : parsed (parsed_all (InOperand es q c (BegunGroup ∷ fs)) (spelled f)) (Sign Close) ≡ ended es q c fs (Group f) =
+    let closed : parsed (parsed_all (InOperand es q c (BegunGroup ∷ fs)) (spelled f)) (Sign Close) ≡ behind_operand es q c fs (Group f) =
     ap (λ x. parsed x (Sign Close)) b.is ∙ ap (λ r. behind_close es q c r.0 r.1) (b.same 1 (level_least f)) in
     subst (λ p. Behind es q c fs (Group f) p) (sym (parsed-append (InOperand es q c (BegunGroup ∷ fs)) (spelled f) (Sign Close ∷ []) ∙ closed)) (operand_behind es q c fs (Group f) (omega arith))
 form_back (And f g) es q c fs i n =

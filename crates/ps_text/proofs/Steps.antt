@@ -9,7 +9,7 @@ use Rattle.ps_text.specs.declared.kind.ReadKind.TheVariants.{NameTooLong, Expect
 use Rattle.ps_text.specs.Grammar.{value, Prob, Within, Entry, Sentence, Query, prob_tokens, relation_tokens, entry_tokens, entries_tokens, IsProbability, IsRelation, IsEntry, AreEntries}
 use Rattle.ps_text.specs.ExpectedTokens.{State, is_number, is_expected, is_too_long, what_at, fault_at, number_fault, value_fault, refusal, after}
 use Rattle.ps_text.proofs.Signs.{the_word, the_sign, Either, First, Second, either}
-use Rattle.ps_text.proofs.Parsing.{Parse, InPsat, InVersion, InHeadEnd, InItem, InQueryProb, InTextEnd, InParen, InRelation, InBracket, InFirst, InNumber, InComma, InSecond, InBracketEnd, InItemEnd, state_of, before, lead, sentence_lead, entry_body, read, relation_of, IsRelationSign, Sound, number_in, parsed}
+use Rattle.ps_text.specs.PartialParses.{InPsat, InVersion, InHeadEnd, InItem, InQueryProb, InTextEnd, InParen, InRelation, InBracket, InFirst, InNumber, InComma, InSecond, InBracketEnd, InItemEnd, state_of, entries_lead, prob_lead, sentence_lead, entry_body, IsExtendedBy, relation_of, IsRelationSign, IsParse, number_in}
 
 -- a token that isn't refused
 pub record Passed (d : State) (t : Token) : Type 0 where
@@ -30,75 +30,69 @@ unfolding refusal
 passed d t h = let a = tests (is_too_long t) (is_expected d t) NameTooLong (Expected (what_at d.part)) (fault_at d.part d t) h in
     record { short = a.0; expected = a.1; fault = a.2 }
 
--- one token more: it is derived, and what is expected behind it
-pub record Steps (p : Parse) (t : Token) : Type 0 where
-  pub state : state_of (parsed p t) ≡ after (state_of p) t
-  pub tokens : read (parsed p t) ≡ read p ++ t ∷ []
-  pub sound : Sound (parsed p t)
-
-pub at_psat : (t : Token) → Passed (state_of InPsat) t → Steps InPsat t
+pub at_psat : (t : Token) → Passed (state_of InPsat) t → IsExtendedBy InPsat t
 unfolding after
-at_psat t h = subst (λ u. Steps InPsat u) (sym (the_word (codes "psat") t h.expected)) (record { state = refl; tokens = refl; sound = tt })
+at_psat t h = subst (λ u. IsExtendedBy InPsat u) (sym (the_word (codes "psat") t h.expected)) (record { state = refl; tokens = refl; within = tt })
 
-pub at_version : (t : Token) → Passed (state_of InVersion) t → Steps InVersion t
+pub at_version : (t : Token) → Passed (state_of InVersion) t → IsExtendedBy InVersion t
 unfolding after
 at_version (Word w) h = absurd (true≢false (sym h.expected))
 at_version (Sign s) h = absurd (true≢false (sym h.expected))
 at_version (Number (Quotient ds es)) h = absurd (true≢false (ap is_some h.fault))
 at_version (Number (Decimal ds es)) h = absurd (true≢false (ap is_some h.fault))
 at_version (Number (Whole ds)) h =
-    subst (λ bs. Steps InVersion (Number (Whole bs))) (sym ((bytes_eq-Decides ds (codes "1")).0 (is_one (bytes_eq ds (codes "1")) h.fault))) (record { state = refl; tokens = refl; sound = tt })
+    subst (λ bs. IsExtendedBy InVersion (Number (Whole bs))) (sym ((bytes_eq-Decides ds (codes "1")).0 (is_one (bytes_eq ds (codes "1")) h.fault))) (record { state = refl; tokens = refl; within = tt })
   where
     is_one : (b : Bool) → unless b VersionUnknown ≡ None → b ≡ true
     is_one true e = refl
     is_one false e = absurd (true≢false (ap is_some e))
 
-pub at_head_end : (t : Token) → Passed (state_of InHeadEnd) t → Steps InHeadEnd t
+pub at_head_end : (t : Token) → Passed (state_of InHeadEnd) t → IsExtendedBy InHeadEnd t
 unfolding after
-at_head_end t h = subst (λ u. Steps InHeadEnd u) (sym (the_sign Semicolon t h.expected)) (record { state = refl; tokens = refl; sound = tt })
+at_head_end t h = subst (λ u. IsExtendedBy InHeadEnd u) (sym (the_sign Semicolon t h.expected)) (record { state = refl; tokens = refl; within = tt })
 
-pub at_item : (es : List Entry) (t : Token) → Sound (InItem es) → Passed (state_of (InItem es)) t → Steps (InItem es) t
+pub at_item : (es : List Entry) (t : Token) → IsParse (InItem es) → Passed (state_of (InItem es)) t → IsExtendedBy (InItem es) t
 unfolding after
 at_item es t s h = by (either (is_the_word (codes "P") t || is_the_word (codes "query") t) (is_the_word (codes "end") t) h.expected)
   where
-    probs : Either (is_the_word (codes "P") t) (is_the_word (codes "query") t) → Steps (InItem es) t
-    probs (First e) = subst (λ u. Steps (InItem es) u) (sym (the_word (codes "P") t e)) (record { state = refl; tokens = refl; sound = s })
-    probs (Second e) = subst (λ u. Steps (InItem es) u) (sym (the_word (codes "query") t e)) (record { state = refl; tokens = refl; sound = s })
+    probs : Either (is_the_word (codes "P") t) (is_the_word (codes "query") t) → IsExtendedBy (InItem es) t
+    probs (First e) = subst (λ u. IsExtendedBy (InItem es) u) (sym (the_word (codes "P") t e)) (record { state = refl; tokens = refl; within = s })
+    probs (Second e) = subst (λ u. IsExtendedBy (InItem es) u) (sym (the_word (codes "query") t e)) (record { state = refl; tokens = refl; within = s })
 
-    by : Either (is_the_word (codes "P") t || is_the_word (codes "query") t) (is_the_word (codes "end") t) → Steps (InItem es) t
+    by : Either (is_the_word (codes "P") t || is_the_word (codes "query") t) (is_the_word (codes "end") t) → IsExtendedBy (InItem es) t
     by (First e) = probs (either (is_the_word (codes "P") t) (is_the_word (codes "query") t) e)
-    by (Second e) = subst (λ u. Steps (InItem es) u) (sym (the_word (codes "end") t e)) (record { state = refl; tokens = refl; sound = s })
+    by (Second e) = subst (λ u. IsExtendedBy (InItem es) u) (sym (the_word (codes "end") t e)) (record { state = refl; tokens = refl; within = s })
 
-pub at_query_prob : (es : List Entry) (t : Token) → Sound (InQueryProb es) → Passed (state_of (InQueryProb es)) t → Steps (InQueryProb es) t
+pub at_query_prob : (es : List Entry) (t : Token) → IsParse (InQueryProb es) → Passed (state_of (InQueryProb es)) t → IsExtendedBy (InQueryProb es) t
 unfolding after
-at_query_prob es t s h = subst (λ u. Steps (InQueryProb es) u) (sym (the_word (codes "P") t h.expected))
-    (record { state = refl; tokens = sym (append_assoc (before es) (Word (codes "query") ∷ []) (Word (codes "P") ∷ [])); sound = s })
+at_query_prob es t s h = subst (λ u. IsExtendedBy (InQueryProb es) u) (sym (the_word (codes "P") t h.expected))
+    (record { state = refl; tokens = sym (append_assoc (entries_lead es) (Word (codes "query") ∷ []) (Word (codes "P") ∷ [])); within = s })
 
-pub at_text_end : (es : List Entry) (t : Token) → Sound (InTextEnd es) → Passed (state_of (InTextEnd es)) t → Steps (InTextEnd es) t
+pub at_text_end : (es : List Entry) (t : Token) → IsParse (InTextEnd es) → Passed (state_of (InTextEnd es)) t → IsExtendedBy (InTextEnd es) t
 unfolding after
-at_text_end es t s h = subst (λ u. Steps (InTextEnd es) u) (sym (the_sign Semicolon t h.expected))
-    (record { state = refl; tokens = sym (append_assoc (before es) (Word (codes "end") ∷ []) (Sign Semicolon ∷ [])); sound = s })
+at_text_end es t s h = subst (λ u. IsExtendedBy (InTextEnd es) u) (sym (the_sign Semicolon t h.expected))
+    (record { state = refl; tokens = sym (append_assoc (entries_lead es) (Word (codes "end") ∷ []) (Sign Semicolon ∷ [])); within = s })
 
-pub at_paren : (es : List Entry) (q : Bool) (t : Token) → Sound (InParen es q) → Passed (state_of (InParen es q)) t → Steps (InParen es q) t
+pub at_paren : (es : List Entry) (q : Bool) (t : Token) → IsParse (InParen es q) → Passed (state_of (InParen es q)) t → IsExtendedBy (InParen es q) t
 unfolding after
-at_paren es q t s h = subst (λ u. Steps (InParen es q) u) (sym (the_sign Open t h.expected))
-    (record { state = refl; tokens = append-nil (before es ++ (lead q ++ Sign Open ∷ [])) ∙ sym (append_assoc (before es) (lead q) (Sign Open ∷ [])); sound = (s, tt, tt) })
+at_paren es q t s h = subst (λ u. IsExtendedBy (InParen es q) u) (sym (the_sign Open t h.expected))
+    (record { state = refl; tokens = append-nil (entries_lead es ++ (prob_lead q ++ Sign Open ∷ [])) ∙ sym (append_assoc (entries_lead es) (prob_lead q) (Sign Open ∷ [])); within = (s, tt, tt) })
 
-pub at_relation : (es : List Entry) (p : Prob) (t : Token) → Sound (InRelation es p) → Passed (state_of (InRelation es p)) t → Steps (InRelation es p) t
+pub at_relation : (es : List Entry) (p : Prob) (t : Token) → IsParse (InRelation es p) → Passed (state_of (InRelation es p)) t → IsExtendedBy (InRelation es p) t
 unfolding after
 at_relation es p t s h = by (either (is_the_sign Equals t || is_the_sign GreaterEquals t || is_the_sign LessEquals t) (is_the_word (codes "in") t) h.expected)
   where
-    first : Either (is_the_sign Equals t) (is_the_sign GreaterEquals t) → Steps (InRelation es p) t
-    first (First e) = subst (λ u. Steps (InRelation es p) u) (sym (the_sign Equals t e)) (record { state = refl; tokens = refl; sound = (s.0, s.1, tt) })
-    first (Second e) = subst (λ u. Steps (InRelation es p) u) (sym (the_sign GreaterEquals t e)) (record { state = refl; tokens = refl; sound = (s.0, s.1, tt) })
+    first : Either (is_the_sign Equals t) (is_the_sign GreaterEquals t) → IsExtendedBy (InRelation es p) t
+    first (First e) = subst (λ u. IsExtendedBy (InRelation es p) u) (sym (the_sign Equals t e)) (record { state = refl; tokens = refl; within = (s.0, s.1, tt) })
+    first (Second e) = subst (λ u. IsExtendedBy (InRelation es p) u) (sym (the_sign GreaterEquals t e)) (record { state = refl; tokens = refl; within = (s.0, s.1, tt) })
 
-    signs : Either (is_the_sign Equals t || is_the_sign GreaterEquals t) (is_the_sign LessEquals t) → Steps (InRelation es p) t
+    signs : Either (is_the_sign Equals t || is_the_sign GreaterEquals t) (is_the_sign LessEquals t) → IsExtendedBy (InRelation es p) t
     signs (First e) = first (either (is_the_sign Equals t) (is_the_sign GreaterEquals t) e)
-    signs (Second e) = subst (λ u. Steps (InRelation es p) u) (sym (the_sign LessEquals t e)) (record { state = refl; tokens = refl; sound = (s.0, s.1, tt) })
+    signs (Second e) = subst (λ u. IsExtendedBy (InRelation es p) u) (sym (the_sign LessEquals t e)) (record { state = refl; tokens = refl; within = (s.0, s.1, tt) })
 
-    by : Either (is_the_sign Equals t || is_the_sign GreaterEquals t || is_the_sign LessEquals t) (is_the_word (codes "in") t) → Steps (InRelation es p) t
+    by : Either (is_the_sign Equals t || is_the_sign GreaterEquals t || is_the_sign LessEquals t) (is_the_word (codes "in") t) → IsExtendedBy (InRelation es p) t
     by (First e) = signs (either (is_the_sign Equals t || is_the_sign GreaterEquals t) (is_the_sign LessEquals t) e)
-    by (Second e) = subst (λ u. Steps (InRelation es p) u) (sym (the_word (codes "in") t e)) (record { state = refl; tokens = refl; sound = s })
+    by (Second e) = subst (λ u. IsExtendedBy (InRelation es p) u) (sym (the_word (codes "in") t e)) (record { state = refl; tokens = refl; within = s })
 
 number_sound : (x : Numeral) → value_fault x ≡ None → IsProbability x
 number_sound (Whole ds) h = by (nat_lt 1 (value ds)) refl h
@@ -127,12 +121,12 @@ number_sound (Decimal ds es) h = by (nat_lt 6 (length es)) (nat_lt (10 ^ length 
 -- a number that is expected and isn't refused
 record IsNumber (t : Token) : Type 0 where
   is : t ≡ Number (number_in t)
-  sound : IsProbability (number_in t)
+  within : IsProbability (number_in t)
 
 the_number : (t : Token) → is_number t ≡ true → number_fault t ≡ None → IsNumber t
 the_number (Word w) d f = absurd (true≢false (sym d))
 the_number (Sign s) d f = absurd (true≢false (sym d))
-the_number (Number x) d f = record { is = refl; sound = number_sound x f }
+the_number (Number x) d f = record { is = refl; within = number_sound x f }
 
 sign_relation : (s : Symbol) (x : Numeral) → IsRelationSign s → IsProbability x → (relation_tokens (relation_of s x) ≡ Sign s ∷ Number x ∷ []) × IsRelation (relation_of s x)
 sign_relation Equals x i p = (refl, p)
@@ -150,40 +144,40 @@ sign_relation Bar x i p = absurd i
 sign_relation Arrow x i p = absurd i
 sign_relation DoubleArrow x i p = absurd i
 
-pub at_number : (es : List Entry) (p : Prob) (s : Symbol) (t : Token) → Sound (InNumber es p s) → Passed (state_of (InNumber es p s)) t → Steps (InNumber es p s) t
+pub at_number : (es : List Entry) (p : Prob) (s : Symbol) (t : Token) → IsParse (InNumber es p s) → Passed (state_of (InNumber es p s)) t → IsExtendedBy (InNumber es p s) t
 unfolding after
 at_number es p s t i h =
     let n = the_number t h.expected h.fault in
-    let r = sign_relation s (number_in t) i.2 n.sound in
+    let r = sign_relation s (number_in t) i.2 n.within in
     record {
       state = refl;
-      tokens = sym (append_assoc (before es) (prob_tokens p) (relation_tokens (relation_of s (number_in t))))
+      tokens = sym (append_assoc (entries_lead es) (prob_tokens p) (relation_tokens (relation_of s (number_in t))))
           ∙ ap (λ ts. sentence_lead es p ++ ts) (r.0 ∙ ap (λ u. Sign s ∷ u ∷ []) (sym n.is))
           ∙ sym (append_assoc (sentence_lead es p) (Sign s ∷ []) (t ∷ []));
-      sound = (i.0, (i.1, r.1));
+      within = (i.0, (i.1, r.1));
     }
 
-pub at_bracket : (es : List Entry) (p : Prob) (t : Token) → Sound (InBracket es p) → Passed (state_of (InBracket es p)) t → Steps (InBracket es p) t
+pub at_bracket : (es : List Entry) (p : Prob) (t : Token) → IsParse (InBracket es p) → Passed (state_of (InBracket es p)) t → IsExtendedBy (InBracket es p) t
 unfolding after
-at_bracket es p t s h = subst (λ u. Steps (InBracket es p) u) (sym (the_sign OpenBracket t h.expected))
-    (record { state = refl; tokens = sym (append_assoc (sentence_lead es p) (Word (codes "in") ∷ []) (Sign OpenBracket ∷ [])); sound = s })
+at_bracket es p t s h = subst (λ u. IsExtendedBy (InBracket es p) u) (sym (the_sign OpenBracket t h.expected))
+    (record { state = refl; tokens = sym (append_assoc (sentence_lead es p) (Word (codes "in") ∷ []) (Sign OpenBracket ∷ [])); within = s })
 
-pub at_first : (es : List Entry) (p : Prob) (t : Token) → Sound (InFirst es p) → Passed (state_of (InFirst es p)) t → Steps (InFirst es p) t
+pub at_first : (es : List Entry) (p : Prob) (t : Token) → IsParse (InFirst es p) → Passed (state_of (InFirst es p)) t → IsExtendedBy (InFirst es p) t
 unfolding after
 at_first es p t s h =
     let n = the_number t h.expected h.fault in
     record {
       state = refl;
       tokens = ap (λ u. sentence_lead es p ++ (Word (codes "in") ∷ Sign OpenBracket ∷ u ∷ [])) (sym n.is) ∙ sym (append_assoc (sentence_lead es p) (Word (codes "in") ∷ Sign OpenBracket ∷ []) (t ∷ []));
-      sound = (s.0, s.1, n.sound);
+      within = (s.0, s.1, n.within);
     }
 
-pub at_comma : (es : List Entry) (p : Prob) (x : Numeral) (t : Token) → Sound (InComma es p x) → Passed (state_of (InComma es p x)) t → Steps (InComma es p x) t
+pub at_comma : (es : List Entry) (p : Prob) (x : Numeral) (t : Token) → IsParse (InComma es p x) → Passed (state_of (InComma es p x)) t → IsExtendedBy (InComma es p x) t
 unfolding after
-at_comma es p x t s h = subst (λ u. Steps (InComma es p x) u) (sym (the_sign Comma t h.expected))
-    (record { state = refl; tokens = sym (append_assoc (sentence_lead es p) (Word (codes "in") ∷ Sign OpenBracket ∷ Number x ∷ []) (Sign Comma ∷ [])); sound = s })
+at_comma es p x t s h = subst (λ u. IsExtendedBy (InComma es p x) u) (sym (the_sign Comma t h.expected))
+    (record { state = refl; tokens = sym (append_assoc (sentence_lead es p) (Word (codes "in") ∷ Sign OpenBracket ∷ Number x ∷ []) (Sign Comma ∷ [])); within = s })
 
-pub at_second : (es : List Entry) (p : Prob) (x : Numeral) (t : Token) → Sound (InSecond es p x) → Passed (state_of (InSecond es p x)) t → Steps (InSecond es p x) t
+pub at_second : (es : List Entry) (p : Prob) (x : Numeral) (t : Token) → IsParse (InSecond es p x) → Passed (state_of (InSecond es p x)) t → IsExtendedBy (InSecond es p x) t
 unfolding after
 at_second es p x t s h =
     let n = the_number t h.expected h.fault in
@@ -191,17 +185,17 @@ at_second es p x t s h =
       state = refl;
       tokens = ap (λ u. sentence_lead es p ++ (Word (codes "in") ∷ Sign OpenBracket ∷ Number x ∷ Sign Comma ∷ u ∷ [])) (sym n.is)
           ∙ sym (append_assoc (sentence_lead es p) (Word (codes "in") ∷ Sign OpenBracket ∷ Number x ∷ Sign Comma ∷ []) (t ∷ []));
-      sound = (s.0, s.1, s.2, n.sound);
+      within = (s.0, s.1, s.2, n.within);
     }
 
-pub at_bracket_end : (es : List Entry) (p : Prob) (x y : Numeral) (t : Token) → Sound (InBracketEnd es p x y) → Passed (state_of (InBracketEnd es p x y)) t → Steps (InBracketEnd es p x y) t
+pub at_bracket_end : (es : List Entry) (p : Prob) (x y : Numeral) (t : Token) → IsParse (InBracketEnd es p x y) → Passed (state_of (InBracketEnd es p x y)) t → IsExtendedBy (InBracketEnd es p x y) t
 unfolding after
-at_bracket_end es p x y t s h = subst (λ u. Steps (InBracketEnd es p x y) u) (sym (the_sign CloseBracket t h.expected))
+at_bracket_end es p x y t s h = subst (λ u. IsExtendedBy (InBracketEnd es p x y) u) (sym (the_sign CloseBracket t h.expected))
     (record {
       state = refl;
-      tokens = sym (append_assoc (before es) (prob_tokens p) (relation_tokens (Within x y)))
+      tokens = sym (append_assoc (entries_lead es) (prob_tokens p) (relation_tokens (Within x y)))
           ∙ sym (append_assoc (sentence_lead es p) (Word (codes "in") ∷ Sign OpenBracket ∷ Number x ∷ Sign Comma ∷ Number y ∷ []) (Sign CloseBracket ∷ []));
-      sound = (s.0, (s.1, (s.2, s.3)));
+      within = (s.0, (s.1, (s.2, s.3)));
     })
 
 entry_ended : (e : Entry) → entry_tokens e ≡ entry_body e ++ Sign Semicolon ∷ []
@@ -216,12 +210,12 @@ entries_sound : (es : List Entry) (e : Entry) → AreEntries es → IsEntry e �
 entries_sound [] e s i = (i, tt)
 entries_sound (x ∷ es) e s i = (s.0, entries_sound es e s.1 i)
 
-pub at_item_end : (es : List Entry) (e : Entry) (t : Token) → Sound (InItemEnd es e) → Passed (state_of (InItemEnd es e)) t → Steps (InItemEnd es e) t
+pub at_item_end : (es : List Entry) (e : Entry) (t : Token) → IsParse (InItemEnd es e) → Passed (state_of (InItemEnd es e)) t → IsExtendedBy (InItemEnd es e) t
 unfolding after
-at_item_end es e t s h = subst (λ u. Steps (InItemEnd es e) u) (sym (the_sign Semicolon t h.expected))
+at_item_end es e t s h = subst (λ u. IsExtendedBy (InItemEnd es e) u) (sym (the_sign Semicolon t h.expected))
     (record {
       state = refl;
       tokens = ap (λ ts. Word (codes "psat") ∷ Number (Whole (codes "1")) ∷ Sign Semicolon ∷ ts) (entries_more es e ∙ ap (λ ts. entries_tokens es ++ ts) (entry_ended e))
-          ∙ sym (append_assoc (before es) (entry_body e) (Sign Semicolon ∷ []));
-      sound = entries_sound es e s.0 s.1;
+          ∙ sym (append_assoc (entries_lead es) (entry_body e) (Sign Semicolon ∷ []));
+      within = entries_sound es e s.0 s.1;
     })

@@ -9,3 +9,6 @@ pub mod ExpectedTokens
 pub mod Refusals
 pub mod OneAnswer
 pub mod Positions
+-- Bridge: the derivation of the tokens so far, which a parser's state stands for
+pub mod BegunFormulas
+pub mod PartialParses

@@ -1,9 +1,11 @@
 //! Laws about the definitions: a call does nothing, and its clauses are the law.
-ghost use Rattle.std.specs.Prelude.{List, ℕ};
+ghost use Rattle.std.specs.Prelude.{List, ℕ, []};
 ghost use Rattle.ps_text.specs.Tokens.{Token};
 ghost use Rattle.ps_text.specs.Pieces.{Cut};
 ghost use Rattle.ps_text.specs.Grammar.{Entry, AreEntries, text_tokens};
-ghost use Rattle.ps_text.specs.ExpectedTokens.{AreExpected};
+ghost use Rattle.ps_text.specs.ExpectedTokens.{AreExpected, at_start};
+ghost use Rattle.ps_text.specs.PartialParses.{Parse, InPsat, state_of, parsed_tokens};
+ghost use Rattle.ps_text.specs.PartialParses.{TakesToken};
 ghost use Rattle.ps_text.specs.Grammar.{IsDerived};
 ghost use Rattle.std.specs.Prelude.{◌≡◌};
 ghost use Rattle.ps_meaning.specs.Statements.{Item, statements_of, questions_of};
@@ -18,6 +20,13 @@ ghost use Rattle.ps_text.specs.Canonical.{canonical_text, sentences_first, AreLa
 pub fn expected_tokens_are_derived()
     ensures derived { (tokens : List Token) → AreExpected tokens → IsDerived tokens }
     ensures expected { (es : List Entry) → AreEntries es → AreExpected (text_tokens es) }
+{}
+
+/// A derivation of the tokens so far begins with none of them, and takes each further token that
+/// isn't refused: the tokens are one more then, and what is expected is what the table says.
+pub fn derivations_take_tokens()
+    ensures first { (state_of InPsat ≡ at_start) × (parsed_tokens InPsat ≡ []) }
+    ensures next { (p : Parse) (t : Token) → TakesToken p t }
 {}
 
 /// All bytes are blanks, comments and longest tokens, up to the end or to a place where none of

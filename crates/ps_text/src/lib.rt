@@ -11,8 +11,9 @@ mod symbol;
 pub use kind::{ReadKind, What};
 pub use laws::{
     a_front_excludes_a_refusal, bytes_are_cut, bytes_have_one_answer,
-    canonical_text_means_its_items, entries_have_one_meaning, expected_tokens_are_derived,
-    one_refusal_at_most, one_text_stands_at_the_front, what_is_read_is_lawful,
+    canonical_text_means_its_items, derivations_take_tokens, entries_have_one_meaning,
+    expected_tokens_are_derived, one_refusal_at_most, one_text_stands_at_the_front,
+    what_is_read_is_lawful,
 };
 pub use limits::{
     GREATEST_DENOMINATOR, LONGEST_WORD, MOST_DECIMALS, MOST_OPEN, limits_have_these_numbers,

@@ -1,13 +1,13 @@
--- A derivation that is made token by token.
-use Rattle.std.proofs.Common.{ℕ, ◌≤◌, Bool, true, false, List, [], ◌∷◌, ◌++◌, Option, Some, None, is_some}
-use Rattle.std.specs.Prelude.{bytes_eq, codes, if◌then◌else◌}
+-- A derivation of the tokens so far, and what one more token makes of it.
+use Rattle.std.specs.Prelude.{◌≡◌, ℕ, ◌≤◌, Bool, true, false, if◌then◌else◌, bytes_eq, codes, List, [], ◌∷◌, ◌++◌, Option, Some, None, is_some}
 use Rattle.ps_text.specs.Tokens.{Token, Word, Number, Sign, Numeral, Whole, Symbol, Open, Close, OpenBracket, Comma, Semicolon, Bang, Ampersand, Bar, Arrow, DoubleArrow, Equals, GreaterEquals, LessEquals, is_the_word}
 use Rattle.ps_text.specs.Grammar.{Form, Name, Truth, Falsity, Group, spelled, level, Prob, Relation, Exactly, AtLeast, AtMost, Within, Entry, Sentence, Query, prob_tokens, relation_tokens, entries_tokens, text_tokens, IsProbability, IsGiven, IsProb, IsEntry, AreEntries}
 use Rattle.ps_text.specs.declared.part.Part.TheVariants as part
-use Rattle.ps_text.specs.ExpectedTokens.{State, outside}
-use Rattle.ps_text.proofs.Frames.{Frame, BegunNot, BegunGroup, BegunAnd, BegunOr, BegunImplies, BegunIff, frame_tokens, opened_of, AreFrames, Settled, Fits, joins}
+use Rattle.ps_text.specs.ExpectedTokens.{State, outside, after, refusal}
+use Rattle.ps_text.specs.BegunFormulas.{Frame, BegunNot, BegunGroup, BegunAnd, BegunOr, BegunImplies, BegunIff, frame_tokens, opened_of, AreFrames, LastIsNoNot, IsNextOperand, joins}
 
--- what was derived before, and what is begun
+-- the part that is expected next, with the entries that are derived and what of the next one is: its formula before `given`,
+-- what is begun of a formula, the last operand, the values so far
 pub data Parse : Type 0 where
   InPsat InVersion InHeadEnd : Parse
   InItem InQueryProb InTextEnd InDone : (done : List Entry) → Parse
@@ -20,12 +20,12 @@ pub data Parse : Type 0 where
   InBracketEnd : (done : List Entry) (prob : Prob) (least most : Numeral) → Parse
   InItemEnd : (done : List Entry) (entry : Entry) → Parse
 
--- a formula before `given` may be there
+-- the probability whose last formula this is: its condition, where a formula before `given` is there
 abbrev pub prob_of : Option Form → Form → Prob
 prob_of None f = record { form = f; given = None }
 prob_of (Some f) g = record { form = f; given = Some g }
 
--- what is expected
+-- the state in which the next token is expected
 abbrev pub state_of : Parse → State
 state_of InPsat = outside part.Psat
 state_of InVersion = outside part.Version
@@ -46,100 +46,110 @@ state_of (InSecond es p x) = outside part.Second
 state_of (InBracketEnd es p x y) = outside part.BracketEnd
 state_of (InItemEnd es e) = outside part.ItemEnd
 
--- the tokens so far
-abbrev pub before : List Entry → List Token
-before es = Word (codes "psat") ∷ Number (Whole (codes "1")) ∷ Sign Semicolon ∷ entries_tokens es
+-- the tokens before the next entry
+abbrev pub entries_lead : List Entry → List Token
+entries_lead es = Word (codes "psat") ∷ Number (Whole (codes "1")) ∷ Sign Semicolon ∷ entries_tokens es
 
-abbrev pub lead : Bool → List Token
-lead true = Word (codes "query") ∷ Word (codes "P") ∷ []
-lead false = Word (codes "P") ∷ []
+-- the words before the `(` of a query's probability, or of a sentence's
+abbrev pub prob_lead : Bool → List Token
+prob_lead true = Word (codes "query") ∷ Word (codes "P") ∷ []
+prob_lead false = Word (codes "P") ∷ []
 
-abbrev pub form_tokens : Option Form → List Token
-form_tokens None = []
-form_tokens (Some f) = spelled f ++ Word (codes "given") ∷ []
+-- the tokens of a formula and of the `given` behind it
+abbrev pub given_lead : Option Form → List Token
+given_lead None = []
+given_lead (Some f) = spelled f ++ Word (codes "given") ∷ []
 
+-- the tokens before a formula
 abbrev pub formula_lead : List Entry → Bool → Option Form → List Token
-formula_lead es q c = before es ++ (lead q ++ (Sign Open ∷ form_tokens c))
+formula_lead es q c = entries_lead es ++ (prob_lead q ++ (Sign Open ∷ given_lead c))
 
+-- the tokens before a relation
 abbrev pub sentence_lead : List Entry → Prob → List Token
-sentence_lead es p = before es ++ prob_tokens p
+sentence_lead es p = entries_lead es ++ prob_tokens p
 
--- an entry without its `;`
+-- the tokens of an entry without its `;`
 abbrev pub entry_body : Entry → List Token
 entry_body (Sentence p r) = prob_tokens p ++ relation_tokens r
 entry_body (Query p) = Word (codes "query") ∷ prob_tokens p
 
-abbrev pub read : Parse → List Token
-read InPsat = []
-read InVersion = Word (codes "psat") ∷ []
-read InHeadEnd = Word (codes "psat") ∷ Number (Whole (codes "1")) ∷ []
-read (InItem es) = before es
-read (InQueryProb es) = before es ++ Word (codes "query") ∷ []
-read (InTextEnd es) = before es ++ Word (codes "end") ∷ []
-read (InDone es) = text_tokens es
-read (InParen es q) = before es ++ lead q
-read (InOperand es q c fs) = formula_lead es q c ++ frame_tokens fs
-read (InOperator es q c fs f) = formula_lead es q c ++ (frame_tokens fs ++ spelled f)
-read (InRelation es p) = sentence_lead es p
-read (InBracket es p) = sentence_lead es p ++ Word (codes "in") ∷ []
-read (InFirst es p) = sentence_lead es p ++ (Word (codes "in") ∷ Sign OpenBracket ∷ [])
-read (InNumber es p s) = sentence_lead es p ++ Sign s ∷ []
-read (InComma es p x) = sentence_lead es p ++ (Word (codes "in") ∷ Sign OpenBracket ∷ Number x ∷ [])
-read (InSecond es p x) = sentence_lead es p ++ (Word (codes "in") ∷ Sign OpenBracket ∷ Number x ∷ Sign Comma ∷ [])
-read (InBracketEnd es p x y) = sentence_lead es p ++ (Word (codes "in") ∷ Sign OpenBracket ∷ Number x ∷ Sign Comma ∷ Number y ∷ [])
-read (InItemEnd es e) = before es ++ entry_body e
+-- the tokens so far
+abbrev pub parsed_tokens : Parse → List Token
+parsed_tokens InPsat = []
+parsed_tokens InVersion = Word (codes "psat") ∷ []
+parsed_tokens InHeadEnd = Word (codes "psat") ∷ Number (Whole (codes "1")) ∷ []
+parsed_tokens (InItem es) = entries_lead es
+parsed_tokens (InQueryProb es) = entries_lead es ++ Word (codes "query") ∷ []
+parsed_tokens (InTextEnd es) = entries_lead es ++ Word (codes "end") ∷ []
+parsed_tokens (InDone es) = text_tokens es
+parsed_tokens (InParen es q) = entries_lead es ++ prob_lead q
+parsed_tokens (InOperand es q c fs) = formula_lead es q c ++ frame_tokens fs
+parsed_tokens (InOperator es q c fs f) = formula_lead es q c ++ (frame_tokens fs ++ spelled f)
+parsed_tokens (InRelation es p) = sentence_lead es p
+parsed_tokens (InBracket es p) = sentence_lead es p ++ Word (codes "in") ∷ []
+parsed_tokens (InFirst es p) = sentence_lead es p ++ (Word (codes "in") ∷ Sign OpenBracket ∷ [])
+parsed_tokens (InNumber es p s) = sentence_lead es p ++ Sign s ∷ []
+parsed_tokens (InComma es p x) = sentence_lead es p ++ (Word (codes "in") ∷ Sign OpenBracket ∷ Number x ∷ [])
+parsed_tokens (InSecond es p x) = sentence_lead es p ++ (Word (codes "in") ∷ Sign OpenBracket ∷ Number x ∷ Sign Comma ∷ [])
+parsed_tokens (InBracketEnd es p x y) = sentence_lead es p ++ (Word (codes "in") ∷ Sign OpenBracket ∷ Number x ∷ Sign Comma ∷ Number y ∷ [])
+parsed_tokens (InItemEnd es e) = entries_lead es ++ entry_body e
 
+-- how a sign bounds a probability
 abbrev pub relation_of : Symbol → Numeral → Relation
 relation_of Equals x = Exactly x
 relation_of GreaterEquals x = AtLeast x
 relation_of s x = AtMost x
 
+-- `=`, `>=` or `<=`
 abbrev pub IsRelationSign : Symbol → Type 0
 IsRelationSign Equals = Unit {0}
 IsRelationSign GreaterEquals = Unit {0}
 IsRelationSign LessEquals = Unit {0}
 IsRelationSign s = ⊥
 
--- within the grammar's levels and limits
-abbrev pub Sound : Parse → Type 0
-Sound InPsat = Unit {0}
-Sound InVersion = Unit {0}
-Sound InHeadEnd = Unit {0}
-Sound (InItem es) = AreEntries es
-Sound (InQueryProb es) = AreEntries es
-Sound (InTextEnd es) = AreEntries es
-Sound (InDone es) = AreEntries es
-Sound (InParen es q) = AreEntries es
-Sound (InOperand es q c fs) = AreEntries es × IsGiven c × AreFrames fs
-Sound (InOperator es q c fs f) = AreEntries es × IsGiven c × Fits fs f × Settled fs × (5 ≤ level f)
-Sound (InRelation es p) = AreEntries es × IsProb p
-Sound (InBracket es p) = AreEntries es × IsProb p
-Sound (InFirst es p) = AreEntries es × IsProb p
-Sound (InNumber es p s) = AreEntries es × IsProb p × IsRelationSign s
-Sound (InComma es p x) = AreEntries es × IsProb p × IsProbability x
-Sound (InSecond es p x) = AreEntries es × IsProb p × IsProbability x
-Sound (InBracketEnd es p x y) = AreEntries es × IsProb p × IsProbability x × IsProbability y
-Sound (InItemEnd es e) = AreEntries es × IsEntry e
+-- all that is derived is within the grammar's levels and limits
+abbrev pub IsParse : Parse → Type 0
+IsParse InPsat = Unit {0}
+IsParse InVersion = Unit {0}
+IsParse InHeadEnd = Unit {0}
+IsParse (InItem es) = AreEntries es
+IsParse (InQueryProb es) = AreEntries es
+IsParse (InTextEnd es) = AreEntries es
+IsParse (InDone es) = AreEntries es
+IsParse (InParen es q) = AreEntries es
+IsParse (InOperand es q c fs) = AreEntries es × IsGiven c × AreFrames fs
+IsParse (InOperator es q c fs f) = AreEntries es × IsGiven c × IsNextOperand fs f × LastIsNoNot fs × (5 ≤ level f)
+IsParse (InRelation es p) = AreEntries es × IsProb p
+IsParse (InBracket es p) = AreEntries es × IsProb p
+IsParse (InFirst es p) = AreEntries es × IsProb p
+IsParse (InNumber es p s) = AreEntries es × IsProb p × IsRelationSign s
+IsParse (InComma es p x) = AreEntries es × IsProb p × IsProbability x
+IsParse (InSecond es p x) = AreEntries es × IsProb p × IsProbability x
+IsParse (InBracketEnd es p x y) = AreEntries es × IsProb p × IsProbability x × IsProbability y
+IsParse (InItemEnd es e) = AreEntries es × IsEntry e
 
--- an operand joined with each `!` before it
-abbrev pub ended : List Entry → Bool → Option Form → List Frame → Form → Parse
-ended es q c fs f = InOperator es q c (joins 5 fs f).0 (joins 5 fs f).1
+-- behind an operand, which is joined with each `!` before it
+abbrev pub behind_operand : List Entry → Bool → Option Form → List Frame → Form → Parse
+behind_operand es q c fs f = InOperator es q c (joins 5 fs f).0 (joins 5 fs f).1
 
+-- the operand of a word
 abbrev pub operand_of : List ℕ → Form
 operand_of w = if bytes_eq w (codes "true") then Truth else (if bytes_eq w (codes "false") then Falsity else Name w)
 
 -- behind a `)`, where all is joined that is begun behind its `(`
 abbrev pub behind_close : List Entry → Bool → Option Form → List Frame → Form → Parse
-behind_close es q c (BegunGroup ∷ fs) f = ended es q c fs (Group f)
+behind_close es q c (BegunGroup ∷ fs) f = behind_operand es q c fs (Group f)
 behind_close es true c fs f = InItemEnd es (Query (prob_of c f))
 behind_close es false c fs f = InRelation es (prob_of c f)
 
+-- behind a token in the place of an operand
 abbrev pub operand_parsed : List Entry → Bool → Option Form → List Frame → Token → Parse
 operand_parsed es q c fs (Sign Bang) = InOperand es q c (BegunNot ∷ fs)
 operand_parsed es q c fs (Sign s) = InOperand es q c (BegunGroup ∷ fs)
-operand_parsed es q c fs (Word w) = ended es q c fs (operand_of w)
-operand_parsed es q c fs t = ended es q c fs Truth
+operand_parsed es q c fs (Word w) = behind_operand es q c fs (operand_of w)
+operand_parsed es q c fs t = behind_operand es q c fs Truth
 
+-- behind a token that follows an operand: a connective, a `)` or `given`
 abbrev pub operator_parsed : List Entry → Bool → Option Form → List Frame → Form → Token → Parse
 operator_parsed es q c fs f (Sign Close) = behind_close es q c (joins 1 fs f).0 (joins 1 fs f).1
 operator_parsed es q c fs f (Sign Ampersand) = InOperand es q c (BegunAnd (joins 4 fs f).1 ∷ (joins 4 fs f).0)
@@ -148,13 +158,16 @@ operator_parsed es q c fs f (Sign Arrow) = InOperand es q c (BegunImplies (joins
 operator_parsed es q c fs f (Sign DoubleArrow) = InOperand es q c (BegunIff (joins 1 fs f).1 ∷ (joins 1 fs f).0)
 operator_parsed es q c fs f t = InOperand es q (Some (joins 1 fs f).1) []
 
+-- behind the first token of an entry, or `end`
 abbrev pub item_parsed : List Entry → Token → Parse
 item_parsed es t = if is_the_word (codes "P") t then InParen es false else (if is_the_word (codes "query") t then InQueryProb es else InTextEnd es)
 
+-- behind a sign, or `in`
 abbrev pub relation_parsed : List Entry → Prob → Token → Parse
 relation_parsed es p (Sign s) = InNumber es p s
 relation_parsed es p t = InBracket es p
 
+-- the number that a token is
 abbrev pub number_in : Token → Numeral
 number_in (Number x) = x
 number_in t = Whole []
@@ -179,3 +192,14 @@ parsed (InComma es p x) t = InSecond es p x
 parsed (InSecond es p x) t = InBracketEnd es p x (number_in t)
 parsed (InBracketEnd es p x y) t = InItemEnd es (Sentence p (Within x y))
 parsed (InItemEnd es e) t = InItem (es ++ e ∷ [])
+
+-- one token more: it is behind the tokens so far, the whole is within the grammar's levels and limits, and what is expected
+-- is what the table of expected tokens says
+pub record IsExtendedBy (p : Parse) (t : Token) : Type 0 where
+  pub state : state_of (parsed p t) ≡ after (state_of p) t
+  pub tokens : parsed_tokens (parsed p t) ≡ parsed_tokens p ++ t ∷ []
+  pub within : IsParse (parsed p t)
+
+-- a token that isn't refused is one more
+abbrev pub TakesToken : Parse → Token → Type 0
+TakesToken p t = IsParse p → refusal (state_of p) t ≡ None → IsExtendedBy p t
