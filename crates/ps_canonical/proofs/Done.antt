@@ -20,7 +20,7 @@ use Rattle.ps_canonical.specs.declared.connective.Connective.{Connective}
 use Rattle.ps_canonical.specs.declared.connective.Connective.TheVariants as connective
 use Rattle.ps_canonical.specs.declared.task.Task.{Task}
 use Rattle.ps_canonical.specs.declared.task.Task.TheVariants as task
-use Rattle.ps_canonical.specs.Tasks.{level_of, left_of, right_of, sign_of, joined, operand_text, task_text, tasks_text, IsTask, opening, closing, closing_task, with_operands, steps_of, task_steps, tasks_steps, IsDone}
+use Rattle.ps_canonical.specs.Tasks.{level_of, left_of, right_of, sign_of, joined, operand_text, task_text, tasks_text, IsTask, opening, closing, closing_task, with_operands, steps_of, task_steps, tasks_steps, IsCarriedOut}
 
 -- what holds after an Ok, from what else does
 
@@ -125,7 +125,7 @@ module _ (p : Parts) where
 
   -- the bytes of a task are written
   pub done-written : (t : Task) (ts : List Task) (out : List ℕ) → All (IsTask (length p.nodes)) ts → 0 < task_steps p t → (bytes : List ℕ) → task_text p t ≡ bytes
-      → IsDone p t ts out ts (out ++ bytes)
+      → IsCarriedOut p t ts out ts (out ++ bytes)
   done-written t ts out h s bytes e = record {
     text = append_assoc out bytes (tasks_text p ts) ∙ ap (λ bs. out ++ (bs ++ tasks_text p ts)) (sym e);
     there = h;
@@ -134,13 +134,13 @@ module _ (p : Parts) where
 
   module _ (i k : ℕ) (le : k ≤ 5) (ts : List Task) (out : List ℕ) (h : All (IsTask (length p.nodes)) ts) where
     -- a node without operands
-    pub done-leaf : (f : formula.Formula Name) → named_at p i ≡ f → steps_of f ≡ 1 → level (canonical_form f) ≡ 5 → IsDone p (task.Formula i k) ts out ts (out ++ form_text (canonical_form f))
+    pub done-leaf : (f : formula.Formula Name) → named_at p i ≡ f → steps_of f ≡ 1 → level (canonical_form f) ≡ 5 → IsCarriedOut p (task.Formula i k) ts out ts (out ++ form_text (canonical_form f))
     done-leaf f e s l = done-written (task.Formula i k) ts out h (let n = ap steps_of e in omega arith) (form_text (canonical_form f))
         (ap (operand_text k) e ∙ tight k (canonical_form f) le l)
 
     -- a negation
     pub done-not : (a : ℕ) → a < length p.nodes → named_at p i ≡ formula.Not (named_at p a)
-        → IsDone p (task.Formula i k) ts out (ts ++ task.Formula a 5 ∷ []) (out ++ codes "!")
+        → IsCarriedOut p (task.Formula i k) ts out (ts ++ task.Formula a 5 ∷ []) (out ++ codes "!")
     done-not a lt e = record {
       text = ap (λ bs. (out ++ codes "!") ++ bs) (text-push ts (task.Formula a 5))
           ∙ append_assoc out (codes "!") (operand_text 5 (named_at p a) ++ tasks_text p ts)
@@ -151,7 +151,7 @@ module _ (p : Parts) where
 
     -- two operands and the connective between them
     pub done-joined : (c : Connective) (l r : ℕ) → l < length p.nodes → r < length p.nodes → named_at p i ≡ joined c (named_at p l) (named_at p r)
-        → IsDone p (task.Formula i k) ts out (with_operands ts (nat_lt (level_of c) k) l c r) (out ++ opening (nat_lt (level_of c) k))
+        → IsCarriedOut p (task.Formula i k) ts out (with_operands ts (nat_lt (level_of c) k) l c r) (out ++ opening (nat_lt (level_of c) k))
     unfolding middle
     done-joined c l r a b e = record { text = text; there = there; fewer = fewer }
       where

@@ -30,16 +30,20 @@ value_text b = numeral_spelling (canonical_numeral (ratio_at b))
 abbrev pub relation_of : Sentence → Relation
 relation_of s = canonical_relation s.first.side (ratio_at s.first) (option_map ratio_at s.second)
 
+-- the line of a sentence
 abbrev pub sentence_line : Parts → Sentence → List ℕ
 sentence_line p s = entry_text (canonical_entry (Stated (statement_from p s)))
 
+-- the line of a query
 abbrev pub query_line : Parts → Query → List ℕ
 query_line p q = entry_text (canonical_entry (Asked (question_from p q)))
 
+-- the lines of sentences
 abbrev pub sentence_lines : Parts → List Sentence → List ℕ
 sentence_lines p [] = []
 sentence_lines p (s ∷ ss) = sentence_line p s ++ sentence_lines p ss
 
+-- the lines of queries
 abbrev pub query_lines : Parts → List Query → List ℕ
 query_lines p [] = []
 query_lines p (q ∷ qs) = query_line p q ++ query_lines p qs

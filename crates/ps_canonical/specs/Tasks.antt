@@ -11,25 +11,28 @@ use Rattle.ps_canonical.specs.declared.connective.Connective.TheVariants as conn
 use Rattle.ps_canonical.specs.declared.task.Task.{Task}
 use Rattle.ps_canonical.specs.declared.task.Task.TheVariants as task
 
--- a connective's level, the levels that its operands need, and its sign
+-- a connective's level
 abbrev pub level_of : Connective → ℕ
 level_of connective.And = 4
 level_of connective.Or = 3
 level_of connective.Implies = 2
 level_of connective.Iff = 1
 
+-- the level that its left operand needs
 abbrev pub left_of : Connective → ℕ
 left_of connective.And = 4
 left_of connective.Or = 3
 left_of connective.Implies = 3
 left_of connective.Iff = 1
 
+-- the level that its right operand needs
 abbrev pub right_of : Connective → ℕ
 right_of connective.And = 5
 right_of connective.Or = 4
 right_of connective.Implies = 2
 right_of connective.Iff = 2
 
+-- its sign, between spaces
 abbrev pub sign_of : Connective → List ℕ
 sign_of connective.And = codes " & "
 sign_of connective.Or = codes " | "
@@ -63,13 +66,15 @@ abbrev pub IsTask : ℕ → Task → Type 0
 IsTask n (task.Formula i k) = (i < n) × (k ≤ 5)
 IsTask n other = Unit {0}
 
--- the `(` and the `)` of a formula, where it needs them
+-- the `(` of a formula, where it needs one
 abbrev pub opening : Bool → List ℕ
 opening b = if b then codes "(" else []
 
+-- the `)` of a formula, where it needs one
 abbrev pub closing : Bool → List ℕ
 closing b = if b then codes ")" else []
 
+-- the task of that `)`
 abbrev pub closing_task : Bool → List Task
 closing_task b = if b then task.Close ∷ [] else []
 
@@ -89,17 +94,19 @@ steps_of (formula.Or f g) = 3 + steps_of f + steps_of g
 steps_of (formula.Implies f g) = 3 + steps_of f + steps_of g
 steps_of (formula.Iff f g) = 3 + steps_of f + steps_of g
 
+-- how many steps a task takes at most
 abbrev pub task_steps : Parts → Task → ℕ
 task_steps p (task.Formula i k) = steps_of (named_at p i)
 task_steps p (task.Connective c) = 1
 task_steps p task.Close = 1
 
+-- how many steps the tasks on a stack take at most
 abbrev pub tasks_steps : Parts → List Task → ℕ
 tasks_steps p [] = 0
 tasks_steps p (t ∷ ts) = task_steps p t + tasks_steps p ts
 
 -- a task was carried out: what was written and what is to be written is the same text, and fewer steps are left
-pub record IsDone (p : Parts) (t : Task) (ts : List Task) (out : List ℕ) (ts' : List Task) (out' : List ℕ) : Type 0 where
+pub record IsCarriedOut (p : Parts) (t : Task) (ts : List Task) (out : List ℕ) (ts' : List Task) (out' : List ℕ) : Type 0 where
   pub text : out' ++ tasks_text p ts' ≡ out ++ (task_text p t ++ tasks_text p ts)
   pub there : All (IsTask (length p.nodes)) ts'
   pub fewer : tasks_steps p ts' < task_steps p t + tasks_steps p ts

@@ -4,7 +4,7 @@ ghost use Rattle.ps_formula.specs.Nodes.{Fits, AreNodes, AtomBelow};
 ghost use Rattle.ps_problem.specs.Problems.{name_at};
 ghost use Rattle.ps_canonical.specs.Lines.{formula_text};
 ghost use Rattle.ps_canonical.specs.Tasks.{level_of, opening, closing_task, with_operands};
-ghost use Rattle.ps_canonical.specs.Tasks.{IsTask, IsDone};
+ghost use Rattle.ps_canonical.specs.Tasks.{IsTask, IsCarriedOut};
 ghost use Rattle.ps_canonical.specs.declared.task.Task.TheVariants as task;
 
 use crate::connective::Connective;
@@ -86,7 +86,7 @@ fn begin(
     requires there { i < length problem.now.nodes }
     requires level { level ≤ 5 }
     requires tasks { All (IsTask (length problem.now.nodes)) tasks.old }
-    ensures { OnOk result (IsDone problem.now (task.Formula i level)
+    ensures { OnOk result (IsCarriedOut problem.now (task.Formula i level)
         tasks.old out.old.items tasks.new out.new.items) }
 {
     match node_at(problem, i) {
@@ -117,7 +117,7 @@ fn step(
     requires task { IsTask (length problem.now.nodes) task }
     requires tasks { All (IsTask (length problem.now.nodes)) tasks.old }
     ensures { OnOk result
-        (IsDone problem.now task tasks.old out.old.items tasks.new out.new.items) }
+        (IsCarriedOut problem.now task tasks.old out.old.items tasks.new out.new.items) }
 {
     match task {
         Task::Formula { node, level } => begin(problem, node, level, tasks, out),

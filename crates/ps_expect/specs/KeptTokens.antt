@@ -47,13 +47,15 @@ nots_ended s = expected.within s.part (state_of s) (expected.without_nots s.open
 abbrev pub arrows_ended : State → expected.State
 arrows_ended s = expected.within s.part (state_of s) (expected.without_arrows s.opened)
 
--- the state behind a token, behind one in the place of an operand, and behind one that follows an operand
+-- the state behind a token
 abbrev pub behind : State → Token → expected.State
 behind s t = expected.after (state_of s) (token_of t)
 
+-- the state behind a token in the place of an operand
 abbrev pub behind_operand : State → Token → expected.State
 behind_operand s t = expected.after_operand (state_of s) (token_of t)
 
+-- the state behind a token that follows an operand
 abbrev pub behind_operator : State → Token → expected.State
 behind_operator s t = expected.after_operator (state_of s) (token_of t)
 

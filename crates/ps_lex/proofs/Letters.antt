@@ -9,8 +9,8 @@ use Rattle.ps_text.proofs.Cutting.{decide}
 use Rattle.ps_lex.specs.declared.position.Position.{Position}
 use Rattle.ps_lex.specs.declared.mode.Mode.TheVariants as mode
 use Rattle.ps_lex.specs.Places.{behind, along}
-use Rattle.ps_lex.specs.Lexing.{LexerState, letter_kept, goes_on, stepped_in, token_ended, with_byte, bad_place}
-use Rattle.ps_lex.specs.Passing.{with_bytes, IsQuiet, AreQuiet, Passes, AllPassed, letters_kept, TakesLetters, EndsLetters}
+use Rattle.ps_lex.specs.Lexing.{LexerState, letter_kept, continued, stepped_in, token_ended, with_byte, bad_place}
+use Rattle.ps_lex.specs.Passing.{with_bytes, TellsNothing, TellNothing, Passes, AllPassed, letters_kept, TakesLetters, EndsLetters}
 use Rattle.ps_lex.proofs.Passing.{along_none, along_more, all_more, with_place, first_and_others}
 use Rattle.ps_lex.proofs.Words.{state}
 
@@ -64,17 +64,17 @@ letter_state : (w : List ℕ) (began here : Position) (b : ℕ) → is_word_byte
 unfolding with_byte behind
 letter_state w began here b h = rw (h, no_feed b h) refl
 
-letter_step : (w : List ℕ) (began here : Position) (b : ℕ) → is_word_byte b ≡ true → stepped_in (mode.Word w) began here b ≡ goes_on (mode.Word (letter_kept w b)) began
+letter_step : (w : List ℕ) (began here : Position) (b : ℕ) → is_word_byte b ≡ true → stepped_in (mode.Word w) began here b ≡ continued (mode.Word (letter_kept w b)) began
 letter_step w began here b h = rw h refl
 
-letter_quiet : (w : List ℕ) (began here : Position) (b : ℕ) → is_word_byte b ≡ true → IsQuiet (state (mode.Word w) began here) b
+letter_quiet : (w : List ℕ) (began here : Position) (b : ℕ) → is_word_byte b ≡ true → TellsNothing (state (mode.Word w) began here) b
 unfolding token_ended with_byte
 letter_quiet w began here b h = record { token = ap (λ s. s.ended) (letter_step w began here b h); place = ap (λ s. bad_place s.mode) (letter_step w began here b h) }
 
-letters_quiet : (w : List ℕ) (began here : Position) (bs : List ℕ) → AllByRecursion (λ b. IsTrue (is_word_byte b)) bs → AreQuiet (state (mode.Word w) began here) bs
+letters_quiet : (w : List ℕ) (began here : Position) (bs : List ℕ) → AllByRecursion (λ b. IsTrue (is_word_byte b)) bs → TellNothing (state (mode.Word w) began here) bs
 letters_quiet w began here [] h = tt
 letters_quiet w began here (b ∷ bs) h =
-    (letter_quiet w began here b h.0, subst (λ s. AreQuiet s bs) (sym (letter_state w began here b h.0)) (letters_quiet (letter_kept w b) began (along here 1) bs h.1))
+    (letter_quiet w began here b h.0, subst (λ s. TellNothing s bs) (sym (letter_state w began here b h.0)) (letters_quiet (letter_kept w b) began (along here 1) bs h.1))
 
 letters_state : (w : List ℕ) (began here : Position) (bs : List ℕ) → AllByRecursion (λ b. IsTrue (is_word_byte b)) bs
     → with_bytes (state (mode.Word w) began here) bs ≡ state (mode.Word (letters_kept w bs)) began (along here (length bs))
@@ -94,7 +94,7 @@ letters_pass w bytes n left began here s m count t es ec em =
     subst (λ z. Passes z bytes m left) (sym es) (record {
       passed = t.passed;
       bytes_are = t.bytes_are;
-      quiet = letters_quiet w began here t.passed t.all;
+      nothing_told = letters_quiet w began here t.passed t.all;
       state = st;
       place = ap (λ z. z.here) st ∙ with_place (state (mode.Word w) began here) t.passed;
     })

@@ -12,7 +12,7 @@ use Rattle.ps_lex.specs.declared.mode.Mode.TheVariants as mode
 use Rattle.ps_lex.specs.Places.{behind, along, HasRoom}
 use Rattle.ps_lex.specs.Seen.{behind_all}
 use Rattle.ps_lex.specs.Lexing.{LexerState, begun, token_ended, with_byte, bad_place}
-use Rattle.ps_lex.specs.Passing.{with_bytes, IsQuiet, AreQuiet, Passes, is_passed, gap_mode, gap_state, is_in_line, AreInLine, along_line}
+use Rattle.ps_lex.specs.Passing.{with_bytes, TellsNothing, TellNothing, Passes, is_passed, gap_mode, gap_state, is_in_line, AreInLine, along_line}
 use Rattle.ps_lex.proofs.Tokens.{behind_append}
 
 -- a byte that is passed tells nothing
@@ -21,7 +21,7 @@ between_good true y m e = refl
 between_good false true m e = refl
 between_good false false m e = absurd (true≢false (sym e))
 
-gap_quiet : (c : Bool) (began here : Position) (b : ℕ) → is_passed (gap_mode c) b ≡ true → IsQuiet (gap_state c began here) b
+gap_quiet : (c : Bool) (began here : Position) (b : ℕ) → is_passed (gap_mode c) b ≡ true → TellsNothing (gap_state c began here) b
 unfolding token_ended with_byte begun
 gap_quiet true began here b h = record { token = refl; place = by (b == 10) }
   where
@@ -35,7 +35,7 @@ with_more : (s : LexerState) (bs : List ℕ) (b : ℕ) → with_bytes s (bs ++ b
 with_more s [] b = refl
 with_more s (c ∷ cs) b = with_more (with_byte s c) cs b
 
-quiet_more : (s : LexerState) (bs : List ℕ) (b : ℕ) → AreQuiet s bs → IsQuiet (with_bytes s bs) b → AreQuiet s (bs ++ b ∷ [])
+quiet_more : (s : LexerState) (bs : List ℕ) (b : ℕ) → TellNothing s bs → TellsNothing (with_bytes s bs) b → TellNothing s (bs ++ b ∷ [])
 quiet_more s [] b h k = (k, tt)
 quiet_more s (c ∷ cs) b h k = (h.0, quiet_more (with_byte s c) cs b h.1 k)
 
@@ -44,13 +44,13 @@ unfolding with_byte
 place_next s b = refl
 
 pub passes_none : (s : LexerState) (bytes : List ℕ) → Passes s bytes s bytes
-passes_none s bytes = record { passed = []; bytes_are = refl; quiet = tt; state = refl; place = refl }
+passes_none s bytes = record { passed = []; bytes_are = refl; nothing_told = tt; state = refl; place = refl }
 
-passes_more : (s n : LexerState) (bytes left : List ℕ) (b : ℕ) → Passes s bytes n (b ∷ left) → IsQuiet n b → Passes s bytes (with_byte n b) left
+passes_more : (s n : LexerState) (bytes left : List ℕ) (b : ℕ) → Passes s bytes n (b ∷ left) → TellsNothing n b → Passes s bytes (with_byte n b) left
 passes_more s n bytes left b p q = record {
   passed = p.passed ++ b ∷ [];
   bytes_are = p.bytes_are ∙ sym (append_assoc p.passed (b ∷ []) left);
-  quiet = quiet_more s p.passed b p.quiet (subst (λ m. IsQuiet m b) p.state q);
+  nothing_told = quiet_more s p.passed b p.nothing_told (subst (λ m. TellsNothing m b) p.state q);
   state = ap (λ m. with_byte m b) p.state ∙ sym (with_more s p.passed b);
   place = place_next n b ∙ ap (λ h. behind h b) p.place ∙ sym (behind_append s.here p.passed (b ∷ []));
 }
@@ -84,7 +84,7 @@ with_both : (s : LexerState) (xs ys : List ℕ) → with_bytes s (xs ++ ys) ≡ 
 with_both s [] ys = refl
 with_both s (x ∷ xs) ys = with_both (with_byte s x) xs ys
 
-quiet_both : (s : LexerState) (xs ys : List ℕ) → AreQuiet s xs → AreQuiet (with_bytes s xs) ys → AreQuiet s (xs ++ ys)
+quiet_both : (s : LexerState) (xs ys : List ℕ) → TellNothing s xs → TellNothing (with_bytes s xs) ys → TellNothing s (xs ++ ys)
 quiet_both s [] ys h k = k
 quiet_both s (x ∷ xs) ys h k = (h.0, quiet_both (with_byte s x) xs ys h.1 k)
 
@@ -92,7 +92,7 @@ pub passes_then : (s n m : LexerState) (bytes more left : List ℕ) → Passes s
 passes_then s n m bytes more left p q = record {
   passed = p.passed ++ q.passed;
   bytes_are = p.bytes_are ∙ ap (λ bs. p.passed ++ bs) q.bytes_are ∙ sym (append_assoc p.passed q.passed left);
-  quiet = quiet_both s p.passed q.passed p.quiet (subst (λ x. AreQuiet x q.passed) p.state q.quiet);
+  nothing_told = quiet_both s p.passed q.passed p.nothing_told (subst (λ x. TellNothing x q.passed) p.state q.nothing_told);
   state = q.state ∙ ap (λ x. with_bytes x q.passed) p.state ∙ sym (with_both s p.passed q.passed);
   place = q.place ∙ ap (λ h. behind_all h q.passed) p.place ∙ sym (behind_append s.here p.passed q.passed);
 }
@@ -120,10 +120,10 @@ line_step true began here b h = by (b == 10) h
     by false e = refl
 line_step false began here b h = subst (λ x. with_byte (gap_state false began here) x ≡ gap_state false here (along here 1)) (sym (same_byte b 32 h)) refl
 
-line_quiet : (c : Bool) (began here : Position) (bs : List ℕ) → AllByRecursion (λ b. IsTrue (is_in_line c b)) bs → AreQuiet (gap_state c began here) bs
+line_quiet : (c : Bool) (began here : Position) (bs : List ℕ) → AllByRecursion (λ b. IsTrue (is_in_line c b)) bs → TellNothing (gap_state c began here) bs
 line_quiet c began here [] h = tt
 line_quiet c began here (b ∷ bs) h =
-    (gap_quiet c began here b (line_passed c b h.0), subst (λ s. AreQuiet s bs) (sym (line_step c began here b h.0)) (line_quiet c (if c then began else here) (along here 1) bs h.1))
+    (gap_quiet c began here b (line_passed c b h.0), subst (λ s. TellNothing s bs) (sym (line_step c began here b h.0)) (line_quiet c (if c then began else here) (along here 1) bs h.1))
 
 pub along_none : (p : Position) → along p 0 ≡ p
 along_none p = let e : p.column + 0 ≡ p.column = omega arith in let f : p.offset + 0 ≡ p.offset = omega arith in λ i. record { line = p.line; column = e i; offset = f i }
@@ -158,7 +158,7 @@ line_passes c began here (b ∷ bs) left count h k e =
     let st = line_state c began here b bs h ∙ ap (along_line c began here) n in record {
       passed = b ∷ bs;
       bytes_are = refl;
-      quiet = line_quiet c began here (b ∷ bs) h;
+      nothing_told = line_quiet c began here (b ∷ bs) h;
       state = sym st;
       place = ap (λ s. s.here) (sym st) ∙ with_place (gap_state c began here) (b ∷ bs);
     }

@@ -18,8 +18,8 @@ use Rattle.ps_lex.specs.declared.mode.Mode.TheVariants as mode
 use Rattle.ps_lex.specs.Counted.{no_digits, with_digits}
 use Rattle.ps_lex.specs.Places.{start, behind}
 use Rattle.ps_lex.specs.Seen.{seen, behind_all, told}
-use Rattle.ps_lex.specs.Lexing.{begun, symbol_begun, ended, goes_on, stepped_in, token_ended, with_byte, stops_or, after_tokens, bad_place, new_lexer, lexed}
-use Rattle.ps_lex.proofs.Words.{state, GoesOn, span_lexed, all_of, one_at}
+use Rattle.ps_lex.specs.Lexing.{begun, symbol_begun, ended, continued, stepped_in, token_ended, with_byte, stops_or, after_tokens, bad_place, new_lexer, lexed}
+use Rattle.ps_lex.proofs.Words.{state, Continues, span_lexed, all_of, one_at}
 use Rattle.ps_lex.proofs.Tokens.{mode_of, begun_at, head_of, tail_of, token_lexed, word_begun, number_begun, behind_append}
 
 -- what bytes tell from a place on where no token is begun
@@ -86,10 +86,10 @@ comment_ended [] q p s = refl
 comment_ended (c ∷ cs) q p s = subst (λ x. lexed (state mode.Comment q p) (x ∷ cs) ≡ entered p (x ∷ cs)) (sym s)
     (between cs q (behind p 10) ∙ sym (between cs p (behind p 10)))
 
-comment_go : (b : ℕ) → not (b == 10) ≡ true → GoesOn mode.Comment mode.Comment b
+comment_go : (b : ℕ) → not (b == 10) ≡ true → Continues mode.Comment mode.Comment b
 comment_go b h = record { step = λ began here. goes (b == 10) h began; good = refl }
   where
-    goes : (x : Bool) → not x ≡ true → (began : Position) → goes_on (if x then mode.Between else mode.Comment) began ≡ goes_on mode.Comment began
+    goes : (x : Bool) → not x ≡ true → (began : Position) → continued (if x then mode.Between else mode.Comment) began ≡ continued mode.Comment began
     goes true e began = absurd cc
     goes false e began = refl
 
@@ -190,7 +190,7 @@ third b bs n = elim (decide (b == 62)) [
 ]
 
 -- a byte shows that no token began
-turns_bad : (m : Mode) (q p : Position) (x : ℕ) (xs : List ℕ) → stepped_in m q p x ≡ goes_on (mode.Bad q) q → lexed (state m q p) (x ∷ xs) ≡ ([], Some q)
+turns_bad : (m : Mode) (q p : Position) (x : ℕ) (xs : List ℕ) → stepped_in m q p x ≡ continued (mode.Bad q) q → lexed (state m q p) (x ∷ xs) ≡ ([], Some q)
 unfolding lexed token_ended with_byte
 turns_bad m q p x xs e = rw e refl
 

@@ -12,22 +12,22 @@ use Rattle.ps_lex.specs.declared.mode.Mode.TheVariants as mode
 use Rattle.ps_lex.specs.Counted.{with_digit, with_digits}
 use Rattle.ps_lex.specs.Places.{behind}
 use Rattle.ps_lex.specs.Seen.{behind_all}
-use Rattle.ps_lex.specs.Lexing.{LexerState, goes_on, letter_kept, stepped_in, token_ended, with_byte, bad_place, lexed}
+use Rattle.ps_lex.specs.Lexing.{LexerState, continued, letter_kept, stepped_in, token_ended, with_byte, bad_place, lexed}
 
 abbrev pub state : Mode → Position → Position → LexerState
 state m began here = record { mode = m; began = began; here = here }
 
 -- a byte that goes on: nothing is told
-pub record GoesOn (m n : Mode) (b : ℕ) : Type 0 where
-  pub step : (began here : Position) → stepped_in m began here b ≡ goes_on n began
+pub record Continues (m n : Mode) (b : ℕ) : Type 0 where
+  pub step : (began here : Position) → stepped_in m began here b ≡ continued n began
   pub good : bad_place n ≡ None
 
-pub one_more : (m n : Mode) (b : ℕ) (bs : List ℕ) (began here : Position) → GoesOn m n b → lexed (state m began here) (b ∷ bs) ≡ lexed (state n began (behind here b)) bs
+pub one_more : (m n : Mode) (b : ℕ) (bs : List ℕ) (began here : Position) → Continues m n b → lexed (state m began here) (b ∷ bs) ≡ lexed (state n began (behind here b)) bs
 unfolding lexed token_ended with_byte
 one_more m n b bs began here g = rw (g.step began here, g.good) refl
 
 -- the same at one place
-pub one_at : (m n : Mode) (b : ℕ) (bs : List ℕ) (began here : Position) → stepped_in m began here b ≡ goes_on n began → bad_place n ≡ None
+pub one_at : (m n : Mode) (b : ℕ) (bs : List ℕ) (began here : Position) → stepped_in m began here b ≡ continued n began → bad_place n ≡ None
     → lexed (state m began here) (b ∷ bs) ≡ lexed (state n began (behind here b)) bs
 unfolding lexed token_ended with_byte
 one_at m n b bs began here step good = rw (step, good) refl
@@ -37,7 +37,7 @@ all_of g x [] = x
 all_of g x (b ∷ bs) = all_of g (g x b) bs
 
 -- bytes that go on, one after the other
-pub span_lexed : {X : Type 0} (f : X → Mode) (g : X → ℕ → X) (p : ℕ → Bool) → ((x : X) (b : ℕ) → p b ≡ true → GoesOn (f x) (f (g x b)) b)
+pub span_lexed : {X : Type 0} (f : X → Mode) (g : X → ℕ → X) (p : ℕ → Bool) → ((x : X) (b : ℕ) → p b ≡ true → Continues (f x) (f (g x b)) b)
     → (bs after : List ℕ) (x : X) (began here : Position) → AllByRecursion (λ b. IsTrue (p b)) bs
     → lexed (state (f x) began here) (bs ++ after) ≡ lexed (state (f (all_of g x bs)) began (behind_all here bs)) after
 span_lexed f g p step [] after x began here h = refl
@@ -53,7 +53,7 @@ kept_more u b = by (nat_lt (length (take 33 u)) 33) refl
         ap (λ x. x ++ b ∷ []) (take_all 33 u (omega arith)) ∙ sym (take_all 33 (u ++ b ∷ []) (omega arith))
     by false e = let l = length-take 33 u in let many : 33 ≤ length u = grind (arith, nat_tests) in sym (take-append-le 33 u (b ∷ []) many)
 
-letters_go : (u : List ℕ) (b : ℕ) → is_word_byte b ≡ true → GoesOn (mode.Word (take 33 u)) (mode.Word (take 33 (u ++ b ∷ []))) b
+letters_go : (u : List ℕ) (b : ℕ) → is_word_byte b ≡ true → Continues (mode.Word (take 33 u)) (mode.Word (take 33 (u ++ b ∷ []))) b
 letters_go u b h = record { step = λ began here. rw (h, kept_more u b) refl; good = refl }
 
 appended : (u bs : List ℕ) → all_of (λ w b. w ++ b ∷ []) u bs ≡ u ++ bs
@@ -71,7 +71,7 @@ counted : (d : Digits) (bs : List ℕ) → all_of with_digit d bs ≡ with_digit
 counted d [] = refl
 counted d (b ∷ bs) = counted (with_digit d b) bs
 
-whole_go : (d : Digits) (b : ℕ) → is_digit b ≡ true → GoesOn (mode.Whole d) (mode.Whole (with_digit d b)) b
+whole_go : (d : Digits) (b : ℕ) → is_digit b ≡ true → Continues (mode.Whole d) (mode.Whole (with_digit d b)) b
 whole_go d b h = record { step = λ began here. rw h refl; good = refl }
 
 -- more digits of a number
@@ -81,7 +81,7 @@ whole_lexed d bs after began here h =
     span_lexed mode.Whole with_digit is_digit whole_go bs after d began here h
     ∙ ap (λ e. lexed (state (mode.Whole e) began (behind_all here bs)) after) (counted d bs)
 
-quotient_go : (o d : Digits) (b : ℕ) → is_digit b ≡ true → GoesOn (mode.Quotient o d) (mode.Quotient o (with_digit d b)) b
+quotient_go : (o d : Digits) (b : ℕ) → is_digit b ≡ true → Continues (mode.Quotient o d) (mode.Quotient o (with_digit d b)) b
 quotient_go o d b h = record { step = λ began here. rw h refl; good = refl }
 
 -- more digits of a denominator
@@ -97,7 +97,7 @@ decimal_mode x = mode.Decimal x.0 x.1
 abbrev decimal_more : Digits × ℕ → ℕ → Digits × ℕ
 decimal_more x b = (with_digit x.0 b, min (x.1 + 1) 7)
 
-decimal_go : (x : Digits × ℕ) (b : ℕ) → is_digit b ≡ true → GoesOn (decimal_mode x) (decimal_mode (decimal_more x b)) b
+decimal_go : (x : Digits × ℕ) (b : ℕ) → is_digit b ≡ true → Continues (decimal_mode x) (decimal_mode (decimal_more x b)) b
 decimal_go x b h = record { step = λ began here. rw h refl; good = refl }
 
 decimals_counted : (d : Digits) (k : ℕ) (bs : List ℕ) → all_of decimal_more (d, min k 7) bs ≡ (with_digits d bs, min (k + length bs) 7)

@@ -39,8 +39,8 @@ abbrev pub ended : Token → Position → ℕ → Step
 ended t here b = record { mode = begun here b; began = here; ended = Some t }
 
 -- the byte belongs to what is begun
-abbrev pub goes_on : Mode → Position → Step
-goes_on m began = record { mode = m; began = began; ended = None }
+abbrev pub continued : Mode → Position → Step
+continued m began = record { mode = m; began = began; ended = None }
 
 -- one byte more of a word, of which so many are kept
 abbrev pub letter_kept : List ℕ → ℕ → List ℕ
@@ -53,27 +53,27 @@ whole d = token.Number (numeral.Whole d)
 -- what a byte does that stands here, by the mode and the place where the token began that isn't whole
 abbrev pub stepped_in : Mode → Position → Position → ℕ → Step
 stepped_in mode.Between began here b = record { mode = begun here b; began = here; ended = None }
-stepped_in mode.Comment began here b = goes_on (if b == 10 then mode.Between else mode.Comment) began
-stepped_in (mode.Word w) began here b = if is_word_byte b then goes_on (mode.Word (letter_kept w b)) began else ended (token.Word w) here b
+stepped_in mode.Comment began here b = continued (if b == 10 then mode.Between else mode.Comment) began
+stepped_in (mode.Word w) began here b = if is_word_byte b then continued (mode.Word (letter_kept w b)) began else ended (token.Word w) here b
 stepped_in (mode.Whole d) began here b =
-    if is_digit b then goes_on (mode.Whole (with_digit d b)) began
-    else if b == 47 then goes_on (mode.Slash d here) began
-    else if b == 46 then goes_on (mode.Point d here) began else ended (whole d) here b
+    if is_digit b then continued (mode.Whole (with_digit d b)) began
+    else if b == 47 then continued (mode.Slash d here) began
+    else if b == 46 then continued (mode.Point d here) began else ended (whole d) here b
 stepped_in (mode.Slash d slash) began here b =
-    if is_digit b then goes_on (mode.Quotient d (with_digit no_digits b)) began
+    if is_digit b then continued (mode.Quotient d (with_digit no_digits b)) began
     else record { mode = mode.Bad slash; began = began; ended = Some (whole d) }
-stepped_in (mode.Quotient d e) began here b = if is_digit b then goes_on (mode.Quotient d (with_digit e b)) began else ended (token.Number (numeral.Quotient d e)) here b
+stepped_in (mode.Quotient d e) began here b = if is_digit b then continued (mode.Quotient d (with_digit e b)) began else ended (token.Number (numeral.Quotient d e)) here b
 stepped_in (mode.Point d point) began here b =
-    if is_digit b then goes_on (mode.Decimal (with_digit d b) 1) began
+    if is_digit b then continued (mode.Decimal (with_digit d b) 1) began
     else record { mode = mode.Bad point; began = began; ended = Some (whole d) }
 stepped_in (mode.Decimal d k) began here b =
-    if is_digit b then goes_on (mode.Decimal (with_digit d b) (min (k + 1) MANY_DIGITS)) began else ended (token.Number (numeral.Decimal d k)) here b
-stepped_in mode.Minus began here b = goes_on (if b == 62 then mode.Sign symbol.Arrow else mode.Bad began) began
-stepped_in mode.Less began here b = goes_on (if b == 61 then mode.Sign symbol.LessEquals else if b == 45 then mode.LessMinus else mode.Bad began) began
-stepped_in mode.LessMinus began here b = goes_on (if b == 62 then mode.Sign symbol.DoubleArrow else mode.Bad began) began
-stepped_in mode.Greater began here b = goes_on (if b == 61 then mode.Sign symbol.GreaterEquals else mode.Bad began) began
+    if is_digit b then continued (mode.Decimal (with_digit d b) (min (k + 1) MANY_DIGITS)) began else ended (token.Number (numeral.Decimal d k)) here b
+stepped_in mode.Minus began here b = continued (if b == 62 then mode.Sign symbol.Arrow else mode.Bad began) began
+stepped_in mode.Less began here b = continued (if b == 61 then mode.Sign symbol.LessEquals else if b == 45 then mode.LessMinus else mode.Bad began) began
+stepped_in mode.LessMinus began here b = continued (if b == 62 then mode.Sign symbol.DoubleArrow else mode.Bad began) began
+stepped_in mode.Greater began here b = continued (if b == 61 then mode.Sign symbol.GreaterEquals else mode.Bad began) began
 stepped_in (mode.Sign s) began here b = ended (token.Sign s) here b
-stepped_in (mode.Bad p) began here b = goes_on (mode.Bad p) began
+stepped_in (mode.Bad p) began here b = continued (mode.Bad p) began
 
 -- what the bytes so far stand in, where the token began that isn't whole, and where the next byte stands
 pub record LexerState : Type 0 where

@@ -1,8 +1,7 @@
--- Meaning
-pub mod Told
--- Bridge: what a lexer keeps of bytes and of tokens
+-- Bridge: what a lexer keeps of bytes and of tokens, and what it tells of pieces
 pub mod Counted
 pub mod Places
 pub mod Lexing
 pub mod Seen
 pub mod Passing
+pub mod Told

@@ -16,20 +16,20 @@ with_bytes s [] = s
 with_bytes s (b ∷ bs) = with_bytes (with_byte s b) bs
 
 -- no token ends before the byte, and it shows no place where none begins
-pub record IsQuiet (s : LexerState) (b : ℕ) : Type 0 where
+pub record TellsNothing (s : LexerState) (b : ℕ) : Type 0 where
   pub token : token_ended s b ≡ None
   pub place : bad_place (with_byte s b).mode ≡ None
 
 -- nor do more
-abbrev pub AreQuiet : LexerState → List ℕ → Type 0
-AreQuiet s [] = Unit {0}
-AreQuiet s (b ∷ bs) = IsQuiet s b × AreQuiet (with_byte s b) bs
+abbrev pub TellNothing : LexerState → List ℕ → Type 0
+TellNothing s [] = Unit {0}
+TellNothing s (b ∷ bs) = TellsNothing s b × TellNothing (with_byte s b) bs
 
 -- bytes at the front were taken, these are left, and nothing was told
 pub record Passes (s : LexerState) (bytes : List ℕ) (n : LexerState) (left : List ℕ) : Type 0 where
   pub passed : List ℕ
   pub bytes_are : bytes ≡ passed ++ left
-  pub quiet : AreQuiet s passed
+  pub nothing_told : TellNothing s passed
   pub state : n ≡ with_bytes s passed
   pub place : n.here ≡ behind_all s.here passed
 
@@ -50,6 +50,7 @@ abbrev pub gap_mode : Bool → Mode
 gap_mode true = mode.Comment
 gap_mode false = mode.Between
 
+-- the state of a lexer in blanks and comments
 abbrev pub gap_state : Bool → Position → Position → LexerState
 gap_state c began here = record { mode = gap_mode c; began = began; here = here }
 

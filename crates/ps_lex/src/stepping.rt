@@ -1,6 +1,6 @@
 //! One more byte.
 ghost use Rattle.std.specs.Prelude.{◌≡◌, ◌≤◌, Some};
-ghost use Rattle.ps_lex.specs.Lexing.{begun, symbol_begun, ended, goes_on, whole, stepped_in};
+ghost use Rattle.ps_lex.specs.Lexing.{begun, symbol_begun, ended, continued, whole, stepped_in};
 ghost use Rattle.ps_lex.specs.Lexing.{IsCappedMode, IsBegunSymbol};
 ghost use Rattle.ps_lex.specs.Counted.{IsCapped};
 ghost use Rattle.ps_lex.specs.declared.digits.TheConstants.{MANY_DIGITS};
@@ -75,7 +75,7 @@ fn end(token: Token, here: Position, byte: u8) -> Step
 // The byte belongs to what is begun.
 fn go_on(mode: Mode, began: Position) -> Step
     requires capped { IsCappedMode mode }
-    ensures step { result ≡ goes_on mode began }
+    ensures step { result ≡ continued mode began }
     ensures capped { IsCappedMode result.mode }
 {
     Step {

@@ -4,10 +4,10 @@ use Rattle.std.proofs.lemmas.List.{length-append}
 use Rattle.ps_problem.specs.Drafts.{AreBelow}
 use Rattle.ps_parse.specs.Pending.{IsEndable}
 use Rattle.ps_parse.specs.Machine.{Work, numbered_as, formula_ended}
-use Rattle.ps_parse.specs.Ready.{IsNumbered}
+use Rattle.ps_parse.specs.Ready.{HasDraftedFormulas}
 
 -- behind it the item's formulas are in the draft
-pub ended_numbered : (w : Work) → IsEndable w.pending.draft → (w.item.conditional ≡ true → w.item.formula < length w.pending.draft.formulas) → IsNumbered (formula_ended w)
+pub ended_numbered : (w : Work) → IsEndable w.pending.draft → (w.item.conditional ≡ true → w.item.formula < length w.pending.draft.formulas) → HasDraftedFormulas (formula_ended w)
 ended_numbered w i h = by w.item.conditional refl
   where
     more : length (w.pending.draft.formulas ++ w.pending.draft.«open») ≡ length w.pending.draft.formulas + length w.pending.draft.«open»

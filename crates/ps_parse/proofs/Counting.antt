@@ -14,10 +14,10 @@ use Rattle.ps_problem.specs.declared.mark.Mark.TheVariants as mark
 use Rattle.ps_problem.specs.Numbering.{same_name}
 use Rattle.ps_problem.specs.Drafts.{Drafted, with_mark, with_formula, with_item}
 use Rattle.ps_parse.specs.declared.operator.Operator.{Operator}
-use Rattle.ps_parse.specs.Pending.{Pending, binding, mark_of, settled, settled_from, IsEndable}
+use Rattle.ps_parse.specs.Pending.{Pending, binding, mark_of, reduced, reduced_from, IsEndable}
 use Rattle.ps_parse.specs.Machine.{at_first, ItemSoFar, Work, Machine, with_pending, with_atom, with_word, operand_taken, given_taken, probability_ended, closed_behind, operator_taken, taken_at, next}
 use Rattle.ps_parse.specs.Taking.{CountsAtMost}
-use Rattle.ps_parse.specs.Ready.{HasRoom, IsWhole, MayEnd, IsReady}
+use Rattle.ps_parse.specs.Ready.{HasRoom, IsWhole, MayEnd, MayBeTaken}
 
 -- names, formulas and items of a draft are at most so many
 record IsFew (n : ℕ) (d : Drafted) : Type 0 where
@@ -29,11 +29,11 @@ few_more : (n : ℕ) (d : Drafted) → IsFew n d → IsFew (n + 1) d
 few_more n d h = record { names = omega (arith, h.names); formulas = omega (arith, h.formulas); items = omega (arith, h.items) }
 
 -- what is marked changes no count
-few_settled : (n k : ℕ) (os : List Operator) (d : Drafted) → IsFew n d → IsFew n (settled_from k os d).draft
-few_settled n k [] d h = h
-few_settled n k (o ∷ os) d h = by (nat_le k (binding o)) (few_settled n k os (with_mark d (mark_of o)) (record { names = h.names; formulas = h.formulas; items = h.items }))
+few_reduced : (n k : ℕ) (os : List Operator) (d : Drafted) → IsFew n d → IsFew n (reduced_from k os d).draft
+few_reduced n k [] d h = h
+few_reduced n k (o ∷ os) d h = by (nat_le k (binding o)) (few_reduced n k os (with_mark d (mark_of o)) (record { names = h.names; formulas = h.formulas; items = h.items }))
   where
-    by : (b : Bool) → IsFew n (settled_from k os (with_mark d (mark_of o))).draft → IsFew n (if b then settled_from k os (with_mark d (mark_of o)) else record { operators = o ∷ os; draft = d }).draft
+    by : (b : Bool) → IsFew n (reduced_from k os (with_mark d (mark_of o))).draft → IsFew n (if b then reduced_from k os (with_mark d (mark_of o)) else record { operators = o ∷ os; draft = d }).draft
     by true rest = rest
     by false rest = h
 
@@ -56,8 +56,8 @@ few_word n d w h = by (bytes_eq w (codes "true")) (bytes_eq w (codes "false"))
     by false false = few_atom n d w h
 
 few_operand : (n : ℕ) (p : Pending) (t : Token) → IsFew n p.draft → IsFew (n + 1) (operand_taken p t).draft
-few_operand n p (Word w) h = few_settled (n + 1) 5 p.operators (with_word p.draft w) (few_word n p.draft w h)
-few_operand n p (Number x) h = let m = few_more n p.draft h in few_settled (n + 1) 5 p.operators (with_mark p.draft mark.True) (record { names = m.names; formulas = m.formulas; items = m.items })
+few_operand n p (Word w) h = few_reduced (n + 1) 5 p.operators (with_word p.draft w) (few_word n p.draft w h)
+few_operand n p (Number x) h = let m = few_more n p.draft h in few_reduced (n + 1) 5 p.operators (with_mark p.draft mark.True) (record { names = m.names; formulas = m.formulas; items = m.items })
 few_operand n p (Sign s) h = few_sign s
   where
     few_sign : (s : Symbol) → IsFew (n + 1) (operand_taken p (Sign s)).draft
@@ -87,19 +87,19 @@ few_closed n i [] d e h = by i.query
     by : (b : Bool) → IsFew (n + 1) (probability_ended b (record { pending = record { operators = []; draft = d }; item = i })).pending.draft
     by false = few_formula n d (e refl) h
     by true = let m = few_formula n d (e refl) h in record { names = m.names; formulas = m.formulas; items = one_behind d.items _ n h.items }
-few_closed n i (o ∷ os) d e h = few_settled (n + 1) 5 os d (few_more n d h)
+few_closed n i (o ∷ os) d e h = few_reduced (n + 1) 5 os d (few_more n d h)
 
 few_operator : (n : ℕ) (w : Work) (t : Token) → MayEnd w t → IsFew n w.pending.draft → IsFew (n + 1) (operator_taken w t).pending.draft
 few_operator n w t m h = at_operator t m
   where
-    marked : (k : ℕ) → IsFew (n + 1) (settled k w.pending).draft
-    marked k = few_more n (settled k w.pending).draft (few_settled n k w.pending.operators w.pending.draft h)
+    marked : (k : ℕ) → IsFew (n + 1) (reduced k w.pending).draft
+    marked k = few_more n (reduced k w.pending).draft (few_reduced n k w.pending.operators w.pending.draft h)
 
     given : IsWhole w → IsFew (n + 1) (given_taken w).pending.draft
-    given i = few_formula n (settled 1 w.pending).draft i.formula (few_settled n 1 w.pending.operators w.pending.draft h)
+    given i = few_formula n (reduced 1 w.pending).draft i.formula (few_reduced n 1 w.pending.operators w.pending.draft h)
 
     at_operator : (t : Token) → MayEnd w t → IsFew (n + 1) (operator_taken w t).pending.draft
-    at_operator (Sign Close) m = few_closed n w.item (settled 1 w.pending).operators (settled 1 w.pending).draft m.formula (few_settled n 1 w.pending.operators w.pending.draft h)
+    at_operator (Sign Close) m = few_closed n w.item (reduced 1 w.pending).operators (reduced 1 w.pending).draft m.formula (few_reduced n 1 w.pending.operators w.pending.draft h)
     at_operator (Sign Ampersand) m = marked 4
     at_operator (Sign Bar) m = marked 3
     at_operator (Sign Arrow) m = marked 3
@@ -119,7 +119,7 @@ few_operator n w t m h = at_operator t m
 few_item : (n : ℕ) (d : Drafted) (i : Item) → IsFew n d → IsFew (n + 1) (with_item d i)
 few_item n d i h = record { names = omega (arith, h.names); formulas = omega (arith, h.formulas); items = one_behind d.items i n h.items }
 
-few : (n : ℕ) (p : Part) (w : Work) (t : Token) → IsReady p w t → IsFew n w.pending.draft → IsFew (n + 1) (taken_at p w t).pending.draft
+few : (n : ℕ) (p : Part) (w : Work) (t : Token) → MayBeTaken p w t → IsFew n w.pending.draft → IsFew (n + 1) (taken_at p w t).pending.draft
 few n part.Psat w t r h = few_more n w.pending.draft h
 few n part.Version w t r h = few_more n w.pending.draft h
 few n part.HeadEnd w t r h = few_more n w.pending.draft h
@@ -139,7 +139,7 @@ few n part.BracketEnd w t r h = few_more n w.pending.draft h
 few n part.TextEnd w t r h = few_more n w.pending.draft h
 few n part.Done w t r h = few_more n w.pending.draft h
 
-pub counted : (n : ℕ) (m : Machine) (t : Token) → IsReady m.state.part m.work t → CountsAtMost n m → CountsAtMost (n + 1) (next m t)
+pub counted : (n : ℕ) (m : Machine) (t : Token) → MayBeTaken m.state.part m.work t → CountsAtMost n m → CountsAtMost (n + 1) (next m t)
 counted n m t r h =
     let f = few n m.state.part m.work t r (record { names = h.names; formulas = h.formulas; items = h.items }) in
     record { names = f.names; formulas = f.formulas; items = f.items }
@@ -148,9 +148,9 @@ pub has_room : (m : Machine) → CountsAtMost (MOST_DRAFTED - 1) m → HasRoom m
 has_room m h = record { names = omega (arith, h.names); formulas = omega (arith, h.formulas); items = omega (arith, h.items) }
 
 -- what is marked takes no room
-pub room_settled : (k : ℕ) (w : Work) → HasRoom w → HasRoom (with_pending w (settled k w.pending))
-room_settled k w h =
-    let f = few_settled (MOST_DRAFTED - 1) k w.pending.operators w.pending.draft (record { names = omega (arith, h.names); formulas = omega (arith, h.formulas); items = omega (arith, h.items) }) in
+pub room_reduced : (k : ℕ) (w : Work) → HasRoom w → HasRoom (with_pending w (reduced k w.pending))
+room_reduced k w h =
+    let f = few_reduced (MOST_DRAFTED - 1) k w.pending.operators w.pending.draft (record { names = omega (arith, h.names); formulas = omega (arith, h.formulas); items = omega (arith, h.items) }) in
     record { names = omega (arith, f.names); formulas = omega (arith, f.formulas); items = omega (arith, f.items) }
 
 pub counts_more : (n : ℕ) (m : Machine) → CountsAtMost n m → CountsAtMost (n + 1) m

@@ -1,4 +1,4 @@
-pub mod Settling
+pub mod Reducing
 pub mod Next
 pub mod Marking
 pub mod CanonicalNesting

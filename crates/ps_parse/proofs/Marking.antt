@@ -10,19 +10,19 @@ use Rattle.ps_problem.specs.Drafts.{Drafted, arity, made_by, marked, with_mark}
 use Rattle.ps_expect.specs.Stacks.{IsPopped}
 use Rattle.ps_parse.specs.declared.operator.Operator.{Operator}
 use Rattle.ps_parse.specs.declared.operator.Operator.TheVariants as operator
-use Rattle.ps_parse.specs.Pending.{Pending, binding, mark_of, due, firsts, settled, settled_from, is_waiting, is_grouped, group_ended, group_closed, HaveFirst, HaveAll}
+use Rattle.ps_parse.specs.Pending.{Pending, binding, mark_of, reducible, firsts, reduced, reduced_from, is_waiting, is_grouped, group_ended, group_closed, HaveFirst, HaveAll}
 
 pub length_marked : (names : List Name) (open' : List (Formula Name)) (m : Mark) → length (marked names open' m) ≡ (length open' - arity m) + 1
 length_marked names open' m =
     let a : length (take (length open' - arity m) open' ++ made_by names open' m ∷ []) ≡ length (take (length open' - arity m) open') + 1 = length-append (take (length open' - arity m) open') (made_by names open' m ∷ []) in
     a ∙ ap (λ n. n + 1) (length-take-le (length open' - arity m) open' (omega arith))
 
--- an operator that is due waits last, and what is settled is settled behind its mark
+-- an operator that is to be reduced waits last, and what is reduced is reduced behind its mark
 pub record IsDue (k : ℕ) (os : List Operator) (o : Operator) : Type 0 where
   pub rest : List Operator
   pub last : os ≡ o ∷ rest
   pub binds : k ≤ binding o
-  pub goes_on : (d : Drafted) → settled_from k os d ≡ settled_from k rest (with_mark d (mark_of o))
+  pub goes_on : (d : Drafted) → reduced_from k os d ≡ reduced_from k rest (with_mark d (mark_of o))
 
 at_least : (k n : ℕ) → nat_le k n ≡ true → k ≤ n
 at_least k n e = grind (arith, nat_tests)
@@ -34,25 +34,25 @@ unsome o p e = ap (λ x. or_else x o) e
     or_else None o = o
     or_else (Some x) o = x
 
-pub is_due : (k : ℕ) (os : List Operator) (o : Operator) → due k os ≡ Some o → IsDue k os o
+pub is_due : (k : ℕ) (os : List Operator) (o : Operator) → reducible k os ≡ Some o → IsDue k os o
 is_due k [] o e = absurd (true≢false (sym (ap is_some e)))
 is_due k (p ∷ os) o e = by (nat_le k (binding p)) refl e
   where
     by : (b : Bool) → nat_le k (binding p) ≡ b → (if b then Some p else None) ≡ Some o → IsDue k (p ∷ os) o
     by true t e = subst (λ x. IsDue k (p ∷ os) x) (unsome p o e)
-        (record { rest = os; last = refl; binds = at_least k (binding p) t; goes_on = λ d. ap (λ b. if b then settled_from k os (with_mark d (mark_of p)) else record { operators = p ∷ os; draft = d }) t })
+        (record { rest = os; last = refl; binds = at_least k (binding p) t; goes_on = λ d. ap (λ b. if b then reduced_from k os (with_mark d (mark_of p)) else record { operators = p ∷ os; draft = d }) t })
     by false t e = absurd (true≢false (sym (ap is_some e)))
 
--- where none is due all is settled
-pub none_due : (k : ℕ) (os : List Operator) (d : Drafted) → due k os ≡ None → settled_from k os d ≡ record { operators = os; draft = d }
-none_due k [] d e = refl
-none_due k (p ∷ os) d e = by (nat_le k (binding p)) e
+-- where none is to be reduced all is reduced
+pub none_reducible : (k : ℕ) (os : List Operator) (d : Drafted) → reducible k os ≡ None → reduced_from k os d ≡ record { operators = os; draft = d }
+none_reducible k [] d e = refl
+none_reducible k (p ∷ os) d e = by (nat_le k (binding p)) e
   where
-    by : (b : Bool) → (if b then Some p else None) ≡ None → (if b then settled_from k os (with_mark d (mark_of p)) else record { operators = p ∷ os; draft = d }) ≡ record { operators = p ∷ os; draft = d }
+    by : (b : Bool) → (if b then Some p else None) ≡ None → (if b then reduced_from k os (with_mark d (mark_of p)) else record { operators = p ∷ os; draft = d }) ≡ record { operators = p ∷ os; draft = d }
     by true e = absurd (true≢false (ap is_some e))
     by false e = refl
 
--- the operands of an operator that is due stand open
+-- the operands of an operator that is to be reduced stand open
 pub operands_there : (o : Operator) (os : List Operator) (n : ℕ) → 1 ≤ binding o → n ≡ suc (firsts (o ∷ os)) → arity (mark_of o) ≤ n
 operands_there operator.Not os n h e = omega (arith, e)
 operands_there operator.Group os n h e = absurd (omega (arith, h))
@@ -86,17 +86,17 @@ unfolding is_some_item tail_of
 popped old new None o rest e h = absurd (true≢false (ap is_some_item (sym e ∙ h.0)))
 popped old new (Some p) o rest e h = ap tail_of (sym h ∙ e)
 
--- behind the mark of an operator that is due the same is settled, with all operands and fewer operators
-pub record GoesOn (k : ℕ) (p q : Pending) : Type 0 where
-  pub settles : settled k q ≡ settled k p
+-- behind the mark of an operator that is to be reduced the same is reduced, with all operands and fewer operators
+pub record IsPassed (k : ℕ) (p q : Pending) : Type 0 where
+  pub reduces : reduced k q ≡ reduced k p
   pub operands : HaveAll q
   pub fewer : length q.operators < length p.operators
 
 binds_one : (k l n : ℕ) → k ≡ l → 1 ≤ l → k ≤ n → 1 ≤ n
 binds_one k l n e h b = omega (arith, e, h, b)
 
-pub goes_on : (k : ℕ) (p : Pending) (o : Operator) (os : List Operator) (d : Drafted) (r : Option Operator) (m : Mark) → 1 ≤ k → HaveAll p → due k p.operators ≡ Some o → IsPopped p.operators os r → m ≡ mark_of o → d ≡ with_mark p.draft m
-    → GoesOn k p (record { operators = os; draft = d })
+pub goes_on : (k : ℕ) (p : Pending) (o : Operator) (os : List Operator) (d : Drafted) (r : Option Operator) (m : Mark) → 1 ≤ k → HaveAll p → reducible k p.operators ≡ Some o → IsPopped p.operators os r → m ≡ mark_of o → d ≡ with_mark p.draft m
+    → IsPassed k p (record { operators = os; draft = d })
 goes_on k p o os d r m h a e i n w =
     let x = is_due k p.operators o e in
     let same : os ≡ x.rest = popped p.operators os r o x.rest x.last i in
@@ -106,13 +106,13 @@ goes_on k p o os d r m h a e i n w =
     let short : length os ≡ length x.rest = ap length same in
     let long : length p.operators ≡ suc (length x.rest) = ap length x.last in
     record {
-      settles = ap (λ xs. settled_from k xs d) same ∙ ap (settled_from k x.rest) drawn ∙ sym (x.goes_on p.draft);
+      reduces = ap (λ xs. reduced_from k xs d) same ∙ ap (reduced_from k x.rest) drawn ∙ sym (x.goes_on p.draft);
       operands = ap (λ y. length y.«open») drawn ∙ operands_kept p.draft.names p.draft.«open» o x.rest some all ∙ ap (λ xs. suc (firsts xs)) (sym same);
       fewer = omega (arith, short, long);
     }
 
--- the operands of the mark of one that is due
-pub finds : (k : ℕ) (p : Pending) (o : Operator) (m : Mark) → 1 ≤ k → HaveAll p → due k p.operators ≡ Some o → m ≡ mark_of o → arity m ≤ length p.draft.«open»
+-- the operands of the mark of one that is to be reduced
+pub finds : (k : ℕ) (p : Pending) (o : Operator) (m : Mark) → 1 ≤ k → HaveAll p → reducible k p.operators ≡ Some o → m ≡ mark_of o → arity m ≤ length p.draft.«open»
 finds k p o m h a e n =
     let x = is_due k p.operators o e in
     subst (λ y. arity y ≤ length p.draft.«open») (sym n)
@@ -126,18 +126,18 @@ is_none (Some x) h = absurd (h x refl)
 pub constant_there : (p : Pending) (m : Mark) → arity m ≡ 0 → HaveFirst p → HaveAll (record { operators = p.operators; draft = with_mark p.draft m })
 constant_there p m z h = length_marked p.draft.names p.draft.«open» m ∙ (let e : (length p.draft.«open» - arity m) + 1 ≡ suc (firsts p.operators) = omega (arith, z, h) in e)
 
--- behind what is settled none is due
-pub none_left : (k : ℕ) (os : List Operator) (d : Drafted) → due k (settled_from k os d).operators ≡ None
+-- behind what is reduced none is to be reduced
+pub none_left : (k : ℕ) (os : List Operator) (d : Drafted) → reducible k (reduced_from k os d).operators ≡ None
 none_left k [] d = refl
 none_left k (o ∷ os) d = by (nat_le k (binding o)) refl (none_left k os (with_mark d (mark_of o)))
   where
-    by : (b : Bool) → nat_le k (binding o) ≡ b → due k (settled_from k os (with_mark d (mark_of o))).operators ≡ None
-        → due k (if b then settled_from k os (with_mark d (mark_of o)) else record { operators = o ∷ os; draft = d }).operators ≡ None
+    by : (b : Bool) → nat_le k (binding o) ≡ b → reducible k (reduced_from k os (with_mark d (mark_of o))).operators ≡ None
+        → reducible k (if b then reduced_from k os (with_mark d (mark_of o)) else record { operators = o ∷ os; draft = d }).operators ≡ None
     by true e rest = rest
     by false e rest = ap (λ b. if b then Some o else None) e
 
 -- of what waits behind a `)` the last is a `(`, which has no first operand
-group_left : (o : Operator) (os : List Operator) → due 1 (o ∷ os) ≡ None → firsts (o ∷ os) ≡ firsts os
+group_left : (o : Operator) (os : List Operator) → reducible 1 (o ∷ os) ≡ None → firsts (o ∷ os) ≡ firsts os
 group_left operator.Not os e = refl
 group_left operator.Group os e = refl
 group_left operator.And os e = absurd (true≢false (ap is_some e))
@@ -146,12 +146,12 @@ group_left operator.Implies os e = absurd (true≢false (ap is_some e))
 group_left operator.Iff os e = absurd (true≢false (ap is_some e))
 
 -- so all operands are there behind it
-behind_group : (p q : Pending) (o : Operator) (os : List Operator) → p ≡ settled 1 q → HaveAll p → p.operators ≡ o ∷ os → HaveAll (record { operators = os; draft = p.draft })
+behind_group : (p q : Pending) (o : Operator) (os : List Operator) → p ≡ reduced 1 q → HaveAll p → p.operators ≡ o ∷ os → HaveAll (record { operators = os; draft = p.draft })
 behind_group p q o os e a i =
-    let none : due 1 p.operators ≡ None = ap (λ x. due 1 x.operators) e ∙ none_left 1 q.operators q.draft in
-    a ∙ ap (λ xs. suc (firsts xs)) i ∙ ap suc (group_left o os (ap (due 1) (sym i) ∙ none))
+    let none : reducible 1 p.operators ≡ None = ap (λ x. reducible 1 x.operators) e ∙ none_left 1 q.operators q.draft in
+    a ∙ ap (λ xs. suc (firsts xs)) i ∙ ap suc (group_left o os (ap (reducible 1) (sym i) ∙ none))
 
-pub group_operands : (p q : Pending) (r : Option Operator) (o : Operator) (os : List Operator) → p ≡ settled 1 q → HaveAll p → r ≡ Some o → IsPopped p.operators os r → HaveAll (record { operators = os; draft = p.draft })
+pub group_operands : (p q : Pending) (r : Option Operator) (o : Operator) (os : List Operator) → p ≡ reduced 1 q → HaveAll p → r ≡ Some o → IsPopped p.operators os r → HaveAll (record { operators = os; draft = p.draft })
 group_operands p q r o os e a s i = behind_group p q o os e a (subst (λ x. IsPopped p.operators os x) s i)
 
 pub not_waiting : (os : List Operator) → is_waiting os ≡ false → os ≡ []
@@ -159,8 +159,8 @@ not_waiting [] e = refl
 not_waiting (o ∷ os) e = absurd (true≢false e)
 
 -- where no `(` is open all that waits is marked at a `)`
-pub ungrouped : (p : Pending) → is_grouped p ≡ false → group_closed p ≡ settled 1 p
-ungrouped p e = by (settled 1 p).operators (settled 1 p).draft e
+pub ungrouped : (p : Pending) → is_grouped p ≡ false → group_closed p ≡ reduced 1 p
+ungrouped p e = by (reduced 1 p).operators (reduced 1 p).draft e
   where
     by : (os : List Operator) (d : Drafted) → is_waiting os ≡ false → group_ended os d ≡ record { operators = os; draft = d }
     by [] d e = refl

@@ -29,10 +29,10 @@ use Rattle.ps_problem.specs.declared.mark.Mark.TheVariants as mark
 use Rattle.ps_problem.specs.Drafts.{Drafted, with_mark, question_at}
 use Rattle.ps_parse.specs.declared.operator.Operator.{Operator}
 use Rattle.ps_parse.specs.declared.operator.Operator.TheVariants as operator
-use Rattle.ps_parse.specs.Pending.{waiting, settled, settled_from}
+use Rattle.ps_parse.specs.Pending.{waiting, reduced, reduced_from}
 use Rattle.ps_parse.specs.Machine.{ItemSoFar, Work, Machine, lowest, value_in, with_pending, with_atom, operand_ended, numbered, numbered_as, with_query, with_conditional, formula_ended, probability_ended, closed_behind, stated, with_side, side_in, taken}
-use Rattle.ps_parse.specs.Standing.{operators_of, lefts_of, HasFormula, HasProb, IsWorkOf, IsFollowed}
-use Rattle.ps_parse.proofs.Settling.{IsSettled, settles}
+use Rattle.ps_parse.specs.Derivations.{operators_of, lefts_of, HasFormula, HasProb, IsWorkOf, IsFollowed}
+use Rattle.ps_parse.proofs.Reducing.{IsReduced, reduces}
 
 -- items
 
@@ -91,13 +91,13 @@ has_begun q c fs gs i e h = (h.0, subst (λ xs. HasFormula xs c i) (sym e) h.1)
 
 module _ (es : List Entry) (q : Bool) (c : Option Form) where
   ended_does : (fs : List Frame) (f : Form) (os : List Operator) (d : Drafted) (i : ItemSoFar) → os ≡ operators_of fs → d.«open» ≡ lefts_of fs ++ formula_of f ∷ [] → AreItems es d.items → HasBegun q d.formulas c i
-      → IsWorkOf (behind_operand es q c fs f) (record { pending = settled_from 5 os d; item = i })
-  ended_does fs f os d i o e k h = subst (λ xs. IsWorkOf (behind_operand es q c fs f) (record { pending = settled_from 5 xs d; item = i })) (sym o)
-      (let s = settles 5 fs f d (omega arith) e in record {
+      → IsWorkOf (behind_operand es q c fs f) (record { pending = reduced_from 5 os d; item = i })
+  ended_does fs f os d i o e k h = subst (λ xs. IsWorkOf (behind_operand es q c fs f) (record { pending = reduced_from 5 xs d; item = i })) (sym o)
+      (let s = reduces 5 fs f d (omega arith) e in record {
         operators = s.operators;
         «open» = s.«open»;
         items = subst (λ is. AreItems es is) (sym s.items) k;
-        item = has_begun q c d.formulas (settled_from 5 (operators_of fs) d).draft.formulas i s.formulas h;
+        item = has_begun q c d.formulas (reduced_from 5 (operators_of fs) d).draft.formulas i s.formulas h;
       })
 
   operand_does : (fs : List Frame) (f : Form) (w : Work) (d : Drafted) → IsWorkOf (InOperand es q c fs) w → IsBehind w.pending.draft d (formula_of f) → IsWorkOf (behind_operand es q c fs f) (with_pending w (operand_ended w.pending d))
@@ -192,14 +192,14 @@ not_true false e = refl
 
 module _ (es : List Entry) (q : Bool) (c : Option Form) (fs : List Frame) (f : Form) (w : Work) (s : IsParse (InOperator es q c fs f)) (h : IsWorkOf (InOperator es q c fs f) w) where
   -- the frames of a level are joined
-  joined_at : (k : ℕ) → 1 ≤ k → IsSettled w.pending.draft (settled k w.pending) (joins k fs f).0 (joins k fs f).1
-  joined_at k l = subst (λ os. IsSettled w.pending.draft (settled_from k os w.pending.draft) (joins k fs f).0 (joins k fs f).1) (sym h.operators) (settles k fs f w.pending.draft l h.«open»)
+  joined_at : (k : ℕ) → 1 ≤ k → IsReduced w.pending.draft (reduced k w.pending) (joins k fs f).0 (joins k fs f).1
+  joined_at k l = subst (λ os. IsReduced w.pending.draft (reduced_from k os w.pending.draft) (joins k fs f).0 (joins k fs f).1) (sym h.operators) (reduces k fs f w.pending.draft l h.«open»)
 
-  kept_items : (k : ℕ) → 1 ≤ k → AreItems es (settled k w.pending).draft.items
+  kept_items : (k : ℕ) → 1 ≤ k → AreItems es (reduced k w.pending).draft.items
   kept_items k l = subst (λ is. AreItems es is) (sym (joined_at k l).items) h.items
 
-  kept_formula : (k : ℕ) → 1 ≤ k → HasBegun q (settled k w.pending).draft.formulas c w.item
-  kept_formula k l = has_begun q c w.pending.draft.formulas (settled k w.pending).draft.formulas w.item (joined_at k l).formulas h.item
+  kept_formula : (k : ℕ) → 1 ≤ k → HasBegun q (reduced k w.pending).draft.formulas c w.item
+  kept_formula k l = has_begun q c w.pending.draft.formulas (reduced k w.pending).draft.formulas w.item (joined_at k l).formulas h.item
 
   and_does : IsWorkOf (parsed (InOperator es q c fs f) (Sign Ampersand)) (taken (state_of (InOperator es q c fs f)) w (Sign Ampersand))
   and_does = let j = joined_at 4 (omega arith) in record { operators = ap (λ os. operator.And ∷ os) j.operators; «open» = j.«open»; items = kept_items 4 (omega arith); item = kept_formula 4 (omega arith) }
@@ -216,20 +216,20 @@ module _ (es : List Entry) (q : Bool) (c : Option Form) (fs : List Frame) (f : F
   closing_does : IsWorkOf (parsed (InOperator es q c fs f) (Sign Close)) (taken (state_of (InOperator es q c fs f)) w (Sign Close))
   closing_does =
       let j = joined_at 1 (omega arith) in
-      subst (λ os. IsWorkOf (behind_close es q c (joins 1 fs f).0 (joins 1 fs f).1) (closed_behind w.item os (settled 1 w.pending).draft)) (sym j.operators)
-      (close_does es q c (joins 1 fs f).0 (joins 1 fs f).1 (settled 1 w.pending).draft w.item (joins_need 1 fs f (omega arith)) j.«open» (kept_items 1 (omega arith)) (kept_formula 1 (omega arith)))
+      subst (λ os. IsWorkOf (behind_close es q c (joins 1 fs f).0 (joins 1 fs f).1) (closed_behind w.item os (reduced 1 w.pending).draft)) (sym j.operators)
+      (close_does es q c (joins 1 fs f).0 (joins 1 fs f).1 (reduced 1 w.pending).draft w.item (joins_need 1 fs f (omega arith)) j.«open» (kept_items 1 (omega arith)) (kept_formula 1 (omega arith)))
 
-  given_does : (b : Bool) → (may_be_given (state_of (InOperator es q c fs f)) && b) ≡ true → IsWorkOf (InOperand es q (Some (joins 1 fs f).1) []) (with_conditional (formula_ended (with_pending w (settled 1 w.pending))) true)
+  given_does : (b : Bool) → (may_be_given (state_of (InOperator es q c fs f)) && b) ≡ true → IsWorkOf (InOperand es q (Some (joins 1 fs f).1) []) (with_conditional (formula_ended (with_pending w (reduced 1 w.pending))) true)
   given_does b e =
       let m = both (may_be_given (state_of (InOperator es q c fs f))) b e in
       let none = both (not (list_any is_group (opened_of fs))) (not (is_some c)) m.0 in
       let all : (joins 1 fs f).0 ≡ [] = all_joined fs f s.3 s.2.frames (not_true (list_any is_group (opened_of fs)) none.0) in
       let j = joined_at 1 (omega arith) in
-      let one : (settled 1 w.pending).draft.«open» ≡ formula_of (joins 1 fs f).1 ∷ [] = j.«open» ∙ ap (λ gs. lefts_of gs ++ formula_of (joins 1 fs f).1 ∷ []) all in
+      let one : (reduced 1 w.pending).draft.«open» ≡ formula_of (joins 1 fs f).1 ∷ [] = j.«open» ∙ ap (λ gs. lefts_of gs ++ formula_of (joins 1 fs f).1 ∷ []) all in
       let k = kept_formula 1 (omega arith) in
-      let u : w.item.conditional ≡ false = conditional_is c (settled 1 w.pending).draft.formulas w.item k.1 ∙ not_true (is_some c) none.1 in
-      let p = prob_ended None (joins 1 fs f).1 (settled 1 w.pending).draft w.item one u in
-      record { operators = refl; «open» = refl; items = kept_items 1 (omega arith); item = (query_kept w.item.conditional w.item (length (settled 1 w.pending).draft.formulas) ∙ k.0, (p.formula, p.below.0, refl)) }
+      let u : w.item.conditional ≡ false = conditional_is c (reduced 1 w.pending).draft.formulas w.item k.1 ∙ not_true (is_some c) none.1 in
+      let p = prob_ended None (joins 1 fs f).1 (reduced 1 w.pending).draft w.item one u in
+      record { operators = refl; «open» = refl; items = kept_items 1 (omega arith); item = (query_kept w.item.conditional w.item (length (reduced 1 w.pending).draft.formulas) ∙ k.0, (p.formula, p.below.0, refl)) }
 
   at_operator : (t : Token) → refusal (state_of (InOperator es q c fs f)) t ≡ None → IsWorkOf (parsed (InOperator es q c fs f) t) (taken (state_of (InOperator es q c fs f)) w t)
   at_operator (Sign Close) r = closing_does

@@ -25,13 +25,13 @@ use Rattle.ps_lex.specs.declared.token.Token.{Token}
 use Rattle.ps_lex.specs.declared.token.Token.TheVariants as token
 use Rattle.ps_expect.specs.KeptTokens.{token_of}
 use Rattle.ps_problem.specs.Drafts.{Drafted, canonical_nesting}
-use Rattle.ps_parse.specs.Pending.{Pending, settled, settled_from, firsts, HaveFirst, HaveAll, IsEndable}
+use Rattle.ps_parse.specs.Pending.{Pending, reduced, reduced_from, firsts, HaveFirst, HaveAll, IsEndable}
 use Rattle.ps_parse.specs.Machine.{ItemSoFar, Work, Machine}
-use Rattle.ps_parse.specs.Standing.{operators_of, lefts_of, HasFormula, IsWorkOf, IsParsed}
+use Rattle.ps_parse.specs.Derivations.{operators_of, lefts_of, HasFormula, IsWorkOf, IsParsed}
 use Rattle.ps_parse.specs.Taking.{IsKept}
-use Rattle.ps_parse.specs.Ready.{IsOperand, IsWhole, MayClose, MayEnd, IsReady}
+use Rattle.ps_parse.specs.Ready.{IsOperand, IsWhole, MayClose, MayEnd, MayBeTaken}
 use Rattle.ps_parse.proofs.CanonicalNesting.{canonical_nests}
-use Rattle.ps_parse.proofs.Settling.{IsSettled, settles}
+use Rattle.ps_parse.proofs.Reducing.{IsReduced, reduces}
 use Rattle.ps_parse.proofs.Values.{is_ratio}
 use Rattle.ps_parse.proofs.Next.{not_true}
 
@@ -100,19 +100,19 @@ below None fs i h e = absurd (true≢false (sym e ∙ h))
 below (Some f) fs i h e = h.1
 
 module _ (es : List Entry) (q : Bool) (c : Option Form) (fs : List Frame) (f : Form) (w : Work) (s : IsParse (InOperator es q c fs f)) (h : IsWorkOf (InOperator es q c fs f) w) where
-  settled_is : IsSettled w.pending.draft (settled 1 w.pending) (joins 1 fs f).0 (joins 1 fs f).1
-  settled_is = subst (λ os. IsSettled w.pending.draft (settled_from 1 os w.pending.draft) (joins 1 fs f).0 (joins 1 fs f).1) (sym h.operators) (settles 1 fs f w.pending.draft (omega arith) h.«open»)
+  reduced_is : IsReduced w.pending.draft (reduced 1 w.pending) (joins 1 fs f).0 (joins 1 fs f).1
+  reduced_is = subst (λ os. IsReduced w.pending.draft (reduced_from 1 os w.pending.draft) (joins 1 fs f).0 (joins 1 fs f).1) (sym h.operators) (reduces 1 fs f w.pending.draft (omega arith) h.«open»)
 
-  ends : (joins 1 fs f).0 ≡ [] → IsEndable (settled 1 w.pending).draft
+  ends : (joins 1 fs f).0 ≡ [] → IsEndable (reduced 1 w.pending).draft
   ends e =
       let i : IsNextOperand (joins 1 fs f).0 (joins 1 fs f).1 = joins_fits 1 fs f (omega arith) s.2 in
-      endable (settled 1 w.pending).draft (joins 1 fs f).1 (settled_is.«open» ∙ ap (λ gs. lefts_of gs ++ formula_of (joins 1 fs f).1 ∷ []) e) i.form
+      endable (reduced 1 w.pending).draft (joins 1 fs f).1 (reduced_is.«open» ∙ ap (λ gs. lefts_of gs ++ formula_of (joins 1 fs f).1 ∷ []) e) i.form
       (subst (λ gs. Nests (length (opened_of gs)) (joins 1 fs f).1) e i.nests)
 
   may_close : MayClose w
   may_close = record {
-    formula = λ e. ends (no_frames (joins 1 fs f).0 (sym settled_is.operators ∙ e));
-    given = λ e. subst (λ gs. w.item.formula < length gs) (sym settled_is.formulas) (below c w.pending.draft.formulas w.item h.item.1 e);
+    formula = λ e. ends (no_frames (joins 1 fs f).0 (sym reduced_is.operators ∙ e));
+    given = λ e. subst (λ gs. w.item.formula < length gs) (sym reduced_is.formulas) (below c w.pending.draft.formulas w.item h.item.1 e);
   }
 
   is_whole : (b : Bool) → (may_be_given (state_of (InOperator es q c fs f)) && b) ≡ true → IsWhole w
@@ -120,7 +120,7 @@ module _ (es : List Entry) (q : Bool) (c : Option Form) (fs : List Frame) (f : F
       let m = both (may_be_given (state_of (InOperator es q c fs f))) b e in
       let none = both (not (list_any is_group (opened_of fs))) (not (is_some c)) m.0 in
       let all : (joins 1 fs f).0 ≡ [] = all_joined fs f s.3 s.2.frames (not_true (list_any is_group (opened_of fs)) none.0) in
-      record { operators = settled_is.operators ∙ ap operators_of all; formula = ends all }
+      record { operators = reduced_is.operators ∙ ap operators_of all; formula = ends all }
 
   may_end : (t : text.Token) → refusal (state_of (InOperator es q c fs f)) t ≡ None → MayEnd w t
   may_end (Sign Close) r = may_close
@@ -148,7 +148,7 @@ number_alike t = refl
 first_sound : (es : List Entry) (p : Prob) (t : text.Token) → AreEntries es × IsProb p → refusal (outside part.First) t ≡ None → IsProbability (number_in t)
 first_sound es p t s r = (steps (InFirst es p) t s r).within.2
 
-ready : (p : Parse) (t : text.Token) (w : Work) → IsWordKept t → IsParse p → IsWorkOf p w → refusal (state_of p) t ≡ None → IsReady (state_of p).part w t
+ready : (p : Parse) (t : text.Token) (w : Work) → IsWordKept t → IsParse p → IsWorkOf p w → refusal (state_of p) t ≡ None → MayBeTaken (state_of p).part w t
 ready InPsat t w k s h r = tt
 ready InVersion t w k s h r = tt
 ready InHeadEnd t w k s h r = tt
@@ -168,7 +168,7 @@ ready (InSecond es p x) t w k s h r = (h.item.0.below, (steps (InSecond es p x) 
 ready (InBracketEnd es p x y) t w k s h r = tt
 ready (InItemEnd es e) t w k s h r = tt
 
-pub ready_at : (m : Machine) (t : Token) → IsParsed m → IsKept t → refusal m.state (token_of t) ≡ None → IsReady m.state.part m.work (token_of t)
+pub ready_at : (m : Machine) (t : Token) → IsParsed m → IsKept t → refusal m.state (token_of t) ≡ None → MayBeTaken m.state.part m.work (token_of t)
 ready_at m t i k r =
     let same = i.stands.state in
-    subst (λ s. IsReady s.part m.work (token_of t)) (sym same) (ready i.parse (token_of t) m.work (word_kept t k) i.stands.sound i.stands.work (subst (λ s. refusal s (token_of t) ≡ None) same r))
+    subst (λ s. MayBeTaken s.part m.work (token_of t)) (sym same) (ready i.parse (token_of t) m.work (word_kept t k) i.stands.sound i.stands.work (subst (λ s. refusal s (token_of t) ≡ None) same r))

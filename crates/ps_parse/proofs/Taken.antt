@@ -8,7 +8,7 @@ use Rattle.ps_expect.specs.KeptTokens.{token_of}
 use Rattle.ps_text.specs.PartialParses.{InPsat, parsed}
 use Rattle.ps_parse.specs.declared.parser.Parser.{Parser}
 use Rattle.ps_parse.specs.Machine.{at_first, Work, Machine, taken_at, next}
-use Rattle.ps_parse.specs.Standing.{IsParsed}
+use Rattle.ps_parse.specs.Derivations.{IsParsed}
 use Rattle.ps_parse.specs.Taking.{IsKept, CountsAtMost, begun_at, IsTaken}
 use Rattle.ps_parse.specs.Kept.{machine_of, places_of}
 use Rattle.ps_parse.proofs.Next.{followed}

@@ -12,21 +12,27 @@ use Rattle.ps_parse.specs.declared.parser.Parser.{Parser}
 use Rattle.ps_parse.specs.Pending.{Pending}
 use Rattle.ps_parse.specs.Machine.{ItemSoFar, Work, Machine}
 
+-- what waits, and the draft, of a parser of formulas
 abbrev pub pending_of : FormulaParser → Pending
 pending_of p = record { operators = p.operators; draft = p.draft }
 
+-- the draft of a parser of formulas
 abbrev pub draft_of : FormulaParser → Drafted
 draft_of p = p.draft
 
+-- the fraction of a value
 abbrev pub ratio_of : Value → Ratio
 ratio_of v = record { num = v.num; den = v.den }
 
+-- what of an item was read
 abbrev pub item_of : declared.ItemSoFar → ItemSoFar
 item_of i = record { query = i.query; conditional = i.conditional; formula = i.formula; given = i.given; side = i.side; least = ratio_of i.least }
 
+-- what waits with the draft, and the item so far, of a parser of items
 abbrev pub work_of : ItemParser → Work
 work_of p = record { pending = pending_of p.formulas; item = item_of p.item }
 
+-- the machine that a parser is
 abbrev pub machine_of : Parser → Machine
 machine_of p = record { state = expected.state_of p.state; work = work_of p.items }
 

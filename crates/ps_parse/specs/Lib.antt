@@ -1,8 +1,7 @@
--- Meaning
-pub mod Taking
--- Bridge: the machine over tokens, which derivation its state stands for, and what the parser keeps
+-- Bridge: the machine over tokens, which derivation its state stands for, what the parser keeps, and what taking a token does
 pub mod Pending
 pub mod Machine
-pub mod Standing
+pub mod Derivations
 pub mod Ready
 pub mod Kept
+pub mod Taking

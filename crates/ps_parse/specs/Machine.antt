@@ -17,7 +17,7 @@ use Rattle.ps_problem.specs.Numbering.{same_name, with_new}
 use Rattle.ps_problem.specs.Drafts.{Drafted, with_mark, with_formula, with_item, formula_at, question_at}
 use Rattle.ps_parse.specs.declared.operator.Operator.{Operator}
 use Rattle.ps_parse.specs.declared.operator.Operator.TheVariants as operator
-use Rattle.ps_parse.specs.Pending.{Pending, waiting, settled}
+use Rattle.ps_parse.specs.Pending.{Pending, waiting, reduced}
 
 -- what of an item was read: whether it is a query, whether `given` stood, the numbers of its formula and of its condition, how it
 -- is bounded, and an interval's least value
@@ -61,9 +61,11 @@ lowest r = record { num = r.num / gcd r.num r.den; den = r.den / gcd r.num r.den
 abbrev pub value_in : Token → Ratio
 value_in t = lowest (ratio_of (number_in t))
 
+-- the work with another draft
 abbrev pub with_draft : Work → Drafted → Work
 with_draft w d = record { pending = record { operators = w.pending.operators; draft = d }; item = w.item }
 
+-- the work with other operators that wait, and their draft
 abbrev pub with_pending : Work → Pending → Work
 with_pending w p = record { pending = p; item = w.item }
 
@@ -82,7 +84,7 @@ with_word d w = if bytes_eq w (codes "true") then with_constant d true else (if 
 
 -- behind an operand each `!` before it is marked
 abbrev pub operand_ended : Pending → Drafted → Pending
-operand_ended p d = settled 5 (record { operators = p.operators; draft = d })
+operand_ended p d = reduced 5 (record { operators = p.operators; draft = d })
 
 -- in the place of an operand
 abbrev pub operand_taken : Pending → Token → Pending
@@ -96,6 +98,7 @@ abbrev pub numbered_as : Bool → ItemSoFar → ℕ → ItemSoFar
 numbered_as false i n = record { query = i.query; conditional = i.conditional; formula = n; given = None; side = i.side; least = i.least }
 numbered_as true i n = record { query = i.query; conditional = i.conditional; formula = i.formula; given = Some n; side = i.side; least = i.least }
 
+-- the number of a formula that ended, in the item so far
 abbrev pub numbered : ItemSoFar → ℕ → ItemSoFar
 numbered i n = numbered_as i.conditional i n
 
@@ -126,22 +129,23 @@ probability_ended false w = formula_ended w
 -- at a `)`, where all is marked that waits behind its `(`
 abbrev pub closed_behind : ItemSoFar → List Operator → Drafted → Work
 closed_behind i [] d = probability_ended i.query (record { pending = record { operators = []; draft = d }; item = i })
-closed_behind i (o ∷ os) d = record { pending = settled 5 (record { operators = os; draft = d }); item = i }
+closed_behind i (o ∷ os) d = record { pending = reduced 5 (record { operators = os; draft = d }); item = i }
 
+-- at a `)`, where all is reduced that waits behind its `(`
 abbrev pub closed : ItemSoFar → Pending → Work
 closed i p = closed_behind i p.operators p.draft
 
 -- at a `given`
 abbrev pub given_taken : Work → Work
-given_taken w = with_conditional (formula_ended (with_pending w (settled 1 w.pending))) true
+given_taken w = with_conditional (formula_ended (with_pending w (reduced 1 w.pending))) true
 
 -- behind an operand
 abbrev pub operator_taken : Work → Token → Work
-operator_taken w (Sign Close) = closed w.item (settled 1 w.pending)
-operator_taken w (Sign Ampersand) = with_pending w (waiting operator.And (settled 4 w.pending))
-operator_taken w (Sign Bar) = with_pending w (waiting operator.Or (settled 3 w.pending))
-operator_taken w (Sign Arrow) = with_pending w (waiting operator.Implies (settled 3 w.pending))
-operator_taken w (Sign DoubleArrow) = with_pending w (waiting operator.Iff (settled 1 w.pending))
+operator_taken w (Sign Close) = closed w.item (reduced 1 w.pending)
+operator_taken w (Sign Ampersand) = with_pending w (waiting operator.And (reduced 4 w.pending))
+operator_taken w (Sign Bar) = with_pending w (waiting operator.Or (reduced 3 w.pending))
+operator_taken w (Sign Arrow) = with_pending w (waiting operator.Implies (reduced 3 w.pending))
+operator_taken w (Sign DoubleArrow) = with_pending w (waiting operator.Iff (reduced 1 w.pending))
 operator_taken w t = given_taken w
 
 -- the side of a relation; an interval is at least its least value
@@ -150,9 +154,11 @@ side_in (Sign Equals) = side.Exactly
 side_in (Sign LessEquals) = side.AtMost
 side_in t = side.AtLeast
 
+-- the item so far is bounded on this side
 abbrev pub with_side : Work → Side → Work
 with_side w s = record { pending = w.pending; item = record { query = w.item.query; conditional = w.item.conditional; formula = w.item.formula; given = w.item.given; side = s; least = w.item.least } }
 
+-- the least value of an interval
 abbrev pub with_least : Work → Ratio → Work
 with_least w r = record { pending = w.pending; item = record { query = w.item.query; conditional = w.item.conditional; formula = w.item.formula; given = w.item.given; side = w.item.side; least = r } }
 
@@ -160,6 +166,7 @@ with_least w r = record { pending = w.pending; item = record { query = w.item.qu
 abbrev pub stated : List (formula.Formula Name) → ItemSoFar → Ratio → Option Ratio → Item
 stated fs i r upper = Stated (record { formula = formula_at fs i.formula; given = option_map (formula_at fs) i.given; side = i.side; value = r; upper = upper })
 
+-- the item so far is in the draft, as a statement with these values
 abbrev pub with_sentence : Work → Ratio → Option Ratio → Work
 with_sentence w r upper = with_draft w (with_item w.pending.draft (stated w.pending.draft.formulas w.item r upper))
 
@@ -176,6 +183,7 @@ taken_at part.First w t = with_least w (value_in t)
 taken_at part.Second w t = with_sentence w w.item.least (Some (value_in t))
 taken_at p w t = w
 
+-- what a token does in this state
 abbrev pub taken : State → Work → Token → Work
 taken s w t = taken_at s.part w t
 

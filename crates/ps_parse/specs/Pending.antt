@@ -34,36 +34,37 @@ pub record Pending : Type 0 where
 abbrev pub waiting : Operator → Pending → Pending
 waiting o p = record { operators = o ∷ p.operators; draft = p.draft }
 
--- each operator that waits last and binds at least so tightly is marked
-abbrev pub settled_from : ℕ → List Operator → Drafted → Pending
-settled_from k [] d = record { operators = []; draft = d }
-settled_from k (o ∷ os) d = if nat_le k (binding o) then settled_from k os (with_mark d (mark_of o)) else record { operators = o ∷ os; draft = d }
+-- each operator that waits last and binds at least so tightly is reduced: it is marked, and waits no more
+abbrev pub reduced_from : ℕ → List Operator → Drafted → Pending
+reduced_from k [] d = record { operators = []; draft = d }
+reduced_from k (o ∷ os) d = if nat_le k (binding o) then reduced_from k os (with_mark d (mark_of o)) else record { operators = o ∷ os; draft = d }
 
-abbrev pub settled : ℕ → Pending → Pending
-settled k p = settled_from k p.operators p.draft
+-- the same of all operators that wait
+abbrev pub reduced : ℕ → Pending → Pending
+reduced k p = reduced_from k p.operators p.draft
 
--- the operator that waits last, if it binds at least so tightly
-abbrev pub due : ℕ → List Operator → Option Operator
-due k [] = None
-due k (o ∷ os) = if nat_le k (binding o) then Some o else None
+-- the operator that is to be reduced next: the one that waits last, if it binds at least so tightly
+abbrev pub reducible : ℕ → List Operator → Option Operator
+reducible k [] = None
+reducible k (o ∷ os) = if nat_le k (binding o) then Some o else None
 
 -- something waits
 abbrev pub is_waiting : List Operator → Bool
 is_waiting [] = false
 is_waiting (o ∷ os) = true
 
--- a `(` is open: something waits that isn't marked at a `)`
+-- a `(` is open: something waits that isn't reduced at a `)`
 abbrev pub is_grouped : Pending → Bool
-is_grouped p = is_waiting (settled 1 p).operators
+is_grouped p = is_waiting (reduced 1 p).operators
 
--- behind a `)`: the `(` that waits last waits no more, and each `!` before it is marked
+-- behind a `)`: the `(` that waits last waits no more, and each `!` before it is reduced
 abbrev pub group_ended : List Operator → Drafted → Pending
 group_ended [] d = record { operators = []; draft = d }
-group_ended (o ∷ os) d = settled 5 (record { operators = os; draft = d })
+group_ended (o ∷ os) d = reduced 5 (record { operators = os; draft = d })
 
--- at a `)` all is marked that waits behind the last `(`, or all that waits
+-- at a `)` all is reduced that waits behind the last `(`, or all that waits
 abbrev pub group_closed : Pending → Pending
-group_closed p = group_ended (settled 1 p).operators (settled 1 p).draft
+group_closed p = group_ended (reduced 1 p).operators (reduced 1 p).draft
 
 -- how many operators have a first operand
 abbrev pub firsts : List Operator → ℕ

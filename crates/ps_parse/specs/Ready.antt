@@ -11,13 +11,14 @@ use Rattle.ps_text.specs.Grammar.{IsProbability}
 use Rattle.ps_text.specs.PartialParses.{number_in}
 use Rattle.ps_problem.specs.declared.limits.TheConstants.{MOST_DRAFTED}
 use Rattle.ps_problem.specs.Drafts.{AreBelow, IsRatio}
-use Rattle.ps_parse.specs.Pending.{settled, HaveFirst, HaveAll, IsEndable}
+use Rattle.ps_parse.specs.Pending.{reduced, HaveFirst, HaveAll, IsEndable}
 use Rattle.ps_parse.specs.Machine.{Work}
 
 -- a word other than `true` and `false` is a name
 abbrev pub IsOperandWord : List ℕ → Type 0
 IsOperandWord w = bytes_eq w (codes "true") ≡ false → bytes_eq w (codes "false") ≡ false → IsName w
 
+-- a token in the place of an operand, if it is a word, is an operand
 abbrev pub IsOperand : text.Token → Type 0
 IsOperand (Word w) = IsOperandWord w
 IsOperand t = Unit {0}
@@ -29,18 +30,18 @@ pub record HasRoom (w : Work) : Type 0 where
   pub items : length w.pending.draft.items < MOST_DRAFTED
 
 -- the item's formulas are in the draft
-abbrev pub IsNumbered : Work → Type 0
-IsNumbered w = AreBelow (length w.pending.draft.formulas) w.item.formula w.item.given
+abbrev pub HasDraftedFormulas : Work → Type 0
+HasDraftedFormulas w = AreBelow (length w.pending.draft.formulas) w.item.formula w.item.given
 
 -- all that waits is marked before a formula ends
 pub record IsWhole (w : Work) : Type 0 where
-  pub operators : (settled 1 w.pending).operators ≡ []
-  pub formula : IsEndable (settled 1 w.pending).draft
+  pub operators : (reduced 1 w.pending).operators ≡ []
+  pub formula : IsEndable (reduced 1 w.pending).draft
 
 -- a `)` may end the formula where no `(` is open
 pub record MayClose (w : Work) : Type 0 where
-  pub formula : (settled 1 w.pending).operators ≡ [] → IsEndable (settled 1 w.pending).draft
-  pub given : w.item.conditional ≡ true → w.item.formula < length (settled 1 w.pending).draft.formulas
+  pub formula : (reduced 1 w.pending).operators ≡ [] → IsEndable (reduced 1 w.pending).draft
+  pub given : w.item.conditional ≡ true → w.item.formula < length (reduced 1 w.pending).draft.formulas
 
 -- the formula may end where the token ends it
 abbrev pub MayEnd : Work → text.Token → Type 0
@@ -52,10 +53,10 @@ MayEnd w (Sign DoubleArrow) = Unit {0}
 MayEnd w t = IsWhole w
 
 -- the token may be taken at this part
-abbrev pub IsReady : Part → Work → text.Token → Type 0
-IsReady part.Operand w t = HaveFirst w.pending × IsOperand t
-IsReady part.Operator w t = HaveAll w.pending × MayEnd w t
-IsReady part.Number w t = IsNumbered w × IsProbability (number_in t)
-IsReady part.First w t = IsProbability (number_in t)
-IsReady part.Second w t = IsNumbered w × IsProbability (number_in t) × IsRatio w.item.least.num w.item.least.den × (w.item.side ≡ side.AtLeast)
-IsReady p w t = Unit {0}
+abbrev pub MayBeTaken : Part → Work → text.Token → Type 0
+MayBeTaken part.Operand w t = HaveFirst w.pending × IsOperand t
+MayBeTaken part.Operator w t = HaveAll w.pending × MayEnd w t
+MayBeTaken part.Number w t = HasDraftedFormulas w × IsProbability (number_in t)
+MayBeTaken part.First w t = IsProbability (number_in t)
+MayBeTaken part.Second w t = HasDraftedFormulas w × IsProbability (number_in t) × IsRatio w.item.least.num w.item.least.den × (w.item.side ≡ side.AtLeast)
+MayBeTaken p w t = Unit {0}

@@ -2,7 +2,7 @@
 use Rattle.std.specs.Prelude.{◌≡◌, ◌≤◌, ◌+◌, ◌++◌, ℕ, Bool, true, false, not, ◌&&◌, if◌then◌else◌, List, [], ◌∷◌, Some, None, codes, length, IsTrue}
 use Rattle.ps_meaning.specs.Names.{is_word}
 use Rattle.ps_text.specs.Tokens as text
-use Rattle.ps_text.specs.Tokens.{Word, Sign, is_the_word}
+use Rattle.ps_text.specs.Tokens.{Word, is_the_word}
 use Rattle.ps_text.specs.declared.part.Part.{Part}
 use Rattle.ps_text.specs.declared.part.Part.TheVariants as part
 use Rattle.ps_text.specs.ExpectedTokens.{refusal}
@@ -14,7 +14,7 @@ use Rattle.ps_parse.specs.declared.parser.Parser.{Parser}
 use Rattle.ps_parse.specs.declared.parse_error.ParseError.{ParseError}
 use Rattle.ps_parse.specs.declared.parse_error.ParseError.TheVariants as error
 use Rattle.ps_parse.specs.Machine.{Machine, next}
-use Rattle.ps_parse.specs.Standing.{IsParsed}
+use Rattle.ps_parse.specs.Derivations.{IsParsed}
 use Rattle.ps_parse.specs.Kept.{machine_of, drafted_in, places_of}
 
 -- where the token is a word, it is spelled as one
@@ -28,6 +28,7 @@ pub record CountsAtMost (n : ℕ) (m : Machine) : Type 0 where
   pub formulas : length (drafted_in m).formulas ≤ n
   pub items : length (drafted_in m).items ≤ n
 
+-- whether an item is expected at a part
 abbrev pub is_item : Part → Bool
 is_item part.Item = true
 is_item p = false
@@ -49,6 +50,6 @@ pub record IsTaken (old : Parser) (t : Token) (place : Position) (new : Parser) 
   pub places : places_of new ≡ places_of old ++ begun_at (machine_of old).state.part (token_of t) place
 
 -- a refused token changes nothing
-abbrev pub IsRefusal : Parser → Token → Parser → ParseError → Type 0
-IsRefusal old t new (error.Refused kind) = (refusal (machine_of old).state (token_of t) ≡ Some kind) × (machine_of new ≡ machine_of old) × (places_of new ≡ places_of old)
-IsRefusal old t new error.NoMemory = Unit {0}
+abbrev pub IsTokenRefused : Parser → Token → Parser → ParseError → Type 0
+IsTokenRefused old t new (error.Refused kind) = (refusal (machine_of old).state (token_of t) ≡ Some kind) × (machine_of new ≡ machine_of old) × (places_of new ≡ places_of old)
+IsTokenRefused old t new error.NoMemory = Unit {0}

@@ -4,7 +4,7 @@ ghost use Rattle.ps_meaning.specs.Names.{IsName};
 ghost use Rattle.ps_problem.specs.declared.limits.TheConstants.{MOST_DRAFTED};
 ghost use Rattle.ps_problem.specs.Drafts.{with_formula};
 ghost use Rattle.ps_expect.specs.KeptTokens.{token_of};
-ghost use Rattle.ps_parse.specs.Pending.{binding, due, settled, waiting, HaveFirst, HaveAll};
+ghost use Rattle.ps_parse.specs.Pending.{binding, reducible, reduced, waiting, HaveFirst, HaveAll};
 ghost use Rattle.ps_parse.specs.Pending.{is_grouped, group_closed, IsEndable};
 ghost use Rattle.ps_parse.specs.Machine.{operand_taken, operand_ended};
 ghost use Rattle.ps_parse.specs.Machine.{with_atom, with_constant, with_word};
@@ -47,8 +47,8 @@ impl FormulaParser {
     }
 
     // The operator that waits last, if it binds at least so tightly.
-    fn due(&self, level: u8) -> Option<Operator>
-        ensures { result ≡ due level self.now.operators }
+    fn reducible(&self, level: u8) -> Option<Operator>
+        ensures { result ≡ reducible level self.now.operators }
     {
         match self.operators.top() {
             Some(operator) if level <= operator.binding() => Some(*operator),
@@ -58,15 +58,15 @@ impl FormulaParser {
 
     /// Marks each operator that waits last and binds at least as tightly as this one. For want of
     /// memory only some of them may be marked.
-    pub(crate) fn settle(&mut self, operator: Operator) -> Result<(), NoMemory>
+    pub(crate) fn reduce(&mut self, operator: Operator) -> Result<(), NoMemory>
         requires operator { 1 ≤ binding operator }
         requires operands { HaveAll (pending_of self.old) }
-        ensures settled { OnOk result
-            (pending_of self.new ≡ settled (binding operator) (pending_of self.old)) }
+        ensures reduced { OnOk result
+            (pending_of self.new ≡ reduced (binding operator) (pending_of self.old)) }
         ensures operands { OnOk result (HaveAll (pending_of self.new)) }
     {
         let level = operator.binding();
-        while let Some(last) = self.due(level) {
+        while let Some(last) = self.reducible(level) {
             self.draft.mark(last.mark())?;
             let _ = self.operators.pop();
         }
@@ -87,7 +87,7 @@ impl FormulaParser {
         } else {
             self.draft.mark(Mark::False)?;
         }
-        self.settle(Operator::Not)
+        self.reduce(Operator::Not)
     }
 
     /// An atom is the next operand, and each `!` before it is marked. For want of memory only
@@ -102,7 +102,7 @@ impl FormulaParser {
     {
         let number = self.draft.name(name)?;
         self.draft.mark(Mark::Name(number))?;
-        self.settle(Operator::Not)
+        self.reduce(Operator::Not)
     }
 
     /// Takes a token in the place of an operand: `!` or `(`, which waits, or a word, an operand.
@@ -144,9 +144,9 @@ impl FormulaParser {
         requires level { 1 ≤ binding level }
         requires operands { HaveAll (pending_of self.old) }
         ensures { OnOk result (pending_of self.new
-            ≡ waiting operator (settled (binding level) (pending_of self.old))) }
+            ≡ waiting operator (reduced (binding level) (pending_of self.old))) }
     {
-        self.settle(level)?;
+        self.reduce(level)?;
         self.wait(operator)
     }
 
@@ -158,10 +158,10 @@ impl FormulaParser {
         ensures grouped { IfOk result (λ r. r ≡ is_grouped (pending_of self.old)) }
         ensures closed { OnOk result (pending_of self.new ≡ group_closed (pending_of self.old)) }
     {
-        self.settle(Operator::Iff)?;
+        self.reduce(Operator::Iff)?;
         match self.operators.pop() {
             Some(_) => {
-                self.settle(Operator::Not)?;
+                self.reduce(Operator::Not)?;
                 Ok(true)
             }
             None => Ok(false),

@@ -3,10 +3,10 @@ ghost use Rattle.std.specs.Prelude.{◌≡◌, ◌<◌, [], length, OnOk, option
 ghost use Rattle.ps_problem.specs.declared.limits.TheConstants.{MOST_DRAFTED};
 ghost use Rattle.ps_problem.specs.Drafts.{IsRatio, IsUpperOf};
 ghost use Rattle.ps_expect.specs.KeptTokens.{token_of};
-ghost use Rattle.ps_parse.specs.Pending.{settled, HaveAll, IsEndable};
+ghost use Rattle.ps_parse.specs.Pending.{reduced, HaveAll, IsEndable};
 ghost use Rattle.ps_parse.specs.Machine.{formula_ended, asked, closed, operator_taken};
 ghost use Rattle.ps_parse.specs.Machine.{at_first, given_taken, with_sentence, side_in, taken_at};
-ghost use Rattle.ps_parse.specs.Ready.{HasRoom, IsNumbered, IsWhole, MayClose, MayEnd, IsReady};
+ghost use Rattle.ps_parse.specs.Ready.{HasRoom, HasDraftedFormulas, IsWhole, MayClose, MayEnd, MayBeTaken};
 ghost use Rattle.ps_parse.specs.Kept.{draft_of, ratio_of, work_of};
 
 use crate::formula_parser::FormulaParser;
@@ -67,7 +67,7 @@ impl ItemParser {
 
     // Asks for the item's probability.
     fn query(&mut self) -> Result<(), NoMemory>
-        requires formulas { IsNumbered (work_of self.old) }
+        requires formulas { HasDraftedFormulas (work_of self.old) }
         requires room { length (draft_of self.old.formulas).items < MOST_DRAFTED }
         ensures { OnOk result (work_of self.new ≡ asked (work_of self.old)) }
     {
@@ -81,7 +81,7 @@ impl ItemParser {
         requires end { MayClose (work_of self.old) }
         requires room { HasRoom (work_of self.old) }
         ensures { OnOk result (work_of self.new
-            ≡ closed (work_of self.old).item (settled 1 (work_of self.old).pending)) }
+            ≡ closed (work_of self.old).item (reduced 1 (work_of self.old).pending)) }
     {
         if self.formulas.close()? {
             return Ok(());
@@ -124,7 +124,7 @@ impl ItemParser {
         requires room { HasRoom (work_of self.old) }
         ensures { OnOk result (work_of self.new ≡ given_taken (work_of self.old)) }
     {
-        self.formulas.settle(Operator::Iff)?;
+        self.formulas.reduce(Operator::Iff)?;
         self.end_formula()?;
         self.item.conditional = true;
         Ok(())
@@ -132,7 +132,7 @@ impl ItemParser {
 
     // States the item with this value and perhaps an upper one.
     fn sentence(&mut self, value: Value, upper: Option<Value>) -> Result<(), NoMemory>
-        requires formulas { IsNumbered (work_of self.old) }
+        requires formulas { HasDraftedFormulas (work_of self.old) }
         requires value { IsRatio value.num value.den }
         requires upper { IsUpperOf self.old.item.side (option_map ratio_of upper) }
         requires room { HasRoom (work_of self.old) }
@@ -157,7 +157,7 @@ impl ItemParser {
 
     /// Takes a token at this part of a text. For want of memory only some of this may be done.
     pub(crate) fn take(&mut self, part: Part, token: &Token) -> Result<(), NoMemory>
-        requires ready { IsReady part (work_of self.old) (token_of token.now) }
+        requires ready { MayBeTaken part (work_of self.old) (token_of token.now) }
         requires room { HasRoom (work_of self.old) }
         ensures { OnOk result
             (work_of self.new ≡ taken_at part (work_of self.old) (token_of token.now)) }

@@ -2,7 +2,7 @@
 ghost use Rattle.ps_text.specs.Tokens.{Token};
 ghost use Rattle.ps_text.specs.PartialParses.{Parse, InPsat};
 ghost use Rattle.ps_parse.specs.Machine.{Machine, at_first};
-ghost use Rattle.ps_parse.specs.Standing.{StandsFor, IsFollowed};
+ghost use Rattle.ps_parse.specs.Derivations.{StandsFor, IsFollowed};
 
 /// The machine over tokens stands for the derivation of the tokens so far: before the first token,
 /// and behind each token that isn't refused. So the items of its draft are what the entries mean.

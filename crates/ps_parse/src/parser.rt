@@ -3,8 +3,8 @@ ghost use Rattle.std.specs.Prelude.{◌≡◌, ◌++◌, ◌-◌, [], OnOk, IfEr
 ghost use Rattle.ps_problem.specs.declared.limits.TheConstants.{MOST_DRAFTED};
 ghost use Rattle.ps_expect.specs.KeptTokens.{token_of};
 ghost use Rattle.ps_parse.specs.Machine.{at_first};
-ghost use Rattle.ps_parse.specs.Standing.{IsParsed};
-ghost use Rattle.ps_parse.specs.Taking.{IsKept, CountsAtMost, begins, begun_at, IsTaken, IsRefusal};
+ghost use Rattle.ps_parse.specs.Derivations.{IsParsed};
+ghost use Rattle.ps_parse.specs.Taking.{IsKept, CountsAtMost, begins, begun_at, IsTaken, IsTokenRefused};
 ghost use Rattle.ps_parse.specs.Kept.{machine_of, places_of, drafted_in};
 
 use crate::ParseError;
@@ -75,7 +75,7 @@ impl Parser {
         requires word { IsKept token.now }
         requires room { CountsAtMost (MOST_DRAFTED - 1) (machine_of self.old) }
         ensures taken { OnOk result (IsTaken self.old token.now place self.new) }
-        ensures refused { IfErr result (IsRefusal self.old token.now self.new) }
+        ensures refused { IfErr result (IsTokenRefused self.old token.now self.new) }
     {
         if let Some(kind) = self.state.refusal(token) {
             return Err(ParseError::Refused(kind));

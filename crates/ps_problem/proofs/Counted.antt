@@ -11,7 +11,7 @@ use Rattle.ps_problem.specs.declared.bound.Bound.{Bound}
 use Rattle.ps_problem.specs.declared.sentence.Sentence.{Sentence}
 use Rattle.ps_problem.specs.Problems.{bounds_in}
 use Rattle.ps_problem.specs.Numbering.{same_formula, with_new, numbered_for, numbered_in_statements, numbered_in_questions, formulas_of, names_among, bound_in, sentence_in}
-use Rattle.ps_problem.specs.Counts.{Excess, Bounds, Queries, Refused, is_atom, excess_with, unless, with_formulas, count_bounds, at_item, with_statements, with_questions, after, counted}
+use Rattle.ps_problem.specs.Counts.{Excess, Bounds, Queries, ItemExcess, is_atom, excess_with, unless, with_formulas, count_bounds, at_item, with_statements, with_questions, after, counted}
 use Rattle.ps_problem.proofs.Nodes.{names-append}
 use Rattle.ps_problem.proofs.Turns.{with-append}
 
@@ -133,7 +133,7 @@ record IsCounted (items : List Item) (fs : List (Formula Name)) : Type 0 where
 is-counted : (items : List Item) (fs : List (Formula Name)) → counted items ≡ Ok fs → IsCounted items fs
 is-counted items fs e = by (with_statements 0 0 [] items) refl e
   where
-    by : (r : Result (List (Formula Name)) Refused) → with_statements 0 0 [] items ≡ r → after r (λ gs. with_questions 0 0 gs items) ≡ Ok fs → IsCounted items fs
+    by : (r : Result (List (Formula Name)) ItemExcess) → with_statements 0 0 [] items ≡ r → after r (λ gs. with_questions 0 0 gs items) ≡ Ok fs → IsCounted items fs
     by (Err x) p e = absurd (cc)
     by (Ok gs) p e =
         let s = statements-are 0 0 [] items gs (omega arith) p in

@@ -11,7 +11,7 @@ use Rattle.ps_problem.specs.declared.span.Span.{Span}
 use Rattle.ps_problem.specs.declared.draft_item.DraftItem.{DraftItem}
 use Rattle.ps_problem.specs.Numbering.{same_name, with_new}
 use Rattle.ps_problem.specs.Drafts.{arity, NameBelow, canonical_nesting, with_name, with_mark, with_formula}
-use Rattle.ps_problem.specs.DraftLists.{standing, part, spelled, item_of, IsDraftItem, drafted, IsSpan, IsDraft}
+use Rattle.ps_problem.specs.DraftLists.{open_after, part, spelled, item_of, IsDraftItem, drafted, IsSpan, IsDraft}
 use Rattle.ps_problem.specs.Numbering.{AreOnce}
 use Rattle.ps_problem.proofs.NameLists.{same_name-true, same_name-refl}
 use Rattle.ps_problem.proofs.Lists.{once-push}
@@ -19,7 +19,7 @@ use Rattle.ps_problem.proofs.Postfix.{standing-push, held-push, below-more, stan
 
 same_spelled : (names : List Name) (ms ms' : List Mark) (spans : List Span) → All (λ s. part ms' s ≡ part ms s) spans → map (spelled names ms') spans ≡ map (spelled names ms) spans
 same_spelled names ms ms' spans h = map-same (spelled names ms') (spelled names ms) spans
-    (All-weaker (λ s. part ms' s ≡ part ms s) (λ s. spelled names ms' s ≡ spelled names ms s) (λ s e. ap (λ p. get_or (standing names [] p) 0 Truth) e) spans h)
+    (All-weaker (λ s. part ms' s ≡ part ms s) (λ s. spelled names ms' s ≡ spelled names ms s) (λ s e. ap (λ p. get_or (open_after names [] p) 0 Truth) e) spans h)
 
 only : (fs : List (Formula Name)) → length fs ≡ 1 → fs ≡ get_or fs 0 Truth ∷ []
 only [] e = absurd (omega arith)
@@ -43,7 +43,7 @@ module _ (names : List Name) (ms : List Mark) (ended : ℕ) (spans : List Span) 
         let e : part (ms ++ m ∷ []) s ≡ part ms s = part-push ms m s k.start (let e = k.end in let w = h.within in omega arith) in
         record { start = k.start; end = k.end; marks = rw e k.marks; nesting = rw e k.nesting }
 
-    pub IsDraft-mark : NameBelow (length names) m → arity m ≤ length (standing names [] (drop ended ms)) → IsDraft names (ms ++ m ∷ []) ended spans items
+    pub IsDraft-mark : NameBelow (length names) m → arity m ≤ length (open_after names [] (drop ended ms)) → IsDraft names (ms ++ m ∷ []) ended spans items
     IsDraft-mark below le = record {
       named = h.named;
       different = h.different;
@@ -56,7 +56,7 @@ module _ (names : List Name) (ms : List Mark) (ended : ℕ) (spans : List Span) 
     }
 
   module _ (more : List Name) where
-    rest-more : standing (names ++ more) [] (drop ended ms) ≡ standing names [] (drop ended ms)
+    rest-more : open_after (names ++ more) [] (drop ended ms) ≡ open_after names [] (drop ended ms)
     rest-more = standing-more names more [] (drop ended ms) (All-drop (NameBelow (length names)) ended ms h.below)
 
     spelled-more : (s : Span) → IsSpan names ms ended s → spelled (names ++ more) ms s ≡ spelled names ms s
@@ -105,25 +105,25 @@ module _ (names : List Name) (ms : List Mark) (ended : ℕ) (spans : List Span) 
     with_name-is =
         let e = added.3 in
         ap (λ ns. drafted ns ms ended spans items) e
-        ∙ rw (rest-more added.0, formulas-more added.0) (ap (λ ns. record { names = ns; «open» = standing names [] (drop ended ms); formulas = map (spelled names ms) spans; items = map (item_of (map (spelled names ms) spans)) items }) (sym e))
+        ∙ rw (rest-more added.0, formulas-more added.0) (ap (λ ns. record { names = ns; «open» = open_after names [] (drop ended ms); formulas = map (spelled names ms) spans; items = map (item_of (map (spelled names ms) spans)) items }) (sym e))
 
     pub IsDraft-name : IsName name → IsDraft (with_new same_name names name) ms ended spans items
     IsDraft-name n = rw added.3 (IsDraft-more added.0 (added.1 (All-push IsName [] name (All-nil IsName) n)) added.2)
 
-  module _ (one : length (standing names [] (drop ended ms)) ≡ 1) (shallow : All (λ f. canonical_nesting f ≤ 100) (standing names [] (drop ended ms))) where
+  module _ (one : length (open_after names [] (drop ended ms)) ≡ 1) (shallow : All (λ f. canonical_nesting f ≤ 100) (open_after names [] (drop ended ms))) where
     rest-is : part ms (record { start = ended; end = length ms }) ≡ drop ended ms
     rest-is = take_rest ms ended
 
-    fresh-is : standing names [] (drop ended ms) ≡ spelled names ms (record { start = ended; end = length ms }) ∷ []
-    fresh-is = only (standing names [] (drop ended ms)) one ∙ ap (λ p. get_or (standing names [] p) 0 Truth ∷ []) (sym rest-is)
+    fresh-is : open_after names [] (drop ended ms) ≡ spelled names ms (record { start = ended; end = length ms }) ∷ []
+    fresh-is = only (open_after names [] (drop ended ms)) one ∙ ap (λ p. get_or (open_after names [] p) 0 Truth ∷ []) (sym rest-is)
 
-    formulas-end : map (spelled names ms) (spans ++ record { start = ended; end = length ms } ∷ []) ≡ map (spelled names ms) spans ++ standing names [] (drop ended ms)
+    formulas-end : map (spelled names ms) (spans ++ record { start = ended; end = length ms } ∷ []) ≡ map (spelled names ms) spans ++ open_after names [] (drop ended ms)
     formulas-end = map-append (spelled names ms) spans (record { start = ended; end = length ms } ∷ []) ∙ ap (λ fs. map (spelled names ms) spans ++ fs) (sym fresh-is)
 
-    items-end : map (item_of (map (spelled names ms) spans ++ standing names [] (drop ended ms))) items ≡ map (item_of (map (spelled names ms) spans)) items
-    items-end = map-same (item_of (map (spelled names ms) spans ++ standing names [] (drop ended ms))) (item_of (map (spelled names ms) spans)) items
-        (All-weaker (IsDraftItem (length spans)) (λ e. item_of (map (spelled names ms) spans ++ standing names [] (drop ended ms)) e ≡ item_of (map (spelled names ms) spans) e)
-        (λ e k. item-more (map (spelled names ms) spans) (standing names [] (drop ended ms)) e (subst (λ n. IsDraftItem n e) (sym (length-map spans (spelled names ms))) k)) items h.sound)
+    items-end : map (item_of (map (spelled names ms) spans ++ open_after names [] (drop ended ms))) items ≡ map (item_of (map (spelled names ms) spans)) items
+    items-end = map-same (item_of (map (spelled names ms) spans ++ open_after names [] (drop ended ms))) (item_of (map (spelled names ms) spans)) items
+        (All-weaker (IsDraftItem (length spans)) (λ e. item_of (map (spelled names ms) spans ++ open_after names [] (drop ended ms)) e ≡ item_of (map (spelled names ms) spans) e)
+        (λ e k. item-more (map (spelled names ms) spans) (open_after names [] (drop ended ms)) e (subst (λ n. IsDraftItem n e) (sym (length-map spans (spelled names ms))) k)) items h.sound)
 
     pub with_formula-is : drafted names ms (length ms) (spans ++ record { start = ended; end = length ms } ∷ []) items ≡ with_formula (drafted names ms ended spans items)
     with_formula-is = rw (drop_all (length ms) ms (omega arith), formulas-end, items-end) refl
@@ -137,7 +137,7 @@ module _ (names : List Name) (ms : List Mark) (ended : ℕ) (spans : List Span) 
       end = omega arith;
       marks = record {
         held = rw rest-is h.held;
-        made = ap (standing names []) rest-is ∙ fresh-is;
+        made = ap (open_after names []) rest-is ∙ fresh-is;
         below = rw rest-is (All-drop (NameBelow (length names)) ended ms h.below);
       };
       nesting = (let k = rw fresh-is at shallow in k 0 Truth (omega arith));

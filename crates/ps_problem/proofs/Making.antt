@@ -16,7 +16,7 @@ use Rattle.ps_problem.specs.Drafts.{Drafted}
 use Rattle.ps_problem.specs.Problems.{parts_of, bounds_in}
 use Rattle.ps_problem.specs.Numbering.{AreOnce, same_name, names_among, sentence_in, query_in, numbered_for, problem_of, formulas_of, node_in}
 use Rattle.ps_problem.specs.Counts.{Excess, Bounds, Queries, count_bounds, with_formulas, at_item, with_statements, with_questions, after, counted}
-use Rattle.ps_problem.specs.Numbered.{IsReady, HasQuestion, GivesQuery, excess_of}
+use Rattle.ps_problem.specs.Numbered.{HasOperands, HasQuestion, GivesQuery, excess_of}
 use Rattle.ps_problem.specs.Problems.{name_at}
 use Rattle.ps_problem.specs.Making.{HasItems, SentencesMade, QueriesMade, IsExcess, question_on}
 use Rattle.ps_problem.proofs.Turns.{with-more}
@@ -152,7 +152,7 @@ module _ (d : Drafted) where
       different = once;
       atoms_are = refl;
       nodes_are = refl;
-      ready = All-nil (IsReady []);
+      ready = All-nil (HasOperands []);
       once = λ k e lt. absurd (omega arith);
       within = All-nil (λ a. a < length d.names);
       few_atoms = omega arith;

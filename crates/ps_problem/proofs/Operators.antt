@@ -10,8 +10,8 @@ use Rattle.ps_problem.specs.declared.mark.Mark.{Mark}
 use Rattle.ps_problem.specs.declared.mark.Mark.TheVariants as mark
 use Rattle.ps_problem.specs.Numbering.{same_formula, place_in, node_in}
 use Rattle.ps_problem.specs.Drafts.{arity, from_top, made_by, marked}
-use Rattle.ps_problem.specs.DraftLists.{standing, AreHeld}
-use Rattle.ps_problem.specs.Numbered.{IsAmong, IsReady, IsStack, operand, node_over, tops}
+use Rattle.ps_problem.specs.DraftLists.{open_after, HaveOperands}
+use Rattle.ps_problem.specs.Numbered.{IsAmong, HasOperands, IsStack, operand, node_over, tops}
 use Rattle.ps_problem.proofs.Lists.{place-below}
 use Rattle.ps_problem.proofs.Nodes.{among-more, place-more}
 use Rattle.ps_problem.proofs.Postfix.{map-same}
@@ -33,7 +33,7 @@ module _ (fs ss : List (Formula Name)) (ps : List ℕ) (s : IsStack fs ss ps) wh
       ∙ get_or-map (place_in same_formula fs) ss (length ss - k) Truth
 
   module _ (names : List Name) where
-    pub operator-ready : (m : Mark) → ((n : ℕ) → m ≡ mark.Name n → ⊥) → arity m ≤ length ps → IsReady fs (made_by names ss m)
+    pub operator-ready : (m : Mark) → ((n : ℕ) → m ≡ mark.Name n → ⊥) → arity m ≤ length ps → HasOperands fs (made_by names ss m)
     operator-ready mark.True not le = tt
     operator-ready mark.False not le = tt
     operator-ready (mark.Name n) not le = absurd (not n refl)
@@ -121,12 +121,12 @@ module _ (names : List Name) where
   flat-marked ss mark.Implies le = flat-two (take (length ss - 2) ss) (from_top ss 2) (from_top ss 1) (Implies (from_top ss 2) (from_top ss 1)) refl ∙ ap (λ zs. flat_map subformulas zs ++ Implies (from_top ss 2) (from_top ss 1) ∷ []) (sym (last-two ss le))
   flat-marked ss mark.Iff le = flat-two (take (length ss - 2) ss) (from_top ss 2) (from_top ss 1) (Iff (from_top ss 2) (from_top ss 1)) refl ∙ ap (λ zs. flat_map subformulas zs ++ Iff (from_top ss 2) (from_top ss 1) ∷ []) (sym (last-two ss le))
 
-  flat-standing : (ss : List (Formula Name)) (ms : List Mark) → AreHeld names ss ms → flat_map subformulas (standing names ss ms) ≡ flat_map subformulas ss ++ tops names ss ms
+  flat-standing : (ss : List (Formula Name)) (ms : List Mark) → HaveOperands names ss ms → flat_map subformulas (open_after names ss ms) ≡ flat_map subformulas ss ++ tops names ss ms
   flat-standing ss [] h = sym (append-nil (flat_map subformulas ss))
   flat-standing ss (m ∷ ms) h = flat-standing (marked names ss m) ms h.1 ∙ ap (λ zs. zs ++ tops names (marked names ss m) ms) (flat-marked ss m h.0) ∙ append_assoc (flat_map subformulas ss) (made_by names ss m ∷ []) (tops names (marked names ss m) ms)
 
   -- marks that spell a formula make its subformulas
-  pub tops-are : (ms : List Mark) (f : Formula Name) → AreHeld names [] ms → standing names [] ms ≡ f ∷ [] → tops names [] ms ≡ subformulas f
+  pub tops-are : (ms : List Mark) (f : Formula Name) → HaveOperands names [] ms → open_after names [] ms ≡ f ∷ [] → tops names [] ms ≡ subformulas f
   tops-are ms f h e = sym (flat-standing [] ms h) ∙ ap (flat_map subformulas) e ∙ append-nil (subformulas f)
 
 -- the numbers that stand open are those of nodes

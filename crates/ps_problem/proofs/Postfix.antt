@@ -10,13 +10,13 @@ use Rattle.ps_problem.specs.declared.span.Span.{Span}
 use Rattle.ps_problem.specs.declared.draft_item.DraftItem.{DraftItem}
 use Rattle.ps_problem.specs.declared.draft_item.DraftItem.TheVariants as item
 use Rattle.ps_problem.specs.Drafts.{arity, made_by, marked, NameBelow, formula_at, ratio_of}
-use Rattle.ps_problem.specs.DraftLists.{standing, AreHeld, part, item_of, IsDraftItem}
+use Rattle.ps_problem.specs.DraftLists.{open_after, HaveOperands, part, item_of, IsDraftItem}
 
-pub standing-push : (names : List Name) (fs : List (Formula Name)) (ms : List Mark) (m : Mark) → standing names fs (ms ++ m ∷ []) ≡ marked names (standing names fs ms) m
+pub standing-push : (names : List Name) (fs : List (Formula Name)) (ms : List Mark) (m : Mark) → open_after names fs (ms ++ m ∷ []) ≡ marked names (open_after names fs ms) m
 standing-push names fs [] m = refl
 standing-push names fs (n ∷ ms) m = standing-push names (marked names fs n) ms m
 
-pub held-push : (names : List Name) (fs : List (Formula Name)) (ms : List Mark) (m : Mark) → AreHeld names fs ms → arity m ≤ length (standing names fs ms) → AreHeld names fs (ms ++ m ∷ [])
+pub held-push : (names : List Name) (fs : List (Formula Name)) (ms : List Mark) (m : Mark) → HaveOperands names fs ms → arity m ≤ length (open_after names fs ms) → HaveOperands names fs (ms ++ m ∷ [])
 held-push names fs [] m h le = (le, tt)
 held-push names fs (n ∷ ms) m h le = (h.0, held-push names (marked names fs n) ms m h.1 le)
 
@@ -44,13 +44,13 @@ made-more names more fs mark.Iff h = refl
 marked-more : (names more : List Name) (fs : List (Formula Name)) (m : Mark) → NameBelow (length names) m → marked (names ++ more) fs m ≡ marked names fs m
 marked-more names more fs m h = ap (λ f. take (length fs - arity m) fs ++ f ∷ []) (made-more names more fs m h)
 
-pub standing-more : (names more : List Name) (fs : List (Formula Name)) (ms : List Mark) → All (NameBelow (length names)) ms → standing (names ++ more) fs ms ≡ standing names fs ms
+pub standing-more : (names more : List Name) (fs : List (Formula Name)) (ms : List Mark) → All (NameBelow (length names)) ms → open_after (names ++ more) fs ms ≡ open_after names fs ms
 standing-more names more fs [] h = refl
 standing-more names more fs (m ∷ ms) h =
-    ap (λ gs. standing (names ++ more) gs ms) (marked-more names more fs m (All-head (NameBelow (length names)) m ms h))
+    ap (λ gs. open_after (names ++ more) gs ms) (marked-more names more fs m (All-head (NameBelow (length names)) m ms h))
     ∙ standing-more names more (marked names fs m) ms (All-tail (NameBelow (length names)) m ms h)
 
-pub held-more : (names more : List Name) (fs : List (Formula Name)) (ms : List Mark) → All (NameBelow (length names)) ms → AreHeld names fs ms → AreHeld (names ++ more) fs ms
+pub held-more : (names more : List Name) (fs : List (Formula Name)) (ms : List Mark) → All (NameBelow (length names)) ms → HaveOperands names fs ms → HaveOperands (names ++ more) fs ms
 held-more names more fs [] h held = tt
 held-more names more fs (m ∷ ms) h held = (
   held.0,

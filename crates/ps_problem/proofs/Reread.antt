@@ -10,7 +10,7 @@ use Rattle.ps_text.proofs.Canonicals.{canonical_front}
 use Rattle.ps_text.proofs.Nesting.{parenthesis, nesting_at as nesting, nests_canonical}
 use Rattle.ps_problem.specs.Problems.{Parts}
 use Rattle.ps_problem.specs.Numbering.{same_name, place_in, names_among, numbered_for, formulas_of, problem_of}
-use Rattle.ps_problem.specs.Counts.{Excess, Bounds, Queries, Refused, with_formulas, count_bounds, at_item, with_statements, with_questions, after, counted}
+use Rattle.ps_problem.specs.Counts.{Excess, Bounds, Queries, ItemExcess, with_formulas, count_bounds, at_item, with_statements, with_questions, after, counted}
 use Rattle.ps_problem.specs.Drafts.{canonical_nesting, nesting_at, IsRatio, IsUpperOf, IsLawful, IsNested}
 use Rattle.ps_problem.specs.Soundness.{IsProblem}
 use Rattle.ps_problem.specs.Numbered.{IsAmong, HasQuestion}
@@ -83,7 +83,7 @@ module _ (fs : List (Formula Name)) (o : Ordered fs) (named : All IsName (names_
 
 -- counts: an order of statements first passes no limit either
 
-at-both : {X Y : Type 0} (n m : ℕ) (r : Result X Excess) (more others : X → Result Y Refused) (y : Y) → at_item n r more ≡ Ok y → ((x : X) → more x ≡ Ok y → others x ≡ Ok y) → at_item m r others ≡ Ok y
+at-both : {X Y : Type 0} (n m : ℕ) (r : Result X Excess) (more others : X → Result Y ItemExcess) (y : Y) → at_item n r more ≡ Ok y → ((x : X) → more x ≡ Ok y → others x ≡ Ok y) → at_item m r others ≡ Ok y
 at-both n m (Ok x) more others y e h = h x e
 at-both n m (Err x) more others y e h = absurd cc
 
@@ -114,7 +114,7 @@ skipped (s ∷ ss) items m a fs gs h = skipped ss items (m + 1) a fs gs h
 counted-listed : (items : List Item) (gs : List (Formula Name)) → counted items ≡ Ok gs → counted (listed (statements_of items) (questions_of items)) ≡ Ok gs
 counted-listed items gs e = by (with_statements 0 0 [] items) refl e
   where
-    by : (r : Result (List (Formula Name)) Refused) → with_statements 0 0 [] items ≡ r → after r (λ fs. with_questions 0 0 fs items) ≡ Ok gs → counted (listed (statements_of items) (questions_of items)) ≡ Ok gs
+    by : (r : Result (List (Formula Name)) ItemExcess) → with_statements 0 0 [] items ≡ r → after r (λ fs. with_questions 0 0 fs items) ≡ Ok gs → counted (listed (statements_of items) (questions_of items)) ≡ Ok gs
     by (Err x) s h = absurd cc
     by (Ok fs) s h =
         ap (λ r. after r (λ xs. with_questions 0 0 xs (listed (statements_of items) (questions_of items)))) (statements-counted items 0 0 0 [] fs (questions_of items) s)

@@ -10,7 +10,7 @@ use Rattle.ps_problem.specs.declared.building.Building.{Building}
 use Rattle.ps_problem.specs.Numbering.{same_formula}
 use Rattle.ps_problem.specs.Counts.{Excess, excess_with, unless, with_formulas, after}
 use Rattle.ps_problem.specs.Drafts.{arity, made_by, marked}
-use Rattle.ps_problem.specs.DraftLists.{standing, AreHeld, AreMarks, root}
+use Rattle.ps_problem.specs.DraftLists.{open_after, HaveOperands, AreMarks, root}
 use Rattle.ps_problem.specs.Numbered.{Built, IsStack, IsNumberOf, GivesNumber, excess_of, tops, MarksNumbered}
 use Rattle.ps_problem.proofs.Postfix.{standing-push}
 use Rattle.ps_problem.proofs.Operators.{length-stand, stand-marked, tops-are}
@@ -49,7 +49,7 @@ pub from-no-error : {X E P : Type 0} (r : Result X E) → false ≡ is_err r →
 from-no-error (Ok x) e p = p
 from-no-error (Err x) e p = absurd (true≢false (sym e))
 
-pub held-at : (names : List Name) (ss : List (Formula Name)) (ms : List Mark) (i : ℕ) (d : Mark) → AreHeld names ss ms → i < length ms → arity (get_or ms i d) ≤ length (standing names ss (take i ms))
+pub held-at : (names : List Name) (ss : List (Formula Name)) (ms : List Mark) (i : ℕ) (d : Mark) → HaveOperands names ss ms → i < length ms → arity (get_or ms i d) ≤ length (open_after names ss (take i ms))
 held-at names ss [] i d h lt = absurd (omega arith)
 held-at names ss (m ∷ ms) zero d h lt = h.0
 held-at names ss (m ∷ ms) (suc i) d h lt = held-at names (marked names ss m) ms i d h.1 (omega arith)
@@ -57,46 +57,46 @@ held-at names ss (m ∷ ms) (suc i) d h lt = held-at names (marked names ss m) m
 module _ (names : List Name) (start : List (Formula Name)) (all : List Mark) where
   -- the first turn
   pub reached-start : (b : Building) (h : Built names b.atoms b.formulas) → MarksNumbered names h.formulas all 0 b []
-  reached-start b h = record { built = h; stand = record { places = refl; among = λ k d lt. absurd (omega arith) }; rest = refl }
+  reached-start b h = record { built = h; stack_is = record { places = refl; among = λ k d lt. absurd (omega arith) }; rest = refl }
 
   module _ (i : ℕ) (b : Building) (stack : List ℕ) (r : MarksNumbered names start all i b stack) (d : Mark) (lt : i < length all) where
-    rest-is : with_formulas r.built.formulas (made_by names (standing names [] (take i all)) (get_or all i d) ∷ tops names (marked names (standing names [] (take i all)) (get_or all i d)) (drop (i + 1) all))
+    rest-is : with_formulas r.built.formulas (made_by names (open_after names [] (take i all)) (get_or all i d) ∷ tops names (marked names (open_after names [] (take i all)) (get_or all i d)) (drop (i + 1) all))
         ≡ with_formulas start (tops names [] all)
-    rest-is = ap (λ ms. with_formulas r.built.formulas (tops names (standing names [] (take i all)) ms)) (sym (drop_more all i d lt)) ∙ r.rest
+    rest-is = ap (λ ms. with_formulas r.built.formulas (tops names (open_after names [] (take i all)) ms)) (sym (drop_more all i d lt)) ∙ r.rest
 
-    split : with_formulas start (tops names [] all) ≡ after (with_formulas r.built.formulas (made_by names (standing names [] (take i all)) (get_or all i d) ∷ []))
-        (λ gs. with_formulas gs (tops names (marked names (standing names [] (take i all)) (get_or all i d)) (drop (i + 1) all)))
-    split = sym rest-is ∙ with-append r.built.formulas (made_by names (standing names [] (take i all)) (get_or all i d) ∷ []) (tops names (marked names (standing names [] (take i all)) (get_or all i d)) (drop (i + 1) all))
+    split : with_formulas start (tops names [] all) ≡ after (with_formulas r.built.formulas (made_by names (open_after names [] (take i all)) (get_or all i d) ∷ []))
+        (λ gs. with_formulas gs (tops names (marked names (open_after names [] (take i all)) (get_or all i d)) (drop (i + 1) all)))
+    split = sym rest-is ∙ with-append r.built.formulas (made_by names (open_after names [] (take i all)) (get_or all i d) ∷ []) (tops names (marked names (open_after names [] (take i all)) (get_or all i d)) (drop (i + 1) all))
 
     pub reached-stop : (b' : Building) (x : Fault)
-        → GivesNumber names (with_formulas r.built.formulas (made_by names (standing names [] (take i all)) (get_or all i d) ∷ [])) (made_by names (standing names [] (take i all)) (get_or all i d)) b'.atoms b'.formulas (Err x)
+        → GivesNumber names (with_formulas r.built.formulas (made_by names (open_after names [] (take i all)) (get_or all i d) ∷ [])) (made_by names (open_after names [] (take i all)) (get_or all i d)) b'.atoms b'.formulas (Err x)
         → IfSome (excess_of x) (λ e. with_formulas start (tops names [] all) ≡ Err e)
     reached-stop b' x f = by (excess_of x) f
       where
-        by : (o : Option Excess) → IfSome o (λ e. with_formulas r.built.formulas (made_by names (standing names [] (take i all)) (get_or all i d) ∷ []) ≡ Err e) → IfSome o (λ e. with_formulas start (tops names [] all) ≡ Err e)
+        by : (o : Option Excess) → IfSome o (λ e. with_formulas r.built.formulas (made_by names (open_after names [] (take i all)) (get_or all i d) ∷ []) ≡ Err e) → IfSome o (λ e. with_formulas start (tops names [] all) ≡ Err e)
         by None f = tt
-        by (Some e) f = split ∙ ap (λ q. after q (λ gs. with_formulas gs (tops names (marked names (standing names [] (take i all)) (get_or all i d)) (drop (i + 1) all)))) f
+        by (Some e) f = split ∙ ap (λ q. after q (λ gs. with_formulas gs (tops names (marked names (open_after names [] (take i all)) (get_or all i d)) (drop (i + 1) all)))) f
 
     pub reached-next : (b' : Building) (n : ℕ) → arity (get_or all i d) ≤ length stack
-        → GivesNumber names (with_formulas r.built.formulas (made_by names (standing names [] (take i all)) (get_or all i d) ∷ [])) (made_by names (standing names [] (take i all)) (get_or all i d)) b'.atoms b'.formulas (Ok n)
+        → GivesNumber names (with_formulas r.built.formulas (made_by names (open_after names [] (take i all)) (get_or all i d) ∷ [])) (made_by names (open_after names [] (take i all)) (get_or all i d)) b'.atoms b'.formulas (Ok n)
         → MarksNumbered names start all (i + 1) b' (take (length stack - arity (get_or all i d)) stack ++ n ∷ [])
     reached-next b' n le f =
-        let more = with-more r.built.formulas (made_by names (standing names [] (take i all)) (get_or all i d) ∷ []) f.0.formulas f.1 in
-        let there = subst (λ gs. IsNumberOf gs (made_by names (standing names [] (take i all)) (get_or all i d)) n) more.1 f.2 in
-        let s = stand-marked r.built.formulas (standing names [] (take i all)) stack r.stand names more.0 (get_or all i d) n le there.0 there.1 in
+        let more = with-more r.built.formulas (made_by names (open_after names [] (take i all)) (get_or all i d) ∷ []) f.0.formulas f.1 in
+        let there = subst (λ gs. IsNumberOf gs (made_by names (open_after names [] (take i all)) (get_or all i d)) n) more.1 f.2 in
+        let s = stand-marked r.built.formulas (open_after names [] (take i all)) stack r.stack_is names more.0 (get_or all i d) n le there.0 there.1 in
         let e = standing-push names [] (take i all) (get_or all i d) in
         let t = take_more all i d lt in
         record {
           built = f.0;
-          stand = subst (λ gs. IsStack gs (standing names [] (take (i + 1) all)) (take (length stack - arity (get_or all i d)) stack ++ n ∷ [])) (sym more.1)
-              (subst (λ ss. IsStack (r.built.formulas ++ more.0) ss (take (length stack - arity (get_or all i d)) stack ++ n ∷ [])) (sym (ap (standing names []) t ∙ e)) s);
-          rest = ap (λ ss. with_formulas f.0.formulas (tops names ss (drop (i + 1) all))) (ap (standing names []) t ∙ e)
-              ∙ sym (ap (λ q. after q (λ gs. with_formulas gs (tops names (marked names (standing names [] (take i all)) (get_or all i d)) (drop (i + 1) all)))) f.1) ∙ sym split;
+          stack_is = subst (λ gs. IsStack gs (open_after names [] (take (i + 1) all)) (take (length stack - arity (get_or all i d)) stack ++ n ∷ [])) (sym more.1)
+              (subst (λ ss. IsStack (r.built.formulas ++ more.0) ss (take (length stack - arity (get_or all i d)) stack ++ n ∷ [])) (sym (ap (open_after names []) t ∙ e)) s);
+          rest = ap (λ ss. with_formulas f.0.formulas (tops names ss (drop (i + 1) all))) (ap (open_after names []) t ∙ e)
+              ∙ sym (ap (λ q. after q (λ gs. with_formulas gs (tops names (marked names (open_after names [] (take i all)) (get_or all i d)) (drop (i + 1) all)))) f.1) ∙ sym split;
         }
 
   module _ (i : ℕ) (b : Building) (stack : List ℕ) (r : MarksNumbered names start all i b stack) (le : length all ≤ i) (m : AreMarks names all (root names all)) where
     stand-end : IsStack r.built.formulas (root names all ∷ []) stack
-    stand-end = subst (λ ss. IsStack r.built.formulas ss stack) (ap (standing names []) (take_all i all le) ∙ m.made) r.stand
+    stand-end = subst (λ ss. IsStack r.built.formulas ss stack) (ap (open_after names []) (take_all i all le) ∙ m.made) r.stack_is
 
     pub one-left : length stack ≡ 1
     one-left = length-stand r.built.formulas (root names all ∷ []) stack stand-end
@@ -105,6 +105,6 @@ module _ (names : List Name) (start : List (Formula Name)) (all : List Mark) whe
     reached-end = (
       r.built,
       ap (with_formulas start) (sym (tops-are names all (root names all) m.held m.made)) ∙ sym r.rest
-          ∙ ap (λ ms. with_formulas r.built.formulas (tops names (standing names [] (take i all)) ms)) (drop_all i all le),
+          ∙ ap (λ ms. with_formulas r.built.formulas (tops names (open_after names [] (take i all)) ms)) (drop_all i all le),
       (stand-end.among 0 Truth (omega arith), ap (λ ns. get_or ns 0 0) stand-end.places),
     )

@@ -6,48 +6,54 @@ use Rattle.ps_meaning.specs.Formula.{Formula, Truth, Falsity, Atom, Not, And, Or
 use Rattle.ps_meaning.specs.Statements.{Name}
 
 -- a formula in postfix order, each entry a number for its kind with a name, and then a rest
-abbrev pub entries : Formula Name → List (ℕ × Name) → List (ℕ × Name)
-entries Truth rest = (0, []) ∷ rest
-entries Falsity rest = (1, []) ∷ rest
-entries (Atom a) rest = (2, a) ∷ rest
-entries (Not f) rest = entries f ((3, []) ∷ rest)
-entries (And f g) rest = entries f (entries g ((4, []) ∷ rest))
-entries (Or f g) rest = entries f (entries g ((5, []) ∷ rest))
-entries (Implies f g) rest = entries f (entries g ((6, []) ∷ rest))
-entries (Iff f g) rest = entries f (entries g ((7, []) ∷ rest))
+abbrev pub postfix : Formula Name → List (ℕ × Name) → List (ℕ × Name)
+postfix Truth rest = (0, []) ∷ rest
+postfix Falsity rest = (1, []) ∷ rest
+postfix (Atom a) rest = (2, a) ∷ rest
+postfix (Not f) rest = postfix f ((3, []) ∷ rest)
+postfix (And f g) rest = postfix f (postfix g ((4, []) ∷ rest))
+postfix (Or f g) rest = postfix f (postfix g ((5, []) ∷ rest))
+postfix (Implies f g) rest = postfix f (postfix g ((6, []) ∷ rest))
+postfix (Iff f g) rest = postfix f (postfix g ((7, []) ∷ rest))
 
+-- the last formula of a stack negated
 abbrev pub over_one : List (Formula Name) → List (Formula Name)
 over_one [] = []
 over_one (f ∷ fs) = Not f ∷ fs
 
+-- the last two formulas of a stack joined by the connective of a kind
 abbrev pub over_two : ℕ → List (Formula Name) → List (Formula Name)
 over_two kind [] = []
 over_two kind (g ∷ []) = []
 over_two kind (g ∷ f ∷ fs) = (if kind == 4 then And f g else (if kind == 5 then Or f g else (if kind == 6 then Implies f g else Iff f g))) ∷ fs
 
 -- the formulas, the last one first, after an entry
-abbrev pub after_entry : List (Formula Name) → ℕ × Name → List (Formula Name)
-after_entry fs e = if e.0 == 0 then Truth ∷ fs else (if e.0 == 1 then Falsity ∷ fs else (if e.0 == 2 then Atom e.1 ∷ fs
+abbrev pub after_symbol : List (Formula Name) → ℕ × Name → List (Formula Name)
+after_symbol fs e = if e.0 == 0 then Truth ∷ fs else (if e.0 == 1 then Falsity ∷ fs else (if e.0 == 2 then Atom e.1 ∷ fs
     else (if e.0 == 3 then over_one fs else over_two e.0 fs)))
 
-abbrev pub after_entries : List (Formula Name) → List (ℕ × Name) → List (Formula Name)
-after_entries fs [] = fs
-after_entries fs (e ∷ es) = after_entries (after_entry fs e) es
+-- the formulas, the last one first, after several symbols
+abbrev pub after_symbols : List (Formula Name) → List (ℕ × Name) → List (Formula Name)
+after_symbols fs [] = fs
+after_symbols fs (e ∷ es) = after_symbols (after_symbol fs e) es
 
+-- the last formula of a stack
 abbrev pub first_of_stack : List (Formula Name) → Formula Name
 first_of_stack [] = Truth
 first_of_stack (f ∷ fs) = f
 
-abbrev pub entries_back : (f : Formula Name) (fs : List (Formula Name)) (rest : List (ℕ × Name)) → after_entries fs (entries f rest) ≡ after_entries (f ∷ fs) rest
-entries_back Truth fs rest = refl
-entries_back Falsity fs rest = refl
-entries_back (Atom a) fs rest = refl
-entries_back (Not f) fs rest = entries_back f fs ((3, []) ∷ rest)
-entries_back (And f g) fs rest = entries_back f fs (entries g ((4, []) ∷ rest)) ∙ entries_back g (f ∷ fs) ((4, []) ∷ rest)
-entries_back (Or f g) fs rest = entries_back f fs (entries g ((5, []) ∷ rest)) ∙ entries_back g (f ∷ fs) ((5, []) ∷ rest)
-entries_back (Implies f g) fs rest = entries_back f fs (entries g ((6, []) ∷ rest)) ∙ entries_back g (f ∷ fs) ((6, []) ∷ rest)
-entries_back (Iff f g) fs rest = entries_back f fs (entries g ((7, []) ∷ rest)) ∙ entries_back g (f ∷ fs) ((7, []) ∷ rest)
+-- the symbols of a formula put it on the stack
+abbrev pub postfix_back : (f : Formula Name) (fs : List (Formula Name)) (rest : List (ℕ × Name)) → after_symbols fs (postfix f rest) ≡ after_symbols (f ∷ fs) rest
+postfix_back Truth fs rest = refl
+postfix_back Falsity fs rest = refl
+postfix_back (Atom a) fs rest = refl
+postfix_back (Not f) fs rest = postfix_back f fs ((3, []) ∷ rest)
+postfix_back (And f g) fs rest = postfix_back f fs (postfix g ((4, []) ∷ rest)) ∙ postfix_back g (f ∷ fs) ((4, []) ∷ rest)
+postfix_back (Or f g) fs rest = postfix_back f fs (postfix g ((5, []) ∷ rest)) ∙ postfix_back g (f ∷ fs) ((5, []) ∷ rest)
+postfix_back (Implies f g) fs rest = postfix_back f fs (postfix g ((6, []) ∷ rest)) ∙ postfix_back g (f ∷ fs) ((6, []) ∷ rest)
+postfix_back (Iff f g) fs rest = postfix_back f fs (postfix g ((7, []) ∷ rest)) ∙ postfix_back g (f ∷ fs) ((7, []) ∷ rest)
 
+-- formulas told apart by their postfix order
 abbrev pub formula_code : Coded (Formula Name)
-formula_code = code_by (List (ℕ × Name)) (coded_list (coded× coded_ℕ (coded_list coded_ℕ))) (λ f. entries f []) (λ es. first_of_stack (after_entries [] es))
-    (λ f i. first_of_stack (entries_back f [] [] i))
+formula_code = code_by (List (ℕ × Name)) (coded_list (coded× coded_ℕ (coded_list coded_ℕ))) (λ f. postfix f []) (λ es. first_of_stack (after_symbols [] es))
+    (λ f i. first_of_stack (postfix_back f [] [] i))

@@ -13,10 +13,11 @@ pub data Excess : Type 0 where
   Atoms Nodes Bounds Queries : Excess
 
 -- an excess, and the item at which it comes, from 1 in the order of the text
-pub record Refused : Type 0 where
+pub record ItemExcess : Type 0 where
   pub excess : Excess
   pub item : ℕ
 
+-- whether a formula is an atom
 abbrev pub is_atom : Formula Name → Bool
 is_atom (formula.Atom a) = true
 is_atom f = false
@@ -42,12 +43,12 @@ abbrev pub count_bounds : Statement → ℕ
 count_bounds s = if is_some s.upper then 2 else 1
 
 -- the result, or else the excess at an item
-abbrev pub at_item : {X Y : Type 0} → ℕ → Result X Excess → (X → Result Y Refused) → Result Y Refused
+abbrev pub at_item : {X Y : Type 0} → ℕ → Result X Excess → (X → Result Y ItemExcess) → Result Y ItemExcess
 at_item n (Err e) more = Err (record { excess = e; item = n })
 at_item n (Ok x) more = more x
 
 -- the formulas of the statements among items behind some formulas; so many items and bounds come before
-abbrev pub with_statements : ℕ → ℕ → List (Formula Name) → List Item → Result (List (Formula Name)) Refused
+abbrev pub with_statements : ℕ → ℕ → List (Formula Name) → List Item → Result (List (Formula Name)) ItemExcess
 with_statements before bounds fs [] = Ok fs
 with_statements before bounds fs (Asked q ∷ items) = with_statements (before + 1) bounds fs items
 with_statements before bounds fs (Stated s ∷ items) = at_item (before + 1)
@@ -55,18 +56,19 @@ with_statements before bounds fs (Stated s ∷ items) = at_item (before + 1)
     (λ gs. with_statements (before + 1) (bounds + count_bounds s) gs items)
 
 -- the formulas of the questions among items behind some formulas; so many items and questions come before
-abbrev pub with_questions : ℕ → ℕ → List (Formula Name) → List Item → Result (List (Formula Name)) Refused
+abbrev pub with_questions : ℕ → ℕ → List (Formula Name) → List Item → Result (List (Formula Name)) ItemExcess
 with_questions before asked fs [] = Ok fs
 with_questions before asked fs (Stated s ∷ items) = with_questions (before + 1) asked fs items
 with_questions before asked fs (Asked q ∷ items) = at_item (before + 1)
     (if nat_lt MOST_QUERIES (asked + 1) then Err Queries else with_formulas fs (numbered_for q.formula q.given))
     (λ gs. with_questions (before + 1) (asked + 1) gs items)
 
+-- the first result where it is an excess, and else what follows it
 abbrev pub after : {X E : Type 0} → Result X E → (X → Result X E) → Result X E
 after (Err e) more = Err e
 after (Ok x) more = more x
 
 -- the different formulas of items, or the first excess: all statements are gone through and then all questions, and
 -- at each the bounds or queries are counted first and then its formulas one by one
-abbrev pub counted : List Item → Result (List (Formula Name)) Refused
+abbrev pub counted : List Item → Result (List (Formula Name)) ItemExcess
 counted items = after (with_statements 0 0 [] items) (λ fs. with_questions 0 0 fs items)

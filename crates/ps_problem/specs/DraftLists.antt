@@ -13,24 +13,24 @@ use Rattle.ps_problem.specs.Numbering.{same_name, AreOnce}
 use Rattle.ps_problem.specs.Drafts.{Drafted, arity, marked, NameBelow, canonical_nesting, IsRatio, IsUpper, AreBelow, formula_at, ratio_of, question_at}
 
 -- the formulas that stand open after some marks
-abbrev pub standing : List Name → List (Formula Name) → List Mark → List (Formula Name)
-standing names fs [] = fs
-standing names fs (m ∷ ms) = standing names (marked names fs m) ms
+abbrev pub open_after : List Name → List (Formula Name) → List Mark → List (Formula Name)
+open_after names fs [] = fs
+open_after names fs (m ∷ ms) = open_after names (marked names fs m) ms
 
 -- each mark finds its operands
-abbrev pub AreHeld : List Name → List (Formula Name) → List Mark → Type 0
-AreHeld names fs [] = Unit {0}
-AreHeld names fs (m ∷ ms) = (arity m ≤ length fs) × AreHeld names (marked names fs m) ms
+abbrev pub HaveOperands : List Name → List (Formula Name) → List Mark → Type 0
+HaveOperands names fs [] = Unit {0}
+HaveOperands names fs (m ∷ ms) = (arity m ≤ length fs) × HaveOperands names (marked names fs m) ms
 
 -- the marks spell the formula
 pub record AreMarks (names : List Name) (ms : List Mark) (f : Formula Name) : Type 0 where
-  pub held : AreHeld names [] ms
-  pub made : standing names [] ms ≡ f ∷ []
+  pub held : HaveOperands names [] ms
+  pub made : open_after names [] ms ≡ f ∷ []
   pub below : All (NameBelow (length names)) ms
 
 -- the formula that marks spell
 abbrev pub root : List Name → List Mark → Formula Name
-root names ms = slice_index_or (standing names [] ms) 0 Truth
+root names ms = slice_index_or (open_after names [] ms) 0 Truth
 
 -- the marks of a span
 abbrev pub part : List Mark → Span → List Mark
@@ -64,7 +64,7 @@ IsDraftItem n (item.Query q) = AreBelow n q.formula q.given
 abbrev pub drafted : List Name → List Mark → ℕ → List Span → List DraftItem → Drafted
 drafted names ms ended spans items = record {
   names = names;
-  «open» = standing names [] (drop ended ms);
+  «open» = open_after names [] (drop ended ms);
   formulas = map (spelled names ms) spans;
   items = map (item_of (map (spelled names ms) spans)) items;
 }
@@ -82,7 +82,7 @@ pub record IsDraft (names : List Name) (ms : List Mark) (ended : ℕ) (spans : L
   pub different : AreOnce same_name names
   pub below : All (NameBelow (length names)) ms
   pub within : ended ≤ length ms
-  pub held : AreHeld names [] (drop ended ms)
+  pub held : HaveOperands names [] (drop ended ms)
   pub formulas : All (IsSpan names ms ended) spans
   pub sound : All (IsDraftItem (length spans)) items
   pub few_items : length items ≤ MOST_DRAFTED

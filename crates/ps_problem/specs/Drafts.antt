@@ -70,6 +70,7 @@ nesting_at required (formula.Or f g) = parenthesis required 3 + max (nesting_at 
 nesting_at required (formula.Implies f g) = parenthesis required 2 + max (nesting_at 3 f) (1 + nesting_at 2 g)
 nesting_at required (formula.Iff f g) = parenthesis required 1 + max (nesting_at 1 f) (nesting_at 2 g)
 
+-- the nesting of a formula's canonical spelling
 abbrev pub canonical_nesting : Formula Name → ℕ
 canonical_nesting f = nesting_at 1 f
 
@@ -80,6 +81,7 @@ pub record IsRatio (num den : ℕ) : Type 0 where
   pub value : num ≤ den
   pub reduced : IsGcd num den 1
 
+-- a numerator and a denominator as a fraction
 abbrev pub ratio_of : ℕ × ℕ → Ratio
 ratio_of r = record { num = r.0; den = r.1 }
 
@@ -118,11 +120,14 @@ AreBelow n f g = (f < n) × IfSome g (λ i. i < n)
 abbrev pub with_name : Drafted → Name → Drafted
 with_name d name = record { names = with_new same_name d.names name; «open» = d.«open»; formulas = d.formulas; items = d.items }
 
+-- a draft behind a mark
 abbrev pub with_mark : Drafted → Mark → Drafted
 with_mark d m = record { names = d.names; «open» = marked d.names d.«open» m; formulas = d.formulas; items = d.items }
 
+-- a draft whose open formula has ended
 abbrev pub with_formula : Drafted → Drafted
 with_formula d = record { names = d.names; «open» = []; formulas = d.formulas ++ d.«open»; items = d.items }
 
+-- a draft with one more item
 abbrev pub with_item : Drafted → Item → Drafted
 with_item d item = record { names = d.names; «open» = d.«open»; formulas = d.formulas; items = d.items ++ item ∷ [] }

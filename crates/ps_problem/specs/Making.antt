@@ -12,13 +12,13 @@ use Rattle.ps_problem.specs.declared.fault.Fault.{Fault}
 use Rattle.ps_problem.specs.declared.assembly.Assembly.{Assembly}
 use Rattle.ps_problem.specs.Problems.{bounds_in}
 use Rattle.ps_problem.specs.Numbering.{sentence_in, query_in}
-use Rattle.ps_problem.specs.Counts.{Refused, with_statements, with_questions, after, counted}
+use Rattle.ps_problem.specs.Counts.{ItemExcess, with_statements, with_questions, after, counted}
 use Rattle.ps_problem.specs.Drafts.{Drafted}
 use Rattle.ps_problem.specs.Numbered.{Built, HasQuestion, excess_of}
 
 -- the refusal of a fault at an item, none where memory ran out
-abbrev pub refused_at : ℕ → Fault → Option Refused
-refused_at item x = option_map (λ e. record { excess = e; item = item }) (excess_of x)
+abbrev pub excess_at : ℕ → Fault → Option ItemExcess
+excess_at item x = option_map (λ e. record { excess = e; item = item }) (excess_of x)
 
 -- a fault at an item tells of the first excess of items
 abbrev pub IsExcess : List Item → ℕ → Fault → Type 0

@@ -15,7 +15,7 @@ use Rattle.ps_problem.specs.declared.fault.Fault.TheVariants as fault
 use Rattle.ps_formula.specs.Nodes.{Adds}
 use Rattle.ps_problem.specs.Counts.{Excess, Atoms, Nodes, Bounds, Queries, with_formulas}
 use Rattle.ps_problem.specs.Drafts.{made_by, marked}
-use Rattle.ps_problem.specs.DraftLists.{standing}
+use Rattle.ps_problem.specs.DraftLists.{open_after}
 use Rattle.ps_problem.specs.declared.building.Building.{Building}
 use Rattle.ps_problem.specs.Problems.{name_at}
 use Rattle.ps_problem.specs.Numbering.{AreOnce, same_name, same_formula, place_in, names_among, node_in, both_of, query_in, numbered_for}
@@ -25,15 +25,15 @@ abbrev pub IsAmong : List (Formula Name) → Formula Name → Type 0
 IsAmong fs f = list_any (same_formula f) fs ≡ true
 
 -- a formula's operands are among some formulas, and an atom's name among theirs
-abbrev pub IsReady : List (Formula Name) → Formula Name → Type 0
-IsReady fs formula.Truth = Unit {0}
-IsReady fs formula.Falsity = Unit {0}
-IsReady fs (formula.Atom a) = list_any (same_name a) (names_among fs) ≡ true
-IsReady fs (formula.Not f) = IsAmong fs f
-IsReady fs (formula.And f g) = IsAmong fs f × IsAmong fs g
-IsReady fs (formula.Or f g) = IsAmong fs f × IsAmong fs g
-IsReady fs (formula.Implies f g) = IsAmong fs f × IsAmong fs g
-IsReady fs (formula.Iff f g) = IsAmong fs f × IsAmong fs g
+abbrev pub HasOperands : List (Formula Name) → Formula Name → Type 0
+HasOperands fs formula.Truth = Unit {0}
+HasOperands fs formula.Falsity = Unit {0}
+HasOperands fs (formula.Atom a) = list_any (same_name a) (names_among fs) ≡ true
+HasOperands fs (formula.Not f) = IsAmong fs f
+HasOperands fs (formula.And f g) = IsAmong fs f × IsAmong fs g
+HasOperands fs (formula.Or f g) = IsAmong fs f × IsAmong fs g
+HasOperands fs (formula.Implies f g) = IsAmong fs f × IsAmong fs g
+HasOperands fs (formula.Iff f g) = IsAmong fs f × IsAmong fs g
 
 -- some formulas whose atoms' names have these numbers among all names, and whose nodes are these
 pub record Built (names : List Name) (atoms : List ℕ) (nodes : List Node) : Type 0 where
@@ -41,7 +41,7 @@ pub record Built (names : List Name) (atoms : List ℕ) (nodes : List Node) : Ty
   pub different : AreOnce same_name names
   pub atoms_are : map (name_at names) atoms ≡ names_among formulas
   pub nodes_are : nodes ≡ map (node_in formulas) formulas
-  pub ready : All (IsReady formulas) formulas
+  pub ready : All (HasOperands formulas) formulas
   pub once : AreOnce same_formula formulas
   pub within : All (λ a. a < length names) atoms
   pub few_atoms : length atoms ≤ MOST_ATOMS
@@ -87,9 +87,9 @@ GivesNumber names expected f atoms nodes (Ok i) = (h : Built names atoms nodes) 
 GivesNumber names expected f atoms nodes (Err x) = IfSome (excess_of x) (λ e. expected ≡ Err e)
 
 -- a stack holds the numbers of formulas that stand open
-pub record IsStack (fs standing : List (Formula Name)) (numbers : List ℕ) : Type 0 where
-  pub places : numbers ≡ map (place_in same_formula fs) standing
-  pub among : All (IsAmong fs) standing
+pub record IsStack (fs opened : List (Formula Name)) (numbers : List ℕ) : Type 0 where
+  pub places : numbers ≡ map (place_in same_formula fs) opened
+  pub among : All (IsAmong fs) opened
 
 -- the formulas that marks make over those that stand open, in order
 abbrev pub tops : List Name → List (Formula Name) → List Mark → List (Formula Name)
@@ -99,8 +99,8 @@ tops names fs (m ∷ ms) = made_by names fs m ∷ tops names (marked names fs m)
 -- as far as a list of marks has been gone through: what is left to be numbered gives what all of them give
 pub record MarksNumbered (names : List Name) (start : List (Formula Name)) (all : List Mark) (i : ℕ) (b : Building) (stack : List ℕ) : Type 0 where
   pub built : Built names b.atoms b.formulas
-  pub stand : IsStack built.formulas (standing names [] (take i all)) stack
-  pub rest : with_formulas built.formulas (tops names (standing names [] (take i all)) (drop i all)) ≡ with_formulas start (tops names [] all)
+  pub stack_is : IsStack built.formulas (open_after names [] (take i all)) stack
+  pub rest : with_formulas built.formulas (tops names (open_after names [] (take i all)) (drop i all)) ≡ with_formulas start (tops names [] all)
 
 -- the formulas of a question are among some
 pub record HasQuestion (fs : List (Formula Name)) (q : Question) : Type 0 where

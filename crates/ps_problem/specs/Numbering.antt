@@ -53,10 +53,12 @@ abbrev pub numbered_for : Formula Name → Option (Formula Name) → List (Formu
 numbered_for f None = subformulas f
 numbered_for f (Some g) = subformulas f ++ subformulas g ++ formula.And f g ∷ []
 
+-- the formulas to be numbered for statements
 abbrev pub numbered_in_statements : List Statement → List (Formula Name)
 numbered_in_statements [] = []
 numbered_in_statements (s ∷ ss) = numbered_for s.formula s.given ++ numbered_in_statements ss
 
+-- the formulas to be numbered for questions
 abbrev pub numbered_in_questions : List Question → List (Formula Name)
 numbered_in_questions [] = []
 numbered_in_questions (q ∷ qs) = numbered_for q.formula q.given ++ numbered_in_questions qs
@@ -98,9 +100,11 @@ bound_in fs s on value = record {
   den = value.den;
 }
 
+-- a statement as a sentence over numbered formulas
 abbrev pub sentence_in : List (Formula Name) → Statement → Sentence
 sentence_in fs s = record { first = bound_in fs s s.side s.value; second = option_map (bound_in fs s side.AtMost) s.upper }
 
+-- a question as a query over numbered formulas
 abbrev pub query_in : List (Formula Name) → Question → Query
 query_in fs q = record {
   formula = place_in same_formula fs q.formula;

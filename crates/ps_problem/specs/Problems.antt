@@ -18,6 +18,7 @@ pub record Parts : Type 0 where
   pub sentences : List Sentence
   pub queries : List Query
 
+-- a problem of these four
 abbrev pub parts_of : List Name → List Node → List Sentence → List Query → Parts
 parts_of names nodes sentences queries = record { names = names; nodes = nodes; sentences = sentences; queries = queries }
 
@@ -74,6 +75,7 @@ pub record IsBound (ns : List Node) (b : Bound) : Type 0 where
   pub den_most : b.den ≤ MOST_DENOMINATOR
   pub num_most : b.num ≤ b.den
 
+-- each bound is over nodes that are there
 abbrev pub AreBounds : List Node → List Bound → Type 0
 AreBounds ns bs = All (IsBound ns) bs
 

@@ -12,9 +12,11 @@ use Rattle.ps_problem.specs.Problems.{name_at}
 abbrev pub named_at : Parts → ℕ → Formula Name
 named_at p i = with_atoms (name_at p.names) (tree_at p.nodes i)
 
+-- the value of a bound
 abbrev pub ratio_at : Bound → Ratio
 ratio_at b = record { num = b.num; den = b.den }
 
+-- the statement that a sentence stands for
 abbrev pub statement_from : Parts → Sentence → Statement
 statement_from p s = record {
   formula = named_at p s.first.formula;
@@ -24,6 +26,7 @@ statement_from p s = record {
   upper = option_map ratio_at s.second;
 }
 
+-- the question that a query stands for
 abbrev pub question_from : Parts → Query → Question
 question_from p q = record { formula = named_at p q.formula; given = option_map (named_at p) q.given }
 
@@ -31,5 +34,6 @@ question_from p q = record { formula = named_at p q.formula; given = option_map 
 abbrev pub listed : List Statement → List Question → List Item
 listed ss qs = map Stated ss ++ map Asked qs
 
+-- the items that a problem stands for
 abbrev pub items_from : Parts → List Item
 items_from p = listed (map (statement_from p) p.sentences) (map (question_from p) p.queries)

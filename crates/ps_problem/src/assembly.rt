@@ -4,7 +4,7 @@ ghost use Rattle.std.specs.Prelude.{length, map, is_some, if◌then◌else◌};
 ghost use Rattle.ps_problem.specs.Problems.{bounds_in};
 ghost use Rattle.ps_problem.specs.Numbered.{Built};
 ghost use Rattle.ps_problem.specs.Problems.{name_at};
-ghost use Rattle.ps_problem.specs.Builds.{IsRefusal, IsBuilt};
+ghost use Rattle.ps_problem.specs.Builds.{TellsExcess, IsBuilt};
 ghost use Rattle.ps_problem.specs.Making.{IsExcess, bound_on, sentence_on};
 ghost use Rattle.ps_problem.specs.Making.{SentencesMade, QueriesMade};
 
@@ -149,7 +149,7 @@ impl Assembly {
     fn sentences(&mut self, alloc: Global, draft: &Draft) -> Result<(), BuildError>
         requires { SentencesMade draft.now 0 self.old }
         ensures ok { OnOk result (SentencesMade draft.now (length draft.now.items) self.new) }
-        ensures err { IfErr result (IsRefusal draft.now.items) }
+        ensures err { IfErr result (TellsExcess draft.now.items) }
     {
         for i in 0..draft.len() {
             if let Err(fault) = self.sentence(alloc, draft, i) {
@@ -163,7 +163,7 @@ impl Assembly {
     fn queries(&mut self, alloc: Global, draft: &Draft) -> Result<(), BuildError>
         requires { QueriesMade draft.now 0 self.old }
         ensures ok { OnOk result (QueriesMade draft.now (length draft.now.items) self.new) }
-        ensures err { IfErr result (IsRefusal draft.now.items) }
+        ensures err { IfErr result (TellsExcess draft.now.items) }
     {
         for i in 0..draft.len() {
             if let Err(fault) = self.query(alloc, draft, i) {

@@ -1,7 +1,7 @@
 //! Why no problem is made of a draft.
 ghost use Rattle.std.specs.Prelude.{◌≡◌};
-ghost use Rattle.ps_problem.specs.Builds.{refused_of};
-ghost use Rattle.ps_problem.specs.Making.{refused_at};
+ghost use Rattle.ps_problem.specs.Builds.{item_excess_of};
+ghost use Rattle.ps_problem.specs.Making.{excess_at};
 
 use crate::fault::Fault;
 use ps_io::NoMemory;
@@ -31,7 +31,7 @@ pub enum BuildError {
 impl BuildError {
     // The error of a fault at an item.
     pub(crate) fn at(fault: Fault, item: u32) -> BuildError
-        ensures { refused_of result ≡ refused_at item fault }
+        ensures { item_excess_of result ≡ excess_at item fault }
     {
         match fault {
             Fault::Atoms => BuildError::TooManyAtoms { item },

@@ -14,7 +14,7 @@ use Rattle.ps_text.proofs.Meant.{meaning_once}
 use Rattle.ps_text.proofs.Excluding.{front_excludes, refusal_once}
 use Rattle.ps_problem.specs.Problems.{Parts}
 use Rattle.ps_problem.specs.Numbering.{problem_of}
-use Rattle.ps_problem.specs.Counts.{Refused, counted}
+use Rattle.ps_problem.specs.Counts.{ItemExcess, counted}
 use Rattle.ps_read.specs.declared.read_kind.ReadKind.{ReadKind}
 use Rattle.ps_read.specs.Kinds.{form_kind, count_kind}
 use Rattle.ps_read.specs.Readings.{SpellsProblem, tokens_up_to, BeginsEntry, IsFormRefused, IsCountRefused, IsUnread, IsFollowedByMore, SpellsWhole, IsUnreadWhole, Reading, Read, Unread, IsReading, IsWholeReading}
@@ -84,10 +84,10 @@ begins_once pieces entries number n m f g =
     f.place_is ∙ ap (λ ps. length (texts ps)) before ∙ sym g.place_is
 
 -- an error is one
-pub err_same : (a b : Refused) (x : Result (List (Formula Name)) Refused) → x ≡ Err a → x ≡ Err b → a ≡ b
+pub err_same : (a b : ItemExcess) (x : Result (List (Formula Name)) ItemExcess) → x ≡ Err a → x ≡ Err b → a ≡ b
 err_same a b x e f = cc
 
-ok_is_no_err : (fs : List (Formula Name)) (r : Refused) (x : Result (List (Formula Name)) Refused) → x ≡ Ok fs → x ≡ Err r → ⊥
+ok_is_no_err : (fs : List (Formula Name)) (r : ItemExcess) (x : Result (List (Formula Name)) ItemExcess) → x ≡ Ok fs → x ≡ Err r → ⊥
 ok_is_no_err fs r x e f = cc
 
 -- two refusals of counts are the same

@@ -11,7 +11,7 @@ use Rattle.ps_lex.specs.Lexing.{new_lexer}
 use Rattle.ps_meaning.specs.Statements.{Item}
 use Rattle.ps_problem.specs.Problems.{Parts}
 use Rattle.ps_problem.specs.Drafts.{Drafted}
-use Rattle.ps_problem.specs.Counts.{Refused, counted}
+use Rattle.ps_problem.specs.Counts.{ItemExcess, counted}
 use Rattle.ps_read.specs.Kinds.{count_kind}
 use Rattle.ps_parse.specs.declared.parser.Parser.{Parser}
 use Rattle.ps_parse.specs.Kept.{drafted_in}
@@ -75,7 +75,7 @@ count_told bytes parser place error.NoMemory e b = tt
 
 -- the item of a count's refusal, and its kind
 record IsKnown (items : List Item) (kind : ReadKind) (item : ℕ) : Type 0 where
-  refusal : Refused
+  refusal : ItemExcess
   counts : counted items ≡ Err refusal
   kind_is : kind ≡ count_kind refusal.excess
   item_is : item ≡ refusal.item
@@ -83,22 +83,22 @@ record IsKnown (items : List Item) (kind : ReadKind) (item : ℕ) : Type 0 where
 same_pair : (a b : ReadKind × ℕ) → Some a ≡ Some b → a ≡ b
 same_pair a b e = cc
 
-known_item : (items : List Item) (o : Option Refused) (kind : ReadKind) (item : ℕ) → IfSome o (λ r. counted items ≡ Err r) → option_map {U = ReadKind × ℕ} (λ r. (count_kind r.excess, r.item)) o ≡ Some (kind, item) → IsKnown items kind item
+known_item : (items : List Item) (o : Option ItemExcess) (kind : ReadKind) (item : ℕ) → IfSome o (λ r. counted items ≡ Err r) → option_map {U = ReadKind × ℕ} (λ r. (count_kind r.excess, r.item)) o ≡ Some (kind, item) → IsKnown items kind item
 known_item items None kind item h e = absurd cc
 known_item items (Some r) kind item h e =
     let same = same_pair (count_kind r.excess, r.item) (kind, item) e in
     record { refusal = r; counts = h; kind_is = sym (ap (λ x. x.0) same); item_is = sym (ap (λ x. x.1) same) }
 
 -- what the error of a count says of what was parsed
-excess_in : (x : Parsed) (d : Drafted) (o : Option Refused) (kind : ReadKind) (item : ℕ) → d ≡ drafted_in x.machine → IfSome o (λ r. counted d.items ≡ Err r) → option_map {U = ReadKind × ℕ} (λ r. (count_kind r.excess, r.item)) o ≡ Some (kind, item)
+excess_in : (x : Parsed) (d : Drafted) (o : Option ItemExcess) (kind : ReadKind) (item : ℕ) → d ≡ drafted_in x.machine → IfSome o (λ r. counted d.items ≡ Err r) → option_map {U = ReadKind × ℕ} (λ r. (count_kind r.excess, r.item)) o ≡ Some (kind, item)
     → IsKnown (drafted_in x.machine).items kind item
 excess_in x d o kind item e h f = subst (λ y. IsKnown y.items kind item) e (known_item d.items o kind item h f)
 
-pub excess_least : (x : Parsed) (d : Drafted) (o : Option Refused) (kind : ReadKind) (item : ℕ) → d ≡ drafted_in x.machine → IfSome o (λ r. counted d.items ≡ Err r) → option_map {U = ReadKind × ℕ} (λ r. (count_kind r.excess, r.item)) o ≡ Some (kind, item)
+pub excess_least : (x : Parsed) (d : Drafted) (o : Option ItemExcess) (kind : ReadKind) (item : ℕ) → d ≡ drafted_in x.machine → IfSome o (λ r. counted d.items ≡ Err r) → option_map {U = ReadKind × ℕ} (λ r. (count_kind r.excess, r.item)) o ≡ Some (kind, item)
     → 1 ≤ item
 excess_least x d o kind item e h f = let k = excess_in x d o kind item e h f in omega (arith, k.item_is, refused_least (drafted_in x.machine).items k.refusal k.counts)
 
-pub excess_below : (x : Parsed) (d : Drafted) (o : Option Refused) (kind : ReadKind) (item : ℕ) (places : List Position) → d ≡ drafted_in x.machine → IfSome o (λ r. counted d.items ≡ Err r)
+pub excess_below : (x : Parsed) (d : Drafted) (o : Option ItemExcess) (kind : ReadKind) (item : ℕ) (places : List Position) → d ≡ drafted_in x.machine → IfSome o (λ r. counted d.items ≡ Err r)
     → option_map {U = ReadKind × ℕ} (λ r. (count_kind r.excess, r.item)) o ≡ Some (kind, item) → AreWhole x → places ≡ x.places → item - 1 < length places
 excess_below x d o kind item places e h f w p =
     let k = excess_in x d o kind item e h f in
@@ -112,7 +112,7 @@ other [] i l = absurd (omega (arith, l))
 other (p ∷ ps) zero l = refl
 other (p ∷ ps) (suc i) l = other ps i (omega (arith, l))
 
-pub excess_told : (x : Parsed) (d : Drafted) (o : Option Refused) (kind : ReadKind) (item : ℕ) (places : List Position) (place : Position) (r : ReadError) → d ≡ drafted_in x.machine → IfSome o (λ r. counted d.items ≡ Err r)
+pub excess_told : (x : Parsed) (d : Drafted) (o : Option ItemExcess) (kind : ReadKind) (item : ℕ) (places : List Position) (place : Position) (r : ReadError) → d ≡ drafted_in x.machine → IfSome o (λ r. counted d.items ≡ Err r)
     → option_map {U = ReadKind × ℕ} (λ r. (count_kind r.excess, r.item)) o ≡ Some (kind, item) → places ≡ x.places → item - 1 < length places → place ≡ get_or places (item - 1) (record { line = 0; column = 0; offset = 0 }) → r ≡ error.At kind place.line place.column → Tells (IsExcessIn x) r
 excess_told x d o kind item places place r e h f p b q t =
     let k = excess_in x d o kind item e h f in

@@ -28,7 +28,7 @@ use Rattle.ps_lex.proofs.Told.{whole_told, bad_told}
 use Rattle.ps_expect.specs.KeptTokens.{token_of}
 use Rattle.ps_expect.proofs.Seen.{judged as judged_alike, goes_on}
 use Rattle.ps_parse.specs.Machine.{Machine, next}
-use Rattle.ps_parse.specs.Standing.{StandsFor}
+use Rattle.ps_parse.specs.Derivations.{StandsFor}
 use Rattle.ps_parse.specs.Kept.{drafted_in}
 use Rattle.ps_parse.specs.Taking.{begun_at}
 use Rattle.ps_parse.proofs.Next.{followed}

@@ -8,19 +8,19 @@ use Rattle.ps_lex.specs.declared.token.Token.{Token}
 use Rattle.ps_lex.specs.Places.{behind, IsWithin}
 use Rattle.ps_lex.specs.Seen.{behind_all}
 use Rattle.ps_lex.specs.Lexing.{LexerState, token_ended, with_byte, last_token, last_bad, bad_place, with_place, stops_or, after_tokens, is_within_token, new_lexer, lexed}
-use Rattle.ps_lex.specs.Passing.{with_bytes, IsQuiet, AreQuiet, Passes}
+use Rattle.ps_lex.specs.Passing.{with_bytes, TellsNothing, TellNothing, Passes}
 use Rattle.ps_lex.proofs.Begun.{First, Told, Bare, begun_first}
 use Rattle.ps_text.specs.declared.kind.ReadKind.TheVariants.{EndMissing}
 use Rattle.ps_read.specs.declared.read_error.ReadError.{ReadError}
 use Rattle.ps_read.specs.declared.read_error.ReadError.TheVariants as error
 use Rattle.ps_text.specs.PartialParses.{InPsat}
 use Rattle.ps_parse.specs.Machine.{Machine, at_first}
-use Rattle.ps_parse.specs.Standing.{StandsFor, IsParsed}
+use Rattle.ps_parse.specs.Derivations.{StandsFor, IsParsed}
 use Rattle.ps_parse.specs.declared.parser.Parser.{Parser}
 use Rattle.ps_parse.specs.Kept.{machine_of}
 use Rattle.ps_parse.specs.Taking.{CountsAtMost}
 use Rattle.ps_read.specs.declared.reader.Reader.{Reader}
-use Rattle.ps_read.specs.Answers.{Parsed, part_of, with_token, is_done, begun_behind, Answer, ended, judged, answer, bad_or, step_answer, Agrees, IsJudged, IsWordMode, IsOneMore, IsReady, HasPassed, AgreesAtEnd, Answers, parsed_by}
+use Rattle.ps_read.specs.Answers.{Parsed, part_of, with_token, is_done, begun_behind, Answer, ended, judged, answer, bad_or, step_answer, Agrees, IsStepAnswered, IsWordMode, IsOneMore, BelongsTogether, HasPassed, AgreesAtEnd, Answers, parsed_by}
 use Rattle.ps_read.proofs.Words.{word_behind}
 
 -- the rest is looked at only where no token is bad before it
@@ -85,7 +85,7 @@ offset_next p b = by (b == 10)
 
 -- the answer behind a byte that was judged
 pub fed : (s n : LexerState) (x y : Parsed) (b : ℕ) (t : Option Token) (began : Position) (bad : Option Position) (result : Result (Option Position) ReadError)
-    → t ≡ token_ended s b → n ≡ with_byte s b → began ≡ s.began → bad ≡ bad_place n.mode → IsJudged t began bad x y result
+    → t ≡ token_ended s b → n ≡ with_byte s b → began ≡ s.began → bad ≡ bad_place n.mode → IsStepAnswered t began bad x y result
     → (more : List ℕ) → Agrees (answer s x (b ∷ more)) (answer n y more) y result
 fed s n x y b t began bad result et en eg eb f more =
     let step : answer s x (b ∷ more) ≡ step_answer t began bad x (λ z. answer n z more) =
@@ -103,7 +103,7 @@ fed_behind n y (Some m) all more e h = h ∙ begun_answers y n more m (sym e)
 
 -- at the end of the bytes
 pub finished : (s : LexerState) (x y : Parsed) (t : Option Token) (began here : Position) (bad : Option Position) (result : Result (Option Position) ReadError)
-    → t ≡ last_token s.mode → began ≡ s.began → bad ≡ last_bad s.mode s.began → here ≡ s.here → IsJudged t began bad x y result
+    → t ≡ last_token s.mode → began ≡ s.began → bad ≡ last_bad s.mode s.began → here ≡ s.here → IsStepAnswered t began bad x y result
     → Agrees (answer s x []) (ended y EndMissing here) y result
 finished s x y t began here bad result et eg eb eh f =
     let step : answer s x [] ≡ step_answer t began bad x (λ z. ended z EndMissing here) =
@@ -123,7 +123,7 @@ unfolding with_byte
 offset_behind s n b e = ap (λ m. m.here.offset) e ∙ offset_next s.here b
 
 -- what was lexed and parsed still belongs together behind a byte
-pub ready_behind : (old new : Reader) (b : ℕ) → IsReady old → new.lexer ≡ with_byte old.lexer b → IsParsed (machine_of new.parser) → IsOneMore old.parser new.parser → IsReady new
+pub ready_behind : (old new : Reader) (b : ℕ) → BelongsTogether old → new.lexer ≡ with_byte old.lexer b → IsParsed (machine_of new.parser) → IsOneMore old.parser new.parser → BelongsTogether new
 ready_behind old new b r e p o = record {
   word = subst (λ s. IsWordMode s.mode) (sym e) (word_behind old.lexer b r.word);
   here = subst (λ s. IsWithin (s.here.offset + 1) s.here) (sym e) (within_behind old.lexer b r.here);
@@ -139,7 +139,7 @@ pub first_stands : StandsFor InPsat at_first
 first_stands = record { sound = tt; state = refl; work = record { operators = refl; «open» = refl; items = tt; item = tt } }
 
 -- nothing is read yet
-pub ready_first : (r : Reader) → r.lexer ≡ new_lexer → machine_of r.parser ≡ at_first → IsReady r
+pub ready_first : (r : Reader) → r.lexer ≡ new_lexer → machine_of r.parser ≡ at_first → BelongsTogether r
 ready_first r e f = record {
   word = subst (λ s. IsWordMode s.mode) (sym e) tt;
   here = subst (λ s. IsWithin (s.here.offset + 1) s.here) (sym e) (record { line = omega arith; column = omega arith; offset = omega arith });
@@ -168,13 +168,13 @@ ended_err all rest y r j e ej er h a = subst (Answers all) (sym er) (err_answers
 
 -- bytes that tell nothing are passed
 
-quiet_step : (s : LexerState) (x : Parsed) (b : ℕ) (bs : List ℕ) → IsQuiet s b → answer s x (b ∷ bs) ≡ answer (with_byte s b) x bs
+quiet_step : (s : LexerState) (x : Parsed) (b : ℕ) (bs : List ℕ) → TellsNothing s b → answer s x (b ∷ bs) ≡ answer (with_byte s b) x bs
 quiet_step s x b bs q =
     answer_step s x b bs
     ∙ ap (λ t. step_answer t s.began (bad_place (with_byte s b).mode) x (λ y. answer (with_byte s b) y bs)) q.token
     ∙ ap (λ p. bad_or p x (λ y. answer (with_byte s b) y bs)) q.place
 
-quiet_answer : (s : LexerState) (x : Parsed) (passed left : List ℕ) → AreQuiet s passed → answer s x (passed ++ left) ≡ answer (with_bytes s passed) x left
+quiet_answer : (s : LexerState) (x : Parsed) (passed left : List ℕ) → TellNothing s passed → answer s x (passed ++ left) ≡ answer (with_bytes s passed) x left
 quiet_answer s x [] left q = refl
 quiet_answer s x (b ∷ bs) left q = quiet_step s x b (bs ++ left) q.0 ∙ quiet_answer (with_byte s b) x bs left q.1
 
@@ -192,13 +192,13 @@ quiet_offset s (b ∷ bs) = omega (arith, quiet_offset (with_byte s b) bs, offse
 
 pub has_passed : (bytes left : List ℕ) (old new : Reader) → Passes old.lexer bytes new.lexer left → new.parser ≡ old.parser → HasPassed bytes old left new
 has_passed bytes left old new p e = record {
-  answer_is = ap (answer old.lexer (parsed_by old.parser)) p.bytes_are ∙ quiet_answer old.lexer (parsed_by old.parser) p.passed left p.quiet
+  answer_is = ap (answer old.lexer (parsed_by old.parser)) p.bytes_are ∙ quiet_answer old.lexer (parsed_by old.parser) p.passed left p.nothing_told
       ∙ ap (λ s. answer s (parsed_by old.parser) left) (sym p.state) ∙ ap (λ x. answer new.lexer (parsed_by x) left) (sym e);
   taken = let l = ap length p.bytes_are in let m = length-append p.passed left in
       let o = ap (λ s. s.here.offset) p.state in omega (arith, l, m, o, quiet_offset old.lexer p.passed);
 }
 
-pub ready_passed : (bytes left : List ℕ) (old new : Reader) → Passes old.lexer bytes new.lexer left → new.parser ≡ old.parser → IsReady old → IsReady new
+pub ready_passed : (bytes left : List ℕ) (old new : Reader) → Passes old.lexer bytes new.lexer left → new.parser ≡ old.parser → BelongsTogether old → BelongsTogether new
 ready_passed bytes left old new p e r = record {
   word = subst (λ s. IsWordMode s.mode) (sym p.state) (quiet_word old.lexer p.passed r.word);
   here = subst (λ s. IsWithin (s.here.offset + 1) s.here) (sym p.state) (quiet_within old.lexer p.passed r.here);

@@ -12,7 +12,7 @@ use Rattle.ps_lex.specs.declared.step.Step.{Step}
 use Rattle.ps_lex.specs.declared.token.Token.{Token}
 use Rattle.ps_lex.specs.declared.token.Token.TheVariants as token
 use Rattle.ps_lex.specs.Counted.{no_digits, with_digit}
-use Rattle.ps_lex.specs.Lexing.{LexerState, begun, symbol_begun, letter_kept, ended, goes_on, stepped_in, token_ended, with_byte, last_token}
+use Rattle.ps_lex.specs.Lexing.{LexerState, begun, symbol_begun, letter_kept, ended, continued, stepped_in, token_ended, with_byte, last_token}
 use Rattle.ps_read.specs.Answers.{IsKeptIn, IsWordMode}
 
 choose : (c : Bool) (m n : Mode) → IsWordMode m → IsWordMode n → IsWordMode (if c then m else n)
@@ -67,7 +67,7 @@ keep : (c : Bool) (x y : Step) → Keeps x → Keeps y → Keeps (if c then x el
 keep true x y h k = h
 keep false x y h k = k
 
-on : (m : Mode) (p : Position) → IsWordMode m → Keeps (goes_on m p)
+on : (m : Mode) (p : Position) → IsWordMode m → Keeps (continued m p)
 on m p h = record { word = h; token = tt }
 
 off : (t : Token) (p : Position) (b : ℕ) → IsKeptIn (Some t) → Keeps (ended t p b)
@@ -76,7 +76,7 @@ off t p b h = record { word = begun_is p b; token = h }
 word_keeps : (w : List ℕ) (began here : Position) (b : ℕ) → IsTrue (is_word w) → Keeps (stepped_in (mode.Word w) began here b)
 word_keeps w began here b h = by (is_word_byte b) refl
   where
-    by : (c : Bool) → is_word_byte b ≡ c → Keeps (if c then goes_on (mode.Word (letter_kept w b)) began else ended (token.Word w) here b)
+    by : (c : Bool) → is_word_byte b ≡ c → Keeps (if c then continued (mode.Word (letter_kept w b)) began else ended (token.Word w) here b)
     by true e = on (mode.Word (letter_kept w b)) began (letter_is w b e h)
     by false e = off (token.Word w) here b h
 
@@ -85,12 +85,12 @@ keeps mode.Between began here b h = record { word = begun_is here b; token = tt 
 keeps mode.Comment began here b h = on _ began (choose (b == 10) mode.Between mode.Comment tt tt)
 keeps (mode.Word w) began here b h = word_keeps w began here b h
 keeps (mode.Whole d) began here b h =
-    keep (is_digit b) (goes_on (mode.Whole (with_digit d b)) began) _ (on _ began tt)
-    (keep (b == 47) (goes_on (mode.Slash d here) began) _ (on _ began tt) (keep (b == 46) (goes_on (mode.Point d here) began) _ (on _ began tt) (off _ here b tt)))
-keeps (mode.Slash d slash) began here b h = keep (is_digit b) (goes_on (mode.Quotient d (with_digit no_digits b)) began) _ (on _ began tt) (record { word = tt; token = tt })
-keeps (mode.Quotient d e) began here b h = keep (is_digit b) (goes_on (mode.Quotient d (with_digit e b)) began) _ (on _ began tt) (off _ here b tt)
-keeps (mode.Point d point) began here b h = keep (is_digit b) (goes_on (mode.Decimal (with_digit d b) 1) began) _ (on _ began tt) (record { word = tt; token = tt })
-keeps (mode.Decimal d k) began here b h = keep (is_digit b) (goes_on (mode.Decimal (with_digit d b) (min (k + 1) 7)) began) _ (on _ began tt) (off _ here b tt)
+    keep (is_digit b) (continued (mode.Whole (with_digit d b)) began) _ (on _ began tt)
+    (keep (b == 47) (continued (mode.Slash d here) began) _ (on _ began tt) (keep (b == 46) (continued (mode.Point d here) began) _ (on _ began tt) (off _ here b tt)))
+keeps (mode.Slash d slash) began here b h = keep (is_digit b) (continued (mode.Quotient d (with_digit no_digits b)) began) _ (on _ began tt) (record { word = tt; token = tt })
+keeps (mode.Quotient d e) began here b h = keep (is_digit b) (continued (mode.Quotient d (with_digit e b)) began) _ (on _ began tt) (off _ here b tt)
+keeps (mode.Point d point) began here b h = keep (is_digit b) (continued (mode.Decimal (with_digit d b) 1) began) _ (on _ began tt) (record { word = tt; token = tt })
+keeps (mode.Decimal d k) began here b h = keep (is_digit b) (continued (mode.Decimal (with_digit d b) (min (k + 1) 7)) began) _ (on _ began tt) (off _ here b tt)
 keeps mode.Minus began here b h = on _ began (choose (b == 62) (mode.Sign symbol.Arrow) (mode.Bad began) tt tt)
 keeps mode.Less began here b h = on _ began (choose (b == 61) (mode.Sign symbol.LessEquals) _ tt (choose (b == 45) mode.LessMinus (mode.Bad began) tt tt))
 keeps mode.LessMinus began here b h = on _ began (choose (b == 62) (mode.Sign symbol.DoubleArrow) (mode.Bad began) tt tt)

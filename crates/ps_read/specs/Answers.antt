@@ -17,7 +17,7 @@ use Rattle.ps_lex.specs.Lexing.{LexerState, is_within_token, lexed}
 use Rattle.ps_expect.specs.KeptTokens.{token_of}
 use Rattle.ps_parse.specs.declared.parser.Parser.{Parser}
 use Rattle.ps_parse.specs.Machine.{Machine, at_first, next}
-use Rattle.ps_parse.specs.Standing.{IsParsed}
+use Rattle.ps_parse.specs.Derivations.{IsParsed}
 use Rattle.ps_parse.specs.Kept.{machine_of, places_of, drafted_in}
 use Rattle.ps_parse.specs.Taking.{IsKept, CountsAtMost, begun_at}
 use Rattle.ps_read.specs.declared.read_error.ReadError.{ReadError}
@@ -28,7 +28,7 @@ use Rattle.ps_read.specs.Kinds.{form_kind, count_kind}
 use Rattle.ps_read.specs.Readings.{IsProblemOf, SpellsProblem, IsUnread}
 use Rattle.ps_read.specs.Reads.{Tells}
 use Rattle.ps_problem.specs.Problems.{Parts}
-use Rattle.ps_problem.specs.Counts.{Refused, counted}
+use Rattle.ps_problem.specs.Counts.{ItemExcess, counted}
 
 -- what was parsed: the machine's state, and where the items' first tokens stand
 pub record Parsed : Type 0 where
@@ -39,9 +39,11 @@ pub record Parsed : Type 0 where
 abbrev pub nothing_parsed : Parsed
 nothing_parsed = record { machine = at_first; places = [] }
 
+-- what a parser has parsed
 abbrev pub parsed_by : Parser → Parsed
 parsed_by p = record { machine = machine_of p; places = places_of p }
 
+-- the part that is expected
 abbrev pub part_of : Parsed → Part
 part_of x = x.machine.state.part
 
@@ -53,6 +55,7 @@ with_token x t place = record { machine = next x.machine (token_of t); places = 
 abbrev pub refusal_of : Parsed → Token → Option FormKind
 refusal_of x t = refusal x.machine.state (token_of t)
 
+-- whether the text is whole
 abbrev pub is_done : Part → Bool
 is_done part.Done = true
 is_done p = false
@@ -61,6 +64,7 @@ is_done p = false
 abbrev pub Answer : Type 0
 Answer = Result (Position × Parsed) (ReadKind × text.Position)
 
+-- the form is refused for this kind at this position
 abbrev pub refused_at : FormKind → Position → Answer
 refused_at kind p = Err (form_kind kind, position_of p)
 
@@ -88,6 +92,7 @@ abbrev pub bad_or : Option Position → Parsed → (Parsed → Answer) → Answe
 bad_or None x rest = rest x
 bad_or (Some p) x rest = ended x BadByte p
 
+-- a token, if one ended, is judged; then a place where none begins, if there is one; then the rest
 abbrev pub step_answer : Option Token → Position → Option Position → Parsed → (Parsed → Answer) → Answer
 step_answer None began bad x rest = bad_or bad x rest
 step_answer (Some t) began bad x rest =
@@ -101,7 +106,7 @@ Agrees all rest x (Err (error.At kind line column)) = all ≡ Err (kind, record 
 Agrees all rest x (Err error.NoMemory) = Unit {0}
 
 -- a token, if one ended, and a place where none begins, if there is one, were judged
-pub record IsJudged (token : Option Token) (began : Position) (bad : Option Position) (old new : Parsed) (result : Result (Option Position) ReadError) : Type 0 where
+pub record IsStepAnswered (token : Option Token) (began : Position) (bad : Option Position) (old new : Parsed) (result : Result (Option Position) ReadError) : Type 0 where
   pub agrees : (rest : Parsed → Answer) → Agrees (step_answer token began bad old rest) (rest new) new result
 
 -- the answer is this, unless memory ran out
@@ -149,7 +154,7 @@ pub record IsOneMore (old new : Parser) : Type 0 where
   pub counts : (n : ℕ) → CountsAtMost n (machine_of old) → CountsAtMost (n + 1) (machine_of new)
 
 -- what was lexed and parsed belongs together: as many tokens were parsed at most as bytes were taken
-pub record IsReady (reader : Reader) : Type 0 where
+pub record BelongsTogether (reader : Reader) : Type 0 where
   pub word : IsWordMode reader.lexer.mode
   pub here : IsWithin (reader.lexer.here.offset + 1) reader.lexer.here
   pub parsed : IsParsed (machine_of reader.parser)
@@ -157,7 +162,7 @@ pub record IsReady (reader : Reader) : Type 0 where
 
 -- an item of those that were parsed passes a limit of this kind, and its first token stands at this position
 pub record IsExcessIn (x : Parsed) (kind : ReadKind) (position : text.Position) : Type 0 where
-  pub refusal : Refused
+  pub refusal : ItemExcess
   pub counts : counted (drafted_in x.machine).items ≡ Err refusal
   pub kind_is : kind ≡ count_kind refusal.excess
   pub position_is : position ≡ position_of (get_or x.places (refusal.item - 1) start)

@@ -12,7 +12,7 @@ use Rattle.ps_text.specs.Refusals.{IsRefused}
 use Rattle.ps_text.specs.declared.kind.ReadKind.{ReadKind as FormKind}
 use Rattle.ps_problem.specs.Problems.{Parts}
 use Rattle.ps_problem.specs.Numbering.{problem_of}
-use Rattle.ps_problem.specs.Counts.{Refused, counted}
+use Rattle.ps_problem.specs.Counts.{ItemExcess, counted}
 use Rattle.ps_read.specs.declared.read_kind.ReadKind.{ReadKind}
 use Rattle.ps_read.specs.declared.read_kind.ReadKind.TheVariants.{MoreAfterEnd}
 use Rattle.ps_read.specs.Kinds.{form_kind, count_kind}
@@ -62,7 +62,7 @@ pub record IsCountRefused (bytes : List ℕ) (kind : ReadKind) (position : Posit
   pub items : List Item
   pub behind : ℕ
   pub front : IsFront bytes items behind
-  pub refusal : Refused
+  pub refusal : ItemExcess
   pub counts : counted items ≡ Err refusal
   pub place : ℕ
   pub begins : BeginsEntry front.text.pieces front.text.entries refusal.item place

@@ -36,5 +36,6 @@ pub record RefusesEach (bytes : List ℕ) (result : Result (Parts × ℕ) ReadEr
 pub record ReadsEachWhole (bytes : List ℕ) (result : Result Parts ReadError) : Type 0 where
   pub read : (p : Parts) → SpellsWhole bytes p → Gives p result
 
+-- each refusal of all bytes is the answer
 pub record RefusesEachWhole (bytes : List ℕ) (result : Result Parts ReadError) : Type 0 where
   pub refused : (kind : ReadKind) (position : Position) → IsUnreadWhole bytes kind position → Refuses kind position result

@@ -1,7 +1,7 @@
 //! Problems that stand at the front of bytes.
 ghost use Rattle.std.specs.Prelude.{◌≡◌, ◌<◌, ◌≤◌, ◌+◌, ◌^◌, IfOk, IfErr, length, option_map};
 ghost use Rattle.ps_lex.specs.Lexing.{new_lexer};
-ghost use Rattle.ps_problem.specs.Builds.{refused_of};
+ghost use Rattle.ps_problem.specs.Builds.{item_excess_of};
 ghost use Rattle.ps_read.specs.Kinds.{count_kind};
 ghost use Rattle.ps_read.specs.Readings.{SpellsProblem, SpellsWhole, IsUnread, IsUnreadWhole};
 ghost use Rattle.ps_read.specs.Reads.{Tells, ReadsEach, RefusesEach};
@@ -34,7 +34,7 @@ fn parse(alloc: Global, bytes: &[u8]) -> Result<(Parser, Position), ReadError>
 
 // The kind of a count's refusal and its item, none where memory ran out.
 fn excess(error: BuildError) -> Option<(ReadKind, u32)>
-    ensures { result ≡ option_map (λ r. (count_kind r.excess, r.item)) (refused_of error) }
+    ensures { result ≡ option_map (λ r. (count_kind r.excess, r.item)) (item_excess_of error) }
 {
     match error {
         BuildError::TooManyAtoms { item } => Some((ReadKind::TooManyAtoms, item)),

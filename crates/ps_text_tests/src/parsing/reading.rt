@@ -5,7 +5,7 @@ ghost use Rattle.ps_meaning.specs.Names.{is_letter as letter, is_word_byte as wo
 ghost use Rattle.ps_meaning.specs.Names.{is_word as word};
 ghost use Rattle.ps_lex.specs.Places.{IsWithin};
 ghost use Rattle.ps_problem.specs.declared.limits.TheConstants.{MOST_DRAFTED};
-ghost use Rattle.ps_parse.specs.Standing.{IsParsed};
+ghost use Rattle.ps_parse.specs.Derivations.{IsParsed};
 ghost use Rattle.ps_parse.specs.Taking.{IsKept, CountsAtMost};
 ghost use Rattle.ps_parse.specs.Kept.{machine_of};
 

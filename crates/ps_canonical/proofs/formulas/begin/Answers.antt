@@ -5,7 +5,7 @@ use Rattle.ps_formula.specs.declared.node.Node.TheVariants as node
 use Rattle.ps_problem.specs.Problems.{name_at}
 use Rattle.ps_canonical.specs.declared.connective.Connective.TheVariants as connective
 use Rattle.ps_canonical.specs.declared.task.Task.TheVariants as task
-use Rattle.ps_canonical.specs.Tasks.{IsDone, level_of, opening, with_operands}
+use Rattle.ps_canonical.specs.Tasks.{IsCarriedOut, level_of, opening, with_operands}
 use Rattle.ps_canonical.proofs.Done.{on-ok, on-ok-both, named-node, done-leaf, done-not, done-joined}
 use Rattle.ps_canonical.proofs.formulas.begin.Goals as goal
 
@@ -16,7 +16,7 @@ returns-in-True c =
     let out = c.args.out.now.items in
     let t = task.Formula c.args.i c.args.level in
     let at = named-node p c.args.i node.True c.in-True.ensures.sound c.in-True.ensures.node in
-    on-ok c.append.result c.append.ensures (λ e. subst (IsDone p t ts out ts) (sym e)
+    on-ok c.append.result c.append.ensures (λ e. subst (IsCarriedOut p t ts out ts) (sym e)
     (done-leaf p c.args.i c.args.level c.requires.level ts out c.requires.tasks formula.Truth at refl refl))
 
 pub returns-in-False : goal.returns-in-False
@@ -26,7 +26,7 @@ returns-in-False c =
     let out = c.args.out.now.items in
     let t = task.Formula c.args.i c.args.level in
     let at = named-node p c.args.i node.False c.in-False.ensures.sound c.in-False.ensures.node in
-    on-ok c.append-in-False.result c.append-in-False.ensures (λ e. subst (IsDone p t ts out ts) (sym e)
+    on-ok c.append-in-False.result c.append-in-False.ensures (λ e. subst (IsCarriedOut p t ts out ts) (sym e)
     (done-leaf p c.args.i c.args.level c.requires.level ts out c.requires.tasks formula.Falsity at refl refl))
 
 pub returns-in-Atom : goal.returns-in-Atom
@@ -36,7 +36,7 @@ returns-in-Atom c =
     let out = c.args.out.now.items in
     let t = task.Formula c.args.i c.args.level in
     let at = named-node p c.args.i (node.Atom c.in-Atom.atom) c.in-Atom.ensures.sound c.in-Atom.ensures.node in
-    on-ok c.name.result c.name.ensures (λ e. subst (IsDone p t ts out ts) (sym e)
+    on-ok c.name.result c.name.ensures (λ e. subst (IsCarriedOut p t ts out ts) (sym e)
     (done-leaf p c.args.i c.args.level c.requires.level ts out c.requires.tasks (formula.Atom (name_at c.args.problem.now.names c.in-Atom.atom)) at refl refl))
 
 pub returns-in_ok-append-in-Not : goal.returns-in_ok-append-in-Not
@@ -49,8 +49,8 @@ returns-in_ok-append-in-Not c =
     let at = named-node p c.args.i (node.Not a) c.in-Not.ensures.sound c.in-Not.ensures.node in
     let lt = c.in-Not.ensures.fits in
     let there = c.requires.there in
-    on-ok c.push.result c.push.ensures.ok (λ e. subst (λ us. IsDone p t ts out us c.append-in-Not.new.out.items) (sym e)
-    (subst (IsDone p t ts out (ts ++ task.Formula a 5 ∷ [])) (sym c.in_ok-append-in-Not.ensures)
+    on-ok c.push.result c.push.ensures.ok (λ e. subst (λ us. IsCarriedOut p t ts out us c.append-in-Not.new.out.items) (sym e)
+    (subst (IsCarriedOut p t ts out (ts ++ task.Formula a 5 ∷ [])) (sym c.in_ok-append-in-Not.ensures)
     (done-not p c.args.i c.args.level c.requires.level ts out c.requires.tasks a (omega (arith, lt, there)) at)))
 
 pub returns-in-And : goal.returns-in-And
@@ -65,8 +65,8 @@ returns-in-And c =
     let lt = c.in-And.ensures.fits in
     let there = c.requires.there in
     let b = nat_lt (level_of connective.And) c.args.level in
-    on-ok-both c.join.result c.join.ensures.text c.join.ensures.tasks (λ e k. subst (λ us. IsDone p t ts out us c.join.new.out.items) (sym k)
-    (subst (IsDone p t ts out (with_operands ts b l connective.And r)) (sym e)
+    on-ok-both c.join.result c.join.ensures.text c.join.ensures.tasks (λ e k. subst (λ us. IsCarriedOut p t ts out us c.join.new.out.items) (sym k)
+    (subst (IsCarriedOut p t ts out (with_operands ts b l connective.And r)) (sym e)
     (done-joined p c.args.i c.args.level c.requires.level ts out c.requires.tasks connective.And l r (omega (arith, lt.0, there)) (omega (arith, lt.1, there)) at)))
 
 pub returns-in-Or : goal.returns-in-Or
@@ -81,8 +81,8 @@ returns-in-Or c =
     let lt = c.in-Or.ensures.fits in
     let there = c.requires.there in
     let b = nat_lt (level_of connective.Or) c.args.level in
-    on-ok-both c.join-in-Or.result c.join-in-Or.ensures.text c.join-in-Or.ensures.tasks (λ e k. subst (λ us. IsDone p t ts out us c.join-in-Or.new.out.items) (sym k)
-    (subst (IsDone p t ts out (with_operands ts b l connective.Or r)) (sym e)
+    on-ok-both c.join-in-Or.result c.join-in-Or.ensures.text c.join-in-Or.ensures.tasks (λ e k. subst (λ us. IsCarriedOut p t ts out us c.join-in-Or.new.out.items) (sym k)
+    (subst (IsCarriedOut p t ts out (with_operands ts b l connective.Or r)) (sym e)
     (done-joined p c.args.i c.args.level c.requires.level ts out c.requires.tasks connective.Or l r (omega (arith, lt.0, there)) (omega (arith, lt.1, there)) at)))
 
 pub returns-in-Implies : goal.returns-in-Implies
@@ -97,8 +97,8 @@ returns-in-Implies c =
     let lt = c.in-Implies.ensures.fits in
     let there = c.requires.there in
     let b = nat_lt (level_of connective.Implies) c.args.level in
-    on-ok-both c.join-in-Implies.result c.join-in-Implies.ensures.text c.join-in-Implies.ensures.tasks (λ e k. subst (λ us. IsDone p t ts out us c.join-in-Implies.new.out.items) (sym k)
-    (subst (IsDone p t ts out (with_operands ts b l connective.Implies r)) (sym e)
+    on-ok-both c.join-in-Implies.result c.join-in-Implies.ensures.text c.join-in-Implies.ensures.tasks (λ e k. subst (λ us. IsCarriedOut p t ts out us c.join-in-Implies.new.out.items) (sym k)
+    (subst (IsCarriedOut p t ts out (with_operands ts b l connective.Implies r)) (sym e)
     (done-joined p c.args.i c.args.level c.requires.level ts out c.requires.tasks connective.Implies l r (omega (arith, lt.0, there)) (omega (arith, lt.1, there)) at)))
 
 pub returns-in-Iff : goal.returns-in-Iff
@@ -113,6 +113,6 @@ returns-in-Iff c =
     let lt = c.in-Iff.ensures.fits in
     let there = c.requires.there in
     let b = nat_lt (level_of connective.Iff) c.args.level in
-    on-ok-both c.join-in-Iff.result c.join-in-Iff.ensures.text c.join-in-Iff.ensures.tasks (λ e k. subst (λ us. IsDone p t ts out us c.join-in-Iff.new.out.items) (sym k)
-    (subst (IsDone p t ts out (with_operands ts b l connective.Iff r)) (sym e)
+    on-ok-both c.join-in-Iff.result c.join-in-Iff.ensures.text c.join-in-Iff.ensures.tasks (λ e k. subst (λ us. IsCarriedOut p t ts out us c.join-in-Iff.new.out.items) (sym k)
+    (subst (IsCarriedOut p t ts out (with_operands ts b l connective.Iff r)) (sym e)
     (done-joined p c.args.i c.args.level c.requires.level ts out c.requires.tasks connective.Iff l r (omega (arith, lt.0, there)) (omega (arith, lt.1, there)) at)))

@@ -1,7 +1,7 @@
 use Rattle.std.proofs.Common.{[], take, sym, subst, arith}
 use Rattle.std.proofs.lemmas.List.{get_or_read}
 use Rattle.ps_problem.specs.declared.mark.Mark.TheVariants as mark
-use Rattle.ps_problem.specs.DraftLists.{standing}
+use Rattle.ps_problem.specs.DraftLists.{open_after}
 use Rattle.ps_problem.specs.Numbered.{IsStack}
 use Rattle.ps_problem.proofs.Operators.{length-stand, tops-are, numbers-below}
 use Rattle.ps_problem.proofs.Turns.{held-at, reached-start, reached-stop, reached-next, from-no-error, one-left, reached-end}
@@ -14,13 +14,13 @@ pub mark-requires-clause-operands : goal.mark-requires-clause-operands
 mark-requires-clause-operands c =
     let r = c.loop-mark.invariant c.requires.built in
     let h = held-at c.args.names.now [] c.args.marks.now c.loop-mark.mark-index mark.True c.requires.marks.held c.loop-mark-test.true in
-    let l = length-stand r.built.formulas (standing c.args.names.now [] (take c.loop-mark.mark-index c.args.marks.now)) c.loop-mark.stack.items r.stand in
+    let l = length-stand r.built.formulas (open_after c.args.names.now [] (take c.loop-mark.mark-index c.args.marks.now)) c.loop-mark.stack.items r.stack_is in
     rw c.deref.ensures.value (omega arith)
 
 pub mark-requires-clause-below : goal.mark-requires-clause-below
 mark-requires-clause-below c =
     let r = c.loop-mark.invariant c.requires.built in
-    rw (c.deref.ensures.value, r.built.nodes_are) (numbers-below r.built.formulas (standing c.args.names.now [] (take c.loop-mark.mark-index c.args.marks.now)) c.loop-mark.stack.items r.stand)
+    rw (c.deref.ensures.value, r.built.nodes_are) (numbers-below r.built.formulas (open_after c.args.names.now [] (take c.loop-mark.mark-index c.args.marks.now)) c.loop-mark.stack.items r.stack_is)
 
 pub mark-requires-clause-built : goal.mark-requires-clause-built
 mark-requires-clause-built c = (c.loop-mark.invariant c.requires.built).built
@@ -29,7 +29,7 @@ pub returns-in-Err : goal.returns-in-Err
 returns-in-Err c = λ h.
     let r = c.loop-mark.invariant h in
     let m = c.requires.marks in
-    let s = subst (λ ps. IsStack r.built.formulas (standing c.args.names.now [] (take c.loop-mark.mark-index c.args.marks.now)) ps) (sym c.deref.ensures.value) r.stand in
+    let s = subst (λ ps. IsStack r.built.formulas (open_after c.args.names.now [] (take c.loop-mark.mark-index c.args.marks.now)) ps) (sym c.deref.ensures.value) r.stack_is in
     rw (← tops-are c.args.names.now c.args.marks.now _ m.held m.made)
     (reached-stop c.args.names.now h.formulas c.args.marks.now c.loop-mark.mark-index c.loop-mark.self c.loop-mark.stack.items r mark.True c.loop-mark-test.true
     c.mark.new.self c.in-Err.fault (c.in-Err.ensures r.built _ s))
@@ -38,15 +38,15 @@ pub replace-requires : goal.replace-requires
 replace-requires c =
     let r = c.loop-mark.invariant c.requires.built in
     let h = held-at c.args.names.now [] c.args.marks.now c.loop-mark.mark-index mark.True c.requires.marks.held c.loop-mark-test.true in
-    let l = length-stand r.built.formulas (standing c.args.names.now [] (take c.loop-mark.mark-index c.args.marks.now)) c.loop-mark.stack.items r.stand in
+    let l = length-stand r.built.formulas (open_after c.args.names.now [] (take c.loop-mark.mark-index c.args.marks.now)) c.loop-mark.stack.items r.stack_is in
     rw c.operands.ensures (omega arith)
 
 pub loop-mark-preserved : goal.loop-mark-preserved
 loop-mark-preserved c = λ h.
     let r = c.loop-mark.invariant h in
-    let s = subst (λ ps. IsStack r.built.formulas (standing c.args.names.now [] (take c.loop-mark.mark-index c.args.marks.now)) ps) (sym c.deref.ensures.value) r.stand in
+    let s = subst (λ ps. IsStack r.built.formulas (open_after c.args.names.now [] (take c.loop-mark.mark-index c.args.marks.now)) ps) (sym c.deref.ensures.value) r.stack_is in
     let held = held-at c.args.names.now [] c.args.marks.now c.loop-mark.mark-index mark.True c.requires.marks.held c.loop-mark-test.true in
-    let l = length-stand r.built.formulas (standing c.args.names.now [] (take c.loop-mark.mark-index c.args.marks.now)) c.loop-mark.stack.items r.stand in
+    let l = length-stand r.built.formulas (open_after c.args.names.now [] (take c.loop-mark.mark-index c.args.marks.now)) c.loop-mark.stack.items r.stack_is in
     rw (from-no-error c.replace.result c.if-is_err.ensures.value c.replace.ensures.ok, c.operands.ensures)
     (reached-next c.args.names.now h.formulas c.args.marks.now c.loop-mark.mark-index c.loop-mark.self c.loop-mark.stack.items r mark.True c.loop-mark-test.true
     c.mark.new.self c.in-Ok.number (omega arith) (c.in-Ok.ensures r.built _ s))

@@ -1,5 +1,5 @@
 use Rattle.std.proofs.Common.{◌≤◌, length}
-use Rattle.ps_parse.specs.Standing.{IsParsed}
+use Rattle.ps_parse.specs.Derivations.{IsParsed}
 use Rattle.ps_parse.specs.Taking.{CountsAtMost}
 use Rattle.ps_parse.specs.Kept.{machine_of}
 use Rattle.ps_text_tests.proofs.parsing.reading.parsed.Given as goal

@@ -13,8 +13,8 @@ use Rattle.ps_text.specs.BegunFormulas.{Frame, BegunNot, BegunGroup, BegunAnd, B
 use Rattle.ps_problem.specs.declared.mark.Mark.TheVariants as mark
 use Rattle.ps_problem.specs.Drafts.{Drafted, from_top, marked, with_mark}
 use Rattle.ps_parse.specs.declared.operator.Operator.{Operator}
-use Rattle.ps_parse.specs.Pending.{Pending, binding, mark_of, settled_from}
-use Rattle.ps_parse.specs.Standing.{operator_of, operators_of, lefts_of}
+use Rattle.ps_parse.specs.Pending.{Pending, binding, mark_of, reduced_from}
+use Rattle.ps_parse.specs.Derivations.{operator_of, operators_of, lefts_of}
 
 length_one : (os : List (Formula Name)) (f : Formula Name) → length (os ++ f ∷ []) - 1 ≡ length os
 length_one os f = let l : length (os ++ f ∷ []) ≡ length os + 1 = length-append os (f ∷ []) in omega (arith, l)
@@ -62,7 +62,7 @@ binding_is (BegunImplies g) = refl
 binding_is (BegunIff g) = refl
 
 -- what waits, and the draft, are those of what is begun and a formula behind it; what has ended stays
-pub record IsSettled (d : Drafted) (p : Pending) (fs : List Frame) (f : Form) : Type 0 where
+pub record IsReduced (d : Drafted) (p : Pending) (fs : List Frame) (f : Form) : Type 0 where
   pub operators : p.operators ≡ operators_of fs
   pub «open» : p.draft.«open» ≡ lefts_of fs ++ formula_of f ∷ []
   pub formulas : p.draft.formulas ≡ d.formulas
@@ -72,20 +72,20 @@ least_one : (k n : ℕ) → 1 ≤ k → nat_le k n ≡ true → 1 ≤ n
 least_one k n h e = let l : k ≤ n = grind (arith, nat_tests) in omega (arith, h, l)
 
 abbrev chosen_pending : ℕ → Operator → List Operator → Drafted → Bool → Pending
-chosen_pending k o os d b = if b then settled_from k os (with_mark d (mark_of o)) else record { operators = o ∷ os; draft = d }
+chosen_pending k o os d b = if b then reduced_from k os (with_mark d (mark_of o)) else record { operators = o ∷ os; draft = d }
 
 abbrev chosen_join : ℕ → Frame → List Frame → Form → Bool → List Frame × Form
 chosen_join k x fs f b = if b then joins k fs (joined x f) else (x ∷ fs, f)
 
-pub settles : (k : ℕ) (fs : List Frame) (f : Form) (d : Drafted) → 1 ≤ k → d.«open» ≡ lefts_of fs ++ formula_of f ∷ []
-    → IsSettled d (settled_from k (operators_of fs) d) (joins k fs f).0 (joins k fs f).1
-settles k [] f d h e = record { operators = refl; «open» = e; formulas = refl; items = refl }
-settles k (x ∷ fs) f d h e = by (nat_le k (binding (operator_of x))) (nat_le k (own_level x)) refl (ap (nat_le k) (binding_is x))
-    (λ l. settles k fs (joined x f) (with_mark d (mark_of (operator_of x))) h (ap (λ os. marked d.names os (mark_of (operator_of x))) e ∙ join_marked d.names x fs f l))
+pub reduces : (k : ℕ) (fs : List Frame) (f : Form) (d : Drafted) → 1 ≤ k → d.«open» ≡ lefts_of fs ++ formula_of f ∷ []
+    → IsReduced d (reduced_from k (operators_of fs) d) (joins k fs f).0 (joins k fs f).1
+reduces k [] f d h e = record { operators = refl; «open» = e; formulas = refl; items = refl }
+reduces k (x ∷ fs) f d h e = by (nat_le k (binding (operator_of x))) (nat_le k (own_level x)) refl (ap (nat_le k) (binding_is x))
+    (λ l. reduces k fs (joined x f) (with_mark d (mark_of (operator_of x))) h (ap (λ os. marked d.names os (mark_of (operator_of x))) e ∙ join_marked d.names x fs f l))
   where
     by : (b c : Bool) → nat_le k (own_level x) ≡ c → b ≡ c
-        → (1 ≤ own_level x → IsSettled (with_mark d (mark_of (operator_of x))) (settled_from k (operators_of fs) (with_mark d (mark_of (operator_of x)))) (joins k fs (joined x f)).0 (joins k fs (joined x f)).1)
-        → IsSettled d (chosen_pending k (operator_of x) (operators_of fs) d b) (chosen_join k x fs f c).0 (chosen_join k x fs f c).1
+        → (1 ≤ own_level x → IsReduced (with_mark d (mark_of (operator_of x))) (reduced_from k (operators_of fs) (with_mark d (mark_of (operator_of x)))) (joins k fs (joined x f)).0 (joins k fs (joined x f)).1)
+        → IsReduced d (chosen_pending k (operator_of x) (operators_of fs) d b) (chosen_join k x fs f c).0 (chosen_join k x fs f c).1
     by true true t s rest = let r = rest (least_one k (own_level x) h t) in record { operators = r.operators; «open» = r.«open»; formulas = r.formulas; items = r.items }
     by false false t s rest = record { operators = refl; «open» = e; formulas = refl; items = refl }
     by true false t s rest = absurd (true≢false s)

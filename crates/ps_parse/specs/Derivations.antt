@@ -23,6 +23,7 @@ operator_of (BegunOr f) = operator.Or
 operator_of (BegunImplies f) = operator.Implies
 operator_of (BegunIff f) = operator.Iff
 
+-- the operators of what is begun, the last begun first
 abbrev pub operators_of : List Frame → List Operator
 operators_of [] = []
 operators_of (x ∷ fs) = operator_of x ∷ operators_of fs
@@ -38,16 +39,16 @@ lefts_of (BegunImplies f ∷ fs) = lefts_of fs ++ formula_of f ∷ []
 lefts_of (BegunIff f ∷ fs) = lefts_of fs ++ formula_of f ∷ []
 
 -- what waits
-abbrev pub waits : Parse → List Operator
-waits (InOperand es q c fs) = operators_of fs
-waits (InOperator es q c fs f) = operators_of fs
-waits p = []
+abbrev pub waiting_operators : Parse → List Operator
+waiting_operators (InOperand es q c fs) = operators_of fs
+waiting_operators (InOperator es q c fs f) = operators_of fs
+waiting_operators p = []
 
 -- which formulas stand open
-abbrev pub stands_open : Parse → List (Formula Name)
-stands_open (InOperand es q c fs) = lefts_of fs
-stands_open (InOperator es q c fs f) = lefts_of fs ++ formula_of f ∷ []
-stands_open p = []
+abbrev pub open_formulas : Parse → List (Formula Name)
+open_formulas (InOperand es q c fs) = lefts_of fs
+open_formulas (InOperator es q c fs f) = lefts_of fs ++ formula_of f ∷ []
+open_formulas p = []
 
 -- the items that are in the draft: an item is there as soon as its last value is, or a query's probability
 abbrev pub drafted_entries : Parse → List Entry
@@ -96,8 +97,8 @@ IsItemSoFar fs p i = Unit {0}
 
 -- the work is that of a derivation
 pub record IsWorkOf (p : Parse) (w : Work) : Type 0 where
-  pub operators : w.pending.operators ≡ waits p
-  pub «open» : w.pending.draft.«open» ≡ stands_open p
+  pub operators : w.pending.operators ≡ waiting_operators p
+  pub «open» : w.pending.draft.«open» ≡ open_formulas p
   pub items : AreItems (drafted_entries p) w.pending.draft.items
   pub item : IsItemSoFar w.pending.draft.formulas p w.item
 
