@@ -1,5 +1,5 @@
 -- The lines of a problem's canonical text.
-use Rattle.std.specs.Prelude.{ℕ, List, [], ◌∷◌, ◌++◌, Option, option_map}
+use Rattle.std.specs.Prelude.{◌≡◌, ℕ, List, [], ◌∷◌, ◌++◌, Option, option_map}
 use Rattle.ps_meaning.specs.Statements.{Stated, Asked}
 use Rattle.ps_text.specs.Grammar.{Relation}
 use Rattle.ps_text.specs.Tokens.{numeral_spelling}
@@ -9,6 +9,14 @@ use Rattle.ps_problem.specs.declared.sentence.Sentence.{Sentence}
 use Rattle.ps_problem.specs.declared.query.Query.{Query}
 use Rattle.ps_problem.specs.Problems.{Parts}
 use Rattle.ps_problem.specs.Written.{named_at, ratio_at, statement_from, question_from}
+
+-- the text stands behind what was written before
+abbrev pub Adds : (old new text : List ℕ) → Type 0
+Adds old new text = new ≡ old ++ text
+
+-- the text of a quotient: a whole number where the denominator is 1
+abbrev pub quotient_text : ℕ → ℕ → List ℕ
+quotient_text num den = numeral_spelling (canonical_numeral (record { num = num; den = den }))
 
 -- the text of a formula by number
 abbrev pub formula_text : Parts → ℕ → List ℕ

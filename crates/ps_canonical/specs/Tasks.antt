@@ -1,5 +1,5 @@
 -- What is still to be written of a formula: the tasks on a stack, the last one first.
-use Rattle.std.specs.Prelude.{◌≡◌, ℕ, ◌+◌, ◌<◌, ◌≤◌, Bool, List, [], ◌∷◌, ◌++◌, All, length, codes, if◌then◌else◌}
+use Rattle.std.specs.Prelude.{◌≡◌, ℕ, ◌+◌, ◌<◌, ◌≤◌, Bool, List, [], ◌∷◌, ◌++◌, All, length, codes, nat_lt, if◌then◌else◌}
 use Rattle.ps_meaning.specs.Formula as formula
 use Rattle.ps_meaning.specs.Statements.{Name}
 use Rattle.ps_text.specs.Grammar.{Form, And, Or, Implies, Iff}
@@ -82,6 +82,14 @@ closing_task b = if b then task.Close ∷ [] else []
 abbrev pub with_operands : List Task → Bool → ℕ → Connective → ℕ → List Task
 with_operands ts b l c r =
     (((ts ++ closing_task b) ++ task.Formula r (right_of c) ∷ []) ++ task.Connective c ∷ []) ++ task.Formula l (left_of c) ∷ []
+
+-- the same where an operand of this level is required
+abbrev pub with_join : List Task → ℕ → ℕ → Connective → ℕ → List Task
+with_join ts k l c r = with_operands ts (nat_lt (level_of c) k) l c r
+
+-- the `(` of two operands where an operand of this level is required, if they need one
+abbrev pub join_opening : Connective → ℕ → List ℕ
+join_opening c k = opening (nat_lt (level_of c) k)
 
 -- how many steps a formula takes at most
 abbrev pub steps_of : {A : Type 0} → formula.Formula A → ℕ

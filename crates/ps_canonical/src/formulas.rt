@@ -1,9 +1,9 @@
 //! Formulas as they are written: node by node, with what is left to be written on a stack.
-ghost use Rattle.std.specs.Prelude.{◌≡◌, ◌<◌, ◌≤◌, ◌++◌, All, OnOk, Some, length, nat_lt, slice_get};
+ghost use Rattle.std.specs.Prelude.{◌≡◌, ◌<◌, ◌≤◌, ◌++◌, All, OnOk, Some, length, slice_get};
 ghost use Rattle.ps_formula.specs.Nodes.{Fits, AreNodes, AtomBelow};
 ghost use Rattle.ps_problem.specs.Problems.{name_at};
-ghost use Rattle.ps_canonical.specs.Lines.{formula_text};
-ghost use Rattle.ps_canonical.specs.Tasks.{level_of, opening, closing_task, with_operands};
+ghost use Rattle.ps_canonical.specs.Lines.{Adds, formula_text};
+ghost use Rattle.ps_canonical.specs.Tasks.{opening, closing_task, with_join, join_opening};
 ghost use Rattle.ps_canonical.specs.Tasks.{IsTask, IsCarriedOut};
 ghost use Rattle.ps_canonical.specs.declared.task.Task.TheVariants as task;
 
@@ -29,7 +29,7 @@ fn node_at(problem: &Problem, i: u32) -> Node
 // Writes the name of an atom.
 fn name(problem: &Problem, atom: u16, out: &mut Vec<u8>) -> Result<(), NoMemory>
     requires { atom < length problem.now.names }
-    ensures { OnOk result (out.new.items ≡ out.old.items ++ name_at problem.now.names atom) }
+    ensures { OnOk result (Adds out.old.items out.new.items (name_at problem.now.names atom)) }
 {
     match problem.name(atom) {
         Some(name) => append(out, name),
@@ -39,7 +39,7 @@ fn name(problem: &Problem, atom: u16, out: &mut Vec<u8>) -> Result<(), NoMemory>
 
 // Writes a `(` where one is needed, and leaves the `)` to be written.
 fn open(out: &mut Vec<u8>, tasks: &mut List<Task>, needed: bool) -> Result<(), NoMemory>
-    ensures text { OnOk result (out.new.items ≡ out.old.items ++ opening needed) }
+    ensures text { OnOk result (Adds out.old.items out.new.items (opening needed)) }
     ensures tasks { OnOk result (tasks.new ≡ tasks.old ++ closing_task needed) }
 {
     if needed {
@@ -58,10 +58,8 @@ fn join(
     right: u32,
     level: u32,
 ) -> Result<(), NoMemory>
-    ensures text { OnOk result
-        (out.new.items ≡ out.old.items ++ opening (nat_lt (level_of connective) level)) }
-    ensures tasks { OnOk result (tasks.new
-        ≡ with_operands tasks.old (nat_lt (level_of connective) level) left connective right) }
+    ensures text { OnOk result (Adds out.old.items out.new.items (join_opening connective level)) }
+    ensures tasks { OnOk result (tasks.new ≡ with_join tasks.old level left connective right) }
 {
     open(out, tasks, connective.level() < level)?;
     tasks.push(Task::Formula {
@@ -134,7 +132,7 @@ pub(crate) fn formula(
     out: &mut Vec<u8>,
 ) -> Result<(), NoMemory>
     requires { root < length problem.now.nodes }
-    ensures { OnOk result (out.new.items ≡ out.old.items ++ formula_text problem.now root) }
+    ensures { OnOk result (Adds out.old.items out.new.items (formula_text problem.now root)) }
 {
     let mut tasks = List::new(alloc);
     tasks.push(Task::Formula {

@@ -1,7 +1,7 @@
 //! The lines of sentences and queries.
-ghost use Rattle.std.specs.Prelude.{◌≡◌, ◌<◌, ◌++◌, IfSome, OnOk, length};
+ghost use Rattle.std.specs.Prelude.{◌<◌, IfSome, OnOk, length};
 ghost use Rattle.ps_problem.specs.Problems.{HasNodes};
-ghost use Rattle.ps_canonical.specs.Lines.{condition_text, probability_text};
+ghost use Rattle.ps_canonical.specs.Lines.{Adds, condition_text, probability_text};
 ghost use Rattle.ps_canonical.specs.Lines.{sentence_line, query_line};
 
 use crate::formulas::formula;
@@ -18,7 +18,7 @@ fn condition(
     out: &mut Vec<u8>,
 ) -> Result<(), NoMemory>
     requires { IfSome given (λ g. g < length problem.now.nodes) }
-    ensures { OnOk result (out.new.items ≡ out.old.items ++ condition_text problem.now given) }
+    ensures { OnOk result (Adds out.old.items out.new.items (condition_text problem.now given)) }
 {
     match given {
         Some(node) => {
@@ -40,7 +40,7 @@ fn probability(
     requires formula { node < length problem.now.nodes }
     requires given { IfSome given (λ g. g < length problem.now.nodes) }
     ensures { OnOk result
-        (out.new.items ≡ out.old.items ++ probability_text problem.now node given) }
+        (Adds out.old.items out.new.items (probability_text problem.now node given)) }
 {
     append(out, b"P(")?;
     formula(alloc, problem, node, out)?;
@@ -58,7 +58,7 @@ pub(crate) fn write_sentence(
     requires formula { sentence.now.first.formula < length problem.now.nodes }
     requires given { IfSome sentence.now.first.given (λ g. g < length problem.now.nodes) }
     ensures { OnOk result
-        (out.new.items ≡ out.old.items ++ sentence_line problem.now sentence.now) }
+        (Adds out.old.items out.new.items (sentence_line problem.now sentence.now)) }
 {
     let first = sentence.first;
     probability(alloc, problem, first.formula, first.given, out)?;
@@ -75,7 +75,7 @@ pub(crate) fn write_query(
 ) -> Result<(), NoMemory>
     requires formula { query.now.formula < length problem.now.nodes }
     requires given { IfSome query.now.given (λ g. g < length problem.now.nodes) }
-    ensures { OnOk result (out.new.items ≡ out.old.items ++ query_line problem.now query.now) }
+    ensures { OnOk result (Adds out.old.items out.new.items (query_line problem.now query.now)) }
 {
     append(out, b"query ")?;
     probability(alloc, problem, query.formula, query.given, out)?;

@@ -1,15 +1,14 @@
 //! The values of bounds as they are written.
-ghost use Rattle.std.specs.Prelude.{◌≡◌, ◌++◌, OnOk, option_map, decimal};
-ghost use Rattle.ps_text.specs.Canonical.{canonical_numeral, relation_text};
-ghost use Rattle.ps_text.specs.Tokens.{numeral_spelling};
-ghost use Rattle.ps_canonical.specs.Lines.{relation_of, value_text};
+ghost use Rattle.std.specs.Prelude.{◌++◌, OnOk, option_map, decimal};
+ghost use Rattle.ps_text.specs.Canonical.{relation_text};
+ghost use Rattle.ps_canonical.specs.Lines.{Adds, quotient_text, relation_of, value_text};
 
 use ps_io::NoMemory;
 use ps_problem::{Bound, Sentence, Side};
 
 // Writes bytes.
 pub(crate) fn append(out: &mut Vec<u8>, bytes: &[u8]) -> Result<(), NoMemory>
-    ensures { OnOk result (out.new.items ≡ out.old.items ++ bytes.now) }
+    ensures { OnOk result (Adds out.old.items out.new.items bytes.now) }
 {
     out.extend_from_slice(bytes)?;
     Ok(())
@@ -17,7 +16,7 @@ pub(crate) fn append(out: &mut Vec<u8>, bytes: &[u8]) -> Result<(), NoMemory>
 
 // Writes a number in decimal.
 fn number(out: &mut Vec<u8>, n: u32) -> Result<(), NoMemory>
-    ensures { OnOk result (out.new.items ≡ out.old.items ++ decimal n) }
+    ensures { OnOk result (Adds out.old.items out.new.items (decimal n)) }
 {
     let mut digits = itoa::Buffer::new();
     append(out, digits.format(n).as_bytes())
@@ -25,9 +24,7 @@ fn number(out: &mut Vec<u8>, n: u32) -> Result<(), NoMemory>
 
 // Writes a value: a whole number, or a quotient.
 fn numeral(out: &mut Vec<u8>, num: u32, den: u32) -> Result<(), NoMemory>
-    ensures { OnOk result
-        (out.new.items ≡ out.old.items
-        ++ numeral_spelling (canonical_numeral (record { num = num; den = den }))) }
+    ensures { OnOk result (Adds out.old.items out.new.items (quotient_text num den)) }
 {
     number(out, num)?;
     if den == 1 {
@@ -39,7 +36,7 @@ fn numeral(out: &mut Vec<u8>, num: u32, den: u32) -> Result<(), NoMemory>
 
 // Writes a sign and a bound's value behind it.
 fn value(out: &mut Vec<u8>, sign: &[u8], bound: &Bound) -> Result<(), NoMemory>
-    ensures { OnOk result (out.new.items ≡ out.old.items ++ (sign.now ++ value_text bound.now)) }
+    ensures { OnOk result (Adds out.old.items out.new.items (sign.now ++ value_text bound.now)) }
 {
     append(out, sign)?;
     numeral(out, bound.num, bound.den)
@@ -48,7 +45,7 @@ fn value(out: &mut Vec<u8>, sign: &[u8], bound: &Bound) -> Result<(), NoMemory>
 // Writes how a sentence bounds its probability.
 pub(crate) fn relation(out: &mut Vec<u8>, sentence: &Sentence) -> Result<(), NoMemory>
     ensures { OnOk result
-        (out.new.items ≡ out.old.items ++ relation_text (relation_of sentence.now)) }
+        (Adds out.old.items out.new.items (relation_text (relation_of sentence.now))) }
 {
     match sentence.first.side {
         Side::Exactly => value(out, b" = ", &sentence.first),

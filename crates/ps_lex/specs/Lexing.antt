@@ -85,6 +85,10 @@ pub record LexerState : Type 0 where
 abbrev pub new_lexer : LexerState
 new_lexer = record { mode = mode.Between; began = record { line = 1; column = 1; offset = 0 }; here = record { line = 1; column = 1; offset = 0 } }
 
+-- behind a byte outside of tokens, which is blank or begins one
+abbrev pub with_begun : LexerState → ℕ → LexerState
+with_begun s b = record { mode = begun s.here b; began = s.here; here = behind s.here b }
+
 -- the token that a byte ends, if there is one
 unfoldable pub token_ended : LexerState → ℕ → Option Token
 token_ended s b = (stepped_in s.mode s.began s.here b).ended

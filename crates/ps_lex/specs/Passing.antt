@@ -3,6 +3,7 @@ use Rattle.std.specs.Prelude.{◌≡◌, ℕ, Bool, true, false, ◌-◌, ◌||�
 use Rattle.std.specs.List.{AllByRecursion}
 use Rattle.ps_text.specs.Tokens.{is_word_byte}
 use Rattle.ps_text.specs.Pieces.{is_blank}
+use Rattle.ps_lex.specs.declared.gap.Gap.{Gap}
 use Rattle.ps_lex.specs.declared.position.Position.{Position}
 use Rattle.ps_lex.specs.declared.mode.Mode.{Mode}
 use Rattle.ps_lex.specs.declared.mode.Mode.TheVariants as mode
@@ -53,6 +54,10 @@ gap_mode false = mode.Between
 -- the state of a lexer in blanks and comments
 abbrev pub gap_state : Bool → Position → Position → LexerState
 gap_state c began here = record { mode = gap_mode c; began = began; here = here }
+
+-- what blanks and comments as they are kept stand in
+abbrev pub gap_state_of : Gap → LexerState
+gap_state_of g = gap_state g.is_comment g.began g.here
 
 -- a byte of a comment's line, or a space
 abbrev pub is_in_line : Bool → ℕ → Bool

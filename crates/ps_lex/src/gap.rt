@@ -2,7 +2,7 @@
 ghost use Rattle.std.specs.Prelude.{◌≡◌, ◌<◌, ◌≤◌, ◌-◌, ◌^◌, true, false, IsTrue, length};
 ghost use Rattle.ps_lex.specs.Places.{IsWithin, HasRoom};
 ghost use Rattle.ps_lex.specs.Lexing.{with_byte};
-ghost use Rattle.ps_lex.specs.Passing.{gap_mode, gap_state, is_passed, AllPassed};
+ghost use Rattle.ps_lex.specs.Passing.{gap_mode, gap_state_of, is_passed, AllPassed};
 ghost use Rattle.ps_lex.specs.Passing.{Passes, AreInLine, along_line};
 
 use crate::Position;
@@ -32,8 +32,7 @@ impl Gap {
     fn with(self, byte: u8) -> Gap
         requires passed { IsTrue (is_passed (gap_mode self.is_comment) byte) }
         requires room { IsWithin (2 ^ 32 - 2) self.here }
-        ensures { gap_state result.is_comment result.began result.here
-            ≡ with_byte (gap_state self.is_comment self.began self.here) byte }
+        ensures { gap_state_of result ≡ with_byte (gap_state_of self) byte }
     {
         let mut here = self.here;
         here.advance(byte);
@@ -56,8 +55,7 @@ impl Gap {
     fn along(self, count: u32) -> Gap
         requires some { 0 < count }
         requires room { HasRoom count self.here }
-        ensures { gap_state result.is_comment result.began result.here
-            ≡ along_line self.is_comment self.began self.here count }
+        ensures { gap_state_of result ≡ along_line self.is_comment self.began self.here count }
     {
         Gap {
             is_comment: self.is_comment,
@@ -73,8 +71,7 @@ impl Gap {
     // Passes more bytes of a comment's line, or more spaces.
     fn pass_line(self, bytes: &[u8]) -> (Gap, &[u8])
         requires room { HasRoom (length bytes.now) self.here }
-        ensures passes { Passes (gap_state self.is_comment self.began self.here) bytes.now
-            (gap_state result.0.is_comment result.0.began result.0.here) result.1.now }
+        ensures passes { Passes (gap_state_of self) bytes.now (gap_state_of result.0) result.1.now }
         ensures shorter { length result.1.now ≤ length bytes.now }
     {
         let left = behind_line(self.is_comment, bytes);
@@ -89,8 +86,7 @@ impl Gap {
     /// left.
     pub(crate) fn pass(self, bytes: &[u8]) -> (Gap, &[u8])
         requires room { HasRoom (length bytes.now) self.here }
-        ensures passes { Passes (gap_state self.is_comment self.began self.here) bytes.now
-            (gap_state result.0.is_comment result.0.began result.0.here) result.1.now }
+        ensures passes { Passes (gap_state_of self) bytes.now (gap_state_of result.0) result.1.now }
         ensures all { AllPassed (gap_mode result.0.is_comment) result.1.now }
     {
         let mut gap = self;

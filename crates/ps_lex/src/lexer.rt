@@ -1,8 +1,8 @@
 //! Cuts bytes into tokens.
 ghost use Rattle.std.specs.Prelude.{◌≡◌, ◌-◌, ◌^◌, length};
-ghost use Rattle.ps_lex.specs.Places.{behind, IsWithin, HasRoom};
+ghost use Rattle.ps_lex.specs.Places.{IsWithin, HasRoom};
 ghost use Rattle.ps_lex.specs.Lexing.{new_lexer, token_ended, with_byte, last_token};
-ghost use Rattle.ps_lex.specs.Lexing.{last_bad, bad_place, is_within_token, begun};
+ghost use Rattle.ps_lex.specs.Lexing.{last_bad, bad_place, is_within_token, with_begun};
 ghost use Rattle.ps_lex.specs.Passing.{Passes, AllPassed};
 
 use crate::bytes::is_word_byte;
@@ -72,11 +72,7 @@ impl Lexer {
     fn end(&mut self, byte: u8) -> Option<Token>
         requires room { IsWithin (2 ^ 32 - 2) self.old.here }
         ensures token { result ≡ last_token self.old.mode }
-        ensures state { self.new ≡ record {
-          mode = begun self.old.here byte;
-          began = self.old.here;
-          here = behind self.old.here byte;
-        } }
+        ensures state { self.new ≡ with_begun self.old byte }
     {
         let mode = std::mem::replace(&mut self.mode, Mode::Between);
         self.begin(byte);
@@ -87,11 +83,7 @@ impl Lexer {
     #[inline(always)]
     fn begin(&mut self, byte: u8)
         requires room { IsWithin (2 ^ 32 - 2) self.old.here }
-        ensures { self.new ≡ record {
-          mode = begun self.old.here byte;
-          began = self.old.here;
-          here = behind self.old.here byte;
-        } }
+        ensures { self.new ≡ with_begun self.old byte }
     {
         self.mode = begin(self.here, byte);
         self.began = self.here;

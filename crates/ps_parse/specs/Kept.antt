@@ -1,5 +1,5 @@
 -- What waits, what of an item was read, and the machine, as a parser keeps them.
-use Rattle.std.specs.Prelude.{List}
+use Rattle.std.specs.Prelude.{◌≡◌, List}
 use Rattle.ps_meaning.specs.Statements.{Ratio}
 use Rattle.ps_lex.specs.declared.position.Position.{Position}
 use Rattle.ps_expect.specs.KeptTokens as expected
@@ -10,7 +10,7 @@ use Rattle.ps_parse.specs.declared.item_so_far.ItemSoFar as declared
 use Rattle.ps_parse.specs.declared.item_parser.ItemParser.{ItemParser}
 use Rattle.ps_parse.specs.declared.parser.Parser.{Parser}
 use Rattle.ps_parse.specs.Pending.{Pending}
-use Rattle.ps_parse.specs.Machine.{ItemSoFar, Work, Machine}
+use Rattle.ps_parse.specs.Machine.{ItemSoFar, Work, Machine, operand_ended}
 
 -- what waits, and the draft, of a parser of formulas
 abbrev pub pending_of : FormulaParser → Pending
@@ -19,6 +19,10 @@ pending_of p = record { operators = p.operators; draft = p.draft }
 -- the draft of a parser of formulas
 abbrev pub draft_of : FormulaParser → Drafted
 draft_of p = p.draft
+
+-- an operand ended, which was added to the draft, and each `!` before it is reduced
+abbrev pub EndsOperand : (old new : FormulaParser) (added : Drafted → Drafted) → Type 0
+EndsOperand old new added = pending_of new ≡ operand_ended (pending_of old) (added (draft_of old))
 
 -- the fraction of a value
 abbrev pub ratio_of : Value → Ratio

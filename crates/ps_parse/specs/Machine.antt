@@ -1,5 +1,5 @@
 -- The machine over tokens: what a token that isn't refused does to a draft.
-use Rattle.std.specs.Prelude.{ℕ, ◌/◌, Bool, true, false, if◌then◌else◌, bytes_eq, codes, List, [], ◌∷◌, ◌++◌, Option, Some, None, length, option_map}
+use Rattle.std.specs.Prelude.{ℕ, ◌/◌, Bool, true, false, if◌then◌else◌, bytes_eq, codes, List, [], ◌∷◌, ◌++◌, Option, Some, None, length}
 use Rattle.ps_meaning.specs.Formula as formula
 use Rattle.ps_meaning.specs.Statements.{Name, Ratio, Item, Stated, Asked}
 use Rattle.ps_meaning.specs.declared.side.Side.{Side}
@@ -14,7 +14,7 @@ use Rattle.ps_text.specs.declared.part.Part.TheVariants as part
 use Rattle.ps_text.specs.PartialParses.{number_in}
 use Rattle.ps_problem.specs.declared.mark.Mark.TheVariants as mark
 use Rattle.ps_problem.specs.Numbering.{same_name, with_new}
-use Rattle.ps_problem.specs.Drafts.{Drafted, with_mark, with_formula, with_item, formula_at, question_at}
+use Rattle.ps_problem.specs.Drafts.{Drafted, with_mark, with_formula, with_item, statement_at, question_at}
 use Rattle.ps_parse.specs.declared.operator.Operator.{Operator}
 use Rattle.ps_parse.specs.declared.operator.Operator.TheVariants as operator
 use Rattle.ps_parse.specs.Pending.{Pending, waiting, reduced}
@@ -164,7 +164,7 @@ with_least w r = record { pending = w.pending; item = record { query = w.item.qu
 
 -- the item so far is stated with these values
 abbrev pub stated : List (formula.Formula Name) → ItemSoFar → Ratio → Option Ratio → Item
-stated fs i r upper = Stated (record { formula = formula_at fs i.formula; given = option_map (formula_at fs) i.given; side = i.side; value = r; upper = upper })
+stated fs i r upper = Stated (statement_at fs i.formula i.given i.side r upper)
 
 -- the item so far is in the draft, as a statement with these values
 abbrev pub with_sentence : Work → Ratio → Option Ratio → Work

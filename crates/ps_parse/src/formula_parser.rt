@@ -6,10 +6,9 @@ ghost use Rattle.ps_problem.specs.Drafts.{with_formula};
 ghost use Rattle.ps_expect.specs.KeptTokens.{token_of};
 ghost use Rattle.ps_parse.specs.Pending.{binding, reducible, reduced, waiting, HaveFirst, HaveAll};
 ghost use Rattle.ps_parse.specs.Pending.{is_grouped, group_closed, IsEndable};
-ghost use Rattle.ps_parse.specs.Machine.{operand_taken, operand_ended};
-ghost use Rattle.ps_parse.specs.Machine.{with_atom, with_constant, with_word};
+ghost use Rattle.ps_parse.specs.Machine.{operand_taken, with_atom, with_constant, with_word};
 ghost use Rattle.ps_parse.specs.Ready.{IsOperand, IsOperandWord};
-ghost use Rattle.ps_parse.specs.Kept.{pending_of, draft_of};
+ghost use Rattle.ps_parse.specs.Kept.{pending_of, draft_of, EndsOperand};
 
 use crate::operator::Operator;
 use ps_expect::Stack;
@@ -78,8 +77,8 @@ impl FormulaParser {
     #[tactic(auto, using(crate::proofs::Marking::constant_there))]
     pub(crate) fn constant(&mut self, value: bool) -> Result<(), NoMemory>
         requires operands { HaveFirst (pending_of self.old) }
-        ensures constant { OnOk result (pending_of self.new
-            ≡ operand_ended (pending_of self.old) (with_constant (draft_of self.old) value)) }
+        ensures constant { OnOk result
+            (EndsOperand self.old self.new (λ d. with_constant d value)) }
         ensures operands { OnOk result (HaveAll (pending_of self.new)) }
     {
         if value {
@@ -96,8 +95,8 @@ impl FormulaParser {
         requires name { IsName name.now }
         requires room { length (draft_of self.old).names < MOST_DRAFTED }
         requires operands { HaveFirst (pending_of self.old) }
-        ensures atom { OnOk result (pending_of self.new
-            ≡ operand_ended (pending_of self.old) (with_atom (draft_of self.old) name.now)) }
+        ensures atom { OnOk result
+            (EndsOperand self.old self.new (λ d. with_atom d name.now)) }
         ensures operands { OnOk result (HaveAll (pending_of self.new)) }
     {
         let number = self.draft.name(name)?;
@@ -126,8 +125,8 @@ impl FormulaParser {
         requires word { IsOperandWord letters.now }
         requires room { length (draft_of self.old).names < MOST_DRAFTED }
         requires operands { HaveFirst (pending_of self.old) }
-        ensures { OnOk result (pending_of self.new
-            ≡ operand_ended (pending_of self.old) (with_word (draft_of self.old) letters.now)) }
+        ensures { OnOk result
+            (EndsOperand self.old self.new (λ d. with_word d letters.now)) }
     {
         if letters == b"true".as_slice() {
             self.constant(true)

@@ -10,7 +10,7 @@ use Rattle.ps_problem.specs.declared.draft_item.DraftItem.{DraftItem}
 use Rattle.ps_problem.specs.declared.draft_item.DraftSentence.{DraftSentence}
 use Rattle.ps_problem.specs.declared.draft_item.DraftItem.TheVariants as item
 use Rattle.ps_problem.specs.Numbering.{same_name, AreOnce}
-use Rattle.ps_problem.specs.Drafts.{Drafted, arity, marked, NameBelow, canonical_nesting, IsRatio, IsUpper, AreBelow, formula_at, ratio_of, question_at}
+use Rattle.ps_problem.specs.Drafts.{Drafted, arity, marked, NameBelow, canonical_nesting, IsRatio, IsUpper, AreBelow, ratio_of, statement_at, question_at}
 
 -- the formulas that stand open after some marks
 abbrev pub open_after : List Name → List (Formula Name) → List Mark → List (Formula Name)
@@ -42,13 +42,7 @@ spelled names ms s = root names (part ms s)
 
 -- the statement of a sentence over formulas by number
 abbrev pub statement_of : List (Formula Name) → DraftSentence → Statement
-statement_of fs s = record {
-  formula = formula_at fs s.formula;
-  given = option_map (formula_at fs) s.given;
-  side = s.side;
-  value = record { num = s.num; den = s.den };
-  upper = option_map ratio_of s.upper;
-}
+statement_of fs s = statement_at fs s.formula s.given s.side (ratio_of (s.num, s.den)) (option_map ratio_of s.upper)
 
 -- the item of an item over formulas by number
 abbrev pub item_of : List (Formula Name) → DraftItem → Item

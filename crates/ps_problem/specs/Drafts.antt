@@ -5,7 +5,7 @@ use Rattle.ps_meaning.specs.Formula.{Formula}
 use Rattle.ps_meaning.specs.Formula as formula
 use Rattle.ps_meaning.specs.declared.side.Side.{Side}
 use Rattle.ps_meaning.specs.declared.side.Side.TheVariants.{AtLeast}
-use Rattle.ps_meaning.specs.Statements.{Name, Ratio, Question, Item, Stated, Asked}
+use Rattle.ps_meaning.specs.Statements.{Name, Ratio, Statement, Question, Item, Stated, Asked}
 use Rattle.ps_problem.specs.declared.limits.TheConstants.{MOST_DENOMINATOR, MOST_NESTING}
 use Rattle.ps_problem.specs.declared.mark.Mark.{Mark}
 use Rattle.ps_problem.specs.declared.mark.Mark.TheVariants as mark
@@ -112,6 +112,10 @@ formula_at fs i = slice_index_or fs i formula.Truth
 abbrev pub question_at : List (Formula Name) → ℕ → Option ℕ → Question
 question_at fs f g = record { formula = formula_at fs f; given = option_map (formula_at fs) g }
 
+-- the statement over formulas by number, with a value on a side, and perhaps an upper value
+abbrev pub statement_at : List (Formula Name) → ℕ → Option ℕ → Side → Ratio → Option Ratio → Statement
+statement_at fs f g s value upper = record { formula = formula_at fs f; given = option_map (formula_at fs) g; side = s; value = value; upper = upper }
+
 -- the numbers of a formula and perhaps a condition were given out
 abbrev pub AreBelow : ℕ → ℕ → Option ℕ → Type 0
 AreBelow n f g = (f < n) × IfSome g (λ i. i < n)
@@ -131,3 +135,11 @@ with_formula d = record { names = d.names; «open» = []; formulas = d.formulas 
 -- a draft with one more item
 abbrev pub with_item : Drafted → Item → Drafted
 with_item d item = record { names = d.names; «open» = d.«open»; formulas = d.formulas; items = d.items ++ item ∷ [] }
+
+-- a draft with a sentence more, over its formulas by number
+abbrev pub with_statement : Drafted → ℕ → Option ℕ → Side → ℕ × ℕ → Option (ℕ × ℕ) → Drafted
+with_statement d f g s value upper = with_item d (Stated (statement_at d.formulas f g s (ratio_of value) (option_map ratio_of upper)))
+
+-- a draft with a query more, over its formulas by number
+abbrev pub with_question : Drafted → ℕ → Option ℕ → Drafted
+with_question d f g = with_item d (Asked (question_at d.formulas f g))

@@ -1,5 +1,5 @@
 -- Formulas of a draft as far as they are numbered.
-use Rattle.std.specs.Prelude.{◌≡◌, ◌≤◌, ◌<◌, ◌-◌, ℕ, true, List, [], ◌∷◌, Option, Some, None, Result, Ok, Err, length, map, take, drop, All, Contains, IfSome, slice_index_or}
+use Rattle.std.specs.Prelude.{◌≡◌, ◌≤◌, ◌<◌, ◌-◌, ℕ, true, List, [], ◌∷◌, ◌++◌, Option, Some, None, Result, Ok, Err, length, map, take, drop, All, Contains, IfSome, slice_index_or}
 use Rattle.std.specs.List.{list_any}
 use Rattle.ps_meaning.specs.Formula.{Formula, subformulas}
 use Rattle.ps_meaning.specs.Formula as formula
@@ -14,7 +14,7 @@ use Rattle.ps_problem.specs.declared.fault.Fault.{Fault}
 use Rattle.ps_problem.specs.declared.fault.Fault.TheVariants as fault
 use Rattle.ps_formula.specs.Nodes.{Adds}
 use Rattle.ps_problem.specs.Counts.{Excess, Atoms, Nodes, Bounds, Queries, with_formulas}
-use Rattle.ps_problem.specs.Drafts.{made_by, marked}
+use Rattle.ps_problem.specs.Drafts.{Drafted, made_by, marked, question_at}
 use Rattle.ps_problem.specs.DraftLists.{open_after}
 use Rattle.ps_problem.specs.declared.building.Building.{Building}
 use Rattle.ps_problem.specs.Problems.{name_at}
@@ -124,3 +124,24 @@ ArePartsNumbered names fs f b result = GivesNumber names (with_formulas fs (subf
 -- all formulas of a question are behind some others, and it has these numbers; or there is the excess at one of them
 abbrev pub IsQuestionNumbered : List Name → List (Formula Name) → Question → Building → Result Query Fault → Type 0
 IsQuestionNumbered names fs q b result = GivesQuery names (with_formulas fs (numbered_for q.formula q.given)) q b.atoms b.formulas result
+
+-- whatever formulas were numbered before, a formula is behind them and has this number; or there is the excess at it
+abbrev pub NumbersFormula : List Name → Building → Formula Name → Building → Result ℕ Fault → Type 0
+NumbersFormula names old f new result = (h : Built names old.atoms old.formulas) → IsNumbered names h.formulas f new result
+
+-- the same of the formula of a mark over the numbers of formulas that stand open
+abbrev pub NumbersMark : List Name → Building → List ℕ → Mark → Building → Result ℕ Fault → Type 0
+NumbersMark names old stack m new result = (h : Built names old.atoms old.formulas) (fs : List (Formula Name))
+    → IsStack h.formulas fs stack → IsNumbered names h.formulas (made_by names fs m) new result
+
+-- the same of all subformulas of a formula
+abbrev pub NumbersParts : List Name → Building → Formula Name → Building → Result ℕ Fault → Type 0
+NumbersParts names old f new result = (h : Built names old.atoms old.formulas) → ArePartsNumbered names h.formulas f new result
+
+-- the same of all formulas of a question, over formulas of a draft by number
+abbrev pub NumbersQuestion : Drafted → Building → ℕ → Option ℕ → Building → Result Query Fault → Type 0
+NumbersQuestion d old f g new result = (h : Built d.names old.atoms old.formulas) → IsQuestionNumbered d.names h.formulas (question_at d.formulas f g) new result
+
+-- a stack with a number in the place of its last ones, so many
+abbrev pub replaced : List ℕ → ℕ → ℕ → List ℕ
+replaced stack count number = take (length stack - count) stack ++ number ∷ []

@@ -1,14 +1,12 @@
 //! The numbering of formulas and atoms.
-ghost use Rattle.std.specs.Prelude.{◌≡◌, ◌≤◌, ◌<◌, ◌-◌, ◌++◌, [], ◌∷◌, All, IfErr, OnOk};
-ghost use Rattle.std.specs.Prelude.{List, length, take, nat_eq};
-ghost use Rattle.ps_meaning.specs.Formula.{Formula, Atom};
-ghost use Rattle.ps_meaning.specs.Statements.{Name};
+ghost use Rattle.std.specs.Prelude.{◌≡◌, ◌≤◌, ◌<◌, [], All, IfErr, OnOk, length, nat_eq};
+ghost use Rattle.ps_meaning.specs.Formula.{Atom};
 ghost use Rattle.ps_formula.specs.Nodes.{Fits};
 ghost use Rattle.ps_problem.specs.Numbering.{place_in};
-ghost use Rattle.ps_problem.specs.Drafts.{arity, NameBelow, made_by, question_at, AreBelow};
+ghost use Rattle.ps_problem.specs.Drafts.{arity, NameBelow, AreBelow};
 ghost use Rattle.ps_problem.specs.DraftLists.{AreMarks, root};
-ghost use Rattle.ps_problem.specs.Numbered.{Built, IsStack, node_over, IsAdded, IsNumbered};
-ghost use Rattle.ps_problem.specs.Numbered.{ArePartsNumbered, IsQuestionNumbered};
+ghost use Rattle.ps_problem.specs.Numbered.{Built, node_over, IsAdded, NumbersFormula};
+ghost use Rattle.ps_problem.specs.Numbered.{NumbersMark, NumbersParts, NumbersQuestion, replaced};
 ghost use Rattle.ps_problem.specs.Problems.{name_at};
 
 use crate::fault::Fault;
@@ -94,8 +92,8 @@ impl Building {
     fn atom(&mut self, names: &Names, name: u32) -> Result<u32, Fault>
         requires name { name < length names.now }
         requires built { Built names.now self.old.atoms self.old.formulas }
-        ensures { (h : Built names.now self.old.atoms self.old.formulas)
-            → IsNumbered names.now h.formulas (Atom (name_at names.now name)) self.new result }
+        ensures { NumbersFormula names.now self.old
+            (Atom (name_at names.now name)) self.new result }
     {
         let place = place_of(self.atoms.as_slice(), name);
         if place < self.atoms.len() {
@@ -120,9 +118,7 @@ impl Building {
         requires operands { arity mark ≤ length stack.now }
         requires below { All (λ i. i < length self.old.formulas) stack.now }
         requires built { Built names.now self.old.atoms self.old.formulas }
-        ensures { (h : Built names.now self.old.atoms self.old.formulas) (fs : List (Formula Name))
-            → IsStack h.formulas fs stack.now
-            → IsNumbered names.now h.formulas (made_by names.now fs mark) self.new result }
+        ensures { NumbersMark names.now self.old stack.now mark self.new result }
     {
         if let Mark::Name(name) = mark {
             return self.atom(names, name);
@@ -134,8 +130,7 @@ impl Building {
     fn formula(&mut self, alloc: Global, names: &Names, marks: &[Mark]) -> Result<u32, Fault>
         requires marks { AreMarks names.now marks.now (root names.now marks.now) }
         requires built { Built names.now self.old.atoms self.old.formulas }
-        ensures { (h : Built names.now self.old.atoms self.old.formulas)
-            → ArePartsNumbered names.now h.formulas (root names.now marks.now) self.new result }
+        ensures { NumbersParts names.now self.old (root names.now marks.now) self.new result }
     {
         let mut stack = Vec::new(alloc);
         for mark in marks {
@@ -160,9 +155,7 @@ impl Building {
     ) -> Result<Query, Fault>
         requires formulas { AreBelow (length draft.now.formulas) formula given }
         requires built { Built draft.now.names self.old.atoms self.old.formulas }
-        ensures { (h : Built draft.now.names self.old.atoms self.old.formulas)
-            → IsQuestionNumbered draft.now.names h.formulas
-            (question_at draft.now.formulas formula given) self.new result }
+        ensures { NumbersQuestion draft.now self.old formula given self.new result }
     {
         let first = match self.formula(alloc, draft.names(), draft.marks(formula)) {
             Ok(number) => number,
@@ -196,8 +189,7 @@ impl Building {
 // Puts a number in the place of the last ones.
 fn replace(stack: &mut Vec<u32>, count: usize, number: u32) -> Result<(), Fault>
     requires { count ≤ length stack.old.items }
-    ensures ok { OnOk result
-        (stack.new.items ≡ take (length stack.old.items - count) stack.old.items ++ number ∷ []) }
+    ensures ok { OnOk result (stack.new.items ≡ replaced stack.old.items count number) }
     ensures err { IfErr result (λ x. x ≡ Fault.NoMemory) }
 {
     let kept = stack.len() - count;

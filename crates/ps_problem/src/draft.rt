@@ -1,15 +1,14 @@
 //! Drafts of problems.
 ghost use Rattle.std.specs.Prelude.{◌≡◌, ◌<◌, ◌≤◌, [], All, OnOk, OnErr, IfOk, Some, length};
-ghost use Rattle.std.specs.Prelude.{option_map, slice_get};
+ghost use Rattle.std.specs.Prelude.{slice_get};
 ghost use Rattle.ps_meaning.specs.Names.{IsName};
-ghost use Rattle.ps_meaning.specs.Statements.{Stated, Asked};
 ghost use Rattle.ps_problem.specs.declared.limits.TheConstants.{MOST_DRAFTED, MOST_NESTING};
 ghost use Rattle.ps_problem.specs.Numbering.{AreOnce, same_name};
 ghost use Rattle.ps_problem.specs.DraftLists.{AreMarks, root, item_of, IsDraftItem};
-ghost use Rattle.ps_problem.specs.Drafts.{arity, NameBelow, canonical_nesting};
-ghost use Rattle.ps_problem.specs.Drafts.{formula_at, question_at, ratio_of};
+ghost use Rattle.ps_problem.specs.Drafts.{arity, NameBelow, canonical_nesting, formula_at};
 ghost use Rattle.ps_problem.specs.Drafts.{AreBelow, IsRatio, IsUpper, IsLawful, IsNested};
-ghost use Rattle.ps_problem.specs.Drafts.{with_name, with_mark, with_formula, with_item};
+ghost use Rattle.ps_problem.specs.Drafts.{with_name, with_mark, with_formula};
+ghost use Rattle.ps_problem.specs.Drafts.{with_statement, with_question};
 
 use crate::draft_item::{DraftItem, DraftQuery, DraftSentence};
 use crate::names::Names;
@@ -117,13 +116,8 @@ impl Draft {
         requires value { IsRatio num den }
         requires upper { IsUpper side upper }
         requires room { length self.old.items < MOST_DRAFTED }
-        ensures ok { OnOk result (self.new ≡ with_item self.old (Stated (record {
-          formula = formula_at self.old.formulas formula;
-          given = option_map (formula_at self.old.formulas) given;
-          side = side;
-          value = record { num = num; den = den };
-          upper = option_map ratio_of upper;
-        }))) }
+        ensures ok { OnOk result
+            (self.new ≡ with_statement self.old formula given side (num, den) upper) }
         ensures err { OnErr result (self.new ≡ self.old) }
     {
         self.items.push(DraftItem::Sentence(DraftSentence {
@@ -140,8 +134,7 @@ impl Draft {
     pub fn query(&mut self, formula: u32, given: Option<u32>) -> Result<(), NoMemory>
         requires formulas { AreBelow (length self.old.formulas) formula given }
         requires room { length self.old.items < MOST_DRAFTED }
-        ensures ok { OnOk result
-            (self.new ≡ with_item self.old (Asked (question_at self.old.formulas formula given))) }
+        ensures ok { OnOk result (self.new ≡ with_question self.old formula given) }
         ensures err { OnErr result (self.new ≡ self.old) }
     {
         self.items

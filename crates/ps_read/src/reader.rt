@@ -50,7 +50,8 @@ fn judge(
     requires derivation { IsParsed (machine_of parser.old) }
     requires word { IsKeptIn token }
     requires room { CountsAtMost (MOST_DRAFTED - 1) (machine_of parser.old) }
-    ensures judged { IsStepAnswered token began bad (parsed_by parser.old) (parsed_by parser.new) result }
+    ensures judged { IsStepAnswered token began bad
+        (parsed_by parser.old) (parsed_by parser.new) result }
     ensures derivation { OnOk result (IsParsed (machine_of parser.new)) }
     ensures counts { OnOk result (IsOneMore parser.old parser.new) }
 {
