@@ -6,12 +6,12 @@ use Rattle.std.proofs.lemmas.List.Elements.{All-nil, All-push}
 use Rattle.std.proofs.lemmas.List.{take_all}
 use Rattle.std.proofs.lemmas.List.Sums.{fold-append}
 use Rattle.std.proofs.lemmas.Bool.{cases_eq, eq-eqb}
-use Rattle.ps_steps.specs.Assignments.{Assignment, place, value_of, with_true, is_false, all_unset}
+use Rattle.ps_steps.specs.Assignments.{Assignment, place, value_of, with_true, is_false, all_unset, Includes}
 use Rattle.ps_steps.specs.Constraints.{Constraint, Forces, slack, is_violated, some_forced, with_forced}
 use Rattle.ps_steps.specs.Steps.{Known, constraint_at, next_id, Step, Open, Conflict, at_constraint, after_hint, after_hints, and_false, all_false, refusal_of, from_start, end_of}
 use Rattle.ps_learning.specs.Trails.{Entry, values_of, AreFresh}
 use Rattle.ps_learning.specs.Causes.{Marks, is_marked, AreCovered}
-use Rattle.ps_steps.proofs.Values.{Includes, includes-refl, includes-trans}
+use Rattle.ps_steps.proofs.Values.{includes-refl, includes-trans}
 use Rattle.ps_steps.proofs.Forcing.{with_forced-includes}
 use Rattle.ps_steps.proofs.Lawful.{value-unset}
 use Rattle.ps_steps.proofs.Setting.{AreDistinct, length-forced, value-other, value-own, value-same}

@@ -4,13 +4,13 @@ use Rattle.std.specs.Prelude.{slice_get, slice_set}
 use Rattle.std.proofs.lemmas.List.{get_or_past}
 use Rattle.std.proofs.lemmas.Option.{slice_get_within}
 use Rattle.std.proofs.lemmas.Bool.{cases_eq, cases_lt}
-use Rattle.ps_steps.specs.Assignments.{Assignment, place, value_of, is_unset}
-use Rattle.ps_steps.specs.Constraints.{Constraint}
+use Rattle.ps_steps.specs.Assignments.{Assignment, place, value_of, is_unset, Includes}
+use Rattle.ps_steps.specs.Constraints.{Constraint, HasTerm}
 use Rattle.ps_steps.specs.Steps.{Known}
 use Rattle.ps_learning.specs.Trails.{Entry, values_of, AreFresh}
 use Rattle.ps_learning.specs.Causes.{Marks, is_marked, AreCovered, IsExplained, AreExplained}
 use Rattle.ps_learning.specs.Marking.{Grows, AreSetIn}
-use Rattle.ps_steps.proofs.Values.{Includes, includes-refl, includes-trans, with_true-includes}
+use Rattle.ps_steps.proofs.Values.{includes-refl, includes-trans, with_true-includes}
 use Rattle.ps_steps.proofs.Setting.{unset-below}
 use Rattle.ps_learning.proofs.Entries.{values-more}
 

@@ -1,8 +1,7 @@
 -- How far the literals of a learned clause have been set false.
 use Rattle.std.specs.Prelude.{ℕ, ◌≡◌, ◌<◌, ◌≤◌, ℤ, neg_ℤ, true, Some, List, take, length, fold, slice_get, All, Contains}
-use Rattle.ps_steps.specs.Assignments.{Assignment, value_of, all_unset}
+use Rattle.ps_steps.specs.Assignments.{Assignment, value_of, all_unset, Includes}
 use Rattle.ps_steps.specs.Steps.{and_false}
-use Rattle.ps_steps.proofs.Values.{Includes}
 use Rattle.ps_learning.specs.Trails.{Entry, Trail, IsLit, values_of}
 use Rattle.ps_learning.specs.Causes.{Marks, is_marked}
 

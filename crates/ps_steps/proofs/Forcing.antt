@@ -3,9 +3,9 @@ use Rattle.std.proofs.Common.{◌≡◌, ℕ, ℤ, pos, ◌<ℤ◌, Bool, true, 
 use Rattle.std.specs.Prelude.{int_lt}
 use Rattle.std.proofs.lemmas.Int.{ints}
 use Rattle.std.proofs.lemmas.Bool.{cases_Bool, and_parts}
-use Rattle.ps_steps.specs.Assignments.{Assignment, value_of, with_true, is_false, is_unset, holds}
+use Rattle.ps_steps.specs.Assignments.{Assignment, value_of, with_true, is_false, is_unset, holds, Includes}
 use Rattle.ps_steps.specs.Constraints.{Constraint, is_open, IsMet, slack, is_forced, with_forced, is_violated, HasTerm}
-use Rattle.ps_steps.proofs.Values.{Includes, Agrees, includes-refl, includes-trans, with_true-includes, with_true-agrees}
+use Rattle.ps_steps.proofs.Values.{Agrees, includes-refl, includes-trans, with_true-includes, with_true-agrees}
 use Rattle.ps_steps.proofs.Sums.{sum_where-le, sum_where-gap, agrees-open}
 
 -- a met constraint isn't violated

@@ -3,10 +3,10 @@ use Rattle.std.proofs.Common.{◌≡◌, ◌≢◌, ℕ, zero, suc, ◌<◌, ◌
 use Rattle.std.specs.Prelude.{int_lt, unsigned_abs, nat_lt}
 use Rattle.std.proofs.lemmas.Int.{ints}
 use Rattle.std.proofs.lemmas.Bool.{cases_Bool, and_parts, and_from, ltb-true}
-use Rattle.ps_steps.specs.Assignments.{Assignment, place, is_positive, agree, with_sign, value_of, with_true, with_false, is_unset}
+use Rattle.ps_steps.specs.Assignments.{Assignment, place, is_positive, agree, with_sign, value_of, with_true, with_false, is_unset, Includes}
 use Rattle.ps_steps.specs.Constraints.{HasTerm, is_forced, some_forced, with_forced}
 use Rattle.ps_steps.specs.Weights.{weighted, are_rising}
-use Rattle.ps_steps.proofs.Values.{Includes, includes-trans, signed-some, value-set, with_true-includes, agree-same, agree-is}
+use Rattle.ps_steps.proofs.Values.{includes-trans, signed-some, value-set, with_true-includes, agree-same, agree-is}
 use Rattle.ps_steps.proofs.Forcing.{next_forced, with_forced-includes}
 
 pub length-with_true : (a : Assignment) (l : ℤ) → length (with_true a l) ≡ length a

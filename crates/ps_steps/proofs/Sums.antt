@@ -1,8 +1,8 @@
 -- Sums of coefficients under assignments that set more.
 use Rattle.std.proofs.Common.{◌≡◌, ℕ, ◌+◌, ◌≤◌, Bool, true, false, cond, not, Option, Some, None, List, [], ◌∷◌, ℤ, arith, refl, ap, ◌∙◌, inl, inr, subst}
-use Rattle.ps_steps.specs.Assignments.{Assignment, value_of, is_false, holds}
+use Rattle.ps_steps.specs.Assignments.{Assignment, value_of, is_false, holds, Includes}
 use Rattle.ps_steps.specs.Constraints.{sum_where, is_open, HasTerm}
-use Rattle.ps_steps.proofs.Values.{Includes, Agrees}
+use Rattle.ps_steps.proofs.Values.{Agrees}
 
 -- each literal that passes the first test passes the second
 pub record Implies (f g : ℤ → Bool) : Type 0 where

@@ -70,6 +70,10 @@ unfoldable pub without : Assignment → ℕ → Assignment
 without a zero = a
 without a (suc p) = slice_set a p None
 
+-- the first assignment includes the second: what is set in the second is set so in the first
+pub record Includes (a b : Assignment) : Type 0 where
+  pub at : (l : ℤ) (v : Bool) → value_of b l ≡ Some v → value_of a l ≡ Some v
+
 -- each variable has the value of a full assignment
 abbrev pub full : List Bool → Assignment
 full w = map Some w
