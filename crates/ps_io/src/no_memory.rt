@@ -1,8 +1,10 @@
 //! Want of memory.
 use std::alloc::{AllocError, AllocFailed};
+use thiserror::Error;
 
 /// There was not enough memory.
-#[derive(Clone, Copy, Debug, PartialEq, Eq)]
+#[derive(Clone, Copy, Debug, PartialEq, Eq, Error)]
+#[error("not enough memory")]
 pub struct NoMemory;
 
 impl From<AllocError> for NoMemory {

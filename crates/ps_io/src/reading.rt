@@ -5,15 +5,19 @@ ghost use Rattle.ps_io.specs.Transfer.{ReadAll, TookBefore};
 
 use crate::{LONGEST_READ, Source};
 use std::alloc::Global;
+use thiserror::Error;
 
 /// Why not all bytes were read.
-#[derive(Clone, Copy, Debug, PartialEq, Eq)]
+#[derive(Clone, Copy, Debug, PartialEq, Eq, Error)]
 pub enum ReadAllError {
     /// A read failed.
+    #[error("a read failed")]
     Fault,
     /// More than `limit` bytes came before the end and before any fault.
+    #[error("more than {limit} bytes")]
     TooLong { limit: u64 },
     /// There was not enough memory.
+    #[error("not enough memory")]
     NoMemory,
 }
 
