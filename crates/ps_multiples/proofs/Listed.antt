@@ -17,7 +17,8 @@ use Rattle.ps_table.specs.declared.place.WideAt.{WideAt}
 use Rattle.ps_table.specs.declared.error.TableError.{TableError}
 use Rattle.ps_table.specs.declared.error.TableError.TheVariants as refused
 use Rattle.ps_table.specs.declared.costs.Costs.{Costs}
-use Rattle.ps_table.specs.Tableau.{Tableau, IsTableau, rows_of, most_rows}
+use Rattle.ps_table.specs.declared.limits.TheConstants.{MOST_ROWS}
+use Rattle.ps_table.specs.Tableau.{Tableau, IsTableau, rows_of}
 use Rattle.ps_table.specs.Pricing.{multiplier_of}
 use Rattle.ps_table.specs.Places.{IsWideAt, IsRefusedAt, IsTooLargeToPrint, HomePlaces, printed_limit, at_whole, at_scaled}
 use Rattle.ps_table.specs.Grids.{Names}
@@ -133,7 +134,7 @@ refused_in_table t costs xs h refused.NoMemory p = tt
 pub refused_home : (t : Tableau) (costs : Costs) (m : ℕ) (w : WideAt) → m < rows_of t → IsWideAt (HomePlaces t costs m) w → IsWideAt (DualPlaces t costs) w
 refused_home t costs m w hm p = record { at = of_home m w.place w.op w.left w.right hm p.at; wide = p.wide }
 
-pub few_multipliers : (t : Tableau) (costs : Costs) (xs : List Rational) → AreMultipliers t costs xs → IsTableau t → length xs ≤ most_rows
+pub few_multipliers : (t : Tableau) (costs : Costs) (xs : List Rational) → AreMultipliers t costs xs → IsTableau t → length xs ≤ MOST_ROWS
 few_multipliers t costs xs h is = omega (arith, h.count, is.few)
 
 -- the products of the multipliers' list are the whole multiples of the multipliers

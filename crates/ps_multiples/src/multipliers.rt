@@ -1,6 +1,7 @@
 //! Whole multiples of a table's multipliers.
 ghost use Rattle.std.specs.Prelude.{◌≡◌, ◌<◌, ◌≤◌, length, IfOk, IfErr};
-ghost use Rattle.ps_table.specs.Tableau.{most_rows, rows_of};
+ghost use Rattle.ps_table.specs.Tableau.{rows_of};
+ghost use Rattle.ps_table.specs.declared.limits.TheConstants.{MOST_ROWS};
 ghost use Rattle.ps_table.specs.Pricing.{HasCosts};
 ghost use Rattle.ps_table.specs.Places.{printed_limit, IsWideAt, IsRefusedAt, IsNarrow};
 ghost use Rattle.ps_multiples.specs.Multiples.{AreScaled, DualPlaces};
@@ -32,7 +33,7 @@ fn multipliers(alloc: Global, table: &Table, costs: &Costs) -> Result<List<Fract
 /// The least common multiple of the numbers' denominators.
 #[tactic(auto, using(crate::proofs::Listed::next_multiple, crate::proofs::Listed::wide_multiple))]
 fn multiple_of(numbers: &[Fraction]) -> Result<u128, WideAt>
-    requires { length numbers.now ≤ most_rows }
+    requires { length numbers.now ≤ MOST_ROWS }
     ensures value { IfOk result (λ r. r ≡ multiple_before numbers.now (length numbers.now)) }
     ensures small { IfOk result (λ r. r ≤ printed_limit) }
     ensures refused { IfErr result (IsWideAt (ListPlaces numbers.now)) }
@@ -46,7 +47,7 @@ fn multiple_of(numbers: &[Fraction]) -> Result<u128, WideAt>
 
 /// Each number times their multiple.
 fn products(alloc: Global, numbers: &[Fraction], multiple: u128) -> Result<List<i128>, TableError>
-    requires few { length numbers.now ≤ most_rows }
+    requires few { length numbers.now ≤ MOST_ROWS }
     requires multiple { multiple ≡ multiple_before numbers.now (length numbers.now) }
     requires small { multiple ≤ printed_limit }
     ensures value { IfOk result (AreProducts numbers.now

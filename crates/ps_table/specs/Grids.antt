@@ -8,7 +8,8 @@ use Rattle.ps_rational.specs.Sums.{sum_to}
 use Rattle.ps_table.specs.declared.place.Place.{Place}
 use Rattle.ps_table.specs.declared.place.WideAt.{WideAt}
 use Rattle.ps_table.specs.declared.pivot.Pivot.{Pivot}
-use Rattle.ps_table.specs.Tableau.{Tableau, cell_at, entry_at, number_of, most_rows, world_limit, world_entry}
+use Rattle.ps_table.specs.declared.limits.TheConstants.{MOST_ROWS}
+use Rattle.ps_table.specs.Tableau.{Tableau, cell_at, entry_at, number_of, world_limit, world_entry}
 use Rattle.ps_pool.specs.declared.col.Col.{Col}
 use Rattle.ps_pool.specs.declared.col.Col.TheVariants as col
 use Rattle.ps_basis.specs.Table.{unit_at}
@@ -32,7 +33,7 @@ cell_in g i j = cell_at g.rows g.cells i j
 
 -- the right side, a home for each row, and the worlds
 pub record IsGrid (g : GridCells) : Type 0 where
-  pub few : g.rows ≤ most_rows
+  pub few : g.rows ≤ MOST_ROWS
   pub many : g.worlds < world_limit
   pub size : length g.cells ≡ suc (g.rows + g.worlds) * g.rows
 

@@ -1,6 +1,7 @@
 -- A table as its callers see it: the kinds of the homes, the columns one after the other, and the basic columns.
 use Rattle.std.specs.Prelude.{◌≡◌, ℕ, suc, ◌+◌, ◌-◌, ◌*◌, ◌^◌, ◌<◌, ◌≤◌, List, get_or, length, set, ℤ, pos}
 use Rattle.ps_table.specs.declared.home.Home.{Home}
+use Rattle.ps_table.specs.declared.limits.TheConstants.{MOST_ROWS}
 use Rattle.ps_pool.specs.declared.col.Col.{Col}
 use Rattle.ps_pool.specs.declared.col.Col.TheVariants as col
 use Rattle.ps_table.specs.declared.place.TableCol.{TableCol}
@@ -8,10 +9,6 @@ use Rattle.ps_table.specs.declared.place.TableCol.TheVariants.{Right, Of}
 use Rattle.ps_rational.specs.Rational.{Rational, fraction, mul, zero_q}
 use Rattle.ps_rational.specs.Sums.{sum_to}
 use Rattle.ps_basis.specs.Table.{Stands, Pivoted, Based, HasHomes, unit_at}
-
--- the most rows of a table
-abbrev pub most_rows : ℕ
-most_rows = 101
 
 -- a table has fewer worlds than this
 abbrev pub world_limit : ℕ
@@ -81,7 +78,7 @@ basic_at t i = number_in (length t.kinds) (get_or t.basic i (col.Home 0))
 -- is basic
 pub record IsTableau (t : Tableau) : Type 0 where
   pub some : 0 < length t.kinds
-  pub few : length t.kinds ≤ most_rows
+  pub few : length t.kinds ≤ MOST_ROWS
   pub many : t.worlds < world_limit
   pub cells : length t.cells ≡ suc (length t.kinds + t.worlds) * length t.kinds
   pub basics : length t.basic ≡ length t.kinds

@@ -1,7 +1,8 @@
 //! Cells of columns that stand one after the other, and the numbers of columns.
 ghost use Rattle.std.specs.Prelude.{◌≡◌, ℕ, suc, ◌+◌, ◌*◌, ◌^◌, ◌<◌, ◌≤◌, length};
 ghost use Rattle.ps_table.specs.Tableau.{number_in, number_shown, IsInside, IsShown, cell_at};
-ghost use Rattle.ps_table.specs.Tableau.{most_rows, world_limit};
+ghost use Rattle.ps_table.specs.declared.limits.TheConstants.{MOST_ROWS};
+ghost use Rattle.ps_table.specs.Tableau.{world_limit};
 
 use crate::place::TableCol;
 use ps_frac::Fraction;
@@ -25,7 +26,7 @@ pub(crate) fn cell(cells: &[Fraction], rows: usize, row: usize, column: usize) -
 
 /// The number of a column, where the right side is 0.
 pub(crate) fn number_of(rows: usize, col: Col) -> usize
-    requires { rows ≤ most_rows }
+    requires { rows ≤ MOST_ROWS }
     ensures value { result ≡ number_in rows col }
     ensures within { (worlds : ℕ) → IsInside rows worlds col → result < suc (rows + worlds) }
 {
@@ -37,7 +38,7 @@ pub(crate) fn number_of(rows: usize, col: Col) -> usize
 
 /// The column of a number.
 pub(crate) fn shown(rows: usize, column: usize) -> TableCol
-    requires few { rows ≤ most_rows }
+    requires few { rows ≤ MOST_ROWS }
     requires many { column < rows + world_limit }
     ensures number { number_shown rows result ≡ column }
     ensures shown { (worlds : ℕ) → column ≤ rows + worlds → IsShown rows worlds result }

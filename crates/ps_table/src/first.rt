@@ -1,7 +1,7 @@
 //! The first table.
 ghost use Rattle.std.specs.Prelude.{◌≡◌, suc, ◌-◌, ◌*◌, ◌<◌, ◌≤◌, length, IfOk};
 ghost use Rattle.ps_basis.specs.Table.{unit_at};
-ghost use Rattle.ps_table.specs.Tableau.{most_rows};
+ghost use Rattle.ps_table.specs.declared.limits.TheConstants.{MOST_ROWS};
 ghost use Rattle.ps_table.specs.Grids.{AreUnits, AreHomes};
 
 use ps_frac::Fraction;
@@ -23,7 +23,7 @@ fn home_cell(row: usize, column: usize) -> Fraction
 /// The cells of a new table.
 pub(crate) fn first_cells(alloc: Global, rows: usize) -> Result<Vec<Fraction>, NoMemory>
     requires some { 0 < rows }
-    requires few { rows ≤ most_rows }
+    requires few { rows ≤ MOST_ROWS }
     ensures count { IfOk result (λ v. length v.items ≡ suc rows * rows) }
     ensures value { IfOk result (λ v. AreUnits rows v.items) }
 {
@@ -36,7 +36,7 @@ pub(crate) fn first_cells(alloc: Global, rows: usize) -> Result<Vec<Fraction>, N
 
 /// The homes of so many rows.
 pub(crate) fn first_basic(alloc: Global, rows: usize) -> Result<Vec<Col>, NoMemory>
-    requires few { rows ≤ most_rows }
+    requires few { rows ≤ MOST_ROWS }
     ensures count { IfOk result (λ v. length v.items ≡ rows) }
     ensures value { IfOk result (λ v. AreHomes rows v.items) }
 {

@@ -1,6 +1,7 @@
 //! The entries of a table by row and column.
 ghost use Rattle.std.specs.Prelude.{◌≡◌, suc, ◌+◌, ◌*◌, ◌<◌, ◌≤◌, length};
-ghost use Rattle.ps_table.specs.Tableau.{most_rows, world_limit, number_shown, IsShown};
+ghost use Rattle.ps_table.specs.declared.limits.TheConstants.{MOST_ROWS};
+ghost use Rattle.ps_table.specs.Tableau.{world_limit, number_shown, IsShown};
 ghost use Rattle.ps_table.specs.Grids.{GridCells, IsGrid, cell_in, width};
 
 use crate::cells::{cell, place, shown};
@@ -29,7 +30,7 @@ impl<'a> Model for Grid<'a> {
 impl<'a> Grid<'a> {
     /// The grid of columns of so many rows.
     pub(crate) fn of(rows: usize, worlds: usize, cells: &'a [Fraction]) -> Grid<'a>
-        requires few { rows ≤ most_rows }
+        requires few { rows ≤ MOST_ROWS }
         requires many { worlds < world_limit }
         requires size { length cells.now ≡ suc (rows + worlds) * rows }
         ensures value { result ≡ record { rows = rows; worlds = worlds; cells = cells.now } }

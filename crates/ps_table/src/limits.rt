@@ -1,6 +1,7 @@
 //! The limits of a table, and of the numbers that an answer prints.
-ghost use Rattle.std.specs.Prelude.{◌↔◌, ◌≤◌, IsTrue, unsigned_abs};
+ghost use Rattle.std.specs.Prelude.{◌≡◌, ◌↔◌, ◌≤◌, IsTrue, unsigned_abs};
 ghost use Rattle.ps_table.specs.Places.{printed_limit};
+ghost use Rattle.ps_table.specs.declared.limits.TheConstants.{MOST_ROWS};
 
 /// The most rows of a table: one for each of 100 bounds, and one that normalises.
 pub const MOST_ROWS: usize = 101;
@@ -14,3 +15,8 @@ pub fn can_be_printed(number: i128) -> bool
 {
     number.unsigned_abs() <= PRINTED_LIMIT
 }
+
+/// The most rows by their number.
+pub fn limits_have_these_numbers()
+    ensures rows { MOST_ROWS ≡ 101 }
+{}

@@ -1,7 +1,8 @@
 //! The table of a basis.
 ghost use Rattle.std.specs.Prelude.{◌≡◌, ◌≢◌, suc, ◌+◌, ◌<◌, ◌≤◌, length, get_or, IfOk, IfErr};
 ghost use Rattle.ps_rational.specs.Rational.{zero_q};
-ghost use Rattle.ps_table.specs.Tableau.{Tableau, IsTableau, most_rows, world_limit, rows_of};
+ghost use Rattle.ps_table.specs.declared.limits.TheConstants.{MOST_ROWS};
+ghost use Rattle.ps_table.specs.Tableau.{Tableau, IsTableau, world_limit, rows_of};
 ghost use Rattle.ps_table.specs.Tableau.{HasColumn, number_of, entry_at, entry_of};
 ghost use Rattle.ps_table.specs.Tableau.{HasBasicHomes, HasUnitHomes, StandsForHomes};
 ghost use Rattle.ps_table.specs.Tableau.{IsPivot, IsAdded, StandsOn, StandsWith};
@@ -65,7 +66,7 @@ impl Table {
     /// The table of these homes, which are basic.
     pub fn new(alloc: Global, homes: &[Home]) -> Result<Table, NoMemory>
         requires some { 0 < length homes.now }
-        requires few { length homes.now ≤ most_rows }
+        requires few { length homes.now ≤ MOST_ROWS }
         ensures kinds { IfOk result (λ t. t.kinds ≡ homes.now) }
         ensures worlds { IfOk result (λ t. t.worlds ≡ 0) }
         ensures basic { IfOk result (HasBasicHomes homes.now) }
@@ -89,7 +90,7 @@ impl Table {
     pub fn rows(&self) -> u32
         ensures value { result ≡ rows_of self.now }
         ensures some { 0 < result }
-        ensures few { result ≤ most_rows }
+        ensures few { result ≤ MOST_ROWS }
         ensures tableau { IsTableau self.now }
     {
         self.homes.len() as u32
