@@ -1,5 +1,5 @@
 -- Atoms by the numbers of their names.
-use Rattle.std.proofs.Common.{◌≡◌, ℕ, suc, ◌+◌, ◌<◌, ◌≤◌, Bool, true, false, nat_eq, nat_lt, nat_le, List, [], ◌∷◌, ◌++◌, length, get_or, drop, map, All, Contains, Some, IfSome, Result, Ok, Err, refl, sym, ap, ◌∙◌, true≢false, if◌then◌else◌, arith, inl, inr, ◌⊎◌}
+use Rattle.std.proofs.Common.{◌≡◌, ℕ, suc, ◌+◌, ◌<◌, ◌≤◌, Bool, true, false, nat_eq, nat_lt, nat_le, List, [], ◌∷◌, ◌++◌, length, get_or, drop, map, All, Contains, Some, Result, Ok, Err, refl, sym, ap, ◌∙◌, true≢false, if◌then◌else◌, arith, inl, inr, ◌⊎◌}
 use Rattle.std.specs.List.{list_any}
 use Rattle.std.proofs.Math.ListN.{get_or-map}
 use Rattle.std.proofs.lemmas.List.{length-map, map-append, at_drop_more, at_drop_all, length_push, get_or_default}
@@ -11,10 +11,12 @@ use Rattle.ps_formula.specs.declared.node.Node.{Node}
 use Rattle.ps_formula.specs.declared.node.Node.TheVariants as node
 use Rattle.ps_problem.specs.declared.fault.Fault.{Fault}
 use Rattle.ps_problem.specs.declared.fault.Fault.TheVariants as fault
+use Rattle.ps_problem.specs.declared.excess.Excess.TheVariants as excess
 use Rattle.ps_problem.specs.Numbering.{same_name, same_formula, place_in, names_among, node_in}
-use Rattle.ps_problem.specs.Counts.{Atoms, with_formulas}
+use Rattle.ps_problem.specs.declared.excess.Excess.TheVariants.{Atoms}
+use Rattle.ps_problem.specs.Counts.{with_formulas}
 use Rattle.ps_problem.specs.Numbering.{AreOnce}
-use Rattle.ps_problem.specs.Numbered.{HasOperands, Built, IsAdded, GivesNumber, excess_of}
+use Rattle.ps_problem.specs.Numbered.{HasOperands, Built, IsAdded, GivesNumber, IsFaultOf}
 use Rattle.ps_problem.specs.Problems.{name_at}
 use Rattle.ps_problem.proofs.NameLists.{same_name-true, same_name-refl}
 use Rattle.ps_problem.proofs.Lists.{place-absent, place-below, place-new, any-new}
@@ -173,12 +175,12 @@ module _ (names : List Name) (atoms : List ℕ) (nodes : List Node) (h : Built n
                 absurd (added.1 (omega arith) s.1)
 
     pub atom-refused : place_in nat_eq atoms k < 128 → (new : List Node) (x : Fault) → IsAdded nodes (node.Atom (place_in nat_eq atoms k)) new (Err x)
-        → IfSome (excess_of x) (λ e. with_formulas h.formulas (Atom (name_at names k) ∷ []) ≡ Err e)
+        → IsFaultOf (with_formulas h.formulas (Atom (name_at names k) ∷ [])) x
     atom-refused few new fault.NoMemory added = tt
-    atom-refused few new fault.Atoms added = absurd added
-    atom-refused few new fault.Bounds added = absurd added
-    atom-refused few new fault.Queries added = absurd added
-    atom-refused few new fault.Nodes added =
+    atom-refused few new (fault.TooMany excess.Atoms) added = absurd added
+    atom-refused few new (fault.TooMany excess.Bounds) added = absurd added
+    atom-refused few new (fault.TooMany excess.Queries) added = absurd added
+    atom-refused few new (fault.TooMany excess.Nodes) added =
         let l = length-nodes names atoms nodes h (Atom (name_at names k)) in
         let full : length h.formulas ≡ 1024 = sym l ∙ added.0 in
         expected-full h.formulas (Atom (name_at names k)) absent (few-names few) (rw full refl)

@@ -11,7 +11,9 @@ use Rattle.ps_problem.specs.declared.bound.Bound.{Bound}
 use Rattle.ps_problem.specs.declared.sentence.Sentence.{Sentence}
 use Rattle.ps_problem.specs.Problems.{bounds_in}
 use Rattle.ps_problem.specs.Numbering.{same_formula, with_new, numbered_for, numbered_in_statements, numbered_in_questions, formulas_of, names_among, bound_in, sentence_in}
-use Rattle.ps_problem.specs.Counts.{Excess, Bounds, Queries, ItemExcess, is_atom, excess_with, unless, with_formulas, count_bounds, at_item, with_statements, with_questions, after, counted}
+use Rattle.ps_problem.specs.declared.excess.Excess.{Excess}
+use Rattle.ps_problem.specs.declared.excess.Excess.TheVariants.{Atoms, Nodes, Bounds, Queries}
+use Rattle.ps_problem.specs.Counts.{ItemExcess, is_atom, excess_with, unless, with_formulas, count_bounds, at_item, with_statements, with_questions, after, counted}
 use Rattle.ps_problem.proofs.Nodes.{names-append}
 use Rattle.ps_problem.proofs.Turns.{with-append}
 
@@ -41,7 +43,7 @@ few-push fs x h e = by (is_atom x && nat_le 128 (length (names_among fs))) refl 
     atom y n = let l = ap length (append-nil (names_among fs)) in let m = h.atoms in omega arith
 
     by : (b : Bool) → (is_atom x && nat_le 128 (length (names_among fs))) ≡ b → (c : Bool) → nat_le 1024 (length fs) ≡ c
-        → (if b then Some Excess.Atoms else (if c then Some Excess.Nodes else None)) ≡ None → AreFew (fs ++ x ∷ [])
+        → (if b then Some Atoms else (if c then Some Nodes else None)) ≡ None → AreFew (fs ++ x ∷ [])
     by true p c q e = absurd (cc)
     by false p true q e = absurd (cc)
     by false p false q e = record {

@@ -1,5 +1,5 @@
 -- Going through the items of a draft, first for its statements and then for its questions.
-use Rattle.std.proofs.Common.{◌≡◌, ℕ, ◌+◌, ◌<◌, ◌≤◌, Bool, true, false, nat_lt, List, [], ◌∷◌, ◌++◌, Option, Some, None, IfSome, Ok, Err, length, map, take, drop, slice_get, refl, sym, ap, subst, ◌∙◌, arith, if◌then◌else◌}
+use Rattle.std.proofs.Common.{◌≡◌, ℕ, ◌+◌, ◌<◌, ◌≤◌, Bool, true, false, nat_lt, List, [], ◌∷◌, ◌++◌, Some, Ok, Err, length, map, take, drop, slice_get, refl, sym, ap, subst, ◌∙◌, arith, if◌then◌else◌}
 use Rattle.std.proofs.lemmas.List.{take_more, take_all, drop_more, drop_all, length-append, length_push, append-nil}
 use Rattle.std.proofs.lemmas.List.Elements.{All-nil}
 use Rattle.std.proofs.lemmas.Option.{slice_get_within, get_or_from_slice_get}
@@ -10,13 +10,15 @@ use Rattle.ps_problem.specs.declared.bound.Bound.{Bound}
 use Rattle.ps_problem.specs.declared.sentence.Sentence.{Sentence}
 use Rattle.ps_problem.specs.declared.query.Query.{Query}
 use Rattle.ps_problem.specs.declared.fault.Fault.{Fault}
+use Rattle.ps_problem.specs.declared.fault.Fault.TheVariants as fault
 use Rattle.ps_problem.specs.declared.building.Building.{Building}
 use Rattle.ps_problem.specs.declared.assembly.Assembly.{Assembly}
 use Rattle.ps_problem.specs.Drafts.{Drafted}
 use Rattle.ps_problem.specs.Problems.{parts_of, bounds_in}
 use Rattle.ps_problem.specs.Numbering.{AreOnce, same_name, names_among, sentence_in, query_in, numbered_for, problem_of, formulas_of, node_in}
-use Rattle.ps_problem.specs.Counts.{Excess, Bounds, Queries, count_bounds, with_formulas, at_item, with_statements, with_questions, after, counted}
-use Rattle.ps_problem.specs.Numbered.{HasOperands, HasQuestion, GivesQuery, excess_of}
+use Rattle.ps_problem.specs.declared.excess.Excess.TheVariants.{Bounds, Queries}
+use Rattle.ps_problem.specs.Counts.{count_bounds, with_formulas, at_item, with_statements, with_questions, after, counted}
+use Rattle.ps_problem.specs.Numbered.{HasOperands, HasQuestion, GivesQuery, IsFaultOf}
 use Rattle.ps_problem.specs.Problems.{name_at}
 use Rattle.ps_problem.specs.Making.{HasItems, SentencesMade, QueriesMade, IsExcess, question_on}
 use Rattle.ps_problem.proofs.Turns.{with-more}
@@ -71,12 +73,12 @@ module _ (d : Drafted) where
         fits = split false (grind (arith, nat_tests))
 
         -- its formulas don't fit
-        pub stating-stop : (x : Fault) → IfSome (excess_of x) (λ e. with_formulas r.built.formulas (numbered_for s.formula s.given) ≡ Err e) → IsExcess d.items (i + 1) x
-        stating-stop x t = by (excess_of x) t
+        pub stating-stop : (x : Fault) → IsFaultOf (with_formulas r.built.formulas (numbered_for s.formula s.given)) x → IsExcess d.items (i + 1) x
+        stating-stop x t = by x t
           where
-            by : (o : Option Excess) → IfSome o (λ e. with_formulas r.built.formulas (numbered_for s.formula s.given) ≡ Err e) → IfSome o (λ e. counted d.items ≡ Err (record { excess = e; item = i + 1 }))
-            by None t = tt
-            by (Some e) t = sym fits ∙ ap (λ w. after (at_item (i + 1) w (λ gs. with_statements (i + 1) (length a.bounds + count_bounds s) gs (drop (i + 1) d.items))) (λ fs. with_questions 0 0 fs d.items)) t
+            by : (x : Fault) → IsFaultOf (with_formulas r.built.formulas (numbered_for s.formula s.given)) x → IsExcess d.items (i + 1) x
+            by fault.NoMemory t = tt
+            by (fault.TooMany e) t = sym fits ∙ ap (λ w. after (at_item (i + 1) w (λ gs. with_statements (i + 1) (length a.bounds + count_bounds s) gs (drop (i + 1) d.items))) (λ fs. with_questions 0 0 fs d.items)) t
 
         pub stating-next : (b : Building) (query : Query)
             → (f : GivesQuery d.names (with_formulas r.built.formulas (numbered_for s.formula s.given)) (question_on s) b.atoms b.formulas (Ok query))
@@ -120,12 +122,12 @@ module _ (d : Drafted) where
         asked-fits = asked-split false (grind (arith, nat_tests))
 
         -- its formulas don't fit
-        pub asking-stop : (x : Fault) → IfSome (excess_of x) (λ e. with_formulas r.built.formulas (numbered_for q.formula q.given) ≡ Err e) → IsExcess d.items (i + 1) x
-        asking-stop x t = by (excess_of x) t
+        pub asking-stop : (x : Fault) → IsFaultOf (with_formulas r.built.formulas (numbered_for q.formula q.given)) x → IsExcess d.items (i + 1) x
+        asking-stop x t = by x t
           where
-            by : (o : Option Excess) → IfSome o (λ e. with_formulas r.built.formulas (numbered_for q.formula q.given) ≡ Err e) → IfSome o (λ e. counted d.items ≡ Err (record { excess = e; item = i + 1 }))
-            by None t = tt
-            by (Some e) t = sym asked-fits ∙ ap (λ w. at_item (i + 1) w (λ gs. with_questions (i + 1) (length a.queries + 1) gs (drop (i + 1) d.items))) t
+            by : (x : Fault) → IsFaultOf (with_formulas r.built.formulas (numbered_for q.formula q.given)) x → IsExcess d.items (i + 1) x
+            by fault.NoMemory t = tt
+            by (fault.TooMany e) t = sym asked-fits ∙ ap (λ w. at_item (i + 1) w (λ gs. with_questions (i + 1) (length a.queries + 1) gs (drop (i + 1) d.items))) t
 
         pub asking-next : (b : Building) (query : Query)
             → GivesQuery d.names (with_formulas r.built.formulas (numbered_for q.formula q.given)) q b.atoms b.formulas (Ok query)

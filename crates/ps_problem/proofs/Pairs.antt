@@ -1,5 +1,5 @@
 -- A formula and perhaps a condition, numbered one after the other.
-use Rattle.std.proofs.Common.{◌≡◌, ℕ, List, [], ◌∷◌, ◌++◌, length, ◌<◌, Option, Some, None, IfSome, Result, Ok, Err, sym, ap, subst, ◌∙◌, arith}
+use Rattle.std.proofs.Common.{◌≡◌, ℕ, List, [], ◌∷◌, ◌++◌, length, ◌<◌, Option, Some, None, Result, Ok, Err, sym, ap, subst, ◌∙◌, arith}
 use Rattle.std.proofs.lemmas.List.{length-map}
 use Rattle.ps_meaning.specs.Formula.{Formula, And, subformulas}
 use Rattle.ps_meaning.specs.Statements.{Name}
@@ -7,23 +7,20 @@ use Rattle.ps_formula.specs.declared.node.Node.{Node}
 use Rattle.ps_formula.specs.declared.node.Node.TheVariants as node
 use Rattle.ps_problem.specs.declared.fault.Fault.{Fault}
 use Rattle.ps_problem.specs.Numbering.{same_formula, place_in, node_in, numbered_for}
-use Rattle.ps_problem.specs.Counts.{Excess, with_formulas, after}
-use Rattle.ps_problem.specs.Numbered.{IsAmong, IsAdded, GivesNumber, GivesQuery, excess_of}
+use Rattle.ps_problem.specs.Counts.{with_formulas, after}
+use Rattle.ps_problem.specs.Numbered.{IsAmong, IsAdded, GivesNumber, GivesQuery, IsFaultOf}
 use Rattle.ps_problem.proofs.Lists.{place-below}
 use Rattle.ps_problem.proofs.Nodes.{among-more, place-more}
 use Rattle.ps_problem.proofs.Steps.{step-known}
-use Rattle.ps_problem.proofs.Turns.{with-append, with-more}
+use Rattle.ps_problem.proofs.Turns.{fault-onward, with-append, with-more}
 
 -- the formula didn't fit
-pub pair-first : (start : List (Formula Name)) (f : Formula Name) (given : Option (Formula Name)) (x : Fault) → IfSome (excess_of x) (λ e. with_formulas start (subformulas f) ≡ Err e)
-    → IfSome (excess_of x) (λ e. with_formulas start (numbered_for f given) ≡ Err e)
+pub pair-first : (start : List (Formula Name)) (f : Formula Name) (given : Option (Formula Name)) (x : Fault) → IsFaultOf (with_formulas start (subformulas f)) x
+    → IsFaultOf (with_formulas start (numbered_for f given)) x
 pair-first start f None x one = one
-pair-first start f (Some g) x one = by (excess_of x) one
-  where
-    by : (o : Option Excess) → IfSome o (λ e. with_formulas start (subformulas f) ≡ Err e) → IfSome o (λ e. with_formulas start (numbered_for f (Some g)) ≡ Err e)
-    by None t = tt
-    by (Some e) t = with-append start (subformulas f ++ subformulas g) (And f g ∷ []) ∙ ap (λ r. after r (λ gs. with_formulas gs (And f g ∷ [])))
-        (with-append start (subformulas f) (subformulas g) ∙ ap (λ r. after r (λ gs. with_formulas gs (subformulas g))) t)
+pair-first start f (Some g) x one = fault-onward (with_formulas start (subformulas f)) (with_formulas start (numbered_for f (Some g))) x one
+    (λ e t. with-append start (subformulas f ++ subformulas g) (And f g ∷ []) ∙ ap (λ r. after r (λ gs. with_formulas gs (And f g ∷ [])))
+    (with-append start (subformulas f) (subformulas g) ∙ ap (λ r. after r (λ gs. with_formulas gs (subformulas g))) t))
 
 -- nothing is given
 pub pair-alone : (names : List Name) (start : List (Formula Name)) (f : Formula Name) (atoms : List ℕ) (nodes : List Node) (i : ℕ) → GivesNumber names (with_formulas start (subformulas f)) f atoms nodes (Ok i)
@@ -37,12 +34,9 @@ module _ (names : List Name) (start : List (Formula Name)) (f g : Formula Name) 
 
   -- the condition didn't fit
   pub pair-second : (atoms' : List ℕ) (nodes' : List Node) (x : Fault) → GivesNumber names (with_formulas one.0.formulas (subformulas g)) g atoms' nodes' (Err x)
-      → IfSome (excess_of x) (λ e. with_formulas start (numbered_for f (Some g)) ≡ Err e)
-  pair-second atoms' nodes' x two = by (excess_of x) two
-    where
-      by : (o : Option Excess) → IfSome o (λ e. with_formulas one.0.formulas (subformulas g) ≡ Err e) → IfSome o (λ e. with_formulas start (numbered_for f (Some g)) ≡ Err e)
-      by None t = tt
-      by (Some e) t = split ∙ ap (λ r. after r (λ gs. with_formulas gs (And f g ∷ []))) t
+      → IsFaultOf (with_formulas start (numbered_for f (Some g))) x
+  pair-second atoms' nodes' x two = fault-onward (with_formulas one.0.formulas (subformulas g)) (with_formulas start (numbered_for f (Some g))) x two
+      (λ e t. split ∙ ap (λ r. after r (λ gs. with_formulas gs (And f g ∷ []))) t)
 
   module _ (atoms' : List ℕ) (nodes' : List Node) (j : ℕ) (two : GivesNumber names (with_formulas one.0.formulas (subformulas g)) g atoms' nodes' (Ok j)) where
     grown : (more : List (Formula Name)) × (two.0.formulas ≡ one.0.formulas ++ more)
@@ -71,12 +65,9 @@ module _ (names : List Name) (start : List (Formula Name)) (f g : Formula Name) 
     joined : with_formulas start (numbered_for f (Some g)) ≡ with_formulas two.0.formulas (And f g ∷ [])
     joined = split ∙ ap (λ r. after r (λ gs. with_formulas gs (And f g ∷ []))) two.1
 
-    pub pair-third : (nodes'' : List Node) (x : Fault) → IsAdded nodes' (node.And i j) nodes'' (Err x) → IfSome (excess_of x) (λ e. with_formulas start (numbered_for f (Some g)) ≡ Err e)
-    pair-third nodes'' x added = by (excess_of x) (third nodes'' (Err x) added)
-      where
-        by : (o : Option Excess) → IfSome o (λ e. with_formulas two.0.formulas (And f g ∷ []) ≡ Err e) → IfSome o (λ e. with_formulas start (numbered_for f (Some g)) ≡ Err e)
-        by None t = tt
-        by (Some e) t = joined ∙ t
+    pub pair-third : (nodes'' : List Node) (x : Fault) → IsAdded nodes' (node.And i j) nodes'' (Err x) → IsFaultOf (with_formulas start (numbered_for f (Some g))) x
+    pair-third nodes'' x added = fault-onward (with_formulas two.0.formulas (And f g ∷ [])) (with_formulas start (numbered_for f (Some g))) x (third nodes'' (Err x) added)
+        (λ e t. joined ∙ t)
 
     pub pair-both : (nodes'' : List Node) (k : ℕ) → IsAdded nodes' (node.And i j) nodes'' (Ok k)
         → GivesQuery names (with_formulas start (numbered_for f (Some g))) (record { formula = f; given = Some g }) atoms' nodes'' (Ok (record { formula = i; given = Some j; both = k }))

@@ -10,7 +10,9 @@ use Rattle.ps_text.proofs.Canonicals.{canonical_front}
 use Rattle.ps_text.proofs.Nesting.{parenthesis, nesting_at as nesting, nests_canonical}
 use Rattle.ps_problem.specs.Problems.{Parts}
 use Rattle.ps_problem.specs.Numbering.{same_name, place_in, names_among, numbered_for, formulas_of, problem_of}
-use Rattle.ps_problem.specs.Counts.{Excess, Bounds, Queries, ItemExcess, with_formulas, count_bounds, at_item, with_statements, with_questions, after, counted}
+use Rattle.ps_problem.specs.declared.excess.Excess.{Excess}
+use Rattle.ps_problem.specs.declared.excess.Excess.TheVariants.{Bounds, Queries}
+use Rattle.ps_problem.specs.Counts.{ItemExcess, with_formulas, count_bounds, at_item, with_statements, with_questions, after, counted}
 use Rattle.ps_problem.specs.Drafts.{canonical_nesting, nesting_at, IsRatio, IsUpperOf, IsLawful, IsNested}
 use Rattle.ps_problem.specs.Soundness.{IsProblem}
 use Rattle.ps_problem.specs.Numbered.{IsAmong, HasQuestion}

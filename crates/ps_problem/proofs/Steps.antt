@@ -11,8 +11,10 @@ use Rattle.ps_meaning.specs.Statements.{Name}
 use Rattle.ps_formula.specs.declared.node.Node.{Node}
 use Rattle.ps_problem.specs.declared.fault.Fault.{Fault}
 use Rattle.ps_problem.specs.declared.fault.Fault.TheVariants as fault
+use Rattle.ps_problem.specs.declared.excess.Excess.TheVariants as excess
 use Rattle.ps_problem.specs.Numbering.{same_formula, place_in, names_among, node_in}
-use Rattle.ps_problem.specs.Counts.{Atoms, Nodes, is_atom, with_formulas}
+use Rattle.ps_problem.specs.declared.excess.Excess.TheVariants.{Atoms, Nodes}
+use Rattle.ps_problem.specs.Counts.{is_atom, with_formulas}
 use Rattle.ps_problem.specs.Numbering.{AreOnce}
 use Rattle.ps_problem.specs.Numbered.{IsAmong, HasOperands, Built, IsAdded, GivesNumber}
 use Rattle.ps_problem.specs.Problems.{name_at}
@@ -132,10 +134,10 @@ module _ (names : List Name) (atoms : List ℕ) (nodes : List Node) (h : Built n
   pub step-known : HasOperands h.formulas g → (n : Node) → n ≡ node_in h.formulas g → (new : List Node) (result : Result ℕ Fault) → IsAdded nodes n new result
       → GivesNumber names (with_formulas h.formulas (g ∷ [])) g atoms new result
   step-known r n e new (Err fault.NoMemory) added = tt
-  step-known r n e new (Err fault.Atoms) added = absurd added
-  step-known r n e new (Err fault.Bounds) added = absurd added
-  step-known r n e new (Err fault.Queries) added = absurd added
-  step-known r n e new (Err fault.Nodes) added = by (list_any (same_formula g) h.formulas) refl
+  step-known r n e new (Err (fault.TooMany excess.Atoms)) added = absurd added
+  step-known r n e new (Err (fault.TooMany excess.Bounds)) added = absurd added
+  step-known r n e new (Err (fault.TooMany excess.Queries)) added = absurd added
+  step-known r n e new (Err (fault.TooMany excess.Nodes)) added = by (list_any (same_formula g) h.formulas) refl
     where
       by : (b : Bool) → list_any (same_formula g) h.formulas ≡ b → with_formulas h.formulas (g ∷ []) ≡ Err Nodes
       by true a = absurd (added.1 (rw (h.nodes_are, e) (contains-among h.formulas g a)))

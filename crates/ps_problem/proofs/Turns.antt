@@ -1,19 +1,26 @@
 -- Going through the marks of a formula.
-use Rattle.std.proofs.Common.{◌≡◌, ℕ, zero, suc, ◌+◌, ◌-◌, ◌<◌, ◌≤◌, Bool, true, false, List, [], ◌∷◌, ◌++◌, length, get_or, take, drop, Option, Some, None, IfSome, Result, Ok, Err, OnOk, is_err, true≢false, refl, sym, ap, subst, ◌∙◌, arith, if◌then◌else◌}
+use Rattle.std.proofs.Common.{◌≡◌, ℕ, zero, suc, ◌+◌, ◌-◌, ◌<◌, ◌≤◌, Bool, true, false, List, [], ◌∷◌, ◌++◌, length, get_or, take, drop, Option, Some, None, Result, Ok, Err, OnOk, is_err, true≢false, refl, sym, ap, subst, ◌∙◌, arith, if◌then◌else◌}
 use Rattle.std.specs.List.{list_any}
 use Rattle.std.proofs.lemmas.List.{append-nil, append_assoc, take_more, take_all, drop_more, drop_all}
 use Rattle.ps_meaning.specs.Formula.{Formula, Truth, subformulas}
 use Rattle.ps_meaning.specs.Statements.{Name}
 use Rattle.ps_problem.specs.declared.mark.Mark.{Mark}
 use Rattle.ps_problem.specs.declared.fault.Fault.{Fault}
+use Rattle.ps_problem.specs.declared.fault.Fault.TheVariants as fault
 use Rattle.ps_problem.specs.declared.building.Building.{Building}
 use Rattle.ps_problem.specs.Numbering.{same_formula}
-use Rattle.ps_problem.specs.Counts.{Excess, excess_with, unless, with_formulas, after}
+use Rattle.ps_problem.specs.declared.excess.Excess.{Excess}
+use Rattle.ps_problem.specs.Counts.{excess_with, unless, with_formulas, after}
 use Rattle.ps_problem.specs.Drafts.{arity, made_by, marked}
 use Rattle.ps_problem.specs.DraftLists.{open_after, HaveOperands, AreMarks, root}
-use Rattle.ps_problem.specs.Numbered.{Built, IsStack, IsNumberOf, GivesNumber, excess_of, tops, MarksNumbered}
+use Rattle.ps_problem.specs.Numbered.{Built, IsStack, IsNumberOf, GivesNumber, IsFaultOf, tops, MarksNumbered}
 use Rattle.ps_problem.proofs.Postfix.{standing-push}
 use Rattle.ps_problem.proofs.Operators.{length-stand, stand-marked, tops-are}
+
+-- where one numbering ends in an excess so does another, and a fault of the one is a fault of the other
+pub fault-onward : (r s : Result (List (Formula Name)) Excess) (x : Fault) → IsFaultOf r x → ((e : Excess) → r ≡ Err e → s ≡ Err e) → IsFaultOf s x
+fault-onward r s (fault.TooMany e) t onward = onward e t
+fault-onward r s fault.NoMemory t onward = tt
 
 -- formulas numbered in two parts
 pub with-append : (fs xs ys : List (Formula Name)) → with_formulas fs (xs ++ ys) ≡ after (with_formulas fs xs) (λ gs. with_formulas gs ys)
@@ -70,12 +77,9 @@ module _ (names : List Name) (start : List (Formula Name)) (all : List Mark) whe
 
     pub reached-stop : (b' : Building) (x : Fault)
         → GivesNumber names (with_formulas r.built.formulas (made_by names (open_after names [] (take i all)) (get_or all i d) ∷ [])) (made_by names (open_after names [] (take i all)) (get_or all i d)) b'.atoms b'.formulas (Err x)
-        → IfSome (excess_of x) (λ e. with_formulas start (tops names [] all) ≡ Err e)
-    reached-stop b' x f = by (excess_of x) f
-      where
-        by : (o : Option Excess) → IfSome o (λ e. with_formulas r.built.formulas (made_by names (open_after names [] (take i all)) (get_or all i d) ∷ []) ≡ Err e) → IfSome o (λ e. with_formulas start (tops names [] all) ≡ Err e)
-        by None f = tt
-        by (Some e) f = split ∙ ap (λ q. after q (λ gs. with_formulas gs (tops names (marked names (open_after names [] (take i all)) (get_or all i d)) (drop (i + 1) all)))) f
+        → IsFaultOf (with_formulas start (tops names [] all)) x
+    reached-stop b' x f = fault-onward (with_formulas r.built.formulas (made_by names (open_after names [] (take i all)) (get_or all i d) ∷ [])) (with_formulas start (tops names [] all)) x f
+        (λ e t. split ∙ ap (λ q. after q (λ gs. with_formulas gs (tops names (marked names (open_after names [] (take i all)) (get_or all i d)) (drop (i + 1) all)))) t)
 
     pub reached-next : (b' : Building) (n : ℕ) → arity (get_or all i d) ≤ length stack
         → GivesNumber names (with_formulas r.built.formulas (made_by names (open_after names [] (take i all)) (get_or all i d) ∷ [])) (made_by names (open_after names [] (take i all)) (get_or all i d)) b'.atoms b'.formulas (Ok n)

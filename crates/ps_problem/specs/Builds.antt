@@ -6,7 +6,8 @@ use Rattle.ps_problem.specs.declared.build_error.BuildError.{BuildError}
 use Rattle.ps_problem.specs.declared.build_error.BuildError.TheVariants as error
 use Rattle.ps_problem.specs.Problems.{Parts}
 use Rattle.ps_problem.specs.Numbering.{problem_of}
-use Rattle.ps_problem.specs.Counts.{ItemExcess, Atoms, Nodes, Bounds, Queries, counted}
+use Rattle.ps_problem.specs.declared.excess.Excess.TheVariants.{Atoms, Nodes, Bounds, Queries}
+use Rattle.ps_problem.specs.Counts.{ItemExcess, counted}
 
 -- the excess that an error tells of, none where memory ran out
 abbrev pub item_excess_of : BuildError → Option ItemExcess

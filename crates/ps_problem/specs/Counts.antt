@@ -5,12 +5,10 @@ use Rattle.ps_meaning.specs.Formula.{Formula}
 use Rattle.ps_meaning.specs.Formula as formula
 use Rattle.ps_meaning.specs.Statements.{Name, Statement, Item, Stated, Asked}
 use Rattle.ps_formula.specs.declared.limits.TheConstants.{MOST_ATOMS, MOST_NODES}
+use Rattle.ps_problem.specs.declared.excess.Excess.{Excess}
+use Rattle.ps_problem.specs.declared.excess.Excess.TheVariants.{Atoms, Nodes, Bounds, Queries}
 use Rattle.ps_problem.specs.declared.limits.TheConstants.{MOST_BOUNDS, MOST_QUERIES}
 use Rattle.ps_problem.specs.Numbering.{same_formula, numbered_for, names_among}
-
--- what there is too much of
-pub data Excess : Type 0 where
-  Atoms Nodes Bounds Queries : Excess
 
 -- an excess, and the item at which it comes, from 1 in the order of the text
 pub record ItemExcess : Type 0 where

@@ -1,5 +1,5 @@
 -- What is made of a problem's sentences and queries at a point of the making.
-use Rattle.std.specs.Prelude.{◌≡◌, ℕ, ◌+◌, List, [], Option, Err, All, IfSome, length, map, take, drop, option_map}
+use Rattle.std.specs.Prelude.{◌≡◌, ℕ, ◌+◌, List, [], Err, All, length, map, take, drop, option_map}
 use Rattle.ps_meaning.specs.Formula.{Formula}
 use Rattle.ps_meaning.specs.declared.side.Side.{Side}
 use Rattle.ps_meaning.specs.declared.side.Side.TheVariants.{AtMost}
@@ -9,20 +9,18 @@ use Rattle.ps_problem.specs.declared.sentence.Sentence.{Sentence}
 use Rattle.ps_problem.specs.declared.query.Query.{Query}
 use Rattle.ps_problem.specs.declared.draft_item.DraftSentence.{DraftSentence}
 use Rattle.ps_problem.specs.declared.fault.Fault.{Fault}
+use Rattle.ps_problem.specs.declared.fault.Fault.TheVariants as fault
 use Rattle.ps_problem.specs.declared.assembly.Assembly.{Assembly}
 use Rattle.ps_problem.specs.Problems.{bounds_in}
 use Rattle.ps_problem.specs.Numbering.{sentence_in, query_in}
-use Rattle.ps_problem.specs.Counts.{ItemExcess, with_statements, with_questions, after, counted}
+use Rattle.ps_problem.specs.Counts.{with_statements, with_questions, after, counted}
 use Rattle.ps_problem.specs.Drafts.{Drafted}
-use Rattle.ps_problem.specs.Numbered.{Built, HasQuestion, excess_of}
+use Rattle.ps_problem.specs.Numbered.{Built, HasQuestion}
 
--- the refusal of a fault at an item, none where memory ran out
-abbrev pub excess_at : ℕ → Fault → Option ItemExcess
-excess_at item x = option_map (λ e. record { excess = e; item = item }) (excess_of x)
-
--- a fault at an item tells of the first excess of items
+-- a fault at an item is the first excess of items, or that memory ran out
 abbrev pub IsExcess : List Item → ℕ → Fault → Type 0
-IsExcess items item x = IfSome (excess_of x) (λ e. counted items ≡ Err (record { excess = e; item = item }))
+IsExcess items item (fault.TooMany e) = counted items ≡ Err (record { excess = e; item = item })
+IsExcess items item fault.NoMemory = Unit {0}
 
 -- the bound on a query's formula
 abbrev pub bound_on : Query → Side → ℕ → ℕ → Bound

@@ -13,7 +13,9 @@ use Rattle.ps_problem.specs.declared.query.Query.{Query}
 use Rattle.ps_problem.specs.declared.fault.Fault.{Fault}
 use Rattle.ps_problem.specs.declared.fault.Fault.TheVariants as fault
 use Rattle.ps_formula.specs.Nodes.{Adds}
-use Rattle.ps_problem.specs.Counts.{Excess, Atoms, Nodes, Bounds, Queries, with_formulas}
+use Rattle.ps_problem.specs.declared.excess.Excess.{Excess}
+use Rattle.ps_problem.specs.declared.excess.Excess.TheVariants.{Nodes}
+use Rattle.ps_problem.specs.Counts.{with_formulas}
 use Rattle.ps_problem.specs.Drafts.{Drafted, made_by, marked, question_at}
 use Rattle.ps_problem.specs.DraftLists.{open_after}
 use Rattle.ps_problem.specs.declared.building.Building.{Building}
@@ -66,25 +68,22 @@ node_over ps mark.Or = node.Or (operand ps 2) (operand ps 1)
 node_over ps mark.Implies = node.Implies (operand ps 2) (operand ps 1)
 node_over ps mark.Iff = node.Iff (operand ps 2) (operand ps 1)
 
--- the excess that a fault tells of, none where memory ran out
-abbrev pub excess_of : Fault → Option Excess
-excess_of fault.Atoms = Some Atoms
-excess_of fault.Nodes = Some Nodes
-excess_of fault.Bounds = Some Bounds
-excess_of fault.Queries = Some Queries
-excess_of fault.NoMemory = None
+-- a fault is the excess that is expected, or that memory ran out
+abbrev pub IsFaultOf : Result (List (Formula Name)) Excess → Fault → Type 0
+IsFaultOf expected (fault.TooMany e) = expected ≡ Err e
+IsFaultOf expected fault.NoMemory = Unit {0}
 
 -- the node was added, or stood there; a fault is that there was no place for it, or that memory ran out
 abbrev pub IsAdded : List Node → Node → List Node → Result ℕ Fault → Type 0
 IsAdded old n new (Ok i) = Adds old n i new × (length old ≡ MOST_NODES → ¬ Contains old n → ⊥)
-IsAdded old n new (Err fault.Nodes) = (length old ≡ MOST_NODES) × ¬ Contains old n
+IsAdded old n new (Err (fault.TooMany Nodes)) = (length old ≡ MOST_NODES) × ¬ Contains old n
 IsAdded old n new (Err fault.NoMemory) = Unit {0}
 IsAdded old n new (Err other) = ⊥
 
 -- what is expected was built, and the formula has this number; or there is the excess that is expected
 abbrev pub GivesNumber : List Name → Result (List (Formula Name)) Excess → Formula Name → List ℕ → List Node → Result ℕ Fault → Type 0
 GivesNumber names expected f atoms nodes (Ok i) = (h : Built names atoms nodes) × (expected ≡ Ok h.formulas) × IsNumberOf h.formulas f i
-GivesNumber names expected f atoms nodes (Err x) = IfSome (excess_of x) (λ e. expected ≡ Err e)
+GivesNumber names expected f atoms nodes (Err x) = IsFaultOf expected x
 
 -- a stack holds the numbers of formulas that stand open
 pub record IsStack (fs opened : List (Formula Name)) (numbers : List ℕ) : Type 0 where
@@ -111,7 +110,7 @@ pub record HasQuestion (fs : List (Formula Name)) (q : Question) : Type 0 where
 -- what is expected was built, and the question has these numbers; or there is the excess that is expected
 abbrev pub GivesQuery : List Name → Result (List (Formula Name)) Excess → Question → List ℕ → List Node → Result Query Fault → Type 0
 GivesQuery names expected q atoms nodes (Ok r) = (h : Built names atoms nodes) × (expected ≡ Ok h.formulas) × HasQuestion h.formulas q × (r ≡ query_in h.formulas q)
-GivesQuery names expected q atoms nodes (Err x) = IfSome (excess_of x) (λ e. expected ≡ Err e)
+GivesQuery names expected q atoms nodes (Err x) = IsFaultOf expected x
 
 -- a formula is behind some others and has this number; or there is the excess at it
 abbrev pub IsNumbered : List Name → List (Formula Name) → Formula Name → Building → Result ℕ Fault → Type 0

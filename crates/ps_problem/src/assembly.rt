@@ -10,6 +10,7 @@ ghost use Rattle.ps_problem.specs.Making.{SentencesMade, QueriesMade};
 
 use crate::building::Building;
 use crate::draft_item::{DraftItem, DraftSentence};
+use crate::excess::Excess;
 use crate::fault::Fault;
 use crate::limits::{MOST_BOUNDS, MOST_QUERIES};
 use crate::names::Names;
@@ -105,12 +106,9 @@ impl Assembly {
             DraftItem::Query(_) => return Ok(()),
         };
         if self.bounds.len() > MOST_BOUNDS - count(item.upper) {
-            return Err(Fault::Bounds);
+            return Err(Fault::TooMany(Excess::Bounds));
         }
-        let query = match self.building.query(alloc, draft, item.formula, item.given) {
-            Ok(query) => query,
-            Err(fault) => return Err(fault),
-        };
+        let query = self.building.query(alloc, draft, item.formula, item.given)?;
         let made = sentence(query, item);
         if push_bounds(&mut self.bounds, made).is_err() {
             return Err(Fault::NoMemory);
@@ -133,12 +131,9 @@ impl Assembly {
             DraftItem::Sentence(_) => return Ok(()),
         };
         if self.queries.len() >= MOST_QUERIES {
-            return Err(Fault::Queries);
+            return Err(Fault::TooMany(Excess::Queries));
         }
-        let query = match self.building.query(alloc, draft, item.formula, item.given) {
-            Ok(query) => query,
-            Err(fault) => return Err(fault),
-        };
+        let query = self.building.query(alloc, draft, item.formula, item.given)?;
         match self.queries.push(query) {
             Ok(()) => Ok(()),
             Err(_) => Err(Fault::NoMemory),
@@ -152,8 +147,10 @@ impl Assembly {
         ensures err { IfErr result (TellsExcess draft.now.items) }
     {
         for i in 0..draft.len() {
-            if let Err(fault) = self.sentence(alloc, draft, i) {
-                return Err(BuildError::at(fault, i + 1));
+            match self.sentence(alloc, draft, i) {
+                Ok(()) => {}
+                Err(Fault::TooMany(excess)) => return Err(BuildError::too_many(excess, i + 1)),
+                Err(Fault::NoMemory) => return Err(BuildError::NoMemory),
             }
         }
         Ok(())
@@ -166,8 +163,10 @@ impl Assembly {
         ensures err { IfErr result (TellsExcess draft.now.items) }
     {
         for i in 0..draft.len() {
-            if let Err(fault) = self.query(alloc, draft, i) {
-                return Err(BuildError::at(fault, i + 1));
+            match self.query(alloc, draft, i) {
+                Ok(()) => {}
+                Err(Fault::TooMany(excess)) => return Err(BuildError::too_many(excess, i + 1)),
+                Err(Fault::NoMemory) => return Err(BuildError::NoMemory),
             }
         }
         Ok(())
@@ -186,12 +185,8 @@ pub fn build(alloc: Global, draft: &Draft) -> Result<Problem, BuildError>
         bounds: List::new(alloc),
         queries: List::new(alloc),
     };
-    if let Err(error) = assembly.sentences(alloc, draft) {
-        return Err(error);
-    }
-    if let Err(error) = assembly.queries(alloc, draft) {
-        return Err(error);
-    }
+    assembly.sentences(alloc, draft)?;
+    assembly.queries(alloc, draft)?;
     let texts = match copies(alloc, names, assembly.building.atoms.as_slice()) {
         Ok(texts) => texts,
         Err(_) => return Err(BuildError::NoMemory),

@@ -1,9 +1,8 @@
 //! Why no problem is made of a draft.
-ghost use Rattle.std.specs.Prelude.{◌≡◌};
+ghost use Rattle.std.specs.Prelude.{◌≡◌, Some};
 ghost use Rattle.ps_problem.specs.Builds.{item_excess_of};
-ghost use Rattle.ps_problem.specs.Making.{excess_at};
 
-use crate::fault::Fault;
+use crate::excess::Excess;
 use ps_io::NoMemory;
 use thiserror::Error;
 
@@ -29,16 +28,15 @@ pub enum BuildError {
 }
 
 impl BuildError {
-    // The error of a fault at an item.
-    pub(crate) fn at(fault: Fault, item: u32) -> BuildError
-        ensures { item_excess_of result ≡ excess_at item fault }
+    // The error of an excess at an item.
+    pub(crate) fn too_many(excess: Excess, item: u32) -> BuildError
+        ensures { item_excess_of result ≡ Some (record { excess = excess; item = item }) }
     {
-        match fault {
-            Fault::Atoms => BuildError::TooManyAtoms { item },
-            Fault::Nodes => BuildError::TooManyNodes { item },
-            Fault::Bounds => BuildError::TooManyBounds { item },
-            Fault::Queries => BuildError::TooManyQueries { item },
-            Fault::NoMemory => BuildError::NoMemory,
+        match excess {
+            Excess::Atoms => BuildError::TooManyAtoms { item },
+            Excess::Nodes => BuildError::TooManyNodes { item },
+            Excess::Bounds => BuildError::TooManyBounds { item },
+            Excess::Queries => BuildError::TooManyQueries { item },
         }
     }
 }

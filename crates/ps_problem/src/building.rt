@@ -9,6 +9,7 @@ ghost use Rattle.ps_problem.specs.Numbered.{Built, node_over, IsAdded, NumbersFo
 ghost use Rattle.ps_problem.specs.Numbered.{NumbersMark, NumbersParts, NumbersQuestion, replaced};
 ghost use Rattle.ps_problem.specs.Problems.{name_at};
 
+use crate::excess::Excess;
 use crate::fault::Fault;
 use crate::names::Names;
 use crate::{Draft, Mark, Query};
@@ -83,7 +84,7 @@ impl Building {
     {
         match self.formulas.add(node) {
             Ok(i) => Ok(i),
-            Err(AddError::Full) => Err(Fault::Nodes),
+            Err(AddError::Full) => Err(Fault::TooMany(Excess::Nodes)),
             Err(AddError::NoMemory) => Err(Fault::NoMemory),
         }
     }
@@ -100,12 +101,9 @@ impl Building {
             return self.node(Node::Atom(place as u16));
         }
         if place >= MOST_ATOMS {
-            return Err(Fault::Atoms);
+            return Err(Fault::TooMany(Excess::Atoms));
         }
-        let number = match self.node(Node::Atom(place as u16)) {
-            Ok(number) => number,
-            Err(fault) => return Err(fault),
-        };
+        let number = self.node(Node::Atom(place as u16))?;
         match self.atoms.push(name) {
             Ok(()) => Ok(number),
             Err(_) => Err(Fault::NoMemory),
@@ -134,10 +132,7 @@ impl Building {
     {
         let mut stack = Vec::new(alloc);
         for mark in marks {
-            let number = match self.mark(names, &stack, *mark) {
-                Ok(number) => number,
-                Err(fault) => return Err(fault),
-            };
+            let number = self.mark(names, &stack, *mark)?;
             if replace(&mut stack, operands(*mark), number).is_err() {
                 return Err(Fault::NoMemory);
             }
@@ -157,10 +152,7 @@ impl Building {
         requires built { Built draft.now.names self.old.atoms self.old.formulas }
         ensures { NumbersQuestion draft.now self.old formula given self.new result }
     {
-        let first = match self.formula(alloc, draft.names(), draft.marks(formula)) {
-            Ok(number) => number,
-            Err(fault) => return Err(fault),
-        };
+        let first = self.formula(alloc, draft.names(), draft.marks(formula))?;
         let condition = match given {
             Some(condition) => condition,
             None => {
@@ -171,18 +163,13 @@ impl Building {
                 });
             }
         };
-        let second = match self.formula(alloc, draft.names(), draft.marks(condition)) {
-            Ok(number) => number,
-            Err(fault) => return Err(fault),
-        };
-        match self.node(Node::And(first, second)) {
-            Ok(both) => Ok(Query {
-                formula: first,
-                given: Some(second),
-                both,
-            }),
-            Err(fault) => Err(fault),
-        }
+        let second = self.formula(alloc, draft.names(), draft.marks(condition))?;
+        let both = self.node(Node::And(first, second))?;
+        Ok(Query {
+            formula: first,
+            given: Some(second),
+            both,
+        })
     }
 }
 

@@ -7,6 +7,7 @@ mod build_error;
 mod building;
 mod draft;
 mod draft_item;
+mod excess;
 mod fault;
 mod laws;
 mod limits;
@@ -22,6 +23,7 @@ pub use assembly::build;
 pub use bound::Bound;
 pub use build_error::BuildError;
 pub use draft::Draft;
+pub use excess::Excess;
 pub use laws::{canonical_text_is_reread, numbering_keeps_meaning};
 pub use limits::{
     MOST_BOUNDS, MOST_DENOMINATOR, MOST_DRAFTED, MOST_ENTRY, MOST_NESTING, MOST_QUERIES,

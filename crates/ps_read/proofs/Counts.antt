@@ -14,7 +14,9 @@ use Rattle.ps_lex.specs.Places.{position_of}
 use Rattle.ps_problem.specs.declared.limits.TheConstants.{MOST_BOUNDS, MOST_QUERIES}
 use Rattle.ps_problem.specs.Numbering.{numbered_for}
 use Rattle.ps_problem.specs.Problems.{Parts}
-use Rattle.ps_problem.specs.Counts.{Excess, Bounds, Queries, ItemExcess, count_bounds, with_formulas, at_item, with_statements, with_questions, after, counted}
+use Rattle.ps_problem.specs.declared.excess.Excess.{Excess}
+use Rattle.ps_problem.specs.declared.excess.Excess.TheVariants.{Bounds, Queries}
+use Rattle.ps_problem.specs.Counts.{ItemExcess, count_bounds, with_formulas, at_item, with_statements, with_questions, after, counted}
 use Rattle.ps_parse.specs.Kept.{drafted_in}
 use Rattle.ps_read.specs.declared.read_kind.ReadKind.{ReadKind}
 use Rattle.ps_read.specs.Readings.{IsProblemOf, SpellsProblem, IsUnread}

@@ -1,7 +1,8 @@
 -- Kinds of refusals: those of a text's form, and those of counts.
 use Rattle.ps_text.specs.declared.kind.ReadKind.{ReadKind as FormKind}
 use Rattle.ps_text.specs.declared.kind.ReadKind.TheVariants as form
-use Rattle.ps_problem.specs.Counts as counts
+use Rattle.ps_problem.specs.declared.excess.Excess.{Excess}
+use Rattle.ps_problem.specs.declared.excess.Excess.TheVariants as excess
 use Rattle.ps_read.specs.declared.read_kind.ReadKind.{ReadKind}
 use Rattle.ps_read.specs.declared.read_kind.ReadKind.TheVariants as kind
 
@@ -19,8 +20,8 @@ form_kind form.TooDeep = kind.TooDeep
 form_kind form.EndMissing = kind.EndMissing
 
 -- the kind of an excess
-abbrev pub count_kind : counts.Excess → ReadKind
-count_kind counts.Atoms = kind.TooManyAtoms
-count_kind counts.Nodes = kind.TooManyNodes
-count_kind counts.Bounds = kind.TooManyBounds
-count_kind counts.Queries = kind.TooManyQueries
+abbrev pub count_kind : Excess → ReadKind
+count_kind excess.Atoms = kind.TooManyAtoms
+count_kind excess.Nodes = kind.TooManyNodes
+count_kind excess.Bounds = kind.TooManyBounds
+count_kind excess.Queries = kind.TooManyQueries

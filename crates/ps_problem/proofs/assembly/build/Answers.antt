@@ -16,13 +16,13 @@ pub queries-requires : goal.queries-requires
 queries-requires c =
     let s = c.sentences.new.self in
     let d = c.args.draft.now in
-    asking-start d s c.in_default.ensures.ok
+    asking-start d s c.in_ok-sentences.ensures.ok
 
 pub of-requires-clause-is : goal.of-requires-clause-is
 of-requires-clause-is c =
     let s = c.queries.new.self in
     let d = c.args.draft.now in
-    let r = c.in_default-queries.ensures.ok in
+    let r = c.in_ok-queries.ensures.ok in
     let e = rw (c.names-names.ensures.names, c.as_slice.ensures) at c.in-Ok.ensures in
     let counted = asking-end d s r in
     let is = asking-problem d s (map (λ v. v.items) c.in-Ok.texts) r e in
@@ -41,7 +41,7 @@ pub returns : goal.returns
 returns c =
     let s = c.queries.new.self in
     let d = c.args.draft.now in
-    let r = c.in_default-queries.ensures.ok in
+    let r = c.in_ok-queries.ensures.ok in
     let e = rw (c.names-names.ensures.names, c.as_slice.ensures) at c.in-Ok.ensures in
     let counted = asking-end d s r in
     (r.built.formulas, counted, c.of.ensures ∙ asking-problem d s (map (λ v. v.items) c.in-Ok.texts) r e)

@@ -1,4 +1,5 @@
 use Rattle.std.proofs.Common.{arith}
+use Rattle.std.proofs.lemmas.Result.{err_from_is_err_and}
 use Rattle.ps_problem.specs.Drafts.{question_at}
 use Rattle.ps_problem.specs.DraftLists.{statement_of}
 use Rattle.ps_problem.proofs.Making.{asking-skip, asking-full, asking-stop, asking-next}
@@ -18,16 +19,17 @@ returns-then-len-ge-MOST_QUERIES-clause-err c =
     asking-full d c.args.i s c.requires.before
     (question_at d.formulas c.in-Query.query.formula c.in-Query.query.given) c.in-Query.ensures.item (omega arith)
 
-pub returns-in-Err-clause-err : goal.returns-in-Err-clause-err
-returns-in-Err-clause-err c =
+pub returns-in_err-query-clause-err : goal.returns-in_err-query-clause-err
+returns-in_err-query-clause-err c =
+    let p = err_from_is_err_and c.from_residual.result c.from_residual.ensures.1 in
     let s = c.args.self.now in
     let d = c.args.draft.now in
-    asking-stop d c.args.i s c.requires.before
-    (question_at d.formulas c.in-Query.query.formula c.in-Query.query.given) c.in-Query.ensures.item (omega arith) c.in-Err.fault (c.in-Err.ensures c.requires.before.built)
+    rw (p.1, p.2) (asking-stop d c.args.i s c.requires.before
+    (question_at d.formulas c.in-Query.query.formula c.in-Query.query.given) c.in-Query.ensures.item (omega arith) c.in_err-query.field-0.0 (c.in_err-query.ensures c.requires.before.built))
 
-pub returns-in-Ok-push-clause-ok : goal.returns-in-Ok-push-clause-ok
-returns-in-Ok-push-clause-ok c =
+pub returns-in-Ok-clause-ok : goal.returns-in-Ok-clause-ok
+returns-in-Ok-clause-ok c =
     let s = c.args.self.now in
     let d = c.args.draft.now in
-    rw c.in-Ok-push.ensures.ok (asking-next d c.args.i s c.requires.before
-    (question_at d.formulas c.in-Query.query.formula c.in-Query.query.given) c.in-Query.ensures.item (omega arith) c.query.new.self c.in-Ok.query (c.in-Ok.ensures c.requires.before.built))
+    rw c.in-Ok.ensures.ok (asking-next d c.args.i s c.requires.before
+    (question_at d.formulas c.in-Query.query.formula c.in-Query.query.given) c.in-Query.ensures.item (omega arith) c.query.new.self c.in_ok-query.query (c.in_ok-query.ensures c.requires.before.built))

@@ -1,4 +1,5 @@
 use Rattle.std.proofs.Common.{arith, ◌∙◌}
+use Rattle.std.proofs.lemmas.Result.{err_from_is_err_and}
 use Rattle.ps_problem.specs.Drafts.{question_at}
 use Rattle.ps_problem.specs.DraftLists.{statement_of}
 use Rattle.ps_problem.proofs.Turns.{from-no-error}
@@ -24,27 +25,28 @@ returns-then-len-count-clause-err c =
     stating-full d c.args.i s c.requires.before
     (statement_of d.formulas k.sentence) k.ensures.item (omega arith)
 
-pub returns-in-Err-clause-err : goal.returns-in-Err-clause-err
-returns-in-Err-clause-err c =
+pub returns-in_err-query-clause-err : goal.returns-in_err-query-clause-err
+returns-in_err-query-clause-err c =
+    let p = err_from_is_err_and c.from_residual.result c.from_residual.ensures.1 in
     let s = c.args.self.now in
     let d = c.args.draft.now in
     let k = c.in-Sentence in
     let n = c.count.ensures.count in
     let few = c.count.ensures.few in
     let m = count-is k.sentence.upper in
-    stating-stop d c.args.i s c.requires.before
-    (statement_of d.formulas k.sentence) k.ensures.item (omega arith) c.in-Err.fault (c.in-Err.ensures c.requires.before.built)
+    rw (p.1, p.2) (stating-stop d c.args.i s c.requires.before
+    (statement_of d.formulas k.sentence) k.ensures.item (omega arith) c.in_err-query.field-0.0 (c.in_err-query.ensures c.requires.before.built))
 
-pub returns-in-Ok-push-clause-ok : goal.returns-in-Ok-push-clause-ok
-returns-in-Ok-push-clause-ok c =
+pub returns-in-Ok-clause-ok : goal.returns-in-Ok-clause-ok
+returns-in-Ok-clause-ok c =
     let s = c.args.self.now in
     let d = c.args.draft.now in
     let k = c.in-Sentence in
     let n = c.count.ensures.count in
     let few = c.count.ensures.few in
     let m = count-is k.sentence.upper in
-    let f = c.in-Ok.ensures c.requires.before.built in
-    let e = c.sentence-made.ensures ∙ sentence-is f.0.formulas d.formulas k.sentence c.in-Ok.query f.3 in
-    rw (c.in-Ok-push.ensures.ok, from-no-error c.push_bounds.result c.if-is_err.ensures.value c.push_bounds.ensures, e)
+    let f = c.in_ok-query.ensures c.requires.before.built in
+    let e = c.sentence-made.ensures ∙ sentence-is f.0.formulas d.formulas k.sentence c.in_ok-query.query f.3 in
+    rw (c.in-Ok.ensures.ok, from-no-error c.push_bounds.result c.if-is_err.ensures.value c.push_bounds.ensures, e)
     (stating-next d c.args.i s c.requires.before
-    (statement_of d.formulas k.sentence) k.ensures.item (omega arith) c.query.new.self c.in-Ok.query f)
+    (statement_of d.formulas k.sentence) k.ensures.item (omega arith) c.query.new.self c.in_ok-query.query f)

@@ -1,5 +1,6 @@
 use Rattle.std.proofs.Common.{[], take, sym, subst, arith}
 use Rattle.std.proofs.lemmas.List.{get_or_read}
+use Rattle.std.proofs.lemmas.Result.{err_from_is_err_and}
 use Rattle.ps_problem.specs.declared.mark.Mark.TheVariants as mark
 use Rattle.ps_problem.specs.DraftLists.{open_after}
 use Rattle.ps_problem.specs.Numbered.{IsStack}
@@ -25,14 +26,15 @@ mark-requires-clause-below c =
 pub mark-requires-clause-built : goal.mark-requires-clause-built
 mark-requires-clause-built c = (c.loop-mark.invariant c.requires.built).built
 
-pub returns-in-Err : goal.returns-in-Err
-returns-in-Err c = λ h.
+pub returns-in_err-number : goal.returns-in_err-number
+returns-in_err-number c = λ h.
+    let p = err_from_is_err_and c.from_residual.result c.from_residual.ensures.1 in
     let r = c.loop-mark.invariant h in
     let m = c.requires.marks in
     let s = subst (λ ps. IsStack r.built.formulas (open_after c.args.names.now [] (take c.loop-mark.mark-index c.args.marks.now)) ps) (sym c.deref.ensures.value) r.stack_is in
-    rw (← tops-are c.args.names.now c.args.marks.now _ m.held m.made)
+    rw (p.1, p.2, ← tops-are c.args.names.now c.args.marks.now _ m.held m.made)
     (reached-stop c.args.names.now h.formulas c.args.marks.now c.loop-mark.mark-index c.loop-mark.self c.loop-mark.stack.items r mark.True c.loop-mark-test.true
-    c.mark.new.self c.in-Err.fault (c.in-Err.ensures r.built _ s))
+    c.mark.new.self c.in_err-number.field-0.0 (c.in_err-number.ensures r.built _ s))
 
 pub replace-requires : goal.replace-requires
 replace-requires c =
@@ -49,7 +51,7 @@ loop-mark-preserved c = λ h.
     let l = length-stand r.built.formulas (open_after c.args.names.now [] (take c.loop-mark.mark-index c.args.marks.now)) c.loop-mark.stack.items r.stack_is in
     rw (from-no-error c.replace.result c.if-is_err.ensures.value c.replace.ensures.ok, c.operands.ensures)
     (reached-next c.args.names.now h.formulas c.args.marks.now c.loop-mark.mark-index c.loop-mark.self c.loop-mark.stack.items r mark.True c.loop-mark-test.true
-    c.mark.new.self c.in-Ok.number (omega arith) (c.in-Ok.ensures r.built _ s))
+    c.mark.new.self c.in_ok-number.number (omega arith) (c.in_ok-number.ensures r.built _ s))
 
 pub index-requires : goal.index-requires
 index-requires c =
