@@ -42,10 +42,7 @@ fn goal_with(alloc: Global, degree: &i128, numbers: &[i128]) -> Result<Constrain
     requires { are_terms numbers.now ≡ true }
     ensures { IsGoalOf degree.now numbers.now result }
 {
-    let terms = match terms(alloc, numbers) {
-        Ok(terms) => terms,
-        Err(why) => return Err(why),
-    };
+    let terms = terms(alloc, numbers)?;
     match constraint_of(terms, degree) {
         Some(goal) => Ok(goal),
         None => Err(LineError::TooLarge),
