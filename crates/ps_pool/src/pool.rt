@@ -7,16 +7,19 @@ use indexmap::IndexSet;
 use ps_formula::World;
 use std::alloc::Global;
 use std::marker::Model;
+use thiserror::Error;
 
 /// The most worlds of a pool.
 pub const MOST_WORLDS: u32 = u32::MAX;
 
 /// Why a world was not added.
-#[derive(Clone, Copy, Debug, PartialEq, Eq)]
+#[derive(Clone, Copy, Debug, PartialEq, Eq, Error)]
 pub enum PoolError {
     /// The world is there already, with this number.
+    #[error("the world is there already, with number {at}")]
     Present { at: u32 },
     /// There was not enough memory.
+    #[error("not enough memory")]
     NoMemory,
 }
 
