@@ -1,13 +1,13 @@
 -- Numbers that are cut off past every limit.
 use Rattle.std.specs.Prelude.{⊤}
-use Rattle.std.proofs.Common.{◌≡◌, ℕ, zero, suc, ◌+◌, ◌-◌, ◌*◌, ◌<◌, ◌≤◌, ◌^◌, ℤ, pos, negsuc, neg_ℤ, List, [], ◌∷◌, All, length, take, get_or, min, Option, Some, None, Result, Ok, Err, refl, sym, ap, subst, ◌∙◌, arith, unsigned_abs, ◌≤ℤ◌}
+use Rattle.std.proofs.Common.{◌≡◌, ℕ, zero, suc, ◌+◌, ◌-◌, ◌*◌, ◌<◌, ◌≤◌, ℤ, pos, negsuc, List, [], ◌∷◌, All, length, take, get_or, Result, Ok, Err, refl, sym, ap, subst, ◌∙◌, arith, unsigned_abs, ◌≤ℤ◌}
 use Rattle.std.specs.Char.{digit_value}
 use Rattle.std.specs.Str.Parse.{digits_value}
 use Rattle.std.proofs.lemmas.Str.Parse.{digit_from_value}
 use Rattle.std.proofs.lemmas.Str.{digit_value_digit}
 use Rattle.std.proofs.lemmas.Int.Digits.{digits_value_more}
 use Rattle.std.proofs.lemmas.Int.{ints}
-use Rattle.ps_log.specs.Spellings.{IsPlain, IsDecimal, Spells}
+use Rattle.ps_log.specs.Spellings.{IsDecimal, Spells}
 use Rattle.ps_line.specs.declared.line_fault.LineFault.{LineFault}
 use Rattle.ps_line.specs.declared.line_fault.LineFault.TheVariants.{NotCanonical, TooLarge, NoMemory}
 use Rattle.ps_pool.specs.declared.col.Col.{Col}
@@ -18,7 +18,7 @@ use Rattle.ps_answer.specs.Items.{count, IsColWithin, IsShownWithin, shown_word}
 use Rattle.ps_answer.specs.Words.{Column, SpellsColumn, SpellsWord}
 use Rattle.ps_line.specs.Read.{IsRead, IsWordRead}
 use Rattle.ps_line.specs.Kinds.{IsHome, IsWorld, IsVersion, IsNumberedWorld, of_any_size}
-use Rattle.ps_line.specs.Numerals.{cut_size, IsSize, IsCountUpTo, IsNumberUpTo}
+use Rattle.ps_line.specs.Numerals.{cut_size, IsCountUpTo, IsNumberUpTo}
 
 -- one more digit of a size
 pub cut_more : (digits : List ℕ) (i value r : ℕ) → All (λ b. digit_value b < 10) digits → i < length digits → value ≡ cut_size (digits_value 10 (take i digits))
@@ -35,7 +35,7 @@ positive_refused limit word NotCanonical n h = none word n h
     none [] n h (negsuc m) s = s
     none (c ∷ cs) n h (negsuc m) s = n cs (ap (λ x. x ∷ cs) s.0)
 positive_refused limit word TooLarge n h = (pos h.0, h.1, h.2)
-positive_refused limit word NoMemory n h = tt
+positive_refused limit word NoMemory n h = h
 
 -- nor is it one behind a minus
 pub negative_refused : (limit : ℕ) (digits : List ℕ) (why : LineFault) → IsCountUpTo limit digits (Err why) → IsNumberUpTo limit (45 ∷ digits) (Err why)
@@ -49,7 +49,7 @@ negative_refused limit digits TooLarge h = large h.0 h.1 h.2
     large : (n : ℕ) → IsDecimal digits n → (n ≤ limit → ⊥) → (z : ℤ) × Spells (45 ∷ digits) z × (unsigned_abs z ≤ limit → ⊥)
     large zero d p = absurd (p (omega arith))
     large (suc n) d p = (negsuc n, (refl, d), p)
-negative_refused limit digits NoMemory h = tt
+negative_refused limit digits NoMemory h = h
 
 -- a count that isn't read is no number that isn't negative
 pub amount_refused : (limit : ℕ) (word : List ℕ) (why : LineFault) → IsCountUpTo limit word (Err why) → IsRead (λ z. Spells word z × pos 0 ≤ℤ z) (λ z. unsigned_abs z ≤ limit) (Err why)
@@ -59,7 +59,7 @@ amount_refused limit word NotCanonical h = none
     none (pos n) s = h n s.0
     none (negsuc n) s = omega (arith, ints, s.1)
 amount_refused limit word TooLarge h = (pos h.0, (h.1, omega (arith, ints)), h.2)
-amount_refused limit word NoMemory h = tt
+amount_refused limit word NoMemory h = h
 
 -- nor the number of a home, or of a world
 pub home_refused : (digits : List ℕ) (why : LineFault) → IsCountUpTo 100 digits (Err why) → IsHome digits (Err why)
@@ -69,7 +69,7 @@ home_refused digits NotCanonical h = none
     none (col.Home n) s = h n s.0.1
     none (col.World n) s = omega (arith, s.0.0)
 home_refused digits TooLarge h = (col.Home h.0, ((refl, h.1), tt), h.2)
-home_refused digits NoMemory h = tt
+home_refused digits NoMemory h = h
 
 pub world_refused : (digits : List ℕ) (why : LineFault) → IsCountUpTo 1000001 digits (Err why) → IsWorld digits (Err why)
 world_refused digits NotCanonical h = none
@@ -78,7 +78,7 @@ world_refused digits NotCanonical h = none
     none (col.Home n) s = omega (arith, s.0.0)
     none (col.World n) s = h n s.0.1
 world_refused digits TooLarge h = (col.World h.0, ((refl, h.1), tt), λ w. h.2 w.1)
-world_refused digits NoMemory h = tt
+world_refused digits NoMemory h = h
 
 pub numbered_world : (digits : List ℕ) (n : ℕ) (r : Result Col LineFault) → IsDecimal digits n → n ≤ 1000001 → IsNumberedWorld n r → IsWorld digits r
 numbered_world digits n (Ok c) d l h = subst (λ x. IsWorld digits (Ok x)) (sym h.0) (((refl, d), tt), (h.1, l))
@@ -88,12 +88,12 @@ numbered_world digits n (Err why) d l h = subst (λ x. IsWorld digits (Err x)) (
 pub other_number : (word : List ℕ) (limit due : ℕ) (why : LineFault) → due ≤ limit → IsCountUpTo limit word (Err why) → IsWordRead count (λ n. n ≡ due) (λ n. n ≤ 16) word (Err (of_any_size why))
 other_number word limit due NotCanonical b h = λ n s. h n s.0
 other_number word limit due TooLarge b h = λ n s. h.2 (omega (arith, b, s.1, sym h.1.value, s.0.value))
-other_number word limit due NoMemory b h = tt
+other_number word limit due NoMemory b h = h
 
 pub other_version : (word : List ℕ) (why : LineFault) → IsCountUpTo 1 word (Err why) → IsWordRead {A = Unit {0}} (λ u. count 1) (λ u. ⊤) (λ u. ⊤) word (Err (of_any_size why))
 other_version word NotCanonical h = λ u s. h 1 s.0
 other_version word TooLarge h = λ u s. h.2 (omega (arith, sym h.1.value, s.0.value))
-other_version word NoMemory h = tt
+other_version word NoMemory h = h
 
 pub version_is : (word : List ℕ) (n : ℕ) (r : Result (Unit {0}) LineFault) → IsDecimal word n → IsVersion n r → IsWordRead {A = Unit {0}} (λ u. count 1) (λ u. ⊤) (λ u. ⊤) word r
 version_is word n (Ok u) d h = ((subst (IsDecimal word) h d, tt), tt)
@@ -106,4 +106,4 @@ column_shown word NotCanonical n h = none
     none shown.Right s = n s.0
     none (shown.Of c) s = h c s
 column_shown word TooLarge n h = (shown.Of h.0, h.1, h.2)
-column_shown word NoMemory n h = tt
+column_shown word NoMemory n h = h

@@ -1,11 +1,11 @@
 -- Words of fractions.
 use Rattle.std.specs.Prelude.{⊤}
-use Rattle.std.proofs.Common.{◌≡◌, ◌≢◌, ℕ, zero, suc, ◌+◌, ◌-◌, ◌/◌, ◌<◌, ◌≤◌, ◌^◌, ℤ, pos, negsuc, ◌≤ℤ◌, Bool, true, false, List, [], ◌∷◌, ◌++◌, All, length, get_or, Option, Some, None, Result, Ok, Err, refl, sym, ap, subst, ◌∙◌, arith, unsigned_abs, int_div, ◌↔◌}
+use Rattle.std.proofs.Common.{◌≡◌, ◌≢◌, ℕ, zero, suc, ◌/◌, ◌<◌, ◌≤◌, ◌^◌, ℤ, pos, negsuc, Bool, true, List, [], ◌∷◌, ◌++◌, length, get_or, Result, Ok, Err, refl, sym, ap, subst, ◌∙◌, arith, unsigned_abs, int_div, ◌↔◌}
 use Rattle.std.specs.Int.{IsGcd}
 use Rattle.std.specs.Char.{digit_value}
 use Rattle.std.specs.Str.Parse.{AllDigits}
 use Rattle.std.proofs.lemmas.Int.{ints}
-use Rattle.ps_rational.specs.Rational.{Rational, fraction, quotient, at_least_one}
+use Rattle.ps_rational.specs.Rational.{Rational, fraction, quotient}
 use Rattle.ps_rational.specs.Gcd.{gcd}
 use Rattle.ps_rational.specs.Coprime.{is_gcd}
 use Rattle.ps_log.specs.Spellings.{IsDecimal, Spells}
@@ -18,8 +18,8 @@ use Rattle.ps_answer.specs.Items.{IsRatioWithin, IsReducedWithin}
 use Rattle.ps_answer.specs.Words.{SpellsRatio}
 use Rattle.ps_line.specs.declared.line_fault.LineFault.{LineFault}
 use Rattle.ps_line.specs.declared.line_fault.LineFault.TheVariants.{NotCanonical, TooLarge, NoMemory}
-use Rattle.ps_line.specs.Read.{IsRead, both}
-use Rattle.ps_line.specs.Ratios.{IsOver, IsUnder, AreParts, IsLowest, IsLowestOf}
+use Rattle.ps_line.specs.Read.{IsRead}
+use Rattle.ps_line.specs.Ratios.{IsOver, IsUnder, AreParts, IsLowest}
 use Rattle.ps_line.specs.Numerals.{IsNumberUpTo}
 
 -- bytes are cut at the first separator in one way
@@ -107,7 +107,7 @@ ratio_read Asks limit word over under (Ok z) (Err NotCanonical) r c h k l = subs
     (λ q s. k q.under ((ratio_cut word over under q c s.0).1, s.1.1.0))
 ratio_read Asks limit word over under (Ok z) (Err TooLarge) r c h k l = subst (IsRead (λ q. SpellsRatio word q × AsksRatio Asks limit q) (λ q. IsRatioWithin limit q)) (sym l)
     (record { over = z; under = k.0 }, (cut_ratio word over under _ c h.0.0 k.1.0, (h.0.1, (k.1.1, λ _ w. absurd (k.2 w)))), λ w. k.2 w.1)
-ratio_read Asks limit word over under (Ok z) (Err NoMemory) r c h k l = rw l tt
+ratio_read Asks limit word over under (Ok z) (Err NoMemory) r c h k l = absurd k
 ratio_read Asks limit word over under (Err NotCanonical) b r c h k l = subst (IsRead (λ q. SpellsRatio word q × AsksRatio Asks limit q) (λ q. IsRatioWithin limit q)) (sym l)
     (λ q s. h q.over ((ratio_cut word over under q c s.0).0, s.1.0))
 ratio_read Asks limit word over under (Err TooLarge) (Ok n) r c h k l = subst (IsRead (λ q. SpellsRatio word q × AsksRatio Asks limit q) (λ q. IsRatioWithin limit q)) (sym l)
@@ -116,8 +116,8 @@ ratio_read Asks limit word over under (Err TooLarge) (Err NotCanonical) r c h k 
     (λ q s. k q.under ((ratio_cut word over under q c s.0).1, s.1.1.0))
 ratio_read Asks limit word over under (Err TooLarge) (Err TooLarge) r c h k l = subst (IsRead (λ q. SpellsRatio word q × AsksRatio Asks limit q) (λ q. IsRatioWithin limit q)) (sym l)
     (record { over = h.0; under = k.0 }, (cut_ratio word over under _ c h.1.0 k.1.0, (h.1.1, (k.1.1, λ w _. absurd (h.2 w)))), λ w. h.2 w.0)
-ratio_read Asks limit word over under (Err TooLarge) (Err NoMemory) r c h k l = rw l tt
-ratio_read Asks limit word over under (Err NoMemory) b r c h k l = rw l tt
+ratio_read Asks limit word over under (Err TooLarge) (Err NoMemory) r c h k l = absurd k
+ratio_read Asks limit word over under (Err NoMemory) b r c h k l = absurd h
 
 -- a fraction keeps its numbers where they are coprime, and only there
 pub lowest_kept : (z : ℤ) (n : ℕ) → 1 ≤ n → (fraction z n).over ≡ z → (fraction z n).under ≡ n → IsGcd (unsigned_abs z) n 1
@@ -155,11 +155,11 @@ pub any_over : (limit : ℕ) (word : List ℕ) (a : Result ℤ LineFault) → Is
 any_over limit word (Ok z) h = ((h.0, tt), h.1)
 any_over limit word (Err NotCanonical) h = λ z s. h z s.0
 any_over limit word (Err TooLarge) h = (h.0, (h.1, tt), h.2)
-any_over limit word (Err NoMemory) h = tt
+any_over limit word (Err NoMemory) h = h
 
 pub no_sign : (limit : ℕ) (word : List ℕ) (r : Result Ratio LineFault) → IsRead (λ q. SpellsRatio word q × AsksRatio (λ z. ⊤) limit q) (λ q. IsRatioWithin limit q) r
     → IsRead (λ q. SpellsRatio word q × IsReducedWithin limit q) (λ q. IsRatioWithin limit q) r
 no_sign limit word (Ok q) h = ((h.0.0, h.0.1.1), h.1)
 no_sign limit word (Err NotCanonical) h = λ q s. h q (s.0, (tt, s.1))
 no_sign limit word (Err TooLarge) h = (h.0, (h.1.0, h.1.1.1), h.2)
-no_sign limit word (Err NoMemory) h = tt
+no_sign limit word (Err NoMemory) h = h

@@ -1,11 +1,10 @@
 -- Kinds of lines, word by word.
 use Rattle.std.specs.Prelude.{⊤}
-use Rattle.std.proofs.Common.{◌≡◌, ℕ, ◌≤◌, ◌^◌, ℤ, pos, ◌≤ℤ◌, List, [], ◌∷◌, length, Result, Ok, Err, sym, ap, subst, ◌∙◌}
+use Rattle.std.proofs.Common.{◌≡◌, ℕ, ◌≤◌, ◌^◌, ℤ, pos, ◌≤ℤ◌, List, ◌∷◌, Result, sym, ap, subst, ◌∙◌}
 use Rattle.std.specs.Prelude.{codes}
 use Rattle.ps_meaning.specs.Formula.{World}
 use Rattle.ps_pool.specs.declared.col.Col.{Col}
-use Rattle.ps_answer.specs.Words.{Number, Column, Truths}
-use Rattle.ps_answer.specs.declared.item.Item.{Item}
+use Rattle.ps_answer.specs.Words.{Number, Column}
 use Rattle.ps_answer.specs.declared.item.Item.TheVariants as line
 use Rattle.ps_answer.specs.declared.part.Part.TheVariants as part
 use Rattle.ps_answer.specs.Faults.{first_of}
@@ -13,6 +12,7 @@ use Rattle.ps_answer.specs.Items.{count, IsPrintable, IsColWithin}
 use Rattle.ps_line.specs.declared.line_fault.LineFault.{LineFault}
 use Rattle.ps_line.specs.Cursor.{later}
 use Rattle.ps_line.specs.Read.{IsWordRead, both, IsItemRead}
+use Rattle.ps_line.specs.Truths.{IsWorldRead}
 use Rattle.ps_line.proofs.Sequences.{made}
 use Rattle.ps_line.proofs.Items.{IsEndRead, report_read, model_read, entry_read, dual_read, trace_read, pivot_read, priced_read}
 use Rattle.ps_line.proofs.OpeningLines.{query_read, pivots_read, conflicts_read}
@@ -43,13 +43,13 @@ model_item ws ws1 ws2 a b t u e r p0 q0 p1 q1 h0 h1 l f =
 -- `w`
 pub entry_item : (ws ws1 ws2 : List (List ℕ)) (a b : List ℕ) (t : Result (ℤ) LineFault) (u : Result (World) LineFault) (e : Result (Unit {0}) LineFault) (r : Result (ℤ × (World × Unit {0})) LineFault)
     → a ≡ first_of ws → ws1 ≡ later ws → b ≡ first_of ws1 → ws2 ≡ later ws1
-    → IsWordRead Number (λ z. pos 0 ≤ℤ z) IsPrintable a t → IsWordRead Truths (λ w. ⊤) (λ w. length w ≤ 128) b u → IsEndRead ws2 e
+    → IsWordRead Number (λ z. pos 0 ≤ℤ z) IsPrintable a t → IsWorldRead b u → IsEndRead ws2 e
     → r ≡ both t (both u e) → IsItemRead part.AnEntry (codes "w" ∷ ws) (made (λ a. line.Entry a.0 a.1.0) r)
 entry_item ws ws1 ws2 a b t u e r p0 q0 p1 q1 h0 h1 l f =
     subst (λ x. IsItemRead part.AnEntry (codes "w" ∷ ws) (made (λ a. line.Entry a.0 a.1.0) x)) (sym f)
     (entry_read ws t u e
     (subst (λ z. IsWordRead Number (λ z. pos 0 ≤ℤ z) IsPrintable z t) p0 h0)
-    (subst (λ z. IsWordRead Truths (λ w. ⊤) (λ w. length w ≤ 128) z u) (p1 ∙ ap first_of q0) h1)
+    (subst (λ z. IsWorldRead z u) (p1 ∙ ap first_of q0) h1)
     (subst (λ z. IsEndRead z e) (q1 ∙ ap later q0) l))
 
 -- `dual`
@@ -91,12 +91,12 @@ pivot_item ws ws1 ws2 a b t u e r p0 q0 p1 q1 h0 h1 l f =
 -- `c`
 pub priced_item : (ws ws1 : List (List ℕ)) (a : List ℕ) (t : Result (World) LineFault) (e : Result (Unit {0}) LineFault) (r : Result (World × Unit {0}) LineFault)
     → a ≡ first_of ws → ws1 ≡ later ws
-    → IsWordRead Truths (λ w. ⊤) (λ w. length w ≤ 128) a t → IsEndRead ws1 e
+    → IsWorldRead a t → IsEndRead ws1 e
     → r ≡ both t e → IsItemRead part.AnEvent (codes "c" ∷ ws) (made (λ a. line.PricedLine a.0) r)
 priced_item ws ws1 a t e r p0 q0 h0 l f =
     subst (λ x. IsItemRead part.AnEvent (codes "c" ∷ ws) (made (λ a. line.PricedLine a.0) x)) (sym f)
     (priced_read ws t e
-    (subst (λ z. IsWordRead Truths (λ w. ⊤) (λ w. length w ≤ 128) z t) p0 h0)
+    (subst (λ z. IsWorldRead z t) p0 h0)
     (subst (λ z. IsEndRead z e) q0 l))
 
 -- `query`

@@ -1,28 +1,22 @@
 -- Kinds of lines.
-use Rattle.std.proofs.Common.{◌≡◌, ℕ, zero, suc, ◌==◌, ◌+◌, ◌<◌, ◌≤◌, ◌^◌, ℤ, pos, negsuc, ◌≤ℤ◌, Bool, true, false, ◌||◌, List, [], ◌∷◌, ◌++◌, All, length, map, Option, Some, None, Result, Ok, Err, refl, sym, ap, subst, ◌∙◌, arith, unsigned_abs, true≢false, ◌⊎◌, inl, inr}
-use Rattle.std.specs.Prelude.{⊤, codes, bytes_eq, if◌then◌else◌}
-use Rattle.std.specs.List.{list_any}
+use Rattle.std.proofs.Common.{◌≡◌, ℕ, ◌≤◌, ◌^◌, ℤ, pos, negsuc, ◌≤ℤ◌, false, List, [], ◌∷◌, ◌++◌, length, map, Result, refl, sym, ap, ◌∙◌, arith, true≢false, inl, inr}
+use Rattle.std.specs.Prelude.{⊤, codes, bytes_eq}
 use Rattle.std.proofs.lemmas.Slice.Eq.{bytes_eq-Decides}
-use Rattle.std.proofs.lemmas.Option.{none-some}
-use Rattle.ps_log.specs.Spellings.{IsDecimal, Spells}
 use Rattle.ps_meaning.specs.Formula.{World}
 use Rattle.ps_pool.specs.declared.col.Col.{Col}
-use Rattle.ps_answer.specs.Words.{Word, Letters, Number, Fraction, Column, Truths, SpellsWord, SpellWords, SpellsRatio, SpellsColumn, world_text}
+use Rattle.ps_answer.specs.Words.{Word, Number, Fraction, Column, Truths}
 use Rattle.ps_answer.specs.declared.item.Item.{Item}
 use Rattle.ps_answer.specs.declared.item.Item.TheVariants as line
-use Rattle.ps_answer.specs.declared.item.Ratio.{Ratio}
-use Rattle.ps_answer.specs.declared.part.Part.{Part}
 use Rattle.ps_answer.specs.declared.part.Part.TheVariants as part
 use Rattle.ps_answer.specs.Faults.{first_of}
-use Rattle.ps_answer.specs.Items.{count, item_words, IsProper, IsWithin, IsPrintable, IsColWithin, IsReducedWithin, IsRatioWithin}
-use Rattle.ps_answer.specs.Due.{behind, first_words}
+use Rattle.ps_answer.specs.Items.{count, IsPrintable, IsColWithin}
+use Rattle.ps_answer.specs.Due.{behind}
 use Rattle.ps_line.specs.declared.line_fault.LineFault.{LineFault}
-use Rattle.ps_line.specs.declared.line_fault.LineFault.TheVariants.{NotCanonical, TooLarge, NoMemory}
 use Rattle.ps_line.specs.Cursor.{later}
-use Rattle.ps_line.specs.Read.{IsRead, IsWordRead, AreWordsRead, both, Fits, FitsNot, IsSaid, IsItemRead}
-use Rattle.ps_line.specs.Rows.{AreRowsWithin}
-use Rattle.ps_line.specs.Sides.{side_letters}
-use Rattle.ps_line.proofs.Sequences.{Makes, IsMade, item_read, made, word_then, IsNeverEmpty}
+use Rattle.ps_line.specs.Read.{IsWordRead, AreWordsRead, AreWordsReadOrLacks, both, IsSaid, IsItemRead}
+use Rattle.ps_line.specs.Rows.{AreRowsWithin, AreRowsRead}
+use Rattle.ps_line.specs.Truths.{IsWorldRead}
+use Rattle.ps_line.proofs.Sequences.{Makes, IsMade, item_read, item_or_lacks, made, word_then, word_or_lacks, sure, all_sure, IsNeverEmpty}
 
 -- different words
 pub other : {P : Type 0} (a b : List ℕ) → bytes_eq a b ≡ false → a ≡ b → P
@@ -58,6 +52,11 @@ last_word v P F ws r e ne h k = word_then v P F (λ u. []) (λ u. ⊤) (λ u. �
 
 abbrev pub IsEndRead : List (List ℕ) → Result (Unit {0}) LineFault → Type 0
 IsEndRead ws e = AreWordsRead {A = Unit {0}} (λ u. []) (λ u. ⊤) (λ u. ⊤) ws e
+
+-- a world with nothing after it
+pub last_world : (ws : List (List ℕ)) (r : Result World LineFault) (e : Result (Unit {0}) LineFault) → IsWorldRead (first_of ws) r → IsEndRead (later ws) e
+    → AreWordsReadOrLacks {A = World × Unit {0}} ⊤ (λ p. Truths p.0 ∷ []) (λ p. ⊤ × ⊤) (λ p. (length p.0 ≤ 128) × ⊤) ws (both r e)
+last_world ws r e h k = word_or_lacks ⊤ Truths (λ w. ⊤) (λ w. length w ≤ 128) (λ u. []) (λ u. ⊤) (λ u. ⊤) ws r e truths_word h (all_sure ⊤ (λ u. []) (λ u. ⊤) (λ u. ⊤) (later ws) e k)
 
 -- the first line of a report
 report_makes : (ws : List (List ℕ)) → Makes {A = Unit {0} × Unit {0}} part.AReport (codes "report" ∷ []) ws (λ a. line.Report) (λ a. count 1 ∷ []) (λ a. ⊤ × ⊤) (λ a. ⊤ × ⊤)
@@ -101,11 +100,11 @@ entry_makes ws = record { words = λ a. refl; proper = λ a p. p.0; within = λ 
     only i s = inl (λ due. refl)
 
 pub entry_read : (ws : List (List ℕ)) (t : Result ℤ LineFault) (w : Result World LineFault) (e : Result (Unit {0}) LineFault)
-    → IsWordRead Number (λ z. pos 0 ≤ℤ z) IsPrintable (first_of ws) t → IsWordRead Truths (λ w. ⊤) (λ w. length w ≤ 128) (first_of (later ws)) w → IsEndRead (later (later ws)) e
+    → IsWordRead Number (λ z. pos 0 ≤ℤ z) IsPrintable (first_of ws) t → IsWorldRead (first_of (later ws)) w → IsEndRead (later (later ws)) e
     → IsItemRead part.AnEntry (codes "w" ∷ ws) (made (λ a. line.Entry a.0 a.1.0) (both t (both w e)))
 entry_read ws t w e h k l =
-    item_read part.AnEntry (codes "w" ∷ []) _ _ _ _ ws (entry_makes ws) (both t (both w e))
-    (word_then Number _ _ _ _ _ ws t (both w e) number_word h (last_word Truths _ _ (later ws) w e truths_word k l))
+    item_or_lacks ⊤ part.AnEntry (codes "w" ∷ []) _ _ _ _ ws (λ u. tt) (entry_makes ws) (both t (both w e))
+    (word_or_lacks ⊤ Number _ _ _ _ _ ws t (both w e) number_word (sure ⊤ Number _ _ (first_of ws) t h) (last_world (later ws) w e k l))
 
 -- a dual
 abbrev pub Three : Type 0 → Type 0 → Type 0 → Type 0
@@ -138,8 +137,8 @@ rows_makes ws = record { words = λ a. refl; proper = λ a p. tt; within = λ a 
     only (line.Rows zs) s = inr (zs, refl, tt)
     only i s = inl (λ due. refl)
 
-pub rows_read : (ws : List (List ℕ)) (r : Result (List ℤ) LineFault) → AreWordsRead (λ zs. map Number zs) (λ zs. ⊤) AreRowsWithin ws r → IsItemRead part.SomeRows (codes "y" ∷ ws) (made (λ zs. line.Rows zs) r)
-rows_read ws r h = item_read part.SomeRows (codes "y" ∷ []) _ _ _ _ ws (rows_makes ws) r h
+pub rows_read : (ws : List (List ℕ)) (r : Result (List ℤ) LineFault) → AreRowsRead ws r → IsItemRead part.SomeRows (codes "y" ∷ ws) (made (λ zs. line.Rows zs) r)
+rows_read ws r h = item_or_lacks ⊤ part.SomeRows (codes "y" ∷ []) _ _ _ _ ws (λ u. tt) (rows_makes ws) r h
 
 -- a trace
 abbrev pub One : Type 0 → Type 0
@@ -183,6 +182,6 @@ priced_makes ws = record { words = λ a. refl; proper = λ a p. tt; within = λ 
     only (line.PivotLine c n) s = other (codes "c") (codes "p") refl s.spelled.0
     only i s = inl (λ due. refl)
 
-pub priced_read : (ws : List (List ℕ)) (w : Result World LineFault) (e : Result (Unit {0}) LineFault) → IsWordRead Truths (λ w. ⊤) (λ w. length w ≤ 128) (first_of ws) w → IsEndRead (later ws) e
+pub priced_read : (ws : List (List ℕ)) (w : Result World LineFault) (e : Result (Unit {0}) LineFault) → IsWorldRead (first_of ws) w → IsEndRead (later ws) e
     → IsItemRead part.AnEvent (codes "c" ∷ ws) (made (λ a. line.PricedLine a.0) (both w e))
-priced_read ws w e h k = item_read part.AnEvent (codes "c" ∷ []) _ _ _ _ ws (priced_makes ws) (both w e) (last_word Truths _ _ ws w e truths_word h k)
+priced_read ws w e h k = item_or_lacks ⊤ part.AnEvent (codes "c" ∷ []) _ _ _ _ ws (λ u. refl) (priced_makes ws) (both w e) (last_world ws w e h k)

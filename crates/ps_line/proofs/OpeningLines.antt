@@ -1,25 +1,25 @@
 -- Lines of verdicts, queries and sides.
-use Rattle.std.proofs.Common.{◌≡◌, ◌≢◌, ℕ, zero, suc, ◌==◌, ◌+◌, ◌<◌, ◌≤◌, ◌^◌, ℤ, pos, negsuc, ◌≤ℤ◌, Bool, true, false, ◌||◌, List, [], ◌∷◌, ◌++◌, length, map, Option, Some, None, Result, Ok, Err, refl, sym, ap, subst, ◌∙◌, arith, unsigned_abs, true≢false, ◌⊎◌, inl, inr}
+use Rattle.std.proofs.Common.{◌≡◌, ℕ, suc, ◌==◌, ◌≤◌, ◌^◌, pos, ◌≤ℤ◌, Bool, true, false, ◌||◌, List, [], ◌∷◌, Some, None, Result, Ok, Err, refl, sym, ap, subst, ◌∙◌, arith, true≢false, inl, inr}
 use Rattle.std.specs.Prelude.{⊤, codes, bytes_eq, if◌then◌else◌}
 use Rattle.std.specs.List.{list_any}
 use Rattle.std.proofs.lemmas.Slice.Eq.{bytes_eq-Decides}
 use Rattle.std.proofs.lemmas.Bool.{eqb-true}
 use Rattle.std.proofs.lemmas.Option.{none-some}
-use Rattle.ps_answer.specs.Words.{Word, Letters, Number, Fraction, SpellsWord, SpellWords}
+use Rattle.ps_answer.specs.Words.{Fraction, SpellWords}
 use Rattle.ps_answer.specs.declared.item.Item.{Item}
 use Rattle.ps_answer.specs.declared.item.Item.TheVariants as line
 use Rattle.ps_answer.specs.declared.item.Ratio.{Ratio}
 use Rattle.ps_answer.specs.declared.part.Part.{Part}
 use Rattle.ps_answer.specs.declared.part.Part.TheVariants as part
 use Rattle.ps_answer.specs.Faults.{first_of}
-use Rattle.ps_answer.specs.Items.{count, item_words, IsProper, IsWithin, IsReducedWithin, IsRatioWithin}
-use Rattle.ps_answer.specs.Due.{behind, first_words}
+use Rattle.ps_answer.specs.Items.{count, IsReducedWithin, IsRatioWithin}
+use Rattle.ps_answer.specs.Due.{behind}
 use Rattle.ps_line.specs.declared.line_fault.LineFault.{LineFault}
 use Rattle.ps_line.specs.declared.line_fault.LineFault.TheVariants.{NotCanonical, TooLarge, NoMemory}
 use Rattle.ps_line.specs.Cursor.{later}
-use Rattle.ps_line.specs.Read.{IsRead, IsWordRead, AreWordsRead, both, Fits, FitsNot, IsSaid, IsItemRead}
+use Rattle.ps_line.specs.Read.{IsWordRead, both, Fits, FitsNot, IsSaid, IsItemRead}
 use Rattle.ps_line.specs.Sides.{side_letters}
-use Rattle.ps_line.proofs.Sequences.{Makes, IsMade, item_read, made, word_then, IsNeverEmpty}
+use Rattle.ps_line.proofs.Sequences.{Makes, IsMade, item_read, made}
 use Rattle.ps_line.proofs.Items.{other, IsEndRead, One, last_word, count_word, fraction_word}
 
 -- a line of one word
@@ -237,13 +237,13 @@ pub cause_verdict : (ws : List (List ℕ)) (r : Result Item LineFault) → IsIte
 cause_verdict ws (Ok i) h = (h.0, h.1, (cause_fits i h.2).0)
 cause_verdict ws (Err NotCanonical) h = λ i s. no_verdict ws i s (h i s)
 cause_verdict ws (Err TooLarge) h = (h.0, h.1, (cause_fits h.0 h.2).0, h.3)
-cause_verdict ws (Err NoMemory) h = tt
+cause_verdict ws (Err NoMemory) h = h
 
 pub cause_answer : (ws : List (List ℕ)) (r : Result Item LineFault) → IsItemRead part.ACause (codes "open" ∷ ws) r → IsItemRead part.AnAnswer (codes "open" ∷ ws) r
 cause_answer ws (Ok i) h = (h.0, h.1, (cause_fits i h.2).1)
 cause_answer ws (Err NotCanonical) h = λ i s. no_answer ws i s (h i s)
 cause_answer ws (Err TooLarge) h = (h.0, h.1, (cause_fits h.0 h.2).1, h.3)
-cause_answer ws (Err NoMemory) h = tt
+cause_answer ws (Err NoMemory) h = h
 
 -- a word that is due, by elimination
 one_of : (w a : List ℕ) (rest : List (List ℕ)) → list_any (λ v. bytes_eq w v) (a ∷ rest) ≡ true → (w ≡ a → ⊥) → list_any (λ v. bytes_eq w v) rest ≡ true

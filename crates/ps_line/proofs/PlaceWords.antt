@@ -1,6 +1,6 @@
 -- Words of places.
-use Rattle.std.proofs.Common.{◌≡◌, ℕ, suc, ◌≤◌, ◌<◌, Bool, true, false, List, [], ◌∷◌, ◌++◌, length, map, Result, Ok, Err, refl, sym, ap, subst, ◌∙◌, arith, append_assoc, true≢false, ◌⊎◌, inl, inr}
-use Rattle.std.specs.Prelude.{⊤, codes, bytes_eq}
+use Rattle.std.proofs.Common.{◌≡◌, ℕ, ◌≤◌, List, [], ◌∷◌, ◌++◌, length, map, Result, Ok, Err, refl, sym, ap, subst, ◌∙◌, arith, inl, inr}
+use Rattle.std.specs.Prelude.{⊤, codes}
 use Rattle.ps_pool.specs.declared.col.Col.{Col}
 use Rattle.ps_frac.specs.declared.wide.Op.{Op}
 use Rattle.ps_frac.specs.declared.wide.Op.TheVariants as op
@@ -8,19 +8,18 @@ use Rattle.ps_table.specs.declared.place.Place.{Place}
 use Rattle.ps_table.specs.declared.place.Place.TheVariants as place
 use Rattle.ps_table.specs.declared.place.TableCol.{TableCol}
 use Rattle.ps_table.specs.declared.place.TableCol.TheVariants as shown
-use Rattle.ps_answer.specs.Words.{Word, Letters, Fraction, Column, SpellsWord, SpellWords}
+use Rattle.ps_answer.specs.Words.{Word, Letters, Fraction, Column, SpellWords}
 use Rattle.ps_answer.specs.declared.item.Item.{Item}
 use Rattle.ps_answer.specs.declared.item.Item.TheVariants as line
 use Rattle.ps_answer.specs.declared.item.Ratio.{Ratio}
-use Rattle.ps_answer.specs.declared.part.Part.{Part}
 use Rattle.ps_answer.specs.declared.part.Part.TheVariants as part
 use Rattle.ps_answer.specs.Faults.{first_of}
-use Rattle.ps_answer.specs.Items.{count, op_word, shown_word, place_words, item_words, IsColWithin, IsShownWithin, IsPlaceWithin, IsRatioWithin, IsReducedWithin, IsProper, IsWithin, most_operand}
+use Rattle.ps_answer.specs.Items.{count, op_word, shown_word, place_words, IsColWithin, IsShownWithin, IsPlaceWithin, IsRatioWithin, IsReducedWithin, most_operand}
 use Rattle.ps_answer.specs.Due.{behind}
 use Rattle.ps_line.specs.declared.line_fault.LineFault.{LineFault}
 use Rattle.ps_line.specs.declared.line_fault.LineFault.TheVariants.{NotCanonical, TooLarge, NoMemory}
 use Rattle.ps_line.specs.Cursor.{later}
-use Rattle.ps_line.specs.Read.{IsRead, IsWordRead, AreWordsRead, both, Fits, FitsNot, IsSaid, IsItemRead}
+use Rattle.ps_line.specs.Read.{IsWordRead, AreWordsRead, both, IsSaid, IsItemRead}
 use Rattle.ps_line.specs.Places.{Begins, Leaves, IsFrontRead, IsPlaceRead, IsPrintedPlace}
 use Rattle.ps_line.proofs.Sequences.{Makes, IsMade, item_read, made, word_then, IsNeverEmpty}
 use Rattle.ps_line.proofs.Items.{other, IsEndRead, last_word, count_word, column_word, fraction_word}
@@ -45,11 +44,11 @@ pub front_one : {A : Type 0} (v : A → Word) (F : A → Type 0) (ws : List (Lis
 front_one v F [] (Ok a) ne h = absurd (ne a h.0.0)
 front_one v F [] (Err NotCanonical) ne h = λ a tail s. s
 front_one v F [] (Err TooLarge) ne h = absurd (ne h.0 h.1.0)
-front_one v F [] (Err NoMemory) ne h = tt
+front_one v F [] (Err NoMemory) ne h = h
 front_one v F (w ∷ ws) (Ok a) ne h = (λ tail s. (h.0.0, s), h.1, λ a tail s. s.1)
 front_one v F (w ∷ ws) (Err NotCanonical) ne h = λ a tail s. h a (s.0, tt)
 front_one v F (w ∷ ws) (Err TooLarge) ne h = (h.0, λ tail s. (h.1.0, s), h.2, λ a tail s. s.1)
-front_one v F (w ∷ ws) (Err NoMemory) ne h = tt
+front_one v F (w ∷ ws) (Err NoMemory) ne h = h
 
 -- a word, and those of another front
 pub front_then : {A B : Type 0} (v : A → Word) (F : A → Type 0) (us : B → List Word) (G : B → Type 0) (ws rest : List (List ℕ)) (r : Result A LineFault) (q : Result B LineFault)
@@ -58,17 +57,17 @@ pub front_then : {A B : Type 0} (v : A → Word) (F : A → Type 0) (us : B → 
 front_then v F us G [] rest (Ok a) q ne h k = absurd (ne a h.0.0)
 front_then v F us G [] rest (Err NotCanonical) q ne h k = λ a tail s. s
 front_then v F us G [] rest (Err TooLarge) q ne h k = absurd (ne h.0 h.1.0)
-front_then v F us G [] rest (Err NoMemory) q ne h k = tt
+front_then v F us G [] rest (Err NoMemory) q ne h k = h
 front_then v F us G (w ∷ ws) rest (Ok a) (Ok b) ne h k = (λ tail s. (h.0.0, k.0 tail s), (h.1, k.1), λ p tail s. k.2 p.1 tail s.1)
 front_then v F us G (w ∷ ws) rest (Ok a) (Err NotCanonical) ne h k = λ p tail s. k p.1 tail s.1
 front_then v F us G (w ∷ ws) rest (Ok a) (Err TooLarge) ne h k = ((a, k.0), λ tail s. (h.0.0, k.1 tail s), λ f. k.2 f.1, λ p tail s. k.3 p.1 tail s.1)
-front_then v F us G (w ∷ ws) rest (Ok a) (Err NoMemory) ne h k = tt
+front_then v F us G (w ∷ ws) rest (Ok a) (Err NoMemory) ne h k = k
 front_then v F us G (w ∷ ws) rest (Err NotCanonical) q ne h k = λ p tail s. h p.0 (s.0, tt)
 front_then v F us G (w ∷ ws) rest (Err TooLarge) (Ok b) ne h k = ((h.0, b), λ tail s. (h.1.0, k.0 tail s), λ f. h.2 f.0, λ p tail s. k.2 p.1 tail s.1)
 front_then v F us G (w ∷ ws) rest (Err TooLarge) (Err NotCanonical) ne h k = λ p tail s. k p.1 tail s.1
 front_then v F us G (w ∷ ws) rest (Err TooLarge) (Err TooLarge) ne h k = ((h.0, k.0), λ tail s. (h.1.0, k.1 tail s), λ f. h.2 f.0, λ p tail s. k.3 p.1 tail s.1)
-front_then v F us G (w ∷ ws) rest (Err TooLarge) (Err NoMemory) ne h k = tt
-front_then v F us G (w ∷ ws) rest (Err NoMemory) q ne h k = tt
+front_then v F us G (w ∷ ws) rest (Err TooLarge) (Err NoMemory) ne h k = k
+front_then v F us G (w ∷ ws) rest (Err NoMemory) q ne h k = h
 
 -- the name of a place
 abbrev pub place_name : Place → List ℕ
@@ -130,7 +129,7 @@ place_front name mk vs F ws rest r k h = by r h
     by (Ok a) h = (begins a h.0, k.within a h.1, leaves h.2)
     by (Err NotCanonical) h = λ p tail s. let b = behind_name p tail s in h b.0 tail b.1
     by (Err TooLarge) h = (mk h.0, begins h.0 h.1, λ w. h.2 (k.back h.0 w), leaves h.3)
-    by (Err NoMemory) h = tt
+    by (Err NoMemory) h = h
 
 -- the kinds
 abbrev pub IsRowIn : ℕ → Type 0
@@ -309,7 +308,7 @@ pub named : (ws rest : List (List ℕ)) (r : Result Place LineFault) → IsPlace
 named [] rest (Ok p) h = unnamed p (name_of p [] [] (map Letters rest) (h.0 (map Letters rest) (letters rest)))
 named [] rest (Err NotCanonical) h = λ p tail s. no_word p tail s
 named [] rest (Err TooLarge) h = unnamed h.0 (name_of h.0 [] [] (map Letters rest) (h.1 (map Letters rest) (letters rest)))
-named [] rest (Err NoMemory) h = tt
+named [] rest (Err NoMemory) h = h
 named (w ∷ ws) rest r h = h
 
 pub place_named : (ws ws1 rest : List (List ℕ)) (name : List ℕ) (r : Result Place LineFault) → name ≡ first_of ws → ws1 ≡ later ws → IsPlaceRead (name ∷ ws1) rest r → IsPlaceRead ws rest r
@@ -321,13 +320,13 @@ pub place_then : {B : Type 0} (vs : B → List Word) (Q G : B → Type 0) (ws re
 place_then vs Q G ws rest (Ok a) (Ok b) h k = ((h.0 (vs b) k.0.0, (tt, k.0.1)), (h.1, k.1))
 place_then vs Q G ws rest (Ok a) (Err NotCanonical) h k = λ p s. k p.1 (h.2 p.0 (vs p.1) s.0, s.1.1)
 place_then vs Q G ws rest (Ok a) (Err TooLarge) h k = ((a, k.0), (h.0 (vs k.0) k.1.0, (tt, k.1.1)), λ f. k.2 f.1)
-place_then vs Q G ws rest (Ok a) (Err NoMemory) h k = tt
+place_then vs Q G ws rest (Ok a) (Err NoMemory) h k = k
 place_then vs Q G ws rest (Err NotCanonical) q h k = λ p s. h p.0 (vs p.1) s.0
 place_then vs Q G ws rest (Err TooLarge) (Ok b) h k = ((h.0, b), (h.1 (vs b) k.0.0, (tt, k.0.1)), λ f. h.2 f.0)
 place_then vs Q G ws rest (Err TooLarge) (Err NotCanonical) h k = λ p s. k p.1 (h.3 p.0 (vs p.1) s.0, s.1.1)
 place_then vs Q G ws rest (Err TooLarge) (Err TooLarge) h k = ((h.0, k.0), (h.1 (vs k.0) k.1.0, (tt, k.1.1)), λ f. h.2 f.0)
-place_then vs Q G ws rest (Err TooLarge) (Err NoMemory) h k = tt
-place_then vs Q G ws rest (Err NoMemory) q h k = tt
+place_then vs Q G ws rest (Err TooLarge) (Err NoMemory) h k = k
+place_then vs Q G ws rest (Err NoMemory) q h k = h
 
 -- the line of an operation that was refused
 abbrev pub WideParts : Type 0

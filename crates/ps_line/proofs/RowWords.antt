@@ -1,6 +1,6 @@
 -- Words of multipliers.
 use Rattle.std.specs.Prelude.{⊤}
-use Rattle.std.proofs.Common.{◌≡◌, ℕ, zero, suc, ◌+◌, ◌<◌, ◌≤◌, ◌^◌, ℤ, pos, negsuc, List, [], ◌∷◌, ◌++◌, All, length, map, get_or, Result, Ok, Err, refl, sym, ap, subst, ◌∙◌, arith, unsigned_abs, append_assoc, append-nil, length-append, to_z, of_z, FitsSigned as SFits}
+use Rattle.std.proofs.Common.{◌≡◌, ℕ, ◌<◌, ◌≤◌, ℤ, List, [], ◌∷◌, ◌++◌, All, length, map, Result, Ok, Err, refl, sym, subst, ◌∙◌, arith, append_assoc, append-nil, length-append, to_z, of_z, FitsSigned as SFits}
 use mir.Syntax.{w128}
 use Rattle.std.proofs.lemmas.Int.{to_z-of_z, ints}
 use Rattle.ps_log.specs.Spellings.{Spells}
@@ -13,8 +13,8 @@ use Rattle.ps_answer.specs.Words.{Number, SpellWords}
 use Rattle.ps_line.specs.declared.line_fault.LineFault.{LineFault}
 use Rattle.ps_line.specs.declared.line_fault.LineFault.TheVariants.{NotCanonical, TooLarge, NoMemory}
 use Rattle.ps_line.specs.Cursor.{later}
-use Rattle.ps_line.specs.Read.{IsWordRead, AreWordsRead}
-use Rattle.ps_line.specs.Rows.{IsNumbered, TellsNumber, TellsNumbers, AreRowsWithin}
+use Rattle.ps_line.specs.Read.{IsWordRead}
+use Rattle.ps_line.specs.Rows.{IsNumbered, TellsNumber, TellsNumbers, AreRowsRead}
 
 -- each word spells a number where the first does and those after it do
 pub numbered_more : (ws : List (List ℕ)) → (z : ℤ) × Spells (first_of ws) z → IsNumbered (later ws) → IsNumbered ws
@@ -69,36 +69,33 @@ rows_more words (w ∷ ws) rows new z n r l s k e = rw e (record {
   few = omega (arith, l, length-append rows (z ∷ []));
 })
 
-abbrev pub IsRowsRead : List (List ℕ) → Result (List ℤ) LineFault → Type 0
-IsRowsRead words result = AreWordsRead (λ zs. map Number zs) (λ zs. ⊤) AreRowsWithin words result
-
-pub rows_end : (words left : List (List ℕ)) (rows : List ℤ) → left ≡ [] → RowsSoFar words left rows → IsRowsRead words (Ok rows)
+pub rows_end : (words left : List (List ℕ)) (rows : List ℤ) → left ≡ [] → RowsSoFar words left rows → AreRowsRead words (Ok rows)
 rows_end words left rows e r =
     ((subst (λ x. SpellWords words (map Number x)) (append-nil rows) (r.so_far [] (subst (λ l. SpellWords l []) (sym e) tt)), tt), (r.small, r.few))
 
-pub rows_many : (words left : List (List ℕ)) (rows : List ℤ) → (left ≡ [] → ⊥) → RowsSoFar words left rows → 100 ≤ length rows → IsRowsRead words (Err TooLarge)
+pub rows_many : (words left : List (List ℕ)) (rows : List ℤ) → (left ≡ [] → ⊥) → RowsSoFar words left rows → 100 ≤ length rows → AreRowsRead words (Err TooLarge)
 rows_many words left rows n r h = by left n r.numbered r.so_far
   where
-    by : (left : List (List ℕ)) → (left ≡ [] → ⊥) → IsNumbered left → ((zs : List ℤ) → SpellWords left (map Number zs) → SpellWords words (map Number (rows ++ zs))) → IsRowsRead words (Err TooLarge)
+    by : (left : List (List ℕ)) → (left ≡ [] → ⊥) → IsNumbered left → ((zs : List ℤ) → SpellWords left (map Number zs) → SpellWords words (map Number (rows ++ zs))) → AreRowsRead words (Err TooLarge)
     by [] n m f = absurd (n refl)
     by (w ∷ ws) n ([], s) f = absurd s
     by (w ∷ ws) n (z ∷ zs, s) f = (rows ++ z ∷ zs, (f (z ∷ zs) s, tt), λ k. omega (arith, k.1, h, length-append rows (z ∷ zs)))
 
 -- the next word is no number up to the limit
 pub rows_stop : (words left : List (List ℕ)) (rows : List ℤ) (why : LineFault) → (left ≡ [] → ⊥) → RowsSoFar words left rows
-    → IsWordRead (λ z. Number z) (λ z. ⊤) IsPrintable (first_of left) (Err why) → IsRowsRead words (Err why)
+    → IsWordRead (λ z. Number z) (λ z. ⊤) IsPrintable (first_of left) (Err why) → AreRowsRead words (Err why)
 rows_stop words left rows NotCanonical n r h = absurd (first_numbered left n r.numbered (λ z s. h z (s, tt)))
 rows_stop words left rows TooLarge n r h = by left n r.numbered r.so_far h
   where
     by : (left : List (List ℕ)) → (left ≡ [] → ⊥) → IsNumbered left → ((zs : List ℤ) → SpellWords left (map Number zs) → SpellWords words (map Number (rows ++ zs)))
-        → IsWordRead (λ z. Number z) (λ z. ⊤) IsPrintable (first_of left) (Err TooLarge) → IsRowsRead words (Err TooLarge)
+        → IsWordRead (λ z. Number z) (λ z. ⊤) IsPrintable (first_of left) (Err TooLarge) → AreRowsRead words (Err TooLarge)
     by [] n m f h = absurd (n refl)
     by (w ∷ ws) n ([], s) f h = absurd s
     by (w ∷ ws) n (z ∷ zs, s) f h =
         (rows ++ z ∷ zs, (f (z ∷ zs) s, tt), λ k. h.2 (subst IsPrintable (sym (value_of_spelling w z s.0) ∙ value_of_spelling w h.0 h.1.0) (last_small rows zs z k.0)))
 rows_stop words left rows NoMemory n r h = tt
 
-pub numbers_refused : (words : List (List ℕ)) (why : LineFault) → TellsNumbers words (Err why) → IsRowsRead words (Err why)
+pub numbers_refused : (words : List (List ℕ)) (why : LineFault) → TellsNumbers words (Err why) → AreRowsRead words (Err why)
 numbers_refused words NotCanonical h = λ zs s. h (zs, s.0)
 numbers_refused words TooLarge h = absurd h
 numbers_refused words NoMemory h = tt
@@ -106,7 +103,7 @@ numbers_refused words NoMemory h = tt
 pub number_refused : (words left : List (List ℕ)) (why : LineFault) → (left ≡ [] → ⊥) → (IsNumbered words → IsNumbered left) → TellsNumber (first_of left) (Err why) → TellsNumbers words (Err why)
 number_refused words left NotCanonical e f h = λ n. first_numbered left e (f n) h
 number_refused words left TooLarge e f h = h
-number_refused words left NoMemory e f h = tt
+number_refused words left NoMemory e f h = h
 
 -- what was told of the next word
 pub number_told : (left : List (List ℕ)) (word : List ℕ) (r s : Result (Unit {0}) LineFault) → word ≡ first_of left → r ≡ s → TellsNumber word r → TellsNumber (first_of left) s

@@ -1,32 +1,31 @@
 -- Lines of steps and goals.
-use Rattle.std.proofs.Common.{◌≡◌, ℕ, ◌≤◌, ℤ, Bool, true, false, List, [], ◌∷◌, ◌++◌, All, map, Result, Ok, Err, refl, sym, ap, subst, ◌∙◌, unsigned_abs, true≢false, ◌⊎◌, inl, inr}
+use Rattle.std.proofs.Common.{◌≡◌, ℕ, ℤ, Bool, List, [], ◌∷◌, map, Result, Ok, Err, refl, sym, ap, subst, ◌∙◌, true≢false, ◌⊎◌, inl, inr}
 use Rattle.std.specs.List.{list_all}
 use Rattle.ps_steps.specs.Steps.{Step}
 use Rattle.ps_steps.specs.Constraints.{Constraint}
 use Rattle.ps_steps.specs.Weights.{weighted}
-use Rattle.ps_log.specs.FirstLines.{IsOneLine, IsFirstLine, HasBadByte, IsNoText, PassesLimit, StandsFirst, IsAnswer}
+use Rattle.ps_log.specs.FirstLines.{IsFirstLine, IsAnswer}
 use Rattle.ps_log.specs.StepTexts.{IsStepText, is_step_byte}
 use Rattle.ps_log.specs.GoalTexts.{IsGoalText, is_goal_byte}
 use Rattle.ps_log.specs.Limits.{IsStepWithin, IsGoalWithin}
 use Rattle.ps_log.specs.Texts.{step_line, goal_line, step_numbers, goal_numbers}
-use Rattle.ps_log.specs.Spellings.{words_of, Spells, SpellAll}
+use Rattle.ps_log.specs.Spellings.{words_of, SpellAll}
 use Rattle.ps_log.specs.declared.line_error.LineError.{LineError}
 use Rattle.ps_log.specs.declared.line_error.LineError.TheVariants as why
 use Rattle.ps_log.proofs.LineAnswers.{AreTexts, first-unique, lacks-all}
 use Rattle.ps_log.proofs.StepAnswers.{step_texts}
 use Rattle.ps_log.proofs.GoalAnswers.{goal_texts}
 use Rattle.ps_answer.proofs.Single.{no_cut}
-use Rattle.ps_answer.specs.Words.{Word, Letters, Number, SpellWords}
-use Rattle.ps_answer.specs.Items.{item_words, IsProper, IsWithin}
+use Rattle.ps_answer.specs.Words.{Letters, Number, SpellWords}
+use Rattle.ps_answer.specs.Items.{item_words, IsWithin}
 use Rattle.ps_answer.specs.declared.item.Item.{Item}
 use Rattle.ps_answer.specs.declared.item.Item.TheVariants as line
 use Rattle.ps_answer.specs.declared.part.Part.{Part}
 use Rattle.ps_answer.specs.declared.part.Part.TheVariants as part
 use Rattle.ps_answer.specs.Due.{behind}
 use Rattle.ps_line.specs.declared.line_fault.LineFault.{LineFault}
-use Rattle.ps_line.specs.declared.line_fault.LineFault.TheVariants.{NotCanonical, TooLarge, NoMemory}
 use Rattle.ps_line.specs.Texts.{fault_of}
-use Rattle.ps_line.specs.Read.{Fits, FitsNot, IsSaid, IsItemRead}
+use Rattle.ps_line.specs.Read.{Fits, FitsNot, IsSaid, TakesMemory, IsItemRead}
 
 -- what a reading of a text is as an item
 abbrev pub item_of : {X : Type 0} → (X → Item) → Result (X × ℕ) LineError → Result Item LineFault
@@ -41,6 +40,7 @@ pub record IsKind {X : Type 0} (IsText : List ℕ → X → Type 0) (IsIn : X �
   pub back : (x : X) → IsWithin (mk x) → IsIn x
   pub fits : (x : X) → Fits p (mk x)
   pub only : (i : Item) → FitsNot p i ⊎ ((x : X) × (i ≡ mk x))
+  pub takes : (words : List (List ℕ)) → TakesMemory p words
 
 module _ {X : Type 0} {fits : ℕ → Bool} {IsText : List ℕ → X → Type 0} {IsIn : X → Type 0} {line_of : X → List ℕ} (t : AreTexts fits IsText IsIn line_of) (mk : X → Item) (p : Part) (k : IsKind IsText IsIn mk p)
     (bytes text rest : List ℕ) (f : IsFirstLine bytes text rest) where
@@ -63,7 +63,7 @@ module _ {X : Type 0} {fits : ℕ → Bool} {IsText : List ℕ → X → Type 0}
   text_read (Err why.NotCanonical) h = none (λ x s. h.no_text x (subst (λ l. IsText l x) (same h.line h.rest h.first) s))
   text_read (Err why.TooLarge) h =
       (mk h.of, k.said text h.of (subst (λ l. IsText l h.of) (sym (same h.line h.rest h.first)) h.text), k.fits h.of, λ w. h.past (k.back h.of w))
-  text_read (Err why.NoMemory) h = tt
+  text_read (Err why.NoMemory) h = k.takes (words_of text)
 
 numbers_spelled : (ws : List (List ℕ)) (zs : List ℤ) → SpellWords ws (map Number zs) → SpellAll ws zs
 numbers_spelled [] [] s = tt
@@ -96,6 +96,7 @@ step_kind = record {
   back = λ s h. h;
   fits = λ s due. (due, refl);
   only = only;
+  takes = λ words. tt;
 }
   where
     only : (i : Item) → FitsNot part.AStep i ⊎ ((s : Step) × (i ≡ line.StepLine s))
@@ -111,6 +112,7 @@ goal_kind = record {
   back = λ g h. h;
   fits = λ g due. (due, refl);
   only = only;
+  takes = λ words. tt;
 }
   where
     only : (i : Item) → FitsNot part.AGoal i ⊎ ((g : Constraint) × (i ≡ line.GoalLine g))

@@ -1,14 +1,12 @@
 -- Words of worlds.
-use Rattle.std.proofs.Common.{◌≡◌, ◌≢◌, ℕ, zero, suc, ◌==◌, ◌+◌, ◌<◌, ◌≤◌, Bool, true, false, List, [], ◌∷◌, ◌++◌, All, length, map, take, get_or, Result, Ok, Err, refl, sym, ap, subst, ◌∙◌, arith, ◌⊎◌, inl, inr}
-use Rattle.std.specs.Prelude.{⊤, codes}
+use Rattle.std.proofs.Common.{◌≡◌, ◌≢◌, ℕ, suc, ◌==◌, ◌<◌, ◌≤◌, Bool, true, false, List, [], ◌∷◌, All, length, map, Ok, Err, refl, sym, ap, subst, ◌∙◌, arith, inl, inr}
+use Rattle.std.specs.Prelude.{codes}
 use Rattle.std.proofs.lemmas.List.Elements.{All-cons, All-nil}
 use Rattle.ps_log.proofs.StepShapes.{first_in, rest_in}
 use Rattle.ps_meaning.specs.Formula.{World}
-use Rattle.ps_answer.specs.Words.{digit_of, world_text, Truths}
-use Rattle.ps_line.specs.Truths.{IsTruth}
-use Rattle.ps_line.specs.declared.line_fault.LineFault.{LineFault}
-use Rattle.ps_line.specs.declared.line_fault.LineFault.TheVariants.{NotCanonical, TooLarge, NoMemory}
-use Rattle.ps_line.specs.Read.{IsWordRead}
+use Rattle.ps_answer.specs.Words.{digit_of, world_text}
+use Rattle.ps_line.specs.Truths.{IsTruth, IsWorldRead}
+use Rattle.ps_line.specs.declared.line_fault.LineFault.TheVariants.{NotCanonical, TooLarge}
 
 -- the digits of truth values
 back : (bs : List ℕ) → All IsTruth bs → map digit_of (map (λ b. b == 49) bs) ≡ bs
@@ -26,9 +24,6 @@ same_length (b ∷ bs) = ap suc (same_length bs)
 text_of : (bs : List ℕ) → bs ≢ [] → All IsTruth bs → bs ≡ world_text (map (λ b. b == 49) bs)
 text_of [] n h = absurd (n refl)
 text_of (b ∷ bs) n h = sym (back (b ∷ bs) h)
-
-abbrev pub IsWorldRead : List ℕ → Result World LineFault → Type 0
-IsWorldRead word result = IsWordRead (λ w. Truths w) (λ w. ⊤) (λ w. length w ≤ 128) word result
 
 digits_truths : (w : World) → All IsTruth (map digit_of w)
 digits_truths [] = All-nil IsTruth

@@ -1,13 +1,14 @@
 -- What is answered of the line at the front of some bytes, where a part is due.
-use Rattle.std.specs.Prelude.{ℕ, List, ◌∷◌, ⊤}
+use Rattle.std.specs.Prelude.{ℕ, ◌≡◌, true, List, ◌∷◌}
 use Rattle.ps_log.specs.FirstLines.{IsFirstLine}
+use Rattle.ps_log.specs.Spellings.{words_of}
 use Rattle.ps_answer.specs.declared.item.Item.{Item}
 use Rattle.ps_answer.specs.declared.part.Part.{Part}
 use Rattle.ps_answer.specs.Items.{IsLine, IsWithin}
-use Rattle.ps_answer.specs.Faults.{IsFault}
+use Rattle.ps_answer.specs.Faults.{is_begun, IsFault}
 use Rattle.ps_line.specs.declared.error.LineError.{LineError}
 use Rattle.ps_line.specs.declared.error.LineError.TheVariants.{Fault, NoMemory}
-use Rattle.ps_line.specs.Read.{Fits}
+use Rattle.ps_line.specs.Read.{Fits, TakesMemory}
 
 -- the first line says this, within the limits, the part may begin so, and this follows it
 pub record TakesLine (p : Part) (bytes : List ℕ) (i : Item) (rest : List ℕ) : Type 0 where
@@ -17,7 +18,15 @@ pub record TakesLine (p : Part) (bytes : List ℕ) (i : Item) (rest : List ℕ) 
   pub within : IsWithin i
   pub fits : Fits p i
 
--- the first line is at fault, whatever is due behind the part; want of memory may come at any
+-- the first line begins with a word that is due, and memory is taken for what it says
+pub record IsLackingLine (p : Part) (bytes : List ℕ) : Type 0 where
+  pub line : List ℕ
+  pub rest : List ℕ
+  pub first : IsFirstLine bytes line rest
+  pub begun : is_begun p line ≡ true
+  pub takes : TakesMemory p (words_of line)
+
+-- the first line is at fault, whatever is due behind the part; or memory lacks for what it says
 abbrev pub IsLineFault : Part → List ℕ → LineError → Type 0
 IsLineFault p bytes (Fault kind) = (due : List Part) → IsFault (p ∷ due) bytes kind
-IsLineFault p bytes NoMemory = ⊤
+IsLineFault p bytes NoMemory = IsLackingLine p bytes

@@ -1,5 +1,5 @@
 -- Places of the solver that are read.
-use Rattle.std.specs.Prelude.{ℕ, ◌≡◌, List, ◌++◌, ◌∷◌, codes, Result, Ok, Err, ⊤}
+use Rattle.std.specs.Prelude.{ℕ, ◌≡◌, List, ◌++◌, codes, Result, Ok, Err}
 use Rattle.ps_table.specs.declared.place.Place.{Place}
 use Rattle.ps_answer.specs.Items.{place_words, IsPlaceWithin}
 use Rattle.ps_answer.specs.Words.{Word, SpellWords}
@@ -19,7 +19,7 @@ abbrev pub IsFrontRead : {A : Type 0} → (A → List Word) → (A → Type 0) �
 IsFrontRead written Fits words rest (Ok a) = Begins written words rest a × Fits a × Leaves written words rest
 IsFrontRead {A} written Fits words rest (Err NotCanonical) = (a : A) (tail : List Word) → SpellWords words (written a ++ tail) → ⊥
 IsFrontRead {A} written Fits words rest (Err TooLarge) = (a : A) × Begins written words rest a × (Fits a → ⊥) × Leaves written words rest
-IsFrontRead written Fits words rest (Err NoMemory) = ⊤
+IsFrontRead written Fits words rest (Err NoMemory) = ⊥
 
 -- a place is read
 abbrev pub IsPlaceRead : List (List ℕ) → List (List ℕ) → Result Place LineFault → Type 0

@@ -1,27 +1,41 @@
 -- What is answered of words that should say something.
-use Rattle.std.specs.Prelude.{ℕ, ◌≡◌, List, [], ◌∷◌, Some, None, Result, Ok, Err, ⊤}
+use Rattle.std.specs.Prelude.{ℕ, ◌≡◌, List, Some, None, Result, Ok, Err, codes, ⊤}
 use Rattle.ps_answer.specs.Words.{Word, SpellsWord, SpellWords}
 use Rattle.ps_answer.specs.declared.item.Item.{Item}
 use Rattle.ps_answer.specs.declared.part.Part.{Part}
+use Rattle.ps_answer.specs.declared.part.Part.TheVariants.{AnEntry, SomeRows, AStep, AGoal, AnEvent}
+use Rattle.ps_answer.specs.Faults.{first_of}
 use Rattle.ps_answer.specs.Items.{item_words, IsProper, IsWithin}
 use Rattle.ps_answer.specs.Due.{behind}
 use Rattle.ps_line.specs.declared.line_fault.LineFault.{LineFault}
 use Rattle.ps_line.specs.declared.line_fault.LineFault.TheVariants.{NotCanonical, TooLarge, NoMemory}
 
--- what is said, within its limits; or nothing is; or what is said is past a limit. Want of memory may come at any
-abbrev pub IsRead : {A : Type 0} → (A → Type 0) → (A → Type 0) → Result A LineFault → Type 0
-IsRead Says Fits (Ok a) = Says a × Fits a
-IsRead {A} Says Fits (Err NotCanonical) = (a : A) → Says a → ⊥
-IsRead {A} Says Fits (Err TooLarge) = (a : A) × Says a × (Fits a → ⊥)
-IsRead Says Fits (Err NoMemory) = ⊤
+-- what is said, within its limits; or nothing is; or what is said is past a limit; or memory lacks, where it may
+abbrev pub IsReadOrLacks : {A : Type 0} → Type 0 → (A → Type 0) → (A → Type 0) → Result A LineFault → Type 0
+IsReadOrLacks MayLack Says Fits (Ok a) = Says a × Fits a
+IsReadOrLacks {A} MayLack Says Fits (Err NotCanonical) = (a : A) → Says a → ⊥
+IsReadOrLacks {A} MayLack Says Fits (Err TooLarge) = (a : A) × Says a × (Fits a → ⊥)
+IsReadOrLacks MayLack Says Fits (Err NoMemory) = MayLack
 
--- a word is read: how it is written, what it asks, and its limit
+-- where no memory is taken
+abbrev pub IsRead : {A : Type 0} → (A → Type 0) → (A → Type 0) → Result A LineFault → Type 0
+IsRead Says Fits result = IsReadOrLacks ⊥ Says Fits result
+
+-- a word is read: how it is written, what it asks, and its limit; or memory lacks, where it may
+abbrev pub IsWordReadOrLacks : {A : Type 0} → Type 0 → (A → Word) → (A → Type 0) → (A → Type 0) → List ℕ → Result A LineFault → Type 0
+IsWordReadOrLacks MayLack written Asks Fits word result = IsReadOrLacks MayLack (λ a. SpellsWord word (written a) × Asks a) Fits result
+
+-- a word is read
 abbrev pub IsWordRead : {A : Type 0} → (A → Word) → (A → Type 0) → (A → Type 0) → List ℕ → Result A LineFault → Type 0
-IsWordRead written Asks Fits word result = IsRead (λ a. SpellsWord word (written a) × Asks a) Fits result
+IsWordRead written Asks Fits word result = IsWordReadOrLacks ⊥ written Asks Fits word result
+
+-- words are read, or memory lacks, where it may
+abbrev pub AreWordsReadOrLacks : {A : Type 0} → Type 0 → (A → List Word) → (A → Type 0) → (A → Type 0) → List (List ℕ) → Result A LineFault → Type 0
+AreWordsReadOrLacks MayLack written Asks Fits words result = IsReadOrLacks MayLack (λ a. SpellWords words (written a) × Asks a) Fits result
 
 -- words are read
 abbrev pub AreWordsRead : {A : Type 0} → (A → List Word) → (A → Type 0) → (A → Type 0) → List (List ℕ) → Result A LineFault → Type 0
-AreWordsRead written Asks Fits words result = IsRead (λ a. SpellWords words (written a) × Asks a) Fits result
+AreWordsRead written Asks Fits words result = AreWordsReadOrLacks ⊥ written Asks Fits words result
 
 -- both of two readings, or why not; that something isn't written so comes before that it is too large
 abbrev pub both : {A B : Type 0} → Result A LineFault → Result B LineFault → Result (A × B) LineFault
@@ -45,9 +59,18 @@ pub record IsSaid (words : List (List ℕ)) (i : Item) : Type 0 where
   pub spelled : SpellWords words (item_words i)
   pub proper : IsProper i
 
+-- memory is taken for what words say, where a part is due: for worlds, multipliers, steps and goals
+abbrev pub TakesMemory : Part → List (List ℕ) → Type 0
+TakesMemory AnEntry words = ⊤
+TakesMemory SomeRows words = ⊤
+TakesMemory AStep words = ⊤
+TakesMemory AGoal words = ⊤
+TakesMemory AnEvent words = first_of words ≡ codes "c"
+TakesMemory p words = ⊥
+
 -- what is answered of the words of a line, where a part is due
 abbrev pub IsItemRead : Part → List (List ℕ) → Result Item LineFault → Type 0
 IsItemRead p words (Ok i) = IsSaid words i × IsWithin i × Fits p i
 IsItemRead p words (Err NotCanonical) = (i : Item) → IsSaid words i → FitsNot p i
 IsItemRead p words (Err TooLarge) = (i : Item) × IsSaid words i × Fits p i × (IsWithin i → ⊥)
-IsItemRead p words (Err NoMemory) = ⊤
+IsItemRead p words (Err NoMemory) = TakesMemory p words

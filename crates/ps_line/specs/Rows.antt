@@ -3,7 +3,7 @@ use Rattle.std.specs.Prelude.{ℕ, ℤ, ◌≤◌, List, map, length, All, Resul
 use Rattle.ps_log.specs.Spellings.{Spells}
 use Rattle.ps_answer.specs.Items.{IsPrintable, most_multipliers}
 use Rattle.ps_answer.specs.Words.{Number, SpellWords}
-use Rattle.ps_line.specs.Read.{AreWordsRead}
+use Rattle.ps_line.specs.Read.{AreWordsReadOrLacks}
 use Rattle.ps_line.specs.declared.line_fault.LineFault.{LineFault}
 use Rattle.ps_line.specs.declared.line_fault.LineFault.TheVariants.{NotCanonical, TooLarge, NoMemory}
 
@@ -16,19 +16,19 @@ abbrev pub TellsNumber : List ℕ → Result (Unit {0}) LineFault → Type 0
 TellsNumber word (Ok u) = (z : ℤ) × Spells word z
 TellsNumber word (Err NotCanonical) = (z : ℤ) → Spells word z → ⊥
 TellsNumber word (Err TooLarge) = ⊥
-TellsNumber word (Err NoMemory) = ⊤
+TellsNumber word (Err NoMemory) = ⊥
 
 -- whether each word does
 abbrev pub TellsNumbers : List (List ℕ) → Result (Unit {0}) LineFault → Type 0
 TellsNumbers words (Ok u) = IsNumbered words
 TellsNumbers words (Err NotCanonical) = IsNumbered words → ⊥
 TellsNumbers words (Err TooLarge) = ⊥
-TellsNumbers words (Err NoMemory) = ⊤
+TellsNumbers words (Err NoMemory) = ⊥
 
 -- rows are within the limits
 abbrev pub AreRowsWithin : List ℤ → Type 0
 AreRowsWithin rows = All IsPrintable rows × (length rows ≤ most_multipliers)
 
--- the rows that the words spell are read
+-- the rows that the words spell are read, or memory lacks
 abbrev pub AreRowsRead : List (List ℕ) → Result (List ℤ) LineFault → Type 0
-AreRowsRead words result = AreWordsRead (λ zs. map Number zs) (λ zs. ⊤) AreRowsWithin words result
+AreRowsRead words result = AreWordsReadOrLacks ⊤ (λ zs. map Number zs) (λ zs. ⊤) AreRowsWithin words result

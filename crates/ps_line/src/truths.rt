@@ -1,10 +1,6 @@
 //! Words that say a world.
 ghost use Rattle.std.specs.Prelude.{◌≡◌, ◌≢◌, [], ◌==◌, ◌≤◌, ◌↔◌, All, IfOk, IsTrue, map};
-ghost use Rattle.std.specs.Prelude.{length, ⊤};
-ghost use Rattle.ps_formula.specs.declared.limits.TheConstants.{MOST_ATOMS};
-ghost use Rattle.ps_answer.specs.Words.{Truths};
-ghost use Rattle.ps_line.specs.Read.{IsWordRead};
-ghost use Rattle.ps_line.specs.Truths.{IsTruth};
+ghost use Rattle.ps_line.specs.Truths.{IsTruth, IsWorldRead};
 
 use crate::line_fault::LineFault;
 use crate::words::is;
@@ -14,7 +10,7 @@ use std::alloc::Global;
 
 /// A world of at most 128 atoms: a digit for each, or a dash where there is none.
 pub(crate) fn world(alloc: Global, word: &[u8]) -> Result<World, LineFault>
-    ensures { IsWordRead (λ w. Truths w) (λ w. ⊤) (λ w. length w ≤ MOST_ATOMS) word.now result }
+    ensures { IsWorldRead word.now result }
 {
     if is(word, b"-") {
         return Ok(World::new(alloc));
@@ -32,7 +28,7 @@ pub(crate) fn world(alloc: Global, word: &[u8]) -> Result<World, LineFault>
 fn few_truths(alloc: Global, word: &[u8]) -> Result<World, LineFault>
     requires some { word.now ≢ [] }
     requires truths { All IsTruth word.now }
-    ensures { IsWordRead (λ w. Truths w) (λ w. ⊤) (λ w. length w ≤ MOST_ATOMS) word.now result }
+    ensures { IsWorldRead word.now result }
 {
     if MOST_ATOMS < word.len() {
         return Err(LineFault::TooLarge);

@@ -2,7 +2,8 @@ use Rattle.std.proofs.Common.{◌≡◌, ◌<◌, ◌≤◌, false, true≢false
 use Rattle.std.specs.Prelude.{[]}
 use Rattle.std.proofs.lemmas.Result.{err_from_is_err_and}
 use Rattle.ps_line.specs.Cursor.{words_in}
-use Rattle.ps_line.proofs.RowWords.{RowsSoFar, IsRowsRead, rows_many, rows_more, rows_stop, row_told, small_kept}
+use Rattle.ps_line.specs.Rows.{AreRowsRead}
+use Rattle.ps_line.proofs.RowWords.{RowsSoFar, rows_many, rows_more, rows_stop, row_told, small_kept}
 use Rattle.ps_line.proofs.rows.small_rows.Goals as goal
 
 pub returns-then-len-ge-MOST_ROWS : goal.returns-then-len-ge-MOST_ROWS
@@ -15,7 +16,7 @@ pub returns-in_err-number : goal.returns-in_err-number
 returns-in_err-number c =
     let f = err_from_is_err_and c.from_residual.result c.from_residual.ensures.1 in
     let b : c.is_empty.result ≡ false = search rules in
-    subst (λ r. IsRowsRead (words_in c.args.words.now) r) (sym (f.1 ∙ ap Err f.2))
+    subst (λ r. AreRowsRead (words_in c.args.words.now) r) (sym (f.1 ∙ ap Err f.2))
     (rows_stop (words_in c.args.words.now) (words_in c.loop-left.left) c.loop-left.rows c.in_err-number.field-0.0 (λ e. true≢false (sym (c.is_empty.ensures.1 e) ∙ b)) c.loop-left.invariant
     (row_told (words_in c.loop-left.left) c.next.result.now c.number.result (Err c.in_err-number.field-0.0) c.next.ensures.word c.in_err-number.was c.number.ensures))
 
