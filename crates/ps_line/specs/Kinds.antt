@@ -1,6 +1,5 @@
 -- Digits of a column, and the number of a query.
 use Rattle.std.specs.Prelude.{ℕ, ◌≡◌, ◌≤◌, List, ◌∷◌, Result, Ok, Err, ⊤}
-use Rattle.ps_log.specs.Spellings.{IsDecimal}
 use Rattle.ps_pool.specs.declared.col.Col.{Col}
 use Rattle.ps_pool.specs.declared.col.Col.TheVariants.{World}
 use Rattle.ps_answer.specs.Items.{IsColWithin, most_queries}

@@ -1,5 +1,5 @@
 -- Words that spell numbers, cut off past every limit.
-use Rattle.std.specs.Prelude.{ℕ, ◌^◌, ◌≡◌, ◌≤◌, ℤ, pos, neg_ℤ, suc, List, min, Option, Some, None, Result, unsigned_abs}
+use Rattle.std.specs.Prelude.{ℕ, ◌^◌, ◌≡◌, ◌≤◌, ℤ, List, min, Option, Some, None, Result, unsigned_abs}
 use Rattle.std.specs.Str.Parse.{digits_value}
 use Rattle.ps_log.specs.Spellings.{IsPlain, IsDecimal, Spells}
 use Rattle.ps_line.specs.declared.line_fault.LineFault.{LineFault}

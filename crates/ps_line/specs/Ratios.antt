@@ -1,10 +1,10 @@
 -- The parts of a fraction.
-use Rattle.std.specs.Prelude.{ℕ, ◌≡◌, ◌≤◌, ◌<◌, ◌^◌, ℤ, pos, List, Result, Ok, Err, unsigned_abs, ⊤}
+use Rattle.std.specs.Prelude.{ℕ, ◌≡◌, ◌≤◌, ◌<◌, ◌^◌, ℤ, List, Result, Ok, Err, unsigned_abs, ⊤}
 use Rattle.std.specs.Int.{IsGcd}
 use Rattle.ps_log.specs.Spellings.{IsDecimal, Spells}
 use Rattle.ps_answer.specs.declared.item.Ratio.{Ratio}
 use Rattle.ps_line.specs.declared.line_fault.LineFault.{LineFault}
-use Rattle.ps_line.specs.declared.line_fault.LineFault.TheVariants.{NotCanonical, TooLarge, NoMemory}
+use Rattle.ps_line.specs.declared.line_fault.LineFault.TheVariants.{NotCanonical}
 use Rattle.ps_line.specs.Read.{IsRead, both}
 
 -- a numerator that asks this is read

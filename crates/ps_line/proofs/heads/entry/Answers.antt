@@ -1,5 +1,4 @@
-use Rattle.std.proofs.Common.{◌∙◌, ap, sym, subst, Ok, Err, ◌∷◌, to_z, of_z}
-use mir.Syntax.{w128}
+use Rattle.std.proofs.Common.{◌∙◌, ap, sym, subst, Ok, Err, ◌∷◌}
 use Rattle.std.specs.Prelude.{codes}
 use Rattle.std.proofs.lemmas.Result.{err_from_is_err_and}
 use Rattle.ps_answer.specs.declared.item.Item.TheVariants as line

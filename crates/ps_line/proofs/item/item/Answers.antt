@@ -1,4 +1,4 @@
-use Rattle.std.proofs.Common.{refl, sym, ap, subst, ◌∙◌}
+use Rattle.std.proofs.Common.{refl, sym, subst}
 use Rattle.std.specs.Prelude.{codes}
 use Rattle.ps_log.specs.Spellings.{words_of}
 use Rattle.ps_answer.specs.declared.part.Part.TheVariants as part

@@ -4,7 +4,6 @@ use Rattle.std.proofs.lemmas.Result.{err_from_is_err_and}
 use Rattle.ps_answer.specs.declared.item.Item.TheVariants as line
 use Rattle.ps_answer.specs.declared.part.Part.TheVariants as part
 use Rattle.ps_line.specs.Cursor.{words_in}
-use Rattle.ps_line.specs.Read.{both}
 use Rattle.ps_line.proofs.Sequences.{made_ok, made_err}
 use Rattle.ps_line.proofs.ItemSteps.{conflicts_item}
 use Rattle.ps_line.proofs.openings.open_conflicts.Goals as goal

@@ -1,4 +1,4 @@
-use Rattle.std.proofs.Common.{true≢false, sym, subst, ap, Err, ◌∙◌, ◌∷◌}
+use Rattle.std.proofs.Common.{true≢false, sym, ap, Err, ◌∙◌, ◌∷◌}
 use Rattle.std.proofs.lemmas.Result.{err_from_is_err_and}
 use Rattle.ps_answer.specs.declared.item.Item.TheVariants as line
 use Rattle.ps_answer.specs.declared.part.Part.TheVariants as part

@@ -1,13 +1,12 @@
 use Rattle.std.specs.Prelude.{⊤}
-use Rattle.std.proofs.Common.{◌≡◌, ◌≤◌, ◌∙◌, ap, sym, subst, Err, ◌∷◌}
+use Rattle.std.proofs.Common.{◌≤◌, ◌∙◌, ap, sym, subst, Err, ◌∷◌}
 use Rattle.std.specs.Prelude.{codes}
 use Rattle.std.proofs.lemmas.Result.{err_from_is_err_and}
 use Rattle.ps_table.specs.declared.place.Place.TheVariants as place
 use Rattle.ps_answer.specs.Faults.{first_of}
-use Rattle.ps_answer.specs.Items.{count, shown_word, IsColWithin, IsShownWithin}
-use Rattle.ps_answer.specs.Words.{Column}
+use Rattle.ps_answer.specs.Items.{count}
 use Rattle.ps_line.specs.Cursor.{words_in, later}
-use Rattle.ps_line.specs.Read.{IsWordRead, both}
+use Rattle.ps_line.specs.Read.{IsWordRead}
 use Rattle.ps_line.specs.Places.{IsPlaceRead}
 use Rattle.ps_line.proofs.PlaceWords.{new_times_read, mapped, mapped_err}
 use Rattle.ps_line.proofs.places.new_times.Goals as goal

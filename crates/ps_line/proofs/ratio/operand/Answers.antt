@@ -1,5 +1,5 @@
 use Rattle.std.specs.Prelude.{⊤}
-use Rattle.std.proofs.Common.{◌^◌, ◌-◌, ◌<◌, pos, ◌≤ℤ◌, arith}
+use Rattle.std.proofs.Common.{◌^◌, ◌-◌, arith}
 use Rattle.ps_line.proofs.Fractions.{ratio_read, no_ratio, parts_fit, any_over, no_sign}
 use Rattle.ps_line.proofs.ratio.operand.Goals as goal
 

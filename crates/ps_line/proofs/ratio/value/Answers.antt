@@ -1,5 +1,4 @@
-use Rattle.std.specs.Prelude.{⊤}
-use Rattle.std.proofs.Common.{◌^◌, ◌-◌, ◌<◌, pos, ◌≤ℤ◌, arith}
+use Rattle.std.proofs.Common.{◌^◌, pos, ◌≤ℤ◌, arith}
 use Rattle.ps_line.proofs.Fractions.{ratio_read, no_ratio, parts_fit}
 use Rattle.ps_line.proofs.ratio.value.Goals as goal
 

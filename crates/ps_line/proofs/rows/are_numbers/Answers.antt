@@ -1,5 +1,4 @@
 use Rattle.std.proofs.Common.{◌≡◌, false, true≢false, sym, subst, ap, Ok, Err, ◌∙◌, rules}
-use Rattle.std.specs.Prelude.{[]}
 use Rattle.std.proofs.lemmas.Result.{err_from_is_err_and}
 use Rattle.ps_line.specs.Cursor.{words_in}
 use Rattle.ps_line.specs.Rows.{IsNumbered, TellsNumbers}

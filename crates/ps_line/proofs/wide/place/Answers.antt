@@ -1,4 +1,3 @@
-use Rattle.std.proofs.Common.{true≢false, sym, ◌∙◌}
 use Rattle.ps_line.specs.Cursor.{words_in}
 use Rattle.ps_line.proofs.PlaceWords.{place_named}
 use Rattle.ps_line.proofs.wide.place.Goals as goal

@@ -1,6 +1,6 @@
-use Rattle.std.proofs.Common.{subst, sym, ap, option_copied}
+use Rattle.std.proofs.Common.{subst, sym, option_copied}
 use Rattle.ps_log.specs.Numbers.{words_after}
-use Rattle.std.specs.Prelude.{◌∷◌, [], Err, ⊤}
+use Rattle.std.specs.Prelude.{[], Err, ⊤}
 use Rattle.ps_line.specs.declared.line_fault.LineFault.TheVariants.{NotCanonical}
 use Rattle.ps_line.specs.Read.{AreWordsRead}
 use Rattle.ps_line.proofs.Sequences.{some_left}

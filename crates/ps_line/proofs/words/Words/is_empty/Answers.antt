@@ -1,4 +1,4 @@
-use Rattle.std.proofs.Common.{subst, sym, ap, option_copied, ◌≡◌, ◌↔◌, false, true≢false}
+use Rattle.std.proofs.Common.{subst, sym, option_copied, ◌≡◌, ◌↔◌, false, true≢false}
 use Rattle.std.specs.Prelude.{[], IsTrue}
 use Rattle.ps_log.specs.Numbers.{words_after}
 use Rattle.ps_line.proofs.Sequences.{has_words}
