@@ -115,4 +115,4 @@ fault_told bytes a NoMemory l z s = tt
 
 pub more_told : (bytes : List ℕ) (a b : Lines) (x : Answer) (e : ReportError) → left_in a ≡ bytes → a.taken ≡ 0 → Takes a b (answer_items x) → IsAnswerCounted x → IsMore b e → TellsFault bytes e
 more_told bytes a b x (At kind line) l z t h s = first_fault bytes a kind line l z (fault_later a b (answer_items x) at_start [] kind line t (answer_due x h) s)
-more_told bytes a b x NoMemory l z t h s = tt
+more_told bytes a b x NoMemory l z t h s = absurd s

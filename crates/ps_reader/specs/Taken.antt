@@ -45,7 +45,7 @@ IsValueRead items_of parts old new (Err e) = IsStopped old parts e
 -- something is left behind the end
 abbrev pub IsMore : Lines → ReportError → Type 0
 IsMore l (At kind line) = FaultAt l [] kind line
-IsMore l NoMemory = ⊤
+IsMore l NoMemory = ⊥
 
 -- so many of a part, and no others
 abbrev pub repeated : ℕ → Part → List Part
