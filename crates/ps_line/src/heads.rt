@@ -13,13 +13,13 @@ use crate::words::Words;
 use ps_answer::Item;
 use std::alloc::Global;
 
-/// The words behind `report`.
 const MOST_ENTRIES: u64 = 101;
 
 const MOST_STEPS: u64 = 1 << 41;
 
 const MOST_EVENTS: u64 = 2_000_001;
 
+/// The words behind `report`.
 pub(crate) fn report(words: &mut Words<'_>) -> Result<Item, LineFault>
     ensures { IsItemRead AReport (codes "report" ∷ words_in words.old) result }
 {

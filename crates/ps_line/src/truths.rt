@@ -1,5 +1,5 @@
 //! Words that say a world.
-ghost use Rattle.std.specs.Prelude.{◌≡◌, ◌≢◌, [], ◌==◌, ◌≤◌, ◌↔◌, All, IfOk, IsTrue, map};
+ghost use Rattle.std.specs.Prelude.{◌≡◌, ◌≢◌, [], ◌==◌, ◌↔◌, All, IfOk, IsTrue, map};
 ghost use Rattle.ps_line.specs.Truths.{IsTruth, IsWorldRead};
 
 use crate::line_fault::LineFault;
