@@ -1,6 +1,7 @@
 //! Forms to search.
-ghost use Rattle.std.specs.Prelude.{◌<◌, ◌≤◌};
+ghost use Rattle.std.specs.Prelude.{◌<◌, ◌≤◌, ◌≢◌, All, IsTrue};
 ghost use Rattle.ps_pb.specs.Limits.{most_variables};
+ghost use Rattle.ps_steps.specs.Assignments.{place, AreDifferent};
 
 use crate::draw::Draw;
 use ps_clause::ClauseForm;
@@ -11,46 +12,37 @@ use std::alloc::Global;
 /// So many clauses a form gets at most.
 const MOST_CLAUSES: u32 = 1_000_000;
 
-/// Adds a clause of two literals, where they are of different variables of the form.
-fn add_two(form: &mut ClauseForm, a: Lit, b: Lit) -> Result<(), NoMemory> {
-    let variables = form.variables() as usize;
-    if a.place() < variables
-        && b.place() < variables
-        && a.place() != b.place()
-        && form.clauses() < MOST_CLAUSES
-    {
-        form.add(&[a, b])?;
-    }
-    Ok(())
+// Whether literals are of so many variables.
+fn are_within(variables: u32, lits: &[Lit]) -> bool
+    ensures { IsTrue result → All (λ l. place l < variables) lits.now }
+{
+    let variables = variables as usize;
+    lits.iter().all(|lit| lit.place() < variables)
 }
 
-/// Adds a clause of three literals, where they are of different variables of the form.
-pub fn add_three(form: &mut ClauseForm, a: Lit, b: Lit, c: Lit) -> Result<(), NoMemory> {
-    let variables = form.variables() as usize;
-    if a.place() < variables
-        && b.place() < variables
-        && c.place() < variables
-        && a.place() != b.place()
-        && a.place() != c.place()
-        && b.place() != c.place()
-        && form.clauses() < MOST_CLAUSES
-    {
-        form.add(&[a, b, c])?;
-    }
-    Ok(())
+// Whether no literal is of the variable at a place.
+fn are_apart(at: usize, lits: &[Lit]) -> bool
+    ensures { IsTrue result → All (λ l. place l ≢ at) lits.now }
+{
+    lits.iter().all(|lit| lit.place() != at)
 }
 
-/// Adds the clause that one of five literals is true, where they are of rising variables of the form.
-fn add_five(form: &mut ClauseForm, first: u32) -> Result<(), NoMemory> {
-    if first < 1000 && first + 5 <= form.variables() && form.clauses() < MOST_CLAUSES {
-        let place = first as usize;
-        form.add(&[
-            Lit::of_place(place, true),
-            Lit::of_place(place + 1, true),
-            Lit::of_place(place + 2, true),
-            Lit::of_place(place + 3, true),
-            Lit::of_place(place + 4, true),
-        ])?;
+// Whether no two literals are of one variable.
+fn are_different(lits: &[Lit]) -> bool
+    ensures { IsTrue result → AreDifferent lits.now }
+{
+    for i in 0..lits.len() {
+        if !are_apart(lits[i].place(), &lits[..i]) {
+            return false;
+        }
+    }
+    true
+}
+
+/// Adds a clause, where its literals are of different variables of the form.
+pub fn add(form: &mut ClauseForm, lits: &[Lit]) -> Result<(), NoMemory> {
+    if are_within(form.variables(), lits) && are_different(lits) && form.clauses() < MOST_CLAUSES {
+        form.add(lits)?;
     }
     Ok(())
 }
@@ -77,7 +69,7 @@ pub fn three_clauses(
     let mut form = ClauseForm::new(alloc, variables);
     for _ in 0..clauses {
         let (a, b, c) = different(draw, variables);
-        add_three(&mut form, a, b, c)?;
+        add(&mut form, &[a, b, c])?;
     }
     Ok(form)
 }
@@ -108,7 +100,7 @@ fn different(draw: &mut Draw, variables: u32) -> (Lit, Lit, Lit)
 pub fn pigeons(alloc: Global) -> Result<ClauseForm, NoMemory> {
     let mut form = ClauseForm::new(alloc, 30);
     for pigeon in 0..6u32 {
-        add_five(&mut form, pigeon * 5)?;
+        some_hole(&mut form, pigeon)?;
     }
     for hole in 0..5u32 {
         for pigeon in 0..30u32 {
@@ -118,12 +110,32 @@ pub fn pigeons(alloc: Global) -> Result<ClauseForm, NoMemory> {
     Ok(form)
 }
 
+// The literal that says whether a pigeon sits in a hole.
+fn sits(pigeon: u32, hole: u32, is_there: bool) -> Lit
+    requires six { pigeon < 6 }
+    requires five { hole < 5 }
+{
+    Lit::of_place((pigeon * 5 + hole) as usize, is_there)
+}
+
+// A pigeon sits in one of the holes.
+fn some_hole(form: &mut ClauseForm, pigeon: u32) -> Result<(), NoMemory>
+    requires { pigeon < 6 }
+{
+    let lits = [
+        sits(pigeon, 0, true),
+        sits(pigeon, 1, true),
+        sits(pigeon, 2, true),
+        sits(pigeon, 3, true),
+        sits(pigeon, 4, true),
+    ];
+    add(form, &lits)
+}
+
 // A pigeon and a later one don't both sit in a hole.
 fn alone(form: &mut ClauseForm, hole: u32, pigeon: u32, other: u32) -> Result<(), NoMemory> {
     if hole < 5 && pigeon < other && other < 6 {
-        let a = Lit::of_place((pigeon * 5 + hole) as usize, false);
-        let b = Lit::of_place((other * 5 + hole) as usize, false);
-        add_two(form, a, b)?;
+        add(form, &[sits(pigeon, hole, false), sits(other, hole, false)])?;
     }
     Ok(())
 }

@@ -3,7 +3,7 @@ ghost use Rattle.std.specs.Prelude.{◌<◌, ◌≤◌};
 ghost use Rattle.ps_pb.specs.Limits.{most_variables};
 
 use crate::draw::Draw;
-use crate::forms::{add_three, literal};
+use crate::forms::{add, literal};
 use ps_clause::ClauseForm;
 use ps_io::List;
 use ps_log::HeldLog;
@@ -68,18 +68,28 @@ fn weight(draw: &mut Draw) -> i64 {
 }
 
 impl Problem {
-    fn wcnf(&self, alloc: Global) -> Result<Wcnf, SearchError> {
+    // The form of its clauses.
+    fn hard(&self, alloc: Global) -> Result<ClauseForm, SearchError> {
         let mut hard = ClauseForm::new(alloc, self.variables.min(1024));
         for clause in self.clauses.as_slice() {
-            add_three(&mut hard, clause.0, clause.1, clause.2)?;
+            add(&mut hard, &[clause.0, clause.1, clause.2])?;
         }
+        Ok(hard)
+    }
+
+    // Its weighted literals, the weights in the problem's width.
+    fn soft(&self, alloc: Global) -> Result<List<(Lit, i128)>, SearchError> {
         let mut soft = List::new(alloc);
         for term in self.soft.as_slice() {
             soft.push((term.0, term.1 as i128))?;
         }
+        Ok(soft)
+    }
+
+    fn wcnf(&self, alloc: Global) -> Result<Wcnf, SearchError> {
         Ok(Wcnf {
-            hard,
-            soft,
+            hard: self.hard(alloc)?,
+            soft: self.soft(alloc)?,
             base: self.base as i128,
         })
     }
