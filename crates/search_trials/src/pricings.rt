@@ -3,6 +3,7 @@
 ghost use Rattle.std.specs.Prelude.{◌≡◌, []};
 ghost use Rattle.ps_maxsat.specs.Limits.{IsNarrow, IsSoftWithin};
 
+use crate::forms::add;
 use ps_clause::ClauseForm;
 use ps_io::{Lines, List, MemSink, NoMemory};
 use ps_log::{HeldLog, TextLog};
@@ -18,14 +19,29 @@ const CONFLICTS: u64 = 20_000;
 /// the clause one of them at most.
 const REFUTED: &[u8] = b"g 5 3 1 2 2 0\ns 3 0 2 1 0\n";
 
+// Not both of two variables.
+fn not_both(alloc: Global) -> Result<ClauseForm, NoMemory> {
+    let mut form = ClauseForm::new(alloc, 2);
+    add(
+        &mut form,
+        &[Lit::of_place(0, false), Lit::of_place(1, false)],
+    )?;
+    Ok(form)
+}
+
+// The first of two variables weighs 3, and the second 2.
+fn three_and_two(alloc: Global) -> Result<List<(Lit, i128)>, NoMemory> {
+    let soft = [(Lit::of_place(0, true), 3), (Lit::of_place(1, true), 2)];
+    Ok(List::from_vec(Vec::from_slice(alloc, &soft)?))
+}
+
 /// Not both of two variables, of which the first weighs 3 and the second 2.
 fn one_of_two(alloc: Global, base: i128) -> Result<Wcnf, NoMemory> {
-    let mut hard = ClauseForm::new(alloc, 2);
-    hard.add(&[Lit::of_place(0, false), Lit::of_place(1, false)])?;
-    let mut soft = List::new(alloc);
-    soft.push((Lit::of_place(0, true), 3))?;
-    soft.push((Lit::of_place(1, true), 2))?;
-    Ok(Wcnf { hard, soft, base })
+    Ok(Wcnf {
+        hard: not_both(alloc)?,
+        soft: three_and_two(alloc)?,
+        base,
+    })
 }
 
 /// With the base 0 the greatest value is 3.
@@ -53,24 +69,26 @@ fn held(alloc: Global, base: i128) -> Result<(Option<Priced>, usize), SearchErro
 
 /// The first over a log of lines.
 pub fn is_written_3(alloc: Global) -> Result<bool, SearchError> {
-    let wcnf = one_of_two(alloc, 0)?;
-    let mut sink = MemSink::new(alloc, 100, Vec::new(alloc), 1000)?;
-    if !wcnf.is_narrow() || !wcnf.is_soft_within() || !sink.bytes().is_empty() {
-        return Ok(false);
-    }
-    let priced = written(alloc, &wcnf, &mut sink)?;
-    Ok(matches!(priced, Priced::Best { value: 3, .. }))
+    let (priced, _) = in_lines(alloc, 0)?;
+    Ok(matches!(priced, Some(Priced::Best { value: 3, .. })))
 }
 
 /// The second over a log of lines, which has just the goal and the refutation.
 pub fn is_written_none_above(alloc: Global) -> Result<bool, SearchError> {
-    let wcnf = one_of_two(alloc, -4)?;
+    let (priced, sink) = in_lines(alloc, -4)?;
+    let none = matches!(priced, Some(Priced::NoneAbove { last: 3 }));
+    Ok(none && sink.bytes() == REFUTED)
+}
+
+// The answer over a log of lines, and the sink of the lines.
+fn in_lines(alloc: Global, base: i128) -> Result<(Option<Priced>, MemSink), SearchError> {
+    let wcnf = one_of_two(alloc, base)?;
     let mut sink = MemSink::new(alloc, 100, Vec::new(alloc), 1000)?;
     if !wcnf.is_narrow() || !wcnf.is_soft_within() || !sink.bytes().is_empty() {
-        return Ok(false);
+        return Ok((None, sink));
     }
     let priced = written(alloc, &wcnf, &mut sink)?;
-    Ok(matches!(priced, Priced::NoneAbove { last: 3 }) && sink.bytes() == REFUTED)
+    Ok((Some(priced), sink))
 }
 
 // The answer over a log of lines.

@@ -3,6 +3,7 @@ ghost use Rattle.std.specs.Prelude.{◌≡◌, ◌≤◌, [], IsTrue};
 ghost use Rattle.ps_steps.specs.Weights.{IsWithin};
 ghost use Rattle.ps_sat.specs.Limits.{most_conflicts};
 
+use crate::forms::add;
 use crate::refutations::{is_within, no_goal};
 use ps_clause::ClauseForm;
 use ps_io::{Lines, MemSink, NoMemory};
@@ -14,13 +15,18 @@ use std::alloc::Global;
 /// The line of the goal that everything meets.
 const NO_GOAL: &[u8] = b"g 0 0\n";
 
+// Whether the first of two variables is to be true in a clause, and whether the second is.
+const SIGNS: [(bool, bool); 4] = [(true, true), (true, false), (false, true), (false, false)];
+
 /// Each clause of two literals of two variables.
 fn all_four(alloc: Global) -> Result<ClauseForm, NoMemory> {
     let mut form = ClauseForm::new(alloc, 2);
-    form.add(&[Lit::of_place(0, true), Lit::of_place(1, true)])?;
-    form.add(&[Lit::of_place(0, true), Lit::of_place(1, false)])?;
-    form.add(&[Lit::of_place(0, false), Lit::of_place(1, true)])?;
-    form.add(&[Lit::of_place(0, false), Lit::of_place(1, false)])?;
+    for (first, second) in SIGNS {
+        add(
+            &mut form,
+            &[Lit::of_place(0, first), Lit::of_place(1, second)],
+        )?;
+    }
     Ok(form)
 }
 
@@ -50,38 +56,22 @@ fn held(alloc: Global, conflicts: u64) -> Result<(Option<Outcome>, usize), Searc
 
 /// The same over a log of lines: with no conflict to spend only the goal is written.
 pub fn is_spent_in_lines(alloc: Global) -> Result<bool, SearchError> {
-    let form = all_four(alloc)?;
-    let goal = no_goal(alloc)?;
-    let mut sink = MemSink::new(alloc, 100, Vec::new(alloc), 100)?;
-    if !is_within(form.variables(), &goal) || !sink.bytes().is_empty() {
-        return Ok(false);
-    }
-    let outcome = written(alloc, &form, &goal, 0, &mut sink)?;
-    Ok(matches!(outcome, Outcome::Spent { learned: 0 }) && sink.bytes() == NO_GOAL)
+    let (outcome, sink) = in_lines(alloc, 0, Vec::new(alloc))?;
+    let spent = matches!(outcome, Some(Ok(Outcome::Spent { learned: 0 })));
+    Ok(spent && sink.bytes() == NO_GOAL)
 }
 
 /// And with one the goal and two steps.
 pub fn is_refuted_in_lines(alloc: Global) -> Result<bool, SearchError> {
-    let form = all_four(alloc)?;
-    let goal = no_goal(alloc)?;
-    let mut sink = MemSink::new(alloc, 100, Vec::new(alloc), 100)?;
-    if !is_within(form.variables(), &goal) || !sink.bytes().is_empty() {
-        return Ok(false);
-    }
-    let outcome = written(alloc, &form, &goal, 1, &mut sink)?;
-    Ok(matches!(outcome, Outcome::Refuted { last: 7 }) && lines(sink.bytes()) == 3)
+    let (outcome, sink) = in_lines(alloc, 1, Vec::new(alloc))?;
+    let refuted = matches!(outcome, Some(Ok(Outcome::Refuted { last: 7 })));
+    Ok(refuted && lines(sink.bytes()) == 3)
 }
 
 /// The log fails where the sink does at the line of the second step.
 pub fn is_fault(alloc: Global) -> Result<bool, SearchError> {
-    let form = all_four(alloc)?;
-    let goal = no_goal(alloc)?;
-    let mut sink = MemSink::new(alloc, 100, failing_at(alloc, 3)?, 100)?;
-    if !is_within(form.variables(), &goal) || !sink.bytes().is_empty() {
-        return Ok(false);
-    }
-    let outcome = written(alloc, &form, &goal, 1, &mut sink);
-    let fault = matches!(outcome, Err(SearchError::LogFault));
+    let (outcome, sink) = in_lines(alloc, 1, failing_at(alloc, 3)?)?;
+    let fault = matches!(outcome, Some(Err(SearchError::LogFault)));
     Ok(fault && lines(sink.bytes()) == 2)
 }
 
@@ -89,6 +79,25 @@ fn failing_at(alloc: Global, call: u64) -> Result<Vec<u64>, NoMemory> {
     let mut failing = Vec::new(alloc);
     failing.push(call)?;
     Ok(failing)
+}
+
+// The outcome over a log of lines, where these calls of its sink fail, and the sink.
+fn in_lines(
+    alloc: Global,
+    conflicts: u64,
+    failing: Vec<u64>,
+) -> Result<(Option<Result<Outcome, SearchError>>, MemSink), SearchError> {
+    let form = all_four(alloc)?;
+    let goal = no_goal(alloc)?;
+    let mut sink = MemSink::new(alloc, 100, failing, 100)?;
+    if MOST_CONFLICTS < conflicts
+        || !is_within(form.variables(), &goal)
+        || !sink.bytes().is_empty()
+    {
+        return Ok((None, sink));
+    }
+    let outcome = written(alloc, &form, &goal, conflicts, &mut sink);
+    Ok((Some(outcome), sink))
 }
 
 // The outcome over a log of lines.
