@@ -1,5 +1,5 @@
 -- What the lines of a report say, and their words.
-use Rattle.std.specs.Prelude.{ℕ, ◌-◌, ◌^◌, ◌≡◌, ◌≤◌, ℤ, pos, ◌≤ℤ◌, Bool, true, false, true as yes, List, [], ◌∷◌, ◌++◌, map, All, length, unsigned_abs, codes, ⊤}
+use Rattle.std.specs.Prelude.{ℕ, ◌-◌, ◌^◌, ◌≡◌, ◌≤◌, ℤ, pos, ◌≤ℤ◌, Bool, true, false, List, [], ◌∷◌, ◌++◌, map, All, length, unsigned_abs, codes, ⊤}
 use Rattle.std.specs.Int.{IsGcd}
 use Rattle.ps_steps.specs.Weights.{weighted, are_rising}
 use Rattle.ps_formula.specs.declared.limits.TheConstants.{MOST_ATOMS}
@@ -127,14 +127,14 @@ IsProper (ModelHead total n) = pos 0 ≤ℤ total
 IsProper (Entry weight world) = pos 0 ≤ℤ weight
 IsProper (DualHead top head n) = pos 0 ≤ℤ top
 IsProper (StepLine s) = All (λ l. 1 ≤ unsigned_abs l) s.lits
-IsProper (GoalLine g) = All (λ t. 1 ≤ t.1) g.terms × (are_rising 0 (weighted g.terms) ≡ yes)
+IsProper (GoalLine g) = All (λ t. 1 ≤ t.1) g.terms × (are_rising 0 (weighted g.terms) ≡ true)
 IsProper (Bound upper value) = (pos 0 ≤ℤ value.over) × IsReducedWithin printed_limit value
 IsProper i = ⊤
 
 -- literals aren't 0, coefficients are at least 1, and variables rise: so a line's numbers tell a step and a goal
 abbrev pub IsTold : Item → Type 0
 IsTold (StepLine s) = All (λ l. 1 ≤ unsigned_abs l) s.lits
-IsTold (GoalLine g) = All (λ t. 1 ≤ t.1) g.terms × (are_rising 0 (weighted g.terms) ≡ yes)
+IsTold (GoalLine g) = All (λ t. 1 ≤ t.1) g.terms × (are_rising 0 (weighted g.terms) ≡ true)
 IsTold i = ⊤
 
 -- a line spells this, with numbers of any size and any sign

@@ -15,7 +15,7 @@ use Rattle.ps_steps.specs.Weights.{clause_of}
 use Rattle.ps_forms.specs.Clauses.{Clause, meets, positive, negative, meaning_of, once, is_tautology, tidy, clauses_at, clauses_from, clause_form}
 use Rattle.ps_forms.specs.Extensions.{AgreesAt, value_or_false}
 use Rattle.ps_forms.specs.Forms.{Form, is_other, form_of, is_atom_variable, clause_at, with_clause}
-use Rattle.ps_forms.specs.Settled.{IsIdle, AtomsAreSet, IsSettled}
+use Rattle.ps_forms.specs.Settled.{IsIdle, AtomsAreSet, AtomsDecide}
 use Rattle.ps_forms.proofs.Extends.{fits-later, value-same}
 use Rattle.ps_forms.proofs.Idle.{IsKnown, AreOthersKnown, idle-met}
 use Rattle.ps_forms.proofs.Meanings.{met-node}
@@ -214,7 +214,7 @@ nodes-set ns a are atoms idle (suc k) le j lt =
     ]
 
 -- the clause form of nodes
-pub nodes_settled : (ns : List Node) → AreNodes ns → IsSettled (form_of ns)
+pub nodes_settled : (ns : List Node) → AreNodes ns → AtomsDecide (form_of ns)
 unfolding value_at
 nodes_settled ns are = record {
   settled = λ a atoms idle.
@@ -227,7 +227,7 @@ nodes_settled ns are = record {
     by_place a set (suc p) positive within = set p (omega arith)
 
 -- without marks each variable is an atom's
-pub new_settled : (variables : ℕ) → IsSettled (record { variables = variables; others = []; clauses = [] })
+pub new_settled : (variables : ℕ) → AtomsDecide (record { variables = variables; others = []; clauses = [] })
 new_settled variables = record {
   settled = λ a atoms idle. record { at = λ var positive within. atoms.at var (an_atom var positive within) };
 }
@@ -246,7 +246,7 @@ clause-stays f more zero c e = e
 clause-stays f more (suc i) c e = get-append f.clauses (more ∷ []) i c e
 
 -- a clause more leaves it settled
-pub more_settled : (f : Form) (c : Constraint) → IsSettled f → IsSettled (with_clause f c)
+pub more_settled : (f : Form) (c : Constraint) → AtomsDecide f → AtomsDecide (with_clause f c)
 more_settled f c h = record {
   settled = λ a atoms idle.
       let all = h.settled a (record { at = λ var. same_atoms a var atoms.at }) (record { at = λ id d e. idle.at id d (clause-stays f c id d e) }) in

@@ -11,7 +11,7 @@ use Rattle.ps_steps.specs.Steps.{Known, AreWithin, AreMet, Entails, IsUnmet}
 use Rattle.ps_forms.specs.Clauses.{meets, clause_form}
 use Rattle.ps_forms.specs.Extensions.{extension, AgreeOnAtoms, world_of, HasAtoms, HasEachAtom}
 use Rattle.ps_forms.specs.Forms.{Form, form_of, empty_form, with_clause, MeetsForm, AreInside, HasClauses, first_known}
-use Rattle.ps_forms.specs.Settled.{IsIdle, AtomsAreSet, AllAreSet, IsSettled}
+use Rattle.ps_forms.specs.Settled.{IsIdle, AtomsAreSet, AllAreSet, AtomsDecide}
 
 -- ---- what clauses mean
 -- an assignment and a world that agree on atoms: the one meets the clauses exactly where it is the extension of the other
@@ -35,15 +35,15 @@ ExtensionsAgree = (ns : List Node) (world : World) → AreNodes ns → AgreeOnAt
 -- ---- forms that their atoms settle
 -- the form of all nodes is settled by its atoms
 abbrev pub NodesAreSettled : Type 0
-NodesAreSettled = (ns : List Node) → AreNodes ns → IsSettled (form_of ns)
+NodesAreSettled = (ns : List Node) → AreNodes ns → AtomsDecide (form_of ns)
 
 -- a form without clauses is settled by its atoms
 abbrev pub AtomsAreSettled : Type 0
-AtomsAreSettled = (variables : ℕ) → IsSettled (empty_form variables)
+AtomsAreSettled = (variables : ℕ) → AtomsDecide (empty_form variables)
 
 -- a form that its atoms settle is settled with one more clause too
 abbrev pub SettledStay : Type 0
-SettledStay = (f : Form) (c : Constraint) → IsSettled f → IsSettled (with_clause f c)
+SettledStay = (f : Form) (c : Constraint) → AtomsDecide f → AtomsDecide (with_clause f c)
 
 -- a constraint is idle exactly where it is neither violated nor forces a literal
 abbrev pub IdleForceNothing : Type 0

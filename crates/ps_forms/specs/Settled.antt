@@ -22,5 +22,5 @@ pub record AllAreSet (f : Form) (a : Assignment) : Type 0 where
   pub at : (var : ℕ) → 0 < var → var ≤ f.variables → is_unset (value_at a var) ≡ false
 
 -- an assignment in which each atom's variable has a value, and each clause is idle, has a value for each variable
-pub record IsSettled (f : Form) : Type 0 where
+pub record AtomsDecide (f : Form) : Type 0 where
   pub settled : (a : Assignment) → AtomsAreSet f a → AreIdle f a → AllAreSet f a

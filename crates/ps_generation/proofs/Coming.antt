@@ -20,7 +20,7 @@ use Rattle.ps_generation.specs.declared.state.State.{State}
 use Rattle.ps_generation.specs.declared.end.End.{End}
 use Rattle.ps_generation.specs.declared.end.End.TheVariants.{Feasible, NoneAbove, Open}
 use Rattle.ps_generation.specs.Phases.{LimitedSubject, IsInPhase, HasCome, IsOpenEnd, IsPendingEnd, IsEnd, IsLeft}
-use Rattle.ps_generation.specs.Rounds.{HasEntered, IsSettled, IsRound}
+use Rattle.ps_generation.specs.Rounds.{HasEntered, IsPhaseSettled, IsRound}
 
 pub way_on : (kind : ClaimKind) (s : Subject) (conflicts : ℕ) (from : Stage) (had : ℕ) (before : List Event) (pool : List World) (t : Tableau) (trace : List Event) (left : ℕ)
     (more : List World) (u : Tableau) (longer : List Event) (now : ℕ) → IsUnderWay kind s conflicts from had before pool t trace left
@@ -72,7 +72,7 @@ module _ (kind : ClaimKind) (r : LimitedSubject) where
     end_on (Open (Wide at)) (inr h) = inr (pending_on at h)
 
     -- a world has entered, and the pivots behind it are a round's
-    pub round_on : HasEntered kind r a b → (end : Option End) → c.pool ≡ b.pool → IsSettled kind r b c end → IsRound kind r a c end
+    pub round_on : HasEntered kind r a b → (end : Option End) → c.pool ≡ b.pool → IsPhaseSettled kind r b c end → IsRound kind r a c end
     round_on entered None same rested =
         let few = rested.fewer entered.moves in
         let e = entered.pool in

@@ -43,9 +43,9 @@ pub record HasRested (kind : ClaimKind) (r : LimitedSubject) (old new : State) :
   pub fewer : IsInMotion kind r.subject old → new.left < old.left
 
 -- pivots until the table rests, or an end
-abbrev pub IsSettled : ClaimKind → LimitedSubject → State → State → Option End → Type 0
-IsSettled kind r old new None = HasRested kind r old new
-IsSettled kind r old new (Some end) = IsEnd kind r old new end
+abbrev pub IsPhaseSettled : ClaimKind → LimitedSubject → State → State → Option End → Type 0
+IsPhaseSettled kind r old new None = HasRested kind r old new
+IsPhaseSettled kind r old new (Some end) = IsEnd kind r old new end
 
 -- a priced world has entered, so that the table is moving
 pub record HasEntered (kind : ClaimKind) (r : LimitedSubject) (old new : State) : Type 0 where

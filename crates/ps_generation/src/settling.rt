@@ -6,7 +6,7 @@ ghost use Rattle.ps_bland.specs.Runs.{Ran};
 ghost use Rattle.ps_bland.specs.Ends.{IsEnd};
 ghost use Rattle.ps_phases.specs.Tables.{phase_of};
 ghost use Rattle.ps_generation.specs.Phases.{IsInPhase, IsPrintedEnd};
-ghost use Rattle.ps_generation.specs.Rounds.{IsSettled};
+ghost use Rattle.ps_generation.specs.Rounds.{IsPhaseSettled};
 
 use crate::end::{End, too_wide};
 use crate::setting::Setting;
@@ -60,7 +60,7 @@ pub(crate) fn settled(
     ensures phase { IsInPhase kind setting.now.subject costs.now state.new }
     ensures pool { state.new.pool ≡ state.old.pool }
     ensures left { state.new.left ≤ state.old.left }
-    ensures end { IfOk result (IsSettled kind setting.now state.old state.new) }
+    ensures end { IfOk result (IsPhaseSettled kind setting.now state.old state.new) }
     ensures printed { IfOk result (λ end. IfSome end IsPrintedEnd) }
 {
     match pivoted(kind, state, costs) {

@@ -36,14 +36,14 @@ pub record FollowsBy (f : Effect) (known : Known) (e : Entry) (hints : List ℕ)
   pub does : Propagates constraint a a' f
 
 -- how an entry is followed: it isn't marked, is true already, or has no known reason; or its reason is gone along
-abbrev pub Follows : Known → Entry → Marks → List ℕ → Assignment → List ℕ → Assignment → Followed → Type 0
-Follows known e marks hints a hints' a' Unmarked = (is_marked marks e.lit ≡ false) × (hints' ≡ hints) × (a' ≡ a)
-Follows known e marks hints a hints' a' AlreadyTrue = (value_of a e.lit ≡ Some true) × (hints' ≡ hints) × (a' ≡ a)
-Follows known e marks hints a hints' a' Decided = (is_marked marks e.lit ≡ true) × (value_of a e.lit ≢ Some true) × (e.reason ≡ None)
-Follows known e marks hints a hints' a' Unknown = (is_marked marks e.lit ≡ true) × ((id : ℕ) × (e.reason ≡ Some id) × (constraint_at known id ≡ None))
-Follows known e marks hints a hints' a' Violated = FollowsBy effect.Violated known e hints a hints' a'
-Follows known e marks hints a hints' a' Forced = (is_marked marks e.lit ≡ true) × FollowsBy effect.Forced known e hints a hints' a'
-Follows known e marks hints a hints' a' Idle = (is_marked marks e.lit ≡ true) × FollowsBy effect.Idle known e hints a hints' a'
+abbrev pub FollowsEntry : Known → Entry → Marks → List ℕ → Assignment → List ℕ → Assignment → Followed → Type 0
+FollowsEntry known e marks hints a hints' a' Unmarked = (is_marked marks e.lit ≡ false) × (hints' ≡ hints) × (a' ≡ a)
+FollowsEntry known e marks hints a hints' a' AlreadyTrue = (value_of a e.lit ≡ Some true) × (hints' ≡ hints) × (a' ≡ a)
+FollowsEntry known e marks hints a hints' a' Decided = (is_marked marks e.lit ≡ true) × (value_of a e.lit ≢ Some true) × (e.reason ≡ None)
+FollowsEntry known e marks hints a hints' a' Unknown = (is_marked marks e.lit ≡ true) × ((id : ℕ) × (e.reason ≡ Some id) × (constraint_at known id ≡ None))
+FollowsEntry known e marks hints a hints' a' Violated = FollowsBy effect.Violated known e hints a hints' a'
+FollowsEntry known e marks hints a hints' a' Forced = (is_marked marks e.lit ≡ true) × FollowsBy effect.Forced known e hints a hints' a'
+FollowsEntry known e marks hints a hints' a' Idle = (is_marked marks e.lit ≡ true) × FollowsBy effect.Idle known e hints a hints' a'
 
 -- propagation along the hints ends in a conflict, and they are few
 pub record EndsInConflict (known : Known) (start : Assignment) (most : ℕ) (hints : List ℕ) : Type 0 where

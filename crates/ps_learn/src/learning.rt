@@ -10,7 +10,7 @@ ghost use Rattle.ps_learning.specs.Keeping.{IsKeptOnce};
 ghost use Rattle.ps_learning.specs.Starting.{AreKeptLits};
 ghost use Rattle.ps_learn.specs.Marks.{IsCaused};
 ghost use Rattle.ps_learn.specs.Falsity.{AreFalseIn};
-ghost use Rattle.ps_learn.specs.Drawing.{AddsKept, Follows, EndsInConflict};
+ghost use Rattle.ps_learn.specs.Drawing.{AddsKept, FollowsEntry, EndsInConflict};
 
 use crate::explaining::explain_conflict;
 use crate::marks::is_marked;
@@ -148,7 +148,7 @@ fn follow(
     a: &mut Assignment,
 ) -> Result<Followed, NoMemory>
     ensures { IfOk result
-        (Follows (known_of known.now) entry.now marks.now hints.old a.old hints.new a.new) }
+        (FollowsEntry (known_of known.now) entry.now marks.now hints.old a.old hints.new a.new) }
 {
     if !is_marked(marks, entry.lit) {
         return Ok(Followed::Unmarked);

@@ -1,6 +1,6 @@
 use Rattle.std.proofs.Common.{rules}
 use Rattle.std.proofs.lemmas.Result.{IfOk-weaker}
-use Rattle.ps_generation.specs.Rounds.{HasEntered, IsSettled, IsRound}
+use Rattle.ps_generation.specs.Rounds.{HasEntered, IsPhaseSettled, IsRound}
 use Rattle.ps_generation.proofs.Coming.{round_on}
 use Rattle.ps_generation.proofs.phases.round.Goals as goal
 
@@ -10,5 +10,5 @@ returns-clause-end c =
     let priced = c.priced.new.state in
     let new = c.settled.new.state in
     let entered : HasEntered c.args.kind c.args.setting.now old priced = search rules in
-    IfOk-weaker c.settled.result (IsSettled c.args.kind c.args.setting.now priced new) (IsRound c.args.kind c.args.setting.now old new)
+    IfOk-weaker c.settled.result (IsPhaseSettled c.args.kind c.args.setting.now priced new) (IsRound c.args.kind c.args.setting.now old new)
     (λ end h. round_on c.args.kind c.args.setting.now old priced new entered.come entered end c.settled.ensures.pool h) c.settled.ensures.end
