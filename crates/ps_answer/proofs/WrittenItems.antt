@@ -24,7 +24,8 @@ use Rattle.ps_io.specs.LineText.{lines_bytes}
 use Rattle.ps_answer.specs.declared.answer.Answer.{Answer}
 use Rattle.ps_answer.specs.Answers.{answer_items, answer_lines, IsAnswerCounted}
 use Rattle.ps_answer.specs.Faults.{AreLines, IsReport}
-use Rattle.ps_answer.specs.Items.{item_words, item_line, place_words, op_word, shown_word, count, IsProper, IsWithin, IsLine, IsPrintable, IsColWithin, IsShownWithin, IsPlaceWithin, IsRatioWithin, most_operand}
+use Rattle.ps_answer.specs.Items.{item_words, item_line, place_words, op_word, shown_word, count, IsProper, IsWithin, IsLine, IsPrintable, IsColWithin, IsShownWithin, IsPlaceWithin, IsRatioWithin}
+use Rattle.ps_answer.specs.declared.limits.TheConstants.{MOST_OPERAND}
 use Rattle.ps_answer.proofs.Written.{IsWordSmall, written_both}
 
 col_small : (c : Col) → IsColWithin c → IsWordSmall (Column c)
@@ -83,7 +84,7 @@ written_words line.Consistent p w = written_both (codes "consistent") [] (omega 
 written_words line.Inconsistent p w = written_both (codes "inconsistent") [] (omega arith, refl) tt
 written_words (line.OpenPivots n) p w = written_both (codes "open") (Letters (codes "pivots") ∷ count n ∷ []) (omega arith, refl) (refl, (up_to_small n 1000000 w (omega arith), tt))
 written_words (line.OpenConflicts n) p w = written_both (codes "open") (Letters (codes "conflicts") ∷ count n ∷ []) (omega arith, refl) (refl, (up_to_small n (2 ^ 40) w (omega arith), tt))
-written_words (line.OpenWide at o l r) p w = written_both (codes "open") (Letters (codes "wide") ∷ place_words at ++ op_word o ∷ Fraction l ∷ Fraction r ∷ []) (omega arith, refl) (refl, place_small at (op_word o ∷ Fraction l ∷ Fraction r ∷ []) w.0 (op_small o, (ratio_small most_operand l (omega arith) w.1, (ratio_small most_operand r (omega arith) w.2, tt))))
+written_words (line.OpenWide at o l r) p w = written_both (codes "open") (Letters (codes "wide") ∷ place_words at ++ op_word o ∷ Fraction l ∷ Fraction r ∷ []) (omega arith, refl) (refl, place_small at (op_word o ∷ Fraction l ∷ Fraction r ∷ []) w.0 (op_small o, (ratio_small MOST_OPERAND l (omega arith) w.1, (ratio_small MOST_OPERAND r (omega arith) w.2, tt))))
 written_words (line.ModelHead t n) p w = written_both (codes "model") (Number t ∷ count n ∷ []) (omega arith, refl) (number_small t w.0, (up_to_small n 101 w.1 (omega arith), tt))
 written_words (line.Entry t v) p w = written_both (codes "w") (Number t ∷ Truths v ∷ []) (omega arith, refl) (number_small t w.0, (tt, tt))
 written_words (line.DualHead t h n) p w = written_both (codes "dual") (Number t ∷ Number h ∷ count n ∷ []) (omega arith, refl) (number_small t w.0, (number_small h w.1, (up_to_small n (2 ^ 41) w.2 (omega arith), tt)))

@@ -15,7 +15,7 @@ use Rattle.ps_table.specs.Places.{printed_limit}
 use Rattle.ps_log.specs.Texts.{step_numbers, goal_numbers}
 use Rattle.ps_log.specs.Limits.{IsStepWithin, IsGoalWithin}
 use Rattle.ps_log.specs.Spellings.{words_of}
-use Rattle.ps_answer.specs.declared.limits.TheConstants.{MOST_PIVOTS, MOST_CONFLICTS}
+use Rattle.ps_answer.specs.declared.limits.TheConstants.{MOST_PIVOTS, MOST_CONFLICTS, MOST_OPERAND, MOST_ROW, MOST_WORLD, MOST_ENTRIES, MOST_MULTIPLIERS, MOST_DUAL_STEPS, MOST_EVENTS, MOST_QUERIES}
 use Rattle.ps_answer.specs.declared.item.Ratio.{Ratio}
 use Rattle.ps_answer.specs.declared.item.Item.{Item}
 use Rattle.ps_answer.specs.declared.item.Item.TheVariants.{Report, Consistent, Inconsistent, OpenPivots, OpenConflicts, OpenWide, ModelHead, Entry, DualHead, Rows, StepLine, GoalLine, TraceHead, PivotLine, PricedLine, Query, Bounds, Impossible, Bound, OpenSide, End}
@@ -84,45 +84,13 @@ abbrev pub item_line : Item → List ℕ
 item_line i = joined (item_words i)
 
 -- ---- limits
--- the greatest numerator and denominator of an operand
-abbrev pub most_operand : ℕ
-most_operand = 2 ^ 127 - 1
-
--- rows and homes are numbered from 0 up to this
-abbrev pub most_row : ℕ
-most_row = 100
-
--- worlds are numbered from 1 up to this
-abbrev pub most_world : ℕ
-most_world = 1000001
-
--- the most worlds of a model
-abbrev pub most_entries : ℕ
-most_entries = 101
-
--- the most multipliers of a dual
-abbrev pub most_multipliers : ℕ
-most_multipliers = 100
-
--- the most steps of a dual
-abbrev pub most_dual_steps : ℕ
-most_dual_steps = 2 ^ 41
-
--- the most events of a trace
-abbrev pub most_events : ℕ
-most_events = 2000001
-
--- the most queries
-abbrev pub most_queries : ℕ
-most_queries = 16
-
 -- the denominator is at least 1, and where both numbers are at most this in size the fraction is in lowest terms
 abbrev pub IsReducedWithin : ℕ → Ratio → Type 0
 IsReducedWithin limit q = (1 ≤ q.under) × (unsigned_abs q.over ≤ limit → q.under ≤ limit → IsGcd (unsigned_abs q.over) q.under 1)
 
 -- what a line of any size asks of its numbers: signs, parts of steps and goals that can be told apart, and lowest terms
 abbrev pub IsProper : Item → Type 0
-IsProper (OpenWide at op left right) = IsReducedWithin most_operand left × IsReducedWithin most_operand right
+IsProper (OpenWide at op left right) = IsReducedWithin MOST_OPERAND left × IsReducedWithin MOST_OPERAND right
 IsProper (ModelHead total n) = pos 0 ≤ℤ total
 IsProper (Entry weight world) = pos 0 ≤ℤ weight
 IsProper (DualHead top head n) = pos 0 ≤ℤ top
@@ -152,26 +120,26 @@ abbrev pub IsPrintable : ℤ → Type 0
 IsPrintable z = unsigned_abs z ≤ printed_limit
 
 abbrev pub IsColWithin : Col → Type 0
-IsColWithin (col.Home i) = i ≤ most_row
-IsColWithin (col.World n) = (1 ≤ n) × (n ≤ most_world)
+IsColWithin (col.Home i) = i ≤ MOST_ROW
+IsColWithin (col.World n) = (1 ≤ n) × (n ≤ MOST_WORLD)
 
 abbrev pub IsShownWithin : TableCol → Type 0
 IsShownWithin shown.Right = ⊤
 IsShownWithin (shown.Of c) = IsColWithin c
 
 abbrev pub IsPlaceWithin : Place → Type 0
-IsPlaceWithin (place.Ratio i) = i ≤ most_row
+IsPlaceWithin (place.Ratio i) = i ≤ MOST_ROW
 IsPlaceWithin (place.Scale j) = IsShownWithin j
-IsPlaceWithin (place.Times i j) = (i ≤ most_row) × IsShownWithin j
-IsPlaceWithin (place.Minus i j) = (i ≤ most_row) × IsShownWithin j
-IsPlaceWithin (place.Cost j i) = IsColWithin j × (i ≤ most_row)
-IsPlaceWithin (place.Whole i) = i ≤ most_row
-IsPlaceWithin (place.Scaled i) = i ≤ most_row
-IsPlaceWithin (place.Weight i) = i ≤ most_row
-IsPlaceWithin (place.Weighed i) = i ≤ most_row
-IsPlaceWithin (place.Total i) = i ≤ most_row
-IsPlaceWithin (place.NewTimes i m) = (i ≤ most_row) × (m ≤ most_row)
-IsPlaceWithin (place.NewPlus i m) = (i ≤ most_row) × (m ≤ most_row)
+IsPlaceWithin (place.Times i j) = (i ≤ MOST_ROW) × IsShownWithin j
+IsPlaceWithin (place.Minus i j) = (i ≤ MOST_ROW) × IsShownWithin j
+IsPlaceWithin (place.Cost j i) = IsColWithin j × (i ≤ MOST_ROW)
+IsPlaceWithin (place.Whole i) = i ≤ MOST_ROW
+IsPlaceWithin (place.Scaled i) = i ≤ MOST_ROW
+IsPlaceWithin (place.Weight i) = i ≤ MOST_ROW
+IsPlaceWithin (place.Weighed i) = i ≤ MOST_ROW
+IsPlaceWithin (place.Total i) = i ≤ MOST_ROW
+IsPlaceWithin (place.NewTimes i m) = (i ≤ MOST_ROW) × (m ≤ MOST_ROW)
+IsPlaceWithin (place.NewPlus i m) = (i ≤ MOST_ROW) × (m ≤ MOST_ROW)
 
 abbrev pub IsRatioWithin : ℕ → Ratio → Type 0
 IsRatioWithin limit q = (unsigned_abs q.over ≤ limit) × (q.under ≤ limit)
@@ -180,16 +148,16 @@ IsRatioWithin limit q = (unsigned_abs q.over ≤ limit) × (q.under ≤ limit)
 abbrev pub IsWithin : Item → Type 0
 IsWithin (OpenPivots limit) = limit ≤ MOST_PIVOTS
 IsWithin (OpenConflicts limit) = limit ≤ MOST_CONFLICTS
-IsWithin (OpenWide at op left right) = IsPlaceWithin at × IsRatioWithin most_operand left × IsRatioWithin most_operand right
-IsWithin (ModelHead total n) = IsPrintable total × (n ≤ most_entries)
+IsWithin (OpenWide at op left right) = IsPlaceWithin at × IsRatioWithin MOST_OPERAND left × IsRatioWithin MOST_OPERAND right
+IsWithin (ModelHead total n) = IsPrintable total × (n ≤ MOST_ENTRIES)
 IsWithin (Entry weight world) = IsPrintable weight × (length world ≤ MOST_ATOMS)
-IsWithin (DualHead top head n) = IsPrintable top × IsPrintable head × (n ≤ most_dual_steps)
-IsWithin (Rows rows) = All IsPrintable rows × (length rows ≤ most_multipliers)
+IsWithin (DualHead top head n) = IsPrintable top × IsPrintable head × (n ≤ MOST_DUAL_STEPS)
+IsWithin (Rows rows) = All IsPrintable rows × (length rows ≤ MOST_MULTIPLIERS)
 IsWithin (StepLine s) = IsStepWithin s
 IsWithin (GoalLine g) = IsGoalWithin g
-IsWithin (TraceHead n) = n ≤ most_events
-IsWithin (PivotLine enter leave) = IsColWithin enter × (leave ≤ most_row)
+IsWithin (TraceHead n) = n ≤ MOST_EVENTS
+IsWithin (PivotLine enter leave) = IsColWithin enter × (leave ≤ MOST_ROW)
 IsWithin (PricedLine world) = length world ≤ MOST_ATOMS
-IsWithin (Query number) = number ≤ most_queries
+IsWithin (Query number) = number ≤ MOST_QUERIES
 IsWithin (Bound upper value) = IsRatioWithin printed_limit value
 IsWithin i = ⊤

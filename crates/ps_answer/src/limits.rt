@@ -1,7 +1,51 @@
-//! The limits of a run that a report may name.
+//! The limits of a report.
+ghost use Rattle.std.specs.Prelude.{◌≡◌, ◌-◌, ◌^◌};
+ghost use Rattle.ps_answer.specs.declared.limits.TheConstants.{MOST_PIVOTS, MOST_CONFLICTS};
+ghost use Rattle.ps_answer.specs.declared.limits.TheConstants.{MOST_OPERAND, MOST_ROW, MOST_WORLD};
+ghost use Rattle.ps_answer.specs.declared.limits.TheConstants.{MOST_ENTRIES, MOST_MULTIPLIERS};
+ghost use Rattle.ps_answer.specs.declared.limits.TheConstants.{MOST_DUAL_STEPS, MOST_EVENTS};
+ghost use Rattle.ps_answer.specs.declared.limits.TheConstants.{MOST_QUERIES};
 
 /// The most pivots that a run may be allowed.
 pub const MOST_PIVOTS: u64 = 1_000_000;
 
 /// The most clauses that a search may be allowed to learn.
 pub const MOST_CONFLICTS: u64 = 1 << 40;
+
+/// The greatest numerator and denominator of an operand.
+pub const MOST_OPERAND: u128 = (1 << 127) - 1;
+
+/// Rows and homes are numbered from 0 up to this.
+pub const MOST_ROW: u128 = 100;
+
+/// Worlds are numbered from 1 up to this.
+pub const MOST_WORLD: u128 = 1_000_001;
+
+/// The most worlds of a model.
+pub const MOST_ENTRIES: u64 = 101;
+
+/// The most multipliers of a dual.
+pub const MOST_MULTIPLIERS: usize = 100;
+
+/// The most steps of a dual.
+pub const MOST_DUAL_STEPS: u64 = 1 << 41;
+
+/// The most events of a trace.
+pub const MOST_EVENTS: u64 = 2_000_001;
+
+/// The most queries that a report answers.
+pub const MOST_QUERIES: u64 = 16;
+
+/// The limits by their numbers.
+pub fn limits_have_these_numbers()
+    ensures pivots { MOST_PIVOTS ≡ 1000000 }
+    ensures conflicts { MOST_CONFLICTS ≡ 2 ^ 40 }
+    ensures operand { MOST_OPERAND ≡ 2 ^ 127 - 1 }
+    ensures row { MOST_ROW ≡ 100 }
+    ensures world { MOST_WORLD ≡ 1000001 }
+    ensures entries { MOST_ENTRIES ≡ 101 }
+    ensures multipliers { MOST_MULTIPLIERS ≡ 100 }
+    ensures steps { MOST_DUAL_STEPS ≡ 2 ^ 41 }
+    ensures events { MOST_EVENTS ≡ 2000001 }
+    ensures queries { MOST_QUERIES ≡ 16 }
+{}

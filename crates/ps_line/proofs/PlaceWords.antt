@@ -14,7 +14,8 @@ use Rattle.ps_answer.specs.declared.item.Item.TheVariants as line
 use Rattle.ps_answer.specs.declared.item.Ratio.{Ratio}
 use Rattle.ps_answer.specs.declared.part.Part.TheVariants as part
 use Rattle.ps_answer.specs.Faults.{first_of}
-use Rattle.ps_answer.specs.Items.{count, op_word, shown_word, place_words, IsColWithin, IsShownWithin, IsPlaceWithin, IsRatioWithin, IsReducedWithin, most_operand}
+use Rattle.ps_answer.specs.Items.{count, op_word, shown_word, place_words, IsColWithin, IsShownWithin, IsPlaceWithin, IsRatioWithin, IsReducedWithin}
+use Rattle.ps_answer.specs.declared.limits.TheConstants.{MOST_OPERAND}
 use Rattle.ps_answer.specs.Due.{behind}
 use Rattle.ps_line.specs.declared.line_fault.LineFault.{LineFault}
 use Rattle.ps_line.specs.declared.line_fault.LineFault.TheVariants.{NotCanonical, TooLarge, NoMemory}
@@ -336,10 +337,10 @@ abbrev pub wide_of : WideParts → Item
 wide_of a = line.OpenWide a.0 a.1.0 a.1.1.0 a.1.1.1.0
 
 abbrev pub WideProper : WideParts → Type 0
-WideProper a = ⊤ × (⊤ × (IsReducedWithin most_operand a.1.1.0 × (IsReducedWithin most_operand a.1.1.1.0 × ⊤)))
+WideProper a = ⊤ × (⊤ × (IsReducedWithin MOST_OPERAND a.1.1.0 × (IsReducedWithin MOST_OPERAND a.1.1.1.0 × ⊤)))
 
 wide_makes : (ws : List (List ℕ)) → Makes {A = WideParts} part.ACause (codes "open" ∷ codes "wide" ∷ []) ws wide_of (λ a. place_words a.0 ++ (op_word a.1.0 ∷ Fraction a.1.1.0 ∷ Fraction a.1.1.1.0 ∷ []))
-    WideProper (λ a. IsPlaceWithin a.0 × (⊤ × (IsRatioWithin most_operand a.1.1.0 × (IsRatioWithin most_operand a.1.1.1.0 × ⊤))))
+    WideProper (λ a. IsPlaceWithin a.0 × (⊤ × (IsRatioWithin MOST_OPERAND a.1.1.0 × (IsRatioWithin MOST_OPERAND a.1.1.1.0 × ⊤))))
 unfolding behind
 wide_makes ws = record {
   words = λ a. refl;
@@ -357,7 +358,7 @@ wide_makes ws = record {
     only i s = inl (λ due. refl)
 
 abbrev pub IsOperandRead : List ℕ → Result Ratio LineFault → Type 0
-IsOperandRead word r = IsWordRead Fraction (λ q. IsReducedWithin most_operand q) (λ q. IsRatioWithin most_operand q) word r
+IsOperandRead word r = IsWordRead Fraction (λ q. IsReducedWithin MOST_OPERAND q) (λ q. IsRatioWithin MOST_OPERAND q) word r
 
 pub wide_read : (ws rest : List (List ℕ)) (p : Result Place LineFault) (o : Result Op LineFault) (l r : Result Ratio LineFault) (e : Result (Unit {0}) LineFault) → IsPlaceRead ws rest p
     → IsWordRead op_word (λ o. ⊤) (λ o. ⊤) (first_of rest) o → IsOperandRead (first_of (later rest)) l → IsOperandRead (first_of (later (later rest))) r → IsEndRead (later (later (later rest))) e

@@ -2,7 +2,8 @@
 use Rattle.std.specs.Prelude.{ℕ, ◌≡◌, ◌≤◌, List, ◌∷◌, Result, Ok, Err, ⊤}
 use Rattle.ps_pool.specs.declared.col.Col.{Col}
 use Rattle.ps_pool.specs.declared.col.Col.TheVariants.{World}
-use Rattle.ps_answer.specs.Items.{IsColWithin, most_queries}
+use Rattle.ps_answer.specs.Items.{IsColWithin}
+use Rattle.ps_answer.specs.declared.limits.TheConstants.{MOST_QUERIES}
 use Rattle.ps_answer.specs.Words.{SpellsColumn}
 use Rattle.ps_line.specs.declared.line_fault.LineFault.{LineFault}
 use Rattle.ps_line.specs.declared.line_fault.LineFault.TheVariants.{NotCanonical, TooLarge, NoMemory}
@@ -18,7 +19,7 @@ IsWorld digits result = IsRead (λ c. SpellsColumn (119 ∷ digits) c × ⊤) Is
 
 -- the number that is due, within its limit
 abbrev pub IsQuery : ℕ → ℕ → Result ℕ LineFault → Type 0
-IsQuery n due result = IsRead (λ m. (m ≡ n) × (m ≡ due)) (λ m. m ≤ most_queries) result
+IsQuery n due result = IsRead (λ m. (m ≡ n) × (m ≡ due)) (λ m. m ≤ MOST_QUERIES) result
 
 -- the version 1
 abbrev pub IsVersion : ℕ → Result (Unit {0}) LineFault → Type 0

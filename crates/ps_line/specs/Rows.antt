@@ -1,7 +1,8 @@
 -- Numbers of all words that are left.
 use Rattle.std.specs.Prelude.{ℕ, ℤ, ◌≤◌, List, map, length, All, Result, Ok, Err, ⊤}
 use Rattle.ps_log.specs.Spellings.{Spells}
-use Rattle.ps_answer.specs.Items.{IsPrintable, most_multipliers}
+use Rattle.ps_answer.specs.Items.{IsPrintable}
+use Rattle.ps_answer.specs.declared.limits.TheConstants.{MOST_MULTIPLIERS}
 use Rattle.ps_answer.specs.Words.{Number, SpellWords}
 use Rattle.ps_line.specs.Read.{AreWordsReadOrLacks}
 use Rattle.ps_line.specs.declared.line_fault.LineFault.{LineFault}
@@ -27,7 +28,7 @@ TellsNumbers words (Err NoMemory) = ⊥
 
 -- rows are within the limits
 abbrev pub AreRowsWithin : List ℤ → Type 0
-AreRowsWithin rows = All IsPrintable rows × (length rows ≤ most_multipliers)
+AreRowsWithin rows = All IsPrintable rows × (length rows ≤ MOST_MULTIPLIERS)
 
 -- the rows that the words spell are read, or memory lacks
 abbrev pub AreRowsRead : List (List ℕ) → Result (List ℤ) LineFault → Type 0

@@ -10,14 +10,8 @@ use crate::line_fault::LineFault;
 use crate::rows::rows;
 use crate::truths::world;
 use crate::words::Words;
-use ps_answer::Item;
+use ps_answer::{Item, MOST_DUAL_STEPS, MOST_ENTRIES, MOST_EVENTS};
 use std::alloc::Global;
-
-const MOST_ENTRIES: u64 = 101;
-
-const MOST_STEPS: u64 = 1 << 41;
-
-const MOST_EVENTS: u64 = 2_000_001;
 
 /// The words behind `report`.
 pub(crate) fn report(words: &mut Words<'_>) -> Result<Item, LineFault>
@@ -54,7 +48,7 @@ pub(crate) fn dual(words: &mut Words<'_>) -> Result<Item, LineFault>
 {
     let top = amount(words.next());
     let head = number(words.next());
-    let count = count(words.next(), MOST_STEPS);
+    let count = count(words.next(), MOST_DUAL_STEPS);
     let (top, (head, (count, ()))) = both(top, both(head, both(count, words.end())))?;
     Ok(Item::DualHead { top, head, count })
 }

@@ -1,7 +1,8 @@
 //! Words that say a number, a column, an operation or a fraction.
 ghost use Rattle.std.specs.Prelude.{◌≡◌, ◌≤◌, ◌<◌, ◌≤ℤ◌, ◌^◌, pos, ⊤};
 ghost use Rattle.ps_answer.specs.Items.{count, IsPrintable, IsColWithin, IsShownWithin, shown_word};
-ghost use Rattle.ps_answer.specs.Items.{op_word, most_row, most_world, most_queries};
+ghost use Rattle.ps_answer.specs.Items.{op_word};
+ghost use Rattle.ps_answer.specs.declared.limits.TheConstants.{MOST_ROW, MOST_WORLD, MOST_QUERIES};
 ghost use Rattle.ps_answer.specs.Words.{Number, Column};
 ghost use Rattle.ps_line.specs.Read.{IsWordRead};
 ghost use Rattle.ps_line.specs.Kinds.{IsHome, IsWorld, IsQuery, IsVersion, IsNumberedWorld};
@@ -9,15 +10,10 @@ ghost use Rattle.ps_line.specs.Kinds.{IsHome, IsWorld, IsQuery, IsVersion, IsNum
 use crate::line_fault::LineFault;
 use crate::numeral::{count_up_to, number_up_to};
 use crate::words::is;
+use ps_answer::{MOST_QUERIES, MOST_ROW, MOST_WORLD};
 use ps_frac::Op;
 use ps_pool::Col;
 use ps_table::{PRINTED_LIMIT, TableCol};
-
-const MOST_ROW: u128 = 100;
-
-const MOST_WORLD: u128 = 1_000_001;
-
-const MOST_QUERIES: u64 = 16;
 
 /// A count up to a limit.
 pub(crate) fn count(word: &[u8], limit: u64) -> Result<u64, LineFault>
@@ -31,7 +27,7 @@ pub(crate) fn count(word: &[u8], limit: u64) -> Result<u64, LineFault>
 
 /// The number of a row or of its home, up to 100.
 pub(crate) fn row(word: &[u8]) -> Result<u32, LineFault>
-    ensures { IsWordRead (λ n. count n) (λ n. ⊤) (λ n. n ≤ most_row) word.now result }
+    ensures { IsWordRead (λ n. count n) (λ n. ⊤) (λ n. n ≤ MOST_ROW) word.now result }
 {
     match count_up_to(MOST_ROW, word) {
         Ok(n) => Ok(n as u32),
@@ -78,7 +74,7 @@ fn version_of(n: u128) -> Result<(), LineFault>
 
 /// The number of the query that is due, of any size; up to 16.
 pub(crate) fn query_number(word: &[u8], due: u64) -> Result<u64, LineFault>
-    ensures { IsWordRead (λ n. count n) (λ n. n ≡ due) (λ n. n ≤ most_queries) word.now result }
+    ensures { IsWordRead (λ n. count n) (λ n. n ≡ due) (λ n. n ≤ MOST_QUERIES) word.now result }
 {
     match count_up_to(u128::from(u64::MAX), word) {
         Ok(n) => query_within(n, due),
@@ -129,7 +125,7 @@ fn world(digits: &[u8]) -> Result<Col, LineFault>
 }
 
 fn numbered_world(n: u128) -> Result<Col, LineFault>
-    requires { n ≤ most_world }
+    requires { n ≤ MOST_WORLD }
     ensures { IsNumberedWorld n result }
 {
     if n == 0 {

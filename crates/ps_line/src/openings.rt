@@ -14,12 +14,8 @@ use crate::line_fault::LineFault;
 use crate::ratio::value;
 use crate::wide::open_wide;
 use crate::words::{Words, is};
-use ps_answer::Item;
+use ps_answer::{Item, MOST_CONFLICTS, MOST_PIVOTS};
 use std::alloc::Global;
-
-const MOST_PIVOTS: u64 = 1_000_000;
-
-const MOST_CONFLICTS: u64 = 1 << 40;
 
 /// A verdict's words.
 pub(crate) fn verdict(word: &[u8], words: &mut Words<'_>) -> Result<Item, LineFault>

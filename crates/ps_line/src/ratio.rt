@@ -1,7 +1,8 @@
 //! Words that say a fraction.
 ghost use Rattle.std.specs.Prelude.{◌≡◌, Ok, ◌≤◌, ◌<◌, ◌-◌, ◌≤ℤ◌, ◌↔◌, ◌^◌, pos, ℤ, IfSome, IfNone, IsTrue, unsigned_abs};
 ghost use Rattle.std.specs.Int.{IsGcd};
-ghost use Rattle.ps_answer.specs.Items.{IsRatioWithin, IsReducedWithin, most_operand};
+ghost use Rattle.ps_answer.specs.Items.{IsRatioWithin, IsReducedWithin};
+ghost use Rattle.ps_answer.specs.declared.limits.TheConstants.{MOST_OPERAND};
 ghost use Rattle.ps_answer.specs.Words.{Fraction as FractionWord};
 ghost use Rattle.ps_log.specs.Numbers.{Lacks, IsCut};
 ghost use Rattle.ps_table.specs.Places.{printed_limit};
@@ -12,11 +13,9 @@ ghost use Rattle.ps_rational.specs.Rational.{fraction};
 use crate::both::both;
 use crate::line_fault::LineFault;
 use crate::numeral::{count_up_to, number_up_to};
-use ps_answer::Ratio;
+use ps_answer::{MOST_OPERAND, Ratio};
 use ps_frac::Fraction;
 use ps_table::PRINTED_LIMIT;
-
-const MOST_OPERAND: u128 = (1 << 127) - 1;
 
 /// The value of a side: no less than 0, with numbers up to 2^90.
 pub(crate) fn value(word: &[u8]) -> Result<Ratio, LineFault>
@@ -32,8 +31,8 @@ pub(crate) fn value(word: &[u8]) -> Result<Ratio, LineFault>
 
 /// An operand of the solver, with numbers below 2^127.
 pub(crate) fn operand(word: &[u8]) -> Result<Ratio, LineFault>
-    ensures { IsWordRead (λ q. FractionWord q) (λ q. IsReducedWithin most_operand q)
-        (λ q. IsRatioWithin most_operand q) word.now result }
+    ensures { IsWordRead (λ q. FractionWord q) (λ q. IsReducedWithin MOST_OPERAND q)
+        (λ q. IsRatioWithin MOST_OPERAND q) word.now result }
 {
     match split_slash(word) {
         Some((over, under)) => {

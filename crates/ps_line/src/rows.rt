@@ -5,11 +5,9 @@ ghost use Rattle.ps_line.specs.Rows.{IsNumbered, TellsNumber, TellsNumbers, AreR
 use crate::kinds::number;
 use crate::line_fault::LineFault;
 use crate::words::Words;
-use ps_answer::Multipliers;
+use ps_answer::{MOST_MULTIPLIERS, Multipliers};
 use ps_io::List;
 use std::alloc::Global;
-
-const MOST_ROWS: usize = 100;
 
 /// The numbers of all words that are left: at most 100, each up to 2^90 in size.
 pub(crate) fn rows(alloc: Global, words: &Words<'_>) -> Result<Multipliers, LineFault>
@@ -47,7 +45,7 @@ fn small_rows(alloc: Global, words: &Words<'_>) -> Result<Multipliers, LineFault
     let mut rows = List::new(alloc);
     let mut left = *words;
     while !left.is_empty() {
-        if MOST_ROWS <= rows.len() {
+        if MOST_MULTIPLIERS <= rows.len() {
             return Err(LineFault::TooLarge);
         }
         rows.push(number(left.next())?)?;

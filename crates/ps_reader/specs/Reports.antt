@@ -6,7 +6,8 @@ use Rattle.ps_answer.specs.declared.item.Item.TheVariants as line
 use Rattle.ps_answer.specs.declared.part.Part.{Part}
 use Rattle.ps_answer.specs.declared.part.Part.TheVariants.{AGoal, AStep}
 use Rattle.ps_answer.specs.declared.error.ReportError.{ReportError}
-use Rattle.ps_answer.specs.Items.{IsProper, IsWithin, most_queries}
+use Rattle.ps_answer.specs.Items.{IsProper, IsWithin}
+use Rattle.ps_answer.specs.declared.limits.TheConstants.{MOST_QUERIES}
 use Rattle.ps_answer.specs.declared.answer.SideAnswer.{SideAnswer}
 use Rattle.ps_answer.specs.declared.answer.QueryPart.{QueryPart}
 use Rattle.ps_answer.specs.Answers.{side_items, query_items, part_items, IsSideCounted, IsQueryCounted}
@@ -53,5 +54,5 @@ query_line j false = line.End ∷ []
 
 -- the number of a query that begins is within the limit
 abbrev pub IsNumbered : ℕ → Bool → Type 0
-IsNumbered j true = j ≤ most_queries
+IsNumbered j true = j ≤ MOST_QUERIES
 IsNumbered j false = ⊤

@@ -2,7 +2,8 @@
 ghost use Rattle.std.specs.Prelude.{◌≡◌, ◌≤◌, ◌<◌, ◌-◌, ◌^◌, ◌∷◌, [], unsigned_abs, IfOk};
 ghost use Rattle.ps_rational.specs.Rational.{fraction as quotient};
 ghost use Rattle.ps_answer.specs.Answers.{ratio_of, cause_items, verdict_items, IsCounted, IsVerdictCounted};
-ghost use Rattle.ps_answer.specs.Items.{IsReducedWithin, IsRatioWithin, most_operand};
+ghost use Rattle.ps_answer.specs.Items.{IsReducedWithin, IsRatioWithin};
+ghost use Rattle.ps_answer.specs.declared.limits.TheConstants.{MOST_OPERAND};
 ghost use Rattle.ps_answer.specs.declared.item.Item.TheVariants as line;
 ghost use Rattle.ps_answer.specs.declared.part.Part.TheVariants.{ACause, AGoal, AStep, AModel, ADual, AVerdict};
 ghost use Rattle.ps_line.specs.Read.{Fits};
@@ -46,10 +47,10 @@ pub(crate) fn cause_behind(item: Item, lines: &mut Lines<'_>) -> Result<Cause, R
 }
 
 fn wide(place: Place, op: Op, left: &Ratio, right: &Ratio) -> Cause
-    requires left { IsReducedWithin most_operand left.now }
-    requires left_within { IsRatioWithin most_operand left.now }
-    requires right { IsReducedWithin most_operand right.now }
-    requires right_within { IsRatioWithin most_operand right.now }
+    requires left { IsReducedWithin MOST_OPERAND left.now }
+    requires left_within { IsRatioWithin MOST_OPERAND left.now }
+    requires right { IsReducedWithin MOST_OPERAND right.now }
+    requires right_within { IsRatioWithin MOST_OPERAND right.now }
     ensures wide { cause_items result ≡ line.OpenWide place op left.now right.now ∷ [] }
     ensures counted { IsCounted result }
 {
@@ -84,8 +85,8 @@ fn goal(lines: &mut Lines<'_>) -> Result<Constraint, ReportError>
 
 /// A fraction in lowest terms.
 pub(crate) fn fraction(ratio: &Ratio) -> Fraction
-    requires reduced { IsReducedWithin most_operand ratio.now }
-    requires within { IsRatioWithin most_operand ratio.now }
+    requires reduced { IsReducedWithin MOST_OPERAND ratio.now }
+    requires within { IsRatioWithin MOST_OPERAND ratio.now }
     ensures { ratio_of result ≡ ratio.now }
 {
     reduced(&ratio.over, &ratio.under)

@@ -1,7 +1,8 @@
 //! Queries and their sides that are read.
 ghost use Rattle.std.specs.Prelude.{◌≡◌, ◌≤◌, true, false, ◌∷◌, ◌++◌, [], IfOk};
 ghost use Rattle.ps_answer.specs.Answers.{ArePartsCounted};
-ghost use Rattle.ps_answer.specs.Items.{IsReducedWithin, IsRatioWithin, most_operand};
+ghost use Rattle.ps_answer.specs.Items.{IsReducedWithin, IsRatioWithin};
+ghost use Rattle.ps_answer.specs.declared.limits.TheConstants.{MOST_OPERAND};
 ghost use Rattle.ps_answer.specs.declared.item.Item.TheVariants as line;
 ghost use Rattle.ps_answer.specs.declared.part.Part.TheVariants.{ACause, AModel, ADual, ATrace, AnAnswer, ASide, AQuery};
 ghost use Rattle.ps_line.specs.Read.{Fits};
@@ -34,8 +35,8 @@ fn bound(
     value: &Ratio,
     lines: &mut Lines<'_>,
 ) -> Result<(SideAnswer, Trace), ReportError>
-    requires reduced { IsReducedWithin most_operand value.now }
-    requires within { IsRatioWithin most_operand value.now }
+    requires reduced { IsReducedWithin MOST_OPERAND value.now }
+    requires within { IsRatioWithin MOST_OPERAND value.now }
     ensures side { IsRestRead (line.Bound upper value.now) (side_lines upper)
         (AModel ∷ ADual ∷ ATrace ∷ []) lines.old lines.new result }
     ensures counted { IfOk result IsSideTold }

@@ -19,7 +19,8 @@ use Rattle.ps_answer.specs.declared.item.Item.{Item}
 use Rattle.ps_answer.specs.declared.item.Item.TheVariants as line
 use Rattle.ps_answer.specs.declared.answer.Cause.{Cause}
 use Rattle.ps_answer.specs.declared.answer.Cause.TheVariants.{Pivots, Conflicts, Wide}
-use Rattle.ps_answer.specs.Items.{IsReducedWithin, IsRatioWithin, most_operand}
+use Rattle.ps_answer.specs.Items.{IsReducedWithin, IsRatioWithin}
+use Rattle.ps_answer.specs.declared.limits.TheConstants.{MOST_OPERAND}
 use Rattle.ps_answer.specs.Answers.{ratio_of, cause_items}
 use Rattle.ps_claims.specs.declared.claim_kind.ClaimKind.{ClaimKind}
 use Rattle.ps_runs.specs.Rows.{rows_of, entries_of}
@@ -48,7 +49,7 @@ pub record AreLines (pivots : ℕ) (Q : Item → Type 0) (Open : Type 0) : Type 
 pub operand_proper : (x : Rational) (limit : ℕ) → IsReducedWithin limit (ratio_of x)
 operand_proper x limit = (let h = x.lowest.positive in omega (arith, h), λ h k. x.lowest.coprime)
 
-pub operand_within : (x : Rational) → IsOperand x → IsRatioWithin most_operand (ratio_of x)
+pub operand_within : (x : Rational) → IsOperand x → IsRatioWithin MOST_OPERAND (ratio_of x)
 operand_within x h = (let a = h.over in omega (arith, a), let b = h.under in omega (arith, b))
 
 -- ---- goals

@@ -11,7 +11,8 @@ use Rattle.ps_answer.specs.declared.answer.Verdict.{Verdict}
 use Rattle.ps_answer.specs.declared.answer.Verdict.TheVariants.{Consistent, Inconsistent, Open}
 use Rattle.ps_answer.specs.declared.answer.QueryPart.{QueryPart}
 use Rattle.ps_answer.specs.declared.answer.Answer.{Answer}
-use Rattle.ps_answer.specs.Items.{item_line, most_operand}
+use Rattle.ps_answer.specs.Items.{item_line}
+use Rattle.ps_answer.specs.declared.limits.TheConstants.{MOST_OPERAND}
 use Rattle.ps_answer.specs.Answers.{ratio_of, verdict_items, trace_items, query_items, part_items, answer_items}
 use Rattle.ps_claims.specs.Claims.{open_in_part, unfinished_of}
 use Rattle.ps_claims.specs.Validity.{IsValidPart}
@@ -91,7 +92,7 @@ module _ (p : Parts) (pivots conflicts : ℕ) (a : Answer) (h : IsAnswered p piv
   few_open few = record {
     fit = λ i k. k;
     wide = λ _ at under printed. (
-      (operand_proper at.left most_operand, operand_proper at.right most_operand),
+      (operand_proper at.left MOST_OPERAND, operand_proper at.right MOST_OPERAND),
       (place_within 101 (pivots + 2) at.place (omega arith) (omega (arith, few)) under, operand_within at.left printed.left, operand_within at.right printed.right),
     );
   }

@@ -17,7 +17,8 @@ use Rattle.ps_table.specs.Tableau.{IsInside, IsShown}
 use Rattle.ps_answer.specs.declared.item.Ratio.{Ratio}
 use Rattle.ps_answer.specs.declared.item.Item.TheVariants.{OpenWide}
 use Rattle.ps_answer.specs.Words.{Word, Fraction, Column, word_text}
-use Rattle.ps_answer.specs.Items.{op_word, shown_word, place_words, item_words, item_line, IsRatioWithin, most_operand}
+use Rattle.ps_answer.specs.Items.{op_word, shown_word, place_words, item_words, item_line, IsRatioWithin}
+use Rattle.ps_answer.specs.declared.limits.TheConstants.{MOST_OPERAND}
 use Rattle.ps_valid.proofs.ShortLines.{short_line}
 use Rattle.ps_reported.proofs.Places.{IsPlaceUnder, place_within}
 
@@ -160,7 +161,7 @@ line_long at op left right =
     (refl, (refl, long_append (place_words (place_before at)) (place_words at) (op_word op ∷ Fraction left ∷ Fraction right ∷ []) (place_long at)))
 
 -- the line of an open part over at most 1,000,002 worlds is short
-pub wide_short : (rows : ℕ) (at : Place) (op : Op) (left right : Ratio) → rows ≤ 101 → IsPlaceUnder rows 1000002 at → IsRatioWithin most_operand left → IsRatioWithin most_operand right
+pub wide_short : (rows : ℕ) (at : Place) (op : Op) (left right : Ratio) → rows ≤ 101 → IsPlaceUnder rows 1000002 at → IsRatioWithin MOST_OPERAND left → IsRatioWithin MOST_OPERAND right
     → length (item_line (OpenWide at op left right)) < 65536
 wide_short rows at op left right few h l r =
     subst (λ n. n < 65536) (line_long at op left right)

@@ -27,7 +27,8 @@ use Rattle.ps_answer.specs.declared.item.Ratio.{Ratio}
 use Rattle.ps_answer.specs.declared.item.Item.{Item}
 use Rattle.ps_answer.specs.declared.item.Item.TheVariants.{Report, Consistent, Inconsistent, OpenPivots, OpenConflicts, OpenWide, ModelHead, Entry, DualHead, Rows, StepLine, GoalLine, TraceHead, PivotLine, PricedLine, Query, Bounds, Impossible, Bound, OpenSide, End}
 use Rattle.ps_answer.specs.Words.{Word, Letters, Number, Fraction, Column, Truths, digit_of, word_text, joined}
-use Rattle.ps_answer.specs.Items.{count, op_word, shown_word, place_words, side_word, item_words, item_line, IsWithin, IsPrintable, IsColWithin, IsShownWithin, IsPlaceWithin, IsRatioWithin, most_operand}
+use Rattle.ps_answer.specs.Items.{count, op_word, shown_word, place_words, side_word, item_words, item_line, IsWithin, IsPrintable, IsColWithin, IsShownWithin, IsPlaceWithin, IsRatioWithin}
+use Rattle.ps_answer.specs.declared.limits.TheConstants.{MOST_OPERAND}
 
 -- a word of at most 128 bytes
 IsBrief : Word → Type 0
@@ -144,7 +145,7 @@ short_wide : (at : Place) (o : Op) (left right : Ratio) → IsWithin (OpenWide a
 short_wide at o left right h =
     let there = brief_place at h.0 in
     let operands : List Word = op_word o ∷ Fraction left ∷ Fraction right ∷ [] in
-    let brief : AllByRecursion IsBrief operands = (brief_op o, (brief_ratio left most_operand (omega arith) h.1, (brief_ratio right most_operand (omega arith) h.2, tt))) in
+    let brief : AllByRecursion IsBrief operands = (brief_op o, (brief_ratio left MOST_OPERAND (omega arith) h.1, (brief_ratio right MOST_OPERAND (omega arith) h.2, tt))) in
     let e = length-append (place_words at) operands in
     few_words (item_words (OpenWide at o left right)) (brief_letters (codes "open") (omega arith), (brief_letters (codes "wide") (omega arith), all_append IsBrief (place_words at) operands there.brief brief)) (omega (arith, e, there.few))
 

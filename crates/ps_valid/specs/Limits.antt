@@ -9,7 +9,7 @@ use Rattle.ps_answer.specs.declared.answer.SideAnswer.TheVariants as side
 use Rattle.ps_answer.specs.declared.answer.QueryAnswer.{QueryAnswer}
 use Rattle.ps_answer.specs.declared.answer.QueryAnswer.TheVariants as query
 use Rattle.ps_answer.specs.declared.answer.Answer.{Answer}
-use Rattle.ps_answer.specs.Items.{most_entries}
+use Rattle.ps_answer.specs.declared.limits.TheConstants.{MOST_ENTRIES}
 use Rattle.ps_certificate.specs.Certificates.{IsSmallDual}
 use Rattle.ps_table.specs.Places.{printed_limit}
 
@@ -19,7 +19,7 @@ most_weight = printed_limit
 
 -- the most worlds
 abbrev pub most_worlds : ℕ
-most_worlds = most_entries
+most_worlds = MOST_ENTRIES
 
 -- from 0 to the most that a weight is
 pub record IsAmount (z : ℤ) : Type 0 where

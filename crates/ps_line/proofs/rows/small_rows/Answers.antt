@@ -6,10 +6,10 @@ use Rattle.ps_line.specs.Rows.{AreRowsRead}
 use Rattle.ps_line.proofs.RowWords.{RowsSoFar, rows_many, rows_more, rows_stop, row_told, small_kept}
 use Rattle.ps_line.proofs.rows.small_rows.Goals as goal
 
-pub returns-then-len-ge-MOST_ROWS : goal.returns-then-len-ge-MOST_ROWS
-returns-then-len-ge-MOST_ROWS c =
+pub returns-then-len-ge-MOST_MULTIPLIERS : goal.returns-then-len-ge-MOST_MULTIPLIERS
+returns-then-len-ge-MOST_MULTIPLIERS c =
     let b : c.is_empty.result ≡ false = search rules in
-    let l : 100 ≤ length c.loop-left.rows = omega (arith, c.if-len-ge-MOST_ROWS.true, c.len.ensures) in
+    let l : 100 ≤ length c.loop-left.rows = omega (arith, c.if-len-ge-MOST_MULTIPLIERS.true, c.len.ensures) in
     rows_many (words_in c.args.words.now) (words_in c.loop-left.left) c.loop-left.rows (λ e. true≢false (sym (c.is_empty.ensures.1 e) ∙ b)) c.loop-left.invariant l
 
 pub returns-in_err-number : goal.returns-in_err-number
@@ -23,7 +23,7 @@ returns-in_err-number c =
 pub loop-left-preserved : goal.loop-left-preserved
 loop-left-preserved c =
     let b : c.is_empty.result ≡ false = search rules in
-    let l : length c.loop-left.rows < 100 = omega (arith, c.if-len-ge-MOST_ROWS.false, c.len.ensures) in
+    let l : length c.loop-left.rows < 100 = omega (arith, c.if-len-ge-MOST_MULTIPLIERS.false, c.len.ensures) in
     let t = row_told (words_in c.loop-left.left) c.next.result.now c.number.result (Ok c.in_ok-number.field-0) c.next.ensures.word c.in_ok-number.was c.number.ensures in
     subst (λ x. RowsSoFar (words_in c.args.words.now) x c.push.new.self) (sym c.next.ensures.later)
     (rows_more (words_in c.args.words.now) (words_in c.loop-left.left) c.loop-left.rows c.push.new.self c.in_ok-number.field-0 (λ e. true≢false (sym (c.is_empty.ensures.1 e) ∙ b)) c.loop-left.invariant l t.0.0 t.1
