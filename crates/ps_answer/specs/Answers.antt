@@ -25,9 +25,11 @@ use Rattle.ps_answer.specs.Items.{item_line}
 abbrev pub ratio_of : Rational → Ratio
 ratio_of q = record { over = q.over; under = q.under }
 
+-- an entry: its weight and its world
 abbrev pub entry_item : Weighted → Item
 entry_item e = line.Entry e.weight e.world
 
+-- an event: the column and the row of a pivot, or a priced world
 abbrev pub event_item : Event → Item
 event_item (Pivot enter leave) = line.PivotLine enter leave
 event_item (Priced world) = line.PricedLine world
@@ -40,14 +42,17 @@ model_items m = line.ModelHead m.total (length m.worlds) ∷ map entry_item m.wo
 abbrev pub dual_items : Dual → List Item
 dual_items d = line.DualHead d.top d.head (length d.steps) ∷ line.Rows d.rows ∷ map line.StepLine d.steps
 
+-- a trace: how many events, and each of them
 abbrev pub trace_items : List Event → List Item
 trace_items events = line.TraceHead (length events) ∷ map event_item events
 
+-- a cause: the limit, for conflicts with the goal and the steps, or the operation that was refused, with its place and operands
 abbrev pub cause_items : Cause → List Item
 cause_items (Pivots limit) = line.OpenPivots limit ∷ []
 cause_items (Conflicts limit goal steps) = line.OpenConflicts limit ∷ line.GoalLine goal ∷ map line.StepLine steps
 cause_items (Wide at) = line.OpenWide at.place at.op (ratio_of at.left) (ratio_of at.right) ∷ []
 
+-- a verdict and its model or its dual, or its cause where it is open
 abbrev pub verdict_items : Verdict → List Item
 verdict_items (Consistent m) = line.Consistent ∷ model_items m
 verdict_items (Inconsistent d) = line.Inconsistent ∷ dual_items d
@@ -83,20 +88,24 @@ IsCounted (Conflicts limit goal steps) = length steps ≡ limit
 IsCounted (Pivots limit) = ⊤
 IsCounted (Wide at) = ⊤
 
+-- where conflicts were the cause of an open verdict, there are as many steps as their limit
 abbrev pub IsVerdictCounted : Verdict → Type 0
 IsVerdictCounted (Consistent m) = ⊤
 IsVerdictCounted (Inconsistent d) = ⊤
 IsVerdictCounted (Open c) = IsCounted c
 
+-- where conflicts were the cause of an open side, there are as many steps as their limit
 abbrev pub IsSideCounted : SideAnswer → Type 0
 IsSideCounted (side.Bound value m d) = ⊤
 IsSideCounted (side.Open c) = IsCounted c
 
+-- where conflicts were the cause of an open query, or of an open side of it, there are as many steps as their limit
 abbrev pub IsQueryCounted : QueryAnswer → Type 0
 IsQueryCounted (query.Bounds lower lower_trace upper upper_trace) = IsSideCounted lower × IsSideCounted upper
 IsQueryCounted (query.Impossible d) = ⊤
 IsQueryCounted (query.Open c) = IsCounted c
 
+-- in each of these parts, where conflicts were the cause, there are as many steps as their limit
 abbrev pub ArePartsCounted : List QueryPart → Type 0
 ArePartsCounted [] = ⊤
 ArePartsCounted (p ∷ ps) = IsQueryCounted p.answer × ArePartsCounted ps

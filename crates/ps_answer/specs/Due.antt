@@ -55,6 +55,7 @@ behind_side false (OpenSide false) due = Some (ACause ∷ ATrace ∷ due)
 behind_side true (OpenSide true) due = Some (ACause ∷ ATrace ∷ due)
 behind_side upper i due = None
 
+-- an event is one line: a pivot or a priced world
 abbrev pub behind_event : Item → List Part → Option (List Part)
 behind_event (PivotLine enter leave) due = Some due
 behind_event (PricedLine world) due = Some due
@@ -88,6 +89,7 @@ behind p i due = None
 abbrev pub at_start : List Part
 at_start = AReport ∷ AVerdict ∷ ATrace ∷ AQuery 1 ∷ []
 
+-- what a function makes of a value, if there is the value and the function makes something of it
 abbrev pub and_then : {A B : Type 0} → Option A → (A → Option B) → Option B
 and_then None f = None
 and_then (Some x) f = f x

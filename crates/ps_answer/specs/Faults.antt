@@ -48,6 +48,7 @@ pub record IsReport (bytes : List ℕ) (a : Answer) : Type 0 where
   pub counted : IsAnswerCounted a
   pub within : AllByRecursion IsWithin (answer_items a)
 
+-- the first of these words, or no bytes where there is none
 abbrev pub first_of : List (List ℕ) → List ℕ
 first_of [] = []
 first_of (w ∷ ws) = w

@@ -21,9 +21,11 @@ use Rattle.ps_answer.specs.declared.item.Item.{Item}
 use Rattle.ps_answer.specs.declared.item.Item.TheVariants.{Report, Consistent, Inconsistent, OpenPivots, OpenConflicts, OpenWide, ModelHead, Entry, DualHead, Rows, StepLine, GoalLine, TraceHead, PivotLine, PricedLine, Query, Bounds, Impossible, Bound, OpenSide, End}
 use Rattle.ps_answer.specs.Words.{Word, Letters, Number, Fraction, Column, Truths, SpellWords, joined}
 
+-- a whole number of at least 0 as a word
 abbrev pub count : ℕ → Word
 count n = Number (pos n)
 
+-- the word of an operation
 abbrev pub op_word : Op → Word
 op_word op.Add = Letters (codes "add")
 op_word op.Sub = Letters (codes "sub")
@@ -51,6 +53,7 @@ place_words (place.Total i) = Letters (codes "total") ∷ count i ∷ []
 place_words (place.NewTimes i m) = Letters (codes "new-times") ∷ count i ∷ count m ∷ []
 place_words (place.NewPlus i m) = Letters (codes "new-plus") ∷ count i ∷ count m ∷ []
 
+-- the word of a side: lower or upper
 abbrev pub side_word : Bool → Word
 side_word false = Letters (codes "lower")
 side_word true = Letters (codes "upper")
@@ -83,7 +86,7 @@ item_words End = Letters (codes "end") ∷ []
 abbrev pub item_line : Item → List ℕ
 item_line i = joined (item_words i)
 
--- ---- limits
+-- ---- lines with numbers of any size, and lines within the limits
 -- the denominator is at least 1, and where both numbers are at most this in size the fraction is in lowest terms
 abbrev pub IsReducedWithin : ℕ → Ratio → Type 0
 IsReducedWithin limit q = (1 ≤ q.under) × (unsigned_abs q.over ≤ limit → q.under ≤ limit → IsGcd (unsigned_abs q.over) q.under 1)
@@ -119,14 +122,17 @@ pub record IsLine (line : List ℕ) (i : Item) : Type 0 where
 abbrev pub IsPrintable : ℤ → Type 0
 IsPrintable z = unsigned_abs z ≤ printed_limit
 
+-- homes are numbered up to the greatest row, worlds from 1 up to the greatest
 abbrev pub IsColWithin : Col → Type 0
 IsColWithin (col.Home i) = i ≤ MOST_ROW
 IsColWithin (col.World n) = (1 ≤ n) × (n ≤ MOST_WORLD)
 
+-- the right side, or a column within the limits
 abbrev pub IsShownWithin : TableCol → Type 0
 IsShownWithin shown.Right = ⊤
 IsShownWithin (shown.Of c) = IsColWithin c
 
+-- the rows, homes and columns that a place names are within the limits
 abbrev pub IsPlaceWithin : Place → Type 0
 IsPlaceWithin (place.Ratio i) = i ≤ MOST_ROW
 IsPlaceWithin (place.Scale j) = IsShownWithin j
@@ -141,6 +147,7 @@ IsPlaceWithin (place.Total i) = i ≤ MOST_ROW
 IsPlaceWithin (place.NewTimes i m) = (i ≤ MOST_ROW) × (m ≤ MOST_ROW)
 IsPlaceWithin (place.NewPlus i m) = (i ≤ MOST_ROW) × (m ≤ MOST_ROW)
 
+-- numerator and denominator are at most this in size
 abbrev pub IsRatioWithin : ℕ → Ratio → Type 0
 IsRatioWithin limit q = (unsigned_abs q.over ≤ limit) × (q.under ≤ limit)
 

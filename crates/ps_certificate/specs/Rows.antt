@@ -6,7 +6,7 @@ use Rattle.ps_problem.specs.declared.limits.TheConstants.{MOST_BOUNDS, MOST_DENO
 use Rattle.ps_problem.specs.Problems.{AreBounds}
 use Rattle.ps_problem.specs.declared.bound.Bound.{Bound}
 
--- the number of a node of a problem, or none
+-- a number that a node of a problem may have
 abbrev pub IsNode : ℕ → Type 0
 IsNode n = n < MOST_NODES
 
@@ -17,7 +17,7 @@ pub record IsRow (b : Bound) : Type 0 where
   pub num : b.num ≤ MOST_DENOMINATOR
   pub den : b.den ≤ MOST_DENOMINATOR
 
--- as many bounds as a problem may have, over nodes that are there, as many as it may have
+-- at most as many bounds as a problem may have, over nodes that are there, at most as many as it may have
 pub record AreOverNodes (bs : List Bound) : Type 0 where
   pub nodes : List Node
   pub few_nodes : length nodes ≤ MOST_NODES

@@ -166,7 +166,8 @@ some_entry : (d : List Entry) (z : ℤ) → z ≢ pos 0 → z ≡ total d → 0 
 some_entry [] z some sum = absurd (some sum)
 some_entry (e ∷ d) z some sum = omega arith
 
--- where no weight is below 0, a sound model is a small distribution that meets each bound
+-- where no weight is below 0, a sound model is a distribution that meets each bound, of at most one world more than there are
+-- bounds, with the sum of its weights as total
 pub sound-shows : (p : Parts) (m : Model) → All (λ e. length e.world ≡ length p.names) m.worlds → All (λ e. pos 0 ≤ℤ e.weight) m.worlds → IsSound p m
     → ShowsConsistent (length p.names) (bounds_of p) m
 sound-shows p m shape low sound = record {

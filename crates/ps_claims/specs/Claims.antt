@@ -23,18 +23,22 @@ pub data Claim : Type 0 where
   Excluded : (given : Option ℕ) (dual : Dual) → Claim
   Bounded : (kind : ClaimKind) (query : stored.Query) (value : Rational) (model : Model) (dual : Dual) → Claim
 
+-- a claim with its place
 abbrev pub Placed : Type 0
 Placed = Place × Claim
 
+-- what a verdict claims: a model, or that nothing is allowed; an open one claims nothing
 abbrev pub verdict_claims : Verdict Dual → List Placed
 verdict_claims (Consistent m) = (AtVerdict, Modelled m) ∷ []
 verdict_claims (Inconsistent d) = (AtVerdict, Excluded None d) ∷ []
 verdict_claims OpenVerdict = []
 
+-- what a side of a query claims at this place: its value; an open one claims nothing
 abbrev pub side_claims : Place → ClaimKind → stored.Query → SideAnswer Dual → List Placed
 side_claims place kind q (Value value m d) = (place, Bounded kind q value m d) ∷ []
 side_claims place kind q OpenSide = []
 
+-- what the part of the query of this number claims: what its sides do, or that nothing is allowed; an open one claims nothing
 abbrev pub part_claims : ℕ → stored.Query → QueryAnswer Dual → List Placed
 part_claims n q (Interval lower upper) = side_claims (AtLower n) Lower q lower ++ side_claims (AtUpper n) Upper q upper
 part_claims n q (Impossible d) = (AtQuery n, Excluded q.given d) ∷ []
@@ -46,6 +50,7 @@ claims_from n [] parts = []
 claims_from n (q ∷ qs) [] = []
 claims_from n (q ∷ qs) (a ∷ parts) = part_claims n q a ++ claims_from (suc n) qs parts
 
+-- the claims of an answer to a problem: that of the verdict, and those on the queries in order
 abbrev pub claims_of : Parts → Answer Dual → List Placed
 claims_of p a = verdict_claims a.verdict ++ claims_from 1 (asked_under a.verdict p.queries) a.parts
 
@@ -54,10 +59,12 @@ abbrev pub open_in_verdict : Verdict Dual → ℕ
 open_in_verdict OpenVerdict = 1
 open_in_verdict other = 0
 
+-- how much is open in a side: 1 where it is open, else 0
 abbrev pub open_in_side : SideAnswer Dual → ℕ
 open_in_side OpenSide = 1
 open_in_side other = 0
 
+-- how much is open in a part: its open sides, or 1 where the query is open
 abbrev pub open_in_part : QueryAnswer Dual → ℕ
 open_in_part (Interval lower upper) = open_in_side lower + open_in_side upper
 open_in_part (Impossible d) = 0
@@ -67,6 +74,7 @@ open_in_part OpenQuery = 1
 abbrev pub unfinished_of : Answer Dual → ℕ
 unfinished_of a = open_in_verdict a.verdict + sum (map open_in_part a.parts)
 
+-- a claim is valid: its model shows the bounds consistent, its dual that nothing is allowed, or both that a value is tight
 abbrev pub IsValidClaim : Parts → Claim → Type 0
 IsValidClaim p (Modelled m) = ShowsConsistent (length p.names) (bounds_of p) m
 IsValidClaim p (Excluded given d) = ShowsNothing p given d
@@ -76,6 +84,7 @@ IsValidClaim p (Bounded kind q value m d) = ShowsTight p kind q value m d
 abbrev pub HasParts : Parts → Answer Dual → Type 0
 HasParts p a = length a.parts ≡ length (asked_under a.verdict p.queries)
 
+-- each of these claims is valid
 abbrev pub AreValid : Parts → List Placed → Type 0
 AreValid p claims = All (λ c. IsValidClaim p c.1) claims
 
@@ -86,6 +95,7 @@ pub data Fault : Type 0 where
   BoundMissed : (bound : ℕ) → Fault
   DualWrong : (fault : DualFault) → Fault
 
+-- the model of a claim, if it has one
 abbrev pub model_of : Claim → Option Model
 model_of (Modelled m) = Some m
 model_of (Excluded given d) = None
@@ -95,6 +105,7 @@ model_of (Bounded kind q value m d) = Some m
 abbrev pub HaveWeightsNotBelow0 : List Placed → Type 0
 HaveWeightsNotBelow0 claims = All (λ c. IfSome (model_of c.1) (λ m. All (λ e. pos 0 ≤ℤ e.weight) m.worlds)) claims
 
+-- the dual of a claim, if it has one
 abbrev pub dual_of : Claim → Option Dual
 dual_of (Modelled m) = None
 dual_of (Excluded given d) = Some d
@@ -122,6 +133,7 @@ IsRepeated d n = (i : ℕ) × (n ≡ i + 1) × AreProperEntries (take i d) × Is
 abbrev pub MissesFirst : List Bound → List Entry → ℕ → Type 0
 MissesFirst bs d n = (i : ℕ) × (n ≡ i + 1) × MeetsAll (take i bs) d × IsSomeAnd (slice_get bs i) (λ b. ¬ MeetsBound b d)
 
+-- a model has at most one world more than the problem has bounds
 abbrev pub AreFew : Parts → Model → Type 0
 AreFew p m = length m.worlds ≤ length (bounds_of p) + 1
 

@@ -26,22 +26,26 @@ pub record ShowsNothing (p : Parts) (given : Option ℕ) (d : Dual) : Type 0 whe
   pub head : HasNothingHead d
   pub refuted : IsRefuted p Nothing given 0 d
 
--- a small distribution reaches the value, and a dual shows that it is a bound
+-- a distribution of at most one world more than there are bounds, with the sum of its weights as total, reaches the value, and a
+-- dual shows that it is a bound
 pub record ShowsTight (p : Parts) (kind : ClaimKind) (q : stored.Query) (value : Rational) (m : Model) (d : Dual) : Type 0 where
   pub reached : Reaches (length p.names) (bounds_of p) (query_of p.nodes q) value m.worlds
   pub small : IsBasicModel (bounds_of p) m
   pub head : HasValueHead value d
   pub refuted : IsRefuted p kind q.given q.both d
 
+-- a verdict is valid: its model shows that the bounds are consistent, its dual that they are not, or it is open
 abbrev pub IsValidVerdict : Parts → Verdict Dual → Type 0
 IsValidVerdict p (Consistent m) = ShowsConsistent (length p.names) (bounds_of p) m
 IsValidVerdict p (Inconsistent d) = ShowsNothing p None d
 IsValidVerdict p OpenVerdict = Unit {0}
 
+-- a side of a query is valid: its model and its dual show that the value is tight, or it is open
 abbrev pub IsValidSide : Parts → ClaimKind → stored.Query → SideAnswer Dual → Type 0
 IsValidSide p kind q (Value value m d) = ShowsTight p kind q value m d
 IsValidSide p kind q OpenSide = Unit {0}
 
+-- a part is valid: each of its sides is, its dual shows that the evidence is impossible, or it is open
 abbrev pub IsValidPart : Parts → stored.Query → QueryAnswer Dual → Type 0
 IsValidPart p q (Interval lower upper) = IsValidSide p Lower q lower × IsValidSide p Upper q upper
 IsValidPart p q (Impossible d) = ShowsNothing p q.given d

@@ -35,31 +35,35 @@ pub record Answer (C : Type 0) : Type 0 where
   pub verdict : Verdict C
   pub parts : List (QueryAnswer C)
 
--- at most one world more than there are bounds, and the total is the sum of the weights
+-- a model of at most one world more than there are bounds, with the sum of its weights as total
 pub record IsBasicModel (bounds : List Bound) (m : Model) : Type 0 where
   pub few : length m.worlds ≤ length bounds + 1
   pub total : m.total ≡ total m.worlds
 
--- a small distribution that meets each bound
+-- a distribution that meets each bound, of at most one world more than there are bounds, with the sum of its weights as total
 pub record ShowsConsistent (atoms : ℕ) (bounds : List Bound) (m : Model) : Type 0 where
   pub model : IsModelOf atoms bounds m.worlds
   pub small : IsBasicModel bounds m
 
--- a value that bounds the query's probability, and that a small distribution reaches
+-- a value that bounds the query's probability, and that a distribution reaches, of at most one world more than there are bounds,
+-- with the sum of its weights as total
 pub record IsTight (atoms : ℕ) (bounds : List Bound) (q : Query) (side : Side) (value : Rational) (m : Model) : Type 0 where
   pub holds : Holds atoms bounds q side value
   pub reached : Reaches atoms bounds q value m.worlds
   pub small : IsBasicModel bounds m
 
+-- a verdict is right: its model shows that the bounds are consistent, or they are inconsistent; an open one claims nothing
 abbrev pub IsRightVerdict : {C : Type 0} → ℕ → List Bound → Verdict C → Type 0
 IsRightVerdict atoms bounds (Consistent m) = ShowsConsistent atoms bounds m
 IsRightVerdict atoms bounds (Inconsistent c) = IsInconsistent atoms bounds
 IsRightVerdict atoms bounds OpenVerdict = Unit {0}
 
+-- a side is right: its value is tight for the query, as its model shows; an open one claims nothing
 abbrev pub IsRightSide : {C : Type 0} → ℕ → List Bound → Query → Side → SideAnswer C → Type 0
 IsRightSide atoms bounds q side (Value value m c) = IsTight atoms bounds q side value m
 IsRightSide atoms bounds q side OpenSide = Unit {0}
 
+-- a part is right: both of its sides are, or the query's evidence is impossible; an open one claims nothing
 abbrev pub IsRightPart : {C : Type 0} → ℕ → List Bound → Query → QueryAnswer C → Type 0
 IsRightPart atoms bounds q (Interval lower upper) = IsRightSide atoms bounds q AtLeast lower × IsRightSide atoms bounds q AtMost upper
 IsRightPart atoms bounds q (Impossible c) = IsImpossible atoms bounds q.evidence

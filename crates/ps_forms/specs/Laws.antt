@@ -37,7 +37,7 @@ ExtensionsAgree = (ns : List Node) (world : World) → AreNodes ns → AgreeOnAt
 abbrev pub NodesAreSettled : Type 0
 NodesAreSettled = (ns : List Node) → AreNodes ns → AtomsDecide (form_of ns)
 
--- a form without clauses is settled by its atoms
+-- a form without clauses, in which each variable is an atom's, is settled by its atoms
 abbrev pub AtomsAreSettled : Type 0
 AtomsAreSettled = (variables : ℕ) → AtomsDecide (empty_form variables)
 

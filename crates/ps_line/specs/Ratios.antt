@@ -26,5 +26,6 @@ IsLowestOf (Ok p) (Ok q) = (q.over ≡ p.0) × (q.under ≡ p.1) × IsGcd (unsig
 IsLowestOf (Ok p) (Err why) = (why ≡ NotCanonical) × (IsGcd (unsigned_abs p.0) p.1 1 → ⊥)
 IsLowestOf (Err why) result = result ≡ Err why
 
+-- the fraction of two parts that were read, where it is in lowest terms, or why there is none
 abbrev pub IsLowest : Result ℤ LineFault → Result ℕ LineFault → Result Ratio LineFault → Type 0
 IsLowest over under result = IsLowestOf (both over under) result

@@ -126,6 +126,7 @@ pub record IsPhaseOneAnswer (old new : RunState) (answer : First) : Type 0 where
   pub whole : IsWholeFirst old.over answer
   pub goes_on : GoesOn old new events answer
 
+-- what phase one answers can be printed
 abbrev pub IsPrintedFirst : First → Type 0
 IsPrintedFirst answer = IsPrintedVerdict (verdict_of answer)
 

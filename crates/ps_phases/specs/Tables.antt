@@ -20,6 +20,7 @@ phase_of Nothing = phase.One
 phase_of Lower = phase.Lower
 phase_of Upper = phase.Upper
 
+-- the kind of a home: artificial, else a slack
 abbrev pub home_of : Bool → Home
 home_of true = Artificial
 home_of false = Slack

@@ -72,6 +72,7 @@ pub record IsSpent (kind : ClaimKind) (a : PricingSubject) (d : Dual) (goal : Co
   pub goal_is : goal ≡ goal_at_least (pos 1) kind a.subject d
   pub search : IsSpentSearch (form_of a.subject.parts.nodes) (goal_at_least (pos 1) kind a.subject d) a.conflicts steps
 
+-- what the pricing of a dual ends with: a world that is found, its refutation, or a search that was spent
 abbrev pub IsPricing : ClaimKind → PricingSubject → Dual → Pricing → Type 0
 IsPricing kind a d (Found w) = IsFound kind a d w
 IsPricing kind a d (Refuted e) = IsRefuted kind a.subject d e

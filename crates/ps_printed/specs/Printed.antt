@@ -54,20 +54,24 @@ pub record ArePrintedOperands (w : WideAt) : Type 0 where
   pub left : IsOperand w.left
   pub right : IsOperand w.right
 
+-- of a cause, the search that was spent or the operands that were refused can be printed
 abbrev pub IsPrintedCause : Cause → Type 0
 IsPrintedCause (Pivots limit) = Unit {0}
 IsPrintedCause (Conflicts limit goal steps) = IsPrintedSearch goal steps
 IsPrintedCause (Wide at) = ArePrintedOperands at
 
+-- a verdict's model or dual can be printed, or the cause that it is open
 abbrev pub IsPrintedVerdict : Verdict → Type 0
 IsPrintedVerdict (Consistent m) = IsPrintedModel m
 IsPrintedVerdict (Inconsistent d) = IsPrintedDual d
 IsPrintedVerdict (Open cause) = IsPrintedCause cause
 
+-- a side's model and dual can be printed, or the cause that it is open
 abbrev pub IsPrintedSide : SideAnswer → Type 0
 IsPrintedSide (side.Bound value m d) = IsPrintedModel m × IsPrintedDual d
 IsPrintedSide (side.Open cause) = IsPrintedCause cause
 
+-- both sides of a query's answer can be printed, or its dual, or the cause that it is open
 abbrev pub IsPrintedPart : QueryAnswer → Type 0
 IsPrintedPart (query.Bounds lower lower_trace upper upper_trace) = IsPrintedSide lower × IsPrintedSide upper
 IsPrintedPart (query.Impossible d) = IsPrintedDual d

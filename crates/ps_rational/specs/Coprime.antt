@@ -16,16 +16,20 @@ gcd_within_is (suc k) a zero h = IsGcd-from_zero a zero refl
 gcd_within_is (suc k) a (suc b) h =
     IsGcd-from_mod a (suc b) _ (gcd_within_is k (suc b) (a % suc b) (omega arith))
 
+-- the gcd of two numbers is a greatest common divisor of them
 pub gcd_is : (a b : ℕ) → IsGcd a b (gcd a b)
 unfolding gcd
 gcd_is a b = gcd_within_is (suc b) a b (omega arith)
 
+-- a greatest common divisor of two numbers is their gcd
 pub is_gcd : (a b g : ℕ) → IsGcd a b g → g ≡ gcd a b
 is_gcd a b g h = same_from_IsGcd a b g (gcd a b) h (gcd_is a b)
 
+-- the gcd is positive where the first number is
 pub gcd_pos_left : (a b : ℕ) → 0 < a → 0 < gcd a b
 gcd_pos_left a b h = pos_of_dvd_of_pos (gcd_is a b).0 h
 
+-- the gcd is positive where the second number is
 pub gcd_pos_right : (a b : ℕ) → 0 < b → 0 < gcd a b
 gcd_pos_right a b h = pos_of_dvd_of_pos (gcd_is a b).1 h
 
@@ -45,6 +49,7 @@ scale_within (suc k) c a (suc b) g hc h p =
     let rest : IsGcd (c * suc b) (c * (a % suc b)) (c * g) = scale_within k c (suc b) (a % suc b) g hc (omega arith) (IsGcd-to_mod a (suc b) g p) in
     IsGcd-from_mod (c * a) (c * suc b) (c * g) (subst (λ n. IsGcd (c * suc b) n (c * g)) (sym (mod-scale c a (suc b) hc (omega arith))) rest)
 
+-- two numbers times a positive one have the greatest common divisor of the two, times that one
 pub IsGcd-scale : (c a b g : ℕ) → 0 < c → IsGcd a b g → IsGcd (c * a) (c * b) (c * g)
 IsGcd-scale c a b g hc p = scale_within (suc b) c a b g hc (omega arith) p
 
@@ -71,6 +76,7 @@ coprime_product a (suc b) c p q = (
       p.2 d da (gauss d c (suc b) dc dbc),
 )
 
+-- two products are coprime where each factor of the one is coprime to each of the other
 pub coprime_products : (a b c d : ℕ) → IsGcd a c 1 → IsGcd a d 1 → IsGcd b c 1 → IsGcd b d 1 → IsGcd (a * b) (c * d) 1
 coprime_products a b c d ac ad bc bd =
     IsGcd-swap (c * d) (a * b) 1
@@ -88,5 +94,6 @@ coprime_rest a b g hg p = (
       dvd_of_mul-dvd-mul_right d hg dg,
 )
 
+-- the gcd is at most the second number, where that is positive
 pub gcd_le_right : (a b : ℕ) → 0 < b → gcd a b ≤ b
 gcd_le_right a b h = le_of_dvd h (gcd_is a b).1

@@ -115,6 +115,7 @@ div x y = mul x (inverse y)
 pub IsLowestTerms_prop : (z : ℤ) (d : ℕ) → IsProp (IsLowestTerms z d)
 IsLowestTerms_prop z d = hlevel (le_prop, ∣_prop)
 
+-- rational numbers of the same numerator and denominator are equal
 pub rational_path : (x y : Rational) → x.over ≡ y.over → x.under ≡ y.under → x ≡ y
 rational_path x y e f = λ i. record {
   over = e i;

@@ -33,6 +33,7 @@ pub record IsGood (i : Item) : Type 0 where
 abbrev pub side_lines : Bool → SideAnswer × List Event → List Item
 side_lines upper s = side_items upper s.0 s.1
 
+-- a side that is open for conflicts has as many steps as their limit
 abbrev pub IsSideTold : SideAnswer × List Event → Type 0
 IsSideTold s = IsSideCounted s.0
 
@@ -40,6 +41,7 @@ IsSideTold s = IsSideCounted s.0
 abbrev pub answer_lines : QueryPart → List Item
 answer_lines p = query_items p.answer p.first
 
+-- an answer to a query that is open for conflicts has as many steps as their limit, and so has each side that is
 abbrev pub IsPartTold : QueryPart → Type 0
 IsPartTold p = IsQueryCounted p.answer
 

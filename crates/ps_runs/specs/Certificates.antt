@@ -31,11 +31,13 @@ abbrev pub signed : List Bound → (ℕ → ℤ) → List ℤ
 signed [] P = []
 signed (b ∷ bs) P = turned b.side (P 0) ∷ signed bs (λ i. P (suc i))
 
+-- the head of a dual, from the whole multiplier of the evidence's row: turned round for the upper side
 abbrev pub head_of : ClaimKind → ℤ → ℤ
 head_of Nothing z = z
 head_of Lower z = z
 head_of Upper z = neg_ℤ z
 
+-- the top of a dual: the multiple of its multipliers for a side of a query, and 0 to show that nothing is allowed
 abbrev pub top_of : ClaimKind → ℕ → ℤ
 top_of Nothing big = pos 0
 top_of Lower big = pos big
@@ -69,6 +71,7 @@ price s t cost w = sum_to (rows_of s) (λ m. mul (multipliers t cost m) (whole (
 abbrev pub value_of : SimplexTable → ℕ → Rational
 value_of t j = sum_to t.rows (λ i. cond (eqb (t.basic i) j) (t.entry i 0) zero_q)
 
+-- whether a whole number is above 0
 abbrev pub exceeds_zero : ℤ → Bool
 exceeds_zero (pos zero) = false
 exceeds_zero (pos (suc n)) = true

@@ -36,7 +36,8 @@ pub record CombinationsArePrices : Type 0 where
   pub above : (kind : ClaimKind) (s : Setting) (t : SimplexTable) (cost : ℕ → Rational) (w : World) → t.rows ≡ rows_of s
       → (pos 0 <ℤ combination_at kind s t cost w) ↔ IsLess (whole (world_cost kind s w)) (price s t cost w)
 
--- where each basic artificial has value 0 the weighted worlds of the table are a small distribution that the query allows
+-- where each basic artificial has value 0 the weighted worlds of the table are a distribution that the query allows, of at most
+-- one world more than there are bounds, with the sum of its weights as total
 pub record FeasibleTablesGiveModels : Type 0 where
   pub allowed : (s : Setting) (pool : List World) (basic : ℕ → ℕ) (X : ℕ → ℕ → Rational) (atoms : ℕ) → IsTable s pool basic X
       → IsFeasible (table_of s pool basic X) → IsPool atoms pool

@@ -51,6 +51,7 @@ is_exact Exactly = true
 abbrev pub artificial_rows : Setting → List Bool
 artificial_rows s = true ∷ map (λ b. is_exact b.side) s.bounds
 
+-- how many rows there are: one for the evidence, and one for each bound
 abbrev pub rows_of : Setting → ℕ
 rows_of s = suc (length s.bounds)
 
@@ -63,6 +64,7 @@ columns_of s pool m j =
 abbrev pub artificial_of : Setting → ℕ → Bool
 artificial_of s j = get_or (artificial_rows s) (j - 1) false
 
+-- the rows and columns over the worlds of a pool, and which columns are artificial
 abbrev pub system_of : Setting → List World → System
 system_of s pool = record { rows = rows_of s; artificial = artificial_of s; columns = columns_of s pool }
 

@@ -51,14 +51,17 @@ asked_in p (Some q) = query_of p.nodes q
 abbrev pub setting_of : Subject → Setting
 setting_of s = record { bounds = bounds_of s.parts; query = asked_in s.parts s.query }
 
+-- the node of a query's evidence; none where there is no query, or no evidence
 abbrev pub given_in : Option stored.Query → Option ℕ
 given_in None = None
 given_in (Some q) = q.given
 
+-- the node of a query's formula and evidence together; 0 where there is no query
 abbrev pub both_in : Option stored.Query → ℕ
 both_in None = 0
 both_in (Some q) = q.both
 
+-- how many atoms the problem has
 abbrev pub atoms_of : Subject → ℕ
 atoms_of s = length s.parts.names
 

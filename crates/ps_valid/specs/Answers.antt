@@ -14,20 +14,24 @@ use Rattle.ps_entailment.specs.Answers as claimed
 use Rattle.ps_claims.specs.Duals.{Dual}
 use Rattle.ps_claims.specs.Validity.{IsRightFor}
 
+-- what a verdict claims: its model or its dual; an open one claims nothing, whatever its cause
 abbrev pub verdict_of : Verdict → claimed.Verdict Dual
 verdict_of (Consistent m) = claimed.Consistent (model_of m)
 verdict_of (Inconsistent d) = claimed.Inconsistent (dual_of d)
 verdict_of (Open cause) = claimed.OpenVerdict
 
+-- what a side of a query claims: its value, with model and dual; an open one claims nothing, whatever its cause
 abbrev pub side_of : SideAnswer → claimed.SideAnswer Dual
 side_of (side.Bound value m d) = claimed.Value value (model_of m) (dual_of d)
 side_of (side.Open cause) = claimed.OpenSide
 
+-- what the answer to a query claims: its sides without their traces, or its dual; an open one claims nothing, whatever its cause
 abbrev pub part_of : QueryAnswer → claimed.QueryAnswer Dual
 part_of (query.Bounds lower lower_trace upper upper_trace) = claimed.Interval (side_of lower) (side_of upper)
 part_of (query.Impossible d) = claimed.Impossible (dual_of d)
 part_of (query.Open cause) = claimed.OpenQuery
 
+-- what each part claims, in their order and without their traces
 abbrev pub parts_of : List QueryPart → List (claimed.QueryAnswer Dual)
 parts_of parts = map (λ part. part_of part.answer) parts
 

@@ -36,6 +36,7 @@ IsFirstInRun p kind given both d (StepRefused id why) = first_refusal (length p.
 IsFirstInRun p kind given both d NotRefuted = AreLawful (length p.nodes) (start_for p kind given both d) d.steps × (ends_in_contradiction d.steps ≡ false)
 IsFirstInRun p kind given both d other = ⊥
 
+-- the reason is the first against the steps, and there is none where they refute the goal
 abbrev pub FindsInRun : Parts → ClaimKind → Option ℕ → ℕ → Dual → Option Reason → Type 0
 FindsInRun p kind given both d found = MatchOption found (HasRun p kind given both d) (IsFirstInRun p kind given both d)
 

@@ -36,15 +36,18 @@ pub record IsSmallModel (m : Model) : Type 0 where
   pub total : IsAmount m.total
   pub worlds : AreSmall m.worlds
 
+-- the model or the dual of a verdict is within these limits, if it has one
 abbrev pub IsSmallVerdict : Verdict → Type 0
 IsSmallVerdict (Consistent m) = IsSmallModel m
 IsSmallVerdict (Inconsistent d) = IsSmallDual d
 IsSmallVerdict (Open cause) = Unit {0}
 
+-- the model and the dual of a side are within these limits, if it isn't open
 abbrev pub IsSmallSide : SideAnswer → Type 0
 IsSmallSide (side.Bound value m d) = IsSmallModel m × IsSmallDual d
 IsSmallSide (side.Open cause) = Unit {0}
 
+-- each model and each dual of the answer to a query is within these limits
 abbrev pub IsSmallPart : QueryAnswer → Type 0
 IsSmallPart (query.Bounds lower lower_trace upper upper_trace) = IsSmallSide lower × IsSmallSide upper
 IsSmallPart (query.Impossible d) = IsSmallDual d

@@ -10,9 +10,11 @@ use Rattle.ps_problem.specs.declared.limits.TheConstants.{MOST_DENOMINATOR}
 use Rattle.ps_valid.specs.declared.truth.Row.{Row}
 use Rattle.ps_valid.specs.Limits.{IsAmount, most_worlds}
 
+-- a row as an entry: its weight, and its truth values as a world
 abbrev pub row_entry : Row → Entry
 row_entry r = record { weight = r.weight; world = r.values.items }
 
+-- each row as an entry
 abbrev pub row_entries : List Row → List Entry
 row_entries rows = map row_entry rows
 

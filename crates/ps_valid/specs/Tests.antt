@@ -29,7 +29,7 @@ IsFirstAmong d (WeightZero n) = IsWeightless d n
 IsFirstAmong d (WorldTwice n) = IsRepeated d n
 IsFirstAmong d other = ⊥
 
--- the reason is the first against an entry, and there is none where the entries are in order
+-- the reason is the first against an entry, and there is none where each entry has a weight and no world stands twice
 abbrev pub FindsFault : List Entry → Option Reason → Type 0
 FindsFault d found = MatchOption found (AreProperEntries d) (IsFirstAmong d)
 

@@ -15,6 +15,7 @@ words_of words = map string_bytes words
 pub data Limit : Type 0 where
   Bytes Pivots Conflicts : Limit
 
+-- the word with which a limit is set
 abbrev pub limit_word : Limit → List ℕ
 limit_word Bytes = codes "--bytes"
 limit_word Pivots = codes "--pivots"

@@ -49,9 +49,11 @@ refused_line kind n = line (codes "refused report line " ++ (decimal n ++ (codes
 abbrev pub unreadable : ReadKind → Position → Output
 unreadable kind at = line (codes "unreadable: " ++ (kind_words kind ++ (codes " at " ++ (decimal at.line ++ (codes ":" ++ decimal at.column))))) Unreadable
 
+-- no problem is read, since there are more bytes than the limit
 abbrev pub too_long : ℕ → Output
 too_long limit = line (codes "unreadable: more than " ++ decimal limit ++ codes " bytes") Unreadable
 
+-- the usage line, for words that spell no command
 abbrev pub usage : Output
 usage = line (codes "usage: psat solve|explain|check|make N [--pivots N] [--conflicts N] [--bytes N]") Usage
 

@@ -15,13 +15,16 @@ use Rattle.psat.specs.Commands.{limit_of}
 use Rattle.psat.specs.Due.{Output, Due, DueAnswered, DueFor, DueText, report_of, status_after}
 use Rattle.psat.specs.Runs.{IsTold, IsGiven}
 
+-- the output of a message: its text and its status
 abbrev pub message_output : Message → Output
 message_output m = record { text = string_bytes m.text; status = m.status }
 
+-- the output of a reply: that of its message, or the report of its answer and the status after it
 abbrev pub output_of : Reply → Output
 output_of (Line m) = message_output m
 output_of (Report a) = record { text = report_of a; status = status_after a }
 
+-- the status after a reply
 abbrev pub reply_status : Reply → Status
 reply_status (Line m) = m.status
 reply_status (Report a) = status_after a
@@ -31,6 +34,7 @@ abbrev pub IsShortReply : Reply → Type 0
 IsShortReply (Line m) = Unit {0}
 IsShortReply (Report a) = AreShortLines a
 
+-- the status that takes the place of a reply's, by why there is none
 abbrev pub status_without_reply : ReplyError → Status
 status_without_reply errors.ReadFault = statuses.ReadFault
 status_without_reply errors.NoMemory = statuses.NoMemory

@@ -5,6 +5,7 @@ use Rattle.psat.specs.declared.command.Command.TheVariants.{Check, Solve}
 use Rattle.psat.specs.declared.status.Status.{Status}
 use Rattle.psat.specs.declared.status.Status.TheVariants.{Done, Inconsistent, Usage, Unreadable, Unfinished, ReadFault, WriteFault, NoMemory, Refused}
 
+-- the number of a status, which is the exit code
 abbrev pub status_number : Status → ℕ
 status_number Done = 0
 status_number Inconsistent = 1
