@@ -35,9 +35,13 @@ pub type Multipliers = List<i128>;
 /// duality, with the refutation of a pricing problem).
 #[derive(Drop)]
 pub struct Dual {
+    /// The number of the query.
     pub top: i128,
+    /// The number of the evidence.
     pub head: i128,
+    /// The multipliers of the bounds.
     pub rows: Multipliers,
+    /// The steps of the refutation.
     pub steps: Steps,
 }
 
@@ -67,6 +71,7 @@ pub enum Verdict {
     Consistent(Model),
     /// What shows that none does.
     Inconsistent(Dual),
+    /// A limit was reached, and nothing is claimed of the sentences.
     Open(Cause),
 }
 
@@ -79,12 +84,14 @@ pub enum SideAnswer {
         model: Model,
         dual: Dual,
     },
+    /// A limit was reached, and nothing is claimed of the side.
     Open(Cause),
 }
 
 /// What is answered to a query. The traces are the events of its two sides.
 #[derive(Drop)]
 pub enum QueryAnswer {
+    /// What is answered to each side, with the events of the side's phase.
     Bounds {
         lower: SideAnswer,
         lower_trace: Trace,
@@ -94,13 +101,16 @@ pub enum QueryAnswer {
     /// What shows that no distribution that meets the sentences gives the evidence positive
     /// probability.
     Impossible(Dual),
+    /// A limit was reached, and nothing is claimed of the query.
     Open(Cause),
 }
 
 /// What is answered to a query, and the events of its first phase.
 #[derive(Drop)]
 pub struct QueryPart {
+    /// What is answered to the query.
     pub answer: QueryAnswer,
+    /// The events of its first phase.
     pub first: Trace,
 }
 
@@ -110,7 +120,10 @@ pub type Parts = List<QueryPart>;
 /// What is answered to a problem, and the events of the verdict's run.
 #[derive(Drop)]
 pub struct Answer {
+    /// What is answered to the problem's sentences.
     pub verdict: Verdict,
+    /// The events of the verdict's run.
     pub first: Trace,
+    /// What is answered to its queries.
     pub parts: Parts,
 }

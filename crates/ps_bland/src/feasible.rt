@@ -38,6 +38,7 @@ pub(crate) fn is_due_to_end(phase: Phase, table: &Table) -> bool
     ensures value { IsTrue result ↔ IsDone phase table.now }
     ensures tableau { IsTableau table.now }
 {
+    // Called for its clauses: the table is in the form in which tables are kept.
     let _rows = table.rows();
     match phase {
         Phase::One => is_feasible(table),

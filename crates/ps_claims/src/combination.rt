@@ -5,6 +5,8 @@ use ps_pb::WeightedLits;
 /// of the true literals.
 #[derive(Drop)]
 pub struct Combination {
+    /// The literals and their weights.
     pub terms: WeightedLits,
+    /// The whole number.
     pub base: i128,
 }

@@ -55,6 +55,7 @@ fn weight_of(table: &Table, weights: &Weights, number: u32) -> i128
     ensures divides { (column_value table.now number).under ∣ weight_multiple_of table.now }
     ensures small { unsigned_abs result ≤ printed_limit }
 {
+    // Called for its clauses: the table is in the form in which tables are kept.
     let _rows = table.rows();
     match row_of(table, number) {
         Some(row) => weights.rows.as_slice()[row as usize],

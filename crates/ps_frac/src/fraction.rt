@@ -64,7 +64,9 @@ impl Fraction {
         ensures over { Fits self.now.over }
         ensures under { self.now.under < size_limit }
     {
+        // Read for its clauses: the size of the numerator is below the limit.
         let _over = self.numerator();
+        // Read for its clauses: the denominator is below the limit.
         let _under = self.under();
     }
 

@@ -24,8 +24,11 @@ pub enum Op {
 #[derive(Clone, Copy, PartialEq, Eq, Debug, Drop, Error)]
 #[error("a number of the result is too large")]
 pub struct Wide {
+    /// The operation.
     pub op: Op,
+    /// Its left operand.
     pub left: Fraction,
+    /// Its right operand.
     pub right: Fraction,
 }
 

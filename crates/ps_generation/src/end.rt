@@ -12,6 +12,7 @@ pub enum End {
     Feasible,
     /// No column improves, and no world's would: the dual shows it.
     NoneAbove(Dual),
+    /// A limit was reached, which the cause tells; nothing is claimed.
     Open(Cause),
 }
 

@@ -63,6 +63,7 @@ fn enter(
         Err(TableError::Wide(at)) => return Ok(Some(too_wide(at))),
         Err(TableError::NoMemory) => return Err(NoMemory),
     }
+    // Called for its clauses: the table is in the form in which tables are kept.
     let _sound = state.table.rows();
     add_to_pool(&mut state.pool, world)?;
     costs.worlds.push(cost)?;

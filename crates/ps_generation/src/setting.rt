@@ -103,6 +103,7 @@ impl<'p> Setting<'p> {
     {
         let homes = homes_of(alloc, self.pricer.bounds())?;
         let table = Table::new(alloc, &homes)?;
+        // Called for its clauses: the table is in the form in which tables are kept.
         let _sound = table.rows();
         Ok(State {
             table,
@@ -182,6 +183,8 @@ impl<'p> Setting<'p> {
         ensures pricing { IfOk result (IsPricing kind (asked_of self.now) dual) }
         ensures printed { IfOk result IsPrintedPricing }
     {
+        // Called for its clauses: the problem of the kept sentences is within the limits, and its
+        // numbers are in range.
         let _sound = self.pricer.bounds();
         self.pricer.price(alloc, kind, dual)
     }

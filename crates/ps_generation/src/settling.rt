@@ -45,6 +45,7 @@ fn pivoted(kind: ClaimKind, state: &mut State, costs: &Costs) -> Result<Settled,
         &mut state.left,
         &mut state.trace,
     );
+    // Called for its clauses: the table is in the form in which tables are kept.
     let _sound = state.table.rows();
     settled
 }

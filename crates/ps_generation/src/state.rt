@@ -6,8 +6,12 @@ use ps_table::Table;
 /// and how many pivots are left.
 #[derive(Drop)]
 pub struct State {
+    /// The table.
     pub table: Table,
+    /// The worlds of its columns.
     pub pool: Pool,
+    /// The events that were not yet taken.
     pub trace: Trace,
+    /// How many pivots are left.
     pub left: u64,
 }

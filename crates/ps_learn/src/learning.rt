@@ -19,12 +19,15 @@ use ps_pb::{Assignment, Constraint, Effect, Hints, Lits, Step, constraint_at, pr
 use ps_trail::{Entry, Trail};
 use std::alloc::Global;
 
-/// A step, the level to go on from, and the marked variables: those of the conflict and of the
-/// reasons that were gone along.
+/// A step, the level to go on from, and the marked variables: at least those of the false literals
+/// of the conflict and of the reasons that were gone along.
 #[derive(Drop)]
 pub struct Learned {
+    /// The step: the learned clause with its hints.
     pub step: Step,
+    /// The level to go on from.
     pub level: u32,
+    /// Whether each variable is marked.
     pub marks: Vec<bool>,
 }
 

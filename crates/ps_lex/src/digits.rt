@@ -15,7 +15,9 @@ pub const GREAT_VALUE: u32 = GREATEST_DENOMINATOR + 1;
 /// more.
 #[derive(Clone, Copy, Debug, PartialEq, Eq)]
 pub struct Digits {
+    /// How many there are, or `MANY_DIGITS` if that is less.
     pub count: u8,
+    /// Their value, or `GREAT_VALUE` if that is less.
     pub value: u32,
 }
 

@@ -12,14 +12,17 @@ pub enum Mode {
     Between,
     /// Behind a `#`, in its line.
     Comment,
+    /// A letter, with the letters, digits and `_` behind it.
     Word(Word),
     /// Digits without `/` or `.`.
     Whole(Digits),
     /// Digits, and a `/` that belongs to the number only if a digit follows.
     Slash { over: Digits, slash: Position },
+    /// Digits, a `/`, and digits behind it.
     Quotient { over: Digits, under: Digits },
     /// Digits, and a `.` that belongs to the number only if a digit follows.
     Point { whole: Digits, point: Position },
+    /// Digits with a `.` among them, and how many stand behind it, `MANY_DIGITS` for more.
     Decimal { all: Digits, decimals: u8 },
     /// A `-`.
     Minus,

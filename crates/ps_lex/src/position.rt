@@ -5,8 +5,11 @@ ghost use Rattle.ps_lex.specs.Places.{start, behind, along, IsWithin, HasRoom};
 /// A line and a column, both from 1 on, and how many bytes stand before; a column counts bytes.
 #[derive(Clone, Copy, Debug, PartialEq, Eq)]
 pub struct Position {
+    /// The line, from 1 on.
     pub line: u32,
+    /// The column, from 1 on.
     pub column: u32,
+    /// How many bytes stand before.
     pub offset: u32,
 }
 

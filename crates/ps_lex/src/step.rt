@@ -6,7 +6,10 @@ use crate::{Position, Token};
 /// the byte.
 #[derive(Drop)]
 pub struct Step {
+    /// What the byte stands in.
     pub mode: Mode,
+    /// Where the token began that isn't whole.
     pub began: Position,
+    /// The token that ended before the byte, if one did.
     pub ended: Option<Token>,
 }

@@ -8,5 +8,6 @@ pub enum First {
     Reached(Model),
     /// What shows that there is none.
     Nothing(Dual),
+    /// A limit was reached, which the cause tells; nothing is claimed.
     Open(Cause),
 }

@@ -13,8 +13,11 @@ use ps_pb::{Assignment, Lit, WeightedLits};
 /// base plus the weights of the soft literals that are true.
 #[derive(Drop)]
 pub struct Wcnf {
+    /// The clauses that are to be met.
     pub hard: ClauseForm,
+    /// The soft literals, with their weights.
     pub soft: WeightedLits,
+    /// The value of an assignment in which no soft literal is true.
     pub base: i128,
 }
 

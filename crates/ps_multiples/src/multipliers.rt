@@ -70,6 +70,7 @@ pub fn scaled_multipliers(alloc: Global, table: &Table, costs: &Costs) -> Result
     ensures narrow { IfOk result (λ _. IsNarrow (DualPlaces table.now costs.now)) }
     ensures refused { IfErr result (IsRefusedAt (DualPlaces table.now costs.now)) }
 {
+    // Called for its clauses: a table has at most as many rows as it may have.
     let _rows = table.rows();
     let numbers = multipliers(alloc, table, costs)?;
     let multiple = multiple_of(numbers.as_slice())?;

@@ -5,6 +5,8 @@ use ps_io::List;
 /// it.
 #[derive(Drop)]
 pub struct Scaled {
+    /// The common multiple of the denominators.
     pub multiple: u128,
+    /// Each number times the multiple, in order.
     pub numbers: List<i128>,
 }

@@ -18,7 +18,9 @@ use std::alloc::Global;
 /// The weight of each row, and their sum.
 #[derive(Drop)]
 pub struct Weights {
+    /// The sum of the weights.
     pub total: i128,
+    /// The weight of each row, in order.
     pub rows: List<i128>,
 }
 

@@ -16,8 +16,11 @@ pub type Steps = List<Step>;
 /// which they are used.
 #[derive(Drop)]
 pub struct Step {
+    /// The id of the clause.
     pub id: u64,
+    /// The literals of the clause.
     pub lits: Lits,
+    /// The ids of the constraints from which it follows, in the order in which they are used.
     pub hints: Hints,
 }
 

@@ -73,6 +73,7 @@ impl<'p> Pricer<'p> {
           conflicts = conflicts;
         }) }
     {
+        // Called for its clauses: the problem is within the limits, and its numbers are in range.
         let _sound = problem.bound_list();
         let sentences = kept_sentences(alloc, problem.sentences().as_slice(), kept)?;
         Ok(Pricer {
@@ -153,6 +154,8 @@ impl<'p> Pricer<'p> {
         ensures pricing { IfOk result (IsPricing kind self.now dual) }
         ensures printed { IfOk result IsPrintedPricing }
     {
+        // Called for its clauses: the problem of the kept sentences is within the limits, and its
+        // numbers are in range.
         let _sound = self.bounds();
         let wcnf = self.wcnf(alloc, kind, &dual)?;
         let Sought { priced, steps } = seek(alloc, &wcnf, self.conflicts)?;
@@ -160,6 +163,7 @@ impl<'p> Pricer<'p> {
             Priced::NoneAbove { last: _ } => Ok(Pricing::Refuted(refuted(dual, steps))),
             Priced::Spent { learned: _ } => {
                 let goal = from_weights(alloc, wcnf.soft.as_slice(), 1 - wcnf.base)?;
+                // Called for its clauses: each constraint is within the limits of a goal.
                 let _within = is_goal_within(&goal);
                 Ok(Pricing::Spent { goal, steps })
             }

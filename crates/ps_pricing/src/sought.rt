@@ -47,6 +47,7 @@ fn go_through(steps: &[Step])
     ensures { AreOfLiterals steps.now }
 {
     for step in steps {
+        // Called for its clauses: each literal of a step is one of a variable.
         let _within = is_step_within(step);
     }
 }

@@ -6,7 +6,9 @@ use ps_io::List;
 /// same formula and condition.
 #[derive(Clone, Copy, Debug, PartialEq, Eq)]
 pub struct Sentence {
+    /// The one bound, or the lower one of an interval.
     pub first: Bound,
+    /// The upper one of an interval; a single bound has none.
     pub second: Option<Bound>,
 }
 

@@ -118,6 +118,7 @@ pub fn solve(alloc: Global, problem: &Problem, limits: Limits) -> Result<Answer,
     ensures short { IfOk result AreShortLines }
     ensures read_back { IfOk result (IsReadBack limits) }
 {
+    // Called for its clauses: the problem is within the limits, and its numbers are in range.
     let _sound = problem.bound_list();
     let mut run = run_over_all(alloc, problem, None, limits)?;
     let verdict = verdict_of(run.phase_one()?);

@@ -14,7 +14,9 @@ pub type CostList = List<i8>;
 /// The costs of the columns, from -1 to 1.
 #[derive(Drop)]
 pub struct Costs {
+    /// The costs of the homes, by row.
     pub homes: CostList,
+    /// The costs of the worlds, by number.
     pub worlds: CostList,
 }
 

@@ -46,8 +46,12 @@ pub enum Place {
 #[derive(Clone, Copy, PartialEq, Eq, Debug, Drop, Error)]
 #[error("a number of the table is too large")]
 pub struct WideAt {
+    /// Where the operation was refused.
     pub place: Place,
+    /// The operation.
     pub op: Op,
+    /// Its left operand.
     pub left: Fraction,
+    /// Its right operand.
     pub right: Fraction,
 }

@@ -6,8 +6,11 @@ use std::marker::Model;
 /// and its level.
 #[derive(Drop)]
 pub struct Entry {
+    /// The literal.
     pub lit: Lit,
+    /// The id of the constraint that forced it; none where it was decided.
     pub reason: Option<u64>,
+    /// Its level.
     pub level: u32,
 }
 

@@ -189,6 +189,7 @@ pub fn check(alloc: Global, problem: &Problem, answer: &Answer) -> Result<Accept
     ensures judged { IsJudged problem.now answer.now result }
     ensures right { OnOk result (IsRightOf problem.now answer.now) }
 {
+    // Called for its clauses: the problem is within the limits, its numbers in range.
     let _sound = problem.bound_list();
     let queries = asked(problem, &answer.verdict);
     let parts = answer.parts.as_slice();

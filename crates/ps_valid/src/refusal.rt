@@ -20,10 +20,13 @@ pub enum Claim {
     /// That the answer has a part for each query where the problem is consistent, and none
     /// otherwise.
     Report,
+    /// That the sentences are consistent, or that they are inconsistent.
     Verdict,
     /// That the query's evidence is impossible.
     Query { number: u32 },
+    /// That the value of the lower side is the query's tightest lower bound.
     Lower { number: u32 },
+    /// That the value of the upper side is the query's tightest upper bound.
     Upper { number: u32 },
 }
 
@@ -61,7 +64,9 @@ pub enum Reason {
 /// The first claim at fault and the first reason against it.
 #[derive(Clone, Copy, Debug, PartialEq)]
 pub struct Refusal {
+    /// The first claim at fault.
     pub claim: Claim,
+    /// The first reason against it.
     pub reason: Reason,
 }
 

@@ -15,7 +15,9 @@ use std::alloc::Global;
 /// The weight of a world, and the truth of each formula in it.
 #[derive(Drop)]
 pub struct Row {
+    /// The weight of the world.
     pub weight: i128,
+    /// The truth values, by the numbers of the nodes.
     pub values: Vec<bool>,
 }
 

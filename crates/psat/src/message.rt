@@ -15,7 +15,9 @@ use std::alloc::{AllocError, Global};
 /// A text that is to be written, and the status after it.
 #[derive(Drop)]
 pub struct Message {
+    /// What is to be written.
     pub text: String,
+    /// The status after it.
     pub status: Status,
 }
 
