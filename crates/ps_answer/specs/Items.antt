@@ -1,5 +1,5 @@
 -- What the lines of a report say, and their words.
-use Rattle.std.specs.Prelude.{ℕ, ◌-◌, ◌^◌, ◌≡◌, ◌≤◌, ℤ, pos, ◌≤ℤ◌, Bool, true, false, List, [], ◌∷◌, ◌++◌, map, All, length, unsigned_abs, codes, ⊤}
+use Rattle.std.specs.Prelude.{ℕ, ◌-◌, ◌≡◌, ◌≤◌, ℤ, pos, ◌≤ℤ◌, Bool, true, false, List, [], ◌∷◌, ◌++◌, map, All, length, unsigned_abs, codes, ⊤}
 use Rattle.std.specs.Int.{IsGcd}
 use Rattle.ps_steps.specs.Weights.{weighted, are_rising}
 use Rattle.ps_formula.specs.declared.limits.TheConstants.{MOST_ATOMS}

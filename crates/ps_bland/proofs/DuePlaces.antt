@@ -2,16 +2,16 @@
 use Rattle.std.proofs.Common.{ℕ, refl, sym, subst}
 use Rattle.ps_frac.specs.declared.wide.Op.{Op}
 use Rattle.ps_rational.specs.Rational.{Rational}
-use Rattle.ps_rule.specs.Rule.{Phase as RulePhase, First, Second}
+use Rattle.ps_rule.specs.Rule.{Phase as RulePhase}
 use Rattle.ps_table.specs.declared.costs.Costs.{Costs}
 use Rattle.ps_table.specs.declared.place.Place.{Place}
 use Rattle.ps_table.specs.declared.place.WideAt.{WideAt}
-use Rattle.ps_table.specs.Tableau.{Tableau, number_of}
+use Rattle.ps_table.specs.Tableau.{Tableau}
 use Rattle.ps_table.specs.Pricing.{cost_at}
 use Rattle.ps_table.specs.Places.{IsWide, IsWideAt}
 use Rattle.ps_bland.specs.declared.phase.Phase.{Phase}
 use Rattle.ps_bland.specs.Rules.{stage, simplex_of}
-use Rattle.ps_bland.specs.Ends.{IsLeftToRatios, IsDueWide}
+use Rattle.ps_bland.specs.Ends.{IsDueWide}
 use Rattle.ps_bland.specs.Ends.IsDueWide.{at_cost, at_ratio, at_pivot}
 use Rattle.ps_bland.specs.DuePlaces.{DuePlace, of_cost, of_ratio, of_pivot}
 

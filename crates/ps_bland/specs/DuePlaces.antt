@@ -3,7 +3,7 @@ use Rattle.std.specs.Prelude.{◌≡◌, ◌↔◌, ℕ, ◌<◌, false}
 use Rattle.ps_frac.specs.declared.wide.Op.{Op}
 use Rattle.ps_frac.specs.declared.wide.Op.TheVariants.{Div}
 use Rattle.ps_rational.specs.Rational.{Rational}
-use Rattle.ps_rule.specs.Rule.{Phase as RulePhase, First, Second, SimplexTable, Improves, IsDueToEnd, Enters, IsRising, IsArtificialRow, Leaves}
+use Rattle.ps_rule.specs.Rule.{Phase as RulePhase, SimplexTable, Improves, IsDueToEnd, Enters, IsRising, Leaves}
 use Rattle.ps_pool.specs.declared.col.Col.{Col}
 use Rattle.ps_table.specs.declared.costs.Costs.{Costs}
 use Rattle.ps_table.specs.declared.place.Place.{Place}

@@ -1,5 +1,5 @@
 -- The models and duals that certificates hold, as claims speak of them, and how great the numbers of duals may be.
-use Rattle.std.specs.Prelude.{◌≢◌, ℕ, ℤ, ◌≤◌, ◌^◌, List, map, Option, All, unsigned_abs}
+use Rattle.std.specs.Prelude.{◌≢◌, ℕ, ℤ, ◌≤◌, List, map, Option, All, unsigned_abs}
 use Rattle.ps_meaning.specs.Distribution.{Entry}
 use Rattle.ps_problem.specs.Problems.{Parts, bounds_in}
 use Rattle.ps_answer.specs.declared.answer.Weighted.{Weighted}

@@ -1,5 +1,5 @@
 -- Laws of duals, combinations and claims.
-use Rattle.std.specs.Prelude.{◌≡◌, ◌≤◌, ◌^◌, ◌<◌, ◌*ℤ◌, ◌⊎◌, ◌↔◌, ℕ, ℤ, pos, ◌≤ℤ◌, unsigned_abs, Bool, Option, List, length, All}
+use Rattle.std.specs.Prelude.{◌≡◌, ◌≤◌, ◌<◌, ◌*ℤ◌, ◌⊎◌, ◌↔◌, ℕ, ℤ, pos, ◌≤ℤ◌, unsigned_abs, Bool, Option, List, length, All}
 use Rattle.ps_meaning.specs.Formula.{World}
 use Rattle.ps_meaning.specs.declared.side.Side.TheVariants.{AtLeast, AtMost}
 use Rattle.ps_meaning.specs.Bounds.{Bound}

@@ -1,5 +1,5 @@
 -- The limits of goals and steps.
-use Rattle.std.specs.Prelude.{ℕ, ◌≤◌, ◌^◌, All, length}
+use Rattle.std.specs.Prelude.{ℕ, ◌≤◌, All, length}
 use Rattle.ps_steps.specs.Constraints.{Constraint}
 use Rattle.ps_steps.specs.Steps.{Step}
 use Rattle.ps_steps.specs.Weights.{weighted, IsNormal}

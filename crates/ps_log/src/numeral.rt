@@ -1,5 +1,5 @@
 //! Numbers of any size, cut off past every limit.
-ghost use Rattle.std.specs.Prelude.{◌≡◌, ◌≤◌, ◌<◌, ◌↔◌, ◌∷◌, ◌+◌, ◌*◌, ◌^◌, ℕ, List as Bytes, All};
+ghost use Rattle.std.specs.Prelude.{◌≡◌, ◌≤◌, ◌<◌, ◌↔◌, ◌∷◌, ◌+◌, ◌*◌, ℕ, List as Bytes, All};
 ghost use Rattle.std.specs.Prelude.{IfSome, IfNone, IsTrue, length, slice_index};
 ghost use Rattle.std.specs.Char.{digit_value};
 ghost use Rattle.std.specs.Str.Parse.{digits_value};

@@ -1,6 +1,6 @@
 //! The greatest value.
 ghost use Rattle.std.specs.Prelude.{◌≤◌, ◌^◌, ◌<ℤ◌, ◌≤ℤ◌, ◌≡◌, ◌+ℤ◌, ◌-ℤ◌, pos, unsigned_abs};
-ghost use Rattle.std.specs.Prelude.{IsTrue, IfOk, IfErr, OnOk, OnErr, IsErrOf};
+ghost use Rattle.std.specs.Prelude.{IsTrue, IfOk, OnOk, OnErr, IsErrOf};
 ghost use Rattle.ps_sat.specs.Limits.{most_conflicts};
 ghost use Rattle.ps_sat.specs.Errors.{CountsSearchFault};
 ghost use Rattle.ps_sat.specs.Searches.{IsOutcome};

@@ -1,6 +1,5 @@
 //! Whole numbers that are printed, with the place where one is too large.
 ghost use Rattle.std.specs.Prelude.{◌≡◌, ◌<◌, ◌≤◌, ◌+ℤ◌, pos, unsigned_abs, IfOk, IfErr};
-ghost use Rattle.std.specs.Prelude.{◌↔◌, IsTrue};
 ghost use Rattle.std.specs.Int.{◌∣◌};
 ghost use Rattle.std.specs.Option.{SomeIff};
 ghost use Rattle.ps_rational.specs.Gcd.{lcm};

@@ -5,10 +5,9 @@ use Rattle.ps_problem.specs.declared.bound.Bound.{Bound}
 use Rattle.ps_problem.specs.Problems.{Parts}
 use Rattle.ps_rational.specs.Rational.{Rational}
 use Rattle.ps_steps.specs.Steps.{Refutes, AreLawful, ends_in_contradiction, first_refusal}
-use Rattle.std.specs.Prelude.{Some}
 use Rattle.ps_claims.specs.declared.claim_kind.ClaimKind.{ClaimKind}
 use Rattle.ps_claims.specs.Duals.{Dual, HasSign}
-use Rattle.ps_claims.specs.Faults.{start_for, IsFaultless, IsFirstFault, WrongStep, NoContradiction}
+use Rattle.ps_claims.specs.Faults.{start_for, IsFaultless, IsFirstFault}
 use Rattle.ps_claims.specs.Claims.{Fault, DualWrong}
 use Rattle.ps_valid.specs.declared.refusal.Reason.{Reason}
 use Rattle.ps_valid.specs.declared.refusal.Reason.TheVariants.{StepRefused, NotRefuted}
