@@ -21,6 +21,6 @@ pub enum StepRefused {
     #[error("no hint is violated")]
     NoConflict,
     /// There was not enough memory.
-    #[error("out of memory")]
+    #[error("not enough memory")]
     NoMemory,
 }
