@@ -32,18 +32,18 @@ ConstraintsSayClauses = (ns : List Node) (w : List Bool) → MeetsForm w (form_o
 abbrev pub ExtensionsAgree : Type 0
 ExtensionsAgree = (ns : List Node) (world : World) → AreNodes ns → AgreeOnAtoms ns (extension ns world) world
 
--- ---- forms that their atoms settle
--- the form of all nodes is settled by its atoms
-abbrev pub NodesAreSettled : Type 0
-NodesAreSettled = (ns : List Node) → AreNodes ns → AtomsDecide (form_of ns)
+-- ---- forms that their atoms decide
+-- the form of all nodes is decided by its atoms
+abbrev pub AtomsDecideNodes : Type 0
+AtomsDecideNodes = (ns : List Node) → AreNodes ns → AtomsDecide (form_of ns)
 
--- a form without clauses, in which each variable is an atom's, is settled by its atoms
-abbrev pub AtomsAreSettled : Type 0
-AtomsAreSettled = (variables : ℕ) → AtomsDecide (empty_form variables)
+-- a form without clauses, in which each variable is an atom's, is decided by its atoms
+abbrev pub AtomsDecideEmptyForms : Type 0
+AtomsDecideEmptyForms = (variables : ℕ) → AtomsDecide (empty_form variables)
 
--- a form that its atoms settle is settled with one more clause too
-abbrev pub SettledStay : Type 0
-SettledStay = (f : Form) (c : Constraint) → AtomsDecide f → AtomsDecide (with_clause f c)
+-- a form that its atoms decide is decided by them with one more clause too
+abbrev pub DecidingStays : Type 0
+DecidingStays = (f : Form) (c : Constraint) → AtomsDecide f → AtomsDecide (with_clause f c)
 
 -- a constraint is idle exactly where it is neither violated nor forces a literal
 abbrev pub IdleForceNothing : Type 0

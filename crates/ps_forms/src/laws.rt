@@ -1,7 +1,7 @@
 //! Laws about the definitions: a call does nothing, and its clauses are the law.
 ghost use Rattle.ps_forms.specs.Laws.{ClausesSayExtensions, ClausesSayWorlds};
 ghost use Rattle.ps_forms.specs.Laws.{ConstraintsSayClauses, ExtensionsAgree};
-ghost use Rattle.ps_forms.specs.Laws.{NodesAreSettled, AtomsAreSettled, SettledStay};
+ghost use Rattle.ps_forms.specs.Laws.{AtomsDecideNodes, AtomsDecideEmptyForms, DecidingStays};
 ghost use Rattle.ps_forms.specs.Laws.{IdleForceNothing, AllSetAreFull};
 ghost use Rattle.ps_forms.specs.Laws.{WorldsHaveAtoms, ExtendedComeBack};
 ghost use Rattle.ps_forms.specs.Laws.{NodesHaveClauses, OneMoreClause, ClausesAreInside};
@@ -20,9 +20,9 @@ pub fn clauses_say_what_nodes_mean()
 /// variable has a value: in the form of nodes, in one without clauses in which all variables are
 /// atoms', and in one with a clause more.
 pub fn atoms_settle_forms()
-    ensures nodes { NodesAreSettled }
-    ensures none { AtomsAreSettled }
-    ensures more { SettledStay }
+    ensures nodes { AtomsDecideNodes }
+    ensures none { AtomsDecideEmptyForms }
+    ensures more { DecidingStays }
     ensures idle { IdleForceNothing }
     ensures full { AllSetAreFull }
 {}

@@ -30,7 +30,7 @@ use Rattle.ps_pricing.specs.Pricings.{IsFound, IsRefuted, IsSpent}
 use Rattle.ps_generation.specs.declared.state.State.{State}
 use Rattle.ps_generation.specs.declared.end.End.TheVariants.{NoneAbove, Open}
 use Rattle.ps_generation.specs.Phases.{LimitedSubject, stage_of, IsInPhase, IsEnd}
-use Rattle.ps_generation.specs.Rounds.{asked_of, IsAtRest, IsPricedIn}
+use Rattle.ps_generation.specs.Rounds.{pricing_subject_of, IsAtRest, IsPricedIn}
 use Rattle.ps_generation.proofs.Coming.{come_none}
 
 module _ (kind : ClaimKind) (r : LimitedSubject) (costs : Costs) (old : State) (phase : IsInPhase kind r.subject costs old) (rests : IsAtRest kind r.subject old) where
@@ -54,7 +54,7 @@ module _ (kind : ClaimKind) (r : LimitedSubject) (costs : Costs) (old : State) (
     same_at : HaveSameNumbers (dual_of d) (dual_at kind r.subject (stage_of old) (entry_at old.table))
     same_at = dual_of_stage r.subject old.pool old.table phase.table kind costs (dual_of d) phase.costs_are same
 
-    pub found_priced : (w : World) → IsFound kind (asked_of r) d w → IsPricedIn kind r old w
+    pub found_priced : (w : World) → IsFound kind (pricing_subject_of r) d w → IsPricedIn kind r old w
     found_priced w found =
         elim found.greatest as (λ _. IsPricedIn kind r old w) [
           | inl most ↦ priced_greatest kind r.subject r.limits.conflicts (stage_of old) (entry_at old.table) (dual_of d) same_at are asked rests w found.sized found.above most.at
@@ -76,7 +76,7 @@ module _ (kind : ClaimKind) (r : LimitedSubject) (costs : Costs) (old : State) (
       },
     )
 
-    pub spent_end : (goal : Constraint) (steps : List Step) → IsSpent kind (asked_of r) d goal steps → IsEnd kind r old old (Open (Conflicts r.limits.conflicts goal steps))
+    pub spent_end : (goal : Constraint) (steps : List Step) → IsSpent kind (pricing_subject_of r) d goal steps → IsEnd kind r old old (Open (Conflicts r.limits.conflicts goal steps))
     spent_end goal steps spent = record {
       come = come_none kind r costs old phase;
       licensed =

@@ -16,8 +16,8 @@ use Rattle.ps_generation.specs.declared.end.End.{End}
 use Rattle.ps_generation.specs.Phases.{LimitedSubject, stage_of, HasCome, IsEnd}
 
 -- what duals are priced over
-abbrev pub asked_of : LimitedSubject → PricingSubject
-asked_of r = record { subject = r.subject; conflicts = r.limits.conflicts }
+abbrev pub pricing_subject_of : LimitedSubject → PricingSubject
+pricing_subject_of r = record { subject = r.subject; conflicts = r.limits.conflicts }
 
 -- the column of a world and its cost
 pub record IsColumnOf (kind : ClaimKind) (s : Subject) (w : World) (c : Column) : Type 0 where

@@ -15,7 +15,7 @@ ghost use Rattle.ps_phases.specs.Tables.{IsRunTable, costs_for};
 ghost use Rattle.ps_pricing.specs.Pricings.{IsDualFor, IsPricing, IsPrintedPricing};
 ghost use Rattle.ps_printed.specs.Printed.{IsPrintedDual};
 ghost use Rattle.ps_generation.specs.Phases.{AreLimits, IsNewState, IsSpread, limited};
-ghost use Rattle.ps_generation.specs.Rounds.{IsColumnOf, asked_of};
+ghost use Rattle.ps_generation.specs.Rounds.{IsColumnOf, pricing_subject_of};
 
 use crate::column::Column;
 use crate::limits::Limits;
@@ -180,7 +180,7 @@ impl<'p> Setting<'p> {
         requires asked { IsAsked kind self.now.subject.parts self.now.subject.query }
         requires dual { IsDualFor self.now.subject.parts dual }
         ensures parts { AreParts self.now.subject.parts }
-        ensures pricing { IfOk result (IsPricing kind (asked_of self.now) dual) }
+        ensures pricing { IfOk result (IsPricing kind (pricing_subject_of self.now) dual) }
         ensures printed { IfOk result IsPrintedPricing }
     {
         // Called for its clauses: the problem of the kept sentences is within the limits, and its

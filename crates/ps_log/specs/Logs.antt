@@ -31,15 +31,15 @@ abbrev pub Stays : Telling → Telling → Type 0
 Stays old new = IsTrue old.tells → IsTrue new.tells × (new.goal ≡ old.goal) × (new.steps ≡ old.steps)
 
 -- of the reasons why a log refuses, a fault alone raises the count
-abbrev pub FaultAlone : LogError → ℕ → ℕ → Type 0
-FaultAlone Fault old new = new ≡ next_count old
-FaultAlone NoMemory old new = new ≡ old
+abbrev pub LogFaultAlone : LogError → ℕ → ℕ → Type 0
+LogFaultAlone Fault old new = new ≡ next_count old
+LogFaultAlone NoMemory old new = new ≡ old
 
 -- the count never falls; a fault of the log raises it by one, and every other answer leaves it as it was
 pub record CountsLogFault {T : Type 0} (result : Result T LogError) (old new : ℕ) : Type 0 where
   pub later : old ≤ new
   pub ok : OnOk result (new ≡ old)
-  pub err : IfErr result (λ e. FaultAlone e old new)
+  pub err : IfErr result (λ e. LogFaultAlone e old new)
 
 -- want of memory comes only where memory is taken, and more can be handed over after it
 abbrev pub OnNoMemory : Result (Unit {0}) LogError → Bool → Bool → Type 0

@@ -16,7 +16,7 @@ use Rattle.ps_problem.specs.Numbering.{same_name, same_formula, place_in, names_
 use Rattle.ps_problem.specs.declared.excess.Excess.TheVariants.{Atoms}
 use Rattle.ps_problem.specs.Counts.{with_formulas}
 use Rattle.ps_problem.specs.Numbering.{AreOnce}
-use Rattle.ps_problem.specs.Numbered.{HasOperands, Built, IsAdded, GivesNumber, IsFaultOf}
+use Rattle.ps_problem.specs.Numbered.{AreOperandsAmong, Built, IsAdded, GivesNumber, IsFaultOf}
 use Rattle.ps_problem.specs.Problems.{name_at}
 use Rattle.ps_problem.proofs.NameLists.{same_name-true, same_name-refl}
 use Rattle.ps_problem.proofs.Lists.{place-absent, place-below, place-new, any-new}
@@ -127,7 +127,7 @@ module _ (names : List Name) (atoms : List ℕ) (nodes : List Node) (h : Built n
         ∙ sym (place-new same_name same_name-true same_name-refl (names_among h.formulas) (name_at names k) absent-name)
         ∙ ap (λ ns. place_in same_name ns (name_at names k)) (sym names-new))
 
-    ready-new : HasOperands (h.formulas ++ Atom (name_at names k) ∷ []) (Atom (name_at names k))
+    ready-new : AreOperandsAmong (h.formulas ++ Atom (name_at names k) ∷ []) (Atom (name_at names k))
     ready-new = rw names-new (any-new same_name same_name-true same_name-refl (names_among h.formulas) (name_at names k))
 
     -- no node has the number of the next atom
@@ -142,7 +142,7 @@ module _ (names : List Name) (atoms : List ℕ) (nodes : List Node) (h : Built n
         ∙ ap (λ ns. get_or ns j (node.Atom (place_in nat_eq atoms k))) (sym h.nodes_are) ∙ c.2 in
         never (get_or h.formulas j (Atom (name_at names k))) (h.ready j (Atom (name_at names k)) l) at
       where
-        never : (f : Formula Name) → HasOperands h.formulas f → node_in h.formulas f ≡ node.Atom (place_in nat_eq atoms k) → ⊥
+        never : (f : Formula Name) → AreOperandsAmong h.formulas f → node_in h.formulas f ≡ node.Atom (place_in nat_eq atoms k) → ⊥
         never (Atom b) r e =
             let lt : place_in same_name (names_among h.formulas) b < length (names_among h.formulas) = place-below same_name (names_among h.formulas) b r in
             let p : place_in same_name (names_among h.formulas) b ≡ place_in nat_eq atoms k = cc in

@@ -18,7 +18,7 @@ use Rattle.ps_problem.specs.Problems.{parts_of, bounds_in}
 use Rattle.ps_problem.specs.Numbering.{AreOnce, same_name, names_among, sentence_in, query_in, numbered_for, problem_of, formulas_of, node_in}
 use Rattle.ps_problem.specs.declared.excess.Excess.TheVariants.{Bounds, Queries}
 use Rattle.ps_problem.specs.Counts.{count_bounds, with_formulas, at_item, with_statements, with_questions, after, counted}
-use Rattle.ps_problem.specs.Numbered.{HasOperands, HasQuestion, GivesQuery, IsFaultOf}
+use Rattle.ps_problem.specs.Numbered.{AreOperandsAmong, HasQuestion, GivesQuery, IsFaultOf}
 use Rattle.ps_problem.specs.Problems.{name_at}
 use Rattle.ps_problem.specs.Making.{HasItems, SentencesMade, QueriesMade, IsExcess, question_on}
 use Rattle.ps_problem.proofs.Turns.{with-more}
@@ -154,7 +154,7 @@ module _ (d : Drafted) where
       different = once;
       atoms_are = refl;
       nodes_are = refl;
-      ready = All-nil (HasOperands []);
+      ready = All-nil (AreOperandsAmong []);
       once = λ k e lt. absurd (omega arith);
       within = All-nil (λ a. a < length d.names);
       few_atoms = omega arith;

@@ -5,7 +5,7 @@ use Rattle.ps_meaning.specs.Formula.{Formula, Truth, Falsity, Atom, Not, And, Or
 use Rattle.ps_meaning.specs.Statements.{Name}
 use Rattle.ps_formula.specs.declared.node.Node.TheVariants as node
 use Rattle.ps_problem.specs.Numbering.{same_name, same_formula, place_in, names_among, node_in}
-use Rattle.ps_problem.specs.Numbered.{IsAmong, HasOperands}
+use Rattle.ps_problem.specs.Numbered.{IsAmong, AreOperandsAmong}
 use Rattle.ps_problem.proofs.NameLists.{same_name-true, same_name-refl}
 use Rattle.ps_problem.proofs.Lists.{and-true, any-append, place-append, place-same}
 
@@ -48,7 +48,7 @@ module _ (fs more : List (Formula Name)) where
   pub among-more : (f : Formula Name) → IsAmong fs f → IsAmong (fs ++ more) f
   among-more f h = any-append same_formula fs more f h
 
-  pub ready-more : (f : Formula Name) → HasOperands fs f → HasOperands (fs ++ more) f
+  pub ready-more : (f : Formula Name) → AreOperandsAmong fs f → AreOperandsAmong (fs ++ more) f
   ready-more Truth h = tt
   ready-more Falsity h = tt
   ready-more (Atom a) h = rw (names-append fs more) (any-append same_name (names_among fs) (names_among more) a h)
@@ -61,7 +61,7 @@ module _ (fs more : List (Formula Name)) where
   pub place-more : (f : Formula Name) → IsAmong fs f → place_in same_formula (fs ++ more) f ≡ place_in same_formula fs f
   place-more f h = place-append same_formula fs more f h
 
-  pub node-more : (f : Formula Name) → HasOperands fs f → node_in (fs ++ more) f ≡ node_in fs f
+  pub node-more : (f : Formula Name) → AreOperandsAmong fs f → node_in (fs ++ more) f ≡ node_in fs f
   node-more Truth h = refl
   node-more Falsity h = refl
   node-more (Atom a) h = ap node.Atom (ap (λ ns. place_in same_name ns a) (names-append fs more) ∙ place-append same_name (names_among fs) (names_among more) a h)
@@ -76,7 +76,7 @@ module _ (fs : List (Formula Name)) where
   at-same = place-same same_formula same-true same-refl fs
 
   -- formulas with one node are one formula
-  pub node-same : (f g : Formula Name) → HasOperands fs f → HasOperands fs g → node_in fs f ≡ node_in fs g → f ≡ g
+  pub node-same : (f g : Formula Name) → AreOperandsAmong fs f → AreOperandsAmong fs g → node_in fs f ≡ node_in fs g → f ≡ g
   node-same Truth Truth h k e = refl
   node-same Falsity Falsity h k e = refl
   node-same (Atom a) (Atom b) h k e = ap Atom (place-same same_name same_name-true same_name-refl (names_among fs) a b h k (cc))

@@ -11,7 +11,7 @@ use Rattle.ps_problem.specs.declared.mark.Mark.TheVariants as mark
 use Rattle.ps_problem.specs.Numbering.{same_formula, place_in, node_in}
 use Rattle.ps_problem.specs.Drafts.{arity, from_top, made_by, marked}
 use Rattle.ps_problem.specs.DraftLists.{open_after, HaveOperands}
-use Rattle.ps_problem.specs.Numbered.{IsAmong, HasOperands, IsStack, operand, node_over, tops}
+use Rattle.ps_problem.specs.Numbered.{IsAmong, AreOperandsAmong, IsStack, operand, node_over, tops}
 use Rattle.ps_problem.proofs.Lists.{place-below}
 use Rattle.ps_problem.proofs.Nodes.{among-more, place-more}
 use Rattle.ps_problem.proofs.Postfix.{map-same}
@@ -33,7 +33,7 @@ module _ (fs ss : List (Formula Name)) (ps : List ℕ) (s : IsStack fs ss ps) wh
       ∙ get_or-map (place_in same_formula fs) ss (length ss - k) Truth
 
   module _ (names : List Name) where
-    pub operator-ready : (m : Mark) → ((n : ℕ) → m ≡ mark.Name n → ⊥) → arity m ≤ length ps → HasOperands fs (made_by names ss m)
+    pub operator-ready : (m : Mark) → ((n : ℕ) → m ≡ mark.Name n → ⊥) → arity m ≤ length ps → AreOperandsAmong fs (made_by names ss m)
     operator-ready mark.True not le = tt
     operator-ready mark.False not le = tt
     operator-ready (mark.Name n) not le = absurd (not n refl)

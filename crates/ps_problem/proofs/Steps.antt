@@ -16,7 +16,7 @@ use Rattle.ps_problem.specs.Numbering.{same_formula, place_in, names_among, node
 use Rattle.ps_problem.specs.declared.excess.Excess.TheVariants.{Atoms, Nodes}
 use Rattle.ps_problem.specs.Counts.{is_atom, with_formulas}
 use Rattle.ps_problem.specs.Numbering.{AreOnce}
-use Rattle.ps_problem.specs.Numbered.{IsAmong, HasOperands, Built, IsAdded, GivesNumber}
+use Rattle.ps_problem.specs.Numbered.{IsAmong, AreOperandsAmong, Built, IsAdded, GivesNumber}
 use Rattle.ps_problem.specs.Problems.{name_at}
 use Rattle.ps_problem.proofs.Lists.{any-self, place-get, place-below, once-push, any-new}
 use Rattle.ps_problem.proofs.Nodes.{same-true, same-refl, names-append, atom-among, ready-more, node-more, node-same}
@@ -39,7 +39,7 @@ module _ (fs : List (Formula Name)) (g : Formula Name) where
   expected-atoms e a = rw (e, a) refl
 
   -- a node that stands there is that of a formula that stands there
-  pub among-from : All (HasOperands fs) fs → HasOperands fs g → Contains (map (node_in fs) fs) (node_in fs g) → IsAmong fs g
+  pub among-from : All (AreOperandsAmong fs) fs → AreOperandsAmong fs g → Contains (map (node_in fs) fs) (node_in fs g) → IsAmong fs g
   among-from ready r c =
       let k = c.0 in
       let lt : k < length fs = omega (arith, c.1, length-map fs (node_in fs)) in
@@ -55,7 +55,7 @@ module _ (fs : List (Formula Name)) (g : Formula Name) where
       (i, omega (arith, length-map fs (node_in fs)), get_or-map (node_in fs) fs i g ∙ ap (node_in fs) (place-get same_formula same-true same-refl fs g g a))
 
   -- the number of a formula's node is its place
-  pub number-is : All (HasOperands fs) fs → AreOnce same_formula fs → HasOperands fs g → (i : ℕ) → slice_get (map (node_in fs) fs) i ≡ Some (node_in fs g) → i ≡ place_in same_formula fs g
+  pub number-is : All (AreOperandsAmong fs) fs → AreOnce same_formula fs → AreOperandsAmong fs g → (i : ℕ) → slice_get (map (node_in fs) fs) i ≡ Some (node_in fs g) → i ≡ place_in same_formula fs g
   number-is ready once r i at =
       let lt : i < length fs = omega (arith, slice_get_within (map (node_in fs) fs) i (node_in fs g) at, length-map fs (node_in fs)) in
       let e : node_in fs (get_or fs i g) ≡ node_in fs g = sym (get_or-map (node_in fs) fs i g) ∙ get_or_from_slice_get (map (node_in fs) fs) i (node_in fs g) (node_in fs g) at in
@@ -67,7 +67,7 @@ module _ (names : List Name) (atoms : List ℕ) (nodes : List Node) (h : Built n
   length-nodes = ap length h.nodes_are ∙ length-map h.formulas (node_in h.formulas)
 
   -- a formula that is new is numbered last
-  abbrev pub extended : (atoms' : List ℕ) → list_any (same_formula g) h.formulas ≡ false → HasOperands (h.formulas ++ g ∷ []) g
+  abbrev pub extended : (atoms' : List ℕ) → list_any (same_formula g) h.formulas ≡ false → AreOperandsAmong (h.formulas ++ g ∷ []) g
       → map (name_at names) atoms' ≡ names_among (h.formulas ++ g ∷ []) → All (λ a. a < length names) atoms' → length atoms' ≤ 128 → length h.formulas < 1024
       → Built names atoms' (nodes ++ node_in (h.formulas ++ g ∷ []) g ∷ [])
   extended atoms' new ready atoms_are within few_atoms few = record {
@@ -76,10 +76,10 @@ module _ (names : List Name) (atoms : List ℕ) (nodes : List Node) (h : Built n
     atoms_are = atoms_are;
     nodes_are = ap (λ ns. ns ++ node_in (h.formulas ++ g ∷ []) g ∷ []) (h.nodes_are
         ∙ sym (map-same (node_in (h.formulas ++ g ∷ [])) (node_in h.formulas) h.formulas
-        (All-weaker (HasOperands h.formulas) (λ f. node_in (h.formulas ++ g ∷ []) f ≡ node_in h.formulas f) (λ f r. node-more h.formulas (g ∷ []) f r) h.formulas h.ready)))
+        (All-weaker (AreOperandsAmong h.formulas) (λ f. node_in (h.formulas ++ g ∷ []) f ≡ node_in h.formulas f) (λ f r. node-more h.formulas (g ∷ []) f r) h.formulas h.ready)))
         ∙ sym (map-append (node_in (h.formulas ++ g ∷ [])) h.formulas (g ∷ []));
-    ready = All-push (HasOperands (h.formulas ++ g ∷ [])) h.formulas g
-        (All-weaker (HasOperands h.formulas) (HasOperands (h.formulas ++ g ∷ [])) (λ f r. ready-more h.formulas (g ∷ []) f r) h.formulas h.ready) ready;
+    ready = All-push (AreOperandsAmong (h.formulas ++ g ∷ [])) h.formulas g
+        (All-weaker (AreOperandsAmong h.formulas) (AreOperandsAmong (h.formulas ++ g ∷ [])) (λ f r. ready-more h.formulas (g ∷ []) f r) h.formulas h.ready) ready;
     once = once-push same_formula same-true same-refl h.formulas g new h.once;
     within = within;
     few_atoms = few_atoms;
@@ -100,7 +100,7 @@ module _ (names : List Name) (atoms : List ℕ) (nodes : List Node) (h : Built n
   }
 
   -- where a formula was numbered last, that is what was expected
-  pub follows-new : (new : List Node) (i : ℕ) → list_any (same_formula g) h.formulas ≡ false → HasOperands (h.formulas ++ g ∷ []) g
+  pub follows-new : (new : List Node) (i : ℕ) → list_any (same_formula g) h.formulas ≡ false → AreOperandsAmong (h.formulas ++ g ∷ []) g
       → (atoms' : List ℕ) → map (name_at names) atoms' ≡ names_among (h.formulas ++ g ∷ []) → All (λ a. a < length names) atoms' → length atoms' ≤ 128 → length h.formulas < 1024
       → new ≡ nodes ++ node_in (h.formulas ++ g ∷ []) g ∷ [] → slice_get new i ≡ Some (node_in (h.formulas ++ g ∷ []) g)
       → with_formulas h.formulas (g ∷ []) ≡ Ok (h.formulas ++ g ∷ []) → GivesNumber names (with_formulas h.formulas (g ∷ [])) g atoms' new (Ok i)
@@ -116,22 +116,22 @@ module _ (names : List Name) (atoms : List ℕ) (nodes : List Node) (h : Built n
         ),
       )
 
-  not-atom : list_any (same_formula g) h.formulas ≡ false → HasOperands h.formulas g → (is_atom g && nat_le 128 (length (names_among h.formulas))) ≡ false
+  not-atom : list_any (same_formula g) h.formulas ≡ false → AreOperandsAmong h.formulas g → (is_atom g && nat_le 128 (length (names_among h.formulas))) ≡ false
   not-atom = absent g
     where
-      absent : (f : Formula Name) → list_any (same_formula f) h.formulas ≡ false → HasOperands h.formulas f → (is_atom f && nat_le 128 (length (names_among h.formulas))) ≡ false
+      absent : (f : Formula Name) → list_any (same_formula f) h.formulas ≡ false → AreOperandsAmong h.formulas f → (is_atom f && nat_le 128 (length (names_among h.formulas))) ≡ false
       absent (Atom a) e r = absurd (true≢false (sym r ∙ sym (atom-among h.formulas a) ∙ e))
       absent f e r = refl
 
-  names-kept : list_any (same_formula g) h.formulas ≡ false → HasOperands h.formulas g → map (name_at names) atoms ≡ names_among (h.formulas ++ g ∷ [])
+  names-kept : list_any (same_formula g) h.formulas ≡ false → AreOperandsAmong h.formulas g → map (name_at names) atoms ≡ names_among (h.formulas ++ g ∷ [])
   names-kept e r = h.atoms_are ∙ sym (append-nil (names_among h.formulas)) ∙ ap (λ ns. names_among h.formulas ++ ns) (sym (none g e r)) ∙ sym (names-append h.formulas (g ∷ []))
     where
-      none : (f : Formula Name) → list_any (same_formula f) h.formulas ≡ false → HasOperands h.formulas f → names_among (f ∷ []) ≡ []
+      none : (f : Formula Name) → list_any (same_formula f) h.formulas ≡ false → AreOperandsAmong h.formulas f → names_among (f ∷ []) ≡ []
       none (Atom a) e r = absurd (true≢false (sym r ∙ sym (atom-among h.formulas a) ∙ e))
       none f e r = refl
 
   -- a formula that is numbered, or whose operands are
-  pub step-known : HasOperands h.formulas g → (n : Node) → n ≡ node_in h.formulas g → (new : List Node) (result : Result ℕ Fault) → IsAdded nodes n new result
+  pub step-known : AreOperandsAmong h.formulas g → (n : Node) → n ≡ node_in h.formulas g → (new : List Node) (result : Result ℕ Fault) → IsAdded nodes n new result
       → GivesNumber names (with_formulas h.formulas (g ∷ [])) g atoms new result
   step-known r n e new (Err fault.NoMemory) added = tt
   step-known r n e new (Err (fault.TooMany excess.Atoms)) added = absurd added

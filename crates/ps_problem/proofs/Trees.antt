@@ -9,7 +9,7 @@ use Rattle.ps_formula.specs.Nodes.{tree_over, trees_from, trees, Fits, AreNodes,
 use Rattle.ps_formula.specs.declared.node.Node.{Node}
 use Rattle.ps_problem.specs.Problems.{tree_at}
 use Rattle.ps_problem.specs.Numbering.{AreOnce, same_name, same_formula, place_in, names_among, node_in, numbered}
-use Rattle.ps_problem.specs.Numbered.{IsAmong, HasOperands}
+use Rattle.ps_problem.specs.Numbered.{IsAmong, AreOperandsAmong}
 use Rattle.ps_problem.proofs.Lists.{place-append, place-below, place-get, any-self}
 use Rattle.ps_problem.proofs.Nodes.{same-true, same-refl, atom-among, among-more, place-more, node-same}
 
@@ -67,7 +67,7 @@ module _ (fs : List (Formula Name)) where
 
 -- where operands stand before, they stand among all
 module _ (ms rest : List (Formula Name)) where
-  ready-led : (g : Formula Name) → Leads ms g → IsAmong (ms ++ rest) g → HasOperands (ms ++ rest) g
+  ready-led : (g : Formula Name) → Leads ms g → IsAmong (ms ++ rest) g → AreOperandsAmong (ms ++ rest) g
   ready-led Truth l a = tt
   ready-led Falsity l a = tt
   ready-led (Atom n) l a = sym (atom-among (ms ++ rest) n) ∙ a
@@ -104,8 +104,8 @@ module _ (fs : List (Formula Name)) (led : AreLed [] fs) where
   among-at : (i : ℕ) (d : Formula Name) → i < length fs → IsAmong fs (get_or fs i d)
   among-at i d lt = any-self same_formula same-true same-refl fs i d lt
 
-  pub are-ready : All (HasOperands fs) fs
-  are-ready i d lt = subst (λ xs. HasOperands xs (get_or fs i d)) (take-append-drop i fs)
+  pub are-ready : All (AreOperandsAmong fs) fs
+  are-ready i d lt = subst (λ xs. AreOperandsAmong xs (get_or fs i d)) (take-append-drop i fs)
       (ready-led (take i fs) (drop i fs) (get_or fs i d) (led-at [] fs led i d lt)
       (subst (λ xs. IsAmong xs (get_or fs i d)) (sym (take-append-drop i fs)) (among-at i d lt)))
 
@@ -134,7 +134,7 @@ module _ (fs : List (Formula Name)) (led : AreLed [] fs) where
         omega arith;
   }
 
-  below-of : (f : Formula Name) → HasOperands fs f → AtomBelow (length (names_among fs)) (node_in fs f)
+  below-of : (f : Formula Name) → AreOperandsAmong fs f → AtomBelow (length (names_among fs)) (node_in fs f)
   below-of Truth r = tt
   below-of Falsity r = tt
   below-of (Atom a) r = place-below same_name (names_among fs) a r

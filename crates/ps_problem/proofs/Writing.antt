@@ -7,7 +7,7 @@ use Rattle.ps_meaning.specs.declared.side.Side.TheVariants as side
 use Rattle.ps_meaning.specs.Statements.{Name, Ratio, Statement, Question, Item, statements_of, questions_of}
 use Rattle.ps_problem.specs.Problems.{Parts, tree_at}
 use Rattle.ps_problem.specs.Numbering.{same_name, same_formula, place_in, different, names_among, node_in, bound_in, sentence_in, query_in, numbered_in_statements, numbered_in_questions, formulas_of, problem_of, numbered}
-use Rattle.ps_problem.specs.Numbered.{IsAmong, HasOperands, HasQuestion}
+use Rattle.ps_problem.specs.Numbered.{IsAmong, AreOperandsAmong, HasQuestion}
 use Rattle.ps_problem.specs.Problems.{name_at}
 use Rattle.ps_problem.specs.Making.{question_on as question}
 use Rattle.ps_problem.specs.Written.{named_at, ratio_at, statement_from, question_from, listed, items_from}
@@ -22,8 +22,8 @@ upper-back fs s None = refl
 upper-back fs s (Some r) = refl
 
 module _ (fs : List (Formula Name)) (o : Ordered fs) where
-  pub ready : (f : Formula Name) → IsAmong fs f → HasOperands fs f
-  ready f a = subst (HasOperands fs) (place-get same_formula same-true same-refl fs f Truth a) (are-ready fs o.led (place_in same_formula fs f) Truth (place-below same_formula fs f a))
+  pub ready : (f : Formula Name) → IsAmong fs f → AreOperandsAmong fs f
+  ready f a = subst (AreOperandsAmong fs) (place-get same_formula same-true same-refl fs f Truth a) (are-ready fs o.led (place_in same_formula fs f) Truth (place-below same_formula fs f a))
 
   -- numbers replaced by names again
   names-back : (f : Formula Name) → IsAmong fs f → with_atoms (name_at (names_among fs)) (numbered (names_among fs) f) ≡ f

@@ -1,5 +1,5 @@
 -- Formulas of a draft as far as they are numbered.
-use Rattle.std.specs.Prelude.{◌≡◌, ◌≤◌, ◌<◌, ◌-◌, ℕ, true, List, [], ◌∷◌, ◌++◌, Option, Some, None, Result, Ok, Err, length, map, take, drop, All, Contains, IfSome, slice_index_or}
+use Rattle.std.specs.Prelude.{◌≡◌, ◌≤◌, ◌<◌, ◌-◌, ℕ, true, List, [], ◌∷◌, ◌++◌, Option, Result, Ok, Err, length, map, take, drop, All, Contains, IfSome, slice_index_or}
 use Rattle.std.specs.List.{list_any}
 use Rattle.ps_meaning.specs.Formula.{Formula, subformulas}
 use Rattle.ps_meaning.specs.Formula as formula
@@ -27,15 +27,15 @@ abbrev pub IsAmong : List (Formula Name) → Formula Name → Type 0
 IsAmong fs f = list_any (same_formula f) fs ≡ true
 
 -- a formula's operands are among some formulas, and an atom's name among theirs
-abbrev pub HasOperands : List (Formula Name) → Formula Name → Type 0
-HasOperands fs formula.Truth = Unit {0}
-HasOperands fs formula.Falsity = Unit {0}
-HasOperands fs (formula.Atom a) = list_any (same_name a) (names_among fs) ≡ true
-HasOperands fs (formula.Not f) = IsAmong fs f
-HasOperands fs (formula.And f g) = IsAmong fs f × IsAmong fs g
-HasOperands fs (formula.Or f g) = IsAmong fs f × IsAmong fs g
-HasOperands fs (formula.Implies f g) = IsAmong fs f × IsAmong fs g
-HasOperands fs (formula.Iff f g) = IsAmong fs f × IsAmong fs g
+abbrev pub AreOperandsAmong : List (Formula Name) → Formula Name → Type 0
+AreOperandsAmong fs formula.Truth = Unit {0}
+AreOperandsAmong fs formula.Falsity = Unit {0}
+AreOperandsAmong fs (formula.Atom a) = list_any (same_name a) (names_among fs) ≡ true
+AreOperandsAmong fs (formula.Not f) = IsAmong fs f
+AreOperandsAmong fs (formula.And f g) = IsAmong fs f × IsAmong fs g
+AreOperandsAmong fs (formula.Or f g) = IsAmong fs f × IsAmong fs g
+AreOperandsAmong fs (formula.Implies f g) = IsAmong fs f × IsAmong fs g
+AreOperandsAmong fs (formula.Iff f g) = IsAmong fs f × IsAmong fs g
 
 -- some formulas whose atoms' names have these numbers among all names, and whose nodes are these
 pub record Built (names : List Name) (atoms : List ℕ) (nodes : List Node) : Type 0 where
@@ -43,7 +43,7 @@ pub record Built (names : List Name) (atoms : List ℕ) (nodes : List Node) : Ty
   pub different : AreOnce same_name names
   pub atoms_are : map (name_at names) atoms ≡ names_among formulas
   pub nodes_are : nodes ≡ map (node_in formulas) formulas
-  pub ready : All (HasOperands formulas) formulas
+  pub ready : All (AreOperandsAmong formulas) formulas
   pub once : AreOnce same_formula formulas
   pub within : All (λ a. a < length names) atoms
   pub few_atoms : length atoms ≤ MOST_ATOMS

@@ -26,7 +26,7 @@ pub use draft::Draft;
 pub use excess::Excess;
 pub use laws::{canonical_text_is_reread, numbering_keeps_meaning};
 pub use limits::{
-    MOST_BOUNDS, MOST_DENOMINATOR, MOST_DRAFTED, MOST_ENTRY, MOST_NESTING, MOST_QUERIES,
+    MOST_BOUNDS, MOST_DENOMINATOR, MOST_DRAFTED, MOST_NESTING, MOST_QUERIES, MOST_ROW_VALUE,
     limits_have_these_numbers,
 };
 pub use mark::Mark;

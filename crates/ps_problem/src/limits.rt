@@ -2,7 +2,7 @@
 ghost use Rattle.std.specs.Prelude.{◌≡◌, ◌-◌, ◌^◌};
 ghost use Rattle.ps_problem.specs.declared.limits.TheConstants.{MOST_BOUNDS, MOST_QUERIES};
 ghost use Rattle.ps_problem.specs.declared.limits.TheConstants.{MOST_NESTING, MOST_DENOMINATOR};
-ghost use Rattle.ps_problem.specs.declared.limits.TheConstants.{MOST_DRAFTED, MOST_ENTRY};
+ghost use Rattle.ps_problem.specs.declared.limits.TheConstants.{MOST_DRAFTED, MOST_ROW_VALUE};
 
 /// The most bounds; an interval has two.
 pub const MOST_BOUNDS: usize = 100;
@@ -15,7 +15,7 @@ pub const MOST_DENOMINATOR: usize = 1_000_000;
 /// The most names, formulas and items of a draft.
 pub const MOST_DRAFTED: u32 = u32::MAX;
 /// The greatest size of what the row of a bound has in a world.
-pub const MOST_ENTRY: u32 = u32::MAX;
+pub const MOST_ROW_VALUE: u32 = u32::MAX;
 
 /// The limits by their numbers.
 pub fn limits_have_these_numbers()
@@ -24,5 +24,5 @@ pub fn limits_have_these_numbers()
     ensures nesting { MOST_NESTING ≡ 100 }
     ensures denominator { MOST_DENOMINATOR ≡ 1000000 }
     ensures drafted { MOST_DRAFTED ≡ 2 ^ 32 - 1 }
-    ensures entry { MOST_ENTRY ≡ 2 ^ 32 - 1 }
+    ensures entry { MOST_ROW_VALUE ≡ 2 ^ 32 - 1 }
 {}

@@ -2,7 +2,7 @@
 //! of its row over the worlds is on its side of 0 (N. J. Nilsson, "Probabilistic logic", Artificial
 //! Intelligence 28, 1986).
 ghost use Rattle.std.specs.Prelude.{◌≡◌, ◌≤◌, ◌≤ℤ◌, ◌*ℤ◌, pos, IfSome, unsigned_abs};
-ghost use Rattle.ps_problem.specs.declared.limits.TheConstants.{MOST_ENTRY};
+ghost use Rattle.ps_problem.specs.declared.limits.TheConstants.{MOST_ROW_VALUE};
 ghost use Rattle.ps_problem.specs.Rows.{HasNode, HasRow, indicator_of, given_indicator, row_over};
 
 use crate::bound::Bound;
@@ -36,7 +36,7 @@ fn times(number: u32, by: i64) -> i64
     requires high { by ≤ℤ pos 1 }
     ensures value { result ≡ pos number *ℤ by }
     ensures least { pos 0 ≤ℤ result }
-    ensures most { result ≤ℤ pos MOST_ENTRY }
+    ensures most { result ≤ℤ pos MOST_ROW_VALUE }
 {
     if by == 0 { 0 } else { number as i64 }
 }
@@ -46,7 +46,7 @@ fn times(number: u32, by: i64) -> i64
 pub fn row_value(bound: &Bound, truth: &[bool]) -> i64
     requires { HasRow truth.now bound.now }
     ensures value { result ≡ row_over truth.now bound.now }
-    ensures size { unsigned_abs result ≤ MOST_ENTRY }
+    ensures size { unsigned_abs result ≤ MOST_ROW_VALUE }
 {
     times(bound.den, indicator(truth, bound.both))
         - times(bound.num, given_indicator(truth, bound.given))

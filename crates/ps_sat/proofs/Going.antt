@@ -16,7 +16,7 @@ use Rattle.ps_log.specs.Logs.{Telling, Starts, Grows, Stays}
 use Rattle.ps_learning.specs.Trails.{Trail, values, IsFresh, AreReasons}
 use Rattle.ps_learning.proofs.Entries.{reasons-take, reasons-more, reasons-none, length-values}
 use Rattle.ps_learn.specs.Rest.{IsDone}
-use Rattle.ps_sat.specs.Searches.{HoldsSteps, Handed, IsHeld, HoldsLearned}
+use Rattle.ps_sat.specs.Searches.{HoldsGoalAndSteps, Handed, IsHeld, HoldsLearned}
 use Rattle.ps_sat.specs.declared.searching.Outcome.{Outcome}
 use Rattle.ps_sat.proofs.Ends.{found, refuted}
 
@@ -30,7 +30,7 @@ pub record Searching (f : Form) (goal : Constraint) (told : Bool) (new : Telling
   pub count : length handed.steps ≡ learned
   pub literals : All (λ x. is_contradiction x ≡ false) handed.steps
 
-pub begun : (old new : Telling) (goal : Constraint) → Starts old new goal → HoldsSteps new.tells new goal []
+pub begun : (old new : Telling) (goal : Constraint) → Starts old new goal → HoldsGoalAndSteps new.tells new goal []
 begun old new goal st = λ b. (let r = st.1 b in (b, r.0, r.1))
 
 -- what is held by a log that told before is held by one that tells now
@@ -41,10 +41,10 @@ pub told-learned : (f : Form) (goal : Constraint) (conflicts : ℕ) (old start n
 told-learned f goal conflicts old start new st h = (record { steps = h.0.steps; held = λ b. h.0.held (st.0 b); lawful = h.0.lawful }, h.1)
 
 -- nothing was handed over yet
-pub handed-none : (f : Form) (goal : Constraint) (told : Bool) (new : Telling) (conflicts : ℕ) → HoldsSteps told new goal [] → HoldsLearned f goal conflicts told new
+pub handed-none : (f : Form) (goal : Constraint) (told : Bool) (new : Telling) (conflicts : ℕ) → HoldsGoalAndSteps told new goal [] → HoldsLearned f goal conflicts told new
 handed-none f goal told new conflicts st = (record { steps = []; held = st; lawful = tt }, (omega arith, All-nil (λ x. is_contradiction x ≡ false)))
 
-pub begins : (f : Form) (goal : Constraint) (told : Bool) (new : Telling) (cs : List Constraint) (t : Trail) → HoldsSteps told new goal [] → cs ≡ f.clauses ++ goal ∷ [] → t ≡ record { variables = f.variables; entries = [] } → AreInside f → IsWithin f.variables goal → Searching f goal told new cs t 0
+pub begins : (f : Form) (goal : Constraint) (told : Bool) (new : Telling) (cs : List Constraint) (t : Trail) → HoldsGoalAndSteps told new goal [] → cs ≡ f.clauses ++ goal ∷ [] → t ≡ record { variables = f.variables; entries = [] } → AreInside f → IsWithin f.variables goal → Searching f goal told new cs t 0
 begins f goal told new cs t st e q inside own = rw (e, q) (record {
   same = refl;
   handed = record { steps = []; held = st; lawful = tt };
@@ -55,7 +55,7 @@ begins f goal told new cs t st e q inside own = rw (e, q) (record {
   literals = All-nil (λ x. is_contradiction x ≡ false);
 })
 
-pub hold-more : (told : Bool) (old new : Telling) (c : Constraint) (ss : List Step) (x : Step) → HoldsSteps told old c ss → Grows old new (x ∷ []) → HoldsSteps told new c (ss ++ x ∷ [])
+pub hold-more : (told : Bool) (old new : Telling) (c : Constraint) (ss : List Step) (x : Step) → HoldsGoalAndSteps told old c ss → Grows old new (x ∷ []) → HoldsGoalAndSteps told new c (ss ++ x ∷ [])
 hold-more told old new c ss x h grows = λ b.
     let was = h b in
     let now = grows was.0 in

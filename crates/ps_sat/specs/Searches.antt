@@ -15,8 +15,8 @@ IsOutcome f goal conflicts (Refuted last) = (w : List Bool) → MeetsForm w f �
 IsOutcome f goal conflicts (Spent learned) = learned ≡ conflicts
 
 -- a log that told has this goal and these steps
-abbrev pub HoldsSteps : Bool → Telling → Constraint → List Step → Type 0
-HoldsSteps told new c ss = IsTrue told → IsTrue new.tells × (new.goal ≡ Some c) × (new.steps ≡ Some ss)
+abbrev pub HoldsGoalAndSteps : Bool → Telling → Constraint → List Step → Type 0
+HoldsGoalAndSteps told new c ss = IsTrue told → IsTrue new.tells × (new.goal ≡ Some c) × (new.steps ≡ Some ss)
 
 -- each step has a literal
 abbrev pub HaveLiterals : List Step → Type 0
@@ -35,7 +35,7 @@ IsShown conflicts ss (Spent learned) = (length ss ≡ conflicts) × HaveLiterals
 -- the steps that were handed over are lawful after the form and the goal, and a log that told holds just these
 pub record Handed (f : Form) (goal : Constraint) (told : Bool) (new : Telling) : Type 0 where
   pub steps : List Step
-  pub held : HoldsSteps told new goal steps
+  pub held : HoldsGoalAndSteps told new goal steps
   pub lawful : AreLawful f.variables (first_known f goal) steps
 
 -- the steps that were handed over are as an outcome says

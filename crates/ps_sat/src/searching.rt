@@ -7,7 +7,7 @@ ghost use Rattle.ps_log.specs.Logs.{Grows, Stays};
 ghost use Rattle.ps_log.specs.Limits.{IsStepWithin};
 ghost use Rattle.ps_sat.specs.Limits.{most_conflicts};
 ghost use Rattle.ps_sat.specs.Errors.{CountsSearchFault};
-ghost use Rattle.ps_sat.specs.Searches.{IsOutcome, IsLogged, IsHeld, HoldsSteps, HoldsLearned};
+ghost use Rattle.ps_sat.specs.Searches.{IsOutcome, IsLogged, IsHeld, HoldsGoalAndSteps, HoldsLearned};
 
 use crate::advancing::advance;
 use crate::error::SearchError;
@@ -96,7 +96,7 @@ fn learn_all<S: ProofSink>(
     requires goal { IsWithin base.now.variables goal.now }
     requires started { known ≡ base.now.clauses ++ goal.now ∷ [] }
     requires unset { trail ≡ record { variables = base.now.variables; entries = [] } }
-    requires begun { HoldsSteps (S.told log.old).tells (S.told log.old) goal.now [] }
+    requires begun { HoldsGoalAndSteps (S.told log.old).tells (S.told log.old) goal.now [] }
     requires small { length known ≤ 2 ^ 32 }
     requires few { conflicts ≤ most_conflicts }
     ensures outcome { IfOk result (IsOutcome base.now goal.now conflicts) }

@@ -4,7 +4,7 @@ use Rattle.ps_multiples.specs.Multiples.{DualPlaces}
 use Rattle.ps_answer.specs.declared.answer.Cause.TheVariants.{Wide}
 use Rattle.ps_pricing.specs.Pricings.{IsFound, IsRefuted, IsSpent}
 use Rattle.ps_generation.specs.declared.end.End.TheVariants.{Open}
-use Rattle.ps_generation.specs.Rounds.{asked_of}
+use Rattle.ps_generation.specs.Rounds.{pricing_subject_of}
 use Rattle.ps_generation.proofs.Priced.{dual_wide, found_priced, refuted_end, spent_end}
 use Rattle.ps_generation.proofs.pricing.priced.Goals as goal
 
@@ -16,7 +16,7 @@ returns-in-Err-Wide-clause-end c =
 
 pub enter-requires-clause-priced : goal.enter-requires-clause-priced
 enter-requires-clause-priced c =
-    let found : IsFound c.args.kind (asked_of c.args.setting.now) c.in-Ok.dual c.in-Found.world = search rules in
+    let found : IsFound c.args.kind (pricing_subject_of c.args.setting.now) c.in-Ok.dual c.in-Found.world = search rules in
     found_priced c.args.kind c.args.setting.now c.args.costs.now c.args.state.now c.requires.phase c.requires.rests c.in-Ok.dual c.in-Ok.ensures.numbers
     c.price.ensures.parts c.requires.asked c.in-Found.world found
 
@@ -28,7 +28,7 @@ returns-in-Refuted-clause-end c =
 
 pub returns-in-Spent-clause-end : goal.returns-in-Spent-clause-end
 returns-in-Spent-clause-end c =
-    let spent : IsSpent c.args.kind (asked_of c.args.setting.now) c.in-Ok.dual c.in-Spent.goal c.in-Spent.steps = search rules in
+    let spent : IsSpent c.args.kind (pricing_subject_of c.args.setting.now) c.in-Ok.dual c.in-Spent.goal c.in-Spent.steps = search rules in
     let limit : c.limits.result.conflicts ≡ c.args.setting.now.limits.conflicts = ap (λ l. l.conflicts) c.limits.ensures.value in
     rw limit (spent_end c.args.kind c.args.setting.now c.args.costs.now c.args.state.now c.requires.phase c.requires.rests c.in-Ok.dual c.in-Ok.ensures.numbers
     c.price.ensures.parts c.requires.asked c.in-Spent.goal c.in-Spent.steps spent)
