@@ -1,18 +1,19 @@
 -- A scan, one constraint on.
-use Rattle.std.proofs.Common.{◌≡◌, ℕ, zero, suc, ◌+◌, ◌-◌, ◌<◌, ◌≤◌, ℤ, pos, ◌<ℤ◌, Bool, true, Some, List, [], ◌∷◌, length, get_or, arith, refl, sym, ap, ◌∙◌, subst, inl, inr, unsigned_abs}
+use Rattle.std.proofs.Common.{◌≡◌, ℕ, zero, suc, ◌+◌, ◌-◌, ◌<◌, ◌≤◌, ℤ, pos, ◌<ℤ◌, Bool, true, Some, List, length, get_or, arith, refl, sym, ap, ◌∙◌, subst, inl, inr, unsigned_abs}
 use Rattle.std.specs.Prelude.{slice_get, int_lt}
 use Rattle.std.specs.List.{All}
 use Rattle.std.proofs.lemmas.Option.{slice_get_read, slice_get_within}
 use Rattle.std.proofs.lemmas.Bool.{cases_lt, and_parts}
 use Rattle.ps_steps.specs.Assignments.{Assignment, place, value_of, is_unset}
 use Rattle.ps_steps.specs.Constraints.{Constraint, HasTerm, Forces, slack, is_forced}
-use Rattle.ps_steps.specs.Weights.{Weighted, weighted, terms_of, term_of}
+use Rattle.ps_steps.specs.Weights.{Weighted, terms_of, term_of}
 use Rattle.ps_steps.specs.Steps.{constraint_at}
 use Rattle.ps_forms.specs.Settled.{IsIdle}
 use Rattle.ps_steps.specs.Steps.{known_of}
 use Rattle.ps_learning.specs.Trails.{IsReason, IsFresh, IsConflict}
 use Rattle.ps_steps.proofs.Ids.{constraint_at-known, zero_unknown}
 use Rattle.ps_steps.proofs.Forcing.{lt-of}
+use Rattle.ps_steps.proofs.Full.{term-within}
 use Rattle.ps_pb.proofs.Searched.{has_term-at}
 use Rattle.ps_forms.specs.Forms.{IsWithin}
 use Rattle.ps_learn.specs.Rest.{IsAtRest}
@@ -20,24 +21,6 @@ use Rattle.ps_learn.specs.Scans.{ScansOne, ScansPart, Scans, AreIdle}
 use Rattle.ps_learn.specs.declared.scanning.Scan.{Scan}
 use Rattle.ps_learn.specs.declared.scanning.Scan.TheVariants.{Violated, Forced, Idle}
 use Rattle.ps_learn.specs.declared.scanning.Shown.TheVariants as shown
-
-abbrev pub Below : ℕ → (ℤ × ℤ) → Type 0
-Below n t = place t.0 < n
-
-all_head : (n : ℕ) (t : ℤ × ℕ) (ts : List (ℤ × ℕ)) → All (Below n) (weighted (t ∷ ts)) → place t.0 < n
-all_head n t ts h = h zero (t.0, pos t.1) (omega arith)
-
-all_rest : (n : ℕ) (t : ℤ × ℕ) (ts : List (ℤ × ℕ)) → All (Below n) (weighted (t ∷ ts)) → All (Below n) (weighted ts)
-all_rest n t ts h = λ k d lt. h (suc k) d (omega (arith, lt))
-
--- terms are of these variables
-term_within : (n : ℕ) (l : ℤ) (k : ℕ) (ts : List (ℤ × ℕ)) → All (Below n) (weighted ts) → HasTerm l k ts → place l < n
-term_within n l k [] h t = absurd t
-term_within n l k (t ∷ ts) h (inl e) = subst (λ x. place x < n) e.0 (all_head n t ts h)
-term_within n l k (t ∷ ts) h (inr m) = term_within n l k ts (all_rest n t ts h) m
-
-pub term-within : (n : ℕ) (c : Constraint) (l : ℤ) (k : ℕ) → IsWithin n c → HasTerm l k c.terms → place l < n
-term-within n c l k h t = term_within n l k c.terms h t
 
 pub idle-none : (cs : List Constraint) (a : Assignment) (from : ℕ) → AreIdle cs a from from
 idle-none cs a from = record { at = λ i c g h. absurd (omega (arith, g, h)) }
