@@ -12,8 +12,8 @@ use Rattle.ps_formula.specs.declared.node.Node.TheVariants as node
 use Rattle.ps_formula.specs.Nodes.{trees, tree_over, AreNodes}
 use Rattle.ps_formula.proofs.Different.{trees-at}
 use Rattle.ps_text.specs.Grammar as form
-use Rattle.ps_text.specs.Grammar.{Form, level}
-use Rattle.ps_text.specs.Canonical.{fitted, canonical_form, form_text}
+use Rattle.ps_text.specs.Grammar.{FormulaSyntax, level}
+use Rattle.ps_text.specs.Canonical.{fitted, canonical_formula, syntax_text}
 use Rattle.ps_problem.specs.Problems.{Parts, name_at, tree_at}
 use Rattle.ps_problem.specs.Written.{named_at}
 use Rattle.ps_canonical.specs.declared.connective.Connective.{Connective}
@@ -41,18 +41,18 @@ past_at : (k n : ℕ) → nat_le k n ≡ false → nat_lt n k ≡ true
 past_at k n h = grind (arith, nat_tests)
 
 -- a form has parentheses where its level is below the required one
-fitted-text : (k : ℕ) (f : Form) → form_text (fitted k f) ≡ opening (nat_lt (level f) k) ++ (form_text f ++ closing (nat_lt (level f) k))
+fitted-text : (k : ℕ) (f : FormulaSyntax) → syntax_text (fitted k f) ≡ opening (nat_lt (level f) k) ++ (syntax_text f ++ closing (nat_lt (level f) k))
 fitted-text k f = by (nat_le k (level f)) refl
   where
-    by : (b : Bool) → nat_le k (level f) ≡ b → form_text (if b then f else form.Group f) ≡ opening (nat_lt (level f) k) ++ (form_text f ++ closing (nat_lt (level f) k))
-    by true e = rw (fits_at k (level f) e) (sym (append-nil (form_text f)))
+    by : (b : Bool) → nat_le k (level f) ≡ b → syntax_text (if b then f else form.Group f) ≡ opening (nat_lt (level f) k) ++ (syntax_text f ++ closing (nat_lt (level f) k))
+    by true e = rw (fits_at k (level f) e) (sym (append-nil (syntax_text f)))
     by false e = rw (past_at k (level f) e) refl
 
 -- a form that binds most tightly has none
-tight : (k : ℕ) (f : Form) → k ≤ 5 → level f ≡ 5 → form_text (fitted k f) ≡ form_text f
+tight : (k : ℕ) (f : FormulaSyntax) → k ≤ 5 → level f ≡ 5 → syntax_text (fitted k f) ≡ syntax_text f
 tight k f le e = by (nat_le k (level f)) refl
   where
-    by : (b : Bool) → nat_le k (level f) ≡ b → form_text (if b then f else form.Group f) ≡ form_text f
+    by : (b : Bool) → nat_le k (level f) ≡ b → syntax_text (if b then f else form.Group f) ≡ syntax_text f
     by true t = refl
     by false t = absurd (never t)
       where
@@ -60,7 +60,7 @@ tight k f le e = by (nat_le k (level f)) refl
         never t = grind (arith, nat_tests)
 
 -- any form fits where the least level is required
-pub fitted-one : (f : Form) → fitted 1 f ≡ f
+pub fitted-one : (f : FormulaSyntax) → fitted 1 f ≡ f
 fitted-one (form.Name w) = refl
 fitted-one form.Truth = refl
 fitted-one form.Falsity = refl
@@ -75,14 +75,14 @@ fitted-one (form.Iff f g) = refl
 middle : Connective → formula.Formula Name → formula.Formula Name → List ℕ
 middle c f g = operand_text (left_of c) f ++ (sign_of c ++ operand_text (right_of c) g)
 
-joined-form : (c : Connective) (f g : formula.Formula Name) → form_text (canonical_form (joined c f g)) ≡ middle c f g
+joined-form : (c : Connective) (f g : formula.Formula Name) → syntax_text (canonical_formula (joined c f g)) ≡ middle c f g
 unfolding middle
 joined-form connective.And f g = refl
 joined-form connective.Or f g = refl
 joined-form connective.Implies f g = refl
 joined-form connective.Iff f g = refl
 
-joined-level : (c : Connective) (f g : formula.Formula Name) → level (canonical_form (joined c f g)) ≡ level_of c
+joined-level : (c : Connective) (f g : formula.Formula Name) → level (canonical_formula (joined c f g)) ≡ level_of c
 joined-level connective.And f g = refl
 joined-level connective.Or f g = refl
 joined-level connective.Implies f g = refl
@@ -96,8 +96,8 @@ joined-steps connective.Iff f g = refl
 
 joined-text : (k : ℕ) (c : Connective) (f g : formula.Formula Name)
     → operand_text k (joined c f g) ≡ opening (nat_lt (level_of c) k) ++ (middle c f g ++ closing (nat_lt (level_of c) k))
-joined-text k c f g = fitted-text k (canonical_form (joined c f g))
-    ∙ ap (λ n. opening (nat_lt n k) ++ (form_text (canonical_form (joined c f g)) ++ closing (nat_lt n k))) (joined-level c f g)
+joined-text k c f g = fitted-text k (canonical_formula (joined c f g))
+    ∙ ap (λ n. opening (nat_lt n k) ++ (syntax_text (canonical_formula (joined c f g)) ++ closing (nat_lt n k))) (joined-level c f g)
     ∙ ap (λ m. opening (nat_lt (level_of c) k) ++ (m ++ closing (nat_lt (level_of c) k))) (joined-form c f g)
 
 -- stacks
@@ -134,9 +134,9 @@ module _ (p : Parts) where
 
   module _ (i k : ℕ) (le : k ≤ 5) (ts : List Task) (out : List ℕ) (h : All (IsTask (length p.nodes)) ts) where
     -- a node without operands
-    pub done-leaf : (f : formula.Formula Name) → named_at p i ≡ f → steps_of f ≡ 1 → level (canonical_form f) ≡ 5 → IsCarriedOut p (task.Formula i k) ts out ts (out ++ form_text (canonical_form f))
-    done-leaf f e s l = done-written (task.Formula i k) ts out h (let n = ap steps_of e in omega arith) (form_text (canonical_form f))
-        (ap (operand_text k) e ∙ tight k (canonical_form f) le l)
+    pub done-leaf : (f : formula.Formula Name) → named_at p i ≡ f → steps_of f ≡ 1 → level (canonical_formula f) ≡ 5 → IsCarriedOut p (task.Formula i k) ts out ts (out ++ syntax_text (canonical_formula f))
+    done-leaf f e s l = done-written (task.Formula i k) ts out h (let n = ap steps_of e in omega arith) (syntax_text (canonical_formula f))
+        (ap (operand_text k) e ∙ tight k (canonical_formula f) le l)
 
     -- a negation
     pub done-not : (a : ℕ) → a < length p.nodes → named_at p i ≡ formula.Not (named_at p a)
@@ -144,7 +144,7 @@ module _ (p : Parts) where
     done-not a lt e = record {
       text = ap (λ bs. (out ++ codes "!") ++ bs) (text-push ts (task.Formula a 5))
           ∙ append_assoc out (codes "!") (operand_text 5 (named_at p a) ++ tasks_text p ts)
-          ∙ ap (λ bs. out ++ (bs ++ tasks_text p ts)) (sym (ap (operand_text k) e ∙ tight k (canonical_form (formula.Not (named_at p a))) le refl));
+          ∙ ap (λ bs. out ++ (bs ++ tasks_text p ts)) (sym (ap (operand_text k) e ∙ tight k (canonical_formula (formula.Not (named_at p a))) le refl));
       there = All-push (IsTask (length p.nodes)) ts (task.Formula a 5) h (lt, omega arith);
       fewer = (let n = ap steps_of e in let m = steps-push ts (task.Formula a 5) in omega arith);
     }

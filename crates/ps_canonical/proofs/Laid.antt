@@ -5,7 +5,7 @@ use Rattle.std.proofs.lemmas.List.{take_more, take_all}
 use Rattle.std.proofs.lemmas.List.Elements.{All-nil, All-cons, All-head, All-tail}
 use Rattle.ps_meaning.specs.Statements.{Stated, Asked}
 use Rattle.ps_formula.specs.declared.node.Node.{Node}
-use Rattle.ps_text.specs.Canonical.{canonical_entries, entries_text, canonical_text}
+use Rattle.ps_text.specs.Canonical.{canonical_items, items_text, canonical_text}
 use Rattle.ps_problem.specs.declared.bound.Bound.{Bound}
 use Rattle.ps_problem.specs.declared.sentence.Sentence.{Sentence}
 use Rattle.ps_problem.specs.declared.query.Query.{Query}
@@ -22,13 +22,13 @@ module _ (p : Parts) where
   queries-push [] q = append-nil (query_line p q)
   queries-push (x ∷ qs) q = ap (λ bs. query_line p x ++ bs) (queries-push qs q) ∙ sym (append_assoc (query_line p x) (query_lines p qs) (query_line p q))
 
-  asked-lines : (qs : List Query) → entries_text (canonical_entries (map Asked (map (question_from p) qs))) ≡ query_lines p qs
+  asked-lines : (qs : List Query) → items_text (canonical_items (map Asked (map (question_from p) qs))) ≡ query_lines p qs
   asked-lines [] = refl
   asked-lines (q ∷ qs) = ap (λ bs. query_line p q ++ bs) (asked-lines qs)
 
   -- the lines of the items are those of the sentences and then those of the queries
   pub all-lines : (ss : List Sentence) (qs : List Query)
-      → entries_text (canonical_entries (listed (map (statement_from p) ss) (map (question_from p) qs))) ≡ sentence_lines p ss ++ query_lines p qs
+      → items_text (canonical_items (listed (map (statement_from p) ss) (map (question_from p) qs))) ≡ sentence_lines p ss ++ query_lines p qs
   all-lines [] qs = asked-lines qs
   all-lines (s ∷ ss) qs = ap (λ bs. sentence_line p s ++ bs) (all-lines ss qs) ∙ sym (append_assoc (sentence_line p s) (sentence_lines p ss) (query_lines p qs))
 

@@ -3,7 +3,7 @@ use Rattle.std.specs.Prelude.{◌≡◌, ℕ, List, [], ◌∷◌, ◌++◌, Opt
 use Rattle.ps_meaning.specs.Statements.{Stated, Asked}
 use Rattle.ps_text.specs.Grammar.{Relation}
 use Rattle.ps_text.specs.Tokens.{numeral_spelling}
-use Rattle.ps_text.specs.Canonical.{canonical_form, canonical_given, canonical_numeral, canonical_relation, canonical_prob, canonical_entry, form_text, given_text, prob_text, entry_text}
+use Rattle.ps_text.specs.Canonical.{canonical_formula, canonical_given, canonical_numeral, canonical_relation, canonical_prob, canonical_item, syntax_text, given_text, prob_text, item_text}
 use Rattle.ps_problem.specs.declared.bound.Bound.{Bound}
 use Rattle.ps_problem.specs.declared.sentence.Sentence.{Sentence}
 use Rattle.ps_problem.specs.declared.query.Query.{Query}
@@ -20,7 +20,7 @@ quotient_text num den = numeral_spelling (canonical_numeral (record { num = num;
 
 -- the text of a formula by number
 abbrev pub formula_text : Parts → ℕ → List ℕ
-formula_text p i = form_text (canonical_form (named_at p i))
+formula_text p i = syntax_text (canonical_formula (named_at p i))
 
 -- a condition's text, by number
 abbrev pub condition_text : Parts → Option ℕ → List ℕ
@@ -40,11 +40,11 @@ relation_of s = canonical_relation s.first.side (ratio_at s.first) (option_map r
 
 -- the line of a sentence
 abbrev pub sentence_line : Parts → Sentence → List ℕ
-sentence_line p s = entry_text (canonical_entry (Stated (statement_from p s)))
+sentence_line p s = item_text (canonical_item (Stated (statement_from p s)))
 
 -- the line of a query
 abbrev pub query_line : Parts → Query → List ℕ
-query_line p q = entry_text (canonical_entry (Asked (question_from p q)))
+query_line p q = item_text (canonical_item (Asked (question_from p q)))
 
 -- the lines of sentences
 abbrev pub sentence_lines : Parts → List Sentence → List ℕ

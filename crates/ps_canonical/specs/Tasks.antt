@@ -2,8 +2,8 @@
 use Rattle.std.specs.Prelude.{◌≡◌, ℕ, ◌+◌, ◌<◌, ◌≤◌, Bool, List, [], ◌∷◌, ◌++◌, All, length, codes, nat_lt, if◌then◌else◌}
 use Rattle.ps_meaning.specs.Formula as formula
 use Rattle.ps_meaning.specs.Statements.{Name}
-use Rattle.ps_text.specs.Grammar.{Form, And, Or, Implies, Iff}
-use Rattle.ps_text.specs.Canonical.{fitted, canonical_form, form_text}
+use Rattle.ps_text.specs.Grammar.{FormulaSyntax, And, Or, Implies, Iff}
+use Rattle.ps_text.specs.Canonical.{fitted, canonical_formula, syntax_text}
 use Rattle.ps_problem.specs.Problems.{Parts}
 use Rattle.ps_problem.specs.Written.{named_at}
 use Rattle.ps_canonical.specs.declared.connective.Connective.{Connective}
@@ -48,7 +48,7 @@ joined connective.Iff f g = formula.Iff f g
 
 -- the text of a formula where an operand of this level is required
 abbrev pub operand_text : ℕ → formula.Formula Name → List ℕ
-operand_text k f = form_text (fitted k (canonical_form f))
+operand_text k f = syntax_text (fitted k (canonical_formula f))
 
 -- the text of a task
 abbrev pub task_text : Parts → Task → List ℕ

@@ -7,7 +7,7 @@ use Rattle.ps_steps.specs.Constraints.{Constraint}
 use Rattle.ps_steps.specs.Steps.{Known}
 use Rattle.ps_forms.specs.Forms.{IsWithin}
 use Rattle.ps_learn.specs.Rest.{IsLonger}
-use Rattle.ps_learning.specs.Trails.{Trail, Entry, values, values_of, level, decisions, implied, decided, IsReason, IsFresh, AreReasons}
+use Rattle.ps_learning.specs.Trails.{Trail, TrailEntry, values, values_of, level, decisions, implied, decided, IsReason, IsFresh, AreReasons}
 use Rattle.ps_learning.proofs.Entries.{values-append, reasons-append, length-values}
 use Rattle.ps_learning.specs.Trails.{unset_count}
 use Rattle.ps_learning.proofs.Counting.{fewer-unset}
@@ -25,7 +25,7 @@ implied-reasons known t u a l id e q h r = rw e (reasons-append t.variables know
 pub implied-level : (t u : Trail) (l : ℤ) (id : ℕ) → u ≡ implied l id t → level u ≡ level t
 implied-level t u l id e = rw e (let d = decisions-append t.entries (record { lit = l; reason = Some id; level = decisions t.entries }) in omega (arith, d))
 
-more-fewer : (t : Trail) (e : Entry) (es : List Entry) → es ≡ t.entries ++ e ∷ [] → IsFresh t.variables (values t) e.lit → suc (unset_count (values_of t.variables es)) ≡ unset_count (values t)
+more-fewer : (t : Trail) (e : TrailEntry) (es : List TrailEntry) → es ≡ t.entries ++ e ∷ [] → IsFresh t.variables (values t) e.lit → suc (unset_count (values_of t.variables es)) ≡ unset_count (values t)
 more-fewer t e es q f = rw (q, values-append t.variables t.entries e) (fewer-unset (values t) e.lit (rw (length-values t.variables t.entries) f))
 
 pub implied-fewer : (t u : Trail) (l : ℤ) (id : ℕ) → u ≡ implied l id t → IsFresh t.variables (values t) l → suc (unset_count (values u)) ≡ unset_count (values t)
@@ -40,17 +40,17 @@ decided-fewer t u l e f = rw e (more-fewer t (record { lit = l; reason = None; l
 pub variables-same : (t u : Trail) (l : ℤ) (id : ℕ) → u ≡ implied l id t → u.variables ≡ t.variables
 variables-same t u l id e = ap (λ (x : Trail). x.variables) e
 
-pub longer_none : (es : List Entry) → IsLonger es es
+pub longer_none : (es : List TrailEntry) → IsLonger es es
 longer_none es = record { more = []; is = sym (append-nil es) }
 
-pub longer-more : (old es new more : List Entry) → new ≡ es ++ more → IsLonger old es → IsLonger old new
+pub longer-more : (old es new more : List TrailEntry) → new ≡ es ++ more → IsLonger old es → IsLonger old new
 longer-more old es new more e h = record { more = h.more ++ more; is = e ∙ ap (λ x. x ++ more) h.is ∙ append_assoc old h.more more }
 
-pub implied-longer : (old : List Entry) (t u : Trail) (l : ℤ) (id : ℕ) → u ≡ implied l id t → IsLonger old t.entries → IsLonger old u.entries
+pub implied-longer : (old : List TrailEntry) (t u : Trail) (l : ℤ) (id : ℕ) → u ≡ implied l id t → IsLonger old t.entries → IsLonger old u.entries
 implied-longer old t u l id e h = longer-more old t.entries u.entries _ (ap (λ (x : Trail). x.entries) e) h
 
-pub decided-longer : (old : List Entry) (t u : Trail) (l : ℤ) → u ≡ decided l t → IsLonger old t.entries → IsLonger old u.entries
+pub decided-longer : (old : List TrailEntry) (t u : Trail) (l : ℤ) → u ≡ decided l t → IsLonger old t.entries → IsLonger old u.entries
 decided-longer old t u l e h = longer-more old t.entries u.entries _ (ap (λ (x : Trail). x.entries) e) h
 
-pub longer_then : (a b c : List Entry) → IsLonger a b → IsLonger b c → IsLonger a c
+pub longer_then : (a b c : List TrailEntry) → IsLonger a b → IsLonger b c → IsLonger a c
 longer_then a b c h k = longer-more a b c k.more k.is h

@@ -7,7 +7,7 @@ use Rattle.std.proofs.lemmas.Option.{slice_get_read}
 use Rattle.ps_steps.specs.Assignments.{Assignment, place, without}
 use Rattle.ps_steps.specs.Constraints.{Constraint}
 use Rattle.ps_steps.specs.Steps.{Known, constraint_at}
-use Rattle.ps_learning.specs.Trails.{Entry, Trail, values, level, values_of, AreFresh, AreLevels, AreReasons}
+use Rattle.ps_learning.specs.Trails.{TrailEntry, Trail, values, level, values_of, AreFresh, AreLevels, AreReasons}
 use Rattle.ps_learning.specs.Causes.{Marks, is_marked, AreCovered, IsCoveredAt, AreExplained, IsExplained}
 use Rattle.ps_learning.proofs.Entries.{values-cut, fresh-take, length-values}
 use Rattle.ps_learning.specs.Marking.{Grows, AreSetIn}
@@ -17,7 +17,7 @@ use Rattle.ps_learning.proofs.Keeping.{Keeping, IsSound, keeping-first, keeping-
 use Rattle.ps_learn.specs.Marks.{Explains, ExplainsAt, IsCaused, IsTrailExplained}
 
 -- how far back the marked entries have been explained
-pub record Going (n : ℕ) (known : Known) (es : List Entry) (first : Marks) (i : ℕ) (before : Assignment) (marks kept : Marks) : Type 0 where
+pub record Going (n : ℕ) (known : Known) (es : List TrailEntry) (first : Marks) (i : ℕ) (before : Assignment) (marks kept : Marks) : Type 0 where
   pub values : before ≡ values_of n (take i es)
   pub explained : AreExplained n known es marks kept i
   pub grows : Grows marks first
@@ -26,7 +26,7 @@ pub record Going (n : ℕ) (known : Known) (es : List Entry) (first : Marks) (i 
   pub within : i ≤ length es
   pub keeping : Keeping es marks kept i
 
-pub going-first : (n : ℕ) (known : Known) (es : List Entry) (i : ℕ) (before : Assignment) (marks kept : Marks) → before ≡ values_of n es → length marks ≡ n → length kept ≡ n → i ≡ length es → ((l : ℤ) → is_marked kept l ≡ false) → Going n known es marks i before marks kept
+pub going-first : (n : ℕ) (known : Known) (es : List TrailEntry) (i : ℕ) (before : Assignment) (marks kept : Marks) → before ≡ values_of n es → length marks ≡ n → length kept ≡ n → i ≡ length es → ((l : ℤ) → is_marked kept l ≡ false) → Going n known es marks i before marks kept
 going-first n known es i before marks kept v l k e un = record {
   keeping = keeping-first es marks kept i un;
   values = v ∙ ap (values_of n) (sym (take_all i es (omega (arith, e))));
@@ -37,24 +37,24 @@ going-first n known es i before marks kept v l k e un = record {
   within = omega (arith, e);
 }
 
-back_values : (n : ℕ) (es : List Entry) (j : ℕ) (e : Entry) (before : Assignment) → AreFresh n es → before ≡ values_of n (take (suc j) es) → j < length es → e ≡ get_or es j e → without before (unsigned_abs e.lit) ≡ values_of n (take j es)
+back_values : (n : ℕ) (es : List TrailEntry) (j : ℕ) (e : TrailEntry) (before : Assignment) → AreFresh n es → before ≡ values_of n (take (suc j) es) → j < length es → e ≡ get_or es j e → without before (unsigned_abs e.lit) ≡ values_of n (take j es)
 back_values n es j e before f v lt at =
     let q : take (suc j) es ≡ take j es ++ e ∷ [] = take-suc es j e lt ∙ ap (λ d. take j es ++ d ∷ []) (sym at) in
     rw (v, q) (values-cut n (take j es) e (rw (← q) (fresh-take n es (suc j) f)))
 
 -- one entry back
-pub going-back : (n : ℕ) (known : Known) (es : List Entry) (first : Marks) (i j : ℕ) (e : Entry) (before : Assignment) (marks kept : Marks) → AreFresh n es → Going n known es first i before marks kept → j + 1 ≡ i → e ≡ get_or es j e → without before (unsigned_abs e.lit) ≡ values_of n (take j es)
+pub going-back : (n : ℕ) (known : Known) (es : List TrailEntry) (first : Marks) (i j : ℕ) (e : TrailEntry) (before : Assignment) (marks kept : Marks) → AreFresh n es → Going n known es first i before marks kept → j + 1 ≡ i → e ≡ get_or es j e → without before (unsigned_abs e.lit) ≡ values_of n (take j es)
 going-back n known es first i j e before marks kept f g q at =
     let s : i ≡ suc j = omega (arith, q) in
     back_values n es j e before f (rw s at g.values) (omega (arith, q, g.within)) at
 
-pub going-len : (n : ℕ) (known : Known) (es : List Entry) (first : Marks) (i j : ℕ) (e : Entry) (before : Assignment) (marks kept : Marks) → AreFresh n es → Going n known es first i before marks kept → j + 1 ≡ i → e ≡ get_or es j e → length marks ≡ length (without before (unsigned_abs e.lit))
+pub going-len : (n : ℕ) (known : Known) (es : List TrailEntry) (first : Marks) (i j : ℕ) (e : TrailEntry) (before : Assignment) (marks kept : Marks) → AreFresh n es → Going n known es first i before marks kept → j + 1 ≡ i → e ≡ get_or es j e → length marks ≡ length (without before (unsigned_abs e.lit))
 going-len n known es first i j e before marks kept f g q at = g.len ∙ sym (length-values n (take j es)) ∙ ap length (sym (going-back n known es first i j e before marks kept f g q at))
 
-pub going-place : (n : ℕ) (known : Known) (es : List Entry) (first : Marks) (i j : ℕ) (e : Entry) (before : Assignment) (marks kept : Marks) → AreFresh n es → Going n known es first i before marks kept → j + 1 ≡ i → e ≡ get_or es j e → place e.lit < length kept
+pub going-place : (n : ℕ) (known : Known) (es : List TrailEntry) (first : Marks) (i j : ℕ) (e : TrailEntry) (before : Assignment) (marks kept : Marks) → AreFresh n es → Going n known es first i before marks kept → j + 1 ≡ i → e ≡ get_or es j e → place e.lit < length kept
 going-place n known es first i j e before marks kept f g q at = rw g.kept_len (f.at j e (slice_get_read es (length es) j e refl (omega (arith, q, g.within)) at)).within
 
-pub going-next : (n : ℕ) (known : Known) (t : Trail) (first : Marks) (i j : ℕ) (e : Entry) (before before' : Assignment) (marks kept marks' kept' : Marks) → IsSound n known t.entries → Going n known t.entries first i before marks kept → j + 1 ≡ i → e ≡ get_or t.entries j e → before' ≡ without before (unsigned_abs e.lit) → ExplainsAt known t j e before' marks kept marks' kept' → Going n known t.entries first j before' marks' kept'
+pub going-next : (n : ℕ) (known : Known) (t : Trail) (first : Marks) (i j : ℕ) (e : TrailEntry) (before before' : Assignment) (marks kept marks' kept' : Marks) → IsSound n known t.entries → Going n known t.entries first i before marks kept → j + 1 ≡ i → e ≡ get_or t.entries j e → before' ≡ without before (unsigned_abs e.lit) → ExplainsAt known t j e before' marks kept marks' kept' → Going n known t.entries first j before' marks' kept'
 going-next n known t first i j e before before' marks kept marks' kept' sound g q at b xs =
     let es = t.entries in
     let x = xs.done in
@@ -75,13 +75,13 @@ going-next n known t first i j e before before' marks kept marks' kept' sound g 
 pub sound : (known : Known) (t : Trail) → AreFresh t.variables t.entries → AreLevels t.entries → AreReasons t.variables known t.entries → IsSound t.variables known t.entries
 sound known t f l r = record { fresh = f; levels = l; reasons = r }
 
-pub going-start : (known : Known) (t : Trail) (es : List Entry) (i : ℕ) (before : Assignment) (marks kept : Marks) → before ≡ values t → length marks ≡ length before → length kept ≡ length before → es ≡ t.entries → i ≡ length es → ((l : ℤ) → is_marked kept l ≡ false) → Going t.variables known t.entries marks i before marks kept
+pub going-start : (known : Known) (t : Trail) (es : List TrailEntry) (i : ℕ) (before : Assignment) (marks kept : Marks) → before ≡ values t → length marks ≡ length before → length kept ≡ length before → es ≡ t.entries → i ≡ length es → ((l : ℤ) → is_marked kept l ≡ false) → Going t.variables known t.entries marks i before marks kept
 going-start known t es i before marks kept v l k r e un =
     let n : length before ≡ t.variables = ap length v ∙ length-values t.variables t.entries in
     going-first t.variables known t.entries i before marks kept v (l ∙ n) (k ∙ n) (e ∙ ap length r) un
 
 -- the marked entry is kept
-pub kept_explains : (known : Known) (e : Entry) (b : Bool) (before : Assignment) (marks kept kept' : Marks) → kept' ≡ slice_set kept (place e.lit) true → place e.lit < length kept → is_marked marks e.lit ≡ true → (b ≡ false) ⊎ HasNoReason known e → Explains known e b before marks kept marks kept'
+pub kept_explains : (known : Known) (e : TrailEntry) (b : Bool) (before : Assignment) (marks kept kept' : Marks) → kept' ≡ slice_set kept (place e.lit) true → place e.lit < length kept → is_marked marks e.lit ≡ true → (b ≡ false) ⊎ HasNoReason known e → Explains known e b before marks kept marks kept'
 kept_explains known e b before marks kept kept' q p m why = rw q (record {
   grows = grows-refl marks;
   set = record { at = λ l m. inl m };
@@ -93,7 +93,7 @@ kept_explains known e b before marks kept kept' q p m why = rw q (record {
 })
 
 -- an entry that isn't marked
-pub unmarked_explains : (known : Known) (t : Trail) (i : ℕ) (e : Entry) (before : Assignment) (marks kept : Marks) (b : Bool) → b ≡ is_marked marks e.lit → b ≡ false → ExplainsAt known t i e before marks kept marks kept
+pub unmarked_explains : (known : Known) (t : Trail) (i : ℕ) (e : TrailEntry) (before : Assignment) (marks kept : Marks) (b : Bool) → b ≡ is_marked marks e.lit → b ≡ false → ExplainsAt known t i e before marks kept marks kept
 unmarked_explains known t i e before marks kept b q f = record {
   asked = false;
   test = λ m. absurd (cc (q, f, m));
@@ -109,7 +109,7 @@ unmarked_explains known t i e before marks kept b q f = record {
 }
 
 -- an entry that is kept, since it isn't to be explained
-pub kept_explains_at : (known : Known) (t : Trail) (i : ℕ) (e : Entry) (before : Assignment) (marks kept kept' : Marks) (m b : Bool) → m ≡ is_marked marks e.lit → m ≡ true → IsToExplain (level t) t.entries marks i e b → b ≡ false → kept' ≡ slice_set kept (place e.lit) true → place e.lit < length kept → ExplainsAt known t i e before marks kept marks kept'
+pub kept_explains_at : (known : Known) (t : Trail) (i : ℕ) (e : TrailEntry) (before : Assignment) (marks kept kept' : Marks) (m b : Bool) → m ≡ is_marked marks e.lit → m ≡ true → IsToExplain (level t) t.entries marks i e b → b ≡ false → kept' ≡ slice_set kept (place e.lit) true → place e.lit < length kept → ExplainsAt known t i e before marks kept marks kept'
 kept_explains_at known t i e before marks kept kept' m b q y to f is p = record {
   asked = b;
   test = λ _. to;
@@ -117,22 +117,22 @@ kept_explains_at known t i e before marks kept kept' m b q y to f is p = record 
 }
 
 -- an entry that is explained where it has a reason
-pub asked_explains_at : (known : Known) (t : Trail) (i : ℕ) (e : Entry) (before : Assignment) (marks kept marks' kept' : Marks) (b : Bool) → IsToExplain (level t) t.entries marks i e b → b ≡ true → Explains known e true before marks kept marks' kept' → ExplainsAt known t i e before marks kept marks' kept'
+pub asked_explains_at : (known : Known) (t : Trail) (i : ℕ) (e : TrailEntry) (before : Assignment) (marks kept marks' kept' : Marks) (b : Bool) → IsToExplain (level t) t.entries marks i e b → b ≡ true → Explains known e true before marks kept marks' kept' → ExplainsAt known t i e before marks kept marks' kept'
 asked_explains_at known t i e before marks kept marks' kept' b to y x = record { asked = true; test = λ _. subst (λ c. IsToExplain (level t) t.entries marks i e c) y to; done = x }
 
-no_id : (known : Known) (e : Entry) → e.reason ≡ None → HasNoReason known e
+no_id : (known : Known) (e : TrailEntry) → e.reason ≡ None → HasNoReason known e
 no_id known e n id q = absurd (cc (n, q))
 
 -- a decided entry is kept
-pub decided_explains : (known : Known) (e : Entry) (before : Assignment) (marks kept kept' : Marks) → kept' ≡ slice_set kept (place e.lit) true → place e.lit < length kept → is_marked marks e.lit ≡ true → e.reason ≡ None → Explains known e true before marks kept marks kept'
+pub decided_explains : (known : Known) (e : TrailEntry) (before : Assignment) (marks kept kept' : Marks) → kept' ≡ slice_set kept (place e.lit) true → place e.lit < length kept → is_marked marks e.lit ≡ true → e.reason ≡ None → Explains known e true before marks kept marks kept'
 decided_explains known e before marks kept kept' q p m n = kept_explains known e true before marks kept kept' q p m (inr (no_id known e n))
 
 -- and one whose reason isn't known
-pub unknown_explains : (known : Known) (e : Entry) (before : Assignment) (marks kept kept' : Marks) (id : ℕ) → kept' ≡ slice_set kept (place e.lit) true → place e.lit < length kept → is_marked marks e.lit ≡ true → e.reason ≡ Some id → constraint_at known id ≡ None → Explains known e true before marks kept marks kept'
+pub unknown_explains : (known : Known) (e : TrailEntry) (before : Assignment) (marks kept kept' : Marks) (id : ℕ) → kept' ≡ slice_set kept (place e.lit) true → place e.lit < length kept → is_marked marks e.lit ≡ true → e.reason ≡ Some id → constraint_at known id ≡ None → Explains known e true before marks kept marks kept'
 unknown_explains known e before marks kept kept' id q p m r n = kept_explains known e true before marks kept kept' q p m (inr (λ j s. (let z : Some j ≡ Some id = sym s ∙ r in let y : j ≡ id = cc z in rw y n)))
 
 -- the entry's reason explains it
-pub reason_explains : (known : Known) (e : Entry) (before : Assignment) (marks marks' kept : Marks) (id : ℕ) (c : Constraint) → e.reason ≡ Some id → constraint_at known id ≡ Some c → AreCovered c before marks' → Grows marks' marks → AreSetIn before marks' marks → length marks' ≡ length marks → is_marked marks e.lit ≡ true → Explains known e true before marks kept marks' kept
+pub reason_explains : (known : Known) (e : TrailEntry) (before : Assignment) (marks marks' kept : Marks) (id : ℕ) (c : Constraint) → e.reason ≡ Some id → constraint_at known id ≡ Some c → AreCovered c before marks' → Grows marks' marks → AreSetIn before marks' marks → length marks' ≡ length marks → is_marked marks e.lit ≡ true → Explains known e true before marks kept marks' kept
 reason_explains known e before marks marks' kept id c r k cov g s l m = record {
   grows = g;
   set = s;

@@ -10,7 +10,7 @@ use Rattle.ps_steps.specs.Assignments.{Assignment, place, value_of, is_unset, al
 use Rattle.ps_steps.specs.Constraints.{Constraint, HasTerm, Forces, is_violated}
 use Rattle.ps_steps.specs.Weights.{Weighted, terms_of}
 use Rattle.ps_steps.specs.Steps.{Known, constraint_at, Open, Conflict, after_hints}
-use Rattle.ps_learning.specs.Trails.{Entry, Trail, values_of, IsReason, AreFresh, AreLevels, AreReasons, IsConflict}
+use Rattle.ps_learning.specs.Trails.{TrailEntry, Trail, values_of, IsReason, AreFresh, AreLevels, AreReasons, IsConflict}
 use Rattle.ps_learning.specs.Causes.{Marks, is_marked, AreCovered, IsExplained, AreExplained}
 use Rattle.ps_steps.proofs.Values.{signed-some}
 use Rattle.ps_steps.proofs.Setting.{rising-distinct, unset-same}
@@ -118,7 +118,7 @@ drawn-none t marks k a l z n u = record {
   asserted = rw (l, z, n) (asserted-none t marks);
 }
 
-by_mark : (t : Trail) (marks : Marks) (i : ℕ) (k k' : Kept) (a a' : Assignment) (e : Entry) (b : Bool) → is_marked marks e.lit ≡ b → AreFresh t.variables t.entries → AreLevels t.entries → IsKeptOnce t marks → Drawn t marks i k a → slice_get t.entries i ≡ Some e → AddsIf b e k a k' a' → Drawn t marks (i + 1) k' a'
+by_mark : (t : Trail) (marks : Marks) (i : ℕ) (k k' : Kept) (a a' : Assignment) (e : TrailEntry) (b : Bool) → is_marked marks e.lit ≡ b → AreFresh t.variables t.entries → AreLevels t.entries → IsKeptOnce t marks → Drawn t marks i k a → slice_get t.entries i ≡ Some e → AddsIf b e k a k' a' → Drawn t marks (i + 1) k' a'
 by_mark t marks i k k' a a' e false m f g o d q adds = subst (λ x. Drawn t marks (i + 1) x a') (sym adds.0) (subst (λ x. Drawn t marks (i + 1) k x) (sym adds.1) (record {
   started = started-skip t.variables t.entries marks i k.lits a e f d.started q m;
   asserted = asserted-skip t marks i k.lits k.last k.next d.asserted;
@@ -129,15 +129,15 @@ by_mark t marks i k k' a a' e true m f g o d q adds = record {
 }
 
 -- one entry more of the kept literals
-pub drawn-next : (t : Trail) (es : List Entry) (marks : Marks) (i : ℕ) (k k' : Kept) (a a' : Assignment) (e : Entry) → es ≡ t.entries → AreFresh t.variables t.entries → AreLevels t.entries → IsKeptOnce t marks → Drawn t marks i k a → i < length es → e ≡ get_or es i e → AddsKept e marks k a k' a' → Drawn t marks (i + 1) k' a'
+pub drawn-next : (t : Trail) (es : List TrailEntry) (marks : Marks) (i : ℕ) (k k' : Kept) (a a' : Assignment) (e : TrailEntry) → es ≡ t.entries → AreFresh t.variables t.entries → AreLevels t.entries → IsKeptOnce t marks → Drawn t marks i k a → i < length es → e ≡ get_or es i e → AddsKept e marks k a k' a' → Drawn t marks (i + 1) k' a'
 drawn-next t es marks i k k' a a' e r f g o d h at adds = by_mark t marks i k k' a a' e (is_marked marks e.lit) refl f g o d (rw r at (slice_get_read es (length es) i e refl h at)) adds
 
 -- what the reasons are gone along with
-pub record Along (n : ℕ) (known : Known) (es : List Entry) (marks kept : Marks) (start : Assignment) : Type 0 where
+pub record Along (n : ℕ) (known : Known) (es : List TrailEntry) (marks kept : Marks) (start : Assignment) : Type 0 where
   pub fresh : AreFresh n es
   pub reasons : AreReasons n known es
   pub explained : AreExplained n known es marks kept 0
-  pub kept_true : (j : ℕ) (e : Entry) → j < length es → slice_get es j ≡ Some e → is_marked kept e.lit ≡ true → value_of start e.lit ≡ Some true
+  pub kept_true : (j : ℕ) (e : TrailEntry) → j < length es → slice_get es j ≡ Some e → is_marked kept e.lit ≡ true → value_of start e.lit ≡ Some true
 
 pub along : (n : ℕ) (known : Known) (t : Trail) (conflict : ℕ) (marks kept : Marks) (start : Assignment) (lits : List ℤ) → n ≡ t.variables → AreFresh n t.entries → AreReasons n known t.entries → IsCaused known t conflict marks kept → Started n t.entries kept (length t.entries) lits start → Along n known t.entries marks kept start
 along n known t conflict marks kept start lits e f r c s = record {
@@ -148,19 +148,19 @@ along n known t conflict marks kept start lits e f r c s = record {
 }
 
 -- a marked entry that isn't true yet is explained
-pub open_explained : (n : ℕ) (known : Known) (es : List Entry) (marks kept : Marks) (start : Assignment) (i : ℕ) (hints : List ℕ) (a : Assignment) (e : Entry) → Along n known es marks kept start → Followed n known es marks start i hints a → i < length es → slice_get es i ≡ Some e → is_marked marks e.lit ≡ true → value_of a e.lit ≢ Some true → IsExplained known (values_of n (take i es)) marks e
+pub open_explained : (n : ℕ) (known : Known) (es : List TrailEntry) (marks kept : Marks) (start : Assignment) (i : ℕ) (hints : List ℕ) (a : Assignment) (e : TrailEntry) → Along n known es marks kept start → Followed n known es marks start i hints a → i < length es → slice_get es i ≡ Some e → is_marked marks e.lit ≡ true → value_of a e.lit ≢ Some true → IsExplained known (values_of n (take i es)) marks e
 open_explained n known es marks kept start i hints a e al f h q m ne = elim (al.explained.at i e (omega arith) q m) [
   | inl k ↦ absurd (ne (f.from.at e.lit true (al.kept_true i e h q k)))
   | inr x ↦ x
 ]
 
-reason_forces : (known : Known) (before a : Assignment) (marks : Marks) (e : Entry) (id : ℕ) (c : Constraint) → e.reason ≡ Some id → constraint_at known id ≡ Some c → IsReason known before e.lit e.reason → Forces c before e.lit
+reason_forces : (known : Known) (before a : Assignment) (marks : Marks) (e : TrailEntry) (id : ℕ) (c : Constraint) → e.reason ≡ Some id → constraint_at known id ≡ Some c → IsReason known before e.lit e.reason → Forces c before e.lit
 reason_forces known before a marks e id c r k h =
     let s = subst (λ x. IsReason known before e.lit x) r h in
     let same : s.0 ≡ c = cc (s.1, k) in
     subst (λ x. Forces x before e.lit) same s.2
 
-explained_by : (known : Known) (before : Assignment) (marks : Marks) (e : Entry) (id : ℕ) (c : Constraint) → e.reason ≡ Some id → constraint_at known id ≡ Some c → IsExplained known before marks e → AreCovered c before marks
+explained_by : (known : Known) (before : Assignment) (marks : Marks) (e : TrailEntry) (id : ℕ) (c : Constraint) → e.reason ≡ Some id → constraint_at known id ≡ Some c → IsExplained known before marks e → AreCovered c before marks
 explained_by known before marks e id c r k x =
     let one : Some x.id ≡ Some id = sym x.reason ∙ r in
     let same_id : x.id ≡ id = cc one in
@@ -169,7 +169,7 @@ explained_by known before marks e id c r k x =
     subst (λ y. AreCovered y before marks) same x.covered
 
 -- one entry more of the reasons
-pub followed-next : (n : ℕ) (known : Known) (es : List Entry) (marks kept : Marks) (start : Assignment) (i : ℕ) (hints : List ℕ) (a : Assignment) (e : Entry) (hints' : List ℕ) (a' : Assignment) (r : v.the_data) → Along n known es marks kept start → Followed n known es marks start i hints a → i < length es → e ≡ get_or es i e → FollowsEntry known e marks hints a hints' a' r → r ≢ v.Violated → Followed n known es marks start (i + 1) hints' a'
+pub followed-next : (n : ℕ) (known : Known) (es : List TrailEntry) (marks kept : Marks) (start : Assignment) (i : ℕ) (hints : List ℕ) (a : Assignment) (e : TrailEntry) (hints' : List ℕ) (a' : Assignment) (r : v.the_data) → Along n known es marks kept start → Followed n known es marks start i hints a → i < length es → e ≡ get_or es i e → FollowsEntry known e marks hints a hints' a' r → r ≢ v.Violated → Followed n known es marks start (i + 1) hints' a'
 followed-next n known es marks kept start i hints a e hints' a' v.Unmarked al f h at fol ne =
     let q = slice_get_read es (length es) i e refl h at in
     subst (λ x. Followed n known es marks start (i + 1) x a') (sym fol.1) (subst (λ x. Followed n known es marks start (i + 1) hints x) (sym fol.2) (followed-unmarked n known es marks start i hints a e al.fresh f q fol.0))
@@ -215,7 +215,7 @@ ended known start most i hints hints' id c e x few m ids k = rw e (record {
 })
 
 -- a reason that is violated ends the propagation
-pub followed-stop : (n : ℕ) (known : Known) (es : List Entry) (marks : Marks) (start : Assignment) (i : ℕ) (hints : List ℕ) (a : Assignment) (e : Entry) (hints' : List ℕ) (a' : Assignment) (r : v.the_data) → Followed n known es marks start i hints a → i ≤ length es → FollowsEntry known e marks hints a hints' a' r → r ≡ v.Violated → EndsInConflict known start (length es) hints'
+pub followed-stop : (n : ℕ) (known : Known) (es : List TrailEntry) (marks : Marks) (start : Assignment) (i : ℕ) (hints : List ℕ) (a : Assignment) (e : TrailEntry) (hints' : List ℕ) (a' : Assignment) (r : v.the_data) → Followed n known es marks start i hints a → i ≤ length es → FollowsEntry known e marks hints a hints' a' r → r ≡ v.Violated → EndsInConflict known start (length es) hints'
 followed-stop n known es marks start i hints a e hints' a' r f m fol is =
     let b = subst (λ x. FollowsEntry known e marks hints a hints' a' x) is fol in
     ended known start (length es) i hints hints' b.id b.constraint b.hints_are (followed-violated known start a hints b.id b.constraint f.going b.known_at b.does.0) f.few m f.ids b.known_at

@@ -4,7 +4,7 @@ use Rattle.ps_steps.specs.Assignments.{Assignment, value_of, with_false}
 use Rattle.ps_steps.specs.Constraints.{Constraint}
 use Rattle.ps_steps.specs.Weights.{weighted, IsNormal}
 use Rattle.ps_steps.specs.Steps.{Known, constraint_at, after_hints, Open, Conflict}
-use Rattle.ps_learning.specs.Trails.{Entry}
+use Rattle.ps_learning.specs.Trails.{TrailEntry}
 use Rattle.ps_learning.specs.Causes.{Marks, is_marked}
 use Rattle.ps_learning.specs.Known.{IsIdUpTo}
 use Rattle.ps_pb.specs.Effects.{Propagates}
@@ -15,17 +15,17 @@ use Rattle.ps_learn.specs.declared.learning.Followed.{Followed}
 use Rattle.ps_learn.specs.declared.learning.Followed.TheVariants.{Unmarked, AlreadyTrue, Decided, Unknown, Violated, Forced, Idle}
 
 -- where the test holds, the opposite of an entry's literal is added, with its level, and set false; else nothing changes
-abbrev pub AddsIf : Bool → Entry → Kept → Assignment → Kept → Assignment → Type 0
+abbrev pub AddsIf : Bool → TrailEntry → Kept → Assignment → Kept → Assignment → Type 0
 AddsIf false e k a k' a' = (k' ≡ k) × (a' ≡ a)
 AddsIf true e k a k' a' =
     (k'.lits ≡ k.lits ++ neg_ℤ e.lit ∷ []) × (k'.last ≡ e.level) × (k'.next ≡ k.last) × (a' ≡ with_false a (neg_ℤ e.lit))
 
 -- the opposite of a kept literal is added, and set false; for another entry nothing changes
-abbrev pub AddsKept : Entry → Marks → Kept → Assignment → Kept → Assignment → Type 0
+abbrev pub AddsKept : TrailEntry → Marks → Kept → Assignment → Kept → Assignment → Type 0
 AddsKept e marks k a k' a' = AddsIf (is_marked marks e.lit) e k a k' a'
 
 -- propagation went along the reason of an entry whose literal isn't true, with this effect
-pub record FollowsBy (f : Effect) (known : Known) (e : Entry) (hints : List ℕ) (a : Assignment) (hints' : List ℕ) (a' : Assignment) : Type 0 where
+pub record FollowsBy (f : Effect) (known : Known) (e : TrailEntry) (hints : List ℕ) (a : Assignment) (hints' : List ℕ) (a' : Assignment) : Type 0 where
   pub other : value_of a e.lit ≢ Some true
   pub id : ℕ
   pub reason : e.reason ≡ Some id
@@ -36,7 +36,7 @@ pub record FollowsBy (f : Effect) (known : Known) (e : Entry) (hints : List ℕ)
   pub does : Propagates constraint a a' f
 
 -- how an entry is followed: it isn't marked, is true already, or has no known reason; or its reason is gone along
-abbrev pub FollowsEntry : Known → Entry → Marks → List ℕ → Assignment → List ℕ → Assignment → Followed → Type 0
+abbrev pub FollowsEntry : Known → TrailEntry → Marks → List ℕ → Assignment → List ℕ → Assignment → Followed → Type 0
 FollowsEntry known e marks hints a hints' a' Unmarked = (is_marked marks e.lit ≡ false) × (hints' ≡ hints) × (a' ≡ a)
 FollowsEntry known e marks hints a hints' a' AlreadyTrue = (value_of a e.lit ≡ Some true) × (hints' ≡ hints) × (a' ≡ a)
 FollowsEntry known e marks hints a hints' a' Decided = (is_marked marks e.lit ≡ true) × (value_of a e.lit ≢ Some true) × (e.reason ≡ None)

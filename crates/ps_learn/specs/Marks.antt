@@ -2,7 +2,7 @@
 use Rattle.std.specs.Prelude.{ℕ, ◌≡◌, ℤ, Bool, true, false, Option, Some, None, length, slice_set, ◌⊎◌}
 use Rattle.ps_steps.specs.Assignments.{Assignment, place}
 use Rattle.ps_steps.specs.Steps.{Known}
-use Rattle.ps_learning.specs.Trails.{Entry, Trail, values, level}
+use Rattle.ps_learning.specs.Trails.{TrailEntry, Trail, values, level}
 use Rattle.ps_learning.specs.Causes.{Marks, is_marked, IsCoveredAt, IsExplained, AreExplained}
 use Rattle.ps_learning.specs.Marking.{Grows, AreSetIn}
 use Rattle.ps_learning.specs.Keeping.{IsKeptOnce, IsToExplain, IsKeptOrNot, SomeIsMarked, NoneIsMarked}
@@ -20,7 +20,7 @@ IsMarkedBefore t marks i true = SomeIsMarked (level t) t.entries marks i
 IsMarkedBefore t marks i false = NoneIsMarked (level t) t.entries marks i
 
 -- an entry that is marked is kept or explained; what was marked or kept stays so, and what is marked more was set
-pub record Explains (known : Known) (e : Entry) (asked : Bool) (before : Assignment) (marks kept marks' kept' : Marks) : Type 0 where
+pub record Explains (known : Known) (e : TrailEntry) (asked : Bool) (before : Assignment) (marks kept marks' kept' : Marks) : Type 0 where
   pub grows : Grows marks' marks
   pub set : AreSetIn before marks' marks
   pub keeps : Grows kept' kept
@@ -30,7 +30,7 @@ pub record Explains (known : Known) (e : Entry) (asked : Bool) (before : Assignm
   pub kept_is : IsKeptOrNot known e asked marks kept marks' kept'
 
 -- an entry that is marked is kept or explained, and kept only where it isn't to be explained or has no known reason
-pub record ExplainsAt (known : Known) (t : Trail) (i : ℕ) (e : Entry) (before : Assignment) (marks kept marks' kept' : Marks) : Type 0 where
+pub record ExplainsAt (known : Known) (t : Trail) (i : ℕ) (e : TrailEntry) (before : Assignment) (marks kept marks' kept' : Marks) : Type 0 where
   pub asked : Bool
   pub test : is_marked marks e.lit ≡ true → IsToExplain (level t) t.entries marks i e asked
   pub done : Explains known e asked before marks kept marks' kept'

@@ -3,7 +3,7 @@ use Rattle.std.specs.Prelude.{ℕ, ◌≡◌, Option, Some, None, List, ◌++◌
 use Rattle.ps_steps.specs.Assignments.{Assignment}
 use Rattle.ps_steps.specs.Constraints.{Constraint}
 use Rattle.ps_steps.specs.Steps.{Known, constraint_at}
-use Rattle.ps_learning.specs.Trails.{Entry, IsConflict}
+use Rattle.ps_learning.specs.Trails.{TrailEntry, IsConflict}
 use Rattle.ps_forms.specs.Forms.{Form}
 use Rattle.ps_forms.specs.Settled.{IsIdle, AtomsAreSet}
 
@@ -17,8 +17,8 @@ IsPropagated known a None = IsAtRest known a
 IsPropagated known a (Some id) = IsConflict known a id
 
 -- the literals that were set stay, and others come after them
-pub record IsLonger (old new : List Entry) : Type 0 where
-  pub more : List Entry
+pub record IsLonger (old new : List TrailEntry) : Type 0 where
+  pub more : List TrailEntry
   pub is : new ≡ old ++ more
 
 -- propagation is at its end, and each atom has a value

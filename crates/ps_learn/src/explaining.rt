@@ -12,7 +12,7 @@ ghost use Rattle.ps_learn.specs.Marks.{IsCaused, IsTrailExplained, AreCauses};
 use crate::marks::{is_marked, mark, mark_causes};
 use ps_io::{List, NoMemory};
 use ps_pb::{Assignment, Constraint, constraint_at};
-use ps_trail::{Entry, Trail};
+use ps_trail::{TrailEntry, Trail};
 use std::alloc::Global;
 
 /// The marked variables are causes, and those of the learned clause are kept.
@@ -129,7 +129,7 @@ fn is_marked_before(trail: &Trail, i: usize, marks: &[bool]) -> bool
 
 // Whether an entry stands at level 0, or at the last level after a marked one.
 #[tactic(auto, using(crate::proofs::Before::to_explain))]
-fn is_to_explain(trail: &Trail, i: usize, entry: &Entry, marks: &[bool]) -> bool
+fn is_to_explain(trail: &Trail, i: usize, entry: &TrailEntry, marks: &[bool]) -> bool
     requires { i < length trail.now.entries }
     ensures { IsToExplain (level trail.now) trail.now.entries marks.now i entry.now result }
 {
@@ -147,7 +147,7 @@ fn explain(
     known: &List<Constraint>,
     trail: &Trail,
     i: usize,
-    entry: &Entry,
+    entry: &TrailEntry,
     before: &Assignment,
     marks: &mut [bool],
     kept: &mut [bool],
@@ -171,7 +171,7 @@ fn explain(
 // Marks the causes of an entry's reason, or keeps it where it has none.
 fn explain_by_reason(
     known: &List<Constraint>,
-    entry: &Entry,
+    entry: &TrailEntry,
     before: &Assignment,
     marks: &mut [bool],
     kept: &mut [bool],

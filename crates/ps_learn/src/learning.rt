@@ -16,7 +16,7 @@ use crate::explaining::explain_conflict;
 use crate::marks::is_marked;
 use ps_io::{List, NoMemory};
 use ps_pb::{Assignment, Constraint, Effect, Hints, Lits, Step, constraint_at, propagate};
-use ps_trail::{Entry, Trail};
+use ps_trail::{TrailEntry, Trail};
 use std::alloc::Global;
 
 /// A step, the level to go on from, and the marked variables: at least those of the false literals
@@ -90,7 +90,7 @@ struct Kept {
 
 // Adds the opposite of a kept literal, and sets it false.
 fn add_kept(
-    entry: &Entry,
+    entry: &TrailEntry,
     marks: &[bool],
     kept: &mut Kept,
     a: &mut Assignment,
@@ -145,7 +145,7 @@ enum Followed {
 // Goes on along a marked entry's reason, unless its literal is true already.
 fn follow(
     known: &List<Constraint>,
-    entry: &Entry,
+    entry: &TrailEntry,
     marks: &[bool],
     hints: &mut Hints,
     a: &mut Assignment,

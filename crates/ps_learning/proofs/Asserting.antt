@@ -5,7 +5,7 @@ use Rattle.std.specs.List.{All}
 use Rattle.std.proofs.lemmas.List.Elements.{All-nil, All-push, All-head, All-tail}
 use Rattle.std.proofs.lemmas.Bool.{cases_lt}
 use Rattle.std.proofs.Math.Nat.{max-eq_right, max-eq_left, max-le}
-use Rattle.ps_learning.specs.Trails.{Entry, Trail, decisions, level, AreFresh, AreLevels}
+use Rattle.ps_learning.specs.Trails.{TrailEntry, Trail, decisions, level, AreFresh, AreLevels}
 use Rattle.ps_learning.specs.Levels.{level_at, greatest_level, IsAsserting}
 use Rattle.ps_learning.specs.Causes.{Marks, is_marked}
 use Rattle.ps_learning.specs.Keeping.{IsKeptOnce}
@@ -14,16 +14,16 @@ use Rattle.ps_learning.proofs.Levels.{decisions-more}
 use Rattle.ps_learning.proofs.Keeping.{before-level}
 
 -- the level of a literal is below a number, or at most it
-abbrev pub Under : List Entry → ℕ → ℤ → Type 0
+abbrev pub Under : List TrailEntry → ℕ → ℤ → Type 0
 Under es n l = level_at es l < n
 
-abbrev pub UpTo : List Entry → ℕ → ℤ → Type 0
+abbrev pub UpTo : List TrailEntry → ℕ → ℤ → Type 0
 UpTo es n l = level_at es l ≤ n
 
 -- an entry of the trail's level was kept before a place
 pub record HasLast (t : Trail) (kept : Marks) (i : ℕ) : Type 0 where
   pub place : ℕ
-  pub entry : Entry
+  pub entry : TrailEntry
   pub before : place < i
   pub there : slice_get t.entries place ≡ Some entry
   pub own : is_marked kept entry.lit ≡ true
@@ -58,18 +58,18 @@ asserted-skip t kept i lits last next a = record {
   ];
 }
 
-greatest_last : (es : List Entry) (ls : List ℤ) (m : ℤ) → All (UpTo es (level_at es m)) ls → greatest_level es (ls ++ m ∷ []) ≡ level_at es m
+greatest_last : (es : List TrailEntry) (ls : List ℤ) (m : ℤ) → All (UpTo es (level_at es m)) ls → greatest_level es (ls ++ m ∷ []) ≡ level_at es m
 greatest_last es [] m h = max-eq_left (omega arith)
 greatest_last es (l ∷ ls) m h = rw (greatest_last es ls m (All-tail (UpTo es (level_at es m)) l ls h)) (max-eq_right (All-head (UpTo es (level_at es m)) l ls h))
 
-wider : (es : List Entry) (n m : ℕ) (ls : List ℤ) → n ≤ m → All (UpTo es n) ls → All (UpTo es m) ls
+wider : (es : List TrailEntry) (n m : ℕ) (ls : List ℤ) → n ≤ m → All (UpTo es n) ls → All (UpTo es m) ls
 wider es n m ls h a = λ k d lt. omega (arith, h, a k d lt)
 
-lower : (es : List Entry) (n m : ℕ) (ls : List ℤ) → n < m → All (UpTo es n) ls → All (Under es m) ls
+lower : (es : List TrailEntry) (n m : ℕ) (ls : List ℤ) → n < m → All (UpTo es n) ls → All (Under es m) ls
 lower es n m ls h a = λ k d lt. omega (arith, h, a k d lt)
 
 -- all of before are below the trail's level where one more is kept
-all_below : (t : Trail) (kept : Marks) (i : ℕ) (lits : List ℤ) (last next : ℕ) (e : Entry) → AreLevels t.entries → IsKeptOnce t kept → Asserted t kept i lits last next → slice_get t.entries i ≡ Some e → is_marked kept e.lit ≡ true → All (Under t.entries (level t)) lits
+all_below : (t : Trail) (kept : Marks) (i : ℕ) (lits : List ℤ) (last next : ℕ) (e : TrailEntry) → AreLevels t.entries → IsKeptOnce t kept → Asserted t kept i lits last next → slice_get t.entries i ≡ Some e → is_marked kept e.lit ≡ true → All (Under t.entries (level t)) lits
 all_below t kept i lits last next e f k a q m = elim a.free [
   | inl all ↦ all
   | inr h ↦ (let le : h.entry.level ≤ decisions (take i t.entries) = before-level t.entries i h.place h.entry f h.before h.there in
@@ -79,7 +79,7 @@ all_below t kept i lits last next e f k a q m = elim a.free [
 ]
 
 -- one more literal is kept
-pub asserted-keep : (t : Trail) (kept : Marks) (i : ℕ) (lits : List ℤ) (last next : ℕ) (e : Entry) → AreFresh t.variables t.entries → AreLevels t.entries → IsKeptOnce t kept → Asserted t kept i lits last next → slice_get t.entries i ≡ Some e → is_marked kept e.lit ≡ true → Asserted t kept (i + 1) (lits ++ neg_ℤ e.lit ∷ []) e.level last
+pub asserted-keep : (t : Trail) (kept : Marks) (i : ℕ) (lits : List ℤ) (last next : ℕ) (e : TrailEntry) → AreFresh t.variables t.entries → AreLevels t.entries → IsKeptOnce t kept → Asserted t kept i lits last next → slice_get t.entries i ≡ Some e → is_marked kept e.lit ≡ true → Asserted t kept (i + 1) (lits ++ neg_ℤ e.lit ∷ []) e.level last
 asserted-keep t kept i lits last next e f g k a q m =
     let es = t.entries in
     let own : level_at es (neg_ℤ e.lit) ≡ e.level = level-opposite t.variables es i e f q in
@@ -110,7 +110,7 @@ asserted-keep t kept i lits last next e f g k a q m =
     one_more i = omega arith
 
 -- the greatest level of literals below the trail's level is at most that
-pub greatest-most : (es : List Entry) (n : ℕ) (ls : List ℤ) → All (Under es n) ls → greatest_level es ls ≤ n
+pub greatest-most : (es : List TrailEntry) (n : ℕ) (ls : List ℤ) → All (Under es n) ls → greatest_level es ls ≤ n
 greatest-most es n [] h = omega arith
 greatest-most es n (l ∷ ls) h = max-le (omega (arith, All-head (Under es n) l ls h)) (greatest-most es n ls (All-tail (Under es n) l ls h))
 

@@ -9,7 +9,7 @@ use Rattle.std.proofs.lemmas.Bool.{cases_eq, eq-eqb}
 use Rattle.ps_steps.specs.Assignments.{Assignment, place, value_of, with_true, is_false, all_unset, Includes}
 use Rattle.ps_steps.specs.Constraints.{Constraint, Forces, slack, is_violated, some_forced, with_forced}
 use Rattle.ps_steps.specs.Steps.{Known, constraint_at, next_id, Step, Open, Conflict, at_constraint, after_hint, after_hints, and_false, all_false, refusal_of, from_start, end_of}
-use Rattle.ps_learning.specs.Trails.{Entry, values_of, AreFresh}
+use Rattle.ps_learning.specs.Trails.{TrailEntry, values_of, AreFresh}
 use Rattle.ps_learning.specs.Causes.{Marks, is_marked, AreCovered}
 use Rattle.ps_steps.proofs.Values.{includes-refl, includes-trans}
 use Rattle.ps_steps.proofs.Forcing.{with_forced-includes}
@@ -34,7 +34,7 @@ known-id known zero c h = absurd (cc)
 known-id known (suc i) c h = (omega arith, omega (arith, at_place known i c h))
 
 -- how far the hints have come: propagation from the start along them includes the marked part of the trail
-pub record Followed (v : ℕ) (known : Known) (es : List Entry) (marks : Marks) (start : Assignment) (i : ℕ) (hints : List ℕ) (a : Assignment) : Type 0 where
+pub record Followed (v : ℕ) (known : Known) (es : List TrailEntry) (marks : Marks) (start : Assignment) (i : ℕ) (hints : List ℕ) (a : Assignment) : Type 0 where
   pub going : after_hints known (Open start) hints ≡ Open a
   pub includes : (l : ℤ) (x : Bool) → value_of (values_of v (take i es)) l ≡ Some x → is_marked marks l ≡ true → value_of a l ≡ Some x
   pub from : Includes a start
@@ -42,12 +42,12 @@ pub record Followed (v : ℕ) (known : Known) (es : List Entry) (marks : Marks) 
   pub few : length hints ≤ i
   pub ids : All (IsKnownId known) hints
 
-pub followed-none : (v : ℕ) (known : Known) (es : List Entry) (marks : Marks) (start : Assignment) → length start ≡ v → Followed v known es marks start 0 [] start
+pub followed-none : (v : ℕ) (known : Known) (es : List TrailEntry) (marks : Marks) (start : Assignment) → length start ≡ v → Followed v known es marks start 0 [] start
 unfolding values_of
 followed-none v known es marks start h = record { going = refl; includes = λ l x e. absurd (cc (value-unset v l, e)); from = includes-refl start; len = h; few = omega arith; ids = All-nil (IsKnownId known) }
 
 -- the values of one entry more: those of before, or the entry's own
-more_values : (v : ℕ) (es : List Entry) (i : ℕ) (e : Entry) (l : ℤ) (x : Bool) (a : Assignment) → slice_get es i ≡ Some e → value_of (values_of v (take (i + 1) es)) l ≡ Some x → (value_of (values_of v (take i es)) l ≡ Some x → value_of a l ≡ Some x) → (place l ≡ place e.lit → value_of a e.lit ≡ Some true) → place e.lit < v → value_of a l ≡ Some x
+more_values : (v : ℕ) (es : List TrailEntry) (i : ℕ) (e : TrailEntry) (l : ℤ) (x : Bool) (a : Assignment) → slice_get es i ≡ Some e → value_of (values_of v (take (i + 1) es)) l ≡ Some x → (value_of (values_of v (take i es)) l ≡ Some x → value_of a l ≡ Some x) → (place l ≡ place e.lit → value_of a e.lit ≡ Some true) → place e.lit < v → value_of a l ≡ Some x
 more_values v es i e l x a at h before own p =
     let h' : value_of (with_true (values_of v (take i es)) e.lit) l ≡ Some x = rw (values-more v es i e at) at h in
     elim (cases_eq (place l) (place e.lit)) [
@@ -65,7 +65,7 @@ pub covered-covers : (c : Constraint) (before a : Assignment) (marks : Marks) �
 covered-covers c before a marks h inc = record { at = λ l k t o. open_by (value_of before l) (value_of a l) (λ e. inc l false e (h.at l k t e)) o }
 
 -- an entry that isn't marked
-pub followed-unmarked : (v : ℕ) (known : Known) (es : List Entry) (marks : Marks) (start : Assignment) (i : ℕ) (hints : List ℕ) (a : Assignment) (e : Entry) → AreFresh v es → Followed v known es marks start i hints a → slice_get es i ≡ Some e → is_marked marks e.lit ≡ false → Followed v known es marks start (i + 1) hints a
+pub followed-unmarked : (v : ℕ) (known : Known) (es : List TrailEntry) (marks : Marks) (start : Assignment) (i : ℕ) (hints : List ℕ) (a : Assignment) (e : TrailEntry) → AreFresh v es → Followed v known es marks start i hints a → slice_get es i ≡ Some e → is_marked marks e.lit ≡ false → Followed v known es marks start (i + 1) hints a
 followed-unmarked v known es marks start i hints a e fresh f at non = record {
   going = f.going;
   includes = λ l x h m. more_values v es i e l x a at h (λ b. f.includes l x b m) (λ q. absurd (cc (non, m, ap (λ p. slice_index_or marks p false) q))) (fresh.at i e at).within;
@@ -76,7 +76,7 @@ followed-unmarked v known es marks start i hints a e fresh f at non = record {
 }
 
 -- an entry whose literal is true already
-pub followed-true : (v : ℕ) (known : Known) (es : List Entry) (marks : Marks) (start : Assignment) (i : ℕ) (hints : List ℕ) (a : Assignment) (e : Entry) → AreFresh v es → Followed v known es marks start i hints a → slice_get es i ≡ Some e → value_of a e.lit ≡ Some true → Followed v known es marks start (i + 1) hints a
+pub followed-true : (v : ℕ) (known : Known) (es : List TrailEntry) (marks : Marks) (start : Assignment) (i : ℕ) (hints : List ℕ) (a : Assignment) (e : TrailEntry) → AreFresh v es → Followed v known es marks start i hints a → slice_get es i ≡ Some e → value_of a e.lit ≡ Some true → Followed v known es marks start (i + 1) hints a
 followed-true v known es marks start i hints a e fresh f at t = record {
   going = f.going;
   includes = λ l x h m. more_values v es i e l x a at h (λ b. f.includes l x b m) (λ q. t) (fresh.at i e at).within;
@@ -99,7 +99,7 @@ length_one [] h = refl
 length_one (x ∷ hs) h = ap suc (length_one hs h)
 
 -- a reason that forces its literal
-pub followed-forced : (v : ℕ) (known : Known) (es : List Entry) (marks : Marks) (start : Assignment) (i : ℕ) (hints : List ℕ) (a : Assignment) (e : Entry) (id : ℕ) (c : Constraint) → AreFresh v es → Followed v known es marks start i hints a → slice_get es i ≡ Some e → constraint_at known id ≡ Some c → AreCovered c (values_of v (take i es)) marks → Forces c (values_of v (take i es)) e.lit → AreDistinct c.terms → is_violated c a ≡ false → value_of a e.lit ≢ Some true → Followed v known es marks start (i + 1) (hints ++ id ∷ []) (with_forced (slack c a) c.terms a)
+pub followed-forced : (v : ℕ) (known : Known) (es : List TrailEntry) (marks : Marks) (start : Assignment) (i : ℕ) (hints : List ℕ) (a : Assignment) (e : TrailEntry) (id : ℕ) (c : Constraint) → AreFresh v es → Followed v known es marks start i hints a → slice_get es i ≡ Some e → constraint_at known id ≡ Some c → AreCovered c (values_of v (take i es)) marks → Forces c (values_of v (take i es)) e.lit → AreDistinct c.terms → is_violated c a ≡ false → value_of a e.lit ≢ Some true → Followed v known es marks start (i + 1) (hints ++ id ∷ []) (with_forced (slack c a) c.terms a)
 followed-forced v known es marks start i hints a e id c fresh f at k covered forces d well ne =
     let before = values_of v (take i es) in
     let after = with_forced (slack c a) c.terms a in
@@ -117,13 +117,13 @@ followed-forced v known es marks start i hints a e id c fresh f at k covered for
     }
 
 -- a reason is violated or forces something, unless its literal is true
-pub followed-idle : (v : ℕ) (known : Known) (es : List Entry) (marks : Marks) (start : Assignment) (i : ℕ) (hints : List ℕ) (a : Assignment) (l : ℤ) (c : Constraint) → Followed v known es marks start i hints a → AreCovered c (values_of v (take i es)) marks → Forces c (values_of v (take i es)) l → is_violated c a ≡ false → value_of a l ≢ Some true → some_forced (slack c a) a c.terms ≡ false → ⊥
+pub followed-idle : (v : ℕ) (known : Known) (es : List TrailEntry) (marks : Marks) (start : Assignment) (i : ℕ) (hints : List ℕ) (a : Assignment) (l : ℤ) (c : Constraint) → Followed v known es marks start i hints a → AreCovered c (values_of v (take i es)) marks → Forces c (values_of v (take i es)) l → is_violated c a ≡ false → value_of a l ≢ Some true → some_forced (slack c a) a c.terms ≡ false → ⊥
 followed-idle v known es marks start i hints a l c f covered forces well ne idle =
     let covers = covered-covers c (values_of v (take i es)) a marks covered f.includes in
     absurd (cc (covers-some c (values_of v (take i es)) a l covers forces well ne, idle))
 
 -- at the trail's end the conflict is one for the propagation too
-pub followed-end : (v : ℕ) (known : Known) (es : List Entry) (marks : Marks) (start : Assignment) (i : ℕ) (hints : List ℕ) (a : Assignment) (id : ℕ) (c : Constraint) → Followed v known es marks start i hints a → length es ≤ i → constraint_at known id ≡ Some c → is_violated c (values_of v es) ≡ true → AreCovered c (values_of v es) marks → after_hints known (Open start) (hints ++ id ∷ []) ≡ Conflict
+pub followed-end : (v : ℕ) (known : Known) (es : List TrailEntry) (marks : Marks) (start : Assignment) (i : ℕ) (hints : List ℕ) (a : Assignment) (id : ℕ) (c : Constraint) → Followed v known es marks start i hints a → length es ≤ i → constraint_at known id ≡ Some c → is_violated c (values_of v es) ≡ true → AreCovered c (values_of v es) marks → after_hints known (Open start) (hints ++ id ∷ []) ≡ Conflict
 followed-end v known es marks start i hints a id c f h k x covered =
     followed-violated known start a hints id c f.going k (covers-violated c (values_of v es) a (covered-covers c (values_of v es) a marks covered (λ l y e m. f.includes l y (rw (take_all i es h) e) m)) x)
 

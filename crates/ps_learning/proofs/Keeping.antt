@@ -4,7 +4,7 @@ use Rattle.std.specs.Prelude.{slice_get, slice_set, slice_index_or, is_none}
 use Rattle.std.proofs.lemmas.Bool.{cases_lt}
 use Rattle.ps_steps.specs.Assignments.{Assignment, place, value_of, is_unset}
 use Rattle.ps_steps.specs.Steps.{Known}
-use Rattle.ps_learning.specs.Trails.{Entry, Trail, values_of, decisions, IsReason, AreFresh, AreLevels, AreReasons}
+use Rattle.ps_learning.specs.Trails.{TrailEntry, Trail, values_of, decisions, IsReason, AreFresh, AreLevels, AreReasons}
 use Rattle.ps_learning.specs.Causes.{Marks, is_marked}
 use Rattle.ps_learning.specs.Marking.{Grows, AreSetIn}
 use Rattle.ps_learning.specs.Keeping.{IsKeptOnce, IsToExplain, HasNoReason, IsKeptOrNot}
@@ -13,20 +13,20 @@ use Rattle.ps_learning.proofs.Marking.{grows-trans, marked-set, unset-earlier}
 use Rattle.ps_learning.proofs.Distinct.{same-place, other-place, decisions-next, level-most}
 
 -- how far back entries have been kept
-pub record Keeping (es : List Entry) (marks kept : Marks) (i : ℕ) : Type 0 where
-  pub above : (j : ℕ) (e : Entry) → slice_get es j ≡ Some e → is_marked kept e.lit ≡ true → 1 ≤ e.level
-  pub none : (j k : ℕ) (e d : Entry) → k < j → slice_get es j ≡ Some e → slice_get es k ≡ Some d → e.level ≡ decisions es → d.level ≡ decisions es → is_marked kept e.lit ≡ true → is_marked marks d.lit ≡ false
-  pub unkept : (k : ℕ) (d : Entry) → k < i → slice_get es k ≡ Some d → is_marked kept d.lit ≡ false
+pub record Keeping (es : List TrailEntry) (marks kept : Marks) (i : ℕ) : Type 0 where
+  pub above : (j : ℕ) (e : TrailEntry) → slice_get es j ≡ Some e → is_marked kept e.lit ≡ true → 1 ≤ e.level
+  pub none : (j k : ℕ) (e d : TrailEntry) → k < j → slice_get es j ≡ Some e → slice_get es k ≡ Some d → e.level ≡ decisions es → d.level ≡ decisions es → is_marked kept e.lit ≡ true → is_marked marks d.lit ≡ false
+  pub unkept : (k : ℕ) (d : TrailEntry) → k < i → slice_get es k ≡ Some d → is_marked kept d.lit ≡ false
   pub in_marks : Grows marks kept
 
 -- the facts of a trail
-pub record IsSound (v : ℕ) (known : Known) (es : List Entry) : Type 0 where
+pub record IsSound (v : ℕ) (known : Known) (es : List TrailEntry) : Type 0 where
   pub fresh : AreFresh v es
   pub levels : AreLevels es
   pub reasons : AreReasons v known es
 
 -- nothing is kept at first
-pub keeping-first : (es : List Entry) (marks kept : Marks) (i : ℕ) → ((l : ℤ) → is_marked kept l ≡ false) → Keeping es marks kept i
+pub keeping-first : (es : List TrailEntry) (marks kept : Marks) (i : ℕ) → ((l : ℤ) → is_marked kept l ≡ false) → Keeping es marks kept i
 keeping-first es marks kept i h = record {
   above = λ j e q m. absurd (cc (m, h e.lit));
   none = λ j k e d lt p q a b m. absurd (cc (m, h e.lit));
@@ -35,7 +35,7 @@ keeping-first es marks kept i h = record {
 }
 
 -- at the end one is kept
-pub keeping-end : (t : Trail) (es : List Entry) (marks kept : Marks) (i : ℕ) → es ≡ t.entries → Keeping es marks kept i → IsKeptOnce t kept
+pub keeping-end : (t : Trail) (es : List TrailEntry) (marks kept : Marks) (i : ℕ) → es ≡ t.entries → Keeping es marks kept i → IsKeptOnce t kept
 keeping-end t es marks kept i e k = subst (λ xs. IsKeptOnce (record { variables = t.variables; entries = xs }) kept) e (record {
   above = k.above;
   one = λ j m x d lt p q a b mk. by_mark d.lit (is_marked kept d.lit) refl (k.none j m x d lt p q a b mk);
@@ -45,34 +45,34 @@ keeping-end t es marks kept i e k = subst (λ xs. IsKeptOnce (record { variables
     by_mark l true r n = absurd (cc (k.in_marks.at l r, n))
     by_mark l false r n = r
 
-reason_is : (known : Known) (before : Assignment) (e : Entry) (o : Option ℕ) → e.reason ≡ o → IsReason known before e.lit o → HasNoReason known e → is_none o ≡ true
+reason_is : (known : Known) (before : Assignment) (e : TrailEntry) (o : Option ℕ) → e.reason ≡ o → IsReason known before e.lit o → HasNoReason known e → is_none o ≡ true
 reason_is known before e None q r n = refl
 reason_is known before e (Some id) q r n = absurd (cc (n id q, r.1))
 
 -- an entry without a reason is decided
-no_reason : (v : ℕ) (known : Known) (es : List Entry) (i : ℕ) (e : Entry) → AreReasons v known es → slice_get es i ≡ Some e → HasNoReason known e → is_none e.reason ≡ true
+no_reason : (v : ℕ) (known : Known) (es : List TrailEntry) (i : ℕ) (e : TrailEntry) → AreReasons v known es → slice_get es i ≡ Some e → HasNoReason known e → is_none e.reason ≡ true
 no_reason v known es i e r q n = reason_is known (values_of v (take i es)) e e.reason refl (r.at i e q) n
 
 -- so it is above level 0, and the first of its level
-first_of_level : (v : ℕ) (known : Known) (es : List Entry) (i : ℕ) (e : Entry) → IsSound v known es → slice_get es i ≡ Some e → HasNoReason known e → e.level ≡ decisions (take i es) + 1
+first_of_level : (v : ℕ) (known : Known) (es : List TrailEntry) (i : ℕ) (e : TrailEntry) → IsSound v known es → slice_get es i ≡ Some e → HasNoReason known e → e.level ≡ decisions (take i es) + 1
 first_of_level v known es i e s q n = s.levels.at i e q ∙ decisions-next es i e q ∙ ap (λ b. decisions (take i es) + cond b 1 0) (no_reason v known es i e s.reasons q n)
 
-pub before-level : (es : List Entry) (i k : ℕ) (d : Entry) → AreLevels es → k < i → slice_get es k ≡ Some d → d.level ≤ decisions (take i es)
+pub before-level : (es : List TrailEntry) (i k : ℕ) (d : TrailEntry) → AreLevels es → k < i → slice_get es k ≡ Some d → d.level ≤ decisions (take i es)
 before-level es i k d f lt q = omega (arith, f.at k d q, decisions-more es (suc k) i (omega (arith, lt)))
 
 -- what is to be explained has a reason
-pub to-explain-reason : (v : ℕ) (known : Known) (es : List Entry) (marks : Marks) (i : ℕ) (e : Entry) → IsSound v known es → slice_get es i ≡ Some e → IsToExplain (decisions es) es marks i e true → HasNoReason known e → ⊥
+pub to-explain-reason : (v : ℕ) (known : Known) (es : List TrailEntry) (marks : Marks) (i : ℕ) (e : TrailEntry) → IsSound v known es → slice_get es i ≡ Some e → IsToExplain (decisions es) es marks i e true → HasNoReason known e → ⊥
 to-explain-reason v known es marks i e s q (inl z) n = absurd (omega (arith, z, first_of_level v known es i e s q n))
 to-explain-reason v known es marks i e s q (inr x) n = absurd (omega (arith, x.0, first_of_level v known es i e s q n, x.1.level_is, before-level es i x.1.place x.1.entry s.levels x.1.before x.1.there))
 
 -- so what is kept wasn't to be explained
-kept_false : (v : ℕ) (known : Known) (es : List Entry) (marks : Marks) (i : ℕ) (e : Entry) (b : Bool) → IsSound v known es → slice_get es i ≡ Some e → IsToExplain (decisions es) es marks i e b → (b ≡ false) ⊎ HasNoReason known e → IsToExplain (decisions es) es marks i e false
+kept_false : (v : ℕ) (known : Known) (es : List TrailEntry) (marks : Marks) (i : ℕ) (e : TrailEntry) (b : Bool) → IsSound v known es → slice_get es i ≡ Some e → IsToExplain (decisions es) es marks i e b → (b ≡ false) ⊎ HasNoReason known e → IsToExplain (decisions es) es marks i e false
 kept_false v known es marks i e false s q t o = t
 kept_false v known es marks i e true s q t (inl z) = absurd (cc z)
 kept_false v known es marks i e true s q t (inr n) = absurd (to-explain-reason v known es marks i e s q t n)
 
 -- the entry is kept
-keeps : (v : ℕ) (known : Known) (es : List Entry) (marks kept kept' : Marks) (i : ℕ) (e : Entry) → IsSound v known es → slice_get es i ≡ Some e → Keeping es marks kept (suc i) → kept' ≡ slice_set kept (place e.lit) true → is_marked marks e.lit ≡ true → IsToExplain (decisions es) es marks i e false → Keeping es marks kept' i
+keeps : (v : ℕ) (known : Known) (es : List TrailEntry) (marks kept kept' : Marks) (i : ℕ) (e : TrailEntry) → IsSound v known es → slice_get es i ≡ Some e → Keeping es marks kept (suc i) → kept' ≡ slice_set kept (place e.lit) true → is_marked marks e.lit ≡ true → IsToExplain (decisions es) es marks i e false → Keeping es marks kept' i
 keeps v known es marks kept kept' i e s q k is m t = rw is (record {
   above = λ j d p own. elim (marked-set kept e.lit d.lit own) [
     | inl old ↦ k.above j d p old
@@ -80,7 +80,7 @@ keeps v known es marks kept kept' i e s q k is m t = rw is (record {
   ];
   none = λ j n d x lt p w a b own. elim (marked-set kept e.lit d.lit own) [
     | inl old ↦ k.none j n d x lt p w a b old
-    | inr here ↦ (let z : j ≡ i = same-place v es j i d e s.fresh p q here in let r : Some d ≡ Some e = sym p ∙ ap (slice_get es) z ∙ q in let y : d ≡ e = cc r in (t.1 (ap (λ (o : Entry). o.level) (sym y) ∙ a)).at n x (omega (arith, lt, z)) w b)
+    | inr here ↦ (let z : j ≡ i = same-place v es j i d e s.fresh p q here in let r : Some d ≡ Some e = sym p ∙ ap (slice_get es) z ∙ q in let y : d ≡ e = cc r in (t.1 (ap (λ (o : TrailEntry). o.level) (sym y) ∙ a)).at n x (omega (arith, lt, z)) w b)
   ];
   unkept = λ n d lt p. by_mark n d lt p (is_marked (slice_set kept (place e.lit) true) d.lit) refl;
   in_marks = record {
@@ -94,7 +94,7 @@ keeps v known es marks kept kept' i e s q k is m t = rw is (record {
     is_there : ℕ → Bool
     is_there p = slice_index_or marks p false
 
-    by_mark : (n : ℕ) (d : Entry) → n < i → slice_get es n ≡ Some d → (b : Bool) → is_marked (slice_set kept (place e.lit) true) d.lit ≡ b → is_marked (slice_set kept (place e.lit) true) d.lit ≡ false
+    by_mark : (n : ℕ) (d : TrailEntry) → n < i → slice_get es n ≡ Some d → (b : Bool) → is_marked (slice_set kept (place e.lit) true) d.lit ≡ b → is_marked (slice_set kept (place e.lit) true) d.lit ≡ false
     by_mark n d lt p false r = r
     by_mark n d lt p true r = elim (marked-set kept e.lit d.lit r) [
       | inl old ↦ absurd (cc (old, k.unkept n d (omega (arith, lt)) p))
@@ -102,8 +102,8 @@ keeps v known es marks kept kept' i e s q k is m t = rw is (record {
     ]
 
 -- what is marked more stands before the entry, so not at the last level where one of it is kept
-still_none : (v : ℕ) (known : Known) (es : List Entry) (marks marks' kept : Marks) (i : ℕ) (e : Entry) → IsSound v known es → slice_get es i ≡ Some e → Keeping es marks kept (suc i) → AreSetIn (values_of v (take i es)) marks' marks → is_marked marks e.lit ≡ true
-    → (j n : ℕ) (d x : Entry) → n < j → slice_get es j ≡ Some d → slice_get es n ≡ Some x → d.level ≡ decisions es → x.level ≡ decisions es → is_marked kept d.lit ≡ true → (b : Bool) → is_marked marks' x.lit ≡ b → is_marked marks' x.lit ≡ false
+still_none : (v : ℕ) (known : Known) (es : List TrailEntry) (marks marks' kept : Marks) (i : ℕ) (e : TrailEntry) → IsSound v known es → slice_get es i ≡ Some e → Keeping es marks kept (suc i) → AreSetIn (values_of v (take i es)) marks' marks → is_marked marks e.lit ≡ true
+    → (j n : ℕ) (d x : TrailEntry) → n < j → slice_get es j ≡ Some d → slice_get es n ≡ Some x → d.level ≡ decisions es → x.level ≡ decisions es → is_marked kept d.lit ≡ true → (b : Bool) → is_marked marks' x.lit ≡ b → is_marked marks' x.lit ≡ false
 still_none v known es marks marks' kept i e s q k new m j n d x lt p w a b own false r = r
 still_none v known es marks marks' kept i e s q k new m j n d x lt p w a b own true r = elim (new.at x.lit r) [
   | inl old ↦ absurd (cc (old, k.none j n d x lt p w a b own))
@@ -120,7 +120,7 @@ still_none v known es marks marks' kept i e s q k new m j n d x lt p w a b own t
     ]
 
 -- the entry is explained, or isn't marked
-spares : (v : ℕ) (known : Known) (es : List Entry) (marks marks' kept : Marks) (i : ℕ) (e : Entry) → IsSound v known es → slice_get es i ≡ Some e → Keeping es marks kept (suc i) → Grows marks' marks → AreSetIn (values_of v (take i es)) marks' marks → (marks' ≡ marks) ⊎ (is_marked marks e.lit ≡ true) → Keeping es marks' kept i
+spares : (v : ℕ) (known : Known) (es : List TrailEntry) (marks marks' kept : Marks) (i : ℕ) (e : TrailEntry) → IsSound v known es → slice_get es i ≡ Some e → Keeping es marks kept (suc i) → Grows marks' marks → AreSetIn (values_of v (take i es)) marks' marks → (marks' ≡ marks) ⊎ (is_marked marks e.lit ≡ true) → Keeping es marks' kept i
 spares v known es marks marks' kept i e s q k g new (inl same) = rw same (record { above = k.above; none = k.none; unkept = λ n d lt p. k.unkept n d (omega (arith, lt)) p; in_marks = k.in_marks })
 spares v known es marks marks' kept i e s q k g new (inr m) = record {
   above = k.above;
@@ -130,6 +130,6 @@ spares v known es marks marks' kept i e s q k g new (inr m) = record {
 }
 
 -- one entry back
-pub keeping-next : (v : ℕ) (known : Known) (es : List Entry) (marks kept marks' kept' : Marks) (i : ℕ) (e : Entry) (b : Bool) → IsSound v known es → slice_get es i ≡ Some e → Keeping es marks kept (suc i) → (is_marked marks e.lit ≡ true → IsToExplain (decisions es) es marks i e b) → Grows marks' marks → AreSetIn (values_of v (take i es)) marks' marks → IsKeptOrNot known e b marks kept marks' kept' → Keeping es marks' kept' i
+pub keeping-next : (v : ℕ) (known : Known) (es : List TrailEntry) (marks kept marks' kept' : Marks) (i : ℕ) (e : TrailEntry) (b : Bool) → IsSound v known es → slice_get es i ≡ Some e → Keeping es marks kept (suc i) → (is_marked marks e.lit ≡ true → IsToExplain (decisions es) es marks i e b) → Grows marks' marks → AreSetIn (values_of v (take i es)) marks' marks → IsKeptOrNot known e b marks kept marks' kept' → Keeping es marks' kept' i
 keeping-next v known es marks kept marks' kept' i e b s q k t g new (inl x) = rw (x.0) (spares v known es marks marks' kept i e s q k g new x.1)
 keeping-next v known es marks kept marks' kept' i e b s q k t g new (inr x) = rw (x.1) (keeps v known es marks kept kept' i e s q k x.0 x.2 (kept_false v known es marks i e b s q (t x.2) x.3))

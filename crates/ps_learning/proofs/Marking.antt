@@ -7,7 +7,7 @@ use Rattle.std.proofs.lemmas.Bool.{cases_eq, cases_lt}
 use Rattle.ps_steps.specs.Assignments.{Assignment, place, value_of, is_unset, Includes}
 use Rattle.ps_steps.specs.Constraints.{Constraint, HasTerm}
 use Rattle.ps_steps.specs.Steps.{Known}
-use Rattle.ps_learning.specs.Trails.{Entry, values_of, AreFresh}
+use Rattle.ps_learning.specs.Trails.{TrailEntry, values_of, AreFresh}
 use Rattle.ps_learning.specs.Causes.{Marks, is_marked, AreCovered, IsExplained, AreExplained}
 use Rattle.ps_learning.specs.Marking.{Grows, AreSetIn}
 use Rattle.ps_steps.proofs.Values.{includes-refl, includes-trans, with_true-includes}
@@ -45,24 +45,24 @@ own-set m l p = get_or-set_same m (place l) true false p
 pub covered-grows : (c : Constraint) (a : Assignment) (old new : Marks) → Grows new old → AreCovered c a old → AreCovered c a new
 covered-grows c a old new g h = record { at = λ l k t f. g.at l (h.at l k t f) }
 
-pub explained-grows : (known : Known) (a : Assignment) (old new : Marks) (e : Entry) → Grows new old → IsExplained known a old e → IsExplained known a new e
+pub explained-grows : (known : Known) (a : Assignment) (old new : Marks) (e : TrailEntry) → Grows new old → IsExplained known a old e → IsExplained known a new e
 explained-grows known a old new e g h = record { id = h.id; constraint = h.constraint; reason = h.reason; known_at = h.known_at; covered = covered-grows h.constraint a old new g h.covered }
 
 -- the values of an earlier part of the trail are among those of a later one
-pub values-earlier : (v : ℕ) (es : List Entry) (i d : ℕ) → AreFresh v es → i + d ≤ length es → Includes (values_of v (take (i + d) es)) (values_of v (take i es))
+pub values-earlier : (v : ℕ) (es : List TrailEntry) (i d : ℕ) → AreFresh v es → i + d ≤ length es → Includes (values_of v (take (i + d) es)) (values_of v (take i es))
 values-earlier v es i zero f h = let e : i + zero ≡ i = omega arith in rw e (includes-refl (values_of v (take i es)))
 values-earlier v es i (suc d) f h =
     let r = entry_at es (i + d) (omega (arith, h)) in
     let e : i + suc d ≡ (i + d) + 1 = omega arith in
     rw e (rw (values-more v es (i + d) r.0 r.1) (includes-trans _ _ _ (with_true-includes (values_of v (take (i + d) es)) r.0.lit (f.at (i + d) r.0 r.1).unset) (values-earlier v es i d f (omega (arith, h)))))
   where
-    entry_at : (es : List Entry) (i : ℕ) → i < length es → (e : Entry) × (slice_get es i ≡ Some e)
+    entry_at : (es : List TrailEntry) (i : ℕ) → i < length es → (e : TrailEntry) × (slice_get es i ≡ Some e)
     entry_at [] i h = absurd (omega arith)
     entry_at (e ∷ es) zero h = (e, refl)
     entry_at (e ∷ es) (suc i) h = entry_at es i (omega (arith, h))
 
 -- an entry's variable is unset before it
-pub unset-earlier : (v : ℕ) (es : List Entry) (i j : ℕ) (e : Entry) → AreFresh v es → i ≤ j → slice_get es j ≡ Some e → is_unset (value_of (values_of v (take i es)) e.lit) ≡ true
+pub unset-earlier : (v : ℕ) (es : List TrailEntry) (i j : ℕ) (e : TrailEntry) → AreFresh v es → i ≤ j → slice_get es j ≡ Some e → is_unset (value_of (values_of v (take i es)) e.lit) ≡ true
 unset-earlier v es i j e f h at =
     let d : (n : ℕ) × (j ≡ i + n) = difference i j h in
     let later : is_unset (value_of (values_of v (take (i + d.0) es)) e.lit) ≡ true = rw (← d.1) (f.at j e at).unset in
@@ -74,16 +74,16 @@ unset-earlier v es i j e f h at =
     difference (suc i) (suc j) h = let r = difference i j (omega (arith, h)) in (r.0, omega (arith, r.1))
 
 -- at the end nothing is to be explained
-pub explained-end : (v : ℕ) (known : Known) (es : List Entry) (marks kept : Marks) → AreExplained v known es marks kept (length es)
+pub explained-end : (v : ℕ) (known : Known) (es : List TrailEntry) (marks kept : Marks) → AreExplained v known es marks kept (length es)
 explained-end v known es marks kept = record { at = λ j e h at. absurd (past es j e h at) }
   where
-    past : (es : List Entry) (j : ℕ) (e : Entry) → length es ≤ j → slice_get es j ≡ Some e → ⊥
+    past : (es : List TrailEntry) (j : ℕ) (e : TrailEntry) → length es ≤ j → slice_get es j ≡ Some e → ⊥
     past [] j e h q = absurd (cc)
     past (x ∷ es) zero e h q = absurd (omega (arith, h))
     past (x ∷ es) (suc j) e h q = past es j e (omega (arith, h)) q
 
 -- entries that stood behind stay explained where marks grow by what was set before, and where more is kept
-later : (v : ℕ) (known : Known) (es : List Entry) (marks marks' kept kept' : Marks) (i j : ℕ) (e : Entry) → AreFresh v es → AreExplained v known es marks kept (suc i) → Grows marks' marks → AreSetIn (values_of v (take i es)) marks' marks → Grows kept' kept → suc i ≤ j → slice_get es j ≡ Some e → is_marked marks' e.lit ≡ true → (is_marked kept' e.lit ≡ true) ⊎ IsExplained known (values_of v (take j es)) marks' e
+later : (v : ℕ) (known : Known) (es : List TrailEntry) (marks marks' kept kept' : Marks) (i j : ℕ) (e : TrailEntry) → AreFresh v es → AreExplained v known es marks kept (suc i) → Grows marks' marks → AreSetIn (values_of v (take i es)) marks' marks → Grows kept' kept → suc i ≤ j → slice_get es j ≡ Some e → is_marked marks' e.lit ≡ true → (is_marked kept' e.lit ≡ true) ⊎ IsExplained known (values_of v (take j es)) marks' e
 later v known es marks marks' kept kept' i j e f x g s k h at m = elim (s.at e.lit m) [
   | inl old ↦ elim (x.at j e h at old) [
     | inl own ↦ inl (k.at e.lit own)
@@ -93,7 +93,7 @@ later v known es marks marks' kept kept' i j e f x g s k h at m = elim (s.at e.l
 ]
 
 -- one entry back
-pub explained-next : (v : ℕ) (known : Known) (es : List Entry) (marks marks' kept kept' : Marks) (i : ℕ) (e : Entry) → AreFresh v es → AreExplained v known es marks kept (suc i) → slice_get es i ≡ Some e → Grows marks' marks → AreSetIn (values_of v (take i es)) marks' marks → Grows kept' kept
+pub explained-next : (v : ℕ) (known : Known) (es : List TrailEntry) (marks marks' kept kept' : Marks) (i : ℕ) (e : TrailEntry) → AreFresh v es → AreExplained v known es marks kept (suc i) → slice_get es i ≡ Some e → Grows marks' marks → AreSetIn (values_of v (take i es)) marks' marks → Grows kept' kept
     → (is_marked marks e.lit ≡ true → (is_marked kept' e.lit ≡ true) ⊎ IsExplained known (values_of v (take i es)) marks' e) → AreExplained v known es marks' kept' i
 explained-next v known es marks marks' kept kept' i e f x at g s k own = record {
   at = λ j d h there m. elim (cases_lt i j) [
@@ -101,7 +101,7 @@ explained-next v known es marks marks' kept kept' i e f x at g s k own = record 
     | inr ge ↦ (let q : j ≡ i = omega (arith, h, ge) in
         let r : Some d ≡ Some e = sym there ∙ ap (slice_get es) q ∙ at in
         let z : d ≡ e = cc r in
-        rw (z, q) (own (elim (s.at e.lit (ap (λ (y : Entry). is_marked marks' y.lit) (sym z) ∙ m)) [
+        rw (z, q) (own (elim (s.at e.lit (ap (λ (y : TrailEntry). is_marked marks' y.lit) (sym z) ∙ m)) [
           | inl old ↦ old
           | inr was ↦ absurd (cc (was, (f.at i e at).unset))
         ])))

@@ -6,7 +6,7 @@ use Rattle.std.proofs.lemmas.List.Sums.{fold-append}
 use Rattle.std.proofs.lemmas.Bool.{cases_lt, and_from, lt-ltb}
 use Rattle.ps_steps.specs.Assignments.{Assignment, place, value_of, with_true, with_false, is_unset, all_unset}
 use Rattle.ps_steps.specs.Steps.{and_false}
-use Rattle.ps_learning.specs.Trails.{Entry, IsLit, values_of, AreFresh}
+use Rattle.ps_learning.specs.Trails.{TrailEntry, IsLit, values_of, AreFresh}
 use Rattle.ps_learning.specs.Causes.{Marks, is_marked}
 use Rattle.ps_learning.specs.Starting.{Started}
 use Rattle.ps_steps.proofs.Values.{includes-refl, includes-trans, with_true-includes}
@@ -14,28 +14,28 @@ use Rattle.ps_steps.proofs.Setting.{length-with_true, value-true, includes-both,
 use Rattle.ps_learning.proofs.Entries.{values-more, length-values}
 use Rattle.ps_steps.proofs.Short.{length-unset}
 
-pub started-none : (v : ℕ) (es : List Entry) (kept : Marks) → Started v es kept 0 [] (all_unset v)
+pub started-none : (v : ℕ) (es : List TrailEntry) (kept : Marks) → Started v es kept 0 [] (all_unset v)
 unfolding values_of
 started-none v es kept = record { lits_false = refl; includes = includes-refl (all_unset v); kept_true = λ j e h. absurd (omega arith); listed = λ j e h. absurd (omega arith); len = length-unset v; few = omega arith; literals = All-nil (IsLit v) }
 
-pub started-skip : (v : ℕ) (es : List Entry) (kept : Marks) (i : ℕ) (lits : List ℤ) (a : Assignment) (e : Entry) → AreFresh v es → Started v es kept i lits a → slice_get es i ≡ Some e → is_marked kept e.lit ≡ false → Started v es kept (i + 1) lits a
+pub started-skip : (v : ℕ) (es : List TrailEntry) (kept : Marks) (i : ℕ) (lits : List ℤ) (a : Assignment) (e : TrailEntry) → AreFresh v es → Started v es kept i lits a → slice_get es i ≡ Some e → is_marked kept e.lit ≡ false → Started v es kept (i + 1) lits a
 started-skip v es kept i lits a e f s at non = record {
   lits_false = s.lits_false;
   includes = rw (values-more v es i e at) (includes-trans _ _ _ (with_true-includes (values_of v (take i es)) e.lit (f.at i e at).unset) s.includes);
   kept_true = λ j d h k n. elim (cases_lt j i) [
     | inl lt ↦ s.kept_true j d lt k n
-    | inr ge ↦ (let q : j ≡ i = omega arith in let r : Some d ≡ Some e = sym k ∙ ap (slice_get es) q ∙ at in let z : d ≡ e = cc r in absurd (cc (non, n, ap (λ (x : Entry). is_marked kept x.lit) z)))
+    | inr ge ↦ (let q : j ≡ i = omega arith in let r : Some d ≡ Some e = sym k ∙ ap (slice_get es) q ∙ at in let z : d ≡ e = cc r in absurd (cc (non, n, ap (λ (x : TrailEntry). is_marked kept x.lit) z)))
   ];
   listed = λ j d h k n. elim (cases_lt j i) [
     | inl lt ↦ s.listed j d lt k n
-    | inr ge ↦ (let q : j ≡ i = omega arith in let r : Some d ≡ Some e = sym k ∙ ap (slice_get es) q ∙ at in let z : d ≡ e = cc r in absurd (cc (non, n, ap (λ (x : Entry). is_marked kept x.lit) z)))
+    | inr ge ↦ (let q : j ≡ i = omega arith in let r : Some d ≡ Some e = sym k ∙ ap (slice_get es) q ∙ at in let z : d ≡ e = cc r in absurd (cc (non, n, ap (λ (x : TrailEntry). is_marked kept x.lit) z)))
   ];
   len = s.len;
   few = omega (arith, s.few);
   literals = s.literals;
 }
 
-pub started-keep : (v : ℕ) (es : List Entry) (kept : Marks) (i : ℕ) (lits : List ℤ) (a : Assignment) (e : Entry) → AreFresh v es → Started v es kept i lits a → slice_get es i ≡ Some e → Started v es kept (i + 1) (lits ++ neg_ℤ e.lit ∷ []) (with_false a (neg_ℤ e.lit))
+pub started-keep : (v : ℕ) (es : List TrailEntry) (kept : Marks) (i : ℕ) (lits : List ℤ) (a : Assignment) (e : TrailEntry) → AreFresh v es → Started v es kept i lits a → slice_get es i ≡ Some e → Started v es kept (i + 1) (lits ++ neg_ℤ e.lit ∷ []) (with_false a (neg_ℤ e.lit))
 started-keep v es kept i lits a e f s at =
     let fresh = f.at i e at in
     let unset : is_unset (value_of a e.lit) ≡ true = unset-below (values_of v (take i es)) a e.lit s.includes fresh.unset in

@@ -3,7 +3,7 @@ use Rattle.std.specs.Prelude.{ℕ, ◌≡◌, ◌≤◌, ℤ, neg_ℤ, Bool, tru
 use Rattle.ps_steps.specs.Assignments.{Assignment, place, value_of}
 use Rattle.ps_steps.specs.Constraints.{Constraint, HasTerm}
 use Rattle.ps_steps.specs.Steps.{Known, constraint_at}
-use Rattle.ps_learning.specs.Trails.{Entry, Trail, values, values_of}
+use Rattle.ps_learning.specs.Trails.{TrailEntry, Trail, values, values_of}
 
 -- marks of variables, by place
 abbrev pub Marks : Type 0
@@ -22,7 +22,7 @@ abbrev pub IsCoveredAt : Known → ℕ → Assignment → Marks → Type 0
 IsCoveredAt known id a marks = (c : Constraint) → constraint_at known id ≡ Some c → AreCovered c a marks
 
 -- the reason's false literals are marked
-pub record IsExplained (known : Known) (a : Assignment) (marks : Marks) (e : Entry) : Type 0 where
+pub record IsExplained (known : Known) (a : Assignment) (marks : Marks) (e : TrailEntry) : Type 0 where
   pub id : ℕ
   pub constraint : Constraint
   pub reason : e.reason ≡ Some id
@@ -30,11 +30,11 @@ pub record IsExplained (known : Known) (a : Assignment) (marks : Marks) (e : Ent
   pub covered : AreCovered constraint a marks
 
 -- from place i on, each marked entry is kept or explained by marked ones
-pub record AreExplained (variables : ℕ) (known : Known) (es : List Entry) (marks kept : Marks) (i : ℕ) : Type 0 where
-  pub at : (j : ℕ) (e : Entry) → i ≤ j → slice_get es j ≡ Some e → is_marked marks e.lit ≡ true → (is_marked kept e.lit ≡ true) ⊎ IsExplained known (values_of variables (take j es)) marks e
+pub record AreExplained (variables : ℕ) (known : Known) (es : List TrailEntry) (marks kept : Marks) (i : ℕ) : Type 0 where
+  pub at : (j : ℕ) (e : TrailEntry) → i ≤ j → slice_get es j ≡ Some e → is_marked marks e.lit ≡ true → (is_marked kept e.lit ≡ true) ⊎ IsExplained known (values_of variables (take j es)) marks e
 
 -- the causes of a conflict are marked back to a clause: the conflict's false literals, and for each marked entry of the trail
 -- its opposite is in the clause, or the false literals of its reason are marked
 pub record HasMarkedCauses (known : Known) (t : Trail) (conflict : ℕ) (clause : List ℤ) (marks : Marks) : Type 0 where
   pub conflict_is_marked : IsCoveredAt known conflict (values t) marks
-  pub explained : (i : ℕ) (e : Entry) → slice_get t.entries i ≡ Some e → is_marked marks e.lit ≡ true → Contains clause (neg_ℤ e.lit) ⊎ IsExplained known (values_of t.variables (take i t.entries)) marks e
+  pub explained : (i : ℕ) (e : TrailEntry) → slice_get t.entries i ≡ Some e → is_marked marks e.lit ≡ true → Contains clause (neg_ℤ e.lit) ⊎ IsExplained known (values_of t.variables (take i t.entries)) marks e

@@ -1,18 +1,18 @@
 -- The levels of literals.
 use Rattle.std.specs.Prelude.{ℕ, ◌≡◌, ◌≤◌, ◌<◌, max, ℤ, Option, Some, None, List, [], ◌∷◌, ◌++◌, length, unsigned_abs, All}
-use Rattle.ps_learning.specs.Trails.{Entry, Trail, level, entry_of}
+use Rattle.ps_learning.specs.Trails.{TrailEntry, Trail, level, entry_of}
 
 -- the level of an entry; 0 where there is none
-abbrev pub level_or_zero : Option Entry → ℕ
+abbrev pub level_or_zero : Option TrailEntry → ℕ
 level_or_zero None = 0
 level_or_zero (Some e) = e.level
 
 -- the level of a literal's variable; 0 where it isn't set
-abbrev pub level_at : List Entry → ℤ → ℕ
+abbrev pub level_at : List TrailEntry → ℤ → ℕ
 level_at es l = level_or_zero (entry_of (unsigned_abs l) es)
 
 -- the greatest level of some literals; 0 where there are none
-abbrev pub greatest_level : List Entry → List ℤ → ℕ
+abbrev pub greatest_level : List TrailEntry → List ℤ → ℕ
 greatest_level es [] = 0
 greatest_level es (l ∷ ls) = max (level_at es l) (greatest_level es ls)
 

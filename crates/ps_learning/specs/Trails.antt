@@ -7,7 +7,7 @@ use Rattle.ps_steps.specs.Constraints.{Constraint, is_violated, Forces}
 use Rattle.ps_steps.specs.Steps.{Known, constraint_at}
 
 -- a literal that was set, the id of the constraint that forced it, or none where it was decided, and its level
-pub record Entry : Type 0 where
+pub record TrailEntry : Type 0 where
   pub lit : ℤ
   pub reason : Option ℕ
   pub level : ℕ
@@ -15,14 +15,14 @@ pub record Entry : Type 0 where
 -- the literals that were set, in this order, over so many variables
 pub record Trail : Type 0 where
   pub variables : ℕ
-  pub entries : List Entry
+  pub entries : List TrailEntry
 
 -- the values with one more literal set true
-abbrev pub and_entry : Assignment → Entry → Assignment
+abbrev pub and_entry : Assignment → TrailEntry → Assignment
 and_entry a e = with_true a e.lit
 
 -- the values of the variables after these entries
-unfoldable pub values_of : ℕ → List Entry → Assignment
+unfoldable pub values_of : ℕ → List TrailEntry → Assignment
 values_of variables es = fold and_entry (all_unset variables) es
 
 -- the values of the variables
@@ -30,7 +30,7 @@ abbrev pub values : Trail → Assignment
 values t = values_of t.variables t.entries
 
 -- how many of the literals were decided
-abbrev pub decisions : List Entry → ℕ
+abbrev pub decisions : List TrailEntry → ℕ
 decisions [] = 0
 decisions (e ∷ es) = (if is_none e.reason then 1 else 0) + decisions es
 
@@ -51,13 +51,13 @@ abbrev pub up_to : ℕ → Trail → Trail
 up_to n t = record { variables = t.variables; entries = filter (λ e. nat_le e.level n) t.entries }
 
 -- the entry of a variable, by its number
-abbrev pub entry_of : ℕ → List Entry → Option Entry
+abbrev pub entry_of : ℕ → List TrailEntry → Option TrailEntry
 entry_of var [] = None
 entry_of var (e ∷ es) = if unsigned_abs e.lit == var then Some e else entry_of var es
 
 -- a binary number with one digit per variable: 1 where the place holds an implied literal, 0 where it holds a decided one or
 -- none, the first place highest
-abbrev pub rank : ℕ → List Entry → ℕ
+abbrev pub rank : ℕ → List TrailEntry → ℕ
 rank variables [] = 0
 rank zero (e ∷ es) = 0
 rank (suc n) (e ∷ es) = (if is_none e.reason then 0 else 2 ^ n) + rank n es
@@ -73,12 +73,12 @@ pub record IsFresh (variables : ℕ) (a : Assignment) (l : ℤ) : Type 0 where
   pub unset : is_unset (value_of a l) ≡ true
 
 -- each literal was of an unset variable when it was set
-pub record AreFresh (variables : ℕ) (es : List Entry) : Type 0 where
-  pub at : (i : ℕ) (e : Entry) → slice_get es i ≡ Some e → IsFresh variables (values_of variables (take i es)) e.lit
+pub record AreFresh (variables : ℕ) (es : List TrailEntry) : Type 0 where
+  pub at : (i : ℕ) (e : TrailEntry) → slice_get es i ≡ Some e → IsFresh variables (values_of variables (take i es)) e.lit
 
 -- each literal stands at the level of the last decided one up to it
-pub record AreLevels (es : List Entry) : Type 0 where
-  pub at : (i : ℕ) (e : Entry) → slice_get es i ≡ Some e → e.level ≡ decisions (take (suc i) es)
+pub record AreLevels (es : List TrailEntry) : Type 0 where
+  pub at : (i : ℕ) (e : TrailEntry) → slice_get es i ≡ Some e → e.level ≡ decisions (take (suc i) es)
 
 -- a reason of a literal: the constraint forces it; a decided literal needs none
 abbrev pub IsReason : Known → Assignment → ℤ → Option ℕ → Type 0
@@ -86,8 +86,8 @@ IsReason known a l None = Unit {0}
 IsReason known a l (Some id) = (c : Constraint) × (constraint_at known id ≡ Some c) × Forces c a l
 
 -- each implied literal was forced by its reason when it was set
-pub record AreReasons (variables : ℕ) (known : Known) (es : List Entry) : Type 0 where
-  pub at : (i : ℕ) (e : Entry) → slice_get es i ≡ Some e → IsReason known (values_of variables (take i es)) e.lit e.reason
+pub record AreReasons (variables : ℕ) (known : Known) (es : List TrailEntry) : Type 0 where
+  pub at : (i : ℕ) (e : TrailEntry) → slice_get es i ≡ Some e → IsReason known (values_of variables (take i es)) e.lit e.reason
 
 -- a known constraint is violated
 pub record IsConflict (known : Known) (a : Assignment) (id : ℕ) : Type 0 where

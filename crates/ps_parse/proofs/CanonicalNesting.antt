@@ -6,7 +6,7 @@ use Rattle.ps_meaning.specs.Formula as formula
 use Rattle.ps_meaning.specs.Formula.{Formula}
 use Rattle.ps_meaning.specs.Statements.{Name}
 use Rattle.ps_text.specs.Grammar as grammar
-use Rattle.ps_text.specs.Grammar.{Form, level, IsForm, Nests}
+use Rattle.ps_text.specs.Grammar.{FormulaSyntax, level, IsWellFormed, Nests}
 use Rattle.ps_text.specs.Meanings.{formula_of}
 use Rattle.ps_problem.specs.Drafts.{parenthesis, nesting_at, canonical_nesting}
 
@@ -32,7 +32,7 @@ one_deeper (formula.Or f g) k = let p = one_parenthesis k 3 in omega (arith, p)
 one_deeper (formula.Implies f g) k = let p = one_parenthesis k 2 in omega (arith, p)
 one_deeper (formula.Iff f g) k = let p = one_parenthesis k 1 in omega (arith, p)
 
-least_level : (f : Form) → 1 ≤ level f
+least_level : (f : FormulaSyntax) → 1 ≤ level f
 least_level (grammar.Iff f g) = omega arith
 least_level (grammar.Implies f g) = omega arith
 least_level (grammar.Or f g) = omega arith
@@ -44,7 +44,7 @@ least_level (grammar.Not f) = omega arith
 least_level (grammar.Group f) = omega arith
 
 -- a form that binds tightly enough nests so deep as its canonical form or deeper, where n are open before
-nested : (f : Form) (k n : ℕ) → k ≤ level f → n ≤ 100 → IsForm f → Nests n f → n + nesting_at k (formula_of f) ≤ 100
+nested : (f : FormulaSyntax) (k n : ℕ) → k ≤ level f → n ≤ 100 → IsWellFormed f → Nests n f → n + nesting_at k (formula_of f) ≤ 100
 nested (grammar.Name w) k n l m i h = omega (arith, m)
 nested grammar.Truth k n l m i h = omega (arith, m)
 nested grammar.Falsity k n l m i h = omega (arith, m)
@@ -61,5 +61,5 @@ nested (grammar.Iff f g) k n l m i h =
     omega (arith, no_parenthesis k 1 l, nested f 1 n i.0 m i.2 h.0, nested g 2 n i.1 m i.3 h.1)
 
 -- a formula within the limit nests within it in its canonical form
-pub canonical_nests : (f : Form) → IsForm f → Nests 0 f → canonical_nesting (formula_of f) ≤ 100
+pub canonical_nests : (f : FormulaSyntax) → IsWellFormed f → Nests 0 f → canonical_nesting (formula_of f) ≤ 100
 canonical_nests f i h = omega (arith, nested f 1 0 (least_level f) (omega arith) i h)

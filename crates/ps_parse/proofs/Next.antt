@@ -16,7 +16,7 @@ use Rattle.ps_text.specs.Tokens.{Token, Word, Number, Sign, Numeral, is_the_word
 use Rattle.ps_text.specs.declared.symbol.Symbol.{Symbol}
 use Rattle.ps_text.specs.declared.symbol.Symbol.TheVariants.{Open, Close, OpenBracket, CloseBracket, Comma, Semicolon, Bang, Ampersand, Bar, Arrow, DoubleArrow, Equals, GreaterEquals, LessEquals}
 use Rattle.ps_text.specs.Grammar as grammar
-use Rattle.ps_text.specs.Grammar.{Form, Group, Prob, Relation, Within, Entry, Sentence, Query}
+use Rattle.ps_text.specs.Grammar.{FormulaSyntax, Group, Prob, Relation, Within, ItemSyntax, Sentence, Query}
 use Rattle.ps_text.specs.Meanings.{formula_of, ratio_of, IsValue, States, IsItem, AreItems}
 use Rattle.ps_text.specs.ExpectedTokens.{refusal, after, may_be_given, is_group}
 use Rattle.ps_text.proofs.Spans.{both}
@@ -36,7 +36,7 @@ use Rattle.ps_parse.proofs.Reducing.{IsReduced, reduces}
 
 -- items
 
-items_push : (es : List Entry) (is : List Item) (e : Entry) (i : Item) → AreItems es is → IsItem e i → AreItems (es ++ e ∷ []) (is ++ i ∷ [])
+items_push : (es : List ItemSyntax) (is : List Item) (e : ItemSyntax) (i : Item) → AreItems es is → IsItem e i → AreItems (es ++ e ∷ []) (is ++ i ∷ [])
 items_push [] [] e i h k = (k, tt)
 items_push [] (x ∷ is) e i h k = absurd h
 items_push (x ∷ es) [] e i h k = absurd h
@@ -83,14 +83,14 @@ record IsBehind (d e : Drafted) (f : Formula Name) : Type 0 where
   items : e.items ≡ d.items
 
 -- what was read of the item in a formula
-abbrev HasBegun : Bool → List (Formula Name) → Option Form → ItemSoFar → Type 0
+abbrev HasBegun : Bool → List (Formula Name) → Option FormulaSyntax → ItemSoFar → Type 0
 HasBegun q fs c i = (i.query ≡ q) × HasFormula fs c i
 
-has_begun : (q : Bool) (c : Option Form) (fs gs : List (Formula Name)) (i : ItemSoFar) → gs ≡ fs → HasBegun q fs c i → HasBegun q gs c i
+has_begun : (q : Bool) (c : Option FormulaSyntax) (fs gs : List (Formula Name)) (i : ItemSoFar) → gs ≡ fs → HasBegun q fs c i → HasBegun q gs c i
 has_begun q c fs gs i e h = (h.0, subst (λ xs. HasFormula xs c i) (sym e) h.1)
 
-module _ (es : List Entry) (q : Bool) (c : Option Form) where
-  ended_does : (fs : List Frame) (f : Form) (os : List Operator) (d : Drafted) (i : ItemSoFar) → os ≡ operators_of fs → d.«open» ≡ lefts_of fs ++ formula_of f ∷ [] → AreItems es d.items → HasBegun q d.formulas c i
+module _ (es : List ItemSyntax) (q : Bool) (c : Option FormulaSyntax) where
+  ended_does : (fs : List Frame) (f : FormulaSyntax) (os : List Operator) (d : Drafted) (i : ItemSoFar) → os ≡ operators_of fs → d.«open» ≡ lefts_of fs ++ formula_of f ∷ [] → AreItems es d.items → HasBegun q d.formulas c i
       → IsWorkOf (behind_operand es q c fs f) (record { pending = reduced_from 5 os d; item = i })
   ended_does fs f os d i o e k h = subst (λ xs. IsWorkOf (behind_operand es q c fs f) (record { pending = reduced_from 5 xs d; item = i })) (sym o)
       (let s = reduces 5 fs f d (omega arith) e in record {
@@ -100,7 +100,7 @@ module _ (es : List Entry) (q : Bool) (c : Option Form) where
         item = has_begun q c d.formulas (reduced_from 5 (operators_of fs) d).draft.formulas i s.formulas h;
       })
 
-  operand_does : (fs : List Frame) (f : Form) (w : Work) (d : Drafted) → IsWorkOf (InOperand es q c fs) w → IsBehind w.pending.draft d (formula_of f) → IsWorkOf (behind_operand es q c fs f) (with_pending w (operand_ended w.pending d))
+  operand_does : (fs : List Frame) (f : FormulaSyntax) (w : Work) (d : Drafted) → IsWorkOf (InOperand es q c fs) w → IsBehind w.pending.draft d (formula_of f) → IsWorkOf (behind_operand es q c fs f) (with_pending w (operand_ended w.pending d))
   operand_does fs f w d h b = ended_does fs f w.pending.operators d w.item h.operators (b.«open» ∙ ap (λ os. os ++ formula_of f ∷ []) h.«open»)
       (subst (λ is. AreItems es is) (sym b.items) h.items) (has_begun q c w.pending.draft.formulas d.formulas w.item b.formulas h.item)
 
@@ -139,11 +139,11 @@ module _ (es : List Entry) (q : Bool) (c : Option Form) where
 one_more : (fs : List (Formula Name)) (f : Formula Name) → length fs < length (fs ++ f ∷ [])
 one_more fs f = let l : length (fs ++ f ∷ []) ≡ length fs + 1 = length-append fs (f ∷ []) in omega (arith, l)
 
-conditional_is : (c : Option Form) (fs : List (Formula Name)) (i : ItemSoFar) → HasFormula fs c i → i.conditional ≡ is_some c
+conditional_is : (c : Option FormulaSyntax) (fs : List (Formula Name)) (i : ItemSoFar) → HasFormula fs c i → i.conditional ≡ is_some c
 conditional_is None fs i h = h
 conditional_is (Some f) fs i h = h.2
 
-ended_prob : (c : Option Form) (g : Form) (fs : List (Formula Name)) (i : ItemSoFar) (b : Bool) → b ≡ is_some c → HasFormula fs c i → HasProb (fs ++ formula_of g ∷ []) (prob_of c g) (numbered_as b i (length fs))
+ended_prob : (c : Option FormulaSyntax) (g : FormulaSyntax) (fs : List (Formula Name)) (i : ItemSoFar) (b : Bool) → b ≡ is_some c → HasFormula fs c i → HasProb (fs ++ formula_of g ∷ []) (prob_of c g) (numbered_as b i (length fs))
 ended_prob None g fs i true e h = absurd (true≢false e)
 ended_prob None g fs i false e h = record { formula = get_or-append_seam fs (formula_of g) [] Truth; given = refl; below = (one_more fs (formula_of g), tt) }
 ended_prob (Some f) g fs i false e h = absurd (true≢false (sym e))
@@ -153,14 +153,14 @@ ended_prob (Some f) g fs i true e h = record {
   below = (let l = one_more fs (formula_of g) in omega (arith, l, h.1), one_more fs (formula_of g));
 }
 
-prob_ended : (c : Option Form) (g : Form) (d : Drafted) (i : ItemSoFar) → d.«open» ≡ formula_of g ∷ [] → HasFormula d.formulas c i → HasProb (d.formulas ++ d.«open») (prob_of c g) (numbered i (length d.formulas))
+prob_ended : (c : Option FormulaSyntax) (g : FormulaSyntax) (d : Drafted) (i : ItemSoFar) → d.«open» ≡ formula_of g ∷ [] → HasFormula d.formulas c i → HasProb (d.formulas ++ d.«open») (prob_of c g) (numbered i (length d.formulas))
 prob_ended c g d i e h = subst (λ os. HasProb (d.formulas ++ os) (prob_of c g) (numbered i (length d.formulas))) (sym e) (ended_prob c g d.formulas i i.conditional (conditional_is c d.formulas i h) h)
 
 -- where nothing waits
 abbrev ended_work : Drafted → ItemSoFar → Work
 ended_work d i = record { pending = record { operators = []; draft = d }; item = i }
 
-close_does : (es : List Entry) (q : Bool) (c : Option Form) (fs : List Frame) (f : Form) (d : Drafted) (i : ItemSoFar) → required_level fs ≤ 1 → d.«open» ≡ lefts_of fs ++ formula_of f ∷ [] → AreItems es d.items → HasBegun q d.formulas c i
+close_does : (es : List ItemSyntax) (q : Bool) (c : Option FormulaSyntax) (fs : List Frame) (f : FormulaSyntax) (d : Drafted) (i : ItemSoFar) → required_level fs ≤ 1 → d.«open» ≡ lefts_of fs ++ formula_of f ∷ [] → AreItems es d.items → HasBegun q d.formulas c i
     → IsWorkOf (behind_close es q c fs f) (closed_behind i (operators_of fs) d)
 close_does es false c [] f d i n e k h = subst (λ b. IsWorkOf (behind_close es false c [] f) (probability_ended b (ended_work d i))) (sym h.0)
     (record { operators = refl; «open» = refl; items = k; item = prob_ended c f d i e h.1 })
@@ -190,7 +190,7 @@ pub not_true : (b : Bool) → not b ≡ true → b ≡ false
 not_true true e = absurd (true≢false (sym e))
 not_true false e = refl
 
-module _ (es : List Entry) (q : Bool) (c : Option Form) (fs : List Frame) (f : Form) (w : Work) (s : IsParse (InOperator es q c fs f)) (h : IsWorkOf (InOperator es q c fs f) w) where
+module _ (es : List ItemSyntax) (q : Bool) (c : Option FormulaSyntax) (fs : List Frame) (f : FormulaSyntax) (w : Work) (s : IsParse (InOperator es q c fs f)) (h : IsWorkOf (InOperator es q c fs f) w) where
   -- the frames of a level are joined
   joined_at : (k : ℕ) → 1 ≤ k → IsReduced w.pending.draft (reduced k w.pending) (joins k fs f).0 (joins k fs f).1
   joined_at k l = subst (λ os. IsReduced w.pending.draft (reduced_from k os w.pending.draft) (joins k fs f).0 (joins k fs f).1) (sym h.operators) (reduces k fs f w.pending.draft l h.«open»)
@@ -251,7 +251,7 @@ module _ (es : List Entry) (q : Bool) (c : Option Form) (fs : List Frame) (f : F
 
 -- outside of a formula
 
-item_does : (es : List Entry) (w : Work) (b c : Bool) → IsWorkOf (InItem es) w → IsWorkOf (if b then InParen es false else (if c then InQueryProb es else InTextEnd es)) (with_query w false)
+item_does : (es : List ItemSyntax) (w : Work) (b c : Bool) → IsWorkOf (InItem es) w → IsWorkOf (if b then InParen es false else (if c then InQueryProb es else InTextEnd es)) (with_query w false)
 item_does es w true c h = record { operators = h.operators; «open» = h.«open»; items = h.items; item = refl }
 item_does es w false true h = record { operators = h.operators; «open» = h.«open»; items = h.items; item = tt }
 item_does es w false false h = record { operators = h.operators; «open» = h.«open»; items = h.items; item = tt }
@@ -259,7 +259,7 @@ item_does es w false false h = record { operators = h.operators; «open» = h.«
 prob_kept : (fs : List (Formula Name)) (p : Prob) (i : ItemSoFar) (s : Side) (r : Ratio) → HasProb fs p i → HasProb fs p (record { query = i.query; conditional = i.conditional; formula = i.formula; given = i.given; side = s; least = r })
 prob_kept fs p i s r h = record { formula = h.formula; given = h.given; below = h.below }
 
-at_relation : (es : List Entry) (p : Prob) (w : Work) (t : Token) → IsWorkOf (InRelation es p) w → IsWorkOf (parsed (InRelation es p) t) (with_side w (side_in t))
+at_relation : (es : List ItemSyntax) (p : Prob) (w : Work) (t : Token) → IsWorkOf (InRelation es p) w → IsWorkOf (parsed (InRelation es p) t) (with_side w (side_in t))
 at_relation es p w (Sign s) h = record { operators = h.operators; «open» = h.«open»; items = h.items; item = (prob_kept w.pending.draft.formulas p w.item (side_in (Sign s)) w.item.least h.item, refl) }
 at_relation es p w (Word u) h = record { operators = h.operators; «open» = h.«open»; items = h.items; item = (prob_kept w.pending.draft.formulas p w.item side.AtLeast w.item.least h.item, refl) }
 at_relation es p w (Number x) h = record { operators = h.operators; «open» = h.«open»; items = h.items; item = (prob_kept w.pending.draft.formulas p w.item side.AtLeast w.item.least h.item, refl) }

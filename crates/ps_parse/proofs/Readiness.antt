@@ -12,7 +12,7 @@ use Rattle.ps_text.specs.Tokens as text
 use Rattle.ps_text.specs.Tokens.{Word, Number, Sign, Numeral, is_the_word}
 use Rattle.ps_text.specs.declared.symbol.Symbol.TheVariants.{Open, Close, OpenBracket, CloseBracket, Comma, Semicolon, Bang, Ampersand, Bar, Arrow, DoubleArrow, Equals, GreaterEquals, LessEquals}
 use Rattle.ps_text.specs.declared.part.Part.TheVariants as part
-use Rattle.ps_text.specs.Grammar.{Form, IsForm, Nests, Prob, Entry, IsProbability, IsProb, AreEntries}
+use Rattle.ps_text.specs.Grammar.{FormulaSyntax, IsWellFormed, Nests, Prob, ItemSyntax, IsProbability, IsProb, AreWellFormedItems}
 use Rattle.ps_text.specs.Meanings.{formula_of}
 use Rattle.ps_text.specs.ExpectedTokens.{outside, refusal, may_be_given, is_group}
 use Rattle.ps_text.proofs.Spans.{both}
@@ -52,7 +52,7 @@ length_lefts (BegunIff f ∷ fs) = length_after (lefts_of fs) (formula_of f) (fi
 have_first : (fs : List Frame) (p : Pending) → p.operators ≡ operators_of fs → p.draft.«open» ≡ lefts_of fs → HaveFirst p
 have_first fs p o e = ap length e ∙ length_lefts fs ∙ ap firsts (sym o)
 
-have_all : (fs : List Frame) (f : Form) (p : Pending) → p.operators ≡ operators_of fs → p.draft.«open» ≡ lefts_of fs ++ formula_of f ∷ [] → HaveAll p
+have_all : (fs : List Frame) (f : FormulaSyntax) (p : Pending) → p.operators ≡ operators_of fs → p.draft.«open» ≡ lefts_of fs ++ formula_of f ∷ [] → HaveAll p
 have_all fs f p o e = ap length e ∙ length_after (lefts_of fs) (formula_of f) (firsts (operators_of fs)) (length_lefts fs) ∙ ap (λ os. suc (firsts os)) (sym o)
 
 -- names
@@ -76,7 +76,7 @@ word_kept (token.Sign s) k = tt
 few_letters : (w : List ℕ) → nat_lt 32 (length w) ≡ false → length w ≤ 32
 few_letters w e = grind (arith, nat_tests)
 
-is_operand : (es : List Entry) (q : Bool) (c : Option Form) (fs : List Frame) (t : text.Token) → IsWordKept t → refusal (state_of (InOperand es q c fs)) t ≡ None → IsOperand t
+is_operand : (es : List ItemSyntax) (q : Bool) (c : Option FormulaSyntax) (fs : List Frame) (t : text.Token) → IsWordKept t → refusal (state_of (InOperand es q c fs)) t ≡ None → IsOperand t
 is_operand es q c fs (Word w) k r =
     let p = passed (state_of (InOperand es q c fs)) (Word w) r in
     λ a b. record { word = k; short = few_letters w p.short; free = is_free (is_reserved w) (bytes_eq w (codes "true")) (bytes_eq w (codes "false")) a b p.expected }
@@ -88,25 +88,25 @@ is_operand es q c fs (Sign s) k r = tt
 all_of_one : (f : Formula Name) → canonical_nesting f ≤ 100 → All (λ g. canonical_nesting g ≤ 100) (f ∷ [])
 all_of_one f h = All-cons (λ g. canonical_nesting g ≤ 100) f [] h (All-nil (λ g. canonical_nesting g ≤ 100))
 
-endable : (d : Drafted) (f : Form) → d.«open» ≡ formula_of f ∷ [] → IsForm f → Nests 0 f → IsEndable d
+endable : (d : Drafted) (f : FormulaSyntax) → d.«open» ≡ formula_of f ∷ [] → IsWellFormed f → Nests 0 f → IsEndable d
 endable d f e i n = record { one = ap length e; nesting = subst (λ os. All (λ g. canonical_nesting g ≤ 100) os) (sym e) (all_of_one (formula_of f) (canonical_nests f i n)) }
 
 no_frames : (fs : List Frame) → operators_of fs ≡ [] → fs ≡ []
 no_frames [] e = refl
 no_frames (x ∷ fs) e = cc
 
-below : (c : Option Form) (fs : List (Formula Name)) (i : ItemSoFar) → HasFormula fs c i → i.conditional ≡ true → i.formula < length fs
+below : (c : Option FormulaSyntax) (fs : List (Formula Name)) (i : ItemSoFar) → HasFormula fs c i → i.conditional ≡ true → i.formula < length fs
 below None fs i h e = absurd (true≢false (sym e ∙ h))
 below (Some f) fs i h e = h.1
 
-module _ (es : List Entry) (q : Bool) (c : Option Form) (fs : List Frame) (f : Form) (w : Work) (s : IsParse (InOperator es q c fs f)) (h : IsWorkOf (InOperator es q c fs f) w) where
+module _ (es : List ItemSyntax) (q : Bool) (c : Option FormulaSyntax) (fs : List Frame) (f : FormulaSyntax) (w : Work) (s : IsParse (InOperator es q c fs f)) (h : IsWorkOf (InOperator es q c fs f) w) where
   reduced_is : IsReduced w.pending.draft (reduced 1 w.pending) (joins 1 fs f).0 (joins 1 fs f).1
   reduced_is = subst (λ os. IsReduced w.pending.draft (reduced_from 1 os w.pending.draft) (joins 1 fs f).0 (joins 1 fs f).1) (sym h.operators) (reduces 1 fs f w.pending.draft (omega arith) h.«open»)
 
   ends : (joins 1 fs f).0 ≡ [] → IsEndable (reduced 1 w.pending).draft
   ends e =
       let i : IsNextOperand (joins 1 fs f).0 (joins 1 fs f).1 = joins_fits 1 fs f (omega arith) s.2 in
-      endable (reduced 1 w.pending).draft (joins 1 fs f).1 (reduced_is.«open» ∙ ap (λ gs. lefts_of gs ++ formula_of (joins 1 fs f).1 ∷ []) e) i.form
+      endable (reduced 1 w.pending).draft (joins 1 fs f).1 (reduced_is.«open» ∙ ap (λ gs. lefts_of gs ++ formula_of (joins 1 fs f).1 ∷ []) e) i.formula
       (subst (λ gs. Nests (length (opened_of gs)) (joins 1 fs f).1) e i.nests)
 
   may_close : MayClose w
@@ -145,7 +145,7 @@ number_alike : (t : text.Token) → refusal (outside part.Number) t ≡ refusal 
 unfolding refusal
 number_alike t = refl
 
-first_sound : (es : List Entry) (p : Prob) (t : text.Token) → AreEntries es × IsProb p → refusal (outside part.First) t ≡ None → IsProbability (number_in t)
+first_sound : (es : List ItemSyntax) (p : Prob) (t : text.Token) → AreWellFormedItems es × IsProb p → refusal (outside part.First) t ≡ None → IsProbability (number_in t)
 first_sound es p t s r = (steps (InFirst es p) t s r).within.2
 
 ready : (p : Parse) (t : text.Token) (w : Work) → IsWordKept t → IsParse p → IsWorkOf p w → refusal (state_of p) t ≡ None → MayBeTaken (state_of p).part w t

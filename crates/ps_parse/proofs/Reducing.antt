@@ -7,7 +7,7 @@ use Rattle.std.specs.Prelude.{nat_le, if◌then◌else◌}
 use Rattle.ps_meaning.specs.Formula.{Formula, Truth}
 use Rattle.ps_meaning.specs.Formula as formula
 use Rattle.ps_meaning.specs.Statements.{Name}
-use Rattle.ps_text.specs.Grammar.{Form}
+use Rattle.ps_text.specs.Grammar.{FormulaSyntax}
 use Rattle.ps_text.specs.Meanings.{formula_of}
 use Rattle.ps_text.specs.BegunFormulas.{Frame, BegunNot, BegunGroup, BegunAnd, BegunOr, BegunImplies, BegunIff, own_level, joined, joins}
 use Rattle.ps_problem.specs.declared.mark.Mark.TheVariants as mark
@@ -44,7 +44,7 @@ two op os f g =
     ∙ ap (λ xs. xs ++ op f g ∷ []) (take-append_seam os (f ∷ g ∷ []))
 
 -- the mark of what was begun makes the formula of the join
-join_marked : (names : List Name) (x : Frame) (fs : List Frame) (f : Form) → 1 ≤ own_level x
+join_marked : (names : List Name) (x : Frame) (fs : List Frame) (f : FormulaSyntax) → 1 ≤ own_level x
     → marked names (lefts_of (x ∷ fs) ++ formula_of f ∷ []) (mark_of (operator_of x)) ≡ lefts_of fs ++ formula_of (joined x f) ∷ []
 join_marked names BegunNot fs f h = one names (lefts_of fs) (formula_of f)
 join_marked names BegunGroup fs f h = absurd (omega (arith, h))
@@ -62,7 +62,7 @@ binding_is (BegunImplies g) = refl
 binding_is (BegunIff g) = refl
 
 -- what waits, and the draft, are those of what is begun and a formula behind it; what has ended stays
-pub record IsReduced (d : Drafted) (p : Pending) (fs : List Frame) (f : Form) : Type 0 where
+pub record IsReduced (d : Drafted) (p : Pending) (fs : List Frame) (f : FormulaSyntax) : Type 0 where
   pub operators : p.operators ≡ operators_of fs
   pub «open» : p.draft.«open» ≡ lefts_of fs ++ formula_of f ∷ []
   pub formulas : p.draft.formulas ≡ d.formulas
@@ -74,10 +74,10 @@ least_one k n h e = let l : k ≤ n = grind (arith, nat_tests) in omega (arith, 
 abbrev chosen_pending : ℕ → Operator → List Operator → Drafted → Bool → Pending
 chosen_pending k o os d b = if b then reduced_from k os (with_mark d (mark_of o)) else record { operators = o ∷ os; draft = d }
 
-abbrev chosen_join : ℕ → Frame → List Frame → Form → Bool → List Frame × Form
+abbrev chosen_join : ℕ → Frame → List Frame → FormulaSyntax → Bool → List Frame × FormulaSyntax
 chosen_join k x fs f b = if b then joins k fs (joined x f) else (x ∷ fs, f)
 
-pub reduces : (k : ℕ) (fs : List Frame) (f : Form) (d : Drafted) → 1 ≤ k → d.«open» ≡ lefts_of fs ++ formula_of f ∷ []
+pub reduces : (k : ℕ) (fs : List Frame) (f : FormulaSyntax) (d : Drafted) → 1 ≤ k → d.«open» ≡ lefts_of fs ++ formula_of f ∷ []
     → IsReduced d (reduced_from k (operators_of fs) d) (joins k fs f).0 (joins k fs f).1
 reduces k [] f d h e = record { operators = refl; «open» = e; formulas = refl; items = refl }
 reduces k (x ∷ fs) f d h e = by (nat_le k (binding (operator_of x))) (nat_le k (own_level x)) refl (ap (nat_le k) (binding_is x))

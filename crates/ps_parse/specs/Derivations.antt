@@ -4,7 +4,7 @@ use Rattle.ps_meaning.specs.Formula.{Formula}
 use Rattle.ps_meaning.specs.Statements.{Name}
 use Rattle.ps_meaning.specs.declared.side.Side.TheVariants as side
 use Rattle.ps_text.specs.Tokens.{Token, Sign}
-use Rattle.ps_text.specs.Grammar.{Form, Prob, Within, Entry, Sentence}
+use Rattle.ps_text.specs.Grammar.{FormulaSyntax, Prob, Within, ItemSyntax, Sentence}
 use Rattle.ps_text.specs.Meanings.{formula_of, given_of, IsValue, AreItems}
 use Rattle.ps_text.specs.ExpectedTokens.{refusal}
 use Rattle.ps_text.specs.BegunFormulas.{Frame, BegunNot, BegunGroup, BegunAnd, BegunOr, BegunImplies, BegunIff}
@@ -51,34 +51,34 @@ open_formulas (InOperator es q c fs f) = lefts_of fs ++ formula_of f ∷ []
 open_formulas p = []
 
 -- the items that are in the draft: an item is there as soon as its last value is, or a query's probability
-abbrev pub drafted_entries : Parse → List Entry
-drafted_entries InPsat = []
-drafted_entries InVersion = []
-drafted_entries InHeadEnd = []
-drafted_entries (InItem es) = es
-drafted_entries (InQueryProb es) = es
-drafted_entries (InTextEnd es) = es
-drafted_entries (InDone es) = es
-drafted_entries (InParen es q) = es
-drafted_entries (InOperand es q c fs) = es
-drafted_entries (InOperator es q c fs f) = es
-drafted_entries (InRelation es p) = es
-drafted_entries (InBracket es p) = es
-drafted_entries (InFirst es p) = es
-drafted_entries (InNumber es p s) = es
-drafted_entries (InComma es p x) = es
-drafted_entries (InSecond es p x) = es
-drafted_entries (InBracketEnd es p x y) = es ++ Sentence p (Within x y) ∷ []
-drafted_entries (InItemEnd es e) = es ++ e ∷ []
+abbrev pub drafted_items : Parse → List ItemSyntax
+drafted_items InPsat = []
+drafted_items InVersion = []
+drafted_items InHeadEnd = []
+drafted_items (InItem es) = es
+drafted_items (InQueryProb es) = es
+drafted_items (InTextEnd es) = es
+drafted_items (InDone es) = es
+drafted_items (InParen es q) = es
+drafted_items (InOperand es q c fs) = es
+drafted_items (InOperator es q c fs f) = es
+drafted_items (InRelation es p) = es
+drafted_items (InBracket es p) = es
+drafted_items (InFirst es p) = es
+drafted_items (InNumber es p s) = es
+drafted_items (InComma es p x) = es
+drafted_items (InSecond es p x) = es
+drafted_items (InBracketEnd es p x y) = es ++ Sentence p (Within x y) ∷ []
+drafted_items (InItemEnd es e) = es ++ e ∷ []
 
 -- behind `given` the item's formula is the one before it
-abbrev pub HasFormula : List (Formula Name) → Option Form → ItemSoFar → Type 0
+abbrev pub HasFormula : List (Formula Name) → Option FormulaSyntax → ItemSoFar → Type 0
 HasFormula fs None i = i.conditional ≡ false
 HasFormula fs (Some f) i = (formula_at fs i.formula ≡ formula_of f) × (i.formula < length fs) × (i.conditional ≡ true)
 
 -- the item's formulas are those of the probability
 pub record HasProb (fs : List (Formula Name)) (p : Prob) (i : ItemSoFar) : Type 0 where
-  pub formula : formula_at fs i.formula ≡ formula_of p.form
+  pub formula : formula_at fs i.formula ≡ formula_of p.formula
   pub given : option_map (formula_at fs) i.given ≡ given_of p.given
   pub below : AreBelow (length fs) i.formula i.given
 
@@ -99,7 +99,7 @@ IsItemSoFar fs p i = Unit {0}
 pub record IsWorkOf (p : Parse) (w : Work) : Type 0 where
   pub operators : w.pending.operators ≡ waiting_operators p
   pub «open» : w.pending.draft.«open» ≡ open_formulas p
-  pub items : AreItems (drafted_entries p) w.pending.draft.items
+  pub items : AreItems (drafted_items p) w.pending.draft.items
   pub item : IsItemSoFar w.pending.draft.formulas p w.item
 
 -- the machine stands for a derivation within the grammar's levels and limits

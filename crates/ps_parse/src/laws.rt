@@ -5,7 +5,7 @@ ghost use Rattle.ps_parse.specs.Machine.{Machine, at_first};
 ghost use Rattle.ps_parse.specs.Derivations.{StandsFor, IsFollowed};
 
 /// The machine over tokens stands for the derivation of the tokens so far: before the first token,
-/// and behind each token that isn't refused. So the items of its draft are what the entries mean.
+/// and behind each token that isn't refused. So the items of its draft are what is written.
 pub fn the_machine_stands_for_a_derivation()
     ensures first { StandsFor InPsat at_first }
     ensures next { (p : Parse) (m : Machine) (t : Token) → IsFollowed p m t }

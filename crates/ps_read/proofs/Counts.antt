@@ -5,7 +5,7 @@ use Rattle.std.specs.Prelude.{Result, Ok, Err, nat_lt, if◌then◌else◌}
 use Rattle.ps_meaning.specs.Formula.{Formula}
 use Rattle.ps_meaning.specs.Statements.{Name, Item, Stated, Asked}
 use Rattle.ps_text.specs.Pieces.{Spelled, text, texts}
-use Rattle.ps_text.specs.Grammar.{Entry}
+use Rattle.ps_text.specs.Grammar.{ItemSyntax}
 use Rattle.ps_text.specs.Meanings.{AreItems}
 use Rattle.ps_text.specs.Positions as text
 use Rattle.ps_text.proofs.Laying.{texts-append}
@@ -67,23 +67,23 @@ refused_least items r h = omega (arith, (counted_among items r h).least)
 pub refused_most : (items : List Item) (r : ItemExcess) → counted items ≡ Err r → r.item ≤ length items
 refused_most items r h = omega (arith, (counted_among items r h).most)
 
--- as many items as entries
-pub items_many : (es : List Entry) (is : List Item) → AreItems es is → length is ≡ length es
+-- as many items as are written
+pub items_many : (es : List ItemSyntax) (is : List Item) → AreItems es is → length is ≡ length es
 items_many [] [] h = refl
 items_many [] (i ∷ is) h = absurd h
 items_many (e ∷ es) [] h = absurd h
 items_many (e ∷ es) (i ∷ is) h = let n = items_many es is h.1 in omega (arith, n)
 
 -- a list about one of its members
-record Split (es : List Entry) (i : ℕ) : Type 0 where
-  entry : Entry
-  later : List Entry
-  is : es ≡ take i es ++ entry ∷ later
+record Split (es : List ItemSyntax) (i : ℕ) : Type 0 where
+  item : ItemSyntax
+  later : List ItemSyntax
+  is : es ≡ take i es ++ item ∷ later
 
-split : (es : List Entry) (i : ℕ) → i < length es → Split es i
+split : (es : List ItemSyntax) (i : ℕ) → i < length es → Split es i
 split [] i l = absurd (omega (arith, l))
-split (e ∷ es) zero l = record { entry = e; later = es; is = refl }
-split (e ∷ es) (suc i) l = let s = split es i (omega (arith, l)) in record { entry = s.entry; later = s.later; is = ap (λ fs. e ∷ fs) s.is }
+split (e ∷ es) zero l = record { item = e; later = es; is = refl }
+split (e ∷ es) (suc i) l = let s = split es i (omega (arith, l)) in record { item = s.item; later = s.later; is = ap (λ fs. e ∷ fs) s.is }
 
 -- a problem is spelled where what was parsed makes it
 pub spelled : (bytes : List ℕ) (place : Position) (x : Parsed) (p : Parts) → IsParsedText bytes place x → IsProblemOf (drafted_in x.machine).items p → SpellsProblem bytes p place.offset
@@ -93,11 +93,11 @@ spelled bytes place x p t m = record { items = (drafted_in x.machine).items; fro
 pub refused : (bytes : List ℕ) (place : Position) (x : Parsed) (kind : ReadKind) (position : text.Position) → IsParsedText bytes place x → IsExcessIn x kind position → IsUnread bytes kind position
 refused bytes place x kind position t e =
     let items = (drafted_in x.machine).items in
-    let many : length items ≡ length t.front.entries = items_many t.front.entries items t.items in
+    let many : length items ≡ length t.front.written = items_many t.front.written items t.items in
     let least : 1 ≤ e.refusal.item = refused_least items e.refusal e.counts in
     let most : e.refusal.item ≤ length items = refused_most items e.refusal e.counts in
     let i = e.refusal.item - 1 in
-    let s = split t.front.entries (e.refusal.item - 1) (omega (arith, least, most, many)) in
+    let s = split t.front.written (e.refusal.item - 1) (omega (arith, least, most, many)) in
     let b = t.begun.each (e.refusal.item - 1) (omega (arith, least, most, many, t.begun.many)) in
     let there : bytes ≡ texts b.before ++ (texts (Spelled b.first ∷ b.behind) ++ t.front.rest) =
     t.front.is ∙ ap (λ ps. texts ps ++ t.front.rest) b.pieces_are ∙ ap (λ bs. bs ++ t.front.rest) (texts-append b.before (Spelled b.first ∷ b.behind))
@@ -110,11 +110,11 @@ refused bytes place x kind position t e =
       counts = e.counts;
       place = length (texts b.before);
       begins = record {
-        earlier = take (e.refusal.item - 1) t.front.entries;
-        entry = s.entry;
+        earlier = take (e.refusal.item - 1) t.front.written;
+        item = s.item;
         later = s.later;
-        entries_are = s.is;
-        number_is = let l = length-take-le (e.refusal.item - 1) t.front.entries (omega (arith, least, most, many)) in omega (arith, l, least);
+        written_are = s.is;
+        number_is = let l = length-take-le (e.refusal.item - 1) t.front.written (omega (arith, least, most, many)) in omega (arith, l, least);
         before = b.before;
         first = b.first;
         behind = b.behind;

@@ -6,7 +6,7 @@ use Rattle.ps_meaning.specs.Formula.{Formula}
 use Rattle.ps_meaning.specs.Statements.{Name}
 use Rattle.ps_text.specs.Tokens.{Token}
 use Rattle.ps_text.specs.Pieces.{Piece, Blank, Comment, Spelled, texts, tokens}
-use Rattle.ps_text.specs.Grammar.{Entry, text_tokens}
+use Rattle.ps_text.specs.Grammar.{ItemSyntax, text_tokens}
 use Rattle.ps_text.specs.Fronts.{IsTextFront}
 use Rattle.ps_text.specs.Positions.{Position, position_of}
 use Rattle.ps_text.proofs.Once.{Order, Same, Longer, Shorter, order, front_once, front_place}
@@ -17,7 +17,7 @@ use Rattle.ps_problem.specs.Numbering.{problem_of}
 use Rattle.ps_problem.specs.Counts.{ItemExcess, counted}
 use Rattle.ps_read.specs.declared.read_kind.ReadKind.{ReadKind}
 use Rattle.ps_read.specs.Kinds.{form_kind, count_kind}
-use Rattle.ps_read.specs.Readings.{SpellsProblem, tokens_up_to, BeginsEntry, IsFormRefused, IsCountRefused, IsUnread, IsFollowedByMore, SpellsWhole, IsUnreadWhole, Reading, Read, Unread, IsReading, IsWholeReading}
+use Rattle.ps_read.specs.Readings.{SpellsProblem, tokens_up_to, BeginsItem, IsFormRefused, IsCountRefused, IsUnread, IsFollowedByMore, SpellsWhole, IsUnreadWhole, Reading, Read, Unread, IsReading, IsWholeReading}
 
 -- a list with more tokens behind it isn't itself
 no_more : {A : Type 0} (xs ys : List A) (z : A) → xs ≡ xs ++ z ∷ ys → ⊥
@@ -30,7 +30,7 @@ pieces_once : {bytes : List ℕ} {n m : ℕ} (f : IsTextFront bytes n) (g : IsTe
 pieces_once {bytes} {n} {m} f g = by (order f.pieces g.pieces f.rest g.rest f.cuts g.cuts f.bare g.bare (sym f.is ∙ g.is))
   where
     alike : tokens f.pieces ≡ tokens g.pieces
-    alike = f.derived ∙ ap text_tokens (front_once f g).entries ∙ sym g.derived
+    alike = f.derived ∙ ap text_tokens (front_once f g).written ∙ sym g.derived
 
     by : Order f.pieces g.pieces f.rest g.rest → f.pieces ≡ g.pieces
     by (Same is) = is
@@ -74,11 +74,11 @@ split_once (x ∷ ps) (y ∷ qs) us vs t u e h =
     let r = split_once ps qs us vs t u (rest_of x y (ps ++ Spelled t ∷ us) (qs ++ Spelled u ∷ vs) e) (tokens_behind x ps qs k) in
     λ i. d i ∷ r i
 
--- an entry begins at one place
-begins_once : (pieces : List Piece) (entries : List Entry) (number n m : ℕ) → BeginsEntry pieces entries number n → BeginsEntry pieces entries number m → n ≡ m
-begins_once pieces entries number n m f g =
+-- an item begins at one place
+begins_once : (pieces : List Piece) (written : List ItemSyntax) (number n m : ℕ) → BeginsItem pieces written number n → BeginsItem pieces written number m → n ≡ m
+begins_once pieces written number n m f g =
     let earlier : f.earlier ≡ g.earlier =
-    same_front f.earlier g.earlier (f.entry ∷ f.later) (g.entry ∷ g.later) (omega (arith, f.number_is, g.number_is)) (sym f.entries_are ∙ g.entries_are) in
+    same_front f.earlier g.earlier (f.item ∷ f.later) (g.item ∷ g.later) (omega (arith, f.number_is, g.number_is)) (sym f.written_are ∙ g.written_are) in
     let alike : tokens f.before ≡ tokens g.before = f.tokens_are ∙ ap tokens_up_to earlier ∙ sym g.tokens_are in
     let before = split_once f.before g.before f.behind g.behind f.first g.first (sym f.pieces_are ∙ g.pieces_are) alike in
     f.place_is ∙ ap (λ ps. length (texts ps)) before ∙ sym g.place_is
@@ -96,12 +96,12 @@ counts_once bytes k l x y f g =
     let items = meaning_once bytes f.items g.items f.behind g.behind f.front g.front in
     let refusal = err_same f.refusal g.refusal (counted f.items) f.counts (ap counted items ∙ g.counts) in
     let pieces = pieces_once f.front.text g.front.text in
-    let entries = (front_once f.front.text g.front.text).entries in
-    let at_g : BeginsEntry g.front.text.pieces g.front.text.entries g.refusal.item f.place =
-    subst (λ ps. BeginsEntry ps g.front.text.entries g.refusal.item f.place) pieces
-    (subst (λ es. BeginsEntry f.front.text.pieces es g.refusal.item f.place) entries
-    (subst (λ r. BeginsEntry f.front.text.pieces f.front.text.entries r.item f.place) refusal f.begins)) in
-    let place = begins_once g.front.text.pieces g.front.text.entries g.refusal.item f.place g.place at_g g.begins in
+    let written = (front_once f.front.text g.front.text).written in
+    let at_g : BeginsItem g.front.text.pieces g.front.text.written g.refusal.item f.place =
+    subst (λ ps. BeginsItem ps g.front.text.written g.refusal.item f.place) pieces
+    (subst (λ es. BeginsItem f.front.text.pieces es g.refusal.item f.place) written
+    (subst (λ r. BeginsItem f.front.text.pieces f.front.text.written r.item f.place) refusal f.begins)) in
+    let place = begins_once g.front.text.pieces g.front.text.written g.refusal.item f.place g.place at_g g.begins in
     (f.kind_is ∙ ap (λ r. count_kind r.excess) refusal ∙ sym g.kind_is, f.position_is ∙ ap (position_of bytes) place ∙ sym g.position_is)
 
 forms_once : (bytes : List ℕ) (k l : ReadKind) (x y : Position) → IsFormRefused bytes k x → IsFormRefused bytes l y → (k ≡ l) × (x ≡ y)

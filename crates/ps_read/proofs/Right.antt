@@ -9,7 +9,7 @@ use Rattle.ps_text.specs.declared.kind.ReadKind.TheVariants.{BadByte, EndMissing
 use Rattle.ps_text.specs.Positions as text
 use Rattle.ps_text.specs.ExpectedTokens.{State, at_start, refusal, after, Passes}
 use Rattle.ps_text.specs.Refusals.{Why}
-use Rattle.ps_text.specs.Grammar.{Entry, text_tokens, AreEntries}
+use Rattle.ps_text.specs.Grammar.{ItemSyntax, text_tokens, AreWellFormedItems}
 use Rattle.ps_text.specs.Meanings.{AreItems}
 use Rattle.ps_text.specs.Fronts.{IsTextFront}
 use Rattle.ps_text.proofs.Once.{bare_token, some_bytes}
@@ -43,8 +43,8 @@ use Rattle.ps_read.proofs.Steps.{first_stands}
 pub record IsParsedText (bytes : List ℕ) (place : Position) (x : Parsed) : Type 0 where
   pub front : IsTextFront bytes place.offset
   pub position_is : position_of place ≡ text.position_of bytes place.offset
-  pub items : AreItems front.entries (drafted_in x.machine).items
-  pub begun : AreBegun front.pieces front.entries (length front.entries) x.places
+  pub items : AreItems front.written (drafted_in x.machine).items
+  pub begun : AreBegun front.pieces front.written (length front.written) x.places
 
 -- what the answer says is so
 abbrev pub IsSo : List ℕ → Answer → Type 0
@@ -81,15 +81,15 @@ refuse bytes done rest x k r u b w = record {
 
 -- a text that is whole
 record Whole (done : List Piece) (x : Parsed) : Type 0 where
-  entries : List Entry
-  tokens_are : tokens done ≡ text_tokens entries
-  within : AreEntries entries
-  items : AreItems entries (drafted_in x.machine).items
-  begun : AreBegun done entries (length entries) x.places
+  written : List ItemSyntax
+  tokens_are : tokens done ≡ text_tokens written
+  within : AreWellFormedItems written
+  items : AreItems written (drafted_in x.machine).items
+  begun : AreBegun done written (length written) x.places
 
 done_parse : (done : List Piece) (x : Parsed) (p : Parse) → is_done (state_of p).part ≡ true → parsed_tokens p ≡ tokens done → StandsFor p x.machine → HaveBegun done p x.places → Whole done x
 done_parse done x (InDone es) h e s b = record {
-  entries = es;
+  written = es;
   tokens_are = sym e;
   within = s.sound;
   items = s.work.items;
@@ -119,7 +119,7 @@ whole done x h s = done_parse done x s.parse (sym (ap (λ d. is_done d.part) s.s
 found : (bytes : List ℕ) (done : List Piece) (rest : List ℕ) (x : Parsed) → Reached bytes done rest x → is_done (part_of x) ≡ true → IsBare rest → IsParsedText bytes (behind_all start (texts done)) x
 found bytes done rest x r h b =
     let w = whole done x h r.stands in record {
-      front = record { pieces = done; rest = rest; is = r.is; cuts = r.cuts; entries = w.entries; derived = w.tokens_are; within = w.within; bare = b; place_is = offset_kept (texts done) };
+      front = record { pieces = done; rest = rest; is = r.is; cuts = r.cuts; written = w.written; derived = w.tokens_are; within = w.within; bare = b; place_is = offset_kept (texts done) };
       position_is = is_position bytes done rest r.is ∙ ap (text.position_of bytes) (sym (offset_kept (texts done)));
       items = w.items;
       begun = w.begun;

@@ -5,7 +5,7 @@ use Rattle.ps_meaning.specs.Statements.{Name, Item}
 use Rattle.ps_text.specs.Tokens.{Token, Word, Number, Sign, Whole}
 use Rattle.ps_text.specs.declared.symbol.Symbol.TheVariants.{Semicolon}
 use Rattle.ps_text.specs.Pieces.{Piece, Spelled, texts, tokens}
-use Rattle.ps_text.specs.Grammar.{Entry, entries_tokens}
+use Rattle.ps_text.specs.Grammar.{ItemSyntax, items_tokens}
 use Rattle.ps_text.specs.Fronts.{IsFront}
 use Rattle.ps_text.specs.Positions.{Position, position_of}
 use Rattle.ps_text.specs.Refusals.{IsRefused}
@@ -29,17 +29,17 @@ pub record SpellsProblem (bytes : List ℕ) (p : Parts) (place : ℕ) : Type 0 w
   pub front : IsFront bytes items place
   pub made : IsProblemOf items p
 
--- the tokens of a text up to and with these entries
-abbrev pub tokens_up_to : List Entry → List Token
-tokens_up_to entries = Word (codes "psat") ∷ Number (Whole (codes "1")) ∷ Sign Semicolon ∷ entries_tokens entries
+-- the tokens of a text up to and with these items
+abbrev pub tokens_up_to : List ItemSyntax → List Token
+tokens_up_to written = Word (codes "psat") ∷ Number (Whole (codes "1")) ∷ Sign Semicolon ∷ items_tokens written
 
--- the entry of this number, from 1 on, is one of a text's, and the first of its tokens stands at this place:
--- the tokens before it are those of the text up to the entries before it
-pub record BeginsEntry (pieces : List Piece) (entries : List Entry) (number : ℕ) (place : ℕ) : Type 0 where
-  pub earlier : List Entry
-  pub entry : Entry
-  pub later : List Entry
-  pub entries_are : entries ≡ earlier ++ entry ∷ later
+-- the item of this number, from 1 on, is one of a text's, and the first of its tokens stands at this place:
+-- the tokens before it are those of the text up to the items before it
+pub record BeginsItem (pieces : List Piece) (written : List ItemSyntax) (number : ℕ) (place : ℕ) : Type 0 where
+  pub earlier : List ItemSyntax
+  pub item : ItemSyntax
+  pub later : List ItemSyntax
+  pub written_are : written ≡ earlier ++ item ∷ later
   pub number_is : number ≡ length earlier + 1
   pub before : List Piece
   pub first : Token
@@ -65,7 +65,7 @@ pub record IsCountRefused (bytes : List ℕ) (kind : ReadKind) (position : Posit
   pub refusal : ItemExcess
   pub counts : counted items ≡ Err refusal
   pub place : ℕ
-  pub begins : BeginsEntry front.text.pieces front.text.entries refusal.item place
+  pub begins : BeginsItem front.text.pieces front.text.written refusal.item place
   pub kind_is : kind ≡ count_kind refusal.excess
   pub position_is : position ≡ position_of bytes place
 

@@ -14,11 +14,11 @@ use Rattle.ps_meaning.specs.Statements as meaning
 use Rattle.ps_meaning.specs.Statements.{Ratio, Statement, Question, Item, Stated, Asked}
 use Rattle.ps_meaning.specs.Names.{is_word}
 use Rattle.ps_text.specs.Tokens.{Token, Word, Number, Sign, Numeral, Whole, Quotient, Symbol, Open, Close, OpenBracket, CloseBracket, Comma, Semicolon, Bang, Ampersand, Bar, Arrow, DoubleArrow, Equals, GreaterEquals, LessEquals, is_letter, is_digit, is_word_byte, IsWord, AreDigits, IsNumeral, numeral_spelling, symbol_spelling}
-use Rattle.ps_text.specs.Grammar.{Form, Name, Truth, Falsity, Not, Group, And, Or, Implies, Iff, spelled, level, IsForm, Prob, Relation, Exactly, AtLeast, AtMost, Within, Sentence, Query, given_tokens, prob_tokens, relation_tokens, entry_tokens, entries_tokens, text_tokens, value_from, value, IsProbability, IsGiven, IsProb, IsRelation, IsEntry, AreEntries}
+use Rattle.ps_text.specs.Grammar.{FormulaSyntax, Name, Truth, Falsity, Not, Group, And, Or, Implies, Iff, spelled, level, IsWellFormed, Prob, Relation, Exactly, AtLeast, AtMost, Within, Sentence, Query, given_tokens, prob_tokens, relation_tokens, item_tokens, items_tokens, text_tokens, value_from, value, IsProbability, IsGiven, IsProb, IsRelation, IsWellFormedItem, AreWellFormedItems}
 use Rattle.ps_text.specs.Meanings.{formula_of, given_of, IsValue, States, IsItem, AreItems}
 use Rattle.ps_text.specs.Pieces.{texts}
 use Rattle.ps_text.specs.Fronts.{IsFront}
-use Rattle.ps_text.specs.Canonical.{fitted, canonical_form, canonical_numeral, canonical_relation, canonical_given, canonical_prob, canonical_entry, canonical_entries, form_text, given_text, prob_text, relation_text, entry_text, entries_text, canonical_text, HasNames, IsWritable, IsWritableGiven, IsReduced, IsUpper, IsLawfulItem, AreLawful}
+use Rattle.ps_text.specs.Canonical.{fitted, canonical_formula, canonical_numeral, canonical_relation, canonical_given, canonical_prob, canonical_item, canonical_items, syntax_text, given_text, prob_text, relation_text, item_text, items_text, canonical_text, HasNames, IsWritable, IsWritableGiven, IsReduced, IsUpper, IsLawfulItem, AreLawful}
 use Rattle.ps_text.proofs.Spans.{Passes, both}
 use Rattle.ps_text.proofs.Laying.{Quiet, Laid, laid_none, laid_over, laid_blank, laid_sign, laid_token, Shut, shut_none, shut_end, shut_over}
 
@@ -91,44 +91,44 @@ fits_at : (k n : ℕ) → nat_le k n ≡ true → k ≤ n
 fits_at k n h = grind (arith, nat_tests)
 
 -- what holds of a form that binds tightly enough, and of a group, holds of the fitted one
-fitted_by : (P : Form → Type 0) (k : ℕ) (f : Form) → (k ≤ level f → P f) → P (Group f) → P (fitted k f)
+fitted_by : (P : FormulaSyntax → Type 0) (k : ℕ) (f : FormulaSyntax) → (k ≤ level f → P f) → P (Group f) → P (fitted k f)
 fitted_by P k f h g = by (nat_le k (level f)) refl
   where
     by : (b : Bool) → nat_le k (level f) ≡ b → P (if b then f else Group f)
     by true e = h (fits_at k (level f) e)
     by false e = g
 
-fitted_level : (k : ℕ) (f : Form) → k ≤ 5 → k ≤ level (fitted k f)
+fitted_level : (k : ℕ) (f : FormulaSyntax) → k ≤ 5 → k ≤ level (fitted k f)
 fitted_level k f h = fitted_by (λ g. k ≤ level g) k f (λ l. l) h
 
-fitted_form : (k : ℕ) (f : Form) → IsForm f → IsForm (fitted k f)
-fitted_form k f i = fitted_by IsForm k f (λ l. i) i
+fitted_form : (k : ℕ) (f : FormulaSyntax) → IsWellFormed f → IsWellFormed (fitted k f)
+fitted_form k f i = fitted_by IsWellFormed k f (λ l. i) i
 
-fitted_meant : (k : ℕ) (f : Form) → formula_of (fitted k f) ≡ formula_of f
+fitted_meant : (k : ℕ) (f : FormulaSyntax) → formula_of (fitted k f) ≡ formula_of f
 fitted_meant k f = fitted_by (λ g. formula_of g ≡ formula_of f) k f (λ l. refl) refl
 
-is_form : (f : formula.Formula meaning.Name) → HasNames f → IsForm (canonical_form f)
+is_form : (f : formula.Formula meaning.Name) → HasNames f → IsWellFormed (canonical_formula f)
 is_form formula.Truth h = tt
 is_form formula.Falsity h = tt
 is_form (formula.Atom a) h = (h.free, h.short)
-is_form (formula.Not f) h = (fitted_level 5 (canonical_form f) (omega arith), fitted_form 5 (canonical_form f) (is_form f h))
-is_form (formula.And f g) h = (fitted_level 4 (canonical_form f) (omega arith), fitted_level 5 (canonical_form g) (omega arith), fitted_form 4 (canonical_form f) (is_form f h.0), fitted_form 5 (canonical_form g) (is_form g h.1))
-is_form (formula.Or f g) h = (fitted_level 3 (canonical_form f) (omega arith), fitted_level 4 (canonical_form g) (omega arith), fitted_form 3 (canonical_form f) (is_form f h.0), fitted_form 4 (canonical_form g) (is_form g h.1))
-is_form (formula.Implies f g) h = (fitted_level 3 (canonical_form f) (omega arith), fitted_level 2 (canonical_form g) (omega arith), fitted_form 3 (canonical_form f) (is_form f h.0), fitted_form 2 (canonical_form g) (is_form g h.1))
-is_form (formula.Iff f g) h = (fitted_level 1 (canonical_form f) (omega arith), fitted_level 2 (canonical_form g) (omega arith), fitted_form 1 (canonical_form f) (is_form f h.0), fitted_form 2 (canonical_form g) (is_form g h.1))
+is_form (formula.Not f) h = (fitted_level 5 (canonical_formula f) (omega arith), fitted_form 5 (canonical_formula f) (is_form f h))
+is_form (formula.And f g) h = (fitted_level 4 (canonical_formula f) (omega arith), fitted_level 5 (canonical_formula g) (omega arith), fitted_form 4 (canonical_formula f) (is_form f h.0), fitted_form 5 (canonical_formula g) (is_form g h.1))
+is_form (formula.Or f g) h = (fitted_level 3 (canonical_formula f) (omega arith), fitted_level 4 (canonical_formula g) (omega arith), fitted_form 3 (canonical_formula f) (is_form f h.0), fitted_form 4 (canonical_formula g) (is_form g h.1))
+is_form (formula.Implies f g) h = (fitted_level 3 (canonical_formula f) (omega arith), fitted_level 2 (canonical_formula g) (omega arith), fitted_form 3 (canonical_formula f) (is_form f h.0), fitted_form 2 (canonical_formula g) (is_form g h.1))
+is_form (formula.Iff f g) h = (fitted_level 1 (canonical_formula f) (omega arith), fitted_level 2 (canonical_formula g) (omega arith), fitted_form 1 (canonical_formula f) (is_form f h.0), fitted_form 2 (canonical_formula g) (is_form g h.1))
 
-form_meant : (f : formula.Formula meaning.Name) → formula_of (canonical_form f) ≡ f
+form_meant : (f : formula.Formula meaning.Name) → formula_of (canonical_formula f) ≡ f
 form_meant formula.Truth = refl
 form_meant formula.Falsity = refl
 form_meant (formula.Atom a) = refl
-form_meant (formula.Not f) = ap formula.Not (fitted_meant 5 (canonical_form f) ∙ form_meant f)
-form_meant (formula.And f g) = λ i. formula.And ((fitted_meant 4 (canonical_form f) ∙ form_meant f) i) ((fitted_meant 5 (canonical_form g) ∙ form_meant g) i)
-form_meant (formula.Or f g) = λ i. formula.Or ((fitted_meant 3 (canonical_form f) ∙ form_meant f) i) ((fitted_meant 4 (canonical_form g) ∙ form_meant g) i)
-form_meant (formula.Implies f g) = λ i. formula.Implies ((fitted_meant 3 (canonical_form f) ∙ form_meant f) i) ((fitted_meant 2 (canonical_form g) ∙ form_meant g) i)
-form_meant (formula.Iff f g) = λ i. formula.Iff ((fitted_meant 1 (canonical_form f) ∙ form_meant f) i) ((fitted_meant 2 (canonical_form g) ∙ form_meant g) i)
+form_meant (formula.Not f) = ap formula.Not (fitted_meant 5 (canonical_formula f) ∙ form_meant f)
+form_meant (formula.And f g) = λ i. formula.And ((fitted_meant 4 (canonical_formula f) ∙ form_meant f) i) ((fitted_meant 5 (canonical_formula g) ∙ form_meant g) i)
+form_meant (formula.Or f g) = λ i. formula.Or ((fitted_meant 3 (canonical_formula f) ∙ form_meant f) i) ((fitted_meant 4 (canonical_formula g) ∙ form_meant g) i)
+form_meant (formula.Implies f g) = λ i. formula.Implies ((fitted_meant 3 (canonical_formula f) ∙ form_meant f) i) ((fitted_meant 2 (canonical_formula g) ∙ form_meant g) i)
+form_meant (formula.Iff f g) = λ i. formula.Iff ((fitted_meant 1 (canonical_formula f) ∙ form_meant f) i) ((fitted_meant 2 (canonical_formula g) ∙ form_meant g) i)
 
 -- each name is a word
-HasWords : Form → Type 0
+HasWords : FormulaSyntax → Type 0
 HasWords (Name w) = IsWord w
 HasWords Truth = Unit {0}
 HasWords Falsity = Unit {0}
@@ -139,7 +139,7 @@ HasWords (Or f g) = HasWords f × HasWords g
 HasWords (Implies f g) = HasWords f × HasWords g
 HasWords (Iff f g) = HasWords f × HasWords g
 
-fitted_words : (k : ℕ) (f : Form) → HasWords f → HasWords (fitted k f)
+fitted_words : (k : ℕ) (f : FormulaSyntax) → HasWords f → HasWords (fitted k f)
 unfolding HasWords
 fitted_words k f i = fitted_by HasWords k f (λ l. i) i
 
@@ -151,16 +151,16 @@ word_is : (w : List ℕ) → is_word w ≡ true → IsWord w
 word_is [] h = absurd cc
 word_is (b ∷ bs) h = let s = both (is_letter b) (list_all is_word_byte bs) h in (s.0, all_pass is_word_byte bs s.1)
 
-has_words : (f : formula.Formula meaning.Name) → HasNames f → HasWords (canonical_form f)
+has_words : (f : formula.Formula meaning.Name) → HasNames f → HasWords (canonical_formula f)
 unfolding HasWords
 has_words formula.Truth h = tt
 has_words formula.Falsity h = tt
 has_words (formula.Atom a) h = word_is a h.word
-has_words (formula.Not f) h = fitted_words 5 (canonical_form f) (has_words f h)
-has_words (formula.And f g) h = (fitted_words 4 (canonical_form f) (has_words f h.0), fitted_words 5 (canonical_form g) (has_words g h.1))
-has_words (formula.Or f g) h = (fitted_words 3 (canonical_form f) (has_words f h.0), fitted_words 4 (canonical_form g) (has_words g h.1))
-has_words (formula.Implies f g) h = (fitted_words 3 (canonical_form f) (has_words f h.0), fitted_words 2 (canonical_form g) (has_words g h.1))
-has_words (formula.Iff f g) h = (fitted_words 1 (canonical_form f) (has_words f h.0), fitted_words 2 (canonical_form g) (has_words g h.1))
+has_words (formula.Not f) h = fitted_words 5 (canonical_formula f) (has_words f h)
+has_words (formula.And f g) h = (fitted_words 4 (canonical_formula f) (has_words f h.0), fitted_words 5 (canonical_formula g) (has_words g h.1))
+has_words (formula.Or f g) h = (fitted_words 3 (canonical_formula f) (has_words f h.0), fitted_words 4 (canonical_formula g) (has_words g h.1))
+has_words (formula.Implies f g) h = (fitted_words 3 (canonical_formula f) (has_words f h.0), fitted_words 2 (canonical_formula g) (has_words g h.1))
+has_words (formula.Iff f g) h = (fitted_words 1 (canonical_formula f) (has_words f h.0), fitted_words 2 (canonical_formula g) (has_words g h.1))
 
 -- the bytes of a form are its tokens
 laid_word : (w : List ℕ) → IsWord w → Laid (Word w ∷ []) w
@@ -170,46 +170,46 @@ laid_word w i = laid_token (Word w) i
 laid_between : (s : Symbol) (ts us : List Token) (xs ys : List ℕ) → Laid ts xs → Laid us ys → Laid (ts ++ Sign s ∷ us) (xs ++ (32 ∷ symbol_spelling s ++ (32 ∷ ys)))
 laid_between s ts us xs ys l m = laid_over ts (Sign s ∷ us) xs (32 ∷ symbol_spelling s ++ (32 ∷ ys)) l (laid_blank 32 (Sign s ∷ us) (symbol_spelling s ++ (32 ∷ ys)) refl (laid_sign s us (32 ∷ ys) (laid_blank 32 us ys refl m))) (λ rest q. refl)
 
-laid_form : (f : Form) → HasWords f → Laid (spelled f) (form_text f)
+laid_form : (f : FormulaSyntax) → HasWords f → Laid (spelled f) (syntax_text f)
 unfolding HasWords
 laid_form (Name w) h = laid_word w h
 laid_form Truth h = laid_word (codes "true") (word_is (codes "true") refl)
 laid_form Falsity h = laid_word (codes "false") (word_is (codes "false") refl)
-laid_form (Not f) h = laid_sign Bang (spelled f) (form_text f) (laid_form f h)
-laid_form (Group f) h = laid_sign Open (spelled f ++ Sign Close ∷ []) (form_text f ++ codes ")")
-    (laid_over (spelled f) (Sign Close ∷ []) (form_text f) (codes ")") (laid_form f h) (laid_sign Close [] [] laid_none) (λ rest q. refl))
-laid_form (And f g) h = laid_between Ampersand (spelled f) (spelled g) (form_text f) (form_text g) (laid_form f h.0) (laid_form g h.1)
-laid_form (Or f g) h = laid_between Bar (spelled f) (spelled g) (form_text f) (form_text g) (laid_form f h.0) (laid_form g h.1)
-laid_form (Implies f g) h = laid_between Arrow (spelled f) (spelled g) (form_text f) (form_text g) (laid_form f h.0) (laid_form g h.1)
-laid_form (Iff f g) h = laid_between DoubleArrow (spelled f) (spelled g) (form_text f) (form_text g) (laid_form f h.0) (laid_form g h.1)
+laid_form (Not f) h = laid_sign Bang (spelled f) (syntax_text f) (laid_form f h)
+laid_form (Group f) h = laid_sign Open (spelled f ++ Sign Close ∷ []) (syntax_text f ++ codes ")")
+    (laid_over (spelled f) (Sign Close ∷ []) (syntax_text f) (codes ")") (laid_form f h) (laid_sign Close [] [] laid_none) (λ rest q. refl))
+laid_form (And f g) h = laid_between Ampersand (spelled f) (spelled g) (syntax_text f) (syntax_text g) (laid_form f h.0) (laid_form g h.1)
+laid_form (Or f g) h = laid_between Bar (spelled f) (spelled g) (syntax_text f) (syntax_text g) (laid_form f h.0) (laid_form g h.1)
+laid_form (Implies f g) h = laid_between Arrow (spelled f) (spelled g) (syntax_text f) (syntax_text g) (laid_form f h.0) (laid_form g h.1)
+laid_form (Iff f g) h = laid_between DoubleArrow (spelled f) (spelled g) (syntax_text f) (syntax_text g) (laid_form f h.0) (laid_form g h.1)
 
 -- a probability
 
-HasGivenWords : Option Form → Type 0
+HasGivenWords : Option FormulaSyntax → Type 0
 HasGivenWords None = Unit {0}
 HasGivenWords (Some f) = HasWords f
 
-laid_given : (g : Option Form) → HasGivenWords g → Laid (given_tokens g ++ Sign Close ∷ []) (given_text g ++ codes ")")
+laid_given : (g : Option FormulaSyntax) → HasGivenWords g → Laid (given_tokens g ++ Sign Close ∷ []) (given_text g ++ codes ")")
 unfolding HasGivenWords
 laid_given None h = laid_sign Close [] [] laid_none
 laid_given (Some f) h =
-    laid_blank 32 (Word (codes "given") ∷ (spelled f ++ Sign Close ∷ [])) (codes "given " ++ (form_text f ++ codes ")")) refl
-    (laid_over (Word (codes "given") ∷ []) (spelled f ++ Sign Close ∷ []) (codes "given") (32 ∷ (form_text f ++ codes ")")) (laid_word (codes "given") (word_is (codes "given") refl))
-    (laid_blank 32 (spelled f ++ Sign Close ∷ []) (form_text f ++ codes ")") refl
-    (laid_over (spelled f) (Sign Close ∷ []) (form_text f) (codes ")") (laid_form f h) (laid_sign Close [] [] laid_none) (λ rest q. refl)))
+    laid_blank 32 (Word (codes "given") ∷ (spelled f ++ Sign Close ∷ [])) (codes "given " ++ (syntax_text f ++ codes ")")) refl
+    (laid_over (Word (codes "given") ∷ []) (spelled f ++ Sign Close ∷ []) (codes "given") (32 ∷ (syntax_text f ++ codes ")")) (laid_word (codes "given") (word_is (codes "given") refl))
+    (laid_blank 32 (spelled f ++ Sign Close ∷ []) (syntax_text f ++ codes ")") refl
+    (laid_over (spelled f) (Sign Close ∷ []) (syntax_text f) (codes ")") (laid_form f h) (laid_sign Close [] [] laid_none) (λ rest q. refl)))
     (λ rest q. refl))
 
-quiet_given : (g : Option Form) (rest : List ℕ) → Quiet ((given_text g ++ codes ")") ++ rest)
+quiet_given : (g : Option FormulaSyntax) (rest : List ℕ) → Quiet ((given_text g ++ codes ")") ++ rest)
 quiet_given None rest = refl
 quiet_given (Some f) rest = refl
 
-laid_prob : (p : Prob) → HasWords p.form → HasGivenWords p.given → Laid (prob_tokens p) (prob_text p)
+laid_prob : (p : Prob) → HasWords p.formula → HasGivenWords p.given → Laid (prob_tokens p) (prob_text p)
 laid_prob p h k =
-    laid_over (Word (codes "P") ∷ []) (Sign Open ∷ (spelled p.form ++ given_tokens p.given ++ Sign Close ∷ [])) (codes "P") (codes "(" ++ (form_text p.form ++ (given_text p.given ++ codes ")")))
+    laid_over (Word (codes "P") ∷ []) (Sign Open ∷ (spelled p.formula ++ given_tokens p.given ++ Sign Close ∷ [])) (codes "P") (codes "(" ++ (syntax_text p.formula ++ (given_text p.given ++ codes ")")))
     (laid_word (codes "P") (word_is (codes "P") refl))
-    (laid_sign Open (spelled p.form ++ given_tokens p.given ++ Sign Close ∷ []) (form_text p.form ++ (given_text p.given ++ codes ")"))
-    (subst (λ ts. Laid ts (form_text p.form ++ (given_text p.given ++ codes ")"))) (sym (append_assoc (spelled p.form) (given_tokens p.given) (Sign Close ∷ [])))
-    (laid_over (spelled p.form) (given_tokens p.given ++ Sign Close ∷ []) (form_text p.form) (given_text p.given ++ codes ")") (laid_form p.form h) (laid_given p.given k) (λ rest q. quiet_given p.given rest))))
+    (laid_sign Open (spelled p.formula ++ given_tokens p.given ++ Sign Close ∷ []) (syntax_text p.formula ++ (given_text p.given ++ codes ")"))
+    (subst (λ ts. Laid ts (syntax_text p.formula ++ (given_text p.given ++ codes ")"))) (sym (append_assoc (spelled p.formula) (given_tokens p.given) (Sign Close ∷ [])))
+    (laid_over (spelled p.formula) (given_tokens p.given ++ Sign Close ∷ []) (syntax_text p.formula) (given_text p.given ++ codes ")") (laid_form p.formula h) (laid_given p.given k) (λ rest q. quiet_given p.given rest))))
     (λ rest q. refl)
 
 -- a relation
@@ -251,13 +251,13 @@ quiet_relation (Within x y) rest = refl
 
 -- lines
 
-shut_sentence : (p : Prob) (r : Relation) → HasWords p.form → HasGivenWords p.given → HasNumerals r → Shut (entry_tokens (Sentence p r)) (entry_text (Sentence p r))
+shut_sentence : (p : Prob) (r : Relation) → HasWords p.formula → HasGivenWords p.given → HasNumerals r → Shut (item_tokens (Sentence p r)) (item_text (Sentence p r))
 shut_sentence p r h k i =
-    subst (λ xs. Shut (entry_tokens (Sentence p r)) xs) (append_assoc (prob_text p) (relation_text r) (codes ";\n"))
+    subst (λ xs. Shut (item_tokens (Sentence p r)) xs) (append_assoc (prob_text p) (relation_text r) (codes ";\n"))
     (shut_end (prob_tokens p ++ relation_tokens r) (prob_text p ++ relation_text r)
     (laid_over (prob_tokens p) (relation_tokens r) (prob_text p) (relation_text r) (laid_prob p h k) (laid_relation r i) (λ rest q. quiet_relation r rest)))
 
-shut_query : (p : Prob) → HasWords p.form → HasGivenWords p.given → Shut (entry_tokens (Query p)) (entry_text (Query p))
+shut_query : (p : Prob) → HasWords p.formula → HasGivenWords p.given → Shut (item_tokens (Query p)) (item_text (Query p))
 shut_query p h k = shut_end (Word (codes "query") ∷ prob_tokens p) (codes "query " ++ prob_text p)
     (laid_over (Word (codes "query") ∷ []) (prob_tokens p) (codes "query") (32 ∷ prob_text p) (laid_word (codes "query") (word_is (codes "query") refl))
     (laid_blank 32 (prob_tokens p) (prob_text p) refl (laid_prob p h k)) (λ rest q. refl))
@@ -294,13 +294,13 @@ related side.AtLeast r (Some q) h u = let n = numbers r h in let m = numbers q u
     record { numerals = (n.numeral, m.numeral); within = (n.probability, m.probability); states = (refl, n.meant, m.meant) }
 
 prob_within : (f : formula.Formula meaning.Name) (g : Option (formula.Formula meaning.Name)) → IsWritable f → IsWritableGiven g → IsProb (canonical_prob f g)
-prob_within f g h k = record { form = is_form f h.names; nests = h.nests; given = given_within g k }
+prob_within f g h k = record { formula = is_form f h.names; nests = h.nests; given = given_within g k }
 
--- an item's entry is within the limits and means the item, and its line is its tokens
+-- an item as it is written is within the limits and means the item, and its line is its tokens
 record Written (i : Item) : Type 0 where
-  within : IsEntry (canonical_entry i)
-  meant : IsItem (canonical_entry i) i
-  line : Shut (entry_tokens (canonical_entry i)) (entry_text (canonical_entry i))
+  within : IsWellFormedItem (canonical_item i)
+  meant : IsItem (canonical_item i) i
+  line : Shut (item_tokens (canonical_item i)) (item_text (canonical_item i))
 
 written : (i : Item) → IsLawfulItem i → Written i
 written (Stated s) h = let r = related s.side s.value s.upper h.2 h.3 in record {
@@ -314,18 +314,18 @@ written (Asked q) h = record {
   line = shut_query (canonical_prob q.formula q.given) (has_words q.formula h.0.names) (has_given_words q.given h.1);
 }
 
-all_within : (items : List Item) → AreLawful items → AreEntries (canonical_entries items)
+all_within : (items : List Item) → AreLawful items → AreWellFormedItems (canonical_items items)
 all_within [] h = tt
 all_within (i ∷ is) h = ((written i h.0).within, all_within is h.1)
 
-all_meant : (items : List Item) → AreLawful items → AreItems (canonical_entries items) items
+all_meant : (items : List Item) → AreLawful items → AreItems (canonical_items items) items
 all_meant [] h = tt
 all_meant (i ∷ is) h = ((written i h.0).meant, all_meant is h.1)
 
-all_lines : (items : List Item) → AreLawful items → Shut (entries_tokens (canonical_entries items)) (entries_text (canonical_entries items))
+all_lines : (items : List Item) → AreLawful items → Shut (items_tokens (canonical_items items)) (items_text (canonical_items items))
 all_lines [] h = shut_none
 all_lines (i ∷ is) h =
-    shut_over (entry_tokens (canonical_entry i)) (entries_tokens (canonical_entries is)) (entry_text (canonical_entry i)) (entries_text (canonical_entries is)) (written i h.0).line (all_lines is h.1)
+    shut_over (item_tokens (canonical_item i)) (items_tokens (canonical_items is)) (item_text (canonical_item i)) (items_text (canonical_items is)) (written i h.0).line (all_lines is h.1)
 
 first_line : Shut (Word (codes "psat") ∷ Number (Whole (codes "1")) ∷ Sign Semicolon ∷ []) (codes "psat 1;\n")
 first_line = shut_end (Word (codes "psat") ∷ Number (Whole (codes "1")) ∷ []) (codes "psat 1")
@@ -335,10 +335,10 @@ first_line = shut_end (Word (codes "psat") ∷ Number (Whole (codes "1")) ∷ []
 last_line : Shut (Word (codes "end") ∷ Sign Semicolon ∷ []) (codes "end;\n")
 last_line = shut_end (Word (codes "end") ∷ []) (codes "end") (laid_word (codes "end") (word_is (codes "end") refl))
 
-whole : (items : List Item) → AreLawful items → Shut (text_tokens (canonical_entries items)) (canonical_text items)
-whole items h = let es = canonical_entries items in
-    shut_over (Word (codes "psat") ∷ Number (Whole (codes "1")) ∷ Sign Semicolon ∷ []) (entries_tokens es ++ Word (codes "end") ∷ Sign Semicolon ∷ []) (codes "psat 1;\n") (entries_text es ++ codes "end;\n") first_line
-    (shut_over (entries_tokens es) (Word (codes "end") ∷ Sign Semicolon ∷ []) (entries_text es) (codes "end;\n") (all_lines items h) last_line)
+whole : (items : List Item) → AreLawful items → Shut (text_tokens (canonical_items items)) (canonical_text items)
+whole items h = let es = canonical_items items in
+    shut_over (Word (codes "psat") ∷ Number (Whole (codes "1")) ∷ Sign Semicolon ∷ []) (items_tokens es ++ Word (codes "end") ∷ Sign Semicolon ∷ []) (codes "psat 1;\n") (items_text es ++ codes "end;\n") first_line
+    (shut_over (items_tokens es) (Word (codes "end") ∷ Sign Semicolon ∷ []) (items_text es) (codes "end;\n") (all_lines items h) last_line)
 
 -- the canonical text of lawful items is a text that means them, up to its end
 pub canonical_front : (items : List Item) → AreLawful items → IsFront (canonical_text items) items (length (canonical_text items))
@@ -346,7 +346,7 @@ canonical_front items h = let w = whole items h in record {
   text = record {
     pieces = w.pieces;
     rest = [];
-    entries = canonical_entries items;
+    written = canonical_items items;
     is = sym (append-nil (texts w.pieces) ∙ w.texts_are);
     cuts = w.cuts [];
     derived = w.tokens_are;

@@ -56,7 +56,7 @@ is_end part.Done = true
 is_end p = false
 
 ends : (p : Parse) (ts : List Token) → is_end (state_of p).part ≡ true → parsed_tokens p ≡ ts → IsParse p → IsDerived ts
-ends (InDone es) ts e r s = record { entries = es; tokens = sym r; within = s }
+ends (InDone es) ts e r s = record { written = es; tokens = sym r; within = s }
 ends InPsat ts e r s = absurd (true≢false (sym e))
 ends InVersion ts e r s = absurd (true≢false (sym e))
 ends InHeadEnd ts e r s = absurd (true≢false (sym e))

@@ -4,7 +4,7 @@ use Rattle.std.proofs.lemmas.Bool.Decides.{nat_tests}
 use Rattle.std.specs.Prelude.{nat_lt, nat_eq, codes}
 use Rattle.std.specs.List.{list_any}
 use Rattle.ps_text.specs.Tokens.{Token, Word, Sign, Numeral, Whole, Quotient, Decimal, Open, Close, Semicolon, Ampersand, Bar, Arrow, DoubleArrow}
-use Rattle.ps_text.specs.Grammar.{is_reserved, value, Form, Name, Truth, Falsity, Not, Group, And, Or, Implies, Iff, spelled, level, IsForm, Nests, Prob, Relation, Exactly, AtLeast, AtMost, Within, Entry, Sentence, Query, given_tokens, prob_tokens, relation_tokens, entry_tokens, entries_tokens, text_tokens, IsProbability, IsGiven, IsProb, IsRelation, IsEntry, AreEntries}
+use Rattle.ps_text.specs.Grammar.{is_reserved, value, FormulaSyntax, Name, Truth, Falsity, Not, Group, And, Or, Implies, Iff, spelled, level, IsWellFormed, Nests, Prob, Relation, Exactly, AtLeast, AtMost, Within, ItemSyntax, Sentence, Query, given_tokens, prob_tokens, relation_tokens, item_tokens, items_tokens, text_tokens, IsProbability, IsGiven, IsProb, IsRelation, IsWellFormedItem, AreWellFormedItems}
 use Rattle.ps_text.specs.declared.part.Part.{Part}
 use Rattle.ps_text.specs.declared.part.Part.TheVariants as part
 use Rattle.ps_text.specs.declared.part.Opening.{Opening}
@@ -23,7 +23,7 @@ one : (d e : State) (t : Token) → refusal d t ≡ None → after d t ≡ e →
 one d e t h a = (h, a)
 
 -- what is open behind a formula
-abbrev pub behind : Form → List Opening → List Opening
+abbrev pub behind : FormulaSyntax → List Opening → List Opening
 behind (Implies f g) os = behind g (opening.Arrow ∷ os)
 behind (Iff f g) os = behind g os
 behind (And f g) os = os
@@ -49,7 +49,7 @@ no_arrows (opening.Arrow ∷ os) h = absurd (omega (arith, h))
 no_arrows (opening.Not ∷ os) h = absurd (omega (arith, h))
 
 -- behind an operand of `|`, `&` or `->` nothing more is open
-pub behind_tight : (f : Form) (os : List Opening) → 3 ≤ level f → without_nots os ≡ os → behind f os ≡ os
+pub behind_tight : (f : FormulaSyntax) (os : List Opening) → 3 ≤ level f → without_nots os ≡ os → behind f os ≡ os
 behind_tight (Implies f g) os l n = absurd (omega (arith, l))
 behind_tight (Iff f g) os l n = absurd (omega (arith, l))
 behind_tight (And f g) os l n = refl
@@ -61,7 +61,7 @@ behind_tight (Not f) os l n = n
 behind_tight (Group f) os l n = n
 
 -- only right sides are open behind a formula
-pub behind_ended : (f : Form) (os : List Opening) → without_nots os ≡ os → without_arrows (behind f os) ≡ without_arrows os
+pub behind_ended : (f : FormulaSyntax) (os : List Opening) → without_nots os ≡ os → without_arrows (behind f os) ≡ without_arrows os
 behind_ended (Implies f g) os n = behind_ended g (opening.Arrow ∷ os) refl
 behind_ended (Iff f g) os n = behind_ended g os n
 behind_ended (And f g) os n = refl
@@ -72,7 +72,7 @@ behind_ended Falsity os n = ap without_arrows n
 behind_ended (Not f) os n = ap without_arrows n
 behind_ended (Group f) os n = ap without_arrows n
 
-pub behind_groups : (f : Form) (os : List Opening) → without_nots os ≡ os → list_any is_group (behind f os) ≡ list_any is_group os
+pub behind_groups : (f : FormulaSyntax) (os : List Opening) → without_nots os ≡ os → list_any is_group (behind f os) ≡ list_any is_group os
 behind_groups (Implies f g) os n = behind_groups g (opening.Arrow ∷ os) refl
 behind_groups (Iff f g) os n = behind_groups g os n
 behind_groups (And f g) os n = refl
@@ -83,7 +83,7 @@ behind_groups Falsity os n = ap (list_any is_group) n
 behind_groups (Not f) os n = ap (list_any is_group) n
 behind_groups (Group f) os n = ap (list_any is_group) n
 
-level_some : (f : Form) → 1 ≤ level f
+level_some : (f : FormulaSyntax) → 1 ≤ level f
 level_some (Iff f g) = omega arith
 level_some f = omega arith
 
@@ -94,7 +94,7 @@ name_expected q g os w r l = let h : nat_lt 32 (length w) ≡ false = grind (ari
 room : (n : ℕ) → n < 100 → nat_lt n 100 ≡ true
 room n h = grind (arith, nat_tests)
 
-pub form_passes : (f : Form) (q g : Bool) (os : List Opening) → IsForm f → Nests (length os) f → needed os ≤ level f
+pub form_passes : (f : FormulaSyntax) (q g : Bool) (os : List Opening) → IsWellFormed f → Nests (length os) f → needed os ≤ level f
     → Passes (state part.Operand q g os) (spelled f) (state part.Operator q g (behind f os))
 unfolding refusal after
 form_passes (Name w) q g os i n u = (name_expected q g os w i.0 i.1, refl)
@@ -105,7 +105,7 @@ form_passes (Not f) q g os i n u =
     form_passes f q g (opening.Not ∷ os) i.1 (subst (λ k. Nests k f) (add-one (length os)) n.1) i.0 in
     (rw (room (length os) n.0) refl, subst (λ x. Passes (state part.Operand q g (opening.Not ∷ os)) (spelled f) (state part.Operator q g x)) (unary_behind f (opening.Not ∷ os) i.0) inner)
   where
-    unary_behind : (f : Form) (os : List Opening) → 5 ≤ level f → behind f os ≡ without_nots os
+    unary_behind : (f : FormulaSyntax) (os : List Opening) → 5 ≤ level f → behind f os ≡ without_nots os
     unary_behind (Implies f g) os l = absurd (omega (arith, l))
     unary_behind (Iff f g) os l = absurd (omega (arith, l))
     unary_behind (And f g) os l = absurd (omega (arith, l))
@@ -159,11 +159,11 @@ form_passes (Iff f h) q g os i n u =
     )
 
 -- behind a formula and its `)`
-prob_end : (f : Form) (q g : Bool) → Passes (state part.Operator q g (behind f [])) (Sign Close ∷ []) (prob_ended q)
+prob_end : (f : FormulaSyntax) (q g : Bool) → Passes (state part.Operator q g (behind f [])) (Sign Close ∷ []) (prob_ended q)
 unfolding refusal after
 prob_end f q g = (refl, rw (behind_ended f [] refl) refl)
 
-given_passes : (f : Form) (c : Option Form) (q : Bool) → IsGiven c → Passes (state part.Operator q false (behind f [])) (given_tokens c ++ Sign Close ∷ []) (prob_ended q)
+given_passes : (f : FormulaSyntax) (c : Option FormulaSyntax) (q : Bool) → IsGiven c → Passes (state part.Operator q false (behind f [])) (given_tokens c ++ Sign Close ∷ []) (prob_ended q)
 unfolding refusal after
 given_passes f None q i = prob_end f q false
 given_passes f (Some c) q i = (
@@ -172,13 +172,13 @@ given_passes f (Some c) q i = (
       (form_passes c q true [] i.0 i.1 (level_some c)) (prob_end c q true),
 )
 
-prob_passes : (p : Prob) (q : Bool) → IsProb p → Passes (state part.Paren q false []) (Sign Open ∷ spelled p.form ++ given_tokens p.given ++ Sign Close ∷ []) (prob_ended q)
+prob_passes : (p : Prob) (q : Bool) → IsProb p → Passes (state part.Paren q false []) (Sign Open ∷ spelled p.formula ++ given_tokens p.given ++ Sign Close ∷ []) (prob_ended q)
 unfolding refusal after
 prob_passes p q i = (
   refl,
-  subst (λ ts. Passes (state part.Operand q false []) ts (prob_ended q)) (sym (append_assoc (spelled p.form) (given_tokens p.given) (Sign Close ∷ [])))
-      (passes-append (state part.Operand q false []) (state part.Operator q false (behind p.form [])) (prob_ended q) (spelled p.form) (given_tokens p.given ++ Sign Close ∷ [])
-      (form_passes p.form q false [] i.form i.nests (level_some p.form)) (given_passes p.form p.given q i.given)),
+  subst (λ ts. Passes (state part.Operand q false []) ts (prob_ended q)) (sym (append_assoc (spelled p.formula) (given_tokens p.given) (Sign Close ∷ [])))
+      (passes-append (state part.Operand q false []) (state part.Operator q false (behind p.formula [])) (prob_ended q) (spelled p.formula) (given_tokens p.given ++ Sign Close ∷ [])
+      (form_passes p.formula q false [] i.formula i.nests (level_some p.formula)) (given_passes p.formula p.given q i.given)),
 )
 
 number_expected : (x : Numeral) → IsProbability x → value_fault x ≡ None
@@ -198,18 +198,18 @@ relation_passes (AtLeast x) i = (refl, (number_expected x i, (refl, refl)))
 relation_passes (AtMost x) i = (refl, (number_expected x i, (refl, refl)))
 relation_passes (Within x y) i = (refl, (refl, (number_expected x i.0, (refl, (number_expected y i.1, (refl, (refl, refl)))))))
 
-entry_passes : (e : Entry) → IsEntry e → Passes (outside part.Item) (entry_tokens e) (outside part.Item)
+item_passes : (e : ItemSyntax) → IsWellFormedItem e → Passes (outside part.Item) (item_tokens e) (outside part.Item)
 unfolding refusal after
-entry_passes (Sentence p r) i = subst (λ ts. Passes (outside part.Item) ts (outside part.Item)) (sym (append_assoc (prob_tokens p) (relation_tokens r) (Sign Semicolon ∷ [])))
+item_passes (Sentence p r) i = subst (λ ts. Passes (outside part.Item) ts (outside part.Item)) (sym (append_assoc (prob_tokens p) (relation_tokens r) (Sign Semicolon ∷ [])))
     (passes-append (outside part.Item) (outside part.Relation) (outside part.Item) (prob_tokens p) (relation_tokens r ++ Sign Semicolon ∷ []) (refl, prob_passes p false i.0) (relation_passes r i.1))
-entry_passes (Query p) i = (refl, passes-append (outside part.QueryProb) (outside part.ItemEnd) (outside part.Item) (prob_tokens p) (Sign Semicolon ∷ []) (refl, prob_passes p true i) (refl, refl))
+item_passes (Query p) i = (refl, passes-append (outside part.QueryProb) (outside part.ItemEnd) (outside part.Item) (prob_tokens p) (Sign Semicolon ∷ []) (refl, prob_passes p true i) (refl, refl))
 
-entries_pass : (es : List Entry) → AreEntries es → Passes (outside part.Item) (entries_tokens es) (outside part.Item)
-entries_pass [] i = refl
-entries_pass (e ∷ es) i = passes-append (outside part.Item) (outside part.Item) (outside part.Item) (entry_tokens e) (entries_tokens es) (entry_passes e i.0) (entries_pass es i.1)
+items_pass : (es : List ItemSyntax) → AreWellFormedItems es → Passes (outside part.Item) (items_tokens es) (outside part.Item)
+items_pass [] i = refl
+items_pass (e ∷ es) i = passes-append (outside part.Item) (outside part.Item) (outside part.Item) (item_tokens e) (items_tokens es) (item_passes e i.0) (items_pass es i.1)
 
 -- the tokens of a text within the grammar's levels and limits are expected
-pub derived_are_expected : (es : List Entry) → AreEntries es → AreExpected (text_tokens es)
+pub derived_are_expected : (es : List ItemSyntax) → AreWellFormedItems es → AreExpected (text_tokens es)
 unfolding refusal after
 derived_are_expected es i = (
   refl,
@@ -217,7 +217,7 @@ derived_are_expected es i = (
     refl,
     (
       refl,
-      passes-append (outside part.Item) (outside part.Item) (outside part.Done) (entries_tokens es) (Word (codes "end") ∷ Sign Semicolon ∷ []) (entries_pass es i) (refl, (refl, refl)),
+      passes-append (outside part.Item) (outside part.Item) (outside part.Done) (items_tokens es) (Word (codes "end") ∷ Sign Semicolon ∷ []) (items_pass es i) (refl, (refl, refl)),
     ),
   ),
 )

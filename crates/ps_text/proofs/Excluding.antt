@@ -3,7 +3,7 @@ use Rattle.std.proofs.Common.{◌≡◌, ℕ, inl, inr, List, [], ◌∷◌, ◌
 use Rattle.ps_meaning.specs.Statements.{Item}
 use Rattle.ps_text.specs.Tokens.{One, Token, IsToken, BeginsNone, spelling}
 use Rattle.ps_text.specs.Pieces.{Spelled, texts, tokens}
-use Rattle.ps_text.specs.Grammar.{Entry, AreEntries}
+use Rattle.ps_text.specs.Grammar.{ItemSyntax, AreWellFormedItems}
 use Rattle.ps_text.specs.Fronts.{IsTextFront}
 use Rattle.ps_text.specs.declared.part.Part.TheVariants as part
 use Rattle.ps_text.specs.declared.kind.ReadKind.{ReadKind}
@@ -68,7 +68,7 @@ pub front_excludes : (bytes : List ℕ) (n m : ℕ) (k : ReadKind) → IsTextFro
 front_excludes bytes n m k f r = by (order f.pieces r.pieces f.rest r.rest f.cuts r.cuts f.bare r.bare (sym f.is ∙ r.is))
   where
     whole : Passes at_start (tokens f.pieces) (outside part.Done)
-    whole = subst (λ ts. Passes at_start ts (outside part.Done)) (sym f.derived) (derived_are_expected f.entries f.within)
+    whole = subst (λ ts. Passes at_start ts (outside part.Done)) (sym f.derived) (derived_are_expected f.written f.within)
 
     by : Order f.pieces r.pieces f.rest r.rest → ⊥
     by (Same is) = r.unfinished (passes-same at_start r.state (outside part.Done) (tokens r.pieces) r.passes (subst (λ ps. Passes at_start (tokens ps) (outside part.Done)) is whole))
@@ -95,8 +95,8 @@ refusal_once bytes k l n m r s = by (order r.pieces s.pieces r.rest s.rest r.cut
 pub one_derivation : (tokens : List Token) → HasOneDerivation tokens
 one_derivation tokens = record { same = λ es fs i j e f. text_once es fs i j (sym e ∙ f) }
 
-pub one_meaning : (entries : List Entry) → AreEntries entries → HaveOneMeaning entries
-one_meaning entries h = record { same = λ is js i j. items_once entries is js h i j }
+pub one_meaning : (written : List ItemSyntax) → AreWellFormedItems written → HaveOneMeaning written
+one_meaning written h = record { same = λ is js i j. items_once written is js h i j }
 
 pub one_front : (bytes : List ℕ) → HasOneFront bytes
 one_front bytes = record { meaning = meaning_once bytes; place = front_place bytes }

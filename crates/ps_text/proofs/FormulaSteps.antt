@@ -6,7 +6,7 @@ use Rattle.std.specs.Prelude.{bytes_eq, codes, if◌then◌else◌, nat_lt}
 use Rattle.std.specs.List.{list_any}
 use Rattle.ps_text.specs.Tokens.{Token, Word, Number, Sign, Open, Close, Bang, Ampersand, Bar, Arrow, DoubleArrow, is_the_sign, is_the_word}
 use Rattle.ps_text.specs.declared.kind.ReadKind.TheVariants.{TooDeep}
-use Rattle.ps_text.specs.Grammar.{is_reserved, Form, Name, Truth, Falsity, Group, spelled, level, IsForm, Nests, Entry, Query, prob_tokens, IsGiven, IsProb, AreEntries}
+use Rattle.ps_text.specs.Grammar.{is_reserved, FormulaSyntax, Name, Truth, Falsity, Group, spelled, level, IsWellFormed, Nests, ItemSyntax, Query, prob_tokens, IsGiven, IsProb, AreWellFormedItems}
 use Rattle.ps_text.specs.declared.part.Part.TheVariants as part
 use Rattle.ps_text.specs.declared.part.Opening.{Opening}
 use Rattle.ps_text.specs.declared.part.Opening.TheVariants as opening
@@ -15,13 +15,13 @@ use Rattle.ps_text.proofs.Spans.{both}
 use Rattle.ps_text.proofs.Signs.{the_word, the_sign, Either, First, Second, either}
 use Rattle.ps_text.specs.BegunFormulas.{Frame, BegunNot, BegunGroup, BegunAnd, BegunOr, BegunImplies, BegunIff, frame_tokens, opened_of, required_level, IsNextOperand, joins}
 use Rattle.ps_text.proofs.Frames.{joins_tokens, joins_fits, joins_level, joins_need, joins_settled, nots_opened, and_opened, or_opened, all_opened, all_joined}
-use Rattle.ps_text.specs.PartialParses.{InOperand, InOperator, prob_of, state_of, entries_lead, prob_lead, formula_lead, entry_body, parsed_tokens, IsExtendedBy, IsParse, operand_of, behind_close}
+use Rattle.ps_text.specs.PartialParses.{InOperand, InOperator, prob_of, state_of, items_lead, prob_lead, formula_lead, item_body, parsed_tokens, IsExtendedBy, IsParse, operand_of, behind_close}
 use Rattle.ps_text.proofs.Steps.{Passed, unless}
 
 -- an operand of the tightest level
-record IsOperand (w : List ℕ) (f : Form) : Type 0 where
+record IsOperand (w : List ℕ) (f : FormulaSyntax) : Type 0 where
   is : spelled f ≡ Word w ∷ []
-  form : IsForm f
+  formula : IsWellFormed f
   nests : (n : ℕ) → Nests n f
   tight : 5 ≤ level f
 
@@ -33,9 +33,9 @@ the_operand w short h = by (bytes_eq w (codes "true")) refl (bytes_eq w (codes "
     name true e h a b = absurd (true≢false (sym h ∙ ap (λ x. false || x || bytes_eq w (codes "false")) a ∙ b))
 
     by : (a : Bool) → bytes_eq w (codes "true") ≡ a → (b : Bool) → bytes_eq w (codes "false") ≡ b → IsOperand w (if a then Truth else (if b then Falsity else Name w))
-    by true e b f = record { is = ap (λ u. Word u ∷ []) (sym ((bytes_eq-Decides w (codes "true")).0 e)); form = tt; nests = λ n. tt; tight = omega arith }
-    by false e true f = record { is = ap (λ u. Word u ∷ []) (sym ((bytes_eq-Decides w (codes "false")).0 f)); form = tt; nests = λ n. tt; tight = omega arith }
-    by false e false f = record { is = refl; form = (name (is_reserved w) refl h e f, grind (arith, nat_tests)); nests = λ n. tt; tight = omega arith }
+    by true e b f = record { is = ap (λ u. Word u ∷ []) (sym ((bytes_eq-Decides w (codes "true")).0 e)); formula = tt; nests = λ n. tt; tight = omega arith }
+    by false e true f = record { is = ap (λ u. Word u ∷ []) (sym ((bytes_eq-Decides w (codes "false")).0 f)); formula = tt; nests = λ n. tt; tight = omega arith }
+    by false e false f = record { is = refl; formula = (name (is_reserved w) refl h e f, grind (arith, nat_tests)); nests = λ n. tt; tight = omega arith }
 
 least_need : (fs : List Frame) → required_level fs ≤ 5
 least_need [] = omega arith
@@ -58,7 +58,7 @@ fault_room : (b : Bool) → (if not b then Some TooDeep else None) ≡ None → 
 fault_room true h = refl
 fault_room false h = absurd (true≢false (ap is_some h))
 
-pub at_operand : (es : List Entry) (q : Bool) (c : Option Form) (fs : List Frame) (t : Token) → IsParse (InOperand es q c fs) → Passed (state_of (InOperand es q c fs)) t → IsExtendedBy (InOperand es q c fs) t
+pub at_operand : (es : List ItemSyntax) (q : Bool) (c : Option FormulaSyntax) (fs : List Frame) (t : Token) → IsParse (InOperand es q c fs) → Passed (state_of (InOperand es q c fs)) t → IsExtendedBy (InOperand es q c fs) t
 unfolding after
 at_operand es q c fs t s h = by (either (is_operand_word t || is_the_sign Bang t) (is_the_sign Open t) h.expected)
   where
@@ -67,7 +67,7 @@ at_operand es q c fs t s h = by (either (is_operand_word t || is_the_sign Bang t
     word (Sign x) l e = absurd (true≢false (sym e))
     word (Word w) l e =
         let o = the_operand w l e in
-        let fits : IsNextOperand fs (operand_of w) = record { needed = omega (arith, least_need fs, o.tight); form = o.form; nests = o.nests (length (opened_of fs)); frames = s.2 } in
+        let fits : IsNextOperand fs (operand_of w) = record { needed = omega (arith, least_need fs, o.tight); formula = o.formula; nests = o.nests (length (opened_of fs)); frames = s.2 } in
         record {
           state = ap (λ os. record { part = part.Operator; query = q; given = is_some c; opened = os }) (nots_opened fs (operand_of w) s.2);
           tokens = ap (λ ts. formula_lead es q c ++ ts) (joins_tokens 5 fs (operand_of w) (omega arith) ∙ ap (λ ts. frame_tokens fs ++ ts) o.is)
@@ -95,46 +95,46 @@ at_operand es q c fs t s h = by (either (is_operand_word t || is_the_sign Bang t
           within = (s.0, s.1, (room (length (opened_of fs)) (fault_room (nat_lt (length (opened_of fs)) 100) deep.fault), s.2));
         })
 
--- the last entries of a formula's tokens
+-- the last tokens of what was parsed
 last_two : (l x : List Token) (t : Token) (y : List Token) → y ≡ x → l ++ (y ++ t ∷ []) ≡ (l ++ x) ++ t ∷ []
 last_two l x t y e = ap (λ ts. l ++ (ts ++ t ∷ [])) e ∙ sym (append_assoc l x (t ∷ []))
 
 -- where a probability ends
-query_end : (es : List Entry) (c : Option Form) (f : Form) → entries_lead es ++ entry_body (Query (prob_of c f)) ≡ formula_lead es true c ++ spelled f ++ Sign Close ∷ []
+query_end : (es : List ItemSyntax) (c : Option FormulaSyntax) (f : FormulaSyntax) → items_lead es ++ item_body (Query (prob_of c f)) ≡ formula_lead es true c ++ spelled f ++ Sign Close ∷ []
 query_end es None f =
-    ap (λ ts. entries_lead es ++ (Word (codes "query") ∷ Word (codes "P") ∷ Sign Open ∷ (ts ++ Sign Close ∷ []))) (append-nil (spelled f))
-    ∙ sym (append_assoc (entries_lead es) (Word (codes "query") ∷ Word (codes "P") ∷ Sign Open ∷ spelled f) (Sign Close ∷ []))
-    ∙ ap (λ ts. ts ++ Sign Close ∷ []) (sym (append_assoc (entries_lead es) (Word (codes "query") ∷ Word (codes "P") ∷ Sign Open ∷ []) (spelled f)))
+    ap (λ ts. items_lead es ++ (Word (codes "query") ∷ Word (codes "P") ∷ Sign Open ∷ (ts ++ Sign Close ∷ []))) (append-nil (spelled f))
+    ∙ sym (append_assoc (items_lead es) (Word (codes "query") ∷ Word (codes "P") ∷ Sign Open ∷ spelled f) (Sign Close ∷ []))
+    ∙ ap (λ ts. ts ++ Sign Close ∷ []) (sym (append_assoc (items_lead es) (Word (codes "query") ∷ Word (codes "P") ∷ Sign Open ∷ []) (spelled f)))
 query_end es (Some g) f =
-    sym (append_assoc (entries_lead es) (Word (codes "query") ∷ Word (codes "P") ∷ Sign Open ∷ (spelled g ++ Word (codes "given") ∷ spelled f)) (Sign Close ∷ []))
-    ∙ ap (λ ts. ts ++ Sign Close ∷ []) (ap (λ ts. entries_lead es ++ (Word (codes "query") ∷ Word (codes "P") ∷ Sign Open ∷ ts)) (sym (append_assoc (spelled g) (Word (codes "given") ∷ []) (spelled f)))
-    ∙ sym (append_assoc (entries_lead es) (Word (codes "query") ∷ Word (codes "P") ∷ Sign Open ∷ (spelled g ++ Word (codes "given") ∷ [])) (spelled f)))
+    sym (append_assoc (items_lead es) (Word (codes "query") ∷ Word (codes "P") ∷ Sign Open ∷ (spelled g ++ Word (codes "given") ∷ spelled f)) (Sign Close ∷ []))
+    ∙ ap (λ ts. ts ++ Sign Close ∷ []) (ap (λ ts. items_lead es ++ (Word (codes "query") ∷ Word (codes "P") ∷ Sign Open ∷ ts)) (sym (append_assoc (spelled g) (Word (codes "given") ∷ []) (spelled f)))
+    ∙ sym (append_assoc (items_lead es) (Word (codes "query") ∷ Word (codes "P") ∷ Sign Open ∷ (spelled g ++ Word (codes "given") ∷ [])) (spelled f)))
 
-sentence_end : (es : List Entry) (c : Option Form) (f : Form) → entries_lead es ++ prob_tokens (prob_of c f) ≡ formula_lead es false c ++ spelled f ++ Sign Close ∷ []
+sentence_end : (es : List ItemSyntax) (c : Option FormulaSyntax) (f : FormulaSyntax) → items_lead es ++ prob_tokens (prob_of c f) ≡ formula_lead es false c ++ spelled f ++ Sign Close ∷ []
 sentence_end es None f =
-    ap (λ ts. entries_lead es ++ (Word (codes "P") ∷ Sign Open ∷ (ts ++ Sign Close ∷ []))) (append-nil (spelled f))
-    ∙ sym (append_assoc (entries_lead es) (Word (codes "P") ∷ Sign Open ∷ spelled f) (Sign Close ∷ []))
-    ∙ ap (λ ts. ts ++ Sign Close ∷ []) (sym (append_assoc (entries_lead es) (Word (codes "P") ∷ Sign Open ∷ []) (spelled f)))
+    ap (λ ts. items_lead es ++ (Word (codes "P") ∷ Sign Open ∷ (ts ++ Sign Close ∷ []))) (append-nil (spelled f))
+    ∙ sym (append_assoc (items_lead es) (Word (codes "P") ∷ Sign Open ∷ spelled f) (Sign Close ∷ []))
+    ∙ ap (λ ts. ts ++ Sign Close ∷ []) (sym (append_assoc (items_lead es) (Word (codes "P") ∷ Sign Open ∷ []) (spelled f)))
 sentence_end es (Some g) f =
-    sym (append_assoc (entries_lead es) (Word (codes "P") ∷ Sign Open ∷ (spelled g ++ Word (codes "given") ∷ spelled f)) (Sign Close ∷ []))
-    ∙ ap (λ ts. ts ++ Sign Close ∷ []) (ap (λ ts. entries_lead es ++ (Word (codes "P") ∷ Sign Open ∷ ts)) (sym (append_assoc (spelled g) (Word (codes "given") ∷ []) (spelled f)))
-    ∙ sym (append_assoc (entries_lead es) (Word (codes "P") ∷ Sign Open ∷ (spelled g ++ Word (codes "given") ∷ [])) (spelled f)))
+    sym (append_assoc (items_lead es) (Word (codes "P") ∷ Sign Open ∷ (spelled g ++ Word (codes "given") ∷ spelled f)) (Sign Close ∷ []))
+    ∙ ap (λ ts. ts ++ Sign Close ∷ []) (ap (λ ts. items_lead es ++ (Word (codes "P") ∷ Sign Open ∷ ts)) (sym (append_assoc (spelled g) (Word (codes "given") ∷ []) (spelled f)))
+    ∙ sym (append_assoc (items_lead es) (Word (codes "P") ∷ Sign Open ∷ (spelled g ++ Word (codes "given") ∷ [])) (spelled f)))
 
-prob_sound : (c : Option Form) (f : Form) → IsGiven c → IsForm f → Nests 0 f → IsProb (prob_of c f)
-prob_sound None f g i n = record { form = i; nests = n; given = tt }
-prob_sound (Some h) f g i n = record { form = g.0; nests = g.1; given = (i, n) }
+prob_sound : (c : Option FormulaSyntax) (f : FormulaSyntax) → IsGiven c → IsWellFormed f → Nests 0 f → IsProb (prob_of c f)
+prob_sound None f g i n = record { formula = i; nests = n; given = tt }
+prob_sound (Some h) f g i n = record { formula = g.0; nests = g.1; given = (i, n) }
 
 -- what a `)` gives, where all is joined that is begun behind its `(`
-record Closes (es : List Entry) (q : Bool) (c : Option Form) (fs : List Frame) (f : Form) : Type 0 where
+record Closes (es : List ItemSyntax) (q : Bool) (c : Option FormulaSyntax) (fs : List Frame) (f : FormulaSyntax) : Type 0 where
   state : state_of (behind_close es q c fs f) ≡ closed (record { part = part.Operator; query = q; given = is_some c; opened = [] }) (opened_of fs)
   tokens : parsed_tokens (behind_close es q c fs f) ≡ formula_lead es q c ++ (frame_tokens fs ++ spelled f ++ Sign Close ∷ [])
   within : IsParse (behind_close es q c fs f)
 
-closes : (es : List Entry) (q : Bool) (c : Option Form) (fs : List Frame) (f : Form) → AreEntries es → IsGiven c → required_level fs ≤ 1 → IsNextOperand fs f → Closes es q c fs f
-closes es true c [] f s g n i = record { state = refl; tokens = query_end es c f ∙ append_assoc (formula_lead es true c) (spelled f) (Sign Close ∷ []); within = (s, prob_sound c f g i.form i.nests) }
-closes es false c [] f s g n i = record { state = refl; tokens = sentence_end es c f ∙ append_assoc (formula_lead es false c) (spelled f) (Sign Close ∷ []); within = (s, prob_sound c f g i.form i.nests) }
+closes : (es : List ItemSyntax) (q : Bool) (c : Option FormulaSyntax) (fs : List Frame) (f : FormulaSyntax) → AreWellFormedItems es → IsGiven c → required_level fs ≤ 1 → IsNextOperand fs f → Closes es q c fs f
+closes es true c [] f s g n i = record { state = refl; tokens = query_end es c f ∙ append_assoc (formula_lead es true c) (spelled f) (Sign Close ∷ []); within = (s, prob_sound c f g i.formula i.nests) }
+closes es false c [] f s g n i = record { state = refl; tokens = sentence_end es c f ∙ append_assoc (formula_lead es false c) (spelled f) (Sign Close ∷ []); within = (s, prob_sound c f g i.formula i.nests) }
 closes es q c (BegunGroup ∷ fs) f s g n i =
-    let fits : IsNextOperand fs (Group f) = record { needed = least_need fs; form = i.form; nests = (i.frames.0, subst (λ k. Nests k f) (sym (add-one (length (opened_of fs)))) i.nests); frames = i.frames.1 } in
+    let fits : IsNextOperand fs (Group f) = record { needed = least_need fs; formula = i.formula; nests = (i.frames.0, subst (λ k. Nests k f) (sym (add-one (length (opened_of fs)))) i.nests); frames = i.frames.1 } in
     record {
       state = ap (λ os. record { part = part.Operator; query = q; given = is_some c; opened = os }) (nots_opened fs (Group f) i.frames.1);
       tokens = ap (λ ts. formula_lead es q c ++ ts)
@@ -149,7 +149,7 @@ closes es q c (BegunOr h ∷ fs) f s g n i = absurd (omega (arith, n))
 closes es q c (BegunImplies h ∷ fs) f s g n i = absurd (omega (arith, n))
 closes es q c (BegunIff h ∷ fs) f s g n i = absurd (omega (arith, n))
 
-at_close : (es : List Entry) (q : Bool) (c : Option Form) (fs : List Frame) (f : Form) → IsParse (InOperator es q c fs f) → IsExtendedBy (InOperator es q c fs f) (Sign Close)
+at_close : (es : List ItemSyntax) (q : Bool) (c : Option FormulaSyntax) (fs : List Frame) (f : FormulaSyntax) → IsParse (InOperator es q c fs f) → IsExtendedBy (InOperator es q c fs f) (Sign Close)
 unfolding after
 at_close es q c fs f s =
     let gs = (joins 1 fs f).0 in
@@ -165,27 +165,27 @@ at_close es q c fs f s =
     closed_same q g os [] = refl
     closed_same q g os (u ∷ us) = refl
 
-at_and : (es : List Entry) (q : Bool) (c : Option Form) (fs : List Frame) (f : Form) → IsParse (InOperator es q c fs f) → IsExtendedBy (InOperator es q c fs f) (Sign Ampersand)
+at_and : (es : List ItemSyntax) (q : Bool) (c : Option FormulaSyntax) (fs : List Frame) (f : FormulaSyntax) → IsParse (InOperator es q c fs f) → IsExtendedBy (InOperator es q c fs f) (Sign Ampersand)
 unfolding after
 at_and es q c fs f s =
     let i = joins_fits 4 fs f (omega arith) s.2 in
     record {
       state = ap (λ os. record { part = part.Operand; query = q; given = is_some c; opened = os }) (and_opened fs f s.3 s.2.frames);
       tokens = last_two (formula_lead es q c) (frame_tokens fs ++ spelled f) (Sign Ampersand) (frame_tokens (joins 4 fs f).0 ++ spelled (joins 4 fs f).1) (joins_tokens 4 fs f (omega arith));
-      within = (s.0, s.1, (joins_need 4 fs f (omega arith), record { tight = joins_level 4 fs f (omega arith) (omega (arith, s.4)); form = i.form; nests = i.nests }, i.frames));
+      within = (s.0, s.1, (joins_need 4 fs f (omega arith), record { tight = joins_level 4 fs f (omega arith) (omega (arith, s.4)); formula = i.formula; nests = i.nests }, i.frames));
     }
 
-at_or : (es : List Entry) (q : Bool) (c : Option Form) (fs : List Frame) (f : Form) → IsParse (InOperator es q c fs f) → IsExtendedBy (InOperator es q c fs f) (Sign Bar)
+at_or : (es : List ItemSyntax) (q : Bool) (c : Option FormulaSyntax) (fs : List Frame) (f : FormulaSyntax) → IsParse (InOperator es q c fs f) → IsExtendedBy (InOperator es q c fs f) (Sign Bar)
 unfolding after
 at_or es q c fs f s =
     let i = joins_fits 3 fs f (omega arith) s.2 in
     record {
       state = ap (λ os. record { part = part.Operand; query = q; given = is_some c; opened = os }) (or_opened fs f s.3 s.2.frames);
       tokens = last_two (formula_lead es q c) (frame_tokens fs ++ spelled f) (Sign Bar) (frame_tokens (joins 3 fs f).0 ++ spelled (joins 3 fs f).1) (joins_tokens 3 fs f (omega arith));
-      within = (s.0, s.1, (omega (arith, joins_need 3 fs f (omega arith)), record { tight = joins_level 3 fs f (omega arith) (omega (arith, s.4)); form = i.form; nests = i.nests }, i.frames));
+      within = (s.0, s.1, (omega (arith, joins_need 3 fs f (omega arith)), record { tight = joins_level 3 fs f (omega arith) (omega (arith, s.4)); formula = i.formula; nests = i.nests }, i.frames));
     }
 
-at_implies : (es : List Entry) (q : Bool) (c : Option Form) (fs : List Frame) (f : Form) → IsParse (InOperator es q c fs f) → length (opened_of fs) < 100 → IsExtendedBy (InOperator es q c fs f) (Sign Arrow)
+at_implies : (es : List ItemSyntax) (q : Bool) (c : Option FormulaSyntax) (fs : List Frame) (f : FormulaSyntax) → IsParse (InOperator es q c fs f) → length (opened_of fs) < 100 → IsExtendedBy (InOperator es q c fs f) (Sign Arrow)
 unfolding after
 at_implies es q c fs f s l =
     let i = joins_fits 3 fs f (omega arith) s.2 in
@@ -193,20 +193,20 @@ at_implies es q c fs f s l =
     record {
       state = ap (λ os. record { part = part.Operand; query = q; given = is_some c; opened = opening.Arrow ∷ os }) o;
       tokens = last_two (formula_lead es q c) (frame_tokens fs ++ spelled f) (Sign Arrow) (frame_tokens (joins 3 fs f).0 ++ spelled (joins 3 fs f).1) (joins_tokens 3 fs f (omega arith));
-      within = (s.0, s.1, (joins_need 3 fs f (omega arith), record { tight = joins_level 3 fs f (omega arith) (omega (arith, s.4)); form = i.form; nests = i.nests }, subst (λ os. length os < 100) (sym o) l, i.frames));
+      within = (s.0, s.1, (joins_need 3 fs f (omega arith), record { tight = joins_level 3 fs f (omega arith) (omega (arith, s.4)); formula = i.formula; nests = i.nests }, subst (λ os. length os < 100) (sym o) l, i.frames));
     }
 
-at_iff : (es : List Entry) (q : Bool) (c : Option Form) (fs : List Frame) (f : Form) → IsParse (InOperator es q c fs f) → IsExtendedBy (InOperator es q c fs f) (Sign DoubleArrow)
+at_iff : (es : List ItemSyntax) (q : Bool) (c : Option FormulaSyntax) (fs : List Frame) (f : FormulaSyntax) → IsParse (InOperator es q c fs f) → IsExtendedBy (InOperator es q c fs f) (Sign DoubleArrow)
 unfolding after
 at_iff es q c fs f s =
     let i = joins_fits 1 fs f (omega arith) s.2 in
     record {
       state = ap (λ os. record { part = part.Operand; query = q; given = is_some c; opened = os }) (all_opened fs f s.3 s.2.frames);
       tokens = last_two (formula_lead es q c) (frame_tokens fs ++ spelled f) (Sign DoubleArrow) (frame_tokens (joins 1 fs f).0 ++ spelled (joins 1 fs f).1) (joins_tokens 1 fs f (omega arith));
-      within = (s.0, s.1, (joins_need 1 fs f (omega arith), record { tight = joins_level 1 fs f (omega arith) (omega (arith, s.4)); form = i.form; nests = i.nests }, i.frames));
+      within = (s.0, s.1, (joins_need 1 fs f (omega arith), record { tight = joins_level 1 fs f (omega arith) (omega (arith, s.4)); formula = i.formula; nests = i.nests }, i.frames));
     }
 
-at_given : (es : List Entry) (q : Bool) (c : Option Form) (fs : List Frame) (f : Form) → IsParse (InOperator es q c fs f) → list_any is_group (opened_of fs) ≡ false → is_some c ≡ false
+at_given : (es : List ItemSyntax) (q : Bool) (c : Option FormulaSyntax) (fs : List Frame) (f : FormulaSyntax) → IsParse (InOperator es q c fs f) → list_any is_group (opened_of fs) ≡ false → is_some c ≡ false
     → IsExtendedBy (InOperator es q c fs f) (Word (codes "given"))
 unfolding after
 at_given es q (Some h) fs f s n m = absurd (true≢false m)
@@ -220,13 +220,13 @@ at_given es q None fs f s n m =
           ∙ given_lead es q g
           ∙ last_two (formula_lead es q None) (frame_tokens fs ++ spelled f) (Word (codes "given")) (spelled g)
           (ap (λ xs. frame_tokens xs ++ spelled g) (sym e) ∙ joins_tokens 1 fs f (omega arith));
-      within = (s.0, (i.form, subst (λ xs. Nests (length (opened_of xs)) g) e i.nests), tt);
+      within = (s.0, (i.formula, subst (λ xs. Nests (length (opened_of xs)) g) e i.nests), tt);
     }
   where
-    given_lead : (es : List Entry) (q : Bool) (g : Form) → formula_lead es q (Some g) ≡ formula_lead es q None ++ (spelled g ++ Word (codes "given") ∷ [])
-    given_lead es q g = ap (λ ts. entries_lead es ++ ts) (sym (append_assoc (prob_lead q) (Sign Open ∷ []) (spelled g ++ Word (codes "given") ∷ []))) ∙ sym (append_assoc (entries_lead es) (prob_lead q ++ Sign Open ∷ []) (spelled g ++ Word (codes "given") ∷ []))
+    given_lead : (es : List ItemSyntax) (q : Bool) (g : FormulaSyntax) → formula_lead es q (Some g) ≡ formula_lead es q None ++ (spelled g ++ Word (codes "given") ∷ [])
+    given_lead es q g = ap (λ ts. items_lead es ++ ts) (sym (append_assoc (prob_lead q) (Sign Open ∷ []) (spelled g ++ Word (codes "given") ∷ []))) ∙ sym (append_assoc (items_lead es) (prob_lead q ++ Sign Open ∷ []) (spelled g ++ Word (codes "given") ∷ []))
 
-pub at_operator : (es : List Entry) (q : Bool) (c : Option Form) (fs : List Frame) (f : Form) (t : Token) → IsParse (InOperator es q c fs f) → Passed (state_of (InOperator es q c fs f)) t → IsExtendedBy (InOperator es q c fs f) t
+pub at_operator : (es : List ItemSyntax) (q : Bool) (c : Option FormulaSyntax) (fs : List Frame) (f : FormulaSyntax) (t : Token) → IsParse (InOperator es q c fs f) → Passed (state_of (InOperator es q c fs f)) t → IsExtendedBy (InOperator es q c fs f) t
 at_operator es q c fs f t s h = by (either (is_connective t || is_the_sign Close t) (may_be_given (state_of (InOperator es q c fs f)) && is_the_word (codes "given") t) h.expected)
   where
     arrow : t ≡ Sign Arrow → IsExtendedBy (InOperator es q c fs f) t

@@ -4,14 +4,14 @@ use Rattle.std.proofs.lemmas.Bool.Decides.{nat_tests}
 use Rattle.std.specs.Prelude.{nat_le, if◌then◌else◌}
 use Rattle.std.specs.List.{list_any}
 use Rattle.ps_text.specs.Tokens.{Sign, Bang, Ampersand, Bar, Arrow, DoubleArrow}
-use Rattle.ps_text.specs.Grammar.{Form, Not, And, Or, Implies, Iff, spelled, level, Nests}
+use Rattle.ps_text.specs.Grammar.{FormulaSyntax, Not, And, Or, Implies, Iff, spelled, level, Nests}
 use Rattle.ps_text.specs.ExpectedTokens.{is_group, without_nots, without_arrows}
 use Rattle.ps_text.specs.BegunFormulas.{Frame, BegunNot, BegunGroup, BegunAnd, BegunOr, BegunImplies, BegunIff, frame_tokens, opened_of, required_level, own_level, joined, AreFrames, LastIsNoNot, IsNextOperand, joins}
 
-abbrev chosen : ℕ → Frame → List Frame → Form → Bool → List Frame × Form
+abbrev chosen : ℕ → Frame → List Frame → FormulaSyntax → Bool → List Frame × FormulaSyntax
 chosen k x fs f b = if b then joins k fs (joined x f) else (x ∷ fs, f)
 
-join_tokens : (x : Frame) (fs : List Frame) (f : Form) → 1 ≤ own_level x → frame_tokens (x ∷ fs) ++ spelled f ≡ frame_tokens fs ++ spelled (joined x f)
+join_tokens : (x : Frame) (fs : List Frame) (f : FormulaSyntax) → 1 ≤ own_level x → frame_tokens (x ∷ fs) ++ spelled f ≡ frame_tokens fs ++ spelled (joined x f)
 join_tokens BegunNot fs f h = append_assoc (frame_tokens fs) (Sign Bang ∷ []) (spelled f)
 join_tokens BegunGroup fs f h = absurd (omega (arith, h))
 join_tokens (BegunAnd g) fs f h = append_assoc (frame_tokens fs ++ spelled g) (Sign Ampersand ∷ []) (spelled f) ∙ append_assoc (frame_tokens fs) (spelled g) (Sign Ampersand ∷ spelled f)
@@ -19,9 +19,9 @@ join_tokens (BegunOr g) fs f h = append_assoc (frame_tokens fs ++ spelled g) (Si
 join_tokens (BegunImplies g) fs f h = append_assoc (frame_tokens fs ++ spelled g) (Sign Arrow ∷ []) (spelled f) ∙ append_assoc (frame_tokens fs) (spelled g) (Sign Arrow ∷ spelled f)
 join_tokens (BegunIff g) fs f h = append_assoc (frame_tokens fs ++ spelled g) (Sign DoubleArrow ∷ []) (spelled f) ∙ append_assoc (frame_tokens fs) (spelled g) (Sign DoubleArrow ∷ spelled f)
 
-join_fits : (x : Frame) (fs : List Frame) (f : Form) → 1 ≤ own_level x → IsNextOperand (x ∷ fs) f → IsNextOperand fs (joined x f)
+join_fits : (x : Frame) (fs : List Frame) (f : FormulaSyntax) → 1 ≤ own_level x → IsNextOperand (x ∷ fs) f → IsNextOperand fs (joined x f)
 join_fits BegunGroup fs f h i = absurd (omega (arith, h))
-join_fits BegunNot fs f h i = record { needed = most fs; form = (i.needed, i.form); nests = (i.frames.0, subst (λ k. Nests k f) (sym (add-one (length (opened_of fs)))) i.nests); frames = i.frames.1 }
+join_fits BegunNot fs f h i = record { needed = most fs; formula = (i.needed, i.formula); nests = (i.frames.0, subst (λ k. Nests k f) (sym (add-one (length (opened_of fs)))) i.nests); frames = i.frames.1 }
   where
     most : (fs : List Frame) → required_level fs ≤ 5
     most [] = omega arith
@@ -31,12 +31,12 @@ join_fits BegunNot fs f h i = record { needed = most fs; form = (i.needed, i.for
     most (BegunOr f ∷ fs) = omega arith
     most (BegunImplies f ∷ fs) = omega arith
     most (BegunIff f ∷ fs) = omega arith
-join_fits (BegunAnd g) fs f h i = record { needed = i.frames.0; form = (i.frames.1.tight, i.needed, i.frames.1.form, i.form); nests = (i.frames.1.nests, i.nests); frames = i.frames.2 }
-join_fits (BegunOr g) fs f h i = record { needed = i.frames.0; form = (i.frames.1.tight, i.needed, i.frames.1.form, i.form); nests = (i.frames.1.nests, i.nests); frames = i.frames.2 }
-join_fits (BegunImplies g) fs f h i = record { needed = i.frames.0; form = (i.frames.1.tight, i.needed, i.frames.1.form, i.form); nests = (i.frames.1.nests, i.frames.2, subst (λ k. Nests k f) (sym (add-one (length (opened_of fs)))) i.nests); frames = i.frames.3 }
-join_fits (BegunIff g) fs f h i = record { needed = i.frames.0; form = (i.frames.1.tight, i.needed, i.frames.1.form, i.form); nests = (i.frames.1.nests, i.nests); frames = i.frames.2 }
+join_fits (BegunAnd g) fs f h i = record { needed = i.frames.0; formula = (i.frames.1.tight, i.needed, i.frames.1.formula, i.formula); nests = (i.frames.1.nests, i.nests); frames = i.frames.2 }
+join_fits (BegunOr g) fs f h i = record { needed = i.frames.0; formula = (i.frames.1.tight, i.needed, i.frames.1.formula, i.formula); nests = (i.frames.1.nests, i.nests); frames = i.frames.2 }
+join_fits (BegunImplies g) fs f h i = record { needed = i.frames.0; formula = (i.frames.1.tight, i.needed, i.frames.1.formula, i.formula); nests = (i.frames.1.nests, i.frames.2, subst (λ k. Nests k f) (sym (add-one (length (opened_of fs)))) i.nests); frames = i.frames.3 }
+join_fits (BegunIff g) fs f h i = record { needed = i.frames.0; formula = (i.frames.1.tight, i.needed, i.frames.1.formula, i.formula); nests = (i.frames.1.nests, i.nests); frames = i.frames.2 }
 
-join_level : (x : Frame) (f : Form) → 1 ≤ own_level x → level (joined x f) ≡ own_level x
+join_level : (x : Frame) (f : FormulaSyntax) → 1 ≤ own_level x → level (joined x f) ≡ own_level x
 join_level BegunNot f h = refl
 join_level BegunGroup f h = absurd (omega (arith, h))
 join_level (BegunAnd g) f h = refl
@@ -51,7 +51,7 @@ test_lt : (k n : ℕ) → nat_le k n ≡ false → n < k
 test_lt k n h = grind (arith, nat_tests)
 
 -- what was begun and is joined stays as it is spelled
-pub joins_tokens : (k : ℕ) (fs : List Frame) (f : Form) → 1 ≤ k → frame_tokens (joins k fs f).0 ++ spelled (joins k fs f).1 ≡ frame_tokens fs ++ spelled f
+pub joins_tokens : (k : ℕ) (fs : List Frame) (f : FormulaSyntax) → 1 ≤ k → frame_tokens (joins k fs f).0 ++ spelled (joins k fs f).1 ≡ frame_tokens fs ++ spelled f
 joins_tokens k [] f h = refl
 joins_tokens k (x ∷ fs) f h = by (nat_le k (own_level x)) refl (joins_tokens k fs (joined x f) h)
   where
@@ -60,7 +60,7 @@ joins_tokens k (x ∷ fs) f h = by (nat_le k (own_level x)) refl (joins_tokens k
     by true e m = m ∙ sym (join_tokens x fs f (omega (arith, h, test_le k (own_level x) e)))
     by false e m = refl
 
-pub joins_fits : (k : ℕ) (fs : List Frame) (f : Form) → 1 ≤ k → IsNextOperand fs f → IsNextOperand (joins k fs f).0 (joins k fs f).1
+pub joins_fits : (k : ℕ) (fs : List Frame) (f : FormulaSyntax) → 1 ≤ k → IsNextOperand fs f → IsNextOperand (joins k fs f).0 (joins k fs f).1
 joins_fits k [] f h i = i
 joins_fits k (x ∷ fs) f h i = by (nat_le k (own_level x)) refl (joins_fits k fs (joined x f) h)
   where
@@ -68,7 +68,7 @@ joins_fits k (x ∷ fs) f h i = by (nat_le k (own_level x)) refl (joins_fits k f
     by true e m = m (join_fits x fs f (omega (arith, h, test_le k (own_level x) e)) i)
     by false e m = i
 
-pub joins_level : (k : ℕ) (fs : List Frame) (f : Form) → 1 ≤ k → k ≤ level f → k ≤ level (joins k fs f).1
+pub joins_level : (k : ℕ) (fs : List Frame) (f : FormulaSyntax) → 1 ≤ k → k ≤ level f → k ≤ level (joins k fs f).1
 joins_level k [] f h i = i
 joins_level k (x ∷ fs) f h i = by (nat_le k (own_level x)) refl (joins_level k fs (joined x f) h)
   where
@@ -118,7 +118,7 @@ need_left (suc (suc (suc (suc (suc n))))) (BegunOr g) fs h = omega arith
 need_left (suc (suc (suc (suc (suc n))))) BegunNot fs h = omega arith
 need_left (suc (suc (suc (suc (suc n))))) (BegunAnd g) fs h = omega arith
 
-pub joins_need : (k : ℕ) (fs : List Frame) (f : Form) → 1 ≤ need_over k → required_level (joins k fs f).0 ≤ need_over k
+pub joins_need : (k : ℕ) (fs : List Frame) (f : FormulaSyntax) → 1 ≤ need_over k → required_level (joins k fs f).0 ≤ need_over k
 joins_need k [] f h = h
 joins_need k (x ∷ fs) f h = by (nat_le k (own_level x)) refl (joins_need k fs (joined x f) h)
   where
@@ -127,7 +127,7 @@ joins_need k (x ∷ fs) f h = by (nat_le k (own_level x)) refl (joins_need k fs 
     by false e m = need_left k x fs (test_lt k (own_level x) e)
 
 -- a `!` is joined whenever anything is
-pub joins_settled : (k : ℕ) (fs : List Frame) (f : Form) → k ≤ 5 → LastIsNoNot (joins k fs f).0
+pub joins_settled : (k : ℕ) (fs : List Frame) (f : FormulaSyntax) → k ≤ 5 → LastIsNoNot (joins k fs f).0
 joins_settled k [] f h = tt
 joins_settled k (x ∷ fs) f h = by (nat_le k (own_level x)) refl (joins_settled k fs (joined x f) h)
   where
@@ -154,7 +154,7 @@ loose (BegunImplies g ∷ fs) n a = (refl, tt)
 loose (BegunIff g ∷ fs) n a = ((loose fs (omega (arith, a.0)) a.2).0, tt)
 
 -- behind an operand
-pub nots_opened : (fs : List Frame) (f : Form) → AreFrames fs → opened_of (joins 5 fs f).0 ≡ without_nots (opened_of fs)
+pub nots_opened : (fs : List Frame) (f : FormulaSyntax) → AreFrames fs → opened_of (joins 5 fs f).0 ≡ without_nots (opened_of fs)
 nots_opened [] f a = refl
 nots_opened (BegunNot ∷ fs) f a = nots_opened fs (Not f) a.1
 nots_opened (BegunGroup ∷ fs) f a = refl
@@ -164,7 +164,7 @@ nots_opened (BegunImplies g ∷ fs) f a = refl
 nots_opened (BegunIff g ∷ fs) f a = sym (loose fs (omega (arith, a.0)) a.2).0
 
 -- before `&`
-pub and_opened : (fs : List Frame) (f : Form) → LastIsNoNot fs → AreFrames fs → opened_of (joins 4 fs f).0 ≡ opened_of fs
+pub and_opened : (fs : List Frame) (f : FormulaSyntax) → LastIsNoNot fs → AreFrames fs → opened_of (joins 4 fs f).0 ≡ opened_of fs
 and_opened [] f s a = refl
 and_opened (BegunNot ∷ fs) f s a = absurd s
 and_opened (BegunGroup ∷ fs) f s a = refl
@@ -174,7 +174,7 @@ and_opened (BegunImplies g ∷ fs) f s a = refl
 and_opened (BegunIff g ∷ fs) f s a = refl
 
 -- before `|` and `->`
-pub or_opened : (fs : List Frame) (f : Form) → LastIsNoNot fs → AreFrames fs → opened_of (joins 3 fs f).0 ≡ opened_of fs
+pub or_opened : (fs : List Frame) (f : FormulaSyntax) → LastIsNoNot fs → AreFrames fs → opened_of (joins 3 fs f).0 ≡ opened_of fs
 or_opened [] f s a = refl
 or_opened (BegunNot ∷ fs) f s a = absurd s
 or_opened (BegunGroup ∷ fs) f s a = refl
@@ -184,7 +184,7 @@ or_opened (BegunImplies g ∷ fs) f s a = refl
 or_opened (BegunIff g ∷ fs) f s a = refl
 
 -- before `<->`, `)` and `given`
-pub all_opened : (fs : List Frame) (f : Form) → LastIsNoNot fs → AreFrames fs → opened_of (joins 1 fs f).0 ≡ without_arrows (opened_of fs)
+pub all_opened : (fs : List Frame) (f : FormulaSyntax) → LastIsNoNot fs → AreFrames fs → opened_of (joins 1 fs f).0 ≡ without_arrows (opened_of fs)
 all_opened [] f s a = refl
 all_opened (BegunNot ∷ fs) f s a = absurd s
 all_opened (BegunGroup ∷ fs) f s a = refl
@@ -194,7 +194,7 @@ all_opened (BegunImplies g ∷ fs) f s a = all_opened fs (Implies g f) (loose fs
 all_opened (BegunIff g ∷ fs) f s a = all_opened fs (Iff g f) (loose fs (omega (arith, a.0)) a.2).1 a.2
 
 -- where no `(` is open, all is joined
-pub all_joined : (fs : List Frame) (f : Form) → LastIsNoNot fs → AreFrames fs → list_any is_group (opened_of fs) ≡ false → (joins 1 fs f).0 ≡ []
+pub all_joined : (fs : List Frame) (f : FormulaSyntax) → LastIsNoNot fs → AreFrames fs → list_any is_group (opened_of fs) ≡ false → (joins 1 fs f).0 ≡ []
 all_joined [] f s a n = refl
 all_joined (BegunNot ∷ fs) f s a n = absurd s
 all_joined (BegunGroup ∷ fs) f s a n = absurd (true≢false n)

@@ -9,7 +9,7 @@ use Rattle.ps_meaning.specs.Statements.{Ratio, Item, Stated, Asked}
 use Rattle.ps_meaning.specs.Names.{is_word}
 use Rattle.ps_text.specs.Tokens.{One, Token, Word, Sign, Numeral, Whole, Quotient, Decimal, Close, Semicolon, Ampersand, Bar, Arrow, DoubleArrow, is_word_byte, IsWord, IsToken}
 use Rattle.ps_text.specs.Pieces.{Piece, Blank, Comment, Spelled, Cuts, tokens}
-use Rattle.ps_text.specs.Grammar.{Form, Name, Truth, Falsity, Not, Group, And, Or, Implies, Iff, spelled, IsForm, Prob, Relation, Exactly, AtLeast, AtMost, Within, Entry, Sentence, Query, given_tokens, prob_tokens, relation_tokens, entry_tokens, entries_tokens, text_tokens, IsProbability, IsGiven, IsProb, IsRelation, IsEntry, AreEntries}
+use Rattle.ps_text.specs.Grammar.{FormulaSyntax, Name, Truth, Falsity, Not, Group, And, Or, Implies, Iff, spelled, IsWellFormed, Prob, Relation, Exactly, AtLeast, AtMost, Within, ItemSyntax, Sentence, Query, given_tokens, prob_tokens, relation_tokens, item_tokens, items_tokens, text_tokens, IsProbability, IsGiven, IsProb, IsRelation, IsWellFormedItem, AreWellFormedItems}
 use Rattle.ps_text.specs.Meanings.{formula_of, given_of, ratio_of, IsValue, States, IsItem, AreItems}
 use Rattle.ps_text.specs.Fronts.{IsFront}
 use Rattle.ps_text.specs.Canonical.{HasNames, IsWritable, IsWritableGiven, IsReduced, IsUpper, IsLawfulItem, AreLawful}
@@ -101,7 +101,7 @@ word_back : (w : List ℕ) → IsWord w → is_word w ≡ true
 word_back [] h = absurd h
 word_back (b ∷ bs) h = ap (λ x. x && list_all is_word_byte bs) h.0 ∙ all_back is_word_byte bs h.1
 
-names_of : (f : Form) → IsForm f → AreTokens (spelled f) → HasNames (formula_of f)
+names_of : (f : FormulaSyntax) → IsWellFormed f → AreTokens (spelled f) → HasNames (formula_of f)
 unfolding AreTokens
 names_of (Name w) i h = record { word = word_back w h.0; short = i.1; free = i.0 }
 names_of Truth i h = tt
@@ -113,17 +113,17 @@ names_of (Or f g) i h = let s = split (spelled f) (Sign Bar ∷ spelled g) h in 
 names_of (Implies f g) i h = let s = split (spelled f) (Sign Arrow ∷ spelled g) h in (names_of f i.2 s.0, names_of g i.3 s.1.1)
 names_of (Iff f g) i h = let s = split (spelled f) (Sign DoubleArrow ∷ spelled g) h in (names_of f i.2 s.0, names_of g i.3 s.1.1)
 
-given_writable : (g : Option Form) → IsGiven g → AreTokens (given_tokens g) → IsWritableGiven (given_of g)
+given_writable : (g : Option FormulaSyntax) → IsGiven g → AreTokens (given_tokens g) → IsWritableGiven (given_of g)
 unfolding AreTokens
 given_writable None i h = tt
 given_writable (Some f) i h = record { names = names_of f i.0 h.1; nests = read_nests f i.0 i.1 }
 
-prob_writable : (p : Prob) → IsProb p → AreTokens (prob_tokens p) → IsWritable (formula_of p.form) × IsWritableGiven (given_of p.given)
+prob_writable : (p : Prob) → IsProb p → AreTokens (prob_tokens p) → IsWritable (formula_of p.formula) × IsWritableGiven (given_of p.given)
 unfolding AreTokens
 prob_writable p i h =
-    let s = split (spelled p.form ++ given_tokens p.given) (Sign Close ∷ []) h.1.1 in
-    let t = split (spelled p.form) (given_tokens p.given) s.0 in
-    (record { names = names_of p.form i.form t.0; nests = read_nests p.form i.form i.nests }, given_writable p.given i.given t.1)
+    let s = split (spelled p.formula ++ given_tokens p.given) (Sign Close ∷ []) h.1.1 in
+    let t = split (spelled p.formula) (given_tokens p.given) s.0 in
+    (record { names = names_of p.formula i.formula t.0; nests = read_nests p.formula i.formula i.nests }, given_writable p.given i.given t.1)
 
 related_lawful : (x : Relation) (s : Side) (r : Ratio) (upper : Option Ratio) → IsRelation x → States x s r upper → IsReduced r × IsUpper s upper
 related_lawful (Exactly x) s r upper h k = (reduced x r h k.1, subst (λ u. IsUpper s u) (sym k.2) tt)
@@ -132,7 +132,7 @@ related_lawful (AtMost x) s r upper h k = (reduced x r h k.1, subst (λ u. IsUpp
 related_lawful (Within x y) s r None h k = absurd k
 related_lawful (Within x y) s r (Some q) h k = (reduced x r h.0 k.1, subst (λ z. IsUpper z (Some q)) (sym k.0) (reduced y q h.1 k.2))
 
-item_lawful : (e : Entry) (i : Item) → IsEntry e → AreTokens (entry_tokens e) → IsItem e i → IsLawfulItem i
+item_lawful : (e : ItemSyntax) (i : Item) → IsWellFormedItem e → AreTokens (item_tokens e) → IsItem e i → IsLawfulItem i
 unfolding AreTokens
 item_lawful (Sentence p r) (Stated s) w h m =
     let front = split (prob_tokens p ++ relation_tokens r) (Sign Semicolon ∷ []) h in
@@ -146,16 +146,16 @@ item_lawful (Query p) (Asked q) w h m =
 item_lawful (Sentence p r) (Asked q) w h m = absurd m
 item_lawful (Query p) (Stated s) w h m = absurd m
 
-all_lawful : (es : List Entry) (is : List Item) → AreEntries es → AreTokens (entries_tokens es) → AreItems es is → AreLawful is
+all_lawful : (es : List ItemSyntax) (is : List Item) → AreWellFormedItems es → AreTokens (items_tokens es) → AreItems es is → AreLawful is
 unfolding AreTokens
 all_lawful [] [] w h m = tt
 all_lawful [] (i ∷ is) w h m = absurd m
 all_lawful (e ∷ es) [] w h m = absurd m
-all_lawful (e ∷ es) (i ∷ is) w h m = let s = split (entry_tokens e) (entries_tokens es) h in (item_lawful e i w.0 s.0 m.0, all_lawful es is w.1 s.1 m.1)
+all_lawful (e ∷ es) (i ∷ is) w h m = let s = split (item_tokens e) (items_tokens es) h in (item_lawful e i w.0 s.0 m.0, all_lawful es is w.1 s.1 m.1)
 
 -- what stands at the front means lawful items
 pub front_lawful : (bytes : List ℕ) (items : List Item) (n : ℕ) → IsFront bytes items n → AreLawful items
 unfolding AreTokens
 front_lawful bytes items n f = let t = f.text in
-    let all : AreTokens (text_tokens t.entries) = subst AreTokens t.derived (cut_tokens t.pieces t.rest t.cuts) in
-    all_lawful t.entries items t.within (split (entries_tokens t.entries) (Word (codes "end") ∷ Sign Semicolon ∷ []) all.1.1.1).0 f.meant
+    let all : AreTokens (text_tokens t.written) = subst AreTokens t.derived (cut_tokens t.pieces t.rest t.cuts) in
+    all_lawful t.written items t.within (split (items_tokens t.written) (Word (codes "end") ∷ Sign Semicolon ∷ []) all.1.1.1).0 f.meant

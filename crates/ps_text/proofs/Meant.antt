@@ -1,11 +1,11 @@
--- Entries mean one list of items at most.
+-- What is written means one list of items at most.
 use Rattle.std.proofs.Common.{◌≡◌, ℕ, ◌*◌, ◌^◌, ◌<◌, ◌/◌, zero, suc, List, [], ◌∷◌, length, Option, Some, None, refl, sym, ap, subst, ◌∙◌, arith}
 use Rattle.std.proofs.lemmas.Nat.Gcd.{same_from_IsGcd}
 use Rattle.std.proofs.Math.Nat.{mul-div_cancel, pow-succ'}
 use Rattle.ps_meaning.specs.declared.side.Side.{Side}
 use Rattle.ps_meaning.specs.Statements.{Ratio, Statement, Item, Stated, Asked}
 use Rattle.ps_text.specs.Tokens.{Numeral, Whole, Quotient, Decimal}
-use Rattle.ps_text.specs.Grammar.{Prob, Relation, Exactly, AtLeast, AtMost, Within, Entry, Sentence, Query, IsProbability, IsRelation, AreEntries}
+use Rattle.ps_text.specs.Grammar.{Prob, Relation, Exactly, AtLeast, AtMost, Within, ItemSyntax, Sentence, Query, IsProbability, IsRelation, AreWellFormedItems}
 use Rattle.ps_text.specs.Meanings.{ratio_of, IsLowest, IsValue, States, IsStatement, AreItems}
 use Rattle.ps_text.specs.Fronts.{IsFront}
 use Rattle.ps_text.specs.Canonical.{canonical_text, AreLawful}
@@ -65,8 +65,8 @@ statement_once p x s t h j k =
       upper = same.upper_is i;
     }
 
--- entries mean one list of items at most
-pub items_once : (es : List Entry) (is js : List Item) → AreEntries es → AreItems es is → AreItems es js → is ≡ js
+-- what is written means one list of items at most
+pub items_once : (es : List ItemSyntax) (is js : List Item) → AreWellFormedItems es → AreItems es is → AreItems es js → is ≡ js
 items_once [] [] [] h j k = refl
 items_once [] [] (x ∷ js) h j k = absurd k
 items_once [] (x ∷ is) js h j k = absurd j
@@ -81,7 +81,7 @@ items_once (Query p ∷ es) (Asked q ∷ is) (Stated s ∷ js) h j k = absurd k.
 
 -- what stands at the front means one list of items at most
 pub meaning_once : (bytes : List ℕ) (is js : List Item) (n m : ℕ) → IsFront bytes is n → IsFront bytes js m → is ≡ js
-meaning_once bytes is js n m f g = let s = front_once f.text g.text in items_once f.text.entries is js f.text.within f.meant (subst (λ es. AreItems es js) (sym s.entries) g.meant)
+meaning_once bytes is js n m f g = let s = front_once f.text g.text in items_once f.text.written is js f.text.within f.meant (subst (λ es. AreItems es js) (sym s.written) g.meant)
 
 -- a reading of the canonical text of lawful items gives these items, and ends where it ends
 pub canonical_back : (items js : List Item) (n : ℕ) → AreLawful items → IsFront (canonical_text items) js n → (js ≡ items) × (n ≡ length (canonical_text items))

@@ -4,9 +4,9 @@ use Rattle.std.proofs.lemmas.Bool.Decides.{nat_tests}
 use Rattle.std.specs.Prelude.{nat_le, nat_lt, if◌then◌else◌}
 use Rattle.ps_meaning.specs.Formula as formula
 use Rattle.ps_meaning.specs.Statements as meaning
-use Rattle.ps_text.specs.Grammar.{Form, Name, Truth, Falsity, Not, Group, And, Or, Implies, Iff, level, IsForm, Nests}
+use Rattle.ps_text.specs.Grammar.{FormulaSyntax, Name, Truth, Falsity, Not, Group, And, Or, Implies, Iff, level, IsWellFormed, Nests}
 use Rattle.ps_text.specs.Meanings.{formula_of}
-use Rattle.ps_text.specs.Canonical.{fitted, canonical_form}
+use Rattle.ps_text.specs.Canonical.{fitted, canonical_formula}
 
 -- the words of `ps_problem.specs.Drafts`
 abbrev pub parenthesis : ℕ → ℕ → ℕ
@@ -31,36 +31,36 @@ below k l e = grind (arith, nat_tests)
 is_at_least : (k l : ℕ) → k ≤ l → nat_le k l ≡ true
 is_at_least k l h = grind (arith, nat_tests)
 
-fits : (k : ℕ) (f : Form) → k ≤ level f → fitted k f ≡ f
+fits : (k : ℕ) (f : FormulaSyntax) → k ≤ level f → fitted k f ≡ f
 fits k f h = rw (is_at_least k (level f) h) refl
 
 parenthesis_one : (k l : ℕ) → nat_le k l ≡ false → parenthesis k l ≡ 1
 parenthesis_one k l e = rw (below k l e) refl
 
 -- in parentheses, or as it is
-fitted_nests : (k n m : ℕ) (f : Form) → n + (parenthesis k (level f) + m) ≤ 100 → ((i : ℕ) → i + m ≤ 100 → Nests i f) → Nests n (fitted k f)
+fitted_nests : (k n m : ℕ) (f : FormulaSyntax) → n + (parenthesis k (level f) + m) ≤ 100 → ((i : ℕ) → i + m ≤ 100 → Nests i f) → Nests n (fitted k f)
 fitted_nests k n m f h p = by (nat_le k (level f)) refl
   where
     by : (b : Bool) → nat_le k (level f) ≡ b → Nests n (if b then f else Group f)
     by true e = p n (omega (arith, h))
     by false e = (omega (arith, h, parenthesis_one k (level f) e), p (n + 1) (omega (arith, h, parenthesis_one k (level f) e)))
 
-nests_at : (f : formula.Formula meaning.Name) (k n : ℕ) → k ≤ 5 → n + nesting_at k f ≤ 100 → Nests n (fitted k (canonical_form f))
+nests_at : (f : formula.Formula meaning.Name) (k n : ℕ) → k ≤ 5 → n + nesting_at k f ≤ 100 → Nests n (fitted k (canonical_formula f))
 nests_at formula.Truth k n l h = subst (Nests n) (sym (fits k Truth l)) tt
 nests_at formula.Falsity k n l h = subst (Nests n) (sym (fits k Falsity l)) tt
 nests_at (formula.Atom a) k n l h = subst (Nests n) (sym (fits k (Name a) l)) tt
 nests_at (formula.Not f) k n l h =
-    subst (Nests n) (sym (fits k (Not (fitted 5 (canonical_form f))) l)) (omega (arith, h), nests_at f 5 (n + 1) (omega arith) (omega (arith, h)))
-nests_at (formula.And f g) k n l h = fitted_nests k n (max (nesting_at 4 f) (nesting_at 5 g)) (And (fitted 4 (canonical_form f)) (fitted 5 (canonical_form g))) h
+    subst (Nests n) (sym (fits k (Not (fitted 5 (canonical_formula f))) l)) (omega (arith, h), nests_at f 5 (n + 1) (omega arith) (omega (arith, h)))
+nests_at (formula.And f g) k n l h = fitted_nests k n (max (nesting_at 4 f) (nesting_at 5 g)) (And (fitted 4 (canonical_formula f)) (fitted 5 (canonical_formula g))) h
     (λ i q. (nests_at f 4 i (omega arith) (omega (arith, q)), nests_at g 5 i (omega arith) (omega (arith, q))))
-nests_at (formula.Or f g) k n l h = fitted_nests k n (max (nesting_at 3 f) (nesting_at 4 g)) (Or (fitted 3 (canonical_form f)) (fitted 4 (canonical_form g))) h
+nests_at (formula.Or f g) k n l h = fitted_nests k n (max (nesting_at 3 f) (nesting_at 4 g)) (Or (fitted 3 (canonical_formula f)) (fitted 4 (canonical_formula g))) h
     (λ i q. (nests_at f 3 i (omega arith) (omega (arith, q)), nests_at g 4 i (omega arith) (omega (arith, q))))
-nests_at (formula.Implies f g) k n l h = fitted_nests k n (max (nesting_at 3 f) (1 + nesting_at 2 g)) (Implies (fitted 3 (canonical_form f)) (fitted 2 (canonical_form g))) h
+nests_at (formula.Implies f g) k n l h = fitted_nests k n (max (nesting_at 3 f) (1 + nesting_at 2 g)) (Implies (fitted 3 (canonical_formula f)) (fitted 2 (canonical_formula g))) h
     (λ i q. (nests_at f 3 i (omega arith) (omega (arith, q)), omega (arith, q), nests_at g 2 (i + 1) (omega arith) (omega (arith, q))))
-nests_at (formula.Iff f g) k n l h = fitted_nests k n (max (nesting_at 1 f) (nesting_at 2 g)) (Iff (fitted 1 (canonical_form f)) (fitted 2 (canonical_form g))) h
+nests_at (formula.Iff f g) k n l h = fitted_nests k n (max (nesting_at 1 f) (nesting_at 2 g)) (Iff (fitted 1 (canonical_formula f)) (fitted 2 (canonical_formula g))) h
     (λ i q. (nests_at f 1 i (omega arith) (omega (arith, q)), nests_at g 2 i (omega arith) (omega (arith, q))))
 
-least : (f : Form) → 1 ≤ level f
+least : (f : FormulaSyntax) → 1 ≤ level f
 least (Iff f g) = omega arith
 least (Implies f g) = omega arith
 least (Or f g) = omega arith
@@ -72,11 +72,11 @@ least (Not f) = omega arith
 least (Group f) = omega arith
 
 -- a formula whose canonical nesting is at most 100 is written so
-pub nests_canonical : (f : formula.Formula meaning.Name) → nesting_at 1 f ≤ 100 → Nests 0 (canonical_form f)
-nests_canonical f h = subst (Nests 0) (fits 1 (canonical_form f) (least (canonical_form f))) (nests_at f 1 0 (omega arith) (omega (arith, h)))
+pub nests_canonical : (f : formula.Formula meaning.Name) → nesting_at 1 f ≤ 100 → Nests 0 (canonical_formula f)
+nests_canonical f h = subst (Nests 0) (fits 1 (canonical_formula f) (least (canonical_formula f))) (nests_at f 1 0 (omega arith) (omega (arith, h)))
 
 -- where fewer are open before, fewer are ever open
-nests_less : (f : Form) (n : ℕ) → Nests (n + 1) f → Nests n f
+nests_less : (f : FormulaSyntax) (n : ℕ) → Nests (n + 1) f → Nests n f
 nests_less (Name w) n h = tt
 nests_less Truth n h = tt
 nests_less Falsity n h = tt
@@ -87,7 +87,7 @@ nests_less (Or f g) n h = (nests_less f n h.0, nests_less g n h.1)
 nests_less (Implies f g) n h = (nests_less f n h.0, omega (arith, h.1), nests_less g (n + 1) h.2)
 nests_less (Iff f g) n h = (nests_less f n h.0, nests_less g n h.1)
 
-group_nests : (k n : ℕ) (f : Form) → n < 100 → Nests (n + 1) f → Nests n (fitted k f)
+group_nests : (k n : ℕ) (f : FormulaSyntax) → n < 100 → Nests (n + 1) f → Nests n (fitted k f)
 group_nests k n f l h = by (nat_le k (level f))
   where
     by : (b : Bool) → Nests n (if b then f else Group f)
@@ -95,18 +95,18 @@ group_nests k n f l h = by (nat_le k (level f))
     by false = (l, h)
 
 -- the canonical form nests no deeper than any other that means the same
-written_nests : (g : Form) (k n : ℕ) → k ≤ level g → IsForm g → Nests n g → Nests n (fitted k (canonical_form (formula_of g)))
+written_nests : (g : FormulaSyntax) (k n : ℕ) → k ≤ level g → IsWellFormed g → Nests n g → Nests n (fitted k (canonical_formula (formula_of g)))
 written_nests (Name w) k n l i h = subst (Nests n) (sym (fits k (Name w) l)) tt
 written_nests Truth k n l i h = subst (Nests n) (sym (fits k Truth l)) tt
 written_nests Falsity k n l i h = subst (Nests n) (sym (fits k Falsity l)) tt
-written_nests (Not f) k n l i h = subst (Nests n) (sym (fits k (Not (fitted 5 (canonical_form (formula_of f)))) l)) (h.0, written_nests f 5 (n + 1) i.0 i.1 h.1)
-written_nests (Group f) k n l i h = group_nests k n (canonical_form (formula_of f)) h.0
-    (subst (Nests (n + 1)) (fits 1 (canonical_form (formula_of f)) (least (canonical_form (formula_of f)))) (written_nests f 1 (n + 1) (least f) i h.1))
-written_nests (And f g) k n l i h = subst (Nests n) (sym (fits k (And (fitted 4 (canonical_form (formula_of f))) (fitted 5 (canonical_form (formula_of g)))) l)) (written_nests f 4 n i.0 i.2 h.0, written_nests g 5 n i.1 i.3 h.1)
-written_nests (Or f g) k n l i h = subst (Nests n) (sym (fits k (Or (fitted 3 (canonical_form (formula_of f))) (fitted 4 (canonical_form (formula_of g)))) l)) (written_nests f 3 n i.0 i.2 h.0, written_nests g 4 n i.1 i.3 h.1)
-written_nests (Implies f g) k n l i h = subst (Nests n) (sym (fits k (Implies (fitted 3 (canonical_form (formula_of f))) (fitted 2 (canonical_form (formula_of g)))) l)) (written_nests f 3 n i.0 i.2 h.0, h.1, written_nests g 2 (n + 1) i.1 i.3 h.2)
-written_nests (Iff f g) k n l i h = subst (Nests n) (sym (fits k (Iff (fitted 1 (canonical_form (formula_of f))) (fitted 2 (canonical_form (formula_of g)))) l)) (written_nests f 1 n i.0 i.2 h.0, written_nests g 2 n i.1 i.3 h.1)
+written_nests (Not f) k n l i h = subst (Nests n) (sym (fits k (Not (fitted 5 (canonical_formula (formula_of f)))) l)) (h.0, written_nests f 5 (n + 1) i.0 i.1 h.1)
+written_nests (Group f) k n l i h = group_nests k n (canonical_formula (formula_of f)) h.0
+    (subst (Nests (n + 1)) (fits 1 (canonical_formula (formula_of f)) (least (canonical_formula (formula_of f)))) (written_nests f 1 (n + 1) (least f) i h.1))
+written_nests (And f g) k n l i h = subst (Nests n) (sym (fits k (And (fitted 4 (canonical_formula (formula_of f))) (fitted 5 (canonical_formula (formula_of g)))) l)) (written_nests f 4 n i.0 i.2 h.0, written_nests g 5 n i.1 i.3 h.1)
+written_nests (Or f g) k n l i h = subst (Nests n) (sym (fits k (Or (fitted 3 (canonical_formula (formula_of f))) (fitted 4 (canonical_formula (formula_of g)))) l)) (written_nests f 3 n i.0 i.2 h.0, written_nests g 4 n i.1 i.3 h.1)
+written_nests (Implies f g) k n l i h = subst (Nests n) (sym (fits k (Implies (fitted 3 (canonical_formula (formula_of f))) (fitted 2 (canonical_formula (formula_of g)))) l)) (written_nests f 3 n i.0 i.2 h.0, h.1, written_nests g 2 (n + 1) i.1 i.3 h.2)
+written_nests (Iff f g) k n l i h = subst (Nests n) (sym (fits k (Iff (fitted 1 (canonical_formula (formula_of f))) (fitted 2 (canonical_formula (formula_of g)))) l)) (written_nests f 1 n i.0 i.2 h.0, written_nests g 2 n i.1 i.3 h.1)
 
 -- what is read nests in its canonical form too
-pub read_nests : (g : Form) → IsForm g → Nests 0 g → Nests 0 (canonical_form (formula_of g))
-read_nests g i h = subst (Nests 0) (fits 1 (canonical_form (formula_of g)) (least (canonical_form (formula_of g)))) (written_nests g 1 0 (least g) i h)
+pub read_nests : (g : FormulaSyntax) → IsWellFormed g → Nests 0 g → Nests 0 (canonical_formula (formula_of g))
+read_nests g i h = subst (Nests 0) (fits 1 (canonical_formula (formula_of g)) (least (canonical_formula (formula_of g)))) (written_nests g 1 0 (least g) i h)

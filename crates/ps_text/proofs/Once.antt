@@ -7,7 +7,7 @@ use Rattle.std.specs.Prelude.{◌==◌}
 use Rattle.ps_meaning.specs.Statements.{Item}
 use Rattle.ps_text.specs.Tokens.{One, Token, Word, Number, Sign, Numeral, Whole, Quotient, Decimal, Open, Close, OpenBracket, CloseBracket, Comma, Semicolon, Bang, Ampersand, Bar, Arrow, DoubleArrow, Equals, GreaterEquals, LessEquals, is_letter, is_digit, IsToken, IsNumeral, IsLongest, spelling, numeral_spelling, symbol_spelling}
 use Rattle.ps_text.specs.Pieces.{is_blank, Piece, Blank, Comment, Spelled, text, EndsLine, Fits, texts, Cuts, tokens, IsBare}
-use Rattle.ps_text.specs.Grammar.{Entry, AreEntries, text_tokens}
+use Rattle.ps_text.specs.Grammar.{ItemSyntax, AreWellFormedItems, text_tokens}
 use Rattle.ps_text.specs.Fronts.{IsTextFront, IsFront}
 use Rattle.ps_text.proofs.Spans.{starts, refute, span_same, digits_pass, word_starts, not_both}
 use Rattle.ps_text.proofs.Longest.{IsLongest-at, numeral_starts, symbol_apart, symbol_apart_digit}
@@ -174,12 +174,12 @@ order (x ∷ ps) (y ∷ qs) rest others c d i j e =
     let s = same_piece x y (texts ps ++ rest) (texts qs ++ others) c.0 d.0 (sym (append_assoc (text x) (texts ps) rest) ∙ e ∙ append_assoc (text y) (texts qs) others) in
     subst (λ z. Order (x ∷ ps) (z ∷ qs) rest others) s.0 (grow x ps qs rest others (order ps qs rest others c.1 d.1 i j s.1))
 
-done_stays : (es : List Entry) (ts : List Token) → parsed_all (InDone es) ts ≡ InDone es
+done_stays : (es : List ItemSyntax) (ts : List Token) → parsed_all (InDone es) ts ≡ InDone es
 done_stays es [] = refl
 done_stays es (t ∷ ts) = done_stays es ts
 
 -- no text has another's tokens and more
-no_longer : (es fs : List Entry) (t : Token) (more : List Token) → AreEntries es → AreEntries fs → text_tokens es ≡ text_tokens fs ++ t ∷ more → ⊥
+no_longer : (es fs : List ItemSyntax) (t : Token) (more : List Token) → AreWellFormedItems es → AreWellFormedItems fs → text_tokens es ≡ text_tokens fs ++ t ∷ more → ⊥
 no_longer es fs t more i j e =
     let p = sym (text_back es i) ∙ ap (parsed_all InPsat) e ∙ parsed-append InPsat (text_tokens fs) (t ∷ more) ∙ ap (λ x. parsed_all x (t ∷ more)) (text_back fs j) ∙ done_stays fs (t ∷ more) in
     let same : es ≡ fs = done_once es fs p in
@@ -189,7 +189,7 @@ no_longer es fs t more i j e =
 
 -- one text at most stands at the front
 pub record IsSame {bytes : List ℕ} {n m : ℕ} (f : IsTextFront bytes n) (g : IsTextFront bytes m) : Type 0 where
-  pub entries : f.entries ≡ g.entries
+  pub written : f.written ≡ g.written
   pub place : n ≡ m
 
 pub front_once : {bytes : List ℕ} {n m : ℕ} (f : IsTextFront bytes n) (g : IsTextFront bytes m) → IsSame f g
@@ -197,11 +197,11 @@ front_once {bytes} {n} {m} f g = by (order f.pieces g.pieces f.rest g.rest f.cut
   where
     by : Order f.pieces g.pieces f.rest g.rest → IsSame f g
     by (Same is) = record {
-      entries = text_once f.entries g.entries f.within g.within (sym f.derived ∙ ap tokens is ∙ g.derived);
+      written = text_once f.written g.written f.within g.within (sym f.derived ∙ ap tokens is ∙ g.derived);
       place = f.place_is ∙ ap (λ ps. length (texts ps)) is ∙ sym g.place_is;
     }
-    by (Longer t more is next) = absurd (no_longer f.entries g.entries t more f.within g.within (sym f.derived ∙ is ∙ ap (λ ts. ts ++ t ∷ more) g.derived))
-    by (Shorter t more is next) = absurd (no_longer g.entries f.entries t more g.within f.within (sym g.derived ∙ is ∙ ap (λ ts. ts ++ t ∷ more) f.derived))
+    by (Longer t more is next) = absurd (no_longer f.written g.written t more f.within g.within (sym f.derived ∙ is ∙ ap (λ ts. ts ++ t ∷ more) g.derived))
+    by (Shorter t more is next) = absurd (no_longer g.written f.written t more g.within f.within (sym g.derived ∙ is ∙ ap (λ ts. ts ++ t ∷ more) f.derived))
 
 pub front_place : (bytes : List ℕ) (is js : List Item) (n m : ℕ) → IsFront bytes is n → IsFront bytes js m → n ≡ m
 front_place bytes is js n m f g = (front_once f.text g.text).place

@@ -3,7 +3,7 @@ use Rattle.std.proofs.Common.{◌≡◌, ℕ, ◌<◌, ◌≤◌, Bool, true, fa
 use Rattle.std.proofs.lemmas.Bool.Decides.{nat_tests}
 use Rattle.std.specs.Prelude.{nat_le, bytes_eq, codes, if◌then◌else◌}
 use Rattle.ps_text.specs.Tokens.{Token, Word, Sign, Open, Close, Semicolon, Ampersand, Bar, Arrow, DoubleArrow}
-use Rattle.ps_text.specs.Grammar.{is_reserved, Form, Name, Truth, Falsity, Not, Group, And, Or, Implies, Iff, spelled, level, IsForm, Prob, Relation, Exactly, AtLeast, AtMost, Within, Entry, Sentence, Query, given_tokens, prob_tokens, relation_tokens, entry_tokens, entries_tokens, text_tokens, IsGiven, IsEntry, AreEntries}
+use Rattle.ps_text.specs.Grammar.{is_reserved, FormulaSyntax, Name, Truth, Falsity, Not, Group, And, Or, Implies, Iff, spelled, level, IsWellFormed, Prob, Relation, Exactly, AtLeast, AtMost, Within, ItemSyntax, Sentence, Query, given_tokens, prob_tokens, relation_tokens, item_tokens, items_tokens, text_tokens, IsGiven, IsWellFormedItem, AreWellFormedItems}
 use Rattle.ps_text.specs.BegunFormulas.{Frame, BegunNot, BegunGroup, BegunAnd, BegunOr, BegunImplies, BegunIff, required_level, own_level, joined, joins}
 use Rattle.ps_text.specs.PartialParses.{Parse, InPsat, InItem, InDone, InParen, InOperand, InOperator, InRelation, InItemEnd, prob_of, behind_operand, operand_of, behind_close, parsed}
 use Rattle.ps_text.proofs.Derived.{parsed_all}
@@ -22,15 +22,15 @@ test_le : (k n : ℕ) → nat_le k n ≡ true → k ≤ n
 test_le k n h = grind (arith, nat_tests)
 
 -- what binds tightly enough is joined
-join_over : (k : ℕ) (x : Frame) (fs : List Frame) (f : Form) → k ≤ own_level x → joins k (x ∷ fs) f ≡ joins k fs (joined x f)
+join_over : (k : ℕ) (x : Frame) (fs : List Frame) (f : FormulaSyntax) → k ≤ own_level x → joins k (x ∷ fs) f ≡ joins k fs (joined x f)
 join_over k x fs f h = rw (test_true k (own_level x) h) refl
 
 -- joining more tightly first changes nothing
-joins_again : (k m : ℕ) (fs : List Frame) (f : Form) → k ≤ m → joins k (joins m fs f).0 (joins m fs f).1 ≡ joins k fs f
+joins_again : (k m : ℕ) (fs : List Frame) (f : FormulaSyntax) → k ≤ m → joins k (joins m fs f).0 (joins m fs f).1 ≡ joins k fs f
 joins_again k m [] f h = refl
 joins_again k m (x ∷ fs) f h = by (nat_le m (own_level x)) refl (joins_again k m fs (joined x f) h)
   where
-    chosen : Bool → List Frame × Form
+    chosen : Bool → List Frame × FormulaSyntax
     chosen b = if b then joins m fs (joined x f) else (x ∷ fs, f)
 
     by : (b : Bool) → nat_le m (own_level x) ≡ b → joins k (joins m fs (joined x f)).0 (joins m fs (joined x f)).1 ≡ joins k fs (joined x f) → joins k (chosen b).0 (chosen b).1 ≡ joins k (x ∷ fs) f
@@ -42,7 +42,7 @@ Below : ℕ → List Frame → Type 0
 Below k [] = Unit {0}
 Below k (x ∷ fs) = own_level x < k
 
-stays : (k : ℕ) (fs : List Frame) (f : Form) → Below k fs → joins k fs f ≡ (fs, f)
+stays : (k : ℕ) (fs : List Frame) (f : FormulaSyntax) → Below k fs → joins k fs f ≡ (fs, f)
 unfolding Below
 stays k [] f h = refl
 stays k (x ∷ fs) f h = rw (test_false k (own_level x) h) refl
@@ -78,26 +78,26 @@ below_four (BegunImplies g ∷ fs) h = omega arith
 below_four (BegunIff g ∷ fs) h = omega arith
 
 -- behind a formula: what is begun joins to the formula over what was begun before it
-record Behind (es : List Entry) (q : Bool) (c : Option Form) (fs : List Frame) (f : Form) (p : Parse) : Type 0 where
+record Behind (es : List ItemSyntax) (q : Bool) (c : Option FormulaSyntax) (fs : List Frame) (f : FormulaSyntax) (p : Parse) : Type 0 where
   frames : List Frame
-  operand : Form
+  operand : FormulaSyntax
   is : p ≡ InOperator es q c frames operand
   same : (k : ℕ) → k ≤ level f → joins k frames operand ≡ joins k fs f
 
 -- an operand of the tightest level
-operand_behind : (es : List Entry) (q : Bool) (c : Option Form) (fs : List Frame) (f : Form) → level f ≤ 5 → Behind es q c fs f (behind_operand es q c fs f)
+operand_behind : (es : List ItemSyntax) (q : Bool) (c : Option FormulaSyntax) (fs : List Frame) (f : FormulaSyntax) → level f ≤ 5 → Behind es q c fs f (behind_operand es q c fs f)
 operand_behind es q c fs f h = record { frames = (joins 5 fs f).0; operand = (joins 5 fs f).1; is = refl; same = λ k l. joins_again k 5 fs f (omega (arith, h, l)) }
 
 -- a connective behind its first operand
-at_sign : (es : List Entry) (q : Bool) (c : Option Form) (fs : List Frame) (f : Form) (p : Parse) (t : Token) (m : ℕ) (begun : Form → Frame)
+at_sign : (es : List ItemSyntax) (q : Bool) (c : Option FormulaSyntax) (fs : List Frame) (f : FormulaSyntax) (p : Parse) (t : Token) (m : ℕ) (begun : FormulaSyntax → Frame)
     → Behind es q c fs f p → m ≤ level f → joins m fs f ≡ (fs, f)
-    → ((gs : List Frame) (g : Form) → parsed (InOperator es q c gs g) t ≡ InOperand es q c (begun (joins m gs g).1 ∷ (joins m gs g).0))
+    → ((gs : List Frame) (g : FormulaSyntax) → parsed (InOperator es q c gs g) t ≡ InOperand es q c (begun (joins m gs g).1 ∷ (joins m gs g).0))
     → parsed p t ≡ InOperand es q c (begun f ∷ fs)
 at_sign es q c fs f p t m begun b l s h =
     ap (λ x. parsed x t) b.is ∙ h b.frames b.operand ∙ ap (λ r. InOperand es q c (begun r.1 ∷ r.0)) (b.same m l ∙ s)
 
 -- both operands
-at_both : (es : List Entry) (q : Bool) (c : Option Form) (fs : List Frame) (f g : Form) (t : Token) (whole : Form) (x : Frame)
+at_both : (es : List ItemSyntax) (q : Bool) (c : Option FormulaSyntax) (fs : List Frame) (f g : FormulaSyntax) (t : Token) (whole : FormulaSyntax) (x : Frame)
     → parsed (parsed_all (InOperand es q c fs) (spelled f)) t ≡ InOperand es q c (x ∷ fs)
     → Behind es q c (x ∷ fs) g (parsed_all (InOperand es q c (x ∷ fs)) (spelled g))
     → level whole ≤ level g → level whole ≤ own_level x → joined x g ≡ whole
@@ -125,7 +125,7 @@ name_operand w h = by (bytes_eq w (codes "true")) (bytes_eq w (codes "false")) r
     by : (a b : Bool) → bytes_eq w (codes "true") ≡ a → bytes_eq w (codes "false") ≡ b → operand_of w ≡ Name w
     by a b e f = rw (parts.0, parts.1) refl
 
-level_least : (f : Form) → 1 ≤ level f
+level_least : (f : FormulaSyntax) → 1 ≤ level f
 level_least (Iff f g) = omega arith
 level_least (Implies f g) = omega arith
 level_least (Or f g) = omega arith
@@ -137,7 +137,7 @@ level_least (Not f) = omega arith
 level_least (Group f) = omega arith
 
 -- the tokens of a formula make the formula
-form_back : (f : Form) (es : List Entry) (q : Bool) (c : Option Form) (fs : List Frame) → IsForm f → required_level fs ≤ level f → Behind es q c fs f (parsed_all (InOperand es q c fs) (spelled f))
+form_back : (f : FormulaSyntax) (es : List ItemSyntax) (q : Bool) (c : Option FormulaSyntax) (fs : List Frame) → IsWellFormed f → required_level fs ≤ level f → Behind es q c fs f (parsed_all (InOperand es q c fs) (spelled f))
 form_back (Name w) es q c fs i n = subst (λ g. Behind es q c fs (Name w) (behind_operand es q c fs g)) (sym (name_operand w i.0)) (operand_behind es q c fs (Name w) (omega arith))
 form_back Truth es q c fs i n = operand_behind es q c fs Truth (omega arith)
 form_back Falsity es q c fs i n = operand_behind es q c fs Falsity (omega arith)
@@ -171,23 +171,23 @@ form_back (Iff f g) es q c fs i n =
     (form_back g es q c (BegunIff f ∷ fs) i.3 i.1) (omega (arith, i.1)) (omega arith) refl
 
 -- behind a probability
-after_prob : List Entry → Bool → Prob → Parse
+after_prob : List ItemSyntax → Bool → Prob → Parse
 after_prob es true p = InItemEnd es (Query p)
 after_prob es false p = InRelation es p
 
-close_prob : (es : List Entry) (q : Bool) (c : Option Form) (f : Form) → behind_close es q c [] f ≡ after_prob es q (prob_of c f)
+close_prob : (es : List ItemSyntax) (q : Bool) (c : Option FormulaSyntax) (f : FormulaSyntax) → behind_close es q c [] f ≡ after_prob es q (prob_of c f)
 unfolding after_prob
 close_prob es true c f = refl
 close_prob es false c f = refl
 
-prob_back : (es : List Entry) (q : Bool) (f : Form) (g : Option Form) → IsForm f → IsGiven g
-    → parsed_all (InParen es q) (Sign Open ∷ spelled f ++ given_tokens g ++ Sign Close ∷ []) ≡ after_prob es q (record { form = f; given = g })
+prob_back : (es : List ItemSyntax) (q : Bool) (f : FormulaSyntax) (g : Option FormulaSyntax) → IsWellFormed f → IsGiven g
+    → parsed_all (InParen es q) (Sign Open ∷ spelled f ++ given_tokens g ++ Sign Close ∷ []) ≡ after_prob es q (record { formula = f; given = g })
 prob_back es q f g i j = ap (parsed_all (InOperand es q None [])) (append_assoc (spelled f) (given_tokens g) (Sign Close ∷ [])) ∙ by g j
   where
     b : Behind es q None [] f (parsed_all (InOperand es q None []) (spelled f))
     b = form_back f es q None [] i (level_least f)
 
-    by : (g : Option Form) → IsGiven g → parsed_all (InOperand es q None []) (spelled f ++ (given_tokens g ++ Sign Close ∷ [])) ≡ after_prob es q (record { form = f; given = g })
+    by : (g : Option FormulaSyntax) → IsGiven g → parsed_all (InOperand es q None []) (spelled f ++ (given_tokens g ++ Sign Close ∷ [])) ≡ after_prob es q (record { formula = f; given = g })
     by None j =
         parsed-append (InOperand es q None []) (spelled f) (Sign Close ∷ []) ∙ ap (λ x. parsed x (Sign Close)) b.is ∙ ap (λ r. behind_close es q None r.0 r.1) (b.same 1 (level_least f)) ∙ close_prob es q None f
     by (Some g) j =
@@ -198,43 +198,43 @@ prob_back es q f g i j = ap (parsed_all (InOperand es q None [])) (append_assoc 
         ∙ parsed-append (InOperand es q (Some f) []) (spelled g) (Sign Close ∷ [])
         ∙ ap (λ x. parsed x (Sign Close)) d.is ∙ ap (λ r. behind_close es q (Some f) r.0 r.1) (d.same 1 (level_least g)) ∙ close_prob es q (Some f) g
 
-relation_back : (es : List Entry) (p : Prob) (r : Relation) → parsed_all (InRelation es p) (relation_tokens r ++ Sign Semicolon ∷ []) ≡ InItem (es ++ Sentence p r ∷ [])
+relation_back : (es : List ItemSyntax) (p : Prob) (r : Relation) → parsed_all (InRelation es p) (relation_tokens r ++ Sign Semicolon ∷ []) ≡ InItem (es ++ Sentence p r ∷ [])
 relation_back es p (Exactly x) = refl
 relation_back es p (AtLeast x) = refl
 relation_back es p (AtMost x) = refl
 relation_back es p (Within x y) = refl
 
-entry_back : (es : List Entry) (e : Entry) → IsEntry e → parsed_all (InItem es) (entry_tokens e) ≡ InItem (es ++ e ∷ [])
+item_back : (es : List ItemSyntax) (e : ItemSyntax) → IsWellFormedItem e → parsed_all (InItem es) (item_tokens e) ≡ InItem (es ++ e ∷ [])
 unfolding after_prob
-entry_back es (Sentence p r) i =
+item_back es (Sentence p r) i =
     ap (parsed_all (InItem es)) (append_assoc (prob_tokens p) (relation_tokens r) (Sign Semicolon ∷ []))
     ∙ parsed-append (InItem es) (prob_tokens p) (relation_tokens r ++ Sign Semicolon ∷ [])
-    ∙ ap (λ x. parsed_all x (relation_tokens r ++ Sign Semicolon ∷ [])) (prob_back es false p.form p.given i.0.form i.0.given) ∙ relation_back es p r
-entry_back es (Query p) i =
+    ∙ ap (λ x. parsed_all x (relation_tokens r ++ Sign Semicolon ∷ [])) (prob_back es false p.formula p.given i.0.formula i.0.given) ∙ relation_back es p r
+item_back es (Query p) i =
     parsed-append (InItem es) (Word (codes "query") ∷ prob_tokens p) (Sign Semicolon ∷ [])
-    ∙ ap (λ x. parsed x (Sign Semicolon)) (prob_back es true p.form p.given i.form i.given)
+    ∙ ap (λ x. parsed x (Sign Semicolon)) (prob_back es true p.formula p.given i.formula i.given)
 
-entries_back : (es fs : List Entry) → AreEntries fs → parsed_all (InItem es) (entries_tokens fs) ≡ InItem (es ++ fs)
-entries_back es [] i = ap InItem (sym (append-nil es))
-entries_back es (e ∷ fs) i =
-    parsed-append (InItem es) (entry_tokens e) (entries_tokens fs) ∙ ap (λ x. parsed_all x (entries_tokens fs)) (entry_back es e i.0)
-    ∙ entries_back (es ++ e ∷ []) fs i.1 ∙ ap InItem (append_assoc es (e ∷ []) fs)
+items_back : (es fs : List ItemSyntax) → AreWellFormedItems fs → parsed_all (InItem es) (items_tokens fs) ≡ InItem (es ++ fs)
+items_back es [] i = ap InItem (sym (append-nil es))
+items_back es (e ∷ fs) i =
+    parsed-append (InItem es) (item_tokens e) (items_tokens fs) ∙ ap (λ x. parsed_all x (items_tokens fs)) (item_back es e i.0)
+    ∙ items_back (es ++ e ∷ []) fs i.1 ∙ ap InItem (append_assoc es (e ∷ []) fs)
 
--- the tokens of a text make the text's entries
-pub text_back : (es : List Entry) → AreEntries es → parsed_all InPsat (text_tokens es) ≡ InDone es
+-- the tokens of a text make what it was written from
+pub text_back : (es : List ItemSyntax) → AreWellFormedItems es → parsed_all InPsat (text_tokens es) ≡ InDone es
 text_back es i =
-    parsed-append (InItem []) (entries_tokens es) (Word (codes "end") ∷ Sign Semicolon ∷ [])
-    ∙ ap (λ x. parsed_all x (Word (codes "end") ∷ Sign Semicolon ∷ [])) (entries_back [] es i)
+    parsed-append (InItem []) (items_tokens es) (Word (codes "end") ∷ Sign Semicolon ∷ [])
+    ∙ ap (λ x. parsed_all x (Word (codes "end") ∷ Sign Semicolon ∷ [])) (items_back [] es i)
 
-done_of : Parse → List Entry
+done_of : Parse → List ItemSyntax
 done_of (InDone es) = es
 done_of p = []
 
-pub done_once : (es fs : List Entry) → InDone es ≡ InDone fs → es ≡ fs
+pub done_once : (es fs : List ItemSyntax) → InDone es ≡ InDone fs → es ≡ fs
 unfolding done_of
 done_once es fs e = ap done_of e
 
--- tokens are those of one list of entries at most
-pub text_once : (es fs : List Entry) → AreEntries es → AreEntries fs → text_tokens es ≡ text_tokens fs → es ≡ fs
+-- tokens are those of one written list of items at most
+pub text_once : (es fs : List ItemSyntax) → AreWellFormedItems es → AreWellFormedItems fs → text_tokens es ≡ text_tokens fs → es ≡ fs
 unfolding done_of
 text_once es fs i j e = ap done_of (sym (text_back es i) ∙ ap (parsed_all InPsat) e ∙ text_back fs j)

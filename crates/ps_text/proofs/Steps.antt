@@ -6,10 +6,10 @@ use Rattle.std.specs.Prelude.{bytes_eq, codes, if◌then◌else◌, nat_lt, nat_
 use Rattle.ps_text.specs.Tokens.{Token, Word, Number, Sign, Numeral, Whole, Quotient, Decimal, Symbol, Open, Close, OpenBracket, CloseBracket, Comma, Semicolon, Bang, Ampersand, Bar, Arrow, DoubleArrow, Equals, GreaterEquals, LessEquals, is_the_sign, is_the_word}
 use Rattle.ps_text.specs.declared.kind.ReadKind.{ReadKind}
 use Rattle.ps_text.specs.declared.kind.ReadKind.TheVariants.{NameTooLong, Expected, VersionUnknown, ZeroDenominator, DenominatorTooLarge, TooManyDecimals, NumberOutOfRange}
-use Rattle.ps_text.specs.Grammar.{value, Prob, Within, Entry, Sentence, Query, prob_tokens, relation_tokens, entry_tokens, entries_tokens, IsProbability, IsRelation, IsEntry, AreEntries}
+use Rattle.ps_text.specs.Grammar.{value, Prob, Within, ItemSyntax, Sentence, Query, prob_tokens, relation_tokens, item_tokens, items_tokens, IsProbability, IsRelation, IsWellFormedItem, AreWellFormedItems}
 use Rattle.ps_text.specs.ExpectedTokens.{State, is_number, is_expected, is_too_long, what_at, fault_at, number_fault, value_fault, refusal, after}
 use Rattle.ps_text.proofs.Signs.{the_word, the_sign, Either, First, Second, either}
-use Rattle.ps_text.specs.PartialParses.{InPsat, InVersion, InHeadEnd, InItem, InQueryProb, InTextEnd, InParen, InRelation, InBracket, InFirst, InNumber, InComma, InSecond, InBracketEnd, InItemEnd, state_of, entries_lead, prob_lead, sentence_lead, entry_body, IsExtendedBy, relation_of, IsRelationSign, IsParse, number_in}
+use Rattle.ps_text.specs.PartialParses.{InPsat, InVersion, InHeadEnd, InItem, InQueryProb, InTextEnd, InParen, InRelation, InBracket, InFirst, InNumber, InComma, InSecond, InBracketEnd, InItemEnd, state_of, items_lead, prob_lead, sentence_lead, item_body, IsExtendedBy, relation_of, IsRelationSign, IsParse, number_in}
 
 -- a token that isn't refused
 pub record Passed (d : State) (t : Token) : Type 0 where
@@ -51,7 +51,7 @@ pub at_head_end : (t : Token) → Passed (state_of InHeadEnd) t → IsExtendedBy
 unfolding after
 at_head_end t h = subst (λ u. IsExtendedBy InHeadEnd u) (sym (the_sign Semicolon t h.expected)) (record { state = refl; tokens = refl; within = tt })
 
-pub at_item : (es : List Entry) (t : Token) → IsParse (InItem es) → Passed (state_of (InItem es)) t → IsExtendedBy (InItem es) t
+pub at_item : (es : List ItemSyntax) (t : Token) → IsParse (InItem es) → Passed (state_of (InItem es)) t → IsExtendedBy (InItem es) t
 unfolding after
 at_item es t s h = by (either (is_the_word (codes "P") t || is_the_word (codes "query") t) (is_the_word (codes "end") t) h.expected)
   where
@@ -63,22 +63,22 @@ at_item es t s h = by (either (is_the_word (codes "P") t || is_the_word (codes "
     by (First e) = probs (either (is_the_word (codes "P") t) (is_the_word (codes "query") t) e)
     by (Second e) = subst (λ u. IsExtendedBy (InItem es) u) (sym (the_word (codes "end") t e)) (record { state = refl; tokens = refl; within = s })
 
-pub at_query_prob : (es : List Entry) (t : Token) → IsParse (InQueryProb es) → Passed (state_of (InQueryProb es)) t → IsExtendedBy (InQueryProb es) t
+pub at_query_prob : (es : List ItemSyntax) (t : Token) → IsParse (InQueryProb es) → Passed (state_of (InQueryProb es)) t → IsExtendedBy (InQueryProb es) t
 unfolding after
 at_query_prob es t s h = subst (λ u. IsExtendedBy (InQueryProb es) u) (sym (the_word (codes "P") t h.expected))
-    (record { state = refl; tokens = sym (append_assoc (entries_lead es) (Word (codes "query") ∷ []) (Word (codes "P") ∷ [])); within = s })
+    (record { state = refl; tokens = sym (append_assoc (items_lead es) (Word (codes "query") ∷ []) (Word (codes "P") ∷ [])); within = s })
 
-pub at_text_end : (es : List Entry) (t : Token) → IsParse (InTextEnd es) → Passed (state_of (InTextEnd es)) t → IsExtendedBy (InTextEnd es) t
+pub at_text_end : (es : List ItemSyntax) (t : Token) → IsParse (InTextEnd es) → Passed (state_of (InTextEnd es)) t → IsExtendedBy (InTextEnd es) t
 unfolding after
 at_text_end es t s h = subst (λ u. IsExtendedBy (InTextEnd es) u) (sym (the_sign Semicolon t h.expected))
-    (record { state = refl; tokens = sym (append_assoc (entries_lead es) (Word (codes "end") ∷ []) (Sign Semicolon ∷ [])); within = s })
+    (record { state = refl; tokens = sym (append_assoc (items_lead es) (Word (codes "end") ∷ []) (Sign Semicolon ∷ [])); within = s })
 
-pub at_paren : (es : List Entry) (q : Bool) (t : Token) → IsParse (InParen es q) → Passed (state_of (InParen es q)) t → IsExtendedBy (InParen es q) t
+pub at_paren : (es : List ItemSyntax) (q : Bool) (t : Token) → IsParse (InParen es q) → Passed (state_of (InParen es q)) t → IsExtendedBy (InParen es q) t
 unfolding after
 at_paren es q t s h = subst (λ u. IsExtendedBy (InParen es q) u) (sym (the_sign Open t h.expected))
-    (record { state = refl; tokens = append-nil (entries_lead es ++ (prob_lead q ++ Sign Open ∷ [])) ∙ sym (append_assoc (entries_lead es) (prob_lead q) (Sign Open ∷ [])); within = (s, tt, tt) })
+    (record { state = refl; tokens = append-nil (items_lead es ++ (prob_lead q ++ Sign Open ∷ [])) ∙ sym (append_assoc (items_lead es) (prob_lead q) (Sign Open ∷ [])); within = (s, tt, tt) })
 
-pub at_relation : (es : List Entry) (p : Prob) (t : Token) → IsParse (InRelation es p) → Passed (state_of (InRelation es p)) t → IsExtendedBy (InRelation es p) t
+pub at_relation : (es : List ItemSyntax) (p : Prob) (t : Token) → IsParse (InRelation es p) → Passed (state_of (InRelation es p)) t → IsExtendedBy (InRelation es p) t
 unfolding after
 at_relation es p t s h = by (either (is_the_sign Equals t || is_the_sign GreaterEquals t || is_the_sign LessEquals t) (is_the_word (codes "in") t) h.expected)
   where
@@ -144,25 +144,25 @@ sign_relation Bar x i p = absurd i
 sign_relation Arrow x i p = absurd i
 sign_relation DoubleArrow x i p = absurd i
 
-pub at_number : (es : List Entry) (p : Prob) (s : Symbol) (t : Token) → IsParse (InNumber es p s) → Passed (state_of (InNumber es p s)) t → IsExtendedBy (InNumber es p s) t
+pub at_number : (es : List ItemSyntax) (p : Prob) (s : Symbol) (t : Token) → IsParse (InNumber es p s) → Passed (state_of (InNumber es p s)) t → IsExtendedBy (InNumber es p s) t
 unfolding after
 at_number es p s t i h =
     let n = the_number t h.expected h.fault in
     let r = sign_relation s (number_in t) i.2 n.within in
     record {
       state = refl;
-      tokens = sym (append_assoc (entries_lead es) (prob_tokens p) (relation_tokens (relation_of s (number_in t))))
+      tokens = sym (append_assoc (items_lead es) (prob_tokens p) (relation_tokens (relation_of s (number_in t))))
           ∙ ap (λ ts. sentence_lead es p ++ ts) (r.0 ∙ ap (λ u. Sign s ∷ u ∷ []) (sym n.is))
           ∙ sym (append_assoc (sentence_lead es p) (Sign s ∷ []) (t ∷ []));
       within = (i.0, (i.1, r.1));
     }
 
-pub at_bracket : (es : List Entry) (p : Prob) (t : Token) → IsParse (InBracket es p) → Passed (state_of (InBracket es p)) t → IsExtendedBy (InBracket es p) t
+pub at_bracket : (es : List ItemSyntax) (p : Prob) (t : Token) → IsParse (InBracket es p) → Passed (state_of (InBracket es p)) t → IsExtendedBy (InBracket es p) t
 unfolding after
 at_bracket es p t s h = subst (λ u. IsExtendedBy (InBracket es p) u) (sym (the_sign OpenBracket t h.expected))
     (record { state = refl; tokens = sym (append_assoc (sentence_lead es p) (Word (codes "in") ∷ []) (Sign OpenBracket ∷ [])); within = s })
 
-pub at_first : (es : List Entry) (p : Prob) (t : Token) → IsParse (InFirst es p) → Passed (state_of (InFirst es p)) t → IsExtendedBy (InFirst es p) t
+pub at_first : (es : List ItemSyntax) (p : Prob) (t : Token) → IsParse (InFirst es p) → Passed (state_of (InFirst es p)) t → IsExtendedBy (InFirst es p) t
 unfolding after
 at_first es p t s h =
     let n = the_number t h.expected h.fault in
@@ -172,12 +172,12 @@ at_first es p t s h =
       within = (s.0, s.1, n.within);
     }
 
-pub at_comma : (es : List Entry) (p : Prob) (x : Numeral) (t : Token) → IsParse (InComma es p x) → Passed (state_of (InComma es p x)) t → IsExtendedBy (InComma es p x) t
+pub at_comma : (es : List ItemSyntax) (p : Prob) (x : Numeral) (t : Token) → IsParse (InComma es p x) → Passed (state_of (InComma es p x)) t → IsExtendedBy (InComma es p x) t
 unfolding after
 at_comma es p x t s h = subst (λ u. IsExtendedBy (InComma es p x) u) (sym (the_sign Comma t h.expected))
     (record { state = refl; tokens = sym (append_assoc (sentence_lead es p) (Word (codes "in") ∷ Sign OpenBracket ∷ Number x ∷ []) (Sign Comma ∷ [])); within = s })
 
-pub at_second : (es : List Entry) (p : Prob) (x : Numeral) (t : Token) → IsParse (InSecond es p x) → Passed (state_of (InSecond es p x)) t → IsExtendedBy (InSecond es p x) t
+pub at_second : (es : List ItemSyntax) (p : Prob) (x : Numeral) (t : Token) → IsParse (InSecond es p x) → Passed (state_of (InSecond es p x)) t → IsExtendedBy (InSecond es p x) t
 unfolding after
 at_second es p x t s h =
     let n = the_number t h.expected h.fault in
@@ -188,34 +188,34 @@ at_second es p x t s h =
       within = (s.0, s.1, s.2, n.within);
     }
 
-pub at_bracket_end : (es : List Entry) (p : Prob) (x y : Numeral) (t : Token) → IsParse (InBracketEnd es p x y) → Passed (state_of (InBracketEnd es p x y)) t → IsExtendedBy (InBracketEnd es p x y) t
+pub at_bracket_end : (es : List ItemSyntax) (p : Prob) (x y : Numeral) (t : Token) → IsParse (InBracketEnd es p x y) → Passed (state_of (InBracketEnd es p x y)) t → IsExtendedBy (InBracketEnd es p x y) t
 unfolding after
 at_bracket_end es p x y t s h = subst (λ u. IsExtendedBy (InBracketEnd es p x y) u) (sym (the_sign CloseBracket t h.expected))
     (record {
       state = refl;
-      tokens = sym (append_assoc (entries_lead es) (prob_tokens p) (relation_tokens (Within x y)))
+      tokens = sym (append_assoc (items_lead es) (prob_tokens p) (relation_tokens (Within x y)))
           ∙ sym (append_assoc (sentence_lead es p) (Word (codes "in") ∷ Sign OpenBracket ∷ Number x ∷ Sign Comma ∷ Number y ∷ []) (Sign CloseBracket ∷ []));
       within = (s.0, (s.1, (s.2, s.3)));
     })
 
-entry_ended : (e : Entry) → entry_tokens e ≡ entry_body e ++ Sign Semicolon ∷ []
-entry_ended (Sentence p r) = refl
-entry_ended (Query p) = refl
+item_ended : (e : ItemSyntax) → item_tokens e ≡ item_body e ++ Sign Semicolon ∷ []
+item_ended (Sentence p r) = refl
+item_ended (Query p) = refl
 
-entries_more : (es : List Entry) (e : Entry) → entries_tokens (es ++ e ∷ []) ≡ entries_tokens es ++ entry_tokens e
-entries_more [] e = append-nil (entry_tokens e)
-entries_more (x ∷ es) e = ap (λ ts. entry_tokens x ++ ts) (entries_more es e) ∙ sym (append_assoc (entry_tokens x) (entries_tokens es) (entry_tokens e))
+items_more : (es : List ItemSyntax) (e : ItemSyntax) → items_tokens (es ++ e ∷ []) ≡ items_tokens es ++ item_tokens e
+items_more [] e = append-nil (item_tokens e)
+items_more (x ∷ es) e = ap (λ ts. item_tokens x ++ ts) (items_more es e) ∙ sym (append_assoc (item_tokens x) (items_tokens es) (item_tokens e))
 
-entries_sound : (es : List Entry) (e : Entry) → AreEntries es → IsEntry e → AreEntries (es ++ e ∷ [])
-entries_sound [] e s i = (i, tt)
-entries_sound (x ∷ es) e s i = (s.0, entries_sound es e s.1 i)
+items_sound : (es : List ItemSyntax) (e : ItemSyntax) → AreWellFormedItems es → IsWellFormedItem e → AreWellFormedItems (es ++ e ∷ [])
+items_sound [] e s i = (i, tt)
+items_sound (x ∷ es) e s i = (s.0, items_sound es e s.1 i)
 
-pub at_item_end : (es : List Entry) (e : Entry) (t : Token) → IsParse (InItemEnd es e) → Passed (state_of (InItemEnd es e)) t → IsExtendedBy (InItemEnd es e) t
+pub at_item_end : (es : List ItemSyntax) (e : ItemSyntax) (t : Token) → IsParse (InItemEnd es e) → Passed (state_of (InItemEnd es e)) t → IsExtendedBy (InItemEnd es e) t
 unfolding after
 at_item_end es e t s h = subst (λ u. IsExtendedBy (InItemEnd es e) u) (sym (the_sign Semicolon t h.expected))
     (record {
       state = refl;
-      tokens = ap (λ ts. Word (codes "psat") ∷ Number (Whole (codes "1")) ∷ Sign Semicolon ∷ ts) (entries_more es e ∙ ap (λ ts. entries_tokens es ++ ts) (entry_ended e))
-          ∙ sym (append_assoc (entries_lead es) (entry_body e) (Sign Semicolon ∷ []));
-      within = entries_sound es e s.0 s.1;
+      tokens = ap (λ ts. Word (codes "psat") ∷ Number (Whole (codes "1")) ∷ Sign Semicolon ∷ ts) (items_more es e ∙ ap (λ ts. items_tokens es ++ ts) (item_ended e))
+          ∙ sym (append_assoc (items_lead es) (item_body e) (Sign Semicolon ∷ []));
+      within = items_sound es e s.0 s.1;
     })

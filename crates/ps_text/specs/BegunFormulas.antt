@@ -2,14 +2,14 @@
 use Rattle.std.specs.Prelude.{ℕ, ◌<◌, ◌≤◌, nat_le, if◌then◌else◌, List, [], ◌∷◌, ◌++◌, length}
 use Rattle.ps_text.specs.declared.limits.TheConstants.{MOST_OPEN}
 use Rattle.ps_text.specs.Tokens.{Token, Sign, Open, Bang, Ampersand, Bar, Arrow, DoubleArrow}
-use Rattle.ps_text.specs.Grammar.{Form, Not, Group, And, Or, Implies, Iff, spelled, level, IsForm, Nests}
+use Rattle.ps_text.specs.Grammar.{FormulaSyntax, Not, Group, And, Or, Implies, Iff, spelled, level, IsWellFormed, Nests}
 use Rattle.ps_text.specs.declared.part.Opening.{Opening}
 use Rattle.ps_text.specs.declared.part.Opening.TheVariants as opening
 
 -- a `!`, a `(`, or a connective behind its left operand; in a list of them the last begun stands first
 pub data Frame : Type 0 where
   BegunNot BegunGroup : Frame
-  BegunAnd BegunOr BegunImplies BegunIff : (left : Form) → Frame
+  BegunAnd BegunOr BegunImplies BegunIff : (left : FormulaSyntax) → Frame
 
 -- the tokens of what is begun
 abbrev pub frame_tokens : List Frame → List Token
@@ -49,7 +49,7 @@ own_level (BegunAnd f) = 4
 own_level BegunNot = 5
 
 -- what is begun, with its last operand
-abbrev pub joined : Frame → Form → Form
+abbrev pub joined : Frame → FormulaSyntax → FormulaSyntax
 joined BegunNot f = Not f
 joined BegunGroup f = Group f
 joined (BegunAnd g) f = And g f
@@ -58,9 +58,9 @@ joined (BegunImplies g) f = Implies g f
 joined (BegunIff g) f = Iff g f
 
 -- a first operand that binds at least so tightly, behind what is begun before it
-pub record IsFirstOperand (f : Form) (least : ℕ) (fs : List Frame) : Type 0 where
+pub record IsFirstOperand (f : FormulaSyntax) (least : ℕ) (fs : List Frame) : Type 0 where
   pub tight : least ≤ level f
-  pub form : IsForm f
+  pub formula : IsWellFormed f
   pub nests : Nests (length (opened_of fs)) f
 
 -- all that is begun is within the grammar's levels and limits
@@ -79,13 +79,13 @@ LastIsNoNot (BegunNot ∷ fs) = ⊥
 LastIsNoNot fs = Unit {0}
 
 -- a formula that may be the next operand
-pub record IsNextOperand (fs : List Frame) (f : Form) : Type 0 where
+pub record IsNextOperand (fs : List Frame) (f : FormulaSyntax) : Type 0 where
   pub needed : required_level fs ≤ level f
-  pub form : IsForm f
+  pub formula : IsWellFormed f
   pub nests : Nests (length (opened_of fs)) f
   pub frames : AreFrames fs
 
 -- a formula joined with all that was begun last and binds at least so tightly: what stays begun, and the formula
-abbrev pub joins : ℕ → List Frame → Form → List Frame × Form
+abbrev pub joins : ℕ → List Frame → FormulaSyntax → List Frame × FormulaSyntax
 joins k [] f = ([], f)
 joins k (x ∷ fs) f = if nat_le k (own_level x) then joins k fs (joined x f) else (x ∷ fs, f)

@@ -10,22 +10,22 @@ use Rattle.ps_meaning.specs.Statements.{Ratio, Statement, Question, Item, Stated
 use Rattle.ps_meaning.specs.Names.{IsName}
 use Rattle.ps_text.specs.declared.limits.TheConstants.{GREATEST_DENOMINATOR}
 use Rattle.ps_text.specs.Tokens.{Numeral, Whole, Quotient, numeral_spelling}
-use Rattle.ps_text.specs.Grammar.{Form, Name, Truth, Falsity, Not, Group, And, Or, Implies, Iff, level, Nests, Prob, Relation, Exactly, AtLeast, AtMost, Within, Entry, Sentence, Query}
+use Rattle.ps_text.specs.Grammar.{FormulaSyntax, Name, Truth, Falsity, Not, Group, And, Or, Implies, Iff, level, Nests, Prob, Relation, Exactly, AtLeast, AtMost, Within, ItemSyntax, Sentence, Query}
 
 -- in parentheses where the level is below the required one, and only there
-abbrev pub fitted : ℕ → Form → Form
+abbrev pub fitted : ℕ → FormulaSyntax → FormulaSyntax
 fitted k f = if nat_le k (level f) then f else Group f
 
 -- how a formula is written, with no parentheses but the needed ones
-abbrev pub canonical_form : formula.Formula meaning.Name → Form
-canonical_form formula.Truth = Truth
-canonical_form formula.Falsity = Falsity
-canonical_form (formula.Atom a) = Name a
-canonical_form (formula.Not f) = Not (fitted 5 (canonical_form f))
-canonical_form (formula.And f g) = And (fitted 4 (canonical_form f)) (fitted 5 (canonical_form g))
-canonical_form (formula.Or f g) = Or (fitted 3 (canonical_form f)) (fitted 4 (canonical_form g))
-canonical_form (formula.Implies f g) = Implies (fitted 3 (canonical_form f)) (fitted 2 (canonical_form g))
-canonical_form (formula.Iff f g) = Iff (fitted 1 (canonical_form f)) (fitted 2 (canonical_form g))
+abbrev pub canonical_formula : formula.Formula meaning.Name → FormulaSyntax
+canonical_formula formula.Truth = Truth
+canonical_formula formula.Falsity = Falsity
+canonical_formula (formula.Atom a) = Name a
+canonical_formula (formula.Not f) = Not (fitted 5 (canonical_formula f))
+canonical_formula (formula.And f g) = And (fitted 4 (canonical_formula f)) (fitted 5 (canonical_formula g))
+canonical_formula (formula.Or f g) = Or (fitted 3 (canonical_formula f)) (fitted 4 (canonical_formula g))
+canonical_formula (formula.Implies f g) = Implies (fitted 3 (canonical_formula f)) (fitted 2 (canonical_formula g))
+canonical_formula (formula.Iff f g) = Iff (fitted 1 (canonical_formula f)) (fitted 2 (canonical_formula g))
 
 -- a whole number, or a quotient
 abbrev pub canonical_numeral : Ratio → Numeral
@@ -39,44 +39,44 @@ canonical_relation side.AtLeast r None = AtLeast (canonical_numeral r)
 canonical_relation side.AtLeast r (Some q) = Within (canonical_numeral r) (canonical_numeral q)
 
 -- how a condition is written, if there is one
-abbrev pub canonical_given : Option (formula.Formula meaning.Name) → Option Form
+abbrev pub canonical_given : Option (formula.Formula meaning.Name) → Option FormulaSyntax
 canonical_given None = None
-canonical_given (Some f) = Some (canonical_form f)
+canonical_given (Some f) = Some (canonical_formula f)
 
 -- how the probability of a formula, perhaps given a condition, is written
 abbrev pub canonical_prob : formula.Formula meaning.Name → Option (formula.Formula meaning.Name) → Prob
-canonical_prob f g = record { form = canonical_form f; given = canonical_given g }
+canonical_prob f g = record { formula = canonical_formula f; given = canonical_given g }
 
 -- how an item is written
-abbrev pub canonical_entry : Item → Entry
-canonical_entry (Stated s) = Sentence (canonical_prob s.formula s.given) (canonical_relation s.side s.value s.upper)
-canonical_entry (Asked q) = Query (canonical_prob q.formula q.given)
+abbrev pub canonical_item : Item → ItemSyntax
+canonical_item (Stated s) = Sentence (canonical_prob s.formula s.given) (canonical_relation s.side s.value s.upper)
+canonical_item (Asked q) = Query (canonical_prob q.formula q.given)
 
 -- how the items are written, in order
-abbrev pub canonical_entries : List Item → List Entry
-canonical_entries [] = []
-canonical_entries (i ∷ is) = canonical_entry i ∷ canonical_entries is
+abbrev pub canonical_items : List Item → List ItemSyntax
+canonical_items [] = []
+canonical_items (i ∷ is) = canonical_item i ∷ canonical_items is
 
 -- a binary connective has one space on each side, `!` has none
-abbrev pub form_text : Form → List ℕ
-form_text (Name w) = w
-form_text Truth = codes "true"
-form_text Falsity = codes "false"
-form_text (Not f) = codes "!" ++ form_text f
-form_text (Group f) = codes "(" ++ (form_text f ++ codes ")")
-form_text (And f g) = form_text f ++ (codes " & " ++ form_text g)
-form_text (Or f g) = form_text f ++ (codes " | " ++ form_text g)
-form_text (Implies f g) = form_text f ++ (codes " -> " ++ form_text g)
-form_text (Iff f g) = form_text f ++ (codes " <-> " ++ form_text g)
+abbrev pub syntax_text : FormulaSyntax → List ℕ
+syntax_text (Name w) = w
+syntax_text Truth = codes "true"
+syntax_text Falsity = codes "false"
+syntax_text (Not f) = codes "!" ++ syntax_text f
+syntax_text (Group f) = codes "(" ++ (syntax_text f ++ codes ")")
+syntax_text (And f g) = syntax_text f ++ (codes " & " ++ syntax_text g)
+syntax_text (Or f g) = syntax_text f ++ (codes " | " ++ syntax_text g)
+syntax_text (Implies f g) = syntax_text f ++ (codes " -> " ++ syntax_text g)
+syntax_text (Iff f g) = syntax_text f ++ (codes " <-> " ++ syntax_text g)
 
 -- the text of a condition: none where there is none
-abbrev pub given_text : Option Form → List ℕ
+abbrev pub given_text : Option FormulaSyntax → List ℕ
 given_text None = []
-given_text (Some f) = codes " given " ++ form_text f
+given_text (Some f) = codes " given " ++ syntax_text f
 
 -- the text of a probability
 abbrev pub prob_text : Prob → List ℕ
-prob_text p = codes "P(" ++ (form_text p.form ++ (given_text p.given ++ codes ")"))
+prob_text p = codes "P(" ++ (syntax_text p.formula ++ (given_text p.given ++ codes ")"))
 
 -- the text of a relation, with a space before it
 abbrev pub relation_text : Relation → List ℕ
@@ -86,18 +86,18 @@ relation_text (AtMost x) = codes " <= " ++ numeral_spelling x
 relation_text (Within x y) = codes " in [" ++ (numeral_spelling x ++ (codes ", " ++ (numeral_spelling y ++ codes "]")))
 
 -- one line each, ended by a line feed
-abbrev pub entry_text : Entry → List ℕ
-entry_text (Sentence p r) = prob_text p ++ (relation_text r ++ codes ";\n")
-entry_text (Query p) = codes "query " ++ (prob_text p ++ codes ";\n")
+abbrev pub item_text : ItemSyntax → List ℕ
+item_text (Sentence p r) = prob_text p ++ (relation_text r ++ codes ";\n")
+item_text (Query p) = codes "query " ++ (prob_text p ++ codes ";\n")
 
--- the texts of these entries, one after the other
-abbrev pub entries_text : List Entry → List ℕ
-entries_text [] = []
-entries_text (e ∷ es) = entry_text e ++ entries_text es
+-- the texts of these items, one after the other
+abbrev pub items_text : List ItemSyntax → List ℕ
+items_text [] = []
+items_text (e ∷ es) = item_text e ++ items_text es
 
 -- the canonical text of these items
 abbrev pub canonical_text : List Item → List ℕ
-canonical_text items = codes "psat 1;\n" ++ (entries_text (canonical_entries items) ++ codes "end;\n")
+canonical_text items = codes "psat 1;\n" ++ (items_text (canonical_items items) ++ codes "end;\n")
 
 -- the sentences in order, and then the queries in order: the lines of a problem
 abbrev pub sentences_first : List Item → List Item
@@ -117,7 +117,7 @@ HasNames (formula.Iff f g) = HasNames f × HasNames g
 -- no more are ever open than may be in what is written
 pub record IsWritable (f : formula.Formula meaning.Name) : Type 0 where
   pub names : HasNames f
-  pub nests : Nests 0 (canonical_form f)
+  pub nests : Nests 0 (canonical_formula f)
 
 -- a condition, where there is one, can be written
 abbrev pub IsWritableGiven : Option (formula.Formula meaning.Name) → Type 0

@@ -5,15 +5,15 @@ use Rattle.ps_text.specs.declared.limits.TheConstants.{LONGEST_WORD, MOST_OPEN, 
 use Rattle.ps_text.specs.Tokens.{Token, Word, Number, Sign, Numeral, Whole, Quotient, Decimal, Open, Close, OpenBracket, CloseBracket, Comma, Semicolon, Bang, Ampersand, Bar, Arrow, DoubleArrow, Equals, GreaterEquals, LessEquals}
 
 -- how a formula is written
-pub data Form : Type 0 where
-  Name : (letters : List ℕ) → Form
-  Truth Falsity : Form
-  Not : (operand : Form) → Form
-  Group : (inner : Form) → Form
-  And Or Implies Iff : (left right : Form) → Form
+pub data FormulaSyntax : Type 0 where
+  Name : (letters : List ℕ) → FormulaSyntax
+  Truth Falsity : FormulaSyntax
+  Not : (operand : FormulaSyntax) → FormulaSyntax
+  Group : (inner : FormulaSyntax) → FormulaSyntax
+  And Or Implies Iff : (left right : FormulaSyntax) → FormulaSyntax
 
 -- the tokens of a formula
-abbrev pub spelled : Form → List Token
+abbrev pub spelled : FormulaSyntax → List Token
 spelled (Name w) = Word w ∷ []
 spelled Truth = Word (codes "true") ∷ []
 spelled Falsity = Word (codes "false") ∷ []
@@ -25,7 +25,7 @@ spelled (Implies f g) = spelled f ++ Sign Arrow ∷ spelled g
 spelled (Iff f g) = spelled f ++ Sign DoubleArrow ∷ spelled g
 
 -- how tightly what is written binds
-abbrev pub level : Form → ℕ
+abbrev pub level : FormulaSyntax → ℕ
 level (Iff f g) = 1
 level (Implies f g) = 2
 level (Or f g) = 3
@@ -33,20 +33,20 @@ level (And f g) = 4
 level f = 5
 
 -- names are names, and each operand binds tightly enough: `<->`, `|` and `&` group to the left, `->` to the right
-abbrev pub IsForm : Form → Type 0
-IsForm (Name w) = (is_reserved w ≡ false) × (length w ≤ LONGEST_WORD)
-IsForm Truth = Unit {0}
-IsForm Falsity = Unit {0}
-IsForm (Not f) = (5 ≤ level f) × IsForm f
-IsForm (Group f) = IsForm f
-IsForm (And f g) = (4 ≤ level f) × (5 ≤ level g) × IsForm f × IsForm g
-IsForm (Or f g) = (3 ≤ level f) × (4 ≤ level g) × IsForm f × IsForm g
-IsForm (Implies f g) = (3 ≤ level f) × (2 ≤ level g) × IsForm f × IsForm g
-IsForm (Iff f g) = (1 ≤ level f) × (2 ≤ level g) × IsForm f × IsForm g
+abbrev pub IsWellFormed : FormulaSyntax → Type 0
+IsWellFormed (Name w) = (is_reserved w ≡ false) × (length w ≤ LONGEST_WORD)
+IsWellFormed Truth = Unit {0}
+IsWellFormed Falsity = Unit {0}
+IsWellFormed (Not f) = (5 ≤ level f) × IsWellFormed f
+IsWellFormed (Group f) = IsWellFormed f
+IsWellFormed (And f g) = (4 ≤ level f) × (5 ≤ level g) × IsWellFormed f × IsWellFormed g
+IsWellFormed (Or f g) = (3 ≤ level f) × (4 ≤ level g) × IsWellFormed f × IsWellFormed g
+IsWellFormed (Implies f g) = (3 ≤ level f) × (2 ≤ level g) × IsWellFormed f × IsWellFormed g
+IsWellFormed (Iff f g) = (1 ≤ level f) × (2 ≤ level g) × IsWellFormed f × IsWellFormed g
 
 -- where n are open before, no more of `!`, `(` and `->` are ever open than may be:
 -- a `!` during its operand, a `(` up to its `)`, a `->` during its right side
-abbrev pub Nests : ℕ → Form → Type 0
+abbrev pub Nests : ℕ → FormulaSyntax → Type 0
 Nests n (Name w) = Unit {0}
 Nests n Truth = Unit {0}
 Nests n Falsity = Unit {0}
@@ -59,8 +59,8 @@ Nests n (Iff f g) = Nests n f × Nests n g
 
 -- the probability of a formula, perhaps given a condition
 pub record Prob : Type 0 where
-  pub form : Form
-  pub given : Option Form
+  pub formula : FormulaSyntax
+  pub given : Option FormulaSyntax
 
 -- how a probability is bounded
 pub data Relation : Type 0 where
@@ -68,18 +68,18 @@ pub data Relation : Type 0 where
   Within : (least most : Numeral) → Relation
 
 -- a sentence or a query
-pub data Entry : Type 0 where
-  Sentence : (prob : Prob) (relation : Relation) → Entry
-  Query : (prob : Prob) → Entry
+pub data ItemSyntax : Type 0 where
+  Sentence : (prob : Prob) (relation : Relation) → ItemSyntax
+  Query : (prob : Prob) → ItemSyntax
 
 -- the tokens of a condition: none where there is none
-abbrev pub given_tokens : Option Form → List Token
+abbrev pub given_tokens : Option FormulaSyntax → List Token
 given_tokens None = []
 given_tokens (Some f) = Word (codes "given") ∷ spelled f
 
 -- the tokens of a probability
 abbrev pub prob_tokens : Prob → List Token
-prob_tokens p = Word (codes "P") ∷ Sign Open ∷ spelled p.form ++ given_tokens p.given ++ Sign Close ∷ []
+prob_tokens p = Word (codes "P") ∷ Sign Open ∷ spelled p.formula ++ given_tokens p.given ++ Sign Close ∷ []
 
 -- the tokens of a relation
 abbrev pub relation_tokens : Relation → List Token
@@ -89,18 +89,18 @@ relation_tokens (AtMost x) = Sign LessEquals ∷ Number x ∷ []
 relation_tokens (Within x y) = Word (codes "in") ∷ Sign OpenBracket ∷ Number x ∷ Sign Comma ∷ Number y ∷ Sign CloseBracket ∷ []
 
 -- the tokens of a sentence or a query
-abbrev pub entry_tokens : Entry → List Token
-entry_tokens (Sentence p r) = prob_tokens p ++ relation_tokens r ++ Sign Semicolon ∷ []
-entry_tokens (Query p) = Word (codes "query") ∷ prob_tokens p ++ Sign Semicolon ∷ []
+abbrev pub item_tokens : ItemSyntax → List Token
+item_tokens (Sentence p r) = prob_tokens p ++ relation_tokens r ++ Sign Semicolon ∷ []
+item_tokens (Query p) = Word (codes "query") ∷ prob_tokens p ++ Sign Semicolon ∷ []
 
--- the tokens of these entries, one after the other
-abbrev pub entries_tokens : List Entry → List Token
-entries_tokens [] = []
-entries_tokens (e ∷ es) = entry_tokens e ++ entries_tokens es
+-- the tokens of these items, one after the other
+abbrev pub items_tokens : List ItemSyntax → List Token
+items_tokens [] = []
+items_tokens (e ∷ es) = item_tokens e ++ items_tokens es
 
 -- the tokens of a text: the version is the number that is spelled `1`
-abbrev pub text_tokens : List Entry → List Token
-text_tokens es = Word (codes "psat") ∷ Number (Whole (codes "1")) ∷ Sign Semicolon ∷ entries_tokens es ++ Word (codes "end") ∷ Sign Semicolon ∷ []
+abbrev pub text_tokens : List ItemSyntax → List Token
+text_tokens es = Word (codes "psat") ∷ Number (Whole (codes "1")) ∷ Sign Semicolon ∷ items_tokens es ++ Word (codes "end") ∷ Sign Semicolon ∷ []
 
 -- the number that digits spell after those that spell n
 abbrev pub value_from : ℕ → List ℕ → ℕ
@@ -118,14 +118,14 @@ IsProbability (Quotient ds es) = (0 < value es) × (value es ≤ GREATEST_DENOMI
 IsProbability (Decimal ds es) = (length es ≤ MOST_DECIMALS) × (value (ds ++ es) ≤ 10 ^ length es)
 
 -- a condition, where there is one, is within the grammar's levels and limits
-abbrev pub IsGiven : Option Form → Type 0
+abbrev pub IsGiven : Option FormulaSyntax → Type 0
 IsGiven None = Unit {0}
-IsGiven (Some f) = IsForm f × Nests 0 f
+IsGiven (Some f) = IsWellFormed f × Nests 0 f
 
 -- the nestings of a formula and of its condition are counted apart
 pub record IsProb (p : Prob) : Type 0 where
-  pub form : IsForm p.form
-  pub nests : Nests 0 p.form
+  pub formula : IsWellFormed p.formula
+  pub nests : Nests 0 p.formula
   pub given : IsGiven p.given
 
 -- the values of a relation are probabilities
@@ -136,17 +136,17 @@ IsRelation (AtMost x) = IsProbability x
 IsRelation (Within x y) = IsProbability x × IsProbability y
 
 -- within the grammar's levels and limits
-abbrev pub IsEntry : Entry → Type 0
-IsEntry (Sentence p r) = IsProb p × IsRelation r
-IsEntry (Query p) = IsProb p
+abbrev pub IsWellFormedItem : ItemSyntax → Type 0
+IsWellFormedItem (Sentence p r) = IsProb p × IsRelation r
+IsWellFormedItem (Query p) = IsProb p
 
--- each entry is within the grammar's levels and limits
-abbrev pub AreEntries : List Entry → Type 0
-AreEntries [] = Unit {0}
-AreEntries (e ∷ es) = IsEntry e × AreEntries es
+-- each item is within the grammar's levels and limits
+abbrev pub AreWellFormedItems : List ItemSyntax → Type 0
+AreWellFormedItems [] = Unit {0}
+AreWellFormedItems (e ∷ es) = IsWellFormedItem e × AreWellFormedItems es
 
 -- tokens are those of a text within the grammar's levels and limits
 pub record IsDerived (ts : List Token) : Type 0 where
-  pub entries : List Entry
-  pub tokens : ts ≡ text_tokens entries
-  pub within : AreEntries entries
+  pub written : List ItemSyntax
+  pub tokens : ts ≡ text_tokens written
+  pub within : AreWellFormedItems written

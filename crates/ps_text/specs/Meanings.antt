@@ -7,10 +7,10 @@ use Rattle.ps_meaning.specs.declared.side.Side.TheVariants as side
 use Rattle.ps_meaning.specs.Statements as meaning
 use Rattle.ps_meaning.specs.Statements.{Ratio, Statement, Question, Item, Stated, Asked}
 use Rattle.ps_text.specs.Tokens.{Numeral, Whole, Quotient, Decimal}
-use Rattle.ps_text.specs.Grammar.{Form, Name, Truth, Falsity, Not, Group, And, Or, Implies, Iff, Prob, Relation, Exactly, AtLeast, AtMost, Within, Entry, Sentence, Query, value}
+use Rattle.ps_text.specs.Grammar.{FormulaSyntax, Name, Truth, Falsity, Not, Group, And, Or, Implies, Iff, Prob, Relation, Exactly, AtLeast, AtMost, Within, ItemSyntax, Sentence, Query, value}
 
 -- the formula, without its parentheses
-abbrev pub formula_of : Form → formula.Formula meaning.Name
+abbrev pub formula_of : FormulaSyntax → formula.Formula meaning.Name
 formula_of (Name w) = formula.Atom w
 formula_of Truth = formula.Truth
 formula_of Falsity = formula.Falsity
@@ -22,7 +22,7 @@ formula_of (Implies f g) = formula.Implies (formula_of f) (formula_of g)
 formula_of (Iff f g) = formula.Iff (formula_of f) (formula_of g)
 
 -- the formula of a condition, if there is one
-abbrev pub given_of : Option Form → Option (formula.Formula meaning.Name)
+abbrev pub given_of : Option FormulaSyntax → Option (formula.Formula meaning.Name)
 given_of None = None
 given_of (Some f) = Some (formula_of f)
 
@@ -53,23 +53,23 @@ States (Within x y) s r (Some q) = (s ≡ side.AtLeast) × IsValue x r × IsValu
 
 -- the statement is what the sentence states
 pub record IsStatement (p : Prob) (r : Relation) (s : Statement) : Type 0 where
-  pub formula : s.formula ≡ formula_of p.form
+  pub formula : s.formula ≡ formula_of p.formula
   pub given : s.given ≡ given_of p.given
   pub stated : States r s.side s.value s.upper
 
 -- what a query asks
 abbrev pub question_of : Prob → Question
-question_of p = record { formula = formula_of p.form; given = given_of p.given }
+question_of p = record { formula = formula_of p.formula; given = given_of p.given }
 
--- the item is what the entry means
-abbrev pub IsItem : Entry → Item → Type 0
+-- the item is what is written
+abbrev pub IsItem : ItemSyntax → Item → Type 0
 IsItem (Sentence p r) (Stated s) = IsStatement p r s
 IsItem (Query p) (Asked q) = q ≡ question_of p
 IsItem (Sentence p r) (Asked q) = ⊥
 IsItem (Query p) (Stated s) = ⊥
 
--- the items are what the entries mean, in order
-abbrev pub AreItems : List Entry → List Item → Type 0
+-- the items are what is written, in order
+abbrev pub AreItems : List ItemSyntax → List Item → Type 0
 AreItems [] [] = Unit {0}
 AreItems (e ∷ es) (i ∷ is) = IsItem e i × AreItems es is
 AreItems [] (i ∷ is) = ⊥

@@ -2,7 +2,7 @@
 use Rattle.std.specs.Prelude.{◌≡◌, ℕ, List, length}
 use Rattle.ps_meaning.specs.Statements.{Item}
 use Rattle.ps_text.specs.Tokens.{Token}
-use Rattle.ps_text.specs.Grammar.{Entry, AreEntries, text_tokens}
+use Rattle.ps_text.specs.Grammar.{ItemSyntax, AreWellFormedItems, text_tokens}
 use Rattle.ps_text.specs.Meanings.{AreItems}
 use Rattle.ps_text.specs.Fronts.{IsFront}
 use Rattle.ps_text.specs.declared.kind.ReadKind.{ReadKind}
@@ -10,11 +10,11 @@ use Rattle.ps_text.specs.Refusals.{IsRefused}
 
 -- the tokens are those of one derivation at most
 pub record HasOneDerivation (tokens : List Token) : Type 0 where
-  pub same : (es fs : List Entry) → AreEntries es → AreEntries fs → tokens ≡ text_tokens es → tokens ≡ text_tokens fs → es ≡ fs
+  pub same : (es fs : List ItemSyntax) → AreWellFormedItems es → AreWellFormedItems fs → tokens ≡ text_tokens es → tokens ≡ text_tokens fs → es ≡ fs
 
--- the entries mean one list of items at most
-pub record HaveOneMeaning (entries : List Entry) : Type 0 where
-  pub same : (is js : List Item) → AreItems entries is → AreItems entries js → is ≡ js
+-- what is written means one list of items at most
+pub record HaveOneMeaning (written : List ItemSyntax) : Type 0 where
+  pub same : (is js : List Item) → AreItems written is → AreItems written js → is ≡ js
 
 -- one text at most stands at the front: its meaning and the place behind it are the only ones
 pub record HasOneFront (bytes : List ℕ) : Type 0 where

@@ -1,29 +1,29 @@
 -- A derivation of the tokens so far, and what one more token makes of it.
 use Rattle.std.specs.Prelude.{◌≡◌, ℕ, ◌≤◌, Bool, true, false, if◌then◌else◌, bytes_eq, codes, List, [], ◌∷◌, ◌++◌, Option, Some, None, is_some}
 use Rattle.ps_text.specs.Tokens.{Token, Word, Number, Sign, Numeral, Whole, Symbol, Open, Close, OpenBracket, Comma, Semicolon, Bang, Ampersand, Bar, Arrow, DoubleArrow, Equals, GreaterEquals, LessEquals, is_the_word}
-use Rattle.ps_text.specs.Grammar.{Form, Name, Truth, Falsity, Group, spelled, level, Prob, Relation, Exactly, AtLeast, AtMost, Within, Entry, Sentence, Query, prob_tokens, relation_tokens, entries_tokens, text_tokens, IsProbability, IsGiven, IsProb, IsEntry, AreEntries}
+use Rattle.ps_text.specs.Grammar.{FormulaSyntax, Name, Truth, Falsity, Group, spelled, level, Prob, Relation, Exactly, AtLeast, AtMost, Within, ItemSyntax, Sentence, Query, prob_tokens, relation_tokens, items_tokens, text_tokens, IsProbability, IsGiven, IsProb, IsWellFormedItem, AreWellFormedItems}
 use Rattle.ps_text.specs.declared.part.Part.TheVariants as part
 use Rattle.ps_text.specs.ExpectedTokens.{State, outside, after, refusal}
 use Rattle.ps_text.specs.BegunFormulas.{Frame, BegunNot, BegunGroup, BegunAnd, BegunOr, BegunImplies, BegunIff, frame_tokens, opened_of, AreFrames, LastIsNoNot, IsNextOperand, joins}
 
--- the part that is expected next, with the entries that are derived and what of the next one is: its formula before `given`,
+-- the part that is expected next, with the items that are derived and what of the next one is: its formula before `given`,
 -- what is begun of a formula, the last operand, the values so far
 pub data Parse : Type 0 where
   InPsat InVersion InHeadEnd : Parse
-  InItem InQueryProb InTextEnd InDone : (done : List Entry) → Parse
-  InParen : (done : List Entry) (query : Bool) → Parse
-  InOperand : (done : List Entry) (query : Bool) (form : Option Form) (frames : List Frame) → Parse
-  InOperator : (done : List Entry) (query : Bool) (form : Option Form) (frames : List Frame) (operand : Form) → Parse
-  InRelation InBracket InFirst : (done : List Entry) (prob : Prob) → Parse
-  InNumber : (done : List Entry) (prob : Prob) (sign : Symbol) → Parse
-  InComma InSecond : (done : List Entry) (prob : Prob) (least : Numeral) → Parse
-  InBracketEnd : (done : List Entry) (prob : Prob) (least most : Numeral) → Parse
-  InItemEnd : (done : List Entry) (entry : Entry) → Parse
+  InItem InQueryProb InTextEnd InDone : (done : List ItemSyntax) → Parse
+  InParen : (done : List ItemSyntax) (query : Bool) → Parse
+  InOperand : (done : List ItemSyntax) (query : Bool) (formula : Option FormulaSyntax) (frames : List Frame) → Parse
+  InOperator : (done : List ItemSyntax) (query : Bool) (formula : Option FormulaSyntax) (frames : List Frame) (operand : FormulaSyntax) → Parse
+  InRelation InBracket InFirst : (done : List ItemSyntax) (prob : Prob) → Parse
+  InNumber : (done : List ItemSyntax) (prob : Prob) (sign : Symbol) → Parse
+  InComma InSecond : (done : List ItemSyntax) (prob : Prob) (least : Numeral) → Parse
+  InBracketEnd : (done : List ItemSyntax) (prob : Prob) (least most : Numeral) → Parse
+  InItemEnd : (done : List ItemSyntax) (item : ItemSyntax) → Parse
 
 -- the probability whose last formula this is: its condition, where a formula before `given` is there
-abbrev pub prob_of : Option Form → Form → Prob
-prob_of None f = record { form = f; given = None }
-prob_of (Some f) g = record { form = f; given = Some g }
+abbrev pub prob_of : Option FormulaSyntax → FormulaSyntax → Prob
+prob_of None f = record { formula = f; given = None }
+prob_of (Some f) g = record { formula = f; given = Some g }
 
 -- the state in which the next token is expected
 abbrev pub state_of : Parse → State
@@ -46,9 +46,9 @@ state_of (InSecond es p x) = outside part.Second
 state_of (InBracketEnd es p x y) = outside part.BracketEnd
 state_of (InItemEnd es e) = outside part.ItemEnd
 
--- the tokens before the next entry
-abbrev pub entries_lead : List Entry → List Token
-entries_lead es = Word (codes "psat") ∷ Number (Whole (codes "1")) ∷ Sign Semicolon ∷ entries_tokens es
+-- the tokens before the next item
+abbrev pub items_lead : List ItemSyntax → List Token
+items_lead es = Word (codes "psat") ∷ Number (Whole (codes "1")) ∷ Sign Semicolon ∷ items_tokens es
 
 -- the words before the `(` of a query's probability, or of a sentence's
 abbrev pub prob_lead : Bool → List Token
@@ -56,33 +56,33 @@ prob_lead true = Word (codes "query") ∷ Word (codes "P") ∷ []
 prob_lead false = Word (codes "P") ∷ []
 
 -- the tokens of a formula and of the `given` behind it
-abbrev pub given_lead : Option Form → List Token
+abbrev pub given_lead : Option FormulaSyntax → List Token
 given_lead None = []
 given_lead (Some f) = spelled f ++ Word (codes "given") ∷ []
 
 -- the tokens before a formula
-abbrev pub formula_lead : List Entry → Bool → Option Form → List Token
-formula_lead es q c = entries_lead es ++ (prob_lead q ++ (Sign Open ∷ given_lead c))
+abbrev pub formula_lead : List ItemSyntax → Bool → Option FormulaSyntax → List Token
+formula_lead es q c = items_lead es ++ (prob_lead q ++ (Sign Open ∷ given_lead c))
 
 -- the tokens before a relation
-abbrev pub sentence_lead : List Entry → Prob → List Token
-sentence_lead es p = entries_lead es ++ prob_tokens p
+abbrev pub sentence_lead : List ItemSyntax → Prob → List Token
+sentence_lead es p = items_lead es ++ prob_tokens p
 
--- the tokens of an entry without its `;`
-abbrev pub entry_body : Entry → List Token
-entry_body (Sentence p r) = prob_tokens p ++ relation_tokens r
-entry_body (Query p) = Word (codes "query") ∷ prob_tokens p
+-- the tokens of an item without its `;`
+abbrev pub item_body : ItemSyntax → List Token
+item_body (Sentence p r) = prob_tokens p ++ relation_tokens r
+item_body (Query p) = Word (codes "query") ∷ prob_tokens p
 
 -- the tokens so far
 abbrev pub parsed_tokens : Parse → List Token
 parsed_tokens InPsat = []
 parsed_tokens InVersion = Word (codes "psat") ∷ []
 parsed_tokens InHeadEnd = Word (codes "psat") ∷ Number (Whole (codes "1")) ∷ []
-parsed_tokens (InItem es) = entries_lead es
-parsed_tokens (InQueryProb es) = entries_lead es ++ Word (codes "query") ∷ []
-parsed_tokens (InTextEnd es) = entries_lead es ++ Word (codes "end") ∷ []
+parsed_tokens (InItem es) = items_lead es
+parsed_tokens (InQueryProb es) = items_lead es ++ Word (codes "query") ∷ []
+parsed_tokens (InTextEnd es) = items_lead es ++ Word (codes "end") ∷ []
 parsed_tokens (InDone es) = text_tokens es
-parsed_tokens (InParen es q) = entries_lead es ++ prob_lead q
+parsed_tokens (InParen es q) = items_lead es ++ prob_lead q
 parsed_tokens (InOperand es q c fs) = formula_lead es q c ++ frame_tokens fs
 parsed_tokens (InOperator es q c fs f) = formula_lead es q c ++ (frame_tokens fs ++ spelled f)
 parsed_tokens (InRelation es p) = sentence_lead es p
@@ -92,7 +92,7 @@ parsed_tokens (InNumber es p s) = sentence_lead es p ++ Sign s ∷ []
 parsed_tokens (InComma es p x) = sentence_lead es p ++ (Word (codes "in") ∷ Sign OpenBracket ∷ Number x ∷ [])
 parsed_tokens (InSecond es p x) = sentence_lead es p ++ (Word (codes "in") ∷ Sign OpenBracket ∷ Number x ∷ Sign Comma ∷ [])
 parsed_tokens (InBracketEnd es p x y) = sentence_lead es p ++ (Word (codes "in") ∷ Sign OpenBracket ∷ Number x ∷ Sign Comma ∷ Number y ∷ [])
-parsed_tokens (InItemEnd es e) = entries_lead es ++ entry_body e
+parsed_tokens (InItemEnd es e) = items_lead es ++ item_body e
 
 -- how a sign bounds a probability
 abbrev pub relation_of : Symbol → Numeral → Relation
@@ -112,45 +112,45 @@ abbrev pub IsParse : Parse → Type 0
 IsParse InPsat = Unit {0}
 IsParse InVersion = Unit {0}
 IsParse InHeadEnd = Unit {0}
-IsParse (InItem es) = AreEntries es
-IsParse (InQueryProb es) = AreEntries es
-IsParse (InTextEnd es) = AreEntries es
-IsParse (InDone es) = AreEntries es
-IsParse (InParen es q) = AreEntries es
-IsParse (InOperand es q c fs) = AreEntries es × IsGiven c × AreFrames fs
-IsParse (InOperator es q c fs f) = AreEntries es × IsGiven c × IsNextOperand fs f × LastIsNoNot fs × (5 ≤ level f)
-IsParse (InRelation es p) = AreEntries es × IsProb p
-IsParse (InBracket es p) = AreEntries es × IsProb p
-IsParse (InFirst es p) = AreEntries es × IsProb p
-IsParse (InNumber es p s) = AreEntries es × IsProb p × IsRelationSign s
-IsParse (InComma es p x) = AreEntries es × IsProb p × IsProbability x
-IsParse (InSecond es p x) = AreEntries es × IsProb p × IsProbability x
-IsParse (InBracketEnd es p x y) = AreEntries es × IsProb p × IsProbability x × IsProbability y
-IsParse (InItemEnd es e) = AreEntries es × IsEntry e
+IsParse (InItem es) = AreWellFormedItems es
+IsParse (InQueryProb es) = AreWellFormedItems es
+IsParse (InTextEnd es) = AreWellFormedItems es
+IsParse (InDone es) = AreWellFormedItems es
+IsParse (InParen es q) = AreWellFormedItems es
+IsParse (InOperand es q c fs) = AreWellFormedItems es × IsGiven c × AreFrames fs
+IsParse (InOperator es q c fs f) = AreWellFormedItems es × IsGiven c × IsNextOperand fs f × LastIsNoNot fs × (5 ≤ level f)
+IsParse (InRelation es p) = AreWellFormedItems es × IsProb p
+IsParse (InBracket es p) = AreWellFormedItems es × IsProb p
+IsParse (InFirst es p) = AreWellFormedItems es × IsProb p
+IsParse (InNumber es p s) = AreWellFormedItems es × IsProb p × IsRelationSign s
+IsParse (InComma es p x) = AreWellFormedItems es × IsProb p × IsProbability x
+IsParse (InSecond es p x) = AreWellFormedItems es × IsProb p × IsProbability x
+IsParse (InBracketEnd es p x y) = AreWellFormedItems es × IsProb p × IsProbability x × IsProbability y
+IsParse (InItemEnd es e) = AreWellFormedItems es × IsWellFormedItem e
 
 -- behind an operand, which is joined with each `!` before it
-abbrev pub behind_operand : List Entry → Bool → Option Form → List Frame → Form → Parse
+abbrev pub behind_operand : List ItemSyntax → Bool → Option FormulaSyntax → List Frame → FormulaSyntax → Parse
 behind_operand es q c fs f = InOperator es q c (joins 5 fs f).0 (joins 5 fs f).1
 
 -- the operand of a word
-abbrev pub operand_of : List ℕ → Form
+abbrev pub operand_of : List ℕ → FormulaSyntax
 operand_of w = if bytes_eq w (codes "true") then Truth else (if bytes_eq w (codes "false") then Falsity else Name w)
 
 -- behind a `)`, where all is joined that is begun behind its `(`
-abbrev pub behind_close : List Entry → Bool → Option Form → List Frame → Form → Parse
+abbrev pub behind_close : List ItemSyntax → Bool → Option FormulaSyntax → List Frame → FormulaSyntax → Parse
 behind_close es q c (BegunGroup ∷ fs) f = behind_operand es q c fs (Group f)
 behind_close es true c fs f = InItemEnd es (Query (prob_of c f))
 behind_close es false c fs f = InRelation es (prob_of c f)
 
 -- behind a token in the place of an operand
-abbrev pub operand_parsed : List Entry → Bool → Option Form → List Frame → Token → Parse
+abbrev pub operand_parsed : List ItemSyntax → Bool → Option FormulaSyntax → List Frame → Token → Parse
 operand_parsed es q c fs (Sign Bang) = InOperand es q c (BegunNot ∷ fs)
 operand_parsed es q c fs (Sign s) = InOperand es q c (BegunGroup ∷ fs)
 operand_parsed es q c fs (Word w) = behind_operand es q c fs (operand_of w)
 operand_parsed es q c fs t = behind_operand es q c fs Truth
 
 -- behind a token that follows an operand: a connective, a `)` or `given`
-abbrev pub operator_parsed : List Entry → Bool → Option Form → List Frame → Form → Token → Parse
+abbrev pub operator_parsed : List ItemSyntax → Bool → Option FormulaSyntax → List Frame → FormulaSyntax → Token → Parse
 operator_parsed es q c fs f (Sign Close) = behind_close es q c (joins 1 fs f).0 (joins 1 fs f).1
 operator_parsed es q c fs f (Sign Ampersand) = InOperand es q c (BegunAnd (joins 4 fs f).1 ∷ (joins 4 fs f).0)
 operator_parsed es q c fs f (Sign Bar) = InOperand es q c (BegunOr (joins 3 fs f).1 ∷ (joins 3 fs f).0)
@@ -158,12 +158,12 @@ operator_parsed es q c fs f (Sign Arrow) = InOperand es q c (BegunImplies (joins
 operator_parsed es q c fs f (Sign DoubleArrow) = InOperand es q c (BegunIff (joins 1 fs f).1 ∷ (joins 1 fs f).0)
 operator_parsed es q c fs f t = InOperand es q (Some (joins 1 fs f).1) []
 
--- behind the first token of an entry, or `end`
-abbrev pub item_parsed : List Entry → Token → Parse
+-- behind the first token of an item, or `end`
+abbrev pub item_parsed : List ItemSyntax → Token → Parse
 item_parsed es t = if is_the_word (codes "P") t then InParen es false else (if is_the_word (codes "query") t then InQueryProb es else InTextEnd es)
 
 -- behind a sign, or `in`
-abbrev pub relation_parsed : List Entry → Prob → Token → Parse
+abbrev pub relation_parsed : List ItemSyntax → Prob → Token → Parse
 relation_parsed es p (Sign s) = InNumber es p s
 relation_parsed es p t = InBracket es p
 

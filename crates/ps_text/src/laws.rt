@@ -2,7 +2,7 @@
 ghost use Rattle.std.specs.Prelude.{List, ℕ, []};
 ghost use Rattle.ps_text.specs.Tokens.{Token};
 ghost use Rattle.ps_text.specs.Pieces.{Cut};
-ghost use Rattle.ps_text.specs.Grammar.{Entry, AreEntries, text_tokens};
+ghost use Rattle.ps_text.specs.Grammar.{ItemSyntax, AreWellFormedItems, text_tokens};
 ghost use Rattle.ps_text.specs.ExpectedTokens.{AreExpected, at_start};
 ghost use Rattle.ps_text.specs.PartialParses.{Parse, InPsat, state_of, parsed_tokens};
 ghost use Rattle.ps_text.specs.PartialParses.{TakesToken};
@@ -19,7 +19,7 @@ ghost use Rattle.ps_text.specs.Canonical.{canonical_text, sentences_first, AreLa
 /// such text's tokens are refused nowhere.
 pub fn expected_tokens_are_derived()
     ensures derived { (tokens : List Token) → AreExpected tokens → IsDerived tokens }
-    ensures expected { (es : List Entry) → AreEntries es → AreExpected (text_tokens es) }
+    ensures expected { (es : List ItemSyntax) → AreWellFormedItems es → AreExpected (text_tokens es) }
 {}
 
 /// A derivation of the tokens so far begins with none of them, and takes each further token that
@@ -42,9 +42,9 @@ pub fn one_text_stands_at_the_front()
     ensures front { (bytes : List ℕ) → HasOneFront bytes }
 {}
 
-/// Entries mean one list of items at most.
-pub fn entries_have_one_meaning()
-    ensures { (entries : List Entry) → AreEntries entries → HaveOneMeaning entries }
+/// What is written means one list of items at most.
+pub fn texts_have_one_meaning()
+    ensures { (written : List ItemSyntax) → AreWellFormedItems written → HaveOneMeaning written }
 {}
 
 /// Where a text stands at the front, the form isn't refused.

@@ -2,7 +2,7 @@
 use Rattle.std.proofs.Common.{◌≡◌, ℕ, zero, suc, ◌+◌, ◌<◌, ◌≤◌, ◌^◌, ℤ, Bool, true, false, cond, Some, None, List, [], ◌∷◌, ◌++◌, length, take, drop, drop-cons, set, get_or, arith, refl, sym, ap, ◌∙◌, subst, inl, inr}
 use Rattle.std.specs.Prelude.{slice_get, slice_set, is_none, unsigned_abs, ◌==◌}
 use Rattle.ps_steps.specs.Assignments.{Assignment, with_true, all_unset}
-use Rattle.ps_learning.specs.Trails.{Entry, Trail, values_of, values, decided, implied, entry_of, decisions, IsFresh, AreLevels}
+use Rattle.ps_learning.specs.Trails.{TrailEntry, Trail, values_of, values, decided, implied, entry_of, decisions, IsFresh, AreLevels}
 use Rattle.ps_steps.proofs.Setting.{length-with_true}
 use Rattle.ps_steps.proofs.Short.{length-unset}
 use Rattle.ps_learning.proofs.Entries.{values-append, fresh-append, get-last, length-values}
@@ -10,17 +10,17 @@ use Rattle.ps_learning.proofs.Counting.{counted, fewer-unset}
 use Rattle.ps_trail.specs.Fields.{trail_of, IsTrail}
 
 -- one slot more is used
-pub take-set : (xs : List Entry) (n : ℕ) (e : Entry) → n < length xs → take (suc n) (set xs n e) ≡ take n xs ++ e ∷ []
+pub take-set : (xs : List TrailEntry) (n : ℕ) (e : TrailEntry) → n < length xs → take (suc n) (set xs n e) ≡ take n xs ++ e ∷ []
 take-set [] n e h = absurd (omega arith)
 take-set (x ∷ xs) zero e h = refl
 take-set (x ∷ xs) (suc n) e h = ap (λ r. x ∷ r) (take-set xs n e (omega (arith, h)))
 
-pub length-take : (xs : List Entry) (n : ℕ) → n ≤ length xs → length (take n xs) ≡ n
+pub length-take : (xs : List TrailEntry) (n : ℕ) → n ≤ length xs → length (take n xs) ≡ n
 length-take xs zero h = refl
 length-take [] (suc n) h = absurd (omega arith)
 length-take (x ∷ xs) (suc n) h = ap suc (length-take xs n (omega (arith, h)))
 
-length-put : (xs : List Entry) (n : ℕ) (e : Entry) → length (set xs n e) ≡ length xs
+length-put : (xs : List TrailEntry) (n : ℕ) (e : TrailEntry) → length (set xs n e) ≡ length xs
 length-put [] n e = refl
 length-put (x ∷ xs) zero e = refl
 length-put (x ∷ xs) (suc n) e = ap suc (length-put xs n e)
@@ -28,7 +28,7 @@ length-put (x ∷ xs) (suc n) e = ap suc (length-put xs n e)
 abbrev pub one_if : Bool → ℕ
 one_if b = cond b 1 0
 
-pub decisions-append : (es : List Entry) (e : Entry) → decisions (es ++ e ∷ []) ≡ decisions es + one_if (is_none e.reason)
+pub decisions-append : (es : List TrailEntry) (e : TrailEntry) → decisions (es ++ e ∷ []) ≡ decisions es + one_if (is_none e.reason)
 decisions-append [] e = omega arith
 decisions-append (x ∷ es) e = omega (arith, decisions-append es e)
 
@@ -36,20 +36,20 @@ one_most : (b : Bool) → one_if b ≤ 1
 one_most true = omega arith
 one_most false = omega arith
 
-pub decisions-few : (es : List Entry) → decisions es ≤ length es
+pub decisions-few : (es : List TrailEntry) → decisions es ≤ length es
 decisions-few [] = omega arith
 decisions-few (e ∷ es) = omega (arith, one_most (is_none e.reason), decisions-few es)
 
-take-end : (es : List Entry) (e : Entry) → take (suc (length es)) (es ++ e ∷ []) ≡ es ++ e ∷ []
+take-end : (es : List TrailEntry) (e : TrailEntry) → take (suc (length es)) (es ++ e ∷ []) ≡ es ++ e ∷ []
 take-end [] e = refl
 take-end (x ∷ es) e = ap (λ r. x ∷ r) (take-end es e)
 
-take-front' : (es : List Entry) (e d : Entry) (i : ℕ) → slice_get es i ≡ Some d → take (suc i) (es ++ e ∷ []) ≡ take (suc i) es
+take-front' : (es : List TrailEntry) (e d : TrailEntry) (i : ℕ) → slice_get es i ≡ Some d → take (suc i) (es ++ e ∷ []) ≡ take (suc i) es
 take-front' [] e d i h = absurd (cc)
 take-front' (x ∷ es) e d zero h = refl
 take-front' (x ∷ es) e d (suc i) h = ap (λ r. x ∷ r) (take-front' es e d i h)
 
-pub levels-append : (es : List Entry) (e : Entry) → AreLevels es → e.level ≡ decisions (es ++ e ∷ []) → AreLevels (es ++ e ∷ [])
+pub levels-append : (es : List TrailEntry) (e : TrailEntry) → AreLevels es → e.level ≡ decisions (es ++ e ∷ []) → AreLevels (es ++ e ∷ [])
 levels-append es e f h = record {
   at = λ i d k. elim (get-last es e d i k) [
     | inl p ↦ rw (take-front' es e d i p) (f.at i d p)
@@ -58,7 +58,7 @@ levels-append es e f h = record {
 }
 
 -- a variable that is unset leaves room
-pub has-room : (a : Assignment) (slots : List Entry) (used level : ℕ) (l : ℤ) → IsTrail a slots used level → IsFresh (length a) (values_of (length a) (take used slots)) l → used < length slots
+pub has-room : (a : Assignment) (slots : List TrailEntry) (used level : ℕ) (l : ℤ) → IsTrail a slots used level → IsFresh (length a) (values_of (length a) (take used slots)) l → used < length slots
 has-room a slots used level l t f =
     let es = take used slots in
     let n = counted (length a) es t.fresh in
@@ -67,10 +67,10 @@ has-room a slots used level l t f =
     omega (arith, n, more, t.room, length-take slots used t.within)
 
 -- the level fits
-pub level-small : (a : Assignment) (slots : List Entry) (used level : ℕ) (l : ℤ) → IsTrail a slots used level → IsFresh (length a) (values_of (length a) (take used slots)) l → level + 1 < 2 ^ 32
+pub level-small : (a : Assignment) (slots : List TrailEntry) (used level : ℕ) (l : ℤ) → IsTrail a slots used level → IsFresh (length a) (values_of (length a) (take used slots)) l → level + 1 < 2 ^ 32
 level-small a slots used level l t f = omega (arith, has-room a slots used level l t f, t.room, t.narrow, t.level_is, decisions-few (take used slots), length-take slots used t.within)
 
-pub pushed : (a : Assignment) (slots : List Entry) (used level : ℕ) (e : Entry) → IsTrail a slots used level → IsFresh (length a) (values_of (length a) (take used slots)) e.lit → e.level ≡ decisions (take used slots) + one_if (is_none e.reason) → IsTrail (with_true a e.lit) (slice_set slots used e) (used + 1) e.level
+pub pushed : (a : Assignment) (slots : List TrailEntry) (used level : ℕ) (e : TrailEntry) → IsTrail a slots used level → IsFresh (length a) (values_of (length a) (take used slots)) e.lit → e.level ≡ decisions (take used slots) + one_if (is_none e.reason) → IsTrail (with_true a e.lit) (slice_set slots used e) (used + 1) e.level
 pushed a slots used level e t f h =
     let es = take used slots in
     let room = has-room a slots used level e.lit t f in
@@ -88,14 +88,14 @@ pushed a slots used level e t f h =
       narrow = rw l t.narrow;
     }
 
-pub pushed-view : (a : Assignment) (slots : List Entry) (used level : ℕ) (e : Entry) → IsTrail a slots used level → IsFresh (length a) (values_of (length a) (take used slots)) e.lit → trail_of (with_true a e.lit) (slice_set slots used e) (used + 1) ≡ record { variables = length a; entries = take used slots ++ e ∷ [] }
+pub pushed-view : (a : Assignment) (slots : List TrailEntry) (used level : ℕ) (e : TrailEntry) → IsTrail a slots used level → IsFresh (length a) (values_of (length a) (take used slots)) e.lit → trail_of (with_true a e.lit) (slice_set slots used e) (used + 1) ≡ record { variables = length a; entries = take used slots ++ e ∷ [] }
 pushed-view a slots used level e t f =
     let one : used + 1 ≡ suc used = omega arith in
     let now : take (used + 1) (slice_set slots used e) ≡ take used slots ++ e ∷ [] = rw one (take-set slots used e (has-room a slots used level e.lit t f)) in
     (λ i. record { variables = length-with_true a e.lit i; entries = now i })
 
 -- a new trail
-pub new-trail : (v : ℕ) (slots : List Entry) → length slots ≡ v → v < 2 ^ 32 → IsTrail (all_unset v) slots 0 0
+pub new-trail : (v : ℕ) (slots : List TrailEntry) → length slots ≡ v → v < 2 ^ 32 → IsTrail (all_unset v) slots 0 0
 unfolding values_of
 new-trail v slots h n =
     let l : length (all_unset v) ≡ v = length-unset v in
@@ -109,10 +109,10 @@ new-trail v slots h n =
       narrow = rw l n;
     }
 
-pub fresh-inside : (a : Assignment) (slots : List Entry) (used : ℕ) (t : Trail) (l : ℤ) → trail_of a slots used ≡ t → IsFresh t.variables (values t) l → IsFresh (length a) (values_of (length a) (take used slots)) l
+pub fresh-inside : (a : Assignment) (slots : List TrailEntry) (used : ℕ) (t : Trail) (l : ℤ) → trail_of a slots used ≡ t → IsFresh t.variables (values t) l → IsFresh (length a) (values_of (length a) (take used slots)) l
 fresh-inside a slots used t l e f = subst (λ (x : Trail). IsFresh x.variables (values x) l) (sym e) f
 
-pub decided-view : (a a' : Assignment) (slots : List Entry) (used level : ℕ) (l : ℤ) (t : Trail) → IsTrail a slots used level → IsFresh t.variables (values t) l → trail_of a slots used ≡ t → a' ≡ with_true a l → trail_of a' (slice_set slots used (record { lit = l; reason = None; level = level + 1 })) (used + 1) ≡ decided l t
+pub decided-view : (a a' : Assignment) (slots : List TrailEntry) (used level : ℕ) (l : ℤ) (t : Trail) → IsTrail a slots used level → IsFresh t.variables (values t) l → trail_of a slots used ≡ t → a' ≡ with_true a l → trail_of a' (slice_set slots used (record { lit = l; reason = None; level = level + 1 })) (used + 1) ≡ decided l t
 decided-view a a' slots used level l t inv f q p =
     let lev : level + 1 ≡ suc (decisions (take used slots)) = omega (arith, inv.level_is) in
     ap (λ b. trail_of b (slice_set slots used (record { lit = l; reason = None; level = level + 1 })) (used + 1)) p
@@ -120,12 +120,12 @@ decided-view a a' slots used level l t inv f q p =
     ∙ ap (λ n. record { variables = length a; entries = take used slots ++ record { lit = l; reason = None; level = n } ∷ [] }) lev
     ∙ ap (decided l) q
 
-pub implied-view : (a a' : Assignment) (slots : List Entry) (used level : ℕ) (l : ℤ) (id : ℕ) (t : Trail) → IsTrail a slots used level → IsFresh t.variables (values t) l → trail_of a slots used ≡ t → a' ≡ with_true a l → trail_of a' (slice_set slots used (record { lit = l; reason = Some id; level = level })) (used + 1) ≡ implied l id t
+pub implied-view : (a a' : Assignment) (slots : List TrailEntry) (used level : ℕ) (l : ℤ) (id : ℕ) (t : Trail) → IsTrail a slots used level → IsFresh t.variables (values t) l → trail_of a slots used ≡ t → a' ≡ with_true a l → trail_of a' (slice_set slots used (record { lit = l; reason = Some id; level = level })) (used + 1) ≡ implied l id t
 implied-view a a' slots used level l id t inv f q p =
     ap (λ b. trail_of b (slice_set slots used (record { lit = l; reason = Some id; level = level })) (used + 1)) p
     ∙ pushed-view a slots used level (record { lit = l; reason = Some id; level = level }) inv (fresh-inside a slots used t l q f)
     ∙ ap (λ n. record { variables = length a; entries = take used slots ++ record { lit = l; reason = Some id; level = n } ∷ [] }) inv.level_is
     ∙ ap (implied l id) q
 
-pub entry-next : (var : ℕ) (es : List Entry) (i : ℕ) (e : Entry) → i < length es → e ≡ get_or es i e → entry_of var (drop i es) ≡ cond (unsigned_abs e.lit == var) (Some e) (entry_of var (drop (i + 1) es))
+pub entry-next : (var : ℕ) (es : List TrailEntry) (i : ℕ) (e : TrailEntry) → i < length es → e ≡ get_or es i e → entry_of var (drop i es) ≡ cond (unsigned_abs e.lit == var) (Some e) (entry_of var (drop (i + 1) es))
 entry-next var es i e h at = let k : i + 1 ≡ suc i = omega arith in rw k (ap (entry_of var) (drop-cons es i e h ∙ ap (λ d. d ∷ drop (suc i) es) (sym at)))

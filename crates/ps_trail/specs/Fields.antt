@@ -1,14 +1,14 @@
 -- The fields of a trail.
 use Rattle.std.specs.Prelude.{ℕ, ◌≡◌, ◌≤◌, ◌<◌, ◌^◌, List, length, take}
 use Rattle.ps_steps.specs.Assignments.{Assignment}
-use Rattle.ps_learning.specs.Trails.{Entry, Trail, values_of, decisions, AreFresh, AreLevels}
+use Rattle.ps_learning.specs.Trails.{TrailEntry, Trail, values_of, decisions, AreFresh, AreLevels}
 
 -- the trail of the first entries
-abbrev pub trail_of : Assignment → List Entry → ℕ → Trail
+abbrev pub trail_of : Assignment → List TrailEntry → ℕ → Trail
 trail_of a slots used = record { variables = length a; entries = take used slots }
 
 -- the first entries are the trail
-pub record IsTrail (a : Assignment) (slots : List Entry) (used level : ℕ) : Type 0 where
+pub record IsTrail (a : Assignment) (slots : List TrailEntry) (used level : ℕ) : Type 0 where
   pub values : a ≡ values_of (length a) (take used slots)
   pub fresh : AreFresh (length a) (take used slots)
   pub levels : AreLevels (take used slots)

@@ -1,19 +1,19 @@
 -- What a trail answers.
 use Rattle.std.specs.Prelude.{ℕ, ℤ, Option, Some, None, slice_get}
-use Rattle.ps_learning.specs.Trails.{Entry, Trail, entry_of}
+use Rattle.ps_learning.specs.Trails.{TrailEntry, Trail, entry_of}
 
 -- the level of an entry, if there is one
-abbrev pub level_in : Option Entry → Option ℕ
+abbrev pub level_in : Option TrailEntry → Option ℕ
 level_in None = None
 level_in (Some e) = Some e.level
 
 -- the reason of an entry, if there is one
-abbrev pub reason_in : Option Entry → Option ℕ
+abbrev pub reason_in : Option TrailEntry → Option ℕ
 reason_in None = None
 reason_in (Some e) = e.reason
 
 -- the literal of an entry, if there is one
-abbrev pub lit_in : Option Entry → Option ℤ
+abbrev pub lit_in : Option TrailEntry → Option ℤ
 lit_in None = None
 lit_in (Some e) = Some e.lit
 

@@ -5,7 +5,7 @@ use std::marker::Model;
 /// A literal that was set, the id of the constraint that forced it, or none where it was decided,
 /// and its level.
 #[derive(Drop)]
-pub struct Entry {
+pub struct TrailEntry {
     /// The literal.
     pub lit: Lit,
     /// The id of the constraint that forced it; none where it was decided.
@@ -14,10 +14,10 @@ pub struct Entry {
     pub level: u32,
 }
 
-impl Model for Entry {
-    ghost use Rattle.ps_learning.specs.Trails.{Entry as EntryValue};
+impl Model for TrailEntry {
+    ghost use Rattle.ps_learning.specs.Trails.{TrailEntry as TrailEntryValue};
 
-    ghost Value = { EntryValue };
+    ghost Value = { TrailEntryValue };
 
     ghost view = { λ e. record { lit = e.lit; reason = e.reason; level = e.level } };
 }

@@ -7,7 +7,7 @@ ghost use Rattle.ps_learning.specs.Trails.{IsFresh, AreFresh, AreLevels};
 ghost use Rattle.ps_trail.specs.Lookups.{level_of, reason_of, lit_at};
 ghost use Rattle.ps_trail.specs.Cuts.{IsCutBy};
 
-use crate::entry::Entry;
+use crate::entry::TrailEntry;
 use ps_io::NoMemory;
 use ps_pb::{Assignment, Lit};
 use std::alloc::Global;
@@ -18,7 +18,7 @@ use std::marker::Model;
 #[derive(Drop)]
 pub struct Trail {
     values: Assignment,
-    slots: Vec<Entry>,
+    slots: Vec<TrailEntry>,
     used: usize,
     level: u32,
 }
@@ -70,7 +70,7 @@ impl Trail {
     }
 
     /// The literals, in the order in which they were set.
-    pub fn entries(&self) -> &[Entry]
+    pub fn entries(&self) -> &[TrailEntry]
         ensures entries { result.now ≡ self.now.entries }
         ensures fresh { AreFresh self.now.variables self.now.entries }
         ensures levels { AreLevels self.now.entries }
@@ -84,7 +84,7 @@ impl Trail {
         ensures { self.new ≡ decided lit self.old }
     {
         let level = self.level + 1;
-        self.slots[self.used] = Entry {
+        self.slots[self.used] = TrailEntry {
             lit,
             reason: None,
             level,
@@ -99,7 +99,7 @@ impl Trail {
         requires { IsFresh self.old.variables (values self.old) lit }
         ensures { self.new ≡ implied lit reason self.old }
     {
-        self.slots[self.used] = Entry {
+        self.slots[self.used] = TrailEntry {
             lit,
             reason: Some(reason),
             level: self.level,
@@ -201,19 +201,19 @@ impl Trail {
 }
 
 // How many decisions an entry is.
-fn decisions(entry: &Entry) -> u32
+fn decisions(entry: &TrailEntry) -> u32
     ensures { result ≡ (if is_none entry.now.reason then 1 else 0) }
 {
     if entry.reason.is_none() { 1 } else { 0 }
 }
 
 // As many entries as there are variables.
-fn empty_slots(alloc: Global, variables: usize) -> Result<Vec<Entry>, NoMemory>
+fn empty_slots(alloc: Global, variables: usize) -> Result<Vec<TrailEntry>, NoMemory>
     ensures { IfOk result (λ slots. length slots.items ≡ variables) }
 {
     let mut slots = Vec::with_capacity(alloc, variables)?;
     for _ in 0..variables {
-        slots.push(Entry {
+        slots.push(TrailEntry {
             lit: Lit::default(),
             reason: None,
             level: 0,

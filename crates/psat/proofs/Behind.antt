@@ -65,7 +65,7 @@ module _ (bytes : List ℕ) (whole : IsTextFront bytes (length bytes)) (rest : L
   text_behind = record {
     pieces = whole.pieces ++ feed;
     rest = rest;
-    entries = whole.entries;
+    written = whole.written;
     is = sym (append_assoc bytes (10 ∷ []) rest) ∙ ap (λ (x : List ℕ). x ++ rest) (sym with_feed);
     cuts = cuts-append whole.pieces feed rest (cuts_more whole.pieces [] rest (subst (λ (x : List ℕ). Cuts One whole.pieces x) nothing_left whole.cuts)) (refl, tt);
     derived = tokens-append whole.pieces feed ∙ append-nil (tokens whole.pieces) ∙ whole.derived;

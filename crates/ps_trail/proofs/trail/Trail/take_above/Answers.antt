@@ -1,13 +1,13 @@
 use Rattle.std.proofs.Common.{arith, ap, ◌∙◌, unsigned_abs}
 use Rattle.ps_steps.specs.Assignments.{without}
-use Rattle.ps_learning.specs.Trails.{Entry}
+use Rattle.ps_learning.specs.Trails.{TrailEntry}
 use Rattle.ps_trail.proofs.Cutting.{none-above, taken-inside, taken-level, taken-same, taken-vars}
 use Rattle.ps_trail.proofs.trail.Trail.take_above.Goals as goal
 
 pub returns-then-last-most-clause-moved : goal.returns-then-last-most-clause-moved
 returns-then-last-most-clause-moved c =
     let s = c.self.inside in
-    none-above s.values s.slots.items s.used s.level c.args.most c.index-last.result.now c.args.self.now c.self.invariant c.self.view_is (omega arith) c.index-last.ensures (omega (arith, ap (λ (x : Entry). x.level) c.last.view_is, c.if-last-most.true))
+    none-above s.values s.slots.items s.used s.level c.args.most c.index-last.result.now c.args.self.now c.self.invariant c.self.view_is (omega arith) c.index-last.ensures (omega (arith, ap (λ (x : TrailEntry). x.level) c.last.view_is, c.if-last-most.true))
 
 pub overflow_sub-self : goal.overflow_sub-self
 overflow_sub-self c =
@@ -18,14 +18,14 @@ pub invariant_of-self : goal.invariant_of-self
 invariant_of-self c =
     let s = c.self.inside in
     taken-inside s.values c.unset.new.self s.slots.items s.used s.level c.index-last.result.now c.decisions-decided.result c.self.invariant (omega arith) c.index-last.ensures
-    (c.unset.ensures ∙ ap (without s.values) (c.variable-variable.ensures.value ∙ ap (λ (x : Entry). unsigned_abs x.lit) c.last.view_is)) c.decisions-decided.ensures
+    (c.unset.ensures ∙ ap (without s.values) (c.variable-variable.ensures.value ∙ ap (λ (x : TrailEntry). unsigned_abs x.lit) c.last.view_is)) c.decisions-decided.ensures
 
 pub returns-clause-same : goal.returns-clause-same
 returns-clause-same c =
     let s = c.self.inside in
     taken-same s.values c.unset.new.self s.slots.items s.used s.level c.args.most c.index-last.result.now c.args.self.now c.self.invariant c.self.view_is (omega arith) c.index-last.ensures
-    (omega (arith, ap (λ (x : Entry). x.level) c.last.view_is, c.if-last-most.false))
-    (c.unset.ensures ∙ ap (without s.values) (c.variable-variable.ensures.value ∙ ap (λ (x : Entry). unsigned_abs x.lit) c.last.view_is))
+    (omega (arith, ap (λ (x : TrailEntry). x.level) c.last.view_is, c.if-last-most.false))
+    (c.unset.ensures ∙ ap (without s.values) (c.variable-variable.ensures.value ∙ ap (λ (x : TrailEntry). unsigned_abs x.lit) c.last.view_is))
 
 pub returns-clause-variables : goal.returns-clause-variables
 returns-clause-variables c =
