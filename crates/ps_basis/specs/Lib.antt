@@ -1,3 +1,4 @@
 -- Meaning
 pub mod Table
+-- Laws, as the functions of laws.rt promise them
 pub mod Laws

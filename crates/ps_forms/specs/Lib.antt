@@ -3,5 +3,5 @@ pub mod Clauses
 pub mod Extensions
 pub mod Forms
 pub mod Settled
--- Laws
+-- Laws, as the functions of laws.rt promise them
 pub mod Laws

@@ -3,6 +3,7 @@ pub mod Trails
 pub mod Levels
 pub mod Causes
 pub mod Known
+-- Laws, as the functions of laws.rt promise them
 pub mod Laws
 -- Bridge: what marking and learning have kept so far
 pub mod Marking

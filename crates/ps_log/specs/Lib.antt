@@ -7,8 +7,9 @@ pub mod StepTexts
 pub mod GoalTexts
 pub mod Told
 pub mod Logs
+-- Bridge: what contracts see of a log that writes lines, lines that are being made, and numbers that are read, cut off past
+-- every limit
 pub mod TextLogs
--- Bridge: lines that are being made, and numbers that are read, cut off past every limit
 pub mod Lines
 pub mod Numbers
 pub mod GoalNumbers

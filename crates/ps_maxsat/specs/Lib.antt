@@ -1,5 +1,4 @@
 -- Meaning
 pub mod Limits
-pub mod Values
--- Bridge: sums as they are computed
 pub mod Sums
+pub mod Values

@@ -1,3 +1,4 @@
+-- Meaning
 pub mod Formula
 pub mod Distribution
 pub mod Bounds

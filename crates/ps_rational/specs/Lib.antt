@@ -5,6 +5,7 @@ pub mod Order
 pub mod Wide
 pub mod Sums
 pub mod Scaled
+-- Laws, as the functions of laws.rt promise them
 pub mod Laws
 -- Bridge: what shows that a quotient is in lowest terms
 pub mod Coprime

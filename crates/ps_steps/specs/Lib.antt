@@ -4,5 +4,5 @@ pub mod Assignments
 pub mod Constraints
 pub mod Weights
 pub mod Steps
--- Laws
+-- Laws, as the functions of laws.rt promise them
 pub mod Laws
