@@ -1,5 +1,5 @@
 -- Bytes that are written in parts: what callers of this crate cite.
-use Rattle.std.proofs.Common.{zero, suc, get_or, drop, ◌∷◌, [], ◌∙◌, ◌≡◌, refl, List, ℕ, ◌++◌, ◌+◌, ◌<◌, ◌≤◌, length, take, Option, Result, Ok, Err, OnErr, ap, sym, append_assoc, arith, length-append}
+use Rattle.std.proofs.Common.{zero, suc, get_or, drop, ◌∷◌, [], ◌∙◌, ◌≡◌, refl, List, ℕ, ◌++◌, ◌+◌, ◌<◌, ◌≤◌, length, take, Option, ap, sym, append_assoc, arith, length-append}
 use Rattle.std.specs.List.{flat_map}
 use Rattle.std.proofs.lemmas.List.{take-append-le}
 use Rattle.std.proofs.Math.Seq.{take-append-add}
@@ -23,11 +23,6 @@ prefix-after a b c xs ys p q =
       proper = omega (arith, q.proper, length-append xs ys);
       appended = rw e (appends-then a b c xs (take q.count ys) p q.appended);
     }
-
--- a fact that holds anyway holds after an error
-pub on_err : {T E P : Type 0} (r : Result T E) → P → OnErr r P
-on_err (Ok x) p = tt
-on_err (Err e) p = p
 
 -- what is written of all items, cut at one of them
 pub flat_map-at : {X Y : Type 0} (f : X → List Y) (xs : List X) (i : ℕ) (x d : X) → i < length xs → x ≡ get_or xs i d

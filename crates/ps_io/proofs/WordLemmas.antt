@@ -1,20 +1,14 @@
 -- Words of a line: what callers of this crate cite.
-use Rattle.std.proofs.Common.{◌≤◌, ◌<◌, ◌+◌, ◌^◌, ◌%◌, ℕ, suc, ℤ, pos, negsuc, List, [], ◌∷◌, ◌++◌, length, refl, arith, length-append, FitsSigned}
-use Rattle.std.specs.Int.{w128}
-use Rattle.std.specs.Fmt.{decimal, signed_decimal}
+use Rattle.std.proofs.Common.{◌≤◌, ◌<◌, ◌+◌, ◌^◌, ◌%◌, ℕ, List, [], ◌∷◌, ◌++◌, length, refl, arith, length-append}
+use Rattle.std.specs.Fmt.{decimal}
 use Rattle.std.proofs.lemmas.Fmt.{decimal_by_steps_wide}
 use Rattle.std.proofs.lemmas.List.Folds.{list_all-append}
-use Rattle.itoa.proofs.Decimal.{signed_wide}
 use Rattle.ps_io.specs.LineText.{IsWord, with_word}
 
 -- a line grows by the word and at most a space
 pub length-with_word : (line word : List ℕ) → length (with_word line word) ≤ length line + length word + 1
 length-with_word [] word = omega arith
 length-with_word (x ∷ xs) word = omega (arith, length-append (x ∷ xs) (32 ∷ word))
-
--- a number has at most 40 bytes
-pub length-signed_decimal : (z : ℤ) → FitsSigned w128 z → length (signed_decimal z) ≤ 40
-length-signed_decimal z fits = (signed_wide z fits).1
 
 -- two words without a space between them are one
 pub IsWord-append : (xs ys : List ℕ) → IsWord xs → IsWord ys → IsWord (xs ++ ys)
@@ -27,7 +21,3 @@ digit_is_word n h = grind arith
 pub IsWord-decimal : (n : ℕ) → n < 10 ^ 64 → IsWord (decimal n)
 IsWord-decimal = decimal_by_steps_wide (λ _ ds. IsWord ds) (λ n h. digit_is_word n h)
     (λ n ds lo p. IsWord-append ds ((48 + n % 10) ∷ []) p (digit_is_word (n % 10) (omega arith)))
-
-pub IsWord-signed_decimal : (z : ℤ) → FitsSigned w128 z → IsWord (signed_decimal z)
-IsWord-signed_decimal (pos n) fits = let f = fits.sfits in IsWord-decimal n (omega arith)
-IsWord-signed_decimal (negsuc n) fits = let f = fits.sfits in IsWord-append (45 ∷ []) (decimal (suc n)) refl (IsWord-decimal (suc n) (omega arith))

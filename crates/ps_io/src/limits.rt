@@ -2,6 +2,7 @@
 ghost use Rattle.std.specs.Prelude.{◌≡◌};
 ghost use Rattle.ps_io.specs.declared.limits.TheConstants.{LONGEST_READ, LONGEST_LINE};
 ghost use Rattle.ps_io.specs.declared.limits.TheConstants.{LONGEST_NUMBER};
+ghost use Rattle.ps_io.specs.declared.buffer.TheConstants.{CAPACITY};
 
 /// The most bytes that one read of all bytes asks for.
 pub const LONGEST_READ: usize = 65_536;
@@ -17,4 +18,5 @@ pub fn sizes_have_these_numbers()
     ensures read { LONGEST_READ ≡ 65536 }
     ensures line { LONGEST_LINE ≡ 65536 }
     ensures number { LONGEST_NUMBER ≡ 40 }
+    ensures buffer { CAPACITY ≡ 65539 }
 {}

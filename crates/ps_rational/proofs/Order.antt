@@ -163,16 +163,6 @@ at_most-add x y z w h k =
     subst IsNonneg (ring_q (x ∷ (y ∷ (z ∷ (w ∷ [])))) (plus (plus (var 1) (minus (var 0))) (plus (var 3) (minus (var 2)))) (plus (plus (var 1) (var 3)) (minus (plus (var 0) (var 2)))) refl)
     (nonneg-add (sub y x) (sub w z) h k)
 
--- signs change the order
-pub at_most-neg : (x y : Rational) → AtMost x y → AtMost (neg y) (neg x)
-at_most-neg x y h = subst IsNonneg (ring_q (x ∷ (y ∷ [])) (plus (var 1) (minus (var 0))) (plus (minus (var 0)) (minus (minus (var 1)))) refl) h
-
-pub nonneg_from_at_most : (x : Rational) → AtMost zero_q x → IsNonneg x
-nonneg_from_at_most x h = subst IsNonneg (ring_q (x ∷ []) (plus (var 0) (minus none)) (var 0) refl) h
-
-pub at_most_from_nonneg : (x : Rational) → IsNonneg x → AtMost zero_q x
-at_most_from_nonneg x h = subst IsNonneg (ring_q (x ∷ []) (var 0) (plus (var 0) (minus none)) refl) h
-
 -- less is not at most, the other way round
 pub not_self_less : (x : Rational) → IsLess x x → ⊥
 not_self_less x l = absurd (omega (arith, ints, l))
@@ -187,21 +177,12 @@ less_of x y h =
 pub less_at_most : (x y z : Rational) → IsLess x y → AtMost y z → IsLess x z
 less_at_most x y z l h = less_of x z (λ k. not_less x y (at_most_trans y z x h k) l)
 
-pub at_most_less : (x y z : Rational) → AtMost x y → IsLess y z → IsLess x z
-at_most_less x y z h l = less_of x z (λ k. not_less y z (at_most_trans z x y k h) l)
-
-pub less_trans : (x y z : Rational) → IsLess x y → IsLess y z → IsLess x z
-less_trans x y z l k = less_at_most x y z l (at_most_from_less y z k)
-
 -- above 0 is at least 0 and not 0
 pub above_nonneg : (x : Rational) → IsAbove x → IsNonneg x
 above_nonneg x h = omega (arith, ints, h)
 
 pub above_not_zero : (x : Rational) → IsAbove x → x ≢ zero_q
 above_not_zero x h e = let k = zero_over x e in absurd (omega (arith, ints, h, k))
-
-pub above_of : (x : Rational) → IsNonneg x → x ≢ zero_q → IsAbove x
-above_of x h n = elim (int_cases (pos 0) x.over) [ inl l ↦ l | inr l ↦ absurd (n (over_is_zero x (omega (arith, ints, h, l)))) ]
 
 pub one_above : IsAbove one_q
 one_above = let e = one_over in omega (arith, ints, e)

@@ -2,11 +2,11 @@
 use Rattle.std.proofs.Common.{◌≡◌, ◌≢◌, ℕ, zero, suc, ◌+◌, ◌<◌, [], ◌∷◌, sym, refl, ap, ◌∙◌, arith, inl, inr}
 use Rattle.std.proofs.lemmas.Bool.{cases_eq}
 use Rattle.ps_rational.specs.Rational.{Rational, add, mul, neg, sub, zero_q, one_q}
-use Rattle.ps_rational.specs.Order.{IsNonneg, AtMost}
+use Rattle.ps_rational.specs.Order.{IsNonneg}
 use Rattle.ps_rational.specs.Sums.{sum_to}
 use Rattle.ps_rational.proofs.Ring.{var, plus, by, minus, none, unit}
 use Rattle.ps_rational.proofs.Field.{ring_q}
-use Rattle.ps_rational.proofs.Order.{nonneg-add, zero_nonneg, parts_zero, at_most-add, at_most_refl}
+use Rattle.ps_rational.proofs.Order.{nonneg-add, zero_nonneg, parts_zero}
 
 pub sum_same : (n : ℕ) (f g : ℕ → Rational) → ((i : ℕ) → i < n → f i ≡ g i) → sum_to n f ≡ sum_to n g
 sum_same zero f g h = refl
@@ -94,8 +94,3 @@ sum_parts_zero zero f h e = λ i l. absurd (omega arith)
 sum_parts_zero (suc n) f h e =
     let both = parts_zero (sum_to n f) (f n) (sum_nonneg n f (λ i l. h i (omega arith))) (h n (omega arith)) e in
     next_part n f (sum_parts_zero n f (λ i l. h i (omega arith)) both.0) both.1
-
--- sums keep the order
-pub sum_at_most : (n : ℕ) (f g : ℕ → Rational) → ((i : ℕ) → i < n → AtMost (f i) (g i)) → AtMost (sum_to n f) (sum_to n g)
-sum_at_most zero f g h = at_most_refl zero_q
-sum_at_most (suc n) f g h = at_most-add (sum_to n f) (sum_to n g) (f n) (g n) (sum_at_most n f g (λ i l. h i (omega arith))) (h n (omega arith))

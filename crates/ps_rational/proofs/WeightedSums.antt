@@ -1,21 +1,13 @@
 -- The laws of weighted sums of signed whole numbers over a list.
-use Rattle.std.proofs.Common.{◌≡◌, ℤ, pos, ◌+ℤ◌, ◌*ℤ◌, ◌≤ℤ◌, neg_ℤ, List, [], ◌∷◌, ◌++◌, map, All, sym, refl, ap, ◌∙◌, arith}
+use Rattle.std.proofs.Common.{◌≡◌, ℤ, pos, ◌+ℤ◌, ◌*ℤ◌, ◌≤ℤ◌, List, [], ◌∷◌, ◌++◌, All, sym, refl, ap, ◌∙◌, arith}
 use Rattle.std.proofs.lemmas.Int.{ints}
 use Rattle.std.proofs.lemmas.List.Elements.{All-head, All-tail}
 use Rattle.ps_rational.specs.Sums.{sum_of}
 use Rattle.ps_rational.proofs.IntRing.{*ℤ-+ℤ, *ℤ-zero}
 
-pub sum_of_same : {A : Type 0} (v w : A → ℤ) (xs : List A) → ((x : A) → v x ≡ w x) → sum_of v xs ≡ sum_of w xs
-sum_of_same v w [] h = refl
-sum_of_same v w (x ∷ xs) h = λ i. h x i +ℤ sum_of_same v w xs h i
-
 pub sum_of-append : {A : Type 0} (w : A → ℤ) (xs ys : List A) → sum_of w (xs ++ ys) ≡ sum_of w xs +ℤ sum_of w ys
 sum_of-append w [] ys = omega (arith, ints)
 sum_of-append w (x ∷ xs) ys = let e = sum_of-append w xs ys in omega (arith, ints, e)
-
-pub sum_of-map : {A B : Type 0} (w : B → ℤ) (f : A → B) (xs : List A) → sum_of w (map f xs) ≡ sum_of (λ x. w (f x)) xs
-sum_of-map w f [] = refl
-sum_of-map w f (x ∷ xs) = ap (λ z. w (f x) +ℤ z) (sum_of-map w f xs)
 
 pub sum_of-scale : {A : Type 0} (c : ℤ) (w : A → ℤ) (xs : List A) → c *ℤ sum_of w xs ≡ sum_of (λ x. c *ℤ w x) xs
 sum_of-scale c w [] = *ℤ-zero c
@@ -24,10 +16,6 @@ sum_of-scale c w (x ∷ xs) = *ℤ-+ℤ c (w x) (sum_of w xs) ∙ ap (λ z. c *�
 pub sum_of-add : {A : Type 0} (v w : A → ℤ) (xs : List A) → sum_of (λ x. v x +ℤ w x) xs ≡ sum_of v xs +ℤ sum_of w xs
 sum_of-add v w [] = omega (arith, ints)
 sum_of-add v w (x ∷ xs) = let e = sum_of-add v w xs in omega (arith, ints, e)
-
-pub sum_of-neg : {A : Type 0} (w : A → ℤ) (xs : List A) → sum_of (λ x. neg_ℤ (w x)) xs ≡ neg_ℤ (sum_of w xs)
-sum_of-neg w [] = omega (arith, ints)
-sum_of-neg w (x ∷ xs) = let e = sum_of-neg w xs in omega (arith, ints, e)
 
 pub sum_of_zeros : {A : Type 0} (w : A → ℤ) (xs : List A) → All (λ x. w x ≡ pos 0) xs → sum_of w xs ≡ pos 0
 sum_of_zeros w [] h = refl
@@ -44,9 +32,6 @@ all_zeros (x ∷ xs) = let e = all_zeros xs in omega (arith, ints, e)
 pub sum_of_swap : {A B : Type 0} (f : A → B → ℤ) (xs : List A) (ys : List B) → sum_of (λ x. sum_of (f x) ys) xs ≡ sum_of (λ y. sum_of (λ x. f x y) xs) ys
 sum_of_swap f [] ys = sym (all_zeros ys)
 sum_of_swap f (x ∷ xs) ys = ap (λ z. sum_of (f x) ys +ℤ z) (sum_of_swap f xs ys) ∙ sym (sum_of-add (f x) (λ y. sum_of (λ x'. f x' y) xs) ys)
-
-pub sum_of_one : {A : Type 0} (w : A → ℤ) (x : A) → sum_of w (x ∷ []) ≡ w x
-sum_of_one w x = omega (arith, ints)
 
 -- a sum in which a single item counts
 pub sum_of_single : {A : Type 0} (w : A → ℤ) (xs ys : List A) (x : A) → All (λ y. w y ≡ pos 0) xs → All (λ y. w y ≡ pos 0) ys → sum_of w (xs ++ x ∷ ys) ≡ w x

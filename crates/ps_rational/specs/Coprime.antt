@@ -25,10 +25,6 @@ gcd_is a b = gcd_within_is (suc b) a b (omega arith)
 pub is_gcd : (a b g : ℕ) → IsGcd a b g → g ≡ gcd a b
 is_gcd a b g h = same_from_IsGcd a b g (gcd a b) h (gcd_is a b)
 
--- the gcd is positive where the first number is
-pub gcd_pos_left : (a b : ℕ) → 0 < a → 0 < gcd a b
-gcd_pos_left a b h = pos_of_dvd_of_pos (gcd_is a b).0 h
-
 -- the gcd is positive where the second number is
 pub gcd_pos_right : (a b : ℕ) → 0 < b → 0 < gcd a b
 gcd_pos_right a b h = pos_of_dvd_of_pos (gcd_is a b).1 h
