@@ -7,7 +7,7 @@ mod pool;
 
 pub use col::Col;
 pub use event::{Event, Trace};
-pub use pool::{MOST_WORLDS, Pool, PoolError};
+pub use pool::{MOST_WORLDS, Pool, PoolError, limits_have_these_numbers};
 
 #[cfg(test)]
 mod tests;

@@ -1,7 +1,8 @@
 //! Worlds in order, without repeats.
-ghost use Rattle.std.specs.Prelude.{◌≡◌, ◌↔◌, ◌++◌, ◌∷◌, [], ◌+◌, ◌<◌, ℕ, length, option_copied};
-ghost use Rattle.std.specs.Prelude.{OnOk, OnErr, IfOk, IsErrOf};
+ghost use Rattle.std.specs.Prelude.{◌≡◌, ◌↔◌, ◌++◌, ◌∷◌, [], ◌+◌, ◌-◌, ◌^◌, ◌<◌, ℕ, length};
+ghost use Rattle.std.specs.Prelude.{option_copied, OnOk, OnErr, IfOk, IsErrOf};
 ghost use Rattle.ps_pool.specs.Worlds.{AreDifferent, HasNumber, world_of};
+ghost use Rattle.ps_pool.specs.declared.pool.TheConstants.{MOST_WORLDS};
 
 use indexmap::IndexSet;
 use ps_formula::World;
@@ -11,6 +12,11 @@ use thiserror::Error;
 
 /// The most worlds of a pool.
 pub const MOST_WORLDS: u32 = u32::MAX;
+
+/// The most worlds by their number.
+pub fn limits_have_these_numbers()
+    ensures worlds { MOST_WORLDS ≡ 2 ^ 32 - 1 }
+{}
 
 /// Why a world was not added.
 #[derive(Clone, Copy, Debug, PartialEq, Eq, Error)]
