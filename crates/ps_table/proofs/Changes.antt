@@ -1,5 +1,5 @@
 -- Cells with changes.
-use Rattle.std.proofs.Common.{◌≡◌, ℕ, suc, ◌+◌, ◌*◌, ◌/◌, ◌%◌, ◌<◌, List, [], ◌∷◌, ◌++◌, length, get_or, set, take, get_or-set_same, get_or-set_other, arith, refl, sym, ap, ◌∙◌, subst}
+use Rattle.std.proofs.Common.{◌≡◌, ◌≢◌, ℕ, zero, suc, ◌+◌, ◌*◌, ◌/◌, ◌%◌, ◌<◌, ◌≤◌, inl, inr, List, [], ◌∷◌, ◌++◌, length, get_or, set, take, get_or-set_same, get_or-set_other, arith, refl, sym, ap, ◌∙◌, subst}
 use Rattle.std.proofs.lemmas.List.{length-set}
 use Rattle.std.proofs.lemmas.List.Elements.{All-append, All-nil}
 use Rattle.std.proofs.Math.Seq.{take-suc}
@@ -7,9 +7,12 @@ use Rattle.std.proofs.lemmas.Nat.{mod-mul-add, div-mul-add}
 use Rattle.ps_rational.specs.Rational.{Rational, zero_q}
 use Rattle.ps_table.specs.declared.change.Change.{Change}
 use Rattle.ps_table.specs.declared.pivot.Pivot.{Pivot}
-use Rattle.ps_table.specs.Grids.{GridCells, cell_in, pivoted_in, IsNarrowBeside, ArePivoted}
-use Rattle.ps_table.specs.Changes.{written, AreInside, IsUpTo}
+use Rattle.std.proofs.lemmas.Bool.{cases_eq}
+use Rattle.ps_rational.specs.Wide.{Fits, size_limit}
+use Rattle.ps_table.specs.Grids.{GridCells, cell_in, pivoted_in, IsNarrowBeside, ColumnFits, LosesNothing, ArePivoted}
+use Rattle.ps_table.specs.Changes.{written, AreInside, IsUpTo, IsUpToRow, IsUpToColumn}
 use Rattle.ps_table.proofs.Narrow.{all_more}
+use Rattle.ps_table.proofs.Zeros.{zero_scaled, own_kept, kept_value, kept_narrow}
 
 pub written_length : (cells : List Rational) (changes : List Change) → length (written cells changes) ≡ length cells
 written_length cells [] = refl
@@ -68,6 +71,31 @@ module _ (g : GridCells) (p : Pivot) (i j : ℕ) (cs : List Change) (row : i < g
         rest = λ m l. ap (λ zs. get_or zs m zero_q) next ∙ get_or-set_other w k m e zero_q (omega (arith, l)) ∙ up.rest m (omega (arith, l));
         narrow = more (λ m. IsNarrowBeside g p (m % g.rows) (m / g.rows)) up.narrow (at_place (IsNarrowBeside g p) narrow);
       }
+
+-- the next cell has a 0 in the pivot's column, and stays
+pub up_zero : (g : GridCells) (p : Pivot) (i j : ℕ) (cs : List Change) → i < g.rows → i ≢ p.row → cell_in g i p.column ≡ zero_q
+    → Fits (cell_in g i j).over → (cell_in g i j).under < size_limit → IsUpToRow g p i j cs → IsUpToRow g p (suc i) j cs
+up_zero g p i j cs row other nothing ho hu up = up_kept g p i j cs row up (λ _. kept_narrow g p i j (inr nothing) ho hu) (kept_value g p i j (inr nothing) other)
+
+-- in a column with a 0 in the pivot's row all cells stay
+module _ (g : GridCells) (p : Pivot) (j : ℕ) (cs : List Change) (zero_here : cell_in g p.row j ≡ zero_q) (fits : ColumnFits g j) (up : IsUpToColumn g p j cs) where
+  nothing_lost : (i : ℕ) → LosesNothing g p i j
+  nothing_lost i = inl (sym (zero_scaled (cell_in g p.row j) (cell_in g p.row p.column) zero_here) ∙ zero_here)
+
+  stays : (i : ℕ) → cell_in g i j ≡ pivoted_in g p i j
+  stays i = elim (cases_eq i p.row) [
+    | inl e ↦ own_kept g p i j e zero_here
+    | inr ne ↦ kept_value g p i j (nothing_lost i) ne
+  ]
+
+  skipped_to : (n : ℕ) → n ≤ g.rows → IsUpToRow g p n j cs
+  skipped_to zero h = subst (λ k. IsUpTo g p k cs) (omega arith) up
+  skipped_to (suc n) h =
+      let row : n < g.rows = omega arith in
+      up_kept g p n j cs row (skipped_to n (omega arith)) (λ _. kept_narrow g p n j (nothing_lost n) (fits n row).0 (fits n row).1) (stays n)
+
+  pub up_skipped : IsUpToColumn g p (suc j) cs
+  up_skipped = subst (λ k. IsUpTo g p k cs) (omega arith) (skipped_to g.rows (omega arith))
 
 -- the next cell changes, and its change was appended
 pub up_pushed : (g : GridCells) (p : Pivot) (i j : ℕ) (cs ds : List Change) → i < g.rows → IsUpTo g p (j * g.rows + i) cs → IsNarrowBeside g p i j

@@ -11,7 +11,8 @@ use Rattle.ps_rational.proofs.Cross.{quotient_cross}
 use Rattle.ps_rational.proofs.Field.{mul_comm}
 use Rattle.ps_rational.proofs.Whole.{whole-add}
 use Rattle.ps_rational.proofs.Scaling.{scaled_is}
-use Rattle.ps_table.specs.Places.{printed_limit, IsTooLargeToPrint}
+use Rattle.ps_table.specs.declared.limits.TheConstants.{PRINTED_LIMIT}
+use Rattle.ps_table.specs.Places.{IsTooLargeToPrint}
 use Rattle.ps_table.specs.Laws.{PrintedPlacesAreExact}
 
 over_of : Rational → ℤ
@@ -39,9 +40,9 @@ same_lcm a b = λ i. lcm (unsigned_abs (whole_over (pos a) i)) (unsigned_abs (wh
 
 pub printed_exact : PrintedPlacesAreExact
 printed_exact = record {
-  multiple = λ i a b op. (subst (λ k. printed_limit < k) (same_lcm a b), subst (λ k. printed_limit < k) (sym (same_lcm a b)));
+  multiple = λ i a b op. (subst (λ k. PRINTED_LIMIT < k) (same_lcm a b), subst (λ k. PRINTED_LIMIT < k) (sym (same_lcm a b)));
   multiplier = λ i big op x d. (subst IsTooLargeToPrint (scaled_over big x d), subst IsTooLargeToPrint (sym (scaled_over big x d)));
-  weight_multiple = λ i a b op. (subst (λ k. printed_limit < k) (same_lcm a b), subst (λ k. printed_limit < k) (sym (same_lcm a b)));
+  weight_multiple = λ i a b op. (subst (λ k. PRINTED_LIMIT < k) (same_lcm a b), subst (λ k. PRINTED_LIMIT < k) (sym (same_lcm a b)));
   weight = λ i big op x d. (subst IsTooLargeToPrint (scaled_over big x d), subst IsTooLargeToPrint (sym (scaled_over big x d)));
   total = λ i op y z. (subst IsTooLargeToPrint (sum_over y z), subst IsTooLargeToPrint (sym (sum_over y z)));
 }

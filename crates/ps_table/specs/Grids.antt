@@ -5,6 +5,7 @@ use Rattle.ps_frac.specs.declared.wide.Op.{Op}
 use Rattle.ps_frac.specs.declared.wide.Op.TheVariants.{Add, Sub, Mul, Div}
 use Rattle.ps_rational.specs.Rational.{Rational, mul, sub, div, zero_q}
 use Rattle.ps_rational.specs.Sums.{sum_to}
+use Rattle.ps_rational.specs.Wide.{Fits, size_limit}
 use Rattle.ps_table.specs.declared.place.Place.{Place}
 use Rattle.ps_table.specs.declared.place.WideAt.{WideAt}
 use Rattle.ps_table.specs.declared.pivot.Pivot.{Pivot}
@@ -36,6 +37,10 @@ pub record IsGrid (g : GridCells) : Type 0 where
   pub few : g.rows ≤ MOST_ROWS
   pub many : g.worlds < world_limit
   pub size : length g.cells ≡ suc (g.rows + g.worlds) * g.rows
+
+-- each number of column j is below the limit of sizes
+abbrev pub ColumnFits : GridCells → ℕ → Type 0
+ColumnFits g j = (i : ℕ) → i < g.rows → Fits (cell_in g i j).over × ((cell_in g i j).under < size_limit)
 
 -- the cells of so many rows and worlds
 abbrev pub cells_of : ℕ → ℕ → List Rational → GridCells
@@ -113,10 +118,6 @@ pub record IsNarrowCell (X : ℕ → ℕ → Rational) (p q i j : ℕ) : Type 0 
 abbrev pub IsTimesNarrow : GridCells → Pivot → ℕ → ℕ → Type 0
 IsTimesNarrow g p i j = ¬ IsOperationWide Mul (cell_in g i p.column) (scaled_in g p j)
 
--- the difference in row i of column j isn't refused
-abbrev pub IsMinusNarrow : GridCells → Pivot → ℕ → ℕ → Type 0
-IsMinusNarrow g p i j = ¬ IsOperationWide Sub (cell_in g i j) (lost_in g p i j)
-
 -- neither operation on row i of column j is refused
 abbrev pub IsCellNarrow : GridCells → Pivot → ℕ → ℕ → Type 0
 IsCellNarrow g p i j = IsNarrowCell (cell_in g) p.row p.column i j
@@ -168,10 +169,6 @@ AddsNothing g entries i m = (get_or entries m (pos 0) ≡ pos 0) ⊎ (cell_in g 
 -- the product in row i isn't refused as row m of a new world's column is added
 abbrev pub IsProductNarrow : GridCells → List ℤ → ℕ → ℕ → Type 0
 IsProductNarrow g entries i m = ¬ IsOperationWide Mul (cell_in g i (suc m)) (world_entry entries m)
-
--- the sum in row i isn't refused as row m of a new world's column is added
-abbrev pub IsSumNarrow : GridCells → List ℤ → ℕ → ℕ → Type 0
-IsSumNarrow g entries i m = ¬ IsOperationWide Add (sum_in g entries i m) (part_in g entries i m)
 
 -- no operation of a new world's column is refused in row i
 abbrev pub IsEntryNarrow : GridCells → List ℤ → ℕ → Type 0

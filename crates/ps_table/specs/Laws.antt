@@ -5,14 +5,15 @@ use Rattle.ps_frac.specs.declared.wide.Op.{Op}
 use Rattle.ps_rational.specs.Gcd.{lcm}
 use Rattle.ps_rational.specs.Rational.{Rational, whole}
 use Rattle.ps_rational.specs.Scaled.{scaled}
+use Rattle.ps_table.specs.declared.limits.TheConstants.{PRINTED_LIMIT}
 use Rattle.ps_table.specs.declared.place.Place.TheVariants.{Whole, Scaled, Weight, Weighed, Total}
-use Rattle.ps_table.specs.Places.{printed_limit, IsTooLargeToPrint, IsWide}
+use Rattle.ps_table.specs.Places.{IsTooLargeToPrint, IsWide}
 
 -- a place of a printed number is wide exactly where that number is too large: a least common multiple, a multiplier or a
 -- value times a multiple of its denominator, and a sum of weights
 pub record PrintedPlacesAreExact : Type 0 where
-  pub multiple : (i a b : ℕ) (op : Op) → IsWide (Whole i) op (whole (pos a)) (whole (pos b)) ↔ (printed_limit < lcm a b)
+  pub multiple : (i a b : ℕ) (op : Op) → IsWide (Whole i) op (whole (pos a)) (whole (pos b)) ↔ (PRINTED_LIMIT < lcm a b)
   pub multiplier : (i big : ℕ) (op : Op) (x : Rational) → x.under ∣ big → IsWide (Scaled i) op x (whole (pos big)) ↔ IsTooLargeToPrint (scaled big x)
-  pub weight_multiple : (i a b : ℕ) (op : Op) → IsWide (Weight i) op (whole (pos a)) (whole (pos b)) ↔ (printed_limit < lcm a b)
+  pub weight_multiple : (i a b : ℕ) (op : Op) → IsWide (Weight i) op (whole (pos a)) (whole (pos b)) ↔ (PRINTED_LIMIT < lcm a b)
   pub weight : (i big : ℕ) (op : Op) (x : Rational) → x.under ∣ big → IsWide (Weighed i) op x (whole (pos big)) ↔ IsTooLargeToPrint (scaled big x)
   pub total : (i : ℕ) (op : Op) (y z : ℤ) → IsWide (Total i) op (whole y) (whole z) ↔ IsTooLargeToPrint (y +ℤ z)

@@ -1,5 +1,5 @@
 -- The places where an operation can be refused, each with its operands, over a basis and the entries of its table.
-use Rattle.std.specs.Prelude.{◌≢◌, ℕ, suc, ◌^◌, ◌<◌, List, length, ℤ, pos, unsigned_abs, if◌then◌else◌}
+use Rattle.std.specs.Prelude.{◌≢◌, ℕ, suc, ◌<◌, List, length, ℤ, pos, unsigned_abs, if◌then◌else◌}
 use Rattle.std.proofs.Common.{ltb}
 use Rattle.ps_frac.specs.declared.wide.Op.{Op}
 use Rattle.ps_frac.specs.declared.wide.Op.TheVariants.{Add, Sub, Mul, Div, Lcm}
@@ -10,6 +10,7 @@ use Rattle.ps_rational.specs.Rational.{Rational, whole, add, mul, neg, div, inve
 use Rattle.ps_rational.specs.Scaled.{scaled}
 use Rattle.ps_rational.specs.Sums.{sum_to, int_sum_to}
 use Rattle.ps_basis.specs.Table.{carried_by}
+use Rattle.ps_table.specs.declared.limits.TheConstants.{PRINTED_LIMIT}
 use Rattle.ps_table.specs.declared.place.Place.{Place}
 use Rattle.ps_table.specs.declared.place.Place.TheVariants.{Ratio, Scale, Times, Minus, Cost, Whole, Scaled, Weight, Weighed, Total, NewTimes, NewPlus}
 use Rattle.ps_table.specs.declared.place.TableCol.{TableCol}
@@ -31,19 +32,19 @@ IsOperationWide Mul x y = ProductIsWide x y
 IsOperationWide Div x y = ProductIsWide x (inverse y)
 IsOperationWide Lcm x y = ⊥
 
--- the greatest size of a number that an answer prints
+-- the same as PRINTED_LIMIT, for the definitions of other crates
 abbrev pub printed_limit : ℕ
-printed_limit = 2 ^ 90
+printed_limit = PRINTED_LIMIT
 
 -- a number that an answer prints is too large
 abbrev pub IsTooLargeToPrint : ℤ → Type 0
-IsTooLargeToPrint z = printed_limit < unsigned_abs z
+IsTooLargeToPrint z = PRINTED_LIMIT < unsigned_abs z
 
 -- at a place of a printed number the result is too large to be printed, at each other one a named number is too large
 abbrev pub IsWide : Place → Op → Rational → Rational → Type 0
-IsWide (Whole i) op x y = printed_limit < lcm (unsigned_abs x.over) (unsigned_abs y.over)
+IsWide (Whole i) op x y = PRINTED_LIMIT < lcm (unsigned_abs x.over) (unsigned_abs y.over)
 IsWide (Scaled i) op x y = IsTooLargeToPrint (mul x y).over
-IsWide (Weight i) op x y = printed_limit < lcm (unsigned_abs x.over) (unsigned_abs y.over)
+IsWide (Weight i) op x y = PRINTED_LIMIT < lcm (unsigned_abs x.over) (unsigned_abs y.over)
 IsWide (Weighed i) op x y = IsTooLargeToPrint (mul x y).over
 IsWide (Total i) op x y = IsTooLargeToPrint (add x y).over
 IsWide (Ratio i) op x y = IsOperationWide op x y

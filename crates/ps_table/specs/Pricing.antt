@@ -4,7 +4,7 @@ use Rattle.ps_pool.specs.declared.col.Col.{Col}
 use Rattle.ps_table.specs.declared.costs.Costs.{Costs}
 use Rattle.ps_rational.specs.Rational.{Rational, fraction, mul}
 use Rattle.ps_rational.specs.Sums.{sum_to}
-use Rattle.ps_table.specs.Tableau.{Tableau, entry_at, basic_at, number_of, rows_of}
+use Rattle.ps_table.specs.Tableau.{Tableau, IsInside, entry_at, basic_at, number_of, rows_of}
 
 -- the costs are from -1 to 1
 pub record HasSmallCosts (costs : Costs) : Type 0 where
@@ -18,6 +18,10 @@ pub record HasCosts (costs : Costs) (t : Tableau) : Type 0 where
   pub homes : length costs.homes ≡ length t.kinds
   pub worlds : t.worlds ≤ length costs.worlds
   pub small : HasSmallCosts costs
+
+-- there is a cost of the column
+abbrev pub HasCostOf : Costs → Col → Type 0
+HasCostOf costs c = IsInside (length costs.homes) (length costs.worlds) c
 
 -- the cost of the column of this number
 abbrev pub cost_number : Costs → ℕ → ℤ

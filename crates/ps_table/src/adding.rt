@@ -2,8 +2,8 @@
 ghost use Rattle.std.specs.Prelude.{◌≡◌, suc, ◌<◌, IfOk, IfErr};
 ghost use Rattle.ps_table.specs.Places.{IsWideAt, IsRefusedAt, IsNarrow};
 ghost use Rattle.ps_table.specs.Grids.{IsNewColumn, GridNewPlaces, part_in, sum_in};
-ghost use Rattle.ps_table.specs.Grids.{IsProductNarrow, IsSumNarrow, IsEntryNarrow, IsMadeColumn};
-ghost use Rattle.ps_table.specs.Grids.{cell_in, AddsNothing, IsNarrowPart};
+ghost use Rattle.ps_table.specs.Grids.{IsProductNarrow, IsEntryNarrow, IsMadeColumn};
+ghost use Rattle.ps_table.specs.Grids.{cell_in, IsNarrowPart};
 
 use crate::at_place::{plus_at, times_at};
 use crate::error::TableError;
@@ -29,42 +29,6 @@ fn new_product(grid: &Grid<'_>, entries: &[i64], i: usize, m: usize) -> Result<F
     times_at(place, &grid.cell(i, 1 + m), &factor)
 }
 
-/// The sum of the products before row `m`, and that of row `m`.
-fn new_sum(
-    grid: &Grid<'_>,
-    entries: &[i64],
-    sum: &Fraction,
-    product: &Fraction,
-    i: usize,
-    m: usize,
-) -> Result<Fraction, WideAt>
-    requires column { IsNewColumn grid.now entries.now }
-    requires i_in { i < grid.now.rows }
-    requires m_in { m < grid.now.rows }
-    requires sum { sum.now ≡ sum_in grid.now entries.now i m }
-    requires product { product.now ≡ part_in grid.now entries.now i m }
-    ensures value { IfOk result (λ r. r ≡ sum_in grid.now entries.now i (suc m)) }
-    ensures narrow { IfOk result (λ _. IsSumNarrow grid.now entries.now i m) }
-    ensures refused { IfErr result (IsWideAt (GridNewPlaces grid.now entries.now)) }
-{
-    let place = Place::NewPlus {
-        row: i as u32,
-        home: m as u32,
-    };
-    plus_at(place, sum, product)
-}
-
-/// The sum with row `m` in it, where it adds nothing.
-fn kept_sum(grid: &Grid<'_>, entries: &[i64], sum: &Fraction, i: usize, m: usize) -> Fraction
-    requires zero { AddsNothing grid.now entries.now i m }
-    requires sum { sum.now ≡ sum_in grid.now entries.now i m }
-    ensures value { result ≡ sum_in grid.now entries.now i (suc m) }
-    ensures narrow { IsNarrowPart (cell_in grid.now) entries.now i m }
-{
-    sum.fits();
-    *sum
-}
-
 /// The sum of the products before row `m`, and of that of row `m`; where its entry or its home's
 /// cell is 0, no operation is made.
 fn sum_with(
@@ -83,10 +47,16 @@ fn sum_with(
     ensures refused { IfErr result (IsWideAt (GridNewPlaces grid.now entries.now)) }
 {
     if entries[m] == 0 || grid.cell(i, 1 + m).is_zero() {
-        return Ok(kept_sum(grid, entries, sum, i, m));
+        // Called for its clauses: a sum that fits isn't refused with 0.
+        sum.fits();
+        return Ok(*sum);
     }
     let product = new_product(grid, entries, i, m)?;
-    new_sum(grid, entries, sum, &product, i, m)
+    let place = Place::NewPlus {
+        row: i as u32,
+        home: m as u32,
+    };
+    plus_at(place, sum, &product)
 }
 
 /// Row `i` of a new world's column.

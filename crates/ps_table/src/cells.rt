@@ -8,14 +8,6 @@ use crate::place::TableCol;
 use ps_frac::Fraction;
 use ps_pool::Col;
 
-/// The place of row `row` of column `column`, in columns of `rows` rows and `len` cells.
-pub(crate) fn place(len: usize, rows: usize, row: usize, column: usize) -> usize
-    requires { column * rows + row < len }
-    ensures value { result ≡ column * rows + row }
-{
-    column * rows + row
-}
-
 /// Row `row` of column `column`, in columns of `rows` rows.
 pub(crate) fn cell(cells: &[Fraction], rows: usize, row: usize, column: usize) -> Fraction
     requires { column * rows + row < length cells.now }

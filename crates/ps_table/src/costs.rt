@@ -1,8 +1,8 @@
 //! Costs of columns.
 ghost use Rattle.std.specs.Prelude.{◌≡◌, ◌≤◌, length, pos, negsuc, ◌≤ℤ◌};
 ghost use Rattle.ps_rational.specs.Rational.{fraction, mul};
-ghost use Rattle.ps_table.specs.Tableau.{number_in, IsInside};
-ghost use Rattle.ps_table.specs.Pricing.{HasSmallCosts, cost_number};
+ghost use Rattle.ps_table.specs.Tableau.{number_in};
+ghost use Rattle.ps_table.specs.Pricing.{HasSmallCosts, HasCostOf, cost_number};
 
 use ps_frac::Fraction;
 use ps_io::List;
@@ -21,12 +21,10 @@ pub struct Costs {
 }
 
 /// The cost of a column.
-pub(crate) fn cost_of(costs: &Costs, rows: usize, worlds: usize, col: Col) -> i8
-    requires homes { length costs.now.homes ≡ rows }
-    requires worlds { worlds ≤ length costs.now.worlds }
+pub(crate) fn cost_of(costs: &Costs, col: Col) -> i8
     requires small { HasSmallCosts costs.now }
-    requires inside { IsInside rows worlds col }
-    ensures value { result ≡ cost_number costs.now (number_in rows col) }
+    requires priced { HasCostOf costs.now col }
+    ensures value { result ≡ cost_number costs.now (number_in (length costs.now.homes) col) }
     ensures low { negsuc 0 ≤ℤ result }
     ensures high { result ≤ℤ pos 1 }
 {

@@ -2,9 +2,9 @@
 ghost use Rattle.std.specs.Prelude.{◌≡◌, suc, ◌+◌, ◌*◌, ◌<◌, ◌≤◌, length};
 ghost use Rattle.ps_table.specs.declared.limits.TheConstants.{MOST_ROWS};
 ghost use Rattle.ps_table.specs.Tableau.{world_limit, number_shown, IsShown};
-ghost use Rattle.ps_table.specs.Grids.{GridCells, IsGrid, cell_in, width};
+ghost use Rattle.ps_table.specs.Grids.{GridCells, IsGrid, ColumnFits, cell_in, width};
 
-use crate::cells::{cell, place, shown};
+use crate::cells::{cell, shown};
 use crate::place::TableCol;
 use ps_frac::Fraction;
 use std::marker::Model;
@@ -66,7 +66,7 @@ impl<'a> Grid<'a> {
         ensures value { result ≡ column * self.now.rows + row }
         ensures within { result < length self.now.cells }
     {
-        place(self.cells.len(), self.rows, row, column)
+        column * self.rows + row
     }
 
     /// The cell of a row and a column.
@@ -77,6 +77,16 @@ impl<'a> Grid<'a> {
         ensures value { result ≡ cell_in self.now row column }
     {
         cell(self.cells, self.rows, row, column)
+    }
+
+    /// Each number of a column is below the limit of sizes: a law, no more than reads.
+    pub(crate) fn column_fits(&self, column: usize)
+        requires { column < width self.now }
+        ensures { ColumnFits self.now column }
+    {
+        for row in 0..self.rows() {
+            self.cell(row, column).fits();
+        }
     }
 
     /// The column of a number, as a refusal names it.

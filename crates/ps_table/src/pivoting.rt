@@ -1,12 +1,11 @@
 //! The cells that change in a pivot. A cell with a 0 in the pivot's row or column stays as it is.
-ghost use Rattle.std.specs.Prelude.{◌≡◌, suc, ◌+◌, ◌*◌, ◌<◌, IfOk, IfErr};
-ghost use Rattle.ps_rational.specs.Rational.{zero_q};
+ghost use Rattle.std.specs.Prelude.{◌≡◌, suc, ◌<◌, IfOk, IfErr};
 ghost use Rattle.ps_table.specs.Places.{IsWideAt, IsRefusedAt, IsNarrow};
 ghost use Rattle.ps_table.specs.Grids.{width, IsPivotOf, IsOtherCell, GridPivotPlaces};
-ghost use Rattle.ps_table.specs.Grids.{cell_in, scaled_in, IsScaleNarrow};
-ghost use Rattle.ps_table.specs.Grids.{lost_in, IsTimesNarrow, IsMinusNarrow, IsCellNarrow};
-ghost use Rattle.ps_table.specs.Grids.{LosesNothing, pivoted_in, ArePivoted};
-ghost use Rattle.ps_table.specs.Changes.{written, AreInside, IsUpTo};
+ghost use Rattle.ps_table.specs.Grids.{scaled_in, IsScaleNarrow};
+ghost use Rattle.ps_table.specs.Grids.{lost_in, IsTimesNarrow, IsCellNarrow};
+ghost use Rattle.ps_table.specs.Grids.{pivoted_in};
+ghost use Rattle.ps_table.specs.Changes.{AreInside, IsUpToRow, IsUpToColumn, ArePivotChanges};
 
 use crate::at_place::{divided_at, minus_at, times_at};
 use crate::change::Change;
@@ -53,29 +52,7 @@ fn lost(
     times_at(place, &grid.cell(row, pivot.column), scaled)
 }
 
-/// A cell less what it loses.
-fn reduced(
-    grid: &Grid<'_>,
-    pivot: &Pivot,
-    lost: &Fraction,
-    row: usize,
-    column: usize,
-) -> Result<Fraction, WideAt>
-    requires pivot { IsPivotOf grid.now pivot.now }
-    requires cell { IsOtherCell grid.now pivot.now row column }
-    requires lost { lost.now ≡ lost_in grid.now pivot.now row column }
-    ensures value { IfOk result (λ r. r ≡ pivoted_in grid.now pivot.now row column) }
-    ensures narrow { IfOk result (λ _. IsMinusNarrow grid.now pivot.now row column) }
-    ensures refused { IfErr result (IsWideAt (GridPivotPlaces grid.now pivot.now)) }
-{
-    let place = Place::Minus {
-        row: row as u32,
-        col: grid.shown(column),
-    };
-    minus_at(place, &grid.cell(row, column), lost)
-}
-
-/// A cell of another row than the pivot's, after the pivot.
+/// A cell of another row than the pivot's, after the pivot: less what it loses.
 fn changed(
     grid: &Grid<'_>,
     pivot: &Pivot,
@@ -91,46 +68,11 @@ fn changed(
     ensures refused { IfErr result (IsWideAt (GridPivotPlaces grid.now pivot.now)) }
 {
     let product = lost(grid, pivot, scaled, row, column)?;
-    reduced(grid, pivot, &product, row, column)
-}
-
-/// A cell with a 0 in the pivot's row or column stays as it is: a law, no more than reads.
-fn kept(grid: &Grid<'_>, pivot: &Pivot, row: usize, column: usize)
-    requires pivot { IsPivotOf grid.now pivot.now }
-    requires cell { IsOtherCell grid.now pivot.now row column }
-    requires zero { LosesNothing grid.now pivot.now row column }
-    ensures value { cell_in grid.now row column ≡ pivoted_in grid.now pivot.now row column }
-    ensures narrow { IsCellNarrow grid.now pivot.now row column }
-{
-    grid.cell(row, column).fits();
-}
-
-/// A cell whose column has a 0 in the pivot's row: no change is due.
-fn skip_cell(changes: &[Change], grid: &Grid<'_>, pivot: &Pivot, row: usize, column: usize)
-    requires pivot { IsPivotOf grid.now pivot.now }
-    requires row { row < grid.now.rows }
-    requires column { column < width grid.now }
-    requires zero { cell_in grid.now pivot.now.row column ≡ zero_q }
-    requires before { IsUpTo grid.now pivot.now (column * grid.now.rows + row) changes.now }
-    ensures after { IsUpTo grid.now pivot.now (column * grid.now.rows + suc row) changes.now }
-{
-    if pivot.row == row {
-        return;
-    }
-    kept(grid, pivot, row, column);
-}
-
-/// A column with a 0 in the pivot's row: no change is due. A law, no more than reads.
-fn skip_column(changes: &[Change], grid: &Grid<'_>, pivot: &Pivot, column: usize)
-    requires pivot { IsPivotOf grid.now pivot.now }
-    requires column { column < width grid.now }
-    requires zero { cell_in grid.now pivot.now.row column ≡ zero_q }
-    requires before { IsUpTo grid.now pivot.now (column * grid.now.rows) changes.now }
-    ensures after { IsUpTo grid.now pivot.now (suc column * grid.now.rows) changes.now }
-{
-    for row in 0..grid.rows() {
-        skip_cell(changes, grid, pivot, row, column);
-    }
+    let place = Place::Minus {
+        row: row as u32,
+        col: grid.shown(column),
+    };
+    minus_at(place, &grid.cell(row, column), &product)
 }
 
 /// Appends the change of a cell, by the pivot's new row, where the cell changes.
@@ -146,9 +88,9 @@ fn push_cell(
     requires row { row < grid.now.rows }
     requires column { column < width grid.now }
     requires scaled { scaled.now ≡ scaled_in grid.now pivot.now column }
-    requires before { IsUpTo grid.now pivot.now (column * grid.now.rows + row) changes.old.items }
-    ensures after { IfOk result (λ _. IsUpTo grid.now pivot.now
-        (column * grid.now.rows + suc row) changes.new.items) }
+    requires before { IsUpToRow grid.now pivot.now row column changes.old.items }
+    ensures after { IfOk result (λ _. IsUpToRow grid.now pivot.now (suc row) column
+        changes.new.items) }
     ensures refused { IfErr result (IsRefusedAt (GridPivotPlaces grid.now pivot.now)) }
 {
     let place = grid.place(row, column);
@@ -158,7 +100,8 @@ fn push_cell(
         return Ok(());
     }
     if grid.cell(row, pivot.column).is_zero() {
-        kept(grid, pivot, row, column);
+        // Called for its clauses: a cell that fits isn't refused less 0.
+        grid.cell(row, column).fits();
         return Ok(());
     }
     let entry = changed(grid, pivot, scaled, row, column)?;
@@ -177,9 +120,8 @@ fn push_column(
     requires pivot { IsPivotOf grid.now pivot.now }
     requires column { column < width grid.now }
     requires scaled { scaled.now ≡ scaled_in grid.now pivot.now column }
-    requires before { IsUpTo grid.now pivot.now (column * grid.now.rows) changes.old.items }
-    ensures after { IfOk result (λ _. IsUpTo grid.now pivot.now
-        (suc column * grid.now.rows) changes.new.items) }
+    requires before { IsUpToColumn grid.now pivot.now column changes.old.items }
+    ensures after { IfOk result (λ _. IsUpToColumn grid.now pivot.now (suc column) changes.new.items) }
     ensures refused { IfErr result (IsRefusedAt (GridPivotPlaces grid.now pivot.now)) }
 {
     for row in 0..grid.rows() {
@@ -197,14 +139,14 @@ fn with_column(
 ) -> Result<(), TableError>
     requires pivot { IsPivotOf grid.now pivot.now }
     requires column { column < width grid.now }
-    requires before { IsUpTo grid.now pivot.now (column * grid.now.rows) changes.old.items }
-    ensures after { IfOk result (λ _. IsUpTo grid.now pivot.now
-        (suc column * grid.now.rows) changes.new.items) }
+    requires before { IsUpToColumn grid.now pivot.now column changes.old.items }
+    ensures after { IfOk result (λ _. IsUpToColumn grid.now pivot.now (suc column) changes.new.items) }
     ensures narrow { IfOk result (λ _. IsScaleNarrow grid.now pivot.now column) }
     ensures refused { IfErr result (IsRefusedAt (GridPivotPlaces grid.now pivot.now)) }
 {
     if grid.cell(pivot.row, column).is_zero() {
-        skip_column(changes, grid, pivot, column);
+        // Called for its clauses: cells that fit aren't refused less 0.
+        grid.column_fits(column);
         return Ok(());
     }
     let scaled = quotient(grid, pivot, column)?;
@@ -219,8 +161,7 @@ pub(crate) fn pivot_changes(
 ) -> Result<Vec<Change>, TableError>
     requires pivot { IsPivotOf grid.now pivot.now }
     ensures inside { IfOk result (λ v. AreInside grid.now.cells v.items) }
-    ensures pivoted { IfOk result (λ v. ArePivoted grid.now pivot.now
-        (written grid.now.cells v.items)) }
+    ensures pivoted { IfOk result (λ v. ArePivotChanges grid.now pivot.now v.items) }
     ensures narrow { IfOk result (λ _. IsNarrow (GridPivotPlaces grid.now pivot.now)) }
     ensures refused { IfErr result (IsRefusedAt (GridPivotPlaces grid.now pivot.now)) }
 {

@@ -9,9 +9,9 @@ ghost use Rattle.ps_table.specs.Tableau.{IsPivot, IsAdded, StandsOn, StandsWith}
 ghost use Rattle.ps_table.specs.Pricing.{HasCosts, cost_at, part_at, carried_of, multiplier_of};
 ghost use Rattle.ps_table.specs.Places.{PivotPlaces, NewPlaces, CostPlaces, HomePlaces};
 ghost use Rattle.ps_table.specs.Places.{IsWideAt, IsRefusedAt, IsNarrow};
-ghost use Rattle.ps_table.specs.Grids.{grid_of, ArePivotedIn, IsMadeColumn};
+ghost use Rattle.ps_table.specs.Grids.{grid_of, IsMadeColumn};
 ghost use Rattle.ps_table.specs.Grids.{carried_before, IsSumNarrowAt};
-ghost use Rattle.ps_table.specs.Changes.{written, AreInside};
+ghost use Rattle.ps_table.specs.Changes.{AreInside, ArePivotChangesIn};
 
 use crate::adding::new_column;
 use crate::at_place::plus_at;
@@ -182,6 +182,7 @@ impl Table {
     {
         let part = self.part(costs, col, row);
         if part.is_zero() {
+            // Called for its clauses: a sum that fits isn't refused with 0.
             sum.fits();
             return Ok(*sum);
         }
@@ -194,8 +195,7 @@ impl Table {
         requires col { HasColumn self.now col }
         ensures value { result ≡ cost_at costs.now (number_of self.now col) }
     {
-        let cost = cost_of(costs, self.rows() as usize, self.worlds() as usize, col);
-        Fraction::new(cost as i128, 1)
+        Fraction::new(cost_of(costs, col) as i128, 1)
     }
 
     /// What row `row` carries of a column.
@@ -205,13 +205,7 @@ impl Table {
         requires row { row < rows_of self.now }
         ensures value { result ≡ part_at self.now costs.now (number_of self.now col) row }
     {
-        let cost = cost_of(
-            costs,
-            self.rows() as usize,
-            self.worlds() as usize,
-            self.basic(row),
-        );
-        cost_times(cost, &self.entry(row, col))
+        cost_times(cost_of(costs, self.basic(row)), &self.entry(row, col))
     }
 
     /// What the rows carry of a row's home.
@@ -265,8 +259,7 @@ impl Table {
         requires col { HasColumn self.now col }
         requires pivot { entry_of self.now row col ≢ zero_q }
         ensures inside { IfOk result (λ v. AreInside self.now.cells v.items) }
-        ensures pivoted { IfOk result (λ v. ArePivotedIn self.now row col
-            (written self.now.cells v.items)) }
+        ensures pivoted { IfOk result (λ v. ArePivotChangesIn self.now row col v.items) }
         ensures narrow { IfOk result (λ _. IsNarrow (PivotPlaces self.now row col)) }
         ensures refused { IfErr result (IsRefusedAt (PivotPlaces self.now row col)) }
     {

@@ -1,6 +1,9 @@
-use Rattle.std.proofs.Common.{◌≡◌, arith, ◌∙◌}
+use Rattle.std.proofs.Common.{◌≡◌, ◌≢◌, ◌<◌, arith, rules, subst, ◌∙◌}
+use Rattle.ps_rational.specs.Rational.{Rational, zero_q}
+use Rattle.ps_rational.specs.Wide.{Fits, size_limit}
+use Rattle.ps_table.specs.Grids.{cell_in}
 use Rattle.ps_table.proofs.Zeros.{own_scaled}
-use Rattle.ps_table.proofs.Changes.{up_kept, up_pushed}
+use Rattle.ps_table.proofs.Changes.{up_zero, up_pushed}
 use Rattle.ps_table.proofs.pivoting.push_cell.Goals as goal
 
 pub returns-then-row-pivot-clause-after : goal.returns-then-row-pivot-clause-after
@@ -12,7 +15,14 @@ returns-then-row-pivot-clause-after c =
 
 pub returns-then-is_zero-clause-after : goal.returns-then-is_zero-clause-after
 returns-then-is_zero-clause-after c =
-    up_kept c.args.grid.now c.args.pivot.now c.args.row c.args.column c.args.changes.now.items c.requires.row c.requires.before (λ _. c.kept.ensures.narrow) c.kept.ensures.value
+    let g = c.args.grid.now in
+    let p = c.args.pivot.now in
+    let other : c.args.row ≢ p.row = omega arith in
+    let nothing : cell_in g c.args.row p.column ≡ zero_q = search rules in
+    up_zero g p c.args.row c.args.column c.args.changes.now.items c.requires.row other nothing
+    (subst (λ (k : Rational). Fits k.over) c.cell-then-is_zero.ensures.value c.fits.ensures.over)
+    (subst (λ (k : Rational). k.under < size_limit) c.cell-then-is_zero.ensures.value c.fits.ensures.under)
+    c.requires.before
 
 pub returns-clause-after : goal.returns-clause-after
 returns-clause-after c =

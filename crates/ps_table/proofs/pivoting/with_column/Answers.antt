@@ -1,6 +1,7 @@
 use Rattle.std.proofs.Common.{◌≡◌, ◌∙◌, sym, rules}
 use Rattle.ps_rational.specs.Rational.{zero_q}
 use Rattle.ps_table.specs.Grids.{cell_in}
+use Rattle.ps_table.proofs.Changes.{up_skipped}
 use Rattle.ps_table.proofs.Zeros.{zero_scale_narrow}
 use Rattle.ps_table.proofs.pivoting.with_column.Goals as goal
 
@@ -10,3 +11,8 @@ returns-then-is_zero-clause-narrow c =
     let p = c.args.pivot.now in
     let z : c.cell.result ≡ zero_q = search rules in
     zero_scale_narrow (cell_in g p.row c.args.column) (cell_in g p.row p.column) (sym c.cell.ensures.value ∙ z)
+
+pub returns-then-is_zero-clause-after : goal.returns-then-is_zero-clause-after
+returns-then-is_zero-clause-after c =
+    let z : c.cell.result ≡ zero_q = search rules in
+    up_skipped c.args.grid.now c.args.pivot.now c.args.column c.args.changes.now.items (sym c.cell.ensures.value ∙ z) c.column_fits.ensures c.requires.before

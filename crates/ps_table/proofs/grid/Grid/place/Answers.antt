@@ -1,15 +1,7 @@
-use Rattle.std.proofs.Common.{◌<◌, ◌+◌, suc, length, subst, sym}
+use Rattle.std.proofs.Common.{◌<◌, ◌+◌, ◌*◌, suc, length, subst, sym}
 use Rattle.ps_table.specs.Grids.{GridCells}
 use Rattle.ps_table.proofs.Columns.{cell_within}
 use Rattle.ps_table.proofs.grid.Grid.place.Goals as goal
-
-pub place-requires : goal.place-requires
-place-requires c =
-    let n = c.self.inside.rows in
-    let w = suc (n + c.self.inside.worlds) in
-    let hr : c.args.row < n = subst (λ (g : GridCells). c.args.row < g.rows) (sym c.self.view_is) c.requires.row in
-    let hc : c.args.column < w = subst (λ (g : GridCells). c.args.column < suc (g.rows + g.worlds)) (sym c.self.view_is) c.requires.column in
-    cell_within c.args.row c.args.column n w (length c.self.inside.cells.now) hr hc c.self.invariant.size
 
 pub returns-clause-within : goal.returns-clause-within
 returns-clause-within c =
@@ -17,5 +9,5 @@ returns-clause-within c =
     let w = suc (n + c.self.inside.worlds) in
     let hr : c.args.row < n = subst (λ (g : GridCells). c.args.row < g.rows) (sym c.self.view_is) c.requires.row in
     let hc : c.args.column < w = subst (λ (g : GridCells). c.args.column < suc (g.rows + g.worlds)) (sym c.self.view_is) c.requires.column in
-    subst (λ (g : GridCells). c.place.result < length g.cells) c.self.view_is
-    (subst (λ k. k < length c.self.inside.cells.now) (sym c.place.ensures.value) (cell_within c.args.row c.args.column n w (length c.self.inside.cells.now) hr hc c.self.invariant.size))
+    subst (λ (g : GridCells). c.args.column * c.self.inside.rows + c.args.row < length g.cells) c.self.view_is
+    (cell_within c.args.row c.args.column n w (length c.self.inside.cells.now) hr hc c.self.invariant.size)

@@ -1,0 +1,26 @@
+use Rattle.std.proofs.Common.{◌<◌, ◌∙◌, subst, rules}
+use Rattle.ps_rational.specs.Rational.{Rational}
+use Rattle.ps_rational.specs.Wide.{Fits, size_limit}
+use Rattle.ps_table.specs.Grids.{AddsNothing, GridNewPlaces}
+use Rattle.ps_table.specs.Places.{at_new_plus}
+use Rattle.ps_table.proofs.Columns.{refused_at}
+use Rattle.ps_table.proofs.Zeros.{same_sum, part_narrow}
+use Rattle.ps_table.proofs.adding.sum_with.Goals as goal
+
+pub returns-then-entries-m-eq0-clause-value : goal.returns-then-entries-m-eq0-clause-value
+returns-then-entries-m-eq0-clause-value c =
+    let nothing : AddsNothing c.args.grid.now c.args.entries.now c.args.i c.args.m = search rules in
+    c.requires.sum ∙ same_sum c.args.grid.now c.args.entries.now c.args.i c.args.m nothing
+
+pub returns-then-entries-m-eq0-clause-narrow : goal.returns-then-entries-m-eq0-clause-narrow
+returns-then-entries-m-eq0-clause-narrow c =
+    let nothing : AddsNothing c.args.grid.now c.args.entries.now c.args.i c.args.m = search rules in
+    part_narrow c.args.grid.now c.args.entries.now c.args.i c.args.m nothing
+    (subst (λ (k : Rational). Fits k.over) c.requires.sum c.fits.ensures.over)
+    (subst (λ (k : Rational). k.under < size_limit) c.requires.sum c.fits.ensures.under)
+
+pub returns-clause-refused : goal.returns-clause-refused
+returns-clause-refused c =
+    refused_at (GridNewPlaces c.args.grid.now c.args.entries.now) c.plus_at.result _ _ _ _ _ _
+    c.requires.sum c.in_ok-product.ensures.value c.plus_at.ensures.operands c.plus_at.ensures.wide.0
+    (at_new_plus c.args.i c.args.m c.requires.i_in c.requires.m_in)
