@@ -4,7 +4,7 @@ use Rattle.std.proofs.Math.Nat.{mul-pos}
 use Rattle.ps_rational.specs.Coprime.{gcd_is}
 use Rattle.ps_rational.specs.Parts.{part_pos}
 use Rattle.ps_rational.specs.Gcd.{gcd, lcm}
-use Rattle.ps_table.specs.Places.{printed_limit}
+use Rattle.ps_table.specs.declared.limits.TheConstants.{PRINTED_LIMIT}
 
 times_above : (k b : ℕ) → 0 < k → b ≤ k * b
 times_above zero b h = absurd (omega (arith, h))
@@ -17,5 +17,5 @@ pub lcm_above : (a b : ℕ) → 0 < a → 0 < b → 0 < lcm a b
 lcm_above a b ha hb = mul-pos (quotient_above a b ha) hb
 
 -- where a number is too large to be printed, so is its least common multiple with another
-pub past_multiple : (a b : ℕ) → 0 < a → printed_limit < b → ¬ (lcm a b ≤ printed_limit)
+pub past_multiple : (a b : ℕ) → 0 < a → PRINTED_LIMIT < b → ¬ (lcm a b ≤ PRINTED_LIMIT)
 past_multiple a b ha hb h = let p : b ≤ lcm a b = times_above (a / gcd a b) b (quotient_above a b ha) in omega (arith, p, hb, h)

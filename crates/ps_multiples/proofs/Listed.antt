@@ -17,10 +17,10 @@ use Rattle.ps_table.specs.declared.place.WideAt.{WideAt}
 use Rattle.ps_table.specs.declared.error.TableError.{TableError}
 use Rattle.ps_table.specs.declared.error.TableError.TheVariants as refused
 use Rattle.ps_table.specs.declared.costs.Costs.{Costs}
-use Rattle.ps_table.specs.declared.limits.TheConstants.{MOST_ROWS}
+use Rattle.ps_table.specs.declared.limits.TheConstants.{MOST_ROWS, PRINTED_LIMIT}
 use Rattle.ps_table.specs.Tableau.{Tableau, IsTableau, rows_of}
 use Rattle.ps_table.specs.Pricing.{multiplier_of}
-use Rattle.ps_table.specs.Places.{IsWideAt, IsRefusedAt, IsTooLargeToPrint, HomePlaces, printed_limit, at_whole, at_scaled}
+use Rattle.ps_table.specs.Places.{IsWideAt, IsRefusedAt, IsTooLargeToPrint, HomePlaces, at_whole, at_scaled}
 use Rattle.ps_table.specs.Grids.{Names}
 use Rattle.ps_table.proofs.Printed.{printed_exact}
 use Rattle.ps_multiples.specs.Multiples.{multiple_of, DualPlaces, of_multiplier, of_home, AreScaled}
@@ -48,10 +48,10 @@ next_multiple xs i m r e f = f ∙ ap (λ k. lcm k (under_at xs i)) e ∙ ap (λ
 
 -- a multiple that is too large
 pub wide_multiple : (xs : List Rational) (i m : ℕ) (w : WideAt) → i < length xs → m ≡ multiple_before xs i
-    → Names (Whole i) Lcm (whole (pos m)) (whole (pos (under_at xs i))) w → printed_limit < lcm m (under_at xs i) → IsWideAt (ListPlaces xs) w
+    → Names (Whole i) Lcm (whole (pos m)) (whole (pos (under_at xs i))) w → PRINTED_LIMIT < lcm m (under_at xs i) → IsWideAt (ListPlaces xs) w
 wide_multiple xs i m w h e names wide =
     let P : ℕ → Type 0 = λ k. IsWideAt (ListPlaces xs) (record { place = Whole i; op = Lcm; left = whole (pos k); right = whole (pos (under_at xs i)) }) in
-    let past : printed_limit < lcm (multiple_before xs i) (under_at xs i) = subst (λ (k : ℕ). printed_limit < lcm k (under_at xs i)) e wide in
+    let past : PRINTED_LIMIT < lcm (multiple_before xs i) (under_at xs i) = subst (λ (k : ℕ). PRINTED_LIMIT < lcm k (under_at xs i)) e wide in
     let here : P (multiple_before xs i) = record { at = at_multiple i h; wide = (printed_exact.multiple i (multiple_before xs i) (under_at xs i) Lcm).1 past } in
     subst (IsWideAt (ListPlaces xs)) (sym names) (subst P (sym e) here)
 
@@ -75,18 +75,16 @@ one_more made z k P hk before here = elim (cases_eq k (length made)) [
 ]
 
 -- one more product
-pub next_product : (xs : List Rational) (i m : ℕ) (x : Rational) (made more : List ℤ) (z : ℤ) → m ≡ multiple_before xs (length xs) → x ≡ get_or xs i zero_q
-    → AreProducts xs (multiple_before xs (length xs)) i made → z ≡ scaled m x → unsigned_abs z ≤ printed_limit → more ≡ made ++ z ∷ []
-    → AreProducts xs (multiple_before xs (length xs)) (i + 1) more
-next_product xs i m x made more z e ex p is small grown =
-    let big = multiple_before xs (length xs) in
-    let exact : z ≡ scaled big (get_or xs i zero_q) = is ∙ (λ k. scaled (e k) (ex k)) in
+pub next_product : (xs : List Rational) (i big : ℕ) (x : Rational) (made more : List ℤ) (z : ℤ) → x ≡ get_or xs i zero_q
+    → AreProducts xs big i made → z ≡ scaled big x → unsigned_abs z ≤ PRINTED_LIMIT → more ≡ made ++ z ∷ [] → AreProducts xs big (i + 1) more
+next_product xs i big x made more z ex p is small grown =
+    let exact : z ≡ scaled big (get_or xs i zero_q) = is ∙ ap (scaled big) ex in
     let count : length (made ++ z ∷ []) ≡ i + 1 = length-append made (z ∷ []) ∙ ap (λ k. k + 1) p.count in
     let all : AreProducts xs big (i + 1) (made ++ z ∷ []) = record {
       count = count;
       each = λ k hk. one_more made z k (λ y. y ≡ scaled big (get_or xs k zero_q)) (omega (arith, hk, p.count))
           (λ l. p.each k (omega (arith, l, p.count))) (λ s. exact ∙ ap (λ j. scaled big (get_or xs j zero_q)) (sym (s ∙ p.count)));
-      small = λ k hk. one_more made z k (λ y. unsigned_abs y ≤ printed_limit) (omega (arith, hk, p.count))
+      small = λ k hk. one_more made z k (λ y. unsigned_abs y ≤ PRINTED_LIMIT) (omega (arith, hk, p.count))
           (λ l. p.small k (omega (arith, l, p.count))) (λ s. small);
     } in
     subst (AreProducts xs big (i + 1)) (sym grown) all
@@ -139,14 +137,14 @@ few_multipliers t costs xs h is = omega (arith, h.count, is.few)
 
 -- the products of the multipliers' list are the whole multiples of the multipliers
 pub scaled_all : (t : Tableau) (costs : Costs) (xs : List Rational) (multiple : ℕ) (numbers : List ℤ) → AreMultipliers t costs xs
-    → multiple ≡ multiple_before xs (length xs) → multiple ≤ printed_limit
-    → AreProducts xs (multiple_before xs (length xs)) (length xs) numbers → AreScaled t costs (record { multiple = multiple; numbers = numbers })
+    → multiple ≡ multiple_before xs (length xs) → multiple ≤ PRINTED_LIMIT
+    → AreProducts xs multiple (length xs) numbers → AreScaled t costs (record { multiple = multiple; numbers = numbers })
 scaled_all t costs xs multiple numbers h is small p =
     let e : multiple_before xs (length xs) ≡ multiple_of t costs = same_whole t costs xs h in
     record {
       multiple = is ∙ e;
       count = p.count ∙ h.count;
-      numbers = λ m hm. p.each m (omega (arith, hm, h.count)) ∙ (λ k. scaled (e k) (h.each m hm k));
-      small = subst (λ (k : ℕ). k ≤ printed_limit) (is ∙ e) small;
+      numbers = λ m hm. p.each m (omega (arith, hm, h.count)) ∙ (λ k. scaled ((is ∙ e) k) (h.each m hm k));
+      small = subst (λ (k : ℕ). k ≤ PRINTED_LIMIT) (is ∙ e) small;
       all_small = λ m hm. p.small m (omega (arith, hm, h.count));
     }

@@ -16,7 +16,8 @@ use Rattle.ps_table.specs.declared.place.Place.{Place}
 use Rattle.ps_table.specs.declared.costs.Costs.{Costs}
 use Rattle.ps_table.specs.Tableau.{Tableau, rows_of, basic_at, entry_at}
 use Rattle.ps_table.specs.Pricing.{multiplier_of}
-use Rattle.ps_table.specs.Places.{IsWide, IsNarrow, IsTooLargeToPrint, printed_limit, HomePlaces, at_whole, at_scaled, at_weight, at_weighed, at_total, weight_under}
+use Rattle.ps_table.specs.declared.limits.TheConstants.{PRINTED_LIMIT}
+use Rattle.ps_table.specs.Places.{IsWide, IsNarrow, IsTooLargeToPrint, HomePlaces, at_whole, at_scaled, at_weight, at_weighed, at_total, weight_under}
 use Rattle.ps_table.proofs.Printed.{printed_exact}
 use Rattle.ps_table.proofs.Narrow.{all_more}
 use Rattle.ps_bland.specs.Ready.{HasValues}
@@ -40,7 +41,7 @@ lcm_up (suc n) i d h hi = elim (cases_eq i (suc n)) [
 ]
 
 -- a multiple of some of the numbers is no greater than that of all
-lcm_within : (n i : ℕ) (d : ℕ → ℕ) → ArePositive n d → i < n → lcm_to n d ≤ printed_limit → ¬ (printed_limit < lcm (lcm_to i d) (d i))
+lcm_within : (n i : ℕ) (d : ℕ → ℕ) → ArePositive n d → i < n → lcm_to n d ≤ PRINTED_LIMIT → ¬ (PRINTED_LIMIT < lcm (lcm_to i d) (d i))
 lcm_within n i d h hi small = λ past.
     let up : lcm (lcm_to i d) (d i) ≤ lcm_to n d = lcm_up n (suc i) d h (omega (arith, hi)) in
     omega (arith, up, small, past)
@@ -63,7 +64,7 @@ sum_up (suc n) i f h hi = elim (cases_eq i (suc n)) [
 ]
 
 -- a sum of some numbers that are not below 0 is no greater than that of all
-sum_within : (n i : ℕ) (f : ℕ → ℤ) → ((k : ℕ) → k < n → pos 0 ≤ℤ f k) → i < n → unsigned_abs (int_sum_to n f) ≤ printed_limit
+sum_within : (n i : ℕ) (f : ℕ → ℤ) → ((k : ℕ) → k < n → pos 0 ≤ℤ f k) → i < n → unsigned_abs (int_sum_to n f) ≤ PRINTED_LIMIT
     → ¬ IsTooLargeToPrint (int_sum_to i f +ℤ f i)
 sum_within n i f h hi small = λ past.
     let low : pos 0 ≤ℤ (int_sum_to i f +ℤ f i) = sum_low (suc i) f (λ k hk. h k (omega (arith, hk, hi))) in
@@ -92,8 +93,8 @@ dual_nowhere t costs s homes h _ _ _ _ (of_multiplier _ _ _ _ (at_scaled i hi)) 
     let d : ℕ → ℕ = λ m. (multiplier_of t costs m).under in
     let divides : d i ∣ multiple_of t costs = lcm_to_multiple (rows_of t) d (λ k _. (multiplier_of t costs k).lowest.positive) i hi in
     let past = (printed_exact.multiplier i (multiple_of t costs) Mul (multiplier_of t costs i) divides).0 wide in
-    let small : unsigned_abs (scaled (multiple_of t costs) (multiplier_of t costs i)) ≤ printed_limit =
-    subst (λ z. unsigned_abs z ≤ printed_limit) (h.numbers i hi) (h.all_small i hi) in
+    let small : unsigned_abs (scaled (multiple_of t costs) (multiplier_of t costs i)) ≤ PRINTED_LIMIT =
+    subst (λ z. unsigned_abs z ≤ PRINTED_LIMIT) (h.numbers i hi) (h.all_small i hi) in
     omega (arith, past, small)
 
 -- where each home is narrow and all multiples are small, all places are narrow
@@ -109,25 +110,25 @@ weight_low t values k hk = cases (ltb (rows_of t) (basic_at t k))
     cases false = omega (arith, ints)
 
 model_nowhere : (t : Tableau) (m : ℕ) (rows : List ℤ) → HasValues t → IsPrintedMultiple (weight_multiple_of t) m → AreWeightRows t (rows_of t) rows
-    → unsigned_abs (total_of t) ≤ printed_limit → (place : Place) (op : Op) (l r : Rational) → ModelPlaces t place op l r → ¬ IsWide place op l r
+    → unsigned_abs (total_of t) ≤ PRINTED_LIMIT → (place : Place) (op : Op) (l r : Rational) → ModelPlaces t place op l r → ¬ IsWide place op l r
 model_nowhere t m rows values multiple h small _ _ _ _ (at_weight i hi weighed) = λ wide.
     let n = rows_of t in
     let d : ℕ → ℕ = weight_under n (basic_at t) (entry_at t) in
-    let past : printed_limit < lcm (lcm_to i d) (entry_at t i 0).under = (printed_exact.weight_multiple i (lcm_to i d) (entry_at t i 0).under Lcm).0 wide in
-    let here : printed_limit < lcm (lcm_to i d) (d i) = subst (λ (k : ℕ). printed_limit < lcm (lcm_to i d) k) (sym (weighed_under n (basic_at t) (entry_at t) i weighed)) past in
-    let within : lcm_to n d ≤ printed_limit = subst (λ (k : ℕ). k ≤ printed_limit) multiple.value multiple.small in
+    let past : PRINTED_LIMIT < lcm (lcm_to i d) (entry_at t i 0).under = (printed_exact.weight_multiple i (lcm_to i d) (entry_at t i 0).under Lcm).0 wide in
+    let here : PRINTED_LIMIT < lcm (lcm_to i d) (d i) = subst (λ (k : ℕ). PRINTED_LIMIT < lcm (lcm_to i d) k) (sym (weighed_under n (basic_at t) (entry_at t) i weighed)) past in
+    let within : lcm_to n d ≤ PRINTED_LIMIT = subst (λ (k : ℕ). k ≤ PRINTED_LIMIT) multiple.value multiple.small in
     lcm_within n i d (λ k _. under_above n (basic_at t) (entry_at t) k) hi within here
 model_nowhere t m rows values multiple h small _ _ _ _ (at_weighed i hi weighed) = λ wide.
     let past = (printed_exact.weight i (weight_multiple_of t) Mul (entry_at t i 0) (weighed_divides t i hi weighed)).0 wide in
-    let within : unsigned_abs (weight_of t i) ≤ printed_limit = subst (λ z. unsigned_abs z ≤ printed_limit) (h.each i hi) (h.small i hi) in
+    let within : unsigned_abs (weight_of t i) ≤ PRINTED_LIMIT = subst (λ z. unsigned_abs z ≤ PRINTED_LIMIT) (h.each i hi) (h.small i hi) in
     let same = weighed_weight (rows_of t) (basic_at t) (entry_at t) i weighed in
-    let here : unsigned_abs (scaled (weight_multiple_of t) (entry_at t i 0)) ≤ printed_limit = subst (λ z. unsigned_abs z ≤ printed_limit) same within in
+    let here : unsigned_abs (scaled (weight_multiple_of t) (entry_at t i 0)) ≤ PRINTED_LIMIT = subst (λ z. unsigned_abs z ≤ PRINTED_LIMIT) same within in
     omega (arith, past, here)
 model_nowhere t m rows values multiple h small _ _ _ _ (at_total i hi weighed) = λ wide.
     sum_within (rows_of t) i (weight_of t) (weight_low t values) hi small ((printed_exact.total i Add (total_to_row t i) (weight_of t i)).0 wide)
 
 -- where the multiple, each weight and their sum are small, all places are narrow
 pub model_narrow : (t : Tableau) (m : ℕ) (rows : List ℤ) (total : ℤ) → HasValues t → IsPrintedMultiple (weight_multiple_of t) m → AreWeightRows t (rows_of t) rows
-    → total ≡ total_of t → unsigned_abs total ≤ printed_limit → IsNarrow (ModelPlaces t)
+    → total ≡ total_of t → unsigned_abs total ≤ PRINTED_LIMIT → IsNarrow (ModelPlaces t)
 model_narrow t m rows total values multiple h is small =
-    record { nowhere = model_nowhere t m rows values multiple h (subst (λ z. unsigned_abs z ≤ printed_limit) is small) }
+    record { nowhere = model_nowhere t m rows values multiple h (subst (λ z. unsigned_abs z ≤ PRINTED_LIMIT) is small) }

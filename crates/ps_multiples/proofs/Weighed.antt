@@ -15,7 +15,8 @@ use Rattle.ps_rational.proofs.Multiples.{lcm_to_multiple}
 use Rattle.ps_table.specs.declared.place.Place.TheVariants.{Weight, Weighed, Total}
 use Rattle.ps_table.specs.declared.place.WideAt.{WideAt}
 use Rattle.ps_table.specs.Tableau.{Tableau, rows_of, basic_at, entry_at}
-use Rattle.ps_table.specs.Places.{IsWideAt, IsTooLargeToPrint, printed_limit, IsWeighed, weight_under, weight_at, weight_multiple_to, at_weight, at_weighed, at_total}
+use Rattle.ps_table.specs.declared.limits.TheConstants.{PRINTED_LIMIT}
+use Rattle.ps_table.specs.Places.{IsWideAt, IsTooLargeToPrint, IsWeighed, weight_under, weight_at, weight_multiple_to, at_weight, at_weighed, at_total}
 use Rattle.ps_table.specs.Grids.{Names}
 use Rattle.ps_table.proofs.Printed.{printed_exact}
 use Rattle.ps_multiples.specs.Multiples.{weight_of, weight_multiple_of, ModelPlaces}
@@ -100,7 +101,7 @@ passed_multiple t i m h values not p =
     record { value = p.value ∙ sym (unweighed_multiple t i (values i h) not); positive = p.positive; small = p.small }
 
 pub next_multiple : (t : Tableau) (i m r : ℕ) (x : Rational) → IsWeighedIn t i → IsPrintedMultiple (multiple_to_row t i) m → x ≡ entry_at t i 0
-    → r ≡ lcm m x.under → 0 < r → r ≤ printed_limit → IsPrintedMultiple (multiple_to_row t (suc i)) r
+    → r ≡ lcm m x.under → 0 < r → r ≤ PRINTED_LIMIT → IsPrintedMultiple (multiple_to_row t (suc i)) r
 next_multiple t i m r x w p ex e positive small = record {
   value = e ∙ (λ k. lcm (p.value k) (ex k).under) ∙ sym (weighed_multiple t i w);
   positive = positive;
@@ -122,12 +123,12 @@ passed_total t i total h values not e =
 
 -- ---- refusals
 pub wide_weight : (t : Tableau) (i m : ℕ) (x : Rational) (w : WideAt) → i < rows_of t → IsWeighedIn t i → IsPrintedMultiple (multiple_to_row t i) m → x ≡ entry_at t i 0
-    → Names (Weight i) Lcm (whole (pos m)) (whole (pos x.under)) w → printed_limit < lcm m x.under → IsWideAt (ModelPlaces t) w
+    → Names (Weight i) Lcm (whole (pos m)) (whole (pos x.under)) w → PRINTED_LIMIT < lcm m x.under → IsWideAt (ModelPlaces t) w
 wide_weight t i m x w h weighed p ex names wide =
     let P : ℕ → Rational → Type 0 = λ k y. IsWideAt (ModelPlaces t) (record { place = Weight i; op = Lcm; left = whole (pos k); right = whole (pos y.under) }) in
     let a = multiple_to_row t i in
     let b = entry_at t i 0 in
-    let past : printed_limit < lcm a b.under = subst (λ (k : ℕ). printed_limit < lcm k b.under) p.value (subst (λ (y : Rational). printed_limit < lcm m y.under) ex wide) in
+    let past : PRINTED_LIMIT < lcm a b.under = subst (λ (k : ℕ). PRINTED_LIMIT < lcm k b.under) p.value (subst (λ (y : Rational). PRINTED_LIMIT < lcm m y.under) ex wide) in
     let here : P a b = record { at = at_weight i h weighed; wide = (printed_exact.weight_multiple i a b.under Lcm).1 past } in
     subst (IsWideAt (ModelPlaces t)) (sym names) (subst (λ (k : ℕ). P k x) (sym p.value) (subst (P a) (sym ex) here))
 

@@ -7,7 +7,8 @@ use Rattle.ps_table.specs.declared.place.Place.{Place}
 use Rattle.ps_table.specs.declared.costs.Costs.{Costs}
 use Rattle.ps_table.specs.Tableau.{Tableau, rows_of, basic_at, entry_at}
 use Rattle.ps_table.specs.Pricing.{cost_at, multiplier_of}
-use Rattle.ps_table.specs.Places.{printed_limit, HomePlaces, MultiplierPlace, WeightPlace, multiple_to, weight_multiple_to, weight_at}
+use Rattle.ps_table.specs.declared.limits.TheConstants.{PRINTED_LIMIT}
+use Rattle.ps_table.specs.Places.{HomePlaces, MultiplierPlace, WeightPlace, multiple_to, weight_multiple_to, weight_at}
 use Rattle.ps_multiples.specs.declared.scaled.Scaled.{Scaled}
 use Rattle.ps_multiples.specs.declared.weights.Weights.{Weights}
 use Rattle.ps_rational.specs.Sums.{int_sum_to}
@@ -26,8 +27,8 @@ pub record AreScaled (t : Tableau) (costs : Costs) (s : Scaled) : Type 0 where
   pub multiple : s.multiple ≡ multiple_of t costs
   pub count : length s.numbers ≡ rows_of t
   pub numbers : (m : ℕ) → m < rows_of t → get_or s.numbers m (pos 0) ≡ whole_multiplier t costs m
-  pub small : multiple_of t costs ≤ printed_limit
-  pub all_small : (m : ℕ) → m < rows_of t → unsigned_abs (get_or s.numbers m (pos 0)) ≤ printed_limit
+  pub small : multiple_of t costs ≤ PRINTED_LIMIT
+  pub all_small : (m : ℕ) → m < rows_of t → unsigned_abs (get_or s.numbers m (pos 0)) ≤ PRINTED_LIMIT
 
 -- the places of the whole multiples of a table's multipliers: of what is carried of each home, and of the multiples
 pub data DualPlaces (t : Tableau) (costs : Costs) : Place → Op → Rational → Rational → Type 0 where
@@ -57,5 +58,5 @@ pub record AreWeights (t : Tableau) (w : Weights) : Type 0 where
   pub total : w.total ≡ total_of t
   pub count : length w.rows ≡ rows_of t
   pub rows : (i : ℕ) → i < rows_of t → get_or w.rows i (pos 0) ≡ weight_of t i
-  pub small : unsigned_abs w.total ≤ printed_limit
-  pub all_small : (i : ℕ) → i < rows_of t → unsigned_abs (get_or w.rows i (pos 0)) ≤ printed_limit
+  pub small : unsigned_abs w.total ≤ PRINTED_LIMIT
+  pub all_small : (i : ℕ) → i < rows_of t → unsigned_abs (get_or w.rows i (pos 0)) ≤ PRINTED_LIMIT

@@ -7,11 +7,14 @@ use Rattle.ps_rational.specs.Rational.{Rational, whole, zero_q}
 use Rattle.ps_rational.specs.Scaled.{scaled}
 use Rattle.ps_table.specs.declared.place.Place.{Place}
 use Rattle.ps_table.specs.declared.place.Place.TheVariants.{Whole, Scaled}
+use Rattle.ps_table.specs.declared.place.WideAt.{WideAt}
 use Rattle.ps_table.specs.declared.costs.Costs.{Costs}
 use Rattle.ps_table.specs.Tableau.{Tableau, rows_of, basic_at, entry_at}
 use Rattle.ps_table.specs.Pricing.{multiplier_of}
+use Rattle.ps_table.specs.Grids.{Names}
 use Rattle.ps_rational.specs.Sums.{int_sum_to}
-use Rattle.ps_table.specs.Places.{printed_limit, HomePlaces, IsNarrow, IsWeighed, weight_multiple_to}
+use Rattle.ps_table.specs.declared.limits.TheConstants.{PRINTED_LIMIT}
+use Rattle.ps_table.specs.Places.{HomePlaces, IsNarrow, IsWeighed, weight_multiple_to}
 use Rattle.ps_multiples.specs.Multiples.{weight_of}
 
 -- the multiplier of each row
@@ -36,11 +39,15 @@ pub data ListPlaces (xs : List Rational) : Place → Op → Rational → Rationa
   at_multiple : (i : ℕ) → i < length xs → ListPlaces xs (Whole i) Lcm (whole (pos (multiple_before xs i))) (whole (pos (under_at xs i)))
   at_product : (i : ℕ) → i < length xs → ListPlaces xs (Scaled i) Mul (get_or xs i zero_q) (whole (pos (multiple_before xs (length xs))))
 
+-- a refusal of the least common multiple of two numbers at this place
+abbrev pub NamesMultiple : Place → ℕ → ℕ → WideAt → Type 0
+NamesMultiple place m n w = Names place Lcm (whole (pos m)) (whole (pos n)) w
+
 -- the first n numbers of a list times a multiple, each small enough to be printed
 pub record AreProducts (xs : List Rational) (big n : ℕ) (numbers : List ℤ) : Type 0 where
   pub count : length numbers ≡ n
   pub each : (i : ℕ) → i < n → get_or numbers i (pos 0) ≡ scaled big (get_or xs i zero_q)
-  pub small : (i : ℕ) → i < n → unsigned_abs (get_or numbers i (pos 0)) ≤ printed_limit
+  pub small : (i : ℕ) → i < n → unsigned_abs (get_or numbers i (pos 0)) ≤ PRINTED_LIMIT
 
 -- ---- weights
 -- the basic column of a row is a world of value above 0
@@ -55,7 +62,7 @@ multiple_to_row t i = weight_multiple_to (length t.kinds) (basic_at t) (entry_at
 pub record IsPrintedMultiple (big number : ℕ) : Type 0 where
   pub value : number ≡ big
   pub positive : 0 < number
-  pub small : number ≤ printed_limit
+  pub small : number ≤ PRINTED_LIMIT
 
 -- the sum of the weights before row i
 abbrev pub total_to_row : Tableau → ℕ → ℤ
@@ -65,4 +72,4 @@ total_to_row t i = int_sum_to i (weight_of t)
 pub record AreWeightRows (t : Tableau) (n : ℕ) (rows : List ℤ) : Type 0 where
   pub count : length rows ≡ n
   pub each : (i : ℕ) → i < n → get_or rows i (pos 0) ≡ weight_of t i
-  pub small : (i : ℕ) → i < n → unsigned_abs (get_or rows i (pos 0)) ≤ printed_limit
+  pub small : (i : ℕ) → i < n → unsigned_abs (get_or rows i (pos 0)) ≤ PRINTED_LIMIT

@@ -5,8 +5,10 @@ ghost use Rattle.std.specs.Option.{SomeIff};
 ghost use Rattle.ps_rational.specs.Gcd.{lcm};
 ghost use Rattle.ps_rational.specs.Rational.{whole};
 ghost use Rattle.ps_rational.specs.Scaled.{scaled};
-ghost use Rattle.ps_table.specs.Places.{printed_limit, IsTooLargeToPrint};
+ghost use Rattle.ps_table.specs.declared.limits.TheConstants.{PRINTED_LIMIT};
+ghost use Rattle.ps_table.specs.Places.{IsTooLargeToPrint};
 ghost use Rattle.ps_table.specs.Grids.{Names};
+ghost use Rattle.ps_multiples.specs.Rows.{NamesMultiple};
 
 use ps_frac::{Fraction, Op, lcm_upto};
 use ps_table::{PRINTED_LIMIT, Place, WideAt, can_be_printed};
@@ -15,9 +17,9 @@ use ps_table::{PRINTED_LIMIT, Place, WideAt, can_be_printed};
 #[tactic(auto, using(crate::proofs::Least::past_multiple))]
 fn printed_multiple(a: u128, b: u128) -> Option<u128>
     requires a_positive { 0 < a }
-    requires a_small { a ≤ printed_limit }
+    requires a_small { a ≤ PRINTED_LIMIT }
     requires b_positive { 0 < b }
-    ensures { SomeIff result (lcm a b ≤ printed_limit) (lcm a b) }
+    ensures { SomeIff result (lcm a b ≤ PRINTED_LIMIT) (lcm a b) }
 {
     if PRINTED_LIMIT < b {
         return None;
@@ -32,13 +34,12 @@ fn printed_multiple(a: u128, b: u128) -> Option<u128>
 #[tactic(auto, using(crate::proofs::Least::lcm_above))]
 pub(crate) fn multiple_at(place: Place, multiple: u128, number: &Fraction) -> Result<u128, WideAt>
     requires positive { 0 < multiple }
-    requires small { multiple ≤ printed_limit }
+    requires small { multiple ≤ PRINTED_LIMIT }
     ensures value { IfOk result (λ r. r ≡ lcm multiple number.now.under) }
     ensures positive { IfOk result (λ r. 0 < r) }
-    ensures within { IfOk result (λ r. r ≤ printed_limit) }
-    ensures wide { IfErr result (λ _. printed_limit < lcm multiple number.now.under) }
-    ensures operands { IfErr result
-        (Names place Op.Lcm (whole (pos multiple)) (whole (pos number.now.under))) }
+    ensures within { IfOk result (λ r. r ≤ PRINTED_LIMIT) }
+    ensures wide { IfErr result (λ _. PRINTED_LIMIT < lcm multiple number.now.under) }
+    ensures operands { IfErr result (NamesMultiple place multiple number.now.under) }
 {
     let under = number.denominator();
     match printed_multiple(multiple, under.unsigned_abs()) {
@@ -54,9 +55,8 @@ pub(crate) fn multiple_at(place: Place, multiple: u128, number: &Fraction) -> Re
 
 /// A fraction times a multiple of its denominator, where it is small enough to be printed.
 fn printed_product(number: &Fraction, multiple: u128) -> Option<i128>
-    requires { multiple ≤ printed_limit }
-    ensures { SomeIff result (unsigned_abs (scaled multiple number.now) ≤ printed_limit)
-        (scaled multiple number.now) }
+    requires { multiple ≤ PRINTED_LIMIT }
+    ensures { let z = scaled multiple number.now in SomeIff result (unsigned_abs z ≤ PRINTED_LIMIT) z }
 {
     let times = multiple / number.denominator().unsigned_abs();
     let product = number.numerator().checked_mul(times as i128)?;
@@ -69,9 +69,9 @@ fn printed_product(number: &Fraction, multiple: u128) -> Option<i128>
 
 /// A fraction times a multiple of its denominator.
 pub(crate) fn product_at(place: Place, number: &Fraction, multiple: u128) -> Result<i128, WideAt>
-    requires { multiple ≤ printed_limit }
+    requires { multiple ≤ PRINTED_LIMIT }
     ensures value { IfOk result (λ r. r ≡ scaled multiple number.now) }
-    ensures within { IfOk result (λ r. unsigned_abs r ≤ printed_limit) }
+    ensures within { IfOk result (λ r. unsigned_abs r ≤ PRINTED_LIMIT) }
     ensures wide { IfErr result (λ _. IsTooLargeToPrint (scaled multiple number.now)) }
     ensures operands { IfErr result (Names place Op.Mul number.now (whole (pos multiple))) }
 {
@@ -88,10 +88,10 @@ pub(crate) fn product_at(place: Place, number: &Fraction, multiple: u128) -> Res
 
 /// The sum of two weights.
 pub(crate) fn sum_at(place: Place, total: i128, weight: i128) -> Result<i128, WideAt>
-    requires total { unsigned_abs total ≤ printed_limit }
-    requires weight { unsigned_abs weight ≤ printed_limit }
+    requires total { unsigned_abs total ≤ PRINTED_LIMIT }
+    requires weight { unsigned_abs weight ≤ PRINTED_LIMIT }
     ensures value { IfOk result (λ r. r ≡ total +ℤ weight) }
-    ensures within { IfOk result (λ r. unsigned_abs r ≤ printed_limit) }
+    ensures within { IfOk result (λ r. unsigned_abs r ≤ PRINTED_LIMIT) }
     ensures wide { IfErr result (λ _. IsTooLargeToPrint (total +ℤ weight)) }
     ensures operands { IfErr result (Names place Op.Add (whole total) (whole weight)) }
 {

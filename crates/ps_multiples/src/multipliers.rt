@@ -1,9 +1,9 @@
 //! Whole multiples of a table's multipliers.
 ghost use Rattle.std.specs.Prelude.{◌≡◌, ◌<◌, ◌≤◌, length, IfOk, IfErr};
 ghost use Rattle.ps_table.specs.Tableau.{rows_of};
-ghost use Rattle.ps_table.specs.declared.limits.TheConstants.{MOST_ROWS};
+ghost use Rattle.ps_table.specs.declared.limits.TheConstants.{MOST_ROWS, PRINTED_LIMIT};
 ghost use Rattle.ps_table.specs.Pricing.{HasCosts};
-ghost use Rattle.ps_table.specs.Places.{printed_limit, IsWideAt, IsRefusedAt, IsNarrow};
+ghost use Rattle.ps_table.specs.Places.{IsWideAt, IsRefusedAt, IsNarrow};
 ghost use Rattle.ps_multiples.specs.Multiples.{AreScaled, DualPlaces};
 ghost use Rattle.ps_multiples.specs.Rows.{AreMultipliers, AreHomesNarrow};
 ghost use Rattle.ps_multiples.specs.Rows.{multiple_before, ListPlaces, AreProducts};
@@ -35,7 +35,7 @@ fn multipliers(alloc: Global, table: &Table, costs: &Costs) -> Result<List<Fract
 fn multiple_of(numbers: &[Fraction]) -> Result<u128, WideAt>
     requires { length numbers.now ≤ MOST_ROWS }
     ensures value { IfOk result (λ r. r ≡ multiple_before numbers.now (length numbers.now)) }
-    ensures small { IfOk result (λ r. r ≤ printed_limit) }
+    ensures small { IfOk result (λ r. r ≤ PRINTED_LIMIT) }
     ensures refused { IfErr result (IsWideAt (ListPlaces numbers.now)) }
 {
     let mut multiple = 1;
@@ -49,9 +49,8 @@ fn multiple_of(numbers: &[Fraction]) -> Result<u128, WideAt>
 fn products(alloc: Global, numbers: &[Fraction], multiple: u128) -> Result<List<i128>, TableError>
     requires few { length numbers.now ≤ MOST_ROWS }
     requires multiple { multiple ≡ multiple_before numbers.now (length numbers.now) }
-    requires small { multiple ≤ printed_limit }
-    ensures value { IfOk result (AreProducts numbers.now
-        (multiple_before numbers.now (length numbers.now)) (length numbers.now)) }
+    requires small { multiple ≤ PRINTED_LIMIT }
+    ensures value { IfOk result (AreProducts numbers.now multiple (length numbers.now)) }
     ensures refused { IfErr result (IsRefusedAt (ListPlaces numbers.now)) }
 {
     let mut made = List::new(alloc);

@@ -2,7 +2,8 @@
 ghost use Rattle.std.specs.Prelude.{◌≡◌, suc, ◌<◌, ◌≤◌, ◌≤ℤ◌, ◌<ℤ◌, pos, length, get_or};
 ghost use Rattle.std.specs.Prelude.{◌↔◌, IsTrue, IfOk, IfErr, unsigned_abs};
 ghost use Rattle.ps_table.specs.Tableau.{rows_of};
-ghost use Rattle.ps_table.specs.Places.{printed_limit, IsWideAt, IsRefusedAt, IsNarrow};
+ghost use Rattle.ps_table.specs.declared.limits.TheConstants.{PRINTED_LIMIT};
+ghost use Rattle.ps_table.specs.Places.{IsWideAt, IsRefusedAt, IsNarrow};
 ghost use Rattle.ps_bland.specs.Ready.{HasValues};
 ghost use Rattle.ps_multiples.specs.Multiples.{weight_of, weight_multiple_of, ModelPlaces};
 ghost use Rattle.ps_multiples.specs.Multiples.{AreWeights, total_of};
@@ -70,7 +71,7 @@ fn row_weight(table: &Table, row: u32, multiple: u128) -> Result<i128, WideAt>
     requires values { HasValues table.now }
     requires multiple { IsPrintedMultiple (weight_multiple_of table.now) multiple }
     ensures value { IfOk result (λ r. r ≡ weight_of table.now row) }
-    ensures within { IfOk result (λ r. unsigned_abs r ≤ printed_limit) }
+    ensures within { IfOk result (λ r. unsigned_abs r ≤ PRINTED_LIMIT) }
     ensures refused { IfErr result (IsWideAt (ModelPlaces table.now)) }
 {
     if !is_weighed(table, row) {
@@ -99,11 +100,11 @@ fn total_with(table: &Table, row: u32, total: i128, weight: i128) -> Result<i128
     requires row { row < rows_of table.now }
     requires values { HasValues table.now }
     requires before { total ≡ total_to_row table.now row }
-    requires total_within { unsigned_abs total ≤ printed_limit }
+    requires total_within { unsigned_abs total ≤ PRINTED_LIMIT }
     requires weight { weight ≡ weight_of table.now row }
-    requires within { unsigned_abs weight ≤ printed_limit }
+    requires within { unsigned_abs weight ≤ PRINTED_LIMIT }
     ensures with { IfOk result (λ r. r ≡ total_to_row table.now (suc row)) }
-    ensures within { IfOk result (λ r. unsigned_abs r ≤ printed_limit) }
+    ensures within { IfOk result (λ r. unsigned_abs r ≤ PRINTED_LIMIT) }
     ensures refused { IfErr result (IsWideAt (ModelPlaces table.now)) }
 {
     if !is_weighed(table, row) {
@@ -117,7 +118,7 @@ fn total_of(table: &Table, rows: &[i128]) -> Result<i128, WideAt>
     requires values { HasValues table.now }
     requires rows { AreWeightRows table.now (rows_of table.now) rows.now }
     ensures value { IfOk result (λ r. r ≡ total_of table.now) }
-    ensures within { IfOk result (λ r. unsigned_abs r ≤ printed_limit) }
+    ensures within { IfOk result (λ r. unsigned_abs r ≤ PRINTED_LIMIT) }
     ensures refused { IfErr result (IsWideAt (ModelPlaces table.now)) }
 {
     let mut total = 0;

@@ -1,5 +1,5 @@
 use Rattle.std.proofs.Common.{◌≡◌, ◌<◌, ◌≤◌}
-use Rattle.ps_table.specs.Places.{printed_limit}
+use Rattle.ps_table.specs.declared.limits.TheConstants.{PRINTED_LIMIT}
 use Rattle.ps_multiples.specs.Rows.{multiple_before}
 use Rattle.ps_multiples.proofs.multipliers.multiple_of.Given as goal
 
@@ -7,5 +7,5 @@ abbrev pub invariant-loop-i : goal.invariant-loop-i
 invariant-loop-i l = record {
   value : l.multiple ≡ multiple_before l.numbers l.i;
   positive : 0 < l.multiple;
-  small : l.multiple ≤ printed_limit;
+  small : l.multiple ≤ PRINTED_LIMIT;
 }

@@ -20,4 +20,4 @@ loop-i-preserved c =
     get_or_read c.args.numbers.now c.loop-i.i c.index-numbers-i.result c.loop-i-test.true c.index-numbers-i.is zero_q in
     let grown : c.push.new.self ≡ c.loop-i.made ++ c.in_ok-product_at.field-0 ∷ [] = search rules in
     next_product c.args.numbers.now c.loop-i.i c.args.multiple c.index-numbers-i.result c.loop-i.made c.push.new.self c.in_ok-product_at.field-0
-    c.requires.multiple x c.loop-i.invariant c.in_ok-product_at.ensures.value c.in_ok-product_at.ensures.within grown
+    x c.loop-i.invariant c.in_ok-product_at.ensures.value c.in_ok-product_at.ensures.within grown
