@@ -10,14 +10,11 @@ use Rattle.ps_lex.specs.declared.position.Position.{Position}
 use Rattle.ps_lex.specs.declared.mode.Mode.TheVariants as mode
 use Rattle.ps_lex.specs.Places.{behind, along}
 use Rattle.ps_lex.specs.Lexing.{LexerState, letter_kept, continued, stepped_in, token_ended, with_byte, bad_place}
-use Rattle.ps_lex.specs.Passing.{with_bytes, TellsNothing, TellNothing, Passes, AllPassed, letters_kept, TakesLetters, EndsLetters}
+use Rattle.ps_lex.specs.Passing.{with_bytes, TellsNothing, TellNothing, Passes, letters_kept, TakesLetters}
 use Rattle.ps_lex.proofs.Passing.{along_none, along_more, all_more, with_place, first_and_others}
 use Rattle.ps_lex.proofs.Words.{state}
 
 -- a word and bytes of words, one after the other
-
-pub letters_none : (w bytes : List ℕ) → TakesLetters w bytes w bytes
-letters_none w bytes = record { passed = []; bytes_are = refl; all = tt; kept = refl }
 
 kept_after : (w bs : List ℕ) (b : ℕ) → letters_kept w (bs ++ b ∷ []) ≡ letter_kept (letters_kept w bs) b
 kept_after w [] b = refl
@@ -50,10 +47,6 @@ letters_capped w (b ∷ bs) h = letters_capped (letter_kept w b) bs (kept_capped
 
 pub taken_capped : (w bytes n left : List ℕ) → TakesLetters w bytes n left → length w ≤ 33 → length n ≤ 33
 taken_capped w bytes n left t h = subst (λ u. length u ≤ 33) (sym t.kept) (letters_capped w t.passed h)
-
-pub letters_end : (left : List ℕ) → 1 ≤ length left → is_word_byte (get_or left 0 0) ≡ false → EndsLetters left
-letters_end [] l h = tt
-letters_end (b ∷ bs) l h = h
 
 -- what the lexer stands in behind them
 
@@ -98,7 +91,3 @@ letters_pass w bytes n left began here s m count t es ec em =
       state = st;
       place = ap (λ z. z.here) st ∙ with_place (state (mode.Word w) began here) t.passed;
     })
-
-pub ended_letters : (w left : List ℕ) → EndsLetters left → AllPassed (mode.Word w) left
-ended_letters w [] h = tt
-ended_letters w (b ∷ bs) h = h

@@ -43,9 +43,6 @@ place_next : (s : LexerState) (b : ℕ) → (with_byte s b).here ≡ behind s.he
 unfolding with_byte
 place_next s b = refl
 
-pub passes_none : (s : LexerState) (bytes : List ℕ) → Passes s bytes s bytes
-passes_none s bytes = record { passed = []; bytes_are = refl; nothing_told = tt; state = refl; place = refl }
-
 passes_more : (s n : LexerState) (bytes left : List ℕ) (b : ℕ) → Passes s bytes n (b ∷ left) → TellsNothing n b → Passes s bytes (with_byte n b) left
 passes_more s n bytes left b p q = record {
   passed = p.passed ++ b ∷ [];
@@ -169,9 +166,6 @@ line_along c began here bytes left count n a k e f =
     subst (λ m. Passes (gap_state c began here) bytes m left) (sym f)
     (subst (λ bs. Passes (gap_state c began here) bs (along_line c began here count) left) (sym a.bytes_are)
     (line_passes c began here a.passed left count a.all k (subst (λ bs. length bs - length left ≡ count) a.bytes_are e)))
-
-pub line_none : (c : Bool) (bytes : List ℕ) → AreInLine c bytes bytes
-line_none c bytes = record { passed = []; bytes_are = refl; all = tt }
 
 pub all_more : (p : ℕ → Bool) (bs : List ℕ) (b : ℕ) → AllByRecursion (λ x. IsTrue (p x)) bs → p b ≡ true → AllByRecursion (λ x. IsTrue (p x)) (bs ++ b ∷ [])
 all_more p [] b h k = (k, tt)

@@ -30,7 +30,7 @@ lined_offset : (x : Bool) (p : Position) → (lined x p).offset ≡ p.offset + 1
 lined_offset true p = refl
 lined_offset false p = refl
 
-next_offset : (p : Position) (b : ℕ) → (behind p b).offset ≡ p.offset + 1
+pub next_offset : (p : Position) (b : ℕ) → (behind p b).offset ≡ p.offset + 1
 unfolding behind
 next_offset p b = lined_offset (b == 10) p
 

@@ -50,6 +50,26 @@ letter_kept w b = if nat_lt (length w) KEPT_LETTERS then w ++ b ∷ [] else w
 abbrev pub whole : Digits → Token
 whole d = token.Number (numeral.Whole d)
 
+-- behind a `/`: a digit goes on with the number, which else ended before the `/`, where no token begins
+abbrev pub slash_followed : Digits → Position → Position → ℕ → Step
+slash_followed d slash began b =
+    if is_digit b then continued (mode.Quotient d (with_digit no_digits b)) began
+    else record { mode = mode.Bad slash; began = began; ended = Some (whole d) }
+
+-- and so behind a `.`
+abbrev pub point_followed : Digits → Position → Position → ℕ → Step
+point_followed d point began b =
+    if is_digit b then continued (mode.Decimal (with_digit d b) 1) began
+    else record { mode = mode.Bad point; began = began; ended = Some (whole d) }
+
+-- the mode behind a further byte of a symbol; where it doesn't fit, no token begins at the symbol's first byte
+abbrev pub symbol_followed : Mode → Position → ℕ → Mode
+symbol_followed mode.Minus began b = if b == 62 then mode.Sign symbol.Arrow else mode.Bad began
+symbol_followed mode.Less began b = if b == 61 then mode.Sign symbol.LessEquals else if b == 45 then mode.LessMinus else mode.Bad began
+symbol_followed mode.LessMinus began b = if b == 62 then mode.Sign symbol.DoubleArrow else mode.Bad began
+symbol_followed mode.Greater began b = if b == 61 then mode.Sign symbol.GreaterEquals else mode.Bad began
+symbol_followed m began b = mode.Bad began
+
 -- what a byte does that stands here, by the mode and the place where the token began that isn't whole
 abbrev pub stepped_in : Mode → Position → Position → ℕ → Step
 stepped_in mode.Between began here b = record { mode = begun here b; began = here; ended = None }
@@ -59,21 +79,14 @@ stepped_in (mode.Whole d) began here b =
     if is_digit b then continued (mode.Whole (with_digit d b)) began
     else if b == 47 then continued (mode.Slash d here) began
     else if b == 46 then continued (mode.Point d here) began else ended (whole d) here b
-stepped_in (mode.Slash d slash) began here b =
-    if is_digit b then continued (mode.Quotient d (with_digit no_digits b)) began
-    else record { mode = mode.Bad slash; began = began; ended = Some (whole d) }
+stepped_in (mode.Slash d slash) began here b = slash_followed d slash began b
 stepped_in (mode.Quotient d e) began here b = if is_digit b then continued (mode.Quotient d (with_digit e b)) began else ended (token.Number (numeral.Quotient d e)) here b
-stepped_in (mode.Point d point) began here b =
-    if is_digit b then continued (mode.Decimal (with_digit d b) 1) began
-    else record { mode = mode.Bad point; began = began; ended = Some (whole d) }
+stepped_in (mode.Point d point) began here b = point_followed d point began b
 stepped_in (mode.Decimal d k) began here b =
     if is_digit b then continued (mode.Decimal (with_digit d b) (min (k + 1) MANY_DIGITS)) began else ended (token.Number (numeral.Decimal d k)) here b
-stepped_in mode.Minus began here b = continued (if b == 62 then mode.Sign symbol.Arrow else mode.Bad began) began
-stepped_in mode.Less began here b = continued (if b == 61 then mode.Sign symbol.LessEquals else if b == 45 then mode.LessMinus else mode.Bad began) began
-stepped_in mode.LessMinus began here b = continued (if b == 62 then mode.Sign symbol.DoubleArrow else mode.Bad began) began
-stepped_in mode.Greater began here b = continued (if b == 61 then mode.Sign symbol.GreaterEquals else mode.Bad began) began
 stepped_in (mode.Sign s) began here b = ended (token.Sign s) here b
 stepped_in (mode.Bad p) began here b = continued (mode.Bad p) began
+stepped_in m began here b = continued (symbol_followed m began b) began
 
 -- what the bytes so far stand in, where the token began that isn't whole, and where the next byte stands
 pub record LexerState : Type 0 where
@@ -140,14 +153,6 @@ IsCappedMode (mode.Quotient d e) = IsCapped d × IsCapped e
 IsCappedMode (mode.Point d p) = IsCapped d
 IsCappedMode (mode.Decimal d k) = IsCapped d × (k ≤ MANY_DIGITS)
 IsCappedMode m = Unit {0}
-
--- the front of a symbol that is no symbol by itself
-abbrev pub IsBegunSymbol : Mode → Type 0
-IsBegunSymbol mode.Minus = Unit {0}
-IsBegunSymbol mode.Less = Unit {0}
-IsBegunSymbol mode.LessMinus = Unit {0}
-IsBegunSymbol mode.Greater = Unit {0}
-IsBegunSymbol m = ⊥
 
 -- a token, where it is one, with where it began
 abbrev pub with_place : Option Token → Position → List (Token × Position)

@@ -1,6 +1,6 @@
 //! Blanks and comments.
-ghost use Rattle.std.specs.Prelude.{◌≡◌, ◌<◌, ◌≤◌, ◌-◌, ◌^◌, true, false, IsTrue, length};
-ghost use Rattle.ps_lex.specs.Places.{IsWithin, HasRoom};
+ghost use Rattle.std.specs.Prelude.{◌≡◌, ◌<◌, ◌≤◌, true, false, IsTrue, length};
+ghost use Rattle.ps_lex.specs.Places.{HasRoom};
 ghost use Rattle.ps_lex.specs.Lexing.{with_byte};
 ghost use Rattle.ps_lex.specs.Passing.{gap_mode, gap_state_of, is_passed, AllPassed};
 ghost use Rattle.ps_lex.specs.Passing.{Passes, AreInLine, along_line};
@@ -31,7 +31,7 @@ impl Gap {
     #[tactic(auto, unfolding(crate::specs::Lexing::with_byte, crate::specs::Lexing::begun))]
     fn with(self, byte: u8) -> Gap
         requires passed { IsTrue (is_passed (gap_mode self.is_comment) byte) }
-        requires room { IsWithin (2 ^ 32 - 2) self.here }
+        requires room { HasRoom 1 self.here }
         ensures { gap_state_of result ≡ with_byte (gap_state_of self) byte }
     {
         let mut here = self.here;

@@ -1,6 +1,6 @@
 //! Cuts bytes into tokens.
-ghost use Rattle.std.specs.Prelude.{◌≡◌, ◌-◌, ◌^◌, length};
-ghost use Rattle.ps_lex.specs.Places.{IsWithin, HasRoom};
+ghost use Rattle.std.specs.Prelude.{◌≡◌, length};
+ghost use Rattle.ps_lex.specs.Places.{HasRoom};
 ghost use Rattle.ps_lex.specs.Lexing.{new_lexer, token_ended, with_byte, last_token};
 ghost use Rattle.ps_lex.specs.Lexing.{last_bad, bad_place, is_within_token, with_begun};
 ghost use Rattle.ps_lex.specs.Passing.{Passes, AllPassed};
@@ -49,7 +49,7 @@ impl Lexer {
     /// 2^32 - 1.
     #[tactic(auto, unfolding(crate::specs::Lexing::token_ended, crate::specs::Lexing::with_byte))]
     pub fn take(&mut self, byte: u8) -> Option<Token>
-        requires room { IsWithin (2 ^ 32 - 2) self.old.here }
+        requires room { HasRoom 1 self.old.here }
         ensures token { result ≡ token_ended self.old byte }
         ensures state { self.new ≡ with_byte self.old byte }
     {
@@ -70,7 +70,7 @@ impl Lexer {
     // What is begun ends before the byte.
     #[inline(always)]
     fn end(&mut self, byte: u8) -> Option<Token>
-        requires room { IsWithin (2 ^ 32 - 2) self.old.here }
+        requires room { HasRoom 1 self.old.here }
         ensures token { result ≡ last_token self.old.mode }
         ensures state { self.new ≡ with_begun self.old byte }
     {
@@ -82,7 +82,7 @@ impl Lexer {
     // The byte stands outside of tokens, or begins one.
     #[inline(always)]
     fn begin(&mut self, byte: u8)
-        requires room { IsWithin (2 ^ 32 - 2) self.old.here }
+        requires room { HasRoom 1 self.old.here }
         ensures { self.new ≡ with_begun self.old byte }
     {
         self.mode = begin(self.here, byte);
@@ -93,7 +93,7 @@ impl Lexer {
     // The byte goes on with what is begun, or ends it.
     #[tactic(auto, unfolding(crate::specs::Lexing::token_ended, crate::specs::Lexing::with_byte))]
     fn step(&mut self, byte: u8) -> Option<Token>
-        requires room { IsWithin (2 ^ 32 - 2) self.old.here }
+        requires room { HasRoom 1 self.old.here }
         ensures token { result ≡ token_ended self.old byte }
         ensures state { self.new ≡ with_byte self.old byte }
     {

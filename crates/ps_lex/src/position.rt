@@ -1,6 +1,6 @@
 //! Positions in a text.
-ghost use Rattle.std.specs.Prelude.{◌≡◌, ◌-◌, ◌^◌};
-ghost use Rattle.ps_lex.specs.Places.{start, behind, along, IsWithin, HasRoom};
+ghost use Rattle.std.specs.Prelude.{◌≡◌};
+ghost use Rattle.ps_lex.specs.Places.{start, behind, along, HasRoom};
 
 /// A line and a column, both from 1 on, and how many bytes stand before; a column counts bytes.
 #[derive(Clone, Copy, Debug, PartialEq, Eq)]
@@ -29,7 +29,7 @@ impl Position {
     #[inline(always)]
     #[tactic(auto, unfolding(crate::specs::Places::behind))]
     pub(crate) fn advance(&mut self, byte: u8)
-        requires room { IsWithin (2 ^ 32 - 2) self.old }
+        requires room { HasRoom 1 self.old }
         ensures { self.new ≡ behind self.old byte }
     {
         self.offset += 1;

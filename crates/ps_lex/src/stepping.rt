@@ -1,7 +1,8 @@
 //! One more byte.
 ghost use Rattle.std.specs.Prelude.{◌≡◌, ◌≤◌, Some};
 ghost use Rattle.ps_lex.specs.Lexing.{begun, symbol_begun, ended, continued, whole, stepped_in};
-ghost use Rattle.ps_lex.specs.Lexing.{IsCappedMode, IsBegunSymbol};
+ghost use Rattle.ps_lex.specs.Lexing.{slash_followed, point_followed, symbol_followed};
+ghost use Rattle.ps_lex.specs.Lexing.{IsCappedMode};
 ghost use Rattle.ps_lex.specs.Counted.{IsCapped};
 ghost use Rattle.ps_lex.specs.declared.digits.TheConstants.{MANY_DIGITS};
 
@@ -137,9 +138,9 @@ fn step_whole(digits: Digits, began: Position, here: Position, byte: u8) -> Step
     }
 }
 
-fn step_slash(over: Digits, slash: Position, began: Position, here: Position, byte: u8) -> Step
+fn step_slash(over: Digits, slash: Position, began: Position, byte: u8) -> Step
     requires capped { IsCapped over }
-    ensures step { result ≡ stepped_in (Mode.Slash over slash) began here byte }
+    ensures step { result ≡ slash_followed over slash began byte }
     ensures capped { IsCappedMode result.mode }
 {
     if is_digit(byte) {
@@ -162,9 +163,9 @@ fn step_quotient(over: Digits, under: Digits, began: Position, here: Position, b
     end(Token::Number(Numeral::Quotient { over, under }), here, byte)
 }
 
-fn step_point(whole: Digits, point: Position, began: Position, here: Position, byte: u8) -> Step
+fn step_point(whole: Digits, point: Position, began: Position, byte: u8) -> Step
     requires capped { IsCapped whole }
-    ensures step { result ≡ stepped_in (Mode.Point whole point) began here byte }
+    ensures step { result ≡ point_followed whole point began byte }
     ensures capped { IsCappedMode result.mode }
 {
     if is_digit(byte) {
@@ -192,21 +193,20 @@ fn step_decimal(all: Digits, decimals: u8, began: Position, here: Position, byte
     )
 }
 
-// The second or third byte of a symbol; where it doesn't fit, no token begins at the first.
-fn step_symbol(mode: Mode, began: Position, here: Position, byte: u8) -> Step
-    requires begun { IsBegunSymbol mode }
-    ensures step { result ≡ stepped_in mode began here byte }
-    ensures capped { IsCappedMode result.mode }
+// The mode behind the second or third byte of a symbol; where it doesn't fit, no token begins at the
+// first.
+fn follow_symbol(mode: Mode, began: Position, byte: u8) -> Mode
+    ensures mode { result ≡ symbol_followed mode began byte }
+    ensures capped { IsCappedMode result }
 {
-    let next = match (mode, byte) {
+    match (mode, byte) {
         (Mode::Minus, b'>') => Mode::Sign(Symbol::Arrow),
         (Mode::Less, b'=') => Mode::Sign(Symbol::LessEquals),
         (Mode::Less, b'-') => Mode::LessMinus,
         (Mode::LessMinus, b'>') => Mode::Sign(Symbol::DoubleArrow),
         (Mode::Greater, b'=') => Mode::Sign(Symbol::GreaterEquals),
         _ => Mode::Bad(began),
-    };
-    go_on(next, began)
+    }
 }
 
 /// What one more byte does.
@@ -230,12 +230,15 @@ pub(crate) fn step(mode: Mode, began: Position, here: Position, byte: u8) -> Ste
         }
         Mode::Word(letters) => step_word(letters, began, here, byte),
         Mode::Whole(digits) => step_whole(digits, began, here, byte),
-        Mode::Slash { over, slash } => step_slash(over, slash, began, here, byte),
+        Mode::Slash { over, slash } => step_slash(over, slash, began, byte),
         Mode::Quotient { over, under } => step_quotient(over, under, began, here, byte),
-        Mode::Point { whole, point } => step_point(whole, point, began, here, byte),
+        Mode::Point { whole, point } => step_point(whole, point, began, byte),
         Mode::Decimal { all, decimals } => step_decimal(all, decimals, began, here, byte),
         Mode::Sign(symbol) => end(Token::Sign(symbol), here, byte),
         Mode::Bad(place) => go_on(Mode::Bad(place), began),
-        mode => step_symbol(mode, began, here, byte),
+        mode => {
+            let next = follow_symbol(mode, began, byte);
+            go_on(next, began)
+        }
     }
 }
