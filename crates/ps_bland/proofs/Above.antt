@@ -12,7 +12,7 @@ use Rattle.ps_table.specs.declared.costs.Costs.{Costs}
 use Rattle.ps_table.specs.Tableau.{Tableau, StandsFor, IsColumn}
 use Rattle.ps_table.specs.Pricing.{cost_at, cost_number, HasCosts}
 use Rattle.ps_rule.specs.Rule.{IsFeasible}
-use Rattle.ps_bland.specs.declared.phase.Phase.TheVariants.{Upper}
+use Rattle.ps_rule.specs.declared.phase.Phase.TheVariants.{Upper}
 use Rattle.ps_bland.specs.Columns.{AreColumns}
 use Rattle.ps_bland.specs.Rules.{simplex_of}
 use Rattle.ps_bland.specs.Ready.{HasUnitRow, HasValues, IsReady}

@@ -11,7 +11,7 @@ use Rattle.ps_pool.specs.declared.col.Col.TheVariants as col
 use Rattle.ps_table.specs.Tableau.{Tableau, number_in, number_of, IsInside, HasColumn}
 use Rattle.ps_table.specs.Pricing.{cost_at}
 use Rattle.ps_table.specs.Places.{CostPlaces, IsWideAt, IsNarrow}
-use Rattle.ps_bland.specs.declared.phase.Phase.{Phase}
+use Rattle.ps_rule.specs.declared.phase.Phase.{Phase}
 use Rattle.ps_bland.specs.Rules.{simplex_of, is_artificial, artificial_at, is_artificial_column}
 use Rattle.ps_bland.specs.Ends.{IsEntryWide, IsDueWide}
 use Rattle.ps_bland.specs.Rounds.{AreEntriesNarrow, AreNarrowBefore}

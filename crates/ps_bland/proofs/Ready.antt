@@ -16,16 +16,16 @@ use Rattle.ps_basis.proofs.Units.{unit_at-same, unit_at-other}
 use Rattle.std.proofs.Common.{List, ◌≤◌, ◌-◌}
 use Rattle.ps_table.specs.Pricing.{HasCosts}
 use Rattle.ps_rule.proofs.Rays.{no_ray, no_ray_upper}
-use Rattle.ps_rule.specs.Rule.{Second, Improves, IsFeasible, IsArtificialRow, HasLeastRatio, Leaves}
+use Rattle.ps_rule.specs.Rule.{Improves, IsFeasible, IsArtificialRow, HasLeastRatio, LeavesInPhaseTwo, Leaves}
 use Rattle.ps_table.specs.declared.costs.Costs.{Costs}
 use Rattle.ps_pool.specs.declared.col.Col.{Col}
 use Rattle.ps_pool.specs.declared.col.Col.TheVariants as col
 use Rattle.ps_table.specs.Tableau.{Tableau, IsTableau, IsInside, IsPivot, IsAdded, basic_at, entry_at, number_in}
 use Rattle.ps_table.specs.Pricing.{cost_at}
 use Rattle.ps_table.proofs.Columns.{number_within}
-use Rattle.ps_bland.specs.declared.phase.Phase.{Phase}
-use Rattle.ps_bland.specs.declared.phase.Phase.TheVariants.{One, Lower, Upper}
-use Rattle.ps_bland.specs.Rules.{simplex_of, artificial_at, stage, IsLawful}
+use Rattle.ps_rule.specs.declared.phase.Phase.{Phase}
+use Rattle.ps_rule.specs.declared.phase.Phase.TheVariants.{One, Lower, Upper}
+use Rattle.ps_bland.specs.Rules.{simplex_of, artificial_at, IsLawful}
 use Rattle.ps_bland.specs.Ready.{HasNoNegativeCost, HasUnitRow, BelongsTo, FitsPhase, IsReady}
 use Rattle.ps_bland.specs.Rounds.{HasRising, CanLeave}
 use Rattle.ps_bland.proofs.Steps.{not_above, costs_kept}
@@ -116,7 +116,7 @@ module _ (t u : Tableau) (enter : Col) (leave : ℕ) (ok : IsTableau t) (pivot :
   artificial_blank feasible row = feasible.zero leave row.within row.artificial
 
   -- in phase two the basic artificials stay at 0
-  second_zero : IsFeasible (simplex_of t) → artificial_at t.kinds q ≡ false → Leaves Second (simplex_of t) q leave → (i : ℕ) → i < n → artificial_at t.kinds (basic_at u i) ≡ true → entry_at u i 0 ≡ zero_q
+  second_zero : IsFeasible (simplex_of t) → artificial_at t.kinds q ≡ false → LeavesInPhaseTwo (simplex_of t) q leave → (i : ℕ) → i < n → artificial_at t.kinds (basic_at u i) ≡ true → entry_at u i 0 ≡ zero_q
   second_zero feasible real leaves = λ i l a.
       elim (cases_eq i leave) [
         | inl e ↦ absurd (true≢false (sym a ∙ ap (artificial_at t.kinds) (ap (basic_at u) e ∙ basic_own (subst (λ k. k < n) e l)) ∙ real))
@@ -133,12 +133,12 @@ module _ (t u : Tableau) (enter : Col) (leave : ℕ) (ok : IsTableau t) (pivot :
             ]
       ]
 
-  second_feasible : IsFeasible (simplex_of t) → artificial_at t.kinds q ≡ false → Leaves Second (simplex_of t) q leave → IsFeasible (simplex_of u)
+  second_feasible : IsFeasible (simplex_of t) → artificial_at t.kinds q ≡ false → LeavesInPhaseTwo (simplex_of t) q leave → IsFeasible (simplex_of u)
   second_feasible feasible real leaves = record {
     zero = λ i l a. second_zero feasible real leaves i (subst (λ k. i < length k) pivot.kinds l) (subst (λ k. artificial_at k (basic_at u i) ≡ true) pivot.kinds a);
   }
 
-  second_values : IsFeasible (simplex_of t) → ((i : ℕ) → i < n → IsNonneg (entry_at t i 0)) → Leaves Second (simplex_of t) q leave → (i : ℕ) → i < n → IsNonneg (entry_at u i 0)
+  second_values : IsFeasible (simplex_of t) → ((i : ℕ) → i < n → IsNonneg (entry_at t i 0)) → LeavesInPhaseTwo (simplex_of t) q leave → (i : ℕ) → i < n → IsNonneg (entry_at u i 0)
   second_values feasible values leaves = λ i l.
       elim leaves [
         | inl row ↦ subst IsNonneg (sym (unchanged i l (artificial_blank feasible row.row))) (values i l)
@@ -176,15 +176,15 @@ module _ (t u : Tableau) (enter : Col) (leave : ℕ) (ok : IsTableau t) (pivot :
     cost = λ j a b. h.cost j a (subst (λ k. j < k) width_same b);
   }
 
-  all_values : (phase : Phase) (costs : Costs) → FitsPhase phase costs t → ((i : ℕ) → i < n → IsNonneg (entry_at t i 0)) → Leaves (stage phase) (simplex_of t) q leave → (i : ℕ) → i < n → IsNonneg (entry_at u i 0)
+  all_values : (phase : Phase) (costs : Costs) → FitsPhase phase costs t → ((i : ℕ) → i < n → IsNonneg (entry_at t i 0)) → Leaves phase (simplex_of t) q leave → (i : ℕ) → i < n → IsNonneg (entry_at u i 0)
   all_values One costs fits values leaves = by_ratio values leaves
   all_values Lower costs fits values leaves = second_values fits.0 values leaves
   all_values Upper costs fits values leaves = second_values fits.0 values leaves
 
-  leaving_filled : Leaves Second (simplex_of t) q leave → (leave < n) × (entry_at t leave q ≢ zero_q)
+  leaving_filled : LeavesInPhaseTwo (simplex_of t) q leave → (leave < n) × (entry_at t leave q ≢ zero_q)
   leaving_filled leaves = elim leaves [ inl row ↦ (row.row.within, row.row.entry) | inr least ↦ (least.1.rising.within, above_not_zero (entry_at t leave q) least.1.rising.above) ]
 
-  fits_kept : (phase : Phase) (costs : Costs) → FitsPhase phase costs t → Improves (simplex_of t) (cost_at costs) q → Leaves (stage phase) (simplex_of t) q leave → FitsPhase phase costs u
+  fits_kept : (phase : Phase) (costs : Costs) → FitsPhase phase costs t → Improves (simplex_of t) (cost_at costs) q → Leaves phase (simplex_of t) q leave → FitsPhase phase costs u
   fits_kept One costs fits improves leaves = costs_not_negative costs fits
   fits_kept Lower costs fits improves leaves = (second_feasible fits.0 improves.real leaves, costs_not_negative costs fits.1)
   fits_kept Upper costs fits improves leaves =
@@ -228,7 +228,7 @@ rising_upper costs t q ok upper improves = λ none.
     improves.more
 
 -- in no phase is a column that improves a ray
-pub can_leave : (phase : Phase) (costs : Costs) (t : Tableau) (q : ℕ) → IsTableau t → FitsPhase phase costs t → Improves (simplex_of t) (cost_at costs) q → CanLeave (stage phase) t q
+pub can_leave : (phase : Phase) (costs : Costs) (t : Tableau) (q : ℕ) → IsTableau t → FitsPhase phase costs t → Improves (simplex_of t) (cost_at costs) q → CanLeave phase t q
 can_leave One costs t q ok fits improves = rising_first costs t q ok fits improves
 can_leave Lower costs t q ok fits improves = λ none. rising_first costs t q ok fits.1 improves
 can_leave Upper costs t q ok fits improves = λ none. rising_upper costs t q ok fits.1 improves

@@ -3,7 +3,7 @@ use Rattle.std.specs.Prelude.{◌≡◌, ◌↔◌, ℕ, ◌<◌, false}
 use Rattle.ps_frac.specs.declared.wide.Op.{Op}
 use Rattle.ps_frac.specs.declared.wide.Op.TheVariants.{Div}
 use Rattle.ps_rational.specs.Rational.{Rational}
-use Rattle.ps_rule.specs.Rule.{Phase as RulePhase, SimplexTable, Improves, IsDueToEnd, Enters, IsRising, Leaves}
+use Rattle.ps_rule.specs.Rule.{SimplexTable, Improves, IsDueToEnd, Enters, IsRising, Leaves}
 use Rattle.ps_pool.specs.declared.col.Col.{Col}
 use Rattle.ps_table.specs.declared.costs.Costs.{Costs}
 use Rattle.ps_table.specs.declared.place.Place.{Place}
@@ -12,13 +12,13 @@ use Rattle.ps_table.specs.declared.place.WideAt.{WideAt}
 use Rattle.ps_table.specs.Tableau.{Tableau, number_in, IsInside}
 use Rattle.ps_table.specs.Pricing.{cost_at}
 use Rattle.ps_table.specs.Places.{CostPlace, PivotPlace, IsWideAt}
-use Rattle.ps_bland.specs.declared.phase.Phase.{Phase}
-use Rattle.ps_bland.specs.Rules.{stage, simplex_of}
+use Rattle.ps_rule.specs.declared.phase.Phase.{Phase}
+use Rattle.ps_bland.specs.Rules.{simplex_of}
 use Rattle.ps_bland.specs.Ends.{RatiosDecide, IsDueWide}
 
 -- a place is due, with its operands: of what a slack or a world carries, where no column before it improves; and, while a
 -- pivot is left, of the ratios of the column that enters, where they decide, and of the pivot by the rule
-pub data DuePlace (phase : RulePhase) (t : SimplexTable) (worlds left : ℕ) (cost : ℕ → Rational) : Place → Op → Rational → Rational → Type 0 where
+pub data DuePlace (phase : Phase) (t : SimplexTable) (worlds left : ℕ) (cost : ℕ → Rational) : Place → Op → Rational → Rational → Type 0 where
   of_cost : (c : Col) (place : Place) (op : Op) (l r : Rational) → (IsDueToEnd phase t → ⊥) → IsInside t.rows worlds c
       → t.artificial (number_in t.rows c) ≡ false → ((j : ℕ) → j < number_in t.rows c → Improves t cost j → ⊥)
       → CostPlace t.rows cost t.basic t.entry c place op l r → DuePlace phase t worlds left cost place op l r
@@ -32,4 +32,4 @@ pub data DuePlace (phase : RulePhase) (t : SimplexTable) (worlds left : ℕ) (co
 -- the due places of a solver's table are those of its basis and entries
 abbrev pub DuePlacesAreOfTheTable : Type 0
 DuePlacesAreOfTheTable = (phase : Phase) (costs : Costs) (t : Tableau) (left : ℕ) (w : WideAt)
-    → IsDueWide phase costs t left w ↔ IsWideAt (DuePlace (stage phase) (simplex_of t) t.worlds left (cost_at costs)) w
+    → IsDueWide phase costs t left w ↔ IsWideAt (DuePlace phase (simplex_of t) t.worlds left (cost_at costs)) w

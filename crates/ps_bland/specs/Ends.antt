@@ -1,7 +1,7 @@
 -- How the pivots of a phase end, and which places are due.
 use Rattle.std.specs.Prelude.{◌≡◌, ℕ, ◌<◌, false, Result, Ok, Err}
 use Rattle.ps_frac.specs.declared.wide.Op.TheVariants.{Div}
-use Rattle.ps_rule.specs.Rule.{Phase as RulePhase, First, Second, SimplexTable, Improves, IsMoving, IsResting, Enters, IsRising, IsArtificialRow}
+use Rattle.ps_rule.specs.Rule.{SimplexTable, Improves, IsMoving, IsResting, Enters, IsRising, HasNoArtificialRow}
 use Rattle.ps_pool.specs.declared.col.Col.{Col}
 use Rattle.ps_table.specs.declared.costs.Costs.{Costs}
 use Rattle.ps_table.specs.declared.place.Place.TheVariants.{Ratio}
@@ -11,10 +11,11 @@ use Rattle.ps_bland.specs.declared.error.SettleError.TheVariants.{Wide, NoMemory
 use Rattle.ps_table.specs.Tableau.{Tableau, number_of, entry_at, HasColumn}
 use Rattle.ps_table.specs.Pricing.{cost_at}
 use Rattle.ps_table.specs.Places.{IsOperationWide, IsWideAt, PivotPlaces, CostPlaces}
-use Rattle.ps_bland.specs.declared.phase.Phase.{Phase}
+use Rattle.ps_rule.specs.declared.phase.Phase.{Phase}
+use Rattle.ps_rule.specs.declared.phase.Phase.TheVariants.{One, Lower, Upper}
 use Rattle.ps_bland.specs.declared.settled.Settled.{Settled}
 use Rattle.ps_bland.specs.declared.settled.Settled.TheVariants.{Feasible, AtRest, OutOfPivots}
-use Rattle.ps_bland.specs.Rules.{stage, IsDone, IsLawful, is_artificial_column, simplex_of}
+use Rattle.ps_bland.specs.Rules.{IsDone, IsLawful, is_artificial_column, simplex_of}
 
 -- the ratio of row i is too wide
 pub record IsRatioWide (t : Tableau) (q : ℕ) (w : WideAt) : Type 0 where
@@ -32,12 +33,13 @@ pub record IsEntryWide (costs : Costs) (t : Tableau) (w : WideAt) : Type 0 where
   pub wide : IsWideAt (CostPlaces t costs column) w
 
 -- the least ratio decides which row leaves: in phase two there is no artificial row
-abbrev pub RatiosDecide : RulePhase → SimplexTable → ℕ → Type 0
-RatiosDecide First t q = Unit {0}
-RatiosDecide Second t q = (i : ℕ) → IsArtificialRow t q i → ⊥
+abbrev pub RatiosDecide : Phase → SimplexTable → ℕ → Type 0
+RatiosDecide One t q = Unit {0}
+RatiosDecide Lower t q = HasNoArtificialRow t q
+RatiosDecide Upper t q = HasNoArtificialRow t q
 
 -- the least ratio decides which row of a solver's table leaves
-abbrev pub IsLeftToRatios : RulePhase → Tableau → ℕ → Type 0
+abbrev pub IsLeftToRatios : Phase → Tableau → ℕ → Type 0
 IsLeftToRatios phase t q = RatiosDecide phase (simplex_of t) q
 
 -- a pivot is due: there is one by the rule, and one is left
@@ -52,7 +54,7 @@ pub data IsDueWide (phase : Phase) (costs : Costs) (t : Tableau) (left : ℕ) (w
   at_cost : (IsDone phase t → ⊥) → IsEntryWide costs t w → IsDueWide phase costs t left w
   at_ratio : (q : Col) → (IsDone phase t → ⊥) → 0 < left → HasColumn t q
       → Enters (simplex_of t) (cost_at costs) (number_of t q)
-      → IsLeftToRatios (stage phase) t (number_of t q) → IsRatioWide t (number_of t q) w → IsDueWide phase costs t left w
+      → IsLeftToRatios phase t (number_of t q) → IsRatioWide t (number_of t q) w → IsDueWide phase costs t left w
   at_pivot : (q : Col) (p : ℕ) → 0 < left
       → IsLawful phase costs t q p
       → IsWideAt (PivotPlaces t p q) w → IsDueWide phase costs t left w
@@ -69,8 +71,8 @@ IsDueRefusal phase costs t left NoMemory = IsPivotDue phase costs t left
 -- how the pivots of a phase end
 abbrev pub IsSettled : Phase → Costs → Tableau → ℕ → Settled → Type 0
 IsSettled phase costs t left Feasible = IsDone phase t
-IsSettled phase costs t left AtRest = IsResting (stage phase) (simplex_of t) (cost_at costs)
-IsSettled phase costs t left OutOfPivots = IsMoving (stage phase) (simplex_of t) (cost_at costs) × (left ≡ 0)
+IsSettled phase costs t left AtRest = IsResting phase (simplex_of t) (cost_at costs)
+IsSettled phase costs t left OutOfPivots = IsMoving phase (simplex_of t) (cost_at costs) × (left ≡ 0)
 
 -- an end, or a refusal at a due place of the table as it is left
 abbrev pub IsEnd : Phase → Costs → Tableau → ℕ → Result Settled SettleError → Type 0

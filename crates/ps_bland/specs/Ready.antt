@@ -7,8 +7,8 @@ use Rattle.ps_rule.specs.Rule.{IsFeasible}
 use Rattle.ps_table.specs.declared.costs.Costs.{Costs}
 use Rattle.ps_table.specs.Tableau.{Tableau, rows_of, width_of, entry_at, basic_at, IsAdded}
 use Rattle.ps_table.specs.Pricing.{cost_at, HasCosts}
-use Rattle.ps_bland.specs.declared.phase.Phase.{Phase}
-use Rattle.ps_bland.specs.declared.phase.Phase.TheVariants.{One, Lower, Upper}
+use Rattle.ps_rule.specs.declared.phase.Phase.{Phase}
+use Rattle.ps_rule.specs.declared.phase.Phase.TheVariants.{One, Lower, Upper}
 use Rattle.ps_bland.specs.Rules.{artificial_at, simplex_of}
 
 -- the table belongs to these columns: its rows combine the basic ones to each

@@ -1,7 +1,7 @@
 -- What the code has looked at so far, and what one round does.
 use Rattle.std.specs.Prelude.{◌≡◌, ◌≢◌, ℕ, suc, ◌+◌, ◌<◌, true, false, List, [], ◌∷◌, ◌++◌, length, Option, Some, None, Result, Ok, Err}
 use Rattle.ps_rational.specs.Rational.{Rational, zero_q}
-use Rattle.ps_rule.specs.Rule.{Phase as RulePhase, First, Second, Improves, Enters, IsRising, IsArtificialRow, IsLeastArtificialRow, ratio, Precedes, HasLeastRatio, Leaves}
+use Rattle.ps_rule.specs.Rule.{Improves, Enters, IsRising, IsArtificialRow, HasNoArtificialRow, IsLeastArtificialRow, ratio, Precedes, HasLeastRatio, Leaves}
 use Rattle.ps_pool.specs.declared.col.Col.{Col}
 use Rattle.ps_table.specs.declared.costs.Costs.{Costs}
 use Rattle.ps_table.specs.declared.place.WideAt.{WideAt}
@@ -12,7 +12,8 @@ use Rattle.ps_table.specs.Pricing.{cost_at}
 use Rattle.ps_table.specs.Places.{IsWideAt, PivotPlaces, CostPlaces, IsNarrow}
 use Rattle.ps_pool.specs.declared.event.Event.{Event}
 use Rattle.ps_pool.specs.declared.event.Event.TheVariants.{Pivot}
-use Rattle.ps_bland.specs.declared.phase.Phase.{Phase}
+use Rattle.ps_rule.specs.declared.phase.Phase.{Phase}
+use Rattle.ps_rule.specs.declared.phase.Phase.TheVariants.{One, Lower, Upper}
 use Rattle.ps_bland.specs.declared.settled.Settled.{Settled}
 use Rattle.ps_bland.specs.Rules.{artificial_at, IsLawful, is_artificial_column, simplex_of}
 use Rattle.ps_bland.specs.Ends.{IsRatioWide, IsEntryWide, IsLeftToRatios, AreDueNarrow, IsDueRefusal, IsSettled}
@@ -36,7 +37,7 @@ abbrev pub IsArtificialRowIn : Tableau → Col → ℕ → Type 0
 IsArtificialRowIn t c i = IsArtificialRow (simplex_of t) (number_of t c) i
 
 -- row p leaves for the column, by the rule
-abbrev pub LeavesIn : RulePhase → Tableau → Col → ℕ → Type 0
+abbrev pub LeavesIn : Phase → Tableau → Col → ℕ → Type 0
 LeavesIn phase t c p = Leaves phase (simplex_of t) (number_of t c) p
 
 -- the ratio of row i in the column
@@ -64,7 +65,7 @@ abbrev pub IsRatioWideIn : Tableau → Col → WideAt → Type 0
 IsRatioWideIn t c = IsRatioWide t (number_of t c)
 
 -- the least ratio decides which row leaves
-abbrev pub IsLeftToRatiosIn : RulePhase → Tableau → Col → Type 0
+abbrev pub IsLeftToRatiosIn : Phase → Tableau → Col → Type 0
 IsLeftToRatiosIn phase t c = IsLeftToRatios phase t (number_of t c)
 
 -- a row whose basic column is artificial has value 0
@@ -115,12 +116,13 @@ HasRising t q = ((i : ℕ) → IsRising (simplex_of t) q i → ⊥) → ⊥
 -- the first artificial row, if there is one
 abbrev pub IsFirstArtificialRow : Tableau → ℕ → Option ℕ → Type 0
 IsFirstArtificialRow t q (Some p) = IsLeastArtificialRow (simplex_of t) q p
-IsFirstArtificialRow t q None = (i : ℕ) → IsArtificialRow (simplex_of t) q i → ⊥
+IsFirstArtificialRow t q None = HasNoArtificialRow (simplex_of t) q
 
--- column q has an entry above 0, unless an artificial row leaves
-abbrev pub CanLeave : RulePhase → Tableau → ℕ → Type 0
-CanLeave Second t q = ((i : ℕ) → IsArtificialRow (simplex_of t) q i → ⊥) → HasRising t q
-CanLeave First t q = HasRising t q
+-- column q has an entry above 0, unless in phase two an artificial row leaves
+abbrev pub CanLeave : Phase → Tableau → ℕ → Type 0
+CanLeave One t q = HasRising t q
+CanLeave Lower t q = HasNoArtificialRow (simplex_of t) q → HasRising t q
+CanLeave Upper t q = HasNoArtificialRow (simplex_of t) q → HasRising t q
 
 -- no sum is too wide for a column that comes before each one that improves, or is the first of them
 abbrev pub AreEntriesNarrow : Costs → Tableau → Type 0
@@ -140,8 +142,8 @@ abbrev pub IsNarrowEnd : Phase → Costs → Tableau → ℕ → Option Settled 
 IsNarrowEnd phase costs t left (Some s) = AreDueNarrow phase costs t left
 IsNarrowEnd phase costs t left None = Unit {0}
 
--- column c has an entry above 0, unless an artificial row leaves
-abbrev pub CanLeaveIn : RulePhase → Tableau → Col → Type 0
+-- column c has an entry above 0, unless in phase two an artificial row leaves
+abbrev pub CanLeaveIn : Phase → Tableau → Col → Type 0
 CanLeaveIn phase t c = CanLeave phase t (number_of t c)
 
 -- the column has an entry above 0

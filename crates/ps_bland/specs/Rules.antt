@@ -1,14 +1,13 @@
 -- A table as the rule sees it, and its pivots by the rule.
 use Rattle.std.specs.Prelude.{ℕ, suc, ◌+◌, ◌-◌, Bool, true, false, List, length, get_or}
-use Rattle.ps_rule.specs.Rule.{Phase as RulePhase, First, Second, SimplexTable, IsDueToEnd, Enters, Leaves}
+use Rattle.ps_rule.specs.Rule.{SimplexTable, IsDueToEnd, Enters, Leaves}
 use Rattle.ps_table.specs.declared.home.Home.{Home}
 use Rattle.ps_table.specs.declared.home.Home.TheVariants.{Slack, Artificial}
 use Rattle.ps_pool.specs.declared.col.Col.{Col}
 use Rattle.ps_table.specs.declared.costs.Costs.{Costs}
 use Rattle.ps_table.specs.Tableau.{Tableau, number_of, entry_at, basic_at, HasColumn}
 use Rattle.ps_table.specs.Pricing.{cost_at}
-use Rattle.ps_bland.specs.declared.phase.Phase.{Phase}
-use Rattle.ps_bland.specs.declared.phase.Phase.TheVariants.{One, Lower, Upper}
+use Rattle.ps_rule.specs.declared.phase.Phase.{Phase}
 
 -- an artificial home
 abbrev pub is_artificial : Home → Bool
@@ -33,19 +32,13 @@ simplex_of t = record {
 abbrev pub is_artificial_column : Tableau → Col → Bool
 is_artificial_column t c = artificial_at t.kinds (number_of t c)
 
--- the phase of the simplex method: Lower and Upper are both phase two
-abbrev pub stage : Phase → RulePhase
-stage One = First
-stage Lower = Second
-stage Upper = Second
-
 -- phase one is due to end
 abbrev pub IsDone : Phase → Tableau → Type 0
-IsDone phase t = IsDueToEnd (stage phase) (simplex_of t)
+IsDone phase t = IsDueToEnd phase (simplex_of t)
 
 -- a pivot by the rule
 pub record IsLawful (phase : Phase) (costs : Costs) (t : Tableau) (enter : Col) (leave : ℕ) : Type 0 where
   pub inside : HasColumn t enter
   pub unfinished : IsDone phase t → ⊥
   pub enters : Enters (simplex_of t) (cost_at costs) (number_of t enter)
-  pub leaves : Leaves (stage phase) (simplex_of t) (number_of t enter) leave
+  pub leaves : Leaves phase (simplex_of t) (number_of t enter) leave

@@ -9,8 +9,8 @@ use Rattle.ps_table.specs.Tableau.{Tableau, number_in, rows_of, width_of, basic_
 use Rattle.ps_table.specs.Pricing.{cost_at}
 use Rattle.ps_pool.specs.declared.event.Event.{Event}
 use Rattle.ps_pool.specs.declared.event.Event.TheVariants.{Pivot, Priced}
-use Rattle.ps_bland.specs.declared.phase.Phase.{Phase}
-use Rattle.ps_bland.specs.Rules.{artificial_at, stage, IsLawful}
+use Rattle.ps_rule.specs.declared.phase.Phase.{Phase}
+use Rattle.ps_bland.specs.Rules.{artificial_at, IsLawful}
 
 -- lawful pivots lead from s to t
 pub data Run (phase : Phase) (costs : Costs) : Tableau → List Event → Tableau → Type 0 where
@@ -32,7 +32,7 @@ system_of kinds A = record { rows = length kinds; artificial = artificial_at kin
 -- for all columns that the table stands for, the events are lawful pivots of its system
 abbrev pub ArePivots : Phase → Costs → Tableau → List Event → Tableau → Type 0
 ArePivots phase costs s events t = (A : ℕ → ℕ → Rational) → StandsFor A s
-    → StandsFor A t × Pivots (stage phase) (system_of s.kinds A) (cost_at costs) (width_of s) (basic_at s) (pivots_of (rows_of s) events) (basic_at t)
+    → StandsFor A t × Pivots phase (system_of s.kinds A) (cost_at costs) (width_of s) (basic_at s) (pivots_of (rows_of s) events) (basic_at t)
 
 -- pivots were made, appended to the trace and counted
 pub record Ran (phase : Phase) (costs : Costs) (old new : Tableau) (trace longer : List Event) (had left : ℕ) : Type 0 where

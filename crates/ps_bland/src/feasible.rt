@@ -6,7 +6,7 @@ ghost use Rattle.ps_bland.specs.Rules.{simplex_of, IsDone};
 ghost use Rattle.ps_bland.specs.Rounds.{IsRowFeasible};
 
 use crate::columns::is_artificial;
-use crate::phase::Phase;
+use ps_rule::Phase;
 use ps_table::Table;
 
 /// Whether a row has value 0, or a basic column that isn't artificial.

@@ -1,15 +1,13 @@
 //! The leaving row.
 ghost use Rattle.std.specs.Prelude.{◌<◌, ◌↔◌, IfOk, IfErr, IsTrue};
-ghost use Rattle.ps_rule.specs.Rule.{Second};
 ghost use Rattle.ps_table.specs.Tableau.{rows_of, HasColumn};
-ghost use Rattle.ps_bland.specs.Rules.{stage};
 ghost use Rattle.ps_bland.specs.Rounds.{IsArtificialRowIn, IsFirstArtificialRowIn, CanLeaveIn};
 ghost use Rattle.ps_bland.specs.Rounds.{LeavesIn, HasEntryIn, IsRatioWideIn, IsLeftToRatiosIn};
 
 use crate::columns::is_artificial;
-use crate::phase::Phase;
 use crate::ratios::least_row;
 use ps_pool::Col;
+use ps_rule::Phase;
 use ps_table::{Table, WideAt};
 
 /// Whether the row's basic column is artificial and its entry isn't 0.
@@ -41,31 +39,18 @@ fn first_artificial_row(table: &Table, col: Col) -> Option<u32>
 /// The leaving row.
 pub(crate) fn leaving(table: &Table, phase: Phase, col: Col) -> Result<u32, WideAt>
     requires inside { HasColumn table.now col }
-    requires can_leave { CanLeaveIn (stage phase) table.now col }
-    ensures leaves { IfOk result (LeavesIn (stage phase) table.now col) }
+    requires can_leave { CanLeaveIn phase table.now col }
+    ensures leaves { IfOk result (LeavesIn phase table.now col) }
     ensures row { IfOk result (λ p. p < rows_of table.now) }
     ensures pivot { IfOk result (HasEntryIn table.now col) }
     ensures refused { IfErr result (IsRatioWideIn table.now col) }
-    ensures ratios { IfErr result (λ _. IsLeftToRatiosIn (stage phase) table.now col) }
+    ensures ratios { IfErr result (λ _. IsLeftToRatiosIn phase table.now col) }
 {
     match phase {
         Phase::One => least_row(table, col),
-        Phase::Lower | Phase::Upper => leaving_second(table, col),
-    }
-}
-
-/// The leaving row of the sides.
-fn leaving_second(table: &Table, col: Col) -> Result<u32, WideAt>
-    requires inside { HasColumn table.now col }
-    requires can_leave { CanLeaveIn Second table.now col }
-    ensures leaves { IfOk result (LeavesIn Second table.now col) }
-    ensures row { IfOk result (λ p. p < rows_of table.now) }
-    ensures pivot { IfOk result (HasEntryIn table.now col) }
-    ensures refused { IfErr result (IsRatioWideIn table.now col) }
-    ensures ratios { IfErr result (λ _. IsLeftToRatiosIn Second table.now col) }
-{
-    match first_artificial_row(table, col) {
-        Some(row) => Ok(row),
-        None => least_row(table, col),
+        Phase::Lower | Phase::Upper => match first_artificial_row(table, col) {
+            Some(row) => Ok(row),
+            None => least_row(table, col),
+        },
     }
 }

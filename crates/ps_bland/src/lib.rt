@@ -7,14 +7,12 @@ mod error;
 mod feasible;
 mod laws;
 mod leaving;
-mod phase;
 mod ratios;
 mod settled;
 mod settling;
 
 pub use error::SettleError;
 pub use laws::{due_places, ready_tables};
-pub use phase::Phase;
 pub use settled::Settled;
 pub use settling::settle;
 

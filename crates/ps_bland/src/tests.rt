@@ -14,13 +14,14 @@ mod three_rows;
 mod three_rows_wide;
 
 use crate::feasible::is_due_to_end;
-use crate::{Phase, SettleError, Settled, settle};
+use crate::{SettleError, Settled, settle};
 use case::{Case, End, Stage};
 use few_rows::{ONE_ROW, TWO_ROWS};
 use five_rows::FIVE_ROWS;
 use ps_frac::Fraction;
 use ps_io::{List, NoMemory};
 use ps_pool::{Col, Event, Trace};
+use ps_rule::Phase;
 use ps_table::{CostList, Costs, Home, Table, WideAt};
 use std::alloc::Global;
 use three_rows::THREE_ROWS;

@@ -8,7 +8,7 @@ use Rattle.ps_meaning.specs.Formula.{World}
 use Rattle.ps_formula.specs.declared.node.Node.{Node}
 use Rattle.ps_formula.specs.Nodes.{AtomBelow, truths}
 use Rattle.ps_pool.specs.Worlds.{world_of}
-use Rattle.ps_bland.specs.declared.phase.Phase.{Phase}
+use Rattle.ps_rule.specs.declared.phase.Phase.{Phase}
 use Rattle.ps_columns.specs.Columns.{cost_over, costs_over}
 
 -- the world of a number that is there

@@ -5,10 +5,10 @@ ghost use Rattle.ps_formula.specs.Nodes.{AtomBelow, truths};
 ghost use Rattle.ps_problem.specs.Rows.{HasNode, indicator_of};
 ghost use Rattle.ps_columns.specs.Columns.{home_cost, cost_over, costs_over};
 
-use ps_bland::Phase;
 use ps_formula::{Formulas, World, eval};
 use ps_io::{List, NoMemory};
 use ps_pool::Pool;
+use ps_rule::Phase;
 use ps_table::{CostList, Costs, Home, Table};
 use std::alloc::Global;
 

@@ -1,6 +1,6 @@
 use super::*;
-use ps_bland::Phase;
 use ps_problem::{Bound, Side};
+use ps_rule::Phase;
 use ps_table::Home;
 use std::alloc::Global;
 use std::test::*;

@@ -3,7 +3,7 @@ use Rattle.std.proofs.Common.{◌≡◌, List, map, length, sym, ◌∙◌, subs
 use Rattle.std.proofs.lemmas.List.Elements.{All-nil}
 use Rattle.ps_meaning.specs.Formula.{World}
 use Rattle.ps_table.specs.declared.costs.Costs.{Costs}
-use Rattle.ps_bland.specs.declared.phase.Phase.TheVariants.{One}
+use Rattle.ps_rule.specs.declared.phase.Phase.TheVariants.{One}
 use Rattle.ps_bland.specs.Ready.{IsReady}
 use Rattle.ps_claims.specs.declared.claim_kind.ClaimKind.TheVariants.{Nothing}
 use Rattle.ps_columns.specs.Columns as over

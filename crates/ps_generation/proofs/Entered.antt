@@ -14,9 +14,9 @@ use Rattle.ps_bland.proofs.Ready.{feasible_added}
 use Rattle.ps_answer.specs.declared.answer.Cause.TheVariants.{Wide}
 use Rattle.ps_claims.specs.declared.claim_kind.ClaimKind.{ClaimKind}
 use Rattle.ps_claims.specs.declared.claim_kind.ClaimKind.TheVariants.{Nothing, Lower, Upper}
-use Rattle.ps_runs.specs.Rows.{entries_of, world_cost}
+use Rattle.ps_runs.specs.Rows.{phase_of, entries_of, world_cost}
 use Rattle.ps_runs.specs.Runs.{Subject, setting_of}
-use Rattle.ps_phases.specs.Tables.{phase_of, costs_for, IsRunTable}
+use Rattle.ps_phases.specs.Tables.{costs_for, IsRunTable}
 use Rattle.ps_phases.proofs.Adding.{costs_grow}
 use Rattle.ps_phases.proofs.GoingOn.{begun, priced_goes_on, priced_fresh}
 use Rattle.ps_phases.proofs.Licensing.{column_due}

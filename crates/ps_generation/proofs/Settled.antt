@@ -1,7 +1,7 @@
 -- The pivots of `settle`, as what a phase does, and its ends.
 use Rattle.std.proofs.Common.{◌≡◌, ℕ, ◌<◌, ◌≤◌, List, [], ◌∷◌, length, inl, sym, ap, ◌∙◌, subst, arith}
 use Rattle.std.proofs.lemmas.List.{length-append}
-use Rattle.ps_rule.specs.Rule.{Phase as RulePhase, SimplexTable, IsMoving, IsResting}
+use Rattle.ps_rule.specs.Rule.{SimplexTable, IsMoving, IsResting}
 use Rattle.ps_meaning.specs.Formula.{World}
 use Rattle.ps_rational.specs.Rational.{Rational}
 use Rattle.ps_pool.specs.declared.event.Event.{Event}
@@ -10,15 +10,16 @@ use Rattle.ps_table.specs.declared.costs.Costs.{Costs}
 use Rattle.ps_table.specs.declared.place.WideAt.{WideAt}
 use Rattle.ps_table.specs.Tableau.{Tableau, IsTableau}
 use Rattle.ps_table.specs.Pricing.{cost_at}
-use Rattle.ps_bland.specs.declared.phase.Phase.{Phase}
-use Rattle.ps_bland.specs.Rules.{simplex_of, stage, IsDone}
+use Rattle.ps_rule.specs.declared.phase.Phase.{Phase}
+use Rattle.ps_bland.specs.Rules.{simplex_of, IsDone}
 use Rattle.ps_bland.specs.Ends.{IsDueWide}
 use Rattle.ps_bland.specs.Ready.{IsReady}
 use Rattle.ps_bland.specs.Runs as bland
 use Rattle.ps_answer.specs.declared.answer.Cause.TheVariants.{Pivots, Wide}
 use Rattle.ps_claims.specs.declared.claim_kind.ClaimKind.{ClaimKind}
 use Rattle.ps_runs.specs.Runs.{setting_of}
-use Rattle.ps_phases.specs.Tables.{phase_of, costs_for}
+use Rattle.ps_runs.specs.Rows.{phase_of}
+use Rattle.ps_phases.specs.Tables.{costs_for}
 use Rattle.ps_phases.proofs.GoingOn.{begun, settled_goes_on}
 use Rattle.ps_phases.proofs.Licensing.{resting_there, moving_there, settling_due}
 use Rattle.ps_generation.specs.declared.state.State.{State}
@@ -27,13 +28,13 @@ use Rattle.ps_generation.specs.Phases.{LimitedSubject, stage_of, IsInPhase, HasC
 use Rattle.ps_generation.specs.Rounds.{HasRested}
 
 -- a resting table isn't moving
-rests_not_moving : (ph : RulePhase) (t : SimplexTable) (cost : ℕ → Rational) → IsResting ph t cost → IsMoving ph t cost → ⊥
+rests_not_moving : (ph : Phase) (t : SimplexTable) (cost : ℕ → Rational) → IsResting ph t cost → IsMoving ph t cost → ⊥
 rests_not_moving ph t cost rest moving = rest.none moving.column moving.improves
 
 -- pivots from a moving table to a resting one are some
 some_pivots : (phase : Phase) (costs : Costs) (t u : Tableau) (events : List Event) → bland.Run phase costs t events u
-    → IsMoving (stage phase) (simplex_of t) (cost_at costs) → IsResting (stage phase) (simplex_of u) (cost_at costs) → 0 < length events
-some_pivots phase costs t u events (bland.still x) moving rest = absurd (rests_not_moving (stage phase) (simplex_of x) (cost_at costs) rest moving)
+    → IsMoving phase (simplex_of t) (cost_at costs) → IsResting phase (simplex_of u) (cost_at costs) → 0 < length events
+some_pivots phase costs t u events (bland.still x) moving rest = absurd (rests_not_moving phase (simplex_of x) (cost_at costs) rest moving)
 some_pivots phase costs t u events (bland.more x m y es enter leave run lawful pivot on) moving rest = let l = length-append es (Pivot enter leave ∷ []) in omega (arith, l)
 
 -- a state is the other with its table, trace and pivots, where the pool is the same
@@ -61,16 +62,16 @@ module _ (kind : ClaimKind) (r : LimitedSubject) (costs : Costs) (old new : Stat
   pub settled_left : new.left ≤ old.left
   settled_left = let c = ran.counted in omega (arith, c)
 
-  pub settled_rest : IsResting (stage (phase_of kind)) (simplex_of new.table) (cost_at costs) → HasRested kind r old new
+  pub settled_rest : IsResting (phase_of kind) (simplex_of new.table) (cost_at costs) → HasRested kind r old new
   settled_rest rest = record {
     come = settled_come;
     rests =
         resting_there r.subject new.pool new.table settled_come.way.table kind
-        (subst (λ (c : Costs). IsResting (stage (phase_of kind)) (simplex_of new.table) (cost_at c)) costs_there rest);
+        (subst (λ (c : Costs). IsResting (phase_of kind) (simplex_of new.table) (cost_at c)) costs_there rest);
     fewer = λ moving.
         let some : 0 < length ran.events =
         some_pivots (phase_of kind) costs old.table new.table ran.events ran.run
-        (subst (λ (c : Costs). IsMoving (stage (phase_of kind)) (simplex_of old.table) (cost_at c)) (sym phase.costs_are) moving) rest in
+        (subst (λ (c : Costs). IsMoving (phase_of kind) (simplex_of old.table) (cost_at c)) (sym phase.costs_are) moving) rest in
         let c = ran.counted in
         omega (arith, some, c);
   }
@@ -78,7 +79,7 @@ module _ (kind : ClaimKind) (r : LimitedSubject) (costs : Costs) (old new : Stat
   pub settled_done : IsDone (phase_of kind) new.table → IsEnd kind r old new Feasible
   settled_done done = (settled_come, done)
 
-  pub settled_out : (limit : ℕ) → limit ≡ r.limits.pivots → IsMoving (stage (phase_of kind)) (simplex_of new.table) (cost_at costs) × (new.left ≡ 0)
+  pub settled_out : (limit : ℕ) → limit ≡ r.limits.pivots → IsMoving (phase_of kind) (simplex_of new.table) (cost_at costs) × (new.left ≡ 0)
       → IsEnd kind r old new (Open (Pivots limit))
   settled_out limit is out = record {
     come = settled_come;
@@ -87,7 +88,7 @@ module _ (kind : ClaimKind) (r : LimitedSubject) (costs : Costs) (old new : Stat
       none_left = out.1;
       moving =
           moving_there r.subject new.pool new.table settled_come.way.table kind
-          (subst (λ (c : Costs). IsMoving (stage (phase_of kind)) (simplex_of new.table) (cost_at c)) costs_there out.0);
+          (subst (λ (c : Costs). IsMoving (phase_of kind) (simplex_of new.table) (cost_at c)) costs_there out.0);
     };
   }
 

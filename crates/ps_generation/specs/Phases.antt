@@ -26,7 +26,8 @@ use Rattle.ps_claims.specs.declared.claim_kind.ClaimKind.TheVariants.{Nothing}
 use Rattle.ps_runs.specs.Certificates.{HaveSameNumbers}
 use Rattle.ps_runs.specs.Runs.{Subject, setting_of, given_in, both_in, atoms_of, goal_at_least, Stage, IsStart, IsPool, dual_at, AreAtMost, IsRestingAt, IsPricedBy}
 use Rattle.ps_certificate.specs.Certificates.{dual_of}
-use Rattle.ps_phases.specs.Tables.{phase_of, costs_for, IsRunTable, stage_at, IsUnderWay}
+use Rattle.ps_runs.specs.Rows.{phase_of}
+use Rattle.ps_phases.specs.Tables.{costs_for, IsRunTable, stage_at, IsUnderWay}
 use Rattle.ps_phases.specs.Licences.{IsLicensed, IsColumnTooWide}
 use Rattle.ps_printed.specs.Printed.{IsPrintedDual, IsPrintedCause}
 use Rattle.ps_generation.specs.declared.limits.Limits.{Limits}

@@ -4,11 +4,11 @@ use Rattle.ps_rule.specs.Rule.{IsMoving}
 use Rattle.ps_meaning.specs.Formula.{World}
 use Rattle.ps_table.specs.Tableau.{entry_at}
 use Rattle.ps_table.specs.Pricing.{cost_at}
-use Rattle.ps_bland.specs.Rules.{simplex_of, stage}
+use Rattle.ps_bland.specs.Rules.{simplex_of}
 use Rattle.ps_claims.specs.declared.claim_kind.ClaimKind.{ClaimKind}
-use Rattle.ps_runs.specs.Rows.{entries_of, world_cost}
+use Rattle.ps_runs.specs.Rows.{phase_of, entries_of, world_cost}
 use Rattle.ps_runs.specs.Runs.{Subject, setting_of, IsRestingAt, IsPricedBy}
-use Rattle.ps_phases.specs.Tables.{phase_of, costs_for}
+use Rattle.ps_phases.specs.Tables.{costs_for}
 use Rattle.ps_pricing.specs.Pricings.{PricingSubject}
 use Rattle.ps_generation.specs.declared.column.Column.{Column}
 use Rattle.ps_generation.specs.declared.state.State.{State}
@@ -26,7 +26,7 @@ pub record IsColumnOf (kind : ClaimKind) (s : Subject) (w : World) (c : Column) 
 
 -- the table is moving
 abbrev pub IsInMotion : ClaimKind → Subject → State → Type 0
-IsInMotion kind s state = IsMoving (stage (phase_of kind)) (simplex_of state.table) (cost_at (costs_for kind (setting_of s) state.pool))
+IsInMotion kind s state = IsMoving (phase_of kind) (simplex_of state.table) (cost_at (costs_for kind (setting_of s) state.pool))
 
 -- the table is resting
 abbrev pub IsAtRest : ClaimKind → Subject → State → Type 0

@@ -4,7 +4,7 @@ ghost use Rattle.ps_table.specs.Tableau.{IsTableau};
 ghost use Rattle.ps_bland.specs.Ready.{IsReady};
 ghost use Rattle.ps_bland.specs.Runs.{Ran};
 ghost use Rattle.ps_bland.specs.Ends.{IsEnd};
-ghost use Rattle.ps_phases.specs.Tables.{phase_of};
+ghost use Rattle.ps_runs.specs.Rows.{phase_of};
 ghost use Rattle.ps_generation.specs.Phases.{IsInPhase, IsPrintedEnd};
 ghost use Rattle.ps_generation.specs.Rounds.{IsPhaseSettled};
 
@@ -12,9 +12,10 @@ use crate::end::{End, too_wide};
 use crate::setting::Setting;
 use crate::state::State;
 use ps_answer::Cause;
-use ps_bland::{Phase, SettleError, Settled, settle};
+use ps_bland::{SettleError, Settled, settle};
 use ps_claims::ClaimKind;
 use ps_io::NoMemory;
+use ps_rule::Phase;
 use ps_table::Costs;
 
 /// The phase that shows a claim of this kind.

@@ -16,7 +16,8 @@ use Rattle.ps_claims.specs.Validity.{ShowsNothing}
 use Rattle.ps_runs.specs.Runs.{setting_of, given_in, both_in, IsFeasibleAt, IsDualAt}
 use Rattle.ps_runs.proofs.Certified.{nothing_at_rest}
 use Rattle.ps_certificate.specs.Certificates.{dual_of}
-use Rattle.ps_phases.specs.Tables.{phase_of, IsUnderWay}
+use Rattle.ps_runs.specs.Rows.{phase_of}
+use Rattle.ps_phases.specs.Tables.{IsUnderWay}
 use Rattle.ps_phases.specs.Verdicts.{IsVerdictAt}
 use Rattle.ps_phases.proofs.Shapes.{run_table}
 use Rattle.ps_phases.proofs.Licensing.{feasible_there}

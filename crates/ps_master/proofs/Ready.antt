@@ -10,9 +10,9 @@ use Rattle.ps_bland.specs.Rules.{simplex_of}
 use Rattle.ps_bland.specs.Ready.{IsReady}
 use Rattle.ps_claims.specs.declared.claim_kind.ClaimKind.{ClaimKind}
 use Rattle.ps_claims.specs.declared.claim_kind.ClaimKind.TheVariants.{Nothing, Lower, Upper}
-use Rattle.ps_runs.specs.Rows.{Setting}
+use Rattle.ps_runs.specs.Rows.{Setting, phase_of}
 use Rattle.ps_runs.specs.Runs.{Subject, setting_of, IsAsked}
-use Rattle.ps_phases.specs.Tables.{phase_of, costs_for, IsRunTable}
+use Rattle.ps_phases.specs.Tables.{costs_for, IsRunTable}
 use Rattle.ps_phases.proofs.Ready.{lower_apart, upper_apart, ready_first, ready_lower, ready_upper}
 use Rattle.ps_generation.specs.declared.state.State.{State}
 use Rattle.ps_generation.specs.Phases.{IsInPhase}

@@ -23,7 +23,7 @@ use Rattle.ps_claims.specs.declared.claim_kind.ClaimKind.TheVariants.{Nothing, L
 use Rattle.ps_claims.specs.Duals as claims
 use Rattle.ps_claims.specs.Duals.{HasValueHead}
 use Rattle.ps_claims.specs.Validity.{IsRefuted, ShowsTight}
-use Rattle.ps_runs.specs.Rows.{stage_of as rule_stage, IsTable}
+use Rattle.ps_runs.specs.Rows.{phase_of, IsTable}
 use Rattle.ps_meaning.specs.Bounds.{Bound}
 use Rattle.ps_runs.specs.Certificates.{HaveSameNumbers, table_model, signed}
 use Rattle.ps_runs.specs.Runs.{Subject, subject_of, setting_of, given_in, both_in, atoms_of, IsPool, Stage, table_at, costs_at, dual_at, goal_at_least, AreAtMost, IsRestingAt}
@@ -31,7 +31,6 @@ use Rattle.ps_runs.proofs.Combination.{multiple_positive}
 use Rattle.ps_runs.proofs.Certified.{refuted_at_rest}
 use Rattle.ps_runs.proofs.Tight.{tight_at_end}
 use Rattle.ps_certificate.specs.Certificates.{dual_of}
-use Rattle.ps_phases.specs.Tables.{phase_of}
 use Rattle.ps_phases.specs.Licences.{IsModelDue}
 use Rattle.ps_phases.specs.Verdicts.{IsSideAt}
 use Rattle.ps_phases.proofs.Shapes.{run_table}
@@ -76,7 +75,7 @@ record ShowsAtEnd (kind : ClaimKind) (g : Stage) (X : ℕ → ℕ → Rational) 
   table : IsTable (setting_of s) g.pool g.basis X
   feasible : IsFeasible (table_at s g X)
   pooled : IsPool (atoms_of s) g.pool
-  resting : IsResting (rule_stage kind) (table_at s g X) (costs_at kind s g)
+  resting : IsResting (phase_of kind) (table_at s g X) (costs_at kind s g)
   steps : Refutes (length s.parts.nodes) (first_known (form_of s.parts.nodes) (goal_at_least (pos 1) kind s (dual_at kind s g X))) d.steps
 
 tight_so : (kind : ClaimKind) (p : Parts) (q : stored.Query) (g : Stage) (X : ℕ → ℕ → Rational) (value : Rational) (d : claims.Dual) → kind ≢ Nothing

@@ -13,11 +13,11 @@ use Rattle.ps_table.specs.Tableau.{Tableau, IsTableau, IsAdded, StandsWith, numb
 use Rattle.ps_bland.specs.Ready.{HasValues}
 use Rattle.ps_bland.specs.Runs as bland
 use Rattle.ps_claims.specs.declared.claim_kind.ClaimKind.{ClaimKind}
-use Rattle.ps_runs.specs.Rows.{entries_of}
+use Rattle.ps_runs.specs.Rows.{phase_of, entries_of}
 use Rattle.ps_runs.specs.Runs.{Subject, setting_of, atoms_of, Stage, IsPool, gain_at, IsPricedBy, LeadsTo, still, priced, LeadsToPending, pending}
 use Rattle.ps_runs.proofs.Composed.{pivots_in-append, leads_on}
 use Rattle.ps_runs.proofs.Pricing.{priced_is_new}
-use Rattle.ps_phases.specs.Tables.{phase_of, costs_for, IsRunTable, stage_at, IsUnderWay}
+use Rattle.ps_phases.specs.Tables.{costs_for, IsRunTable, stage_at, IsUnderWay}
 use Rattle.ps_phases.proofs.Shapes.{run_table}
 use Rattle.ps_phases.proofs.Adding.{added_world}
 use Rattle.ps_phases.proofs.Settling.{LedBy, settled_leads}

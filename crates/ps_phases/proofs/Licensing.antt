@@ -10,17 +10,17 @@ use Rattle.ps_table.specs.declared.place.WideAt.{WideAt}
 use Rattle.ps_table.specs.Tableau.{Tableau, rows_of as table_rows, entry_at, basic_at}
 use Rattle.ps_table.specs.Pricing.{cost_at}
 use Rattle.ps_table.specs.Places.{CostPlace, MultiplierPlace, WeightPlace, NewPlace, IsWideAt, HomePlaces, NewPlaces}
-use Rattle.ps_bland.specs.Rules.{simplex_of, stage, IsDone}
+use Rattle.ps_bland.specs.Rules.{simplex_of, IsDone}
 use Rattle.ps_bland.specs.Ends.{IsDueWide}
 use Rattle.ps_bland.specs.DuePlaces.{DuePlace}
 use Rattle.ps_bland.proofs.DuePlaces.{due_there}
 use Rattle.ps_claims.specs.declared.claim_kind.ClaimKind.{ClaimKind}
 use Rattle.ps_claims.specs.declared.claim_kind.ClaimKind.TheVariants.{Nothing}
-use Rattle.ps_runs.specs.Rows.{stage_of, rows_of, columns_of, entries_of}
+use Rattle.ps_runs.specs.Rows.{phase_of, rows_of, columns_of, entries_of}
 use Rattle.ps_runs.specs.Runs.{Subject, setting_of, Stage, table_at, costs_at, BelongsTo, IsMovingAt, IsRestingAt, IsFeasibleAt}
-use Rattle.ps_phases.specs.Tables.{phase_of, costs_for, IsRunTable, stage_at}
+use Rattle.ps_phases.specs.Tables.{costs_for, IsRunTable, stage_at}
 use Rattle.ps_phases.specs.Licences.{DueAt, for_pivots, for_multiplier, for_dual, for_model, IsModelDue, IsTooWide, IsColumnTooWide}
-use Rattle.ps_phases.proofs.Shapes.{rows_are, same_table, stands_there, stages}
+use Rattle.ps_phases.proofs.Shapes.{rows_are, same_table, stands_there}
 
 wide_as : (P Q : Place → Op → Rational → Rational → Type 0) (w : WideAt) → ((place : Place) (op : Op) (l r : Rational) → P place op l r → Q place op l r) → IsWideAt P w → IsWideAt Q w
 wide_as P Q w h wide = record { at = h w.place w.op w.left w.right wide.at; wide = wide.wide }
@@ -42,23 +42,19 @@ module _ (s : Subject) (pool : List World) (t : Tableau) (run : IsRunTable (sett
   belongs_there = (stands_there (setting_of s) pool t run.kinds run.worlds (columns_of (setting_of s) pool) run.stands).belongs
 
   pub feasible_there : IsDone (phase_of Nothing) t → IsFeasibleAt s g X
-  feasible_there done = record { belongs = belongs_there; feasible = subst (λ x. IsDueToEnd (stage_of Nothing) x) table_same done }
+  feasible_there done = record { belongs = belongs_there; feasible = subst (λ x. IsDueToEnd (phase_of Nothing) x) table_same done }
 
-  pub resting_there : (kind : ClaimKind) → IsResting (stage (phase_of kind)) (simplex_of t) (cost_at (costs_for kind (setting_of s) pool)) → IsRestingAt kind s g X
+  pub resting_there : (kind : ClaimKind) → IsResting (phase_of kind) (simplex_of t) (cost_at (costs_for kind (setting_of s) pool)) → IsRestingAt kind s g X
   resting_there kind rest = record {
     belongs = belongs_there;
-    resting =
-        subst (λ x. IsResting (stage_of kind) x (costs_at kind s g)) table_same
-        (subst (λ ph. IsResting ph (simplex_of t) (costs_at kind s g)) (stages kind) rest);
+    resting = subst (λ x. IsResting (phase_of kind) x (costs_at kind s g)) table_same rest;
   }
 
-  pub moving_there : (kind : ClaimKind) → IsMoving (stage (phase_of kind)) (simplex_of t) (cost_at (costs_for kind (setting_of s) pool)) → IsMovingAt kind s g
+  pub moving_there : (kind : ClaimKind) → IsMoving (phase_of kind) (simplex_of t) (cost_at (costs_for kind (setting_of s) pool)) → IsMovingAt kind s g
   moving_there kind moving = record {
     table = X;
     belongs = belongs_there;
-    moving =
-        subst (λ x. IsMoving (stage_of kind) x (costs_at kind s g)) table_same
-        (subst (λ ph. IsMoving ph (simplex_of t) (costs_at kind s g)) (stages kind) moving);
+    moving = subst (λ x. IsMoving (phase_of kind) x (costs_at kind s g)) table_same moving;
   }
 
   too_wide : (kind : ClaimKind) (left : ℕ) (w : WideAt) → IsWideAt (DueAt kind s g left X) w → IsTooWide kind s g left w
@@ -67,12 +63,11 @@ module _ (s : Subject) (pool : List World) (t : Tableau) (run : IsRunTable (sett
   -- a refusal of `settle`
   pub settling_due : (kind : ClaimKind) (left : ℕ) (w : WideAt) → IsDueWide (phase_of kind) (costs_for kind (setting_of s) pool) t left w → IsTooWide kind s g left w
   settling_due kind left w due =
-      let wide : IsWideAt (DuePlace (stage (phase_of kind)) (simplex_of t) t.worlds left (costs_at kind s g)) w = due_there (phase_of kind) (costs_for kind (setting_of s) pool) t left w due in
-      let by_phase = subst (λ ph. IsWideAt (DuePlace ph (simplex_of t) t.worlds left (costs_at kind s g)) w) (stages kind) wide in
-      let by_worlds = subst (λ k. IsWideAt (DuePlace (stage_of kind) (simplex_of t) k left (costs_at kind s g)) w) run.worlds by_phase in
-      let by_table = subst (λ x. IsWideAt (DuePlace (stage_of kind) x (length pool) left (costs_at kind s g)) w) table_same by_worlds in
+      let wide : IsWideAt (DuePlace (phase_of kind) (simplex_of t) t.worlds left (costs_at kind s g)) w = due_there (phase_of kind) (costs_for kind (setting_of s) pool) t left w due in
+      let by_worlds = subst (λ k. IsWideAt (DuePlace (phase_of kind) (simplex_of t) k left (costs_at kind s g)) w) run.worlds wide in
+      let by_table = subst (λ x. IsWideAt (DuePlace (phase_of kind) x (length pool) left (costs_at kind s g)) w) table_same by_worlds in
       too_wide kind left w
-      (wide_as (DuePlace (stage_of kind) (table_at s g X) (length pool) left (costs_at kind s g)) (DueAt kind s g left X) w (λ place op l r at. for_pivots place op l r at) by_table)
+      (wide_as (DuePlace (phase_of kind) (table_at s g X) (length pool) left (costs_at kind s g)) (DueAt kind s g left X) w (λ place op l r at. for_pivots place op l r at) by_table)
 
   -- a refusal of the multiplier of a row
   pub multiplier_due : (kind : ClaimKind) (left i : ℕ) (w : WideAt) → IsRestingAt kind s g X → i < table_rows t

@@ -11,19 +11,19 @@ use Rattle.ps_pool.specs.declared.event.Event.{Event}
 use Rattle.ps_pool.specs.declared.event.Event.TheVariants.{Pivot}
 use Rattle.ps_table.specs.Tableau.{Tableau, IsAdded, number_in, world_entry, entry_at, basic_at}
 use Rattle.ps_table.specs.Pricing.{cost_at}
-use Rattle.ps_bland.specs.Rules.{simplex_of, stage}
+use Rattle.ps_bland.specs.Rules.{simplex_of}
 use Rattle.ps_bland.specs.Runs as bland
 use Rattle.ps_claims.specs.declared.claim_kind.ClaimKind.{ClaimKind}
-use Rattle.ps_runs.specs.Rows.{Setting, stage_of, entries_of, rows_of, width_of, columns_of, cost_of, table_of}
+use Rattle.ps_runs.specs.Rows.{Setting, phase_of, entries_of, rows_of, width_of, columns_of, cost_of, table_of}
 use Rattle.ps_runs.specs.Runs.{Subject, setting_of, IsPricedBy}
 use Rattle.ps_runs.proofs.Pricing.{priced_moves}
-use Rattle.ps_phases.specs.Tables.{phase_of, costs_for, IsRunTable, stage_at}
-use Rattle.ps_phases.proofs.Shapes.{rows_are, width_is, same_table, stages, run_table}
+use Rattle.ps_phases.specs.Tables.{costs_for, IsRunTable, stage_at}
+use Rattle.ps_phases.proofs.Shapes.{rows_are, width_is, same_table, run_table}
 use Rattle.ps_phases.proofs.Adding.{next_column}
 
 -- pivots that don't leave the table as it was are some
 some_pivots : (kind : ClaimKind) (s : Setting) (pool : List World) (u v : Tableau) (events : List Event) → bland.Run (phase_of kind) (costs_for kind s pool) u events v
-    → IsMoving (stage (phase_of kind)) (simplex_of u) (cost_at (costs_for kind s pool)) → (IsMoving (stage (phase_of kind)) (simplex_of v) (cost_at (costs_for kind s pool)) → ⊥)
+    → IsMoving (phase_of kind) (simplex_of u) (cost_at (costs_for kind s pool)) → (IsMoving (phase_of kind) (simplex_of v) (cost_at (costs_for kind s pool)) → ⊥)
     → 0 < length events
 some_pivots kind s pool u v events (bland.still x) moving ended = absurd (ended moving)
 some_pivots kind s pool u v events (bland.more x m y es enter leave run lawful pivot on) moving ended = let l = length-append es (Pivot enter leave ∷ []) in omega (arith, l)
@@ -51,21 +51,20 @@ module _ (kind : ClaimKind) (s : Subject) (conflicts : ℕ) (pool : List World) 
   same_basis : basic_at t ≡ basic_at u
   same_basis = λ j i. number_in (length (sym added.kinds j)) (get_or (sym added.basic j) i (col.Home 0))
 
-  pub moving_after : IsMoving (stage (phase_of kind)) (simplex_of u) (cost_at (costs_for kind (setting_of s) more))
+  pub moving_after : IsMoving (phase_of kind) (simplex_of u) (cost_at (costs_for kind (setting_of s) more))
   moving_after =
       let kinds = added.kinds ∙ run.kinds in
       let worlds : u.worlds ≡ length more = let a = added.worlds in let b = run.worlds in let e = length-append pool (w ∷ []) in omega (arith, a, b, e) in
-      let there : IsMoving (stage_of kind) (table_of (setting_of s) more (basic_at t) (entry_at u)) (cost_of kind (setting_of s) more) =
+      let there : IsMoving (phase_of kind) (table_of (setting_of s) more (basic_at t) (entry_at u)) (cost_of kind (setting_of s) more) =
       priced_moves kind (setting_of s) pool w (basic_at t) (entry_at t) (entry_at u) (run_table (setting_of s) pool t run) widened is.rests.resting is.above in
-      let by_basis : IsMoving (stage_of kind) (table_of (setting_of s) more (basic_at u) (entry_at u)) (cost_of kind (setting_of s) more) =
-      subst (λ b. IsMoving (stage_of kind) (table_of (setting_of s) more b (entry_at u)) (cost_of kind (setting_of s) more)) same_basis there in
-      subst (λ ph. IsMoving ph (simplex_of u) (cost_of kind (setting_of s) more)) (sym (stages kind))
-      (subst (λ x. IsMoving (stage_of kind) x (cost_of kind (setting_of s) more)) (sym (same_table (setting_of s) more u kinds worlds)) by_basis)
+      let by_basis : IsMoving (phase_of kind) (table_of (setting_of s) more (basic_at u) (entry_at u)) (cost_of kind (setting_of s) more) =
+      subst (λ b. IsMoving (phase_of kind) (table_of (setting_of s) more b (entry_at u)) (cost_of kind (setting_of s) more)) same_basis there in
+      subst (λ x. IsMoving (phase_of kind) x (cost_of kind (setting_of s) more)) (sym (same_table (setting_of s) more u kinds worlds)) by_basis
 
   -- an end that isn't moving comes after a pivot
   pub fewer_left : (v : Tableau) (trace longer : List Event) (left now : ℕ)
       → bland.Ran (phase_of kind) (costs_for kind (setting_of s) more) u v trace longer left now
-      → (IsMoving (stage (phase_of kind)) (simplex_of v) (cost_at (costs_for kind (setting_of s) more)) → ⊥) → now < left
+      → (IsMoving (phase_of kind) (simplex_of v) (cost_at (costs_for kind (setting_of s) more)) → ⊥) → now < left
   fewer_left v trace longer left now ran ended =
       let some = some_pivots kind (setting_of s) more u v ran.events ran.run moving_after ended in
       let count = ran.counted in

@@ -6,7 +6,7 @@ use Rattle.ps_rational.specs.Rational.{one_q, zero_q}
 use Rattle.ps_rule.specs.Rule.{IsFeasible}
 use Rattle.ps_table.specs.Tableau.{Tableau}
 use Rattle.ps_table.specs.Pricing.{HasCosts}
-use Rattle.ps_bland.specs.declared.phase.Phase.TheVariants as phase
+use Rattle.ps_rule.specs.declared.phase.Phase.TheVariants as phase
 use Rattle.ps_bland.specs.Rules.{simplex_of}
 use Rattle.ps_bland.specs.Ready.{IsReady}
 use Rattle.ps_bland.proofs.Posed.{ready_posed}

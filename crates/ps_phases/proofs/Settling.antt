@@ -4,7 +4,8 @@ use Rattle.std.proofs.lemmas.List.{length-append}
 use Rattle.ps_meaning.specs.Formula.{World}
 use Rattle.ps_rational.specs.Rational.{Rational}
 use Rattle.ps_basis.specs.Table.{Based, Stands}
-use Rattle.ps_rule.specs.Rule.{Phase, SimplexTable, IsDueToEnd, Enters, Leaves}
+use Rattle.ps_rule.specs.declared.phase.Phase.{Phase}
+use Rattle.ps_rule.specs.Rule.{SimplexTable, IsDueToEnd, Enters, Leaves}
 use Rattle.ps_pool.specs.declared.col.Col.{Col}
 use Rattle.ps_pool.specs.declared.event.Event.{Event}
 use Rattle.ps_pool.specs.declared.event.Event.TheVariants.{Pivot}
@@ -12,11 +13,11 @@ use Rattle.ps_table.specs.Tableau.{Tableau, IsInside, StandsFor, number_in, entr
 use Rattle.ps_bland.specs.Rules.{simplex_of, IsLawful}
 use Rattle.ps_bland.specs.Runs as bland
 use Rattle.ps_claims.specs.declared.claim_kind.ClaimKind.{ClaimKind}
-use Rattle.ps_runs.specs.Rows.{stage_of, rows_of, width_of, columns_of, cost_of, table_of}
+use Rattle.ps_runs.specs.Rows.{phase_of, rows_of, width_of, columns_of, cost_of, table_of}
 use Rattle.ps_runs.specs.Runs.{Subject, setting_of, LeadsTo, still, pivoted, IsLawfulPivot, pivots_in}
 use Rattle.ps_runs.proofs.Composed.{pivots_in-append}
-use Rattle.ps_phases.specs.Tables.{phase_of, homes_of, costs_for, stage_at}
-use Rattle.ps_phases.proofs.Shapes.{rows_are, same_table, stands_there, stages}
+use Rattle.ps_phases.specs.Tables.{homes_of, costs_for, stage_at}
+use Rattle.ps_phases.proofs.Shapes.{rows_are, same_table, stands_there}
 
 -- what the rule says of a table and of a column's number, where they are the same
 abbrev RuleAllows : Phase → SimplexTable → (ℕ → Rational) → ℕ → ℕ → Type 0
@@ -28,12 +29,12 @@ module _ (kind : ClaimKind) (s : Subject) (pool : List World) (t : Tableau) (kin
   lawful_pivot enter leave stands lawful =
       let rows = rows_are (setting_of s) pool t kinds worlds in
       let there : Stands (rows_of (setting_of s)) (width_of (setting_of s) pool) (columns_of (setting_of s) pool) (basic_at t) (entry_at t) = stands_there (setting_of s) pool t kinds worlds (columns_of (setting_of s) pool) stands in
-      let by_phase : RuleAllows (stage_of kind) (simplex_of t) (cost_of kind (setting_of s) pool) (number_in (length t.kinds) enter) leave =
-      subst (λ ph. RuleAllows ph (simplex_of t) (cost_of kind (setting_of s) pool) (number_in (length t.kinds) enter) leave) (stages kind) (lawful.unfinished, lawful.enters, lawful.leaves) in
-      let by_rows : RuleAllows (stage_of kind) (simplex_of t) (cost_of kind (setting_of s) pool) (number_in (rows_of (setting_of s)) enter) leave =
-      subst (λ n. RuleAllows (stage_of kind) (simplex_of t) (cost_of kind (setting_of s) pool) (number_in n enter) leave) rows by_phase in
-      let by_table : RuleAllows (stage_of kind) (table_of (setting_of s) pool (basic_at t) (entry_at t)) (cost_of kind (setting_of s) pool) (number_in (rows_of (setting_of s)) enter) leave =
-      subst (λ x. RuleAllows (stage_of kind) x (cost_of kind (setting_of s) pool) (number_in (rows_of (setting_of s)) enter) leave) (same_table (setting_of s) pool t kinds worlds) by_rows in
+      let by_phase : RuleAllows (phase_of kind) (simplex_of t) (cost_of kind (setting_of s) pool) (number_in (length t.kinds) enter) leave =
+      (lawful.unfinished, lawful.enters, lawful.leaves) in
+      let by_rows : RuleAllows (phase_of kind) (simplex_of t) (cost_of kind (setting_of s) pool) (number_in (rows_of (setting_of s)) enter) leave =
+      subst (λ n. RuleAllows (phase_of kind) (simplex_of t) (cost_of kind (setting_of s) pool) (number_in n enter) leave) rows by_phase in
+      let by_table : RuleAllows (phase_of kind) (table_of (setting_of s) pool (basic_at t) (entry_at t)) (cost_of kind (setting_of s) pool) (number_in (rows_of (setting_of s)) enter) leave =
+      subst (λ x. RuleAllows (phase_of kind) x (cost_of kind (setting_of s) pool) (number_in (rows_of (setting_of s)) enter) leave) (same_table (setting_of s) pool t kinds worlds) by_rows in
       record {
         there = subst (λ k. IsInside (rows_of (setting_of s)) k enter) worlds (subst (λ n. IsInside n t.worlds enter) rows lawful.inside);
         lawful = record { table = entry_at t; belongs = there.belongs; unfinished = by_table.0; enters = by_table.1; leaves = by_table.2 };

@@ -9,13 +9,11 @@ use Rattle.ps_pool.specs.declared.col.Col.{Col}
 use Rattle.ps_pool.specs.declared.col.Col.TheVariants as col
 use Rattle.ps_table.specs.declared.home.Home.TheVariants.{Slack}
 use Rattle.ps_table.specs.Tableau.{Tableau, IsInside, StandsFor, number_in, entry_at, basic_at}
-use Rattle.ps_bland.specs.Rules.{simplex_of, is_artificial, artificial_at, stage}
-use Rattle.ps_claims.specs.declared.claim_kind.ClaimKind.{ClaimKind}
-use Rattle.ps_claims.specs.declared.claim_kind.ClaimKind.TheVariants.{Nothing, Lower, Upper}
-use Rattle.ps_runs.specs.Rows.{Setting, stage_of, artificial_rows, artificial_of, rows_of, width_of, columns_of, table_of, IsTable}
+use Rattle.ps_bland.specs.Rules.{simplex_of, is_artificial, artificial_at}
+use Rattle.ps_runs.specs.Rows.{Setting, artificial_rows, artificial_of, rows_of, width_of, columns_of, table_of, IsTable}
 use Rattle.ps_runs.proofs.Lists.{length_map}
 use Rattle.ps_runs.proofs.Columns.{rows_length}
-use Rattle.ps_phases.specs.Tables.{phase_of, home_of, homes_of, IsRunTable}
+use Rattle.ps_phases.specs.Tables.{home_of, homes_of, IsRunTable}
 
 home_back : (b : Bool) → is_artificial (home_of b) ≡ b
 home_back true = refl
@@ -29,11 +27,6 @@ homes_back (b ∷ bs) (suc i) = homes_back bs i
 pub inside_number : (n worlds : ℕ) (c : Col) → IsInside n worlds c → (0 < number_in n c) × (number_in n c < suc (n + worlds))
 inside_number n worlds (col.Home i) h = (omega arith, omega (arith, h))
 inside_number n worlds (col.World k) h = (omega (arith, h.0), omega (arith, h.1))
-
-pub stages : (kind : ClaimKind) → stage (phase_of kind) ≡ stage_of kind
-stages Nothing = refl
-stages Lower = refl
-stages Upper = refl
 
 pub homes_count : (s : Setting) → length (homes_of s) ≡ rows_of s
 homes_count s = length_map home_of (artificial_rows s) ∙ rows_length s

@@ -18,7 +18,7 @@ use Rattle.ps_table.specs.declared.place.WideAt.{WideAt}
 use Rattle.ps_table.specs.Tableau.{Tableau, IsTableau, IsAdded, StandsWith, StandsForHomes, HasUnitHomes, HasBasicHomes, rows_of as table_rows, entry_at, basic_at}
 use Rattle.ps_table.specs.Pricing.{cost_at}
 use Rattle.ps_table.specs.Places.{MultiplierPlace, WeightPlace, weight_at, IsWideAt, HomePlaces, NewPlaces}
-use Rattle.ps_bland.specs.Rules.{simplex_of, stage, IsDone}
+use Rattle.ps_bland.specs.Rules.{simplex_of, IsDone}
 use Rattle.ps_bland.specs.Ends.{IsDueWide}
 use Rattle.ps_bland.specs.Ready.{HasValues, IsReady}
 use Rattle.ps_bland.specs.Runs as bland
@@ -37,9 +37,9 @@ use Rattle.ps_claims.specs.Validity.{IsValidVerdict, IsValid}
 use Rattle.ps_claims.specs.Duals.{Dual}
 use Rattle.ps_runs.specs.Certificates.{HaveSameNumbers, table_dual, weighted_worlds, table_model}
 use Rattle.ps_runs.specs.Searches.{IsSpentSearch}
-use Rattle.ps_runs.specs.Rows.{Setting, world_cost, table_of, entries_of, IsTable}
+use Rattle.ps_runs.specs.Rows.{Setting, phase_of, world_cost, table_of, entries_of, IsTable}
 use Rattle.ps_runs.specs.Runs.{Subject, setting_of, given_in, both_in, IsAsked, atoms_of, goal_at_least, Stage, table_at, dual_at, IsStart, IsPool, IsMovingAt, IsRestingAt, IsFeasibleAt, IsPricedBy, LeadsToPending}
-use Rattle.ps_phases.specs.Tables.{phase_of, homes_of, costs_for, IsRunTable, stage_at, IsUnderWay}
+use Rattle.ps_phases.specs.Tables.{homes_of, costs_for, IsRunTable, stage_at, IsUnderWay}
 use Rattle.ps_phases.specs.Licences.{IsModelDue, IsOutOfConflicts, IsTooWide, IsColumnTooWide}
 use Rattle.ps_phases.specs.Verdicts.{IsVerdictAt, IsLawfulPhaseOne, IsLawfulVerdict, IsSideAt, IsLawfulSide, IsLawfulAnswer}
 
@@ -86,22 +86,22 @@ pub record PhasesGoOn : Type 0 where
 pub record PricedWorldsTakePivots : Type 0 where
   pub moving : (kind : ClaimKind) (s : Subject) (conflicts : ℕ) (pool : List World) (t u : Tableau) (w : World) → IsRunTable (setting_of s) pool t
       → IsPricedBy kind s conflicts (stage_at pool t) (entry_at t) w → IsAdded (entries_of (setting_of s) w) t u
-      → IsMoving (stage (phase_of kind)) (simplex_of u) (cost_at (costs_for kind (setting_of s) (pool ++ w ∷ [])))
+      → IsMoving (phase_of kind) (simplex_of u) (cost_at (costs_for kind (setting_of s) (pool ++ w ∷ [])))
   pub fewer : (kind : ClaimKind) (s : Subject) (conflicts : ℕ) (pool : List World) (t u : Tableau) (w : World) → IsRunTable (setting_of s) pool t
       → IsPricedBy kind s conflicts (stage_at pool t) (entry_at t) w → IsAdded (entries_of (setting_of s) w) t u
       → (v : Tableau) (trace longer : List Event) (left now : ℕ)
       → bland.Ran (phase_of kind) (costs_for kind (setting_of s) (pool ++ w ∷ [])) u v trace longer left now
-      → (IsMoving (stage (phase_of kind)) (simplex_of v) (cost_at (costs_for kind (setting_of s) (pool ++ w ∷ []))) → ⊥) → now < left
+      → (IsMoving (phase_of kind) (simplex_of v) (cost_at (costs_for kind (setting_of s) (pool ++ w ∷ []))) → ⊥) → now < left
 
 -- where `settle` leaves a run's table, its stage is so
 pub record SettledStages : Type 0 where
   pub feasible : (s : Subject) (pool : List World) (t : Tableau) → IsRunTable (setting_of s) pool t → IsDone (phase_of Nothing) t
       → IsFeasibleAt s (stage_at pool t) (entry_at t)
   pub resting : (s : Subject) (pool : List World) (t : Tableau) → IsRunTable (setting_of s) pool t → (kind : ClaimKind)
-      → IsResting (stage (phase_of kind)) (simplex_of t) (cost_at (costs_for kind (setting_of s) pool))
+      → IsResting (phase_of kind) (simplex_of t) (cost_at (costs_for kind (setting_of s) pool))
       → IsRestingAt kind s (stage_at pool t) (entry_at t)
   pub moving : (s : Subject) (pool : List World) (t : Tableau) → IsRunTable (setting_of s) pool t → (kind : ClaimKind)
-      → IsMoving (stage (phase_of kind)) (simplex_of t) (cost_at (costs_for kind (setting_of s) pool)) → IsMovingAt kind s (stage_at pool t)
+      → IsMoving (phase_of kind) (simplex_of t) (cost_at (costs_for kind (setting_of s) pool)) → IsMovingAt kind s (stage_at pool t)
 
 -- a number that is too wide at a place of a run's table is so at a due place: in `settle`; at rest in the multiplier of a row and
 -- in the whole multiples of the multipliers; in the weights of a model that is due; and in the column of a world

@@ -16,7 +16,7 @@ use Rattle.ps_answer.specs.declared.answer.Cause.{Cause}
 use Rattle.ps_answer.specs.declared.answer.Cause.TheVariants.{Pivots, Conflicts, Wide}
 use Rattle.ps_claims.specs.declared.claim_kind.ClaimKind.{ClaimKind}
 use Rattle.ps_claims.specs.declared.claim_kind.ClaimKind.TheVariants.{Nothing, Lower, Upper}
-use Rattle.ps_runs.specs.Rows.{stage_of, rows_of, entries_of}
+use Rattle.ps_runs.specs.Rows.{phase_of, rows_of, entries_of}
 use Rattle.ps_runs.specs.Searches.{IsSpentSearch}
 use Rattle.ps_runs.specs.Runs.{Subject, setting_of, Stage, table_at, costs_at, dual_at, goal_at_least, BelongsTo, IsMovingAt, IsRestingAt, IsFeasibleAt, AreAtMost}
 
@@ -30,7 +30,7 @@ IsModelDue Upper s g X = IsRestingAt Upper s g X × AreAtMost Upper s g X (pos 0
 -- row and for the whole multiples of the multipliers; where a model is due, for its weights
 pub data DueAt (kind : ClaimKind) (s : Subject) (g : Stage) (left : ℕ) (X : ℕ → ℕ → Rational) : Place → Op → Rational → Rational → Type 0 where
   for_pivots : (place : Place) (op : Op) (l r : Rational)
-      → DuePlace (stage_of kind) (table_at s g X) (length g.pool) left (costs_at kind s g) place op l r → DueAt kind s g left X place op l r
+      → DuePlace (phase_of kind) (table_at s g X) (length g.pool) left (costs_at kind s g) place op l r → DueAt kind s g left X place op l r
   for_multiplier : (i : ℕ) (place : Place) (op : Op) (l r : Rational) → IsRestingAt kind s g X → i < rows_of (setting_of s)
       → CostPlace (rows_of (setting_of s)) (costs_at kind s g) g.basis X (Home i) place op l r → DueAt kind s g left X place op l r
   for_dual : (place : Place) (op : Op) (l r : Rational) → IsRestingAt kind s g X

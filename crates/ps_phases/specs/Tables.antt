@@ -6,19 +6,11 @@ use Rattle.ps_table.specs.declared.home.Home.{Home}
 use Rattle.ps_table.specs.declared.home.Home.TheVariants.{Slack, Artificial}
 use Rattle.ps_table.specs.declared.costs.Costs.{Costs}
 use Rattle.ps_table.specs.Tableau.{Tableau, IsTableau, StandsFor, basic_at}
-use Rattle.ps_bland.specs.declared.phase.Phase.{Phase}
-use Rattle.ps_bland.specs.declared.phase.Phase.TheVariants as phase
 use Rattle.ps_bland.specs.Ready.{HasValues}
 use Rattle.ps_claims.specs.declared.claim_kind.ClaimKind.{ClaimKind}
 use Rattle.ps_claims.specs.declared.claim_kind.ClaimKind.TheVariants.{Nothing, Lower, Upper}
 use Rattle.ps_runs.specs.Rows.{Setting, artificial_rows, columns_of, home_cost, world_cost}
 use Rattle.ps_runs.specs.Runs.{Subject, setting_of, atoms_of, Stage, IsPool, LeadsTo, pivots_in}
-
--- the phase that shows a claim of this kind
-abbrev pub phase_of : ClaimKind → Phase
-phase_of Nothing = phase.One
-phase_of Lower = phase.Lower
-phase_of Upper = phase.Upper
 
 -- the kind of a home: artificial, else a slack
 abbrev pub home_of : Bool → Home

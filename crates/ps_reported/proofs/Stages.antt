@@ -15,13 +15,15 @@ use Rattle.ps_basis.proofs.Columns.{stands_more}
 use Rattle.ps_basis.proofs.OneTable.{one_table}
 use Rattle.ps_basis.proofs.Agreeing.{same_stands}
 use Rattle.ps_basis.proofs.Units.{less_one}
-use Rattle.ps_rule.specs.Rule.{Phase, First, Second, SimplexTable, carried, Improves, HasLeastRatio, Leaves}
+use Rattle.ps_rule.specs.declared.phase.Phase.{Phase}
+use Rattle.ps_rule.specs.declared.phase.Phase.TheVariants.{One, Lower, Upper}
+use Rattle.ps_rule.specs.Rule.{SimplexTable, carried, Improves, HasLeastRatio, LeavesInPhaseTwo, Leaves}
 use Rattle.ps_rule.specs.Pivots.{IsLawfulAt}
 use Rattle.ps_rule.specs.Laws.{multipliers}
 use Rattle.ps_rule.proofs.Combination.{priced_improves}
 use Rattle.ps_claims.specs.declared.claim_kind.ClaimKind.{ClaimKind}
 use Rattle.ps_claims.specs.declared.claim_kind.ClaimKind.TheVariants.{Nothing}
-use Rattle.ps_runs.specs.Rows.{Setting, stage_of, entries_of, artificial_rows, rows_of, columns_of, width_of, system_of, world_cost, cost_of, table_of}
+use Rattle.ps_runs.specs.Rows.{Setting, phase_of, entries_of, artificial_rows, rows_of, columns_of, width_of, system_of, world_cost, cost_of, table_of}
 use Rattle.ps_runs.specs.Certificates.{combination_at, multiple_of, price}
 use Rattle.ps_runs.specs.Runs.{Subject, setting_of, Stage, IsStart, IsFeasibleAt, IsPricedAt}
 use Rattle.ps_runs.proofs.Lists.{get_left, get_past}
@@ -77,26 +79,30 @@ record LeavesWell (f : SimplexTable) (q p : ℕ) : Type 0 where
 by_ratio : (f : SimplexTable) (q p : ℕ) → HasLeastRatio f q p → LeavesWell f q p
 by_ratio f q p h = record { within = h.rising.within; entry = above_not_zero (f.entry p q) h.rising.above }
 
-leaves_well : (phase : Phase) (f : SimplexTable) (q p : ℕ) → Leaves phase f q p → LeavesWell f q p
-leaves_well First f q p h = by_ratio f q p h
-leaves_well Second f q p h = elim h [
+in_phase_two : (f : SimplexTable) (q p : ℕ) → LeavesInPhaseTwo f q p → LeavesWell f q p
+in_phase_two f q p h = elim h [
   | inl a ↦ record { within = a.row.within; entry = a.row.entry }
   | inr b ↦ by_ratio f q p b.1
 ]
 
+leaves_well : (phase : Phase) (f : SimplexTable) (q p : ℕ) → Leaves phase f q p → LeavesWell f q p
+leaves_well One f q p h = by_ratio f q p h
+leaves_well Lower f q p h = in_phase_two f q p h
+leaves_well Upper f q p h = in_phase_two f q p h
+
 -- the leaving row of a lawful pivot is one of the rows
 pub leaving_row : (kind : ClaimKind) (s : Setting) (pool : List World) (basic : ℕ → ℕ) (cost : ℕ → Rational) (q p : ℕ)
-    → IsLawfulAt (stage_of kind) (system_of s pool) cost (width_of s pool) basic q p → p < rows_of s
+    → IsLawfulAt (phase_of kind) (system_of s pool) cost (width_of s pool) basic q p → p < rows_of s
 leaving_row kind s pool basic cost q p lawful =
-    (leaves_well (stage_of kind) (table_of s pool basic lawful.table) q p lawful.leaves).within
+    (leaves_well (phase_of kind) (table_of s pool basic lawful.table) q p lawful.leaves).within
 
 pub pivot_table : (kind : ClaimKind) (s : Setting) (pool : List World) (basic new : ℕ → ℕ) (cost : ℕ → Rational) (q p : ℕ) → HasTable s pool basic
-    → IsLawfulAt (stage_of kind) (system_of s pool) cost (width_of s pool) basic q p → Based (rows_of s) p q basic new → HasTable s pool new
+    → IsLawfulAt (phase_of kind) (system_of s pool) cost (width_of s pool) basic q p → Based (rows_of s) p q basic new → HasTable s pool new
 pivot_table kind s pool basic new cost q p h lawful based =
     let n = rows_of s in
     let w = width_of s pool in
     let A = columns_of s pool in
-    let well = leaves_well (stage_of kind) (table_of s pool basic lawful.table) q p lawful.leaves in
+    let well = leaves_well (phase_of kind) (table_of s pool basic lawful.table) q p lawful.leaves in
     let hn : n < w = omega arith in
     let hc : q < w = lawful.enters.improves.within in
     let hp : p < n = well.within in

@@ -6,7 +6,9 @@ use Rattle.ps_rational.specs.Order.{AtMost, IsLess, IsAbove}
 use Rattle.ps_rational.specs.Sums.{sum_to}
 use Rattle.ps_basis.specs.Table.{Based, IsBasis, AreSameWithin, HaveSameCosts}
 use Rattle.ps_basis.proofs.Agreeing.{same_carried, same_belongs}
-use Rattle.ps_rule.specs.Rule.{Phase, First, Second, SimplexTable, Improves, IsFeasible, IsDueToEnd, IsMoving, IsResting, Enters, IsArtificialRow, IsLeastArtificialRow, IsRising, ratio, Precedes, HasLeastRatio, Leaves}
+use Rattle.ps_rule.specs.declared.phase.Phase.{Phase}
+use Rattle.ps_rule.specs.declared.phase.Phase.TheVariants.{One, Lower, Upper}
+use Rattle.ps_rule.specs.Rule.{SimplexTable, Improves, IsFeasible, IsDueToEnd, IsMoving, IsResting, Enters, IsArtificialRow, IsLeastArtificialRow, IsRising, ratio, Precedes, HasLeastRatio, LeavesInPhaseTwo, Leaves}
 use Rattle.ps_rule.specs.Pivots.{System, system_of, IsLawfulAt, Pivot, Pivots, still, more}
 use Rattle.ps_rule.specs.Laws.{HaveSameArtificials, AreAlike, table_of}
 
@@ -41,8 +43,9 @@ module _ (n w : ℕ) (basic : ℕ → ℕ) (a b : ℕ → Bool) (cost other : �
   feasible h = record { zero = λ i l e. sym (alike.entries.same i 0 l alike.some) ∙ h.zero i l (alike.artificials.same (basic i) (alike.basis i l) ∙ e) }
 
   pub due : (phase : Phase) → IsDueToEnd phase (table_of n w basic a X) → IsDueToEnd phase (table_of n w basic b Y)
-  due First h = feasible h
-  due Second h = h
+  due One h = feasible h
+  due Lower h = h
+  due Upper h = h
 
   artificial : (q i : ℕ) → q < w → IsArtificialRow F q i → IsArtificialRow G q i
   artificial q i l h = record {
@@ -87,13 +90,17 @@ module _ (n w : ℕ) (basic : ℕ → ℕ) (a b : ℕ → Bool) (cost other : �
     least = λ i k r. h.least i k (artificial n w basic b a other cost Y X back q i l r);
   }
 
-  pub leaves : (phase : Phase) (q p : ℕ) → q < w → Leaves phase (table_of n w basic a X) q p → Leaves phase (table_of n w basic b Y) q p
-  leaves First q p l h = ratio_least q p l h
-  leaves Second q p l h =
+  in_phase_two : (q p : ℕ) → q < w → LeavesInPhaseTwo (table_of n w basic a X) q p → LeavesInPhaseTwo (table_of n w basic b Y) q p
+  in_phase_two q p l h =
       elim h [
         | inl r ↦ inl (row_least q p l r)
         | inr r ↦ inr (λ i k. r.0 i (artificial n w basic b a other cost Y X back q i l k), ratio_least q p l r.1)
       ]
+
+  pub leaves : (phase : Phase) (q p : ℕ) → q < w → Leaves phase (table_of n w basic a X) q p → Leaves phase (table_of n w basic b Y) q p
+  leaves One q p l h = ratio_least q p l h
+  leaves Lower q p l h = in_phase_two q p l h
+  leaves Upper q p l h = in_phase_two q p l h
 
   pub moving : (phase : Phase) → IsMoving phase (table_of n w basic a X) cost → IsMoving phase (table_of n w basic b Y) other
   moving phase h = record {

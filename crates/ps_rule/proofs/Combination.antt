@@ -12,7 +12,8 @@ use Rattle.ps_rational.proofs.Sums.{sum_same, sum_scale}
 use Rattle.ps_rational.proofs.Whole.{whole-add, whole-mul, whole_sum, unscaled}
 use Rattle.ps_basis.specs.Table.{Stands}
 use Rattle.ps_basis.proofs.Pricing.{carried_is_priced}
-use Rattle.ps_rule.specs.Rule.{Phase, SimplexTable, carried, Improves, IsResting}
+use Rattle.ps_rule.specs.declared.phase.Phase.{Phase}
+use Rattle.ps_rule.specs.Rule.{SimplexTable, carried, Improves, IsResting}
 use Rattle.ps_rule.specs.Pivots.{System, simplex_table}
 
 -- F is a whole positive multiple of what a column carries above its cost: it is at least 1 exactly where the column improves

@@ -6,7 +6,9 @@ use Rattle.ps_rational.proofs.Field.{one_not_zero}
 use Rattle.ps_rational.proofs.Order.{at_most_antisym}
 use Rattle.ps_basis.specs.Table.{Stands, IsBasis}
 use Rattle.ps_basis.proofs.OneTable as tables
-use Rattle.ps_rule.specs.Rule.{Phase, First, Second, Improves, IsArtificialRow, ratio, HasLeastRatio, Leaves}
+use Rattle.ps_rule.specs.declared.phase.Phase.{Phase}
+use Rattle.ps_rule.specs.declared.phase.Phase.TheVariants.{One, Lower, Upper}
+use Rattle.ps_rule.specs.Rule.{Improves, IsArtificialRow, ratio, HasLeastRatio, LeavesInPhaseTwo, Leaves}
 use Rattle.ps_rule.specs.Pivots.{System, simplex_table, IsLawfulAt}
 use Rattle.ps_rule.specs.Laws.{AreAlike}
 use Rattle.ps_rule.proofs.Alike as alike
@@ -41,9 +43,8 @@ module _ (s : System) (cost : ℕ → Rational) (w : ℕ) (basic : ℕ → ℕ) 
       let g = b.tie (sym e) in
       distinct p r h.rising.within k.rising.within (omega arith)
 
-  one_leaves : (phase : Phase) (q p r : ℕ) → Leaves phase (simplex_table s w basic X) q p → Leaves phase (simplex_table s w basic X) q r → p ≡ r
-  one_leaves First q p r h k = one_ratio q p r h k
-  one_leaves Second q p r h k =
+  one_in_phase_two : (q p r : ℕ) → LeavesInPhaseTwo (simplex_table s w basic X) q p → LeavesInPhaseTwo (simplex_table s w basic X) q r → p ≡ r
+  one_in_phase_two q p r h k =
       elim h [
         | inl a ↦
             elim k [
@@ -56,6 +57,11 @@ module _ (s : System) (cost : ℕ → Rational) (w : ℕ) (basic : ℕ → ℕ) 
               | inr b ↦ one_ratio q p r a.1 b.1
             ]
       ]
+
+  one_leaves : (phase : Phase) (q p r : ℕ) → Leaves phase (simplex_table s w basic X) q p → Leaves phase (simplex_table s w basic X) q r → p ≡ r
+  one_leaves One q p r h k = one_ratio q p r h k
+  one_leaves Lower q p r h k = one_in_phase_two q p r h k
+  one_leaves Upper q p r h k = one_in_phase_two q p r h k
 
 pub one_pivot : (phase : Phase) (s : System) (cost : ℕ → Rational) (w : ℕ) (basic : ℕ → ℕ) (X : ℕ → ℕ → Rational) (q p k r : ℕ)
     → s.rows < w → IsBasis s.rows w basic → Stands s.rows w s.columns basic X

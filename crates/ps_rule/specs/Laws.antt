@@ -4,7 +4,8 @@ use Rattle.ps_rational.specs.Rational.{Rational, whole, mul, neg, sub, zero_q, o
 use Rattle.ps_rational.specs.Order.{IsNonneg, AtMost, IsLess}
 use Rattle.ps_rational.specs.Sums.{sum_to, int_sum_to}
 use Rattle.ps_basis.specs.Table.{Stands, IsBasis, AreSameWithin, HaveSameCosts}
-use Rattle.ps_rule.specs.Rule.{Phase, SimplexTable, carried, Improves, IsDueToEnd, IsMoving, IsResting, Enters, Leaves}
+use Rattle.ps_rule.specs.declared.phase.Phase.{Phase}
+use Rattle.ps_rule.specs.Rule.{SimplexTable, carried, Improves, IsDueToEnd, IsMoving, IsResting, Enters, Leaves}
 use Rattle.ps_rule.specs.Pivots.{System, system_of, simplex_table, IsLawfulAt, Pivot, Pivots}
 
 -- two pivots by the rule at a basis whose table is kept by pivots are the same

@@ -2,7 +2,8 @@
 use Rattle.std.specs.Prelude.{ℕ, Bool, List, [], ◌∷◌, ◌++◌}
 use Rattle.ps_rational.specs.Rational.{Rational}
 use Rattle.ps_basis.specs.Table.{Belongs, Based}
-use Rattle.ps_rule.specs.Rule.{Phase, SimplexTable, Enters, IsDueToEnd, Leaves}
+use Rattle.ps_rule.specs.declared.phase.Phase.{Phase}
+use Rattle.ps_rule.specs.Rule.{SimplexTable, Enters, IsDueToEnd, Leaves}
 
 -- rows and columns: column 0 is the right side, then come the homes, then the worlds
 pub record System : Type 0 where

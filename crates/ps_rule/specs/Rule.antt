@@ -3,10 +3,8 @@ use Rattle.std.specs.Prelude.{◌≡◌, ◌≢◌, ◌⊎◌, ℕ, ◌<◌, ◌
 use Rattle.ps_rational.specs.Rational.{Rational, div, zero_q}
 use Rattle.ps_rational.specs.Order.{AtMost, IsLess, IsAbove}
 use Rattle.ps_basis.specs.Table.{carried_by}
-
--- phase one looks for a table whose basic artificials have value 0, phase two for the best one
-pub data Phase : Type 0 where
-  First Second : Phase
+use Rattle.ps_rule.specs.declared.phase.Phase.{Phase}
+use Rattle.ps_rule.specs.declared.phase.Phase.TheVariants.{One, Lower, Upper}
 
 -- a table as the rule sees it: column 0 is the right side, the others stand in their order
 pub record SimplexTable : Type 0 where
@@ -33,8 +31,9 @@ pub record IsFeasible (f : SimplexTable) : Type 0 where
 
 -- phase one is due to end at a feasible table, phase two never is
 abbrev pub IsDueToEnd : Phase → SimplexTable → Type 0
-IsDueToEnd First f = IsFeasible f
-IsDueToEnd Second f = ⊥
+IsDueToEnd One f = IsFeasible f
+IsDueToEnd Lower f = ⊥
+IsDueToEnd Upper f = ⊥
 
 -- not due to end, and a column improves
 pub record IsMoving (phase : Phase) (f : SimplexTable) (cost : ℕ → Rational) : Type 0 where
@@ -57,6 +56,10 @@ pub record IsArtificialRow (f : SimplexTable) (q i : ℕ) : Type 0 where
   pub within : i < f.rows
   pub artificial : f.artificial (f.basic i) ≡ true
   pub entry : f.entry i q ≢ zero_q
+
+-- there is no artificial row
+abbrev pub HasNoArtificialRow : SimplexTable → ℕ → Type 0
+HasNoArtificialRow f q = (i : ℕ) → IsArtificialRow f q i → ⊥
 
 -- the artificial row of least number
 pub record IsLeastArtificialRow (f : SimplexTable) (q p : ℕ) : Type 0 where
@@ -82,7 +85,12 @@ pub record HasLeastRatio (f : SimplexTable) (q p : ℕ) : Type 0 where
   pub rising : IsRising f q p
   pub least : (i : ℕ) → IsRising f q i → Precedes f q p i
 
--- the leaving row: in phase two the least artificial row, where there is one
+-- in phase two the least artificial row leaves, where there is one, else a row of least ratio
+abbrev pub LeavesInPhaseTwo : SimplexTable → ℕ → ℕ → Type 0
+LeavesInPhaseTwo f q p = IsLeastArtificialRow f q p ⊎ (HasNoArtificialRow f q × HasLeastRatio f q p)
+
+-- the leaving row: in phase one a row of least ratio, on both sides the one of phase two
 abbrev pub Leaves : Phase → SimplexTable → ℕ → ℕ → Type 0
-Leaves First f q p = HasLeastRatio f q p
-Leaves Second f q p = IsLeastArtificialRow f q p ⊎ (((i : ℕ) → IsArtificialRow f q i → ⊥) × HasLeastRatio f q p)
+Leaves One f q p = HasLeastRatio f q p
+Leaves Lower f q p = LeavesInPhaseTwo f q p
+Leaves Upper f q p = LeavesInPhaseTwo f q p

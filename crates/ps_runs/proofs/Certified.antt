@@ -17,7 +17,7 @@ use Rattle.ps_claims.specs.Goals.{value_under, plus, at_node, at_condition, rows
 use Rattle.ps_claims.specs.Validity.{IsRefuted, ShowsNothing}
 use Rattle.ps_claims.proofs.NodeSums.{value-nothing, value-claimed, value-combination}
 use Rattle.ps_claims.proofs.Refutations.{extension-meets}
-use Rattle.ps_runs.specs.Rows.{stage_of, IsTable}
+use Rattle.ps_runs.specs.Rows.{phase_of, IsTable}
 use Rattle.ps_runs.specs.Certificates.{table_model, HaveSameNumbers}
 use Rattle.ps_runs.specs.Runs.{Subject, setting_of, asked_in, given_in, both_in, IsAsked, atoms_of, combination_over, goal_at_least, Stage, IsPool, table_at, costs_at, dual_at, AreAtMost}
 use Rattle.ps_runs.proofs.Resting.{rest_signs}
@@ -56,7 +56,7 @@ same_combination kind given both bounds d e same = λ i. plus (same_claim kind g
 
 module _ (kind : ClaimKind) (s : Subject) (g : Stage) (X : ℕ → ℕ → Rational) (d : Dual) (same : HaveSameNumbers d (dual_at kind s g X)) where
   -- steps that refute the table's goal make a dual with its numbers a refutation
-  pub refuted_at_rest : IsResting (stage_of kind) (table_at s g X) (costs_at kind s g)
+  pub refuted_at_rest : IsResting (phase_of kind) (table_at s g X) (costs_at kind s g)
       → Refutes (length s.parts.nodes) (first_known (form_of s.parts.nodes) (goal_at_least (pos 1) kind s (dual_at kind s g X))) d.steps
       → IsRefuted s.parts kind (given_in s.query) (both_in s.query) d
   refuted_at_rest rest steps = record {
@@ -68,7 +68,7 @@ module _ (kind : ClaimKind) (s : Subject) (g : Stage) (X : ℕ → ℕ → Ratio
 
 -- where phase one so rests, nothing is allowed
 pub nothing_at_rest : (s : Subject) (g : Stage) (X : ℕ → ℕ → Rational) (d : Dual) → HaveSameNumbers d (dual_at Nothing s g X)
-    → IsTable (setting_of s) g.pool g.basis X → IsResting (stage_of Nothing) (table_at s g X) (costs_at Nothing s g)
+    → IsTable (setting_of s) g.pool g.basis X → IsResting (phase_of Nothing) (table_at s g X) (costs_at Nothing s g)
     → Refutes (length s.parts.nodes) (first_known (form_of s.parts.nodes) (goal_at_least (pos 1) Nothing s (dual_at Nothing s g X))) d.steps
     → ShowsNothing s.parts (given_in s.query) d
 nothing_at_rest s g X d same t rest steps =

@@ -8,7 +8,7 @@ use Rattle.ps_meaning.specs.Formula.{World}
 use Rattle.ps_basis.specs.Table.{Widened}
 use Rattle.ps_basis.proofs.Units.{less_one}
 use Rattle.ps_rule.specs.Rule.{carried, Improves, IsDueToEnd, IsMoving, IsResting}
-use Rattle.ps_runs.specs.Rows.{Setting, stage_of, entries_of, artificial_rows, rows_of, columns_of, width_of, world_cost, cost_of, table_of, IsTable}
+use Rattle.ps_runs.specs.Rows.{Setting, phase_of, entries_of, artificial_rows, rows_of, columns_of, width_of, world_cost, cost_of, table_of, IsTable}
 use Rattle.ps_runs.specs.Certificates.{table_dual, price}
 use Rattle.ps_runs.proofs.Lists.{get_left, get_past}
 use Rattle.ps_runs.proofs.Columns.{rows_length, home_cost_at, world_cost_at}
@@ -40,7 +40,7 @@ pool_improves kind s pool basic X k t l less = record {
 
 -- so no world of the pool is priced at rest
 pub priced_is_new : (kind : ClaimKind) (s : Setting) (pool : List World) (basic : ℕ → ℕ) (X : ℕ → ℕ → Rational) (k : ℕ) → IsTable s pool basic X
-    → IsResting (stage_of kind) (table_of s pool basic X) (cost_of kind s pool) → k < length pool
+    → IsResting (phase_of kind) (table_of s pool basic X) (cost_of kind s pool) → k < length pool
     → pos 1 ≤ℤ combination kind s.bounds s.query (table_dual kind s (table_of s pool basic X) (cost_of kind s pool)) (get_or pool k []) → ⊥
 priced_is_new kind s pool basic X k t rest l above =
     rest.none (suc (rows_of s + k)) (pool_improves kind s pool basic X k t l ((above_priced kind s (table_of s pool basic X) (cost_of kind s pool) (get_or pool k []) refl).0 (omega (arith, ints, above))))
@@ -84,15 +84,15 @@ module _ (kind : ClaimKind) (s : Setting) (pool : List World) (w : World) (basic
       pool_improves kind s (pool ++ w ∷ []) basic Z (length pool) (added_table s pool w basic X Z t wide) (omega (arith, length-append pool (w ∷ [])))
       (subst (λ v. IsLess (whole (world_cost kind s v)) (price s (table_of s (pool ++ w ∷ []) basic Z) (cost_of kind s (pool ++ w ∷ [])) v)) (sym (last_world pool w)) moved)
 
-  still_unfinished : (b : ClaimKind) → (IsDueToEnd (stage_of b) (table_of s pool basic X) → ⊥) → IsDueToEnd (stage_of b) (table_of s (pool ++ w ∷ []) basic Z) → ⊥
+  still_unfinished : (b : ClaimKind) → (IsDueToEnd (phase_of b) (table_of s pool basic X) → ⊥) → IsDueToEnd (phase_of b) (table_of s (pool ++ w ∷ []) basic Z) → ⊥
   still_unfinished Nothing h feasible = h (record { zero = λ i l art. sym (wide.same i 0 l (omega arith)) ∙ feasible.zero i l art })
   still_unfinished Lower h due = due
   still_unfinished Upper h due = due
 
   -- so the table is moving
-  pub priced_moves : IsResting (stage_of kind) (table_of s pool basic X) (cost_of kind s pool)
+  pub priced_moves : IsResting (phase_of kind) (table_of s pool basic X) (cost_of kind s pool)
       → pos 1 ≤ℤ combination kind s.bounds s.query (table_dual kind s (table_of s pool basic X) (cost_of kind s pool)) w
-      → IsMoving (stage_of kind) (table_of s (pool ++ w ∷ []) basic Z) (cost_of kind s (pool ++ w ∷ []))
+      → IsMoving (phase_of kind) (table_of s (pool ++ w ∷ []) basic Z) (cost_of kind s (pool ++ w ∷ []))
   priced_moves rest above = record {
     unfinished = still_unfinished kind rest.unfinished;
     column = suc (rows_of s + length pool);

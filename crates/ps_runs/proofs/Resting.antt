@@ -19,7 +19,7 @@ use Rattle.ps_basis.proofs.Units.{less_one}
 use Rattle.ps_rule.specs.Rule.{carried, IsResting}
 use Rattle.ps_rule.proofs.Combination.{resting_most}
 use Rattle.ps_problem.specs.Rows.{turned}
-use Rattle.ps_runs.specs.Rows.{Setting, stage_of, is_exact, entries_of, artificial_rows, rows_of, columns_of, width_of, cost_of, table_of, IsTable}
+use Rattle.ps_runs.specs.Rows.{Setting, phase_of, is_exact, entries_of, artificial_rows, rows_of, columns_of, width_of, cost_of, table_of, IsTable}
 use Rattle.ps_runs.specs.Certificates.{signed, table_dual, multiple_of, whole_multiplier, price}
 use Rattle.ps_runs.proofs.Columns.{world_at, slack_cost}
 use Rattle.ps_rule.specs.Laws.{multipliers}
@@ -58,16 +58,16 @@ signed_from (b ∷ bs) P h = (turned_sign b.side (P 0) (h 0 (omega arith)), sign
 at_most_zero : (x : Rational) → AtMost x zero_q → IsNonneg (neg x)
 at_most_zero x h = subst IsNonneg (ring_q (x ∷ []) (plus none (minus (var 0))) (minus (var 0)) refl) h
 
-signs_of : (kind : ClaimKind) (s : Setting) (pool : List World) (basic : ℕ → ℕ) (X : ℕ → ℕ → Rational) → IsResting (stage_of kind) (table_of s pool basic X) (cost_of kind s pool)
+signs_of : (kind : ClaimKind) (s : Setting) (pool : List World) (basic : ℕ → ℕ) (X : ℕ → ℕ → Rational) → IsResting (phase_of kind) (table_of s pool basic X) (cost_of kind s pool)
     → HaveSigns s.bounds (signed s.bounds (λ i. whole_multiplier (table_of s pool basic X) (cost_of kind s pool) (suc i)))
 signs_of kind s pool basic X rest =
     signed_from s.bounds (λ i. whole_multiplier (table_of s pool basic X) (cost_of kind s pool) (suc i))
     (λ i l e. scaled_low (multiple_of (table_of s pool basic X) (cost_of kind s pool)) (multipliers (table_of s pool basic X) (cost_of kind s pool) (suc i))
     (at_most_zero (multipliers (table_of s pool basic X) (cost_of kind s pool) (suc i))
     (subst (AtMost (multipliers (table_of s pool basic X) (cost_of kind s pool) (suc i))) (slack_cost kind s pool (suc i) (omega arith) e)
-    (resting_most (stage_of kind) (table_of s pool basic X) (cost_of kind s pool) (suc (suc i)) rest (omega arith) (omega arith) (ap (λ k. get_or (artificial_rows s) k false) (less_one (suc i)) ∙ e)))))
+    (resting_most (phase_of kind) (table_of s pool basic X) (cost_of kind s pool) (suc (suc i)) rest (omega arith) (omega arith) (ap (λ k. get_or (artificial_rows s) k false) (less_one (suc i)) ∙ e)))))
 
-pub rest_signs : (kind : ClaimKind) (s : Setting) (pool : List World) (basic : ℕ → ℕ) (X : ℕ → ℕ → Rational) → IsResting (stage_of kind) (table_of s pool basic X) (cost_of kind s pool)
+pub rest_signs : (kind : ClaimKind) (s : Setting) (pool : List World) (basic : ℕ → ℕ) (X : ℕ → ℕ → Rational) → IsResting (phase_of kind) (table_of s pool basic X) (cost_of kind s pool)
     → HaveSigns s.bounds (table_dual kind s (table_of s pool basic X) (cost_of kind s pool)).rows
 rest_signs Nothing s pool basic X rest = signs_of Nothing s pool basic X rest
 rest_signs Lower s pool basic X rest = signs_of Lower s pool basic X rest

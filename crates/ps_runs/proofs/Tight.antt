@@ -14,7 +14,7 @@ use Rattle.ps_claims.specs.declared.claim_kind.ClaimKind.{ClaimKind}
 use Rattle.ps_claims.specs.declared.claim_kind.ClaimKind.TheVariants.{Nothing}
 use Rattle.ps_claims.specs.Duals.{Dual, HasValueHead}
 use Rattle.ps_claims.specs.Validity.{ShowsTight}
-use Rattle.ps_runs.specs.Rows.{stage_of, both_of, IsTable}
+use Rattle.ps_runs.specs.Rows.{phase_of, both_of, IsTable}
 use Rattle.ps_runs.specs.Certificates.{HaveSameNumbers, weighted_worlds, table_model}
 use Rattle.ps_runs.specs.Runs.{Subject, setting_of, atoms_of, goal_at_least, Stage, IsPool, table_at, costs_at, dual_at}
 use Rattle.ps_runs.proofs.Ends.{reached}
@@ -37,7 +37,7 @@ module _ (kind : ClaimKind) (p : Parts) (q : stored.Query) (g : Stage) (X : ℕ 
 
   pub tight_at_end : kind ≢ Nothing → HaveSameNumbers d (dual_at kind s g X) → HasValueHead value d
       → IsTable (setting_of s) g.pool g.basis X → IsFeasible (table_at s g X) → IsPool (atoms_of s) g.pool
-      → IsResting (stage_of kind) (table_at s g X) (costs_at kind s g)
+      → IsResting (phase_of kind) (table_at s g X) (costs_at kind s g)
       → Refutes (length p.nodes) (first_known (form_of p.nodes) (goal_at_least (pos 1) kind s (dual_at kind s g X))) d.steps
       → ShowsTight p kind q value (table_model (table_at s g X) g.pool) d
   tight_at_end side same head t feasible pooled rest steps =

@@ -21,7 +21,7 @@ use Rattle.ps_claims.specs.declared.claim_kind.ClaimKind.TheVariants.{Nothing, L
 use Rattle.ps_claims.specs.Duals.{Dual, combination, HaveSigns, AreZeroElsewhere, HasNothingHead, HasValueHead}
 use Rattle.ps_claims.specs.Goals.{value_under}
 use Rattle.ps_claims.specs.Validity.{IsRefuted, ShowsNothing, ShowsTight}
-use Rattle.ps_runs.specs.Rows.{Setting, both_of, stage_of, artificial_of, rows_of, columns_of, width_of, world_cost, cost_of, table_of, IsTable}
+use Rattle.ps_runs.specs.Rows.{Setting, both_of, phase_of, artificial_of, rows_of, columns_of, width_of, world_cost, cost_of, table_of, IsTable}
 use Rattle.ps_runs.specs.Searches.{IsSpentSearch}
 use Rattle.ps_runs.specs.Runs.{Subject, subject_of, setting_of, given_in, both_in, IsAsked, atoms_of, combination_over, goal_at_least, Stage, IsPool, table_at, costs_at, dual_at, AreAtMost, IsRestingAt, IsPricedBy, IsDualAt, LeadsTo, LeadsToPending, pivots_in}
 use Rattle.ps_runs.specs.Kept.{kept_of, flags_of, kept_parts, kept_dual, IsChoice, AreAllKept}
@@ -51,7 +51,7 @@ pub record FeasibleTablesGiveModels : Type 0 where
 -- in a side head over top is what the worlds of a feasible table reach
 pub record RestingTablesGiveDuals : Type 0 where
   pub signs : (kind : ClaimKind) (s : Setting) (pool : List World) (basic : ℕ → ℕ) (X : ℕ → ℕ → Rational)
-      → IsResting (stage_of kind) (table_of s pool basic X) (cost_of kind s pool)
+      → IsResting (phase_of kind) (table_of s pool basic X) (cost_of kind s pool)
       → HaveSigns s.bounds (table_dual kind s (table_of s pool basic X) (cost_of kind s pool)).rows
   pub head : (s : Setting) (pool : List World) (basic : ℕ → ℕ) (X : ℕ → ℕ → Rational) → IsTable s pool basic X
       → (IsFeasible (table_of s pool basic X) → ⊥) → HasNothingHead (table_dual Nothing s (table_of s pool basic X) (cost_of Nothing s pool))
@@ -86,13 +86,13 @@ pub record EvidenceRow : Type 0 where
 -- a world with a combination of at least 1 at a resting table isn't in the pool, and once its column is there the table is moving
 pub record PricedWorldsMove : Type 0 where
   pub fresh : (kind : ClaimKind) (s : Setting) (pool : List World) (basic : ℕ → ℕ) (X : ℕ → ℕ → Rational) (k : ℕ) → IsTable s pool basic X
-      → IsResting (stage_of kind) (table_of s pool basic X) (cost_of kind s pool) → k < length pool
+      → IsResting (phase_of kind) (table_of s pool basic X) (cost_of kind s pool) → k < length pool
       → pos 1 ≤ℤ combination_at kind s (table_of s pool basic X) (cost_of kind s pool) (get_or pool k []) → ⊥
   pub moving : (kind : ClaimKind) (s : Setting) (pool : List World) (w : World) (basic : ℕ → ℕ) (X Z : ℕ → ℕ → Rational) → IsTable s pool basic X
       → Widened (rows_of s) (width_of s pool) (columns_of s (pool ++ w ∷ [])) X Z
-      → IsResting (stage_of kind) (table_of s pool basic X) (cost_of kind s pool)
+      → IsResting (phase_of kind) (table_of s pool basic X) (cost_of kind s pool)
       → pos 1 ≤ℤ combination_at kind s (table_of s pool basic X) (cost_of kind s pool) w
-      → IsMoving (stage_of kind) (table_of s (pool ++ w ∷ []) basic Z) (cost_of kind s (pool ++ w ∷ []))
+      → IsMoving (phase_of kind) (table_of s (pool ++ w ∷ []) basic Z) (cost_of kind s (pool ++ w ∷ []))
 
 -- events that follow lawful ones lead on, also to a pending world, and their pivots sum
 pub record EventsCompose : Type 0 where
@@ -117,17 +117,17 @@ pub record GainsAreValues : Type 0 where
 -- table shows that the bounds are consistent
 pub record EndsAreValid : Type 0 where
   pub refuted : (kind : ClaimKind) (s : Subject) (g : Stage) (X : ℕ → ℕ → Rational) (d : Dual) → HaveSameNumbers d (dual_at kind s g X)
-      → IsResting (stage_of kind) (table_at s g X) (costs_at kind s g)
+      → IsResting (phase_of kind) (table_at s g X) (costs_at kind s g)
       → Refutes (length s.parts.nodes) (first_known (form_of s.parts.nodes) (goal_at_least (pos 1) kind s (dual_at kind s g X))) d.steps
       → IsRefuted s.parts kind (given_in s.query) (both_in s.query) d
   pub nothing : (s : Subject) (g : Stage) (X : ℕ → ℕ → Rational) (d : Dual) → HaveSameNumbers d (dual_at Nothing s g X)
-      → IsTable (setting_of s) g.pool g.basis X → IsResting (stage_of Nothing) (table_at s g X) (costs_at Nothing s g)
+      → IsTable (setting_of s) g.pool g.basis X → IsResting (phase_of Nothing) (table_at s g X) (costs_at Nothing s g)
       → Refutes (length s.parts.nodes) (first_known (form_of s.parts.nodes) (goal_at_least (pos 1) Nothing s (dual_at Nothing s g X))) d.steps
       → ShowsNothing s.parts (given_in s.query) d
   pub tight : (kind : ClaimKind) (p : Parts) (q : stored.Query) (g : Stage) (X : ℕ → ℕ → Rational) (value : Rational) (d : Dual) → kind ≢ Nothing
       → HaveSameNumbers d (dual_at kind (subject_of p q) g X) → HasValueHead value d
       → IsTable (setting_of (subject_of p q)) g.pool g.basis X → IsFeasible (table_at (subject_of p q) g X) → IsPool (length p.names) g.pool
-      → IsResting (stage_of kind) (table_at (subject_of p q) g X) (costs_at kind (subject_of p q) g)
+      → IsResting (phase_of kind) (table_at (subject_of p q) g X) (costs_at kind (subject_of p q) g)
       → Refutes (length p.nodes) (first_known (form_of p.nodes) (goal_at_least (pos 1) kind (subject_of p q) (dual_at kind (subject_of p q) g X))) d.steps
       → ShowsTight p kind q value (table_model (table_at (subject_of p q) g X) g.pool) d
   pub consistent : (s : Subject) (g : Stage) (X : ℕ → ℕ → Rational) → IsTable (setting_of s) g.pool g.basis X → IsFeasible (table_at s g X)

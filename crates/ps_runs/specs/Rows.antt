@@ -9,7 +9,9 @@ use Rattle.ps_meaning.specs.Rows.{indicator, row_value}
 use Rattle.ps_rational.specs.Rational.{Rational, fraction}
 use Rattle.ps_rational.specs.Order.{IsNonneg}
 use Rattle.ps_basis.specs.Table.{unit_at, Stands}
-use Rattle.ps_rule.specs.Rule.{Phase, First, Second, SimplexTable}
+use Rattle.ps_rule.specs.declared.phase.Phase.{Phase}
+use Rattle.ps_rule.specs.declared.phase.Phase.TheVariants as phase
+use Rattle.ps_rule.specs.Rule.{SimplexTable}
 use Rattle.ps_rule.specs.Pivots.{System, simplex_table}
 use Rattle.ps_problem.specs.Rows.{turned}
 use Rattle.ps_entailment.specs.Queries.{Query}
@@ -26,11 +28,11 @@ pub record Setting : Type 0 where
 abbrev pub both_of : Setting → Formula ℕ
 both_of s = And s.query.formula s.query.evidence
 
--- the phase of the simplex method: the first is to show that nothing is allowed, the second what bounds the query
-abbrev pub stage_of : ClaimKind → Phase
-stage_of Nothing = First
-stage_of Lower = Second
-stage_of Upper = Second
+-- the phase that is to show a claim of this kind
+abbrev pub phase_of : ClaimKind → Phase
+phase_of Nothing = phase.One
+phase_of Lower = phase.Lower
+phase_of Upper = phase.Upper
 
 -- ---- columns
 -- a bound's entry in a world's column

@@ -24,7 +24,7 @@ use Rattle.ps_claims.specs.Duals.{Dual}
 use Rattle.ps_claims.specs.declared.combination.Combination.{Combination}
 use Rattle.ps_claims.specs.Goals.{combination_of}
 use Rattle.ps_claims.specs.Validity.{query_of}
-use Rattle.ps_runs.specs.Rows.{Setting, stage_of, rows_of, columns_of, system_of, width_of, cost_of, table_of}
+use Rattle.ps_runs.specs.Rows.{Setting, phase_of, rows_of, columns_of, system_of, width_of, cost_of, table_of}
 use Rattle.ps_runs.specs.Certificates.{table_dual, combination_at, table_model, HaveSameNumbers}
 use Rattle.ps_runs.specs.Searches.{IsSpentSearch}
 
@@ -118,12 +118,12 @@ BelongsTo s g X = Belongs (rows_of (setting_of s)) (width_of (setting_of s) g.po
 pub record IsMovingAt (kind : ClaimKind) (s : Subject) (g : Stage) : Type 0 where
   pub table : ℕ → ℕ → Rational
   pub belongs : BelongsTo s g table
-  pub moving : IsMoving (stage_of kind) (table_at s g table) (costs_at kind s g)
+  pub moving : IsMoving (phase_of kind) (table_at s g table) (costs_at kind s g)
 
 -- a table of the stage isn't due to end, and no column improves
 pub record IsRestingAt (kind : ClaimKind) (s : Subject) (g : Stage) (X : ℕ → ℕ → Rational) : Type 0 where
   pub belongs : BelongsTo s g X
-  pub resting : IsResting (stage_of kind) (table_at s g X) (costs_at kind s g)
+  pub resting : IsResting (phase_of kind) (table_at s g X) (costs_at kind s g)
 
 -- in a table of the stage each basic artificial has value 0
 pub record IsFeasibleAt (s : Subject) (g : Stage) (X : ℕ → ℕ → Rational) : Type 0 where
@@ -134,7 +134,7 @@ pub record IsFeasibleAt (s : Subject) (g : Stage) (X : ℕ → ℕ → Rational)
 -- a pivot by the rule: a column of the table enters and a row leaves
 pub record IsLawfulPivot (kind : ClaimKind) (s : Subject) (g : Stage) (enter : Col) (leave : ℕ) : Type 0 where
   pub there : IsInside (rows_of (setting_of s)) (length g.pool) enter
-  pub lawful : IsLawfulAt (stage_of kind) (system_of (setting_of s) g.pool) (costs_at kind s g) (width_of (setting_of s) g.pool) g.basis (number_in (rows_of (setting_of s)) enter) leave
+  pub lawful : IsLawfulAt (phase_of kind) (system_of (setting_of s) g.pool) (costs_at kind s g) (width_of (setting_of s) g.pool) g.basis (number_in (rows_of (setting_of s)) enter) leave
 
 -- in no world is the combination of a table's dual greater than this
 pub record AreAtMost (kind : ClaimKind) (s : Subject) (g : Stage) (X : ℕ → ℕ → Rational) (most : ℤ) : Type 0 where

@@ -1,10 +1,10 @@
 use crate::problems::{CONTRADICTORY, SINGLE, problem};
-use ps_bland::Phase;
 use ps_claims::ClaimKind;
 use ps_columns::costs_for;
 use ps_generation::{End, Limits, Setting, run_phase};
 use ps_io::NoMemory;
 use ps_problem::Problem;
+use ps_rule::Phase;
 use std::alloc::Global;
 use std::test::*;
 

@@ -2,9 +2,10 @@
 //! computed by a Python program over `fractions`, which solves the table from its basis before each
 //! pivot.
 
-use crate::{Phase, Settled};
+use crate::Settled;
 use ps_frac::Op;
 use ps_pool::Col;
+use ps_rule::Phase;
 use ps_table::{Home, Place};
 
 /// How a phase ends; a fraction is its numerator and its denominator.

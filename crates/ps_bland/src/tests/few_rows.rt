@@ -1,8 +1,9 @@
 //! Systems of one row and of two, worked out by hand.
 
 use super::case::{Case, End, Stage};
-use crate::{Phase, Settled};
+use crate::Settled;
 use ps_pool::Col;
+use ps_rule::Phase;
 use ps_table::Home;
 
 pub(crate) const ONE_ROW: [Case<1>; 1] = [

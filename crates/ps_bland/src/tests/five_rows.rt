@@ -1,9 +1,10 @@
 //! Systems of five rows.
 
 use super::case::{Case, End, Stage};
-use crate::{Phase, Settled};
+use crate::Settled;
 use ps_frac::Op;
 use ps_pool::Col;
+use ps_rule::Phase;
 use ps_table::{Home, Place, TableCol};
 
 pub(crate) const FIVE_ROWS: [Case<5>; 2] = [

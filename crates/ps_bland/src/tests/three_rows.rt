@@ -1,8 +1,9 @@
 //! Systems of three rows whose phases come to an end.
 
 use super::case::{Case, End, Stage};
-use crate::{Phase, Settled};
+use crate::Settled;
 use ps_pool::Col;
+use ps_rule::Phase;
 use ps_table::Home;
 
 pub(crate) const THREE_ROWS: [Case<3>; 13] = [

@@ -1,9 +1,10 @@
 //! Systems of three rows with a number that is too large.
 
 use super::case::{Case, End, Stage};
-use crate::{Phase, Settled};
+use crate::Settled;
 use ps_frac::Op;
 use ps_pool::Col;
+use ps_rule::Phase;
 use ps_table::{Home, Place, TableCol};
 
 pub(crate) const THREE_ROWS_WIDE: [Case<3>; 7] = [

@@ -1,10 +1,10 @@
 use Rattle.std.proofs.Common.{rules, ◌≡◌, ap}
 use Rattle.ps_rule.specs.Rule.{IsMoving, IsResting}
 use Rattle.ps_table.specs.Pricing.{cost_at}
-use Rattle.ps_bland.specs.Rules.{simplex_of, stage, IsDone}
+use Rattle.ps_bland.specs.Rules.{simplex_of, IsDone}
 use Rattle.ps_bland.specs.Ends.{IsDueWide}
 use Rattle.ps_answer.specs.declared.answer.Cause.TheVariants.{Wide}
-use Rattle.ps_phases.specs.Tables.{phase_of}
+use Rattle.ps_runs.specs.Rows.{phase_of}
 use Rattle.ps_generation.specs.declared.end.End.TheVariants.{Open}
 use Rattle.ps_generation.specs.Phases.{IsInPhase}
 use Rattle.ps_generation.proofs.Settled.{settled_phase, settled_rest, settled_done, settled_out, settled_wide}
@@ -21,7 +21,7 @@ returns-in-Ok-AtRest-clause-phase c = phase_kept (goal.at.returns-in-Ok-AtRest-c
 
 pub returns-in-Ok-AtRest-clause-end : goal.returns-in-Ok-AtRest-clause-end
 returns-in-Ok-AtRest-clause-end c =
-    let rest : IsResting (stage (phase_of c.args.kind)) (simplex_of c.pivoted.new.state.table) (cost_at c.args.costs.now) = search rules in
+    let rest : IsResting (phase_of c.args.kind) (simplex_of c.pivoted.new.state.table) (cost_at c.args.costs.now) = search rules in
     settled_rest c.args.kind c.args.setting.now c.args.costs.now c.args.state.now c.pivoted.new.state c.requires.phase c.pivoted.ensures.pool c.pivoted.ensures.ran
     c.pivoted.ensures.tableau c.pivoted.ensures.ready rest
 
@@ -39,7 +39,7 @@ returns-in-Ok-OutOfPivots-clause-phase c = phase_kept (goal.at.returns-in-Ok-Out
 
 pub returns-in-Ok-OutOfPivots-clause-end : goal.returns-in-Ok-OutOfPivots-clause-end
 returns-in-Ok-OutOfPivots-clause-end c =
-    let out : IsMoving (stage (phase_of c.args.kind)) (simplex_of c.pivoted.new.state.table) (cost_at c.args.costs.now) × (c.pivoted.new.state.left ≡ 0) = search rules in
+    let out : IsMoving (phase_of c.args.kind) (simplex_of c.pivoted.new.state.table) (cost_at c.args.costs.now) × (c.pivoted.new.state.left ≡ 0) = search rules in
     let limit : c.limits.result.pivots ≡ c.args.setting.now.limits.pivots = ap (λ l. l.pivots) c.limits.ensures.value in
     settled_out c.args.kind c.args.setting.now c.args.costs.now c.args.state.now c.pivoted.new.state c.requires.phase c.pivoted.ensures.pool c.pivoted.ensures.ran
     c.pivoted.ensures.tableau c.pivoted.ensures.ready c.limits.result.pivots limit out

@@ -1,5 +1,5 @@
 use Rattle.std.proofs.Common.{rules, ◌≡◌, sym, ap, ◌∙◌}
-use Rattle.ps_bland.specs.declared.phase.Phase.TheVariants.{One}
+use Rattle.ps_rule.specs.declared.phase.Phase.TheVariants.{One}
 use Rattle.ps_claims.specs.declared.claim_kind.ClaimKind.TheVariants.{Nothing}
 use Rattle.ps_columns.specs.Columns as over
 use Rattle.ps_runs.specs.Runs.{both_in, IsAsked}
