@@ -15,8 +15,8 @@ use Rattle.ps_text.proofs.Excluding.{front_excludes, refusal_once}
 use Rattle.ps_problem.specs.Problems.{Parts}
 use Rattle.ps_problem.specs.Numbering.{problem_of}
 use Rattle.ps_problem.specs.Counts.{ItemExcess, counted}
-use Rattle.ps_read.specs.declared.read_kind.ReadKind.{ReadKind}
-use Rattle.ps_read.specs.Kinds.{form_kind, count_kind}
+use Rattle.ps_text.specs.declared.kind.ReadKind.{ReadKind}
+use Rattle.ps_read.specs.Kinds.{count_kind}
 use Rattle.ps_read.specs.Readings.{SpellsProblem, tokens_up_to, BeginsItem, IsFormRefused, IsCountRefused, IsUnread, IsFollowedByMore, SpellsWhole, IsUnreadWhole, Reading, Read, Unread, IsReading, IsWholeReading}
 
 -- a list with more tokens behind it isn't itself
@@ -106,13 +106,12 @@ counts_once bytes k l x y f g =
 
 forms_once : (bytes : List ℕ) (k l : ReadKind) (x y : Position) → IsFormRefused bytes k x → IsFormRefused bytes l y → (k ≡ l) × (x ≡ y)
 forms_once bytes k l x y f g =
-    let e = refusal_once bytes f.reason g.reason f.place g.place f.refused g.refused in
-    (f.kind_is ∙ ap form_kind e.0 ∙ sym g.kind_is, f.position_is ∙ ap (position_of bytes) e.1 ∙ sym g.position_is)
+    let e = refusal_once bytes k l f.place g.place f.refused g.refused in (e.0, f.position_is ∙ ap (position_of bytes) e.1 ∙ sym g.position_is)
 
 pub unread_once : (bytes : List ℕ) (k l : ReadKind) (x y : Position) → IsUnread bytes k x → IsUnread bytes l y → (k ≡ l) × (x ≡ y)
 unread_once bytes k l x y (inl f) (inl g) = forms_once bytes k l x y f g
-unread_once bytes k l x y (inl f) (inr g) = absurd (front_excludes bytes g.behind f.place f.reason g.front.text f.refused)
-unread_once bytes k l x y (inr f) (inl g) = absurd (front_excludes bytes f.behind g.place g.reason f.front.text g.refused)
+unread_once bytes k l x y (inl f) (inr g) = absurd (front_excludes bytes g.behind f.place k g.front.text f.refused)
+unread_once bytes k l x y (inr f) (inl g) = absurd (front_excludes bytes f.behind g.place l f.front.text g.refused)
 unread_once bytes k l x y (inr f) (inr g) = counts_once bytes k l x y f g
 
 pub read_once : (bytes : List ℕ) (p q : Parts) (n m : ℕ) → SpellsProblem bytes p n → SpellsProblem bytes q m → (p ≡ q) × (n ≡ m)
@@ -121,7 +120,7 @@ read_once bytes p q n m f g =
 
 -- what is read isn't refused
 pub read_excludes : (bytes : List ℕ) (p : Parts) (n : ℕ) (k : ReadKind) (x : Position) → SpellsProblem bytes p n → IsUnread bytes k x → ⊥
-read_excludes bytes p n k x f (inl g) = front_excludes bytes n g.place g.reason f.front.text g.refused
+read_excludes bytes p n k x f (inl g) = front_excludes bytes n g.place k f.front.text g.refused
 read_excludes bytes p n k x f (inr g) =
     ok_is_no_err f.made.formulas g.refusal (counted f.items) f.made.within (ap counted (meaning_once bytes f.items g.items n g.behind f.front g.front) ∙ g.counts)
 

@@ -17,8 +17,8 @@ use Rattle.ps_parse.specs.declared.parser.Parser.{Parser}
 use Rattle.ps_parse.specs.Kept.{drafted_in}
 use Rattle.ps_read.specs.declared.read_error.ReadError.{ReadError}
 use Rattle.ps_read.specs.declared.read_error.ReadError.TheVariants as error
-use Rattle.ps_read.specs.declared.read_kind.ReadKind.{ReadKind}
-use Rattle.ps_read.specs.declared.read_kind.ReadKind.TheVariants.{MoreAfterEnd}
+use Rattle.ps_text.specs.declared.kind.ReadKind.{ReadKind}
+use Rattle.ps_text.specs.declared.kind.ReadKind.TheVariants.{MoreAfterEnd}
 use Rattle.ps_read.specs.declared.reader.Reader.{Reader}
 use Rattle.ps_read.specs.Readings.{SpellsProblem, SpellsWhole, IsUnread, IsUnreadWhole}
 use Rattle.ps_read.specs.Reads.{Tells, ReadsEach, RefusesEach, ReadsEachWhole, RefusesEachWhole}

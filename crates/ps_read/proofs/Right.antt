@@ -4,7 +4,7 @@ use Rattle.std.proofs.lemmas.List.{take-append-le, take_all}
 use Rattle.std.specs.Prelude.{if◌then◌else◌, Ok, Err}
 use Rattle.ps_text.specs.Tokens.{One, Token, IsToken, IsLongest, spelling}
 use Rattle.ps_text.specs.Pieces.{Piece, Blank, Comment, Spelled, text, texts, Cuts, Fits, tokens, IsBare, IsBad, Cut}
-use Rattle.ps_text.specs.declared.kind.ReadKind.{ReadKind as FormKind}
+use Rattle.ps_text.specs.declared.kind.ReadKind.{ReadKind}
 use Rattle.ps_text.specs.declared.kind.ReadKind.TheVariants.{BadByte, EndMissing}
 use Rattle.ps_text.specs.Positions as text
 use Rattle.ps_text.specs.ExpectedTokens.{State, at_start, refusal, after, Passes}
@@ -33,7 +33,6 @@ use Rattle.ps_parse.specs.Kept.{drafted_in}
 use Rattle.ps_parse.specs.Taking.{begun_at}
 use Rattle.ps_parse.proofs.Next.{followed}
 use Rattle.ps_parse.proofs.KeptTokens.{taken_alike}
-use Rattle.ps_read.specs.Kinds.{form_kind}
 use Rattle.ps_read.specs.Readings.{IsFormRefused}
 use Rattle.ps_read.specs.Answers.{Parsed, nothing_parsed, part_of, with_token, is_done, Answer, ended, refused_or, judged, answer}
 use Rattle.ps_read.proofs.Places.{AreBegun, HaveBegun, same_later, more_begun, begun_alike}
@@ -69,13 +68,11 @@ pub is_position : (bytes : List ℕ) (done : List Piece) (rest : List ℕ) → b
 is_position bytes done rest e =
     position_kept (texts done) ∙ ap text.position_behind (sym (ap (take (length (texts done))) e ∙ take-append-le (length (texts done)) (texts done) rest (omega arith) ∙ take_all (length (texts done)) (texts done) (omega arith)))
 
-refuse : (bytes : List ℕ) (done : List Piece) (rest : List ℕ) (x : Parsed) (k : FormKind) → Reached bytes done rest x → is_done (part_of x) ≡ false → IsBare rest → Why x.machine.state rest k
-    → IsFormRefused bytes (form_kind k) (position_of (behind_all start (texts done)))
+refuse : (bytes : List ℕ) (done : List Piece) (rest : List ℕ) (x : Parsed) (k : ReadKind) → Reached bytes done rest x → is_done (part_of x) ≡ false → IsBare rest → Why x.machine.state rest k
+    → IsFormRefused bytes k (position_of (behind_all start (texts done)))
 refuse bytes done rest x k r u b w = record {
-  reason = k;
   place = length (texts done);
   refused = record { pieces = done; rest = rest; state = x.machine.state; is = r.is; cuts = r.cuts; passes = r.passes; unfinished = λ e. true≢false (sym (ap (λ d. is_done d.part) e) ∙ u); bare = b; why = w; place_is = refl };
-  kind_is = refl;
   position_is = is_position bytes done rest r.is;
 }
 
@@ -182,7 +179,7 @@ token_further done t x place at h s =
 at_end : (bytes : List ℕ) (done : List Piece) (x : Parsed) → Reached bytes done [] x → IsSo bytes (ended x EndMissing (behind_all start (texts done)))
 at_end bytes done x r = by (is_done (part_of x)) refl
   where
-    by : (b : Bool) → is_done (part_of x) ≡ b → IsSo bytes (if b then Ok (behind_all start (texts done), x) else Err (form_kind EndMissing, position_of (behind_all start (texts done))))
+    by : (b : Bool) → is_done (part_of x) ≡ b → IsSo bytes (if b then Ok (behind_all start (texts done), x) else Err (EndMissing, position_of (behind_all start (texts done))))
     by true h = found bytes done [] x r h tt
     by false h = refuse bytes done [] x EndMissing r h tt refl
 
@@ -190,11 +187,11 @@ at_bad : (bytes : List ℕ) (done : List Piece) (rest : List ℕ) (x : Parsed) �
 at_bad bytes done [] x r s b = absurd (s refl)
 at_bad bytes done (c ∷ cs) x r s b = by (is_done (part_of x)) refl
   where
-    by : (y : Bool) → is_done (part_of x) ≡ y → IsSo bytes (if y then Ok (behind_all start (texts done), x) else Err (form_kind BadByte, position_of (behind_all start (texts done))))
+    by : (y : Bool) → is_done (part_of x) ≡ y → IsSo bytes (if y then Ok (behind_all start (texts done), x) else Err (BadByte, position_of (behind_all start (texts done))))
     by true h = found bytes done (c ∷ cs) x r h b.bare
     by false h = refuse bytes done (c ∷ cs) x BadByte r h b.bare (inl (b.none, refl))
 
-why_token : (t : Token) (after : List ℕ) (d : State) (k : FormKind) → IsToken One t → IsLongest One t after → refusal d t ≡ Some k → Why d (spelling t ++ after) k
+why_token : (t : Token) (after : List ℕ) (d : State) (k : ReadKind) → IsToken One t → IsLongest One t after → refusal d t ≡ Some k → Why d (spelling t ++ after) k
 why_token t after d k i l h = by (spelling t ++ after) refl (bare_token t after i)
   where
     by : (bytes : List ℕ) → bytes ≡ spelling t ++ after → IsBare (spelling t ++ after) → Why d bytes k
@@ -241,11 +238,11 @@ right bytes (Spelled t ∷ ps) done rest x p last bad end pe le c r e = by (is_d
     more : List (kept × Position)
     more = told (behind_all p (spelling t)) ps
 
-    by : (b : Bool) → is_done (part_of x) ≡ b → (o : Option FormKind) → refusal x.machine.state t ≡ o → (refusal x.machine.state t ≡ None → IsSo bytes (judged (with_token x (seen t) p) more bad end))
+    by : (b : Bool) → is_done (part_of x) ≡ b → (o : Option ReadKind) → refusal x.machine.state t ≡ o → (refusal x.machine.state t ≡ None → IsSo bytes (judged (with_token x (seen t) p) more bad end))
         → IsSo bytes (if b then Ok (p, x) else refused_or (refusal x.machine.state (token_of (seen t))) p (judged (with_token x (seen t) p) more bad end))
     by true h o k f = subst (λ q. IsParsedText bytes q x) (sym pe) (found bytes done (spelling t ++ (texts ps ++ rest)) x r1 h (bare_token t (texts ps ++ rest) c.0.0))
     by false h (Some w) k f = subst (λ o. IsSo bytes (refused_or o p (judged (with_token x (seen t) p) more bad end))) (sym (judged_alike x.machine.state t c.0.0 ∙ k))
-        (subst (λ q. IsFormRefused bytes (form_kind w) (position_of q)) (sym pe) (refuse bytes done (spelling t ++ (texts ps ++ rest)) x w r1 h (bare_token t (texts ps ++ rest) c.0.0) (why_token t (texts ps ++ rest) x.machine.state w c.0.0 c.0.1 k)))
+        (subst (λ q. IsFormRefused bytes w (position_of q)) (sym pe) (refuse bytes done (spelling t ++ (texts ps ++ rest)) x w r1 h (bare_token t (texts ps ++ rest) c.0.0) (why_token t (texts ps ++ rest) x.machine.state w c.0.0 c.0.1 k)))
     by false h None k f = subst (λ o. IsSo bytes (refused_or o p (judged (with_token x (seen t) p) more bad end))) (sym (judged_alike x.machine.state t c.0.0 ∙ k)) (f k)
 
 -- nothing is read yet

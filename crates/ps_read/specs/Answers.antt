@@ -4,7 +4,7 @@ use Rattle.ps_meaning.specs.Names.{is_word}
 use Rattle.ps_text.specs.Positions as text
 use Rattle.ps_text.specs.declared.part.Part.{Part}
 use Rattle.ps_text.specs.declared.part.Part.TheVariants as part
-use Rattle.ps_text.specs.declared.kind.ReadKind.{ReadKind as FormKind}
+use Rattle.ps_text.specs.declared.kind.ReadKind.{ReadKind}
 use Rattle.ps_text.specs.declared.kind.ReadKind.TheVariants.{BadByte, EndMissing}
 use Rattle.ps_text.specs.ExpectedTokens.{refusal}
 use Rattle.ps_lex.specs.declared.mode.Mode.{Mode}
@@ -22,9 +22,8 @@ use Rattle.ps_parse.specs.Kept.{machine_of, places_of, drafted_in}
 use Rattle.ps_parse.specs.Taking.{IsKept, CountsAtMost, begun_at}
 use Rattle.ps_read.specs.declared.read_error.ReadError.{ReadError}
 use Rattle.ps_read.specs.declared.read_error.ReadError.TheVariants as error
-use Rattle.ps_read.specs.declared.read_kind.ReadKind.{ReadKind}
 use Rattle.ps_read.specs.declared.reader.Reader.{Reader}
-use Rattle.ps_read.specs.Kinds.{form_kind, count_kind}
+use Rattle.ps_read.specs.Kinds.{count_kind}
 use Rattle.ps_read.specs.Readings.{IsProblemOf, SpellsProblem, IsUnread}
 use Rattle.ps_read.specs.Reads.{Tells}
 use Rattle.ps_problem.specs.Problems.{Parts}
@@ -52,7 +51,7 @@ abbrev pub with_token : Parsed → Token → Position → Parsed
 with_token x t place = record { machine = next x.machine (token_of t); places = x.places ++ begun_at (part_of x) (token_of t) place }
 
 -- why a token is refused
-abbrev pub refusal_of : Parsed → Token → Option FormKind
+abbrev pub refusal_of : Parsed → Token → Option ReadKind
 refusal_of x t = refusal x.machine.state (token_of t)
 
 -- whether the text is whole
@@ -65,15 +64,15 @@ abbrev pub Answer : Type 0
 Answer = Result (Position × Parsed) (ReadKind × text.Position)
 
 -- the form is refused for this kind at this position
-abbrev pub refused_at : FormKind → Position → Answer
-refused_at kind p = Err (form_kind kind, position_of p)
+abbrev pub refused_at : ReadKind → Position → Answer
+refused_at kind p = Err (kind, position_of p)
 
 -- at the end of the bytes, or where no token begins
-abbrev pub ended : Parsed → FormKind → Position → Answer
+abbrev pub ended : Parsed → ReadKind → Position → Answer
 ended x kind p = if is_done (part_of x) then Ok (p, x) else refused_at kind p
 
 -- at a token that is refused, or behind one that isn't
-abbrev pub refused_or : Option FormKind → Position → Answer → Answer
+abbrev pub refused_or : Option ReadKind → Position → Answer → Answer
 refused_or (Some kind) p rest = refused_at kind p
 refused_or None p rest = rest
 

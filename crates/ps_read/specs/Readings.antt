@@ -8,14 +8,13 @@ use Rattle.ps_text.specs.Pieces.{Piece, Spelled, texts, tokens}
 use Rattle.ps_text.specs.Grammar.{ItemSyntax, items_tokens}
 use Rattle.ps_text.specs.Fronts.{IsFront}
 use Rattle.ps_text.specs.Positions.{Position, position_of}
+use Rattle.ps_text.specs.declared.kind.ReadKind.{ReadKind}
+use Rattle.ps_text.specs.declared.kind.ReadKind.TheVariants.{MoreAfterEnd}
 use Rattle.ps_text.specs.Refusals.{IsRefused}
-use Rattle.ps_text.specs.declared.kind.ReadKind.{ReadKind as FormKind}
 use Rattle.ps_problem.specs.Problems.{Parts}
 use Rattle.ps_problem.specs.Numbering.{problem_of}
 use Rattle.ps_problem.specs.Counts.{ItemExcess, counted}
-use Rattle.ps_read.specs.declared.read_kind.ReadKind.{ReadKind}
-use Rattle.ps_read.specs.declared.read_kind.ReadKind.TheVariants.{MoreAfterEnd}
-use Rattle.ps_read.specs.Kinds.{form_kind, count_kind}
+use Rattle.ps_read.specs.Kinds.{count_kind}
 
 -- the items are within the limits of a problem, which is theirs
 pub record IsProblemOf (items : List Item) (p : Parts) : Type 0 where
@@ -50,10 +49,8 @@ pub record BeginsItem (pieces : List Piece) (written : List ItemSyntax) (number 
 
 -- the form of the bytes is refused for this kind at this position: no token before it is refused
 pub record IsFormRefused (bytes : List ℕ) (kind : ReadKind) (position : Position) : Type 0 where
-  pub reason : FormKind
   pub place : ℕ
-  pub refused : IsRefused bytes reason place
-  pub kind_is : kind ≡ form_kind reason
+  pub refused : IsRefused bytes kind place
   pub position_is : position ≡ position_of bytes place
 
 -- a text stands at the front, the first of its items that passes a limit passes one of this kind, and this is the

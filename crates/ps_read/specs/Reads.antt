@@ -1,10 +1,10 @@
 -- What a call that reads a problem promises of its answer.
 use Rattle.std.specs.Prelude.{◌≡◌, ℕ, List, Result, Ok, Err}
+use Rattle.ps_text.specs.declared.kind.ReadKind.{ReadKind}
 use Rattle.ps_text.specs.Positions.{Position}
 use Rattle.ps_problem.specs.Problems.{Parts}
 use Rattle.ps_read.specs.declared.read_error.ReadError.{ReadError}
 use Rattle.ps_read.specs.declared.read_error.ReadError.TheVariants as error
-use Rattle.ps_read.specs.declared.read_kind.ReadKind.{ReadKind}
 use Rattle.ps_read.specs.Readings.{SpellsProblem, SpellsWhole, IsUnread, IsUnreadWhole}
 
 -- an error tells why and where no problem is read, unless memory ran out

@@ -1,7 +1,6 @@
 //! Why no problem is read, and where.
 ghost use Rattle.std.specs.Prelude.{◌≡◌};
 ghost use Rattle.ps_read.specs.declared.read_error.ReadError.TheVariants as errors;
-ghost use Rattle.ps_read.specs.Kinds.{form_kind};
 
 use crate::ReadKind;
 use ps_io::NoMemory;
@@ -34,13 +33,6 @@ impl ReadError {
             line: place.line,
             column: place.column,
         }
-    }
-
-    // A refusal of the form at a position.
-    pub(crate) fn of_form(kind: ps_text::ReadKind, place: Position) -> ReadError
-        ensures { result ≡ errors.At (form_kind kind) place.line place.column }
-    {
-        ReadError::at(ReadKind::of_form(kind), place)
     }
 }
 

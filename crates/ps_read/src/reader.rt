@@ -30,13 +30,13 @@ fn is_done(parser: &Parser) -> bool
 }
 
 // At the end of the bytes, or where no token begins: where the text ended, or the refusal.
-fn end(parser: &Parser, kind: ps_text::ReadKind, place: Position) -> Result<Position, ReadError>
+fn end(parser: &Parser, kind: ReadKind, place: Position) -> Result<Position, ReadError>
     ensures { AgreesAtEnd (ended (parsed_by parser.now) kind place) (parsed_by parser.now) result }
 {
     if is_done(parser) {
         return Ok(place);
     }
-    Err(ReadError::of_form(kind, place))
+    Err(ReadError::at(kind, place))
 }
 
 // Takes a token that ended, and stops where none begins.
@@ -61,12 +61,12 @@ fn judge(
         }
         match parser.take(&token, began) {
             Ok(()) => {}
-            Err(ParseError::Refused(kind)) => return Err(ReadError::of_form(kind, began)),
+            Err(ParseError::Refused(kind)) => return Err(ReadError::at(kind, began)),
             Err(ParseError::NoMemory) => return Err(ReadError::NoMemory),
         }
     }
     match bad {
-        Some(place) => match end(parser, ps_text::ReadKind::BadByte, place) {
+        Some(place) => match end(parser, ReadKind::BadByte, place) {
             Ok(place) => Ok(Some(place)),
             Err(error) => Err(error),
         },
@@ -140,7 +140,7 @@ impl Reader {
         if let Some(place) = judge(&mut parser, lexer.finish(), began, bad)? {
             return Ok((parser, place));
         }
-        let place = end(&parser, ps_text::ReadKind::EndMissing, here)?;
+        let place = end(&parser, ReadKind::EndMissing, here)?;
         Ok((parser, place))
     }
 

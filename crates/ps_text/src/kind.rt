@@ -1,4 +1,4 @@
-//! Why a text isn't read.
+//! Why no problem is read.
 
 /// What is expected at a place.
 #[derive(Clone, Copy, Debug, PartialEq, Eq)]
@@ -31,9 +31,11 @@ pub enum What {
     BracketEnd,
 }
 
-/// Why a text isn't read.
+/// Why no problem is read: for the form of its text, for a count of what the text states, or for
+/// what follows it.
 #[derive(Clone, Copy, Debug, PartialEq, Eq)]
 pub enum ReadKind {
+    // Of the form.
     /// No token begins with the byte.
     BadByte,
     /// The token isn't one that is expected.
@@ -54,4 +56,16 @@ pub enum ReadKind {
     TooDeep,
     /// The bytes end where a token is expected.
     EndMissing,
+    // Of a count.
+    /// The item has the 129th atom.
+    TooManyAtoms,
+    /// The item has the 1,025th node.
+    TooManyNodes,
+    /// The item has the 101st bound.
+    TooManyBounds,
+    /// The item is the 17th query.
+    TooManyQueries,
+    // Behind the text.
+    /// Something follows the text and the blanks behind it.
+    MoreAfterEnd,
 }

@@ -9,7 +9,7 @@ use Rattle.ps_answer.specs.declared.error.ReportError.{ReportError}
 use Rattle.ps_answer.specs.declared.error.ReportError.TheVariants as errors
 use Rattle.ps_read.specs.declared.read_error.ReadError.{ReadError}
 use Rattle.ps_read.specs.declared.read_error.ReadError.TheVariants as unread
-use Rattle.ps_read.specs.declared.read_kind.ReadKind.{ReadKind}
+use Rattle.ps_text.specs.declared.kind.ReadKind.{ReadKind}
 use Rattle.ps_read.specs.Readings.{SpellsWhole, IsUnread, IsUnreadWhole}
 use Rattle.ps_read.specs.Reads.{Tells}
 use Rattle.ps_reader.specs.Errors.{TellsFault}

@@ -2,7 +2,7 @@
 use Rattle.std.specs.Prelude.{◌≡◌, ◌<◌, ◌≤◌, ◌-◌, ◌^◌, ℕ, zero, suc, false, List, ◌++◌, length, take, drop, codes, decimal}
 use Rattle.ps_io.specs.LineText.{lines_bytes}
 use Rattle.ps_text.specs.Positions.{Position}
-use Rattle.ps_read.specs.declared.read_kind.ReadKind.{ReadKind}
+use Rattle.ps_text.specs.declared.kind.ReadKind.{ReadKind}
 use Rattle.ps_read.specs.Readings.{SpellsProblem, SpellsWhole, IsUnread, IsUnreadWhole}
 use Rattle.ps_problem.specs.Problems.{Parts}
 use Rattle.ps_answer.specs.declared.answer.Answer.{Answer}

@@ -2,8 +2,8 @@
 use Rattle.std.specs.Prelude.{ℕ, List, [], ◌++◌, codes, decimal}
 use Rattle.ps_text.specs.declared.kind.What.{What}
 use Rattle.ps_text.specs.declared.kind.What.TheVariants as what
-use Rattle.ps_read.specs.declared.read_kind.ReadKind.{ReadKind}
-use Rattle.ps_read.specs.declared.read_kind.ReadKind.TheVariants as kind
+use Rattle.ps_text.specs.declared.kind.ReadKind.{ReadKind}
+use Rattle.ps_text.specs.declared.kind.ReadKind.TheVariants as kind
 use Rattle.ps_answer.specs.declared.error.LineKind.{LineKind}
 use Rattle.ps_answer.specs.declared.error.LineKind.TheVariants as line
 use Rattle.ps_steps.specs.declared.refused.StepRefused.{StepRefused}
