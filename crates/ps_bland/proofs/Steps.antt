@@ -27,8 +27,8 @@ use Rattle.ps_rule.specs.Pivots.Pivots.{still as no_moves, more as one_move}
 use Rattle.ps_table.specs.declared.home.Home.{Home}
 use Rattle.ps_rule.specs.declared.phase.Phase.{Phase}
 use Rattle.ps_bland.specs.Ends.IsDueWide.{at_pivot}
-use Rattle.ps_bland.specs.declared.error.SettleError.{SettleError}
-use Rattle.ps_bland.specs.declared.error.SettleError.TheVariants.{Wide, NoMemory}
+use Rattle.ps_table.specs.declared.error.TableError.{TableError}
+use Rattle.ps_table.specs.declared.error.TableError.TheVariants.{Wide, NoMemory}
 use Rattle.ps_bland.specs.Runs.Run.{still, more}
 
 less_of : (a b : ℤ) → Less ≡ int_cmp a b → a <ℤ b
@@ -172,11 +172,11 @@ costs_kept costs enter leave t u pivot h = record {
   small = h.small;
 }
 
-pub due_refusal : (phase : Phase) (costs : Costs) (t : Tableau) (left : ℕ) (q : Col) (p : ℕ) → 0 < left → IsLawful phase costs t q p → (e : SettleError) → IsPivotRefusal t q p e → IsDueRefusal phase costs t left e
+pub due_refusal : (phase : Phase) (costs : Costs) (t : Tableau) (left : ℕ) (q : Col) (p : ℕ) → 0 < left → IsLawful phase costs t q p → (e : TableError) → IsPivotRefusal t q p e → IsDueRefusal phase costs t left e
 due_refusal phase costs t left q p some lawful (Wide w) h = at_pivot q p some lawful h
 due_refusal phase costs t left q p some lawful NoMemory h = record { enter = q; leave = p; lawful = lawful; some_left = some }
 
-pub refusal_same : (phase : Phase) (costs : Costs) (t u : Tableau) (trace longer : List Event) (had left : ℕ) (e : SettleError) → IsSame t u trace longer had left → IsDueRefusal phase costs t had e → IsDueRefusal phase costs u left e
+pub refusal_same : (phase : Phase) (costs : Costs) (t u : Tableau) (trace longer : List Event) (had left : ℕ) (e : TableError) → IsSame t u trace longer had left → IsDueRefusal phase costs t had e → IsDueRefusal phase costs u left e
 refusal_same phase costs t u trace longer had left e same h =
     subst (λ (k : Tableau). IsDueRefusal phase costs k left e) (sym same.table_same) (subst (λ (k : ℕ). IsDueRefusal phase costs t k e) (sym same.left_same) h)
 

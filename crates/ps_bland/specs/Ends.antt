@@ -6,8 +6,8 @@ use Rattle.ps_pool.specs.declared.col.Col.{Col}
 use Rattle.ps_table.specs.declared.costs.Costs.{Costs}
 use Rattle.ps_table.specs.declared.place.Place.TheVariants.{Ratio}
 use Rattle.ps_table.specs.declared.place.WideAt.{WideAt}
-use Rattle.ps_bland.specs.declared.error.SettleError.{SettleError}
-use Rattle.ps_bland.specs.declared.error.SettleError.TheVariants.{Wide, NoMemory}
+use Rattle.ps_table.specs.declared.error.TableError.{TableError}
+use Rattle.ps_table.specs.declared.error.TableError.TheVariants.{Wide, NoMemory}
 use Rattle.ps_table.specs.Tableau.{Tableau, number_of, entry_at, HasColumn}
 use Rattle.ps_table.specs.Pricing.{cost_at}
 use Rattle.ps_table.specs.Places.{IsOperationWide, IsWideAt, PivotPlaces, CostPlaces}
@@ -64,7 +64,7 @@ abbrev pub AreDueNarrow : Phase → Costs → Tableau → ℕ → Type 0
 AreDueNarrow phase costs t left = (w : WideAt) → ¬ IsDueWide phase costs t left w
 
 -- a number of a due place is too wide, or a pivot that is due finds no memory
-abbrev pub IsDueRefusal : Phase → Costs → Tableau → ℕ → SettleError → Type 0
+abbrev pub IsDueRefusal : Phase → Costs → Tableau → ℕ → TableError → Type 0
 IsDueRefusal phase costs t left (Wide w) = IsDueWide phase costs t left w
 IsDueRefusal phase costs t left NoMemory = IsPivotDue phase costs t left
 
@@ -75,6 +75,6 @@ IsSettled phase costs t left AtRest = IsResting phase (simplex_of t) (cost_at co
 IsSettled phase costs t left OutOfPivots = IsMoving phase (simplex_of t) (cost_at costs) × (left ≡ 0)
 
 -- an end, or a refusal at a due place of the table as it is left
-abbrev pub IsEnd : Phase → Costs → Tableau → ℕ → Result Settled SettleError → Type 0
+abbrev pub IsEnd : Phase → Costs → Tableau → ℕ → Result Settled TableError → Type 0
 IsEnd phase costs t left (Ok s) = IsSettled phase costs t left s
 IsEnd phase costs t left (Err e) = IsDueRefusal phase costs t left e

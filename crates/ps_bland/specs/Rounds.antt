@@ -5,8 +5,8 @@ use Rattle.ps_rule.specs.Rule.{Improves, Enters, IsRising, IsArtificialRow, HasN
 use Rattle.ps_pool.specs.declared.col.Col.{Col}
 use Rattle.ps_table.specs.declared.costs.Costs.{Costs}
 use Rattle.ps_table.specs.declared.place.WideAt.{WideAt}
-use Rattle.ps_bland.specs.declared.error.SettleError.{SettleError}
-use Rattle.ps_bland.specs.declared.error.SettleError.TheVariants.{Wide, NoMemory}
+use Rattle.ps_table.specs.declared.error.TableError.{TableError}
+use Rattle.ps_table.specs.declared.error.TableError.TheVariants.{Wide, NoMemory}
 use Rattle.ps_table.specs.Tableau.{Tableau, number_of, entry_at, entry_of, basic_at, HasColumn, IsPivot, StandsOn}
 use Rattle.ps_table.specs.Pricing.{cost_at}
 use Rattle.ps_table.specs.Places.{IsWideAt, PivotPlaces, CostPlaces, IsNarrow}
@@ -73,7 +73,7 @@ abbrev pub IsRowFeasible : Tableau → ℕ → Type 0
 IsRowFeasible t i = artificial_at t.kinds (basic_at t i) ≡ true → entry_at t i 0 ≡ zero_q
 
 -- why a pivot is refused, where it isn't want of memory
-abbrev pub IsPivotRefusal : Tableau → Col → ℕ → SettleError → Type 0
+abbrev pub IsPivotRefusal : Tableau → Col → ℕ → TableError → Type 0
 IsPivotRefusal t q p (Wide w) = IsWideAt (PivotPlaces t p q) w
 IsPivotRefusal t q p NoMemory = Unit {0}
 
@@ -94,7 +94,7 @@ pub record IsSame (old new : Tableau) (trace longer : List Event) (had left : �
   pub left_same : left ≡ had
 
 -- one round: one lawful pivot, an end, or a refusal
-abbrev pub IsRound : Phase → Costs → Tableau → Tableau → List Event → List Event → ℕ → ℕ → Result (Option Settled) SettleError → Type 0
+abbrev pub IsRound : Phase → Costs → Tableau → Tableau → List Event → List Event → ℕ → ℕ → Result (Option Settled) TableError → Type 0
 IsRound phase costs old new trace longer had left (Ok None) = IsStep phase costs old new trace longer had left
 IsRound phase costs old new trace longer had left (Ok (Some s)) = IsSame old new trace longer had left × IsSettled phase costs old had s
 IsRound phase costs old new trace longer had left (Err e) = IsSame old new trace longer had left × IsDueRefusal phase costs old had e

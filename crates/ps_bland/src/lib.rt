@@ -3,7 +3,6 @@
 
 mod columns;
 mod entering;
-mod error;
 mod feasible;
 mod laws;
 mod leaving;
@@ -11,8 +10,9 @@ mod ratios;
 mod settled;
 mod settling;
 
-pub use error::SettleError;
 pub use laws::{due_places, ready_tables};
+/// Why the pivots were broken off.
+pub use ps_table::TableError as SettleError;
 pub use settled::Settled;
 pub use settling::settle;
 

@@ -8,7 +8,6 @@ ghost use Rattle.ps_bland.specs.Ends.{IsEnd, AreDueNarrow};
 ghost use Rattle.ps_bland.specs.Rounds.{IsRound, IsPivotRefusal, IsNarrowEnd};
 
 use crate::entering::entering;
-use crate::error::SettleError;
 use crate::feasible::is_due_to_end;
 use crate::leaving::leaving;
 use crate::settled::Settled;
@@ -22,7 +21,7 @@ fn pivot_with_event(
     trace: &mut Trace,
     enter: Col,
     leave: u32,
-) -> Result<(), SettleError>
+) -> Result<(), TableError>
     requires inside { HasColumn table.old enter }
     requires leave { leave < rows_of table.old }
     requires pivot { entry_of table.old leave enter ≢ zero_q }
@@ -34,17 +33,13 @@ fn pivot_with_event(
     ensures refused { IfErr result (IsPivotRefusal table.old enter leave) }
 {
     if trace.push(Event::Pivot { enter, leave }).is_err() {
-        return Err(SettleError::NoMemory);
+        return Err(TableError::NoMemory);
     }
-    let refused = match table.pivot(leave, enter) {
-        Ok(()) => return Ok(()),
-        Err(refused) => refused,
-    };
-    trace.pop();
-    match refused {
-        TableError::Wide(wide) => Err(SettleError::Wide(wide)),
-        TableError::NoMemory => Err(SettleError::NoMemory),
+    if let Err(refused) = table.pivot(leave, enter) {
+        trace.pop();
+        return Err(refused);
     }
+    Ok(())
 }
 
 /// One round: an end, or one lawful pivot.
@@ -54,7 +49,7 @@ fn step(
     phase: Phase,
     left: &mut u64,
     trace: &mut Trace,
-) -> Result<Option<Settled>, SettleError>
+) -> Result<Option<Settled>, TableError>
     requires { IsReady phase costs.now table.old }
     ensures round { IsRound phase costs.now table.old table.new
         trace.old trace.new left.old left.new result }
@@ -106,7 +101,7 @@ pub fn settle(
     phase: Phase,
     left: &mut u64,
     trace: &mut Trace,
-) -> Result<Settled, SettleError>
+) -> Result<Settled, TableError>
     requires ready { IsReady phase costs.now table.old }
     ensures ran { Ran phase costs.now table.old table.new trace.old trace.new left.old left.new }
     ensures end { IsEnd phase costs.now table.new left.new result }

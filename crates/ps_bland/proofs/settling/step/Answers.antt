@@ -8,7 +8,7 @@ use Rattle.ps_bland.specs.Ends.IsDueWide.{at_ratio}
 use Rattle.ps_bland.proofs.Steps.{due_refusal}
 use Rattle.ps_bland.proofs.Due.{rest_narrow, out_narrow}
 use Rattle.ps_bland.proofs.Ready.{can_leave, ready_kept}
-use Rattle.ps_bland.specs.declared.error.SettleError.TheVariants as refused
+use Rattle.ps_table.specs.declared.error.TableError.TheVariants as refused
 use Rattle.ps_bland.proofs.settling.step.Goals as goal
 
 pub leaving-requires-clause-can_leave : goal.leaving-requires-clause-can_leave
