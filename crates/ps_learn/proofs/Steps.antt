@@ -24,6 +24,7 @@ use Rattle.ps_learning.proofs.Marking.{grows-refl, grows-trans, marked-set, grow
 use Rattle.ps_learn.specs.Marks.{MarksCause, IsCaused}
 use Rattle.ps_learn.specs.Drawing.{AddsIf, AddsKept, FollowsEntry, EndsInConflict}
 use Rattle.ps_learn.specs.declared.learning.Kept.{Kept}
+use Rattle.ps_pb.specs.declared.propagation.Effect.TheVariants as effect
 use Rattle.ps_learn.specs.declared.learning.Followed.TheVariants as v
 
 -- the first terms are covered
@@ -169,7 +170,7 @@ explained_by known before marks e id c r k x =
     subst (λ y. AreCovered y before marks) same x.covered
 
 -- one entry more of the reasons
-pub followed-next : (n : ℕ) (known : Known) (es : List TrailEntry) (marks kept : Marks) (start : Assignment) (i : ℕ) (hints : List ℕ) (a : Assignment) (e : TrailEntry) (hints' : List ℕ) (a' : Assignment) (r : v.the_data) → Along n known es marks kept start → Followed n known es marks start i hints a → i < length es → e ≡ get_or es i e → FollowsEntry known e marks hints a hints' a' r → r ≢ v.Violated → Followed n known es marks start (i + 1) hints' a'
+pub followed-next : (n : ℕ) (known : Known) (es : List TrailEntry) (marks kept : Marks) (start : Assignment) (i : ℕ) (hints : List ℕ) (a : Assignment) (e : TrailEntry) (hints' : List ℕ) (a' : Assignment) (r : v.the_data) → Along n known es marks kept start → Followed n known es marks start i hints a → i < length es → e ≡ get_or es i e → FollowsEntry known e marks hints a hints' a' r → r ≢ v.Propagated effect.Violated → Followed n known es marks start (i + 1) hints' a'
 followed-next n known es marks kept start i hints a e hints' a' v.Unmarked al f h at fol ne =
     let q = slice_get_read es (length es) i e refl h at in
     subst (λ x. Followed n known es marks start (i + 1) x a') (sym fol.1) (subst (λ x. Followed n known es marks start (i + 1) hints x) (sym fol.2) (followed-unmarked n known es marks start i hints a e al.fresh f q fol.0))
@@ -185,8 +186,8 @@ followed-next n known es marks kept start i hints a e hints' a' v.Unknown al f h
     let u = fol.1 in
     let s = subst (λ x. IsReason known (values_of n (take i es)) e.lit x) u.1 (al.reasons.at i e q) in
     absurd (cc (s.1, u.2))
-followed-next n known es marks kept start i hints a e hints' a' v.Violated al f h at fol ne = absurd (ne refl)
-followed-next n known es marks kept start i hints a e hints' a' v.Forced al f h at fol ne =
+followed-next n known es marks kept start i hints a e hints' a' (v.Propagated effect.Violated) al f h at fol ne = absurd (ne refl)
+followed-next n known es marks kept start i hints a e hints' a' (v.Propagated effect.Forced) al f h at fol ne =
     let q = slice_get_read es (length es) i e refl h at in
     let b = fol.1 in
     let before = values_of n (take i es) in
@@ -197,7 +198,7 @@ followed-next n known es marks kept start i hints a e hints' a' v.Forced al f h 
     subst (λ x. Followed n known es marks start (i + 1) x a') (sym b.hints_are)
     (subst (λ x. Followed n known es marks start (i + 1) (hints ++ b.id ∷ []) x) (sym does.2)
     (followed-forced n known es marks start i hints a e b.id c al.fresh f q b.known_at covered forces (rising-distinct 0 c.terms b.normal.rising) does.0 b.other))
-followed-next n known es marks kept start i hints a e hints' a' v.Idle al f h at fol ne =
+followed-next n known es marks kept start i hints a e hints' a' (v.Propagated effect.Idle) al f h at fol ne =
     let q = slice_get_read es (length es) i e refl h at in
     let b = fol.1 in
     let before = values_of n (take i es) in
@@ -215,9 +216,9 @@ ended known start most i hints hints' id c e x few m ids k = rw e (record {
 })
 
 -- a reason that is violated ends the propagation
-pub followed-stop : (n : ℕ) (known : Known) (es : List TrailEntry) (marks : Marks) (start : Assignment) (i : ℕ) (hints : List ℕ) (a : Assignment) (e : TrailEntry) (hints' : List ℕ) (a' : Assignment) (r : v.the_data) → Followed n known es marks start i hints a → i ≤ length es → FollowsEntry known e marks hints a hints' a' r → r ≡ v.Violated → EndsInConflict known start (length es) hints'
+pub followed-stop : (n : ℕ) (known : Known) (es : List TrailEntry) (marks : Marks) (start : Assignment) (i : ℕ) (hints : List ℕ) (a : Assignment) (e : TrailEntry) (hints' : List ℕ) (a' : Assignment) (r : v.the_data) → Followed n known es marks start i hints a → i ≤ length es → FollowsEntry known e marks hints a hints' a' r → r ≡ v.Propagated effect.Violated → EndsInConflict known start (length es) hints'
 followed-stop n known es marks start i hints a e hints' a' r f m fol is =
-    let b = subst (λ x. FollowsEntry known e marks hints a hints' a' x) is fol in
+    let b = (subst (λ x. FollowsEntry known e marks hints a hints' a' x) is fol).1 in
     ended known start (length es) i hints hints' b.id b.constraint b.hints_are (followed-violated known start a hints b.id b.constraint f.going b.known_at b.does.0) f.few m f.ids b.known_at
 
 -- at the end the conflict ends the propagation

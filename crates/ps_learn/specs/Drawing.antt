@@ -9,10 +9,9 @@ use Rattle.ps_learning.specs.Causes.{Marks, is_marked}
 use Rattle.ps_learning.specs.Known.{IsIdUpTo}
 use Rattle.ps_pb.specs.Effects.{Propagates}
 use Rattle.ps_pb.specs.declared.propagation.Effect.{Effect}
-use Rattle.ps_pb.specs.declared.propagation.Effect.TheVariants as effect
 use Rattle.ps_learn.specs.declared.learning.Kept.{Kept}
 use Rattle.ps_learn.specs.declared.learning.Followed.{Followed}
-use Rattle.ps_learn.specs.declared.learning.Followed.TheVariants.{Unmarked, AlreadyTrue, Decided, Unknown, Violated, Forced, Idle}
+use Rattle.ps_learn.specs.declared.learning.Followed.TheVariants.{Unmarked, AlreadyTrue, Decided, Unknown, Propagated}
 
 -- where the test holds, the opposite of an entry's literal is added, with its level, and set false; else nothing changes
 abbrev pub AddsIf : Bool → TrailEntry → Kept → Assignment → Kept → Assignment → Type 0
@@ -41,9 +40,7 @@ FollowsEntry known e marks hints a hints' a' Unmarked = (is_marked marks e.lit �
 FollowsEntry known e marks hints a hints' a' AlreadyTrue = (value_of a e.lit ≡ Some true) × (hints' ≡ hints) × (a' ≡ a)
 FollowsEntry known e marks hints a hints' a' Decided = (is_marked marks e.lit ≡ true) × (value_of a e.lit ≢ Some true) × (e.reason ≡ None)
 FollowsEntry known e marks hints a hints' a' Unknown = (is_marked marks e.lit ≡ true) × ((id : ℕ) × (e.reason ≡ Some id) × (constraint_at known id ≡ None))
-FollowsEntry known e marks hints a hints' a' Violated = FollowsBy effect.Violated known e hints a hints' a'
-FollowsEntry known e marks hints a hints' a' Forced = (is_marked marks e.lit ≡ true) × FollowsBy effect.Forced known e hints a hints' a'
-FollowsEntry known e marks hints a hints' a' Idle = (is_marked marks e.lit ≡ true) × FollowsBy effect.Idle known e hints a hints' a'
+FollowsEntry known e marks hints a hints' a' (Propagated f) = (is_marked marks e.lit ≡ true) × FollowsBy f known e hints a hints' a'
 
 -- propagation along the hints ends in a conflict, and they are few
 pub record EndsInConflict (known : Known) (start : Assignment) (most : ℕ) (hints : List ℕ) : Type 0 where

@@ -130,16 +130,14 @@ fn kept_lits(
     Ok(kept)
 }
 
-// What an entry's reason does.
-#[derive(Drop)]
+// Why no reason of an entry is gone along, or what it does.
+#[derive(PartialEq, Eq, Drop)]
 enum Followed {
     Unmarked,
     AlreadyTrue,
     Decided,
     Unknown,
-    Violated,
-    Forced,
-    Idle,
+    Propagated(Effect),
 }
 
 // Goes on along a marked entry's reason, unless its literal is true already.
@@ -167,11 +165,7 @@ fn follow(
                 hints.push(id)?;
                 // Read for its clauses: the constraint is in the form in which they are kept.
                 let _terms = c.terms();
-                match propagate(c, a) {
-                    Effect::Violated => Ok(Followed::Violated),
-                    Effect::Forced => Ok(Followed::Forced),
-                    Effect::Idle => Ok(Followed::Idle),
-                }
+                Ok(Followed::Propagated(propagate(c, a)))
             }
         },
     }
@@ -195,7 +189,7 @@ fn hints(
 {
     let mut hints = List::new(alloc);
     for entry in trail.entries() {
-        if let Followed::Violated = follow(known, entry, marks, &mut hints, a)? {
+        if follow(known, entry, marks, &mut hints, a)? == Followed::Propagated(Effect::Violated) {
             return Ok(hints);
         }
     }
