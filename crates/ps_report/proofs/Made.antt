@@ -7,6 +7,7 @@ use Rattle.ps_io.specs.LineText.{with_word}
 use Rattle.ps_io.specs.Lines.{text_of}
 use Rattle.ps_io.specs.Wrote.{Wrote}
 use Rattle.ps_io.specs.declared.lines.Lines.{Lines}
+use Rattle.ps_io.specs.declared.sink.Sink.{Ghosts}
 use Rattle.ps_io.specs.declared.sink.WriteFault.{WriteFault}
 use Rattle.ps_log.specs.Lines.{HoldsLine}
 use Rattle.ps_log.specs.Texts.{with_number, with_numbers, step_numbers, goal_numbers, step_line, goal_line}
@@ -51,10 +52,10 @@ pub goal_item : (g : Constraint) → goal_line g ≡ item_line (line.GoalLine g)
 goal_item g = unfold goal_line in (sym (number_words (103 ∷ []) (goal_numbers g.degree (weighted g.terms))))
 
 -- a line that was made and then written
-pub line_ends : {O : Type 0} (written : O → Option (List ℕ)) (faults : O → ℕ) (a b c : Lines O) (r : Result (Unit {0}) WriteFault) (text : List ℕ)
-    → HoldsLine a b text → Wrote written faults b c r (text_of b ∷ []) → Wrote written faults a c r (text ∷ [])
-line_ends written faults a b c r text p q =
-    let w : Wrote written faults b c r (text ∷ []) = subst (λ t. Wrote written faults b c r (t ∷ [])) p.line q in record {
+pub line_ends : {O : Type 0} (sink : Ghosts O) (a b c : Lines O) (r : Result (Unit {0}) WriteFault) (text : List ℕ)
+    → HoldsLine a b text → Wrote sink.written sink.faults b c r (text_of b ∷ []) → Wrote sink.written sink.faults a c r (text ∷ [])
+line_ends sink a b c r text p q =
+    let w : Wrote sink.written sink.faults b c r (text ∷ []) = subst (λ t. Wrote sink.written sink.faults b c r (t ∷ [])) p.line q in record {
       same_reference = w.same_reference ∙ p.same_reference;
       same_mark = w.same_mark ∙ p.same_mark;
       empty = w.empty;

@@ -1,23 +1,25 @@
 -- What a call does that writes parts of a report.
-use Rattle.std.specs.Prelude.{ℕ, List, ◌∷◌, ◌++◌, map, Option, Result}
+use Rattle.std.specs.Prelude.{ℕ, List, ◌∷◌, ◌++◌, map, Result}
 use Rattle.std.specs.List.{AllByRecursion}
 use Rattle.ps_io.specs.Wrote.{Wrote}
 use Rattle.ps_io.specs.declared.lines.Lines.{Lines}
+use Rattle.ps_io.specs.declared.sink.Sink.{Ghosts}
 use Rattle.ps_io.specs.declared.sink.WriteFault.{WriteFault}
 use Rattle.ps_steps.specs.Constraints.{Constraint}
 use Rattle.ps_steps.specs.Steps.{Step}
 use Rattle.ps_pool.specs.declared.event.Event.{Event}
 use Rattle.ps_answer.specs.declared.answer.Model.{Model}
 use Rattle.ps_answer.specs.declared.answer.Dual.{Dual}
+use Rattle.ps_answer.specs.declared.answer.Cause.{Cause}
 use Rattle.ps_answer.specs.declared.item.Item.{Item}
 use Rattle.ps_answer.specs.declared.item.Item.TheVariants as line
 use Rattle.ps_answer.specs.Items.{item_line}
-use Rattle.ps_answer.specs.Answers.{model_items, dual_items, trace_items}
+use Rattle.ps_answer.specs.Answers.{model_items, dual_items, trace_items, cause_items}
 use Rattle.ps_report.specs.Written.{IsShort}
 
 -- the lines of these items were written, or a proper prefix of them where a write failed
-abbrev pub WroteItems : {O : Type 0} → (O → Option (List ℕ)) → (O → ℕ) → Lines O → Lines O → Result (Unit {0}) WriteFault → List Item → Type 0
-WroteItems written faults old new result items = Wrote written faults old new result (map item_line items)
+abbrev pub WroteItems : {O : Type 0} → Ghosts O → Lines O → Lines O → Result (Unit {0}) WriteFault → List Item → Type 0
+WroteItems sink old new result items = Wrote sink.written sink.faults old new result (map item_line items)
 
 -- the line of each item is shorter than the longest that is written
 abbrev pub AreShort : List Item → Type 0
@@ -31,6 +33,18 @@ goal_items goal steps = line.GoalLine goal ∷ map line.StepLine steps
 abbrev pub conflict_items : ℕ → Constraint → List Step → List Item
 conflict_items limit goal steps = line.OpenConflicts limit ∷ goal_items goal steps
 
--- the lines of a model, a dual and a trace
+-- the lines of a dual below its head
+abbrev pub below_dual_head : Dual → List Item
+below_dual_head d = line.Rows d.rows ∷ map line.StepLine d.steps
+
+-- the lines of what is refuted: a dual and a trace
+abbrev pub refuted_items : Dual → List Event → List Item
+refuted_items d trace = dual_items d ++ trace_items trace
+
+-- the lines of a bound below its value: a model that reaches it, a dual and a trace
 abbrev pub proved_items : Model → Dual → List Event → List Item
-proved_items m d trace = model_items m ++ (dual_items d ++ trace_items trace)
+proved_items m d trace = model_items m ++ refuted_items d trace
+
+-- the lines of what is open: a cause and a trace
+abbrev pub open_items : Cause → List Event → List Item
+open_items c trace = cause_items c ++ trace_items trace

@@ -1,20 +1,30 @@
 -- The lines of queries, and of an answer below its first line.
 use Rattle.std.specs.Prelude.{ℕ, true, false, List, [], ◌∷◌, ◌++◌}
 use Rattle.ps_pool.specs.declared.event.Event.{Event}
-use Rattle.ps_answer.specs.declared.answer.SideAnswer.{SideAnswer}
+use Rattle.ps_answer.specs.declared.answer.Dual.{Dual}
 use Rattle.ps_answer.specs.declared.answer.QueryPart.{QueryPart}
 use Rattle.ps_answer.specs.declared.answer.Answer.{Answer}
 use Rattle.ps_answer.specs.declared.item.Item.{Item}
 use Rattle.ps_answer.specs.declared.item.Item.TheVariants as line
 use Rattle.ps_answer.specs.Answers.{side_items, trace_items, query_items, part_items, verdict_items}
+use Rattle.ps_report.specs.declared.queries.Sides.{Sides}
+use Rattle.ps_report.specs.Parts.{refuted_items}
 
 -- the lines of the two sides of a query
-abbrev pub both_items : SideAnswer → List Event → SideAnswer → List Event → List Item
-both_items lower lower_trace upper upper_trace = side_items false lower lower_trace ++ side_items true upper upper_trace
+abbrev pub both_items : Sides → List Item
+both_items s = side_items false s.lower.now s.lower_trace.now ++ side_items true s.upper.now s.upper_trace.now
 
 -- the lines of a query's first phase and of its two sides
-abbrev pub run_items : List Event → SideAnswer → List Event → SideAnswer → List Event → List Item
-run_items first lower lower_trace upper upper_trace = trace_items first ++ both_items lower lower_trace upper upper_trace
+abbrev pub run_items : List Event → Sides → List Item
+run_items first s = trace_items first ++ both_items s
+
+-- the lines of a query that has two sides
+abbrev pub bounds_items : List Event → Sides → List Item
+bounds_items first s = line.Bounds ∷ run_items first s
+
+-- the lines of a query whose evidence is impossible
+abbrev pub impossible_items : Dual → List Event → List Item
+impossible_items d first = line.Impossible ∷ refuted_items d first
 
 -- the lines of a numbered query
 abbrev pub numbered_items : ℕ → QueryPart → List Item

@@ -1,10 +1,10 @@
 //! Causes and verdicts.
-ghost use Rattle.std.specs.Prelude.{◌≡◌, ◌++◌, [], ◌∷◌, map};
+ghost use Rattle.std.specs.Prelude.{◌≡◌, [], ◌∷◌};
 ghost use Rattle.ps_answer.specs.Answers.{cause_items, verdict_items, model_items, dual_items};
-ghost use Rattle.ps_answer.specs.Answers.{trace_items};
 ghost use Rattle.ps_answer.specs.declared.item.Item.TheVariants as line;
 ghost use Rattle.ps_io.specs.Lines.{text_of};
 ghost use Rattle.ps_report.specs.Parts.{WroteItems, AreShort, conflict_items, goal_items};
+ghost use Rattle.ps_report.specs.Parts.{open_items, refuted_items};
 
 use crate::ends::{write_consistent, write_inconsistent};
 use crate::entries::write_goal_line;
@@ -19,7 +19,7 @@ use ps_pool::Event;
 pub fn write_cause<O: Sink>(lines: &mut Lines<'_, O>, cause: &Cause) -> Result<(), WriteFault>
     requires empty { text_of lines.old ≡ [] }
     requires short { AreShort (cause_items cause.now) }
-    ensures { WroteItems O.written O.faults lines.old lines.new result (cause_items cause.now) }
+    ensures { WroteItems O.Sink lines.old lines.new result (cause_items cause.now) }
 {
     match cause {
         Cause::Pivots { limit } => write_open_pivots(lines, *limit),
@@ -38,8 +38,7 @@ fn write_conflicts<O: Sink>(
 ) -> Result<(), WriteFault>
     requires empty { text_of lines.old ≡ [] }
     requires short { AreShort (conflict_items limit goal.now steps.now) }
-    ensures { WroteItems O.written O.faults lines.old lines.new result
-        (conflict_items limit goal.now steps.now) }
+    ensures { WroteItems O.Sink lines.old lines.new result (conflict_items limit goal.now steps.now) }
 {
     write_open_conflicts(lines, limit)?;
     write_goal_and_steps(lines, goal, steps)
@@ -52,8 +51,7 @@ fn write_goal_and_steps<O: Sink>(
 ) -> Result<(), WriteFault>
     requires empty { text_of lines.old ≡ [] }
     requires short { AreShort (goal_items goal.now steps.now) }
-    ensures { WroteItems O.written O.faults lines.old lines.new result
-        (goal_items goal.now steps.now) }
+    ensures { WroteItems O.Sink lines.old lines.new result (goal_items goal.now steps.now) }
 {
     write_goal_line(lines, goal)?;
     write_steps(lines, steps)
@@ -63,7 +61,7 @@ fn write_goal_and_steps<O: Sink>(
 pub fn write_verdict<O: Sink>(lines: &mut Lines<'_, O>, verdict: &Verdict) -> Result<(), WriteFault>
     requires empty { text_of lines.old ≡ [] }
     requires short { AreShort (verdict_items verdict.now) }
-    ensures { WroteItems O.written O.faults lines.old lines.new result (verdict_items verdict.now) }
+    ensures { WroteItems O.Sink lines.old lines.new result (verdict_items verdict.now) }
 {
     match verdict {
         Verdict::Consistent(model) => write_consistent_model(lines, model),
@@ -78,8 +76,7 @@ fn write_consistent_model<O: Sink>(
 ) -> Result<(), WriteFault>
     requires empty { text_of lines.old ≡ [] }
     requires short { AreShort (line.Consistent ∷ model_items model.now) }
-    ensures { WroteItems O.written O.faults lines.old lines.new result
-        (line.Consistent ∷ model_items model.now) }
+    ensures { WroteItems O.Sink lines.old lines.new result (line.Consistent ∷ model_items model.now) }
 {
     write_consistent(lines)?;
     write_model(lines, model)
@@ -88,8 +85,7 @@ fn write_consistent_model<O: Sink>(
 fn write_inconsistent_dual<O: Sink>(lines: &mut Lines<'_, O>, dual: &Dual) -> Result<(), WriteFault>
     requires empty { text_of lines.old ≡ [] }
     requires short { AreShort (line.Inconsistent ∷ dual_items dual.now) }
-    ensures { WroteItems O.written O.faults lines.old lines.new result
-        (line.Inconsistent ∷ dual_items dual.now) }
+    ensures { WroteItems O.Sink lines.old lines.new result (line.Inconsistent ∷ dual_items dual.now) }
 {
     write_inconsistent(lines)?;
     write_dual(lines, dual)
@@ -102,9 +98,8 @@ pub(crate) fn write_cause_and_trace<O: Sink>(
     trace: &[Event],
 ) -> Result<(), WriteFault>
     requires empty { text_of lines.old ≡ [] }
-    requires short { AreShort (cause_items cause.now ++ trace_items trace.now) }
-    ensures { WroteItems O.written O.faults lines.old lines.new result
-        (cause_items cause.now ++ trace_items trace.now) }
+    requires short { AreShort (open_items cause.now trace.now) }
+    ensures { WroteItems O.Sink lines.old lines.new result (open_items cause.now trace.now) }
 {
     write_cause(lines, cause)?;
     write_trace(lines, trace)
@@ -117,9 +112,8 @@ pub(crate) fn write_dual_and_trace<O: Sink>(
     trace: &[Event],
 ) -> Result<(), WriteFault>
     requires empty { text_of lines.old ≡ [] }
-    requires short { AreShort (dual_items dual.now ++ trace_items trace.now) }
-    ensures { WroteItems O.written O.faults lines.old lines.new result
-        (dual_items dual.now ++ trace_items trace.now) }
+    requires short { AreShort (refuted_items dual.now trace.now) }
+    ensures { WroteItems O.Sink lines.old lines.new result (refuted_items dual.now trace.now) }
 {
     write_dual(lines, dual)?;
     write_trace(lines, trace)

@@ -18,7 +18,7 @@ pub(crate) fn end_line<O: Sink>(lines: &mut Lines<'_, O>) -> Result<(), WriteFau
 /// Writes the first line of a report.
 pub fn write_report_head<O: Sink>(lines: &mut Lines<'_, O>) -> Result<(), WriteFault>
     requires { text_of lines.old ≡ [] }
-    ensures { WroteItem O.written O.faults lines.old lines.new result Report }
+    ensures { WroteItem O.Sink lines.old lines.new result Report }
 {
     lines.word(b"report");
     lines.number(1);
@@ -28,7 +28,7 @@ pub fn write_report_head<O: Sink>(lines: &mut Lines<'_, O>) -> Result<(), WriteF
 /// Writes that a problem is consistent.
 pub fn write_consistent<O: Sink>(lines: &mut Lines<'_, O>) -> Result<(), WriteFault>
     requires { text_of lines.old ≡ [] }
-    ensures { WroteItem O.written O.faults lines.old lines.new result Consistent }
+    ensures { WroteItem O.Sink lines.old lines.new result Consistent }
 {
     lines.word(b"consistent");
     lines.end_line()
@@ -37,7 +37,7 @@ pub fn write_consistent<O: Sink>(lines: &mut Lines<'_, O>) -> Result<(), WriteFa
 /// Writes that a problem is inconsistent.
 pub fn write_inconsistent<O: Sink>(lines: &mut Lines<'_, O>) -> Result<(), WriteFault>
     requires { text_of lines.old ≡ [] }
-    ensures { WroteItem O.written O.faults lines.old lines.new result Inconsistent }
+    ensures { WroteItem O.Sink lines.old lines.new result Inconsistent }
 {
     lines.word(b"inconsistent");
     lines.end_line()
@@ -46,7 +46,7 @@ pub fn write_inconsistent<O: Sink>(lines: &mut Lines<'_, O>) -> Result<(), Write
 /// Writes that a query has bounds.
 pub fn write_bounds<O: Sink>(lines: &mut Lines<'_, O>) -> Result<(), WriteFault>
     requires { text_of lines.old ≡ [] }
-    ensures { WroteItem O.written O.faults lines.old lines.new result Bounds }
+    ensures { WroteItem O.Sink lines.old lines.new result Bounds }
 {
     lines.word(b"bounds");
     lines.end_line()
@@ -55,7 +55,7 @@ pub fn write_bounds<O: Sink>(lines: &mut Lines<'_, O>) -> Result<(), WriteFault>
 /// Writes that a query's evidence is impossible.
 pub fn write_impossible<O: Sink>(lines: &mut Lines<'_, O>) -> Result<(), WriteFault>
     requires { text_of lines.old ≡ [] }
-    ensures { WroteItem O.written O.faults lines.old lines.new result Impossible }
+    ensures { WroteItem O.Sink lines.old lines.new result Impossible }
 {
     lines.word(b"impossible");
     lines.end_line()
@@ -64,7 +64,7 @@ pub fn write_impossible<O: Sink>(lines: &mut Lines<'_, O>) -> Result<(), WriteFa
 /// Writes the last line of a report.
 pub fn write_end<O: Sink>(lines: &mut Lines<'_, O>) -> Result<(), WriteFault>
     requires { text_of lines.old ≡ [] }
-    ensures { WroteItem O.written O.faults lines.old lines.new result End }
+    ensures { WroteItem O.Sink lines.old lines.new result End }
 {
     lines.word(b"end");
     lines.end_line()

@@ -21,7 +21,7 @@ use ps_pool::{Col, Event};
 pub fn write_entry<O: Sink>(lines: &mut Lines<'_, O>, entry: &Weighted) -> Result<(), WriteFault>
     requires empty { text_of lines.old ≡ [] }
     requires short { IsShort (entry_item entry.now) }
-    ensures { WroteItem O.written O.faults lines.old lines.new result (entry_item entry.now) }
+    ensures { WroteItem O.Sink lines.old lines.new result (entry_item entry.now) }
 {
     add_entry(lines, entry);
     end_line(lines)
@@ -41,7 +41,7 @@ fn add_entry<O: Sink>(lines: &mut Lines<'_, O>, entry: &Weighted)
 pub fn write_rows<O: Sink>(lines: &mut Lines<'_, O>, rows: &[i128]) -> Result<(), WriteFault>
     requires empty { text_of lines.old ≡ [] }
     requires short { IsShort (Rows rows.now) }
-    ensures { WroteItem O.written O.faults lines.old lines.new result (Rows rows.now) }
+    ensures { WroteItem O.Sink lines.old lines.new result (Rows rows.now) }
 {
     add_rows(lines, rows);
     end_line(lines)
@@ -92,7 +92,7 @@ fn add_number<O: Sink>(lines: &mut Lines<'_, O>, n: i128)
 pub fn write_step_line<O: Sink>(lines: &mut Lines<'_, O>, step: &Step) -> Result<(), WriteFault>
     requires empty { text_of lines.old ≡ [] }
     requires short { IsShort (StepLine step.now) }
-    ensures { WroteItem O.written O.faults lines.old lines.new result (StepLine step.now) }
+    ensures { WroteItem O.Sink lines.old lines.new result (StepLine step.now) }
 {
     write_step(lines, step)
 }
@@ -105,7 +105,7 @@ pub fn write_goal_line<O: Sink>(
 ) -> Result<(), WriteFault>
     requires empty { text_of lines.old ≡ [] }
     requires short { IsShort (GoalLine goal.now) }
-    ensures { WroteItem O.written O.faults lines.old lines.new result (GoalLine goal.now) }
+    ensures { WroteItem O.Sink lines.old lines.new result (GoalLine goal.now) }
 {
     write_goal(lines, goal)
 }
@@ -114,7 +114,7 @@ pub fn write_goal_line<O: Sink>(
 pub fn write_event<O: Sink>(lines: &mut Lines<'_, O>, event: &Event) -> Result<(), WriteFault>
     requires empty { text_of lines.old ≡ [] }
     requires short { IsShort (event_item event.now) }
-    ensures { WroteItem O.written O.faults lines.old lines.new result (event_item event.now) }
+    ensures { WroteItem O.Sink lines.old lines.new result (event_item event.now) }
 {
     add_event(lines, event);
     end_line(lines)

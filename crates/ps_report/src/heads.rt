@@ -14,7 +14,7 @@ pub fn write_model_head<O: Sink>(
     count: u64,
 ) -> Result<(), WriteFault>
     requires { text_of lines.old ≡ [] }
-    ensures { WroteItem O.written O.faults lines.old lines.new result (ModelHead total.now count) }
+    ensures { WroteItem O.Sink lines.old lines.new result (ModelHead total.now count) }
 {
     lines.word(b"model");
     lines.number(*total);
@@ -30,8 +30,7 @@ pub fn write_dual_head<O: Sink>(
     count: u64,
 ) -> Result<(), WriteFault>
     requires { text_of lines.old ≡ [] }
-    ensures { WroteItem O.written O.faults lines.old lines.new result
-        (DualHead top.now head.now count) }
+    ensures { WroteItem O.Sink lines.old lines.new result (DualHead top.now head.now count) }
 {
     lines.word(b"dual");
     lines.number(*top);
@@ -43,7 +42,7 @@ pub fn write_dual_head<O: Sink>(
 /// Writes the first line of a trace: how many events it has.
 pub fn write_trace_head<O: Sink>(lines: &mut Lines<'_, O>, count: u64) -> Result<(), WriteFault>
     requires { text_of lines.old ≡ [] }
-    ensures { WroteItem O.written O.faults lines.old lines.new result (TraceHead count) }
+    ensures { WroteItem O.Sink lines.old lines.new result (TraceHead count) }
 {
     lines.word(b"t");
     lines.number(count as i128);
@@ -53,7 +52,7 @@ pub fn write_trace_head<O: Sink>(lines: &mut Lines<'_, O>, count: u64) -> Result
 /// Writes the first line of a query: its number, from 1.
 pub fn write_query<O: Sink>(lines: &mut Lines<'_, O>, number: u64) -> Result<(), WriteFault>
     requires { text_of lines.old ≡ [] }
-    ensures { WroteItem O.written O.faults lines.old lines.new result (Query number) }
+    ensures { WroteItem O.Sink lines.old lines.new result (Query number) }
 {
     lines.word(b"query");
     lines.number(number as i128);

@@ -20,7 +20,7 @@ use ps_table::WideAt;
 /// Writes that so many pivots were used up.
 pub fn write_open_pivots<O: Sink>(lines: &mut Lines<'_, O>, limit: u64) -> Result<(), WriteFault>
     requires { text_of lines.old ≡ [] }
-    ensures { WroteItem O.written O.faults lines.old lines.new result (OpenPivots limit) }
+    ensures { WroteItem O.Sink lines.old lines.new result (OpenPivots limit) }
 {
     add_open_limit(lines, b"pivots", limit);
     end_line(lines)
@@ -29,7 +29,7 @@ pub fn write_open_pivots<O: Sink>(lines: &mut Lines<'_, O>, limit: u64) -> Resul
 /// Writes that so many conflicts were used up; the goal and the steps are lines of their own.
 pub fn write_open_conflicts<O: Sink>(lines: &mut Lines<'_, O>, limit: u64) -> Result<(), WriteFault>
     requires { text_of lines.old ≡ [] }
-    ensures { WroteItem O.written O.faults lines.old lines.new result (OpenConflicts limit) }
+    ensures { WroteItem O.Sink lines.old lines.new result (OpenConflicts limit) }
 {
     add_open_limit(lines, b"conflicts", limit);
     end_line(lines)
@@ -38,7 +38,7 @@ pub fn write_open_conflicts<O: Sink>(lines: &mut Lines<'_, O>, limit: u64) -> Re
 /// Writes an operation that was refused: its place, its word, and its operands.
 pub fn write_open_wide<O: Sink>(lines: &mut Lines<'_, O>, at: &WideAt) -> Result<(), WriteFault>
     requires { text_of lines.old ≡ [] }
-    ensures { WroteItem O.written O.faults lines.old lines.new result (wide_item at.now) }
+    ensures { WroteItem O.Sink lines.old lines.new result (wide_item at.now) }
 {
     add_wide(lines, at);
     end_line(lines)
@@ -47,7 +47,7 @@ pub fn write_open_wide<O: Sink>(lines: &mut Lines<'_, O>, at: &WideAt) -> Result
 /// Writes that a side of a query is open.
 pub fn write_open_side<O: Sink>(lines: &mut Lines<'_, O>, upper: bool) -> Result<(), WriteFault>
     requires { text_of lines.old ≡ [] }
-    ensures { WroteItem O.written O.faults lines.old lines.new result (OpenSide upper) }
+    ensures { WroteItem O.Sink lines.old lines.new result (OpenSide upper) }
 {
     add_side(lines, upper);
     end_line(lines)
@@ -60,7 +60,7 @@ pub fn write_bound<O: Sink>(
     value: &Fraction,
 ) -> Result<(), WriteFault>
     requires { text_of lines.old ≡ [] }
-    ensures { WroteItem O.written O.faults lines.old lines.new result (bound_item upper value.now) }
+    ensures { WroteItem O.Sink lines.old lines.new result (bound_item upper value.now) }
 {
     add_bound(lines, upper, value);
     end_line(lines)

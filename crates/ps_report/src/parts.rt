@@ -1,10 +1,10 @@
 //! Models, duals and traces, each with its head.
-ghost use Rattle.std.specs.Prelude.{◌≡◌, [], ◌∷◌, map};
+ghost use Rattle.std.specs.Prelude.{◌≡◌, [], map};
 ghost use Rattle.ps_answer.specs.Answers.{entry_item, event_item};
 ghost use Rattle.ps_answer.specs.Answers.{model_items, dual_items, trace_items};
-ghost use Rattle.ps_answer.specs.declared.item.Item.TheVariants.{Rows, StepLine};
+ghost use Rattle.ps_answer.specs.declared.item.Item.TheVariants.{StepLine};
 ghost use Rattle.ps_io.specs.Lines.{text_of};
-ghost use Rattle.ps_report.specs.Parts.{WroteItems, AreShort};
+ghost use Rattle.ps_report.specs.Parts.{WroteItems, AreShort, below_dual_head};
 
 use crate::entries::{write_entry, write_event, write_rows, write_step_line};
 use crate::heads::{write_dual_head, write_model_head, write_trace_head};
@@ -17,7 +17,7 @@ use ps_pool::Event;
 pub fn write_model<O: Sink>(lines: &mut Lines<'_, O>, model: &Model) -> Result<(), WriteFault>
     requires empty { text_of lines.old ≡ [] }
     requires short { AreShort (model_items model.now) }
-    ensures { WroteItems O.written O.faults lines.old lines.new result (model_items model.now) }
+    ensures { WroteItems O.Sink lines.old lines.new result (model_items model.now) }
 {
     write_model_head(lines, &model.total, model.worlds.len() as u64)?;
     write_entries(lines, model.worlds.as_slice())
@@ -26,7 +26,7 @@ pub fn write_model<O: Sink>(lines: &mut Lines<'_, O>, model: &Model) -> Result<(
 fn write_entries<O: Sink>(lines: &mut Lines<'_, O>, worlds: &[Weighted]) -> Result<(), WriteFault>
     requires empty { text_of lines.old ≡ [] }
     requires short { AreShort (map entry_item worlds.now) }
-    ensures { WroteItems O.written O.faults lines.old lines.new result (map entry_item worlds.now) }
+    ensures { WroteItems O.Sink lines.old lines.new result (map entry_item worlds.now) }
 {
     for entry in worlds {
         write_entry(lines, entry)?;
@@ -38,7 +38,7 @@ fn write_entries<O: Sink>(lines: &mut Lines<'_, O>, worlds: &[Weighted]) -> Resu
 pub fn write_dual<O: Sink>(lines: &mut Lines<'_, O>, dual: &Dual) -> Result<(), WriteFault>
     requires empty { text_of lines.old ≡ [] }
     requires short { AreShort (dual_items dual.now) }
-    ensures { WroteItems O.written O.faults lines.old lines.new result (dual_items dual.now) }
+    ensures { WroteItems O.Sink lines.old lines.new result (dual_items dual.now) }
 {
     write_dual_head(lines, &dual.top, &dual.head, dual.steps.len() as u64)?;
     write_rows_and_steps(lines, dual)
@@ -46,9 +46,8 @@ pub fn write_dual<O: Sink>(lines: &mut Lines<'_, O>, dual: &Dual) -> Result<(), 
 
 fn write_rows_and_steps<O: Sink>(lines: &mut Lines<'_, O>, dual: &Dual) -> Result<(), WriteFault>
     requires empty { text_of lines.old ≡ [] }
-    requires short { AreShort (Rows dual.now.rows ∷ map StepLine dual.now.steps) }
-    ensures { WroteItems O.written O.faults lines.old lines.new result
-        (Rows dual.now.rows ∷ map StepLine dual.now.steps) }
+    requires short { AreShort (below_dual_head dual.now) }
+    ensures { WroteItems O.Sink lines.old lines.new result (below_dual_head dual.now) }
 {
     write_rows(lines, dual.rows.as_slice())?;
     write_steps(lines, dual.steps.as_slice())
@@ -60,7 +59,7 @@ pub(crate) fn write_steps<O: Sink>(
 ) -> Result<(), WriteFault>
     requires empty { text_of lines.old ≡ [] }
     requires short { AreShort (map StepLine steps.now) }
-    ensures { WroteItems O.written O.faults lines.old lines.new result (map StepLine steps.now) }
+    ensures { WroteItems O.Sink lines.old lines.new result (map StepLine steps.now) }
 {
     for step in steps {
         write_step_line(lines, step)?;
@@ -72,7 +71,7 @@ pub(crate) fn write_steps<O: Sink>(
 pub fn write_trace<O: Sink>(lines: &mut Lines<'_, O>, trace: &[Event]) -> Result<(), WriteFault>
     requires empty { text_of lines.old ≡ [] }
     requires short { AreShort (trace_items trace.now) }
-    ensures { WroteItems O.written O.faults lines.old lines.new result (trace_items trace.now) }
+    ensures { WroteItems O.Sink lines.old lines.new result (trace_items trace.now) }
 {
     write_trace_head(lines, trace.len() as u64)?;
     write_events(lines, trace)
@@ -81,7 +80,7 @@ pub fn write_trace<O: Sink>(lines: &mut Lines<'_, O>, trace: &[Event]) -> Result
 fn write_events<O: Sink>(lines: &mut Lines<'_, O>, trace: &[Event]) -> Result<(), WriteFault>
     requires empty { text_of lines.old ≡ [] }
     requires short { AreShort (map event_item trace.now) }
-    ensures { WroteItems O.written O.faults lines.old lines.new result (map event_item trace.now) }
+    ensures { WroteItems O.Sink lines.old lines.new result (map event_item trace.now) }
 {
     for event in trace {
         write_event(lines, event)?;

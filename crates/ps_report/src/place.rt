@@ -5,7 +5,7 @@ ghost use Rattle.ps_io.specs.Lines.{line_length};
 ghost use Rattle.ps_answer.specs.Items.{count, place_words, shown_word};
 ghost use Rattle.ps_answer.specs.Words.{Letters};
 ghost use Rattle.ps_table.specs.declared.place.Place.TheVariants as place;
-ghost use Rattle.ps_report.specs.Written.{AddsWords};
+ghost use Rattle.ps_report.specs.Written.{AddsWords, cell_words};
 
 use crate::words::{LONGEST_COLUMN, add_column};
 use ps_io::{LONGEST_LINE, Lines, Sink};
@@ -67,8 +67,7 @@ fn add_cell<O: Sink>(lines: &mut Lines<'_, O>, name: &[u8], row: u32, col: &Tabl
     requires one_word { IsWord name.now }
     requires name { length name.now ≤ LONGEST_NAME }
     requires fits { line_length lines.old + LONGEST_PLACE < LONGEST_LINE }
-    ensures line { AddsWords lines.old lines.new
-        (Letters name.now ∷ count row ∷ shown_word col.now ∷ []) }
+    ensures line { AddsWords lines.old lines.new (cell_words name.now row col.now) }
     ensures short { line_length lines.new ≤ line_length lines.old + LONGEST_PLACE }
 {
     lines.word(name);

@@ -28,7 +28,7 @@ pub fn write_report<O: Sink>(answer: &Answer, lines: &mut Lines<'_, O>) -> Resul
 fn write_below_head<O: Sink>(lines: &mut Lines<'_, O>, answer: &Answer) -> Result<(), WriteFault>
     requires empty { text_of lines.old ≡ [] }
     requires short { AreShort (below_head answer.now) }
-    ensures { WroteItems O.written O.faults lines.old lines.new result (below_head answer.now) }
+    ensures { WroteItems O.Sink lines.old lines.new result (below_head answer.now) }
 {
     write_verdict(lines, &answer.verdict)?;
     write_below_verdict(lines, answer)
@@ -37,7 +37,7 @@ fn write_below_head<O: Sink>(lines: &mut Lines<'_, O>, answer: &Answer) -> Resul
 fn write_below_verdict<O: Sink>(lines: &mut Lines<'_, O>, answer: &Answer) -> Result<(), WriteFault>
     requires empty { text_of lines.old ≡ [] }
     requires short { AreShort (below_verdict answer.now) }
-    ensures { WroteItems O.written O.faults lines.old lines.new result (below_verdict answer.now) }
+    ensures { WroteItems O.Sink lines.old lines.new result (below_verdict answer.now) }
 {
     write_trace(lines, answer.first.as_slice())?;
     write_parts_and_end(lines, answer.parts.as_slice())
@@ -49,8 +49,7 @@ fn write_parts_and_end<O: Sink>(
 ) -> Result<(), WriteFault>
     requires empty { text_of lines.old ≡ [] }
     requires short { AreShort (part_items 1 parts.now ++ line.End ∷ []) }
-    ensures { WroteItems O.written O.faults lines.old lines.new result
-        (part_items 1 parts.now ++ line.End ∷ []) }
+    ensures { WroteItems O.Sink lines.old lines.new result (part_items 1 parts.now ++ line.End ∷ []) }
 {
     write_parts(lines, parts)?;
     write_end(lines)

@@ -6,7 +6,7 @@ use Rattle.ps_report.proofs.Sequence.{items_then, items_stop, short_first, short
 use Rattle.ps_report.proofs.causes.write_cause_and_trace.Goals as goal
 
 pub returns : goal.returns
-returns g c = items_then g.O.Sink.written g.O.Sink.faults _ _ _ _ (cause_items c.args.cause.now) (trace_items c.args.trace.now) (rw c.in_ok-write_cause.was at c.write_cause.ensures) c.write_trace.ensures
+returns g c = items_then g.O.Sink _ _ _ _ (cause_items c.args.cause.now) (trace_items c.args.trace.now) (rw c.in_ok-write_cause.was at c.write_cause.ensures) c.write_trace.ensures
 
 pub write_cause-requires-clause-short : goal.write_cause-requires-clause-short
 write_cause-requires-clause-short g c = short_first (cause_items c.args.cause.now) (trace_items c.args.trace.now) c.requires.short
@@ -17,4 +17,4 @@ write_trace-requires-clause-short g c = short_last (cause_items c.args.cause.now
 pub returns-in_err-write_cause : goal.returns-in_err-write_cause
 returns-in_err-write_cause g c =
     let failed : IsErr c.from_residual.result = search rules in
-    items_stop g.O.Sink.written g.O.Sink.faults c.args.lines.now c.write_cause.new.lines _ c.from_residual.result (cause_items c.args.cause.now) (trace_items c.args.trace.now) (rw c.in_err-write_cause.was at c.write_cause.ensures) failed
+    items_stop g.O.Sink c.args.lines.now c.write_cause.new.lines _ c.from_residual.result (cause_items c.args.cause.now) (trace_items c.args.trace.now) (rw c.in_err-write_cause.was at c.write_cause.ensures) failed

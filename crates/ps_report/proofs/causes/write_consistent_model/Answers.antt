@@ -7,9 +7,9 @@ use Rattle.ps_report.proofs.Sequence.{items_then, items_stop}
 use Rattle.ps_report.proofs.causes.write_consistent_model.Goals as goal
 
 pub returns : goal.returns
-returns g c = items_then g.O.Sink.written g.O.Sink.faults _ _ _ _ (line.Consistent ∷ []) (model_items c.args.model.now) (rw c.in_ok-write_consistent.was at c.write_consistent.ensures) c.write_model.ensures
+returns g c = items_then g.O.Sink _ _ _ _ (line.Consistent ∷ []) (model_items c.args.model.now) (rw c.in_ok-write_consistent.was at c.write_consistent.ensures) c.write_model.ensures
 
 pub returns-in_err-write_consistent : goal.returns-in_err-write_consistent
 returns-in_err-write_consistent g c =
     let failed : IsErr c.from_residual.result = search rules in
-    items_stop g.O.Sink.written g.O.Sink.faults c.args.lines.now c.write_consistent.new.lines _ c.from_residual.result (line.Consistent ∷ []) (model_items c.args.model.now) (rw c.in_err-write_consistent.was at c.write_consistent.ensures) failed
+    items_stop g.O.Sink c.args.lines.now c.write_consistent.new.lines _ c.from_residual.result (line.Consistent ∷ []) (model_items c.args.model.now) (rw c.in_err-write_consistent.was at c.write_consistent.ensures) failed

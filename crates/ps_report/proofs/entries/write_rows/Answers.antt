@@ -2,4 +2,4 @@ use Rattle.ps_report.proofs.Made.{line_ends}
 use Rattle.ps_report.proofs.entries.write_rows.Goals as goal
 
 pub returns : goal.returns
-returns g c = line_ends g.O.Sink.written g.O.Sink.faults _ _ _ _ _ c.add_rows.ensures c.end_line.ensures
+returns g c = line_ends g.O.Sink _ _ _ _ _ c.add_rows.ensures c.end_line.ensures

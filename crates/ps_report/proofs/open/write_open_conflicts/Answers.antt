@@ -2,4 +2,4 @@ use Rattle.ps_report.proofs.Made.{line_ends}
 use Rattle.ps_report.proofs.open.write_open_conflicts.Goals as goal
 
 pub returns : goal.returns
-returns g c = line_ends g.O.Sink.written g.O.Sink.faults _ _ _ _ _ c.add_open_limit.ensures c.end_line.ensures
+returns g c = line_ends g.O.Sink _ _ _ _ _ c.add_open_limit.ensures c.end_line.ensures

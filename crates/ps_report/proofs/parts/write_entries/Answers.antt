@@ -10,5 +10,5 @@ write_entry-requires-clause-short g c = short_at entry_item c.args.worlds.now c.
 pub returns-in_err-write_entry : goal.returns-in_err-write_entry
 returns-in_err-write_entry g c =
     let failed : IsErr c.from_residual.result = search rules in
-    items_fault g.O.Sink.written g.O.Sink.faults entry_item c.args.worlds.now c.loop-entry.entry-index c.entry-item.result c.entry-item.result c.loop-entry-test.true c.entry-item.is c.args.lines.now c.loop-entry.lines c.write_entry.new.lines c.loop-entry.invariant _ c.from_residual.result
+    items_fault g.O.Sink entry_item c.args.worlds.now c.loop-entry.entry-index c.entry-item.result c.entry-item.result c.loop-entry-test.true c.entry-item.is c.args.lines.now c.loop-entry.lines c.write_entry.new.lines c.loop-entry.invariant _ c.from_residual.result
     (rw c.in_err-write_entry.was at c.write_entry.ensures) failed

@@ -7,9 +7,9 @@ use Rattle.ps_report.proofs.Sequence.{items_then, items_stop}
 use Rattle.ps_report.proofs.queries.write_bounds_answer.Goals as goal
 
 pub returns : goal.returns
-returns g c = items_then g.O.Sink.written g.O.Sink.faults _ _ _ _ (line.Bounds ∷ []) (run_items c.args.first.now c.args.lower.now c.args.lower_trace.now c.args.upper.now c.args.upper_trace.now) (rw c.in_ok-write_bounds.was at c.write_bounds.ensures) c.write_trace_and_sides.ensures
+returns g c = items_then g.O.Sink _ _ _ _ (line.Bounds ∷ []) (run_items c.args.first.now c.args.sides.now) (rw c.in_ok-write_bounds.was at c.write_bounds.ensures) c.write_trace_and_sides.ensures
 
 pub returns-in_err-write_bounds : goal.returns-in_err-write_bounds
 returns-in_err-write_bounds g c =
     let failed : IsErr c.from_residual.result = search rules in
-    items_stop g.O.Sink.written g.O.Sink.faults c.args.lines.now c.write_bounds.new.lines _ c.from_residual.result (line.Bounds ∷ []) (run_items c.args.first.now c.args.lower.now c.args.lower_trace.now c.args.upper.now c.args.upper_trace.now) (rw c.in_err-write_bounds.was at c.write_bounds.ensures) failed
+    items_stop g.O.Sink c.args.lines.now c.write_bounds.new.lines _ c.from_residual.result (line.Bounds ∷ []) (run_items c.args.first.now c.args.sides.now) (rw c.in_err-write_bounds.was at c.write_bounds.ensures) failed

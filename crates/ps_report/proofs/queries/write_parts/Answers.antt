@@ -13,13 +13,13 @@ write_part-requires-clause-short g c = part_short c.args.parts.now c.loop-i.i c.
 pub loop-i-preserved : goal.loop-i-preserved
 loop-i-preserved g c =
     rw (part_more c.args.parts.now c.loop-i.i c.index-parts-i.result c.index-parts-i.result c.loop-i-test.true c.index-parts-i.is)
-    (items_then g.O.Sink.written g.O.Sink.faults _ _ _ _ (part_items 1 (take c.loop-i.i c.args.parts.now)) (numbered_items (c.loop-i.i + 1) c.index-parts-i.result) c.loop-i.invariant
+    (items_then g.O.Sink _ _ _ _ (part_items 1 (take c.loop-i.i c.args.parts.now)) (numbered_items (c.loop-i.i + 1) c.index-parts-i.result) c.loop-i.invariant
     (rw c.in_ok-write_part.was at c.write_part.ensures))
 
 pub returns-in_err-write_part : goal.returns-in_err-write_part
 returns-in_err-write_part g c =
     let failed : IsErr c.from_residual.result = search rules in
     rw (part_at c.args.parts.now c.loop-i.i c.index-parts-i.result c.index-parts-i.result c.loop-i-test.true c.index-parts-i.is)
-    (items_stop g.O.Sink.written g.O.Sink.faults c.args.lines.now c.write_part.new.lines _ c.from_residual.result _ _
-    (items_then g.O.Sink.written g.O.Sink.faults _ _ _ _ (part_items 1 (take c.loop-i.i c.args.parts.now)) (numbered_items (c.loop-i.i + 1) c.index-parts-i.result) c.loop-i.invariant
+    (items_stop g.O.Sink c.args.lines.now c.write_part.new.lines _ c.from_residual.result _ _
+    (items_then g.O.Sink _ _ _ _ (part_items 1 (take c.loop-i.i c.args.parts.now)) (numbered_items (c.loop-i.i + 1) c.index-parts-i.result) c.loop-i.invariant
     (rw c.in_err-write_part.was at c.write_part.ensures)) failed)

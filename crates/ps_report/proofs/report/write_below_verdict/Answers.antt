@@ -7,7 +7,7 @@ use Rattle.ps_report.proofs.Sequence.{items_then, items_stop, short_first, short
 use Rattle.ps_report.proofs.report.write_below_verdict.Goals as goal
 
 pub returns : goal.returns
-returns g c = items_then g.O.Sink.written g.O.Sink.faults _ _ _ _ (trace_items c.args.answer.now.first) (part_items 1 c.args.answer.now.parts ++ line.End ∷ []) (rw (c.in_ok-write_trace.was, c.as_slice.ensures) at c.write_trace.ensures) (rw c.as_slice-2.ensures at c.write_parts_and_end.ensures)
+returns g c = items_then g.O.Sink _ _ _ _ (trace_items c.args.answer.now.first) (part_items 1 c.args.answer.now.parts ++ line.End ∷ []) (rw (c.in_ok-write_trace.was, c.as_slice.ensures) at c.write_trace.ensures) (rw c.as_slice-2.ensures at c.write_parts_and_end.ensures)
 
 pub write_trace-requires-clause-short : goal.write_trace-requires-clause-short
 write_trace-requires-clause-short g c = rw c.as_slice.ensures (short_first (trace_items c.args.answer.now.first) (part_items 1 c.args.answer.now.parts ++ line.End ∷ []) c.requires.short)
@@ -18,4 +18,4 @@ write_parts_and_end-requires-clause-short g c = rw c.as_slice-2.ensures (short_l
 pub returns-in_err-write_trace : goal.returns-in_err-write_trace
 returns-in_err-write_trace g c =
     let failed : IsErr c.from_residual.result = search rules in
-    items_stop g.O.Sink.written g.O.Sink.faults c.args.lines.now c.write_trace.new.lines _ c.from_residual.result (trace_items c.args.answer.now.first) (part_items 1 c.args.answer.now.parts ++ line.End ∷ []) (rw (c.in_err-write_trace.was, c.as_slice.ensures) at c.write_trace.ensures) failed
+    items_stop g.O.Sink c.args.lines.now c.write_trace.new.lines _ c.from_residual.result (trace_items c.args.answer.now.first) (part_items 1 c.args.answer.now.parts ++ line.End ∷ []) (rw (c.in_err-write_trace.was, c.as_slice.ensures) at c.write_trace.ensures) failed

@@ -14,10 +14,10 @@ write_below_head-requires-clause-short g c = let all : AreShort (line.Report ∷
 pub returns : goal.returns
 returns g c =
     rw (answer_is c.args.answer.now)
-    (items_then g.O.Sink.written g.O.Sink.faults _ _ _ _ (line.Report ∷ []) (below_head c.args.answer.now) (rw c.in_ok-write_report_head.was at c.write_report_head.ensures) c.write_below_head.ensures)
+    (items_then g.O.Sink _ _ _ _ (line.Report ∷ []) (below_head c.args.answer.now) (rw c.in_ok-write_report_head.was at c.write_report_head.ensures) c.write_below_head.ensures)
 
 pub returns-in_err-write_report_head : goal.returns-in_err-write_report_head
 returns-in_err-write_report_head g c =
     let failed : IsErr c.from_residual.result = search rules in
     rw (answer_is c.args.answer.now)
-    (items_stop g.O.Sink.written g.O.Sink.faults c.args.lines.now c.write_report_head.new.lines _ c.from_residual.result (line.Report ∷ []) (below_head c.args.answer.now) (rw c.in_err-write_report_head.was at c.write_report_head.ensures) failed)
+    (items_stop g.O.Sink c.args.lines.now c.write_report_head.new.lines _ c.from_residual.result (line.Report ∷ []) (below_head c.args.answer.now) (rw c.in_err-write_report_head.was at c.write_report_head.ensures) failed)

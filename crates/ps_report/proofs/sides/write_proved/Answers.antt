@@ -6,7 +6,7 @@ use Rattle.ps_report.proofs.Sequence.{items_then, items_stop, short_first, short
 use Rattle.ps_report.proofs.sides.write_proved.Goals as goal
 
 pub returns : goal.returns
-returns g c = items_then g.O.Sink.written g.O.Sink.faults _ _ _ _ (model_items c.args.model.now) (dual_items c.args.dual.now ++ trace_items c.args.trace.now) (rw c.in_ok-write_model.was at c.write_model.ensures) c.write_dual_and_trace.ensures
+returns g c = items_then g.O.Sink _ _ _ _ (model_items c.args.model.now) (dual_items c.args.dual.now ++ trace_items c.args.trace.now) (rw c.in_ok-write_model.was at c.write_model.ensures) c.write_dual_and_trace.ensures
 
 pub write_model-requires-clause-short : goal.write_model-requires-clause-short
 write_model-requires-clause-short g c = short_first (model_items c.args.model.now) (dual_items c.args.dual.now ++ trace_items c.args.trace.now) c.requires.short
@@ -17,4 +17,4 @@ write_dual_and_trace-requires-clause-short g c = short_last (model_items c.args.
 pub returns-in_err-write_model : goal.returns-in_err-write_model
 returns-in_err-write_model g c =
     let failed : IsErr c.from_residual.result = search rules in
-    items_stop g.O.Sink.written g.O.Sink.faults c.args.lines.now c.write_model.new.lines _ c.from_residual.result (model_items c.args.model.now) (dual_items c.args.dual.now ++ trace_items c.args.trace.now) (rw c.in_err-write_model.was at c.write_model.ensures) failed
+    items_stop g.O.Sink c.args.lines.now c.write_model.new.lines _ c.from_residual.result (model_items c.args.model.now) (dual_items c.args.dual.now ++ trace_items c.args.trace.now) (rw c.in_err-write_model.was at c.write_model.ensures) failed
