@@ -1,11 +1,13 @@
 -- The parts of a fraction.
-use Rattle.std.specs.Prelude.{ℕ, ◌≡◌, ◌≤◌, ◌<◌, ◌^◌, ℤ, List, Result, Ok, Err, unsigned_abs, ⊤}
+use Rattle.std.specs.Prelude.{ℕ, ◌≡◌, ◌≤◌, ◌<◌, ◌^◌, ℤ, pos, ◌≤ℤ◌, List, Result, Ok, Err, unsigned_abs, ⊤}
 use Rattle.std.specs.Int.{IsGcd}
 use Rattle.ps_log.specs.Spellings.{IsDecimal, Spells}
 use Rattle.ps_answer.specs.declared.item.Ratio.{Ratio}
+use Rattle.ps_answer.specs.Items.{IsReducedWithin, IsRatioWithin}
+use Rattle.ps_answer.specs.Words.{Fraction}
 use Rattle.ps_line.specs.declared.line_fault.LineFault.{LineFault}
 use Rattle.ps_line.specs.declared.line_fault.LineFault.TheVariants.{NotCanonical}
-use Rattle.ps_line.specs.Read.{IsRead, both}
+use Rattle.ps_line.specs.Read.{IsRead, IsWordRead, both}
 
 -- a numerator that asks this is read
 abbrev pub IsOver : (ℤ → Type 0) → ℕ → List ℕ → Result ℤ LineFault → Type 0
@@ -14,6 +16,14 @@ IsOver Asks limit word result = IsRead (λ z. Spells word z × Asks z) (λ z. un
 -- a denominator is read
 abbrev pub IsUnder : ℕ → List ℕ → Result ℕ LineFault → Type 0
 IsUnder limit word result = IsRead (λ n. IsDecimal word n × (1 ≤ n)) (λ n. n ≤ limit) result
+
+-- a fraction is read whose numbers are up to a limit in size
+abbrev pub IsRatioUpTo : ℕ → List ℕ → Result Ratio LineFault → Type 0
+IsRatioUpTo limit word result = IsWordRead (λ q. Fraction q) (λ q. IsReducedWithin limit q) (λ q. IsRatioWithin limit q) word result
+
+-- such a fraction is read that is no less than 0
+abbrev pub IsShareUpTo : ℕ → List ℕ → Result Ratio LineFault → Type 0
+IsShareUpTo limit word result = IsWordRead (λ q. Fraction q) (λ q. (pos 0 ≤ℤ q.over) × IsReducedWithin limit q) (λ q. IsRatioWithin limit q) word result
 
 -- the parts fit a fraction
 abbrev pub AreParts : Result ℤ LineFault → Result ℕ LineFault → Type 0

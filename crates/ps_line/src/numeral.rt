@@ -1,17 +1,17 @@
 //! Numbers of any size, cut off past every limit.
-ghost use Rattle.std.specs.Prelude.{◌≡◌, ◌≤◌, ◌<◌, ◌↔◌, ◌∷◌, ◌+◌, ◌*◌, ◌^◌, ℕ, ℤ, pos, List as Bytes, All};
-ghost use Rattle.std.specs.Prelude.{IfSome, IfNone, IsTrue, length, slice_index};
+ghost use Rattle.std.specs.Prelude.{◌≡◌, ◌≤◌, ◌<◌, ◌∷◌, ◌+◌, ◌*◌, ◌^◌, ℕ, List as Bytes, All};
+ghost use Rattle.std.specs.Prelude.{IfSome};
 ghost use Rattle.std.specs.Char.{digit_value};
 ghost use Rattle.std.specs.Str.Parse.{digits_value};
-ghost use Rattle.ps_log.specs.Spellings.{IsPlain};
 ghost use Rattle.ps_line.specs.Numerals.{cut_size, IsSize, IsCountUpTo, IsNumberUpTo};
 
 use crate::line_fault::LineFault;
+use ps_log::{is_plain, without_minus};
 
 // One above the greatest limit, that of an operand: what is more counts as this.
 const CAP: u128 = 1 << 127;
 
-/// The size that a word spells, if it spells one: digits without a leading zero.
+// The size that a word spells, if it spells one: digits without a leading zero.
 fn size(word: &[u8]) -> Option<u128>
     ensures size { IsSize word.now result }
     ensures within { IfSome result (λ n. n ≤ 2 ^ 127) }
@@ -21,30 +21,6 @@ fn size(word: &[u8]) -> Option<u128>
     } else {
         None
     }
-}
-
-fn is_plain(word: &[u8]) -> bool
-    ensures { IsTrue result ↔ IsPlain word.now }
-{
-    if word.is_empty() {
-        return false;
-    }
-    if has_leading_zero(word) {
-        return false;
-    }
-    are_digits(word)
-}
-
-fn has_leading_zero(word: &[u8]) -> bool
-    ensures { IsTrue result ↔ ((slice_index word.now 0 ≡ 48) × (1 < length word.now)) }
-{
-    1 < word.len() && word[0] == b'0'
-}
-
-fn are_digits(word: &[u8]) -> bool
-    ensures { IsTrue result ↔ All (λ b. digit_value b < 10) word.now }
-{
-    word.iter().all(|byte| byte.is_ascii_digit())
 }
 
 fn value(digits: &[u8]) -> u128
@@ -85,16 +61,6 @@ pub(crate) fn number_up_to(limit: u128, word: &[u8]) -> Result<i128, LineFault>
     match without_minus(word) {
         Some(digits) => negative_up_to(limit, digits),
         None => positive_up_to(limit, word),
-    }
-}
-
-fn without_minus(word: &[u8]) -> Option<&[u8]>
-    ensures found { IfSome result (λ rest. word.now ≡ 45 ∷ rest.now) }
-    ensures none { IfNone result ((rest : Bytes ℕ) → word.now ≡ 45 ∷ rest → ⊥) }
-{
-    match word {
-        [b'-', rest @ ..] => Some(rest),
-        _ => None,
     }
 }
 

@@ -1,13 +1,11 @@
 //! Words that say a fraction.
 ghost use Rattle.std.specs.Prelude.{◌≡◌, Ok, ◌≤◌, ◌<◌, ◌-◌, ◌≤ℤ◌, ◌↔◌, ◌^◌, pos, ℤ, IfSome, IfNone, IsTrue, unsigned_abs};
 ghost use Rattle.std.specs.Int.{IsGcd};
-ghost use Rattle.ps_answer.specs.Items.{IsRatioWithin, IsReducedWithin};
 ghost use Rattle.ps_answer.specs.declared.limits.TheConstants.{MOST_OPERAND};
-ghost use Rattle.ps_answer.specs.Words.{Fraction as FractionWord};
 ghost use Rattle.ps_log.specs.Numbers.{Lacks, IsCut};
 ghost use Rattle.ps_table.specs.Places.{printed_limit};
-ghost use Rattle.ps_line.specs.Read.{IsWordRead};
-ghost use Rattle.ps_line.specs.Ratios.{IsOver, IsUnder, IsLowest, IsLowestOf, AreParts};
+ghost use Rattle.ps_line.specs.Ratios.{IsRatioUpTo, IsShareUpTo, IsOver, IsUnder};
+ghost use Rattle.ps_line.specs.Ratios.{IsLowest, IsLowestOf, AreParts};
 ghost use Rattle.ps_rational.specs.Rational.{fraction};
 
 use crate::both::both;
@@ -19,9 +17,7 @@ use ps_table::PRINTED_LIMIT;
 
 /// The value of a side: no less than 0, with numbers up to 2^90.
 pub(crate) fn value(word: &[u8]) -> Result<Ratio, LineFault>
-    ensures { IsWordRead (λ q. FractionWord q)
-        (λ q. (pos 0 ≤ℤ q.over) × IsReducedWithin printed_limit q)
-        (λ q. IsRatioWithin printed_limit q) word.now result }
+    ensures { IsShareUpTo printed_limit word.now result }
 {
     match split_slash(word) {
         Some((over, under)) => lowest(amount_of(over), positive(PRINTED_LIMIT, under)),
@@ -31,8 +27,7 @@ pub(crate) fn value(word: &[u8]) -> Result<Ratio, LineFault>
 
 /// An operand of the solver, with numbers below 2^127.
 pub(crate) fn operand(word: &[u8]) -> Result<Ratio, LineFault>
-    ensures { IsWordRead (λ q. FractionWord q) (λ q. IsReducedWithin MOST_OPERAND q)
-        (λ q. IsRatioWithin MOST_OPERAND q) word.now result }
+    ensures { IsRatioUpTo MOST_OPERAND word.now result }
 {
     match split_slash(word) {
         Some((over, under)) => {

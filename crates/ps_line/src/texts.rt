@@ -1,10 +1,7 @@
 //! Lines of steps and goals.
-ghost use Rattle.std.specs.Prelude.{◌≡◌, ℕ, List as Bytes};
-ghost use Rattle.ps_log.specs.FirstLines.{IsFirstLine};
-ghost use Rattle.ps_log.specs.Spellings.{words_of};
+ghost use Rattle.std.specs.Prelude.{◌≡◌};
 ghost use Rattle.ps_answer.specs.declared.part.Part.TheVariants.{AStep, AGoal};
-ghost use Rattle.ps_line.specs.Read.{IsItemRead};
-ghost use Rattle.ps_line.specs.Texts.{fault_of};
+ghost use Rattle.ps_line.specs.Texts.{IsFirstItemRead, fault_of};
 
 use crate::line_fault::LineFault;
 use ps_answer::Item;
@@ -13,8 +10,7 @@ use std::alloc::Global;
 
 /// The step whose line stands at the front.
 pub(crate) fn step(alloc: Global, bytes: &[u8]) -> Result<Item, LineFault>
-    ensures { (line rest : Bytes ℕ) → IsFirstLine bytes.now line rest
-        → IsItemRead AStep (words_of line) result }
+    ensures { IsFirstItemRead AStep bytes.now result }
 {
     match read_step(alloc, bytes) {
         Ok((step, _)) => Ok(Item::StepLine { step }),
@@ -24,8 +20,7 @@ pub(crate) fn step(alloc: Global, bytes: &[u8]) -> Result<Item, LineFault>
 
 /// The goal whose line stands at the front.
 pub(crate) fn goal(alloc: Global, bytes: &[u8]) -> Result<Item, LineFault>
-    ensures { (line rest : Bytes ℕ) → IsFirstLine bytes.now line rest
-        → IsItemRead AGoal (words_of line) result }
+    ensures { IsFirstItemRead AGoal bytes.now result }
 {
     match read_goal(alloc, bytes) {
         Ok((goal, _)) => Ok(Item::GoalLine { goal }),

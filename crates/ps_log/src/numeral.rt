@@ -23,7 +23,8 @@ pub(crate) fn number(word: &[u8]) -> Option<i128>
     }
 }
 
-fn without_minus(word: &[u8]) -> Option<&[u8]>
+/// What stands behind a word's minus, where it begins with one.
+pub fn without_minus(word: &[u8]) -> Option<&[u8]>
     ensures found { IfSome result (λ rest. word.now ≡ 45 ∷ rest.now) }
     ensures none { IfNone result ((rest : Bytes ℕ) → word.now ≡ 45 ∷ rest → ⊥) }
 {
@@ -62,7 +63,8 @@ fn size(word: &[u8]) -> Option<u128>
     }
 }
 
-fn is_plain(word: &[u8]) -> bool
+/// Whether a word is digits without a leading zero.
+pub fn is_plain(word: &[u8]) -> bool
     ensures { IsTrue result ↔ IsPlain word.now }
 {
     if word.is_empty() {
