@@ -14,50 +14,55 @@ use Rattle.ps_answer.specs.declared.answer.Dual.{Dual}
 use Rattle.ps_certificate.specs.Certificates.{IsMultiplier}
 use Rattle.ps_multiples.specs.declared.scaled.Scaled.{Scaled}
 use Rattle.ps_multiples.specs.Multiples.{whole_multiplier, AreScaled}
-use Rattle.ps_ends.specs.Duals.{signed_rows, IsTableDual}
+use Rattle.ps_ends.specs.Duals.{AreSigned, IsTableDual, bound_numbers}
 
 -- one more bound
-signed_one : (bs : List Bound) (b : Bound) (P : ℕ → ℤ) → signed_rows (bs ++ b ∷ []) P ≡ signed_rows bs P ++ turned b.side (P (length bs)) ∷ []
-signed_one [] b P = refl
-signed_one (c ∷ bs) b P = ap (λ ys. turned c.side (P 0) ∷ ys) (signed_one bs b (λ i. P (suc i)))
+signed_one : (ns : List Node) (bs : List Bound) (b : Bound) (P : ℕ → ℤ)
+    → signed (map (bound_of ns) (bs ++ b ∷ [])) P ≡ signed (map (bound_of ns) bs) P ++ turned b.side (P (length bs)) ∷ []
+signed_one ns [] b P = refl
+signed_one ns (c ∷ bs) b P = ap (λ ys. turned c.side (P 0) ∷ ys) (signed_one ns bs b (λ i. P (suc i)))
 
 length_before : (bs : List Bound) (i : ℕ) → i < length bs → length (take i bs) ≡ i
 length_before bs zero h = refl
 length_before [] (suc i) h = absurd (omega (arith, h))
 length_before (b ∷ bs) (suc i) h = ap suc (length_before bs i (omega (arith, h)))
 
-pub next_row : (bs : List Bound) (P : ℕ → ℤ) (i : ℕ) (rows more : List ℤ) (d : Bound) (y z : ℤ) → i < length bs → rows ≡ signed_rows (take i bs) P
-    → y ≡ P i → z ≡ turned (get_or bs i d).side y → more ≡ rows ++ z ∷ [] → more ≡ signed_rows (take (i + 1) bs) P
-next_row bs P i rows more d y z h so_far ey ez grown =
+pub next_row : (bs : List Bound) (P : ℕ → ℤ) (i : ℕ) (rows more : List ℤ) (d : Bound) (y z : ℤ) → i < length bs → AreSigned (take i bs) P rows
+    → y ≡ P i → z ≡ turned (get_or bs i d).side y → more ≡ rows ++ z ∷ [] → AreSigned (take (i + 1) bs) P more
+next_row bs P i rows more d y z h so_far ey ez grown = λ ns.
     let b = get_or bs i d in
     let next : i + 1 ≡ suc i = omega arith in
     let split : take (i + 1) bs ≡ take i bs ++ b ∷ [] = ap (λ k. take k bs) next ∙ take-suc bs i d h in
     let place : length (take i bs) ≡ i = length_before bs i h in
     let here : z ≡ turned b.side (P (length (take i bs))) = ez ∙ ap (turned b.side) ey ∙ ap (λ k. turned b.side (P k)) (sym place) in
-    grown ∙ (λ k. so_far k ++ here k ∷ []) ∙ sym (signed_one (take i bs) b P) ∙ ap (λ cs. signed_rows cs P) (sym split)
+    grown ∙ (λ k. so_far ns k ++ here k ∷ []) ∙ sym (signed_one ns (take i bs) b P) ∙ ap (λ cs. signed (map (bound_of ns) cs) P) (sym split)
 
 pub next_small : (rows more : List ℤ) (z : ℤ) → All IsMultiplier rows → IsMultiplier z → more ≡ rows ++ z ∷ [] → All IsMultiplier more
 next_small rows more z h hz grown = subst (All IsMultiplier) (sym grown) (All-append IsMultiplier rows (z ∷ []) h (All-cons IsMultiplier z [] hz (All-nil IsMultiplier)))
 
 -- the numbers of a table's rows
-pub signed_same : (ns : List Node) (bs : List Bound) (P Q : ℕ → ℤ) → ((i : ℕ) → i < length bs → P i ≡ Q i) → signed_rows bs P ≡ signed (map (bound_of ns) bs) Q
+pub signed_same : (ns : List Node) (bs : List Bound) (P Q : ℕ → ℤ) → ((i : ℕ) → i < length bs → P i ≡ Q i)
+    → signed (map (bound_of ns) bs) P ≡ signed (map (bound_of ns) bs) Q
 signed_same ns [] P Q h = refl
 signed_same ns (b ∷ bs) P Q h =
     let here : P 0 ≡ Q 0 = h 0 (omega arith) in
-    let rest : signed_rows bs (λ i. P (suc i)) ≡ signed (map (bound_of ns) bs) (λ i. Q (suc i)) = signed_same ns bs (λ i. P (suc i)) (λ i. Q (suc i)) (λ i l. h (suc i) (omega (arith, l))) in
+    let rest = signed_same ns bs (λ i. P (suc i)) (λ i. Q (suc i)) (λ i l. h (suc i) (omega (arith, l))) in
     λ k. turned b.side (here k) ∷ rest k
 
-pub count_rows : (bs : List Bound) (P : ℕ → ℤ) → length (signed_rows bs P) ≡ length bs
-count_rows [] P = refl
-count_rows (b ∷ bs) P = ap suc (count_rows bs (λ i. P (suc i)))
+count_signed : (bs : List Bound) (P : ℕ → ℤ) → length (signed (map (bound_of []) bs) P) ≡ length bs
+count_signed [] P = refl
+count_signed (b ∷ bs) P = ap suc (count_signed bs (λ i. P (suc i)))
+
+pub count_rows : (bs : List Bound) (P : ℕ → ℤ) (rows : List ℤ) → AreSigned bs P rows → length rows ≡ length bs
+count_rows bs P rows h = ap length (h []) ∙ count_signed bs P
 
 -- ---- the dual of a table
 pub is_dual : (kind : ClaimKind) (bs : List Bound) (t : Tableau) (costs : Costs) (s : Scaled) (d : Dual)
     → AreScaled t costs s → rows_of t ≡ suc (length bs) → d.top ≡ top_of kind s.multiple → d.head ≡ head_of kind (get_or s.numbers 0 (pos 0))
-    → d.rows ≡ signed_rows bs (λ i. get_or s.numbers (suc i) (pos 0)) → IsTableDual kind bs t costs d
+    → AreSigned bs (bound_numbers s.numbers) d.rows → IsTableDual kind bs t costs d
 is_dual kind bs t costs s d scaled count top head rows = λ ns q. record {
   top = top ∙ ap (top_of kind) scaled.multiple;
   head = head ∙ ap (head_of kind) (scaled.numbers 0 (omega (arith, count)));
-  rows = rows ∙ signed_same ns bs (λ i. get_or s.numbers (suc i) (pos 0)) (λ i. whole_multiplier t costs (suc i))
+  rows = rows ns ∙ signed_same ns bs (bound_numbers s.numbers) (λ i. whole_multiplier t costs (suc i))
       (λ i l. scaled.numbers (suc i) (omega (arith, count, l)));
 }

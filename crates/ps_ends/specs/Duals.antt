@@ -1,5 +1,5 @@
 -- The duals of the solver's tables.
-use Rattle.std.specs.Prelude.{ℕ, suc, ℤ, List, [], ◌∷◌, map}
+use Rattle.std.specs.Prelude.{◌≡◌, ℕ, suc, ℤ, pos, List, get_or, map}
 use Rattle.ps_formula.specs.declared.node.Node.{Node}
 use Rattle.ps_problem.specs.declared.bound.Bound.{Bound}
 use Rattle.ps_problem.specs.Problems.{bound_of}
@@ -11,13 +11,15 @@ use Rattle.ps_bland.specs.Rules.{simplex_of}
 use Rattle.ps_claims.specs.declared.claim_kind.ClaimKind.{ClaimKind}
 use Rattle.ps_answer.specs.declared.answer.Dual.{Dual}
 use Rattle.ps_certificate.specs.Certificates.{dual_of}
-use Rattle.ps_problem.specs.Rows.{turned}
-use Rattle.ps_runs.specs.Certificates.{table_dual, HaveSameNumbers}
+use Rattle.ps_runs.specs.Certificates.{signed, table_dual, HaveSameNumbers}
 
--- the whole numbers of the rows of bounds, turned round at lower bounds
-abbrev pub signed_rows : List Bound → (ℕ → ℤ) → List ℤ
-signed_rows [] P = []
-signed_rows (b ∷ bs) P = turned b.side (P 0) ∷ signed_rows bs (λ i. P (suc i))
+-- the whole numbers of the rows of bounds, which stand behind that of row 0
+abbrev pub bound_numbers : List ℤ → ℕ → ℤ
+bound_numbers numbers i = get_or numbers (suc i) (pos 0)
+
+-- these are the whole numbers of the rows of bounds, turned round at lower bounds, whatever the nodes
+abbrev pub AreSigned : List Bound → (ℕ → ℤ) → List ℤ → Type 0
+AreSigned bounds P rows = (ns : List Node) → rows ≡ signed (map (bound_of ns) bounds) P
 
 -- the dual has the numbers of the dual of a table over these bounds, whatever the nodes and the query
 abbrev pub IsTableDual : ClaimKind → List Bound → Tableau → Costs → Dual → Type 0

@@ -2,8 +2,9 @@
 ghost use Rattle.std.specs.Prelude.{◌≡◌, ◌↔◌, ◌<◌, ◌≤◌, ◌++◌, map};
 ghost use Rattle.std.specs.Prelude.{IfOk, IfErr, OnOk, IsTrue, unsigned_abs};
 ghost use Rattle.std.specs.Int.{◌∣◌};
+ghost use Rattle.ps_table.specs.declared.limits.TheConstants.{PRINTED_LIMIT};
 ghost use Rattle.ps_table.specs.Tableau.{rows_of};
-ghost use Rattle.ps_table.specs.Places.{IsNarrow, IsRefusedAt, printed_limit};
+ghost use Rattle.ps_table.specs.Places.{IsNarrow, IsRefusedAt};
 ghost use Rattle.ps_bland.specs.Rules.{simplex_of};
 ghost use Rattle.ps_bland.specs.Ready.{HasValues};
 ghost use Rattle.ps_multiples.specs.Multiples.{AreWeights, ModelPlaces, weight_multiple_of};
@@ -53,7 +54,7 @@ fn weight_of(table: &Table, weights: &Weights, number: u32) -> i128
     requires weights { AreWeights table.now weights.now }
     ensures value { result ≡ column_weight table.now number }
     ensures divides { (column_value table.now number).under ∣ weight_multiple_of table.now }
-    ensures small { unsigned_abs result ≤ printed_limit }
+    ensures small { unsigned_abs result ≤ PRINTED_LIMIT }
 {
     // Called for its clauses: the table is in the form in which tables are kept.
     let _rows = table.rows();

@@ -1,14 +1,14 @@
 //! The dual of a table.
-ghost use Rattle.std.specs.Prelude.{◌≡◌, ℕ, suc, ◌<◌, ◌≤◌, pos, unsigned_abs, All};
-ghost use Rattle.std.specs.Prelude.{IfOk, IfErr, [], length, get_or};
+ghost use Rattle.std.specs.Prelude.{◌≡◌, suc, ◌≤◌, All, IfOk, IfErr, [], length};
+ghost use Rattle.ps_table.specs.declared.limits.TheConstants.{PRINTED_LIMIT};
 ghost use Rattle.ps_table.specs.Tableau.{rows_of};
 ghost use Rattle.ps_table.specs.Pricing.{HasCosts};
-ghost use Rattle.ps_table.specs.Places.{IsNarrow, IsRefusedAt, printed_limit};
+ghost use Rattle.ps_table.specs.Places.{IsNarrow, IsRefusedAt};
 ghost use Rattle.ps_multiples.specs.Multiples.{DualPlaces};
 ghost use Rattle.ps_problem.specs.Rows.{turned};
 ghost use Rattle.ps_runs.specs.Certificates.{top_of, head_of};
 ghost use Rattle.ps_certificate.specs.Certificates.{IsMultiplier, IsSmallDual};
-ghost use Rattle.ps_ends.specs.Duals.{IsTableDual, signed_rows};
+ghost use Rattle.ps_ends.specs.Duals.{AreSigned, IsTableDual, bound_numbers};
 
 use ps_answer::Dual;
 use ps_claims::ClaimKind;
@@ -20,7 +20,7 @@ use std::alloc::Global;
 
 /// The top of a dual, by the multiple of the multipliers.
 fn top_of(kind: ClaimKind, multiple: u128) -> i128
-    requires { multiple ≤ printed_limit }
+    requires { multiple ≤ PRINTED_LIMIT }
     ensures value { result ≡ top_of kind multiple }
     ensures small { IsMultiplier result }
 {
@@ -32,7 +32,7 @@ fn top_of(kind: ClaimKind, multiple: u128) -> i128
 
 /// The head of a dual, by the whole multiplier of row 0.
 fn head_of(kind: ClaimKind, number: i128) -> i128
-    requires { unsigned_abs number ≤ printed_limit }
+    requires { IsMultiplier number }
     ensures value { result ≡ head_of kind number }
     ensures small { IsMultiplier result }
 {
@@ -44,7 +44,7 @@ fn head_of(kind: ClaimKind, number: i128) -> i128
 
 /// A bound's multiplier: that of its row, turned round for a lower bound.
 fn multiplier_of(side: Side, number: i128) -> i128
-    requires { unsigned_abs number ≤ printed_limit }
+    requires { IsMultiplier number }
     ensures value { result ≡ turned side number }
     ensures small { IsMultiplier result }
 {
@@ -57,10 +57,8 @@ fn multiplier_of(side: Side, number: i128) -> i128
 /// A multiplier for each bound, by the whole multipliers of all rows.
 fn bound_rows(alloc: Global, bounds: &[Bound], numbers: &[i128]) -> Result<List<i128>, NoMemory>
     requires count { length numbers.now ≡ suc (length bounds.now) }
-    requires small { (i : ℕ) → i < length numbers.now
-        → unsigned_abs (get_or numbers.now i (pos 0)) ≤ printed_limit }
-    ensures rows { IfOk result
-        (λ rows. rows ≡ signed_rows bounds.now (λ i. get_or numbers.now (suc i) (pos 0))) }
+    requires small { All IsMultiplier numbers.now }
+    ensures rows { IfOk result (AreSigned bounds.now (bound_numbers numbers.now)) }
     ensures small { IfOk result (All IsMultiplier) }
 {
     let mut rows = List::new(alloc);
