@@ -6,13 +6,13 @@ use Rattle.ps_meaning.specs.Formula.{World}
 use Rattle.ps_formula.specs.declared.node.Node.{Node}
 use Rattle.ps_formula.specs.Nodes.{AreNodes, AtomBelow}
 use Rattle.ps_formula.proofs.Trees.{length-truths}
-use Rattle.ps_steps.specs.Assignments.{Assignment, full}
+use Rattle.ps_steps.specs.Assignments.{Assignment}
 use Rattle.ps_steps.specs.Constraints.{Constraint}
 use Rattle.ps_steps.specs.Weights.{true_weight, constraint_of}
 use Rattle.ps_steps.specs.Steps.{Step, Refutes, is_contradiction, ends_in_contradiction}
 use Rattle.ps_forms.specs.Clauses.{clause_form}
 use Rattle.ps_forms.specs.Forms.{Form, form_of, first_known, MeetsForm}
-use Rattle.ps_forms.specs.Extensions.{extension, world_of, IsWorldOf}
+use Rattle.ps_forms.specs.Extensions.{extension, world_of}
 use Rattle.ps_forms.proofs.Idle.{form-clauses, clauses-form}
 use Rattle.ps_forms.proofs.Extends.{met-extension, extension-met}
 use Rattle.ps_forms.proofs.Worlds.{world_of-agrees, extension-agrees}
@@ -26,7 +26,7 @@ use Rattle.ps_answer.specs.declared.answer.Dual.{Dual}
 use Rattle.ps_claims.specs.declared.claim_kind.ClaimKind.{ClaimKind}
 use Rattle.ps_runs.specs.Searches.{IsSpentSearch}
 use Rattle.ps_pricing.specs.Sought.{HasSteps, HasFewSteps}
-use Rattle.ps_pricing.specs.Pricings.{PricingSubject, gain, goal_at_least, IsGreatest, IsCutAbove, IsFound, IsSpent, IsRefuted, IsWcnf}
+use Rattle.ps_pricing.specs.Pricings.{IsAssigned, PricingSubject, gain, goal_at_least, IsGreatest, IsCutAbove, IsFound, IsSpent, IsRefuted, IsWcnf}
 
 -- ---- steps of a log
 ends_so : (front : List Step) (s : Step) → is_contradiction s ≡ true → ends_in_contradiction (front ++ s ∷ []) ≡ true
@@ -83,7 +83,7 @@ module _ (kind : ClaimKind) (q : PricingSubject) (d : Dual) (p : Wcnf) (is : IsW
   value_is u = λ k. is.base k +ℤ true_weight (extension q.subject.parts.nodes u) (is.soft k)
 
   found_value : (a : Assignment) (v : ℤ) (u : World) → All (AtomBelow (length q.subject.parts.names)) q.subject.parts.nodes → IsOf p a v
-      → ((w : List Bool) → a ≡ full w → IsWorldOf (length q.subject.parts.names) q.subject.parts.nodes w u) → v ≡ gain kind q.subject d u
+      → IsAssigned q.subject a u → v ≡ gain kind q.subject d u
   found_value a v u below of of_world =
       let ns = q.subject.parts.nodes in
       let w = of.0 in
@@ -117,14 +117,14 @@ module _ (kind : ClaimKind) (q : PricingSubject) (d : Dual) (p : Wcnf) (is : IsW
 
   -- a best world is one of greatest combination, and where a search for a greater one was spent there is that search
   pub best_found : (a : Assignment) (v : ℤ) (u : World) → All (AtomBelow (length q.subject.parts.names)) q.subject.parts.nodes → IsOf p a v
-      → ((w : List Bool) → a ≡ full w → IsWorldOf (length q.subject.parts.names) q.subject.parts.nodes w u) → length u ≡ length q.subject.parts.names
+      → IsAssigned q.subject a u → length u ≡ length q.subject.parts.names
       → pos 1 ≤ℤ v → NoneIsAbove p v → IsFound kind q d u
   best_found a v u below of of_world long above none =
       let same = found_value a v u below of of_world in
       record { sized = long; above = subst (λ (z : ℤ). pos 1 ≤ℤ z) same above; greatest = inl (subst (IsGreatest kind q.subject d) same (greatest_value v none)) }
 
   pub cut_found : (a : Assignment) (v least : ℤ) (u : World) (steps : List Step) → All (AtomBelow (length q.subject.parts.names)) q.subject.parts.nodes → IsOf p a v
-      → ((w : List Bool) → a ≡ full w → IsWorldOf (length q.subject.parts.names) q.subject.parts.nodes w u) → length u ≡ length q.subject.parts.names
+      → IsAssigned q.subject a u → length u ≡ length q.subject.parts.names
       → pos 1 ≤ℤ v → v <ℤ least → IsSpentSearch p.hard (goal_of p least) q.conflicts steps → IsFound kind q d u
   cut_found a v least u steps below of of_world long above more spent =
       let same = found_value a v u below of of_world in

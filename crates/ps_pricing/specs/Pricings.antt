@@ -1,11 +1,13 @@
 -- What the pricing of a dual gives: a world in which its combination is at least 1, or a refutation.
-use Rattle.std.specs.Prelude.{◌≡◌, ◌⊎◌, ℕ, ℤ, pos, ◌-ℤ◌, ◌<ℤ◌, ◌≤ℤ◌, List, length}
+use Rattle.std.specs.Prelude.{◌≡◌, ◌⊎◌, ℕ, ℤ, pos, ◌-ℤ◌, ◌<ℤ◌, ◌≤ℤ◌, Bool, List, Option, length}
 use Rattle.ps_meaning.specs.Formula.{World}
+use Rattle.ps_steps.specs.Assignments.{Assignment, full}
 use Rattle.ps_steps.specs.Constraints.{Constraint}
 use Rattle.ps_steps.specs.Weights.{constraint_of}
 use Rattle.ps_steps.specs.Steps.{Step, Refutes}
 use Rattle.ps_forms.specs.Forms.{form_of, first_known}
-use Rattle.ps_forms.specs.Extensions.{extension}
+use Rattle.ps_forms.specs.Extensions.{extension, IsWorldOf}
+use Rattle.ps_problem.specs.declared.query.Query.{Query}
 use Rattle.ps_problem.specs.Problems.{Parts, bounds_in}
 use Rattle.ps_answer.specs.declared.answer.Dual.{Dual}
 use Rattle.ps_claims.specs.declared.claim_kind.ClaimKind.{ClaimKind}
@@ -14,6 +16,7 @@ use Rattle.ps_claims.specs.Goals.{value_under}
 use Rattle.ps_certificate.specs.Certificates.{dual_of, IsSmallDual}
 use Rattle.ps_printed.specs.Printed.{IsPrintedDual, IsPrintedSearch}
 use Rattle.ps_maxsat.specs.declared.problem.Wcnf.{Wcnf}
+use Rattle.ps_runs.specs.Kept.{kept_parts}
 use Rattle.ps_runs.specs.Searches.{IsSpentSearch}
 use Rattle.ps_runs.specs.Runs.{Subject, atoms_of, combination_over}
 use Rattle.ps_pricing.specs.declared.pricing.Pricing.{Pricing}
@@ -23,6 +26,14 @@ use Rattle.ps_pricing.specs.declared.pricing.Pricing.TheVariants.{Found, Refuted
 pub record PricingSubject : Type 0 where
   pub subject : Subject
   pub conflicts : ℕ
+
+-- duals of the kept sentences of a problem, by a truth value for each, and of a query, or none
+abbrev pub priced_over : Parts → List Bool → Option Query → ℕ → PricingSubject
+priced_over p kept query conflicts = record { subject = record { parts = kept_parts kept p; query = query }; conflicts = conflicts }
+
+-- the world that an assignment gives, where it is full
+abbrev pub IsAssigned : Subject → Assignment → World → Type 0
+IsAssigned s a world = (values : List Bool) → a ≡ full values → IsWorldOf (atoms_of s) s.parts.nodes values world
 
 -- the dual has a multiplier for each bound, and its numbers are small enough to be printed
 pub record IsDualFor (p : Parts) (d : Dual) : Type 0 where

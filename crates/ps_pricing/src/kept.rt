@@ -7,6 +7,7 @@ use ps_io::{List, NoMemory};
 use ps_problem::{Bound, Sentence, Sentences};
 use std::alloc::Global;
 
+// Adds a sentence, where it is kept.
 fn push_kept(found: &mut Sentences, kept: bool, sentence: Sentence) -> Result<(), NoMemory>
     ensures { OnOk result (found.new ≡ found.old ++ kept_of (kept ∷ []) (sentence ∷ [])) }
 {
@@ -32,6 +33,7 @@ pub(crate) fn kept_sentences(
     Ok(found)
 }
 
+// Adds the bounds of a sentence.
 fn push_bounds(bounds: &mut List<Bound>, sentence: Sentence) -> Result<(), NoMemory>
     ensures { OnOk result (bounds.new ≡ bounds.old ++ bounds_in (sentence ∷ [])) }
 {

@@ -1,13 +1,12 @@
 //! The pricing of a problem's duals.
-ghost use Rattle.std.specs.Prelude.{◌≡◌, ◌≤◌, List, Bool, length, IfOk};
+ghost use Rattle.std.specs.Prelude.{◌≡◌, ◌≤◌, length, IfOk};
 ghost use Rattle.ps_problem.specs.Problems.{AreParts, bounds_in};
-ghost use Rattle.ps_steps.specs.Assignments.{full};
-ghost use Rattle.ps_forms.specs.Extensions.{IsWorldOf};
 ghost use Rattle.ps_sat.specs.Limits.{most_conflicts};
 ghost use Rattle.ps_maxsat.specs.Limits.{IsNarrow, IsSoftWithin};
-ghost use Rattle.ps_runs.specs.Kept.{IsChoice, kept_parts};
+ghost use Rattle.ps_runs.specs.Kept.{IsChoice};
 ghost use Rattle.ps_runs.specs.Runs.{IsAsked, atoms_of, given_in, both_in};
-ghost use Rattle.ps_pricing.specs.Pricings.{IsDualFor, IsPricing, IsPrintedPricing, IsWcnf};
+ghost use Rattle.ps_pricing.specs.Pricings.{IsAssigned, IsDualFor, IsPricing};
+ghost use Rattle.ps_pricing.specs.Pricings.{IsPrintedPricing, IsWcnf, priced_over};
 
 use crate::kept::{bounds_of, kept_sentences};
 use crate::pricing::Pricing;
@@ -68,10 +67,7 @@ impl<'p> Pricer<'p> {
     ) -> Result<Pricer<'p>, NoMemory>
         requires kept { IsChoice kept.now problem.now }
         requires conflicts { conflicts ≤ most_conflicts }
-        ensures value { IfOk result (λ p. p ≡ record {
-          subject = record { parts = kept_parts kept.now problem.now; query = query };
-          conflicts = conflicts;
-        }) }
+        ensures value { IfOk result (λ p. p ≡ priced_over problem.now kept.now query conflicts) }
     {
         // Called for its clauses: the problem is within the limits, and its numbers are in range.
         let _sound = problem.bound_list();
@@ -135,8 +131,7 @@ impl<'p> Pricer<'p> {
     /// The world of an assignment.
     fn world(&self, alloc: Global, assignment: &Assignment) -> Result<World, NoMemory>
         ensures length { IfOk result (λ w. length w ≡ atoms_of self.now.subject) }
-        ensures of { (w : List Bool) → assignment.now ≡ full w → IfOk result
-            (IsWorldOf (atoms_of self.now.subject) self.now.subject.parts.nodes w) }
+        ensures of { IfOk result (IsAssigned self.now.subject assignment.now) }
     {
         world_of(
             alloc,
