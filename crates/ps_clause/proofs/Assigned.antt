@@ -4,7 +4,8 @@ use Rattle.ps_meaning.specs.Formula.{World}
 use Rattle.ps_formula.specs.declared.node.Node.{Node}
 use Rattle.ps_formula.specs.Nodes.{truths}
 use Rattle.ps_formula.proofs.Trees.{length-truths}
-use Rattle.ps_steps.specs.Assignments.{Assignment, place, is_positive, literal_at, with_true, all_unset}
+use Rattle.ps_steps.specs.Assignments.{Assignment, literal_at, with_true, all_unset}
+use Rattle.ps_steps.proofs.Clauses.{place_of, sign_of}
 
 -- the variables at the first places set, and the others unset
 abbrev pub set_below : ℕ → List Bool → Assignment
@@ -28,19 +29,11 @@ set_next p [] d lt = absurd (omega arith)
 set_next zero (t ∷ ts) d lt = refl
 set_next (suc p) (t ∷ ts) d lt = ap (λ r. Some t ∷ r) (set_next p ts d (omega arith))
 
-place_is : (p : ℕ) (b : Bool) → place (literal_at p b) ≡ p
-place_is p true = omega arith
-place_is p false = omega arith
-
-sign_is : (p : ℕ) (b : Bool) → is_positive (literal_at p b) ≡ b
-sign_is p true = refl
-sign_is p false = refl
-
 pub one_set : (p : ℕ) (ts : List Bool) (d : Bool) → p < length ts → with_true (set_below p ts) (literal_at p (get_or ts p d)) ≡ set_below (p + 1) ts
 unfolding with_true
 one_set p ts d lt =
     let e : p + 1 ≡ suc p = omega arith in
-    rw (place_is p (get_or ts p d), sign_is p (get_or ts p d), e) (set_next p ts d lt)
+    rw (place_of p (get_or ts p d), sign_of p (get_or ts p d), e) (set_next p ts d lt)
 
 pub extension_length : (ns : List Node) (world : World) → length (truths ns world) ≡ length ns
 extension_length ns world = length-truths ns world

@@ -4,16 +4,9 @@ use Rattle.std.specs.List.{list_any, list_all}
 use Rattle.std.specs.Ordering.{int_eq}
 use Rattle.std.proofs.lemmas.Bool.Decides.{Decides-int_eq}
 use Rattle.std.proofs.lemmas.Map.Views.{any-filter_same}
-use Rattle.ps_steps.specs.Assignments.{agree, holds}
+use Rattle.ps_steps.specs.Assignments.{holds}
+use Rattle.ps_steps.proofs.Linear.{agree-true, agree-false}
 use Rattle.ps_forms.specs.Clauses.{Clause, meets, positive, negative, once, is_tautology, tidy}
-
-agree-true : (x : Bool) → agree true x ≡ x
-agree-true true = refl
-agree-true false = refl
-
-agree-false : (x : Bool) → agree false x ≡ not x
-agree-false true = refl
-agree-false false = refl
 
 pub holds-positive : (w : List Bool) (i : ℕ) → holds w (positive i) ≡ get_or w i false
 unfolding holds

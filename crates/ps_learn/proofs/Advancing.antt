@@ -16,9 +16,6 @@ use Rattle.ps_trail.proofs.Pushing.{decisions-append}
 pub fresh-now : (t : Trail) (a : Assignment) (l : ℤ) → a ≡ values t → length a ≡ t.variables → IsFresh (length a) a l → IsFresh t.variables (values t) l
 fresh-now t a l e n f = subst (λ m. IsFresh m (values t) l) n (subst (λ b. IsFresh (length a) b l) e f)
 
-pub within-now : (t : Trail) (a : Assignment) (cs : List Constraint) → length a ≡ t.variables → All (IsWithin t.variables) cs → All (IsWithin (length a)) cs
-within-now t a cs n h = rw n h
-
 pub implied-reasons : (known : Known) (t u : Trail) (a : Assignment) (l : ℤ) (id : ℕ) → u ≡ implied l id t → a ≡ values t → IsReason known a l (Some id) → AreReasons t.variables known t.entries → AreReasons u.variables known u.entries
 implied-reasons known t u a l id e q h r = rw e (reasons-append t.variables known t.entries (record { lit = l; reason = Some id; level = decisions t.entries }) r (subst (λ b. IsReason known b l (Some id)) q h))
 

@@ -64,9 +64,3 @@ before-here t es top marks j i e b r q p le w at own m h = record {
 pub to_explain : (t : Trail) (marks : Marks) (i : ℕ) (e : TrailEntry) (b : Bool) → IsMarkedBefore t marks i b → e.level ≢ 0 → e.level ≡ level t → IsToExplain (level t) t.entries marks i e b
 to_explain t marks i e true m z q = inr (q, m)
 to_explain t marks i e false m z q = (omega (arith, z), λ _. m)
-
-pub to_explain-zero : (t : Trail) (marks : Marks) (i : ℕ) (e : TrailEntry) → e.level ≡ 0 → IsToExplain (level t) t.entries marks i e true
-to_explain-zero t marks i e z = inl z
-
-pub to_explain-lower : (t : Trail) (marks : Marks) (i : ℕ) (e : TrailEntry) → e.level ≢ 0 → e.level ≢ level t → IsToExplain (level t) t.entries marks i e false
-to_explain-lower t marks i e z ne = (omega (arith, z), λ q. absurd (ne q))

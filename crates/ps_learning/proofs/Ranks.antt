@@ -25,16 +25,3 @@ rank-rises (suc n) [] d y rest more id h p q =
     let b : rank (suc n) (y ∷ more) ≡ 2 ^ n + rank n more = rw q (omega arith) in
     omega (arith, a, b, rank-bound n rest)
 rank-rises (suc n) (x ∷ front) d y rest more id h p q = omega (arith, rank-rises n front d y rest more id (omega (arith, h)) p q)
-
--- the first entry above a level is decided
-pub above-decided : (es : List TrailEntry) (i n : ℕ) (e : TrailEntry) → AreLevels es → slice_get es i ≡ Some e → decisions (take i es) ≤ n → n < e.level → is_none e.reason ≡ true
-above-decided es i n e f at le lt = by_reason (is_none e.reason) refl
-  where
-    one_more : (es : List TrailEntry) (i : ℕ) (e : TrailEntry) → slice_get es i ≡ Some e → decisions (take (suc i) es) ≡ decisions (take i es) + cond (is_none e.reason) 1 0
-    one_more [] i e h = absurd (cc)
-    one_more (x ∷ es) zero e h = let q : x ≡ e = cc h in rw q (omega arith)
-    one_more (x ∷ es) (suc i) e h = omega (arith, one_more es i e h)
-
-    by_reason : (b : Bool) → is_none e.reason ≡ b → is_none e.reason ≡ true
-    by_reason true q = q
-    by_reason false q = (let z : decisions (take (suc i) es) ≡ decisions (take i es) = one_more es i e at ∙ rw q (omega arith) in absurd (omega (arith, z, f.at i e at, le, lt)))

@@ -90,12 +90,6 @@ by-digit a b i e h l ne = record { at = λ m n p q. by m n p q (nat_lt (get_or a
         let less = differs 0 b a i (sym e) (omega (arith, h, l)) (sym l) q.plain.digits.1 p.plain.digits.1 (omega (arith, more, ne)) in
         f ∙ sym (not_less m n (omega (arith, less, p.value, q.value)))
 
--- equal numerals
-pub by-equality : (a b : List ℕ) (i : ℕ) → take i a ≡ take i b → length a ≤ i → length a ≡ length b → TellsLess a b false
-by-equality a b i e h l =
-    let same : a ≡ b = sym (take_all i a h) ∙ e ∙ take_all i b (omega (arith, h, l)) in
-    record { at = λ m n p q. (let v : m ≡ n = sym p.value ∙ ap (digits_value 10) same ∙ q.value in sym (not_less m n (omega (arith, v)))) }
-
 -- the size of a number that a word spells
 pub size-spelled : (word : List ℕ) (z : ℤ) → Spells word z → IsDecimal (size_word word) (unsigned_abs z)
 size-spelled [] (pos n) s = s

@@ -173,6 +173,3 @@ plain-made word n z h = record { digits = (n, all_digits word h); no_leading_zer
 
 pub plain-all : (word : List ℕ) → IsPlain word → All (λ b. digit_value b < 10) word
 plain-all word p = digits_all word p.digits.1
-
-pub plain-alone : (word : List ℕ) → IsPlain word → (slice_index word 0 ≡ 48) × (1 < length word) → ⊥
-plain-alone word p h = omega (arith, p.no_leading_zero h.0, h.1)

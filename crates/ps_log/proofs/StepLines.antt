@@ -22,18 +22,12 @@ other_byte sep b h = grind (arith, h)
 pub fail_all : (sep : ℕ) (bs : List ℕ) → All (λ b. b ≢ sep) bs → All (λ b. (b == sep) ≡ false) bs
 fail_all sep bs h k d lt = other_byte sep (get_or bs k d) (h k d lt)
 
-space_is_space : (32 == 32) ≡ true
-space_is_space = refl
-
 -- the words of a text whose first word ends at a space
 pub words-cut : (text word after : List ℕ) → text ≡ word ++ 32 ∷ after → All (λ b. b ≢ 32) word → words_of text ≡ word ∷ words_of after
 words-cut text word after e h = rw e (slice_split_at (λ b. b == 32) word 32 after (fail_all 32 word h) refl)
 
 pub words-one : (text : List ℕ) → All (λ b. b ≢ 32) text → words_of text ≡ text ∷ []
 words-one text h = slice_split_none (λ b. b == 32) text (fail_all 32 text h)
-
-pub read-none : (text : List ℕ) → ReadSoFar text (Some text) []
-read-none text = record { done = []; words = refl; numbers_are = record { exact = []; spelled = tt; cut = refl } }
 
 map-push : (zs : List ℤ) (z : ℤ) → map capped (zs ++ z ∷ []) ≡ map capped zs ++ capped z ∷ []
 map-push [] z = refl
@@ -59,12 +53,6 @@ read-fails text bytes word after numbers r w none exact s =
     let cut : words_of text ≡ r.done ++ word ∷ words_after after = r.words ∙ ap (λ x. r.done ++ x) w in
     let found = spelled-middle r.done word (words_after after) exact (subst (λ ws. SpellAll ws exact) cut s) in
     none found.0 found.1
-
--- all words are read
-pub read-all : (text : List ℕ) (numbers : List ℤ) → ReadSoFar text None numbers → AreNumbersOf (words_of text) numbers
-read-all text numbers r =
-    let e : words_of text ≡ r.done = r.words ∙ append-nil r.done in
-    subst (λ ws. AreNumbersOf ws numbers) (sym e) r.numbers_are
 
 capped-fits : (z : ℤ) → SFits w128 (capped z)
 capped-fits (pos n) = omega arith

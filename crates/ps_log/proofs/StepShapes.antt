@@ -53,29 +53,11 @@ zero-absent (x ∷ xs) [] bs p e =
     omega (arith, f)
 zero-absent (x ∷ xs) (a ∷ us) bs p e = zero-absent xs us bs (rest_in Nonzero x xs p) (tail x a xs (us ++ pos 0 ∷ bs) e)
 
--- where the parts of a step are not found, there are none
-pub no-count : (numbers : List ℤ) → ((id : ℤ) (rest : List ℤ) → numbers ≡ id ∷ rest → Counts id → ⊥) → HasParts numbers → ⊥
-no-count numbers none p = none p.id (p.lits ++ (pos 0 ∷ (p.hints ++ pos 0 ∷ []))) p.parts.is p.parts.id_counts
-
-pub no-zero : (numbers : List ℤ) (id : ℤ) (rest : List ℤ) → numbers ≡ id ∷ rest → All Nonzero rest → HasParts numbers → ⊥
-no-zero numbers id rest e h p =
-    zero-absent rest p.lits (p.hints ++ pos 0 ∷ []) h (tail id p.id rest (p.lits ++ (pos 0 ∷ (p.hints ++ pos 0 ∷ []))) (sym e ∙ p.parts.is))
-
 pub no-end : (numbers : List ℤ) (id : ℤ) (rest lits more : List ℤ) → numbers ≡ id ∷ rest → rest ≡ lits ++ pos 0 ∷ more → All Nonzero lits
     → ((counts : List ℤ) → more ≡ counts ++ pos 0 ∷ [] → All Counts counts → ⊥) → HasParts numbers → ⊥
 no-end numbers id rest lits more e f h none p =
     let g : rest ≡ p.lits ++ (pos 0 ∷ (p.hints ++ pos 0 ∷ [])) = tail id p.id rest (p.lits ++ (pos 0 ∷ (p.hints ++ pos 0 ∷ []))) (sym e ∙ p.parts.is) in
     none p.hints (zero-cut lits more p.lits (p.hints ++ pos 0 ∷ []) h p.parts.nonzero (sym f ∙ g)).1 p.parts.hints_count
-
--- the parts that were found
-pub parts-found : (numbers : List ℤ) (id : ℤ) (rest lits more hints : List ℤ) → numbers ≡ id ∷ rest → Counts id → rest ≡ lits ++ pos 0 ∷ more → All Nonzero lits
-    → more ≡ hints ++ pos 0 ∷ [] → All Counts hints → AreParts numbers id lits hints
-parts-found numbers id rest lits more hints e c f h g n = record {
-  is = e ∙ ap (λ l. id ∷ l) (f ∙ ap (λ l. lits ++ pos 0 ∷ l) g);
-  id_counts = c;
-  nonzero = h;
-  hints_count = n;
-}
 
 -- the parts of a step's numbers are the step's
 pub step-parts : (numbers : List ℤ) (id : ℤ) (lits hints : List ℤ) (s : Step) → AreParts numbers id lits hints → All Nonzero s.lits
@@ -317,10 +299,6 @@ no-hint numbers i d lt none hints e a l =
 
 pub hints-fit : (numbers : List ℤ) (hints : List ℕ) → length numbers ≤ 1025 → hint_numbers hints ≡ numbers → length hints ≤ 1025
 hints-fit numbers hints h e = omega (arith, h, ap length e, hints-length hints)
-
-pub hint-push : (hints : List ℕ) (id : ℕ) → hint_numbers (hints ++ id ∷ []) ≡ hint_numbers hints ++ pos id ∷ []
-hint-push [] id = refl
-hint-push (n ∷ ns) id = ap (λ r. pos n ∷ r) (hint-push ns id)
 
 -- what holds anyway holds where nothing was found
 pub on_none : {X P : Type 0} (r : Option X) → P → IfNone r P

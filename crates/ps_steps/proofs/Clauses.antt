@@ -5,7 +5,7 @@ use Rattle.std.proofs.lemmas.Int.{ints}
 use Rattle.std.proofs.lemmas.Bool.{cases_eq}
 use Rattle.std.proofs.lemmas.List.Elements.{All-nil, All-append, All-cons}
 use Rattle.std.proofs.lemmas.List.Sums.{length-filter, sum_by-cons}
-use Rattle.ps_steps.specs.Assignments.{Assignment, place, is_positive, literal_at, value_of, holds, AreDifferent}
+use Rattle.ps_steps.specs.Assignments.{Assignment, place, is_positive, literal_at, value_of, AreDifferent}
 use Rattle.ps_steps.specs.Constraints.{sum_where, is_open, slack}
 use Rattle.ps_steps.specs.Weights.{constant_of, coefficient_at, term_at, turned, terms_below, sum_below, last_variable, constraint_of, each_once, clause_of, IsPlain}
 use Rattle.ps_steps.proofs.Linear.{DiffersAt, sum_below-change, sum_below-zero, coefficient-elsewhere, coefficient-own, sum_where-append}
@@ -102,21 +102,17 @@ clause-plain ls h =
 pub record Reads (f : ℤ → Bool) : Type 0 where
   pub at : (l : ℤ) → f (literal_at (place l) (is_positive l)) ≡ f l
 
-place_of : (p : ℕ) (b : Bool) → place (literal_at p b) ≡ p
+pub place_of : (p : ℕ) (b : Bool) → place (literal_at p b) ≡ p
 place_of p true = omega arith
 place_of p false = omega arith
 
-sign_of : (p : ℕ) (b : Bool) → is_positive (literal_at p b) ≡ b
+pub sign_of : (p : ℕ) (b : Bool) → is_positive (literal_at p b) ≡ b
 sign_of p true = refl
 sign_of p false = refl
 
 pub open-reads : (a : Assignment) → Reads (is_open a)
 unfolding value_of
 open-reads a = record { at = λ l. rw (place_of (place l) (is_positive l), sign_of (place l) (is_positive l)) refl }
-
-pub holds-reads : (w : List Bool) → Reads (holds w)
-unfolding holds
-holds-reads w = record { at = λ l. rw (place_of (place l) (is_positive l), sign_of (place l) (is_positive l)) refl }
 
 -- what a term counts
 abbrev worth : (ℤ → Bool) → (ℕ → ℤ) → ℕ → ℤ

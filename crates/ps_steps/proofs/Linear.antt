@@ -85,11 +85,11 @@ turned_term : (x y : Bool) (k : ℕ) → y ≡ not x → pos (cond y (suc k) 0 +
 turned_term true y k e = rw e (omega (arith, ints))
 turned_term false y k e = rw e (omega (arith, ints))
 
-agree-true : (x : Bool) → agree true x ≡ x
+pub agree-true : (x : Bool) → agree true x ≡ x
 agree-true true = refl
 agree-true false = refl
 
-agree-false : (x : Bool) → agree false x ≡ not x
+pub agree-false : (x : Bool) → agree false x ≡ not x
 agree-false true = refl
 agree-false false = refl
 

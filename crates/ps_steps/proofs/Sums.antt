@@ -1,6 +1,6 @@
 -- Sums of coefficients under assignments that set more.
 use Rattle.std.proofs.Common.{◌≡◌, ℕ, ◌+◌, ◌≤◌, Bool, true, false, cond, not, Option, Some, None, List, [], ◌∷◌, ℤ, arith, refl, ap, ◌∙◌, inl, inr, subst}
-use Rattle.ps_steps.specs.Assignments.{Assignment, value_of, is_false, holds, Includes}
+use Rattle.ps_steps.specs.Assignments.{Assignment, value_of, is_false, holds}
 use Rattle.ps_steps.specs.Constraints.{sum_where, is_open, HasTerm}
 use Rattle.ps_steps.proofs.Values.{Agrees}
 
@@ -41,11 +41,3 @@ not_false_when_true (Some false) x h e = absurd (cc (h false refl))
 -- a literal that is true in a full assignment isn't false in a partial one that agrees
 pub agrees-open : (w : List Bool) (a : Assignment) → Agrees w a → Implies (holds w) (is_open a)
 agrees-open w a s = record { at = λ l e. not_false_when_true (value_of a l) (holds w l) (s.at l) e }
-
-open_less : (o p : Option Bool) → ((v : Bool) → p ≡ Some v → o ≡ Some v) → not (is_false o) ≡ true → not (is_false p) ≡ true
-open_less o None h e = refl
-open_less o (Some true) h e = refl
-open_less o (Some false) h e = absurd (cc (ap (λ x. not (is_false x)) (h false refl)))
-
-pub includes-open : (a b : Assignment) → Includes a b → Implies (is_open a) (is_open b)
-includes-open a b s = record { at = λ l e. open_less (value_of a l) (value_of b l) (s.at l) e }

@@ -94,12 +94,6 @@ none-above a slots (suc u) level n d t inv q h at le =
     let all : decisions (take (suc u) slots) ≤ n = omega (arith, ap decisions e, last, le) in
     sym (subst (λ (x : Trail). up_to n x ≡ x) q (up_to-all (trail_of a slots (suc u)) n inv.levels all))
 
-none_used : (slots : List TrailEntry) (n : ℕ) (a : Assignment) → trail_of a slots 0 ≡ up_to n (trail_of a slots 0)
-none_used slots n a = refl
-
-pub none-there : (a : Assignment) (slots : List TrailEntry) (used n : ℕ) (t : Trail) → trail_of a slots used ≡ t → used ≡ 0 → t ≡ up_to n t
-none-there a slots used n t q e = subst (λ (x : Trail). x ≡ up_to n x) q (rw e (none_used slots n a))
-
 -- the last one is taken back
 pub taken-inside : (a a' : Assignment) (slots : List TrailEntry) (used level : ℕ) (d : TrailEntry) (k : ℕ) → IsTrail a slots used level → 0 < used → d ≡ get_or slots (used - 1) d → a' ≡ without a (unsigned_abs d.lit) → k ≡ one_if (is_none d.reason) → IsTrail a' slots (used - 1) (level - k)
 taken-inside a a' slots zero level d k inv h at p q = absurd (omega (arith, h))

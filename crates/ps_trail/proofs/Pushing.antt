@@ -126,6 +126,3 @@ implied-view a a' slots used level l id t inv f q p =
     ∙ pushed-view a slots used level (record { lit = l; reason = Some id; level = level }) inv (fresh-inside a slots used t l q f)
     ∙ ap (λ n. record { variables = length a; entries = take used slots ++ record { lit = l; reason = Some id; level = n } ∷ [] }) inv.level_is
     ∙ ap (implied l id) q
-
-pub entry-next : (var : ℕ) (es : List TrailEntry) (i : ℕ) (e : TrailEntry) → i < length es → e ≡ get_or es i e → entry_of var (drop i es) ≡ cond (unsigned_abs e.lit == var) (Some e) (entry_of var (drop (i + 1) es))
-entry-next var es i e h at = let k : i + 1 ≡ suc i = omega arith in rw k (ap (entry_of var) (drop-cons es i e h ∙ ap (λ d. d ∷ drop (suc i) es) (sym at)))
