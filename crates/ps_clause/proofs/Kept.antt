@@ -11,19 +11,16 @@ use Rattle.ps_steps.specs.Weights.{clause_of}
 use Rattle.ps_pb.specs.Limits.{most_variables}
 use Rattle.ps_forms.specs.Clauses.{clause_form}
 use Rattle.ps_forms.specs.Forms.{form_over, empty_form, is_other, IsClause}
-use Rattle.ps_forms.proofs.Settling.{nodes_settled, new_settled, more_settled}
+use Rattle.ps_forms.proofs.Deciding.{nodes_decided, new_decided, more_decided}
 use Rattle.ps_forms.proofs.Inside.{nodes-clauses, clause-more}
 use Rattle.ps_clause.specs.Limits.{most_clauses}
 use Rattle.ps_clause.specs.Kept.{IsKept}
 use Rattle.ps_clause.proofs.Nodes.{form_length}
 
-pub kept-empty : (variables : ℕ) → variables ≤ most_variables → IsKept (empty_form variables)
-kept-empty variables h = record { most = h; few = omega arith; settled = new_settled variables; clauses = All-nil (IsClause variables) }
-
 pub kept-nodes : (ns : List Node) (variables : ℕ) (others : List Bool) (clauses : List Constraint) → AreNodes ns → length ns ≤ most_variables
     → variables ≡ length ns → others ≡ map is_other ns → clauses ≡ map clause_of (clause_form ns) → IsKept (form_over variables others clauses)
 kept-nodes ns variables others clauses are h v o c =
-    rw (v, o, c) (record { most = h; few = omega (arith, h, form_length ns); settled = nodes_settled ns are; clauses = nodes-clauses ns are })
+    rw (v, o, c) (record { most = h; few = omega (arith, h, form_length ns); decided = nodes_decided ns are; clauses = nodes-clauses ns are })
 
 -- after a clause was added, or wasn't
 pub kept-added : {E : Type 0} (r : Result (Unit {0}) E) (variables : ℕ) (others : List Bool) (old new : List Constraint) (c : Constraint) (lits : List ℤ)
@@ -33,7 +30,7 @@ kept-added (Ok u) variables others old new c lits ok err is within different roo
     rw (ok, is) (record {
       most = h.most;
       few = omega (arith, room, length-append old (clause_of lits ∷ []));
-      settled = more_settled (form_over variables others old) (clause_of lits) h.settled;
+      decided = more_decided (form_over variables others old) (clause_of lits) h.decided;
       clauses = clause-more (form_over variables others old) lits h.clauses within different;
     })
 kept-added (Err e) variables others old new c lits ok err is within different room h = rw err h

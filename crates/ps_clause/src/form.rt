@@ -6,7 +6,7 @@ ghost use Rattle.ps_steps.specs.Weights.{clause_of};
 ghost use Rattle.ps_pb.specs.Limits.{most_variables};
 ghost use Rattle.ps_forms.specs.Forms.{Form, form_of, empty_form, with_clause, clause_at};
 ghost use Rattle.ps_forms.specs.Forms.{is_atom_variable, AreInside, HasClauses};
-ghost use Rattle.ps_forms.specs.Settled.{AtomsDecide};
+ghost use Rattle.ps_forms.specs.Decided.{AtomsDecide};
 ghost use Rattle.ps_clause.specs.Limits.{most_clauses};
 
 use crate::clauses::{clauses_of_nodes, others_of};
@@ -53,11 +53,11 @@ impl ClauseForm {
     }
 
     /// The number of variables. Each clause is one of different literals of these, and where each
-    /// atom's variable has a value the clauses settle all others.
+    /// atom's variable has a value the clauses decide all others.
     pub fn variables(&self) -> u32
         ensures value { result ≡ self.now.variables }
         ensures within { result ≤ most_variables }
-        ensures settled { AtomsDecide self.now }
+        ensures decided { AtomsDecide self.now }
         ensures clauses { HasClauses self.now }
         ensures inside { AreInside self.now }
     {

@@ -12,7 +12,7 @@ use Rattle.ps_steps.proofs.Forcing.{lt-of}
 use Rattle.ps_steps.proofs.Linear.{sum_where-append}
 use Rattle.ps_steps.proofs.Lawful.{met-clause, clause-met}
 use Rattle.ps_forms.specs.Clauses.{Clause, meets}
-use Rattle.ps_forms.specs.Settled.{IsIdle}
+use Rattle.ps_forms.specs.Decided.{IsIdle}
 
 -- what isn't forced has a coefficient of at most the slack
 unforced-term : (s : ℤ) (a : Assignment) (ts : List (ℤ × ℕ)) (l : ℤ) (k : ℕ) → some_forced s a ts ≡ false → HasTerm l k ts → is_unset (value_of a l) ≡ true → pos k ≤ℤ s

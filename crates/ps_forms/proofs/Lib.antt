@@ -1,5 +1,5 @@
 pub mod Idle
-pub mod Settling
+pub mod Deciding
 pub mod Tidy
 pub mod Meanings
 pub mod Extends

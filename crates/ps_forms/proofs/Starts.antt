@@ -11,7 +11,7 @@ use Rattle.ps_steps.specs.Steps.{Known, known_of, constraint_at, AreMet, Entails
 use Rattle.ps_steps.proofs.Ids.{at-id, at-zero}
 use Rattle.ps_steps.proofs.Full.{complete-full}
 use Rattle.ps_forms.specs.Forms.{Form, MeetsForm, AreInside, first_known}
-use Rattle.ps_forms.specs.Settled.{AllAreSet}
+use Rattle.ps_forms.specs.Decided.{AllAreSet}
 
 -- constraints that are known one by one
 pub known-all : (P : Constraint → Type 0) (cs : List Constraint) → ((id : ℕ) (c : Constraint) → constraint_at (known_of cs) id ≡ Some c → P c) → All P cs

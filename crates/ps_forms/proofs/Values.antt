@@ -9,8 +9,8 @@ use Rattle.ps_formula.specs.Nodes.{AreNodes, AtomBelow}
 use Rattle.ps_steps.specs.Assignments.{Assignment, value_at}
 use Rattle.ps_forms.specs.Extensions.{extension, AgreesAt, is_atom, value_from, world_of, value_or_false, values_of, HasAtomAt, HasAtoms, HasEachAtom}
 use Rattle.ps_forms.specs.Forms.{form_of}
-use Rattle.ps_forms.specs.Settled.{AtomsAreSet}
-use Rattle.ps_forms.proofs.Settling.{atom-variable, set-value}
+use Rattle.ps_forms.specs.Decided.{AtomsAreSet}
+use Rattle.ps_forms.proofs.Deciding.{atom-variable, set-value}
 use Rattle.ps_forms.proofs.Worlds.{by_bool, same_atom, same_number, eq_test-true, length-world_of, world_of-at, world_of-agrees, extension-agrees}
 
 -- without nodes each atom is false

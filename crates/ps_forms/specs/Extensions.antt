@@ -6,7 +6,7 @@ use Rattle.ps_formula.specs.declared.node.Node.TheVariants as node
 use Rattle.ps_formula.specs.Nodes.{truths}
 use Rattle.ps_steps.specs.Assignments.{Assignment, value_at}
 use Rattle.ps_forms.specs.Forms.{form_of}
-use Rattle.ps_forms.specs.Settled.{AtomsAreSet}
+use Rattle.ps_forms.specs.Decided.{AtomsAreSet}
 pub use Rattle.ps_steps.specs.Assignments.{values_of, value_or_false}
 
 -- the extension of a world gives each node's variable the truth of the node

@@ -11,7 +11,7 @@ use Rattle.ps_steps.specs.Steps.{Known, AreWithin, AreMet, Entails, IsUnmet}
 use Rattle.ps_forms.specs.Clauses.{meets, clause_form}
 use Rattle.ps_forms.specs.Extensions.{extension, AgreeOnAtoms, world_of, HasAtoms, HasEachAtom}
 use Rattle.ps_forms.specs.Forms.{Form, form_of, empty_form, with_clause, MeetsForm, AreInside, HasClauses, first_known}
-use Rattle.ps_forms.specs.Settled.{IsIdle, AtomsAreSet, AllAreSet, AtomsDecide}
+use Rattle.ps_forms.specs.Decided.{IsIdle, AtomsAreSet, AllAreSet, AtomsDecide}
 
 -- ---- what clauses mean
 -- an assignment and a world that agree on atoms: the one meets the clauses exactly where it is the extension of the other

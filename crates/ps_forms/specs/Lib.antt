@@ -2,6 +2,6 @@
 pub mod Clauses
 pub mod Extensions
 pub mod Forms
-pub mod Settled
+pub mod Decided
 -- Laws, as the functions of laws.rt promise them
 pub mod Laws

@@ -19,7 +19,7 @@ pub fn clauses_say_what_nodes_mean()
 /// Where each atom's variable has a value, and no clause is violated or forces a literal, each
 /// variable has a value: in the form of nodes, in one without clauses in which all variables are
 /// atoms', and in one with a clause more.
-pub fn atoms_settle_forms()
+pub fn atoms_decide_forms()
     ensures nodes { AtomsDecideNodes }
     ensures none { AtomsDecideEmptyForms }
     ensures more { DecidingStays }

@@ -4,6 +4,6 @@
 mod laws;
 
 pub use laws::{
-    atoms_settle_forms, clauses_are_of_variables, clauses_say_what_nodes_mean,
+    atoms_decide_forms, clauses_are_of_variables, clauses_say_what_nodes_mean,
     forms_and_goals_are_known, worlds_of_assignments,
 };

@@ -8,7 +8,7 @@ use Rattle.ps_steps.specs.Assignments.{Assignment, place, value_of, is_unset}
 use Rattle.ps_steps.specs.Constraints.{Constraint, HasTerm, Forces, slack, is_forced}
 use Rattle.ps_steps.specs.Weights.{Weighted, terms_of, term_of}
 use Rattle.ps_steps.specs.Steps.{constraint_at}
-use Rattle.ps_forms.specs.Settled.{IsIdle}
+use Rattle.ps_forms.specs.Decided.{IsIdle}
 use Rattle.ps_steps.specs.Steps.{known_of}
 use Rattle.ps_learning.specs.Trails.{IsReason, IsFresh, IsConflict}
 use Rattle.ps_steps.proofs.Ids.{constraint_at-known, zero_unknown}

@@ -5,7 +5,7 @@ use Rattle.ps_steps.specs.Constraints.{Constraint}
 use Rattle.ps_steps.specs.Steps.{Known, constraint_at}
 use Rattle.ps_learning.specs.Trails.{TrailEntry, IsConflict}
 use Rattle.ps_forms.specs.Forms.{Form}
-use Rattle.ps_forms.specs.Settled.{IsIdle, AtomsAreSet}
+use Rattle.ps_forms.specs.Decided.{IsIdle, AtomsAreSet}
 
 -- no known constraint is violated or forces a literal
 pub record IsAtRest (known : Known) (a : Assignment) : Type 0 where

@@ -4,7 +4,7 @@ use Rattle.ps_steps.specs.Assignments.{Assignment}
 use Rattle.ps_steps.specs.Constraints.{Constraint, slack, is_violated, some_forced, Forces}
 use Rattle.ps_steps.specs.Steps.{Known, known_of}
 use Rattle.ps_learning.specs.Trails.{IsReason, IsFresh, IsConflict}
-use Rattle.ps_forms.specs.Settled.{IsIdle}
+use Rattle.ps_forms.specs.Decided.{IsIdle}
 use Rattle.ps_learn.specs.Rest.{IsAtRest}
 use Rattle.ps_learn.specs.declared.scanning.Shown.{Shown}
 use Rattle.ps_learn.specs.declared.scanning.Shown.TheVariants as shown

@@ -2,9 +2,10 @@
 use Rattle.std.proofs.Common.{◌≡◌, ℕ, zero, suc, ◌+◌, ◌-◌, ◌<◌, ◌≤◌, Bool, true, false, ◌&&◌, Option, Some, None, get_or, arith, refl, sym, ap, ◌∙◌, inl, inr, ◌⊎◌}
 use Rattle.std.specs.Prelude.{nat_lt, unsigned_abs, ℤ}
 use Rattle.std.proofs.lemmas.Bool.{cases_lt, and_parts, ltb-true}
-use Rattle.ps_steps.specs.Assignments.{Assignment, with_sign, value_of, value_at, is_unset, literal_at, is_positive, place}
+use Rattle.ps_steps.specs.Assignments.{Assignment, with_sign, value_of, value_at, is_unset, literal_at, is_positive}
+use Rattle.ps_steps.proofs.Clauses.{place_of}
 use Rattle.ps_forms.specs.Forms.{Form, is_atom_variable}
-use Rattle.ps_forms.specs.Settled.{AtomsAreSet}
+use Rattle.ps_forms.specs.Decided.{AtomsAreSet}
 use Rattle.ps_learning.specs.Trails.{IsFresh}
 use Rattle.ps_sat.specs.Choices.{is_open_atom, IsOpenAt, AtomsTo, IsChosen}
 
@@ -50,10 +51,6 @@ unset_both s (Some b) h = absurd (cc)
 value_here : (a : Assignment) (p : ℕ) → value_at a (p + 1) ≡ get_or a p None
 unfolding value_at
 value_here a p = let e : p + 1 ≡ suc p = omega arith in rw e refl
-
-place_of : (p : ℕ) (s : Bool) → place (literal_at p s) ≡ p
-place_of p true = omega arith
-place_of p false = omega arith
 
 some_of : (p : ℕ) (s : Bool) → 1 ≤ unsigned_abs (literal_at p s)
 some_of p true = omega arith

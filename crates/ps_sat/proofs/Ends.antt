@@ -13,7 +13,7 @@ use Rattle.ps_steps.proofs.Ids.{at-id, at-zero, kept-all}
 use Rattle.ps_steps.proofs.Onward.{lawful-append, ends-append}
 use Rattle.ps_steps.proofs.Lawful.{refutes-unmet}
 use Rattle.ps_forms.specs.Forms.{Form, clause_at, MeetsForm, AreInside, first_known}
-use Rattle.ps_forms.specs.Settled.{IsIdle, AreIdle, AllAreSet, AtomsDecide}
+use Rattle.ps_forms.specs.Decided.{IsIdle, AreIdle, AllAreSet, AtomsDecide}
 use Rattle.ps_learn.specs.Rest.{IsDone}
 
 front_get : (cs : List Constraint) (g c : Constraint) (i : ℕ) → slice_get cs i ≡ Some c → slice_get (cs ++ g ∷ []) i ≡ Some c
@@ -39,9 +39,9 @@ length_full (b ∷ w) = ap suc (length_full w)
 -- a search that is done has a full assignment that meets the form and the goal
 pub found : (f : Form) (goal : Constraint) (ss : List Step) (known : Known) (a : Assignment) → known ≡ with_steps (first_known f goal) ss → AtomsDecide f → AreInside f → IsWithin f.variables goal → length a ≡ f.variables → IsDone f known a
     → (w : List Bool) × (a ≡ map Some w) × (length w ≡ f.variables) × MeetsForm w f × IsMet w goal
-found f goal ss known a e settled inside goal_in len done =
+found f goal ss known a e decided inside goal_in len done =
     let idle : AreIdle f a = record { at = λ id c h. done.at_rest.at id c (rw e (kept-all (first_known f goal) ss id c (by_form f goal id c h))) } in
-    let q : a ≡ full (values_of a) = complete f a len (settled.settled a done.atoms idle) in
+    let q : a ≡ full (values_of a) = complete f a len (decided.all_set a done.atoms idle) in
     let w = values_of a in
     let wl : length w ≡ f.variables = sym (length_full w) ∙ sym (ap length q) ∙ len in
     let own : IsIdle goal a = done.at_rest.at (suc (length f.clauses)) goal (rw e (kept-all (first_known f goal) ss (suc (length f.clauses)) goal (at-id (f.clauses ++ goal ∷ []) (length f.clauses) ∙ last_get f.clauses goal))) in (

@@ -11,7 +11,7 @@ use Rattle.ps_steps.proofs.Within.{clause-within}
 use Rattle.ps_steps.proofs.Ids.{known_of-append}
 use Rattle.ps_steps.proofs.Onward.{lawful-append, steps-append}
 use Rattle.ps_forms.specs.Forms.{Form, MeetsForm, AreInside, first_known}
-use Rattle.ps_forms.specs.Settled.{AtomsDecide}
+use Rattle.ps_forms.specs.Decided.{AtomsDecide}
 use Rattle.ps_log.specs.Logs.{Telling, Starts, Grows, Stays}
 use Rattle.ps_learning.specs.Trails.{Trail, values, IsFresh, AreReasons}
 use Rattle.ps_learning.proofs.Entries.{reasons-take, reasons-more, reasons-none, length-values}
@@ -103,8 +103,8 @@ goes-on f goal told old new cs cs' t u w learned k x h tu reasons lawful grows m
 -- a full assignment was found
 pub search-found : (f : Form) (goal : Constraint) (told : Bool) (new : Telling) (cs : List Constraint) (t u : Trail) (learned : ℕ) (a : Assignment) → Searching f goal told new cs t learned → u.variables ≡ t.variables → AtomsDecide f → AreInside f → IsWithin f.variables goal → IsDone f (known_of cs) (values u) → a ≡ values u
     → (w : List Bool) × (a ≡ map Some w) × (length w ≡ f.variables) × MeetsForm w f × IsMet w goal
-search-found f goal told new cs t u learned a h same settled inside own done e =
-    found f goal h.handed.steps (known_of cs) a h.known settled inside own (ap length e ∙ length-values u.variables u.entries ∙ same ∙ h.same) (subst (λ b. IsDone f (known_of cs) b) (sym e) done)
+search-found f goal told new cs t u learned a h same decided inside own done e =
+    found f goal h.handed.steps (known_of cs) a h.known decided inside own (ap length e ∙ length-values u.variables u.entries ∙ same ∙ h.same) (subst (λ b. IsDone f (known_of cs) b) (sym e) done)
 
 -- the form and the goal are refuted
 pub search-refuted : (f : Form) (goal : Constraint) (told : Bool) (new : Telling) (cs : List Constraint) (t : Trail) (learned : ℕ) (x : Step) → Searching f goal told new cs t learned → IsLawful f.variables (known_of cs) x → is_contradiction x ≡ true → (w : List Bool) → MeetsForm w f → IsMet w goal → ⊥

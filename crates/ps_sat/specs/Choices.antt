@@ -2,7 +2,7 @@
 use Rattle.std.specs.Prelude.{ℕ, ◌≡◌, ◌≤◌, ◌<◌, ◌+◌, Bool, true, false, ◌&&◌, Option, Some, None, ℤ, unsigned_abs}
 use Rattle.ps_steps.specs.Assignments.{Assignment, value_at, is_unset}
 use Rattle.ps_forms.specs.Forms.{Form, is_atom_variable}
-use Rattle.ps_forms.specs.Settled.{AtomsAreSet}
+use Rattle.ps_forms.specs.Decided.{AtomsAreSet}
 use Rattle.ps_learning.specs.Trails.{IsFresh}
 
 -- whether a variable is an atom's, and has no value

@@ -18,7 +18,7 @@ learn-init g c = record {
 
 pub returns-in-None-clause-outcome : goal.returns-in-None-clause-outcome
 returns-in-None-clause-outcome g c =
-    search-found c.args.base.now c.args.goal.now _ _ c.learn.known c.learn.trail c.advance.new.trail c.learn.learned _ c.learn.invariant.so_far c.advance.ensures.variables c.variables.ensures.settled c.variables.ensures.inside c.requires.goal c.in-None.ensures.ended c.into_values.ensures
+    search-found c.args.base.now c.args.goal.now _ _ c.learn.known c.learn.trail c.advance.new.trail c.learn.learned _ c.learn.invariant.so_far c.advance.ensures.variables c.variables.ensures.decided c.variables.ensures.inside c.requires.goal c.in-None.ensures.ended c.into_values.ensures
 
 pub returns-in-None-clause-shown : goal.returns-in-None-clause-shown
 returns-in-None-clause-shown g c =

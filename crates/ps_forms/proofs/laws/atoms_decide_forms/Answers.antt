@@ -1,16 +1,16 @@
 use Rattle.ps_forms.proofs.Idle.{idle-none, none-idle}
-use Rattle.ps_forms.proofs.Settling.{nodes_settled, new_settled, more_settled}
+use Rattle.ps_forms.proofs.Deciding.{nodes_decided, new_decided, more_decided}
 use Rattle.ps_forms.proofs.Starts.{all-full}
-use Rattle.ps_forms.proofs.laws.atoms_settle_forms.Goals as goal
+use Rattle.ps_forms.proofs.laws.atoms_decide_forms.Goals as goal
 
 pub returns-clause-nodes : goal.returns-clause-nodes
-returns-clause-nodes c = nodes_settled
+returns-clause-nodes c = nodes_decided
 
 pub returns-clause-none : goal.returns-clause-none
-returns-clause-none c = new_settled
+returns-clause-none c = new_decided
 
 pub returns-clause-more : goal.returns-clause-more
-returns-clause-more c = more_settled
+returns-clause-more c = more_decided
 
 pub returns-clause-idle : goal.returns-clause-idle
 returns-clause-idle c = λ k a. ((λ idle. (idle.unviolated, idle-none k a idle)), (λ h. none-idle k a h.0 h.1))

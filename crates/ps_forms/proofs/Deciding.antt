@@ -1,4 +1,4 @@
--- The clause form of nodes is settled by its atoms.
+-- The clause form of nodes is decided by its atoms.
 use Rattle.std.proofs.Common.{◌≡◌, ◌⊎◌, inl, inr, ℕ, zero, suc, ◌+◌, ◌<◌, ◌≤◌, ℤ, Bool, true, false, not, Option, Some, None, List, [], ◌∷◌, ◌++◌, length, map, get_or, arith, refl, sym, ap, ◌∙◌, true≢false}
 use Rattle.std.specs.Prelude.{slice_get, nat_lt}
 use Rattle.std.specs.List.{list_all, filter}
@@ -15,7 +15,7 @@ use Rattle.ps_steps.specs.Weights.{clause_of}
 use Rattle.ps_forms.specs.Clauses.{Clause, meets, positive, negative, meaning_of, once, is_tautology, tidy, clauses_at, clauses_from, clause_form}
 use Rattle.ps_forms.specs.Extensions.{AgreesAt, value_or_false}
 use Rattle.ps_forms.specs.Forms.{Form, is_other, form_of, is_atom_variable, clause_at, with_clause}
-use Rattle.ps_forms.specs.Settled.{IsIdle, AtomsAreSet, AtomsDecide}
+use Rattle.ps_forms.specs.Decided.{IsIdle, AtomsAreSet, AtomsDecide}
 use Rattle.ps_forms.proofs.Extends.{fits-later, value-same}
 use Rattle.ps_forms.proofs.Idle.{IsKnown, AreOthersKnown, idle-met}
 use Rattle.ps_forms.proofs.Meanings.{met-node}
@@ -214,10 +214,10 @@ nodes-set ns a are atoms idle (suc k) le j lt =
     ]
 
 -- the clause form of nodes
-pub nodes_settled : (ns : List Node) → AreNodes ns → AtomsDecide (form_of ns)
+pub nodes_decided : (ns : List Node) → AreNodes ns → AtomsDecide (form_of ns)
 unfolding value_at
-nodes_settled ns are = record {
-  settled = λ a atoms idle.
+nodes_decided ns are = record {
+  all_set = λ a atoms idle.
       let here = clauses-idle a (clause_form ns) (λ id. idle.at (suc id)) in
       record { at = λ var positive within. by_place a (nodes-set ns a are atoms here (length ns) (omega arith)) var positive within };
 }
@@ -227,9 +227,9 @@ nodes_settled ns are = record {
     by_place a set (suc p) positive within = set p (omega arith)
 
 -- without marks each variable is an atom's
-pub new_settled : (variables : ℕ) → AtomsDecide (record { variables = variables; others = []; clauses = [] })
-new_settled variables = record {
-  settled = λ a atoms idle. record { at = λ var positive within. atoms.at var (an_atom var positive within) };
+pub new_decided : (variables : ℕ) → AtomsDecide (record { variables = variables; others = []; clauses = [] })
+new_decided variables = record {
+  all_set = λ a atoms idle. record { at = λ var positive within. atoms.at var (an_atom var positive within) };
 }
   where
     an_atom : (var : ℕ) → 0 < var → var ≤ variables → is_atom_variable (record { variables = variables; others = []; clauses = [] }) var ≡ true
@@ -245,11 +245,11 @@ clause-stays : (f : Form) (more : Constraint) (id : ℕ) (c : Constraint) → cl
 clause-stays f more zero c e = e
 clause-stays f more (suc i) c e = get-append f.clauses (more ∷ []) i c e
 
--- a clause more leaves it settled
-pub more_settled : (f : Form) (c : Constraint) → AtomsDecide f → AtomsDecide (with_clause f c)
-more_settled f c h = record {
-  settled = λ a atoms idle.
-      let all = h.settled a (record { at = λ var. same_atoms a var atoms.at }) (record { at = λ id d e. idle.at id d (clause-stays f c id d e) }) in
+-- a clause more leaves it decided
+pub more_decided : (f : Form) (c : Constraint) → AtomsDecide f → AtomsDecide (with_clause f c)
+more_decided f c h = record {
+  all_set = λ a atoms idle.
+      let all = h.all_set a (record { at = λ var. same_atoms a var atoms.at }) (record { at = λ id d e. idle.at id d (clause-stays f c id d e) }) in
       record { at = all.at };
 }
   where

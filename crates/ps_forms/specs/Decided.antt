@@ -1,4 +1,4 @@
--- When the values of the atoms' variables settle those of all others.
+-- When the values of the atoms' variables decide those of all others.
 use Rattle.std.specs.Prelude.{ℕ, ◌<◌, ◌≤◌, ◌≡◌, true, false, Some}
 use Rattle.ps_steps.specs.Assignments.{Assignment, value_at, is_unset}
 use Rattle.ps_steps.specs.Constraints.{Constraint, slack, is_violated, some_forced}
@@ -23,4 +23,4 @@ pub record AllAreSet (f : Form) (a : Assignment) : Type 0 where
 
 -- an assignment in which each atom's variable has a value, and each clause is idle, has a value for each variable
 pub record AtomsDecide (f : Form) : Type 0 where
-  pub settled : (a : Assignment) → AtomsAreSet f a → AreIdle f a → AllAreSet f a
+  pub all_set : (a : Assignment) → AtomsAreSet f a → AreIdle f a → AllAreSet f a
