@@ -5,10 +5,11 @@ use Rattle.ps_steps.specs.Steps.{Step}
 use Rattle.ps_steps.specs.Weights.{weighted, IsNormal}
 pub use Rattle.ps_steps.specs.Limits.{most_ids}
 use Rattle.ps_pb.specs.Limits.{most_variables, IsLiteral}
+use Rattle.ps_log.specs.declared.limits.TheConstants.{MOST_HINTS}
 
 -- so many hints a step has at most
 abbrev pub most_hints : ℕ
-most_hints = 1025
+most_hints = MOST_HINTS
 
 -- a number that names a constraint is within its limit
 abbrev pub IsId : ℕ → Type 0

@@ -22,11 +22,14 @@ pub use error::LogError;
 pub use goal_reader::read_goal;
 pub use held::HeldLog;
 pub use laws::{decimals_are_spelled, last_lines_are_told, lines_are_read, texts_are_lines};
-pub use limits::{MOST_HINTS, MOST_IDS, MOST_LITS, is_goal_within, is_step_within};
+pub use limits::{
+    MOST_HINTS, MOST_LITS, is_goal_within, is_step_within, limits_have_these_numbers,
+};
 pub use line_error::{GoalError, LineError, StepError};
 pub use numeral::{is_plain, without_minus};
 pub use ps_io::{Lines, Sink, WriteFault};
 pub use ps_pb::{Constraint, Step, Steps};
+pub use ps_steps::MOST_IDS;
 pub use sink::ProofSink;
 pub use step_reader::read_step;
 pub use text::{write_goal, write_step};

@@ -1,20 +1,25 @@
 //! The limits of goals and steps.
-ghost use Rattle.std.specs.Prelude.{◌↔◌, ◌<◌, All, length, IsTrue};
+ghost use Rattle.std.specs.Prelude.{◌≡◌, ◌↔◌, ◌<◌, All, length, IsTrue};
 ghost use Rattle.ps_pb.specs.Limits.{IsLiteral};
 ghost use Rattle.ps_log.specs.Limits.{IsId, IsGoalWithin, IsStepWithin};
 ghost use Rattle.ps_log.specs.Texts.{goal_line, step_line};
+ghost use Rattle.ps_log.specs.declared.limits.TheConstants.{MOST_LITS, MOST_HINTS};
 
 use ps_io::LONGEST_LINE;
 use ps_pb::{Constraint, Lit, MOST_VARIABLES, Step};
-
-/// The greatest number that names a constraint.
-pub const MOST_IDS: u64 = 1 << 41;
+use ps_steps::MOST_IDS;
 
 /// So many terms, or literals, a goal or a step has at most.
 pub const MOST_LITS: usize = MOST_VARIABLES as usize;
 
 /// So many hints a step has at most.
 pub const MOST_HINTS: usize = MOST_LITS + 1;
+
+/// The limits by their numbers.
+pub fn limits_have_these_numbers()
+    ensures lits { MOST_LITS ≡ 1024 }
+    ensures hints { MOST_HINTS ≡ 1025 }
+{}
 
 /// Whether a step is within the limits: id and hints from 1 to 2^41, at most 1,024 literals and
 /// 1,025 hints. The line of such a step is shorter than 65,536 bytes.

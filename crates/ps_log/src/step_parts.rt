@@ -4,10 +4,11 @@ ghost use Rattle.ps_pb.specs.Limits.{IsLiteral};
 ghost use Rattle.ps_log.specs.Numbers.{LacksCount, IsCutAtZero, AreCountsAndZero, LacksCounts};
 ghost use Rattle.ps_log.specs.Numbers.{AreParts, HasParts, AreLits, AreHints, IsIdOf, IsStepOf};
 
-use crate::limits::{MOST_HINTS, MOST_IDS, MOST_LITS};
+use crate::limits::{MOST_HINTS, MOST_LITS};
 use crate::line_error::LineError;
 use ps_io::List;
 use ps_pb::{Hints, Lit, Lits, MOST_VARIABLES, Step};
+use ps_steps::MOST_IDS;
 use std::alloc::Global;
 
 const MOST_ID: i128 = MOST_IDS as i128;

@@ -8,11 +8,9 @@ ghost use Rattle.ps_pb.specs.Weighing.{linear};
 use crate::lit::Lit;
 use crate::terms::Terms;
 use ps_io::NoMemory;
+use ps_steps::MOST_SIZE;
 use std::alloc::Global;
 use std::marker::Model;
-
-/// What the coefficients of a constraint and the size of its degree sum to at most.
-pub const MOST_SIZE: u128 = 1 << 126;
 
 /// The coefficients of the true literals sum to at least the degree. Coefficients are at least 1,
 /// variables rise, and the coefficients and the size of the degree sum to at most 2^126.

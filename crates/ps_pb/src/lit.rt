@@ -3,10 +3,8 @@ ghost use Rattle.std.specs.Prelude.{◌≡◌, ◌≤◌, ◌<◌, ◌↔◌, If
 ghost use Rattle.ps_steps.specs.Assignments.{place, is_positive, literal_at};
 ghost use Rattle.ps_pb.specs.Limits.{IsLiteral, most_variables};
 
+use crate::limits::MOST_VARIABLES;
 use std::marker::Model;
-
-/// The variables are numbered from 1 up to this.
-pub const MOST_VARIABLES: u32 = 1024;
 
 const MOST: i32 = MOST_VARIABLES as i32;
 
