@@ -2,7 +2,6 @@
 use Rattle.std.proofs.Common.{◌≡◌, ℕ, ◌<◌, ◌≤◌, ℤ, Bool, Result, Ok, Err, List, [], ◌∷◌, ◌++◌, length, map, OnOk, OnErr, arith}
 use Rattle.std.specs.List.{All}
 use Rattle.std.proofs.lemmas.List.{length-append}
-use Rattle.std.proofs.lemmas.List.Elements.{All-nil}
 use Rattle.ps_formula.specs.declared.node.Node.{Node}
 use Rattle.ps_formula.specs.Nodes.{AreNodes}
 use Rattle.ps_steps.specs.Assignments.{place, AreDifferent}
@@ -10,8 +9,8 @@ use Rattle.ps_steps.specs.Constraints.{Constraint}
 use Rattle.ps_steps.specs.Weights.{clause_of}
 use Rattle.ps_pb.specs.Limits.{most_variables}
 use Rattle.ps_forms.specs.Clauses.{clause_form}
-use Rattle.ps_forms.specs.Forms.{form_over, empty_form, is_other, IsClause}
-use Rattle.ps_forms.proofs.Deciding.{nodes_decided, new_decided, more_decided}
+use Rattle.ps_forms.specs.Forms.{form_over, is_other}
+use Rattle.ps_forms.proofs.Deciding.{nodes_decided, more_decided}
 use Rattle.ps_forms.proofs.Inside.{nodes-clauses, clause-more}
 use Rattle.ps_clause.specs.Limits.{most_clauses}
 use Rattle.ps_clause.specs.Kept.{IsKept}

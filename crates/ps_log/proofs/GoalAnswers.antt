@@ -1,7 +1,6 @@
 -- What is answered of the line of a goal.
-use Rattle.std.proofs.Common.{◌≡◌, ◌≢◌, ℕ, ◌<◌, ◌==◌, ◌≤◌, ℤ, pos, Bool, true, false, ◌||◌, List, [], ◌∷◌, ◌++◌, map, Result, Ok, Err, Option, None, Some, refl, sym, ap, subst, ◌∙◌, arith, All, nat_lt, true≢false, get_or, length}
+use Rattle.std.proofs.Common.{◌≡◌, ◌≢◌, ℕ, ◌≤◌, ℤ, pos, true, false, List, [], ◌∷◌, ◌++◌, map, Result, Ok, Err, Option, None, Some, refl, sym, ap, subst, ◌∙◌, arith, All, true≢false, get_or, length}
 use Rattle.std.specs.List.{list_all}
-use Rattle.std.specs.Char.{digit_value}
 use Rattle.std.proofs.lemmas.List.{append_cancel_right, map-append}
 use Rattle.ps_steps.specs.Constraints.{Constraint}
 use Rattle.ps_steps.specs.Weights.{weighted, terms_of, are_rising}
@@ -15,7 +14,7 @@ use Rattle.ps_log.specs.Numbers.{capped, AreNumbersOf, AreRead}
 use Rattle.ps_log.specs.GoalNumbers.{pairs_from, are_terms, AreGoalParts, HasGoalParts, IsGoalOf, TellsRising}
 use Rattle.ps_log.specs.declared.line_error.LineError.{LineError}
 use Rattle.ps_log.specs.declared.line_error.LineError.TheVariants.{Truncated, BadByte, NotCanonical, TooLarge, NoMemory}
-use Rattle.ps_log.proofs.LineAnswers.{same_rest, words-text, text-starts, text-spells, AreTextBytes, line-fits, line-written, AreTexts}
+use Rattle.ps_log.proofs.LineAnswers.{same_rest, words-text, text-starts, text-spells, text_bytes, line-fits, line-written, AreTexts}
 use Rattle.ps_log.proofs.LineShapes.{text-goal, goal-text, reads_goal, all-positive, positives}
 use Rattle.ps_log.proofs.Reading.{goal_small, goal-one_line}
 use Rattle.ps_log.proofs.Spelled.{spelled-unique}
@@ -122,22 +121,8 @@ goal-answer line text ns degree terms (Err TooLarge) e n p rise a =
 goal-answer line text ns degree terms (Err NoMemory) e n p rise a = tt
 
 -- the bytes of a goal's text
-one_of : (a b c d : Bool) → b ≡ true → (a || b || c || d) ≡ true
-one_of true b c d e = refl
-one_of false b c d e = rw e refl
-
-below_ten : (n : ℕ) → n < 10 → nat_lt n 10 ≡ true
-below_ten n h = grind (arith, h)
-
-goal_bytes : AreTextBytes is_goal_byte
-goal_bytes = record {
-  digit = λ c h. one_of (c == 103) (nat_lt (digit_value c) 10) (c == 45) (c == 32) (below_ten (digit_value c) h);
-  minus = refl;
-  space = refl;
-}
-
 text-fits : (line : List ℕ) (g : Constraint) → IsGoalText line g → list_all is_goal_byte line ≡ true
-text-fits line g t = line-fits is_goal_byte goal_bytes 103 line t.spellings (goal_numbers g.degree (weighted g.terms)) refl t.words t.spelled
+text-fits line g t = line-fits is_goal_byte (text_bytes 103) 103 line t.spellings (goal_numbers g.degree (weighted g.terms)) refl t.words t.spelled
 
 same_some : (x y : Constraint) → Some x ≡ Some y → x ≡ y
 same_some x y e = ap (or x) e

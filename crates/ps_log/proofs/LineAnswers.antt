@@ -1,5 +1,5 @@
 -- What is answered of the first line of some bytes, where lines are texts.
-use Rattle.std.proofs.Common.{◌≡◌, ◌≢◌, ℕ, ◌+◌, ◌<◌, ◌^◌, ◌==◌, ℤ, pos, negsuc, Bool, true, false, List, [], ◌∷◌, ◌++◌, length, map, Result, Ok, Err, refl, sym, ap, subst, ◌∙◌, append_assoc, append-nil, arith, true≢false, get_or, All, unsigned_abs, length-append}
+use Rattle.std.proofs.Common.{◌≡◌, ◌≢◌, ℕ, ◌+◌, ◌<◌, ◌^◌, ◌==◌, ℤ, pos, negsuc, Bool, true, false, ◌||◌, List, [], ◌∷◌, ◌++◌, length, map, Result, Ok, Err, refl, sym, ap, subst, ◌∙◌, append_assoc, append-nil, arith, true≢false, get_or, All, nat_lt, unsigned_abs, length-append}
 use Rattle.std.specs.Prelude.{flat_map}
 use Rattle.std.specs.List.{list_all, join_with_byte}
 use Rattle.std.specs.Fmt.{signed_decimal}
@@ -11,7 +11,7 @@ use Rattle.std.proofs.lemmas.List.Folds.{list_all-append}
 use Rattle.std.proofs.lemmas.List.Splits.{join_with_byte-slice_split}
 use Rattle.ps_log.specs.Texts.{with_numbers}
 use Rattle.ps_log.specs.Spellings.{words_of, Spells, SpellAll}
-use Rattle.ps_log.specs.FirstLines.{IsOneLine, IsFirstLine, FirstLine, HasBadByte, IsNoText, StandsFirst, IsRefused, IsAnswer, Gives, IsLineAnswer}
+use Rattle.ps_log.specs.FirstLines.{is_text_byte, IsOneLine, IsFirstLine, FirstLine, HasBadByte, IsNoText, StandsFirst, IsRefused, IsAnswer, Gives, IsLineAnswer}
 use Rattle.ps_log.specs.declared.line_error.LineError.{LineError}
 use Rattle.ps_log.specs.declared.line_error.LineError.TheVariants.{Truncated, BadByte, NotCanonical, TooLarge, NoMemory}
 use Rattle.ps_log.proofs.Parts.{Lacks}
@@ -57,6 +57,23 @@ pub record AreTextBytes (fits : ℕ → Bool) : Type 0 where
   pub digit : (c : ℕ) → digit_value c < 10 → fits c ≡ true
   pub minus : fits 45 ≡ true
   pub space : fits 32 ≡ true
+
+one_of_rest : (a b c d : Bool) → (b || c || d) ≡ true → (a || b || c || d) ≡ true
+one_of_rest true b c d e = refl
+one_of_rest false b c d e = e
+
+first_of : (b c d : Bool) → b ≡ true → (b || c || d) ≡ true
+first_of b c d e = rw e refl
+
+below_ten : (n : ℕ) → n < 10 → nat_lt n 10 ≡ true
+below_ten n h = grind (arith, h)
+
+pub text_bytes : (letter : ℕ) → AreTextBytes (is_text_byte letter)
+text_bytes letter = record {
+  digit = λ c h. one_of_rest (c == letter) (nat_lt (digit_value c) 10) (c == 45) (c == 32) (first_of (nat_lt (digit_value c) 10) (c == 45) (c == 32) (below_ten (digit_value c) h));
+  minus = one_of_rest (45 == letter) (nat_lt (digit_value 45) 10) true false refl;
+  space = one_of_rest (32 == letter) (nat_lt (digit_value 32) 10) false true refl;
+}
 
 module _ (fits : ℕ → Bool) (f : AreTextBytes fits) where
   digits-fit : (ds : List ℕ) → AllDigits 10 ds → list_all fits ds ≡ true

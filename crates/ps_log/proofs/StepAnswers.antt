@@ -1,8 +1,7 @@
 -- What is answered of the line of a step.
-use Rattle.std.proofs.Common.{◌≡◌, ◌≢◌, ℕ, ◌<◌, ◌==◌, ℤ, Bool, true, false, ◌||◌, List, [], ◌∷◌, map, Result, Ok, Err, None, refl, sym, ap, subst, ◌∙◌, arith, All, nat_lt}
+use Rattle.std.proofs.Common.{◌≡◌, ◌≢◌, ℕ, ℤ, true, List, [], ◌∷◌, map, Result, Ok, Err, None, refl, sym, ap, subst, ◌∙◌, arith, All}
 use Rattle.std.specs.List.{list_all}
 use Rattle.std.specs.Fmt.{signed_decimal}
-use Rattle.std.specs.Char.{digit_value}
 use Rattle.ps_steps.specs.Steps.{Step}
 use Rattle.ps_log.specs.Texts.{step_numbers, step_line}
 use Rattle.ps_log.specs.Limits.{IsStepWithin}
@@ -12,7 +11,7 @@ use Rattle.ps_log.specs.StepTexts.{IsStepText, is_step_byte}
 use Rattle.ps_log.specs.Numbers.{capped, AreNumbersOf, AreRead, AreParts, HasParts, HasNumbers, IsStepOf}
 use Rattle.ps_log.specs.declared.line_error.LineError.{LineError}
 use Rattle.ps_log.specs.declared.line_error.LineError.TheVariants.{Truncated, BadByte, NotCanonical, TooLarge, NoMemory}
-use Rattle.ps_log.proofs.LineAnswers.{same_rest, words-text, text-starts, text-spells, AreTextBytes, line-fits, line-written, written-words_of, written-spelled, AreTexts}
+use Rattle.ps_log.proofs.LineAnswers.{same_rest, words-text, text-starts, text-spells, text_bytes, line-fits, line-written, written-words_of, written-spelled, AreTexts}
 use Rattle.ps_log.proofs.Reading.{step_small, step-one_line}
 use Rattle.ps_log.proofs.Spelled.{spelled-unique}
 use Rattle.ps_log.proofs.StepShapes.{Nonzero, step-by-numbers, step-parts, uncapped-step, uncapped-within, capped-parts, within-nonzero, within-fit, uncut}
@@ -66,22 +65,8 @@ step-answer line text numbers id lits hints (Err TooLarge) e n p a =
 step-answer line text numbers id lits hints (Err NoMemory) e n p a = tt
 
 -- the bytes of a step's text
-one_of : (a b c d : Bool) → b ≡ true → (a || b || c || d) ≡ true
-one_of true b c d e = refl
-one_of false b c d e = rw e refl
-
-below_ten : (n : ℕ) → n < 10 → nat_lt n 10 ≡ true
-below_ten n h = grind (arith, h)
-
-step_bytes : AreTextBytes is_step_byte
-step_bytes = record {
-  digit = λ c h. one_of (c == 115) (nat_lt (digit_value c) 10) (c == 45) (c == 32) (below_ten (digit_value c) h);
-  minus = refl;
-  space = refl;
-}
-
 text-fits : (line : List ℕ) (s : Step) → IsStepText line s → list_all is_step_byte line ≡ true
-text-fits line s t = line-fits is_step_byte step_bytes 115 line t.spellings (step_numbers s.id s.lits s.hints) refl t.words t.spelled
+text-fits line s t = line-fits is_step_byte (text_bytes 115) 115 line t.spellings (step_numbers s.id s.lits s.hints) refl t.words t.spelled
 
 -- a line is the text of one step
 text-unique : (line : List ℕ) (s q : Step) → IsStepText line s → IsStepText line q → s ≡ q

@@ -1,8 +1,13 @@
 -- What is answered of the first line of some bytes, where lines are the texts of steps or of goals.
-use Rattle.std.specs.Prelude.{ℕ, ◌+◌, ◌≡◌, ◌≢◌, Bool, true, false, List, ◌∷◌, ◌++◌, All, length, Result, Ok, Err, ⊤}
+use Rattle.std.specs.Prelude.{ℕ, ◌+◌, ◌==◌, ◌≡◌, ◌≢◌, nat_lt, Bool, true, false, ◌||◌, List, ◌∷◌, ◌++◌, All, length, Result, Ok, Err, ⊤}
 use Rattle.std.specs.List.{list_all}
+use Rattle.std.specs.Char.{digit_value}
 use Rattle.ps_log.specs.declared.line_error.LineError.{LineError}
 use Rattle.ps_log.specs.declared.line_error.LineError.TheVariants.{Truncated, BadByte, NotCanonical, TooLarge, NoMemory}
+
+-- a byte that a text with this letter may have: the letter, a digit, `-`, or a space
+abbrev pub is_text_byte : ℕ → ℕ → Bool
+is_text_byte letter b = b == letter || nat_lt (digit_value b) 10 || b == 45 || b == 32
 
 -- no byte is a line feed
 abbrev pub IsOneLine : List ℕ → Type 0

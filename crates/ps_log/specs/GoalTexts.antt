@@ -1,12 +1,11 @@
 -- Texts of goals, with numbers of any size, and what is answered of the first line of some bytes.
-use Rattle.std.specs.Prelude.{ℕ, ◌==◌, ◌≡◌, ◌≤◌, Bool, true, ◌||◌, List, [], ◌∷◌, All, Result, nat_lt}
-use Rattle.std.specs.Char.{digit_value}
+use Rattle.std.specs.Prelude.{ℕ, ◌≡◌, ◌≤◌, Bool, true, List, [], ◌∷◌, All, Result}
 use Rattle.ps_steps.specs.Constraints.{Constraint}
 use Rattle.ps_steps.specs.Weights.{weighted, are_rising}
 use Rattle.ps_log.specs.Texts.{goal_numbers, goal_line}
 use Rattle.ps_log.specs.Limits.{IsGoalWithin}
 use Rattle.ps_log.specs.Spellings.{words_of, SpellAll}
-use Rattle.ps_log.specs.FirstLines.{StandsFirst, IsRefused, IsAnswer}
+use Rattle.ps_log.specs.FirstLines.{is_text_byte, StandsFirst, IsRefused, IsAnswer}
 use Rattle.ps_log.specs.declared.line_error.LineError.{LineError}
 
 -- a line is `g` and a spelling of each number of a goal, whose coefficients are at least 1 and whose variables rise
@@ -19,7 +18,7 @@ pub record IsGoalText (line : List ℕ) (g : Constraint) : Type 0 where
 
 -- a byte that a goal's text may have: `g`, a digit, `-`, or a space
 abbrev pub is_goal_byte : ℕ → Bool
-is_goal_byte b = b == 103 || nat_lt (digit_value b) 10 || b == 45 || b == 32
+is_goal_byte = is_text_byte 103
 
 -- the first line is that of this goal, which is within the limits, and has with its line feed this many bytes
 abbrev pub HasGoal : List ℕ → Constraint → ℕ → Type 0

@@ -1,11 +1,10 @@
 -- Texts of steps, with numbers of any size, and what is answered of the first line of some bytes.
-use Rattle.std.specs.Prelude.{ℕ, ◌==◌, ◌≡◌, ◌≤◌, Bool, ◌||◌, List, [], ◌∷◌, All, unsigned_abs, Result, nat_lt}
-use Rattle.std.specs.Char.{digit_value}
+use Rattle.std.specs.Prelude.{ℕ, ◌≡◌, ◌≤◌, Bool, List, [], ◌∷◌, All, unsigned_abs, Result}
 use Rattle.ps_steps.specs.Steps.{Step}
 use Rattle.ps_log.specs.Texts.{step_numbers, step_line}
 use Rattle.ps_log.specs.Limits.{IsStepWithin}
 use Rattle.ps_log.specs.Spellings.{words_of, SpellAll}
-use Rattle.ps_log.specs.FirstLines.{StandsFirst, IsRefused, IsAnswer}
+use Rattle.ps_log.specs.FirstLines.{is_text_byte, StandsFirst, IsRefused, IsAnswer}
 use Rattle.ps_log.specs.declared.line_error.LineError.{LineError}
 
 -- a line is `s` and a spelling of each number of a step, whose numbers may have any size
@@ -17,7 +16,7 @@ pub record IsStepText (line : List ℕ) (s : Step) : Type 0 where
 
 -- a byte that a step's text may have: `s`, a digit, `-`, or a space
 abbrev pub is_step_byte : ℕ → Bool
-is_step_byte b = b == 115 || nat_lt (digit_value b) 10 || b == 45 || b == 32
+is_step_byte = is_text_byte 115
 
 -- the first line is that of this step, which is within the limits, and has with its line feed this many bytes
 abbrev pub HasStep : List ℕ → Step → ℕ → Type 0

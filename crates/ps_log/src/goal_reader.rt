@@ -1,14 +1,14 @@
 //! Goals that are read.
-ghost use Rattle.std.specs.Prelude.{◌≡◌, ◌∷◌, ℕ, List as Bytes, Ok, Err, IfSome, IfNone};
-ghost use Rattle.std.specs.List.{list_all};
+ghost use Rattle.std.specs.Prelude.{ℕ, Ok, Err};
 ghost use Rattle.ps_steps.specs.Constraints.{Constraint as Linear};
 ghost use Rattle.ps_log.specs.declared.line_error.LineError.{LineError as Refusal};
 ghost use Rattle.ps_log.specs.Limits.{IsGoalWithin};
 ghost use Rattle.ps_log.specs.FirstLines.{Gives, IsLineAnswer};
-ghost use Rattle.ps_log.specs.GoalTexts.{is_goal_byte, IsGoalText};
+ghost use Rattle.ps_log.specs.GoalTexts.{IsGoalText};
 ghost use Rattle.ps_log.specs.GoalTexts.{HasGoal, IsGoalAnswer, IsGoalRefused};
 
 use crate::goal_parts::GoalParts;
+use crate::lettered::{after_letter, are_text_bytes};
 use crate::line_error::LineError;
 use crate::rising::variables_rise;
 use crate::words::{first_line, numbers};
@@ -26,7 +26,7 @@ pub fn read_goal(alloc: Global, bytes: &[u8]) -> Result<(Constraint, u64), LineE
         Some(line) => line,
         None => return Err(LineError::Truncated),
     };
-    if !are_goal_bytes(line) {
+    if !are_text_bytes(line, b'g') {
         return Err(LineError::BadByte);
     }
     match goal_of(alloc, line) {
@@ -35,22 +35,10 @@ pub fn read_goal(alloc: Global, bytes: &[u8]) -> Result<(Constraint, u64), LineE
     }
 }
 
-fn are_goal_bytes(line: &[u8]) -> bool
-    ensures { result ≡ list_all is_goal_byte line.now }
-{
-    line.iter().all(|b| is_goal_byte(*b))
-}
-
-fn is_goal_byte(b: u8) -> bool
-    ensures { result ≡ is_goal_byte b }
-{
-    b == b'g' || b.is_ascii_digit() || b == b'-' || b == b' '
-}
-
 fn goal_of(alloc: Global, line: &[u8]) -> Result<Constraint, LineError>
     ensures { IsLineAnswer IsGoalText IsGoalWithin line.now result }
 {
-    let text = match text_of(line) {
+    let text = match after_letter(line, b'g') {
         Some(text) => text,
         None => return Err(LineError::NotCanonical),
     };
@@ -66,15 +54,4 @@ fn goal_of(alloc: Global, line: &[u8]) -> Result<Constraint, LineError>
         return Err(LineError::NotCanonical);
     }
     parts.goal(alloc)
-}
-
-// What follows `g` and a space.
-fn text_of(line: &[u8]) -> Option<&[u8]>
-    ensures found { IfSome result (λ text. line.now ≡ 103 ∷ 32 ∷ text.now) }
-    ensures none { IfNone result ((text : Bytes ℕ) → line.now ≡ 103 ∷ 32 ∷ text → ⊥) }
-{
-    match line {
-        [b'g', b' ', text @ ..] => Some(text),
-        _ => None,
-    }
 }

@@ -6,6 +6,7 @@ mod goal_parts;
 mod goal_reader;
 mod held;
 mod laws;
+mod lettered;
 mod limits;
 mod line_error;
 mod numbers;

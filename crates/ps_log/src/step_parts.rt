@@ -1,5 +1,6 @@
 //! The parts of a step among its numbers.
-ghost use Rattle.std.specs.Prelude.{◌≡◌, ◌≤◌, ◌≤ℤ◌, ◌↔◌, ◌++◌, ◌∷◌, [], All, IsTrue, IfSome, IfNone, IsSome, ℤ, List as Numbers, pos, unsigned_abs};
+ghost use Rattle.std.specs.Prelude.{◌≡◌, ◌≤◌, ◌≤ℤ◌, ◌↔◌, ◌++◌, ◌∷◌, [], ℤ, List as Numbers, pos};
+ghost use Rattle.std.specs.Prelude.{All, IsTrue, IfSome, IfNone, IsSome, unsigned_abs};
 ghost use Rattle.ps_pb.specs.Limits.{IsLiteral};
 ghost use Rattle.ps_log.specs.Numbers.{LacksCount, IsCutAtZero, AreCountsAndZero, LacksCounts};
 ghost use Rattle.ps_log.specs.Numbers.{AreParts, HasParts, AreLits, AreHints, IsIdOf, IsStepOf};

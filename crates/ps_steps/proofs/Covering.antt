@@ -1,5 +1,5 @@
 -- Constraints under two assignments, where what is false in the one is false in the other.
-use Rattle.std.proofs.Common.{◌≡◌, ◌≢◌, ℕ, ◌+◌, ◌<◌, ◌≤◌, ℤ, pos, ◌+ℤ◌, ◌≤ℤ◌, ◌<ℤ◌, Bool, true, false, cond, not, Option, Some, None, List, [], ◌∷◌, length, arith, refl, ap, ◌∙◌, subst, ◌⊎◌, inl, inr}
+use Rattle.std.proofs.Common.{◌≡◌, ◌≢◌, ℕ, ◌+◌, ◌<◌, ◌≤◌, ℤ, pos, ◌+ℤ◌, ◌≤ℤ◌, ◌<ℤ◌, Bool, true, false, not, Option, Some, None, List, [], ◌∷◌, length, arith, refl, ap, ◌∙◌, subst, ◌⊎◌, inl, inr}
 use Rattle.std.proofs.lemmas.Int.{ints}
 use Rattle.ps_steps.specs.Assignments.{Assignment, place, value_of, is_false, is_unset}
 use Rattle.ps_steps.specs.Constraints.{Constraint, Covers, sum_where, is_open, HasTerm, Forces, slack, is_violated, some_forced, with_forced}

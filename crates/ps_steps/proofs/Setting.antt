@@ -1,5 +1,5 @@
 -- What setting literals does, and what a constraint forces.
-use Rattle.std.proofs.Common.{◌≡◌, ◌≢◌, ℕ, zero, suc, ◌<◌, ◌≤◌, ℤ, pos, negsuc, neg_ℤ, ◌<ℤ◌, Bool, true, false, not, Option, Some, None, List, [], ◌∷◌, length, get_or, get_or-set_same, get_or-set_other, length-set, arith, refl, sym, ap, ◌∙◌, inl, inr}
+use Rattle.std.proofs.Common.{◌≡◌, ◌≢◌, ℕ, zero, suc, ◌<◌, ◌≤◌, ℤ, pos, negsuc, neg_ℤ, ◌<ℤ◌, Bool, true, not, Option, Some, None, List, [], ◌∷◌, length, get_or, get_or-set_same, get_or-set_other, length-set, arith, refl, sym, ap, ◌∙◌, inl, inr}
 use Rattle.std.specs.Prelude.{int_lt, unsigned_abs, nat_lt}
 use Rattle.std.proofs.lemmas.Int.{ints}
 use Rattle.std.proofs.lemmas.Bool.{cases_Bool, and_parts, and_from, ltb-true}

@@ -1,5 +1,5 @@
 -- How many literals and hints a lawful step has: each literal but the last hint sets a variable that had no value.
-use Rattle.std.proofs.Common.{◌≡◌, ◌≢◌, ℕ, zero, suc, ◌+◌, ◌<◌, ◌≤◌, ℤ, pos, Bool, true, false, cond, not, ◌&&◌, Option, Some, None, List, [], ◌∷◌, length, get_or, set, length-set, get_or-set_same, get_or-set_other, arith, refl, sym, ap, ◌∙◌, inl, inr}
+use Rattle.std.proofs.Common.{◌≡◌, ◌≢◌, ℕ, zero, suc, ◌+◌, ◌<◌, ◌≤◌, ℤ, pos, Bool, true, not, ◌&&◌, Option, Some, None, List, [], ◌∷◌, length, get_or, set, length-set, get_or-set_same, get_or-set_other, arith, refl, sym, ap, ◌∙◌, inl, inr}
 use Rattle.std.specs.Prelude.{◌==◌, nat_lt, int_lt}
 use Rattle.std.specs.List.{All, AllPairs, fold}
 use Rattle.std.proofs.lemmas.List.Elements.{All-nil, All-cons}

@@ -1,8 +1,8 @@
-use Rattle.std.proofs.Common.{subst, true, false, sym, ◌∙◌}
+use Rattle.std.proofs.Common.{subst}
 use Rattle.ps_log.specs.Spellings.{words_of}
 use Rattle.ps_log.specs.Numbers.{AreRead}
 use Rattle.ps_log.specs.GoalNumbers.{AreGoalParts, HasGoalParts, TellsRising}
-use Rattle.ps_log.proofs.GoalAnswers.{no-start, no-numbers, no-parts, not-rising, goal-answer}
+use Rattle.ps_log.proofs.GoalAnswers.{no-start, no-parts, not-rising, goal-answer}
 use Rattle.ps_log.proofs.goal_reader.goal_of.Goals as goal
 
 pub returns-in-None : goal.returns-in-None

@@ -1,6 +1,6 @@
-use Rattle.std.proofs.Common.{option_copied, subst, true, false}
+use Rattle.std.proofs.Common.{option_copied, subst}
 use Rattle.ps_log.specs.GoalNumbers.{TellsLess}
-use Rattle.ps_log.proofs.Comparing.{RisesSoFar, rises-none, rises-more, rises-not, rises-last, rises-all}
+use Rattle.ps_log.proofs.Comparing.{RisesSoFar, rises-more, rises-last, rises-all}
 use Rattle.ps_log.proofs.rising.variables_rise.Goals as goal
 
 pub loop-rest-preserved : goal.loop-rest-preserved

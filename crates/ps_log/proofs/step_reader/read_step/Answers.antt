@@ -10,11 +10,11 @@ returns-in-None-clause-taken c = λ s n. value-given step_texts c.args.bytes.now
 pub returns-in-None-clause-refused : goal.returns-in-None-clause-refused
 returns-in-None-clause-refused c = λ why. refusal-given step_texts c.args.bytes.now (Err Truncated) why c.in-None.ensures.none
 
-pub returns-then-not-are_step_bytes-clause-taken : goal.returns-then-not-are_step_bytes-clause-taken
-returns-then-not-are_step_bytes-clause-taken c = λ s n. value-given step_texts c.args.bytes.now (Err BadByte) s n (bad-line step_texts c.args.bytes.now c.in-Some.line.now c.are_step_bytes.result c.in-Some.ensures.found c.are_step_bytes.ensures c.if-not-are_step_bytes.true)
+pub returns-then-not-are_text_bytes-clause-taken : goal.returns-then-not-are_text_bytes-clause-taken
+returns-then-not-are_text_bytes-clause-taken c = λ s n. value-given step_texts c.args.bytes.now (Err BadByte) s n (bad-line step_texts c.args.bytes.now c.in-Some.line.now c.are_text_bytes.result c.in-Some.ensures.found c.are_text_bytes.ensures c.if-not-are_text_bytes.true)
 
-pub returns-then-not-are_step_bytes-clause-refused : goal.returns-then-not-are_step_bytes-clause-refused
-returns-then-not-are_step_bytes-clause-refused c = λ why. refusal-given step_texts c.args.bytes.now (Err BadByte) why (bad-line step_texts c.args.bytes.now c.in-Some.line.now c.are_step_bytes.result c.in-Some.ensures.found c.are_step_bytes.ensures c.if-not-are_step_bytes.true)
+pub returns-then-not-are_text_bytes-clause-refused : goal.returns-then-not-are_text_bytes-clause-refused
+returns-then-not-are_text_bytes-clause-refused c = λ why. refusal-given step_texts c.args.bytes.now (Err BadByte) why (bad-line step_texts c.args.bytes.now c.in-Some.line.now c.are_text_bytes.result c.in-Some.ensures.found c.are_text_bytes.ensures c.if-not-are_text_bytes.true)
 
 pub returns-in-Ok-clause-answer : goal.returns-in-Ok-clause-answer
 returns-in-Ok-clause-answer c = line-answer step_texts c.args.bytes.now c.in-Some.line.now c.in-Ok.step (length c.in-Some.line.now + 1) c.in-Some.ensures.found c.in-Ok.ensures refl
@@ -32,9 +32,9 @@ returns-in-Ok-clause-refused c = λ why.
 pub returns-in-Err-clause-taken : goal.returns-in-Err-clause-taken
 returns-in-Err-clause-taken c = λ s n.
     value-given step_texts c.args.bytes.now (Err c.in-Err.why) s n
-    (line-refusal step_texts c.args.bytes.now c.in-Some.line.now c.in-Err.why c.in-Some.ensures.found (sym c.are_step_bytes.ensures ∙ c.if-not-are_step_bytes.false) c.in-Err.ensures)
+    (line-refusal step_texts c.args.bytes.now c.in-Some.line.now c.in-Err.why c.in-Some.ensures.found (sym c.are_text_bytes.ensures ∙ c.if-not-are_text_bytes.false) c.in-Err.ensures)
 
 pub returns-in-Err-clause-refused : goal.returns-in-Err-clause-refused
 returns-in-Err-clause-refused c = λ why.
     refusal-given step_texts c.args.bytes.now (Err c.in-Err.why) why
-    (line-refusal step_texts c.args.bytes.now c.in-Some.line.now c.in-Err.why c.in-Some.ensures.found (sym c.are_step_bytes.ensures ∙ c.if-not-are_step_bytes.false) c.in-Err.ensures)
+    (line-refusal step_texts c.args.bytes.now c.in-Some.line.now c.in-Err.why c.in-Some.ensures.found (sym c.are_text_bytes.ensures ∙ c.if-not-are_text_bytes.false) c.in-Err.ensures)

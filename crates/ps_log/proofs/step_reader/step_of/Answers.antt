@@ -1,6 +1,6 @@
 use Rattle.std.proofs.Common.{subst}
 use Rattle.ps_log.specs.Numbers.{AreRead, AreParts, HasParts}
-use Rattle.ps_log.proofs.StepAnswers.{no-start, no-numbers, no-parts, step-answer}
+use Rattle.ps_log.proofs.StepAnswers.{no-start, no-parts, step-answer}
 use Rattle.ps_log.proofs.step_reader.step_of.Goals as goal
 
 pub returns-in-None : goal.returns-in-None

@@ -1,0 +1,28 @@
+//! Lines that begin with a letter.
+ghost use Rattle.std.specs.Prelude.{◌≡◌, ◌∷◌, ℕ, List as Bytes, IfSome, IfNone};
+ghost use Rattle.std.specs.List.{list_all};
+ghost use Rattle.ps_log.specs.FirstLines.{is_text_byte};
+
+/// Whether a text with this letter may have each of the bytes.
+pub(crate) fn are_text_bytes(line: &[u8], letter: u8) -> bool
+    ensures { result ≡ list_all (is_text_byte letter) line.now }
+{
+    line.iter().all(|b| is_text_byte(*b, letter))
+}
+
+fn is_text_byte(b: u8, letter: u8) -> bool
+    ensures { result ≡ is_text_byte letter b }
+{
+    b == letter || b.is_ascii_digit() || b == b'-' || b == b' '
+}
+
+/// What follows the letter and a space.
+pub(crate) fn after_letter(line: &[u8], letter: u8) -> Option<&[u8]>
+    ensures found { IfSome result (λ text. line.now ≡ letter ∷ 32 ∷ text.now) }
+    ensures none { IfNone result ((text : Bytes ℕ) → line.now ≡ letter ∷ 32 ∷ text → ⊥) }
+{
+    match line {
+        [first, b' ', text @ ..] if *first == letter => Some(text),
+        _ => None,
+    }
+}
