@@ -6,7 +6,7 @@ use Rattle.std.proofs.lemmas.List.{take_all}
 use Rattle.std.proofs.lemmas.Option.{slice_get_read}
 use Rattle.ps_steps.specs.Assignments.{Assignment, place, without}
 use Rattle.ps_steps.specs.Constraints.{Constraint}
-use Rattle.ps_steps.specs.Steps.{Known, constraint_at}
+use Rattle.ps_steps.specs.Steps.{Known, known_of, constraint_at}
 use Rattle.ps_learning.specs.Trails.{TrailEntry, Trail, values, level, values_of, AreFresh, AreLevels, AreReasons}
 use Rattle.ps_learning.specs.Causes.{Marks, is_marked, AreCovered, IsCoveredAt, AreExplained, IsExplained}
 use Rattle.ps_learning.proofs.Entries.{values-cut, fresh-take, length-values}
@@ -54,21 +54,22 @@ going-len n known es first i j e before marks kept f g q at = g.len ∙ sym (len
 pub going-place : (n : ℕ) (known : Known) (es : List TrailEntry) (first : Marks) (i j : ℕ) (e : TrailEntry) (before : Assignment) (marks kept : Marks) → AreFresh n es → Going n known es first i before marks kept → j + 1 ≡ i → e ≡ get_or es j e → place e.lit < length kept
 going-place n known es first i j e before marks kept f g q at = rw g.kept_len (f.at j e (slice_get_read es (length es) j e refl (omega (arith, q, g.within)) at)).within
 
-pub going-next : (n : ℕ) (known : Known) (t : Trail) (first : Marks) (i j : ℕ) (e : TrailEntry) (before before' : Assignment) (marks kept marks' kept' : Marks) → IsSound n known t.entries → Going n known t.entries first i before marks kept → j + 1 ≡ i → e ≡ get_or t.entries j e → before' ≡ without before (unsigned_abs e.lit) → ExplainsAt known t j e before' marks kept marks' kept' → Going n known t.entries first j before' marks' kept'
-going-next n known t first i j e before before' marks kept marks' kept' sound g q at b xs =
+pub going-next : (cs : List Constraint) (t : Trail) (first : Marks) (i j : ℕ) (e : TrailEntry) (before before' : Assignment) (marks kept marks' kept' : Marks) → IsSound t.variables (known_of cs) t.entries → Going t.variables (known_of cs) t.entries first i before marks kept → j + 1 ≡ i → e ≡ get_or t.entries j e
+    → before' ≡ without before (unsigned_abs e.lit) → ExplainsAt cs t j e marks kept marks' kept' → Going t.variables (known_of cs) t.entries first j before' marks' kept'
+going-next cs t first i j e before before' marks kept marks' kept' sound g q at b xs =
+    let n = t.variables in
     let es = t.entries in
     let x = xs.done in
     let s : i ≡ suc j = omega (arith, q) in
-    let v : before' ≡ values_of n (take j es) = b ∙ going-back n known es first i j e before marks kept sound.fresh g q at in
     let there = slice_get_read es (length es) j e refl (omega (arith, q, g.within)) at in
     record {
-      values = v;
-      explained = explained-next n known es marks marks' kept kept' j e sound.fresh (rw s at g.explained) there x.grows (subst (λ a. AreSetIn a marks' marks) v x.set) x.keeps (λ m. subst (λ a. (is_marked kept' e.lit ≡ true) ⊎ IsExplained known a marks' e) v (x.own m));
+      values = b ∙ going-back n (known_of cs) es first i j e before marks kept sound.fresh g q at;
+      explained = explained-next n (known_of cs) es marks marks' kept kept' j e sound.fresh (rw s at g.explained) there x.grows x.set x.keeps x.own;
       grows = grows-trans marks' marks first x.grows g.grows;
       len = x.len ∙ g.len;
       kept_len = x.kept_len ∙ g.kept_len;
       within = omega (arith, q, g.within);
-      keeping = keeping-next n known es marks kept marks' kept' j e xs.asked sound there (rw s at g.keeping) xs.test x.grows (subst (λ a. AreSetIn a marks' marks) v x.set) x.kept_is;
+      keeping = keeping-next n (known_of cs) es marks kept marks' kept' j e xs.asked sound there (rw s at g.keeping) xs.test x.grows x.set x.kept_is;
     }
 
 -- the facts of a trail
@@ -81,8 +82,8 @@ going-start known t es i before marks kept v l k r e un =
     going-first t.variables known t.entries i before marks kept v (l ∙ n) (k ∙ n) (e ∙ ap length r) un
 
 -- the marked entry is kept
-pub kept_explains : (known : Known) (e : TrailEntry) (b : Bool) (before : Assignment) (marks kept kept' : Marks) → kept' ≡ slice_set kept (place e.lit) true → place e.lit < length kept → is_marked marks e.lit ≡ true → (b ≡ false) ⊎ HasNoReason known e → Explains known e b before marks kept marks kept'
-kept_explains known e b before marks kept kept' q p m why = rw q (record {
+pub kept_explains : (cs : List Constraint) (e : TrailEntry) (b : Bool) (before : Assignment) (marks kept kept' : Marks) → kept' ≡ slice_set kept (place e.lit) true → place e.lit < length kept → is_marked marks e.lit ≡ true → (b ≡ false) ⊎ HasNoReason (known_of cs) e → Explains cs e b before marks kept marks kept'
+kept_explains cs e b before marks kept kept' q p m why = rw q (record {
   grows = grows-refl marks;
   set = record { at = λ l m. inl m };
   keeps = grows-set kept e.lit;
@@ -93,8 +94,8 @@ kept_explains known e b before marks kept kept' q p m why = rw q (record {
 })
 
 -- an entry that isn't marked
-pub unmarked_explains : (known : Known) (t : Trail) (i : ℕ) (e : TrailEntry) (before : Assignment) (marks kept : Marks) (b : Bool) → b ≡ is_marked marks e.lit → b ≡ false → ExplainsAt known t i e before marks kept marks kept
-unmarked_explains known t i e before marks kept b q f = record {
+pub unmarked_explains : (cs : List Constraint) (t : Trail) (i : ℕ) (e : TrailEntry) (marks kept : Marks) (b : Bool) → b ≡ is_marked marks e.lit → b ≡ false → ExplainsAt cs t i e marks kept marks kept
+unmarked_explains cs t i e marks kept b q f = record {
   asked = false;
   test = λ m. absurd (cc (q, f, m));
   done = record {
@@ -109,31 +110,35 @@ unmarked_explains known t i e before marks kept b q f = record {
 }
 
 -- an entry that is kept, since it isn't to be explained
-pub kept_explains_at : (known : Known) (t : Trail) (i : ℕ) (e : TrailEntry) (before : Assignment) (marks kept kept' : Marks) (m b : Bool) → m ≡ is_marked marks e.lit → m ≡ true → IsToExplain (level t) t.entries marks i e b → b ≡ false → kept' ≡ slice_set kept (place e.lit) true → place e.lit < length kept → ExplainsAt known t i e before marks kept marks kept'
-kept_explains_at known t i e before marks kept kept' m b q y to f is p = record {
+pub kept_explains_at : (cs : List Constraint) (t : Trail) (i : ℕ) (e : TrailEntry) (marks kept kept' : Marks) (m b : Bool) → m ≡ is_marked marks e.lit → m ≡ true → IsToExplain (level t) t.entries marks i e b → b ≡ false → kept' ≡ slice_set kept (place e.lit) true → place e.lit < length kept → ExplainsAt cs t i e marks kept marks kept'
+kept_explains_at cs t i e marks kept kept' m b q y to f is p = record {
   asked = b;
   test = λ _. to;
-  done = kept_explains known e b before marks kept kept' is p (sym q ∙ y) (inl f);
+  done = kept_explains cs e b (values_of t.variables (take i t.entries)) marks kept kept' is p (sym q ∙ y) (inl f);
 }
 
 -- an entry that is explained where it has a reason
-pub asked_explains_at : (known : Known) (t : Trail) (i : ℕ) (e : TrailEntry) (before : Assignment) (marks kept marks' kept' : Marks) (b : Bool) → IsToExplain (level t) t.entries marks i e b → b ≡ true → Explains known e true before marks kept marks' kept' → ExplainsAt known t i e before marks kept marks' kept'
-asked_explains_at known t i e before marks kept marks' kept' b to y x = record { asked = true; test = λ _. subst (λ c. IsToExplain (level t) t.entries marks i e c) y to; done = x }
+pub asked_explains_at : (cs : List Constraint) (t : Trail) (i : ℕ) (e : TrailEntry) (before : Assignment) (marks kept marks' kept' : Marks) (b : Bool) → before ≡ values_of t.variables (take i t.entries) → IsToExplain (level t) t.entries marks i e b → b ≡ true → Explains cs e true before marks kept marks' kept' → ExplainsAt cs t i e marks kept marks' kept'
+asked_explains_at cs t i e before marks kept marks' kept' b v to y x = record {
+  asked = true;
+  test = λ _. subst (λ c. IsToExplain (level t) t.entries marks i e c) y to;
+  done = subst (λ a. Explains cs e true a marks kept marks' kept') v x;
+}
 
 no_id : (known : Known) (e : TrailEntry) → e.reason ≡ None → HasNoReason known e
 no_id known e n id q = absurd (cc (n, q))
 
 -- a decided entry is kept
-pub decided_explains : (known : Known) (e : TrailEntry) (before : Assignment) (marks kept kept' : Marks) → kept' ≡ slice_set kept (place e.lit) true → place e.lit < length kept → is_marked marks e.lit ≡ true → e.reason ≡ None → Explains known e true before marks kept marks kept'
-decided_explains known e before marks kept kept' q p m n = kept_explains known e true before marks kept kept' q p m (inr (no_id known e n))
+pub decided_explains : (cs : List Constraint) (e : TrailEntry) (before : Assignment) (marks kept kept' : Marks) → kept' ≡ slice_set kept (place e.lit) true → place e.lit < length kept → is_marked marks e.lit ≡ true → e.reason ≡ None → Explains cs e true before marks kept marks kept'
+decided_explains cs e before marks kept kept' q p m n = kept_explains cs e true before marks kept kept' q p m (inr (no_id (known_of cs) e n))
 
 -- and one whose reason isn't known
-pub unknown_explains : (known : Known) (e : TrailEntry) (before : Assignment) (marks kept kept' : Marks) (id : ℕ) → kept' ≡ slice_set kept (place e.lit) true → place e.lit < length kept → is_marked marks e.lit ≡ true → e.reason ≡ Some id → constraint_at known id ≡ None → Explains known e true before marks kept marks kept'
-unknown_explains known e before marks kept kept' id q p m r n = kept_explains known e true before marks kept kept' q p m (inr (λ j s. (let z : Some j ≡ Some id = sym s ∙ r in let y : j ≡ id = cc z in rw y n)))
+pub unknown_explains : (cs : List Constraint) (e : TrailEntry) (before : Assignment) (marks kept kept' : Marks) (id : ℕ) → kept' ≡ slice_set kept (place e.lit) true → place e.lit < length kept → is_marked marks e.lit ≡ true → e.reason ≡ Some id → constraint_at (known_of cs) id ≡ None → Explains cs e true before marks kept marks kept'
+unknown_explains cs e before marks kept kept' id q p m r n = kept_explains cs e true before marks kept kept' q p m (inr (λ j s. (let z : Some j ≡ Some id = sym s ∙ r in let y : j ≡ id = cc z in rw y n)))
 
 -- the entry's reason explains it
-pub reason_explains : (known : Known) (e : TrailEntry) (before : Assignment) (marks marks' kept : Marks) (id : ℕ) (c : Constraint) → e.reason ≡ Some id → constraint_at known id ≡ Some c → AreCovered c before marks' → Grows marks' marks → AreSetIn before marks' marks → length marks' ≡ length marks → is_marked marks e.lit ≡ true → Explains known e true before marks kept marks' kept
-reason_explains known e before marks marks' kept id c r k cov g s l m = record {
+pub reason_explains : (cs : List Constraint) (e : TrailEntry) (before : Assignment) (marks marks' kept : Marks) (id : ℕ) (c : Constraint) → e.reason ≡ Some id → constraint_at (known_of cs) id ≡ Some c → AreCovered c before marks' → Grows marks' marks → AreSetIn before marks' marks → length marks' ≡ length marks → is_marked marks e.lit ≡ true → Explains cs e true before marks kept marks' kept
+reason_explains cs e before marks marks' kept id c r k cov g s l m = record {
   grows = g;
   set = s;
   keeps = grows-refl kept;

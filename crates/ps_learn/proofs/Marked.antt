@@ -6,13 +6,23 @@ use Rattle.ps_steps.specs.Steps.{Known}
 use Rattle.ps_learning.specs.Trails.{Trail}
 use Rattle.ps_learning.specs.Causes.{Marks, HasMarkedCauses}
 use Rattle.ps_learning.specs.Starting.{AreKeptLits}
-use Rattle.ps_learn.specs.Marks.{IsCaused}
+use Rattle.ps_learn.specs.Marks.{IsCaused, IsReached}
 
 pub has_marked_causes : (known : Known) (t : Trail) (conflict : ℕ) (marks kept : Marks) (lits : List ℤ) (a : Assignment) → IsCaused known t conflict marks kept → AreKeptLits t kept lits a → HasMarkedCauses known t conflict lits marks
 has_marked_causes known t conflict marks kept lits a c k = record {
   conflict_is_marked = c.covered;
   explained = λ i e at m. elim (c.explained.at i e (omega arith) at m) [
     | inl own ↦ inl (k.listed i e (slice_get_within t.entries i e at) at own)
+    | inr by ↦ inr by
+  ];
+}
+
+-- and the conflict is reached from the literals of the clause, all of them false
+pub is_reached : (known : Known) (t : Trail) (conflict : ℕ) (marks kept : Marks) (lits : List ℤ) (a : Assignment) → IsCaused known t conflict marks kept → AreKeptLits t kept lits a → IsReached known t conflict marks a
+is_reached known t conflict marks kept lits a c k = record {
+  covered = c.covered;
+  explained = λ i e at m. elim (c.explained.at i e (omega arith) at m) [
+    | inl own ↦ inl (k.kept_true i e (slice_get_within t.entries i e at) at own)
     | inr by ↦ inr by
   ];
 }

@@ -1,5 +1,5 @@
 -- One step of each loop.
-use Rattle.std.proofs.Common.{◌≡◌, ◌≢◌, ℕ, zero, suc, ◌+◌, ◌<◌, ◌≤◌, ℤ, Bool, true, false, Option, Some, None, List, [], ◌∷◌, ◌++◌, length, length-append, take, get_or, length-set, arith, refl, sym, ap, ◌∙◌, subst, inl, inr}
+use Rattle.std.proofs.Common.{◌≡◌, ◌≢◌, ℕ, zero, suc, ◌+◌, ◌<◌, ◌≤◌, ℤ, Bool, true, false, Option, Some, None, List, [], ◌∷◌, ◌++◌, length, length-append, take, get_or, length-set, arith, refl, sym, ap, ◌∙◌, subst, ◌⊎◌, inl, inr}
 use Rattle.std.specs.Prelude.{slice_get, slice_set}
 use Rattle.std.specs.List.{All}
 use Rattle.std.proofs.lemmas.List.Elements.{All-push}
@@ -9,9 +9,9 @@ use Rattle.std.proofs.lemmas.List.{get_or_default, get_or_past}
 use Rattle.ps_steps.specs.Assignments.{Assignment, place, value_of, is_unset, all_unset}
 use Rattle.ps_steps.specs.Constraints.{Constraint, HasTerm, Forces, is_violated}
 use Rattle.ps_steps.specs.Weights.{Weighted, terms_of}
-use Rattle.ps_steps.specs.Steps.{Known, constraint_at, Open, Conflict, after_hints}
+use Rattle.ps_steps.specs.Steps.{Known, known_of, constraint_at, Open, Conflict, after_hints}
 use Rattle.ps_learning.specs.Trails.{TrailEntry, Trail, values_of, IsReason, AreFresh, AreLevels, AreReasons, IsConflict}
-use Rattle.ps_learning.specs.Causes.{Marks, is_marked, AreCovered, IsExplained, AreExplained}
+use Rattle.ps_learning.specs.Causes.{Marks, is_marked, AreCovered, IsExplained}
 use Rattle.ps_steps.proofs.Values.{signed-some}
 use Rattle.ps_steps.proofs.Setting.{rising-distinct, unset-same}
 use Rattle.ps_learning.specs.Starting.{Started}
@@ -21,7 +21,7 @@ use Rattle.ps_learning.specs.Keeping.{IsKeptOnce}
 use Rattle.ps_learning.proofs.Following.{Followed, followed-unmarked, followed-true, followed-violated, followed-forced, followed-idle, followed-end, known-id, IsKnownId}
 use Rattle.ps_learning.specs.Marking.{Grows, AreSetIn}
 use Rattle.ps_learning.proofs.Marking.{grows-refl, grows-trans, marked-set, grows-set, own-set}
-use Rattle.ps_learn.specs.Marks.{MarksCause, IsCaused}
+use Rattle.ps_learn.specs.Marks.{MarksCause, IsReached}
 use Rattle.ps_learn.specs.Drawing.{AddsIf, AddsKept, FollowsEntry, EndsInConflict}
 use Rattle.ps_learn.specs.declared.learning.Kept.{Kept}
 use Rattle.ps_pb.specs.declared.propagation.Effect.TheVariants as effect
@@ -134,24 +134,18 @@ pub drawn-next : (t : Trail) (es : List TrailEntry) (marks : Marks) (i : ℕ) (k
 drawn-next t es marks i k k' a a' e r f g o d h at adds = by_mark t marks i k k' a a' e (is_marked marks e.lit) refl f g o d (rw r at (slice_get_read es (length es) i e refl h at)) adds
 
 -- what the reasons are gone along with
-pub record Along (n : ℕ) (known : Known) (es : List TrailEntry) (marks kept : Marks) (start : Assignment) : Type 0 where
+pub record Along (n : ℕ) (known : Known) (es : List TrailEntry) (marks : Marks) (start : Assignment) : Type 0 where
   pub fresh : AreFresh n es
   pub reasons : AreReasons n known es
-  pub explained : AreExplained n known es marks kept 0
-  pub kept_true : (j : ℕ) (e : TrailEntry) → j < length es → slice_get es j ≡ Some e → is_marked kept e.lit ≡ true → value_of start e.lit ≡ Some true
+  pub explained : (i : ℕ) (e : TrailEntry) → slice_get es i ≡ Some e → is_marked marks e.lit ≡ true → (value_of start e.lit ≡ Some true) ⊎ IsExplained known (values_of n (take i es)) marks e
 
-pub along : (n : ℕ) (known : Known) (t : Trail) (conflict : ℕ) (marks kept : Marks) (start : Assignment) (lits : List ℤ) → n ≡ t.variables → AreFresh n t.entries → AreReasons n known t.entries → IsCaused known t conflict marks kept → Started n t.entries kept (length t.entries) lits start → Along n known t.entries marks kept start
-along n known t conflict marks kept start lits e f r c s = record {
-  fresh = f;
-  reasons = r;
-  explained = subst (λ m. AreExplained m known t.entries marks kept 0) (sym e) c.explained;
-  kept_true = s.kept_true;
-}
+pub along : (known : Known) (t : Trail) (conflict : ℕ) (marks : Marks) (start : Assignment) → AreFresh t.variables t.entries → AreReasons t.variables known t.entries → IsReached known t conflict marks start → Along t.variables known t.entries marks start
+along known t conflict marks start f r c = record { fresh = f; reasons = r; explained = c.explained }
 
 -- a marked entry that isn't true yet is explained
-pub open_explained : (n : ℕ) (known : Known) (es : List TrailEntry) (marks kept : Marks) (start : Assignment) (i : ℕ) (hints : List ℕ) (a : Assignment) (e : TrailEntry) → Along n known es marks kept start → Followed n known es marks start i hints a → i < length es → slice_get es i ≡ Some e → is_marked marks e.lit ≡ true → value_of a e.lit ≢ Some true → IsExplained known (values_of n (take i es)) marks e
-open_explained n known es marks kept start i hints a e al f h q m ne = elim (al.explained.at i e (omega arith) q m) [
-  | inl k ↦ absurd (ne (f.from.at e.lit true (al.kept_true i e h q k)))
+pub open_explained : (n : ℕ) (known : Known) (es : List TrailEntry) (marks : Marks) (start : Assignment) (i : ℕ) (hints : List ℕ) (a : Assignment) (e : TrailEntry) → Along n known es marks start → Followed n known es marks start i hints a → slice_get es i ≡ Some e → is_marked marks e.lit ≡ true → value_of a e.lit ≢ Some true → IsExplained known (values_of n (take i es)) marks e
+open_explained n known es marks start i hints a e al f q m ne = elim (al.explained i e q m) [
+  | inl k ↦ absurd (ne (f.from.at e.lit true k))
   | inr x ↦ x
 ]
 
@@ -170,43 +164,43 @@ explained_by known before marks e id c r k x =
     subst (λ y. AreCovered y before marks) same x.covered
 
 -- one entry more of the reasons
-pub followed-next : (n : ℕ) (known : Known) (es : List TrailEntry) (marks kept : Marks) (start : Assignment) (i : ℕ) (hints : List ℕ) (a : Assignment) (e : TrailEntry) (hints' : List ℕ) (a' : Assignment) (r : v.the_data) → Along n known es marks kept start → Followed n known es marks start i hints a → i < length es → e ≡ get_or es i e → FollowsEntry known e marks hints a hints' a' r → r ≢ v.Propagated effect.Violated → Followed n known es marks start (i + 1) hints' a'
-followed-next n known es marks kept start i hints a e hints' a' v.Unmarked al f h at fol ne =
+pub followed-next : (n : ℕ) (cs : List Constraint) (es : List TrailEntry) (marks : Marks) (start : Assignment) (i : ℕ) (hints : List ℕ) (a : Assignment) (e : TrailEntry) (hints' : List ℕ) (a' : Assignment) (r : v.the_data) → Along n (known_of cs) es marks start → Followed n (known_of cs) es marks start i hints a → i < length es → e ≡ get_or es i e → FollowsEntry cs e marks hints a hints' a' r → r ≢ v.Propagated effect.Violated → Followed n (known_of cs) es marks start (i + 1) hints' a'
+followed-next n cs es marks start i hints a e hints' a' v.Unmarked al f h at fol ne =
     let q = slice_get_read es (length es) i e refl h at in
-    subst (λ x. Followed n known es marks start (i + 1) x a') (sym fol.1) (subst (λ x. Followed n known es marks start (i + 1) hints x) (sym fol.2) (followed-unmarked n known es marks start i hints a e al.fresh f q fol.0))
-followed-next n known es marks kept start i hints a e hints' a' v.AlreadyTrue al f h at fol ne =
+    subst (λ x. Followed n (known_of cs) es marks start (i + 1) x a') (sym fol.1) (subst (λ x. Followed n (known_of cs) es marks start (i + 1) hints x) (sym fol.2) (followed-unmarked n (known_of cs) es marks start i hints a e al.fresh f q fol.0))
+followed-next n cs es marks start i hints a e hints' a' v.AlreadyTrue al f h at fol ne =
     let q = slice_get_read es (length es) i e refl h at in
-    subst (λ x. Followed n known es marks start (i + 1) x a') (sym fol.1) (subst (λ x. Followed n known es marks start (i + 1) hints x) (sym fol.2) (followed-true n known es marks start i hints a e al.fresh f q fol.0))
-followed-next n known es marks kept start i hints a e hints' a' v.Decided al f h at fol ne =
+    subst (λ x. Followed n (known_of cs) es marks start (i + 1) x a') (sym fol.1) (subst (λ x. Followed n (known_of cs) es marks start (i + 1) hints x) (sym fol.2) (followed-true n (known_of cs) es marks start i hints a e al.fresh f q fol.0))
+followed-next n cs es marks start i hints a e hints' a' v.Decided al f h at fol ne =
     let q = slice_get_read es (length es) i e refl h at in
-    let x = open_explained n known es marks kept start i hints a e al f h q fol.0 fol.1 in
+    let x = open_explained n (known_of cs) es marks start i hints a e al f q fol.0 fol.1 in
     absurd (cc (x.reason, fol.2))
-followed-next n known es marks kept start i hints a e hints' a' v.Unknown al f h at fol ne =
+followed-next n cs es marks start i hints a e hints' a' v.Unknown al f h at fol ne =
     let q = slice_get_read es (length es) i e refl h at in
     let u = fol.1 in
-    let s = subst (λ x. IsReason known (values_of n (take i es)) e.lit x) u.1 (al.reasons.at i e q) in
+    let s = subst (λ x. IsReason (known_of cs) (values_of n (take i es)) e.lit x) u.1 (al.reasons.at i e q) in
     absurd (cc (s.1, u.2))
-followed-next n known es marks kept start i hints a e hints' a' (v.Propagated effect.Violated) al f h at fol ne = absurd (ne refl)
-followed-next n known es marks kept start i hints a e hints' a' (v.Propagated effect.Forced) al f h at fol ne =
+followed-next n cs es marks start i hints a e hints' a' (v.Propagated effect.Violated) al f h at fol ne = absurd (ne refl)
+followed-next n cs es marks start i hints a e hints' a' (v.Propagated effect.Forced) al f h at fol ne =
     let q = slice_get_read es (length es) i e refl h at in
     let b = fol.1 in
     let before = values_of n (take i es) in
     let c = b.constraint in
-    let forces = reason_forces known before a marks e b.id c b.reason b.known_at (al.reasons.at i e q) in
-    let covered = explained_by known before marks e b.id c b.reason b.known_at (open_explained n known es marks kept start i hints a e al f h q fol.0 b.other) in
+    let forces = reason_forces (known_of cs) before a marks e b.id c b.reason b.known_at (al.reasons.at i e q) in
+    let covered = explained_by (known_of cs) before marks e b.id c b.reason b.known_at (open_explained n (known_of cs) es marks start i hints a e al f q fol.0 b.other) in
     let does = b.does in
-    subst (λ x. Followed n known es marks start (i + 1) x a') (sym b.hints_are)
-    (subst (λ x. Followed n known es marks start (i + 1) (hints ++ b.id ∷ []) x) (sym does.2)
-    (followed-forced n known es marks start i hints a e b.id c al.fresh f q b.known_at covered forces (rising-distinct 0 c.terms b.normal.rising) does.0 b.other))
-followed-next n known es marks kept start i hints a e hints' a' (v.Propagated effect.Idle) al f h at fol ne =
+    subst (λ x. Followed n (known_of cs) es marks start (i + 1) x a') (sym b.hints_are)
+    (subst (λ x. Followed n (known_of cs) es marks start (i + 1) (hints ++ b.id ∷ []) x) (sym does.2)
+    (followed-forced n (known_of cs) es marks start i hints a e b.id c al.fresh f q b.known_at covered forces (rising-distinct 0 c.terms b.normal.rising) does.0 b.other))
+followed-next n cs es marks start i hints a e hints' a' (v.Propagated effect.Idle) al f h at fol ne =
     let q = slice_get_read es (length es) i e refl h at in
     let b = fol.1 in
     let before = values_of n (take i es) in
     let c = b.constraint in
-    let forces = reason_forces known before a marks e b.id c b.reason b.known_at (al.reasons.at i e q) in
-    let covered = explained_by known before marks e b.id c b.reason b.known_at (open_explained n known es marks kept start i hints a e al f h q fol.0 b.other) in
+    let forces = reason_forces (known_of cs) before a marks e b.id c b.reason b.known_at (al.reasons.at i e q) in
+    let covered = explained_by (known_of cs) before marks e b.id c b.reason b.known_at (open_explained n (known_of cs) es marks start i hints a e al f q fol.0 b.other) in
     let does = b.does in
-    absurd (followed-idle n known es marks start i hints a e.lit c f covered forces does.0 b.other does.1)
+    absurd (followed-idle n (known_of cs) es marks start i hints a e.lit c f covered forces does.0 b.other does.1)
 
 ended : (known : Known) (start : Assignment) (most i : ℕ) (hints hints' : List ℕ) (id : ℕ) (c : Constraint) → hints' ≡ hints ++ id ∷ [] → after_hints known (Open start) (hints ++ id ∷ []) ≡ Conflict → length hints ≤ i → i ≤ most → All (IsKnownId known) hints → constraint_at known id ≡ Some c → EndsInConflict known start most hints'
 ended known start most i hints hints' id c e x few m ids k = rw e (record {
@@ -216,14 +210,14 @@ ended known start most i hints hints' id c e x few m ids k = rw e (record {
 })
 
 -- a reason that is violated ends the propagation
-pub followed-stop : (n : ℕ) (known : Known) (es : List TrailEntry) (marks : Marks) (start : Assignment) (i : ℕ) (hints : List ℕ) (a : Assignment) (e : TrailEntry) (hints' : List ℕ) (a' : Assignment) (r : v.the_data) → Followed n known es marks start i hints a → i ≤ length es → FollowsEntry known e marks hints a hints' a' r → r ≡ v.Propagated effect.Violated → EndsInConflict known start (length es) hints'
-followed-stop n known es marks start i hints a e hints' a' r f m fol is =
-    let b = (subst (λ x. FollowsEntry known e marks hints a hints' a' x) is fol).1 in
-    ended known start (length es) i hints hints' b.id b.constraint b.hints_are (followed-violated known start a hints b.id b.constraint f.going b.known_at b.does.0) f.few m f.ids b.known_at
+pub followed-stop : (n : ℕ) (cs : List Constraint) (es : List TrailEntry) (marks : Marks) (start : Assignment) (i : ℕ) (hints : List ℕ) (a : Assignment) (e : TrailEntry) (hints' : List ℕ) (a' : Assignment) (r : v.the_data) → Followed n (known_of cs) es marks start i hints a → i ≤ length es → FollowsEntry cs e marks hints a hints' a' r → r ≡ v.Propagated effect.Violated → EndsInConflict (known_of cs) start (length es) hints'
+followed-stop n cs es marks start i hints a e hints' a' r f m fol is =
+    let b = (subst (λ x. FollowsEntry cs e marks hints a hints' a' x) is fol).1 in
+    ended (known_of cs) start (length es) i hints hints' b.id b.constraint b.hints_are (followed-violated (known_of cs) start a hints b.id b.constraint f.going b.known_at b.does.0) f.few m f.ids b.known_at
 
 -- at the end the conflict ends the propagation
-pub followed-conflict : (n : ℕ) (known : Known) (t : Trail) (marks kept : Marks) (start : Assignment) (i : ℕ) (hints hints' : List ℕ) (a : Assignment) (id : ℕ) → n ≡ t.variables → IsCaused known t id marks kept → Followed n known t.entries marks start i hints a → length t.entries ≤ i → i ≤ length t.entries → IsConflict known (values_of t.variables t.entries) id → hints' ≡ hints ++ id ∷ [] → EndsInConflict known start (length t.entries) hints'
-followed-conflict n known t marks kept start i hints hints' a id e caused f h m x is =
-    let covered = caused.covered x.constraint x.known_at in
+pub followed-conflict : (n : ℕ) (known : Known) (t : Trail) (marks : Marks) (start : Assignment) (i : ℕ) (hints hints' : List ℕ) (a : Assignment) (id : ℕ) → n ≡ t.variables → IsReached known t id marks start → Followed n known t.entries marks start i hints a → length t.entries ≤ i → i ≤ length t.entries → IsConflict known (values_of t.variables t.entries) id → hints' ≡ hints ++ id ∷ [] → EndsInConflict known start (length t.entries) hints'
+followed-conflict n known t marks start i hints hints' a id e reached f h m x is =
+    let covered = reached.covered x.constraint x.known_at in
     ended known start (length t.entries) i hints hints' id x.constraint is
     (followed-end n known t.entries marks start i hints a id x.constraint f h x.known_at (subst (λ v. is_violated x.constraint (values_of v t.entries) ≡ true) (sym e) x.violated) (subst (λ v. AreCovered x.constraint (values_of v t.entries) marks) (sym e) covered)) f.few m f.ids x.known_at

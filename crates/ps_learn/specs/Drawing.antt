@@ -3,7 +3,7 @@ use Rattle.std.specs.Prelude.{ℕ, suc, ◌≡◌, ◌≢◌, ◌≤◌, ◌∷�
 use Rattle.ps_steps.specs.Assignments.{Assignment, value_of, with_false}
 use Rattle.ps_steps.specs.Constraints.{Constraint}
 use Rattle.ps_steps.specs.Weights.{weighted, IsNormal}
-use Rattle.ps_steps.specs.Steps.{Known, constraint_at, after_hints, Open, Conflict}
+use Rattle.ps_steps.specs.Steps.{Known, known_of, constraint_at, after_hints, Open, Conflict}
 use Rattle.ps_learning.specs.Trails.{TrailEntry}
 use Rattle.ps_learning.specs.Causes.{Marks, is_marked}
 use Rattle.ps_learning.specs.Known.{IsIdUpTo}
@@ -35,12 +35,12 @@ pub record FollowsBy (f : Effect) (known : Known) (e : TrailEntry) (hints : List
   pub does : Propagates constraint a a' f
 
 -- how an entry is followed: it isn't marked, is true already, or has no known reason; or its reason is gone along
-abbrev pub FollowsEntry : Known → TrailEntry → Marks → List ℕ → Assignment → List ℕ → Assignment → Followed → Type 0
-FollowsEntry known e marks hints a hints' a' Unmarked = (is_marked marks e.lit ≡ false) × (hints' ≡ hints) × (a' ≡ a)
-FollowsEntry known e marks hints a hints' a' AlreadyTrue = (value_of a e.lit ≡ Some true) × (hints' ≡ hints) × (a' ≡ a)
-FollowsEntry known e marks hints a hints' a' Decided = (is_marked marks e.lit ≡ true) × (value_of a e.lit ≢ Some true) × (e.reason ≡ None)
-FollowsEntry known e marks hints a hints' a' Unknown = (is_marked marks e.lit ≡ true) × ((id : ℕ) × (e.reason ≡ Some id) × (constraint_at known id ≡ None))
-FollowsEntry known e marks hints a hints' a' (Propagated f) = (is_marked marks e.lit ≡ true) × FollowsBy f known e hints a hints' a'
+abbrev pub FollowsEntry : List Constraint → TrailEntry → Marks → List ℕ → Assignment → List ℕ → Assignment → Followed → Type 0
+FollowsEntry cs e marks hints a hints' a' Unmarked = (is_marked marks e.lit ≡ false) × (hints' ≡ hints) × (a' ≡ a)
+FollowsEntry cs e marks hints a hints' a' AlreadyTrue = (value_of a e.lit ≡ Some true) × (hints' ≡ hints) × (a' ≡ a)
+FollowsEntry cs e marks hints a hints' a' Decided = (is_marked marks e.lit ≡ true) × (value_of a e.lit ≢ Some true) × (e.reason ≡ None)
+FollowsEntry cs e marks hints a hints' a' Unknown = (is_marked marks e.lit ≡ true) × ((id : ℕ) × (e.reason ≡ Some id) × (constraint_at (known_of cs) id ≡ None))
+FollowsEntry cs e marks hints a hints' a' (Propagated f) = (is_marked marks e.lit ≡ true) × FollowsBy f (known_of cs) e hints a hints' a'
 
 -- propagation along the hints ends in a conflict, and they are few
 pub record EndsInConflict (known : Known) (start : Assignment) (most : ℕ) (hints : List ℕ) : Type 0 where

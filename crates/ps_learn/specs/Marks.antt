@@ -1,8 +1,9 @@
 -- Marking causes.
-use Rattle.std.specs.Prelude.{ℕ, ◌≡◌, ℤ, Bool, true, false, Option, Some, None, length, slice_set, ◌⊎◌}
-use Rattle.ps_steps.specs.Assignments.{Assignment, place}
-use Rattle.ps_steps.specs.Steps.{Known}
-use Rattle.ps_learning.specs.Trails.{TrailEntry, Trail, values, level}
+use Rattle.std.specs.Prelude.{ℕ, ◌≡◌, ℤ, Bool, true, false, Option, Some, None, List, take, length, slice_get, slice_set, ◌⊎◌}
+use Rattle.ps_steps.specs.Assignments.{Assignment, place, value_of}
+use Rattle.ps_steps.specs.Constraints.{Constraint}
+use Rattle.ps_steps.specs.Steps.{Known, known_of}
+use Rattle.ps_learning.specs.Trails.{TrailEntry, Trail, values, values_of, level}
 use Rattle.ps_learning.specs.Causes.{Marks, is_marked, IsCoveredAt, IsExplained, AreExplained}
 use Rattle.ps_learning.specs.Marking.{Grows, AreSetIn}
 use Rattle.ps_learning.specs.Keeping.{IsKeptOnce, IsToExplain, IsKeptOrNot, SomeIsMarked, NoneIsMarked}
@@ -20,20 +21,20 @@ IsMarkedBefore t marks i true = SomeIsMarked (level t) t.entries marks i
 IsMarkedBefore t marks i false = NoneIsMarked (level t) t.entries marks i
 
 -- an entry that is marked is kept or explained; what was marked or kept stays so, and what is marked more was set
-pub record Explains (known : Known) (e : TrailEntry) (asked : Bool) (before : Assignment) (marks kept marks' kept' : Marks) : Type 0 where
+pub record Explains (cs : List Constraint) (e : TrailEntry) (asked : Bool) (before : Assignment) (marks kept marks' kept' : Marks) : Type 0 where
   pub grows : Grows marks' marks
   pub set : AreSetIn before marks' marks
   pub keeps : Grows kept' kept
   pub len : length marks' ≡ length marks
   pub kept_len : length kept' ≡ length kept
-  pub own : is_marked marks e.lit ≡ true → (is_marked kept' e.lit ≡ true) ⊎ IsExplained known before marks' e
-  pub kept_is : IsKeptOrNot known e asked marks kept marks' kept'
+  pub own : is_marked marks e.lit ≡ true → (is_marked kept' e.lit ≡ true) ⊎ IsExplained (known_of cs) before marks' e
+  pub kept_is : IsKeptOrNot (known_of cs) e asked marks kept marks' kept'
 
 -- an entry that is marked is kept or explained, and kept only where it isn't to be explained or has no known reason
-pub record ExplainsAt (known : Known) (t : Trail) (i : ℕ) (e : TrailEntry) (before : Assignment) (marks kept marks' kept' : Marks) : Type 0 where
+pub record ExplainsAt (cs : List Constraint) (t : Trail) (i : ℕ) (e : TrailEntry) (marks kept marks' kept' : Marks) : Type 0 where
   pub asked : Bool
   pub test : is_marked marks e.lit ≡ true → IsToExplain (level t) t.entries marks i e asked
-  pub done : Explains known e asked before marks kept marks' kept'
+  pub done : Explains cs e asked (values_of t.variables (take i t.entries)) marks kept marks' kept'
 
 -- each marked entry of the trail is kept or explained by marked ones
 abbrev pub IsTrailExplained : Known → Trail → Marks → Marks → Type 0
@@ -44,6 +45,12 @@ pub record IsCaused (known : Known) (t : Trail) (conflict : ℕ) (marks kept : M
   pub explained : IsTrailExplained known t marks kept
   pub covered : IsCoveredAt known conflict (values t) marks
   pub once : IsKeptOnce t kept
+
+-- a conflict is reached from the true literals along reasons: its false literals are marked, and each marked entry of the trail
+-- is true, or the false literals of its reason are marked
+pub record IsReached (known : Known) (t : Trail) (conflict : ℕ) (marks : Marks) (a : Assignment) : Type 0 where
+  pub covered : IsCoveredAt known conflict (values t) marks
+  pub explained : (i : ℕ) (e : TrailEntry) → slice_get t.entries i ≡ Some e → is_marked marks e.lit ≡ true → (value_of a e.lit ≡ Some true) ⊎ IsExplained known (values_of t.variables (take i t.entries)) marks e
 
 -- these are the causes of a conflict
 abbrev pub AreCauses : Known → Trail → ℕ → Causes → Type 0

@@ -1,8 +1,8 @@
 //! The causes of a conflict, back over the trail.
-ghost use Rattle.std.specs.Prelude.{◌≡◌, ◌<◌, ℤ, true, false, length, IfOk};
+ghost use Rattle.std.specs.Prelude.{◌≡◌, ◌<◌, ℤ, true, false, take, length, IfOk};
 ghost use Rattle.ps_steps.specs.Assignments.{place};
 ghost use Rattle.ps_steps.specs.Steps.{known_of};
-ghost use Rattle.ps_learning.specs.Trails.{values, level, IsConflict, AreReasons};
+ghost use Rattle.ps_learning.specs.Trails.{values, values_of, level, IsConflict, AreReasons};
 ghost use Rattle.ps_learning.specs.Causes.{is_marked, IsCoveredAt};
 ghost use Rattle.ps_learning.specs.Marking.{Grows};
 ghost use Rattle.ps_learning.specs.Keeping.{IsKeptOnce, IsToExplain};
@@ -153,10 +153,10 @@ fn explain(
     kept: &mut [bool],
 )
     requires within { i < length trail.now.entries }
+    requires values { before.now ≡ values_of trail.now.variables (take i trail.now.entries) }
     requires len { length marks.old ≡ length before.now }
     requires kept_len { place entry.now.lit < length kept.old }
-    ensures { ExplainsAt (known_of known.now) trail.now i entry.now before.now
-        marks.old kept.old marks.new kept.new }
+    ensures { ExplainsAt known.now trail.now i entry.now marks.old kept.old marks.new kept.new }
 {
     if !is_marked(marks, entry.lit) {
         return;
@@ -179,8 +179,7 @@ fn explain_by_reason(
     requires len { length marks.old ≡ length before.now }
     requires kept_len { place entry.now.lit < length kept.old }
     requires marked { is_marked marks.old entry.now.lit ≡ true }
-    ensures { Explains (known_of known.now) entry.now true before.now
-        marks.old kept.old marks.new kept.new }
+    ensures { Explains known.now entry.now true before.now marks.old kept.old marks.new kept.new }
 {
     match entry.reason {
         None => mark(kept, entry.lit),

@@ -1,14 +1,14 @@
 //! Learning a clause from a conflict.
-ghost use Rattle.std.specs.Prelude.{◌≡◌, ◌≤◌, ◌+◌, ℤ, List, length, IfOk, All};
+ghost use Rattle.std.specs.Prelude.{◌≡◌, ◌≤◌, ◌+◌, length, IfOk, All};
 ghost use Rattle.ps_steps.specs.Assignments.{all_unset};
 ghost use Rattle.ps_steps.specs.Steps.{IsLawful, known_of, lits_of, hints_of};
 ghost use Rattle.ps_learning.specs.Known.{most_known, IsIdUpTo};
 ghost use Rattle.ps_learning.specs.Trails.{values, level, IsLit, AreReasons, IsConflict};
 ghost use Rattle.ps_learning.specs.Levels.{IsAsserting};
-ghost use Rattle.ps_learning.specs.Causes.{HasMarkedCauses};
 ghost use Rattle.ps_learning.specs.Keeping.{IsKeptOnce};
 ghost use Rattle.ps_learning.specs.Starting.{AreKeptLits};
-ghost use Rattle.ps_learn.specs.Marks.{IsCaused};
+ghost use Rattle.ps_learn.specs.Learning.{MarksCauses};
+ghost use Rattle.ps_learn.specs.Marks.{IsReached};
 ghost use Rattle.ps_learn.specs.Falsity.{AreFalseIn};
 ghost use Rattle.ps_learn.specs.Drawing.{AddsKept, FollowsEntry, EndsInConflict};
 
@@ -51,23 +51,14 @@ pub fn learn(
     ensures hints { IfOk result (λ x. All (IsIdUpTo (length known.now)) (hints_of x.step)) }
     ensures few_hints { IfOk result (λ x. length (hints_of x.step) ≤ trail.now.variables + 1) }
     ensures level { IfOk result (λ x. x.level ≤ level trail.now) }
-    ensures marks { IfOk result (λ x. HasMarkedCauses (known_of known.now) trail.now conflict
-        (lits_of x.step) x.marks.items) }
+    ensures marks { IfOk result (MarksCauses (known_of known.now) trail.now conflict) }
 {
     // Read for its clauses: each literal of a trail is of a variable of its own.
     let _entries = trail.entries();
     let causes = explain_conflict(alloc, known, trail, conflict)?;
     let mut a = Assignment::new(alloc, trail.variables())?;
     let kept = kept_lits(alloc, trail, &causes.kept, &mut a)?;
-    let hints = hints(
-        alloc,
-        known,
-        trail,
-        &causes.marks,
-        &causes.kept,
-        &mut a,
-        conflict,
-    )?;
+    let hints = hints(alloc, known, trail, &causes.marks, &mut a, conflict)?;
     let step = Step {
         id: known.len() as u64 + 1,
         lits: kept.lits,
@@ -148,8 +139,7 @@ fn follow(
     hints: &mut Hints,
     a: &mut Assignment,
 ) -> Result<Followed, NoMemory>
-    ensures { IfOk result
-        (FollowsEntry (known_of known.now) entry.now marks.now hints.old a.old hints.new a.new) }
+    ensures { IfOk result (FollowsEntry known.now entry.now marks.now hints.old a.old hints.new a.new) }
 {
     if !is_marked(marks, entry.lit) {
         return Ok(Followed::Unmarked);
@@ -177,14 +167,13 @@ fn hints(
     known: &List<Constraint>,
     trail: &Trail,
     marks: &[bool],
-    kept: &[bool],
     a: &mut Assignment,
     conflict: u64,
 ) -> Result<Hints, NoMemory>
     requires reasons { AreReasons trail.now.variables (known_of known.now) trail.now.entries }
     requires conflict { IsConflict (known_of known.now) (values trail.now) conflict }
-    requires caused { IsCaused (known_of known.now) trail.now conflict marks.now kept.now }
-    requires started { (lits : List ℤ) × AreKeptLits trail.now kept.now lits a.old }
+    requires reached { IsReached (known_of known.now) trail.now conflict marks.now a.old }
+    requires len { length a.old ≡ trail.now.variables }
     ensures { IfOk result (EndsInConflict (known_of known.now) a.old (length trail.now.entries)) }
 {
     let mut hints = List::new(alloc);

@@ -1,7 +1,7 @@
 use Rattle.std.proofs.Common.{◌-◌, ◌∙◌, ap, sym, refl, length, unsigned_abs, arith, get_or, List}
 use Rattle.ps_steps.specs.Assignments.{without}
 use Rattle.ps_learning.specs.Trails.{TrailEntry}
-use Rattle.ps_learn.proofs.Going.{going-start, going-end, going-len, going-place, going-next, sound}
+use Rattle.ps_learn.proofs.Going.{going-start, going-end, going-back, going-len, going-place, going-next, sound}
 use Rattle.ps_learning.proofs.Keeping.{keeping-end}
 use Rattle.ps_learn.proofs.explaining.explain_all.Goals as goal
 
@@ -14,6 +14,12 @@ explain-requires-clause-len c =
     (c.index-entries-i.is ∙ ap (λ (es : List TrailEntry). get_or es (c.back.i - 1) c.index-entries-i.result) c.entries-entries.ensures.entries)
     ∙ ap length (sym (c.unset.ensures ∙ ap (without c.back.before) (c.variable.ensures.value ∙ ap (λ (x : TrailEntry). unsigned_abs x.lit) c.entry.view_is)))
 
+pub explain-requires-clause-values : goal.explain-requires-clause-values
+explain-requires-clause-values c =
+    c.unset.ensures ∙ ap (without c.back.before) (c.variable.ensures.value ∙ ap (λ (x : TrailEntry). unsigned_abs x.lit) c.entry.view_is)
+    ∙ going-back _ _ c.args.trail.now.entries _ c.back.i (c.back.i - 1) c.index-entries-i.result _ _ _ c.entries-entries.ensures.fresh c.back.invariant (omega (arith, c.back-test.true))
+    (c.index-entries-i.is ∙ ap (λ (es : List TrailEntry). get_or es (c.back.i - 1) c.index-entries-i.result) c.entries-entries.ensures.entries)
+
 pub explain-requires-clause-kept_len : goal.explain-requires-clause-kept_len
 explain-requires-clause-kept_len c =
     going-place _ _ c.args.trail.now.entries _ c.back.i (c.back.i - 1) c.index-entries-i.result _ _ _ c.entries-entries.ensures.fresh c.back.invariant (omega (arith, c.back-test.true))
@@ -21,7 +27,7 @@ explain-requires-clause-kept_len c =
 
 pub back-preserved : goal.back-preserved
 back-preserved c =
-    going-next _ _ c.args.trail.now _ c.back.i (c.back.i - 1) c.index-entries-i.result _ _ _ _ _ _ (sound _ c.args.trail.now c.entries-entries.ensures.fresh c.entries-entries.ensures.levels c.requires.reasons) c.back.invariant (omega (arith, c.back-test.true))
+    going-next _ c.args.trail.now _ c.back.i (c.back.i - 1) c.index-entries-i.result _ _ _ _ _ _ (sound _ c.args.trail.now c.entries-entries.ensures.fresh c.entries-entries.ensures.levels c.requires.reasons) c.back.invariant (omega (arith, c.back-test.true))
     (c.index-entries-i.is ∙ ap (λ (es : List TrailEntry). get_or es (c.back.i - 1) c.index-entries-i.result) c.entries-entries.ensures.entries)
     (c.unset.ensures ∙ ap (without c.back.before) (c.variable.ensures.value ∙ ap (λ (x : TrailEntry). unsigned_abs x.lit) c.entry.view_is)) c.explain.ensures
 
