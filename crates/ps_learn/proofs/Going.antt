@@ -8,12 +8,12 @@ use Rattle.ps_steps.specs.Assignments.{Assignment, place, without}
 use Rattle.ps_steps.specs.Constraints.{Constraint}
 use Rattle.ps_steps.specs.Steps.{Known, known_of, constraint_at}
 use Rattle.ps_learning.specs.Trails.{TrailEntry, Trail, values, level, values_of, AreFresh, AreLevels, AreReasons}
-use Rattle.ps_learning.specs.Causes.{Marks, is_marked, AreCovered, IsCoveredAt, AreExplained, IsExplained}
+use Rattle.ps_learning.specs.Causes.{Marks, is_marked, AreCovered, IsCoveredAt, AreExplained, IsExplained, IsFalseAt}
 use Rattle.ps_learning.proofs.Entries.{values-cut, fresh-take, length-values}
-use Rattle.ps_learning.specs.Marking.{Grows, AreSetIn}
-use Rattle.ps_learning.proofs.Marking.{grows-refl, grows-trans, grows-set, own-set, covered-grows, explained-end, explained-next}
+use Rattle.ps_learning.specs.Marking.{Grows, AddsFalseIn, AddsFalseAt, AddsReasons}
+use Rattle.ps_learning.proofs.Marking.{grows-refl, grows-trans, grows-set, own-set, covered-grows, explained-end, explained-next, set-by_reason}
 use Rattle.ps_learning.specs.Keeping.{IsKeptOnce, IsToExplain, HasNoReason}
-use Rattle.ps_learning.proofs.Keeping.{Keeping, IsSound, keeping-first, keeping-next}
+use Rattle.ps_learning.proofs.Keeping.{Keeping, IsSound, keeping-first, keeping-next, MarkedBy, marked_by-first, marked_by-next}
 use Rattle.ps_learn.specs.Marks.{Explains, ExplainsAt, IsCaused, IsTrailExplained}
 
 -- how far back the marked entries have been explained
@@ -21,6 +21,7 @@ pub record Going (n : ℕ) (known : Known) (es : List TrailEntry) (first : Marks
   pub values : before ≡ values_of n (take i es)
   pub explained : AreExplained n known es marks kept i
   pub grows : Grows marks first
+  pub only : MarkedBy n known es first marks kept i
   pub len : length marks ≡ n
   pub kept_len : length kept ≡ n
   pub within : i ≤ length es
@@ -32,6 +33,7 @@ going-first n known es i before marks kept v l k e un = record {
   values = v ∙ ap (values_of n) (sym (take_all i es (omega (arith, e))));
   explained = rw e (explained-end n known es marks kept);
   grows = grows-refl marks;
+  only = marked_by-first n known es marks kept i;
   len = l;
   kept_len = k;
   within = omega (arith, e);
@@ -62,14 +64,16 @@ going-next cs t first i j e before before' marks kept marks' kept' sound g q at 
     let x = xs.done in
     let s : i ≡ suc j = omega (arith, q) in
     let there = slice_get_read es (length es) j e refl (omega (arith, q, g.within)) at in
+    let set = set-by_reason (known_of cs) e (values_of n (take j es)) marks' marks x.only in
     record {
       values = b ∙ going-back n (known_of cs) es first i j e before marks kept sound.fresh g q at;
-      explained = explained-next n (known_of cs) es marks marks' kept kept' j e sound.fresh (rw s at g.explained) there x.grows x.set x.keeps x.own;
+      explained = explained-next n (known_of cs) es marks marks' kept kept' j e sound.fresh (rw s at g.explained) there x.grows set x.keeps x.own;
       grows = grows-trans marks' marks first x.grows g.grows;
+      only = marked_by-next n (known_of cs) es first marks kept marks' kept' j e xs.asked sound.fresh there (rw s at g.keeping) x.grows (rw s at g.only) x.only x.kept_is;
       len = x.len ∙ g.len;
       kept_len = x.kept_len ∙ g.kept_len;
       within = omega (arith, q, g.within);
-      keeping = keeping-next n (known_of cs) es marks kept marks' kept' j e xs.asked sound there (rw s at g.keeping) xs.test x.grows x.set x.kept_is;
+      keeping = keeping-next n (known_of cs) es marks kept marks' kept' j e xs.asked sound there (rw s at g.keeping) xs.test x.grows set x.kept_is;
     }
 
 -- the facts of a trail
@@ -85,7 +89,7 @@ going-start known t es i before marks kept v l k r e un =
 pub kept_explains : (cs : List Constraint) (e : TrailEntry) (b : Bool) (before : Assignment) (marks kept kept' : Marks) → kept' ≡ slice_set kept (place e.lit) true → place e.lit < length kept → is_marked marks e.lit ≡ true → (b ≡ false) ⊎ HasNoReason (known_of cs) e → Explains cs e b before marks kept marks kept'
 kept_explains cs e b before marks kept kept' q p m why = rw q (record {
   grows = grows-refl marks;
-  set = record { at = λ l m. inl m };
+  only = record { at = λ l m. inl m };
   keeps = grows-set kept e.lit;
   len = refl;
   kept_len = length-set kept (place e.lit) true;
@@ -100,7 +104,7 @@ unmarked_explains cs t i e marks kept b q f = record {
   test = λ m. absurd (cc (q, f, m));
   done = record {
     grows = grows-refl marks;
-    set = record { at = λ l m. inl m };
+    only = record { at = λ l m. inl m };
     keeps = grows-refl kept;
     len = refl;
     kept_len = refl;
@@ -137,10 +141,15 @@ pub unknown_explains : (cs : List Constraint) (e : TrailEntry) (before : Assignm
 unknown_explains cs e before marks kept kept' id q p m r n = kept_explains cs e true before marks kept kept' q p m (inr (λ j s. (let z : Some j ≡ Some id = sym s ∙ r in let y : j ≡ id = cc z in rw y n)))
 
 -- the entry's reason explains it
-pub reason_explains : (cs : List Constraint) (e : TrailEntry) (before : Assignment) (marks marks' kept : Marks) (id : ℕ) (c : Constraint) → e.reason ≡ Some id → constraint_at (known_of cs) id ≡ Some c → AreCovered c before marks' → Grows marks' marks → AreSetIn before marks' marks → length marks' ≡ length marks → is_marked marks e.lit ≡ true → Explains cs e true before marks kept marks' kept
+pub reason_explains : (cs : List Constraint) (e : TrailEntry) (before : Assignment) (marks marks' kept : Marks) (id : ℕ) (c : Constraint) → e.reason ≡ Some id → constraint_at (known_of cs) id ≡ Some c → AreCovered c before marks' → Grows marks' marks → AddsFalseIn c.terms before marks' marks → length marks' ≡ length marks → is_marked marks e.lit ≡ true → Explains cs e true before marks kept marks' kept
 reason_explains cs e before marks marks' kept id c r k cov g s l m = record {
   grows = g;
-  set = s;
+  only = record {
+    at = λ l now. elim (s.at l now) [
+      | inl was ↦ inl was
+      | inr f ↦ inr (m, (id, r, record { constraint = c; known_at = k; false_in = f }))
+    ];
+  };
   keeps = grows-refl kept;
   len = l;
   kept_len = refl;
@@ -148,12 +157,31 @@ reason_explains cs e before marks marks' kept id c r k cov g s l m = record {
   kept_is = inl (refl, inr m);
 }
 
-pub is_caused : (known : Known) (t : Trail) (conflict : ℕ) (a : Assignment) (first marks kept : Marks) → a ≡ values t → IsTrailExplained known t marks kept → Grows marks first → IsCoveredAt known conflict a first → IsKeptOnce t kept → IsCaused known t conflict marks kept
-is_caused known t conflict a first marks kept q x g cov once = record {
+pub is_caused : (known : Known) (t : Trail) (conflict : ℕ) (a : Assignment) (none first marks kept : Marks) → a ≡ values t → IsTrailExplained known t marks kept → Grows marks first → IsCoveredAt known conflict a first → IsKeptOnce t kept → ((l : ℤ) → is_marked none l ≡ false) → AddsFalseAt known conflict a first none → AddsReasons t.variables known t.entries kept marks first → IsCaused known t conflict marks kept
+is_caused known t conflict a none first marks kept q x g cov once un own more = record {
   explained = x;
   covered = λ c k. covered-grows c (values t) first marks g (subst (λ b. AreCovered c b first) q (cov c k));
   once = once;
+  only = λ l m. elim (more.at l m) [
+    | inr r ↦ inr r
+    | inl early ↦ elim (own.at l early) [
+      | inl was ↦ absurd (cc (was, un l))
+      | inr f ↦ inl (subst (λ b. IsFalseAt known conflict b l) q f)
+    ]
+  ];
 }
+
+-- what the conflict marks
+pub adds_at : (known : Known) (conflict : ℕ) (d : Constraint) (a : Assignment) (new old : Marks) → constraint_at known conflict ≡ Some d → AddsFalseIn d.terms a new old → AddsFalseAt known conflict a new old
+adds_at known conflict d a new old k h = record {
+  at = λ l m. elim (h.at l m) [
+    | inl was ↦ inl was
+    | inr f ↦ inr (record { constraint = d; known_at = k; false_in = f })
+  ];
+}
+
+pub adds_none : (known : Known) (conflict : ℕ) (a : Assignment) (marks : Marks) → AddsFalseAt known conflict a marks marks
+adds_none known conflict a marks = record { at = λ l m. inl m }
 
 -- the conflict's causes are covered
 pub one_covered : (known : Known) (conflict : ℕ) (d : Constraint) (a : Assignment) (marks : Marks) → constraint_at known conflict ≡ Some d → AreCovered d a marks → (c : Constraint) → constraint_at known conflict ≡ Some c → AreCovered c a marks

@@ -11,6 +11,10 @@ use Rattle.ps_learn.specs.Marks.{IsCaused, IsReached}
 pub has_marked_causes : (known : Known) (t : Trail) (conflict : ℕ) (marks kept : Marks) (lits : List ℤ) (a : Assignment) → IsCaused known t conflict marks kept → AreKeptLits t kept lits a → HasMarkedCauses known t conflict lits marks
 has_marked_causes known t conflict marks kept lits a c k = record {
   conflict_is_marked = c.covered;
+  only = λ l m. elim (c.only l m) [
+    | inl own ↦ inl own
+    | inr r ↦ inr (record { at = r.at; entry = r.entry; there = r.there; marked = r.marked; unkept = λ h. r.unkept (k.only_kept r.entry.lit h); id = r.id; reason = r.reason; false_at = r.false_at })
+  ];
   explained = λ i e at m. elim (c.explained.at i e (omega arith) at m) [
     | inl own ↦ inl (k.listed i e (slice_get_within t.entries i e at) at own)
     | inr by ↦ inr by

@@ -1,25 +1,26 @@
 -- One step of each loop.
 use Rattle.std.proofs.Common.{◌≡◌, ◌≢◌, ℕ, zero, suc, ◌+◌, ◌<◌, ◌≤◌, ℤ, Bool, true, false, Option, Some, None, List, [], ◌∷◌, ◌++◌, length, length-append, take, get_or, length-set, arith, refl, sym, ap, ◌∙◌, subst, ◌⊎◌, inl, inr}
-use Rattle.std.specs.Prelude.{slice_get, slice_set}
+use Rattle.std.specs.Prelude.{slice_get, slice_set, unsigned_abs}
 use Rattle.std.specs.List.{All}
 use Rattle.std.proofs.lemmas.List.Elements.{All-push}
 use Rattle.std.proofs.lemmas.Option.{slice_get_read}
 use Rattle.std.proofs.lemmas.Bool.{cases_lt}
 use Rattle.std.proofs.lemmas.List.{get_or_default, get_or_past}
-use Rattle.ps_steps.specs.Assignments.{Assignment, place, value_of, is_unset, all_unset}
+use Rattle.ps_steps.specs.Assignments.{Assignment, place, value_of, all_unset}
 use Rattle.ps_steps.specs.Constraints.{Constraint, HasTerm, Forces, is_violated}
 use Rattle.ps_steps.specs.Weights.{Weighted, terms_of}
 use Rattle.ps_steps.specs.Steps.{Known, known_of, constraint_at, Open, Conflict, after_hints}
 use Rattle.ps_learning.specs.Trails.{TrailEntry, Trail, values_of, IsReason, AreFresh, AreLevels, AreReasons, IsConflict}
 use Rattle.ps_learning.specs.Causes.{Marks, is_marked, AreCovered, IsExplained}
 use Rattle.ps_steps.proofs.Values.{signed-some}
-use Rattle.ps_steps.proofs.Setting.{rising-distinct, unset-same}
+use Rattle.ps_steps.proofs.Setting.{rising-distinct}
+use Rattle.ps_pb.proofs.Searched.{has_term-at}
 use Rattle.ps_learning.specs.Starting.{Started}
 use Rattle.ps_learning.proofs.Starting.{started-none, started-skip, started-keep}
 use Rattle.ps_learning.proofs.Asserting.{Asserted, asserted-none, asserted-skip, asserted-keep}
 use Rattle.ps_learning.specs.Keeping.{IsKeptOnce}
 use Rattle.ps_learning.proofs.Following.{Followed, followed-unmarked, followed-true, followed-violated, followed-forced, followed-idle, followed-end, known-id, IsKnownId}
-use Rattle.ps_learning.specs.Marking.{Grows, AreSetIn}
+use Rattle.ps_learning.specs.Marking.{Grows, AddsFalseIn}
 use Rattle.ps_learning.proofs.Marking.{grows-refl, grows-trans, marked-set, grows-set, own-set}
 use Rattle.ps_learn.specs.Marks.{MarksCause, IsReached}
 use Rattle.ps_learn.specs.Drawing.{AddsIf, AddsKept, FollowsEntry, EndsInConflict}
@@ -56,7 +57,7 @@ covered_all c ts n a marks e h p = record {
 pub record Marking (ts : Weighted) (n : ℕ) (before : Assignment) (first marks : Marks) : Type 0 where
   pub covered : CoveredIn ts n before marks
   pub grows : Grows marks first
-  pub set_in : AreSetIn before marks first
+  pub only : AddsFalseIn (terms_of ts) before marks first
   pub len : length marks ≡ length before
 
 set_within : (a : Assignment) (l : ℤ) (x : Bool) → value_of a l ≡ Some x → place l < length a
@@ -67,27 +68,19 @@ set_within a l x h = elim (cases_lt (place l) (length a)) [
 ]
 
 pub marking-none : (ts : Weighted) (before : Assignment) (marks : Marks) → length marks ≡ length before → Marking ts 0 before marks marks
-marking-none ts before marks h = record { covered = record { at = λ i t k. absurd (omega (arith, k)) }; grows = grows-refl marks; set_in = record { at = λ l m. inl m }; len = h }
-
-some_set : (o : Option Bool) (x : Bool) → o ≡ Some x → is_unset o ≡ false
-some_set None x h = absurd (cc)
-some_set (Some y) x h = refl
-
-not_unset : (a : Assignment) (l k : ℤ) (b : Bool) → place k ≡ place l → value_of a l ≡ Some false → is_unset (value_of a k) ≡ b → is_unset (value_of a k) ≡ false
-not_unset a l k false q h r = r
-not_unset a l k true q h r = absurd (cc (unset-same a k l (sym q) r, some_set (value_of a l) false h))
+marking-none ts before marks h = record { covered = record { at = λ i t k. absurd (omega (arith, k)) }; grows = grows-refl marks; only = record { at = λ l m. inl m }; len = h }
 
 by_value : (ts : Weighted) (n : ℕ) (t : ℤ × ℤ) (before : Assignment) (first marks marks' : Marks) (o : Option Bool) → value_of before t.0 ≡ o → Marking ts n before first marks → n < length ts → t ≡ get_or ts n t → MarksCause o t.0 marks marks' → Marking ts (n + 1) before first marks'
 by_value ts n t before first marks marks' None e m h at adds = subst (λ x. Marking ts (n + 1) before first x) (sym adds) (record {
   covered = covered_next ts n t before marks marks m.covered h at (grows-refl marks) (λ q. absurd (cc (q, e)));
   grows = m.grows;
-  set_in = m.set_in;
+  only = m.only;
   len = m.len;
 })
 by_value ts n t before first marks marks' (Some true) e m h at adds = subst (λ x. Marking ts (n + 1) before first x) (sym adds) (record {
   covered = covered_next ts n t before marks marks m.covered h at (grows-refl marks) (λ q. absurd (cc (q, e)));
   grows = m.grows;
-  set_in = m.set_in;
+  only = m.only;
   len = m.len;
 })
 by_value ts n t before first marks marks' (Some false) e m h at adds = subst (λ x. Marking ts (n + 1) before first x) (sym adds) (
@@ -96,10 +89,10 @@ by_value ts n t before first marks marks' (Some false) e m h at adds = subst (λ
     record {
       covered = covered_next ts n t before marks new m.covered h at (grows-set marks t.0) (λ q. own);
       grows = grows-trans new marks first (grows-set marks t.0) m.grows;
-      set_in = record {
+      only = record {
         at = λ l k. elim (marked-set marks t.0 l k) [
-          | inl old ↦ m.set_in.at l old
-          | inr here ↦ inr (not_unset before t.0 l (is_unset (value_of before l)) here e refl)
+          | inl old ↦ m.only.at l old
+          | inr here ↦ inr (record { lit = t.0; coefficient = unsigned_abs t.1; term = has_term-at ts n t h at; false_is = e; same_variable = here })
         ];
       };
       len = length-set marks (place t.0) true ∙ m.len;
@@ -125,7 +118,7 @@ by_mark t marks i k k' a a' e false m f g o d q adds = subst (λ x. Drawn t mark
   asserted = asserted-skip t marks i k.lits k.last k.next d.asserted;
 }))
 by_mark t marks i k k' a a' e true m f g o d q adds = record {
-  started = rw (adds.0, adds.3) (started-keep t.variables t.entries marks i k.lits a e f d.started q);
+  started = rw (adds.0, adds.3) (started-keep t.variables t.entries marks i k.lits a e f d.started q m);
   asserted = rw (adds.0, adds.1, adds.2) (asserted-keep t marks i k.lits k.last k.next e f g o d.asserted q m);
 }
 
@@ -163,6 +156,15 @@ explained_by known before marks e id c r k x =
     let same : x.constraint ≡ c = cc two in
     subst (λ y. AreCovered y before marks) same x.covered
 
+-- the reason of a marked entry that isn't true yet forced it, and its false literals are marked
+reason_shown : (n : ℕ) (known : Known) (es : List TrailEntry) (marks : Marks) (start : Assignment) (i : ℕ) (hints : List ℕ) (a : Assignment) (e : TrailEntry) (id : ℕ) (c : Constraint) → Along n known es marks start → Followed n known es marks start i hints a → slice_get es i ≡ Some e → is_marked marks e.lit ≡ true → value_of a e.lit ≢ Some true
+    → e.reason ≡ Some id → constraint_at known id ≡ Some c → Forces c (values_of n (take i es)) e.lit × AreCovered c (values_of n (take i es)) marks
+reason_shown n known es marks start i hints a e id c al f q m ne r k =
+    let before = values_of n (take i es) in (
+      reason_forces known before a marks e id c r k (al.reasons.at i e q),
+      explained_by known before marks e id c r k (open_explained n known es marks start i hints a e al f q m ne),
+    )
+
 -- one entry more of the reasons
 pub followed-next : (n : ℕ) (cs : List Constraint) (es : List TrailEntry) (marks : Marks) (start : Assignment) (i : ℕ) (hints : List ℕ) (a : Assignment) (e : TrailEntry) (hints' : List ℕ) (a' : Assignment) (r : v.the_data) → Along n (known_of cs) es marks start → Followed n (known_of cs) es marks start i hints a → i < length es → e ≡ get_or es i e → FollowsEntry cs e marks hints a hints' a' r → r ≢ v.Propagated effect.Violated → Followed n (known_of cs) es marks start (i + 1) hints' a'
 followed-next n cs es marks start i hints a e hints' a' v.Unmarked al f h at fol ne =
@@ -184,23 +186,18 @@ followed-next n cs es marks start i hints a e hints' a' (v.Propagated effect.Vio
 followed-next n cs es marks start i hints a e hints' a' (v.Propagated effect.Forced) al f h at fol ne =
     let q = slice_get_read es (length es) i e refl h at in
     let b = fol.1 in
-    let before = values_of n (take i es) in
     let c = b.constraint in
-    let forces = reason_forces (known_of cs) before a marks e b.id c b.reason b.known_at (al.reasons.at i e q) in
-    let covered = explained_by (known_of cs) before marks e b.id c b.reason b.known_at (open_explained n (known_of cs) es marks start i hints a e al f q fol.0 b.other) in
+    let shown = reason_shown n (known_of cs) es marks start i hints a e b.id c al f q fol.0 b.other b.reason b.known_at in
     let does = b.does in
     subst (λ x. Followed n (known_of cs) es marks start (i + 1) x a') (sym b.hints_are)
     (subst (λ x. Followed n (known_of cs) es marks start (i + 1) (hints ++ b.id ∷ []) x) (sym does.2)
-    (followed-forced n (known_of cs) es marks start i hints a e b.id c al.fresh f q b.known_at covered forces (rising-distinct 0 c.terms b.normal.rising) does.0 b.other))
+    (followed-forced n (known_of cs) es marks start i hints a e b.id c al.fresh f q b.known_at shown.1 shown.0 (rising-distinct 0 c.terms b.normal.rising) does.0 b.other))
 followed-next n cs es marks start i hints a e hints' a' (v.Propagated effect.Idle) al f h at fol ne =
     let q = slice_get_read es (length es) i e refl h at in
     let b = fol.1 in
-    let before = values_of n (take i es) in
-    let c = b.constraint in
-    let forces = reason_forces (known_of cs) before a marks e b.id c b.reason b.known_at (al.reasons.at i e q) in
-    let covered = explained_by (known_of cs) before marks e b.id c b.reason b.known_at (open_explained n (known_of cs) es marks start i hints a e al f q fol.0 b.other) in
+    let shown = reason_shown n (known_of cs) es marks start i hints a e b.id b.constraint al f q fol.0 b.other b.reason b.known_at in
     let does = b.does in
-    absurd (followed-idle n (known_of cs) es marks start i hints a e.lit c f covered forces does.0 b.other does.1)
+    absurd (followed-idle n (known_of cs) es marks start i hints a e.lit b.constraint f shown.1 shown.0 does.0 b.other does.1)
 
 ended : (known : Known) (start : Assignment) (most i : ℕ) (hints hints' : List ℕ) (id : ℕ) (c : Constraint) → hints' ≡ hints ++ id ∷ [] → after_hints known (Open start) (hints ++ id ∷ []) ≡ Conflict → length hints ≤ i → i ≤ most → All (IsKnownId known) hints → constraint_at known id ≡ Some c → EndsInConflict known start most hints'
 ended known start most i hints hints' id c e x few m ids k = rw e (record {

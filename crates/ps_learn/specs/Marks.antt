@@ -4,8 +4,8 @@ use Rattle.ps_steps.specs.Assignments.{Assignment, place, value_of}
 use Rattle.ps_steps.specs.Constraints.{Constraint}
 use Rattle.ps_steps.specs.Steps.{Known, known_of}
 use Rattle.ps_learning.specs.Trails.{TrailEntry, Trail, values, values_of, level}
-use Rattle.ps_learning.specs.Causes.{Marks, is_marked, IsCoveredAt, IsExplained, AreExplained}
-use Rattle.ps_learning.specs.Marking.{Grows, AreSetIn}
+use Rattle.ps_learning.specs.Causes.{Marks, is_marked, IsCoveredAt, IsExplained, AreExplained, IsFalseAt, IsFalseInReason}
+use Rattle.ps_learning.specs.Marking.{Grows, AddsReason, AddsReasons}
 use Rattle.ps_learning.specs.Keeping.{IsKeptOnce, IsToExplain, IsKeptOrNot, SomeIsMarked, NoneIsMarked}
 use Rattle.ps_learn.specs.declared.explaining.Causes.{Causes}
 
@@ -20,10 +20,11 @@ abbrev pub IsMarkedBefore : Trail → Marks → ℕ → Bool → Type 0
 IsMarkedBefore t marks i true = SomeIsMarked (level t) t.entries marks i
 IsMarkedBefore t marks i false = NoneIsMarked (level t) t.entries marks i
 
--- an entry that is marked is kept or explained; what was marked or kept stays so, and what is marked more was set
+-- an entry that is marked is kept or explained; what was marked or kept stays so, and what is marked more is
+-- of a false literal of its reason
 pub record Explains (cs : List Constraint) (e : TrailEntry) (asked : Bool) (before : Assignment) (marks kept marks' kept' : Marks) : Type 0 where
   pub grows : Grows marks' marks
-  pub set : AreSetIn before marks' marks
+  pub only : AddsReason (known_of cs) e before marks' marks
   pub keeps : Grows kept' kept
   pub len : length marks' ≡ length marks
   pub kept_len : length kept' ≡ length kept
@@ -40,11 +41,16 @@ pub record ExplainsAt (cs : List Constraint) (t : Trail) (i : ℕ) (e : TrailEnt
 abbrev pub IsTrailExplained : Known → Trail → Marks → Marks → Type 0
 IsTrailExplained known t marks kept = AreExplained t.variables known t.entries marks kept 0
 
--- the causes of a conflict are marked, each is kept or explained by marked ones, and one of the last level at most is kept
+-- what is marked more is of a false literal of the reason of a marked entry of the trail that isn't kept
+abbrev pub AddsTrailReasons : Known → Trail → Marks → Marks → Marks → Type 0
+AddsTrailReasons known t kept new old = AddsReasons t.variables known t.entries kept new old
+
+-- the causes of a conflict are marked and nothing else is, each is kept or explained by marked ones, and one of the last level at most is kept
 pub record IsCaused (known : Known) (t : Trail) (conflict : ℕ) (marks kept : Marks) : Type 0 where
   pub explained : IsTrailExplained known t marks kept
   pub covered : IsCoveredAt known conflict (values t) marks
   pub once : IsKeptOnce t kept
+  pub only : (l : ℤ) → is_marked marks l ≡ true → IsFalseAt known conflict (values t) l ⊎ IsFalseInReason t.variables known t.entries marks (λ m. is_marked kept m ≡ true) l
 
 -- a conflict is reached from the true literals along reasons: its false literals are marked, and each marked entry of the trail
 -- is true, or the false literals of its reason are marked

@@ -4,15 +4,15 @@ ghost use Rattle.ps_steps.specs.Assignments.{place};
 ghost use Rattle.ps_steps.specs.Steps.{known_of};
 ghost use Rattle.ps_learning.specs.Trails.{values, values_of, level, IsConflict, AreReasons};
 ghost use Rattle.ps_learning.specs.Causes.{is_marked, IsCoveredAt};
-ghost use Rattle.ps_learning.specs.Marking.{Grows};
+ghost use Rattle.ps_learning.specs.Marking.{Grows, AddsFalseAt};
 ghost use Rattle.ps_learning.specs.Keeping.{IsKeptOnce, IsToExplain};
 ghost use Rattle.ps_learn.specs.Marks.{Explains, ExplainsAt, IsMarkedBefore};
-ghost use Rattle.ps_learn.specs.Marks.{IsCaused, IsTrailExplained, AreCauses};
+ghost use Rattle.ps_learn.specs.Marks.{IsCaused, IsTrailExplained, AddsTrailReasons, AreCauses};
 
 use crate::marks::{is_marked, mark, mark_causes};
 use ps_io::{List, NoMemory};
 use ps_pb::{Assignment, Constraint, constraint_at};
-use ps_trail::{TrailEntry, Trail};
+use ps_trail::{Trail, TrailEntry};
 use std::alloc::Global;
 
 /// The marked variables are causes, and those of the learned clause are kept.
@@ -56,6 +56,7 @@ fn explain_marks(
     requires values { before.old ≡ values trail.now }
     requires len { length marks.old ≡ length before.old }
     requires kept_len { length kept.old ≡ length before.old }
+    requires unmarked { (l : ℤ) → is_marked marks.old l ≡ false }
     requires unkept { (l : ℤ) → is_marked kept.old l ≡ false }
     ensures caused { IsCaused (known_of known.now) trail.now conflict marks.new kept.new }
     ensures len { length marks.new ≡ length marks.old }
@@ -70,6 +71,7 @@ fn explain_marks(
 fn mark_conflict(known: &List<Constraint>, conflict: u64, before: &Assignment, marks: &mut [bool])
     requires len { length marks.old ≡ length before.now }
     ensures covered { IsCoveredAt (known_of known.now) conflict before.now marks.new }
+    ensures only { AddsFalseAt (known_of known.now) conflict before.now marks.new marks.old }
     ensures len { length marks.new ≡ length marks.old }
 {
     if let Some(c) = constraint_at(known, conflict) {
@@ -93,6 +95,7 @@ fn explain_all(
     ensures explained { IsTrailExplained (known_of known.now) trail.now marks.new kept.new }
     ensures once { IsKeptOnce trail.now kept.new }
     ensures grows { Grows marks.new marks.old }
+    ensures only { AddsTrailReasons (known_of known.now) trail.now kept.new marks.new marks.old }
     ensures len { length marks.new ≡ length marks.old }
     ensures kept_len { length kept.new ≡ length kept.old }
 {

@@ -16,11 +16,11 @@ use crate::explaining::explain_conflict;
 use crate::marks::is_marked;
 use ps_io::{List, NoMemory};
 use ps_pb::{Assignment, Constraint, Effect, Hints, Lits, Step, constraint_at, propagate};
-use ps_trail::{TrailEntry, Trail};
+use ps_trail::{Trail, TrailEntry};
 use std::alloc::Global;
 
-/// A step, the level to go on from, and the marked variables: at least those of the false literals
-/// of the conflict and of the reasons that were gone along.
+/// A step, the level to go on from, and the marked variables: those of the false literals of the
+/// conflict and of the reasons that were gone along.
 #[derive(Drop)]
 pub struct Learned {
     /// The step: the learned clause with its hints.

@@ -2,7 +2,7 @@
 ghost use Rattle.std.specs.Prelude.{◌≡◌, length, true, false, Some, slice_set};
 ghost use Rattle.ps_steps.specs.Assignments.{place, value_of};
 ghost use Rattle.ps_learning.specs.Causes.{is_marked, AreCovered};
-ghost use Rattle.ps_learning.specs.Marking.{Grows, AreSetIn};
+ghost use Rattle.ps_learning.specs.Marking.{Grows, AddsFalseIn};
 ghost use Rattle.ps_learn.specs.Marks.{MarksCause};
 
 use ps_pb::{Assignment, Constraint, Lit};
@@ -42,7 +42,7 @@ pub(crate) fn mark_causes(c: &Constraint, before: &Assignment, marks: &mut [bool
     requires len { length marks.old ≡ length before.now }
     ensures covered { AreCovered c.now before.now marks.new }
     ensures grows { Grows marks.new marks.old }
-    ensures set { AreSetIn before.now marks.new marks.old }
+    ensures only { AddsFalseIn c.now.terms before.now marks.new marks.old }
     ensures len { length marks.new ≡ length marks.old }
 {
     for term in c.terms().as_slice() {

@@ -5,8 +5,8 @@ use Rattle.std.proofs.lemmas.Bool.{cases_lt}
 use Rattle.ps_steps.specs.Assignments.{Assignment, place, value_of, is_unset}
 use Rattle.ps_steps.specs.Steps.{Known}
 use Rattle.ps_learning.specs.Trails.{TrailEntry, Trail, values_of, decisions, IsReason, AreFresh, AreLevels, AreReasons}
-use Rattle.ps_learning.specs.Causes.{Marks, is_marked}
-use Rattle.ps_learning.specs.Marking.{Grows, AreSetIn}
+use Rattle.ps_learning.specs.Causes.{Marks, is_marked, IsFalseInReason}
+use Rattle.ps_learning.specs.Marking.{Grows, AreSetIn, AddsReason, AddsReasons}
 use Rattle.ps_learning.specs.Keeping.{IsKeptOnce, IsToExplain, HasNoReason, IsKeptOrNot}
 use Rattle.ps_learning.proofs.Levels.{levels-rise, decisions-more}
 use Rattle.ps_learning.proofs.Marking.{grows-trans, marked-set, unset-earlier}
@@ -133,3 +133,50 @@ spares v known es marks marks' kept i e s q k g new (inr m) = record {
 pub keeping-next : (v : ℕ) (known : Known) (es : List TrailEntry) (marks kept marks' kept' : Marks) (i : ℕ) (e : TrailEntry) (b : Bool) → IsSound v known es → slice_get es i ≡ Some e → Keeping es marks kept (suc i) → (is_marked marks e.lit ≡ true → IsToExplain (decisions es) es marks i e b) → Grows marks' marks → AreSetIn (values_of v (take i es)) marks' marks → IsKeptOrNot known e b marks kept marks' kept' → Keeping es marks' kept' i
 keeping-next v known es marks kept marks' kept' i e b s q k t g new (inl x) = rw (x.0) (spares v known es marks marks' kept i e s q k g new x.1)
 keeping-next v known es marks kept marks' kept' i e b s q k t g new (inr x) = rw (x.1) (keeps v known es marks kept kept' i e s q k x.0 x.2 (kept_false v known es marks i e b s q (t x.2) x.3))
+
+-- what is marked more was marked by reasons of entries from a place on that aren't kept
+pub record MarkedBy (v : ℕ) (known : Known) (es : List TrailEntry) (first marks kept : Marks) (i : ℕ) : Type 0 where
+  pub at : (l : ℤ) → is_marked marks l ≡ true → (is_marked first l ≡ true) ⊎ ((r : IsFalseInReason v known es marks (λ m. is_marked kept m ≡ true) l) × (i ≤ r.at))
+
+-- a reason stays one with more marks, where its entry is still not kept
+abbrev pub reason_stays : (v : ℕ) (known : Known) (es : List TrailEntry) (marks marks' kept kept' : Marks) (l : ℤ) → Grows marks' marks → (r : IsFalseInReason v known es marks (λ m. is_marked kept m ≡ true) l) → (is_marked kept' r.entry.lit ≡ true → ⊥) → IsFalseInReason v known es marks' (λ m. is_marked kept' m ≡ true) l
+reason_stays v known es marks marks' kept kept' l g r un = record { at = r.at; entry = r.entry; there = r.there; marked = g.at r.entry.lit r.marked; unkept = un; id = r.id; reason = r.reason; false_at = r.false_at }
+
+pub marked_by-first : (v : ℕ) (known : Known) (es : List TrailEntry) (marks kept : Marks) (i : ℕ) → MarkedBy v known es marks marks kept i
+marked_by-first v known es marks kept i = record { at = λ l m. inl m }
+
+-- one entry back
+pub marked_by-next : (v : ℕ) (known : Known) (es : List TrailEntry) (first marks kept marks' kept' : Marks) (i : ℕ) (e : TrailEntry) (b : Bool) → AreFresh v es → slice_get es i ≡ Some e → Keeping es marks kept (suc i) → Grows marks' marks → MarkedBy v known es first marks kept (suc i) → AddsReason known e (values_of v (take i es)) marks' marks
+    → IsKeptOrNot known e b marks kept marks' kept' → MarkedBy v known es first marks' kept' i
+marked_by-next v known es first marks kept marks' kept' i e b f there k g h x (inl o) = record {
+  at = λ l m. elim (x.at l m) [
+    | inl was ↦ elim (h.at l was) [
+      | inl early ↦ inl early
+      | inr r ↦ inr (reason_stays v known es marks marks' kept kept' l g r.0 (λ own. r.0.unkept (subst (λ q. is_marked q r.0.entry.lit ≡ true) o.0 own)), omega (arith, r.1))
+    ]
+    | inr now ↦ inr (
+      record { at = i; entry = e; there = there; marked = g.at e.lit now.0; unkept = λ own. cc (own, ap (λ q. is_marked q e.lit) o.0, k.unkept i e (omega arith) there); id = now.1.0; reason = now.1.1; false_at = now.1.2 },
+      omega arith,
+    )
+  ];
+}
+marked_by-next v known es first marks kept marks' kept' i e b f there k g h x (inr o) = record {
+  at = λ l m. elim (h.at l (subst (λ q. is_marked q l ≡ true) o.1 m)) [
+    | inl early ↦ inl early
+    | inr r ↦ inr (reason_stays v known es marks marks' kept kept' l g r.0 (still_unkept l r.0 (omega (arith, r.1))), omega (arith, r.1))
+  ];
+}
+  where
+    still_unkept : (l : ℤ) (r : IsFalseInReason v known es marks (λ m. is_marked kept m ≡ true) l) → i < r.at → is_marked kept' r.entry.lit ≡ true → ⊥
+    still_unkept l r lt own = elim (marked-set kept e.lit r.entry.lit (subst (λ q. is_marked q r.entry.lit ≡ true) o.0 own)) [
+      | inl old ↦ r.unkept old
+      | inr here ↦ other-place v es i r.at e r.entry f lt there r.there (sym here)
+    ]
+
+pub marked_by-end : (v : ℕ) (known : Known) (es : List TrailEntry) (first marks kept : Marks) (i : ℕ) → MarkedBy v known es first marks kept i → AddsReasons v known es kept marks first
+marked_by-end v known es first marks kept i h = record {
+  at = λ l m. elim (h.at l m) [
+    | inl early ↦ inl early
+    | inr r ↦ inr r.0
+  ];
+}

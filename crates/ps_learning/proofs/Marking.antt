@@ -1,5 +1,5 @@
 -- Marking causes, back over a trail.
-use Rattle.std.proofs.Common.{◌≡◌, ℕ, zero, suc, ◌+◌, ◌<◌, ◌≤◌, ℤ, true, false, Some, List, [], ◌∷◌, length, take, get_or, get_or-set_same, get_or-set_other, arith, refl, sym, ap, ◌∙◌, ◌⊎◌, inl, inr}
+use Rattle.std.proofs.Common.{◌≡◌, ℕ, zero, suc, ◌+◌, ◌<◌, ◌≤◌, ℤ, Bool, true, false, Option, Some, None, List, [], ◌∷◌, length, take, get_or, get_or-set_same, get_or-set_other, arith, refl, sym, ap, ◌∙◌, ◌⊎◌, inl, inr}
 use Rattle.std.specs.Prelude.{slice_get, slice_set}
 use Rattle.std.proofs.lemmas.List.{get_or_past}
 use Rattle.std.proofs.lemmas.Option.{slice_get_within}
@@ -9,9 +9,9 @@ use Rattle.ps_steps.specs.Constraints.{Constraint, HasTerm}
 use Rattle.ps_steps.specs.Steps.{Known}
 use Rattle.ps_learning.specs.Trails.{TrailEntry, values_of, AreFresh}
 use Rattle.ps_learning.specs.Causes.{Marks, is_marked, AreCovered, IsExplained, AreExplained}
-use Rattle.ps_learning.specs.Marking.{Grows, AreSetIn}
+use Rattle.ps_learning.specs.Marking.{Grows, AreSetIn, AddsReason}
 use Rattle.ps_steps.proofs.Values.{includes-refl, includes-trans, with_true-includes}
-use Rattle.ps_steps.proofs.Setting.{unset-below}
+use Rattle.ps_steps.proofs.Setting.{unset-below, unset-same}
 use Rattle.ps_learning.proofs.Entries.{values-more}
 
 pub grows-refl : (m : Marks) → Grows m m
@@ -40,6 +40,23 @@ grows-set m l = record {
 
 pub own-set : (m : Marks) (l : ℤ) → place l < length m → is_marked (slice_set m (place l) true) l ≡ true
 own-set m l p = get_or-set_same m (place l) true false p
+
+some_set : (o : Option Bool) (x : Bool) → o ≡ Some x → is_unset o ≡ false
+some_set None x h = absurd (cc)
+some_set (Some y) x h = refl
+
+not_unset : (a : Assignment) (l k : ℤ) (b : Bool) → place k ≡ place l → value_of a l ≡ Some false → is_unset (value_of a k) ≡ b → is_unset (value_of a k) ≡ false
+not_unset a l k false q h r = r
+not_unset a l k true q h r = absurd (cc (unset-same a k l (sym q) r, some_set (value_of a l) false h))
+
+-- a false literal was set
+pub set-by_reason : (known : Known) (e : TrailEntry) (a : Assignment) (new old : Marks) → AddsReason known e a new old → AreSetIn a new old
+set-by_reason known e a new old h = record {
+  at = λ l m. elim (h.at l m) [
+    | inl was ↦ inl was
+    | inr more ↦ (let f = more.1.2.false_in in inr (not_unset a f.lit l (is_unset (value_of a l)) f.same_variable f.false_is refl))
+  ];
+}
 
 -- more marks cover as much
 pub covered-grows : (c : Constraint) (a : Assignment) (old new : Marks) → Grows new old → AreCovered c a old → AreCovered c a new

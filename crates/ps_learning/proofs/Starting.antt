@@ -1,7 +1,7 @@
 -- The literals of a learned clause, all set false: the kept entries of a trail.
 use Rattle.std.proofs.Common.{◌≡◌, ℕ, suc, ◌+◌, ◌<◌, ℤ, neg_ℤ, true, false, ◌&&◌, Some, List, [], ◌∷◌, ◌++◌, length, take, arith, refl, sym, ap, ◌∙◌, inl, inr}
-use Rattle.std.specs.Prelude.{nat_lt, slice_get}
-use Rattle.std.proofs.lemmas.List.Elements.{All-nil, All-push, Contains-push, Contains-append_left}
+use Rattle.std.specs.Prelude.{nat_lt, slice_get, slice_index_or}
+use Rattle.std.proofs.lemmas.List.Elements.{All-nil, All-push, Contains-push, Contains-push_cases, Contains-append_left}
 use Rattle.std.proofs.lemmas.List.Sums.{fold-append}
 use Rattle.std.proofs.lemmas.Bool.{cases_lt, and_from, lt-ltb}
 use Rattle.ps_steps.specs.Assignments.{Assignment, place, value_of, with_true, with_false, is_unset, all_unset}
@@ -16,7 +16,7 @@ use Rattle.ps_steps.proofs.Short.{length-unset}
 
 pub started-none : (v : ℕ) (es : List TrailEntry) (kept : Marks) → Started v es kept 0 [] (all_unset v)
 unfolding values_of
-started-none v es kept = record { lits_false = refl; includes = includes-refl (all_unset v); kept_true = λ j e h. absurd (omega arith); listed = λ j e h. absurd (omega arith); len = length-unset v; few = omega arith; literals = All-nil (IsLit v) }
+started-none v es kept = record { lits_false = refl; includes = includes-refl (all_unset v); kept_true = λ j e h. absurd (omega arith); listed = λ j e h. absurd (omega arith); only_kept = λ l h. absurd (let lt = h.1 in omega (arith, lt)); len = length-unset v; few = omega arith; literals = All-nil (IsLit v) }
 
 pub started-skip : (v : ℕ) (es : List TrailEntry) (kept : Marks) (i : ℕ) (lits : List ℤ) (a : Assignment) (e : TrailEntry) → AreFresh v es → Started v es kept i lits a → slice_get es i ≡ Some e → is_marked kept e.lit ≡ false → Started v es kept (i + 1) lits a
 started-skip v es kept i lits a e f s at non = record {
@@ -30,13 +30,14 @@ started-skip v es kept i lits a e f s at non = record {
     | inl lt ↦ s.listed j d lt k n
     | inr ge ↦ (let q : j ≡ i = omega arith in let r : Some d ≡ Some e = sym k ∙ ap (slice_get es) q ∙ at in let z : d ≡ e = cc r in absurd (cc (non, n, ap (λ (x : TrailEntry). is_marked kept x.lit) z)))
   ];
+  only_kept = s.only_kept;
   len = s.len;
   few = omega (arith, s.few);
   literals = s.literals;
 }
 
-pub started-keep : (v : ℕ) (es : List TrailEntry) (kept : Marks) (i : ℕ) (lits : List ℤ) (a : Assignment) (e : TrailEntry) → AreFresh v es → Started v es kept i lits a → slice_get es i ≡ Some e → Started v es kept (i + 1) (lits ++ neg_ℤ e.lit ∷ []) (with_false a (neg_ℤ e.lit))
-started-keep v es kept i lits a e f s at =
+pub started-keep : (v : ℕ) (es : List TrailEntry) (kept : Marks) (i : ℕ) (lits : List ℤ) (a : Assignment) (e : TrailEntry) → AreFresh v es → Started v es kept i lits a → slice_get es i ≡ Some e → is_marked kept e.lit ≡ true → Started v es kept (i + 1) (lits ++ neg_ℤ e.lit ∷ []) (with_false a (neg_ℤ e.lit))
+started-keep v es kept i lits a e f s at own =
     let fresh = f.at i e at in
     let unset : is_unset (value_of a e.lit) ≡ true = unset-below (values_of v (take i es)) a e.lit s.includes fresh.unset in
     let within : place e.lit < length a = rw s.len fresh.within in
@@ -52,6 +53,10 @@ started-keep v es kept i lits a e f s at =
       listed = λ j d h k n. elim (cases_lt j i) [
         | inl lt ↦ Contains-append_left lits (neg_ℤ e.lit ∷ []) (neg_ℤ d.lit) (s.listed j d lt k n)
         | inr ge ↦ (let q : j ≡ i = omega arith in let r : Some d ≡ Some e = sym k ∙ ap (slice_get es) q ∙ at in let z : d ≡ e = cc r in rw z (Contains-push lits (neg_ℤ e.lit)))
+      ];
+      only_kept = λ l h. elim (Contains-push_cases lits (neg_ℤ e.lit) (neg_ℤ l) h) [
+        | inl old ↦ s.only_kept l old
+        | inr here ↦ ap (λ p. slice_index_or kept p false) (sym (place-opposite l) ∙ ap place (sym here) ∙ place-opposite e.lit) ∙ own
       ];
       len = ap length same ∙ length-with_true a e.lit ∙ s.len;
       literals = All-push (IsLit v) lits (neg_ℤ e.lit) s.literals (let q = size-opposite e.lit in (omega (arith, q, fresh.some), omega (arith, q, fresh.within)));

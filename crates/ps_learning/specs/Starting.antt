@@ -11,6 +11,7 @@ pub record Started (v : ℕ) (es : List TrailEntry) (kept : Marks) (i : ℕ) (li
   pub includes : Includes (values_of v (take i es)) a
   pub kept_true : (j : ℕ) (e : TrailEntry) → j < i → slice_get es j ≡ Some e → is_marked kept e.lit ≡ true → value_of a e.lit ≡ Some true
   pub listed : (j : ℕ) (e : TrailEntry) → j < i → slice_get es j ≡ Some e → is_marked kept e.lit ≡ true → Contains lits (neg_ℤ e.lit)
+  pub only_kept : (l : ℤ) → Contains lits (neg_ℤ l) → is_marked kept l ≡ true
   pub len : length a ≡ v
   pub few : length lits ≤ i
   pub literals : All (IsLit v) lits

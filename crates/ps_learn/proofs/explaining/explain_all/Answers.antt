@@ -2,7 +2,7 @@ use Rattle.std.proofs.Common.{◌-◌, ◌∙◌, ap, sym, refl, length, unsigne
 use Rattle.ps_steps.specs.Assignments.{without}
 use Rattle.ps_learning.specs.Trails.{TrailEntry}
 use Rattle.ps_learn.proofs.Going.{going-start, going-end, going-back, going-len, going-place, going-next, sound}
-use Rattle.ps_learning.proofs.Keeping.{keeping-end}
+use Rattle.ps_learning.proofs.Keeping.{keeping-end, marked_by-end}
 use Rattle.ps_learn.proofs.explaining.explain_all.Goals as goal
 
 pub back-init : goal.back-init
@@ -36,3 +36,6 @@ returns-clause-explained c = going-end _ _ c.args.trail.now _ _ _ _ _ refl c.bac
 
 pub returns-clause-once : goal.returns-clause-once
 returns-clause-once c = keeping-end c.args.trail.now _ _ _ _ refl c.back.invariant.keeping
+
+pub returns-clause-only : goal.returns-clause-only
+returns-clause-only c = marked_by-end _ _ _ _ _ _ _ c.back.invariant.only

@@ -6,8 +6,13 @@ use Rattle.ps_learning.proofs.Counting.{counted}
 use Rattle.ps_learning.proofs.Following.{learned-lawful}
 use Rattle.ps_learning.proofs.Asserting.{asserting-most}
 use Rattle.ps_learn.proofs.Falsity.{kept-false}
-use Rattle.ps_learn.proofs.Marked.{has_marked_causes}
+use Rattle.ps_learn.proofs.Marked.{has_marked_causes, is_reached}
 use Rattle.ps_learn.proofs.learning.learn.Goals as goal
+
+pub hints-requires-clause-reached : goal.hints-requires-clause-reached
+hints-requires-clause-reached c =
+    rw c.deref-2.ensures.value (is_reached (known_of c.args.known.now) c.args.trail.now c.args.conflict _ c.in_ok-causes.causes.kept.items c.in_ok-kept.kept.lits c.kept_lits.new.a c.in_ok-causes.ensures
+    (subst (λ kept. AreKeptLits c.args.trail.now kept c.in_ok-kept.kept.lits c.kept_lits.new.a) c.deref.ensures.value c.in_ok-kept.ensures.lits))
 
 pub returns-clause-level : goal.returns-clause-level
 returns-clause-level c = asserting-most c.args.trail.now _ _ c.in_ok-kept.ensures.asserting
