@@ -1,12 +1,13 @@
 -- The limits of a search for the greatest value.
-use Rattle.std.specs.Prelude.{ℕ, ◌+◌, ◌<◌, ◌≤◌, ◌^◌, unsigned_abs, All}
+use Rattle.std.specs.Prelude.{ℕ, ◌+◌, ◌<◌, ◌≤◌, unsigned_abs, All}
 use Rattle.ps_steps.specs.Assignments.{place}
 use Rattle.ps_steps.specs.Weights.{size_sum}
+use Rattle.ps_maxsat.specs.declared.limits.TheConstants.{MOST_TOTAL}
 use Rattle.ps_maxsat.specs.declared.problem.Wcnf.{Wcnf}
 
 -- what the sizes of the weights and of the base sum to at most
 abbrev pub most_total : ℕ
-most_total = 2 ^ 120
+most_total = MOST_TOTAL
 
 -- so many searches are made at most
 abbrev pub most_searches : ℕ

@@ -1,8 +1,10 @@
 //! Weighted MaxSAT by repeated goals.
 #![tactic(auto)]
 
+mod limits;
 mod pricing;
 mod problem;
 
+pub use limits::{MOST_TOTAL, limits_have_these_numbers};
 pub use pricing::{Priced, best};
-pub use problem::{MOST_TOTAL, Wcnf};
+pub use problem::Wcnf;

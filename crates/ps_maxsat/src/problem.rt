@@ -6,6 +6,7 @@ ghost use Rattle.ps_maxsat.specs.Limits.{IsNarrow, IsSoftWithin, most_total};
 ghost use Rattle.ps_maxsat.specs.Sums.{sum_of, weight_in, weight_if_positive};
 ghost use Rattle.ps_maxsat.specs.Values.{most, IsValueOfFull, NoneIsAbove};
 
+use crate::limits::MOST_TOTAL;
 use ps_clause::ClauseForm;
 use ps_pb::{Assignment, Lit, WeightedLits};
 
@@ -20,9 +21,6 @@ pub struct Wcnf {
     /// The value of an assignment in which no soft literal is true.
     pub base: i128,
 }
-
-/// What the sizes of the weights and of the base sum to at most.
-pub const MOST_TOTAL: u128 = 1 << 120;
 
 impl Wcnf {
     /// Whether the sizes of the weights and of the base sum to at most 2^120.

@@ -20,9 +20,6 @@ use ps_pb::{Assignment, Constraint, Step, clause};
 use ps_trail::Trail;
 use std::alloc::Global;
 
-/// So many clauses a search is let learn at most.
-pub const MOST_CONFLICTS: u64 = 1 << 40;
-
 /// What a search answers.
 #[derive(Drop)]
 pub enum Outcome {
