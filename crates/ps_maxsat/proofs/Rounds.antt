@@ -1,8 +1,9 @@
 -- Searches for values.
 use Rattle.std.proofs.Common.{◌≡◌, ℕ, ◌<◌, ℤ, pos, ◌-ℤ◌, ◌+ℤ◌, ◌≤ℤ◌, ◌<ℤ◌, Bool, true, false, Some, Result, Ok, Err, List, [], ◌∷◌, ◌++◌, length, length-append, map, arith, refl, sym, ap, ◌∙◌, subst, inl, inr, ◌+◌, ◌≤◌}
-use Rattle.std.specs.Prelude.{IsTrue, IfOk, OnOk, OnErr, int_lt}
+use Rattle.std.specs.Prelude.{IsTrue, IfOk, OnOk, IsErr, int_lt}
 use Rattle.std.specs.List.{All}
 use Rattle.std.proofs.lemmas.Int.{ints}
+use Rattle.std.proofs.lemmas.Bool.{false≢true}
 use Rattle.ps_steps.specs.Assignments.{Assignment, place}
 use Rattle.ps_steps.specs.Constraints.{Constraint, IsMet}
 use Rattle.ps_steps.specs.Weights.{Weighted, constraint_of}
@@ -10,13 +11,14 @@ use Rattle.ps_steps.proofs.Linear.{met-weight, weight-met}
 use Rattle.ps_forms.specs.Forms.{Form, MeetsForm}
 use Rattle.ps_steps.specs.Weights.{IsWithin}
 use Rattle.ps_steps.specs.Steps.{Step}
-use Rattle.ps_sat.specs.Searches.{IsOutcome, IsLogged, IsHeld, HoldsLearned}
+use Rattle.ps_sat.specs.Searches.{IsOutcome, IsLogged, HoldsLearned}
 use Rattle.ps_sat.specs.declared.searching.Outcome.{Outcome}
 use Rattle.ps_sat.specs.declared.error.SearchError.{SearchError}
 use Rattle.ps_sat.specs.declared.searching.Outcome.TheVariants.{Found, Refuted, Spent}
+use Rattle.ps_sat.proofs.Going.{handed_told, handed_stays}
 use Rattle.ps_maxsat.specs.declared.problem.Wcnf.{Wcnf}
 use Rattle.ps_maxsat.specs.declared.pricing.Priced.{Priced}
-use Rattle.ps_maxsat.specs.Values.{value, goal_of, IsOf, NoneIsAbove, HoldsSearch, HoldsFound, HoldsRefutation, HoldsLast, HoldsSteps, HoldsSome, IsGoal, most, IsLogAfterFailed, IsLogAfterError}
+use Rattle.ps_maxsat.specs.Values.{value, goal_of, IsOf, NoneIsAbove, HoldsSearch, HoldsFound, HoldsRefutation, HoldsLast, HoldsSteps, HoldsSome, IsGoal, most, IsLogAfterFailed, IsLogAfterError, IsGoalLogged, IsBestLogged}
 use Rattle.ps_steps.proofs.Within.{constraint-within}
 use Rattle.ps_log.specs.Logs.{Telling, Stays}
 
@@ -29,13 +31,6 @@ goal_same g h ts us r least gh e q ls = gh ∙ e ∙ ap (λ (x : Weighted). cons
 
 pub outcome-same : (f : Form) (g h : Constraint) (ts us : Weighted) (m least : ℤ) (conflicts : ℕ) (r : Result Outcome SearchError) → g ≡ h → h ≡ constraint_of ts m → ts ≡ us → m ≡ least → IfOk r (IsOutcome f g conflicts) → IfOk r (IsOutcome f (constraint_of us least) conflicts)
 outcome-same f g h ts us m least conflicts r gh e q ls x = subst (λ c. IfOk r (IsOutcome f c conflicts)) (goal_same g h ts us m least gh e q ls) x
-
-held_ok : (f : Form) (goal : Constraint) (conflicts : ℕ) (old new : Telling) (r : Result Outcome SearchError) → IsLogged f goal conflicts old new r → IfOk r (IsHeld f goal conflicts old.tells new)
-held_ok f goal conflicts old new (Ok o) h = h
-held_ok f goal conflicts old new (Err e) h = tt
-
-pub held-same : (f : Form) (goal h : Constraint) (ts us : Weighted) (m least : ℤ) (conflicts : ℕ) (old new : Telling) (r : Result Outcome SearchError) → goal ≡ h → h ≡ constraint_of ts m → ts ≡ us → m ≡ least → IsLogged f goal conflicts old new r → IfOk r (IsHeld f (constraint_of us least) conflicts old.tells new)
-held-same f goal h ts us m least conflicts old new r gh e q ls x = held_ok f (constraint_of us least) conflicts old new r (subst (λ c. IsLogged f c conflicts old new r) (goal_same goal h ts us m least gh e q ls) x)
 
 pub still-tells : (f : Form) (goal : Constraint) (conflicts : ℕ) (old new : Telling) (r : Result Outcome SearchError) → IsLogged f goal conflicts old new r → OnOk r (IsTrue old.tells → IsTrue new.tells)
 still-tells f goal conflicts old new (Ok o) h = λ b. (h.0.held b).0
@@ -71,7 +66,7 @@ found-of p least conflicts o a v r e out full soft q = found_of p least a v r (s
 
 -- what the log holds at the end
 pub held-end : (p : Wcnf) (m least : ℤ) (conflicts : ℕ) (told later : Bool) (new : Telling) (o o' : Outcome) → o ≡ o' → m ≡ least → (IsTrue told → IsTrue later) → HoldsSearch p m conflicts later new o → HoldsSearch p least conflicts told new o'
-held-end p m least conflicts told later new o o' e q tell h = subst (λ x. HoldsSearch p x conflicts told new o') q (subst (λ x. HoldsSearch p m conflicts told new x) e (record { steps = h.0.steps; held = λ b. h.0.held (tell b); lawful = h.0.lawful }, h.1))
+held-end p m least conflicts told later new o o' e q tell h = subst (λ x. HoldsSearch p x conflicts told new o') q (subst (λ x. HoldsSearch p m conflicts told new x) e (handed_told p.hard (goal_of p m) told later new tell h.0, h.1))
 
 pub spent-is : (p : Wcnf) (least : ℤ) (conflicts : ℕ) (o : Outcome) (learned : ℕ) → o ≡ Spent learned → IsOutcome p.hard (goal_of p least) conflicts o → o ≡ Spent conflicts
 spent-is p least conflicts o learned e out = let same : learned ≡ conflicts = subst (λ x. IsOutcome p.hard (goal_of p least) conflicts x) e out in e ∙ ap Spent same
@@ -116,18 +111,14 @@ stay_held p conflicts told mid new st h = record {
   least = h.least;
   goal = h.goal;
   held = record {
-    handed = record {
-      steps = h.held.handed.steps;
-      held = λ b. (let own = h.held.handed.held b in let now = st own.0 in (now.0, now.1 ∙ own.1, now.2 ∙ own.2));
-      lawful = h.held.handed.lawful;
-    };
+    handed = handed_stays p.hard (goal_of p h.least) told mid new st h.held.handed;
     few = h.held.few;
   };
 }
 
 later_held : (p : Wcnf) (least : ℤ) (conflicts : ℕ) (told later : Bool) (new : Telling) → (IsTrue told → IsTrue later) → HoldsSteps p least conflicts later new → HoldsSteps p least conflicts told new
 later_held p least conflicts told later new tell h = record {
-  handed = record { steps = h.handed.steps; held = λ b. h.handed.held (tell b); lawful = h.handed.lawful };
+  handed = handed_told p.hard (goal_of p least) told later new tell h.handed;
   few = h.few;
 }
 
@@ -136,23 +127,28 @@ pub later-error : (p : Wcnf) (v bound least : ℤ) (conflicts : ℕ) (old mid ne
 later-error p v bound least conflicts old mid new last tell goal (inl st) = inr (stay_held p conflicts old.tells mid new st (last-steps p v bound conflicts old.tells mid last))
 later-error p v bound least conflicts old mid new last tell goal (inr h) = inr (record { least = least; goal = goal; held = later_held p least conflicts old.tells mid.tells new tell h })
 
-pub on-error : (p : Wcnf) (conflicts : ℕ) (old new : Telling) (r : Result Priced SearchError) → IsLogAfterError p conflicts old new → OnErr r (IsLogAfterError p conflicts old new)
-on-error p conflicts old new (Ok o) h = tt
-on-error p conflicts old new (Err e) h = h
+pub on-error : (p : Wcnf) (conflicts : ℕ) (old new : Telling) (r : Result Priced SearchError) → IsErr r → IsLogAfterError p conflicts old new → IsBestLogged p conflicts old new r
+on-error p conflicts old new (Ok o) e h = absurd (false≢true e)
+on-error p conflicts old new (Err e) _ h = h
 
 -- an error of a search is one of the search for a value
 learned_steps : (p : Wcnf) (least : ℤ) (conflicts : ℕ) (told : Bool) (new : Telling) → HoldsLearned p.hard (goal_of p least) conflicts told new → HoldsSteps p least conflicts told new
 learned_steps p least conflicts told new h = record { handed = h.0; few = omega (arith, h.1.0) }
 
-after_error : (p : Wcnf) (least : ℤ) (conflicts : ℕ) (old new : Telling) (r : Result Outcome SearchError) → IsLogged p.hard (goal_of p least) conflicts old new r → OnErr r (IsLogAfterFailed p least conflicts old new)
-after_error p least conflicts old new (Ok o) h = tt
-after_error p least conflicts old new (Err e) (inl st) = inl st
-after_error p least conflicts old new (Err e) (inr h) = inr (learned_steps p least conflicts old.tells new h)
+goal_logged : (p : Wcnf) (least : ℤ) (conflicts : ℕ) (old new : Telling) (r : Result Outcome SearchError) → IsLogged p.hard (goal_of p least) conflicts old new r → IsGoalLogged p least conflicts old new r
+goal_logged p least conflicts old new (Ok o) h = h
+goal_logged p least conflicts old new (Err e) (inl st) = inl st
+goal_logged p least conflicts old new (Err e) (inr h) = inr (learned_steps p least conflicts old.tells new h)
 
-pub error-same : (p : Wcnf) (goal h : Constraint) (ts : Weighted) (m least : ℤ) (conflicts : ℕ) (old new : Telling) (r : Result Outcome SearchError) → goal ≡ h → h ≡ constraint_of ts m → ts ≡ p.soft → m ≡ least -ℤ p.base → IsLogged p.hard goal conflicts old new r → OnErr r (IsLogAfterFailed p least conflicts old new)
-error-same p goal h ts m least conflicts old new r gh e q ls x = after_error p least conflicts old new r (subst (λ c. IsLogged p.hard c conflicts old new r) (goal_same goal h ts p.soft m (least -ℤ p.base) gh e q ls) x)
+pub logged-same : (p : Wcnf) (goal h : Constraint) (ts : Weighted) (m least : ℤ) (conflicts : ℕ) (old new : Telling) (r : Result Outcome SearchError) → goal ≡ h → h ≡ constraint_of ts m → ts ≡ p.soft → m ≡ least -ℤ p.base → IsLogged p.hard goal conflicts old new r → IsGoalLogged p least conflicts old new r
+logged-same p goal h ts m least conflicts old new r gh e q ls x = goal_logged p least conflicts old new r (subst (λ c. IsLogged p.hard c conflicts old new r) (goal_same goal h ts p.soft m (least -ℤ p.base) gh e q ls) x)
 
 -- nothing was told before an error
-pub error-first : (p : Wcnf) (least : ℤ) (conflicts : ℕ) (old : Telling) (r : Result Outcome SearchError) → OnErr r (IsLogAfterFailed p least conflicts old old)
-error-first p least conflicts old (Ok o) = tt
-error-first p least conflicts old (Err e) = inl (λ b. (b, refl, refl))
+pub error-first : (p : Wcnf) (least : ℤ) (conflicts : ℕ) (old : Telling) (r : Result Outcome SearchError) → IsErr r → IsGoalLogged p least conflicts old old r
+error-first p least conflicts old (Ok o) h = absurd (false≢true h)
+error-first p least conflicts old (Err e) h = inl (λ b. (b, refl, refl))
+
+-- after an error in the first search
+pub first-error : (p : Wcnf) (conflicts : ℕ) (old new : Telling) → IsLogAfterFailed p (pos 1) conflicts old new → IsLogAfterError p conflicts old new
+first-error p conflicts old new (inl st) = inl st
+first-error p conflicts old new (inr h) = inr (record { least = pos 1; goal = inl refl; held = h })

@@ -1,5 +1,5 @@
 -- Values of assignments, and which is the greatest.
-use Rattle.std.specs.Prelude.{ℕ, ◌≡◌, ◌≤◌, ◌<◌, ◌+◌, ℤ, pos, ◌+ℤ◌, ◌-ℤ◌, ◌≤ℤ◌, ◌<ℤ◌, Bool, Some, List, map, length, All, ◌⊎◌}
+use Rattle.std.specs.Prelude.{ℕ, ◌≡◌, ◌≤◌, ◌<◌, ◌+◌, ℤ, pos, ◌+ℤ◌, ◌-ℤ◌, ◌≤ℤ◌, ◌<ℤ◌, Bool, Some, Result, Ok, Err, List, map, length, All, ◌⊎◌}
 use Rattle.ps_steps.specs.Assignments.{Assignment, place}
 use Rattle.ps_steps.specs.Constraints.{Constraint}
 use Rattle.ps_steps.specs.Weights.{true_weight, constraint_of}
@@ -8,6 +8,7 @@ use Rattle.ps_log.specs.Logs.{Telling, Stays}
 use Rattle.ps_sat.specs.Searches.{Handed, AreLearned}
 use Rattle.ps_sat.specs.declared.searching.Outcome.TheVariants as search
 use Rattle.ps_sat.specs.Searches.{IsShown}
+use Rattle.ps_sat.specs.declared.error.SearchError.{SearchError}
 use Rattle.ps_maxsat.specs.Limits.{most_searches}
 use Rattle.ps_maxsat.specs.Sums.{sum_of, weight_if_positive}
 use Rattle.ps_maxsat.specs.declared.problem.Wcnf.{Wcnf}
@@ -97,3 +98,13 @@ pub record HoldsSome (p : Wcnf) (conflicts : ℕ) (told : Bool) (new : Telling) 
 -- after an error the log is as before, or holds the steps of a search
 abbrev pub IsLogAfterError : Wcnf → ℕ → Telling → Telling → Type 0
 IsLogAfterError p conflicts old new = Stays old new ⊎ HoldsSome p conflicts old.tells new
+
+-- what the log holds after a search for a value of at least so much: the search, or what it holds after an error
+abbrev pub IsGoalLogged : Wcnf → ℤ → ℕ → Telling → Telling → Result search.the_data SearchError → Type 0
+IsGoalLogged p least conflicts old new (Ok o) = HoldsSearch p least conflicts old.tells new o
+IsGoalLogged p least conflicts old new (Err e) = IsLogAfterFailed p least conflicts old new
+
+-- what the log holds in the end: what an answer speaks of, or what it holds after an error
+abbrev pub IsBestLogged : Wcnf → ℕ → Telling → Telling → Result Priced SearchError → Type 0
+IsBestLogged p conflicts old new (Ok priced) = IsPricedLog p conflicts old.tells new priced
+IsBestLogged p conflicts old new (Err e) = IsLogAfterError p conflicts old new

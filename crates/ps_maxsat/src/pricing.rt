@@ -1,12 +1,11 @@
 //! The greatest value.
-ghost use Rattle.std.specs.Prelude.{◌≤◌, ◌^◌, ◌<ℤ◌, ◌≤ℤ◌, ◌≡◌, ◌+ℤ◌, ◌-ℤ◌, pos, unsigned_abs};
-ghost use Rattle.std.specs.Prelude.{IsTrue, IfOk, OnOk, OnErr, IsErrOf};
+ghost use Rattle.std.specs.Prelude.{◌≤◌, ◌*◌, ◌<ℤ◌, ◌≤ℤ◌, ◌≡◌, ◌+ℤ◌, ◌-ℤ◌, pos, unsigned_abs};
+ghost use Rattle.std.specs.Prelude.{IsTrue, IfOk, OnOk, IsErrOf};
 ghost use Rattle.ps_sat.specs.Limits.{most_conflicts};
 ghost use Rattle.ps_sat.specs.Errors.{CountsSearchFault};
 ghost use Rattle.ps_sat.specs.Searches.{IsOutcome};
 ghost use Rattle.ps_maxsat.specs.Limits.{most_total, IsNarrow, IsSoftWithin};
-ghost use Rattle.ps_maxsat.specs.Values.{IsPriced, IsPricedLog, IsLogAfterError};
-ghost use Rattle.ps_maxsat.specs.Values.{goal_of, HoldsSearch, IsLogAfterFailed};
+ghost use Rattle.ps_maxsat.specs.Values.{goal_of, IsPriced, IsGoalLogged, IsBestLogged};
 
 use crate::problem::{Wcnf, most, value};
 use ps_clause::ClauseForm;
@@ -54,13 +53,10 @@ fn search_above<S: ProofSink>(
     requires whole { IsTrue (S.is_whole log.old) }
     requires soft { IsSoftWithin wcnf.now }
     requires sizes { IsNarrow wcnf.now }
-    requires least { unsigned_abs least ≤ 2 ^ 121 }
+    requires least { unsigned_abs least ≤ 2 * most_total }
     requires few { conflicts ≤ most_conflicts }
     ensures outcome { IfOk result (IsOutcome wcnf.now.hard (goal_of wcnf.now least) conflicts) }
-    ensures logged { IfOk result (HoldsSearch wcnf.now least conflicts
-        (S.told log.old).tells (S.told log.new)) }
-    ensures refused { OnErr result
-        (IsLogAfterFailed wcnf.now least conflicts (S.told log.old) (S.told log.new)) }
+    ensures logged { IsGoalLogged wcnf.now least conflicts (S.told log.old) (S.told log.new) result }
     ensures whole { OnOk result (IsTrue (S.is_whole log.new)) }
     ensures telling { OnOk result (IsTrue (S.told log.old).tells → IsTrue (S.told log.new).tells) }
     ensures counted { CountsSearchFault result (S.faults log.old) (S.faults log.new) }
@@ -115,10 +111,7 @@ pub fn best<S: ProofSink>(
     requires sizes { IsNarrow wcnf.now }
     requires few { conflicts ≤ most_conflicts }
     ensures priced { IfOk result (IsPriced wcnf.now conflicts) }
-    ensures logged { IfOk result (IsPricedLog wcnf.now conflicts
-        (S.told log.old).tells (S.told log.new)) }
-    ensures refused { OnErr result
-        (IsLogAfterError wcnf.now conflicts (S.told log.old) (S.told log.new)) }
+    ensures logged { IsBestLogged wcnf.now conflicts (S.told log.old) (S.told log.new) result }
     ensures whole { OnOk result (IsTrue (S.is_whole log.new)) }
     ensures counted { CountsSearchFault result (S.faults log.old) (S.faults log.new) }
     ensures no_memory { IsErrOf result SearchError.NoMemory → IsTrue (S.is_whole log.new) }

@@ -1,5 +1,6 @@
 -- How far a search has come.
-use Rattle.std.proofs.Common.{◌≡◌, ℕ, ◌+◌, ◌<◌, ◌≤◌, ℤ, Bool, true, false, Option, Some, List, [], ◌∷◌, ◌++◌, length, length-append, take, map, arith, refl, sym, ap, ◌∙◌, subst}
+use Rattle.std.proofs.Common.{◌≡◌, ℕ, ◌+◌, ◌<◌, ◌≤◌, ℤ, Bool, true, false, Option, Some, List, [], ◌∷◌, ◌++◌, length, length-append, take, get_or, map, arith, refl, sym, ap, ◌∙◌, subst}
+use Rattle.std.specs.Prelude.{IsTrue}
 use Rattle.std.specs.Option.{option_map}
 use Rattle.std.specs.List.{All}
 use Rattle.std.proofs.lemmas.List.Elements.{All-nil, All-push}
@@ -13,7 +14,7 @@ use Rattle.ps_steps.proofs.Onward.{lawful-append, steps-append}
 use Rattle.ps_forms.specs.Forms.{Form, MeetsForm, AreInside, first_known}
 use Rattle.ps_forms.specs.Decided.{AtomsDecide}
 use Rattle.ps_log.specs.Logs.{Telling, Starts, Grows, Stays}
-use Rattle.ps_learning.specs.Trails.{Trail, values, IsFresh, AreReasons}
+use Rattle.ps_learning.specs.Trails.{Trail, values, IsLit, IsFresh, AreReasons}
 use Rattle.ps_learning.proofs.Entries.{reasons-take, reasons-more, reasons-none, length-values}
 use Rattle.ps_learn.specs.Rest.{IsDone}
 use Rattle.ps_sat.specs.Searches.{HoldsGoalAndSteps, Handed, IsHeld, HoldsLearned}
@@ -33,21 +34,37 @@ pub record Searching (f : Form) (goal : Constraint) (told : Bool) (new : Telling
 pub begun : (old new : Telling) (goal : Constraint) → Starts old new goal → HoldsGoalAndSteps new.tells new goal []
 begun old new goal st = λ b. (let r = st.1 b in (b, r.0, r.1))
 
--- what is held by a log that told before is held by one that tells now
+-- what a log holds that tells now is held by one that told before
+abbrev pub handed_told : (f : Form) (goal : Constraint) (told later : Bool) (new : Telling) → (IsTrue told → IsTrue later) → Handed f goal later new → Handed f goal told new
+handed_told f goal told later new tell h = record { steps = h.steps; held = λ b. h.held (tell b); lawful = h.lawful; literals = h.literals }
+
+-- what a log holds stays with it
+abbrev pub handed_stays : (f : Form) (goal : Constraint) (told : Bool) (old new : Telling) → Stays old new → Handed f goal told old → Handed f goal told new
+handed_stays f goal told old new stays h = record {
+  steps = h.steps;
+  held = λ b. (let was = h.held b in let now = stays was.0 in (now.0, now.1 ∙ was.1, now.2 ∙ was.2));
+  lawful = h.lawful;
+  literals = h.literals;
+}
+
+-- the search's outcome or its error as a log tells them that told before
 pub told-before : (f : Form) (goal : Constraint) (old start new : Telling) (conflicts : ℕ) (o : Outcome) → Starts old start goal → IsHeld f goal conflicts start.tells new o → IsHeld f goal conflicts old.tells new o
-told-before f goal old start new conflicts o st h = (record { steps = h.0.steps; held = λ b. h.0.held (st.0 b); lawful = h.0.lawful }, h.1)
+told-before f goal old start new conflicts o st h = (handed_told f goal old.tells start.tells new st.0 h.0, h.1)
 
 pub told-learned : (f : Form) (goal : Constraint) (conflicts : ℕ) (old start new : Telling) → Starts old start goal → HoldsLearned f goal conflicts start.tells new → HoldsLearned f goal conflicts old.tells new
-told-learned f goal conflicts old start new st h = (record { steps = h.0.steps; held = λ b. h.0.held (st.0 b); lawful = h.0.lawful }, h.1)
+told-learned f goal conflicts old start new st h = (handed_told f goal old.tells start.tells new st.0 h.0, h.1)
 
 -- nothing was handed over yet
+abbrev pub none_handed : (f : Form) (goal : Constraint) (told : Bool) (new : Telling) → HoldsGoalAndSteps told new goal [] → Handed f goal told new
+none_handed f goal told new st = record { steps = []; held = st; lawful = tt; literals = All-nil (λ s. All (IsLit f.variables) s.lits) }
+
 pub handed-none : (f : Form) (goal : Constraint) (told : Bool) (new : Telling) (conflicts : ℕ) → HoldsGoalAndSteps told new goal [] → HoldsLearned f goal conflicts told new
-handed-none f goal told new conflicts st = (record { steps = []; held = st; lawful = tt }, (omega arith, All-nil (λ x. is_contradiction x ≡ false)))
+handed-none f goal told new conflicts st = (none_handed f goal told new st, (omega arith, All-nil (λ x. is_contradiction x ≡ false)))
 
 pub begins : (f : Form) (goal : Constraint) (told : Bool) (new : Telling) (cs : List Constraint) (t : Trail) → HoldsGoalAndSteps told new goal [] → cs ≡ f.clauses ++ goal ∷ [] → t ≡ record { variables = f.variables; entries = [] } → AreInside f → IsWithin f.variables goal → Searching f goal told new cs t 0
 begins f goal told new cs t st e q inside own = rw (e, q) (record {
   same = refl;
-  handed = record { steps = []; held = st; lawful = tt };
+  handed = none_handed f goal told new st;
   known = refl;
   reasons = reasons-none f.variables (first_known f goal);
   inside = All-push (IsWithin f.variables) f.clauses goal inside own;
@@ -62,12 +79,19 @@ hold-more told old new c ss x h grows = λ b.
     (now.0, now.1 ∙ was.1, now.2 ∙ ap (option_map (λ ss. ss ++ x ∷ [])) was.2)
 
 -- one step more was handed over
-unfoldable pub handed-more : (f : Form) (goal : Constraint) (told : Bool) (old new : Telling) (cs : List Constraint) (t : Trail) (learned : ℕ) (x : Step) → Searching f goal told old cs t learned → IsLawful f.variables (known_of cs) x → Grows old new (x ∷ []) → Handed f goal told new
-handed-more f goal told old new cs t learned x h lawful grows = record {
+unfoldable pub handed-more : (f : Form) (goal : Constraint) (told : Bool) (old new : Telling) (cs : List Constraint) (t : Trail) (learned : ℕ) (x : Step) → Searching f goal told old cs t learned → IsLawful f.variables (known_of cs) x → All (IsLit f.variables) x.lits → Grows old new (x ∷ []) → Handed f goal told new
+handed-more f goal told old new cs t learned x h lawful lits grows = record {
   steps = h.handed.steps ++ x ∷ [];
   held = hold-more told old new goal h.handed.steps x h.handed.held grows;
   lawful = lawful-append f.variables (first_known f goal) h.handed.steps x h.handed.lawful (subst (λ k. IsLawful f.variables k x) h.known lawful);
+  literals = All-push (λ s. All (IsLit f.variables) s.lits) h.handed.steps x h.handed.literals lits;
 }
+
+lits_inside : (v : ℕ) (lits : List ℤ) → All (IsLit v) lits → All (λ l. place l < v) lits
+lits_inside v lits h = λ k d lt. within_by (get_or lits k d) (h k d lt)
+  where
+    within_by : (l : ℤ) → IsLit v l → place l < v
+    within_by l h = omega (arith, h.0, h.1)
 
 -- the steps that were handed over are of clauses that were learned
 pub handed-learned : (f : Form) (goal : Constraint) (told : Bool) (new : Telling) (cs : List Constraint) (t : Trail) (learned conflicts : ℕ) → Searching f goal told new cs t learned → learned ≤ conflicts → HoldsLearned f goal conflicts told new
@@ -75,27 +99,20 @@ handed-learned f goal told new cs t learned conflicts h le = (h.handed, (omega (
 
 -- none was
 pub handed-stays : (f : Form) (goal : Constraint) (told : Bool) (old new : Telling) (cs : List Constraint) (t : Trail) (learned conflicts : ℕ) → Searching f goal told old cs t learned → learned ≤ conflicts → Stays old new → HoldsLearned f goal conflicts told new
-handed-stays f goal told old new cs t learned conflicts h le stays = (
-  record {
-    steps = h.handed.steps;
-    held = λ b. let was = h.handed.held b in let now = stays was.0 in (now.0, now.1 ∙ was.1, now.2 ∙ was.2);
-    lawful = h.handed.lawful;
-  },
-  (omega (arith, h.count, le), h.literals),
-)
+handed-stays f goal told old new cs t learned conflicts h le stays = (handed_stays f goal told old new stays h.handed, (omega (arith, h.count, le), h.literals))
 
 -- the search goes on after a step
 pub goes-on : (f : Form) (goal : Constraint) (told : Bool) (old new : Telling) (cs cs' : List Constraint) (t u w : Trail) (learned k : ℕ) (x : Step) → Searching f goal told old cs t learned → u.variables ≡ f.variables → AreReasons f.variables (known_of cs) u.entries → IsLawful f.variables (known_of cs) x → Grows old new (x ∷ [])
-    → cs' ≡ cs ++ added x ∷ [] → All (λ l. place l < f.variables) x.lits → is_contradiction x ≡ false → w.variables ≡ u.variables → w.entries ≡ take k u.entries → Searching f goal told new cs' w (learned + 1)
+    → cs' ≡ cs ++ added x ∷ [] → All (IsLit f.variables) x.lits → is_contradiction x ≡ false → w.variables ≡ u.variables → w.entries ≡ take k u.entries → Searching f goal told new cs' w (learned + 1)
 unfolding handed-more
-goes-on f goal told old new cs cs' t u w learned k x h tu reasons lawful grows more inside non same cut =
+goes-on f goal told old new cs cs' t u w learned k x h tu reasons lawful grows more lits non same cut =
     let now : known_of cs' ≡ with_step (known_of cs) x = ap known_of more ∙ known_of-append cs (added x) in
     record {
       same = same ∙ tu;
-      handed = handed-more f goal told old new cs t learned x h lawful grows;
+      handed = handed-more f goal told old new cs t learned x h lawful lits grows;
       known = now ∙ ap (λ y. with_step y x) h.known ∙ sym (steps-append (first_known f goal) h.handed.steps x);
       reasons = rw (now, cut) (reasons-take f.variables (with_step (known_of cs) x) u.entries k (reasons-more f.variables (known_of cs) (Some (added x)) u.entries reasons));
-      inside = rw more (All-push (IsWithin f.variables) cs (clause_of x.lits) h.inside (clause-within f.variables x.lits inside));
+      inside = rw more (All-push (IsWithin f.variables) cs (clause_of x.lits) h.inside (clause-within f.variables x.lits (lits_inside f.variables x.lits lits)));
       count = omega (arith, h.count, length-append h.handed.steps (x ∷ []));
       literals = All-push (λ y. is_contradiction y ≡ false) h.handed.steps x h.literals non;
     }

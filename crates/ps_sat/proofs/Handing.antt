@@ -1,9 +1,9 @@
 -- What holds of the steps that are handed over.
-use Rattle.std.proofs.Common.{◌≡◌, ◌≢◌, ℕ, ◌+◌, ◌<◌, ◌≤◌, ◌^◌, ℤ, Bool, true, false, Option, Some, None, Result, Ok, Err, List, [], ◌∷◌, ◌++◌, length, take, cond, get_or, arith, refl, sym, ap, ◌∙◌, subst, unsigned_abs, ◌⊎◌, inl, inr}
-use Rattle.std.specs.Prelude.{◌==◌, IfOk, IfErr, IsErr}
+use Rattle.std.proofs.Common.{◌≡◌, ◌≢◌, ℕ, ◌+◌, ◌<◌, ◌≤◌, ◌^◌, ℤ, Bool, true, false, Option, Some, None, Result, Ok, Err, List, [], ◌∷◌, ◌++◌, length, take, cond, arith, refl, sym, ap, ◌∙◌, subst, unsigned_abs, ◌⊎◌, inl, inr}
+use Rattle.std.specs.Prelude.{◌==◌, IsErr}
 use Rattle.std.specs.List.{All}
 use Rattle.std.proofs.lemmas.Bool.{eqb-true, false≢true}
-use Rattle.ps_steps.specs.Assignments.{Assignment, place}
+use Rattle.ps_steps.specs.Assignments.{Assignment}
 use Rattle.ps_steps.specs.Constraints.{Constraint, IsMet}
 use Rattle.ps_steps.specs.declared.refused.StepRefused.{StepRefused}
 use Rattle.ps_steps.specs.declared.refused.StepRefused.TheVariants.{IdNotNext}
@@ -15,7 +15,7 @@ use Rattle.ps_log.specs.Limits.{IsStepWithin}
 use Rattle.ps_pb.specs.Limits.{most_variables}
 use Rattle.ps_learning.specs.Known.{most_known, IsIdUpTo}
 use Rattle.ps_learning.specs.Trails.{Trail, IsLit, AreReasons}
-use Rattle.ps_sat.specs.Searches.{HoldsLearned, IsHeld, IsLogged}
+use Rattle.ps_sat.specs.Searches.{HoldsLearned, IsHeld, HasHanded, IsLogged}
 use Rattle.ps_sat.specs.declared.searching.Outcome.{Outcome}
 use Rattle.ps_sat.specs.declared.error.SearchError.{SearchError}
 use Rattle.ps_sat.specs.declared.searching.Outcome.TheVariants.{Found, Refuted, Spent}
@@ -63,24 +63,18 @@ non-empty b ls x r p q e = sym (p ∙ ap (λ (z : List ℤ). length z == 0) q) �
 -- what it holds after a contradiction
 pub held-refuted : (f : Form) (goal : Constraint) (told : Bool) (old new : Telling) (cs : List Constraint) (t : Trail) (learned conflicts : ℕ) (x : Step) (id : ℕ) → Searching f goal told old cs t learned → learned ≤ conflicts → IsLearned f.variables cs x → Grows old new (x ∷ []) → is_contradiction x ≡ true → x.id ≡ id → IsHeld f goal conflicts told new (Refuted id)
 unfolding handed-more
-held-refuted f goal told old new cs t learned conflicts x id h le l grows non own = (handed-more f goal told old new cs t learned x h l.lawful grows, (h.handed.steps, x, refl, (omega (arith, h.count, le), h.literals), own, non))
+held-refuted f goal told old new cs t learned conflicts x id h le l grows non own = (handed-more f goal told old new cs t learned x h l.lawful l.literals grows, (h.handed.steps, x, refl, (omega (arith, h.count, le), h.literals), own, non))
 
 -- the form and the goal are refuted by what was learned
 pub learned-refutes : (f : Form) (goal : Constraint) (told : Bool) (new : Telling) (cs : List Constraint) (t : Trail) (learned : ℕ) (x : Step) → Searching f goal told new cs t learned → IsLearned f.variables cs x → is_contradiction x ≡ true → (w : List Bool) → MeetsForm w f → IsMet w goal → ⊥
 learned-refutes f goal told new cs t learned x h l non = search-refuted f goal told new cs t learned x h l.lawful non
-
-lits_inside : (v : ℕ) (lits : List ℤ) → All (IsLit v) lits → All (λ l. place l < v) lits
-lits_inside v lits h = λ k d lt. within_by (get_or lits k d) (h k d lt)
-  where
-    within_by : (l : ℤ) → IsLit v l → place l < v
-    within_by l h = omega (arith, h.0, h.1)
 
 -- the search goes on after what was learned
 pub goes-further : (f : Form) (goal : Constraint) (told : Bool) (old new : Telling) (cs cs' : List Constraint) (t u w : Trail) (learned k : ℕ) (x : Step) → Searching f goal told old cs t learned → u.variables ≡ t.variables → AreReasons u.variables (known_of cs) u.entries → IsLearned f.variables cs x → Grows old new (x ∷ [])
     → cs' ≡ cs ++ added x ∷ [] → is_contradiction x ≡ false → w.variables ≡ u.variables → w.entries ≡ take k u.entries → Searching f goal told new cs' w (learned + 1)
 goes-further f goal told old new cs cs' t u w learned k x h tu reasons l grows more non same cut =
     let uf : u.variables ≡ f.variables = tu ∙ h.same in
-    goes-on f goal told old new cs cs' t u w learned k x h uf (subst (λ m. AreReasons m (known_of cs) u.entries) uf reasons) l.lawful grows more (lits_inside f.variables x.lits l.literals) non same cut
+    goes-on f goal told old new cs cs' t u w learned k x h uf (subst (λ m. AreReasons m (known_of cs) u.entries) uf reasons) l.lawful grows more l.literals non same cut
 
 -- a conflict more is left
 pub least-more : (b : Bool) (l k : ℕ) → ((b ≡ false) × (l ≢ k)) ⊎ (b ≡ true) → b ≡ false → l ≤ k → l + 1 ≤ k
@@ -93,11 +87,11 @@ logged-nothing f goal conflicts old (Ok o) h = absurd (false≢true h)
 logged-nothing f goal conflicts old (Err e) h = inl (λ b. (b, refl, refl))
 
 -- what was told since the log began
-pub logged-after : (f : Form) (goal : Constraint) (conflicts : ℕ) (old start new : Telling) (r : Result Outcome SearchError) → Starts old start goal → IfOk r (IsHeld f goal conflicts start.tells new) → IfErr r (λ _. HoldsLearned f goal conflicts start.tells new) → IsLogged f goal conflicts old new r
-logged-after f goal conflicts old start new (Ok o) st held handed = told-before f goal old start new conflicts o st held
-logged-after f goal conflicts old start new (Err e) st held handed = inr (told-learned f goal conflicts old start new st handed)
+pub logged-after : (f : Form) (goal : Constraint) (conflicts : ℕ) (old start new : Telling) (r : Result Outcome SearchError) → Starts old start goal → HasHanded f goal conflicts start new r → IsLogged f goal conflicts old new r
+logged-after f goal conflicts old start new (Ok o) st h = told-before f goal old start new conflicts o st h
+logged-after f goal conflicts old start new (Err e) st h = inr (told-learned f goal conflicts old start new st h)
 
 -- an error comes after clauses that were learned
-pub err-learned : (f : Form) (goal : Constraint) (told : Bool) (new : Telling) (conflicts : ℕ) (r : Result Outcome SearchError) → HoldsLearned f goal conflicts told new → IfErr r (λ _. HoldsLearned f goal conflicts told new)
-err-learned f goal told new conflicts (Ok o) h = tt
-err-learned f goal told new conflicts (Err e) h = h
+pub err-learned : (f : Form) (goal : Constraint) (start new : Telling) (conflicts : ℕ) (r : Result Outcome SearchError) → IsErr r → HoldsLearned f goal conflicts start.tells new → HasHanded f goal conflicts start new r
+err-learned f goal start new conflicts (Ok o) e h = absurd (false≢true e)
+err-learned f goal start new conflicts (Err e) _ h = h

@@ -4,6 +4,7 @@ use Rattle.ps_steps.specs.Constraints.{Constraint, IsMet}
 use Rattle.ps_steps.specs.Steps.{Step, AreLawful, is_contradiction}
 use Rattle.ps_forms.specs.Forms.{Form, MeetsForm, first_known}
 use Rattle.ps_log.specs.Logs.{Telling, Stays}
+use Rattle.ps_learning.specs.Trails.{IsLit}
 use Rattle.ps_sat.specs.declared.searching.Outcome.{Outcome}
 use Rattle.ps_sat.specs.declared.searching.Outcome.TheVariants.{Found, Refuted, Spent}
 use Rattle.ps_sat.specs.declared.error.SearchError.{SearchError}
@@ -32,11 +33,17 @@ IsShown conflicts ss (Found a) = AreLearned conflicts ss
 IsShown conflicts ss (Refuted last) = (front : List Step) × (s : Step) × (ss ≡ front ++ s ∷ []) × AreLearned conflicts front × (s.id ≡ last) × (is_contradiction s ≡ true)
 IsShown conflicts ss (Spent learned) = (length ss ≡ conflicts) × HaveLiterals ss
 
--- the steps that were handed over are lawful after the form and the goal, and a log that told holds just these
+-- each literal of each step is one of these variables
+abbrev pub AreStepsOf : ℕ → List Step → Type 0
+AreStepsOf variables ss = All (λ s. All (IsLit variables) s.lits) ss
+
+-- the steps that were handed over are lawful after the form and the goal, and of the form's variables, and a log that told holds
+-- just these
 pub record Handed (f : Form) (goal : Constraint) (told : Bool) (new : Telling) : Type 0 where
   pub steps : List Step
   pub held : HoldsGoalAndSteps told new goal steps
   pub lawful : AreLawful f.variables (first_known f goal) steps
+  pub literals : AreStepsOf f.variables steps
 
 -- the steps that were handed over are as an outcome says
 abbrev pub IsHeld : Form → Constraint → ℕ → Bool → Telling → Outcome → Type 0
@@ -45,6 +52,11 @@ IsHeld f goal conflicts told new o = (h : Handed f goal told new) × IsShown con
 -- the steps that were handed over before an error are so many at most, each with a literal
 abbrev pub HoldsLearned : Form → Constraint → ℕ → Bool → Telling → Type 0
 HoldsLearned f goal conflicts told new = (h : Handed f goal told new) × AreLearned conflicts h.steps
+
+-- what was handed over is held by a log that told: as the outcome says, or before an error
+abbrev pub HasHanded : Form → Constraint → ℕ → Telling → Telling → Result Outcome SearchError → Type 0
+HasHanded f goal conflicts start new (Ok o) = IsHeld f goal conflicts start.tells new o
+HasHanded f goal conflicts start new (Err e) = HoldsLearned f goal conflicts start.tells new
 
 -- the log after a search holds the goal and the steps of this search; after an error it may also be as before
 abbrev pub IsLogged : Form → Constraint → ℕ → Telling → Telling → Result Outcome SearchError → Type 0

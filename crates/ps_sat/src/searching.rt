@@ -1,13 +1,13 @@
 //! The search.
 ghost use Rattle.std.specs.Prelude.{◌≡◌, ◌≤◌, ◌<◌, ◌^◌, ◌++◌, ◌∷◌, [], length, All};
-ghost use Rattle.std.specs.Prelude.{IfOk, IfErr, OnOk, OnErr, IsTrue, IsErrOf};
+ghost use Rattle.std.specs.Prelude.{IfOk, OnOk, OnErr, IsTrue, IsErrOf};
 ghost use Rattle.ps_steps.specs.Steps.{added};
 ghost use Rattle.ps_steps.specs.Weights.{IsWithin};
 ghost use Rattle.ps_log.specs.Logs.{Grows, Stays};
 ghost use Rattle.ps_log.specs.Limits.{IsStepWithin};
 ghost use Rattle.ps_sat.specs.Limits.{most_conflicts};
 ghost use Rattle.ps_sat.specs.Errors.{CountsSearchFault};
-ghost use Rattle.ps_sat.specs.Searches.{IsOutcome, IsLogged, IsHeld, HoldsGoalAndSteps, HoldsLearned};
+ghost use Rattle.ps_sat.specs.Searches.{IsOutcome, IsLogged, HasHanded, HoldsGoalAndSteps};
 
 use crate::advancing::advance;
 use crate::error::SearchError;
@@ -97,10 +97,7 @@ fn learn_all<S: ProofSink>(
     requires small { length known ≤ 2 ^ 32 }
     requires few { conflicts ≤ most_conflicts }
     ensures outcome { IfOk result (IsOutcome base.now goal.now conflicts) }
-    ensures shown { IfOk result (IsHeld base.now goal.now conflicts
-        (S.told log.old).tells (S.told log.new)) }
-    ensures handed { IfErr result (λ _. HoldsLearned base.now goal.now conflicts
-        (S.told log.old).tells (S.told log.new)) }
+    ensures logged { HasHanded base.now goal.now conflicts (S.told log.old) (S.told log.new) result }
     ensures whole { OnOk result (IsTrue (S.is_whole log.new)) }
     ensures counted { CountsSearchFault result (S.faults log.old) (S.faults log.new) }
     ensures no_memory { IsErrOf result SearchError.NoMemory → IsTrue (S.is_whole log.new) }

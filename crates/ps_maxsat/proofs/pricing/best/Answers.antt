@@ -2,8 +2,13 @@ use Rattle.std.proofs.Common.{◌≡◌, ◌≤◌, ◌∙◌, ◌+ℤ◌, ◌-�
 use mir.Syntax.{w128}
 use Rattle.std.proofs.lemmas.Int.{ints}
 use Rattle.ps_maxsat.proofs.Halving.{halved-first, halved-next, halved-few, halves-up, halves-down, least-up}
-use Rattle.ps_maxsat.proofs.Rounds.{refuted-none, none-same, found-of, held-end, spent-is, held-found, held-refutation, held-last, bound-above, later-error, later-goal, on-error}
+use Rattle.ps_maxsat.proofs.Rounds.{refuted-none, none-same, found-of, held-end, spent-is, held-found, held-refutation, held-last, bound-above, later-error, later-goal, first-error, on-error}
 use Rattle.ps_maxsat.proofs.pricing.best.Goals as goal
+
+pub returns-in_err-last-clause-logged : goal.returns-in_err-last-clause-logged
+returns-in_err-last-clause-logged g c =
+    on-error c.args.wcnf.now c.args.conflicts _ _ c.from_residual.result c.from_residual.ensures.0
+    (first-error c.args.wcnf.now c.args.conflicts _ _ c.in_err-last.ensures.logged)
 
 pub returns-in-Refuted-clause-priced : goal.returns-in-Refuted-clause-priced
 returns-in-Refuted-clause-priced g c = refuted-none c.args.wcnf.now (pos 1) (pos 0) c.args.conflicts c.in_ok-last.field-0 _ c.in-Refuted.is c.in_ok-last.ensures.outcome refl
@@ -107,14 +112,14 @@ loop-found-smaller-in-Refuted-2 g c = let few : c.loop-found.searches ≤ 121 = 
 pub loop-found-smaller : goal.loop-found-smaller
 loop-found-smaller g c = let few : c.loop-found.searches ≤ 121 = halved-few _ _ c.loop-found.searches c.loop-found.invariant.halved in omega (arith, few)
 
-pub returns-in_err-search_above-clause-refused : goal.returns-in_err-search_above-clause-refused
-returns-in_err-search_above-clause-refused g c =
+pub returns-in_err-search_above-clause-logged : goal.returns-in_err-search_above-clause-logged
+returns-in_err-search_above-clause-logged g c =
     let i = c.loop-found.invariant in
     let m = c.middle-goal.ensures in
     let r : ℤ = to_z w128 (of_z w128 c.middle-goal.result) in
     let goal_is = later-goal c.args.wcnf.now (to_z w128 c.loop-found.found-bits) c.middle-goal.result r (to_z w128 c.loop-found.bound-bits) (omega (arith, ints)) i.least m.above m.within i.within in
-    on-error c.args.wcnf.now c.args.conflicts _ _ c.from_residual-in_err-search_above.result
-    (later-error c.args.wcnf.now (to_z w128 c.loop-found.found-bits) (to_z w128 c.loop-found.bound-bits) r c.args.conflicts _ _ _ i.logged i.telling goal_is c.in_err-search_above.ensures.refused)
+    on-error c.args.wcnf.now c.args.conflicts _ _ c.from_residual-in_err-search_above.result c.from_residual-in_err-search_above.ensures.0
+    (later-error c.args.wcnf.now (to_z w128 c.loop-found.found-bits) (to_z w128 c.loop-found.bound-bits) r c.args.conflicts _ _ _ i.logged i.telling goal_is c.in_err-search_above.ensures.logged)
 
 pub returns-clause-logged : goal.returns-clause-logged
 returns-clause-logged g c =

@@ -1,7 +1,7 @@
 use Rattle.std.proofs.Common.{◌≡◌, ◌-ℤ◌, refl, ℤ, to_z, of_z, arith}
 use mir.Syntax.{w128}
 use Rattle.std.proofs.lemmas.Int.{ints}
-use Rattle.ps_maxsat.proofs.Rounds.{goal-within, outcome-same, held-same, still-tells, error-same, error-first}
+use Rattle.ps_maxsat.proofs.Rounds.{goal-within, outcome-same, still-tells, logged-same, error-first}
 use Rattle.ps_maxsat.proofs.pricing.search_above.Goals as goal
 
 pub search-requires-clause-goal : goal.search-requires-clause-goal
@@ -16,20 +16,14 @@ returns-clause-outcome g c =
     let e : r ≡ c.args.least -ℤ c.args.wcnf.now.base = omega (arith, ints, c.requires.sizes, c.requires.least) in
     outcome-same c.args.wcnf.now.hard c.in_ok-goal.goal c.in_ok-goal.goal c.as_slice.result.now c.args.wcnf.now.soft r (c.args.least -ℤ c.args.wcnf.now.base) c.args.conflicts c.search.result refl c.in_ok-goal.ensures.value c.as_slice.ensures e c.search.ensures.outcome
 
+pub returns-clause-telling : goal.returns-clause-telling
+returns-clause-telling g c = still-tells c.args.wcnf.now.hard _ c.args.conflicts _ _ c.search.result c.search.ensures.logged
+
+pub returns-in_err-goal-clause-logged : goal.returns-in_err-goal-clause-logged
+returns-in_err-goal-clause-logged g c = error-first c.args.wcnf.now c.args.least c.args.conflicts _ c.from_residual.result c.from_residual.ensures.0
+
 pub returns-clause-logged : goal.returns-clause-logged
 returns-clause-logged g c =
     let r : ℤ = to_z w128 (of_z w128 (to_z w128 (of_z w128 c.args.least) -ℤ to_z w128 (of_z w128 c.args.wcnf.now.base))) in
     let e : r ≡ c.args.least -ℤ c.args.wcnf.now.base = omega (arith, ints, c.requires.sizes, c.requires.least) in
-    held-same c.args.wcnf.now.hard c.in_ok-goal.goal c.in_ok-goal.goal c.as_slice.result.now c.args.wcnf.now.soft r (c.args.least -ℤ c.args.wcnf.now.base) c.args.conflicts _ _ c.search.result refl c.in_ok-goal.ensures.value c.as_slice.ensures e c.search.ensures.logged
-
-pub returns-clause-telling : goal.returns-clause-telling
-returns-clause-telling g c = still-tells c.args.wcnf.now.hard _ c.args.conflicts _ _ c.search.result c.search.ensures.logged
-
-pub returns-in_err-goal-clause-refused : goal.returns-in_err-goal-clause-refused
-returns-in_err-goal-clause-refused g c = error-first c.args.wcnf.now c.args.least c.args.conflicts _ c.from_residual.result
-
-pub returns-clause-refused : goal.returns-clause-refused
-returns-clause-refused g c =
-    let r : ℤ = to_z w128 (of_z w128 (to_z w128 (of_z w128 c.args.least) -ℤ to_z w128 (of_z w128 c.args.wcnf.now.base))) in
-    let e : r ≡ c.args.least -ℤ c.args.wcnf.now.base = omega (arith, ints, c.requires.sizes, c.requires.least) in
-    error-same c.args.wcnf.now c.in_ok-goal.goal c.in_ok-goal.goal c.as_slice.result.now r c.args.least c.args.conflicts _ _ c.search.result refl c.in_ok-goal.ensures.value c.as_slice.ensures e c.search.ensures.logged
+    logged-same c.args.wcnf.now c.in_ok-goal.goal c.in_ok-goal.goal c.as_slice.result.now r c.args.least c.args.conflicts _ _ c.search.result refl c.in_ok-goal.ensures.value c.as_slice.ensures e c.search.ensures.logged

@@ -20,12 +20,12 @@ pub returns-in-None-clause-outcome : goal.returns-in-None-clause-outcome
 returns-in-None-clause-outcome g c =
     search-found c.args.base.now c.args.goal.now _ _ c.learn.known c.learn.trail c.advance.new.trail c.learn.learned _ c.learn.invariant.so_far c.advance.ensures.variables c.variables.ensures.decided c.variables.ensures.inside c.requires.goal c.in-None.ensures.ended c.into_values.ensures
 
-pub returns-in-None-clause-shown : goal.returns-in-None-clause-shown
-returns-in-None-clause-shown g c =
+pub returns-in-None-clause-logged : goal.returns-in-None-clause-logged
+returns-in-None-clause-logged g c =
     held-found c.args.base.now c.args.goal.now _ _ c.learn.known c.learn.trail c.learn.learned c.args.conflicts c.into_values.result c.learn.invariant.so_far c.learn.invariant.least
 
-pub returns-then-learned-conflicts-clause-shown : goal.returns-then-learned-conflicts-clause-shown
-returns-then-learned-conflicts-clause-shown g c =
+pub returns-then-learned-conflicts-clause-logged : goal.returns-then-learned-conflicts-clause-logged
+returns-then-learned-conflicts-clause-logged g c =
     held-spent c.args.base.now c.args.goal.now _ _ c.learn.known c.learn.trail c.learn.learned c.args.conflicts c.learn.invariant.so_far c.if-learned-conflicts.true
 
 pub hand_over-requires-clause-within : goal.hand_over-requires-clause-within
@@ -43,8 +43,8 @@ returns-then-last-clause-outcome g c =
     (is-learned c.args.base.now.variables c.advance.new.trail.variables c.learn.known _ _ (ap (λ (z : Learned). z.step) c.found.view_is) (c.advance.ensures.variables ∙ c.learn.invariant.so_far.same) learned.lawful learned.literals learned.few_literals learned.hints learned.few_hints)
     (non-empty c.is_empty-last.result c.as_slice.result.now x _ c.is_empty-last.ensures c.as_slice.ensures c.if-last.true)
 
-pub returns-then-last-clause-shown : goal.returns-then-last-clause-shown
-returns-then-last-clause-shown g c =
+pub returns-then-last-clause-logged : goal.returns-then-last-clause-logged
+returns-then-last-clause-logged g c =
     let x : Step = record { id = c.found.inside.0.0.id; lits = c.found.inside.0.0.lits; hints = c.found.inside.0.0.hints } in
     let learned = c.in_ok-found.ensures in
     held-refuted c.args.base.now c.args.goal.now _ _ _ c.learn.known c.learn.trail c.learn.learned c.args.conflicts x _ c.learn.invariant.so_far c.learn.invariant.least
@@ -68,16 +68,16 @@ learn-preserved g c =
       same_references = c.hand_over.ensures.same_references ∙ c.learn.invariant.same_references;
     }
 
-pub returns-in_err-order-clause-handed : goal.returns-in_err-order-clause-handed
-returns-in_err-order-clause-handed g c =
-    err-learned c.args.base.now c.args.goal.now _ _ c.args.conflicts c.from_residual.result (handed-none c.args.base.now c.args.goal.now _ _ c.args.conflicts c.requires.begun)
+pub returns-in_err-order-clause-logged : goal.returns-in_err-order-clause-logged
+returns-in_err-order-clause-logged g c =
+    err-learned c.args.base.now c.args.goal.now (g.S.ProofSink.told c.args.log.now) _ c.args.conflicts c.from_residual.result c.from_residual.ensures.0 (handed-none c.args.base.now c.args.goal.now _ _ c.args.conflicts c.requires.begun)
 
-pub returns-in_err-found-clause-handed : goal.returns-in_err-found-clause-handed
-returns-in_err-found-clause-handed g c =
-    err-learned c.args.base.now c.args.goal.now _ _ c.args.conflicts c.from_residual-in_err-found.result
+pub returns-in_err-found-clause-logged : goal.returns-in_err-found-clause-logged
+returns-in_err-found-clause-logged g c =
+    err-learned c.args.base.now c.args.goal.now (g.S.ProofSink.told c.args.log.now) _ c.args.conflicts c.from_residual-in_err-found.result c.from_residual-in_err-found.ensures.0
     (handed-learned c.args.base.now c.args.goal.now _ _ c.learn.known c.learn.trail c.learn.learned c.args.conflicts c.learn.invariant.so_far c.learn.invariant.least)
 
-pub returns-in_err-hand_over-clause-handed : goal.returns-in_err-hand_over-clause-handed
-returns-in_err-hand_over-clause-handed g c =
-    err-learned c.args.base.now c.args.goal.now _ _ c.args.conflicts c.from_residual-in_err-hand_over.result
+pub returns-in_err-hand_over-clause-logged : goal.returns-in_err-hand_over-clause-logged
+returns-in_err-hand_over-clause-logged g c =
+    err-learned c.args.base.now c.args.goal.now (g.S.ProofSink.told c.args.log.now) _ c.args.conflicts c.from_residual-in_err-hand_over.result c.from_residual-in_err-hand_over.ensures.0
     (handed-stays c.args.base.now c.args.goal.now _ _ _ c.learn.known c.learn.trail c.learn.learned c.args.conflicts c.learn.invariant.so_far c.learn.invariant.least c.in_err-hand_over.ensures.err)

@@ -8,4 +8,4 @@ pub returns-in_err-trail-clause-logged : goal.returns-in_err-trail-clause-logged
 returns-in_err-trail-clause-logged g c = logged-nothing c.args.base.now c.args.goal.now c.args.conflicts _ c.from_residual-in_err-trail.result c.from_residual-in_err-trail.ensures.0
 
 pub returns-clause-logged : goal.returns-clause-logged
-returns-clause-logged g c = logged-after c.args.base.now c.args.goal.now c.args.conflicts _ _ _ c.learn_all.result c.in_ok-begin.ensures.ok c.learn_all.ensures.shown c.learn_all.ensures.handed
+returns-clause-logged g c = logged-after c.args.base.now c.args.goal.now c.args.conflicts _ _ _ c.learn_all.result c.in_ok-begin.ensures.ok c.learn_all.ensures.logged
