@@ -10,7 +10,7 @@ use Rattle.ps_answer.specs.Due.{behind}
 use Rattle.ps_line.specs.Read.{Fits}
 use Rattle.ps_reader.specs.declared.lines.Lines.{Lines}
 use Rattle.ps_reader.specs.Taken.{Takes}
-use Rattle.ps_reader.specs.Reports.{behind_opening}
+use Rattle.ps_reader.specs.Reports.{parts_behind}
 use Rattle.ps_reader.proofs.Passing.{opening_due}
 
 pub cause_only : (i : Item) → Fits ACause i → ((n : _) → i ≡ line.OpenPivots n → ⊥) → ((n : _) → i ≡ line.OpenConflicts n → ⊥) → ((p : _) (o : _) (l r : _) → i ≡ line.OpenWide p o l r → ⊥) → ⊥
@@ -20,7 +20,7 @@ cause_only (line.OpenConflicts n) f h k m = k n refl
 cause_only (line.OpenWide p o l r) f h k m = m p o l r refl
 cause_only i f h k m = absurd (none-some _ (f []).1)
 
-pub cause_due : (i : Item) → Fits ACause i → (due : List Part) → behind ACause i due ≡ Some (behind_opening i ++ due)
+pub cause_due : (i : Item) → Fits ACause i → (due : List Part) → behind ACause i due ≡ Some (parts_behind i ++ due)
 unfolding behind
 cause_due i f due = opening_due i due f
 
@@ -42,7 +42,7 @@ verdict_cause (line.OpenConflicts n) f h k = f
 verdict_cause (line.OpenWide p o l r) f h k = f
 verdict_cause i f h k = absurd (none-some _ (f []).1)
 
-pub verdict_opening : (i : Item) → Fits AVerdict i → (i ≡ line.Consistent → ⊥) → (i ≡ line.Inconsistent → ⊥) → (due : List Part) → behind AVerdict i due ≡ Some (behind_opening i ++ due)
+pub verdict_opening : (i : Item) → Fits AVerdict i → (i ≡ line.Consistent → ⊥) → (i ≡ line.Inconsistent → ⊥) → (due : List Part) → behind AVerdict i due ≡ Some (parts_behind i ++ due)
 unfolding behind
 verdict_opening line.Consistent f h k due = absurd (h refl)
 verdict_opening line.Inconsistent f h k due = absurd (k refl)
@@ -69,13 +69,13 @@ answer_cause (line.OpenConflicts n) f h k = λ due. (_, refl)
 answer_cause (line.OpenWide p o l r) f h k = λ due. (due, refl)
 answer_cause i f h k = absurd (none-some _ (f []).1)
 
-pub answer_opening : (i : Item) → Fits AnAnswer i → (i ≡ line.Bounds → ⊥) → (i ≡ line.Impossible → ⊥) → (due : List Part) → behind AnAnswer i due ≡ Some ((behind_opening i ++ ATrace ∷ []) ++ due)
+pub answer_opening : (i : Item) → Fits AnAnswer i → (i ≡ line.Bounds → ⊥) → (i ≡ line.Impossible → ⊥) → (due : List Part) → behind AnAnswer i due ≡ Some ((parts_behind i ++ ATrace ∷ []) ++ due)
 unfolding behind
 answer_opening line.Bounds f h k due = absurd (h refl)
 answer_opening line.Impossible f h k due = absurd (k refl)
 answer_opening (line.OpenPivots n) f h k due = refl
 answer_opening (line.OpenConflicts n) f h k due =
-    opening_due (line.OpenConflicts n) (ATrace ∷ due) (λ ds. (_, refl)) ∙ ap Some (sym (append_assoc (behind_opening (line.OpenConflicts n)) (ATrace ∷ []) due))
+    opening_due (line.OpenConflicts n) (ATrace ∷ due) (λ ds. (_, refl)) ∙ ap Some (sym (append_assoc (parts_behind (line.OpenConflicts n)) (ATrace ∷ []) due))
 answer_opening (line.OpenWide p o l r) f h k due = refl
 answer_opening i f h k due = absurd (none-some _ (f []).1)
 

@@ -25,7 +25,7 @@ use Rattle.ps_answer.specs.declared.part.Part.TheVariants.{AVerdict, AModel, AnE
 use Rattle.ps_answer.specs.Due.{many, behind, behind_cause, due_behind, and_then}
 use Rattle.ps_line.specs.Read.{Fits}
 use Rattle.ps_reader.specs.Taken.{repeated}
-use Rattle.ps_reader.specs.Reports.{behind_opening, side_lines, IsSideTold, answer_lines, IsPartTold}
+use Rattle.ps_reader.specs.Reports.{parts_behind, side_lines, IsSideTold, answer_lines, IsPartTold}
 use Rattle.ps_reader.proofs.Taking.{due_both, many_more, EachPasses}
 
 -- where these parts are due, and then any others, the lines are due, and then the others
@@ -87,20 +87,20 @@ unfolding tail_of
 same_tail x y xs ys e = ap tail_of e
 
 -- a cause behind its first line
-pub opening_passes : (c : Cause) (i : Item) (more : List Item) → IsCounted c → cause_items c ≡ i ∷ more → Passes (behind_opening i) more
+pub opening_passes : (c : Cause) (i : Item) (more : List Item) → IsCounted c → cause_items c ≡ i ∷ more → Passes (parts_behind i) more
 opening_passes (Pivots limit) i more h e =
-    subst (λ x. Passes (behind_opening x) more) (same_head (line.OpenPivots limit) i [] more e) (subst (λ x. Passes [] x) (same_tail (line.OpenPivots limit) i [] more e) (λ due. refl))
+    subst (λ x. Passes (parts_behind x) more) (same_head (line.OpenPivots limit) i [] more e) (subst (λ x. Passes [] x) (same_tail (line.OpenPivots limit) i [] more e) (λ due. refl))
 opening_passes (Conflicts limit goal steps) i more h e =
     let rest : List Item = line.GoalLine goal ∷ map line.StepLine steps in
-    subst (λ x. Passes (behind_opening x) more) (same_head (line.OpenConflicts limit) i rest more e)
+    subst (λ x. Passes (parts_behind x) more) (same_head (line.OpenConflicts limit) i rest more e)
     (subst (λ x. Passes (AGoal ∷ repeated limit AStep) x) (same_tail (line.OpenConflicts limit) i rest more e)
     (both_pass (AGoal ∷ []) (repeated limit AStep) (line.GoalLine goal ∷ []) (map line.StepLine steps) (goal_passes goal) (steps_pass limit steps h)))
 opening_passes (Wide at) i more h e =
     let first : Item = line.OpenWide at.place at.op (ratio_of at.left) (ratio_of at.right) in
-    subst (λ x. Passes (behind_opening x) more) (same_head first i [] more e) (subst (λ x. Passes [] x) (same_tail first i [] more e) (λ due. refl))
+    subst (λ x. Passes (parts_behind x) more) (same_head first i [] more e) (subst (λ x. Passes [] x) (same_tail first i [] more e) (λ due. refl))
 
 -- the first line of a cause, and the parts that follow it
-pub opening_due : (i : Item) (due : List Part) → Fits ACause i → behind_cause i due ≡ Some (behind_opening i ++ due)
+pub opening_due : (i : Item) (due : List Part) → Fits ACause i → behind_cause i due ≡ Some (parts_behind i ++ due)
 unfolding behind
 opening_due (line.OpenPivots limit) due f = refl
 opening_due (line.OpenConflicts limit) due f = ap (λ d. Some (AGoal ∷ d)) (sym (many_more limit AStep due))

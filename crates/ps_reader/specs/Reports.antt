@@ -4,7 +4,7 @@ use Rattle.ps_pool.specs.declared.event.Event.{Event}
 use Rattle.ps_answer.specs.declared.item.Item.{Item}
 use Rattle.ps_answer.specs.declared.item.Item.TheVariants as line
 use Rattle.ps_answer.specs.declared.part.Part.{Part}
-use Rattle.ps_answer.specs.declared.part.Part.TheVariants.{AGoal, AStep}
+use Rattle.ps_answer.specs.declared.part.Part.TheVariants.{AModel, ADual, AStep, AGoal, ACause, ATrace, ASide}
 use Rattle.ps_answer.specs.declared.error.ReportError.{ReportError}
 use Rattle.ps_answer.specs.Items.{IsProper, IsWithin}
 use Rattle.ps_answer.specs.declared.limits.TheConstants.{MOST_QUERIES}
@@ -14,15 +14,25 @@ use Rattle.ps_answer.specs.Answers.{side_items, query_items, part_items, IsSideC
 use Rattle.ps_reader.specs.declared.lines.Lines.{Lines}
 use Rattle.ps_reader.specs.Taken.{Takes, IsStopped, repeated}
 
--- the rest of a value is read, whose first line says this, or its parts are at fault
-abbrev pub IsRestRead : {X : Type 0} → Item → (X → List Item) → List Part → Lines → Lines → Result X ReportError → Type 0
-IsRestRead i items_of parts old new (Ok x) = (more : List Item) × (items_of x ≡ i ∷ more) × Takes old new more
-IsRestRead i items_of parts old new (Err e) = IsStopped old parts e
+-- a value is read whose first line says this and whose other parts are these, or one of them is at fault
+abbrev pub IsReadBehind : {X : Type 0} → Item → (X → List Item) → List Part → Lines → Lines → Result X ReportError → Type 0
+IsReadBehind i items_of parts old new (Ok x) = (more : List Item) × (items_of x ≡ i ∷ more) × Takes old new more
+IsReadBehind i items_of parts old new (Err e) = IsStopped old parts e
 
--- the parts behind the first line of a cause
-abbrev pub behind_opening : Item → List Part
-behind_opening (line.OpenConflicts limit) = AGoal ∷ repeated limit AStep
-behind_opening i = []
+-- the parts behind the first line of a verdict, a cause, a side or a query's answer
+abbrev pub parts_behind : Item → List Part
+parts_behind line.Consistent = AModel ∷ []
+parts_behind line.Inconsistent = ADual ∷ []
+parts_behind (line.OpenConflicts limit) = AGoal ∷ repeated limit AStep
+parts_behind (line.Bound upper value) = AModel ∷ ADual ∷ ATrace ∷ []
+parts_behind (line.OpenSide upper) = ACause ∷ ATrace ∷ []
+parts_behind line.Bounds = ATrace ∷ ASide false ∷ ASide true ∷ []
+parts_behind line.Impossible = ADual ∷ ATrace ∷ []
+parts_behind i = []
+
+-- the rest of a value is read, whose first line says this
+abbrev pub IsRestRead : {X : Type 0} → Item → (X → List Item) → Lines → Lines → Result X ReportError → Type 0
+IsRestRead i items_of old new result = IsReadBehind i items_of (parts_behind i) old new result
 
 -- a line that says what may be said, within the limits
 pub record IsGood (i : Item) : Type 0 where
@@ -33,6 +43,10 @@ pub record IsGood (i : Item) : Type 0 where
 abbrev pub side_lines : Bool → SideAnswer × List Event → List Item
 side_lines upper s = side_items upper s.0 s.1
 
+-- the rest of a side is read, lower and upper alike
+abbrev pub IsSideRest : (Bool → Item) → Lines → Lines → Result (SideAnswer × List Event) ReportError → Type 0
+IsSideRest first old new result = (upper : Bool) → IsRestRead (first upper) (side_lines upper) old new result
+
 -- a side that is open for conflicts has as many steps as their limit
 abbrev pub IsSideTold : SideAnswer × List Event → Type 0
 IsSideTold s = IsSideCounted s.0
@@ -40,6 +54,10 @@ IsSideTold s = IsSideCounted s.0
 -- a query's answer with the trace of its first phase
 abbrev pub answer_lines : QueryPart → List Item
 answer_lines p = query_items p.answer p.first
+
+-- the rest of an open answer is read, whose cause begins so: the parts of the cause, and a trace
+abbrev pub IsOpenRest : Item → Lines → Lines → Result QueryPart ReportError → Type 0
+IsOpenRest i old new result = IsReadBehind i answer_lines (parts_behind i ++ ATrace ∷ []) old new result
 
 -- an answer to a query that is open for conflicts has as many steps as their limit, and so has each side that is
 abbrev pub IsPartTold : QueryPart → Type 0

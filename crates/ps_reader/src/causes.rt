@@ -5,10 +5,10 @@ ghost use Rattle.ps_answer.specs.Answers.{ratio_of, cause_items, verdict_items, 
 ghost use Rattle.ps_answer.specs.Items.{IsReducedWithin, IsRatioWithin};
 ghost use Rattle.ps_answer.specs.declared.limits.TheConstants.{MOST_OPERAND};
 ghost use Rattle.ps_answer.specs.declared.item.Item.TheVariants as line;
-ghost use Rattle.ps_answer.specs.declared.part.Part.TheVariants.{ACause, AGoal, AStep, AModel, ADual, AVerdict};
+ghost use Rattle.ps_answer.specs.declared.part.Part.TheVariants.{ACause, AGoal, AVerdict};
 ghost use Rattle.ps_line.specs.Read.{Fits};
-ghost use Rattle.ps_reader.specs.Taken.{IsValueRead, repeated};
-ghost use Rattle.ps_reader.specs.Reports.{IsRestRead, IsGood, behind_opening};
+ghost use Rattle.ps_reader.specs.Taken.{IsValueRead};
+ghost use Rattle.ps_reader.specs.Reports.{IsRestRead, IsGood};
 
 use crate::lines::Lines;
 use crate::models::{dual, model, steps};
@@ -30,7 +30,7 @@ pub(crate) fn cause(lines: &mut Lines<'_>) -> Result<Cause, ReportError>
 pub(crate) fn cause_behind(item: Item, lines: &mut Lines<'_>) -> Result<Cause, ReportError>
     requires fits { Fits ACause item }
     requires good { IsGood item }
-    ensures cause { IsRestRead item cause_items (behind_opening item) lines.old lines.new result }
+    ensures cause { IsRestRead item cause_items lines.old lines.new result }
     ensures counted { IfOk result IsCounted }
 {
     match item {
@@ -65,8 +65,7 @@ fn wide(place: Place, op: Op, left: &Ratio, right: &Ratio) -> Cause
 }
 
 fn conflicts(limit: u64, lines: &mut Lines<'_>) -> Result<Cause, ReportError>
-    ensures cause { IsRestRead (line.OpenConflicts limit) cause_items (AGoal ∷ repeated limit AStep)
-        lines.old lines.new result }
+    ensures cause { IsRestRead (line.OpenConflicts limit) cause_items lines.old lines.new result }
     ensures counted { IfOk result IsCounted }
 {
     let goal = goal(lines)?;
@@ -114,16 +113,14 @@ pub(crate) fn verdict(lines: &mut Lines<'_>) -> Result<Verdict, ReportError>
 }
 
 fn consistent(lines: &mut Lines<'_>) -> Result<Verdict, ReportError>
-    ensures verdict { IsRestRead line.Consistent verdict_items (AModel ∷ []) lines.old lines.new
-        result }
+    ensures verdict { IsRestRead line.Consistent verdict_items lines.old lines.new result }
     ensures counted { IfOk result IsVerdictCounted }
 {
     Ok(Verdict::Consistent(model(lines)?))
 }
 
 fn inconsistent(lines: &mut Lines<'_>) -> Result<Verdict, ReportError>
-    ensures verdict { IsRestRead line.Inconsistent verdict_items (ADual ∷ []) lines.old lines.new
-        result }
+    ensures verdict { IsRestRead line.Inconsistent verdict_items lines.old lines.new result }
     ensures counted { IfOk result IsVerdictCounted }
 {
     Ok(Verdict::Inconsistent(dual(lines)?))
@@ -132,8 +129,7 @@ fn inconsistent(lines: &mut Lines<'_>) -> Result<Verdict, ReportError>
 fn open(item: Item, lines: &mut Lines<'_>) -> Result<Verdict, ReportError>
     requires fits { Fits ACause item }
     requires good { IsGood item }
-    ensures verdict { IsRestRead item verdict_items (behind_opening item) lines.old lines.new
-        result }
+    ensures verdict { IsRestRead item verdict_items lines.old lines.new result }
     ensures counted { IfOk result IsVerdictCounted }
 {
     Ok(Verdict::Open(cause_behind(item, lines)?))

@@ -1,13 +1,14 @@
 //! Queries and their sides that are read.
-ghost use Rattle.std.specs.Prelude.{◌≡◌, ◌≤◌, true, false, ◌∷◌, ◌++◌, [], IfOk};
+ghost use Rattle.std.specs.Prelude.{◌∷◌, [], IfOk};
 ghost use Rattle.ps_answer.specs.Answers.{ArePartsCounted};
 ghost use Rattle.ps_answer.specs.Items.{IsReducedWithin, IsRatioWithin};
 ghost use Rattle.ps_answer.specs.declared.limits.TheConstants.{MOST_OPERAND};
 ghost use Rattle.ps_answer.specs.declared.item.Item.TheVariants as line;
-ghost use Rattle.ps_answer.specs.declared.part.Part.TheVariants.{ACause, AModel, ADual, ATrace, AnAnswer, ASide, AQuery};
+ghost use Rattle.ps_answer.specs.declared.part.Part.TheVariants.{ACause, AnAnswer, ASide, AQuery};
 ghost use Rattle.ps_line.specs.Read.{Fits};
 ghost use Rattle.ps_reader.specs.Taken.{IsValueRead};
-ghost use Rattle.ps_reader.specs.Reports.{IsRestRead, IsGood, behind_opening, side_lines, IsSideTold};
+ghost use Rattle.ps_reader.specs.Reports.{IsRestRead, IsSideRest, IsOpenRest, IsGood};
+ghost use Rattle.ps_reader.specs.Reports.{side_lines, IsSideTold};
 ghost use Rattle.ps_reader.specs.Reports.{answer_lines, IsPartTold, parts_lines, query_line, IsNumbered};
 
 use crate::causes::{cause, cause_behind, fraction};
@@ -24,21 +25,16 @@ fn side(upper: bool, lines: &mut Lines<'_>) -> Result<(SideAnswer, Trace), Repor
     ensures counted { IfOk result IsSideTold }
 {
     match lines.take(Part::ASide { upper })? {
-        Item::Bound { value, .. } => bound(upper, &value, lines),
-        Item::OpenSide { .. } => open_side(upper, lines),
+        Item::Bound { value, .. } => bound(&value, lines),
+        Item::OpenSide { .. } => open_side(lines),
         _ => unreachable!(),
     }
 }
 
-fn bound(
-    upper: bool,
-    value: &Ratio,
-    lines: &mut Lines<'_>,
-) -> Result<(SideAnswer, Trace), ReportError>
+fn bound(value: &Ratio, lines: &mut Lines<'_>) -> Result<(SideAnswer, Trace), ReportError>
     requires reduced { IsReducedWithin MOST_OPERAND value.now }
     requires within { IsRatioWithin MOST_OPERAND value.now }
-    ensures side { IsRestRead (line.Bound upper value.now) (side_lines upper)
-        (AModel ∷ ADual ∷ ATrace ∷ []) lines.old lines.new result }
+    ensures side { IsSideRest (λ upper. line.Bound upper value.now) lines.old lines.new result }
     ensures counted { IfOk result IsSideTold }
 {
     let model = model(lines)?;
@@ -48,9 +44,8 @@ fn bound(
     Ok((SideAnswer::Bound { value, model, dual }, trace))
 }
 
-fn open_side(upper: bool, lines: &mut Lines<'_>) -> Result<(SideAnswer, Trace), ReportError>
-    ensures side { IsRestRead (line.OpenSide upper) (side_lines upper) (ACause ∷ ATrace ∷ [])
-        lines.old lines.new result }
+fn open_side(lines: &mut Lines<'_>) -> Result<(SideAnswer, Trace), ReportError>
+    ensures side { IsSideRest (λ upper. line.OpenSide upper) lines.old lines.new result }
     ensures counted { IfOk result IsSideTold }
 {
     let cause = cause(lines)?;
@@ -71,8 +66,7 @@ fn part(lines: &mut Lines<'_>) -> Result<QueryPart, ReportError>
 }
 
 fn sides(lines: &mut Lines<'_>) -> Result<QueryPart, ReportError>
-    ensures part { IsRestRead line.Bounds answer_lines
-        (ATrace ∷ ASide false ∷ ASide true ∷ []) lines.old lines.new result }
+    ensures part { IsRestRead line.Bounds answer_lines lines.old lines.new result }
     ensures counted { IfOk result IsPartTold }
 {
     let first = trace(lines)?;
@@ -90,8 +84,7 @@ fn sides(lines: &mut Lines<'_>) -> Result<QueryPart, ReportError>
 }
 
 fn impossible(lines: &mut Lines<'_>) -> Result<QueryPart, ReportError>
-    ensures part { IsRestRead line.Impossible answer_lines (ADual ∷ ATrace ∷ []) lines.old
-        lines.new result }
+    ensures part { IsRestRead line.Impossible answer_lines lines.old lines.new result }
     ensures counted { IfOk result IsPartTold }
 {
     let dual = dual(lines)?;
@@ -105,8 +98,7 @@ fn impossible(lines: &mut Lines<'_>) -> Result<QueryPart, ReportError>
 fn open(item: Item, lines: &mut Lines<'_>) -> Result<QueryPart, ReportError>
     requires fits { Fits ACause item }
     requires good { IsGood item }
-    ensures part { IsRestRead item answer_lines (behind_opening item ++ ATrace ∷ []) lines.old
-        lines.new result }
+    ensures part { IsOpenRest item lines.old lines.new result }
     ensures counted { IfOk result IsPartTold }
 {
     let cause = cause_behind(item, lines)?;

@@ -4,7 +4,7 @@ use Rattle.ps_answer.specs.declared.item.Item.TheVariants as line
 use Rattle.ps_answer.specs.declared.part.Part.TheVariants.{AVerdict, AModel, ADual}
 use Rattle.ps_answer.specs.Answers.{verdict_items}
 use Rattle.ps_reader.specs.Taken.{Takes}
-use Rattle.ps_reader.specs.Reports.{behind_opening}
+use Rattle.ps_reader.specs.Reports.{parts_behind}
 use Rattle.ps_reader.proofs.Rests.{good_line, value_read}
 use Rattle.ps_reader.proofs.Openings.{consistent_due, inconsistent_due, verdict_cause, verdict_opening}
 use Rattle.ps_reader.proofs.causes.verdict.Goals as goal
@@ -20,6 +20,6 @@ returns-in-Inconsistent-clause-verdict c = value_read verdict_items c.args.lines
 
 pub returns-in_default : goal.returns-in_default
 returns-in_default c = record {
-  verdict = value_read verdict_items c.args.lines.now c.take.new.self c.open.new.lines c.in_ok-item.item AVerdict (behind_opening c.in_ok-item.item) c.open.result c.in_ok-item.ensures.line (verdict_opening c.in_ok-item.item c.in_ok-item.ensures.fits c.in_default.not-Consistent c.in_default.not-Inconsistent) c.open.ensures.verdict;
+  verdict = value_read verdict_items c.args.lines.now c.take.new.self c.open.new.lines c.in_ok-item.item AVerdict (parts_behind c.in_ok-item.item) c.open.result c.in_ok-item.ensures.line (verdict_opening c.in_ok-item.item c.in_ok-item.ensures.fits c.in_default.not-Consistent c.in_default.not-Inconsistent) c.open.ensures.verdict;
   counted = c.open.ensures.counted;
 }

@@ -3,7 +3,7 @@ use Rattle.std.specs.Prelude.{[]}
 use Rattle.ps_answer.specs.declared.item.Item.TheVariants as line
 use Rattle.ps_answer.specs.declared.part.Part.TheVariants.{ADual, ATrace, AnAnswer, ASide}
 use Rattle.ps_reader.specs.Taken.{Takes}
-use Rattle.ps_reader.specs.Reports.{behind_opening, answer_lines}
+use Rattle.ps_reader.specs.Reports.{parts_behind, answer_lines}
 use Rattle.ps_reader.proofs.Rests.{good_line, value_read}
 use Rattle.ps_reader.proofs.Openings.{bounds_due, impossible_due, answer_cause, answer_opening}
 use Rattle.ps_reader.proofs.queries.part.Goals as goal
@@ -19,6 +19,6 @@ returns-in-Impossible-clause-part c = value_read answer_lines c.args.lines.now c
 
 pub returns-in_default : goal.returns-in_default
 returns-in_default c = record {
-  part = value_read answer_lines c.args.lines.now c.take.new.self c.open.new.lines c.in_ok-item.item AnAnswer (behind_opening c.in_ok-item.item ++ ATrace ∷ []) c.open.result c.in_ok-item.ensures.line (answer_opening c.in_ok-item.item c.in_ok-item.ensures.fits c.in_default.not-Bounds c.in_default.not-Impossible) c.open.ensures.part;
+  part = value_read answer_lines c.args.lines.now c.take.new.self c.open.new.lines c.in_ok-item.item AnAnswer (parts_behind c.in_ok-item.item ++ ATrace ∷ []) c.open.result c.in_ok-item.ensures.line (answer_opening c.in_ok-item.item c.in_ok-item.ensures.fits c.in_default.not-Bounds c.in_default.not-Impossible) c.open.ensures.part;
   counted = c.open.ensures.counted;
 }

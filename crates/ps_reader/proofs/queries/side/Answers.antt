@@ -16,11 +16,11 @@ bound-requires-clause-reduced c = let g = good_line c.args.lines.now c.take.new.
 
 pub returns-in-Bound-clause-side : goal.returns-in-Bound-clause-side
 returns-in-Bound-clause-side c = value_read (side_lines c.args.upper) c.args.lines.now c.take.new.self c.bound.new.lines (line.Bound c.args.upper c.in-Bound.value) (ASide c.args.upper) (AModel ∷ ADual ∷ ATrace ∷ []) c.bound.result (bound_taken c.args.upper c.in-Bound.upper c.in-Bound.value c.args.lines.now c.take.new.self (subst (λ i. Fits (ASide c.args.upper) i) c.in-Bound.is c.in_ok-value.ensures.fits) (subst (λ i. Takes c.args.lines.now c.take.new.self (i ∷ [])) c.in-Bound.is c.in_ok-value.ensures.line))
-    (bound_due c.args.upper c.in-Bound.value) c.bound.ensures.side
+    (bound_due c.args.upper c.in-Bound.value) (c.bound.ensures.side c.args.upper)
 
 pub returns-in-OpenSide-clause-side : goal.returns-in-OpenSide-clause-side
 returns-in-OpenSide-clause-side c = value_read (side_lines c.args.upper) c.args.lines.now c.take.new.self c.open_side.new.lines (line.OpenSide c.args.upper) (ASide c.args.upper) (ACause ∷ ATrace ∷ []) c.open_side.result (open_taken c.args.upper c.in-OpenSide.upper c.args.lines.now c.take.new.self (subst (λ i. Fits (ASide c.args.upper) i) c.in-OpenSide.is c.in_ok-value.ensures.fits) (subst (λ i. Takes c.args.lines.now c.take.new.self (i ∷ [])) c.in-OpenSide.is c.in_ok-value.ensures.line))
-    (open_due c.args.upper) c.open_side.ensures.side
+    (open_due c.args.upper) (c.open_side.ensures.side c.args.upper)
 
 pub unreachable-requires : goal.unreachable-requires
 unreachable-requires c = side_only c.args.upper _ c.in_ok-value.ensures.fits c.in_default.not-Bound c.in_default.not-OpenSide
