@@ -6,6 +6,8 @@ ghost use Rattle.ps_answer.specs.declared.limits.TheConstants.{MOST_ENTRIES, MOS
 ghost use Rattle.ps_answer.specs.declared.limits.TheConstants.{MOST_DUAL_STEPS, MOST_EVENTS};
 ghost use Rattle.ps_answer.specs.declared.limits.TheConstants.{MOST_QUERIES};
 
+use ps_log::MOST_IDS;
+
 /// The most pivots that a run may be allowed.
 pub const MOST_PIVOTS: u64 = 1_000_000;
 
@@ -27,8 +29,8 @@ pub const MOST_ENTRIES: u64 = 101;
 /// The most multipliers of a dual.
 pub const MOST_MULTIPLIERS: usize = 100;
 
-/// The most steps of a dual.
-pub const MOST_DUAL_STEPS: u64 = 1 << 41;
+/// The most steps of a dual: as many as there are ids.
+pub const MOST_DUAL_STEPS: u64 = MOST_IDS;
 
 /// The most events of a trace.
 pub const MOST_EVENTS: u64 = 2_000_001;

@@ -45,12 +45,6 @@ due_word p text word e b = subst (λ v. list_any (λ w. bytes_eq v w) (first_wor
 pub taken : (p : Part) (bytes line rest : List ℕ) (i : Item) → IsFirstLine bytes line rest → IsItemRead p (words_of line) (Ok i) → TakesLine p bytes i rest
 taken p bytes line rest i f h = record { line = line; first = f; says = record { words = h.0.spelled; proper = h.0.proper }; within = h.1; fits = h.2 }
 
-pub bad_line : (p : Part) (bytes line rest : List ℕ) → IsFirstLine bytes line rest → is_begun p line ≡ false → IsLineFault p bytes (error.Fault kind.BadLine)
-bad_line p bytes line rest f b = λ due. record { line = line; more = rest; first = f; bad = b }
-
-pub not_canonical : (p : Part) (bytes line rest : List ℕ) → IsFirstLine bytes line rest → is_begun p line ≡ true → IsItemRead p (words_of line) (Err NotCanonical) → IsLineFault p bytes (error.Fault kind.NotCanonical)
-not_canonical p bytes line rest f b h = λ due. record { line = line; more = rest; first = f; begun = b; none = λ i l. h i (record { spelled = l.words; proper = l.proper }) due }
-
 pub too_large : (p : Part) (bytes line rest : List ℕ) → IsFirstLine bytes line rest → IsItemRead p (words_of line) (Err TooLarge) → IsLineFault p bytes (error.Fault kind.TooLarge)
 too_large p bytes line rest f h = λ due. record {
   line = line;
@@ -62,9 +56,6 @@ too_large p bytes line rest f h = λ due. record {
   fits = (h.2 due).1;
   past = h.3;
 }
-
-pub lacking_line : (p : Part) (bytes line rest : List ℕ) → IsFirstLine bytes line rest → is_begun p line ≡ true → IsItemRead p (words_of line) (Err NoMemory) → IsLineFault p bytes error.NoMemory
-lacking_line p bytes line rest f b h = record { line = line; rest = rest; first = f; begun = b; takes = h }
 
 -- a part's line, by its letters or by its first word
 pub arm_letters : (part p : Part) (a text : List ℕ) (words left : List (List ℕ)) (r : Result Item LineFault) → part ≡ p → first_words p ≡ a ∷ [] → is_begun part text ≡ true → words ≡ words_of text → left ≡ later words

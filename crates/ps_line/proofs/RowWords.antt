@@ -41,9 +41,6 @@ pub record RowsSoFar (words left : List (List ℕ)) (rows : List ℤ) : Type 0 w
   pub small : All IsPrintable rows
   pub few : length rows ≤ 100
 
-pub rows_start : (words : List (List ℕ)) → IsNumbered words → RowsSoFar words words []
-rows_start words n = record { numbered = n; so_far = λ zs s. s; small = All-nil IsPrintable; few = omega arith }
-
 all_push : (rows : List ℤ) (z : ℤ) → All IsPrintable rows → IsPrintable z → All IsPrintable (rows ++ z ∷ [])
 all_push [] z h s = All-cons IsPrintable z [] s h
 all_push (r ∷ rows) z h s = All-cons IsPrintable r (rows ++ z ∷ []) (first_in IsPrintable r rows h) (all_push rows z (rest_in IsPrintable r rows h) s)
@@ -68,10 +65,6 @@ rows_more words (w ∷ ws) rows new z n r l s k e = rw e (record {
   small = all_push rows z r.small k;
   few = omega (arith, l, length-append rows (z ∷ []));
 })
-
-pub rows_end : (words left : List (List ℕ)) (rows : List ℤ) → left ≡ [] → RowsSoFar words left rows → AreRowsRead words (Ok rows)
-rows_end words left rows e r =
-    ((subst (λ x. SpellWords words (map Number x)) (append-nil rows) (r.so_far [] (subst (λ l. SpellWords l []) (sym e) tt)), tt), (r.small, r.few))
 
 pub rows_many : (words left : List (List ℕ)) (rows : List ℤ) → (left ≡ [] → ⊥) → RowsSoFar words left rows → 100 ≤ length rows → AreRowsRead words (Err TooLarge)
 rows_many words left rows n r h = by left n r.numbered r.so_far

@@ -33,13 +33,6 @@ digits_truths (b ∷ w) = All-cons IsTruth (digit_of b) (map digit_of w) (one b)
     one false = inl refl
     one true = inr refl
 
-pub no_atoms : (word : List ℕ) (w : World) → word ≡ codes "-" → w ≡ [] → IsWorldRead word (Ok w)
-no_atoms word w e f = ((e ∙ ap world_text (sym f), tt), subst (λ x. length x ≤ 128) (sym f) (omega arith))
-
-pub empty_word : IsWorldRead [] (Err NotCanonical)
-empty_word [] s = omega (arith, ap length s.0)
-empty_word (b ∷ w) s = omega (arith, ap length s.0)
-
 pub other_bytes : (word : List ℕ) → (word ≡ codes "-" → ⊥) → (All IsTruth word → ⊥) → IsWorldRead word (Err NotCanonical)
 other_bytes word n h [] s = n s.0
 other_bytes word n h (b ∷ w) s = h (subst (All IsTruth) (sym s.0) (digits_truths (b ∷ w)))

@@ -6,10 +6,11 @@ ghost use Rattle.std.specs.Str.Parse.{digits_value};
 ghost use Rattle.ps_line.specs.Numerals.{cut_size, IsSize, IsCountUpTo, IsNumberUpTo};
 
 use crate::line_fault::LineFault;
+use ps_answer::MOST_OPERAND;
 use ps_log::{is_plain, without_minus};
 
 // One above the greatest limit, that of an operand: what is more counts as this.
-const CAP: u128 = 1 << 127;
+const CAP: u128 = MOST_OPERAND + 1;
 
 // The size that a word spells, if it spells one: digits without a leading zero.
 fn size(word: &[u8]) -> Option<u128>

@@ -52,9 +52,6 @@ due_both (p ∷ due) mid (i ∷ is) js e =
     ap (λ r. and_then r (λ more. due_behind more (is ++ js))) n.fits ∙ due_both n.next mid is js n.rest
 
 -- lines are taken, and then others
-pub takes_none : (a : Lines) → Takes a a []
-takes_none a = record { before = record { lines = []; are = refl; whole = tt; say = tt }; within = tt; count = omega arith }
-
 pub takes_both : (a b c : Lines) (is js : List Item) → Takes a b is → Takes b c js → Takes a c (is ++ js)
 takes_both a b c is js p q = record {
   before = begin_both (left_in a) (left_in b) (left_in c) is js p.before q.before;

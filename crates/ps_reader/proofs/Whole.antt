@@ -63,9 +63,6 @@ report_passes : Passes (AReport ∷ []) (line.Report ∷ [])
 unfolding behind
 report_passes due = refl
 
-pub no_report : (a : Lines) (e : ReportError) → IsStopped a (AReport ∷ []) e → IsStopped a at_start e
-no_report a e s = stopped_more a (AReport ∷ []) (AVerdict ∷ ATrace ∷ AQuery 1 ∷ []) e s
-
 pub no_verdict : (a b : Lines) (e : ReportError) → Takes a b (line.Report ∷ []) → IsStopped b (AVerdict ∷ []) e → IsStopped a at_start e
 no_verdict a b e t s =
     stopped_after a b (AReport ∷ []) (AVerdict ∷ ATrace ∷ AQuery 1 ∷ []) (line.Report ∷ []) e t report_passes (stopped_more b (AVerdict ∷ []) (ATrace ∷ AQuery 1 ∷ []) e s)
@@ -88,14 +85,6 @@ unfolding answer_items
 all_taken a b c d z x t u w p =
     takes_both a b z (line.Report ∷ []) (verdict_items x.verdict ++ (trace_items x.first ++ parts_lines x.parts)) t
     (takes_both b c z (verdict_items x.verdict) (trace_items x.first ++ parts_lines x.parts) u (takes_both c d z (trace_items x.first) (parts_lines x.parts) w p))
-
--- bytes that are taken whole are a report
-pub report_found : (bytes : List ℕ) (a b : Lines) (x : Answer) → left_in a ≡ bytes → Takes a b (answer_items x) → left_in b ≡ [] → IsAnswerCounted x → IsReport bytes x
-report_found bytes a b x e t n h = record {
-  lines = subst (λ l. BeginWith l (answer_items x) []) e (subst (λ l. BeginWith (left_in a) (answer_items x) l) n t.before);
-  counted = h;
-  within = t.within;
-}
 
 first_fault : (bytes : List ℕ) (a : Lines) (kind : LineKind) (line : ℕ) → left_in a ≡ bytes → a.taken ≡ 0 → FaultAt a at_start kind line → IsFirstFault bytes kind line
 first_fault bytes a kind line l z f = record {

@@ -1,5 +1,5 @@
 -- What a call does that takes lines of a report.
-use Rattle.std.specs.Prelude.{ℕ, ◌+◌, ◌≡◌, List, [], ◌++◌, length, Some, Result, Ok, Err, ⊤}
+use Rattle.std.specs.Prelude.{ℕ, ◌+◌, ◌≡◌, List, [], ◌∷◌, ◌++◌, length, Some, Result, Ok, Err, ⊤}
 use Rattle.std.specs.List.{AllByRecursion}
 use Rattle.ps_answer.specs.declared.item.Item.{Item}
 use Rattle.ps_answer.specs.declared.part.Part.{Part}
@@ -41,6 +41,10 @@ IsStopped old parts NoMemory = ⊤
 abbrev pub IsValueRead : {X : Type 0} → (X → List Item) → List Part → Lines → Lines → Result X ReportError → Type 0
 IsValueRead items_of parts old new (Ok x) = Takes old new (items_of x)
 IsValueRead items_of parts old new (Err e) = IsStopped old parts e
+
+-- one line is read, with which this part begins and ends
+abbrev pub IsLineRead : {X : Type 0} → (X → Item) → Part → Lines → Lines → Result X ReportError → Type 0
+IsLineRead item_of p old new result = IsValueRead (λ x. item_of x ∷ []) (p ∷ []) old new result
 
 -- something is left behind the end
 abbrev pub IsMore : Lines → ReportError → Type 0

@@ -7,7 +7,7 @@ ghost use Rattle.ps_answer.specs.declared.limits.TheConstants.{MOST_OPERAND};
 ghost use Rattle.ps_answer.specs.declared.item.Item.TheVariants as line;
 ghost use Rattle.ps_answer.specs.declared.part.Part.TheVariants.{ACause, AGoal, AVerdict};
 ghost use Rattle.ps_line.specs.Read.{Fits};
-ghost use Rattle.ps_reader.specs.Taken.{IsValueRead};
+ghost use Rattle.ps_reader.specs.Taken.{IsLineRead, IsValueRead};
 ghost use Rattle.ps_reader.specs.Reports.{IsRestRead, IsGood};
 
 use crate::lines::Lines;
@@ -74,7 +74,7 @@ fn conflicts(limit: u64, lines: &mut Lines<'_>) -> Result<Cause, ReportError>
 }
 
 fn goal(lines: &mut Lines<'_>) -> Result<Constraint, ReportError>
-    ensures { IsValueRead (λ g. line.GoalLine g ∷ []) (AGoal ∷ []) lines.old lines.new result }
+    ensures { IsLineRead (λ g. line.GoalLine g) AGoal lines.old lines.new result }
 {
     match lines.take(Part::AGoal)? {
         Item::GoalLine { goal } => Ok(goal),

@@ -3,7 +3,7 @@ ghost use Rattle.std.specs.Prelude.{◌≡◌, ◌∷◌, [], map, length, IfOk}
 ghost use Rattle.ps_answer.specs.Answers.{entry_item, model_items, dual_items};
 ghost use Rattle.ps_answer.specs.declared.item.Item.TheVariants as line;
 ghost use Rattle.ps_answer.specs.declared.part.Part.TheVariants.{AModel, AnEntry, ADual, SomeRows, AStep};
-ghost use Rattle.ps_reader.specs.Taken.{IsValueRead, repeated};
+ghost use Rattle.ps_reader.specs.Taken.{IsLineRead, IsValueRead, repeated};
 
 use crate::lines::Lines;
 use ps_answer::{Dual, Item, Model, Multipliers, Part, ReportError, Weighted, Worlds};
@@ -20,8 +20,7 @@ pub(crate) fn model(lines: &mut Lines<'_>) -> Result<Model, ReportError>
 }
 
 fn model_head(lines: &mut Lines<'_>) -> Result<(i128, u64), ReportError>
-    ensures { IsValueRead (λ h. line.ModelHead h.0 h.1 ∷ []) (AModel ∷ []) lines.old lines.new
-        result }
+    ensures { IsLineRead (λ h. line.ModelHead h.0 h.1) AModel lines.old lines.new result }
 {
     match lines.take(Part::AModel)? {
         Item::ModelHead { total, count } => Ok((total, count)),
@@ -42,7 +41,7 @@ fn entries(lines: &mut Lines<'_>, count: u64) -> Result<Worlds, ReportError>
 }
 
 fn entry(lines: &mut Lines<'_>) -> Result<Weighted, ReportError>
-    ensures { IsValueRead (λ e. entry_item e ∷ []) (AnEntry ∷ []) lines.old lines.new result }
+    ensures { IsLineRead entry_item AnEntry lines.old lines.new result }
 {
     match lines.take(Part::AnEntry)? {
         Item::Entry { weight, world } => Ok(Weighted { weight, world }),
@@ -66,8 +65,7 @@ pub(crate) fn dual(lines: &mut Lines<'_>) -> Result<Dual, ReportError>
 }
 
 fn dual_head(lines: &mut Lines<'_>) -> Result<(i128, i128, u64), ReportError>
-    ensures { IsValueRead (λ h. line.DualHead h.0 h.1 h.2 ∷ []) (ADual ∷ []) lines.old lines.new
-        result }
+    ensures { IsLineRead (λ h. line.DualHead h.0 h.1 h.2) ADual lines.old lines.new result }
 {
     match lines.take(Part::ADual)? {
         Item::DualHead { top, head, count } => Ok((top, head, count)),
@@ -76,7 +74,7 @@ fn dual_head(lines: &mut Lines<'_>) -> Result<(i128, i128, u64), ReportError>
 }
 
 fn rows(lines: &mut Lines<'_>) -> Result<Multipliers, ReportError>
-    ensures { IsValueRead (λ zs. line.Rows zs ∷ []) (SomeRows ∷ []) lines.old lines.new result }
+    ensures { IsLineRead (λ zs. line.Rows zs) SomeRows lines.old lines.new result }
 {
     match lines.take(Part::SomeRows)? {
         Item::Rows { rows } => Ok(rows),
@@ -98,7 +96,7 @@ pub(crate) fn steps(lines: &mut Lines<'_>, count: u64) -> Result<Steps, ReportEr
 }
 
 fn step(lines: &mut Lines<'_>) -> Result<Step, ReportError>
-    ensures { IsValueRead (λ s. line.StepLine s ∷ []) (AStep ∷ []) lines.old lines.new result }
+    ensures { IsLineRead (λ s. line.StepLine s) AStep lines.old lines.new result }
 {
     match lines.take(Part::AStep)? {
         Item::StepLine { step } => Ok(step),

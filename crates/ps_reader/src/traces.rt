@@ -3,7 +3,7 @@ ghost use Rattle.std.specs.Prelude.{◌≡◌, ◌∷◌, [], map, length, IfOk}
 ghost use Rattle.ps_answer.specs.Answers.{event_item, trace_items};
 ghost use Rattle.ps_answer.specs.declared.item.Item.TheVariants as line;
 ghost use Rattle.ps_answer.specs.declared.part.Part.TheVariants.{ATrace, AnEvent};
-ghost use Rattle.ps_reader.specs.Taken.{IsValueRead, repeated};
+ghost use Rattle.ps_reader.specs.Taken.{IsLineRead, IsValueRead, repeated};
 
 use crate::lines::Lines;
 use ps_answer::{Item, Part, ReportError};
@@ -19,7 +19,7 @@ pub(crate) fn trace(lines: &mut Lines<'_>) -> Result<Trace, ReportError>
 }
 
 fn trace_head(lines: &mut Lines<'_>) -> Result<u64, ReportError>
-    ensures { IsValueRead (λ n. line.TraceHead n ∷ []) (ATrace ∷ []) lines.old lines.new result }
+    ensures { IsLineRead (λ n. line.TraceHead n) ATrace lines.old lines.new result }
 {
     match lines.take(Part::ATrace)? {
         Item::TraceHead { count } => Ok(count),
@@ -40,7 +40,7 @@ fn events(lines: &mut Lines<'_>, count: u64) -> Result<Trace, ReportError>
 }
 
 fn event(lines: &mut Lines<'_>) -> Result<Event, ReportError>
-    ensures { IsValueRead (λ e. event_item e ∷ []) (AnEvent ∷ []) lines.old lines.new result }
+    ensures { IsLineRead event_item AnEvent lines.old lines.new result }
 {
     match lines.take(Part::AnEvent)? {
         Item::PivotLine { enter, leave } => Ok(Event::Pivot { enter, leave }),
