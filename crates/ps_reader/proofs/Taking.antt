@@ -1,5 +1,5 @@
 -- Lines that are taken, one after another.
-use Rattle.std.proofs.Common.{◌≡◌, ◌≢◌, ℕ, zero, suc, ◌+◌, ◌-◌, ◌<◌, false, List, [], ◌∷◌, ◌++◌, length, map, Some, Ok, refl, sym, ap, subst, ◌∙◌, arith, append_assoc, append-nil, length-append}
+use Rattle.std.proofs.Common.{◌≡◌, ◌≢◌, ℕ, zero, suc, ◌+◌, ◌-◌, ◌<◌, false, List, [], ◌∷◌, ◌++◌, length, map, Some, Ok, refl, sym, ap, subst, ◌∙◌, arith, append_assoc, append-nil, length-append, ◌⊎◌, inl, inr}
 use Rattle.std.specs.List.{AllByRecursion}
 use Rattle.std.proofs.lemmas.Option.{none-some, same_Some}
 use Rattle.ps_io.specs.LineText.{lines_bytes}
@@ -14,8 +14,9 @@ use Rattle.ps_answer.specs.Items.{IsWithin}
 use Rattle.ps_answer.specs.Due.{behind, due_behind, and_then, many}
 use Rattle.ps_answer.specs.Faults.{AreLines, BeginWith, IsFault}
 use Rattle.ps_answer.proofs.Single.{next_of}
-use Rattle.ps_line.specs.Lines.{TakesLine}
+use Rattle.ps_line.specs.Lines.{TakesLine, IsLackingLine}
 use Rattle.ps_reader.specs.declared.lines.Lines.{Lines}
+use Rattle.ps_reader.specs.Errors.{IsKept, BeginsKept, MayLack}
 use Rattle.ps_reader.specs.Taken.{left_in, Takes, FaultAt, IsStopped, IsValueRead, IsMore, repeated}
 
 lines_both : (ls ks : List (List ℕ)) (rest : List ℕ) → lines_bytes false ls ++ (lines_bytes false ks ++ rest) ≡ lines_bytes false (ls ++ ks) ++ rest
@@ -71,15 +72,28 @@ fault_later a b is due mid kind line p e f = record {
   fault = f.fault;
 }
 
+-- memory that lacks behind lines that were taken
+pub lack_later : (a b : Lines) (is : List Item) → Takes a b is → MayLack (left_in b) → MayLack (left_in a)
+lack_later a b is t m = record { items = is ++ m.items; rest = m.rest; before = begin_both (left_in a) (left_in b) m.rest is m.items t.before m.before; takes = m.takes }
+
+lack_here : (bytes : List ℕ) → ((p : Part) × IsLackingLine p bytes) ⊎ BeginsKept bytes → MayLack bytes
+lack_here bytes h = record { items = []; rest = bytes; before = record { lines = []; are = refl; whole = tt; say = tt }; takes = h }
+
+pub lack_line : (a : Lines) (p : Part) → IsLackingLine p (left_in a) → MayLack (left_in a)
+lack_line a p l = lack_here (left_in a) (inl (p, l))
+
+pub lack_kept : (a b c : Lines) (is : List Item) (i : Item) → Takes a b is → Takes b c (i ∷ []) → IsKept i → MayLack (left_in a)
+lack_kept a b c is i t u k = lack_later a b is t (lack_here (left_in b) (inr (record { item = i; rest = left_in c; line = u.before; kept = k })))
+
 -- a fault behind lines that were taken
 pub stopped_later : (a b : Lines) (is : List Item) (parts more : List Part) (e : ReportError) → Takes a b is → ((due : List Part) → due_behind (parts ++ due) is ≡ Some (more ++ due)) → IsStopped b more e → IsStopped a parts e
 stopped_later a b is parts more (At kind line) p d f = λ due. fault_later a b is (parts ++ due) (more ++ due) kind line p (d due) (f due)
-stopped_later a b is parts more NoMemory p d f = tt
+stopped_later a b is parts more NoMemory p d f = lack_later a b is p f
 
 -- a fault within the first parts
 pub stopped_more : (a : Lines) (parts more : List Part) (e : ReportError) → IsStopped a parts e → IsStopped a (parts ++ more) e
 stopped_more a parts more (At kind line) f = λ due. subst (λ d. FaultAt a d kind line) (sym (append_assoc parts more due)) (f (more ++ due))
-stopped_more a parts more NoMemory f = tt
+stopped_more a parts more NoMemory f = f
 
 -- a line is taken
 pub takes_line : (a b : Lines) (p : Part) (i : Item) → TakesLine p (left_in a) i (left_in b) → b.taken ≡ a.taken + 1 → Takes a b (i ∷ [])
@@ -139,7 +153,7 @@ stopped_within f p h a b xs n (At kind line) t l s = λ due.
     fault_later a b (map f xs) (repeated n p ++ due) (p ∷ many m p due) kind line t
     (ap (λ d. due_behind d (map f xs)) (many_more n p due) ∙ passed f p h xs n (suc m) due (omega (arith, l)))
     (s (many m p due))
-stopped_within f p h a b xs n NoMemory t l s = tt
+stopped_within f p h a b xs n NoMemory t l s = lack_later a b (map f xs) t s
 
 -- a value of a head and what follows it
 pub stopped_behind : (a b : Lines) (i : Item) (p : Part) (more : List Part) (e : ReportError) → Takes a b (i ∷ []) → ((due : List Part) → behind p i due ≡ Some (more ++ due)) → IsStopped b more e → IsStopped a (p ∷ []) e

@@ -15,6 +15,7 @@ use Rattle.ps_answer.specs.Answers.{entry_item, event_item, trace_items}
 use Rattle.ps_answer.specs.Due.{behind, due_behind}
 use Rattle.ps_line.proofs.RowWords.{small_kept}
 use Rattle.ps_reader.specs.declared.lines.Lines.{Lines}
+use Rattle.ps_reader.specs.Errors.{IsKept}
 use Rattle.ps_reader.specs.Taken.{Takes, IsStopped, IsValueRead, repeated}
 use Rattle.ps_reader.proofs.Taking.{EachPasses, many_more, takes_both, stopped_more, stopped_later, stopped_behind}
 
@@ -40,6 +41,10 @@ pub event_passes : EachPasses event_item AnEvent
 unfolding behind
 event_passes (Pivot enter leave) due = refl
 event_passes (Priced world) due = refl
+
+pub kept_event : (e : Event) → IsKept (event_item e)
+kept_event (Pivot enter leave) = tt
+kept_event (Priced world) = tt
 
 -- a model
 model_next : (t : ℤ) (n : ℕ) (due : List Part) → behind AModel (line.ModelHead t n) due ≡ Some (repeated n AnEntry ++ due)

@@ -1,5 +1,5 @@
 -- What a call does that takes lines of a report.
-use Rattle.std.specs.Prelude.{ℕ, ◌+◌, ◌≡◌, List, [], ◌∷◌, ◌++◌, length, Some, Result, Ok, Err, ⊤}
+use Rattle.std.specs.Prelude.{ℕ, ◌+◌, ◌≡◌, List, [], ◌∷◌, ◌++◌, length, Some, Result, Ok, Err}
 use Rattle.std.specs.List.{AllByRecursion}
 use Rattle.ps_answer.specs.declared.item.Item.{Item}
 use Rattle.ps_answer.specs.declared.part.Part.{Part}
@@ -10,6 +10,7 @@ use Rattle.ps_answer.specs.Items.{IsWithin}
 use Rattle.ps_answer.specs.Due.{due_behind, many}
 use Rattle.ps_answer.specs.Faults.{BeginWith, IsFault}
 use Rattle.ps_reader.specs.declared.lines.Lines.{Lines}
+use Rattle.ps_reader.specs.Errors.{MayLack}
 
 -- the bytes that are left
 abbrev pub left_in : Lines → List ℕ
@@ -32,10 +33,10 @@ pub record FaultAt (old : Lines) (due : List Part) (kind : LineKind) (line : ℕ
   pub number : line ≡ old.taken + length items + 1
   pub fault : IsFault next rest kind
 
--- the first fault, where these parts are due and then any others; want of memory may come at any
+-- the first fault, where these parts are due and then any others; or memory lacks for a line
 abbrev pub IsStopped : Lines → List Part → ReportError → Type 0
 IsStopped old parts (At kind line) = (due : List Part) → FaultAt old (parts ++ due) kind line
-IsStopped old parts NoMemory = ⊤
+IsStopped old parts NoMemory = MayLack (left_in old)
 
 -- a value is read from its lines, or they are at fault
 abbrev pub IsValueRead : {X : Type 0} → (X → List Item) → List Part → Lines → Lines → Result X ReportError → Type 0
