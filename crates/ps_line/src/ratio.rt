@@ -4,7 +4,7 @@ ghost use Rattle.std.specs.Int.{IsGcd};
 ghost use Rattle.ps_answer.specs.declared.limits.TheConstants.{MOST_OPERAND};
 ghost use Rattle.ps_log.specs.Numbers.{Lacks, IsCut};
 ghost use Rattle.ps_table.specs.Places.{printed_limit};
-ghost use Rattle.ps_line.specs.Ratios.{IsRatioUpTo, IsShareUpTo, IsOver, IsUnder};
+ghost use Rattle.ps_line.specs.Ratios.{IsRatioUpTo, IsValueUpTo, IsOver, IsUnder};
 ghost use Rattle.ps_line.specs.Ratios.{IsLowest, IsLowestOf, AreParts};
 ghost use Rattle.ps_rational.specs.Rational.{fraction};
 
@@ -17,7 +17,7 @@ use ps_table::PRINTED_LIMIT;
 
 /// The value of a side: no less than 0, with numbers up to 2^90.
 pub(crate) fn value(word: &[u8]) -> Result<Ratio, LineFault>
-    ensures { IsShareUpTo printed_limit word.now result }
+    ensures { IsValueUpTo printed_limit word.now result }
 {
     match split_slash(word) {
         Some((over, under)) => lowest(amount_of(over), positive(PRINTED_LIMIT, under)),

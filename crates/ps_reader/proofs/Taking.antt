@@ -16,7 +16,7 @@ use Rattle.ps_answer.specs.Faults.{AreLines, BeginWith, IsFault}
 use Rattle.ps_answer.proofs.Single.{next_of}
 use Rattle.ps_line.specs.Lines.{TakesLine, IsLackingLine}
 use Rattle.ps_reader.specs.declared.lines.Lines.{Lines}
-use Rattle.ps_reader.specs.Errors.{IsKept, BeginsKept, MayLack}
+use Rattle.ps_reader.specs.Errors.{IsKept, BeginsKept, LacksAt}
 use Rattle.ps_reader.specs.Taken.{left_in, Takes, FaultAt, IsStopped, IsValueRead, IsMore, repeated}
 
 lines_both : (ls ks : List (List ℕ)) (rest : List ℕ) → lines_bytes false ls ++ (lines_bytes false ks ++ rest) ≡ lines_bytes false (ls ++ ks) ++ rest
@@ -73,27 +73,43 @@ fault_later a b is due mid kind line p e f = record {
 }
 
 -- memory that lacks behind lines that were taken
-pub lack_later : (a b : Lines) (is : List Item) → Takes a b is → MayLack (left_in b) → MayLack (left_in a)
-lack_later a b is t m = record { items = is ++ m.items; rest = m.rest; before = begin_both (left_in a) (left_in b) m.rest is m.items t.before m.before; takes = m.takes }
+lack_later : (a b : Lines) (is : List Item) (due mid : List Part) → Takes a b is → due_behind due is ≡ Some mid → LacksAt mid (left_in b) → LacksAt due (left_in a)
+lack_later a b is due mid p e f = record {
+  items = is ++ f.items;
+  rest = f.rest;
+  next = f.next;
+  before = begin_both (left_in a) (left_in b) f.rest is f.items p.before f.before;
+  within = all_both IsWithin is f.items p.within f.within;
+  due_is = due_both due mid is f.items e ∙ f.due_is;
+  takes = f.takes;
+}
 
-lack_here : (bytes : List ℕ) → ((p : Part) × IsLackingLine p bytes) ⊎ BeginsKept bytes → MayLack bytes
-lack_here bytes h = record { items = []; rest = bytes; before = record { lines = []; are = refl; whole = tt; say = tt }; takes = h }
+lack_here : (a : Lines) (p : Part) → IsLackingLine p (left_in a) ⊎ BeginsKept (left_in a) → IsStopped a (p ∷ []) NoMemory
+lack_here a p h = λ due. record {
+  items = [];
+  rest = left_in a;
+  next = p ∷ due;
+  before = record { lines = []; are = refl; whole = tt; say = tt };
+  within = tt;
+  due_is = refl;
+  takes = h;
+}
 
-pub lack_line : (a : Lines) (p : Part) → IsLackingLine p (left_in a) → MayLack (left_in a)
-lack_line a p l = lack_here (left_in a) (inl (p, l))
+pub lack_line : (a : Lines) (p : Part) → IsLackingLine p (left_in a) → IsStopped a (p ∷ []) NoMemory
+lack_line a p l = lack_here a p (inl l)
 
-pub lack_kept : (a b c : Lines) (is : List Item) (i : Item) → Takes a b is → Takes b c (i ∷ []) → IsKept i → MayLack (left_in a)
-lack_kept a b c is i t u k = lack_later a b is t (lack_here (left_in b) (inr (record { item = i; rest = left_in c; line = u.before; kept = k })))
+pub lack_kept : (a b : Lines) (p : Part) (i : Item) → Takes a b (i ∷ []) → IsKept i → IsStopped a (p ∷ []) NoMemory
+lack_kept a b p i t k = lack_here a p (inr (record { item = i; rest = left_in b; line = t.before; kept = k }))
 
 -- a fault behind lines that were taken
 pub stopped_later : (a b : Lines) (is : List Item) (parts more : List Part) (e : ReportError) → Takes a b is → ((due : List Part) → due_behind (parts ++ due) is ≡ Some (more ++ due)) → IsStopped b more e → IsStopped a parts e
 stopped_later a b is parts more (At kind line) p d f = λ due. fault_later a b is (parts ++ due) (more ++ due) kind line p (d due) (f due)
-stopped_later a b is parts more NoMemory p d f = lack_later a b is p f
+stopped_later a b is parts more NoMemory p d f = λ due. lack_later a b is (parts ++ due) (more ++ due) p (d due) (f due)
 
 -- a fault within the first parts
 pub stopped_more : (a : Lines) (parts more : List Part) (e : ReportError) → IsStopped a parts e → IsStopped a (parts ++ more) e
 stopped_more a parts more (At kind line) f = λ due. subst (λ d. FaultAt a d kind line) (sym (append_assoc parts more due)) (f (more ++ due))
-stopped_more a parts more NoMemory f = f
+stopped_more a parts more NoMemory f = λ due. subst (λ d. LacksAt d (left_in a)) (sym (append_assoc parts more due)) (f (more ++ due))
 
 -- a line is taken
 pub takes_line : (a b : Lines) (p : Part) (i : Item) → TakesLine p (left_in a) i (left_in b) → b.taken ≡ a.taken + 1 → Takes a b (i ∷ [])
@@ -153,7 +169,11 @@ stopped_within f p h a b xs n (At kind line) t l s = λ due.
     fault_later a b (map f xs) (repeated n p ++ due) (p ∷ many m p due) kind line t
     (ap (λ d. due_behind d (map f xs)) (many_more n p due) ∙ passed f p h xs n (suc m) due (omega (arith, l)))
     (s (many m p due))
-stopped_within f p h a b xs n NoMemory t l s = lack_later a b (map f xs) t s
+stopped_within f p h a b xs n NoMemory t l s = λ due.
+    let m = n - length xs - 1 in
+    lack_later a b (map f xs) (repeated n p ++ due) (p ∷ many m p due) t
+    (ap (λ d. due_behind d (map f xs)) (many_more n p due) ∙ passed f p h xs n (suc m) due (omega (arith, l)))
+    (s (many m p due))
 
 -- a value of a head and what follows it
 pub stopped_behind : (a b : Lines) (i : Item) (p : Part) (more : List Part) (e : ReportError) → Takes a b (i ∷ []) → ((due : List Part) → behind p i due ≡ Some (more ++ due)) → IsStopped b more e → IsStopped a (p ∷ []) e

@@ -18,7 +18,7 @@ use Rattle.ps_answer.proofs.Dues.{answer_due}
 use Rattle.ps_line.specs.Read.{Fits}
 use Rattle.ps_reader.specs.declared.lines.Lines.{Lines}
 use Rattle.ps_reader.specs.Taken.{left_in, Takes, FaultAt, IsStopped, IsMore}
-use Rattle.ps_reader.specs.Errors.{MayLack, TellsFault}
+use Rattle.ps_reader.specs.Errors.{LacksAt, TellsFault}
 use Rattle.ps_reader.specs.Reports.{answer_lines, IsPartTold, parts_lines}
 use Rattle.ps_reader.proofs.Taking.{takes_both, fault_later, stopped_later, stopped_more, stopped_behind}
 use Rattle.ps_reader.proofs.Passing.{Passes, both_pass, trace_passes, verdict_passes, query_due, parts_due, parts_push, counted_push}
@@ -100,7 +100,7 @@ first_fault bytes a kind line l z f = record {
 
 pub fault_told : (bytes : List ℕ) (a : Lines) (e : ReportError) → left_in a ≡ bytes → a.taken ≡ 0 → IsStopped a at_start e → TellsFault bytes e
 fault_told bytes a (At kind line) l z s = first_fault bytes a kind line l z (s [])
-fault_told bytes a NoMemory l z s = subst MayLack l s
+fault_told bytes a NoMemory l z s = subst (λ b. LacksAt at_start b) l (s [])
 
 pub more_told : (bytes : List ℕ) (a b : Lines) (x : Answer) (e : ReportError) → left_in a ≡ bytes → a.taken ≡ 0 → Takes a b (answer_items x) → IsAnswerCounted x → IsMore b e → TellsFault bytes e
 more_told bytes a b x (At kind line) l z t h s = first_fault bytes a kind line l z (fault_later a b (answer_items x) at_start [] kind line t (answer_due x h) s)

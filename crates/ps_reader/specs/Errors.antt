@@ -1,10 +1,13 @@
 -- What an error of the reader of reports tells.
-use Rattle.std.specs.Prelude.{ℕ, ◌⊎◌, List, [], ◌∷◌, ⊤}
+use Rattle.std.specs.Prelude.{ℕ, ◌≡◌, ◌⊎◌, List, [], ◌∷◌, Some, ⊤}
+use Rattle.std.specs.List.{AllByRecursion}
 use Rattle.ps_answer.specs.declared.item.Item.{Item}
 use Rattle.ps_answer.specs.declared.item.Item.TheVariants.{Entry, StepLine, PivotLine, PricedLine, Query}
 use Rattle.ps_answer.specs.declared.part.Part.{Part}
 use Rattle.ps_answer.specs.declared.error.ReportError.{ReportError}
 use Rattle.ps_answer.specs.declared.error.ReportError.TheVariants.{At, NoMemory}
+use Rattle.ps_answer.specs.Items.{IsWithin}
+use Rattle.ps_answer.specs.Due.{at_start, due_behind}
 use Rattle.ps_answer.specs.Faults.{BeginWith, IsFirstFault}
 use Rattle.ps_line.specs.Lines.{IsLackingLine}
 
@@ -24,14 +27,22 @@ pub record BeginsKept (bytes : List ℕ) : Type 0 where
   pub line : BeginWith bytes (item ∷ []) rest
   pub kept : IsKept item
 
--- behind lines of a report stands one for which memory is taken: for what it says, or to keep it
-pub record MayLack (bytes : List ℕ) : Type 0 where
+-- where these parts are due, memory is taken for the first line: for what it says, or to keep it
+abbrev pub IsLacking : List Part → List ℕ → Type 0
+IsLacking [] bytes = ⊥
+IsLacking (p ∷ due) bytes = IsLackingLine p bytes ⊎ BeginsKept bytes
+
+-- where these parts are due, lines before one are due and within the limits, and for this one memory is taken
+pub record LacksAt (due : List Part) (bytes : List ℕ) : Type 0 where
   pub items : List Item
   pub rest : List ℕ
+  pub next : List Part
   pub before : BeginWith bytes items rest
-  pub takes : ((p : Part) × IsLackingLine p rest) ⊎ BeginsKept rest
+  pub within : AllByRecursion IsWithin items
+  pub due_is : due_behind due items ≡ Some next
+  pub takes : IsLacking next rest
 
--- the first line at fault; or memory lacks for a line
+-- the first line at fault; or a line for which memory lacks, and none before it is at fault
 abbrev pub TellsFault : List ℕ → ReportError → Type 0
 TellsFault bytes (At kind line) = IsFirstFault bytes kind line
-TellsFault bytes NoMemory = MayLack bytes
+TellsFault bytes NoMemory = LacksAt at_start bytes

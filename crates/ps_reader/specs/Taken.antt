@@ -10,7 +10,7 @@ use Rattle.ps_answer.specs.Items.{IsWithin}
 use Rattle.ps_answer.specs.Due.{due_behind, many}
 use Rattle.ps_answer.specs.Faults.{BeginWith, IsFault}
 use Rattle.ps_reader.specs.declared.lines.Lines.{Lines}
-use Rattle.ps_reader.specs.Errors.{MayLack}
+use Rattle.ps_reader.specs.Errors.{LacksAt}
 
 -- the bytes that are left
 abbrev pub left_in : Lines → List ℕ
@@ -33,10 +33,10 @@ pub record FaultAt (old : Lines) (due : List Part) (kind : LineKind) (line : ℕ
   pub number : line ≡ old.taken + length items + 1
   pub fault : IsFault next rest kind
 
--- the first fault, where these parts are due and then any others; or memory lacks for a line
+-- the first fault, or a line for which memory lacks, where these parts are due and then any others
 abbrev pub IsStopped : Lines → List Part → ReportError → Type 0
 IsStopped old parts (At kind line) = (due : List Part) → FaultAt old (parts ++ due) kind line
-IsStopped old parts NoMemory = MayLack (left_in old)
+IsStopped old parts NoMemory = (due : List Part) → LacksAt (parts ++ due) (left_in old)
 
 -- a value is read from its lines, or they are at fault
 abbrev pub IsValueRead : {X : Type 0} → (X → List Item) → List Part → Lines → Lines → Result X ReportError → Type 0

@@ -14,7 +14,8 @@ use ps_answer::{Answer, Part, ReportError};
 use std::alloc::Global;
 
 /// Reads a report: the answer whose text the bytes are, or the first line at fault by its kind and
-/// its number from 1.
+/// its number from 1. Memory lacks only at a line for which it is taken, where none before it is at
+/// fault.
 pub fn read_report(alloc: Global, bytes: &[u8]) -> Result<Answer, ReportError>
     ensures found { IfOk result (λ a. IsReport bytes.now a) }
     ensures told { IfErr result (λ e. TellsFault bytes.now e) }

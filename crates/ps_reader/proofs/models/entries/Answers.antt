@@ -20,7 +20,8 @@ pub returns-in_err-push-clause-worlds : goal.returns-in_err-push-clause-worlds
 returns-in_err-push-clause-worlds c =
     let f = err_from_is_err_and c.from_residual-in_err-push.result c.from_residual-in_err-push.ensures.1 in
     value_stopped (map entry_item) (repeated c.args.count AnEntry) c.args.lines.now c.entry.new.lines NoMemory c.from_residual-in_err-push.result
-    (lack_kept c.args.lines.now c.loop.lines c.entry.new.lines (map entry_item c.loop.worlds) (entry_item c.in_ok-entry.field-0) c.loop.invariant.taken c.in_ok-entry.ensures tt)
+    (stopped_within entry_item AnEntry entry_passes c.args.lines.now c.loop.lines c.loop.worlds c.args.count NoMemory c.loop.invariant.taken (omega (arith, c.loop-test.true, c.loop.invariant.counted))
+    (lack_kept c.loop.lines c.entry.new.lines AnEntry (entry_item c.in_ok-entry.field-0) c.in_ok-entry.ensures tt))
     (f.1 ∙ ap Err f.2)
 
 pub loop-preserved : goal.loop-preserved

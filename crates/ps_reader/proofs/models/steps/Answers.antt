@@ -20,7 +20,8 @@ pub returns-in_err-push-clause-steps : goal.returns-in_err-push-clause-steps
 returns-in_err-push-clause-steps c =
     let f = err_from_is_err_and c.from_residual-in_err-push.result c.from_residual-in_err-push.ensures.1 in
     value_stopped (map (λ s. line.StepLine s)) (repeated c.args.count AStep) c.args.lines.now c.step.new.lines NoMemory c.from_residual-in_err-push.result
-    (lack_kept c.args.lines.now c.loop.lines c.step.new.lines (map (λ s. line.StepLine s) c.loop.steps) (line.StepLine c.in_ok-step.field-0) c.loop.invariant.taken c.in_ok-step.ensures tt)
+    (stopped_within (λ s. line.StepLine s) AStep step_passes c.args.lines.now c.loop.lines c.loop.steps c.args.count NoMemory c.loop.invariant.taken (omega (arith, c.loop-test.true, c.loop.invariant.counted))
+    (lack_kept c.loop.lines c.step.new.lines AStep (line.StepLine c.in_ok-step.field-0) c.in_ok-step.ensures tt))
     (f.1 ∙ ap Err f.2)
 
 pub loop-preserved : goal.loop-preserved

@@ -3,7 +3,7 @@ use Rattle.std.specs.Prelude.{[]}
 use Rattle.std.proofs.lemmas.Result.{err_from_is_err_and}
 use Rattle.ps_answer.specs.declared.item.Item.TheVariants as line
 use Rattle.ps_answer.specs.declared.part.Part.TheVariants.{AQuery}
-use Rattle.ps_answer.specs.Answers.{part_items}
+use Rattle.ps_answer.specs.declared.error.ReportError.TheVariants.{NoMemory}
 use Rattle.ps_reader.proofs.Taking.{lack_kept}
 use Rattle.ps_reader.specs.Taken.{Takes, IsValueRead}
 use Rattle.ps_reader.specs.Reports.{parts_lines}
@@ -27,7 +27,8 @@ pub returns-in_err-push-clause-parts : goal.returns-in_err-push-clause-parts
 returns-in_err-push-clause-parts c =
     let f = err_from_is_err_and c.from_residual-in_err-push.result c.from_residual-in_err-push.ensures.1 in
     subst (λ r. IsValueRead parts_lines (AQuery 1 ∷ []) c.args.lines.now c.part.new.lines r) (sym (f.1 ∙ ap Err f.2))
-    (lack_kept c.args.lines.now c.loop-parts.lines c.is_query.new.lines (part_items 1 c.loop-parts.parts) (line.Query c.loop-parts.number) c.loop-parts.invariant.taken (subst (λ t. Takes c.loop-parts.lines c.is_query.new.lines (query_line c.loop-parts.number t)) c.if-branch.true c.in_ok-is_query.ensures.line) tt)
+    (query_stopped c.args.lines.now c.loop-parts.lines c.loop-parts.parts c.loop-parts.number NoMemory c.loop-parts.invariant
+    (lack_kept c.loop-parts.lines c.is_query.new.lines (AQuery c.loop-parts.number) (line.Query c.loop-parts.number) (subst (λ t. Takes c.loop-parts.lines c.is_query.new.lines (query_line c.loop-parts.number t)) c.if-branch.true c.in_ok-is_query.ensures.line) tt))
 
 pub loop-parts-preserved : goal.loop-parts-preserved
 loop-parts-preserved c = part_more c.args.lines.now c.loop-parts.lines c.is_query.new.lines c.part.new.lines c.loop-parts.parts c.push.new.self c.in_ok-part.field-0 c.loop-parts.number _ c.loop-parts.invariant (subst (λ t. Takes c.loop-parts.lines c.is_query.new.lines (query_line c.loop-parts.number t)) c.if-branch.true c.in_ok-is_query.ensures.line) c.in_ok-part.ensures.part c.in_ok-part.ensures.counted c.in_ok-push.ensures.ok refl

@@ -20,7 +20,8 @@ pub returns-in_err-push-clause-events : goal.returns-in_err-push-clause-events
 returns-in_err-push-clause-events c =
     let f = err_from_is_err_and c.from_residual-in_err-push.result c.from_residual-in_err-push.ensures.1 in
     value_stopped (map event_item) (repeated c.args.count AnEvent) c.args.lines.now c.event.new.lines NoMemory c.from_residual-in_err-push.result
-    (lack_kept c.args.lines.now c.loop.lines c.event.new.lines (map event_item c.loop.events) (event_item c.in_ok-event.field-0) c.loop.invariant.taken c.in_ok-event.ensures (kept_event c.in_ok-event.field-0))
+    (stopped_within event_item AnEvent event_passes c.args.lines.now c.loop.lines c.loop.events c.args.count NoMemory c.loop.invariant.taken (omega (arith, c.loop-test.true, c.loop.invariant.counted))
+    (lack_kept c.loop.lines c.event.new.lines AnEvent (event_item c.in_ok-event.field-0) c.in_ok-event.ensures (kept_event c.in_ok-event.field-0)))
     (f.1 ∙ ap Err f.2)
 
 pub loop-preserved : goal.loop-preserved
