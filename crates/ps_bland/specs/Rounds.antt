@@ -163,5 +163,5 @@ abbrev pub IsEnteringHome : Costs → Tableau → Option Col → Type 0
 IsEnteringHome costs t = IsEnteringBefore costs t (suc (length t.kinds))
 
 -- no sum is too wide up to the first slack that improves, or for any slack where none was found
-abbrev pub AreHomesNarrow : Costs → Tableau → Option Col → Type 0
-AreHomesNarrow costs t = AreNarrowTo costs t (suc (length t.kinds))
+abbrev pub AreNarrowToHome : Costs → Tableau → Option Col → Type 0
+AreNarrowToHome costs t = AreNarrowTo costs t (suc (length t.kinds))

@@ -7,7 +7,7 @@ ghost use Rattle.ps_table.specs.Places.{CostPlaces, IsWideAt, IsNarrow};
 ghost use Rattle.ps_bland.specs.Rules.{is_artificial_column};
 ghost use Rattle.ps_bland.specs.Ends.{IsEntryWide};
 ghost use Rattle.ps_bland.specs.Rounds.{ImprovesIn, IsEntering, AreEntriesNarrow};
-ghost use Rattle.ps_bland.specs.Rounds.{IsEnteringHome, AreHomesNarrow};
+ghost use Rattle.ps_bland.specs.Rounds.{IsEnteringHome, AreNarrowToHome};
 
 use crate::columns::is_artificial;
 use ps_frac::Fraction;
@@ -39,7 +39,7 @@ fn improves(table: &Table, costs: &Costs, col: Col) -> Result<bool, WideAt>
 fn entering_home(table: &Table, costs: &Costs) -> Result<Option<Col>, WideAt>
     requires { HasCosts costs.now table.now }
     ensures found { IfOk result (IsEnteringHome costs.now table.now) }
-    ensures narrow { IfOk result (AreHomesNarrow costs.now table.now) }
+    ensures narrow { IfOk result (AreNarrowToHome costs.now table.now) }
     ensures refused { IfErr result (IsEntryWide costs.now table.now) }
 {
     for row in 0..table.rows() {
