@@ -14,7 +14,6 @@ use Rattle.ps_basis.specs.Table.{unit_at, Belongs}
 use Rattle.ps_basis.proofs.PivotKeeps.{swapped}
 use Rattle.ps_basis.proofs.Units.{unit_at-same, unit_at-other}
 use Rattle.std.proofs.Common.{List, ◌≤◌, ◌-◌}
-use Rattle.ps_table.specs.Pricing.{HasCosts}
 use Rattle.ps_rule.proofs.Rays.{no_ray, no_ray_upper}
 use Rattle.ps_rule.specs.Rule.{Improves, IsFeasible, IsArtificialRow, HasLeastRatio, LeavesInPhaseTwo, Leaves}
 use Rattle.ps_table.specs.declared.costs.Costs.{Costs}
@@ -241,24 +240,10 @@ unit_nonneg i j =
       | inr ne ↦ subst IsNonneg (sym (unit_at-other i j ne)) zero_nonneg
     ]
 
-pub ready_new : (costs : Costs) (t : Tableau) → HasCosts costs t → HasNoNegativeCost costs t → ((i j : ℕ) → i < length t.kinds → j ≤ length t.kinds → entry_at t i j ≡ unit_at i (j - 1)) → IsReady One costs t
-ready_new costs t has gain cells = record {
-  costs_there = has;
-  values = λ i l. subst IsNonneg (sym (cells i 0 l (omega arith))) (unit_nonneg i 0);
-  fits = gain;
-}
-
 pub values_added : (entries : List ℤ) (t u : Tableau) → IsAdded entries t u → ((i : ℕ) → i < length t.kinds → IsNonneg (entry_at t i 0)) → (i : ℕ) → i < length u.kinds → IsNonneg (entry_at u i 0)
 values_added entries t u added values = λ i l.
     let h : i < length t.kinds = subst (λ k. i < length k) added.kinds l in
     subst IsNonneg (sym (added.before i 0 h (omega arith))) (values i h)
-
-pub ready_added : (phase : Phase) (costs more : Costs) (entries : List ℤ) (t u : Tableau) → IsReady phase costs t → IsAdded entries t u → HasCosts more u → FitsPhase phase more u → IsReady phase more u
-ready_added phase costs more entries t u ready added has fits = record {
-  costs_there = has;
-  values = values_added entries t u added ready.values;
-  fits = fits;
-}
 
 -- a world that is added keeps the end of phase one
 pub feasible_added : (entries : List ℤ) (t u : Tableau) → IsAdded entries t u → IsFeasible (simplex_of t) → IsFeasible (simplex_of u)

@@ -8,7 +8,7 @@ use Rattle.ps_rational.specs.Rational.{Rational, neg, den}
 use Rattle.ps_rational.specs.Order.{IsNonneg, AtMost, IsAbove, IsLess}
 use Rattle.ps_rational.proofs.Cross.{same_from_cross}
 use Rattle.ps_rational.proofs.Order.{at_most_trans, at_most_from_less, at_most_refl, at_most_antisym, not_self_less, nonneg_of}
-use Rattle.ps_rule.specs.Rule.{SimplexTable, Precedes, ratio, IsRising, HasLeastRatio}
+use Rattle.ps_rule.specs.Rule.{SimplexTable, Precedes, ratio, IsRising}
 use Rattle.ps_table.specs.declared.costs.Costs.{Costs}
 use Rattle.ps_pool.specs.declared.col.Col.{Col}
 use Rattle.std.proofs.Common.{append-nil, append_assoc, length-append}
@@ -18,9 +18,8 @@ use Rattle.ps_table.specs.Tableau.{Tableau, basic_at, entry_at, IsPivot, number_
 use Rattle.ps_table.specs.Pricing.{cost_at, HasCosts}
 use Rattle.ps_bland.specs.Rules.{simplex_of, IsLawful}
 use Rattle.ps_bland.specs.Runs.{system_of, pivots_of, ArePivots, Ran, Run}
-use Rattle.ps_bland.specs.Ends.{IsDueRefusal, IsSettled}
-use Rattle.ps_bland.specs.Rounds.{IsLeastBefore, IsPivotRefusal, IsStep, IsSame}
-use Rattle.ps_bland.specs.declared.settled.Settled.{Settled}
+use Rattle.ps_bland.specs.Ends.{IsDueRefusal}
+use Rattle.ps_bland.specs.Rounds.{IsLeastBefore, IsPivotRefusal, IsStep}
 use Rattle.ps_basis.specs.Table.{Based}
 use Rattle.ps_rule.specs.Pivots.{Pivots, IsLawfulAt}
 use Rattle.ps_rule.specs.Pivots.Pivots.{still as no_moves, more as one_move}
@@ -99,12 +98,6 @@ first_least t q p r h = record {
   least = λ i l s. elim (cases_eq i p) [ inl e ↦ subst (Precedes (simplex_of t) q p) (sym e) (precedes_itself (simplex_of t) q p) | inr ne ↦ absurd (h i (omega arith) s) ];
 }
 
-pub all_least : (t : Tableau) (q n p : ℕ) → length t.kinds ≤ n → IsLeastBefore t q n p → HasLeastRatio (simplex_of t) q p
-all_least t q n p l h = record {
-  rising = h.rising;
-  least = λ i r. let k = r.within in h.least i (omega arith) r;
-}
-
 -- the kinds and the worlds stay
 run_kinds : (phase : Phase) (costs : Costs) (s t : Tableau) (events : List Event) → Run phase costs s events t → t.kinds ≡ s.kinds
 run_kinds phase costs s t events (still _) = refl
@@ -156,15 +149,6 @@ ran_more phase costs s t u trace now longer had mid left ran step = record {
   counted = let a = ran.counted in let b = step.counted in omega (arith, length-append ran.events (Pivot step.enter step.leave ∷ []));
 }
 
-pub ran_same : (phase : Phase) (costs : Costs) (s t u : Tableau) (trace now longer : List Event) (had mid left : ℕ) → Ran phase costs s t trace now had mid → IsSame t u now longer mid left → Ran phase costs s u trace longer had left
-ran_same phase costs s t u trace now longer had mid left ran same = record {
-  events = ran.events;
-  run = subst (λ k. Run phase costs s ran.events k) (sym same.table_same) ran.run;
-  lawful = subst (λ k. ArePivots phase costs s ran.events k) (sym same.table_same) ran.lawful;
-  appended = same.trace_same ∙ ran.appended;
-  counted = ap (λ k. k + length ran.events) same.left_same ∙ ran.counted;
-}
-
 pub costs_kept : (costs : Costs) (enter : Col) (leave : ℕ) (t u : Tableau) → IsPivot leave enter t u → HasCosts costs t → HasCosts costs u
 costs_kept costs enter leave t u pivot h = record {
   homes = h.homes ∙ ap length (sym pivot.kinds);
@@ -175,11 +159,3 @@ costs_kept costs enter leave t u pivot h = record {
 pub due_refusal : (phase : Phase) (costs : Costs) (t : Tableau) (left : ℕ) (q : Col) (p : ℕ) → 0 < left → IsLawful phase costs t q p → (e : TableError) → IsPivotRefusal t q p e → IsDueRefusal phase costs t left e
 due_refusal phase costs t left q p some lawful (Wide w) h = at_pivot q p some lawful h
 due_refusal phase costs t left q p some lawful NoMemory h = record { enter = q; leave = p; lawful = lawful; some_left = some }
-
-pub refusal_same : (phase : Phase) (costs : Costs) (t u : Tableau) (trace longer : List Event) (had left : ℕ) (e : TableError) → IsSame t u trace longer had left → IsDueRefusal phase costs t had e → IsDueRefusal phase costs u left e
-refusal_same phase costs t u trace longer had left e same h =
-    subst (λ (k : Tableau). IsDueRefusal phase costs k left e) (sym same.table_same) (subst (λ (k : ℕ). IsDueRefusal phase costs t k e) (sym same.left_same) h)
-
-pub settled_same : (phase : Phase) (costs : Costs) (t u : Tableau) (trace longer : List Event) (had left : ℕ) (s : Settled) → IsSame t u trace longer had left → IsSettled phase costs t had s → IsSettled phase costs u left s
-settled_same phase costs t u trace longer had left s same h =
-    subst (λ (k : Tableau). IsSettled phase costs k left s) (sym same.table_same) (subst (λ (k : ℕ). IsSettled phase costs t k s) (sym same.left_same) h)

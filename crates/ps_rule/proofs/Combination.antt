@@ -74,10 +74,3 @@ priced_improves s w basic X cost j big z stands h l real e above = record {
   real = real;
   more = improves_from big z (carried (simplex_table s w basic X) cost j) (cost j) (e ∙ ap (λ k. mul (whole (pos big)) (sub k (cost j))) (sym (carried_is_priced s.rows w s.columns X basic cost stands j l))) above;
 }
-
--- a column that is there and doesn't improve has a combination of at most 0: no world of the pool is priced again
-pub pool_not_priced : (phase : Phase) (s : System) (w : ℕ) (basic : ℕ → ℕ) (X : ℕ → ℕ → Rational) (cost : ℕ → Rational) (j big : ℕ) (z : ℤ)
-    → Stands s.rows w s.columns basic X → IsResting phase (simplex_table s w basic X) cost → 0 < j → j < w → s.artificial j ≡ false
-    → whole z ≡ mul (whole (pos big)) (sub (sum_to s.rows (λ m. mul (carried (simplex_table s w basic X) cost (suc m)) (s.columns m j))) (cost j))
-    → pos 0 <ℤ z → ⊥
-pool_not_priced phase s w basic X cost j big z stands rest h l real e above = rest.none j (priced_improves s w basic X cost j big z stands h l real e above)
