@@ -8,7 +8,7 @@ use Rattle.ps_rational.specs.Rational.{Rational, neg, den}
 use Rattle.ps_rational.specs.Order.{IsNonneg, AtMost, IsAbove, IsLess}
 use Rattle.ps_rational.proofs.Cross.{same_from_cross}
 use Rattle.ps_rational.proofs.Order.{at_most_trans, at_most_from_less, at_most_refl, at_most_antisym, not_self_less, nonneg_of}
-use Rattle.ps_rule.specs.Rule.{SimplexTable, Precedes, ratio, IsRising}
+use Rattle.ps_rule.specs.Rule.{SimplexTable, GoesBefore, Precedes, ratio, IsRising}
 use Rattle.ps_table.specs.declared.costs.Costs.{Costs}
 use Rattle.ps_pool.specs.declared.col.Col.{Col}
 use Rattle.std.proofs.Common.{append-nil, append_assoc, length-append}
@@ -39,23 +39,28 @@ equal_of a b e = subst (λ r. MatchOrdering r (a <ℤ b) (a ≡ b) (b <ℤ a)) (
 greater_of : (a b : ℤ) → Greater ≡ int_cmp a b → b <ℤ a
 greater_of a b e = subst (λ r. MatchOrdering r (a <ℤ b) (a ≡ b) (b <ℤ a)) (sym e) (int_ranks a b)
 
-strict : (f : SimplexTable) (q p i : ℕ) (x y : Rational) → x ≡ ratio f q p → y ≡ ratio f q i → IsLess x y → Precedes f q p i
-strict f q p i x y ex ey h = record {
-  at_most = subst (λ z. AtMost z (ratio f q i)) ex (subst (AtMost x) ey (at_most_from_less x y h));
-  tie = λ e. absurd (not_self_less x (subst (IsLess x) (sym (ex ∙ e ∙ sym ey)) h));
+before_less : (x : Rational) (b : ℕ) (y : Rational) (c : ℕ) → IsLess x y → GoesBefore x b y c
+before_less x b y c h = record {
+  at_most = at_most_from_less x y h;
+  tie = λ e. absurd (not_self_less x (subst (IsLess x) (sym e) h));
 }
 
-pub precedes_less : (f : SimplexTable) (q p i : ℕ) (x y : Rational) → x ≡ ratio f q p → y ≡ ratio f q i → Less ≡ int_cmp (x.over *ℤ pos y.under) (y.over *ℤ pos x.under) → Precedes f q p i
-precedes_less f q p i x y ex ey e = strict f q p i x y ex ey (less_of _ _ e)
+pub before_tie : (x : Rational) (b : ℕ) (y : Rational) (c : ℕ) → x ≡ y → b ≤ c → GoesBefore x b y c
+before_tie x b y c e h = record { at_most = subst (AtMost x) e (at_most_refl x); tie = λ _. h }
 
-pub precedes_greater : (f : SimplexTable) (q p i : ℕ) (x y : Rational) → x ≡ ratio f q p → y ≡ ratio f q i → Greater ≡ int_cmp (x.over *ℤ pos y.under) (y.over *ℤ pos x.under) → Precedes f q i p
-precedes_greater f q p i x y ex ey e = strict f q i p y x ey ex (greater_of _ _ e)
+pub less_first : (x : Rational) (b : ℕ) (y : Rational) (c : ℕ) → Less ≡ int_cmp (x.over *ℤ pos y.under) (y.over *ℤ pos x.under) → GoesBefore x b y c
+less_first x b y c e = before_less x b y c (less_of _ _ e)
 
-pub same_ratio : (f : SimplexTable) (q p i : ℕ) (x y : Rational) → x ≡ ratio f q p → y ≡ ratio f q i → Equal ≡ int_cmp (x.over *ℤ pos y.under) (y.over *ℤ pos x.under) → ratio f q p ≡ ratio f q i
-same_ratio f q p i x y ex ey e = sym ex ∙ same_from_cross x y (equal_of _ _ e) ∙ ey
+pub greater_last : (x : Rational) (b : ℕ) (y : Rational) (c : ℕ) → Greater ≡ int_cmp (x.over *ℤ pos y.under) (y.over *ℤ pos x.under) → GoesBefore y c x b
+greater_last x b y c e = before_less y c x b (greater_of _ _ e)
 
-pub precedes_tie : (f : SimplexTable) (q p i : ℕ) → ratio f q p ≡ ratio f q i → f.basic p ≤ f.basic i → Precedes f q p i
-precedes_tie f q p i e h = record { at_most = subst (AtMost (ratio f q p)) e (at_most_refl (ratio f q p)); tie = λ _. h }
+pub same_ratio : (x y : Rational) → Equal ≡ int_cmp (x.over *ℤ pos y.under) (y.over *ℤ pos x.under) → x ≡ y
+same_ratio x y e = same_from_cross x y (equal_of _ _ e)
+
+-- rows by the numbers that were computed as their ratios
+pub precedes_by : (f : SimplexTable) (q p i : ℕ) (x y : Rational) → x ≡ ratio f q p → y ≡ ratio f q i → GoesBefore x (f.basic p) y (f.basic i) → Precedes f q p i
+precedes_by f q p i x y ex ey h =
+    subst (λ s. GoesBefore (ratio f q p) (f.basic p) s (f.basic i)) ey (subst (λ r. GoesBefore r (f.basic p) y (f.basic i)) ex h)
 
 pub precedes_trans : (f : SimplexTable) (q a b c : ℕ) → Precedes f q a b → Precedes f q b c → Precedes f q a c
 precedes_trans f q a b c h k = record {
@@ -68,7 +73,7 @@ precedes_trans f q a b c h k = record {
 }
 
 pub precedes_itself : (f : SimplexTable) (q a : ℕ) → Precedes f q a a
-precedes_itself f q a = precedes_tie f q a a refl (omega arith)
+precedes_itself f q a = before_tie (ratio f q a) (f.basic a) (ratio f q a) (f.basic a) refl (omega arith)
 
 not_above_z : (z : ℤ) → (pos 0 <ℤ z → ⊥) → pos 0 ≤ℤ neg_ℤ z
 not_above_z (pos zero) h = omega (arith, ints)

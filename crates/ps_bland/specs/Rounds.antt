@@ -1,7 +1,7 @@
 -- What the code has looked at so far, and what one round does.
 use Rattle.std.specs.Prelude.{◌≡◌, ◌≢◌, ℕ, suc, ◌+◌, ◌<◌, true, false, List, [], ◌∷◌, ◌++◌, length, Option, Some, None, Result, Ok, Err}
 use Rattle.ps_rational.specs.Rational.{Rational, zero_q}
-use Rattle.ps_rule.specs.Rule.{Improves, Enters, IsRising, IsArtificialRow, HasNoArtificialRow, IsLeastArtificialRow, ratio, Precedes, HasLeastRatio, Leaves}
+use Rattle.ps_rule.specs.Rule.{Improves, Enters, IsRising, IsArtificialRow, HasNoArtificialRow, IsLeastArtificialRow, ratio, GoesBefore, Precedes, HasLeastRatio, Leaves}
 use Rattle.ps_pool.specs.declared.col.Col.{Col}
 use Rattle.ps_table.specs.declared.costs.Costs.{Costs}
 use Rattle.ps_table.specs.declared.place.WideAt.{WideAt}
@@ -44,9 +44,9 @@ LeavesIn phase t c p = Leaves phase (simplex_of t) (number_of t c) p
 abbrev pub ratio_in : Tableau → Col → ℕ → Rational
 ratio_in t c i = ratio (simplex_of t) (number_of t c) i
 
--- row p goes before row i in the column
-abbrev pub PrecedesIn : Tableau → Col → ℕ → ℕ → Type 0
-PrecedesIn t c p i = Precedes (simplex_of t) (number_of t c) p i
+-- row p goes before row i, where these are their ratios
+abbrev pub GoesBeforeRow : Tableau → ℕ → Rational → ℕ → Rational → Type 0
+GoesBeforeRow t p r i s = GoesBefore r (basic_at t p) s (basic_at t i)
 
 -- row p has the least ratio of the column
 abbrev pub HasLeastRatioIn : Tableau → Col → ℕ → Type 0

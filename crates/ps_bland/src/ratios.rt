@@ -2,7 +2,7 @@
 ghost use Rattle.std.specs.Prelude.{◌≡◌, suc, ◌<◌, false, IfOk, IfErr, IsTrue};
 ghost use Rattle.ps_table.specs.Tableau.{rows_of, HasColumn};
 ghost use Rattle.ps_bland.specs.Rounds.{IsRisingIn, HasRisingIn, NoneRisesBefore, HasEntryIn};
-ghost use Rattle.ps_bland.specs.Rounds.{ratio_in, IsRatioWideIn, PrecedesIn};
+ghost use Rattle.ps_bland.specs.Rounds.{ratio_in, IsRatioWideIn, GoesBeforeRow};
 ghost use Rattle.ps_bland.specs.Rounds.{IsLeastBeforeIn, HasLeastRatioIn};
 
 use crate::columns::is_above;
@@ -52,14 +52,13 @@ struct Best {
 }
 
 /// Whether row `row` of ratio `ratio` goes before the best row so far.
-fn is_better(table: &Table, col: Col, row: u32, ratio: &Fraction, best: &Best) -> bool
-    requires inside { HasColumn table.now col }
+fn is_better(table: &Table, row: u32, ratio: &Fraction, best: &Best) -> bool
     requires row { row < rows_of table.now }
-    requires ratio { ratio.now ≡ ratio_in table.now col row }
-    requires best_row { best.now.row < rows_of table.now }
-    requires best_ratio { best.now.ratio ≡ ratio_in table.now col best.now.row }
-    ensures better { IsTrue result → PrecedesIn table.now col row best.now.row }
-    ensures worse { result ≡ false → PrecedesIn table.now col best.now.row row }
+    requires best { best.now.row < rows_of table.now }
+    ensures better { IsTrue result
+        → GoesBeforeRow table.now row ratio.now best.now.row best.now.ratio }
+    ensures worse { result ≡ false
+        → GoesBeforeRow table.now best.now.row best.now.ratio row ratio.now }
 {
     match ratio.cmp(&best.ratio) {
         Ordering::Less => true,
@@ -82,7 +81,7 @@ fn with_row(table: &Table, col: Col, row: u32, best: Best) -> Result<Best, WideA
         return Ok(best);
     }
     let ratio = ratio_at(table, col, row)?;
-    if is_better(table, col, row, &ratio, &best) {
+    if is_better(table, row, &ratio, &best) {
         Ok(Best { row, ratio })
     } else {
         Ok(best)

@@ -75,10 +75,15 @@ pub record IsRising (f : SimplexTable) (q i : ℕ) : Type 0 where
 abbrev pub ratio : SimplexTable → ℕ → ℕ → Rational
 ratio f q i = div (f.entry i 0) (f.entry i q)
 
--- row p goes before row i: a lesser ratio, or the same one and a lesser basic column
-pub record Precedes (f : SimplexTable) (q p i : ℕ) : Type 0 where
-  pub at_most : AtMost (ratio f q p) (ratio f q i)
-  pub tie : ratio f q p ≡ ratio f q i → f.basic p ≤ f.basic i
+-- a row of ratio r and basic column b goes before one of ratio s and basic column c: by a lesser ratio, or by the same one
+-- and a lesser basic column
+pub record GoesBefore (r : Rational) (b : ℕ) (s : Rational) (c : ℕ) : Type 0 where
+  pub at_most : AtMost r s
+  pub tie : r ≡ s → b ≤ c
+
+-- row p goes before row i in column q
+abbrev pub Precedes : SimplexTable → ℕ → ℕ → ℕ → Type 0
+Precedes f q p i = GoesBefore (ratio f q p) (f.basic p) (ratio f q i) (f.basic i)
 
 -- of the rows with an entry above 0, one that goes before each other
 pub record HasLeastRatio (f : SimplexTable) (q p : ℕ) : Type 0 where
