@@ -77,27 +77,31 @@ abbrev pub IsPivotRefusal : Tableau → Col → ℕ → TableError → Type 0
 IsPivotRefusal t q p (Wide w) = IsWideAt (PivotPlaces t p q) w
 IsPivotRefusal t q p NoMemory = Unit {0}
 
--- one lawful pivot, with its event, counted
-pub record IsStep (phase : Phase) (costs : Costs) (old new : Tableau) (trace longer : List Event) (had left : ℕ) : Type 0 where
+-- one lawful pivot, with its event
+pub record IsStep (phase : Phase) (costs : Costs) (old new : Tableau) (trace longer : List Event) : Type 0 where
   pub enter : Col
   pub leave : ℕ
   pub lawful : IsLawful phase costs old enter leave
   pub pivot : IsPivot leave enter old new
   pub stands : StandsOn old new
   pub appended : longer ≡ trace ++ Pivot enter leave ∷ []
-  pub counted : left + 1 ≡ had
 
 -- nothing has changed
-pub record IsSame (old new : Tableau) (trace longer : List Event) (had left : ℕ) : Type 0 where
+pub record IsSame (old new : Tableau) (trace longer : List Event) : Type 0 where
   pub table_same : new ≡ old
   pub trace_same : longer ≡ trace
-  pub left_same : left ≡ had
 
--- one round: one lawful pivot, an end, or a refusal
-abbrev pub IsRound : Phase → Costs → Tableau → Tableau → List Event → List Event → ℕ → ℕ → Result (Option Settled) TableError → Type 0
-IsRound phase costs old new trace longer had left (Ok None) = IsStep phase costs old new trace longer had left
-IsRound phase costs old new trace longer had left (Ok (Some s)) = IsSame old new trace longer had left × IsSettled phase costs old had s
-IsRound phase costs old new trace longer had left (Err e) = IsSame old new trace longer had left × IsDueRefusal phase costs old had e
+-- one round: one lawful pivot, or an end or a refusal that is due with so many pivots left
+abbrev pub IsRound : Phase → Costs → Tableau → Tableau → List Event → List Event → ℕ → Result (Option Settled) TableError → Type 0
+IsRound phase costs old new trace longer left (Ok None) = IsStep phase costs old new trace longer
+IsRound phase costs old new trace longer left (Ok (Some s)) = IsSame old new trace longer × IsSettled phase costs old left s
+IsRound phase costs old new trace longer left (Err e) = IsSame old new trace longer × IsDueRefusal phase costs old left e
+
+-- the pivots left after a round: one less after a pivot, else as many
+abbrev pub IsCounted : Result (Option Settled) TableError → ℕ → ℕ → Type 0
+IsCounted (Ok None) had left = left + 1 ≡ had
+IsCounted (Ok (Some s)) had left = left ≡ had
+IsCounted (Err e) had left = left ≡ had
 
 -- the entering column, or none
 abbrev pub IsEntering : Costs → Tableau → Option Col → Type 0

@@ -5,7 +5,7 @@ ghost use Rattle.ps_table.specs.Tableau.{rows_of, HasColumn, entry_of, IsPivot, 
 ghost use Rattle.ps_bland.specs.Runs.{Ran};
 ghost use Rattle.ps_bland.specs.Ready.{IsReady};
 ghost use Rattle.ps_bland.specs.Ends.{IsEnd, AreDueNarrow};
-ghost use Rattle.ps_bland.specs.Rounds.{IsRound, IsPivotRefusal, IsNarrowEnd};
+ghost use Rattle.ps_bland.specs.Rounds.{IsRound, IsCounted, IsPivotRefusal, IsNarrowEnd};
 
 use crate::entering::entering;
 use crate::feasible::is_due_to_end;
@@ -52,7 +52,8 @@ fn step(
 ) -> Result<Option<Settled>, TableError>
     requires { IsReady phase costs.now table.old }
     ensures round { IsRound phase costs.now table.old table.new
-        trace.old trace.new left.old left.new result }
+        trace.old trace.new left.old result }
+    ensures counted { IsCounted result left.old left.new }
     ensures narrow { IfOk result (IsNarrowEnd phase costs.now table.new left.new) }
     ensures ready { IsReady phase costs.now table.new }
     ensures stands { StandsOn table.old table.new }

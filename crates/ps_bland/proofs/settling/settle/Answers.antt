@@ -14,8 +14,9 @@ loop-settled-init c = record {
 pub loop-settled-preserved : goal.loop-settled-preserved
 loop-settled-preserved c =
     let step = rw c.in-None.is at c.in_ok-step.ensures.round in
+    let counted = rw c.in-None.is at c.in_ok-step.ensures.counted in
     record {
-      ran = ran_more _ _ _ _ _ _ _ _ _ _ _ c.loop-settled.invariant.ran step;
+      ran = ran_more _ _ _ _ _ _ _ _ _ _ _ c.loop-settled.invariant.ran step counted;
       kinds = step.pivot.kinds ∙ c.loop-settled.invariant.kinds;
       worlds = step.pivot.worlds ∙ c.loop-settled.invariant.worlds;
       ready = c.step.ensures.ready;

@@ -24,7 +24,7 @@ returns-in_err-leave-clause-round c =
     let inside : HasColumn t c.in-Some.enter = search rules in
     let enters : Enters (simplex_of t) (cost_at c.args.costs.now) (number_of t c.in-Some.enter) = search rules in
     let unfinished : IsDone c.args.phase t → ⊥ = search rules in
-    let same : IsSame t t c.args.trace.now c.args.trace.now c.args.left.now c.args.left.now = search rules in
+    let same : IsSame t t c.args.trace.now c.args.trace.now = search rules in
     let some : 0 < c.args.left.now = search rules in
     let e : c.from_residual-in_err-leave.result ≡ Err (refused.Wide w) = search rules in
     rw e (same, at_ratio c.in-Some.enter unfinished some inside enters c.in_err-leave.ensures.ratios c.in_err-leave.ensures.refused)
@@ -34,7 +34,7 @@ returns-in_err-pivot_with_event-clause-round c =
     let t = c.args.table.now in
     let r = c.in_err-pivot_with_event.field-0.0 in
     let lawful : IsLawful c.args.phase c.args.costs.now t c.in-Some.enter c.in_ok-leave.leave = search rules in
-    let same : IsSame t c.pivot_with_event.new.table c.args.trace.now c.pivot_with_event.new.trace c.args.left.now c.args.left.now = search rules in
+    let same : IsSame t c.pivot_with_event.new.table c.args.trace.now c.pivot_with_event.new.trace = search rules in
     let some : 0 < c.args.left.now = search rules in
     let e : c.from_residual-in_err-pivot_with_event.result ≡ Err r = search rules in
     rw e (same, due_refusal c.args.phase c.args.costs.now t c.args.left.now c.in-Some.enter c.in_ok-leave.leave some lawful r c.in_err-pivot_with_event.ensures.refused)
