@@ -8,7 +8,6 @@ use Rattle.ps_table.specs.declared.costs.Costs.{Costs}
 use Rattle.ps_table.specs.Tableau.{Tableau, IsTableau, StandsFor, basic_at}
 use Rattle.ps_bland.specs.Ready.{HasValues}
 use Rattle.ps_claims.specs.declared.claim_kind.ClaimKind.{ClaimKind}
-use Rattle.ps_claims.specs.declared.claim_kind.ClaimKind.TheVariants.{Nothing, Lower, Upper}
 use Rattle.ps_runs.specs.Rows.{Setting, artificial_rows, columns_of, home_cost, world_cost}
 use Rattle.ps_runs.specs.Runs.{Subject, setting_of, atoms_of, Stage, IsPool, LeadsTo, pivots_in}
 
