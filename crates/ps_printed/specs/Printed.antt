@@ -1,13 +1,14 @@
 -- Models, duals and causes whose numbers can be printed.
-use Rattle.std.specs.Prelude.{ℕ, ◌<◌, ◌≤◌, ◌+◌, ◌^◌, List, All, length, unsigned_abs}
+use Rattle.std.specs.Prelude.{ℕ, ◌<◌, ◌≤◌, ◌+◌, List, All, length, unsigned_abs}
 use Rattle.ps_rational.specs.Rational.{Rational}
 use Rattle.ps_rational.specs.Wide.{Fits, size_limit}
-use Rattle.ps_table.specs.Places.{printed_limit}
+use Rattle.ps_table.specs.declared.limits.TheConstants.{PRINTED_LIMIT}
 use Rattle.ps_steps.specs.Constraints.{Constraint}
 use Rattle.ps_steps.specs.Steps.{Step}
 use Rattle.ps_pb.specs.Limits.{IsLiteral}
 use Rattle.ps_log.specs.Limits.{IsGoalWithin}
 use Rattle.ps_table.specs.declared.place.WideAt.{WideAt}
+use Rattle.ps_answer.specs.declared.limits.TheConstants.{MOST_CONFLICTS}
 use Rattle.ps_answer.specs.declared.answer.Model.{Model}
 use Rattle.ps_answer.specs.declared.answer.Dual.{Dual}
 use Rattle.ps_answer.specs.declared.answer.Cause.{Cause}
@@ -23,17 +24,17 @@ use Rattle.ps_certificate.specs.Certificates.{IsSmallDual}
 
 -- the most steps that a refutation has: one more than a search may learn clauses
 abbrev pub most_steps : ℕ
-most_steps = 2 ^ 40 + 1
+most_steps = MOST_CONFLICTS + 1
 
 -- the literals of each step are those of variables: none is 0
 abbrev pub AreOfLiterals : List Step → Type 0
 AreOfLiterals steps = All (λ s. All IsLiteral s.lits) steps
 
--- the total, and with it each weight, is at most 2^90
+-- the total, and with it each weight, is at most the greatest number that an answer prints
 pub record IsPrintedModel (m : Model) : Type 0 where
-  pub total : unsigned_abs m.total ≤ printed_limit
+  pub total : unsigned_abs m.total ≤ PRINTED_LIMIT
 
--- each number is at most 2^90 in size, and the steps, of literals, are at most 2^40 + 1
+-- each number is small enough for a dual, and the steps, of literals, are no more than a refutation has
 pub record IsPrintedDual (d : Dual) : Type 0 where
   pub numbers : IsSmallDual d
   pub steps : length d.steps ≤ most_steps

@@ -11,11 +11,11 @@ use Rattle.ps_answer.specs.declared.answer.QueryAnswer.TheVariants as query
 use Rattle.ps_answer.specs.declared.answer.Answer.{Answer}
 use Rattle.ps_answer.specs.declared.limits.TheConstants.{MOST_ENTRIES}
 use Rattle.ps_certificate.specs.Certificates.{IsSmallDual}
-use Rattle.ps_table.specs.Places.{printed_limit}
+use Rattle.ps_table.specs.declared.limits.TheConstants.{PRINTED_LIMIT}
 
 -- the most that a total or a weight is
 abbrev pub most_weight : ℕ
-most_weight = printed_limit
+most_weight = PRINTED_LIMIT
 
 -- the most worlds
 abbrev pub most_worlds : ℕ
