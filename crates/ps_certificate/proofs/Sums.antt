@@ -12,7 +12,7 @@ use Rattle.ps_problem.specs.declared.bound.Bound.{Bound}
 use Rattle.ps_problem.specs.Problems.{Parts, IsBound, bounds_in}
 use Rattle.ps_claims.specs.declared.combination.Combination.{Combination}
 use Rattle.ps_claims.specs.Goals.{plus, nothing, at_node, at_condition, row_times, rows_times, claimed_of, combination_of}
-use Rattle.ps_certificate.specs.Certificates.{IsMultiplier, dual_of, combination_over}
+use Rattle.ps_certificate.specs.Certificates.{IsMultiplier, dual_of}
 use Rattle.ps_answer.specs.declared.answer.Dual.{Dual}
 use Rattle.ps_claims.specs.declared.claim_kind.ClaimKind.{ClaimKind}
 use Rattle.ps_certificate.specs.Rows.{IsNode, IsRow}

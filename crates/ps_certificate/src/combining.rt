@@ -5,9 +5,9 @@ ghost use Rattle.ps_problem.specs.declared.limits.TheConstants.{MOST_BOUNDS, MOS
 ghost use Rattle.ps_problem.specs.Problems.{bounds_in};
 ghost use Rattle.ps_claims.specs.Limits.{most_combination, most_dual_number};
 ghost use Rattle.ps_claims.specs.Goals.{plus, at_node, at_condition, row_times, rows_times};
-ghost use Rattle.ps_claims.specs.Goals.{claimed_of, combination_of, size_of};
-ghost use Rattle.ps_certificate.specs.Certificates.{dual_of, combination_over, HasQuery};
-ghost use Rattle.ps_certificate.specs.Certificates.{IsMultiplier, IsSmallDual};
+ghost use Rattle.ps_claims.specs.Goals.{claimed_of, size_of};
+ghost use Rattle.ps_certificate.specs.Certificates.{dual_of, combination_by, combination_on};
+ghost use Rattle.ps_certificate.specs.Certificates.{HasQuery, IsMultiplier, IsSmallDual};
 ghost use Rattle.ps_certificate.specs.Rows.{AreOverNodes, IsNode, IsRow};
 
 use ps_answer::Dual;
@@ -18,8 +18,8 @@ use ps_problem::{Bound, Problem};
 use std::alloc::Global;
 
 /// The combination whose value in a world is the claim's and the sum of the bounds' rows there,
-/// each times its multiplier: its terms are those of the claim, then of each bound formula and
-/// condition together, then the condition.
+/// each times its multiplier. Its terms are those of the claim, and then of each bound: that of
+/// formula and condition together, and that of the condition.
 pub fn combination(
     alloc: Global,
     problem: &Problem,
@@ -32,7 +32,7 @@ pub fn combination(
     requires both { HasQuery kind → both < length problem.now.nodes }
     requires rows { length dual.now.rows ≡ length (bounds_in problem.now.sentences) }
     requires small { IsSmallDual dual.now }
-    ensures exact { IfOk result (λ c. c ≡ combination_over problem.now kind given both dual.now) }
+    ensures exact { IfOk result (λ c. c ≡ combination_on problem.now kind given both dual.now) }
     ensures small { IfOk result (λ c. size_of c ≤ most_combination) }
 {
     let bounds = problem.bound_list();
@@ -53,8 +53,7 @@ pub fn combination_of(
     requires both { HasQuery kind → IsNode both }
     requires rows { length dual.now.rows ≡ length bounds.now }
     requires small { IsSmallDual dual.now }
-    ensures exact { IfOk result
-        (λ c. c ≡ combination_of kind given both bounds.now (dual_of dual.now)) }
+    ensures exact { IfOk result (λ c. c ≡ combination_by bounds.now kind given both dual.now) }
     ensures small { IfOk result (λ c. size_of c ≤ most_combination) }
 {
     let mut sum = Combination {
