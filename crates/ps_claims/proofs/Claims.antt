@@ -16,7 +16,7 @@ use Rattle.ps_claims.specs.Duals.{Dual, ClaimKind, Nothing, Lower, Upper, HasSig
 use Rattle.ps_claims.specs.Faults.{DualFault}
 use Rattle.ps_claims.proofs.Faults.{no_fault}
 use Rattle.ps_claims.specs.Validity.{IsValidVerdict, IsValidSide, IsValidPart, IsValid}
-use Rattle.ps_claims.specs.Claims.{Place, AtVerdict, AtQuery, AtLower, AtUpper, Claim, Modelled, Excluded, Bounded, verdict_claims, side_claims, part_claims, claims_from, claims_of, IsValidClaim, HasParts, AreValid, Fault, WrongShape, TooManyWorlds, TotalWrong, EvidenceZero, ValueMissed, WeightZero, WorldTwice, BoundMissed, DualWrong, model_of, AreProperEntries, IsRepeated, AreFew, HasTotal, IsModelRight, IsDualWrong, IsFirstIn, IsFirstAt, IsRefused}
+use Rattle.ps_claims.specs.Claims.{Place, AtVerdict, AtQuery, AtLower, AtUpper, Claim, Modelled, Excluded, Bounded, verdict_claims, side_claims, part_claims, claims_from, claims_of, IsValidClaim, HasParts, AreValid, Fault, WrongShape, TooManyWorlds, TotalWrong, EvidenceZero, ValueMissed, WeightZero, WorldTwice, BoundMissed, DualWrong, claimed_model, AreProperEntries, IsRepeated, AreFew, HasTotal, IsModelRight, IsDualWrong, IsFirstIn, IsFirstAt, IsRefused}
 
 -- what all of two lists have
 front : {X : Type 0} (P : X → Type 0) (xs ys : List X) → All P (xs ++ ys) → All P xs
@@ -121,31 +121,31 @@ taken_before (e ∷ d) (suc i) zero x lt = (omega arith, refl)
 taken_before (e ∷ d) (suc i) (suc k) x lt = let f = taken_before d i k x (omega arith) in (omega (arith, f.0), f.1)
 
 not_repeated : (d : List Entry) (n : ℕ) → AreProperEntries d → IsRepeated d n → ⊥
-not_repeated d n order f =
+not_repeated d n proper f =
     let i = f.0 in
     let e = standing (λ x. (x.weight ≢ pos 0) × Any (λ y. y.world ≡ x.world) (take i d)) d i f.3 in
     let a = e.3.1 in
     let before = taken_before d i a.0 a.1 a.2 in
-    order.different a.0 i a.1 before.0 e.1 (ap (λ y. y.world) (sym before.1 ∙ a.3) ∙ a.4 ∙ ap (λ y. y.world) (sym e.2 ∙ get_or_default d i e.0 a.1 e.1))
+    proper.different a.0 i a.1 before.0 e.1 (ap (λ y. y.world) (sym before.1 ∙ a.3) ∙ a.4 ∙ ap (λ y. y.world) (sym e.2 ∙ get_or_default d i e.0 a.1 e.1))
 
 pub no_model_fault : (p : Parts) (c : Claim) (f : Fault) → IsModelRight p c → ((g : DualFault) → IsDualWrong p c g → ⊥) → IsFirstIn p c f → ⊥
 no_model_fault p c WrongShape r dual f = f r.shape
-no_model_fault p c TooManyWorlds r dual f = both_some (model_of c) (AreFew p) _ r.few f.1 (λ m h g. g h)
-no_model_fault p c (WeightZero n) r dual f = both_some (model_of c) (λ m. AreProperEntries m.worlds) _ r.order f.1 (λ m h g. not_there (λ e. e.weight ≢ pos 0) m.worlds g.1.0 h.weighed (weightless m.worlds g.1.0 g.1.3))
+no_model_fault p c TooManyWorlds r dual f = both_some (claimed_model c) (AreFew p) _ r.few f.1 (λ m h g. g h)
+no_model_fault p c (WeightZero n) r dual f = both_some (claimed_model c) (λ m. AreProperEntries m.worlds) _ r.proper f.1 (λ m h g. not_there (λ e. e.weight ≢ pos 0) m.worlds g.1.0 h.weighed (weightless m.worlds g.1.0 g.1.3))
   where
     weightless : (d : List Entry) (i : ℕ) → IsSomeAnd (slice_get d i) (λ e. e.weight ≡ pos 0) → IsSomeAnd (slice_get d i) (λ e. ¬ (e.weight ≢ pos 0))
     weightless [] i s = s
     weightless (e ∷ d) zero s = λ n. n s
     weightless (e ∷ d) (suc i) s = weightless d i s
-no_model_fault p c (WorldTwice n) r dual f = both_some (model_of c) (λ m. AreProperEntries m.worlds) _ r.order f.1 (λ m h g. not_repeated m.worlds n h g.1)
-no_model_fault p c TotalWrong r dual f = both_some (model_of c) HasTotal _ r.total f.1 (λ m h g. g.2 h)
-no_model_fault p c (BoundMissed n) r dual f = both_some (model_of c) (λ m. MeetsAll (bounds_of p) m.worlds) _ r.met f.1 (λ m h g. not_there (λ b. MeetsBound b m.worlds) (bounds_of p) g.3.0 h g.3.3)
+no_model_fault p c (WorldTwice n) r dual f = both_some (claimed_model c) (λ m. AreProperEntries m.worlds) _ r.proper f.1 (λ m h g. not_repeated m.worlds n h g.1)
+no_model_fault p c TotalWrong r dual f = both_some (claimed_model c) HasTotal _ r.total f.1 (λ m h g. g.2 h)
+no_model_fault p c (BoundMissed n) r dual f = both_some (claimed_model c) (λ m. MeetsAll (bounds_of p) m.worlds) _ r.met f.1 (λ m h g. not_there (λ b. MeetsBound b m.worlds) (bounds_of p) g.3.0 h g.3.3)
 no_model_fault p c EvidenceZero r dual f = f.2 r.evidence
 no_model_fault p c ValueMissed r dual f = f.3 r.value
 no_model_fault p c (DualWrong g) r dual f = dual g f.1
 
-entries-order : (atoms : ℕ) (d : List Entry) → IsDistribution atoms d → AreProperEntries d
-entries-order atoms d h = record { weighed = λ k e lt z. (let w = h.weighed k e lt in omega (arith, ints, w, z)); different = h.different }
+entries-proper : (atoms : ℕ) (d : List Entry) → IsDistribution atoms d → AreProperEntries d
+entries-proper atoms d h = record { weighed = λ k e lt z. (let w = h.weighed k e lt in omega (arith, ints, w, z)); different = h.different }
 
 model-total : (atoms : ℕ) (m : Model) → IsDistribution atoms m.worlds → m.total ≡ total m.worlds → HasTotal m
 model-total atoms m h e = ((λ z. (let t = total-positive atoms m.worlds h in omega (arith, ints, t, z, e))), e)
@@ -155,7 +155,7 @@ valid-model : (p : Parts) (c : Claim) → IsValidClaim p c → IsModelRight p c
 valid-model p (Modelled m) h = record {
   shape = record { worlds = h.model.distribution.worlds; rows = tt };
   few = h.small.few;
-  order = entries-order (length p.names) m.worlds h.model.distribution;
+  proper = entries-proper (length p.names) m.worlds h.model.distribution;
   total = model-total (length p.names) m h.model.distribution h.small.total;
   met = h.model.met;
   evidence = tt;
@@ -164,7 +164,7 @@ valid-model p (Modelled m) h = record {
 valid-model p (Excluded given d) h = record {
   shape = record { worlds = tt; rows = length-zip (λ b y. HasSign b.side y) (bounds_of p) d.rows h.refuted.signs };
   few = tt;
-  order = tt;
+  proper = tt;
   total = tt;
   met = tt;
   evidence = tt;
@@ -173,7 +173,7 @@ valid-model p (Excluded given d) h = record {
 valid-model p (Bounded kind q value m d) h = record {
   shape = record { worlds = h.reached.allowed.model.distribution.worlds; rows = length-zip (λ b y. HasSign b.side y) (bounds_of p) d.rows h.refuted.signs };
   few = h.small.few;
-  order = entries-order (length p.names) m.worlds h.reached.allowed.model.distribution;
+  proper = entries-proper (length p.names) m.worlds h.reached.allowed.model.distribution;
   total = model-total (length p.names) m h.reached.allowed.model.distribution h.small.total;
   met = h.reached.allowed.model.met;
   evidence = λ z. (let e = h.reached.allowed.positive in omega (arith, ints, e, z));

@@ -23,7 +23,7 @@ use Rattle.ps_claims.specs.Duals.{Dual, ClaimKind, Nothing}
 use Rattle.ps_claims.specs.Faults.{IsFaultless}
 use Rattle.ps_claims.specs.Validity.{query_of, IsValid}
 use Rattle.ps_claims.proofs.Claims.{claims-valid}
-use Rattle.ps_claims.specs.Claims.{Place, AtReport, Claim, Placed, claims_of, AreValid, HaveWeightsNotBelow0, IsRefused, Modelled, Excluded, Bounded, IsValidClaim, Fault, WrongShape, TooManyWorlds, TotalWrong, EvidenceZero, ValueMissed, WeightZero, WorldTwice, BoundMissed, DualWrong, model_of, dual_of, HasShape, AreProperEntries, IsWeightless, IsRepeated, MissesFirst, AreFew, HasTotal, IsSound, HasEvidence, HasValue, IsModelRight, OfModel, IsFirstIn}
+use Rattle.ps_claims.specs.Claims.{Place, AtReport, Claim, Placed, claims_of, AreValid, HaveWeightsNotBelow0, IsRefused, Modelled, Excluded, Bounded, IsValidClaim, Fault, WrongShape, TooManyWorlds, TotalWrong, EvidenceZero, ValueMissed, WeightZero, WorldTwice, BoundMissed, DualWrong, claimed_model, claimed_dual, HasShape, AreProperEntries, IsWeightless, IsRepeated, MissesFirst, AreFew, HasTotal, IsSound, HasEvidence, HasValue, IsModelRight, OfModel, IsFirstIn}
 use Rattle.ps_claims.proofs.Faults.{int_equal_cases, least_cases, fault_cases}
 
 nat_equal_cases : (m n : ℕ) → (m ≡ n) ⊎ ¬ (m ≡ n)
@@ -59,9 +59,9 @@ if_some_cases P None d = inl tt
 if_some_cases P (Some x) d = d x
 
 shape_cases : (p : Parts) (c : Claim) → HasShape p c ⊎ ¬ HasShape p c
-shape_cases p c = elim (if_some_cases (λ m. All (λ e. length e.world ≡ length p.names) m.worlds) (model_of c) (λ m. all_cases (λ e. length e.world ≡ length p.names) m.worlds (λ e. nat_equal_cases (length e.world) (length p.names)))) [
+shape_cases p c = elim (if_some_cases (λ m. All (λ e. length e.world ≡ length p.names) m.worlds) (claimed_model c) (λ m. all_cases (λ e. length e.world ≡ length p.names) m.worlds (λ e. nat_equal_cases (length e.world) (length p.names)))) [
   | inr bad ↦ inr (λ h. bad h.worlds)
-  | inl worlds ↦ elim (if_some_cases (λ d. length d.rows ≡ length (bounds_of p)) (dual_of c) (λ d. nat_equal_cases (length d.rows) (length (bounds_of p)))) [
+  | inl worlds ↦ elim (if_some_cases (λ d. length d.rows ≡ length (bounds_of p)) (claimed_dual c) (λ d. nat_equal_cases (length d.rows) (length (bounds_of p)))) [
     | inr bad ↦ inr (λ h. bad h.rows)
     | inl rows ↦ inl (record { worlds = worlds; rows = rows })
   ]
@@ -87,18 +87,18 @@ some_from : {X : Type 0} (xs : List X) (i : ℕ) → i < length xs → X
 some_from [] i lt = absurd (omega arith)
 some_from (x ∷ xs) i lt = x
 
-in_order-next : (d : List Entry) (i : ℕ) (x : Entry) → i < length d → AreProperEntries (take i d) → (get_or d i x).weight ≢ pos 0 → All (λ y. y.world ≢ (get_or d i x).world) (take i d) → AreProperEntries (take (i + 1) d)
-in_order-next d i x lt order weighs new = rw (take_more d i x lt) (record {
-  weighed = All-push (λ e. e.weight ≢ pos 0) (take i d) (get_or d i x) order.weighed weighs;
-  different = all_pairs_push (λ e e'. e.world ≢ e'.world) (take i d) (get_or d i x) order.different new;
+proper-next : (d : List Entry) (i : ℕ) (x : Entry) → i < length d → AreProperEntries (take i d) → (get_or d i x).weight ≢ pos 0 → All (λ y. y.world ≢ (get_or d i x).world) (take i d) → AreProperEntries (take (i + 1) d)
+proper-next d i x lt proper weighs new = rw (take_more d i x lt) (record {
+  weighed = All-push (λ e. e.weight ≢ pos 0) (take i d) (get_or d i x) proper.weighed weighs;
+  different = all_pairs_push (λ e e'. e.world ≢ e'.world) (take i d) (get_or d i x) proper.different new;
 })
 
 next_cases : (d : List Entry) (i : ℕ) (x : Entry) → i < length d → AreProperEntries (take i d) → AreProperEntries (take (i + 1) d) ⊎ ((n : ℕ) × (IsWeightless d n ⊎ IsRepeated d n))
-next_cases d i x lt order = elim (int_equal_cases (get_or d i x).weight (pos 0)) [
-  | inl nothing ↦ inr (i + 1, inl (i, refl, order, there (λ e. e.weight ≡ pos 0) d i x lt nothing))
+next_cases d i x lt proper = elim (int_equal_cases (get_or d i x).weight (pos 0)) [
+  | inl nothing ↦ inr (i + 1, inl (i, refl, proper, there (λ e. e.weight ≡ pos 0) d i x lt nothing))
   | inr weighs ↦ elim (among_cases (get_or d i x).world (take i d)) [
-    | inl stood ↦ inr (i + 1, inr (i, refl, order, there (λ e. (e.weight ≢ pos 0) × Any (λ y. y.world ≡ e.world) (take i d)) d i x lt (weighs, stood)))
-    | inr new ↦ inl (in_order-next d i x lt order weighs new)
+    | inl stood ↦ inr (i + 1, inr (i, refl, proper, there (λ e. (e.weight ≢ pos 0) × Any (λ y. y.world ≡ e.world) (take i d)) d i x lt (weighs, stood)))
+    | inr new ↦ inl (proper-next d i x lt proper weighs new)
   ]
 ]
 
@@ -106,11 +106,11 @@ upto_cases : (d : List Entry) (i : ℕ) → i ≤ length d → AreProperEntries 
 upto_cases d zero le = inl (record { weighed = All-nil (λ e. e.weight ≢ pos 0); different = λ i j x before lt. absurd (omega (arith, lt)) })
 upto_cases d (suc i) le = elim (upto_cases d i (omega arith)) [
   | inr fault ↦ inr fault
-  | inl order ↦ (let e : i + 1 ≡ suc i = omega arith in rw e at (next_cases d i (some_from d i (omega arith)) (omega arith) order))
+  | inl proper ↦ (let e : i + 1 ≡ suc i = omega arith in rw e at (next_cases d i (some_from d i (omega arith)) (omega arith) proper))
 ]
 
-order_cases : (d : List Entry) → AreProperEntries d ⊎ ((n : ℕ) × (IsWeightless d n ⊎ IsRepeated d n))
-order_cases d = rw (take-length d) at (upto_cases d (length d) (omega arith))
+proper_cases : (d : List Entry) → AreProperEntries d ⊎ ((n : ℕ) × (IsWeightless d n ⊎ IsRepeated d n))
+proper_cases d = rw (take-length d) at (upto_cases d (length d) (omega arith))
 
 compares_cases : (side : Side) (x y : ℤ) → Compares side x y ⊎ ¬ Compares side x y
 compares_cases AtLeast x y = least_cases y x
@@ -142,16 +142,16 @@ few_cases p m = elim (cases_lt (length (bounds_of p) + 1) (length m.worlds)) [ i
 model_cases : (p : Parts) (c : Claim) (m : Model) → HasShape p c → ((P : Model → Type 0) → P m → OfModel c P) → IsSound p m ⊎ ((f : Fault) × IsFirstIn p c f)
 model_cases p c m shape of = elim (few_cases p m) [
   | inr many ↦ inr (TooManyWorlds, (shape, of (λ n. ¬ AreFew p n) many))
-  | inl few ↦ elim (order_cases m.worlds) [
+  | inl few ↦ elim (proper_cases m.worlds) [
     | inr fault ↦ elim fault.1 [
       | inl nothing ↦ inr (WeightZero fault.0, (shape, of (λ n. AreFew p n × IsWeightless n.worlds fault.0) (few, nothing)))
       | inr twice ↦ inr (WorldTwice fault.0, (shape, of (λ n. AreFew p n × IsRepeated n.worlds fault.0) (few, twice)))
     ]
-    | inl order ↦ elim (total_cases m) [
-      | inr wrong ↦ inr (TotalWrong, (shape, of (λ n. AreFew p n × AreProperEntries n.worlds × ¬ HasTotal n) (few, order, wrong)))
+    | inl proper ↦ elim (total_cases m) [
+      | inr wrong ↦ inr (TotalWrong, (shape, of (λ n. AreFew p n × AreProperEntries n.worlds × ¬ HasTotal n) (few, proper, wrong)))
       | inl sum ↦ elim (met_cases (bounds_of p) m.worlds) [
-        | inr missed ↦ inr (BoundMissed missed.0, (shape, of (λ n. AreFew p n × AreProperEntries n.worlds × HasTotal n × MissesFirst (bounds_of p) n.worlds missed.0) (few, order, sum, missed.1)))
-        | inl met ↦ inl (record { few = few; order = order; total = sum; met = met })
+        | inr missed ↦ inr (BoundMissed missed.0, (shape, of (λ n. AreFew p n × AreProperEntries n.worlds × HasTotal n × MissesFirst (bounds_of p) n.worlds missed.0) (few, proper, sum, missed.1)))
+        | inl met ↦ inl (record { few = few; proper = proper; total = sum; met = met })
       ]
     ]
   ]
@@ -175,8 +175,8 @@ sound-shows p m shape low sound = record {
     distribution = record {
       some = some_entry m.worlds m.total sound.total.0 sound.total.1;
       worlds = shape;
-      weighed = λ k e lt. at_least_one (get_or m.worlds k e).weight (sound.order.weighed k e lt) (low k e lt);
-      different = sound.order.different;
+      weighed = λ k e lt. at_least_one (get_or m.worlds k e).weight (sound.proper.weighed k e lt) (low k e lt);
+      different = sound.proper.different;
     };
     met = sound.met;
   };
@@ -200,7 +200,7 @@ excluded_cases p given d = elim (shape_cases p (Excluded given d)) [
   | inr bad ↦ inr (WrongShape, bad)
   | inl shape ↦ elim (fault_cases p Nothing given 0 None d shape.rows) [
     | inl right ↦ inl (record { head = right.head; refuted = right.refuted })
-    | inr wrong ↦ inr (DualWrong wrong.0, (record { shape = shape; few = tt; order = tt; total = tt; met = tt; evidence = tt; value = tt }, wrong.1))
+    | inr wrong ↦ inr (DualWrong wrong.0, (record { shape = shape; few = tt; proper = tt; total = tt; met = tt; evidence = tt; value = tt }, wrong.1))
   ]
 ]
 
@@ -209,7 +209,7 @@ bounded-model : (p : Parts) (kind : ClaimKind) (q : stored.Query) (value : Ratio
 bounded-model p kind q value m d shape good evidence is = record {
   shape = shape;
   few = good.few;
-  order = good.order;
+  proper = good.proper;
   total = good.total;
   met = good.met;
   evidence = evidence;
@@ -236,9 +236,9 @@ bounded_cases p kind q value m d low = elim (shape_cases p (Bounded kind q value
   | inl shape ↦ elim (model_cases p (Bounded kind q value m d) m shape (λ P h. h)) [
     | inr fault ↦ inr fault
     | inl good ↦ elim (evidence_cases p m q.given) [
-      | inr nothing ↦ inr (EvidenceZero, (shape, (good.few, good.order, good.total, good.met), nothing))
+      | inr nothing ↦ inr (EvidenceZero, (shape, (good.few, good.proper, good.total, good.met), nothing))
       | inl evidence ↦ elim (meets_cases (bound_on (query_of p.nodes q) Exactly value) m.worlds) [
-        | inr other ↦ inr (ValueMissed, (shape, (good.few, good.order, good.total, good.met), evidence, other))
+        | inr other ↦ inr (ValueMissed, (shape, (good.few, good.proper, good.total, good.met), evidence, other))
         | inl is ↦ elim (fault_cases p kind q.given q.both (Some value) d shape.rows) [
           | inr wrong ↦ inr (DualWrong wrong.0, (bounded-model p kind q value m d shape good evidence is, wrong.1))
           | inl right ↦ inl (bounded-valid p kind q value m d low shape good evidence is right)
@@ -249,18 +249,18 @@ bounded_cases p kind q value m d low = elim (shape_cases p (Bounded kind q value
 ]
 
 -- where no weight is below 0, a claim is valid or has a first fault
-pub claim_cases : (p : Parts) (c : Claim) → IfSome (model_of c) (λ m. All (λ e. pos 0 ≤ℤ e.weight) m.worlds) → IsValidClaim p c ⊎ ((f : Fault) × IsFirstIn p c f)
+pub claim_cases : (p : Parts) (c : Claim) → IfSome (claimed_model c) (λ m. All (λ e. pos 0 ≤ℤ e.weight) m.worlds) → IsValidClaim p c ⊎ ((f : Fault) × IsFirstIn p c f)
 claim_cases p (Modelled m) low = modelled_cases p m low
 claim_cases p (Excluded given d) low = excluded_cases p given d
 claim_cases p (Bounded kind q value m d) low = bounded_cases p kind q value m d low
 
 -- as far as a list of claims goes, each is valid, or there is a first that isn't
-claims_upto : (p : Parts) (cs : List Placed) → All (λ c. IfSome (model_of c.1) (λ m. All (λ e. pos 0 ≤ℤ e.weight) m.worlds)) cs
+claims_upto : (p : Parts) (cs : List Placed) → All (λ c. IfSome (claimed_model c.1) (λ m. All (λ e. pos 0 ≤ℤ e.weight) m.worlds)) cs
     → AreValid p cs ⊎ ((place : Place) × (f : Fault) × (i : ℕ) × AreValid p (take i cs) × IsSomeAnd (slice_get cs i) (λ c. (c.0 ≡ place) × IsFirstIn p c.1 f))
 claims_upto p [] low = inl (All-nil (λ x. IsValidClaim p x.1))
-claims_upto p (c ∷ cs) low = elim (claim_cases p c.1 (All-head (λ x. IfSome (model_of x.1) (λ m. All (λ e. pos 0 ≤ℤ e.weight) m.worlds)) c cs low)) [
+claims_upto p (c ∷ cs) low = elim (claim_cases p c.1 (All-head (λ x. IfSome (claimed_model x.1) (λ m. All (λ e. pos 0 ≤ℤ e.weight) m.worlds)) c cs low)) [
   | inr fault ↦ inr (c.0, fault.0, 0, All-nil (λ x. IsValidClaim p x.1), (refl, fault.1))
-  | inl valid ↦ elim (claims_upto p cs (All-tail (λ x. IfSome (model_of x.1) (λ m. All (λ e. pos 0 ≤ℤ e.weight) m.worlds)) c cs low)) [
+  | inl valid ↦ elim (claims_upto p cs (All-tail (λ x. IfSome (claimed_model x.1) (λ m. All (λ e. pos 0 ≤ℤ e.weight) m.worlds)) c cs low)) [
     | inl rest ↦ inl (All-cons (λ x. IsValidClaim p x.1) c cs valid rest)
     | inr found ↦ inr (found.0, found.1, suc found.2, All-cons (λ x. IsValidClaim p x.1) c (take found.2 cs) valid found.3, found.4)
   ]

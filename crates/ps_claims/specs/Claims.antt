@@ -96,25 +96,25 @@ pub data Fault : Type 0 where
   DualWrong : (fault : DualFault) → Fault
 
 -- the model of a claim, if it has one
-abbrev pub model_of : Claim → Option Model
-model_of (Modelled m) = Some m
-model_of (Excluded given d) = None
-model_of (Bounded kind q value m d) = Some m
+abbrev pub claimed_model : Claim → Option Model
+claimed_model (Modelled m) = Some m
+claimed_model (Excluded given d) = None
+claimed_model (Bounded kind q value m d) = Some m
 
 -- no weight is below 0
 abbrev pub HaveWeightsNotBelow0 : List Placed → Type 0
-HaveWeightsNotBelow0 claims = All (λ c. IfSome (model_of c.1) (λ m. All (λ e. pos 0 ≤ℤ e.weight) m.worlds)) claims
+HaveWeightsNotBelow0 claims = All (λ c. IfSome (claimed_model c.1) (λ m. All (λ e. pos 0 ≤ℤ e.weight) m.worlds)) claims
 
 -- the dual of a claim, if it has one
-abbrev pub dual_of : Claim → Option Dual
-dual_of (Modelled m) = None
-dual_of (Excluded given d) = Some d
-dual_of (Bounded kind q value m d) = Some d
+abbrev pub claimed_dual : Claim → Option Dual
+claimed_dual (Modelled m) = None
+claimed_dual (Excluded given d) = Some d
+claimed_dual (Bounded kind q value m d) = Some d
 
 -- each world has each atom, and there is a multiplier for each bound
 pub record HasShape (p : Parts) (c : Claim) : Type 0 where
-  pub worlds : IfSome (model_of c) (λ m. All (λ e. length e.world ≡ length p.names) m.worlds)
-  pub rows : IfSome (dual_of c) (λ d. length d.rows ≡ length (bounds_of p))
+  pub worlds : IfSome (claimed_model c) (λ m. All (λ e. length e.world ≡ length p.names) m.worlds)
+  pub rows : IfSome (claimed_dual c) (λ d. length d.rows ≡ length (bounds_of p))
 
 -- each entry has a weight, and no world stands twice
 pub record AreProperEntries (d : List Entry) : Type 0 where
@@ -129,9 +129,13 @@ IsWeightless d n = (i : ℕ) × (n ≡ i + 1) × AreProperEntries (take i d) × 
 abbrev pub IsRepeated : List Entry → ℕ → Type 0
 IsRepeated d n = (i : ℕ) × (n ≡ i + 1) × AreProperEntries (take i d) × IsSomeAnd (slice_get d i) (λ e. (e.weight ≢ pos 0) × Any (λ x. x.world ≡ e.world) (take i d))
 
+-- the item of this number, from 1, is the first that hasn't the property
+abbrev pub IsFirstWithout : {X : Type 0} → (X → Type 0) → List X → ℕ → Type 0
+IsFirstWithout P xs n = (i : ℕ) × (n ≡ i + 1) × All P (take i xs) × IsSomeAnd (slice_get xs i) (λ x. ¬ P x)
+
 -- the bound of this number, from 1, is the first that isn't met
 abbrev pub MissesFirst : List Bound → List Entry → ℕ → Type 0
-MissesFirst bs d n = (i : ℕ) × (n ≡ i + 1) × MeetsAll (take i bs) d × IsSomeAnd (slice_get bs i) (λ b. ¬ MeetsBound b d)
+MissesFirst bs d n = IsFirstWithout (λ b. MeetsBound b d) bs n
 
 -- a model has at most one world more than the problem has bounds
 abbrev pub AreFew : Parts → Model → Type 0
@@ -144,7 +148,7 @@ HasTotal m = (m.total ≢ pos 0) × (m.total ≡ total m.worlds)
 -- nothing is wrong with a model whose worlds have the problem's atoms
 pub record IsSound (p : Parts) (m : Model) : Type 0 where
   pub few : AreFew p m
-  pub order : AreProperEntries m.worlds
+  pub proper : AreProperEntries m.worlds
   pub total : HasTotal m
   pub met : MeetsAll (bounds_of p) m.worlds
 
@@ -161,10 +165,10 @@ HasValue p other = Unit {0}
 -- nothing is wrong with the model, if there is one
 pub record IsModelRight (p : Parts) (c : Claim) : Type 0 where
   pub shape : HasShape p c
-  pub few : IfSome (model_of c) (AreFew p)
-  pub order : IfSome (model_of c) (λ m. AreProperEntries m.worlds)
-  pub total : IfSome (model_of c) HasTotal
-  pub met : IfSome (model_of c) (λ m. MeetsAll (bounds_of p) m.worlds)
+  pub few : IfSome (claimed_model c) (AreFew p)
+  pub proper : IfSome (claimed_model c) (λ m. AreProperEntries m.worlds)
+  pub total : IfSome (claimed_model c) HasTotal
+  pub met : IfSome (claimed_model c) (λ m. MeetsAll (bounds_of p) m.worlds)
   pub evidence : HasEvidence p c
   pub value : HasValue p c
 
@@ -176,7 +180,7 @@ IsDualWrong p (Bounded kind q value m d) f = IsFirstFault p kind q.given q.both 
 
 -- the model is there, and this is true of it
 abbrev pub OfModel : Claim → (Model → Type 0) → Type 0
-OfModel c P = IsSomeAnd (model_of c) P
+OfModel c P = IsSomeAnd (claimed_model c) P
 
 -- the fault is there, and none before it
 abbrev pub IsFirstIn : Parts → Claim → Fault → Type 0

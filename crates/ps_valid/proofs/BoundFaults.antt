@@ -56,13 +56,13 @@ module _ (p : Parts) (kind : ClaimKind) (q : Query) (value : Rational) (m : clai
   model_wrong r worlds rows f = first_in_model p claim m r refl (bound_shape worlds rows) f
 
   pub evidence_wrong : HaveShape (length p.names) m.worlds → length d.rows ≡ length (bounds_in p.sentences) → IsSound p m → evidence_weight p q m ≡ pos 0 → FindsReason p claim (Some EvidenceZero)
-  evidence_wrong worlds rows sound none = (bound_shape worlds rows, (sound.few, sound.order, sound.total, sound.met), λ some. some none)
+  evidence_wrong worlds rows sound none = (bound_shape worlds rows, (sound.few, sound.proper, sound.total, sound.met), λ some. some none)
 
   pub value_wrong : HaveShape (length p.names) m.worlds → length d.rows ≡ length (bounds_in p.sentences) → IsSound p m → evidence_weight p q m ≢ pos 0 → ¬ GivesValue p q value m → FindsReason p claim (Some ValueMissed)
-  value_wrong worlds rows sound some other = (bound_shape worlds rows, (sound.few, sound.order, sound.total, sound.met), some, other)
+  value_wrong worlds rows sound some other = (bound_shape worlds rows, (sound.few, sound.proper, sound.total, sound.met), some, other)
 
   model_right : HasShape p claim → IsSound p m → evidence_weight p q m ≢ pos 0 → GivesValue p q value m → IsModelRight p claim
-  model_right shape sound some gives = record { shape = shape; few = sound.few; order = sound.order; total = sound.total; met = sound.met; evidence = some; value = gives }
+  model_right shape sound some gives = record { shape = shape; few = sound.few; proper = sound.proper; total = sound.total; met = sound.met; evidence = some; value = gives }
 
   first_bounded : (f : claims.Fault) → IsModelRight p claim → IsFirstOfDual p kind q.given q.both (Some value) d f → IsFirstIn p claim f
   first_bounded claims.WrongShape right h = absurd h

@@ -61,18 +61,11 @@ module _ (p : Parts) (kind : ClaimKind) (given : Option ℕ) (both : ℕ) (d : D
 
 module _ (p : Parts) (given : Option ℕ) (d : Dual) where
   right_dual : HasShape p (Excluded given d) → IsModelRight p (Excluded given d)
-  right_dual shape = record { shape = shape; few = tt; order = tt; total = tt; met = tt; evidence = tt; value = tt }
+  right_dual shape = record { shape = shape; few = tt; proper = tt; total = tt; met = tt; evidence = tt; value = tt }
 
   first_excluded : (f : claims.Fault) → HasShape p (Excluded given d) → IsFirstOfDual p Nothing given 0 None d f → IsFirstIn p (Excluded given d) f
-  first_excluded claims.WrongShape shape h = absurd h
-  first_excluded claims.TooManyWorlds shape h = absurd h
-  first_excluded claims.TotalWrong shape h = absurd h
-  first_excluded claims.EvidenceZero shape h = absurd h
-  first_excluded claims.ValueMissed shape h = absurd h
-  first_excluded (claims.WeightZero n) shape h = absurd h
-  first_excluded (claims.WorldTwice n) shape h = absurd h
-  first_excluded (claims.BoundMissed n) shape h = absurd h
   first_excluded (claims.DualWrong g) shape h = (right_dual shape, h)
+  first_excluded f shape h = absurd h
 
   -- what is found against a dual with a multiplier for each bound is found against its claim
   pub judged_excluded : (found : Option Reason) → length d.rows ≡ length (bounds_in p.sentences) → FindsInDual p Nothing given 0 None d found → FindsReason p (Excluded given d) found

@@ -32,20 +32,20 @@ IsFaulty d i = IsSomeAnd (slice_get d i) (λ e. (e.weight ≡ pos 0) ⊎ Any (λ
 
 -- a world that stood before stands twice in a longer front
 stood : (d : List Entry) (i j : ℕ) (e : Entry) → i < j → j ≤ length d → slice_get d i ≡ Some e → AreProperEntries (take j d) → ¬ Any (λ x. x.world ≡ e.world) (take i d)
-stood d i j e lt le at order (k, x, within, is, same) =
+stood d i j e lt le at proper (k, x, within, is, same) =
     let low : k < i = rw (length-take-le i d (omega arith)) at within in
     let here : get_or d k x ≡ x = sym (get_or-take i d k x low) ∙ is in
     let there : get_or (take j d) k e ≡ x = get_or-take j d k e (omega arith) ∙ get_or_default d k e x (omega arith) ∙ here in
-    order.different k i e low (place_within d i j e lt le) (ap (λ (y : Entry). y.world) there ∙ same ∙ ap (λ (y : Entry). y.world) (sym (at_place d i j e lt at)))
+    proper.different k i e low (place_within d i j e lt le) (ap (λ (y : Entry). y.world) there ∙ same ∙ ap (λ (y : Entry). y.world) (sym (at_place d i j e lt at)))
 
 -- no entry at fault stands among entries in order
-in_order : (d : List Entry) (i j : ℕ) → i < j → j ≤ length d → AreProperEntries (take j d) → ¬ IsFaulty d i
-in_order d i j lt le order faulty = by (slice_get d i) refl faulty
+before_proper : (d : List Entry) (i j : ℕ) → i < j → j ≤ length d → AreProperEntries (take j d) → ¬ IsFaulty d i
+before_proper d i j lt le proper faulty = by (slice_get d i) refl faulty
   where
     by : (o : Option Entry) → slice_get d i ≡ o → IsSomeAnd o (λ e. (e.weight ≡ pos 0) ⊎ Any (λ x. x.world ≡ e.world) (take i d)) → ⊥
     by None e faulty = faulty
-    by (Some x) e (inl none) = order.weighed i x (place_within d i j x lt le) (ap (λ (y : Entry). y.weight) (at_place d i j x lt e) ∙ none)
-    by (Some x) e (inr twice) = stood d i j x lt le e order twice
+    by (Some x) e (inl none) = proper.weighed i x (place_within d i j x lt le) (ap (λ (y : Entry). y.weight) (at_place d i j x lt e) ∙ none)
+    by (Some x) e (inr twice) = stood d i j x lt le e proper twice
 
 within_faulty : (d : List Entry) (i : ℕ) → IsFaulty d i → i < length d
 within_faulty d i faulty = by (slice_get d i) refl faulty
@@ -70,13 +70,13 @@ repeated_faulty None d i h = h
 repeated_faulty (Some x) d i h = inr h.1
 
 abbrev pub of_weightless : (d : List Entry) (n : ℕ) → IsWeightless d n → IsFirstFaulty d n
-of_weightless d n (i, is, order, h) = record { place = i; number = is; before = order; faulty = weightless_faulty (slice_get d i) d i h }
+of_weightless d n (i, is, proper, h) = record { place = i; number = is; before = proper; faulty = weightless_faulty (slice_get d i) d i h }
 
 abbrev pub of_repeated : (d : List Entry) (n : ℕ) → IsRepeated d n → IsFirstFaulty d n
-of_repeated d n (i, is, order, h) = record { place = i; number = is; before = order; faulty = repeated_faulty (slice_get d i) d i h }
+of_repeated d n (i, is, proper, h) = record { place = i; number = is; before = proper; faulty = repeated_faulty (slice_get d i) d i h }
 
 not_before : (d : List Entry) (m n : ℕ) (a : IsFirstFaulty d m) (b : IsFirstFaulty d n) → ¬ (a.place < b.place)
-not_before d m n a b lt = let within = within_faulty d b.place b.faulty in in_order d a.place b.place lt (omega arith) b.before a.faulty
+not_before d m n a b lt = let within = within_faulty d b.place b.faulty in before_proper d a.place b.place lt (omega arith) b.before a.faulty
 
 one_place : (d : List Entry) (m n : ℕ) (a : IsFirstFaulty d m) (b : IsFirstFaulty d n) → a.place ≡ b.place
 one_place d m n a b = by (ltb a.place b.place) refl (ltb b.place a.place) refl
@@ -93,21 +93,21 @@ pub one_number : (d : List Entry) (m n : ℕ) → IsFirstFaulty d m → IsFirstF
 one_number d m n a b = let same = one_place d m n a b in omega (arith, a.number, b.number, same)
 
 -- entries in order have none at fault
-whole_order : (d : List Entry) (n : ℕ) → IsFirstFaulty d n → ¬ AreProperEntries d
-whole_order d n a order =
+whole_proper : (d : List Entry) (n : ℕ) → IsFirstFaulty d n → ¬ AreProperEntries d
+whole_proper d n a proper =
     let within = within_faulty d a.place a.faulty in
-    in_order d a.place (length d) within (omega arith) (subst AreProperEntries (sym (take_all (length d) d (omega arith))) order) a.faulty
+    before_proper d a.place (length d) within (omega arith) (subst AreProperEntries (sym (take_all (length d) d (omega arith))) proper) a.faulty
 
-pub weightless_faulty_order : (d : List Entry) (n : ℕ) → IsWeightless d n → ¬ AreProperEntries d
-weightless_faulty_order d n a = whole_order d n (of_weightless d n a)
+pub weightless_not_proper : (d : List Entry) (n : ℕ) → IsWeightless d n → ¬ AreProperEntries d
+weightless_not_proper d n a = whole_proper d n (of_weightless d n a)
 
-pub repeated_faulty_order : (d : List Entry) (n : ℕ) → IsRepeated d n → ¬ AreProperEntries d
-repeated_faulty_order d n a = whole_order d n (of_repeated d n a)
+pub repeated_not_proper : (d : List Entry) (n : ℕ) → IsRepeated d n → ¬ AreProperEntries d
+repeated_not_proper d n a = whole_proper d n (of_repeated d n a)
 
 -- an entry of no weight isn't one that has a weight
 pub weightless_or_repeated : (d : List Entry) (m n : ℕ) → IsWeightless d m → ¬ IsRepeated d n
-weightless_or_repeated d m n (i, is, order, h) (j, is', order', h') =
-    let same : i ≡ j = one_place d m n (of_weightless d m (i, is, order, h)) (of_repeated d n (j, is', order', h')) in
+weightless_or_repeated d m n (i, is, proper, h) (j, is', proper', h') =
+    let same : i ≡ j = one_place d m n (of_weightless d m (i, is, proper, h)) (of_repeated d n (j, is', proper', h')) in
     by (slice_get d i) h (subst (λ (k : ℕ). IsSomeAnd (slice_get d i) (λ e. (e.weight ≢ pos 0) × Any (λ x. x.world ≡ e.world) (take k d))) (sym same) (subst (λ (k : ℕ). IsSomeAnd (slice_get d k) (λ e. (e.weight ≢ pos 0) × Any (λ x. x.world ≡ e.world) (take j d))) (sym same) h'))
   where
     by : (o : Option Entry) → IsSomeAnd o (λ e. e.weight ≡ pos 0) → IsSomeAnd o (λ e. (e.weight ≢ pos 0) × Any (λ x. x.world ≡ e.world) (take i d)) → ⊥
@@ -126,8 +126,8 @@ missed_bound bs d n (i, is, before, missed) met =
     let within = missed_within bs d i missed in
     holds_before (λ b. MeetsBound b d) bs i (length bs) within (omega arith) (subst (λ (x : List meaning.Bound). MeetsAll x d) (sym (take_all (length bs) bs (omega arith))) met) missed
 
-missed_order : (bs : List meaning.Bound) (d : List Entry) (m n : ℕ) (a : MissesFirst bs d m) (b : MissesFirst bs d n) → ¬ (a.0 < b.0)
-missed_order bs d m n (i, is, before, missed) (j, is', before', missed') lt =
+missed_before : (bs : List meaning.Bound) (d : List Entry) (m n : ℕ) (a : MissesFirst bs d m) (b : MissesFirst bs d n) → ¬ (a.0 < b.0)
+missed_before bs d m n (i, is, before, missed) (j, is', before', missed') lt =
     let within = missed_within bs d j missed' in
     holds_before (λ b. MeetsBound b d) bs i j lt (omega arith) before' missed
 
@@ -135,8 +135,8 @@ pub one_missed : (bs : List meaning.Bound) (d : List Entry) (m n : ℕ) → Miss
 one_missed bs d m n a b = by (ltb a.0 b.0) refl (ltb b.0 a.0) refl
   where
     by : (s : Bool) → ltb a.0 b.0 ≡ s → (t : Bool) → ltb b.0 a.0 ≡ t → m ≡ n
-    by true e t f = absurd (missed_order bs d m n a b (ltb-true a.0 b.0 e))
-    by false e true f = absurd (missed_order bs d n m b a (ltb-true b.0 a.0 f))
+    by true e t f = absurd (missed_before bs d m n a b (ltb-true a.0 b.0 e))
+    by false e true f = absurd (missed_before bs d n m b a (ltb-true b.0 a.0 f))
     by false e false f =
         let low = ltb-false a.0 b.0 e in
         let high = ltb-false b.0 a.0 f in

@@ -1,6 +1,6 @@
 pub mod Weights
 pub mod Tables
-pub mod Order
+pub mod ProperEntries
 pub mod ModelFaults
 pub mod Quotients
 pub mod WrongSigns

@@ -18,7 +18,8 @@ use Rattle.ps_claims.specs.Duals.{Dual, HasSign, HaveSigns}
 use Rattle.ps_claims.specs.Faults.{DualFault, WrongHead, WrongSign, WrongStep, NoContradiction, HasHead, IsFirstWrongSign, start_for, IsFirstFault}
 use Rattle.ps_claims.specs.Claims.{Place, AtReport, Claim, Placed, Modelled, Excluded, Bounded, claims_of, HasParts, AreValid, IsValidClaim, Fault, WrongShape, TooManyWorlds, TotalWrong, EvidenceZero, ValueMissed, WeightZero, WorldTwice, BoundMissed, DualWrong, HasShape, AreProperEntries, IsWeightless, IsRepeated, MissesFirst, AreFew, HasTotal, HasEvidence, HasValue, IsModelRight, IsDualWrong, IsFirstIn, IsFirstAt, IsRefused}
 use Rattle.ps_claims.proofs.Claims.{valid_faultless}
-use Rattle.ps_valid.proofs.FirstPlaces.{one_number, of_weightless, of_repeated, weightless_faulty_order, repeated_faulty_order, weightless_or_repeated, missed_bound, one_missed, holds_before}
+use Rattle.ps_claims.proofs.Faults.{sign_there}
+use Rattle.ps_valid.proofs.FirstPlaces.{one_number, of_weightless, of_repeated, weightless_not_proper, repeated_not_proper, weightless_or_repeated, missed_bound, one_missed, holds_before}
 
 -- ---- signs
 sign_before : (bs : List Bound) (ys : List ℤ) (i j : ℕ) → i < j → HaveSigns (take j bs) (take j ys) → IsSomeAnd (slice_get bs i) (λ b. IsSomeAnd (slice_get ys i) (λ y. ¬ HasSign b.side y)) → ⊥
@@ -28,12 +29,6 @@ sign_before (b ∷ bs) [] i (suc j) lt signs wrong = signs
 sign_before (b ∷ bs) (y ∷ ys) i zero lt signs wrong = absurd (omega (arith, lt))
 sign_before (b ∷ bs) (y ∷ ys) zero (suc j) lt signs wrong = wrong signs.0
 sign_before (b ∷ bs) (y ∷ ys) (suc i) (suc j) lt signs wrong = sign_before bs ys i j (omega (arith, lt)) signs.1 wrong
-
-sign_there : (bs : List Bound) (ys : List ℤ) (i : ℕ) → HaveSigns bs ys → IsSomeAnd (slice_get bs i) (λ b. IsSomeAnd (slice_get ys i) (λ y. ¬ HasSign b.side y)) → ⊥
-sign_there [] ys i signs wrong = wrong
-sign_there (b ∷ bs) [] i signs wrong = signs
-sign_there (b ∷ bs) (y ∷ ys) zero signs wrong = wrong signs.0
-sign_there (b ∷ bs) (y ∷ ys) (suc i) signs wrong = sign_there bs ys i signs.1 wrong
 
 one_sign : (bs : List Bound) (ys : List ℤ) (m n : ℕ) → IsFirstWrongSign bs ys m → IsFirstWrongSign bs ys n → m ≡ n
 one_sign bs ys m n a b = by (ltb a.0 b.0) refl (ltb b.0 a.0) refl
@@ -91,72 +86,45 @@ First p m S E V W (DualWrong f) = S × (AreFew p m × AreProperEntries m.worlds 
 module _ (p : Parts) (m : Model) (S E V : Type 0) (W : DualFault → Type 0) (same : (f g : DualFault) → W f → W g → f ≡ g) where
   one : (f g : Fault) → First p m S E V W f → First p m S E V W g → f ≡ g
   one WrongShape WrongShape a b = refl
-  one WrongShape TooManyWorlds a b = absurd (a b.0)
-  one WrongShape (WeightZero j) a b = absurd (a b.0)
-  one WrongShape (WorldTwice j) a b = absurd (a b.0)
-  one WrongShape TotalWrong a b = absurd (a b.0)
-  one WrongShape (BoundMissed j) a b = absurd (a b.0)
-  one WrongShape EvidenceZero a b = absurd (a b.0)
-  one WrongShape ValueMissed a b = absurd (a b.0)
-  one WrongShape (DualWrong j) a b = absurd (a b.0)
+  one WrongShape g a b = absurd (a b.0)
   one TooManyWorlds WrongShape a b = absurd (b a.0)
   one TooManyWorlds TooManyWorlds a b = refl
-  one TooManyWorlds (WeightZero j) a b = absurd (a.1 b.1.0)
-  one TooManyWorlds (WorldTwice j) a b = absurd (a.1 b.1.0)
-  one TooManyWorlds TotalWrong a b = absurd (a.1 b.1.0)
-  one TooManyWorlds (BoundMissed j) a b = absurd (a.1 b.1.0)
-  one TooManyWorlds EvidenceZero a b = absurd (a.1 b.1.0)
-  one TooManyWorlds ValueMissed a b = absurd (a.1 b.1.0)
-  one TooManyWorlds (DualWrong j) a b = absurd (a.1 b.1.0)
+  one TooManyWorlds g a b = absurd (a.1 b.1.0)
   one (WeightZero i) WrongShape a b = absurd (b a.0)
   one (WeightZero i) TooManyWorlds a b = absurd (b.1 a.1.0)
   one (WeightZero i) (WeightZero j) a b = ap WeightZero (one_number m.worlds i j (of_weightless m.worlds i a.1.1) (of_weightless m.worlds j b.1.1))
   one (WeightZero i) (WorldTwice j) a b = absurd (weightless_or_repeated m.worlds i j a.1.1 b.1.1)
-  one (WeightZero i) TotalWrong a b = absurd (weightless_faulty_order m.worlds i a.1.1 b.1.1)
-  one (WeightZero i) (BoundMissed j) a b = absurd (weightless_faulty_order m.worlds i a.1.1 b.1.1)
-  one (WeightZero i) EvidenceZero a b = absurd (weightless_faulty_order m.worlds i a.1.1 b.1.1)
-  one (WeightZero i) ValueMissed a b = absurd (weightless_faulty_order m.worlds i a.1.1 b.1.1)
-  one (WeightZero i) (DualWrong j) a b = absurd (weightless_faulty_order m.worlds i a.1.1 b.1.1)
+  one (WeightZero i) g a b = absurd (weightless_not_proper m.worlds i a.1.1 b.1.1)
   one (WorldTwice i) WrongShape a b = absurd (b a.0)
   one (WorldTwice i) TooManyWorlds a b = absurd (b.1 a.1.0)
   one (WorldTwice i) (WeightZero j) a b = absurd (weightless_or_repeated m.worlds j i b.1.1 a.1.1)
   one (WorldTwice i) (WorldTwice j) a b = ap WorldTwice (one_number m.worlds i j (of_repeated m.worlds i a.1.1) (of_repeated m.worlds j b.1.1))
-  one (WorldTwice i) TotalWrong a b = absurd (repeated_faulty_order m.worlds i a.1.1 b.1.1)
-  one (WorldTwice i) (BoundMissed j) a b = absurd (repeated_faulty_order m.worlds i a.1.1 b.1.1)
-  one (WorldTwice i) EvidenceZero a b = absurd (repeated_faulty_order m.worlds i a.1.1 b.1.1)
-  one (WorldTwice i) ValueMissed a b = absurd (repeated_faulty_order m.worlds i a.1.1 b.1.1)
-  one (WorldTwice i) (DualWrong j) a b = absurd (repeated_faulty_order m.worlds i a.1.1 b.1.1)
+  one (WorldTwice i) g a b = absurd (repeated_not_proper m.worlds i a.1.1 b.1.1)
   one TotalWrong WrongShape a b = absurd (b a.0)
   one TotalWrong TooManyWorlds a b = absurd (b.1 a.1.0)
-  one TotalWrong (WeightZero j) a b = absurd (weightless_faulty_order m.worlds j b.1.1 a.1.1)
-  one TotalWrong (WorldTwice j) a b = absurd (repeated_faulty_order m.worlds j b.1.1 a.1.1)
+  one TotalWrong (WeightZero j) a b = absurd (weightless_not_proper m.worlds j b.1.1 a.1.1)
+  one TotalWrong (WorldTwice j) a b = absurd (repeated_not_proper m.worlds j b.1.1 a.1.1)
   one TotalWrong TotalWrong a b = refl
-  one TotalWrong (BoundMissed j) a b = absurd (a.1.2 b.1.2)
-  one TotalWrong EvidenceZero a b = absurd (a.1.2 b.1.2)
-  one TotalWrong ValueMissed a b = absurd (a.1.2 b.1.2)
-  one TotalWrong (DualWrong j) a b = absurd (a.1.2 b.1.2)
+  one TotalWrong g a b = absurd (a.1.2 b.1.2)
   one (BoundMissed i) WrongShape a b = absurd (b a.0)
   one (BoundMissed i) TooManyWorlds a b = absurd (b.1 a.1.0)
-  one (BoundMissed i) (WeightZero j) a b = absurd (weightless_faulty_order m.worlds j b.1.1 a.1.1)
-  one (BoundMissed i) (WorldTwice j) a b = absurd (repeated_faulty_order m.worlds j b.1.1 a.1.1)
+  one (BoundMissed i) (WeightZero j) a b = absurd (weightless_not_proper m.worlds j b.1.1 a.1.1)
+  one (BoundMissed i) (WorldTwice j) a b = absurd (repeated_not_proper m.worlds j b.1.1 a.1.1)
   one (BoundMissed i) TotalWrong a b = absurd (b.1.2 a.1.2)
   one (BoundMissed i) (BoundMissed j) a b = ap BoundMissed (one_missed (bounds_of p) m.worlds i j a.1.3 b.1.3)
-  one (BoundMissed i) EvidenceZero a b = absurd (missed_bound (bounds_of p) m.worlds i a.1.3 b.1.3)
-  one (BoundMissed i) ValueMissed a b = absurd (missed_bound (bounds_of p) m.worlds i a.1.3 b.1.3)
-  one (BoundMissed i) (DualWrong j) a b = absurd (missed_bound (bounds_of p) m.worlds i a.1.3 b.1.3)
+  one (BoundMissed i) g a b = absurd (missed_bound (bounds_of p) m.worlds i a.1.3 b.1.3)
   one EvidenceZero WrongShape a b = absurd (b a.0)
   one EvidenceZero TooManyWorlds a b = absurd (b.1 a.1.0)
-  one EvidenceZero (WeightZero j) a b = absurd (weightless_faulty_order m.worlds j b.1.1 a.1.1)
-  one EvidenceZero (WorldTwice j) a b = absurd (repeated_faulty_order m.worlds j b.1.1 a.1.1)
+  one EvidenceZero (WeightZero j) a b = absurd (weightless_not_proper m.worlds j b.1.1 a.1.1)
+  one EvidenceZero (WorldTwice j) a b = absurd (repeated_not_proper m.worlds j b.1.1 a.1.1)
   one EvidenceZero TotalWrong a b = absurd (b.1.2 a.1.2)
   one EvidenceZero (BoundMissed j) a b = absurd (missed_bound (bounds_of p) m.worlds j b.1.3 a.1.3)
   one EvidenceZero EvidenceZero a b = refl
-  one EvidenceZero ValueMissed a b = absurd (a.2 b.2)
-  one EvidenceZero (DualWrong j) a b = absurd (a.2 b.2)
+  one EvidenceZero g a b = absurd (a.2 b.2)
   one ValueMissed WrongShape a b = absurd (b a.0)
   one ValueMissed TooManyWorlds a b = absurd (b.1 a.1.0)
-  one ValueMissed (WeightZero j) a b = absurd (weightless_faulty_order m.worlds j b.1.1 a.1.1)
-  one ValueMissed (WorldTwice j) a b = absurd (repeated_faulty_order m.worlds j b.1.1 a.1.1)
+  one ValueMissed (WeightZero j) a b = absurd (weightless_not_proper m.worlds j b.1.1 a.1.1)
+  one ValueMissed (WorldTwice j) a b = absurd (repeated_not_proper m.worlds j b.1.1 a.1.1)
   one ValueMissed TotalWrong a b = absurd (b.1.2 a.1.2)
   one ValueMissed (BoundMissed j) a b = absurd (missed_bound (bounds_of p) m.worlds j b.1.3 a.1.3)
   one ValueMissed EvidenceZero a b = absurd (b.2 a.2)
@@ -164,8 +132,8 @@ module _ (p : Parts) (m : Model) (S E V : Type 0) (W : DualFault → Type 0) (sa
   one ValueMissed (DualWrong j) a b = absurd (a.3 b.3)
   one (DualWrong i) WrongShape a b = absurd (b a.0)
   one (DualWrong i) TooManyWorlds a b = absurd (b.1 a.1.0)
-  one (DualWrong i) (WeightZero j) a b = absurd (weightless_faulty_order m.worlds j b.1.1 a.1.1)
-  one (DualWrong i) (WorldTwice j) a b = absurd (repeated_faulty_order m.worlds j b.1.1 a.1.1)
+  one (DualWrong i) (WeightZero j) a b = absurd (weightless_not_proper m.worlds j b.1.1 a.1.1)
+  one (DualWrong i) (WorldTwice j) a b = absurd (repeated_not_proper m.worlds j b.1.1 a.1.1)
   one (DualWrong i) TotalWrong a b = absurd (b.1.2 a.1.2)
   one (DualWrong i) (BoundMissed j) a b = absurd (missed_bound (bounds_of p) m.worlds j b.1.3 a.1.3)
   one (DualWrong i) EvidenceZero a b = absurd (b.2 a.2)
@@ -174,41 +142,21 @@ module _ (p : Parts) (m : Model) (S E V : Type 0) (W : DualFault → Type 0) (sa
 
 module _ (p : Parts) (m : Model) where
   of_modelled : (f : Fault) → IsFirstIn p (Modelled m) f → First p m (HasShape p (Modelled m)) (Unit {0}) (Unit {0}) (λ f. ⊥) f
-  of_modelled WrongShape a = a
-  of_modelled TooManyWorlds a = a
-  of_modelled (WeightZero n) a = a
-  of_modelled (WorldTwice n) a = a
-  of_modelled TotalWrong a = a
-  of_modelled (BoundMissed n) a = a
-  of_modelled EvidenceZero a = a
-  of_modelled ValueMissed a = a
   of_modelled (DualWrong f) a = absurd a.1
+  of_modelled f a = a
 
 module _ (p : Parts) (kind : ClaimKind) (q : stored.Query) (value : Rational) (m : Model) (d : Dual) where
   of_bounded : (f : Fault) → IsFirstIn p (Bounded kind q value m d) f
       → First p m (HasShape p (Bounded kind q value m d)) (HasEvidence p (Bounded kind q value m d)) (HasValue p (Bounded kind q value m d)) (IsFirstFault p kind q.given q.both (Some value) d) f
-  of_bounded WrongShape a = a
-  of_bounded TooManyWorlds a = a
-  of_bounded (WeightZero n) a = a
-  of_bounded (WorldTwice n) a = a
-  of_bounded TotalWrong a = a
-  of_bounded (BoundMissed n) a = a
-  of_bounded EvidenceZero a = a
-  of_bounded ValueMissed a = a
-  of_bounded (DualWrong f) a = (a.0.shape, (a.0.few, a.0.order, a.0.total, a.0.met), a.0.evidence, a.0.value, a.1)
+  of_bounded (DualWrong f) a = (a.0.shape, (a.0.few, a.0.proper, a.0.total, a.0.met), a.0.evidence, a.0.value, a.1)
+  of_bounded f a = a
 
 -- a claim without a model has the wrong shape, or something is wrong with its dual
 excluded_first : (p : Parts) (given : Option ℕ) (d : Dual) (f : Fault) → IsFirstIn p (Excluded given d) f
     → ((f ≡ WrongShape) × ¬ HasShape p (Excluded given d)) ⊎ ((g : DualFault) × (f ≡ DualWrong g) × IsModelRight p (Excluded given d) × IsFirstFault p Nothing given 0 None d g)
 excluded_first p given d WrongShape a = inl (refl, a)
-excluded_first p given d TooManyWorlds a = absurd a.1
-excluded_first p given d (WeightZero n) a = absurd a.1
-excluded_first p given d (WorldTwice n) a = absurd a.1
-excluded_first p given d TotalWrong a = absurd a.1
-excluded_first p given d (BoundMissed n) a = absurd a.1
-excluded_first p given d EvidenceZero a = absurd a.1
-excluded_first p given d ValueMissed a = absurd a.1
 excluded_first p given d (DualWrong g) a = inr (g, refl, a.0, a.1)
+excluded_first p given d f a = absurd a.1
 
 one_excluded : (p : Parts) (given : Option ℕ) (d : Dual) (f g : Fault) → IsFirstIn p (Excluded given d) f → IsFirstIn p (Excluded given d) g → f ≡ g
 one_excluded p given d f g a b = elim (excluded_first p given d f a) [

@@ -17,9 +17,9 @@ use Rattle.ps_answer.specs.declared.answer.Weighted.{Weighted}
 use Rattle.ps_valid.specs.declared.truth.Row.{Row}
 use Rattle.ps_certificate.specs.Certificates.{entry_of, entries}
 use Rattle.ps_valid.specs.Limits.{AreSmall}
-use Rattle.ps_valid.specs.Rows.{row_entry, row_entries, over_nodes, AreRows, HaveNode, IsTableOf, node_at, Covers, MeetsAt, MissesFirstAt}
+use Rattle.ps_valid.specs.Rows.{row_entry, row_entries, over_nodes, AreRows, HaveNode, IsTableOf, node_at, Covers, MeetsAt}
 use Rattle.ps_valid.specs.Tests.{HaveShape}
-use Rattle.ps_claims.specs.Claims.{MissesFirst}
+use Rattle.ps_claims.specs.Claims.{IsFirstWithout, MissesFirst}
 use Rattle.ps_meaning.proofs.Weights.{weight-and_truth}
 
 -- the truth of a node is that of its tree
@@ -62,14 +62,14 @@ bound_at : (ns : List Node) (bs : List Bound) (i : ℕ) (o : Option Bound) → s
 bound_at ns bs i None e bounds = tt
 bound_at ns bs i (Some b) e bounds = rw (get_or_from_slice_get bs i b b e) at (bounds i b (slice_get_within bs i b e))
 
-pub misses_first : (ns : List Node) (d : List Entry) (bs : List Bound) (n : ℕ) → AreBounds ns bs → MissesFirstAt (map (over_nodes ns) d) bs n → MissesFirst (map (bound_of ns) bs) d n
+pub misses_first : (ns : List Node) (d : List Entry) (bs : List Bound) (n : ℕ) → AreBounds ns bs → IsFirstWithout (MeetsAt (map (over_nodes ns) d)) bs n → MissesFirst (map (bound_of ns) bs) d n
 misses_first ns d bs n bounds (i, is, before, missed) =
     let met : MeetsAll (map (bound_of ns) (take i bs)) d = meets_all ns d (take i bs) (All-take (IsBound ns) i bs bounds) before in
     let at : IsSomeAnd (option_map (bound_of ns) (slice_get bs i)) (λ b. ¬ MeetsBound b d) = misses ns d (slice_get bs i) (bound_at ns bs i (slice_get bs i) refl bounds) missed in
     (i, is, rw (take-map (bound_of ns) i bs) met, rw (slice_get-map (bound_of ns) bs i) at)
 
 pub judged_bounds : (ns : List Node) (d : List Entry) (bs : List Bound) (missed : Option ℕ) → AreBounds ns bs
-    → MatchOption missed (All (MeetsAt (map (over_nodes ns) d)) bs) (MissesFirstAt (map (over_nodes ns) d) bs)
+    → MatchOption missed (All (MeetsAt (map (over_nodes ns) d)) bs) (IsFirstWithout (MeetsAt (map (over_nodes ns) d)) bs)
     → MatchOption missed (MeetsAll (map (bound_of ns) bs) d) (MissesFirst (map (bound_of ns) bs) d)
 judged_bounds ns d bs None bounds met = meets_all ns d bs bounds met
 judged_bounds ns d bs (Some n) bounds missed = misses_first ns d bs n bounds missed
@@ -124,7 +124,7 @@ pub total-rows : (ns : List Node) (ws : List Weighted) (rows : List Row) → IsT
 total-rows ns ws rows table = rw table.entries (total-nodes ns (entries ws))
 
 pub judged_rows : (ns : List Node) (ws : List Weighted) (rows : List Row) (bs : List Bound) (missed : Option ℕ) → IsTableOf ns (entries ws) rows → AreBounds ns bs
-    → MatchOption missed (All (MeetsAt (row_entries rows)) bs) (MissesFirstAt (row_entries rows) bs)
+    → MatchOption missed (All (MeetsAt (row_entries rows)) bs) (IsFirstWithout (MeetsAt (row_entries rows)) bs)
     → MatchOption missed (MeetsAll (map (bound_of ns) bs) (entries ws)) (MissesFirst (map (bound_of ns) bs) (entries ws))
 judged_rows ns ws rows bs missed table bounds judged = judged_bounds ns (entries ws) bs missed bounds (rw table.entries at judged)
 

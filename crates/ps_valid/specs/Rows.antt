@@ -1,5 +1,5 @@
 -- Distributions in which each world is replaced by the truth of each node in it.
-use Rattle.std.specs.Prelude.{◌≡◌, ◌≤◌, ◌<◌, ◌+◌, ℕ, pos, ◌*ℤ◌, List, Option, Some, None, length, map, take, All, IfSome, IsSomeAnd, slice_get}
+use Rattle.std.specs.Prelude.{◌≡◌, ◌≤◌, ◌<◌, ℕ, pos, ◌*ℤ◌, List, Option, Some, None, length, map, All, IfSome}
 use Rattle.ps_meaning.specs.Formula.{Formula, Truth, Atom}
 use Rattle.ps_meaning.specs.Distribution.{Entry, weight}
 use Rattle.ps_meaning.specs.Bounds.{Compares}
@@ -51,7 +51,3 @@ pub record Covers (rows : List Row) (b : Bound) : Type 0 where
 -- entries over nodes meet the bound
 unfoldable pub MeetsAt : List Entry → Bound → Type 0
 MeetsAt d b = Compares b.side (pos b.den *ℤ weight d (Atom b.both)) (pos b.num *ℤ weight d (node_at b.given))
-
--- the bound of this number, from 1, is the first that entries over nodes don't meet
-abbrev pub MissesFirstAt : List Entry → List Bound → ℕ → Type 0
-MissesFirstAt d bs n = (i : ℕ) × (n ≡ i + 1) × All (MeetsAt d) (take i bs) × IsSomeAnd (slice_get bs i) (λ b. ¬ MeetsAt d b)

@@ -10,10 +10,10 @@ use Rattle.ps_rational.specs.Rational.{Rational}
 use Rattle.ps_entailment.specs.Queries.{bound_on}
 use Rattle.ps_entailment.specs.Answers.{Model}
 use Rattle.ps_claims.specs.Validity.{query_of}
-use Rattle.ps_claims.specs.Claims.{AreProperEntries, IsWeightless, IsRepeated, MissesFirst, AreFew, HasTotal, IsSound}
+use Rattle.ps_claims.specs.Claims.{AreProperEntries, IsWeightless, IsRepeated, IsFirstWithout, MissesFirst, AreFew, HasTotal, IsSound}
 use Rattle.ps_valid.specs.declared.refusal.Reason.{Reason}
 use Rattle.ps_valid.specs.declared.refusal.Reason.TheVariants.{TooManyWorlds, WeightZero, WorldTwice, TotalWrong, BoundMissed}
-use Rattle.ps_valid.specs.Rows.{MeetsAt, MissesFirstAt}
+use Rattle.ps_valid.specs.Rows.{MeetsAt}
 
 -- each world has a truth value for each atom
 abbrev pub HaveShape : ℕ → List Entry → Type 0
@@ -35,7 +35,7 @@ FindsFault d found = MatchOption found (AreProperEntries d) (IsFirstAmong d)
 
 -- the bound is the first that entries over nodes miss, and there is none where they meet all
 abbrev pub FindsMissedAt : List Entry → List Bound → Option ℕ → Type 0
-FindsMissedAt d bounds found = MatchOption found (All (MeetsAt d) bounds) (MissesFirstAt d bounds)
+FindsMissedAt d bounds found = MatchOption found (All (MeetsAt d) bounds) (IsFirstWithout (MeetsAt d) bounds)
 
 -- the bound is the problem's first that the entries miss, and there is none where they meet all
 abbrev pub FindsMissed : Parts → List Entry → Option ℕ → Type 0

@@ -1,4 +1,4 @@
-//! The entries of a model: shape, number, order and total.
+//! The entries of a model: their shape, number, weights and total, and that no world stands twice.
 ghost use Rattle.std.specs.Prelude.{◌≡◌, ◌≢◌, ◌↔◌, Any, IsTrue, IsFalse, length};
 ghost use Rattle.ps_meaning.specs.Distribution.{total};
 ghost use Rattle.ps_claims.specs.Claims.{AreFew, HasTotal};

@@ -5,7 +5,7 @@ use Rattle.ps_certificate.specs.Certificates.{model_of, dual_of}
 use Rattle.ps_valid.specs.Tests.{evidence_weight}
 use Rattle.ps_valid.proofs.BoundFaults.{bound_found, evidence_wrong, value_wrong}
 use Rattle.ps_valid.proofs.ModelFaults.{low_weights}
-use Rattle.ps_valid.proofs.Order.{refuted, zero_from}
+use Rattle.ps_valid.proofs.ProperEntries.{refuted, zero_from}
 use Rattle.ps_valid.proofs.Tables.{shape_of_worlds}
 use Rattle.ps_valid.proofs.bounded.check_bound.Goals as goal
 

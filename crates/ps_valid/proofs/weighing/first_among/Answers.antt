@@ -1,7 +1,7 @@
 use Rattle.std.proofs.Common.{◌≢◌, pos, of_z, ap}
 use mir.Syntax.{w128}
 use Rattle.ps_valid.specs.Limits.{IsAmount}
-use Rattle.ps_valid.proofs.Order.{in_order-more, refuted, repeated_at, weightless_at, zero_from}
+use Rattle.ps_valid.proofs.ProperEntries.{proper-more, refuted, repeated_at, weightless_at, zero_from}
 use Rattle.ps_valid.proofs.weighing.first_among.Goals as goal
 
 pub returns-then-w-eq0 : goal.returns-then-w-eq0
@@ -20,4 +20,4 @@ pub loop-i-preserved : goal.loop-i-preserved
 loop-i-preserved c =
     let w = c.index-worlds-i.result in
     let weighed : w.weight ≢ pos 0 = λ e. c.if-w-eq0.false (ap (of_z w128) e) in
-    in_order-more c.args.worlds.now c.loop-i.i w c.loop-i-test.true c.loop-i.invariant (rw (← c.index-worlds-i.is) weighed) (rw (← c.index-worlds-i.is) (refuted c.holds.result c.if-holds.false c.holds.ensures.1))
+    proper-more c.args.worlds.now c.loop-i.i w c.loop-i-test.true c.loop-i.invariant (rw (← c.index-worlds-i.is) weighed) (rw (← c.index-worlds-i.is) (refuted c.holds.result c.if-holds.false c.holds.ensures.1))

@@ -1,4 +1,4 @@
-use Rattle.ps_valid.proofs.Order.{refuted}
+use Rattle.ps_valid.proofs.ProperEntries.{refuted}
 use Rattle.ps_valid.proofs.ModelFaults.{right_shape, wrong_shape}
 use Rattle.ps_valid.proofs.weighing.has_wrong_shape.Goals as goal
 

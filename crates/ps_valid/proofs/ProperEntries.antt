@@ -1,4 +1,4 @@
--- Entries in order, as far as the first one at fault.
+-- Proper entries, as far as the first one at fault.
 use Rattle.std.proofs.Common.{◌≡◌, ◌≢◌, ℕ, ◌+◌, ◌<◌, ℤ, pos, negsuc, ◌≤ℤ◌, of_z, Bool, false, T, List, [], ◌∷◌, All, length, take, get_or, slice_get, refl, sym, ap, subst, ◌∙◌, arith}
 use Rattle.std.specs.Prelude.{Any, IsTrue}
 use Rattle.std.proofs.lemmas.Int.{ints}
@@ -35,24 +35,24 @@ each_entry P Q ws else none k e lt =
     let w = get_or ws k (back e) in
     rw (get_or-map entry_of ws k (back e) e lt') (else (entry_of w) (λ q. none (k, w, lt', get_or_default ws k w (back e) lt', q)))
 
-pub in_order-more : (ws : List Weighted) (i : ℕ) (w : Weighted) → i < length ws → AreProperEntries (entries (take i ws)) → (get_or ws i w).weight ≢ pos 0
+pub proper-more : (ws : List Weighted) (i : ℕ) (w : Weighted) → i < length ws → AreProperEntries (entries (take i ws)) → (get_or ws i w).weight ≢ pos 0
     → ¬ Any (λ before. before.world ≡ (get_or ws i w).world) (take i ws) → AreProperEntries (entries (take (i + 1) ws))
-in_order-more ws i w lt order weighed new =
+proper-more ws i w lt proper weighed new =
     let e = entry_of (get_or ws i w) in
     let others : All (λ before. before.world ≢ e.world) (entries (take i ws)) = each_entry (λ before. before.world ≢ e.world) (λ before. before.world ≡ e.world) (take i ws) (λ _ other. other) new in
     rw (take_more ws i w lt, map-append entry_of (take i ws) (get_or ws i w ∷ [])) (record {
-      weighed = All-push (λ e. e.weight ≢ pos 0) (entries (take i ws)) e order.weighed weighed;
-      different = all_pairs_push (λ e e'. e.world ≢ e'.world) (entries (take i ws)) e order.different others;
+      weighed = All-push (λ e. e.weight ≢ pos 0) (entries (take i ws)) e proper.weighed weighed;
+      different = all_pairs_push (λ e e'. e.world ≢ e'.world) (entries (take i ws)) e proper.different others;
     })
 
 entry_at : (ws : List Weighted) (i : ℕ) (w : Weighted) → i < length ws → slice_get (entries ws) i ≡ slice_get (entry_of (get_or ws i w) ∷ []) 0
 entry_at ws i w lt = slice_get-map entry_of ws i ∙ rw (slice_get-get_or ws i w lt) refl
 
 pub weightless_at : (ws : List Weighted) (i : ℕ) (w : Weighted) → i < length ws → AreProperEntries (entries (take i ws)) → (get_or ws i w).weight ≡ pos 0 → IsWeightless (entries ws) (i + 1)
-weightless_at ws i w lt order none = (i, refl, rw (take-map entry_of i ws) order, rw (entry_at ws i w lt) none)
+weightless_at ws i w lt proper none = (i, refl, rw (take-map entry_of i ws) proper, rw (entry_at ws i w lt) none)
 
 pub repeated_at : (ws : List Weighted) (i : ℕ) (w : Weighted) → i < length ws → AreProperEntries (entries (take i ws)) → (get_or ws i w).weight ≢ pos 0
     → Any (λ before. before.world ≡ (get_or ws i w).world) (take i ws) → IsRepeated (entries ws) (i + 1)
-repeated_at ws i w lt order weighed twice =
+repeated_at ws i w lt proper weighed twice =
     let stood : Any (λ before. before.world ≡ (get_or ws i w).world) (take i (entries ws)) = rw (take-map entry_of i ws) (any_entry (λ before. before.world ≡ (get_or ws i w).world) (take i ws) twice) in
-    (i, refl, rw (take-map entry_of i ws) order, rw (entry_at ws i w lt) (weighed, stood))
+    (i, refl, rw (take-map entry_of i ws) proper, rw (entry_at ws i w lt) (weighed, stood))
