@@ -13,6 +13,8 @@ use Rattle.ps_rational.specs.Rational.{Rational}
 use Rattle.ps_rational.proofs.IntRing.{*ℤ_comm}
 use Rattle.ps_entailment.specs.Queries.{bound_on}
 use Rattle.ps_entailment.specs.Answers as claimed
+use Rattle.ps_answer.specs.declared.answer.Model.{Model}
+use Rattle.ps_certificate.specs.Certificates.{entries, model_of}
 use Rattle.ps_claims.specs.declared.claim_kind.ClaimKind.{ClaimKind}
 use Rattle.ps_claims.specs.Duals.{Dual}
 use Rattle.ps_claims.specs.Faults.{IsFaultless}
@@ -23,17 +25,25 @@ use Rattle.ps_claims.proofs.Decided.{bounded-valid}
 use Rattle.ps_valid.specs.declared.refusal.Reason.{Reason}
 use Rattle.ps_valid.specs.declared.refusal.Reason.TheVariants.{WrongShape, EvidenceZero, ValueMissed}
 use Rattle.ps_valid.specs.Judged.{fault_of, FindsReason}
-use Rattle.ps_valid.specs.Rows.{over_nodes}
+use Rattle.ps_valid.specs.declared.truth.Row.{Row}
+use Rattle.ps_valid.specs.Rows.{IsTableOf, node_at, row_entries}
 use Rattle.ps_valid.specs.DualTests.{IsFirstOfDual, FindsInDual}
 use Rattle.ps_valid.specs.Tests.{HaveShape, IsFirstAgainst, evidence_weight, GivesValue}
 use Rattle.ps_valid.proofs.ModelFaults.{first_in_model}
-use Rattle.ps_valid.proofs.Tables.{weight-node, weight-both}
+use Rattle.ps_valid.proofs.Tables.{weight-node, weight-given, weight-both}
+
+-- the weight of a query's evidence in a model, by the truth of each node
+pub evidence_is : (p : Parts) (q : Query) (m : Model) (rows : List Row) (e : ℤ) → HasNodes p.nodes q.formula q.given q.both → IsTableOf p.nodes (entries m.worlds) rows → e ≡ weight (row_entries rows) (node_at q.given)
+    → e ≡ evidence_weight p q (model_of m)
+evidence_is p q m rows e nodes table is = is ∙ ap (λ d. weight d (node_at q.given)) table.entries ∙ weight-given p.nodes (entries m.worlds) q.given nodes.given_there
 
 -- a value over the evidence's weight, by the truth of each node
-pub value_given : (ns : List Node) (d : List Entry) (q : Query) (value : Rational) (b e : ℤ) → HasNodes ns q.formula q.given q.both → b ≡ weight (map (over_nodes ns) d) (Atom q.both) → e ≡ weight d (given_at ns q.given)
-    → ((b *ℤ pos value.under) ≡ (value.over *ℤ e)) ↔ MeetsBound (bound_on (query_of ns q) Exactly value) d
-value_given ns d q value b e nodes both evidence =
-    let same = both ∙ weight-node ns d q.both nodes.both_there ∙ weight-both ns d q.formula q.given q.both nodes.both_is in (
+pub value_is : (p : Parts) (q : Query) (value : Rational) (m : Model) (rows : List Row) (b e : ℤ) → HasNodes p.nodes q.formula q.given q.both → IsTableOf p.nodes (entries m.worlds) rows → b ≡ weight (row_entries rows) (Atom q.both)
+    → e ≡ evidence_weight p q (model_of m) → ((b *ℤ pos value.under) ≡ (value.over *ℤ e)) ↔ GivesValue p q value (model_of m)
+value_is p q value m rows b e nodes table is evidence =
+    let ns = p.nodes in
+    let d = entries m.worlds in
+    let same = is ∙ ap (λ r. weight r (Atom q.both)) table.entries ∙ weight-node ns d q.both nodes.both_there ∙ weight-both ns d q.formula q.given q.both nodes.both_is in (
       λ h. ap (λ x. pos value.under *ℤ x) (sym same) ∙ *ℤ_comm (pos value.under) b ∙ h ∙ ap (λ x. value.over *ℤ x) evidence,
       λ h. *ℤ_comm b (pos value.under) ∙ ap (λ x. pos value.under *ℤ x) same ∙ h ∙ ap (λ x. value.over *ℤ x) (sym evidence),
     )
@@ -65,15 +75,8 @@ module _ (p : Parts) (kind : ClaimKind) (q : Query) (value : Rational) (m : clai
   model_right shape sound some gives = record { shape = shape; few = sound.few; proper = sound.proper; total = sound.total; met = sound.met; evidence = some; value = gives }
 
   first_bounded : (f : claims.Fault) → IsModelRight p claim → IsFirstOfDual p kind q.given q.both (Some value) d f → IsFirstIn p claim f
-  first_bounded claims.WrongShape right h = absurd h
-  first_bounded claims.TooManyWorlds right h = absurd h
-  first_bounded claims.TotalWrong right h = absurd h
-  first_bounded claims.EvidenceZero right h = absurd h
-  first_bounded claims.ValueMissed right h = absurd h
-  first_bounded (claims.WeightZero n) right h = absurd h
-  first_bounded (claims.WorldTwice n) right h = absurd h
-  first_bounded (claims.BoundMissed n) right h = absurd h
   first_bounded (claims.DualWrong g) right h = (right, h)
+  first_bounded f right h = absurd h
 
   tight : All (λ e. pos 0 ≤ℤ e.weight) m.worlds → IsModelRight p claim → IsFaultless p kind q.given q.both (Some value) d → IsSound p m → ShowsTight p kind q value m d
   tight low right faultless sound = bounded-valid p kind q value m d low right.shape sound right.evidence right.value faultless

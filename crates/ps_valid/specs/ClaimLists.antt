@@ -1,13 +1,22 @@
 -- What is answered of some claims in their order.
-use Rattle.std.specs.Prelude.{◌≡◌, ℕ, List, Option, MatchOption, Result, Ok, Err, length, take, slice_get, IsSomeAnd}
+use Rattle.std.specs.Prelude.{◌≡◌, ℕ, List, Option, MatchOption, Result, Ok, Err, length, map, sum, take, slice_get, IsSomeAnd}
+use Rattle.ps_problem.specs.declared.query.Query.{Query}
 use Rattle.ps_problem.specs.Problems.{Parts}
-use Rattle.ps_claims.specs.Claims.{Placed, AreValid, IsFirstIn}
+use Rattle.ps_answer.specs.declared.answer.Verdict.{Verdict}
+use Rattle.ps_answer.specs.declared.answer.SideAnswer.{SideAnswer}
+use Rattle.ps_answer.specs.declared.answer.QueryAnswer.{QueryAnswer}
+use Rattle.ps_answer.specs.declared.answer.QueryPart.{QueryPart}
+use Rattle.ps_entailment.specs.Answers as claimed
+use Rattle.ps_claims.specs.declared.claim_kind.ClaimKind.{ClaimKind}
+use Rattle.ps_claims.specs.Duals.{Dual}
+use Rattle.ps_claims.specs.Claims.{Place, Placed, verdict_claims, side_claims, part_claims, claims_from, open_in_verdict, open_in_side, open_in_part, AreValid, IsFirstIn}
 use Rattle.ps_valid.specs.declared.refusal.Claim.{Claim}
 use Rattle.ps_valid.specs.declared.refusal.Reason.{Reason}
 use Rattle.ps_valid.specs.declared.refusal.Refusal.{Refusal}
 use Rattle.ps_valid.specs.declared.refusal.Accepted.{Accepted}
 use Rattle.ps_valid.specs.declared.refusal.CheckError.{CheckError}
 use Rattle.ps_valid.specs.declared.refusal.CheckError.TheVariants.{Refused, NoMemory}
+use Rattle.ps_valid.specs.Answers.{verdict_of, side_of, part_of, parts_of}
 use Rattle.ps_valid.specs.Judged.{place_of, fault_of}
 
 -- these claims are valid, and they and what is open beside them are so many
@@ -31,3 +40,27 @@ AreJudged p claims unfinished (Err NoMemory) = Unit {0}
 -- one claim is accepted, or refused for the reason that is found
 abbrev pub IsAnswerTo : Claim → Option Reason → Result Accepted CheckError → Type 0
 IsAnswerTo claim found result = MatchOption found (result ≡ Ok (record { claims = 1; unfinished = 0 })) (λ reason. result ≡ Err (Refused (record { claim = claim; reason = reason })))
+
+-- what is answered of a verdict, by its claims
+abbrev pub IsJudgedVerdict : Parts → Verdict → Result Accepted CheckError → Type 0
+IsJudgedVerdict p v result = AreJudged p (verdict_claims (verdict_of v)) (open_in_verdict (verdict_of v)) result
+
+-- what is answered of a side of a query, by its claims at this place
+abbrev pub IsJudgedSide : Parts → Place → ClaimKind → Query → SideAnswer → Result Accepted CheckError → Type 0
+IsJudgedSide p place kind q s result = AreJudged p (side_claims place kind q (side_of s)) (open_in_side (side_of s)) result
+
+-- what is answered of a part that claims so, on the query of this number
+abbrev pub IsJudgedClaim : Parts → ℕ → Query → claimed.QueryAnswer Dual → Result Accepted CheckError → Type 0
+IsJudgedClaim p n q part result = AreJudged p (part_claims n q part) (open_in_part part) result
+
+-- what is answered of both sides of the query of this number
+abbrev pub AreJudgedSides : Parts → ℕ → Query → SideAnswer → SideAnswer → Result Accepted CheckError → Type 0
+AreJudgedSides p n q lower upper result = IsJudgedClaim p n q (claimed.Interval (side_of lower) (side_of upper)) result
+
+-- what is answered of the answer to the query of this number
+abbrev pub IsJudgedPart : Parts → ℕ → Query → QueryAnswer → Result Accepted CheckError → Type 0
+IsJudgedPart p n q answer result = IsJudgedClaim p n q (part_of answer) result
+
+-- what is answered of the parts of these queries, which are numbered from 1
+abbrev pub AreJudgedParts : Parts → List Query → List QueryPart → Result Accepted CheckError → Type 0
+AreJudgedParts p queries parts result = AreJudged p (claims_from 1 queries (parts_of parts)) (sum (map open_in_part (parts_of parts))) result

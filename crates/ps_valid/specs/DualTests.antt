@@ -4,7 +4,9 @@ use Rattle.std.specs.List.{AllZip}
 use Rattle.ps_problem.specs.declared.bound.Bound.{Bound}
 use Rattle.ps_problem.specs.Problems.{Parts}
 use Rattle.ps_rational.specs.Rational.{Rational}
-use Rattle.ps_steps.specs.Steps.{Refutes, AreLawful, ends_in_contradiction, first_refusal}
+use Rattle.ps_steps.specs.declared.refused.StepRefused as refused
+use Rattle.ps_steps.specs.Steps.{Step, Refutes, AreLawful, ends_in_contradiction, first_refusal}
+use Rattle.ps_pbcheck.specs.Checked.{Checked}
 use Rattle.ps_claims.specs.declared.claim_kind.ClaimKind.{ClaimKind}
 use Rattle.ps_claims.specs.Duals.{Dual, HasSign}
 use Rattle.ps_claims.specs.Faults.{start_for, IsFaultless, IsFirstFault}
@@ -24,6 +26,10 @@ IsFirstSignAt bounds ys n = (i : ℕ) × (n ≡ i + 1) × HaveSignsAt (take i bo
 -- the bound is the first with a wrong sign, and there is none where no sign is wrong
 abbrev pub FindsSignAt : List Bound → List ℤ → Option ℕ → Type 0
 FindsSignAt bounds ys found = MatchOption found (HaveSignsAt bounds ys) (IsFirstSignAt bounds ys)
+
+-- the id of the first of these steps that a checker refuses, and why
+abbrev pub first_refused_by : Checked → List Step → Option (ℕ × refused.StepRefused)
+first_refused_by c steps = first_refusal c.variables c.known steps
 
 -- the steps of a dual refute its goal
 abbrev pub HasRun : Parts → ClaimKind → Option ℕ → ℕ → Dual → Type 0

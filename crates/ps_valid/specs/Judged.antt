@@ -1,10 +1,16 @@
 -- What is answered of an answer: that it is accepted, or that it is refused for the first fault of its first claim at fault.
 use Rattle.std.specs.Prelude.{◌≡◌, Option, MatchOption, Result, Ok, Err, length}
+use Rattle.ps_rational.specs.Rational.{Rational}
+use Rattle.ps_problem.specs.declared.query.Query.{Query}
 use Rattle.ps_problem.specs.Problems.{Parts}
+use Rattle.ps_answer.specs.declared.answer.Model.{Model}
+use Rattle.ps_answer.specs.declared.answer.Dual.{Dual}
 use Rattle.ps_answer.specs.declared.answer.Answer.{Answer}
+use Rattle.ps_certificate.specs.Certificates.{model_of, dual_of}
+use Rattle.ps_claims.specs.declared.claim_kind.ClaimKind.{ClaimKind}
 use Rattle.ps_claims.specs.Faults.{WrongHead, WrongSign, WrongStep, NoContradiction}
 use Rattle.ps_claims.specs.Claims as claims
-use Rattle.ps_claims.specs.Claims.{Place, AtReport, AtVerdict, AtQuery, AtLower, AtUpper, Fault, DualWrong, IsValidClaim, IsFirstIn, IsRefused, claims_of, unfinished_of}
+use Rattle.ps_claims.specs.Claims.{Place, AtReport, AtVerdict, AtQuery, AtLower, AtUpper, Bounded, Fault, DualWrong, IsValidClaim, IsFirstIn, IsRefused, claims_of, unfinished_of}
 use Rattle.ps_claims.specs.Validity.{IsValid}
 use Rattle.ps_valid.specs.declared.refusal.Claim.{Claim}
 use Rattle.ps_valid.specs.declared.refusal.Claim.TheVariants as claim
@@ -41,6 +47,10 @@ fault_of reason.NotRefuted = DualWrong NoContradiction
 -- the reason is the first against the claim, and there is none where it is valid
 abbrev pub FindsReason : Parts → claims.Claim → Option Reason → Type 0
 FindsReason p c found = MatchOption found (IsValidClaim p c) (λ r. IsFirstIn p c (fault_of r))
+
+-- the reason is the first against the value as a query's bound on this side, by a model and a dual, and there is none where it is tight
+abbrev pub FindsAgainstBound : Parts → ClaimKind → Query → Rational → Model → Dual → Option Reason → Type 0
+FindsAgainstBound p kind q value m d found = FindsReason p (Bounded kind q value (model_of m) (dual_of d)) found
 
 -- the answer is valid, and its claims and what is open in it are so many
 pub record IsAccepted (p : Parts) (a : Answer) (accepted : Accepted) : Type 0 where

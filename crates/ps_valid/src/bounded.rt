@@ -1,19 +1,16 @@
 //! The check of a bound: a value on one side of a query, with its model and its dual.
-ghost use Rattle.std.specs.Prelude.{◌≡◌, ◌*◌, ◌↔◌, ◌≤ℤ◌, pos, IfOk, IsTrue, IsFalse, length};
-ghost use Rattle.ps_problem.specs.Problems.{HasNodes, bounds_in};
-ghost use Rattle.ps_claims.specs.Claims.{Bounded, HasTotal};
-ghost use Rattle.ps_certificate.specs.Certificates.{entries, model_of, dual_of, IsSmallDual};
-ghost use Rattle.ps_valid.specs.Judged.{FindsReason};
-ghost use Rattle.ps_valid.specs.Limits.{IsSmallModel, most_weight, most_worlds};
-ghost use Rattle.ps_valid.specs.Rows.{IsTableOf};
-ghost use Rattle.ps_valid.specs.Tests.{evidence_weight, GivesValue};
+ghost use Rattle.std.specs.Prelude.{IfOk};
+ghost use Rattle.ps_problem.specs.Problems.{HasNodes};
+ghost use Rattle.ps_certificate.specs.Certificates.{IsSmallDual};
+ghost use Rattle.ps_valid.specs.Judged.{FindsAgainstBound};
+ghost use Rattle.ps_valid.specs.Limits.{IsSmallModel};
 
 use crate::Reason;
 use crate::meeting::weight_given;
 use crate::modelled::first_against;
 use crate::quotient::is_quotient;
 use crate::refuting::first_in_dual;
-use crate::truth::{Row, evaluate, weight_of};
+use crate::truth::{evaluate, weight_of};
 use crate::weighing::has_wrong_shape;
 use ps_answer::{Dual, Model};
 use ps_claims::ClaimKind;
@@ -21,38 +18,6 @@ use ps_frac::Fraction;
 use ps_io::NoMemory;
 use ps_problem::{Problem, Query};
 use std::alloc::Global;
-
-// The weight that a model gives a query's evidence; the rows have the truth of each node in its
-// worlds.
-fn evidence_of(problem: &Problem, query: &Query, model: &Model, rows: &[Row]) -> i128
-    requires table { IsTableOf problem.now.nodes (entries model.now.worlds) rows.now }
-    requires query { HasNodes problem.now.nodes query.now.formula query.now.given query.now.both }
-    requires small { IsSmallModel model.now }
-    requires total { HasTotal (model_of model.now) }
-    ensures weight { result ≡ evidence_weight problem.now query.now (model_of model.now) }
-    ensures low { pos 0 ≤ℤ result }
-{
-    weight_given(rows, model.total, query.given)
-}
-
-// Whether a model in which the evidence has this weight gives the query the value.
-fn gives_value(
-    problem: &Problem,
-    query: &Query,
-    value: &Fraction,
-    model: &Model,
-    rows: &[Row],
-    evidence: i128,
-) -> bool
-    requires table { IsTableOf problem.now.nodes (entries model.now.worlds) rows.now }
-    requires query { HasNodes problem.now.nodes query.now.formula query.now.given query.now.both }
-    requires small { IsSmallModel model.now }
-    requires evidence { evidence ≡ evidence_weight problem.now query.now (model_of model.now) }
-    requires some { pos 1 ≤ℤ evidence }
-    ensures { IsTrue result ↔ GivesValue problem.now query.now value.now (model_of model.now) }
-{
-    is_quotient(value, weight_of(rows, query.both), evidence)
-}
 
 /// The first reason against a bound of a query, or none where it is tight: a distribution that
 /// meets each bound of the problem gives the evidence positive probability and the query the value,
@@ -70,8 +35,7 @@ pub fn check_bound(
     requires query { HasNodes problem.now.nodes query.now.formula query.now.given query.now.both }
     requires model { IsSmallModel model.now }
     requires dual { IsSmallDual dual.now }
-    ensures judged { IfOk result (FindsReason problem.now
-        (Bounded kind query.now value.now (model_of model.now) (dual_of dual.now))) }
+    ensures { IfOk result (FindsAgainstBound problem.now kind query.now value.now model.now dual.now) }
 {
     if has_wrong_shape(problem, model) {
         return Ok(Some(Reason::WrongShape));
@@ -83,11 +47,11 @@ pub fn check_bound(
     if let Some(reason) = first_against(problem, model, &rows) {
         return Ok(Some(reason));
     }
-    let evidence = evidence_of(problem, query, model, &rows);
+    let evidence = weight_given(&rows, model.total, query.given);
     if evidence == 0 {
         return Ok(Some(Reason::EvidenceZero));
     }
-    if !gives_value(problem, query, value, model, &rows, evidence) {
+    if !is_quotient(value, weight_of(&rows, query.both), evidence) {
         return Ok(Some(Reason::ValueMissed));
     }
     first_in_dual(

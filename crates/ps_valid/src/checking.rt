@@ -1,12 +1,11 @@
 //! The check of all claims of an answer, in their order.
-ghost use Rattle.std.specs.Prelude.{◌≡◌, ◌+◌, ◌<◌, ◌≤◌, ◌^◌, ◌∷◌, [], All, OnOk, length, map, sum};
+ghost use Rattle.std.specs.Prelude.{◌≡◌, ◌+◌, ◌<◌, ◌≤◌, ◌^◌, All, OnOk, length};
 ghost use Rattle.ps_problem.specs.declared.limits.TheConstants.{MOST_QUERIES};
 ghost use Rattle.ps_problem.specs.Problems.{HasNodes};
-ghost use Rattle.ps_entailment.specs.Answers.{Interval, asked_under};
-ghost use Rattle.ps_claims.specs.Claims.{verdict_claims, side_claims, part_claims, claims_from};
-ghost use Rattle.ps_claims.specs.Claims.{open_in_verdict, open_in_side, open_in_part};
-ghost use Rattle.ps_valid.specs.Answers.{verdict_of, side_of, part_of, parts_of, IsRightOf};
-ghost use Rattle.ps_valid.specs.ClaimLists.{AreJudged, IsAnswerTo};
+ghost use Rattle.ps_entailment.specs.Answers.{asked_under};
+ghost use Rattle.ps_valid.specs.Answers.{verdict_of, IsRightOf};
+ghost use Rattle.ps_valid.specs.ClaimLists.{IsAnswerTo, IsJudgedVerdict, IsJudgedSide};
+ghost use Rattle.ps_valid.specs.ClaimLists.{AreJudgedSides, IsJudgedPart, AreJudgedParts};
 ghost use Rattle.ps_valid.specs.Judged.{IsJudged, place_of};
 ghost use Rattle.ps_valid.specs.Limits.{IsSmallAnswer, IsSmallPart, IsSmallSide, IsSmallVerdict};
 
@@ -62,8 +61,7 @@ fn check_verdict(
     verdict: &Verdict,
 ) -> Result<Accepted, CheckError>
     requires limits { IsSmallVerdict verdict.now }
-    ensures { let v = verdict_of verdict.now in
-        AreJudged problem.now (verdict_claims v) (open_in_verdict v) result }
+    ensures { IsJudgedVerdict problem.now verdict.now result }
 {
     match verdict {
         Verdict::Consistent(model) => {
@@ -88,8 +86,7 @@ fn check_side(
 ) -> Result<Accepted, CheckError>
     requires query { HasNodes problem.now.nodes query.now.formula query.now.given query.now.both }
     requires limits { IsSmallSide side.now }
-    ensures { let s = side_of side.now in AreJudged problem.now
-        (side_claims (place_of claim) kind query.now s) (open_in_side s) result }
+    ensures { IsJudgedSide problem.now (place_of claim) kind query.now side.now result }
 {
     match side {
         SideAnswer::Bound { value, model, dual } => {
@@ -111,8 +108,7 @@ fn check_sides(
     requires query { HasNodes problem.now.nodes query.now.formula query.now.given query.now.both }
     requires lower { IsSmallSide lower.now }
     requires upper { IsSmallSide upper.now }
-    ensures { let part = Interval (side_of lower.now) (side_of upper.now) in
-        AreJudged problem.now (part_claims number query.now part) (open_in_part part) result }
+    ensures { AreJudgedSides problem.now number query.now lower.now upper.now result }
 {
     let at = Claim::Lower { number };
     let below = check_side(alloc, problem, at, ClaimKind::Lower, query, lower)?;
@@ -131,8 +127,7 @@ fn check_part(
 ) -> Result<Accepted, CheckError>
     requires query { HasNodes problem.now.nodes query.now.formula query.now.given query.now.both }
     requires limits { IsSmallPart answer.now }
-    ensures { let part = part_of answer.now in
-        AreJudged problem.now (part_claims number query.now part) (open_in_part part) result }
+    ensures { IsJudgedPart problem.now number query.now answer.now result }
 {
     match answer {
         QueryAnswer::Bounds { lower, upper, .. } => {
@@ -156,8 +151,7 @@ fn check_parts(
     requires few { length queries.now ≤ MOST_QUERIES }
     requires queries { All (λ q. HasNodes problem.now.nodes q.formula q.given q.both) queries.now }
     requires limits { All (λ part. IsSmallPart part.answer) parts.now }
-    ensures { let answers = parts_of parts.now in AreJudged problem.now
-        (claims_from 1 queries.now answers) (sum (map open_in_part answers)) result }
+    ensures { AreJudgedParts problem.now queries.now parts.now result }
 {
     let mut all = NOTHING;
     for i in 0..queries.len() {

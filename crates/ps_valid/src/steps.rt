@@ -1,10 +1,11 @@
 //! The run of a dual's steps.
 ghost use Rattle.std.specs.Prelude.{◌≡◌, ◌≤◌, false, None, IfOk};
-ghost use Rattle.ps_steps.specs.Steps.{first_refusal, refusal_of, ends_in_contradiction};
+ghost use Rattle.ps_steps.specs.Steps.{refusal_of, ends_in_contradiction};
 ghost use Rattle.ps_forms.specs.Forms.{form_of};
 ghost use Rattle.ps_pbcheck.specs.Checked.{after_step, first_checked};
 ghost use Rattle.ps_claims.specs.Goals.{goal_of, size_of};
 ghost use Rattle.ps_claims.specs.Limits.{most_combination};
+ghost use Rattle.ps_valid.specs.DualTests.{first_refused_by};
 
 use ps_claims::Combination;
 use ps_clause::clauses_of;
@@ -51,10 +52,8 @@ pub fn first_refused(
     steps: &[Step],
 ) -> Result<Option<(u64, StepRefused)>, NoMemory>
     requires fresh { checker.old.refuted ≡ false }
-    ensures found { IfOk result
-        (λ o. o ≡ first_refusal checker.old.variables checker.old.known steps.now) }
-    ensures refuted { IfOk result
-        (λ o. o ≡ None → checker.new.refuted ≡ ends_in_contradiction steps.now) }
+    ensures found { IfOk result (λ o. o ≡ first_refused_by checker.old steps.now) }
+    ensures ends { IfOk result (λ o. o ≡ None → checker.new.refuted ≡ ends_in_contradiction steps.now) }
 {
     for step in steps {
         match refusal(checker, step)? {
