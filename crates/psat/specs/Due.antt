@@ -1,5 +1,5 @@
 -- What the program writes for words and an input, and the status with which it ends.
-use Rattle.std.specs.Prelude.{◌≡◌, ◌<◌, ◌≤◌, ◌-◌, ◌^◌, ℕ, zero, suc, false, List, ◌++◌, length, take, drop, codes, decimal}
+use Rattle.std.specs.Prelude.{◌≡◌, ◌<◌, ◌≤◌, ℕ, zero, suc, false, List, ◌++◌, length, take, drop, codes, decimal}
 use Rattle.ps_io.specs.LineText.{lines_bytes}
 use Rattle.ps_text.specs.Positions.{Position}
 use Rattle.ps_text.specs.declared.kind.ReadKind.{ReadKind}
@@ -20,6 +20,7 @@ use Rattle.psat.specs.declared.status.Status.{Status}
 use Rattle.psat.specs.declared.status.Status.TheVariants.{Done, Inconsistent, Usage, Unreadable, Unfinished, Refused}
 use Rattle.psat.specs.declared.command.Command.{Command}
 use Rattle.psat.specs.declared.command.Command.TheVariants.{Check, Solve}
+use Rattle.psat.specs.declared.checked.TheConstants.{MOST_SEARCHED}
 use Rattle.psat.specs.declared.command.TheConstants.{MOST_PROBLEM}
 use Rattle.psat.specs.Commands.{Spell, SpellNone}
 use Rattle.psat.specs.Words.{kind_words, line_words, place_words, fault_words}
@@ -69,9 +70,9 @@ pub data DueReport (p : Parts) (rest : List ℕ) (o : Output) : Type 0 where
   ReadAs : (a : Answer) (report : IsReport rest a) (judged : DueAnswer p a o) → DueReport p rest o
   FaultAt : (kind : LineKind) (n : ℕ) (fault : IsFirstFault rest kind n) (is : o ≡ refused_line kind n) → DueReport p rest o
 
--- the bytes in which a problem is looked for: the first 2^32 - 2
+-- the bytes in which a problem is looked for: as many of the first as are searched at most
 abbrev pub searched : List ℕ → List ℕ
-searched bytes = take (2 ^ 32 - 2) bytes
+searched bytes = take MOST_SEARCHED bytes
 
 -- due for bytes within the limit: a problem is spelled at the front of those in which one is looked for, or none is read there, for a
 -- kind of refusal at a position

@@ -15,8 +15,8 @@ use ps_reader::read_report;
 use ps_valid::{CheckError, check};
 use std::alloc::Global;
 
-// The most bytes in which a problem is looked for: one fewer than a line or a column can number.
-const MOST_SEARCHED: usize = (1 << 32) - 2;
+/// The most bytes in which a problem is looked for: one fewer than a line or a column can number.
+pub const MOST_SEARCHED: usize = (1 << 32) - 2;
 
 // The message for the answer of a report.
 fn answer_claims(alloc: Global, problem: &Problem, answer: &Answer) -> Result<Message, NoMemory>

@@ -1,6 +1,7 @@
 //! Laws about the definitions: a call does nothing, and its clauses are the law.
-ghost use Rattle.std.specs.Prelude.{◌≡◌, ◌^◌, ℕ, List};
+ghost use Rattle.std.specs.Prelude.{◌≡◌, ◌-◌, ◌^◌, ℕ, List};
 ghost use Rattle.psat.specs.declared.command.Command.{Command};
+ghost use Rattle.psat.specs.declared.checked.TheConstants.{MOST_SEARCHED};
 ghost use Rattle.psat.specs.declared.command.TheConstants.{DEFAULT_BYTES, MOST_BYTES, MOST_PROBLEM};
 ghost use Rattle.psat.specs.declared.command.TheConstants.{DEFAULT_PIVOTS, DEFAULT_CONFLICTS};
 ghost use Rattle.ps_answer.specs.declared.limits.TheConstants.{MOST_PIVOTS, MOST_CONFLICTS};
@@ -24,11 +25,12 @@ pub fn reports_are_accepted()
     ensures { ReportsAreAccepted }
 {}
 
-/// The limits of the commands by their numbers.
+/// The limits of the commands, and of the search for a problem, by their numbers.
 pub fn limits_have_these_numbers()
     ensures default_bytes { DEFAULT_BYTES ≡ 2 ^ 30 }
     ensures most_bytes { MOST_BYTES ≡ 2 ^ 40 }
     ensures most_problem { MOST_PROBLEM ≡ 2 ^ 20 }
+    ensures most_searched { MOST_SEARCHED ≡ 2 ^ 32 - 2 }
     ensures default_pivots { DEFAULT_PIVOTS ≡ 10000 }
     ensures most_pivots { MOST_PIVOTS ≡ 1000000 }
     ensures default_conflicts { DEFAULT_CONFLICTS ≡ 20000 }
