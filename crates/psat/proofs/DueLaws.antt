@@ -1,5 +1,6 @@
 -- What is due for what was read and judged.
-use Rattle.std.proofs.Common.{◌≡◌, ◌⊎◌, inl, inr, ℕ, ◌+◌, ◌-◌, ◌<◌, ◌^◌, take, drop, arith, length-drop, length-append, ◌≤◌, List, [], ◌++◌, length, Option, Some, None, Err, refl, sym, ap, subst, ◌∙◌, append-nil}
+use Rattle.std.proofs.Common.{◌≡◌, ◌⊎◌, inl, inr, ℕ, ◌+◌, ◌-◌, ◌<◌, ◌^◌, take, drop, arith, length-drop, length-append, ◌≤◌, List, [], ◌++◌, length, Option, Some, None, Err, String, refl, sym, ap, subst, ◌∙◌, append-nil}
+use Rattle.std.specs.declared.alloc.Global.{Global}
 use Rattle.std.proofs.Math.Seq.{take_all}
 use Rattle.std.proofs.lemmas.Option.{same_Some}
 use Rattle.ps_problem.specs.Problems.{Parts}
@@ -25,15 +26,16 @@ use Rattle.ps_io.specs.declared.limits.TheConstants.{LONGEST_READ}
 use Rattle.ps_generation.specs.declared.limits.Limits.{Limits}
 use Rattle.ps_query.specs.Solutions.{IsReadBack, IsSolution}
 use Rattle.psat.specs.declared.command.Command.{Command}
+use Rattle.psat.specs.declared.command.TheConstants.{MOST_PROBLEM}
 use Rattle.psat.specs.declared.command.Command.TheVariants as commands
 use Rattle.psat.specs.declared.status.Status.{Status}
 use Rattle.psat.specs.declared.status.Status.TheVariants as status
-use Rattle.psat.specs.Commands.{Spell, SpellNone, limit_of}
+use Rattle.psat.specs.Commands.{Spell, SpellNone, limit_of, words_of}
 use Rattle.psat.specs.Statuses.{EndsCheck, EndsSolve, GoesWithText, IsAnswerOf, MayAnswer}
 use Rattle.psat.specs.Due as due
 use Rattle.psat.specs.Due.{Output, too_long, usage, refused_line, unreadable, searched, DueAnswer, DueReport, FaultAt, DueText, NotRead, DueAnswered, NoProblem, IsSolvedBy, Solved, Within, TooLong, DueFor, Due, ForCommand, ForNone, report_of, status_by, status_after}
 use Rattle.psat.proofs.CommandLaws.{one_command}
-use Rattle.psat.specs.Runs.{IsTold, WasRead, Took, HasAnswered, HasTaken, HasRead, Cut, Ran, CountsWrites}
+use Rattle.psat.specs.Runs.{IsTold, WasRead, Took, HasAnswered, HasTaken, HasRead, Wrote}
 use Rattle.psat.specs.Replies.{AreWithin, DueBytes, IsDueFor, IsDue}
 
 pub rest-is : (n : ℕ) (bs : List ℕ) → take (length bs - n) (drop n bs) ≡ drop n bs
@@ -76,18 +78,18 @@ told-is (commands.Solve l) limit left bytes e h = h
 
 within_due : (c : Command) (limit : ℕ) (bytes : List ℕ) (o : Output) → limit_of c ≡ Some limit → length bytes ≤ limit → DueBytes c bytes o → DueFor c bytes o
 within_due (commands.Check n) limit bytes o e few d = let same : n ≡ limit = same_Some n limit e in Within (subst (λ (m : ℕ). length bytes ≤ m) (sym same) few) d
-within_due (commands.Solve l) limit bytes o e few d = let same : 2 ^ 20 ≡ limit = same_Some (2 ^ 20) limit e in Within (subst (λ (m : ℕ). length bytes ≤ m) (sym same) few) d
+within_due (commands.Solve l) limit bytes o e few d = let same : MOST_PROBLEM ≡ limit = same_Some MOST_PROBLEM limit e in Within (subst (λ (m : ℕ). length bytes ≤ m) (sym same) few) d
 
 more_due : (c : Command) (limit : ℕ) (bytes : List ℕ) (o : Output) → limit_of c ≡ Some limit → limit < length bytes → o ≡ too_long limit → DueFor c bytes o
 more_due (commands.Check n) limit bytes o e more is =
     let same : n ≡ limit = same_Some n limit e in TooLong (subst (λ (m : ℕ). m < length bytes) (sym same) more) (subst (λ (m : ℕ). o ≡ too_long m) (sym same) is)
 more_due (commands.Solve l) limit bytes o e more is =
-    let same : 2 ^ 20 ≡ limit = same_Some (2 ^ 20) limit e in
+    let same : MOST_PROBLEM ≡ limit = same_Some MOST_PROBLEM limit e in
     TooLong (subst (λ (m : ℕ). m < length bytes) (sym same) more) (subst (λ (m : ℕ). o ≡ too_long m) (sym same) is)
 
 pub within_limit : (c : Command) (limit n : ℕ) → limit_of c ≡ Some limit → n ≤ limit → AreWithin c n
 within_limit (commands.Check m) limit n e le = let same : m ≡ limit = same_Some m limit e in omega (arith, le, same)
-within_limit (commands.Solve l) limit n e le = let same : 2 ^ 20 ≡ limit = same_Some (2 ^ 20) limit e in omega (arith, le, same)
+within_limit (commands.Solve l) limit n e le = let same : MOST_PROBLEM ≡ limit = same_Some MOST_PROBLEM limit e in omega (arith, le, same)
 
 pub input_due : (c : Command) (limit : ℕ) (old new : Option (List ℕ)) (taken given : List ℕ) (o : Output) → limit_of c ≡ Some limit → ReadAll limit old new taken → given ≡ taken
     → DueBytes c given o → IsDueFor c old o
@@ -171,12 +173,12 @@ was_read limit status.WriteFault old new g r = absurd g
 was_read limit status.NoMemory old new g r = absurd g
 
 -- a fault of writing keeps what was read
-pub read_cut : (words : List (List ℕ)) (s : Status) (old new : Option (List ℕ)) → GoesWithText s → HasRead words s old new → HasRead words status.WriteFault old new
+pub read_cut : (words : List (String Global)) (s : Status) (old new : Option (List ℕ)) → GoesWithText s → HasRead old new words s → HasRead old new words status.WriteFault
 read_cut words s old new g h = record { read = λ command spelled. by command (h.read command spelled) }
   where
     by : (command : Command) → HasTaken command s old new → HasTaken command status.WriteFault old new
     by (commands.Check limit) taken = was_read limit s old new g taken
-    by (commands.Solve limits) taken = was_read (2 ^ 20) s old new g taken
+    by (commands.Solve limits) taken = was_read MOST_PROBLEM s old new g taken
 
 pub command_due : (words : List (List ℕ)) (command : Command) (left : Option (List ℕ)) (o : Output) → Spell words command → IsDueFor command left o → IsDue words left o
 command_due words command left o spelled h = record { due = λ bytes given. ForCommand command spelled (h.due bytes (given.told command spelled)) }
@@ -184,21 +186,21 @@ command_due words command left o spelled h = record { due = λ bytes given. ForC
 pub usage_due : (words : List (List ℕ)) (left : Option (List ℕ)) (o : Output) → SpellNone words → o ≡ usage → IsDue words left o
 usage_due words left o none is = record { due = λ bytes given. ForNone none is }
 
-pub command_read : (words : List (List ℕ)) (command : Command) (s : Status) (old new : Option (List ℕ)) → Spell words command → HasTaken command s old new → HasRead words s old new
-command_read words command s old new spelled h = record { read = λ c also. subst (λ (x : Command). HasTaken x s old new) (one_command words command c spelled also) h }
+pub command_read : (words : List (String Global)) (command : Command) (s : Status) (old new : Option (List ℕ)) → Spell (words_of words) command → HasTaken command s old new → HasRead old new words s
+command_read words command s old new spelled h = record { read = λ c also. subst (λ (x : Command). HasTaken x s old new) (one_command (words_of words) command c spelled also) h }
 
 -- the status is one of the words' command
-pub command_answered : (words : List (List ℕ)) (command : Command) (s : Status) → Spell words command → IsAnswerOf command s → HasAnswered words s
-command_answered words command s spelled h = record { answered = λ c also. inl (subst (λ (x : Command). IsAnswerOf x s) (one_command words command c spelled also) h) }
+pub command_answered : (words : List (String Global)) (command : Command) (s : Status) → Spell (words_of words) command → IsAnswerOf command s → HasAnswered words s
+command_answered words command s spelled h = record { answered = λ c also. inl (subst (λ (x : Command). IsAnswerOf x s) (one_command (words_of words) command c spelled also) h) }
 
-pub none_answered : (words : List (List ℕ)) (s : Status) → SpellNone words → HasAnswered words s
+pub none_answered : (words : List (String Global)) (s : Status) → SpellNone (words_of words) → HasAnswered words s
 none_answered words s none = record { answered = λ c spelled. absurd (none.none c spelled) }
 
-pub none_read : (words : List (List ℕ)) (s : Status) (old new : Option (List ℕ)) → SpellNone words → HasRead words s old new
+pub none_read : (words : List (String Global)) (s : Status) (old new : Option (List ℕ)) → SpellNone (words_of words) → HasRead old new words s
 none_read words s old new none = record { read = λ c spelled. absurd (none.none c spelled) }
 
 pub ran_by : (words : List (List ℕ)) (bytes text : List ℕ) (s : Status) (old new : Option (List ℕ)) → GoesWithText s
-    → Due words bytes (record { text = text; status = s }) → Appends old new text → Ran words bytes s old new
+    → Due words bytes (record { text = text; status = s }) → Appends old new text → Wrote words bytes s old new
 ran_by words bytes text status.Done old new g d a = record { output = record { text = text; status = status.Done }; due = d; status_is = refl; written = a }
 ran_by words bytes text status.Inconsistent old new g d a = record { output = record { text = text; status = status.Inconsistent }; due = d; status_is = refl; written = a }
 ran_by words bytes text status.Unfinished old new g d a = record { output = record { text = text; status = status.Unfinished }; due = d; status_is = refl; written = a }

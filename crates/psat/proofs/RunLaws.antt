@@ -5,7 +5,7 @@ use Rattle.std.specs.Vec.Iter.{into_iter_items}
 use Rattle.std.specs.declared.alloc.Global.{Global}
 use Rattle.std.specs.declared.vec.IntoIter.{IntoIter}
 use Rattle.psat.specs.Commands.{words_of}
-use Rattle.psat.specs.Exits.{HasWritten, IfRan}
+use Rattle.psat.specs.Exits.{IfRan}
 use Rattle.psat.specs.declared.status.Status.{Status}
 use Rattle.psat.specs.declared.status.Status.TheVariants as status
 use Rattle.psat.specs.declared.reply.Reply.{Reply}
@@ -13,12 +13,12 @@ use Rattle.psat.specs.declared.reply.Reply.TheVariants.{Line, Report}
 use Rattle.ps_io.specs.Transfer.{Appends, AppendsPrefix}
 use Rattle.psat.specs.Due.{Output, report_of, status_after}
 use Rattle.psat.specs.Statuses.{GoesWithText, IsFailure, IsSilent}
-use Rattle.psat.specs.Runs.{IsGiven, Cut, Ran, HasAnswered, CountsReads, CountsWrites}
+use Rattle.psat.specs.Runs.{IsGiven, Cut, Wrote, Ran, HasAnswered, CountsReads, CountsWrites}
 use Rattle.psat.specs.Replies.{IsDue, output_of, reply_status}
 use Rattle.psat.proofs.DueLaws.{ran_by}
 
 pub reply_ran : (words : List (List ℕ)) (bytes : List ℕ) (left : Option (List ℕ)) (r : Reply) (old new : Option (List ℕ)) → IsDue words left (output_of r) → IsGiven words left bytes
-    → GoesWithText (reply_status r) → Appends old new (output_of r).text → Ran words bytes (reply_status r) old new
+    → GoesWithText (reply_status r) → Appends old new (output_of r).text → Wrote words bytes (reply_status r) old new
 reply_ran words bytes left (Line m) old new due given g a = ran_by words bytes (string_bytes m.text) m.status old new g (due.due bytes given) a
 reply_ran words bytes left (Report x) old new due given g a = ran_by words bytes (report_of x) (status_after x) old new g (due.due bytes given) a
 
@@ -32,22 +32,20 @@ not_silent status.ReadFault g h = g
 not_silent status.NoMemory g h = g
 not_silent s g h = absurd h
 
-pub writes_counted : (s : Status) (old new : ℕ) → GoesWithText s → new ≡ old → CountsWrites s old new
+pub writes_counted : (s : Status) (old new : ℕ) → GoesWithText s → new ≡ old → CountsWrites old new s
 writes_counted status.WriteFault old new g e = absurd g
 writes_counted s old new g e = e
 
-pub reads_counted : (s : Status) (old new : ℕ) → GoesWithText s → CountsReads s old new → new ≡ old
+pub reads_counted : (s : Status) (old new : ℕ) → GoesWithText s → CountsReads old new s → new ≡ old
 reads_counted status.ReadFault old new g e = absurd g
 reads_counted s old new g e = e
 
 -- where a call failed any command may have been given
-pub failed_answered : (words : List (List ℕ)) (s : Status) → IsFailure s → HasAnswered words s
+pub failed_answered : (words : List (String Global)) (s : Status) → IsFailure s → HasAnswered words s
 failed_answered words s h = record { answered = λ c spelled. inr h }
 
 -- what holds of a run with the words behind the program's name holds of the words that the system hands out
-pub ran_behind : {E : Type 0} (all : Result (IntoIter (String Global) Global) E) (args : IntoIter (String Global) Global) (items given : List (String Global)) (s : Status)
-    (left old new : Option (List ℕ)) → all ≡ Ok args → items ≡ into_iter_items args → given ≡ drop 1 items
-    → ((bytes : List ℕ) → IsGiven (words_of given) left bytes → Ran (words_of given) bytes s old new) → IfRan all (Ok s) (λ words status. HasWritten words status left old new)
-ran_behind {E} all args items given s left old new e i g h =
-    subst (λ (x : Result (IntoIter (String Global) Global) E). IfRan x (Ok s) (λ words status. HasWritten words status left old new)) (sym e)
-    (subst (λ (x : List (String Global)). HasWritten (words_of x) s left old new) (g ∙ ap (λ (x : List (String Global)). drop 1 x) i) (record { ran = h }))
+pub ran_behind : {E : Type 0} (P : List (String Global) → Status → Type 0) (all : Result (IntoIter (String Global) Global) E) (args : IntoIter (String Global) Global) (items given : List (String Global)) (s : Status)
+    → all ≡ Ok args → items ≡ into_iter_items args → given ≡ drop 1 items → P given s → IfRan all (Ok s) P
+ran_behind {E} P all args items given s e i g h =
+    subst (λ (x : Result (IntoIter (String Global) Global) E). IfRan x (Ok s) P) (sym e) (subst (λ (x : List (String Global)). P x s) (g ∙ ap (λ (x : List (String Global)). drop 1 x) i) h)

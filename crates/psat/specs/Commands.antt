@@ -74,5 +74,5 @@ limit_of (Check bytes) = Some bytes
 limit_of (Solve limits) = Some MOST_PROBLEM
 
 -- the words are of no command that reads
-pub record ReadNothing (words : List (List ℕ)) : Type 0 where
-  pub unread : (command : Command) → Spell words command → limit_of command ≡ None
+pub record ReadNothing (words : List (String Global)) : Type 0 where
+  pub unread : (command : Command) → Spell (words_of words) command → limit_of command ≡ None

@@ -1,5 +1,5 @@
 -- What a reply stands for, and for which sources it is right.
-use Rattle.std.specs.Prelude.{◌≤◌, ℕ, List, Option, IfSome, Result, Ok, Err, string_bytes}
+use Rattle.std.specs.Prelude.{◌≡◌, ◌≤◌, ℕ, List, Option, IfOk, IfSome, Result, Ok, Err, string_bytes}
 use Rattle.ps_generation.specs.Phases.{AreLimits}
 use Rattle.ps_query.specs.Solutions.{AreShortLines}
 use Rattle.psat.specs.declared.command.Command.{Command}
@@ -18,6 +18,10 @@ use Rattle.psat.specs.Runs.{IsTold, IsGiven}
 -- the output of a message: its text and its status
 abbrev pub message_output : Message → Output
 message_output m = record { text = string_bytes m.text; status = m.status }
+
+-- where there is a message, this is its output
+abbrev pub Says : {E : Type 0} → Result Message E → Output → Type 0
+Says result output = IfOk result (λ m. message_output m ≡ output)
 
 -- the output of a reply: that of its message, or the report of its answer and the status after it
 abbrev pub output_of : Reply → Output

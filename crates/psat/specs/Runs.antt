@@ -1,5 +1,6 @@
 -- What a run of the program reads and writes.
-use Rattle.std.specs.Prelude.{◌≡◌, ◌+◌, ◌<◌, ◌≤◌, ℕ, List, length, Option, Some, IfSome}
+use Rattle.std.specs.Prelude.{◌≡◌, ◌+◌, ◌<◌, ◌≤◌, ℕ, List, length, Option, Some, IfSome, String}
+use Rattle.std.specs.declared.alloc.Global.{Global}
 use Rattle.std.specs.Io.KnownBytes.{IsAtEnd}
 use Rattle.ps_io.specs.declared.limits.TheConstants.{LONGEST_READ}
 use Rattle.ps_io.specs.Causes.{next_count}
@@ -7,7 +8,7 @@ use Rattle.ps_io.specs.Transfer.{Appends, AppendsPrefix, TookMore, TookWithin}
 use Rattle.psat.specs.declared.command.Command.{Command}
 use Rattle.psat.specs.declared.status.Status.{Status}
 use Rattle.psat.specs.declared.status.Status.TheVariants.{ReadFault, WriteFault, NoMemory}
-use Rattle.psat.specs.Commands.{Spell, limit_of}
+use Rattle.psat.specs.Commands.{Spell, limit_of, words_of}
 use Rattle.psat.specs.Statuses.{MayAnswer}
 use Rattle.psat.specs.Due.{Output, Due}
 
@@ -35,23 +36,23 @@ Took limit status old new = WasRead limit old new
 abbrev pub HasTaken : Command → Status → Option (List ℕ) → Option (List ℕ) → Type 0
 HasTaken command status old new = IfSome (limit_of command) (λ limit. Took limit status old new)
 
--- what the command of the words took from the source
-pub record HasRead (words : List (List ℕ)) (status : Status) (old new : Option (List ℕ)) : Type 0 where
-  pub read : (command : Command) → Spell words command → HasTaken command status old new
+-- what the command of the words took from a source that had this left before and that after, by the status
+pub record HasRead (old new : Option (List ℕ)) (words : List (String Global)) (status : Status) : Type 0 where
+  pub read : (command : Command) → Spell (words_of words) command → HasTaken command status old new
 
 -- the status is one of the command of the words, or a call failed
-pub record HasAnswered (words : List (List ℕ)) (status : Status) : Type 0 where
-  pub answered : (command : Command) → Spell words command → MayAnswer command status
+pub record HasAnswered (words : List (String Global)) (status : Status) : Type 0 where
+  pub answered : (command : Command) → Spell (words_of words) command → MayAnswer command status
 
 -- a source's count of faults rises by one at a read fault, and else stays as it was
-abbrev pub CountsReads : Status → ℕ → ℕ → Type 0
-CountsReads ReadFault old new = new ≡ next_count old
-CountsReads status old new = new ≡ old
+abbrev pub CountsReads : ℕ → ℕ → Status → Type 0
+CountsReads old new ReadFault = new ≡ next_count old
+CountsReads old new status = new ≡ old
 
 -- the same of a sink's and a write fault
-abbrev pub CountsWrites : Status → ℕ → ℕ → Type 0
-CountsWrites WriteFault old new = new ≡ next_count old
-CountsWrites status old new = new ≡ old
+abbrev pub CountsWrites : ℕ → ℕ → Status → Type 0
+CountsWrites old new WriteFault = new ≡ next_count old
+CountsWrites old new status = new ≡ old
 
 -- the due output was written whole, and its status answered
 pub record Answered (words : List (List ℕ)) (bytes : List ℕ) (status : Status) (old new : Option (List ℕ)) : Type 0 where
@@ -67,8 +68,13 @@ pub record Cut (words : List (List ℕ)) (bytes : List ℕ) (old new : Option (L
   pub written : AppendsPrefix old new output.text
 
 -- what a run wrote, by its status, for the words and the bytes that it was given
-abbrev pub Ran : List (List ℕ) → List ℕ → Status → Option (List ℕ) → Option (List ℕ) → Type 0
-Ran words bytes ReadFault old new = new ≡ old
-Ran words bytes NoMemory old new = new ≡ old
-Ran words bytes WriteFault old new = Cut words bytes old new
-Ran words bytes status old new = Answered words bytes status old new
+abbrev pub Wrote : List (List ℕ) → List ℕ → Status → Option (List ℕ) → Option (List ℕ) → Type 0
+Wrote words bytes ReadFault old new = new ≡ old
+Wrote words bytes NoMemory old new = new ≡ old
+Wrote words bytes WriteFault old new = Cut words bytes old new
+Wrote words bytes status old new = Answered words bytes status old new
+
+-- what a run does with the words, by its status: whatever bytes it was given of what the source had left, it wrote what goes with
+-- them to a sink that held this before and that after
+pub record Ran (left old new : Option (List ℕ)) (words : List (String Global)) (status : Status) : Type 0 where
+  pub wrote : (bytes : List ℕ) → IsGiven (words_of words) left bytes → Wrote (words_of words) bytes status old new

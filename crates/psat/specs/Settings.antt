@@ -1,9 +1,10 @@
 -- What two words behind a command's name set.
-use Rattle.std.specs.Prelude.{◌≡◌, ◌≤◌, ℕ, List, [], ◌∷◌, Option, Some, None, Contains, decimal}
+use Rattle.std.specs.Prelude.{◌≡◌, ◌≤◌, ℕ, List, [], ◌∷◌, Option, Some, None, Contains, MatchOption, codes, decimal}
 use Rattle.ps_generation.specs.declared.limits.Limits.{Limits}
 use Rattle.psat.specs.declared.command.SolveSetting.{SolveSetting}
 use Rattle.psat.specs.declared.command.SolveSetting.TheVariants as set
-use Rattle.psat.specs.Commands.{Limit, Pivots, Conflicts, limit_word, most_of, default_of, LimitSetting}
+use Rattle.psat.specs.declared.command.Command.TheVariants.{Check, Solve}
+use Rattle.psat.specs.Commands.{Limit, Pivots, Conflicts, limit_word, most_of, default_of, LimitSetting, Spell, SpellNone}
 
 -- the limits of `solve`
 abbrev pub solve_limits : List Limit
@@ -23,6 +24,18 @@ pub record SpellNoSetting (word number : List ℕ) : Type 0 where
 abbrev pub setting_of : SolveSetting → LimitSetting
 setting_of (set.Pivots n) = record { limit = Pivots; number = n }
 setting_of (set.Conflicts n) = record { limit = Conflicts; number = n }
+
+-- they set the limit that is found, or none where there is none
+abbrev pub FindsSetting : List ℕ → List ℕ → Option SolveSetting → Type 0
+FindsSetting word number found = MatchOption found (SpellNoSetting word number) (λ s. SpellSetting word number (setting_of s))
+
+-- behind `check` the words set how many bytes it reads at most, or where there is no number, the words spell no command
+abbrev pub SetBytes : List (List ℕ) → Option ℕ → Type 0
+SetBytes words found = MatchOption found (SpellNone (codes "check" ∷ words)) (λ n. Spell (codes "check" ∷ words) (Check n))
+
+-- behind `solve` the words set its limits, or where there are none, the words spell no command
+abbrev pub SetLimits : List (List ℕ) → Option Limits → Type 0
+SetLimits words found = MatchOption found (SpellNone (codes "solve" ∷ words)) (λ limits. Spell (codes "solve" ∷ words) (Solve limits))
 
 -- the limits where one setting alone is named
 abbrev pub limits_by : SolveSetting → Limits

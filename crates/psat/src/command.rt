@@ -1,8 +1,8 @@
 //! Commands and their words.
-ghost use Rattle.std.specs.Prelude.{◌≡◌, ◌≤◌, ◌<◌, ◌^◌, ◌↔◌, ◌∷◌, ℕ, IfNone, IfSome, IsTrue, MatchOption};
-ghost use Rattle.std.specs.Prelude.{codes, decimal, string_bytes};
+ghost use Rattle.std.specs.Prelude.{◌≡◌, ◌≤◌, ◌<◌, ◌^◌, ◌↔◌, ℕ, IfNone, IfSome, IsTrue, MatchOption};
+ghost use Rattle.std.specs.Prelude.{decimal, string_bytes};
 ghost use Rattle.psat.specs.Commands.{Spell, SpellNone, words_of};
-ghost use Rattle.psat.specs.Settings.{SpellNoSetting, SpellSetting, setting_of};
+ghost use Rattle.psat.specs.Settings.{FindsSetting, SetBytes, SetLimits};
 ghost use Rattle.psat.specs.Settings.{limits_by, limits_by_both};
 
 use itoa::Buffer;
@@ -76,8 +76,7 @@ fn number(word: &String, most: u64) -> Option<u64>
 
 // The bytes that the words behind `check` set, or None where they aren't its settings.
 fn parse_check(settings: &[String]) -> Option<u64>
-    ensures { MatchOption result (SpellNone (codes "check" ∷ words_of settings.now))
-        (λ n. Spell (codes "check" ∷ words_of settings.now) (Command.Check n)) }
+    ensures { SetBytes (words_of settings.now) result }
 {
     match settings {
         [] => Some(DEFAULT_BYTES),
@@ -88,8 +87,7 @@ fn parse_check(settings: &[String]) -> Option<u64>
 
 // The limit of `solve` that two words set, or None where they set none.
 fn parse_setting(word: &String, digits: &String) -> Option<SolveSetting>
-    ensures { MatchOption result (SpellNoSetting (string_bytes word.now) (string_bytes digits.now))
-        (λ s. SpellSetting (string_bytes word.now) (string_bytes digits.now) (setting_of s)) }
+    ensures { FindsSetting (string_bytes word.now) (string_bytes digits.now) result }
 {
     if is(word, "--pivots") {
         let pivots = number(digits, MOST_PIVOTS)?;
@@ -133,8 +131,7 @@ fn limits_by_both(a: SolveSetting, b: SolveSetting) -> Option<Limits>
 
 // The limits that the words behind `solve` set, or None where they aren't its settings.
 fn parse_solve(settings: &[String]) -> Option<Limits>
-    ensures { MatchOption result (SpellNone (codes "solve" ∷ words_of settings.now))
-        (λ limits. Spell (codes "solve" ∷ words_of settings.now) (Command.Solve limits)) }
+    ensures { SetLimits (words_of settings.now) result }
 {
     match settings {
         [] => Some(Limits {

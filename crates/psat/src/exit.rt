@@ -1,10 +1,10 @@
 //! How the program begins and ends: the words that the system hands out, and the exit code.
-ghost use Rattle.std.specs.Prelude.{◌≡◌, drop, IfOk, IsErr, MatchOption, None, Some};
+ghost use Rattle.std.specs.Prelude.{◌≡◌, drop, IfNone, IfOk, IfSome, IsErr, None, Some};
 ghost use Rattle.std.specs.Process.{exit_status};
 ghost use Rattle.std.specs.Vec.Iter.{into_iter_items};
-ghost use Rattle.psat.specs.Commands.{ReadNothing, SpellNone};
-ghost use Rattle.psat.specs.Exits.{HasWritten, IfRan, exit_number, failure_words};
-ghost use Rattle.psat.specs.Runs.{CountsReads, CountsWrites, HasAnswered, HasRead};
+ghost use Rattle.psat.specs.Commands.{ReadNothing, SpellNone, words_of};
+ghost use Rattle.psat.specs.Exits.{IfRan, exit_number, failure_words};
+ghost use Rattle.psat.specs.Runs.{CountsReads, CountsWrites, HasAnswered, HasRead, Ran};
 ghost use Rattle.psat.specs.Statuses.{AnswersUsage, IsSilent};
 
 use crate::run::run;
@@ -52,49 +52,44 @@ pub fn behind_name(all: &[String]) -> &[String]
 pub fn run_program<I: Source, O: Sink>(
     alloc: Global,
     all: io::Result<Args>,
-    input: &mut I,
-    output: &mut O,
+    source: &mut I,
+    sink: &mut O,
 ) -> Result<Status, NoWords>
     // Where the words can't be had, there is no status, and nothing is read or written.
     ensures no_words { IsErr all → IsErr result }
-    ensures nothing_read { IsErr result → input.new ≡ input.old }
-    ensures nothing_written { IsErr result → output.new ≡ output.old }
+    ensures nothing_read { IsErr result → source.new ≡ source.old }
+    ensures nothing_written { IsErr result → sink.new ≡ sink.old }
 
     // Else all that holds of a run holds with the words behind the program's name: what is written,
-    ensures ran { IfRan all result (λ words status.
-        HasWritten words status (I.left input.old) (O.written output.old) (O.written output.new)) }
-    ensures silent { IfRan all result (λ words status. IsSilent status → output.new ≡ output.old) }
+    ensures ran { IfRan all result (Ran (I.left source.old) (O.written sink.old) (O.written sink.new)) }
+    ensures silent { IfOk result (λ status. IsSilent status → sink.new ≡ sink.old) }
 
     // when the usage line comes,
-    ensures usage { IfRan all result (λ words status. status ≡ Status.Usage → SpellNone words) }
-    ensures other_words { IfRan all result (λ words status.
-        SpellNone words → AnswersUsage status) }
+    ensures usage { IfRan all result (λ words s. s ≡ Status.Usage → SpellNone (words_of words)) }
+    ensures other_words { IfRan all result (λ words s. SpellNone (words_of words) → AnswersUsage s) }
 
     // which statuses the command has,
     ensures answered { IfRan all result HasAnswered }
 
     // how much is read,
-    ensures read { IfRan all result (λ words status.
-        HasRead words status (I.left input.old) (I.left input.new)) }
-    ensures unread { IfRan all result (λ words status. ReadNothing words → input.new ≡ input.old) }
+    ensures read { IfRan all result (HasRead (I.left source.old) (I.left source.new)) }
+    ensures unread { IfRan all result (λ words s. ReadNothing words → source.new ≡ source.old) }
 
     // and that a fault is answered exactly where a count rose, and then by one.
-    ensures read_faults { IfRan all result (λ words status.
-        CountsReads status (I.faults input.old) (I.faults input.new)) }
-    ensures write_faults { IfRan all result (λ words status.
-        CountsWrites status (O.faults output.old) (O.faults output.new)) }
+    ensures read_faults { IfOk result (CountsReads (I.faults source.old) (I.faults source.new)) }
+    ensures write_faults { IfOk result (CountsWrites (O.faults sink.old) (O.faults sink.new)) }
 {
     let all = match all {
         Ok(all) => collected(alloc, all)?,
         Err(_) => return Err(NoWords),
     };
-    Ok(run(alloc, behind_name(&all), input, output))
+    Ok(run(alloc, behind_name(&all), source, sink))
 }
 
 /// What failed, where a status without its text, or none, is answered.
 pub fn failure(ended: Result<Status, NoWords>) -> Option<&'static str>
-    ensures { MatchOption result (failure_words ended ≡ None)
-        (λ text. failure_words ended ≡ Some text.now) }
+    ensures none { IfNone result (failure_words ended ≡ None) }
+    ensures some { IfSome result (λ text. failure_words ended ≡ Some text.now) }
 {
     match ended {
         Ok(Status::ReadFault) => Some("standard input failed"),

@@ -1,9 +1,9 @@
 //! A text to be written.
-ghost use Rattle.std.specs.Prelude.{◌≡◌, ◌++◌, codes, IfOk, string_bytes};
+ghost use Rattle.std.specs.Prelude.{◌≡◌, ◌++◌, codes, string_bytes};
 ghost use Rattle.ps_valid.specs.Judged.{fault_of, place_of};
 ghost use Rattle.psat.specs.Due.{accepted, line, refused, refused_line};
 ghost use Rattle.psat.specs.Due.{too_long, unreadable, usage};
-ghost use Rattle.psat.specs.Replies.{message_output};
+ghost use Rattle.psat.specs.Replies.{Says, message_output};
 
 use crate::shown::{claim_text, kind_text, line_text, reason_text};
 use crate::status::Status;
@@ -24,7 +24,7 @@ pub struct Message {
 impl Message {
     // One line, and the status after it.
     fn line(mut text: String, status: Status) -> Result<Message, AllocError>
-        ensures { IfOk result (λ r. message_output r ≡ line (string_bytes text) status) }
+        ensures { Says result (line (string_bytes text) status) }
     {
         text.push_str("\n")?;
         Ok(Message { text, status })
@@ -32,7 +32,7 @@ impl Message {
 
     /// The message for words that are not those of a command.
     pub fn usage(alloc: Global) -> Result<Message, AllocError>
-        ensures { IfOk result (λ r. message_output r ≡ usage) }
+        ensures { Says result usage }
     {
         let text = String::from_str(
             alloc,
@@ -43,7 +43,7 @@ impl Message {
 
     /// The message for an input of more than `limit` bytes.
     pub fn too_long(alloc: Global, limit: u64) -> Result<Message, AllocError>
-        ensures { IfOk result (λ r. message_output r ≡ too_long limit) }
+        ensures { Says result (too_long limit) }
     {
         let text = format!(in alloc; "unreadable: more than {limit} bytes")?;
         Message::line(text, Status::Unreadable)
@@ -56,8 +56,7 @@ impl Message {
         line: u32,
         column: u32,
     ) -> Result<Message, AllocError>
-        ensures { IfOk result (λ r.
-            message_output r ≡ unreadable kind (record { line = line; column = column })) }
+        ensures { Says result (unreadable kind (record { line = line; column = column })) }
     {
         let kind = kind_text(alloc, kind)?;
         let text = format!(in alloc; "unreadable: {kind} at {line}:{column}")?;
@@ -66,7 +65,7 @@ impl Message {
 
     /// The message for a report with a line at fault.
     pub fn refused_line(alloc: Global, kind: LineKind, line: u64) -> Result<Message, AllocError>
-        ensures { IfOk result (λ r. message_output r ≡ refused_line kind line) }
+        ensures { Says result (refused_line kind line) }
     {
         let kind = line_text(kind);
         let text = format!(in alloc; "refused report line {line} {kind}")?;
@@ -75,8 +74,7 @@ impl Message {
 
     /// The message for an answer with a claim that isn't valid.
     pub fn refused(alloc: Global, refusal: Refusal) -> Result<Message, AllocError>
-        ensures { IfOk result (λ r.
-            message_output r ≡ refused (place_of refusal.claim) (fault_of refusal.reason)) }
+        ensures { Says result (refused (place_of refusal.claim) (fault_of refusal.reason)) }
     {
         let claim = claim_text(alloc, refusal.claim)?;
         let reason = reason_text(alloc, refusal.reason)?;
@@ -86,7 +84,7 @@ impl Message {
 
     /// The message for an answer that is valid.
     pub fn accepted(alloc: Global, answer: Accepted) -> Result<Message, AllocError>
-        ensures { IfOk result (λ r. message_output r ≡ accepted answer.claims answer.unfinished) }
+        ensures { Says result (accepted answer.claims answer.unfinished) }
     {
         let claims = answer.claims;
         let unfinished = answer.unfinished;

@@ -1,10 +1,9 @@
 //! The top call.
-ghost use Rattle.std.specs.Prelude.{◌≡◌, ℕ, List, None, Some, IfOk, length};
+ghost use Rattle.std.specs.Prelude.{◌≡◌, None, Some, IfOk, length};
 ghost use Rattle.psat.specs.Commands.{ReadNothing, SpellNone, limit_of, words_of};
 ghost use Rattle.psat.specs.Replies.{AreLimitsOf, AreWithin, DueBytes, IsDue, IsDueFor};
 ghost use Rattle.psat.specs.Replies.{IsShortReply, output_of, reply_status, status_of};
-ghost use Rattle.psat.specs.Runs.{CountsReads, CountsWrites, HasRead, HasTaken, IsGiven, Ran, Took};
-ghost use Rattle.psat.specs.Runs.{HasAnswered};
+ghost use Rattle.psat.specs.Runs.{CountsReads, CountsWrites, HasAnswered, HasRead, HasTaken, Ran, Took};
 ghost use Rattle.psat.specs.Statuses.{AnswersUsage, GoesWithText, IsAnswerOf, IsSilent};
 
 use crate::checked::checked;
@@ -37,17 +36,17 @@ fn reply_to_input<I: Source>(
     alloc: Global,
     command: Command,
     limit: u64,
-    input: &mut I,
+    source: &mut I,
 ) -> Result<Reply, ReplyError>
     requires limits { AreLimitsOf command }
     requires limit { limit_of command ≡ Some limit }
-    ensures due { IfOk result (λ r. IsDueFor command (I.left input.old) (output_of r)) }
-    ensures took { Took limit (status_of result) (I.left input.old) (I.left input.new) }
+    ensures due { IfOk result (λ r. IsDueFor command (I.left source.old) (output_of r)) }
+    ensures took { Took limit (status_of result) (I.left source.old) (I.left source.new) }
     ensures status { IfOk result (λ r. IsAnswerOf command (reply_status r)) }
     ensures short { IfOk result IsShortReply }
-    ensures faults { CountsReads (status_of result) (I.faults input.old) (I.faults input.new) }
+    ensures faults { CountsReads (I.faults source.old) (I.faults source.new) (status_of result) }
 {
-    match read_all(alloc, input, limit) {
+    match read_all(alloc, source, limit) {
         Ok(bytes) => Ok(reply_to_bytes(alloc, command, &bytes)?),
         Err(ReadAllError::TooLong { .. }) => Ok(Reply::Line(Message::too_long(alloc, limit)?)),
         Err(ReadAllError::Fault) => Err(ReplyError::ReadFault),
@@ -59,77 +58,75 @@ fn reply_to_input<I: Source>(
 fn reply_to_command<I: Source>(
     alloc: Global,
     command: Command,
-    input: &mut I,
+    source: &mut I,
 ) -> Result<Reply, ReplyError>
     requires limits { AreLimitsOf command }
-    ensures due { IfOk result (λ r. IsDueFor command (I.left input.old) (output_of r)) }
-    ensures taken { HasTaken command (status_of result) (I.left input.old) (I.left input.new) }
+    ensures due { IfOk result (λ r. IsDueFor command (I.left source.old) (output_of r)) }
+    ensures taken { HasTaken command (status_of result) (I.left source.old) (I.left source.new) }
     ensures status { IfOk result (λ r. IsAnswerOf command (reply_status r)) }
     ensures short { IfOk result IsShortReply }
-    ensures unread { limit_of command ≡ None → input.new ≡ input.old }
-    ensures faults { CountsReads (status_of result) (I.faults input.old) (I.faults input.new) }
+    ensures unread { limit_of command ≡ None → source.new ≡ source.old }
+    ensures faults { CountsReads (I.faults source.old) (I.faults source.new) (status_of result) }
 {
     match command {
-        Command::Solve { .. } => reply_to_input(alloc, command, MOST_PROBLEM, input),
-        Command::Check { bytes } => reply_to_input(alloc, command, bytes, input),
+        Command::Solve { .. } => reply_to_input(alloc, command, MOST_PROBLEM, source),
+        Command::Check { bytes } => reply_to_input(alloc, command, bytes, source),
     }
 }
 
-// The reply to words and input, or why there is none.
-fn reply_to<I: Source>(alloc: Global, words: &[String], input: &mut I) -> Result<Reply, ReplyError>
-    ensures due { IfOk result (λ r. IsDue (words_of words.now) (I.left input.old) (output_of r)) }
-    ensures read { HasRead (words_of words.now) (status_of result)
-        (I.left input.old) (I.left input.new) }
+// The reply to words and an input, or why there is none.
+fn reply_to<I: Source>(alloc: Global, words: &[String], source: &mut I) -> Result<Reply, ReplyError>
+    ensures due { IfOk result (λ r. IsDue (words_of words.now) (I.left source.old) (output_of r)) }
+    ensures read { HasRead (I.left source.old) (I.left source.new) words.now (status_of result) }
     ensures status { IfOk result (λ r. GoesWithText (reply_status r)) }
-    ensures answered { IfOk result (λ r. HasAnswered (words_of words.now) (reply_status r)) }
+    ensures answered { IfOk result (λ r. HasAnswered words.now (reply_status r)) }
     ensures short { IfOk result IsShortReply }
     ensures usage { IfOk result (λ r.
         reply_status r ≡ Status.Usage → SpellNone (words_of words.now)) }
     ensures other_words { SpellNone (words_of words.now) → AnswersUsage (status_of result) }
-    ensures unread { ReadNothing (words_of words.now) → input.new ≡ input.old }
-    ensures faults { CountsReads (status_of result) (I.faults input.old) (I.faults input.new) }
+    ensures unread { ReadNothing words.now → source.new ≡ source.old }
+    ensures faults { CountsReads (I.faults source.old) (I.faults source.new) (status_of result) }
 {
     match parse_words(words) {
-        Some(command) => reply_to_command(alloc, command, input),
+        Some(command) => reply_to_command(alloc, command, source),
         None => Ok(Reply::Line(Message::usage(alloc)?)),
     }
 }
 
-/// The whole program: reads the input where the words' command reads, and writes one text.
+/// The whole program: reads its input where the words' command reads, and writes one text.
 pub fn run<I: Source, O: Sink>(
     alloc: Global,
     words: &[String],
-    input: &mut I,
-    output: &mut O,
+    source: &mut I,
+    sink: &mut O,
 ) -> Status
     // The due output is written and its status answered, or what takes their place. The bytes are
     // those that the source tells that it had left; where the words read nothing, any bytes.
-    ensures ran { (bytes : List ℕ) → IsGiven (words_of words.now) (I.left input.old) bytes
-        → Ran (words_of words.now) bytes result (O.written output.old) (O.written output.new) }
+    ensures ran { Ran (I.left source.old) (O.written sink.old) (O.written sink.new) words.now result }
 
     // Nothing is written where no text is due.
-    ensures silent { IsSilent result → output.new ≡ output.old }
+    ensures silent { IsSilent result → sink.new ≡ sink.old }
 
     // The usage line comes exactly where the words spell no command, or what takes its place.
     ensures usage { result ≡ Status.Usage → SpellNone (words_of words.now) }
     ensures other_words { SpellNone (words_of words.now) → AnswersUsage result }
 
     // Each command has its statuses, beside those of failures.
-    ensures answered { HasAnswered (words_of words.now) result }
+    ensures answered { HasAnswered words.now result }
 
     // How much is read, by the status; and nothing where the words are of no command that reads.
-    ensures read { HasRead (words_of words.now) result (I.left input.old) (I.left input.new) }
-    ensures unread { ReadNothing (words_of words.now) → input.new ≡ input.old }
+    ensures read { HasRead (I.left source.old) (I.left source.new) words.now result }
+    ensures unread { ReadNothing words.now → source.new ≡ source.old }
 
     // A fault is answered exactly where the count of the source or the sink rose, and then by one.
-    ensures read_faults { CountsReads result (I.faults input.old) (I.faults input.new) }
-    ensures write_faults { CountsWrites result (O.faults output.old) (O.faults output.new) }
+    ensures read_faults { CountsReads (I.faults source.old) (I.faults source.new) result }
+    ensures write_faults { CountsWrites (O.faults sink.old) (O.faults sink.new) result }
 {
-    let reply = match reply_to(alloc, words, input) {
+    let reply = match reply_to(alloc, words, source) {
         Ok(reply) => reply,
         Err(error) => return error.status(),
     };
-    match write_reply(alloc, output, &reply) {
+    match write_reply(alloc, sink, &reply) {
         Ok(()) => reply.status(),
         Err(_) => Status::WriteFault,
     }

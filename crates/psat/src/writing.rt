@@ -12,25 +12,24 @@ use ps_report::write_report;
 use std::alloc::Global;
 
 // Writes the report of an answer, line by line. The writer of lines never wants memory.
-fn write_answer<O: Sink>(alloc: Global, output: &mut O, answer: &Answer) -> Result<(), WriteFault>
+fn write_answer<O: Sink>(alloc: Global, sink: &mut O, answer: &Answer) -> Result<(), WriteFault>
     requires short { AreShortLines answer.now }
-    ensures wrote { Writes result (O.written output.old) (O.written output.new)
+    ensures wrote { Writes result (O.written sink.old) (O.written sink.new)
         (report_of answer.now) }
-    ensures faults { CountsFault result (O.faults output.old) (O.faults output.new) }
+    ensures faults { CountsFault result (O.faults sink.old) (O.faults sink.new) }
 {
-    let mut lines = Lines::new(alloc, output).unwrap();
+    let mut lines = Lines::new(alloc, sink).unwrap();
     write_report(answer, &mut lines)
 }
 
 /// Writes a reply. After a fault a proper prefix of it was written.
-pub fn write_reply<O: Sink>(alloc: Global, output: &mut O, reply: &Reply) -> Result<(), WriteFault>
+pub fn write_reply<O: Sink>(alloc: Global, sink: &mut O, reply: &Reply) -> Result<(), WriteFault>
     requires short { IsShortReply reply.now }
-    ensures wrote { Writes result (O.written output.old) (O.written output.new)
-        (output_of reply.now).text }
-    ensures faults { CountsFault result (O.faults output.old) (O.faults output.new) }
+    ensures wrote { Writes result (O.written sink.old) (O.written sink.new) (output_of reply.now).text }
+    ensures faults { CountsFault result (O.faults sink.old) (O.faults sink.new) }
 {
     match reply {
-        Reply::Line(message) => write_all(output, message.text.as_bytes()),
-        Reply::Report(answer) => write_answer(alloc, output, answer),
+        Reply::Line(message) => write_all(sink, message.text.as_bytes()),
+        Reply::Report(answer) => write_answer(alloc, sink, answer),
     }
 }

@@ -7,10 +7,10 @@ use Rattle.psat.proofs.run.reply_to.Goals as goal
 
 pub returns-in-Some-clause-due : goal.returns-in-Some-clause-due
 returns-in-Some-clause-due g c =
-    IfOk-weaker c.reply_to_command.result (λ (r : Reply). IsDueFor c.in-Some.command (g.I.Source.left c.args.input.now) (output_of r))
-    (λ (r : Reply). IsDue (words_of c.args.words.now) (g.I.Source.left c.args.input.now) (output_of r))
+    IfOk-weaker c.reply_to_command.result (λ (r : Reply). IsDueFor c.in-Some.command (g.I.Source.left c.args.source.now) (output_of r))
+    (λ (r : Reply). IsDue (words_of c.args.words.now) (g.I.Source.left c.args.source.now) (output_of r))
     (λ r due. command_due (words_of c.args.words.now) c.in-Some.command _ (output_of r) c.in-Some.ensures due) c.reply_to_command.ensures.due
 
 pub returns-in-Some-clause-read : goal.returns-in-Some-clause-read
 returns-in-Some-clause-read g c =
-    command_read (words_of c.args.words.now) c.in-Some.command (status_of c.reply_to_command.result) _ _ c.in-Some.ensures c.reply_to_command.ensures.taken
+    command_read c.args.words.now c.in-Some.command (status_of c.reply_to_command.result) _ _ c.in-Some.ensures c.reply_to_command.ensures.taken
