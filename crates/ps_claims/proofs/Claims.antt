@@ -154,9 +154,9 @@ model-total atoms m h e = ((λ z. (let t = total-positive atoms m.worlds h in om
 valid-model : (p : Parts) (c : Claim) → IsValidClaim p c → IsModelRight p c
 valid-model p (Modelled m) h = record {
   shape = record { worlds = h.model.distribution.worlds; rows = tt };
-  few = h.small.few;
+  few = h.basic.few;
   proper = entries-proper (length p.names) m.worlds h.model.distribution;
-  total = model-total (length p.names) m h.model.distribution h.small.total;
+  total = model-total (length p.names) m h.model.distribution h.basic.total;
   met = h.model.met;
   evidence = tt;
   value = tt;
@@ -172,9 +172,9 @@ valid-model p (Excluded given d) h = record {
 }
 valid-model p (Bounded kind q value m d) h = record {
   shape = record { worlds = h.reached.allowed.model.distribution.worlds; rows = length-zip (λ b y. HasSign b.side y) (bounds_of p) d.rows h.refuted.signs };
-  few = h.small.few;
+  few = h.basic.few;
   proper = entries-proper (length p.names) m.worlds h.reached.allowed.model.distribution;
-  total = model-total (length p.names) m h.reached.allowed.model.distribution h.small.total;
+  total = model-total (length p.names) m h.reached.allowed.model.distribution h.basic.total;
   met = h.reached.allowed.model.met;
   evidence = λ z. (let e = h.reached.allowed.positive in omega (arith, ints, e, z));
   value = h.reached.equal;

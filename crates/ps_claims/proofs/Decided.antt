@@ -180,7 +180,7 @@ sound-shows p m shape low sound = record {
     };
     met = sound.met;
   };
-  small = record { few = sound.few; total = sound.total.1 };
+  basic = record { few = sound.few; total = sound.total.1 };
 }
 
 evidence_cases : (p : Parts) (m : Model) (given : Option ℕ) → (weight m.worlds (given_at p.nodes given) ≢ pos 0) ⊎ ¬ (weight m.worlds (given_at p.nodes given) ≢ pos 0)
@@ -224,7 +224,7 @@ bounded-valid p kind q value m d low shape good evidence is right =
     let least = weight-nonneg m.worlds (given_at p.nodes q.given) shown.model.distribution.weighed in
     record {
       reached = record { allowed = record { model = shown.model; positive = at_least_one (weight m.worlds (given_at p.nodes q.given)) evidence least }; equal = is };
-      small = shown.small;
+      basic = shown.basic;
       head = right.head;
       refuted = right.refuted;
     }

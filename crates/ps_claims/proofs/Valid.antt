@@ -52,7 +52,7 @@ valid-lower : (p : Parts) (q : stored.Query) (s : SideAnswer Dual) → AreParts 
 valid-lower p q (Value value m d) are has valid = record {
   holds = shows_lower (length p.names) (bounds_of p) (query_of p.nodes q) value d valid.refuted.signs valid.head (never_above p Lower q d are has valid.refuted);
   reached = valid.reached;
-  small = valid.small;
+  basic = valid.basic;
 }
 valid-lower p q OpenSide are has valid = tt
 
@@ -61,7 +61,7 @@ valid-upper : (p : Parts) (q : stored.Query) (s : SideAnswer Dual) → AreParts 
 valid-upper p q (Value value m d) are has valid = record {
   holds = shows_upper (length p.names) (bounds_of p) (query_of p.nodes q) value d valid.refuted.signs valid.head (never_above p Upper q d are has valid.refuted);
   reached = valid.reached;
-  small = valid.small;
+  basic = valid.basic;
 }
 valid-upper p q OpenSide are has valid = tt
 

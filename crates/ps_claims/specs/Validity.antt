@@ -30,7 +30,7 @@ pub record ShowsNothing (p : Parts) (given : Option ℕ) (d : Dual) : Type 0 whe
 -- dual shows that it is a bound
 pub record ShowsTight (p : Parts) (kind : ClaimKind) (q : stored.Query) (value : Rational) (m : Model) (d : Dual) : Type 0 where
   pub reached : Reaches (length p.names) (bounds_of p) (query_of p.nodes q) value m.worlds
-  pub small : IsBasicModel (bounds_of p) m
+  pub basic : IsBasicModel (bounds_of p) m
   pub head : HasValueHead value d
   pub refuted : IsRefuted p kind q.given q.both d
 

@@ -43,14 +43,14 @@ pub record IsBasicModel (bounds : List Bound) (m : Model) : Type 0 where
 -- a distribution that meets each bound, of at most one world more than there are bounds, with the sum of its weights as total
 pub record ShowsConsistent (atoms : ℕ) (bounds : List Bound) (m : Model) : Type 0 where
   pub model : IsModelOf atoms bounds m.worlds
-  pub small : IsBasicModel bounds m
+  pub basic : IsBasicModel bounds m
 
 -- a value that bounds the query's probability, and that a distribution reaches, of at most one world more than there are bounds,
 -- with the sum of its weights as total
 pub record IsTight (atoms : ℕ) (bounds : List Bound) (q : Query) (side : Side) (value : Rational) (m : Model) : Type 0 where
   pub holds : Holds atoms bounds q side value
   pub reached : Reaches atoms bounds q value m.worlds
-  pub small : IsBasicModel bounds m
+  pub basic : IsBasicModel bounds m
 
 -- a verdict is right: its model shows that the bounds are consistent, or they are inconsistent; an open one claims nothing
 abbrev pub IsRightVerdict : {C : Type 0} → ℕ → List Bound → Verdict C → Type 0

@@ -62,7 +62,7 @@ module _ (p : Parts) (pivots conflicts : ℕ) (limits : AreLimits p pivots confl
   pub verdict_fit : (g : Stage) (left : ℕ) (pending : Option World) (v : Verdict) → IsVerdictAt (record { parts = p; query = None }) pivots conflicts g left pending v → IsValidVerdict p (verdict_of v)
       → IsPrintedVerdict v → length g.pool ≤ pivots + 2 → (0 < open_in_verdict (verdict_of v) → AnyOpen) → AllByRecursion Q (verdict_items v)
   verdict_fit g left pending (Consistent m) h valid printed few if_open =
-      (lines.fit line.Consistent (tt, tt), model_fit m valid.model.distribution valid.small printed)
+      (lines.fit line.Consistent (tt, tt), model_fit m valid.model.distribution valid.basic printed)
   verdict_fit g left pending (Inconsistent d) h valid printed few if_open =
       (lines.fit line.Inconsistent (tt, tt), nothing_fit None d refl valid.refuted valid.head.top printed)
   verdict_fit g left pending (Open cause) h valid printed few if_open =
@@ -86,7 +86,7 @@ module _ (p : Parts) (pivots conflicts : ℕ) (limits : AreLimits p pivots confl
         let least = valid.head.top in (
           lines.fit (line.Bound upper (ratio_of value))
               ((value_low (length p.names) (bounds_of p) (query_of p.nodes q) value (entries m.worlds) valid.reached, operand_proper value (2 ^ 90)), (omega (arith, over, head), omega (arith, under, top))),
-          both Q (model_items m) (dual_items d ++ trace_items trace) (model_fit m valid.reached.allowed.model.distribution valid.small printed.0)
+          both Q (model_items m) (dual_items d ++ trace_items trace) (model_fit m valid.reached.allowed.model.distribution valid.basic printed.0)
               (both Q (dual_items d) (trace_items trace) (dual_fit (Some q) kind d nodes (omega (arith, ints, least)) valid.refuted printed.1) events),
         )
     side_fit upper kind g left pending (side.Open cause) trace h valid printed few if_open events = (

@@ -84,5 +84,5 @@ pub consistent_at_end : (s : Subject) (g : Stage) (X : ℕ → ℕ → Rational)
     → ShowsConsistent (atoms_of s) (bounds_of s.parts) (table_model (table_at s g X) g.pool)
 consistent_at_end s g X t feasible pooled = record {
   model = (allowed_at_end (setting_of s) g.pool g.basis X t (atoms_of s) feasible pooled.different pooled.sized).model;
-  small = small_at_end (setting_of s) g.pool g.basis X t;
+  basic = small_at_end (setting_of s) g.pool g.basis X t;
 }

@@ -51,7 +51,7 @@ module _ (kind : ClaimKind) (p : Parts) (q : stored.Query) (g : Stage) (X : ℕ 
           allowed = allowed_at_end (setting_of s) g.pool g.basis X t (atoms_of s) feasible pooled.different pooled.sized;
           equal = same_ratio d.top d.head value.over (pos value.under) (weight worlds (both_of (setting_of s))) (weight worlds (setting_of s).query.evidence) head.top head.ratio numbers;
         };
-        small = small_at_end (setting_of s) g.pool g.basis X t;
+        basic = small_at_end (setting_of s) g.pool g.basis X t;
         head = head;
         refuted = refuted_at_rest kind s g X d same rest steps;
       }
