@@ -6,6 +6,6 @@ pub mod Due
 pub mod Accepting
 pub mod Runs
 pub mod Exits
--- Bridge: what two words set, and what a reply stands for
+-- Bridge: what the words behind a command's name set, and what a reply stands for
 pub mod Settings
 pub mod Replies

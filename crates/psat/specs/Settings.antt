@@ -1,4 +1,4 @@
--- What two words behind a command's name set.
+-- What the words behind a command's name set.
 use Rattle.std.specs.Prelude.{◌≡◌, ◌≤◌, ℕ, List, [], ◌∷◌, Option, Some, None, Contains, MatchOption, codes, decimal}
 use Rattle.ps_generation.specs.declared.limits.Limits.{Limits}
 use Rattle.psat.specs.declared.command.SolveSetting.{SolveSetting}
