@@ -11,7 +11,7 @@ use Rattle.ps_formula.specs.declared.node.Node.{Node}
 use Rattle.ps_formula.specs.declared.node.Node.TheVariants as node
 use Rattle.ps_formula.specs.Nodes.{trees, tree_over, AreNodes}
 use Rattle.ps_formula.proofs.Different.{trees-at}
-use Rattle.ps_text.specs.Grammar as form
+use Rattle.ps_text.specs.Grammar as grammar
 use Rattle.ps_text.specs.Grammar.{FormulaSyntax, level}
 use Rattle.ps_text.specs.Canonical.{fitted, canonical_formula, syntax_text}
 use Rattle.ps_problem.specs.Problems.{Parts, name_at, tree_at}
@@ -40,47 +40,35 @@ fits_at k n h = grind (arith, nat_tests)
 past_at : (k n : ℕ) → nat_le k n ≡ false → nat_lt n k ≡ true
 past_at k n h = grind (arith, nat_tests)
 
--- a form has parentheses where its level is below the required one
+-- what is written has parentheses where its level is below the required one
 fitted-text : (k : ℕ) (f : FormulaSyntax) → syntax_text (fitted k f) ≡ opening (nat_lt (level f) k) ++ (syntax_text f ++ closing (nat_lt (level f) k))
 fitted-text k f = by (nat_le k (level f)) refl
   where
-    by : (b : Bool) → nat_le k (level f) ≡ b → syntax_text (if b then f else form.Group f) ≡ opening (nat_lt (level f) k) ++ (syntax_text f ++ closing (nat_lt (level f) k))
+    by : (b : Bool) → nat_le k (level f) ≡ b → syntax_text (if b then f else grammar.Group f) ≡ opening (nat_lt (level f) k) ++ (syntax_text f ++ closing (nat_lt (level f) k))
     by true e = rw (fits_at k (level f) e) (sym (append-nil (syntax_text f)))
     by false e = rw (past_at k (level f) e) refl
 
--- a form that binds most tightly has none
+-- what binds most tightly has none
 tight : (k : ℕ) (f : FormulaSyntax) → k ≤ 5 → level f ≡ 5 → syntax_text (fitted k f) ≡ syntax_text f
 tight k f le e = by (nat_le k (level f)) refl
   where
-    by : (b : Bool) → nat_le k (level f) ≡ b → syntax_text (if b then f else form.Group f) ≡ syntax_text f
+    by : (b : Bool) → nat_le k (level f) ≡ b → syntax_text (if b then f else grammar.Group f) ≡ syntax_text f
     by true t = refl
     by false t = absurd (never t)
       where
         never : nat_le k (level f) ≡ false → ⊥
         never t = grind (arith, nat_tests)
 
--- any form fits where the least level is required
-pub fitted-one : (f : FormulaSyntax) → fitted 1 f ≡ f
-fitted-one (form.Name w) = refl
-fitted-one form.Truth = refl
-fitted-one form.Falsity = refl
-fitted-one (form.Not f) = refl
-fitted-one (form.Group f) = refl
-fitted-one (form.And f g) = refl
-fitted-one (form.Or f g) = refl
-fitted-one (form.Implies f g) = refl
-fitted-one (form.Iff f g) = refl
-
 -- two operands with the connective between them
 middle : Connective → formula.Formula Name → formula.Formula Name → List ℕ
 middle c f g = operand_text (left_of c) f ++ (sign_of c ++ operand_text (right_of c) g)
 
-joined-form : (c : Connective) (f g : formula.Formula Name) → syntax_text (canonical_formula (joined c f g)) ≡ middle c f g
+joined-syntax : (c : Connective) (f g : formula.Formula Name) → syntax_text (canonical_formula (joined c f g)) ≡ middle c f g
 unfolding middle
-joined-form connective.And f g = refl
-joined-form connective.Or f g = refl
-joined-form connective.Implies f g = refl
-joined-form connective.Iff f g = refl
+joined-syntax connective.And f g = refl
+joined-syntax connective.Or f g = refl
+joined-syntax connective.Implies f g = refl
+joined-syntax connective.Iff f g = refl
 
 joined-level : (c : Connective) (f g : formula.Formula Name) → level (canonical_formula (joined c f g)) ≡ level_of c
 joined-level connective.And f g = refl
@@ -98,7 +86,7 @@ joined-text : (k : ℕ) (c : Connective) (f g : formula.Formula Name)
     → operand_text k (joined c f g) ≡ opening (nat_lt (level_of c) k) ++ (middle c f g ++ closing (nat_lt (level_of c) k))
 joined-text k c f g = fitted-text k (canonical_formula (joined c f g))
     ∙ ap (λ n. opening (nat_lt n k) ++ (syntax_text (canonical_formula (joined c f g)) ++ closing (nat_lt n k))) (joined-level c f g)
-    ∙ ap (λ m. opening (nat_lt (level_of c) k) ++ (m ++ closing (nat_lt (level_of c) k))) (joined-form c f g)
+    ∙ ap (λ m. opening (nat_lt (level_of c) k) ++ (m ++ closing (nat_lt (level_of c) k))) (joined-syntax c f g)
 
 -- stacks
 

@@ -1,9 +1,8 @@
 -- The lines of a problem's canonical text.
 use Rattle.std.specs.Prelude.{◌≡◌, ℕ, List, [], ◌∷◌, ◌++◌, Option, option_map}
 use Rattle.ps_meaning.specs.Statements.{Stated, Asked}
-use Rattle.ps_text.specs.Grammar.{Relation}
 use Rattle.ps_text.specs.Tokens.{numeral_spelling}
-use Rattle.ps_text.specs.Canonical.{canonical_formula, canonical_given, canonical_numeral, canonical_relation, canonical_prob, canonical_item, syntax_text, given_text, prob_text, item_text}
+use Rattle.ps_text.specs.Canonical.{canonical_formula, canonical_given, canonical_numeral, canonical_relation, canonical_prob, canonical_item, syntax_text, given_text, prob_text, relation_text, item_text}
 use Rattle.ps_problem.specs.declared.bound.Bound.{Bound}
 use Rattle.ps_problem.specs.declared.sentence.Sentence.{Sentence}
 use Rattle.ps_problem.specs.declared.query.Query.{Query}
@@ -13,10 +12,6 @@ use Rattle.ps_problem.specs.Written.{named_at, ratio_at, statement_from, questio
 -- the text stands behind what was written before
 abbrev pub Adds : (old new text : List ℕ) → Type 0
 Adds old new text = new ≡ old ++ text
-
--- the text of a quotient: a whole number where the denominator is 1
-abbrev pub quotient_text : ℕ → ℕ → List ℕ
-quotient_text num den = numeral_spelling (canonical_numeral (record { num = num; den = den }))
 
 -- the text of a formula by number
 abbrev pub formula_text : Parts → ℕ → List ℕ
@@ -30,13 +25,13 @@ condition_text p g = given_text (canonical_given (option_map (named_at p) g))
 abbrev pub probability_text : Parts → ℕ → Option ℕ → List ℕ
 probability_text p f g = prob_text (canonical_prob (named_at p f) (option_map (named_at p) g))
 
--- the text of a bound's value
+-- the text of a bound's value: a whole number where the denominator is 1, else a quotient
 abbrev pub value_text : Bound → List ℕ
 value_text b = numeral_spelling (canonical_numeral (ratio_at b))
 
--- how a sentence bounds its probability
-abbrev pub relation_of : Sentence → Relation
-relation_of s = canonical_relation s.first.side (ratio_at s.first) (option_map ratio_at s.second)
+-- the text of how a sentence bounds its probability
+abbrev pub bounds_text : Sentence → List ℕ
+bounds_text s = relation_text (canonical_relation s.first.side (ratio_at s.first) (option_map ratio_at s.second))
 
 -- the line of a sentence
 abbrev pub sentence_line : Parts → Sentence → List ℕ
@@ -55,3 +50,11 @@ sentence_lines p (s ∷ ss) = sentence_line p s ++ sentence_lines p ss
 abbrev pub query_lines : Parts → List Query → List ℕ
 query_lines p [] = []
 query_lines p (q ∷ qs) = query_line p q ++ query_lines p qs
+
+-- the lines of a problem's sentences
+abbrev pub sentences_text : Parts → List ℕ
+sentences_text p = sentence_lines p p.sentences
+
+-- the lines of a problem's queries
+abbrev pub queries_text : Parts → List ℕ
+queries_text p = query_lines p p.queries

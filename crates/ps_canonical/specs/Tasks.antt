@@ -1,5 +1,5 @@
 -- What is still to be written of a formula: the tasks on a stack, the last one first.
-use Rattle.std.specs.Prelude.{◌≡◌, ℕ, ◌+◌, ◌<◌, ◌≤◌, Bool, List, [], ◌∷◌, ◌++◌, All, length, codes, nat_lt, if◌then◌else◌}
+use Rattle.std.specs.Prelude.{◌≡◌, ℕ, ◌+◌, ◌<◌, ◌≤◌, Bool, List, [], ◌∷◌, ◌++◌, All, Result, OnOk, length, codes, nat_lt, if◌then◌else◌}
 use Rattle.ps_meaning.specs.Formula as formula
 use Rattle.ps_meaning.specs.Statements.{Name}
 use Rattle.ps_text.specs.Grammar.{FormulaSyntax, And, Or, Implies, Iff}
@@ -118,3 +118,11 @@ pub record IsCarriedOut (p : Parts) (t : Task) (ts : List Task) (out : List ℕ)
   pub text : out' ++ tasks_text p ts' ≡ out ++ (task_text p t ++ tasks_text p ts)
   pub there : All (IsTask (length p.nodes)) ts'
   pub fewer : tasks_steps p ts' < task_steps p t + tasks_steps p ts
+
+-- so a task was carried out, unless memory ran out
+abbrev pub CarriesOut : {X E : Type 0} → Parts → Task → List Task → List ℕ → List Task → List ℕ → Result X E → Type 0
+CarriesOut p t ts out ts' out' result = OnOk result (IsCarriedOut p t ts out ts' out')
+
+-- so a node was written as far as its operands where an operand of this level is required, unless memory ran out
+abbrev pub Begins : {X E : Type 0} → Parts → ℕ → ℕ → List Task → List ℕ → List Task → List ℕ → Result X E → Type 0
+Begins p i level ts out ts' out' result = CarriesOut p (task.Formula i level) ts out ts' out' result

@@ -4,8 +4,7 @@ ghost use Rattle.ps_formula.specs.Nodes.{Fits, AreNodes, AtomBelow};
 ghost use Rattle.ps_problem.specs.Problems.{name_at};
 ghost use Rattle.ps_canonical.specs.Lines.{Adds, formula_text};
 ghost use Rattle.ps_canonical.specs.Tasks.{opening, closing_task, with_join, join_opening};
-ghost use Rattle.ps_canonical.specs.Tasks.{IsTask, IsCarriedOut};
-ghost use Rattle.ps_canonical.specs.declared.task.Task.TheVariants as task;
+ghost use Rattle.ps_canonical.specs.Tasks.{IsTask, Begins, CarriesOut};
 
 use crate::connective::Connective;
 use crate::task::Task;
@@ -84,8 +83,7 @@ fn begin(
     requires there { i < length problem.now.nodes }
     requires level { level ≤ 5 }
     requires tasks { All (IsTask (length problem.now.nodes)) tasks.old }
-    ensures { OnOk result (IsCarriedOut problem.now (task.Formula i level)
-        tasks.old out.old.items tasks.new out.new.items) }
+    ensures { Begins problem.now i level tasks.old out.old.items tasks.new out.new.items result }
 {
     match node_at(problem, i) {
         Node::True => append(out, b"true"),
@@ -114,8 +112,7 @@ fn step(
 ) -> Result<(), NoMemory>
     requires task { IsTask (length problem.now.nodes) task }
     requires tasks { All (IsTask (length problem.now.nodes)) tasks.old }
-    ensures { OnOk result
-        (IsCarriedOut problem.now task tasks.old out.old.items tasks.new out.new.items) }
+    ensures { CarriesOut problem.now task tasks.old out.old.items tasks.new out.new.items result }
 {
     match task {
         Task::Formula { node, level } => begin(problem, node, level, tasks, out),

@@ -1,7 +1,6 @@
 //! The values of bounds as they are written.
 ghost use Rattle.std.specs.Prelude.{◌++◌, OnOk, option_map, decimal};
-ghost use Rattle.ps_text.specs.Canonical.{relation_text};
-ghost use Rattle.ps_canonical.specs.Lines.{Adds, quotient_text, relation_of, value_text};
+ghost use Rattle.ps_canonical.specs.Lines.{Adds, bounds_text, value_text};
 
 use ps_io::NoMemory;
 use ps_problem::{Bound, Sentence, Side};
@@ -22,16 +21,16 @@ fn number(out: &mut Vec<u8>, n: u32) -> Result<(), NoMemory>
     append(out, digits.format(n).as_bytes())
 }
 
-// Writes a value: a whole number, or a quotient.
-fn numeral(out: &mut Vec<u8>, num: u32, den: u32) -> Result<(), NoMemory>
-    ensures { OnOk result (Adds out.old.items out.new.items (quotient_text num den)) }
+// Writes a bound's value: a whole number, or a quotient.
+fn numeral(out: &mut Vec<u8>, bound: &Bound) -> Result<(), NoMemory>
+    ensures { OnOk result (Adds out.old.items out.new.items (value_text bound.now)) }
 {
-    number(out, num)?;
-    if den == 1 {
+    number(out, bound.num)?;
+    if bound.den == 1 {
         return Ok(());
     }
     append(out, b"/")?;
-    number(out, den)
+    number(out, bound.den)
 }
 
 // Writes a sign and a bound's value behind it.
@@ -39,13 +38,12 @@ fn value(out: &mut Vec<u8>, sign: &[u8], bound: &Bound) -> Result<(), NoMemory>
     ensures { OnOk result (Adds out.old.items out.new.items (sign.now ++ value_text bound.now)) }
 {
     append(out, sign)?;
-    numeral(out, bound.num, bound.den)
+    numeral(out, bound)
 }
 
 // Writes how a sentence bounds its probability.
 pub(crate) fn relation(out: &mut Vec<u8>, sentence: &Sentence) -> Result<(), NoMemory>
-    ensures { OnOk result
-        (Adds out.old.items out.new.items (relation_text (relation_of sentence.now))) }
+    ensures { OnOk result (Adds out.old.items out.new.items (bounds_text sentence.now)) }
 {
     match sentence.first.side {
         Side::Exactly => value(out, b" = ", &sentence.first),

@@ -2,7 +2,7 @@
 ghost use Rattle.std.specs.Prelude.{◌≡◌, IfOk, OnOk};
 ghost use Rattle.ps_text.specs.Canonical.{canonical_text};
 ghost use Rattle.ps_problem.specs.Written.{items_from};
-ghost use Rattle.ps_canonical.specs.Lines.{Adds, sentence_lines, query_lines};
+ghost use Rattle.ps_canonical.specs.Lines.{Adds, sentences_text, queries_text};
 
 use crate::lines::{write_query, write_sentence};
 use crate::values::append;
@@ -12,8 +12,7 @@ use std::alloc::Global;
 
 // Writes the lines of all sentences.
 fn sentences(alloc: Global, problem: &Problem, out: &mut Vec<u8>) -> Result<(), NoMemory>
-    ensures { OnOk result
-        (Adds out.old.items out.new.items (sentence_lines problem.now problem.now.sentences)) }
+    ensures { OnOk result (Adds out.old.items out.new.items (sentences_text problem.now)) }
 {
     for sentence in problem.sentences().as_slice() {
         write_sentence(alloc, problem, sentence, out)?;
@@ -23,8 +22,7 @@ fn sentences(alloc: Global, problem: &Problem, out: &mut Vec<u8>) -> Result<(), 
 
 // Writes the lines of all queries.
 fn queries(alloc: Global, problem: &Problem, out: &mut Vec<u8>) -> Result<(), NoMemory>
-    ensures { OnOk result
-        (Adds out.old.items out.new.items (query_lines problem.now problem.now.queries)) }
+    ensures { OnOk result (Adds out.old.items out.new.items (queries_text problem.now)) }
 {
     for query in problem.queries().as_slice() {
         write_query(alloc, problem, query, out)?;
