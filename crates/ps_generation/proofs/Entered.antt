@@ -6,9 +6,11 @@ use Rattle.ps_pool.specs.declared.event.Event.{Event}
 use Rattle.ps_pool.specs.declared.event.Event.TheVariants.{Priced}
 use Rattle.ps_pool.specs.Worlds.{HasNumber}
 use Rattle.ps_table.specs.declared.costs.Costs.{Costs}
+use Rattle.ps_table.specs.declared.error.TableError.{TableError}
+use Rattle.ps_table.specs.declared.error.TableError.TheVariants as refused
 use Rattle.ps_table.specs.declared.place.WideAt.{WideAt}
 use Rattle.ps_table.specs.Tableau.{Tableau, IsTableau, IsAdded, StandsWith}
-use Rattle.ps_table.specs.Places.{IsWideAt, NewPlaces}
+use Rattle.ps_table.specs.Places.{IsWideAt, IsRefusedAt, NewPlaces}
 use Rattle.ps_bland.specs.Ready.{IsReady}
 use Rattle.ps_bland.proofs.Ready.{feasible_added}
 use Rattle.ps_answer.specs.declared.answer.Cause.TheVariants.{Wide}
@@ -23,8 +25,9 @@ use Rattle.ps_phases.proofs.Licensing.{column_due}
 use Rattle.ps_phases.proofs.Progress.{moving_after}
 use Rattle.ps_phases.proofs.Ready.{ready_first, ready_lower, ready_upper}
 use Rattle.ps_generation.specs.declared.state.State.{State}
+use Rattle.ps_generation.specs.declared.end.End.{End}
 use Rattle.ps_generation.specs.declared.end.End.TheVariants.{Open}
-use Rattle.ps_generation.specs.Phases.{LimitedSubject, stage_of, IsInPhase, HasCome, IsEnd}
+use Rattle.ps_generation.specs.Phases.{LimitedSubject, stage_of, IsInPhase, HasCome, IsEnd, IsEndAt}
 use Rattle.ps_generation.specs.Rounds.{IsPricedIn, HasEntered}
 
 same_state : (t : Tableau) (pool more : List World) (trace longer : List Event) (left : ℕ) → more ≡ pool → longer ≡ trace
@@ -57,12 +60,13 @@ module _ (kind : ClaimKind) (r : LimitedSubject) (costs : Costs) (old : State) (
     wide = column_due r.subject old.pool old.table phase.table w at wide;
   })
 
-  pub pending_wide : (u : Tableau) (longer : List Event) (entries : List ℤ) (at : WideAt) → u ≡ old.table → longer ≡ old.trace ++ Priced w ∷ []
-      → entries ≡ entries_of (setting_of r.subject) w → IsWideAt (NewPlaces old.table entries) at
-      → IsEnd kind r old (record { table = u; pool = old.pool; trace = longer; left = old.left }) (Open (Wide at))
-  pending_wide u longer entries at e f g wide =
-      subst (λ (x : State). IsEnd kind r old x (Open (Wide at))) (λ i. record { table = sym e i; pool = old.pool; trace = sym f i; left = old.left })
-      (pending_told at (subst (λ (es : List ℤ). IsWideAt (NewPlaces old.table es) at) g wide))
+  pub pending_wide : (u : Tableau) (longer : List Event) (entries : List ℤ) (e : TableError) (end : End) → u ≡ old.table → longer ≡ old.trace ++ Priced w ∷ []
+      → entries ≡ entries_of (setting_of r.subject) w → IsRefusedAt (NewPlaces old.table entries) e → IsEndAt e end
+      → IsEnd kind r old (record { table = u; pool = old.pool; trace = longer; left = old.left }) end
+  pending_wide u longer entries (refused.Wide at) end same more g wide is =
+      subst (λ (x : State). IsEnd kind r old x end) (λ i. record { table = sym same i; pool = old.pool; trace = sym more i; left = old.left })
+      (subst (λ (x : End). IsEnd kind r old told x) (sym is) (pending_told at (subst (λ (es : List ℤ). IsWideAt (NewPlaces old.table es) at) g wide)))
+  pending_wide u longer entries refused.NoMemory end same more g wide is = absurd is
 
   -- a world that gets its column
   module _ (u : Tableau) (added : IsAdded (entries_of (setting_of r.subject) w) old.table u) (stands : StandsWith (entries_of (setting_of r.subject) w) old.table u) (tableau : IsTableau u) where

@@ -9,10 +9,12 @@ use Rattle.ps_table.specs.declared.costs.Costs.{Costs}
 use Rattle.ps_frac.specs.declared.wide.Op.{Op}
 use Rattle.ps_rational.specs.Rational.{Rational}
 use Rattle.ps_table.specs.declared.place.Place.{Place}
+use Rattle.ps_table.specs.declared.error.TableError.{TableError}
+use Rattle.ps_table.specs.declared.error.TableError.TheVariants as refused
 use Rattle.ps_table.specs.declared.place.WideAt.{WideAt}
 use Rattle.ps_table.specs.Tableau.{rows_of as table_rows, entry_at, basic_at}
 use Rattle.ps_table.specs.Pricing.{cost_at}
-use Rattle.ps_table.specs.Places.{IsWide, IsWideAt, HomePlaces, MultiplierPlace}
+use Rattle.ps_table.specs.Places.{IsWide, IsWideAt, IsRefusedAt, HomePlaces, MultiplierPlace}
 use Rattle.ps_bland.specs.Rules.{simplex_of}
 use Rattle.ps_multiples.specs.Multiples.{DualPlaces}
 use Rattle.ps_multiples.specs.Multiples.DualPlaces.{of_home, of_multiplier}
@@ -28,8 +30,9 @@ use Rattle.ps_phases.proofs.Licensing.{multiplier_due, dual_due}
 use Rattle.ps_phases.proofs.TableEnds.{dual_of_stage, spent_at_rest}
 use Rattle.ps_pricing.specs.Pricings.{IsFound, IsRefuted, IsSpent}
 use Rattle.ps_generation.specs.declared.state.State.{State}
+use Rattle.ps_generation.specs.declared.end.End.{End}
 use Rattle.ps_generation.specs.declared.end.End.TheVariants.{NoneAbove, Open}
-use Rattle.ps_generation.specs.Phases.{LimitedSubject, stage_of, IsInPhase, IsEnd}
+use Rattle.ps_generation.specs.Phases.{LimitedSubject, stage_of, IsInPhase, IsEnd, IsEndAt}
 use Rattle.ps_generation.specs.Rounds.{pricing_subject_of, IsAtRest, IsPricedIn}
 use Rattle.ps_generation.proofs.Coming.{come_none}
 
@@ -46,8 +49,11 @@ module _ (kind : ClaimKind) (r : LimitedSubject) (costs : Costs) (old : State) (
       (subst (λ (c : Costs). IsWideAt (MultiplierPlace (table_rows old.table) (cost_at c) (basic_at old.table) (entry_at old.table)) w) phase.costs_are (record { at = there; wide = wide }))
 
   -- a number of the dual is too wide
-  pub dual_wide : (at : WideAt) → IsWideAt (DualPlaces old.table costs) at → IsEnd kind r old old (Open (Wide at))
-  dual_wide at wide = inl (record { come = come_none kind r costs old phase; licensed = refused_at at.place at.op at.left at.right wide.at wide.wide })
+  pub dual_wide : (e : TableError) (end : End) → IsRefusedAt (DualPlaces old.table costs) e → IsEndAt e end → IsEnd kind r old old end
+  dual_wide (refused.Wide at) end wide is =
+      subst (λ (x : End). IsEnd kind r old old x) (sym is)
+      (inl (record { come = come_none kind r costs old phase; licensed = refused_at at.place at.op at.left at.right wide.at wide.wide }))
+  dual_wide refused.NoMemory end wide is = absurd is
 
   module _ (d : Dual) (same : HaveSameNumbers (dual_of d) (table_dual kind (setting_of r.subject) (simplex_of old.table) (cost_at costs)))
       (are : AreParts r.subject.parts) (asked : IsAsked kind r.subject.parts r.subject.query) where

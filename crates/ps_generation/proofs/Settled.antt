@@ -7,12 +7,13 @@ use Rattle.ps_rational.specs.Rational.{Rational}
 use Rattle.ps_pool.specs.declared.event.Event.{Event}
 use Rattle.ps_pool.specs.declared.event.Event.TheVariants.{Pivot}
 use Rattle.ps_table.specs.declared.costs.Costs.{Costs}
-use Rattle.ps_table.specs.declared.place.WideAt.{WideAt}
+use Rattle.ps_table.specs.declared.error.TableError.{TableError}
+use Rattle.ps_table.specs.declared.error.TableError.TheVariants as refused
 use Rattle.ps_table.specs.Tableau.{Tableau, IsTableau}
 use Rattle.ps_table.specs.Pricing.{cost_at}
 use Rattle.ps_rule.specs.declared.phase.Phase.{Phase}
 use Rattle.ps_bland.specs.Rules.{simplex_of, IsDone}
-use Rattle.ps_bland.specs.Ends.{IsDueWide}
+use Rattle.ps_bland.specs.Ends.{IsDueWide, IsDueRefusal}
 use Rattle.ps_bland.specs.Ready.{IsReady}
 use Rattle.ps_bland.specs.Runs as bland
 use Rattle.ps_answer.specs.declared.answer.Cause.TheVariants.{Pivots, Wide}
@@ -23,8 +24,9 @@ use Rattle.ps_phases.specs.Tables.{costs_for}
 use Rattle.ps_phases.proofs.GoingOn.{begun, settled_goes_on}
 use Rattle.ps_phases.proofs.Licensing.{resting_there, moving_there, settling_due}
 use Rattle.ps_generation.specs.declared.state.State.{State}
+use Rattle.ps_generation.specs.declared.end.End.{End}
 use Rattle.ps_generation.specs.declared.end.End.TheVariants.{Feasible, Open}
-use Rattle.ps_generation.specs.Phases.{LimitedSubject, stage_of, IsInPhase, HasCome, IsEnd}
+use Rattle.ps_generation.specs.Phases.{LimitedSubject, stage_of, IsInPhase, HasCome, IsEnd, IsEndAt}
 use Rattle.ps_generation.specs.Rounds.{HasRested}
 
 -- a resting table isn't moving
@@ -92,10 +94,13 @@ module _ (kind : ClaimKind) (r : LimitedSubject) (costs : Costs) (old new : Stat
     };
   }
 
-  pub settled_wide : (at : WideAt) → IsDueWide (phase_of kind) costs new.table new.left at → IsEnd kind r old new (Open (Wide at))
-  settled_wide at due = inl (record {
-    come = settled_come;
-    licensed =
-        settling_due r.subject new.pool new.table settled_come.way.table kind new.left at
-        (subst (λ (c : Costs). IsDueWide (phase_of kind) c new.table new.left at) costs_there due);
-  })
+  pub settled_wide : (e : TableError) (end : End) → IsDueRefusal (phase_of kind) costs new.table new.left e → IsEndAt e end → IsEnd kind r old new end
+  settled_wide (refused.Wide at) end due is =
+      subst (λ (x : End). IsEnd kind r old new x) (sym is)
+      (inl (record {
+        come = settled_come;
+        licensed =
+            settling_due r.subject new.pool new.table settled_come.way.table kind new.left at
+            (subst (λ (c : Costs). IsDueWide (phase_of kind) c new.table new.left at) costs_there due);
+      }))
+  settled_wide refused.NoMemory end due is = absurd is

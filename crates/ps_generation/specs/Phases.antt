@@ -14,6 +14,8 @@ use Rattle.ps_answer.specs.declared.limits.TheConstants.{MOST_PIVOTS, MOST_CONFL
 use Rattle.ps_pool.specs.declared.event.Event.{Event}
 use Rattle.ps_pool.specs.declared.event.Event.TheVariants.{Priced}
 use Rattle.ps_table.specs.declared.costs.Costs.{Costs}
+use Rattle.ps_table.specs.declared.error.TableError.{TableError}
+use Rattle.ps_table.specs.declared.error.TableError.TheVariants as refused
 use Rattle.ps_table.specs.declared.place.WideAt.{WideAt}
 use Rattle.ps_table.specs.Tableau.{entry_at}
 use Rattle.ps_bland.specs.Rules.{simplex_of, IsDone}
@@ -134,6 +136,11 @@ abbrev pub IsEnd : ClaimKind → LimitedSubject → State → State → End → 
 IsEnd kind r old new Feasible = HasCome kind r old new × IsDone (phase_of kind) new.table
 IsEnd kind r old new (NoneAbove d) = HasCome kind r old new × IsDualEnd kind r.subject (stage_of new) (entry_at new.table) d
 IsEnd kind r old new (Open cause) = IsOpen kind r old new cause
+
+-- the end at a refusal: the phase is open for the number that is too wide; want of memory is no end
+abbrev pub IsEndAt : TableError → End → Type 0
+IsEndAt (refused.Wide at) end = end ≡ Open (Wide at)
+IsEndAt refused.NoMemory end = ⊥
 
 -- what an end shows can be printed
 abbrev pub IsPrintedEnd : End → Type 0

@@ -1,9 +1,10 @@
 //! How a phase ends.
-ghost use Rattle.std.specs.Prelude.{◌≡◌};
-ghost use Rattle.ps_generation.specs.Phases.{IsPrintedEnd};
+ghost use Rattle.std.specs.Prelude.{IfOk};
+ghost use Rattle.ps_generation.specs.Phases.{IsEndAt, IsPrintedEnd};
 
 use ps_answer::{Cause, Dual};
-use ps_table::WideAt;
+use ps_io::NoMemory;
+use ps_table::TableError;
 
 /// How a phase ends.
 #[derive(Drop)]
@@ -16,12 +17,17 @@ pub enum End {
     Open(Cause),
 }
 
-/// An end at a number that is too wide.
-pub(crate) fn too_wide(at: WideAt) -> End
-    ensures is { result ≡ End.Open (Cause.Wide at) }
-    ensures printed { IsPrintedEnd result }
+/// The end at a number that is too wide, unless memory ran out.
+pub(crate) fn end_at(refused: TableError) -> Result<End, NoMemory>
+    ensures end { IfOk result (IsEndAt refused) }
+    ensures printed { IfOk result IsPrintedEnd }
 {
-    at.left.fits();
-    at.right.fits();
-    End::Open(Cause::Wide { at })
+    match refused {
+        TableError::Wide(at) => {
+            at.left.fits();
+            at.right.fits();
+            Ok(End::Open(Cause::Wide { at }))
+        }
+        TableError::NoMemory => Err(NoMemory),
+    }
 }

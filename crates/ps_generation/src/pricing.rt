@@ -8,7 +8,7 @@ ghost use Rattle.ps_generation.specs.Phases.{IsInPhase, IsPrintedEnd, most_colum
 ghost use Rattle.ps_generation.specs.Rounds.{IsAtRest, IsPricedIn, IsEntered};
 
 use crate::column::Column;
-use crate::end::{End, too_wide};
+use crate::end::{End, end_at};
 use crate::setting::Setting;
 use crate::state::State;
 use ps_answer::Cause;
@@ -17,7 +17,7 @@ use ps_formula::World;
 use ps_io::NoMemory;
 use ps_pool::{Event, Pool, PoolError};
 use ps_pricing::Pricing;
-use ps_table::{Costs, TableError};
+use ps_table::Costs;
 use std::alloc::Global;
 
 /// Adds a world that isn't there to the pool.
@@ -58,10 +58,8 @@ fn enter(
     state.trace.push(Event::Priced {
         world: world.copy(alloc)?,
     })?;
-    match state.table.add_world(&entries) {
-        Ok(_) => {}
-        Err(TableError::Wide(at)) => return Ok(Some(too_wide(at))),
-        Err(TableError::NoMemory) => return Err(NoMemory),
+    if let Err(refused) = state.table.add_world(&entries) {
+        return Ok(Some(end_at(refused)?));
     }
     // Called for its clauses: the table is in the form in which tables are kept.
     let _sound = state.table.rows();
@@ -91,8 +89,7 @@ pub(crate) fn priced(
 {
     let dual = match setting.dual(alloc, kind, &state.table, costs) {
         Ok(dual) => dual,
-        Err(TableError::Wide(at)) => return Ok(Some(too_wide(at))),
-        Err(TableError::NoMemory) => return Err(NoMemory),
+        Err(refused) => return Ok(Some(end_at(refused)?)),
     };
     match setting.price(alloc, kind, dual)? {
         Pricing::Found(world) => enter(alloc, setting, kind, state, costs, world),

@@ -8,7 +8,7 @@ ghost use Rattle.ps_runs.specs.Rows.{phase_of};
 ghost use Rattle.ps_generation.specs.Phases.{IsInPhase, IsPrintedEnd};
 ghost use Rattle.ps_generation.specs.Rounds.{IsPhaseSettled};
 
-use crate::end::{End, too_wide};
+use crate::end::{End, end_at};
 use crate::setting::Setting;
 use crate::state::State;
 use ps_answer::Cause;
@@ -71,7 +71,6 @@ pub(crate) fn settled(
         Ok(Settled::OutOfPivots) => Ok(Some(End::Open(Cause::Pivots {
             limit: setting.limits().pivots,
         }))),
-        Err(SettleError::Wide(at)) => Ok(Some(too_wide(at))),
-        Err(SettleError::NoMemory) => Err(NoMemory),
+        Err(refused) => Ok(Some(end_at(refused)?)),
     }
 }

@@ -1,25 +1,22 @@
 use Rattle.std.proofs.Common.{rules, ◌≡◌, ℤ, List, [], ◌∷◌, ◌++◌, subst}
 use Rattle.ps_pool.specs.declared.event.Event.TheVariants.{Priced}
 use Rattle.ps_table.specs.Tableau.{IsAdded, StandsWith}
-use Rattle.ps_table.specs.Places.{IsWideAt, NewPlaces}
-use Rattle.ps_answer.specs.declared.answer.Cause.TheVariants.{Wide}
+use Rattle.ps_table.specs.Places.{IsRefusedAt, NewPlaces}
 use Rattle.ps_runs.specs.Rows.{entries_of, world_cost}
 use Rattle.ps_runs.specs.Runs.{setting_of}
-use Rattle.ps_generation.specs.declared.end.End.TheVariants.{Open}
 use Rattle.ps_generation.proofs.Entered.{not_there, pending_wide, entered_phase, entered}
 use Rattle.ps_generation.proofs.pricing.enter.Goals as goal
 
-pub returns-in-Err-Wide-clause-end : goal.returns-in-Err-Wide-clause-end
-returns-in-Err-Wide-clause-end c =
+pub returns-in-Err-clause-end : goal.returns-in-Err-clause-end
+returns-in-Err-clause-end c =
     let old = c.args.state.now in
     let r = c.args.setting.now in
     let same : c.add_world.new.self ≡ old.table = search rules in
     let longer : c.push.new.self ≡ old.trace ++ Priced c.args.world ∷ [] = search rules in
     let entries : c.deref.result.now ≡ entries_of (setting_of r.subject) c.args.world = search rules in
-    let wide : IsWideAt (NewPlaces old.table c.deref.result.now) c.in-Err-Wide.at = search rules in
-    let is : c.too_wide.result ≡ Open (Wide c.in-Err-Wide.at) = search rules in
-    rw is (pending_wide c.args.kind r c.args.costs.now old c.args.world c.requires.phase c.requires.priced c.add_world.new.self c.push.new.self c.deref.result.now
-    c.in-Err-Wide.at same longer entries wide)
+    let wide : IsRefusedAt (NewPlaces old.table c.deref.result.now) c.in-Err.refused = search rules in
+    pending_wide c.args.kind r c.args.costs.now old c.args.world c.requires.phase c.requires.priced c.add_world.new.self c.push.new.self c.deref.result.now
+    c.in-Err.refused c.in_ok-end_at.field-0 same longer entries wide c.in_ok-end_at.ensures.end
 
 pub add_to_pool-requires-clause-fresh : goal.add_to_pool-requires-clause-fresh
 add_to_pool-requires-clause-fresh c = not_there c.args.kind c.args.setting.now c.args.costs.now c.args.state.now c.args.world c.requires.phase c.requires.priced

@@ -1,18 +1,15 @@
 use Rattle.std.proofs.Common.{rules, ◌≡◌, ap}
-use Rattle.ps_table.specs.Places.{IsWideAt}
+use Rattle.ps_table.specs.Places.{IsRefusedAt}
 use Rattle.ps_multiples.specs.Multiples.{DualPlaces}
-use Rattle.ps_answer.specs.declared.answer.Cause.TheVariants.{Wide}
 use Rattle.ps_pricing.specs.Pricings.{IsFound, IsRefuted, IsSpent}
-use Rattle.ps_generation.specs.declared.end.End.TheVariants.{Open}
 use Rattle.ps_generation.specs.Rounds.{pricing_subject_of}
 use Rattle.ps_generation.proofs.Priced.{dual_wide, found_priced, refuted_end, spent_end}
 use Rattle.ps_generation.proofs.pricing.priced.Goals as goal
 
-pub returns-in-Err-Wide-clause-end : goal.returns-in-Err-Wide-clause-end
-returns-in-Err-Wide-clause-end c =
-    let wide : IsWideAt (DualPlaces c.args.state.now.table c.args.costs.now) c.in-Err-Wide.at = search rules in
-    let is : c.too_wide.result ≡ Open (Wide c.in-Err-Wide.at) = search rules in
-    rw is (dual_wide c.args.kind c.args.setting.now c.args.costs.now c.args.state.now c.requires.phase c.requires.rests c.in-Err-Wide.at wide)
+pub returns-in-Err-clause-end : goal.returns-in-Err-clause-end
+returns-in-Err-clause-end c =
+    let wide : IsRefusedAt (DualPlaces c.args.state.now.table c.args.costs.now) c.in-Err.refused = search rules in
+    dual_wide c.args.kind c.args.setting.now c.args.costs.now c.args.state.now c.requires.phase c.requires.rests c.in-Err.refused c.in_ok-end_at-in-Err.field-0 wide c.in_ok-end_at-in-Err.ensures.end
 
 pub enter-requires-clause-priced : goal.enter-requires-clause-priced
 enter-requires-clause-priced c =

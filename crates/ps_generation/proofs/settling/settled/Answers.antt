@@ -2,10 +2,8 @@ use Rattle.std.proofs.Common.{rules, ◌≡◌, ap}
 use Rattle.ps_rule.specs.Rule.{IsMoving, IsResting}
 use Rattle.ps_table.specs.Pricing.{cost_at}
 use Rattle.ps_bland.specs.Rules.{simplex_of, IsDone}
-use Rattle.ps_bland.specs.Ends.{IsDueWide}
-use Rattle.ps_answer.specs.declared.answer.Cause.TheVariants.{Wide}
+use Rattle.ps_bland.specs.Ends.{IsDueRefusal}
 use Rattle.ps_runs.specs.Rows.{phase_of}
-use Rattle.ps_generation.specs.declared.end.End.TheVariants.{Open}
 use Rattle.ps_generation.specs.Phases.{IsInPhase}
 use Rattle.ps_generation.proofs.Settled.{settled_phase, settled_rest, settled_done, settled_out, settled_wide}
 use Rattle.ps_generation.proofs.settling.settled.Goals as goal
@@ -44,15 +42,14 @@ returns-in-Ok-OutOfPivots-clause-end c =
     settled_out c.args.kind c.args.setting.now c.args.costs.now c.args.state.now c.pivoted.new.state c.requires.phase c.pivoted.ensures.pool c.pivoted.ensures.ran
     c.pivoted.ensures.tableau c.pivoted.ensures.ready c.limits.result.pivots limit out
 
-pub returns-in-Err-Wide-clause-phase : goal.returns-in-Err-Wide-clause-phase
-returns-in-Err-Wide-clause-phase c = phase_kept (goal.at.returns-in-Err-Wide-clause-phase c).After-pivoted
+pub returns-in_ok-end_at-in-Err-clause-phase : goal.returns-in_ok-end_at-in-Err-clause-phase
+returns-in_ok-end_at-in-Err-clause-phase c = phase_kept (goal.at.returns-in_ok-end_at-in-Err-clause-phase c).After-pivoted
 
-pub returns-in-Err-Wide-clause-end : goal.returns-in-Err-Wide-clause-end
-returns-in-Err-Wide-clause-end c =
-    let due : IsDueWide (phase_of c.args.kind) c.args.costs.now c.pivoted.new.state.table c.pivoted.new.state.left c.in-Err-Wide.at = search rules in
-    let is : c.too_wide.result ≡ Open (Wide c.in-Err-Wide.at) = search rules in
-    rw is (settled_wide c.args.kind c.args.setting.now c.args.costs.now c.args.state.now c.pivoted.new.state c.requires.phase c.pivoted.ensures.pool
-    c.pivoted.ensures.ran c.pivoted.ensures.tableau c.pivoted.ensures.ready c.in-Err-Wide.at due)
+pub returns-in_ok-end_at-in-Err-clause-end : goal.returns-in_ok-end_at-in-Err-clause-end
+returns-in_ok-end_at-in-Err-clause-end c =
+    let due : IsDueRefusal (phase_of c.args.kind) c.args.costs.now c.pivoted.new.state.table c.pivoted.new.state.left c.in-Err.refused = search rules in
+    settled_wide c.args.kind c.args.setting.now c.args.costs.now c.args.state.now c.pivoted.new.state c.requires.phase c.pivoted.ensures.pool
+    c.pivoted.ensures.ran c.pivoted.ensures.tableau c.pivoted.ensures.ready c.in-Err.refused c.in_ok-end_at-in-Err.field-0 due c.in_ok-end_at-in-Err.ensures.end
 
-pub returns-in-Err-NoMemory-clause-phase : goal.returns-in-Err-NoMemory-clause-phase
-returns-in-Err-NoMemory-clause-phase c = phase_kept (goal.at.returns-in-Err-NoMemory-clause-phase c).After-pivoted
+pub returns-in_err-end_at-in-Err-clause-phase : goal.returns-in_err-end_at-in-Err-clause-phase
+returns-in_err-end_at-in-Err-clause-phase c = phase_kept (goal.at.returns-in_err-end_at-in-Err-clause-phase c).After-pivoted
