@@ -4,14 +4,16 @@ ghost use Rattle.ps_problem.specs.declared.limits.TheConstants.{MOST_BOUNDS, MOS
 ghost use Rattle.ps_problem.specs.declared.limits.TheConstants.{MOST_NESTING, MOST_DENOMINATOR};
 ghost use Rattle.ps_problem.specs.declared.limits.TheConstants.{MOST_DRAFTED, MOST_ROW_VALUE};
 
+use ps_text::{GREATEST_DENOMINATOR, MOST_OPEN};
+
 /// The most bounds; an interval has two.
 pub const MOST_BOUNDS: usize = 100;
 /// The most queries.
 pub const MOST_QUERIES: usize = 16;
 /// How deep the canonical spelling of a formula nests at most.
-pub const MOST_NESTING: usize = 100;
+pub const MOST_NESTING: usize = MOST_OPEN;
 /// The greatest denominator of a value.
-pub const MOST_DENOMINATOR: usize = 1_000_000;
+pub const MOST_DENOMINATOR: usize = GREATEST_DENOMINATOR as usize;
 /// The most names, formulas and items of a draft.
 pub const MOST_DRAFTED: u32 = u32::MAX;
 /// The greatest size of what the row of a bound has in a world.
@@ -24,5 +26,5 @@ pub fn limits_have_these_numbers()
     ensures nesting { MOST_NESTING ≡ 100 }
     ensures denominator { MOST_DENOMINATOR ≡ 1000000 }
     ensures drafted { MOST_DRAFTED ≡ 2 ^ 32 - 1 }
-    ensures entry { MOST_ROW_VALUE ≡ 2 ^ 32 - 1 }
+    ensures row { MOST_ROW_VALUE ≡ 2 ^ 32 - 1 }
 {}
