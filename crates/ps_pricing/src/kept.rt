@@ -4,7 +4,7 @@ ghost use Rattle.ps_problem.specs.Problems.{bounds_in};
 ghost use Rattle.ps_runs.specs.Kept.{kept_of};
 
 use ps_io::{List, NoMemory};
-use ps_problem::{Bound, Sentence, Sentences};
+use ps_problem::{Bound, Sentence, Sentences, push_bounds};
 use std::alloc::Global;
 
 // Adds a sentence, where it is kept.
@@ -31,17 +31,6 @@ pub(crate) fn kept_sentences(
         push_kept(&mut found, kept[i], sentences[i])?;
     }
     Ok(found)
-}
-
-// Adds the bounds of a sentence.
-fn push_bounds(bounds: &mut List<Bound>, sentence: Sentence) -> Result<(), NoMemory>
-    ensures { OnOk result (bounds.new ≡ bounds.old ++ bounds_in (sentence ∷ [])) }
-{
-    bounds.push(sentence.first)?;
-    match sentence.second {
-        Some(second) => bounds.push(second),
-        None => Ok(()),
-    }
 }
 
 /// The bounds of sentences.

@@ -60,8 +60,8 @@ fn sentence(query: Query, item: DraftSentence) -> Sentence
     }
 }
 
-// Puts a sentence's bounds behind those before them.
-fn push_bounds(bounds: &mut List<Bound>, sentence: Sentence) -> Result<(), NoMemory>
+/// Puts a sentence's bounds behind those before them.
+pub fn push_bounds(bounds: &mut List<Bound>, sentence: Sentence) -> Result<(), NoMemory>
     ensures { OnOk result (bounds.new ≡ bounds.old ++ bounds_in (sentence ∷ [])) }
 {
     bounds.push(sentence.first)?;

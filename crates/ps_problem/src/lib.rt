@@ -19,7 +19,7 @@ mod row;
 mod sentence;
 mod span;
 
-pub use assembly::build;
+pub use assembly::{build, push_bounds};
 pub use bound::Bound;
 pub use build_error::BuildError;
 pub use draft::Draft;
