@@ -6,7 +6,7 @@ use Rattle.ps_meaning.specs.Formula.{World}
 use Rattle.ps_formula.specs.declared.node.Node.{Node}
 use Rattle.ps_formula.specs.Nodes.{truths}
 use Rattle.ps_problem.specs.declared.bound.Bound.{Bound}
-use Rattle.ps_problem.specs.Rows.{indicator_of, given_indicator, row_over, turned}
+use Rattle.ps_problem.specs.Rows.{indicator_of, given_indicator, row_over, signed_by}
 use Rattle.ps_table.specs.declared.home.Home.{Home}
 use Rattle.ps_table.specs.declared.home.Home.TheVariants.{Slack, Artificial}
 use Rattle.ps_rule.specs.declared.phase.Phase.{Phase}
@@ -15,7 +15,7 @@ use Rattle.ps_rule.specs.declared.phase.Phase.TheVariants.{One, Lower, Upper}
 -- ---- columns of worlds
 -- a bound's entry in a world's column
 abbrev pub entry_over : List Bool → Bound → ℤ
-entry_over values b = turned b.side (row_over values b)
+entry_over values b = signed_by b.side (row_over values b)
 
 -- the column of a world: whether the evidence is true in it, and the entry of each bound's row
 abbrev pub column_over : List Bool → List Bound → Option ℕ → List ℤ

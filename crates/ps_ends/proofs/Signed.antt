@@ -5,7 +5,7 @@ use Rattle.std.proofs.lemmas.List.Elements.{All-nil, All-append, All-cons}
 use Rattle.ps_formula.specs.declared.node.Node.{Node}
 use Rattle.ps_problem.specs.declared.bound.Bound.{Bound}
 use Rattle.ps_problem.specs.Problems.{bound_of}
-use Rattle.ps_problem.specs.Rows.{turned}
+use Rattle.ps_problem.specs.Rows.{signed_by}
 use Rattle.ps_runs.specs.Certificates.{signed, top_of, head_of}
 use Rattle.ps_table.specs.declared.costs.Costs.{Costs}
 use Rattle.ps_table.specs.Tableau.{Tableau, rows_of}
@@ -18,9 +18,9 @@ use Rattle.ps_ends.specs.Duals.{AreSigned, IsTableDual, bound_numbers}
 
 -- one more bound
 signed_one : (ns : List Node) (bs : List Bound) (b : Bound) (P : ℕ → ℤ)
-    → signed (map (bound_of ns) (bs ++ b ∷ [])) P ≡ signed (map (bound_of ns) bs) P ++ turned b.side (P (length bs)) ∷ []
+    → signed (map (bound_of ns) (bs ++ b ∷ [])) P ≡ signed (map (bound_of ns) bs) P ++ signed_by b.side (P (length bs)) ∷ []
 signed_one ns [] b P = refl
-signed_one ns (c ∷ bs) b P = ap (λ ys. turned c.side (P 0) ∷ ys) (signed_one ns bs b (λ i. P (suc i)))
+signed_one ns (c ∷ bs) b P = ap (λ ys. signed_by c.side (P 0) ∷ ys) (signed_one ns bs b (λ i. P (suc i)))
 
 length_before : (bs : List Bound) (i : ℕ) → i < length bs → length (take i bs) ≡ i
 length_before bs zero h = refl
@@ -28,13 +28,13 @@ length_before [] (suc i) h = absurd (omega (arith, h))
 length_before (b ∷ bs) (suc i) h = ap suc (length_before bs i (omega (arith, h)))
 
 pub next_row : (bs : List Bound) (P : ℕ → ℤ) (i : ℕ) (rows more : List ℤ) (d : Bound) (y z : ℤ) → i < length bs → AreSigned (take i bs) P rows
-    → y ≡ P i → z ≡ turned (get_or bs i d).side y → more ≡ rows ++ z ∷ [] → AreSigned (take (i + 1) bs) P more
+    → y ≡ P i → z ≡ signed_by (get_or bs i d).side y → more ≡ rows ++ z ∷ [] → AreSigned (take (i + 1) bs) P more
 next_row bs P i rows more d y z h so_far ey ez grown = λ ns.
     let b = get_or bs i d in
     let next : i + 1 ≡ suc i = omega arith in
     let split : take (i + 1) bs ≡ take i bs ++ b ∷ [] = ap (λ k. take k bs) next ∙ take-suc bs i d h in
     let place : length (take i bs) ≡ i = length_before bs i h in
-    let here : z ≡ turned b.side (P (length (take i bs))) = ez ∙ ap (turned b.side) ey ∙ ap (λ k. turned b.side (P k)) (sym place) in
+    let here : z ≡ signed_by b.side (P (length (take i bs))) = ez ∙ ap (signed_by b.side) ey ∙ ap (λ k. signed_by b.side (P k)) (sym place) in
     grown ∙ (λ k. so_far ns k ++ here k ∷ []) ∙ sym (signed_one ns (take i bs) b P) ∙ ap (λ cs. signed (map (bound_of ns) cs) P) (sym split)
 
 pub next_small : (rows more : List ℤ) (z : ℤ) → All IsMultiplier rows → IsMultiplier z → more ≡ rows ++ z ∷ [] → All IsMultiplier more
@@ -47,7 +47,7 @@ signed_same ns [] P Q h = refl
 signed_same ns (b ∷ bs) P Q h =
     let here : P 0 ≡ Q 0 = h 0 (omega arith) in
     let rest = signed_same ns bs (λ i. P (suc i)) (λ i. Q (suc i)) (λ i l. h (suc i) (omega (arith, l))) in
-    λ k. turned b.side (here k) ∷ rest k
+    λ k. signed_by b.side (here k) ∷ rest k
 
 count_signed : (bs : List Bound) (P : ℕ → ℤ) → length (signed (map (bound_of []) bs) P) ≡ length bs
 count_signed [] P = refl

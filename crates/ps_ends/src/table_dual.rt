@@ -5,7 +5,7 @@ ghost use Rattle.ps_table.specs.Tableau.{rows_of};
 ghost use Rattle.ps_table.specs.Pricing.{HasCosts};
 ghost use Rattle.ps_table.specs.Places.{IsNarrow, IsRefusedAt};
 ghost use Rattle.ps_multiples.specs.Multiples.{DualPlaces};
-ghost use Rattle.ps_problem.specs.Rows.{turned};
+ghost use Rattle.ps_problem.specs.Rows.{signed_by};
 ghost use Rattle.ps_runs.specs.Certificates.{top_of, head_of};
 ghost use Rattle.ps_certificate.specs.Certificates.{IsMultiplier, IsSmallDual};
 ghost use Rattle.ps_ends.specs.Duals.{AreSigned, IsTableDual, bound_numbers};
@@ -45,7 +45,7 @@ fn head_of(kind: ClaimKind, number: i128) -> i128
 /// A bound's multiplier: that of its row, turned round for a lower bound.
 fn multiplier_of(side: Side, number: i128) -> i128
     requires { IsMultiplier number }
-    ensures value { result ≡ turned side number }
+    ensures value { result ≡ signed_by side number }
     ensures small { IsMultiplier result }
 {
     match side {

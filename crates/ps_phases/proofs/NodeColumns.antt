@@ -35,7 +35,7 @@ module _ (ns : List Node) (w : World) where
   row_is b is = λ i. (pos b.den *ℤ (indicator_at b.both ∙ both-indicator ns w b.formula b.given b.both is.nodes.both_is) i) -ℤ (pos b.num *ℤ given_is b.given i)
 
   entry_is : (b : Bound) → IsBound ns b → over.entry_over (truths ns w) b ≡ entry_in w (bound_of ns b)
-  entry_is b is = ap (rows.turned b.side) (row_is b is)
+  entry_is b is = ap (rows.signed_by b.side) (row_is b is)
 
   entries_are : (bs : List Bound) → All (IsBound ns) bs → map (over.entry_over (truths ns w)) bs ≡ map (entry_in w) (map (bound_of ns) bs)
   entries_are [] are = refl

@@ -27,7 +27,7 @@ abbrev pub row_over : List Bool → Bound → ℤ
 row_over truth b = (pos b.den *ℤ indicator_of truth b.both) -ℤ (pos b.num *ℤ given_indicator truth b.given)
 
 -- a number of a bound's row, with the sign that leaves it at most 0 where the bound is met: turned round at a lower bound
-abbrev pub turned : Side → ℤ → ℤ
-turned AtLeast z = neg_ℤ z
-turned AtMost z = z
-turned Exactly z = z
+abbrev pub signed_by : Side → ℤ → ℤ
+signed_by AtLeast z = neg_ℤ z
+signed_by AtMost z = z
+signed_by Exactly z = z
