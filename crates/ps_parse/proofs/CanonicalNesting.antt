@@ -8,7 +8,8 @@ use Rattle.ps_meaning.specs.Statements.{Name}
 use Rattle.ps_text.specs.Grammar as grammar
 use Rattle.ps_text.specs.Grammar.{FormulaSyntax, level, IsWellFormed, Nests}
 use Rattle.ps_text.specs.Meanings.{formula_of}
-use Rattle.ps_problem.specs.Drafts.{parenthesis, nesting_at, canonical_nesting}
+use Rattle.ps_text.specs.Canonical.{parenthesis, nesting_at, canonical_nesting}
+use Rattle.ps_text.proofs.Nesting.{least_level}
 
 -- no parentheses where the level is high enough, and one pair at most
 no_parenthesis : (k l : ℕ) → k ≤ l → parenthesis k l ≡ 0
@@ -32,18 +33,7 @@ one_deeper (formula.Or f g) k = let p = one_parenthesis k 3 in omega (arith, p)
 one_deeper (formula.Implies f g) k = let p = one_parenthesis k 2 in omega (arith, p)
 one_deeper (formula.Iff f g) k = let p = one_parenthesis k 1 in omega (arith, p)
 
-least_level : (f : FormulaSyntax) → 1 ≤ level f
-least_level (grammar.Iff f g) = omega arith
-least_level (grammar.Implies f g) = omega arith
-least_level (grammar.Or f g) = omega arith
-least_level (grammar.And f g) = omega arith
-least_level (grammar.Name w) = omega arith
-least_level grammar.Truth = omega arith
-least_level grammar.Falsity = omega arith
-least_level (grammar.Not f) = omega arith
-least_level (grammar.Group f) = omega arith
-
--- a form that binds tightly enough nests so deep as its canonical form or deeper, where n are open before
+-- what binds tightly enough nests so deep as its canonical form or deeper, where n are open before
 nested : (f : FormulaSyntax) (k n : ℕ) → k ≤ level f → n ≤ 100 → IsWellFormed f → Nests n f → n + nesting_at k (formula_of f) ≤ 100
 nested (grammar.Name w) k n l m i h = omega (arith, m)
 nested grammar.Truth k n l m i h = omega (arith, m)

@@ -24,7 +24,8 @@ use Rattle.ps_text.proofs.Derived.{steps}
 use Rattle.ps_lex.specs.declared.token.Token.{Token}
 use Rattle.ps_lex.specs.declared.token.Token.TheVariants as token
 use Rattle.ps_expect.specs.KeptTokens.{token_of}
-use Rattle.ps_problem.specs.Drafts.{Drafted, canonical_nesting}
+use Rattle.ps_text.specs.Canonical.{canonical_nesting}
+use Rattle.ps_problem.specs.Drafts.{Drafted}
 use Rattle.ps_parse.specs.Pending.{Pending, reduced, reduced_from, firsts, HaveFirst, HaveAll, IsEndable}
 use Rattle.ps_parse.specs.Machine.{ItemSoFar, Work, Machine}
 use Rattle.ps_parse.specs.Derivations.{operators_of, lefts_of, HasFormula, IsWorkOf, IsParsed}
@@ -148,27 +149,27 @@ number_alike t = refl
 first_sound : (es : List ItemSyntax) (p : Prob) (t : text.Token) → AreWellFormedItems es × IsProb p → refusal (outside part.First) t ≡ None → IsProbability (number_in t)
 first_sound es p t s r = (steps (InFirst es p) t s r).within.2
 
-ready : (p : Parse) (t : text.Token) (w : Work) → IsWordKept t → IsParse p → IsWorkOf p w → refusal (state_of p) t ≡ None → MayBeTaken (state_of p).part w t
-ready InPsat t w k s h r = tt
-ready InVersion t w k s h r = tt
-ready InHeadEnd t w k s h r = tt
-ready (InItem es) t w k s h r = tt
-ready (InQueryProb es) t w k s h r = tt
-ready (InTextEnd es) t w k s h r = tt
-ready (InDone es) t w k s h r = tt
-ready (InParen es q) t w k s h r = tt
-ready (InOperand es q c fs) t w k s h r = (have_first fs w.pending h.operators h.«open», is_operand es q c fs t k r)
-ready (InOperator es q c fs f) t w k s h r = (have_all fs f w.pending h.operators h.«open», may_end es q c fs f w s h t r)
-ready (InRelation es p) t w k s h r = tt
-ready (InBracket es p) t w k s h r = tt
-ready (InFirst es p) t w k s h r = first_sound es p t s r
-ready (InNumber es p x) t w k s h r = (h.item.0.below, first_sound es p t (s.0, s.1) (sym (number_alike t) ∙ r))
-ready (InComma es p x) t w k s h r = tt
-ready (InSecond es p x) t w k s h r = (h.item.0.below, (steps (InSecond es p x) t s r).within.3, is_ratio x w.item.least s.2 h.item.2, h.item.1)
-ready (InBracketEnd es p x y) t w k s h r = tt
-ready (InItemEnd es e) t w k s h r = tt
+may_be_taken : (p : Parse) (t : text.Token) (w : Work) → IsWordKept t → IsParse p → IsWorkOf p w → refusal (state_of p) t ≡ None → MayBeTaken (state_of p).part w t
+may_be_taken InPsat t w k s h r = tt
+may_be_taken InVersion t w k s h r = tt
+may_be_taken InHeadEnd t w k s h r = tt
+may_be_taken (InItem es) t w k s h r = tt
+may_be_taken (InQueryProb es) t w k s h r = tt
+may_be_taken (InTextEnd es) t w k s h r = tt
+may_be_taken (InDone es) t w k s h r = tt
+may_be_taken (InParen es q) t w k s h r = tt
+may_be_taken (InOperand es q c fs) t w k s h r = (have_first fs w.pending h.operators h.«open», is_operand es q c fs t k r)
+may_be_taken (InOperator es q c fs f) t w k s h r = (have_all fs f w.pending h.operators h.«open», may_end es q c fs f w s h t r)
+may_be_taken (InRelation es p) t w k s h r = tt
+may_be_taken (InBracket es p) t w k s h r = tt
+may_be_taken (InFirst es p) t w k s h r = first_sound es p t s r
+may_be_taken (InNumber es p x) t w k s h r = (h.item.0.below, first_sound es p t (s.0, s.1) (sym (number_alike t) ∙ r))
+may_be_taken (InComma es p x) t w k s h r = tt
+may_be_taken (InSecond es p x) t w k s h r = (h.item.0.below, (steps (InSecond es p x) t s r).within.3, is_ratio x w.item.least s.2 h.item.2, h.item.1)
+may_be_taken (InBracketEnd es p x y) t w k s h r = tt
+may_be_taken (InItemEnd es e) t w k s h r = tt
 
-pub ready_at : (m : Machine) (t : Token) → IsParsed m → IsKept t → refusal m.state (token_of t) ≡ None → MayBeTaken m.state.part m.work (token_of t)
-ready_at m t i k r =
+pub may_be_taken_at : (m : Machine) (t : Token) → IsParsed m → IsKept t → refusal m.state (token_of t) ≡ None → MayBeTaken m.state.part m.work (token_of t)
+may_be_taken_at m t i k r =
     let same = i.stands.state in
-    subst (λ s. MayBeTaken s.part m.work (token_of t)) (sym same) (ready i.parse (token_of t) m.work (word_kept t k) i.stands.sound i.stands.work (subst (λ s. refusal s (token_of t) ≡ None) same r))
+    subst (λ s. MayBeTaken s.part m.work (token_of t)) (sym same) (may_be_taken i.parse (token_of t) m.work (word_kept t k) i.stands.sound i.stands.work (subst (λ s. refusal s (token_of t) ≡ None) same r))

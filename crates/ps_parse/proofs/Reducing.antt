@@ -10,6 +10,7 @@ use Rattle.ps_meaning.specs.Statements.{Name}
 use Rattle.ps_text.specs.Grammar.{FormulaSyntax}
 use Rattle.ps_text.specs.Meanings.{formula_of}
 use Rattle.ps_text.specs.BegunFormulas.{Frame, BegunNot, BegunGroup, BegunAnd, BegunOr, BegunImplies, BegunIff, own_level, joined, joins}
+use Rattle.ps_text.proofs.Frames.{joined_if}
 use Rattle.ps_problem.specs.declared.mark.Mark.TheVariants as mark
 use Rattle.ps_problem.specs.Drafts.{Drafted, from_top, marked, with_mark}
 use Rattle.ps_parse.specs.declared.operator.Operator.{Operator}
@@ -71,11 +72,8 @@ pub record IsReduced (d : Drafted) (p : Pending) (fs : List Frame) (f : FormulaS
 least_one : (k n : ℕ) → 1 ≤ k → nat_le k n ≡ true → 1 ≤ n
 least_one k n h e = let l : k ≤ n = grind (arith, nat_tests) in omega (arith, h, l)
 
-abbrev chosen_pending : ℕ → Operator → List Operator → Drafted → Bool → Pending
-chosen_pending k o os d b = if b then reduced_from k os (with_mark d (mark_of o)) else record { operators = o ∷ os; draft = d }
-
-abbrev chosen_join : ℕ → Frame → List Frame → FormulaSyntax → Bool → List Frame × FormulaSyntax
-chosen_join k x fs f b = if b then joins k fs (joined x f) else (x ∷ fs, f)
+abbrev reduced_if : ℕ → Operator → List Operator → Drafted → Bool → Pending
+reduced_if k o os d b = if b then reduced_from k os (with_mark d (mark_of o)) else record { operators = o ∷ os; draft = d }
 
 pub reduces : (k : ℕ) (fs : List Frame) (f : FormulaSyntax) (d : Drafted) → 1 ≤ k → d.«open» ≡ lefts_of fs ++ formula_of f ∷ []
     → IsReduced d (reduced_from k (operators_of fs) d) (joins k fs f).0 (joins k fs f).1
@@ -85,7 +83,7 @@ reduces k (x ∷ fs) f d h e = by (nat_le k (binding (operator_of x))) (nat_le k
   where
     by : (b c : Bool) → nat_le k (own_level x) ≡ c → b ≡ c
         → (1 ≤ own_level x → IsReduced (with_mark d (mark_of (operator_of x))) (reduced_from k (operators_of fs) (with_mark d (mark_of (operator_of x)))) (joins k fs (joined x f)).0 (joins k fs (joined x f)).1)
-        → IsReduced d (chosen_pending k (operator_of x) (operators_of fs) d b) (chosen_join k x fs f c).0 (chosen_join k x fs f c).1
+        → IsReduced d (reduced_if k (operator_of x) (operators_of fs) d b) (joined_if k x fs f c).0 (joined_if k x fs f c).1
     by true true t s rest = let r = rest (least_one k (own_level x) h t) in record { operators = r.operators; «open» = r.«open»; formulas = r.formulas; items = r.items }
     by false false t s rest = record { operators = refl; «open» = e; formulas = refl; items = refl }
     by true false t s rest = absurd (true≢false s)

@@ -12,7 +12,7 @@ use Rattle.ps_parse.specs.Derivations.{IsParsed}
 use Rattle.ps_parse.specs.Taking.{IsKept, CountsAtMost, begun_at, IsTaken}
 use Rattle.ps_parse.specs.Kept.{machine_of, places_of}
 use Rattle.ps_parse.proofs.Next.{followed}
-use Rattle.ps_parse.proofs.Readiness.{ready_at}
+use Rattle.ps_parse.proofs.Readiness.{may_be_taken_at}
 use Rattle.ps_parse.proofs.Counting.{counted}
 
 -- what a parser has done with a token
@@ -42,7 +42,7 @@ is_taken old new t place part i k d =
       passed = d.passed;
       machine = m;
       parsed = subst (λ x. IsParsed x) (sym m) (record { parse = parsed i.parse (token_of t); stands = followed i.parse (machine_of old) (token_of t) i.stands d.passed });
-      counts = λ n h. subst (λ x. CountsAtMost (n + 1) x) (sym m) (counted n (machine_of old) (token_of t) (ready_at (machine_of old) t i k d.passed) h);
+      counts = λ n h. subst (λ x. CountsAtMost (n + 1) x) (sym m) (counted n (machine_of old) (token_of t) (may_be_taken_at (machine_of old) t i k d.passed) h);
       places = d.places ∙ ap (λ p. places_of old ++ begun_at p (token_of t) place) d.part_is;
     }
 

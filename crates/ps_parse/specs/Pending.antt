@@ -3,7 +3,8 @@ use Rattle.std.specs.Prelude.{◌≡◌, ◌≤◌, All, ℕ, suc, nat_le, if◌
 use Rattle.ps_problem.specs.declared.mark.Mark.{Mark}
 use Rattle.ps_problem.specs.declared.mark.Mark.TheVariants as mark
 use Rattle.ps_problem.specs.declared.limits.TheConstants.{MOST_NESTING}
-use Rattle.ps_problem.specs.Drafts.{Drafted, with_mark, canonical_nesting}
+use Rattle.ps_text.specs.Canonical.{canonical_nesting}
+use Rattle.ps_problem.specs.Drafts.{Drafted, with_mark}
 use Rattle.ps_parse.specs.declared.operator.Operator.{Operator}
 use Rattle.ps_parse.specs.declared.operator.Operator.TheVariants as operator
 

@@ -4,11 +4,12 @@ ghost use Rattle.ps_meaning.specs.Names.{IsName};
 ghost use Rattle.ps_problem.specs.declared.limits.TheConstants.{MOST_DRAFTED};
 ghost use Rattle.ps_problem.specs.Drafts.{with_formula};
 ghost use Rattle.ps_expect.specs.KeptTokens.{token_of};
-ghost use Rattle.ps_parse.specs.Pending.{binding, reducible, reduced, waiting, HaveFirst, HaveAll};
+ghost use Rattle.ps_parse.specs.Pending.{binding, reducible, waiting, HaveFirst, HaveAll};
 ghost use Rattle.ps_parse.specs.Pending.{is_grouped, group_closed, IsEndable};
-ghost use Rattle.ps_parse.specs.Machine.{operand_taken, with_atom, with_constant, with_word};
+ghost use Rattle.ps_parse.specs.Machine.{with_atom, with_constant, with_word};
 ghost use Rattle.ps_parse.specs.Ready.{IsOperand, IsOperandWord};
 ghost use Rattle.ps_parse.specs.Kept.{pending_of, draft_of, EndsOperand};
+ghost use Rattle.ps_parse.specs.Kept.{Reduces, TakesOperand, Connects};
 
 use crate::operator::Operator;
 use ps_expect::Stack;
@@ -60,8 +61,7 @@ impl FormulaParser {
     pub(crate) fn reduce(&mut self, operator: Operator) -> Result<(), NoMemory>
         requires operator { 1 ≤ binding operator }
         requires operands { HaveAll (pending_of self.old) }
-        ensures reduced { OnOk result
-            (pending_of self.new ≡ reduced (binding operator) (pending_of self.old)) }
+        ensures reduced { OnOk result (Reduces operator self.old self.new) }
         ensures operands { OnOk result (HaveAll (pending_of self.new)) }
     {
         let level = operator.binding();
@@ -110,8 +110,7 @@ impl FormulaParser {
         requires operand { IsOperand (token_of token.now) }
         requires room { length (draft_of self.old).names < MOST_DRAFTED }
         requires operands { HaveFirst (pending_of self.old) }
-        ensures { OnOk result
-            (pending_of self.new ≡ operand_taken (pending_of self.old) (token_of token.now)) }
+        ensures { OnOk result (TakesOperand (token_of token.now) self.old self.new) }
     {
         match token {
             Token::Sign(Symbol::Bang) => self.wait(Operator::Not),
@@ -142,8 +141,7 @@ impl FormulaParser {
     pub(crate) fn connective(&mut self, level: Operator, operator: Operator) -> Result<(), NoMemory>
         requires level { 1 ≤ binding level }
         requires operands { HaveAll (pending_of self.old) }
-        ensures { OnOk result (pending_of self.new
-            ≡ waiting operator (reduced (binding level) (pending_of self.old))) }
+        ensures { OnOk result (Connects level operator self.old self.new) }
     {
         self.reduce(level)?;
         self.wait(operator)

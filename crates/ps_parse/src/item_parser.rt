@@ -3,11 +3,11 @@ ghost use Rattle.std.specs.Prelude.{◌≡◌, ◌<◌, [], length, OnOk, option
 ghost use Rattle.ps_problem.specs.declared.limits.TheConstants.{MOST_DRAFTED};
 ghost use Rattle.ps_problem.specs.Drafts.{IsRatio, IsUpperOf};
 ghost use Rattle.ps_expect.specs.KeptTokens.{token_of};
-ghost use Rattle.ps_parse.specs.Pending.{reduced, HaveAll, IsEndable};
-ghost use Rattle.ps_parse.specs.Machine.{formula_ended, asked, closed, operator_taken};
-ghost use Rattle.ps_parse.specs.Machine.{at_first, given_taken, with_sentence, side_in, taken_at};
+ghost use Rattle.ps_parse.specs.Pending.{HaveAll, IsEndable};
+ghost use Rattle.ps_parse.specs.Machine.{formula_ended, asked, operator_taken};
+ghost use Rattle.ps_parse.specs.Machine.{at_first, given_taken, side_in, taken_at};
 ghost use Rattle.ps_parse.specs.Ready.{HasRoom, HasDraftedFormulas, IsWhole, MayClose, MayEnd, MayBeTaken};
-ghost use Rattle.ps_parse.specs.Kept.{draft_of, ratio_of, work_of};
+ghost use Rattle.ps_parse.specs.Kept.{draft_of, ratio_of, work_of, Closes, States};
 
 use crate::formula_parser::FormulaParser;
 use crate::item_so_far::ItemSoFar;
@@ -80,8 +80,7 @@ impl ItemParser {
         requires operands { HaveAll (work_of self.old).pending }
         requires end { MayClose (work_of self.old) }
         requires room { HasRoom (work_of self.old) }
-        ensures { OnOk result (work_of self.new
-            ≡ closed (work_of self.old).item (reduced 1 (work_of self.old).pending)) }
+        ensures { OnOk result (Closes self.old self.new) }
     {
         if self.formulas.close()? {
             return Ok(());
@@ -136,8 +135,7 @@ impl ItemParser {
         requires value { IsRatio value.num value.den }
         requires upper { IsUpperOf self.old.item.side (option_map ratio_of upper) }
         requires room { HasRoom (work_of self.old) }
-        ensures { OnOk result (work_of self.new
-            ≡ with_sentence (work_of self.old) (ratio_of value) (option_map ratio_of upper)) }
+        ensures { OnOk result (States value upper self.old self.new) }
     {
         let ItemSoFar {
             formula,
@@ -157,7 +155,7 @@ impl ItemParser {
 
     /// Takes a token at this part of a text. For want of memory only some of this may be done.
     pub(crate) fn take(&mut self, part: Part, token: &Token) -> Result<(), NoMemory>
-        requires ready { MayBeTaken part (work_of self.old) (token_of token.now) }
+        requires token { MayBeTaken part (work_of self.old) (token_of token.now) }
         requires room { HasRoom (work_of self.old) }
         ensures { OnOk result
             (work_of self.new ≡ taken_at part (work_of self.old) (token_of token.now)) }

@@ -140,7 +140,7 @@ module _ (names : List Name) (atoms : List ℕ) (nodes : List Node) (h : Built n
         = sym (get_or-map (node_in h.formulas) h.formulas j (Atom (name_at names k)))
         ∙ defaults (map (node_in h.formulas) h.formulas) j (node_in h.formulas (Atom (name_at names k))) (node.Atom (place_in nat_eq atoms k)) (omega (arith, length-map h.formulas (node_in h.formulas)))
         ∙ ap (λ ns. get_or ns j (node.Atom (place_in nat_eq atoms k))) (sym h.nodes_are) ∙ c.2 in
-        never (get_or h.formulas j (Atom (name_at names k))) (h.ready j (Atom (name_at names k)) l) at
+        never (get_or h.formulas j (Atom (name_at names k))) (h.operands j (Atom (name_at names k)) l) at
       where
         never : (f : Formula Name) → AreOperandsAmong h.formulas f → node_in h.formulas f ≡ node.Atom (place_in nat_eq atoms k) → ⊥
         never (Atom b) r e =

@@ -10,7 +10,8 @@ use Rattle.ps_problem.specs.declared.mark.Mark.{Mark}
 use Rattle.ps_problem.specs.declared.span.Span.{Span}
 use Rattle.ps_problem.specs.declared.draft_item.DraftItem.{DraftItem}
 use Rattle.ps_problem.specs.Numbering.{same_name, with_new}
-use Rattle.ps_problem.specs.Drafts.{arity, NameBelow, canonical_nesting, with_name, with_mark, with_formula}
+use Rattle.ps_text.specs.Canonical.{canonical_nesting}
+use Rattle.ps_problem.specs.Drafts.{arity, NameBelow, with_name, with_mark, with_formula}
 use Rattle.ps_problem.specs.DraftLists.{open_after, part, spelled, item_of, IsDraftItem, drafted, IsSpan, IsDraft}
 use Rattle.ps_problem.specs.Numbering.{AreOnce}
 use Rattle.ps_problem.proofs.NameLists.{same_name-true, same_name-refl}

@@ -154,7 +154,7 @@ module _ (d : Drafted) where
       different = once;
       atoms_are = refl;
       nodes_are = refl;
-      ready = All-nil (AreOperandsAmong []);
+      operands = All-nil (AreOperandsAmong []);
       once = λ k e lt. absurd (omega arith);
       within = All-nil (λ a. a < length d.names);
       few_atoms = omega arith;

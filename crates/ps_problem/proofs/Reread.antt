@@ -1,19 +1,19 @@
 -- The canonical text of a problem's items is read as the problem.
-use Rattle.std.proofs.Common.{◌≡◌, ℕ, ◌+◌, ◌≤◌, max, nat_lt, List, [], ◌∷◌, ◌++◌, map, All, Option, Some, None, IfSome, Result, Ok, Err, refl, sym, ap, subst, ◌∙◌, if◌then◌else◌}
+use Rattle.std.proofs.Common.{◌≡◌, ℕ, ◌+◌, ◌≤◌, nat_lt, List, [], ◌∷◌, ◌++◌, map, All, Option, Some, None, IfSome, Result, Ok, Err, refl, sym, ap, subst, ◌∙◌, if◌then◌else◌}
 use Rattle.std.proofs.lemmas.List.Elements.{All-head, All-tail}
 use Rattle.ps_meaning.specs.Formula.{Formula, Truth, Falsity, Atom, Not, And, Or, Implies, Iff}
 use Rattle.ps_meaning.specs.Names.{IsName}
 use Rattle.ps_meaning.specs.declared.side.Side.{Side}
 use Rattle.ps_meaning.specs.Statements.{Name, Ratio, Statement, Question, Item, Stated, Asked, statements_of, questions_of}
-use Rattle.ps_text.specs.Canonical.{HasNames, IsWritable, IsWritableGiven, IsReduced, IsUpper, AreLawful}
+use Rattle.ps_text.specs.Canonical.{canonical_nesting, HasNames, IsWritable, IsWritableGiven, IsReduced, IsUpper, AreLawful}
 use Rattle.ps_text.proofs.Canonicals.{canonical_front}
-use Rattle.ps_text.proofs.Nesting.{parenthesis, nesting_at as nesting, nests_canonical}
+use Rattle.ps_text.proofs.Nesting.{nests_canonical}
 use Rattle.ps_problem.specs.Problems.{Parts}
 use Rattle.ps_problem.specs.Numbering.{same_name, place_in, names_among, numbered_for, formulas_of, problem_of}
 use Rattle.ps_problem.specs.declared.excess.Excess.{Excess}
 use Rattle.ps_problem.specs.declared.excess.Excess.TheVariants.{Bounds, Queries}
 use Rattle.ps_problem.specs.Counts.{ItemExcess, with_formulas, count_bounds, at_item, with_statements, with_questions, after, counted}
-use Rattle.ps_problem.specs.Drafts.{canonical_nesting, nesting_at, IsRatio, IsUpperOf, IsLawful, IsNested}
+use Rattle.ps_problem.specs.Drafts.{IsRatio, IsUpperOf, IsLawful, IsNested}
 use Rattle.ps_problem.specs.Soundness.{IsProblem}
 use Rattle.ps_problem.specs.Numbered.{IsAmong, HasQuestion}
 use Rattle.ps_problem.specs.Making.{question_on as question}
@@ -22,19 +22,7 @@ use Rattle.ps_problem.specs.Rereading.{IsReread}
 use Rattle.ps_problem.proofs.NameLists.{same_name-true, same_name-refl}
 use Rattle.ps_problem.proofs.Lists.{place-below, place-get}
 use Rattle.ps_problem.proofs.Orders.{Ordered, are-numbered}
-use Rattle.ps_problem.proofs.Writing.{ready, items-back, problem-back}
-
--- nesting
-
-same-nesting : (k : ℕ) (f : Formula Name) → nesting_at k f ≡ nesting k f
-same-nesting k Truth = refl
-same-nesting k Falsity = refl
-same-nesting k (Atom a) = refl
-same-nesting k (Not f) = λ i. 1 + same-nesting 5 f i
-same-nesting k (And f g) = λ i. parenthesis k 4 + max (same-nesting 4 f i) (same-nesting 5 g i)
-same-nesting k (Or f g) = λ i. parenthesis k 3 + max (same-nesting 3 f i) (same-nesting 4 g i)
-same-nesting k (Implies f g) = λ i. parenthesis k 2 + max (same-nesting 3 f i) (1 + same-nesting 2 g i)
-same-nesting k (Iff f g) = λ i. parenthesis k 1 + max (same-nesting 1 f i) (same-nesting 2 g i)
+use Rattle.ps_problem.proofs.Writing.{operands-among, items-back, problem-back}
 
 -- names
 
@@ -42,16 +30,16 @@ module _ (fs : List (Formula Name)) (o : Ordered fs) (named : All IsName (names_
   has-names : (f : Formula Name) → IsAmong fs f → HasNames f
   has-names Truth a = tt
   has-names Falsity a = tt
-  has-names (Atom n) a = let r = ready fs o (Atom n) a in
+  has-names (Atom n) a = let r = operands-among fs o (Atom n) a in
       subst IsName (place-get same_name same_name-true same_name-refl (names_among fs) n [] r) (named (place_in same_name (names_among fs) n) [] (place-below same_name (names_among fs) n r))
-  has-names (Not f) a = has-names f (ready fs o (Not f) a)
-  has-names (And f g) a = let r = ready fs o (And f g) a in (has-names f r.0, has-names g r.1)
-  has-names (Or f g) a = let r = ready fs o (Or f g) a in (has-names f r.0, has-names g r.1)
-  has-names (Implies f g) a = let r = ready fs o (Implies f g) a in (has-names f r.0, has-names g r.1)
-  has-names (Iff f g) a = let r = ready fs o (Iff f g) a in (has-names f r.0, has-names g r.1)
+  has-names (Not f) a = has-names f (operands-among fs o (Not f) a)
+  has-names (And f g) a = let r = operands-among fs o (And f g) a in (has-names f r.0, has-names g r.1)
+  has-names (Or f g) a = let r = operands-among fs o (Or f g) a in (has-names f r.0, has-names g r.1)
+  has-names (Implies f g) a = let r = operands-among fs o (Implies f g) a in (has-names f r.0, has-names g r.1)
+  has-names (Iff f g) a = let r = operands-among fs o (Iff f g) a in (has-names f r.0, has-names g r.1)
 
   writable : (f : Formula Name) → IsAmong fs f → canonical_nesting f ≤ 100 → IsWritable f
-  writable f a h = record { names = has-names f a; nests = nests_canonical f (subst (λ n. n ≤ 100) (same-nesting 1 f) h) }
+  writable f a h = record { names = has-names f a; nests = nests_canonical f h }
 
   given-writable : (g : Option (Formula Name)) → IfSome g (IsAmong fs) → IfSome g (λ f. canonical_nesting f ≤ 100) → IsWritableGiven g
   given-writable None a h = tt

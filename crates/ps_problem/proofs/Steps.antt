@@ -76,10 +76,10 @@ module _ (names : List Name) (atoms : List ℕ) (nodes : List Node) (h : Built n
     atoms_are = atoms_are;
     nodes_are = ap (λ ns. ns ++ node_in (h.formulas ++ g ∷ []) g ∷ []) (h.nodes_are
         ∙ sym (map-same (node_in (h.formulas ++ g ∷ [])) (node_in h.formulas) h.formulas
-        (All-weaker (AreOperandsAmong h.formulas) (λ f. node_in (h.formulas ++ g ∷ []) f ≡ node_in h.formulas f) (λ f r. node-more h.formulas (g ∷ []) f r) h.formulas h.ready)))
+        (All-weaker (AreOperandsAmong h.formulas) (λ f. node_in (h.formulas ++ g ∷ []) f ≡ node_in h.formulas f) (λ f r. node-more h.formulas (g ∷ []) f r) h.formulas h.operands)))
         ∙ sym (map-append (node_in (h.formulas ++ g ∷ [])) h.formulas (g ∷ []));
-    ready = All-push (AreOperandsAmong (h.formulas ++ g ∷ [])) h.formulas g
-        (All-weaker (AreOperandsAmong h.formulas) (AreOperandsAmong (h.formulas ++ g ∷ [])) (λ f r. ready-more h.formulas (g ∷ []) f r) h.formulas h.ready) ready;
+    operands = All-push (AreOperandsAmong (h.formulas ++ g ∷ [])) h.formulas g
+        (All-weaker (AreOperandsAmong h.formulas) (AreOperandsAmong (h.formulas ++ g ∷ [])) (λ f r. ready-more h.formulas (g ∷ []) f r) h.formulas h.operands) ready;
     once = once-push same_formula same-true same-refl h.formulas g new h.once;
     within = within;
     few_atoms = few_atoms;
@@ -92,7 +92,7 @@ module _ (names : List Name) (atoms : List ℕ) (nodes : List Node) (h : Built n
     different = h.different;
     atoms_are = h.atoms_are;
     nodes_are = e ∙ h.nodes_are;
-    ready = h.ready;
+    operands = h.operands;
     once = h.once;
     within = h.within;
     few_atoms = h.few_atoms;
@@ -108,11 +108,11 @@ module _ (names : List Name) (atoms : List ℕ) (nodes : List Node) (h : Built n
       let k = extended atoms' absent ready atoms_are within few_atoms few in
       let at : slice_get (map (node_in (h.formulas ++ g ∷ [])) (h.formulas ++ g ∷ [])) i ≡ Some (node_in (h.formulas ++ g ∷ []) g)
       = ap (λ ns. slice_get ns i) (sym (new-is ∙ k.nodes_are)) ∙ there in (
-        record { formulas = h.formulas ++ g ∷ []; different = k.different; atoms_are = k.atoms_are; nodes_are = new-is ∙ k.nodes_are; ready = k.ready; once = k.once; within = k.within; few_atoms = k.few_atoms; few = k.few },
+        record { formulas = h.formulas ++ g ∷ []; different = k.different; atoms_are = k.atoms_are; nodes_are = new-is ∙ k.nodes_are; operands = k.operands; once = k.once; within = k.within; few_atoms = k.few_atoms; few = k.few },
         expected,
         (
           any-new same_formula same-true same-refl h.formulas g,
-          number-is (h.formulas ++ g ∷ []) g k.ready k.once ready i at,
+          number-is (h.formulas ++ g ∷ []) g k.operands k.once ready i at,
         ),
       )
 
@@ -153,9 +153,9 @@ module _ (names : List Name) (atoms : List ℕ) (nodes : List Node) (h : Built n
       by : ((new ≡ nodes) × Contains nodes n) ⊎ ((new ≡ nodes ++ n ∷ []) × ¬ Contains nodes n) → GivesNumber names (with_formulas h.formulas (g ∷ [])) g atoms new (Ok i)
       by (inl s) =
           let c = rw (h.nodes_are, e) at s.1 in
-          let a : IsAmong h.formulas g = among-from h.formulas g h.ready r c in
+          let a : IsAmong h.formulas g = among-from h.formulas g h.operands r c in
           let at : slice_get (map (node_in h.formulas) h.formulas) i ≡ Some (node_in h.formulas g) = ap (λ ns. slice_get ns i) (sym (s.0 ∙ h.nodes_are)) ∙ there in
-          (again new s.0, expected-known h.formulas g a, (a, number-is h.formulas g h.ready h.once r i at))
+          (again new s.0, expected-known h.formulas g a, (a, number-is h.formulas g h.operands h.once r i at))
       by (inr s) = on (list_any (same_formula g) h.formulas) refl
         where
           on : (b : Bool) → list_any (same_formula g) h.formulas ≡ b → GivesNumber names (with_formulas h.formulas (g ∷ [])) g atoms new (Ok i)

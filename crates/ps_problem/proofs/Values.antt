@@ -10,7 +10,8 @@ use Rattle.ps_problem.specs.declared.draft_item.DraftItem.{DraftItem}
 use Rattle.ps_problem.specs.declared.draft_item.DraftItem.TheVariants as item
 use Rattle.ps_problem.specs.declared.mark.Mark.{Mark}
 use Rattle.ps_problem.specs.declared.span.Span.{Span}
-use Rattle.ps_problem.specs.Drafts.{IsLawful, IsNested, canonical_nesting, formula_at}
+use Rattle.ps_text.specs.Canonical.{canonical_nesting}
+use Rattle.ps_problem.specs.Drafts.{IsLawful, IsNested, formula_at}
 use Rattle.ps_problem.specs.DraftLists.{item_of, IsDraftItem, IsSpan, spelled}
 
 lawful-item : (fs : List (Formula Name)) (n : ℕ) (e : DraftItem) → IsDraftItem n e → IsLawful (item_of fs e)

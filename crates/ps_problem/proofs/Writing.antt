@@ -22,19 +22,19 @@ upper-back fs s None = refl
 upper-back fs s (Some r) = refl
 
 module _ (fs : List (Formula Name)) (o : Ordered fs) where
-  pub ready : (f : Formula Name) → IsAmong fs f → AreOperandsAmong fs f
-  ready f a = subst (AreOperandsAmong fs) (place-get same_formula same-true same-refl fs f Truth a) (are-ready fs o.led (place_in same_formula fs f) Truth (place-below same_formula fs f a))
+  pub operands-among : (f : Formula Name) → IsAmong fs f → AreOperandsAmong fs f
+  operands-among f a = subst (AreOperandsAmong fs) (place-get same_formula same-true same-refl fs f Truth a) (are-ready fs o.led (place_in same_formula fs f) Truth (place-below same_formula fs f a))
 
   -- numbers replaced by names again
   names-back : (f : Formula Name) → IsAmong fs f → with_atoms (name_at (names_among fs)) (numbered (names_among fs) f) ≡ f
   names-back Truth a = refl
   names-back Falsity a = refl
-  names-back (Atom n) a = ap Atom (place-get same_name same_name-true same_name-refl (names_among fs) n [] (ready (Atom n) a))
-  names-back (Not f) a = ap Not (names-back f (ready (Not f) a))
-  names-back (And f g) a = let r = ready (And f g) a in λ i. And (names-back f r.0 i) (names-back g r.1 i)
-  names-back (Or f g) a = let r = ready (Or f g) a in λ i. Or (names-back f r.0 i) (names-back g r.1 i)
-  names-back (Implies f g) a = let r = ready (Implies f g) a in λ i. Implies (names-back f r.0 i) (names-back g r.1 i)
-  names-back (Iff f g) a = let r = ready (Iff f g) a in λ i. Iff (names-back f r.0 i) (names-back g r.1 i)
+  names-back (Atom n) a = ap Atom (place-get same_name same_name-true same_name-refl (names_among fs) n [] (operands-among (Atom n) a))
+  names-back (Not f) a = ap Not (names-back f (operands-among (Not f) a))
+  names-back (And f g) a = let r = operands-among (And f g) a in λ i. And (names-back f r.0 i) (names-back g r.1 i)
+  names-back (Or f g) a = let r = operands-among (Or f g) a in λ i. Or (names-back f r.0 i) (names-back g r.1 i)
+  names-back (Implies f g) a = let r = operands-among (Implies f g) a in λ i. Implies (names-back f r.0 i) (names-back g r.1 i)
+  names-back (Iff f g) a = let r = operands-among (Iff f g) a in λ i. Iff (names-back f r.0 i) (names-back g r.1 i)
 
   formula-back : (f : Formula Name) → IsAmong fs f → with_atoms (name_at (names_among fs)) (tree_at (map (node_in fs) fs) (place_in same_formula fs f)) ≡ f
   formula-back f a = ap (with_atoms (name_at (names_among fs))) (tree-at fs o.led f a) ∙ names-back f a

@@ -5,7 +5,7 @@ use Rattle.std.specs.Coded.{Coded, code_by, coded_ℕ, coded_list, coded×}
 use Rattle.ps_meaning.specs.Formula.{Formula, Truth, Falsity, Atom, Not, And, Or, Implies, Iff}
 use Rattle.ps_meaning.specs.Statements.{Name}
 
--- a formula in postfix order, each entry a number for its kind with a name, and then a rest
+-- the symbols of a formula in postfix order, each a number for its kind with a name, and then a rest
 abbrev pub postfix : Formula Name → List (ℕ × Name) → List (ℕ × Name)
 postfix Truth rest = (0, []) ∷ rest
 postfix Falsity rest = (1, []) ∷ rest
@@ -27,7 +27,7 @@ over_two kind [] = []
 over_two kind (g ∷ []) = []
 over_two kind (g ∷ f ∷ fs) = (if kind == 4 then And f g else (if kind == 5 then Or f g else (if kind == 6 then Implies f g else Iff f g))) ∷ fs
 
--- the formulas, the last one first, after an entry
+-- the formulas, the last one first, after a symbol
 abbrev pub after_symbol : List (Formula Name) → ℕ × Name → List (Formula Name)
 after_symbol fs e = if e.0 == 0 then Truth ∷ fs else (if e.0 == 1 then Falsity ∷ fs else (if e.0 == 2 then Atom e.1 ∷ fs
     else (if e.0 == 3 then over_one fs else over_two e.0 fs)))

@@ -10,7 +10,8 @@ use Rattle.ps_problem.specs.declared.draft_item.DraftItem.{DraftItem}
 use Rattle.ps_problem.specs.declared.draft_item.DraftSentence.{DraftSentence}
 use Rattle.ps_problem.specs.declared.draft_item.DraftItem.TheVariants as item
 use Rattle.ps_problem.specs.Numbering.{same_name, AreOnce}
-use Rattle.ps_problem.specs.Drafts.{Drafted, arity, marked, NameBelow, canonical_nesting, IsRatio, IsUpper, AreBelow, ratio_of, statement_at, question_at}
+use Rattle.ps_text.specs.Canonical.{canonical_nesting}
+use Rattle.ps_problem.specs.Drafts.{Drafted, arity, marked, NameBelow, IsRatio, IsUpper, AreBelow, ratio_of, statement_at, question_at}
 
 -- the formulas that stand open after some marks
 abbrev pub open_after : List Name → List (Formula Name) → List Mark → List (Formula Name)

@@ -1,11 +1,12 @@
 -- What a draft of a problem holds.
-use Rattle.std.specs.Prelude.{◌≡◌, ◌≤◌, ◌<◌, ◌+◌, ◌-◌, ℕ, max, nat_lt, List, [], ◌∷◌, ◌++◌, Option, Some, None, length, option_map, take, IfSome, slice_index_or, if◌then◌else◌}
+use Rattle.std.specs.Prelude.{◌≡◌, ◌≤◌, ◌<◌, ◌+◌, ◌-◌, ℕ, List, [], ◌∷◌, ◌++◌, Option, Some, None, length, option_map, take, IfSome, slice_index_or}
 use Rattle.std.specs.Int.{IsGcd}
 use Rattle.ps_meaning.specs.Formula.{Formula}
 use Rattle.ps_meaning.specs.Formula as formula
 use Rattle.ps_meaning.specs.declared.side.Side.{Side}
 use Rattle.ps_meaning.specs.declared.side.Side.TheVariants.{AtLeast}
 use Rattle.ps_meaning.specs.Statements.{Name, Ratio, Statement, Question, Item, Stated, Asked}
+use Rattle.ps_text.specs.Canonical.{canonical_nesting}
 use Rattle.ps_problem.specs.declared.limits.TheConstants.{MOST_DENOMINATOR, MOST_NESTING}
 use Rattle.ps_problem.specs.declared.mark.Mark.{Mark}
 use Rattle.ps_problem.specs.declared.mark.Mark.TheVariants as mark
@@ -53,26 +54,6 @@ marked names fs m = take (length fs - arity m) fs ++ made_by names fs m ∷ []
 abbrev pub NameBelow : ℕ → Mark → Type 0
 NameBelow n (mark.Name i) = i < n
 NameBelow n other = Unit {0}
-
--- 1 where an operand of a level stands in parentheses, since more is required
-abbrev pub parenthesis : ℕ → ℕ → ℕ
-parenthesis required level = if nat_lt level required then 1 else 0
-
--- how many `!`, `(` and right sides of `->` are open at the deepest place of a formula's canonical spelling, where an
--- operand of this level is required: 1 for `<->`, 2 for `->`, 3 for `|`, 4 for `&`, 5 for the rest
-abbrev pub nesting_at : ℕ → Formula Name → ℕ
-nesting_at required formula.Truth = 0
-nesting_at required formula.Falsity = 0
-nesting_at required (formula.Atom a) = 0
-nesting_at required (formula.Not f) = 1 + nesting_at 5 f
-nesting_at required (formula.And f g) = parenthesis required 4 + max (nesting_at 4 f) (nesting_at 5 g)
-nesting_at required (formula.Or f g) = parenthesis required 3 + max (nesting_at 3 f) (nesting_at 4 g)
-nesting_at required (formula.Implies f g) = parenthesis required 2 + max (nesting_at 3 f) (1 + nesting_at 2 g)
-nesting_at required (formula.Iff f g) = parenthesis required 1 + max (nesting_at 1 f) (nesting_at 2 g)
-
--- the nesting of a formula's canonical spelling
-abbrev pub canonical_nesting : Formula Name → ℕ
-canonical_nesting f = nesting_at 1 f
 
 -- a reduced fraction of at most 1, with a denominator of at most a million
 pub record IsRatio (num den : ℕ) : Type 0 where

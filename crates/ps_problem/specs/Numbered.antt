@@ -16,7 +16,7 @@ use Rattle.ps_formula.specs.Nodes.{Adds}
 use Rattle.ps_problem.specs.declared.excess.Excess.{Excess}
 use Rattle.ps_problem.specs.declared.excess.Excess.TheVariants.{Nodes}
 use Rattle.ps_problem.specs.Counts.{with_formulas}
-use Rattle.ps_problem.specs.Drafts.{Drafted, made_by, marked, question_at}
+use Rattle.ps_problem.specs.Drafts.{Drafted, NameBelow, made_by, marked, formula_at, question_at}
 use Rattle.ps_problem.specs.DraftLists.{open_after}
 use Rattle.ps_problem.specs.declared.building.Building.{Building}
 use Rattle.ps_problem.specs.Problems.{name_at}
@@ -43,7 +43,7 @@ pub record Built (names : List Name) (atoms : List ℕ) (nodes : List Node) : Ty
   pub different : AreOnce same_name names
   pub atoms_are : map (name_at names) atoms ≡ names_among formulas
   pub nodes_are : nodes ≡ map (node_in formulas) formulas
-  pub ready : All (AreOperandsAmong formulas) formulas
+  pub operands : All (AreOperandsAmong formulas) formulas
   pub once : AreOnce same_formula formulas
   pub within : All (λ a. a < length names) atoms
   pub few_atoms : length atoms ≤ MOST_ATOMS
@@ -124,20 +124,23 @@ ArePartsNumbered names fs f b result = GivesNumber names (with_formulas fs (subf
 abbrev pub IsQuestionNumbered : List Name → List (Formula Name) → Question → Building → Result Query Fault → Type 0
 IsQuestionNumbered names fs q b result = GivesQuery names (with_formulas fs (numbered_for q.formula q.given)) q b.atoms b.formulas result
 
--- whatever formulas were numbered before, a formula is behind them and has this number; or there is the excess at it
-abbrev pub NumbersFormula : List Name → Building → Formula Name → Building → Result ℕ Fault → Type 0
-NumbersFormula names old f new result = (h : Built names old.atoms old.formulas) → IsNumbered names h.formulas f new result
+-- whatever the names are and the formulas that were numbered before, the atom of the name with this number is behind them
+-- and has the number of the result; or there is the excess at it
+pub record NumbersAtom (old : Building) (name : ℕ) (new : Building) (result : Result ℕ Fault) : Type 0 where
+  pub each : (names : List Name) (h : Built names old.atoms old.formulas) → name < length names
+      → IsNumbered names h.formulas (formula.Atom (name_at names name)) new result
 
 -- the same of the formula of a mark over the numbers of formulas that stand open
-abbrev pub NumbersMark : List Name → Building → List ℕ → Mark → Building → Result ℕ Fault → Type 0
-NumbersMark names old stack m new result = (h : Built names old.atoms old.formulas) (fs : List (Formula Name))
-    → IsStack h.formulas fs stack → IsNumbered names h.formulas (made_by names fs m) new result
+pub record NumbersMark (old : Building) (stack : List ℕ) (m : Mark) (new : Building) (result : Result ℕ Fault) : Type 0 where
+  pub each : (names : List Name) (h : Built names old.atoms old.formulas) → NameBelow (length names) m
+      → (fs : List (Formula Name)) → IsStack h.formulas fs stack → IsNumbered names h.formulas (made_by names fs m) new result
 
--- the same of all subformulas of a formula
-abbrev pub NumbersParts : List Name → Building → Formula Name → Building → Result ℕ Fault → Type 0
-NumbersParts names old f new result = (h : Built names old.atoms old.formulas) → ArePartsNumbered names h.formulas f new result
+-- whatever formulas of a draft were numbered before, all subformulas of one, by its number in the draft, are behind them and
+-- it has the number of the result; or there is the excess at one of them
+abbrev pub NumbersParts : Drafted → Building → ℕ → Building → Result ℕ Fault → Type 0
+NumbersParts d old f new result = (h : Built d.names old.atoms old.formulas) → ArePartsNumbered d.names h.formulas (formula_at d.formulas f) new result
 
--- the same of all formulas of a question, over formulas of a draft by number
+-- the same of all formulas of a question over formulas of the draft
 abbrev pub NumbersQuestion : Drafted → Building → ℕ → Option ℕ → Building → Result Query Fault → Type 0
 NumbersQuestion d old f g new result = (h : Built d.names old.atoms old.formulas) → IsQuestionNumbered d.names h.formulas (question_at d.formulas f g) new result
 

@@ -1,17 +1,14 @@
 //! The numbering of formulas and atoms.
 ghost use Rattle.std.specs.Prelude.{◌≡◌, ◌≤◌, ◌<◌, [], All, IfErr, OnOk, length, nat_eq};
-ghost use Rattle.ps_meaning.specs.Formula.{Atom};
 ghost use Rattle.ps_formula.specs.Nodes.{Fits};
 ghost use Rattle.ps_problem.specs.Numbering.{place_in};
-ghost use Rattle.ps_problem.specs.Drafts.{arity, NameBelow, AreBelow};
-ghost use Rattle.ps_problem.specs.DraftLists.{AreMarks, root};
-ghost use Rattle.ps_problem.specs.Numbered.{Built, node_over, IsAdded, NumbersFormula};
+ghost use Rattle.ps_problem.specs.Drafts.{arity, AreBelow};
+ghost use Rattle.ps_problem.specs.Numbered.{Built, node_over, IsAdded, NumbersAtom};
 ghost use Rattle.ps_problem.specs.Numbered.{NumbersMark, NumbersParts, NumbersQuestion, replaced};
-ghost use Rattle.ps_problem.specs.Problems.{name_at};
+ghost use Rattle.ps_formula.specs.declared.limits.TheConstants.{MOST_ATOMS};
 
 use crate::excess::Excess;
 use crate::fault::Fault;
-use crate::names::Names;
 use crate::{Draft, Mark, Query};
 use ps_formula::{AddError, Formulas, MOST_ATOMS, Node};
 use ps_io::List;
@@ -90,11 +87,9 @@ impl Building {
     }
 
     // The number of an atom's node, which is added where it isn't there.
-    fn atom(&mut self, names: &Names, name: u32) -> Result<u32, Fault>
-        requires name { name < length names.now }
-        requires built { Built names.now self.old.atoms self.old.formulas }
-        ensures { NumbersFormula names.now self.old
-            (Atom (name_at names.now name)) self.new result }
+    fn atom(&mut self, name: u32) -> Result<u32, Fault>
+        requires few { length self.old.atoms ≤ MOST_ATOMS }
+        ensures { NumbersAtom self.old name self.new result }
     {
         let place = place_of(self.atoms.as_slice(), name);
         if place < self.atoms.len() {
@@ -111,28 +106,28 @@ impl Building {
     }
 
     // The number of a mark's formula over the numbers of those that stand open.
-    fn mark(&mut self, names: &Names, stack: &[u32], mark: Mark) -> Result<u32, Fault>
-        requires name { NameBelow (length names.now) mark }
+    fn mark(&mut self, stack: &[u32], mark: Mark) -> Result<u32, Fault>
         requires operands { arity mark ≤ length stack.now }
         requires below { All (λ i. i < length self.old.formulas) stack.now }
-        requires built { Built names.now self.old.atoms self.old.formulas }
-        ensures { NumbersMark names.now self.old stack.now mark self.new result }
+        requires few { length self.old.atoms ≤ MOST_ATOMS }
+        ensures { NumbersMark self.old stack.now mark self.new result }
     {
         if let Mark::Name(name) = mark {
-            return self.atom(names, name);
+            return self.atom(name);
         }
         self.node(node_of(mark, stack))
     }
 
-    // Numbers the parts of the formula that some marks spell, and gives its own number.
-    fn formula(&mut self, alloc: Global, names: &Names, marks: &[Mark]) -> Result<u32, Fault>
-        requires marks { AreMarks names.now marks.now (root names.now marks.now) }
-        requires built { Built names.now self.old.atoms self.old.formulas }
-        ensures { NumbersParts names.now self.old (root names.now marks.now) self.new result }
+    // Numbers the parts of a formula of a draft, and gives its own number.
+    fn formula(&mut self, alloc: Global, draft: &Draft, formula: u32) -> Result<u32, Fault>
+        requires formula { formula < length draft.now.formulas }
+        requires built { Built draft.now.names self.old.atoms self.old.formulas }
+        ensures { NumbersParts draft.now self.old formula self.new result }
     {
+        let marks = draft.marks(formula);
         let mut stack = Vec::new(alloc);
         for mark in marks {
-            let number = self.mark(names, &stack, *mark)?;
+            let number = self.mark(&stack, *mark)?;
             if replace(&mut stack, operands(*mark), number).is_err() {
                 return Err(Fault::NoMemory);
             }
@@ -152,7 +147,7 @@ impl Building {
         requires built { Built draft.now.names self.old.atoms self.old.formulas }
         ensures { NumbersQuestion draft.now self.old formula given self.new result }
     {
-        let first = self.formula(alloc, draft.names(), draft.marks(formula))?;
+        let first = self.formula(alloc, draft, formula)?;
         let condition = match given {
             Some(condition) => condition,
             None => {
@@ -163,7 +158,7 @@ impl Building {
                 });
             }
         };
-        let second = self.formula(alloc, draft.names(), draft.marks(condition))?;
+        let second = self.formula(alloc, draft, condition)?;
         let both = self.node(Node::And(first, second))?;
         Ok(Query {
             formula: first,

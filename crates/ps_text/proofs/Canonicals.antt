@@ -19,6 +19,7 @@ use Rattle.ps_text.specs.Meanings.{formula_of, given_of, IsValue, States, IsItem
 use Rattle.ps_text.specs.Pieces.{texts}
 use Rattle.ps_text.specs.Fronts.{IsFront}
 use Rattle.ps_text.specs.Canonical.{fitted, canonical_formula, canonical_numeral, canonical_relation, canonical_given, canonical_prob, canonical_item, canonical_items, syntax_text, given_text, prob_text, relation_text, item_text, items_text, canonical_text, HasNames, IsWritable, IsWritableGiven, IsReduced, IsUpper, IsLawfulItem, AreLawful}
+use Rattle.ps_text.proofs.Levels.{test_le}
 use Rattle.ps_text.proofs.Spans.{Passes, both}
 use Rattle.ps_text.proofs.Laying.{Quiet, Laid, laid_none, laid_over, laid_blank, laid_sign, laid_token, Shut, shut_none, shut_end, shut_over}
 
@@ -87,45 +88,42 @@ numbers r h = by (r.den == 1) refl
 
 -- formulas
 
-fits_at : (k n : ℕ) → nat_le k n ≡ true → k ≤ n
-fits_at k n h = grind (arith, nat_tests)
-
--- what holds of a form that binds tightly enough, and of a group, holds of the fitted one
+-- what holds of what binds tightly enough, and of a group, holds of the fitted one
 fitted_by : (P : FormulaSyntax → Type 0) (k : ℕ) (f : FormulaSyntax) → (k ≤ level f → P f) → P (Group f) → P (fitted k f)
 fitted_by P k f h g = by (nat_le k (level f)) refl
   where
     by : (b : Bool) → nat_le k (level f) ≡ b → P (if b then f else Group f)
-    by true e = h (fits_at k (level f) e)
+    by true e = h (test_le k (level f) e)
     by false e = g
 
 fitted_level : (k : ℕ) (f : FormulaSyntax) → k ≤ 5 → k ≤ level (fitted k f)
 fitted_level k f h = fitted_by (λ g. k ≤ level g) k f (λ l. l) h
 
-fitted_form : (k : ℕ) (f : FormulaSyntax) → IsWellFormed f → IsWellFormed (fitted k f)
-fitted_form k f i = fitted_by IsWellFormed k f (λ l. i) i
+fitted_well_formed : (k : ℕ) (f : FormulaSyntax) → IsWellFormed f → IsWellFormed (fitted k f)
+fitted_well_formed k f i = fitted_by IsWellFormed k f (λ l. i) i
 
 fitted_meant : (k : ℕ) (f : FormulaSyntax) → formula_of (fitted k f) ≡ formula_of f
 fitted_meant k f = fitted_by (λ g. formula_of g ≡ formula_of f) k f (λ l. refl) refl
 
-is_form : (f : formula.Formula meaning.Name) → HasNames f → IsWellFormed (canonical_formula f)
-is_form formula.Truth h = tt
-is_form formula.Falsity h = tt
-is_form (formula.Atom a) h = (h.free, h.short)
-is_form (formula.Not f) h = (fitted_level 5 (canonical_formula f) (omega arith), fitted_form 5 (canonical_formula f) (is_form f h))
-is_form (formula.And f g) h = (fitted_level 4 (canonical_formula f) (omega arith), fitted_level 5 (canonical_formula g) (omega arith), fitted_form 4 (canonical_formula f) (is_form f h.0), fitted_form 5 (canonical_formula g) (is_form g h.1))
-is_form (formula.Or f g) h = (fitted_level 3 (canonical_formula f) (omega arith), fitted_level 4 (canonical_formula g) (omega arith), fitted_form 3 (canonical_formula f) (is_form f h.0), fitted_form 4 (canonical_formula g) (is_form g h.1))
-is_form (formula.Implies f g) h = (fitted_level 3 (canonical_formula f) (omega arith), fitted_level 2 (canonical_formula g) (omega arith), fitted_form 3 (canonical_formula f) (is_form f h.0), fitted_form 2 (canonical_formula g) (is_form g h.1))
-is_form (formula.Iff f g) h = (fitted_level 1 (canonical_formula f) (omega arith), fitted_level 2 (canonical_formula g) (omega arith), fitted_form 1 (canonical_formula f) (is_form f h.0), fitted_form 2 (canonical_formula g) (is_form g h.1))
+well_formed : (f : formula.Formula meaning.Name) → HasNames f → IsWellFormed (canonical_formula f)
+well_formed formula.Truth h = tt
+well_formed formula.Falsity h = tt
+well_formed (formula.Atom a) h = (h.free, h.short)
+well_formed (formula.Not f) h = (fitted_level 5 (canonical_formula f) (omega arith), fitted_well_formed 5 (canonical_formula f) (well_formed f h))
+well_formed (formula.And f g) h = (fitted_level 4 (canonical_formula f) (omega arith), fitted_level 5 (canonical_formula g) (omega arith), fitted_well_formed 4 (canonical_formula f) (well_formed f h.0), fitted_well_formed 5 (canonical_formula g) (well_formed g h.1))
+well_formed (formula.Or f g) h = (fitted_level 3 (canonical_formula f) (omega arith), fitted_level 4 (canonical_formula g) (omega arith), fitted_well_formed 3 (canonical_formula f) (well_formed f h.0), fitted_well_formed 4 (canonical_formula g) (well_formed g h.1))
+well_formed (formula.Implies f g) h = (fitted_level 3 (canonical_formula f) (omega arith), fitted_level 2 (canonical_formula g) (omega arith), fitted_well_formed 3 (canonical_formula f) (well_formed f h.0), fitted_well_formed 2 (canonical_formula g) (well_formed g h.1))
+well_formed (formula.Iff f g) h = (fitted_level 1 (canonical_formula f) (omega arith), fitted_level 2 (canonical_formula g) (omega arith), fitted_well_formed 1 (canonical_formula f) (well_formed f h.0), fitted_well_formed 2 (canonical_formula g) (well_formed g h.1))
 
-form_meant : (f : formula.Formula meaning.Name) → formula_of (canonical_formula f) ≡ f
-form_meant formula.Truth = refl
-form_meant formula.Falsity = refl
-form_meant (formula.Atom a) = refl
-form_meant (formula.Not f) = ap formula.Not (fitted_meant 5 (canonical_formula f) ∙ form_meant f)
-form_meant (formula.And f g) = λ i. formula.And ((fitted_meant 4 (canonical_formula f) ∙ form_meant f) i) ((fitted_meant 5 (canonical_formula g) ∙ form_meant g) i)
-form_meant (formula.Or f g) = λ i. formula.Or ((fitted_meant 3 (canonical_formula f) ∙ form_meant f) i) ((fitted_meant 4 (canonical_formula g) ∙ form_meant g) i)
-form_meant (formula.Implies f g) = λ i. formula.Implies ((fitted_meant 3 (canonical_formula f) ∙ form_meant f) i) ((fitted_meant 2 (canonical_formula g) ∙ form_meant g) i)
-form_meant (formula.Iff f g) = λ i. formula.Iff ((fitted_meant 1 (canonical_formula f) ∙ form_meant f) i) ((fitted_meant 2 (canonical_formula g) ∙ form_meant g) i)
+formula_meant : (f : formula.Formula meaning.Name) → formula_of (canonical_formula f) ≡ f
+formula_meant formula.Truth = refl
+formula_meant formula.Falsity = refl
+formula_meant (formula.Atom a) = refl
+formula_meant (formula.Not f) = ap formula.Not (fitted_meant 5 (canonical_formula f) ∙ formula_meant f)
+formula_meant (formula.And f g) = λ i. formula.And ((fitted_meant 4 (canonical_formula f) ∙ formula_meant f) i) ((fitted_meant 5 (canonical_formula g) ∙ formula_meant g) i)
+formula_meant (formula.Or f g) = λ i. formula.Or ((fitted_meant 3 (canonical_formula f) ∙ formula_meant f) i) ((fitted_meant 4 (canonical_formula g) ∙ formula_meant g) i)
+formula_meant (formula.Implies f g) = λ i. formula.Implies ((fitted_meant 3 (canonical_formula f) ∙ formula_meant f) i) ((fitted_meant 2 (canonical_formula g) ∙ formula_meant g) i)
+formula_meant (formula.Iff f g) = λ i. formula.Iff ((fitted_meant 1 (canonical_formula f) ∙ formula_meant f) i) ((fitted_meant 2 (canonical_formula g) ∙ formula_meant g) i)
 
 -- each name is a word
 HasWords : FormulaSyntax → Type 0
@@ -162,7 +160,7 @@ has_words (formula.Or f g) h = (fitted_words 3 (canonical_formula f) (has_words 
 has_words (formula.Implies f g) h = (fitted_words 3 (canonical_formula f) (has_words f h.0), fitted_words 2 (canonical_formula g) (has_words g h.1))
 has_words (formula.Iff f g) h = (fitted_words 1 (canonical_formula f) (has_words f h.0), fitted_words 2 (canonical_formula g) (has_words g h.1))
 
--- the bytes of a form are its tokens
+-- the bytes of a formula as it is written are its tokens
 laid_word : (w : List ℕ) → IsWord w → Laid (Word w ∷ []) w
 laid_word w i = laid_token (Word w) i
 
@@ -170,18 +168,18 @@ laid_word w i = laid_token (Word w) i
 laid_between : (s : Symbol) (ts us : List Token) (xs ys : List ℕ) → Laid ts xs → Laid us ys → Laid (ts ++ Sign s ∷ us) (xs ++ (32 ∷ symbol_spelling s ++ (32 ∷ ys)))
 laid_between s ts us xs ys l m = laid_over ts (Sign s ∷ us) xs (32 ∷ symbol_spelling s ++ (32 ∷ ys)) l (laid_blank 32 (Sign s ∷ us) (symbol_spelling s ++ (32 ∷ ys)) refl (laid_sign s us (32 ∷ ys) (laid_blank 32 us ys refl m))) (λ rest q. refl)
 
-laid_form : (f : FormulaSyntax) → HasWords f → Laid (spelled f) (syntax_text f)
+laid_formula : (f : FormulaSyntax) → HasWords f → Laid (spelled f) (syntax_text f)
 unfolding HasWords
-laid_form (Name w) h = laid_word w h
-laid_form Truth h = laid_word (codes "true") (word_is (codes "true") refl)
-laid_form Falsity h = laid_word (codes "false") (word_is (codes "false") refl)
-laid_form (Not f) h = laid_sign Bang (spelled f) (syntax_text f) (laid_form f h)
-laid_form (Group f) h = laid_sign Open (spelled f ++ Sign Close ∷ []) (syntax_text f ++ codes ")")
-    (laid_over (spelled f) (Sign Close ∷ []) (syntax_text f) (codes ")") (laid_form f h) (laid_sign Close [] [] laid_none) (λ rest q. refl))
-laid_form (And f g) h = laid_between Ampersand (spelled f) (spelled g) (syntax_text f) (syntax_text g) (laid_form f h.0) (laid_form g h.1)
-laid_form (Or f g) h = laid_between Bar (spelled f) (spelled g) (syntax_text f) (syntax_text g) (laid_form f h.0) (laid_form g h.1)
-laid_form (Implies f g) h = laid_between Arrow (spelled f) (spelled g) (syntax_text f) (syntax_text g) (laid_form f h.0) (laid_form g h.1)
-laid_form (Iff f g) h = laid_between DoubleArrow (spelled f) (spelled g) (syntax_text f) (syntax_text g) (laid_form f h.0) (laid_form g h.1)
+laid_formula (Name w) h = laid_word w h
+laid_formula Truth h = laid_word (codes "true") (word_is (codes "true") refl)
+laid_formula Falsity h = laid_word (codes "false") (word_is (codes "false") refl)
+laid_formula (Not f) h = laid_sign Bang (spelled f) (syntax_text f) (laid_formula f h)
+laid_formula (Group f) h = laid_sign Open (spelled f ++ Sign Close ∷ []) (syntax_text f ++ codes ")")
+    (laid_over (spelled f) (Sign Close ∷ []) (syntax_text f) (codes ")") (laid_formula f h) (laid_sign Close [] [] laid_none) (λ rest q. refl))
+laid_formula (And f g) h = laid_between Ampersand (spelled f) (spelled g) (syntax_text f) (syntax_text g) (laid_formula f h.0) (laid_formula g h.1)
+laid_formula (Or f g) h = laid_between Bar (spelled f) (spelled g) (syntax_text f) (syntax_text g) (laid_formula f h.0) (laid_formula g h.1)
+laid_formula (Implies f g) h = laid_between Arrow (spelled f) (spelled g) (syntax_text f) (syntax_text g) (laid_formula f h.0) (laid_formula g h.1)
+laid_formula (Iff f g) h = laid_between DoubleArrow (spelled f) (spelled g) (syntax_text f) (syntax_text g) (laid_formula f h.0) (laid_formula g h.1)
 
 -- a probability
 
@@ -196,7 +194,7 @@ laid_given (Some f) h =
     laid_blank 32 (Word (codes "given") ∷ (spelled f ++ Sign Close ∷ [])) (codes "given " ++ (syntax_text f ++ codes ")")) refl
     (laid_over (Word (codes "given") ∷ []) (spelled f ++ Sign Close ∷ []) (codes "given") (32 ∷ (syntax_text f ++ codes ")")) (laid_word (codes "given") (word_is (codes "given") refl))
     (laid_blank 32 (spelled f ++ Sign Close ∷ []) (syntax_text f ++ codes ")") refl
-    (laid_over (spelled f) (Sign Close ∷ []) (syntax_text f) (codes ")") (laid_form f h) (laid_sign Close [] [] laid_none) (λ rest q. refl)))
+    (laid_over (spelled f) (Sign Close ∷ []) (syntax_text f) (codes ")") (laid_formula f h) (laid_sign Close [] [] laid_none) (λ rest q. refl)))
     (λ rest q. refl))
 
 quiet_given : (g : Option FormulaSyntax) (rest : List ℕ) → Quiet ((given_text g ++ codes ")") ++ rest)
@@ -209,7 +207,7 @@ laid_prob p h k =
     (laid_word (codes "P") (word_is (codes "P") refl))
     (laid_sign Open (spelled p.formula ++ given_tokens p.given ++ Sign Close ∷ []) (syntax_text p.formula ++ (given_text p.given ++ codes ")"))
     (subst (λ ts. Laid ts (syntax_text p.formula ++ (given_text p.given ++ codes ")"))) (sym (append_assoc (spelled p.formula) (given_tokens p.given) (Sign Close ∷ [])))
-    (laid_over (spelled p.formula) (given_tokens p.given ++ Sign Close ∷ []) (syntax_text p.formula) (given_text p.given ++ codes ")") (laid_form p.formula h) (laid_given p.given k) (λ rest q. quiet_given p.given rest))))
+    (laid_over (spelled p.formula) (given_tokens p.given ++ Sign Close ∷ []) (syntax_text p.formula) (given_text p.given ++ codes ")") (laid_formula p.formula h) (laid_given p.given k) (λ rest q. quiet_given p.given rest))))
     (λ rest q. refl)
 
 -- a relation
@@ -271,11 +269,11 @@ has_given_words (Some f) h = has_words f h.names
 
 given_within : (g : Option (formula.Formula meaning.Name)) → IsWritableGiven g → IsGiven (canonical_given g)
 given_within None h = tt
-given_within (Some f) h = (is_form f h.names, h.nests)
+given_within (Some f) h = (well_formed f h.names, h.nests)
 
 given_meant : (g : Option (formula.Formula meaning.Name)) → g ≡ given_of (canonical_given g)
 given_meant None = refl
-given_meant (Some f) = ap Some (sym (form_meant f))
+given_meant (Some f) = ap Some (sym (formula_meant f))
 
 -- a relation within the limits that states a side and values
 record Related (s : Side) (r : Ratio) (upper : Option Ratio) (x : Relation) : Type 0 where
@@ -294,7 +292,7 @@ related side.AtLeast r (Some q) h u = let n = numbers r h in let m = numbers q u
     record { numerals = (n.numeral, m.numeral); within = (n.probability, m.probability); states = (refl, n.meant, m.meant) }
 
 prob_within : (f : formula.Formula meaning.Name) (g : Option (formula.Formula meaning.Name)) → IsWritable f → IsWritableGiven g → IsProb (canonical_prob f g)
-prob_within f g h k = record { formula = is_form f h.names; nests = h.nests; given = given_within g k }
+prob_within f g h k = record { formula = well_formed f h.names; nests = h.nests; given = given_within g k }
 
 -- an item as it is written is within the limits and means the item, and its line is its tokens
 record Written (i : Item) : Type 0 where
@@ -305,12 +303,12 @@ record Written (i : Item) : Type 0 where
 written : (i : Item) → IsLawfulItem i → Written i
 written (Stated s) h = let r = related s.side s.value s.upper h.2 h.3 in record {
   within = (prob_within s.formula s.given h.0 h.1, r.within);
-  meant = record { formula = sym (form_meant s.formula); given = given_meant s.given; stated = r.states };
+  meant = record { formula = sym (formula_meant s.formula); given = given_meant s.given; stated = r.states };
   line = shut_sentence (canonical_prob s.formula s.given) (canonical_relation s.side s.value s.upper) (has_words s.formula h.0.names) (has_given_words s.given h.1) r.numerals;
 }
 written (Asked q) h = record {
   within = prob_within q.formula q.given h.0 h.1;
-  meant = λ i. record { formula = sym (form_meant q.formula) i; given = given_meant q.given i };
+  meant = λ i. record { formula = sym (formula_meant q.formula) i; given = given_meant q.given i };
   line = shut_query (canonical_prob q.formula q.given) (has_words q.formula h.0.names) (has_given_words q.given h.1);
 }
 

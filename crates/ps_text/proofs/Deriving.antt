@@ -94,15 +94,15 @@ name_expected q g os w r l = let h : nat_lt 32 (length w) ≡ false = grind (ari
 room : (n : ℕ) → n < 100 → nat_lt n 100 ≡ true
 room n h = grind (arith, nat_tests)
 
-pub form_passes : (f : FormulaSyntax) (q g : Bool) (os : List Opening) → IsWellFormed f → Nests (length os) f → needed os ≤ level f
+pub formula_passes : (f : FormulaSyntax) (q g : Bool) (os : List Opening) → IsWellFormed f → Nests (length os) f → needed os ≤ level f
     → Passes (state part.Operand q g os) (spelled f) (state part.Operator q g (behind f os))
 unfolding refusal after
-form_passes (Name w) q g os i n u = (name_expected q g os w i.0 i.1, refl)
-form_passes Truth q g os i n u = (refl, refl)
-form_passes Falsity q g os i n u = (refl, refl)
-form_passes (Not f) q g os i n u =
+formula_passes (Name w) q g os i n u = (name_expected q g os w i.0 i.1, refl)
+formula_passes Truth q g os i n u = (refl, refl)
+formula_passes Falsity q g os i n u = (refl, refl)
+formula_passes (Not f) q g os i n u =
     let inner : Passes (state part.Operand q g (opening.Not ∷ os)) (spelled f) (state part.Operator q g (behind f (opening.Not ∷ os))) =
-    form_passes f q g (opening.Not ∷ os) i.1 (subst (λ k. Nests k f) (add-one (length os)) n.1) i.0 in
+    formula_passes f q g (opening.Not ∷ os) i.1 (subst (λ k. Nests k f) (add-one (length os)) n.1) i.0 in
     (rw (room (length os) n.0) refl, subst (λ x. Passes (state part.Operand q g (opening.Not ∷ os)) (spelled f) (state part.Operator q g x)) (unary_behind f (opening.Not ∷ os) i.0) inner)
   where
     unary_behind : (f : FormulaSyntax) (os : List Opening) → 5 ≤ level f → behind f os ≡ without_nots os
@@ -115,47 +115,47 @@ form_passes (Not f) q g os i n u =
     unary_behind Falsity os l = refl
     unary_behind (Not f) os l = refl
     unary_behind (Group f) os l = refl
-form_passes (Group f) q g os i n u = (
+formula_passes (Group f) q g os i n u = (
   rw (room (length os) n.0) refl,
   passes-append (state part.Operand q g (opening.Group ∷ os)) (state part.Operator q g (behind f (opening.Group ∷ os))) (state part.Operator q g (without_nots os)) (spelled f) (Sign Close ∷ [])
-      (form_passes f q g (opening.Group ∷ os) i (subst (λ k. Nests k f) (add-one (length os)) n.1) (level_some f))
+      (formula_passes f q g (opening.Group ∷ os) i (subst (λ k. Nests k f) (add-one (length os)) n.1) (level_some f))
       (refl, rw (behind_ended f (opening.Group ∷ os) refl) refl),
 )
-form_passes (And f h) q g os i n u =
+formula_passes (And f h) q g os i n u =
     let settled : without_nots os ≡ os = no_nots os (omega (arith, u)) in
     passes-append (state part.Operand q g os) (state part.Operator q g (behind f os)) (state part.Operator q g os) (spelled f) (Sign Ampersand ∷ spelled h)
-    (form_passes f q g os i.2 n.0 (omega (arith, u, i.0))) (
+    (formula_passes f q g os i.2 n.0 (omega (arith, u, i.0))) (
       refl,
       subst (λ x. Passes (state part.Operand q g x) (spelled h) (state part.Operator q g os)) (sym (behind_tight f os (omega (arith, i.0)) settled))
           (subst (λ x. Passes (state part.Operand q g os) (spelled h) (state part.Operator q g x)) (behind_tight h os (omega (arith, i.1)) settled)
-          (form_passes h q g os i.3 n.1 (omega (arith, u, i.1)))),
+          (formula_passes h q g os i.3 n.1 (omega (arith, u, i.1)))),
     )
-form_passes (Or f h) q g os i n u =
+formula_passes (Or f h) q g os i n u =
     let settled : without_nots os ≡ os = no_nots os (omega (arith, u)) in
     passes-append (state part.Operand q g os) (state part.Operator q g (behind f os)) (state part.Operator q g os) (spelled f) (Sign Bar ∷ spelled h)
-    (form_passes f q g os i.2 n.0 (omega (arith, u, i.0))) (
+    (formula_passes f q g os i.2 n.0 (omega (arith, u, i.0))) (
       refl,
       subst (λ x. Passes (state part.Operand q g x) (spelled h) (state part.Operator q g os)) (sym (behind_tight f os (omega (arith, i.0)) settled))
           (subst (λ x. Passes (state part.Operand q g os) (spelled h) (state part.Operator q g x)) (behind_tight h os (omega (arith, i.1)) settled)
-          (form_passes h q g os i.3 n.1 (omega (arith, u, i.1)))),
+          (formula_passes h q g os i.3 n.1 (omega (arith, u, i.1)))),
     )
-form_passes (Implies f h) q g os i n u =
+formula_passes (Implies f h) q g os i n u =
     let settled : without_nots os ≡ os = no_nots os (omega (arith, u)) in
     let tight : behind f os ≡ os = behind_tight f os i.0 settled in
     passes-append (state part.Operand q g os) (state part.Operator q g (behind f os)) (state part.Operator q g (behind h (opening.Arrow ∷ os))) (spelled f) (Sign Arrow ∷ spelled h)
-    (form_passes f q g os i.2 n.0 (omega (arith, u, i.0))) (
+    (formula_passes f q g os i.2 n.0 (omega (arith, u, i.0))) (
       rw (tight, room (length os) n.1) refl,
       subst (λ x. Passes (state part.Operand q g (opening.Arrow ∷ x)) (spelled h) (state part.Operator q g (behind h (opening.Arrow ∷ os)))) (sym tight)
-          (form_passes h q g (opening.Arrow ∷ os) i.3 (subst (λ k. Nests k h) (add-one (length os)) n.2) i.1),
+          (formula_passes h q g (opening.Arrow ∷ os) i.3 (subst (λ k. Nests k h) (add-one (length os)) n.2) i.1),
     )
-form_passes (Iff f h) q g os i n u =
+formula_passes (Iff f h) q g os i n u =
     let settled : without_nots os ≡ os = no_nots os (omega (arith, u)) in
     let ended : without_arrows (behind f os) ≡ os = behind_ended f os settled ∙ no_arrows os u in
     passes-append (state part.Operand q g os) (state part.Operator q g (behind f os)) (state part.Operator q g (behind h os)) (spelled f) (Sign DoubleArrow ∷ spelled h)
-    (form_passes f q g os i.2 n.0 (omega (arith, u, i.0))) (
+    (formula_passes f q g os i.2 n.0 (omega (arith, u, i.0))) (
       refl,
       subst (λ x. Passes (state part.Operand q g x) (spelled h) (state part.Operator q g (behind h os))) (sym ended)
-          (form_passes h q g os i.3 n.1 (omega (arith, u, i.1))),
+          (formula_passes h q g os i.3 n.1 (omega (arith, u, i.1))),
     )
 
 -- behind a formula and its `)`
@@ -169,7 +169,7 @@ given_passes f None q i = prob_end f q false
 given_passes f (Some c) q i = (
   rw (behind_groups f [] refl) refl,
   passes-append (state part.Operand q true []) (state part.Operator q true (behind c [])) (prob_ended q) (spelled c) (Sign Close ∷ [])
-      (form_passes c q true [] i.0 i.1 (level_some c)) (prob_end c q true),
+      (formula_passes c q true [] i.0 i.1 (level_some c)) (prob_end c q true),
 )
 
 prob_passes : (p : Prob) (q : Bool) → IsProb p → Passes (state part.Paren q false []) (Sign Open ∷ spelled p.formula ++ given_tokens p.given ++ Sign Close ∷ []) (prob_ended q)
@@ -178,7 +178,7 @@ prob_passes p q i = (
   refl,
   subst (λ ts. Passes (state part.Operand q false []) ts (prob_ended q)) (sym (append_assoc (spelled p.formula) (given_tokens p.given) (Sign Close ∷ [])))
       (passes-append (state part.Operand q false []) (state part.Operator q false (behind p.formula [])) (prob_ended q) (spelled p.formula) (given_tokens p.given ++ Sign Close ∷ [])
-      (form_passes p.formula q false [] i.formula i.nests (level_some p.formula)) (given_passes p.formula p.given q i.given)),
+      (formula_passes p.formula q false [] i.formula i.nests (level_some p.formula)) (given_passes p.formula p.given q i.given)),
 )
 
 number_expected : (x : Numeral) → IsProbability x → value_fault x ≡ None

@@ -6,7 +6,7 @@ use Rattle.std.specs.Prelude.{bytes_eq, codes, if◌then◌else◌, nat_lt}
 use Rattle.std.specs.List.{list_any}
 use Rattle.ps_text.specs.Tokens.{Token, Word, Number, Sign, Open, Close, Bang, Ampersand, Bar, Arrow, DoubleArrow, is_the_sign, is_the_word}
 use Rattle.ps_text.specs.declared.kind.ReadKind.TheVariants.{TooDeep}
-use Rattle.ps_text.specs.Grammar.{is_reserved, FormulaSyntax, Name, Truth, Falsity, Group, spelled, level, IsWellFormed, Nests, ItemSyntax, Query, prob_tokens, IsGiven, IsProb, AreWellFormedItems}
+use Rattle.ps_text.specs.Grammar.{is_reserved, FormulaSyntax, Name, Truth, Falsity, Group, spelled, level, IsWellFormed, Nests, ItemSyntax, Query, prob_tokens, IsGiven, IsProb, AreWellFormedItems, tokens_up_to}
 use Rattle.ps_text.specs.declared.part.Part.TheVariants as part
 use Rattle.ps_text.specs.declared.part.Opening.{Opening}
 use Rattle.ps_text.specs.declared.part.Opening.TheVariants as opening
@@ -14,8 +14,8 @@ use Rattle.ps_text.specs.ExpectedTokens.{is_operand_word, is_connective, is_grou
 use Rattle.ps_text.proofs.Spans.{both}
 use Rattle.ps_text.proofs.Signs.{the_word, the_sign, Either, First, Second, either}
 use Rattle.ps_text.specs.BegunFormulas.{Frame, BegunNot, BegunGroup, BegunAnd, BegunOr, BegunImplies, BegunIff, frame_tokens, opened_of, required_level, IsNextOperand, joins}
-use Rattle.ps_text.proofs.Frames.{joins_tokens, joins_fits, joins_level, joins_need, joins_settled, nots_opened, and_opened, or_opened, all_opened, all_joined}
-use Rattle.ps_text.specs.PartialParses.{InOperand, InOperator, prob_of, state_of, items_lead, prob_lead, formula_lead, item_body, parsed_tokens, IsExtendedBy, IsParse, operand_of, behind_close}
+use Rattle.ps_text.proofs.Frames.{most_required, joins_tokens, joins_fits, joins_level, joins_need, joins_settled, nots_opened, and_opened, or_opened, all_opened, all_joined}
+use Rattle.ps_text.specs.PartialParses.{InOperand, InOperator, prob_of, state_of, prob_lead, formula_lead, item_body, parsed_tokens, IsExtendedBy, IsParse, operand_of, behind_close}
 use Rattle.ps_text.proofs.Steps.{Passed, unless}
 
 -- an operand of the tightest level
@@ -36,15 +36,6 @@ the_operand w short h = by (bytes_eq w (codes "true")) refl (bytes_eq w (codes "
     by true e b f = record { is = ap (λ u. Word u ∷ []) (sym ((bytes_eq-Decides w (codes "true")).0 e)); formula = tt; nests = λ n. tt; tight = omega arith }
     by false e true f = record { is = ap (λ u. Word u ∷ []) (sym ((bytes_eq-Decides w (codes "false")).0 f)); formula = tt; nests = λ n. tt; tight = omega arith }
     by false e false f = record { is = refl; formula = (name (is_reserved w) refl h e f, grind (arith, nat_tests)); nests = λ n. tt; tight = omega arith }
-
-least_need : (fs : List Frame) → required_level fs ≤ 5
-least_need [] = omega arith
-least_need (BegunNot ∷ fs) = omega arith
-least_need (BegunGroup ∷ fs) = omega arith
-least_need (BegunAnd f ∷ fs) = omega arith
-least_need (BegunOr f ∷ fs) = omega arith
-least_need (BegunImplies f ∷ fs) = omega arith
-least_need (BegunIff f ∷ fs) = omega arith
 
 -- the nesting that is opened is one of the first 100
 room : (n : ℕ) → unless (nat_lt n 100) TooDeep ≡ None → n < 100
@@ -67,7 +58,7 @@ at_operand es q c fs t s h = by (either (is_operand_word t || is_the_sign Bang t
     word (Sign x) l e = absurd (true≢false (sym e))
     word (Word w) l e =
         let o = the_operand w l e in
-        let fits : IsNextOperand fs (operand_of w) = record { needed = omega (arith, least_need fs, o.tight); formula = o.formula; nests = o.nests (length (opened_of fs)); frames = s.2 } in
+        let fits : IsNextOperand fs (operand_of w) = record { needed = omega (arith, most_required fs, o.tight); formula = o.formula; nests = o.nests (length (opened_of fs)); frames = s.2 } in
         record {
           state = ap (λ os. record { part = part.Operator; query = q; given = is_some c; opened = os }) (nots_opened fs (operand_of w) s.2);
           tokens = ap (λ ts. formula_lead es q c ++ ts) (joins_tokens 5 fs (operand_of w) (omega arith) ∙ ap (λ ts. frame_tokens fs ++ ts) o.is)
@@ -100,25 +91,25 @@ last_two : (l x : List Token) (t : Token) (y : List Token) → y ≡ x → l ++ 
 last_two l x t y e = ap (λ ts. l ++ (ts ++ t ∷ [])) e ∙ sym (append_assoc l x (t ∷ []))
 
 -- where a probability ends
-query_end : (es : List ItemSyntax) (c : Option FormulaSyntax) (f : FormulaSyntax) → items_lead es ++ item_body (Query (prob_of c f)) ≡ formula_lead es true c ++ spelled f ++ Sign Close ∷ []
+query_end : (es : List ItemSyntax) (c : Option FormulaSyntax) (f : FormulaSyntax) → tokens_up_to es ++ item_body (Query (prob_of c f)) ≡ formula_lead es true c ++ spelled f ++ Sign Close ∷ []
 query_end es None f =
-    ap (λ ts. items_lead es ++ (Word (codes "query") ∷ Word (codes "P") ∷ Sign Open ∷ (ts ++ Sign Close ∷ []))) (append-nil (spelled f))
-    ∙ sym (append_assoc (items_lead es) (Word (codes "query") ∷ Word (codes "P") ∷ Sign Open ∷ spelled f) (Sign Close ∷ []))
-    ∙ ap (λ ts. ts ++ Sign Close ∷ []) (sym (append_assoc (items_lead es) (Word (codes "query") ∷ Word (codes "P") ∷ Sign Open ∷ []) (spelled f)))
+    ap (λ ts. tokens_up_to es ++ (Word (codes "query") ∷ Word (codes "P") ∷ Sign Open ∷ (ts ++ Sign Close ∷ []))) (append-nil (spelled f))
+    ∙ sym (append_assoc (tokens_up_to es) (Word (codes "query") ∷ Word (codes "P") ∷ Sign Open ∷ spelled f) (Sign Close ∷ []))
+    ∙ ap (λ ts. ts ++ Sign Close ∷ []) (sym (append_assoc (tokens_up_to es) (Word (codes "query") ∷ Word (codes "P") ∷ Sign Open ∷ []) (spelled f)))
 query_end es (Some g) f =
-    sym (append_assoc (items_lead es) (Word (codes "query") ∷ Word (codes "P") ∷ Sign Open ∷ (spelled g ++ Word (codes "given") ∷ spelled f)) (Sign Close ∷ []))
-    ∙ ap (λ ts. ts ++ Sign Close ∷ []) (ap (λ ts. items_lead es ++ (Word (codes "query") ∷ Word (codes "P") ∷ Sign Open ∷ ts)) (sym (append_assoc (spelled g) (Word (codes "given") ∷ []) (spelled f)))
-    ∙ sym (append_assoc (items_lead es) (Word (codes "query") ∷ Word (codes "P") ∷ Sign Open ∷ (spelled g ++ Word (codes "given") ∷ [])) (spelled f)))
+    sym (append_assoc (tokens_up_to es) (Word (codes "query") ∷ Word (codes "P") ∷ Sign Open ∷ (spelled g ++ Word (codes "given") ∷ spelled f)) (Sign Close ∷ []))
+    ∙ ap (λ ts. ts ++ Sign Close ∷ []) (ap (λ ts. tokens_up_to es ++ (Word (codes "query") ∷ Word (codes "P") ∷ Sign Open ∷ ts)) (sym (append_assoc (spelled g) (Word (codes "given") ∷ []) (spelled f)))
+    ∙ sym (append_assoc (tokens_up_to es) (Word (codes "query") ∷ Word (codes "P") ∷ Sign Open ∷ (spelled g ++ Word (codes "given") ∷ [])) (spelled f)))
 
-sentence_end : (es : List ItemSyntax) (c : Option FormulaSyntax) (f : FormulaSyntax) → items_lead es ++ prob_tokens (prob_of c f) ≡ formula_lead es false c ++ spelled f ++ Sign Close ∷ []
+sentence_end : (es : List ItemSyntax) (c : Option FormulaSyntax) (f : FormulaSyntax) → tokens_up_to es ++ prob_tokens (prob_of c f) ≡ formula_lead es false c ++ spelled f ++ Sign Close ∷ []
 sentence_end es None f =
-    ap (λ ts. items_lead es ++ (Word (codes "P") ∷ Sign Open ∷ (ts ++ Sign Close ∷ []))) (append-nil (spelled f))
-    ∙ sym (append_assoc (items_lead es) (Word (codes "P") ∷ Sign Open ∷ spelled f) (Sign Close ∷ []))
-    ∙ ap (λ ts. ts ++ Sign Close ∷ []) (sym (append_assoc (items_lead es) (Word (codes "P") ∷ Sign Open ∷ []) (spelled f)))
+    ap (λ ts. tokens_up_to es ++ (Word (codes "P") ∷ Sign Open ∷ (ts ++ Sign Close ∷ []))) (append-nil (spelled f))
+    ∙ sym (append_assoc (tokens_up_to es) (Word (codes "P") ∷ Sign Open ∷ spelled f) (Sign Close ∷ []))
+    ∙ ap (λ ts. ts ++ Sign Close ∷ []) (sym (append_assoc (tokens_up_to es) (Word (codes "P") ∷ Sign Open ∷ []) (spelled f)))
 sentence_end es (Some g) f =
-    sym (append_assoc (items_lead es) (Word (codes "P") ∷ Sign Open ∷ (spelled g ++ Word (codes "given") ∷ spelled f)) (Sign Close ∷ []))
-    ∙ ap (λ ts. ts ++ Sign Close ∷ []) (ap (λ ts. items_lead es ++ (Word (codes "P") ∷ Sign Open ∷ ts)) (sym (append_assoc (spelled g) (Word (codes "given") ∷ []) (spelled f)))
-    ∙ sym (append_assoc (items_lead es) (Word (codes "P") ∷ Sign Open ∷ (spelled g ++ Word (codes "given") ∷ [])) (spelled f)))
+    sym (append_assoc (tokens_up_to es) (Word (codes "P") ∷ Sign Open ∷ (spelled g ++ Word (codes "given") ∷ spelled f)) (Sign Close ∷ []))
+    ∙ ap (λ ts. ts ++ Sign Close ∷ []) (ap (λ ts. tokens_up_to es ++ (Word (codes "P") ∷ Sign Open ∷ ts)) (sym (append_assoc (spelled g) (Word (codes "given") ∷ []) (spelled f)))
+    ∙ sym (append_assoc (tokens_up_to es) (Word (codes "P") ∷ Sign Open ∷ (spelled g ++ Word (codes "given") ∷ [])) (spelled f)))
 
 prob_sound : (c : Option FormulaSyntax) (f : FormulaSyntax) → IsGiven c → IsWellFormed f → Nests 0 f → IsProb (prob_of c f)
 prob_sound None f g i n = record { formula = i; nests = n; given = tt }
@@ -134,7 +125,7 @@ closes : (es : List ItemSyntax) (q : Bool) (c : Option FormulaSyntax) (fs : List
 closes es true c [] f s g n i = record { state = refl; tokens = query_end es c f ∙ append_assoc (formula_lead es true c) (spelled f) (Sign Close ∷ []); within = (s, prob_sound c f g i.formula i.nests) }
 closes es false c [] f s g n i = record { state = refl; tokens = sentence_end es c f ∙ append_assoc (formula_lead es false c) (spelled f) (Sign Close ∷ []); within = (s, prob_sound c f g i.formula i.nests) }
 closes es q c (BegunGroup ∷ fs) f s g n i =
-    let fits : IsNextOperand fs (Group f) = record { needed = least_need fs; formula = i.formula; nests = (i.frames.0, subst (λ k. Nests k f) (sym (add-one (length (opened_of fs)))) i.nests); frames = i.frames.1 } in
+    let fits : IsNextOperand fs (Group f) = record { needed = most_required fs; formula = i.formula; nests = (i.frames.0, subst (λ k. Nests k f) (sym (add-one (length (opened_of fs)))) i.nests); frames = i.frames.1 } in
     record {
       state = ap (λ os. record { part = part.Operator; query = q; given = is_some c; opened = os }) (nots_opened fs (Group f) i.frames.1);
       tokens = ap (λ ts. formula_lead es q c ++ ts)
@@ -224,7 +215,7 @@ at_given es q None fs f s n m =
     }
   where
     given_lead : (es : List ItemSyntax) (q : Bool) (g : FormulaSyntax) → formula_lead es q (Some g) ≡ formula_lead es q None ++ (spelled g ++ Word (codes "given") ∷ [])
-    given_lead es q g = ap (λ ts. items_lead es ++ ts) (sym (append_assoc (prob_lead q) (Sign Open ∷ []) (spelled g ++ Word (codes "given") ∷ []))) ∙ sym (append_assoc (items_lead es) (prob_lead q ++ Sign Open ∷ []) (spelled g ++ Word (codes "given") ∷ []))
+    given_lead es q g = ap (λ ts. tokens_up_to es ++ ts) (sym (append_assoc (prob_lead q) (Sign Open ∷ []) (spelled g ++ Word (codes "given") ∷ []))) ∙ sym (append_assoc (tokens_up_to es) (prob_lead q ++ Sign Open ∷ []) (spelled g ++ Word (codes "given") ∷ []))
 
 pub at_operator : (es : List ItemSyntax) (q : Bool) (c : Option FormulaSyntax) (fs : List Frame) (f : FormulaSyntax) (t : Token) → IsParse (InOperator es q c fs f) → Passed (state_of (InOperator es q c fs f)) t → IsExtendedBy (InOperator es q c fs f) t
 at_operator es q c fs f t s h = by (either (is_connective t || is_the_sign Close t) (may_be_given (state_of (InOperator es q c fs f)) && is_the_word (codes "given") t) h.expected)

@@ -1,15 +1,16 @@
 -- Joining what is begun in a formula: its tokens, its level, and what stays open.
 use Rattle.std.proofs.Common.{◌≡◌, ℕ, suc, zero, ◌<◌, ◌≤◌, Bool, true, false, List, [], ◌∷◌, ◌++◌, length, refl, sym, subst, ◌∙◌, arith, add-one, append_assoc, true≢false}
-use Rattle.std.proofs.lemmas.Bool.Decides.{nat_tests}
 use Rattle.std.specs.Prelude.{nat_le, if◌then◌else◌}
 use Rattle.std.specs.List.{list_any}
 use Rattle.ps_text.specs.Tokens.{Sign, Bang, Ampersand, Bar, Arrow, DoubleArrow}
 use Rattle.ps_text.specs.Grammar.{FormulaSyntax, Not, And, Or, Implies, Iff, spelled, level, Nests}
 use Rattle.ps_text.specs.ExpectedTokens.{is_group, without_nots, without_arrows}
 use Rattle.ps_text.specs.BegunFormulas.{Frame, BegunNot, BegunGroup, BegunAnd, BegunOr, BegunImplies, BegunIff, frame_tokens, opened_of, required_level, own_level, joined, AreFrames, LastIsNoNot, IsNextOperand, joins}
+use Rattle.ps_text.proofs.Levels.{test_le, test_lt}
 
-abbrev chosen : ℕ → Frame → List Frame → FormulaSyntax → Bool → List Frame × FormulaSyntax
-chosen k x fs f b = if b then joins k fs (joined x f) else (x ∷ fs, f)
+-- what is begun last is joined, or stays begun
+abbrev pub joined_if : ℕ → Frame → List Frame → FormulaSyntax → Bool → List Frame × FormulaSyntax
+joined_if k x fs f b = if b then joins k fs (joined x f) else (x ∷ fs, f)
 
 join_tokens : (x : Frame) (fs : List Frame) (f : FormulaSyntax) → 1 ≤ own_level x → frame_tokens (x ∷ fs) ++ spelled f ≡ frame_tokens fs ++ spelled (joined x f)
 join_tokens BegunNot fs f h = append_assoc (frame_tokens fs) (Sign Bang ∷ []) (spelled f)
@@ -19,18 +20,19 @@ join_tokens (BegunOr g) fs f h = append_assoc (frame_tokens fs ++ spelled g) (Si
 join_tokens (BegunImplies g) fs f h = append_assoc (frame_tokens fs ++ spelled g) (Sign Arrow ∷ []) (spelled f) ∙ append_assoc (frame_tokens fs) (spelled g) (Sign Arrow ∷ spelled f)
 join_tokens (BegunIff g) fs f h = append_assoc (frame_tokens fs ++ spelled g) (Sign DoubleArrow ∷ []) (spelled f) ∙ append_assoc (frame_tokens fs) (spelled g) (Sign DoubleArrow ∷ spelled f)
 
+-- how tightly the next operand has to bind is 5 at most
+pub most_required : (fs : List Frame) → required_level fs ≤ 5
+most_required [] = omega arith
+most_required (BegunNot ∷ fs) = omega arith
+most_required (BegunGroup ∷ fs) = omega arith
+most_required (BegunAnd f ∷ fs) = omega arith
+most_required (BegunOr f ∷ fs) = omega arith
+most_required (BegunImplies f ∷ fs) = omega arith
+most_required (BegunIff f ∷ fs) = omega arith
+
 join_fits : (x : Frame) (fs : List Frame) (f : FormulaSyntax) → 1 ≤ own_level x → IsNextOperand (x ∷ fs) f → IsNextOperand fs (joined x f)
 join_fits BegunGroup fs f h i = absurd (omega (arith, h))
-join_fits BegunNot fs f h i = record { needed = most fs; formula = (i.needed, i.formula); nests = (i.frames.0, subst (λ k. Nests k f) (sym (add-one (length (opened_of fs)))) i.nests); frames = i.frames.1 }
-  where
-    most : (fs : List Frame) → required_level fs ≤ 5
-    most [] = omega arith
-    most (BegunNot ∷ fs) = omega arith
-    most (BegunGroup ∷ fs) = omega arith
-    most (BegunAnd f ∷ fs) = omega arith
-    most (BegunOr f ∷ fs) = omega arith
-    most (BegunImplies f ∷ fs) = omega arith
-    most (BegunIff f ∷ fs) = omega arith
+join_fits BegunNot fs f h i = record { needed = most_required fs; formula = (i.needed, i.formula); nests = (i.frames.0, subst (λ k. Nests k f) (sym (add-one (length (opened_of fs)))) i.nests); frames = i.frames.1 }
 join_fits (BegunAnd g) fs f h i = record { needed = i.frames.0; formula = (i.frames.1.tight, i.needed, i.frames.1.formula, i.formula); nests = (i.frames.1.nests, i.nests); frames = i.frames.2 }
 join_fits (BegunOr g) fs f h i = record { needed = i.frames.0; formula = (i.frames.1.tight, i.needed, i.frames.1.formula, i.formula); nests = (i.frames.1.nests, i.nests); frames = i.frames.2 }
 join_fits (BegunImplies g) fs f h i = record { needed = i.frames.0; formula = (i.frames.1.tight, i.needed, i.frames.1.formula, i.formula); nests = (i.frames.1.nests, i.frames.2, subst (λ k. Nests k f) (sym (add-one (length (opened_of fs)))) i.nests); frames = i.frames.3 }
@@ -44,19 +46,13 @@ join_level (BegunOr g) f h = refl
 join_level (BegunImplies g) f h = refl
 join_level (BegunIff g) f h = refl
 
-test_le : (k n : ℕ) → nat_le k n ≡ true → k ≤ n
-test_le k n h = grind (arith, nat_tests)
-
-test_lt : (k n : ℕ) → nat_le k n ≡ false → n < k
-test_lt k n h = grind (arith, nat_tests)
-
 -- what was begun and is joined stays as it is spelled
 pub joins_tokens : (k : ℕ) (fs : List Frame) (f : FormulaSyntax) → 1 ≤ k → frame_tokens (joins k fs f).0 ++ spelled (joins k fs f).1 ≡ frame_tokens fs ++ spelled f
 joins_tokens k [] f h = refl
 joins_tokens k (x ∷ fs) f h = by (nat_le k (own_level x)) refl (joins_tokens k fs (joined x f) h)
   where
     by : (b : Bool) → nat_le k (own_level x) ≡ b → frame_tokens (joins k fs (joined x f)).0 ++ spelled (joins k fs (joined x f)).1 ≡ frame_tokens fs ++ spelled (joined x f)
-        → frame_tokens (chosen k x fs f b).0 ++ spelled (chosen k x fs f b).1 ≡ frame_tokens (x ∷ fs) ++ spelled f
+        → frame_tokens (joined_if k x fs f b).0 ++ spelled (joined_if k x fs f b).1 ≡ frame_tokens (x ∷ fs) ++ spelled f
     by true e m = m ∙ sym (join_tokens x fs f (omega (arith, h, test_le k (own_level x) e)))
     by false e m = refl
 
@@ -64,7 +60,7 @@ pub joins_fits : (k : ℕ) (fs : List Frame) (f : FormulaSyntax) → 1 ≤ k →
 joins_fits k [] f h i = i
 joins_fits k (x ∷ fs) f h i = by (nat_le k (own_level x)) refl (joins_fits k fs (joined x f) h)
   where
-    by : (b : Bool) → nat_le k (own_level x) ≡ b → (IsNextOperand fs (joined x f) → IsNextOperand (joins k fs (joined x f)).0 (joins k fs (joined x f)).1) → IsNextOperand (chosen k x fs f b).0 (chosen k x fs f b).1
+    by : (b : Bool) → nat_le k (own_level x) ≡ b → (IsNextOperand fs (joined x f) → IsNextOperand (joins k fs (joined x f)).0 (joins k fs (joined x f)).1) → IsNextOperand (joined_if k x fs f b).0 (joined_if k x fs f b).1
     by true e m = m (join_fits x fs f (omega (arith, h, test_le k (own_level x) e)) i)
     by false e m = i
 
@@ -72,7 +68,7 @@ pub joins_level : (k : ℕ) (fs : List Frame) (f : FormulaSyntax) → 1 ≤ k �
 joins_level k [] f h i = i
 joins_level k (x ∷ fs) f h i = by (nat_le k (own_level x)) refl (joins_level k fs (joined x f) h)
   where
-    by : (b : Bool) → nat_le k (own_level x) ≡ b → (k ≤ level (joined x f) → k ≤ level (joins k fs (joined x f)).1) → k ≤ level (chosen k x fs f b).1
+    by : (b : Bool) → nat_le k (own_level x) ≡ b → (k ≤ level (joined x f) → k ≤ level (joins k fs (joined x f)).1) → k ≤ level (joined_if k x fs f b).1
     by true e m = m (subst (λ l. k ≤ l) (sym (join_level x f (omega (arith, h, test_le k (own_level x) e)))) (test_le k (own_level x) e))
     by false e m = i
 
@@ -122,7 +118,7 @@ pub joins_need : (k : ℕ) (fs : List Frame) (f : FormulaSyntax) → 1 ≤ need_
 joins_need k [] f h = h
 joins_need k (x ∷ fs) f h = by (nat_le k (own_level x)) refl (joins_need k fs (joined x f) h)
   where
-    by : (b : Bool) → nat_le k (own_level x) ≡ b → required_level (joins k fs (joined x f)).0 ≤ need_over k → required_level (chosen k x fs f b).0 ≤ need_over k
+    by : (b : Bool) → nat_le k (own_level x) ≡ b → required_level (joins k fs (joined x f)).0 ≤ need_over k → required_level (joined_if k x fs f b).0 ≤ need_over k
     by true e m = m
     by false e m = need_left k x fs (test_lt k (own_level x) e)
 
@@ -139,7 +135,7 @@ joins_settled k (x ∷ fs) f h = by (nat_le k (own_level x)) refl (joins_settled
     settled (BegunImplies g) h = tt
     settled (BegunIff g) h = tt
 
-    by : (b : Bool) → nat_le k (own_level x) ≡ b → LastIsNoNot (joins k fs (joined x f)).0 → LastIsNoNot (chosen k x fs f b).0
+    by : (b : Bool) → nat_le k (own_level x) ≡ b → LastIsNoNot (joins k fs (joined x f)).0 → LastIsNoNot (joined_if k x fs f b).0
     by true e m = m
     by false e m = settled x (omega (arith, h, test_lt k (own_level x) e))
 

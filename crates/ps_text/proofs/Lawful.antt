@@ -15,16 +15,12 @@ use Rattle.ps_text.specs.Fronts.{IsFront}
 use Rattle.ps_text.specs.Canonical.{HasNames, IsWritable, IsWritableGiven, IsReduced, IsUpper, IsLawfulItem, AreLawful}
 use Rattle.ps_text.proofs.Spans.{Passes}
 use Rattle.ps_text.proofs.Nesting.{read_nests}
-use Rattle.ps_text.proofs.Meant.{denominator_some}
+use Rattle.ps_text.proofs.Meant.{divisor_some, denominator_some}
 
 -- values
 
 order_left : (a b g : ℕ) → 0 < g → a * g ≤ b * g → a ≤ b
 order_left a b g h le = grind arith
-
-divisor_some : (n d g : ℕ) → 0 < n → n ≡ d * g → 0 < g
-divisor_some n d zero some e = absurd (omega (arith, some, e))
-divisor_some n d (suc g) some e = omega arith
 
 quotient_some : (n d g : ℕ) → 0 < n → n ≡ d * g → 0 < d
 quotient_some n zero g some e = absurd (omega (arith, some, e))
@@ -45,20 +41,22 @@ coprime m n a b g some h e f = (
       dvd_of_mul-dvd-mul_right d some (subst (λ z. d * g ∣ z) one (h.2 (d * g) x y)),
 )
 
+-- few decimals have a denominator within the limit
+pub tens_few : (n : ℕ) → n ≤ 6 → 10 ^ n ≤ 1000000
+tens_few n h = pow-le-pow_right {n = 10} (omega arith) {i = n} {j = 6} h
+
 denominator_small : (x : Numeral) → IsProbability x → (ratio_of x).den ≤ 1000000
 denominator_small (Whole ds) h = omega arith
 denominator_small (Quotient ds es) h = h.1
-denominator_small (Decimal ds es) h = tens (length es) h.0
-  where
-    tens : (n : ℕ) → n ≤ 6 → 10 ^ n ≤ 1000000
-    tens n l = pow-le-pow_right {n = 10} (omega arith) {i = n} {j = 6} l
+denominator_small (Decimal ds es) h = tens_few (length es) h.0
 
 at_most_one : (x : Numeral) → IsProbability x → (ratio_of x).num ≤ (ratio_of x).den
 at_most_one (Whole ds) h = h
 at_most_one (Quotient ds es) h = h.2
 at_most_one (Decimal ds es) h = h.1
 
-reduced : (x : Numeral) (r : Ratio) → IsProbability x → IsValue x r → IsReduced r
+-- the value of a number that is a probability
+pub reduced : (x : Numeral) (r : Ratio) → IsProbability x → IsValue x r → IsReduced r
 reduced x r h v =
     let q : Ratio = ratio_of x in
     let some : 0 < (ratio_of x).den = denominator_some x h in

@@ -1,4 +1,5 @@
 pub mod Spans
+pub mod Levels
 pub mod Symbols
 pub mod Longest
 pub mod Deriving

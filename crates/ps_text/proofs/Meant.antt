@@ -15,6 +15,11 @@ use Rattle.ps_text.proofs.Canonicals.{canonical_front}
 cancel : (a b g : ℕ) → 0 < g → a * g ≡ b * g → a ≡ b
 cancel a b g some e = sym (mul-div_cancel a some) ∙ ap (λ x. x / g) e ∙ mul-div_cancel b some
 
+-- a product that isn't 0 has no factor 0
+pub divisor_some : (n d g : ℕ) → 0 < n → n ≡ d * g → 0 < g
+divisor_some n d zero some e = absurd (omega (arith, some, e))
+divisor_some n d (suc g) some e = omega arith
+
 -- a fraction with a denominator of its own has one form in lowest terms
 lowest_once : (q r s : Ratio) → 0 < q.den → IsLowest q r → IsLowest q s → r ≡ s
 lowest_once q r s some h k =
@@ -23,10 +28,6 @@ lowest_once q r s some h k =
     let right : q.den ≡ s.den * h.divisor = subst (λ g. q.den ≡ s.den * g) (sym same) k.den in
     let positive : 0 < h.divisor = divisor_some q.den r.den h.divisor some h.den in
     λ i. record { num = cancel r.num s.num h.divisor positive (sym h.num ∙ left) i; den = cancel r.den s.den h.divisor positive (sym h.den ∙ right) i }
-  where
-    divisor_some : (n d g : ℕ) → 0 < n → n ≡ d * g → 0 < g
-    divisor_some n d zero some e = absurd (omega (arith, some, e))
-    divisor_some n d (suc g) some e = omega arith
 
 pow_pos_of : (es : List ℕ) → 0 < 10 ^ length es
 pow_pos_of [] = omega arith

@@ -6,33 +6,15 @@ use Rattle.ps_meaning.specs.Formula as formula
 use Rattle.ps_meaning.specs.Statements as meaning
 use Rattle.ps_text.specs.Grammar.{FormulaSyntax, Name, Truth, Falsity, Not, Group, And, Or, Implies, Iff, level, IsWellFormed, Nests}
 use Rattle.ps_text.specs.Meanings.{formula_of}
-use Rattle.ps_text.specs.Canonical.{fitted, canonical_formula}
-
--- the words of `ps_problem.specs.Drafts`
-abbrev pub parenthesis : ℕ → ℕ → ℕ
-parenthesis required level = if nat_lt level required then 1 else 0
-
-abbrev pub nesting_at : ℕ → formula.Formula meaning.Name → ℕ
-nesting_at required formula.Truth = 0
-nesting_at required formula.Falsity = 0
-nesting_at required (formula.Atom a) = 0
-nesting_at required (formula.Not f) = 1 + nesting_at 5 f
-nesting_at required (formula.And f g) = parenthesis required 4 + max (nesting_at 4 f) (nesting_at 5 g)
-nesting_at required (formula.Or f g) = parenthesis required 3 + max (nesting_at 3 f) (nesting_at 4 g)
-nesting_at required (formula.Implies f g) = parenthesis required 2 + max (nesting_at 3 f) (1 + nesting_at 2 g)
-nesting_at required (formula.Iff f g) = parenthesis required 1 + max (nesting_at 1 f) (nesting_at 2 g)
-
-at_least : (k l : ℕ) → nat_le k l ≡ true → k ≤ l
-at_least k l e = grind (arith, nat_tests)
+use Rattle.ps_text.specs.Canonical.{fitted, canonical_formula, parenthesis, nesting_at, canonical_nesting}
+use Rattle.ps_text.proofs.Levels.{test_true}
 
 below : (k l : ℕ) → nat_le k l ≡ false → nat_lt l k ≡ true
 below k l e = grind (arith, nat_tests)
 
-is_at_least : (k l : ℕ) → k ≤ l → nat_le k l ≡ true
-is_at_least k l h = grind (arith, nat_tests)
-
-fits : (k : ℕ) (f : FormulaSyntax) → k ≤ level f → fitted k f ≡ f
-fits k f h = rw (is_at_least k (level f) h) refl
+-- what binds tightly enough stands without parentheses
+pub fits : (k : ℕ) (f : FormulaSyntax) → k ≤ level f → fitted k f ≡ f
+fits k f h = rw (test_true k (level f) h) refl
 
 parenthesis_one : (k l : ℕ) → nat_le k l ≡ false → parenthesis k l ≡ 1
 parenthesis_one k l e = rw (below k l e) refl
@@ -60,20 +42,21 @@ nests_at (formula.Implies f g) k n l h = fitted_nests k n (max (nesting_at 3 f) 
 nests_at (formula.Iff f g) k n l h = fitted_nests k n (max (nesting_at 1 f) (nesting_at 2 g)) (Iff (fitted 1 (canonical_formula f)) (fitted 2 (canonical_formula g))) h
     (λ i q. (nests_at f 1 i (omega arith) (omega (arith, q)), nests_at g 2 i (omega arith) (omega (arith, q))))
 
-least : (f : FormulaSyntax) → 1 ≤ level f
-least (Iff f g) = omega arith
-least (Implies f g) = omega arith
-least (Or f g) = omega arith
-least (And f g) = omega arith
-least (Name w) = omega arith
-least Truth = omega arith
-least Falsity = omega arith
-least (Not f) = omega arith
-least (Group f) = omega arith
+-- each level is 1 at least
+pub least_level : (f : FormulaSyntax) → 1 ≤ level f
+least_level (Iff f g) = omega arith
+least_level (Implies f g) = omega arith
+least_level (Or f g) = omega arith
+least_level (And f g) = omega arith
+least_level (Name w) = omega arith
+least_level Truth = omega arith
+least_level Falsity = omega arith
+least_level (Not f) = omega arith
+least_level (Group f) = omega arith
 
 -- a formula whose canonical nesting is at most 100 is written so
-pub nests_canonical : (f : formula.Formula meaning.Name) → nesting_at 1 f ≤ 100 → Nests 0 (canonical_formula f)
-nests_canonical f h = subst (Nests 0) (fits 1 (canonical_formula f) (least (canonical_formula f))) (nests_at f 1 0 (omega arith) (omega (arith, h)))
+pub nests_canonical : (f : formula.Formula meaning.Name) → canonical_nesting f ≤ 100 → Nests 0 (canonical_formula f)
+nests_canonical f h = subst (Nests 0) (fits 1 (canonical_formula f) (least_level (canonical_formula f))) (nests_at f 1 0 (omega arith) (omega (arith, h)))
 
 -- where fewer are open before, fewer are ever open
 nests_less : (f : FormulaSyntax) (n : ℕ) → Nests (n + 1) f → Nests n f
@@ -101,7 +84,7 @@ written_nests Truth k n l i h = subst (Nests n) (sym (fits k Truth l)) tt
 written_nests Falsity k n l i h = subst (Nests n) (sym (fits k Falsity l)) tt
 written_nests (Not f) k n l i h = subst (Nests n) (sym (fits k (Not (fitted 5 (canonical_formula (formula_of f)))) l)) (h.0, written_nests f 5 (n + 1) i.0 i.1 h.1)
 written_nests (Group f) k n l i h = group_nests k n (canonical_formula (formula_of f)) h.0
-    (subst (Nests (n + 1)) (fits 1 (canonical_formula (formula_of f)) (least (canonical_formula (formula_of f)))) (written_nests f 1 (n + 1) (least f) i h.1))
+    (subst (Nests (n + 1)) (fits 1 (canonical_formula (formula_of f)) (least_level (canonical_formula (formula_of f)))) (written_nests f 1 (n + 1) (least_level f) i h.1))
 written_nests (And f g) k n l i h = subst (Nests n) (sym (fits k (And (fitted 4 (canonical_formula (formula_of f))) (fitted 5 (canonical_formula (formula_of g)))) l)) (written_nests f 4 n i.0 i.2 h.0, written_nests g 5 n i.1 i.3 h.1)
 written_nests (Or f g) k n l i h = subst (Nests n) (sym (fits k (Or (fitted 3 (canonical_formula (formula_of f))) (fitted 4 (canonical_formula (formula_of g)))) l)) (written_nests f 3 n i.0 i.2 h.0, written_nests g 4 n i.1 i.3 h.1)
 written_nests (Implies f g) k n l i h = subst (Nests n) (sym (fits k (Implies (fitted 3 (canonical_formula (formula_of f))) (fitted 2 (canonical_formula (formula_of g)))) l)) (written_nests f 3 n i.0 i.2 h.0, h.1, written_nests g 2 (n + 1) i.1 i.3 h.2)
@@ -109,4 +92,4 @@ written_nests (Iff f g) k n l i h = subst (Nests n) (sym (fits k (Iff (fitted 1 
 
 -- what is read nests in its canonical form too
 pub read_nests : (g : FormulaSyntax) → IsWellFormed g → Nests 0 g → Nests 0 (canonical_formula (formula_of g))
-read_nests g i h = subst (Nests 0) (fits 1 (canonical_formula (formula_of g)) (least (canonical_formula (formula_of g)))) (written_nests g 1 0 (least g) i h)
+read_nests g i h = subst (Nests 0) (fits 1 (canonical_formula (formula_of g)) (least_level (canonical_formula (formula_of g)))) (written_nests g 1 0 (least_level g) i h)

@@ -1,25 +1,17 @@
 -- The derivation that tokens make is the one that they were spelled from.
 use Rattle.std.proofs.Common.{◌≡◌, ℕ, ◌<◌, ◌≤◌, Bool, true, false, ◌||◌, List, [], ◌∷◌, ◌++◌, Option, Some, None, refl, sym, ap, subst, ◌∙◌, arith, append_assoc, append-nil, true≢false}
-use Rattle.std.proofs.lemmas.Bool.Decides.{nat_tests}
-use Rattle.std.specs.Prelude.{nat_le, bytes_eq, codes, if◌then◌else◌}
+use Rattle.std.specs.Prelude.{nat_le, bytes_eq, codes}
 use Rattle.ps_text.specs.Tokens.{Token, Word, Sign, Open, Close, Semicolon, Ampersand, Bar, Arrow, DoubleArrow}
 use Rattle.ps_text.specs.Grammar.{is_reserved, FormulaSyntax, Name, Truth, Falsity, Not, Group, And, Or, Implies, Iff, spelled, level, IsWellFormed, Prob, Relation, Exactly, AtLeast, AtMost, Within, ItemSyntax, Sentence, Query, given_tokens, prob_tokens, relation_tokens, item_tokens, items_tokens, text_tokens, IsGiven, IsWellFormedItem, AreWellFormedItems}
 use Rattle.ps_text.specs.BegunFormulas.{Frame, BegunNot, BegunGroup, BegunAnd, BegunOr, BegunImplies, BegunIff, required_level, own_level, joined, joins}
 use Rattle.ps_text.specs.PartialParses.{Parse, InPsat, InItem, InDone, InParen, InOperand, InOperator, InRelation, InItemEnd, prob_of, behind_operand, operand_of, behind_close, parsed}
+use Rattle.ps_text.proofs.Levels.{test_le, test_true, test_false}
+use Rattle.ps_text.proofs.Frames.{joined_if}
 use Rattle.ps_text.proofs.Derived.{parsed_all}
 
 pub parsed-append : (p : Parse) (ts us : List Token) → parsed_all p (ts ++ us) ≡ parsed_all (parsed_all p ts) us
 parsed-append p [] us = refl
 parsed-append p (t ∷ ts) us = parsed-append (parsed p t) ts us
-
-test_true : (k n : ℕ) → k ≤ n → nat_le k n ≡ true
-test_true k n h = grind (arith, nat_tests)
-
-test_false : (k n : ℕ) → n < k → nat_le k n ≡ false
-test_false k n h = grind (arith, nat_tests)
-
-test_le : (k n : ℕ) → nat_le k n ≡ true → k ≤ n
-test_le k n h = grind (arith, nat_tests)
 
 -- what binds tightly enough is joined
 join_over : (k : ℕ) (x : Frame) (fs : List Frame) (f : FormulaSyntax) → k ≤ own_level x → joins k (x ∷ fs) f ≡ joins k fs (joined x f)
@@ -30,10 +22,7 @@ joins_again : (k m : ℕ) (fs : List Frame) (f : FormulaSyntax) → k ≤ m → 
 joins_again k m [] f h = refl
 joins_again k m (x ∷ fs) f h = by (nat_le m (own_level x)) refl (joins_again k m fs (joined x f) h)
   where
-    chosen : Bool → List Frame × FormulaSyntax
-    chosen b = if b then joins m fs (joined x f) else (x ∷ fs, f)
-
-    by : (b : Bool) → nat_le m (own_level x) ≡ b → joins k (joins m fs (joined x f)).0 (joins m fs (joined x f)).1 ≡ joins k fs (joined x f) → joins k (chosen b).0 (chosen b).1 ≡ joins k (x ∷ fs) f
+    by : (b : Bool) → nat_le m (own_level x) ≡ b → joins k (joins m fs (joined x f)).0 (joins m fs (joined x f)).1 ≡ joins k fs (joined x f) → joins k (joined_if m x fs f b).0 (joined_if m x fs f b).1 ≡ joins k (x ∷ fs) f
     by true e s = s ∙ sym (join_over k x fs f (omega (arith, h, test_le m (own_level x) e)))
     by false e s = refl
 
@@ -137,38 +126,38 @@ level_least (Not f) = omega arith
 level_least (Group f) = omega arith
 
 -- the tokens of a formula make the formula
-form_back : (f : FormulaSyntax) (es : List ItemSyntax) (q : Bool) (c : Option FormulaSyntax) (fs : List Frame) → IsWellFormed f → required_level fs ≤ level f → Behind es q c fs f (parsed_all (InOperand es q c fs) (spelled f))
-form_back (Name w) es q c fs i n = subst (λ g. Behind es q c fs (Name w) (behind_operand es q c fs g)) (sym (name_operand w i.0)) (operand_behind es q c fs (Name w) (omega arith))
-form_back Truth es q c fs i n = operand_behind es q c fs Truth (omega arith)
-form_back Falsity es q c fs i n = operand_behind es q c fs Falsity (omega arith)
-form_back (Not f) es q c fs i n =
-    let b = form_back f es q c (BegunNot ∷ fs) i.1 i.0 in
+formula_back : (f : FormulaSyntax) (es : List ItemSyntax) (q : Bool) (c : Option FormulaSyntax) (fs : List Frame) → IsWellFormed f → required_level fs ≤ level f → Behind es q c fs f (parsed_all (InOperand es q c fs) (spelled f))
+formula_back (Name w) es q c fs i n = subst (λ g. Behind es q c fs (Name w) (behind_operand es q c fs g)) (sym (name_operand w i.0)) (operand_behind es q c fs (Name w) (omega arith))
+formula_back Truth es q c fs i n = operand_behind es q c fs Truth (omega arith)
+formula_back Falsity es q c fs i n = operand_behind es q c fs Falsity (omega arith)
+formula_back (Not f) es q c fs i n =
+    let b = formula_back f es q c (BegunNot ∷ fs) i.1 i.0 in
     record { frames = b.frames; operand = b.operand; is = b.is; same = λ k h. b.same k (omega (arith, h, i.0)) ∙ join_over k BegunNot fs f h }
-form_back (Group f) es q c fs i n =
-    let b = form_back f es q c (BegunGroup ∷ fs) i (level_least f) in
+formula_back (Group f) es q c fs i n =
+    let b = formula_back f es q c (BegunGroup ∷ fs) i (level_least f) in
     let closed : parsed (parsed_all (InOperand es q c (BegunGroup ∷ fs)) (spelled f)) (Sign Close) ≡ behind_operand es q c fs (Group f) =
     ap (λ x. parsed x (Sign Close)) b.is ∙ ap (λ r. behind_close es q c r.0 r.1) (b.same 1 (level_least f)) in
     subst (λ p. Behind es q c fs (Group f) p) (sym (parsed-append (InOperand es q c (BegunGroup ∷ fs)) (spelled f) (Sign Close ∷ []) ∙ closed)) (operand_behind es q c fs (Group f) (omega arith))
-form_back (And f g) es q c fs i n =
-    let b = form_back f es q c fs i.2 (omega (arith, n, i.0)) in
+formula_back (And f g) es q c fs i n =
+    let b = formula_back f es q c fs i.2 (omega (arith, n, i.0)) in
     at_both es q c fs f g (Sign Ampersand) (And f g) (BegunAnd f)
     (at_sign es q c fs f (parsed_all (InOperand es q c fs) (spelled f)) (Sign Ampersand) 4 BegunAnd b i.0 (stays 4 fs f (below_four fs n)) (λ gs h. refl))
-    (form_back g es q c (BegunAnd f ∷ fs) i.3 i.1) (omega (arith, i.1)) (omega arith) refl
-form_back (Or f g) es q c fs i n =
-    let b = form_back f es q c fs i.2 (omega (arith, n, i.0)) in
+    (formula_back g es q c (BegunAnd f ∷ fs) i.3 i.1) (omega (arith, i.1)) (omega arith) refl
+formula_back (Or f g) es q c fs i n =
+    let b = formula_back f es q c fs i.2 (omega (arith, n, i.0)) in
     at_both es q c fs f g (Sign Bar) (Or f g) (BegunOr f)
     (at_sign es q c fs f (parsed_all (InOperand es q c fs) (spelled f)) (Sign Bar) 3 BegunOr b i.0 (stays 3 fs f (below_three fs n)) (λ gs h. refl))
-    (form_back g es q c (BegunOr f ∷ fs) i.3 i.1) (omega (arith, i.1)) (omega arith) refl
-form_back (Implies f g) es q c fs i n =
-    let b = form_back f es q c fs i.2 (omega (arith, n, i.0)) in
+    (formula_back g es q c (BegunOr f ∷ fs) i.3 i.1) (omega (arith, i.1)) (omega arith) refl
+formula_back (Implies f g) es q c fs i n =
+    let b = formula_back f es q c fs i.2 (omega (arith, n, i.0)) in
     at_both es q c fs f g (Sign Arrow) (Implies f g) (BegunImplies f)
     (at_sign es q c fs f (parsed_all (InOperand es q c fs) (spelled f)) (Sign Arrow) 3 BegunImplies b i.0 (stays 3 fs f (below_three fs (omega (arith, n)))) (λ gs h. refl))
-    (form_back g es q c (BegunImplies f ∷ fs) i.3 i.1) (omega (arith, i.1)) (omega arith) refl
-form_back (Iff f g) es q c fs i n =
-    let b = form_back f es q c fs i.2 (omega (arith, n, i.0)) in
+    (formula_back g es q c (BegunImplies f ∷ fs) i.3 i.1) (omega (arith, i.1)) (omega arith) refl
+formula_back (Iff f g) es q c fs i n =
+    let b = formula_back f es q c fs i.2 (omega (arith, n, i.0)) in
     at_both es q c fs f g (Sign DoubleArrow) (Iff f g) (BegunIff f)
     (at_sign es q c fs f (parsed_all (InOperand es q c fs) (spelled f)) (Sign DoubleArrow) 1 BegunIff b i.0 (stays 1 fs f (below_one fs n)) (λ gs h. refl))
-    (form_back g es q c (BegunIff f ∷ fs) i.3 i.1) (omega (arith, i.1)) (omega arith) refl
+    (formula_back g es q c (BegunIff f ∷ fs) i.3 i.1) (omega (arith, i.1)) (omega arith) refl
 
 -- behind a probability
 after_prob : List ItemSyntax → Bool → Prob → Parse
@@ -185,13 +174,13 @@ prob_back : (es : List ItemSyntax) (q : Bool) (f : FormulaSyntax) (g : Option Fo
 prob_back es q f g i j = ap (parsed_all (InOperand es q None [])) (append_assoc (spelled f) (given_tokens g) (Sign Close ∷ [])) ∙ by g j
   where
     b : Behind es q None [] f (parsed_all (InOperand es q None []) (spelled f))
-    b = form_back f es q None [] i (level_least f)
+    b = formula_back f es q None [] i (level_least f)
 
     by : (g : Option FormulaSyntax) → IsGiven g → parsed_all (InOperand es q None []) (spelled f ++ (given_tokens g ++ Sign Close ∷ [])) ≡ after_prob es q (record { formula = f; given = g })
     by None j =
         parsed-append (InOperand es q None []) (spelled f) (Sign Close ∷ []) ∙ ap (λ x. parsed x (Sign Close)) b.is ∙ ap (λ r. behind_close es q None r.0 r.1) (b.same 1 (level_least f)) ∙ close_prob es q None f
     by (Some g) j =
-        let d = form_back g es q (Some f) [] j.0 (level_least g) in
+        let d = formula_back g es q (Some f) [] j.0 (level_least g) in
         parsed-append (InOperand es q None []) (spelled f) (Word (codes "given") ∷ (spelled g ++ Sign Close ∷ []))
         ∙ ap (λ x. parsed_all (parsed x (Word (codes "given"))) (spelled g ++ Sign Close ∷ [])) b.is
         ∙ ap (λ r. parsed_all (InOperand es q (Some r.1) []) (spelled g ++ Sign Close ∷ [])) (b.same 1 (level_least f))

@@ -6,10 +6,10 @@ use Rattle.std.specs.Prelude.{bytes_eq, codes, if◌then◌else◌, nat_lt, nat_
 use Rattle.ps_text.specs.Tokens.{Token, Word, Number, Sign, Numeral, Whole, Quotient, Decimal, Symbol, Open, Close, OpenBracket, CloseBracket, Comma, Semicolon, Bang, Ampersand, Bar, Arrow, DoubleArrow, Equals, GreaterEquals, LessEquals, is_the_sign, is_the_word}
 use Rattle.ps_text.specs.declared.kind.ReadKind.{ReadKind}
 use Rattle.ps_text.specs.declared.kind.ReadKind.TheVariants.{NameTooLong, Expected, VersionUnknown, ZeroDenominator, DenominatorTooLarge, TooManyDecimals, NumberOutOfRange}
-use Rattle.ps_text.specs.Grammar.{value, Prob, Within, ItemSyntax, Sentence, Query, prob_tokens, relation_tokens, item_tokens, items_tokens, IsProbability, IsRelation, IsWellFormedItem, AreWellFormedItems}
+use Rattle.ps_text.specs.Grammar.{value, Prob, Within, ItemSyntax, Sentence, Query, prob_tokens, relation_tokens, item_tokens, items_tokens, IsProbability, IsRelation, IsWellFormedItem, AreWellFormedItems, tokens_up_to}
 use Rattle.ps_text.specs.ExpectedTokens.{State, is_number, is_expected, is_too_long, what_at, fault_at, number_fault, value_fault, refusal, after}
 use Rattle.ps_text.proofs.Signs.{the_word, the_sign, Either, First, Second, either}
-use Rattle.ps_text.specs.PartialParses.{InPsat, InVersion, InHeadEnd, InItem, InQueryProb, InTextEnd, InParen, InRelation, InBracket, InFirst, InNumber, InComma, InSecond, InBracketEnd, InItemEnd, state_of, items_lead, prob_lead, sentence_lead, item_body, IsExtendedBy, relation_of, IsRelationSign, IsParse, number_in}
+use Rattle.ps_text.specs.PartialParses.{InPsat, InVersion, InHeadEnd, InItem, InQueryProb, InTextEnd, InParen, InRelation, InBracket, InFirst, InNumber, InComma, InSecond, InBracketEnd, InItemEnd, state_of, prob_lead, sentence_lead, item_body, IsExtendedBy, relation_of, IsRelationSign, IsParse, number_in}
 
 -- a token that isn't refused
 pub record Passed (d : State) (t : Token) : Type 0 where
@@ -66,17 +66,17 @@ at_item es t s h = by (either (is_the_word (codes "P") t || is_the_word (codes "
 pub at_query_prob : (es : List ItemSyntax) (t : Token) → IsParse (InQueryProb es) → Passed (state_of (InQueryProb es)) t → IsExtendedBy (InQueryProb es) t
 unfolding after
 at_query_prob es t s h = subst (λ u. IsExtendedBy (InQueryProb es) u) (sym (the_word (codes "P") t h.expected))
-    (record { state = refl; tokens = sym (append_assoc (items_lead es) (Word (codes "query") ∷ []) (Word (codes "P") ∷ [])); within = s })
+    (record { state = refl; tokens = sym (append_assoc (tokens_up_to es) (Word (codes "query") ∷ []) (Word (codes "P") ∷ [])); within = s })
 
 pub at_text_end : (es : List ItemSyntax) (t : Token) → IsParse (InTextEnd es) → Passed (state_of (InTextEnd es)) t → IsExtendedBy (InTextEnd es) t
 unfolding after
 at_text_end es t s h = subst (λ u. IsExtendedBy (InTextEnd es) u) (sym (the_sign Semicolon t h.expected))
-    (record { state = refl; tokens = sym (append_assoc (items_lead es) (Word (codes "end") ∷ []) (Sign Semicolon ∷ [])); within = s })
+    (record { state = refl; tokens = sym (append_assoc (tokens_up_to es) (Word (codes "end") ∷ []) (Sign Semicolon ∷ [])); within = s })
 
 pub at_paren : (es : List ItemSyntax) (q : Bool) (t : Token) → IsParse (InParen es q) → Passed (state_of (InParen es q)) t → IsExtendedBy (InParen es q) t
 unfolding after
 at_paren es q t s h = subst (λ u. IsExtendedBy (InParen es q) u) (sym (the_sign Open t h.expected))
-    (record { state = refl; tokens = append-nil (items_lead es ++ (prob_lead q ++ Sign Open ∷ [])) ∙ sym (append_assoc (items_lead es) (prob_lead q) (Sign Open ∷ [])); within = (s, tt, tt) })
+    (record { state = refl; tokens = append-nil (tokens_up_to es ++ (prob_lead q ++ Sign Open ∷ [])) ∙ sym (append_assoc (tokens_up_to es) (prob_lead q) (Sign Open ∷ [])); within = (s, tt, tt) })
 
 pub at_relation : (es : List ItemSyntax) (p : Prob) (t : Token) → IsParse (InRelation es p) → Passed (state_of (InRelation es p)) t → IsExtendedBy (InRelation es p) t
 unfolding after
@@ -151,7 +151,7 @@ at_number es p s t i h =
     let r = sign_relation s (number_in t) i.2 n.within in
     record {
       state = refl;
-      tokens = sym (append_assoc (items_lead es) (prob_tokens p) (relation_tokens (relation_of s (number_in t))))
+      tokens = sym (append_assoc (tokens_up_to es) (prob_tokens p) (relation_tokens (relation_of s (number_in t))))
           ∙ ap (λ ts. sentence_lead es p ++ ts) (r.0 ∙ ap (λ u. Sign s ∷ u ∷ []) (sym n.is))
           ∙ sym (append_assoc (sentence_lead es p) (Sign s ∷ []) (t ∷ []));
       within = (i.0, (i.1, r.1));
@@ -193,7 +193,7 @@ unfolding after
 at_bracket_end es p x y t s h = subst (λ u. IsExtendedBy (InBracketEnd es p x y) u) (sym (the_sign CloseBracket t h.expected))
     (record {
       state = refl;
-      tokens = sym (append_assoc (items_lead es) (prob_tokens p) (relation_tokens (Within x y)))
+      tokens = sym (append_assoc (tokens_up_to es) (prob_tokens p) (relation_tokens (Within x y)))
           ∙ sym (append_assoc (sentence_lead es p) (Word (codes "in") ∷ Sign OpenBracket ∷ Number x ∷ Sign Comma ∷ Number y ∷ []) (Sign CloseBracket ∷ []));
       within = (s.0, (s.1, (s.2, s.3)));
     })
@@ -216,6 +216,6 @@ at_item_end es e t s h = subst (λ u. IsExtendedBy (InItemEnd es e) u) (sym (the
     (record {
       state = refl;
       tokens = ap (λ ts. Word (codes "psat") ∷ Number (Whole (codes "1")) ∷ Sign Semicolon ∷ ts) (items_more es e ∙ ap (λ ts. items_tokens es ++ ts) (item_ended e))
-          ∙ sym (append_assoc (items_lead es) (item_body e) (Sign Semicolon ∷ []));
+          ∙ sym (append_assoc (tokens_up_to es) (item_body e) (Sign Semicolon ∷ []));
       within = items_sound es e s.0 s.1;
     })

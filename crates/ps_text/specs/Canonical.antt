@@ -1,5 +1,5 @@
 -- The canonical text of items: how each is written, and the bytes of what is written.
-use Rattle.std.specs.Prelude.{ℕ, ◌<◌, ◌≤◌, ◌==◌, nat_le, if◌then◌else◌, List, [], ◌∷◌, ◌++◌, map, Option, Some, None, codes}
+use Rattle.std.specs.Prelude.{ℕ, ◌+◌, ◌<◌, ◌≤◌, ◌==◌, nat_le, nat_lt, max, if◌then◌else◌, List, [], ◌∷◌, ◌++◌, map, Option, Some, None, codes}
 use Rattle.std.specs.Int.{IsGcd}
 use Rattle.std.specs.Fmt.{decimal}
 use Rattle.ps_meaning.specs.Formula as formula
@@ -26,6 +26,26 @@ canonical_formula (formula.And f g) = And (fitted 4 (canonical_formula f)) (fitt
 canonical_formula (formula.Or f g) = Or (fitted 3 (canonical_formula f)) (fitted 4 (canonical_formula g))
 canonical_formula (formula.Implies f g) = Implies (fitted 3 (canonical_formula f)) (fitted 2 (canonical_formula g))
 canonical_formula (formula.Iff f g) = Iff (fitted 1 (canonical_formula f)) (fitted 2 (canonical_formula g))
+
+-- 1 where an operand of a level stands in parentheses, since more is required
+abbrev pub parenthesis : ℕ → ℕ → ℕ
+parenthesis required level = if nat_lt level required then 1 else 0
+
+-- how many `!`, `(` and right sides of `->` are open at the deepest place of a formula's canonical spelling, where an
+-- operand of this level is required: 1 for `<->`, 2 for `->`, 3 for `|`, 4 for `&`, 5 for the rest
+abbrev pub nesting_at : ℕ → formula.Formula meaning.Name → ℕ
+nesting_at required formula.Truth = 0
+nesting_at required formula.Falsity = 0
+nesting_at required (formula.Atom a) = 0
+nesting_at required (formula.Not f) = 1 + nesting_at 5 f
+nesting_at required (formula.And f g) = parenthesis required 4 + max (nesting_at 4 f) (nesting_at 5 g)
+nesting_at required (formula.Or f g) = parenthesis required 3 + max (nesting_at 3 f) (nesting_at 4 g)
+nesting_at required (formula.Implies f g) = parenthesis required 2 + max (nesting_at 3 f) (1 + nesting_at 2 g)
+nesting_at required (formula.Iff f g) = parenthesis required 1 + max (nesting_at 1 f) (nesting_at 2 g)
+
+-- the nesting of a formula's canonical spelling
+abbrev pub canonical_nesting : formula.Formula meaning.Name → ℕ
+canonical_nesting f = nesting_at 1 f
 
 -- a whole number, or a quotient
 abbrev pub canonical_numeral : Ratio → Numeral

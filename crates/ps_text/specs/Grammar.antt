@@ -98,9 +98,13 @@ abbrev pub items_tokens : List ItemSyntax → List Token
 items_tokens [] = []
 items_tokens (e ∷ es) = item_tokens e ++ items_tokens es
 
--- the tokens of a text: the version is the number that is spelled `1`
+-- the tokens of a text up to and with these items: the version is the number that is spelled `1`
+abbrev pub tokens_up_to : List ItemSyntax → List Token
+tokens_up_to es = Word (codes "psat") ∷ Number (Whole (codes "1")) ∷ Sign Semicolon ∷ items_tokens es
+
+-- the tokens of a text
 abbrev pub text_tokens : List ItemSyntax → List Token
-text_tokens es = Word (codes "psat") ∷ Number (Whole (codes "1")) ∷ Sign Semicolon ∷ items_tokens es ++ Word (codes "end") ∷ Sign Semicolon ∷ []
+text_tokens es = tokens_up_to es ++ Word (codes "end") ∷ Sign Semicolon ∷ []
 
 -- the number that digits spell after those that spell n
 abbrev pub value_from : ℕ → List ℕ → ℕ

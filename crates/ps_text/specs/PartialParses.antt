@@ -1,7 +1,7 @@
 -- A derivation of the tokens so far, and what one more token makes of it.
 use Rattle.std.specs.Prelude.{◌≡◌, ℕ, ◌≤◌, Bool, true, false, if◌then◌else◌, bytes_eq, codes, List, [], ◌∷◌, ◌++◌, Option, Some, None, is_some}
-use Rattle.ps_text.specs.Tokens.{Token, Word, Number, Sign, Numeral, Whole, Symbol, Open, Close, OpenBracket, Comma, Semicolon, Bang, Ampersand, Bar, Arrow, DoubleArrow, Equals, GreaterEquals, LessEquals, is_the_word}
-use Rattle.ps_text.specs.Grammar.{FormulaSyntax, Name, Truth, Falsity, Group, spelled, level, Prob, Relation, Exactly, AtLeast, AtMost, Within, ItemSyntax, Sentence, Query, prob_tokens, relation_tokens, items_tokens, text_tokens, IsProbability, IsGiven, IsProb, IsWellFormedItem, AreWellFormedItems}
+use Rattle.ps_text.specs.Tokens.{Token, Word, Number, Sign, Numeral, Whole, Symbol, Open, Close, OpenBracket, Comma, Bang, Ampersand, Bar, Arrow, DoubleArrow, Equals, GreaterEquals, LessEquals, is_the_word}
+use Rattle.ps_text.specs.Grammar.{FormulaSyntax, Name, Truth, Falsity, Group, spelled, level, Prob, Relation, Exactly, AtLeast, AtMost, Within, ItemSyntax, Sentence, Query, prob_tokens, relation_tokens, tokens_up_to, text_tokens, IsProbability, IsGiven, IsProb, IsWellFormedItem, AreWellFormedItems}
 use Rattle.ps_text.specs.declared.part.Part.TheVariants as part
 use Rattle.ps_text.specs.ExpectedTokens.{State, outside, after, refusal}
 use Rattle.ps_text.specs.BegunFormulas.{Frame, BegunNot, BegunGroup, BegunAnd, BegunOr, BegunImplies, BegunIff, frame_tokens, opened_of, AreFrames, LastIsNoNot, IsNextOperand, joins}
@@ -46,10 +46,6 @@ state_of (InSecond es p x) = outside part.Second
 state_of (InBracketEnd es p x y) = outside part.BracketEnd
 state_of (InItemEnd es e) = outside part.ItemEnd
 
--- the tokens before the next item
-abbrev pub items_lead : List ItemSyntax → List Token
-items_lead es = Word (codes "psat") ∷ Number (Whole (codes "1")) ∷ Sign Semicolon ∷ items_tokens es
-
 -- the words before the `(` of a query's probability, or of a sentence's
 abbrev pub prob_lead : Bool → List Token
 prob_lead true = Word (codes "query") ∷ Word (codes "P") ∷ []
@@ -62,11 +58,11 @@ given_lead (Some f) = spelled f ++ Word (codes "given") ∷ []
 
 -- the tokens before a formula
 abbrev pub formula_lead : List ItemSyntax → Bool → Option FormulaSyntax → List Token
-formula_lead es q c = items_lead es ++ (prob_lead q ++ (Sign Open ∷ given_lead c))
+formula_lead es q c = tokens_up_to es ++ (prob_lead q ++ (Sign Open ∷ given_lead c))
 
 -- the tokens before a relation
 abbrev pub sentence_lead : List ItemSyntax → Prob → List Token
-sentence_lead es p = items_lead es ++ prob_tokens p
+sentence_lead es p = tokens_up_to es ++ prob_tokens p
 
 -- the tokens of an item without its `;`
 abbrev pub item_body : ItemSyntax → List Token
@@ -78,11 +74,11 @@ abbrev pub parsed_tokens : Parse → List Token
 parsed_tokens InPsat = []
 parsed_tokens InVersion = Word (codes "psat") ∷ []
 parsed_tokens InHeadEnd = Word (codes "psat") ∷ Number (Whole (codes "1")) ∷ []
-parsed_tokens (InItem es) = items_lead es
-parsed_tokens (InQueryProb es) = items_lead es ++ Word (codes "query") ∷ []
-parsed_tokens (InTextEnd es) = items_lead es ++ Word (codes "end") ∷ []
+parsed_tokens (InItem es) = tokens_up_to es
+parsed_tokens (InQueryProb es) = tokens_up_to es ++ Word (codes "query") ∷ []
+parsed_tokens (InTextEnd es) = tokens_up_to es ++ Word (codes "end") ∷ []
 parsed_tokens (InDone es) = text_tokens es
-parsed_tokens (InParen es q) = items_lead es ++ prob_lead q
+parsed_tokens (InParen es q) = tokens_up_to es ++ prob_lead q
 parsed_tokens (InOperand es q c fs) = formula_lead es q c ++ frame_tokens fs
 parsed_tokens (InOperator es q c fs f) = formula_lead es q c ++ (frame_tokens fs ++ spelled f)
 parsed_tokens (InRelation es p) = sentence_lead es p
@@ -92,7 +88,7 @@ parsed_tokens (InNumber es p s) = sentence_lead es p ++ Sign s ∷ []
 parsed_tokens (InComma es p x) = sentence_lead es p ++ (Word (codes "in") ∷ Sign OpenBracket ∷ Number x ∷ [])
 parsed_tokens (InSecond es p x) = sentence_lead es p ++ (Word (codes "in") ∷ Sign OpenBracket ∷ Number x ∷ Sign Comma ∷ [])
 parsed_tokens (InBracketEnd es p x y) = sentence_lead es p ++ (Word (codes "in") ∷ Sign OpenBracket ∷ Number x ∷ Sign Comma ∷ Number y ∷ [])
-parsed_tokens (InItemEnd es e) = items_lead es ++ item_body e
+parsed_tokens (InItemEnd es e) = tokens_up_to es ++ item_body e
 
 -- how a sign bounds a probability
 abbrev pub relation_of : Symbol → Numeral → Relation

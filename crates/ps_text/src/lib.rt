@@ -11,8 +11,8 @@ mod symbol;
 pub use kind::{ReadKind, What};
 pub use laws::{
     a_front_excludes_a_refusal, bytes_are_cut, bytes_have_one_answer,
-    canonical_text_means_its_items, derivations_take_tokens, texts_have_one_meaning,
-    expected_tokens_are_derived, one_refusal_at_most, one_text_stands_at_the_front,
+    canonical_text_means_its_items, derivations_take_tokens, expected_tokens_are_derived,
+    one_refusal_at_most, one_text_stands_at_the_front, texts_have_one_meaning,
     what_is_read_is_lawful,
 };
 pub use limits::{

@@ -2,14 +2,14 @@ use Rattle.std.proofs.Common.{sym, subst, ◌∙◌}
 use Rattle.ps_expect.specs.KeptTokens.{token_of}
 use Rattle.ps_parse.specs.Ready.{MayBeTaken}
 use Rattle.ps_parse.specs.Kept.{work_of, machine_of}
-use Rattle.ps_parse.proofs.Readiness.{ready_at}
+use Rattle.ps_parse.proofs.Readiness.{may_be_taken_at}
 use Rattle.ps_parse.proofs.Taken.{none_of, is_taken}
 use Rattle.ps_parse.proofs.parser.Parser.take.Goals as goal
 
-pub take-requires-clause-ready : goal.take-requires-clause-ready
-take-requires-clause-ready c =
+pub take-requires-clause-token : goal.take-requires-clause-token
+take-requires-clause-token c =
     subst (λ p. MayBeTaken p (work_of c.args.self.now.items) (token_of c.args.token.now)) (sym c.part-part.ensures)
-    (ready_at (machine_of c.args.self.now) c.args.token.now c.requires.derivation c.requires.word (sym c.refusal.ensures ∙ none_of c.refusal.result c.in_default.not-Some))
+    (may_be_taken_at (machine_of c.args.self.now) c.args.token.now c.requires.derivation c.requires.word (sym c.refusal.ensures ∙ none_of c.refusal.result c.in_default.not-Some))
 
 pub returns-clause-taken : goal.returns-clause-taken
 returns-clause-taken c =

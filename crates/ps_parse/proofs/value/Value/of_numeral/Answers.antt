@@ -3,7 +3,8 @@ use Rattle.ps_text.specs.Grammar.{IsProbability}
 use Rattle.ps_text.specs.Meanings.{ratio_of as spelled_ratio}
 use Rattle.ps_expect.specs.KeptTokens.{numeral_of}
 use Rattle.ps_parse.specs.Machine.{lowest}
-use Rattle.ps_parse.proofs.Values.{whole_value, quotient_value, decimal_value, quotient_some, decimals_few, tens_few, tens_some}
+use Rattle.ps_text.proofs.Lawful.{tens_few}
+use Rattle.ps_parse.proofs.Values.{whole_value, quotient_value, decimal_value, quotient_some, decimals_few, tens_some}
 use Rattle.ps_parse.proofs.value.Value.of_numeral.Goals as goal
 
 pub lowest-requires-in-Quotient : goal.lowest-requires-in-Quotient
