@@ -94,11 +94,11 @@ pub refused : (bytes : List ℕ) (place : Position) (x : Parsed) (kind : ReadKin
 refused bytes place x kind position t e =
     let items = (drafted_in x.machine).items in
     let many : length items ≡ length t.front.written = items_many t.front.written items t.items in
-    let least : 1 ≤ e.refusal.item = refused_least items e.refusal e.counts in
-    let most : e.refusal.item ≤ length items = refused_most items e.refusal e.counts in
-    let i = e.refusal.item - 1 in
-    let s = split t.front.written (e.refusal.item - 1) (omega (arith, least, most, many)) in
-    let b = t.begun.each (e.refusal.item - 1) (omega (arith, least, most, many, t.begun.many)) in
+    let least : 1 ≤ e.first.item = refused_least items e.first e.counts in
+    let most : e.first.item ≤ length items = refused_most items e.first e.counts in
+    let i = e.first.item - 1 in
+    let s = split t.front.written (e.first.item - 1) (omega (arith, least, most, many)) in
+    let b = t.begun.each (e.first.item - 1) (omega (arith, least, most, many, t.begun.many)) in
     let there : bytes ≡ texts b.before ++ (texts (Spelled b.first ∷ b.behind) ++ t.front.rest) =
     t.front.is ∙ ap (λ ps. texts ps ++ t.front.rest) b.pieces_are ∙ ap (λ bs. bs ++ t.front.rest) (texts-append b.before (Spelled b.first ∷ b.behind))
     ∙ append_assoc (texts b.before) (texts (Spelled b.first ∷ b.behind)) t.front.rest in
@@ -106,15 +106,15 @@ refused bytes place x kind position t e =
       items = items;
       behind = place.offset;
       front = record { text = t.front; meant = t.items };
-      refusal = e.refusal;
+      first = e.first;
       counts = e.counts;
       place = length (texts b.before);
       begins = record {
-        earlier = take (e.refusal.item - 1) t.front.written;
+        earlier = take (e.first.item - 1) t.front.written;
         item = s.item;
         later = s.later;
         written_are = s.is;
-        number_is = let l = length-take-le (e.refusal.item - 1) t.front.written (omega (arith, least, most, many)) in omega (arith, l, least);
+        number_is = let l = length-take-le (e.first.item - 1) t.front.written (omega (arith, least, most, many)) in omega (arith, l, least);
         before = b.before;
         first = b.first;
         behind = b.behind;

@@ -6,7 +6,7 @@ use Rattle.ps_meaning.specs.Formula.{Formula}
 use Rattle.ps_meaning.specs.Statements.{Name}
 use Rattle.ps_text.specs.Tokens.{Token}
 use Rattle.ps_text.specs.Pieces.{Piece, Blank, Comment, Spelled, texts, tokens}
-use Rattle.ps_text.specs.Grammar.{ItemSyntax, text_tokens}
+use Rattle.ps_text.specs.Grammar.{ItemSyntax, tokens_up_to, text_tokens}
 use Rattle.ps_text.specs.Fronts.{IsTextFront}
 use Rattle.ps_text.specs.Positions.{Position, position_of}
 use Rattle.ps_text.proofs.Once.{Order, Same, Longer, Shorter, order, front_once, front_place}
@@ -17,7 +17,7 @@ use Rattle.ps_problem.specs.Numbering.{problem_of}
 use Rattle.ps_problem.specs.Counts.{ItemExcess, counted}
 use Rattle.ps_text.specs.declared.kind.ReadKind.{ReadKind}
 use Rattle.ps_read.specs.Kinds.{count_kind}
-use Rattle.ps_read.specs.Readings.{SpellsProblem, tokens_up_to, BeginsItem, IsFormRefused, IsCountRefused, IsUnread, IsFollowedByMore, SpellsWhole, IsUnreadWhole, Reading, Read, Unread, IsReading, IsWholeReading}
+use Rattle.ps_read.specs.Readings.{SpellsProblem, BeginsItem, IsFormRefused, IsCountRefused, IsUnread, IsFollowedByMore, SpellsWhole, IsUnreadWhole, Reading, Read, Unread, IsReading, IsWholeReading}
 
 -- a list with more tokens behind it isn't itself
 no_more : {A : Type 0} (xs ys : List A) (z : A) → xs ≡ xs ++ z ∷ ys → ⊥
@@ -94,14 +94,14 @@ ok_is_no_err fs r x e f = cc
 counts_once : (bytes : List ℕ) (k l : ReadKind) (x y : Position) → IsCountRefused bytes k x → IsCountRefused bytes l y → (k ≡ l) × (x ≡ y)
 counts_once bytes k l x y f g =
     let items = meaning_once bytes f.items g.items f.behind g.behind f.front g.front in
-    let refusal = err_same f.refusal g.refusal (counted f.items) f.counts (ap counted items ∙ g.counts) in
+    let refusal = err_same f.first g.first (counted f.items) f.counts (ap counted items ∙ g.counts) in
     let pieces = pieces_once f.front.text g.front.text in
     let written = (front_once f.front.text g.front.text).written in
-    let at_g : BeginsItem g.front.text.pieces g.front.text.written g.refusal.item f.place =
-    subst (λ ps. BeginsItem ps g.front.text.written g.refusal.item f.place) pieces
-    (subst (λ es. BeginsItem f.front.text.pieces es g.refusal.item f.place) written
+    let at_g : BeginsItem g.front.text.pieces g.front.text.written g.first.item f.place =
+    subst (λ ps. BeginsItem ps g.front.text.written g.first.item f.place) pieces
+    (subst (λ es. BeginsItem f.front.text.pieces es g.first.item f.place) written
     (subst (λ r. BeginsItem f.front.text.pieces f.front.text.written r.item f.place) refusal f.begins)) in
-    let place = begins_once g.front.text.pieces g.front.text.written g.refusal.item f.place g.place at_g g.begins in
+    let place = begins_once g.front.text.pieces g.front.text.written g.first.item f.place g.place at_g g.begins in
     (f.kind_is ∙ ap (λ r. count_kind r.excess) refusal ∙ sym g.kind_is, f.position_is ∙ ap (position_of bytes) place ∙ sym g.position_is)
 
 forms_once : (bytes : List ℕ) (k l : ReadKind) (x y : Position) → IsFormRefused bytes k x → IsFormRefused bytes l y → (k ≡ l) × (x ≡ y)
@@ -122,7 +122,7 @@ read_once bytes p q n m f g =
 pub read_excludes : (bytes : List ℕ) (p : Parts) (n : ℕ) (k : ReadKind) (x : Position) → SpellsProblem bytes p n → IsUnread bytes k x → ⊥
 read_excludes bytes p n k x f (inl g) = front_excludes bytes n g.place k f.front.text g.refused
 read_excludes bytes p n k x f (inr g) =
-    ok_is_no_err f.made.formulas g.refusal (counted f.items) f.made.within (ap counted (meaning_once bytes f.items g.items n g.behind f.front g.front) ∙ g.counts)
+    ok_is_no_err f.made.formulas g.first (counted f.items) f.made.within (ap counted (meaning_once bytes f.items g.items n g.behind f.front g.front) ∙ g.counts)
 
 pub one_reading : (bytes : List ℕ) (a b : Reading) → IsReading bytes a → IsReading bytes b → a ≡ b
 one_reading bytes (Read p n) (Read q m) f g = let e = read_once bytes p q n m f g in λ i. Read (e.0 i) (e.1 i)

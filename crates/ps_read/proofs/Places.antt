@@ -6,7 +6,7 @@ use Rattle.std.specs.Prelude.{nat_lt, bytes_eq, codes}
 use Rattle.ps_text.specs.Tokens.{Token, Word, Number, Sign, is_the_word}
 use Rattle.ps_text.specs.declared.symbol.Symbol.TheVariants.{Open, Close, OpenBracket, CloseBracket, Comma, Semicolon, Bang, Ampersand, Bar, Arrow, DoubleArrow, Equals, GreaterEquals, LessEquals}
 use Rattle.ps_text.specs.Pieces.{Piece, Spelled, texts, tokens}
-use Rattle.ps_text.specs.Grammar.{FormulaSyntax, Prob, ItemSyntax}
+use Rattle.ps_text.specs.Grammar.{FormulaSyntax, Prob, ItemSyntax, tokens_up_to}
 use Rattle.ps_text.specs.declared.part.Part.{Part}
 use Rattle.ps_text.specs.declared.part.Part.TheVariants as part
 use Rattle.ps_text.specs.declared.kind.ReadKind.TheVariants.{NameTooLong}
@@ -21,7 +21,6 @@ use Rattle.ps_lex.specs.Places.{start}
 use Rattle.ps_lex.specs.Seen.{seen, behind_all}
 use Rattle.ps_expect.specs.KeptTokens.{token_of}
 use Rattle.ps_parse.specs.Taking.{is_item, begun_at}
-use Rattle.ps_read.specs.Readings.{tokens_up_to}
 
 -- the items that are whole
 abbrev pub whole_items : Parse → List ItemSyntax
@@ -146,10 +145,6 @@ one_more_begun done t es places position e at b = record {
         }))
   ];
 }
-
--- what stands in the place of an item: `P`, `query` or `end`
-ended_false : (t : Token) (w : List ℕ) → t ≡ Word w → bytes_eq w (codes "end") ≡ false → is_the_word (codes "end") t ≡ false
-ended_false t w e h = subst (λ u. is_the_word (codes "end") u ≡ false) (sym e) h
 
 item_begun : (done : List Piece) (es : List ItemSyntax) (t : Token) (places : List Position) (position : Position) → tokens done ≡ tokens_up_to es → position ≡ behind_all start (texts done)
     → refusal (state_of (InItem es)) t ≡ None → HaveBegun done (InItem es) places

@@ -45,11 +45,6 @@ pub known_err : (old new : Reader) (b : ℕ) (more : List ℕ) (all : Answer) (e
 known_err old new b more all (error.At k l c) r f h er = subst (Answers all) (sym er) (sym h ∙ f.agrees more)
 known_err old new b more all error.NoMemory r f h er = subst (Answers all) (sym er) tt
 
--- at the end of the bytes
-pub at_last : (reader : Reader) (left : List ℕ) (all : Answer) (r : Result (Parser × Position) ReadError) → length left < 1 → IsFinished reader r → answer reader.lexer (parsed_by reader.parser) left ≡ all → Answers all r
-at_last reader [] all r l f h = subst (λ a. Answers a r) h f
-at_last reader (b ∷ bs) all r l f h = absurd (omega (arith, l))
-
 -- what was parsed
 
 pub parsed_text : (bytes : List ℕ) (parser : Parser) (place : Position) → answer new_lexer nothing_parsed bytes ≡ Ok (place, parsed_by parser) → IsParsedText bytes place (parsed_by parser)
@@ -75,10 +70,10 @@ count_told bytes parser place error.NoMemory e b = tt
 
 -- the item of a count's refusal, and its kind
 record IsKnown (items : List Item) (kind : ReadKind) (item : ℕ) : Type 0 where
-  refusal : ItemExcess
-  counts : counted items ≡ Err refusal
-  kind_is : kind ≡ count_kind refusal.excess
-  item_is : item ≡ refusal.item
+  first : ItemExcess
+  counts : counted items ≡ Err first
+  kind_is : kind ≡ count_kind first.excess
+  item_is : item ≡ first.item
 
 same_pair : (a b : ReadKind × ℕ) → Some a ≡ Some b → a ≡ b
 same_pair a b e = cc
@@ -87,7 +82,7 @@ known_item : (items : List Item) (o : Option ItemExcess) (kind : ReadKind) (item
 known_item items None kind item h e = absurd cc
 known_item items (Some r) kind item h e =
     let same = same_pair (count_kind r.excess, r.item) (kind, item) e in
-    record { refusal = r; counts = h; kind_is = sym (ap (λ x. x.0) same); item_is = sym (ap (λ x. x.1) same) }
+    record { first = r; counts = h; kind_is = sym (ap (λ x. x.0) same); item_is = sym (ap (λ x. x.1) same) }
 
 -- what the error of a count says of what was parsed
 excess_in : (x : Parsed) (d : Drafted) (o : Option ItemExcess) (kind : ReadKind) (item : ℕ) → d ≡ drafted_in x.machine → IfSome o (λ r. counted d.items ≡ Err r) → option_map {U = ReadKind × ℕ} (λ r. (count_kind r.excess, r.item)) o ≡ Some (kind, item)
@@ -96,14 +91,14 @@ excess_in x d o kind item e h f = subst (λ y. IsKnown y.items kind item) e (kno
 
 pub excess_least : (x : Parsed) (d : Drafted) (o : Option ItemExcess) (kind : ReadKind) (item : ℕ) → d ≡ drafted_in x.machine → IfSome o (λ r. counted d.items ≡ Err r) → option_map {U = ReadKind × ℕ} (λ r. (count_kind r.excess, r.item)) o ≡ Some (kind, item)
     → 1 ≤ item
-excess_least x d o kind item e h f = let k = excess_in x d o kind item e h f in omega (arith, k.item_is, refused_least (drafted_in x.machine).items k.refusal k.counts)
+excess_least x d o kind item e h f = let k = excess_in x d o kind item e h f in omega (arith, k.item_is, refused_least (drafted_in x.machine).items k.first k.counts)
 
 pub excess_below : (x : Parsed) (d : Drafted) (o : Option ItemExcess) (kind : ReadKind) (item : ℕ) (places : List Position) → d ≡ drafted_in x.machine → IfSome o (λ r. counted d.items ≡ Err r)
     → option_map {U = ReadKind × ℕ} (λ r. (count_kind r.excess, r.item)) o ≡ Some (kind, item) → AreWhole x → places ≡ x.places → item - 1 < length places
 excess_below x d o kind item places e h f w p =
     let k = excess_in x d o kind item e h f in
-    let l = refused_least (drafted_in x.machine).items k.refusal k.counts in
-    let m = refused_most (drafted_in x.machine).items k.refusal k.counts in
+    let l = refused_least (drafted_in x.machine).items k.first k.counts in
+    let m = refused_most (drafted_in x.machine).items k.first k.counts in
     let n = ap length p in
     omega (arith, k.item_is, l, m, w, n)
 
@@ -117,7 +112,7 @@ pub excess_told : (x : Parsed) (d : Drafted) (o : Option ItemExcess) (kind : Rea
 excess_told x d o kind item places place r e h f p b q t =
     let k = excess_in x d o kind item e h f in
     subst (Tells (IsExcessIn x)) (sym t) (record {
-      refusal = k.refusal;
+      first = k.first;
       counts = k.counts;
       kind_is = k.kind_is;
       position_is = ap position_of (q ∙ other places (item - 1) b ∙ ap (λ ps. get_or ps (item - 1) start) p ∙ ap (λ n. get_or x.places (n - 1) start) k.item_is);
@@ -152,9 +147,6 @@ pub refuses_each : (bytes : List ℕ) (r : Result (Parts × ℕ) ReadError) (e :
 refuses_each bytes r (error.At k l c) h t =
     subst (RefusesEach bytes) (sym h) (record { refused = λ j x u. unread_once bytes k j (record { line = l; column = c }) x t u })
 refuses_each bytes r error.NoMemory h t = subst (RefusesEach bytes) (sym h) (record { refused = λ j x u. tt })
-
-pub tells_err : (F : ReadKind → text.Position → Type 0) (e : ReadError) (A : Type 0) (r : Result A ReadError) → r ≡ Err e → Tells F e → IfErr r (Tells F)
-tells_err F e A r h t = subst (λ x. IfErr x (Tells F)) (sym h) t
 
 -- and those of all bytes
 

@@ -6,6 +6,7 @@ use Rattle.std.specs.Result.{IsErrAnd}
 use Rattle.ps_lex.specs.declared.position.Position.{Position}
 use Rattle.ps_lex.specs.declared.token.Token.{Token}
 use Rattle.ps_lex.specs.Places.{behind, IsWithin}
+use Rattle.ps_lex.proofs.Places.{next_offset}
 use Rattle.ps_lex.specs.Seen.{behind_all}
 use Rattle.ps_lex.specs.Lexing.{LexerState, token_ended, with_byte, last_token, last_bad, bad_place, with_place, stops_or, after_tokens, is_within_token, new_lexer, lexed}
 use Rattle.ps_lex.specs.Passing.{with_bytes, TellsNothing, TellNothing, Passes}
@@ -75,14 +76,6 @@ within_next n p b h = by (b == 10)
     by true = record { line = omega (arith, h.line); column = omega arith; offset = omega (arith, h.offset) }
     by false = record { line = omega (arith, h.line); column = omega (arith, h.column); offset = omega (arith, h.offset) }
 
-pub offset_next : (p : Position) (b : ℕ) → (behind p b).offset ≡ p.offset + 1
-unfolding behind
-offset_next p b = by (b == 10)
-  where
-    by : (x : Bool) → (λ (q : Position). q.offset) (if x then record { line = p.line + 1; column = 1; offset = p.offset + 1 } else record { line = p.line; column = p.column + 1; offset = p.offset + 1 }) ≡ p.offset + 1
-    by true = refl
-    by false = refl
-
 -- the answer behind a byte that was judged
 pub fed : (s n : LexerState) (x y : Parsed) (b : ℕ) (t : Option Token) (began : Position) (bad : Option Position) (result : Result (Option Position) ReadError)
     → t ≡ token_ended s b → n ≡ with_byte s b → began ≡ s.began → bad ≡ bad_place n.mode → IsStepAnswered t began bad x y result
@@ -116,15 +109,15 @@ finished s x y t began here bad result et eg eb eh f =
 
 within_behind : (s : LexerState) (b : ℕ) → IsWithin (s.here.offset + 1) s.here → IsWithin ((with_byte s b).here.offset + 1) (with_byte s b).here
 unfolding with_byte
-within_behind s b h = subst (λ n. IsWithin (n + 1) (behind s.here b)) (sym (offset_next s.here b)) (within_next (s.here.offset + 1) s.here b h)
+within_behind s b h = subst (λ n. IsWithin (n + 1) (behind s.here b)) (sym (next_offset s.here b)) (within_next (s.here.offset + 1) s.here b h)
 
 pub offset_behind : (s n : LexerState) (b : ℕ) → n ≡ with_byte s b → n.here.offset ≡ s.here.offset + 1
 unfolding with_byte
-offset_behind s n b e = ap (λ m. m.here.offset) e ∙ offset_next s.here b
+offset_behind s n b e = ap (λ m. m.here.offset) e ∙ next_offset s.here b
 
 -- what was lexed and parsed still belongs together behind a byte
-pub ready_behind : (old new : Reader) (b : ℕ) → BelongsTogether old → new.lexer ≡ with_byte old.lexer b → IsParsed (machine_of new.parser) → IsOneMore old.parser new.parser → BelongsTogether new
-ready_behind old new b r e p o = record {
+pub together_behind : (old new : Reader) (b : ℕ) → BelongsTogether old → new.lexer ≡ with_byte old.lexer b → IsParsed (machine_of new.parser) → IsOneMore old.parser new.parser → BelongsTogether new
+together_behind old new b r e p o = record {
   word = subst (λ s. IsWordMode s.mode) (sym e) (word_behind old.lexer b r.word);
   here = subst (λ s. IsWithin (s.here.offset + 1) s.here) (sym e) (within_behind old.lexer b r.here);
   parsed = p;
@@ -139,8 +132,8 @@ pub first_stands : StandsFor InPsat at_first
 first_stands = record { sound = tt; state = refl; work = record { operators = refl; «open» = refl; items = tt; item = tt } }
 
 -- nothing is read yet
-pub ready_first : (r : Reader) → r.lexer ≡ new_lexer → machine_of r.parser ≡ at_first → BelongsTogether r
-ready_first r e f = record {
+pub together_first : (r : Reader) → r.lexer ≡ new_lexer → machine_of r.parser ≡ at_first → BelongsTogether r
+together_first r e f = record {
   word = subst (λ s. IsWordMode s.mode) (sym e) tt;
   here = subst (λ s. IsWithin (s.here.offset + 1) s.here) (sym e) (record { line = omega arith; column = omega arith; offset = omega arith });
   parsed = record { parse = InPsat; stands = subst (StandsFor InPsat) (sym f) first_stands };
@@ -198,8 +191,8 @@ has_passed bytes left old new p e = record {
       let o = ap (λ s. s.here.offset) p.state in omega (arith, l, m, o, quiet_offset old.lexer p.passed);
 }
 
-pub ready_passed : (bytes left : List ℕ) (old new : Reader) → Passes old.lexer bytes new.lexer left → new.parser ≡ old.parser → BelongsTogether old → BelongsTogether new
-ready_passed bytes left old new p e r = record {
+pub together_passed : (bytes left : List ℕ) (old new : Reader) → Passes old.lexer bytes new.lexer left → new.parser ≡ old.parser → BelongsTogether old → BelongsTogether new
+together_passed bytes left old new p e r = record {
   word = subst (λ s. IsWordMode s.mode) (sym p.state) (quiet_word old.lexer p.passed r.word);
   here = subst (λ s. IsWithin (s.here.offset + 1) s.here) (sym p.state) (quiet_within old.lexer p.passed r.here);
   parsed = subst (λ x. IsParsed (machine_of x)) (sym e) r.parsed;

@@ -107,19 +107,3 @@ word_behind s b h = (keeps s.mode s.began s.here b h).word
 pub kept_ended : (s : LexerState) (b : ℕ) → IsWordMode s.mode → IsKeptIn (token_ended s b)
 unfolding token_ended
 kept_ended s b h = (keeps s.mode s.began s.here b h).token
-
-pub kept_last : (m : Mode) → IsWordMode m → IsKeptIn (last_token m)
-kept_last mode.Between h = tt
-kept_last mode.Comment h = tt
-kept_last (mode.Word w) h = h
-kept_last (mode.Whole d) h = tt
-kept_last (mode.Slash d p) h = tt
-kept_last (mode.Quotient d e) h = tt
-kept_last (mode.Point d p) h = tt
-kept_last (mode.Decimal d k) h = tt
-kept_last mode.Minus h = tt
-kept_last mode.Less h = tt
-kept_last mode.LessMinus h = tt
-kept_last mode.Greater h = tt
-kept_last (mode.Sign s) h = tt
-kept_last (mode.Bad p) h = tt

@@ -108,6 +108,10 @@ Agrees all rest x (Err error.NoMemory) = Unit {0}
 pub record IsStepAnswered (token : Option Token) (began : Position) (bad : Option Position) (old new : Parsed) (result : Result (Option Position) ReadError) : Type 0 where
   pub agrees : (rest : Parsed → Answer) → Agrees (step_answer token began bad old rest) (rest new) new result
 
+-- so a parser judged them
+abbrev pub IsJudged : Option Token → Position → Option Position → (old new : Parser) → Result (Option Position) ReadError → Type 0
+IsJudged token began bad old new result = IsStepAnswered token began bad (parsed_by old) (parsed_by new) result
+
 -- the answer is this, unless memory ran out
 abbrev pub AgreesAtEnd : Answer → Parsed → Result Position ReadError → Type 0
 AgreesAtEnd all x (Ok p) = all ≡ Ok (p, x)
@@ -161,10 +165,10 @@ pub record BelongsTogether (reader : Reader) : Type 0 where
 
 -- an item of those that were parsed passes a limit of this kind, and its first token stands at this position
 pub record IsExcessIn (x : Parsed) (kind : ReadKind) (position : text.Position) : Type 0 where
-  pub refusal : ItemExcess
-  pub counts : counted (drafted_in x.machine).items ≡ Err refusal
-  pub kind_is : kind ≡ count_kind refusal.excess
-  pub position_is : position ≡ position_of (get_or x.places (refusal.item - 1) start)
+  pub first : ItemExcess
+  pub counts : counted (drafted_in x.machine).items ≡ Err first
+  pub kind_is : kind ≡ count_kind first.excess
+  pub position_is : position ≡ position_of (get_or x.places (first.item - 1) start)
 
 -- the problem of what was parsed, or its first excess, unless memory ran out
 abbrev pub IsBuiltOf : Parsed → Result Parts ReadError → Type 0

@@ -1,11 +1,10 @@
 -- What there is to read at the front of some bytes: a problem, or why and where none is read.
-use Rattle.std.specs.Prelude.{◌≡◌, ◌<◌, ◌+◌, ℕ, ◌⊎◌, List, ◌∷◌, ◌++◌, Ok, Err, length, codes}
+use Rattle.std.specs.Prelude.{◌≡◌, ◌<◌, ◌+◌, ℕ, ◌⊎◌, List, ◌∷◌, ◌++◌, Ok, Err, length}
 use Rattle.ps_meaning.specs.Formula.{Formula}
 use Rattle.ps_meaning.specs.Statements.{Name, Item}
-use Rattle.ps_text.specs.Tokens.{Token, Word, Number, Sign, Whole}
-use Rattle.ps_text.specs.declared.symbol.Symbol.TheVariants.{Semicolon}
+use Rattle.ps_text.specs.Tokens.{Token}
 use Rattle.ps_text.specs.Pieces.{Piece, Spelled, texts, tokens}
-use Rattle.ps_text.specs.Grammar.{ItemSyntax, items_tokens}
+use Rattle.ps_text.specs.Grammar.{ItemSyntax, tokens_up_to}
 use Rattle.ps_text.specs.Fronts.{IsFront}
 use Rattle.ps_text.specs.Positions.{Position, position_of}
 use Rattle.ps_text.specs.declared.kind.ReadKind.{ReadKind}
@@ -27,10 +26,6 @@ pub record SpellsProblem (bytes : List ℕ) (p : Parts) (place : ℕ) : Type 0 w
   pub items : List Item
   pub front : IsFront bytes items place
   pub made : IsProblemOf items p
-
--- the tokens of a text up to and with these items
-abbrev pub tokens_up_to : List ItemSyntax → List Token
-tokens_up_to written = Word (codes "psat") ∷ Number (Whole (codes "1")) ∷ Sign Semicolon ∷ items_tokens written
 
 -- the item of this number, from 1 on, is one of a text's, and the first of its tokens stands at this place:
 -- the tokens before it are those of the text up to the items before it
@@ -59,11 +54,11 @@ pub record IsCountRefused (bytes : List ℕ) (kind : ReadKind) (position : Posit
   pub items : List Item
   pub behind : ℕ
   pub front : IsFront bytes items behind
-  pub refusal : ItemExcess
-  pub counts : counted items ≡ Err refusal
+  pub first : ItemExcess
+  pub counts : counted items ≡ Err first
   pub place : ℕ
-  pub begins : BeginsItem front.text.pieces front.text.written refusal.item place
-  pub kind_is : kind ≡ count_kind refusal.excess
+  pub begins : BeginsItem front.text.pieces front.text.written first.item place
+  pub kind_is : kind ≡ count_kind first.excess
   pub position_is : position ≡ position_of bytes place
 
 -- no problem is read at the front, for this kind at this position: by the form, or else by a count

@@ -6,7 +6,7 @@ ghost use Rattle.ps_parse.specs.Derivations.{IsParsed};
 ghost use Rattle.ps_parse.specs.Kept.{machine_of};
 ghost use Rattle.ps_parse.specs.Taking.{IsKept, CountsAtMost};
 ghost use Rattle.ps_read.specs.Answers.{nothing_parsed, parsed_by, begun_behind, is_done};
-ghost use Rattle.ps_read.specs.Answers.{part_of, ended, AgreesAtEnd, IsStepAnswered, IsFed, IsFinished};
+ghost use Rattle.ps_read.specs.Answers.{part_of, ended, AgreesAtEnd, IsJudged, IsFed, IsFinished};
 ghost use Rattle.ps_read.specs.Answers.{BelongsTogether, IsKeptIn, IsOneMore, HasPassed};
 
 use crate::{ReadError, ReadKind};
@@ -50,8 +50,7 @@ fn judge(
     requires derivation { IsParsed (machine_of parser.old) }
     requires word { IsKeptIn token }
     requires room { CountsAtMost (MOST_DRAFTED - 1) (machine_of parser.old) }
-    ensures judged { IsStepAnswered token began bad
-        (parsed_by parser.old) (parsed_by parser.new) result }
+    ensures judged { IsJudged token began bad parser.old parser.new result }
     ensures derivation { OnOk result (IsParsed (machine_of parser.new)) }
     ensures counts { OnOk result (IsOneMore parser.old parser.new) }
 {
@@ -79,7 +78,7 @@ impl Reader {
     pub(crate) fn new(alloc: Global) -> Reader
         ensures lexer { result.lexer ≡ new_lexer }
         ensures parser { parsed_by result.parser ≡ nothing_parsed }
-        ensures ready { BelongsTogether result }
+        ensures together { BelongsTogether result }
     {
         Reader {
             lexer: Lexer::new(),
@@ -101,10 +100,10 @@ impl Reader {
     /// Takes one more byte. Answers where the text and the blanks behind it ended, if that is known
     /// then, or the first refusal.
     pub(crate) fn feed(&mut self, byte: u8) -> Result<Option<Position>, ReadError>
-        requires ready { BelongsTogether self.old }
+        requires together { BelongsTogether self.old }
         requires room { self.old.lexer.here.offset + 2 < 2 ^ 32 }
         ensures fed { IsFed byte self.old self.new result }
-        ensures ready { OnOk result (BelongsTogether self.new) }
+        ensures together { OnOk result (BelongsTogether self.new) }
         ensures taken { self.new.lexer.here.offset ≡ self.old.lexer.here.offset + 1 }
     {
         let began = self.lexer.began();
@@ -118,10 +117,10 @@ impl Reader {
     /// Passes the bytes at the front of some that tell nothing, blanks and comments or the rest of
     /// a word, and gives the bytes that are left.
     pub(crate) fn pass<'a>(&mut self, bytes: &'a [u8]) -> &'a [u8]
-        requires ready { BelongsTogether self.old }
+        requires together { BelongsTogether self.old }
         requires room { self.old.lexer.here.offset + length bytes.now + 1 < 2 ^ 32 }
         ensures passed { HasPassed bytes.now self.old result.now self.new }
-        ensures ready { BelongsTogether self.new }
+        ensures together { BelongsTogether self.new }
         ensures shorter { length result.now ≤ length bytes.now }
     {
         self.lexer.pass(bytes)
@@ -129,7 +128,7 @@ impl Reader {
 
     /// At the end of the bytes: the parser, and where the text and the blanks behind it ended.
     pub(crate) fn finish(self) -> Result<(Parser, Position), ReadError>
-        requires ready { BelongsTogether self }
+        requires together { BelongsTogether self }
         requires room { self.lexer.here.offset + 1 < 2 ^ 32 }
         ensures { IsFinished self result }
     {

@@ -30,6 +30,6 @@ loop-left-preserved c =
       same = not_yet c.loop-left.reader c.feed.new.self c.pass-left.new.self (get_or c.loop-left.left.now 0 0) _ c.pass-left.result.now (answer new_lexer nothing_parsed c.args.bytes.now)
           (subst (IsFed (get_or c.loop-left.left.now 0 0) c.loop-left.reader c.feed.new.self) (c.in_ok-place.was ∙ ap Ok c.in_default-2.is) c.feed.ensures.fed) c.pass-left.ensures.passed
           (sym (ap (answer c.loop-left.reader.lexer (parsed_by c.loop-left.reader.parser)) cut) ∙ c.loop-left.invariant.same);
-      ready = c.pass-left.ensures.ready;
+      together = c.pass-left.ensures.together;
       place = omega (arith, cut_length, c.pass-left.ensures.passed.taken, c.feed.ensures.taken, c.loop-left.invariant.place);
     }

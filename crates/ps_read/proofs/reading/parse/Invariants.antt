@@ -6,7 +6,7 @@ use Rattle.ps_read.proofs.reading.parse.Given as goal
 abbrev pub invariant-loop-left : goal.invariant-loop-left
 invariant-loop-left l = record {
   same : answer l.reader.lexer (parsed_by l.reader.parser) l.left ≡ answer new_lexer nothing_parsed l.bytes;
-  ready : BelongsTogether l.reader;
+  together : BelongsTogether l.reader;
   place : l.reader.lexer.here.offset + length l.left ≡ length l.bytes;
 }
 

@@ -2,11 +2,11 @@ use Rattle.std.proofs.Common.{◌∷◌, sym, subst, ap, ◌∙◌}
 use Rattle.std.specs.Prelude.{Ok}
 use Rattle.ps_read.specs.Answers.{answer, parsed_by, Agrees, IsKeptIn}
 use Rattle.ps_read.proofs.Words.{kept_ended}
-use Rattle.ps_read.proofs.Steps.{fed, fed_behind, ready_behind, offset_behind, passed_on}
+use Rattle.ps_read.proofs.Steps.{fed, fed_behind, together_behind, offset_behind, passed_on}
 use Rattle.ps_read.proofs.reader.Reader.feed.Goals as goal
 
 pub judge-requires-clause-word : goal.judge-requires-clause-word
-judge-requires-clause-word c = subst IsKeptIn (sym c.take-token.ensures.token) (kept_ended c.args.self.now.lexer c.args.byte c.requires.ready.word)
+judge-requires-clause-word c = subst IsKeptIn (sym c.take-token.ensures.token) (kept_ended c.args.self.now.lexer c.args.byte c.requires.together.word)
 
 pub returns-in_err-place-clause-fed : goal.returns-in_err-place-clause-fed
 returns-in_err-place-clause-fed c = record {
@@ -29,8 +29,8 @@ returns-in-Some-clause-fed c = record {
       c.take-token.ensures.token c.take-token.ensures.state c.began-began.ensures c.bad.ensures c.judge.ensures.judged more);
 }
 
-pub returns-in-Some-clause-ready : goal.returns-in-Some-clause-ready
-returns-in-Some-clause-ready c = ready_behind c.args.self.now _ c.args.byte c.requires.ready c.take-token.ensures.state c.in_ok-place.ensures.derivation c.in_ok-place.ensures.counts
+pub returns-in-Some-clause-together : goal.returns-in-Some-clause-together
+returns-in-Some-clause-together c = together_behind c.args.self.now _ c.args.byte c.requires.together c.take-token.ensures.state c.in_ok-place.ensures.derivation c.in_ok-place.ensures.counts
 
 pub returns-in-Some-clause-taken : goal.returns-in-Some-clause-taken
 returns-in-Some-clause-taken c = offset_behind c.args.self.now.lexer c.take-token.new.self c.args.byte c.take-token.ensures.state
@@ -44,8 +44,8 @@ returns-clause-fed c = record {
       c.take-token.ensures.token c.take-token.ensures.state c.began-began.ensures c.bad.ensures c.judge.ensures.judged more));
 }
 
-pub returns-clause-ready : goal.returns-clause-ready
-returns-clause-ready c = ready_behind c.args.self.now _ c.args.byte c.requires.ready c.take-token.ensures.state c.in_ok-place.ensures.derivation c.in_ok-place.ensures.counts
+pub returns-clause-together : goal.returns-clause-together
+returns-clause-together c = together_behind c.args.self.now _ c.args.byte c.requires.together c.take-token.ensures.state c.in_ok-place.ensures.derivation c.in_ok-place.ensures.counts
 
 pub returns-clause-taken : goal.returns-clause-taken
 returns-clause-taken c = offset_behind c.args.self.now.lexer c.take-token.new.self c.args.byte c.take-token.ensures.state
