@@ -1,8 +1,6 @@
 -- A state of the run is in a phase once the phase has its costs.
-use Rattle.std.proofs.Common.{◌≡◌, ◌≢◌, List, Option, Some, None, sym, subst, refl}
+use Rattle.std.proofs.Common.{◌≡◌, ◌≢◌, List, sym, subst}
 use Rattle.ps_meaning.specs.Formula.{World}
-use Rattle.ps_problem.specs.declared.query.Query.{Query}
-use Rattle.ps_problem.specs.Problems.{Parts}
 use Rattle.ps_rule.specs.Rule.{IsFeasible}
 use Rattle.ps_table.specs.declared.costs.Costs.{Costs}
 use Rattle.ps_table.specs.Tableau.{Tableau}
@@ -11,7 +9,7 @@ use Rattle.ps_bland.specs.Ready.{IsReady}
 use Rattle.ps_claims.specs.declared.claim_kind.ClaimKind.{ClaimKind}
 use Rattle.ps_claims.specs.declared.claim_kind.ClaimKind.TheVariants.{Nothing, Lower, Upper}
 use Rattle.ps_runs.specs.Rows.{Setting, phase_of}
-use Rattle.ps_runs.specs.Runs.{Subject, setting_of, IsAsked}
+use Rattle.ps_runs.specs.Runs.{Subject, setting_of}
 use Rattle.ps_phases.specs.Tables.{costs_for, IsRunTable}
 use Rattle.ps_phases.proofs.Ready.{lower_apart, upper_apart, ready_first, ready_lower, ready_upper}
 use Rattle.ps_generation.specs.declared.state.State.{State}
@@ -31,8 +29,3 @@ in_phase kind s costs state there feasible is = record {
   costs_are = is;
   ready = subst (λ c. IsReady (phase_of kind) c state.table) (sym is) (ready kind (setting_of s) state.pool state.table there.table feasible);
 }
-
--- without a query there is no side
-pub asked_side : (kind : ClaimKind) (p : Parts) (q : Option Query) → q ≢ None → IsAsked Nothing p q → IsAsked kind p q
-asked_side kind p None some asked = absurd (some refl)
-asked_side kind p (Some q) some asked = asked

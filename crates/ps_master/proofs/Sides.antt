@@ -4,9 +4,8 @@ use Rattle.std.proofs.lemmas.Int.{ints}
 use Rattle.std.proofs.lemmas.List.{length-map}
 use Rattle.ps_pool.specs.declared.event.Event.TheVariants.{Priced}
 use Rattle.ps_rational.specs.Rational.{Rational}
-use Rattle.ps_table.specs.Tableau.{Tableau, entry_at}
+use Rattle.ps_table.specs.Tableau.{entry_at}
 use Rattle.ps_table.specs.declared.place.WideAt.{WideAt}
-use Rattle.ps_bland.specs.Rules.{IsDone}
 use Rattle.ps_problem.specs.declared.query.Query as stored
 use Rattle.ps_problem.specs.Problems.{Parts, bounds_in, bound_of}
 use Rattle.ps_steps.specs.Steps.{Refutes}
@@ -42,12 +41,6 @@ use Rattle.ps_master.specs.Runs.{IsSideAnswerOf, IsValidSide, IsWholeSide, kept_
 use Rattle.ps_master.specs.States.{run_of, IsBoundOf}
 use Rattle.ps_master.proofs.Models as models
 use Rattle.ps_master.proofs.Ways.{own_way, one_more}
-
--- a side isn't over before it rests
-pub side_goes_on : (kind : ClaimKind) (t : Tableau) → kind ≢ Nothing → IsDone (phase_of kind) t → ⊥
-side_goes_on Nothing t apart done = absurd (apart refl)
-side_goes_on Lower t apart done = done
-side_goes_on Upper t apart done = done
 
 -- at rest with no world above 0 a side's model is due
 due_at_rest : (kind : ClaimKind) (s : Subject) (g : Stage) (X : ℕ → ℕ → Rational) → kind ≢ Nothing → IsRestingAt kind s g X → AreAtMost kind s g X (pos 0) → IsModelDue kind s g X

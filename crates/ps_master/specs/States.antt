@@ -9,6 +9,7 @@ use Rattle.ps_answer.specs.declared.answer.Dual.{Dual}
 use Rattle.ps_answer.specs.declared.answer.Model.{Model}
 use Rattle.ps_answer.specs.declared.answer.SideAnswer.{SideAnswer}
 use Rattle.ps_answer.specs.declared.answer.SideAnswer.TheVariants as side
+use Rattle.ps_claims.specs.declared.claim_kind.ClaimKind.{ClaimKind}
 use Rattle.ps_claims.specs.declared.claim_kind.ClaimKind.TheVariants.{Nothing}
 use Rattle.ps_claims.specs.Duals.{HasValueHead}
 use Rattle.ps_multiples.specs.Multiples.{ModelPlaces}
@@ -18,11 +19,20 @@ use Rattle.ps_phases.specs.Tables.{IsRunTable}
 use Rattle.ps_ends.specs.Models.{IsTableModel}
 use Rattle.ps_generation.specs.declared.state.State.{State}
 use Rattle.ps_generation.specs.Phases.{AreLimits, LimitedSubject}
-use Rattle.ps_master.specs.Runs.{RunState}
+use Rattle.ps_master.specs.declared.first.First.{First}
+use Rattle.ps_master.specs.Runs.{RunState, IsPhaseOneAnswer, IsSideAnswerOf}
 
 -- a run by what it is over, its state, and whether memory ran out
 abbrev pub run_of : LimitedSubject → State → Bool → RunState
 run_of over state broken = record { over = over; pool = state.pool; table = state.table; trace = state.trace; left = state.left; is_broken = broken }
+
+-- what phase one answers, from one state to another, while memory lasts
+abbrev pub AnswersPhaseOne : LimitedSubject → State → State → First → Type 0
+AnswersPhaseOne over old new answer = IsPhaseOneAnswer (run_of over old false) (run_of over new false) answer
+
+-- what a side answers, from one state to another, while memory lasts
+abbrev pub AnswersSide : ClaimKind → LimitedSubject → State → State → SideAnswer → Type 0
+AnswersSide kind over old new answer = IsSideAnswerOf kind (run_of over old false) (run_of over new false) answer
 
 -- table and pool are those of a run
 pub record HasRunTable (s : Subject) (state : State) : Type 0 where

@@ -9,8 +9,9 @@ ghost use Rattle.ps_printed.specs.Printed.{ArePrintedOperands, IsPrintedDual, Is
 ghost use Rattle.ps_printed.specs.Printed.{IsPrintedSide};
 ghost use Rattle.ps_ends.specs.Models.{AreApart};
 ghost use Rattle.ps_generation.specs.Phases.{AreLimits, HasRoom, IsLeft, most_columns};
-ghost use Rattle.ps_master.specs.Runs.{IsAtStart, IsPhaseOneAnswer, IsPrintedFirst, IsSideAnswerOf};
+ghost use Rattle.ps_master.specs.Runs.{IsAtStart, IsPrintedFirst};
 ghost use Rattle.ps_master.specs.States.{IsBoundOf, IsModelOrWide, HasRunTable, run_of};
+ghost use Rattle.ps_master.specs.States.{AnswersPhaseOne, AnswersSide};
 
 use crate::first::First;
 use crate::phase::phase;
@@ -58,9 +59,7 @@ pub(crate) fn first(
     requires limits { AreLimits setting.now.limits }
     requires there { HasRunTable setting.now.subject state.old }
     requires start { IsAtStart (run_of setting.now state.old false) }
-    ensures answer { IfOk result
-        (IsPhaseOneAnswer (run_of setting.now state.old false)
-        (run_of setting.now state.new false)) }
+    ensures answer { IfOk result (AnswersPhaseOne setting.now state.old state.new) }
     ensures there { IfOk result (λ _. HasRunTable setting.now.subject state.new) }
     ensures printed { IfOk result IsPrintedFirst }
 {
@@ -105,9 +104,7 @@ pub(crate) fn side(
     requires there { HasRunTable setting.now.subject state.old }
     requires feasible { IsFeasible (simplex_of state.old.table) }
     requires room { HasRoom most_columns state.old }
-    ensures answer { IfOk result
-        (IsSideAnswerOf kind (run_of setting.now state.old false)
-        (run_of setting.now state.new false)) }
+    ensures answer { IfOk result (AnswersSide kind setting.now state.old state.new) }
     ensures left { IfOk result (λ _. IsLeft kind setting.now.subject state.old state.new) }
     ensures printed { IfOk result IsPrintedSide }
 {
