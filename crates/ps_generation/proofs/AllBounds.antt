@@ -45,7 +45,7 @@ spread-each P (true ∷ ks) [] z h = All-cons P (pos 0) (spread_of ks []) z (spr
 spread-each P (true ∷ ks) (y ∷ ys) z h = All-cons P y (spread_of ks ys) (All-head P y ys h) (spread-each P ks ys z (All-tail P y ys h))
 
 -- ---- the loop
-spread-first : (k : Bool) (ks : List Bool) (ys : List ℤ) → spread_of (k ∷ ks) ys ≡ number_for k ys 0 ∷ spread_of ks (cond k (drop 1 ys) ys)
+spread-first : (k : Bool) (ks : List Bool) (ys : List ℤ) → spread_of (k ∷ ks) ys ≡ number_for (k ∷ []) 0 ys 0 ∷ spread_of ks (cond k (drop 1 ys) ys)
 spread-first false ks ys = refl
 spread-first true ks [] = refl
 spread-first true ks (y ∷ ys) = refl
@@ -66,16 +66,16 @@ drop-more ys n = drop-suc ys n ∙ ap (λ k. drop k ys) (one_more n)
     one_more : (n : ℕ) → suc n ≡ n + 1
     one_more n = omega arith
 
-number-from : (k : Bool) (ys : List ℤ) (n : ℕ) → number_for k (drop n ys) 0 ≡ number_for k ys n
+number-from : (k : Bool) (ys : List ℤ) (n : ℕ) → number_for (k ∷ []) 0 (drop n ys) 0 ≡ number_for (k ∷ []) 0 ys n
 number-from true ys n = get-drop ys n
 number-from false ys n = refl
 
-rest-from : (k : Bool) (ys : List ℤ) (n : ℕ) → cond k (drop 1 (drop n ys)) (drop n ys) ≡ drop (next_for k n) ys
+rest-from : (k : Bool) (ys : List ℤ) (n : ℕ) → cond k (drop 1 (drop n ys)) (drop n ys) ≡ drop (next_for (k ∷ []) 0 n) ys
 rest-from true ys n = drop-more ys n
 rest-from false ys n = refl
 
 spread-left : (ks : List Bool) (ys : List ℤ) (i n : ℕ) → i < length ks
-    → spread_of (drop i ks) (drop n ys) ≡ (number_for (get_or ks i false) ys n ∷ []) ++ spread_of (drop (suc i) ks) (drop (next_for (get_or ks i false) n) ys)
+    → spread_of (drop i ks) (drop n ys) ≡ (number_for ks i ys n ∷ []) ++ spread_of (drop (suc i) ks) (drop (next_for ks i n) ys)
 spread-left ks ys i n inside =
     ap (λ ls. spread_of ls (drop n ys)) (drop-cons ks i false inside)
     ∙ spread-first (get_or ks i false) (drop (suc i) ks) (drop n ys)
@@ -86,16 +86,16 @@ pub record IsSpreadTo (ks : List Bool) (ys : List ℤ) (all : List ℤ) (i n : �
   pub rest : all ++ spread_of (drop i ks) (drop n ys) ≡ spread_of ks ys
   pub before : n ≤ i
 
-next_low : (k : Bool) (n i : ℕ) → n ≤ i → next_for k n ≤ i + 1
+next_low : (k : Bool) (n i : ℕ) → n ≤ i → next_for (k ∷ []) 0 n ≤ i + 1
 next_low true n i h = omega (arith, h)
 next_low false n i h = omega (arith, h)
 
-pub spread-next : (ks : List Bool) (ys all longer : List ℤ) (i n m : ℕ) → i < length ks → longer ≡ all ++ number_for (get_or ks i false) ys n ∷ [] → m ≡ next_for (get_or ks i false) n
+pub spread-next : (ks : List Bool) (ys all longer : List ℤ) (i n m : ℕ) → i < length ks → longer ≡ all ++ number_for ks i ys n ∷ [] → m ≡ next_for ks i n
     → IsSpreadTo ks ys all i n → IsSpreadTo ks ys longer (i + 1) m
 spread-next ks ys all longer i n m inside is next h = record {
   rest =
       (λ j. longer ++ spread_of (drop (one i j) ks) (drop (next j) ys))
-      ∙ part-next all (number_for (get_or ks i false) ys n ∷ []) (spread_of (drop i ks) (drop n ys)) (spread_of (drop (suc i) ks) (drop (next_for (get_or ks i false) n) ys)) (spread_of ks ys) longer
+      ∙ part-next all (number_for ks i ys n ∷ []) (spread_of (drop i ks) (drop n ys)) (spread_of (drop (suc i) ks) (drop (next_for ks i n) ys)) (spread_of ks ys) longer
       is (spread-left ks ys i n inside) h.rest;
   before = subst (λ k. k ≤ i + 1) (sym next) (next_low (get_or ks i false) n i h.before);
 }

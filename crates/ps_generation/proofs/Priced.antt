@@ -15,15 +15,14 @@ use Rattle.ps_table.specs.declared.place.WideAt.{WideAt}
 use Rattle.ps_table.specs.Tableau.{rows_of as table_rows, entry_at, basic_at}
 use Rattle.ps_table.specs.Pricing.{cost_at}
 use Rattle.ps_table.specs.Places.{IsWide, IsWideAt, IsRefusedAt, HomePlaces, MultiplierPlace}
-use Rattle.ps_bland.specs.Rules.{simplex_of}
 use Rattle.ps_multiples.specs.Multiples.{DualPlaces}
 use Rattle.ps_multiples.specs.Multiples.DualPlaces.{of_home, of_multiplier}
 use Rattle.ps_answer.specs.declared.answer.Cause.TheVariants.{Conflicts, Wide}
 use Rattle.ps_answer.specs.declared.answer.Dual.{Dual}
 use Rattle.ps_certificate.specs.Certificates.{dual_of}
 use Rattle.ps_claims.specs.declared.claim_kind.ClaimKind.{ClaimKind}
-use Rattle.ps_runs.specs.Certificates.{HaveSameNumbers, table_dual}
-use Rattle.ps_runs.specs.Runs.{setting_of, IsAsked, dual_at}
+use Rattle.ps_runs.specs.Certificates.{HaveSameNumbers}
+use Rattle.ps_runs.specs.Runs.{IsAsked, dual_at}
 use Rattle.ps_runs.proofs.Priced.{same_goal, priced_greatest, priced_cut, refuted_most}
 use Rattle.ps_phases.specs.Licences.{IsOutOfConflicts, IsTooWide}
 use Rattle.ps_phases.proofs.Licensing.{multiplier_due, dual_due}
@@ -33,7 +32,7 @@ use Rattle.ps_generation.specs.declared.state.State.{State}
 use Rattle.ps_generation.specs.declared.end.End.{End}
 use Rattle.ps_generation.specs.declared.end.End.TheVariants.{NoneAbove, Open}
 use Rattle.ps_generation.specs.Phases.{LimitedSubject, stage_of, IsInPhase, IsEnd, IsEndAt}
-use Rattle.ps_generation.specs.Rounds.{pricing_subject_of, IsAtRest, IsPricedIn}
+use Rattle.ps_generation.specs.Rounds.{pricing_subject_of, IsDualOver, IsAtRest, IsPricedIn}
 use Rattle.ps_generation.proofs.Coming.{come_none}
 
 module _ (kind : ClaimKind) (r : LimitedSubject) (costs : Costs) (old : State) (phase : IsInPhase kind r.subject costs old) (rests : IsAtRest kind r.subject old) where
@@ -55,7 +54,7 @@ module _ (kind : ClaimKind) (r : LimitedSubject) (costs : Costs) (old : State) (
       (inl (record { come = come_none kind r costs old phase; licensed = refused_at at.place at.op at.left at.right wide.at wide.wide }))
   dual_wide refused.NoMemory end wide is = absurd is
 
-  module _ (d : Dual) (same : HaveSameNumbers (dual_of d) (table_dual kind (setting_of r.subject) (simplex_of old.table) (cost_at costs)))
+  module _ (d : Dual) (same : IsDualOver kind r.subject old.table costs d)
       (are : AreParts r.subject.parts) (asked : IsAsked kind r.subject.parts r.subject.query) where
     same_at : HaveSameNumbers (dual_of d) (dual_at kind r.subject (stage_of old) (entry_at old.table))
     same_at = dual_of_stage r.subject old.pool old.table phase.table kind costs (dual_of d) phase.costs_are same

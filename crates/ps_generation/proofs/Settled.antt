@@ -27,7 +27,7 @@ use Rattle.ps_generation.specs.declared.state.State.{State}
 use Rattle.ps_generation.specs.declared.end.End.{End}
 use Rattle.ps_generation.specs.declared.end.End.TheVariants.{Feasible, Open}
 use Rattle.ps_generation.specs.Phases.{LimitedSubject, stage_of, IsInPhase, HasCome, IsEnd, IsEndAt}
-use Rattle.ps_generation.specs.Rounds.{HasRested}
+use Rattle.ps_generation.specs.Rounds.{HasPivoted, HasRested}
 
 -- a resting table isn't moving
 rests_not_moving : (ph : Phase) (t : SimplexTable) (cost : ℕ → Rational) → IsResting ph t cost → IsMoving ph t cost → ⊥
@@ -44,7 +44,7 @@ same_state : (old new : State) → new.pool ≡ old.pool → record { table = ne
 same_state old new same = λ i. record { table = new.table; pool = sym same i; trace = new.trace; left = new.left }
 
 module _ (kind : ClaimKind) (r : LimitedSubject) (costs : Costs) (old new : State) (phase : IsInPhase kind r.subject costs old) (same : new.pool ≡ old.pool)
-    (ran : bland.Ran (phase_of kind) costs old.table new.table old.trace new.trace old.left new.left) (tableau : IsTableau new.table)
+    (ran : HasPivoted kind costs old new) (tableau : IsTableau new.table)
     (ready : IsReady (phase_of kind) costs new.table) where
   pub settled_come : HasCome kind r old new
   settled_come =
@@ -52,7 +52,7 @@ module _ (kind : ClaimKind) (r : LimitedSubject) (costs : Costs) (old new : Stat
         way =
             settled_goes_on kind r.subject r.limits.conflicts (stage_of old) old.left old.trace old.pool old.table new.table old.trace new.trace old.left new.left
             (begun kind r.subject r.limits.conflicts old.pool old.table old.trace old.left phase.table phase.pool_kept)
-            (subst (λ (c : Costs). bland.Ran (phase_of kind) c old.table new.table old.trace new.trace old.left new.left) phase.costs_are ran) tableau ready.values;
+            (subst (λ (c : Costs). HasPivoted kind c old new) phase.costs_are ran) tableau ready.values;
       })
 
   costs_there : costs ≡ costs_for kind (setting_of r.subject) new.pool

@@ -93,6 +93,10 @@ most_columns = MOST_PIVOTS + 10
 pub record HasRoom (most : ℕ) (state : State) : Type 0 where
   pub room : length state.pool + state.left ≤ most
 
+-- there is as much room as before but for one world
+abbrev pub LeavesRoomButForOne : State → State → Type 0
+LeavesRoomButForOne old new = length new.pool + new.left ≤ length old.pool + old.left + 1
+
 -- a run at its start: the table of the homes, no world, no event, and all pivots left
 pub record IsNewState (r : LimitedSubject) (state : State) : Type 0 where
   pub table : IsRunTable (setting_of r.subject) state.pool state.table
@@ -153,4 +157,4 @@ pub record IsLeft (kind : ClaimKind) (s : Subject) (old new : State) : Type 0 wh
   pub table : IsRunTable (setting_of s) new.pool new.table
   pub pool_kept : IsPool (atoms_of s) new.pool
   pub feasible : kind ≢ Nothing → IsFeasible (simplex_of new.table)
-  pub room : length new.pool + new.left ≤ length old.pool + old.left + 1
+  pub room : LeavesRoomButForOne old new

@@ -2,10 +2,15 @@
 use Rattle.std.specs.Prelude.{◌≡◌, suc, ◌+◌, ◌<◌, ◌≤◌, length, Option, Some, None}
 use Rattle.ps_rule.specs.Rule.{IsMoving}
 use Rattle.ps_meaning.specs.Formula.{World}
-use Rattle.ps_table.specs.Tableau.{entry_at}
+use Rattle.ps_table.specs.declared.costs.Costs.{Costs}
+use Rattle.ps_table.specs.Tableau.{Tableau, entry_at}
 use Rattle.ps_table.specs.Pricing.{cost_at}
 use Rattle.ps_bland.specs.Rules.{simplex_of}
+use Rattle.ps_bland.specs.Runs.{Ran}
+use Rattle.ps_answer.specs.declared.answer.Dual.{Dual}
+use Rattle.ps_certificate.specs.Certificates.{dual_of}
 use Rattle.ps_claims.specs.declared.claim_kind.ClaimKind.{ClaimKind}
+use Rattle.ps_runs.specs.Certificates.{table_dual, HaveSameNumbers}
 use Rattle.ps_runs.specs.Rows.{phase_of, entries_of, world_cost}
 use Rattle.ps_runs.specs.Runs.{Subject, setting_of, IsRestingAt, IsPricedBy}
 use Rattle.ps_phases.specs.Tables.{costs_for}
@@ -23,6 +28,14 @@ pricing_subject_of r = record { subject = r.subject; conflicts = r.limits.confli
 pub record IsColumnOf (kind : ClaimKind) (s : Subject) (w : World) (c : Column) : Type 0 where
   pub entries : c.entries.items ≡ entries_of (setting_of s) w
   pub cost : c.cost ≡ world_cost kind (setting_of s) w
+
+-- the dual has the numbers of the dual of a table, by the rows of the subject and these costs
+abbrev pub IsDualOver : ClaimKind → Subject → Tableau → Costs → Dual → Type 0
+IsDualOver kind s t costs d = HaveSameNumbers (dual_of d) (table_dual kind (setting_of s) (simplex_of t) (cost_at costs))
+
+-- pivots by the rule were made, appended to the trace and counted
+abbrev pub HasPivoted : ClaimKind → Costs → State → State → Type 0
+HasPivoted kind costs old new = Ran (phase_of kind) costs old.table new.table old.trace new.trace old.left new.left
 
 -- the table is moving
 abbrev pub IsInMotion : ClaimKind → Subject → State → Type 0

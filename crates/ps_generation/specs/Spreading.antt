@@ -10,13 +10,13 @@ spread_of (false ∷ ks) ys = pos 0 ∷ spread_of ks ys
 spread_of (true ∷ ks) [] = pos 0 ∷ spread_of ks []
 spread_of (true ∷ ks) (y ∷ ys) = y ∷ spread_of ks ys
 
--- the number of a bound, where the next kept one's is at this place
-abbrev pub number_for : Bool → List ℤ → ℕ → ℤ
-number_for kept ys next = if kept then get_or ys next (pos 0) else pos 0
+-- the number of bound i, where the next kept one's is at this place
+abbrev pub number_for : List Bool → ℕ → List ℤ → ℕ → ℤ
+number_for flags i ys next = if get_or flags i false then get_or ys next (pos 0) else pos 0
 
 -- the place of the next kept one's behind it
-abbrev pub next_for : Bool → ℕ → ℕ
-next_for kept next = if kept then next + 1 else next
+abbrev pub next_for : List Bool → ℕ → ℕ → ℕ
+next_for flags i next = if get_or flags i false then next + 1 else next
 
 -- the sentences of a part are the kept ones of the whole, and so are the bounds
 pub record IsKeptOf (p : Parts) (flags : List Bool) (part : Parts) : Type 0 where

@@ -1,8 +1,8 @@
 //! The phases of a run.
-ghost use Rattle.std.specs.Prelude.{◌≤◌, ◌+◌, length, IfOk, IfSome};
+ghost use Rattle.std.specs.Prelude.{IfOk, IfSome};
 ghost use Rattle.ps_runs.specs.Runs.{IsAsked};
 ghost use Rattle.ps_generation.specs.Phases.{HasRoom, IsEnd, IsInPhase, IsLeft, IsPrintedEnd};
-ghost use Rattle.ps_generation.specs.Phases.{most_columns};
+ghost use Rattle.ps_generation.specs.Phases.{LeavesRoomButForOne, most_columns};
 ghost use Rattle.ps_generation.specs.Rounds.{IsAtRest, IsRound};
 
 use crate::end::End;
@@ -30,8 +30,7 @@ fn round(
     requires room { HasRoom most_columns state.old }
     ensures phase { IfOk result
         (λ _. IsInPhase kind setting.now.subject costs.new state.new) }
-    ensures room { IfOk result (λ _.
-        length state.new.pool + state.new.left ≤ length state.old.pool + state.old.left + 1) }
+    ensures room { IfOk result (λ _. LeavesRoomButForOne state.old state.new) }
     ensures end { IfOk result (IsRound kind setting.now state.old state.new) }
     ensures printed { IfOk result (λ end. IfSome end IsPrintedEnd) }
 {

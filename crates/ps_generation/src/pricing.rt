@@ -1,10 +1,11 @@
 //! The pricing of a table at rest.
-ghost use Rattle.std.specs.Prelude.{◌≡◌, ◌≤◌, ◌<◌, ◌+◌, ◌++◌, ◌∷◌, [], ℕ, length};
+ghost use Rattle.std.specs.Prelude.{◌≡◌, ◌≤◌, ◌<◌, ◌++◌, ◌∷◌, [], ℕ, length};
 ghost use Rattle.std.specs.Prelude.{IfOk, IfSome};
 ghost use Rattle.ps_pool.specs.Worlds.{HasNumber};
 ghost use Rattle.ps_pool.specs.declared.pool.TheConstants.{MOST_WORLDS};
 ghost use Rattle.ps_runs.specs.Runs.{IsAsked};
-ghost use Rattle.ps_generation.specs.Phases.{IsInPhase, IsPrintedEnd, most_columns};
+ghost use Rattle.ps_generation.specs.Phases.{IsInPhase, IsPrintedEnd};
+ghost use Rattle.ps_generation.specs.Phases.{LeavesRoomButForOne, most_columns};
 ghost use Rattle.ps_generation.specs.Rounds.{IsAtRest, IsPricedIn, IsEntered};
 
 use crate::column::Column;
@@ -49,8 +50,7 @@ fn enter(
     requires room { length state.old.pool ≤ most_columns }
     ensures phase { IfOk result
         (λ _. IsInPhase kind setting.now.subject costs.new state.new) }
-    ensures room { IfOk result (λ _.
-        length state.new.pool + state.new.left ≤ length state.old.pool + state.old.left + 1) }
+    ensures room { IfOk result (λ _. LeavesRoomButForOne state.old state.new) }
     ensures end { IfOk result (IsEntered kind setting.now state.old state.new) }
     ensures printed { IfOk result (λ end. IfSome end IsPrintedEnd) }
 {
@@ -82,8 +82,7 @@ pub(crate) fn priced(
     requires room { length state.old.pool ≤ most_columns }
     ensures phase { IfOk result
         (λ _. IsInPhase kind setting.now.subject costs.new state.new) }
-    ensures room { IfOk result (λ _.
-        length state.new.pool + state.new.left ≤ length state.old.pool + state.old.left + 1) }
+    ensures room { IfOk result (λ _. LeavesRoomButForOne state.old state.new) }
     ensures end { IfOk result (IsEntered kind setting.now state.old state.new) }
     ensures printed { IfOk result (λ end. IfSome end IsPrintedEnd) }
 {

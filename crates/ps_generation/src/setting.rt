@@ -2,12 +2,9 @@
 ghost use Rattle.std.specs.Prelude.{◌≡◌, length, IfOk, IfErr, IfSome};
 ghost use Rattle.ps_problem.specs.Problems.{HasNodes, AreParts, bounds_in};
 ghost use Rattle.ps_table.specs.Tableau.{rows_of as table_rows};
-ghost use Rattle.ps_table.specs.Pricing.{HasCosts, cost_at};
+ghost use Rattle.ps_table.specs.Pricing.{HasCosts};
 ghost use Rattle.ps_table.specs.Places.{IsNarrow, IsRefusedAt};
-ghost use Rattle.ps_bland.specs.Rules.{simplex_of};
 ghost use Rattle.ps_multiples.specs.Multiples.{DualPlaces};
-ghost use Rattle.ps_certificate.specs.Certificates.{dual_of};
-ghost use Rattle.ps_runs.specs.Certificates.{HaveSameNumbers, table_dual};
 ghost use Rattle.ps_runs.specs.Rows.{rows_of};
 ghost use Rattle.ps_runs.specs.Kept.{IsChoice};
 ghost use Rattle.ps_runs.specs.Runs.{IsAsked, IsPool, atoms_of, setting_of};
@@ -15,7 +12,7 @@ ghost use Rattle.ps_phases.specs.Tables.{IsRunTable, costs_for};
 ghost use Rattle.ps_pricing.specs.Pricings.{IsDualFor, IsPricing, IsPrintedPricing};
 ghost use Rattle.ps_printed.specs.Printed.{IsPrintedDual};
 ghost use Rattle.ps_generation.specs.Phases.{AreLimits, IsNewState, IsSpread, limited};
-ghost use Rattle.ps_generation.specs.Rounds.{IsColumnOf, pricing_subject_of};
+ghost use Rattle.ps_generation.specs.Rounds.{IsColumnOf, IsDualOver, pricing_subject_of};
 
 use crate::column::Column;
 use crate::limits::Limits;
@@ -160,9 +157,7 @@ impl<'p> Setting<'p> {
     ) -> Result<Dual, TableError>
         requires costs { HasCosts costs.now table.now }
         requires rows { table_rows table.now ≡ rows_of (setting_of self.now.subject) }
-        ensures numbers { IfOk result (λ d. HaveSameNumbers (dual_of d)
-            (table_dual kind (setting_of self.now.subject) (simplex_of table.now)
-            (cost_at costs.now))) }
+        ensures numbers { IfOk result (IsDualOver kind self.now.subject table.now costs.now) }
         ensures fit { IfOk result (IsDualFor self.now.subject.parts) }
         ensures narrow { IfOk result (λ _. IsNarrow (DualPlaces table.now costs.now)) }
         ensures refused { IfErr result (IsRefusedAt (DualPlaces table.now costs.now)) }

@@ -2,11 +2,10 @@
 ghost use Rattle.std.specs.Prelude.{◌≡◌, ◌≤◌, IfOk, IfSome};
 ghost use Rattle.ps_table.specs.Tableau.{IsTableau};
 ghost use Rattle.ps_bland.specs.Ready.{IsReady};
-ghost use Rattle.ps_bland.specs.Runs.{Ran};
 ghost use Rattle.ps_bland.specs.Ends.{IsEnd};
 ghost use Rattle.ps_runs.specs.Rows.{phase_of};
 ghost use Rattle.ps_generation.specs.Phases.{IsInPhase, IsPrintedEnd};
-ghost use Rattle.ps_generation.specs.Rounds.{IsPhaseSettled};
+ghost use Rattle.ps_generation.specs.Rounds.{HasPivoted, IsPhaseSettled};
 
 use crate::end::{End, end_at};
 use crate::setting::Setting;
@@ -32,8 +31,7 @@ pub(crate) fn phase_of(kind: ClaimKind) -> Phase
 /// Pivots by Bland's rule until an end.
 fn pivoted(kind: ClaimKind, state: &mut State, costs: &Costs) -> Result<Settled, SettleError>
     requires { IsReady (phase_of kind) costs.now state.old.table }
-    ensures ran { Ran (phase_of kind) costs.now state.old.table state.new.table
-        state.old.trace state.new.trace state.old.left state.new.left }
+    ensures ran { HasPivoted kind costs.now state.old state.new }
     ensures end { IsEnd (phase_of kind) costs.now state.new.table state.new.left result }
     ensures ready { IsReady (phase_of kind) costs.now state.new.table }
     ensures tableau { IsTableau state.new.table }

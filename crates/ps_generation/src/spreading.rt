@@ -1,5 +1,5 @@
 //! Duals of the kept bounds, as duals of the whole problem.
-ghost use Rattle.std.specs.Prelude.{◌≡◌, ◌<◌, ◌≤◌, ◌++◌, ◌∷◌, [], false, pos, get_or, length};
+ghost use Rattle.std.specs.Prelude.{◌≡◌, ◌<◌, ◌≤◌, ◌++◌, ◌∷◌, [], pos, get_or, length};
 ghost use Rattle.std.specs.Prelude.{IfOk, OnOk};
 ghost use Rattle.ps_runs.specs.Kept.{flags_of};
 ghost use Rattle.ps_generation.specs.Spreading.{next_for, number_for, spread_of};
@@ -53,8 +53,8 @@ fn push_number(
     requires inside { i < length flags.now }
     requires before { next ≤ i }
     ensures pushed { OnOk result
-        (all.new ≡ all.old ++ number_for (get_or flags.now i false) rows.now next ∷ []) }
-    ensures next { IfOk result (λ n. n ≡ next_for (get_or flags.now i false) next) }
+        (all.new ≡ all.old ++ number_for flags.now i rows.now next ∷ []) }
+    ensures next { IfOk result (λ n. n ≡ next_for flags.now i next) }
 {
     if flags[i] {
         all.push(number_at(rows, next))?;

@@ -6,8 +6,9 @@ use Rattle.ps_problem.specs.declared.bound.Bound.{Bound}
 use Rattle.ps_problem.specs.Problems.{bounds_in, bound_of}
 use Rattle.ps_certificate.specs.Certificates.{dual_of}
 use Rattle.ps_runs.specs.Certificates.{HaveSameNumbers, table_dual}
-use Rattle.ps_runs.specs.Runs.{asked_in, setting_of}
+use Rattle.ps_runs.specs.Runs.{asked_in}
 use Rattle.ps_ends.specs.Duals.{IsTableDual}
+use Rattle.ps_generation.specs.Rounds.{IsDualOver}
 use Rattle.ps_generation.proofs.setting.Setting.dual.Goals as goal
 
 pub returns-clause-numbers : goal.returns-clause-numbers
@@ -15,7 +16,7 @@ returns-clause-numbers c =
     let s = c.args.self.now.subject in
     let bounds : c.bounds.result.now ≡ bounds_in s.parts.sentences = search rules in
     IfOk-weaker c.dual_of.result (IsTableDual c.args.kind c.bounds.result.now c.args.table.now c.args.costs.now)
-    (λ d. HaveSameNumbers (dual_of d) (table_dual c.args.kind (setting_of s) (simplex_of c.args.table.now) (cost_at c.args.costs.now)))
+    (IsDualOver c.args.kind s c.args.table.now c.args.costs.now)
     (λ d h.
     subst (λ (bs : List Bound). HaveSameNumbers (dual_of d)
     (table_dual c.args.kind (record { bounds = map (bound_of s.parts.nodes) bs; query = asked_in s.parts s.query }) (simplex_of c.args.table.now) (cost_at c.args.costs.now)))
