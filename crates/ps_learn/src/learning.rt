@@ -139,7 +139,8 @@ fn follow(
     hints: &mut Hints,
     a: &mut Assignment,
 ) -> Result<Followed, NoMemory>
-    ensures { IfOk result (FollowsEntry known.now entry.now marks.now hints.old a.old hints.new a.new) }
+    ensures { IfOk result
+        (FollowsEntry known.now entry.now marks.now hints.old a.old hints.new a.new) }
 {
     if !is_marked(marks, entry.lit) {
         return Ok(Followed::Unmarked);

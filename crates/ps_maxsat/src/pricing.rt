@@ -56,7 +56,8 @@ fn search_above<S: ProofSink>(
     requires least { unsigned_abs least ≤ 2 * most_total }
     requires few { conflicts ≤ most_conflicts }
     ensures outcome { IfOk result (IsOutcome wcnf.now.hard (goal_of wcnf.now least) conflicts) }
-    ensures logged { IsGoalLogged wcnf.now least conflicts (S.told log.old) (S.told log.new) result }
+    ensures logged { IsGoalLogged wcnf.now least conflicts (S.told log.old)
+        (S.told log.new) result }
     ensures whole { OnOk result (IsTrue (S.is_whole log.new)) }
     ensures telling { OnOk result (IsTrue (S.told log.old).tells → IsTrue (S.told log.new).tells) }
     ensures counted { CountsSearchFault result (S.faults log.old) (S.faults log.new) }

@@ -56,7 +56,8 @@ pub(crate) fn multiple_at(place: Place, multiple: u128, number: &Fraction) -> Re
 /// A fraction times a multiple of its denominator, where it is small enough to be printed.
 fn printed_product(number: &Fraction, multiple: u128) -> Option<i128>
     requires { multiple ≤ PRINTED_LIMIT }
-    ensures { let z = scaled multiple number.now in SomeIff result (unsigned_abs z ≤ PRINTED_LIMIT) z }
+    ensures { let z = scaled multiple number.now in SomeIff result
+        (unsigned_abs z ≤ PRINTED_LIMIT) z }
 {
     let times = multiple / number.denominator().unsigned_abs();
     let product = number.numerator().checked_mul(times as i128)?;

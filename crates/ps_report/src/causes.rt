@@ -38,7 +38,8 @@ fn write_conflicts<O: Sink>(
 ) -> Result<(), WriteFault>
     requires empty { text_of lines.old ≡ [] }
     requires short { AreShort (conflict_items limit goal.now steps.now) }
-    ensures { WroteItems O.Sink lines.old lines.new result (conflict_items limit goal.now steps.now) }
+    ensures { WroteItems O.Sink lines.old lines.new result
+        (conflict_items limit goal.now steps.now) }
 {
     write_open_conflicts(lines, limit)?;
     write_goal_and_steps(lines, goal, steps)
@@ -76,7 +77,8 @@ fn write_consistent_model<O: Sink>(
 ) -> Result<(), WriteFault>
     requires empty { text_of lines.old ≡ [] }
     requires short { AreShort (line.Consistent ∷ model_items model.now) }
-    ensures { WroteItems O.Sink lines.old lines.new result (line.Consistent ∷ model_items model.now) }
+    ensures { WroteItems O.Sink lines.old lines.new result
+        (line.Consistent ∷ model_items model.now) }
 {
     write_consistent(lines)?;
     write_model(lines, model)
@@ -85,7 +87,8 @@ fn write_consistent_model<O: Sink>(
 fn write_inconsistent_dual<O: Sink>(lines: &mut Lines<'_, O>, dual: &Dual) -> Result<(), WriteFault>
     requires empty { text_of lines.old ≡ [] }
     requires short { AreShort (line.Inconsistent ∷ dual_items dual.now) }
-    ensures { WroteItems O.Sink lines.old lines.new result (line.Inconsistent ∷ dual_items dual.now) }
+    ensures { WroteItems O.Sink lines.old lines.new result
+        (line.Inconsistent ∷ dual_items dual.now) }
 {
     write_inconsistent(lines)?;
     write_dual(lines, dual)

@@ -49,7 +49,8 @@ fn write_parts_and_end<O: Sink>(
 ) -> Result<(), WriteFault>
     requires empty { text_of lines.old ≡ [] }
     requires short { AreShort (part_items 1 parts.now ++ line.End ∷ []) }
-    ensures { WroteItems O.Sink lines.old lines.new result (part_items 1 parts.now ++ line.End ∷ []) }
+    ensures { WroteItems O.Sink lines.old lines.new result
+        (part_items 1 parts.now ++ line.End ∷ []) }
 {
     write_parts(lines, parts)?;
     write_end(lines)

@@ -42,7 +42,8 @@ fn write_proved<O: Sink>(
 ) -> Result<(), WriteFault>
     requires empty { text_of lines.old ≡ [] }
     requires short { AreShort (proved_items model.now dual.now trace.now) }
-    ensures { WroteItems O.Sink lines.old lines.new result (proved_items model.now dual.now trace.now) }
+    ensures { WroteItems O.Sink lines.old lines.new result
+        (proved_items model.now dual.now trace.now) }
 {
     write_model(lines, model)?;
     write_dual_and_trace(lines, dual, trace)

@@ -97,7 +97,8 @@ fn learn_all<S: ProofSink>(
     requires small { length known ≤ 2 ^ 32 }
     requires few { conflicts ≤ most_conflicts }
     ensures outcome { IfOk result (IsOutcome base.now goal.now conflicts) }
-    ensures logged { HasHanded base.now goal.now conflicts (S.told log.old) (S.told log.new) result }
+    ensures logged { HasHanded base.now goal.now conflicts (S.told log.old)
+        (S.told log.new) result }
     ensures whole { OnOk result (IsTrue (S.is_whole log.new)) }
     ensures counted { CountsSearchFault result (S.faults log.old) (S.faults log.new) }
     ensures no_memory { IsErrOf result SearchError.NoMemory → IsTrue (S.is_whole log.new) }

@@ -121,7 +121,8 @@ fn push_column(
     requires column { column < width grid.now }
     requires scaled { scaled.now ≡ scaled_in grid.now pivot.now column }
     requires before { IsUpToColumn grid.now pivot.now column changes.old.items }
-    ensures after { IfOk result (λ _. IsUpToColumn grid.now pivot.now (suc column) changes.new.items) }
+    ensures after { IfOk result
+        (λ _. IsUpToColumn grid.now pivot.now (suc column) changes.new.items) }
     ensures refused { IfErr result (IsRefusedAt (GridPivotPlaces grid.now pivot.now)) }
 {
     for row in 0..grid.rows() {
@@ -140,7 +141,8 @@ fn with_column(
     requires pivot { IsPivotOf grid.now pivot.now }
     requires column { column < width grid.now }
     requires before { IsUpToColumn grid.now pivot.now column changes.old.items }
-    ensures after { IfOk result (λ _. IsUpToColumn grid.now pivot.now (suc column) changes.new.items) }
+    ensures after { IfOk result
+        (λ _. IsUpToColumn grid.now pivot.now (suc column) changes.new.items) }
     ensures narrow { IfOk result (λ _. IsScaleNarrow grid.now pivot.now column) }
     ensures refused { IfErr result (IsRefusedAt (GridPivotPlaces grid.now pivot.now)) }
 {

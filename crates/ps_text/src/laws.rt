@@ -19,7 +19,8 @@ ghost use Rattle.ps_text.specs.Canonical.{canonical_text, sentences_first, AreLa
 /// such text's tokens are refused nowhere.
 pub fn expected_tokens_are_derived()
     ensures derived { (tokens : List Token) → AreExpected tokens → IsDerived tokens }
-    ensures expected { (es : List ItemSyntax) → AreWellFormedItems es → AreExpected (text_tokens es) }
+    ensures expected { (es : List ItemSyntax) → AreWellFormedItems es
+        → AreExpected (text_tokens es) }
 {}
 
 /// A derivation of the tokens so far begins with none of them, and takes each further token that

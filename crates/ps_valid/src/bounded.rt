@@ -35,7 +35,8 @@ pub fn check_bound(
     requires query { HasNodes problem.now.nodes query.now.formula query.now.given query.now.both }
     requires model { IsSmallModel model.now }
     requires dual { IsSmallDual dual.now }
-    ensures { IfOk result (FindsAgainstBound problem.now kind query.now value.now model.now dual.now) }
+    ensures { IfOk result
+        (FindsAgainstBound problem.now kind query.now value.now model.now dual.now) }
 {
     if has_wrong_shape(problem, model) {
         return Ok(Some(Reason::WrongShape));

@@ -53,7 +53,8 @@ pub fn first_refused(
 ) -> Result<Option<(u64, StepRefused)>, NoMemory>
     requires fresh { checker.old.refuted ≡ false }
     ensures found { IfOk result (λ o. o ≡ first_refused_by checker.old steps.now) }
-    ensures ends { IfOk result (λ o. o ≡ None → checker.new.refuted ≡ ends_in_contradiction steps.now) }
+    ensures ends { IfOk result
+        (λ o. o ≡ None → checker.new.refuted ≡ ends_in_contradiction steps.now) }
 {
     for step in steps {
         match refusal(checker, step)? {

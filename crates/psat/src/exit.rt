@@ -61,12 +61,14 @@ pub fn run_program<I: Source, O: Sink>(
     ensures nothing_written { IsErr result → sink.new ≡ sink.old }
 
     // Else all that holds of a run holds with the words behind the program's name: what is written,
-    ensures ran { IfRan all result (Ran (I.left source.old) (O.written sink.old) (O.written sink.new)) }
+    ensures ran { IfRan all result
+        (Ran (I.left source.old) (O.written sink.old) (O.written sink.new)) }
     ensures silent { IfOk result (λ status. IsSilent status → sink.new ≡ sink.old) }
 
     // when the usage line comes,
     ensures usage { IfRan all result (λ words s. s ≡ Status.Usage → SpellNone (words_of words)) }
-    ensures other_words { IfRan all result (λ words s. SpellNone (words_of words) → AnswersUsage s) }
+    ensures other_words { IfRan all result
+        (λ words s. SpellNone (words_of words) → AnswersUsage s) }
 
     // which statuses the command has,
     ensures answered { IfRan all result HasAnswered }

@@ -102,7 +102,8 @@ pub fn run<I: Source, O: Sink>(
 ) -> Status
     // The due output is written and its status answered, or what takes their place. The bytes are
     // those that the source tells that it had left; where the words read nothing, any bytes.
-    ensures ran { Ran (I.left source.old) (O.written sink.old) (O.written sink.new) words.now result }
+    ensures ran { Ran (I.left source.old) (O.written sink.old) (O.written sink.new)
+        words.now result }
 
     // Nothing is written where no text is due.
     ensures silent { IsSilent result → sink.new ≡ sink.old }

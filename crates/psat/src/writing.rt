@@ -25,7 +25,8 @@ fn write_answer<O: Sink>(alloc: Global, sink: &mut O, answer: &Answer) -> Result
 /// Writes a reply. After a fault a proper prefix of it was written.
 pub fn write_reply<O: Sink>(alloc: Global, sink: &mut O, reply: &Reply) -> Result<(), WriteFault>
     requires short { IsShortReply reply.now }
-    ensures wrote { Writes result (O.written sink.old) (O.written sink.new) (output_of reply.now).text }
+    ensures wrote { Writes result (O.written sink.old) (O.written sink.new)
+        (output_of reply.now).text }
     ensures faults { CountsFault result (O.faults sink.old) (O.faults sink.new) }
 {
     match reply {
