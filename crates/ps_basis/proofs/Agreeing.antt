@@ -3,7 +3,7 @@ use Rattle.std.proofs.Common.{◌≡◌, ℕ, zero, suc, ◌<◌, sym, ap, ◌�
 use Rattle.ps_rational.specs.Rational.{Rational, mul}
 use Rattle.ps_rational.specs.Sums.{sum_to}
 use Rattle.ps_rational.proofs.Sums.{sum_same}
-use Rattle.ps_basis.specs.Table.{Belongs, Stands, carried_by, IsBasis, AreSameWithin, HaveSameCosts, AreSameBases, Solves}
+use Rattle.ps_basis.specs.Table.{Belongs, IsBasisTable, carried_by, IsBasis, AreSameWithin, HaveSameCosts, AreSameBases, Solves}
 use Rattle.ps_basis.proofs.OneTable as tables
 
 pub same_belongs : (n w : ℕ) (A B X Y : ℕ → ℕ → Rational) (basic : ℕ → ℕ) → IsBasis n w basic → AreSameWithin n w A B → AreSameWithin n w X Y → Belongs n w A basic X → Belongs n w B basic Y
@@ -13,7 +13,7 @@ same_belongs n w A B X Y basic hb ab xy belongs = λ m j hm hj.
     ∙ belongs m j hm hj
     ∙ ab.same m j hm hj
 
-pub same_stands : (n w : ℕ) (A B X Y : ℕ → ℕ → Rational) (basic : ℕ → ℕ) → n < w → IsBasis n w basic → AreSameWithin n w A B → AreSameWithin n w X Y → Stands n w A basic X → Stands n w B basic Y
+pub same_stands : (n w : ℕ) (A B X Y : ℕ → ℕ → Rational) (basic : ℕ → ℕ) → n < w → IsBasis n w basic → AreSameWithin n w A B → AreSameWithin n w X Y → IsBasisTable n w A basic X → IsBasisTable n w B basic Y
 same_stands n w A B X Y basic hn hb ab xy stands = record {
   homes = λ m j hm hj. sym (ab.same m j hm (omega arith)) ∙ stands.homes m j hm hj;
   belongs = same_belongs n w A B X Y basic hb ab xy stands.belongs;
@@ -26,7 +26,7 @@ same_stands n w A B X Y basic hn hb ab xy stands = record {
   apart = λ i k h l ne. sym (xy.same i (basic k) h (hb k l)) ∙ stands.apart i k h l ne;
 }
 
-pub same_basics : (n w : ℕ) (A X : ℕ → ℕ → Rational) (old new : ℕ → ℕ) → AreSameBases n old new → Stands n w A old X → Stands n w A new X
+pub same_basics : (n w : ℕ) (A X : ℕ → ℕ → Rational) (old new : ℕ → ℕ) → AreSameBases n old new → IsBasisTable n w A old X → IsBasisTable n w A new X
 same_basics n w A X old new b stands = record {
   homes = stands.homes;
   belongs = λ m j hm hj.
@@ -47,11 +47,11 @@ abbrev with_values : (ℕ → Rational) → (ℕ → ℕ → Rational) → ℕ �
 with_values values X i zero = values i
 with_values values X i (suc j) = X i (suc j)
 
-solution_belongs : (n w : ℕ) (A X : ℕ → ℕ → Rational) (basic : ℕ → ℕ) (values : ℕ → Rational) → Stands n w A basic X → Solves n A basic values
+solution_belongs : (n w : ℕ) (A X : ℕ → ℕ → Rational) (basic : ℕ → ℕ) (values : ℕ → Rational) → IsBasisTable n w A basic X → Solves n A basic values
     → (m j : ℕ) → m < n → j < w → sum_to n (λ i. mul (with_values values X i j) (A m (basic i))) ≡ A m j
 solution_belongs n w A X basic values stands solves m zero hm hj = solves.rows m hm
 solution_belongs n w A X basic values stands solves m (suc j) hm hj = stands.belongs m (suc j) hm hj
 
-pub one_solution : (n w : ℕ) (A X : ℕ → ℕ → Rational) (basic : ℕ → ℕ) (values : ℕ → Rational) → n < w → IsBasis n w basic → Stands n w A basic X → Solves n A basic values → (i : ℕ) → i < n → values i ≡ X i 0
+pub one_solution : (n w : ℕ) (A X : ℕ → ℕ → Rational) (basic : ℕ → ℕ) (values : ℕ → Rational) → n < w → IsBasis n w basic → IsBasisTable n w A basic X → Solves n A basic values → (i : ℕ) → i < n → values i ≡ X i 0
 one_solution n w A X basic values hn hb stands solves i h =
     sym (tables.one_table n w A X (with_values values X) basic hn hb stands (solution_belongs n w A X basic values stands solves) i 0 h (omega arith))

@@ -6,7 +6,7 @@ use Rattle.ps_rational.specs.Sums.{sum_to}
 use Rattle.ps_rational.proofs.Ring.{var, by}
 use Rattle.ps_rational.proofs.Field.{ring_q, mul_comm}
 use Rattle.ps_rational.proofs.Sums.{sum_same, sum_scale, sum_swap, unit_sum}
-use Rattle.ps_basis.specs.Table.{unit_at, HasHomes, Stands}
+use Rattle.ps_basis.specs.Table.{unit_at, HasHomes, IsBasisTable}
 use Rattle.ps_basis.proofs.Units.{less_one, unit_at-same, unit_at-other}
 
 new_belongs : (n w : ℕ) (A X Z : ℕ → ℕ → Rational) (basic : ℕ → ℕ) → n < w
@@ -31,7 +31,7 @@ new_belongs n w A X Z basic hn homes made m hm belongs =
 pub stands_more : (n w : ℕ) (A X Z : ℕ → ℕ → Rational) (basic : ℕ → ℕ) → n < w → ((i : ℕ) → i < n → basic i < w)
     → ((i j : ℕ) → i < n → j < w → Z i j ≡ X i j)
     → ((i : ℕ) → i < n → Z i w ≡ sum_to n (λ m. mul (X i (suc m)) (A m w)))
-    → Stands n w A basic X → Stands n (suc w) A basic Z
+    → IsBasisTable n w A basic X → IsBasisTable n (suc w) A basic Z
 stands_more n w A X Z basic hn hb same made stands = record {
   homes = stands.homes;
   belongs = λ m j hm hj.
@@ -55,7 +55,7 @@ pub stands_new : (n w : ℕ) (A X : ℕ → ℕ → Rational) (basic : ℕ → �
     → ((i j : ℕ) → i < n → j < w → X i j ≡ unit_at i (j - 1))
     → ((i : ℕ) → i < n → basic i ≡ suc i)
     → w ≡ suc n
-    → Stands n w A basic X
+    → IsBasisTable n w A basic X
 stands_new n w A X basic h0 hn a x b e = record {
   homes = a;
   belongs = λ m j hm hj.

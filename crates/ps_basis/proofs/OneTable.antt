@@ -5,10 +5,10 @@ use Rattle.ps_rational.specs.Sums.{sum_to}
 use Rattle.ps_rational.proofs.Ring.{var, by}
 use Rattle.ps_rational.proofs.Field.{ring_q}
 use Rattle.ps_rational.proofs.Sums.{sum_same, sum_scale, sum_swap, unit_sum}
-use Rattle.ps_basis.specs.Table.{Belongs, Stands}
+use Rattle.ps_basis.specs.Table.{Belongs, IsBasisTable}
 
 -- a basis that pivots reach has one table
-pub one_table : (n w : ℕ) (A X Y : ℕ → ℕ → Rational) (basic : ℕ → ℕ) → n < w → ((i : ℕ) → i < n → basic i < w) → Stands n w A basic X
+pub one_table : (n w : ℕ) (A X Y : ℕ → ℕ → Rational) (basic : ℕ → ℕ) → n < w → ((i : ℕ) → i < n → basic i < w) → IsBasisTable n w A basic X
     → Belongs n w A basic Y
     → (i j : ℕ) → i < n → j < w → X i j ≡ Y i j
 one_table n w A X Y basic hn hb stands belongs = λ i j h hj.

@@ -6,7 +6,7 @@ use Rattle.ps_rational.specs.Sums.{sum_to}
 use Rattle.ps_rational.proofs.Ring.{var, plus, by, minus, none, unit}
 use Rattle.ps_rational.proofs.Field.{mul-inverse, div-mul, ring_q}
 use Rattle.ps_rational.proofs.Sums.{sum_same, sum_scale, sum-sub}
-use Rattle.ps_basis.specs.Table.{Pivoted, Based, Stands}
+use Rattle.ps_basis.specs.Table.{Pivoted, Based, IsBasisTable}
 
 module _ (n w p q : ℕ) (X Y : ℕ → ℕ → Rational) (old new : ℕ → ℕ) (hn : n < w) (hb : (i : ℕ) → i < n → old i < w) (hp : p < n) (hc : q < w) (hq : X p q ≢ zero_q) (pivoted : Pivoted n w p q X Y) (based : Based n p q old new) where
   own : Y p q ≡ one_q
@@ -124,7 +124,7 @@ module _ (N p : ℕ) (x y a u c : ℕ → Rational) (t b : Rational) (hp : p < N
       ∙ ring_q (S N ∷ (t ∷ (b ∷ []))) (plus (var 0) (by (var 1) (plus (var 2) (minus (var 2))))) (var 0) refl
 
 -- a pivot keeps the table that of its basis, with all four equations
-pub stands_kept : (n w p q : ℕ) (A X Y : ℕ → ℕ → Rational) (old new : ℕ → ℕ) → n < w → ((i : ℕ) → i < n → old i < w) → p < n → q < w → X p q ≢ zero_q → Pivoted n w p q X Y → Based n p q old new → Stands n w A old X → Stands n w A new Y
+pub stands_kept : (n w p q : ℕ) (A X Y : ℕ → ℕ → Rational) (old new : ℕ → ℕ) → n < w → ((i : ℕ) → i < n → old i < w) → p < n → q < w → X p q ≢ zero_q → Pivoted n w p q X Y → Based n p q old new → IsBasisTable n w A old X → IsBasisTable n w A new Y
 stands_kept n w p q A X Y old new hn hb hp hc hq pivoted based stands = record {
   homes = stands.homes;
   belongs = λ m j hm hj.

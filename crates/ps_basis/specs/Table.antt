@@ -27,7 +27,7 @@ abbrev pub Belongs : ℕ → ℕ → (ℕ → ℕ → Rational) → (ℕ → ℕ
 Belongs n w A basic X = (m j : ℕ) → m < n → j < w → sum_to n (λ i. mul (X i j) (A m (basic i))) ≡ A m j
 
 -- the table X of n rows and w columns is that of the basis: column 0 is the right side, columns 1 to n are the homes
-pub record Stands (n w : ℕ) (A : ℕ → ℕ → Rational) (basic : ℕ → ℕ) (X : ℕ → ℕ → Rational) : Type 0 where
+pub record IsBasisTable (n w : ℕ) (A : ℕ → ℕ → Rational) (basic : ℕ → ℕ) (X : ℕ → ℕ → Rational) : Type 0 where
   pub homes : HasHomes n A
   pub belongs : Belongs n w A basic X
   pub rows : (i j : ℕ) → i < n → j < w → X i j ≡ sum_to n (λ m. mul (X i (suc m)) (A m j))

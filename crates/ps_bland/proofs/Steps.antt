@@ -14,7 +14,7 @@ use Rattle.ps_pool.specs.declared.col.Col.{Col}
 use Rattle.std.proofs.Common.{append-nil, append_assoc, length-append}
 use Rattle.ps_pool.specs.declared.event.Event.{Event}
 use Rattle.ps_pool.specs.declared.event.Event.TheVariants.{Pivot, Priced}
-use Rattle.ps_table.specs.Tableau.{Tableau, basic_at, entry_at, IsPivot, number_in, StandsFor}
+use Rattle.ps_table.specs.Tableau.{Tableau, basic_at, entry_at, IsPivot, number_in, IsTableFor}
 use Rattle.ps_table.specs.Pricing.{cost_at, HasCosts}
 use Rattle.ps_bland.specs.Rules.{simplex_of, IsLawful}
 use Rattle.ps_bland.specs.Runs.{system_of, pivots_of, ArePivots, Ran, Run}
@@ -115,7 +115,7 @@ run_worlds phase costs s t events (more _ r _ es enter leave run lawful pivot ke
 abbrev LawfulIn : (phase : Phase) (costs : Costs) (A : ℕ → ℕ → Rational) (t : Tableau) (enter : Col) (leave : ℕ) → List Home → ℕ → Type 0
 LawfulIn phase costs A t enter leave k v = IsLawfulAt phase (system_of k A) (cost_at costs) (suc (length k + v)) (basic_at t) (number_in (length k) enter) leave
 
-lawful_at : (phase : Phase) (costs : Costs) (A : ℕ → ℕ → Rational) (t : Tableau) (enter : Col) (leave : ℕ) → IsLawful phase costs t enter leave → StandsFor A t → LawfulIn phase costs A t enter leave t.kinds t.worlds
+lawful_at : (phase : Phase) (costs : Costs) (A : ℕ → ℕ → Rational) (t : Tableau) (enter : Col) (leave : ℕ) → IsLawful phase costs t enter leave → IsTableFor A t → LawfulIn phase costs A t enter leave t.kinds t.worlds
 lawful_at phase costs A t enter leave lawful stands = record {
   table = entry_at t;
   belongs = stands.belongs;

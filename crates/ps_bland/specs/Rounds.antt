@@ -7,7 +7,7 @@ use Rattle.ps_table.specs.declared.costs.Costs.{Costs}
 use Rattle.ps_table.specs.declared.place.WideAt.{WideAt}
 use Rattle.ps_table.specs.declared.error.TableError.{TableError}
 use Rattle.ps_table.specs.declared.error.TableError.TheVariants.{Wide, NoMemory}
-use Rattle.ps_table.specs.Tableau.{Tableau, number_of, entry_at, entry_of, basic_at, HasColumn, IsPivot, StandsOn}
+use Rattle.ps_table.specs.Tableau.{Tableau, number_of, entry_at, entry_of, basic_at, HasColumn, IsPivot, KeepsSystem}
 use Rattle.ps_table.specs.Pricing.{cost_at}
 use Rattle.ps_table.specs.Places.{IsWideAt, PivotPlaces, CostPlaces, IsNarrow}
 use Rattle.ps_pool.specs.declared.event.Event.{Event}
@@ -83,7 +83,7 @@ pub record IsStep (phase : Phase) (costs : Costs) (old new : Tableau) (trace lon
   pub leave : ℕ
   pub lawful : IsLawful phase costs old enter leave
   pub pivot : IsPivot leave enter old new
-  pub stands : StandsOn old new
+  pub stands : KeepsSystem old new
   pub appended : longer ≡ trace ++ Pivot enter leave ∷ []
 
 -- nothing has changed

@@ -5,7 +5,7 @@ use Rattle.ps_rule.specs.Pivots.{System, Pivot as BasisPivot, Pivots}
 use Rattle.ps_table.specs.declared.home.Home.{Home}
 use Rattle.ps_pool.specs.declared.col.Col.{Col}
 use Rattle.ps_table.specs.declared.costs.Costs.{Costs}
-use Rattle.ps_table.specs.Tableau.{Tableau, number_in, rows_of, width_of, basic_at, IsPivot, StandsFor, StandsOn}
+use Rattle.ps_table.specs.Tableau.{Tableau, number_in, rows_of, width_of, basic_at, IsPivot, IsTableFor, KeepsSystem}
 use Rattle.ps_table.specs.Pricing.{cost_at}
 use Rattle.ps_pool.specs.declared.event.Event.{Event}
 use Rattle.ps_pool.specs.declared.event.Event.TheVariants.{Pivot, Priced}
@@ -16,7 +16,7 @@ use Rattle.ps_bland.specs.Rules.{artificial_at, IsLawful}
 pub data Run (phase : Phase) (costs : Costs) : Tableau → List Event → Tableau → Type 0 where
   still : (s : Tableau) → Run phase costs s [] s
   more : (s t u : Tableau) (events : List Event) (enter : Col) (leave : ℕ) → Run phase costs s events t
-      → IsLawful phase costs t enter leave → IsPivot leave enter t u → StandsOn t u
+      → IsLawful phase costs t enter leave → IsPivot leave enter t u → KeepsSystem t u
       → Run phase costs s (events ++ Pivot enter leave ∷ []) u
 
 -- the pivots among the events of a table of n rows
@@ -31,8 +31,8 @@ system_of kinds A = record { rows = length kinds; artificial = artificial_at kin
 
 -- for all columns that the table stands for, the events are lawful pivots of its system
 abbrev pub ArePivots : Phase → Costs → Tableau → List Event → Tableau → Type 0
-ArePivots phase costs s events t = (A : ℕ → ℕ → Rational) → StandsFor A s
-    → StandsFor A t × Pivots phase (system_of s.kinds A) (cost_at costs) (width_of s) (basic_at s) (pivots_of (rows_of s) events) (basic_at t)
+ArePivots phase costs s events t = (A : ℕ → ℕ → Rational) → IsTableFor A s
+    → IsTableFor A t × Pivots phase (system_of s.kinds A) (cost_at costs) (width_of s) (basic_at s) (pivots_of (rows_of s) events) (basic_at t)
 
 -- pivots were made, appended to the trace and counted
 pub record Ran (phase : Phase) (costs : Costs) (old new : Tableau) (trace longer : List Event) (had left : ℕ) : Type 0 where

@@ -1,7 +1,7 @@
 //! Pivots until an end.
 ghost use Rattle.std.specs.Prelude.{◌≡◌, ◌≢◌, ◌<◌, [], ◌∷◌, ◌++◌, IfOk, IfErr};
 ghost use Rattle.ps_rational.specs.Rational.{zero_q};
-ghost use Rattle.ps_table.specs.Tableau.{rows_of, HasColumn, entry_of, IsPivot, StandsOn};
+ghost use Rattle.ps_table.specs.Tableau.{rows_of, HasColumn, entry_of, IsPivot, KeepsSystem};
 ghost use Rattle.ps_bland.specs.Runs.{Ran};
 ghost use Rattle.ps_bland.specs.Ready.{IsReady};
 ghost use Rattle.ps_bland.specs.Ends.{IsEnd, AreDueNarrow};
@@ -27,7 +27,7 @@ fn pivot_with_event(
     requires pivot { entry_of table.old leave enter ≢ zero_q }
     ensures pivot { IfOk result (λ _. IsPivot leave enter table.old table.new) }
     ensures event { IfOk result (λ _. trace.new ≡ trace.old ++ Event.Pivot enter leave ∷ []) }
-    ensures stands { IfOk result (λ _. StandsOn table.old table.new) }
+    ensures stands { IfOk result (λ _. KeepsSystem table.old table.new) }
     ensures table_same { IfErr result (λ _. table.new ≡ table.old) }
     ensures trace_same { IfErr result (λ _. trace.new ≡ trace.old) }
     ensures refused { IfErr result (IsPivotRefusal table.old enter leave) }
@@ -56,7 +56,7 @@ fn step(
     ensures counted { IsCounted result left.old left.new }
     ensures narrow { IfOk result (IsNarrowEnd phase costs.now table.new left.new) }
     ensures ready { IsReady phase costs.now table.new }
-    ensures stands { StandsOn table.old table.new }
+    ensures stands { KeepsSystem table.old table.new }
 {
     if is_due_to_end(phase, table) {
         return Ok(Some(Settled::Feasible));
@@ -110,7 +110,7 @@ pub fn settle(
     ensures kinds { table.new.kinds ≡ table.old.kinds }
     ensures worlds { table.new.worlds ≡ table.old.worlds }
     ensures ready { IsReady phase costs.now table.new }
-    ensures stands { StandsOn table.old table.new }
+    ensures stands { KeepsSystem table.old table.new }
 {
     loop {
         match step(table, costs, phase, left, trace)? {

@@ -3,7 +3,7 @@
 ghost use Rattle.std.specs.Prelude.{◌≡◌, ℕ, ◌<◌, ◌≤◌, ◌≤ℤ◌, [], length, get_or, pos, IsTrue, IfSome};
 ghost use Rattle.ps_rational.specs.Rational.{Rational};
 ghost use Rattle.ps_rational.specs.Order.{IsNonneg};
-ghost use Rattle.ps_table.specs.Tableau.{entry_at, StandsFor};
+ghost use Rattle.ps_table.specs.Tableau.{entry_at, IsTableFor};
 ghost use Rattle.ps_bland.specs.Ready.{IsReady};
 ghost use Rattle.ps_bland.specs.Columns.{AreColumns};
 
@@ -88,7 +88,7 @@ fn is_ready_below(table: &Table, costs: &Costs) -> bool
 
 fn is_ready_above<const N: usize>(table: &Table, costs: &Costs, entries: &[[i64; N]]) -> bool
     requires some { 0 < N }
-    requires stands { (A : ℕ → ℕ → Rational) → AreColumns N entries.now A → StandsFor A table.now }
+    requires stands { (A : ℕ → ℕ → Rational) → AreColumns N entries.now A → IsTableFor A table.now }
     ensures { IsTrue result → IsReady Phase.Upper costs.now table.now }
 {
     let homes = costs.homes.as_slice();
@@ -109,7 +109,7 @@ fn table_of<const N: usize>(alloc: Global, homes: &[Home; N], worlds: &[[i64; N]
     requires some { 0 < N }
     requires few { N ≤ 101 }
     ensures { IfSome result
-        (λ t. (A : ℕ → ℕ → Rational) → AreColumns N worlds.now A → StandsFor A t) }
+        (λ t. (A : ℕ → ℕ → Rational) → AreColumns N worlds.now A → IsTableFor A t) }
 {
     let mut table = match Table::new(alloc, homes) {
         Ok(table) => table,
@@ -179,8 +179,8 @@ fn settled<const N: usize>(
     entries: &[[i64; N]],
 ) -> Option<Result<Settled, SettleError>>
     requires some { 0 < N }
-    requires stands { (A : ℕ → ℕ → Rational) → AreColumns N entries.now A → StandsFor A table.old }
-    ensures { (A : ℕ → ℕ → Rational) → AreColumns N entries.now A → StandsFor A table.new }
+    requires stands { (A : ℕ → ℕ → Rational) → AreColumns N entries.now A → IsTableFor A table.old }
+    ensures { (A : ℕ → ℕ → Rational) → AreColumns N entries.now A → IsTableFor A table.new }
 {
     match phase {
         Phase::One => {

@@ -9,7 +9,7 @@ use Rattle.ps_table.specs.declared.costs.Costs.{Costs}
 use Rattle.ps_table.specs.declared.error.TableError.{TableError}
 use Rattle.ps_table.specs.declared.error.TableError.TheVariants as refused
 use Rattle.ps_table.specs.declared.place.WideAt.{WideAt}
-use Rattle.ps_table.specs.Tableau.{Tableau, IsTableau, IsAdded, StandsWith}
+use Rattle.ps_table.specs.Tableau.{Tableau, IsTableau, IsAdded, ExtendsSystem}
 use Rattle.ps_table.specs.Places.{IsWideAt, IsRefusedAt, NewPlaces}
 use Rattle.ps_bland.specs.Ready.{IsReady}
 use Rattle.ps_bland.proofs.Ready.{feasible_added}
@@ -69,7 +69,7 @@ module _ (kind : ClaimKind) (r : LimitedSubject) (costs : Costs) (old : State) (
   pending_wide u longer entries refused.NoMemory end same more g wide is = absurd is
 
   -- a world that gets its column
-  module _ (u : Tableau) (added : IsAdded (entries_of (setting_of r.subject) w) old.table u) (stands : StandsWith (entries_of (setting_of r.subject) w) old.table u) (tableau : IsTableau u) where
+  module _ (u : Tableau) (added : IsAdded (entries_of (setting_of r.subject) w) old.table u) (stands : ExtendsSystem (entries_of (setting_of r.subject) w) old.table u) (tableau : IsTableau u) where
     abbrev grown : State
     grown = record { table = u; pool = old.pool ++ w ∷ []; trace = old.trace ++ Priced w ∷ []; left = old.left }
 

@@ -11,7 +11,7 @@ use Rattle.std.proofs.lemmas.List.Folds.{list_all-append}
 use Rattle.std.proofs.lemmas.List.Splits.{join_with_byte-slice_split}
 use Rattle.ps_log.specs.Texts.{with_numbers}
 use Rattle.ps_log.specs.Spellings.{words_of, Spells, SpellAll}
-use Rattle.ps_log.specs.FirstLines.{is_text_byte, IsOneLine, IsFirstLine, FirstLine, HasBadByte, IsNoText, StandsFirst, IsRefused, IsAnswer, Gives, IsLineAnswer}
+use Rattle.ps_log.specs.FirstLines.{is_text_byte, IsOneLine, IsFirstLine, FirstLine, HasBadByte, IsNoText, IsFirstLineOf, IsRefused, IsAnswer, Gives, IsLineAnswer}
 use Rattle.ps_log.specs.declared.line_error.LineError.{LineError}
 use Rattle.ps_log.specs.declared.line_error.LineError.TheVariants.{Truncated, BadByte, NotCanonical, TooLarge, NoMemory}
 use Rattle.ps_log.proofs.Parts.{Lacks}
@@ -164,7 +164,7 @@ module _ {X : Type 0} {fits : ℕ → Bool} {IsText : List ℕ → X → Type 0}
   not-both : (l r : List ℕ) → IsOneLine bytes → IsFirstLine bytes l r → ⊥
   not-both l r one f = first-absent bytes l r one f.is
 
-  stands-first : (s : X) (n : ℕ) (h : StandsFirst line_of IsWithin bytes s n) → IsFirstLine bytes (line_of s) h.rest
+  stands-first : (s : X) (n : ℕ) (h : IsFirstLineOf line_of IsWithin bytes s n) → IsFirstLine bytes (line_of s) h.rest
   stands-first s n h = record { is = h.is; whole = lacks-all 10 (line_of s) (t.one_line s h.within) }
 
   bad-text : HasBadByte fits bytes → (line rest : List ℕ) (s : X) → IsFirstLine bytes line rest → IsText line s → ⊥
@@ -179,7 +179,7 @@ module _ {X : Type 0} {fits : ℕ → Bool} {IsText : List ℕ → X → Type 0}
   bad-no b n = true≢false (sym n.bytes_fit ∙ sym (ap (list_all fits) (same-line b.line n.line b.rest n.rest b.first n.first)) ∙ b.bad)
 
   -- bytes that have a step are not refused
-  not-refused : (s : X) (n : ℕ) (why : LineError) → StandsFirst line_of IsWithin bytes s n → IsRefused fits IsText IsWithin bytes why → ⊥
+  not-refused : (s : X) (n : ℕ) (why : LineError) → IsFirstLineOf line_of IsWithin bytes s n → IsRefused fits IsText IsWithin bytes why → ⊥
   not-refused s n Truncated h r = not-both (line_of s) h.rest r (stands-first s n h)
   not-refused s n BadByte h r = bad-text r (line_of s) h.rest s (stands-first s n h) (t.is_text s h.within)
   not-refused s n NotCanonical h r = no-text r (line_of s) h.rest s (stands-first s n h) (t.is_text s h.within)
@@ -189,7 +189,7 @@ module _ {X : Type 0} {fits : ℕ → Bool} {IsText : List ℕ → X → Type 0}
       r.past (subst IsWithin same h.within)
   not-refused s n NoMemory h r = r
 
-  one-only : (s q : X) (n m : ℕ) → StandsFirst line_of IsWithin bytes s n → StandsFirst line_of IsWithin bytes q m → (s ≡ q) × (n ≡ m)
+  one-only : (s q : X) (n m : ℕ) → IsFirstLineOf line_of IsWithin bytes s n → IsFirstLineOf line_of IsWithin bytes q m → (s ≡ q) × (n ≡ m)
   one-only s q n m h k =
       let e : line_of s ≡ line_of q = same-line (line_of s) (line_of q) h.rest k.rest (stands-first s n h) (stands-first q m k) in (
         t.unique (line_of q) s q (subst (λ l. IsText l s) e (t.is_text s h.within)) (t.is_text q k.within),
@@ -217,7 +217,7 @@ module _ {X : Type 0} {fits : ℕ → Bool} {IsText : List ℕ → X → Type 0}
   refused-once e NoMemory p q = absurd q
 
   -- an answer is the one that the bytes ask for
-  pub value-given : (r : Result (X × ℕ) LineError) (s : X) (n : ℕ) → IsAnswer fits IsText IsWithin line_of bytes r → StandsFirst line_of IsWithin bytes s n → Gives r (Ok (s, n))
+  pub value-given : (r : Result (X × ℕ) LineError) (s : X) (n : ℕ) → IsAnswer fits IsText IsWithin line_of bytes r → IsFirstLineOf line_of IsWithin bytes s n → Gives r (Ok (s, n))
   value-given (Ok q) s n a h = let e = one-only s q.0 n q.1 h a in ap (λ x. Ok (x, n)) e.0 ∙ ap (λ x. Ok (q.0, x)) e.1
   value-given (Err Truncated) s n a h = absurd (not-refused s n Truncated h a)
   value-given (Err BadByte) s n a h = absurd (not-refused s n BadByte h a)

@@ -48,7 +48,7 @@ pub record PassesLimit {X : Type 0} (IsText : List ℕ → X → Type 0) (IsWith
   pub past : IsWithin of → ⊥
 
 -- the first line is that of something within the limits, and has with its line feed this many bytes
-pub record StandsFirst {X : Type 0} (line_of : X → List ℕ) (IsWithin : X → Type 0) (bytes : List ℕ) (x : X) (count : ℕ) : Type 0 where
+pub record IsFirstLineOf {X : Type 0} (line_of : X → List ℕ) (IsWithin : X → Type 0) (bytes : List ℕ) (x : X) (count : ℕ) : Type 0 where
   pub rest : List ℕ
   pub is : bytes ≡ line_of x ++ 10 ∷ rest
   pub within : IsWithin x
@@ -64,7 +64,7 @@ IsRefused fits IsText IsWithin bytes NoMemory = ⊥
 
 -- what is answered of bytes; want of memory may come at any
 abbrev pub IsAnswer : {X : Type 0} → (ℕ → Bool) → (List ℕ → X → Type 0) → (X → Type 0) → (X → List ℕ) → List ℕ → Result (X × ℕ) LineError → Type 0
-IsAnswer fits IsText IsWithin line_of bytes (Ok r) = StandsFirst line_of IsWithin bytes r.0 r.1
+IsAnswer fits IsText IsWithin line_of bytes (Ok r) = IsFirstLineOf line_of IsWithin bytes r.0 r.1
 IsAnswer fits IsText IsWithin line_of bytes (Err Truncated) = IsRefused fits IsText IsWithin bytes Truncated
 IsAnswer fits IsText IsWithin line_of bytes (Err BadByte) = IsRefused fits IsText IsWithin bytes BadByte
 IsAnswer fits IsText IsWithin line_of bytes (Err NotCanonical) = IsRefused fits IsText IsWithin bytes NotCanonical

@@ -5,7 +5,7 @@ use Rattle.ps_steps.specs.Weights.{weighted, are_rising}
 use Rattle.ps_log.specs.Texts.{goal_numbers, goal_line}
 use Rattle.ps_log.specs.Limits.{IsGoalWithin}
 use Rattle.ps_log.specs.Spellings.{words_of, SpellAll}
-use Rattle.ps_log.specs.FirstLines.{is_text_byte, StandsFirst, IsRefused, IsAnswer}
+use Rattle.ps_log.specs.FirstLines.{is_text_byte, IsFirstLineOf, IsRefused, IsAnswer}
 use Rattle.ps_log.specs.declared.line_error.LineError.{LineError}
 
 -- a line is `g` and a spelling of each number of a goal, whose coefficients are at least 1 and whose variables rise
@@ -22,7 +22,7 @@ is_goal_byte = is_text_byte 103
 
 -- the first line is that of this goal, which is within the limits, and has with its line feed this many bytes
 abbrev pub HasGoal : List ℕ → Constraint → ℕ → Type 0
-HasGoal bytes g count = StandsFirst goal_line IsGoalWithin bytes g count
+HasGoal bytes g count = IsFirstLineOf goal_line IsGoalWithin bytes g count
 
 -- why bytes are no goal
 abbrev pub IsGoalRefused : List ℕ → LineError → Type 0

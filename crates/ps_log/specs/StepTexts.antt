@@ -4,7 +4,7 @@ use Rattle.ps_steps.specs.Steps.{Step}
 use Rattle.ps_log.specs.Texts.{step_numbers, step_line}
 use Rattle.ps_log.specs.Limits.{IsStepWithin}
 use Rattle.ps_log.specs.Spellings.{words_of, SpellAll}
-use Rattle.ps_log.specs.FirstLines.{is_text_byte, StandsFirst, IsRefused, IsAnswer}
+use Rattle.ps_log.specs.FirstLines.{is_text_byte, IsFirstLineOf, IsRefused, IsAnswer}
 use Rattle.ps_log.specs.declared.line_error.LineError.{LineError}
 
 -- a line is `s` and a spelling of each number of a step, whose numbers may have any size
@@ -20,7 +20,7 @@ is_step_byte = is_text_byte 115
 
 -- the first line is that of this step, which is within the limits, and has with its line feed this many bytes
 abbrev pub HasStep : List ℕ → Step → ℕ → Type 0
-HasStep bytes s count = StandsFirst step_line IsStepWithin bytes s count
+HasStep bytes s count = IsFirstLineOf step_line IsStepWithin bytes s count
 
 -- why bytes are no step
 abbrev pub IsStepRefused : List ℕ → LineError → Type 0

@@ -31,7 +31,7 @@ use Rattle.ps_parse.specs.declared.operator.Operator.{Operator}
 use Rattle.ps_parse.specs.declared.operator.Operator.TheVariants as operator
 use Rattle.ps_parse.specs.Pending.{waiting, reduced, reduced_from}
 use Rattle.ps_parse.specs.Machine.{ItemSoFar, Work, Machine, lowest, value_in, with_pending, with_atom, operand_ended, numbered, numbered_as, with_query, with_conditional, formula_ended, probability_ended, closed_behind, stated, with_side, side_in, taken}
-use Rattle.ps_parse.specs.Derivations.{operators_of, lefts_of, HasFormula, HasProb, IsWorkOf, IsFollowed}
+use Rattle.ps_parse.specs.Derivations.{operators_of, lefts_of, HasFormula, HasProb, IsWorkOf, RepresentsAfter}
 use Rattle.ps_parse.proofs.Reducing.{IsReduced, reduces}
 
 -- items
@@ -302,7 +302,7 @@ does (InBracketEnd es p x y) t w s h r = record { operators = h.operators; «ope
 does (InItemEnd es e) t w s h r = record { operators = h.operators; «open» = h.«open»; items = h.items; item = tt }
 
 -- behind a token that isn't refused the machine stands for the derivation with that token
-pub followed : (p : Parse) (m : Machine) (t : Token) → IsFollowed p m t
+pub followed : (p : Parse) (m : Machine) (t : Token) → RepresentsAfter p m t
 followed p m t f r =
     let k : refusal (state_of p) t ≡ None = subst (λ s. refusal s t ≡ None) f.state r in
     let step = steps p t f.sound k in

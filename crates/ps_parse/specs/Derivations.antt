@@ -103,7 +103,7 @@ pub record IsWorkOf (p : Parse) (w : Work) : Type 0 where
   pub item : IsItemSoFar w.pending.draft.formulas p w.item
 
 -- the machine stands for a derivation within the grammar's levels and limits
-pub record StandsFor (p : Parse) (m : Machine) : Type 0 where
+pub record Represents (p : Parse) (m : Machine) : Type 0 where
   pub sound : IsParse p
   pub state : m.state ≡ state_of p
   pub work : IsWorkOf p m.work
@@ -111,8 +111,8 @@ pub record StandsFor (p : Parse) (m : Machine) : Type 0 where
 -- the machine stands for some derivation
 pub record IsParsed (m : Machine) : Type 0 where
   pub parse : Parse
-  pub stands : StandsFor parse m
+  pub stands : Represents parse m
 
 -- behind a token that isn't refused the machine stands for the derivation with that token
-abbrev pub IsFollowed : Parse → Machine → Token → Type 0
-IsFollowed p m t = StandsFor p m → refusal m.state t ≡ None → StandsFor (parsed p t) (next m t)
+abbrev pub RepresentsAfter : Parse → Machine → Token → Type 0
+RepresentsAfter p m t = Represents p m → refusal m.state t ≡ None → Represents (parsed p t) (next m t)

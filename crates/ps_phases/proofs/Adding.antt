@@ -5,7 +5,7 @@ use Rattle.ps_meaning.specs.Formula.{World}
 use Rattle.ps_rational.specs.Rational.{fraction}
 use Rattle.ps_rational.specs.Order.{IsNonneg}
 use Rattle.ps_basis.specs.Table.{HasHomes}
-use Rattle.ps_table.specs.Tableau.{Tableau, IsTableau, IsAdded, StandsWith, StandsFor, StandsForHomes, HasUnitHomes, HasBasicHomes, IsColumn, rows_of as table_rows, width_of as table_width, number_in, entry_at, basic_at}
+use Rattle.ps_table.specs.Tableau.{Tableau, IsTableau, IsAdded, ExtendsSystem, IsTableFor, IsTableForHomes, HasUnitHomes, HasBasicHomes, IsColumn, rows_of as table_rows, width_of as table_width, number_in, entry_at, basic_at}
 use Rattle.ps_claims.specs.declared.claim_kind.ClaimKind.{ClaimKind}
 use Rattle.ps_runs.specs.Rows.{Setting, artificial_rows, home_cost, world_cost, entries_of, rows_of, width_of, columns_of}
 use Rattle.ps_runs.specs.Runs.{Subject, setting_of, IsStart}
@@ -20,7 +20,7 @@ module _ (s : Setting) (pool : List World) (w : World) (t : Tableau) (run : IsRu
   more = pool ++ w ∷ []
 
   -- the columns of the longer pool stand for the table too
-  stands_longer : StandsFor (columns_of s more) t
+  stands_longer : IsTableFor (columns_of s more) t
   stands_longer =
       stands_back s pool t run.kinds run.worlds (columns_of s more)
       (stands_same (rows_of s) (width_of s pool) (columns_of s pool) (columns_of s more) (entry_at t) (basic_at t) (run_table s pool t run).last (has_homes s more)
@@ -34,7 +34,7 @@ module _ (s : Setting) (pool : List World) (w : World) (t : Tableau) (run : IsRu
       let place : table_width t ≡ suc (rows_of s + length pool) = omega (arith, e, k) in
       ap (columns_of s more m) place ∙ world_at s more m (length pool) ∙ ap (λ v. fraction (get_or (entries_of s v) m (pos 0)) 1) (last_world pool w)
 
-  pub added_world : (u : Tableau) → IsAdded (entries_of s w) t u → StandsWith (entries_of s w) t u → IsTableau u → IsRunTable s more u
+  pub added_world : (u : Tableau) → IsAdded (entries_of s w) t u → ExtendsSystem (entries_of s w) t u → IsTableau u → IsRunTable s more u
   added_world u added stands tableau = record {
     kinds = added.kinds ∙ run.kinds;
     worlds = let a = added.worlds in let b = run.worlds in let e = length-append pool (w ∷ []) in omega (arith, a, b, e);
@@ -47,7 +47,7 @@ module _ (s : Setting) (pool : List World) (w : World) (t : Tableau) (run : IsRu
   }
 
 -- the table of the homes
-pub new_table : (s : Setting) (t : Tableau) → t.kinds ≡ homes_of s → t.worlds ≡ 0 → HasUnitHomes (homes_of s) t → StandsForHomes (homes_of s) t → IsTableau t → IsRunTable s [] t
+pub new_table : (s : Setting) (t : Tableau) → t.kinds ≡ homes_of s → t.worlds ≡ 0 → HasUnitHomes (homes_of s) t → IsTableForHomes (homes_of s) t → IsTableau t → IsRunTable s [] t
 new_table s t kinds worlds units stands tableau = record {
   kinds = kinds;
   worlds = worlds;

@@ -9,7 +9,7 @@ use Rattle.ps_pool.specs.Worlds.{HasNumber}
 use Rattle.ps_pool.specs.declared.event.Event.{Event}
 use Rattle.ps_pool.specs.declared.event.Event.TheVariants.{Priced}
 use Rattle.ps_pool.specs.declared.col.Col.TheVariants as col
-use Rattle.ps_table.specs.Tableau.{Tableau, IsTableau, IsAdded, StandsWith, number_in, entry_at, basic_at}
+use Rattle.ps_table.specs.Tableau.{Tableau, IsTableau, IsAdded, ExtendsSystem, number_in, entry_at, basic_at}
 use Rattle.ps_bland.specs.Ready.{HasValues}
 use Rattle.ps_bland.specs.Runs as bland
 use Rattle.ps_claims.specs.declared.claim_kind.ClaimKind.{ClaimKind}
@@ -77,7 +77,7 @@ module _ (kind : ClaimKind) (s : Subject) (conflicts : ℕ) where
   pub priced_goes_on : (from : Stage) (had : ℕ) (before : List Event) (pool : List World) (t u : Tableau) (trace : List Event) (left : ℕ) (w : World)
       → IsUnderWay kind s conflicts from had before pool t trace left
       → IsPricedBy kind s conflicts (stage_at pool t) (entry_at t) w
-      → IsAdded (entries_of (setting_of s) w) t u → StandsWith (entries_of (setting_of s) w) t u → IsTableau u
+      → IsAdded (entries_of (setting_of s) w) t u → ExtendsSystem (entries_of (setting_of s) w) t u → IsTableau u
       → IsUnderWay kind s conflicts from had before (pool ++ w ∷ []) u (trace ++ Priced w ∷ []) left
   priced_goes_on from had before pool t u trace left w way is added stands tableau = record {
     table = added_world (setting_of s) pool w t way.table u added stands tableau;

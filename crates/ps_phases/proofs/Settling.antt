@@ -3,13 +3,13 @@ use Rattle.std.proofs.Common.{◌≡◌, ℕ, List, [], ◌∷◌, length, refl,
 use Rattle.std.proofs.lemmas.List.{length-append}
 use Rattle.ps_meaning.specs.Formula.{World}
 use Rattle.ps_rational.specs.Rational.{Rational}
-use Rattle.ps_basis.specs.Table.{Based, Stands}
+use Rattle.ps_basis.specs.Table.{Based, IsBasisTable}
 use Rattle.ps_rule.specs.declared.phase.Phase.{Phase}
 use Rattle.ps_rule.specs.Rule.{SimplexTable, IsDueToEnd, Enters, Leaves}
 use Rattle.ps_pool.specs.declared.col.Col.{Col}
 use Rattle.ps_pool.specs.declared.event.Event.{Event}
 use Rattle.ps_pool.specs.declared.event.Event.TheVariants.{Pivot}
-use Rattle.ps_table.specs.Tableau.{Tableau, IsInside, StandsFor, number_in, entry_at, basic_at}
+use Rattle.ps_table.specs.Tableau.{Tableau, IsInside, IsTableFor, number_in, entry_at, basic_at}
 use Rattle.ps_bland.specs.Rules.{simplex_of, IsLawful}
 use Rattle.ps_bland.specs.Runs as bland
 use Rattle.ps_claims.specs.declared.claim_kind.ClaimKind.{ClaimKind}
@@ -24,11 +24,11 @@ abbrev RuleAllows : Phase → SimplexTable → (ℕ → Rational) → ℕ → �
 RuleAllows phase t cost q p = (IsDueToEnd phase t → ⊥) × Enters t cost q × Leaves phase t q p
 
 module _ (kind : ClaimKind) (s : Subject) (pool : List World) (t : Tableau) (kinds : t.kinds ≡ homes_of (setting_of s)) (worlds : t.worlds ≡ length pool) where
-  lawful_pivot : (enter : Col) (leave : ℕ) → StandsFor (columns_of (setting_of s) pool) t → IsLawful (phase_of kind) (costs_for kind (setting_of s) pool) t enter leave
+  lawful_pivot : (enter : Col) (leave : ℕ) → IsTableFor (columns_of (setting_of s) pool) t → IsLawful (phase_of kind) (costs_for kind (setting_of s) pool) t enter leave
       → IsLawfulPivot kind s (stage_at pool t) enter leave
   lawful_pivot enter leave stands lawful =
       let rows = rows_are (setting_of s) pool t kinds worlds in
-      let there : Stands (rows_of (setting_of s)) (width_of (setting_of s) pool) (columns_of (setting_of s) pool) (basic_at t) (entry_at t) = stands_there (setting_of s) pool t kinds worlds (columns_of (setting_of s) pool) stands in
+      let there : IsBasisTable (rows_of (setting_of s)) (width_of (setting_of s) pool) (columns_of (setting_of s) pool) (basic_at t) (entry_at t) = stands_there (setting_of s) pool t kinds worlds (columns_of (setting_of s) pool) stands in
       let by_phase : RuleAllows (phase_of kind) (simplex_of t) (cost_of kind (setting_of s) pool) (number_in (length t.kinds) enter) leave =
       (lawful.unfinished, lawful.enters, lawful.leaves) in
       let by_rows : RuleAllows (phase_of kind) (simplex_of t) (cost_of kind (setting_of s) pool) (number_in (rows_of (setting_of s)) enter) leave =
@@ -44,12 +44,12 @@ module _ (kind : ClaimKind) (s : Subject) (pool : List World) (t : Tableau) (kin
 pub record LedBy (kind : ClaimKind) (s : Subject) (conflicts : ℕ) (pool : List World) (t : Tableau) (events : List Event) (u : Tableau) : Type 0 where
   pub kinds : u.kinds ≡ homes_of (setting_of s)
   pub worlds : u.worlds ≡ length pool
-  pub stands : StandsFor (columns_of (setting_of s) pool) u
+  pub stands : IsTableFor (columns_of (setting_of s) pool) u
   pub leads : LeadsTo kind s conflicts (stage_at pool t) events (stage_at pool u)
   pub counted : pivots_in events ≡ length events
 
 pub settled_leads : (kind : ClaimKind) (s : Subject) (conflicts : ℕ) (pool : List World) (t : Tableau) (events : List Event) (u : Tableau)
-    → t.kinds ≡ homes_of (setting_of s) → t.worlds ≡ length pool → StandsFor (columns_of (setting_of s) pool) t
+    → t.kinds ≡ homes_of (setting_of s) → t.worlds ≡ length pool → IsTableFor (columns_of (setting_of s) pool) t
     → bland.Run (phase_of kind) (costs_for kind (setting_of s) pool) t events u
     → LedBy kind s conflicts pool t events u
 settled_leads kind s conflicts pool t events u kinds worlds stands (bland.still x) =

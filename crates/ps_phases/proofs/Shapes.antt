@@ -4,11 +4,11 @@ use Rattle.std.proofs.lemmas.Bool.{cases_eq}
 use Rattle.ps_meaning.specs.Formula.{World}
 use Rattle.ps_rational.specs.Rational.{Rational}
 use Rattle.ps_rational.proofs.Field.{one_not_zero}
-use Rattle.ps_basis.specs.Table.{Stands}
+use Rattle.ps_basis.specs.Table.{IsBasisTable}
 use Rattle.ps_pool.specs.declared.col.Col.{Col}
 use Rattle.ps_pool.specs.declared.col.Col.TheVariants as col
 use Rattle.ps_table.specs.declared.home.Home.TheVariants.{Slack}
-use Rattle.ps_table.specs.Tableau.{Tableau, IsInside, StandsFor, number_in, entry_at, basic_at}
+use Rattle.ps_table.specs.Tableau.{Tableau, IsInside, IsTableFor, number_in, entry_at, basic_at}
 use Rattle.ps_bland.specs.Rules.{simplex_of, is_artificial, artificial_at}
 use Rattle.ps_runs.specs.Rows.{Setting, artificial_rows, artificial_of, rows_of, width_of, columns_of, table_of, IsTable}
 use Rattle.ps_runs.proofs.Lists.{length_map}
@@ -44,12 +44,12 @@ module _ (s : Setting) (pool : List World) (t : Tableau) (kinds : t.kinds ≡ ho
   pub same_table : simplex_of t ≡ table_of s pool (basic_at t) (entry_at t)
   same_table = λ i. record { rows = rows_are i; width = width_is i; entry = entry_at t; basic = basic_at t; artificial = λ j. artificial_is j i }
 
-  pub stands_there : (A : ℕ → ℕ → Rational) → StandsFor A t → Stands (rows_of s) (width_of s pool) A (basic_at t) (entry_at t)
-  stands_there A stands = subst (λ k. Stands k (width_of s pool) A (basic_at t) (entry_at t)) rows_are (subst (λ w. Stands (length t.kinds) w A (basic_at t) (entry_at t)) width_is stands)
+  pub stands_there : (A : ℕ → ℕ → Rational) → IsTableFor A t → IsBasisTable (rows_of s) (width_of s pool) A (basic_at t) (entry_at t)
+  stands_there A stands = subst (λ k. IsBasisTable k (width_of s pool) A (basic_at t) (entry_at t)) rows_are (subst (λ w. IsBasisTable (length t.kinds) w A (basic_at t) (entry_at t)) width_is stands)
 
-  pub stands_back : (A : ℕ → ℕ → Rational) → Stands (rows_of s) (width_of s pool) A (basic_at t) (entry_at t) → StandsFor A t
+  pub stands_back : (A : ℕ → ℕ → Rational) → IsBasisTable (rows_of s) (width_of s pool) A (basic_at t) (entry_at t) → IsTableFor A t
   stands_back A stands =
-      subst (λ w. Stands (length t.kinds) w A (basic_at t) (entry_at t)) (sym width_is) (subst (λ k. Stands k (width_of s pool) A (basic_at t) (entry_at t)) (sym rows_are) stands)
+      subst (λ w. IsBasisTable (length t.kinds) w A (basic_at t) (entry_at t)) (sym width_is) (subst (λ k. IsBasisTable k (width_of s pool) A (basic_at t) (entry_at t)) (sym rows_are) stands)
 
 -- the table is one of the setting
 pub run_table : (s : Setting) (pool : List World) (t : Tableau) → IsRunTable s pool t → IsTable s pool (basic_at t) (entry_at t)

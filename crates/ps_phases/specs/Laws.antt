@@ -15,7 +15,7 @@ use Rattle.ps_pool.specs.Worlds.{HasNumber}
 use Rattle.ps_pool.specs.declared.event.Event.{Event}
 use Rattle.ps_pool.specs.declared.event.Event.TheVariants.{Priced}
 use Rattle.ps_table.specs.declared.place.WideAt.{WideAt}
-use Rattle.ps_table.specs.Tableau.{Tableau, IsTableau, IsAdded, StandsWith, StandsForHomes, HasUnitHomes, HasBasicHomes, rows_of as table_rows, entry_at, basic_at}
+use Rattle.ps_table.specs.Tableau.{Tableau, IsTableau, IsAdded, ExtendsSystem, IsTableForHomes, HasUnitHomes, HasBasicHomes, rows_of as table_rows, entry_at, basic_at}
 use Rattle.ps_table.specs.Pricing.{cost_at}
 use Rattle.ps_table.specs.Places.{MultiplierPlace, WeightPlace, weight_at, IsWideAt, HomePlaces, NewPlaces}
 use Rattle.ps_bland.specs.Rules.{simplex_of, IsDone}
@@ -45,7 +45,7 @@ use Rattle.ps_phases.specs.Verdicts.{IsVerdictAt, IsLawfulPhaseOne, IsLawfulVerd
 
 -- a new table of the homes is one of the run, at its start
 pub record NewTablesStart : Type 0 where
-  pub table : (s : Setting) (t : Tableau) → t.kinds ≡ homes_of s → t.worlds ≡ 0 → HasUnitHomes (homes_of s) t → StandsForHomes (homes_of s) t
+  pub table : (s : Setting) (t : Tableau) → t.kinds ≡ homes_of s → t.worlds ≡ 0 → HasUnitHomes (homes_of s) t → IsTableForHomes (homes_of s) t
       → IsTableau t → IsRunTable s [] t
   pub stage : (s : Subject) (t : Tableau) → t.kinds ≡ homes_of (setting_of s) → HasBasicHomes (homes_of (setting_of s)) t → IsStart s (stage_at [] t)
 
@@ -75,7 +75,7 @@ pub record PhasesGoOn : Type 0 where
   pub priced : (kind : ClaimKind) (s : Subject) (conflicts : ℕ) (from : Stage) (had : ℕ) (before : List Event) (pool : List World)
       (t u : Tableau) (trace : List Event) (left : ℕ) (w : World) → IsUnderWay kind s conflicts from had before pool t trace left
       → IsPricedBy kind s conflicts (stage_at pool t) (entry_at t) w
-      → IsAdded (entries_of (setting_of s) w) t u → StandsWith (entries_of (setting_of s) w) t u → IsTableau u
+      → IsAdded (entries_of (setting_of s) w) t u → ExtendsSystem (entries_of (setting_of s) w) t u → IsTableau u
       → IsUnderWay kind s conflicts from had before (pool ++ w ∷ []) u (trace ++ Priced w ∷ []) left
   pub pends : (kind : ClaimKind) (s : Subject) (conflicts : ℕ) (from : Stage) (had : ℕ) (before : List Event) (pool : List World)
       (t : Tableau) (trace : List Event) (left : ℕ) (w : World) (way : IsUnderWay kind s conflicts from had before pool t trace left)

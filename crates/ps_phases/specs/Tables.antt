@@ -5,7 +5,7 @@ use Rattle.ps_pool.specs.declared.event.Event.{Event}
 use Rattle.ps_table.specs.declared.home.Home.{Home}
 use Rattle.ps_table.specs.declared.home.Home.TheVariants.{Slack, Artificial}
 use Rattle.ps_table.specs.declared.costs.Costs.{Costs}
-use Rattle.ps_table.specs.Tableau.{Tableau, IsTableau, StandsFor, basic_at}
+use Rattle.ps_table.specs.Tableau.{Tableau, IsTableau, IsTableFor, basic_at}
 use Rattle.ps_bland.specs.Ready.{HasValues}
 use Rattle.ps_claims.specs.declared.claim_kind.ClaimKind.{ClaimKind}
 use Rattle.ps_runs.specs.Rows.{Setting, artificial_rows, columns_of, home_cost, world_cost}
@@ -29,7 +29,7 @@ pub record IsRunTable (s : Setting) (pool : List World) (t : Tableau) : Type 0 w
   pub kinds : t.kinds ≡ homes_of s
   pub worlds : t.worlds ≡ length pool
   pub tableau : IsTableau t
-  pub stands : StandsFor (columns_of s pool) t
+  pub stands : IsTableFor (columns_of s pool) t
   pub values : HasValues t
 
 -- the stage at which a table stands

@@ -28,7 +28,7 @@ use Rattle.ps_lex.proofs.Told.{whole_told, bad_told}
 use Rattle.ps_expect.specs.KeptTokens.{token_of}
 use Rattle.ps_expect.proofs.Seen.{judged as judged_alike, goes_on}
 use Rattle.ps_parse.specs.Machine.{Machine, next}
-use Rattle.ps_parse.specs.Derivations.{StandsFor}
+use Rattle.ps_parse.specs.Derivations.{Represents}
 use Rattle.ps_parse.specs.Kept.{drafted_in}
 use Rattle.ps_parse.specs.Taking.{begun_at}
 use Rattle.ps_parse.proofs.Next.{followed}
@@ -53,7 +53,7 @@ IsSo bytes (Err e) = IsFormRefused bytes e.0 e.1
 -- what was parsed stands for a derivation of the pieces' tokens
 record Stands (done : List Piece) (x : Parsed) : Type 0 where
   parse : Parse
-  stands : StandsFor parse x.machine
+  stands : Represents parse x.machine
   read_is : parsed_tokens parse ≡ tokens done
   begun : HaveBegun done parse x.places
 
@@ -84,7 +84,7 @@ record Whole (done : List Piece) (x : Parsed) : Type 0 where
   items : AreItems written (drafted_in x.machine).items
   begun : AreBegun done written (length written) x.places
 
-done_parse : (done : List Piece) (x : Parsed) (p : Parse) → is_done (state_of p).part ≡ true → parsed_tokens p ≡ tokens done → StandsFor p x.machine → HaveBegun done p x.places → Whole done x
+done_parse : (done : List Piece) (x : Parsed) (p : Parse) → is_done (state_of p).part ≡ true → parsed_tokens p ≡ tokens done → Represents p x.machine → HaveBegun done p x.places → Whole done x
 done_parse done x (InDone es) h e s b = record {
   written = es;
   tokens_are = sym e;
@@ -170,7 +170,7 @@ token_further done t x place at h s =
     begun_alike x.machine.state (part_of x) t place h ∙ ap (λ d. begun_at d.part t place) s.stands.state in
     record {
       parse = parsed s.parse t;
-      stands = subst (StandsFor (parsed s.parse t)) (sym (next_alike x.machine t h)) (followed s.parse x.machine t s.stands h);
+      stands = subst (Represents (parsed s.parse t)) (sym (next_alike x.machine t h)) (followed s.parse x.machine t s.stands h);
       read_is = step.tokens ∙ ap (λ ts. ts ++ t ∷ []) s.read_is ∙ sym (tokens_more done (Spelled t));
       begun = subst (λ ps. HaveBegun (done ++ Spelled t ∷ []) (parsed s.parse t) (x.places ++ ps)) (sym alike) (more_begun done t x.places place s.parse s.read_is at k s.begun);
     }

@@ -16,7 +16,7 @@ use Rattle.ps_read.specs.declared.read_error.ReadError.{ReadError}
 use Rattle.ps_read.specs.declared.read_error.ReadError.TheVariants as error
 use Rattle.ps_text.specs.PartialParses.{InPsat}
 use Rattle.ps_parse.specs.Machine.{Machine, at_first}
-use Rattle.ps_parse.specs.Derivations.{StandsFor, IsParsed}
+use Rattle.ps_parse.specs.Derivations.{Represents, IsParsed}
 use Rattle.ps_parse.specs.declared.parser.Parser.{Parser}
 use Rattle.ps_parse.specs.Kept.{machine_of}
 use Rattle.ps_parse.specs.Taking.{CountsAtMost}
@@ -128,7 +128,7 @@ together_behind old new b r e p o = record {
 pub at_most : (n m : ℕ) (w : Machine) → CountsAtMost n w → n ≤ m → CountsAtMost m w
 at_most n m w h l = record { names = omega (arith, h.names, l); formulas = omega (arith, h.formulas, l); items = omega (arith, h.items, l) }
 
-pub first_stands : StandsFor InPsat at_first
+pub first_stands : Represents InPsat at_first
 first_stands = record { sound = tt; state = refl; work = record { operators = refl; «open» = refl; items = tt; item = tt } }
 
 -- nothing is read yet
@@ -136,7 +136,7 @@ pub together_first : (r : Reader) → r.lexer ≡ new_lexer → machine_of r.par
 together_first r e f = record {
   word = subst (λ s. IsWordMode s.mode) (sym e) tt;
   here = subst (λ s. IsWithin (s.here.offset + 1) s.here) (sym e) (record { line = omega arith; column = omega arith; offset = omega arith });
-  parsed = record { parse = InPsat; stands = subst (StandsFor InPsat) (sym f) first_stands };
+  parsed = record { parse = InPsat; stands = subst (Represents InPsat) (sym f) first_stands };
   counts = subst (λ s. CountsAtMost s.here.offset (machine_of r.parser)) (sym e) (subst (CountsAtMost 0) (sym f) (record { names = omega arith; formulas = omega arith; items = omega arith }));
 }
 

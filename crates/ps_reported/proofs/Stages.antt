@@ -9,7 +9,7 @@ use Rattle.ps_rational.specs.Rational.{Rational, whole, mul, sub, div, zero_q}
 use Rattle.ps_rational.specs.Sums.{sum_to}
 use Rattle.ps_rational.proofs.Sums.{sum_same}
 use Rattle.ps_rational.proofs.Order.{above_not_zero}
-use Rattle.ps_basis.specs.Table.{Pivoted, Based, Belongs, Stands, Widened, unit_at}
+use Rattle.ps_basis.specs.Table.{Pivoted, Based, Belongs, IsBasisTable, Widened, unit_at}
 use Rattle.ps_basis.proofs.PivotKeeps.{stands_kept}
 use Rattle.ps_basis.proofs.Columns.{stands_more}
 use Rattle.ps_basis.proofs.OneTable.{one_table}
@@ -36,7 +36,7 @@ use Rattle.ps_runs.proofs.Pricing.{last_world}
 -- a basis has a table, and it names homes and worlds of the pool
 pub record HasTable (s : Setting) (pool : List World) (basic : ℕ → ℕ) : Type 0 where
   pub table : ℕ → ℕ → Rational
-  pub stands : Stands (rows_of s) (width_of s pool) (columns_of s pool) basic table
+  pub stands : IsBasisTable (rows_of s) (width_of s pool) (columns_of s pool) basic table
   pub first : (i : ℕ) → i < rows_of s → 0 < basic i
   pub last : (i : ℕ) → i < rows_of s → basic i < width_of s pool
 
@@ -139,7 +139,7 @@ more_table s pool w basic h =
     record {
       table = widened s pool w h.table;
       stands =
-          subst (λ k. Stands (rows_of s) k (columns_of s (pool ++ w ∷ [])) basic (widened s pool w h.table)) (sym (longer s pool w))
+          subst (λ k. IsBasisTable (rows_of s) k (columns_of s (pool ++ w ∷ [])) basic (widened s pool w h.table)) (sym (longer s pool w))
           (stands_more (rows_of s) (width_of s pool) (columns_of s (pool ++ w ∷ [])) h.table (widened s pool w h.table) basic (omega arith) h.last wide.same wide.made
           (stands_same (rows_of s) (width_of s pool) (columns_of s pool) (columns_of s (pool ++ w ∷ [])) h.table basic h.last (has_homes s (pool ++ w ∷ [])) (λ m j l. more_worlds s pool w m j l) h.stands));
       first = h.first;
@@ -164,7 +164,7 @@ module _ (kind : ClaimKind) (s : Setting) (pool : List World) (w : World) (basic
       ∙ sym (more_same s pool w basic h i j l k)
       ∙ one_table (rows_of s) (width_of s (pool ++ w ∷ [])) (columns_of s (pool ++ w ∷ [])) more.table Z basic (omega arith) more.last more.stands new i j l (omega (arith, k, e))
 
-  new_stands : Stands (rows_of s) (width_of s (pool ++ w ∷ [])) (columns_of s (pool ++ w ∷ [])) basic Z
+  new_stands : IsBasisTable (rows_of s) (width_of s (pool ++ w ∷ [])) (columns_of s (pool ++ w ∷ [])) basic Z
   new_stands =
       let more = more_table s pool w basic h in
       same_stands (rows_of s) (width_of s (pool ++ w ∷ [])) (columns_of s (pool ++ w ∷ [])) (columns_of s (pool ++ w ∷ [])) more.table Z basic (omega arith) more.last

@@ -10,7 +10,7 @@ use Rattle.ps_rational.proofs.Field.{ring_q}
 use Rattle.ps_rational.proofs.Order.{int_cases, less_or_not, not_less, at_most_of, nonneg-mul, nonneg_of, sign_of_quotient}
 use Rattle.ps_rational.proofs.Sums.{sum_same, sum_scale}
 use Rattle.ps_rational.proofs.Whole.{whole-add, whole-mul, whole_sum, unscaled}
-use Rattle.ps_basis.specs.Table.{Stands}
+use Rattle.ps_basis.specs.Table.{IsBasisTable}
 use Rattle.ps_basis.proofs.Pricing.{carried_is_priced}
 use Rattle.ps_rule.specs.declared.phase.Phase.{Phase}
 use Rattle.ps_rule.specs.Rule.{SimplexTable, carried, Improves, IsResting}
@@ -64,7 +64,7 @@ resting_most phase f cost j rest h l real = at_most_of (cost j) (carried f cost 
 
 -- a world whose combination is at least 1 improves once its column is there, so the table is moving
 pub priced_improves : (s : System) (w : ℕ) (basic : ℕ → ℕ) (X : ℕ → ℕ → Rational) (cost : ℕ → Rational) (j big : ℕ) (z : ℤ)
-    → Stands s.rows w s.columns basic X → 0 < j → j < w → s.artificial j ≡ false
+    → IsBasisTable s.rows w s.columns basic X → 0 < j → j < w → s.artificial j ≡ false
     → whole z ≡ mul (whole (pos big)) (sub (sum_to s.rows (λ m. mul (carried (simplex_table s w basic X) cost (suc m)) (s.columns m j))) (cost j))
     → pos 0 <ℤ z
     → Improves (simplex_table s w basic X) cost j

@@ -4,7 +4,7 @@ use Rattle.std.proofs.lemmas.Bool.{cases_eq, cases_lt}
 use Rattle.ps_rational.specs.Rational.{Rational}
 use Rattle.ps_rational.proofs.Field.{one_not_zero}
 use Rattle.ps_rational.proofs.Order.{at_most_antisym}
-use Rattle.ps_basis.specs.Table.{Stands, IsBasis}
+use Rattle.ps_basis.specs.Table.{IsBasisTable, IsBasis}
 use Rattle.ps_basis.proofs.OneTable as tables
 use Rattle.ps_rule.specs.declared.phase.Phase.{Phase}
 use Rattle.ps_rule.specs.declared.phase.Phase.TheVariants.{One, Lower, Upper}
@@ -25,7 +25,7 @@ same_least P a b ha hb la lb =
           ]
     ]
 
-module _ (s : System) (cost : ℕ → Rational) (w : ℕ) (basic : ℕ → ℕ) (X : ℕ → ℕ → Rational) (stands : Stands s.rows w s.columns basic X) where
+module _ (s : System) (cost : ℕ → Rational) (w : ℕ) (basic : ℕ → ℕ) (X : ℕ → ℕ → Rational) (stands : IsBasisTable s.rows w s.columns basic X) where
   -- no column is basic in two rows
   distinct : (i k : ℕ) → i < s.rows → k < s.rows → basic i ≡ basic k → i ≡ k
   distinct i k hi hk e =
@@ -64,7 +64,7 @@ module _ (s : System) (cost : ℕ → Rational) (w : ℕ) (basic : ℕ → ℕ) 
   one_leaves Upper q p r h k = one_in_phase_two q p r h k
 
 pub one_pivot : (phase : Phase) (s : System) (cost : ℕ → Rational) (w : ℕ) (basic : ℕ → ℕ) (X : ℕ → ℕ → Rational) (q p k r : ℕ)
-    → s.rows < w → IsBasis s.rows w basic → Stands s.rows w s.columns basic X
+    → s.rows < w → IsBasis s.rows w basic → IsBasisTable s.rows w s.columns basic X
     → IsLawfulAt phase s cost w basic q p → IsLawfulAt phase s cost w basic k r → (q ≡ k) × (p ≡ r)
 one_pivot phase s cost w basic X q p k r hn hb stands h g =
     let like : (T : ℕ → ℕ → Rational) → ((i j : ℕ) → i < s.rows → j < w → X i j ≡ T i j) → AreAlike s.rows w basic s.artificial s.artificial cost cost T X =

@@ -3,7 +3,7 @@ use Rattle.std.specs.Prelude.{◌≡◌, ◌⊎◌, ℕ, suc, ◌<◌, ℤ, pos,
 use Rattle.ps_rational.specs.Rational.{Rational, whole, mul, neg, sub, zero_q, one_q}
 use Rattle.ps_rational.specs.Order.{IsNonneg, AtMost, IsLess}
 use Rattle.ps_rational.specs.Sums.{sum_to, int_sum_to}
-use Rattle.ps_basis.specs.Table.{Stands, IsBasis, AreSameWithin, HaveSameCosts}
+use Rattle.ps_basis.specs.Table.{IsBasisTable, IsBasis, AreSameWithin, HaveSameCosts}
 use Rattle.ps_rule.specs.declared.phase.Phase.{Phase}
 use Rattle.ps_rule.specs.Rule.{SimplexTable, carried, Improves, IsDueToEnd, IsMoving, IsResting, Enters, Leaves}
 use Rattle.ps_rule.specs.Pivots.{System, system_of, simplex_table, IsLawfulAt, Pivot, Pivots}
@@ -11,7 +11,7 @@ use Rattle.ps_rule.specs.Pivots.{System, system_of, simplex_table, IsLawfulAt, P
 -- two pivots by the rule at a basis whose table is kept by pivots are the same
 abbrev pub RuleNamesOnePivot : Type 0
 RuleNamesOnePivot = (phase : Phase) (s : System) (cost : ℕ → Rational) (w : ℕ) (basic : ℕ → ℕ) (X : ℕ → ℕ → Rational) (q p k r : ℕ)
-    → s.rows < w → IsBasis s.rows w basic → Stands s.rows w s.columns basic X
+    → s.rows < w → IsBasis s.rows w basic → IsBasisTable s.rows w s.columns basic X
     → IsLawfulAt phase s cost w basic q p → IsLawfulAt phase s cost w basic k r → (q ≡ k) × (p ≡ r)
 
 -- none of the first n numbers is below 0
@@ -53,7 +53,7 @@ pub record CombinationsPrice : Type 0 where
       → whole (int_sum_to n (λ m. P m *ℤ a m) +ℤ (neg_ℤ (pos big) *ℤ c)) ≡ mul (whole (pos big)) (sub sum (whole c))
   -- above 0 only where the column improves
   pub improves : (s : System) (w : ℕ) (basic : ℕ → ℕ) (X : ℕ → ℕ → Rational) (cost : ℕ → Rational) (j big : ℕ) (z : ℤ)
-      → Stands s.rows w s.columns basic X → 0 < j → j < w → s.artificial j ≡ false
+      → IsBasisTable s.rows w s.columns basic X → 0 < j → j < w → s.artificial j ≡ false
       → IsCombination big s.rows (multipliers (simplex_table s w basic X) cost) (λ m. s.columns m j) (cost j) z → pos 0 <ℤ z
       → Improves (simplex_table s w basic X) cost j
   -- and above 0 where it carries more than its cost

@@ -9,7 +9,7 @@ use Rattle.ps_rational.proofs.Ring.{var, minus, none}
 use Rattle.ps_rational.proofs.Order.{zero_nonneg, above_nonneg, one_above}
 use Rattle.ps_rational.proofs.Sums.{sum_same}
 use Rattle.ps_meaning.specs.Formula.{World, is_true}
-use Rattle.ps_basis.specs.Table.{unit_at, HasHomes, Stands, IsFirst, Widened}
+use Rattle.ps_basis.specs.Table.{unit_at, HasHomes, IsBasisTable, IsFirst, Widened}
 use Rattle.ps_basis.proofs.Columns.{stands_new, stands_more}
 use Rattle.ps_basis.proofs.Units.{less_one}
 use Rattle.ps_runs.specs.Rows.{Setting, both_of, entries_of, artificial_rows, rows_of, columns_of, width_of, home_cost, cost_of, IsTable}
@@ -36,7 +36,7 @@ first_table s basic X h = record {
 }
 
 -- columns that are the same below the width may take each other's place
-pub stands_same : (n w : ℕ) (A B X : ℕ → ℕ → Rational) (basic : ℕ → ℕ) → ((i : ℕ) → i < n → basic i < w) → HasHomes n B → ((m j : ℕ) → j < w → A m j ≡ B m j) → Stands n w A basic X → Stands n w B basic X
+pub stands_same : (n w : ℕ) (A B X : ℕ → ℕ → Rational) (basic : ℕ → ℕ) → ((i : ℕ) → i < n → basic i < w) → HasHomes n B → ((m j : ℕ) → j < w → A m j ≡ B m j) → IsBasisTable n w A basic X → IsBasisTable n w B basic X
 stands_same n w A B X basic hb homes same stands = record {
   homes = homes;
   belongs = λ m j hm hj.
@@ -65,7 +65,7 @@ pub added_table : (s : Setting) (pool : List World) (w : World) (basic : ℕ →
     → IsTable s (pool ++ w ∷ []) basic Z
 added_table s pool w basic X Z t wide = record {
   stands =
-      subst (λ k. Stands (rows_of s) k (columns_of s (pool ++ w ∷ [])) basic Z) (sym (longer s pool w))
+      subst (λ k. IsBasisTable (rows_of s) k (columns_of s (pool ++ w ∷ [])) basic Z) (sym (longer s pool w))
       (stands_more (rows_of s) (width_of s pool) (columns_of s (pool ++ w ∷ [])) X Z basic (omega arith) t.last wide.same wide.made
       (stands_same (rows_of s) (width_of s pool) (columns_of s pool) (columns_of s (pool ++ w ∷ [])) X basic t.last (has_homes s (pool ++ w ∷ [])) (λ m j l. more_worlds s pool w m j l) t.stands));
   first = t.first;

@@ -8,7 +8,7 @@ use Rattle.ps_meaning.specs.Bounds.{Bound}
 use Rattle.ps_meaning.specs.Rows.{indicator, row_value}
 use Rattle.ps_rational.specs.Rational.{Rational, fraction}
 use Rattle.ps_rational.specs.Order.{IsNonneg}
-use Rattle.ps_basis.specs.Table.{unit_at, Stands}
+use Rattle.ps_basis.specs.Table.{unit_at, IsBasisTable}
 use Rattle.ps_rule.specs.declared.phase.Phase.{Phase}
 use Rattle.ps_rule.specs.declared.phase.Phase.TheVariants as phase
 use Rattle.ps_rule.specs.Rule.{SimplexTable}
@@ -102,7 +102,7 @@ table_of s pool basic X = simplex_table (system_of s pool) (width_of s pool) bas
 
 -- the table is that of its basis, which names homes and worlds of the pool, and no value is below 0
 pub record IsTable (s : Setting) (pool : List World) (basic : ℕ → ℕ) (X : ℕ → ℕ → Rational) : Type 0 where
-  pub stands : Stands (rows_of s) (width_of s pool) (columns_of s pool) basic X
+  pub stands : IsBasisTable (rows_of s) (width_of s pool) (columns_of s pool) basic X
   pub first : (i : ℕ) → i < rows_of s → 0 < basic i
   pub last : (i : ℕ) → i < rows_of s → basic i < width_of s pool
   pub values : (i : ℕ) → i < rows_of s → IsNonneg (X i 0)

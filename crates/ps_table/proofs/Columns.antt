@@ -17,7 +17,7 @@ use Rattle.ps_rational.specs.Sums.{sum_to}
 use Rattle.ps_rational.proofs.Sums.{sum_same}
 use Rattle.std.proofs.Common.{ℤ, pos, negsuc, get_or-append-add}
 use Rattle.ps_table.specs.declared.home.Home.{Home}
-use Rattle.ps_basis.specs.Table.{unit_at, HasHomes, Stands, Based}
+use Rattle.ps_basis.specs.Table.{unit_at, HasHomes, IsBasisTable, Based}
 use Rattle.ps_basis.proofs.Units.{unit_at-same, unit_at-other}
 use Rattle.ps_basis.proofs.Columns.{stands_new, stands_more}
 use Rattle.ps_rational.specs.Rational.{sub, div}
@@ -25,7 +25,7 @@ use Rattle.ps_rational.proofs.Field.{ring_q, one_is_fraction, zero_is_fraction, 
 use Rattle.ps_basis.proofs.PivotKeeps.{stands_kept}
 use Rattle.ps_pool.specs.declared.col.Col.{Col}
 use Rattle.ps_pool.specs.declared.col.Col.TheVariants as col
-use Rattle.ps_table.specs.Tableau.{Tableau, IsTableau, IsInside, IsPivot, entry_at, cell_at, basic_at, number_in, StandsFor, IsAdded, IsColumn}
+use Rattle.ps_table.specs.Tableau.{Tableau, IsTableau, IsInside, IsPivot, entry_at, cell_at, basic_at, number_in, IsTableFor, IsAdded, IsColumn}
 use Rattle.ps_table.specs.Grids.{pivot_cell}
 use Rattle.std.proofs.Math.Nat.{mul-le-mul_right}
 
@@ -84,7 +84,7 @@ pivot_is p q t made ok hp hq hv =
 pub pivot_stands : (A : ℕ → ℕ → Rational) (p : ℕ) (q : Col) (t : Tableau) (made : List Rational) → IsTableau t → p < length t.kinds → IsInside (length t.kinds) t.worlds q
     → entry_at t p (number_in (length t.kinds) q) ≢ zero_q
     → IsPivot p q t (record { kinds = t.kinds; worlds = t.worlds; cells = made; basic = set t.basic p q })
-    → StandsFor A t → StandsFor A (record { kinds = t.kinds; worlds = t.worlds; cells = made; basic = set t.basic p q })
+    → IsTableFor A t → IsTableFor A (record { kinds = t.kinds; worlds = t.worlds; cells = made; basic = set t.basic p q })
 pivot_stands A p q t made ok hp hq nz h stands =
     let n = length t.kinds in
     stands_kept n (suc (n + t.worlds)) p (number_in n q) A (entry_at t) (cell_at n made) (basic_at t) (λ i. number_in n (get_or (set t.basic p q) i (col.Home 0)))
@@ -118,9 +118,9 @@ new_cells n kinds cells e value = λ i j hi hj.
 pub new_stands : (n : ℕ) (kinds : List Home) (cells : List Rational) (basic : List Col) → length kinds ≡ n → 0 < n → length cells ≡ suc n * n
     → ((k : ℕ) → k < suc n * n → get_or cells k zero_q ≡ unit_at (k % n) (k / n - 1))
     → ((i : ℕ) → i < n → get_or basic i (col.Home 0) ≡ col.Home i)
-    → (A : ℕ → ℕ → Rational) → HasHomes n A → StandsFor A (record { kinds = kinds; worlds = 0; cells = cells; basic = basic })
+    → (A : ℕ → ℕ → Rational) → HasHomes n A → IsTableFor A (record { kinds = kinds; worlds = 0; cells = cells; basic = basic })
 new_stands n kinds cells basic e h0 count value basics A homes =
-    subst (λ m. Stands m (suc (m + 0)) A (λ i. number_in m (get_or basic i (col.Home 0))) (cell_at m cells)) (sym e)
+    subst (λ m. IsBasisTable m (suc (m + 0)) A (λ i. number_in m (get_or basic i (col.Home 0))) (cell_at m cells)) (sym e)
     (stands_new n (suc (n + 0)) A (cell_at n cells) (λ i. number_in n (get_or basic i (col.Home 0))) h0 (omega arith) homes
     (λ i j hi hj. value (j * n + i) (cell_within i j n (suc n) (suc n * n) hi (omega arith) refl) ∙ first_at n i j (j * n + i) refl hi)
     (λ i hi. ap (number_in n) (basics i hi))
@@ -142,13 +142,13 @@ added_is entries t column cells ok e value = record {
 }
 
 pub added_stands : (entries : List ℤ) (t : Tableau) (cells : List Rational) → IsTableau t → IsAdded entries t (record { kinds = t.kinds; worlds = t.worlds + 1; cells = cells; basic = t.basic })
-    → (A : ℕ → ℕ → Rational) → IsColumn entries (length t.kinds) (suc (length t.kinds + t.worlds)) A → StandsFor A t
-    → StandsFor A (record { kinds = t.kinds; worlds = t.worlds + 1; cells = cells; basic = t.basic })
+    → (A : ℕ → ℕ → Rational) → IsColumn entries (length t.kinds) (suc (length t.kinds + t.worlds)) A → IsTableFor A t
+    → IsTableFor A (record { kinds = t.kinds; worlds = t.worlds + 1; cells = cells; basic = t.basic })
 added_stands entries t cells ok added A column stands =
     let n = length t.kinds in
     let w = suc (n + t.worlds) in
     let e : suc w ≡ suc (n + (t.worlds + 1)) = omega arith in
-    subst (λ k. Stands n k A (basic_at t) (cell_at n cells)) e
+    subst (λ k. IsBasisTable n k A (basic_at t) (cell_at n cells)) e
     (stands_more n w A (entry_at t) (cell_at n cells) (basic_at t) (omega arith) (λ i hi. number_within n t.worlds (get_or t.basic i (col.Home 0)) (ok.inside i hi))
     added.before
     (λ i hi. added.here i hi ∙ sum_same n (λ m. mul (entry_at t i (suc m)) (fraction (get_or entries m (pos 0)) 1)) (λ m. mul (entry_at t i (suc m)) (A m w)) (λ m l. ap (mul (entry_at t i (suc m))) (sym (column m l))))

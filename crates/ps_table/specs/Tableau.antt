@@ -8,7 +8,7 @@ use Rattle.ps_table.specs.declared.place.TableCol.{TableCol}
 use Rattle.ps_table.specs.declared.place.TableCol.TheVariants.{Right, Of}
 use Rattle.ps_rational.specs.Rational.{Rational, fraction, mul, zero_q}
 use Rattle.ps_rational.specs.Sums.{sum_to}
-use Rattle.ps_basis.specs.Table.{Stands, Pivoted, Based, HasHomes, unit_at}
+use Rattle.ps_basis.specs.Table.{IsBasisTable, Pivoted, Based, HasHomes, unit_at}
 
 -- a table has fewer worlds than this
 abbrev pub world_limit : ℕ
@@ -84,14 +84,14 @@ pub record IsTableau (t : Tableau) : Type 0 where
   pub basics : length t.basic ≡ length t.kinds
   pub inside : (i : ℕ) → i < length t.kinds → IsInside (length t.kinds) t.worlds (get_or t.basic i (col.Home 0))
 
--- ---- what a table stands for
+-- ---- the systems of rows and columns that a table is of
 -- the table is that of its basis, for rows and columns A
-abbrev pub StandsFor : (ℕ → ℕ → Rational) → Tableau → Type 0
-StandsFor A t = Stands (length t.kinds) (suc (length t.kinds + t.worlds)) A (basic_at t) (entry_at t)
+abbrev pub IsTableFor : (ℕ → ℕ → Rational) → Tableau → Type 0
+IsTableFor A t = IsBasisTable (length t.kinds) (suc (length t.kinds + t.worlds)) A (basic_at t) (entry_at t)
 
--- whatever a table stood for it stands for after the change
-abbrev pub StandsOn : Tableau → Tableau → Type 0
-StandsOn old new = (A : ℕ → ℕ → Rational) → StandsFor A old → StandsFor A new
+-- whatever system of rows and columns a table was of, it is of after the change
+abbrev pub KeepsSystem : Tableau → Tableau → Type 0
+KeepsSystem old new = (A : ℕ → ℕ → Rational) → IsTableFor A old → IsTableFor A new
 
 -- ---- the first table
 -- in each row its home is basic
@@ -102,9 +102,9 @@ HasBasicHomes kinds t = (i : ℕ) → i < length kinds → get_or t.basic i (col
 abbrev pub HasUnitHomes : List Home → Tableau → Type 0
 HasUnitHomes kinds t = (i j : ℕ) → i < length kinds → j ≤ length kinds → entry_at t i j ≡ unit_at i (j - 1)
 
--- a table stands for all columns that begin with these homes
-abbrev pub StandsForHomes : List Home → Tableau → Type 0
-StandsForHomes kinds t = (A : ℕ → ℕ → Rational) → HasHomes (length kinds) A → StandsFor A t
+-- a table is one for all columns that begin with these homes
+abbrev pub IsTableForHomes : List Home → Tableau → Type 0
+IsTableForHomes kinds t = (A : ℕ → ℕ → Rational) → HasHomes (length kinds) A → IsTableFor A t
 
 -- ---- changes
 -- column q became basic in row p
@@ -131,6 +131,6 @@ pub record IsAdded (entries : List ℤ) (old new : Tableau) : Type 0 where
   pub before : (i j : ℕ) → i < rows_of old → j < width_of old → entry_at new i j ≡ entry_at old i j
   pub here : (i : ℕ) → i < rows_of old → entry_at new i (width_of old) ≡ sum_to (rows_of old) (λ m. mul (entry_at old i (suc m)) (world_entry entries m))
 
--- whatever a table stood for whose next column is that of the entries, it stands for with that column
-abbrev pub StandsWith : List ℤ → Tableau → Tableau → Type 0
-StandsWith entries old new = (A : ℕ → ℕ → Rational) → IsColumn entries (rows_of old) (width_of old) A → StandsFor A old → StandsFor A new
+-- whatever system a table was of whose next column is that of the entries, it is of with that column
+abbrev pub ExtendsSystem : List ℤ → Tableau → Tableau → Type 0
+ExtendsSystem entries old new = (A : ℕ → ℕ → Rational) → IsColumn entries (rows_of old) (width_of old) A → IsTableFor A old → IsTableFor A new

@@ -4,8 +4,8 @@ ghost use Rattle.ps_rational.specs.Rational.{zero_q};
 ghost use Rattle.ps_table.specs.declared.limits.TheConstants.{MOST_ROWS};
 ghost use Rattle.ps_table.specs.Tableau.{Tableau, IsTableau, world_limit, rows_of};
 ghost use Rattle.ps_table.specs.Tableau.{HasColumn, number_of, entry_at, entry_of};
-ghost use Rattle.ps_table.specs.Tableau.{HasBasicHomes, HasUnitHomes, StandsForHomes};
-ghost use Rattle.ps_table.specs.Tableau.{IsPivot, IsAdded, StandsOn, StandsWith};
+ghost use Rattle.ps_table.specs.Tableau.{HasBasicHomes, HasUnitHomes, IsTableForHomes};
+ghost use Rattle.ps_table.specs.Tableau.{IsPivot, IsAdded, KeepsSystem, ExtendsSystem};
 ghost use Rattle.ps_table.specs.Pricing.{HasCosts, cost_at, part_at, carried_of, multiplier_of};
 ghost use Rattle.ps_table.specs.Places.{PivotPlaces, NewPlaces, CostPlaces, HomePlaces};
 ghost use Rattle.ps_table.specs.Places.{IsWideAt, IsRefusedAt, IsNarrow};
@@ -71,7 +71,7 @@ impl Table {
         ensures worlds { IfOk result (λ t. t.worlds ≡ 0) }
         ensures basic { IfOk result (HasBasicHomes homes.now) }
         ensures cells { IfOk result (HasUnitHomes homes.now) }
-        ensures stands { IfOk result (StandsForHomes homes.now) }
+        ensures stands { IfOk result (IsTableForHomes homes.now) }
     {
         let cells = first_cells(alloc, homes.len())?;
         let basic = first_basic(alloc, homes.len())?;
@@ -242,7 +242,7 @@ impl Table {
         requires room { self.old.worlds + 1 < world_limit }
         ensures number { IfOk result (λ n. n ≡ self.old.worlds + 1) }
         ensures added { IfOk result (λ _. IsAdded entries.now self.old self.new) }
-        ensures stands { IfOk result (λ _. StandsWith entries.now self.old self.new) }
+        ensures stands { IfOk result (λ _. ExtendsSystem entries.now self.old self.new) }
         ensures narrow { IfOk result (λ _. IsNarrow (NewPlaces self.old entries.now)) }
         ensures refused { IfErr result (IsRefusedAt (NewPlaces self.old entries.now)) }
         ensures same { IfErr result (λ _. self.new ≡ self.old) }
@@ -277,7 +277,7 @@ impl Table {
         requires col { HasColumn self.old col }
         requires pivot { entry_of self.old row col ≢ zero_q }
         ensures pivot { IfOk result (λ _. IsPivot row col self.old self.new) }
-        ensures stands { IfOk result (λ _. StandsOn self.old self.new) }
+        ensures stands { IfOk result (λ _. KeepsSystem self.old self.new) }
         ensures narrow { IfOk result (λ _. IsNarrow (PivotPlaces self.old row col)) }
         ensures refused { IfErr result (IsRefusedAt (PivotPlaces self.old row col)) }
         ensures same { IfErr result (λ _. self.new ≡ self.old) }

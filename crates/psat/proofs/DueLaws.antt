@@ -31,7 +31,7 @@ use Rattle.psat.specs.declared.command.Command.TheVariants as commands
 use Rattle.psat.specs.declared.status.Status.{Status}
 use Rattle.psat.specs.declared.status.Status.TheVariants as status
 use Rattle.psat.specs.Commands.{Spell, SpellNone, limit_of, words_of}
-use Rattle.psat.specs.Statuses.{EndsCheck, EndsSolve, GoesWithText, IsAnswerOf, MayAnswer}
+use Rattle.psat.specs.Statuses.{EndsCheck, EndsSolve, HasText, IsAnswerOf, MayAnswer}
 use Rattle.psat.specs.Due as due
 use Rattle.psat.specs.Due.{Output, too_long, usage, refused_line, unreadable, searched, DueAnswer, DueReport, FaultAt, DueText, NotRead, DueAnswered, NoProblem, IsSolvedBy, Solved, Within, TooLong, DueFor, Due, ForCommand, ForNone, report_of, status_by, status_after}
 use Rattle.psat.proofs.CommandLaws.{one_command}
@@ -133,24 +133,24 @@ pub took_more : (limit : ℕ) (old new : Option (List ℕ)) → TookMore limit o
 took_more limit old new h = record { taken = h.taken; consumed = h.consumed; within = h.within }
 
 -- an answer of a command goes with a text
-check_goes : (s : Status) → EndsCheck s → GoesWithText s
+check_goes : (s : Status) → EndsCheck s → HasText s
 check_goes status.ReadFault g = g
 check_goes status.WriteFault g = g
 check_goes status.NoMemory g = g
 check_goes s g = tt
 
-solve_goes : (s : Status) → EndsSolve s → GoesWithText s
+solve_goes : (s : Status) → EndsSolve s → HasText s
 solve_goes status.ReadFault g = g
 solve_goes status.WriteFault g = g
 solve_goes status.NoMemory g = g
 solve_goes s g = tt
 
-pub answer_goes : (c : Command) (s : Status) → IsAnswerOf c s → GoesWithText s
+pub answer_goes : (c : Command) (s : Status) → IsAnswerOf c s → HasText s
 answer_goes (commands.Check n) s g = check_goes s g
 answer_goes (commands.Solve l) s g = solve_goes s g
 
 -- at an answer the source was read
-pub took_by : (limit : ℕ) (s : Status) (old new : Option (List ℕ)) → GoesWithText s → WasRead limit old new → Took limit s old new
+pub took_by : (limit : ℕ) (s : Status) (old new : Option (List ℕ)) → HasText s → WasRead limit old new → Took limit s old new
 took_by limit status.Done old new g r = r
 took_by limit status.Inconsistent old new g r = r
 took_by limit status.Usage old new g r = r
@@ -161,7 +161,7 @@ took_by limit status.ReadFault old new g r = absurd g
 took_by limit status.WriteFault old new g r = absurd g
 took_by limit status.NoMemory old new g r = absurd g
 
-was_read : (limit : ℕ) (s : Status) (old new : Option (List ℕ)) → GoesWithText s → Took limit s old new → WasRead limit old new
+was_read : (limit : ℕ) (s : Status) (old new : Option (List ℕ)) → HasText s → Took limit s old new → WasRead limit old new
 was_read limit status.Done old new g r = r
 was_read limit status.Inconsistent old new g r = r
 was_read limit status.Usage old new g r = r
@@ -173,7 +173,7 @@ was_read limit status.WriteFault old new g r = absurd g
 was_read limit status.NoMemory old new g r = absurd g
 
 -- a fault of writing keeps what was read
-pub read_cut : (words : List (String Global)) (s : Status) (old new : Option (List ℕ)) → GoesWithText s → HasRead old new words s → HasRead old new words status.WriteFault
+pub read_cut : (words : List (String Global)) (s : Status) (old new : Option (List ℕ)) → HasText s → HasRead old new words s → HasRead old new words status.WriteFault
 read_cut words s old new g h = record { read = λ command spelled. by command (h.read command spelled) }
   where
     by : (command : Command) → HasTaken command s old new → HasTaken command status.WriteFault old new
@@ -199,7 +199,7 @@ none_answered words s none = record { answered = λ c spelled. absurd (none.none
 pub none_read : (words : List (String Global)) (s : Status) (old new : Option (List ℕ)) → SpellNone (words_of words) → HasRead old new words s
 none_read words s old new none = record { read = λ c spelled. absurd (none.none c spelled) }
 
-pub ran_by : (words : List (List ℕ)) (bytes text : List ℕ) (s : Status) (old new : Option (List ℕ)) → GoesWithText s
+pub ran_by : (words : List (List ℕ)) (bytes text : List ℕ) (s : Status) (old new : Option (List ℕ)) → HasText s
     → Due words bytes (record { text = text; status = s }) → Appends old new text → Wrote words bytes s old new
 ran_by words bytes text status.Done old new g d a = record { output = record { text = text; status = status.Done }; due = d; status_is = refl; written = a }
 ran_by words bytes text status.Inconsistent old new g d a = record { output = record { text = text; status = status.Inconsistent }; due = d; status_is = refl; written = a }

@@ -12,13 +12,13 @@ use Rattle.psat.specs.declared.reply.Reply.{Reply}
 use Rattle.psat.specs.declared.reply.Reply.TheVariants.{Line, Report}
 use Rattle.ps_io.specs.Transfer.{Appends, AppendsPrefix}
 use Rattle.psat.specs.Due.{Output, report_of, status_after}
-use Rattle.psat.specs.Statuses.{GoesWithText, IsFailure, IsSilent}
+use Rattle.psat.specs.Statuses.{HasText, IsFailure, IsSilent}
 use Rattle.psat.specs.Runs.{IsGiven, Cut, Wrote, Ran, HasAnswered, CountsReads, CountsWrites}
 use Rattle.psat.specs.Replies.{IsDue, output_of, reply_status}
 use Rattle.psat.proofs.DueLaws.{ran_by}
 
 pub reply_ran : (words : List (List ℕ)) (bytes : List ℕ) (left : Option (List ℕ)) (r : Reply) (old new : Option (List ℕ)) → IsDue words left (output_of r) → IsGiven words left bytes
-    → GoesWithText (reply_status r) → Appends old new (output_of r).text → Wrote words bytes (reply_status r) old new
+    → HasText (reply_status r) → Appends old new (output_of r).text → Wrote words bytes (reply_status r) old new
 reply_ran words bytes left (Line m) old new due given g a = ran_by words bytes (string_bytes m.text) m.status old new g (due.due bytes given) a
 reply_ran words bytes left (Report x) old new due given g a = ran_by words bytes (report_of x) (status_after x) old new g (due.due bytes given) a
 
@@ -27,16 +27,16 @@ pub reply_cut : (words : List (List ℕ)) (bytes : List ℕ) (left : Option (Lis
 reply_cut words bytes left r old new due given a = record { output = output_of r; due = due.due bytes given; written = a }
 
 -- a status that goes with a text isn't silent, and is answered where the count of the sink stayed
-pub not_silent : (s : Status) → GoesWithText s → ¬ IsSilent s
+pub not_silent : (s : Status) → HasText s → ¬ IsSilent s
 not_silent status.ReadFault g h = g
 not_silent status.NoMemory g h = g
 not_silent s g h = absurd h
 
-pub writes_counted : (s : Status) (old new : ℕ) → GoesWithText s → new ≡ old → CountsWrites old new s
+pub writes_counted : (s : Status) (old new : ℕ) → HasText s → new ≡ old → CountsWrites old new s
 writes_counted status.WriteFault old new g e = absurd g
 writes_counted s old new g e = e
 
-pub reads_counted : (s : Status) (old new : ℕ) → GoesWithText s → CountsReads old new s → new ≡ old
+pub reads_counted : (s : Status) (old new : ℕ) → HasText s → CountsReads old new s → new ≡ old
 reads_counted status.ReadFault old new g e = absurd g
 reads_counted s old new g e = e
 

@@ -38,11 +38,11 @@ IsAnswerOf (Check limit) status = EndsCheck status
 IsAnswerOf (Solve limits) status = EndsSolve status
 
 -- a status that goes with a text
-abbrev pub GoesWithText : Status → Type 0
-GoesWithText ReadFault = ⊥
-GoesWithText WriteFault = ⊥
-GoesWithText NoMemory = ⊥
-GoesWithText status = Unit {0}
+abbrev pub HasText : Status → Type 0
+HasText ReadFault = ⊥
+HasText WriteFault = ⊥
+HasText NoMemory = ⊥
+HasText status = Unit {0}
 
 -- a status that is answered where a call failed
 abbrev pub IsFailure : Status → Type 0

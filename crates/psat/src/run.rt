@@ -4,7 +4,7 @@ ghost use Rattle.psat.specs.Commands.{ReadNothing, SpellNone, limit_of, words_of
 ghost use Rattle.psat.specs.Replies.{AreLimitsOf, AreWithin, DueBytes, IsDue, IsDueFor};
 ghost use Rattle.psat.specs.Replies.{IsShortReply, output_of, reply_status, status_of};
 ghost use Rattle.psat.specs.Runs.{CountsReads, CountsWrites, HasAnswered, HasRead, HasTaken, Ran, Took};
-ghost use Rattle.psat.specs.Statuses.{AnswersUsage, GoesWithText, IsAnswerOf, IsSilent};
+ghost use Rattle.psat.specs.Statuses.{AnswersUsage, HasText, IsAnswerOf, IsSilent};
 
 use crate::checked::checked;
 use crate::command::{Command, MOST_PROBLEM, parse_words};
@@ -78,7 +78,7 @@ fn reply_to_command<I: Source>(
 fn reply_to<I: Source>(alloc: Global, words: &[String], source: &mut I) -> Result<Reply, ReplyError>
     ensures due { IfOk result (λ r. IsDue (words_of words.now) (I.left source.old) (output_of r)) }
     ensures read { HasRead (I.left source.old) (I.left source.new) words.now (status_of result) }
-    ensures status { IfOk result (λ r. GoesWithText (reply_status r)) }
+    ensures status { IfOk result (λ r. HasText (reply_status r)) }
     ensures answered { IfOk result (λ r. HasAnswered words.now (reply_status r)) }
     ensures short { IfOk result IsShortReply }
     ensures usage { IfOk result (λ r.

@@ -1,6 +1,6 @@
 use Rattle.std.proofs.Common.{◌≡◌, ℕ}
 use Rattle.ps_rational.specs.Rational.{Rational}
-use Rattle.ps_table.specs.Tableau.{StandsFor}
+use Rattle.ps_table.specs.Tableau.{IsTableFor}
 use Rattle.ps_bland.specs.Runs.{Ran}
 use Rattle.ps_bland.specs.Ready.{IsReady}
 use Rattle.ps_bland.proofs.settling.settle.Given as goal
@@ -11,7 +11,7 @@ invariant-loop-settled l = record {
   kinds : l.table.kinds ≡ l.fn.table.kinds;
   worlds : l.table.worlds ≡ l.fn.table.worlds;
   ready : IsReady l.phase l.costs l.table;
-  stands : (A : ℕ → ℕ → Rational) → StandsFor A l.fn.table → StandsFor A l.table;
+  stands : (A : ℕ → ℕ → Rational) → IsTableFor A l.fn.table → IsTableFor A l.table;
 }
 
 abbrev pub decreases-loop-settled : goal.decreases-loop-settled

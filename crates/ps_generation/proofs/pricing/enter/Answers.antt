@@ -1,6 +1,6 @@
 use Rattle.std.proofs.Common.{rules, ◌≡◌, ℤ, List, [], ◌∷◌, ◌++◌, subst}
 use Rattle.ps_pool.specs.declared.event.Event.TheVariants.{Priced}
-use Rattle.ps_table.specs.Tableau.{IsAdded, StandsWith}
+use Rattle.ps_table.specs.Tableau.{IsAdded, ExtendsSystem}
 use Rattle.ps_table.specs.Places.{IsRefusedAt, NewPlaces}
 use Rattle.ps_runs.specs.Rows.{entries_of, world_cost}
 use Rattle.ps_runs.specs.Runs.{setting_of}
@@ -30,9 +30,9 @@ returns-clause-phase c =
     let more : c.add_to_pool.new.pool ≡ old.pool ++ c.args.world ∷ [] = search rules in
     let costs : c.push-2.new.self ≡ c.args.costs.now.worlds ++ world_cost c.args.kind (setting_of r.subject) c.args.world ∷ [] = search rules in
     let added : IsAdded c.deref.result.now old.table c.add_world.new.self = search rules in
-    let stands : StandsWith c.deref.result.now old.table c.add_world.new.self = search rules in
+    let stands : ExtendsSystem c.deref.result.now old.table c.add_world.new.self = search rules in
     entered_phase c.args.kind r c.args.costs.now old c.args.world c.requires.phase c.requires.priced c.add_world.new.self
-    (subst (λ (es : List ℤ). IsAdded es old.table c.add_world.new.self) entries added) (subst (λ (es : List ℤ). StandsWith es old.table c.add_world.new.self) entries stands)
+    (subst (λ (es : List ℤ). IsAdded es old.table c.add_world.new.self) entries added) (subst (λ (es : List ℤ). ExtendsSystem es old.table c.add_world.new.self) entries stands)
     c.rows-sound.ensures.tableau c.add_to_pool.new.pool c.push.new.self c.push-2.new.self more longer costs
 
 pub returns-clause-end : goal.returns-clause-end
@@ -43,7 +43,7 @@ returns-clause-end c =
     let entries : c.deref.result.now ≡ entries_of (setting_of r.subject) c.args.world = search rules in
     let more : c.add_to_pool.new.pool ≡ old.pool ++ c.args.world ∷ [] = search rules in
     let added : IsAdded c.deref.result.now old.table c.add_world.new.self = search rules in
-    let stands : StandsWith c.deref.result.now old.table c.add_world.new.self = search rules in
+    let stands : ExtendsSystem c.deref.result.now old.table c.add_world.new.self = search rules in
     entered c.args.kind r c.args.costs.now old c.args.world c.requires.phase c.requires.priced c.add_world.new.self
-    (subst (λ (es : List ℤ). IsAdded es old.table c.add_world.new.self) entries added) (subst (λ (es : List ℤ). StandsWith es old.table c.add_world.new.self) entries stands)
+    (subst (λ (es : List ℤ). IsAdded es old.table c.add_world.new.self) entries added) (subst (λ (es : List ℤ). ExtendsSystem es old.table c.add_world.new.self) entries stands)
     c.rows-sound.ensures.tableau c.add_to_pool.new.pool c.push.new.self more longer

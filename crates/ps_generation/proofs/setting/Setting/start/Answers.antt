@@ -1,7 +1,7 @@
 use Rattle.std.proofs.Common.{rules, ◌≡◌, List, sym, ◌∙◌, subst}
 use Rattle.ps_meaning.specs.Formula.{World}
 use Rattle.ps_table.specs.declared.home.Home.{Home}
-use Rattle.ps_table.specs.Tableau.{HasUnitHomes, HasBasicHomes, StandsForHomes}
+use Rattle.ps_table.specs.Tableau.{HasUnitHomes, HasBasicHomes, IsTableForHomes}
 use Rattle.ps_problem.specs.Problems.{bounds_in}
 use Rattle.ps_columns.specs.Columns.{homes_over}
 use Rattle.ps_runs.specs.Runs.{setting_of, IsStart}
@@ -18,7 +18,7 @@ returns c =
     let is : c.deref.result.now ≡ homes_of (setting_of s) = homes ∙ homes_are s in
     let kinds : t.kinds ≡ homes_of (setting_of s) = c.in_ok-table.ensures.kinds ∙ is in
     let units : HasUnitHomes (homes_of (setting_of s)) t = subst (λ (hs : List Home). HasUnitHomes hs t) is c.in_ok-table.ensures.cells in
-    let stands : StandsForHomes (homes_of (setting_of s)) t = subst (λ (hs : List Home). StandsForHomes hs t) is c.in_ok-table.ensures.stands in
+    let stands : IsTableForHomes (homes_of (setting_of s)) t = subst (λ (hs : List Home). IsTableForHomes hs t) is c.in_ok-table.ensures.stands in
     let basics : HasBasicHomes (homes_of (setting_of s)) t = subst (λ (hs : List Home). HasBasicHomes hs t) is c.in_ok-table.ensures.basic in
     record {
       table =

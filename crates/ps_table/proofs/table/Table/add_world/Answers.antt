@@ -1,7 +1,7 @@
 use Rattle.std.proofs.Common.{◌≡◌, ◌<◌, ◌+◌, ◌++◌, ℕ, suc, length, get_or, subst, sym, ap, rules}
 use Rattle.ps_rational.specs.Rational.{mul, zero_q}
 use Rattle.ps_rational.specs.Sums.{sum_to}
-use Rattle.ps_table.specs.Tableau.{Tableau, IsAdded, IsColumn, StandsFor, entry_at, world_entry}
+use Rattle.ps_table.specs.Tableau.{Tableau, IsAdded, IsColumn, IsTableFor, entry_at, world_entry}
 use Rattle.ps_table.specs.Places.{new_part}
 use Rattle.ps_table.specs.Grids.{GridCells, grid_of, cell_in}
 use Rattle.ps_table.proofs.Columns.{added_is, added_stands}
@@ -27,4 +27,4 @@ returns-clause-stands c = λ A column old.
     added_stands c.args.entries.now t c.extend_from_slice.new.self.items c.self.invariant (added_is c.args.entries.now t c.in_ok-column.column.items c.extend_from_slice.new.self.items c.self.invariant e hv)
     A
     (subst (λ (s : Tableau). IsColumn c.args.entries.now (length s.kinds) (suc (length s.kinds + s.worlds)) A) (sym c.self.view_is) column)
-    (subst (StandsFor A) (sym c.self.view_is) old)
+    (subst (IsTableFor A) (sym c.self.view_is) old)

@@ -1,6 +1,6 @@
 use Rattle.std.proofs.Common.{◌≡◌, ◌≢◌, set, subst, sym, rules}
 use Rattle.ps_rational.specs.Rational.{zero_q}
-use Rattle.ps_table.specs.Tableau.{Tableau, HasColumn, IsPivot, entry_of, rows_of, StandsFor}
+use Rattle.ps_table.specs.Tableau.{Tableau, HasColumn, IsPivot, entry_of, rows_of, IsTableFor}
 use Rattle.ps_table.specs.Grids.{ArePivotedIn}
 use Rattle.ps_table.specs.Changes.{written}
 use Rattle.ps_table.proofs.Columns.{pivot_is, pivot_stands}
@@ -29,4 +29,4 @@ returns-clause-stands c = λ A old.
     let hv : ArePivotedIn t c.args.row c.args.col made = subst (ArePivotedIn t c.args.row c.args.col) cells
     (subst (λ (s : Tableau). ArePivotedIn s c.args.row c.args.col (written s.cells c.in_ok-changes.changes.items)) (sym c.self.view_is) c.in_ok-changes.ensures.pivoted) in
     let nz : entry_of t c.args.row c.args.col ≢ zero_q = subst (λ (s : Tableau). entry_of s c.args.row c.args.col ≢ zero_q) (sym c.self.view_is) c.requires.pivot in
-    pivot_stands A c.args.row c.args.col t made c.self.invariant hp hq nz (pivot_is c.args.row c.args.col t made c.self.invariant hp hq hv) (subst (StandsFor A) (sym c.self.view_is) old)
+    pivot_stands A c.args.row c.args.col t made c.self.invariant hp hq nz (pivot_is c.args.row c.args.col t made c.self.invariant hp hq hv) (subst (IsTableFor A) (sym c.self.view_is) old)
