@@ -5,8 +5,8 @@ use Rattle.std.specs.List.{AllByRecursion}
 use Rattle.std.proofs.lemmas.Option.{none-some, same_Some}
 use Rattle.ps_pool.specs.declared.event.Event.{Event}
 use Rattle.ps_pool.specs.declared.event.Event.TheVariants.{Pivot, Priced}
-use Rattle.ps_answer.specs.declared.item.Item.{Item}
-use Rattle.ps_answer.specs.declared.item.Item.TheVariants as line
+use Rattle.ps_answer.specs.declared.item.LineItem.{LineItem}
+use Rattle.ps_answer.specs.declared.item.LineItem.TheVariants as line
 use Rattle.ps_answer.specs.declared.answer.Cause.TheVariants.{Pivots, Conflicts, Wide}
 use Rattle.ps_answer.specs.declared.answer.Verdict.TheVariants.{Consistent, Inconsistent, Open}
 use Rattle.ps_answer.specs.declared.answer.SideAnswer.{SideAnswer}
@@ -21,17 +21,17 @@ use Rattle.ps_answer.specs.Items.{IsProper, IsWithin, IsReducedWithin, IsRatioWi
 use Rattle.ps_answer.specs.Answers.{entry_item, event_item, model_items, dual_items, trace_items, cause_items, verdict_items, side_items, query_items, part_items, answer_items, IsCounted, IsVerdictCounted, IsSideCounted, IsQueryCounted, ArePartsCounted, IsAnswerCounted}
 use Rattle.ps_answer.specs.declared.part.Part.{Part}
 use Rattle.ps_answer.specs.declared.part.Part.TheVariants.{AVerdict, AModel, AnEntry, ADual, AStep, ACause, ATrace, AnEvent, AnAnswer, ASide, AQuery}
-use Rattle.ps_answer.specs.Due.{many, behind, behind_cause, and_then, at_start, due_behind}
+use Rattle.ps_answer.specs.ExpectedParts.{many, behind, behind_cause, and_then, at_start, due_behind}
 
 -- lines that are due, up to the end, and within the limits
-pub record Complete (due : List Part) (items : List Item) : Type 0 where
+pub record Complete (due : List Part) (items : List LineItem) : Type 0 where
   pub due_is : due_behind due items ≡ Some []
   pub good : AllByRecursion (λ i. IsProper i × IsWithin i) items
 
 -- lines are first those of a value, and then those that are due after it
-pub record Splits {X : Type 0} (P : X → Type 0) (items_of : X → List Item) (due : List Part) (items : List Item) : Type 0 where
+pub record Splits {X : Type 0} (P : X → Type 0) (items_of : X → List LineItem) (due : List Part) (items : List LineItem) : Type 0 where
   pub value : X
-  pub more : List Item
+  pub more : List LineItem
   pub is : items ≡ items_of value ++ more
   pub holds : P value
   pub rest : Complete due more
@@ -43,7 +43,7 @@ abbrev pub AsMany : {X : Type 0} → ℕ → List X → Type 0
 AsMany n xs = length xs ≡ n
 
 -- the entries of a model
-pub entries : (n : ℕ) (due : List Part) (items : List Item) → Complete (many n AnEntry due) items → Splits (AsMany n) (map entry_item) due items
+pub entries : (n : ℕ) (due : List Part) (items : List LineItem) → Complete (many n AnEntry due) items → Splits (AsMany n) (map entry_item) due items
 unfolding behind
 entries zero due items c = record { value = []; more = items; is = refl; holds = refl; rest = c }
 entries (suc n) due [] c = absurd (not_end c.due_is)
@@ -58,7 +58,7 @@ entries (suc n) due (line.Entry weight world ∷ is) c =
 entries (suc n) due (i ∷ is) c = absurd (none-some _ c.due_is)
 
 -- a model
-pub a_model : (due : List Part) (items : List Item) → Complete (AModel ∷ due) items → Splits (λ m. Unit {0}) model_items due items
+pub a_model : (due : List Part) (items : List LineItem) → Complete (AModel ∷ due) items → Splits (λ m. Unit {0}) model_items due items
 unfolding behind
 a_model due [] c = absurd (not_end c.due_is)
 a_model due (line.ModelHead total n ∷ is) c =
@@ -72,7 +72,7 @@ a_model due (line.ModelHead total n ∷ is) c =
 a_model due (i ∷ is) c = absurd (none-some _ c.due_is)
 
 -- steps, and a dual
-pub steps : (n : ℕ) (due : List Part) (items : List Item) → Complete (many n AStep due) items → Splits (AsMany n) (map line.StepLine) due items
+pub steps : (n : ℕ) (due : List Part) (items : List LineItem) → Complete (many n AStep due) items → Splits (AsMany n) (map line.StepLine) due items
 unfolding behind
 steps zero due items c = record { value = []; more = items; is = refl; holds = refl; rest = c }
 steps (suc n) due [] c = absurd (not_end c.due_is)
@@ -86,7 +86,7 @@ steps (suc n) due (line.StepLine s ∷ is) c =
     }
 steps (suc n) due (i ∷ is) c = absurd (none-some _ c.due_is)
 
-pub a_dual : (due : List Part) (items : List Item) → Complete (ADual ∷ due) items → Splits (λ d. Unit {0}) dual_items due items
+pub a_dual : (due : List Part) (items : List LineItem) → Complete (ADual ∷ due) items → Splits (λ d. Unit {0}) dual_items due items
 unfolding behind
 a_dual due [] c = absurd (not_end c.due_is)
 a_dual due (line.DualHead top head n ∷ []) c = absurd (not_end c.due_is)
@@ -102,7 +102,7 @@ a_dual due (line.DualHead top head n ∷ i ∷ is) c = absurd (none-some _ c.due
 a_dual due (i ∷ is) c = absurd (none-some _ c.due_is)
 
 -- events, and a trace
-pub events : (n : ℕ) (due : List Part) (items : List Item) → Complete (many n AnEvent due) items → Splits (AsMany n) (map event_item) due items
+pub events : (n : ℕ) (due : List Part) (items : List LineItem) → Complete (many n AnEvent due) items → Splits (AsMany n) (map event_item) due items
 unfolding behind
 events zero due items c = record { value = []; more = items; is = refl; holds = refl; rest = c }
 events (suc n) due [] c = absurd (not_end c.due_is)
@@ -124,7 +124,7 @@ events (suc n) due (line.PricedLine world ∷ is) c =
     }
 events (suc n) due (i ∷ is) c = absurd (none-some _ c.due_is)
 
-pub a_trace : (due : List Part) (items : List Item) → Complete (ATrace ∷ due) items → Splits (λ t. Unit {0}) trace_items due items
+pub a_trace : (due : List Part) (items : List LineItem) → Complete (ATrace ∷ due) items → Splits (λ t. Unit {0}) trace_items due items
 unfolding behind
 a_trace due [] c = absurd (not_end c.due_is)
 a_trace due (line.TraceHead n ∷ is) c =
@@ -142,7 +142,7 @@ abbrev pub rational_of : (limit : ℕ) (q : Ratio) → IsReducedWithin limit q �
 rational_of limit q r w = record { over = q.over; under = q.under; lowest = record { positive = omega (arith, r.0); coprime = r.1 w.0 w.1 } }
 
 -- a cause
-pub a_cause_with : (due : List Part) (i : Item) (is : List Item) → and_then (behind_cause i due) (λ more. due_behind more is) ≡ Some []
+pub a_cause_with : (due : List Part) (i : LineItem) (is : List LineItem) → and_then (behind_cause i due) (λ more. due_behind more is) ≡ Some []
     → AllByRecursion (λ i. IsProper i × IsWithin i) (i ∷ is) → Splits IsCounted cause_items due (i ∷ is)
 unfolding behind
 a_cause_with due (line.OpenPivots limit) is h g = record { value = Pivots limit; more = is; is = refl; holds = tt; rest = record { due_is = h; good = g.1 } }
@@ -165,13 +165,13 @@ a_cause_with due (line.OpenWide at op left right) is h g = record {
 }
 a_cause_with due i is h g = absurd (none-some _ h)
 
-pub a_cause : (due : List Part) (items : List Item) → Complete (ACause ∷ due) items → Splits IsCounted cause_items due items
+pub a_cause : (due : List Part) (items : List LineItem) → Complete (ACause ∷ due) items → Splits IsCounted cause_items due items
 unfolding behind
 a_cause due [] c = absurd (not_end c.due_is)
 a_cause due (i ∷ is) c = a_cause_with due i is c.due_is c.good
 
 -- a verdict
-pub a_verdict : (due : List Part) (items : List Item) → Complete (AVerdict ∷ due) items → Splits IsVerdictCounted verdict_items due items
+pub a_verdict : (due : List Part) (items : List LineItem) → Complete (AVerdict ∷ due) items → Splits IsVerdictCounted verdict_items due items
 unfolding behind
 a_verdict due [] c = absurd (not_end c.due_is)
 a_verdict due (line.Consistent ∷ is) c =
@@ -188,10 +188,10 @@ a_verdict due (i ∷ is) c =
 abbrev pub IsSideOf : SideAnswer × List Event → Type 0
 IsSideOf s = IsSideCounted s.0
 
-abbrev pub items_of_side : Bool → SideAnswer × List Event → List Item
+abbrev pub items_of_side : Bool → SideAnswer × List Event → List LineItem
 items_of_side upper s = side_items upper s.0 s.1
 
-side_value : (upper : Bool) (q : Ratio) (due : List Part) (is : List Item) → IsReducedWithin (2 ^ 90) q → IsRatioWithin (2 ^ 90) q
+side_value : (upper : Bool) (q : Ratio) (due : List Part) (is : List LineItem) → IsReducedWithin (2 ^ 90) q → IsRatioWithin (2 ^ 90) q
     → Complete (AModel ∷ ADual ∷ ATrace ∷ due) is → Splits IsSideOf (items_of_side upper) due (line.Bound upper q ∷ is)
 side_value upper q due is p w c =
     let m = a_model (ADual ∷ ATrace ∷ due) is c in
@@ -206,7 +206,7 @@ side_value upper q due is p w c =
       rest = t.rest;
     }
 
-side_open : (upper : Bool) (due : List Part) (is : List Item) → Complete (ACause ∷ ATrace ∷ due) is → Splits IsSideOf (items_of_side upper) due (line.OpenSide upper ∷ is)
+side_open : (upper : Bool) (due : List Part) (is : List LineItem) → Complete (ACause ∷ ATrace ∷ due) is → Splits IsSideOf (items_of_side upper) due (line.OpenSide upper ∷ is)
 side_open upper due is c =
     let o = a_cause (ATrace ∷ due) is c in
     let t = a_trace due o.more o.rest in record {
@@ -217,7 +217,7 @@ side_open upper due is c =
       rest = t.rest;
     }
 
-pub a_side : (upper : Bool) (due : List Part) (items : List Item) → Complete (ASide upper ∷ due) items → Splits IsSideOf (items_of_side upper) due items
+pub a_side : (upper : Bool) (due : List Part) (items : List LineItem) → Complete (ASide upper ∷ due) items → Splits IsSideOf (items_of_side upper) due items
 unfolding behind
 a_side upper due [] c = absurd (not_end c.due_is)
 a_side false due (line.Bound false q ∷ is) c = side_value false q due is c.good.0.0.1 c.good.0.1 (record { due_is = c.due_is; good = c.good.1 })
@@ -231,10 +231,10 @@ a_side true due (i ∷ is) c = absurd (none-some _ c.due_is)
 abbrev pub IsPartCounted : QueryPart → Type 0
 IsPartCounted p = IsQueryCounted p.answer
 
-abbrev pub items_of_part : QueryPart → List Item
+abbrev pub items_of_part : QueryPart → List LineItem
 items_of_part p = query_items p.answer p.first
 
-pub an_answer : (due : List Part) (items : List Item) → Complete (AnAnswer ∷ due) items → Splits IsPartCounted items_of_part due items
+pub an_answer : (due : List Part) (items : List LineItem) → Complete (AnAnswer ∷ due) items → Splits IsPartCounted items_of_part due items
 unfolding behind
 an_answer due [] c = absurd (not_end c.due_is)
 an_answer due (line.Bounds ∷ is) c =
@@ -269,15 +269,15 @@ an_answer due (i ∷ is) c =
     }
 
 -- parts from a number on, and the end
-pub record IsParts (j : ℕ) (items : List Item) : Type 0 where
+pub record IsParts (j : ℕ) (items : List LineItem) : Type 0 where
   pub parts : List QueryPart
   pub are : items ≡ part_items j parts ++ line.End ∷ []
   pub counted : ArePartsCounted parts
 
-more_is_shorter : (items xs more : List Item) (n : ℕ) → items ≡ xs ++ more → length items ≤ n → length more ≤ n
+more_is_shorter : (items xs more : List LineItem) (n : ℕ) → items ≡ xs ++ more → length items ≤ n → length more ≤ n
 more_is_shorter items xs more n e h = omega (arith, h, ap length e, length-append xs more)
 
-pub some_parts : (n j : ℕ) (items : List Item) → length items ≤ n → Complete (AQuery j ∷ []) items → IsParts j items
+pub some_parts : (n j : ℕ) (items : List LineItem) → length items ≤ n → Complete (AQuery j ∷ []) items → IsParts j items
 unfolding behind
 some_parts n j [] h c = absurd (not_end c.due_is)
 some_parts n j (line.End ∷ []) h c = record { parts = []; are = refl; counted = tt }
@@ -285,7 +285,7 @@ some_parts n j (line.End ∷ i ∷ is) h c = absurd (none-some _ c.due_is)
 some_parts zero j (line.Query number ∷ is) h c = absurd (omega (arith, h))
 some_parts (suc n) j (line.Query number ∷ is) h c = by (number == j) refl (λ k more g d. some_parts n k more g d) c.due_is
   where
-    by : (t : Bool) → (number == j) ≡ t → ((k : ℕ) (more : List Item) → length more ≤ n → Complete (AQuery k ∷ []) more → IsParts k more) → and_then (if t then Some (AnAnswer ∷ AQuery (suc j) ∷ []) else None) (λ more. due_behind more is) ≡ Some []
+    by : (t : Bool) → (number == j) ≡ t → ((k : ℕ) (more : List LineItem) → length more ≤ n → Complete (AQuery k ∷ []) more → IsParts k more) → and_then (if t then Some (AnAnswer ∷ AQuery (suc j) ∷ []) else None) (λ more. due_behind more is) ≡ Some []
         → IsParts j (line.Query number ∷ is)
     by true e again d =
         let a = an_answer (AQuery (suc j) ∷ []) is (record { due_is = d; good = c.good.1 }) in
@@ -300,12 +300,12 @@ some_parts (suc n) j (line.Query number ∷ is) h c = by (number == j) refl (λ 
 some_parts n j (i ∷ is) h c = absurd (none-some _ c.due_is)
 
 -- lines that are due up to the end, and within the limits, are those of an answer
-pub record IsAnswered (items : List Item) : Type 0 where
+pub record IsAnswered (items : List LineItem) : Type 0 where
   pub answer : Answer
   pub are : items ≡ answer_items answer
   pub counted : IsAnswerCounted answer
 
-pub an_end : (items : List Item) → Complete at_start items → IsAnswered items
+pub an_end : (items : List LineItem) → Complete at_start items → IsAnswered items
 unfolding behind answer_items
 an_end [] c = absurd (not_end c.due_is)
 an_end (line.Report ∷ is) c =

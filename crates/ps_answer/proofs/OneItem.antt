@@ -23,8 +23,8 @@ use Rattle.ps_log.specs.Told.{number_of, step_of, goal_of}
 use Rattle.ps_log.proofs.Spelled.{value_of_spelling, spelled-values}
 use Rattle.ps_log.proofs.LineShapes.{text-step, text-goal}
 use Rattle.ps_answer.specs.declared.item.Ratio.{Ratio}
-use Rattle.ps_answer.specs.declared.item.Item.{Item}
-use Rattle.ps_answer.specs.declared.item.Item.TheVariants as line
+use Rattle.ps_answer.specs.declared.item.LineItem.{LineItem}
+use Rattle.ps_answer.specs.declared.item.LineItem.TheVariants as line
 use Rattle.ps_answer.specs.Words.{Word, Number, Fraction, Column, SpellsWord, SpellWords, SpellsRatio, SpellsColumn, world_text, digit_of}
 use Rattle.ps_answer.specs.Items.{item_words, op_word, place_words, shown_word, count, IsProper, IsTold, IsSpelled, IsLine}
 
@@ -168,19 +168,19 @@ shown_is (b ∷ bs) (shown.Of (col.Home i)) s = rw (s.0, s.1.value) refl
 shown_is (b ∷ bs) (shown.Of (col.World n)) s = rw (s.0, s.1.value) refl
 
 -- the words behind `open wide`
-wide_end : List (List ℕ) → Place → Item
+wide_end : List (List ℕ) → Place → LineItem
 wide_end ws p = line.OpenWide p (op_in (at ws 0)) (ratio_in (at ws 1)) (ratio_in (at ws 2))
 
-wide_one : List (List ℕ) → (List ℕ → Place) → Item
+wide_one : List (List ℕ) → (List ℕ → Place) → LineItem
 wide_one [] f = line.End
 wide_one (a ∷ ws) f = wide_end ws (f a)
 
-wide_two : List (List ℕ) → (List ℕ → List ℕ → Place) → Item
+wide_two : List (List ℕ) → (List ℕ → List ℕ → Place) → LineItem
 wide_two [] f = line.End
 wide_two (a ∷ []) f = line.End
 wide_two (a ∷ b ∷ ws) f = wide_end ws (f a b)
 
-wide_in : List ℕ → List (List ℕ) → Item
+wide_in : List ℕ → List (List ℕ) → LineItem
 wide_in w ws = under (
     (codes "ratio", wide_one ws (λ a. place.Ratio (size_of a)))
     ∷ (codes "scale", wide_one ws (λ a. place.Scale (shown_in a)))
@@ -240,16 +240,16 @@ wide_is w ws (place.NewPlus i m) o l r s = ap (λ x. wide_in x ws) s.0
     ∙ two_are ws (λ a b. place.NewPlus (size_of a) (size_of b)) (count i) (count m) _ o l r (λ a b h k. ap (λ x. place.NewPlus x (size_of b)) (size_is a i h) ∙ ap (λ x. place.NewPlus i x) (size_is b m k)) s.1
 
 -- what a line says, where it says something
-open_in : List (List ℕ) → Item
+open_in : List (List ℕ) → LineItem
 open_in [] = line.End
 open_in (k ∷ []) = line.End
 open_in (k ∷ w ∷ ws) = under ((codes "pivots", line.OpenPivots (size_of w)) ∷ (codes "conflicts", line.OpenConflicts (size_of w)) ∷ []) (wide_in w ws) k
 
-side_in : Bool → List (List ℕ) → Item
+side_in : Bool → List (List ℕ) → LineItem
 side_in upper [] = line.OpenSide upper
 side_in upper (w ∷ ws) = line.Bound upper (ratio_in w)
 
-item_in : List ℕ → List ℕ → List (List ℕ) → Item
+item_in : List ℕ → List ℕ → List (List ℕ) → LineItem
 item_in text w ws = under (
     (codes "report", line.Report)
     ∷ (codes "consistent", line.Consistent)
@@ -287,7 +287,7 @@ no_place : {P : Type 0} (p : Place) (vs : List Word) → SpellWords [] (place_wo
 no_place (place.Ratio i) vs s = absurd s
 no_place p vs s = absurd s
 
-item_is : (text w : List ℕ) (ws : List (List ℕ)) (i : Item) → words_of text ≡ w ∷ ws → SpellWords (w ∷ ws) (item_words i) → IsTold i → item_in text w ws ≡ i
+item_is : (text w : List ℕ) (ws : List (List ℕ)) (i : LineItem) → words_of text ≡ w ∷ ws → SpellWords (w ∷ ws) (item_words i) → IsTold i → item_in text w ws ≡ i
 unfolding item_in open_in side_in
 item_is text w ws line.Report e s p = ap (λ x. item_in text x ws) s.0
 item_is text w ws line.Consistent e s p = ap (λ x. item_in text x ws) s.0
@@ -327,10 +327,10 @@ item_is text w (k ∷ []) (line.OpenWide at o l r) e s p = no_place at (op_word 
 item_is text w ws i e s p = wrong_length (w ∷ ws) (item_words i) s (λ n. omega (arith, n))
 
 -- a line says one thing
-pub one_spelled : (text : List ℕ) (i j : Item) → IsSpelled text i → IsSpelled text j → i ≡ j
+pub one_spelled : (text : List ℕ) (i j : LineItem) → IsSpelled text i → IsSpelled text j → i ≡ j
 one_spelled text i j a b = by (words_of text) refl a.words b.words
   where
-    none : {P : Type 0} (i : Item) → SpellWords [] (item_words i) → P
+    none : {P : Type 0} (i : LineItem) → SpellWords [] (item_words i) → P
     none line.Report s = absurd s
     none (line.OpenPivots limit) s = absurd s
     none i s = absurd s
@@ -339,13 +339,13 @@ one_spelled text i j a b = by (words_of text) refl a.words b.words
     by [] e s t = none i s
     by (w ∷ ws) e s t = sym (item_is text w ws i e s a.told) ∙ item_is text w ws j e t b.told
 
-told_of : (i : Item) → IsProper i → IsTold i
+told_of : (i : LineItem) → IsProper i → IsTold i
 told_of (line.StepLine s) p = p
 told_of (line.GoalLine g) p = p
 told_of i p = tt
 
-pub line_spelled : (text : List ℕ) (i : Item) → IsLine text i → IsSpelled text i
+pub line_spelled : (text : List ℕ) (i : LineItem) → IsLine text i → IsSpelled text i
 line_spelled text i l = record { words = l.words; told = told_of i l.proper }
 
-pub one_item : (text : List ℕ) (i j : Item) → IsLine text i → IsLine text j → i ≡ j
+pub one_item : (text : List ℕ) (i j : LineItem) → IsLine text i → IsLine text j → i ≡ j
 one_item text i j a b = one_spelled text i j (line_spelled text i a) (line_spelled text j b)

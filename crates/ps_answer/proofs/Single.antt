@@ -7,8 +7,8 @@ use Rattle.ps_io.specs.LineText.{lines_bytes}
 use Rattle.ps_log.specs.Spellings.{words_of}
 use Rattle.ps_log.specs.FirstLines.{IsOneLine, IsFirstLine}
 use Rattle.ps_log.proofs.StepShapes.{first_in, rest_in}
-use Rattle.ps_answer.specs.declared.item.Item.{Item}
-use Rattle.ps_answer.specs.declared.item.Item.TheVariants as line
+use Rattle.ps_answer.specs.declared.item.LineItem.{LineItem}
+use Rattle.ps_answer.specs.declared.item.LineItem.TheVariants as line
 use Rattle.ps_answer.specs.declared.answer.Answer.{Answer}
 use Rattle.ps_answer.specs.declared.error.LineKind.{LineKind}
 use Rattle.ps_answer.specs.declared.error.LineKind.TheVariants.{Truncated, BadLine, NotCanonical, TooLarge, MoreAfterEnd}
@@ -17,7 +17,7 @@ use Rattle.ps_answer.specs.Items.{IsLine, IsSpelled, IsWithin, IsProper, item_wo
 use Rattle.ps_answer.specs.Answers.{answer_items}
 use Rattle.ps_answer.specs.declared.part.Part.{Part}
 use Rattle.ps_answer.specs.declared.part.Part.TheVariants.{AReport, AVerdict, AModel, AnEntry, ADual, SomeRows, AStep, AGoal, ACause, ATrace, AnEvent, AnAnswer, ASide, AQuery}
-use Rattle.ps_answer.specs.Due.{first_words, behind, at_start, due_behind, and_then}
+use Rattle.ps_answer.specs.ExpectedParts.{first_words, behind, at_start, due_behind, and_then}
 use Rattle.ps_answer.specs.Faults.{AreLines, AreSpelled, BeginWith, IsText, IsReport, first_of, is_begun, IsFault, IsFirstFault}
 use Rattle.ps_answer.proofs.OneItem.{one_item, one_spelled, line_spelled}
 use Rattle.ps_answer.proofs.Told.{answer_told}
@@ -58,10 +58,10 @@ letters_of : List Word → List ℕ
 letters_of (Letters l ∷ ws) = l
 letters_of ws = []
 
-opening : Item → List ℕ
+opening : LineItem → List ℕ
 opening i = letters_of (item_words i)
 
-opening_is : (ws : List (List ℕ)) (i : Item) → SpellWords ws (item_words i) → first_of ws ≡ opening i
+opening_is : (ws : List (List ℕ)) (i : LineItem) → SpellWords ws (item_words i) → first_of ws ≡ opening i
 unfolding opening letters_of
 opening_is [] line.Report s = absurd s
 opening_is [] i s = absurd s
@@ -72,7 +72,7 @@ opening_is (w ∷ ws) (line.OpenSide false) s = s.0
 opening_is (w ∷ ws) (line.OpenSide true) s = s.0
 opening_is (w ∷ ws) i s = s.0
 
-opening_due : (p : Part) (i : Item) (due next : List Part) → behind p i due ≡ Some next → list_any (λ w. bytes_eq (opening i) w) (first_words p) ≡ true
+opening_due : (p : Part) (i : LineItem) (due next : List Part) → behind p i due ≡ Some next → list_any (λ w. bytes_eq (opening i) w) (first_words p) ≡ true
 unfolding behind opening letters_of
 opening_due AReport line.Report due next e = refl
 opening_due AVerdict line.Consistent due next e = refl
@@ -105,7 +105,7 @@ opening_due (AQuery j) (line.Query n) due next e = refl
 opening_due (AQuery j) line.End due next e = refl
 opening_due p i due next e = absurd (none-some next e)
 
-pub begun : (p : Part) (i : Item) (due next : List Part) (text : List ℕ) → IsLine text i → behind p i due ≡ Some next → is_begun p text ≡ true
+pub begun : (p : Part) (i : LineItem) (due next : List Part) (text : List ℕ) → IsLine text i → behind p i due ≡ Some next → is_begun p text ≡ true
 begun p i due next text l e =
     ap (λ b. list_any (λ w. bytes_eq b w) (first_words p)) (opening_is (words_of text) i l.words) ∙ opening_due p i due next e
 
@@ -116,7 +116,7 @@ first_text rest l m r q f g = (one_cut l r m q f.whole g.whole (sym f.is ∙ g.i
 pub record Passes (p : Part) (due : List Part) (rest : List ℕ) : Type 0 where
   pub text : List ℕ
   pub more : List ℕ
-  pub item : Item
+  pub item : LineItem
   pub next : List Part
   pub first : IsFirstLine rest text more
   pub says : IsLine text item
@@ -175,12 +175,12 @@ fault_halts [] rest k f = tt
 fault_halts (p ∷ due) rest k f = passes_no_fault p due rest k f
 
 -- a line that is due, and what is due behind it
-pub record IsNext (p : Part) (i : Item) (due : List Part) (is : List Item) (e : List Part) : Type 0 where
+pub record IsNext (p : Part) (i : LineItem) (due : List Part) (is : List LineItem) (e : List Part) : Type 0 where
   pub next : List Part
   pub fits : behind p i due ≡ Some next
   pub rest : due_behind next is ≡ Some e
 
-pub next_of : (p : Part) (i : Item) (due : List Part) (is : List Item) (e : List Part) → due_behind (p ∷ due) (i ∷ is) ≡ Some e → IsNext p i due is e
+pub next_of : (p : Part) (i : LineItem) (due : List Part) (is : List LineItem) (e : List Part) → due_behind (p ∷ due) (i ∷ is) ≡ Some e → IsNext p i due is e
 next_of p i due is e h = by (behind p i due) refl h
   where
     by : (r : Option (List Part)) → behind p i due ≡ r → and_then r (λ more. due_behind more is) ≡ Some e → IsNext p i due is e
@@ -188,7 +188,7 @@ next_of p i due is e h = by (behind p i due) refl h
     by (Some next) b h = record { next = next; fits = b; rest = h }
 
 -- lines before the first one that doesn't pass are the same
-agree : (us bs : List Item) (ls ms : List (List ℕ)) (x y : List ℕ) (due d e : List Part)
+agree : (us bs : List LineItem) (ls ms : List (List ℕ)) (x y : List ℕ) (due d e : List Part)
     → lines_bytes false ls ++ x ≡ lines_bytes false ms ++ y → AllByRecursion IsOneLine ls → AllByRecursion IsOneLine ms
     → AreLines ls us → AreLines ms bs → AllByRecursion IsWithin us → AllByRecursion IsWithin bs
     → due_behind due us ≡ Some d → due_behind due bs ≡ Some e → Halts d x → Halts e y → (us ≡ bs) × (x ≡ y)
@@ -239,7 +239,7 @@ agree (a ∷ us) (b ∷ bs) (l ∷ ls) (m ∷ ms) x y (p ∷ due) d e eq wl wm s
     (ap (λ z. z ∷ us) o ∙ ap (λ z. b ∷ z) r.0, r.1)
 
 -- whole texts, with numbers of any size
-agree_whole : (us bs : List Item) (ls ms : List (List ℕ)) → lines_bytes false ls ++ [] ≡ lines_bytes false ms ++ [] → AllByRecursion IsOneLine ls → AllByRecursion IsOneLine ms
+agree_whole : (us bs : List LineItem) (ls ms : List (List ℕ)) → lines_bytes false ls ++ [] ≡ lines_bytes false ms ++ [] → AllByRecursion IsOneLine ls → AllByRecursion IsOneLine ms
     → AreSpelled ls us → AreSpelled ms bs → us ≡ bs
 agree_whole [] [] ls ms eq wl wm sl sm = refl
 agree_whole [] (b ∷ bs) (l ∷ ls) ms eq wl wm sl sm = absurd sl
@@ -291,14 +291,14 @@ one_fault bytes k l m n f g =
     let d : f.due ≡ g.due = same_Some f.due g.due (sym f.due_is ∙ ap (due_behind at_start) s.0 ∙ g.due_is) in
     (fault_same g.due g.rest k l (subst (λ z. IsFault z g.rest k) d (subst (λ z. IsFault f.due z k) s.1 f.fault)) g.fault, f.number ∙ ap (λ is. length is + 1) s.0 ∙ sym g.number)
 
-all_good : (ls : List (List ℕ)) (is : List Item) → AreLines ls is → AllByRecursion IsWithin is → AllByRecursion (λ i. IsProper i × IsWithin i) is
+all_good : (ls : List (List ℕ)) (is : List LineItem) → AreLines ls is → AllByRecursion IsWithin is → AllByRecursion (λ i. IsProper i × IsWithin i) is
 all_good [] [] s w = tt
 all_good [] (i ∷ is) s w = absurd s
 all_good (l ∷ ls) [] s w = absurd s
 all_good (l ∷ ls) (i ∷ is) s w = ((s.0.proper, w.0), all_good ls is s.1 w.1)
 
 -- whole lines that are due up to the end, and within the limits, are the text of an answer
-pub complete_is_report : (bytes : List ℕ) (is : List Item) → BeginWith bytes is [] → AllByRecursion IsWithin is → due_behind at_start is ≡ Some [] → (a : Answer) × IsReport bytes a
+pub complete_is_report : (bytes : List ℕ) (is : List LineItem) → BeginWith bytes is [] → AllByRecursion IsWithin is → due_behind at_start is ≡ Some [] → (a : Answer) × IsReport bytes a
 complete_is_report bytes is l w d =
     let c = an_end is (record { due_is = d; good = all_good l.lines is l.say w }) in (
       c.answer,
@@ -309,7 +309,7 @@ complete_is_report bytes is l w d =
       },
     )
 
-all_spelled : (ls : List (List ℕ)) (is : List Item) → AreLines ls is → AreSpelled ls is
+all_spelled : (ls : List (List ℕ)) (is : List LineItem) → AreLines ls is → AreSpelled ls is
 all_spelled [] [] s = tt
 all_spelled [] (i ∷ is) s = absurd s
 all_spelled (l ∷ ls) [] s = absurd s

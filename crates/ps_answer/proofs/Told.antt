@@ -5,8 +5,8 @@ use Rattle.ps_rational.specs.Rational.{Rational, rational_path}
 use Rattle.ps_pool.specs.declared.event.Event.{Event}
 use Rattle.ps_pool.specs.declared.event.Event.TheVariants.{Pivot, Priced}
 use Rattle.ps_table.specs.declared.place.WideAt.{WideAt}
-use Rattle.ps_answer.specs.declared.item.Item.{Item}
-use Rattle.ps_answer.specs.declared.item.Item.TheVariants as line
+use Rattle.ps_answer.specs.declared.item.LineItem.{LineItem}
+use Rattle.ps_answer.specs.declared.item.LineItem.TheVariants as line
 use Rattle.ps_answer.specs.declared.answer.Weighted.{Weighted}
 use Rattle.ps_answer.specs.declared.answer.Model.{Model}
 use Rattle.ps_answer.specs.declared.answer.Dual.{Dual}
@@ -22,19 +22,19 @@ use Rattle.ps_answer.specs.declared.answer.QueryPart.{QueryPart}
 use Rattle.ps_answer.specs.declared.answer.Answer.{Answer}
 use Rattle.ps_answer.specs.Answers.{ratio_of, entry_item, event_item, model_items, dual_items, trace_items, cause_items, verdict_items, side_items, query_items, part_items, answer_items, IsCounted, IsVerdictCounted, IsSideCounted, IsQueryCounted, ArePartsCounted, IsAnswerCounted}
 
-tail_of : List Item → List Item
+tail_of : List LineItem → List LineItem
 tail_of [] = []
 tail_of (x ∷ xs) = xs
 
-head : (x y : Item) (xs ys : List Item) → x ∷ xs ≡ y ∷ ys → x ≡ y
+head : (x y : LineItem) (xs ys : List LineItem) → x ∷ xs ≡ y ∷ ys → x ≡ y
 head x y xs ys e = ap (λ l. get_or l 0 x) e
 
-tail : (x y : Item) (xs ys : List Item) → x ∷ xs ≡ y ∷ ys → xs ≡ ys
+tail : (x y : LineItem) (xs ys : List LineItem) → x ∷ xs ≡ y ∷ ys → xs ≡ ys
 unfolding tail_of
 tail x y xs ys e = ap tail_of e
 
 -- what kind of line comes first
-abbrev pub kind_of : Item → ℕ
+abbrev pub kind_of : LineItem → ℕ
 kind_of line.Consistent = 1
 kind_of line.Inconsistent = 2
 kind_of (line.OpenPivots limit) = 3
@@ -48,16 +48,16 @@ kind_of (line.Query number) = 10
 kind_of line.End = 11
 kind_of i = 0
 
-abbrev pub first_kind : List Item → ℕ
+abbrev pub first_kind : List LineItem → ℕ
 first_kind [] = 0
 first_kind (i ∷ is) = kind_of i
 
 -- values that are told by lines before others
-abbrev pub Cancel : {X : Type 0} → (x y : X) (xs ys : List Item) → Type 0
+abbrev pub Cancel : {X : Type 0} → (x y : X) (xs ys : List LineItem) → Type 0
 Cancel x y xs ys = (x ≡ y) × (xs ≡ ys)
 
 -- as many lines, each of which tells its value
-each : {X : Type 0} (f : X → Item) → ((x y : X) → f x ≡ f y → x ≡ y) → (us vs : List X) (xs ys : List Item) → length us ≡ length vs → map f us ++ xs ≡ map f vs ++ ys → Cancel us vs xs ys
+each : {X : Type 0} (f : X → LineItem) → ((x y : X) → f x ≡ f y → x ≡ y) → (us vs : List X) (xs ys : List LineItem) → length us ≡ length vs → map f us ++ xs ≡ map f vs ++ ys → Cancel us vs xs ys
 each f told [] [] xs ys n e = (refl, e)
 each f told [] (v ∷ vs) xs ys n e = absurd (omega (arith, n))
 each f told (u ∷ us) [] xs ys n e = absurd (omega (arith, n))
@@ -80,7 +80,7 @@ event_told (Priced w) (Priced v) e = cc
 event_told (Pivot c i) (Priced v) e = cc
 event_told (Priced w) (Pivot d j) e = cc
 
-model_told : (m n : Model) (xs ys : List Item) → model_items m ++ xs ≡ model_items n ++ ys → Cancel m n xs ys
+model_told : (m n : Model) (xs ys : List LineItem) → model_items m ++ xs ≡ model_items n ++ ys → Cancel m n xs ys
 model_told m n xs ys e =
     let h : line.ModelHead m.total (length m.worlds) ≡ line.ModelHead n.total (length n.worlds) = head _ _ (map entry_item m.worlds ++ xs) (map entry_item n.worlds ++ ys) e in
     let t : m.total ≡ n.total = cc in
@@ -88,10 +88,10 @@ model_told m n xs ys e =
     let r = each entry_item entry_told m.worlds n.worlds xs ys k (tail _ _ (map entry_item m.worlds ++ xs) (map entry_item n.worlds ++ ys) e) in
     (ap (λ z. record { total = z; worlds = m.worlds }) t ∙ ap (λ w. record { total = n.total; worlds = w }) r.0, r.1)
 
-dual_told : (d f : Dual) (xs ys : List Item) → dual_items d ++ xs ≡ dual_items f ++ ys → Cancel d f xs ys
+dual_told : (d f : Dual) (xs ys : List LineItem) → dual_items d ++ xs ≡ dual_items f ++ ys → Cancel d f xs ys
 dual_told d f xs ys e =
-    let d_rest : List Item = map line.StepLine d.steps ++ xs in
-    let f_rest : List Item = map line.StepLine f.steps ++ ys in
+    let d_rest : List LineItem = map line.StepLine d.steps ++ xs in
+    let f_rest : List LineItem = map line.StepLine f.steps ++ ys in
     let h : line.DualHead d.top d.head (length d.steps) ≡ line.DualHead f.top f.head (length f.steps) = head _ _ (line.Rows d.rows ∷ d_rest) (line.Rows f.rows ∷ f_rest) e in
     let u : line.Rows d.rows ∷ d_rest ≡ line.Rows f.rows ∷ f_rest = tail _ _ (line.Rows d.rows ∷ d_rest) (line.Rows f.rows ∷ f_rest) e in
     let g : line.Rows d.rows ≡ line.Rows f.rows = head _ _ d_rest f_rest u in
@@ -107,7 +107,7 @@ dual_told d f xs ys e =
       r.1,
     )
 
-trace_told : (s t : List Event) (xs ys : List Item) → trace_items s ++ xs ≡ trace_items t ++ ys → Cancel s t xs ys
+trace_told : (s t : List Event) (xs ys : List LineItem) → trace_items s ++ xs ≡ trace_items t ++ ys → Cancel s t xs ys
 trace_told s t xs ys e =
     let h : line.TraceHead (length s) ≡ line.TraceHead (length t) = head _ _ (map event_item s ++ xs) (map event_item t ++ ys) e in
     let k : length s ≡ length t = cc in
@@ -127,7 +127,7 @@ wide_told v w e =
     ∙ ap (λ z. record { place = w.place; op = w.op; left = z; right = v.right }) l
     ∙ ap (λ z. record { place = w.place; op = w.op; left = w.left; right = z }) r
 
-cause_told : (c d : Cause) (xs ys : List Item) → IsCounted c → IsCounted d → cause_items c ++ xs ≡ cause_items d ++ ys → Cancel c d xs ys
+cause_told : (c d : Cause) (xs ys : List LineItem) → IsCounted c → IsCounted d → cause_items c ++ xs ≡ cause_items d ++ ys → Cancel c d xs ys
 cause_told (Pivots m) (Pivots n) xs ys g h e =
     let u : line.OpenPivots m ≡ line.OpenPivots n = head _ _ xs ys e in
     let k : m ≡ n = cc in
@@ -135,8 +135,8 @@ cause_told (Pivots m) (Pivots n) xs ys g h e =
 cause_told (Wide v) (Wide w) xs ys g h e =
     (ap Wide (wide_told v w (head _ _ xs ys e)), tail _ _ xs ys e)
 cause_told (Conflicts m b s) (Conflicts n c t) xs ys g h e =
-    let s_rest : List Item = map line.StepLine s ++ xs in
-    let t_rest : List Item = map line.StepLine t ++ ys in
+    let s_rest : List LineItem = map line.StepLine s ++ xs in
+    let t_rest : List LineItem = map line.StepLine t ++ ys in
     let f : line.OpenConflicts m ≡ line.OpenConflicts n = head _ _ (line.GoalLine b ∷ s_rest) (line.GoalLine c ∷ t_rest) e in
     let u : line.GoalLine b ∷ s_rest ≡ line.GoalLine c ∷ t_rest = tail _ _ (line.GoalLine b ∷ s_rest) (line.GoalLine c ∷ t_rest) e in
     let v : line.GoalLine b ≡ line.GoalLine c = head _ _ s_rest t_rest u in
@@ -152,16 +152,16 @@ cause_told (Wide v) (Pivots n) xs ys g h e = absurd (omega (arith, ap first_kind
 cause_told (Wide v) (Conflicts n c t) xs ys g h e = absurd (omega (arith, ap first_kind e))
 
 -- a cause begins with a line of its own kinds
-cause_kind : (c : Cause) (xs : List Item) → (3 ≤ first_kind (cause_items c ++ xs)) × (first_kind (cause_items c ++ xs) ≤ 5)
+cause_kind : (c : Cause) (xs : List LineItem) → (3 ≤ first_kind (cause_items c ++ xs)) × (first_kind (cause_items c ++ xs) ≤ 5)
 cause_kind (Pivots m) xs = (omega arith, omega arith)
 cause_kind (Conflicts m b s) xs = (omega arith, omega arith)
 cause_kind (Wide v) xs = (omega arith, omega arith)
 
-no_cause : {P : Type 0} (c : Cause) (xs ys : List Item) → (first_kind ys < 3) ⊎ (5 < first_kind ys) → cause_items c ++ xs ≡ ys → P
+no_cause : {P : Type 0} (c : Cause) (xs ys : List LineItem) → (first_kind ys < 3) ⊎ (5 < first_kind ys) → cause_items c ++ xs ≡ ys → P
 no_cause c xs ys (inl l) e = absurd (omega (arith, ap first_kind e, (cause_kind c xs).0, l))
 no_cause c xs ys (inr l) e = absurd (omega (arith, ap first_kind e, (cause_kind c xs).1, l))
 
-verdict_told : (v w : Verdict) (xs ys : List Item) → IsVerdictCounted v → IsVerdictCounted w → verdict_items v ++ xs ≡ verdict_items w ++ ys → Cancel v w xs ys
+verdict_told : (v w : Verdict) (xs ys : List LineItem) → IsVerdictCounted v → IsVerdictCounted w → verdict_items v ++ xs ≡ verdict_items w ++ ys → Cancel v w xs ys
 verdict_told (Consistent m) (Consistent n) xs ys g h e = let r = model_told m n xs ys (tail _ _ (model_items m ++ xs) (model_items n ++ ys) e) in (ap Consistent r.0, r.1)
 verdict_told (Inconsistent m) (Inconsistent n) xs ys g h e = let r = dual_told m n xs ys (tail _ _ (dual_items m ++ xs) (dual_items n ++ ys) e) in (ap Inconsistent r.0, r.1)
 verdict_told (Open c) (Open d) xs ys g h e = let r = cause_told c d xs ys g h e in (ap Open r.0, r.1)
@@ -173,11 +173,11 @@ verdict_told (Consistent m) (Open d) xs ys g h e = no_cause d ys _ (inl (omega a
 verdict_told (Inconsistent m) (Open d) xs ys g h e = no_cause d ys _ (inl (omega arith)) (sym e)
 
 -- a side and its trace
-side_told : (upper : Bool) (a b : SideAnswer) (s t : List Event) (xs ys : List Item) → IsSideCounted a → IsSideCounted b → side_items upper a s ++ xs ≡ side_items upper b t ++ ys
+side_told : (upper : Bool) (a b : SideAnswer) (s t : List Event) (xs ys : List LineItem) → IsSideCounted a → IsSideCounted b → side_items upper a s ++ xs ≡ side_items upper b t ++ ys
     → (a ≡ b) × (s ≡ t) × (xs ≡ ys)
 side_told upper (side.Bound p m d) (side.Bound q n f) s t xs ys g h e =
-    let l : List Item = model_items m ++ (dual_items d ++ trace_items s) ++ xs in
-    let r : List Item = model_items n ++ (dual_items f ++ trace_items t) ++ ys in
+    let l : List LineItem = model_items m ++ (dual_items d ++ trace_items s) ++ xs in
+    let r : List LineItem = model_items n ++ (dual_items f ++ trace_items t) ++ ys in
     let v : line.Bound upper (ratio_of p) ≡ line.Bound upper (ratio_of q) = head _ _ l r e in
     let w : ratio_of p ≡ ratio_of q = cc in
     let a = model_told m n (dual_items d ++ trace_items s ++ xs) (dual_items f ++ trace_items t ++ ys)
@@ -187,8 +187,8 @@ side_told upper (side.Bound p m d) (side.Bound q n f) s t xs ys g h e =
     let c = trace_told s t xs ys b.1 in
     (ap (λ z. side.Bound z m d) (ratio_told p q w) ∙ ap (λ z. side.Bound q z d) a.0 ∙ ap (λ z. side.Bound q n z) b.0, c.0, c.1)
 side_told upper (side.Open c) (side.Open d) s t xs ys g h e =
-    let l : List Item = cause_items c ++ trace_items s ++ xs in
-    let r : List Item = cause_items d ++ trace_items t ++ ys in
+    let l : List LineItem = cause_items c ++ trace_items s ++ xs in
+    let r : List LineItem = cause_items d ++ trace_items t ++ ys in
     let a = cause_told c d (trace_items s ++ xs) (trace_items t ++ ys) g h
     (sym (append_assoc (cause_items c) (trace_items s) xs) ∙ tail _ _ l r e ∙ append_assoc (cause_items d) (trace_items t) ys) in
     let b = trace_told s t xs ys a.1 in
@@ -197,11 +197,11 @@ side_told upper (side.Bound p m d) (side.Open c) s t xs ys g h e = absurd (omega
 side_told upper (side.Open c) (side.Bound p m d) s t xs ys g h e = absurd (omega (arith, ap first_kind e))
 
 -- the answer to a query, and the trace of its first phase
-query_told : (a b : QueryAnswer) (s t : List Event) (xs ys : List Item) → IsQueryCounted a → IsQueryCounted b → query_items a s ++ xs ≡ query_items b t ++ ys
+query_told : (a b : QueryAnswer) (s t : List Event) (xs ys : List LineItem) → IsQueryCounted a → IsQueryCounted b → query_items a s ++ xs ≡ query_items b t ++ ys
     → (a ≡ b) × (s ≡ t) × (xs ≡ ys)
 query_told (query.Bounds l lt u ut) (query.Bounds m mt v vt) s t xs ys g h e =
-    let a_sides : List Item = side_items false l lt ++ side_items true u ut in
-    let b_sides : List Item = side_items false m mt ++ side_items true v vt in
+    let a_sides : List LineItem = side_items false l lt ++ side_items true u ut in
+    let b_sides : List LineItem = side_items false m mt ++ side_items true v vt in
     let a = trace_told s t (a_sides ++ xs) (b_sides ++ ys)
     (sym (append_assoc (trace_items s) a_sides xs) ∙ tail _ _ (trace_items s ++ a_sides ++ xs) (trace_items t ++ b_sides ++ ys) e ∙ append_assoc (trace_items t) b_sides ys) in
     let b = side_told false l m lt mt (side_items true u ut ++ xs) (side_items true v vt ++ ys) g.0 h.0
@@ -235,8 +235,8 @@ parts_told j [] [] g h e = refl
 parts_told j [] (q ∷ qs) g h e = absurd (omega (arith, ap first_kind e))
 parts_told j (p ∷ ps) [] g h e = absurd (omega (arith, ap first_kind e))
 parts_told j (p ∷ ps) (q ∷ qs) g h e =
-    let p_rest : List Item = part_items (suc j) ps ++ line.End ∷ [] in
-    let q_rest : List Item = part_items (suc j) qs ++ line.End ∷ [] in
+    let p_rest : List LineItem = part_items (suc j) ps ++ line.End ∷ [] in
+    let q_rest : List LineItem = part_items (suc j) qs ++ line.End ∷ [] in
     let u : query_items p.answer p.first ++ p_rest ≡ query_items q.answer q.first ++ q_rest =
     sym (append_assoc (query_items p.answer p.first) (part_items (suc j) ps) (line.End ∷ []))
     ∙ tail (line.Query j) (line.Query j) (query_items p.answer p.first ++ part_items (suc j) ps ++ line.End ∷ []) (query_items q.answer q.first ++ part_items (suc j) qs ++ line.End ∷ []) e
@@ -250,8 +250,8 @@ parts_told j (p ∷ ps) (q ∷ qs) g h e =
 pub answer_told : (a b : Answer) → IsAnswerCounted a → IsAnswerCounted b → answer_items a ≡ answer_items b → a ≡ b
 unfolding answer_items
 answer_told a b g h e =
-    let a_parts : List Item = part_items 1 a.parts ++ line.End ∷ [] in
-    let b_parts : List Item = part_items 1 b.parts ++ line.End ∷ [] in
+    let a_parts : List LineItem = part_items 1 a.parts ++ line.End ∷ [] in
+    let b_parts : List LineItem = part_items 1 b.parts ++ line.End ∷ [] in
     let v = verdict_told a.verdict b.verdict (trace_items a.first ++ a_parts) (trace_items b.first ++ b_parts) g.verdict h.verdict
     (tail line.Report line.Report (verdict_items a.verdict ++ (trace_items a.first ++ a_parts)) (verdict_items b.verdict ++ (trace_items b.first ++ b_parts)) e) in
     let t = trace_told a.first b.first a_parts b_parts v.1 in

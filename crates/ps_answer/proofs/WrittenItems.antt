@@ -15,8 +15,8 @@ use Rattle.ps_log.specs.Texts.{step_numbers, goal_numbers}
 use Rattle.ps_log.proofs.Reading.{Small, step_small, goal_small}
 use Rattle.ps_log.proofs.StepShapes.{first_in, rest_in}
 use Rattle.ps_answer.specs.declared.item.Ratio.{Ratio}
-use Rattle.ps_answer.specs.declared.item.Item.{Item}
-use Rattle.ps_answer.specs.declared.item.Item.TheVariants as line
+use Rattle.ps_answer.specs.declared.item.LineItem.{LineItem}
+use Rattle.ps_answer.specs.declared.item.LineItem.TheVariants as line
 use Rattle.ps_answer.specs.Words.{Word, Letters, Number, Fraction, Column, Truths, SpellWords}
 use Rattle.ps_log.specs.Spellings.{words_of}
 use Rattle.ps_log.specs.FirstLines.{IsOneLine}
@@ -78,7 +78,7 @@ rows_small [] h = tt
 rows_small (z ∷ zs) h = (number_small z (first_in IsPrintable z zs h), rows_small zs (rest_in IsPrintable z zs h))
 
 -- the words of the line that is written of an item within the limits, and that it is one line
-written_words : (i : Item) → IsProper i → IsWithin i → SpellWords (words_of (item_line i)) (item_words i) × IsOneLine (item_line i)
+written_words : (i : LineItem) → IsProper i → IsWithin i → SpellWords (words_of (item_line i)) (item_words i) × IsOneLine (item_line i)
 written_words line.Report p w = written_both (codes "report") (count 1 ∷ []) (omega arith, refl) (omega arith, tt)
 written_words line.Consistent p w = written_both (codes "consistent") [] (omega arith, refl) tt
 written_words line.Inconsistent p w = written_both (codes "inconsistent") [] (omega arith, refl) tt
@@ -104,21 +104,21 @@ written_words (line.OpenSide true) p w = written_both (codes "upper") [] (omega 
 written_words line.End p w = written_both (codes "end") [] (omega arith, refl) tt
 
 -- the line that is written of an item within the limits says it
-pub written_item : (i : Item) → IsProper i → IsWithin i → IsLine (item_line i) i
+pub written_item : (i : LineItem) → IsProper i → IsWithin i → IsLine (item_line i) i
 written_item i p w = record { words = (written_words i p w).0; proper = p }
 
-pub written_one_line : (i : Item) → IsProper i → IsWithin i → IsOneLine (item_line i)
+pub written_one_line : (i : LineItem) → IsProper i → IsWithin i → IsOneLine (item_line i)
 written_one_line i p w = (written_words i p w).1
 
-whole_all : (is : List Item) → AllByRecursion (λ i. IsProper i × IsWithin i) is → AllByRecursion IsOneLine (map item_line is)
+whole_all : (is : List LineItem) → AllByRecursion (λ i. IsProper i × IsWithin i) is → AllByRecursion IsOneLine (map item_line is)
 whole_all [] h = tt
 whole_all (i ∷ is) h = (written_one_line i h.0.0 h.0.1, whole_all is h.1)
 
-say_all : (is : List Item) → AllByRecursion (λ i. IsProper i × IsWithin i) is → AreLines (map item_line is) is
+say_all : (is : List LineItem) → AllByRecursion (λ i. IsProper i × IsWithin i) is → AreLines (map item_line is) is
 say_all [] h = tt
 say_all (i ∷ is) h = (written_item i h.0.0 h.0.1, say_all is h.1)
 
-within_all : (is : List Item) → AllByRecursion (λ i. IsProper i × IsWithin i) is → AllByRecursion IsWithin is
+within_all : (is : List LineItem) → AllByRecursion (λ i. IsProper i × IsWithin i) is → AllByRecursion IsWithin is
 within_all [] h = tt
 within_all (i ∷ is) h = (h.0.1, within_all is h.1)
 

@@ -4,31 +4,31 @@ use Rattle.std.specs.List.{AllByRecursion, list_any}
 use Rattle.ps_io.specs.LineText.{lines_bytes}
 use Rattle.ps_log.specs.Spellings.{words_of}
 use Rattle.ps_log.specs.FirstLines.{IsOneLine, IsFirstLine}
-use Rattle.ps_answer.specs.declared.item.Item.{Item}
+use Rattle.ps_answer.specs.declared.item.LineItem.{LineItem}
 use Rattle.ps_answer.specs.declared.answer.Answer.{Answer}
 use Rattle.ps_answer.specs.declared.error.LineKind.{LineKind}
 use Rattle.ps_answer.specs.declared.error.LineKind.TheVariants.{Truncated, BadLine, NotCanonical, TooLarge, MoreAfterEnd}
 use Rattle.ps_answer.specs.Items.{IsLine, IsSpelled, IsWithin}
 use Rattle.ps_answer.specs.Answers.{answer_items, IsAnswerCounted}
 use Rattle.ps_answer.specs.declared.part.Part.{Part}
-use Rattle.ps_answer.specs.Due.{first_words, behind, at_start, due_behind}
+use Rattle.ps_answer.specs.ExpectedParts.{first_words, behind, at_start, due_behind}
 
 -- lines say these things, one each
-abbrev pub AreLines : List (List ℕ) → List Item → Type 0
+abbrev pub AreLines : List (List ℕ) → List LineItem → Type 0
 AreLines [] [] = ⊤
 AreLines [] (i ∷ is) = ⊥
 AreLines (l ∷ ls) [] = ⊥
 AreLines (l ∷ ls) (i ∷ is) = IsLine l i × AreLines ls is
 
 -- bytes begin with whole lines that say these things, and this is the rest
-pub record BeginWith (bytes : List ℕ) (items : List Item) (rest : List ℕ) : Type 0 where
+pub record BeginWith (bytes : List ℕ) (items : List LineItem) (rest : List ℕ) : Type 0 where
   pub lines : List (List ℕ)
   pub are : bytes ≡ lines_bytes false lines ++ rest
   pub whole : AllByRecursion IsOneLine lines
   pub say : AreLines lines items
 
 -- lines spell these things, one each
-abbrev pub AreSpelled : List (List ℕ) → List Item → Type 0
+abbrev pub AreSpelled : List (List ℕ) → List LineItem → Type 0
 AreSpelled [] [] = ⊤
 AreSpelled [] (i ∷ is) = ⊥
 AreSpelled (l ∷ ls) [] = ⊥
@@ -74,14 +74,14 @@ pub record IsNoLine (p : Part) (due : List Part) (rest : List ℕ) : Type 0 wher
   pub more : List ℕ
   pub first : IsFirstLine rest line more
   pub begun : is_begun p line ≡ true
-  pub none : (i : Item) → IsLine line i → behind p i due ≡ None
+  pub none : (i : LineItem) → IsLine line i → behind p i due ≡ None
 
 -- the first line is one of the part, and past a limit
 pub record IsLarge (p : Part) (due : List Part) (rest : List ℕ) : Type 0 where
   pub line : List ℕ
   pub more : List ℕ
   pub first : IsFirstLine rest line more
-  pub item : Item
+  pub item : LineItem
   pub says : IsLine line item
   pub next : List Part
   pub fits : behind p item due ≡ Some next
@@ -99,7 +99,7 @@ IsFault (p ∷ due) rest MoreAfterEnd = ⊥
 
 -- the lines before this one are due and within the limits, and this one is at fault
 pub record IsFirstFault (bytes : List ℕ) (kind : LineKind) (line : ℕ) : Type 0 where
-  pub items : List Item
+  pub items : List LineItem
   pub rest : List ℕ
   pub due : List Part
   pub before : BeginWith bytes items rest

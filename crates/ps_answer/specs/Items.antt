@@ -17,8 +17,8 @@ use Rattle.ps_log.specs.Limits.{IsStepWithin, IsGoalWithin}
 use Rattle.ps_log.specs.Spellings.{words_of}
 use Rattle.ps_answer.specs.declared.limits.TheConstants.{MOST_PIVOTS, MOST_CONFLICTS, MOST_OPERAND, MOST_ROW, MOST_WORLD, MOST_ENTRIES, MOST_MULTIPLIERS, MOST_DUAL_STEPS, MOST_EVENTS, MOST_QUERIES}
 use Rattle.ps_answer.specs.declared.item.Ratio.{Ratio}
-use Rattle.ps_answer.specs.declared.item.Item.{Item}
-use Rattle.ps_answer.specs.declared.item.Item.TheVariants.{Report, Consistent, Inconsistent, OpenPivots, OpenConflicts, OpenWide, ModelHead, Entry, DualHead, Rows, StepLine, GoalLine, TraceHead, PivotLine, PricedLine, Query, Bounds, Impossible, Bound, OpenSide, End}
+use Rattle.ps_answer.specs.declared.item.LineItem.{LineItem}
+use Rattle.ps_answer.specs.declared.item.LineItem.TheVariants.{Report, Consistent, Inconsistent, OpenPivots, OpenConflicts, OpenWide, ModelHead, Entry, DualHead, Rows, StepLine, GoalLine, TraceHead, PivotLine, PricedLine, Query, Bounds, Impossible, Bound, OpenSide, End}
 use Rattle.ps_answer.specs.Words.{Word, Letters, Number, Fraction, Column, Truths, SpellWords, joined}
 
 -- a whole number of at least 0 as a word
@@ -59,7 +59,7 @@ side_word false = Letters (codes "lower")
 side_word true = Letters (codes "upper")
 
 -- the words of a line
-abbrev pub item_words : Item → List Word
+abbrev pub item_words : LineItem → List Word
 item_words Report = Letters (codes "report") ∷ count 1 ∷ []
 item_words Consistent = Letters (codes "consistent") ∷ []
 item_words Inconsistent = Letters (codes "inconsistent") ∷ []
@@ -83,7 +83,7 @@ item_words (OpenSide upper) = side_word upper ∷ []
 item_words End = Letters (codes "end") ∷ []
 
 -- what is written of a line
-abbrev pub item_line : Item → List ℕ
+abbrev pub item_line : LineItem → List ℕ
 item_line i = joined (item_words i)
 
 -- ---- lines with numbers of any size, and lines within the limits
@@ -92,7 +92,7 @@ abbrev pub IsReducedWithin : ℕ → Ratio → Type 0
 IsReducedWithin limit q = (1 ≤ q.under) × (unsigned_abs q.over ≤ limit → q.under ≤ limit → IsGcd (unsigned_abs q.over) q.under 1)
 
 -- what a line of any size asks of its numbers: signs, parts of steps and goals that can be told apart, and lowest terms
-abbrev pub IsProper : Item → Type 0
+abbrev pub IsProper : LineItem → Type 0
 IsProper (OpenWide at op left right) = IsReducedWithin MOST_OPERAND left × IsReducedWithin MOST_OPERAND right
 IsProper (ModelHead total n) = pos 0 ≤ℤ total
 IsProper (Entry weight world) = pos 0 ≤ℤ weight
@@ -103,18 +103,18 @@ IsProper (Bound upper value) = (pos 0 ≤ℤ value.over) × IsReducedWithin prin
 IsProper i = ⊤
 
 -- literals aren't 0, coefficients are at least 1, and variables rise: so a line's numbers tell a step and a goal
-abbrev pub IsTold : Item → Type 0
+abbrev pub IsTold : LineItem → Type 0
 IsTold (StepLine s) = All (λ l. 1 ≤ unsigned_abs l) s.lits
 IsTold (GoalLine g) = All (λ t. 1 ≤ t.1) g.terms × (are_rising 0 (weighted g.terms) ≡ true)
 IsTold i = ⊤
 
 -- a line spells this, with numbers of any size and any sign
-pub record IsSpelled (line : List ℕ) (i : Item) : Type 0 where
+pub record IsSpelled (line : List ℕ) (i : LineItem) : Type 0 where
   pub words : SpellWords (words_of line) (item_words i)
   pub told : IsTold i
 
 -- a line says this, with numbers of any size
-pub record IsLine (line : List ℕ) (i : Item) : Type 0 where
+pub record IsLine (line : List ℕ) (i : LineItem) : Type 0 where
   pub words : SpellWords (words_of line) (item_words i)
   pub proper : IsProper i
 
@@ -152,7 +152,7 @@ abbrev pub IsRatioWithin : ℕ → Ratio → Type 0
 IsRatioWithin limit q = (unsigned_abs q.over ≤ limit) × (q.under ≤ limit)
 
 -- a line is within the limits
-abbrev pub IsWithin : Item → Type 0
+abbrev pub IsWithin : LineItem → Type 0
 IsWithin (OpenPivots limit) = limit ≤ MOST_PIVOTS
 IsWithin (OpenConflicts limit) = limit ≤ MOST_CONFLICTS
 IsWithin (OpenWide at op left right) = IsPlaceWithin at × IsRatioWithin MOST_OPERAND left × IsRatioWithin MOST_OPERAND right

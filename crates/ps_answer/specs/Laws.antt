@@ -3,16 +3,16 @@ use Rattle.std.specs.Prelude.{ℕ, ◌≡◌, false, List, [], Some}
 use Rattle.std.specs.List.{AllByRecursion}
 use Rattle.ps_io.specs.LineText.{lines_bytes}
 use Rattle.ps_answer.specs.declared.answer.Answer.{Answer}
-use Rattle.ps_answer.specs.declared.item.Item.{Item}
+use Rattle.ps_answer.specs.declared.item.LineItem.{LineItem}
 use Rattle.ps_answer.specs.declared.error.LineKind.{LineKind}
 use Rattle.ps_answer.specs.Items.{IsLine, IsSpelled, IsProper, IsWithin, item_line}
 use Rattle.ps_answer.specs.Answers.{answer_items, answer_lines, IsAnswerCounted}
-use Rattle.ps_answer.specs.Due.{at_start, due_behind}
+use Rattle.ps_answer.specs.ExpectedParts.{at_start, due_behind}
 use Rattle.ps_answer.specs.Faults.{BeginWith, IsText, IsReport, IsFirstFault}
 
 -- a line says one thing, whatever the size of its numbers
 abbrev pub LinesSayOneThing : Type 0
-LinesSayOneThing = (text : List ℕ) (i j : Item) → IsSpelled text i → IsSpelled text j → i ≡ j
+LinesSayOneThing = (text : List ℕ) (i j : LineItem) → IsSpelled text i → IsSpelled text j → i ≡ j
 
 -- an answer is determined by its text
 abbrev pub TextsDetermineAnswers : Type 0
@@ -28,7 +28,7 @@ AnswersAreDue = (a : Answer) → IsAnswerCounted a → due_behind at_start (answ
 
 -- lines within the limits that are due, up to the end, are the report of an answer
 abbrev pub DueLinesAreReports : Type 0
-DueLinesAreReports = (bytes : List ℕ) (is : List Item) → BeginWith bytes is [] → AllByRecursion IsWithin is → due_behind at_start is ≡ Some [] → (a : Answer) × IsReport bytes a
+DueLinesAreReports = (bytes : List ℕ) (is : List LineItem) → BeginWith bytes is [] → AllByRecursion IsWithin is → due_behind at_start is ≡ Some [] → (a : Answer) × IsReport bytes a
 
 -- a report has no line at fault
 abbrev pub ReportsHaveNoFault : Type 0
@@ -40,7 +40,7 @@ FaultsAreSingle = (bytes : List ℕ) (k l : LineKind) (m n : ℕ) → IsFirstFau
 
 -- what is written of a line within the limits, with the signs that it asks, says it
 abbrev pub WrittenLinesSayTheirItem : Type 0
-WrittenLinesSayTheirItem = (i : Item) → IsProper i → IsWithin i → IsLine (item_line i) i
+WrittenLinesSayTheirItem = (i : LineItem) → IsProper i → IsWithin i → IsLine (item_line i) i
 
 -- the lines that are written of an answer within the limits, with the signs and counts that it asks, are its report
 abbrev pub WrittenLinesAreReports : Type 0

@@ -2,7 +2,7 @@
 pub mod Words
 pub mod Items
 pub mod Answers
-pub mod Due
+pub mod ExpectedParts
 pub mod Faults
 -- Laws, as the functions of laws.rt promise them
 pub mod Laws

@@ -14,7 +14,7 @@ pub use answer::{
     Weighted, Worlds,
 };
 pub use error::{LineKind, ReportError};
-pub use item::{Item, Ratio};
+pub use item::{LineItem, Ratio};
 pub use laws::{
     due_lines_are_answers, faults_are_single, texts_determine_answers, written_lines_are_lines,
 };

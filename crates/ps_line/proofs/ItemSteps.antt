@@ -5,7 +5,7 @@ use Rattle.std.specs.Prelude.{codes}
 use Rattle.ps_meaning.specs.Formula.{World}
 use Rattle.ps_pool.specs.declared.col.Col.{Col}
 use Rattle.ps_answer.specs.Words.{Number, Column}
-use Rattle.ps_answer.specs.declared.item.Item.TheVariants as line
+use Rattle.ps_answer.specs.declared.item.LineItem.TheVariants as line
 use Rattle.ps_answer.specs.declared.part.Part.TheVariants as part
 use Rattle.ps_answer.specs.Faults.{first_of}
 use Rattle.ps_answer.specs.Items.{count, IsPrintable, IsColWithin}

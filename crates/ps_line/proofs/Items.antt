@@ -5,12 +5,12 @@ use Rattle.std.proofs.lemmas.Slice.Eq.{bytes_eq-Decides}
 use Rattle.ps_meaning.specs.Formula.{World}
 use Rattle.ps_pool.specs.declared.col.Col.{Col}
 use Rattle.ps_answer.specs.Words.{Word, Number, Fraction, Column, Truths}
-use Rattle.ps_answer.specs.declared.item.Item.{Item}
-use Rattle.ps_answer.specs.declared.item.Item.TheVariants as line
+use Rattle.ps_answer.specs.declared.item.LineItem.{LineItem}
+use Rattle.ps_answer.specs.declared.item.LineItem.TheVariants as line
 use Rattle.ps_answer.specs.declared.part.Part.TheVariants as part
 use Rattle.ps_answer.specs.Faults.{first_of}
 use Rattle.ps_answer.specs.Items.{count, IsPrintable, IsColWithin}
-use Rattle.ps_answer.specs.Due.{behind}
+use Rattle.ps_answer.specs.ExpectedParts.{behind}
 use Rattle.ps_line.specs.declared.line_fault.LineFault.{LineFault}
 use Rattle.ps_line.specs.Cursor.{later}
 use Rattle.ps_line.specs.Read.{IsWordRead, AreWordsRead, AreWordsReadOrLacks, both, IsSaid, IsItemRead}
@@ -63,7 +63,7 @@ report_makes : (ws : List (List ℕ)) → Makes {A = Unit {0} × Unit {0}} part.
 unfolding behind
 report_makes ws = record { words = λ a. refl; proper = λ a p. tt; within = λ a f. tt; back = λ a w. (tt, tt); fits = λ a p due. (due, refl); only = only }
   where
-    only : (i : Item) → IsSaid ((codes "report" ∷ []) ++ ws) i → IsMade {A = Unit {0} × Unit {0}} part.AReport (λ a. line.Report) (λ a. ⊤ × ⊤) i
+    only : (i : LineItem) → IsSaid ((codes "report" ∷ []) ++ ws) i → IsMade {A = Unit {0} × Unit {0}} part.AReport (λ a. line.Report) (λ a. ⊤ × ⊤) i
     only line.Report s = inr ((tt, tt), refl, (tt, tt))
     only i s = inl (λ due. refl)
 
@@ -79,7 +79,7 @@ model_makes : (ws : List (List ℕ)) → Makes {A = Two ℤ ℕ} part.AModel (co
 unfolding behind
 model_makes ws = record { words = λ a. refl; proper = λ a p. p.0; within = λ a f. (f.0, f.1.0); back = λ a w. (w.0, (w.1, tt)); fits = λ a p due. (_, refl); only = only }
   where
-    only : (i : Item) → IsSaid ((codes "model" ∷ []) ++ ws) i → IsMade {A = Two ℤ ℕ} part.AModel (λ a. line.ModelHead a.0 a.1.0) (λ a. (pos 0 ≤ℤ a.0) × (⊤ × ⊤)) i
+    only : (i : LineItem) → IsSaid ((codes "model" ∷ []) ++ ws) i → IsMade {A = Two ℤ ℕ} part.AModel (λ a. line.ModelHead a.0 a.1.0) (λ a. (pos 0 ≤ℤ a.0) × (⊤ × ⊤)) i
     only (line.ModelHead t n) s = inr ((t, (n, tt)), refl, (s.proper, (tt, tt)))
     only i s = inl (λ due. refl)
 
@@ -95,7 +95,7 @@ entry_makes : (ws : List (List ℕ)) → Makes {A = Two ℤ World} part.AnEntry 
 unfolding behind
 entry_makes ws = record { words = λ a. refl; proper = λ a p. p.0; within = λ a f. (f.0, f.1.0); back = λ a w. (w.0, (w.1, tt)); fits = λ a p due. (_, refl); only = only }
   where
-    only : (i : Item) → IsSaid ((codes "w" ∷ []) ++ ws) i → IsMade {A = Two ℤ World} part.AnEntry (λ a. line.Entry a.0 a.1.0) (λ a. (pos 0 ≤ℤ a.0) × (⊤ × ⊤)) i
+    only : (i : LineItem) → IsSaid ((codes "w" ∷ []) ++ ws) i → IsMade {A = Two ℤ World} part.AnEntry (λ a. line.Entry a.0 a.1.0) (λ a. (pos 0 ≤ℤ a.0) × (⊤ × ⊤)) i
     only (line.Entry t w) s = inr ((t, (w, tt)), refl, (s.proper, (tt, tt)))
     only i s = inl (λ due. refl)
 
@@ -115,7 +115,7 @@ dual_makes : (ws : List (List ℕ)) → Makes {A = Three ℤ ℤ ℕ} part.ADual
 unfolding behind
 dual_makes ws = record { words = λ a. refl; proper = λ a p. p.0; within = λ a f. (f.0, f.1.0, f.1.1.0); back = λ a w. (w.0, (w.1, (w.2, tt))); fits = λ a p due. (_, refl); only = only }
   where
-    only : (i : Item) → IsSaid ((codes "dual" ∷ []) ++ ws) i → IsMade {A = Three ℤ ℤ ℕ} part.ADual (λ a. line.DualHead a.0 a.1.0 a.1.1.0) (λ a. (pos 0 ≤ℤ a.0) × (⊤ × (⊤ × ⊤))) i
+    only : (i : LineItem) → IsSaid ((codes "dual" ∷ []) ++ ws) i → IsMade {A = Three ℤ ℤ ℕ} part.ADual (λ a. line.DualHead a.0 a.1.0 a.1.1.0) (λ a. (pos 0 ≤ℤ a.0) × (⊤ × (⊤ × ⊤))) i
     only (line.DualHead t h n) s = inr ((t, (h, (n, tt))), refl, (s.proper, (tt, (tt, tt))))
     only i s = inl (λ due. refl)
 
@@ -133,7 +133,7 @@ rows_makes : (ws : List (List ℕ)) → Makes {A = List ℤ} part.SomeRows (code
 unfolding behind
 rows_makes ws = record { words = λ a. refl; proper = λ a p. tt; within = λ a f. f; back = λ a w. w; fits = λ a p due. (_, refl); only = only }
   where
-    only : (i : Item) → IsSaid ((codes "y" ∷ []) ++ ws) i → IsMade {A = List ℤ} part.SomeRows (λ zs. line.Rows zs) (λ zs. ⊤) i
+    only : (i : LineItem) → IsSaid ((codes "y" ∷ []) ++ ws) i → IsMade {A = List ℤ} part.SomeRows (λ zs. line.Rows zs) (λ zs. ⊤) i
     only (line.Rows zs) s = inr (zs, refl, tt)
     only i s = inl (λ due. refl)
 
@@ -148,7 +148,7 @@ trace_makes : (ws : List (List ℕ)) → Makes {A = One ℕ} part.ATrace (codes 
 unfolding behind
 trace_makes ws = record { words = λ a. refl; proper = λ a p. tt; within = λ a f. f.0; back = λ a w. (w, tt); fits = λ a p due. (_, refl); only = only }
   where
-    only : (i : Item) → IsSaid ((codes "t" ∷ []) ++ ws) i → IsMade {A = One ℕ} part.ATrace (λ a. line.TraceHead a.0) (λ a. ⊤ × ⊤) i
+    only : (i : LineItem) → IsSaid ((codes "t" ∷ []) ++ ws) i → IsMade {A = One ℕ} part.ATrace (λ a. line.TraceHead a.0) (λ a. ⊤ × ⊤) i
     only (line.TraceHead n) s = inr ((n, tt), refl, (tt, tt))
     only i s = inl (λ due. refl)
 
@@ -161,7 +161,7 @@ pivot_makes : (ws : List (List ℕ)) → Makes {A = Two Col ℕ} part.AnEvent (c
 unfolding behind
 pivot_makes ws = record { words = λ a. refl; proper = λ a p. tt; within = λ a f. (f.0, f.1.0); back = λ a w. (w.0, (w.1, tt)); fits = λ a p due. (_, refl); only = only }
   where
-    only : (i : Item) → IsSaid ((codes "p" ∷ []) ++ ws) i → IsMade {A = Two Col ℕ} part.AnEvent (λ a. line.PivotLine a.0 a.1.0) (λ a. ⊤ × (⊤ × ⊤)) i
+    only : (i : LineItem) → IsSaid ((codes "p" ∷ []) ++ ws) i → IsMade {A = Two Col ℕ} part.AnEvent (λ a. line.PivotLine a.0 a.1.0) (λ a. ⊤ × (⊤ × ⊤)) i
     only (line.PivotLine c n) s = inr ((c, (n, tt)), refl, (tt, (tt, tt)))
     only (line.PricedLine w) s = other (codes "p") (codes "c") refl s.spelled.0
     only i s = inl (λ due. refl)
@@ -177,7 +177,7 @@ priced_makes : (ws : List (List ℕ)) → Makes {A = One World} part.AnEvent (co
 unfolding behind
 priced_makes ws = record { words = λ a. refl; proper = λ a p. tt; within = λ a f. f.0; back = λ a w. (w, tt); fits = λ a p due. (_, refl); only = only }
   where
-    only : (i : Item) → IsSaid ((codes "c" ∷ []) ++ ws) i → IsMade {A = One World} part.AnEvent (λ a. line.PricedLine a.0) (λ a. ⊤ × ⊤) i
+    only : (i : LineItem) → IsSaid ((codes "c" ∷ []) ++ ws) i → IsMade {A = One World} part.AnEvent (λ a. line.PricedLine a.0) (λ a. ⊤ × ⊤) i
     only (line.PricedLine w) s = inr ((w, tt), refl, (tt, tt))
     only (line.PivotLine c n) s = other (codes "c") (codes "p") refl s.spelled.0
     only i s = inl (λ due. refl)

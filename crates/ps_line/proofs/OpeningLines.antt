@@ -6,14 +6,14 @@ use Rattle.std.proofs.lemmas.Slice.Eq.{bytes_eq-Decides}
 use Rattle.std.proofs.lemmas.Bool.{eqb-true}
 use Rattle.std.proofs.lemmas.Option.{none-some}
 use Rattle.ps_answer.specs.Words.{Fraction, SpellWords}
-use Rattle.ps_answer.specs.declared.item.Item.{Item}
-use Rattle.ps_answer.specs.declared.item.Item.TheVariants as line
+use Rattle.ps_answer.specs.declared.item.LineItem.{LineItem}
+use Rattle.ps_answer.specs.declared.item.LineItem.TheVariants as line
 use Rattle.ps_answer.specs.declared.item.Ratio.{Ratio}
 use Rattle.ps_answer.specs.declared.part.Part.{Part}
 use Rattle.ps_answer.specs.declared.part.Part.TheVariants as part
 use Rattle.ps_answer.specs.Faults.{first_of}
 use Rattle.ps_answer.specs.Items.{count, IsReducedWithin, IsRatioWithin}
-use Rattle.ps_answer.specs.Due.{behind}
+use Rattle.ps_answer.specs.ExpectedParts.{behind}
 use Rattle.ps_line.specs.declared.line_fault.LineFault.{LineFault}
 use Rattle.ps_line.specs.declared.line_fault.LineFault.TheVariants.{NotCanonical, TooLarge, NoMemory}
 use Rattle.ps_line.specs.Cursor.{later}
@@ -23,13 +23,13 @@ use Rattle.ps_line.proofs.Sequences.{Makes, IsMade, item_read, made}
 use Rattle.ps_line.proofs.Items.{other, IsEndRead, One, last_word, count_word, fraction_word}
 
 -- a line of one word
-abbrev pub Bare : Part → List ℕ → Item → List (List ℕ) → Type 0
+abbrev pub Bare : Part → List ℕ → LineItem → List (List ℕ) → Type 0
 Bare p w i ws = Makes {A = Unit {0}} p (w ∷ []) ws (λ u. i) (λ u. []) (λ u. ⊤) (λ u. ⊤)
 
-abbrev pub IsBareMade : Part → Item → Item → Type 0
+abbrev pub IsBareMade : Part → LineItem → LineItem → Type 0
 IsBareMade p i j = IsMade {A = Unit {0}} p (λ u. i) (λ u. ⊤) j
 
-bare_read : (p : Part) (w : List ℕ) (i : Item) (ws : List (List ℕ)) (e : Result (Unit {0}) LineFault) → Bare p w i ws → IsEndRead ws e → IsItemRead p (w ∷ ws) (made (λ u. i) e)
+bare_read : (p : Part) (w : List ℕ) (i : LineItem) (ws : List (List ℕ)) (e : Result (Unit {0}) LineFault) → Bare p w i ws → IsEndRead ws e → IsItemRead p (w ∷ ws) (made (λ u. i) e)
 bare_read p w i ws e m h = item_read p (w ∷ []) (λ u. i) (λ u. []) (λ u. ⊤) (λ u. ⊤) ws m e h
 
 -- verdicts
@@ -37,7 +37,7 @@ consistent_makes : (ws : List (List ℕ)) → Bare part.AVerdict (codes "consist
 unfolding behind
 consistent_makes ws = record { words = λ a. refl; proper = λ a p. tt; within = λ a f. tt; back = λ a w. tt; fits = λ a p due. (_, refl); only = only }
   where
-    only : (i : Item) → IsSaid (codes "consistent" ∷ ws) i → IsBareMade part.AVerdict line.Consistent i
+    only : (i : LineItem) → IsSaid (codes "consistent" ∷ ws) i → IsBareMade part.AVerdict line.Consistent i
     only line.Consistent s = inr (tt, refl, tt)
     only line.Inconsistent s = other (codes "consistent") (codes "inconsistent") refl s.spelled.0
     only (line.OpenPivots n) s = other (codes "consistent") (codes "open") refl s.spelled.0
@@ -52,7 +52,7 @@ inconsistent_makes : (ws : List (List ℕ)) → Bare part.AVerdict (codes "incon
 unfolding behind
 inconsistent_makes ws = record { words = λ a. refl; proper = λ a p. tt; within = λ a f. tt; back = λ a w. tt; fits = λ a p due. (_, refl); only = only }
   where
-    only : (i : Item) → IsSaid (codes "inconsistent" ∷ ws) i → IsBareMade part.AVerdict line.Inconsistent i
+    only : (i : LineItem) → IsSaid (codes "inconsistent" ∷ ws) i → IsBareMade part.AVerdict line.Inconsistent i
     only line.Inconsistent s = inr (tt, refl, tt)
     only line.Consistent s = other (codes "inconsistent") (codes "consistent") refl s.spelled.0
     only (line.OpenPivots n) s = other (codes "inconsistent") (codes "open") refl s.spelled.0
@@ -68,7 +68,7 @@ bounds_makes : (ws : List (List ℕ)) → Bare part.AnAnswer (codes "bounds") li
 unfolding behind
 bounds_makes ws = record { words = λ a. refl; proper = λ a p. tt; within = λ a f. tt; back = λ a w. tt; fits = λ a p due. (_, refl); only = only }
   where
-    only : (i : Item) → IsSaid (codes "bounds" ∷ ws) i → IsBareMade part.AnAnswer line.Bounds i
+    only : (i : LineItem) → IsSaid (codes "bounds" ∷ ws) i → IsBareMade part.AnAnswer line.Bounds i
     only line.Bounds s = inr (tt, refl, tt)
     only line.Impossible s = other (codes "bounds") (codes "impossible") refl s.spelled.0
     only (line.OpenPivots n) s = other (codes "bounds") (codes "open") refl s.spelled.0
@@ -83,7 +83,7 @@ impossible_makes : (ws : List (List ℕ)) → Bare part.AnAnswer (codes "impossi
 unfolding behind
 impossible_makes ws = record { words = λ a. refl; proper = λ a p. tt; within = λ a f. tt; back = λ a w. tt; fits = λ a p due. (_, refl); only = only }
   where
-    only : (i : Item) → IsSaid (codes "impossible" ∷ ws) i → IsBareMade part.AnAnswer line.Impossible i
+    only : (i : LineItem) → IsSaid (codes "impossible" ∷ ws) i → IsBareMade part.AnAnswer line.Impossible i
     only line.Impossible s = inr (tt, refl, tt)
     only line.Bounds s = other (codes "impossible") (codes "bounds") refl s.spelled.0
     only (line.OpenPivots n) s = other (codes "impossible") (codes "open") refl s.spelled.0
@@ -99,7 +99,7 @@ end_makes : (j : ℕ) (ws : List (List ℕ)) → Bare (part.AQuery j) (codes "en
 unfolding behind
 end_makes j ws = record { words = λ a. refl; proper = λ a p. tt; within = λ a f. tt; back = λ a w. tt; fits = λ a p due. (_, refl); only = only }
   where
-    only : (i : Item) → IsSaid (codes "end" ∷ ws) i → IsBareMade (part.AQuery j) line.End i
+    only : (i : LineItem) → IsSaid (codes "end" ∷ ws) i → IsBareMade (part.AQuery j) line.End i
     only line.End s = inr (tt, refl, tt)
     only (line.Query n) s = other (codes "end") (codes "query") refl s.spelled.0
     only i s = inl (λ due. refl)
@@ -122,7 +122,7 @@ query_makes j ws = record { words = λ a. refl; proper = λ a p. tt; within = λ
     by n true e = inr ((n, tt), refl, (eqb-true n j e, tt))
     by n false e = inl (λ due. ap (λ t. if t then Some (part.AnAnswer ∷ part.AQuery (suc j) ∷ due) else None) e)
 
-    only : (i : Item) → IsSaid (codes "query" ∷ ws) i → IsMade {A = One ℕ} (part.AQuery j) (λ a. line.Query a.0) (λ a. (a.0 ≡ j) × ⊤) i
+    only : (i : LineItem) → IsSaid (codes "query" ∷ ws) i → IsMade {A = One ℕ} (part.AQuery j) (λ a. line.Query a.0) (λ a. (a.0 ≡ j) × ⊤) i
     only (line.Query n) s = by n (n == j) refl
     only line.End s = other (codes "query") (codes "end") refl s.spelled.0
     only i s = inl (λ due. refl)
@@ -143,7 +143,7 @@ value_makes false ws n = record { words = λ a. refl; proper = λ a p. p.0; with
     bare [] n s = absurd (n refl)
     bare (w ∷ ws) n s = absurd s
 
-    only : (i : Item) → IsSaid (codes "lower" ∷ ws) i → IsMade {A = One Ratio} (part.ASide false) (λ a. line.Bound false a.0) (λ a. IsValueProper a.0 × ⊤) i
+    only : (i : LineItem) → IsSaid (codes "lower" ∷ ws) i → IsMade {A = One Ratio} (part.ASide false) (λ a. line.Bound false a.0) (λ a. IsValueProper a.0 × ⊤) i
     only (line.Bound false q) s = inr ((q, tt), refl, (s.proper, tt))
     only (line.OpenSide false) s = bare ws n s.spelled.1
     only i s = inl (λ due. refl)
@@ -153,7 +153,7 @@ value_makes true ws n = record { words = λ a. refl; proper = λ a p. p.0; withi
     bare [] n s = absurd (n refl)
     bare (w ∷ ws) n s = absurd s
 
-    only : (i : Item) → IsSaid (codes "upper" ∷ ws) i → IsMade {A = One Ratio} (part.ASide true) (λ a. line.Bound true a.0) (λ a. IsValueProper a.0 × ⊤) i
+    only : (i : LineItem) → IsSaid (codes "upper" ∷ ws) i → IsMade {A = One Ratio} (part.ASide true) (λ a. line.Bound true a.0) (λ a. IsValueProper a.0 × ⊤) i
     only (line.Bound true q) s = inr ((q, tt), refl, (s.proper, tt))
     only (line.OpenSide true) s = bare ws n s.spelled.1
     only i s = inl (λ due. refl)
@@ -173,7 +173,7 @@ pivots_makes : (ws : List (List ℕ)) → Makes {A = One ℕ} part.ACause (codes
 unfolding behind
 pivots_makes ws = record { words = λ a. refl; proper = λ a p. tt; within = λ a f. f.0; back = λ a w. (w, tt); fits = λ a p due. (_, refl); only = only }
   where
-    only : (i : Item) → IsSaid (codes "open" ∷ codes "pivots" ∷ ws) i → IsMade {A = One ℕ} part.ACause (λ a. line.OpenPivots a.0) (λ a. ⊤ × ⊤) i
+    only : (i : LineItem) → IsSaid (codes "open" ∷ codes "pivots" ∷ ws) i → IsMade {A = One ℕ} part.ACause (λ a. line.OpenPivots a.0) (λ a. ⊤ × ⊤) i
     only (line.OpenPivots n) s = inr ((n, tt), refl, (tt, tt))
     only (line.OpenConflicts n) s = other (codes "pivots") (codes "conflicts") refl s.spelled.1.0
     only (line.OpenWide at o l r) s = other (codes "pivots") (codes "wide") refl s.spelled.1.0
@@ -187,7 +187,7 @@ conflicts_makes : (ws : List (List ℕ)) → Makes {A = One ℕ} part.ACause (co
 unfolding behind
 conflicts_makes ws = record { words = λ a. refl; proper = λ a p. tt; within = λ a f. f.0; back = λ a w. (w, tt); fits = λ a p due. (_, refl); only = only }
   where
-    only : (i : Item) → IsSaid (codes "open" ∷ codes "conflicts" ∷ ws) i → IsMade {A = One ℕ} part.ACause (λ a. line.OpenConflicts a.0) (λ a. ⊤ × ⊤) i
+    only : (i : LineItem) → IsSaid (codes "open" ∷ codes "conflicts" ∷ ws) i → IsMade {A = One ℕ} part.ACause (λ a. line.OpenConflicts a.0) (λ a. ⊤ × ⊤) i
     only (line.OpenConflicts n) s = inr ((n, tt), refl, (tt, tt))
     only (line.OpenPivots n) s = other (codes "conflicts") (codes "pivots") refl s.spelled.1.0
     only (line.OpenWide at o l r) s = other (codes "conflicts") (codes "wide") refl s.spelled.1.0
@@ -214,32 +214,32 @@ no_cause (w ∷ ws) a b c (line.OpenWide at o l r) s = absurd (c s.spelled.1.0)
 no_cause ws a b c i s = λ due. refl
 
 -- a cause where a verdict is due, or an answer
-cause_fits : (i : Item) → Fits part.ACause i → Fits part.AVerdict i × Fits part.AnAnswer i
+cause_fits : (i : LineItem) → Fits part.ACause i → Fits part.AVerdict i × Fits part.AnAnswer i
 unfolding behind
 cause_fits (line.OpenPivots n) f = (λ due. (_, refl), λ due. (_, refl))
 cause_fits (line.OpenConflicts n) f = (λ due. (_, refl), λ due. (_, refl))
 cause_fits (line.OpenWide at o l r) f = (λ due. (_, refl), λ due. (_, refl))
 cause_fits i f = absurd (none-some _ (f []).1)
 
-no_verdict : (ws : List (List ℕ)) (i : Item) → IsSaid (codes "open" ∷ ws) i → FitsNot part.ACause i → FitsNot part.AVerdict i
+no_verdict : (ws : List (List ℕ)) (i : LineItem) → IsSaid (codes "open" ∷ ws) i → FitsNot part.ACause i → FitsNot part.AVerdict i
 unfolding behind
 no_verdict ws line.Consistent s n = other (codes "open") (codes "consistent") refl s.spelled.0
 no_verdict ws line.Inconsistent s n = other (codes "open") (codes "inconsistent") refl s.spelled.0
 no_verdict ws i s n = n
 
-no_answer : (ws : List (List ℕ)) (i : Item) → IsSaid (codes "open" ∷ ws) i → FitsNot part.ACause i → FitsNot part.AnAnswer i
+no_answer : (ws : List (List ℕ)) (i : LineItem) → IsSaid (codes "open" ∷ ws) i → FitsNot part.ACause i → FitsNot part.AnAnswer i
 unfolding behind
 no_answer ws line.Bounds s n = other (codes "open") (codes "bounds") refl s.spelled.0
 no_answer ws line.Impossible s n = other (codes "open") (codes "impossible") refl s.spelled.0
 no_answer ws i s n = λ due. n (part.ATrace ∷ due)
 
-pub cause_verdict : (ws : List (List ℕ)) (r : Result Item LineFault) → IsItemRead part.ACause (codes "open" ∷ ws) r → IsItemRead part.AVerdict (codes "open" ∷ ws) r
+pub cause_verdict : (ws : List (List ℕ)) (r : Result LineItem LineFault) → IsItemRead part.ACause (codes "open" ∷ ws) r → IsItemRead part.AVerdict (codes "open" ∷ ws) r
 cause_verdict ws (Ok i) h = (h.0, h.1, (cause_fits i h.2).0)
 cause_verdict ws (Err NotCanonical) h = λ i s. no_verdict ws i s (h i s)
 cause_verdict ws (Err TooLarge) h = (h.0, h.1, (cause_fits h.0 h.2).0, h.3)
 cause_verdict ws (Err NoMemory) h = h
 
-pub cause_answer : (ws : List (List ℕ)) (r : Result Item LineFault) → IsItemRead part.ACause (codes "open" ∷ ws) r → IsItemRead part.AnAnswer (codes "open" ∷ ws) r
+pub cause_answer : (ws : List (List ℕ)) (r : Result LineItem LineFault) → IsItemRead part.ACause (codes "open" ∷ ws) r → IsItemRead part.AnAnswer (codes "open" ∷ ws) r
 cause_answer ws (Ok i) h = (h.0, h.1, (cause_fits i h.2).1)
 cause_answer ws (Err NotCanonical) h = λ i s. no_answer ws i s (h i s)
 cause_answer ws (Err TooLarge) h = (h.0, h.1, (cause_fits h.0 h.2).1, h.3)

@@ -9,14 +9,14 @@ use Rattle.ps_table.specs.declared.place.Place.TheVariants as place
 use Rattle.ps_table.specs.declared.place.TableCol.{TableCol}
 use Rattle.ps_table.specs.declared.place.TableCol.TheVariants as shown
 use Rattle.ps_answer.specs.Words.{Word, Letters, Fraction, Column, SpellWords}
-use Rattle.ps_answer.specs.declared.item.Item.{Item}
-use Rattle.ps_answer.specs.declared.item.Item.TheVariants as line
+use Rattle.ps_answer.specs.declared.item.LineItem.{LineItem}
+use Rattle.ps_answer.specs.declared.item.LineItem.TheVariants as line
 use Rattle.ps_answer.specs.declared.item.Ratio.{Ratio}
 use Rattle.ps_answer.specs.declared.part.Part.TheVariants as part
 use Rattle.ps_answer.specs.Faults.{first_of}
 use Rattle.ps_answer.specs.Items.{count, op_word, shown_word, place_words, IsColWithin, IsShownWithin, IsPlaceWithin, IsRatioWithin, IsReducedWithin}
 use Rattle.ps_answer.specs.declared.limits.TheConstants.{MOST_OPERAND}
-use Rattle.ps_answer.specs.Due.{behind}
+use Rattle.ps_answer.specs.ExpectedParts.{behind}
 use Rattle.ps_line.specs.declared.line_fault.LineFault.{LineFault}
 use Rattle.ps_line.specs.declared.line_fault.LineFault.TheVariants.{NotCanonical, TooLarge, NoMemory}
 use Rattle.ps_line.specs.Cursor.{later}
@@ -333,7 +333,7 @@ place_then vs Q G ws rest (Err NoMemory) q h k = h
 abbrev pub WideParts : Type 0
 WideParts = Place × (Op × (Ratio × (Ratio × Unit {0})))
 
-abbrev pub wide_of : WideParts → Item
+abbrev pub wide_of : WideParts → LineItem
 wide_of a = line.OpenWide a.0 a.1.0 a.1.1.0 a.1.1.1.0
 
 abbrev pub WideProper : WideParts → Type 0
@@ -351,7 +351,7 @@ wide_makes ws = record {
   only = only;
 }
   where
-    only : (i : Item) → IsSaid (codes "open" ∷ codes "wide" ∷ ws) i → IsMade {A = WideParts} part.ACause wide_of WideProper i
+    only : (i : LineItem) → IsSaid (codes "open" ∷ codes "wide" ∷ ws) i → IsMade {A = WideParts} part.ACause wide_of WideProper i
     only (line.OpenWide at o l r) s = inr ((at, (o, (l, (r, tt)))), refl, (tt, (tt, (s.proper.0, (s.proper.1, tt)))))
     only (line.OpenPivots n) s = other (codes "wide") (codes "pivots") refl s.spelled.1.0
     only (line.OpenConflicts n) s = other (codes "wide") (codes "conflicts") refl s.spelled.1.0

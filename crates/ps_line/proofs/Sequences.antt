@@ -4,7 +4,7 @@ use Rattle.std.proofs.Common.{◌≡◌, ℕ, ◌==◌, List, [], ◌∷◌, ◌
 use Rattle.std.proofs.lemmas.List.Splits.{length-slice_split}
 use Rattle.ps_log.specs.Spellings.{words_of}
 use Rattle.ps_answer.specs.Words.{Word, Letters, SpellsWord, SpellWords}
-use Rattle.ps_answer.specs.declared.item.Item.{Item}
+use Rattle.ps_answer.specs.declared.item.LineItem.{LineItem}
 use Rattle.ps_answer.specs.declared.part.Part.{Part}
 use Rattle.ps_answer.specs.Faults.{first_of}
 use Rattle.ps_answer.specs.Items.{item_words, IsProper, IsWithin}
@@ -72,21 +72,21 @@ pub word_then : {A B : Type 0} (v : A → Word) (P F : A → Type 0) (vs : B →
 word_then v P F vs Q G ws r q ne h k = word_or_lacks ⊥ v P F vs Q G ws r q ne h k
 
 -- what is made of what was read
-abbrev pub made : {A : Type 0} → (A → Item) → Result A LineFault → Result Item LineFault
+abbrev pub made : {A : Type 0} → (A → LineItem) → Result A LineFault → Result LineItem LineFault
 made mk (Ok a) = Ok (mk a)
 made mk (Err why) = Err why
 
-abbrev pub IsMade : {A : Type 0} → Part → (A → Item) → (A → Type 0) → Item → Type 0
+abbrev pub IsMade : {A : Type 0} → Part → (A → LineItem) → (A → Type 0) → LineItem → Type 0
 IsMade {A} p mk P i = FitsNot p i ⊎ ((a : A) × (i ≡ mk a) × P a)
 
 -- a kind of line that begins with these words
-pub record Makes {A : Type 0} (p : Part) (front ws : List (List ℕ)) (mk : A → Item) (vs : A → List Word) (P F : A → Type 0) : Type 0 where
+pub record Makes {A : Type 0} (p : Part) (front ws : List (List ℕ)) (mk : A → LineItem) (vs : A → List Word) (P F : A → Type 0) : Type 0 where
   pub words : (a : A) → item_words (mk a) ≡ map Letters front ++ vs a
   pub proper : (a : A) → P a → IsProper (mk a)
   pub within : (a : A) → F a → IsWithin (mk a)
   pub back : (a : A) → IsWithin (mk a) → F a
   pub fits : (a : A) → P a → Fits p (mk a)
-  pub only : (i : Item) → IsSaid (front ++ ws) i → IsMade p mk P i
+  pub only : (i : LineItem) → IsSaid (front ++ ws) i → IsMade p mk P i
 
 front_spelled : (front ws : List (List ℕ)) (vs : List Word) → SpellWords ws vs → SpellWords (front ++ ws) (map Letters front ++ vs)
 front_spelled [] ws vs s = s
@@ -97,14 +97,14 @@ behind_front [] ws vs s = s
 behind_front (w ∷ front) ws vs s = behind_front front ws vs s.1
 
 -- the words behind those that a kind of line begins with are read, and so is the line
-pub item_or_lacks : {A : Type 0} (L : Type 0) (p : Part) (front : List (List ℕ)) (mk : A → Item) (vs : A → List Word) (P F : A → Type 0) (ws : List (List ℕ))
+pub item_or_lacks : {A : Type 0} (L : Type 0) (p : Part) (front : List (List ℕ)) (mk : A → LineItem) (vs : A → List Word) (P F : A → Type 0) (ws : List (List ℕ))
     → (L → TakesMemory p (front ++ ws)) → Makes p front ws mk vs P F → (r : Result A LineFault) → AreWordsReadOrLacks L vs P F ws r → IsItemRead p (front ++ ws) (made mk r)
 item_or_lacks L p front mk vs P F ws takes m r h = by r h
   where
     said : (a : _) → SpellWords ws (vs a) × P a → IsSaid (front ++ ws) (mk a)
     said a s = record { spelled = subst (λ x. SpellWords (front ++ ws) x) (sym (m.words a)) (front_spelled front ws (vs a) s.0); proper = m.proper a s.1 }
 
-    none : (i : Item) → ((a : _) → SpellWords ws (vs a) × P a → ⊥) → IsSaid (front ++ ws) i → IsMade p mk P i → FitsNot p i
+    none : (i : LineItem) → ((a : _) → SpellWords ws (vs a) × P a → ⊥) → IsSaid (front ++ ws) i → IsMade p mk P i → FitsNot p i
     none i n s (inl f) = f
     none i n s (inr t) =
         absurd (n t.0 (behind_front front ws (vs t.0) (subst (λ x. SpellWords (front ++ ws) x) (ap item_words t.1 ∙ m.words t.0) s.spelled), t.2))
@@ -116,14 +116,14 @@ item_or_lacks L p front mk vs P F ws takes m r h = by r h
     by (Err NoMemory) h = takes h
 
 -- where no memory is taken
-pub item_read : {A : Type 0} (p : Part) (front : List (List ℕ)) (mk : A → Item) (vs : A → List Word) (P F : A → Type 0) (ws : List (List ℕ))
+pub item_read : {A : Type 0} (p : Part) (front : List (List ℕ)) (mk : A → LineItem) (vs : A → List Word) (P F : A → Type 0) (ws : List (List ℕ))
     → Makes p front ws mk vs P F → (r : Result A LineFault) → AreWordsRead vs P F ws r → IsItemRead p (front ++ ws) (made mk r)
 item_read p front mk vs P F ws m r h = item_or_lacks ⊥ p front mk vs P F ws (λ b. absurd b) m r h
 
 -- what is made of a reading that ended so
-pub made_ok : {A : Type 0} (p : Part) (ws : List (List ℕ)) (mk : A → Item) (r : Result A LineFault) (a : A) → IsItemRead p ws (made mk r) → r ≡ Ok a → IsItemRead p ws (Ok (mk a))
+pub made_ok : {A : Type 0} (p : Part) (ws : List (List ℕ)) (mk : A → LineItem) (r : Result A LineFault) (a : A) → IsItemRead p ws (made mk r) → r ≡ Ok a → IsItemRead p ws (Ok (mk a))
 made_ok p ws mk r a h f = subst (λ x. IsItemRead p ws x) (ap (made mk) f) h
 
-pub made_err : {A : Type 0} (p : Part) (ws : List (List ℕ)) (mk : A → Item) (r : Result A LineFault) (e : LineFault) (q : Result Item LineFault) → IsItemRead p ws (made mk r) → r ≡ Err e → q ≡ Err e
+pub made_err : {A : Type 0} (p : Part) (ws : List (List ℕ)) (mk : A → LineItem) (r : Result A LineFault) (e : LineFault) (q : Result LineItem LineFault) → IsItemRead p ws (made mk r) → r ≡ Err e → q ≡ Err e
     → IsItemRead p ws q
 made_err p ws mk r e q h f g = subst (λ x. IsItemRead p ws x) (ap (made mk) f ∙ sym g) h

@@ -18,36 +18,36 @@ use Rattle.ps_log.proofs.GoalAnswers.{goal_texts}
 use Rattle.ps_answer.proofs.Single.{no_cut}
 use Rattle.ps_answer.specs.Words.{Letters, Number, SpellWords}
 use Rattle.ps_answer.specs.Items.{item_words, IsWithin}
-use Rattle.ps_answer.specs.declared.item.Item.{Item}
-use Rattle.ps_answer.specs.declared.item.Item.TheVariants as line
+use Rattle.ps_answer.specs.declared.item.LineItem.{LineItem}
+use Rattle.ps_answer.specs.declared.item.LineItem.TheVariants as line
 use Rattle.ps_answer.specs.declared.part.Part.{Part}
 use Rattle.ps_answer.specs.declared.part.Part.TheVariants as part
-use Rattle.ps_answer.specs.Due.{behind}
+use Rattle.ps_answer.specs.ExpectedParts.{behind}
 use Rattle.ps_line.specs.declared.line_fault.LineFault.{LineFault}
 use Rattle.ps_line.specs.Texts.{fault_of}
 use Rattle.ps_line.specs.Read.{Fits, FitsNot, IsSaid, TakesMemory, IsItemRead}
 
 -- what a reading of a text is as an item
-abbrev pub item_of : {X : Type 0} → (X → Item) → Result (X × ℕ) LineError → Result Item LineFault
+abbrev pub item_of : {X : Type 0} → (X → LineItem) → Result (X × ℕ) LineError → Result LineItem LineFault
 item_of mk (Ok x) = Ok (mk x.0)
 item_of mk (Err e) = Err (fault_of e)
 
 -- a kind of line that is a text
-pub record IsKind {X : Type 0} (IsText : List ℕ → X → Type 0) (IsIn : X → Type 0) (mk : X → Item) (p : Part) : Type 0 where
+pub record IsKind {X : Type 0} (IsText : List ℕ → X → Type 0) (IsIn : X → Type 0) (mk : X → LineItem) (p : Part) : Type 0 where
   pub said : (text : List ℕ) (x : X) → IsText text x → IsSaid (words_of text) (mk x)
   pub text : (text : List ℕ) (x : X) → IsSaid (words_of text) (mk x) → IsText text x
   pub within : (x : X) → IsIn x → IsWithin (mk x)
   pub back : (x : X) → IsWithin (mk x) → IsIn x
   pub fits : (x : X) → Fits p (mk x)
-  pub only : (i : Item) → FitsNot p i ⊎ ((x : X) × (i ≡ mk x))
+  pub only : (i : LineItem) → FitsNot p i ⊎ ((x : X) × (i ≡ mk x))
   pub takes : (words : List (List ℕ)) → TakesMemory p words
 
-module _ {X : Type 0} {fits : ℕ → Bool} {IsText : List ℕ → X → Type 0} {IsIn : X → Type 0} {line_of : X → List ℕ} (t : AreTexts fits IsText IsIn line_of) (mk : X → Item) (p : Part) (k : IsKind IsText IsIn mk p)
+module _ {X : Type 0} {fits : ℕ → Bool} {IsText : List ℕ → X → Type 0} {IsIn : X → Type 0} {line_of : X → List ℕ} (t : AreTexts fits IsText IsIn line_of) (mk : X → LineItem) (p : Part) (k : IsKind IsText IsIn mk p)
     (bytes text rest : List ℕ) (f : IsFirstLine bytes text rest) where
   same : (l r : List ℕ) → IsFirstLine bytes l r → text ≡ l
   same l r g = first-unique text rest l r f.whole g.whole (sym f.is ∙ g.is)
 
-  none : ((x : X) → IsText text x → ⊥) → (i : Item) → IsSaid (words_of text) i → FitsNot p i
+  none : ((x : X) → IsText text x → ⊥) → (i : LineItem) → IsSaid (words_of text) i → FitsNot p i
   none n i s = by (k.only i)
     where
       by : FitsNot p i ⊎ ((x : X) × (i ≡ mk x)) → FitsNot p i
@@ -99,7 +99,7 @@ step_kind = record {
   takes = λ words. tt;
 }
   where
-    only : (i : Item) → FitsNot part.AStep i ⊎ ((s : Step) × (i ≡ line.StepLine s))
+    only : (i : LineItem) → FitsNot part.AStep i ⊎ ((s : Step) × (i ≡ line.StepLine s))
     only (line.StepLine s) = inr (s, refl)
     only i = inl (λ due. refl)
 
@@ -115,7 +115,7 @@ goal_kind = record {
   takes = λ words. tt;
 }
   where
-    only : (i : Item) → FitsNot part.AGoal i ⊎ ((g : Constraint) × (i ≡ line.GoalLine g))
+    only : (i : LineItem) → FitsNot part.AGoal i ⊎ ((g : Constraint) × (i ≡ line.GoalLine g))
     only (line.GoalLine g) = inr (g, refl)
     only i = inl (λ due. refl)
 
@@ -128,8 +128,8 @@ pub goal_read : (bytes text rest : List ℕ) (r : Result (Constraint × ℕ) Lin
 goal_read bytes text rest r f h = text_read goal_texts (λ g. line.GoalLine g) part.AGoal goal_kind bytes text rest f r h
 
 -- how a reading of a text ended
-pub text_ok : {X : Type 0} (mk : X → Item) (p : Part) (ws : List (List ℕ)) (r : Result (X × ℕ) LineError) (x : X) (n : ℕ) → r ≡ Ok (x, n) → IsItemRead p ws (item_of mk r) → IsItemRead p ws (Ok (mk x))
+pub text_ok : {X : Type 0} (mk : X → LineItem) (p : Part) (ws : List (List ℕ)) (r : Result (X × ℕ) LineError) (x : X) (n : ℕ) → r ≡ Ok (x, n) → IsItemRead p ws (item_of mk r) → IsItemRead p ws (Ok (mk x))
 text_ok mk p ws r x n e h = subst (λ q. IsItemRead p ws (item_of mk q)) e h
 
-pub text_err : {X : Type 0} (mk : X → Item) (p : Part) (ws : List (List ℕ)) (r : Result (X × ℕ) LineError) (why : LineError) (f : LineFault) → r ≡ Err why → f ≡ fault_of why → IsItemRead p ws (item_of mk r) → IsItemRead p ws (Err f)
+pub text_err : {X : Type 0} (mk : X → LineItem) (p : Part) (ws : List (List ℕ)) (r : Result (X × ℕ) LineError) (why : LineError) (f : LineFault) → r ≡ Err why → f ≡ fault_of why → IsItemRead p ws (item_of mk r) → IsItemRead p ws (Err f)
 text_err mk p ws r why f e g h = subst (λ q. IsItemRead p ws (Err q)) (sym g) (subst (λ q. IsItemRead p ws (item_of mk q)) e h)

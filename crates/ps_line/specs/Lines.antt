@@ -2,7 +2,7 @@
 use Rattle.std.specs.Prelude.{ℕ, ◌≡◌, true, List, ◌∷◌}
 use Rattle.ps_log.specs.FirstLines.{IsFirstLine}
 use Rattle.ps_log.specs.Spellings.{words_of}
-use Rattle.ps_answer.specs.declared.item.Item.{Item}
+use Rattle.ps_answer.specs.declared.item.LineItem.{LineItem}
 use Rattle.ps_answer.specs.declared.part.Part.{Part}
 use Rattle.ps_answer.specs.Items.{IsLine, IsWithin}
 use Rattle.ps_answer.specs.Faults.{is_begun, IsFault}
@@ -11,7 +11,7 @@ use Rattle.ps_line.specs.declared.error.LineError.TheVariants.{Fault, NoMemory}
 use Rattle.ps_line.specs.Read.{Fits, TakesMemory}
 
 -- the first line says this, within the limits, the part may begin so, and this follows it
-pub record TakesLine (p : Part) (bytes : List ℕ) (i : Item) (rest : List ℕ) : Type 0 where
+pub record TakesLine (p : Part) (bytes : List ℕ) (i : LineItem) (rest : List ℕ) : Type 0 where
   pub line : List ℕ
   pub first : IsFirstLine bytes line rest
   pub says : IsLine line i

@@ -1,12 +1,12 @@
 -- What is answered of words that should say something.
 use Rattle.std.specs.Prelude.{ℕ, ◌≡◌, List, Some, None, Result, Ok, Err, codes, ⊤}
 use Rattle.ps_answer.specs.Words.{Word, SpellsWord, SpellWords}
-use Rattle.ps_answer.specs.declared.item.Item.{Item}
+use Rattle.ps_answer.specs.declared.item.LineItem.{LineItem}
 use Rattle.ps_answer.specs.declared.part.Part.{Part}
 use Rattle.ps_answer.specs.declared.part.Part.TheVariants.{AnEntry, SomeRows, AStep, AGoal, AnEvent}
 use Rattle.ps_answer.specs.Faults.{first_of}
 use Rattle.ps_answer.specs.Items.{item_words, IsProper, IsWithin}
-use Rattle.ps_answer.specs.Due.{behind}
+use Rattle.ps_answer.specs.ExpectedParts.{behind}
 use Rattle.ps_line.specs.declared.line_fault.LineFault.{LineFault}
 use Rattle.ps_line.specs.declared.line_fault.LineFault.TheVariants.{NotCanonical, TooLarge, NoMemory}
 
@@ -47,15 +47,15 @@ both (Err NotCanonical) r = Err NotCanonical
 both (Err NoMemory) r = Err NoMemory
 
 -- the part may begin with what a line says, whatever is due after it
-abbrev pub Fits : Part → Item → Type 0
+abbrev pub Fits : Part → LineItem → Type 0
 Fits p i = (due : List Part) → (next : List Part) × (behind p i due ≡ Some next)
 
 -- the part can't begin so
-abbrev pub FitsNot : Part → Item → Type 0
+abbrev pub FitsNot : Part → LineItem → Type 0
 FitsNot p i = (due : List Part) → behind p i due ≡ None
 
 -- words say this
-pub record IsSaid (words : List (List ℕ)) (i : Item) : Type 0 where
+pub record IsSaid (words : List (List ℕ)) (i : LineItem) : Type 0 where
   pub spelled : SpellWords words (item_words i)
   pub proper : IsProper i
 
@@ -69,8 +69,8 @@ TakesMemory AnEvent words = first_of words ≡ codes "c"
 TakesMemory p words = ⊥
 
 -- what is answered of the words of a line, where a part is due
-abbrev pub IsItemRead : Part → List (List ℕ) → Result Item LineFault → Type 0
+abbrev pub IsItemRead : Part → List (List ℕ) → Result LineItem LineFault → Type 0
 IsItemRead p words (Ok i) = IsSaid words i × IsWithin i × Fits p i
-IsItemRead p words (Err NotCanonical) = (i : Item) → IsSaid words i → FitsNot p i
-IsItemRead p words (Err TooLarge) = (i : Item) × IsSaid words i × Fits p i × (IsWithin i → ⊥)
+IsItemRead p words (Err NotCanonical) = (i : LineItem) → IsSaid words i → FitsNot p i
+IsItemRead p words (Err TooLarge) = (i : LineItem) × IsSaid words i × Fits p i × (IsWithin i → ⊥)
 IsItemRead p words (Err NoMemory) = TakesMemory p words

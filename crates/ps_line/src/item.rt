@@ -3,7 +3,7 @@ ghost use Rattle.std.specs.Prelude.{◌≡◌, true, ℕ, List as Bytes, bytes_e
 ghost use Rattle.std.specs.List.{list_any};
 ghost use Rattle.ps_log.specs.FirstLines.{IsFirstLine};
 ghost use Rattle.ps_log.specs.Spellings.{words_of};
-ghost use Rattle.ps_answer.specs.Due.{first_words};
+ghost use Rattle.ps_answer.specs.ExpectedParts.{first_words};
 ghost use Rattle.ps_answer.specs.Faults.{is_begun};
 ghost use Rattle.ps_line.specs.Read.{IsItemRead};
 
@@ -12,11 +12,16 @@ use crate::line_fault::LineFault;
 use crate::openings::{answer, cause, event, query, side, verdict};
 use crate::texts::{goal, step};
 use crate::words::Words;
-use ps_answer::{Item, Part};
+use ps_answer::{LineItem, Part};
 use std::alloc::Global;
 
 /// What the line at the front says, whose first word is due.
-pub(crate) fn item(alloc: Global, part: Part, bytes: &[u8], line: &[u8]) -> Result<Item, LineFault>
+pub(crate) fn item(
+    alloc: Global,
+    part: Part,
+    bytes: &[u8],
+    line: &[u8],
+) -> Result<LineItem, LineFault>
     requires first { (rest : Bytes ℕ) × IsFirstLine bytes.now line.now rest }
     requires due { is_begun part line.now ≡ true }
     ensures { IsItemRead part (words_of line.now) result }

@@ -6,13 +6,13 @@ ghost use Rattle.ps_line.specs.Lines.{TakesLine, IsLineFault};
 use crate::error::LineError;
 use crate::item::{is_begun, item};
 use crate::line_fault::LineFault;
-use ps_answer::{Item, LineKind, Part};
+use ps_answer::{LineItem, LineKind, Part};
 use std::alloc::Global;
 
 /// Reads the line at the front, where a part is due: what it says, and the bytes that follow it.
 /// Numbers may have any size; a fault is that of the line whatever is due behind the part. Takes
 /// memory for worlds, multipliers, steps and goals alone, so want of memory comes at no other line.
-pub fn read_line(alloc: Global, part: Part, bytes: &[u8]) -> Result<(Item, &[u8]), LineError>
+pub fn read_line(alloc: Global, part: Part, bytes: &[u8]) -> Result<(LineItem, &[u8]), LineError>
     ensures line { IfOk result (λ r. TakesLine part bytes.now r.0 r.1.now) }
     ensures fault { IfErr result (λ e. IsLineFault part bytes.now e) }
 {

@@ -4,26 +4,26 @@ ghost use Rattle.ps_answer.specs.declared.part.Part.TheVariants.{AStep, AGoal};
 ghost use Rattle.ps_line.specs.Texts.{IsFirstItemRead, fault_of};
 
 use crate::line_fault::LineFault;
-use ps_answer::Item;
+use ps_answer::LineItem;
 use ps_log::{LineError, read_goal, read_step};
 use std::alloc::Global;
 
 /// The step whose line stands at the front.
-pub(crate) fn step(alloc: Global, bytes: &[u8]) -> Result<Item, LineFault>
+pub(crate) fn step(alloc: Global, bytes: &[u8]) -> Result<LineItem, LineFault>
     ensures { IsFirstItemRead AStep bytes.now result }
 {
     match read_step(alloc, bytes) {
-        Ok((step, _)) => Ok(Item::StepLine { step }),
+        Ok((step, _)) => Ok(LineItem::StepLine { step }),
         Err(why) => Err(fault_of(why)),
     }
 }
 
 /// The goal whose line stands at the front.
-pub(crate) fn goal(alloc: Global, bytes: &[u8]) -> Result<Item, LineFault>
+pub(crate) fn goal(alloc: Global, bytes: &[u8]) -> Result<LineItem, LineFault>
     ensures { IsFirstItemRead AGoal bytes.now result }
 {
     match read_goal(alloc, bytes) {
-        Ok((goal, _)) => Ok(Item::GoalLine { goal }),
+        Ok((goal, _)) => Ok(LineItem::GoalLine { goal }),
         Err(why) => Err(fault_of(why)),
     }
 }

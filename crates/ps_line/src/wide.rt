@@ -13,11 +13,11 @@ use crate::places::{
 };
 use crate::ratio::operand;
 use crate::words::{Words, is};
-use ps_answer::Item;
+use ps_answer::LineItem;
 use ps_table::Place;
 
 /// The words behind `open wide`.
-pub(crate) fn open_wide(words: &mut Words<'_>) -> Result<Item, LineFault>
+pub(crate) fn open_wide(words: &mut Words<'_>) -> Result<LineItem, LineFault>
     ensures { IsItemRead ACause (codes "open" ∷ codes "wide" ∷ words_in words.old) result }
 {
     let place = place(words);
@@ -26,7 +26,7 @@ pub(crate) fn open_wide(words: &mut Words<'_>) -> Result<Item, LineFault>
     let right = operand(words.next());
     let rest = both(op, both(left, both(right, words.end())));
     let (place, (op, (left, (right, ())))) = both(place, rest)?;
-    Ok(Item::OpenWide {
+    Ok(LineItem::OpenWide {
         place,
         op,
         left,

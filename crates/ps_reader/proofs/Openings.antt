@@ -2,25 +2,25 @@
 use Rattle.std.proofs.Common.{◌≡◌, Bool, true, false, List, [], ◌∷◌, ◌++◌, Some, refl, sym, ap, ◌∙◌, append_assoc}
 use Rattle.std.proofs.lemmas.Option.{none-some}
 use Rattle.ps_answer.specs.declared.item.Ratio.{Ratio}
-use Rattle.ps_answer.specs.declared.item.Item.{Item}
-use Rattle.ps_answer.specs.declared.item.Item.TheVariants as line
+use Rattle.ps_answer.specs.declared.item.LineItem.{LineItem}
+use Rattle.ps_answer.specs.declared.item.LineItem.TheVariants as line
 use Rattle.ps_answer.specs.declared.part.Part.{Part}
 use Rattle.ps_answer.specs.declared.part.Part.TheVariants.{AVerdict, AModel, ADual, ACause, ATrace, AnAnswer, ASide}
-use Rattle.ps_answer.specs.Due.{behind}
+use Rattle.ps_answer.specs.ExpectedParts.{behind}
 use Rattle.ps_line.specs.Read.{Fits}
 use Rattle.ps_reader.specs.declared.lines.Lines.{Lines}
 use Rattle.ps_reader.specs.Taken.{Takes}
 use Rattle.ps_reader.specs.Reports.{parts_behind}
 use Rattle.ps_reader.proofs.Passing.{opening_due}
 
-pub cause_only : (i : Item) → Fits ACause i → ((n : _) → i ≡ line.OpenPivots n → ⊥) → ((n : _) → i ≡ line.OpenConflicts n → ⊥) → ((p : _) (o : _) (l r : _) → i ≡ line.OpenWide p o l r → ⊥) → ⊥
+pub cause_only : (i : LineItem) → Fits ACause i → ((n : _) → i ≡ line.OpenPivots n → ⊥) → ((n : _) → i ≡ line.OpenConflicts n → ⊥) → ((p : _) (o : _) (l r : _) → i ≡ line.OpenWide p o l r → ⊥) → ⊥
 unfolding behind
 cause_only (line.OpenPivots n) f h k m = h n refl
 cause_only (line.OpenConflicts n) f h k m = k n refl
 cause_only (line.OpenWide p o l r) f h k m = m p o l r refl
 cause_only i f h k m = absurd (none-some _ (f []).1)
 
-pub cause_due : (i : Item) → Fits ACause i → (due : List Part) → behind ACause i due ≡ Some (parts_behind i ++ due)
+pub cause_due : (i : LineItem) → Fits ACause i → (due : List Part) → behind ACause i due ≡ Some (parts_behind i ++ due)
 unfolding behind
 cause_due i f due = opening_due i due f
 
@@ -33,7 +33,7 @@ pub inconsistent_due : (due : List Part) → behind AVerdict line.Inconsistent d
 unfolding behind
 inconsistent_due due = refl
 
-pub verdict_cause : (i : Item) → Fits AVerdict i → (i ≡ line.Consistent → ⊥) → (i ≡ line.Inconsistent → ⊥) → Fits ACause i
+pub verdict_cause : (i : LineItem) → Fits AVerdict i → (i ≡ line.Consistent → ⊥) → (i ≡ line.Inconsistent → ⊥) → Fits ACause i
 unfolding behind
 verdict_cause line.Consistent f h k = absurd (h refl)
 verdict_cause line.Inconsistent f h k = absurd (k refl)
@@ -42,7 +42,7 @@ verdict_cause (line.OpenConflicts n) f h k = f
 verdict_cause (line.OpenWide p o l r) f h k = f
 verdict_cause i f h k = absurd (none-some _ (f []).1)
 
-pub verdict_opening : (i : Item) → Fits AVerdict i → (i ≡ line.Consistent → ⊥) → (i ≡ line.Inconsistent → ⊥) → (due : List Part) → behind AVerdict i due ≡ Some (parts_behind i ++ due)
+pub verdict_opening : (i : LineItem) → Fits AVerdict i → (i ≡ line.Consistent → ⊥) → (i ≡ line.Inconsistent → ⊥) → (due : List Part) → behind AVerdict i due ≡ Some (parts_behind i ++ due)
 unfolding behind
 verdict_opening line.Consistent f h k due = absurd (h refl)
 verdict_opening line.Inconsistent f h k due = absurd (k refl)
@@ -60,7 +60,7 @@ pub impossible_due : (due : List Part) → behind AnAnswer line.Impossible due �
 unfolding behind
 impossible_due due = refl
 
-pub answer_cause : (i : Item) → Fits AnAnswer i → (i ≡ line.Bounds → ⊥) → (i ≡ line.Impossible → ⊥) → Fits ACause i
+pub answer_cause : (i : LineItem) → Fits AnAnswer i → (i ≡ line.Bounds → ⊥) → (i ≡ line.Impossible → ⊥) → Fits ACause i
 unfolding behind
 answer_cause line.Bounds f h k = absurd (h refl)
 answer_cause line.Impossible f h k = absurd (k refl)
@@ -69,7 +69,7 @@ answer_cause (line.OpenConflicts n) f h k = λ due. (_, refl)
 answer_cause (line.OpenWide p o l r) f h k = λ due. (due, refl)
 answer_cause i f h k = absurd (none-some _ (f []).1)
 
-pub answer_opening : (i : Item) → Fits AnAnswer i → (i ≡ line.Bounds → ⊥) → (i ≡ line.Impossible → ⊥) → (due : List Part) → behind AnAnswer i due ≡ Some ((parts_behind i ++ ATrace ∷ []) ++ due)
+pub answer_opening : (i : LineItem) → Fits AnAnswer i → (i ≡ line.Bounds → ⊥) → (i ≡ line.Impossible → ⊥) → (due : List Part) → behind AnAnswer i due ≡ Some ((parts_behind i ++ ATrace ∷ []) ++ due)
 unfolding behind
 answer_opening line.Bounds f h k due = absurd (h refl)
 answer_opening line.Impossible f h k due = absurd (k refl)
@@ -94,7 +94,7 @@ open_taken false false a b f t = t
 open_taken true false a b f t = absurd (none-some _ (f []).1)
 open_taken false true a b f t = absurd (none-some _ (f []).1)
 
-pub side_only : (upper : Bool) (i : Item) → Fits (ASide upper) i → ((u : Bool) (q : Ratio) → i ≡ line.Bound u q → ⊥) → ((u : Bool) → i ≡ line.OpenSide u → ⊥) → ⊥
+pub side_only : (upper : Bool) (i : LineItem) → Fits (ASide upper) i → ((u : Bool) (q : Ratio) → i ≡ line.Bound u q → ⊥) → ((u : Bool) → i ≡ line.OpenSide u → ⊥) → ⊥
 unfolding behind
 side_only upper (line.Bound u q) f h k = h u q refl
 side_only upper (line.OpenSide u) f h k = k u refl

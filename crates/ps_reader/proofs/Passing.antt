@@ -6,8 +6,8 @@ use Rattle.ps_steps.specs.Steps.{Step}
 use Rattle.ps_pool.specs.declared.event.Event.{Event}
 use Rattle.ps_pool.specs.declared.event.Event.TheVariants.{Pivot, Priced}
 use Rattle.ps_answer.specs.declared.item.Ratio.{Ratio}
-use Rattle.ps_answer.specs.declared.item.Item.{Item}
-use Rattle.ps_answer.specs.declared.item.Item.TheVariants as line
+use Rattle.ps_answer.specs.declared.item.LineItem.{LineItem}
+use Rattle.ps_answer.specs.declared.item.LineItem.TheVariants as line
 use Rattle.ps_answer.specs.declared.answer.Model.{Model}
 use Rattle.ps_answer.specs.declared.answer.Dual.{Dual}
 use Rattle.ps_answer.specs.declared.answer.Cause.{Cause}
@@ -22,24 +22,24 @@ use Rattle.ps_answer.specs.declared.answer.QueryPart.{QueryPart}
 use Rattle.ps_answer.specs.Answers.{ratio_of, entry_item, event_item, model_items, dual_items, trace_items, cause_items, verdict_items, side_items, query_items, part_items, IsCounted, IsVerdictCounted, IsSideCounted, IsQueryCounted, ArePartsCounted}
 use Rattle.ps_answer.specs.declared.part.Part.{Part}
 use Rattle.ps_answer.specs.declared.part.Part.TheVariants.{AVerdict, AModel, AnEntry, ADual, AStep, AGoal, ACause, ATrace, AnEvent, AnAnswer, ASide, AQuery}
-use Rattle.ps_answer.specs.Due.{many, behind, behind_cause, due_behind, and_then}
+use Rattle.ps_answer.specs.ExpectedParts.{many, behind, behind_cause, due_behind, and_then}
 use Rattle.ps_line.specs.Read.{Fits}
 use Rattle.ps_reader.specs.Taken.{repeated}
 use Rattle.ps_reader.specs.Reports.{parts_behind, side_lines, IsSideTold, answer_lines, IsPartTold}
 use Rattle.ps_reader.proofs.Taking.{due_both, many_more, EachPasses}
 
 -- where these parts are due, and then any others, the lines are due, and then the others
-abbrev pub Passes : List Part → List Item → Type 0
+abbrev pub Passes : List Part → List LineItem → Type 0
 Passes parts items = (due : List Part) → due_behind (parts ++ due) items ≡ Some due
 
-pub both_pass : (ps qs : List Part) (is js : List Item) → Passes ps is → Passes qs js → Passes (ps ++ qs) (is ++ js)
+pub both_pass : (ps qs : List Part) (is js : List LineItem) → Passes ps is → Passes qs js → Passes (ps ++ qs) (is ++ js)
 both_pass ps qs is js h k due = due_both ((ps ++ qs) ++ due) (qs ++ due) is js (ap (λ d. due_behind d is) (append_assoc ps qs due) ∙ h (qs ++ due)) ∙ k due
 
 -- a line with what follows it
-pub rest_passes : (p : Part) (parts : List Part) (i : Item) (is : List Item) → ((due : List Part) → behind p i due ≡ Some (parts ++ due)) → Passes parts is → Passes (p ∷ []) (i ∷ is)
+pub rest_passes : (p : Part) (parts : List Part) (i : LineItem) (is : List LineItem) → ((due : List Part) → behind p i due ≡ Some (parts ++ due)) → Passes parts is → Passes (p ∷ []) (i ∷ is)
 rest_passes p parts i is h k due = ap (λ r. and_then r (λ more. due_behind more is)) (h due) ∙ k due
 
-each_due : {X : Type 0} (f : X → Item) (p : Part) → EachPasses f p → (xs : List X) (due : List Part) → due_behind (many (length xs) p due) (map f xs) ≡ Some due
+each_due : {X : Type 0} (f : X → LineItem) (p : Part) → EachPasses f p → (xs : List X) (due : List Part) → due_behind (many (length xs) p due) (map f xs) ≡ Some due
 each_due f p h [] due = refl
 each_due f p h (x ∷ xs) due = ap (λ r. and_then r (λ more. due_behind more (map f xs))) (h x (many (length xs) p due)) ∙ each_due f p h xs due
 
@@ -75,32 +75,32 @@ goal_passes g due = refl
 pub steps_pass : (n : ℕ) (ss : List Step) → length ss ≡ n → Passes (repeated n AStep) (map line.StepLine ss)
 steps_pass n ss e due = ap (λ d. due_behind d (map line.StepLine ss)) (many_more n AStep due ∙ ap (λ k. many k AStep due) (sym e)) ∙ each_due line.StepLine AStep step_due ss due
 
-tail_of : List Item → List Item
+tail_of : List LineItem → List LineItem
 tail_of [] = []
 tail_of (x ∷ xs) = xs
 
-same_head : (x y : Item) (xs ys : List Item) → x ∷ xs ≡ y ∷ ys → x ≡ y
+same_head : (x y : LineItem) (xs ys : List LineItem) → x ∷ xs ≡ y ∷ ys → x ≡ y
 same_head x y xs ys e = ap (λ l. get_or l 0 x) e
 
-same_tail : (x y : Item) (xs ys : List Item) → x ∷ xs ≡ y ∷ ys → xs ≡ ys
+same_tail : (x y : LineItem) (xs ys : List LineItem) → x ∷ xs ≡ y ∷ ys → xs ≡ ys
 unfolding tail_of
 same_tail x y xs ys e = ap tail_of e
 
 -- a cause behind its first line
-pub opening_passes : (c : Cause) (i : Item) (more : List Item) → IsCounted c → cause_items c ≡ i ∷ more → Passes (parts_behind i) more
+pub opening_passes : (c : Cause) (i : LineItem) (more : List LineItem) → IsCounted c → cause_items c ≡ i ∷ more → Passes (parts_behind i) more
 opening_passes (Pivots limit) i more h e =
     subst (λ x. Passes (parts_behind x) more) (same_head (line.OpenPivots limit) i [] more e) (subst (λ x. Passes [] x) (same_tail (line.OpenPivots limit) i [] more e) (λ due. refl))
 opening_passes (Conflicts limit goal steps) i more h e =
-    let rest : List Item = line.GoalLine goal ∷ map line.StepLine steps in
+    let rest : List LineItem = line.GoalLine goal ∷ map line.StepLine steps in
     subst (λ x. Passes (parts_behind x) more) (same_head (line.OpenConflicts limit) i rest more e)
     (subst (λ x. Passes (AGoal ∷ repeated limit AStep) x) (same_tail (line.OpenConflicts limit) i rest more e)
     (both_pass (AGoal ∷ []) (repeated limit AStep) (line.GoalLine goal ∷ []) (map line.StepLine steps) (goal_passes goal) (steps_pass limit steps h)))
 opening_passes (Wide at) i more h e =
-    let first : Item = line.OpenWide at.place at.op (ratio_of at.left) (ratio_of at.right) in
+    let first : LineItem = line.OpenWide at.place at.op (ratio_of at.left) (ratio_of at.right) in
     subst (λ x. Passes (parts_behind x) more) (same_head first i [] more e) (subst (λ x. Passes [] x) (same_tail first i [] more e) (λ due. refl))
 
 -- the first line of a cause, and the parts that follow it
-pub opening_due : (i : Item) (due : List Part) → Fits ACause i → behind_cause i due ≡ Some (parts_behind i ++ due)
+pub opening_due : (i : LineItem) (due : List Part) → Fits ACause i → behind_cause i due ≡ Some (parts_behind i ++ due)
 unfolding behind
 opening_due (line.OpenPivots limit) due f = refl
 opening_due (line.OpenConflicts limit) due f = ap (λ d. Some (AGoal ∷ d)) (sym (many_more limit AStep due))

@@ -4,14 +4,14 @@ use Rattle.std.specs.List.{AllByRecursion}
 use Rattle.std.proofs.lemmas.Option.{none-some, same_Some}
 use Rattle.ps_io.specs.LineText.{lines_bytes}
 use Rattle.ps_log.specs.FirstLines.{IsOneLine}
-use Rattle.ps_answer.specs.declared.item.Item.{Item}
+use Rattle.ps_answer.specs.declared.item.LineItem.{LineItem}
 use Rattle.ps_answer.specs.declared.part.Part.{Part}
 use Rattle.ps_answer.specs.declared.error.LineKind.{LineKind}
 use Rattle.ps_answer.specs.declared.error.LineKind.TheVariants.{MoreAfterEnd}
 use Rattle.ps_answer.specs.declared.error.ReportError.{ReportError}
 use Rattle.ps_answer.specs.declared.error.ReportError.TheVariants.{At, NoMemory}
 use Rattle.ps_answer.specs.Items.{IsWithin}
-use Rattle.ps_answer.specs.Due.{behind, due_behind, and_then, many}
+use Rattle.ps_answer.specs.ExpectedParts.{behind, due_behind, and_then, many}
 use Rattle.ps_answer.specs.Faults.{AreLines, BeginWith, IsFault}
 use Rattle.ps_answer.proofs.Single.{next_of}
 use Rattle.ps_line.specs.Lines.{TakesLine, IsLackingLine}
@@ -30,13 +30,13 @@ all_both : {X : Type 0} (P : X → Type 0) (xs ys : List X) → AllByRecursion P
 all_both P [] ys h k = k
 all_both P (x ∷ xs) ys h k = (h.0, all_both P xs ys h.1 k)
 
-say_both : (ls ks : List (List ℕ)) (is js : List Item) → AreLines ls is → AreLines ks js → AreLines (ls ++ ks) (is ++ js)
+say_both : (ls ks : List (List ℕ)) (is js : List LineItem) → AreLines ls is → AreLines ks js → AreLines (ls ++ ks) (is ++ js)
 say_both [] ks [] js h k = k
 say_both [] ks (i ∷ is) js h k = absurd h
 say_both (l ∷ ls) ks [] js h k = absurd h
 say_both (l ∷ ls) ks (i ∷ is) js h k = (h.0, say_both ls ks is js h.1 k)
 
-begin_both : (bytes mid rest : List ℕ) (is js : List Item) → BeginWith bytes is mid → BeginWith mid js rest → BeginWith bytes (is ++ js) rest
+begin_both : (bytes mid rest : List ℕ) (is js : List LineItem) → BeginWith bytes is mid → BeginWith mid js rest → BeginWith bytes (is ++ js) rest
 begin_both bytes mid rest is js b c = record {
   lines = b.lines ++ c.lines;
   are = b.are ∙ ap (λ x. lines_bytes false b.lines ++ x) c.are ∙ lines_both b.lines c.lines rest;
@@ -45,7 +45,7 @@ begin_both bytes mid rest is js b c = record {
 }
 
 -- what is due behind lines, and then behind others
-pub due_both : (due mid : List Part) (is js : List Item) → due_behind due is ≡ Some mid → due_behind due (is ++ js) ≡ due_behind mid js
+pub due_both : (due mid : List Part) (is js : List LineItem) → due_behind due is ≡ Some mid → due_behind due (is ++ js) ≡ due_behind mid js
 due_both due mid [] js e = ap (λ d. due_behind d js) (same_Some due mid e)
 due_both [] mid (i ∷ is) js e = absurd (none-some mid e)
 due_both (p ∷ due) mid (i ∷ is) js e =
@@ -53,14 +53,14 @@ due_both (p ∷ due) mid (i ∷ is) js e =
     ap (λ r. and_then r (λ more. due_behind more (is ++ js))) n.fits ∙ due_both n.next mid is js n.rest
 
 -- lines are taken, and then others
-pub takes_both : (a b c : Lines) (is js : List Item) → Takes a b is → Takes b c js → Takes a c (is ++ js)
+pub takes_both : (a b c : Lines) (is js : List LineItem) → Takes a b is → Takes b c js → Takes a c (is ++ js)
 takes_both a b c is js p q = record {
   before = begin_both (left_in a) (left_in b) (left_in c) is js p.before q.before;
   within = all_both IsWithin is js p.within q.within;
   count = omega (arith, p.count, q.count, length-append is js);
 }
 
-pub fault_later : (a b : Lines) (is : List Item) (due mid : List Part) (kind : LineKind) (line : ℕ) → Takes a b is → due_behind due is ≡ Some mid → FaultAt b mid kind line → FaultAt a due kind line
+pub fault_later : (a b : Lines) (is : List LineItem) (due mid : List Part) (kind : LineKind) (line : ℕ) → Takes a b is → due_behind due is ≡ Some mid → FaultAt b mid kind line → FaultAt a due kind line
 fault_later a b is due mid kind line p e f = record {
   items = is ++ f.items;
   rest = f.rest;
@@ -73,7 +73,7 @@ fault_later a b is due mid kind line p e f = record {
 }
 
 -- memory that lacks behind lines that were taken
-lack_later : (a b : Lines) (is : List Item) (due mid : List Part) → Takes a b is → due_behind due is ≡ Some mid → LacksAt mid (left_in b) → LacksAt due (left_in a)
+lack_later : (a b : Lines) (is : List LineItem) (due mid : List Part) → Takes a b is → due_behind due is ≡ Some mid → LacksAt mid (left_in b) → LacksAt due (left_in a)
 lack_later a b is due mid p e f = record {
   items = is ++ f.items;
   rest = f.rest;
@@ -98,11 +98,11 @@ lack_here a p h = λ due. record {
 pub lack_line : (a : Lines) (p : Part) → IsLackingLine p (left_in a) → IsStopped a (p ∷ []) NoMemory
 lack_line a p l = lack_here a p (inl l)
 
-pub lack_kept : (a b : Lines) (p : Part) (i : Item) → Takes a b (i ∷ []) → IsKept i → IsStopped a (p ∷ []) NoMemory
+pub lack_kept : (a b : Lines) (p : Part) (i : LineItem) → Takes a b (i ∷ []) → IsKept i → IsStopped a (p ∷ []) NoMemory
 lack_kept a b p i t k = lack_here a p (inr (record { item = i; rest = left_in b; line = t.before; kept = k }))
 
 -- a fault behind lines that were taken
-pub stopped_later : (a b : Lines) (is : List Item) (parts more : List Part) (e : ReportError) → Takes a b is → ((due : List Part) → due_behind (parts ++ due) is ≡ Some (more ++ due)) → IsStopped b more e → IsStopped a parts e
+pub stopped_later : (a b : Lines) (is : List LineItem) (parts more : List Part) (e : ReportError) → Takes a b is → ((due : List Part) → due_behind (parts ++ due) is ≡ Some (more ++ due)) → IsStopped b more e → IsStopped a parts e
 stopped_later a b is parts more (At kind line) p d f = λ due. fault_later a b is (parts ++ due) (more ++ due) kind line p (d due) (f due)
 stopped_later a b is parts more NoMemory p d f = λ due. lack_later a b is (parts ++ due) (more ++ due) p (d due) (f due)
 
@@ -112,7 +112,7 @@ stopped_more a parts more (At kind line) f = λ due. subst (λ d. FaultAt a d ki
 stopped_more a parts more NoMemory f = λ due. subst (λ d. LacksAt d (left_in a)) (sym (append_assoc parts more due)) (f (more ++ due))
 
 -- a line is taken
-pub takes_line : (a b : Lines) (p : Part) (i : Item) → TakesLine p (left_in a) i (left_in b) → b.taken ≡ a.taken + 1 → Takes a b (i ∷ [])
+pub takes_line : (a b : Lines) (p : Part) (i : LineItem) → TakesLine p (left_in a) i (left_in b) → b.taken ≡ a.taken + 1 → Takes a b (i ∷ [])
 takes_line a b p i t e = record {
   before = record {
     lines = t.line ∷ [];
@@ -137,7 +137,7 @@ stopped_line a p kind line f e = λ due. record {
 }
 
 -- a value of one line
-pub one_line : {X : Type 0} (f : X → Item) (parts : List Part) (a b : Lines) (i : Item) (x : X) → Takes a b (i ∷ []) → i ≡ f x → IsValueRead (λ y. f y ∷ []) parts a b (Ok x)
+pub one_line : {X : Type 0} (f : X → LineItem) (parts : List Part) (a b : Lines) (i : LineItem) (x : X) → Takes a b (i ∷ []) → i ≡ f x → IsValueRead (λ y. f y ∷ []) parts a b (Ok x)
 one_line f parts a b i x t e = subst (λ j. Takes a b (j ∷ [])) e t
 
 -- so many parts
@@ -146,24 +146,24 @@ many_more zero p due = refl
 many_more (suc n) p due = ap (λ d. p ∷ d) (many_more n p due)
 
 -- lines of a list so far, where each is one of a part
-abbrev pub EachPasses : {X : Type 0} → (X → Item) → Part → Type 0
+abbrev pub EachPasses : {X : Type 0} → (X → LineItem) → Part → Type 0
 EachPasses {X} f p = (x : X) (due : List Part) → behind p (f x) due ≡ Some due
 
-pub passed : {X : Type 0} (f : X → Item) (p : Part) → EachPasses f p → (xs : List X) (n m : ℕ) (due : List Part) → n ≡ length xs + m → due_behind (many n p due) (map f xs) ≡ Some (many m p due)
+pub passed : {X : Type 0} (f : X → LineItem) (p : Part) → EachPasses f p → (xs : List X) (n m : ℕ) (due : List Part) → n ≡ length xs + m → due_behind (many n p due) (map f xs) ≡ Some (many m p due)
 passed f p h [] n m due e = ap (λ k. Some (many k p due)) (omega (arith, e))
 passed f p h (x ∷ xs) zero m due e = absurd (omega (arith, e))
 passed f p h (x ∷ xs) (suc n) m due e = ap (λ r. and_then r (λ more. due_behind more (map f xs))) (h x (many n p due)) ∙ passed f p h xs n m due (omega (arith, e))
 
-map_push : {X : Type 0} (f : X → Item) (xs : List X) (x : X) → map f (xs ++ x ∷ []) ≡ map f xs ++ f x ∷ []
+map_push : {X : Type 0} (f : X → LineItem) (xs : List X) (x : X) → map f (xs ++ x ∷ []) ≡ map f xs ++ f x ∷ []
 map_push f [] x = refl
 map_push f (y ∷ ys) x = ap (λ l. f y ∷ l) (map_push f ys x)
 
 -- one more of a list
-pub takes_push : {X : Type 0} (f : X → Item) (a b c : Lines) (xs ys : List X) (x : X) → Takes a b (map f xs) → Takes b c (f x ∷ []) → ys ≡ xs ++ x ∷ [] → Takes a c (map f ys)
+pub takes_push : {X : Type 0} (f : X → LineItem) (a b c : Lines) (xs ys : List X) (x : X) → Takes a b (map f xs) → Takes b c (f x ∷ []) → ys ≡ xs ++ x ∷ [] → Takes a c (map f ys)
 takes_push f a b c xs ys x p q e = subst (λ l. Takes a c l) (sym (ap (map f) e ∙ map_push f xs x)) (takes_both a b c (map f xs) (f x ∷ []) p q)
 
 -- the next of a list is at fault
-pub stopped_within : {X : Type 0} (f : X → Item) (p : Part) → EachPasses f p → (a b : Lines) (xs : List X) (n : ℕ) (e : ReportError) → Takes a b (map f xs) → length xs < n → IsStopped b (p ∷ []) e → IsStopped a (repeated n p) e
+pub stopped_within : {X : Type 0} (f : X → LineItem) (p : Part) → EachPasses f p → (a b : Lines) (xs : List X) (n : ℕ) (e : ReportError) → Takes a b (map f xs) → length xs < n → IsStopped b (p ∷ []) e → IsStopped a (repeated n p) e
 stopped_within f p h a b xs n (At kind line) t l s = λ due.
     let m = n - length xs - 1 in
     fault_later a b (map f xs) (repeated n p ++ due) (p ∷ many m p due) kind line t
@@ -176,7 +176,7 @@ stopped_within f p h a b xs n NoMemory t l s = λ due.
     (s (many m p due))
 
 -- a value of a head and what follows it
-pub stopped_behind : (a b : Lines) (i : Item) (p : Part) (more : List Part) (e : ReportError) → Takes a b (i ∷ []) → ((due : List Part) → behind p i due ≡ Some (more ++ due)) → IsStopped b more e → IsStopped a (p ∷ []) e
+pub stopped_behind : (a b : Lines) (i : LineItem) (p : Part) (more : List Part) (e : ReportError) → Takes a b (i ∷ []) → ((due : List Part) → behind p i due ≡ Some (more ++ due)) → IsStopped b more e → IsStopped a (p ∷ []) e
 stopped_behind a b i p more e t h s = stopped_later a b (i ∷ []) (p ∷ []) more e t (λ due. ap (λ r. and_then r (λ m. due_behind m [])) (h due)) s
 
 -- something is left where nothing is due

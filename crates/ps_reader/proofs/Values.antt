@@ -7,12 +7,12 @@ use Rattle.ps_pool.specs.declared.event.Event.{Event}
 use Rattle.ps_pool.specs.declared.event.Event.TheVariants.{Pivot, Priced}
 use Rattle.ps_answer.specs.declared.answer.Weighted.{Weighted}
 use Rattle.ps_answer.specs.declared.error.ReportError.{ReportError}
-use Rattle.ps_answer.specs.declared.item.Item.{Item}
-use Rattle.ps_answer.specs.declared.item.Item.TheVariants as line
+use Rattle.ps_answer.specs.declared.item.LineItem.{LineItem}
+use Rattle.ps_answer.specs.declared.item.LineItem.TheVariants as line
 use Rattle.ps_answer.specs.declared.part.Part.{Part}
 use Rattle.ps_answer.specs.declared.part.Part.TheVariants.{AModel, AnEntry, ADual, SomeRows, AStep, ATrace, AnEvent}
 use Rattle.ps_answer.specs.Answers.{entry_item, event_item, trace_items}
-use Rattle.ps_answer.specs.Due.{behind, due_behind}
+use Rattle.ps_answer.specs.ExpectedParts.{behind, due_behind}
 use Rattle.ps_line.proofs.RowWords.{small_kept}
 use Rattle.ps_reader.specs.declared.lines.Lines.{Lines}
 use Rattle.ps_reader.specs.Errors.{IsKept}
@@ -20,7 +20,7 @@ use Rattle.ps_reader.specs.Taken.{Takes, IsStopped, IsValueRead, repeated}
 use Rattle.ps_reader.proofs.Taking.{EachPasses, many_more, takes_both, stopped_more, stopped_later, stopped_behind}
 
 -- nothing is read where lines are at fault
-pub value_stopped : {X : Type 0} (f : X → List Item) (parts : List Part) (a b : Lines) (e : ReportError) (r : Result X ReportError) → IsStopped a parts e → r ≡ Err e → IsValueRead f parts a b r
+pub value_stopped : {X : Type 0} (f : X → List LineItem) (parts : List Part) (a b : Lines) (e : ReportError) (r : Result X ReportError) → IsStopped a parts e → r ≡ Err e → IsValueRead f parts a b r
 value_stopped f parts a b e r s h = subst (λ q. IsValueRead f parts a b q) (sym h) s
 
 pub some_left : (l : List ℕ) → false ≡ (length l == 0) → l ≡ [] → ⊥

@@ -2,8 +2,8 @@
 use Rattle.std.proofs.Common.{◌≡◌, ℕ, suc, ◌+◌, List, [], ◌∷◌, ◌++◌, length, Some, refl, sym, ap, subst, ◌∙◌, arith}
 use Rattle.std.proofs.lemmas.Option.{none-some}
 use Rattle.ps_pool.specs.declared.event.Event.{Event}
-use Rattle.ps_answer.specs.declared.item.Item.{Item}
-use Rattle.ps_answer.specs.declared.item.Item.TheVariants as line
+use Rattle.ps_answer.specs.declared.item.LineItem.{LineItem}
+use Rattle.ps_answer.specs.declared.item.LineItem.TheVariants as line
 use Rattle.ps_answer.specs.declared.part.Part.TheVariants.{AReport, AVerdict, ATrace, AnAnswer, AQuery}
 use Rattle.ps_answer.specs.declared.error.ReportError.{ReportError}
 use Rattle.ps_answer.specs.declared.error.ReportError.TheVariants.{At, NoMemory}
@@ -12,7 +12,7 @@ use Rattle.ps_answer.specs.declared.answer.Verdict.{Verdict}
 use Rattle.ps_answer.specs.declared.answer.QueryPart.{QueryPart}
 use Rattle.ps_answer.specs.declared.answer.Answer.{Answer}
 use Rattle.ps_answer.specs.Answers.{verdict_items, trace_items, part_items, answer_items, IsVerdictCounted, ArePartsCounted, IsAnswerCounted}
-use Rattle.ps_answer.specs.Due.{behind, at_start}
+use Rattle.ps_answer.specs.ExpectedParts.{behind, at_start}
 use Rattle.ps_answer.specs.Faults.{BeginWith, IsReport, IsFirstFault}
 use Rattle.ps_answer.proofs.Dues.{answer_due}
 use Rattle.ps_line.specs.Read.{Fits}
@@ -54,7 +54,7 @@ pub parts_end : (a b c : Lines) (ps : List QueryPart) (number : ℕ) → PartsSo
 parts_end a b c ps number p t = takes_both a b c (part_items 1 ps) (line.End ∷ []) p.taken t
 
 -- the pieces of an answer
-pub report_line : (i : Item) → Fits AReport i → i ≡ line.Report
+pub report_line : (i : LineItem) → Fits AReport i → i ≡ line.Report
 unfolding behind
 report_line line.Report f = refl
 report_line i f = absurd (none-some _ (f []).1)

@@ -1,8 +1,8 @@
 -- What is read of a report behind a first line.
 use Rattle.std.specs.Prelude.{ℕ, ◌≡◌, ◌≤◌, Bool, true, false, List, [], ◌∷◌, ◌++◌, Result, Ok, Err, ⊤}
 use Rattle.ps_pool.specs.declared.event.Event.{Event}
-use Rattle.ps_answer.specs.declared.item.Item.{Item}
-use Rattle.ps_answer.specs.declared.item.Item.TheVariants as line
+use Rattle.ps_answer.specs.declared.item.LineItem.{LineItem}
+use Rattle.ps_answer.specs.declared.item.LineItem.TheVariants as line
 use Rattle.ps_answer.specs.declared.part.Part.{Part}
 use Rattle.ps_answer.specs.declared.part.Part.TheVariants.{AModel, ADual, AStep, AGoal, ACause, ATrace, ASide}
 use Rattle.ps_answer.specs.declared.error.ReportError.{ReportError}
@@ -15,12 +15,12 @@ use Rattle.ps_reader.specs.declared.lines.Lines.{Lines}
 use Rattle.ps_reader.specs.Taken.{Takes, IsStopped, repeated}
 
 -- a value is read whose first line says this and whose other parts are these, or one of them is at fault
-abbrev pub IsReadBehind : {X : Type 0} → Item → (X → List Item) → List Part → Lines → Lines → Result X ReportError → Type 0
-IsReadBehind i items_of parts old new (Ok x) = (more : List Item) × (items_of x ≡ i ∷ more) × Takes old new more
+abbrev pub IsReadBehind : {X : Type 0} → LineItem → (X → List LineItem) → List Part → Lines → Lines → Result X ReportError → Type 0
+IsReadBehind i items_of parts old new (Ok x) = (more : List LineItem) × (items_of x ≡ i ∷ more) × Takes old new more
 IsReadBehind i items_of parts old new (Err e) = IsStopped old parts e
 
 -- the parts behind the first line of a verdict, a cause, a side or a query's answer
-abbrev pub parts_behind : Item → List Part
+abbrev pub parts_behind : LineItem → List Part
 parts_behind line.Consistent = AModel ∷ []
 parts_behind line.Inconsistent = ADual ∷ []
 parts_behind (line.OpenConflicts limit) = AGoal ∷ repeated limit AStep
@@ -31,20 +31,20 @@ parts_behind line.Impossible = ADual ∷ ATrace ∷ []
 parts_behind i = []
 
 -- the rest of a value is read, whose first line says this
-abbrev pub IsRestRead : {X : Type 0} → Item → (X → List Item) → Lines → Lines → Result X ReportError → Type 0
+abbrev pub IsRestRead : {X : Type 0} → LineItem → (X → List LineItem) → Lines → Lines → Result X ReportError → Type 0
 IsRestRead i items_of old new result = IsReadBehind i items_of (parts_behind i) old new result
 
 -- a line that says what may be said, within the limits
-pub record IsGood (i : Item) : Type 0 where
+pub record IsGood (i : LineItem) : Type 0 where
   pub proper : IsProper i
   pub within : IsWithin i
 
 -- a side with its trace
-abbrev pub side_lines : Bool → SideAnswer × List Event → List Item
+abbrev pub side_lines : Bool → SideAnswer × List Event → List LineItem
 side_lines upper s = side_items upper s.0 s.1
 
 -- the rest of a side is read, lower and upper alike
-abbrev pub IsSideRest : (Bool → Item) → Lines → Lines → Result (SideAnswer × List Event) ReportError → Type 0
+abbrev pub IsSideRest : (Bool → LineItem) → Lines → Lines → Result (SideAnswer × List Event) ReportError → Type 0
 IsSideRest first old new result = (upper : Bool) → IsRestRead (first upper) (side_lines upper) old new result
 
 -- a side that is open for conflicts has as many steps as their limit
@@ -52,11 +52,11 @@ abbrev pub IsSideTold : SideAnswer × List Event → Type 0
 IsSideTold s = IsSideCounted s.0
 
 -- a query's answer with the trace of its first phase
-abbrev pub answer_lines : QueryPart → List Item
+abbrev pub answer_lines : QueryPart → List LineItem
 answer_lines p = query_items p.answer p.first
 
 -- the rest of an open answer is read, whose cause begins so: the parts of the cause, and a trace
-abbrev pub IsOpenRest : Item → Lines → Lines → Result QueryPart ReportError → Type 0
+abbrev pub IsOpenRest : LineItem → Lines → Lines → Result QueryPart ReportError → Type 0
 IsOpenRest i old new result = IsReadBehind i answer_lines (parts_behind i ++ ATrace ∷ []) old new result
 
 -- an answer to a query that is open for conflicts has as many steps as their limit, and so has each side that is
@@ -64,11 +64,11 @@ abbrev pub IsPartTold : QueryPart → Type 0
 IsPartTold p = IsQueryCounted p.answer
 
 -- the parts from the first on, and the line that ends a report
-abbrev pub parts_lines : List QueryPart → List Item
+abbrev pub parts_lines : List QueryPart → List LineItem
 parts_lines ps = part_items 1 ps ++ line.End ∷ []
 
 -- whether the query of this number begins, or the report ends
-abbrev pub query_line : ℕ → Bool → List Item
+abbrev pub query_line : ℕ → Bool → List LineItem
 query_line j true = line.Query j ∷ []
 query_line j false = line.End ∷ []
 

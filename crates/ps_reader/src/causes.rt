@@ -4,7 +4,7 @@ ghost use Rattle.ps_rational.specs.Rational.{fraction as quotient};
 ghost use Rattle.ps_answer.specs.Answers.{ratio_of, cause_items, verdict_items, IsCounted, IsVerdictCounted};
 ghost use Rattle.ps_answer.specs.Items.{IsReducedWithin, IsRatioWithin};
 ghost use Rattle.ps_answer.specs.declared.limits.TheConstants.{MOST_OPERAND};
-ghost use Rattle.ps_answer.specs.declared.item.Item.TheVariants as line;
+ghost use Rattle.ps_answer.specs.declared.item.LineItem.TheVariants as line;
 ghost use Rattle.ps_answer.specs.declared.part.Part.TheVariants.{ACause, AGoal, AVerdict};
 ghost use Rattle.ps_line.specs.Read.{Fits};
 ghost use Rattle.ps_reader.specs.Taken.{IsLineRead, IsValueRead};
@@ -12,7 +12,7 @@ ghost use Rattle.ps_reader.specs.Reports.{IsRestRead, IsGood};
 
 use crate::lines::Lines;
 use crate::models::{dual, model, steps};
-use ps_answer::{Cause, Item, Part, Ratio, ReportError, Verdict};
+use ps_answer::{Cause, LineItem, Part, Ratio, ReportError, Verdict};
 use ps_frac::{Fraction, Op};
 use ps_pb::Constraint;
 use ps_table::{Place, WideAt};
@@ -27,16 +27,16 @@ pub(crate) fn cause(lines: &mut Lines<'_>) -> Result<Cause, ReportError>
 }
 
 /// The cause that a line begins.
-pub(crate) fn cause_behind(item: Item, lines: &mut Lines<'_>) -> Result<Cause, ReportError>
+pub(crate) fn cause_behind(item: LineItem, lines: &mut Lines<'_>) -> Result<Cause, ReportError>
     requires fits { Fits ACause item }
     requires good { IsGood item }
     ensures cause { IsRestRead item cause_items lines.old lines.new result }
     ensures counted { IfOk result IsCounted }
 {
     match item {
-        Item::OpenPivots { limit } => Ok(Cause::Pivots { limit }),
-        Item::OpenConflicts { limit } => conflicts(limit, lines),
-        Item::OpenWide {
+        LineItem::OpenPivots { limit } => Ok(Cause::Pivots { limit }),
+        LineItem::OpenConflicts { limit } => conflicts(limit, lines),
+        LineItem::OpenWide {
             place,
             op,
             left,
@@ -77,7 +77,7 @@ fn goal(lines: &mut Lines<'_>) -> Result<Constraint, ReportError>
     ensures { IsLineRead (λ g. line.GoalLine g) AGoal lines.old lines.new result }
 {
     match lines.take(Part::AGoal)? {
-        Item::GoalLine { goal } => Ok(goal),
+        LineItem::GoalLine { goal } => Ok(goal),
         _ => unreachable!(),
     }
 }
@@ -106,8 +106,8 @@ pub(crate) fn verdict(lines: &mut Lines<'_>) -> Result<Verdict, ReportError>
     ensures counted { IfOk result IsVerdictCounted }
 {
     match lines.take(Part::AVerdict)? {
-        Item::Consistent => consistent(lines),
-        Item::Inconsistent => inconsistent(lines),
+        LineItem::Consistent => consistent(lines),
+        LineItem::Inconsistent => inconsistent(lines),
         item => open(item, lines),
     }
 }
@@ -126,7 +126,7 @@ fn inconsistent(lines: &mut Lines<'_>) -> Result<Verdict, ReportError>
     Ok(Verdict::Inconsistent(dual(lines)?))
 }
 
-fn open(item: Item, lines: &mut Lines<'_>) -> Result<Verdict, ReportError>
+fn open(item: LineItem, lines: &mut Lines<'_>) -> Result<Verdict, ReportError>
     requires fits { Fits ACause item }
     requires good { IsGood item }
     ensures verdict { IsRestRead item verdict_items lines.old lines.new result }

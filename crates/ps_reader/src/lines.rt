@@ -1,7 +1,7 @@
 //! The lines of a report, one after another.
 ghost use Rattle.std.specs.Prelude.{◌≤◌, ◌+◌, ◌^◌, length};
 
-use ps_answer::{Item, LineKind, Part, ReportError};
+use ps_answer::{LineItem, LineKind, Part, ReportError};
 use ps_line::{LineError, read_line};
 use std::alloc::Global;
 
@@ -37,7 +37,7 @@ impl<'b> Lines<'b> {
     }
 
     /// Takes a line, where a part is due.
-    pub(crate) fn take(&mut self, part: Part) -> Result<Item, ReportError>
+    pub(crate) fn take(&mut self, part: Part) -> Result<LineItem, ReportError>
         ensures line { IfOk result (λ i. Takes self.old self.new (i ∷ [])) }
         ensures fits { IfOk result (λ i. Fits part i) }
         ensures stopped { IfErr result (λ e. IsStopped self.old (part ∷ []) e) }

@@ -1,12 +1,12 @@
 //! Models and duals that are read.
 ghost use Rattle.std.specs.Prelude.{◌≡◌, ◌∷◌, [], map, length, IfOk};
 ghost use Rattle.ps_answer.specs.Answers.{entry_item, model_items, dual_items};
-ghost use Rattle.ps_answer.specs.declared.item.Item.TheVariants as line;
+ghost use Rattle.ps_answer.specs.declared.item.LineItem.TheVariants as line;
 ghost use Rattle.ps_answer.specs.declared.part.Part.TheVariants.{AModel, AnEntry, ADual, SomeRows, AStep};
 ghost use Rattle.ps_reader.specs.Taken.{IsLineRead, IsValueRead, repeated};
 
 use crate::lines::Lines;
-use ps_answer::{Dual, Item, Model, Multipliers, Part, ReportError, Weighted, Worlds};
+use ps_answer::{Dual, LineItem, Model, Multipliers, Part, ReportError, Weighted, Worlds};
 use ps_io::List;
 use ps_pb::{Step, Steps};
 
@@ -23,7 +23,7 @@ fn model_head(lines: &mut Lines<'_>) -> Result<(i128, u64), ReportError>
     ensures { IsLineRead (λ h. line.ModelHead h.0 h.1) AModel lines.old lines.new result }
 {
     match lines.take(Part::AModel)? {
-        Item::ModelHead { total, count } => Ok((total, count)),
+        LineItem::ModelHead { total, count } => Ok((total, count)),
         _ => unreachable!(),
     }
 }
@@ -44,7 +44,7 @@ fn entry(lines: &mut Lines<'_>) -> Result<Weighted, ReportError>
     ensures { IsLineRead entry_item AnEntry lines.old lines.new result }
 {
     match lines.take(Part::AnEntry)? {
-        Item::Entry { weight, world } => Ok(Weighted { weight, world }),
+        LineItem::Entry { weight, world } => Ok(Weighted { weight, world }),
         _ => unreachable!(),
     }
 }
@@ -68,7 +68,7 @@ fn dual_head(lines: &mut Lines<'_>) -> Result<(i128, i128, u64), ReportError>
     ensures { IsLineRead (λ h. line.DualHead h.0 h.1 h.2) ADual lines.old lines.new result }
 {
     match lines.take(Part::ADual)? {
-        Item::DualHead { top, head, count } => Ok((top, head, count)),
+        LineItem::DualHead { top, head, count } => Ok((top, head, count)),
         _ => unreachable!(),
     }
 }
@@ -77,7 +77,7 @@ fn rows(lines: &mut Lines<'_>) -> Result<Multipliers, ReportError>
     ensures { IsLineRead (λ zs. line.Rows zs) SomeRows lines.old lines.new result }
 {
     match lines.take(Part::SomeRows)? {
-        Item::Rows { rows } => Ok(rows),
+        LineItem::Rows { rows } => Ok(rows),
         _ => unreachable!(),
     }
 }
@@ -99,7 +99,7 @@ fn step(lines: &mut Lines<'_>) -> Result<Step, ReportError>
     ensures { IsLineRead (λ s. line.StepLine s) AStep lines.old lines.new result }
 {
     match lines.take(Part::AStep)? {
-        Item::StepLine { step } => Ok(step),
+        LineItem::StepLine { step } => Ok(step),
         _ => unreachable!(),
     }
 }

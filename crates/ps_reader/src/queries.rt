@@ -3,7 +3,7 @@ ghost use Rattle.std.specs.Prelude.{◌∷◌, [], IfOk};
 ghost use Rattle.ps_answer.specs.Answers.{ArePartsCounted};
 ghost use Rattle.ps_answer.specs.Items.{IsReducedWithin, IsRatioWithin};
 ghost use Rattle.ps_answer.specs.declared.limits.TheConstants.{MOST_OPERAND};
-ghost use Rattle.ps_answer.specs.declared.item.Item.TheVariants as line;
+ghost use Rattle.ps_answer.specs.declared.item.LineItem.TheVariants as line;
 ghost use Rattle.ps_answer.specs.declared.part.Part.TheVariants.{ACause, AnAnswer, ASide, AQuery};
 ghost use Rattle.ps_line.specs.Read.{Fits};
 ghost use Rattle.ps_reader.specs.Taken.{IsValueRead};
@@ -15,7 +15,7 @@ use crate::causes::{cause, cause_behind, fraction};
 use crate::lines::Lines;
 use crate::models::{dual, model};
 use crate::traces::trace;
-use ps_answer::{Item, Part, Parts, QueryAnswer, QueryPart, Ratio, ReportError, SideAnswer};
+use ps_answer::{LineItem, Part, Parts, QueryAnswer, QueryPart, Ratio, ReportError, SideAnswer};
 use ps_io::List;
 use ps_pool::Trace;
 
@@ -25,8 +25,8 @@ fn side(upper: bool, lines: &mut Lines<'_>) -> Result<(SideAnswer, Trace), Repor
     ensures counted { IfOk result IsSideTold }
 {
     match lines.take(Part::ASide { upper })? {
-        Item::Bound { value, .. } => bound(&value, lines),
-        Item::OpenSide { .. } => open_side(lines),
+        LineItem::Bound { value, .. } => bound(&value, lines),
+        LineItem::OpenSide { .. } => open_side(lines),
         _ => unreachable!(),
     }
 }
@@ -59,8 +59,8 @@ fn part(lines: &mut Lines<'_>) -> Result<QueryPart, ReportError>
     ensures counted { IfOk result IsPartTold }
 {
     match lines.take(Part::AnAnswer)? {
-        Item::Bounds => sides(lines),
-        Item::Impossible => impossible(lines),
+        LineItem::Bounds => sides(lines),
+        LineItem::Impossible => impossible(lines),
         item => open(item, lines),
     }
 }
@@ -95,7 +95,7 @@ fn impossible(lines: &mut Lines<'_>) -> Result<QueryPart, ReportError>
     })
 }
 
-fn open(item: Item, lines: &mut Lines<'_>) -> Result<QueryPart, ReportError>
+fn open(item: LineItem, lines: &mut Lines<'_>) -> Result<QueryPart, ReportError>
     requires fits { Fits ACause item }
     requires good { IsGood item }
     ensures part { IsOpenRest item lines.old lines.new result }
@@ -128,8 +128,8 @@ fn is_query(number: u64, lines: &mut Lines<'_>) -> Result<bool, ReportError>
     ensures number { IfOk result (IsNumbered number) }
 {
     match lines.take(Part::AQuery { number })? {
-        Item::Query { .. } => Ok(true),
-        Item::End => Ok(false),
+        LineItem::Query { .. } => Ok(true),
+        LineItem::End => Ok(false),
         _ => unreachable!(),
     }
 }

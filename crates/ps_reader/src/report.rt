@@ -1,7 +1,7 @@
 //! Reports that are read.
 ghost use Rattle.std.specs.Prelude.{IfOk, IfErr};
 ghost use Rattle.ps_answer.specs.Answers.{answer_items, IsAnswerCounted};
-ghost use Rattle.ps_answer.specs.Due.{at_start};
+ghost use Rattle.ps_answer.specs.ExpectedParts.{at_start};
 ghost use Rattle.ps_answer.specs.Faults.{IsReport};
 ghost use Rattle.ps_reader.specs.Taken.{IsValueRead};
 ghost use Rattle.ps_reader.specs.Errors.{TellsFault};

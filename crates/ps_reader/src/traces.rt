@@ -1,12 +1,12 @@
 //! Traces that are read.
 ghost use Rattle.std.specs.Prelude.{◌≡◌, ◌∷◌, [], map, length, IfOk};
 ghost use Rattle.ps_answer.specs.Answers.{event_item, trace_items};
-ghost use Rattle.ps_answer.specs.declared.item.Item.TheVariants as line;
+ghost use Rattle.ps_answer.specs.declared.item.LineItem.TheVariants as line;
 ghost use Rattle.ps_answer.specs.declared.part.Part.TheVariants.{ATrace, AnEvent};
 ghost use Rattle.ps_reader.specs.Taken.{IsLineRead, IsValueRead, repeated};
 
 use crate::lines::Lines;
-use ps_answer::{Item, Part, ReportError};
+use ps_answer::{LineItem, Part, ReportError};
 use ps_io::List;
 use ps_pool::{Event, Trace};
 
@@ -22,7 +22,7 @@ fn trace_head(lines: &mut Lines<'_>) -> Result<u64, ReportError>
     ensures { IsLineRead (λ n. line.TraceHead n) ATrace lines.old lines.new result }
 {
     match lines.take(Part::ATrace)? {
-        Item::TraceHead { count } => Ok(count),
+        LineItem::TraceHead { count } => Ok(count),
         _ => unreachable!(),
     }
 }
@@ -43,8 +43,8 @@ fn event(lines: &mut Lines<'_>) -> Result<Event, ReportError>
     ensures { IsLineRead event_item AnEvent lines.old lines.new result }
 {
     match lines.take(Part::AnEvent)? {
-        Item::PivotLine { enter, leave } => Ok(Event::Pivot { enter, leave }),
-        Item::PricedLine { world } => Ok(Event::Priced { world }),
+        LineItem::PivotLine { enter, leave } => Ok(Event::Pivot { enter, leave }),
+        LineItem::PricedLine { world } => Ok(Event::Priced { world }),
         _ => unreachable!(),
     }
 }

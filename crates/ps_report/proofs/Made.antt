@@ -14,7 +14,7 @@ use Rattle.ps_log.specs.Texts.{with_number, with_numbers, step_numbers, goal_num
 use Rattle.ps_steps.specs.Constraints.{Constraint}
 use Rattle.ps_steps.specs.Steps.{Step}
 use Rattle.ps_steps.specs.Weights.{weighted}
-use Rattle.ps_answer.specs.declared.item.Item.TheVariants as line
+use Rattle.ps_answer.specs.declared.item.LineItem.TheVariants as line
 use Rattle.ps_answer.specs.Items.{item_line}
 use Rattle.ps_answer.specs.Words.{Word, Number, word_text}
 use Rattle.ps_log.specs.Lines.{AddsNumbers}

@@ -2,8 +2,8 @@
 use Rattle.std.proofs.Common.{◌≡◌, ◌<◌, ◌+◌, ℕ, zero, suc, List, [], ◌∷◌, ◌++◌, length, take, drop, get_or, refl, sym, ap, subst, ◌∙◌, arith, append_assoc, append-nil}
 use Rattle.std.proofs.lemmas.List.{take_more, length-take, take-append-drop}
 use Rattle.ps_answer.specs.declared.answer.QueryPart.{QueryPart}
-use Rattle.ps_answer.specs.declared.item.Item.{Item}
-use Rattle.ps_answer.specs.declared.item.Item.TheVariants as line
+use Rattle.ps_answer.specs.declared.item.LineItem.{LineItem}
+use Rattle.ps_answer.specs.declared.item.LineItem.TheVariants as line
 use Rattle.ps_answer.specs.declared.answer.Answer.{Answer}
 use Rattle.ps_answer.specs.Answers.{answer_items, part_items, query_items}
 use Rattle.ps_report.specs.Parts.{AreShort}
@@ -14,7 +14,7 @@ parts_both : (j : ℕ) (xs ys : List QueryPart) → part_items j (xs ++ ys) ≡ 
 parts_both j [] ys = let e : j ≡ j + 0 = omega arith in ap (λ k. part_items k ys) e
 parts_both j (p ∷ ps) ys =
     let e : suc j + length ps ≡ j + suc (length ps) = omega arith in
-    let q : List Item = query_items p.answer p.first in
+    let q : List LineItem = query_items p.answer p.first in
     ap (λ r. line.Query j ∷ (q ++ r)) (parts_both (suc j) ps ys ∙ ap (λ k. part_items (suc j) ps ++ part_items k ys) e)
     ∙ sym (ap (λ r. line.Query j ∷ r) (append_assoc q (part_items (suc j) ps) (part_items (j + suc (length ps)) ys)))
 

@@ -11,8 +11,8 @@ use Rattle.ps_log.specs.Lines.{HoldsLine}
 use Rattle.ps_rational.specs.Rational.{Rational}
 use Rattle.ps_table.specs.declared.place.WideAt.{WideAt}
 use Rattle.ps_table.specs.declared.place.TableCol.{TableCol}
-use Rattle.ps_answer.specs.declared.item.Item.{Item}
-use Rattle.ps_answer.specs.declared.item.Item.TheVariants as line
+use Rattle.ps_answer.specs.declared.item.LineItem.{LineItem}
+use Rattle.ps_answer.specs.declared.item.LineItem.TheVariants as line
 use Rattle.ps_answer.specs.Items.{item_line, op_word, shown_word, count}
 use Rattle.ps_answer.specs.Answers.{ratio_of}
 use Rattle.ps_answer.specs.Words.{Word, Letters, Fraction, word_text}
@@ -27,15 +27,15 @@ AddsWords old new words = HoldsLine old new (with_words (text_of old) words)
 
 module _ {O : Type 0} (sink : Ghosts O) (old new : Lines O) (result : Result (Unit {0}) WriteFault) where
   -- the line of this item was written, or a proper prefix of it where the write failed
-  abbrev pub WroteItem : Item → Type 0
+  abbrev pub WroteItem : LineItem → Type 0
   WroteItem item = Wrote sink.written sink.faults old new result (item_line item ∷ [])
 
 -- the line of a side's value
-abbrev pub bound_item : Bool → Rational → Item
+abbrev pub bound_item : Bool → Rational → LineItem
 bound_item upper value = line.Bound upper (ratio_of value)
 
 -- the line of an operation that was refused
-abbrev pub wide_item : WideAt → Item
+abbrev pub wide_item : WideAt → LineItem
 wide_item at = line.OpenWide at.place at.op (ratio_of at.left) (ratio_of at.right)
 
 -- the words of a place in the table: its name, a row, and a column
@@ -51,5 +51,5 @@ abbrev pub operation_words : WideAt → List Word
 operation_words at = op_word at.op ∷ Fraction (ratio_of at.left) ∷ Fraction (ratio_of at.right) ∷ []
 
 -- the line of an item is shorter than the longest that is written
-abbrev pub IsShort : Item → Type 0
+abbrev pub IsShort : LineItem → Type 0
 IsShort item = length (item_line item) < LONGEST_LINE

@@ -1,7 +1,7 @@
 //! Causes and verdicts.
 ghost use Rattle.std.specs.Prelude.{◌≡◌, [], ◌∷◌};
 ghost use Rattle.ps_answer.specs.Answers.{cause_items, verdict_items, model_items, dual_items};
-ghost use Rattle.ps_answer.specs.declared.item.Item.TheVariants as line;
+ghost use Rattle.ps_answer.specs.declared.item.LineItem.TheVariants as line;
 ghost use Rattle.ps_io.specs.Lines.{text_of};
 ghost use Rattle.ps_report.specs.Parts.{WroteItems, AreShort, conflict_items, goal_items};
 ghost use Rattle.ps_report.specs.Parts.{open_items, refuted_items};

@@ -1,7 +1,7 @@
 //! Lines that are written as they stand, and lines of one word.
 ghost use Rattle.std.specs.Prelude.{◌≡◌, [], ◌∷◌};
-ghost use Rattle.ps_answer.specs.declared.item.Item.TheVariants.{Report, Consistent, Inconsistent};
-ghost use Rattle.ps_answer.specs.declared.item.Item.TheVariants.{Bounds, Impossible, End};
+ghost use Rattle.ps_answer.specs.declared.item.LineItem.TheVariants.{Report, Consistent, Inconsistent};
+ghost use Rattle.ps_answer.specs.declared.item.LineItem.TheVariants.{Bounds, Impossible, End};
 ghost use Rattle.ps_io.specs.Lines.{text_of};
 ghost use Rattle.ps_io.specs.Wrote.{Wrote};
 ghost use Rattle.ps_report.specs.Written.{WroteItem};

@@ -1,8 +1,8 @@
 //! Lines of models, duals and traces below their heads.
 ghost use Rattle.std.specs.Prelude.{◌≡◌, ◌<◌, [], ◌∷◌, codes};
 ghost use Rattle.ps_answer.specs.Answers.{entry_item, event_item};
-ghost use Rattle.ps_answer.specs.declared.item.Item.TheVariants.{Rows, StepLine, GoalLine};
-ghost use Rattle.ps_answer.specs.declared.item.Item.TheVariants.{PivotLine, PricedLine};
+ghost use Rattle.ps_answer.specs.declared.item.LineItem.TheVariants.{Rows, StepLine, GoalLine};
+ghost use Rattle.ps_answer.specs.declared.item.LineItem.TheVariants.{PivotLine, PricedLine};
 ghost use Rattle.ps_answer.specs.Items.{item_line};
 ghost use Rattle.ps_io.specs.Lines.{text_of};
 ghost use Rattle.ps_log.specs.Lines.{HoldsLine, AddsNumbers, length_with};

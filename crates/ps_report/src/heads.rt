@@ -1,7 +1,7 @@
 //! Lines of a word and numbers.
 ghost use Rattle.std.specs.Prelude.{◌≡◌, []};
-ghost use Rattle.ps_answer.specs.declared.item.Item.TheVariants.{ModelHead, DualHead, TraceHead};
-ghost use Rattle.ps_answer.specs.declared.item.Item.TheVariants.{Query};
+ghost use Rattle.ps_answer.specs.declared.item.LineItem.TheVariants.{ModelHead, DualHead, TraceHead};
+ghost use Rattle.ps_answer.specs.declared.item.LineItem.TheVariants.{Query};
 ghost use Rattle.ps_io.specs.Lines.{text_of};
 ghost use Rattle.ps_report.specs.Written.{WroteItem};
 

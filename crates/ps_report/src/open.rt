@@ -1,7 +1,7 @@
 //! Lines of parts that are open, and of values.
 ghost use Rattle.std.specs.Prelude.{◌≡◌, ◌≤◌, ◌*◌, ◌++◌, [], ◌∷◌, length};
-ghost use Rattle.ps_answer.specs.declared.item.Item.TheVariants.{OpenPivots, OpenConflicts};
-ghost use Rattle.ps_answer.specs.declared.item.Item.TheVariants.{OpenSide};
+ghost use Rattle.ps_answer.specs.declared.item.LineItem.TheVariants.{OpenPivots, OpenConflicts};
+ghost use Rattle.ps_answer.specs.declared.item.LineItem.TheVariants.{OpenSide};
 ghost use Rattle.ps_answer.specs.Items.{item_line, count};
 ghost use Rattle.ps_answer.specs.Words.{joined};
 ghost use Rattle.ps_io.specs.LineText.{IsWord};

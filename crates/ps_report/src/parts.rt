@@ -2,7 +2,7 @@
 ghost use Rattle.std.specs.Prelude.{◌≡◌, [], map};
 ghost use Rattle.ps_answer.specs.Answers.{entry_item, event_item};
 ghost use Rattle.ps_answer.specs.Answers.{model_items, dual_items, trace_items};
-ghost use Rattle.ps_answer.specs.declared.item.Item.TheVariants.{StepLine};
+ghost use Rattle.ps_answer.specs.declared.item.LineItem.TheVariants.{StepLine};
 ghost use Rattle.ps_io.specs.Lines.{text_of};
 ghost use Rattle.ps_report.specs.Parts.{WroteItems, AreShort, below_dual_head};
 

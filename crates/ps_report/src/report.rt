@@ -1,7 +1,7 @@
 //! Reports.
 ghost use Rattle.std.specs.Prelude.{◌≡◌, ◌++◌, [], ◌∷◌};
 ghost use Rattle.ps_answer.specs.Answers.{answer_items, answer_lines, part_items};
-ghost use Rattle.ps_answer.specs.declared.item.Item.TheVariants as line;
+ghost use Rattle.ps_answer.specs.declared.item.LineItem.TheVariants as line;
 ghost use Rattle.ps_io.specs.Lines.{text_of};
 ghost use Rattle.ps_io.specs.Wrote.{Wrote};
 ghost use Rattle.ps_report.specs.Parts.{WroteItems, AreShort};

@@ -15,8 +15,8 @@ use Rattle.ps_problem.specs.declared.query.Query as stored
 use Rattle.ps_problem.specs.Problems.{Parts, AreParts, bounds_in, bound_of}
 use Rattle.ps_table.specs.declared.place.WideAt.{WideAt}
 use Rattle.ps_answer.specs.declared.limits.TheConstants.{MOST_PIVOTS, MOST_CONFLICTS}
-use Rattle.ps_answer.specs.declared.item.Item.{Item}
-use Rattle.ps_answer.specs.declared.item.Item.TheVariants as line
+use Rattle.ps_answer.specs.declared.item.LineItem.{LineItem}
+use Rattle.ps_answer.specs.declared.item.LineItem.TheVariants as line
 use Rattle.ps_answer.specs.declared.answer.Cause.{Cause}
 use Rattle.ps_answer.specs.declared.answer.Cause.TheVariants.{Pivots, Conflicts, Wide}
 use Rattle.ps_answer.specs.Items.{IsReducedWithin, IsRatioWithin}
@@ -40,8 +40,8 @@ pub record AreLimits (p : Parts) (pivots conflicts : ℕ) : Type 0 where
   pub few_conflicts : conflicts ≤ MOST_CONFLICTS
 
 -- what is so of a line that is fit, and of the line of an open part where a number is too wide, if any part may be open
-pub record AreLines (pivots : ℕ) (Q : Item → Type 0) (Open : Type 0) : Type 0 where
-  pub fit : (i : Item) → IsFit i → Q i
+pub record AreLines (pivots : ℕ) (Q : LineItem → Type 0) (Open : Type 0) : Type 0 where
+  pub fit : (i : LineItem) → IsFit i → Q i
   pub wide : Open → (at : WideAt) → IsPlaceUnder 101 (pivots + 2) at.place → ArePrintedOperands at
       → Q (line.OpenWide at.place at.op (ratio_of at.left) (ratio_of at.right))
 
@@ -68,7 +68,7 @@ few_rows p q are =
     let same = length-map (bounds_in p.sentences) (bound_of p.nodes) in
     omega (arith, few, same)
 
-module _ (p : Parts) (q : Option stored.Query) (pivots conflicts : ℕ) (limits : AreLimits p pivots conflicts) (Q : Item → Type 0) (Open : Type 0) (lines : AreLines pivots Q Open) where
+module _ (p : Parts) (q : Option stored.Query) (pivots conflicts : ℕ) (limits : AreLimits p pivots conflicts) (Q : LineItem → Type 0) (Open : Type 0) (lines : AreLines pivots Q Open) where
   abbrev s : Subject
   s = record { parts = p; query = q }
 

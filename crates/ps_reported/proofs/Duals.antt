@@ -7,7 +7,7 @@ use Rattle.ps_steps.specs.Steps.{Step, AreLawful}
 use Rattle.ps_forms.specs.Forms.{form_of, first_known}
 use Rattle.ps_problem.specs.Problems.{Parts, AreParts, bounds_in, bounds_of, bound_of}
 use Rattle.ps_log.specs.Limits.{IsStepWithin}
-use Rattle.ps_answer.specs.declared.item.Item.TheVariants as line
+use Rattle.ps_answer.specs.declared.item.LineItem.TheVariants as line
 use Rattle.ps_answer.specs.declared.answer.Dual.{Dual}
 use Rattle.ps_answer.specs.Answers.{dual_items}
 use Rattle.ps_certificate.specs.Certificates.{dual_of, HasQuery}

@@ -9,7 +9,7 @@ use Rattle.ps_meaning.specs.Distribution.{IsDistribution, weight, total}
 use Rattle.ps_meaning.specs.Bounds.{Bound}
 use Rattle.ps_meaning.proofs.Weights.{weight-nonneg}
 use Rattle.ps_entailment.specs.Answers as claimed
-use Rattle.ps_answer.specs.declared.item.Item.{Item}
+use Rattle.ps_answer.specs.declared.item.LineItem.{LineItem}
 use Rattle.ps_answer.specs.declared.answer.Weighted.{Weighted}
 use Rattle.ps_answer.specs.declared.answer.Model.{Model}
 use Rattle.ps_answer.specs.Items.{IsProper, IsWithin, IsPrintable}
@@ -18,7 +18,7 @@ use Rattle.ps_printed.specs.Printed.{IsPrintedModel}
 use Rattle.ps_certificate.specs.Certificates.{entry_of, entries, model_of}
 
 -- what is asked of a line
-abbrev pub IsFit : Item → Type 0
+abbrev pub IsFit : LineItem → Type 0
 IsFit i = IsProper i × IsWithin i
 
 -- from 0 to a number that is small

@@ -5,8 +5,8 @@ use Rattle.std.proofs.lemmas.List.Elements.{All-head, All-tail}
 use Rattle.std.proofs.lemmas.List.Sums.{sum_by-cons}
 use Rattle.ps_problem.specs.declared.query.Query.{Query}
 use Rattle.ps_problem.specs.Problems.{Parts, HasNodes}
-use Rattle.ps_answer.specs.declared.item.Item.{Item}
-use Rattle.ps_answer.specs.declared.item.Item.TheVariants as line
+use Rattle.ps_answer.specs.declared.item.LineItem.{LineItem}
+use Rattle.ps_answer.specs.declared.item.LineItem.TheVariants as line
 use Rattle.ps_answer.specs.declared.answer.Verdict.{Verdict}
 use Rattle.ps_answer.specs.declared.answer.Verdict.TheVariants.{Consistent, Inconsistent, Open}
 use Rattle.ps_answer.specs.declared.answer.QueryPart.{QueryPart}
@@ -49,7 +49,7 @@ asked_few (Consistent m) qs = omega arith
 asked_few (Inconsistent d) qs = omega arith
 asked_few (Open cause) qs = omega arith
 
-module _ (p : Parts) (pivots conflicts : ℕ) (limits : AreLimits p pivots conflicts) (Q : Item → Type 0) (AnyOpen : Type 0) (lines : AreLines pivots Q AnyOpen) where
+module _ (p : Parts) (pivots conflicts : ℕ) (limits : AreLimits p pivots conflicts) (Q : LineItem → Type 0) (AnyOpen : Type 0) (lines : AreLines pivots Q AnyOpen) where
   parts_fit : (j : ℕ) (qs : List Query) (parts : List QueryPart) → AllZip (IsLawfulPart p pivots conflicts) qs parts → AllZip (IsValidPart p) qs (parts_of parts)
       → All (λ part. IsPrintedPart part.answer) parts → AllByRecursion (HasItsNodes p) qs → j + length qs ≤ 17 → (0 < sum (map open_in_part (parts_of parts)) → AnyOpen)
       → AllByRecursion Q (part_items j parts)
@@ -106,7 +106,7 @@ module _ (p : Parts) (pivots conflicts : ℕ) (a : Answer) (h : IsAnswered p piv
     | inr none ↦ answer_fit p pivots conflicts limits_are IsFit ⊥ none_open a h (λ k. absurd (omega (arith, none, k)))
   ]
 
-  abbrev IsShort : Item → Type 0
+  abbrev IsShort : LineItem → Type 0
   IsShort i = length (item_line i) < 65536
 
   any_open : AreLines pivots IsShort (Unit {0})

@@ -15,7 +15,7 @@ use Rattle.ps_table.specs.declared.place.TableCol.{TableCol}
 use Rattle.ps_table.specs.declared.place.TableCol.TheVariants as shown
 use Rattle.ps_table.specs.Tableau.{IsInside, IsShown}
 use Rattle.ps_answer.specs.declared.item.Ratio.{Ratio}
-use Rattle.ps_answer.specs.declared.item.Item.TheVariants.{OpenWide}
+use Rattle.ps_answer.specs.declared.item.LineItem.TheVariants.{OpenWide}
 use Rattle.ps_answer.specs.Words.{Word, Fraction, Column, word_text}
 use Rattle.ps_answer.specs.Items.{op_word, shown_word, place_words, item_words, item_line, IsRatioWithin}
 use Rattle.ps_answer.specs.declared.limits.TheConstants.{MOST_OPERAND}

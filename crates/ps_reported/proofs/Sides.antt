@@ -8,8 +8,8 @@ use Rattle.ps_meaning.specs.Distribution.{IsDistribution}
 use Rattle.ps_problem.specs.declared.query.Query as stored
 use Rattle.ps_problem.specs.Problems.{Parts, HasNodes, bounds_in, bounds_of, bound_of}
 use Rattle.ps_pool.specs.declared.event.Event.{Event}
-use Rattle.ps_answer.specs.declared.item.Item.{Item}
-use Rattle.ps_answer.specs.declared.item.Item.TheVariants as line
+use Rattle.ps_answer.specs.declared.item.LineItem.{LineItem}
+use Rattle.ps_answer.specs.declared.item.LineItem.TheVariants as line
 use Rattle.ps_answer.specs.declared.answer.Model.{Model}
 use Rattle.ps_answer.specs.declared.answer.Dual.{Dual}
 use Rattle.ps_answer.specs.declared.answer.Verdict.{Verdict}
@@ -39,7 +39,7 @@ use Rattle.ps_reported.proofs.Counting.{HasCome, has_come, HasComePending, has_c
 use Rattle.ps_reported.proofs.Causes.{AreLimits, AreLines, operand_proper, cause_fit}
 use Rattle.ps_reported.proofs.Traces.{trace_fit, first_pool, first_trace}
 
-module _ (p : Parts) (pivots conflicts : ℕ) (limits : AreLimits p pivots conflicts) (Q : Item → Type 0) (AnyOpen : Type 0) (lines : AreLines pivots Q AnyOpen) where
+module _ (p : Parts) (pivots conflicts : ℕ) (limits : AreLimits p pivots conflicts) (Q : LineItem → Type 0) (AnyOpen : Type 0) (lines : AreLines pivots Q AnyOpen) where
   model_fit : (m : Model) → IsDistribution (length p.names) (entries m.worlds) → claimed.IsBasicModel (bounds_of p) (model_of m) → IsPrintedModel m → AllByRecursion Q (model_items m)
   model_fit m distribution small printed =
       let bounds = limits.parts.few_bounds in

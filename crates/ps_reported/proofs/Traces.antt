@@ -5,8 +5,8 @@ use Rattle.ps_problem.specs.declared.query.Query as stored
 use Rattle.ps_problem.specs.Problems.{Parts}
 use Rattle.ps_pool.specs.declared.event.Event.{Event}
 use Rattle.ps_pool.specs.declared.event.Event.TheVariants.{Pivot, Priced}
-use Rattle.ps_answer.specs.declared.item.Item.{Item}
-use Rattle.ps_answer.specs.declared.item.Item.TheVariants as line
+use Rattle.ps_answer.specs.declared.item.LineItem.{LineItem}
+use Rattle.ps_answer.specs.declared.item.LineItem.TheVariants as line
 use Rattle.ps_answer.specs.declared.answer.Verdict.{Verdict}
 use Rattle.ps_answer.specs.Answers.{event_item, trace_items}
 use Rattle.ps_claims.specs.declared.claim_kind.ClaimKind.TheVariants.{Nothing}
@@ -20,7 +20,7 @@ use Rattle.ps_reported.proofs.Counting.{worlds_in, all_counted, IsEventUnder, Ha
 use Rattle.ps_reported.proofs.Places.{col_within}
 use Rattle.ps_reported.proofs.Causes.{AreLimits, AreLines, few_rows}
 
-module _ (p : Parts) (q : Option stored.Query) (pivots conflicts : ℕ) (limits : AreLimits p pivots conflicts) (Q : Item → Type 0) (Open : Type 0) (lines : AreLines pivots Q Open) where
+module _ (p : Parts) (q : Option stored.Query) (pivots conflicts : ℕ) (limits : AreLimits p pivots conflicts) (Q : LineItem → Type 0) (Open : Type 0) (lines : AreLines pivots Q Open) where
   abbrev s : Subject
   s = record { parts = p; query = q }
 

@@ -24,8 +24,8 @@ use Rattle.ps_table.specs.declared.place.Place.TheVariants as place
 use Rattle.ps_table.specs.declared.place.TableCol.{TableCol}
 use Rattle.ps_table.specs.declared.place.TableCol.TheVariants as shown
 use Rattle.ps_answer.specs.declared.item.Ratio.{Ratio}
-use Rattle.ps_answer.specs.declared.item.Item.{Item}
-use Rattle.ps_answer.specs.declared.item.Item.TheVariants.{Report, Consistent, Inconsistent, OpenPivots, OpenConflicts, OpenWide, ModelHead, Entry, DualHead, Rows, StepLine, GoalLine, TraceHead, PivotLine, PricedLine, Query, Bounds, Impossible, Bound, OpenSide, End}
+use Rattle.ps_answer.specs.declared.item.LineItem.{LineItem}
+use Rattle.ps_answer.specs.declared.item.LineItem.TheVariants.{Report, Consistent, Inconsistent, OpenPivots, OpenConflicts, OpenWide, ModelHead, Entry, DualHead, Rows, StepLine, GoalLine, TraceHead, PivotLine, PricedLine, Query, Bounds, Impossible, Bound, OpenSide, End}
 use Rattle.ps_answer.specs.Words.{Word, Letters, Number, Fraction, Column, Truths, digit_of, word_text, joined}
 use Rattle.ps_answer.specs.Items.{count, op_word, shown_word, place_words, side_word, item_words, item_line, IsWithin, IsPrintable, IsColWithin, IsShownWithin, IsPlaceWithin, IsRatioWithin}
 use Rattle.ps_answer.specs.declared.limits.TheConstants.{MOST_OPERAND}
@@ -152,7 +152,7 @@ short_wide at o left right h =
 short_rows : (rows : List ℤ) → IsWithin (Rows rows) → length (item_line (Rows rows)) < 65536
 short_rows rows h = few_words (item_words (Rows rows)) (brief_letters (codes "y") (omega arith), brief_rows rows h.0) (omega (arith, length-map rows Number, h.1))
 
-pub short_line : (i : Item) → IsWithin i → length (item_line i) < 65536
+pub short_line : (i : LineItem) → IsWithin i → length (item_line i) < 65536
 short_line Report h = few_words (item_words Report) (brief_letters (codes "report") (omega arith), (brief_count 1 (omega arith), tt)) (omega arith)
 short_line Consistent h = few_words (item_words Consistent) (brief_letters (codes "consistent") (omega arith), tt) (omega arith)
 short_line Inconsistent h = few_words (item_words Inconsistent) (brief_letters (codes "inconsistent") (omega arith), tt) (omega arith)
@@ -175,6 +175,6 @@ short_line (Bound upper value) h = few_words (item_words (Bound upper value)) (b
 short_line (OpenSide upper) h = few_words (item_words (OpenSide upper)) (brief_side upper, tt) (omega arith)
 short_line End h = few_words (item_words End) (brief_letters (codes "end") (omega arith), tt) (omega arith)
 
-pub short_lines : (is : List Item) → AllByRecursion IsWithin is → AllByRecursion (λ i. length (item_line i) < 65536) is
+pub short_lines : (is : List LineItem) → AllByRecursion IsWithin is → AllByRecursion (λ i. length (item_line i) < 65536) is
 short_lines [] h = tt
 short_lines (i ∷ is) h = (short_line i h.0, short_lines is h.1)

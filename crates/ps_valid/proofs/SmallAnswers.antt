@@ -5,8 +5,8 @@ use Rattle.std.proofs.lemmas.Int.{ints}
 use Rattle.std.proofs.lemmas.List.{length-map}
 use Rattle.std.proofs.lemmas.List.Elements.{All-cons, All-nil}
 use Rattle.ps_pool.specs.declared.event.Event.{Event}
-use Rattle.ps_answer.specs.declared.item.Item.{Item}
-use Rattle.ps_answer.specs.declared.item.Item.TheVariants as line
+use Rattle.ps_answer.specs.declared.item.LineItem.{LineItem}
+use Rattle.ps_answer.specs.declared.item.LineItem.TheVariants as line
 use Rattle.ps_answer.specs.declared.answer.Weighted.{Weighted}
 use Rattle.ps_answer.specs.declared.answer.Model.{Model}
 use Rattle.ps_answer.specs.declared.answer.Dual.{Dual}
@@ -85,7 +85,7 @@ within_small a h =
       parts = small_parts 1 a.parts (front (λ i. IsProper i × IsWithin i) (part_items 1 a.parts) (line.End ∷ []) parts);
     }
 
-proper : (ls : List (List ℕ)) (is : List Item) → AreLines ls is → AllByRecursion IsWithin is → AllByRecursion (λ i. IsProper i × IsWithin i) is
+proper : (ls : List (List ℕ)) (is : List LineItem) → AreLines ls is → AllByRecursion IsWithin is → AllByRecursion (λ i. IsProper i × IsWithin i) is
 proper [] [] lines within = tt
 proper [] (i ∷ is) lines within = absurd lines
 proper (l ∷ ls) [] lines within = absurd lines

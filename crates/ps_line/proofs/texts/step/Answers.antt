@@ -1,5 +1,5 @@
 use Rattle.ps_log.specs.Spellings.{words_of}
-use Rattle.ps_answer.specs.declared.item.Item.TheVariants as line
+use Rattle.ps_answer.specs.declared.item.LineItem.TheVariants as line
 use Rattle.ps_answer.specs.declared.part.Part.TheVariants.{AStep}
 use Rattle.ps_line.proofs.StepsAndGoals.{step_read, text_ok, text_err}
 use Rattle.ps_line.proofs.texts.step.Goals as goal

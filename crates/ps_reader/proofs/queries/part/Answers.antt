@@ -1,6 +1,6 @@
 use Rattle.std.proofs.Common.{true, false, subst, ◌∷◌, ◌++◌}
 use Rattle.std.specs.Prelude.{[]}
-use Rattle.ps_answer.specs.declared.item.Item.TheVariants as line
+use Rattle.ps_answer.specs.declared.item.LineItem.TheVariants as line
 use Rattle.ps_answer.specs.declared.part.Part.TheVariants.{ADual, ATrace, AnAnswer, ASide}
 use Rattle.ps_reader.specs.Taken.{Takes}
 use Rattle.ps_reader.specs.Reports.{parts_behind, answer_lines}

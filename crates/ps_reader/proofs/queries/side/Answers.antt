@@ -1,6 +1,6 @@
 use Rattle.std.proofs.Common.{subst, ◌∷◌}
 use Rattle.std.specs.Prelude.{[]}
-use Rattle.ps_answer.specs.declared.item.Item.TheVariants as line
+use Rattle.ps_answer.specs.declared.item.LineItem.TheVariants as line
 use Rattle.ps_answer.specs.declared.part.Part.TheVariants.{AModel, ADual, ACause, ATrace, ASide}
 use Rattle.ps_line.specs.Read.{Fits}
 use Rattle.ps_reader.specs.Taken.{Takes}

@@ -1,7 +1,7 @@
 use Rattle.std.proofs.Common.{true, false, refl, sym, ap, subst, Err, ◌∙◌, ◌∷◌, ◌++◌}
 use Rattle.std.specs.Prelude.{[]}
 use Rattle.std.proofs.lemmas.Result.{err_from_is_err_and}
-use Rattle.ps_answer.specs.declared.item.Item.TheVariants as line
+use Rattle.ps_answer.specs.declared.item.LineItem.TheVariants as line
 use Rattle.ps_answer.specs.declared.part.Part.TheVariants.{ATrace, ASide}
 use Rattle.ps_answer.specs.Answers.{trace_items}
 use Rattle.ps_reader.specs.Reports.{IsReadBehind, side_lines, answer_lines}

@@ -2,7 +2,7 @@ use Rattle.std.proofs.Common.{sym, ap, subst, Err, ◌∙◌, ◌∷◌}
 use Rattle.std.specs.Prelude.{[]}
 use Rattle.std.proofs.lemmas.Result.{err_from_is_err_and}
 use Rattle.ps_answer.specs.Answers.{answer_items}
-use Rattle.ps_answer.specs.Due.{at_start}
+use Rattle.ps_answer.specs.ExpectedParts.{at_start}
 use Rattle.ps_reader.specs.Taken.{Takes, IsValueRead}
 use Rattle.ps_reader.proofs.Whole.{report_line, no_verdict, no_trace, no_parts, all_taken}
 use Rattle.ps_reader.proofs.report.answer.Goals as goal

@@ -1,5 +1,5 @@
 use Rattle.std.proofs.Common.{[], ◌∷◌, ◌++◌, map, length, true, false}
-use Rattle.ps_answer.specs.declared.item.Item.TheVariants as line
+use Rattle.ps_answer.specs.declared.item.LineItem.TheVariants as line
 use Rattle.ps_answer.specs.Answers.{entry_item}
 use Rattle.ps_report.proofs.Sequence.{items_then}
 use Rattle.ps_report.proofs.parts.write_model.Goals as goal

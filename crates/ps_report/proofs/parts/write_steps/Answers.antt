@@ -1,6 +1,6 @@
 use Rattle.std.proofs.Common.{rules}
 use Rattle.std.specs.Result.{IsErr}
-use Rattle.ps_answer.specs.declared.item.Item.TheVariants.{StepLine}
+use Rattle.ps_answer.specs.declared.item.LineItem.TheVariants.{StepLine}
 use Rattle.ps_report.proofs.Sequence.{short_at, items_fault, items_turn}
 use Rattle.ps_report.proofs.parts.write_steps.Goals as goal
 

@@ -1,5 +1,5 @@
 use Rattle.std.proofs.Common.{map, take, Ok}
-use Rattle.ps_answer.specs.declared.item.Item.TheVariants.{StepLine}
+use Rattle.ps_answer.specs.declared.item.LineItem.TheVariants.{StepLine}
 use Rattle.ps_report.specs.Parts.{WroteItems}
 use Rattle.ps_report.proofs.parts.write_steps.Given as goal
 

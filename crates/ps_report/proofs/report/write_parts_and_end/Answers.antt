@@ -1,7 +1,7 @@
 use Rattle.std.proofs.Common.{rules}
 use Rattle.std.specs.Result.{IsErr}
 use Rattle.std.proofs.Common.{[], ◌∷◌, ◌++◌, true, false}
-use Rattle.ps_answer.specs.declared.item.Item.TheVariants as line
+use Rattle.ps_answer.specs.declared.item.LineItem.TheVariants as line
 use Rattle.ps_answer.specs.Answers.{part_items}
 use Rattle.ps_report.proofs.Sequence.{items_then, items_stop, short_first}
 use Rattle.ps_report.proofs.report.write_parts_and_end.Goals as goal

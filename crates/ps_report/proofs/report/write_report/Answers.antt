@@ -1,7 +1,7 @@
 use Rattle.std.proofs.Common.{rules}
 use Rattle.std.specs.Result.{IsErr}
 use Rattle.std.proofs.Common.{[], ◌∷◌}
-use Rattle.ps_answer.specs.declared.item.Item.TheVariants as line
+use Rattle.ps_answer.specs.declared.item.LineItem.TheVariants as line
 use Rattle.ps_report.specs.Parts.{AreShort}
 use Rattle.ps_report.specs.Reports.{below_head}
 use Rattle.ps_report.proofs.Numbered.{answer_is}

@@ -1,6 +1,6 @@
 use Rattle.std.proofs.Common.{rules, [], ◌∷◌}
 use Rattle.std.specs.Result.{IsErr}
-use Rattle.ps_answer.specs.declared.item.Item.TheVariants as line
+use Rattle.ps_answer.specs.declared.item.LineItem.TheVariants as line
 use Rattle.ps_report.specs.Written.{bound_item}
 use Rattle.ps_report.specs.Parts.{proved_items, open_items}
 use Rattle.ps_report.proofs.Sequence.{items_then, items_stop}
