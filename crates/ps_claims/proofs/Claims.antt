@@ -13,10 +13,13 @@ use Rattle.ps_problem.specs.declared.query.Query as stored
 use Rattle.ps_problem.specs.Problems.{Parts, bounds_of}
 use Rattle.ps_entailment.specs.Answers.{Model, Verdict, Consistent, Inconsistent, OpenVerdict, SideAnswer, Value, OpenSide, QueryAnswer, Interval, Impossible, OpenQuery, Answer, asked_under}
 use Rattle.ps_claims.specs.Duals.{Dual, ClaimKind, Nothing, Lower, Upper, HasSign}
-use Rattle.ps_claims.specs.Faults.{DualFault}
+use Rattle.ps_claims.specs.declared.claim.Claim.{Claim}
+use Rattle.ps_claims.specs.declared.claim.Claim.TheVariants as claim
+use Rattle.ps_claims.specs.declared.reason.Reason.{Reason}
+use Rattle.ps_claims.specs.declared.reason.Reason.TheVariants.{WrongShape, TooManyWorlds, WeightZero, WorldTwice, TotalWrong, BoundMissed, EvidenceZero, ValueMissed, HeadWrong, MultiplierSign, StepRefused, NotRefuted}
 use Rattle.ps_claims.proofs.Faults.{no_fault}
 use Rattle.ps_claims.specs.Validity.{IsValidVerdict, IsValidSide, IsValidPart, IsValid}
-use Rattle.ps_claims.specs.Claims.{Place, AtVerdict, AtQuery, AtLower, AtUpper, Claim, Modelled, Excluded, Bounded, verdict_claims, side_claims, part_claims, claims_from, claims_of, IsValidClaim, HasParts, AreValid, Fault, WrongShape, TooManyWorlds, TotalWrong, EvidenceZero, ValueMissed, WeightZero, WorldTwice, BoundMissed, DualWrong, claimed_model, AreProperEntries, IsRepeated, AreFew, HasTotal, IsModelRight, IsDualWrong, IsFirstIn, IsFirstAt, IsRefused}
+use Rattle.ps_claims.specs.Claims.{Assertion, Modelled, Excluded, Bounded, verdict_claims, side_claims, part_claims, claims_from, claims_of, IsValidClaim, HasParts, AreValid, claimed_model, AreProperEntries, IsRepeated, AreFew, HasTotal, IsModelRight, IsDualWrong, IsFirstIn, IsFirstAt, IsRefused}
 
 -- what all of two lists have
 front : {X : Type 0} (P : X → Type 0) (xs ys : List X) → All P (xs ++ ys) → All P xs
@@ -27,39 +30,39 @@ back : {X : Type 0} (P : X → Type 0) (xs ys : List X) → All P (xs ++ ys) →
 back P [] ys h = h
 back P (x ∷ xs) ys h = back P xs ys (All-tail P x (xs ++ ys) h)
 
-one : (p : Parts) (place : Place) (c : Claim) → IsValidClaim p c → AreValid p ((place, c) ∷ [])
-one p place c h = All-cons (λ x. IsValidClaim p x.1) (place, c) [] h (All-nil (λ x. IsValidClaim p x.1))
+one : (p : Parts) (claim : Claim) (c : Assertion) → IsValidClaim p c → AreValid p ((claim, c) ∷ [])
+one p claim c h = All-cons (λ x. IsValidClaim p x.1) (claim, c) [] h (All-nil (λ x. IsValidClaim p x.1))
 
 verdict-claims : (p : Parts) (v : Verdict Dual) → IsValidVerdict p v → AreValid p (verdict_claims v)
-verdict-claims p (Consistent m) h = one p AtVerdict (Modelled m) h
-verdict-claims p (Inconsistent d) h = one p AtVerdict (Excluded None d) h
+verdict-claims p (Consistent m) h = one p claim.Verdict (Modelled m) h
+verdict-claims p (Inconsistent d) h = one p claim.Verdict (Excluded None d) h
 verdict-claims p OpenVerdict h = All-nil (λ x. IsValidClaim p x.1)
 
 claims-verdict : (p : Parts) (v : Verdict Dual) → AreValid p (verdict_claims v) → IsValidVerdict p v
-claims-verdict p (Consistent m) h = h 0 (AtVerdict, Modelled m) (omega arith)
-claims-verdict p (Inconsistent d) h = h 0 (AtVerdict, Excluded None d) (omega arith)
+claims-verdict p (Consistent m) h = h 0 (claim.Verdict, Modelled m) (omega arith)
+claims-verdict p (Inconsistent d) h = h 0 (claim.Verdict, Excluded None d) (omega arith)
 claims-verdict p OpenVerdict h = tt
 
-side-claims : (p : Parts) (place : Place) (kind : ClaimKind) (q : stored.Query) (s : SideAnswer Dual) → IsValidSide p kind q s → AreValid p (side_claims place kind q s)
-side-claims p place kind q (Value value m d) h = one p place (Bounded kind q value m d) h
-side-claims p place kind q OpenSide h = All-nil (λ x. IsValidClaim p x.1)
+side-claims : (p : Parts) (claim : Claim) (kind : ClaimKind) (q : stored.Query) (s : SideAnswer Dual) → IsValidSide p kind q s → AreValid p (side_claims claim kind q s)
+side-claims p claim kind q (Value value m d) h = one p claim (Bounded kind q value m d) h
+side-claims p claim kind q OpenSide h = All-nil (λ x. IsValidClaim p x.1)
 
-claims-side : (p : Parts) (place : Place) (kind : ClaimKind) (q : stored.Query) (s : SideAnswer Dual) → AreValid p (side_claims place kind q s) → IsValidSide p kind q s
-claims-side p place kind q (Value value m d) h = h 0 (place, Bounded kind q value m d) (omega arith)
-claims-side p place kind q OpenSide h = tt
+claims-side : (p : Parts) (claim : Claim) (kind : ClaimKind) (q : stored.Query) (s : SideAnswer Dual) → AreValid p (side_claims claim kind q s) → IsValidSide p kind q s
+claims-side p claim kind q (Value value m d) h = h 0 (claim, Bounded kind q value m d) (omega arith)
+claims-side p claim kind q OpenSide h = tt
 
 part-claims : (p : Parts) (n : ℕ) (q : stored.Query) (a : QueryAnswer Dual) → IsValidPart p q a → AreValid p (part_claims n q a)
 part-claims p n q (Interval lower upper) h =
-    All-append (λ x. IsValidClaim p x.1) (side_claims (AtLower n) Lower q lower) (side_claims (AtUpper n) Upper q upper) (side-claims p (AtLower n) Lower q lower h.0) (side-claims p (AtUpper n) Upper q upper h.1)
-part-claims p n q (Impossible d) h = one p (AtQuery n) (Excluded q.given d) h
+    All-append (λ x. IsValidClaim p x.1) (side_claims (claim.Lower n) Lower q lower) (side_claims (claim.Upper n) Upper q upper) (side-claims p (claim.Lower n) Lower q lower h.0) (side-claims p (claim.Upper n) Upper q upper h.1)
+part-claims p n q (Impossible d) h = one p (claim.Query n) (Excluded q.given d) h
 part-claims p n q OpenQuery h = All-nil (λ x. IsValidClaim p x.1)
 
 claims-part : (p : Parts) (n : ℕ) (q : stored.Query) (a : QueryAnswer Dual) → AreValid p (part_claims n q a) → IsValidPart p q a
 claims-part p n q (Interval lower upper) h =
-    let ls = side_claims (AtLower n) Lower q lower in
-    let us = side_claims (AtUpper n) Upper q upper in
-    (claims-side p (AtLower n) Lower q lower (front (λ x. IsValidClaim p x.1) ls us h), claims-side p (AtUpper n) Upper q upper (back (λ x. IsValidClaim p x.1) ls us h))
-claims-part p n q (Impossible d) h = h 0 (AtQuery n, Excluded q.given d) (omega arith)
+    let ls = side_claims (claim.Lower n) Lower q lower in
+    let us = side_claims (claim.Upper n) Upper q upper in
+    (claims-side p (claim.Lower n) Lower q lower (front (λ x. IsValidClaim p x.1) ls us h), claims-side p (claim.Upper n) Upper q upper (back (λ x. IsValidClaim p x.1) ls us h))
+claims-part p n q (Impossible d) h = h 0 (claim.Query n, Excluded q.given d) (omega arith)
 claims-part p n q OpenQuery h = tt
 
 parts-claims : (p : Parts) (n : ℕ) (qs : List stored.Query) (xs : List (QueryAnswer Dual)) → AllZip (IsValidPart p) qs xs → AreValid p (claims_from n qs xs)
@@ -128,7 +131,7 @@ not_repeated d n proper f =
     let before = taken_before d i a.0 a.1 a.2 in
     proper.different a.0 i a.1 before.0 e.1 (ap (λ y. y.world) (sym before.1 ∙ a.3) ∙ a.4 ∙ ap (λ y. y.world) (sym e.2 ∙ get_or_default d i e.0 a.1 e.1))
 
-pub no_model_fault : (p : Parts) (c : Claim) (f : Fault) → IsModelRight p c → ((g : DualFault) → IsDualWrong p c g → ⊥) → IsFirstIn p c f → ⊥
+pub no_model_fault : (p : Parts) (c : Assertion) (r : Reason) → IsModelRight p c → (IsDualWrong p c r → ⊥) → IsFirstIn p c r → ⊥
 no_model_fault p c WrongShape r dual f = f r.shape
 no_model_fault p c TooManyWorlds r dual f = both_some (claimed_model c) (AreFew p) _ r.few f.1 (λ m h g. g h)
 no_model_fault p c (WeightZero n) r dual f = both_some (claimed_model c) (λ m. AreProperEntries m.worlds) _ r.proper f.1 (λ m h g. not_there (λ e. e.weight ≢ pos 0) m.worlds g.1.0 h.weighed (weightless m.worlds g.1.0 g.1.3))
@@ -142,7 +145,21 @@ no_model_fault p c TotalWrong r dual f = both_some (claimed_model c) HasTotal _ 
 no_model_fault p c (BoundMissed n) r dual f = both_some (claimed_model c) (λ m. MeetsAll (bounds_of p) m.worlds) _ r.met f.1 (λ m h g. not_there (λ b. MeetsBound b m.worlds) (bounds_of p) g.3.0 h g.3.3)
 no_model_fault p c EvidenceZero r dual f = f.2 r.evidence
 no_model_fault p c ValueMissed r dual f = f.3 r.value
-no_model_fault p c (DualWrong g) r dual f = dual g f.1
+no_model_fault p c other r dual f = dual f.1
+
+-- where nothing is wrong with the model of a claim, the first reason against its dual is the first against the claim
+pub first_of_dual : (p : Parts) (c : Assertion) (r : Reason) → IsModelRight p c → IsDualWrong p c r → IsFirstIn p c r
+first_of_dual p (Modelled m) r right wrong = absurd wrong
+first_of_dual p (Excluded given d) HeadWrong right wrong = (right, wrong)
+first_of_dual p (Excluded given d) (MultiplierSign n) right wrong = (right, wrong)
+first_of_dual p (Excluded given d) (StepRefused id why) right wrong = (right, wrong)
+first_of_dual p (Excluded given d) NotRefuted right wrong = (right, wrong)
+first_of_dual p (Excluded given d) other right wrong = absurd wrong
+first_of_dual p (Bounded kind q value m d) HeadWrong right wrong = (right, wrong)
+first_of_dual p (Bounded kind q value m d) (MultiplierSign n) right wrong = (right, wrong)
+first_of_dual p (Bounded kind q value m d) (StepRefused id why) right wrong = (right, wrong)
+first_of_dual p (Bounded kind q value m d) NotRefuted right wrong = (right, wrong)
+first_of_dual p (Bounded kind q value m d) other right wrong = absurd wrong
 
 entries-proper : (atoms : ℕ) (d : List Entry) → IsDistribution atoms d → AreProperEntries d
 entries-proper atoms d h = record { weighed = λ k e lt z. (let w = h.weighed k e lt in omega (arith, ints, w, z)); different = h.different }
@@ -151,7 +168,7 @@ model-total : (atoms : ℕ) (m : Model) → IsDistribution atoms m.worlds → m.
 model-total atoms m h e = ((λ z. (let t = total-positive atoms m.worlds h in omega (arith, ints, t, z, e))), e)
 
 -- nothing is wrong with the model of a valid claim
-valid-model : (p : Parts) (c : Claim) → IsValidClaim p c → IsModelRight p c
+valid-model : (p : Parts) (c : Assertion) → IsValidClaim p c → IsModelRight p c
 valid-model p (Modelled m) h = record {
   shape = record { worlds = h.model.distribution.worlds; rows = tt };
   few = h.basic.few;
@@ -181,21 +198,21 @@ valid-model p (Bounded kind q value m d) h = record {
 }
 
 -- nor with its dual
-valid-dual : (p : Parts) (c : Claim) → IsValidClaim p c → (g : DualFault) → IsDualWrong p c g → ⊥
-valid-dual p (Modelled m) h g f = f
-valid-dual p (Excluded given d) h g f = no_fault p Nothing given 0 None d g (record { head = h.head; refuted = h.refuted }) f
-valid-dual p (Bounded kind q value m d) h g f = no_fault p kind q.given q.both (Some value) d g (record { head = h.head; refuted = h.refuted }) f
+valid-dual : (p : Parts) (c : Assertion) → IsValidClaim p c → (r : Reason) → IsDualWrong p c r → ⊥
+valid-dual p (Modelled m) h r f = f
+valid-dual p (Excluded given d) h r f = no_fault p Nothing given 0 None d r (record { head = h.head; refuted = h.refuted }) f
+valid-dual p (Bounded kind q value m d) h r f = no_fault p kind q.given q.both (Some value) d r (record { head = h.head; refuted = h.refuted }) f
 
-pub valid_faultless : (p : Parts) (c : Claim) (f : Fault) → IsValidClaim p c → IsFirstIn p c f → ⊥
-valid_faultless p c f h first = no_model_fault p c f (valid-model p c h) (valid-dual p c h) first
+pub valid_faultless : (p : Parts) (c : Assertion) (r : Reason) → IsValidClaim p c → IsFirstIn p c r → ⊥
+valid_faultless p c r h first = no_model_fault p c r (valid-model p c h) (valid-dual p c h r) first
 
-at_claim : (p : Parts) (a : Answer Dual) (place : Place) (f : Fault) → IsValid p a → IsFirstAt p a place f → ⊥
-at_claim p a place f h first =
-    let at = standing (λ c. (c.0 ≡ place) × IsFirstIn p c.1 f) (claims_of p a) first.1.0 first.1.2 in
+at_claim : (p : Parts) (a : Answer Dual) (claim : Claim) (r : Reason) → IsValid p a → IsFirstAt p a claim r → ⊥
+at_claim p a claim r h first =
+    let at = standing (λ c. (c.0 ≡ claim) × IsFirstIn p c.1 r) (claims_of p a) first.1.0 first.1.2 in
     let valid : IsValidClaim p (get_or (claims_of p a) first.1.0 at.0).1 = (valid-claims p a h).1 first.1.0 at.0 at.1 in
-    valid_faultless p at.0.1 f (rw at.2 at valid) at.3.1
+    valid_faultless p at.0.1 r (rw at.2 at valid) at.3.1
 
 -- a valid answer isn't refused
-pub valid_accepted : (p : Parts) (a : Answer Dual) (place : Place) (f : Fault) → IsValid p a → IsRefused p a place f → ⊥
-valid_accepted p a place f h (inl other) = other.2 (valid-claims p a h).0
-valid_accepted p a place f h (inr first) = at_claim p a place f h first
+pub valid_accepted : (p : Parts) (a : Answer Dual) (claim : Claim) (r : Reason) → IsValid p a → IsRefused p a claim r → ⊥
+valid_accepted p a claim r h (inl other) = other.2 (valid-claims p a h).0
+valid_accepted p a claim r h (inr first) = at_claim p a claim r h first

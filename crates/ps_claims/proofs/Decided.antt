@@ -22,8 +22,12 @@ use Rattle.ps_entailment.specs.Answers.{Model, Answer, ShowsConsistent, asked_un
 use Rattle.ps_claims.specs.Duals.{Dual, ClaimKind, Nothing}
 use Rattle.ps_claims.specs.Faults.{IsFaultless}
 use Rattle.ps_claims.specs.Validity.{query_of, IsValid}
-use Rattle.ps_claims.proofs.Claims.{claims-valid}
-use Rattle.ps_claims.specs.Claims.{Place, AtReport, Claim, Placed, claims_of, AreValid, HaveWeightsNotBelow0, IsRefused, Modelled, Excluded, Bounded, IsValidClaim, Fault, WrongShape, TooManyWorlds, TotalWrong, EvidenceZero, ValueMissed, WeightZero, WorldTwice, BoundMissed, DualWrong, claimed_model, claimed_dual, HasShape, AreProperEntries, IsWeightless, IsRepeated, MissesFirst, AreFew, HasTotal, IsSound, HasEvidence, HasValue, IsModelRight, OfModel, IsFirstIn}
+use Rattle.ps_claims.proofs.Claims.{claims-valid, first_of_dual}
+use Rattle.ps_claims.specs.declared.claim.Claim.{Claim}
+use Rattle.ps_claims.specs.declared.claim.Claim.TheVariants.{Report}
+use Rattle.ps_claims.specs.declared.reason.Reason.{Reason}
+use Rattle.ps_claims.specs.declared.reason.Reason.TheVariants.{WrongShape, TooManyWorlds, WeightZero, WorldTwice, TotalWrong, BoundMissed, EvidenceZero, ValueMissed}
+use Rattle.ps_claims.specs.Claims.{Assertion, claims_of, AreValid, HaveWeightsNotBelow0, IsRefused, Modelled, Excluded, Bounded, IsValidClaim, claimed_model, claimed_dual, HasShape, AreProperEntries, IsWeightless, IsRepeated, MissesFirst, AreFew, HasTotal, IsSound, HasEvidence, HasValue, IsModelRight, OfModel, IsFirstIn}
 use Rattle.ps_claims.proofs.Faults.{int_equal_cases, least_cases, fault_cases}
 
 nat_equal_cases : (m n : ℕ) → (m ≡ n) ⊎ ¬ (m ≡ n)
@@ -58,7 +62,7 @@ if_some_cases : {X : Type 0} (P : X → Type 0) (o : Option X) → ((x : X) → 
 if_some_cases P None d = inl tt
 if_some_cases P (Some x) d = d x
 
-shape_cases : (p : Parts) (c : Claim) → HasShape p c ⊎ ¬ HasShape p c
+shape_cases : (p : Parts) (c : Assertion) → HasShape p c ⊎ ¬ HasShape p c
 shape_cases p c = elim (if_some_cases (λ m. All (λ e. length e.world ≡ length p.names) m.worlds) (claimed_model c) (λ m. all_cases (λ e. length e.world ≡ length p.names) m.worlds (λ e. nat_equal_cases (length e.world) (length p.names)))) [
   | inr bad ↦ inr (λ h. bad h.worlds)
   | inl worlds ↦ elim (if_some_cases (λ d. length d.rows ≡ length (bounds_of p)) (claimed_dual c) (λ d. nat_equal_cases (length d.rows) (length (bounds_of p)))) [
@@ -139,7 +143,7 @@ total_cases m = elim (int_equal_cases m.total (pos 0)) [
 few_cases : (p : Parts) (m : Model) → AreFew p m ⊎ ¬ AreFew p m
 few_cases p m = elim (cases_lt (length (bounds_of p) + 1) (length m.worlds)) [ inl many ↦ inr (λ few. omega (arith, many, few)) | inr few ↦ inl few ]
 
-model_cases : (p : Parts) (c : Claim) (m : Model) → HasShape p c → ((P : Model → Type 0) → P m → OfModel c P) → IsSound p m ⊎ ((f : Fault) × IsFirstIn p c f)
+model_cases : (p : Parts) (c : Assertion) (m : Model) → HasShape p c → ((P : Model → Type 0) → P m → OfModel c P) → IsSound p m ⊎ ((r : Reason) × IsFirstIn p c r)
 model_cases p c m shape of = elim (few_cases p m) [
   | inr many ↦ inr (TooManyWorlds, (shape, of (λ n. ¬ AreFew p n) many))
   | inl few ↦ elim (proper_cases m.worlds) [
@@ -186,7 +190,7 @@ sound-shows p m shape low sound = record {
 evidence_cases : (p : Parts) (m : Model) (given : Option ℕ) → (weight m.worlds (given_at p.nodes given) ≢ pos 0) ⊎ ¬ (weight m.worlds (given_at p.nodes given) ≢ pos 0)
 evidence_cases p m given = elim (int_equal_cases (weight m.worlds (given_at p.nodes given)) (pos 0)) [ inl nothing ↦ inr (λ h. h nothing) | inr some ↦ inl some ]
 
-modelled_cases : (p : Parts) (m : Model) → All (λ e. pos 0 ≤ℤ e.weight) m.worlds → IsValidClaim p (Modelled m) ⊎ ((f : Fault) × IsFirstIn p (Modelled m) f)
+modelled_cases : (p : Parts) (m : Model) → All (λ e. pos 0 ≤ℤ e.weight) m.worlds → IsValidClaim p (Modelled m) ⊎ ((r : Reason) × IsFirstIn p (Modelled m) r)
 modelled_cases p m low = elim (shape_cases p (Modelled m)) [
   | inr bad ↦ inr (WrongShape, bad)
   | inl shape ↦ elim (model_cases p (Modelled m) m shape (λ P h. h)) [
@@ -195,12 +199,12 @@ modelled_cases p m low = elim (shape_cases p (Modelled m)) [
   ]
 ]
 
-excluded_cases : (p : Parts) (given : Option ℕ) (d : Dual) → IsValidClaim p (Excluded given d) ⊎ ((f : Fault) × IsFirstIn p (Excluded given d) f)
+excluded_cases : (p : Parts) (given : Option ℕ) (d : Dual) → IsValidClaim p (Excluded given d) ⊎ ((r : Reason) × IsFirstIn p (Excluded given d) r)
 excluded_cases p given d = elim (shape_cases p (Excluded given d)) [
   | inr bad ↦ inr (WrongShape, bad)
   | inl shape ↦ elim (fault_cases p Nothing given 0 None d shape.rows) [
     | inl right ↦ inl (record { head = right.head; refuted = right.refuted })
-    | inr wrong ↦ inr (DualWrong wrong.0, (record { shape = shape; few = tt; proper = tt; total = tt; met = tt; evidence = tt; value = tt }, wrong.1))
+    | inr wrong ↦ inr (wrong.0, first_of_dual p (Excluded given d) wrong.0 (record { shape = shape; few = tt; proper = tt; total = tt; met = tt; evidence = tt; value = tt }) wrong.1)
   ]
 ]
 
@@ -230,7 +234,7 @@ bounded-valid p kind q value m d low shape good evidence is right =
     }
 
 bounded_cases : (p : Parts) (kind : ClaimKind) (q : stored.Query) (value : Rational) (m : Model) (d : Dual) → All (λ e. pos 0 ≤ℤ e.weight) m.worlds
-    → IsValidClaim p (Bounded kind q value m d) ⊎ ((f : Fault) × IsFirstIn p (Bounded kind q value m d) f)
+    → IsValidClaim p (Bounded kind q value m d) ⊎ ((r : Reason) × IsFirstIn p (Bounded kind q value m d) r)
 bounded_cases p kind q value m d low = elim (shape_cases p (Bounded kind q value m d)) [
   | inr bad ↦ inr (WrongShape, bad)
   | inl shape ↦ elim (model_cases p (Bounded kind q value m d) m shape (λ P h. h)) [
@@ -240,7 +244,7 @@ bounded_cases p kind q value m d low = elim (shape_cases p (Bounded kind q value
       | inl evidence ↦ elim (meets_cases (bound_on (query_of p.nodes q) Exactly value) m.worlds) [
         | inr other ↦ inr (ValueMissed, (shape, (good.few, good.proper, good.total, good.met), evidence, other))
         | inl is ↦ elim (fault_cases p kind q.given q.both (Some value) d shape.rows) [
-          | inr wrong ↦ inr (DualWrong wrong.0, (bounded-model p kind q value m d shape good evidence is, wrong.1))
+          | inr wrong ↦ inr (wrong.0, first_of_dual p (Bounded kind q value m d) wrong.0 (bounded-model p kind q value m d shape good evidence is) wrong.1)
           | inl right ↦ inl (bounded-valid p kind q value m d low shape good evidence is right)
         ]
       ]
@@ -249,14 +253,14 @@ bounded_cases p kind q value m d low = elim (shape_cases p (Bounded kind q value
 ]
 
 -- where no weight is below 0, a claim is valid or has a first fault
-pub claim_cases : (p : Parts) (c : Claim) → IfSome (claimed_model c) (λ m. All (λ e. pos 0 ≤ℤ e.weight) m.worlds) → IsValidClaim p c ⊎ ((f : Fault) × IsFirstIn p c f)
+pub claim_cases : (p : Parts) (c : Assertion) → IfSome (claimed_model c) (λ m. All (λ e. pos 0 ≤ℤ e.weight) m.worlds) → IsValidClaim p c ⊎ ((r : Reason) × IsFirstIn p c r)
 claim_cases p (Modelled m) low = modelled_cases p m low
 claim_cases p (Excluded given d) low = excluded_cases p given d
 claim_cases p (Bounded kind q value m d) low = bounded_cases p kind q value m d low
 
 -- as far as a list of claims goes, each is valid, or there is a first that isn't
-claims_upto : (p : Parts) (cs : List Placed) → All (λ c. IfSome (claimed_model c.1) (λ m. All (λ e. pos 0 ≤ℤ e.weight) m.worlds)) cs
-    → AreValid p cs ⊎ ((place : Place) × (f : Fault) × (i : ℕ) × AreValid p (take i cs) × IsSomeAnd (slice_get cs i) (λ c. (c.0 ≡ place) × IsFirstIn p c.1 f))
+claims_upto : (p : Parts) (cs : List (Claim × Assertion)) → All (λ c. IfSome (claimed_model c.1) (λ m. All (λ e. pos 0 ≤ℤ e.weight) m.worlds)) cs
+    → AreValid p cs ⊎ ((claim : Claim) × (r : Reason) × (i : ℕ) × AreValid p (take i cs) × IsSomeAnd (slice_get cs i) (λ c. (c.0 ≡ claim) × IsFirstIn p c.1 r))
 claims_upto p [] low = inl (All-nil (λ x. IsValidClaim p x.1))
 claims_upto p (c ∷ cs) low = elim (claim_cases p c.1 (All-head (λ x. IfSome (claimed_model x.1) (λ m. All (λ e. pos 0 ≤ℤ e.weight) m.worlds)) c cs low)) [
   | inr fault ↦ inr (c.0, fault.0, 0, All-nil (λ x. IsValidClaim p x.1), (refl, fault.1))
@@ -266,9 +270,9 @@ claims_upto p (c ∷ cs) low = elim (claim_cases p c.1 (All-head (λ x. IfSome (
   ]
 ]
 
-pub answer_cases : (p : Parts) (a : Answer Dual) → HaveWeightsNotBelow0 (claims_of p a) → IsValid p a ⊎ ((place : Place) × (f : Fault) × IsRefused p a place f)
+pub answer_cases : (p : Parts) (a : Answer Dual) → HaveWeightsNotBelow0 (claims_of p a) → IsValid p a ⊎ ((claim : Claim) × (r : Reason) × IsRefused p a claim r)
 answer_cases p a low = elim (nat_equal_cases (length a.parts) (length (asked_under a.verdict p.queries))) [
-  | inr other ↦ inr (AtReport, WrongShape, inl (refl, refl, other))
+  | inr other ↦ inr (Report, WrongShape, inl (refl, refl, other))
   | inl parts ↦ elim (claims_upto p (claims_of p a) low) [
     | inl valid ↦ inl (claims-valid p a parts valid)
     | inr found ↦ inr (found.0, found.1, inr (parts, (found.2, found.3, found.4)))

@@ -8,50 +8,46 @@ use Rattle.ps_problem.specs.Problems.{Parts, bounds_of, given_at}
 use Rattle.ps_rational.specs.Rational.{Rational}
 use Rattle.ps_entailment.specs.Queries.{bound_on}
 use Rattle.ps_entailment.specs.Answers.{Model, Verdict, Consistent, Inconsistent, OpenVerdict, SideAnswer, Value, OpenSide, QueryAnswer, Interval, Impossible, OpenQuery, Answer, ShowsConsistent, asked_under}
+use Rattle.ps_claims.specs.declared.claim.Claim.{Claim}
+use Rattle.ps_claims.specs.declared.claim.Claim.TheVariants as claim
+use Rattle.ps_claims.specs.declared.claim.Claim.TheVariants.{Report}
+use Rattle.ps_claims.specs.declared.reason.Reason.{Reason}
+use Rattle.ps_claims.specs.declared.reason.Reason.TheVariants.{WrongShape, TooManyWorlds, WeightZero, WorldTwice, TotalWrong, BoundMissed, EvidenceZero, ValueMissed}
 use Rattle.ps_claims.specs.Duals.{Dual, ClaimKind, Nothing, Lower, Upper}
-use Rattle.ps_claims.specs.Faults.{DualFault, IsFirstFault}
+use Rattle.ps_claims.specs.Faults.{IsFirstFault}
 use Rattle.ps_claims.specs.Validity.{query_of, ShowsNothing, ShowsTight}
 
--- where a fault is: in the report's shape, or at a claim; queries are numbered from 1
-pub data Place : Type 0 where
-  AtReport AtVerdict : Place
-  AtQuery AtLower AtUpper : (number : ℕ) → Place
-
--- what is claimed: a model of the bounds, that nothing is allowed, or a value on one side of a query
-pub data Claim : Type 0 where
-  Modelled : (model : Model) → Claim
-  Excluded : (given : Option ℕ) (dual : Dual) → Claim
-  Bounded : (kind : ClaimKind) (query : stored.Query) (value : Rational) (model : Model) (dual : Dual) → Claim
-
--- a claim with its place
-abbrev pub Placed : Type 0
-Placed = Place × Claim
+-- what a claim asserts, and what is to show it: a model of the bounds, that nothing is allowed, or a value on one side of a query
+pub data Assertion : Type 0 where
+  Modelled : (model : Model) → Assertion
+  Excluded : (given : Option ℕ) (dual : Dual) → Assertion
+  Bounded : (kind : ClaimKind) (query : stored.Query) (value : Rational) (model : Model) (dual : Dual) → Assertion
 
 -- what a verdict claims: a model, or that nothing is allowed; an open one claims nothing
-abbrev pub verdict_claims : Verdict Dual → List Placed
-verdict_claims (Consistent m) = (AtVerdict, Modelled m) ∷ []
-verdict_claims (Inconsistent d) = (AtVerdict, Excluded None d) ∷ []
+abbrev pub verdict_claims : Verdict Dual → List (Claim × Assertion)
+verdict_claims (Consistent m) = (claim.Verdict, Modelled m) ∷ []
+verdict_claims (Inconsistent d) = (claim.Verdict, Excluded None d) ∷ []
 verdict_claims OpenVerdict = []
 
--- what a side of a query claims at this place: its value; an open one claims nothing
-abbrev pub side_claims : Place → ClaimKind → stored.Query → SideAnswer Dual → List Placed
-side_claims place kind q (Value value m d) = (place, Bounded kind q value m d) ∷ []
-side_claims place kind q OpenSide = []
+-- what a side of a query claims, where it is this claim: its value; an open one claims nothing
+abbrev pub side_claims : Claim → ClaimKind → stored.Query → SideAnswer Dual → List (Claim × Assertion)
+side_claims claim kind q (Value value m d) = (claim, Bounded kind q value m d) ∷ []
+side_claims claim kind q OpenSide = []
 
 -- what the part of the query of this number claims: what its sides do, or that nothing is allowed; an open one claims nothing
-abbrev pub part_claims : ℕ → stored.Query → QueryAnswer Dual → List Placed
-part_claims n q (Interval lower upper) = side_claims (AtLower n) Lower q lower ++ side_claims (AtUpper n) Upper q upper
-part_claims n q (Impossible d) = (AtQuery n, Excluded q.given d) ∷ []
+abbrev pub part_claims : ℕ → stored.Query → QueryAnswer Dual → List (Claim × Assertion)
+part_claims n q (Interval lower upper) = side_claims (claim.Lower n) Lower q lower ++ side_claims (claim.Upper n) Upper q upper
+part_claims n q (Impossible d) = (claim.Query n, Excluded q.given d) ∷ []
 part_claims n q OpenQuery = []
 
 -- the claims on queries that are numbered from here on
-abbrev pub claims_from : ℕ → List stored.Query → List (QueryAnswer Dual) → List Placed
+abbrev pub claims_from : ℕ → List stored.Query → List (QueryAnswer Dual) → List (Claim × Assertion)
 claims_from n [] parts = []
 claims_from n (q ∷ qs) [] = []
 claims_from n (q ∷ qs) (a ∷ parts) = part_claims n q a ++ claims_from (suc n) qs parts
 
 -- the claims of an answer to a problem: that of the verdict, and those on the queries in order
-abbrev pub claims_of : Parts → Answer Dual → List Placed
+abbrev pub claims_of : Parts → Answer Dual → List (Claim × Assertion)
 claims_of p a = verdict_claims a.verdict ++ claims_from 1 (asked_under a.verdict p.queries) a.parts
 
 -- what is open: a verdict, a side of a query, or a query
@@ -75,7 +71,7 @@ abbrev pub unfinished_of : Answer Dual → ℕ
 unfinished_of a = open_in_verdict a.verdict + sum (map open_in_part a.parts)
 
 -- a claim is valid: its model shows the bounds consistent, its dual that nothing is allowed, or both that a value is tight
-abbrev pub IsValidClaim : Parts → Claim → Type 0
+abbrev pub IsValidClaim : Parts → Assertion → Type 0
 IsValidClaim p (Modelled m) = ShowsConsistent (length p.names) (bounds_of p) m
 IsValidClaim p (Excluded given d) = ShowsNothing p given d
 IsValidClaim p (Bounded kind q value m d) = ShowsTight p kind q value m d
@@ -85,34 +81,27 @@ abbrev pub HasParts : Parts → Answer Dual → Type 0
 HasParts p a = length a.parts ≡ length (asked_under a.verdict p.queries)
 
 -- each of these claims is valid
-abbrev pub AreValid : Parts → List Placed → Type 0
+abbrev pub AreValid : Parts → List (Claim × Assertion) → Type 0
 AreValid p claims = All (λ c. IsValidClaim p c.1) claims
 
--- what can be wrong with a claim
-pub data Fault : Type 0 where
-  WrongShape TooManyWorlds TotalWrong EvidenceZero ValueMissed : Fault
-  WeightZero WorldTwice : (entry : ℕ) → Fault
-  BoundMissed : (bound : ℕ) → Fault
-  DualWrong : (fault : DualFault) → Fault
-
 -- the model of a claim, if it has one
-abbrev pub claimed_model : Claim → Option Model
+abbrev pub claimed_model : Assertion → Option Model
 claimed_model (Modelled m) = Some m
 claimed_model (Excluded given d) = None
 claimed_model (Bounded kind q value m d) = Some m
 
 -- no weight is below 0
-abbrev pub HaveWeightsNotBelow0 : List Placed → Type 0
+abbrev pub HaveWeightsNotBelow0 : List (Claim × Assertion) → Type 0
 HaveWeightsNotBelow0 claims = All (λ c. IfSome (claimed_model c.1) (λ m. All (λ e. pos 0 ≤ℤ e.weight) m.worlds)) claims
 
 -- the dual of a claim, if it has one
-abbrev pub claimed_dual : Claim → Option Dual
+abbrev pub claimed_dual : Assertion → Option Dual
 claimed_dual (Modelled m) = None
 claimed_dual (Excluded given d) = Some d
 claimed_dual (Bounded kind q value m d) = Some d
 
 -- each world has each atom, and there is a multiplier for each bound
-pub record HasShape (p : Parts) (c : Claim) : Type 0 where
+pub record HasShape (p : Parts) (c : Assertion) : Type 0 where
   pub worlds : IfSome (claimed_model c) (λ m. All (λ e. length e.world ≡ length p.names) m.worlds)
   pub rows : IfSome (claimed_dual c) (λ d. length d.rows ≡ length (bounds_of p))
 
@@ -153,17 +142,17 @@ pub record IsSound (p : Parts) (m : Model) : Type 0 where
   pub met : MeetsAll (bounds_of p) m.worlds
 
 -- where a value is claimed, the evidence weighs something in its model
-abbrev pub HasEvidence : Parts → Claim → Type 0
+abbrev pub HasEvidence : Parts → Assertion → Type 0
 HasEvidence p (Bounded kind q value m d) = weight m.worlds (given_at p.nodes q.given) ≢ pos 0
 HasEvidence p other = Unit {0}
 
 -- and the value is what the model gives
-abbrev pub HasValue : Parts → Claim → Type 0
+abbrev pub HasValue : Parts → Assertion → Type 0
 HasValue p (Bounded kind q value m d) = MeetsBound (bound_on (query_of p.nodes q) Exactly value) m.worlds
 HasValue p other = Unit {0}
 
 -- nothing is wrong with the model, if there is one
-pub record IsModelRight (p : Parts) (c : Claim) : Type 0 where
+pub record IsModelRight (p : Parts) (c : Assertion) : Type 0 where
   pub shape : HasShape p c
   pub few : IfSome (claimed_model c) (AreFew p)
   pub proper : IfSome (claimed_model c) (λ m. AreProperEntries m.worlds)
@@ -172,18 +161,18 @@ pub record IsModelRight (p : Parts) (c : Claim) : Type 0 where
   pub evidence : HasEvidence p c
   pub value : HasValue p c
 
--- the fault is the first of the dual, if there is one
-abbrev pub IsDualWrong : Parts → Claim → DualFault → Type 0
-IsDualWrong p (Modelled m) f = ⊥
-IsDualWrong p (Excluded given d) f = IsFirstFault p Nothing given 0 None d f
-IsDualWrong p (Bounded kind q value m d) f = IsFirstFault p kind q.given q.both (Some value) d f
+-- the reason is the first against the dual, if there is one
+abbrev pub IsDualWrong : Parts → Assertion → Reason → Type 0
+IsDualWrong p (Modelled m) r = ⊥
+IsDualWrong p (Excluded given d) r = IsFirstFault p Nothing given 0 None d r
+IsDualWrong p (Bounded kind q value m d) r = IsFirstFault p kind q.given q.both (Some value) d r
 
 -- the model is there, and this is true of it
-abbrev pub OfModel : Claim → (Model → Type 0) → Type 0
+abbrev pub OfModel : Assertion → (Model → Type 0) → Type 0
 OfModel c P = IsSomeAnd (claimed_model c) P
 
--- the fault is there, and none before it
-abbrev pub IsFirstIn : Parts → Claim → Fault → Type 0
+-- the reason is the first against a claim: one against its shape or its model, or where these are right one against its dual
+abbrev pub IsFirstIn : Parts → Assertion → Reason → Type 0
 IsFirstIn p c WrongShape = ¬ HasShape p c
 IsFirstIn p c TooManyWorlds = HasShape p c × OfModel c (λ m. ¬ AreFew p m)
 IsFirstIn p c (WeightZero n) = HasShape p c × OfModel c (λ m. AreFew p m × IsWeightless m.worlds n)
@@ -192,12 +181,12 @@ IsFirstIn p c TotalWrong = HasShape p c × OfModel c (λ m. AreFew p m × ArePro
 IsFirstIn p c (BoundMissed n) = HasShape p c × OfModel c (λ m. AreFew p m × AreProperEntries m.worlds × HasTotal m × MissesFirst (bounds_of p) m.worlds n)
 IsFirstIn p c EvidenceZero = HasShape p c × OfModel c (λ m. AreFew p m × AreProperEntries m.worlds × HasTotal m × MeetsAll (bounds_of p) m.worlds) × ¬ HasEvidence p c
 IsFirstIn p c ValueMissed = HasShape p c × OfModel c (λ m. AreFew p m × AreProperEntries m.worlds × HasTotal m × MeetsAll (bounds_of p) m.worlds) × HasEvidence p c × ¬ HasValue p c
-IsFirstIn p c (DualWrong f) = IsModelRight p c × IsDualWrong p c f
+IsFirstIn p c r = IsModelRight p c × IsDualWrong p c r
 
--- the claim at this place is the first that isn't valid, and this is its first fault
-abbrev pub IsFirstAt : Parts → Answer Dual → Place → Fault → Type 0
-IsFirstAt p a place f = HasParts p a × ((i : ℕ) × AreValid p (take i (claims_of p a)) × IsSomeAnd (slice_get (claims_of p a) i) (λ c. (c.0 ≡ place) × IsFirstIn p c.1 f))
+-- this claim is the first that isn't valid, and the reason is the first against it
+abbrev pub IsFirstAt : Parts → Answer Dual → Claim → Reason → Type 0
+IsFirstAt p a claim r = HasParts p a × ((i : ℕ) × AreValid p (take i (claims_of p a)) × IsSomeAnd (slice_get (claims_of p a) i) (λ c. (c.0 ≡ claim) × IsFirstIn p c.1 r))
 
--- the answer is refused for this fault at this place: it hasn't its parts, or a claim isn't valid
-abbrev pub IsRefused : Parts → Answer Dual → Place → Fault → Type 0
-IsRefused p a place f = ((place ≡ AtReport) × (f ≡ WrongShape) × ¬ HasParts p a) ⊎ IsFirstAt p a place f
+-- the answer is refused for this reason against this claim: it hasn't its parts, or a claim isn't valid
+abbrev pub IsRefused : Parts → Answer Dual → Claim → Reason → Type 0
+IsRefused p a claim r = ((claim ≡ Report) × (r ≡ WrongShape) × ¬ HasParts p a) ⊎ IsFirstAt p a claim r

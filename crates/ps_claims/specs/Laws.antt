@@ -10,11 +10,13 @@ use Rattle.ps_steps.specs.Constraints.{IsMet}
 use Rattle.ps_forms.specs.Extensions.{extension}
 use Rattle.ps_entailment.specs.Queries.{Query, IsImpossible, Holds}
 use Rattle.ps_entailment.specs.Answers.{Answer}
+use Rattle.ps_claims.specs.declared.claim.Claim.{Claim}
+use Rattle.ps_claims.specs.declared.reason.Reason.{Reason}
 use Rattle.ps_claims.specs.Duals.{Dual, ClaimKind, Nothing, Lower, Upper, HaveSigns, kept_of, AreZeroElsewhere, combination, IsNeverAbove, HasNothingHead, HasValueHead}
 use Rattle.ps_claims.specs.Goals.{Combination, value_under, size_of, combination_of, goal_of}
 use Rattle.ps_claims.specs.Limits.{most_dual_number, most_combination}
-use Rattle.ps_claims.specs.Faults.{DualFault, IsFaultless, IsFirstFault}
-use Rattle.ps_claims.specs.Claims.{claims_of, HasParts, AreValid, HaveWeightsNotBelow0, Place, Fault, IsRefused}
+use Rattle.ps_claims.specs.Faults.{IsFaultless, IsFirstFault}
+use Rattle.ps_claims.specs.Claims.{claims_of, HasParts, AreValid, HaveWeightsNotBelow0, IsRefused}
 use Rattle.ps_claims.specs.Validity.{query_of, IsRefuted, IsValid, IsRightFor}
 
 -- a dual of head at least 1 and top 0 shows that no distribution is allowed
@@ -60,12 +62,12 @@ RefutedGoalsBoundCombinations = (p : Parts) (kind : ClaimKind) (q : stored.Query
 -- nothing is wrong with a dual that has a multiplier for each bound, or there is a first fault
 abbrev pub DualsAreFaultlessOrFaulty : Type 0
 DualsAreFaultlessOrFaulty = (p : Parts) (kind : ClaimKind) (given : Option ℕ) (both : ℕ) (value : Option Rational) (d : Dual) → length d.rows ≡ length (bounds_of p)
-    → IsFaultless p kind given both value d ⊎ ((f : DualFault) × IsFirstFault p kind given both value d f)
+    → IsFaultless p kind given both value d ⊎ ((r : Reason) × IsFirstFault p kind given both value d r)
 
 -- a faultless dual has no first fault
 abbrev pub FaultlessDualsHaveNoFault : Type 0
-FaultlessDualsHaveNoFault = (p : Parts) (kind : ClaimKind) (given : Option ℕ) (both : ℕ) (value : Option Rational) (d : Dual) (f : DualFault)
-    → IsFaultless p kind given both value d → ¬ IsFirstFault p kind given both value d f
+FaultlessDualsHaveNoFault = (p : Parts) (kind : ClaimKind) (given : Option ℕ) (both : ℕ) (value : Option Rational) (d : Dual) (r : Reason)
+    → IsFaultless p kind given both value d → ¬ IsFirstFault p kind given both value d r
 
 -- head over top is a value exactly where their quotient is
 abbrev pub HeadsAreQuotients : Type 0
@@ -81,8 +83,8 @@ ValidAnswersHaveValidClaims = (p : Parts) (a : Answer Dual) → IsValid p a ↔ 
 
 -- an answer in which no weight is below 0 is valid or refused
 abbrev pub AnswersAreValidOrRefused : Type 0
-AnswersAreValidOrRefused = (p : Parts) (a : Answer Dual) → HaveWeightsNotBelow0 (claims_of p a) → IsValid p a ⊎ ((place : Place) × (f : Fault) × IsRefused p a place f)
+AnswersAreValidOrRefused = (p : Parts) (a : Answer Dual) → HaveWeightsNotBelow0 (claims_of p a) → IsValid p a ⊎ ((claim : Claim) × (r : Reason) × IsRefused p a claim r)
 
--- a valid answer is refused for no fault
+-- a valid answer is refused for no reason
 abbrev pub ValidAnswersAreNotRefused : Type 0
-ValidAnswersAreNotRefused = (p : Parts) (a : Answer Dual) (place : Place) (f : Fault) → IsValid p a → ¬ IsRefused p a place f
+ValidAnswersAreNotRefused = (p : Parts) (a : Answer Dual) (claim : Claim) (r : Reason) → IsValid p a → ¬ IsRefused p a claim r

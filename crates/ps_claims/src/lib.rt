@@ -2,10 +2,13 @@
 //! certificates are valid.
 #![tactic(auto)]
 
+mod claim;
 mod claim_kind;
 mod combination;
 mod laws;
+mod reason;
 
+pub use claim::Claim;
 pub use claim_kind::ClaimKind;
 pub use combination::Combination;
 pub use laws::{
@@ -13,3 +16,4 @@ pub use laws::{
     heads_are_quotients, refuted_goals_bound_combinations, valid_answers_are_right,
     valid_claims_have_no_fault,
 };
+pub use reason::Reason;

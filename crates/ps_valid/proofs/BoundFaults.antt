@@ -19,15 +19,15 @@ use Rattle.ps_claims.specs.declared.claim_kind.ClaimKind.{ClaimKind}
 use Rattle.ps_claims.specs.Duals.{Dual}
 use Rattle.ps_claims.specs.Faults.{IsFaultless}
 use Rattle.ps_claims.specs.Validity.{query_of, ShowsTight}
-use Rattle.ps_claims.specs.Claims as claims
-use Rattle.ps_claims.specs.Claims.{Claim, Bounded, HasShape, IsModelRight, IsFirstIn, IsSound}
+use Rattle.ps_claims.specs.declared.reason.Reason.{Reason}
+use Rattle.ps_claims.specs.declared.reason.Reason.TheVariants.{WrongShape, EvidenceZero, ValueMissed}
+use Rattle.ps_claims.specs.Claims.{Assertion, Bounded, HasShape, IsModelRight, IsSound}
+use Rattle.ps_claims.proofs.Claims.{first_of_dual}
 use Rattle.ps_claims.proofs.Decided.{bounded-valid}
-use Rattle.ps_valid.specs.declared.refusal.Reason.{Reason}
-use Rattle.ps_valid.specs.declared.refusal.Reason.TheVariants.{WrongShape, EvidenceZero, ValueMissed}
-use Rattle.ps_valid.specs.Judged.{fault_of, FindsReason}
+use Rattle.ps_valid.specs.Judged.{FindsReason}
 use Rattle.ps_valid.specs.declared.truth.Row.{Row}
 use Rattle.ps_valid.specs.Rows.{IsTableOf, node_at, row_entries}
-use Rattle.ps_valid.specs.DualTests.{IsFirstOfDual, FindsInDual}
+use Rattle.ps_valid.specs.DualTests.{FindsInDual}
 use Rattle.ps_valid.specs.Tests.{HaveShape, IsFirstAgainst, evidence_weight, GivesValue}
 use Rattle.ps_valid.proofs.ModelFaults.{first_in_model}
 use Rattle.ps_valid.proofs.Tables.{weight-node, weight-given, weight-both}
@@ -49,7 +49,7 @@ value_is p q value m rows b e nodes table is evidence =
     )
 
 module _ (p : Parts) (kind : ClaimKind) (q : Query) (value : Rational) (m : claimed.Model) (d : Dual) where
-  abbrev claim : Claim
+  abbrev claim : Assertion
   claim = Bounded kind q value m d
 
   -- worlds of another shape, or multipliers of another number
@@ -74,10 +74,6 @@ module _ (p : Parts) (kind : ClaimKind) (q : Query) (value : Rational) (m : clai
   model_right : HasShape p claim → IsSound p m → evidence_weight p q m ≢ pos 0 → GivesValue p q value m → IsModelRight p claim
   model_right shape sound some gives = record { shape = shape; few = sound.few; proper = sound.proper; total = sound.total; met = sound.met; evidence = some; value = gives }
 
-  first_bounded : (f : claims.Fault) → IsModelRight p claim → IsFirstOfDual p kind q.given q.both (Some value) d f → IsFirstIn p claim f
-  first_bounded (claims.DualWrong g) right h = (right, h)
-  first_bounded f right h = absurd h
-
   tight : All (λ e. pos 0 ≤ℤ e.weight) m.worlds → IsModelRight p claim → IsFaultless p kind q.given q.both (Some value) d → IsSound p m → ShowsTight p kind q value m d
   tight low right faultless sound = bounded-valid p kind q value m d low right.shape sound right.evidence right.value faultless
 
@@ -85,7 +81,7 @@ module _ (p : Parts) (kind : ClaimKind) (q : Query) (value : Rational) (m : clai
   pub judged_bound : (found : Option Reason) → All (λ e. pos 0 ≤ℤ e.weight) m.worlds → HaveShape (length p.names) m.worlds → length d.rows ≡ length (bounds_in p.sentences) → IsSound p m
       → evidence_weight p q m ≢ pos 0 → GivesValue p q value m → FindsInDual p kind q.given q.both (Some value) d found → FindsReason p claim found
   judged_bound None low worlds rows sound some gives faultless = tight low (model_right (bound_shape worlds rows) sound some gives) faultless sound
-  judged_bound (Some r) low worlds rows sound some gives first = first_bounded (fault_of r) (model_right (bound_shape worlds rows) sound some gives) first
+  judged_bound (Some r) low worlds rows sound some gives first = first_of_dual p claim r (model_right (bound_shape worlds rows) sound some gives) first
 
   pub bound_found : {E : Type 0} (result : Result (Option Reason) E) → All (λ e. pos 0 ≤ℤ e.weight) m.worlds → HaveShape (length p.names) m.worlds → length d.rows ≡ length (bounds_in p.sentences) → IsSound p m
       → evidence_weight p q m ≢ pos 0 → GivesValue p q value m → IfOk result (FindsInDual p kind q.given q.both (Some value) d) → IfOk result (FindsReason p claim)

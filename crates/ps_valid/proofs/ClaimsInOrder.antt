@@ -14,32 +14,32 @@ use Rattle.ps_entailment.specs.Answers.{asked_under}
 use Rattle.ps_claims.specs.declared.claim_kind.ClaimKind.{ClaimKind}
 use Rattle.ps_claims.specs.declared.claim_kind.ClaimKind.TheVariants.{Lower, Upper}
 use Rattle.ps_claims.specs.Duals.{Dual}
-use Rattle.ps_claims.specs.Claims as claims
-use Rattle.ps_claims.specs.Claims.{Place, Placed, verdict_claims, side_claims, part_claims, claims_from, claims_of, open_in_verdict, open_in_side, open_in_part, unfinished_of, IsValidClaim, AreValid, HasParts, IsFirstAt, IsRefused}
+use Rattle.ps_claims.specs.declared.claim.Claim.{Claim}
+use Rattle.ps_claims.specs.declared.claim.Claim.TheVariants as claim
+use Rattle.ps_claims.specs.declared.claim.Claim.TheVariants.{Report}
+use Rattle.ps_claims.specs.declared.reason.Reason.{Reason}
+use Rattle.ps_claims.specs.declared.reason.Reason.TheVariants.{WrongShape}
+use Rattle.ps_claims.specs.Claims.{Assertion, verdict_claims, side_claims, part_claims, claims_from, claims_of, open_in_verdict, open_in_side, open_in_part, unfinished_of, IsValidClaim, AreValid, HasParts, IsFirstIn}
 use Rattle.ps_claims.proofs.Claims.{claims-valid}
-use Rattle.ps_valid.specs.declared.refusal.Claim.{Claim}
-use Rattle.ps_valid.specs.declared.refusal.Claim.TheVariants.{Report}
-use Rattle.ps_valid.specs.declared.refusal.Reason.{Reason}
-use Rattle.ps_valid.specs.declared.refusal.Reason.TheVariants.{WrongShape}
 use Rattle.ps_valid.specs.declared.refusal.Refusal.{Refusal}
 use Rattle.ps_valid.specs.declared.refusal.Accepted.{Accepted}
 use Rattle.ps_valid.specs.declared.refusal.CheckError.{CheckError}
 use Rattle.ps_valid.specs.declared.refusal.CheckError.TheVariants.{Refused, NoMemory}
 use Rattle.ps_valid.specs.Answers.{verdict_of, part_of, parts_of, answer_of}
-use Rattle.ps_valid.specs.Judged.{place_of, fault_of, FindsReason, IsAccepted, IsJudged}
+use Rattle.ps_valid.specs.Judged.{FindsReason, IsAccepted, IsJudged}
 use Rattle.ps_valid.specs.ClaimLists.{AreAccepted, IsFirstOf, AreJudged, IsAnswerTo}
 
 -- ---- one claim, or none
-pub judged_one : (p : Parts) (claim : Claim) (c : claims.Claim) (found : Option Reason) (result : Result Accepted CheckError) → FindsReason p c found → IsAnswerTo claim found result
-    → AreJudged p ((place_of claim, c) ∷ []) 0 result
-judged_one p claim c None result valid e = rw e (record { valid = All-cons (λ x. IsValidClaim p x.1) (place_of claim, c) [] valid (All-nil (λ x. IsValidClaim p x.1)); claims = refl; unfinished = refl })
+pub judged_one : (p : Parts) (claim : Claim) (c : Assertion) (found : Option Reason) (result : Result Accepted CheckError) → FindsReason p c found → IsAnswerTo claim found result
+    → AreJudged p ((claim, c) ∷ []) 0 result
+judged_one p claim c None result valid e = rw e (record { valid = All-cons (λ x. IsValidClaim p x.1) (claim, c) [] valid (All-nil (λ x. IsValidClaim p x.1)); claims = refl; unfinished = refl })
 judged_one p claim c (Some r) result first e = rw e (record { before = 0; valid = All-nil (λ x. IsValidClaim p x.1); fault = (refl, first) })
 
 pub accepted_none : (p : Parts) (n : ℕ) → AreAccepted p [] n (record { claims = 0; unfinished = n })
 accepted_none p n = record { valid = All-nil (λ x. IsValidClaim p x.1); claims = refl; unfinished = refl }
 
 -- ---- one list behind another
-pub accepted_both : (p : Parts) (front back : List Placed) (m n : ℕ) (a b s : Accepted) → AreAccepted p front m a → AreAccepted p back n b → s.claims ≡ a.claims + b.claims → s.unfinished ≡ a.unfinished + b.unfinished
+pub accepted_both : (p : Parts) (front back : List (Claim × Assertion)) (m n : ℕ) (a b s : Accepted) → AreAccepted p front m a → AreAccepted p back n b → s.claims ≡ a.claims + b.claims → s.unfinished ≡ a.unfinished + b.unfinished
     → AreAccepted p (front ++ back) (m + n) s
 accepted_both p front back m n a b s f g claims unfinished = record {
   valid = All-append (λ x. IsValidClaim p x.1) front back f.valid g.valid;
@@ -47,26 +47,26 @@ accepted_both p front back m n a b s f g claims unfinished = record {
   unfinished = unfinished ∙ rw (f.unfinished, g.unfinished) refl;
 }
 
-first_later : (p : Parts) (c : Placed) (cs : List Placed) (r : Refusal) → IsValidClaim p c.1 → IsFirstOf p cs r → IsFirstOf p (c ∷ cs) r
+first_later : (p : Parts) (c : Claim × Assertion) (cs : List (Claim × Assertion)) (r : Refusal) → IsValidClaim p c.1 → IsFirstOf p cs r → IsFirstOf p (c ∷ cs) r
 first_later p c cs r valid first = record { before = suc first.before; valid = All-cons (λ x. IsValidClaim p x.1) c (take first.before cs) valid first.valid; fault = first.fault }
 
-first_in_back : (p : Parts) (front back : List Placed) (r : Refusal) → AreValid p front → IsFirstOf p back r → IsFirstOf p (front ++ back) r
+first_in_back : (p : Parts) (front back : List (Claim × Assertion)) (r : Refusal) → AreValid p front → IsFirstOf p back r → IsFirstOf p (front ++ back) r
 first_in_back p [] back r valid first = first
 first_in_back p (c ∷ cs) back r valid first =
     first_later p c (cs ++ back) r (All-head (λ x. IsValidClaim p x.1) c cs valid) (first_in_back p cs back r (All-tail (λ x. IsValidClaim p x.1) c cs valid) first)
 
-first_in_front : (p : Parts) (front back : List Placed) (r : Refusal) (i : ℕ) → AreValid p (take i front) → IsSomeAnd (slice_get front i) (λ c. (c.0 ≡ place_of r.claim) × claims.IsFirstIn p c.1 (fault_of r.reason))
+first_in_front : (p : Parts) (front back : List (Claim × Assertion)) (r : Refusal) (i : ℕ) → AreValid p (take i front) → IsSomeAnd (slice_get front i) (λ c. (c.0 ≡ r.claim) × IsFirstIn p c.1 r.reason)
     → IsFirstOf p (front ++ back) r
 first_in_front p [] back r i valid fault = absurd fault
 first_in_front p (c ∷ cs) back r zero valid fault = record { before = 0; valid = All-nil (λ x. IsValidClaim p x.1); fault = fault }
 first_in_front p (c ∷ cs) back r (suc i) valid fault =
     first_later p c (cs ++ back) r (All-head (λ x. IsValidClaim p x.1) c (take i cs) valid) (first_in_front p cs back r i (All-tail (λ x. IsValidClaim p x.1) c (take i cs) valid) fault)
 
-pub refused_front : (p : Parts) (front back : List Placed) (m n : ℕ) (e : CheckError) → AreJudged p front m (Err e) → AreJudged p (front ++ back) n (Err e)
+pub refused_front : (p : Parts) (front back : List (Claim × Assertion)) (m n : ℕ) (e : CheckError) → AreJudged p front m (Err e) → AreJudged p (front ++ back) n (Err e)
 refused_front p front back m n (Refused r) first = first_in_front p front back r first.before first.valid first.fault
 refused_front p front back m n NoMemory first = tt
 
-pub refused_back : (p : Parts) (front back : List Placed) (m n o : ℕ) (a : Accepted) (e : CheckError) → AreAccepted p front m a → AreJudged p back n (Err e) → AreJudged p (front ++ back) o (Err e)
+pub refused_back : (p : Parts) (front back : List (Claim × Assertion)) (m n o : ℕ) (a : Accepted) (e : CheckError) → AreAccepted p front m a → AreJudged p back n (Err e) → AreJudged p (front ++ back) o (Err e)
 refused_back p front back m n o a (Refused r) f first = first_in_back p front back r f.valid first
 refused_back p front back m n o a NoMemory f first = tt
 
@@ -80,16 +80,16 @@ claims_from-append n (q ∷ qs) more (x ∷ xs) others e =
     let at : suc n + length qs ≡ n + suc (length qs) = omega arith in
     ap (λ cs. part_claims n q x ++ cs) later ∙ sym (append_assoc (part_claims n q x) (claims_from (suc n) qs xs) (claims_from (suc n + length qs) more others)) ∙ ap (λ k. (part_claims n q x ++ claims_from (suc n) qs xs) ++ claims_from k more others) at
 
-pub few_in_side : (place : Place) (kind : ClaimKind) (q : Query) (s : claimed.SideAnswer Dual) → (length (side_claims place kind q s) ≤ 1) × (open_in_side s ≤ 1)
-few_in_side place kind q (claimed.Value value m d) = (omega arith, omega arith)
-few_in_side place kind q claimed.OpenSide = (omega arith, omega arith)
+pub few_in_side : (claim : Claim) (kind : ClaimKind) (q : Query) (s : claimed.SideAnswer Dual) → (length (side_claims claim kind q s) ≤ 1) × (open_in_side s ≤ 1)
+few_in_side claim kind q (claimed.Value value m d) = (omega arith, omega arith)
+few_in_side claim kind q claimed.OpenSide = (omega arith, omega arith)
 
 -- a part has at most two claims, and at most two of it are open
 pub few_in_part : (n : ℕ) (q : Query) (a : claimed.QueryAnswer Dual) → length (part_claims n q a) ≤ 2
 few_in_part n q (claimed.Interval lower upper) =
-    let l = few_in_side (claims.AtLower n) Lower q lower in
-    let u = few_in_side (claims.AtUpper n) Upper q upper in
-    let e = length-append (side_claims (claims.AtLower n) Lower q lower) (side_claims (claims.AtUpper n) Upper q upper) in
+    let l = few_in_side (claim.Lower n) Lower q lower in
+    let u = few_in_side (claim.Upper n) Upper q upper in
+    let e = length-append (side_claims (claim.Lower n) Lower q lower) (side_claims (claim.Upper n) Upper q upper) in
     omega (arith, l.0, u.0, e)
 few_in_part n q (claimed.Impossible d) = omega arith
 few_in_part n q claimed.OpenQuery = omega arith
@@ -154,7 +154,7 @@ accepted_more p qs parts i q x all part s long lt before is one claims unfinishe
     ∙ ap (λ (xs : List (claimed.QueryAnswer Dual)). claims_from 1 (take i qs ++ (g ∷ [])) xs) more
     ∙ claims_from-append 1 (take i qs) (g ∷ []) front (a ∷ []) fronts
     ∙ ap (λ (k : ℕ). claims_from 1 (take i qs) front ++ (part_claims k g a ++ [])) n
-    ∙ ap (λ (cs : List Placed). claims_from 1 (take i qs) front ++ cs) (append-nil (part_claims (i + 1) g a))
+    ∙ ap (λ (cs : List (Claim × Assertion)). claims_from 1 (take i qs) front ++ cs) (append-nil (part_claims (i + 1) g a))
     ) in
     let all_open : opens + open_in_part a ≡ sum (map open_in_part (parts_of (take (i + 1) parts))) =
     sym (ap (λ (xs : List (claimed.QueryAnswer Dual)). sum (map open_in_part xs)) more ∙ ap sum (map-append open_in_part front (a ∷ [])) ∙ sum_by_push (λ k. k) (map open_in_part front) (open_in_part a)) in
@@ -162,7 +162,7 @@ accepted_more p qs parts i q x all part s long lt before is one claims unfinishe
     let few = few_in_part (i + 1) g a in
     let opened = few_open a in
     record {
-      accepted = subst (λ (k : ℕ). AreAccepted p (claims_from 1 (take (i + 1) qs) (parts_of (take (i + 1) parts))) k s) all_open (subst (λ (cs : List Placed). AreAccepted p cs (opens + open_in_part a) s) all_claims both);
+      accepted = subst (λ (k : ℕ). AreAccepted p (claims_from 1 (take (i + 1) qs) (parts_of (take (i + 1) parts))) k s) all_open (subst (λ (cs : List (Claim × Assertion)). AreAccepted p cs (opens + open_in_part a) s) all_claims both);
       claims = omega (arith, claims, before.claims, one.claims, few);
       unfinished = omega (arith, unfinished, before.unfinished, one.unfinished, opened);
     }
@@ -192,7 +192,7 @@ refused_at p qs parts i q x all e long lt before is one =
     ∙ ap (λ (k : ℕ). claims_from 1 (take i qs) front ++ (part_claims k g a ++ claims_from (suc k) later back)) n
     ) in
     let refused = refused_front p (part_claims (i + 1) g a) (claims_from (suc (i + 1)) later back) (open_in_part a) opens e one in
-    subst (λ (cs : List Placed). AreJudged p cs opens (Err e)) split (refused_back p (claims_from 1 (take i qs) front) here (sum (map open_in_part front)) opens opens all e before.accepted refused)
+    subst (λ (cs : List (Claim × Assertion)). AreJudged p cs opens (Err e)) split (refused_back p (claims_from 1 (take i qs) front) here (sum (map open_in_part front)) opens opens all e before.accepted refused)
 
 -- ---- the whole answer
 pub judged_answer : (p : Parts) (a : Answer) (result : Result Accepted CheckError) → HasParts p (answer_of a) → AreJudged p (claims_of p (answer_of a)) (unfinished_of (answer_of a)) result → IsJudged p a result

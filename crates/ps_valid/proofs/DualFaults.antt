@@ -10,19 +10,19 @@ use Rattle.ps_steps.proofs.Onward.{none-lawful}
 use Rattle.ps_claims.specs.declared.claim_kind.ClaimKind.{ClaimKind}
 use Rattle.ps_claims.specs.declared.claim_kind.ClaimKind.TheVariants.{Nothing}
 use Rattle.ps_claims.specs.Duals.{Dual, HaveSigns}
-use Rattle.ps_claims.specs.Faults.{HasHead, start_for, IsFaultless, IsFirstFault, IsFirstWrongSign}
-use Rattle.ps_claims.specs.Claims as claims
-use Rattle.ps_claims.specs.Claims.{Excluded, HasShape, IsModelRight, IsFirstIn}
-use Rattle.ps_valid.specs.declared.refusal.Reason.{Reason}
-use Rattle.ps_valid.specs.declared.refusal.Reason.TheVariants.{WrongShape, TooManyWorlds, WeightZero, WorldTwice, TotalWrong, BoundMissed, EvidenceZero, ValueMissed, HeadWrong, MultiplierSign, StepRefused, NotRefuted}
-use Rattle.ps_valid.specs.Judged.{fault_of, FindsReason}
+use Rattle.ps_claims.specs.Faults.{HasHead, start_for, IsFirstFault}
+use Rattle.ps_claims.specs.declared.reason.Reason.{Reason}
+use Rattle.ps_claims.specs.declared.reason.Reason.TheVariants.{WrongShape, MultiplierSign, StepRefused, NotRefuted}
+use Rattle.ps_claims.specs.Claims.{Excluded, HasShape, IsModelRight}
+use Rattle.ps_claims.proofs.Claims.{first_of_dual}
+use Rattle.ps_valid.specs.Judged.{FindsReason}
 use Rattle.ps_forms.specs.Forms.{form_of}
 use Rattle.ps_pbcheck.specs.Checked.{Checked, first_checked}
 use Rattle.ps_claims.specs.declared.combination.Combination.{Combination}
 use Rattle.ps_claims.specs.Goals.{combination_of, goal_of}
 use Rattle.ps_problem.specs.declared.bound.Bound.{Bound}
 use Rattle.ps_valid.proofs.WrongSigns.{judged_signs}
-use Rattle.ps_valid.specs.DualTests.{IsFirstSignAt, HaveSignsAt, HasRun, IsFirstInRun, FindsInRun, IsFirstOfDual, FindsInDual}
+use Rattle.ps_valid.specs.DualTests.{IsFirstSignAt, HaveSignsAt, HasRun, IsFirstInRun, FindsInRun, FindsInDual}
 
 module _ (p : Parts) (kind : ClaimKind) (given : Option ℕ) (both : ℕ) (d : Dual) where
   pub run_refutes : None ≡ first_refusal (length p.nodes) (start_for p kind given both d) d.steps → ends_in_contradiction d.steps ≡ true → HasRun p kind given both d
@@ -36,19 +36,10 @@ module _ (p : Parts) (kind : ClaimKind) (given : Option ℕ) (both : ℕ) (d : D
       → found ≡ first_refusal first.variables first.known d.steps → found ≡ first_refusal (length p.nodes) (start_for p kind given both d) d.steps
   run_found sum first found e f h = rw (e, f) at h
 
-  in_run : (value : Option Rational) (r : Reason) → HasHead value d → HaveSigns (bounds_of p) d.rows → IsFirstInRun p kind given both d r → IsFirstOfDual p kind given both value d (fault_of r)
-  in_run value WrongShape head signs f = absurd f
-  in_run value TooManyWorlds head signs f = absurd f
-  in_run value (WeightZero n) head signs f = absurd f
-  in_run value (WorldTwice n) head signs f = absurd f
-  in_run value TotalWrong head signs f = absurd f
-  in_run value (BoundMissed n) head signs f = absurd f
-  in_run value EvidenceZero head signs f = absurd f
-  in_run value ValueMissed head signs f = absurd f
-  in_run value HeadWrong head signs f = absurd f
-  in_run value (MultiplierSign n) head signs f = absurd f
+  in_run : (value : Option Rational) (r : Reason) → HasHead value d → HaveSigns (bounds_of p) d.rows → IsFirstInRun p kind given both d r → IsFirstFault p kind given both value d r
   in_run value (StepRefused id why) head signs f = (head, signs, f)
   in_run value NotRefuted head signs f = (head, signs, f.0, f.1)
+  in_run value other head signs f = absurd f
 
   -- what is found against the steps is found against the dual, where head and signs are right
   pub judged_dual : (value : Option Rational) (bs : List Bound) (found : Option Reason) → bs ≡ bounds_in p.sentences → HasHead value d → HaveSignsAt bs d.rows → FindsInRun p kind given both d found → FindsInDual p kind given both value d found
@@ -63,14 +54,10 @@ module _ (p : Parts) (given : Option ℕ) (d : Dual) where
   right_dual : HasShape p (Excluded given d) → IsModelRight p (Excluded given d)
   right_dual shape = record { shape = shape; few = tt; proper = tt; total = tt; met = tt; evidence = tt; value = tt }
 
-  first_excluded : (f : claims.Fault) → HasShape p (Excluded given d) → IsFirstOfDual p Nothing given 0 None d f → IsFirstIn p (Excluded given d) f
-  first_excluded (claims.DualWrong g) shape h = (right_dual shape, h)
-  first_excluded f shape h = absurd h
-
   -- what is found against a dual with a multiplier for each bound is found against its claim
   pub judged_excluded : (found : Option Reason) → length d.rows ≡ length (bounds_in p.sentences) → FindsInDual p Nothing given 0 None d found → FindsReason p (Excluded given d) found
   judged_excluded None rows h = record { head = h.head; refuted = h.refuted }
-  judged_excluded (Some r) rows h = first_excluded (fault_of r) (record { worlds = tt; rows = rows ∙ sym (length-map (bounds_in p.sentences) (bound_of p.nodes)) }) h
+  judged_excluded (Some r) rows h = first_of_dual p (Excluded given d) r (right_dual (record { worlds = tt; rows = rows ∙ sym (length-map (bounds_in p.sentences) (bound_of p.nodes)) })) h
 
   pub rows_wrong : length d.rows ≢ length (bounds_in p.sentences) → FindsReason p (Excluded given d) (Some WrongShape)
   rows_wrong other = λ shape. other (shape.rows ∙ length-map (bounds_in p.sentences) (bound_of p.nodes))

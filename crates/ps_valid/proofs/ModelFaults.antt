@@ -7,12 +7,12 @@ use Rattle.ps_problem.specs.Problems.{Parts, bound_of, bounds_in}
 use Rattle.ps_answer.specs.declared.answer.Weighted.{Weighted}
 use Rattle.ps_answer.specs.declared.answer.Model.{Model}
 use Rattle.ps_entailment.specs.Answers as claimed
-use Rattle.ps_claims.specs.Claims.{Claim, Modelled, HasShape, AreFew, IsFirstIn, claimed_model}
+use Rattle.ps_claims.specs.declared.reason.Reason.{Reason}
+use Rattle.ps_claims.specs.declared.reason.Reason.TheVariants.{WrongShape, TooManyWorlds, WeightZero, WorldTwice, TotalWrong, BoundMissed}
+use Rattle.ps_claims.specs.Claims.{Assertion, Modelled, HasShape, AreFew, IsFirstIn, claimed_model}
 use Rattle.ps_claims.proofs.Decided.{sound-shows}
-use Rattle.ps_valid.specs.declared.refusal.Reason.{Reason}
-use Rattle.ps_valid.specs.declared.refusal.Reason.TheVariants.{WrongShape, TooManyWorlds, WeightZero, WorldTwice, TotalWrong, BoundMissed, EvidenceZero, ValueMissed, HeadWrong, MultiplierSign, StepRefused, NotRefuted}
 use Rattle.ps_certificate.specs.Certificates.{entry_of, entries, model_of}
-use Rattle.ps_valid.specs.Judged.{fault_of, FindsReason}
+use Rattle.ps_valid.specs.Judged.{FindsReason}
 use Rattle.ps_valid.specs.Limits.{IsSmallModel}
 use Rattle.ps_valid.specs.Tests.{HaveShape, IsFirstAmong, IsFirstAgainst, FindsAgainst}
 use Rattle.ps_valid.proofs.ProperEntries.{any_entry, each_entry}
@@ -24,13 +24,13 @@ model_shape : (p : Parts) (m : claimed.Model) → HaveShape (length p.names) m.w
 model_shape p m shape = record { worlds = shape; rows = tt }
 
 -- the first reason against the model of a claim of the right shape is the first against the claim
-pub first_in_model : (p : Parts) (c : Claim) (m : claimed.Model) (r : Reason) → claimed_model c ≡ Some m → HasShape p c → IsFirstAgainst p m r → IsFirstIn p c (fault_of r)
+pub first_in_model : (p : Parts) (c : Assertion) (m : claimed.Model) (r : Reason) → claimed_model c ≡ Some m → HasShape p c → IsFirstAgainst p m r → IsFirstIn p c r
 first_in_model p c m TooManyWorlds is shape f = (shape, rw is f)
 first_in_model p c m (WeightZero n) is shape f = (shape, rw is f)
 first_in_model p c m (WorldTwice n) is shape f = (shape, rw is f)
 first_in_model p c m TotalWrong is shape f = (shape, rw is f)
 first_in_model p c m (BoundMissed n) is shape f = (shape, rw is f)
-first_in_model p c m r is shape f = absurd f
+first_in_model p c m other is shape f = absurd f
 
 -- what is found against a model whose worlds have the problem's atoms is found against its claim
 pub judged_model : (p : Parts) (m : Model) (found : Option Reason) → IsSmallModel m → HaveShape (length p.names) (entries m.worlds) → FindsAgainst p (model_of m) found
@@ -66,4 +66,4 @@ wrong_shape_first p m not = λ shape. not shape.worlds
 pub first_entry : (p : Parts) (m : claimed.Model) (r : Reason) → AreFew p m → IsFirstAmong m.worlds r → IsFirstAgainst p m r
 first_entry p m (WeightZero n) few first = (few, first)
 first_entry p m (WorldTwice n) few first = (few, first)
-first_entry p m r few first = absurd first
+first_entry p m other few first = absurd first

@@ -8,31 +8,30 @@ use Rattle.ps_answer.specs.declared.answer.QueryAnswer.{QueryAnswer}
 use Rattle.ps_answer.specs.declared.answer.QueryPart.{QueryPart}
 use Rattle.ps_entailment.specs.Answers as claimed
 use Rattle.ps_claims.specs.declared.claim_kind.ClaimKind.{ClaimKind}
+use Rattle.ps_claims.specs.declared.claim.Claim.{Claim}
+use Rattle.ps_claims.specs.declared.reason.Reason.{Reason}
 use Rattle.ps_claims.specs.Duals.{Dual}
-use Rattle.ps_claims.specs.Claims.{Place, Placed, verdict_claims, side_claims, part_claims, claims_from, open_in_verdict, open_in_side, open_in_part, AreValid, IsFirstIn}
-use Rattle.ps_valid.specs.declared.refusal.Claim.{Claim}
-use Rattle.ps_valid.specs.declared.refusal.Reason.{Reason}
+use Rattle.ps_claims.specs.Claims.{Assertion, verdict_claims, side_claims, part_claims, claims_from, open_in_verdict, open_in_side, open_in_part, AreValid, IsFirstIn}
 use Rattle.ps_valid.specs.declared.refusal.Refusal.{Refusal}
 use Rattle.ps_valid.specs.declared.refusal.Accepted.{Accepted}
 use Rattle.ps_valid.specs.declared.refusal.CheckError.{CheckError}
 use Rattle.ps_valid.specs.declared.refusal.CheckError.TheVariants.{Refused, NoMemory}
 use Rattle.ps_valid.specs.Answers.{verdict_of, side_of, part_of, parts_of}
-use Rattle.ps_valid.specs.Judged.{place_of, fault_of}
 
 -- these claims are valid, and they and what is open beside them are so many
-pub record AreAccepted (p : Parts) (cs : List Placed) (n : ℕ) (accepted : Accepted) : Type 0 where
+pub record AreAccepted (p : Parts) (cs : List (Claim × Assertion)) (n : ℕ) (accepted : Accepted) : Type 0 where
   pub valid : AreValid p cs
   pub claims : accepted.claims ≡ length cs
   pub unfinished : accepted.unfinished ≡ n
 
--- the refusal is of the first of these claims that isn't valid, for its first fault
-pub record IsFirstOf (p : Parts) (claims : List Placed) (r : Refusal) : Type 0 where
+-- the refusal is of the first of these claims that isn't valid, for the first reason against it
+pub record IsFirstOf (p : Parts) (claims : List (Claim × Assertion)) (r : Refusal) : Type 0 where
   pub before : ℕ
   pub valid : AreValid p (take before claims)
-  pub fault : IsSomeAnd (slice_get claims before) (λ c. (c.0 ≡ place_of r.claim) × IsFirstIn p c.1 (fault_of r.reason))
+  pub fault : IsSomeAnd (slice_get claims before) (λ c. (c.0 ≡ r.claim) × IsFirstIn p c.1 r.reason)
 
 -- what is answered of these claims, beside which so much is open
-abbrev pub AreJudged : Parts → List Placed → ℕ → Result Accepted CheckError → Type 0
+abbrev pub AreJudged : Parts → List (Claim × Assertion) → ℕ → Result Accepted CheckError → Type 0
 AreJudged p claims unfinished (Ok accepted) = AreAccepted p claims unfinished accepted
 AreJudged p claims unfinished (Err (Refused r)) = IsFirstOf p claims r
 AreJudged p claims unfinished (Err NoMemory) = Unit {0}
@@ -45,9 +44,9 @@ IsAnswerTo claim found result = MatchOption found (result ≡ Ok (record { claim
 abbrev pub IsJudgedVerdict : Parts → Verdict → Result Accepted CheckError → Type 0
 IsJudgedVerdict p v result = AreJudged p (verdict_claims (verdict_of v)) (open_in_verdict (verdict_of v)) result
 
--- what is answered of a side of a query, by its claims at this place
-abbrev pub IsJudgedSide : Parts → Place → ClaimKind → Query → SideAnswer → Result Accepted CheckError → Type 0
-IsJudgedSide p place kind q s result = AreJudged p (side_claims place kind q (side_of s)) (open_in_side (side_of s)) result
+-- what is answered of a side of a query, by what is claimed there
+abbrev pub IsJudgedSide : Parts → Claim → ClaimKind → Query → SideAnswer → Result Accepted CheckError → Type 0
+IsJudgedSide p claim kind q s result = AreJudged p (side_claims claim kind q (side_of s)) (open_in_side (side_of s)) result
 
 -- what is answered of a part that claims so, on the query of this number
 abbrev pub IsJudgedClaim : Parts → ℕ → Query → claimed.QueryAnswer Dual → Result Accepted CheckError → Type 0

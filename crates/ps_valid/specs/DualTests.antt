@@ -8,12 +8,10 @@ use Rattle.ps_steps.specs.declared.refused.StepRefused as refused
 use Rattle.ps_steps.specs.Steps.{Step, Refutes, AreLawful, ends_in_contradiction, first_refusal}
 use Rattle.ps_pbcheck.specs.Checked.{Checked}
 use Rattle.ps_claims.specs.declared.claim_kind.ClaimKind.{ClaimKind}
+use Rattle.ps_claims.specs.declared.reason.Reason.{Reason}
+use Rattle.ps_claims.specs.declared.reason.Reason.TheVariants.{StepRefused, NotRefuted}
 use Rattle.ps_claims.specs.Duals.{Dual, HasSign}
 use Rattle.ps_claims.specs.Faults.{start_for, IsFaultless, IsFirstFault}
-use Rattle.ps_claims.specs.Claims.{Fault, DualWrong}
-use Rattle.ps_valid.specs.declared.refusal.Reason.{Reason}
-use Rattle.ps_valid.specs.declared.refusal.Reason.TheVariants.{StepRefused, NotRefuted}
-use Rattle.ps_valid.specs.Judged.{fault_of}
 
 -- no multiplier of the stored bounds is of the wrong sign
 abbrev pub HaveSignsAt : List Bound → List ℤ → Type 0
@@ -45,11 +43,6 @@ IsFirstInRun p kind given both d other = ⊥
 abbrev pub FindsInRun : Parts → ClaimKind → Option ℕ → ℕ → Dual → Option Reason → Type 0
 FindsInRun p kind given both d found = MatchOption found (HasRun p kind given both d) (IsFirstInRun p kind given both d)
 
--- the fault is the first of the dual
-abbrev pub IsFirstOfDual : Parts → ClaimKind → Option ℕ → ℕ → Option Rational → Dual → Fault → Type 0
-IsFirstOfDual p kind given both value d (DualWrong f) = IsFirstFault p kind given both value d f
-IsFirstOfDual p kind given both value d other = ⊥
-
 -- the reason is the first against the dual, and there is none where nothing is wrong with it
 abbrev pub FindsInDual : Parts → ClaimKind → Option ℕ → ℕ → Option Rational → Dual → Option Reason → Type 0
-FindsInDual p kind given both value d found = MatchOption found (IsFaultless p kind given both value d) (λ r. IsFirstOfDual p kind given both value d (fault_of r))
+FindsInDual p kind given both value d found = MatchOption found (IsFaultless p kind given both value d) (IsFirstFault p kind given both value d)

@@ -10,11 +10,13 @@ use Rattle.ps_valid.specs.Limits.{IsSmallAnswer}
 use Rattle.ps_problem.specs.Problems.{Parts}
 use Rattle.ps_entailment.specs.Answers.{Answer}
 use Rattle.ps_claims.specs.Duals.{Dual}
-use Rattle.ps_claims.specs.Claims.{Place, Fault, IsRefused}
+use Rattle.ps_claims.specs.declared.claim.Claim.{Claim}
+use Rattle.ps_claims.specs.declared.reason.Reason.{Reason}
+use Rattle.ps_claims.specs.Claims.{IsRefused}
 
--- an answer is refused for one fault at one place
+-- an answer is refused for one reason, against one claim
 abbrev pub RefusalsAreSingle : Type 0
-RefusalsAreSingle = (p : Parts) (a : Answer Dual) (place other : Place) (f g : Fault) → IsRefused p a place f → IsRefused p a other g → (place ≡ other) × (f ≡ g)
+RefusalsAreSingle = (p : Parts) (a : Answer Dual) (claim other : Claim) (r s : Reason) → IsRefused p a claim r → IsRefused p a other s → (claim ≡ other) × (r ≡ s)
 
 -- where each line of an answer is within the limits and has the signs that it asks, the answer is within those of a check
 abbrev pub AnswersWithinAreSmall : Type 0

@@ -10,9 +10,9 @@ use Rattle.ps_rational.specs.Rational.{Rational}
 use Rattle.ps_entailment.specs.Queries.{bound_on}
 use Rattle.ps_entailment.specs.Answers.{Model}
 use Rattle.ps_claims.specs.Validity.{query_of}
+use Rattle.ps_claims.specs.declared.reason.Reason.{Reason}
+use Rattle.ps_claims.specs.declared.reason.Reason.TheVariants.{TooManyWorlds, WeightZero, WorldTwice, TotalWrong, BoundMissed}
 use Rattle.ps_claims.specs.Claims.{AreProperEntries, IsWeightless, IsRepeated, IsFirstWithout, MissesFirst, AreFew, HasTotal, IsSound}
-use Rattle.ps_valid.specs.declared.refusal.Reason.{Reason}
-use Rattle.ps_valid.specs.declared.refusal.Reason.TheVariants.{TooManyWorlds, WeightZero, WorldTwice, TotalWrong, BoundMissed}
 use Rattle.ps_valid.specs.Rows.{MeetsAt}
 
 -- each world has a truth value for each atom

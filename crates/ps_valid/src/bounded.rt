@@ -5,7 +5,6 @@ ghost use Rattle.ps_certificate.specs.Certificates.{IsSmallDual};
 ghost use Rattle.ps_valid.specs.Judged.{FindsAgainstBound};
 ghost use Rattle.ps_valid.specs.Limits.{IsSmallModel};
 
-use crate::Reason;
 use crate::meeting::weight_given;
 use crate::modelled::first_against;
 use crate::quotient::is_quotient;
@@ -13,7 +12,7 @@ use crate::refuting::first_in_dual;
 use crate::truth::{evaluate, weight_of};
 use crate::weighing::has_wrong_shape;
 use ps_answer::{Dual, Model};
-use ps_claims::ClaimKind;
+use ps_claims::{ClaimKind, Reason};
 use ps_frac::Fraction;
 use ps_io::NoMemory;
 use ps_problem::{Problem, Query};

@@ -6,15 +6,15 @@ ghost use Rattle.ps_entailment.specs.Answers.{asked_under};
 ghost use Rattle.ps_valid.specs.Answers.{verdict_of, IsRightOf};
 ghost use Rattle.ps_valid.specs.ClaimLists.{IsAnswerTo, IsJudgedVerdict, IsJudgedSide};
 ghost use Rattle.ps_valid.specs.ClaimLists.{AreJudgedSides, IsJudgedPart, AreJudgedParts};
-ghost use Rattle.ps_valid.specs.Judged.{IsJudged, place_of};
+ghost use Rattle.ps_valid.specs.Judged.{IsJudged};
 ghost use Rattle.ps_valid.specs.Limits.{IsSmallAnswer, IsSmallPart, IsSmallSide, IsSmallVerdict};
 
 use crate::bounded::check_bound;
 use crate::modelled::check_model;
 use crate::refuting::check_dual;
-use crate::{Accepted, CheckError, Claim, Reason, Refusal};
+use crate::{Accepted, CheckError, Refusal};
 use ps_answer::{Answer, QueryAnswer, QueryPart, SideAnswer, Verdict};
-use ps_claims::ClaimKind;
+use ps_claims::{Claim, ClaimKind, Reason};
 use ps_problem::{Problem, Query};
 use std::alloc::Global;
 
@@ -86,7 +86,7 @@ fn check_side(
 ) -> Result<Accepted, CheckError>
     requires query { HasNodes problem.now.nodes query.now.formula query.now.given query.now.both }
     requires limits { IsSmallSide side.now }
-    ensures { IsJudgedSide problem.now (place_of claim) kind query.now side.now result }
+    ensures { IsJudgedSide problem.now claim kind query.now side.now result }
 {
     match side {
         SideAnswer::Bound { value, model, dual } => {

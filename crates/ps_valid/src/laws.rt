@@ -3,7 +3,7 @@ ghost use Rattle.ps_valid.specs.Laws.{RefusalsAreSingle};
 ghost use Rattle.ps_valid.specs.Laws.{AnswersWithinAreSmall, ReportsAreSmall};
 ghost use Rattle.ps_valid.specs.Laws.{LinesWithinAreShort};
 
-/// An answer is refused for at most one fault, at one place.
+/// An answer is refused for at most one reason, against one claim.
 pub fn refusals_are_single()
     ensures single { RefusalsAreSingle }
 {}

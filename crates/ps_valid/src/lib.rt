@@ -19,5 +19,6 @@ pub use bounded::check_bound;
 pub use checking::check;
 pub use laws::{refusals_are_single, report_lines_are_short, reports_are_small};
 pub use modelled::check_model;
-pub use refusal::{Accepted, CheckError, Claim, Reason, Refusal};
+pub use ps_claims::{Claim, Reason};
+pub use refusal::{Accepted, CheckError, Refusal};
 pub use refuting::check_dual;

@@ -7,11 +7,11 @@ ghost use Rattle.ps_valid.specs.Limits.{IsSmallModel};
 ghost use Rattle.ps_valid.specs.Rows.{IsTableOf};
 ghost use Rattle.ps_valid.specs.Tests.{FindsAgainst};
 
-use crate::Reason;
 use crate::meeting::missed_bound;
 use crate::truth::{Row, evaluate};
 use crate::weighing::{first_among, has_too_many, has_wrong_shape, has_wrong_total};
 use ps_answer::Model;
+use ps_claims::Reason;
 use ps_io::NoMemory;
 use ps_problem::Problem;
 use std::alloc::Global;

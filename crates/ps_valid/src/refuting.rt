@@ -7,13 +7,12 @@ ghost use Rattle.ps_certificate.specs.Certificates.{dual_of, HasQuery, IsSmallDu
 ghost use Rattle.ps_valid.specs.Judged.{FindsReason};
 ghost use Rattle.ps_valid.specs.DualTests.{FindsInDual, FindsInRun};
 
-use crate::Reason;
 use crate::quotient::is_quotient;
 use crate::signs::first_wrong_sign;
 use crate::steps::{checker_of, first_refused};
 use ps_answer::Dual;
 use ps_certificate::combination;
-use ps_claims::ClaimKind;
+use ps_claims::{ClaimKind, Reason};
 use ps_frac::Fraction;
 use ps_io::NoMemory;
 use ps_problem::Problem;

@@ -6,8 +6,8 @@ ghost use Rattle.ps_certificate.specs.Certificates.{entries, model_of};
 ghost use Rattle.ps_valid.specs.Limits.{AreSmall, IsSmallModel};
 ghost use Rattle.ps_valid.specs.Tests.{FindsFault, HasAtoms};
 
-use crate::Reason;
 use ps_answer::{Model, Weighted};
+use ps_claims::Reason;
 use ps_formula::World;
 use ps_problem::Problem;
 

@@ -20,7 +20,7 @@ use Rattle.ps_valid.specs.declared.refusal.Refusal.{Refusal}
 use Rattle.ps_valid.specs.declared.refusal.CheckError.{CheckError}
 use Rattle.ps_valid.specs.declared.refusal.CheckError.TheVariants.{Refused}
 use Rattle.ps_valid.specs.Answers.{answer_of, IsRightOf}
-use Rattle.ps_valid.specs.Judged.{IsJudged, IsAccepted, place_of, fault_of}
+use Rattle.ps_valid.specs.Judged.{IsJudged, IsAccepted}
 use Rattle.ps_io.specs.Transfer.{Appends, ReadAll, TookMore, TookWithin}
 use Rattle.ps_io.specs.declared.limits.TheConstants.{LONGEST_READ}
 use Rattle.ps_generation.specs.declared.limits.Limits.{Limits}
@@ -47,8 +47,8 @@ pub judged-accepted : (p : Parts) (a : Answer) (accepted : Accepted) (o : Output
 judged-accepted p a accepted o is right shown =
     due.Accepted is.valid right (shown ∙ ap (λ (n : ℕ). due.accepted n accepted.unfinished) is.claims ∙ ap (λ (n : ℕ). due.accepted (length (claims_of p (answer_of a))) n) is.unfinished)
 
-pub judged-refused : (p : Parts) (a : Answer) (e : CheckError) (f : Refusal) (o : Output) → e ≡ Refused f → IsJudged p a (Err e) → o ≡ due.refused (place_of f.claim) (fault_of f.reason) → DueAnswer p a o
-judged-refused p a e f o is judged shown = let first = rw is at judged in due.RefusedFor (place_of f.claim) (fault_of f.reason) first shown
+pub judged-refused : (p : Parts) (a : Answer) (e : CheckError) (r : Refusal) (o : Output) → e ≡ Refused r → IsJudged p a (Err e) → o ≡ due.refused r.claim r.reason → DueAnswer p a o
+judged-refused p a e r o is judged shown = let first = rw is at judged in due.RefusedFor r.claim r.reason first shown
 
 -- for a report that isn't read
 pub report-fault : (p : Parts) (rest : List ℕ) (e : ReportError) (kind : LineKind) (n : ℕ) (o : Output) → e ≡ errors.At kind n → TellsFault rest e → o ≡ refused_line kind n → DueReport p rest o

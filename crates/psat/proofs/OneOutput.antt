@@ -17,11 +17,11 @@ use Rattle.psat.proofs.CommandLaws.{one_command}
 
 one_judged : (p : Parts) (a : Answer) (o o' : Output) → DueAnswer p a o → DueAnswer p a o' → o ≡ o'
 one_judged p a o o' (Accepted v r is) (Accepted v' r' is') = is ∙ sym is'
-one_judged p a o o' (Accepted v r is) (RefusedFor place f first is') = absurd (valid_accepted p (answer_of a) place f v first)
-one_judged p a o o' (RefusedFor place f first is) (Accepted v r is') = absurd (valid_accepted p (answer_of a) place f v first)
-one_judged p a o o' (RefusedFor place f first is) (RefusedFor other g second is') =
-    let same = one_refused p (answer_of a) place other f g first second in
-    is ∙ ap (λ x. refused x f) same.0 ∙ ap (λ x. refused other x) same.1 ∙ sym is'
+one_judged p a o o' (Accepted v r is) (RefusedFor claim reason first is') = absurd (valid_accepted p (answer_of a) claim reason v first)
+one_judged p a o o' (RefusedFor claim reason first is) (Accepted v r is') = absurd (valid_accepted p (answer_of a) claim reason v first)
+one_judged p a o o' (RefusedFor claim reason first is) (RefusedFor other reason' second is') =
+    let same = one_refused p (answer_of a) claim other reason reason' first second in
+    is ∙ ap (λ x. refused x reason) same.0 ∙ ap (λ x. refused other x) same.1 ∙ sym is'
 
 one_report : (p : Parts) (rest : List ℕ) (o o' : Output) → DueReport p rest o → DueReport p rest o' → o ≡ o'
 one_report p rest o o' (ReadAs a r j) (ReadAs b s k) =

@@ -11,7 +11,9 @@ use Rattle.ps_answer.specs.declared.answer.Verdict.TheVariants as answer
 use Rattle.ps_answer.specs.Answers.{answer_lines}
 use Rattle.ps_answer.specs.declared.error.LineKind.{LineKind}
 use Rattle.ps_answer.specs.Faults.{IsReport, IsFirstFault}
-use Rattle.ps_claims.specs.Claims.{Place, Fault, IsRefused, claims_of, unfinished_of}
+use Rattle.ps_claims.specs.declared.claim.Claim.{Claim}
+use Rattle.ps_claims.specs.declared.reason.Reason.{Reason}
+use Rattle.ps_claims.specs.Claims.{IsRefused, claims_of, unfinished_of}
 use Rattle.ps_claims.specs.Validity.{IsValid}
 use Rattle.ps_valid.specs.Answers.{answer_of, IsRightOf}
 use Rattle.ps_generation.specs.declared.limits.Limits.{Limits}
@@ -23,7 +25,7 @@ use Rattle.psat.specs.declared.command.Command.TheVariants.{Check, Solve}
 use Rattle.psat.specs.declared.checked.TheConstants.{MOST_SEARCHED}
 use Rattle.psat.specs.declared.command.TheConstants.{MOST_PROBLEM}
 use Rattle.psat.specs.Commands.{Spell, SpellNone}
-use Rattle.psat.specs.Words.{kind_words, line_words, place_words, fault_words}
+use Rattle.psat.specs.Words.{kind_words, line_words, claim_words, reason_words}
 
 -- a text, and the status after it
 pub record Output : Type 0 where
@@ -38,9 +40,9 @@ line words status = record { text = words ++ codes "\n"; status = status }
 abbrev pub accepted : ℕ → ℕ → Output
 accepted claims unfinished = line (codes "accepted: claims " ++ (decimal claims ++ (codes ", open " ++ decimal unfinished))) Done
 
--- a claim is refused for its first fault
-abbrev pub refused : Place → Fault → Output
-refused place fault = line (codes "refused " ++ (place_words place ++ (codes " " ++ fault_words fault))) Refused
+-- a claim is refused for the first reason against it
+abbrev pub refused : Claim → Reason → Output
+refused claim reason = line (codes "refused " ++ (claim_words claim ++ (codes " " ++ reason_words reason))) Refused
 
 -- a line of the report is at fault
 abbrev pub refused_line : LineKind → ℕ → Output
@@ -59,11 +61,11 @@ abbrev pub usage : Output
 usage = line (codes "usage: psat solve|explain|check|make N [--pivots N] [--conflicts N] [--bytes N]") Usage
 
 -- due for a problem and an answer to it: the answer is accepted where it is valid, and it is then right; or else its first claim
--- that isn't valid is refused, for its first fault
+-- that isn't valid is refused, for the first reason against it
 pub data DueAnswer (p : Parts) (a : Answer) (o : Output) : Type 0 where
   Accepted : (valid : IsValid p (answer_of a)) (right : IsRightOf p a)
       (is : o ≡ accepted (length (claims_of p (answer_of a))) (unfinished_of (answer_of a))) → DueAnswer p a o
-  RefusedFor : (place : Place) (fault : Fault) (first : IsRefused p (answer_of a) place fault) (is : o ≡ refused place fault) → DueAnswer p a o
+  RefusedFor : (claim : Claim) (reason : Reason) (first : IsRefused p (answer_of a) claim reason) (is : o ≡ refused claim reason) → DueAnswer p a o
 
 -- due for a problem and the bytes behind its text: they are the report of an answer within the limits, or a line is the first at fault
 pub data DueReport (p : Parts) (rest : List ℕ) (o : Output) : Type 0 where

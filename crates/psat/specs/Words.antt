@@ -8,8 +8,10 @@ use Rattle.ps_answer.specs.declared.error.LineKind.{LineKind}
 use Rattle.ps_answer.specs.declared.error.LineKind.TheVariants as line
 use Rattle.ps_steps.specs.declared.refused.StepRefused.{StepRefused}
 use Rattle.ps_steps.specs.declared.refused.StepRefused.TheVariants as step
-use Rattle.ps_claims.specs.Faults.{DualFault, WrongHead, WrongSign, WrongStep, NoContradiction}
-use Rattle.ps_claims.specs.Claims.{Place, AtReport, AtVerdict, AtQuery, AtLower, AtUpper, Fault, WrongShape, TooManyWorlds, TotalWrong, EvidenceZero, ValueMissed, WeightZero, WorldTwice, BoundMissed, DualWrong}
+use Rattle.ps_claims.specs.declared.claim.Claim.{Claim}
+use Rattle.ps_claims.specs.declared.claim.Claim.TheVariants as claim
+use Rattle.ps_claims.specs.declared.reason.Reason.{Reason}
+use Rattle.ps_claims.specs.declared.reason.Reason.TheVariants as reason
 
 -- what is expected at a place of a problem text
 unfoldable pub what_words : What → List ℕ
@@ -54,12 +56,12 @@ line_words line.TooLarge = codes "too-large"
 line_words line.MoreAfterEnd = codes "more-after-end"
 
 -- which claim is refused
-unfoldable pub place_words : Place → List ℕ
-place_words AtReport = codes "report"
-place_words AtVerdict = codes "verdict"
-place_words (AtQuery n) = codes "query " ++ decimal n
-place_words (AtLower n) = codes "query " ++ decimal n ++ codes " lower"
-place_words (AtUpper n) = codes "query " ++ decimal n ++ codes " upper"
+unfoldable pub claim_words : Claim → List ℕ
+claim_words claim.Report = codes "report"
+claim_words claim.Verdict = codes "verdict"
+claim_words (claim.Query n) = codes "query " ++ decimal n
+claim_words (claim.Lower n) = codes "query " ++ decimal n ++ codes " lower"
+claim_words (claim.Upper n) = codes "query " ++ decimal n ++ codes " upper"
 
 -- why a step is refused; want of memory is no reason against a step, and is never shown
 unfoldable pub why_words : StepRefused → List ℕ
@@ -70,21 +72,17 @@ why_words (step.HintIdle n) = codes "hint-idle " ++ decimal n
 why_words step.NoConflict = codes "no-conflict"
 why_words step.NoMemory = []
 
--- what is wrong with a dual
-unfoldable pub dual_words : DualFault → List ℕ
-dual_words WrongHead = codes "head-wrong"
-dual_words (WrongSign n) = codes "multiplier-sign " ++ decimal n
-dual_words (WrongStep id why) = codes "step " ++ (decimal id ++ (codes " " ++ why_words why))
-dual_words NoContradiction = codes "not-refuted"
-
 -- what is wrong with a claim
-unfoldable pub fault_words : Fault → List ℕ
-fault_words WrongShape = codes "wrong-shape"
-fault_words TooManyWorlds = codes "too-many-worlds"
-fault_words (WeightZero n) = codes "weight-zero " ++ decimal n
-fault_words (WorldTwice n) = codes "world-twice " ++ decimal n
-fault_words TotalWrong = codes "total-wrong"
-fault_words (BoundMissed n) = codes "bound-missed " ++ decimal n
-fault_words EvidenceZero = codes "evidence-zero"
-fault_words ValueMissed = codes "value-missed"
-fault_words (DualWrong f) = dual_words f
+unfoldable pub reason_words : Reason → List ℕ
+reason_words reason.WrongShape = codes "wrong-shape"
+reason_words reason.TooManyWorlds = codes "too-many-worlds"
+reason_words (reason.WeightZero n) = codes "weight-zero " ++ decimal n
+reason_words (reason.WorldTwice n) = codes "world-twice " ++ decimal n
+reason_words reason.TotalWrong = codes "total-wrong"
+reason_words (reason.BoundMissed n) = codes "bound-missed " ++ decimal n
+reason_words reason.EvidenceZero = codes "evidence-zero"
+reason_words reason.ValueMissed = codes "value-missed"
+reason_words reason.HeadWrong = codes "head-wrong"
+reason_words (reason.MultiplierSign n) = codes "multiplier-sign " ++ decimal n
+reason_words (reason.StepRefused id why) = codes "step " ++ (decimal id ++ (codes " " ++ why_words why))
+reason_words reason.NotRefuted = codes "not-refuted"

@@ -1,6 +1,5 @@
 //! A text to be written.
 ghost use Rattle.std.specs.Prelude.{◌≡◌, ◌++◌, codes, string_bytes};
-ghost use Rattle.ps_valid.specs.Judged.{fault_of, place_of};
 ghost use Rattle.psat.specs.Due.{accepted, line, refused, refused_line};
 ghost use Rattle.psat.specs.Due.{too_long, unreadable, usage};
 ghost use Rattle.psat.specs.Replies.{Says, message_output};
@@ -74,7 +73,7 @@ impl Message {
 
     /// The message for an answer with a claim that isn't valid.
     pub fn refused(alloc: Global, refusal: Refusal) -> Result<Message, AllocError>
-        ensures { Says result (refused (place_of refusal.claim) (fault_of refusal.reason)) }
+        ensures { Says result (refused refusal.claim refusal.reason) }
     {
         let claim = claim_text(alloc, refusal.claim)?;
         let reason = reason_text(alloc, refusal.reason)?;

@@ -1,9 +1,8 @@
 //! How a refusal is shown.
 ghost use Rattle.std.specs.Prelude.{◌≡◌, IfOk, string_bytes};
-ghost use Rattle.ps_claims.specs.Faults.{WrongStep};
-ghost use Rattle.psat.specs.Words.{dual_words, fault_words, kind_words, line_words, place_words};
+ghost use Rattle.ps_claims.specs.declared.reason.Reason.TheVariants as reasons;
+ghost use Rattle.psat.specs.Words.{claim_words, kind_words, line_words, reason_words};
 ghost use Rattle.psat.specs.Words.{what_words, why_words};
-ghost use Rattle.ps_valid.specs.Judged.{fault_of, place_of};
 
 use ps_answer::LineKind;
 use ps_read::{ReadKind, What};
@@ -75,9 +74,9 @@ pub fn line_text(kind: LineKind) -> &'static str
 }
 
 /// Which claim is refused.
-#[tactic(auto, unfolding(crate::specs::Words::place_words))]
+#[tactic(auto, unfolding(crate::specs::Words::claim_words))]
 pub fn claim_text(alloc: Global, claim: Claim) -> Result<String, AllocError>
-    ensures { IfOk result (λ text. string_bytes text ≡ place_words (place_of claim)) }
+    ensures { IfOk result (λ text. string_bytes text ≡ claim_words claim) }
 {
     match claim {
         Claim::Report => String::from_str(alloc, "report"),
@@ -104,18 +103,18 @@ fn why_text(alloc: Global, why: StepRefused) -> Result<String, AllocError>
 }
 
 // Which step isn't lawful, and why.
-#[tactic(auto, unfolding(crate::specs::Words::dual_words))]
+#[tactic(auto, unfolding(crate::specs::Words::reason_words))]
 fn step_text(alloc: Global, step: u64, why: StepRefused) -> Result<String, AllocError>
-    ensures { IfOk result (λ text. string_bytes text ≡ dual_words (WrongStep step why)) }
+    ensures { IfOk result (λ text. string_bytes text ≡ reason_words (reasons.StepRefused step why)) }
 {
     let why = why_text(alloc, why)?;
     format!(in alloc; "step {step} {why}")
 }
 
 /// What is wrong with a claim.
-#[tactic(auto, unfolding(crate::specs::Words::fault_words, crate::specs::Words::dual_words))]
+#[tactic(auto, unfolding(crate::specs::Words::reason_words))]
 pub fn reason_text(alloc: Global, reason: Reason) -> Result<String, AllocError>
-    ensures { IfOk result (λ text. string_bytes text ≡ fault_words (fault_of reason)) }
+    ensures { IfOk result (λ text. string_bytes text ≡ reason_words reason) }
 {
     match reason {
         Reason::WrongShape => String::from_str(alloc, "wrong-shape"),
