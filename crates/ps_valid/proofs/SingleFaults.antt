@@ -144,10 +144,10 @@ module _ (p : Parts) (c : Assertion) (m : Model) where
   against_claim is ValueMissed a = let b = rw is at a.1 in inr (a.0, inr (b.0, inr (b.1, inr (b.2, inr (b.3, inr (a.2, inl (a.3, refl)))))))
   against_claim is other a =
       let few : AreFew p m = rw is at a.0.few in
-      let order : AreProperEntries m.worlds = rw is at a.0.order in
+      let proper : AreProperEntries m.worlds = rw is at a.0.proper in
       let total : HasTotal m = rw is at a.0.total in
       let met : MeetsAll (bounds_of p) m.worlds = rw is at a.0.met in
-      inr (a.0.shape, inr (few, inr (order, inr (total, inr (met, inr (a.0.evidence, inr (a.0.value, a.1)))))))
+      inr (a.0.shape, inr (few, inr (proper, inr (total, inr (met, inr (a.0.evidence, inr (a.0.value, a.1)))))))
 
   one_claimed : claimed_model c ≡ Some m → IsSingle (IsDualWrong p c) → IsSingle (IsFirstIn p c)
   one_claimed is one r s a b = one_against_claim one r s (against_claim is r a) (against_claim is s b)
