@@ -1,5 +1,6 @@
 -- What is found of a query.
 use Rattle.std.specs.Prelude.{◌≡◌, ℕ, Bool, Option, Some, List, []}
+use Rattle.std.specs.List.{AllZip}
 use Rattle.ps_problem.specs.declared.query.Query.{Query}
 use Rattle.ps_problem.specs.Problems.{Parts}
 use Rattle.ps_pool.specs.declared.event.Event.{Event}
@@ -13,7 +14,7 @@ use Rattle.ps_claims.specs.Validity.{IsValidVerdict, IsValidPart}
 use Rattle.ps_valid.specs.Answers.{part_of, verdict_of}
 use Rattle.ps_runs.specs.Kept.{AreAllKept}
 use Rattle.ps_runs.specs.Runs.{Stage}
-use Rattle.ps_phases.specs.Verdicts.{IsLawfulSide, IsLawfulVerdict, IsLawfulPart}
+use Rattle.ps_phases.specs.Verdicts.{IsLawfulSide, IsLawfulVerdict, IsLawfulPart, asked_after}
 use Rattle.ps_printed.specs.Printed.{IsPrintedPart, IsPrintedVerdict}
 use Rattle.ps_generation.specs.declared.limits.Limits.{Limits}
 use Rattle.ps_master.specs.declared.first.First.{First}
@@ -70,3 +71,7 @@ pub record IsPartOf (limits : Limits) (p : Parts) (q : Query) (part : QueryPart)
   pub lawful : IsLawfulPart p limits.pivots limits.conflicts q part
   pub valid : IsValidPart p q (part_of part.answer)
   pub printed : IsPrintedPart part.answer
+
+-- a part for each query of a problem that is asked behind this verdict
+abbrev pub ArePartsUnder : Limits → Parts → Verdict → List QueryPart → Type 0
+ArePartsUnder limits p verdict parts = AllZip (IsPartOf limits p) (asked_after verdict p.queries) parts

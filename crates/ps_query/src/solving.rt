@@ -2,11 +2,10 @@
 ghost use Rattle.std.specs.Prelude.{◌≡◌, ◌≢◌, [], None, IfOk};
 ghost use Rattle.std.specs.List.{AllZip};
 ghost use Rattle.ps_problem.specs.Problems.{HasNodes};
-ghost use Rattle.ps_phases.specs.Verdicts.{asked_after};
 ghost use Rattle.ps_printed.specs.Printed.{IsPrintedAnswer, IsPrintedPart};
 ghost use Rattle.ps_generation.specs.Phases.{AreLimits};
 ghost use Rattle.ps_master.specs.Runs.{IsPrintedFirst, IsReached, verdict_of};
-ghost use Rattle.ps_query.specs.Parts.{AreBoundsOf, IsBehind, IsPartOf, MayGoOn};
+ghost use Rattle.ps_query.specs.Parts.{AreBoundsOf, ArePartsUnder, IsBehind, IsPartOf, MayGoOn};
 ghost use Rattle.ps_query.specs.Solutions.{AreShortLines, IsReadBack, IsSolution};
 
 use crate::starting::run_over_all;
@@ -100,8 +99,7 @@ fn parts_under(
     limits: Limits,
 ) -> Result<Parts, NoMemory>
     requires limits { AreLimits limits }
-    ensures { IfOk result
-        (AllZip (IsPartOf limits problem.now) (asked_after verdict.now problem.now.queries)) }
+    ensures { IfOk result (ArePartsUnder limits problem.now verdict.now) }
 {
     match verdict {
         Verdict::Consistent(_) => query_parts(alloc, problem, limits),
