@@ -23,6 +23,18 @@ const COLUMNS: [([bool; 3], i64, i64); 3] = [
     ([true, false, false], 0, 0),
 ];
 
+// Phases, whether the query is true, and the cost of its world.
+const COSTS: [(Phase, bool, i8); 4] = [
+    (Phase::One, true, 0),
+    (Phase::Lower, true, 1),
+    (Phase::Upper, true, -1),
+    (Phase::Upper, false, 0),
+];
+
+fn is_cost(row: &(Phase, bool, i8)) -> bool {
+    world_cost(row.0, 0, &[row.1]) == row.2
+}
+
 fn is_column(alloc: Global, row: &([bool; 3], i64, i64)) -> bool {
     match column_of(alloc, &row.0, &[BOUND], Some(1)) {
         Ok(column) => column.len() == 2 && column[0] == row.1 && column[1] == row.2,
@@ -51,9 +63,8 @@ fn homes_are_of_their_side(rt: HostRuntime) -> Result<(), Fail> {
 
 #[test]
 fn sides_turn_the_query_round(rt: HostRuntime) -> Result<(), Fail> {
-    assert!(rt; world_cost(Phase::One, 0, &[true]) == 0);
-    assert!(rt; world_cost(Phase::Lower, 0, &[true]) == 1);
-    assert!(rt; world_cost(Phase::Upper, 0, &[true]) == -1);
-    assert!(rt; world_cost(Phase::Upper, 0, &[false]) == 0);
+    for row in &COSTS {
+        assert!(rt; is_cost(row));
+    }
     Ok(())
 }
