@@ -105,7 +105,8 @@ fn why_text(alloc: Global, why: StepRefused) -> Result<String, AllocError>
 // Which step isn't lawful, and why.
 #[tactic(auto, unfolding(crate::specs::Words::reason_words))]
 fn step_text(alloc: Global, step: u64, why: StepRefused) -> Result<String, AllocError>
-    ensures { IfOk result (λ text. string_bytes text ≡ reason_words (reasons.StepRefused step why)) }
+    ensures { IfOk result
+        (λ text. string_bytes text ≡ reason_words (reasons.StepRefused step why)) }
 {
     let why = why_text(alloc, why)?;
     format!(in alloc; "step {step} {why}")
