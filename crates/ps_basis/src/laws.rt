@@ -4,7 +4,7 @@ ghost use Rattle.ps_basis.specs.Laws.{HomesHaveATable, PivotsKeepTables, NewColu
 ghost use Rattle.ps_basis.specs.Laws.{BasesHaveOneTable, BasesHaveOneSolution};
 ghost use Rattle.ps_basis.specs.Laws.{OnlyTheTableMatters, MultipliersPriceColumns};
 
-/// The homes' table is that of the homes.
+/// The identity on the homes is their table.
 pub fn home_table()
     ensures stands { HomesHaveATable }
 {}
