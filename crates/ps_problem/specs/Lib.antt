@@ -13,6 +13,8 @@ pub mod Drafts
 pub mod Builds
 pub mod Written
 pub mod Rereading
+-- Laws, as the functions of laws.rt promise them
+pub mod Laws
 -- Bridge: what joins drafts and the making of a problem to that meaning
 pub mod Codes
 pub mod DraftLists
