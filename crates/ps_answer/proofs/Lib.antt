@@ -1,3 +1,4 @@
+pub mod Cuts
 pub mod Derived
 pub mod Told
 pub mod Dues

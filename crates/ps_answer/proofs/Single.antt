@@ -1,12 +1,11 @@
 -- Bytes are the text of one answer, or have one first line at fault, and not both.
-use Rattle.std.proofs.Common.{◌≡◌, ◌≢◌, ℕ, ◌+◌, true, false, List, [], ◌∷◌, ◌++◌, length, Option, None, Some, refl, sym, ap, subst, ◌∙◌, append_assoc, append-nil, arith, get_or, true≢false}
+use Rattle.std.proofs.Common.{◌≡◌, ◌≢◌, ℕ, ◌+◌, true, false, List, [], ◌∷◌, ◌++◌, length, Option, None, Some, refl, sym, ap, subst, ◌∙◌, append_assoc, append-nil, arith, true≢false}
 use Rattle.std.specs.Prelude.{bytes_eq}
 use Rattle.std.specs.List.{AllByRecursion, list_any}
 use Rattle.std.proofs.lemmas.Option.{none-some, same_Some}
 use Rattle.ps_io.specs.LineText.{lines_bytes}
 use Rattle.ps_log.specs.Spellings.{words_of}
 use Rattle.ps_log.specs.FirstLines.{IsOneLine, IsFirstLine}
-use Rattle.ps_log.proofs.StepShapes.{first_in, rest_in}
 use Rattle.ps_answer.specs.declared.item.LineItem.{LineItem}
 use Rattle.ps_answer.specs.declared.item.LineItem.TheVariants as line
 use Rattle.ps_answer.specs.declared.answer.Answer.{Answer}
@@ -19,36 +18,11 @@ use Rattle.ps_answer.specs.declared.part.Part.{Part}
 use Rattle.ps_answer.specs.declared.part.Part.TheVariants.{AReport, AVerdict, AModel, AnEntry, ADual, SomeRows, AStep, AGoal, ACause, ATrace, AnEvent, AnAnswer, ASide, AQuery}
 use Rattle.ps_answer.specs.ExpectedParts.{first_words, behind, at_start, due_behind, and_then}
 use Rattle.ps_answer.specs.Faults.{AreLines, AreSpelled, BeginWith, IsText, IsReport, first_of, is_begun, IsFault, IsFirstFault}
+use Rattle.ps_answer.proofs.Cuts.{one_cut_at, no_cut_at}
 use Rattle.ps_answer.proofs.OneItem.{one_item, one_spelled, line_spelled}
 use Rattle.ps_answer.proofs.Told.{answer_told}
 use Rattle.ps_answer.proofs.Dues.{answer_due}
 use Rattle.ps_answer.proofs.Derived.{an_end}
-
--- bytes are cut at the first line feed in one way
-tail_of : List ℕ → List ℕ
-tail_of [] = []
-tail_of (x ∷ xs) = xs
-
-head : (x y : ℕ) (xs ys : List ℕ) → x ∷ xs ≡ y ∷ ys → x ≡ y
-head x y xs ys e = ap (λ l. get_or l 0 x) e
-
-tail : (x y : ℕ) (xs ys : List ℕ) → x ∷ xs ≡ y ∷ ys → xs ≡ ys
-unfolding tail_of
-tail x y xs ys e = ap tail_of e
-
-pub one_cut : (xs ys us bs : List ℕ) → IsOneLine xs → IsOneLine us → xs ++ 10 ∷ ys ≡ us ++ 10 ∷ bs → (xs ≡ us) × (ys ≡ bs)
-one_cut [] ys [] bs p q e = (refl, tail 10 10 ys bs e)
-one_cut [] ys (a ∷ us) bs p q e = absurd (first_in (λ b. b ≢ 10) a us q (sym (head 10 a ys (us ++ 10 ∷ bs) e)))
-one_cut (x ∷ xs) ys [] bs p q e = absurd (first_in (λ b. b ≢ 10) x xs p (head x 10 (xs ++ 10 ∷ ys) bs e))
-one_cut (x ∷ xs) ys (a ∷ us) bs p q e =
-    let r = one_cut xs ys us bs (rest_in (λ b. b ≢ 10) x xs p) (rest_in (λ b. b ≢ 10) a us q) (tail x a (xs ++ 10 ∷ ys) (us ++ 10 ∷ bs) e) in
-    (ap (λ z. z ∷ xs) (head x a (xs ++ 10 ∷ ys) (us ++ 10 ∷ bs) e) ∙ ap (λ l. a ∷ l) r.0, r.1)
-
-pub no_cut : (xs us bs : List ℕ) → IsOneLine xs → xs ≡ us ++ 10 ∷ bs → ⊥
-no_cut [] [] bs p e = omega (arith, ap length e)
-no_cut [] (a ∷ us) bs p e = omega (arith, ap length e)
-no_cut (x ∷ xs) [] bs p e = first_in (λ b. b ≢ 10) x xs p (head x 10 xs bs e)
-no_cut (x ∷ xs) (a ∷ us) bs p e = no_cut xs us bs (rest_in (λ b. b ≢ 10) x xs p) (tail x a xs (us ++ 10 ∷ bs) e)
 
 first_feed : (l : List ℕ) (ls : List (List ℕ)) (rest : List ℕ) → lines_bytes false (l ∷ ls) ++ rest ≡ l ++ 10 ∷ (lines_bytes false ls ++ rest)
 first_feed l ls rest = append_assoc (l ++ 10 ∷ []) (lines_bytes false ls) rest ∙ append_assoc l (10 ∷ []) (lines_bytes false ls ++ rest)
@@ -110,7 +84,7 @@ begun p i due next text l e =
     ap (λ b. list_any (λ w. bytes_eq b w) (first_words p)) (opening_is (words_of text) i l.words) ∙ opening_due p i due next e
 
 first_text : (rest l m r q : List ℕ) → IsFirstLine rest l r → IsFirstLine rest m q → l ≡ m
-first_text rest l m r q f g = (one_cut l r m q f.whole g.whole (sym f.is ∙ g.is)).0
+first_text rest l m r q f g = (one_cut_at 10 l r m q f.whole g.whole (sym f.is ∙ g.is)).0
 
 -- where this is due, the first line passes
 pub record Passes (p : Part) (due : List Part) (rest : List ℕ) : Type 0 where
@@ -124,7 +98,7 @@ pub record Passes (p : Part) (due : List Part) (rest : List ℕ) : Type 0 where
   pub within : IsWithin item
 
 passes_no_fault : (p : Part) (due : List Part) (rest : List ℕ) (k : LineKind) → IsFault (p ∷ due) rest k → Passes p due rest → ⊥
-passes_no_fault p due rest Truncated f h = no_cut rest h.text h.more f h.first.is
+passes_no_fault p due rest Truncated f h = no_cut_at 10 rest h.text h.more f h.first.is
 passes_no_fault p due rest BadLine f h =
     let same = first_text rest f.line h.text f.more h.more f.first h.first in
     true≢false (sym (begun p h.item due h.next h.text h.says h.fits) ∙ ap (is_begun p) (sym same) ∙ f.bad)
@@ -145,12 +119,12 @@ fault_one p due rest NotCanonical NotCanonical f g = refl
 fault_one p due rest TooLarge TooLarge f g = refl
 fault_one p due rest MoreAfterEnd l f g = absurd f
 fault_one p due rest k MoreAfterEnd f g = absurd g
-fault_one p due rest Truncated BadLine f g = absurd (no_cut rest g.line g.more f g.first.is)
-fault_one p due rest Truncated NotCanonical f g = absurd (no_cut rest g.line g.more f g.first.is)
-fault_one p due rest Truncated TooLarge f g = absurd (no_cut rest g.line g.more f g.first.is)
-fault_one p due rest BadLine Truncated g f = absurd (no_cut rest g.line g.more f g.first.is)
-fault_one p due rest NotCanonical Truncated g f = absurd (no_cut rest g.line g.more f g.first.is)
-fault_one p due rest TooLarge Truncated g f = absurd (no_cut rest g.line g.more f g.first.is)
+fault_one p due rest Truncated BadLine f g = absurd (no_cut_at 10 rest g.line g.more f g.first.is)
+fault_one p due rest Truncated NotCanonical f g = absurd (no_cut_at 10 rest g.line g.more f g.first.is)
+fault_one p due rest Truncated TooLarge f g = absurd (no_cut_at 10 rest g.line g.more f g.first.is)
+fault_one p due rest BadLine Truncated g f = absurd (no_cut_at 10 rest g.line g.more f g.first.is)
+fault_one p due rest NotCanonical Truncated g f = absurd (no_cut_at 10 rest g.line g.more f g.first.is)
+fault_one p due rest TooLarge Truncated g f = absurd (no_cut_at 10 rest g.line g.more f g.first.is)
 fault_one p due rest BadLine NotCanonical f g =
     absurd (true≢false (sym g.begun ∙ ap (is_begun p) (first_text rest g.line f.line g.more f.more g.first f.first) ∙ f.bad))
 fault_one p due rest NotCanonical BadLine g f =
@@ -230,7 +204,7 @@ agree (a ∷ us) (b ∷ bs) [] ms x y due d e eq wl wm sl sm ga gb da db ha hb =
 agree (a ∷ us) (b ∷ bs) (l ∷ ls) [] x y due d e eq wl wm sl sm ga gb da db ha hb = absurd sm
 agree (a ∷ us) (b ∷ bs) (l ∷ ls) (m ∷ ms) x y [] d e eq wl wm sl sm ga gb da db ha hb = absurd (none-some d da)
 agree (a ∷ us) (b ∷ bs) (l ∷ ls) (m ∷ ms) x y (p ∷ due) d e eq wl wm sl sm ga gb da db ha hb =
-    let c = one_cut l (lines_bytes false ls ++ x) m (lines_bytes false ms ++ y) wl.0 wm.0 (sym (first_feed l ls x) ∙ eq ∙ first_feed m ms y) in
+    let c = one_cut_at 10 l (lines_bytes false ls ++ x) m (lines_bytes false ms ++ y) wl.0 wm.0 (sym (first_feed l ls x) ∙ eq ∙ first_feed m ms y) in
     let o : a ≡ b = one_item l a b sl.0 (subst (λ t. IsLine t b) (sym c.0) sm.0) in
     let n = next_of p a due us d da in
     let k = next_of p b due bs e db in
@@ -244,14 +218,14 @@ agree_whole : (us bs : List LineItem) (ls ms : List (List ℕ)) → lines_bytes 
 agree_whole [] [] ls ms eq wl wm sl sm = refl
 agree_whole [] (b ∷ bs) (l ∷ ls) ms eq wl wm sl sm = absurd sl
 agree_whole [] (b ∷ bs) [] [] eq wl wm sl sm = absurd sm
-agree_whole [] (b ∷ bs) [] (m ∷ ms) eq wl wm sl sm = absurd (no_cut [] m (lines_bytes false ms ++ []) (λ k d lt. absurd (omega (arith, lt))) (eq ∙ first_feed m ms []))
+agree_whole [] (b ∷ bs) [] (m ∷ ms) eq wl wm sl sm = absurd (no_cut_at 10 [] m (lines_bytes false ms ++ []) (λ k d lt. absurd (omega (arith, lt))) (eq ∙ first_feed m ms []))
 agree_whole (a ∷ us) [] ls (m ∷ ms) eq wl wm sl sm = absurd sm
 agree_whole (a ∷ us) [] [] [] eq wl wm sl sm = absurd sl
-agree_whole (a ∷ us) [] (l ∷ ls) [] eq wl wm sl sm = absurd (no_cut [] l (lines_bytes false ls ++ []) (λ k d lt. absurd (omega (arith, lt))) (sym eq ∙ first_feed l ls []))
+agree_whole (a ∷ us) [] (l ∷ ls) [] eq wl wm sl sm = absurd (no_cut_at 10 [] l (lines_bytes false ls ++ []) (λ k d lt. absurd (omega (arith, lt))) (sym eq ∙ first_feed l ls []))
 agree_whole (a ∷ us) (b ∷ bs) [] ms eq wl wm sl sm = absurd sl
 agree_whole (a ∷ us) (b ∷ bs) (l ∷ ls) [] eq wl wm sl sm = absurd sm
 agree_whole (a ∷ us) (b ∷ bs) (l ∷ ls) (m ∷ ms) eq wl wm sl sm =
-    let c = one_cut l (lines_bytes false ls ++ []) m (lines_bytes false ms ++ []) wl.0 wm.0 (sym (first_feed l ls []) ∙ eq ∙ first_feed m ms []) in
+    let c = one_cut_at 10 l (lines_bytes false ls ++ []) m (lines_bytes false ms ++ []) wl.0 wm.0 (sym (first_feed l ls []) ∙ eq ∙ first_feed m ms []) in
     ap (λ z. z ∷ us) (one_spelled l a b sl.0 (subst (λ t. IsSpelled t b) (sym c.0) sm.0)) ∙ ap (λ z. b ∷ z) (agree_whole us bs ls ms c.1 wl.1 wm.1 sl.1 sm.1)
 
 -- an answer is determined by its text

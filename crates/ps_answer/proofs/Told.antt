@@ -1,10 +1,11 @@
 -- An answer is told by what its lines say.
-use Rattle.std.proofs.Common.{◌≡◌, ℕ, suc, ◌≤◌, ◌<◌, Bool, true, false, List, [], ◌∷◌, ◌++◌, length, map, refl, sym, ap, ◌∙◌, append_assoc, arith, get_or, ◌⊎◌, inl, inr}
+use Rattle.std.proofs.Common.{◌≡◌, ℕ, suc, ◌≤◌, ◌<◌, Bool, true, false, List, [], ◌∷◌, ◌++◌, length, map, refl, sym, ap, ◌∙◌, append_assoc, arith, ◌⊎◌, inl, inr}
 use Rattle.ps_steps.specs.Steps.{Step}
 use Rattle.ps_rational.specs.Rational.{Rational, rational_path}
 use Rattle.ps_pool.specs.declared.event.Event.{Event}
 use Rattle.ps_pool.specs.declared.event.Event.TheVariants.{Pivot, Priced}
 use Rattle.ps_table.specs.declared.place.WideAt.{WideAt}
+use Rattle.ps_log.proofs.StepShapes.{head, tail}
 use Rattle.ps_answer.specs.declared.item.LineItem.{LineItem}
 use Rattle.ps_answer.specs.declared.item.LineItem.TheVariants as line
 use Rattle.ps_answer.specs.declared.answer.Weighted.{Weighted}
@@ -21,17 +22,6 @@ use Rattle.ps_answer.specs.declared.answer.QueryAnswer.TheVariants as query
 use Rattle.ps_answer.specs.declared.answer.QueryPart.{QueryPart}
 use Rattle.ps_answer.specs.declared.answer.Answer.{Answer}
 use Rattle.ps_answer.specs.Answers.{ratio_of, entry_item, event_item, model_items, dual_items, trace_items, cause_items, verdict_items, side_items, query_items, part_items, answer_items, IsCounted, IsVerdictCounted, IsSideCounted, IsQueryCounted, ArePartsCounted, IsAnswerCounted}
-
-tail_of : List LineItem → List LineItem
-tail_of [] = []
-tail_of (x ∷ xs) = xs
-
-head : (x y : LineItem) (xs ys : List LineItem) → x ∷ xs ≡ y ∷ ys → x ≡ y
-head x y xs ys e = ap (λ l. get_or l 0 x) e
-
-tail : (x y : LineItem) (xs ys : List LineItem) → x ∷ xs ≡ y ∷ ys → xs ≡ ys
-unfolding tail_of
-tail x y xs ys e = ap tail_of e
 
 -- what kind of line comes first
 abbrev pub kind_of : LineItem → ℕ

@@ -12,7 +12,7 @@ use Rattle.ps_log.specs.Spellings.{IsDecimal, Spells}
 use Rattle.ps_log.specs.Numbers.{Lacks, IsCut}
 use Rattle.ps_frac.proofs.Sizes.{divided_up, divided_down}
 use Rattle.ps_log.proofs.Spelled.{value_of_spelling}
-use Rattle.ps_log.proofs.StepShapes.{first_in, rest_in}
+use Rattle.ps_answer.proofs.Cuts.{one_cut_at, no_cut_at}
 use Rattle.ps_answer.specs.declared.item.Ratio.{Ratio}
 use Rattle.ps_answer.specs.Items.{IsRatioWithin, IsReducedWithin}
 use Rattle.ps_answer.specs.Words.{SpellsRatio}
@@ -21,32 +21,6 @@ use Rattle.ps_line.specs.declared.line_fault.LineFault.TheVariants.{NotCanonical
 use Rattle.ps_line.specs.Read.{IsRead}
 use Rattle.ps_line.specs.Ratios.{IsOver, IsUnder, AreParts, IsLowest}
 use Rattle.ps_line.specs.Numerals.{IsNumberUpTo}
-
--- bytes are cut at the first separator in one way
-tail_of : List ℕ → List ℕ
-tail_of [] = []
-tail_of (x ∷ xs) = xs
-
-tail : (x y : ℕ) (xs ys : List ℕ) → x ∷ xs ≡ y ∷ ys → xs ≡ ys
-unfolding tail_of
-tail x y xs ys e = ap tail_of e
-
-head : (x y : ℕ) (xs ys : List ℕ) → x ∷ xs ≡ y ∷ ys → x ≡ y
-head x y xs ys e = ap (λ l. get_or l 0 x) e
-
-pub one_cut_at : (sep : ℕ) (xs ys us bs : List ℕ) → Lacks sep xs → Lacks sep us → xs ++ sep ∷ ys ≡ us ++ sep ∷ bs → (xs ≡ us) × (ys ≡ bs)
-one_cut_at sep [] ys [] bs p q e = (refl, tail sep sep ys bs e)
-one_cut_at sep [] ys (a ∷ us) bs p q e = absurd (first_in (λ b. b ≢ sep) a us q (sym (head sep a ys (us ++ sep ∷ bs) e)))
-one_cut_at sep (x ∷ xs) ys [] bs p q e = absurd (first_in (λ b. b ≢ sep) x xs p (head x sep (xs ++ sep ∷ ys) bs e))
-one_cut_at sep (x ∷ xs) ys (a ∷ us) bs p q e =
-    let r = one_cut_at sep xs ys us bs (rest_in (λ b. b ≢ sep) x xs p) (rest_in (λ b. b ≢ sep) a us q) (tail x a (xs ++ sep ∷ ys) (us ++ sep ∷ bs) e) in
-    (ap (λ z. z ∷ xs) (head x a (xs ++ sep ∷ ys) (us ++ sep ∷ bs) e) ∙ ap (λ l. a ∷ l) r.0, r.1)
-
-no_cut_at : (sep : ℕ) (xs us bs : List ℕ) → Lacks sep xs → xs ≡ us ++ sep ∷ bs → ⊥
-no_cut_at sep [] [] bs p e = omega (arith, ap length e)
-no_cut_at sep [] (a ∷ us) bs p e = omega (arith, ap length e)
-no_cut_at sep (x ∷ xs) [] bs p e = first_in (λ b. b ≢ sep) x xs p (head x sep xs bs e)
-no_cut_at sep (x ∷ xs) (a ∷ us) bs p e = no_cut_at sep xs us bs (rest_in (λ b. b ≢ sep) x xs p) (tail x a xs (us ++ sep ∷ bs) e)
 
 -- a number has no slash
 cons_lacks : (b : ℕ) (bs : List ℕ) → b ≢ 47 → Lacks 47 bs → Lacks 47 (b ∷ bs)

@@ -15,7 +15,7 @@ use Rattle.ps_log.specs.declared.line_error.LineError.TheVariants as why
 use Rattle.ps_log.proofs.LineAnswers.{AreTexts, first-unique, lacks-all}
 use Rattle.ps_log.proofs.StepAnswers.{step_texts}
 use Rattle.ps_log.proofs.GoalAnswers.{goal_texts}
-use Rattle.ps_answer.proofs.Single.{no_cut}
+use Rattle.ps_answer.proofs.Cuts.{no_cut_at}
 use Rattle.ps_answer.specs.Words.{Letters, Number, SpellWords}
 use Rattle.ps_answer.specs.Items.{item_words, IsWithin}
 use Rattle.ps_answer.specs.declared.item.LineItem.{LineItem}
@@ -58,7 +58,7 @@ module _ {X : Type 0} {fits : ℕ → Bool} {IsText : List ℕ → X → Type 0}
   text_read (Ok x) h =
       let e : text ≡ line_of x.0 = same (line_of x.0) h.rest (record { is = h.is; whole = lacks-all 10 (line_of x.0) (t.one_line x.0 h.within) }) in
       (k.said text x.0 (subst (λ l. IsText l x.0) (sym e) (t.is_text x.0 h.within)), k.within x.0 h.within, k.fits x.0)
-  text_read (Err why.Truncated) h = absurd (no_cut bytes text rest h f.is)
+  text_read (Err why.Truncated) h = absurd (no_cut_at 10 bytes text rest h f.is)
   text_read (Err why.BadByte) h = none (λ x s. true≢false (sym (t.fit text x s) ∙ ap (list_all fits) (same h.line h.rest h.first) ∙ h.bad))
   text_read (Err why.NotCanonical) h = none (λ x s. h.no_text x (subst (λ l. IsText l x) (same h.line h.rest h.first) s))
   text_read (Err why.TooLarge) h =

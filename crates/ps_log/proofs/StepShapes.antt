@@ -21,14 +21,14 @@ first_in P x xs h = h 0 x (omega arith)
 pub rest_in : {X : Type 0} (P : X → Type 0) (x : X) (xs : List X) → All P (x ∷ xs) → All P xs
 rest_in P x xs h = λ k d lt. h (suc k) d (omega (arith, lt))
 
-head : {X : Type 0} (x y : X) (xs ys : List X) → x ∷ xs ≡ y ∷ ys → x ≡ y
+pub head : {X : Type 0} (x y : X) (xs ys : List X) → x ∷ xs ≡ y ∷ ys → x ≡ y
 head x y xs ys e = ap (λ l. get_or l 0 x) e
 
 tail_of : {X : Type 0} → List X → List X
 tail_of [] = []
 tail_of (x ∷ xs) = xs
 
-tail : {X : Type 0} (x y : X) (xs ys : List X) → x ∷ xs ≡ y ∷ ys → xs ≡ ys
+pub tail : {X : Type 0} (x y : X) (xs ys : List X) → x ∷ xs ≡ y ∷ ys → xs ≡ ys
 unfolding tail_of
 tail x y xs ys e = ap tail_of e
 

@@ -1,10 +1,11 @@
 -- Lines of values pass where their parts are due.
-use Rattle.std.proofs.Common.{◌≡◌, ℕ, suc, ◌+◌, ◌==◌, append-nil, Bool, true, false, List, [], ◌∷◌, ◌++◌, length, map, None, Some, refl, sym, ap, subst, ◌∙◌, arith, append_assoc, get_or}
+use Rattle.std.proofs.Common.{◌≡◌, ℕ, suc, ◌+◌, ◌==◌, append-nil, Bool, true, false, List, [], ◌∷◌, ◌++◌, length, map, None, Some, refl, sym, ap, subst, ◌∙◌, arith, append_assoc}
 use Rattle.std.specs.Prelude.{if◌then◌else◌}
 use Rattle.std.proofs.lemmas.Option.{none-some}
 use Rattle.ps_steps.specs.Steps.{Step}
 use Rattle.ps_pool.specs.declared.event.Event.{Event}
 use Rattle.ps_pool.specs.declared.event.Event.TheVariants.{Pivot, Priced}
+use Rattle.ps_log.proofs.StepShapes.{head, tail}
 use Rattle.ps_answer.specs.declared.item.Ratio.{Ratio}
 use Rattle.ps_answer.specs.declared.item.LineItem.{LineItem}
 use Rattle.ps_answer.specs.declared.item.LineItem.TheVariants as line
@@ -75,29 +76,18 @@ goal_passes g due = refl
 pub steps_pass : (n : ℕ) (ss : List Step) → length ss ≡ n → Passes (repeated n AStep) (map line.StepLine ss)
 steps_pass n ss e due = ap (λ d. due_behind d (map line.StepLine ss)) (many_more n AStep due ∙ ap (λ k. many k AStep due) (sym e)) ∙ each_due line.StepLine AStep step_due ss due
 
-tail_of : List LineItem → List LineItem
-tail_of [] = []
-tail_of (x ∷ xs) = xs
-
-same_head : (x y : LineItem) (xs ys : List LineItem) → x ∷ xs ≡ y ∷ ys → x ≡ y
-same_head x y xs ys e = ap (λ l. get_or l 0 x) e
-
-same_tail : (x y : LineItem) (xs ys : List LineItem) → x ∷ xs ≡ y ∷ ys → xs ≡ ys
-unfolding tail_of
-same_tail x y xs ys e = ap tail_of e
-
 -- a cause behind its first line
 pub opening_passes : (c : Cause) (i : LineItem) (more : List LineItem) → IsCounted c → cause_items c ≡ i ∷ more → Passes (parts_behind i) more
 opening_passes (Pivots limit) i more h e =
-    subst (λ x. Passes (parts_behind x) more) (same_head (line.OpenPivots limit) i [] more e) (subst (λ x. Passes [] x) (same_tail (line.OpenPivots limit) i [] more e) (λ due. refl))
+    subst (λ x. Passes (parts_behind x) more) (head (line.OpenPivots limit) i [] more e) (subst (λ x. Passes [] x) (tail (line.OpenPivots limit) i [] more e) (λ due. refl))
 opening_passes (Conflicts limit goal steps) i more h e =
     let rest : List LineItem = line.GoalLine goal ∷ map line.StepLine steps in
-    subst (λ x. Passes (parts_behind x) more) (same_head (line.OpenConflicts limit) i rest more e)
-    (subst (λ x. Passes (AGoal ∷ repeated limit AStep) x) (same_tail (line.OpenConflicts limit) i rest more e)
+    subst (λ x. Passes (parts_behind x) more) (head (line.OpenConflicts limit) i rest more e)
+    (subst (λ x. Passes (AGoal ∷ repeated limit AStep) x) (tail (line.OpenConflicts limit) i rest more e)
     (both_pass (AGoal ∷ []) (repeated limit AStep) (line.GoalLine goal ∷ []) (map line.StepLine steps) (goal_passes goal) (steps_pass limit steps h)))
 opening_passes (Wide at) i more h e =
     let first : LineItem = line.OpenWide at.place at.op (ratio_of at.left) (ratio_of at.right) in
-    subst (λ x. Passes (parts_behind x) more) (same_head first i [] more e) (subst (λ x. Passes [] x) (same_tail first i [] more e) (λ due. refl))
+    subst (λ x. Passes (parts_behind x) more) (head first i [] more e) (subst (λ x. Passes [] x) (tail first i [] more e) (λ due. refl))
 
 -- the first line of a cause, and the parts that follow it
 pub opening_due : (i : LineItem) (due : List Part) → Fits ACause i → behind_cause i due ≡ Some (parts_behind i ++ due)
