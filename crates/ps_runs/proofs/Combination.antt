@@ -12,7 +12,7 @@ use Rattle.ps_meaning.specs.Bounds.{Bound}
 use Rattle.ps_meaning.specs.Rows.{indicator, row_value}
 use Rattle.ps_rule.specs.Rule.{SimplexTable}
 use Rattle.ps_rule.proofs.Combination.{combination_is, improves_from, improves_back}
-use Rattle.ps_problem.specs.Rows.{turned}
+use Rattle.ps_problem.specs.Rows.{signed_by}
 use Rattle.ps_runs.specs.Rows.{Setting, both_of, entry_in, entries_of, rows_of, world_cost}
 use Rattle.ps_runs.specs.Certificates.{signed, table_dual, multiple_of, whole_multiplier, price}
 use Rattle.ps_rational.proofs.Scaling.{scaled_is}
@@ -25,7 +25,7 @@ use Rattle.ps_claims.specs.Duals.{sum_of_rows, combination}
 pub neg_out : (x y : ℤ) → x *ℤ neg_ℤ y ≡ neg_ℤ (x *ℤ y)
 neg_out x y = *ℤ_comm x (neg_ℤ y) ∙ neg-*ℤ y x ∙ ap neg_ℤ (*ℤ_comm y x)
 
-turned_out : (side : Side) (x y : ℤ) → turned side x *ℤ y ≡ x *ℤ turned side y
+turned_out : (side : Side) (x y : ℤ) → signed_by side x *ℤ y ≡ x *ℤ signed_by side y
 turned_out AtLeast x y = neg-*ℤ x y ∙ sym (neg_out x y)
 turned_out AtMost x y = refl
 turned_out Exactly x y = refl

@@ -21,7 +21,7 @@ use Rattle.ps_meaning.proofs.Rows.{weighted_sum-indicator, meets_row}
 use Rattle.ps_basis.specs.Table.{unit_at}
 use Rattle.ps_basis.proofs.Units.{less_one, unit_at-same, unit_at-other}
 use Rattle.ps_rule.specs.Rule.{SimplexTable, IsFeasible}
-use Rattle.ps_problem.specs.Rows.{turned}
+use Rattle.ps_problem.specs.Rows.{signed_by}
 use Rattle.ps_runs.specs.Rows.{Setting, is_exact, entry_in, entries_of, artificial_rows, rows_of, table_of, IsTable}
 use Rattle.ps_runs.specs.Certificates.{value_of, exceeds_zero, is_above, weight_multiple, entries_to, weighted_worlds}
 use Rattle.ps_runs.proofs.Lists.{get_map}
@@ -115,7 +115,7 @@ module _ (s : Setting) (pool : List World) (basic : ℕ → ℕ) (X : ℕ → �
       whole_tells (weighted_sum (weighted_worlds f pool) (λ w. get_or (entries_of s w) (suc i) (pos 0))) (pos 0)
       (bound_row i l ∙ ap (λ k. neg (mul (whole (pos big)) k)) (artificial_zero (suc i) feasible e) ∙ ring_q (whole (pos big) ∷ []) (minus (by (var 0) none)) none refl ∙ sym zero_is_fraction)
 
-  turned_sum : (side : Side) (d : List Entry) (G : World → ℤ) → weighted_sum d (λ w. turned side (G w)) ≡ turned side (weighted_sum d G)
+  turned_sum : (side : Side) (d : List Entry) (G : World → ℤ) → weighted_sum d (λ w. signed_by side (G w)) ≡ signed_by side (weighted_sum d G)
   turned_sum AtLeast [] G = refl
   turned_sum AtLeast (e ∷ d) G =
       let h = turned_sum AtLeast d G in
@@ -124,7 +124,7 @@ module _ (s : Setting) (pool : List World) (basic : ℕ → ℕ) (X : ℕ → �
   turned_sum Most d G = refl
   turned_sum Exactly d G = refl
 
-  compares : (side : Side) (z : ℤ) → turned side z ≤ℤ pos 0 → (is_exact side ≡ true → turned side z ≡ pos 0) → Compares side z (pos 0)
+  compares : (side : Side) (z : ℤ) → signed_by side z ≤ℤ pos 0 → (is_exact side ≡ true → signed_by side z ≡ pos 0) → Compares side z (pos 0)
   compares AtLeast z h e = omega (arith, ints, h)
   compares Most z h e = h
   compares Exactly z h e = e refl
@@ -132,8 +132,8 @@ module _ (s : Setting) (pool : List World) (basic : ℕ → ℕ) (X : ℕ → �
   pub bounds_met : IsFeasible f → MeetsAll s.bounds (weighted_worlds f pool)
   bounds_met feasible = λ i b l.
       let c = get_or s.bounds i b in
-      let e : weighted_sum (weighted_worlds f pool) (λ w. get_or (entries_of s w) (suc i) (pos 0)) ≡ turned c.side (weighted_sum (weighted_worlds f pool) (row_value c)) =
-      weighted_sum-same (weighted_worlds f pool) (λ w. get_or (entries_of s w) (suc i) (pos 0)) (λ w. turned c.side (row_value c w)) (λ w. get_map (entry_in w) s.bounds i b (pos 0) l)
+      let e : weighted_sum (weighted_worlds f pool) (λ w. get_or (entries_of s w) (suc i) (pos 0)) ≡ signed_by c.side (weighted_sum (weighted_worlds f pool) (row_value c)) =
+      weighted_sum-same (weighted_worlds f pool) (λ w. get_or (entries_of s w) (suc i) (pos 0)) (λ w. signed_by c.side (row_value c w)) (λ w. get_map (entry_in w) s.bounds i b (pos 0) l)
       ∙ turned_sum c.side (weighted_worlds f pool) (row_value c) in
       (meets_row c (weighted_worlds f pool)).1
       (compares c.side (weighted_sum (weighted_worlds f pool) (row_value c)) (subst (λ z. z ≤ℤ pos 0) e (bound_low i l))

@@ -18,7 +18,7 @@ use Rattle.ps_basis.proofs.Pricing.{carried_is_priced}
 use Rattle.ps_basis.proofs.Units.{less_one}
 use Rattle.ps_rule.specs.Rule.{carried, IsResting}
 use Rattle.ps_rule.proofs.Combination.{resting_most}
-use Rattle.ps_problem.specs.Rows.{turned}
+use Rattle.ps_problem.specs.Rows.{signed_by}
 use Rattle.ps_runs.specs.Rows.{Setting, phase_of, is_exact, entries_of, artificial_rows, rows_of, columns_of, width_of, cost_of, table_of, IsTable}
 use Rattle.ps_runs.specs.Certificates.{signed, table_dual, multiple_of, whole_multiplier, price}
 use Rattle.ps_runs.proofs.Columns.{world_at, slack_cost}
@@ -46,7 +46,7 @@ scaled_low big x h =
     let low = mul-nonpos (pos (big / x.under)) x.over (omega (arith, ints)) (low_over x h) in
     subst (λ z. z ≤ℤ pos 0) (*ℤ_comm (pos (big / x.under)) x.over) low
 
-turned_sign : (side : Side) (p : ℤ) → (is_exact side ≡ false → p ≤ℤ pos 0) → HasSign side (turned side p)
+turned_sign : (side : Side) (p : ℤ) → (is_exact side ≡ false → p ≤ℤ pos 0) → HasSign side (signed_by side p)
 turned_sign AtLeast p h = let k = h refl in omega (arith, ints, k)
 turned_sign Most p h = h refl
 turned_sign Exactly p h = tt

@@ -14,7 +14,7 @@ use Rattle.ps_entailment.specs.Answers.{Model}
 use Rattle.ps_claims.specs.declared.claim_kind.ClaimKind.{ClaimKind}
 use Rattle.ps_claims.specs.declared.claim_kind.ClaimKind.TheVariants.{Nothing, Lower, Upper}
 use Rattle.ps_claims.specs.Duals.{Dual, combination}
-use Rattle.ps_problem.specs.Rows.{turned}
+use Rattle.ps_problem.specs.Rows.{signed_by}
 use Rattle.ps_runs.specs.Rows.{Setting, rows_of, entries_of}
 
 -- ---- duals
@@ -29,7 +29,7 @@ whole_multiplier t cost m = scaled (multiple_of t cost) (multipliers t cost m)
 -- the whole numbers of the bounds' rows, turned round at lower bounds
 abbrev pub signed : List Bound → (ℕ → ℤ) → List ℤ
 signed [] P = []
-signed (b ∷ bs) P = turned b.side (P 0) ∷ signed bs (λ i. P (suc i))
+signed (b ∷ bs) P = signed_by b.side (P 0) ∷ signed bs (λ i. P (suc i))
 
 -- the head of a dual, from the whole multiplier of the evidence's row: turned round for the upper side
 abbrev pub head_of : ClaimKind → ℤ → ℤ

@@ -13,7 +13,7 @@ use Rattle.ps_rule.specs.declared.phase.Phase.{Phase}
 use Rattle.ps_rule.specs.declared.phase.Phase.TheVariants as phase
 use Rattle.ps_rule.specs.Rule.{SimplexTable}
 use Rattle.ps_rule.specs.Pivots.{System, simplex_table}
-use Rattle.ps_problem.specs.Rows.{turned}
+use Rattle.ps_problem.specs.Rows.{signed_by}
 use Rattle.ps_entailment.specs.Queries.{Query}
 use Rattle.ps_claims.specs.declared.claim_kind.ClaimKind.{ClaimKind}
 use Rattle.ps_claims.specs.declared.claim_kind.ClaimKind.TheVariants.{Nothing, Lower, Upper}
@@ -37,7 +37,7 @@ phase_of Upper = phase.Upper
 -- ---- columns
 -- a bound's entry in a world's column
 abbrev pub entry_in : World → Bound → ℤ
-entry_in w b = turned b.side (row_value b w)
+entry_in w b = signed_by b.side (row_value b w)
 
 -- a world's column: whether the evidence is true in it, and its entry of each bound's row
 abbrev pub entries_of : Setting → World → List ℤ
