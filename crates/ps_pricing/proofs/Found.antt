@@ -1,7 +1,8 @@
 -- The world of an assignment that meets the clauses, and the values of worlds.
-use Rattle.std.proofs.Common.{◌≡◌, ℕ, ◌+◌, ℤ, pos, ◌+ℤ◌, ◌-ℤ◌, ◌≤ℤ◌, ◌<ℤ◌, Bool, true, List, [], ◌∷◌, ◌++◌, length, Some, All, refl, sym, ap, ◌∙◌, subst, inl, inr, arith}
+use Rattle.std.proofs.Common.{◌≡◌, ℕ, ◌+◌, ℤ, pos, ◌+ℤ◌, ◌-ℤ◌, ◌≤ℤ◌, ◌<ℤ◌, ◌≤◌, Bool, true, List, [], ◌∷◌, ◌++◌, length, Some, All, refl, sym, ap, ◌∙◌, subst, inl, inr, arith}
 use Rattle.std.specs.Prelude.{IsTrue}
 use Rattle.std.proofs.lemmas.List.{length-append}
+use Rattle.std.proofs.lemmas.List.Elements.{All-weaker}
 use Rattle.ps_meaning.specs.Formula.{World}
 use Rattle.ps_formula.specs.declared.node.Node.{Node}
 use Rattle.ps_formula.specs.Nodes.{AreNodes, AtomBelow}
@@ -16,14 +17,17 @@ use Rattle.ps_forms.specs.Extensions.{extension, world_of}
 use Rattle.ps_forms.proofs.Idle.{form-clauses, clauses-form}
 use Rattle.ps_forms.proofs.Extends.{met-extension, extension-met}
 use Rattle.ps_forms.proofs.Worlds.{world_of-agrees, extension-agrees}
+use Rattle.ps_pb.specs.Limits.{most_variables, IsLiteral}
 use Rattle.ps_log.specs.Logs.{Telling}
-use Rattle.ps_sat.specs.Searches.{Handed}
+use Rattle.ps_learning.specs.Trails.{IsLit}
+use Rattle.ps_sat.specs.Searches.{Handed, AreStepsOf}
 use Rattle.ps_maxsat.specs.declared.problem.Wcnf.{Wcnf}
 use Rattle.ps_maxsat.specs.declared.pricing.Priced.{Priced}
 use Rattle.ps_maxsat.specs.declared.pricing.Priced.TheVariants.{NoneAbove, Best, Cut, Spent}
 use Rattle.ps_maxsat.specs.Values.{value, IsOf, NoneIsAbove, IsPricedLog, goal_of}
 use Rattle.ps_answer.specs.declared.answer.Dual.{Dual}
 use Rattle.ps_claims.specs.declared.claim_kind.ClaimKind.{ClaimKind}
+use Rattle.ps_printed.specs.Printed.{AreOfLiterals}
 use Rattle.ps_runs.specs.Searches.{IsSpentSearch}
 use Rattle.ps_pricing.specs.Sought.{HasSteps, HasFewSteps}
 use Rattle.ps_pricing.specs.Pricings.{IsAssigned, PricingSubject, gain, goal_at_least, IsGreatest, IsCutAbove, IsFound, IsSpent, IsRefuted, IsWcnf}
@@ -40,6 +44,26 @@ told_steps : (told : Bool) (new : Telling) (goal : Constraint) (f : Form) (steps
 told_steps told new goal f steps h tells is =
     let same : Some h.steps ≡ Some steps = sym (h.held tells).2 ∙ is in
     cc
+
+-- literals of few variables are literals
+literals_of_few : (variables : ℕ) (steps : List Step) → variables ≤ most_variables → AreStepsOf variables steps → AreOfLiterals steps
+literals_of_few variables steps few =
+    All-weaker (λ s. All (IsLit variables) s.lits) (λ s. All IsLiteral s.lits)
+    (λ s. All-weaker (IsLit variables) IsLiteral (λ l is. (is.0, omega (arith, is.1, few))) s.lits) steps
+
+-- the steps that it told are of literals, where the form's variables are few
+told_literals : (told : Bool) (new : Telling) (goal : Constraint) (f : Form) (steps : List Step) → Handed f goal told new → IsTrue told → new.steps ≡ Some steps
+    → f.variables ≤ most_variables → AreOfLiterals steps
+told_literals told new goal f steps h tells is few =
+    subst AreOfLiterals (told_steps told new goal f steps h tells is) (literals_of_few f.variables h.steps few h.literals)
+
+pub log_literals : (p : Wcnf) (conflicts : ℕ) (told : Bool) (new : Telling) (priced : Priced) (steps : List Step) → IsTrue told → new.steps ≡ Some steps
+    → p.hard.variables ≤ most_variables → IsPricedLog p conflicts told new priced → AreOfLiterals steps
+log_literals p conflicts told new (NoneAbove last) steps tells is few h = told_literals told new (goal_of p (pos 1)) p.hard steps h.0 tells is few
+log_literals p conflicts told new (Best a v searches) steps tells is few (inl h) = told_literals told new (goal_of p h.least) p.hard steps h.handed tells is few
+log_literals p conflicts told new (Best a v searches) steps tells is few (inr h) = told_literals told new (goal_of p (v +ℤ pos 1)) p.hard steps h.held.0 tells is few
+log_literals p conflicts told new (Cut a v least searches) steps tells is few h = told_literals told new (goal_of p least) p.hard steps h.0 tells is few
+log_literals p conflicts told new (Spent learned) steps tells is few h = told_literals told new (goal_of p (pos 1)) p.hard steps h.0 tells is few
 
 pub log_steps : (p : Wcnf) (conflicts : ℕ) (told : Bool) (new : Telling) (priced : Priced) (steps : List Step) → IsTrue told → new.steps ≡ Some steps
     → IsPricedLog p conflicts told new priced → HasSteps p conflicts priced steps

@@ -7,9 +7,9 @@ ghost use Rattle.ps_printed.specs.Printed.{AreOfLiterals};
 ghost use Rattle.ps_pricing.specs.Sought.{HasSteps, HasFewSteps};
 
 use ps_io::NoMemory;
-use ps_log::{HeldLog, is_step_within};
+use ps_log::HeldLog;
 use ps_maxsat::{Priced, Wcnf, best};
-use ps_pb::{Step, Steps};
+use ps_pb::Steps;
 use ps_sat::SearchError;
 use std::alloc::Global;
 
@@ -33,21 +33,12 @@ pub(crate) fn seek(alloc: Global, wcnf: &Wcnf, conflicts: u64) -> Result<Sought,
     let mut log = HeldLog::new(alloc);
     match best(alloc, wcnf, conflicts, &mut log) {
         Ok(priced) => {
+            // Called for its clauses: each of the form's variables is one that a literal may have.
+            let _variables = wcnf.hard.variables();
             let steps = log.take_steps();
-            go_through(steps.as_slice());
             Ok(Sought { priced, steps })
         }
         Err(SearchError::NoMemory) => Err(NoMemory),
         Err(SearchError::LogFault) => unreachable!(),
-    }
-}
-
-/// Goes through the steps: each is of literals.
-fn go_through(steps: &[Step])
-    ensures { AreOfLiterals steps.now }
-{
-    for step in steps {
-        // Called for its clauses: each literal of a step is one of a variable.
-        let _within = is_step_within(step);
     }
 }

@@ -1,6 +1,7 @@
-use Rattle.std.proofs.Common.{rules, Some, true, sym, ap}
+use Rattle.std.proofs.Common.{rules, ℕ, ◌≤◌, Some, true, sym, ap, subst}
 use Rattle.std.specs.Prelude.{IsTrue}
-use Rattle.ps_pricing.proofs.Found.{log_steps, few_steps}
+use Rattle.ps_pb.specs.Limits.{most_variables}
+use Rattle.ps_pricing.proofs.Found.{log_steps, log_literals, few_steps}
 use Rattle.ps_pricing.proofs.sought.seek.Goals as goal
 
 pub returns-in-Ok-clause-steps : goal.returns-in-Ok-clause-steps
@@ -14,3 +15,10 @@ returns-in-Ok-clause-few c =
     let tells : IsTrue true = search rules in
     few_steps c.args.wcnf.now c.args.conflicts true (record { tells = true; goal = c.best.new.log.goal; steps = Some c.best.new.log.steps }) c.in-Ok.priced c.take_steps-steps.result
     tells (ap Some (sym c.take_steps-steps.ensures.taken)) c.in-Ok.ensures.logged
+
+pub returns-in-Ok-clause-literals : goal.returns-in-Ok-clause-literals
+returns-in-Ok-clause-literals c =
+    let tells : IsTrue true = search rules in
+    let few : c.args.wcnf.now.hard.variables ≤ most_variables = subst (λ (n : ℕ). n ≤ most_variables) c.variables-variables.ensures.value c.variables-variables.ensures.within in
+    log_literals c.args.wcnf.now c.args.conflicts true (record { tells = true; goal = c.best.new.log.goal; steps = Some c.best.new.log.steps }) c.in-Ok.priced c.take_steps-steps.result
+    tells (ap Some (sym c.take_steps-steps.ensures.taken)) few c.in-Ok.ensures.logged
