@@ -136,8 +136,8 @@ module _ (p : Parts) (c : Assertion) (m : Model) where
   against_claim : claimed_model c ≡ Some m → (r : Reason) → IsFirstIn p c r → AgainstClaim r
   against_claim is WrongShape a = inl (a, refl)
   against_claim is TooManyWorlds a = let b = rw is at a.1 in inr (a.0, inl (b, refl))
-  against_claim is (WeightZero n) a = let b = rw is at a.1 in inr (a.0, inr (b.0, inl (weightless_faulty_order m.worlds n b.1, inl (n, refl, b.1))))
-  against_claim is (WorldTwice n) a = let b = rw is at a.1 in inr (a.0, inr (b.0, inl (repeated_faulty_order m.worlds n b.1, inr (n, refl, b.1))))
+  against_claim is (WeightZero n) a = let b = rw is at a.1 in inr (a.0, inr (b.0, inl (weightless_not_proper m.worlds n b.1, inl (n, refl, b.1))))
+  against_claim is (WorldTwice n) a = let b = rw is at a.1 in inr (a.0, inr (b.0, inl (repeated_not_proper m.worlds n b.1, inr (n, refl, b.1))))
   against_claim is TotalWrong a = let b = rw is at a.1 in inr (a.0, inr (b.0, inr (b.1, inl (b.2, refl))))
   against_claim is (BoundMissed n) a = let b = rw is at a.1 in inr (a.0, inr (b.0, inr (b.1, inr (b.2, inl (missed_bound (bounds_of p) m.worlds n b.3, (n, refl, b.3))))))
   against_claim is EvidenceZero a = let b = rw is at a.1 in inr (a.0, inr (b.0, inr (b.1, inr (b.2, inr (b.3, inl (a.2, refl))))))
