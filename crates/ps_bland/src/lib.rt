@@ -11,6 +11,8 @@ mod settled;
 mod settling;
 
 pub use laws::{due_places, ready_tables};
+/// The phases of a run.
+pub use ps_rule::Phase;
 /// Why the pivots were broken off.
 pub use ps_table::TableError as SettleError;
 pub use settled::Settled;
