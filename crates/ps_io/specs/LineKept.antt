@@ -4,20 +4,20 @@ use Rattle.ps_io.specs.LineText.{with_word, mark, line_bytes}
 use Rattle.ps_io.specs.declared.limits.TheConstants.{LONGEST_LINE}
 
 -- a line that is being made: its text, and whether a mark goes before it
-pub record LineText : Type 0 where
+pub record KeptLine : Type 0 where
   pub text : List ℕ
   pub commented : Bool
 
 -- a line with one more word
-abbrev pub add_word : LineText → List ℕ → LineText
+abbrev pub add_word : KeptLine → List ℕ → KeptLine
 add_word line word = record line { text = with_word line.text word }
 
 -- a line without its text
-abbrev pub emptied : LineText → LineText
+abbrev pub emptied : KeptLine → KeptLine
 emptied line = record line { text = [] }
 
 -- what a line is written as
-abbrev pub bytes_of : LineText → List ℕ
+abbrev pub bytes_of : KeptLine → List ℕ
 bytes_of line = line_bytes line.commented line.text
 
 -- bytes are a mark, up to `start`, and a text that is not too long

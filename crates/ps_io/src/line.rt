@@ -2,7 +2,7 @@
 ghost use Rattle.std.specs.Prelude.{◌≡◌, ◌≤◌, ◌+◌, ◌<◌, [], length, true, false};
 ghost use Rattle.std.specs.Fmt.{signed_decimal};
 ghost use Rattle.ps_io.specs.LineText.{number_length};
-ghost use Rattle.ps_io.specs.LineKept.{LineText, add_word, bytes_of, emptied};
+ghost use Rattle.ps_io.specs.LineKept.{KeptLine, add_word, bytes_of, emptied};
 ghost use Rattle.ps_io.specs.Causes.{CountsFault};
 ghost use Rattle.ps_io.specs.Transfer.{Writes};
 
@@ -21,9 +21,9 @@ pub(crate) struct Line {
 
 impl Model for Line {
     ghost use Rattle.std.specs.Prelude.{drop};
-    ghost use Rattle.ps_io.specs.LineKept.{LineText, IsMarkedText};
+    ghost use Rattle.ps_io.specs.LineKept.{KeptLine, IsMarkedText};
 
-    ghost Value = { LineText };
+    ghost Value = { KeptLine };
 
     ghost view = { λ l. record { text = drop l.start l.buffer; commented = l.commented } };
 

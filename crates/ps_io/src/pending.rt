@@ -1,5 +1,5 @@
 //! A writer that may hold bytes back.
-ghost use Rattle.std.specs.Prelude.{◌≡◌, OnOk, false};
+ghost use Rattle.std.specs.Prelude.{◌≡◌, OnOk, true, false};
 ghost use Rattle.std.specs.Io.{WritesAtMost};
 
 use std::io;
@@ -24,7 +24,8 @@ impl<W: Write> Pending<W> {
 
     /// From now on bytes may be held back.
     pub(crate) fn write(&mut self, buf: &[u8]) -> io::Result<usize>
-        ensures { WritesAtMost result buf.now }
+        ensures bound { WritesAtMost result buf.now }
+        ensures held { self.new.pending ≡ true }
     {
         self.pending = true;
         self.writer.write(buf)
