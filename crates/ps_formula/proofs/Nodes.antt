@@ -7,6 +7,7 @@ use Rattle.std.proofs.lemmas.List.Quantifiers.{position-Some, all_pairs_push}
 use Rattle.std.proofs.lemmas.Map.Views.{list_any-from_Contains}
 use Rattle.std.proofs.lemmas.Option.{slice_get-get_or}
 use Rattle.indexmap.specs.IndexSet.{insert_key}
+use Rattle.ps_formula.specs.declared.limits.TheConstants.{MOST_NODES}
 use Rattle.ps_formula.specs.declared.node.Node.{Node}
 use Rattle.ps_formula.specs.declared.node.Node.TheVariants.{True}
 use Rattle.ps_formula.specs.contracts.node.NodePartialEq.TheImpl.{eq-value}
@@ -45,7 +46,7 @@ kept ns n i e = record { there = placed ns n i e; grown = inl (refl, there ns n 
 
 -- a list is full for no node that it has
 pub not_full : (ns : List Node) (n : Node) (i : ℕ) → Some i ≡ position (node_eq n) ns
-    → IsErrOf {T = ℕ} {E = AddError} (Ok i) Full ↔ ((length ns ≡ 1024) × (Contains ns n → ⊥))
+    → IsErrOf {T = ℕ} {E = AddError} (Ok i) Full ↔ ((length ns ≡ MOST_NODES) × (Contains ns n → ⊥))
 not_full ns n i e = ((λ f. cc), (λ h. absurd (h.1 (there ns n i e))))
 
 -- a new node whose operands are there keeps the list in order
@@ -62,8 +63,8 @@ one_more ns n are fits e = record {
         rw (get_or_push ns n d i here) (subst (λ k. Fits k n) here fits)
 
 -- the list after a look-up that didn't find the node
-pub added : (ns new : List Node) (n : Node) → AreNodes ns → length ns < 1024 → Fits (length ns) n → false ≡ list_any (node_eq n) ns
-    → new ≡ insert_key node_eq ns n → AreNodes new × (length new ≤ 1024)
+pub added : (ns new : List Node) (n : Node) → AreNodes ns → length ns < MOST_NODES → Fits (length ns) n → false ≡ list_any (node_eq n) ns
+    → new ≡ insert_key node_eq ns n → AreNodes new × (length new ≤ MOST_NODES)
 added ns new n are few fits e k =
     let grown : new ≡ ns ++ n ∷ [] = k ∙ ap (λ b. if b then ns else ns ++ n ∷ []) (sym e) in
     rw grown (one_more ns n are fits e, omega (arith, length_push ns n))

@@ -17,7 +17,7 @@ tree_over ts (node.Or a b) = tree.Or (slice_index_or ts a Truth) (slice_index_or
 tree_over ts (node.Implies a b) = tree.Implies (slice_index_or ts a Truth) (slice_index_or ts b Truth)
 tree_over ts (node.Iff a b) = tree.Iff (slice_index_or ts a Truth) (slice_index_or ts b Truth)
 
--- the trees of some nodes, and then of these
+-- the trees of earlier nodes, and behind them those of these nodes in order
 abbrev pub trees_from : List (Formula ℕ) → List Node → List (Formula ℕ)
 trees_from ts [] = ts
 trees_from ts (n ∷ ns) = trees_from (ts ++ tree_over ts n ∷ []) ns
@@ -26,7 +26,7 @@ trees_from ts (n ∷ ns) = trees_from (ts ++ tree_over ts n ∷ []) ns
 abbrev pub trees : List Node → List (Formula ℕ)
 trees ns = trees_from [] ns
 
--- the operands stand before this place, and an atom's number is within the limit
+-- the operands stand before this place, and an atom's number is below the limit
 abbrev pub Fits : ℕ → Node → Type 0
 Fits n node.True = Unit {0}
 Fits n node.False = Unit {0}
@@ -50,7 +50,7 @@ pub record HaveOwnTrees (ns : List Node) : Type 0 where
 abbrev pub IsFullFor : Node → List Node → Type 0
 IsFullFor n ns = (length ns ≡ MOST_NODES) × ¬ Contains ns n
 
--- an atom's number is below this
+-- where the node is an atom, its number is below this
 abbrev pub AtomBelow : ℕ → Node → Type 0
 AtomBelow n (node.Atom a) = a < n
 AtomBelow n other = Unit {0}

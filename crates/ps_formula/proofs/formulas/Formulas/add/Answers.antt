@@ -1,4 +1,5 @@
 use Rattle.std.proofs.Common.{◌<◌, length, arith}
+use Rattle.ps_formula.specs.declared.limits.TheConstants.{MOST_NODES}
 use Rattle.ps_formula.specs.Nodes.{Fits}
 use Rattle.ps_formula.proofs.Nodes.{kept, not_full, added}
 use Rattle.ps_formula.proofs.formulas.Formulas.add.Goals as goal
@@ -13,7 +14,7 @@ returns-in-Some-clause-full c = rw (← c.self.view_is) (not_full c.self.inside.
 pub invariant_of-self : goal.invariant_of-self
 invariant_of-self c =
     let fits : Fits (length c.self.inside.nodes.keys) c.args.node = rw c.self.view_is c.requires in
-    let few : length c.self.inside.nodes.keys < 1024 = omega arith in
+    let few : length c.self.inside.nodes.keys < MOST_NODES = omega arith in
     elim c.match-insert_full.branch [
       | in-Ok w ↦ added _ _ c.args.node c.self.invariant.0 few fits c.in_default.ensures.found w.in-Ok.ensures.keys
       | in-Err w ↦ rw w.in-Err.ensures.err c.self.invariant
