@@ -85,7 +85,8 @@ next_part n f h e = λ i l.
       | inr ne ↦ h i (omega arith)
     ]
 
-sum_all_zero : (n : ℕ) (f : ℕ → Rational) → ((i : ℕ) → i < n → f i ≡ zero_q) → sum_to n f ≡ zero_q
+-- a sum of zeros
+pub sum_all_zero : (n : ℕ) (f : ℕ → Rational) → ((i : ℕ) → i < n → f i ≡ zero_q) → sum_to n f ≡ zero_q
 sum_all_zero n f h = sum_same n f (λ _. zero_q) h ∙ sum_of_zeros n
 
 -- numbers that are not negative and sum to 0 are each 0

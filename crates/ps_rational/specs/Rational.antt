@@ -1,5 +1,5 @@
 -- The rational numbers: integers over positive numbers, in lowest terms, so that equal numbers are equal.
-use Rattle.std.proofs.Common.{◌≡◌, ℕ, zero, suc, ◌*◌, ◌/◌, ◌<◌, ℤ, pos, negsuc, ◌+ℤ◌, ◌*ℤ◌, neg_ℤ, unsigned_abs, int_div, lit≤, sym, ap, subst}
+use Rattle.std.proofs.Common.{◌≡◌, ℕ, zero, suc, ◌*◌, ◌/◌, ◌<◌, ℤ, pos, negsuc, ◌+ℤ◌, ◌*ℤ◌, neg_ℤ, unsigned_abs, int_div, lit≤, sym, subst}
 use Rattle.std.specs.Int.{IsGcd}
 use Rattle.std.specs.Coded.{Coded, coded×, coded_ℤ, coded_ℕ}
 use Rattle.std.proofs.Math.Nat.{mul-pos, ∣_prop}
@@ -123,25 +123,11 @@ rational_path x y e f = λ i. record {
   lowest = is_prop→PathP (λ j. IsLowestTerms (e j) (f j)) (λ j. IsLowestTerms_prop (e j) (f j)) x.lowest y.lowest i;
 }
 
--- numerator and denominator
-abbrev parts_of : Rational → ℤ × ℕ
-parts_of x = (x.over, x.under)
-
--- the first of two
-abbrev first : ℤ × ℕ → ℤ
-first p = p.0
-
--- the second of two
-abbrev second : ℤ × ℕ → ℕ
-second p = p.1
-
--- rational numbers of the same numerator and denominator are the same
-pub from_pairs : (x y : Rational) → parts_of x ≡ parts_of y → x ≡ y
-from_pairs x y e = rational_path x y (ap first e) (ap second e)
-
 -- rational numbers as codes, which a type with such a value needs
 abbrev pub coded_rational : Coded Rational
 coded_rational = record {
   code = λ x. (coded× coded_ℤ coded_ℕ).code (x.over, x.under);
-  inj = λ x y e. from_pairs x y ((coded× coded_ℤ coded_ℕ).inj (x.over, x.under) (y.over, y.under) e);
+  inj = λ x y e.
+      let same = (coded× coded_ℤ coded_ℕ).inj (x.over, x.under) (y.over, y.under) e in
+      rational_path x y (λ i. (same i).0) (λ i. (same i).1);
 }
