@@ -9,7 +9,7 @@ use ps_io::List;
 pub enum Event {
     /// Column `enter` became basic in row `leave`, from 0.
     Pivot { enter: Col, leave: u32 },
-    /// A world was priced; the next column is due for it.
+    /// A world was priced; it is the next to get a column.
     Priced { world: World },
 }
 
