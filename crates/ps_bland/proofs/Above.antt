@@ -15,7 +15,7 @@ use Rattle.ps_rule.specs.Rule.{IsFeasible}
 use Rattle.ps_rule.specs.declared.phase.Phase.TheVariants.{Upper}
 use Rattle.ps_bland.specs.Columns.{AreColumns}
 use Rattle.ps_bland.specs.Rules.{simplex_of}
-use Rattle.ps_bland.specs.Ready.{HasUnitRow, HasValues, IsReady}
+use Rattle.ps_bland.specs.Ready.{HasUnitRow, HasNoNegativeValue, IsReady}
 use Rattle.ps_bland.proofs.Ready.{unit_nonneg}
 
 -- row m of a home's column, and of a world's
@@ -111,7 +111,7 @@ module _ (costs : Costs) (t : Tableau) (worlds : List (List ℤ)) (above : AreAb
         ];
   }
 
-  pub ready_above : 0 < n → ((A : ℕ → ℕ → Rational) → AreColumns n worlds A → IsTableFor A t) → HasValues t → IsFeasible (simplex_of t) → IsReady Upper costs t
+  pub ready_above : 0 < n → ((A : ℕ → ℕ → Rational) → AreColumns n worlds A → IsTableFor A t) → HasNoNegativeValue t → IsFeasible (simplex_of t) → IsReady Upper costs t
   ready_above some stands values feasible = record { costs_there = above.costs_there; values = values; fits = (feasible, unit_row some stands) }
 
 -- what a test asks of costs and worlds makes a table ready for the greatest value
@@ -119,7 +119,7 @@ pub ready_checked : (n : ℕ) (costs : Costs) (t : Tableau) (worlds : List (List
     → ((i : ℕ) → i < length costs.homes → pos 0 ≤ℤ get_or costs.homes i (pos 0)) → ((i : ℕ) → i < length costs.homes → get_or costs.homes i (pos 0) ≤ℤ pos 0)
     → ((i : ℕ) → i < length costs.worlds → negsuc 0 ≤ℤ get_or costs.worlds i (pos 0)) → ((i : ℕ) → i < length costs.worlds → get_or costs.worlds i (pos 0) ≤ℤ pos 0)
     → ((k : ℕ) → k < length worlds → get_or (get_or worlds k []) 0 (pos 0) ≡ pos 1)
-    → ((A : ℕ → ℕ → Rational) → AreColumns n worlds A → IsTableFor A t) → HasValues t → IsFeasible (simplex_of t) → IsReady Upper costs t
+    → ((A : ℕ → ℕ → Rational) → AreColumns n worlds A → IsTableFor A t) → HasNoNegativeValue t → IsFeasible (simplex_of t) → IsReady Upper costs t
 ready_checked n costs t worlds some rows eh lw le hl hh wl wh ones stands values feasible =
     let above : AreAbove costs t worlds = record {
       costs_there = record {

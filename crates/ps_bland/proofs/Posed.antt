@@ -10,7 +10,7 @@ use Rattle.ps_table.specs.Pricing.{cost_at, HasCosts}
 use Rattle.ps_rule.specs.declared.phase.Phase.{Phase}
 use Rattle.ps_rule.specs.declared.phase.Phase.TheVariants.{One, Lower, Upper}
 use Rattle.ps_bland.specs.Rules.{artificial_at}
-use Rattle.ps_bland.specs.Ready.{HasNoNegativeCost, HasUnitRow, FitsPhase, HasValues, IsReady, HasFirstCosts, HasWorldCosts, HasWorldRow, IsPosed}
+use Rattle.ps_bland.specs.Ready.{HasNoNegativeCost, HasUnitRow, FitsPhase, HasNoNegativeValue, IsReady, HasFirstCosts, HasWorldCosts, HasWorldRow, IsPosed}
 
 one_nonneg : IsNonneg one_q
 one_nonneg = above_nonneg one_q one_above
@@ -48,5 +48,5 @@ fits_posed Lower costs t h = (h.0, lower_posed costs t h.1)
 fits_posed Upper costs t h = (h.0, upper_posed costs t h.1 h.2)
 
 -- the costs of a phase make a table without values below 0 ready for it
-pub ready_posed : (phase : Phase) (costs : Costs) (t : Tableau) → HasCosts costs t → HasValues t → IsPosed phase costs t → IsReady phase costs t
+pub ready_posed : (phase : Phase) (costs : Costs) (t : Tableau) → HasCosts costs t → HasNoNegativeValue t → IsPosed phase costs t → IsReady phase costs t
 ready_posed phase costs t has values posed = record { costs_there = has; values = values; fits = fits_posed phase costs t posed }

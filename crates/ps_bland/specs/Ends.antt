@@ -15,7 +15,7 @@ use Rattle.ps_rule.specs.declared.phase.Phase.{Phase}
 use Rattle.ps_rule.specs.declared.phase.Phase.TheVariants.{One, Lower, Upper}
 use Rattle.ps_bland.specs.declared.settled.Settled.{Settled}
 use Rattle.ps_bland.specs.declared.settled.Settled.TheVariants.{Feasible, AtRest, OutOfPivots}
-use Rattle.ps_bland.specs.Rules.{IsDone, IsLawful, is_artificial_column, simplex_of}
+use Rattle.ps_bland.specs.Rules.{IsDueToEndIn, IsLawful, is_artificial_column, simplex_of}
 
 -- the ratio of row i is too wide
 pub record IsRatioWide (t : Tableau) (q : ℕ) (w : WideAt) : Type 0 where
@@ -51,8 +51,8 @@ pub record IsPivotDue (phase : Phase) (costs : Costs) (t : Tableau) (left : ℕ)
 
 -- the operands at a due place of the table, where they are too wide; ratios and pivots are due only while a pivot is left
 pub data IsDueWide (phase : Phase) (costs : Costs) (t : Tableau) (left : ℕ) (w : WideAt) : Type 0 where
-  at_cost : (IsDone phase t → ⊥) → IsEntryWide costs t w → IsDueWide phase costs t left w
-  at_ratio : (q : Col) → (IsDone phase t → ⊥) → 0 < left → HasColumn t q
+  at_cost : (IsDueToEndIn phase t → ⊥) → IsEntryWide costs t w → IsDueWide phase costs t left w
+  at_ratio : (q : Col) → (IsDueToEndIn phase t → ⊥) → 0 < left → HasColumn t q
       → Enters (simplex_of t) (cost_at costs) (number_of t q)
       → IsLeftToRatios phase t (number_of t q) → IsRatioWide t (number_of t q) w → IsDueWide phase costs t left w
   at_pivot : (q : Col) (p : ℕ) → 0 < left
@@ -70,7 +70,7 @@ IsDueRefusal phase costs t left NoMemory = IsPivotDue phase costs t left
 
 -- how the pivots of a phase end
 abbrev pub IsSettled : Phase → Costs → Tableau → ℕ → Settled → Type 0
-IsSettled phase costs t left Feasible = IsDone phase t
+IsSettled phase costs t left Feasible = IsDueToEndIn phase t
 IsSettled phase costs t left AtRest = IsResting phase (simplex_of t) (cost_at costs)
 IsSettled phase costs t left OutOfPivots = IsMoving phase (simplex_of t) (cost_at costs) × (left ≡ 0)
 

@@ -33,13 +33,13 @@ FitsPhase Lower costs t = IsFeasible (simplex_of t) × HasNoNegativeCost costs t
 FitsPhase Upper costs t = IsFeasible (simplex_of t) × HasUnitRow costs t
 
 -- no value is below 0
-abbrev pub HasValues : Tableau → Type 0
-HasValues t = (i : ℕ) → i < length t.kinds → IsNonneg (entry_at t i 0)
+abbrev pub HasNoNegativeValue : Tableau → Type 0
+HasNoNegativeValue t = (i : ℕ) → i < length t.kinds → IsNonneg (entry_at t i 0)
 
 -- the condition of a phase
 pub record IsReady (phase : Phase) (costs : Costs) (t : Tableau) : Type 0 where
   pub costs_there : HasCosts costs t
-  pub values : HasValues t
+  pub values : HasNoNegativeValue t
   pub fits : FitsPhase phase costs t
 
 -- an artificial costs 1, all else 0
@@ -68,11 +68,11 @@ IsPosed Upper costs t = IsFeasible (simplex_of t) × HasWorldCosts (neg one_q) c
 -- ---- the laws
 -- a table without values below 0 is ready for a phase with the costs that the phase is for
 abbrev pub PosedTablesAreReady : Type 0
-PosedTablesAreReady = (phase : Phase) (costs : Costs) (t : Tableau) → HasCosts costs t → HasValues t → IsPosed phase costs t → IsReady phase costs t
+PosedTablesAreReady = (phase : Phase) (costs : Costs) (t : Tableau) → HasCosts costs t → HasNoNegativeValue t → IsPosed phase costs t → IsReady phase costs t
 
 -- a world that is added makes no value fall below 0
 abbrev pub ValuesStay : Type 0
-ValuesStay = (entries : List ℤ) (old new : Tableau) → IsAdded entries old new → HasValues old → HasValues new
+ValuesStay = (entries : List ℤ) (old new : Tableau) → IsAdded entries old new → HasNoNegativeValue old → HasNoNegativeValue new
 
 -- a world that is added leaves each basic artificial's value at 0 where all of them are 0
 abbrev pub FeasibilityStays : Type 0

@@ -32,13 +32,13 @@ simplex_of t = record {
 abbrev pub is_artificial_column : Tableau → Col → Bool
 is_artificial_column t c = artificial_at t.kinds (number_of t c)
 
--- phase one is due to end
-abbrev pub IsDone : Phase → Tableau → Type 0
-IsDone phase t = IsDueToEnd phase (simplex_of t)
+-- phase one is due to end at the table
+abbrev pub IsDueToEndIn : Phase → Tableau → Type 0
+IsDueToEndIn phase t = IsDueToEnd phase (simplex_of t)
 
 -- a pivot by the rule
 pub record IsLawful (phase : Phase) (costs : Costs) (t : Tableau) (enter : Col) (leave : ℕ) : Type 0 where
   pub inside : HasColumn t enter
-  pub unfinished : IsDone phase t → ⊥
+  pub unfinished : IsDueToEndIn phase t → ⊥
   pub enters : Enters (simplex_of t) (cost_at costs) (number_of t enter)
   pub leaves : Leaves phase (simplex_of t) (number_of t enter) leave

@@ -2,7 +2,7 @@
 ghost use Rattle.std.specs.Prelude.{◌<◌, ◌↔◌, IsTrue};
 ghost use Rattle.ps_rule.specs.Rule.{IsFeasible};
 ghost use Rattle.ps_table.specs.Tableau.{rows_of, IsTableau};
-ghost use Rattle.ps_bland.specs.Rules.{simplex_of, IsDone};
+ghost use Rattle.ps_bland.specs.Rules.{simplex_of, IsDueToEndIn};
 ghost use Rattle.ps_bland.specs.Rounds.{IsRowFeasible};
 
 use crate::columns::is_artificial;
@@ -35,7 +35,7 @@ fn is_feasible(table: &Table) -> bool
 
 /// Whether phase one is due to end.
 pub(crate) fn is_due_to_end(phase: Phase, table: &Table) -> bool
-    ensures value { IsTrue result ↔ IsDone phase table.now }
+    ensures value { IsTrue result ↔ IsDueToEndIn phase table.now }
     ensures tableau { IsTableau table.now }
 {
     // Called for its clauses: the table is in the form in which tables are kept.

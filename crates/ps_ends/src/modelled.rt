@@ -6,7 +6,7 @@ ghost use Rattle.ps_table.specs.declared.limits.TheConstants.{PRINTED_LIMIT};
 ghost use Rattle.ps_table.specs.Tableau.{rows_of};
 ghost use Rattle.ps_table.specs.Places.{IsNarrow, IsRefusedAt};
 ghost use Rattle.ps_bland.specs.Rules.{simplex_of};
-ghost use Rattle.ps_bland.specs.Ready.{HasValues};
+ghost use Rattle.ps_bland.specs.Ready.{HasNoNegativeValue};
 ghost use Rattle.ps_multiples.specs.Multiples.{AreWeights, ModelPlaces, weight_multiple_of};
 ghost use Rattle.ps_runs.specs.Certificates.{weighted_worlds};
 ghost use Rattle.ps_ends.specs.Models.{AreApart, IsBasicIn, IsRowOf, column_value, column_weight};
@@ -103,7 +103,7 @@ fn weighed_worlds(
 /// The distribution of a table: the worlds of its pool that are basic with a value above 0, in
 /// their order, each with its value times the least common multiple of the denominators.
 pub fn model_of(alloc: Global, table: &Table, pool: &Pool) -> Result<Model, TableError>
-    requires values { HasValues table.now }
+    requires values { HasNoNegativeValue table.now }
     requires apart { AreApart table.now }
     ensures value { IfOk result (IsTableModel table.now pool.now) }
     ensures printed { IfOk result IsPrintedModel }

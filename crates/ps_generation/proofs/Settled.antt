@@ -12,7 +12,7 @@ use Rattle.ps_table.specs.declared.error.TableError.TheVariants as refused
 use Rattle.ps_table.specs.Tableau.{Tableau, IsTableau}
 use Rattle.ps_table.specs.Pricing.{cost_at}
 use Rattle.ps_rule.specs.declared.phase.Phase.{Phase}
-use Rattle.ps_bland.specs.Rules.{simplex_of, IsDone}
+use Rattle.ps_bland.specs.Rules.{simplex_of, IsDueToEndIn}
 use Rattle.ps_bland.specs.Ends.{IsDueWide, IsDueRefusal}
 use Rattle.ps_bland.specs.Ready.{IsReady}
 use Rattle.ps_bland.specs.Runs as bland
@@ -78,7 +78,7 @@ module _ (kind : ClaimKind) (r : LimitedSubject) (costs : Costs) (old new : Stat
         omega (arith, some, c);
   }
 
-  pub settled_done : IsDone (phase_of kind) new.table → IsEnd kind r old new Feasible
+  pub settled_done : IsDueToEndIn (phase_of kind) new.table → IsEnd kind r old new Feasible
   settled_done done = (settled_come, done)
 
   pub settled_out : (limit : ℕ) → limit ≡ r.limits.pivots → IsMoving (phase_of kind) (simplex_of new.table) (cost_at costs) × (new.left ≡ 0)

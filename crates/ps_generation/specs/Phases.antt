@@ -18,7 +18,7 @@ use Rattle.ps_table.specs.declared.error.TableError.{TableError}
 use Rattle.ps_table.specs.declared.error.TableError.TheVariants as refused
 use Rattle.ps_table.specs.declared.place.WideAt.{WideAt}
 use Rattle.ps_table.specs.Tableau.{entry_at}
-use Rattle.ps_bland.specs.Rules.{simplex_of, IsDone}
+use Rattle.ps_bland.specs.Rules.{simplex_of, IsDueToEndIn}
 use Rattle.ps_bland.specs.Ready.{IsReady}
 use Rattle.ps_answer.specs.declared.answer.Cause.{Cause}
 use Rattle.ps_answer.specs.declared.answer.Cause.TheVariants.{Wide}
@@ -137,7 +137,7 @@ IsOpen kind r old new cause = IsOpenEnd kind r old new cause
 
 -- how a phase ends
 abbrev pub IsEnd : ClaimKind → LimitedSubject → State → State → End → Type 0
-IsEnd kind r old new Feasible = HasCome kind r old new × IsDone (phase_of kind) new.table
+IsEnd kind r old new Feasible = HasCome kind r old new × IsDueToEndIn (phase_of kind) new.table
 IsEnd kind r old new (NoneAbove d) = HasCome kind r old new × IsDualEnd kind r.subject (stage_of new) (entry_at new.table) d
 IsEnd kind r old new (Open cause) = IsOpen kind r old new cause
 

@@ -5,7 +5,7 @@ use Rattle.ps_pool.specs.declared.event.Event.TheVariants.{Priced}
 use Rattle.ps_table.specs.Tableau.{entry_at}
 use Rattle.ps_table.specs.declared.place.WideAt.{WideAt}
 use Rattle.ps_table.specs.Places.{IsWideAt}
-use Rattle.ps_bland.specs.Rules.{IsDone}
+use Rattle.ps_bland.specs.Rules.{IsDueToEndIn}
 use Rattle.ps_multiples.specs.Multiples.{ModelPlaces}
 use Rattle.ps_answer.specs.declared.answer.Cause.{Cause}
 use Rattle.ps_answer.specs.declared.answer.Cause.TheVariants.{Pivots, Conflicts, Wide}
@@ -53,7 +53,7 @@ module _ (r : LimitedSubject) (old new : State) (start : IsAtStart (run_of r old
   }
 
   -- a table whose basic artificials have value 0
-  module _ (come : HasCome Nothing r old new) (done : IsDone (phase_of Nothing) new.table) (left : IsLeft Nothing r.subject old new) where
+  module _ (come : HasCome Nothing r old new) (done : IsDueToEndIn (phase_of Nothing) new.table) (left : IsLeft Nothing r.subject old new) where
     feasible : IsFeasibleAt r.subject (stage_of new) (entry_at new.table)
     feasible = feasible_there r.subject new.pool new.table left.table done
 

@@ -1,7 +1,7 @@
 //! What the phases of a run answer.
 ghost use Rattle.std.specs.Prelude.{◌≡◌, ◌≢◌, ◌≤ℤ◌, IfOk, MatchResult, pos, false};
 ghost use Rattle.ps_rule.specs.Rule.{IsFeasible};
-ghost use Rattle.ps_bland.specs.Ready.{HasValues};
+ghost use Rattle.ps_bland.specs.Ready.{HasNoNegativeValue};
 ghost use Rattle.ps_bland.specs.Rules.{simplex_of};
 ghost use Rattle.ps_claims.specs.declared.claim_kind.ClaimKind.TheVariants.{Nothing};
 ghost use Rattle.ps_runs.specs.Runs.{IsAsked};
@@ -34,7 +34,7 @@ fn can_be_printed(at: &WideAt)
 
 /// The distribution of a table, or the place at which a number of it is too wide.
 fn found_model(alloc: Global, state: &State) -> Result<Result<Model, WideAt>, NoMemory>
-    requires values { HasValues state.now.table }
+    requires values { HasNoNegativeValue state.now.table }
     requires apart { AreApart state.now.table }
     ensures found { IfOk result (IsModelOrWide state.now) }
     ensures printed { IfOk result (λ r. MatchResult r IsPrintedModel ArePrintedOperands) }
@@ -75,7 +75,7 @@ pub(crate) fn first(
 
 /// The value that a side's dual shows, with the distribution that reaches it.
 fn bound(alloc: Global, state: &State, dual: Dual) -> Result<SideAnswer, NoMemory>
-    requires values { HasValues state.now.table }
+    requires values { HasNoNegativeValue state.now.table }
     requires apart { AreApart state.now.table }
     requires top { pos 1 ≤ℤ dual.top }
     requires dual { IsPrintedDual dual }

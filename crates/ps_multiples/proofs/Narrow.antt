@@ -20,7 +20,7 @@ use Rattle.ps_table.specs.declared.limits.TheConstants.{PRINTED_LIMIT}
 use Rattle.ps_table.specs.Places.{IsWide, IsNarrow, IsTooLargeToPrint, HomePlaces, at_whole, at_scaled, at_weight, at_weighed, at_total, weight_under}
 use Rattle.ps_table.proofs.Printed.{printed_exact}
 use Rattle.ps_table.proofs.Narrow.{all_more}
-use Rattle.ps_bland.specs.Ready.{HasValues}
+use Rattle.ps_bland.specs.Ready.{HasNoNegativeValue}
 use Rattle.ps_multiples.specs.declared.scaled.Scaled.{Scaled}
 use Rattle.ps_multiples.specs.Multiples.{multiple_of, DualPlaces, of_home, of_multiplier, AreScaled, ModelPlaces, weight_of, weight_multiple_of, total_of}
 use Rattle.ps_multiples.specs.Rows.{AreHomesNarrow, IsPrintedMultiple, AreWeightRows, total_to_row}
@@ -102,14 +102,14 @@ pub dual_narrow : (t : Tableau) (costs : Costs) (s : Scaled) → AreHomesNarrow 
 dual_narrow t costs s homes h = record { nowhere = dual_nowhere t costs s homes h }
 
 -- ---- weights
-weight_low : (t : Tableau) → HasValues t → (k : ℕ) → k < rows_of t → pos 0 ≤ℤ weight_of t k
+weight_low : (t : Tableau) → HasNoNegativeValue t → (k : ℕ) → k < rows_of t → pos 0 ≤ℤ weight_of t k
 weight_low t values k hk = cases (ltb (rows_of t) (basic_at t k))
   where
     cases : (b : Bool) → pos 0 ≤ℤ (if b then scaled (weight_multiple_of t) (entry_at t k 0) else pos 0)
     cases true = scaled_low (weight_multiple_of t) (entry_at t k 0) (values k hk)
     cases false = omega (arith, ints)
 
-model_nowhere : (t : Tableau) (m : ℕ) (rows : List ℤ) → HasValues t → IsPrintedMultiple (weight_multiple_of t) m → AreWeightRows t (rows_of t) rows
+model_nowhere : (t : Tableau) (m : ℕ) (rows : List ℤ) → HasNoNegativeValue t → IsPrintedMultiple (weight_multiple_of t) m → AreWeightRows t (rows_of t) rows
     → unsigned_abs (total_of t) ≤ PRINTED_LIMIT → (place : Place) (op : Op) (l r : Rational) → ModelPlaces t place op l r → ¬ IsWide place op l r
 model_nowhere t m rows values multiple h small _ _ _ _ (at_weight i hi weighed) = λ wide.
     let n = rows_of t in
@@ -128,7 +128,7 @@ model_nowhere t m rows values multiple h small _ _ _ _ (at_total i hi weighed) =
     sum_within (rows_of t) i (weight_of t) (weight_low t values) hi small ((printed_exact.total i Add (total_to_row t i) (weight_of t i)).0 wide)
 
 -- where the multiple, each weight and their sum are small, all places are narrow
-pub model_narrow : (t : Tableau) (m : ℕ) (rows : List ℤ) (total : ℤ) → HasValues t → IsPrintedMultiple (weight_multiple_of t) m → AreWeightRows t (rows_of t) rows
+pub model_narrow : (t : Tableau) (m : ℕ) (rows : List ℤ) (total : ℤ) → HasNoNegativeValue t → IsPrintedMultiple (weight_multiple_of t) m → AreWeightRows t (rows_of t) rows
     → total ≡ total_of t → unsigned_abs total ≤ PRINTED_LIMIT → IsNarrow (ModelPlaces t)
 model_narrow t m rows total values multiple h is small =
     record { nowhere = model_nowhere t m rows values multiple h (subst (λ z. unsigned_abs z ≤ PRINTED_LIMIT) is small) }

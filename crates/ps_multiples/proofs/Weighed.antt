@@ -20,7 +20,7 @@ use Rattle.ps_table.specs.Places.{IsWideAt, IsTooLargeToPrint, IsWeighed, weight
 use Rattle.ps_table.specs.Grids.{Names}
 use Rattle.ps_table.proofs.Printed.{printed_exact}
 use Rattle.ps_multiples.specs.Multiples.{weight_of, weight_multiple_of, ModelPlaces}
-use Rattle.ps_bland.specs.Ready.{HasValues}
+use Rattle.ps_bland.specs.Ready.{HasNoNegativeValue}
 use Rattle.ps_multiples.specs.Rows.{IsWeighedIn, multiple_to_row, total_to_row, IsPrintedMultiple}
 
 whole_under : (z : ℤ) → (whole z).under ≡ 1
@@ -95,7 +95,7 @@ unweighed_multiple t i h not =
 weighed_multiple : (t : Tableau) (i : ℕ) → IsWeighedIn t i → multiple_to_row t (suc i) ≡ lcm (multiple_to_row t i) (entry_at t i 0).under
 weighed_multiple t i w = ap (λ k. lcm (multiple_to_row t i) k) (weighed_under (rows_of t) (basic_at t) (entry_at t) i w)
 
-pub passed_multiple : (t : Tableau) (i m : ℕ) → i < rows_of t → HasValues t → ¬ IsWeighedIn t i → IsPrintedMultiple (multiple_to_row t i) m
+pub passed_multiple : (t : Tableau) (i m : ℕ) → i < rows_of t → HasNoNegativeValue t → ¬ IsWeighedIn t i → IsPrintedMultiple (multiple_to_row t i) m
     → IsPrintedMultiple (multiple_to_row t (suc i)) m
 passed_multiple t i m h values not p =
     record { value = p.value ∙ sym (unweighed_multiple t i (values i h) not); positive = p.positive; small = p.small }
@@ -109,14 +109,14 @@ next_multiple t i m r x w p ex e positive small = record {
 }
 
 -- ---- weights
-pub no_weight : (t : Tableau) (i : ℕ) → i < rows_of t → HasValues t → ¬ IsWeighedIn t i → pos 0 ≡ weight_of t i
+pub no_weight : (t : Tableau) (i : ℕ) → i < rows_of t → HasNoNegativeValue t → ¬ IsWeighedIn t i → pos 0 ≡ weight_of t i
 no_weight t i h values not = sym (unweighed_weight (rows_of t) (basic_at t) (entry_at t) i (values i h) not)
 
 pub weight_is : (t : Tableau) (i m : ℕ) (z : ℤ) (x : Rational) → IsWeighedIn t i → IsPrintedMultiple (weight_multiple_of t) m → x ≡ entry_at t i 0 → z ≡ scaled m x
     → z ≡ weight_of t i
 weight_is t i m z x w p ex e = e ∙ (λ k. scaled (p.value k) (ex k)) ∙ sym (weighed_weight (rows_of t) (basic_at t) (entry_at t) i w)
 
-pub passed_total : (t : Tableau) (i : ℕ) (total : ℤ) → i < rows_of t → HasValues t → ¬ IsWeighedIn t i → total ≡ total_to_row t i → total ≡ total_to_row t (suc i)
+pub passed_total : (t : Tableau) (i : ℕ) (total : ℤ) → i < rows_of t → HasNoNegativeValue t → ¬ IsWeighedIn t i → total ≡ total_to_row t i → total ≡ total_to_row t (suc i)
 passed_total t i total h values not e =
     let none : weight_of t i ≡ pos 0 = sym (no_weight t i h values not) in
     omega (arith, ints, e, none)

@@ -1,7 +1,7 @@
 ghost use Rattle.std.specs.Prelude.{ℕ, ◌<◌, ◌≤ℤ◌, IsTrue, length, get_or, pos};
 ghost use Rattle.ps_rational.specs.Order.{IsNonneg};
 ghost use Rattle.ps_table.specs.Tableau.{entry_at};
-ghost use Rattle.ps_bland.specs.Ready.{HasValues};
+ghost use Rattle.ps_bland.specs.Ready.{HasNoNegativeValue};
 
 use super::*;
 use ps_pool::Col;
@@ -20,7 +20,7 @@ fn a_table(alloc: Global) -> Result<Table, TableError> {
 }
 
 fn are_values_at_least_zero(table: &Table) -> bool
-    ensures { IsTrue result → HasValues table.now }
+    ensures { IsTrue result → HasNoNegativeValue table.now }
 {
     for row in 0..table.rows() {
         if table.value(row).numerator() < 0 {

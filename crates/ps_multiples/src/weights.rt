@@ -4,7 +4,7 @@ ghost use Rattle.std.specs.Prelude.{◌↔◌, IsTrue, IfOk, IfErr, unsigned_abs
 ghost use Rattle.ps_table.specs.Tableau.{rows_of};
 ghost use Rattle.ps_table.specs.declared.limits.TheConstants.{PRINTED_LIMIT};
 ghost use Rattle.ps_table.specs.Places.{IsWideAt, IsRefusedAt, IsNarrow};
-ghost use Rattle.ps_bland.specs.Ready.{HasValues};
+ghost use Rattle.ps_bland.specs.Ready.{HasNoNegativeValue};
 ghost use Rattle.ps_multiples.specs.Multiples.{weight_of, weight_multiple_of, ModelPlaces};
 ghost use Rattle.ps_multiples.specs.Multiples.{AreWeights, total_of};
 ghost use Rattle.ps_multiples.specs.Rows.{IsWeighedIn, multiple_to_row, total_to_row};
@@ -40,7 +40,7 @@ fn is_weighed(table: &Table, row: u32) -> bool
 #[tactic(auto, using(crate::proofs::Weighed::passed_multiple, crate::proofs::Weighed::next_multiple, crate::proofs::Weighed::wide_weight))]
 fn multiple_with(table: &Table, row: u32, multiple: u128) -> Result<u128, WideAt>
     requires row { row < rows_of table.now }
-    requires values { HasValues table.now }
+    requires values { HasNoNegativeValue table.now }
     requires before { IsPrintedMultiple (multiple_to_row table.now row) multiple }
     ensures with { IfOk result (IsPrintedMultiple (multiple_to_row table.now (suc row))) }
     ensures refused { IfErr result (IsWideAt (ModelPlaces table.now)) }
@@ -53,7 +53,7 @@ fn multiple_with(table: &Table, row: u32, multiple: u128) -> Result<u128, WideAt
 
 /// The least common multiple of the denominators of the values that make weights.
 fn weight_multiple(table: &Table) -> Result<u128, WideAt>
-    requires { HasValues table.now }
+    requires { HasNoNegativeValue table.now }
     ensures value { IfOk result (IsPrintedMultiple (weight_multiple_of table.now)) }
     ensures refused { IfErr result (IsWideAt (ModelPlaces table.now)) }
 {
@@ -68,7 +68,7 @@ fn weight_multiple(table: &Table) -> Result<u128, WideAt>
 #[tactic(auto, using(crate::proofs::Weighed::no_weight, crate::proofs::Weighed::weight_is, crate::proofs::Weighed::wide_weighed))]
 fn row_weight(table: &Table, row: u32, multiple: u128) -> Result<i128, WideAt>
     requires row { row < rows_of table.now }
-    requires values { HasValues table.now }
+    requires values { HasNoNegativeValue table.now }
     requires multiple { IsPrintedMultiple (weight_multiple_of table.now) multiple }
     ensures value { IfOk result (λ r. r ≡ weight_of table.now row) }
     ensures within { IfOk result (λ r. unsigned_abs r ≤ PRINTED_LIMIT) }
@@ -82,7 +82,7 @@ fn row_weight(table: &Table, row: u32, multiple: u128) -> Result<i128, WideAt>
 
 /// The weight of each row.
 fn weight_rows(alloc: Global, table: &Table, multiple: u128) -> Result<List<i128>, TableError>
-    requires values { HasValues table.now }
+    requires values { HasNoNegativeValue table.now }
     requires multiple { IsPrintedMultiple (weight_multiple_of table.now) multiple }
     ensures rows { IfOk result (AreWeightRows table.now (rows_of table.now)) }
     ensures refused { IfErr result (IsRefusedAt (ModelPlaces table.now)) }
@@ -98,7 +98,7 @@ fn weight_rows(alloc: Global, table: &Table, multiple: u128) -> Result<List<i128
 #[tactic(auto, using(crate::proofs::Weighed::passed_total, crate::proofs::Weighed::wide_total))]
 fn total_with(table: &Table, row: u32, total: i128, weight: i128) -> Result<i128, WideAt>
     requires row { row < rows_of table.now }
-    requires values { HasValues table.now }
+    requires values { HasNoNegativeValue table.now }
     requires before { total ≡ total_to_row table.now row }
     requires total_within { unsigned_abs total ≤ PRINTED_LIMIT }
     requires weight { weight ≡ weight_of table.now row }
@@ -115,7 +115,7 @@ fn total_with(table: &Table, row: u32, total: i128, weight: i128) -> Result<i128
 
 /// The sum of the weights.
 fn total_of(table: &Table, rows: &[i128]) -> Result<i128, WideAt>
-    requires values { HasValues table.now }
+    requires values { HasNoNegativeValue table.now }
     requires rows { AreWeightRows table.now (rows_of table.now) rows.now }
     ensures value { IfOk result (λ r. r ≡ total_of table.now) }
     ensures within { IfOk result (λ r. unsigned_abs r ≤ PRINTED_LIMIT) }
@@ -131,7 +131,7 @@ fn total_of(table: &Table, rows: &[i128]) -> Result<i128, WideAt>
 /// The weights of a table's rows: the values of the rows whose basic column is a world, each times
 /// the least common multiple of their denominators, and their sum.
 pub fn weights_of(alloc: Global, table: &Table) -> Result<Weights, TableError>
-    requires { HasValues table.now }
+    requires { HasNoNegativeValue table.now }
     ensures value { IfOk result (AreWeights table.now) }
     ensures narrow { IfOk result (λ _. IsNarrow (ModelPlaces table.now)) }
     ensures refused { IfErr result (IsRefusedAt (ModelPlaces table.now)) }

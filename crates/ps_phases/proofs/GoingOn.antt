@@ -10,7 +10,7 @@ use Rattle.ps_pool.specs.declared.event.Event.{Event}
 use Rattle.ps_pool.specs.declared.event.Event.TheVariants.{Priced}
 use Rattle.ps_pool.specs.declared.col.Col.TheVariants as col
 use Rattle.ps_table.specs.Tableau.{Tableau, IsTableau, IsAdded, ExtendsSystem, number_in, entry_at, basic_at}
-use Rattle.ps_bland.specs.Ready.{HasValues}
+use Rattle.ps_bland.specs.Ready.{HasNoNegativeValue}
 use Rattle.ps_bland.specs.Runs as bland
 use Rattle.ps_claims.specs.declared.claim_kind.ClaimKind.{ClaimKind}
 use Rattle.ps_runs.specs.Rows.{phase_of, entries_of}
@@ -24,7 +24,7 @@ use Rattle.ps_phases.proofs.Settling.{LedBy, settled_leads}
 
 -- what `settle` leaves is a table of the run
 pub settled_table : (kind : ClaimKind) (s : Subject) (conflicts : ℕ) (pool : List World) (t u : Tableau) (events : List Event) → IsRunTable (setting_of s) pool t
-    → LedBy kind s conflicts pool t events u → IsTableau u → HasValues u → IsRunTable (setting_of s) pool u
+    → LedBy kind s conflicts pool t events u → IsTableau u → HasNoNegativeValue u → IsRunTable (setting_of s) pool u
 settled_table kind s conflicts pool t u events run led tableau values = record { kinds = led.kinds; worlds = led.worlds; tableau = tableau; stands = led.stands; values = values }
 
 module _ (kind : ClaimKind) (s : Subject) (conflicts : ℕ) where
@@ -41,7 +41,7 @@ module _ (kind : ClaimKind) (s : Subject) (conflicts : ℕ) where
 
   pub settled_goes_on : (from : Stage) (had : ℕ) (before : List Event) (pool : List World) (t u : Tableau) (trace longer : List Event) (left now : ℕ)
       → IsUnderWay kind s conflicts from had before pool t trace left
-      → bland.Ran (phase_of kind) (costs_for kind (setting_of s) pool) t u trace longer left now → IsTableau u → HasValues u
+      → bland.Ran (phase_of kind) (costs_for kind (setting_of s) pool) t u trace longer left now → IsTableau u → HasNoNegativeValue u
       → IsUnderWay kind s conflicts from had before pool u longer now
   settled_goes_on from had before pool t u trace longer left now way ran tableau values =
       let led : LedBy kind s conflicts pool t ran.events u = settled_leads kind s conflicts pool t ran.events u way.table.kinds way.table.worlds way.table.stands ran.run in

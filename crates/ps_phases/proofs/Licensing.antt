@@ -10,7 +10,7 @@ use Rattle.ps_table.specs.declared.place.WideAt.{WideAt}
 use Rattle.ps_table.specs.Tableau.{Tableau, rows_of as table_rows, entry_at, basic_at}
 use Rattle.ps_table.specs.Pricing.{cost_at}
 use Rattle.ps_table.specs.Places.{CostPlace, MultiplierPlace, WeightPlace, NewPlace, IsWideAt, HomePlaces, NewPlaces}
-use Rattle.ps_bland.specs.Rules.{simplex_of, IsDone}
+use Rattle.ps_bland.specs.Rules.{simplex_of, IsDueToEndIn}
 use Rattle.ps_bland.specs.Ends.{IsDueWide}
 use Rattle.ps_bland.specs.DuePlaces.{DuePlace}
 use Rattle.ps_bland.proofs.DuePlaces.{due_there}
@@ -41,7 +41,7 @@ module _ (s : Subject) (pool : List World) (t : Tableau) (run : IsRunTable (sett
   pub belongs_there : BelongsTo s g X
   belongs_there = (stands_there (setting_of s) pool t run.kinds run.worlds (columns_of (setting_of s) pool) run.stands).belongs
 
-  pub feasible_there : IsDone (phase_of Nothing) t → IsFeasibleAt s g X
+  pub feasible_there : IsDueToEndIn (phase_of Nothing) t → IsFeasibleAt s g X
   feasible_there done = record { belongs = belongs_there; feasible = subst (λ x. IsDueToEnd (phase_of Nothing) x) table_same done }
 
   pub resting_there : (kind : ClaimKind) → IsResting (phase_of kind) (simplex_of t) (cost_at (costs_for kind (setting_of s) pool)) → IsRestingAt kind s g X

@@ -18,9 +18,9 @@ use Rattle.ps_table.specs.declared.place.WideAt.{WideAt}
 use Rattle.ps_table.specs.Tableau.{Tableau, IsTableau, IsAdded, ExtendsSystem, IsTableForHomes, HasUnitHomes, HasBasicHomes, rows_of as table_rows, entry_at, basic_at}
 use Rattle.ps_table.specs.Pricing.{cost_at}
 use Rattle.ps_table.specs.Places.{MultiplierPlace, WeightPlace, weight_at, IsWideAt, HomePlaces, NewPlaces}
-use Rattle.ps_bland.specs.Rules.{simplex_of, IsDone}
+use Rattle.ps_bland.specs.Rules.{simplex_of, IsDueToEndIn}
 use Rattle.ps_bland.specs.Ends.{IsDueWide}
-use Rattle.ps_bland.specs.Ready.{HasValues, IsReady}
+use Rattle.ps_bland.specs.Ready.{HasNoNegativeValue, IsReady}
 use Rattle.ps_bland.specs.Runs as bland
 use Rattle.ps_answer.specs.declared.answer.Cause.TheVariants.{Wide}
 use Rattle.ps_answer.specs.declared.answer.Answer.{Answer}
@@ -68,7 +68,7 @@ pub record PhasesGoOn : Type 0 where
       → IsUnderWay kind s conflicts (stage_at pool t) left trace pool t trace left
   pub settled : (kind : ClaimKind) (s : Subject) (conflicts : ℕ) (from : Stage) (had : ℕ) (before : List Event) (pool : List World)
       (t u : Tableau) (trace longer : List Event) (left now : ℕ) → IsUnderWay kind s conflicts from had before pool t trace left
-      → bland.Ran (phase_of kind) (costs_for kind (setting_of s) pool) t u trace longer left now → IsTableau u → HasValues u
+      → bland.Ran (phase_of kind) (costs_for kind (setting_of s) pool) t u trace longer left now → IsTableau u → HasNoNegativeValue u
       → IsUnderWay kind s conflicts from had before pool u longer now
   pub fresh : (kind : ClaimKind) (s : Subject) (conflicts : ℕ) (pool : List World) (t : Tableau) (w : World) (number : ℕ)
       → IsRunTable (setting_of s) pool t → IsPricedBy kind s conflicts (stage_at pool t) (entry_at t) w → HasNumber pool w number → ⊥
@@ -95,7 +95,7 @@ pub record PricedWorldsTakePivots : Type 0 where
 
 -- where `settle` leaves a run's table, its stage is so
 pub record SettledStages : Type 0 where
-  pub feasible : (s : Subject) (pool : List World) (t : Tableau) → IsRunTable (setting_of s) pool t → IsDone (phase_of Nothing) t
+  pub feasible : (s : Subject) (pool : List World) (t : Tableau) → IsRunTable (setting_of s) pool t → IsDueToEndIn (phase_of Nothing) t
       → IsFeasibleAt s (stage_at pool t) (entry_at t)
   pub resting : (s : Subject) (pool : List World) (t : Tableau) → IsRunTable (setting_of s) pool t → (kind : ClaimKind)
       → IsResting (phase_of kind) (simplex_of t) (cost_at (costs_for kind (setting_of s) pool))

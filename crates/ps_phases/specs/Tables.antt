@@ -6,7 +6,7 @@ use Rattle.ps_table.specs.declared.home.Home.{Home}
 use Rattle.ps_table.specs.declared.home.Home.TheVariants.{Slack, Artificial}
 use Rattle.ps_table.specs.declared.costs.Costs.{Costs}
 use Rattle.ps_table.specs.Tableau.{Tableau, IsTableau, IsTableFor, basic_at}
-use Rattle.ps_bland.specs.Ready.{HasValues}
+use Rattle.ps_bland.specs.Ready.{HasNoNegativeValue}
 use Rattle.ps_claims.specs.declared.claim_kind.ClaimKind.{ClaimKind}
 use Rattle.ps_runs.specs.Rows.{Setting, artificial_rows, columns_of, home_cost, world_cost}
 use Rattle.ps_runs.specs.Runs.{Subject, setting_of, atoms_of, Stage, IsPool, LeadsTo, pivots_in}
@@ -30,7 +30,7 @@ pub record IsRunTable (s : Setting) (pool : List World) (t : Tableau) : Type 0 w
   pub worlds : t.worlds ≡ length pool
   pub tableau : IsTableau t
   pub stands : IsTableFor (columns_of s pool) t
-  pub values : HasValues t
+  pub values : HasNoNegativeValue t
 
 -- the stage at which a table stands
 abbrev pub stage_at : List World → Tableau → Stage

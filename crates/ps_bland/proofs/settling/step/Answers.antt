@@ -2,7 +2,7 @@ use Rattle.std.proofs.Common.{◌≡◌, ◌<◌, ℕ, length, Err, rules}
 use Rattle.ps_rule.specs.Rule.{Improves, Enters}
 use Rattle.ps_table.specs.Tableau.{number_in, number_of, HasColumn}
 use Rattle.ps_table.specs.Pricing.{cost_at}
-use Rattle.ps_bland.specs.Rules.{simplex_of, IsLawful, IsDone}
+use Rattle.ps_bland.specs.Rules.{simplex_of, IsLawful, IsDueToEndIn}
 use Rattle.ps_bland.specs.Rounds.{IsSame}
 use Rattle.ps_bland.specs.Ends.IsDueWide.{at_ratio}
 use Rattle.ps_bland.proofs.Steps.{due_refusal}
@@ -23,7 +23,7 @@ returns-in_err-leave-clause-round c =
     let w = c.in_err-leave.field-0.0 in
     let inside : HasColumn t c.in-Some.enter = search rules in
     let enters : Enters (simplex_of t) (cost_at c.args.costs.now) (number_of t c.in-Some.enter) = search rules in
-    let unfinished : IsDone c.args.phase t → ⊥ = search rules in
+    let unfinished : IsDueToEndIn c.args.phase t → ⊥ = search rules in
     let same : IsSame t t c.args.trace.now c.args.trace.now = search rules in
     let some : 0 < c.args.left.now = search rules in
     let e : c.from_residual-in_err-leave.result ≡ Err (refused.Wide w) = search rules in

@@ -1,7 +1,7 @@
 use Rattle.std.proofs.Common.{rules, ◌≡◌, ap}
 use Rattle.ps_rule.specs.Rule.{IsMoving, IsResting}
 use Rattle.ps_table.specs.Pricing.{cost_at}
-use Rattle.ps_bland.specs.Rules.{simplex_of, IsDone}
+use Rattle.ps_bland.specs.Rules.{simplex_of, IsDueToEndIn}
 use Rattle.ps_bland.specs.Ends.{IsDueRefusal}
 use Rattle.ps_runs.specs.Rows.{phase_of}
 use Rattle.ps_generation.specs.Phases.{IsInPhase}
@@ -28,7 +28,7 @@ returns-in-Ok-Feasible-clause-phase c = phase_kept (goal.at.returns-in-Ok-Feasib
 
 pub returns-in-Ok-Feasible-clause-end : goal.returns-in-Ok-Feasible-clause-end
 returns-in-Ok-Feasible-clause-end c =
-    let done : IsDone (phase_of c.args.kind) c.pivoted.new.state.table = rw c.in-Ok-Feasible.field-0-is at c.in-Ok-Feasible.ensures.end in
+    let done : IsDueToEndIn (phase_of c.args.kind) c.pivoted.new.state.table = rw c.in-Ok-Feasible.field-0-is at c.in-Ok-Feasible.ensures.end in
     settled_done c.args.kind c.args.setting.now c.args.costs.now c.args.state.now c.pivoted.new.state c.requires.phase c.pivoted.ensures.pool c.pivoted.ensures.ran
     c.pivoted.ensures.tableau c.pivoted.ensures.ready done
 
