@@ -6,10 +6,7 @@ use Rattle.ps_rational.specs.Sums.{sum_to}
 use Rattle.ps_rational.proofs.Ring.{var, plus, by, minus, none, unit}
 use Rattle.ps_rational.proofs.Field.{ring_q, one_not_zero}
 use Rattle.ps_rational.proofs.Order.{nonneg-add, nonneg-mul, not_less, zero_nonneg, both_signs}
-use Rattle.ps_rational.proofs.Sums.{sum_same, sum_of_zeros, sum_nonneg, sum_parts_zero, sum-neg}
-
-sum_all_zero : (n : ℕ) (f : ℕ → Rational) → ((i : ℕ) → i < n → f i ≡ zero_q) → sum_to n f ≡ zero_q
-sum_all_zero n f h = sum_same n f (λ _. zero_q) h ∙ sum_of_zeros n
+use Rattle.ps_rational.proofs.Sums.{sum_all_zero, sum_nonneg, sum_parts_zero, sum-neg}
 
 -- with no cost below 0 and no entry above 0, nothing is carried
 pub carried_not_above : (n : ℕ) (c x : ℕ → Rational) → ((i : ℕ) → i < n → IsNonneg (c i)) → ((i : ℕ) → i < n → IsNonneg (neg (x i))) → IsNonneg (neg (sum_to n (λ i. mul (c i) (x i))))
