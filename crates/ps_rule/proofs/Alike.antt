@@ -1,5 +1,5 @@
 -- What the rule says of one table it says of each that is alike.
-use Rattle.std.proofs.Common.{◌≡◌, ℕ, ◌<◌, Bool, List, [], ◌∷◌, ◌++◌, sym, refl, ap, ◌∙◌, subst, inl, inr}
+use Rattle.std.proofs.Common.{◌≡◌, ℕ, ◌<◌, Bool, List, [], ◌∷◌, ◌++◌, append-nil, append_assoc, sym, refl, ap, ◌∙◌, subst, inl, inr}
 use Rattle.std.proofs.lemmas.Bool.{cases_eq}
 use Rattle.ps_rational.specs.Rational.{Rational, mul, div}
 use Rattle.ps_rational.specs.Order.{AtMost, IsLess, IsAbove}
@@ -8,9 +8,9 @@ use Rattle.ps_basis.specs.Table.{Based, IsBasis, AreSameWithin, HaveSameCosts}
 use Rattle.ps_basis.proofs.Agreeing.{same_carried, same_belongs}
 use Rattle.ps_rule.specs.declared.phase.Phase.{Phase}
 use Rattle.ps_rule.specs.declared.phase.Phase.TheVariants.{One, Lower, Upper}
-use Rattle.ps_rule.specs.Rule.{SimplexTable, Improves, IsFeasible, IsDueToEnd, IsMoving, IsResting, Enters, IsArtificialRow, IsLeastArtificialRow, IsRising, ratio, Precedes, HasLeastRatio, LeavesInPhaseTwo, Leaves}
+use Rattle.ps_rule.specs.Rule.{SimplexTable, table_of, Improves, IsFeasible, IsDueToEnd, IsMoving, IsResting, Enters, IsArtificialRow, IsLeastArtificialRow, IsRising, ratio, Precedes, HasLeastRatio, LeavesInPhaseTwo, Leaves}
 use Rattle.ps_rule.specs.Pivots.{System, system_of, IsLawfulAt, Pivot, Pivots, still, more}
-use Rattle.ps_rule.specs.Laws.{HaveSameArtificials, AreAlike, table_of}
+use Rattle.ps_rule.specs.Laws.{HaveSameArtificials, AreAlike}
 
 module _ (n w : ℕ) (basic : ℕ → ℕ) (a b : ℕ → Bool) (cost other : ℕ → Rational) (X Y : ℕ → ℕ → Rational) where
   pub turned : AreAlike n w basic a b cost other X Y → AreAlike n w basic b a other cost Y X
@@ -144,16 +144,9 @@ module _ (phase : Phase) (n w : ℕ) (a b : ℕ → Bool) (A B : ℕ → ℕ →
       let r = same_pivots x m ps hb first in
       (more x m y ps q p r.0 (lawful m q p r.1 at) based, basis_kept n w p q m y r.1 at.enters.improves.within based)
 
-none_after : {A : Type 0} (xs : List A) → xs ++ [] ≡ xs
-none_after [] = refl
-none_after (x ∷ xs) = ap (λ r. x ∷ r) (none_after xs)
-
-joined : {A : Type 0} (xs ys zs : List A) → (xs ++ ys) ++ zs ≡ xs ++ (ys ++ zs)
-joined [] ys zs = refl
-joined (x ∷ xs) ys zs = ap (λ r. x ∷ r) (joined xs ys zs)
-
+-- pivots after pivots are pivots
 pub compose : (phase : Phase) (s : System) (cost : ℕ → Rational) (w : ℕ) (a b c : ℕ → ℕ) (before after : List Pivot) → Pivots phase s cost w a before b → Pivots phase s cost w b after c → Pivots phase s cost w a (before ++ after) c
-compose phase s cost w a b c before after first (still z) = subst (λ ps. Pivots phase s cost w a ps b) (sym (none_after before)) first
+compose phase s cost w a b c before after first (still z) = subst (λ ps. Pivots phase s cost w a ps b) (sym (append-nil before)) first
 compose phase s cost w a b c before after first (more z m d ps q p rest at based) =
-    subst (λ k. Pivots phase s cost w a k c) (joined before ps (record { enter = q; leave = p } ∷ []))
+    subst (λ k. Pivots phase s cost w a k c) (append_assoc before ps (record { enter = q; leave = p } ∷ []))
     (more a m c (before ++ ps) q p (compose phase s cost w a b m before ps first rest) at based)

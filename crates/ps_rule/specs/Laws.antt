@@ -5,7 +5,7 @@ use Rattle.ps_rational.specs.Order.{IsNonneg, AtMost, IsLess}
 use Rattle.ps_rational.specs.Sums.{sum_to, int_sum_to}
 use Rattle.ps_basis.specs.Table.{IsBasisTable, IsBasis, AreSameWithin, HaveSameCosts}
 use Rattle.ps_rule.specs.declared.phase.Phase.{Phase}
-use Rattle.ps_rule.specs.Rule.{SimplexTable, carried, Improves, IsDueToEnd, IsMoving, IsResting, Enters, Leaves}
+use Rattle.ps_rule.specs.Rule.{SimplexTable, table_of, carried, Improves, IsDueToEnd, IsMoving, IsResting, Enters, Leaves}
 use Rattle.ps_rule.specs.Pivots.{System, system_of, simplex_table, IsLawfulAt, Pivot, Pivots}
 
 -- two pivots by the rule at a basis whose table is kept by pivots are the same
@@ -79,10 +79,6 @@ pub record AreAlike (n w : ℕ) (basic : ℕ → ℕ) (a b : ℕ → Bool) (cost
   pub artificials : HaveSameArtificials w a b
   pub costs : HaveSameCosts w cost other
   pub entries : AreSameWithin n w X Y
-
--- a table of n rows and w columns, with these artificials
-abbrev pub table_of : ℕ → ℕ → (ℕ → ℕ) → (ℕ → Bool) → (ℕ → ℕ → Rational) → SimplexTable
-table_of n w basic a X = record { rows = n; width = w; entry = X; basic = basic; artificial = a }
 
 -- what the rule says of one table it says of each that is alike
 pub record RuleReadsTheTable : Type 0 where

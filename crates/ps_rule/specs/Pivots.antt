@@ -3,7 +3,7 @@ use Rattle.std.specs.Prelude.{ℕ, Bool, List, [], ◌∷◌, ◌++◌}
 use Rattle.ps_rational.specs.Rational.{Rational}
 use Rattle.ps_basis.specs.Table.{Belongs, Based}
 use Rattle.ps_rule.specs.declared.phase.Phase.{Phase}
-use Rattle.ps_rule.specs.Rule.{SimplexTable, Enters, IsDueToEnd, Leaves}
+use Rattle.ps_rule.specs.Rule.{SimplexTable, table_of, Enters, IsDueToEnd, Leaves}
 
 -- rows and columns: column 0 is the right side, then come the homes, then the worlds
 pub record System : Type 0 where
@@ -17,7 +17,7 @@ system_of n artificial A = record { rows = n; artificial = artificial; columns =
 
 -- a table of the system, of w columns, as the rule sees it
 abbrev pub simplex_table : System → ℕ → (ℕ → ℕ) → (ℕ → ℕ → Rational) → SimplexTable
-simplex_table s w basic X = record { rows = s.rows; width = w; entry = X; basic = basic; artificial = s.artificial }
+simplex_table s w basic X = table_of s.rows w basic s.artificial X
 
 -- a pivot by the rule at a table of the basis, with w columns
 pub record IsLawfulAt (phase : Phase) (s : System) (cost : ℕ → Rational) (w : ℕ) (basic : ℕ → ℕ) (q p : ℕ) : Type 0 where

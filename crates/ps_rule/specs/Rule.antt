@@ -14,6 +14,10 @@ pub record SimplexTable : Type 0 where
   pub basic : ℕ → ℕ
   pub artificial : ℕ → Bool
 
+-- the table of n rows and w columns with this basis, these artificials and these entries
+abbrev pub table_of : ℕ → ℕ → (ℕ → ℕ) → (ℕ → Bool) → (ℕ → ℕ → Rational) → SimplexTable
+table_of n w basic a X = record { rows = n; width = w; entry = X; basic = basic; artificial = a }
+
 -- the sum of the basic columns' costs times the entries of column j
 abbrev pub carried : SimplexTable → (ℕ → Rational) → ℕ → Rational
 carried f cost j = carried_by f.rows cost f.basic f.entry j
