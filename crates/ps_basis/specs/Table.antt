@@ -9,7 +9,7 @@ pub record Pivoted (n w p q : ℕ) (X Y : ℕ → ℕ → Rational) : Type 0 whe
   pub row : (j : ℕ) → j < w → Y p j ≡ div (X p j) (X p q)
   pub others : (i j : ℕ) → i < n → j < w → i ≢ p → Y i j ≡ sub (X i j) (mul (X i q) (Y p j))
 
--- the basis after it
+-- after a pivot in row p and column q the basis has column q in row p, and in each other row the column that it had
 pub record Based (n p q : ℕ) (old new : ℕ → ℕ) : Type 0 where
   pub here : new p ≡ q
   pub others : (i : ℕ) → i < n → i ≢ p → new i ≡ old i
