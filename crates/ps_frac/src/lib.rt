@@ -13,7 +13,7 @@ mod sums;
 mod wide;
 
 pub use fraction::Fraction;
-pub use limits::{MOST_MULTIPLE, SIZE_LIMIT};
+pub use limits::{MOST_MULTIPLE, SIZE_LIMIT, limits_have_these_numbers};
 pub use multiples::lcm_upto;
 pub use wide::{Op, Wide};
 

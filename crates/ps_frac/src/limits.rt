@@ -1,5 +1,9 @@
 //! The limits of the numbers.
 
+ghost use Rattle.std.specs.Prelude.{◌≡◌, ◌^◌, pos};
+ghost use Rattle.ps_rational.specs.Wide.{size_limit};
+ghost use Rattle.ps_frac.specs.declared.limits.TheConstants.{SIZE_LIMIT, MOST_MULTIPLE};
+
 /// Above the size of every number that a fraction holds.
 pub const SIZE_LIMIT: u128 = 1 << 127;
 
@@ -11,3 +15,9 @@ pub(crate) const WORD: u128 = 1 << 64;
 
 /// Sizes below it fit `i64`, and the product of two of them fits a fraction.
 pub(crate) const HALF_WORD: u128 = 1 << 63;
+
+/// The limits by their numbers.
+pub fn limits_have_these_numbers()
+    ensures size { SIZE_LIMIT ≡ size_limit }
+    ensures multiple { MOST_MULTIPLE ≡ pos (2 ^ 126) }
+{}
