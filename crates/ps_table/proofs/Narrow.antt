@@ -12,7 +12,8 @@ use Rattle.ps_table.specs.declared.place.WideAt.{WideAt}
 use Rattle.ps_table.specs.declared.place.TableCol.{TableCol}
 use Rattle.ps_table.specs.declared.place.TableCol.TheVariants.{Right, Of}
 use Rattle.ps_table.specs.Tableau.{number_in, number_shown, IsShown}
-use Rattle.ps_table.specs.Places.{IsWide, IsOperationWide, PivotPlace, at_scale, at_times, at_minus, NewPlace, at_new_times, at_new_plus, CostPlace, at_cost, cost_part, IsNarrow}
+use Rattle.ps_table.specs.Places.{IsWide, IsOperationWide, PivotPlace, at_scale, at_times, at_minus, NewPlace, at_new_times, at_new_plus, CostPlace, at_cost, IsNarrow}
+use Rattle.ps_table.specs.Pricing.{cost_part}
 use Rattle.ps_table.specs.Grids.{IsNarrowCell, IsNarrowPart}
 use Rattle.ps_table.proofs.Columns.{cell_within, number_within}
 

@@ -10,7 +10,8 @@ use Rattle.ps_table.specs.declared.place.Place.{Place}
 use Rattle.ps_table.specs.declared.place.WideAt.{WideAt}
 use Rattle.ps_table.specs.declared.pivot.Pivot.{Pivot}
 use Rattle.ps_table.specs.declared.limits.TheConstants.{MOST_ROWS}
-use Rattle.ps_table.specs.Tableau.{Tableau, cell_at, entry_at, number_of, world_limit, world_entry}
+use Rattle.ps_table.specs.Tableau.{Tableau, cell_at, entry_at, number_of, rows_of, world_entry}
+use Rattle.ps_pool.specs.declared.pool.TheConstants.{MOST_WORLDS}
 use Rattle.ps_pool.specs.declared.col.Col.{Col}
 use Rattle.ps_pool.specs.declared.col.Col.TheVariants as col
 use Rattle.ps_basis.specs.Table.{unit_at}
@@ -35,8 +36,8 @@ cell_in g i j = cell_at g.rows g.cells i j
 -- the right side, a home for each row, and the worlds
 pub record IsGrid (g : GridCells) : Type 0 where
   pub few : g.rows ≤ MOST_ROWS
-  pub many : g.worlds < world_limit
-  pub size : length g.cells ≡ suc (g.rows + g.worlds) * g.rows
+  pub many : g.worlds ≤ MOST_WORLDS
+  pub size : length g.cells ≡ width g * g.rows
 
 -- each number of column j is below the limit of sizes
 abbrev pub ColumnFits : GridCells → ℕ → Type 0
@@ -48,7 +49,7 @@ cells_of n worlds cells = record { rows = n; worlds = worlds; cells = cells }
 
 -- the grid of a table
 abbrev pub grid_of : Tableau → GridCells
-grid_of t = record { rows = length t.kinds; worlds = t.worlds; cells = t.cells }
+grid_of t = cells_of (rows_of t) t.worlds t.cells
 
 -- the cells of the homes of n rows: units, of which the first is the right side too
 abbrev pub AreUnits : ℕ → List Rational → Type 0
@@ -66,7 +67,7 @@ carried_before t costs c i = carried_to t costs (number_of t c) i
 abbrev pub IsSumNarrowAt : Tableau → Costs → Col → ℕ → Type 0
 IsSumNarrowAt t costs c i = ¬ IsOperationWide Add (carried_to t costs (number_of t c) i) (part_at t costs (number_of t c) i)
 
--- a refusal at this place
+-- a refusal of this operation on these operands, at this place
 abbrev pub Names : Place → Op → Rational → Rational → WideAt → Type 0
 Names at operation first second w = w ≡ record { place = at; op = operation; left = first; right = second }
 
@@ -79,7 +80,7 @@ pivot_cell X p q i j = cond (eqb i p) (div (X p j) (X p q)) (sub (X i j) (mul (X
 pub record IsPivotOf (g : GridCells) (p : Pivot) : Type 0 where
   pub grid : IsGrid g
   pub row : p.row < g.rows
-  pub column : p.column < suc (g.rows + g.worlds)
+  pub column : p.column < width g
   pub by_is : p.by ≡ cell_in g p.row p.column
   pub not_zero : cell_in g p.row p.column ≢ zero_q
 
@@ -87,13 +88,13 @@ pub record IsPivotOf (g : GridCells) (p : Pivot) : Type 0 where
 pub record IsOtherCell (g : GridCells) (p : Pivot) (i j : ℕ) : Type 0 where
   pub row : i < g.rows
   pub other : i ≢ p.row
-  pub column : j < suc (g.rows + g.worlds)
+  pub column : j < width g
 
--- the pivot's row of column j after it
+-- the entry of the pivot's row in column j after the pivot
 abbrev pub scaled_in : GridCells → Pivot → ℕ → Rational
 scaled_in g p j = div (cell_in g p.row j) (cell_in g p.row p.column)
 
--- what row i of column j loses
+-- what row i of column j loses in the pivot
 abbrev pub lost_in : GridCells → Pivot → ℕ → ℕ → Rational
 lost_in g p i j = mul (cell_in g i p.column) (scaled_in g p j)
 
@@ -137,7 +138,7 @@ pub record ArePivoted (g : GridCells) (p : Pivot) (made : List Rational) : Type 
 
 -- the cells of a table after a pivot in row p and column q
 abbrev pub ArePivotedIn : Tableau → ℕ → Col → List Rational → Type 0
-ArePivotedIn t p q made = (k : ℕ) → k < length t.cells → get_or made k zero_q ≡ pivot_cell (entry_at t) p (number_of t q) (k % length t.kinds) (k / length t.kinds)
+ArePivotedIn t p q made = (k : ℕ) → k < length t.cells → get_or made k zero_q ≡ pivot_cell (entry_at t) p (number_of t q) (k % rows_of t) (k / rows_of t)
 
 -- ---- new columns
 -- entries of a new world, one for each row

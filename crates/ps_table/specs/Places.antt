@@ -1,5 +1,5 @@
 -- The places where an operation can be refused, each with its operands, over a basis and the entries of its table.
-use Rattle.std.specs.Prelude.{◌≢◌, ℕ, suc, ◌<◌, List, length, ℤ, pos, unsigned_abs, if◌then◌else◌}
+use Rattle.std.specs.Prelude.{◌≢◌, ℕ, suc, ◌<◌, List, ℤ, pos, unsigned_abs, if◌then◌else◌}
 use Rattle.std.proofs.Common.{ltb}
 use Rattle.ps_frac.specs.declared.wide.Op.{Op}
 use Rattle.ps_frac.specs.declared.wide.Op.TheVariants.{Add, Sub, Mul, Div, Lcm}
@@ -20,8 +20,8 @@ use Rattle.ps_table.specs.declared.error.TableError.TheVariants as refused
 use Rattle.ps_table.specs.declared.costs.Costs.{Costs}
 use Rattle.ps_pool.specs.declared.col.Col.{Col}
 use Rattle.ps_pool.specs.declared.col.Col.TheVariants as col
-use Rattle.ps_table.specs.Tableau.{Tableau, number_in, number_shown, number_of, IsShown, entry_at, basic_at, world_entry}
-use Rattle.ps_table.specs.Pricing.{cost_at}
+use Rattle.ps_table.specs.Tableau.{Tableau, number_in, number_shown, number_of, rows_of, IsShown, entry_at, basic_at, world_entry}
+use Rattle.ps_table.specs.Pricing.{cost_at, cost_part}
 
 -- ---- when an operation is refused
 -- a named number of the operation is too large; a common multiple has none, since its places are of printed numbers
@@ -75,10 +75,6 @@ pub data NewPlace (n : ℕ) (X : ℕ → ℕ → Rational) (entries : List ℤ) 
   at_new_plus : (i m : ℕ) → i < n → m < n
       → NewPlace n X entries (NewPlus i m) Add (sum_to m (new_part X entries i)) (new_part X entries i m)
 
--- what row i carries of column j
-abbrev pub cost_part : (ℕ → Rational) → (ℕ → ℕ) → (ℕ → ℕ → Rational) → ℕ → ℕ → Rational
-cost_part cost basic X j i = mul (cost (basic i)) (X i j)
-
 -- the places of what the rows carry of column c, each with its operation and operands
 pub data CostPlace (n : ℕ) (cost : ℕ → Rational) (basic : ℕ → ℕ) (X : ℕ → ℕ → Rational) (c : Col) : Place → Op → Rational → Rational → Type 0 where
   at_cost : (i : ℕ) → i < n
@@ -128,15 +124,15 @@ pub data WeightPlace (n : ℕ) (basic : ℕ → ℕ) (X : ℕ → ℕ → Ration
 -- ---- the places of a table's calls
 -- the places of a pivot in a table
 abbrev pub PivotPlaces : Tableau → ℕ → Col → Place → Op → Rational → Rational → Type 0
-PivotPlaces t p q = PivotPlace (length t.kinds) t.worlds (entry_at t) p (number_of t q)
+PivotPlaces t p q = PivotPlace (rows_of t) t.worlds (entry_at t) p (number_of t q)
 
 -- the places of a new world's column in a table
 abbrev pub NewPlaces : Tableau → List ℤ → Place → Op → Rational → Rational → Type 0
-NewPlaces t entries = NewPlace (length t.kinds) (entry_at t) entries
+NewPlaces t entries = NewPlace (rows_of t) (entry_at t) entries
 
 -- the places of what the rows of a table carry of a column
 abbrev pub CostPlaces : Tableau → Costs → Col → Place → Op → Rational → Rational → Type 0
-CostPlaces t costs c = CostPlace (length t.kinds) (cost_at costs) (basic_at t) (entry_at t) c
+CostPlaces t costs c = CostPlace (rows_of t) (cost_at costs) (basic_at t) (entry_at t) c
 
 -- the places of the multiplier of a row of a table
 abbrev pub HomePlaces : Tableau → Costs → ℕ → Place → Op → Rational → Rational → Type 0

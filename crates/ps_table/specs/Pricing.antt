@@ -3,7 +3,7 @@ use Rattle.std.specs.Prelude.{◌≡◌, ℕ, suc, ◌-◌, ◌<◌, ◌≤◌, 
 use Rattle.ps_pool.specs.declared.col.Col.{Col}
 use Rattle.ps_table.specs.declared.costs.Costs.{Costs}
 use Rattle.ps_rational.specs.Rational.{Rational, fraction, mul}
-use Rattle.ps_rational.specs.Sums.{sum_to}
+use Rattle.ps_basis.specs.Table.{carried_by}
 use Rattle.ps_table.specs.Tableau.{Tableau, IsInside, entry_at, basic_at, number_of, rows_of}
 
 -- the costs are from -1 to 1
@@ -15,7 +15,7 @@ pub record HasSmallCosts (costs : Costs) : Type 0 where
 
 -- there is a cost for each column
 pub record HasCosts (costs : Costs) (t : Tableau) : Type 0 where
-  pub homes : length costs.homes ≡ length t.kinds
+  pub homes : length costs.homes ≡ rows_of t
   pub worlds : t.worlds ≤ length costs.worlds
   pub small : HasSmallCosts costs
 
@@ -31,13 +31,17 @@ cost_number costs j = get_or (costs.homes ++ costs.worlds) (j - 1) (pos 0)
 abbrev pub cost_at : Costs → ℕ → Rational
 cost_at costs j = fraction (cost_number costs j) 1
 
--- what row i carries of column j
+-- what row i carries of column j, by the costs of the basic columns
+abbrev pub cost_part : (ℕ → Rational) → (ℕ → ℕ) → (ℕ → ℕ → Rational) → ℕ → ℕ → Rational
+cost_part cost basic X j i = mul (cost (basic i)) (X i j)
+
+-- what row i of a table carries of column j
 abbrev pub part_at : Tableau → Costs → ℕ → ℕ → Rational
-part_at t costs j i = mul (cost_at costs (basic_at t i)) (entry_at t i j)
+part_at t costs j i = cost_part (cost_at costs) (basic_at t) (entry_at t) j i
 
 -- what the rows before row n carry of column j
 abbrev pub carried_to : Tableau → Costs → ℕ → ℕ → Rational
-carried_to t costs j n = sum_to n (part_at t costs j)
+carried_to t costs j n = carried_by n (cost_at costs) (basic_at t) (entry_at t) j
 
 -- what the rows carry of a column
 abbrev pub carried_of : Tableau → Costs → Col → Rational

@@ -1,7 +1,8 @@
 -- A table as its callers see it: the kinds of the homes, the columns one after the other, and the basic columns.
-use Rattle.std.specs.Prelude.{◌≡◌, ℕ, suc, ◌+◌, ◌-◌, ◌*◌, ◌^◌, ◌<◌, ◌≤◌, List, get_or, length, set, ℤ, pos}
+use Rattle.std.specs.Prelude.{◌≡◌, ℕ, suc, ◌+◌, ◌-◌, ◌*◌, ◌<◌, ◌≤◌, List, get_or, length, set, ℤ, pos}
 use Rattle.ps_table.specs.declared.home.Home.{Home}
 use Rattle.ps_table.specs.declared.limits.TheConstants.{MOST_ROWS}
+use Rattle.ps_pool.specs.declared.pool.TheConstants.{MOST_WORLDS}
 use Rattle.ps_pool.specs.declared.col.Col.{Col}
 use Rattle.ps_pool.specs.declared.col.Col.TheVariants as col
 use Rattle.ps_table.specs.declared.place.TableCol.{TableCol}
@@ -9,10 +10,6 @@ use Rattle.ps_table.specs.declared.place.TableCol.TheVariants.{Right, Of}
 use Rattle.ps_rational.specs.Rational.{Rational, fraction, mul, zero_q}
 use Rattle.ps_rational.specs.Sums.{sum_to}
 use Rattle.ps_basis.specs.Table.{IsBasisTable, Pivoted, Based, HasHomes, unit_at}
-
--- a table has fewer worlds than this
-abbrev pub world_limit : ℕ
-world_limit = 2 ^ 32
 
 -- a table as it is seen: the kind of each home, the number of worlds, the cells column by column, and the basic columns
 pub record Tableau : Type 0 where
@@ -48,15 +45,15 @@ rows_of t = length t.kinds
 
 -- how many columns, with the right side
 abbrev pub width_of : Tableau → ℕ
-width_of t = suc (length t.kinds + t.worlds)
+width_of t = suc (rows_of t + t.worlds)
 
 -- the number of a table's column
 abbrev pub number_of : Tableau → Col → ℕ
-number_of t c = number_in (length t.kinds) c
+number_of t c = number_in (rows_of t) c
 
 -- a table has the column
 abbrev pub HasColumn : Tableau → Col → Type 0
-HasColumn t c = IsInside (length t.kinds) t.worlds c
+HasColumn t c = IsInside (rows_of t) t.worlds c
 
 -- row i of column j, in columns of n rows
 abbrev pub cell_at : ℕ → List Rational → ℕ → ℕ → Rational
@@ -64,7 +61,7 @@ cell_at n cells i j = get_or cells (j * n + i) zero_q
 
 -- the entry of a row in the column of this number
 abbrev pub entry_at : Tableau → ℕ → ℕ → Rational
-entry_at t i j = cell_at (length t.kinds) t.cells i j
+entry_at t i j = cell_at (rows_of t) t.cells i j
 
 -- the entry of a row in a column
 abbrev pub entry_of : Tableau → ℕ → Col → Rational
@@ -72,22 +69,22 @@ entry_of t i c = entry_at t i (number_of t c)
 
 -- the number of the column that is basic in a row
 abbrev pub basic_at : Tableau → ℕ → ℕ
-basic_at t i = number_in (length t.kinds) (get_or t.basic i (col.Home 0))
+basic_at t i = number_in (rows_of t) (get_or t.basic i (col.Home 0))
 
 -- a table as it is kept: some rows, at most as many as may be; a cell for each row and column; in each row one of its columns
 -- is basic
 pub record IsTableau (t : Tableau) : Type 0 where
-  pub some : 0 < length t.kinds
-  pub few : length t.kinds ≤ MOST_ROWS
-  pub many : t.worlds < world_limit
-  pub cells : length t.cells ≡ suc (length t.kinds + t.worlds) * length t.kinds
-  pub basics : length t.basic ≡ length t.kinds
-  pub inside : (i : ℕ) → i < length t.kinds → IsInside (length t.kinds) t.worlds (get_or t.basic i (col.Home 0))
+  pub some : 0 < rows_of t
+  pub few : rows_of t ≤ MOST_ROWS
+  pub many : t.worlds ≤ MOST_WORLDS
+  pub cells : length t.cells ≡ width_of t * rows_of t
+  pub basics : length t.basic ≡ rows_of t
+  pub inside : (i : ℕ) → i < rows_of t → IsInside (rows_of t) t.worlds (get_or t.basic i (col.Home 0))
 
 -- ---- the systems of rows and columns that a table is of
 -- the table is that of its basis, for rows and columns A
 abbrev pub IsTableFor : (ℕ → ℕ → Rational) → Tableau → Type 0
-IsTableFor A t = IsBasisTable (length t.kinds) (suc (length t.kinds + t.worlds)) A (basic_at t) (entry_at t)
+IsTableFor A t = IsBasisTable (rows_of t) (width_of t) A (basic_at t) (entry_at t)
 
 -- whatever system of rows and columns a table was of, it is of after the change
 abbrev pub KeepsSystem : Tableau → Tableau → Type 0

@@ -1,8 +1,8 @@
 //! Cells of columns that stand one after the other, and the numbers of columns.
-ghost use Rattle.std.specs.Prelude.{◌≡◌, ℕ, suc, ◌+◌, ◌*◌, ◌^◌, ◌<◌, ◌≤◌, length};
+ghost use Rattle.std.specs.Prelude.{◌≡◌, ℕ, suc, ◌+◌, ◌*◌, ◌<◌, ◌≤◌, length};
+ghost use Rattle.ps_pool.specs.declared.pool.TheConstants.{MOST_WORLDS};
 ghost use Rattle.ps_table.specs.Tableau.{number_in, number_shown, IsInside, IsShown, cell_at};
 ghost use Rattle.ps_table.specs.declared.limits.TheConstants.{MOST_ROWS};
-ghost use Rattle.ps_table.specs.Tableau.{world_limit};
 
 use crate::place::TableCol;
 use ps_frac::Fraction;
@@ -31,7 +31,7 @@ pub(crate) fn number_of(rows: usize, col: Col) -> usize
 /// The column of a number.
 pub(crate) fn shown(rows: usize, column: usize) -> TableCol
     requires few { rows ≤ MOST_ROWS }
-    requires many { column < rows + world_limit }
+    requires many { column ≤ rows + MOST_WORLDS }
     ensures number { number_shown rows result ≡ column }
     ensures shown { (worlds : ℕ) → column ≤ rows + worlds → IsShown rows worlds result }
 {

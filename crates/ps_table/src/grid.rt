@@ -1,8 +1,9 @@
 //! The entries of a table by row and column.
 ghost use Rattle.std.specs.Prelude.{◌≡◌, suc, ◌+◌, ◌*◌, ◌<◌, ◌≤◌, length};
+ghost use Rattle.ps_pool.specs.declared.pool.TheConstants.{MOST_WORLDS};
 ghost use Rattle.ps_table.specs.declared.limits.TheConstants.{MOST_ROWS};
-ghost use Rattle.ps_table.specs.Tableau.{world_limit, number_shown, IsShown};
-ghost use Rattle.ps_table.specs.Grids.{GridCells, IsGrid, ColumnFits, cell_in, width};
+ghost use Rattle.ps_table.specs.Tableau.{number_shown, IsShown};
+ghost use Rattle.ps_table.specs.Grids.{IsGrid, ColumnFits, cell_in, cells_of, width};
 
 use crate::cells::{cell, shown};
 use crate::place::TableCol;
@@ -31,9 +32,9 @@ impl<'a> Grid<'a> {
     /// The grid of columns of so many rows.
     pub(crate) fn of(rows: usize, worlds: usize, cells: &'a [Fraction]) -> Grid<'a>
         requires few { rows ≤ MOST_ROWS }
-        requires many { worlds < world_limit }
+        requires many { worlds ≤ MOST_WORLDS }
         requires size { length cells.now ≡ suc (rows + worlds) * rows }
-        ensures value { result ≡ record { rows = rows; worlds = worlds; cells = cells.now } }
+        ensures value { result ≡ cells_of rows worlds cells.now }
     {
         Grid {
             rows,

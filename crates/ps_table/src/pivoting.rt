@@ -16,7 +16,7 @@ use crate::place::{Place, WideAt};
 use ps_frac::Fraction;
 use std::alloc::Global;
 
-/// A quotient of the pivot's row, where its entry isn't 0.
+/// The new entry of the pivot's row in a column: the old one, divided by the pivot's.
 fn quotient(grid: &Grid<'_>, pivot: &Pivot, column: usize) -> Result<Fraction, WideAt>
     requires pivot { IsPivotOf grid.now pivot.now }
     requires column { column < width grid.now }
@@ -109,8 +109,8 @@ fn push_cell(
     Ok(())
 }
 
-/// Appends the changes of a column, by the pivot's new row.
-fn push_column(
+/// Appends the changes of a column's cells, by the pivot's new row.
+fn push_cells(
     changes: &mut Vec<Change>,
     grid: &Grid<'_>,
     pivot: &Pivot,
@@ -132,7 +132,7 @@ fn push_column(
 }
 
 /// Appends the changes of a column; a column with a 0 in the pivot's row has none.
-fn with_column(
+fn push_column(
     changes: &mut Vec<Change>,
     grid: &Grid<'_>,
     pivot: &Pivot,
@@ -152,7 +152,7 @@ fn with_column(
         return Ok(());
     }
     let scaled = quotient(grid, pivot, column)?;
-    push_column(changes, grid, pivot, &scaled, column)
+    push_cells(changes, grid, pivot, &scaled, column)
 }
 
 /// The changes of a pivot.
@@ -169,7 +169,7 @@ pub(crate) fn pivot_changes(
 {
     let mut changes = Vec::new(alloc);
     for column in 0..grid.width() {
-        with_column(&mut changes, grid, pivot, column)?;
+        push_column(&mut changes, grid, pivot, column)?;
     }
     Ok(changes)
 }

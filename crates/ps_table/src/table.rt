@@ -1,8 +1,9 @@
 //! The table of a basis.
 ghost use Rattle.std.specs.Prelude.{◌≡◌, ◌≢◌, suc, ◌+◌, ◌<◌, ◌≤◌, length, get_or, IfOk, IfErr};
 ghost use Rattle.ps_rational.specs.Rational.{zero_q};
+ghost use Rattle.ps_pool.specs.declared.pool.TheConstants.{MOST_WORLDS};
 ghost use Rattle.ps_table.specs.declared.limits.TheConstants.{MOST_ROWS};
-ghost use Rattle.ps_table.specs.Tableau.{Tableau, IsTableau, world_limit, rows_of};
+ghost use Rattle.ps_table.specs.Tableau.{Tableau, IsTableau, rows_of};
 ghost use Rattle.ps_table.specs.Tableau.{HasColumn, number_of, entry_at, entry_of};
 ghost use Rattle.ps_table.specs.Tableau.{HasBasicHomes, HasUnitHomes, IsTableForHomes};
 ghost use Rattle.ps_table.specs.Tableau.{IsPivot, IsAdded, KeepsSystem, ExtendsSystem};
@@ -239,7 +240,7 @@ impl Table {
     /// Adds the column of a world with these entries, and answers its number.
     pub fn add_world(&mut self, entries: &[i64]) -> Result<u32, TableError>
         requires count { length entries.now ≡ rows_of self.old }
-        requires room { self.old.worlds + 1 < world_limit }
+        requires room { self.old.worlds < MOST_WORLDS }
         ensures number { IfOk result (λ n. n ≡ self.old.worlds + 1) }
         ensures added { IfOk result (λ _. IsAdded entries.now self.old self.new) }
         ensures stands { IfOk result (λ _. ExtendsSystem entries.now self.old self.new) }

@@ -2,7 +2,6 @@
 
 use super::conditions::{adds, has_costs, is_fraction, is_inside, pivots};
 use crate::{Costs, Home, Table};
-use ps_frac::Fraction;
 use ps_io::List;
 use ps_pool::Col;
 use std::alloc::Global;

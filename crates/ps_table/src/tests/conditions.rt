@@ -1,6 +1,6 @@
 //! The conditions of calls, as tests.
 
-ghost use Rattle.std.specs.Prelude.{◌≡◌, ℕ, ◌<◌, ◌≤ℤ◌, length, get_or, pos, negsuc, IsTrue};
+ghost use Rattle.std.specs.Prelude.{ℕ, ◌<◌, ◌≤ℤ◌, length, get_or, pos, negsuc, IsTrue};
 ghost use Rattle.ps_table.specs.Tableau.{HasColumn};
 ghost use Rattle.ps_table.specs.Pricing.{HasCosts};
 

@@ -15,8 +15,8 @@ pub loop-column-preserved : goal.loop-column-preserved
 loop-column-preserved c = record {
   upto =
       let e : suc c.loop-column.column ≡ c.loop-column.column + 1 = omega arith in
-      subst (λ w. IsUpTo c.args.grid.now c.args.pivot.now (w * c.args.grid.now.rows) c.with_column.new.changes.items) e c.in_ok-with_column.ensures.after;
-  narrow = all_more (IsScaleNarrow c.args.grid.now c.args.pivot.now) c.loop-column.column c.loop-column.invariant.narrow c.in_ok-with_column.ensures.narrow;
+      subst (λ w. IsUpTo c.args.grid.now c.args.pivot.now (w * c.args.grid.now.rows) c.push_column.new.changes.items) e c.in_ok-push_column.ensures.after;
+  narrow = all_more (IsScaleNarrow c.args.grid.now c.args.pivot.now) c.loop-column.column c.loop-column.invariant.narrow c.in_ok-push_column.ensures.narrow;
 }
 
 pub returns-clause-pivoted : goal.returns-clause-pivoted

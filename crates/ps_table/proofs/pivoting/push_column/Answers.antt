@@ -3,7 +3,7 @@ use Rattle.ps_rational.specs.Rational.{zero_q}
 use Rattle.ps_table.specs.Grids.{cell_in}
 use Rattle.ps_table.proofs.Changes.{up_skipped}
 use Rattle.ps_table.proofs.Zeros.{zero_scale_narrow}
-use Rattle.ps_table.proofs.pivoting.with_column.Goals as goal
+use Rattle.ps_table.proofs.pivoting.push_column.Goals as goal
 
 pub returns-then-is_zero-clause-narrow : goal.returns-then-is_zero-clause-narrow
 returns-then-is_zero-clause-narrow c =
