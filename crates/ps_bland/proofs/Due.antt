@@ -13,8 +13,8 @@ use Rattle.ps_table.specs.Pricing.{cost_at}
 use Rattle.ps_table.specs.Places.{CostPlaces, IsWideAt, IsNarrow}
 use Rattle.ps_rule.specs.declared.phase.Phase.{Phase}
 use Rattle.ps_bland.specs.Rules.{simplex_of, is_artificial, artificial_at, is_artificial_column}
-use Rattle.ps_bland.specs.Ends.{IsEntryWide, IsDueWide}
-use Rattle.ps_bland.specs.Rounds.{AreEntriesNarrow, AreNarrowBefore}
+use Rattle.ps_bland.specs.Ends.{IsCarriedWide, IsDueWide}
+use Rattle.ps_bland.specs.Rounds.{AreCarriedNarrow, AreNarrowBefore}
 use Rattle.ps_bland.specs.Ends.IsDueWide.{at_cost, at_ratio, at_pivot}
 
 same_number : (n worlds : ℕ) (a b : Col) → IsInside n worlds a → IsInside n worlds b → number_in n a ≡ number_in n b → a ≡ b
@@ -34,29 +34,29 @@ narrow_next costs t c m before inside e here = λ d ind real l.
     ]
 
 -- up to the column that enters
-pub entries_first : (costs : Costs) (t : Tableau) (q : Col) → Improves (simplex_of t) (cost_at costs) (number_in (length t.kinds) q) → AreNarrowBefore costs t (suc (number_in (length t.kinds) q)) → AreEntriesNarrow costs t
-entries_first costs t q improves before = λ w h.
+pub carried_first : (costs : Costs) (t : Tableau) (q : Col) → Improves (simplex_of t) (cost_at costs) (number_in (length t.kinds) q) → AreNarrowBefore costs t (suc (number_in (length t.kinds) q)) → AreCarriedNarrow costs t
+carried_first costs t q improves before = λ w h.
     elim (cases_lt (number_in (length t.kinds) q) (number_in (length t.kinds) h.column)) [
       | inl l ↦ h.least (number_in (length t.kinds) q) l improves
       | inr l ↦ (before h.column h.inside h.real (omega (arith, l))).nowhere w.place w.op w.left w.right h.wide.at h.wide.wide
     ]
 
 -- no column improves: only sums were due
-pub rest_narrow : (phase : Phase) (costs : Costs) (t : Tableau) (left : ℕ) → ((j : ℕ) → Improves (simplex_of t) (cost_at costs) j → ⊥) → AreEntriesNarrow costs t → (w : WideAt) → IsDueWide phase costs t left w → ⊥
+pub rest_narrow : (phase : Phase) (costs : Costs) (t : Tableau) (left : ℕ) → ((j : ℕ) → Improves (simplex_of t) (cost_at costs) j → ⊥) → AreCarriedNarrow costs t → (w : WideAt) → IsDueWide phase costs t left w → ⊥
 rest_narrow phase costs t left none entries w (at_cost _ wide) = entries w wide
 rest_narrow phase costs t left none entries w (at_ratio q _ _ _ enters _ _) = none (number_in (length t.kinds) q) enters.improves
 rest_narrow phase costs t left none entries w (at_pivot q p _ lawful _) = none (number_in (length t.kinds) q) lawful.enters.improves
 
 -- no pivot is left: the same
-pub out_narrow : (phase : Phase) (costs : Costs) (t : Tableau) (left : ℕ) → left ≡ 0 → AreEntriesNarrow costs t → (w : WideAt) → IsDueWide phase costs t left w → ⊥
+pub out_narrow : (phase : Phase) (costs : Costs) (t : Tableau) (left : ℕ) → left ≡ 0 → AreCarriedNarrow costs t → (w : WideAt) → IsDueWide phase costs t left w → ⊥
 out_narrow phase costs t left out entries w (at_cost _ wide) = entries w wide
 out_narrow phase costs t left out entries w (at_ratio q _ some _ _ _ _) = omega (arith, some, out)
 out_narrow phase costs t left out entries w (at_pivot q p some _ _) = omega (arith, some, out)
 
 -- a refusal of what column c carries is due where no column before it improves
-pub entry_wide : {X : Type 0} (costs : Costs) (t : Tableau) (c : Col) (r : Result X WideAt) → HasColumn t c → is_artificial_column t c ≡ false → ((j : ℕ) → j < number_of t c → Improves (simplex_of t) (cost_at costs) j → ⊥) → IfErr r (IsWideAt (CostPlaces t costs c)) → IfErr r (IsEntryWide costs t)
-entry_wide costs t c (Ok x) inside real least h = tt
-entry_wide costs t c (Err w) inside real least h = record { column = c; inside = inside; real = real; least = least; wide = h }
+pub carried_wide : {X : Type 0} (costs : Costs) (t : Tableau) (c : Col) (r : Result X WideAt) → HasColumn t c → is_artificial_column t c ≡ false → ((j : ℕ) → j < number_of t c → Improves (simplex_of t) (cost_at costs) j → ⊥) → IfErr r (IsWideAt (CostPlaces t costs c)) → IfErr r (IsCarriedWide costs t)
+carried_wide costs t c (Ok x) inside real least h = tt
+carried_wide costs t c (Err w) inside real least h = record { column = c; inside = inside; real = real; least = least; wide = h }
 
 -- a world is no artificial
 pub world_real : (t : Tableau) (k : ℕ) → is_artificial_column t (col.World (k + 1)) ≡ false

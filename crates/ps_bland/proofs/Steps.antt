@@ -16,10 +16,11 @@ use Rattle.ps_pool.specs.declared.event.Event.{Event}
 use Rattle.ps_pool.specs.declared.event.Event.TheVariants.{Pivot, Priced}
 use Rattle.ps_table.specs.Tableau.{Tableau, basic_at, entry_at, IsPivot, number_in, IsTableFor}
 use Rattle.ps_table.specs.Pricing.{cost_at, HasCosts}
+use Rattle.ps_table.specs.Places.{PivotPlaces, IsRefusedAt}
 use Rattle.ps_bland.specs.Rules.{simplex_of, IsLawful}
 use Rattle.ps_bland.specs.Runs.{system_of, pivots_of, ArePivots, Ran, Run}
 use Rattle.ps_bland.specs.Ends.{IsDueRefusal}
-use Rattle.ps_bland.specs.Rounds.{IsLeastBefore, IsPivotRefusal, IsStep}
+use Rattle.ps_bland.specs.Rounds.{IsLeastBefore, IsStep}
 use Rattle.ps_basis.specs.Table.{Based}
 use Rattle.ps_rule.specs.Pivots.{Pivots, IsLawfulAt}
 use Rattle.ps_rule.specs.Pivots.Pivots.{still as no_moves, more as one_move}
@@ -161,6 +162,6 @@ costs_kept costs enter leave t u pivot h = record {
   small = h.small;
 }
 
-pub due_refusal : (phase : Phase) (costs : Costs) (t : Tableau) (left : ℕ) (q : Col) (p : ℕ) → 0 < left → IsLawful phase costs t q p → (e : TableError) → IsPivotRefusal t q p e → IsDueRefusal phase costs t left e
+pub due_refusal : (phase : Phase) (costs : Costs) (t : Tableau) (left : ℕ) (q : Col) (p : ℕ) → 0 < left → IsLawful phase costs t q p → (e : TableError) → IsRefusedAt (PivotPlaces t p q) e → IsDueRefusal phase costs t left e
 due_refusal phase costs t left q p some lawful (Wide w) h = at_pivot q p some lawful h
 due_refusal phase costs t left q p some lawful NoMemory h = record { enter = q; leave = p; lawful = lawful; some_left = some }

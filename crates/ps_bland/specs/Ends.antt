@@ -17,15 +17,15 @@ use Rattle.ps_bland.specs.declared.settled.Settled.{Settled}
 use Rattle.ps_bland.specs.declared.settled.Settled.TheVariants.{Feasible, AtRest, OutOfPivots}
 use Rattle.ps_bland.specs.Rules.{IsDueToEndIn, IsLawful, is_artificial_column, simplex_of}
 
--- the ratio of row i is too wide
+-- the ratio of a row in column q is too wide
 pub record IsRatioWide (t : Tableau) (q : ℕ) (w : WideAt) : Type 0 where
   pub row : ℕ
   pub rising : IsRising (simplex_of t) q row
   pub is : w ≡ record { place = Ratio row; op = Div; left = entry_at t row 0; right = entry_at t row q }
   pub wide : IsOperationWide Div (entry_at t row 0) (entry_at t row q)
 
--- the sum for column q is too wide, and no column before it improves
-pub record IsEntryWide (costs : Costs) (t : Tableau) (w : WideAt) : Type 0 where
+-- what is carried of a slack or a world is too wide, and no column before it improves
+pub record IsCarriedWide (costs : Costs) (t : Tableau) (w : WideAt) : Type 0 where
   pub column : Col
   pub inside : HasColumn t column
   pub real : is_artificial_column t column ≡ false
@@ -51,7 +51,7 @@ pub record IsPivotDue (phase : Phase) (costs : Costs) (t : Tableau) (left : ℕ)
 
 -- the operands at a due place of the table, where they are too wide; ratios and pivots are due only while a pivot is left
 pub data IsDueWide (phase : Phase) (costs : Costs) (t : Tableau) (left : ℕ) (w : WideAt) : Type 0 where
-  at_cost : (IsDueToEndIn phase t → ⊥) → IsEntryWide costs t w → IsDueWide phase costs t left w
+  at_cost : (IsDueToEndIn phase t → ⊥) → IsCarriedWide costs t w → IsDueWide phase costs t left w
   at_ratio : (q : Col) → (IsDueToEndIn phase t → ⊥) → 0 < left → HasColumn t q
       → Enters (simplex_of t) (cost_at costs) (number_of t q)
       → IsLeftToRatios phase t (number_of t q) → IsRatioWide t (number_of t q) w → IsDueWide phase costs t left w

@@ -1,5 +1,5 @@
 -- What a phase asks of the costs and of the table.
-use Rattle.std.specs.Prelude.{◌≡◌, ◌⊎◌, ℕ, suc, ◌+◌, ◌<◌, ◌≤◌, cond, length, ℤ, List}
+use Rattle.std.specs.Prelude.{◌≡◌, ◌⊎◌, ℕ, ◌<◌, ◌≤◌, cond, ℤ, List}
 use Rattle.ps_rational.specs.Rational.{Rational, neg, zero_q, one_q}
 use Rattle.ps_rational.specs.Order.{IsNonneg}
 use Rattle.ps_basis.specs.Table.{Belongs}
@@ -17,14 +17,14 @@ BelongsTo columns t = Belongs (rows_of t) (width_of t) columns (basic_at t) (ent
 
 -- no column has a cost below 0
 pub record HasNoNegativeCost (costs : Costs) (t : Tableau) : Type 0 where
-  pub cost : (j : ℕ) → 0 < j → j < suc (length t.kinds + t.worlds) → IsNonneg (cost_at costs j)
+  pub cost : (j : ℕ) → 0 < j → j < width_of t → IsNonneg (cost_at costs j)
 
 -- the table belongs to columns whose row 0 is never below 0, and 1 where the cost is -1
 pub record HasUnitRow (costs : Costs) (t : Tableau) : Type 0 where
   pub columns : ℕ → ℕ → Rational
   pub belongs : BelongsTo columns t
-  pub row : (j : ℕ) → 0 < j → j < suc (length t.kinds + t.worlds) → IsNonneg (columns 0 j)
-  pub cost : (j : ℕ) → 0 < j → j < suc (length t.kinds + t.worlds) → (cost_at costs j ≡ zero_q) ⊎ ((cost_at costs j ≡ neg one_q) × (columns 0 j ≡ one_q))
+  pub row : (j : ℕ) → 0 < j → j < width_of t → IsNonneg (columns 0 j)
+  pub cost : (j : ℕ) → 0 < j → j < width_of t → (cost_at costs j ≡ zero_q) ⊎ ((cost_at costs j ≡ neg one_q) × (columns 0 j ≡ one_q))
 
 -- what a phase asks of the costs and the table
 abbrev pub FitsPhase : Phase → Costs → Tableau → Type 0
@@ -34,7 +34,7 @@ FitsPhase Upper costs t = IsFeasible (simplex_of t) × HasUnitRow costs t
 
 -- no value is below 0
 abbrev pub HasNoNegativeValue : Tableau → Type 0
-HasNoNegativeValue t = (i : ℕ) → i < length t.kinds → IsNonneg (entry_at t i 0)
+HasNoNegativeValue t = (i : ℕ) → i < rows_of t → IsNonneg (entry_at t i 0)
 
 -- the condition of a phase
 pub record IsReady (phase : Phase) (costs : Costs) (t : Tableau) : Type 0 where
@@ -44,20 +44,20 @@ pub record IsReady (phase : Phase) (costs : Costs) (t : Tableau) : Type 0 where
 
 -- an artificial costs 1, all else 0
 pub record HasFirstCosts (costs : Costs) (t : Tableau) : Type 0 where
-  pub cost : (j : ℕ) → 0 < j → j < suc (length t.kinds + t.worlds) → cost_at costs j ≡ cond (artificial_at t.kinds j) one_q zero_q
+  pub cost : (j : ℕ) → 0 < j → j < width_of t → cost_at costs j ≡ cond (artificial_at t.kinds j) one_q zero_q
 
 -- homes cost 0, and each world 0 or this
 pub record HasWorldCosts (some : Rational) (costs : Costs) (t : Tableau) : Type 0 where
-  pub homes : (j : ℕ) → 0 < j → j ≤ length t.kinds → cost_at costs j ≡ zero_q
-  pub worlds : (j : ℕ) → length t.kinds < j → j < suc (length t.kinds + t.worlds) → (cost_at costs j ≡ zero_q) ⊎ (cost_at costs j ≡ some)
+  pub homes : (j : ℕ) → 0 < j → j ≤ rows_of t → cost_at costs j ≡ zero_q
+  pub worlds : (j : ℕ) → rows_of t < j → j < width_of t → (cost_at costs j ≡ zero_q) ⊎ (cost_at costs j ≡ some)
 
 -- the table belongs to columns whose row 0 is 0 or 1 on each world, 1 on each world of cost -1, and never below 0 on a home
 pub record HasWorldRow (costs : Costs) (t : Tableau) : Type 0 where
   pub columns : ℕ → ℕ → Rational
   pub belongs : BelongsTo columns t
-  pub homes : (j : ℕ) → 0 < j → j ≤ length t.kinds → IsNonneg (columns 0 j)
-  pub worlds : (j : ℕ) → length t.kinds < j → j < suc (length t.kinds + t.worlds) → (columns 0 j ≡ zero_q) ⊎ (columns 0 j ≡ one_q)
-  pub costly : (j : ℕ) → length t.kinds < j → j < suc (length t.kinds + t.worlds) → cost_at costs j ≡ neg one_q → columns 0 j ≡ one_q
+  pub homes : (j : ℕ) → 0 < j → j ≤ rows_of t → IsNonneg (columns 0 j)
+  pub worlds : (j : ℕ) → rows_of t < j → j < width_of t → (columns 0 j ≡ zero_q) ⊎ (columns 0 j ≡ one_q)
+  pub costly : (j : ℕ) → rows_of t < j → j < width_of t → cost_at costs j ≡ neg one_q → columns 0 j ≡ one_q
 
 -- the costs that a phase is for: the artificials' values, the query's value, and the latter turned round
 abbrev pub IsPosed : Phase → Costs → Tableau → Type 0

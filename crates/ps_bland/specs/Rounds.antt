@@ -1,22 +1,21 @@
 -- What the code has looked at so far, and what one round does.
-use Rattle.std.specs.Prelude.{◌≡◌, ◌≢◌, ℕ, suc, ◌+◌, ◌<◌, true, false, List, [], ◌∷◌, ◌++◌, length, Option, Some, None, Result, Ok, Err}
+use Rattle.std.specs.Prelude.{◌≡◌, ◌≢◌, ℕ, suc, ◌+◌, ◌<◌, true, false, List, [], ◌∷◌, ◌++◌, Option, Some, None, Result, Ok, Err}
 use Rattle.ps_rational.specs.Rational.{Rational, zero_q}
 use Rattle.ps_rule.specs.Rule.{Improves, Enters, IsRising, IsArtificialRow, HasNoArtificialRow, IsLeastArtificialRow, ratio, GoesBefore, Precedes, HasLeastRatio, Leaves}
 use Rattle.ps_pool.specs.declared.col.Col.{Col}
 use Rattle.ps_table.specs.declared.costs.Costs.{Costs}
 use Rattle.ps_table.specs.declared.place.WideAt.{WideAt}
 use Rattle.ps_table.specs.declared.error.TableError.{TableError}
-use Rattle.ps_table.specs.declared.error.TableError.TheVariants.{Wide, NoMemory}
-use Rattle.ps_table.specs.Tableau.{Tableau, number_of, entry_at, entry_of, basic_at, HasColumn, IsPivot, KeepsSystem}
+use Rattle.ps_table.specs.Tableau.{Tableau, number_of, entry_at, entry_of, basic_at, HasColumn, IsPivot, KeepsSystem, rows_of}
 use Rattle.ps_table.specs.Pricing.{cost_at}
-use Rattle.ps_table.specs.Places.{IsWideAt, PivotPlaces, CostPlaces, IsNarrow}
+use Rattle.ps_table.specs.Places.{CostPlaces, IsNarrow}
 use Rattle.ps_pool.specs.declared.event.Event.{Event}
 use Rattle.ps_pool.specs.declared.event.Event.TheVariants.{Pivot}
 use Rattle.ps_rule.specs.declared.phase.Phase.{Phase}
 use Rattle.ps_rule.specs.declared.phase.Phase.TheVariants.{One, Lower, Upper}
 use Rattle.ps_bland.specs.declared.settled.Settled.{Settled}
 use Rattle.ps_bland.specs.Rules.{artificial_at, IsLawful, is_artificial_column, simplex_of}
-use Rattle.ps_bland.specs.Ends.{IsRatioWide, IsEntryWide, IsLeftToRatios, AreDueNarrow, IsDueRefusal, IsSettled}
+use Rattle.ps_bland.specs.Ends.{IsRatioWide, IsCarriedWide, IsLeftToRatios, AreDueNarrow, IsDueRefusal, IsSettled}
 
 -- a row with an entry above 0 that goes before each such row before row n
 pub record IsLeastBefore (t : Tableau) (q n p : ℕ) : Type 0 where
@@ -72,11 +71,6 @@ IsLeftToRatiosIn phase t c = IsLeftToRatios phase t (number_of t c)
 abbrev pub IsRowFeasible : Tableau → ℕ → Type 0
 IsRowFeasible t i = artificial_at t.kinds (basic_at t i) ≡ true → entry_at t i 0 ≡ zero_q
 
--- why a pivot is refused, where it isn't want of memory
-abbrev pub IsPivotRefusal : Tableau → Col → ℕ → TableError → Type 0
-IsPivotRefusal t q p (Wide w) = IsWideAt (PivotPlaces t p q) w
-IsPivotRefusal t q p NoMemory = Unit {0}
-
 -- one lawful pivot, with its event
 pub record IsStep (phase : Phase) (costs : Costs) (old new : Tableau) (trace longer : List Event) : Type 0 where
   pub enter : Col
@@ -129,8 +123,8 @@ CanLeave Lower t q = HasNoArtificialRow (simplex_of t) q → HasRising t q
 CanLeave Upper t q = HasNoArtificialRow (simplex_of t) q → HasRising t q
 
 -- no sum is too wide for a column that comes before each one that improves, or is the first of them
-abbrev pub AreEntriesNarrow : Costs → Tableau → Type 0
-AreEntriesNarrow costs t = (w : WideAt) → ¬ IsEntryWide costs t w
+abbrev pub AreCarriedNarrow : Costs → Tableau → Type 0
+AreCarriedNarrow costs t = (w : WideAt) → ¬ IsCarriedWide costs t w
 
 -- no sum is too wide for a slack or a world before number m
 abbrev pub AreNarrowBefore : Costs → Tableau → ℕ → Type 0
@@ -164,8 +158,8 @@ IsLeastBeforeIn t c n p = IsLeastBefore t (number_of t c) n p
 
 -- the first slack that improves, or none
 abbrev pub IsEnteringHome : Costs → Tableau → Option Col → Type 0
-IsEnteringHome costs t = IsEnteringBefore costs t (suc (length t.kinds))
+IsEnteringHome costs t = IsEnteringBefore costs t (suc (rows_of t))
 
 -- no sum is too wide up to the first slack that improves, or for any slack where none was found
 abbrev pub AreNarrowToHome : Costs → Tableau → Option Col → Type 0
-AreNarrowToHome costs t = AreNarrowTo costs t (suc (length t.kinds))
+AreNarrowToHome costs t = AreNarrowTo costs t (suc (rows_of t))

@@ -1,15 +1,15 @@
 -- A table as the rule sees it, and its pivots by the rule.
-use Rattle.std.specs.Prelude.{ℕ, suc, ◌+◌, ◌-◌, Bool, true, false, List, length, get_or}
+use Rattle.std.specs.Prelude.{ℕ, ◌-◌, Bool, true, false, List, get_or}
 use Rattle.ps_rule.specs.Rule.{SimplexTable, IsDueToEnd, Enters, Leaves}
 use Rattle.ps_table.specs.declared.home.Home.{Home}
 use Rattle.ps_table.specs.declared.home.Home.TheVariants.{Slack, Artificial}
 use Rattle.ps_pool.specs.declared.col.Col.{Col}
 use Rattle.ps_table.specs.declared.costs.Costs.{Costs}
-use Rattle.ps_table.specs.Tableau.{Tableau, number_of, entry_at, basic_at, HasColumn}
+use Rattle.ps_table.specs.Tableau.{Tableau, number_of, entry_at, basic_at, HasColumn, rows_of, width_of}
 use Rattle.ps_table.specs.Pricing.{cost_at}
 use Rattle.ps_rule.specs.declared.phase.Phase.{Phase}
 
--- an artificial home
+-- whether a home is an artificial
 abbrev pub is_artificial : Home → Bool
 is_artificial Slack = false
 is_artificial Artificial = true
@@ -21,8 +21,8 @@ artificial_at kinds j = is_artificial (get_or kinds (j - 1) Slack)
 -- the table as the rule sees it
 abbrev pub simplex_of : Tableau → SimplexTable
 simplex_of t = record {
-  rows = length t.kinds;
-  width = suc (length t.kinds + t.worlds);
+  rows = rows_of t;
+  width = width_of t;
   entry = entry_at t;
   basic = basic_at t;
   artificial = artificial_at t.kinds;

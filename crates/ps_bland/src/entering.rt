@@ -5,8 +5,8 @@ ghost use Rattle.ps_table.specs.Tableau.{HasColumn};
 ghost use Rattle.ps_table.specs.Pricing.{HasCosts};
 ghost use Rattle.ps_table.specs.Places.{CostPlaces, IsWideAt, IsNarrow};
 ghost use Rattle.ps_bland.specs.Rules.{is_artificial_column};
-ghost use Rattle.ps_bland.specs.Ends.{IsEntryWide};
-ghost use Rattle.ps_bland.specs.Rounds.{ImprovesIn, IsEntering, AreEntriesNarrow};
+ghost use Rattle.ps_bland.specs.Ends.{IsCarriedWide};
+ghost use Rattle.ps_bland.specs.Rounds.{ImprovesIn, IsEntering, AreCarriedNarrow};
 ghost use Rattle.ps_bland.specs.Rounds.{IsEnteringHome, AreNarrowToHome};
 
 use crate::columns::is_artificial;
@@ -40,7 +40,7 @@ fn entering_home(table: &Table, costs: &Costs) -> Result<Option<Col>, WideAt>
     requires { HasCosts costs.now table.now }
     ensures found { IfOk result (IsEnteringHome costs.now table.now) }
     ensures narrow { IfOk result (AreNarrowToHome costs.now table.now) }
-    ensures refused { IfErr result (IsEntryWide costs.now table.now) }
+    ensures refused { IfErr result (IsCarriedWide costs.now table.now) }
 {
     for row in 0..table.rows() {
         let col = Col::Home(row);
@@ -55,8 +55,8 @@ fn entering_home(table: &Table, costs: &Costs) -> Result<Option<Col>, WideAt>
 pub(crate) fn entering(table: &Table, costs: &Costs) -> Result<Option<Col>, WideAt>
     requires { HasCosts costs.now table.now }
     ensures found { IfOk result (IsEntering costs.now table.now) }
-    ensures narrow { IfOk result (λ _. AreEntriesNarrow costs.now table.now) }
-    ensures refused { IfErr result (IsEntryWide costs.now table.now) }
+    ensures narrow { IfOk result (λ _. AreCarriedNarrow costs.now table.now) }
+    ensures refused { IfErr result (IsCarriedWide costs.now table.now) }
 {
     if let Some(col) = entering_home(table, costs)? {
         return Ok(Some(col));

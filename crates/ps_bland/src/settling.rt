@@ -2,10 +2,11 @@
 ghost use Rattle.std.specs.Prelude.{◌≡◌, ◌≢◌, ◌<◌, [], ◌∷◌, ◌++◌, IfOk, IfErr};
 ghost use Rattle.ps_rational.specs.Rational.{zero_q};
 ghost use Rattle.ps_table.specs.Tableau.{rows_of, HasColumn, entry_of, IsPivot, KeepsSystem};
+ghost use Rattle.ps_table.specs.Places.{PivotPlaces, IsRefusedAt};
 ghost use Rattle.ps_bland.specs.Runs.{Ran};
 ghost use Rattle.ps_bland.specs.Ready.{IsReady};
 ghost use Rattle.ps_bland.specs.Ends.{IsEnd, AreDueNarrow};
-ghost use Rattle.ps_bland.specs.Rounds.{IsRound, IsCounted, IsPivotRefusal, IsNarrowEnd};
+ghost use Rattle.ps_bland.specs.Rounds.{IsRound, IsCounted, IsNarrowEnd};
 
 use crate::entering::entering;
 use crate::feasible::is_due_to_end;
@@ -30,7 +31,7 @@ fn pivot_with_event(
     ensures stands { IfOk result (λ _. KeepsSystem table.old table.new) }
     ensures table_same { IfErr result (λ _. table.new ≡ table.old) }
     ensures trace_same { IfErr result (λ _. trace.new ≡ trace.old) }
-    ensures refused { IfErr result (IsPivotRefusal table.old enter leave) }
+    ensures refused { IfErr result (IsRefusedAt (PivotPlaces table.old leave enter)) }
 {
     if trace.push(Event::Pivot { enter, leave }).is_err() {
         return Err(TableError::NoMemory);

@@ -3,6 +3,7 @@
 ghost use Rattle.std.specs.Prelude.{◌≡◌, ℕ, ◌<◌, ◌≤◌, ◌≤ℤ◌, [], length, get_or, pos, IsTrue, IfSome};
 ghost use Rattle.ps_rational.specs.Rational.{Rational};
 ghost use Rattle.ps_rational.specs.Order.{IsNonneg};
+ghost use Rattle.ps_table.specs.declared.limits.TheConstants.{MOST_ROWS};
 ghost use Rattle.ps_table.specs.Tableau.{entry_at, IsTableFor};
 ghost use Rattle.ps_bland.specs.Ready.{IsReady};
 ghost use Rattle.ps_bland.specs.Columns.{AreColumns};
@@ -107,7 +108,7 @@ fn is_ready_above<const N: usize>(table: &Table, costs: &Costs, entries: &[[i64;
 /// The table of the homes and the worlds, before the first pivot.
 fn table_of<const N: usize>(alloc: Global, homes: &[Home; N], worlds: &[[i64; N]]) -> Option<Table>
     requires some { 0 < N }
-    requires few { N ≤ 101 }
+    requires few { N ≤ MOST_ROWS }
     ensures { IfSome result
         (λ t. (A : ℕ → ℕ → Rational) → AreColumns N worlds.now A → IsTableFor A t) }
 {
@@ -270,7 +271,7 @@ fn has_values<const N: usize>(table: &Table, stage: &Stage<N>) -> bool {
 /// Whether all phases of a case go as they should.
 fn goes<const N: usize>(alloc: Global, case: &Case<N>) -> Result<bool, NoMemory>
     requires some { 0 < N }
-    requires few { N ≤ 101 }
+    requires few { N ≤ MOST_ROWS }
 {
     let mut table = match table_of(alloc, &case.homes, case.worlds) {
         Some(table) => table,
@@ -303,7 +304,7 @@ fn goes<const N: usize>(alloc: Global, case: &Case<N>) -> Result<bool, NoMemory>
 /// Whether all cases go as they should.
 fn all_go<const N: usize>(alloc: Global, cases: &[Case<N>]) -> Result<bool, NoMemory>
     requires some { 0 < N }
-    requires few { N ≤ 101 }
+    requires few { N ≤ MOST_ROWS }
 {
     for number in 0..cases.len() {
         if !goes(alloc, &cases[number])? {

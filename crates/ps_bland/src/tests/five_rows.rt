@@ -1,11 +1,10 @@
 //! Systems of five rows.
 
 use super::case::{Case, End, Stage};
-use crate::Settled;
 use ps_frac::Op;
 use ps_pool::Col;
 use ps_rule::Phase;
-use ps_table::{Home, Place, TableCol};
+use ps_table::{Home, Place};
 
 pub(crate) const FIVE_ROWS: [Case<5>; 2] = [
     // A sum of what a world carries is too wide, and the world improves.
