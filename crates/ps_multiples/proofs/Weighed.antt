@@ -1,5 +1,5 @@
 -- The rows whose basic column is a world of value above 0, and the others.
-use Rattle.std.proofs.Common.{◌≡◌, ℕ, zero, suc, ◌/◌, ◌*◌, ◌<◌, ◌≤◌, ℤ, pos, negsuc, ◌+ℤ◌, ◌*ℤ◌, ◌<ℤ◌, ◌≤ℤ◌, unsigned_abs, Bool, true, false, if◌then◌else◌, ltb, refl, sym, ap, ◌∙◌, subst, arith}
+use Rattle.std.proofs.Common.{◌≡◌, ℕ, zero, suc, ◌/◌, ◌*◌, ◌<◌, ◌≤◌, ℤ, pos, negsuc, ◌+ℤ◌, ◌*ℤ◌, ◌<ℤ◌, ◌≤ℤ◌, Bool, true, false, if◌then◌else◌, ltb, refl, sym, ap, ◌∙◌, subst, arith}
 use Rattle.std.proofs.lemmas.Int.{ints}
 use Rattle.std.proofs.lemmas.Bool.{lt-ltb, ltb-true}
 use Rattle.std.proofs.Math.Nat.{eq-one_of_dvd-one}
@@ -7,7 +7,7 @@ use Rattle.std.specs.Int.{◌∣◌}
 use Rattle.ps_frac.specs.declared.wide.Op.TheVariants.{Add, Mul, Lcm}
 use Rattle.ps_rational.specs.Coprime.{gcd_is}
 use Rattle.ps_rational.specs.Gcd.{gcd, lcm}
-use Rattle.ps_rational.specs.Rational.{Rational, quotient, whole}
+use Rattle.ps_rational.specs.Rational.{Rational, whole}
 use Rattle.ps_rational.specs.Order.{IsNonneg}
 use Rattle.ps_rational.specs.Scaled.{scaled}
 use Rattle.ps_rational.proofs.Field.{over_is_zero, zero_is_fraction}
@@ -18,14 +18,10 @@ use Rattle.ps_table.specs.Tableau.{Tableau, rows_of, basic_at, entry_at}
 use Rattle.ps_table.specs.declared.limits.TheConstants.{PRINTED_LIMIT}
 use Rattle.ps_table.specs.Places.{IsWideAt, IsTooLargeToPrint, IsWeighed, weight_under, weight_at, weight_multiple_to, at_weight, at_weighed, at_total}
 use Rattle.ps_table.specs.Grids.{Names}
-use Rattle.ps_table.proofs.Printed.{printed_exact}
+use Rattle.ps_table.proofs.Printed.{printed_exact, whole_under}
 use Rattle.ps_multiples.specs.Multiples.{weight_of, weight_multiple_of, ModelPlaces}
 use Rattle.ps_bland.specs.Ready.{HasNoNegativeValue}
 use Rattle.ps_multiples.specs.Rows.{IsWeighedIn, multiple_to_row, total_to_row, IsPrintedMultiple}
-
-whole_under : (z : ℤ) → (whole z).under ≡ 1
-unfolding quotient
-whole_under z = ap (λ g. 1 / g) (eq-one_of_dvd-one (gcd_is (unsigned_abs z) 1).1)
 
 -- a number that is 0 has denominator 1
 pub zero_under : (x : Rational) → x.over ≡ pos 0 → x.under ≡ 1

@@ -16,7 +16,7 @@ use Rattle.ps_rational.specs.Sums.{int_sum_to}
 -- ---- multipliers
 -- the least common multiple of the denominators of a table's multipliers
 abbrev pub multiple_of : Tableau → Costs → ℕ
-multiple_of t costs = multiple_to (length t.kinds) (cost_at costs) (basic_at t) (entry_at t) (length t.kinds)
+multiple_of t costs = multiple_to (rows_of t) (cost_at costs) (basic_at t) (entry_at t) (rows_of t)
 
 -- a multiplier times it
 abbrev pub whole_multiplier : Tableau → Costs → ℕ → ℤ
@@ -33,25 +33,25 @@ pub record AreScaled (t : Tableau) (costs : Costs) (s : Scaled) : Type 0 where
 -- the places of the whole multiples of a table's multipliers: of what is carried of each home, and of the multiples
 pub data DualPlaces (t : Tableau) (costs : Costs) : Place → Op → Rational → Rational → Type 0 where
   of_home : (m : ℕ) (place : Place) (op : Op) (l r : Rational) → m < rows_of t → HomePlaces t costs m place op l r → DualPlaces t costs place op l r
-  of_multiplier : (place : Place) (op : Op) (l r : Rational) → MultiplierPlace (length t.kinds) (cost_at costs) (basic_at t) (entry_at t) place op l r
+  of_multiplier : (place : Place) (op : Op) (l r : Rational) → MultiplierPlace (rows_of t) (cost_at costs) (basic_at t) (entry_at t) place op l r
       → DualPlaces t costs place op l r
 
 -- ---- weights
 -- the least common multiple of the denominators of the values of the rows whose basic column is a world
 abbrev pub weight_multiple_of : Tableau → ℕ
-weight_multiple_of t = weight_multiple_to (length t.kinds) (basic_at t) (entry_at t) (length t.kinds)
+weight_multiple_of t = weight_multiple_to (rows_of t) (basic_at t) (entry_at t) (rows_of t)
 
 -- the weight of a row: its value times the multiple where its basic column is a world, else 0
 abbrev pub weight_of : Tableau → ℕ → ℤ
-weight_of t i = weight_at (length t.kinds) (basic_at t) (entry_at t) i
+weight_of t i = weight_at (rows_of t) (basic_at t) (entry_at t) i
 
 -- the places of the weights of a table
 abbrev pub ModelPlaces : Tableau → Place → Op → Rational → Rational → Type 0
-ModelPlaces t = WeightPlace (length t.kinds) (basic_at t) (entry_at t)
+ModelPlaces t = WeightPlace (rows_of t) (basic_at t) (entry_at t)
 
 -- the sum of the weights
 abbrev pub total_of : Tableau → ℤ
-total_of t = int_sum_to (length t.kinds) (weight_of t)
+total_of t = int_sum_to (rows_of t) (weight_of t)
 
 -- the weight of each row and their sum, small enough to be printed
 pub record AreWeights (t : Tableau) (w : Weights) : Type 0 where

@@ -52,11 +52,11 @@ pub record AreProducts (xs : List Rational) (big n : ℕ) (numbers : List ℤ) :
 -- ---- weights
 -- the basic column of a row is a world of value above 0
 abbrev pub IsWeighedIn : Tableau → ℕ → Type 0
-IsWeighedIn t i = IsWeighed (length t.kinds) (basic_at t) (entry_at t) i
+IsWeighedIn t i = IsWeighed (rows_of t) (basic_at t) (entry_at t) i
 
 -- the multiple of the values before row i
 abbrev pub multiple_to_row : Tableau → ℕ → ℕ
-multiple_to_row t i = weight_multiple_to (length t.kinds) (basic_at t) (entry_at t) i
+multiple_to_row t i = weight_multiple_to (rows_of t) (basic_at t) (entry_at t) i
 
 -- the number is this multiple, and small enough to be printed
 pub record IsPrintedMultiple (big number : ℕ) : Type 0 where

@@ -18,7 +18,8 @@ use Rattle.ps_table.specs.Laws.{PrintedPlacesAreExact}
 over_of : Rational → ℤ
 over_of x = x.over
 
-whole_under : (z : ℤ) → (whole z).under ≡ 1
+-- a whole number has denominator 1
+pub whole_under : (z : ℤ) → (whole z).under ≡ 1
 unfolding quotient
 whole_under z = ap (λ g. 1 / g) (eq-one_of_dvd-one (gcd_is (unsigned_abs z) 1).1)
 
