@@ -1,6 +1,4 @@
-ghost use Rattle.std.specs.Prelude.{ℕ, ◌<◌, ◌≤ℤ◌, IsTrue, length, get_or, pos};
-ghost use Rattle.ps_rational.specs.Order.{IsNonneg};
-ghost use Rattle.ps_table.specs.Tableau.{entry_at};
+ghost use Rattle.std.specs.Prelude.{IsTrue};
 ghost use Rattle.ps_bland.specs.Ready.{HasNoNegativeValue};
 
 use super::*;

@@ -1,5 +1,5 @@
 //! Weights: whole multiples of the values of the rows whose basic column is a world.
-ghost use Rattle.std.specs.Prelude.{◌≡◌, suc, ◌<◌, ◌≤◌, ◌≤ℤ◌, ◌<ℤ◌, pos, length, get_or};
+ghost use Rattle.std.specs.Prelude.{◌≡◌, suc, ◌<◌, ◌≤◌};
 ghost use Rattle.std.specs.Prelude.{◌↔◌, IsTrue, IfOk, IfErr, unsigned_abs};
 ghost use Rattle.ps_table.specs.Tableau.{rows_of};
 ghost use Rattle.ps_table.specs.declared.limits.TheConstants.{PRINTED_LIMIT};
@@ -36,7 +36,8 @@ fn is_weighed(table: &Table, row: u32) -> bool
     }
 }
 
-/// The multiple as far as row `row`.
+/// The multiple of the rows before row `row`, with the denominator of that row's value where it
+/// makes a weight.
 #[tactic(auto, using(crate::proofs::Weighed::passed_multiple, crate::proofs::Weighed::next_multiple, crate::proofs::Weighed::wide_weight))]
 fn multiple_with(table: &Table, row: u32, multiple: u128) -> Result<u128, WideAt>
     requires row { row < rows_of table.now }
@@ -94,7 +95,7 @@ fn weight_rows(alloc: Global, table: &Table, multiple: u128) -> Result<List<i128
     Ok(rows)
 }
 
-/// The sum of the weights as far as row `row`.
+/// The sum of the weights of the rows before row `row`, and of that row.
 #[tactic(auto, using(crate::proofs::Weighed::passed_total, crate::proofs::Weighed::wide_total))]
 fn total_with(table: &Table, row: u32, total: i128, weight: i128) -> Result<i128, WideAt>
     requires row { row < rows_of table.now }
@@ -102,7 +103,7 @@ fn total_with(table: &Table, row: u32, total: i128, weight: i128) -> Result<i128
     requires before { total ≡ total_to_row table.now row }
     requires total_within { unsigned_abs total ≤ PRINTED_LIMIT }
     requires weight { weight ≡ weight_of table.now row }
-    requires within { unsigned_abs weight ≤ PRINTED_LIMIT }
+    requires weight_within { unsigned_abs weight ≤ PRINTED_LIMIT }
     ensures with { IfOk result (λ r. r ≡ total_to_row table.now (suc row)) }
     ensures within { IfOk result (λ r. unsigned_abs r ≤ PRINTED_LIMIT) }
     ensures refused { IfErr result (IsWideAt (ModelPlaces table.now)) }
