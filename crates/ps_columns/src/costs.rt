@@ -23,7 +23,7 @@ fn home_cost(phase: Phase, home: Home) -> i8
 }
 
 /// 1 where a node is true, else 0.
-fn unit(values: &[bool], node: u32) -> i8
+fn indicator(values: &[bool], node: u32) -> i8
     requires { HasNode values.now node }
     ensures value { result ≡ indicator_of values.now node }
     ensures low { pos 0 ≤ℤ result }
@@ -42,8 +42,8 @@ pub fn world_cost(phase: Phase, both: u32, values: &[bool]) -> i8
 {
     match phase {
         Phase::One => 0,
-        Phase::Lower => unit(values, both),
-        Phase::Upper => -unit(values, both),
+        Phase::Lower => indicator(values, both),
+        Phase::Upper => -indicator(values, both),
     }
 }
 
