@@ -8,7 +8,7 @@ ghost use Rattle.ps_bland.specs.Rounds.{IsLeastBeforeIn, HasLeastRatioIn};
 use crate::columns::is_above;
 use ps_frac::Fraction;
 use ps_pool::Col;
-use ps_table::{Place, Table, WideAt};
+use ps_table::{Place, Table, WideAt, divided_at};
 use std::cmp::Ordering;
 
 /// The ratio of the value to the entry in a row where the entry is above 0.
@@ -18,15 +18,8 @@ fn ratio_at(table: &Table, col: Col, row: u32) -> Result<Fraction, WideAt>
     ensures value { IfOk result (λ r. r ≡ ratio_in table.now col row) }
     ensures refused { IfErr result (IsRatioWideIn table.now col) }
 {
-    match table.value(row).div(&table.entry(row, col)) {
-        Ok(ratio) => Ok(ratio),
-        Err(wide) => Err(WideAt {
-            place: Place::Ratio { row },
-            op: wide.op,
-            left: wide.left,
-            right: wide.right,
-        }),
-    }
+    let place = Place::Ratio { row };
+    divided_at(place, &table.value(row), &table.entry(row, col))
 }
 
 /// The first row where the column's entry is above 0.

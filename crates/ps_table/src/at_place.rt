@@ -7,7 +7,7 @@ ghost use Rattle.ps_table.specs.Grids.{Names};
 use crate::place::{Place, WideAt};
 use ps_frac::{Fraction, Op, Wide};
 
-/// A refusal, with its place.
+/// A refusal of fractions, with its place.
 fn named(place: Place, wide: Wide) -> WideAt
     ensures value { Names place wide.op wide.left wide.right result }
 {
@@ -19,55 +19,39 @@ fn named(place: Place, wide: Wide) -> WideAt
     }
 }
 
-/// A quotient for a place.
-pub(crate) fn divided_at(
-    place: Place,
-    left: &Fraction,
-    right: &Fraction,
-) -> Result<Fraction, WideAt>
+/// A quotient, whose refusal names the place.
+pub fn divided_at(place: Place, left: &Fraction, right: &Fraction) -> Result<Fraction, WideAt>
     requires { right.now ≢ zero_q }
     ensures value { IfOk result (λ r. r ≡ div left.now right.now) }
     ensures wide { IsErr result ↔ ProductIsWide left.now (inverse right.now) }
     ensures operands { IfErr result (Names place Op.Div left.now right.now) }
 {
-    match left.div(right) {
-        Ok(quotient) => Ok(quotient),
-        Err(wide) => Err(named(place, wide)),
-    }
+    left.div(right).map_err(|wide| named(place, wide))
 }
 
-/// A product for a place.
+/// A product, whose refusal names the place.
 pub(crate) fn times_at(place: Place, left: &Fraction, right: &Fraction) -> Result<Fraction, WideAt>
     ensures value { IfOk result (λ r. r ≡ mul left.now right.now) }
     ensures wide { IsErr result ↔ ProductIsWide left.now right.now }
     ensures operands { IfErr result (Names place Op.Mul left.now right.now) }
 {
-    match left.mul(right) {
-        Ok(product) => Ok(product),
-        Err(wide) => Err(named(place, wide)),
-    }
+    left.mul(right).map_err(|wide| named(place, wide))
 }
 
-/// A difference for a place.
+/// A difference, whose refusal names the place.
 pub(crate) fn minus_at(place: Place, left: &Fraction, right: &Fraction) -> Result<Fraction, WideAt>
     ensures value { IfOk result (λ r. r ≡ sub left.now right.now) }
     ensures wide { IsErr result ↔ SumIsWide left.now (neg right.now) }
     ensures operands { IfErr result (Names place Op.Sub left.now right.now) }
 {
-    match left.sub(right) {
-        Ok(difference) => Ok(difference),
-        Err(wide) => Err(named(place, wide)),
-    }
+    left.sub(right).map_err(|wide| named(place, wide))
 }
 
-/// A sum for a place.
+/// A sum, whose refusal names the place.
 pub(crate) fn plus_at(place: Place, left: &Fraction, right: &Fraction) -> Result<Fraction, WideAt>
     ensures value { IfOk result (λ r. r ≡ add left.now right.now) }
     ensures wide { IsErr result ↔ SumIsWide left.now right.now }
     ensures operands { IfErr result (Names place Op.Add left.now right.now) }
 {
-    match left.add(right) {
-        Ok(sum) => Ok(sum),
-        Err(wide) => Err(named(place, wide)),
-    }
+    left.add(right).map_err(|wide| named(place, wide))
 }

@@ -17,6 +17,7 @@ mod pivoting;
 mod place;
 mod table;
 
+pub use at_place::divided_at;
 pub use costs::{CostList, Costs};
 pub use error::TableError;
 pub use home::Home;

@@ -2,5 +2,5 @@ use Rattle.std.proofs.Common.{◌∙◌, sym}
 use Rattle.ps_rational.proofs.Order.{above_not_zero}
 use Rattle.ps_bland.proofs.ratios.ratio_at.Goals as goal
 
-pub div-requires : goal.div-requires
-div-requires c = record { not_zero = λ e. above_not_zero _ c.requires.rising.above (sym c.entry.ensures.value ∙ e) }
+pub divided_at-requires : goal.divided_at-requires
+divided_at-requires c = λ e. above_not_zero _ c.requires.rising.above (sym c.entry.ensures.value ∙ e)
