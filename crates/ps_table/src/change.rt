@@ -25,7 +25,7 @@ pub(crate) fn write_all(cells: &mut Vec<Fraction>, changes: &[Change])
     ensures written { cells.new.items ≡ written cells.old.items changes.now }
     ensures count { length cells.new.items ≡ length cells.old.items }
 {
-    for k in 0..changes.len() {
-        write(cells, &changes[k]);
+    for change in changes {
+        write(cells, change);
     }
 }
