@@ -14,11 +14,7 @@ fn is_row_feasible(table: &Table, row: u32) -> bool
     requires { row < rows_of table.now }
     ensures value { IsTrue result ↔ IsRowFeasible table.now row }
 {
-    if is_artificial(table, table.basic(row)) {
-        table.value(row).is_zero()
-    } else {
-        true
-    }
+    !is_artificial(table, table.basic(row)) || table.value(row).is_zero()
 }
 
 /// Whether each basic artificial has value 0.

@@ -16,11 +16,7 @@ fn is_artificial_row(table: &Table, col: Col, row: u32) -> bool
     requires row { row < rows_of table.now }
     ensures value { IsTrue result ↔ IsArtificialRowIn table.now col row }
 {
-    if is_artificial(table, table.basic(row)) {
-        !table.entry(row, col).is_zero()
-    } else {
-        false
-    }
+    is_artificial(table, table.basic(row)) && !table.entry(row, col).is_zero()
 }
 
 /// The first row with an artificial basic and an entry other than 0.
