@@ -33,9 +33,7 @@ fn pivot_with_event(
     ensures trace_same { IfErr result (λ _. trace.new ≡ trace.old) }
     ensures refused { IfErr result (IsRefusedAt (PivotPlaces table.old leave enter)) }
 {
-    if trace.push(Event::Pivot { enter, leave }).is_err() {
-        return Err(TableError::NoMemory);
-    }
+    trace.push(Event::Pivot { enter, leave })?;
     if let Err(refused) = table.pivot(leave, enter) {
         trace.pop();
         return Err(refused);
