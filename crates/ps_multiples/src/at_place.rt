@@ -1,6 +1,5 @@
 //! Whole numbers that are printed, with the place where one is too large.
 ghost use Rattle.std.specs.Prelude.{◌≡◌, ◌<◌, ◌≤◌, ◌+ℤ◌, pos, unsigned_abs, IfOk, IfErr};
-ghost use Rattle.std.specs.Int.{◌∣◌};
 ghost use Rattle.std.specs.Option.{SomeIff};
 ghost use Rattle.ps_rational.specs.Gcd.{lcm};
 ghost use Rattle.ps_rational.specs.Rational.{whole};
@@ -24,10 +23,8 @@ fn printed_multiple(a: u128, b: u128) -> Option<u128>
     if PRINTED_LIMIT < b {
         return None;
     }
-    match lcm_upto(a as i128, b as i128, PRINTED_LIMIT as i128) {
-        Some(multiple) => Some(multiple.unsigned_abs()),
-        None => None,
-    }
+    let multiple = lcm_upto(a as i128, b as i128, PRINTED_LIMIT as i128)?;
+    Some(multiple.unsigned_abs())
 }
 
 /// The least common multiple of a number and a fraction's denominator.
