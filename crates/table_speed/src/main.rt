@@ -4,12 +4,12 @@
 
 use ps_frac::Fraction;
 use ps_pool::Col;
-use ps_table::{Home, Table};
+use ps_table::{Home, MOST_ROWS, Table};
 use std::alloc::Global;
 use std::env;
 
-/// How many rows the table has.
-const ROWS: u32 = 101;
+/// How many rows the table has: as many as one may have.
+const ROWS: u32 = MOST_ROWS as u32;
 
 /// How many worlds have a column.
 const WORLDS: u32 = 300;
@@ -144,22 +144,18 @@ fn count_of(rt: &HostRuntime) -> anyhow::Result<u64> {
 /// The table of the homes and the worlds.
 fn table(alloc: Global) -> anyhow::Result<Option<Table>> {
     let homes = homes(alloc)?;
-    if homes.is_empty() || homes.len() > 101 {
+    if homes.is_empty() || homes.len() > MOST_ROWS {
         return Ok(None);
     }
     let mut draw = Draw { state: 1 };
-    match Table::new(alloc, &homes) {
-        Ok(mut table) => {
-            for _ in 0..WORLDS {
-                let entries = entries(alloc, &mut draw)?;
-                if !added(&mut table, &entries) {
-                    return Ok(None);
-                }
-            }
-            Ok(Some(table))
+    let mut table = Table::new(alloc, &homes)?;
+    for _ in 0..WORLDS {
+        let entries = entries(alloc, &mut draw)?;
+        if !added(&mut table, &entries) {
+            return Ok(None);
         }
-        Err(_) => Ok(None),
     }
+    Ok(Some(table))
 }
 
 fn main(rt: HostRuntime) -> anyhow::Result<()> {
