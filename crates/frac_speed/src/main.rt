@@ -2,7 +2,7 @@
 //! products; it writes a checksum of the results, and the time is taken from outside.
 #![tactic(auto)]
 
-use ps_frac::Fraction;
+use ps_frac::{Fraction, Wide};
 use std::alloc::Global;
 use std::env;
 
@@ -52,8 +52,12 @@ fn mixed(sum: u64, answer: &Fraction) -> u64 {
         .wrapping_add(under as u64)
 }
 
-/// A checksum of the sums of neighbours, going round.
-fn sums(list: &[Fraction], rounds: u64) -> u64 {
+/// A checksum of what an operation makes of neighbours, going round.
+fn checksum<F>(list: &[Fraction], rounds: u64, operation: F) -> u64
+where
+    F: Fn(&Fraction, &Fraction) -> Result<Fraction, Wide>,
+    requires { F.IsAlwaysCallable operation }
+{
     let mut checksum = 0u64;
     let mut left = 0usize;
     let mut right = 0usize;
@@ -65,31 +69,8 @@ fn sums(list: &[Fraction], rounds: u64) -> u64 {
             right = 0;
         }
         if left < list.len() && right < list.len() {
-            if let Ok(sum) = list[left].add(&list[right]) {
-                checksum = mixed(checksum, &sum);
-            }
-        }
-        left = left.wrapping_add(1);
-        right = right.wrapping_add(7);
-    }
-    checksum
-}
-
-/// A checksum of the products of neighbours, going round.
-fn products(list: &[Fraction], rounds: u64) -> u64 {
-    let mut checksum = 0u64;
-    let mut left = 0usize;
-    let mut right = 0usize;
-    for _ in 0..rounds {
-        if left >= list.len() {
-            left = 0;
-        }
-        if right >= list.len() {
-            right = 0;
-        }
-        if left < list.len() && right < list.len() {
-            if let Ok(product) = list[left].mul(&list[right]) {
-                checksum = mixed(checksum, &product);
+            if let Ok(answer) = operation(&list[left], &list[right]) {
+                checksum = mixed(checksum, &answer);
             }
         }
         left = left.wrapping_add(1);
@@ -110,7 +91,9 @@ fn main(rt: HostRuntime) -> anyhow::Result<()> {
         place = place.wrapping_add(1);
     }
     let list = fractions(rt.alloc())?;
-    println!(rt; "sums {}", sums(list.as_slice(), rounds[0]))?;
-    println!(rt; "products {}", products(list.as_slice(), rounds[1]))?;
+    let sums = checksum(&list, rounds[0], |left, right| left.add(right));
+    let products = checksum(&list, rounds[1], |left, right| left.mul(right));
+    println!(rt; "sums {sums}")?;
+    println!(rt; "products {products}")?;
     Ok(())
 }
