@@ -3,6 +3,7 @@ use Rattle.std.specs.Prelude.{◌≡◌, ◌≤◌, ℕ, Bool, false, ◌&&◌, 
 use Rattle.std.specs.List.{list_all}
 use Rattle.std.specs.Str.{bytes_eq}
 use lib.Chars.{codes}
+use Rattle.ps_meaning.specs.declared.limits.TheConstants.{LONGEST_NAME}
 
 -- `A` to `Z` and `a` to `z`
 abbrev pub is_letter : ℕ → Bool
@@ -26,12 +27,8 @@ abbrev pub is_reserved : List ℕ → Bool
 is_reserved w = bytes_eq w (codes "psat") || bytes_eq w (codes "P") || bytes_eq w (codes "given") || bytes_eq w (codes "in")
     || bytes_eq w (codes "query") || bytes_eq w (codes "end") || bytes_eq w (codes "true") || bytes_eq w (codes "false")
 
--- the most bytes of a name
-abbrev pub longest_name : ℕ
-longest_name = 32
-
 -- the name of an atom: a word that isn't too long, nor reserved
 pub record IsName (text : List ℕ) : Type 0 where
   pub word : IsTrue (is_word text)
-  pub short : length text ≤ longest_name
+  pub short : length text ≤ LONGEST_NAME
   pub free : is_reserved text ≡ false

@@ -2,6 +2,8 @@
 //! the bounds that they meet.
 #![tactic(auto)]
 
+mod limits;
 mod side;
 
+pub use limits::{LONGEST_NAME, limits_have_these_numbers};
 pub use side::Side;

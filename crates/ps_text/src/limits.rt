@@ -3,8 +3,10 @@ ghost use Rattle.std.specs.Prelude.{◌≡◌};
 ghost use Rattle.ps_text.specs.declared.limits.TheConstants.{LONGEST_WORD, MOST_OPEN};
 ghost use Rattle.ps_text.specs.declared.limits.TheConstants.{GREATEST_DENOMINATOR, MOST_DECIMALS};
 
-/// The most bytes of a word.
-pub const LONGEST_WORD: usize = 32;
+use ps_meaning::LONGEST_NAME;
+
+/// The most bytes of a word, as of a name.
+pub const LONGEST_WORD: usize = LONGEST_NAME;
 
 /// The most of `!`, `(` and `->` that are open at once in a formula.
 pub const MOST_OPEN: usize = 100;
