@@ -1,6 +1,7 @@
 -- Sums over a distribution of what a dual combines.
 use Rattle.std.proofs.Common.{◌≡◌, ℕ, ℤ, pos, ◌*ℤ◌, ◌≤ℤ◌, Bool, true, false, List, [], ◌∷◌, get_or, refl, arith}
 use Rattle.std.proofs.lemmas.Int.{ints}
+use Rattle.std.proofs.lemmas.List.Elements.{All-tail}
 use Rattle.std.proofs.Math.IntN.{zero-*ℤ}
 use Rattle.ps_meaning.specs.Formula.{World, Formula}
 use Rattle.ps_meaning.specs.Distribution.{Entry, weight, IsDistribution}
@@ -9,7 +10,6 @@ use Rattle.ps_meaning.specs.declared.side.Side.TheVariants.{AtLeast, AtMost, Exa
 use Rattle.ps_meaning.specs.Bounds.{Bound, Compares, MeetsBound, MeetsAll}
 use Rattle.ps_meaning.specs.Rows.{indicator, row_value, weighted_sum}
 use Rattle.ps_meaning.proofs.Integers.{mul-nonneg, mul-zero}
-use Rattle.ps_meaning.proofs.Weights.{rest}
 use Rattle.ps_meaning.proofs.Rows.{weighted_sum-indicator, weighted_sum-add, weighted_sum-scale, weighted_sum-nonpos, meets_row}
 use Rattle.ps_claims.specs.Duals.{HasSign, HaveSigns, kept_of, AreZeroElsewhere, sum_of_rows, IsNeverAbove}
 use Rattle.ps_entailment.proofs.Products.{mul-nonpos_nonpos}
@@ -37,7 +37,7 @@ pub weighted_sum-rows : (bounds : List Bound) (ys : List ℤ) (d : List Entry) �
 weighted_sum-rows [] ys d signs met = rw (weighted_sum-none d) (omega (arith, ints))
 weighted_sum-rows (b ∷ bs) [] d signs met = absurd signs
 weighted_sum-rows (b ∷ bs) (y ∷ ys) d signs met =
-    rows-more b bs y ys d (row-met b y d signs.0 (met 0 b (omega arith))) (weighted_sum-rows bs ys d signs.1 (rest (λ x. MeetsBound x d) b bs met))
+    rows-more b bs y ys d (row-met b y d signs.0 (met 0 b (omega arith))) (weighted_sum-rows bs ys d signs.1 (All-tail (λ x. MeetsBound x d) b bs met))
 
 -- it need meet only the bounds that are kept, where the others have multiplier 0
 pub weighted_sum-kept : (kept : List Bool) (bounds : List Bound) (ys : List ℤ) (d : List Entry) → HaveSigns bounds ys → AreZeroElsewhere kept ys → MeetsAll (kept_of kept bounds) d
@@ -46,7 +46,7 @@ weighted_sum-kept kept [] ys d signs zero met = rw (weighted_sum-none d) (omega 
 weighted_sum-kept kept (b ∷ bs) [] d signs zero met = absurd signs
 weighted_sum-kept [] (b ∷ bs) (y ∷ ys) d signs zero met = absurd zero
 weighted_sum-kept (true ∷ ks) (b ∷ bs) (y ∷ ys) d signs zero met =
-    rows-more b bs y ys d (row-met b y d signs.0 (met 0 b (omega arith))) (weighted_sum-kept ks bs ys d signs.1 zero.1 (rest (λ x. MeetsBound x d) b (kept_of ks bs) met))
+    rows-more b bs y ys d (row-met b y d signs.0 (met 0 b (omega arith))) (weighted_sum-kept ks bs ys d signs.1 zero.1 (All-tail (λ x. MeetsBound x d) b (kept_of ks bs) met))
 weighted_sum-kept (false ∷ ks) (b ∷ bs) (y ∷ ys) d signs zero met =
     let none : pos 0 ≤ℤ (y *ℤ weighted_sum d (row_value b)) = rw (zero.0 refl, zero-*ℤ (weighted_sum d (row_value b))) (omega (arith, ints)) in
     rows-more b bs y ys d none (weighted_sum-kept ks bs ys d signs.1 zero.1 met)

@@ -1,6 +1,7 @@
 -- Sums over a distribution, and a bound as the sum of its row.
 use Rattle.std.proofs.Common.{◌≡◌, ◌↔◌, ℕ, ℤ, pos, ◌+ℤ◌, ◌-ℤ◌, ◌*ℤ◌, ◌≤ℤ◌, Bool, true, false, cond, List, [], ◌∷◌, All, refl, sym, arith}
 use Rattle.std.proofs.lemmas.Int.{ints}
+use Rattle.std.proofs.lemmas.List.Elements.{All-tail}
 use Rattle.ps_meaning.specs.Formula.{Formula, World, And, is_true}
 use Rattle.ps_meaning.specs.Distribution.{Entry, weight}
 use Rattle.ps_meaning.specs.declared.side.Side.{Side}
@@ -8,7 +9,6 @@ use Rattle.ps_meaning.specs.declared.side.Side.TheVariants.{AtLeast, AtMost, Exa
 use Rattle.ps_meaning.specs.Bounds.{Bound, Compares, MeetsBound}
 use Rattle.ps_meaning.specs.Rows.{indicator, row_value, weighted_sum}
 use Rattle.ps_meaning.proofs.Integers.{mul_add, mul_sub, swap_mul, mul-zero, mul-one, mul-nonpos}
-use Rattle.ps_meaning.proofs.Weights.{rest}
 
 -- the sum of a formula's indicator is its weight
 pub weighted_sum-indicator : (d : List Entry) (f : Formula ℕ) → weighted_sum d (indicator f) ≡ weight d f
@@ -37,7 +37,7 @@ weighted_sum-nonpos [] F h low = omega (arith, ints)
 weighted_sum-nonpos (e ∷ d) F h low =
     let heavy : pos 1 ≤ℤ e.weight = h 0 e (omega arith) in
     let first : (e.weight *ℤ F e.world) ≤ℤ pos 0 = mul-nonpos e.weight (F e.world) (omega (arith, ints)) (low 0 e (omega arith)) in
-    let more : weighted_sum d F ≤ℤ pos 0 = weighted_sum-nonpos d F (rest (λ x. pos 1 ≤ℤ x.weight) e d h) (rest (λ x. F x.world ≤ℤ pos 0) e d low) in
+    let more : weighted_sum d F ≤ℤ pos 0 = weighted_sum-nonpos d F (All-tail (λ x. pos 1 ≤ℤ x.weight) e d h) (All-tail (λ x. F x.world ≤ℤ pos 0) e d low) in
     omega (arith, ints)
 
 -- the sum of a bound's row
