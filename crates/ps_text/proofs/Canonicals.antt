@@ -11,8 +11,9 @@ use Rattle.ps_meaning.specs.Formula as formula
 use Rattle.ps_meaning.specs.declared.side.Side.{Side}
 use Rattle.ps_meaning.specs.declared.side.Side.TheVariants as side
 use Rattle.ps_meaning.specs.Statements as meaning
-use Rattle.ps_meaning.specs.Statements.{Ratio, Statement, Question, Item, Stated, Asked}
+use Rattle.ps_meaning.specs.Statements.{Ratio, Item, Stated, Asked}
 use Rattle.ps_meaning.specs.Names.{is_word}
+use Rattle.ps_text.specs.declared.limits.TheConstants.{GREATEST_DENOMINATOR}
 use Rattle.ps_text.specs.Tokens.{Token, Word, Number, Sign, Numeral, Whole, Quotient, Symbol, Open, Close, OpenBracket, CloseBracket, Comma, Semicolon, Bang, Ampersand, Bar, Arrow, DoubleArrow, Equals, GreaterEquals, LessEquals, is_letter, is_digit, is_word_byte, IsWord, AreDigits, IsNumeral, numeral_spelling, symbol_spelling}
 use Rattle.ps_text.specs.Grammar.{FormulaSyntax, Name, Truth, Falsity, Not, Group, And, Or, Implies, Iff, spelled, level, IsWellFormed, Prob, Relation, Exactly, AtLeast, AtMost, Within, Sentence, Query, given_tokens, prob_tokens, relation_tokens, item_tokens, items_tokens, text_tokens, value_from, value, IsProbability, IsGiven, IsProb, IsRelation, IsWellFormedItem, AreWellFormedItems}
 use Rattle.ps_text.specs.Meanings.{formula_of, given_of, IsValue, States, IsItem, AreItems}
@@ -20,7 +21,7 @@ use Rattle.ps_text.specs.Pieces.{texts}
 use Rattle.ps_text.specs.Fronts.{IsFront}
 use Rattle.ps_text.specs.Canonical.{fitted, canonical_formula, canonical_numeral, canonical_relation, canonical_given, canonical_prob, canonical_item, canonical_items, syntax_text, given_text, prob_text, relation_text, item_text, items_text, canonical_text, HasNames, IsWritable, IsWritableGiven, IsReduced, IsUpper, IsLawfulItem, AreLawful}
 use Rattle.ps_text.proofs.Levels.{test_le}
-use Rattle.ps_text.proofs.Spans.{Passes, both}
+use Rattle.ps_text.proofs.Spans.{Passes, both, same_byte}
 use Rattle.ps_text.proofs.Laying.{Quiet, Laid, laid_none, laid_over, laid_blank, laid_sign, laid_token, Shut, shut_none, shut_end, shut_over}
 
 -- numbers
@@ -50,9 +51,6 @@ decimal_digits n h = are_digits (decimal n) (digits_decimal own n h) (decimal_no
 decimal_value : (n : ℕ) → n < 2 ^ 64 → value (decimal n) ≡ n
 decimal_value n h = digits_value-decimal own n h
 
-same_number : (a b : ℕ) → (a == b) ≡ true → a ≡ b
-same_number a b e = grind (arith, nat_tests)
-
 -- the numeral of a ratio within the limits
 record Numbers (r : Ratio) (x : Numeral) : Type 0 where
   numeral : IsNumeral x
@@ -62,7 +60,7 @@ record Numbers (r : Ratio) (x : Numeral) : Type 0 where
 numbers : (r : Ratio) → IsReduced r → Numbers r (canonical_numeral r)
 numbers r h = by (r.den == 1) refl
   where
-    small : (n : ℕ) → n ≤ 1000000 → n < 2 ^ 64
+    small : (n : ℕ) → n ≤ GREATEST_DENOMINATOR → n < 2 ^ 64
     small n l = omega arith
 
     num : value (decimal r.num) ≡ r.num
@@ -75,7 +73,7 @@ numbers r h = by (r.den == 1) refl
     chosen b = if b then Whole (decimal r.num) else Quotient (decimal r.num) (decimal r.den)
 
     by : (b : Bool) → (r.den == 1) ≡ b → Numbers r (chosen b)
-    by true e = let one : r.den ≡ 1 = same_number r.den 1 e in record {
+    by true e = let one : r.den ≡ 1 = same_byte r.den 1 e in record {
       numeral = decimal_digits r.num (small r.num (omega (arith, h.small, h.probability)));
       probability = omega (arith, num, one, h.probability);
       meant = record { divisor = 1; greatest = subst (λ n. IsGcd n 1 1) (sym num) (subst (λ d. IsGcd r.num d 1) one h.lowest); num = omega (arith, num); den = omega (arith, one) };

@@ -3,6 +3,7 @@ use Rattle.std.proofs.Common.{◌≡◌, ℕ, ◌^◌, ◌<◌, ◌≤◌, Bool,
 use Rattle.std.proofs.lemmas.Bool.Decides.{nat_tests}
 use Rattle.std.specs.Prelude.{nat_lt, nat_eq, codes}
 use Rattle.std.specs.List.{list_any}
+use Rattle.ps_text.specs.declared.limits.TheConstants.{LONGEST_WORD, MOST_OPEN, GREATEST_DENOMINATOR, MOST_DECIMALS}
 use Rattle.ps_text.specs.Tokens.{Token, Word, Sign, Numeral, Whole, Quotient, Decimal, Open, Close, Semicolon, Ampersand, Bar, Arrow, DoubleArrow}
 use Rattle.ps_text.specs.Grammar.{is_reserved, value, FormulaSyntax, Name, Truth, Falsity, Not, Group, And, Or, Implies, Iff, spelled, level, IsWellFormed, Nests, Prob, Relation, Exactly, AtLeast, AtMost, Within, ItemSyntax, Sentence, Query, given_tokens, prob_tokens, relation_tokens, item_tokens, items_tokens, text_tokens, IsProbability, IsGiven, IsProb, IsRelation, IsWellFormedItem, AreWellFormedItems}
 use Rattle.ps_text.specs.declared.part.Part.{Part}
@@ -10,6 +11,7 @@ use Rattle.ps_text.specs.declared.part.Part.TheVariants as part
 use Rattle.ps_text.specs.declared.part.Opening.{Opening}
 use Rattle.ps_text.specs.declared.part.Opening.TheVariants as opening
 use Rattle.ps_text.specs.ExpectedTokens.{State, outside, is_group, value_fault, refusal, without_nots, without_arrows, prob_ended, after, Passes, AreExpected}
+use Rattle.ps_text.proofs.Nesting.{least_level}
 
 -- within a formula
 abbrev pub state : Part → Bool → Bool → List Opening → State
@@ -83,15 +85,11 @@ behind_groups Falsity os n = ap (list_any is_group) n
 behind_groups (Not f) os n = ap (list_any is_group) n
 behind_groups (Group f) os n = ap (list_any is_group) n
 
-level_some : (f : FormulaSyntax) → 1 ≤ level f
-level_some (Iff f g) = omega arith
-level_some f = omega arith
-
-name_expected : (q g : Bool) (os : List Opening) (w : List ℕ) → is_reserved w ≡ false → length w ≤ 32 → refusal (state part.Operand q g os) (Word w) ≡ None
+name_expected : (q g : Bool) (os : List Opening) (w : List ℕ) → is_reserved w ≡ false → length w ≤ LONGEST_WORD → refusal (state part.Operand q g os) (Word w) ≡ None
 unfolding refusal
-name_expected q g os w r l = let h : nat_lt 32 (length w) ≡ false = grind (arith, nat_tests) in rw (h, r) refl
+name_expected q g os w r l = let h : nat_lt LONGEST_WORD (length w) ≡ false = grind (arith, nat_tests) in rw (h, r) refl
 
-room : (n : ℕ) → n < 100 → nat_lt n 100 ≡ true
+room : (n : ℕ) → n < MOST_OPEN → nat_lt n MOST_OPEN ≡ true
 room n h = grind (arith, nat_tests)
 
 pub formula_passes : (f : FormulaSyntax) (q g : Bool) (os : List Opening) → IsWellFormed f → Nests (length os) f → needed os ≤ level f
@@ -118,7 +116,7 @@ formula_passes (Not f) q g os i n u =
 formula_passes (Group f) q g os i n u = (
   rw (room (length os) n.0) refl,
   passes-append (state part.Operand q g (opening.Group ∷ os)) (state part.Operator q g (behind f (opening.Group ∷ os))) (state part.Operator q g (without_nots os)) (spelled f) (Sign Close ∷ [])
-      (formula_passes f q g (opening.Group ∷ os) i (subst (λ k. Nests k f) (add-one (length os)) n.1) (level_some f))
+      (formula_passes f q g (opening.Group ∷ os) i (subst (λ k. Nests k f) (add-one (length os)) n.1) (least_level f))
       (refl, rw (behind_ended f (opening.Group ∷ os) refl) refl),
 )
 formula_passes (And f h) q g os i n u =
@@ -169,7 +167,7 @@ given_passes f None q i = prob_end f q false
 given_passes f (Some c) q i = (
   rw (behind_groups f [] refl) refl,
   passes-append (state part.Operand q true []) (state part.Operator q true (behind c [])) (prob_ended q) (spelled c) (Sign Close ∷ [])
-      (formula_passes c q true [] i.0 i.1 (level_some c)) (prob_end c q true),
+      (formula_passes c q true [] i.0 i.1 (least_level c)) (prob_end c q true),
 )
 
 prob_passes : (p : Prob) (q : Bool) → IsProb p → Passes (state part.Paren q false []) (Sign Open ∷ spelled p.formula ++ given_tokens p.given ++ Sign Close ∷ []) (prob_ended q)
@@ -178,17 +176,17 @@ prob_passes p q i = (
   refl,
   subst (λ ts. Passes (state part.Operand q false []) ts (prob_ended q)) (sym (append_assoc (spelled p.formula) (given_tokens p.given) (Sign Close ∷ [])))
       (passes-append (state part.Operand q false []) (state part.Operator q false (behind p.formula [])) (prob_ended q) (spelled p.formula) (given_tokens p.given ++ Sign Close ∷ [])
-      (formula_passes p.formula q false [] i.formula i.nests (level_some p.formula)) (given_passes p.formula p.given q i.given)),
+      (formula_passes p.formula q false [] i.formula i.nests (least_level p.formula)) (given_passes p.formula p.given q i.given)),
 )
 
 number_expected : (x : Numeral) → IsProbability x → value_fault x ≡ None
 number_expected (Whole ds) i = let h : nat_lt 1 (value ds) ≡ false = grind (arith, nat_tests) in rw h refl
 number_expected (Quotient ds es) i =
     let h0 : nat_eq (value es) 0 ≡ false = grind (arith, nat_tests, i.0) in
-    let h1 : nat_lt 1000000 (value es) ≡ false = grind (arith, nat_tests, i.1) in
+    let h1 : nat_lt GREATEST_DENOMINATOR (value es) ≡ false = grind (arith, nat_tests, i.1) in
     let h2 : nat_lt (value es) (value ds) ≡ false = grind (arith, nat_tests, i.2) in rw (h0, h1, h2) refl
 number_expected (Decimal ds es) i =
-    let h0 : nat_lt 6 (length es) ≡ false = grind (arith, nat_tests, i.0) in
+    let h0 : nat_lt MOST_DECIMALS (length es) ≡ false = grind (arith, nat_tests, i.0) in
     let h1 : nat_lt (10 ^ length es) (value (ds ++ es)) ≡ false = grind (arith, nat_tests, i.1) in rw (h0, h1) refl
 
 relation_passes : (r : Relation) → IsRelation r → Passes (outside part.Relation) (relation_tokens r ++ Sign Semicolon ∷ []) (outside part.Item)

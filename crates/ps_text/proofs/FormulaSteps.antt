@@ -6,12 +6,13 @@ use Rattle.std.specs.Prelude.{bytes_eq, codes, if◌then◌else◌, nat_lt}
 use Rattle.std.specs.List.{list_any}
 use Rattle.ps_text.specs.Tokens.{Token, Word, Number, Sign, Open, Close, Bang, Ampersand, Bar, Arrow, DoubleArrow, is_the_sign, is_the_word}
 use Rattle.ps_text.specs.declared.kind.ReadKind.TheVariants.{TooDeep}
+use Rattle.ps_text.specs.declared.limits.TheConstants.{MOST_OPEN}
 use Rattle.ps_text.specs.Grammar.{is_reserved, FormulaSyntax, Name, Truth, Falsity, Group, spelled, level, IsWellFormed, Nests, ItemSyntax, Query, prob_tokens, IsGiven, IsProb, AreWellFormedItems, tokens_up_to}
 use Rattle.ps_text.specs.declared.part.Part.TheVariants as part
 use Rattle.ps_text.specs.declared.part.Opening.{Opening}
 use Rattle.ps_text.specs.declared.part.Opening.TheVariants as opening
 use Rattle.ps_text.specs.ExpectedTokens.{is_operand_word, is_connective, is_group, may_be_given, is_too_long, without_arrows, closed, after}
-use Rattle.ps_text.proofs.Spans.{both}
+use Rattle.ps_text.proofs.Spans.{not_true, both}
 use Rattle.ps_text.proofs.Signs.{the_word, the_sign, Either, First, Second, either}
 use Rattle.ps_text.specs.BegunFormulas.{Frame, BegunNot, BegunGroup, BegunAnd, BegunOr, BegunImplies, BegunIff, frame_tokens, opened_of, required_level, IsNextOperand, joins}
 use Rattle.ps_text.proofs.Frames.{most_required, joins_tokens, joins_fits, joins_level, joins_need, joins_settled, nots_opened, and_opened, or_opened, all_opened, all_joined}
@@ -37,11 +38,11 @@ the_operand w short h = by (bytes_eq w (codes "true")) refl (bytes_eq w (codes "
     by false e true f = record { is = ap (λ u. Word u ∷ []) (sym ((bytes_eq-Decides w (codes "false")).0 f)); formula = tt; nests = λ n. tt; tight = omega arith }
     by false e false f = record { is = refl; formula = (name (is_reserved w) refl h e f, grind (arith, nat_tests)); nests = λ n. tt; tight = omega arith }
 
--- the nesting that is opened is one of the first 100
-room : (n : ℕ) → unless (nat_lt n 100) TooDeep ≡ None → n < 100
-room n h = by (nat_lt n 100) refl h
+-- the nesting that is opened is within the limit
+room : (n : ℕ) → unless (nat_lt n MOST_OPEN) TooDeep ≡ None → n < MOST_OPEN
+room n h = by (nat_lt n MOST_OPEN) refl h
   where
-    by : (b : Bool) → nat_lt n 100 ≡ b → unless b TooDeep ≡ None → n < 100
+    by : (b : Bool) → nat_lt n MOST_OPEN ≡ b → unless b TooDeep ≡ None → n < MOST_OPEN
     by true e h = grind (arith, nat_tests)
     by false e h = absurd (true≢false (ap is_some h))
 
@@ -73,7 +74,7 @@ at_operand es q c fs t s h = by (either (is_operand_word t || is_the_sign Bang t
         subst (λ u. IsExtendedBy (InOperand es q c fs) u) (sym (the_sign Bang t e)) (record {
           state = refl;
           tokens = sym (append_assoc (formula_lead es q c) (frame_tokens fs) (Sign Bang ∷ []));
-          within = (s.0, s.1, (room (length (opened_of fs)) (fault_room (nat_lt (length (opened_of fs)) 100) deep.fault), s.2));
+          within = (s.0, s.1, (room (length (opened_of fs)) (fault_room (nat_lt (length (opened_of fs)) MOST_OPEN) deep.fault), s.2));
         })
 
     by : Either (is_operand_word t || is_the_sign Bang t) (is_the_sign Open t) → IsExtendedBy (InOperand es q c fs) t
@@ -83,7 +84,7 @@ at_operand es q c fs t s h = by (either (is_operand_word t || is_the_sign Bang t
         subst (λ u. IsExtendedBy (InOperand es q c fs) u) (sym (the_sign Open t e)) (record {
           state = refl;
           tokens = sym (append_assoc (formula_lead es q c) (frame_tokens fs) (Sign Open ∷ []));
-          within = (s.0, s.1, (room (length (opened_of fs)) (fault_room (nat_lt (length (opened_of fs)) 100) deep.fault), s.2));
+          within = (s.0, s.1, (room (length (opened_of fs)) (fault_room (nat_lt (length (opened_of fs)) MOST_OPEN) deep.fault), s.2));
         })
 
 -- the last tokens of what was parsed
@@ -176,7 +177,7 @@ at_or es q c fs f s =
       within = (s.0, s.1, (omega (arith, joins_need 3 fs f (omega arith)), record { tight = joins_level 3 fs f (omega arith) (omega (arith, s.4)); formula = i.formula; nests = i.nests }, i.frames));
     }
 
-at_implies : (es : List ItemSyntax) (q : Bool) (c : Option FormulaSyntax) (fs : List Frame) (f : FormulaSyntax) → IsParse (InOperator es q c fs f) → length (opened_of fs) < 100 → IsExtendedBy (InOperator es q c fs f) (Sign Arrow)
+at_implies : (es : List ItemSyntax) (q : Bool) (c : Option FormulaSyntax) (fs : List Frame) (f : FormulaSyntax) → IsParse (InOperator es q c fs f) → length (opened_of fs) < MOST_OPEN → IsExtendedBy (InOperator es q c fs f) (Sign Arrow)
 unfolding after
 at_implies es q c fs f s l =
     let i = joins_fits 3 fs f (omega arith) s.2 in
@@ -184,7 +185,7 @@ at_implies es q c fs f s l =
     record {
       state = ap (λ os. record { part = part.Operand; query = q; given = is_some c; opened = opening.Arrow ∷ os }) o;
       tokens = last_two (formula_lead es q c) (frame_tokens fs ++ spelled f) (Sign Arrow) (frame_tokens (joins 3 fs f).0 ++ spelled (joins 3 fs f).1) (joins_tokens 3 fs f (omega arith));
-      within = (s.0, s.1, (joins_need 3 fs f (omega arith), record { tight = joins_level 3 fs f (omega arith) (omega (arith, s.4)); formula = i.formula; nests = i.nests }, subst (λ os. length os < 100) (sym o) l, i.frames));
+      within = (s.0, s.1, (joins_need 3 fs f (omega arith), record { tight = joins_level 3 fs f (omega arith) (omega (arith, s.4)); formula = i.formula; nests = i.nests }, subst (λ os. length os < MOST_OPEN) (sym o) l, i.frames));
     }
 
 at_iff : (es : List ItemSyntax) (q : Bool) (c : Option FormulaSyntax) (fs : List Frame) (f : FormulaSyntax) → IsParse (InOperator es q c fs f) → IsExtendedBy (InOperator es q c fs f) (Sign DoubleArrow)
@@ -223,7 +224,7 @@ at_operator es q c fs f t s h = by (either (is_connective t || is_the_sign Close
     arrow : t ≡ Sign Arrow → IsExtendedBy (InOperator es q c fs f) t
     arrow e =
         let deep : Passed (state_of (InOperator es q c fs f)) (Sign Arrow) = subst (λ u. Passed (state_of (InOperator es q c fs f)) u) e h in
-        subst (λ u. IsExtendedBy (InOperator es q c fs f) u) (sym e) (at_implies es q c fs f s (room (length (opened_of fs)) (fault_room (nat_lt (length (opened_of fs)) 100) deep.fault)))
+        subst (λ u. IsExtendedBy (InOperator es q c fs f) u) (sym e) (at_implies es q c fs f s (room (length (opened_of fs)) (fault_room (nat_lt (length (opened_of fs)) MOST_OPEN) deep.fault)))
 
     first : Either (is_the_sign Ampersand t) (is_the_sign Bar t) → IsExtendedBy (InOperator es q c fs f) t
     first (First e) = subst (λ u. IsExtendedBy (InOperator es q c fs f) u) (sym (the_sign Ampersand t e)) (at_and es q c fs f s)
@@ -240,10 +241,6 @@ at_operator es q c fs f t s h = by (either (is_connective t || is_the_sign Close
     signs : Either (is_connective t) (is_the_sign Close t) → IsExtendedBy (InOperator es q c fs f) t
     signs (First e) = connective (either (is_the_sign Ampersand t || is_the_sign Bar t || is_the_sign Arrow t) (is_the_sign DoubleArrow t) e)
     signs (Second e) = subst (λ u. IsExtendedBy (InOperator es q c fs f) u) (sym (the_sign Close t e)) (at_close es q c fs f s)
-
-    not_true : (b : Bool) → not b ≡ true → b ≡ false
-    not_true true e = absurd (true≢false (sym e))
-    not_true false e = refl
 
     by : Either (is_connective t || is_the_sign Close t) (may_be_given (state_of (InOperator es q c fs f)) && is_the_word (codes "given") t) → IsExtendedBy (InOperator es q c fs f) t
     by (First e) = signs (either (is_connective t) (is_the_sign Close t) e)

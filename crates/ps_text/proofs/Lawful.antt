@@ -7,6 +7,7 @@ use Rattle.std.specs.Int.{IsGcd, ◌∣◌}
 use Rattle.ps_meaning.specs.declared.side.Side.{Side}
 use Rattle.ps_meaning.specs.Statements.{Ratio, Item, Stated, Asked}
 use Rattle.ps_meaning.specs.Names.{is_word}
+use Rattle.ps_text.specs.declared.limits.TheConstants.{GREATEST_DENOMINATOR, MOST_DECIMALS}
 use Rattle.ps_text.specs.Tokens.{One, Token, Word, Sign, Numeral, Whole, Quotient, Decimal, Close, Semicolon, Ampersand, Bar, Arrow, DoubleArrow, is_word_byte, IsWord, IsToken}
 use Rattle.ps_text.specs.Pieces.{Piece, Blank, Comment, Spelled, Cuts, tokens}
 use Rattle.ps_text.specs.Grammar.{FormulaSyntax, Name, Truth, Falsity, Not, Group, And, Or, Implies, Iff, spelled, IsWellFormed, Prob, Relation, Exactly, AtLeast, AtMost, Within, ItemSyntax, Sentence, Query, given_tokens, prob_tokens, relation_tokens, item_tokens, items_tokens, text_tokens, IsProbability, IsGiven, IsProb, IsRelation, IsWellFormedItem, AreWellFormedItems}
@@ -42,10 +43,10 @@ coprime m n a b g some h e f = (
 )
 
 -- few decimals have a denominator within the limit
-pub tens_few : (n : ℕ) → n ≤ 6 → 10 ^ n ≤ 1000000
-tens_few n h = pow-le-pow_right {n = 10} (omega arith) {i = n} {j = 6} h
+pub tens_few : (n : ℕ) → n ≤ MOST_DECIMALS → 10 ^ n ≤ GREATEST_DENOMINATOR
+tens_few n h = pow-le-pow_right {n = 10} (omega arith) {i = n} {j = MOST_DECIMALS} h
 
-denominator_small : (x : Numeral) → IsProbability x → (ratio_of x).den ≤ 1000000
+denominator_small : (x : Numeral) → IsProbability x → (ratio_of x).den ≤ GREATEST_DENOMINATOR
 denominator_small (Whole ds) h = omega arith
 denominator_small (Quotient ds es) h = h.1
 denominator_small (Decimal ds es) h = tens_few (length es) h.0
@@ -64,7 +65,7 @@ reduced x r h v =
     record {
       lowest = coprime (ratio_of x).num (ratio_of x).den r.num r.den v.divisor g v.greatest v.num v.den;
       some = quotient_some (ratio_of x).den r.den v.divisor some v.den;
-      small = le_to r.den (ratio_of x).den 1000000 (quotient_less (ratio_of x).den r.den v.divisor g v.den) (denominator_small x h);
+      small = le_to r.den (ratio_of x).den GREATEST_DENOMINATOR (quotient_less (ratio_of x).den r.den v.divisor g v.den) (denominator_small x h);
       probability = order_left r.num r.den v.divisor g (between (ratio_of x).num (ratio_of x).den (r.num * v.divisor) (r.den * v.divisor) v.num v.den (at_most_one x h));
     }
   where

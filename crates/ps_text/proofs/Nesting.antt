@@ -1,33 +1,30 @@
 -- How deep the canonical form nests.
 use Rattle.std.proofs.Common.{◌≡◌, ℕ, ◌+◌, ◌<◌, ◌≤◌, max, Bool, true, false, refl, sym, subst, arith}
-use Rattle.std.proofs.lemmas.Bool.Decides.{nat_tests}
-use Rattle.std.specs.Prelude.{nat_le, nat_lt, if◌then◌else◌}
+use Rattle.std.specs.Prelude.{nat_le, if◌then◌else◌}
 use Rattle.ps_meaning.specs.Formula as formula
 use Rattle.ps_meaning.specs.Statements as meaning
+use Rattle.ps_text.specs.declared.limits.TheConstants.{MOST_OPEN}
 use Rattle.ps_text.specs.Grammar.{FormulaSyntax, Name, Truth, Falsity, Not, Group, And, Or, Implies, Iff, level, IsWellFormed, Nests}
 use Rattle.ps_text.specs.Meanings.{formula_of}
 use Rattle.ps_text.specs.Canonical.{fitted, canonical_formula, parenthesis, nesting_at, canonical_nesting}
-use Rattle.ps_text.proofs.Levels.{test_true}
-
-below : (k l : ℕ) → nat_le k l ≡ false → nat_lt l k ≡ true
-below k l e = grind (arith, nat_tests)
+use Rattle.ps_text.proofs.Levels.{test_true, test_past}
 
 -- what binds tightly enough stands without parentheses
 pub fits : (k : ℕ) (f : FormulaSyntax) → k ≤ level f → fitted k f ≡ f
 fits k f h = rw (test_true k (level f) h) refl
 
 parenthesis_one : (k l : ℕ) → nat_le k l ≡ false → parenthesis k l ≡ 1
-parenthesis_one k l e = rw (below k l e) refl
+parenthesis_one k l e = rw (test_past k l e) refl
 
 -- in parentheses, or as it is
-fitted_nests : (k n m : ℕ) (f : FormulaSyntax) → n + (parenthesis k (level f) + m) ≤ 100 → ((i : ℕ) → i + m ≤ 100 → Nests i f) → Nests n (fitted k f)
+fitted_nests : (k n m : ℕ) (f : FormulaSyntax) → n + (parenthesis k (level f) + m) ≤ MOST_OPEN → ((i : ℕ) → i + m ≤ MOST_OPEN → Nests i f) → Nests n (fitted k f)
 fitted_nests k n m f h p = by (nat_le k (level f)) refl
   where
     by : (b : Bool) → nat_le k (level f) ≡ b → Nests n (if b then f else Group f)
     by true e = p n (omega (arith, h))
     by false e = (omega (arith, h, parenthesis_one k (level f) e), p (n + 1) (omega (arith, h, parenthesis_one k (level f) e)))
 
-nests_at : (f : formula.Formula meaning.Name) (k n : ℕ) → k ≤ 5 → n + nesting_at k f ≤ 100 → Nests n (fitted k (canonical_formula f))
+nests_at : (f : formula.Formula meaning.Name) (k n : ℕ) → k ≤ 5 → n + nesting_at k f ≤ MOST_OPEN → Nests n (fitted k (canonical_formula f))
 nests_at formula.Truth k n l h = subst (Nests n) (sym (fits k Truth l)) tt
 nests_at formula.Falsity k n l h = subst (Nests n) (sym (fits k Falsity l)) tt
 nests_at (formula.Atom a) k n l h = subst (Nests n) (sym (fits k (Name a) l)) tt
@@ -45,17 +42,10 @@ nests_at (formula.Iff f g) k n l h = fitted_nests k n (max (nesting_at 1 f) (nes
 -- each level is 1 at least
 pub least_level : (f : FormulaSyntax) → 1 ≤ level f
 least_level (Iff f g) = omega arith
-least_level (Implies f g) = omega arith
-least_level (Or f g) = omega arith
-least_level (And f g) = omega arith
-least_level (Name w) = omega arith
-least_level Truth = omega arith
-least_level Falsity = omega arith
-least_level (Not f) = omega arith
-least_level (Group f) = omega arith
+least_level f = omega arith
 
--- a formula whose canonical nesting is at most 100 is written so
-pub nests_canonical : (f : formula.Formula meaning.Name) → canonical_nesting f ≤ 100 → Nests 0 (canonical_formula f)
+-- a formula whose canonical nesting is within the limit is written so
+pub nests_canonical : (f : formula.Formula meaning.Name) → canonical_nesting f ≤ MOST_OPEN → Nests 0 (canonical_formula f)
 nests_canonical f h = subst (Nests 0) (fits 1 (canonical_formula f) (least_level (canonical_formula f))) (nests_at f 1 0 (omega arith) (omega (arith, h)))
 
 -- where fewer are open before, fewer are ever open
@@ -70,7 +60,7 @@ nests_less (Or f g) n h = (nests_less f n h.0, nests_less g n h.1)
 nests_less (Implies f g) n h = (nests_less f n h.0, omega (arith, h.1), nests_less g (n + 1) h.2)
 nests_less (Iff f g) n h = (nests_less f n h.0, nests_less g n h.1)
 
-group_nests : (k n : ℕ) (f : FormulaSyntax) → n < 100 → Nests (n + 1) f → Nests n (fitted k f)
+group_nests : (k n : ℕ) (f : FormulaSyntax) → n < MOST_OPEN → Nests (n + 1) f → Nests n (fitted k f)
 group_nests k n f l h = by (nat_le k (level f))
   where
     by : (b : Bool) → Nests n (if b then f else Group f)

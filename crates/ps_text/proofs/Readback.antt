@@ -6,6 +6,7 @@ use Rattle.ps_text.specs.Grammar.{is_reserved, FormulaSyntax, Name, Truth, Falsi
 use Rattle.ps_text.specs.BegunFormulas.{Frame, BegunNot, BegunGroup, BegunAnd, BegunOr, BegunImplies, BegunIff, required_level, own_level, joined, joins}
 use Rattle.ps_text.specs.PartialParses.{Parse, InPsat, InItem, InDone, InParen, InOperand, InOperator, InRelation, InItemEnd, prob_of, behind_operand, operand_of, behind_close, parsed}
 use Rattle.ps_text.proofs.Levels.{test_le, test_true, test_false}
+use Rattle.ps_text.proofs.Nesting.{least_level}
 use Rattle.ps_text.proofs.Frames.{joined_if}
 use Rattle.ps_text.proofs.Derived.{parsed_all}
 
@@ -114,17 +115,6 @@ name_operand w h = by (bytes_eq w (codes "true")) (bytes_eq w (codes "false")) r
     by : (a b : Bool) → bytes_eq w (codes "true") ≡ a → bytes_eq w (codes "false") ≡ b → operand_of w ≡ Name w
     by a b e f = rw (parts.0, parts.1) refl
 
-level_least : (f : FormulaSyntax) → 1 ≤ level f
-level_least (Iff f g) = omega arith
-level_least (Implies f g) = omega arith
-level_least (Or f g) = omega arith
-level_least (And f g) = omega arith
-level_least (Name w) = omega arith
-level_least Truth = omega arith
-level_least Falsity = omega arith
-level_least (Not f) = omega arith
-level_least (Group f) = omega arith
-
 -- the tokens of a formula make the formula
 formula_back : (f : FormulaSyntax) (es : List ItemSyntax) (q : Bool) (c : Option FormulaSyntax) (fs : List Frame) → IsWellFormed f → required_level fs ≤ level f → Behind es q c fs f (parsed_all (InOperand es q c fs) (spelled f))
 formula_back (Name w) es q c fs i n = subst (λ g. Behind es q c fs (Name w) (behind_operand es q c fs g)) (sym (name_operand w i.0)) (operand_behind es q c fs (Name w) (omega arith))
@@ -134,9 +124,9 @@ formula_back (Not f) es q c fs i n =
     let b = formula_back f es q c (BegunNot ∷ fs) i.1 i.0 in
     record { frames = b.frames; operand = b.operand; is = b.is; same = λ k h. b.same k (omega (arith, h, i.0)) ∙ join_over k BegunNot fs f h }
 formula_back (Group f) es q c fs i n =
-    let b = formula_back f es q c (BegunGroup ∷ fs) i (level_least f) in
+    let b = formula_back f es q c (BegunGroup ∷ fs) i (least_level f) in
     let closed : parsed (parsed_all (InOperand es q c (BegunGroup ∷ fs)) (spelled f)) (Sign Close) ≡ behind_operand es q c fs (Group f) =
-    ap (λ x. parsed x (Sign Close)) b.is ∙ ap (λ r. behind_close es q c r.0 r.1) (b.same 1 (level_least f)) in
+    ap (λ x. parsed x (Sign Close)) b.is ∙ ap (λ r. behind_close es q c r.0 r.1) (b.same 1 (least_level f)) in
     subst (λ p. Behind es q c fs (Group f) p) (sym (parsed-append (InOperand es q c (BegunGroup ∷ fs)) (spelled f) (Sign Close ∷ []) ∙ closed)) (operand_behind es q c fs (Group f) (omega arith))
 formula_back (And f g) es q c fs i n =
     let b = formula_back f es q c fs i.2 (omega (arith, n, i.0)) in
@@ -174,18 +164,18 @@ prob_back : (es : List ItemSyntax) (q : Bool) (f : FormulaSyntax) (g : Option Fo
 prob_back es q f g i j = ap (parsed_all (InOperand es q None [])) (append_assoc (spelled f) (given_tokens g) (Sign Close ∷ [])) ∙ by g j
   where
     b : Behind es q None [] f (parsed_all (InOperand es q None []) (spelled f))
-    b = formula_back f es q None [] i (level_least f)
+    b = formula_back f es q None [] i (least_level f)
 
     by : (g : Option FormulaSyntax) → IsGiven g → parsed_all (InOperand es q None []) (spelled f ++ (given_tokens g ++ Sign Close ∷ [])) ≡ after_prob es q (record { formula = f; given = g })
     by None j =
-        parsed-append (InOperand es q None []) (spelled f) (Sign Close ∷ []) ∙ ap (λ x. parsed x (Sign Close)) b.is ∙ ap (λ r. behind_close es q None r.0 r.1) (b.same 1 (level_least f)) ∙ close_prob es q None f
+        parsed-append (InOperand es q None []) (spelled f) (Sign Close ∷ []) ∙ ap (λ x. parsed x (Sign Close)) b.is ∙ ap (λ r. behind_close es q None r.0 r.1) (b.same 1 (least_level f)) ∙ close_prob es q None f
     by (Some g) j =
-        let d = formula_back g es q (Some f) [] j.0 (level_least g) in
+        let d = formula_back g es q (Some f) [] j.0 (least_level g) in
         parsed-append (InOperand es q None []) (spelled f) (Word (codes "given") ∷ (spelled g ++ Sign Close ∷ []))
         ∙ ap (λ x. parsed_all (parsed x (Word (codes "given"))) (spelled g ++ Sign Close ∷ [])) b.is
-        ∙ ap (λ r. parsed_all (InOperand es q (Some r.1) []) (spelled g ++ Sign Close ∷ [])) (b.same 1 (level_least f))
+        ∙ ap (λ r. parsed_all (InOperand es q (Some r.1) []) (spelled g ++ Sign Close ∷ [])) (b.same 1 (least_level f))
         ∙ parsed-append (InOperand es q (Some f) []) (spelled g) (Sign Close ∷ [])
-        ∙ ap (λ x. parsed x (Sign Close)) d.is ∙ ap (λ r. behind_close es q (Some f) r.0 r.1) (d.same 1 (level_least g)) ∙ close_prob es q (Some f) g
+        ∙ ap (λ x. parsed x (Sign Close)) d.is ∙ ap (λ r. behind_close es q (Some f) r.0 r.1) (d.same 1 (least_level g)) ∙ close_prob es q (Some f) g
 
 relation_back : (es : List ItemSyntax) (p : Prob) (r : Relation) → parsed_all (InRelation es p) (relation_tokens r ++ Sign Semicolon ∷ []) ≡ InItem (es ++ Sentence p r ∷ [])
 relation_back es p (Exactly x) = refl

@@ -3,6 +3,7 @@ use Rattle.std.proofs.Common.{◌≡◌, ◌<◌, ◌≤◌, ◌^◌, Bool, true
 use Rattle.std.proofs.lemmas.Bool.Decides.{nat_tests}
 use Rattle.std.proofs.lemmas.Slice.Eq.{bytes_eq-Decides}
 use Rattle.std.specs.Prelude.{bytes_eq, codes, if◌then◌else◌, nat_lt, nat_eq}
+use Rattle.ps_text.specs.declared.limits.TheConstants.{GREATEST_DENOMINATOR, MOST_DECIMALS}
 use Rattle.ps_text.specs.Tokens.{Token, Word, Number, Sign, Numeral, Whole, Quotient, Decimal, Symbol, Open, Close, OpenBracket, CloseBracket, Comma, Semicolon, Bang, Ampersand, Bar, Arrow, DoubleArrow, Equals, GreaterEquals, LessEquals, is_the_sign, is_the_word}
 use Rattle.ps_text.specs.declared.kind.ReadKind.{ReadKind}
 use Rattle.ps_text.specs.declared.kind.ReadKind.TheVariants.{NameTooLong, Expected, VersionUnknown, ZeroDenominator, DenominatorTooLarge, TooManyDecimals, NumberOutOfRange}
@@ -100,20 +101,20 @@ number_sound (Whole ds) h = by (nat_lt 1 (value ds)) refl h
     by : (b : Bool) → nat_lt 1 (value ds) ≡ b → (if b then Some NumberOutOfRange else None) ≡ None → value ds ≤ 1
     by true e f = absurd (true≢false (ap is_some f))
     by false e f = grind (arith, nat_tests)
-number_sound (Quotient ds es) h = by (nat_eq (value es) 0) (nat_lt 1000000 (value es)) (nat_lt (value es) (value ds)) refl refl refl h
+number_sound (Quotient ds es) h = by (nat_eq (value es) 0) (nat_lt GREATEST_DENOMINATOR (value es)) (nat_lt (value es) (value ds)) refl refl refl h
   where
-    by : (a b c : Bool) → nat_eq (value es) 0 ≡ a → nat_lt 1000000 (value es) ≡ b → nat_lt (value es) (value ds) ≡ c
+    by : (a b c : Bool) → nat_eq (value es) 0 ≡ a → nat_lt GREATEST_DENOMINATOR (value es) ≡ b → nat_lt (value es) (value ds) ≡ c
         → (if a then Some ZeroDenominator else (if b then Some DenominatorTooLarge else (if c then Some NumberOutOfRange else None))) ≡ None
-        → (0 < value es) × (value es ≤ 1000000) × (value ds ≤ value es)
+        → (0 < value es) × (value es ≤ GREATEST_DENOMINATOR) × (value ds ≤ value es)
     by true b c d e f h = absurd (true≢false (ap is_some h))
     by false true c d e f h = absurd (true≢false (ap is_some h))
     by false false true d e f h = absurd (true≢false (ap is_some h))
     by false false false d e f h = (grind (arith, nat_tests, d), grind (arith, nat_tests, e), grind (arith, nat_tests, f))
-number_sound (Decimal ds es) h = by (nat_lt 6 (length es)) (nat_lt (10 ^ length es) (value (ds ++ es))) refl refl h
+number_sound (Decimal ds es) h = by (nat_lt MOST_DECIMALS (length es)) (nat_lt (10 ^ length es) (value (ds ++ es))) refl refl h
   where
-    by : (a b : Bool) → nat_lt 6 (length es) ≡ a → nat_lt (10 ^ length es) (value (ds ++ es)) ≡ b
+    by : (a b : Bool) → nat_lt MOST_DECIMALS (length es) ≡ a → nat_lt (10 ^ length es) (value (ds ++ es)) ≡ b
         → (if a then Some TooManyDecimals else (if b then Some NumberOutOfRange else None)) ≡ None
-        → (length es ≤ 6) × (value (ds ++ es) ≤ 10 ^ length es)
+        → (length es ≤ MOST_DECIMALS) × (value (ds ++ es) ≤ 10 ^ length es)
     by true b d e h = absurd (true≢false (ap is_some h))
     by false true d e h = absurd (true≢false (ap is_some h))
     by false false d e h = (grind (arith, nat_tests, d), grind (arith, nat_tests, e))

@@ -119,9 +119,13 @@ items_text (e ∷ es) = item_text e ++ items_text es
 abbrev pub canonical_text : List Item → List ℕ
 canonical_text items = codes "psat 1;\n" ++ (items_text (canonical_items items) ++ codes "end;\n")
 
+-- statements, and then questions
+abbrev pub listed : List Statement → List Question → List Item
+listed ss qs = map Stated ss ++ map Asked qs
+
 -- the sentences in order, and then the queries in order: the lines of a problem
 abbrev pub sentences_first : List Item → List Item
-sentences_first items = map Stated (statements_of items) ++ map Asked (questions_of items)
+sentences_first items = listed (statements_of items) (questions_of items)
 
 -- atoms are names
 abbrev pub HasNames : formula.Formula meaning.Name → Type 0
@@ -134,7 +138,7 @@ HasNames (formula.Or f g) = HasNames f × HasNames g
 HasNames (formula.Implies f g) = HasNames f × HasNames g
 HasNames (formula.Iff f g) = HasNames f × HasNames g
 
--- no more are ever open than may be in what is written
+-- atoms are names, and no more are ever open than may be in what is written
 pub record IsWritable (f : formula.Formula meaning.Name) : Type 0 where
   pub names : HasNames f
   pub nests : Nests 0 (canonical_formula f)

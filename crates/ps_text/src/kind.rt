@@ -40,30 +40,30 @@ pub enum ReadKind {
     BadByte,
     /// The token isn't one that is expected.
     Expected(What),
-    /// A word of more than 32 bytes.
+    /// A word of more than `LONGEST_WORD` bytes.
     NameTooLong,
     /// The version isn't spelled `1`.
     VersionUnknown,
     /// A denominator of 0.
     ZeroDenominator,
-    /// A denominator of more than 1,000,000.
+    /// A denominator of more than `GREATEST_DENOMINATOR`.
     DenominatorTooLarge,
-    /// More than 6 digits behind the point.
+    /// More than `MOST_DECIMALS` digits behind the point.
     TooManyDecimals,
     /// A value of more than 1.
     NumberOutOfRange,
-    /// The token would open the 101st nesting.
+    /// The token would open one nesting more than `MOST_OPEN`.
     TooDeep,
     /// The bytes end where a token is expected.
     EndMissing,
     // Of a count.
-    /// The item has the 129th atom.
+    /// With the item there are more atoms than a problem may have.
     TooManyAtoms,
-    /// The item has the 1,025th node.
+    /// With the item there are more nodes than a problem may have.
     TooManyNodes,
-    /// The item has the 101st bound.
+    /// With the item there are more bounds than a problem may have.
     TooManyBounds,
-    /// The item is the 17th query.
+    /// With the item there are more queries than a problem may have.
     TooManyQueries,
     // Behind the text.
     /// Something follows the text and the blanks behind it.

@@ -1,13 +1,11 @@
 //! Laws about the definitions: a call does nothing, and its clauses are the law.
-ghost use Rattle.std.specs.Prelude.{List, ℕ, []};
+ghost use Rattle.std.specs.Prelude.{◌≡◌, List, ℕ, []};
 ghost use Rattle.ps_text.specs.Tokens.{Token};
 ghost use Rattle.ps_text.specs.Pieces.{Cut};
-ghost use Rattle.ps_text.specs.Grammar.{ItemSyntax, AreWellFormedItems, text_tokens};
+ghost use Rattle.ps_text.specs.Grammar.{ItemSyntax, AreWellFormedItems, IsDerived, text_tokens};
 ghost use Rattle.ps_text.specs.ExpectedTokens.{AreExpected, at_start};
 ghost use Rattle.ps_text.specs.PartialParses.{Parse, InPsat, state_of, parsed_tokens};
 ghost use Rattle.ps_text.specs.PartialParses.{TakesToken};
-ghost use Rattle.ps_text.specs.Grammar.{IsDerived};
-ghost use Rattle.std.specs.Prelude.{◌≡◌};
 ghost use Rattle.ps_meaning.specs.Statements.{Item, statements_of, questions_of};
 ghost use Rattle.ps_text.specs.Fronts.{IsTextFront, IsFront, IsTextOf};
 ghost use Rattle.ps_text.specs.OneAnswer.{HasOneDerivation, HaveOneMeaning, HasOneFront, MeansOnly};
