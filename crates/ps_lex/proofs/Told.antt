@@ -5,7 +5,7 @@ use Rattle.std.specs.List.{AllByRecursion}
 use Rattle.ps_text.specs.Tokens as text
 use Rattle.ps_text.specs.declared.symbol.Symbol.{Symbol}
 use Rattle.ps_text.specs.declared.symbol.Symbol.TheVariants as symbol
-use Rattle.ps_text.specs.Tokens.{One, IsToken, IsNumeral, is_letter, is_digit, is_word_byte, numeral_spelling, symbol_spelling, spelling, BeginsNone}
+use Rattle.ps_text.specs.Tokens.{One, IsToken, is_letter, is_digit, symbol_spelling, spelling, BeginsNone}
 use Rattle.ps_text.specs.Pieces.{text as text_of, Piece, Blank, Comment, Spelled, texts, Cuts, Fits, IsBad, EndsLine, is_blank}
 use Rattle.ps_text.proofs.Spans.{starts_behind, same_byte}
 use Rattle.ps_text.proofs.Longest.{Stops, longest_stops}

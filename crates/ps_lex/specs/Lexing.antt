@@ -14,7 +14,7 @@ use Rattle.ps_lex.specs.declared.mode.Mode.{Mode}
 use Rattle.ps_lex.specs.declared.mode.Mode.TheVariants as mode
 use Rattle.ps_lex.specs.declared.step.Step.{Step}
 use Rattle.ps_lex.specs.Counted.{no_digits, with_digit, IsCapped}
-use Rattle.ps_lex.specs.Places.{behind}
+use Rattle.ps_lex.specs.Places.{start, behind}
 
 -- the mode behind a symbol's first byte, ( ) [ ] , ; ! & | = - < or >, and behind one that begins no token
 abbrev pub symbol_begun : Position → ℕ → Mode
@@ -96,7 +96,7 @@ pub record LexerState : Type 0 where
 
 -- before the first byte
 abbrev pub new_lexer : LexerState
-new_lexer = record { mode = mode.Between; began = record { line = 1; column = 1; offset = 0 }; here = record { line = 1; column = 1; offset = 0 } }
+new_lexer = record { mode = mode.Between; began = start; here = start }
 
 -- behind a byte outside of tokens, which is blank or begins one
 abbrev pub with_begun : LexerState → ℕ → LexerState
@@ -110,7 +110,7 @@ token_ended s b = (stepped_in s.mode s.began s.here b).ended
 unfoldable pub with_byte : LexerState → ℕ → LexerState
 with_byte s b = record { mode = (stepped_in s.mode s.began s.here b).mode; began = (stepped_in s.mode s.began s.here b).began; here = behind s.here b }
 
--- what the end of the bytes does: the token that ends there, if there is one, and the place where no token begins, if there is one
+-- the token that ends with the bytes, if they end here
 abbrev pub last_token : Mode → Option Token
 last_token (mode.Word w) = Some (token.Word w)
 last_token (mode.Whole d) = Some (whole d)
@@ -132,7 +132,7 @@ last_bad mode.Greater began = Some began
 last_bad (mode.Bad p) began = Some p
 last_bad m began = None
 
--- where no token begins, if that is known
+-- where no token begins, if the bytes so far show such a place
 abbrev pub bad_place : Mode → Option Position
 bad_place (mode.Bad p) = Some p
 bad_place m = None
@@ -154,7 +154,7 @@ IsCappedMode (mode.Point d p) = IsCapped d
 IsCappedMode (mode.Decimal d k) = IsCapped d × (k ≤ MANY_DIGITS)
 IsCappedMode m = Unit {0}
 
--- a token, where it is one, with where it began
+-- a token, if there is one, with where it began
 abbrev pub with_place : Option Token → Position → List (Token × Position)
 with_place None p = []
 with_place (Some t) p = (t, p) ∷ []

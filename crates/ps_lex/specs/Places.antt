@@ -3,7 +3,7 @@ use Rattle.std.specs.Prelude.{ℕ, ◌+◌, ◌≤◌, ◌<◌, ◌^◌, ◌==�
 use Rattle.ps_text.specs.Positions as text
 use Rattle.ps_lex.specs.declared.position.Position.{Position}
 
--- a position as the text has it
+-- a position as a text has it, without the count of bytes
 abbrev pub position_of : Position → text.Position
 position_of p = record { line = p.line; column = p.column }
 

@@ -14,7 +14,7 @@ mod stepping;
 mod token;
 mod word;
 
-pub use digits::Digits;
+pub use digits::{Digits, GREAT_VALUE, MANY_DIGITS};
 pub use laws::pieces_are_told;
 pub use lexer::Lexer;
 pub use position::Position;
