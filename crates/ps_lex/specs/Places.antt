@@ -4,8 +4,8 @@ use Rattle.ps_text.specs.Positions as text
 use Rattle.ps_lex.specs.declared.position.Position.{Position}
 
 -- a position as a text has it, without the count of bytes
-abbrev pub position_of : Position → text.Position
-position_of p = record { line = p.line; column = p.column }
+abbrev pub line_and_column : Position → text.Position
+line_and_column p = record { line = p.line; column = p.column }
 
 -- where a text begins
 abbrev pub start : Position

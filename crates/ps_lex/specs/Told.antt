@@ -3,7 +3,7 @@ use Rattle.std.specs.Prelude.{◌≡◌, ◌≢◌, ℕ, List, [], ◌++◌, len
 use Rattle.ps_text.specs.Pieces.{Piece, IsBad, texts}
 use Rattle.ps_text.specs.Positions.{position_behind}
 use Rattle.ps_lex.specs.declared.position.Position.{Position}
-use Rattle.ps_lex.specs.Places.{start, position_of}
+use Rattle.ps_lex.specs.Places.{start, line_and_column}
 use Rattle.ps_lex.specs.Seen.{behind_all, told}
 use Rattle.ps_lex.specs.Lexing.{new_lexer, lexed}
 
@@ -18,4 +18,4 @@ pub record TellsUpTo (pieces : List Piece) (rest : List ℕ) : Type 0 where
 -- the position is the one behind the bytes, and counts them
 pub record IsPositionBehind (bytes : List ℕ) (position : Position) : Type 0 where
   pub offset : position.offset ≡ length bytes
-  pub place : position_of position ≡ position_behind bytes
+  pub place : line_and_column position ≡ position_behind bytes

@@ -10,7 +10,7 @@ use Rattle.ps_text.specs.Meanings.{AreItems}
 use Rattle.ps_text.specs.Positions as text
 use Rattle.ps_text.proofs.Laying.{texts-append}
 use Rattle.ps_lex.specs.declared.position.Position.{Position}
-use Rattle.ps_lex.specs.Places.{position_of}
+use Rattle.ps_lex.specs.Places.{line_and_column}
 use Rattle.ps_problem.specs.declared.limits.TheConstants.{MOST_BOUNDS, MOST_QUERIES}
 use Rattle.ps_problem.specs.Numbering.{numbered_for}
 use Rattle.ps_problem.specs.Problems.{Parts}
@@ -123,5 +123,5 @@ refused bytes place x kind position t e =
         place_is = refl;
       };
       kind_is = e.kind_is;
-      position_is = e.position_is ∙ ap position_of b.position_is ∙ is_position bytes b.before (texts (Spelled b.first ∷ b.behind) ++ t.front.rest) there;
+      position_is = e.position_is ∙ ap line_and_column b.position_is ∙ is_position bytes b.before (texts (Spelled b.first ∷ b.behind) ++ t.front.rest) there;
     })

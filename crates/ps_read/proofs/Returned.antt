@@ -6,7 +6,7 @@ use Rattle.ps_text.specs.Pieces.{texts}
 use Rattle.ps_text.specs.Positions as text
 use Rattle.ps_text.specs.Fronts.{IsTextFront}
 use Rattle.ps_lex.specs.declared.position.Position.{Position}
-use Rattle.ps_lex.specs.Places.{start, position_of}
+use Rattle.ps_lex.specs.Places.{start, line_and_column}
 use Rattle.ps_lex.specs.Lexing.{new_lexer}
 use Rattle.ps_meaning.specs.Statements.{Item}
 use Rattle.ps_problem.specs.Problems.{Parts}
@@ -115,7 +115,7 @@ excess_told x d o kind item places place r e h f p b q t =
       first = k.first;
       counts = k.counts;
       kind_is = k.kind_is;
-      position_is = ap position_of (q ∙ other places (item - 1) b ∙ ap (λ ps. get_or ps (item - 1) start) p ∙ ap (λ n. get_or x.places (n - 1) start) k.item_is);
+      position_is = ap line_and_column (q ∙ other places (item - 1) b ∙ ap (λ ps. get_or ps (item - 1) start) p ∙ ap (λ n. get_or x.places (n - 1) start) k.item_is);
     })
 
 -- the answers of the public calls

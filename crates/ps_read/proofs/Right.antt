@@ -19,7 +19,7 @@ use Rattle.ps_text.proofs.Derived.{steps}
 use Rattle.ps_text.proofs.Deriving.{passes-append}
 use Rattle.ps_lex.specs.declared.position.Position.{Position}
 use Rattle.ps_lex.specs.declared.token.Token.{Token as kept}
-use Rattle.ps_lex.specs.Places.{start, position_of}
+use Rattle.ps_lex.specs.Places.{start, line_and_column}
 use Rattle.ps_lex.specs.Seen.{seen, behind_all, told}
 use Rattle.ps_lex.specs.Lexing.{new_lexer, lexed}
 use Rattle.ps_lex.proofs.Places.{position_kept, offset_kept}
@@ -41,7 +41,7 @@ use Rattle.ps_read.proofs.Steps.{first_stands}
 -- what was parsed of a text at the front
 pub record IsParsedText (bytes : List ℕ) (place : Position) (x : Parsed) : Type 0 where
   pub front : IsTextFront bytes place.offset
-  pub position_is : position_of place ≡ text.position_of bytes place.offset
+  pub position_is : line_and_column place ≡ text.position_of bytes place.offset
   pub items : AreItems front.written (drafted_in x.machine).items
   pub begun : AreBegun front.pieces front.written (length front.written) x.places
 
@@ -64,12 +64,12 @@ record Reached (bytes : List ℕ) (done : List Piece) (rest : List ℕ) (x : Par
   passes : Passes at_start (tokens done) x.machine.state
   stands : Stands done x
 
-pub is_position : (bytes : List ℕ) (done : List Piece) (rest : List ℕ) → bytes ≡ texts done ++ rest → position_of (behind_all start (texts done)) ≡ text.position_of bytes (length (texts done))
+pub is_position : (bytes : List ℕ) (done : List Piece) (rest : List ℕ) → bytes ≡ texts done ++ rest → line_and_column (behind_all start (texts done)) ≡ text.position_of bytes (length (texts done))
 is_position bytes done rest e =
     position_kept (texts done) ∙ ap text.position_behind (sym (ap (take (length (texts done))) e ∙ take-append-le (length (texts done)) (texts done) rest (omega arith) ∙ take_all (length (texts done)) (texts done) (omega arith)))
 
 refuse : (bytes : List ℕ) (done : List Piece) (rest : List ℕ) (x : Parsed) (k : ReadKind) → Reached bytes done rest x → is_done (part_of x) ≡ false → IsBare rest → Why x.machine.state rest k
-    → IsFormRefused bytes k (position_of (behind_all start (texts done)))
+    → IsFormRefused bytes k (line_and_column (behind_all start (texts done)))
 refuse bytes done rest x k r u b w = record {
   place = length (texts done);
   refused = record { pieces = done; rest = rest; state = x.machine.state; is = r.is; cuts = r.cuts; passes = r.passes; unfinished = λ e. true≢false (sym (ap (λ d. is_done d.part) e) ∙ u); bare = b; why = w; place_is = refl };
@@ -179,7 +179,7 @@ token_further done t x place at h s =
 at_end : (bytes : List ℕ) (done : List Piece) (x : Parsed) → Reached bytes done [] x → IsSo bytes (ended x EndMissing (behind_all start (texts done)))
 at_end bytes done x r = by (is_done (part_of x)) refl
   where
-    by : (b : Bool) → is_done (part_of x) ≡ b → IsSo bytes (if b then Ok (behind_all start (texts done), x) else Err (EndMissing, position_of (behind_all start (texts done))))
+    by : (b : Bool) → is_done (part_of x) ≡ b → IsSo bytes (if b then Ok (behind_all start (texts done), x) else Err (EndMissing, line_and_column (behind_all start (texts done))))
     by true h = found bytes done [] x r h tt
     by false h = refuse bytes done [] x EndMissing r h tt refl
 
@@ -187,7 +187,7 @@ at_bad : (bytes : List ℕ) (done : List Piece) (rest : List ℕ) (x : Parsed) �
 at_bad bytes done [] x r s b = absurd (s refl)
 at_bad bytes done (c ∷ cs) x r s b = by (is_done (part_of x)) refl
   where
-    by : (y : Bool) → is_done (part_of x) ≡ y → IsSo bytes (if y then Ok (behind_all start (texts done), x) else Err (BadByte, position_of (behind_all start (texts done))))
+    by : (y : Bool) → is_done (part_of x) ≡ y → IsSo bytes (if y then Ok (behind_all start (texts done), x) else Err (BadByte, line_and_column (behind_all start (texts done))))
     by true h = found bytes done (c ∷ cs) x r h b.bare
     by false h = refuse bytes done (c ∷ cs) x BadByte r h b.bare (inl (b.none, refl))
 
@@ -242,7 +242,7 @@ right bytes (Spelled t ∷ ps) done rest x p last bad end pe le c r e = by (is_d
         → IsSo bytes (if b then Ok (p, x) else refused_or (refusal x.machine.state (token_of (seen t))) p (judged (with_token x (seen t) p) more bad end))
     by true h o k f = subst (λ q. IsParsedText bytes q x) (sym pe) (found bytes done (spelling t ++ (texts ps ++ rest)) x r1 h (bare_token t (texts ps ++ rest) c.0.0))
     by false h (Some w) k f = subst (λ o. IsSo bytes (refused_or o p (judged (with_token x (seen t) p) more bad end))) (sym (judged_alike x.machine.state t c.0.0 ∙ k))
-        (subst (λ q. IsFormRefused bytes w (position_of q)) (sym pe) (refuse bytes done (spelling t ++ (texts ps ++ rest)) x w r1 h (bare_token t (texts ps ++ rest) c.0.0) (why_token t (texts ps ++ rest) x.machine.state w c.0.0 c.0.1 k)))
+        (subst (λ q. IsFormRefused bytes w (line_and_column q)) (sym pe) (refuse bytes done (spelling t ++ (texts ps ++ rest)) x w r1 h (bare_token t (texts ps ++ rest) c.0.0) (why_token t (texts ps ++ rest) x.machine.state w c.0.0 c.0.1 k)))
     by false h None k f = subst (λ o. IsSo bytes (refused_or o p (judged (with_token x (seen t) p) more bad end))) (sym (judged_alike x.machine.state t c.0.0 ∙ k)) (f k)
 
 -- nothing is read yet

@@ -11,7 +11,7 @@ use Rattle.ps_lex.specs.declared.mode.Mode.{Mode}
 use Rattle.ps_lex.specs.declared.mode.Mode.TheVariants as mode
 use Rattle.ps_lex.specs.declared.position.Position.{Position}
 use Rattle.ps_lex.specs.declared.token.Token.{Token}
-use Rattle.ps_lex.specs.Places.{start, position_of, IsWithin}
+use Rattle.ps_lex.specs.Places.{start, line_and_column, IsWithin}
 use Rattle.ps_lex.specs.Seen.{behind_all}
 use Rattle.ps_lex.specs.Lexing.{LexerState, is_within_token, lexed}
 use Rattle.ps_expect.specs.KeptTokens.{token_of}
@@ -65,7 +65,7 @@ Answer = Result (Position × Parsed) (ReadKind × text.Position)
 
 -- the form is refused for this kind at this position
 abbrev pub refused_at : ReadKind → Position → Answer
-refused_at kind p = Err (kind, position_of p)
+refused_at kind p = Err (kind, line_and_column p)
 
 -- at the end of the bytes, or where no token begins
 abbrev pub ended : Parsed → ReadKind → Position → Answer
@@ -168,7 +168,7 @@ pub record IsExcessIn (x : Parsed) (kind : ReadKind) (position : text.Position) 
   pub first : ItemExcess
   pub counts : counted (drafted_in x.machine).items ≡ Err first
   pub kind_is : kind ≡ count_kind first.excess
-  pub position_is : position ≡ position_of (get_or x.places (first.item - 1) start)
+  pub position_is : position ≡ line_and_column (get_or x.places (first.item - 1) start)
 
 -- the problem of what was parsed, or its first excess, unless memory ran out
 abbrev pub IsBuiltOf : Parsed → Result Parts ReadError → Type 0
@@ -181,5 +181,5 @@ AreWhole x = length x.places ≡ length (drafted_in x.machine).items
 
 -- what was returned is so, with the position behind the text
 abbrev pub IsRight : List ℕ → Result (Parts × Position) ReadError → Type 0
-IsRight bytes (Ok x) = SpellsProblem bytes x.0 x.1.offset × (position_of x.1 ≡ text.position_of bytes x.1.offset)
+IsRight bytes (Ok x) = SpellsProblem bytes x.0 x.1.offset × (line_and_column x.1 ≡ text.position_of bytes x.1.offset)
 IsRight bytes (Err e) = Tells (IsUnread bytes) e
