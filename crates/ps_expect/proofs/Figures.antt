@@ -17,7 +17,8 @@ value-figures count v = by (count == 1)
     by true = omega arith
     by false = omega arith
 
-value-zeros : (k v : ℕ) → value_from 0 (replicate k 48 ++ (48 + v) ∷ []) ≡ v
+-- zeros before a digit are worth nothing
+pub value-zeros : (k v : ℕ) → value_from 0 (replicate k 48 ++ (48 + v) ∷ []) ≡ v
 value-zeros zero v = omega arith
 value-zeros (suc k) v = value-zeros k v
 

@@ -1,10 +1,10 @@
 -- A token is judged by what is kept of it.
-use Rattle.std.proofs.Common.{◌≡◌, ℕ, suc, zero, ◌+◌, ◌-◌, ◌*◌, ◌^◌, ◌≤◌, min, ◌==◌, Bool, true, false, ◌&&◌, inl, inr, List, [], ◌∷◌, ◌++◌, length, take, Some, None, refl, sym, ap, ◌∙◌, arith, true≢false, is_some}
+use Rattle.std.proofs.Common.{◌≡◌, ℕ, ◌+◌, ◌-◌, ◌*◌, ◌^◌, ◌≤◌, min, ◌==◌, Bool, true, false, ◌&&◌, inl, inr, List, [], ◌∷◌, ◌++◌, length, take, Some, None, refl, sym, ap, ◌∙◌, arith, true≢false, is_some}
 use Rattle.std.proofs.lemmas.Bool.Decides.{nat_tests}
 use Rattle.std.proofs.lemmas.List.{take_all, length-take}
 use Rattle.std.specs.Prelude.{nat_lt, bytes_eq, codes, if◌then◌else◌}
 use Rattle.ps_text.specs.Tokens as text
-use Rattle.ps_text.specs.Tokens.{One, Token, IsToken, IsNumeral, AreDigits, is_digit}
+use Rattle.ps_text.specs.Tokens.{One, Token, IsToken, IsNumeral, AreDigits}
 use Rattle.ps_text.specs.declared.kind.ReadKind.TheVariants.{NameTooLong, VersionUnknown, ZeroDenominator, DenominatorTooLarge, TooManyDecimals, NumberOutOfRange}
 use Rattle.ps_text.specs.Grammar.{value_from, value}
 use Rattle.ps_text.specs.declared.part.Part.{Part}
@@ -12,6 +12,7 @@ use Rattle.ps_text.specs.declared.part.Part.TheVariants as part
 use Rattle.ps_text.specs.declared.part.Opening.{Opening}
 use Rattle.ps_text.specs.ExpectedTokens.{State, version_fault, value_fault, refusal, after}
 use Rattle.ps_text.proofs.Cutting.{decide}
+use Rattle.ps_text.proofs.Lawful.{tens_few}
 use Rattle.ps_lex.specs.declared.digits.Digits.{Digits}
 use Rattle.ps_lex.specs.Counted.{no_digits, with_digit, with_digits}
 use Rattle.ps_lex.specs.Seen.{seen, numeral_seen}
@@ -26,11 +27,13 @@ capped_count : (d : Digits) (n : ℕ) (bs : List ℕ) → d.count ≡ min n 7 �
 capped_count d n [] e = e ∙ omega arith
 capped_count d n (b ∷ bs) e = capped_count (with_digit d b) (n + 1) bs (omega (arith, e)) ∙ omega arith
 
-more_digits : (d : Digits) (xs ys : List ℕ) → with_digits (with_digits d xs) ys ≡ with_digits d (xs ++ ys)
+-- digits behind digits are counted as all of them together
+pub more_digits : (d : Digits) (xs ys : List ℕ) → with_digits (with_digits d xs) ys ≡ with_digits d (xs ++ ys)
 more_digits d [] ys = refl
 more_digits d (x ∷ xs) ys = more_digits (with_digit d x) xs ys
 
-value_seen : (ds : List ℕ) → (with_digits no_digits ds).value ≡ min (value ds) 1000001
+-- the value that is kept of digits
+pub value_seen : (ds : List ℕ) → (with_digits no_digits ds).value ≡ min (value ds) 1000001
 value_seen ds = capped_value no_digits 0 ds (omega arith)
 
 count_seen : (ds : List ℕ) → (with_digits no_digits ds).count ≡ min (length ds) 7
@@ -82,16 +85,6 @@ value_seen_fault (text.Decimal ds es) i =
     decimal_fault (min (length es) 7) (with_digits (with_digits no_digits ds) es).value
     ∙ rw (ap (λ d. d.value) (more_digits no_digits ds es) ∙ value_seen (ds ++ es)) (by (nat_lt 6 (length es)) refl)
   where
-    ten : (k : ℕ) → k ≤ 6 → 10 ^ k ≤ 1000000
-    ten zero h = omega arith
-    ten (suc zero) h = omega arith
-    ten (suc (suc zero)) h = omega arith
-    ten (suc (suc (suc zero))) h = omega arith
-    ten (suc (suc (suc (suc zero)))) h = omega arith
-    ten (suc (suc (suc (suc (suc zero))))) h = omega arith
-    ten (suc (suc (suc (suc (suc (suc zero)))))) h = omega arith
-    ten (suc (suc (suc (suc (suc (suc (suc k))))))) h = absurd (omega (arith, h))
-
     capped : (t v : ℕ) → t ≤ 1000000 → nat_lt t (min v 1000001) ≡ nat_lt t v
     capped t v h = grind (arith, nat_tests)
 
@@ -103,7 +96,7 @@ value_seen_fault (text.Decimal ds es) i =
         let few : length es ≤ 6 = grind (arith, nat_tests) in
         let t : nat_lt 6 (min (length es) 7) ≡ false = grind (arith, nat_tests) in
         let m : min (length es) 7 ≡ length es = omega (arith, few) in
-        let p : 10 ^ length es ≤ 1000000 = ten (length es) few in
+        let p : 10 ^ length es ≤ 1000000 = tens_few (length es) few in
         let s : nat_lt (10 ^ length es) (min (value (ds ++ es)) 1000001) ≡ nat_lt (10 ^ length es) (value (ds ++ es)) = capped (10 ^ length es) (value (ds ++ es)) p in
         rw (t, m, s) refl
 
@@ -156,6 +149,13 @@ long_refused : (d : State) (w : List ℕ) → nat_lt 32 (length w) ≡ true → 
 unfolding refusal
 long_refused d w h = rw h refl
 
+-- a word that isn't refused is kept whole
+pub word_kept : (d : State) (w : List ℕ) → refusal d (text.Word w) ≡ None → take 33 w ≡ w
+word_kept d w h = elim (decide (nat_lt 32 (length w))) [
+  | inl l ↦ absurd (true≢false (ap is_some (sym (long_refused d w l) ∙ h)))
+  | inr l ↦ take_all 33 w (grind (arith, nat_tests))
+]
+
 -- what is kept of a token is refused as the token is
 pub judged : (d : State) (t : Token) → IsToken One t → refusal d (token_of (seen t)) ≡ refusal d t
 judged d (text.Word w) i = elim (decide (nat_lt 33 (length w))) [
@@ -170,9 +170,6 @@ judged d (text.Sign s) i = refl
 
 -- and what is expected behind it is what is expected behind the token
 pub goes_on : (d : State) (t : Token) → refusal d t ≡ None → after d (token_of (seen t)) ≡ after d t
-goes_on d (text.Word w) h = elim (decide (nat_lt 32 (length w))) [
-  | inl l ↦ absurd (true≢false (ap is_some (sym (long_refused d w l) ∙ h)))
-  | inr l ↦ ap (λ u. after d (text.Word u)) (take_all 33 w (grind (arith, nat_tests)))
-]
+goes_on d (text.Word w) h = ap (λ u. after d (text.Word u)) (word_kept d w h)
 goes_on d (text.Number n) h = number_after d.part d.query d.given d.opened (numeral_of (numeral_seen n)) n
 goes_on d (text.Sign s) h = refl

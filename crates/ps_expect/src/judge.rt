@@ -113,8 +113,7 @@ fn numeral_version(numeral: &Numeral) -> Option<ReadKind>
 {
     match numeral {
         Numeral::Whole(digits) => whole_version(*digits),
-        Numeral::Quotient { .. } => Some(ReadKind::VersionUnknown),
-        Numeral::Decimal { .. } => Some(ReadKind::VersionUnknown),
+        Numeral::Quotient { .. } | Numeral::Decimal { .. } => Some(ReadKind::VersionUnknown),
     }
 }
 
