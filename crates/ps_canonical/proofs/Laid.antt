@@ -3,14 +3,14 @@ use Rattle.std.proofs.Common.{◌≡◌, ℕ, ◌+◌, List, [], ◌∷◌, ◌+
 use Rattle.std.specs.Prelude.{codes}
 use Rattle.std.proofs.lemmas.List.{take_more, take_all}
 use Rattle.std.proofs.lemmas.List.Elements.{All-nil, All-cons, All-head, All-tail}
-use Rattle.ps_meaning.specs.Statements.{Stated, Asked}
+use Rattle.ps_meaning.specs.Statements.{Asked}
 use Rattle.ps_formula.specs.declared.node.Node.{Node}
-use Rattle.ps_text.specs.Canonical.{canonical_items, items_text, canonical_text}
+use Rattle.ps_text.specs.Canonical.{canonical_items, items_text, listed, canonical_text}
 use Rattle.ps_problem.specs.declared.bound.Bound.{Bound}
 use Rattle.ps_problem.specs.declared.sentence.Sentence.{Sentence}
 use Rattle.ps_problem.specs.declared.query.Query.{Query}
 use Rattle.ps_problem.specs.Problems.{Parts, AreParts, bounds_in, IsBound}
-use Rattle.ps_problem.specs.Written.{statement_from, question_from, listed, items_from}
+use Rattle.ps_problem.specs.Written.{statement_from, question_from, items_from}
 use Rattle.ps_canonical.specs.Lines.{sentence_line, query_line, sentence_lines, query_lines}
 
 module _ (p : Parts) where

@@ -10,6 +10,8 @@ use Rattle.ps_text.specs.Grammar.{FormulaSyntax, level, IsWellFormed, Nests}
 use Rattle.ps_text.specs.Meanings.{formula_of}
 use Rattle.ps_text.specs.Canonical.{parenthesis, nesting_at, canonical_nesting}
 use Rattle.ps_text.proofs.Nesting.{least_level}
+use Rattle.ps_text.specs.declared.limits.TheConstants.{MOST_OPEN}
+use Rattle.ps_problem.specs.declared.limits.TheConstants.{MOST_NESTING}
 
 -- no parentheses where the level is high enough, and one pair at most
 no_parenthesis : (k l : ℕ) → k ≤ l → parenthesis k l ≡ 0
@@ -34,7 +36,7 @@ one_deeper (formula.Implies f g) k = let p = one_parenthesis k 2 in omega (arith
 one_deeper (formula.Iff f g) k = let p = one_parenthesis k 1 in omega (arith, p)
 
 -- what binds tightly enough nests so deep as its canonical form or deeper, where n are open before
-nested : (f : FormulaSyntax) (k n : ℕ) → k ≤ level f → n ≤ 100 → IsWellFormed f → Nests n f → n + nesting_at k (formula_of f) ≤ 100
+nested : (f : FormulaSyntax) (k n : ℕ) → k ≤ level f → n ≤ MOST_OPEN → IsWellFormed f → Nests n f → n + nesting_at k (formula_of f) ≤ MOST_OPEN
 nested (grammar.Name w) k n l m i h = omega (arith, m)
 nested grammar.Truth k n l m i h = omega (arith, m)
 nested grammar.Falsity k n l m i h = omega (arith, m)
@@ -51,5 +53,5 @@ nested (grammar.Iff f g) k n l m i h =
     omega (arith, no_parenthesis k 1 l, nested f 1 n i.0 m i.2 h.0, nested g 2 n i.1 m i.3 h.1)
 
 -- a formula within the limit nests within it in its canonical form
-pub canonical_nests : (f : FormulaSyntax) → IsWellFormed f → Nests 0 f → canonical_nesting (formula_of f) ≤ 100
+pub canonical_nests : (f : FormulaSyntax) → IsWellFormed f → Nests 0 f → canonical_nesting (formula_of f) ≤ MOST_NESTING
 canonical_nests f i h = omega (arith, nested f 1 0 (least_level f) (omega arith) i h)

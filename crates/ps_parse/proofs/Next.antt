@@ -19,7 +19,7 @@ use Rattle.ps_text.specs.Grammar as grammar
 use Rattle.ps_text.specs.Grammar.{FormulaSyntax, Group, Prob, Relation, Within, ItemSyntax, Sentence, Query}
 use Rattle.ps_text.specs.Meanings.{formula_of, ratio_of, IsValue, States, IsItem, AreItems}
 use Rattle.ps_text.specs.ExpectedTokens.{refusal, after, may_be_given, is_group}
-use Rattle.ps_text.proofs.Spans.{both}
+use Rattle.ps_text.proofs.Spans.{not_true, both}
 use Rattle.ps_text.specs.BegunFormulas.{Frame, BegunNot, BegunGroup, BegunAnd, BegunOr, BegunImplies, BegunIff, required_level, opened_of, joins}
 use Rattle.ps_text.proofs.Frames.{joins_need, all_joined}
 use Rattle.ps_text.specs.PartialParses.{Parse, InPsat, InVersion, InHeadEnd, InItem, InQueryProb, InTextEnd, InDone, InParen, InOperand, InOperator, InRelation, InBracket, InFirst, InNumber, InComma, InSecond, InBracketEnd, InItemEnd, prob_of, state_of, relation_of, IsRelationSign, IsParse, behind_operand, behind_close, number_in, parsed}
@@ -185,10 +185,6 @@ close_does es q c (BegunIff g ∷ fs) f d i n e k h = absurd (omega (arith, n))
 query_kept : (b : Bool) (i : ItemSoFar) (n : ℕ) → (numbered_as b i n).query ≡ i.query
 query_kept true i n = refl
 query_kept false i n = refl
-
-pub not_true : (b : Bool) → not b ≡ true → b ≡ false
-not_true true e = absurd (true≢false (sym e))
-not_true false e = refl
 
 module _ (es : List ItemSyntax) (q : Bool) (c : Option FormulaSyntax) (fs : List Frame) (f : FormulaSyntax) (w : Work) (s : IsParse (InOperator es q c fs f)) (h : IsWorkOf (InOperator es q c fs f) w) where
   -- the frames of a level are joined

@@ -9,13 +9,13 @@ use Rattle.ps_meaning.specs.Formula.{Formula}
 use Rattle.ps_meaning.specs.Statements.{Name}
 use Rattle.ps_meaning.specs.Names.{is_word, is_reserved}
 use Rattle.ps_text.specs.Tokens as text
-use Rattle.ps_text.specs.Tokens.{Word, Number, Sign, Numeral, is_the_word}
+use Rattle.ps_text.specs.Tokens.{Word, Number, Sign, is_the_word}
 use Rattle.ps_text.specs.declared.symbol.Symbol.TheVariants.{Open, Close, OpenBracket, CloseBracket, Comma, Semicolon, Bang, Ampersand, Bar, Arrow, DoubleArrow, Equals, GreaterEquals, LessEquals}
 use Rattle.ps_text.specs.declared.part.Part.TheVariants as part
 use Rattle.ps_text.specs.Grammar.{FormulaSyntax, IsWellFormed, Nests, Prob, ItemSyntax, IsProbability, IsProb, AreWellFormedItems}
 use Rattle.ps_text.specs.Meanings.{formula_of}
 use Rattle.ps_text.specs.ExpectedTokens.{outside, refusal, may_be_given, is_group}
-use Rattle.ps_text.proofs.Spans.{both}
+use Rattle.ps_text.proofs.Spans.{not_true, both}
 use Rattle.ps_text.specs.BegunFormulas.{Frame, BegunNot, BegunGroup, BegunAnd, BegunOr, BegunImplies, BegunIff, IsNextOperand, opened_of, joins}
 use Rattle.ps_text.proofs.Frames.{joins_fits, all_joined}
 use Rattle.ps_text.specs.PartialParses.{Parse, InPsat, InVersion, InHeadEnd, InItem, InQueryProb, InTextEnd, InDone, InParen, InOperand, InOperator, InRelation, InBracket, InFirst, InNumber, InComma, InSecond, InBracketEnd, InItemEnd, state_of, IsParse, number_in}
@@ -25,6 +25,8 @@ use Rattle.ps_lex.specs.declared.token.Token.{Token}
 use Rattle.ps_lex.specs.declared.token.Token.TheVariants as token
 use Rattle.ps_expect.specs.KeptTokens.{token_of}
 use Rattle.ps_text.specs.Canonical.{canonical_nesting}
+use Rattle.ps_text.specs.declared.limits.TheConstants.{LONGEST_WORD}
+use Rattle.ps_problem.specs.declared.limits.TheConstants.{MOST_NESTING}
 use Rattle.ps_problem.specs.Drafts.{Drafted}
 use Rattle.ps_parse.specs.Pending.{Pending, reduced, reduced_from, firsts, HaveFirst, HaveAll, IsEndable}
 use Rattle.ps_parse.specs.Machine.{ItemSoFar, Work, Machine}
@@ -33,8 +35,7 @@ use Rattle.ps_parse.specs.Taking.{IsKept}
 use Rattle.ps_parse.specs.Ready.{IsOperand, IsWhole, MayClose, MayEnd, MayBeTaken}
 use Rattle.ps_parse.proofs.CanonicalNesting.{canonical_nests}
 use Rattle.ps_parse.proofs.Reducing.{IsReduced, reduces}
-use Rattle.ps_parse.proofs.Values.{is_ratio}
-use Rattle.ps_parse.proofs.Next.{not_true}
+use Rattle.ps_text.proofs.Lawful.{reduced as value_reduced}
 
 -- operands
 
@@ -74,7 +75,7 @@ word_kept (token.Word w) k = k
 word_kept (token.Number n) k = tt
 word_kept (token.Sign s) k = tt
 
-few_letters : (w : List ℕ) → nat_lt 32 (length w) ≡ false → length w ≤ 32
+few_letters : (w : List ℕ) → nat_lt LONGEST_WORD (length w) ≡ false → length w ≤ LONGEST_WORD
 few_letters w e = grind (arith, nat_tests)
 
 is_operand : (es : List ItemSyntax) (q : Bool) (c : Option FormulaSyntax) (fs : List Frame) (t : text.Token) → IsWordKept t → refusal (state_of (InOperand es q c fs)) t ≡ None → IsOperand t
@@ -86,11 +87,11 @@ is_operand es q c fs (Sign s) k r = tt
 
 -- the end of a formula
 
-all_of_one : (f : Formula Name) → canonical_nesting f ≤ 100 → All (λ g. canonical_nesting g ≤ 100) (f ∷ [])
-all_of_one f h = All-cons (λ g. canonical_nesting g ≤ 100) f [] h (All-nil (λ g. canonical_nesting g ≤ 100))
+all_of_one : (f : Formula Name) → canonical_nesting f ≤ MOST_NESTING → All (λ g. canonical_nesting g ≤ MOST_NESTING) (f ∷ [])
+all_of_one f h = All-cons (λ g. canonical_nesting g ≤ MOST_NESTING) f [] h (All-nil (λ g. canonical_nesting g ≤ MOST_NESTING))
 
 endable : (d : Drafted) (f : FormulaSyntax) → d.«open» ≡ formula_of f ∷ [] → IsWellFormed f → Nests 0 f → IsEndable d
-endable d f e i n = record { one = ap length e; nesting = subst (λ os. All (λ g. canonical_nesting g ≤ 100) os) (sym e) (all_of_one (formula_of f) (canonical_nests f i n)) }
+endable d f e i n = record { one = ap length e; nesting = subst (λ os. All (λ g. canonical_nesting g ≤ MOST_NESTING) os) (sym e) (all_of_one (formula_of f) (canonical_nests f i n)) }
 
 no_frames : (fs : List Frame) → operators_of fs ≡ [] → fs ≡ []
 no_frames [] e = refl
@@ -165,7 +166,7 @@ may_be_taken (InBracket es p) t w k s h r = tt
 may_be_taken (InFirst es p) t w k s h r = first_sound es p t s r
 may_be_taken (InNumber es p x) t w k s h r = (h.item.0.below, first_sound es p t (s.0, s.1) (sym (number_alike t) ∙ r))
 may_be_taken (InComma es p x) t w k s h r = tt
-may_be_taken (InSecond es p x) t w k s h r = (h.item.0.below, (steps (InSecond es p x) t s r).within.3, is_ratio x w.item.least s.2 h.item.2, h.item.1)
+may_be_taken (InSecond es p x) t w k s h r = (h.item.0.below, (steps (InSecond es p x) t s r).within.3, value_reduced x w.item.least s.2 h.item.2, h.item.1)
 may_be_taken (InBracketEnd es p x y) t w k s h r = tt
 may_be_taken (InItemEnd es e) t w k s h r = tt
 

@@ -4,9 +4,10 @@ use Rattle.std.proofs.Math.Nat.{pow-le-pow_right}
 use Rattle.std.proofs.lemmas.List.{length-append, length-replicate}
 use Rattle.ps_meaning.specs.Statements.{Ratio}
 use Rattle.ps_text.specs.Tokens as text
-use Rattle.ps_text.specs.Tokens.{Numeral, Whole, Quotient, Decimal}
+use Rattle.ps_text.specs.Tokens.{Whole, Quotient}
 use Rattle.ps_text.specs.Grammar.{value, IsProbability}
-use Rattle.ps_text.specs.Meanings.{ratio_of, IsValue}
+use Rattle.ps_text.specs.Meanings.{ratio_of}
+use Rattle.ps_text.specs.Canonical.{IsReduced}
 use Rattle.ps_text.proofs.Lawful.{reduced}
 use Rattle.ps_text.specs.PartialParses.{number_in}
 use Rattle.ps_lex.specs.declared.token.Numeral as kept
@@ -14,7 +15,6 @@ use Rattle.ps_lex.specs.declared.token.Token.{Token}
 use Rattle.ps_lex.specs.declared.token.Token.TheVariants as token
 use Rattle.ps_expect.specs.KeptTokens.{figures, decimal_of, token_of}
 use Rattle.ps_expect.proofs.Figures.{value-figures}
-use Rattle.ps_problem.specs.Drafts.{IsRatio}
 use Rattle.ps_parse.specs.Machine.{lowest, value_in}
 use Rattle.ps_parse.proofs.Next.{value_is}
 use Rattle.ps_parse.proofs.KeptTokens.{decimal_ratio}
@@ -45,16 +45,12 @@ decimals_few (suc k) v h =
 pub tens_some : (k : ℕ) → 1 ≤ 10 ^ k
 tens_some k = pow-le-pow_right {n = 10} (omega arith) {i = 0} {j = k} (omega arith)
 
--- the value of a number that is a probability is one in lowest terms
-
-pub is_ratio : (x : Numeral) (r : Ratio) → IsProbability x → IsValue x r → IsRatio r.num r.den
-is_ratio x r h v = let k = reduced x r h v in record { least = k.some; most = k.small; value = k.probability; reduced = k.lowest }
-
 -- a token that is no number has the value of no digits
 pub other_value : (t : Token) → ((n : kept.Numeral) → t ≡ token.Number n → ⊥) → lowest (record { num = 0; den = 1 }) ≡ value_in (token_of t)
 other_value (token.Word w) h = refl
 other_value (token.Sign s) h = refl
 other_value (token.Number n) h = absurd (h n refl)
 
-pub value_ratio : (t : text.Token) (r : Ratio) → IsProbability (number_in t) → r ≡ value_in t → IsRatio r.num r.den
-value_ratio t r h e = subst (λ q. IsRatio q.num q.den) (sym e) (is_ratio (number_in t) (value_in t) h (value_is (number_in t)))
+-- the value of a number that is a probability is one in lowest terms
+pub value_reduced : (t : text.Token) (r : Ratio) → IsProbability (number_in t) → r ≡ value_in t → IsReduced r
+value_reduced t r h e = subst (λ q. IsReduced q) (sym e) (reduced (number_in t) (value_in t) h (value_is (number_in t)))

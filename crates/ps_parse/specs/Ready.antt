@@ -10,7 +10,8 @@ use Rattle.ps_text.specs.declared.part.Part.TheVariants as part
 use Rattle.ps_text.specs.Grammar.{IsProbability}
 use Rattle.ps_text.specs.PartialParses.{number_in}
 use Rattle.ps_problem.specs.declared.limits.TheConstants.{MOST_DRAFTED}
-use Rattle.ps_problem.specs.Drafts.{AreBelow, IsRatio}
+use Rattle.ps_text.specs.Canonical.{IsReduced}
+use Rattle.ps_problem.specs.Drafts.{AreBelow}
 use Rattle.ps_parse.specs.Pending.{reduced, HaveFirst, HaveAll, IsEndable}
 use Rattle.ps_parse.specs.Machine.{Work}
 
@@ -58,5 +59,5 @@ MayBeTaken part.Operand w t = HaveFirst w.pending × IsOperand t
 MayBeTaken part.Operator w t = HaveAll w.pending × MayEnd w t
 MayBeTaken part.Number w t = HasDraftedFormulas w × IsProbability (number_in t)
 MayBeTaken part.First w t = IsProbability (number_in t)
-MayBeTaken part.Second w t = HasDraftedFormulas w × IsProbability (number_in t) × IsRatio w.item.least.num w.item.least.den × (w.item.side ≡ side.AtLeast)
+MayBeTaken part.Second w t = HasDraftedFormulas w × IsProbability (number_in t) × IsReduced w.item.least × (w.item.side ≡ side.AtLeast)
 MayBeTaken p w t = Unit {0}

@@ -1,7 +1,7 @@
 //! Items as they are parsed.
 ghost use Rattle.std.specs.Prelude.{◌≡◌, ◌<◌, [], length, OnOk, option_map};
 ghost use Rattle.ps_problem.specs.declared.limits.TheConstants.{MOST_DRAFTED};
-ghost use Rattle.ps_problem.specs.Drafts.{IsRatio, IsUpperOf};
+ghost use Rattle.ps_text.specs.Canonical.{IsReduced, IsUpper};
 ghost use Rattle.ps_expect.specs.KeptTokens.{token_of};
 ghost use Rattle.ps_parse.specs.Pending.{HaveAll, IsEndable};
 ghost use Rattle.ps_parse.specs.Machine.{formula_ended, asked, operator_taken};
@@ -132,8 +132,8 @@ impl ItemParser {
     // States the item with this value and perhaps an upper one.
     fn sentence(&mut self, value: Value, upper: Option<Value>) -> Result<(), NoMemory>
         requires formulas { HasDraftedFormulas (work_of self.old) }
-        requires value { IsRatio value.num value.den }
-        requires upper { IsUpperOf self.old.item.side (option_map ratio_of upper) }
+        requires value { IsReduced (ratio_of value) }
+        requires upper { IsUpper self.old.item.side (option_map ratio_of upper) }
         requires room { HasRoom (work_of self.old) }
         ensures { OnOk result (States value upper self.old self.new) }
     {

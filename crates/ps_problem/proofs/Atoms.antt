@@ -9,6 +9,7 @@ use Rattle.ps_meaning.specs.Formula.{Formula, Atom}
 use Rattle.ps_meaning.specs.Statements.{Name}
 use Rattle.ps_formula.specs.declared.node.Node.{Node}
 use Rattle.ps_formula.specs.declared.node.Node.TheVariants as node
+use Rattle.ps_formula.specs.declared.limits.TheConstants.{MOST_ATOMS, MOST_NODES}
 use Rattle.ps_problem.specs.declared.fault.Fault.{Fault}
 use Rattle.ps_problem.specs.declared.fault.Fault.TheVariants as fault
 use Rattle.ps_problem.specs.declared.excess.Excess.TheVariants as excess
@@ -103,17 +104,17 @@ module _ (names : List Name) (atoms : List ℕ) (nodes : List Node) (h : Built n
     absent : list_any (same_formula (Atom (name_at names k))) h.formulas ≡ false
     absent = atom-among h.formulas (name_at names k) ∙ any-is ∙ absent-past atoms k past
 
-    pub atom-full : 128 ≤ place_in nat_eq atoms k → with_formulas h.formulas (Atom (name_at names k) ∷ []) ≡ Err Atoms
+    pub atom-full : MOST_ATOMS ≤ place_in nat_eq atoms k → with_formulas h.formulas (Atom (name_at names k) ∷ []) ≡ Err Atoms
     atom-full many =
         let p = place-absent nat_eq atoms k (absent-past atoms k past) in
         let l = length-atoms in
-        let most : 128 ≤ length (names_among h.formulas) = omega arith in
+        let most : MOST_ATOMS ≤ length (names_among h.formulas) = omega arith in
         expected-atoms h.formulas (Atom (name_at names k)) absent (grind (arith, nat_tests))
 
-    few-names : place_in nat_eq atoms k < 128 → nat_le 128 (length (names_among h.formulas)) ≡ false
+    few-names : place_in nat_eq atoms k < MOST_ATOMS → nat_le MOST_ATOMS (length (names_among h.formulas)) ≡ false
     few-names few =
         let l = length-atoms in
-        let less : length (names_among h.formulas) < 128 = omega arith in
+        let less : length (names_among h.formulas) < MOST_ATOMS = omega arith in
         grind (arith, nat_tests)
 
     names-new : names_among (h.formulas ++ Atom (name_at names k) ∷ []) ≡ names_among h.formulas ++ name_at names k ∷ []
@@ -150,7 +151,7 @@ module _ (names : List Name) (atoms : List ℕ) (nodes : List Node) (h : Built n
             omega arith
         never f r e = cc
 
-    pub atom-new : place_in nat_eq atoms k < 128 → (new : List Node) (i : ℕ) → IsAdded nodes (node.Atom (place_in nat_eq atoms k)) new (Ok i)
+    pub atom-new : place_in nat_eq atoms k < MOST_ATOMS → (new : List Node) (i : ℕ) → IsAdded nodes (node.Atom (place_in nat_eq atoms k)) new (Ok i)
         → GivesNumber names (with_formulas h.formulas (Atom (name_at names k) ∷ [])) (Atom (name_at names k)) (atoms ++ k ∷ []) new (Ok i)
     atom-new few new i added = by added.0.grown
       where
@@ -158,7 +159,7 @@ module _ (names : List Name) (atoms : List ℕ) (nodes : List Node) (h : Built n
             → GivesNumber names (with_formulas h.formulas (Atom (name_at names k) ∷ [])) (Atom (name_at names k)) (atoms ++ k ∷ []) new (Ok i)
         by (inl s) = absurd (no-node s.1)
         by (inr s) =
-            let room : length h.formulas < 1024 = on (nat_lt (length h.formulas) 1024) refl in
+            let room : length h.formulas < MOST_NODES = on (nat_lt (length h.formulas) MOST_NODES) refl in
             let p = place-absent nat_eq atoms k (absent-past atoms k past) in
             follows-new names atoms nodes h (Atom (name_at names k)) new i absent ready-new (atoms ++ k ∷ [])
             (map-append (name_at names) atoms (k ∷ []) ∙ ap (λ ns. ns ++ name_at names k ∷ []) h.atoms_are ∙ sym names-new)
@@ -166,15 +167,15 @@ module _ (names : List Name) (atoms : List ℕ) (nodes : List Node) (h : Built n
             (s.0 ∙ ap (λ m. nodes ++ m ∷ []) node-is) (added.0.there ∙ ap Some node-is)
             (expected-new h.formulas (Atom (name_at names k)) absent (few-names few) (grind (arith, nat_tests)))
           where
-            on : (b : Bool) → nat_lt (length h.formulas) 1024 ≡ b → length h.formulas < 1024
+            on : (b : Bool) → nat_lt (length h.formulas) MOST_NODES ≡ b → length h.formulas < MOST_NODES
             on true t = grind (arith, nat_tests)
             on false t =
                 let l = length-nodes names atoms nodes h (Atom (name_at names k)) in
                 let most = h.few in
-                let least : 1024 ≤ length h.formulas = grind (arith, nat_tests) in
+                let least : MOST_NODES ≤ length h.formulas = grind (arith, nat_tests) in
                 absurd (added.1 (omega arith) s.1)
 
-    pub atom-refused : place_in nat_eq atoms k < 128 → (new : List Node) (x : Fault) → IsAdded nodes (node.Atom (place_in nat_eq atoms k)) new (Err x)
+    pub atom-refused : place_in nat_eq atoms k < MOST_ATOMS → (new : List Node) (x : Fault) → IsAdded nodes (node.Atom (place_in nat_eq atoms k)) new (Err x)
         → IsFaultOf (with_formulas h.formulas (Atom (name_at names k) ∷ [])) x
     atom-refused few new fault.NoMemory added = tt
     atom-refused few new (fault.TooMany excess.Atoms) added = absurd added
@@ -182,5 +183,5 @@ module _ (names : List Name) (atoms : List ℕ) (nodes : List Node) (h : Built n
     atom-refused few new (fault.TooMany excess.Queries) added = absurd added
     atom-refused few new (fault.TooMany excess.Nodes) added =
         let l = length-nodes names atoms nodes h (Atom (name_at names k)) in
-        let full : length h.formulas ≡ 1024 = sym l ∙ added.0 in
+        let full : length h.formulas ≡ MOST_NODES = sym l ∙ added.0 in
         expected-full h.formulas (Atom (name_at names k)) absent (few-names few) (rw full refl)

@@ -7,6 +7,8 @@ use Rattle.std.proofs.lemmas.Bool.Decides.{nat_tests}
 use Rattle.ps_meaning.specs.Formula.{Formula, Atom}
 use Rattle.ps_meaning.specs.declared.side.Side.TheVariants as side
 use Rattle.ps_meaning.specs.Statements.{Name, Statement, Item, Stated, Asked, statements_of, questions_of}
+use Rattle.ps_formula.specs.declared.limits.TheConstants.{MOST_ATOMS, MOST_NODES}
+use Rattle.ps_problem.specs.declared.limits.TheConstants.{MOST_BOUNDS, MOST_QUERIES}
 use Rattle.ps_problem.specs.declared.bound.Bound.{Bound}
 use Rattle.ps_problem.specs.declared.sentence.Sentence.{Sentence}
 use Rattle.ps_problem.specs.Problems.{bounds_in}
@@ -32,22 +34,22 @@ with-fold fs (x ∷ xs) gs e = by (list_any (same_formula x) fs) (excess_with fs
 
 -- so many formulas and atoms are within the limits
 record AreFew (fs : List (Formula Name)) : Type 0 where
-  formulas : length fs ≤ 1024
-  atoms : length (names_among fs) ≤ 128
+  formulas : length fs ≤ MOST_NODES
+  atoms : length (names_among fs) ≤ MOST_ATOMS
 
 few-push : (fs : List (Formula Name)) (x : Formula Name) → AreFew fs → excess_with fs x ≡ None → AreFew (fs ++ x ∷ [])
-few-push fs x h e = by (is_atom x && nat_le 128 (length (names_among fs))) refl (nat_le 1024 (length fs)) refl e
+few-push fs x h e = by (is_atom x && nat_le MOST_ATOMS (length (names_among fs))) refl (nat_le MOST_NODES (length fs)) refl e
   where
-    atom : (y : Formula Name) → (is_atom y && nat_le 128 (length (names_among fs))) ≡ false → length (names_among fs ++ names_among (y ∷ [])) ≤ 128
-    atom (Atom a) n = let l = length_push (names_among fs) a in let lt : length (names_among fs) < 128 = grind (arith, nat_tests) in omega arith
+    atom : (y : Formula Name) → (is_atom y && nat_le MOST_ATOMS (length (names_among fs))) ≡ false → length (names_among fs ++ names_among (y ∷ [])) ≤ MOST_ATOMS
+    atom (Atom a) n = let l = length_push (names_among fs) a in let lt : length (names_among fs) < MOST_ATOMS = grind (arith, nat_tests) in omega arith
     atom y n = let l = ap length (append-nil (names_among fs)) in let m = h.atoms in omega arith
 
-    by : (b : Bool) → (is_atom x && nat_le 128 (length (names_among fs))) ≡ b → (c : Bool) → nat_le 1024 (length fs) ≡ c
+    by : (b : Bool) → (is_atom x && nat_le MOST_ATOMS (length (names_among fs))) ≡ b → (c : Bool) → nat_le MOST_NODES (length fs) ≡ c
         → (if b then Some Atoms else (if c then Some Nodes else None)) ≡ None → AreFew (fs ++ x ∷ [])
     by true p c q e = absurd (cc)
     by false p true q e = absurd (cc)
     by false p false q e = record {
-      formulas = (let l = length_push fs x in let lt : length fs < 1024 = grind (arith, nat_tests) in omega arith);
+      formulas = (let l = length_push fs x in let lt : length fs < MOST_NODES = grind (arith, nat_tests) in omega arith);
       atoms = (let n = ap length (names-append fs (x ∷ [])) in let m = atom x p in omega arith);
     }
 
@@ -83,21 +85,21 @@ length-bounds gs (s ∷ ss) =
     ∙ ap (λ n. count_bounds s + n) (length-bounds gs ss)
 
 -- the statements, with so many bounds before
-statements-are : (n b : ℕ) (fs : List (Formula Name)) (items : List Item) (gs : List (Formula Name)) → b ≤ 100 → with_statements n b fs items ≡ Ok gs
-    → (with_formulas fs (numbered_in_statements (statements_of items)) ≡ Ok gs) × (b + bounds_for (statements_of items) ≤ 100)
+statements-are : (n b : ℕ) (fs : List (Formula Name)) (items : List Item) (gs : List (Formula Name)) → b ≤ MOST_BOUNDS → with_statements n b fs items ≡ Ok gs
+    → (with_formulas fs (numbered_in_statements (statements_of items)) ≡ Ok gs) × (b + bounds_for (statements_of items) ≤ MOST_BOUNDS)
 statements-are n b fs [] gs le e = ((cc), omega arith)
 statements-are n b fs (Asked q ∷ items) gs le e = statements-are (n + 1) b fs items gs le e
-statements-are n b fs (Stated s ∷ items) gs le e = by (nat_lt 100 (b + count_bounds s)) refl (with_formulas fs (numbered_for s.formula s.given)) refl (λ hs le h. statements-are (n + 1) (b + count_bounds s) hs items gs le h) e
+statements-are n b fs (Stated s ∷ items) gs le e = by (nat_lt MOST_BOUNDS (b + count_bounds s)) refl (with_formulas fs (numbered_for s.formula s.given)) refl (λ hs le h. statements-are (n + 1) (b + count_bounds s) hs items gs le h) e
   where
-    by : (c : Bool) → nat_lt 100 (b + count_bounds s) ≡ c → (r : Result (List (Formula Name)) Excess) → with_formulas fs (numbered_for s.formula s.given) ≡ r
-        → ((hs : List (Formula Name)) → b + count_bounds s ≤ 100 → with_statements (n + 1) (b + count_bounds s) hs items ≡ Ok gs
-        → (with_formulas hs (numbered_in_statements (statements_of items)) ≡ Ok gs) × (b + count_bounds s + bounds_for (statements_of items) ≤ 100))
+    by : (c : Bool) → nat_lt MOST_BOUNDS (b + count_bounds s) ≡ c → (r : Result (List (Formula Name)) Excess) → with_formulas fs (numbered_for s.formula s.given) ≡ r
+        → ((hs : List (Formula Name)) → b + count_bounds s ≤ MOST_BOUNDS → with_statements (n + 1) (b + count_bounds s) hs items ≡ Ok gs
+        → (with_formulas hs (numbered_in_statements (statements_of items)) ≡ Ok gs) × (b + count_bounds s + bounds_for (statements_of items) ≤ MOST_BOUNDS))
         → at_item (n + 1) (if c then Err Bounds else r) (λ hs. with_statements (n + 1) (b + count_bounds s) hs items) ≡ Ok gs
-        → (with_formulas fs (numbered_in_statements (s ∷ statements_of items)) ≡ Ok gs) × (b + bounds_for (s ∷ statements_of items) ≤ 100)
+        → (with_formulas fs (numbered_in_statements (s ∷ statements_of items)) ≡ Ok gs) × (b + bounds_for (s ∷ statements_of items) ≤ MOST_BOUNDS)
     by true p r q more e = absurd (cc)
     by false p (Err x) q more e = absurd (cc)
     by false p (Ok hs) q more e =
-        let le : b + count_bounds s ≤ 100 = grind (arith, nat_tests) in
+        let le : b + count_bounds s ≤ MOST_BOUNDS = grind (arith, nat_tests) in
         let k = more hs le e in (
           with-append fs (numbered_for s.formula s.given) (numbered_in_statements (statements_of items))
               ∙ ap (λ r. after r (λ hs. with_formulas hs (numbered_in_statements (statements_of items)))) q ∙ k.0,
@@ -105,21 +107,21 @@ statements-are n b fs (Stated s ∷ items) gs le e = by (nat_lt 100 (b + count_b
         )
 
 -- the questions, with so many before
-questions-are : (n a : ℕ) (fs : List (Formula Name)) (items : List Item) (gs : List (Formula Name)) → a ≤ 16 → with_questions n a fs items ≡ Ok gs
-    → (with_formulas fs (numbered_in_questions (questions_of items)) ≡ Ok gs) × (a + length (questions_of items) ≤ 16)
+questions-are : (n a : ℕ) (fs : List (Formula Name)) (items : List Item) (gs : List (Formula Name)) → a ≤ MOST_QUERIES → with_questions n a fs items ≡ Ok gs
+    → (with_formulas fs (numbered_in_questions (questions_of items)) ≡ Ok gs) × (a + length (questions_of items) ≤ MOST_QUERIES)
 questions-are n a fs [] gs le e = ((cc), omega arith)
 questions-are n a fs (Stated s ∷ items) gs le e = questions-are (n + 1) a fs items gs le e
-questions-are n a fs (Asked s ∷ items) gs le e = by (nat_lt 16 (a + 1)) refl (with_formulas fs (numbered_for s.formula s.given)) refl (λ hs le h. questions-are (n + 1) (a + 1) hs items gs le h) e
+questions-are n a fs (Asked s ∷ items) gs le e = by (nat_lt MOST_QUERIES (a + 1)) refl (with_formulas fs (numbered_for s.formula s.given)) refl (λ hs le h. questions-are (n + 1) (a + 1) hs items gs le h) e
   where
-    by : (c : Bool) → nat_lt 16 (a + 1) ≡ c → (r : Result (List (Formula Name)) Excess) → with_formulas fs (numbered_for s.formula s.given) ≡ r
-        → ((hs : List (Formula Name)) → a + 1 ≤ 16 → with_questions (n + 1) (a + 1) hs items ≡ Ok gs
-        → (with_formulas hs (numbered_in_questions (questions_of items)) ≡ Ok gs) × (a + 1 + length (questions_of items) ≤ 16))
+    by : (c : Bool) → nat_lt MOST_QUERIES (a + 1) ≡ c → (r : Result (List (Formula Name)) Excess) → with_formulas fs (numbered_for s.formula s.given) ≡ r
+        → ((hs : List (Formula Name)) → a + 1 ≤ MOST_QUERIES → with_questions (n + 1) (a + 1) hs items ≡ Ok gs
+        → (with_formulas hs (numbered_in_questions (questions_of items)) ≡ Ok gs) × (a + 1 + length (questions_of items) ≤ MOST_QUERIES))
         → at_item (n + 1) (if c then Err Queries else r) (λ hs. with_questions (n + 1) (a + 1) hs items) ≡ Ok gs
-        → (with_formulas fs (numbered_in_questions (s ∷ questions_of items)) ≡ Ok gs) × (a + length (s ∷ questions_of items) ≤ 16)
+        → (with_formulas fs (numbered_in_questions (s ∷ questions_of items)) ≡ Ok gs) × (a + length (s ∷ questions_of items) ≤ MOST_QUERIES)
     by true p r q more e = absurd (cc)
     by false p (Err x) q more e = absurd (cc)
     by false p (Ok hs) q more e =
-        let le : a + 1 ≤ 16 = grind (arith, nat_tests) in
+        let le : a + 1 ≤ MOST_QUERIES = grind (arith, nat_tests) in
         let k = more hs le e in (
           with-append fs (numbered_for s.formula s.given) (numbered_in_questions (questions_of items))
               ∙ ap (λ r. after r (λ hs. with_formulas hs (numbered_in_questions (questions_of items)))) q ∙ k.0,
@@ -129,8 +131,8 @@ questions-are n a fs (Asked s ∷ items) gs le e = by (nat_lt 16 (a + 1)) refl (
 -- what is known of items of which none passes a limit
 record IsCounted (items : List Item) (fs : List (Formula Name)) : Type 0 where
   formulas : with_formulas [] (numbered_in_statements (statements_of items) ++ numbered_in_questions (questions_of items)) ≡ Ok fs
-  bounds : bounds_for (statements_of items) ≤ 100
-  queries : length (questions_of items) ≤ 16
+  bounds : bounds_for (statements_of items) ≤ MOST_BOUNDS
+  queries : length (questions_of items) ≤ MOST_QUERIES
 
 is-counted : (items : List Item) (fs : List (Formula Name)) → counted items ≡ Ok fs → IsCounted items fs
 is-counted items fs e = by (with_statements 0 0 [] items) refl e
@@ -152,10 +154,10 @@ counted-formulas items fs e = with-fold [] (numbered_in_statements (statements_o
 
 -- the limits that items keep
 pub record AreWithin (items : List Item) (fs : List (Formula Name)) : Type 0 where
-  pub formulas : length fs ≤ 1024
-  pub atoms : length (names_among fs) ≤ 128
-  pub bounds : (gs : List (Formula Name)) → length (bounds_in (map (sentence_in gs) (statements_of items))) ≤ 100
-  pub queries : length (questions_of items) ≤ 16
+  pub formulas : length fs ≤ MOST_NODES
+  pub atoms : length (names_among fs) ≤ MOST_ATOMS
+  pub bounds : (gs : List (Formula Name)) → length (bounds_in (map (sentence_in gs) (statements_of items))) ≤ MOST_BOUNDS
+  pub queries : length (questions_of items) ≤ MOST_QUERIES
 
 pub counted-limits : (items : List Item) (fs : List (Formula Name)) → counted items ≡ Ok fs → AreWithin items fs
 counted-limits items fs e =

@@ -11,6 +11,7 @@ use Rattle.ps_problem.specs.declared.span.Span.{Span}
 use Rattle.ps_problem.specs.declared.draft_item.DraftItem.{DraftItem}
 use Rattle.ps_problem.specs.Numbering.{same_name, with_new}
 use Rattle.ps_text.specs.Canonical.{canonical_nesting}
+use Rattle.ps_problem.specs.declared.limits.TheConstants.{MOST_NESTING}
 use Rattle.ps_problem.specs.Drafts.{arity, NameBelow, with_name, with_mark, with_formula}
 use Rattle.ps_problem.specs.DraftLists.{open_after, part, spelled, item_of, IsDraftItem, drafted, IsSpan, IsDraft}
 use Rattle.ps_problem.specs.Numbering.{AreOnce}
@@ -111,7 +112,7 @@ module _ (names : List Name) (ms : List Mark) (ended : ℕ) (spans : List Span) 
     pub IsDraft-name : IsName name → IsDraft (with_new same_name names name) ms ended spans items
     IsDraft-name n = rw added.3 (IsDraft-more added.0 (added.1 (All-push IsName [] name (All-nil IsName) n)) added.2)
 
-  module _ (one : length (open_after names [] (drop ended ms)) ≡ 1) (shallow : All (λ f. canonical_nesting f ≤ 100) (open_after names [] (drop ended ms))) where
+  module _ (one : length (open_after names [] (drop ended ms)) ≡ 1) (shallow : All (λ f. canonical_nesting f ≤ MOST_NESTING) (open_after names [] (drop ended ms))) where
     rest-is : part ms (record { start = ended; end = length ms }) ≡ drop ended ms
     rest-is = take_rest ms ended
 

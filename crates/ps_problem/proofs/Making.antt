@@ -5,9 +5,7 @@ use Rattle.std.proofs.lemmas.List.Elements.{All-nil}
 use Rattle.std.proofs.lemmas.Option.{slice_get_within, get_or_from_slice_get}
 use Rattle.std.proofs.lemmas.Bool.Decides.{nat_tests}
 use Rattle.ps_meaning.specs.Statements.{Name, Statement, Question, Item, Stated, Asked, statements_of, questions_of}
-use Rattle.ps_formula.specs.declared.node.Node.{Node}
-use Rattle.ps_problem.specs.declared.bound.Bound.{Bound}
-use Rattle.ps_problem.specs.declared.sentence.Sentence.{Sentence}
+use Rattle.ps_problem.specs.declared.limits.TheConstants.{MOST_BOUNDS, MOST_QUERIES}
 use Rattle.ps_problem.specs.declared.query.Query.{Query}
 use Rattle.ps_problem.specs.declared.fault.Fault.{Fault}
 use Rattle.ps_problem.specs.declared.fault.Fault.TheVariants as fault
@@ -58,16 +56,16 @@ module _ (d : Drafted) where
       turn : after (with_statements i (length a.bounds) r.built.formulas (Stated s ∷ drop (i + 1) d.items)) (λ fs. with_questions 0 0 fs d.items) ≡ counted d.items
       turn = ap (λ xs. after (with_statements i (length a.bounds) r.built.formulas xs) (λ fs. with_questions 0 0 fs d.items)) (sym (left-at d.items i (Stated s) at)) ∙ r.rest
 
-      split : (b : Bool) → nat_lt 100 (length a.bounds + count_bounds s) ≡ b
+      split : (b : Bool) → nat_lt MOST_BOUNDS (length a.bounds + count_bounds s) ≡ b
           → after (at_item (i + 1) (if b then Err Bounds else with_formulas r.built.formulas (numbered_for s.formula s.given)) (λ gs. with_statements (i + 1) (length a.bounds + count_bounds s) gs (drop (i + 1) d.items))) (λ fs. with_questions 0 0 fs d.items)
           ≡ counted d.items
       split b e = ap (λ c. after (at_item (i + 1) (if c then Err Bounds else with_formulas r.built.formulas (numbered_for s.formula s.given)) (λ gs. with_statements (i + 1) (length a.bounds + count_bounds s) gs (drop (i + 1) d.items))) (λ fs. with_questions 0 0 fs d.items)) (sym e) ∙ turn
 
       -- its bounds are too many
-      pub stating-full : 100 < length a.bounds + count_bounds s → counted d.items ≡ Err (record { excess = Bounds; item = i + 1 })
+      pub stating-full : MOST_BOUNDS < length a.bounds + count_bounds s → counted d.items ≡ Err (record { excess = Bounds; item = i + 1 })
       stating-full lt = sym (split true (grind (arith, nat_tests)))
 
-      module _ (few : length a.bounds + count_bounds s ≤ 100) where
+      module _ (few : length a.bounds + count_bounds s ≤ MOST_BOUNDS) where
         fits : after (at_item (i + 1) (with_formulas r.built.formulas (numbered_for s.formula s.given)) (λ gs. with_statements (i + 1) (length a.bounds + count_bounds s) gs (drop (i + 1) d.items))) (λ fs. with_questions 0 0 fs d.items)
             ≡ counted d.items
         fits = split false (grind (arith, nat_tests))
@@ -108,16 +106,16 @@ module _ (d : Drafted) where
     }
 
     module _ (q : Question) (at : slice_get d.items i ≡ Some (Asked q)) where
-      asked-split : (b : Bool) → nat_lt 16 (length a.queries + 1) ≡ b
+      asked-split : (b : Bool) → nat_lt MOST_QUERIES (length a.queries + 1) ≡ b
           → at_item (i + 1) (if b then Err Queries else with_formulas r.built.formulas (numbered_for q.formula q.given)) (λ gs. with_questions (i + 1) (length a.queries + 1) gs (drop (i + 1) d.items)) ≡ counted d.items
       asked-split b e = ap (λ c. at_item (i + 1) (if c then Err Queries else with_formulas r.built.formulas (numbered_for q.formula q.given)) (λ gs. with_questions (i + 1) (length a.queries + 1) gs (drop (i + 1) d.items))) (sym e)
           ∙ ap (with_questions i (length a.queries) r.built.formulas) (sym (left-at d.items i (Asked q) at)) ∙ r.rest
 
       -- there are enough questions already
-      pub asking-full : 16 ≤ length a.queries → counted d.items ≡ Err (record { excess = Queries; item = i + 1 })
+      pub asking-full : MOST_QUERIES ≤ length a.queries → counted d.items ≡ Err (record { excess = Queries; item = i + 1 })
       asking-full le = sym (asked-split true (grind (arith, nat_tests)))
 
-      module _ (few : length a.queries < 16) where
+      module _ (few : length a.queries < MOST_QUERIES) where
         asked-fits : at_item (i + 1) (with_formulas r.built.formulas (numbered_for q.formula q.given)) (λ gs. with_questions (i + 1) (length a.queries + 1) gs (drop (i + 1) d.items)) ≡ counted d.items
         asked-fits = asked-split false (grind (arith, nat_tests))
 

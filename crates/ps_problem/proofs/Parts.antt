@@ -10,13 +10,20 @@ use Rattle.ps_meaning.specs.Statements.{Name, Ratio, Statement, Question, Item, 
 use Rattle.ps_problem.specs.Problems.{bounds_in, tree_at, HasNodes, IsBound, AreParts}
 use Rattle.ps_problem.specs.Numbering.{same_name, same_formula, place_in, names_among, node_in, both_of, bound_in, sentence_in, query_in, formulas_of, problem_of}
 use Rattle.ps_problem.specs.Counts.{counted}
-use Rattle.ps_problem.specs.Drafts.{IsRatio, IsUpperOf, IsLawful}
+use Rattle.ps_text.specs.Canonical.{IsReduced, IsUpper}
+use Rattle.ps_problem.specs.Drafts.{HasReducedValues}
 use Rattle.ps_problem.specs.Numbered.{IsAmong, HasQuestion}
 use Rattle.ps_problem.proofs.Lists.{place-below}
 use Rattle.ps_problem.proofs.Counted.{counted-formulas, counted-limits}
 use Rattle.ps_problem.proofs.Trees.{tree-at, are-nodes, atoms-below, different-names}
 use Rattle.ps_problem.specs.Making.{question_on as question}
 use Rattle.ps_problem.proofs.Orders.{Ordered, are-numbered}
+
+-- an upper value is reduced
+upper-reduced : (on : Side) (r : Ratio) → IsUpper on (Some r) → IsReduced r
+upper-reduced side.AtLeast r h = h
+upper-reduced side.AtMost r h = absurd h
+upper-reduced side.Exactly r h = absurd h
 
 module _ (fs : List (Formula Name)) (o : Ordered fs) where
   place-there : (f : Formula Name) → IsAmong fs f → place_in same_formula fs f < length (map (node_in fs) fs)
@@ -40,12 +47,12 @@ module _ (fs : List (Formula Name)) (o : Ordered fs) where
         b ∙ ap (λ t. And t (with_atoms (place_in same_name (names_among fs)) g)) (sym l) ∙ ap (λ t. And (tree_at (map (node_in fs) fs) (place_in same_formula fs f)) t) (sym r);
   }
 
-  is-bound : (s : Statement) (on : Side) (value : Ratio) → HasQuestion fs (question s) → IsRatio value.num value.den → IsBound (map (node_in fs) fs) (bound_in fs s on value)
-  is-bound s on value h r = record { nodes = has-nodes s.formula s.given h; den_least = r.least; den_most = r.most; num_most = r.value }
+  is-bound : (s : Statement) (on : Side) (value : Ratio) → HasQuestion fs (question s) → IsReduced value → IsBound (map (node_in fs) fs) (bound_in fs s on value)
+  is-bound s on value h r = record { nodes = has-nodes s.formula s.given h; den_least = r.some; den_most = r.small; num_most = r.probability }
 
   -- a statement's values are within their limits
   abbrev IsStated : Statement → Type 0
-  IsStated s = IsRatio s.value.num s.value.den × IsUpperOf s.side s.upper
+  IsStated s = IsReduced s.value × IsUpper s.side s.upper
 
   are-bounds : (ss : List Statement) → All (λ s. HasQuestion fs (question s)) ss → All IsStated ss → All (IsBound (map (node_in fs) fs)) (bounds_in (map (sentence_in fs) ss))
   are-bounds [] h v = All-nil (IsBound (map (node_in fs) fs))
@@ -57,23 +64,23 @@ module _ (fs : List (Formula Name)) (o : Ordered fs) where
       first : IsBound (map (node_in fs) fs) (bound_in fs s s.side s.value)
       first = is-bound s s.side s.value there (All-head IsStated s ss v).0
 
-      by : (u : Option Ratio) → IsUpperOf s.side u → All (IsBound (map (node_in fs) fs)) (bounds_in (map (sentence_in fs) ss))
+      by : (u : Option Ratio) → IsUpper s.side u → All (IsBound (map (node_in fs) fs)) (bounds_in (map (sentence_in fs) ss))
           → All (IsBound (map (node_in fs) fs)) (bounds_in (record { first = bound_in fs s s.side s.value; second = option_map (bound_in fs s side.AtMost) u } ∷ map (sentence_in fs) ss))
       by None t rest = All-cons (IsBound (map (node_in fs) fs)) (bound_in fs s s.side s.value) (bounds_in (map (sentence_in fs) ss)) first rest
       by (Some r) t rest = All-cons (IsBound (map (node_in fs) fs)) (bound_in fs s s.side s.value) (bound_in fs s side.AtMost r ∷ bounds_in (map (sentence_in fs) ss)) first
-          (All-cons (IsBound (map (node_in fs) fs)) (bound_in fs s side.AtMost r) (bounds_in (map (sentence_in fs) ss)) (is-bound s side.AtMost r there t.0) rest)
+          (All-cons (IsBound (map (node_in fs) fs)) (bound_in fs s side.AtMost r) (bounds_in (map (sentence_in fs) ss)) (is-bound s side.AtMost r there (upper-reduced s.side r t)) rest)
 
-  are-stated : (items : List Item) → All IsLawful items → All IsStated (statements_of items)
+  are-stated : (items : List Item) → All HasReducedValues items → All IsStated (statements_of items)
   are-stated [] h = All-nil IsStated
-  are-stated (Stated s ∷ items) h = All-cons IsStated s (statements_of items) (All-head IsLawful (Stated s) items h) (are-stated items (All-tail IsLawful (Stated s) items h))
-  are-stated (Asked q ∷ items) h = are-stated items (All-tail IsLawful (Asked q) items h)
+  are-stated (Stated s ∷ items) h = All-cons IsStated s (statements_of items) (All-head HasReducedValues (Stated s) items h) (are-stated items (All-tail HasReducedValues (Stated s) items h))
+  are-stated (Asked q ∷ items) h = are-stated items (All-tail HasReducedValues (Asked q) items h)
 
   are-queries : (qs : List Question) → All (HasQuestion fs) qs → All (λ q. HasNodes (map (node_in fs) fs) q.formula q.given q.both) (map (query_in fs) qs)
   are-queries qs h = All-map (λ q. HasNodes (map (node_in fs) fs) q.formula q.given q.both) (query_in fs) qs
       (All-weaker (HasQuestion fs) (λ q. HasNodes (map (node_in fs) fs) (query_in fs q).formula (query_in fs q).given (query_in fs q).both) (λ q k. has-nodes q.formula q.given k) qs h)
 
-pub parts-in-order : (items : List Item) (fs : List (Formula Name)) → All IsLawful items → counted items ≡ Ok fs → AreParts (problem_of items)
-parts-in-order items fs lawful e =
+pub parts-in-order : (items : List Item) (fs : List (Formula Name)) → All HasReducedValues items → counted items ≡ Ok fs → AreParts (problem_of items)
+parts-in-order items fs reduced e =
     let gs = formulas_of items in
     let n = are-numbered items in
     let c = counted-limits items gs (e ∙ ap Ok (counted-formulas items fs e)) in
@@ -83,7 +90,7 @@ parts-in-order items fs lawful e =
       few_atoms = c.atoms;
       names = different-names (names_among gs) n.order.names;
       atoms = atoms-below gs n.order.led;
-      bounds = are-bounds gs n.order (statements_of items) n.statements (are-stated gs n.order items lawful);
+      bounds = are-bounds gs n.order (statements_of items) n.statements (are-stated gs n.order items reduced);
       few_bounds = c.bounds gs;
       queries = are-queries gs n.order (questions_of items) n.questions;
       few_queries = (let l = length-map (questions_of items) (query_in gs) in let m = c.queries in omega arith);

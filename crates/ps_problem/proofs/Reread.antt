@@ -3,21 +3,21 @@ use Rattle.std.proofs.Common.{◌≡◌, ℕ, ◌+◌, ◌≤◌, nat_lt, List, 
 use Rattle.std.proofs.lemmas.List.Elements.{All-head, All-tail}
 use Rattle.ps_meaning.specs.Formula.{Formula, Truth, Falsity, Atom, Not, And, Or, Implies, Iff}
 use Rattle.ps_meaning.specs.Names.{IsName}
-use Rattle.ps_meaning.specs.declared.side.Side.{Side}
-use Rattle.ps_meaning.specs.Statements.{Name, Ratio, Statement, Question, Item, Stated, Asked, statements_of, questions_of}
-use Rattle.ps_text.specs.Canonical.{canonical_nesting, HasNames, IsWritable, IsWritableGiven, IsReduced, IsUpper, AreLawful}
+use Rattle.ps_meaning.specs.Statements.{Name, Statement, Question, Item, Stated, Asked, statements_of, questions_of}
+use Rattle.ps_text.specs.Canonical.{canonical_nesting, listed, HasNames, IsWritable, IsWritableGiven, AreLawful}
 use Rattle.ps_text.proofs.Canonicals.{canonical_front}
 use Rattle.ps_text.proofs.Nesting.{nests_canonical}
+use Rattle.ps_problem.specs.declared.limits.TheConstants.{MOST_BOUNDS, MOST_QUERIES, MOST_NESTING}
 use Rattle.ps_problem.specs.Problems.{Parts}
 use Rattle.ps_problem.specs.Numbering.{same_name, place_in, names_among, numbered_for, formulas_of, problem_of}
 use Rattle.ps_problem.specs.declared.excess.Excess.{Excess}
 use Rattle.ps_problem.specs.declared.excess.Excess.TheVariants.{Bounds, Queries}
 use Rattle.ps_problem.specs.Counts.{ItemExcess, with_formulas, count_bounds, at_item, with_statements, with_questions, after, counted}
-use Rattle.ps_problem.specs.Drafts.{IsRatio, IsUpperOf, IsLawful, IsNested}
+use Rattle.ps_problem.specs.Drafts.{HasReducedValues, IsNested}
 use Rattle.ps_problem.specs.Soundness.{IsProblem}
 use Rattle.ps_problem.specs.Numbered.{IsAmong, HasQuestion}
 use Rattle.ps_problem.specs.Making.{question_on as question}
-use Rattle.ps_problem.specs.Written.{listed, items_from}
+use Rattle.ps_problem.specs.Written.{items_from}
 use Rattle.ps_problem.specs.Rereading.{IsReread}
 use Rattle.ps_problem.proofs.NameLists.{same_name-true, same_name-refl}
 use Rattle.ps_problem.proofs.Lists.{place-below, place-get}
@@ -38,19 +38,12 @@ module _ (fs : List (Formula Name)) (o : Ordered fs) (named : All IsName (names_
   has-names (Implies f g) a = let r = operands-among fs o (Implies f g) a in (has-names f r.0, has-names g r.1)
   has-names (Iff f g) a = let r = operands-among fs o (Iff f g) a in (has-names f r.0, has-names g r.1)
 
-  writable : (f : Formula Name) → IsAmong fs f → canonical_nesting f ≤ 100 → IsWritable f
+  writable : (f : Formula Name) → IsAmong fs f → canonical_nesting f ≤ MOST_NESTING → IsWritable f
   writable f a h = record { names = has-names f a; nests = nests_canonical f h }
 
-  given-writable : (g : Option (Formula Name)) → IfSome g (IsAmong fs) → IfSome g (λ f. canonical_nesting f ≤ 100) → IsWritableGiven g
+  given-writable : (g : Option (Formula Name)) → IfSome g (IsAmong fs) → IfSome g (λ f. canonical_nesting f ≤ MOST_NESTING) → IsWritableGiven g
   given-writable None a h = tt
   given-writable (Some g) a h = writable g a h
-
-  reduced : (r : Ratio) → IsRatio r.num r.den → IsReduced r
-  reduced r h = record { lowest = h.reduced; some = h.least; small = h.most; probability = h.value }
-
-  upper-reduced : (s : Side) (u : Option Ratio) → IsUpperOf s u → IsUpper s u
-  upper-reduced s None h = tt
-  upper-reduced s (Some r) h = subst (λ t. IsUpper t (Some r)) (sym h.1) (reduced r h.0)
 
   questions-lawful : (items : List Item) → All (HasQuestion fs) (questions_of items) → All IsNested items → AreLawful (map Asked (questions_of items))
   questions-lawful [] h n = tt
@@ -60,15 +53,15 @@ module _ (fs : List (Formula Name)) (o : Ordered fs) (named : All IsName (names_
       let k = All-head IsNested (Asked q) items n in
       ((writable q.formula a.formula k.0, given-writable q.given a.given k.1), questions-lawful items (All-tail (HasQuestion fs) q (questions_of items) h) (All-tail IsNested (Asked q) items n))
 
-  statements-lawful : (items more : List Item) → All (λ s. HasQuestion fs (question s)) (statements_of items) → All IsNested items → All IsLawful items → AreLawful more → AreLawful (map Stated (statements_of items) ++ more)
+  statements-lawful : (items more : List Item) → All (λ s. HasQuestion fs (question s)) (statements_of items) → All IsNested items → All HasReducedValues items → AreLawful more → AreLawful (map Stated (statements_of items) ++ more)
   statements-lawful [] more h n l k = k
-  statements-lawful (Asked q ∷ items) more h n l k = statements-lawful items more h (All-tail IsNested (Asked q) items n) (All-tail IsLawful (Asked q) items l) k
+  statements-lawful (Asked q ∷ items) more h n l k = statements-lawful items more h (All-tail IsNested (Asked q) items n) (All-tail HasReducedValues (Asked q) items l) k
   statements-lawful (Stated s ∷ items) more h n l k =
       let a = All-head (λ t. HasQuestion fs (question t)) s (statements_of items) h in
       let m = All-head IsNested (Stated s) items n in
-      let v = All-head IsLawful (Stated s) items l in (
-        (writable s.formula a.formula m.0, given-writable s.given a.given m.1, reduced s.value v.0, upper-reduced s.side s.upper v.1),
-        statements-lawful items more (All-tail (λ t. HasQuestion fs (question t)) s (statements_of items) h) (All-tail IsNested (Stated s) items n) (All-tail IsLawful (Stated s) items l) k,
+      let v = All-head HasReducedValues (Stated s) items l in (
+        (writable s.formula a.formula m.0, given-writable s.given a.given m.1, v.0, v.1),
+        statements-lawful items more (All-tail (λ t. HasQuestion fs (question t)) s (statements_of items) h) (All-tail IsNested (Stated s) items n) (All-tail HasReducedValues (Stated s) items l) k,
       )
 
 -- counts: an order of statements first passes no limit either
@@ -85,7 +78,7 @@ statements-counted : (items : List Item) (n m b : ℕ) (fs gs : List (Formula Na
 statements-counted [] n m b fs gs qs e = no-statements m b fs qs ∙ e
 statements-counted (Asked q ∷ items) n m b fs gs qs e = statements-counted items (n + 1) m b fs gs qs e
 statements-counted (Stated s ∷ items) n m b fs gs qs e =
-    at-both (n + 1) (m + 1) (if nat_lt 100 (b + count_bounds s) then Err Bounds else with_formulas fs (numbered_for s.formula s.given))
+    at-both (n + 1) (m + 1) (if nat_lt MOST_BOUNDS (b + count_bounds s) then Err Bounds else with_formulas fs (numbered_for s.formula s.given))
     (λ xs. with_statements (n + 1) (b + count_bounds s) xs items) (λ xs. with_statements (m + 1) (b + count_bounds s) xs (map Stated (statements_of items) ++ map Asked qs)) gs e
     (λ xs k. statements-counted items (n + 1) (m + 1) (b + count_bounds s) xs gs qs k)
 
@@ -93,7 +86,7 @@ questions-counted : (items : List Item) (n m a : ℕ) (fs gs : List (Formula Nam
 questions-counted [] n m a fs gs e = e
 questions-counted (Stated s ∷ items) n m a fs gs e = questions-counted items (n + 1) m a fs gs e
 questions-counted (Asked q ∷ items) n m a fs gs e =
-    at-both (n + 1) (m + 1) (if nat_lt 16 (a + 1) then Err Queries else with_formulas fs (numbered_for q.formula q.given))
+    at-both (n + 1) (m + 1) (if nat_lt MOST_QUERIES (a + 1) then Err Queries else with_formulas fs (numbered_for q.formula q.given))
     (λ xs. with_questions (n + 1) (a + 1) xs items) (λ xs. with_questions (m + 1) (a + 1) xs (map Asked (questions_of items))) gs e
     (λ xs k. questions-counted items (n + 1) (m + 1) (a + 1) xs gs k)
 
@@ -122,7 +115,7 @@ reread p h = subst IsReread (sym h.numbered) made
 
     lawful : AreLawful (items_from (problem_of h.items))
     lawful = let k = are-numbered h.items in subst AreLawful (sym same)
-        (statements-lawful (formulas_of h.items) k.order named h.items (map Asked (questions_of h.items)) k.statements h.nested h.lawful (questions-lawful (formulas_of h.items) k.order named h.items k.questions h.nested))
+        (statements-lawful (formulas_of h.items) k.order named h.items (map Asked (questions_of h.items)) k.statements h.nested h.reduced (questions-lawful (formulas_of h.items) k.order named h.items k.questions h.nested))
 
     made : IsReread (problem_of h.items)
     made = record {

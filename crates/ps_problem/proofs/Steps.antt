@@ -9,6 +9,7 @@ use Rattle.std.proofs.lemmas.Bool.Decides.{nat_tests}
 use Rattle.ps_meaning.specs.Formula.{Formula, Atom}
 use Rattle.ps_meaning.specs.Statements.{Name}
 use Rattle.ps_formula.specs.declared.node.Node.{Node}
+use Rattle.ps_formula.specs.declared.limits.TheConstants.{MOST_ATOMS, MOST_NODES}
 use Rattle.ps_problem.specs.declared.fault.Fault.{Fault}
 use Rattle.ps_problem.specs.declared.fault.Fault.TheVariants as fault
 use Rattle.ps_problem.specs.declared.excess.Excess.TheVariants as excess
@@ -26,15 +27,15 @@ module _ (fs : List (Formula Name)) (g : Formula Name) where
   pub expected-known : IsAmong fs g → with_formulas fs (g ∷ []) ≡ Ok fs
   expected-known e = rw e refl
 
-  pub expected-new : list_any (same_formula g) fs ≡ false → (is_atom g && nat_le 128 (length (names_among fs))) ≡ false → nat_le 1024 (length fs) ≡ false
+  pub expected-new : list_any (same_formula g) fs ≡ false → (is_atom g && nat_le MOST_ATOMS (length (names_among fs))) ≡ false → nat_le MOST_NODES (length fs) ≡ false
       → with_formulas fs (g ∷ []) ≡ Ok (fs ++ g ∷ [])
   expected-new e a n = rw (e, a, n) refl
 
-  pub expected-full : list_any (same_formula g) fs ≡ false → (is_atom g && nat_le 128 (length (names_among fs))) ≡ false → nat_le 1024 (length fs) ≡ true
+  pub expected-full : list_any (same_formula g) fs ≡ false → (is_atom g && nat_le MOST_ATOMS (length (names_among fs))) ≡ false → nat_le MOST_NODES (length fs) ≡ true
       → with_formulas fs (g ∷ []) ≡ Err Nodes
   expected-full e a n = rw (e, a, n) refl
 
-  pub expected-atoms : list_any (same_formula g) fs ≡ false → (is_atom g && nat_le 128 (length (names_among fs))) ≡ true
+  pub expected-atoms : list_any (same_formula g) fs ≡ false → (is_atom g && nat_le MOST_ATOMS (length (names_among fs))) ≡ true
       → with_formulas fs (g ∷ []) ≡ Err Atoms
   expected-atoms e a = rw (e, a) refl
 
@@ -68,7 +69,7 @@ module _ (names : List Name) (atoms : List ℕ) (nodes : List Node) (h : Built n
 
   -- a formula that is new is numbered last
   abbrev pub extended : (atoms' : List ℕ) → list_any (same_formula g) h.formulas ≡ false → AreOperandsAmong (h.formulas ++ g ∷ []) g
-      → map (name_at names) atoms' ≡ names_among (h.formulas ++ g ∷ []) → All (λ a. a < length names) atoms' → length atoms' ≤ 128 → length h.formulas < 1024
+      → map (name_at names) atoms' ≡ names_among (h.formulas ++ g ∷ []) → All (λ a. a < length names) atoms' → length atoms' ≤ MOST_ATOMS → length h.formulas < MOST_NODES
       → Built names atoms' (nodes ++ node_in (h.formulas ++ g ∷ []) g ∷ [])
   extended atoms' new ready atoms_are within few_atoms few = record {
     formulas = h.formulas ++ g ∷ [];
@@ -101,7 +102,7 @@ module _ (names : List Name) (atoms : List ℕ) (nodes : List Node) (h : Built n
 
   -- where a formula was numbered last, that is what was expected
   pub follows-new : (new : List Node) (i : ℕ) → list_any (same_formula g) h.formulas ≡ false → AreOperandsAmong (h.formulas ++ g ∷ []) g
-      → (atoms' : List ℕ) → map (name_at names) atoms' ≡ names_among (h.formulas ++ g ∷ []) → All (λ a. a < length names) atoms' → length atoms' ≤ 128 → length h.formulas < 1024
+      → (atoms' : List ℕ) → map (name_at names) atoms' ≡ names_among (h.formulas ++ g ∷ []) → All (λ a. a < length names) atoms' → length atoms' ≤ MOST_ATOMS → length h.formulas < MOST_NODES
       → new ≡ nodes ++ node_in (h.formulas ++ g ∷ []) g ∷ [] → slice_get new i ≡ Some (node_in (h.formulas ++ g ∷ []) g)
       → with_formulas h.formulas (g ∷ []) ≡ Ok (h.formulas ++ g ∷ []) → GivesNumber names (with_formulas h.formulas (g ∷ [])) g atoms' new (Ok i)
   follows-new new i absent ready atoms' atoms_are within few_atoms few new-is there expected =
@@ -116,10 +117,10 @@ module _ (names : List Name) (atoms : List ℕ) (nodes : List Node) (h : Built n
         ),
       )
 
-  not-atom : list_any (same_formula g) h.formulas ≡ false → AreOperandsAmong h.formulas g → (is_atom g && nat_le 128 (length (names_among h.formulas))) ≡ false
+  not-atom : list_any (same_formula g) h.formulas ≡ false → AreOperandsAmong h.formulas g → (is_atom g && nat_le MOST_ATOMS (length (names_among h.formulas))) ≡ false
   not-atom = absent g
     where
-      absent : (f : Formula Name) → list_any (same_formula f) h.formulas ≡ false → AreOperandsAmong h.formulas f → (is_atom f && nat_le 128 (length (names_among h.formulas))) ≡ false
+      absent : (f : Formula Name) → list_any (same_formula f) h.formulas ≡ false → AreOperandsAmong h.formulas f → (is_atom f && nat_le MOST_ATOMS (length (names_among h.formulas))) ≡ false
       absent (Atom a) e r = absurd (true≢false (sym r ∙ sym (atom-among h.formulas a) ∙ e))
       absent f e r = refl
 
@@ -143,7 +144,7 @@ module _ (names : List Name) (atoms : List ℕ) (nodes : List Node) (h : Built n
       by true a = absurd (added.1 (rw (h.nodes_are, e) (contains-among h.formulas g a)))
       by false a =
           let l = length-nodes in
-          let full : length h.formulas ≡ 1024 = sym l ∙ added.0 in
+          let full : length h.formulas ≡ MOST_NODES = sym l ∙ added.0 in
           expected-full h.formulas g a (not-atom a r) (rw full refl)
   step-known r n e new (Ok i) added = by added.0.grown
     where
@@ -161,16 +162,16 @@ module _ (names : List Name) (atoms : List ℕ) (nodes : List Node) (h : Built n
           on : (b : Bool) → list_any (same_formula g) h.formulas ≡ b → GivesNumber names (with_formulas h.formulas (g ∷ [])) g atoms new (Ok i)
           on true a = absurd (s.1 (rw (h.nodes_are, e) (contains-among h.formulas g a)))
           on false a =
-              let few : length h.formulas < 1024 = room (nat_lt (length h.formulas) 1024) refl in
+              let few : length h.formulas < MOST_NODES = room (nat_lt (length h.formulas) MOST_NODES) refl in
               let more = node-more h.formulas (g ∷ []) g r in
               let new-is : new ≡ nodes ++ node_in (h.formulas ++ g ∷ []) g ∷ [] = s.0 ∙ ap (λ m. nodes ++ m ∷ []) (e ∙ sym more) in
               follows-new new i a (ready-more h.formulas (g ∷ []) g r) atoms (names-kept a r) h.within h.few_atoms few new-is (there ∙ ap Some (sym more))
               (expected-new h.formulas g a (not-atom a r) (grind (arith, nat_tests)))
             where
-              room : (b : Bool) → nat_lt (length h.formulas) 1024 ≡ b → length h.formulas < 1024
+              room : (b : Bool) → nat_lt (length h.formulas) MOST_NODES ≡ b → length h.formulas < MOST_NODES
               room true t = grind (arith, nat_tests)
               room false t =
                   let l = length-nodes in
                   let most = h.few in
-                  let least : 1024 ≤ length h.formulas = grind (arith, nat_tests) in
+                  let least : MOST_NODES ≤ length h.formulas = grind (arith, nat_tests) in
                   absurd (added.1 (omega arith) s.1)

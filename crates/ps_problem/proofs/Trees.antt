@@ -7,6 +7,7 @@ use Rattle.ps_meaning.specs.Formula.{Formula, Truth, Falsity, Atom, Not, And, Or
 use Rattle.ps_meaning.specs.Statements.{Name}
 use Rattle.ps_formula.specs.Nodes.{tree_over, trees_from, trees, Fits, AreNodes, AtomBelow}
 use Rattle.ps_formula.specs.declared.node.Node.{Node}
+use Rattle.ps_formula.specs.declared.limits.TheConstants.{MOST_ATOMS}
 use Rattle.ps_problem.specs.Problems.{tree_at}
 use Rattle.ps_problem.specs.Numbering.{AreOnce, same_name, same_formula, place_in, names_among, node_in, numbered}
 use Rattle.ps_problem.specs.Numbered.{IsAmong, AreOperandsAmong}
@@ -83,7 +84,7 @@ module _ (ms rest : List (Formula Name)) where
       let b : place_in same_formula ms f < length ms = place-below same_formula ms f a in
       omega arith
 
-  fits-led : (g : Formula Name) → Leads ms g → IsAmong (ms ++ rest) g → length (names_among (ms ++ rest)) ≤ 128 → Fits (length ms) (node_in (ms ++ rest) g)
+  fits-led : (g : Formula Name) → Leads ms g → IsAmong (ms ++ rest) g → length (names_among (ms ++ rest)) ≤ MOST_ATOMS → Fits (length ms) (node_in (ms ++ rest) g)
   fits-led Truth l a few = tt
   fits-led Falsity l a few = tt
   fits-led (Atom n) l a few =
@@ -109,12 +110,12 @@ module _ (fs : List (Formula Name)) (led : AreLed [] fs) where
       (ready-led (take i fs) (drop i fs) (get_or fs i d) (led-at [] fs led i d lt)
       (subst (λ xs. IsAmong xs (get_or fs i d)) (sym (take-append-drop i fs)) (among-at i d lt)))
 
-  fits-at : length (names_among fs) ≤ 128 → (i : ℕ) (d : Formula Name) → i < length fs → Fits i (node_in fs (get_or fs i d))
+  fits-at : length (names_among fs) ≤ MOST_ATOMS → (i : ℕ) (d : Formula Name) → i < length fs → Fits i (node_in fs (get_or fs i d))
   fits-at few i d lt = subst (λ n. Fits n (node_in fs (get_or fs i d))) (length-take-le i fs (omega arith))
       (subst (λ xs. Fits (length (take i fs)) (node_in xs (get_or fs i d))) (take-append-drop i fs)
       (fits-led (take i fs) (drop i fs) (get_or fs i d) (led-at [] fs led i d lt)
       (subst (λ xs. IsAmong xs (get_or fs i d)) (sym (take-append-drop i fs)) (among-at i d lt))
-      (subst (λ xs. length (names_among xs) ≤ 128) (sym (take-append-drop i fs)) few)))
+      (subst (λ xs. length (names_among xs) ≤ MOST_ATOMS) (sym (take-append-drop i fs)) few)))
 
   node-at : (i : ℕ) (d : Node) → i < length (map (node_in fs) fs) → get_or (map (node_in fs) fs) i d ≡ node_in fs (get_or fs i Truth)
   node-at i d lt = get_or_default (map (node_in fs) fs) i d (node_in fs Truth) lt ∙ get_or-map (node_in fs) fs i Truth
@@ -122,7 +123,7 @@ module _ (fs : List (Formula Name)) (led : AreLed [] fs) where
   within : (i : ℕ) → i < length (map (node_in fs) fs) → i < length fs
   within i lt = let l = length-map fs (node_in fs) in omega arith
 
-  pub are-nodes : AreOnce same_formula fs → length (names_among fs) ≤ 128 → AreNodes (map (node_in fs) fs)
+  pub are-nodes : AreOnce same_formula fs → length (names_among fs) ≤ MOST_ATOMS → AreNodes (map (node_in fs) fs)
   are-nodes once few = record {
     fit = λ i d lt. subst (Fits i) (sym (node-at i d lt)) (fits-at few i Truth (within i lt));
     once = λ i j d lt most same.

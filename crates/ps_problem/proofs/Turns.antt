@@ -1,5 +1,5 @@
 -- Going through the marks of a formula.
-use Rattle.std.proofs.Common.{◌≡◌, ℕ, zero, suc, ◌+◌, ◌-◌, ◌<◌, ◌≤◌, Bool, true, false, List, [], ◌∷◌, ◌++◌, length, get_or, take, drop, Option, Some, None, Result, Ok, Err, OnOk, is_err, true≢false, refl, sym, ap, subst, ◌∙◌, arith, if◌then◌else◌}
+use Rattle.std.proofs.Common.{◌≡◌, ℕ, zero, suc, ◌+◌, ◌-◌, ◌<◌, ◌≤◌, Bool, true, false, List, [], ◌∷◌, ◌++◌, length, get_or, take, drop, Option, Some, None, Result, Ok, Err, refl, sym, ap, subst, ◌∙◌, arith, if◌then◌else◌}
 use Rattle.std.specs.List.{list_any}
 use Rattle.std.proofs.lemmas.List.{append-nil, append_assoc, take_more, take_all, drop_more, drop_all}
 use Rattle.ps_meaning.specs.Formula.{Formula, Truth, subformulas}
@@ -50,11 +50,6 @@ with-more fs (x ∷ xs) gs e = by (list_any (same_formula x) fs) (excess_with fs
     by false None p q e =
         let r = q e in
         (x ∷ r.0, r.1 ∙ append_assoc fs (x ∷ []) r.0)
-
--- a result that is no error is Ok
-pub from-no-error : {X E P : Type 0} (r : Result X E) → false ≡ is_err r → OnOk r P → P
-from-no-error (Ok x) e p = p
-from-no-error (Err x) e p = absurd (true≢false (sym e))
 
 pub held-at : (names : List Name) (ss : List (Formula Name)) (ms : List Mark) (i : ℕ) (d : Mark) → HaveOperands names ss ms → i < length ms → arity (get_or ms i d) ≤ length (open_after names ss (take i ms))
 held-at names ss [] i d h lt = absurd (omega arith)

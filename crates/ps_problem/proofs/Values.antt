@@ -1,5 +1,5 @@
 -- The values of a draft's items.
-use Rattle.std.proofs.Common.{◌≡◌, ℕ, ◌<◌, ◌≤◌, List, length, Option, Some, None, IfSome, map, All, ap, arith}
+use Rattle.std.proofs.Common.{◌≡◌, ℕ, ◌<◌, ◌≤◌, List, length, Option, Some, None, IfSome, map, All, arith}
 use Rattle.std.specs.Prelude.{option_map}
 use Rattle.std.proofs.lemmas.List.{length-map}
 use Rattle.std.proofs.lemmas.List.Elements.{All-map, All-weaker}
@@ -11,22 +11,23 @@ use Rattle.ps_problem.specs.declared.draft_item.DraftItem.TheVariants as item
 use Rattle.ps_problem.specs.declared.mark.Mark.{Mark}
 use Rattle.ps_problem.specs.declared.span.Span.{Span}
 use Rattle.ps_text.specs.Canonical.{canonical_nesting}
-use Rattle.ps_problem.specs.Drafts.{IsLawful, IsNested, formula_at}
+use Rattle.ps_problem.specs.declared.limits.TheConstants.{MOST_NESTING}
+use Rattle.ps_problem.specs.Drafts.{HasReducedValues, IsNested, formula_at}
 use Rattle.ps_problem.specs.DraftLists.{item_of, IsDraftItem, IsSpan, spelled}
 
-lawful-item : (fs : List (Formula Name)) (n : ℕ) (e : DraftItem) → IsDraftItem n e → IsLawful (item_of fs e)
-lawful-item fs n (item.Sentence s) h = (h.1, h.2)
-lawful-item fs n (item.Query q) h = tt
+reduced-item : (fs : List (Formula Name)) (n : ℕ) (e : DraftItem) → IsDraftItem n e → HasReducedValues (item_of fs e)
+reduced-item fs n (item.Sentence s) h = (h.1, h.2)
+reduced-item fs n (item.Query q) h = tt
 
-pub lawful-items : (fs : List (Formula Name)) (n : ℕ) (es : List DraftItem) → All (IsDraftItem n) es → All IsLawful (map (item_of fs) es)
-lawful-items fs n es h = All-map IsLawful (item_of fs) es (All-weaker (IsDraftItem n) (λ e. IsLawful (item_of fs e)) (lawful-item fs n) es h)
+pub reduced-items : (fs : List (Formula Name)) (n : ℕ) (es : List DraftItem) → All (IsDraftItem n) es → All HasReducedValues (map (item_of fs) es)
+reduced-items fs n es h = All-map HasReducedValues (item_of fs) es (All-weaker (IsDraftItem n) (λ e. HasReducedValues (item_of fs e)) (reduced-item fs n) es h)
 
--- the canonical spellings of an item's formulas nest at most 100 where those of the formulas do
-module _ (fs : List (Formula Name)) (n : ℕ) (all : All (λ f. canonical_nesting f ≤ 100) fs) (many : length fs ≡ n) where
-  nested-at : (i : ℕ) → i < n → canonical_nesting (formula_at fs i) ≤ 100
+-- the canonical spellings of an item's formulas nest within the limit where those of the formulas do
+module _ (fs : List (Formula Name)) (n : ℕ) (all : All (λ f. canonical_nesting f ≤ MOST_NESTING) fs) (many : length fs ≡ n) where
+  nested-at : (i : ℕ) → i < n → canonical_nesting (formula_at fs i) ≤ MOST_NESTING
   nested-at i lt = all i formula.Truth (omega (arith, lt, many))
 
-  nested-given : (g : Option ℕ) → IfSome g (λ i. i < n) → IfSome (option_map (formula_at fs) g) (λ f. canonical_nesting f ≤ 100)
+  nested-given : (g : Option ℕ) → IfSome g (λ i. i < n) → IfSome (option_map (formula_at fs) g) (λ f. canonical_nesting f ≤ MOST_NESTING)
   nested-given None h = tt
   nested-given (Some g) h = nested-at g h
 
@@ -38,6 +39,6 @@ pub nested-items : (names : List Name) (ms : List Mark) (ended : ℕ) (spans : L
     → All (IsSpan names ms ended) spans → All (IsDraftItem (length spans)) es → All IsNested (map (item_of (map (spelled names ms) spans)) es)
 nested-items names ms ended spans es h k =
     let fs = map (spelled names ms) spans in
-    let all : All (λ f. canonical_nesting f ≤ 100) (map (spelled names ms) spans) =
-    All-map (λ f. canonical_nesting f ≤ 100) (spelled names ms) spans (All-weaker (IsSpan names ms ended) (λ s. canonical_nesting (spelled names ms s) ≤ 100) (λ s i. i.nesting) spans h) in
+    let all : All (λ f. canonical_nesting f ≤ MOST_NESTING) (map (spelled names ms) spans) =
+    All-map (λ f. canonical_nesting f ≤ MOST_NESTING) (spelled names ms) spans (All-weaker (IsSpan names ms ended) (λ s. canonical_nesting (spelled names ms s) ≤ MOST_NESTING) (λ s i. i.nesting) spans h) in
     All-map IsNested (item_of fs) es (All-weaker (IsDraftItem (length spans)) (λ e. IsNested (item_of fs e)) (nested-item fs (length spans) all (length-map spans (spelled names ms))) es k)

@@ -5,12 +5,13 @@ use Rattle.std.proofs.lemmas.List.Elements.{All-head, All-tail}
 use Rattle.ps_meaning.specs.Formula.{Formula, Truth, Falsity, Atom, Not, And, Or, Implies, Iff, with_atoms}
 use Rattle.ps_meaning.specs.declared.side.Side.TheVariants as side
 use Rattle.ps_meaning.specs.Statements.{Name, Ratio, Statement, Question, Item, statements_of, questions_of}
-use Rattle.ps_problem.specs.Problems.{Parts, tree_at}
+use Rattle.ps_problem.specs.Problems.{Parts, tree_at, name_at}
 use Rattle.ps_problem.specs.Numbering.{same_name, same_formula, place_in, different, names_among, node_in, bound_in, sentence_in, query_in, numbered_in_statements, numbered_in_questions, formulas_of, problem_of, numbered}
 use Rattle.ps_problem.specs.Numbered.{IsAmong, AreOperandsAmong, HasQuestion}
-use Rattle.ps_problem.specs.Problems.{name_at}
 use Rattle.ps_problem.specs.Making.{question_on as question}
-use Rattle.ps_problem.specs.Written.{named_at, ratio_at, statement_from, question_from, listed, items_from}
+use Rattle.ps_text.specs.Canonical.{listed}
+use Rattle.ps_text.proofs.Sorting.{statements-listed, questions-listed}
+use Rattle.ps_problem.specs.Written.{named_at, ratio_at, statement_from, question_from, items_from}
 use Rattle.ps_problem.proofs.NameLists.{same_name-true, same_name-refl}
 use Rattle.ps_problem.proofs.Lists.{place-below, place-get}
 use Rattle.ps_problem.proofs.Nodes.{same-true, same-refl}
@@ -78,16 +79,6 @@ items-back items =
     let fs = formulas_of items in
     λ i. listed (statements-back (formulas_of items) n.order (problem_of items) refl refl (statements_of items) n.statements i)
     (questions-back (formulas_of items) n.order (problem_of items) refl refl (questions_of items) n.questions i)
-
-statements-listed : (ss : List Statement) (qs : List Question) → statements_of (listed ss qs) ≡ ss
-statements-listed [] [] = refl
-statements-listed [] (q ∷ qs) = statements-listed [] qs
-statements-listed (s ∷ ss) qs = ap (λ x. s ∷ x) (statements-listed ss qs)
-
-questions-listed : (ss : List Statement) (qs : List Question) → questions_of (listed ss qs) ≡ qs
-questions-listed [] [] = refl
-questions-listed [] (q ∷ qs) = ap (λ x. q ∷ x) (questions-listed [] qs)
-questions-listed (s ∷ ss) qs = questions-listed ss qs
 
 -- the problem of statements and questions
 abbrev problem_over : List Statement → List Question → Parts

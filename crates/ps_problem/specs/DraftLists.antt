@@ -10,8 +10,8 @@ use Rattle.ps_problem.specs.declared.draft_item.DraftItem.{DraftItem}
 use Rattle.ps_problem.specs.declared.draft_item.DraftSentence.{DraftSentence}
 use Rattle.ps_problem.specs.declared.draft_item.DraftItem.TheVariants as item
 use Rattle.ps_problem.specs.Numbering.{same_name, AreOnce}
-use Rattle.ps_text.specs.Canonical.{canonical_nesting}
-use Rattle.ps_problem.specs.Drafts.{Drafted, arity, marked, NameBelow, IsRatio, IsUpper, AreBelow, ratio_of, statement_at, question_at}
+use Rattle.ps_text.specs.Canonical.{canonical_nesting, IsReduced, IsUpper}
+use Rattle.ps_problem.specs.Drafts.{Drafted, arity, marked, NameBelow, AreBelow, ratio_of, statement_at, question_at}
 
 -- the formulas that stand open after some marks
 abbrev pub open_after : List Name → List (Formula Name) → List Mark → List (Formula Name)
@@ -52,7 +52,7 @@ item_of fs (item.Query q) = Asked (question_at fs q.formula q.given)
 
 -- the numbers of an item are in range, and its values in order
 abbrev pub IsDraftItem : ℕ → DraftItem → Type 0
-IsDraftItem n (item.Sentence s) = AreBelow n s.formula s.given × IsRatio s.num s.den × IsUpper s.side s.upper
+IsDraftItem n (item.Sentence s) = AreBelow n s.formula s.given × IsReduced (ratio_of (s.num, s.den)) × IsUpper s.side (option_map ratio_of s.upper)
 IsDraftItem n (item.Query q) = AreBelow n q.formula q.given
 
 -- what the lists hold together; the marks of formulas that have ended come first

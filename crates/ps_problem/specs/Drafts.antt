@@ -1,15 +1,14 @@
 -- What a draft of a problem holds.
-use Rattle.std.specs.Prelude.{◌≡◌, ◌≤◌, ◌<◌, ◌+◌, ◌-◌, ℕ, List, [], ◌∷◌, ◌++◌, Option, Some, None, length, option_map, take, IfSome, slice_index_or}
-use Rattle.std.specs.Int.{IsGcd}
+use Rattle.std.specs.Prelude.{◌≤◌, ◌<◌, ◌-◌, ℕ, List, [], ◌∷◌, ◌++◌, Option, length, option_map, take, IfSome, slice_index_or}
 use Rattle.ps_meaning.specs.Formula.{Formula}
 use Rattle.ps_meaning.specs.Formula as formula
 use Rattle.ps_meaning.specs.declared.side.Side.{Side}
-use Rattle.ps_meaning.specs.declared.side.Side.TheVariants.{AtLeast}
 use Rattle.ps_meaning.specs.Statements.{Name, Ratio, Statement, Question, Item, Stated, Asked}
-use Rattle.ps_text.specs.Canonical.{canonical_nesting}
-use Rattle.ps_problem.specs.declared.limits.TheConstants.{MOST_DENOMINATOR, MOST_NESTING}
+use Rattle.ps_text.specs.Canonical.{canonical_nesting, IsReduced, IsUpper}
+use Rattle.ps_problem.specs.declared.limits.TheConstants.{MOST_NESTING}
 use Rattle.ps_problem.specs.declared.mark.Mark.{Mark}
 use Rattle.ps_problem.specs.declared.mark.Mark.TheVariants as mark
+use Rattle.ps_problem.specs.Problems.{name_at}
 use Rattle.ps_problem.specs.Numbering.{same_name, with_new}
 
 -- the names so far, the formulas that stand open (a stack, the last one last), the formulas that have ended, and
@@ -39,7 +38,7 @@ from_top fs k = slice_index_or fs (length fs - k) formula.Truth
 abbrev pub made_by : List Name → List (Formula Name) → Mark → Formula Name
 made_by names fs mark.True = formula.Truth
 made_by names fs mark.False = formula.Falsity
-made_by names fs (mark.Name n) = formula.Atom (slice_index_or names n [])
+made_by names fs (mark.Name n) = formula.Atom (name_at names n)
 made_by names fs mark.Not = formula.Not (from_top fs 1)
 made_by names fs mark.And = formula.And (from_top fs 2) (from_top fs 1)
 made_by names fs mark.Or = formula.Or (from_top fs 2) (from_top fs 1)
@@ -55,30 +54,14 @@ abbrev pub NameBelow : ℕ → Mark → Type 0
 NameBelow n (mark.Name i) = i < n
 NameBelow n other = Unit {0}
 
--- a reduced fraction of at most 1, with a denominator of at most a million
-pub record IsRatio (num den : ℕ) : Type 0 where
-  pub least : 1 ≤ den
-  pub most : den ≤ MOST_DENOMINATOR
-  pub value : num ≤ den
-  pub reduced : IsGcd num den 1
-
 -- a numerator and a denominator as a fraction
 abbrev pub ratio_of : ℕ × ℕ → Ratio
 ratio_of r = record { num = r.0; den = r.1 }
 
--- where there is an upper value it is a ratio too, and the first value is a lower one
-abbrev pub IsUpperOf : Side → Option Ratio → Type 0
-IsUpperOf side None = Unit {0}
-IsUpperOf side (Some r) = IsRatio r.num r.den × (side ≡ AtLeast)
-
--- the same of an upper value as numerator and denominator
-abbrev pub IsUpper : Side → Option (ℕ × ℕ) → Type 0
-IsUpper side upper = IsUpperOf side (option_map ratio_of upper)
-
--- an item within the limits of values
-abbrev pub IsLawful : Item → Type 0
-IsLawful (Stated s) = IsRatio s.value.num s.value.den × IsUpperOf s.side s.upper
-IsLawful (Asked q) = Unit {0}
+-- an item's values are in lowest terms and within the limits
+abbrev pub HasReducedValues : Item → Type 0
+HasReducedValues (Stated s) = IsReduced s.value × IsUpper s.side s.upper
+HasReducedValues (Asked q) = Unit {0}
 
 -- the canonical spellings of an item's formulas don't nest too deep
 abbrev pub IsNested : Item → Type 0
@@ -101,21 +84,21 @@ statement_at fs f g s value upper = record { formula = formula_at fs f; given = 
 abbrev pub AreBelow : ℕ → ℕ → Option ℕ → Type 0
 AreBelow n f g = (f < n) × IfSome g (λ i. i < n)
 
--- what a call of a draft's does to it
+-- a draft with a name behind its names, unless it is there
 abbrev pub with_name : Drafted → Name → Drafted
-with_name d name = record { names = with_new same_name d.names name; «open» = d.«open»; formulas = d.formulas; items = d.items }
+with_name d name = record d { names = with_new same_name d.names name }
 
 -- a draft behind a mark
 abbrev pub with_mark : Drafted → Mark → Drafted
-with_mark d m = record { names = d.names; «open» = marked d.names d.«open» m; formulas = d.formulas; items = d.items }
+with_mark d m = record d { «open» = marked d.names d.«open» m }
 
 -- a draft whose open formula has ended
 abbrev pub with_formula : Drafted → Drafted
-with_formula d = record { names = d.names; «open» = []; formulas = d.formulas ++ d.«open»; items = d.items }
+with_formula d = record d { «open» = []; formulas = d.formulas ++ d.«open» }
 
 -- a draft with one more item
 abbrev pub with_item : Drafted → Item → Drafted
-with_item d item = record { names = d.names; «open» = d.«open»; formulas = d.formulas; items = d.items ++ item ∷ [] }
+with_item d item = record d { items = d.items ++ item ∷ [] }
 
 -- a draft with a sentence more, over its formulas by number
 abbrev pub with_statement : Drafted → ℕ → Option ℕ → Side → ℕ × ℕ → Option (ℕ × ℕ) → Drafted

@@ -1,5 +1,5 @@
 -- What is made of a problem's sentences and queries at a point of the making.
-use Rattle.std.specs.Prelude.{◌≡◌, ℕ, ◌+◌, List, [], Err, All, length, map, take, drop, option_map}
+use Rattle.std.specs.Prelude.{◌≡◌, ℕ, List, [], Err, All, length, map, take, drop, option_map}
 use Rattle.ps_meaning.specs.Formula.{Formula}
 use Rattle.ps_meaning.specs.declared.side.Side.{Side}
 use Rattle.ps_meaning.specs.declared.side.Side.TheVariants.{AtMost}

@@ -57,7 +57,7 @@ IsNumberOf fs f i = IsAmong fs f × (i ≡ place_in same_formula fs f)
 abbrev pub operand : List ℕ → ℕ → ℕ
 operand ps k = slice_index_or ps (length ps - k) 0
 
--- the node of a mark over the nodes that stand open; a name's depends on what is there
+-- the node of a mark over the nodes that stand open; of a name, whose node depends on the names, it says nothing
 abbrev pub node_over : List ℕ → Mark → Node
 node_over ps mark.True = node.True
 node_over ps mark.False = node.False

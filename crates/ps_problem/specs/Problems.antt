@@ -68,14 +68,14 @@ pub record HasNodes (ns : List Node) (formula : ℕ) (given : Option ℕ) (both 
   pub both_there : both < length ns
   pub both_is : IsBoth ns formula given both
 
--- the bound is over nodes that are there, and its value is at most 1 with a denominator of at most a million
+-- the bound is over nodes that are there, and its value is at most 1 with a denominator within the limit
 pub record IsBound (ns : List Node) (b : Bound) : Type 0 where
   pub nodes : HasNodes ns b.formula b.given b.both
   pub den_least : 1 ≤ b.den
   pub den_most : b.den ≤ MOST_DENOMINATOR
   pub num_most : b.num ≤ b.den
 
--- each bound is over nodes that are there
+-- each bound is over nodes that are there, with such a value
 abbrev pub AreBounds : List Node → List Bound → Type 0
 AreBounds ns bs = All (IsBound ns) bs
 

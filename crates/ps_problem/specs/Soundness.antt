@@ -6,7 +6,7 @@ use Rattle.ps_meaning.specs.Statements.{Name, Item}
 use Rattle.ps_problem.specs.Problems.{Parts, AreParts}
 use Rattle.ps_problem.specs.Numbering.{problem_of}
 use Rattle.ps_problem.specs.Counts.{counted}
-use Rattle.ps_problem.specs.Drafts.{IsLawful, IsNested}
+use Rattle.ps_problem.specs.Drafts.{HasReducedValues, IsNested}
 
 -- a problem of some items: nodes and atoms are numbered in the order in which they first come, the values are reduced
 -- and at most 1, no canonical spelling nests too deep, the limits are kept, and the names are names
@@ -14,7 +14,7 @@ pub record IsProblem (p : Parts) : Type 0 where
   pub parts : AreParts p
   pub items : List Item
   pub formulas : List (Formula Name)
-  pub lawful : All IsLawful items
+  pub reduced : All HasReducedValues items
   pub nested : All IsNested items
   pub within : counted items ≡ Ok formulas
   pub numbered : p ≡ problem_of items

@@ -1,12 +1,12 @@
 -- The items that a problem's parts stand for: its sentences as statements, and then its queries as questions.
-use Rattle.std.specs.Prelude.{ℕ, List, ◌++◌, map, option_map}
+use Rattle.std.specs.Prelude.{ℕ, List, map, option_map}
 use Rattle.ps_meaning.specs.Formula.{Formula, with_atoms}
-use Rattle.ps_meaning.specs.Statements.{Name, Ratio, Statement, Question, Item, Stated, Asked}
+use Rattle.ps_meaning.specs.Statements.{Name, Ratio, Statement, Question, Item}
+use Rattle.ps_text.specs.Canonical.{listed}
 use Rattle.ps_problem.specs.declared.bound.Bound.{Bound}
 use Rattle.ps_problem.specs.declared.sentence.Sentence.{Sentence}
 use Rattle.ps_problem.specs.declared.query.Query.{Query}
-use Rattle.ps_problem.specs.Problems.{Parts, tree_at}
-use Rattle.ps_problem.specs.Problems.{name_at}
+use Rattle.ps_problem.specs.Problems.{Parts, tree_at, name_at}
 
 -- a node's formula, each number replaced by its name
 abbrev pub named_at : Parts → ℕ → Formula Name
@@ -29,10 +29,6 @@ statement_from p s = record {
 -- the question that a query stands for
 abbrev pub question_from : Parts → Query → Question
 question_from p q = record { formula = named_at p q.formula; given = option_map (named_at p) q.given }
-
--- statements, and then questions
-abbrev pub listed : List Statement → List Question → List Item
-listed ss qs = map Stated ss ++ map Asked qs
 
 -- the items that a problem stands for
 abbrev pub items_from : Parts → List Item

@@ -1,9 +1,7 @@
 //! The making of a problem.
 ghost use Rattle.std.specs.Prelude.{◌≡◌, ◌++◌, ◌<◌, ◌≤◌, ◌+◌, [], ◌∷◌, All, OnOk, IfOk, IfErr};
 ghost use Rattle.std.specs.Prelude.{length, map, is_some, if◌then◌else◌};
-ghost use Rattle.ps_problem.specs.Problems.{bounds_in};
-ghost use Rattle.ps_problem.specs.Numbered.{Built};
-ghost use Rattle.ps_problem.specs.Problems.{name_at};
+ghost use Rattle.ps_problem.specs.Problems.{bounds_in, name_at};
 ghost use Rattle.ps_problem.specs.Builds.{TellsExcess, IsBuilt};
 ghost use Rattle.ps_problem.specs.Making.{IsExcess, bound_on, sentence_on};
 ghost use Rattle.ps_problem.specs.Making.{SentencesMade, QueriesMade};
@@ -60,7 +58,8 @@ fn sentence(query: Query, item: DraftSentence) -> Sentence
     }
 }
 
-/// Puts a sentence's bounds behind those before them.
+/// Puts a sentence's bounds behind those before them. For want of memory perhaps only the first of
+/// an interval's two.
 pub fn push_bounds(bounds: &mut List<Bound>, sentence: Sentence) -> Result<(), NoMemory>
     ensures { OnOk result (bounds.new ≡ bounds.old ++ bounds_in (sentence ∷ [])) }
 {
@@ -110,13 +109,9 @@ impl Assembly {
         }
         let query = self.building.query(alloc, draft, item.formula, item.given)?;
         let made = sentence(query, item);
-        if push_bounds(&mut self.bounds, made).is_err() {
-            return Err(Fault::NoMemory);
-        }
-        match self.sentences.push(made) {
-            Ok(()) => Ok(()),
-            Err(_) => Err(Fault::NoMemory),
-        }
+        push_bounds(&mut self.bounds, made)?;
+        self.sentences.push(made)?;
+        Ok(())
     }
 
     // Makes the query of an item that is one.
@@ -134,10 +129,8 @@ impl Assembly {
             return Err(Fault::TooMany(Excess::Queries));
         }
         let query = self.building.query(alloc, draft, item.formula, item.given)?;
-        match self.queries.push(query) {
-            Ok(()) => Ok(()),
-            Err(_) => Err(Fault::NoMemory),
-        }
+        self.queries.push(query)?;
+        Ok(())
     }
 
     // Makes the sentences of all items.
@@ -187,10 +180,7 @@ pub fn build(alloc: Global, draft: &Draft) -> Result<Problem, BuildError>
     };
     assembly.sentences(alloc, draft)?;
     assembly.queries(alloc, draft)?;
-    let texts = match copies(alloc, names, assembly.building.atoms.as_slice()) {
-        Ok(texts) => texts,
-        Err(_) => return Err(BuildError::NoMemory),
-    };
+    let texts = copies(alloc, names, assembly.building.atoms.as_slice())?;
     let building = assembly.building;
     Ok(Problem::of(
         texts,

@@ -10,16 +10,16 @@ use thiserror::Error;
 /// order; or there was not enough memory.
 #[derive(Clone, Copy, Debug, PartialEq, Eq, Error)]
 pub enum BuildError {
-    /// The 129th atom.
+    /// With the item there are more than `MOST_ATOMS` atoms.
     #[error("too many atoms at item {item}")]
     TooManyAtoms { item: u32 },
-    /// The 1,025th node.
+    /// With the item there are more than `MOST_NODES` nodes.
     #[error("too many nodes at item {item}")]
     TooManyNodes { item: u32 },
-    /// The 101st bound.
+    /// With the item there are more than `MOST_BOUNDS` bounds.
     #[error("too many bounds at item {item}")]
     TooManyBounds { item: u32 },
-    /// The 17th query.
+    /// With the item there are more than `MOST_QUERIES` queries.
     #[error("too many queries at item {item}")]
     TooManyQueries { item: u32 },
     /// There was not enough memory.

@@ -1,5 +1,5 @@
 //! The numbering of formulas and atoms.
-ghost use Rattle.std.specs.Prelude.{◌≡◌, ◌≤◌, ◌<◌, [], All, IfErr, OnOk, length, nat_eq};
+ghost use Rattle.std.specs.Prelude.{◌≡◌, ◌≤◌, ◌<◌, [], All, OnOk, length, nat_eq};
 ghost use Rattle.ps_formula.specs.Nodes.{Fits};
 ghost use Rattle.ps_problem.specs.Numbering.{place_in};
 ghost use Rattle.ps_problem.specs.Drafts.{arity, AreBelow};
@@ -11,7 +11,7 @@ use crate::excess::Excess;
 use crate::fault::Fault;
 use crate::{Draft, Mark, Query};
 use ps_formula::{AddError, Formulas, MOST_ATOMS, Node};
-use ps_io::List;
+use ps_io::{List, NoMemory};
 use std::alloc::Global;
 
 // The first place of a number, or the length where it isn't there.
@@ -99,10 +99,8 @@ impl Building {
             return Err(Fault::TooMany(Excess::Atoms));
         }
         let number = self.node(Node::Atom(place as u16))?;
-        match self.atoms.push(name) {
-            Ok(()) => Ok(number),
-            Err(_) => Err(Fault::NoMemory),
-        }
+        self.atoms.push(name)?;
+        Ok(number)
     }
 
     // The number of a mark's formula over the numbers of those that stand open.
@@ -128,9 +126,7 @@ impl Building {
         let mut stack = Vec::new(alloc);
         for mark in marks {
             let number = self.mark(&stack, *mark)?;
-            if replace(&mut stack, operands(*mark), number).is_err() {
-                return Err(Fault::NoMemory);
-            }
+            replace(&mut stack, operands(*mark), number)?;
         }
         Ok(stack[0])
     }
@@ -169,15 +165,12 @@ impl Building {
 }
 
 // Puts a number in the place of the last ones.
-fn replace(stack: &mut Vec<u32>, count: usize, number: u32) -> Result<(), Fault>
+fn replace(stack: &mut Vec<u32>, count: usize, number: u32) -> Result<(), NoMemory>
     requires { count ≤ length stack.old.items }
-    ensures ok { OnOk result (stack.new.items ≡ replaced stack.old.items count number) }
-    ensures err { IfErr result (λ x. x ≡ Fault.NoMemory) }
+    ensures { OnOk result (stack.new.items ≡ replaced stack.old.items count number) }
 {
     let kept = stack.len() - count;
     stack.truncate(kept);
-    match stack.push(number) {
-        Ok(()) => Ok(()),
-        Err(_) => Err(Fault::NoMemory),
-    }
+    stack.push(number)?;
+    Ok(())
 }

@@ -1,13 +1,13 @@
 //! Drafts of problems.
 ghost use Rattle.std.specs.Prelude.{◌≡◌, ◌<◌, ◌≤◌, [], All, OnOk, OnErr, IfOk, Some, length};
-ghost use Rattle.std.specs.Prelude.{slice_get};
+ghost use Rattle.std.specs.Prelude.{slice_get, option_map};
 ghost use Rattle.ps_meaning.specs.Names.{IsName};
 ghost use Rattle.ps_problem.specs.declared.limits.TheConstants.{MOST_DRAFTED, MOST_NESTING};
 ghost use Rattle.ps_problem.specs.Numbering.{AreOnce, same_name};
 ghost use Rattle.ps_problem.specs.DraftLists.{AreMarks, root, item_of, IsDraftItem};
-ghost use Rattle.ps_text.specs.Canonical.{canonical_nesting};
+ghost use Rattle.ps_text.specs.Canonical.{canonical_nesting, IsReduced, IsUpper};
 ghost use Rattle.ps_problem.specs.Drafts.{arity, NameBelow, formula_at};
-ghost use Rattle.ps_problem.specs.Drafts.{AreBelow, IsRatio, IsUpper, IsLawful, IsNested};
+ghost use Rattle.ps_problem.specs.Drafts.{AreBelow, ratio_of, HasReducedValues, IsNested};
 ghost use Rattle.ps_problem.specs.Drafts.{with_name, with_mark, with_formula};
 ghost use Rattle.ps_problem.specs.Drafts.{with_statement, with_question};
 
@@ -114,8 +114,8 @@ impl Draft {
         upper: Option<(u32, u32)>,
     ) -> Result<(), NoMemory>
         requires formulas { AreBelow (length self.old.formulas) formula given }
-        requires value { IsRatio num den }
-        requires upper { IsUpper side upper }
+        requires value { IsReduced (ratio_of (num, den)) }
+        requires upper { IsUpper side (option_map ratio_of upper) }
         requires room { length self.old.items < MOST_DRAFTED }
         ensures ok { OnOk result
             (self.new ≡ with_statement self.old formula given side (num, den) upper) }
@@ -146,7 +146,7 @@ impl Draft {
         ensures names { result.now ≡ self.now.names }
         ensures different { AreOnce same_name result.now }
         ensures named { All IsName result.now }
-        ensures lawful { All IsLawful self.now.items }
+        ensures reduced { All HasReducedValues self.now.items }
         ensures nested { All IsNested self.now.items }
     {
         &self.names

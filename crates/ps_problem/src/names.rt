@@ -60,10 +60,7 @@ impl Names {
             return Ok(i as u32);
         }
         let name = text.to_vec(self.alloc)?;
-        let (i, _) = match self.set.insert_full(name) {
-            Ok(found) => found,
-            Err(_) => return Err(NoMemory),
-        };
+        let (i, _) = self.set.insert_full(name)?;
         Ok(i as u32)
     }
 }

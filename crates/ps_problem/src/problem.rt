@@ -8,12 +8,12 @@ ghost use Rattle.ps_problem.specs.Problems.{bounds_in, bound_at};
 ghost use Rattle.ps_problem.specs.Soundness.{IsProblem};
 
 use crate::{Bound, Queries, Sentences};
-use indexmap::IndexSet;
 use ps_formula::Formulas;
 use ps_io::List;
 use std::marker::Model;
 
-/// A problem within the limits: at most 128 atoms, 1,024 nodes, 100 bounds and 16 queries.
+/// A problem within the limits: at most `MOST_ATOMS` atoms and `MOST_NODES` nodes, as `ps_formula`
+/// has them, `MOST_BOUNDS` bounds and `MOST_QUERIES` queries.
 #[derive(Drop)]
 pub struct Problem {
     names: List<Vec<u8>>,
@@ -71,10 +71,8 @@ impl Problem {
     pub fn name(&self, atom: u16) -> Option<&[u8]>
         ensures name { option_copied result ≡ slice_get self.now.names atom }
     {
-        match self.names.get(atom as usize) {
-            Some(name) => Some(name.as_slice()),
-            None => None,
-        }
+        let name = self.names.get(atom as usize)?;
+        Some(name.as_slice())
     }
 
     /// The formulas, as nodes.

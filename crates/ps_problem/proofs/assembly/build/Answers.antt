@@ -23,14 +23,14 @@ of-requires-clause-is c =
     let s = c.queries.new.self in
     let d = c.args.draft.now in
     let r = c.in_ok-queries.ensures.ok in
-    let e = rw (c.names-names.ensures.names, c.as_slice.ensures) at c.in-Ok.ensures in
+    let e = rw (c.names-names.ensures.names, c.as_slice.ensures) at c.in_ok-texts.ensures in
     let counted = asking-end d s r in
-    let is = asking-problem d s (map (λ v. v.items) c.in-Ok.texts) r e in
+    let is = asking-problem d s (map (λ v. v.items) c.in_ok-texts.texts) r e in
     record {
-      parts = subst AreParts (sym is) (parts-in-order d.items r.built.formulas c.names-names.ensures.lawful counted);
+      parts = subst AreParts (sym is) (parts-in-order d.items r.built.formulas c.names-names.ensures.reduced counted);
       items = d.items;
       formulas = r.built.formulas;
-      lawful = c.names-names.ensures.lawful;
+      reduced = c.names-names.ensures.reduced;
       nested = c.names-names.ensures.nested;
       within = counted;
       numbered = is;
@@ -42,6 +42,6 @@ returns c =
     let s = c.queries.new.self in
     let d = c.args.draft.now in
     let r = c.in_ok-queries.ensures.ok in
-    let e = rw (c.names-names.ensures.names, c.as_slice.ensures) at c.in-Ok.ensures in
+    let e = rw (c.names-names.ensures.names, c.as_slice.ensures) at c.in_ok-texts.ensures in
     let counted = asking-end d s r in
-    (r.built.formulas, counted, c.of.ensures ∙ asking-problem d s (map (λ v. v.items) c.in-Ok.texts) r e)
+    (r.built.formulas, counted, c.of.ensures ∙ asking-problem d s (map (λ v. v.items) c.in_ok-texts.texts) r e)

@@ -1,16 +1,17 @@
-use Rattle.std.proofs.Common.{subst}
+use Rattle.std.proofs.Common.{Some, sym, subst}
 use Rattle.ps_expect.specs.KeptTokens.{token_of}
 use Rattle.ps_parse.specs.Ready.{MayBeTaken}
 use Rattle.ps_parse.specs.Kept.{ratio_of, work_of}
-use Rattle.ps_parse.proofs.Values.{value_ratio}
+use Rattle.ps_text.specs.Canonical.{IsUpper}
+use Rattle.ps_parse.proofs.Values.{value_reduced}
 use Rattle.ps_parse.proofs.item_parser.ItemParser.take.Goals as goal
 
 pub sentence-requires-clause-value : goal.sentence-requires-clause-value
 sentence-requires-clause-value c =
     let r = subst (λ p. MayBeTaken p (work_of c.args.self.now) (token_of c.args.token.now)) c.in-Number.is c.requires.token in
-    value_ratio (token_of c.args.token.now) (ratio_of c.of.result) r.1 c.of.ensures
+    value_reduced (token_of c.args.token.now) (ratio_of c.of.result) r.1 c.of.ensures
 
 pub sentence-requires-in-Second-clause-upper : goal.sentence-requires-in-Second-clause-upper
 sentence-requires-in-Second-clause-upper c =
     let r = subst (λ p. MayBeTaken p (work_of c.args.self.now) (token_of c.args.token.now)) c.in-Second.is c.requires.token in
-    (value_ratio (token_of c.args.token.now) (ratio_of c.of-in-Second.result) r.1 c.of-in-Second.ensures, r.3)
+    subst (λ s. IsUpper s (Some (ratio_of c.of-in-Second.result))) (sym r.3) (value_reduced (token_of c.args.token.now) (ratio_of c.of-in-Second.result) r.1 c.of-in-Second.ensures)

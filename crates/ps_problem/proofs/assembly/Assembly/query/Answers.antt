@@ -27,9 +27,9 @@ returns-in_err-query-clause-err c =
     rw (p.1, p.2) (asking-stop d c.args.i s c.requires.before
     (question_at d.formulas c.in-Query.query.formula c.in-Query.query.given) c.in-Query.ensures.item (omega arith) c.in_err-query.field-0.0 (c.in_err-query.ensures c.requires.before.built))
 
-pub returns-in-Ok-clause-ok : goal.returns-in-Ok-clause-ok
-returns-in-Ok-clause-ok c =
+pub returns-clause-ok : goal.returns-clause-ok
+returns-clause-ok c =
     let s = c.args.self.now in
     let d = c.args.draft.now in
-    rw c.in-Ok.ensures.ok (asking-next d c.args.i s c.requires.before
+    rw c.in_ok-push.ensures.ok (asking-next d c.args.i s c.requires.before
     (question_at d.formulas c.in-Query.query.formula c.in-Query.query.given) c.in-Query.ensures.item (omega arith) c.query.new.self c.in_ok-query.query (c.in_ok-query.ensures c.requires.before.built))

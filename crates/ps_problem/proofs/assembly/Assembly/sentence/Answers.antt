@@ -2,7 +2,6 @@ use Rattle.std.proofs.Common.{arith, ◌∙◌}
 use Rattle.std.proofs.lemmas.Result.{err_from_is_err_and}
 use Rattle.ps_problem.specs.Drafts.{question_at}
 use Rattle.ps_problem.specs.DraftLists.{statement_of}
-use Rattle.ps_problem.proofs.Turns.{from-no-error}
 use Rattle.ps_problem.proofs.Growth.{count-is, sentence-is}
 use Rattle.ps_problem.proofs.Making.{stating-skip, stating-full, stating-stop, stating-next}
 use Rattle.ps_problem.proofs.assembly.Assembly.sentence.Goals as goal
@@ -37,8 +36,8 @@ returns-in_err-query-clause-err c =
     rw (p.1, p.2) (stating-stop d c.args.i s c.requires.before
     (statement_of d.formulas k.sentence) k.ensures.item (omega arith) c.in_err-query.field-0.0 (c.in_err-query.ensures c.requires.before.built))
 
-pub returns-in-Ok-clause-ok : goal.returns-in-Ok-clause-ok
-returns-in-Ok-clause-ok c =
+pub returns-clause-ok : goal.returns-clause-ok
+returns-clause-ok c =
     let s = c.args.self.now in
     let d = c.args.draft.now in
     let k = c.in-Sentence in
@@ -47,6 +46,6 @@ returns-in-Ok-clause-ok c =
     let m = count-is k.sentence.upper in
     let f = c.in_ok-query.ensures c.requires.before.built in
     let e = c.sentence-made.ensures ∙ sentence-is f.0.formulas d.formulas k.sentence c.in_ok-query.query f.3 in
-    rw (c.in-Ok.ensures.ok, from-no-error c.push_bounds.result c.if-is_err.ensures.value c.push_bounds.ensures, e)
+    rw (c.in_ok-push.ensures.ok, c.in_ok-push_bounds.ensures, e)
     (stating-next d c.args.i s c.requires.before
     (statement_of d.formulas k.sentence) k.ensures.item (omega arith) c.query.new.self c.in_ok-query.query f)

@@ -33,11 +33,11 @@ returns-in_err-number c = record {
       (subst (λ i. IsAdded s.formulas (node.Atom i) c.node-2.new.self.formulas (Err c.in_err-number.field-0.0)) place c.in_err-number.ensures.nodes));
 }
 
-pub returns-in-Ok : goal.returns-in-Ok
-returns-in-Ok c = record {
+pub returns : goal.returns
+returns c = record {
   each = λ names h lt.
       let s = c.args.self.now in
       let place : c.place_of-place.result ≡ place_in nat_eq s.atoms c.args.name = c.place_of-place.ensures ∙ ap (λ xs. place_in nat_eq xs c.args.name) c.as_slice.ensures in
-      rw (c.in-Ok.ensures.ok, c.in_ok-number.ensures.atoms) (atom-new names s.atoms s.formulas h c.args.name lt (omega arith) (omega arith) c.node-2.new.self.formulas c.in_ok-number.number
+      rw (c.in_ok-push.ensures.ok, c.in_ok-number.ensures.atoms) (atom-new names s.atoms s.formulas h c.args.name lt (omega arith) (omega arith) c.node-2.new.self.formulas c.in_ok-number.number
       (subst (λ i. IsAdded s.formulas (node.Atom i) c.node-2.new.self.formulas (Ok c.in_ok-number.number)) place c.in_ok-number.ensures.nodes));
 }

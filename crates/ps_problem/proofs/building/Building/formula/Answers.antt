@@ -5,7 +5,7 @@ use Rattle.ps_problem.specs.declared.mark.Mark.TheVariants as mark
 use Rattle.ps_problem.specs.DraftLists.{open_after}
 use Rattle.ps_problem.specs.Numbered.{IsStack}
 use Rattle.ps_problem.proofs.Operators.{length-stand, tops-are, numbers-below}
-use Rattle.ps_problem.proofs.Turns.{held-at, reached-start, reached-stop, reached-next, from-no-error, one-left, reached-end}
+use Rattle.ps_problem.proofs.Turns.{held-at, reached-start, reached-stop, reached-next, one-left, reached-end}
 use Rattle.ps_problem.proofs.building.Building.formula.Goals as goal
 
 pub loop-mark-init : goal.loop-mark-init
@@ -49,7 +49,7 @@ loop-mark-preserved c = λ h.
     let s = subst (λ ps. IsStack r.built.formulas (open_after c.args.draft.now.names [] (take c.loop-mark.mark-index c.marks-marks.result.now)) ps) (sym c.deref.ensures.value) r.stack_is in
     let held = held-at c.args.draft.now.names [] c.marks-marks.result.now c.loop-mark.mark-index mark.True c.marks-marks.ensures.marks.held c.loop-mark-test.true in
     let l = length-stand r.built.formulas (open_after c.args.draft.now.names [] (take c.loop-mark.mark-index c.marks-marks.result.now)) c.loop-mark.stack.items r.stack_is in
-    rw (from-no-error c.replace.result c.if-is_err.ensures.value c.replace.ensures.ok, c.operands.ensures)
+    rw (c.in_ok-replace.ensures, c.operands.ensures)
     (reached-next c.args.draft.now.names h.formulas c.marks-marks.result.now c.loop-mark.mark-index c.loop-mark.self c.loop-mark.stack.items r mark.True c.loop-mark-test.true
     c.mark.new.self c.in_ok-number.number (omega arith) (c.in_ok-number.ensures.each c.args.draft.now.names r.built (c.marks-marks.ensures.marks.below c.loop-mark.mark-index mark.True c.loop-mark-test.true) _ s))
 

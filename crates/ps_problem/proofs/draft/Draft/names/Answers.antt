@@ -1,12 +1,12 @@
 use Rattle.std.proofs.Common.{length, map}
 use Rattle.ps_problem.specs.DraftLists.{spelled}
-use Rattle.ps_problem.proofs.Values.{lawful-items, nested-items}
+use Rattle.ps_problem.proofs.Values.{reduced-items, nested-items}
 use Rattle.ps_problem.proofs.draft.Draft.names.Goals as goal
 
-pub returns-clause-lawful : goal.returns-clause-lawful
-returns-clause-lawful c =
+pub returns-clause-reduced : goal.returns-clause-reduced
+returns-clause-reduced c =
     let i = c.self.inside in
-    rw (← c.self.view_is) (lawful-items (map (spelled i.names i.marks) i.spans) (length i.spans) i.items c.self.invariant.sound)
+    rw (← c.self.view_is) (reduced-items (map (spelled i.names i.marks) i.spans) (length i.spans) i.items c.self.invariant.sound)
 
 pub returns-clause-nested : goal.returns-clause-nested
 returns-clause-nested c =

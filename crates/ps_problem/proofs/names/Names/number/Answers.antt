@@ -10,9 +10,9 @@ returns-in-Some-clause-names c = rw (← c.self.view_is) (name_there (λ v. v.it
 
 pub returns-clause-number : goal.returns-clause-number
 returns-clause-number c =
-    let s = c.in-Ok.ensures.stored in
-    name_placed (λ v. v.items) c.insert_full.new.self.keys c.in-Ok.found.0 s.0 c.in_ok-name.name c.args.text.now s.1 s.2 (c.in_ok-name.ensures.items_if_clones_equal (λ _ _ e. e))
+    let s = c.in_ok-i.ensures.stored in
+    name_placed (λ v. v.items) c.insert_full.new.self.keys c.in_ok-i.i s.0 c.in_ok-name.name c.args.text.now s.1 s.2 (c.in_ok-name.ensures.items_if_clones_equal (λ _ _ e. e))
 
 pub returns-clause-names : goal.returns-clause-names
 returns-clause-names c =
-    rw (← c.self.view_is, c.in-Ok.ensures.keys) (name_added (λ v. v.items) c.self.inside.set.keys c.in_ok-name.name c.args.text.now (c.in_ok-name.ensures.items_if_clones_equal (λ _ _ e. e)))
+    rw (← c.self.view_is, c.in_ok-i.ensures.keys) (name_added (λ v. v.items) c.self.inside.set.keys c.in_ok-name.name c.args.text.now (c.in_ok-name.ensures.items_if_clones_equal (λ _ _ e. e)))
