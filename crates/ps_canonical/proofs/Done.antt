@@ -2,7 +2,7 @@
 use Rattle.std.proofs.Common.{◌≡◌, ℕ, ◌+◌, ◌<◌, ◌≤◌, Bool, true, false, nat_lt, nat_le, List, [], ◌∷◌, ◌++◌, length, All, Some, slice_get, Result, Ok, Err, OnOk, refl, sym, ap, ◌∙◌, arith, append_assoc, append-nil, if◌then◌else◌}
 use Rattle.std.specs.Prelude.{codes}
 use Rattle.std.proofs.lemmas.Bool.Decides.{nat_tests}
-use Rattle.std.proofs.lemmas.List.Elements.{All-push, All-pop}
+use Rattle.std.proofs.lemmas.List.Elements.{All-push}
 use Rattle.std.proofs.lemmas.Option.{slice_get_within, get_or_from_slice_get}
 use Rattle.ps_meaning.specs.Formula as formula
 use Rattle.ps_meaning.specs.Formula.{with_atoms}
@@ -14,7 +14,8 @@ use Rattle.ps_formula.proofs.Different.{trees-at}
 use Rattle.ps_text.specs.Grammar as grammar
 use Rattle.ps_text.specs.Grammar.{FormulaSyntax, level}
 use Rattle.ps_text.specs.Canonical.{fitted, canonical_formula, syntax_text}
-use Rattle.ps_problem.specs.Problems.{Parts, name_at, tree_at}
+use Rattle.ps_text.proofs.Levels.{test_past}
+use Rattle.ps_problem.specs.Problems.{Parts, name_at}
 use Rattle.ps_problem.specs.Written.{named_at}
 use Rattle.ps_canonical.specs.declared.connective.Connective.{Connective}
 use Rattle.ps_canonical.specs.declared.connective.Connective.TheVariants as connective
@@ -37,16 +38,13 @@ on-ok-both (Err e) h k f = tt
 fits_at : (k n : ℕ) → nat_le k n ≡ true → nat_lt n k ≡ false
 fits_at k n h = grind (arith, nat_tests)
 
-past_at : (k n : ℕ) → nat_le k n ≡ false → nat_lt n k ≡ true
-past_at k n h = grind (arith, nat_tests)
-
 -- what is written has parentheses where its level is below the required one
 fitted-text : (k : ℕ) (f : FormulaSyntax) → syntax_text (fitted k f) ≡ opening (nat_lt (level f) k) ++ (syntax_text f ++ closing (nat_lt (level f) k))
 fitted-text k f = by (nat_le k (level f)) refl
   where
     by : (b : Bool) → nat_le k (level f) ≡ b → syntax_text (if b then f else grammar.Group f) ≡ opening (nat_lt (level f) k) ++ (syntax_text f ++ closing (nat_lt (level f) k))
     by true e = rw (fits_at k (level f) e) (sym (append-nil (syntax_text f)))
-    by false e = rw (past_at k (level f) e) refl
+    by false e = rw (test_past k (level f) e) refl
 
 -- what binds most tightly has none
 tight : (k : ℕ) (f : FormulaSyntax) → k ≤ 5 → level f ≡ 5 → syntax_text (fitted k f) ≡ syntax_text f

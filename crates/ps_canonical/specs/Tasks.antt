@@ -2,7 +2,7 @@
 use Rattle.std.specs.Prelude.{◌≡◌, ℕ, ◌+◌, ◌<◌, ◌≤◌, Bool, List, [], ◌∷◌, ◌++◌, All, Result, OnOk, length, codes, nat_lt, if◌then◌else◌}
 use Rattle.ps_meaning.specs.Formula as formula
 use Rattle.ps_meaning.specs.Statements.{Name}
-use Rattle.ps_text.specs.Grammar.{FormulaSyntax, And, Or, Implies, Iff}
+use Rattle.ps_text.specs.Grammar.{And, Or, Implies, Iff}
 use Rattle.ps_text.specs.Canonical.{fitted, canonical_formula, syntax_text}
 use Rattle.ps_problem.specs.Problems.{Parts}
 use Rattle.ps_problem.specs.Written.{named_at}

@@ -1,6 +1,5 @@
 //! The lines of sentences and queries.
 ghost use Rattle.std.specs.Prelude.{◌<◌, IfSome, OnOk, length};
-ghost use Rattle.ps_problem.specs.Problems.{HasNodes};
 ghost use Rattle.ps_canonical.specs.Lines.{Adds, condition_text, probability_text};
 ghost use Rattle.ps_canonical.specs.Lines.{sentence_line, query_line};
 

@@ -1,5 +1,5 @@
 //! The values of bounds as they are written.
-ghost use Rattle.std.specs.Prelude.{◌++◌, OnOk, option_map, decimal};
+ghost use Rattle.std.specs.Prelude.{◌++◌, OnOk, decimal};
 ghost use Rattle.ps_canonical.specs.Lines.{Adds, bounds_text, value_text};
 
 use ps_io::NoMemory;

@@ -1,11 +1,10 @@
 use Rattle.std.proofs.Common.{refl, sym, subst, arith, nat_lt, ◌++◌, ◌∷◌, []}
-use Rattle.std.specs.Prelude.{codes}
 use Rattle.ps_meaning.specs.Formula as formula
 use Rattle.ps_formula.specs.declared.node.Node.TheVariants as node
 use Rattle.ps_problem.specs.Problems.{name_at}
 use Rattle.ps_canonical.specs.declared.connective.Connective.TheVariants as connective
 use Rattle.ps_canonical.specs.declared.task.Task.TheVariants as task
-use Rattle.ps_canonical.specs.Tasks.{IsCarriedOut, level_of, opening, with_operands}
+use Rattle.ps_canonical.specs.Tasks.{IsCarriedOut, level_of, with_operands}
 use Rattle.ps_canonical.proofs.Done.{on-ok, on-ok-both, named-node, done-leaf, done-not, done-joined}
 use Rattle.ps_canonical.proofs.formulas.begin.Goals as goal
 

@@ -1,4 +1,4 @@
-use Rattle.std.proofs.Common.{◌≡◌, ◌<◌, ◌++◌, ◌∷◌, [], sym, ap, ◌∙◌, arith}
+use Rattle.std.proofs.Common.{◌<◌, ◌++◌, sym, ap, ◌∙◌, arith}
 use Rattle.ps_canonical.specs.Tasks.{tasks_text, tasks_steps}
 use Rattle.ps_canonical.proofs.Done.{text-push, steps-push}
 use Rattle.ps_canonical.proofs.formulas.formula.Goals as goal
