@@ -1,41 +1,29 @@
 -- What is kept of a token does what the token does.
-use Rattle.std.proofs.Common.{◌≡◌, ℕ, zero, suc, ◌+◌, ◌-◌, ◌*◌, ◌^◌, ◌≤◌, min, ◌==◌, Bool, true, false, List, [], ◌∷◌, ◌++◌, length, replicate, take, Some, None, inl, inr, refl, sym, ap, ◌∙◌, arith, true≢false, is_some}
+use Rattle.std.proofs.Common.{◌≡◌, ℕ, zero, suc, ◌+◌, ◌^◌, ◌≤◌, min, ◌==◌, Bool, true, false, List, [], ◌∷◌, ◌++◌, length, replicate, Some, None, refl, sym, ap, ◌∙◌, arith, true≢false, is_some}
 use Rattle.std.proofs.lemmas.Bool.Decides.{nat_tests}
-use Rattle.std.proofs.lemmas.List.{take_all, length-append, length-replicate}
+use Rattle.std.proofs.lemmas.List.{length-append, length-replicate}
 use Rattle.std.specs.Prelude.{nat_lt, if◌then◌else◌}
 use Rattle.ps_meaning.specs.Statements.{Ratio}
 use Rattle.ps_text.specs.Tokens as text
 use Rattle.ps_text.specs.Tokens.{Token}
-use Rattle.ps_text.specs.Grammar.{value_from, value}
+use Rattle.ps_text.specs.Grammar.{value}
 use Rattle.ps_text.specs.Meanings.{ratio_of}
-use Rattle.ps_text.specs.declared.kind.ReadKind.TheVariants.{NameTooLong, ZeroDenominator, DenominatorTooLarge, TooManyDecimals, NumberOutOfRange}
+use Rattle.ps_text.specs.declared.kind.ReadKind.TheVariants.{ZeroDenominator, DenominatorTooLarge, TooManyDecimals, NumberOutOfRange}
 use Rattle.ps_text.specs.declared.part.Part.{Part}
 use Rattle.ps_text.specs.declared.part.Part.TheVariants as part
 use Rattle.ps_text.specs.declared.part.Opening.{Opening}
 use Rattle.ps_text.specs.ExpectedTokens.{State, value_fault, refusal}
-use Rattle.ps_text.proofs.Cutting.{decide}
-use Rattle.ps_lex.specs.declared.digits.Digits.{Digits}
-use Rattle.ps_lex.specs.Counted.{no_digits, with_digit, with_digits}
+use Rattle.ps_text.proofs.Lawful.{tens_few}
+use Rattle.ps_lex.specs.Counted.{no_digits, with_digits}
 use Rattle.ps_lex.specs.Seen.{seen, numeral_seen}
 use Rattle.ps_expect.specs.KeptTokens.{figures, decimal_of, numeral_of, token_of}
-use Rattle.ps_expect.proofs.Figures.{value-figures}
+use Rattle.ps_expect.proofs.Figures.{value-figures, value-zeros}
+use Rattle.ps_expect.proofs.Seen.{value_seen, more_digits, word_kept}
 use Rattle.ps_parse.specs.Machine.{Work, taken, taken_at}
-
-capped_value : (d : Digits) (n : ℕ) (bs : List ℕ) → d.value ≡ min n 1000001 → (with_digits d bs).value ≡ min (value_from n bs) 1000001
-capped_value d n [] e = e
-capped_value d n (b ∷ bs) e = capped_value (with_digit d b) (10 * n + (b - 48)) bs (omega (arith, e))
-
-more_digits : (d : Digits) (xs ys : List ℕ) → with_digits (with_digits d xs) ys ≡ with_digits d (xs ++ ys)
-more_digits d [] ys = refl
-more_digits d (x ∷ xs) ys = more_digits (with_digit d x) xs ys
 
 -- digits that are worth a million at most are kept with their value
 value_kept : (ds : List ℕ) → value ds ≤ 1000000 → (with_digits no_digits ds).value ≡ value ds
-value_kept ds h = let e = capped_value no_digits 0 ds (omega arith) in omega (arith, e, h)
-
-value-zeros : (k v : ℕ) → value_from 0 (replicate k 48 ++ (48 + v) ∷ []) ≡ v
-value-zeros zero v = omega arith
-value-zeros (suc k) v = value-zeros k v
+value_kept ds h = let e = value_seen ds in omega (arith, e, h)
 
 pub decimal_ratio : (k v : ℕ) → ratio_of (decimal_of k v) ≡ record { num = v; den = 10 ^ k }
 unfolding decimal_of
@@ -68,38 +56,17 @@ ratio_kept (text.Quotient ds es) h =
     by false false false p q f = (grind (arith, nat_tests), grind (arith, nat_tests))
 ratio_kept (text.Decimal ds es) h =
     let w : (length es ≤ 6) × (value (ds ++ es) ≤ 10 ^ length es) = by (nat_lt 6 (length es)) (nat_lt (10 ^ length es) (value (ds ++ es))) refl refl h in
-    let v : (with_digits (with_digits no_digits ds) es).value ≡ value (ds ++ es) = ap (λ d. d.value) (more_digits no_digits ds es) ∙ value_kept (ds ++ es) (omega (arith, w.1, ten (length es) w.0)) in
+    let v : (with_digits (with_digits no_digits ds) es).value ≡ value (ds ++ es) = ap (λ d. d.value) (more_digits no_digits ds es) ∙ value_kept (ds ++ es) (omega (arith, w.1, tens_few (length es) w.0)) in
     let k : min (length es) 7 ≡ length es = omega (arith, w.0) in
     decimal_ratio (min (length es) 7) (with_digits (with_digits no_digits ds) es).value
     ∙ ap (λ n. ratio n (10 ^ min (length es) 7)) v
     ∙ ap (λ n. ratio (value (ds ++ es)) (10 ^ n)) k
   where
-    ten : (k : ℕ) → k ≤ 6 → 10 ^ k ≤ 1000000
-    ten zero h = omega arith
-    ten (suc zero) h = omega arith
-    ten (suc (suc zero)) h = omega arith
-    ten (suc (suc (suc zero))) h = omega arith
-    ten (suc (suc (suc (suc zero)))) h = omega arith
-    ten (suc (suc (suc (suc (suc zero))))) h = omega arith
-    ten (suc (suc (suc (suc (suc (suc zero)))))) h = omega arith
-    ten (suc (suc (suc (suc (suc (suc (suc k))))))) h = absurd (omega (arith, h))
-
     by : (a b : Bool) → nat_lt 6 (length es) ≡ a → nat_lt (10 ^ length es) (value (ds ++ es)) ≡ b
         → (if a then Some TooManyDecimals else (if b then Some NumberOutOfRange else None)) ≡ None → (length es ≤ 6) × (value (ds ++ es) ≤ 10 ^ length es)
     by true b p q f = absurd (true≢false (ap is_some f))
     by false true p q f = absurd (true≢false (ap is_some f))
     by false false p q f = (grind (arith, nat_tests), grind (arith, nat_tests))
-
--- a word that isn't refused is kept whole
-word_kept : (d : State) (w : List ℕ) → refusal d (text.Word w) ≡ None → take 33 w ≡ w
-unfolding refusal
-word_kept d w h = elim (decide (nat_lt 32 (length w))) [
-  | inl l ↦ absurd (true≢false (ap is_some (sym (long l) ∙ h)))
-  | inr l ↦ take_all 33 w (grind (arith, nat_tests))
-]
-  where
-    long : nat_lt 32 (length w) ≡ true → refusal d (text.Word w) ≡ Some NameTooLong
-    long l = rw l refl
 
 -- why a number is refused where one is expected
 fault_there : (q g : Bool) (os : List Opening) (n : text.Numeral) → refusal (record { part = part.Number; query = q; given = g; opened = os }) (text.Number n) ≡ value_fault n

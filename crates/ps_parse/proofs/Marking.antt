@@ -1,10 +1,10 @@
 -- Marks of operators that wait find their operands.
 use Rattle.std.proofs.Common.{◌≡◌, ℕ, suc, ◌+◌, ◌-◌, ◌<◌, ◌≤◌, Bool, true, false, List, [], ◌∷◌, ◌++◌, length, take, Option, Some, None, refl, sym, ap, subst, ◌∙◌, arith, true≢false, is_some}
-use Rattle.std.proofs.lemmas.Bool.Decides.{nat_tests}
 use Rattle.std.proofs.lemmas.List.{length-append, length-take-le}
 use Rattle.std.specs.Prelude.{nat_le, if◌then◌else◌}
 use Rattle.ps_meaning.specs.Formula.{Formula}
 use Rattle.ps_meaning.specs.Statements.{Name}
+use Rattle.ps_text.proofs.Levels.{test_le}
 use Rattle.ps_problem.specs.declared.mark.Mark.{Mark}
 use Rattle.ps_problem.specs.Drafts.{Drafted, arity, made_by, marked, with_mark}
 use Rattle.ps_expect.specs.Stacks.{IsPopped}
@@ -24,9 +24,6 @@ pub record IsDue (k : ℕ) (os : List Operator) (o : Operator) : Type 0 where
   pub binds : k ≤ binding o
   pub goes_on : (d : Drafted) → reduced_from k os d ≡ reduced_from k rest (with_mark d (mark_of o))
 
-at_least : (k n : ℕ) → nat_le k n ≡ true → k ≤ n
-at_least k n e = grind (arith, nat_tests)
-
 unsome : (o p : Operator) → Some o ≡ Some p → o ≡ p
 unsome o p e = ap (λ x. or_else x o) e
   where
@@ -40,7 +37,7 @@ is_due k (p ∷ os) o e = by (nat_le k (binding p)) refl e
   where
     by : (b : Bool) → nat_le k (binding p) ≡ b → (if b then Some p else None) ≡ Some o → IsDue k (p ∷ os) o
     by true t e = subst (λ x. IsDue k (p ∷ os) x) (unsome p o e)
-        (record { rest = os; last = refl; binds = at_least k (binding p) t; goes_on = λ d. ap (λ b. if b then reduced_from k os (with_mark d (mark_of p)) else record { operators = p ∷ os; draft = d }) t })
+        (record { rest = os; last = refl; binds = test_le k (binding p) t; goes_on = λ d. ap (λ b. if b then reduced_from k os (with_mark d (mark_of p)) else record { operators = p ∷ os; draft = d }) t })
     by false t e = absurd (true≢false (sym (ap is_some e)))
 
 -- where none is to be reduced all is reduced

@@ -42,7 +42,7 @@ is_taken old new t place part i k d =
       passed = d.passed;
       machine = m;
       parsed = subst (λ x. IsParsed x) (sym m) (record { parse = parsed i.parse (token_of t); stands = followed i.parse (machine_of old) (token_of t) i.stands d.passed });
-      counts = λ n h. subst (λ x. CountsAtMost (n + 1) x) (sym m) (counted n (machine_of old) (token_of t) (may_be_taken_at (machine_of old) t i k d.passed) h);
+      counts = record { counts = λ n h. subst (λ x. CountsAtMost (n + 1) x) (sym m) (counted n (machine_of old) (token_of t) (may_be_taken_at (machine_of old) t i k d.passed) h) };
       places = d.places ∙ ap (λ p. places_of old ++ begun_at p (token_of t) place) d.part_is;
     }
 

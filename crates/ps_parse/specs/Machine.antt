@@ -63,15 +63,15 @@ value_in t = lowest (ratio_of (number_in t))
 
 -- the work with another draft
 abbrev pub with_draft : Work → Drafted → Work
-with_draft w d = record { pending = record { operators = w.pending.operators; draft = d }; item = w.item }
+with_draft w d = record w { pending = record w.pending { draft = d } }
 
 -- the work with other operators that wait, and their draft
 abbrev pub with_pending : Work → Pending → Work
-with_pending w p = record { pending = p; item = w.item }
+with_pending w p = record w { pending = p }
 
 -- an atom stands open last
 abbrev pub with_atom : Drafted → Name → Drafted
-with_atom d name = record { names = with_new same_name d.names name; «open» = d.«open» ++ formula.Atom name ∷ []; formulas = d.formulas; items = d.items }
+with_atom d name = record d { names = with_new same_name d.names name; «open» = d.«open» ++ formula.Atom name ∷ [] }
 
 -- a truth value stands open last
 abbrev pub with_constant : Drafted → Bool → Drafted
@@ -95,20 +95,20 @@ operand_taken p t = operand_ended p (with_mark p.draft mark.True)
 
 -- the number of a formula that ended is that of the item's formula, or behind `given` that of its condition
 abbrev pub numbered_as : Bool → ItemSoFar → ℕ → ItemSoFar
-numbered_as false i n = record { query = i.query; conditional = i.conditional; formula = n; given = None; side = i.side; least = i.least }
-numbered_as true i n = record { query = i.query; conditional = i.conditional; formula = i.formula; given = Some n; side = i.side; least = i.least }
+numbered_as false i n = record i { formula = n; given = None }
+numbered_as true i n = record i { given = Some n }
 
 -- the number of a formula that ended, in the item so far
 abbrev pub numbered : ItemSoFar → ℕ → ItemSoFar
 numbered i n = numbered_as i.conditional i n
 
--- a query, or a sentence, begins
+-- a query begins, or a sentence
 abbrev pub with_query : Work → Bool → Work
-with_query w q = record { pending = w.pending; item = record { query = q; conditional = w.item.conditional; formula = w.item.formula; given = w.item.given; side = w.item.side; least = w.item.least } }
+with_query w q = record w { item = record w.item { query = q } }
 
--- `given` stood, or nothing of the probability yet
+-- whether `given` stood in the probability
 abbrev pub with_conditional : Work → Bool → Work
-with_conditional w c = record { pending = w.pending; item = record { query = w.item.query; conditional = c; formula = w.item.formula; given = w.item.given; side = w.item.side; least = w.item.least } }
+with_conditional w c = record w { item = record w.item { conditional = c } }
 
 -- the open formula ends
 abbrev pub formula_ended : Work → Work
@@ -126,7 +126,7 @@ abbrev pub probability_ended : Bool → Work → Work
 probability_ended true w = asked (formula_ended w)
 probability_ended false w = formula_ended w
 
--- at a `)`, where all is marked that waits behind its `(`
+-- at a `)`, by the operators that still wait: the `(` that waits last ends, or the probability where none waits
 abbrev pub closed_behind : ItemSoFar → List Operator → Drafted → Work
 closed_behind i [] d = probability_ended i.query (record { pending = record { operators = []; draft = d }; item = i })
 closed_behind i (o ∷ os) d = record { pending = reduced 5 (record { operators = os; draft = d }); item = i }
@@ -156,11 +156,11 @@ side_in t = side.AtLeast
 
 -- the item so far is bounded on this side
 abbrev pub with_side : Work → Side → Work
-with_side w s = record { pending = w.pending; item = record { query = w.item.query; conditional = w.item.conditional; formula = w.item.formula; given = w.item.given; side = s; least = w.item.least } }
+with_side w s = record w { item = record w.item { side = s } }
 
 -- the least value of an interval
 abbrev pub with_least : Work → Ratio → Work
-with_least w r = record { pending = w.pending; item = record { query = w.item.query; conditional = w.item.conditional; formula = w.item.formula; given = w.item.given; side = w.item.side; least = r } }
+with_least w r = record w { item = record w.item { least = r } }
 
 -- the item so far is stated with these values
 abbrev pub stated : List (formula.Formula Name) → ItemSoFar → Ratio → Option Ratio → Item

@@ -28,6 +28,10 @@ pub record CountsAtMost (n : ℕ) (m : Machine) : Type 0 where
   pub formulas : length (drafted_in m).formulas ≤ n
   pub items : length (drafted_in m).items ≤ n
 
+-- names, formulas and items are one more at most
+pub record IsOneMore (old new : Parser) : Type 0 where
+  pub counts : (n : ℕ) → CountsAtMost n (machine_of old) → CountsAtMost (n + 1) (machine_of new)
+
 -- whether an item is expected at a part
 abbrev pub is_item : Part → Bool
 is_item part.Item = true
@@ -46,7 +50,7 @@ pub record IsTaken (old : Parser) (t : Token) (place : Position) (new : Parser) 
   pub passed : refusal (machine_of old).state (token_of t) ≡ None
   pub machine : machine_of new ≡ next (machine_of old) (token_of t)
   pub parsed : IsParsed (machine_of new)
-  pub counts : (n : ℕ) → CountsAtMost n (machine_of old) → CountsAtMost (n + 1) (machine_of new)
+  pub counts : IsOneMore old new
   pub places : places_of new ≡ places_of old ++ begun_at (machine_of old).state.part (token_of t) place
 
 -- a refused token changes nothing

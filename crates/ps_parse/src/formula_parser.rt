@@ -1,5 +1,5 @@
 //! Formulas as they are parsed.
-ghost use Rattle.std.specs.Prelude.{◌≡◌, ◌≤◌, ◌<◌, [], length, OnOk, IfOk};
+ghost use Rattle.std.specs.Prelude.{◌≡◌, ◌≤◌, ◌<◌, [], length, OnOk, OnErr, IfOk};
 ghost use Rattle.ps_meaning.specs.Names.{IsName};
 ghost use Rattle.ps_problem.specs.declared.limits.TheConstants.{MOST_DRAFTED};
 ghost use Rattle.ps_problem.specs.Drafts.{with_formula};
@@ -173,6 +173,7 @@ impl FormulaParser {
         ensures number { IfOk result (λ n. n ≡ length (draft_of self.old).formulas) }
         ensures operators { (pending_of self.new).operators ≡ (pending_of self.old).operators }
         ensures draft { OnOk result (draft_of self.new ≡ with_formula (draft_of self.old)) }
+        ensures unchanged { OnErr result (draft_of self.new ≡ draft_of self.old) }
     {
         self.draft.end_formula()
     }

@@ -19,9 +19,9 @@ use Rattle.ps_parse.specs.Machine.{Machine, at_first}
 use Rattle.ps_parse.specs.Derivations.{Represents, IsParsed}
 use Rattle.ps_parse.specs.declared.parser.Parser.{Parser}
 use Rattle.ps_parse.specs.Kept.{machine_of}
-use Rattle.ps_parse.specs.Taking.{CountsAtMost}
+use Rattle.ps_parse.specs.Taking.{CountsAtMost, IsOneMore}
 use Rattle.ps_read.specs.declared.reader.Reader.{Reader}
-use Rattle.ps_read.specs.Answers.{Parsed, part_of, with_token, is_done, begun_behind, Answer, ended, judged, answer, bad_or, step_answer, Agrees, IsStepAnswered, IsWordMode, IsOneMore, BelongsTogether, HasPassed, AgreesAtEnd, Answers, parsed_by}
+use Rattle.ps_read.specs.Answers.{Parsed, part_of, with_token, is_done, begun_behind, Answer, ended, judged, answer, bad_or, step_answer, Agrees, IsStepAnswered, IsWordMode, BelongsTogether, HasPassed, AgreesAtEnd, Answers, parsed_by}
 use Rattle.ps_read.proofs.Words.{word_behind}
 
 -- the rest is looked at only where no token is bad before it

@@ -86,7 +86,7 @@ judged x (t ∷ ts) bad end = if is_done (part_of x) then Ok (t.1, x) else refus
 unfoldable pub answer : LexerState → Parsed → List ℕ → Answer
 answer s x bytes = judged x (lexed s bytes).0 (lexed s bytes).1 (behind_all s.here bytes)
 
--- a token, if one ended, and a place where none begins, if there is one; then the rest
+-- at a place where no token begins, if there is one; then the rest
 abbrev pub bad_or : Option Position → Parsed → (Parsed → Answer) → Answer
 bad_or None x rest = rest x
 bad_or (Some p) x rest = ended x BadByte p
@@ -151,10 +151,6 @@ IsKeptIn (Some t) = IsKept t
 abbrev pub IsWordMode : Mode → Type 0
 IsWordMode (mode.Word w) = IsTrue (is_word w)
 IsWordMode m = Unit {0}
-
--- names, formulas and items are one more at most
-pub record IsOneMore (old new : Parser) : Type 0 where
-  pub counts : (n : ℕ) → CountsAtMost n (machine_of old) → CountsAtMost (n + 1) (machine_of new)
 
 -- what was lexed and parsed belongs together: as many tokens were parsed at most as bytes were taken
 pub record BelongsTogether (reader : Reader) : Type 0 where

@@ -4,10 +4,10 @@ ghost use Rattle.ps_lex.specs.Lexing.{new_lexer};
 ghost use Rattle.ps_problem.specs.declared.limits.TheConstants.{MOST_DRAFTED};
 ghost use Rattle.ps_parse.specs.Derivations.{IsParsed};
 ghost use Rattle.ps_parse.specs.Kept.{machine_of};
-ghost use Rattle.ps_parse.specs.Taking.{IsKept, CountsAtMost};
+ghost use Rattle.ps_parse.specs.Taking.{CountsAtMost, IsOneMore};
 ghost use Rattle.ps_read.specs.Answers.{nothing_parsed, parsed_by, begun_behind, is_done};
 ghost use Rattle.ps_read.specs.Answers.{part_of, ended, AgreesAtEnd, IsJudged, IsFed, IsFinished};
-ghost use Rattle.ps_read.specs.Answers.{BelongsTogether, IsKeptIn, IsOneMore, HasPassed};
+ghost use Rattle.ps_read.specs.Answers.{BelongsTogether, IsKeptIn, HasPassed};
 
 use crate::{ReadError, ReadKind};
 use ps_lex::{Lexer, Position, Token};
