@@ -1,5 +1,5 @@
 -- Where the items' first tokens stand.
-use Rattle.std.proofs.Common.{◌≡◌, ℕ, zero, suc, ◌+◌, ◌<◌, ◌≤◌, Bool, true, false, ◌||◌, inl, inr, List, [], ◌∷◌, ◌++◌, length, get_or, take, Option, Some, None, refl, sym, ap, subst, ◌∙◌, arith, append_assoc, append-nil, true≢false, is_some}
+use Rattle.std.proofs.Common.{◌≡◌, ℕ, zero, suc, ◌+◌, ◌<◌, ◌≤◌, Bool, true, false, ◌||◌, inl, inr, List, [], ◌∷◌, ◌++◌, length, get_or, take, Option, None, refl, sym, ap, subst, ◌∙◌, arith, append_assoc, append-nil}
 use Rattle.std.proofs.lemmas.List.{length-append, take_all, take-append-le}
 use Rattle.std.proofs.lemmas.Bool.Decides.{nat_tests}
 use Rattle.std.specs.Prelude.{nat_lt, bytes_eq, codes}
@@ -9,7 +9,6 @@ use Rattle.ps_text.specs.Pieces.{Piece, Spelled, texts, tokens}
 use Rattle.ps_text.specs.Grammar.{FormulaSyntax, Prob, ItemSyntax, tokens_up_to}
 use Rattle.ps_text.specs.declared.part.Part.{Part}
 use Rattle.ps_text.specs.declared.part.Part.TheVariants as part
-use Rattle.ps_text.specs.declared.kind.ReadKind.TheVariants.{NameTooLong}
 use Rattle.ps_text.specs.ExpectedTokens.{State, refusal}
 use Rattle.ps_text.proofs.Cutting.{decide}
 use Rattle.ps_text.specs.BegunFormulas.{Frame, BegunNot, BegunGroup, BegunAnd, BegunOr, BegunImplies, BegunIff, joins}
@@ -20,6 +19,7 @@ use Rattle.ps_lex.specs.declared.position.Position.{Position}
 use Rattle.ps_lex.specs.Places.{start}
 use Rattle.ps_lex.specs.Seen.{seen, behind_all}
 use Rattle.ps_expect.specs.KeptTokens.{token_of}
+use Rattle.ps_expect.proofs.Seen.{word_kept}
 use Rattle.ps_parse.specs.Taking.{is_item, begun_at}
 
 -- the items that are whole
@@ -259,17 +259,6 @@ module _ (done : List Piece) (t : Token) (places : List Position) (position : Po
   more_begun (InSecond es p x) e at r b = within (InSecond es p x) refl (record { written = refl; more = refl }) b
   more_begun (InBracketEnd es p x y) e at r b = within (InBracketEnd es p x y) refl (record { written = refl; more = refl }) b
   more_begun (InItemEnd es x) e at r b = item_ended es x b
-
--- a word that isn't refused is kept whole
-word_kept : (d : State) (w : List ℕ) → refusal d (Word w) ≡ None → take 33 w ≡ w
-unfolding refusal
-word_kept d w h = elim (decide (nat_lt 32 (length w))) [
-  | inl l ↦ absurd (true≢false (ap is_some (sym (long l) ∙ h)))
-  | inr l ↦ take_all 33 w (grind (arith, nat_tests))
-]
-  where
-    long : nat_lt 32 (length w) ≡ true → refusal d (Word w) ≡ Some NameTooLong
-    long l = rw l refl
 
 -- what is kept of a token begins an item where the token does
 pub begun_alike : (d : State) (p : Part) (t : Token) (position : Position) → refusal d t ≡ None → begun_at p (token_of (seen t)) position ≡ begun_at p t position

@@ -1,7 +1,7 @@
 -- What is returned is right, and the only right answer.
 use Rattle.std.proofs.Common.{◌≡◌, ℕ, zero, suc, ◌-◌, ◌<◌, ◌≤◌, inl, inr, List, [], ◌∷◌, length, get_or, Option, Some, None, refl, sym, ap, subst, ◌∙◌, arith}
 use Rattle.std.proofs.lemmas.List.{length-append}
-use Rattle.std.specs.Prelude.{Result, Ok, Err, IfErr, IfSome, option_map}
+use Rattle.std.specs.Prelude.{Result, Ok, Err, IfSome, option_map}
 use Rattle.ps_text.specs.Pieces.{texts}
 use Rattle.ps_text.specs.Positions as text
 use Rattle.ps_text.specs.Fronts.{IsTextFront}
@@ -22,7 +22,7 @@ use Rattle.ps_text.specs.declared.kind.ReadKind.TheVariants.{MoreAfterEnd}
 use Rattle.ps_read.specs.declared.reader.Reader.{Reader}
 use Rattle.ps_read.specs.Readings.{SpellsProblem, SpellsWhole, IsUnread, IsUnreadWhole}
 use Rattle.ps_read.specs.Reads.{Tells, ReadsEach, RefusesEach, ReadsEachWhole, RefusesEachWhole}
-use Rattle.ps_read.specs.Answers.{Parsed, nothing_parsed, parsed_by, Answer, answer, IsFed, HasPassed, IsFinished, Answers, IsExcessIn, IsBuiltOf, AreWhole, IsRight}
+use Rattle.ps_read.specs.Answers.{Parsed, nothing_parsed, parsed_by, Answer, answer, IsFed, HasPassed, Answers, IsExcessIn, IsBuiltOf, AreWhole, IsRight}
 use Rattle.ps_read.proofs.OneReading.{read_once, unread_once, read_excludes, whole_excludes, unread_whole_once}
 use Rattle.ps_read.proofs.Right.{IsParsedText, IsSo, answer_so}
 use Rattle.ps_read.proofs.Counts.{refused_least, refused_most, items_many, spelled, refused}

@@ -1,9 +1,10 @@
 -- What a lexer keeps of a word is a word.
-use Rattle.std.proofs.Common.{◌≡◌, ℕ, ◌+◌, Bool, true, false, ◌&&◌, List, [], ◌∷◌, ◌++◌, length, Some, refl, sym, true≢false, min}
+use Rattle.std.proofs.Common.{◌≡◌, ℕ, ◌+◌, Bool, true, false, List, [], ◌∷◌, ◌++◌, length, Some, refl, sym, true≢false, min}
 use Rattle.std.specs.Prelude.{◌==◌, nat_lt, if◌then◌else◌, IsTrue}
 use Rattle.std.specs.List.{list_all}
 use Rattle.ps_meaning.specs.Names.{is_letter, is_digit, is_word_byte, is_word}
 use Rattle.ps_text.specs.Pieces.{is_blank}
+use Rattle.ps_text.proofs.Spans.{both}
 use Rattle.ps_text.specs.declared.symbol.Symbol.TheVariants as symbol
 use Rattle.ps_lex.specs.declared.position.Position.{Position}
 use Rattle.ps_lex.specs.declared.mode.Mode.{Mode}
@@ -12,7 +13,7 @@ use Rattle.ps_lex.specs.declared.step.Step.{Step}
 use Rattle.ps_lex.specs.declared.token.Token.{Token}
 use Rattle.ps_lex.specs.declared.token.Token.TheVariants as token
 use Rattle.ps_lex.specs.Counted.{no_digits, with_digit}
-use Rattle.ps_lex.specs.Lexing.{LexerState, begun, symbol_begun, letter_kept, ended, continued, stepped_in, token_ended, with_byte, last_token}
+use Rattle.ps_lex.specs.Lexing.{LexerState, begun, symbol_begun, letter_kept, ended, continued, stepped_in, token_ended, with_byte}
 use Rattle.ps_read.specs.Answers.{IsKeptIn, IsWordMode}
 
 choose : (c : Bool) (m n : Mode) → IsWordMode m → IsWordMode n → IsWordMode (if c then m else n)
@@ -39,17 +40,13 @@ begun_is here b = choose (is_blank b) mode.Between _ tt (choose (b == 35) mode.C
     letter true e = one e
     letter false e = choose (is_digit b) (mode.Whole (with_digit no_digits b)) _ tt (symbol_is here b)
 
-both_true : (x y : Bool) → x && y ≡ true → (x ≡ true) × (y ≡ true)
-both_true true y h = (refl, h)
-both_true false y h = absurd (true≢false (sym h))
-
 all_more : (bs : List ℕ) (b : ℕ) → is_word_byte b ≡ true → list_all is_word_byte bs ≡ true → list_all is_word_byte (bs ++ b ∷ []) ≡ true
 all_more [] b e h = rw e refl
-all_more (c ∷ cs) b e h = let k = both_true (is_word_byte c) (list_all is_word_byte cs) h in rw (k.0, all_more cs b e k.1) refl
+all_more (c ∷ cs) b e h = let k = both (is_word_byte c) (list_all is_word_byte cs) h in rw (k.0, all_more cs b e k.1) refl
 
 word_more : (w : List ℕ) (b : ℕ) → is_word_byte b ≡ true → IsTrue (is_word w) → IsTrue (is_word (w ++ b ∷ []))
 word_more [] b e h = absurd (true≢false (sym h))
-word_more (c ∷ cs) b e h = let k = both_true (is_letter c) (list_all is_word_byte cs) h in rw (k.0, all_more cs b e k.1) refl
+word_more (c ∷ cs) b e h = let k = both (is_letter c) (list_all is_word_byte cs) h in rw (k.0, all_more cs b e k.1) refl
 
 letter_is : (w : List ℕ) (b : ℕ) → is_word_byte b ≡ true → IsTrue (is_word w) → IsTrue (is_word (letter_kept w b))
 letter_is w b e h = by (nat_lt (length w) 33)

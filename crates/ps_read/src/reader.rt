@@ -64,13 +64,10 @@ fn judge(
             Err(ParseError::NoMemory) => return Err(ReadError::NoMemory),
         }
     }
-    match bad {
-        Some(place) => match end(parser, ReadKind::BadByte, place) {
-            Ok(place) => Ok(Some(place)),
-            Err(error) => Err(error),
-        },
-        None => Ok(None),
-    }
+    let Some(place) = bad else {
+        return Ok(None);
+    };
+    Ok(Some(end(parser, ReadKind::BadByte, place)?))
 }
 
 impl Reader {
