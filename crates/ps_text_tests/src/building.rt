@@ -4,7 +4,7 @@ ghost use Rattle.std.specs.Prelude.{◌≡◌, IfOk, length};
 use ps_io::NoMemory;
 use ps_problem::{Bound, BuildError, Draft, Mark, Problem, Query, Side, build};
 use std::alloc::Global;
-use std::test::*;
+use std::test::Fail;
 
 // The draft with the formulas `b` and `!a`, and no items.
 fn formulas(alloc: Global) -> Result<Draft, NoMemory>
@@ -88,10 +88,7 @@ fn many(alloc: Global, count: u32) -> Result<Problem, BuildError> {
 
 // Whether 100 bounds pass and the 101st is refused at its item.
 fn are_bounds_counted(alloc: Global) -> bool {
-    let refused = match many(alloc, 101) {
-        Ok(_) => false,
-        Err(error) => error == BuildError::TooManyBounds { item: 101 },
-    };
+    let refused = many(alloc, 101).err() == Some(BuildError::TooManyBounds { item: 101 });
     refused && many(alloc, 100).is_ok()
 }
 

@@ -1,4 +1,4 @@
-//! Texts and their tokens, worked by hand.
+//! Texts and their tokens, worked out by hand.
 
 use ps_lex::{Lexer, Numeral, Position, Token};
 use std::alloc::{AllocError, Global};

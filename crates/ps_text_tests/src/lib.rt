@@ -14,3 +14,5 @@ mod lexing;
 mod parsing;
 #[cfg(test)]
 mod reading;
+#[cfg(test)]
+mod room;

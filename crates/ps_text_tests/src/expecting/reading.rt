@@ -1,8 +1,6 @@
 //! Feeds the tokens of a text to a `State`.
 
-ghost use Rattle.std.specs.Prelude.{◌-◌, ◌^◌, IsTrue};
-ghost use Rattle.ps_lex.specs.Places.{IsWithin};
-
+use crate::room::has_room;
 use ps_expect::State;
 use ps_lex::{Lexer, Token};
 use ps_text::{Part, ReadKind};
@@ -15,13 +13,6 @@ use std::test::Fail;
 pub(crate) enum Answer {
     Refused(ReadKind),
     Next(Part),
-}
-
-fn has_room(lexer: &Lexer) -> bool
-    ensures { IsTrue result → IsWithin (2 ^ 32 - 2) lexer.now.here }
-{
-    let here = lexer.here();
-    here.line < u32::MAX && here.column < u32::MAX && here.offset < u32::MAX
 }
 
 /// Goes on behind a token, or tells why it is refused.

@@ -1,24 +1,17 @@
 //! Feeds the tokens of a text to a `Parser`.
-ghost use Rattle.std.specs.Prelude.{◌≡◌, ◌-◌, ◌^◌, ◌+◌, ℕ, IsTrue, OnOk};
+ghost use Rattle.std.specs.Prelude.{◌≡◌, ◌-◌, IsTrue, OnOk};
 ghost use Rattle.std.specs.List.{list_all};
 ghost use Rattle.ps_meaning.specs.Names.{is_letter as letter, is_word_byte as word_byte};
 ghost use Rattle.ps_meaning.specs.Names.{is_word as word};
-ghost use Rattle.ps_lex.specs.Places.{IsWithin};
 ghost use Rattle.ps_problem.specs.declared.limits.TheConstants.{MOST_DRAFTED};
 ghost use Rattle.ps_parse.specs.Derivations.{IsParsed};
-ghost use Rattle.ps_parse.specs.Taking.{IsKept, CountsAtMost};
+ghost use Rattle.ps_parse.specs.Taking.{IsKept, CountsAtMost, IsOneMore};
 ghost use Rattle.ps_parse.specs.Kept.{machine_of};
 
+use crate::room::has_room;
 use ps_lex::{Lexer, Position, Token};
 use ps_parse::{ParseError, Parser};
 use std::alloc::Global;
-
-fn has_room(lexer: &Lexer) -> bool
-    ensures { IsTrue result → IsWithin (2 ^ 32 - 2) lexer.now.here }
-{
-    let here = lexer.here();
-    here.line < u32::MAX && here.column < u32::MAX && here.offset < u32::MAX
-}
 
 fn is_letter(byte: u8) -> bool
     ensures { result ≡ letter byte }
@@ -62,8 +55,7 @@ fn feed(parser: &mut Parser, token: Option<Token>, place: Position) -> Result<()
     requires derivation { IsParsed (machine_of parser.old) }
     requires room { CountsAtMost (MOST_DRAFTED - 1) (machine_of parser.old) }
     ensures derivation { OnOk result (IsParsed (machine_of parser.new)) }
-    ensures counts { OnOk result ((n : ℕ) → CountsAtMost n (machine_of parser.old)
-        → CountsAtMost (n + 1) (machine_of parser.new)) }
+    ensures counts { OnOk result (IsOneMore parser.old parser.new) }
 {
     let Some(token) = token else {
         return Ok(());
