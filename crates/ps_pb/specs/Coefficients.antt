@@ -25,6 +25,6 @@ pub record AreCoefficients (ts : Weighted) (sums : List ℤ) : Type 0 where
   pub length_is : length sums ≡ last_variable ts
   pub each : (p : ℕ) → p < length sums → number_at sums p ≡ coefficient_at ts p
 
--- the sizes of the first numbers, however many, sum to at most 2^125
+-- the sizes of the first numbers, however many, sum to at most the limit of weights
 pub record AreSmall (sums : List ℤ) : Type 0 where
   pub below : (n : ℕ) → n ≤ length sums → sum_below n (λ p. pos (unsigned_abs (number_at sums p))) ≤ℤ pos most_weight

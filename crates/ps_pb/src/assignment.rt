@@ -1,5 +1,5 @@
 //! Partial assignments.
-ghost use Rattle.std.specs.Prelude.{◌≡◌, ℕ, length, IfOk};
+ghost use Rattle.std.specs.Prelude.{◌≡◌, length, IfOk};
 ghost use Rattle.ps_steps.specs.Assignments.{place, value_of, value_at, all_unset};
 ghost use Rattle.ps_steps.specs.Assignments.{with_true, with_false, without};
 

@@ -1,19 +1,19 @@
 //! Pseudo-Boolean constraints.
-ghost use Rattle.std.specs.Prelude.{◌≡◌, ◌≤◌, ◌+◌, ◌↔◌, pos, ◌≤ℤ◌, All, unsigned_abs};
+ghost use Rattle.std.specs.Prelude.{◌≡◌, ◌≤◌, ◌↔◌, pos, ◌≤ℤ◌, All, unsigned_abs};
 ghost use Rattle.std.specs.Prelude.{IsTrue, IsSome, IfSome, IfOk};
-ghost use Rattle.ps_steps.specs.Weights.{are_rising, size_sum, weighted, terms_of, IsNormal};
+ghost use Rattle.ps_steps.specs.Weights.{are_rising, weighted, terms_of, IsNormal};
 ghost use Rattle.ps_pb.specs.Limits.{most_size};
 ghost use Rattle.ps_pb.specs.Weighing.{linear};
 
 use crate::lit::Lit;
-use crate::terms::Terms;
+use crate::terms::{Terms, sizes_fit};
 use ps_io::NoMemory;
 use ps_steps::MOST_SIZE;
 use std::alloc::Global;
 use std::marker::Model;
 
 /// The coefficients of the true literals sum to at least the degree. Coefficients are at least 1,
-/// variables rise, and the coefficients and the size of the degree sum to at most 2^126.
+/// variables rise, and the coefficients and the size of the degree sum to at most `MOST_SIZE`.
 #[derive(Drop)]
 pub struct Constraint {
     terms: Terms,
@@ -32,8 +32,9 @@ impl Model for Constraint {
 }
 
 impl Constraint {
-    /// `None` exactly where a coefficient is below 1, the variables don't rise, or the sum passes
-    /// 2^126.
+    /// The constraint of these terms and this degree. `None` exactly where a coefficient is below 1,
+    /// the variables don't rise, or the coefficients and the size of the degree sum to more than
+    /// `MOST_SIZE`.
     pub fn new(terms: Terms, degree: i128) -> Option<Constraint>
         ensures value { IfSome result (λ c. c ≡ linear terms degree) }
         ensures exact { IsSome result ↔ IsNormal terms degree }
@@ -85,7 +86,7 @@ impl Constraint {
 fn is_normal(terms: &[(Lit, i128)], degree: &i128) -> bool
     ensures { IsTrue result ↔ IsNormal terms.now degree.now }
 {
-    are_positive(terms) && are_rising(terms) && are_narrow(terms, degree)
+    are_positive(terms) && are_rising(terms) && sizes_fit(terms, degree, MOST_SIZE)
 }
 
 fn are_positive(terms: &[(Lit, i128)]) -> bool
@@ -106,17 +107,4 @@ fn are_rising(terms: &[(Lit, i128)]) -> bool
         above = variable;
     }
     true
-}
-
-fn are_narrow(terms: &[(Lit, i128)], degree: &i128) -> bool
-    ensures { IsTrue result ↔ (size_sum terms.now + unsigned_abs degree.now ≤ most_size) }
-{
-    let mut sum = degree.unsigned_abs();
-    for term in terms {
-        if MOST_SIZE < sum {
-            return false;
-        }
-        sum += term.1.unsigned_abs();
-    }
-    sum <= MOST_SIZE
 }

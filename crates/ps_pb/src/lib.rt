@@ -19,5 +19,5 @@ pub use lit::Lit;
 pub use propagation::{Effect, forces, is_forced, propagate, slack};
 pub use ps_steps::MOST_SIZE;
 pub use step::{Hints, Lits, Step, Steps};
-pub use terms::{Terms, WeightedLits};
+pub use terms::{Terms, WeightedLits, sizes_fit};
 pub use weights::{clause, from_weights};

@@ -6,10 +6,8 @@ ghost use Rattle.ps_pb.specs.Limits.{IsLiteral, most_variables};
 use crate::limits::MOST_VARIABLES;
 use std::marker::Model;
 
-const MOST: i32 = MOST_VARIABLES as i32;
-
-/// A nonzero number of size at most 1,024. Its size is the number of a variable; a positive one
-/// says that the variable is true, a negative one that it is false.
+/// A nonzero number of size at most `MOST_VARIABLES`. Its size is the number of a variable; a
+/// positive one says that the variable is true, a negative one that it is false.
 #[derive(Clone, Copy, Debug, PartialEq, Eq)]
 pub struct Lit {
     number: i32,
@@ -39,12 +37,12 @@ impl Default for Lit {
 }
 
 impl Lit {
-    /// `None` exactly where the number is 0 or of size above 1,024.
+    /// The literal of a number. `None` exactly where it is 0 or of size above `MOST_VARIABLES`.
     pub fn new(n: i32) -> Option<Lit>
         ensures value { IfSome result (λ lit. lit ≡ n) }
         ensures exact { IsSome result ↔ IsLiteral n }
     {
-        if n == 0 || n < -MOST || MOST < n {
+        if n == 0 || MOST_VARIABLES < n.unsigned_abs() {
             return None;
         }
         Some(Lit { number: n })
@@ -69,7 +67,7 @@ impl Lit {
         self.number
     }
 
-    /// The number of its variable, from 1 to 1,024.
+    /// The number of its variable, from 1 to `MOST_VARIABLES`.
     pub fn variable(&self) -> u32
         ensures value { result ≡ unsigned_abs self.now }
         ensures within { (1 ≤ result) × (result ≤ most_variables) }
@@ -91,7 +89,7 @@ impl Lit {
         ensures value { result ≡ place self.now }
         ensures within { result < most_variables }
     {
-        self.number.unsigned_abs() as usize - 1
+        self.variable() as usize - 1
     }
 
     /// Whether it says that its variable is true.

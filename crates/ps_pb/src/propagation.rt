@@ -9,7 +9,7 @@ use crate::assignment::Assignment;
 use crate::constraint::Constraint;
 use crate::lit::Lit;
 
-/// The coefficients whose literals aren't false, less the degree.
+/// The sum of the coefficients whose literals aren't false, less the degree.
 pub fn slack(c: &Constraint, a: &Assignment) -> i128
     ensures { result ≡ slack c.now a.now }
 {

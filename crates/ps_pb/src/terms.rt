@@ -1,6 +1,8 @@
 //! Literals with whole numbers.
 ghost use Rattle.std.specs.Prelude.{◌≡◌, ◌++◌, [], ◌∷◌, length, slice_get, option_copied};
+ghost use Rattle.std.specs.Prelude.{◌<◌, ◌≤◌, ◌+◌, ◌^◌, ◌↔◌, unsigned_abs, IsTrue};
 ghost use Rattle.std.specs.Prelude.{IfOk, OnOk, OnErr, IfSome, IfNone};
+ghost use Rattle.ps_steps.specs.Weights.{size_sum};
 
 use crate::lit::Lit;
 use ps_io::{List, NoMemory};
@@ -83,4 +85,19 @@ impl Terms {
     {
         self.items.pop()
     }
+}
+
+/// Whether the sizes of the weights and of one more number sum to at most so much.
+pub fn sizes_fit(weights: &[(Lit, i128)], number: &i128, most: u128) -> bool
+    requires { most < 2 ^ 127 }
+    ensures { IsTrue result ↔ (size_sum weights.now + unsigned_abs number.now ≤ most) }
+{
+    let mut sum = number.unsigned_abs();
+    for weight in weights {
+        if most < sum {
+            return false;
+        }
+        sum += weight.1.unsigned_abs();
+    }
+    sum <= most
 }
