@@ -1,7 +1,7 @@
 -- The rank of a trail rises where an implied literal takes the place of a decided one.
-use Rattle.std.proofs.Common.{◌≡◌, ℕ, zero, suc, ◌+◌, ◌<◌, ◌≤◌, ◌^◌, Bool, true, false, cond, Some, None, List, [], ◌∷◌, ◌++◌, length, take, arith, refl, ◌∙◌}
-use Rattle.std.specs.Prelude.{is_none, slice_get}
-use Rattle.ps_learning.specs.Trails.{TrailEntry, decisions, rank, AreLevels}
+use Rattle.std.proofs.Common.{◌≡◌, ℕ, zero, suc, ◌+◌, ◌<◌, ◌≤◌, ◌^◌, Bool, true, false, cond, Some, None, List, [], ◌∷◌, ◌++◌, length, arith}
+use Rattle.std.specs.Prelude.{is_none}
+use Rattle.ps_learning.specs.Trails.{TrailEntry, rank}
 
 power_some : (n : ℕ) → 1 ≤ 2 ^ n
 power_some zero = omega arith
