@@ -21,8 +21,8 @@ pub fn limits_have_these_numbers()
     ensures hints { MOST_HINTS ≡ 1025 }
 {}
 
-/// Whether a step is within the limits: id and hints from 1 to 2^41, at most 1,024 literals and
-/// 1,025 hints. The line of such a step is shorter than 65,536 bytes.
+/// Whether a step is within the limits: id and hints from 1 to `MOST_IDS`, at most `MOST_LITS`
+/// literals and `MOST_HINTS` hints. The line of such a step is shorter than `LONGEST_LINE`.
 #[tactic(auto, using(crate::proofs::Lengths::step_is_short))]
 pub fn is_step_within(s: &Step) -> bool
     ensures within { IsTrue result ↔ IsStepWithin s.now }
@@ -36,8 +36,8 @@ pub fn is_step_within(s: &Step) -> bool
         && are_ids(s.hints.as_slice())
 }
 
-/// Whether a goal is within the limits: at most 1,024 terms. Each constraint is, since its
-/// variables rise up to 1,024. The line of such a goal is shorter than 65,536 bytes.
+/// Whether a goal is within the limits: at most `MOST_LITS` terms. Each constraint is, since its
+/// variables rise up to `MOST_VARIABLES`. The line of such a goal is shorter than `LONGEST_LINE`.
 #[tactic(auto, using(crate::proofs::Lengths::goal_is_short))]
 pub fn is_goal_within(goal: &Constraint) -> bool
     ensures always { IsTrue result }
@@ -48,7 +48,8 @@ pub fn is_goal_within(goal: &Constraint) -> bool
     have_literals(terms) && terms.len() <= MOST_LITS
 }
 
-fn is_id(id: &u64) -> bool
+/// Whether a number is an id: from 1 to `MOST_IDS`.
+pub(crate) fn is_id(id: &u64) -> bool
     ensures { IsTrue result ↔ IsId id.now }
 {
     1 <= *id && *id <= MOST_IDS

@@ -1,20 +1,15 @@
 //! The parts of a step among its numbers.
-ghost use Rattle.std.specs.Prelude.{◌≡◌, ◌≤◌, ◌≤ℤ◌, ◌↔◌, ◌++◌, ◌∷◌, [], ℤ, List as Numbers, pos};
+ghost use Rattle.std.specs.Prelude.{◌≡◌, ◌≤◌, ◌≤ℤ◌, ◌↔◌, ◌∷◌, pos};
 ghost use Rattle.std.specs.Prelude.{All, IsTrue, IfSome, IfNone, IsSome, unsigned_abs};
 ghost use Rattle.ps_pb.specs.Limits.{IsLiteral};
 ghost use Rattle.ps_log.specs.Numbers.{LacksCount, IsCutAtZero, AreCountsAndZero, LacksCounts};
 ghost use Rattle.ps_log.specs.Numbers.{AreParts, HasParts, AreLits, AreHints, IsIdOf, IsStepOf};
 
-use crate::limits::{MOST_HINTS, MOST_LITS};
+use crate::limits::{MOST_HINTS, MOST_LITS, is_id};
 use crate::line_error::LineError;
 use ps_io::List;
-use ps_pb::{Hints, Lit, Lits, MOST_VARIABLES, Step};
-use ps_steps::MOST_IDS;
+use ps_pb::{Hints, Lit, Lits, Step};
 use std::alloc::Global;
-
-const MOST_ID: i128 = MOST_IDS as i128;
-
-const MOST_LITERAL: i128 = MOST_VARIABLES as i128;
 
 /// The numbers of a step in its parts.
 #[derive(Clone, Copy)]
@@ -76,10 +71,8 @@ fn split_at_zero(numbers: &[i128]) -> Option<(&[i128], &[i128])>
     ensures found { IfSome result (λ r. IsCutAtZero numbers.now r.0.now r.1.now) }
     ensures none { IfNone result (All (λ n. 1 ≤ unsigned_abs n) numbers.now) }
 {
-    match numbers.iter().position(|n| *n == 0) {
-        Some(i) => Some((&numbers[..i], &numbers[i + 1..])),
-        None => None,
-    }
+    let i = numbers.iter().position(|n| *n == 0)?;
+    Some((&numbers[..i], &numbers[i + 1..]))
 }
 
 fn are_counts(numbers: &[i128]) -> bool
@@ -91,10 +84,10 @@ fn are_counts(numbers: &[i128]) -> bool
 fn id(number: &i128) -> Option<u64>
     ensures { IsIdOf number.now result }
 {
-    if *number < 1 || MOST_ID < *number {
-        return None;
+    match u64::try_from(*number) {
+        Ok(id) if is_id(&id) => Some(id),
+        _ => None,
     }
-    Some(*number as u64)
 }
 
 /// The literal that is this number.
@@ -102,10 +95,10 @@ pub(crate) fn lit(number: &i128) -> Option<Lit>
     ensures value { IfSome result (λ lit. lit ≡ number.now) }
     ensures exact { IsSome result ↔ IsLiteral number.now }
 {
-    if *number < -MOST_LITERAL || MOST_LITERAL < *number {
-        return None;
+    match i32::try_from(*number) {
+        Ok(number) => Lit::new(number),
+        Err(_) => None,
     }
-    Lit::new(*number as i32)
 }
 
 fn lits(alloc: Global, numbers: &[i128]) -> Result<Lits, LineError>

@@ -41,10 +41,8 @@ pub(crate) fn split_once(bytes: &[u8], separator: u8) -> Option<(&[u8], &[u8])>
     ensures found { IfSome result (λ r. IsCut bytes.now separator r.0.now r.1.now) }
     ensures none { IfNone result (Lacks separator bytes.now) }
 {
-    match bytes.iter().position(|b| *b == separator) {
-        Some(i) => Some((&bytes[..i], &bytes[i + 1..])),
-        None => None,
-    }
+    let i = bytes.iter().position(|b| *b == separator)?;
+    Some((&bytes[..i], &bytes[i + 1..]))
 }
 
 /// The bytes before the first line feed.
@@ -52,8 +50,6 @@ pub(crate) fn first_line(bytes: &[u8]) -> Option<&[u8]>
     ensures found { IfSome result (λ line. FirstLine bytes.now line.now) }
     ensures none { IfNone result (IsOneLine bytes.now) }
 {
-    match split_once(bytes, b'\n') {
-        Some((line, _)) => Some(line),
-        None => None,
-    }
+    let (line, _) = split_once(bytes, b'\n')?;
+    Some(line)
 }
