@@ -1,4 +1,4 @@
-//! Numbers of any size, cut off past every limit.
+//! Words that spell numbers of any size, which are cut off past every limit.
 ghost use Rattle.std.specs.Prelude.{◌≡◌, ◌≤◌, ◌<◌, ◌↔◌, ◌∷◌, ◌+◌, ◌*◌, ℕ, List as Bytes, All};
 ghost use Rattle.std.specs.Prelude.{IfSome, IfNone, IsTrue, length, slice_index};
 ghost use Rattle.std.specs.Char.{digit_value};
@@ -37,10 +37,7 @@ pub fn without_minus(word: &[u8]) -> Option<&[u8]>
 fn positive(word: &[u8]) -> Option<i128>
     ensures { IsCount word.now result }
 {
-    match size(word) {
-        Some(n) => Some(n as i128),
-        None => None,
-    }
+    Some(size(word)? as i128)
 }
 
 fn negative(digits: &[u8]) -> Option<i128>
