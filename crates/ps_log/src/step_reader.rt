@@ -4,8 +4,7 @@ ghost use Rattle.ps_steps.specs.Steps.{Step as StepValue};
 ghost use Rattle.ps_log.specs.declared.line_error.LineError.{LineError as Refusal};
 ghost use Rattle.ps_log.specs.Limits.{IsStepWithin};
 ghost use Rattle.ps_log.specs.FirstLines.{Gives, IsLineAnswer};
-ghost use Rattle.ps_log.specs.StepTexts.{IsStepText};
-ghost use Rattle.ps_log.specs.StepTexts.{HasStep, IsStepAnswer, IsStepRefused};
+ghost use Rattle.ps_log.specs.StepTexts.{IsStepText, HasStep, IsStepAnswer, IsStepRefused};
 
 use crate::lettered::{after_letter, are_text_bytes};
 use crate::line_error::LineError;
@@ -28,10 +27,8 @@ pub fn read_step(alloc: Global, bytes: &[u8]) -> Result<(Step, u64), LineError>
     if !are_text_bytes(line, b's') {
         return Err(LineError::BadByte);
     }
-    match step_of(alloc, line) {
-        Ok(step) => Ok((step, line.len() as u64 + 1)),
-        Err(why) => Err(why),
-    }
+    let step = step_of(alloc, line)?;
+    Ok((step, line.len() as u64 + 1))
 }
 
 fn step_of(alloc: Global, line: &[u8]) -> Result<Step, LineError>

@@ -1,4 +1,5 @@
 use Rattle.std.proofs.Common.{◌∙◌, Ok, Err, length, ◌+◌, refl, sym}
+use Rattle.std.proofs.lemmas.Result.{err_from_is_err_and}
 use Rattle.ps_log.specs.declared.line_error.LineError.TheVariants.{Truncated, BadByte}
 use Rattle.ps_log.proofs.LineAnswers.{value-given, refusal-given, bad-line, line-answer, line-refusal}
 use Rattle.ps_log.proofs.StepAnswers.{step_texts}
@@ -16,25 +17,27 @@ returns-then-not-are_text_bytes-clause-taken c = λ s n. value-given step_texts 
 pub returns-then-not-are_text_bytes-clause-refused : goal.returns-then-not-are_text_bytes-clause-refused
 returns-then-not-are_text_bytes-clause-refused c = λ why. refusal-given step_texts c.args.bytes.now (Err BadByte) why (bad-line step_texts c.args.bytes.now c.in-Some.line.now c.are_text_bytes.result c.in-Some.ensures.found c.are_text_bytes.ensures c.if-not-are_text_bytes.true)
 
-pub returns-in-Ok-clause-answer : goal.returns-in-Ok-clause-answer
-returns-in-Ok-clause-answer c = line-answer step_texts c.args.bytes.now c.in-Some.line.now c.in-Ok.step (length c.in-Some.line.now + 1) c.in-Some.ensures.found c.in-Ok.ensures refl
+pub returns-in_err-step-clause-taken : goal.returns-in_err-step-clause-taken
+returns-in_err-step-clause-taken c = λ s n.
+    let p = err_from_is_err_and c.from_residual.result c.from_residual.ensures.1 in
+    rw (p.1, p.2) (value-given step_texts c.args.bytes.now (Err c.in_err-step.field-0.0) s n
+    (line-refusal step_texts c.args.bytes.now c.in-Some.line.now c.in_err-step.field-0.0 c.in-Some.ensures.found (sym c.are_text_bytes.ensures ∙ c.if-not-are_text_bytes.false) c.in_err-step.ensures))
 
-pub returns-in-Ok-clause-taken : goal.returns-in-Ok-clause-taken
-returns-in-Ok-clause-taken c = λ s n.
-    value-given step_texts c.args.bytes.now (Ok (c.in-Ok.step, length c.in-Some.line.now + 1)) s n
-    (line-answer step_texts c.args.bytes.now c.in-Some.line.now c.in-Ok.step (length c.in-Some.line.now + 1) c.in-Some.ensures.found c.in-Ok.ensures refl)
+pub returns-in_err-step-clause-refused : goal.returns-in_err-step-clause-refused
+returns-in_err-step-clause-refused c = λ why.
+    let p = err_from_is_err_and c.from_residual.result c.from_residual.ensures.1 in
+    rw (p.1, p.2) (refusal-given step_texts c.args.bytes.now (Err c.in_err-step.field-0.0) why
+    (line-refusal step_texts c.args.bytes.now c.in-Some.line.now c.in_err-step.field-0.0 c.in-Some.ensures.found (sym c.are_text_bytes.ensures ∙ c.if-not-are_text_bytes.false) c.in_err-step.ensures))
 
-pub returns-in-Ok-clause-refused : goal.returns-in-Ok-clause-refused
-returns-in-Ok-clause-refused c = λ why.
-    refusal-given step_texts c.args.bytes.now (Ok (c.in-Ok.step, length c.in-Some.line.now + 1)) why
-    (line-answer step_texts c.args.bytes.now c.in-Some.line.now c.in-Ok.step (length c.in-Some.line.now + 1) c.in-Some.ensures.found c.in-Ok.ensures refl)
+pub returns-clause-answer : goal.returns-clause-answer
+returns-clause-answer c = line-answer step_texts c.args.bytes.now c.in-Some.line.now c.in_ok-step.step (length c.in-Some.line.now + 1) c.in-Some.ensures.found c.in_ok-step.ensures refl
 
-pub returns-in-Err-clause-taken : goal.returns-in-Err-clause-taken
-returns-in-Err-clause-taken c = λ s n.
-    value-given step_texts c.args.bytes.now (Err c.in-Err.why) s n
-    (line-refusal step_texts c.args.bytes.now c.in-Some.line.now c.in-Err.why c.in-Some.ensures.found (sym c.are_text_bytes.ensures ∙ c.if-not-are_text_bytes.false) c.in-Err.ensures)
+pub returns-clause-taken : goal.returns-clause-taken
+returns-clause-taken c = λ s n.
+    value-given step_texts c.args.bytes.now (Ok (c.in_ok-step.step, length c.in-Some.line.now + 1)) s n
+    (line-answer step_texts c.args.bytes.now c.in-Some.line.now c.in_ok-step.step (length c.in-Some.line.now + 1) c.in-Some.ensures.found c.in_ok-step.ensures refl)
 
-pub returns-in-Err-clause-refused : goal.returns-in-Err-clause-refused
-returns-in-Err-clause-refused c = λ why.
-    refusal-given step_texts c.args.bytes.now (Err c.in-Err.why) why
-    (line-refusal step_texts c.args.bytes.now c.in-Some.line.now c.in-Err.why c.in-Some.ensures.found (sym c.are_text_bytes.ensures ∙ c.if-not-are_text_bytes.false) c.in-Err.ensures)
+pub returns-clause-refused : goal.returns-clause-refused
+returns-clause-refused c = λ why.
+    refusal-given step_texts c.args.bytes.now (Ok (c.in_ok-step.step, length c.in-Some.line.now + 1)) why
+    (line-answer step_texts c.args.bytes.now c.in-Some.line.now c.in_ok-step.step (length c.in-Some.line.now + 1) c.in-Some.ensures.found c.in_ok-step.ensures refl)
