@@ -23,17 +23,14 @@ same_place (negsuc a) (pos zero) p q e = absurd q
 same_place (negsuc a) (pos (suc b)) p q e = let s : a ≡ b = omega (arith, e) in inr (ap (λ k. pos (suc k)) s)
 same_place (negsuc a) (negsuc b) p q e = let s : b ≡ a = omega (arith, e) in inl (ap negsuc s)
 
-equal : (x y : ℤ) → x ≡ y → int_eq x y ≡ true
-equal x y e = (Decides-int_eq x y).1 e
-
 not_true : (b : Bool) → not b ≡ true → b ≡ false
 not_true true h = absurd (true≢false (sym h))
 not_true false h = refl
 
 apart : (l m : ℤ) → IsLit l → IsLit m → not (int_eq m l) ≡ true → int_eq (neg_ℤ l) m ≡ false → place l ≢ place m
 apart l m p q new other e = elim (same_place l m p q e) [
-  | inl same ↦ true≢false (sym (equal m l same) ∙ not_true (int_eq m l) new)
-  | inr opposite ↦ true≢false (sym (equal (neg_ℤ l) m opposite) ∙ other)
+  | inl same ↦ true≢false (sym ((Decides-int_eq m l).1 same) ∙ not_true (int_eq m l) new)
+  | inr opposite ↦ true≢false (sym ((Decides-int_eq (neg_ℤ l) m).1 opposite) ∙ other)
 ]
 
 -- no literal's opposite stands in the clause

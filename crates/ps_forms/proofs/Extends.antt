@@ -1,8 +1,9 @@
 -- A full assignment meets the clause form exactly where it is the extension of its world.
-use Rattle.std.proofs.Common.{◌≡◌, ℕ, zero, suc, ◌+◌, ◌<◌, ◌≤◌, Bool, true, false, not, ◌&&◌, List, [], ◌∷◌, length, get_or, refl, sym, ap, ◌∙◌, arith, true≢false}
+use Rattle.std.proofs.Common.{◌≡◌, ℕ, zero, suc, ◌+◌, ◌<◌, ◌≤◌, Bool, true, false, not, ◌&&◌, List, [], ◌∷◌, length, get_or, refl, sym, ap, ◌∙◌, arith}
 use Rattle.std.specs.List.{list_all}
 use Rattle.std.proofs.lemmas.List.{get_or_default, ext_get_or}
 use Rattle.std.proofs.lemmas.List.Folds.{list_all-append}
+use Rattle.std.proofs.lemmas.Bool.{and_from, and_parts}
 use Rattle.ps_meaning.specs.Formula.{World, agree}
 use Rattle.ps_formula.specs.declared.node.Node.{Node}
 use Rattle.ps_formula.specs.declared.node.Node.TheVariants as node
@@ -17,18 +18,6 @@ use Rattle.ps_forms.proofs.Meanings.{met-node}
 pub record MetAtEach (w : List Bool) (x : ℕ) (ns : List Node) : Type 0 where
   pub at : (i : ℕ) (d : Node) → i < length ns → list_all (meets w) (clauses_at (x + i) (get_or ns i d)) ≡ true
 
-first : (a b : Bool) → (a && b) ≡ true → a ≡ true
-first true b e = refl
-first false b e = e
-
-second : (a b : Bool) → (a && b) ≡ true → b ≡ true
-second true b e = e
-second false b e = absurd (true≢false (sym e))
-
-both : (a b : Bool) → a ≡ true → b ≡ true → (a && b) ≡ true
-both true b e f = f
-both false b e f = e
-
 split : (w : List Bool) (x : ℕ) (n : Node) (ns : List Node)
     → list_all (meets w) (clauses_from x (n ∷ ns)) ≡ (list_all (meets w) (clauses_at x n) && list_all (meets w) (clauses_from (suc x) ns))
 split w x n ns = list_all-append (meets w) (clauses_at x n) (clauses_from (suc x) ns)
@@ -42,14 +31,16 @@ more w x n ns here later = record { at = by_place }
 
 met-each : (w : List Bool) (x : ℕ) (ns : List Node) → list_all (meets w) (clauses_from x ns) ≡ true → MetAtEach w x ns
 met-each w x [] h = record { at = λ i d lt. absurd (omega arith) }
-met-each w x (n ∷ ns) h = more w x n ns (first _ _ (sym (split w x n ns) ∙ h)) (met-each w (suc x) ns (second _ _ (sym (split w x n ns) ∙ h)))
+met-each w x (n ∷ ns) h =
+    let parts = and_parts _ _ (sym (split w x n ns) ∙ h) in
+    more w x n ns parts.0 (met-each w (suc x) ns parts.1)
 
 each-met : (w : List Bool) (x : ℕ) (ns : List Node) → MetAtEach w x ns → list_all (meets w) (clauses_from x ns) ≡ true
 each-met w x [] h = refl
 each-met w x (n ∷ ns) h =
     let e : x + 0 ≡ x = omega arith in
     let here : list_all (meets w) (clauses_at x n) ≡ true = rw e at (h.at 0 n (omega arith)) in
-    split w x n ns ∙ both _ _ here (each-met w (suc x) ns (record {
+    split w x n ns ∙ and_from _ _ here (each-met w (suc x) ns (record {
       at = λ i d lt.
           let f : x + suc i ≡ suc x + i = omega arith in
           rw f at (h.at (suc i) d (omega arith));

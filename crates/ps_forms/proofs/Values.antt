@@ -11,7 +11,8 @@ use Rattle.ps_forms.specs.Extensions.{extension, AgreesAt, is_atom, value_from, 
 use Rattle.ps_forms.specs.Forms.{form_of}
 use Rattle.ps_forms.specs.Decided.{AtomsAreSet}
 use Rattle.ps_forms.proofs.Deciding.{atom-variable, set-value}
-use Rattle.ps_forms.proofs.Worlds.{by_bool, same_atom, same_number, eq_test-true, length-world_of, world_of-at, world_of-agrees, extension-agrees}
+use Rattle.ps_forms.proofs.Tidy.{by_bool}
+use Rattle.ps_forms.proofs.Worlds.{same_atom, same_number, eq_test-true, length-world_of, world_of-at, world_of-agrees, extension-agrees}
 
 -- without nodes each atom is false
 pub no_nodes : (atoms : ℕ) (w : List Bool) → replicate atoms false ≡ world_of atoms [] w

@@ -8,11 +8,8 @@ use Rattle.ps_formula.specs.declared.node.Node.TheVariants as node
 use Rattle.ps_formula.specs.Nodes.{AreNodes, AtomBelow, truths, value_over}
 use Rattle.ps_formula.proofs.Trees.{length-truths}
 use Rattle.ps_formula.proofs.Different.{values-at}
+use Rattle.ps_forms.proofs.Tidy.{by_bool}
 use Rattle.ps_forms.specs.Extensions.{extension, AgreesAt, AgreeOnAtoms, is_atom, value_from, world_of}
-
-pub by_bool : {P : Type 0} (b : Bool) → (b ≡ true → P) → (b ≡ false → P) → P
-by_bool true t f = t refl
-by_bool false t f = f refl
 
 pub eq_test-true : (i : ℕ) → (i == i) ≡ true
 eq_test-true i = grind arith
