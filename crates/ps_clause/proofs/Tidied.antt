@@ -9,9 +9,6 @@ use Rattle.ps_steps.specs.Weights.{clause_of}
 use Rattle.ps_forms.specs.Clauses.{Clause, once, is_tautology, tidy}
 use Rattle.ps_forms.proofs.Tidy.{by_bool, same_int, met-once}
 
-int_eq-same : (x y : ℤ) → x ≡ y → int_eq x y ≡ true
-int_eq-same x y e = (Decides-int_eq x y).1 e
-
 -- whether the literal has been met
 abbrev pub if_new : ℤ → Bool → Clause → Clause
 if_new y old kept = if old then kept else kept ++ y ∷ []
@@ -25,8 +22,8 @@ append-nil' [] = refl
 append-nil' (l ∷ ls) = ap (λ r. l ∷ r) (append-nil' ls)
 
 swap_eq : (x y : ℤ) (b : Bool) → int_eq x y ≡ b → int_eq y x ≡ b
-swap_eq x y true e = int_eq-same y x (sym (same_int x y e))
-swap_eq x y false e = by_bool (int_eq y x) (λ t. absurd (true≢false (sym (int_eq-same x y (sym (same_int y x t))) ∙ e))) (λ f. f)
+swap_eq x y true e = (Decides-int_eq y x).1 (sym (same_int x y e))
+swap_eq x y false e = by_bool (int_eq y x) (λ t. absurd (true≢false (sym ((Decides-int_eq x y).1 (sym (same_int y x t))) ∙ e))) (λ f. f)
 
 once-more : (c : Clause) (y : ℤ) → once (c ++ y ∷ []) ≡ if_new y (list_any (int_eq y) c) (once c)
 once-more [] y = refl

@@ -112,6 +112,7 @@ fn add_node(
     }
 }
 
+/// The clauses of all nodes, in the nodes' order.
 pub(crate) fn clauses_of_nodes(alloc: Global, nodes: &[Node]) -> Result<List<Constraint>, NoMemory>
     requires sound { AreNodes nodes.now }
     requires most { length nodes.now ≤ most_variables }
@@ -130,6 +131,7 @@ fn is_other(node: &Node) -> bool
     !matches!(node, Node::Atom(_))
 }
 
+/// Whether each node is no atom, in the nodes' order.
 pub(crate) fn others_of(alloc: Global, nodes: &[Node]) -> Result<List<bool>, NoMemory>
     ensures { IfOk result (λ others. others ≡ map is_other nodes.now) }
 {
