@@ -25,7 +25,7 @@ abbrev pub checked_of : ℕ → List Constraint → Bool → Checked
 checked_of variables cs refuted = record { variables = variables; known = known_of cs; refuted = refuted }
 
 -- the answer to a step: taken where nothing refuses it, else the first refusal, or want of memory
-abbrev pub IsStepAnswer : Option StepRefused → Result (Unit {0}) StepRefused → Type 0
-IsStepAnswer o (Ok done) = o ≡ None
-IsStepAnswer o (Err NoMemory) = Unit {0}
-IsStepAnswer o (Err e) = o ≡ Some e
+abbrev pub AnswersStep : Option StepRefused → Result (Unit {0}) StepRefused → Type 0
+AnswersStep o (Ok done) = o ≡ None
+AnswersStep o (Err NoMemory) = Unit {0}
+AnswersStep o (Err e) = o ≡ Some e

@@ -4,7 +4,7 @@ ghost use Rattle.std.specs.Prelude.{true, Some, fold};
 ghost use Rattle.ps_steps.specs.declared.refused.StepRefused.TheVariants.{NoMemory as Lack};
 ghost use Rattle.ps_steps.specs.Weights.{clause_of};
 ghost use Rattle.ps_steps.specs.Steps.{known_of, refusal_of, and_false, Entails, IsUnmet};
-ghost use Rattle.ps_pbcheck.specs.Checked.{first_checked, after_step, IsStepAnswer};
+ghost use Rattle.ps_pbcheck.specs.Checked.{first_checked, after_step, AnswersStep};
 ghost use Rattle.ps_pbcheck.specs.Judged.{AllFalse};
 
 use crate::hints::follow_hints;
@@ -56,7 +56,7 @@ impl Checker {
     /// Takes a step where it is lawful (reverse unit propagation; Goldberg and Novikov, 2003).
     /// Otherwise the first reason is answered, and the checker is unchanged.
     pub fn take(&mut self, s: &Step) -> Result<(), StepRefused>
-        ensures judged { IsStepAnswer (refusal_of self.old.variables self.old.known s.now) result }
+        ensures judged { AnswersStep (refusal_of self.old.variables self.old.known s.now) result }
         ensures ok { OnOk result (self.new ≡ after_step self.old s.now) }
         ensures err { OnErr result (self.new ≡ self.old) }
 
@@ -100,7 +100,7 @@ fn push(known: &mut List<Constraint>, added: Constraint) -> Result<(), StepRefus
     known.push(added).map_err(no_memory)
 }
 
-/// Whether a step is lawful.
+/// Why a step isn't lawful, if it isn't.
 #[tactic(auto, using(ps_steps::proofs::Ids::ids), unfolding(ps_steps::specs::Steps::all_false))]
 fn judge(
     alloc: Global,
@@ -108,7 +108,7 @@ fn judge(
     known: &List<Constraint>,
     s: &Step,
 ) -> Result<(), StepRefused>
-    ensures { IsStepAnswer (refusal_of variables (known_of known.now) s.now) result }
+    ensures { AnswersStep (refusal_of variables (known_of known.now) s.now) result }
 {
     if s.id == 0 || s.id - 1 != known.len() as u64 {
         return Err(StepRefused::IdNotNext);

@@ -41,10 +41,7 @@ pub(crate) fn follow_hints(
 {
     let mut conflict = false;
     for hint in hints {
-        match follow_hint(known, a, conflict, *hint) {
-            Ok(now) => conflict = now,
-            Err(refused) => return Err(refused),
-        }
+        conflict = follow_hint(known, a, conflict, *hint)?;
     }
     if conflict {
         Ok(())
