@@ -1,5 +1,5 @@
 //! The trail.
-ghost use Rattle.std.specs.Prelude.{◌≡◌, ◌≤◌, ◌<◌, [], ◌++◌, ◌∷◌, length, IfOk, ℕ, take};
+ghost use Rattle.std.specs.Prelude.{◌≡◌, ◌≤◌, ◌<◌, [], length, IfOk, ℕ, take};
 ghost use Rattle.std.specs.Prelude.{is_none, if◌then◌else◌};
 ghost use Rattle.ps_steps.specs.Assignments.{value_at};
 ghost use Rattle.ps_learning.specs.Trails.{values, level, decided, implied, up_to};
@@ -35,7 +35,7 @@ impl Model for Trail {
 }
 
 impl Trail {
-    /// Over so many variables, all unset.
+    /// The trail without literals over so many variables.
     pub fn new(alloc: Global, variables: u32) -> Result<Trail, NoMemory>
         ensures { IfOk result (λ t. t ≡ record { variables = variables; entries = [] }) }
     {
@@ -69,7 +69,7 @@ impl Trail {
         self.values
     }
 
-    /// The literals, in the order in which they were set.
+    /// The literals with their reasons and levels, in the order in which they were set.
     pub fn entries(&self) -> &[TrailEntry]
         ensures entries { result.now ≡ self.now.entries }
         ensures fresh { AreFresh self.now.variables self.now.entries }
@@ -153,8 +153,8 @@ impl Trail {
         None
     }
 
-    /// The constraint that forced a variable. `None` where it was decided, is unset, or is out of
-    /// range.
+    /// The id of the constraint that forced a variable. `None` where it was decided, is unset, or is
+    /// out of range.
     pub fn reason_of(&self, var: u32) -> Option<u64>
         ensures { result ≡ reason_of var self.now }
     {
@@ -166,7 +166,7 @@ impl Trail {
         None
     }
 
-    /// The literal at a place, from 0 on.
+    /// The literal at a place, from 0 on. `None` where there is none.
     pub fn at(&self, place: u32) -> Option<Lit>
         ensures { result ≡ lit_at place self.now }
     {
