@@ -1,11 +1,8 @@
 -- One literal more.
 use Rattle.std.proofs.Common.{◌≡◌, ℕ, suc, ℤ, Some, None, List, [], ◌∷◌, ◌++◌, length, ◌∙◌, arith, refl, sym, ap, subst}
-use Rattle.std.specs.List.{All}
 use Rattle.std.proofs.lemmas.List.{append_assoc, append-nil}
 use Rattle.ps_steps.specs.Assignments.{Assignment}
-use Rattle.ps_steps.specs.Constraints.{Constraint}
 use Rattle.ps_steps.specs.Steps.{Known}
-use Rattle.ps_forms.specs.Forms.{IsWithin}
 use Rattle.ps_learn.specs.Rest.{IsLonger}
 use Rattle.ps_learning.specs.Trails.{Trail, TrailEntry, values, values_of, level, decisions, implied, decided, IsReason, IsFresh, AreReasons}
 use Rattle.ps_learning.proofs.Entries.{values-append, reasons-append, length-values}

@@ -8,7 +8,7 @@ use Rattle.ps_steps.specs.Assignments.{Assignment, place, without}
 use Rattle.ps_steps.specs.Constraints.{Constraint}
 use Rattle.ps_steps.specs.Steps.{Known, known_of, constraint_at}
 use Rattle.ps_learning.specs.Trails.{TrailEntry, Trail, values, level, values_of, AreFresh, AreLevels, AreReasons}
-use Rattle.ps_learning.specs.Causes.{Marks, is_marked, AreCovered, IsCoveredAt, AreExplained, IsExplained, IsFalseAt}
+use Rattle.ps_learning.specs.Causes.{Marks, is_marked, AreCovered, IsCoveredAt, AreExplained, IsFalseAt}
 use Rattle.ps_learning.proofs.Entries.{values-cut, fresh-take, length-values}
 use Rattle.ps_learning.specs.Marking.{Grows, AddsFalseIn, AddsFalseAt, AddsReasons}
 use Rattle.ps_learning.proofs.Marking.{grows-refl, grows-trans, grows-set, own-set, covered-grows, explained-end, explained-next, set-by_reason}

@@ -31,9 +31,8 @@ pub(crate) fn mark(marks: &mut [bool], lit: Lit)
 fn mark_cause(term: &(Lit, i128), before: &Assignment, marks: &mut [bool])
     ensures { MarksCause (value_of before.now term.now.0) term.now.0 marks.old marks.new }
 {
-    match before.value_of(term.0) {
-        Some(false) => mark(marks, term.0),
-        _ => {}
+    if let Some(false) = before.value_of(term.0) {
+        mark(marks, term.0);
     }
 }
 

@@ -93,9 +93,8 @@ fn scan_round(known: &[Constraint], a: &Assignment, start: usize) -> Scan
 {
     let start = place_within(start, known.len());
     match scan_part(known, a, start, known.len()) {
-        Scan::Violated(id) => Scan::Violated(id),
-        Scan::Forced(lit, id) => Scan::Forced(lit, id),
         Scan::Idle => scan_part(known, a, 0, start),
+        found => found,
     }
 }
 
