@@ -1,5 +1,5 @@
 -- How a search ends.
-use Rattle.std.proofs.Common.{◌≡◌, ℕ, zero, suc, Bool, true, false, Option, Some, None, List, [], ◌∷◌, ◌++◌, length, get_or, map, refl, sym, ap, ◌∙◌, subst}
+use Rattle.std.proofs.Common.{◌≡◌, ℕ, zero, suc, Bool, true, false, Some, List, [], ◌∷◌, ◌++◌, length, get_or, map, refl, sym, ap, ◌∙◌, subst}
 use Rattle.std.specs.Prelude.{slice_get}
 use Rattle.std.specs.List.{All}
 use Rattle.std.proofs.lemmas.List.Elements.{All-push}
@@ -7,13 +7,14 @@ use Rattle.std.proofs.lemmas.Option.{slice_get-get_or, slice_get_within, get_or_
 use Rattle.ps_steps.specs.Assignments.{Assignment, full, values_of}
 use Rattle.ps_steps.specs.Constraints.{Constraint, IsMet, is_violated}
 use Rattle.ps_steps.specs.Weights.{IsWithin}
-use Rattle.ps_steps.specs.Steps.{Known, known_of, constraint_at, Step, with_step, with_steps, IsLawful, AreLawful, is_contradiction, AreMet}
-use Rattle.ps_steps.proofs.Full.{complete-full, full-met}
+use Rattle.ps_steps.specs.Steps.{Known, known_of, constraint_at, Step, with_steps, IsLawful, AreLawful, is_contradiction, AreMet}
+use Rattle.ps_steps.proofs.Full.{length-full, full-met}
 use Rattle.ps_steps.proofs.Ids.{at-id, at-zero, kept-all}
 use Rattle.ps_steps.proofs.Onward.{lawful-append, ends-append}
 use Rattle.ps_steps.proofs.Lawful.{refutes-unmet}
 use Rattle.ps_forms.specs.Forms.{Form, clause_at, MeetsForm, AreInside, first_known}
-use Rattle.ps_forms.specs.Decided.{IsIdle, AreIdle, AllAreSet, AtomsDecide}
+use Rattle.ps_forms.specs.Decided.{IsIdle, AreIdle, AtomsDecide}
+use Rattle.ps_forms.proofs.Starts.{all-full}
 use Rattle.ps_learn.specs.Rest.{IsDone}
 
 front_get : (cs : List Constraint) (g c : Constraint) (i : ℕ) → slice_get cs i ≡ Some c → slice_get (cs ++ g ∷ []) i ≡ Some c
@@ -29,21 +30,14 @@ by_form : (f : Form) (goal : Constraint) (id : ℕ) (c : Constraint) → clause_
 by_form f goal zero c h = absurd (cc)
 by_form f goal (suc i) c h = at-id (f.clauses ++ goal ∷ []) i ∙ front_get f.clauses goal c i h
 
-complete : (f : Form) (a : Assignment) → length a ≡ f.variables → AllAreSet f a → a ≡ full (values_of a)
-complete f a h s = complete-full a (record { at = λ var some le. s.at var some (rw (← h) le) })
-
-length_full : (w : List Bool) → length (full w) ≡ length w
-length_full [] = refl
-length_full (b ∷ w) = ap suc (length_full w)
-
 -- a search that is done has a full assignment that meets the form and the goal
 pub found : (f : Form) (goal : Constraint) (ss : List Step) (known : Known) (a : Assignment) → known ≡ with_steps (first_known f goal) ss → AtomsDecide f → AreInside f → IsWithin f.variables goal → length a ≡ f.variables → IsDone f known a
     → (w : List Bool) × (a ≡ map Some w) × (length w ≡ f.variables) × MeetsForm w f × IsMet w goal
 found f goal ss known a e decided inside goal_in len done =
     let idle : AreIdle f a = record { at = λ id c h. done.at_rest.at id c (rw e (kept-all (first_known f goal) ss id c (by_form f goal id c h))) } in
-    let q : a ≡ full (values_of a) = complete f a len (decided.all_set a done.atoms idle) in
+    let q : a ≡ full (values_of a) = all-full f a len (decided.all_set a done.atoms idle) in
     let w = values_of a in
-    let wl : length w ≡ f.variables = sym (length_full w) ∙ sym (ap length q) ∙ len in
+    let wl : length w ≡ f.variables = sym (length-full w) ∙ sym (ap length q) ∙ len in
     let own : IsIdle goal a = done.at_rest.at (suc (length f.clauses)) goal (rw e (kept-all (first_known f goal) ss (suc (length f.clauses)) goal (at-id (f.clauses ++ goal ∷ []) (length f.clauses) ∙ last_get f.clauses goal))) in (
       w,
       q,

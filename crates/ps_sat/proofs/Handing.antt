@@ -1,5 +1,5 @@
 -- What holds of the steps that are handed over.
-use Rattle.std.proofs.Common.{◌≡◌, ◌≢◌, ℕ, ◌+◌, ◌<◌, ◌≤◌, ◌^◌, ℤ, Bool, true, false, Option, Some, None, Result, Ok, Err, List, [], ◌∷◌, ◌++◌, length, take, cond, arith, refl, sym, ap, ◌∙◌, subst, unsigned_abs, ◌⊎◌, inl, inr}
+use Rattle.std.proofs.Common.{◌≡◌, ◌≢◌, ℕ, ◌+◌, ◌≤◌, ℤ, Bool, true, false, Option, Some, None, Result, Ok, Err, List, [], ◌∷◌, ◌++◌, length, take, cond, arith, refl, sym, ap, ◌∙◌, subst, ◌⊎◌, inl, inr}
 use Rattle.std.specs.Prelude.{◌==◌, IsErr}
 use Rattle.std.specs.List.{All}
 use Rattle.std.proofs.lemmas.Bool.{eqb-true, false≢true}
@@ -7,7 +7,7 @@ use Rattle.ps_steps.specs.Assignments.{Assignment}
 use Rattle.ps_steps.specs.Constraints.{Constraint, IsMet}
 use Rattle.ps_steps.specs.declared.refused.StepRefused.{StepRefused}
 use Rattle.ps_steps.specs.declared.refused.StepRefused.TheVariants.{IdNotNext}
-use Rattle.ps_steps.specs.Steps.{Known, known_of, next_id, Step, lits_of, hints_of, added, IsLawful, is_contradiction}
+use Rattle.ps_steps.specs.Steps.{known_of, next_id, Step, lits_of, hints_of, added, IsLawful, is_contradiction}
 use Rattle.ps_steps.proofs.Ids.{known_of-length}
 use Rattle.ps_forms.specs.Forms.{Form, MeetsForm}
 use Rattle.ps_log.specs.Logs.{Telling, Starts, Grows}

@@ -1,5 +1,6 @@
 -- What a search answers, and what it hands over.
-use Rattle.std.specs.Prelude.{ℕ, ◌≡◌, ◌≤◌, true, false, Bool, IsTrue, Option, Some, Result, Ok, Err, List, [], ◌∷◌, ◌++◌, map, length, All, ◌⊎◌}
+use Rattle.std.specs.Prelude.{ℕ, ◌≡◌, ◌≤◌, true, false, Bool, IsTrue, Some, Result, Ok, Err, List, [], ◌∷◌, ◌++◌, length, All, ◌⊎◌}
+use Rattle.ps_steps.specs.Assignments.{full}
 use Rattle.ps_steps.specs.Constraints.{Constraint, IsMet}
 use Rattle.ps_steps.specs.Steps.{Step, AreLawful, is_contradiction}
 use Rattle.ps_forms.specs.Forms.{Form, MeetsForm, first_known}
@@ -11,7 +12,7 @@ use Rattle.ps_sat.specs.declared.error.SearchError.{SearchError}
 
 -- what an outcome says of all assignments
 abbrev pub IsOutcome : Form → Constraint → ℕ → Outcome → Type 0
-IsOutcome f goal conflicts (Found a) = (w : List Bool) × (a ≡ map Some w) × (length w ≡ f.variables) × MeetsForm w f × IsMet w goal
+IsOutcome f goal conflicts (Found a) = (w : List Bool) × (a ≡ full w) × (length w ≡ f.variables) × MeetsForm w f × IsMet w goal
 IsOutcome f goal conflicts (Refuted last) = (w : List Bool) → MeetsForm w f → IsMet w goal → ⊥
 IsOutcome f goal conflicts (Spent learned) = learned ≡ conflicts
 

@@ -92,7 +92,7 @@ impl Order {
 
     fn scale_down(&mut self) {
         for place in 0..self.activities.len() {
-            self.activities[place] = self.activities[place] >> SCALE;
+            self.activities[place] >>= SCALE;
         }
         self.gain >>= SCALE;
     }
@@ -114,17 +114,11 @@ impl Order {
     }
 
     fn activity(&self, place: u32) -> u64 {
-        match self.activities.get(place as usize) {
-            None => 0,
-            Some(activity) => *activity,
-        }
+        self.activities.get(place as usize).copied().unwrap_or(0)
     }
 
     fn value(&self, place: u32) -> bool {
-        match self.values.get(place as usize) {
-            None => true,
-            Some(value) => *value,
-        }
+        self.values.get(place as usize).copied().unwrap_or(true)
     }
 }
 

@@ -1,5 +1,4 @@
-use Rattle.std.proofs.Common.{arith}
-use Rattle.ps_sat.proofs.Atoms.{chosen-none, chosen-skip, chosen-more, none-open, chosen-decision, chosen-within}
+use Rattle.ps_sat.proofs.Atoms.{chosen-none, chosen-decision}
 use Rattle.ps_sat.proofs.order.Order.choose.Goals as goal
 
 pub loop-place-init : goal.loop-place-init
