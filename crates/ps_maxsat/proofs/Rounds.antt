@@ -18,7 +18,7 @@ use Rattle.ps_sat.specs.declared.searching.Outcome.TheVariants.{Found, Refuted, 
 use Rattle.ps_sat.proofs.Going.{handed_told, handed_stays}
 use Rattle.ps_maxsat.specs.declared.problem.Wcnf.{Wcnf}
 use Rattle.ps_maxsat.specs.declared.pricing.Priced.{Priced}
-use Rattle.ps_maxsat.specs.Values.{value, goal_of, IsOf, NoneIsAbove, HoldsSearch, HoldsFound, HoldsRefutation, HoldsLast, HoldsSteps, HoldsSome, IsGoal, most, IsLogAfterFailed, IsLogAfterError, IsGoalLogged, IsBestLogged}
+use Rattle.ps_maxsat.specs.Values.{value, goal_of, IsOf, NoneIsAbove, HoldsSearch, HoldsFound, HoldsRefutation, HoldsLast, HoldsSteps, HoldsSome, IsGoal, most_value, IsLogAfterFailed, IsLogAfterError, IsGoalLogged, IsBestLogged}
 use Rattle.ps_steps.proofs.Within.{constraint-within}
 use Rattle.ps_log.specs.Logs.{Telling, Stays}
 
@@ -72,7 +72,7 @@ pub spent-is : (p : Wcnf) (least : ℤ) (conflicts : ℕ) (o : Outcome) (learned
 spent-is p least conflicts o learned e out = let same : learned ≡ conflicts = subst (λ x. IsOutcome p.hard (goal_of p least) conflicts x) e out in e ∙ ap Spent same
 
 -- the goal of a later search
-pub later-goal : (p : Wcnf) (found m least bound : ℤ) → least ≡ m → pos 1 ≤ℤ found → found <ℤ m → m ≤ℤ bound → bound ≤ℤ most p → IsGoal p least
+pub later-goal : (p : Wcnf) (found m least bound : ℤ) → least ≡ m → pos 1 ≤ℤ found → found <ℤ m → m ≤ℤ bound → bound ≤ℤ most_value p → IsGoal p least
 later-goal p found m least bound e some up within none = inr (omega (arith, ints, e, some, up), omega (arith, ints, e, within, none))
 
 -- an assignment was found by the search that the log holds

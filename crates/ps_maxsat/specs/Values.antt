@@ -1,6 +1,6 @@
 -- Values of assignments, and which is the greatest.
-use Rattle.std.specs.Prelude.{ℕ, ◌≡◌, ◌≤◌, ◌<◌, ◌+◌, ℤ, pos, ◌+ℤ◌, ◌-ℤ◌, ◌≤ℤ◌, ◌<ℤ◌, Bool, Some, Result, Ok, Err, List, map, length, All, ◌⊎◌}
-use Rattle.ps_steps.specs.Assignments.{Assignment, place}
+use Rattle.std.specs.Prelude.{ℕ, ◌≡◌, ◌≤◌, ◌<◌, ◌+◌, ℤ, pos, ◌+ℤ◌, ◌-ℤ◌, ◌≤ℤ◌, ◌<ℤ◌, Bool, Result, Ok, Err, List, length, All, ◌⊎◌}
+use Rattle.ps_steps.specs.Assignments.{Assignment, place, full}
 use Rattle.ps_steps.specs.Constraints.{Constraint}
 use Rattle.ps_steps.specs.Weights.{true_weight, constraint_of}
 use Rattle.ps_forms.specs.Forms.{MeetsForm}
@@ -21,11 +21,11 @@ value p w = p.base +ℤ true_weight w p.soft
 
 -- a number is the value of an assignment, where that is a full one over the soft literals' variables
 abbrev pub IsValueOfFull : Wcnf → Assignment → ℤ → Type 0
-IsValueOfFull p a v = (w : List Bool) → a ≡ map Some w → All (λ t. place t.0 < length w) p.soft → v ≡ value p w
+IsValueOfFull p a v = (w : List Bool) → a ≡ full w → All (λ t. place t.0 < length w) p.soft → v ≡ value p w
 
--- no value is greater
-abbrev pub most : Wcnf → ℤ
-most p = p.base +ℤ sum_of weight_if_positive p.soft
+-- what no value is above: the base plus the positive weights
+abbrev pub most_value : Wcnf → ℤ
+most_value p = p.base +ℤ sum_of weight_if_positive p.soft
 
 -- the goal of a search for a value of at least so much
 abbrev pub goal_of : Wcnf → ℤ → Constraint
@@ -33,11 +33,11 @@ goal_of p least = constraint_of p.soft (least -ℤ p.base)
 
 -- what a search is for: a value of at least 1, or of at least a greater goal, which the positive weights reach
 abbrev pub IsGoal : Wcnf → ℤ → Type 0
-IsGoal p least = (least ≡ pos 1) ⊎ ((pos 1 <ℤ least) × (least ≤ℤ most p))
+IsGoal p least = (least ≡ pos 1) ⊎ ((pos 1 <ℤ least) × (least ≤ℤ most_value p))
 
 -- a full assignment that meets the clauses, and has this value
 abbrev pub IsOf : Wcnf → Assignment → ℤ → Type 0
-IsOf p a v = (w : List Bool) × (a ≡ map Some w) × (length w ≡ p.hard.variables) × MeetsForm w p.hard × (v ≡ value p w)
+IsOf p a v = (w : List Bool) × (a ≡ full w) × (length w ≡ p.hard.variables) × MeetsForm w p.hard × (v ≡ value p w)
 
 -- each assignment that meets the clauses has at most this value
 abbrev pub NoneIsAbove : Wcnf → ℤ → Type 0
@@ -47,7 +47,7 @@ NoneIsAbove p v = (w : List Bool) → MeetsForm w p.hard → value p w ≤ℤ v
 abbrev pub IsPriced : Wcnf → ℕ → Priced → Type 0
 IsPriced p conflicts (NoneAbove last) = NoneIsAbove p (pos 0)
 IsPriced p conflicts (Best a v searches) = IsOf p a v × (pos 1 ≤ℤ v) × NoneIsAbove p v × (1 ≤ searches) × (searches ≤ most_searches)
-IsPriced p conflicts (Cut a v goal searches) = IsOf p a v × (pos 1 ≤ℤ v) × (v <ℤ goal) × (goal ≤ℤ most p) × (2 ≤ searches) × (searches ≤ most_searches)
+IsPriced p conflicts (Cut a v goal searches) = IsOf p a v × (pos 1 ≤ℤ v) × (v <ℤ goal) × (goal ≤ℤ most_value p) × (2 ≤ searches) × (searches ≤ most_searches)
 IsPriced p conflicts (Spent learned) = learned ≡ conflicts
 
 -- the log holds the search of a goal with this end

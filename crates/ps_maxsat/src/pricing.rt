@@ -7,8 +7,7 @@ ghost use Rattle.ps_sat.specs.Searches.{IsOutcome};
 ghost use Rattle.ps_maxsat.specs.Limits.{most_total, IsNarrow, IsSoftWithin};
 ghost use Rattle.ps_maxsat.specs.Values.{goal_of, IsPriced, IsGoalLogged, IsBestLogged};
 
-use crate::problem::{Wcnf, most, value};
-use ps_clause::ClauseForm;
+use crate::problem::{Wcnf, most_value, value};
 use ps_log::ProofSink;
 use ps_pb::{Assignment, from_weights};
 use ps_sat::{Outcome, SearchError, search};
@@ -22,21 +21,23 @@ pub enum Priced {
     NoneAbove {
         last: u64,
     },
-    /// This one has a value of at least 1, and none has a greater one.
+    /// This assignment has this value, which is at least 1, and none has a greater one. So many
+    /// searches were made.
     Best {
         assignment: Assignment,
         value: i128,
         searches: u32,
     },
-    /// This one has a value of at least 1, and the search for a value of at least the goal, which
-    /// is above it, and not above `most`, was spent.
+    /// This assignment has this value, which is at least 1. The last of so many searches was spent:
+    /// that for a value of at least the goal, which is above this value, and not above the base plus
+    /// the positive weights.
     Cut {
         assignment: Assignment,
         value: i128,
         goal: i128,
         searches: u32,
     },
-    /// The search for a value of at least 1 was spent.
+    /// The search for a value of at least 1 was spent, when it had learned so many clauses.
     Spent {
         learned: u64,
     },
@@ -127,7 +128,7 @@ pub fn best<S: ProofSink>(
             (assignment, found)
         }
     };
-    let mut bound = most(wcnf);
+    let mut bound = most_value(wcnf);
     let mut searches = 1;
     while found < bound {
         let goal = middle(found, bound);

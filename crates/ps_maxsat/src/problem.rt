@@ -1,14 +1,13 @@
 //! Clauses, and weighted literals.
-ghost use Rattle.std.specs.Prelude.{◌≡◌, ◌≤◌, ◌<◌, ◌+◌, ◌+ℤ◌, ◌↔◌, unsigned_abs, IsTrue, All};
+ghost use Rattle.std.specs.Prelude.{◌≡◌, ◌≤◌, ◌<◌, ◌+ℤ◌, ◌↔◌, unsigned_abs, IsTrue, All};
 ghost use Rattle.ps_steps.specs.Assignments.{place};
-ghost use Rattle.ps_steps.specs.Weights.{size_sum};
 ghost use Rattle.ps_maxsat.specs.Limits.{IsNarrow, IsSoftWithin, most_total};
 ghost use Rattle.ps_maxsat.specs.Sums.{sum_of, weight_in, weight_if_positive};
-ghost use Rattle.ps_maxsat.specs.Values.{most, IsValueOfFull, NoneIsAbove};
+ghost use Rattle.ps_maxsat.specs.Values.{most_value, IsValueOfFull, NoneIsAbove};
 
 use crate::limits::MOST_TOTAL;
 use ps_clause::ClauseForm;
-use ps_pb::{Assignment, Lit, WeightedLits};
+use ps_pb::{Assignment, Lit, WeightedLits, sizes_fit};
 
 /// Clauses that are to be met, and literals with weights. The value of a full assignment is the
 /// base plus the weights of the soft literals that are true.
@@ -23,11 +22,11 @@ pub struct Wcnf {
 }
 
 impl Wcnf {
-    /// Whether the sizes of the weights and of the base sum to at most 2^120.
+    /// Whether the sizes of the weights and of the base sum to at most `MOST_TOTAL`.
     pub fn is_narrow(&self) -> bool
         ensures { IsTrue result ↔ IsNarrow self.now }
     {
-        sum_fits(self.soft.as_slice(), &self.base)
+        sizes_fit(self.soft.as_slice(), &self.base, MOST_TOTAL)
     }
 
     /// Whether the soft literals are of the variables of the clauses.
@@ -36,19 +35,6 @@ impl Wcnf {
     {
         are_within(self.soft.as_slice(), self.hard.variables() as usize)
     }
-}
-
-fn sum_fits(soft: &[(Lit, i128)], base: &i128) -> bool
-    ensures { IsTrue result ↔ (size_sum soft.now + unsigned_abs base.now ≤ most_total) }
-{
-    let mut sum = base.unsigned_abs();
-    for term in soft {
-        if MOST_TOTAL < sum {
-            return false;
-        }
-        sum += term.1.unsigned_abs();
-    }
-    sum <= MOST_TOTAL
 }
 
 fn are_within(soft: &[(Lit, i128)], variables: usize) -> bool
@@ -87,9 +73,9 @@ pub(crate) fn value(wcnf: &Wcnf, a: &Assignment) -> i128
 }
 
 /// What no value is above: the base plus the positive weights.
-pub(crate) fn most(wcnf: &Wcnf) -> i128
+pub(crate) fn most_value(wcnf: &Wcnf) -> i128
     requires { IsNarrow wcnf.now }
-    ensures value { result ≡ most wcnf.now }
+    ensures value { result ≡ most_value wcnf.now }
     ensures above { NoneIsAbove wcnf.now result }
     ensures size { unsigned_abs result ≤ most_total }
 {

@@ -23,17 +23,17 @@ pub loop-found-init : goal.loop-found-init
 loop-found-init g c =
     let v : ℤ = to_z w128 (of_z w128 (to_z w128 (of_z w128 c.value-found.result))) in
     let same : v ≡ c.value-found.result = omega (arith, ints, c.value-found.ensures.size) in
-    let b : to_z w128 (of_z w128 c.most-bound.result) ≡ c.most-bound.result = omega (arith, ints, c.most-bound.ensures.size) in
+    let b : to_z w128 (of_z w128 c.most_value-bound.result) ≡ c.most_value-bound.result = omega (arith, ints, c.most_value-bound.ensures.size) in
     let found = found-of c.args.wcnf.now (pos 1) c.args.conflicts c.in_ok-last.field-0 c.in-Found.assignment v c.value-found.result c.in-Found.is c.in_ok-last.ensures.outcome c.value-found.ensures.full c.requires.soft same in
     record {
       own = found.own;
       least = found.up;
-      none = none-same c.args.wcnf.now c.most-bound.result (to_z w128 (of_z w128 c.most-bound.result)) c.most-bound.ensures.above (omega (arith, ints, b));
-      within = omega (arith, ints, b, c.most-bound.ensures.value);
+      none = none-same c.args.wcnf.now c.most_value-bound.result (to_z w128 (of_z w128 c.most_value-bound.result)) c.most_value-bound.ensures.above (omega (arith, ints, b));
+      within = omega (arith, ints, b, c.most_value-bound.ensures.value);
       some = omega arith;
-      halved = halved-first v (to_z w128 (of_z w128 c.most-bound.result)) found.up (omega (arith, ints, b, c.most-bound.ensures.size));
+      halved = halved-first v (to_z w128 (of_z w128 c.most_value-bound.result)) found.up (omega (arith, ints, b, c.most_value-bound.ensures.size));
       found_size = omega (arith, ints, same, c.value-found.ensures.size);
-      bound_size = omega (arith, ints, b, c.most-bound.ensures.size);
+      bound_size = omega (arith, ints, b, c.most_value-bound.ensures.size);
       logged = inl (held-found c.args.wcnf.now (pos 1) v c.args.conflicts _ _ _ c.in_ok-last.field-0 c.in-Found.assignment c.in-Found.is (inl refl) found.up (λ b. b) c.in_ok-last.ensures.logged);
       telling = c.in_ok-last.ensures.telling;
       whole = c.in_ok-last.ensures.whole;

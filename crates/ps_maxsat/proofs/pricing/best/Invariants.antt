@@ -1,6 +1,6 @@
 use Rattle.std.proofs.Common.{◌≡◌, ◌≤◌, ◌^◌, ◌-◌, unsigned_abs, pos, ◌≤ℤ◌}
 use Rattle.std.specs.Prelude.{IsTrue}
-use Rattle.ps_maxsat.specs.Values.{IsOf, NoneIsAbove, HoldsLast, most}
+use Rattle.ps_maxsat.specs.Values.{IsOf, NoneIsAbove, HoldsLast, most_value}
 use Rattle.ps_maxsat.proofs.Halving.{IsHalved}
 use Rattle.ps_maxsat.proofs.pricing.best.Given as goal
 
@@ -9,7 +9,7 @@ invariant-loop-found g l = record {
   own : IsOf l.wcnf l.assignment l.found;
   least : pos 1 ≤ℤ l.found;
   none : NoneIsAbove l.wcnf l.bound;
-  within : l.bound ≤ℤ most l.wcnf;
+  within : l.bound ≤ℤ most_value l.wcnf;
   some : 1 ≤ l.searches;
   halved : IsHalved l.found l.bound l.searches;
   found_size : unsigned_abs l.found ≤ 2 ^ 120;
