@@ -1,7 +1,8 @@
 //! The pricings on the way to the lower bound of a chain's last atom: the first atom has a
 //! probability of at least 9/10, each implication from an atom to the next one of at least 99/100.
-ghost use Rattle.std.specs.Prelude.{◌<◌, ◌≤◌, length};
+ghost use Rattle.std.specs.Prelude.{◌<◌, ◌≤◌, ◌+◌, length};
 ghost use Rattle.ps_formula.specs.Nodes.{Fits};
+ghost use Rattle.search_trials.specs.declared.chain.TheConstants.{LINKS};
 
 use ps_clause::{ClauseForm, clauses_of};
 use ps_formula::{AddError, Formulas, Node};
@@ -54,10 +55,10 @@ fn chain(alloc: Global) -> Result<ClauseForm, NoMemory> {
 // The problem after so many bounds, the last implication's first and the first atom's last, weigh as
 // much as the last atom: which world's column improves.
 fn problem(alloc: Global, bounds: u16) -> Result<Wcnf, NoMemory>
-    requires { bounds ≤ 91 }
+    requires { bounds ≤ LINKS + 1 }
 {
     let mut soft = List::new(alloc);
-    soft.push((Lit::of_place(179, true), -100))?;
+    soft.push((Lit::of_place(LINKS as usize * 2 - 1, true), -100))?;
     for bound in 0..bounds {
         let place = (LINKS - bound) as usize * 2;
         soft.push((Lit::of_place(place, true), 100))?;
@@ -71,7 +72,7 @@ fn problem(alloc: Global, bounds: u16) -> Result<Wcnf, NoMemory>
 
 // What the greatest value after so many bounds is.
 fn priced(alloc: Global, bounds: u16) -> Result<Option<Priced>, SearchError>
-    requires { bounds ≤ 91 }
+    requires { bounds ≤ LINKS + 1 }
 {
     let wcnf = problem(alloc, bounds)?;
     if !wcnf.is_narrow() || !wcnf.is_soft_within() {

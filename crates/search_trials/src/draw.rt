@@ -8,6 +8,7 @@ pub struct Draw {
 }
 
 impl Draw {
+    /// The sequence from a seed.
     pub fn new(seed: u64) -> Draw {
         Draw { state: seed }
     }
@@ -24,6 +25,7 @@ impl Draw {
         (self.state >> 33) % bound
     }
 
+    /// True or false.
     pub fn coin(&mut self) -> bool {
         self.below(2) == 1
     }

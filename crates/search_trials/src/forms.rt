@@ -103,8 +103,8 @@ pub fn pigeons(alloc: Global) -> Result<ClauseForm, NoMemory> {
         some_hole(&mut form, pigeon)?;
     }
     for hole in 0..5u32 {
-        for pigeon in 0..30u32 {
-            alone(&mut form, hole, pigeon / 6, pigeon % 6)?;
+        for pair in 0..36u32 {
+            alone(&mut form, hole, pair / 6, pair % 6)?;
         }
     }
     Ok(form)
@@ -132,7 +132,7 @@ fn some_hole(form: &mut ClauseForm, pigeon: u32) -> Result<(), NoMemory>
     add(form, &lits)
 }
 
-// A pigeon and a later one don't both sit in a hole.
+// A pigeon and another one don't both sit in a hole, where the other is a later one.
 fn alone(form: &mut ClauseForm, hole: u32, pigeon: u32, other: u32) -> Result<(), NoMemory> {
     if hole < 5 && pigeon < other && other < 6 {
         add(form, &[sits(pigeon, hole, false), sits(other, hole, false)])?;

@@ -32,21 +32,16 @@ enum Command {
 }
 
 fn command_of(rt: &HostRuntime) -> anyhow::Result<Command> {
-    let mut command = Command::Trials;
-    let mut place = 0usize;
-    for word in env::args(rt)? {
-        if place == 1 {
-            command = match word.as_str() {
-                "sixty" => Command::Sixty,
-                "pigeons" => Command::Pigeons,
-                "forty" => Command::Forty,
-                "chain" => Command::Chain,
-                _ => Command::Trials,
-            };
-        }
-        place = place.wrapping_add(1);
-    }
-    Ok(command)
+    let Some(word) = env::args(rt)?.nth(1) else {
+        return Ok(Command::Trials);
+    };
+    Ok(match word.as_str() {
+        "sixty" => Command::Sixty,
+        "pigeons" => Command::Pigeons,
+        "forty" => Command::Forty,
+        "chain" => Command::Chain,
+        _ => Command::Trials,
+    })
 }
 
 fn main(rt: HostRuntime) -> anyhow::Result<()> {

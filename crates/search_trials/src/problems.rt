@@ -8,7 +8,7 @@ use ps_clause::ClauseForm;
 use ps_io::List;
 use ps_log::HeldLog;
 use ps_maxsat::{Priced, Wcnf, best};
-use ps_pb::Lit;
+use ps_pb::{Lit, MOST_VARIABLES};
 use ps_sat::{MOST_CONFLICTS, SearchError};
 use std::alloc::Global;
 
@@ -70,7 +70,7 @@ fn weight(draw: &mut Draw) -> i64 {
 impl Problem {
     // The form of its clauses.
     fn hard(&self, alloc: Global) -> Result<ClauseForm, SearchError> {
-        let mut hard = ClauseForm::new(alloc, self.variables.min(1024));
+        let mut hard = ClauseForm::new(alloc, self.variables.min(MOST_VARIABLES));
         for clause in self.clauses.as_slice() {
             add(&mut hard, &[clause.0, clause.1, clause.2])?;
         }

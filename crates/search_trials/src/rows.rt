@@ -1,5 +1,5 @@
 //! Four clauses over two variables that nothing meets, over a log in memory and logs of lines.
-ghost use Rattle.std.specs.Prelude.{◌≡◌, ◌≤◌, [], IsTrue};
+ghost use Rattle.std.specs.Prelude.{◌≡◌, ◌≤◌, []};
 ghost use Rattle.ps_steps.specs.Weights.{IsWithin};
 ghost use Rattle.ps_sat.specs.Limits.{most_conflicts};
 
@@ -18,14 +18,16 @@ const NO_GOAL: &[u8] = b"g 0 0\n";
 // Whether the first of two variables is to be true in a clause, and whether the second is.
 const SIGNS: [(bool, bool); 4] = [(true, true), (true, false), (false, true), (false, false)];
 
+// Adds the clause of a literal of each variable.
+fn add_both(form: &mut ClauseForm, first: bool, second: bool) -> Result<(), NoMemory> {
+    add(form, &[Lit::of_place(0, first), Lit::of_place(1, second)])
+}
+
 /// Each clause of two literals of two variables.
 fn all_four(alloc: Global) -> Result<ClauseForm, NoMemory> {
     let mut form = ClauseForm::new(alloc, 2);
     for (first, second) in SIGNS {
-        add(
-            &mut form,
-            &[Lit::of_place(0, first), Lit::of_place(1, second)],
-        )?;
+        add_both(&mut form, first, second)?;
     }
     Ok(form)
 }
