@@ -27,6 +27,7 @@ pub use limits::{
     MOST_HINTS, MOST_LITS, is_goal_within, is_step_within, limits_have_these_numbers,
 };
 pub use line_error::{GoalError, LineError, StepError};
+pub use numbers::add_number;
 pub use numeral::{is_plain, without_minus};
 pub use ps_io::{Lines, Sink, WriteFault};
 pub use ps_pb::{Constraint, Step, Steps};
@@ -35,3 +36,4 @@ pub use sink::ProofSink;
 pub use step_reader::read_step;
 pub use text::{write_goal, write_step};
 pub use text_log::TextLog;
+pub use words::{split_once, split_word};

@@ -6,8 +6,9 @@ ghost use Rattle.ps_log.specs.Texts.{hint_numbers, term_numbers, step_numbers, g
 use ps_io::{LONGEST_LINE, Lines, Sink};
 use ps_pb::Lit;
 
+/// Adds a number to the line.
 #[tactic(auto, using(crate::proofs::ManyNumbers::word_fits))]
-fn add_number<O: Sink>(lines: &mut Lines<'_, O>, n: i128)
+pub fn add_number<O: Sink>(lines: &mut Lines<'_, O>, n: i128)
     requires { length_with lines.old (n ∷ []) < LONGEST_LINE }
     ensures { AddsNumbers lines.old lines.new (n ∷ []) }
 {

@@ -26,7 +26,7 @@ pub(crate) fn numbers(alloc: Global, text: &[u8]) -> Result<Option<List<i128>>, 
 }
 
 /// The bytes before the first space, and those after it if there is one.
-pub(crate) fn split_word(text: &[u8]) -> (&[u8], Option<&[u8]>)
+pub fn split_word(text: &[u8]) -> (&[u8], Option<&[u8]>)
     ensures words { words_of text.now ≡ result.0.now ∷ words_after (option_copied result.1) }
     ensures shorter { left_of (option_copied result.1) ≤ length text.now }
 {
@@ -37,7 +37,7 @@ pub(crate) fn split_word(text: &[u8]) -> (&[u8], Option<&[u8]>)
 }
 
 /// The bytes before the first separator, and those after it.
-pub(crate) fn split_once(bytes: &[u8], separator: u8) -> Option<(&[u8], &[u8])>
+pub fn split_once(bytes: &[u8], separator: u8) -> Option<(&[u8], &[u8])>
     ensures found { IfSome result (λ r. IsCut bytes.now separator r.0.now r.1.now) }
     ensures none { IfNone result (Lacks separator bytes.now) }
 {
