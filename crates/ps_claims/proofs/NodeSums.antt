@@ -1,7 +1,8 @@
 -- Combinations over nodes have at a world's extension the values of combinations in the world.
-use Rattle.std.proofs.Common.{◌≡◌, ℕ, ◌<◌, ℤ, pos, ◌+ℤ◌, ◌-ℤ◌, ◌*ℤ◌, neg_ℤ, Bool, true, false, cond, ◌&&◌, Option, Some, None, List, [], ◌∷◌, ◌++◌, length, map, All, refl, sym, ap, ◌∙◌, arith}
+use Rattle.std.proofs.Common.{◌≡◌, ℕ, ◌<◌, ℤ, pos, ◌+ℤ◌, ◌-ℤ◌, ◌*ℤ◌, neg_ℤ, Bool, true, false, cond, Option, Some, None, List, [], ◌∷◌, ◌++◌, length, map, All, refl, sym, ap, ◌∙◌, arith}
 use Rattle.std.specs.Option.{IfSome}
 use Rattle.std.proofs.lemmas.Int.{ints}
+use Rattle.std.proofs.Math.Bool.{and-true}
 use Rattle.std.proofs.lemmas.List.{get_or_default}
 use Rattle.std.proofs.lemmas.List.Elements.{All-head, All-tail}
 use Rattle.ps_meaning.specs.Formula.{World, And, is_true}
@@ -46,13 +47,9 @@ value-condition : (ns : List Node) (w : World) (k : ℤ) (given : Option ℕ) �
 value-condition ns w k None there = omega (arith, ints, mul-one k)
 value-condition ns w k (Some g) there = value-node ns w k g there
 
-and_true : (b : Bool) → b && true ≡ b
-and_true true = refl
-and_true false = refl
-
 -- the node for formula and condition together is true where both are
 pub both-indicator : (ns : List Node) (w : World) (formula : ℕ) (given : Option ℕ) (both : ℕ) → IsBoth ns formula given both → indicator (tree_at ns both) w ≡ indicator (And (tree_at ns formula) (given_at ns given)) w
-both-indicator ns w formula None both e = rw (e, and_true (is_true (tree_at ns formula) w)) refl
+both-indicator ns w formula None both e = rw (e, and-true (is_true (tree_at ns formula) w)) refl
 both-indicator ns w formula (Some g) both e = ap (λ f. indicator f w) e
 
 value-both : (ns : List Node) (w : World) (k : ℤ) (formula : ℕ) (given : Option ℕ) (both : ℕ) → HasNodes ns formula given both

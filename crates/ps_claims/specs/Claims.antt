@@ -50,7 +50,7 @@ claims_from n (q ∷ qs) (a ∷ parts) = part_claims n q a ++ claims_from (suc n
 abbrev pub claims_of : Parts → Answer Dual → List (Claim × Assertion)
 claims_of p a = verdict_claims a.verdict ++ claims_from 1 (asked_under a.verdict p.queries) a.parts
 
--- what is open: a verdict, a side of a query, or a query
+-- how much is open in a verdict: 1 where it is open, else 0
 abbrev pub open_in_verdict : Verdict Dual → ℕ
 open_in_verdict OpenVerdict = 1
 open_in_verdict other = 0
@@ -66,7 +66,7 @@ open_in_part (Interval lower upper) = open_in_side lower + open_in_side upper
 open_in_part (Impossible d) = 0
 open_in_part OpenQuery = 1
 
--- how much of an answer is open
+-- how much of an answer is open: its verdict and its parts
 abbrev pub unfinished_of : Answer Dual → ℕ
 unfinished_of a = open_in_verdict a.verdict + sum (map open_in_part a.parts)
 
@@ -146,7 +146,7 @@ abbrev pub HasEvidence : Parts → Assertion → Type 0
 HasEvidence p (Bounded kind q value m d) = weight m.worlds (given_at p.nodes q.given) ≢ pos 0
 HasEvidence p other = Unit {0}
 
--- and the value is what the model gives
+-- where a value is claimed, it is what the model gives the query
 abbrev pub HasValue : Parts → Assertion → Type 0
 HasValue p (Bounded kind q value m d) = MeetsBound (bound_on (query_of p.nodes q) Exactly value) m.worlds
 HasValue p other = Unit {0}

@@ -24,7 +24,7 @@ abbrev pub DualsExcludeAll : Type 0
 DualsExcludeAll = (atoms : ℕ) (bounds : List Bound) (q : Query) (d : Dual) → HaveSigns bounds d.rows → HasNothingHead d
     → IsNeverAbove atoms (combination Nothing bounds q d) → IsImpossible atoms bounds q.evidence
 
--- it shows so of those bounds alone whose multiplier isn't 0
+-- it shows so of the bounds that are kept, where each is whose multiplier isn't 0
 abbrev pub KeptBoundsExcludeAll : Type 0
 KeptBoundsExcludeAll = (atoms : ℕ) (kept : List Bool) (bounds : List Bound) (q : Query) (d : Dual) → HaveSigns bounds d.rows → AreZeroElsewhere kept d.rows
     → HasNothingHead d → IsNeverAbove atoms (combination Nothing bounds q d) → IsImpossible atoms (kept_of kept bounds) q.evidence
@@ -34,7 +34,7 @@ abbrev pub DualsBoundBelow : Type 0
 DualsBoundBelow = (atoms : ℕ) (bounds : List Bound) (q : Query) (value : Rational) (d : Dual) → HaveSigns bounds d.rows → HasValueHead value d
     → IsNeverAbove atoms (combination Lower bounds q d) → Holds atoms bounds q AtLeast value
 
--- or at most the value
+-- a dual whose head over its top is the value shows that the query's probability is at most the value
 abbrev pub DualsBoundAbove : Type 0
 DualsBoundAbove = (atoms : ℕ) (bounds : List Bound) (q : Query) (value : Rational) (d : Dual) → HaveSigns bounds d.rows → HasValueHead value d
     → IsNeverAbove atoms (combination Upper bounds q d) → Holds atoms bounds q AtMost value

@@ -3,7 +3,7 @@
 /// What a dual shows.
 #[derive(Clone, Copy, PartialEq, Eq, Debug, Drop)]
 pub enum ClaimKind {
-    /// That no distribution is allowed that gives the evidence positive probability.
+    /// That no distribution that meets the bounds gives the evidence positive probability.
     Nothing,
     /// That a value is a lower bound of a query.
     Lower,
