@@ -104,7 +104,7 @@ query_due (query.Open (Pivots m)) es due xs h = open_due (Pivots m) es due xs h
 query_due (query.Open (Conflicts m g ss)) es due xs h = open_due (Conflicts m g ss) es due xs h
 query_due (query.Open (Wide at)) es due xs h = open_due (Wide at) es due xs h
 
-same_number : (j : ℕ) → (j == j) ≡ true
+pub same_number : (j : ℕ) → (j == j) ≡ true
 same_number j = grind arith
 
 parts_due : (j : ℕ) (ps : List QueryPart) → ArePartsCounted ps → due_behind (AQuery j ∷ []) (part_items j ps ++ line.End ∷ []) ≡ Some []

@@ -124,11 +124,11 @@ spell_length [] (v ∷ vs) s = absurd s
 spell_length (w ∷ ws) [] s = absurd s
 spell_length (w ∷ ws) (v ∷ vs) s = ap suc (spell_length ws vs s.1)
 
-spelled_numbers : (ws : List (List ℕ)) (zs : List ℤ) → SpellWords ws (map Number zs) → SpellAll ws zs
-spelled_numbers [] [] s = tt
-spelled_numbers [] (z ∷ zs) s = absurd s
-spelled_numbers (w ∷ ws) [] s = absurd s
-spelled_numbers (w ∷ ws) (z ∷ zs) s = (s.0, spelled_numbers ws zs s.1)
+pub numbers_spelled : (ws : List (List ℕ)) (zs : List ℤ) → SpellWords ws (map Number zs) → SpellAll ws zs
+numbers_spelled [] [] s = tt
+numbers_spelled [] (z ∷ zs) s = absurd s
+numbers_spelled (w ∷ ws) [] s = absurd s
+numbers_spelled (w ∷ ws) (z ∷ zs) s = (s.0, numbers_spelled ws zs s.1)
 
 abbrev pub step_in : Option Step → Step
 step_in None = record { id = 0; lits = []; hints = [] }
@@ -273,19 +273,19 @@ item_in text w ws = under (
 
 step_is : (text : List ℕ) (ws : List (List ℕ)) (s : Step) → words_of text ≡ (115 ∷ []) ∷ ws → SpellWords ws (map Number (step_numbers s.id s.lits s.hints)) → IsTold (line.StepLine s)
     → step_in (step_of text) ≡ s
-step_is text ws s e h p = ap step_in (text-step text s (record { spellings = ws; words = e; spelled = spelled_numbers ws (step_numbers s.id s.lits s.hints) h; nonzero = p }))
+step_is text ws s e h p = ap step_in (text-step text s (record { spellings = ws; words = e; spelled = numbers_spelled ws (step_numbers s.id s.lits s.hints) h; nonzero = p }))
 
 goal_is : (text : List ℕ) (ws : List (List ℕ)) (g : Constraint) → words_of text ≡ (103 ∷ []) ∷ ws → SpellWords ws (map Number (goal_numbers g.degree (weighted g.terms))) → IsTold (line.GoalLine g)
     → goal_in (goal_of text) ≡ g
 goal_is text ws g e h p =
-    ap goal_in (text-goal text g (record { spellings = ws; words = e; spelled = spelled_numbers ws (goal_numbers g.degree (weighted g.terms)) h; positive = p.0; rising = p.1 }))
+    ap goal_in (text-goal text g (record { spellings = ws; words = e; spelled = numbers_spelled ws (goal_numbers g.degree (weighted g.terms)) h; positive = p.0; rising = p.1 }))
 
 wrong_length : {P : Type 0} (ws : List (List ℕ)) (vs : List Word) → SpellWords ws vs → (length ws ≡ length vs → ⊥) → P
 wrong_length ws vs s h = absurd (h (spell_length ws vs s))
 
-no_place : {P : Type 0} (p : Place) (vs : List Word) → SpellWords [] (place_words p ++ vs) → P
-no_place (place.Ratio i) vs s = absurd s
-no_place p vs s = absurd s
+pub no_word : {P : Type 0} (p : Place) (vs : List Word) → SpellWords [] (place_words p ++ vs) → P
+no_word (place.Ratio i) vs s = absurd s
+no_word p vs s = absurd s
 
 item_is : (text w : List ℕ) (ws : List (List ℕ)) (i : LineItem) → words_of text ≡ w ∷ ws → SpellWords (w ∷ ws) (item_words i) → IsTold i → item_in text w ws ≡ i
 unfolding item_in open_in side_in
@@ -315,7 +315,7 @@ item_is text w (a ∷ b ∷ c ∷ ws) (line.DualHead top head n) e s p =
     ∙ ap (λ x. line.DualHead x (number_of b) (size_of c)) (value_of_spelling a top s.1.0)
     ∙ ap (λ x. line.DualHead top x (size_of c)) (value_of_spelling b head s.1.1.0)
     ∙ ap (line.DualHead top head) (size_is c n s.1.1.1.0)
-item_is text w ws (line.Rows rows) e s p = ap (λ x. item_in text x ws) s.0 ∙ ap line.Rows (spelled-values ws rows (spelled_numbers ws rows s.1))
+item_is text w ws (line.Rows rows) e s p = ap (λ x. item_in text x ws) s.0 ∙ ap line.Rows (spelled-values ws rows (numbers_spelled ws rows s.1))
 item_is text w ws (line.StepLine t) e s p = ap (λ x. item_in text x ws) s.0 ∙ ap line.StepLine (step_is text ws t (e ∙ ap (λ x. x ∷ ws) s.0) s.1 p)
 item_is text w ws (line.GoalLine g) e s p = ap (λ x. item_in text x ws) s.0 ∙ ap line.GoalLine (goal_is text ws g (e ∙ ap (λ x. x ∷ ws) s.0) s.1 p)
 item_is text w (a ∷ ws) (line.TraceHead n) e s p = ap (λ x. item_in text x (a ∷ ws)) s.0 ∙ ap line.TraceHead (size_is a n s.1.0)
@@ -323,7 +323,7 @@ item_is text w (a ∷ b ∷ ws) (line.PivotLine enter leave) e s p =
     ap (λ x. item_in text x (a ∷ b ∷ ws)) s.0 ∙ ap (λ x. line.PivotLine x (size_of b)) (column_is a enter s.1.0) ∙ ap (line.PivotLine enter) (size_is b leave s.1.1.0)
 item_is text w (a ∷ ws) (line.PricedLine world) e s p = ap (λ x. item_in text x (a ∷ ws)) s.0 ∙ ap line.PricedLine (world_is a world s.1.0)
 item_is text w (a ∷ ws) (line.Query n) e s p = ap (λ x. item_in text x (a ∷ ws)) s.0 ∙ ap line.Query (size_is a n s.1.0)
-item_is text w (k ∷ []) (line.OpenWide at o l r) e s p = no_place at (op_word o ∷ Fraction l ∷ Fraction r ∷ []) s.1.1
+item_is text w (k ∷ []) (line.OpenWide at o l r) e s p = no_word at (op_word o ∷ Fraction l ∷ Fraction r ∷ []) s.1.1
 item_is text w ws i e s p = wrong_length (w ∷ ws) (item_words i) s (λ n. omega (arith, n))
 
 -- a line says one thing

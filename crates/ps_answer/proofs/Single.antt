@@ -1,5 +1,5 @@
 -- Bytes are the text of one answer, or have one first line at fault, and not both.
-use Rattle.std.proofs.Common.{◌≡◌, ◌≢◌, ℕ, ◌+◌, true, false, List, [], ◌∷◌, ◌++◌, length, Option, None, Some, refl, sym, ap, subst, ◌∙◌, append_assoc, append-nil, arith, true≢false}
+use Rattle.std.proofs.Common.{◌≡◌, ℕ, ◌+◌, true, false, List, [], ◌∷◌, ◌++◌, length, Option, None, Some, refl, sym, ap, subst, ◌∙◌, append_assoc, append-nil, arith, true≢false}
 use Rattle.std.specs.Prelude.{bytes_eq}
 use Rattle.std.specs.List.{AllByRecursion, list_any}
 use Rattle.std.proofs.lemmas.Option.{none-some, same_Some}
@@ -265,7 +265,7 @@ one_fault bytes k l m n f g =
     let d : f.due ≡ g.due = same_Some f.due g.due (sym f.due_is ∙ ap (due_behind at_start) s.0 ∙ g.due_is) in
     (fault_same g.due g.rest k l (subst (λ z. IsFault z g.rest k) d (subst (λ z. IsFault f.due z k) s.1 f.fault)) g.fault, f.number ∙ ap (λ is. length is + 1) s.0 ∙ sym g.number)
 
-all_good : (ls : List (List ℕ)) (is : List LineItem) → AreLines ls is → AllByRecursion IsWithin is → AllByRecursion (λ i. IsProper i × IsWithin i) is
+pub all_good : (ls : List (List ℕ)) (is : List LineItem) → AreLines ls is → AllByRecursion IsWithin is → AllByRecursion (λ i. IsProper i × IsWithin i) is
 all_good [] [] s w = tt
 all_good [] (i ∷ is) s w = absurd s
 all_good (l ∷ ls) [] s w = absurd s

@@ -2,6 +2,7 @@
 use Rattle.std.specs.Prelude.{ℕ, zero, suc, ◌==◌, Bool, true, false, List, [], ◌∷◌, codes, Option, Some, None, if◌then◌else◌}
 use Rattle.ps_answer.specs.declared.item.LineItem.{LineItem}
 use Rattle.ps_answer.specs.declared.item.LineItem.TheVariants.{Report, Consistent, Inconsistent, OpenPivots, OpenConflicts, OpenWide, ModelHead, Entry, DualHead, Rows, StepLine, GoalLine, TraceHead, PivotLine, PricedLine, Query, Bounds, Impossible, Bound, OpenSide, End}
+use Rattle.ps_answer.specs.Words.{side_letters}
 use Rattle.ps_answer.specs.declared.part.Part.{Part}
 use Rattle.ps_answer.specs.declared.part.Part.TheVariants.{AReport, AVerdict, AModel, AnEntry, ADual, SomeRows, AStep, AGoal, ACause, ATrace, AnEvent, AnAnswer, ASide, AQuery}
 
@@ -19,8 +20,7 @@ first_words ACause = codes "open" ∷ []
 first_words ATrace = codes "t" ∷ []
 first_words AnEvent = codes "p" ∷ codes "c" ∷ []
 first_words AnAnswer = codes "bounds" ∷ codes "impossible" ∷ codes "open" ∷ []
-first_words (ASide false) = codes "lower" ∷ []
-first_words (ASide true) = codes "upper" ∷ []
+first_words (ASide upper) = side_letters upper ∷ []
 first_words (AQuery j) = codes "query" ∷ codes "end" ∷ []
 
 -- so many of a part, and then others

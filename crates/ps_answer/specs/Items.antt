@@ -1,5 +1,5 @@
 -- What the lines of a report say, and their words.
-use Rattle.std.specs.Prelude.{ℕ, ◌-◌, ◌≡◌, ◌≤◌, ℤ, pos, ◌≤ℤ◌, Bool, true, false, List, [], ◌∷◌, ◌++◌, map, All, length, unsigned_abs, codes, ⊤}
+use Rattle.std.specs.Prelude.{ℕ, ◌≡◌, ◌≤◌, ℤ, pos, ◌≤ℤ◌, Bool, true, List, [], ◌∷◌, ◌++◌, map, All, length, unsigned_abs, codes, ⊤}
 use Rattle.std.specs.Int.{IsGcd}
 use Rattle.ps_steps.specs.Weights.{weighted, are_rising}
 use Rattle.ps_formula.specs.declared.limits.TheConstants.{MOST_ATOMS}
@@ -19,7 +19,7 @@ use Rattle.ps_answer.specs.declared.limits.TheConstants.{MOST_PIVOTS, MOST_CONFL
 use Rattle.ps_answer.specs.declared.item.Ratio.{Ratio}
 use Rattle.ps_answer.specs.declared.item.LineItem.{LineItem}
 use Rattle.ps_answer.specs.declared.item.LineItem.TheVariants.{Report, Consistent, Inconsistent, OpenPivots, OpenConflicts, OpenWide, ModelHead, Entry, DualHead, Rows, StepLine, GoalLine, TraceHead, PivotLine, PricedLine, Query, Bounds, Impossible, Bound, OpenSide, End}
-use Rattle.ps_answer.specs.Words.{Word, Letters, Number, Fraction, Column, Truths, SpellWords, joined}
+use Rattle.ps_answer.specs.Words.{Word, Letters, Number, Fraction, Column, Truths, side_letters, SpellWords, joined}
 
 -- a whole number of at least 0 as a word
 abbrev pub count : ℕ → Word
@@ -53,10 +53,9 @@ place_words (place.Total i) = Letters (codes "total") ∷ count i ∷ []
 place_words (place.NewTimes i m) = Letters (codes "new-times") ∷ count i ∷ count m ∷ []
 place_words (place.NewPlus i m) = Letters (codes "new-plus") ∷ count i ∷ count m ∷ []
 
--- the word of a side: lower or upper
+-- the word of a side
 abbrev pub side_word : Bool → Word
-side_word false = Letters (codes "lower")
-side_word true = Letters (codes "upper")
+side_word upper = Letters (side_letters upper)
 
 -- the words of a line
 abbrev pub item_words : LineItem → List Word
@@ -91,22 +90,22 @@ item_line i = joined (item_words i)
 abbrev pub IsReducedWithin : ℕ → Ratio → Type 0
 IsReducedWithin limit q = (1 ≤ q.under) × (unsigned_abs q.over ≤ limit → q.under ≤ limit → IsGcd (unsigned_abs q.over) q.under 1)
 
+-- literals aren't 0, coefficients are at least 1, and variables rise: so a line's numbers tell a step and a goal
+abbrev pub IsTold : LineItem → Type 0
+IsTold (StepLine s) = All (λ l. 1 ≤ unsigned_abs l) s.lits
+IsTold (GoalLine g) = All (λ t. 1 ≤ t.1) g.terms × (are_rising 0 (weighted g.terms) ≡ true)
+IsTold i = ⊤
+
 -- what a line of any size asks of its numbers: signs, parts of steps and goals that can be told apart, and lowest terms
 abbrev pub IsProper : LineItem → Type 0
 IsProper (OpenWide at op left right) = IsReducedWithin MOST_OPERAND left × IsReducedWithin MOST_OPERAND right
 IsProper (ModelHead total n) = pos 0 ≤ℤ total
 IsProper (Entry weight world) = pos 0 ≤ℤ weight
 IsProper (DualHead top head n) = pos 0 ≤ℤ top
-IsProper (StepLine s) = All (λ l. 1 ≤ unsigned_abs l) s.lits
-IsProper (GoalLine g) = All (λ t. 1 ≤ t.1) g.terms × (are_rising 0 (weighted g.terms) ≡ true)
+IsProper (StepLine s) = IsTold (StepLine s)
+IsProper (GoalLine g) = IsTold (GoalLine g)
 IsProper (Bound upper value) = (pos 0 ≤ℤ value.over) × IsReducedWithin printed_limit value
 IsProper i = ⊤
-
--- literals aren't 0, coefficients are at least 1, and variables rise: so a line's numbers tell a step and a goal
-abbrev pub IsTold : LineItem → Type 0
-IsTold (StepLine s) = All (λ l. 1 ≤ unsigned_abs l) s.lits
-IsTold (GoalLine g) = All (λ t. 1 ≤ t.1) g.terms × (are_rising 0 (weighted g.terms) ≡ true)
-IsTold i = ⊤
 
 -- a line spells this, with numbers of any size and any sign
 pub record IsSpelled (line : List ℕ) (i : LineItem) : Type 0 where

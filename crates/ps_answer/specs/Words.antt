@@ -21,6 +21,11 @@ abbrev pub digit_of : Bool → ℕ
 digit_of false = 48
 digit_of true = 49
 
+-- the letters of a side: `upper` for the upper one, else `lower`
+abbrev pub side_letters : Bool → List ℕ
+side_letters false = codes "lower"
+side_letters true = codes "upper"
+
 -- a world: a digit for each atom, or a dash where there is none
 abbrev pub world_text : World → List ℕ
 world_text [] = codes "-"

@@ -13,7 +13,7 @@ pub enum LineKind {
     NotCanonical,
     /// A number or a count is past its limit.
     TooLarge,
-    /// The last line stood before.
+    /// Bytes stand behind the last line.
     MoreAfterEnd,
 }
 

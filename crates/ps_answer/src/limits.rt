@@ -6,7 +6,9 @@ ghost use Rattle.ps_answer.specs.declared.limits.TheConstants.{MOST_ENTRIES, MOS
 ghost use Rattle.ps_answer.specs.declared.limits.TheConstants.{MOST_DUAL_STEPS, MOST_EVENTS};
 ghost use Rattle.ps_answer.specs.declared.limits.TheConstants.{MOST_QUERIES};
 
+use ps_frac::SIZE_LIMIT;
 use ps_log::MOST_IDS;
+use ps_table::MOST_ROWS;
 
 /// The most pivots that a run may be allowed.
 pub const MOST_PIVOTS: u64 = 1_000_000;
@@ -15,25 +17,25 @@ pub const MOST_PIVOTS: u64 = 1_000_000;
 pub const MOST_CONFLICTS: u64 = 1 << 40;
 
 /// The greatest numerator and denominator of an operand.
-pub const MOST_OPERAND: u128 = (1 << 127) - 1;
+pub const MOST_OPERAND: u128 = SIZE_LIMIT - 1;
 
 /// Rows and homes are numbered from 0 up to this.
-pub const MOST_ROW: u128 = 100;
+pub const MOST_ROW: u128 = MOST_ROWS as u128 - 1;
 
-/// Worlds are numbered from 1 up to this.
-pub const MOST_WORLD: u128 = 1_000_001;
+/// Worlds are numbered from 1 up to this: at most one is priced for each pivot, and one more.
+pub const MOST_WORLD: u128 = MOST_PIVOTS as u128 + 1;
 
-/// The most worlds of a model.
-pub const MOST_ENTRIES: u64 = 101;
+/// The most worlds of a model: one for each row.
+pub const MOST_ENTRIES: u64 = MOST_ROWS as u64;
 
-/// The most multipliers of a dual.
-pub const MOST_MULTIPLIERS: usize = 100;
+/// The most multipliers of a dual: one for each row of a bound.
+pub const MOST_MULTIPLIERS: usize = MOST_ROWS - 1;
 
 /// The most steps of a dual: as many as there are ids.
 pub const MOST_DUAL_STEPS: u64 = MOST_IDS;
 
-/// The most events of a trace.
-pub const MOST_EVENTS: u64 = 2_000_001;
+/// The most events of a trace: pivots, and priced worlds.
+pub const MOST_EVENTS: u64 = 2 * MOST_PIVOTS + 1;
 
 /// The most queries that a report answers.
 pub const MOST_QUERIES: u64 = 16;
