@@ -1,7 +1,5 @@
 -- Lines that are made of words, and then written.
-use Rattle.std.proofs.Common.{◌≡◌, ℕ, ℤ, ◌+◌, ◌<◌, ◌≤◌, List, [], ◌∷◌, ◌++◌, length, map, take, min, get_or, refl, sym, ap, ◌∙◌, subst, arith, Option, Result, length-append}
-use Rattle.std.specs.Prelude.{codes, fold}
-use Rattle.std.specs.Fmt.{signed_decimal}
+use Rattle.std.proofs.Common.{◌≡◌, ℕ, ℤ, ◌+◌, ◌<◌, List, [], ◌∷◌, ◌++◌, length, map, refl, sym, ap, ◌∙◌, subst, arith, Result, length-append}
 use Rattle.std.proofs.lemmas.List.Sums.{fold-append}
 use Rattle.ps_io.specs.LineText.{with_word}
 use Rattle.ps_io.specs.Lines.{text_of}
@@ -25,10 +23,6 @@ use Rattle.ps_report.specs.Written.{with_words, AddsWords, IsShort}
 pub word_fits : (text word : List ℕ) → length (with_word text word) < 65536 → length text + length word < 65536
 word_fits [] word h = omega (arith, h)
 word_fits (x ∷ xs) word h = omega (arith, h, length-append (x ∷ xs) (32 ∷ word))
-
-pub digits_fit : (text word : List ℕ) → length (with_word text word) < 65536 → length text + min 40 (length word) < 65536
-digits_fit [] word h = omega (arith, h)
-digits_fit (x ∷ xs) word h = omega (arith, h, length-append (x ∷ xs) (32 ∷ word))
 
 -- words of one call, and then of another
 pub words_more : {O : Type 0} (a b c : Lines O) (vs ws : List Word) → AddsWords a b vs → AddsWords b c ws → AddsWords a c (vs ++ ws)

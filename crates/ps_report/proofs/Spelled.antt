@@ -1,5 +1,5 @@
 -- The words of a report are words.
-use Rattle.std.proofs.Common.{◌≡◌, ◌≢◌, ℕ, zero, suc, ◌+◌, ◌<◌, ◌^◌, ℤ, pos, negsuc, Bool, true, false, List, [], ◌∷◌, ◌++◌, length, map, unsigned_abs, refl, arith}
+use Rattle.std.proofs.Common.{◌≡◌, ◌≢◌, ℕ, suc, ◌<◌, ◌^◌, ℤ, pos, negsuc, true, false, [], ◌∷◌, ◌++◌, length, map, unsigned_abs, refl, arith}
 use Rattle.std.specs.Fmt.{decimal, signed_decimal}
 use Rattle.ps_io.specs.LineText.{IsWord}
 use Rattle.ps_io.proofs.WordLemmas.{IsWord-append, IsWord-decimal}

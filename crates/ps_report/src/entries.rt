@@ -13,7 +13,7 @@ use crate::words::{add_column, add_world};
 use ps_answer::Weighted;
 use ps_formula::World;
 use ps_io::{LONGEST_LINE, Lines, Sink, WriteFault};
-use ps_log::{write_goal, write_step};
+use ps_log::{add_number, write_goal, write_step};
 use ps_pb::{Constraint, Step};
 use ps_pool::{Col, Event};
 
@@ -77,14 +77,6 @@ fn add_multiplier<O: Sink>(lines: &mut Lines<'_, O>, number: &i128)
     ensures { AddsNumbers lines.old lines.new (number.now ∷ []) }
 {
     add_number(lines, *number);
-}
-
-#[tactic(auto, using(crate::proofs::Made::digits_fit))]
-fn add_number<O: Sink>(lines: &mut Lines<'_, O>, n: i128)
-    requires { length_with lines.old (n ∷ []) < LONGEST_LINE }
-    ensures { AddsNumbers lines.old lines.new (n ∷ []) }
-{
-    lines.number(n);
 }
 
 /// Writes a step of a refutation.

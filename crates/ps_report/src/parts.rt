@@ -53,6 +53,7 @@ fn write_rows_and_steps<O: Sink>(lines: &mut Lines<'_, O>, dual: &Dual) -> Resul
     write_steps(lines, dual.steps.as_slice())
 }
 
+/// Writes steps of a refutation, or of a search.
 pub(crate) fn write_steps<O: Sink>(
     lines: &mut Lines<'_, O>,
     steps: &[Step],

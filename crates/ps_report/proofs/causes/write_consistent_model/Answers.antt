@@ -1,6 +1,6 @@
 use Rattle.std.proofs.Common.{rules}
 use Rattle.std.specs.Result.{IsErr}
-use Rattle.std.proofs.Common.{[], ◌∷◌, ◌++◌, map, length, true, false}
+use Rattle.std.proofs.Common.{[], ◌∷◌}
 use Rattle.ps_answer.specs.declared.item.LineItem.TheVariants as line
 use Rattle.ps_answer.specs.Answers.{model_items}
 use Rattle.ps_report.proofs.Sequence.{items_then, items_stop}

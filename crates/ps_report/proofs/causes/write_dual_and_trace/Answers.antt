@@ -1,6 +1,5 @@
 use Rattle.std.proofs.Common.{rules}
 use Rattle.std.specs.Result.{IsErr}
-use Rattle.std.proofs.Common.{[], ◌∷◌, ◌++◌, map, length, true, false}
 use Rattle.ps_answer.specs.Answers.{dual_items, trace_items}
 use Rattle.ps_report.proofs.Sequence.{items_then, items_stop, short_first, short_last}
 use Rattle.ps_report.proofs.causes.write_dual_and_trace.Goals as goal

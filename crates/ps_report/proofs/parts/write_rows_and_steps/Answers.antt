@@ -1,4 +1,4 @@
-use Rattle.std.proofs.Common.{[], ◌∷◌, ◌++◌, map, length, true, false}
+use Rattle.std.proofs.Common.{[], ◌∷◌, map}
 use Rattle.ps_answer.specs.declared.item.LineItem.TheVariants as line
 use Rattle.ps_report.proofs.Sequence.{items_then}
 use Rattle.ps_report.proofs.parts.write_rows_and_steps.Goals as goal

@@ -1,6 +1,6 @@
 use Rattle.std.proofs.Common.{rules}
 use Rattle.std.specs.Result.{IsErr}
-use Rattle.std.proofs.Common.{[], ◌∷◌, ◌++◌, true, false}
+use Rattle.std.proofs.Common.{true, false}
 use Rattle.ps_answer.specs.Answers.{side_items}
 use Rattle.ps_report.proofs.Sequence.{items_then, items_stop, short_first, short_last}
 use Rattle.ps_report.proofs.queries.write_sides.Goals as goal

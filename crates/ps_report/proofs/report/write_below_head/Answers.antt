@@ -1,6 +1,5 @@
 use Rattle.std.proofs.Common.{rules}
 use Rattle.std.specs.Result.{IsErr}
-use Rattle.std.proofs.Common.{[], ◌∷◌, ◌++◌, true, false}
 use Rattle.ps_answer.specs.Answers.{verdict_items}
 use Rattle.ps_report.specs.Reports.{below_verdict}
 use Rattle.ps_report.proofs.Sequence.{items_then, items_stop, short_first, short_last}

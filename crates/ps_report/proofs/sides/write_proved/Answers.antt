@@ -1,6 +1,6 @@
 use Rattle.std.proofs.Common.{rules}
 use Rattle.std.specs.Result.{IsErr}
-use Rattle.std.proofs.Common.{[], ◌∷◌, ◌++◌, map, length, true, false}
+use Rattle.std.proofs.Common.{◌++◌}
 use Rattle.ps_answer.specs.Answers.{model_items, dual_items, trace_items}
 use Rattle.ps_report.proofs.Sequence.{items_then, items_stop, short_first, short_last}
 use Rattle.ps_report.proofs.sides.write_proved.Goals as goal

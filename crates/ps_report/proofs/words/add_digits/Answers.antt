@@ -1,4 +1,4 @@
-use Rattle.std.proofs.Common.{arith, length, map}
+use Rattle.std.proofs.Common.{arith, map}
 use Rattle.std.proofs.lemmas.List.{length-map}
 use Rattle.ps_answer.specs.Words.{digit_of}
 use Rattle.ps_io.specs.Lines.{text_of}
