@@ -1,5 +1,5 @@
 -- Sums of combinations.
-use Rattle.std.proofs.Common.{◌≡◌, ◌≤◌, ◌<◌, ◌+◌, ◌*◌, ◌^◌, ℕ, suc, ℤ, pos, ◌+ℤ◌, ◌*ℤ◌, neg_ℤ, unsigned_abs, List, [], ◌∷◌, ◌++◌, Option, Some, None, All, length, drop, get_or, Result, Ok, Err, OnOk, IfSome, refl, sym, ◌∙◌, ap, arith, lit≤}
+use Rattle.std.proofs.Common.{◌≡◌, ◌≤◌, ◌<◌, ◌+◌, ◌*◌, ◌^◌, ℕ, suc, ℤ, pos, ◌+ℤ◌, ◌*ℤ◌, neg_ℤ, unsigned_abs, List, [], ◌∷◌, ◌++◌, Option, Some, None, All, length, drop, get_or, Result, Ok, Err, OnOk, IfSome, refl, sym, ◌∙◌, ap, arith}
 use Rattle.std.proofs.lemmas.Int.{ints, unsigned_abs-mul}
 use Rattle.std.proofs.lemmas.List.{append_assoc}
 use Rattle.std.proofs.Math.Seq.{drop-cons}
@@ -9,7 +9,7 @@ use Rattle.ps_rational.specs.Parts.{abs_neg}
 use Rattle.ps_steps.specs.Weights.{Weighted}
 use Rattle.ps_formula.specs.declared.node.Node.{Node}
 use Rattle.ps_problem.specs.declared.bound.Bound.{Bound}
-use Rattle.ps_problem.specs.Problems.{Parts, IsBound, bounds_in}
+use Rattle.ps_problem.specs.Problems.{IsBound}
 use Rattle.ps_claims.specs.declared.combination.Combination.{Combination}
 use Rattle.ps_claims.specs.Goals.{plus, nothing, at_node, at_condition, row_times, rows_times, claimed_of, combination_of}
 use Rattle.ps_certificate.specs.Certificates.{IsMultiplier, dual_of}

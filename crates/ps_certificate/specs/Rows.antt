@@ -1,5 +1,5 @@
 -- What the sum of the bounds' rows asks of each bound.
-use Rattle.std.specs.Prelude.{ℕ, ◌≤◌, ◌<◌, Option, List, length, IfSome}
+use Rattle.std.specs.Prelude.{ℕ, ◌≤◌, ◌<◌, List, length, IfSome}
 use Rattle.ps_formula.specs.declared.node.Node.{Node}
 use Rattle.ps_formula.specs.declared.limits.TheConstants.{MOST_NODES}
 use Rattle.ps_problem.specs.declared.limits.TheConstants.{MOST_BOUNDS, MOST_DENOMINATOR}

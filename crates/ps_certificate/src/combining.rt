@@ -39,7 +39,7 @@ pub fn combination(
     combination_of(alloc, bounds, kind, given, both, dual)
 }
 
-/// The same over these bounds alone.
+/// The combination of the claim and the rows of these bounds, of some problem.
 pub fn combination_of(
     alloc: Global,
     bounds: &[Bound],

@@ -1,24 +1,20 @@
 -- The first reason against a bound of a query, and the claim that it makes.
-use Rattle.std.proofs.Common.{◌≡◌, ◌≢◌, ◌*◌, ℤ, pos, ◌≤ℤ◌, ◌*ℤ◌, Option, Some, None, Result, Ok, Err, List, length, map, All, refl, sym, ap, ◌∙◌}
+use Rattle.std.proofs.Common.{◌≡◌, ◌≢◌, ℤ, pos, ◌≤ℤ◌, ◌*ℤ◌, Option, Some, None, Result, Ok, Err, List, length, All, refl, sym, ap, ◌∙◌}
 use Rattle.std.specs.Prelude.{◌↔◌, IfOk}
 use Rattle.std.proofs.lemmas.List.{length-map}
 use Rattle.ps_meaning.specs.Formula.{Atom}
-use Rattle.ps_meaning.specs.declared.side.Side.TheVariants.{Exactly}
-use Rattle.ps_meaning.specs.Distribution.{Entry, weight}
-use Rattle.ps_meaning.specs.Bounds.{MeetsBound}
-use Rattle.ps_formula.specs.declared.node.Node.{Node}
+use Rattle.ps_meaning.specs.Distribution.{weight}
 use Rattle.ps_problem.specs.declared.query.Query.{Query}
-use Rattle.ps_problem.specs.Problems.{Parts, bound_of, bounds_in, given_at, HasNodes}
+use Rattle.ps_problem.specs.Problems.{Parts, bound_of, bounds_in, HasNodes}
 use Rattle.ps_rational.specs.Rational.{Rational}
 use Rattle.ps_rational.proofs.IntRing.{*ℤ_comm}
-use Rattle.ps_entailment.specs.Queries.{bound_on}
 use Rattle.ps_entailment.specs.Answers as claimed
 use Rattle.ps_answer.specs.declared.answer.Model.{Model}
 use Rattle.ps_certificate.specs.Certificates.{entries, model_of}
 use Rattle.ps_claims.specs.declared.claim_kind.ClaimKind.{ClaimKind}
 use Rattle.ps_claims.specs.Duals.{Dual}
 use Rattle.ps_claims.specs.Faults.{IsFaultless}
-use Rattle.ps_claims.specs.Validity.{query_of, ShowsTight}
+use Rattle.ps_claims.specs.Validity.{ShowsTight}
 use Rattle.ps_claims.specs.declared.reason.Reason.{Reason}
 use Rattle.ps_claims.specs.declared.reason.Reason.TheVariants.{WrongShape, EvidenceZero, ValueMissed}
 use Rattle.ps_claims.specs.Claims.{Assertion, Bounded, HasShape, IsModelRight, IsSound}

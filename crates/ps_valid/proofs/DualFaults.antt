@@ -1,10 +1,9 @@
 -- The first reason against a dual, and the claim that it makes.
-use Rattle.std.proofs.Common.{◌≡◌, ◌≢◌, ℕ, ◌+◌, ◌<◌, ◌≤◌, ℤ, pos, Bool, true, false, Option, Some, None, List, length, refl, sym, ◌∙◌, arith}
-use Rattle.std.specs.Prelude.{MatchOption}
+use Rattle.std.proofs.Common.{◌≡◌, ◌≢◌, ℕ, true, false, Option, Some, None, List, length, sym, ◌∙◌}
 use Rattle.std.proofs.lemmas.List.{length-map}
 use Rattle.ps_problem.specs.Problems.{Parts, bounds_in, bound_of, bounds_of}
 use Rattle.ps_rational.specs.Rational.{Rational}
-use Rattle.ps_steps.specs.Steps.{AreLawful, ends_in_contradiction, first_refusal}
+use Rattle.ps_steps.specs.Steps.{ends_in_contradiction, first_refusal}
 use Rattle.ps_steps.specs.declared.refused.StepRefused.{StepRefused as Why}
 use Rattle.ps_steps.proofs.Onward.{none-lawful}
 use Rattle.ps_claims.specs.declared.claim_kind.ClaimKind.{ClaimKind}

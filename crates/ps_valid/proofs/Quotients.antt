@@ -1,5 +1,5 @@
 -- A quotient in lowest terms is a value exactly where the cross products are equal.
-use Rattle.std.proofs.Common.{◌≡◌, ℕ, zero, suc, ◌<◌, ℤ, pos, negsuc, ap, ◌<ℤ◌, ◌*ℤ◌, unsigned_abs, arith}
+use Rattle.std.proofs.Common.{◌≡◌, zero, suc, ℤ, pos, negsuc, ap, ◌<ℤ◌, ◌*ℤ◌, unsigned_abs, arith}
 use Rattle.std.specs.Prelude.{◌↔◌}
 use Rattle.std.proofs.lemmas.Int.{ints}
 use Rattle.ps_rational.specs.Rational.{Rational, fraction, rational_path}
@@ -10,11 +10,8 @@ quotients value over (pos zero) above = absurd (omega (arith, ints, above))
 quotients value over (pos (suc n)) above = (λ e. quotient-ratio value over (suc n) (omega arith) e, λ e. ratio-quotient value over (suc n) (omega arith) e)
 quotients value over (negsuc n) above = absurd (omega (arith, ints, above))
 
-whole_size : (m n : ℕ) → pos m ≡ pos n → m ≡ n
-whole_size m n e = ap unsigned_abs e
-
 pub same_number : (x y : Rational) → x.over ≡ y.over → pos x.under ≡ pos y.under → x ≡ y
-same_number x y over under = rational_path x y over (whole_size x.under y.under under)
+same_number x y over under = rational_path x y over (ap unsigned_abs under)
 
 pub same_parts : (x y : Rational) → x ≡ y → (x.over ≡ y.over) × (pos x.under ≡ pos y.under)
 same_parts x y e = (ap (λ (q : Rational). q.over) e, ap (λ (q : Rational). pos q.under) e)

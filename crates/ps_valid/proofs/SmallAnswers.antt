@@ -1,11 +1,10 @@
 -- An answer whose lines are within the limits of a report has small models and duals.
-use Rattle.std.proofs.Common.{◌≡◌, ℕ, suc, ◌≤◌, ◌^◌, ℤ, pos, ◌≤ℤ◌, unsigned_abs, Bool, true, false, List, [], ◌∷◌, ◌++◌, length, map, All, arith}
+use Rattle.std.proofs.Common.{ℕ, suc, ◌≤◌, ◌^◌, ℤ, pos, ◌≤ℤ◌, unsigned_abs, Bool, true, false, List, [], ◌∷◌, ◌++◌, map, All, arith}
 use Rattle.std.specs.List.{AllByRecursion}
 use Rattle.std.proofs.lemmas.Int.{ints}
-use Rattle.std.proofs.lemmas.List.{length-map}
 use Rattle.std.proofs.lemmas.List.Elements.{All-cons, All-nil}
 use Rattle.ps_pool.specs.declared.event.Event.{Event}
-use Rattle.ps_answer.specs.declared.item.LineItem.{LineItem}
+use Rattle.ps_answer.proofs.Single.{all_good}
 use Rattle.ps_answer.specs.declared.item.LineItem.TheVariants as line
 use Rattle.ps_answer.specs.declared.answer.Weighted.{Weighted}
 use Rattle.ps_answer.specs.declared.answer.Model.{Model}
@@ -18,9 +17,9 @@ use Rattle.ps_answer.specs.declared.answer.QueryAnswer.{QueryAnswer}
 use Rattle.ps_answer.specs.declared.answer.QueryAnswer.TheVariants as query
 use Rattle.ps_answer.specs.declared.answer.QueryPart.{QueryPart}
 use Rattle.ps_answer.specs.declared.answer.Answer.{Answer}
-use Rattle.ps_answer.specs.Items.{IsLine, IsProper, IsWithin}
+use Rattle.ps_answer.specs.Items.{IsProper, IsWithin}
 use Rattle.ps_answer.specs.Answers.{entry_item, model_items, dual_items, trace_items, verdict_items, side_items, query_items, part_items, answer_items}
-use Rattle.ps_answer.specs.Faults.{AreLines, IsReport}
+use Rattle.ps_answer.specs.Faults.{IsReport}
 use Rattle.ps_certificate.specs.Certificates.{IsSmallDual}
 use Rattle.ps_valid.specs.Limits.{IsAmount, IsSmallModel, IsSmallVerdict, IsSmallSide, IsSmallPart, IsSmallAnswer}
 
@@ -85,11 +84,5 @@ within_small a h =
       parts = small_parts 1 a.parts (front (λ i. IsProper i × IsWithin i) (part_items 1 a.parts) (line.End ∷ []) parts);
     }
 
-proper : (ls : List (List ℕ)) (is : List LineItem) → AreLines ls is → AllByRecursion IsWithin is → AllByRecursion (λ i. IsProper i × IsWithin i) is
-proper [] [] lines within = tt
-proper [] (i ∷ is) lines within = absurd lines
-proper (l ∷ ls) [] lines within = absurd lines
-proper (l ∷ ls) (i ∷ is) lines within = ((lines.0.proper, within.0), proper ls is lines.1 within.1)
-
 pub report_small : (bytes : List ℕ) (a : Answer) → IsReport bytes a → IsSmallAnswer a
-report_small bytes a report = within_small a (proper report.lines.lines (answer_items a) report.lines.say report.within)
+report_small bytes a report = within_small a (all_good report.lines.lines (answer_items a) report.lines.say report.within)

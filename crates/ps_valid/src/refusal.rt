@@ -8,9 +8,10 @@ use thiserror::Error;
 /// How much an accepted answer claims.
 #[derive(Clone, Copy, Debug, PartialEq, Eq)]
 pub struct Accepted {
-    /// The finished verdict, impossible queries and sides.
+    /// How many claims it makes: one for a finished verdict, for each impossible query and for each
+    /// finished side.
     pub claims: u32,
-    /// The open verdict, queries and sides, which claim nothing.
+    /// How much is open and claims nothing: an open verdict, query or side counts once.
     pub unfinished: u32,
 }
 
@@ -26,7 +27,7 @@ pub struct Refusal {
 /// An answer isn't accepted: it is refused, or there was not enough memory to judge it.
 #[derive(Clone, Copy, Debug, PartialEq, Error)]
 pub enum CheckError {
-    /// A claim doesn't hold.
+    /// The answer hasn't the parts that are due, or a claim isn't valid.
     #[error("the answer is refused")]
     Refused(Refusal),
     /// There was not enough memory.

@@ -47,9 +47,8 @@ fn first_in_run(
 {
     let sum = combination(alloc, problem, kind, given, both, dual)?;
     let mut checker = checker_of(alloc, problem, &sum)?;
-    match first_refused(&mut checker, dual.steps.as_slice())? {
-        None => {}
-        Some((step, why)) => return Ok(Some(Reason::StepRefused { step, why })),
+    if let Some((step, why)) = first_refused(&mut checker, dual.steps.as_slice())? {
+        return Ok(Some(Reason::StepRefused { step, why }));
     }
     if checker.refuted() {
         Ok(None)

@@ -36,11 +36,7 @@ fn refusal(checker: &mut Checker, step: &Step) -> Result<Option<StepRefused>, No
     match checker.take(step) {
         Ok(()) => Ok(None),
         Err(StepRefused::NoMemory) => Err(NoMemory),
-        Err(StepRefused::IdNotNext) => Ok(Some(StepRefused::IdNotNext)),
-        Err(StepRefused::BadLit) => Ok(Some(StepRefused::BadLit)),
-        Err(StepRefused::UnknownHint { hint }) => Ok(Some(StepRefused::UnknownHint { hint })),
-        Err(StepRefused::HintIdle { hint }) => Ok(Some(StepRefused::HintIdle { hint })),
-        Err(StepRefused::NoConflict) => Ok(Some(StepRefused::NoConflict)),
+        Err(why) => Ok(Some(why)),
     }
 }
 
@@ -57,9 +53,8 @@ pub fn first_refused(
         (λ o. o ≡ None → checker.new.refuted ≡ ends_in_contradiction steps.now) }
 {
     for step in steps {
-        match refusal(checker, step)? {
-            None => {}
-            Some(why) => return Ok(Some((step.id, why))),
+        if let Some(why) = refusal(checker, step)? {
+            return Ok(Some((step.id, why)));
         }
     }
     Ok(None)

@@ -46,7 +46,7 @@ fn holds(worlds: &[Weighted], world: &World) -> bool
     worlds.iter().any(|w| same(&w.world, world))
 }
 
-/// The first entry that has no weight or isn't new.
+/// The reason against the first entry that has no weight or whose world stood before.
 pub fn first_among(worlds: &[Weighted]) -> Option<Reason>
     requires { AreSmall worlds.now }
     ensures { FindsFault (entries worlds.now) result }

@@ -8,13 +8,13 @@ returns-then-refuted c =
     let d = dual_of c.args.dual.now in
     run_refutes c.args.problem.now c.args.kind c.args.given c.args.both d
     (run_found c.args.problem.now c.args.kind c.args.given c.args.both d c.in_ok-sum.sum c.in_ok-checker.checker _ c.in_ok-checker.ensures c.in_ok-sum.ensures.exact
-    (sym c.in-None.is ∙ (rw c.as_slice.ensures at c.in_ok-first_refused.ensures.found)))
-    (sym (rw c.as_slice.ensures at (c.in_ok-first_refused.ensures.ends c.in-None.is)) ∙ (sym c.refuted.ensures.value ∙ c.if-refuted.true))
+    (sym c.in_default.is ∙ (rw c.as_slice.ensures at c.in_ok-step.ensures.found)))
+    (sym (rw c.as_slice.ensures at (c.in_ok-step.ensures.ends c.in_default.is)) ∙ (sym c.refuted.ensures.value ∙ c.if-refuted.true))
 
 pub returns : goal.returns
 returns c =
     let d = dual_of c.args.dual.now in
     run_open c.args.problem.now c.args.kind c.args.given c.args.both d
     (run_found c.args.problem.now c.args.kind c.args.given c.args.both d c.in_ok-sum.sum c.in_ok-checker.checker _ c.in_ok-checker.ensures c.in_ok-sum.ensures.exact
-    (sym c.in-None.is ∙ (rw c.as_slice.ensures at c.in_ok-first_refused.ensures.found)))
-    (sym (rw c.as_slice.ensures at (c.in_ok-first_refused.ensures.ends c.in-None.is)) ∙ (sym c.refuted.ensures.value ∙ c.if-refuted.false))
+    (sym c.in_default.is ∙ (rw c.as_slice.ensures at c.in_ok-step.ensures.found)))
+    (sym (rw c.as_slice.ensures at (c.in_ok-step.ensures.ends c.in_default.is)) ∙ (sym c.refuted.ensures.value ∙ c.if-refuted.false))
