@@ -1,18 +1,16 @@
 -- The weights of worlds' columns.
-use Rattle.std.proofs.Common.{◌≡◌, ◌≢◌, ℕ, zero, suc, ◌+◌, ◌-◌, ◌*◌, ◌/◌, ◌^◌, ◌<◌, ◌≤◌, unsigned_abs, to_z, of_z, ℤ, pos, negsuc, ◌*ℤ◌, ◌<ℤ◌, ◌≤ℤ◌, ltb, Bool, true, false, cond, eqb, List, [], ◌∷◌, ◌++◌, map, get_or, refl, sym, ap, ◌∙◌, subst, arith}
+use Rattle.std.proofs.Common.{◌≡◌, ◌≢◌, ℕ, suc, ◌+◌, ◌-◌, ◌/◌, ◌^◌, ◌<◌, ◌≤◌, unsigned_abs, to_z, of_z, ℤ, pos, ◌*ℤ◌, ltb, Bool, true, false, cond, List, [], ◌∷◌, ◌++◌, map, get_or, refl, sym, ap, ◌∙◌, subst, arith}
 use Rattle.std.proofs.lemmas.Int.{ints, to_z-of_z, fits_signed_from_abs}
 use Rattle.std.proofs.lemmas.Bool.{lt-ltb}
 use Rattle.std.proofs.lemmas.List.{map-append}
-use Rattle.std.proofs.Math.Nat.{mul-pos, one-dvd}
-use Rattle.std.specs.Int.{◌∣◌, w128}
+use Rattle.std.proofs.Math.Nat.{one-dvd}
+use Rattle.std.specs.Int.{◌∣◌, w128, is_positive}
 use Rattle.ps_multiples.proofs.Weighed.{zero_under}
 use Rattle.ps_meaning.specs.Formula.{World}
 use Rattle.ps_rational.specs.Parts.{part_pos}
-use Rattle.ps_rational.specs.Rational.{Rational, mul, zero_q, one_q}
+use Rattle.ps_rational.specs.Rational.{Rational, zero_q}
 use Rattle.ps_rational.specs.Scaled.{scaled}
-use Rattle.ps_rational.proofs.Ring.{var, by, none, unit}
-use Rattle.ps_rational.proofs.Field.{ring_q, zero_over}
-use Rattle.ps_rational.proofs.Sums.{sum_same, sum_of_zeros, unit_sum}
+use Rattle.ps_rational.proofs.Field.{zero_over}
 use Rattle.ps_rational.proofs.Multiples.{lcm_to_positive, lcm_to_multiple}
 use Rattle.ps_pool.specs.declared.col.Col.{Col}
 use Rattle.ps_pool.specs.declared.col.Col.TheVariants as col
@@ -22,30 +20,19 @@ use Rattle.ps_bland.specs.Rules.{simplex_of}
 use Rattle.ps_answer.specs.declared.answer.Weighted.{Weighted}
 use Rattle.ps_multiples.specs.declared.weights.Weights.{Weights}
 use Rattle.ps_multiples.specs.Multiples.{weight_multiple_of, weight_of, AreWeights}
-use Rattle.ps_runs.specs.Certificates.{value_of, exceeds_zero, is_above, entry_for, entries_to}
-use Rattle.ps_runs.proofs.BasicSolution.{part_here, part_apart}
+use Rattle.ps_runs.specs.Certificates.{value_of, is_above, entry_for, entries_to}
+use Rattle.ps_runs.proofs.BasicSolution.{value_in_row, value_in_none}
+use Rattle.ps_runs.proofs.Weighing.{positive_times}
 use Rattle.ps_ends.specs.Models.{AreApart, IsBasicIn, column_value, column_weight, weighed}
 use Rattle.ps_certificate.specs.Certificates.{entry_of}
 
-unit_part : (b : Bool) (x : Rational) → cond b x zero_q ≡ mul x (cond b one_q zero_q)
-unit_part true x = ring_q (x ∷ []) (var 0) (by (var 0) unit) refl
-unit_part false x = ring_q (x ∷ []) none (by (var 0) none) refl
-
 -- a basic column has the value of its row
 value_here : (t : Tableau) (i : ℕ) → AreApart t → i < rows_of t → value_of (simplex_of t) (basic_at t i) ≡ entry_at t i 0
-value_here t i apart h =
-    let n = rows_of t in
-    let b = basic_at t in
-    let x : ℕ → Rational = λ k. entry_at t k 0 in
-    sum_same n (λ k. cond (eqb (b k) (b i)) (x k) zero_q) (λ k. mul (x k) (cond (eqb (b k) (b i)) one_q zero_q)) (λ k l. unit_part (eqb (b k) (b i)) (x k))
-    ∙ unit_sum n i x (λ k. cond (eqb (b k) (b i)) one_q zero_q) h (part_here (b i) (b i) one_q refl)
-    (λ k l ne. part_apart (b k) (b i) one_q (λ e. ne (apart.same k i l h e)))
+value_here t i apart h = value_in_row (simplex_of t) i h (λ k l ne e. ne (apart.same k i l h e))
 
 -- another one has the value 0
 value_apart : (t : Tableau) (j : ℕ) → ((i : ℕ) → i < rows_of t → basic_at t i ≢ j) → value_of (simplex_of t) j ≡ zero_q
-value_apart t j h =
-    sum_same (rows_of t) (λ i. cond (eqb (basic_at t i) j) (entry_at t i 0) zero_q) (λ _. zero_q) (λ i l. part_apart (basic_at t i) j (entry_at t i 0) (h i l))
-    ∙ sum_of_zeros (rows_of t)
+value_apart t j h = value_in_none (simplex_of t) j h
 
 number_other : (n worlds number : ℕ) (c : Col) → IsInside n worlds c → 0 < number → ¬ (c ≡ col.World number) → number_in n c ≢ n + number
 number_other n worlds number (col.Home i) inside h ne = λ e. absurd (omega (arith, e, inside, h))
@@ -112,27 +99,8 @@ divides_none t number is some h =
     subst (λ (k : ℕ). k ∣ weight_multiple_of t) (sym one) (one-dvd (weight_multiple_of t))
 
 -- ---- entries
-exceeds_above : (z : ℤ) → pos 0 <ℤ z → exceeds_zero z ≡ true
-exceeds_above (pos zero) h = absurd (omega (arith, ints, h))
-exceeds_above (pos (suc n)) h = refl
-exceeds_above (negsuc n) h = absurd (omega (arith, ints, h))
-
-exceeds_below : (z : ℤ) → z ≤ℤ pos 0 → exceeds_zero z ≡ false
-exceeds_below (pos zero) h = refl
-exceeds_below (pos (suc n)) h = absurd (omega (arith, ints, h))
-exceeds_below (negsuc n) h = refl
-
-exceeds_times : (z : ℤ) (c : ℕ) → 0 < c → exceeds_zero (z *ℤ pos c) ≡ exceeds_zero z
-exceeds_times (pos zero) c h = exceeds_below (pos 0 *ℤ pos c) (omega (arith, ints))
-exceeds_times (pos (suc n)) c h =
-    let p : 0 < suc n * c = mul-pos (omega arith) h in
-    exceeds_above (pos (suc n) *ℤ pos c) (omega (arith, ints, p))
-exceeds_times (negsuc n) c h =
-    let p : 0 < suc n * c = mul-pos (omega arith) h in
-    exceeds_below (negsuc n *ℤ pos c) (omega (arith, ints, p))
-
-weighed_entries : (z : ℤ) (w : World) → map entry_of (weighed z w) ≡ cond (exceeds_zero z) (record { weight = z; world = w } ∷ []) []
-weighed_entries z w = cases (exceeds_zero z)
+weighed_entries : (z : ℤ) (w : World) → map entry_of (weighed z w) ≡ cond (is_positive z) (record { weight = z; world = w } ∷ []) []
+weighed_entries z w = cases (is_positive z)
   where
     cases : (b : Bool) → map entry_of (cond b (record { weight = z; world = w } ∷ []) []) ≡ cond b (record { weight = z; world = w } ∷ []) []
     cases true = refl
@@ -140,7 +108,7 @@ weighed_entries z w = cases (exceeds_zero z)
 
 entry_is : (big : ℕ) (x : Rational) (z : ℤ) (w : World) → 0 < big → x.under ∣ big → z ≡ scaled big x → map entry_of (weighed z w) ≡ entry_for big x w
 entry_is big x z w hb d e =
-    let sign : exceeds_zero z ≡ is_above x = ap exceeds_zero e ∙ exceeds_times x.over (big / x.under) (part_pos big x.under hb d) in
+    let sign : is_positive z ≡ is_above x = ap is_positive e ∙ positive_times x.over (big / x.under) (part_pos big x.under hb d) in
     weighed_entries z w ∙ (λ k. cond (sign k) (record { weight = e k; world = w } ∷ []) [])
 
 pub next_entry : (t : Tableau) (pool : List World) (worlds more : List Weighted) (place : ℕ) (z : ℤ) (w : World)

@@ -1,5 +1,6 @@
 -- The distributions of the solver's tables.
 use Rattle.std.specs.Prelude.{◌≡◌, ℕ, ◌+◌, ◌<◌, ℤ, if◌then◌else◌, List, [], ◌∷◌, map, get_or, Option, Some, None}
+use Rattle.std.specs.Int.{is_positive}
 use Rattle.ps_meaning.specs.Formula.{World}
 use Rattle.ps_rational.specs.Rational.{Rational}
 use Rattle.ps_rational.specs.Scaled.{scaled}
@@ -9,7 +10,7 @@ use Rattle.ps_bland.specs.Rules.{simplex_of}
 use Rattle.ps_answer.specs.declared.answer.Weighted.{Weighted}
 use Rattle.ps_answer.specs.declared.answer.Model.{Model}
 use Rattle.ps_multiples.specs.Multiples.{weight_multiple_of, total_of}
-use Rattle.ps_runs.specs.Certificates.{value_of, exceeds_zero, weighted_worlds}
+use Rattle.ps_runs.specs.Certificates.{value_of, weighted_worlds}
 use Rattle.ps_certificate.specs.Certificates.{entry_of}
 
 -- no column is basic in two rows
@@ -29,13 +30,13 @@ IsRowOf t number None = (i : ℕ) → i < rows_of t → ¬ IsBasicIn t number i
 abbrev pub column_value : Tableau → ℕ → Rational
 column_value t number = value_of (simplex_of t) (rows_of t + number)
 
--- times the multiple of the values that make weights
+-- the weight of this world: the value times the least common multiple of the denominators
 abbrev pub column_weight : Tableau → ℕ → ℤ
 column_weight t number = scaled (weight_multiple_of t) (column_value t number)
 
--- a world with its weight where that is above 0, else none
+-- a world with this weight, where that is above 0, else none
 abbrev pub weighed : ℤ → World → List Weighted
-weighed z w = if exceeds_zero z then record { weight = z; world = w } ∷ [] else []
+weighed z w = if is_positive z then record { weight = z; world = w } ∷ [] else []
 
 -- the worlds of the table's pool that are basic with a value above 0, with their weights and these weights' sum
 pub record IsTableModel (t : Tableau) (pool : List World) (m : Model) : Type 0 where

@@ -45,6 +45,23 @@ part_here b j x e = ap (λ c. cond c x zero_q) (eq-eqb b j e)
 pub part_apart : (b j : ℕ) (x : Rational) → b ≢ j → cond (eqb b j) x zero_q ≡ zero_q
 part_apart b j x ne = ap (λ c. cond c x zero_q) (ne_eqb b j ne)
 
+-- a column that is basic in one row alone has that row's value
+pub value_in_row : (t : SimplexTable) (i : ℕ) → i < t.rows → ((k : ℕ) → k < t.rows → k ≢ i → t.basic k ≢ t.basic i) → value_of t (t.basic i) ≡ t.entry i 0
+value_in_row t i h apart =
+    sum_same t.rows (λ k. cond (eqb (t.basic k) (t.basic i)) (t.entry k 0) zero_q) (λ k. mul (t.entry k 0) (cond (eqb (t.basic k) (t.basic i)) one_q zero_q))
+    (λ k l. unit_part (eqb (t.basic k) (t.basic i)) (t.entry k 0))
+    ∙ unit_sum t.rows i (λ k. t.entry k 0) (λ k. cond (eqb (t.basic k) (t.basic i)) one_q zero_q) h (part_here (t.basic i) (t.basic i) one_q refl)
+    (λ k l ne. part_apart (t.basic k) (t.basic i) one_q (apart k l ne))
+  where
+    unit_part : (b : Bool) (x : Rational) → cond b x zero_q ≡ mul x (cond b one_q zero_q)
+    unit_part true x = ring_q (x ∷ []) (var 0) (by (var 0) unit) refl
+    unit_part false x = ring_q (x ∷ []) none (by (var 0) none) refl
+
+-- one that is basic in no row has value 0
+pub value_in_none : (t : SimplexTable) (j : ℕ) → ((i : ℕ) → i < t.rows → t.basic i ≢ j) → value_of t j ≡ zero_q
+value_in_none t j h =
+    sum_same t.rows (λ i. cond (eqb (t.basic i) j) (t.entry i 0) zero_q) (λ _. zero_q) (λ i l. part_apart (t.basic i) j (t.entry i 0) (h i l)) ∙ sum_of_zeros t.rows
+
 -- a sum over rows by basic columns is a sum over all columns
 pub basic_sum : (n w : ℕ) (basic : ℕ → ℕ) (x g : ℕ → Rational) → ((i : ℕ) → i < n → basic i < w)
     → sum_to n (λ i. mul (x i) (g (basic i))) ≡ sum_to w (λ j. mul (sum_to n (λ i. cond (eqb (basic i) j) (x i) zero_q)) (g j))
@@ -70,8 +87,7 @@ module _ (s : Setting) (pool : List World) (basic : ℕ → ℕ) (X : ℕ → �
   value j = value_of f j
 
   pub value_apart : (j : ℕ) → ((i : ℕ) → i < n → basic i ≢ j) → value j ≡ zero_q
-  value_apart j h =
-      sum_same n (λ i. cond (eqb (basic i) j) (X i 0) zero_q) (λ _. zero_q) (λ i l. part_apart (basic i) j (X i 0) (h i l)) ∙ sum_of_zeros n
+  value_apart j h = value_in_none f j h
 
   pub value_right : value 0 ≡ zero_q
   value_right = value_apart 0 (λ i l e. let k = t.first i l in absurd (omega (arith, k, e)))
@@ -81,14 +97,7 @@ module _ (s : Setting) (pool : List World) (basic : ℕ → ℕ) (X : ℕ → �
 
   -- a basic column has the value of its row
   pub value_here : (i : ℕ) → i < n → value (basic i) ≡ X i 0
-  value_here i h =
-      sum_same n (λ k. cond (eqb (basic k) (basic i)) (X k 0) zero_q) (λ k. mul (X k 0) (cond (eqb (basic k) (basic i)) one_q zero_q))
-      (λ k l. unit_part (eqb (basic k) (basic i)) (X k 0))
-      ∙ unit_sum n i (λ k. X k 0) (λ k. cond (eqb (basic k) (basic i)) one_q zero_q) h (part_here (basic i) (basic i) one_q refl) (λ k l ne. part_apart (basic k) (basic i) one_q (basics_apart i k h l ne))
-    where
-      unit_part : (b : Bool) (x : Rational) → cond b x zero_q ≡ mul x (cond b one_q zero_q)
-      unit_part true x = ring_q (x ∷ []) (var 0) (by (var 0) unit) refl
-      unit_part false x = ring_q (x ∷ []) none (by (var 0) none) refl
+  value_here i h = value_in_row f i h (λ k l ne. basics_apart i k h l ne)
 
   pub value_nonneg : (j : ℕ) → IsNonneg (value j)
   value_nonneg j = sum_nonneg n (λ i. cond (eqb (basic i) j) (X i 0) zero_q) (λ i l. signed_part (eqb (basic i) j) (X i 0) (t.values i l))

@@ -2,8 +2,9 @@
 use Rattle.std.proofs.Common.{◌≡◌, ◌≢◌, ℕ, zero, suc, ◌+◌, ◌<◌, ◌≤◌, ℤ, pos, ◌≤ℤ◌, neg_ℤ, Bool, true, false, cond, ltb, lt-ltb, List, [], ◌∷◌, ◌++◌, length, get_or, All, AllPairs, sym, refl, ap, ◌∙◌, subst, arith, inl, inr}
 use Rattle.std.proofs.lemmas.Int.{ints}
 use Rattle.std.proofs.lemmas.Bool.{true≢false}
+use Rattle.std.proofs.lemmas.List.{append-nil, get_or-map}
 use Rattle.std.proofs.lemmas.List.Quantifiers.{all_pairs_push}
-use Rattle.std.specs.Int.{◌∣◌}
+use Rattle.std.specs.Int.{◌∣◌, is_positive}
 use Rattle.ps_rational.specs.Rational.{Rational, whole, mul, neg, sub, zero_q}
 use Rattle.ps_rational.specs.Order.{IsNonneg}
 use Rattle.ps_rational.specs.Sums.{sum_to}
@@ -23,8 +24,7 @@ use Rattle.ps_basis.proofs.Units.{less_one, unit_at-same, unit_at-other}
 use Rattle.ps_rule.specs.Rule.{SimplexTable, IsFeasible}
 use Rattle.ps_problem.specs.Rows.{signed_by}
 use Rattle.ps_runs.specs.Rows.{Setting, is_exact, entry_in, entries_of, artificial_rows, rows_of, table_of, IsTable}
-use Rattle.ps_runs.specs.Certificates.{value_of, exceeds_zero, is_above, weight_multiple, entries_to, weighted_worlds}
-use Rattle.ps_runs.proofs.Lists.{get_map}
+use Rattle.ps_runs.specs.Certificates.{value_of, is_above, weight_multiple, entries_to, weighted_worlds}
 use Rattle.ps_runs.proofs.Combination.{neg_out}
 use Rattle.ps_runs.proofs.BasicSolution.{find_row, value_apart, value_here, value_nonneg, value_artificial, row_solved}
 use Rattle.ps_runs.proofs.Weights.{weighted_sum-same, entries_weigh, entries_heavy, entries_have}
@@ -63,7 +63,7 @@ module _ (s : Setting) (pool : List World) (basic : ℕ → ℕ) (X : ℕ → �
         | inl p ↦ p
         | inr ne ↦
             let z = zero_over (value_of f (suc (n + k))) (value_apart s pool basic X t (suc (n + k)) ne) in
-            absurd (true≢false (sym e ∙ ap exceeds_zero z))
+            absurd (true≢false (sym e ∙ ap is_positive z))
       ]
 
   pub divides : (k : ℕ) → is_above (value_of f (suc (n + k))) ≡ true → (value_of f (suc (n + k))).under ∣ big
@@ -133,11 +133,11 @@ module _ (s : Setting) (pool : List World) (basic : ℕ → ℕ) (X : ℕ → �
   bounds_met feasible = λ i b l.
       let c = get_or s.bounds i b in
       let e : weighted_sum (weighted_worlds f pool) (λ w. get_or (entries_of s w) (suc i) (pos 0)) ≡ signed_by c.side (weighted_sum (weighted_worlds f pool) (row_value c)) =
-      weighted_sum-same (weighted_worlds f pool) (λ w. get_or (entries_of s w) (suc i) (pos 0)) (λ w. signed_by c.side (row_value c w)) (λ w. get_map (entry_in w) s.bounds i b (pos 0) l)
+      weighted_sum-same (weighted_worlds f pool) (λ w. get_or (entries_of s w) (suc i) (pos 0)) (λ w. signed_by c.side (row_value c w)) (λ w. get_or-map (entry_in w) s.bounds i b (pos 0) l)
       ∙ turned_sum c.side (weighted_worlds f pool) (row_value c) in
       (meets_row c (weighted_worlds f pool)).1
       (compares c.side (weighted_sum (weighted_worlds f pool) (row_value c)) (subst (λ z. z ≤ℤ pos 0) e (bound_low i l))
-      (λ x. sym e ∙ bound_zero i l feasible (get_map (λ a. is_exact a.side) s.bounds i b false l ∙ x)))
+      (λ x. sym e ∙ bound_zero i l feasible (get_or-map (λ a. is_exact a.side) s.bounds i b false l ∙ x)))
 
   pub few_worlds : length (weighted_worlds f pool) ≤ suc (length s.bounds)
   few_worlds = entries_at_most f big pool (length pool) (λ i l. row_of i)
@@ -146,16 +146,12 @@ module _ (s : Setting) (pool : List World) (basic : ℕ → ℕ) (X : ℕ → �
   different_to zero h apart = λ i j d l m. absurd (omega arith)
   different_to (suc k) h apart = cases (is_above (value_of f (suc (n + k)))) (different_to k (omega arith) apart)
     where
-      nothing_after : (xs : List Entry) → xs ++ [] ≡ xs
-      nothing_after [] = refl
-      nothing_after (x ∷ xs) = ap (λ r. x ∷ r) (nothing_after xs)
-
       cases : (b : Bool) → AllPairs (λ (e e' : Entry). e.world ≢ e'.world) (entries_to f big pool k) → AllPairs (λ (e e' : Entry). e.world ≢ e'.world) (entries_to f big pool k ++ cond b (record { weight = scaled big (value_of f (suc (n + k))); world = get_or pool k [] } ∷ []) [])
       cases true before =
           all_pairs_push (λ (e e' : Entry). e.world ≢ e'.world) (entries_to f big pool k) (record { weight = scaled big (value_of f (suc (n + k))); world = get_or pool k [] })
           before
           (entries_have (λ w. w ≢ get_or pool k []) f big pool k (λ i l. apart i k [] l (omega arith)))
-      cases false before = subst (AllPairs (λ (e e' : Entry). e.world ≢ e'.world)) (sym (nothing_after (entries_to f big pool k))) before
+      cases false before = subst (AllPairs (λ (e e' : Entry). e.world ≢ e'.world)) (sym (append-nil (entries_to f big pool k))) before
 
   some_entry : (d : List Entry) → weight d s.query.evidence ≡ pos big → 0 < length d
   some_entry [] e = let h = big_positive in absurd (omega (arith, ints, e, h))

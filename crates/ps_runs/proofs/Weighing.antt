@@ -1,8 +1,8 @@
 -- The entry of a world in a table's model is told by the weight of the row in which it is basic.
-use Rattle.std.proofs.Common.{◌≡◌, ◌≢◌, ℕ, zero, suc, ◌+◌, ◌*◌, ◌/◌, ◌<◌, ℤ, pos, negsuc, ◌*ℤ◌, ◌≤ℤ◌, Bool, true, false, cond, int_lt, ltb, lt-ltb, List, [], ◌∷◌, sym, refl, ap, ◌∙◌, subst, arith}
+use Rattle.std.proofs.Common.{◌≡◌, ◌≢◌, ℕ, zero, suc, ◌+◌, ◌*◌, ◌/◌, ◌<◌, ℤ, pos, negsuc, ◌*ℤ◌, ◌≤ℤ◌, true, false, cond, ltb, lt-ltb, List, [], ◌∷◌, sym, ap, ◌∙◌, subst, arith}
 use Rattle.std.proofs.lemmas.Int.{ints}
 use Rattle.std.proofs.Math.Nat.{mul-pos}
-use Rattle.std.specs.Int.{◌∣◌}
+use Rattle.std.specs.Int.{◌∣◌, is_positive}
 use Rattle.ps_rational.specs.Parts.{part_pos}
 use Rattle.ps_rational.specs.Rational.{Rational}
 use Rattle.ps_rational.specs.Scaled.{scaled}
@@ -14,36 +14,29 @@ use Rattle.ps_meaning.specs.Formula.{World}
 use Rattle.ps_rule.specs.Rule.{SimplexTable}
 use Rattle.ps_table.specs.Places.{weight_under, weight_at}
 use Rattle.ps_runs.specs.Rows.{Setting, rows_of, table_of, IsTable}
-use Rattle.ps_runs.specs.Certificates.{value_of, exceeds_zero, is_above, weight_multiple, entry_for, entry_weighing}
+use Rattle.ps_runs.specs.Certificates.{value_of, weight_multiple, entry_for, entry_weighing}
 use Rattle.ps_runs.proofs.BasicSolution.{value_apart, value_here}
 use Rattle.ps_runs.proofs.Models.{under_positive, big_positive}
 
-exceeds_low : (z : ℤ) → z ≤ℤ pos 0 → exceeds_zero z ≡ false
-exceeds_low (pos zero) h = refl
-exceeds_low (pos (suc n)) h = absurd (omega (arith, ints))
-exceeds_low (negsuc n) h = refl
+not_positive : (z : ℤ) → z ≤ℤ pos 0 → is_positive z ≡ false
+not_positive z h = grind (arith, ints)
 
-exceeds_high : (n : ℕ) → 0 < n → exceeds_zero (pos n) ≡ true
-exceeds_high zero h = absurd (omega arith)
-exceeds_high (suc n) h = refl
+positive : (n : ℕ) → 0 < n → is_positive (pos n) ≡ true
+positive n h = lt-ltb 0 n h
 
 low_times : (z : ℤ) (c : ℕ) → z ≤ℤ pos 0 → (z *ℤ pos c) ≤ℤ pos 0
 low_times z c h = subst (λ x. x ≤ℤ pos 0) (*ℤ_comm (pos c) z) (mul-nonpos (pos c) z (omega (arith, ints)) h)
 
-exceeds_times : (z : ℤ) (c : ℕ) → 0 < c → exceeds_zero (z *ℤ pos c) ≡ exceeds_zero z
-exceeds_times (pos zero) c h = exceeds_low (pos zero *ℤ pos c) (low_times (pos zero) c (omega (arith, ints)))
-exceeds_times (pos (suc n)) c h = exceeds_high (suc n * c) (mul-pos (omega arith) h)
-exceeds_times (negsuc n) c h = exceeds_low (negsuc n *ℤ pos c) (low_times (negsuc n) c (omega (arith, ints)))
-
-exceeds_lt : (z : ℤ) → exceeds_zero z ≡ int_lt (pos 0) z
-exceeds_lt (pos zero) = refl
-exceeds_lt (pos (suc n)) = sym (lt-ltb 0 (suc n) (omega arith))
-exceeds_lt (negsuc n) = refl
+-- a number is above 0 where a positive multiple of it is
+pub positive_times : (z : ℤ) (c : ℕ) → 0 < c → is_positive (z *ℤ pos c) ≡ is_positive z
+positive_times (pos zero) c h = not_positive (pos zero *ℤ pos c) (low_times (pos zero) c (omega (arith, ints)))
+positive_times (pos (suc n)) c h = positive (suc n * c) (mul-pos (omega arith) h) ∙ sym (positive (suc n) (omega arith))
+positive_times (negsuc n) c h = not_positive (negsuc n *ℤ pos c) (low_times (negsuc n) c (omega (arith, ints)))
 
 entry_is : (big : ℕ) (x : Rational) (w : World) → 0 < big → x.under ∣ big → entry_for big x w ≡ entry_weighing (scaled big x) w
 entry_is big x w some d =
     ap (λ b. cond b (record { weight = scaled big x; world = w } ∷ []) [])
-    (sym (exceeds_times x.over (big / x.under) (part_pos big x.under some d)) ∙ exceeds_lt (scaled big x))
+    (sym (positive_times x.over (big / x.under) (part_pos big x.under some d)))
 
 module _ (s : Setting) (pool : List World) (basic : ℕ → ℕ) (X : ℕ → ℕ → Rational) (t : IsTable s pool basic X) where
   abbrev n : ℕ
@@ -67,4 +60,4 @@ module _ (s : Setting) (pool : List World) (basic : ℕ → ℕ) (X : ℕ → �
   pub no_entry : (k : ℕ) (w : World) → ((i : ℕ) → i < n → basic i ≢ suc (n + k)) → entry_for (weight_multiple f) (value_of f (suc (n + k))) w ≡ []
   no_entry k w none =
       ap (λ b. cond b (record { weight = scaled (weight_multiple f) (value_of f (suc (n + k))); world = w } ∷ []) [])
-      (ap exceeds_zero (zero_over (value_of f (suc (n + k))) (value_apart s pool basic X t (suc (n + k)) none)))
+      (ap is_positive (zero_over (value_of f (suc (n + k))) (value_apart s pool basic X t (suc (n + k)) none)))

@@ -1,10 +1,9 @@
 -- The weights of the entries that a table's values give.
 use Rattle.std.proofs.Common.{◌≡◌, ℕ, zero, suc, ◌+◌, ◌*◌, ◌/◌, ◌<◌, ℤ, pos, negsuc, ◌+ℤ◌, ◌*ℤ◌, ◌≤ℤ◌, ◌<ℤ◌, Bool, true, false, cond, List, [], ◌∷◌, ◌++◌, get_or, All, sym, refl, ap, ◌∙◌, arith}
 use Rattle.std.proofs.lemmas.Int.{ints}
-use Rattle.std.proofs.lemmas.Bool.{true≢false}
 use Rattle.std.proofs.lemmas.List.Elements.{All-nil, All-append, All-cons}
 use Rattle.std.proofs.Math.Nat.{mul-pos}
-use Rattle.std.specs.Int.{◌∣◌}
+use Rattle.std.specs.Int.{◌∣◌, is_positive}
 use Rattle.ps_rational.specs.Parts.{part_pos}
 use Rattle.ps_rational.specs.Rational.{Rational, whole, add, mul, zero_q}
 use Rattle.ps_rational.specs.Order.{IsNonneg}
@@ -16,7 +15,7 @@ use Rattle.ps_meaning.specs.Formula.{World}
 use Rattle.ps_meaning.specs.Distribution.{Entry}
 use Rattle.ps_meaning.specs.Rows.{weighted_sum}
 use Rattle.ps_rule.specs.Rule.{SimplexTable}
-use Rattle.ps_runs.specs.Certificates.{value_of, exceeds_zero, is_above, entry_for, entries_to}
+use Rattle.ps_runs.specs.Certificates.{value_of, is_above, entry_for, entries_to}
 use Rattle.ps_rational.proofs.Scaling.{scaled_is}
 use Rattle.ps_rational.specs.Scaled.{scaled}
 
@@ -28,15 +27,11 @@ pub weighted_sum-same : (d : List Entry) (F G : World → ℤ) → ((w : World) 
 weighted_sum-same [] F G h = refl
 weighted_sum-same (e ∷ d) F G h = λ i. (e.weight *ℤ h e.world i) +ℤ weighted_sum-same d F G h i
 
-not_above_zero : (z : ℤ) → pos 0 ≤ℤ z → exceeds_zero z ≡ false → z ≡ pos 0
-not_above_zero (pos zero) h e = refl
-not_above_zero (pos (suc n)) h e = absurd (true≢false e)
-not_above_zero (negsuc n) h e = absurd (omega (arith, ints))
+not_above_zero : (z : ℤ) → pos 0 ≤ℤ z → is_positive z ≡ false → z ≡ pos 0
+not_above_zero z h e = grind (arith, ints)
 
-above_zero : (z : ℤ) → exceeds_zero z ≡ true → pos 0 <ℤ z
-above_zero (pos zero) e = absurd (true≢false (sym e))
-above_zero (pos (suc n)) e = omega (arith, ints)
-above_zero (negsuc n) e = absurd (true≢false (sym e))
+above_zero : (z : ℤ) → is_positive z ≡ true → pos 0 <ℤ z
+above_zero z e = grind (arith, ints)
 
 pub not_above : (x : Rational) → IsNonneg x → is_above x ≡ false → x ≡ zero_q
 not_above x h e = over_is_zero x (not_above_zero x.over h e)

@@ -1,5 +1,6 @@
 -- The whole numbers that certify an answer: duals, from the multipliers of a table, and models, from its values.
-use Rattle.std.specs.Prelude.{◌≡◌, ℕ, zero, suc, ◌+◌, ℤ, pos, neg_ℤ, int_lt, Bool, true, false, cond, if◌then◌else◌, List, [], ◌∷◌, ◌++◌, length, get_or, negsuc}
+use Rattle.std.specs.Prelude.{◌≡◌, ℕ, zero, suc, ◌+◌, ℤ, pos, neg_ℤ, Bool, cond, if◌then◌else◌, List, [], ◌∷◌, ◌++◌, length, get_or}
+use Rattle.std.specs.Int.{is_positive}
 use Rattle.std.proofs.Common.{eqb}
 use Rattle.ps_rational.specs.Rational.{Rational, whole, mul, zero_q}
 use Rattle.ps_rational.specs.Scaled.{scaled}
@@ -22,7 +23,7 @@ use Rattle.ps_runs.specs.Rows.{Setting, rows_of, entries_of}
 abbrev pub multiple_of : SimplexTable → (ℕ → Rational) → ℕ
 multiple_of t cost = places.multiple_to t.rows cost t.basic t.entry t.rows
 
--- a multiplier times it
+-- the multiplier of a row times this multiple, a whole number
 abbrev pub whole_multiplier : SimplexTable → (ℕ → Rational) → ℕ → ℤ
 whole_multiplier t cost m = scaled (multiple_of t cost) (multipliers t cost m)
 
@@ -71,29 +72,23 @@ price s t cost w = sum_to (rows_of s) (λ m. mul (multipliers t cost m) (whole (
 abbrev pub value_of : SimplexTable → ℕ → Rational
 value_of t j = sum_to t.rows (λ i. cond (eqb (t.basic i) j) (t.entry i 0) zero_q)
 
--- whether a whole number is above 0
-abbrev pub exceeds_zero : ℤ → Bool
-exceeds_zero (pos zero) = false
-exceeds_zero (pos (suc n)) = true
-exceeds_zero (negsuc n) = false
-
 -- whether a number is above 0
 abbrev pub is_above : Rational → Bool
-is_above x = exceeds_zero x.over
+is_above x = is_positive x.over
 
 -- the least common multiple of the denominators of the values of basic worlds
 abbrev pub weight_multiple : SimplexTable → ℕ
 weight_multiple t = places.weight_multiple_to t.rows t.basic t.entry t.rows
 
--- an entry where the value is above 0
+-- the entry of a world with this value: the value times the multiple is its weight; none unless the value is above 0
 abbrev pub entry_for : ℕ → Rational → World → List Entry
 entry_for big x w = if is_above x then record { weight = scaled big x; world = w } ∷ [] else []
 
--- an entry of this weight, where it is above 0
+-- the entry of a world with this weight; none unless the weight is above 0
 abbrev pub entry_weighing : ℤ → World → List Entry
-entry_weighing z w = if int_lt (pos 0) z then record { weight = z; world = w } ∷ [] else []
+entry_weighing z w = if is_positive z then record { weight = z; world = w } ∷ [] else []
 
--- the first worlds of the pool, each with its value times the multiple, where it is above 0
+-- of the first worlds of the pool, those of value above 0, each with its value times the multiple
 abbrev pub entries_to : SimplexTable → ℕ → List World → ℕ → List Entry
 entries_to t big pool zero = []
 entries_to t big pool (suc k) = entries_to t big pool k ++ entry_for big (value_of t (suc (t.rows + k))) (get_or pool k [])
