@@ -1,6 +1,5 @@
 -- A dual of the kept bounds, spread over all.
-use Rattle.std.proofs.Common.{◌≡◌, ℕ, zero, suc, ◌+◌, ◌<◌, ◌≤◌, ℤ, pos, Bool, true, false, cond, List, [], ◌∷◌, ◌++◌, length, get_or, drop, All, append_assoc, refl, sym, ap, ◌∙◌, subst, arith}
-use Rattle.std.specs.Prelude.{unsigned_abs}
+use Rattle.std.proofs.Common.{◌≡◌, ℕ, zero, suc, ◌+◌, ◌<◌, ◌≤◌, ℤ, pos, Bool, true, false, cond, List, [], ◌∷◌, ◌++◌, length, get_or, drop, All, refl, sym, ap, ◌∙◌, subst, arith}
 use Rattle.std.proofs.lemmas.List.Elements.{All-nil, All-cons, All-head, All-tail}
 use Rattle.std.proofs.Math.Seq.{drop-cons}
 use Rattle.ps_problem.specs.declared.bound.Bound.{Bound}
@@ -10,22 +9,19 @@ use Rattle.ps_claims.specs.Duals as claims
 use Rattle.ps_claims.specs.Duals.{AreZeroElsewhere}
 use Rattle.ps_claims.specs.Validity.{IsRefuted}
 use Rattle.ps_answer.specs.declared.answer.Dual.{Dual}
-use Rattle.ps_certificate.specs.Certificates.{dual_of, IsMultiplier}
+use Rattle.ps_certificate.specs.Certificates.{IsMultiplier}
 use Rattle.ps_printed.specs.Printed.{IsPrintedDual}
-use Rattle.ps_runs.specs.Kept.{kept_of, flags_of, kept_parts}
+use Rattle.ps_runs.specs.Kept.{kept_of, flags_of}
 use Rattle.ps_runs.specs.Runs.{given_in, both_in}
 use Rattle.ps_runs.proofs.Kept.{same-count, bounds-kept, length-flags, refuted-kept, part-next}
-use Rattle.ps_generation.specs.Phases.{LimitedSubject, IsSpread, kept_dual}
+use Rattle.ps_generation.specs.Phases.{LimitedSubject, IsSpread}
 use Rattle.ps_generation.specs.Spreading.{spread_of, number_for, next_for, IsKeptOf}
 
 -- ---- numbers
 pub kept-spread : (ks : List Bool) (ys : List ℤ) → length ys ≡ length (kept_of ks ks) → kept_of ks (spread_of ks ys) ≡ ys
 kept-spread [] [] e = refl
 kept-spread [] (y ∷ ys) e = absurd (omega (arith, e))
-kept-spread (false ∷ ks) ys e = kept-spread ks ys (e ∙ same-count-off ks ks)
-  where
-    same-count-off : (ks ls : List Bool) → length (kept_of ks ls) ≡ length (kept_of ks ls)
-    same-count-off ks ls = refl
+kept-spread (false ∷ ks) ys e = kept-spread ks ys e
 kept-spread (true ∷ ks) [] e = absurd (omega (arith, e))
 kept-spread (true ∷ ks) (y ∷ ys) e = ap (λ xs. y ∷ xs) (kept-spread ks ys (omega (arith, e)))
 
@@ -104,7 +100,7 @@ spread-next ks ys all longer i n m inside is next h = record {
     one i = omega arith
 
 -- ---- duals
--- as many are kept as the part has bounds
+-- as many are kept as the problem of the kept sentences has bounds
 kept_count : (p part : Parts) (flags : List Bool) (h : IsKeptOf p flags part) → length (bounds_in part.sentences) ≡ length (kept_of flags flags)
 kept_count p part flags h =
     let long : length (flags_of h.kept p.sentences) ≡ length (bounds_in p.sentences) = length-flags h.kept p.sentences h.each in

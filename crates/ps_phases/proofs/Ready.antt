@@ -1,6 +1,7 @@
 -- A run's table is ready for each phase with the phase's costs.
 use Rattle.std.proofs.Common.{◌≡◌, ℕ, suc, ◌+◌, ◌<◌, ◌≤◌, ℤ, pos, negsuc, neg_ℤ, ◌≤ℤ◌, Bool, true, false, cond, List, [], map, length, get_or, sym, ap, ◌∙◌, subst, arith}
 use Rattle.std.proofs.lemmas.Int.{ints}
+use Rattle.std.proofs.lemmas.List.{get_or-map, length-map}
 use Rattle.ps_meaning.specs.Formula.{World, is_true}
 use Rattle.ps_rational.specs.Rational.{one_q, zero_q}
 use Rattle.ps_rule.specs.Rule.{IsFeasible}
@@ -13,7 +14,6 @@ use Rattle.ps_bland.proofs.Posed.{ready_posed}
 use Rattle.ps_claims.specs.declared.claim_kind.ClaimKind.{ClaimKind}
 use Rattle.ps_claims.specs.declared.claim_kind.ClaimKind.TheVariants.{Nothing, Lower, Upper}
 use Rattle.ps_runs.specs.Rows.{Setting, both_of, artificial_rows, rows_of, width_of, columns_of, home_cost, world_cost}
-use Rattle.ps_runs.proofs.Lists.{get_map, length_map}
 use Rattle.ps_runs.proofs.Columns.{rows_length}
 use Rattle.ps_runs.proofs.Starts.{first_costs, side_homes, lower_worlds, upper_worlds, row_homes, row_worlds, row_costly}
 use Rattle.ps_phases.specs.Tables.{costs_for, IsRunTable}
@@ -55,7 +55,7 @@ narrow_world Upper s w = narrow_down (is_true (both_of s) w)
 
 -- what holds of a function's values holds of a list's images
 images : {A : Type 0} (P : ℤ → Type 0) (f : A → ℤ) (xs : List A) (d : A) → ((x : A) → P (f x)) → (i : ℕ) → i < length (map f xs) → P (get_or (map f xs) i (pos 0))
-images P f xs d h i l = subst P (sym (get_map f xs i d (pos 0) (subst (λ k. i < k) (length_map f xs) l))) (h (get_or xs i d))
+images P f xs d h i l = subst P (sym (get_or-map f xs i d (pos 0) (subst (λ k. i < k) (length-map xs f) l))) (h (get_or xs i d))
 
 module _ (s : Setting) (pool : List World) (t : Tableau) (run : IsRunTable s pool t) where
   abbrev rows_same : length t.kinds ≡ rows_of s
@@ -66,8 +66,8 @@ module _ (s : Setting) (pool : List World) (t : Tableau) (run : IsRunTable s poo
 
   pub has_costs : (kind : ClaimKind) → HasCosts (costs_for kind s pool) t
   has_costs kind = record {
-    homes = length_map (home_cost kind) (artificial_rows s) ∙ rows_length s ∙ sym rows_same;
-    worlds = let e = length_map (world_cost kind s) pool in let k = run.worlds in omega (arith, e, k);
+    homes = length-map (artificial_rows s) (home_cost kind) ∙ rows_length s ∙ sym rows_same;
+    worlds = let e = length-map pool (world_cost kind s) in let k = run.worlds in omega (arith, e, k);
     small = record {
       homes_low = images (λ z. negsuc 0 ≤ℤ z) (home_cost kind) (artificial_rows s) false (λ b. (narrow_home kind b).0);
       homes_high = images (λ z. z ≤ℤ pos 1) (home_cost kind) (artificial_rows s) false (λ b. (narrow_home kind b).1);

@@ -1,6 +1,7 @@
 -- A solver's table of the setting's rows and the pool's worlds is, as the rule sees it, the table of the setting.
 use Rattle.std.proofs.Common.{◌≡◌, ℕ, zero, suc, ◌+◌, ◌-◌, ◌<◌, Bool, true, false, List, [], ◌∷◌, map, length, get_or, sym, refl, ap, ◌∙◌, subst, arith, inl, inr}
 use Rattle.std.proofs.lemmas.Bool.{cases_eq}
+use Rattle.std.proofs.lemmas.List.{length-map}
 use Rattle.ps_meaning.specs.Formula.{World}
 use Rattle.ps_rational.specs.Rational.{Rational}
 use Rattle.ps_rational.proofs.Field.{one_not_zero}
@@ -11,7 +12,6 @@ use Rattle.ps_table.specs.declared.home.Home.TheVariants.{Slack}
 use Rattle.ps_table.specs.Tableau.{Tableau, IsInside, IsTableFor, number_in, entry_at, basic_at}
 use Rattle.ps_bland.specs.Rules.{simplex_of, is_artificial, artificial_at}
 use Rattle.ps_runs.specs.Rows.{Setting, artificial_rows, artificial_of, rows_of, width_of, columns_of, table_of, IsTable}
-use Rattle.ps_runs.proofs.Lists.{length_map}
 use Rattle.ps_runs.proofs.Columns.{rows_length}
 use Rattle.ps_phases.specs.Tables.{home_of, homes_of, IsRunTable}
 
@@ -29,7 +29,7 @@ inside_number n worlds (col.Home i) h = (omega arith, omega (arith, h))
 inside_number n worlds (col.World k) h = (omega (arith, h.0), omega (arith, h.1))
 
 pub homes_count : (s : Setting) → length (homes_of s) ≡ rows_of s
-homes_count s = length_map home_of (artificial_rows s) ∙ rows_length s
+homes_count s = length-map (artificial_rows s) home_of ∙ rows_length s
 
 module _ (s : Setting) (pool : List World) (t : Tableau) (kinds : t.kinds ≡ homes_of s) (worlds : t.worlds ≡ length pool) where
   pub rows_are : length t.kinds ≡ rows_of s

@@ -1,27 +1,17 @@
 -- The literals of a combination are of the nodes' variables.
-use Rattle.std.proofs.Common.{◌≡◌, ℕ, ◌<◌, length, All, Option, Some, None, IfSome, sym, ap, subst}
+use Rattle.std.proofs.Common.{◌≡◌, ℕ, length, All, sym, ap, subst}
 use Rattle.ps_steps.proofs.Full.{Below}
 use Rattle.ps_claims.specs.Duals.{Dual}
 use Rattle.ps_claims.specs.declared.claim_kind.ClaimKind.{ClaimKind}
 use Rattle.ps_claims.specs.Goals.{combination_of}
-use Rattle.ps_certificate.specs.Certificates.{HasQuery}
 use Rattle.ps_certificate.proofs.Variables.{combination_below}
 use Rattle.ps_answer.specs.declared.answer.Dual as answered
-use Rattle.ps_problem.specs.declared.query.Query.{Query}
-use Rattle.ps_problem.specs.Problems.{Parts, AreParts, bounds_in}
+use Rattle.ps_problem.specs.Problems.{AreParts, bounds_in}
 use Rattle.ps_maxsat.specs.declared.problem.Wcnf.{Wcnf}
 use Rattle.ps_maxsat.specs.Limits.{IsSoftWithin}
 use Rattle.ps_runs.specs.Runs.{Subject, IsAsked, given_in, both_in}
+use Rattle.ps_runs.proofs.Asked.{given_there, both_there}
 use Rattle.ps_pricing.specs.Pricings.{IsWcnf}
-
--- the nodes of the query are there
-pub given_there : (kind : ClaimKind) (p : Parts) (query : Option Query) → IsAsked kind p query → IfSome (given_in query) (λ g. g < length p.nodes)
-given_there kind p None asked = tt
-given_there kind p (Some q) asked = asked.given_there
-
-pub both_there : (kind : ClaimKind) (p : Parts) (query : Option Query) → IsAsked kind p query → HasQuery kind → both_in query < length p.nodes
-both_there kind p None asked query = absurd (query asked)
-both_there kind p (Some q) asked query = asked.both_there
 
 pub soft_within : (kind : ClaimKind) (s : Subject) (d : answered.Dual) (p : Wcnf) → AreParts s.parts → IsAsked kind s.parts s.query → IsWcnf kind s d p → IsSoftWithin p
 soft_within kind s d p are asked is =

@@ -1,5 +1,5 @@
 -- The verdict of a run without a query, with the parts of the queries, is a solution.
-use Rattle.std.proofs.Common.{◌≡◌, None, List, [], ◌∷◌, All, sym, subst, refl}
+use Rattle.std.proofs.Common.{◌≡◌, None, List, [], ◌∷◌, All, sym, subst}
 use Rattle.std.specs.List.{AllZip}
 use Rattle.std.proofs.lemmas.List.Elements.{All-nil, All-cons}
 use Rattle.ps_problem.specs.declared.query.Query.{Query}
@@ -8,10 +8,8 @@ use Rattle.ps_pool.specs.declared.event.Event.{Event}
 use Rattle.ps_answer.specs.declared.answer.Answer.{Answer}
 use Rattle.ps_answer.specs.declared.answer.QueryPart.{QueryPart}
 use Rattle.ps_answer.specs.declared.answer.Verdict.{Verdict}
-use Rattle.ps_answer.specs.declared.answer.Verdict.TheVariants.{Consistent, Inconsistent, Open}
 use Rattle.ps_claims.specs.Validity.{IsValidVerdict, IsValidPart, IsValid}
 use Rattle.ps_claims.proofs.Valid.{valid-right}
-use Rattle.ps_entailment.specs.Answers.{asked_under}
 use Rattle.ps_valid.specs.Answers.{answer_of, parts_of, verdict_of as claimed_verdict}
 use Rattle.ps_runs.specs.Kept.{AreAllKept}
 use Rattle.ps_runs.specs.Runs.{sentences_of}
@@ -22,7 +20,7 @@ use Rattle.ps_printed.specs.Printed.{IsPrintedAnswer, IsPrintedPart}
 use Rattle.ps_generation.specs.declared.limits.Limits.{Limits}
 use Rattle.ps_generation.specs.Phases.{AreLimits, LimitedSubject}
 use Rattle.ps_reported.specs.Laws.{IsAnswered}
-use Rattle.ps_reported.proofs.Reports.{all_within, all_short}
+use Rattle.ps_reported.proofs.Reports.{all_within, all_short, asked_same}
 use Rattle.ps_master.specs.declared.first.First.{First}
 use Rattle.ps_master.specs.declared.first.First.TheVariants as first
 use Rattle.ps_master.specs.Runs.{RunState, IsPhaseOneAnswer, IsValidFirst, IsPrintedFirst, verdict_of}
@@ -72,11 +70,6 @@ printed_parts limits p [] (x ∷ xs) h = absurd h
 printed_parts limits p (q ∷ qs) [] h = absurd h
 printed_parts limits p (q ∷ qs) (x ∷ xs) h = All-cons (λ part. IsPrintedPart part.answer) x xs h.0.printed (printed_parts limits p qs xs h.1)
 
-asked_same : (v : Verdict) (qs : List Query) → asked_after v qs ≡ asked_under (claimed_verdict v) qs
-asked_same (Consistent m) qs = refl
-asked_same (Inconsistent d) qs = refl
-asked_same (Open cause) qs = refl
-
 module _ (limits : Limits) (p : Parts) (v : Verdict) (events : List Event) (parts : List QueryPart) (is : IsVerdictOf limits p v events) (each : AllZip (IsPartOf limits p) (asked_after v p.queries) parts) where
   abbrev pub answer : Answer
   answer = record { verdict = v; first = events; parts = parts }
@@ -84,7 +77,7 @@ module _ (limits : Limits) (p : Parts) (v : Verdict) (events : List Event) (part
   valid : IsValid p (answer_of answer)
   valid = record {
     verdict = is.valid;
-    parts = subst (λ qs. AllZip (IsValidPart p) qs (parts_of parts)) (asked_same v p.queries) (valid_parts limits p (asked_after v p.queries) parts each);
+    parts = subst (λ qs. AllZip (IsValidPart p) qs (parts_of parts)) (sym (asked_same v p.queries)) (valid_parts limits p (asked_after v p.queries) parts each);
   }
 
   pub printed : IsPrintedAnswer answer

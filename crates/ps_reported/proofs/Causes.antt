@@ -28,7 +28,7 @@ use Rattle.ps_runs.specs.Runs.{Subject, setting_of, given_in, both_in, IsAsked, 
 use Rattle.ps_phases.specs.Licences.{IsOutOfConflicts, IsLicensed}
 use Rattle.ps_printed.specs.Printed.{IsOperand, ArePrintedOperands, IsPrintedSearch, IsPrintedCause}
 use Rattle.ps_reported.proofs.All.{each}
-use Rattle.ps_reported.proofs.Combinations.{given_there, both_there}
+use Rattle.ps_runs.proofs.Asked.{given_there, both_there}
 use Rattle.ps_reported.proofs.Models.{IsFit}
 use Rattle.ps_reported.proofs.Duals.{fit_steps}
 use Rattle.ps_reported.proofs.Places.{IsPlaceUnder, place_more, due_under, new_under}

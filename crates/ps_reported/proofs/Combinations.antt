@@ -1,5 +1,5 @@
 -- What is known before a refutation of a combination is of the nodes' variables, and not much.
-use Rattle.std.proofs.Common.{◌+◌, ◌*◌, ◌<◌, ◌≤◌, ℤ, List, [], ◌∷◌, ◌++◌, length, All, Option, Some, None, IfSome, arith}
+use Rattle.std.proofs.Common.{◌+◌, ◌*◌, ◌≤◌, ℤ, List, [], ◌∷◌, ◌++◌, length, All, arith}
 use Rattle.std.proofs.lemmas.List.{length-append}
 use Rattle.ps_steps.specs.Constraints.{Constraint}
 use Rattle.ps_steps.specs.Weights.{Weighted, constraint_of}
@@ -13,20 +13,6 @@ use Rattle.ps_forms.proofs.Inside.{clauses-inside, nodes-clauses}
 use Rattle.ps_formula.specs.Nodes.{AreNodes}
 use Rattle.ps_clause.proofs.Nodes.{form_length}
 use Rattle.ps_formula.specs.declared.node.Node.{Node}
-use Rattle.ps_problem.specs.declared.query.Query as stored
-use Rattle.ps_problem.specs.Problems.{Parts}
-use Rattle.ps_runs.specs.Runs.{given_in, both_in, IsAsked}
-use Rattle.ps_claims.specs.declared.claim_kind.ClaimKind.{ClaimKind}
-use Rattle.ps_certificate.specs.Certificates.{HasQuery}
-
--- the nodes of what is asked are there
-pub given_there : (kind : ClaimKind) (p : Parts) (q : Option stored.Query) → IsAsked kind p q → IfSome (given_in q) (λ g. g < length p.nodes)
-given_there kind p None asked = tt
-given_there kind p (Some q) asked = asked.given_there
-
-pub both_there : (kind : ClaimKind) (p : Parts) (q : Option stored.Query) → IsAsked kind p q → HasQuery kind → both_in q < length p.nodes
-both_there kind p None asked query = absurd (query asked)
-both_there kind p (Some q) asked query = asked.both_there
 
 -- what is known at first is of the nodes' variables
 pub known_within : (ns : List Node) (ts : Weighted) (least : ℤ) → AreNodes ns → All (Below (length ns)) ts

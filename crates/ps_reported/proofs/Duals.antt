@@ -1,7 +1,8 @@
 -- The lines of a dual that is printed are within the limits.
-use Rattle.std.proofs.Common.{◌≡◌, ℕ, ◌+◌, ◌≤◌, ◌^◌, pos, ◌-ℤ◌, ◌≤ℤ◌, ◌<◌, List, [], ◌∷◌, length, map, Option, IfSome, arith}
-use Rattle.std.specs.List.{AllByRecursion, AllZip}
+use Rattle.std.proofs.Common.{ℕ, ◌≤◌, pos, ◌-ℤ◌, ◌≤ℤ◌, ◌<◌, List, length, map, Option, IfSome, arith}
+use Rattle.std.specs.List.{AllByRecursion}
 use Rattle.std.proofs.lemmas.List.{length-map}
+use Rattle.std.proofs.lemmas.Slice.Zip.{AllZip-long}
 use Rattle.ps_steps.specs.Constraints.{Constraint}
 use Rattle.ps_steps.specs.Steps.{Step, AreLawful}
 use Rattle.ps_forms.specs.Forms.{form_of, first_known}
@@ -16,17 +17,11 @@ use Rattle.ps_claims.specs.declared.claim_kind.ClaimKind.{ClaimKind}
 use Rattle.ps_claims.specs.Duals as claims
 use Rattle.ps_claims.specs.Goals.{combination_of, goal_of}
 use Rattle.ps_claims.specs.Validity.{IsRefuted}
-use Rattle.ps_printed.specs.Printed.{AreOfLiterals, IsPrintedDual}
+use Rattle.ps_printed.specs.Printed.{AreOfLiterals, IsPrintedDual, most_steps}
 use Rattle.ps_reported.proofs.All.{mapped}
 use Rattle.ps_reported.proofs.Combinations.{known_within, few_known}
 use Rattle.ps_reported.proofs.Steps.{steps_within}
 use Rattle.ps_reported.proofs.Models.{IsFit}
-
-zip_length : {X Y : Type 0} (P : X → Y → Type 0) (xs : List X) (ys : List Y) → AllZip P xs ys → length ys ≡ length xs
-zip_length P [] [] h = omega arith
-zip_length P [] (y ∷ ys) h = absurd h
-zip_length P (x ∷ xs) [] h = absurd h
-zip_length P (x ∷ xs) (y ∷ ys) h = let e = zip_length P xs ys h.1 in omega (arith, e)
 
 fit_step : (s : Step) → IsStepWithin s → IsFit (line.StepLine s)
 fit_step s h = (λ i d l. (h.lits i d l).0, h)
@@ -36,7 +31,7 @@ module _ (p : Parts) (are : AreParts p) (kind : ClaimKind) (given : Option ℕ) 
   abbrev goal_for : claims.Dual → Constraint
   goal_for d = goal_of (combination_of kind given both (bounds_in p.sentences) d)
 
-  pub fit_steps : (d : claims.Dual) (steps : List Step) → length steps ≤ 2 ^ 40 + 1 → AreOfLiterals steps
+  pub fit_steps : (d : claims.Dual) (steps : List Step) → length steps ≤ most_steps → AreOfLiterals steps
       → AreLawful (length p.nodes) (first_known (form_of p.nodes) (goal_for d)) steps → AllByRecursion IsFit (map line.StepLine steps)
   fit_steps d steps few literals lawful =
       let c = combination_of kind given both (bounds_in p.sentences) d in
@@ -50,7 +45,7 @@ module _ (p : Parts) (are : AreParts p) (kind : ClaimKind) (given : Option ℕ) 
   fit_dual d top refuted printed =
       let steps = printed.steps in
       let bounds = are.few_bounds in
-      let long = zip_length (λ b y. claims.HasSign b.side y) (bounds_of p) d.rows refuted.signs in
+      let long = AllZip-long (λ b y. claims.HasSign b.side y) (bounds_of p) d.rows refuted.signs in
       let same = length-map (bounds_in p.sentences) (bound_of p.nodes) in (
         (top, (printed.numbers.top, printed.numbers.head, omega (arith, steps))),
         (

@@ -33,7 +33,7 @@ use Rattle.ps_reported.proofs.Sides.{verdict_fit, query_fit}
 HasItsNodes : Parts → Query → Type 0
 HasItsNodes p q = HasNodes p.nodes q.formula q.given q.both
 
-asked_same : (v : Verdict) (qs : List Query) → asked_under (verdict_of v) qs ≡ asked_after v qs
+pub asked_same : (v : Verdict) (qs : List Query) → asked_under (verdict_of v) qs ≡ asked_after v qs
 asked_same (Consistent m) qs = refl
 asked_same (Inconsistent d) qs = refl
 asked_same (Open cause) qs = refl

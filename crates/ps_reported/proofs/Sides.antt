@@ -30,7 +30,7 @@ use Rattle.ps_phases.specs.Verdicts.{IsVerdictAt, IsSideAt, AreLawfulBounds, IsL
 use Rattle.ps_printed.specs.Printed.{IsPrintedModel, IsPrintedDual, IsPrintedVerdict, IsPrintedSide, IsPrintedPart}
 use Rattle.ps_valid.specs.Answers.{verdict_of, side_of, part_of}
 use Rattle.ps_reported.proofs.All.{both, each}
-use Rattle.ps_reported.proofs.Combinations.{given_there, both_there}
+use Rattle.ps_runs.proofs.Asked.{given_there, both_there}
 use Rattle.ps_reported.proofs.Values.{value_small, value_low}
 use Rattle.ps_reported.proofs.Models.{IsFit, fit_model}
 use Rattle.ps_reported.proofs.Duals.{fit_dual}

@@ -14,7 +14,6 @@ use Rattle.ps_basis.proofs.PivotKeeps.{stands_kept}
 use Rattle.ps_basis.proofs.Columns.{stands_more}
 use Rattle.ps_basis.proofs.OneTable.{one_table}
 use Rattle.ps_basis.proofs.Agreeing.{same_stands}
-use Rattle.ps_basis.proofs.Units.{less_one}
 use Rattle.ps_rule.specs.declared.phase.Phase.{Phase}
 use Rattle.ps_rule.specs.declared.phase.Phase.TheVariants.{One, Lower, Upper}
 use Rattle.ps_rule.specs.Rule.{SimplexTable, carried, Improves, HasLeastRatio, LeavesInPhaseTwo, Leaves}
@@ -23,15 +22,13 @@ use Rattle.ps_rule.specs.Laws.{multipliers}
 use Rattle.ps_rule.proofs.Combination.{priced_improves}
 use Rattle.ps_claims.specs.declared.claim_kind.ClaimKind.{ClaimKind}
 use Rattle.ps_claims.specs.declared.claim_kind.ClaimKind.TheVariants.{Nothing}
-use Rattle.ps_runs.specs.Rows.{Setting, phase_of, entries_of, artificial_rows, rows_of, columns_of, width_of, system_of, world_cost, cost_of, table_of}
+use Rattle.ps_runs.specs.Rows.{Setting, phase_of, entries_of, rows_of, columns_of, width_of, system_of, world_cost, cost_of, table_of}
 use Rattle.ps_runs.specs.Certificates.{combination_at, multiple_of, price}
 use Rattle.ps_runs.specs.Runs.{Subject, setting_of, Stage, IsStart, IsFeasibleAt, IsPricedAt}
-use Rattle.ps_runs.proofs.Lists.{get_left, get_past}
-use Rattle.ps_runs.proofs.Columns.{rows_length, has_homes, world_at, home_cost_at, world_cost_at}
+use Rattle.ps_runs.proofs.Columns.{has_homes, world_at, world_cost_at}
 use Rattle.ps_runs.proofs.Combination.{gain_is}
-use Rattle.ps_runs.proofs.BasicSolution.{column_cases}
 use Rattle.ps_runs.proofs.Starts.{first_table, stands_same, more_worlds, longer}
-use Rattle.ps_runs.proofs.Pricing.{last_world}
+use Rattle.ps_runs.proofs.Pricing.{last_world, same_cost, world_real}
 
 -- a basis has a table, and it names homes and worlds of the pool
 pub record HasTable (s : Setting) (pool : List World) (basic : ℕ → ℕ) : Type 0 where
@@ -172,21 +169,11 @@ module _ (kind : ClaimKind) (s : Setting) (pool : List World) (w : World) (basic
       (record { same = one_table (rows_of s) (width_of s (pool ++ w ∷ [])) (columns_of s (pool ++ w ∷ [])) more.table Z basic (omega arith) more.last more.stands new })
       more.stands
 
-  same_cost : (j : ℕ) → 0 < j → j < width_of s pool → cost_of kind s (pool ++ w ∷ []) j ≡ cost_of kind s pool j
-  same_cost j g l = elim (column_cases (rows_of s) (length pool) j g l) [
-    | inl p ↦ ap (cost_of kind s (pool ++ w ∷ [])) p.2 ∙ home_cost_at kind s (pool ++ w ∷ []) p.0 p.1 ∙ sym (home_cost_at kind s pool p.0 p.1) ∙ ap (cost_of kind s pool) (sym p.2)
-    | inr p ↦
-        ap (cost_of kind s (pool ++ w ∷ [])) p.2
-        ∙ world_cost_at kind s (pool ++ w ∷ []) p.0 (omega (arith, p.1, length-append pool (w ∷ [])))
-        ∙ ap (λ v. whole (world_cost kind s v)) (get_left pool (w ∷ []) p.0 [] p.1)
-        ∙ sym (world_cost_at kind s pool p.0 p.1) ∙ ap (cost_of kind s pool) (sym p.2)
-  ]
-
   same_multiplier : (m : ℕ) → m < rows_of s
       → multipliers (table_of s (pool ++ w ∷ []) basic Z) (cost_of kind s (pool ++ w ∷ [])) m ≡ multipliers (table_of s pool basic X) (cost_of kind s pool) m
   same_multiplier m l =
       sum_same (rows_of s) (λ i. mul (cost_of kind s (pool ++ w ∷ []) (basic i)) (Z i (suc m))) (λ i. mul (cost_of kind s pool (basic i)) (X i (suc m)))
-      (λ i k z. mul (same_cost (basic i) (h.first i k) (h.last i k) z) (sym (same_entries i (suc m) k (omega arith)) z))
+      (λ i k z. mul (same_cost kind s pool w (basic i) (h.first i k) (h.last i k) z) (sym (same_entries i (suc m) k (omega arith)) z))
 
   -- the column of the world
   abbrev column : ℕ
@@ -214,7 +201,7 @@ module _ (kind : ClaimKind) (s : Setting) (pool : List World) (w : World) (basic
       gain_is kind s f cost w refl ∙ (λ z. mul (whole (pos (multiple_of f cost))) (sub (sym priced z) (sym its_cost z))) in
       priced_improves (system_of s (pool ++ w ∷ [])) (width_of s (pool ++ w ∷ [])) basic Z later column (multiple_of f cost) (combination_at kind s f cost w) new_stands
       (omega arith) (omega (arith, length-append pool (w ∷ [])))
-      (ap (λ i. get_or (artificial_rows s) i false) (less_one (rows_of s + length pool)) ∙ get_past (artificial_rows s) (rows_of s + length pool) false (omega (arith, rows_length s)))
+      (world_real s (length pool))
       gain (omega (arith, ints, above))
 
 -- after a priced world none is priced before a pivot

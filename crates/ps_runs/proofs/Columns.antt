@@ -2,13 +2,13 @@
 use Rattle.std.proofs.Common.{◌≡◌, ℕ, suc, ◌+◌, ◌-◌, ◌<◌, ◌≤◌, pos, true, false, cond, List, [], map, length, get_or, get_or-append-add, sym, refl, ap, ◌∙◌, subst, arith}
 use Rattle.std.proofs.lemmas.Bool.{lt-leb}
 use Rattle.std.proofs.Common.{le-leb}
+use Rattle.std.proofs.lemmas.List.{get_or-map, get_or_append_left, length-map}
 use Rattle.ps_rational.specs.Rational.{fraction, whole, zero_q, one_q}
 use Rattle.ps_rational.proofs.Field.{zero_is_fraction, one_is_fraction}
 use Rattle.ps_meaning.specs.Formula.{World}
 use Rattle.ps_basis.specs.Table.{unit_at, HasHomes}
 use Rattle.ps_basis.proofs.Units.{less_one}
 use Rattle.ps_runs.specs.Rows.{Setting, is_exact, entries_of, artificial_rows, rows_of, columns_of, home_cost, world_cost, costs_of, cost_of}
-use Rattle.ps_runs.proofs.Lists.{get_map, get_left, length_map}
 use Rattle.ps_claims.specs.declared.claim_kind.ClaimKind.{ClaimKind}
 use Rattle.ps_claims.specs.declared.claim_kind.ClaimKind.TheVariants.{Nothing, Lower, Upper}
 
@@ -27,22 +27,22 @@ world_at s pool m k =
     place i = omega arith
 
 pub rows_length : (s : Setting) → length (artificial_rows s) ≡ rows_of s
-rows_length s = ap suc (length_map (λ b. is_exact b.side) s.bounds)
+rows_length s = ap suc (length-map s.bounds (λ b. is_exact b.side))
 
 costs_length : (kind : ClaimKind) (s : Setting) → length (map (home_cost kind) (artificial_rows s)) ≡ rows_of s
-costs_length kind s = length_map (home_cost kind) (artificial_rows s) ∙ rows_length s
+costs_length kind s = length-map (artificial_rows s) (home_cost kind) ∙ rows_length s
 
 -- the cost of a home
 pub home_cost_at : (kind : ClaimKind) (s : Setting) (pool : List World) (i : ℕ) → i < rows_of s → cost_of kind s pool (suc i) ≡ whole (home_cost kind (get_or (artificial_rows s) i false))
 home_cost_at kind s pool i h =
     ap (λ k. fraction (get_or (costs_of kind s pool) k (pos 0)) 1) (less_one i)
-    ∙ ap whole (get_left (map (home_cost kind) (artificial_rows s)) (map (world_cost kind s) pool) i (pos 0) (subst (λ n. i < n) (sym (costs_length kind s)) h) ∙ get_map (home_cost kind) (artificial_rows s) i false (pos 0) (subst (λ n. i < n) (sym (rows_length s)) h))
+    ∙ ap whole (get_or_append_left (map (home_cost kind) (artificial_rows s)) (map (world_cost kind s) pool) (pos 0) i (subst (λ n. i < n) (sym (costs_length kind s)) h) ∙ get_or-map (home_cost kind) (artificial_rows s) i false (pos 0) (subst (λ n. i < n) (sym (rows_length s)) h))
 
 -- the cost of a world
 pub world_cost_at : (kind : ClaimKind) (s : Setting) (pool : List World) (k : ℕ) → k < length pool → cost_of kind s pool (suc (rows_of s + k)) ≡ whole (world_cost kind s (get_or pool k []))
 world_cost_at kind s pool k h =
     ap (λ i. fraction (get_or (costs_of kind s pool) i (pos 0)) 1) (less_one (rows_of s + k) ∙ ap (λ n. n + k) (sym (costs_length kind s)))
-    ∙ ap whole (get_or-append-add (map (home_cost kind) (artificial_rows s)) (map (world_cost kind s) pool) k (pos 0) ∙ get_map (world_cost kind s) pool k [] (pos 0) h)
+    ∙ ap whole (get_or-append-add (map (home_cost kind) (artificial_rows s)) (map (world_cost kind s) pool) k (pos 0) ∙ get_or-map (world_cost kind s) pool k [] (pos 0) h)
 
 plain_cost : (kind : ClaimKind) → home_cost kind false ≡ pos 0
 plain_cost Nothing = refl

@@ -35,6 +35,11 @@ sum_first : (n : ℕ) (f : ℕ → ℤ) → int_sum_to (suc n) f ≡ f 0 +ℤ in
 sum_first zero f = omega (arith, ints)
 sum_first (suc n) f = let e = sum_first n f in omega (arith, ints, e)
 
+-- a number for each bound
+pub signed-length : (bs : List Bound) (P : ℕ → ℤ) → length (signed bs P) ≡ length bs
+signed-length [] P = refl
+signed-length (b ∷ bs) P = ap suc (signed-length bs (λ i. P (suc i)))
+
 rows_sum_is : (bs : List Bound) (P : ℕ → ℤ) (w : World) → sum_of_rows bs (signed bs P) w ≡ int_sum_to (length bs) (λ i. P i *ℤ get_or (map (entry_in w) bs) i (pos 0))
 rows_sum_is [] P w = refl
 rows_sum_is (b ∷ bs) P w =

@@ -1,6 +1,7 @@
 -- How the phases end: a phase that rests above 0 shows that nothing is allowed, and the model of a side reaches its value.
 use Rattle.std.proofs.Common.{◌≡◌, ◌≢◌, ℕ, zero, suc, ◌+◌, ◌-◌, ◌<◌, ℤ, pos, ◌*ℤ◌, ◌≤ℤ◌, neg_ℤ, Bool, true, false, cond, List, [], ◌∷◌, length, get_or, sym, refl, ap, ◌∙◌, subst, arith, inl, inr}
 use Rattle.std.proofs.lemmas.Int.{ints}
+use Rattle.std.proofs.lemmas.List.{get_or_past}
 use Rattle.ps_rational.specs.Rational.{Rational, whole, add, mul, neg, zero_q, one_q}
 use Rattle.ps_rational.specs.Order.{IsNonneg}
 use Rattle.ps_rational.specs.Sums.{sum_to}
@@ -21,7 +22,6 @@ use Rattle.ps_runs.specs.Rows.{Setting, both_of, artificial_rows, rows_of, colum
 use Rattle.ps_runs.specs.Certificates.{value_of, weight_multiple, weighted_worlds, table_dual, multiple_of, whole_multiplier}
 use Rattle.ps_runs.proofs.Combination.{multiple_positive, multiplier_scaled, neg_out}
 use Rattle.std.proofs.lemmas.Bool.{true≢false}
-use Rattle.ps_runs.proofs.Lists.{get_past}
 use Rattle.ps_runs.proofs.Columns.{rows_length, home_cost_at, world_cost_at, artificial_cost}
 use Rattle.ps_runs.proofs.BasicSolution.{column_cases, basic_sum, value_right}
 use Rattle.ps_runs.proofs.Models.{model_sum, evidence_weight}
@@ -54,7 +54,7 @@ module _ (s : Setting) (pool : List World) (basic : ℕ → ℕ) (X : ℕ → �
 
   -- no world is artificial
   no_world : (k : ℕ) → get_or (artificial_rows s) (rows_of s + k) false ≡ true → ⊥
-  no_world k e = true≢false (sym e ∙ get_past (artificial_rows s) (rows_of s + k) false (omega (arith, rows_length s)))
+  no_world k e = true≢false (sym e ∙ get_or_past (artificial_rows s) (rows_of s + k) false (omega (arith, rows_length s)))
 
   parts_nonneg : (i : ℕ) → i < n → IsNonneg (mul (cost_of Nothing s pool (basic i)) (X i 0))
   parts_nonneg i l = nonneg-mul (cost_of Nothing s pool (basic i)) (X i 0) (first_cost_nonneg s pool (basic i) (t.first i l) (t.last i l)) (t.values i l)

@@ -1,10 +1,11 @@
 -- The kept sentences of a problem, and duals with multiplier 0 at the bounds of the others.
-use Rattle.std.proofs.Common.{drop, get_or, append_assoc, ◌≡◌, ℕ, zero, suc, ◌+◌, ◌<◌, ◌≤◌, ◌-◌, ℤ, pos, negsuc, ◌+ℤ◌, ◌-ℤ◌, ◌*ℤ◌, neg_ℤ, ◌≤ℤ◌, Bool, true, false, cond, Option, Some, None, List, [], ◌∷◌, ◌++◌, length, map, All, refl, sym, ap, ◌∙◌, subst, arith, inl, inr, max}
+use Rattle.std.proofs.Common.{drop, get_or, append_assoc, ◌≡◌, ℕ, zero, suc, ◌+◌, ◌<◌, ◌≤◌, ◌-◌, ℤ, pos, ◌+ℤ◌, ◌-ℤ◌, ◌*ℤ◌, neg_ℤ, Bool, true, false, cond, Option, Some, None, List, [], ◌∷◌, ◌++◌, length, map, All, refl, sym, ap, ◌∙◌, subst, arith}
 use Rattle.std.specs.Prelude.{◌==◌}
 use Rattle.std.specs.List.{AllZip}
 use Rattle.std.proofs.lemmas.Int.{ints}
 use Rattle.std.proofs.lemmas.Bool.{true≢false}
 use Rattle.std.proofs.lemmas.List.{append-nil}
+use Rattle.std.proofs.lemmas.Slice.Zip.{AllZip-long}
 use Rattle.std.proofs.Math.Seq.{drop-cons}
 use Rattle.std.proofs.lemmas.List.Elements.{All-nil, All-cons, All-head, All-tail}
 use Rattle.ps_meaning.specs.declared.side.Side.{Side}
@@ -14,7 +15,7 @@ use Rattle.ps_meaning.specs.declared.side.Side.TheVariants.{AtLeast, AtMost, Exa
 use Rattle.ps_steps.specs.Constraints.{Constraint}
 use Rattle.ps_steps.specs.Steps.{Refutes}
 use Rattle.ps_steps.specs.Assignments.{place}
-use Rattle.ps_steps.specs.Weights.{Weighted, constant_part, constant_of, variable_part, coefficient_at, term_at, turned, terms_below, sum_below, last_variable, constraint_of}
+use Rattle.ps_steps.specs.Weights.{Weighted, constant_of, coefficient_at, term_at, turned, terms_below, sum_below, last_variable, constraint_of}
 use Rattle.ps_forms.specs.Forms.{form_of, first_known}
 use Rattle.ps_formula.specs.declared.node.Node.{Node}
 use Rattle.ps_problem.specs.declared.bound.Bound.{Bound}
@@ -144,14 +145,8 @@ pub parts-all : (kept : List Bool) (p : Parts) → IsChoice kept p → AreAllKep
 parts-all kept p e all = λ i. record { names = p.names; nodes = p.nodes; sentences = all-kept kept p.sentences e all i; queries = p.queries }
 
 -- ---- duals
-zip-length : {A B : Type 0} (R : A → B → Type 0) (xs : List A) (ys : List B) → AllZip R xs ys → length xs ≡ length ys
-zip-length R [] [] h = refl
-zip-length R [] (y ∷ ys) h = absurd h
-zip-length R (x ∷ xs) [] h = absurd h
-zip-length R (x ∷ xs) (y ∷ ys) h = ap suc (zip-length R xs ys h.1)
-
 pub rows-all : (flags : List Bool) (ys : List ℤ) → AreAllKept flags → AreZeroElsewhere flags ys → kept_of flags ys ≡ ys
-rows-all flags ys all off = all-kept flags ys (zip-length (λ k y. k ≡ false → y ≡ pos 0) flags ys off) all
+rows-all flags ys all off = all-kept flags ys (sym (AllZip-long (λ k y. k ≡ false → y ≡ pos 0) flags ys off)) all
 
 zero_signed : (side : Side) (y : ℤ) → y ≡ pos 0 → HasSign side y
 zero_signed AtLeast y e = omega (arith, ints, e)

@@ -1,5 +1,4 @@
 pub mod Combination
-pub mod Lists
 pub mod Columns
 pub mod Resting
 pub mod BasicSolution
@@ -17,3 +16,4 @@ pub mod Tight
 pub mod Weighing
 pub mod Priced
 pub mod Kept
+pub mod Asked

@@ -1,5 +1,5 @@
 -- What is found of a dual with the numbers of a resting table, as an event or an end of the run.
-use Rattle.std.proofs.Common.{◌≡◌, ℕ, ℤ, pos, ◌-ℤ◌, ◌≤ℤ◌, ◌<ℤ◌, List, length, inl, inr, sym, refl, ap, ◌∙◌, subst}
+use Rattle.std.proofs.Common.{◌≡◌, ℕ, ℤ, pos, ◌-ℤ◌, ◌≤ℤ◌, ◌<ℤ◌, List, length, inl, inr, ap, ◌∙◌, subst}
 use Rattle.ps_meaning.specs.Formula.{World}
 use Rattle.ps_rational.specs.Rational.{Rational}
 use Rattle.ps_steps.specs.Weights.{constraint_of}

@@ -10,20 +10,20 @@ use Rattle.ps_basis.proofs.Units.{less_one}
 use Rattle.ps_rule.specs.Rule.{carried, Improves, IsDueToEnd, IsMoving, IsResting}
 use Rattle.ps_runs.specs.Rows.{Setting, phase_of, entries_of, artificial_rows, rows_of, columns_of, width_of, world_cost, cost_of, table_of, IsTable}
 use Rattle.ps_runs.specs.Certificates.{table_dual, price}
-use Rattle.ps_runs.proofs.Lists.{get_left, get_past}
 use Rattle.ps_runs.proofs.Columns.{rows_length, home_cost_at, world_cost_at}
 use Rattle.ps_runs.proofs.Combination.{above_priced}
 use Rattle.ps_runs.proofs.Resting.{priced_in_pool}
 use Rattle.ps_runs.proofs.BasicSolution.{column_cases}
 use Rattle.ps_runs.proofs.Starts.{added_table}
-use Rattle.std.proofs.lemmas.List.{length-append}
+use Rattle.std.proofs.lemmas.List.{length-append, get_or_append_left, get_or_past}
 use Rattle.ps_rule.specs.Laws.{multipliers}
 use Rattle.ps_claims.specs.declared.claim_kind.ClaimKind.{ClaimKind}
 use Rattle.ps_claims.specs.declared.claim_kind.ClaimKind.TheVariants.{Nothing, Lower, Upper}
 use Rattle.ps_claims.specs.Duals.{combination}
 
-world_real : (s : Setting) (k : ℕ) → get_or (artificial_rows s) (suc (rows_of s + k) - 1) false ≡ false
-world_real s k = ap (λ i. get_or (artificial_rows s) i false) (less_one (rows_of s + k)) ∙ get_past (artificial_rows s) (rows_of s + k) false (omega (arith, rows_length s))
+-- the column of a world isn't artificial
+pub world_real : (s : Setting) (k : ℕ) → get_or (artificial_rows s) (suc (rows_of s + k) - 1) false ≡ false
+world_real s k = ap (λ i. get_or (artificial_rows s) i false) (less_one (rows_of s + k)) ∙ get_or_past (artificial_rows s) (rows_of s + k) false (omega (arith, rows_length s))
 
 -- a world of the pool that is priced above its cost improves
 pool_improves : (kind : ClaimKind) (s : Setting) (pool : List World) (basic : ℕ → ℕ) (X : ℕ → ℕ → Rational) (k : ℕ) → IsTable s pool basic X → k < length pool
@@ -46,14 +46,14 @@ priced_is_new kind s pool basic X k t rest l above =
     rest.none (suc (rows_of s + k)) (pool_improves kind s pool basic X k t l ((above_priced kind s (table_of s pool basic X) (cost_of kind s pool) (get_or pool k []) refl).0 (omega (arith, ints, above))))
 
 -- costs before the new world are the same
-same_cost : (kind : ClaimKind) (s : Setting) (pool : List World) (w : World) (j : ℕ) → 0 < j → j < width_of s pool → cost_of kind s (pool ++ w ∷ []) j ≡ cost_of kind s pool j
+pub same_cost : (kind : ClaimKind) (s : Setting) (pool : List World) (w : World) (j : ℕ) → 0 < j → j < width_of s pool → cost_of kind s (pool ++ w ∷ []) j ≡ cost_of kind s pool j
 same_cost kind s pool w j h l =
     elim (column_cases (rows_of s) (length pool) j h l) [
       | inl p ↦ ap (cost_of kind s (pool ++ w ∷ [])) p.2 ∙ home_cost_at kind s (pool ++ w ∷ []) p.0 p.1 ∙ sym (home_cost_at kind s pool p.0 p.1) ∙ ap (cost_of kind s pool) (sym p.2)
       | inr p ↦
           ap (cost_of kind s (pool ++ w ∷ [])) p.2
           ∙ world_cost_at kind s (pool ++ w ∷ []) p.0 (omega (arith, p.1, length-append pool (w ∷ [])))
-          ∙ ap (λ v. whole (world_cost kind s v)) (get_left pool (w ∷ []) p.0 [] p.1)
+          ∙ ap (λ v. whole (world_cost kind s v)) (get_or_append_left pool (w ∷ []) [] p.0 p.1)
           ∙ sym (world_cost_at kind s pool p.0 p.1) ∙ ap (cost_of kind s pool) (sym p.2)
     ]
 

@@ -1,7 +1,7 @@
 -- The first table, a table with one world more, and what each phase finds at its start.
 use Rattle.std.proofs.Common.{◌≡◌, ◌≢◌, ◌⊎◌, ℕ, zero, suc, ◌+◌, ◌-◌, ◌<◌, ◌≤◌, pos, neg_ℤ, Bool, true, false, ◌&&◌, cond, eqb, leb, List, [], ◌∷◌, ◌++◌, length, get_or, sym, refl, ap, ◌∙◌, subst, arith, inl, inr}
 use Rattle.std.proofs.lemmas.Bool.{cases_lt, true≢false}
-use Rattle.std.proofs.lemmas.List.{length-append}
+use Rattle.std.proofs.lemmas.List.{length-append, get_or_append_left, get_or_past}
 use Rattle.ps_rational.specs.Rational.{Rational, fraction, whole, mul, neg, zero_q, one_q}
 use Rattle.ps_rational.specs.Order.{IsNonneg}
 use Rattle.ps_rational.proofs.Field.{zero_is_fraction, one_is_fraction, minus_one_is_fraction, ring_q, one_not_zero}
@@ -13,7 +13,6 @@ use Rattle.ps_basis.specs.Table.{unit_at, HasHomes, IsBasisTable, IsFirst, Widen
 use Rattle.ps_basis.proofs.Columns.{stands_new, stands_more}
 use Rattle.ps_basis.proofs.Units.{less_one}
 use Rattle.ps_runs.specs.Rows.{Setting, both_of, entries_of, artificial_rows, rows_of, columns_of, width_of, home_cost, cost_of, IsTable}
-use Rattle.ps_runs.proofs.Lists.{get_left, get_past}
 use Rattle.ps_runs.proofs.Columns.{home_at, has_homes, world_at, rows_length, home_cost_at, world_cost_at}
 use Rattle.ps_runs.proofs.BasicSolution.{column_cases}
 use Rattle.ps_claims.specs.declared.claim_kind.ClaimKind.{ClaimKind}
@@ -53,7 +52,7 @@ more_worlds s pool w m j h =
     elim (cases_lt j (suc (rows_of s))) [
       | inl l ↦ home_at s pool m j (omega arith) ∙ sym (home_at s (pool ++ w ∷ []) m j (omega arith))
       | inr l ↦
-          ap (λ v. cond (leb j (rows_of s)) (unit_at m (j - 1)) (fraction (get_or (entries_of s v) m (pos 0)) 1)) (sym (get_left pool (w ∷ []) (j - suc (rows_of s)) [] (omega arith)))
+          ap (λ v. cond (leb j (rows_of s)) (unit_at m (j - 1)) (fraction (get_or (entries_of s v) m (pos 0)) 1)) (sym (get_or_append_left pool (w ∷ []) [] (j - suc (rows_of s)) (omega arith)))
     ]
 
 pub longer : (s : Setting) (pool : List World) (w : World) → width_of s (pool ++ w ∷ []) ≡ suc (width_of s pool)
@@ -86,7 +85,7 @@ first_costs s pool j h k =
           ∙ ap (λ i. cond (get_or (artificial_rows s) i false) one_q zero_q) (sym (ap (λ i. i - 1) p.2 ∙ less_one p.0))
       | inr p ↦
           ap (cost_of Nothing s pool) p.2 ∙ world_cost_at Nothing s pool p.0 p.1 ∙ zero_is_fraction
-          ∙ ap (λ b. cond b one_q zero_q) (sym (ap (λ i. get_or (artificial_rows s) i false) (ap (λ i. i - 1) p.2 ∙ less_one (rows_of s + p.0)) ∙ get_past (artificial_rows s) (rows_of s + p.0) false (omega (arith, rows_length s))))
+          ∙ ap (λ b. cond b one_q zero_q) (sym (ap (λ i. get_or (artificial_rows s) i false) (ap (λ i. i - 1) p.2 ∙ less_one (rows_of s + p.0)) ∙ get_or_past (artificial_rows s) (rows_of s + p.0) false (omega (arith, rows_length s))))
     ]
 
 pub side_homes : (kind : ClaimKind) (s : Setting) (pool : List World) (j : ℕ) → kind ≢ Nothing → 0 < j → j ≤ rows_of s → cost_of kind s pool j ≡ zero_q

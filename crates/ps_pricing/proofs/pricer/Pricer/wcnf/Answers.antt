@@ -1,13 +1,13 @@
-use Rattle.std.proofs.Common.{rules, ◌≡◌, ℕ, Option, All, sym, subst, length}
+use Rattle.std.proofs.Common.{rules, ◌≡◌, ℕ, Option, sym, subst}
 use Rattle.std.specs.Option.{IfSome}
 use Rattle.ps_runs.specs.Runs.{given_in, both_in}
-use Rattle.ps_problem.specs.declared.bound.Bound.{Bound}
-use Rattle.ps_problem.specs.Problems.{AreParts, AreBounds, bounds_in}
+use Rattle.ps_problem.specs.Problems.{AreParts, bounds_in}
 use Rattle.ps_certificate.specs.Rows.{AreOverNodes, IsNode}
 use Rattle.ps_certificate.proofs.Sums.{node-given, node-both}
 use Rattle.ps_maxsat.specs.declared.problem.Wcnf.{Wcnf}
 use Rattle.ps_pricing.specs.Pricings.{IsWcnf}
-use Rattle.ps_pricing.proofs.Terms.{given_there, both_there, soft_within}
+use Rattle.ps_runs.proofs.Asked.{given_there, both_there}
+use Rattle.ps_pricing.proofs.Terms.{soft_within}
 use Rattle.ps_pricing.proofs.pricer.Pricer.wcnf.Goals as goal
 
 pub combination_of-requires-clause-bounds : goal.combination_of-requires-clause-bounds
