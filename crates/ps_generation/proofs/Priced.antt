@@ -27,7 +27,7 @@ use Rattle.ps_runs.proofs.Priced.{same_goal, priced_greatest, priced_cut, refute
 use Rattle.ps_phases.specs.Licences.{IsOutOfConflicts, IsTooWide}
 use Rattle.ps_phases.proofs.Licensing.{multiplier_due, dual_due}
 use Rattle.ps_phases.proofs.TableEnds.{dual_of_stage, spent_at_rest}
-use Rattle.ps_pricing.specs.Pricings.{IsFound, IsRefuted, IsSpent}
+use Rattle.ps_pricing.specs.Pricings.{IsFound, IsRefutedBy, IsSpent}
 use Rattle.ps_generation.specs.declared.state.State.{State}
 use Rattle.ps_generation.specs.declared.end.End.{End}
 use Rattle.ps_generation.specs.declared.end.End.TheVariants.{NoneAbove, Open}
@@ -68,13 +68,13 @@ module _ (kind : ClaimKind) (r : LimitedSubject) (costs : Costs) (old : State) (
               cut.least cut.steps cut.above cut.spent
         ]
 
-    pub refuted_end : (e : Dual) → IsRefuted kind r.subject d e → IsEnd kind r old old (NoneAbove e)
+    pub refuted_end : (e : Dual) → IsRefutedBy kind r.subject d e → IsEnd kind r old old (NoneAbove e)
     refuted_end e refuted = (
       come_none kind r costs old phase,
       record {
         rests = rests;
         none = refuted_most kind r.subject r.limits.conflicts (stage_of old) (entry_at old.table) (dual_of d) same_at are asked rests e.steps refuted.steps;
-        numbers = record { top = refuted.top ∙ same_at.top; head = refuted.head ∙ same_at.head; rows = refuted.rows ∙ same_at.rows };
+        numbers = record { top = refuted.numbers.top ∙ same_at.top; head = refuted.numbers.head ∙ same_at.head; rows = refuted.numbers.rows ∙ same_at.rows };
         steps =
             subst (λ (c : Constraint). Refutes (length r.subject.parts.nodes) (first_known (form_of r.subject.parts.nodes) c) e.steps)
             (same_goal (pos 1) kind r.subject (dual_of d) (dual_at kind r.subject (stage_of old) (entry_at old.table)) same_at) refuted.steps;

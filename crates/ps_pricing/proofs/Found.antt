@@ -6,7 +6,6 @@ use Rattle.std.proofs.lemmas.List.Elements.{All-weaker}
 use Rattle.ps_meaning.specs.Formula.{World}
 use Rattle.ps_formula.specs.declared.node.Node.{Node}
 use Rattle.ps_formula.specs.Nodes.{AreNodes, AtomBelow}
-use Rattle.ps_formula.proofs.Trees.{length-truths}
 use Rattle.ps_steps.specs.Assignments.{Assignment}
 use Rattle.ps_steps.specs.Constraints.{Constraint}
 use Rattle.ps_steps.specs.Weights.{true_weight, constraint_of}
@@ -14,9 +13,9 @@ use Rattle.ps_steps.specs.Steps.{Step, Refutes, is_contradiction, ends_in_contra
 use Rattle.ps_forms.specs.Clauses.{clause_form}
 use Rattle.ps_forms.specs.Forms.{Form, form_of, first_known, MeetsForm}
 use Rattle.ps_forms.specs.Extensions.{extension, world_of}
-use Rattle.ps_forms.proofs.Idle.{form-clauses, clauses-form}
-use Rattle.ps_forms.proofs.Extends.{met-extension, extension-met}
-use Rattle.ps_forms.proofs.Worlds.{world_of-agrees, extension-agrees}
+use Rattle.ps_forms.proofs.Idle.{form-clauses}
+use Rattle.ps_forms.proofs.Extends.{met-extension}
+use Rattle.ps_forms.proofs.Worlds.{world_of-agrees}
 use Rattle.ps_pb.specs.Limits.{most_variables, IsLiteral}
 use Rattle.ps_log.specs.Logs.{Telling}
 use Rattle.ps_learning.specs.Trails.{IsLit}
@@ -27,10 +26,13 @@ use Rattle.ps_maxsat.specs.declared.pricing.Priced.TheVariants.{NoneAbove, Best,
 use Rattle.ps_maxsat.specs.Values.{value, IsOf, NoneIsAbove, IsPricedLog, goal_of}
 use Rattle.ps_answer.specs.declared.answer.Dual.{Dual}
 use Rattle.ps_claims.specs.declared.claim_kind.ClaimKind.{ClaimKind}
+use Rattle.ps_claims.proofs.Refutations.{extension-meets}
+use Rattle.ps_certificate.specs.Certificates.{dual_of}
 use Rattle.ps_printed.specs.Printed.{AreOfLiterals}
 use Rattle.ps_runs.specs.Searches.{IsSpentSearch}
+use Rattle.ps_runs.specs.Runs.{goal_at_least}
 use Rattle.ps_pricing.specs.Sought.{HasSteps, HasFewSteps}
-use Rattle.ps_pricing.specs.Pricings.{IsAssigned, PricingSubject, gain, goal_at_least, IsGreatest, IsCutAbove, IsFound, IsSpent, IsRefuted, IsWcnf}
+use Rattle.ps_pricing.specs.Pricings.{IsAssigned, PricingSubject, gain, AreAtMost, IsCutAbove, IsFound, IsSpent, IsRefutedBy, IsWcnf}
 
 -- ---- steps of a log
 ends_so : (front : List Step) (s : Step) → is_contradiction s ≡ true → ends_in_contradiction (front ++ s ∷ []) ≡ true
@@ -96,11 +98,6 @@ extends : (ns : List Node) (atoms : ℕ) (w : List Bool) → AreNodes ns → All
 extends ns atoms w are below long met =
     met-extension ns w (world_of atoms ns w) are long (world_of-agrees atoms ns w are below) (form-clauses w (clause_form ns) met)
 
--- a world's extension meets the clauses
-extension-meets : (ns : List Node) (w : World) → AreNodes ns → MeetsForm (extension ns w) (form_of ns)
-extension-meets ns w are =
-    clauses-form (extension ns w) (clause_form ns) (extension-met ns (extension ns w) w are (length-truths ns w) (extension-agrees ns w are) refl)
-
 -- the value of an assignment that meets the clauses is that of its world
 module _ (kind : ClaimKind) (q : PricingSubject) (d : Dual) (p : Wcnf) (is : IsWcnf kind q.subject d p) (are : AreNodes q.subject.parts.nodes) where
   value_is : (u : World) → value p (extension q.subject.parts.nodes u) ≡ gain kind q.subject d u
@@ -118,23 +115,23 @@ module _ (kind : ClaimKind) (q : PricingSubject) (d : Dual) (p : Wcnf) (is : IsW
       of.4 ∙ ap (value p) ext ∙ value_is u
 
   -- where no value is greater, the combination is greater in no world
-  greatest_value : (v : ℤ) → NoneIsAbove p v → IsGreatest kind q.subject d v
+  greatest_value : (v : ℤ) → NoneIsAbove p v → AreAtMost kind q.subject d v
   greatest_value v none = record {
     at = λ u _. subst (λ (z : ℤ). z ≤ℤ v) (value_is u)
         (none (extension q.subject.parts.nodes u) (subst (λ (f : Form). MeetsForm (extension q.subject.parts.nodes u) f) (sym is.hard) (extension-meets q.subject.parts.nodes u are)));
   }
 
-  goal_same : (least : ℤ) → goal_of p least ≡ goal_at_least least kind q.subject d
+  goal_same : (least : ℤ) → goal_of p least ≡ goal_at_least least kind q.subject (dual_of d)
   goal_same least = λ k. constraint_of (is.soft k) (least -ℤ is.base k)
 
   spent_is : (least : ℤ) (steps : List Step) → IsSpentSearch p.hard (goal_of p least) q.conflicts steps
-      → IsSpentSearch (form_of q.subject.parts.nodes) (goal_at_least least kind q.subject d) q.conflicts steps
+      → IsSpentSearch (form_of q.subject.parts.nodes) (goal_at_least least kind q.subject (dual_of d)) q.conflicts steps
   spent_is least steps h =
       subst (λ (c : Constraint). IsSpentSearch (form_of q.subject.parts.nodes) c q.conflicts steps) (goal_same least)
       (subst (λ (f : Form). IsSpentSearch f (goal_of p least) q.conflicts steps) is.hard h)
 
   refutes_is : (steps : List Step) → Refutes p.hard.variables (first_known p.hard (goal_of p (pos 1))) steps
-      → Refutes (length q.subject.parts.nodes) (first_known (form_of q.subject.parts.nodes) (goal_at_least (pos 1) kind q.subject d)) steps
+      → Refutes (length q.subject.parts.nodes) (first_known (form_of q.subject.parts.nodes) (goal_at_least (pos 1) kind q.subject (dual_of d))) steps
   refutes_is steps h =
       subst (λ (c : Constraint). Refutes (length q.subject.parts.nodes) (first_known (form_of q.subject.parts.nodes) c) steps) (goal_same (pos 1))
       (subst (λ (f : Form). Refutes f.variables (first_known f (goal_of p (pos 1))) steps) is.hard h)
@@ -145,7 +142,7 @@ module _ (kind : ClaimKind) (q : PricingSubject) (d : Dual) (p : Wcnf) (is : IsW
       → pos 1 ≤ℤ v → NoneIsAbove p v → IsFound kind q d u
   best_found a v u below of of_world long above none =
       let same = found_value a v u below of of_world in
-      record { sized = long; above = subst (λ (z : ℤ). pos 1 ≤ℤ z) same above; greatest = inl (subst (IsGreatest kind q.subject d) same (greatest_value v none)) }
+      record { sized = long; above = subst (λ (z : ℤ). pos 1 ≤ℤ z) same above; greatest = inl (subst (AreAtMost kind q.subject d) same (greatest_value v none)) }
 
   pub cut_found : (a : Assignment) (v least : ℤ) (u : World) (steps : List Step) → All (AtomBelow (length q.subject.parts.names)) q.subject.parts.nodes → IsOf p a v
       → IsAssigned q.subject a u → length u ≡ length q.subject.parts.names
@@ -156,8 +153,8 @@ module _ (kind : ClaimKind) (q : PricingSubject) (d : Dual) (p : Wcnf) (is : IsW
       record { sized = long; above = subst (λ (z : ℤ). pos 1 ≤ℤ z) same above; greatest = inr (subst (IsCutAbove kind q d) same cut) }
 
   -- a dual with the steps of a refutation, and a search that was spent
-  pub refuted_found : (steps : List Step) → Refutes p.hard.variables (first_known p.hard (goal_of p (pos 1))) steps → IsRefuted kind q.subject d (record d { steps = steps })
-  refuted_found steps h = record { top = refl; head = refl; rows = refl; steps = refutes_is steps h }
+  pub refuted_found : (steps : List Step) → Refutes p.hard.variables (first_known p.hard (goal_of p (pos 1))) steps → IsRefutedBy kind q.subject d (record d { steps = steps })
+  refuted_found steps h = record { numbers = record { top = refl; head = refl; rows = refl }; steps = refutes_is steps h }
 
   pub spent_found : (goal : Constraint) (steps : List Step) → goal ≡ constraint_of p.soft (pos 1 -ℤ p.base)
       → IsSpentSearch p.hard (goal_of p (pos 1)) q.conflicts steps → IsSpent kind q d goal steps

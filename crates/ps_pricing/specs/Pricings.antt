@@ -1,9 +1,8 @@
--- What the pricing of a dual gives: a world in which its combination is at least 1, or a refutation.
-use Rattle.std.specs.Prelude.{◌≡◌, ◌⊎◌, ℕ, ℤ, pos, ◌-ℤ◌, ◌<ℤ◌, ◌≤ℤ◌, Bool, List, Option, length}
+-- What the pricing of a dual gives: a world in which its combination is at least 1, a refutation, or a search that was spent.
+use Rattle.std.specs.Prelude.{◌≡◌, ◌⊎◌, ℕ, ℤ, pos, ◌<ℤ◌, ◌≤ℤ◌, Bool, List, Option, length}
 use Rattle.ps_meaning.specs.Formula.{World}
 use Rattle.ps_steps.specs.Assignments.{Assignment, full}
 use Rattle.ps_steps.specs.Constraints.{Constraint}
-use Rattle.ps_steps.specs.Weights.{constraint_of}
 use Rattle.ps_steps.specs.Steps.{Step, Refutes}
 use Rattle.ps_forms.specs.Forms.{form_of, first_known}
 use Rattle.ps_forms.specs.Extensions.{extension, IsWorldOf}
@@ -18,7 +17,8 @@ use Rattle.ps_printed.specs.Printed.{IsPrintedDual, IsPrintedSearch}
 use Rattle.ps_maxsat.specs.declared.problem.Wcnf.{Wcnf}
 use Rattle.ps_runs.specs.Kept.{kept_parts}
 use Rattle.ps_runs.specs.Searches.{IsSpentSearch}
-use Rattle.ps_runs.specs.Runs.{Subject, atoms_of, combination_over}
+use Rattle.ps_runs.specs.Certificates.{HaveSameNumbers}
+use Rattle.ps_runs.specs.Runs.{Subject, atoms_of, combination_over, goal_at_least}
 use Rattle.ps_pricing.specs.declared.pricing.Pricing.{Pricing}
 use Rattle.ps_pricing.specs.declared.pricing.Pricing.TheVariants.{Found, Refuted, Spent}
 
@@ -45,17 +45,13 @@ pub record IsDualFor (p : Parts) (d : Dual) : Type 0 where
 abbrev pub combined : ClaimKind → Subject → Dual → Combination
 combined kind s d = combination_over kind s (dual_of d)
 
--- what it is in a world
+-- what the combination is in a world
 abbrev pub gain : ClaimKind → Subject → Dual → World → ℤ
 gain kind s d w = value_under (extension s.parts.nodes w) (combined kind s d)
 
--- the goal that it is at least this
-abbrev pub goal_at_least : ℤ → ClaimKind → Subject → Dual → Constraint
-goal_at_least least kind s d = constraint_of (combined kind s d).terms (least -ℤ (combined kind s d).base)
-
 -- ---- pricings
 -- in no world is the combination greater than this
-pub record IsGreatest (kind : ClaimKind) (s : Subject) (d : Dual) (most : ℤ) : Type 0 where
+pub record AreAtMost (kind : ClaimKind) (s : Subject) (d : Dual) (most : ℤ) : Type 0 where
   pub at : (w : World) → length w ≡ atoms_of s → gain kind s d w ≤ℤ most
 
 -- a search for a combination greater than this was spent
@@ -63,30 +59,28 @@ pub record IsCutAbove (kind : ClaimKind) (a : PricingSubject) (d : Dual) (found 
   pub least : ℤ
   pub above : found <ℤ least
   pub steps : List Step
-  pub spent : IsSpentSearch (form_of a.subject.parts.nodes) (goal_at_least least kind a.subject d) a.conflicts steps
+  pub spent : IsSpentSearch (form_of a.subject.parts.nodes) (goal_at_least least kind a.subject (dual_of d)) a.conflicts steps
 
 -- in the world the combination is at least 1, and it is greater in none, unless a search for a greater one was spent
 pub record IsFound (kind : ClaimKind) (a : PricingSubject) (d : Dual) (w : World) : Type 0 where
   pub sized : length w ≡ atoms_of a.subject
   pub above : pos 1 ≤ℤ gain kind a.subject d w
-  pub greatest : IsGreatest kind a.subject d (gain kind a.subject d w) ⊎ IsCutAbove kind a d (gain kind a.subject d w)
+  pub greatest : AreAtMost kind a.subject d (gain kind a.subject d w) ⊎ IsCutAbove kind a d (gain kind a.subject d w)
 
--- a dual with the same numbers, whose steps refute that the combination is at least 1
-pub record IsRefuted (kind : ClaimKind) (s : Subject) (d e : Dual) : Type 0 where
-  pub top : e.top ≡ d.top
-  pub head : e.head ≡ d.head
-  pub rows : e.rows ≡ d.rows
-  pub steps : Refutes (length s.parts.nodes) (first_known (form_of s.parts.nodes) (goal_at_least (pos 1) kind s d)) e.steps
+-- another dual has the same numbers, and its steps refute that the combination is at least 1
+pub record IsRefutedBy (kind : ClaimKind) (s : Subject) (d e : Dual) : Type 0 where
+  pub numbers : HaveSameNumbers (dual_of e) (dual_of d)
+  pub steps : Refutes (length s.parts.nodes) (first_known (form_of s.parts.nodes) (goal_at_least (pos 1) kind s (dual_of d))) e.steps
 
 -- the search for a combination of at least 1 was spent
 pub record IsSpent (kind : ClaimKind) (a : PricingSubject) (d : Dual) (goal : Constraint) (steps : List Step) : Type 0 where
-  pub goal_is : goal ≡ goal_at_least (pos 1) kind a.subject d
-  pub search : IsSpentSearch (form_of a.subject.parts.nodes) (goal_at_least (pos 1) kind a.subject d) a.conflicts steps
+  pub goal_is : goal ≡ goal_at_least (pos 1) kind a.subject (dual_of d)
+  pub search : IsSpentSearch (form_of a.subject.parts.nodes) (goal_at_least (pos 1) kind a.subject (dual_of d)) a.conflicts steps
 
 -- what the pricing of a dual ends with: a world that is found, its refutation, or a search that was spent
 abbrev pub IsPricing : ClaimKind → PricingSubject → Dual → Pricing → Type 0
 IsPricing kind a d (Found w) = IsFound kind a d w
-IsPricing kind a d (Refuted e) = IsRefuted kind a.subject d e
+IsPricing kind a d (Refuted e) = IsRefutedBy kind a.subject d e
 IsPricing kind a d (Spent goal steps) = IsSpent kind a d goal steps
 
 -- the dual of a refutation can be printed, and so can a spent search

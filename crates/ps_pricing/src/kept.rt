@@ -7,7 +7,7 @@ use ps_io::{List, NoMemory};
 use ps_problem::{Bound, Sentence, Sentences, push_bounds};
 use std::alloc::Global;
 
-// Adds a sentence, where it is kept.
+/// Adds a sentence, where it is kept.
 fn push_kept(found: &mut Sentences, kept: bool, sentence: Sentence) -> Result<(), NoMemory>
     ensures { OnOk result (found.new ≡ found.old ++ kept_of (kept ∷ []) (sentence ∷ [])) }
 {

@@ -1,5 +1,5 @@
 //! Pricing: a world in which a dual's combination is at least 1, or the refutation that there is
-//! one.
+//! one, unless the search for it was spent.
 #![tactic(auto)]
 
 mod kept;

@@ -90,7 +90,7 @@ impl<'p> Pricer<'p> {
         self.bounds.as_slice()
     }
 
-    /// The evidence of the query.
+    /// The node of the query's evidence; none without a query, or where nothing is given.
     pub fn given(&self) -> Option<u32>
         ensures { result ≡ given_in self.now.subject.query }
     {

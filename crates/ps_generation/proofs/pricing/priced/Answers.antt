@@ -1,7 +1,7 @@
 use Rattle.std.proofs.Common.{rules, ◌≡◌, ap}
 use Rattle.ps_table.specs.Places.{IsRefusedAt}
 use Rattle.ps_multiples.specs.Multiples.{DualPlaces}
-use Rattle.ps_pricing.specs.Pricings.{IsFound, IsRefuted, IsSpent}
+use Rattle.ps_pricing.specs.Pricings.{IsFound, IsRefutedBy, IsSpent}
 use Rattle.ps_generation.specs.Rounds.{pricing_subject_of}
 use Rattle.ps_generation.proofs.Priced.{dual_wide, found_priced, refuted_end, spent_end}
 use Rattle.ps_generation.proofs.pricing.priced.Goals as goal
@@ -19,7 +19,7 @@ enter-requires-clause-priced c =
 
 pub returns-in-Refuted-clause-end : goal.returns-in-Refuted-clause-end
 returns-in-Refuted-clause-end c =
-    let refuted : IsRefuted c.args.kind c.args.setting.now.subject c.in-Ok.dual c.in-Refuted.dual = search rules in
+    let refuted : IsRefutedBy c.args.kind c.args.setting.now.subject c.in-Ok.dual c.in-Refuted.dual = search rules in
     refuted_end c.args.kind c.args.setting.now c.args.costs.now c.args.state.now c.requires.phase c.requires.rests c.in-Ok.dual c.in-Ok.ensures.numbers
     c.price.ensures.parts c.requires.asked c.in-Refuted.dual refuted
 

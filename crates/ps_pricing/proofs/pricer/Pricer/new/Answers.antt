@@ -1,6 +1,6 @@
 use Rattle.std.proofs.Common.{rules, ◌≡◌, List, sym, subst}
 use Rattle.ps_problem.specs.declared.sentence.Sentence.{Sentence}
-use Rattle.ps_problem.specs.Problems.{AreParts, bounds_in}
+use Rattle.ps_problem.specs.Problems.{AreParts}
 use Rattle.ps_runs.specs.Kept.{kept_of, with_sentences}
 use Rattle.ps_runs.proofs.Kept.{parts-kept}
 use Rattle.ps_pricing.proofs.pricer.Pricer.new.Goals as goal
