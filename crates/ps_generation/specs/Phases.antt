@@ -90,8 +90,8 @@ abbrev pub most_columns : ℕ
 most_columns = MOST_PIVOTS + 10
 
 -- worlds and pivots left are together at most so many
-pub record HasRoom (most : ℕ) (state : State) : Type 0 where
-  pub room : length state.pool + state.left ≤ most
+pub record HasRoom (state : State) : Type 0 where
+  pub room : length state.pool + state.left ≤ most_columns
 
 -- there is as much room as before but for one world
 abbrev pub LeavesRoomButForOne : State → State → Type 0

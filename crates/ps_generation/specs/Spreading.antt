@@ -18,9 +18,9 @@ number_for flags i ys next = if get_or flags i false then get_or ys next (pos 0)
 abbrev pub next_for : List Bool → ℕ → ℕ → ℕ
 next_for flags i next = if get_or flags i false then next + 1 else next
 
--- the sentences of a part are the kept ones of the whole, and so are the bounds
-pub record IsKeptOf (p : Parts) (flags : List Bool) (part : Parts) : Type 0 where
+-- a problem has the kept sentences of the whole one alone, and the flags tell which bounds of the whole one are kept
+pub record IsKeptOf (whole : Parts) (flags : List Bool) (p : Parts) : Type 0 where
   pub kept : List Bool
-  pub each : IsChoice kept p
-  pub flags_are : flags ≡ flags_of kept p.sentences
-  pub parts : part ≡ kept_parts kept p
+  pub each : IsChoice kept whole
+  pub flags_are : flags ≡ flags_of kept whole.sentences
+  pub parts : p ≡ kept_parts kept whole

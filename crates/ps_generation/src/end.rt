@@ -1,5 +1,5 @@
 //! How a phase ends.
-ghost use Rattle.std.specs.Prelude.{IfOk};
+ghost use Rattle.std.specs.Prelude.{◌≡◌, IfOk, IfErr};
 ghost use Rattle.ps_generation.specs.Phases.{IsEndAt, IsPrintedEnd};
 
 use ps_answer::{Cause, Dual};
@@ -21,9 +21,11 @@ pub enum End {
 pub(crate) fn end_at(refused: TableError) -> Result<End, NoMemory>
     ensures end { IfOk result (IsEndAt refused) }
     ensures printed { IfOk result IsPrintedEnd }
+    ensures memory { IfErr result (λ _. refused ≡ TableError.NoMemory) }
 {
     match refused {
         TableError::Wide(at) => {
+            // Called for their clauses: the operands can be printed.
             at.left.fits();
             at.right.fits();
             Ok(End::Open(Cause::Wide { at }))

@@ -2,7 +2,7 @@
 ghost use Rattle.std.specs.Prelude.{IfOk, IfSome};
 ghost use Rattle.ps_runs.specs.Runs.{IsAsked};
 ghost use Rattle.ps_generation.specs.Phases.{HasRoom, IsEnd, IsInPhase, IsLeft, IsPrintedEnd};
-ghost use Rattle.ps_generation.specs.Phases.{LeavesRoomButForOne, most_columns};
+ghost use Rattle.ps_generation.specs.Phases.{LeavesRoomButForOne};
 ghost use Rattle.ps_generation.specs.Rounds.{IsAtRest, IsRound};
 
 use crate::end::End;
@@ -27,7 +27,7 @@ fn round(
     requires asked { IsAsked kind setting.now.subject.parts setting.now.subject.query }
     requires phase { IsInPhase kind setting.now.subject costs.old state.old }
     requires rests { IsAtRest kind setting.now.subject state.old }
-    requires room { HasRoom most_columns state.old }
+    requires room { HasRoom state.old }
     ensures phase { IfOk result
         (λ _. IsInPhase kind setting.now.subject costs.new state.new) }
     ensures room { IfOk result (λ _. LeavesRoomButForOne state.old state.new) }
@@ -53,7 +53,7 @@ pub fn run_phase(
 ) -> Result<End, NoMemory>
     requires asked { IsAsked kind setting.now.subject.parts setting.now.subject.query }
     requires phase { IsInPhase kind setting.now.subject costs.old state.old }
-    requires room { HasRoom most_columns state.old }
+    requires room { HasRoom state.old }
     ensures end { IfOk result (IsEnd kind setting.now state.old state.new) }
     ensures left { IfOk result (λ _. IsLeft kind setting.now.subject state.old state.new) }
     ensures printed { IfOk result IsPrintedEnd }

@@ -1,5 +1,5 @@
 //! What a run is over.
-ghost use Rattle.std.specs.Prelude.{◌≡◌, length, IfOk, IfErr, IfSome};
+ghost use Rattle.std.specs.Prelude.{◌≡◌, [], length, IfOk, IfErr, IfSome};
 ghost use Rattle.ps_problem.specs.Problems.{HasNodes, AreParts, bounds_in};
 ghost use Rattle.ps_table.specs.Tableau.{rows_of as table_rows};
 ghost use Rattle.ps_table.specs.Pricing.{HasCosts};
@@ -159,6 +159,7 @@ impl<'p> Setting<'p> {
         requires rows { table_rows table.now ≡ rows_of (setting_of self.now.subject) }
         ensures numbers { IfOk result (IsDualOver kind self.now.subject table.now costs.now) }
         ensures fit { IfOk result (IsDualFor self.now.subject.parts) }
+        ensures steps { IfOk result (λ d. d.steps ≡ []) }
         ensures narrow { IfOk result (λ _. IsNarrow (DualPlaces table.now costs.now)) }
         ensures refused { IfErr result (IsRefusedAt (DualPlaces table.now costs.now)) }
     {

@@ -2,7 +2,7 @@
 ghost use Rattle.std.specs.Prelude.{◌≡◌, ◌≤◌, IfOk, IfSome};
 ghost use Rattle.ps_table.specs.Tableau.{IsTableau};
 ghost use Rattle.ps_bland.specs.Ready.{IsReady};
-ghost use Rattle.ps_bland.specs.Ends.{IsEnd};
+ghost use Rattle.ps_bland.specs.Ends.{IsEnd as IsSettledEnd};
 ghost use Rattle.ps_runs.specs.Rows.{phase_of};
 ghost use Rattle.ps_generation.specs.Phases.{IsInPhase, IsPrintedEnd};
 ghost use Rattle.ps_generation.specs.Rounds.{HasPivoted, IsPhaseSettled};
@@ -32,7 +32,7 @@ pub(crate) fn phase_of(kind: ClaimKind) -> Phase
 fn pivoted(kind: ClaimKind, state: &mut State, costs: &Costs) -> Result<Settled, SettleError>
     requires { IsReady (phase_of kind) costs.now state.old.table }
     ensures ran { HasPivoted kind costs.now state.old state.new }
-    ensures end { IsEnd (phase_of kind) costs.now state.new.table state.new.left result }
+    ensures end { IsSettledEnd (phase_of kind) costs.now state.new.table state.new.left result }
     ensures ready { IsReady (phase_of kind) costs.now state.new.table }
     ensures tableau { IsTableau state.new.table }
     ensures pool { state.new.pool ≡ state.old.pool }

@@ -9,6 +9,7 @@ use ps_io::{List, NoMemory};
 use ps_problem::Sentence;
 use std::alloc::Global;
 
+/// Adds whether a sentence is kept, for each of its bounds.
 fn push_flags(flags: &mut List<bool>, kept: bool, sentence: Sentence) -> Result<(), NoMemory>
     ensures { OnOk result (flags.new ≡ flags.old ++ flags_of (kept ∷ []) (sentence ∷ [])) }
 {
@@ -35,14 +36,14 @@ pub(crate) fn flags_of(
     Ok(flags)
 }
 
-// The number at a place, and 0 past the end.
+/// The number at a place, and 0 past the end.
 fn number_at(rows: &[i128], place: usize) -> i128
     ensures { result ≡ get_or rows.now place (pos 0) }
 {
     if place < rows.len() { rows[place] } else { 0 }
 }
 
-// Pushes the number of a bound, and answers the place of the next one that is kept.
+/// Adds the number of a bound, and answers the place of the next one that is kept.
 fn push_number(
     all: &mut List<i128>,
     flags: &[bool],

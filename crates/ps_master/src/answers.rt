@@ -1,5 +1,5 @@
 //! What the phases of a run answer.
-ghost use Rattle.std.specs.Prelude.{◌≡◌, ◌≢◌, ◌≤ℤ◌, IfOk, MatchResult, pos, false};
+ghost use Rattle.std.specs.Prelude.{◌≢◌, ◌≤ℤ◌, IfOk, MatchResult, pos, false};
 ghost use Rattle.ps_rule.specs.Rule.{IsFeasible};
 ghost use Rattle.ps_bland.specs.Ready.{HasNoNegativeValue};
 ghost use Rattle.ps_bland.specs.Rules.{simplex_of};
@@ -8,7 +8,7 @@ ghost use Rattle.ps_runs.specs.Runs.{IsAsked};
 ghost use Rattle.ps_printed.specs.Printed.{ArePrintedOperands, IsPrintedDual, IsPrintedModel};
 ghost use Rattle.ps_printed.specs.Printed.{IsPrintedSide};
 ghost use Rattle.ps_ends.specs.Models.{AreApart};
-ghost use Rattle.ps_generation.specs.Phases.{AreLimits, HasRoom, IsLeft, most_columns};
+ghost use Rattle.ps_generation.specs.Phases.{AreLimits, HasRoom, IsLeft};
 ghost use Rattle.ps_master.specs.Runs.{IsAtStart, IsPrintedFirst};
 ghost use Rattle.ps_master.specs.States.{IsBoundOf, IsModelOrWide, HasRunTable, run_of};
 ghost use Rattle.ps_master.specs.States.{AnswersPhaseOne, AnswersSide};
@@ -24,7 +24,7 @@ use ps_io::NoMemory;
 use ps_table::{TableError, WideAt};
 use std::alloc::Global;
 
-// What was refused can be printed.
+/// The operands that were refused can be printed.
 fn can_be_printed(at: &WideAt)
     ensures { ArePrintedOperands at.now }
 {
@@ -103,7 +103,7 @@ pub(crate) fn side(
     requires asked { IsAsked kind setting.now.subject.parts setting.now.subject.query }
     requires there { HasRunTable setting.now.subject state.old }
     requires feasible { IsFeasible (simplex_of state.old.table) }
-    requires room { HasRoom most_columns state.old }
+    requires room { HasRoom state.old }
     ensures answer { IfOk result (AnswersSide kind setting.now state.old state.new) }
     ensures left { IfOk result (λ _. IsLeft kind setting.now.subject state.old state.new) }
     ensures printed { IfOk result IsPrintedSide }

@@ -4,7 +4,7 @@ ghost use Rattle.ps_rule.specs.Rule.{IsFeasible};
 ghost use Rattle.ps_bland.specs.Rules.{simplex_of};
 ghost use Rattle.ps_claims.specs.declared.claim_kind.ClaimKind.TheVariants.{Nothing};
 ghost use Rattle.ps_runs.specs.Runs.{IsAsked};
-ghost use Rattle.ps_generation.specs.Phases.{HasRoom, IsEnd, IsLeft, IsPrintedEnd, most_columns};
+ghost use Rattle.ps_generation.specs.Phases.{HasRoom, IsEnd, IsLeft, IsPrintedEnd};
 ghost use Rattle.ps_master.specs.States.{HasRunTable};
 
 use ps_claims::ClaimKind;
@@ -22,7 +22,7 @@ pub(crate) fn phase(
     requires asked { IsAsked kind setting.now.subject.parts setting.now.subject.query }
     requires there { HasRunTable setting.now.subject state.old }
     requires feasible { kind ≢ Nothing → IsFeasible (simplex_of state.old.table) }
-    requires room { HasRoom most_columns state.old }
+    requires room { HasRoom state.old }
     ensures end { IfOk result (IsEnd kind setting.now state.old state.new) }
     ensures left { IfOk result (λ _. IsLeft kind setting.now.subject state.old state.new) }
     ensures printed { IfOk result IsPrintedEnd }
