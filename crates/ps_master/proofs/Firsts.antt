@@ -13,7 +13,7 @@ use Rattle.ps_answer.specs.declared.answer.Dual.{Dual}
 use Rattle.ps_answer.specs.declared.answer.Model.{Model}
 use Rattle.ps_claims.specs.declared.claim_kind.ClaimKind.TheVariants.{Nothing}
 use Rattle.ps_claims.specs.Validity.{ShowsNothing}
-use Rattle.ps_runs.specs.Runs.{setting_of, given_in, both_in, IsFeasibleAt, IsDualAt}
+use Rattle.ps_runs.specs.Runs.{setting_of, given_in, IsFeasibleAt, IsDualAt}
 use Rattle.ps_runs.proofs.Certified.{nothing_at_rest}
 use Rattle.ps_certificate.specs.Certificates.{dual_of}
 use Rattle.ps_runs.specs.Rows.{phase_of}

@@ -1,14 +1,10 @@
 -- A run stands as it did, or memory ran out.
-use Rattle.std.proofs.Common.{◌≡◌, ◌∙◌, Bool, true, Result, Ok, Err, IfOk, sym}
-use Rattle.std.specs.Prelude.{is_err, OnErr}
+use Rattle.std.proofs.Common.{◌≡◌, ◌∙◌, Bool, Result, Ok, Err, IfOk, sym}
+use Rattle.std.specs.Prelude.{is_err}
 use Rattle.std.proofs.lemmas.Bool.{true≢false}
 use Rattle.ps_generation.specs.declared.state.State.{State}
 use Rattle.ps_generation.specs.Phases.{LimitedSubject}
 use Rattle.ps_master.specs.States.{IsRun, HasRunTable}
-
-pub breaks_so : {A E : Type 0} (r : Result A E) (b : Bool) → b ≡ is_err r → OnErr r (b ≡ true)
-breaks_so (Ok x) b e = tt
-breaks_so (Err x) b e = e
 
 pub run_kept : {A E : Type 0} (over : LimitedSubject) (old new : State) (was b : Bool) (r : Result A E) → IsRun over old was → IfOk r (λ _. HasRunTable over.subject new) → b ≡ is_err r
     → IsRun over new b

@@ -1,5 +1,5 @@
 -- What a side answers is lawful and valid.
-use Rattle.std.proofs.Common.{◌≡◌, ◌≢◌, ℕ, suc, ℤ, pos, ◌≤ℤ◌, Some, None, List, [], ◌∷◌, ◌++◌, length, refl, sym, ap, ◌∙◌, subst, arith, inl, inr, false, Result, Ok, Err, IfOk}
+use Rattle.std.proofs.Common.{◌≡◌, ◌≢◌, ℕ, ℤ, pos, ◌≤ℤ◌, Some, None, List, [], ◌∷◌, ◌++◌, length, refl, sym, ap, ◌∙◌, subst, arith, inl, inr, false}
 use Rattle.std.proofs.lemmas.Int.{ints}
 use Rattle.std.proofs.lemmas.List.{length-map}
 use Rattle.ps_pool.specs.declared.event.Event.TheVariants.{Priced}
@@ -23,10 +23,9 @@ use Rattle.ps_claims.specs.Duals as claims
 use Rattle.ps_claims.specs.Duals.{HasValueHead}
 use Rattle.ps_claims.specs.Validity.{IsRefuted, ShowsTight}
 use Rattle.ps_runs.specs.Rows.{phase_of, IsTable}
-use Rattle.ps_meaning.specs.Bounds.{Bound}
-use Rattle.ps_runs.specs.Certificates.{HaveSameNumbers, table_model, signed}
+use Rattle.ps_runs.specs.Certificates.{HaveSameNumbers, table_model}
 use Rattle.ps_runs.specs.Runs.{Subject, subject_of, setting_of, given_in, both_in, atoms_of, IsPool, Stage, table_at, costs_at, dual_at, goal_at_least, AreAtMost, IsRestingAt}
-use Rattle.ps_runs.proofs.Combination.{multiple_positive}
+use Rattle.ps_runs.proofs.Combination.{multiple_positive, signed-length}
 use Rattle.ps_runs.proofs.Certified.{refuted_at_rest}
 use Rattle.ps_runs.proofs.Tight.{tight_at_end}
 use Rattle.ps_certificate.specs.Certificates.{dual_of}
@@ -166,16 +165,7 @@ module _ (kind : ClaimKind) (r : LimitedSubject) (old new : State) (apart : kind
   side_open (Conflicts limit goal steps) end = open_end (Conflicts limit goal steps) end
   side_open (Wide at) end = elim end [ inl e ↦ open_end (Wide at) e | inr e ↦ pending_end at e ]
 
--- what holds of what was found holds of what follows from it
-pub ok_so : {A E : Type 0} {P Q : A → Type 0} (found : Result A E) → IfOk found P → ((x : A) → P x → Q x) → IfOk found Q
-ok_so (Ok x) h so = so x h
-ok_so (Err e) h so = tt
-
--- as many multipliers as the part has bounds
-signed_count : (bs : List Bound) (P : ℕ → ℤ) → length (signed bs P) ≡ length bs
-signed_count [] P = refl
-signed_count (b ∷ bs) P = ap suc (signed_count bs (λ i. P (suc i)))
-
+-- a dual has a multiplier for each bound of the kept sentences
 pub as_many_rows : (kind : ClaimKind) (s : Subject) (g : Stage) (X : ℕ → ℕ → Rational) (d : Dual) → IsDualEnd kind s g X d → length d.rows ≡ length (bounds_in s.parts.sentences)
 as_many_rows kind s g X d end =
-    ap (λ (ys : List ℤ). length ys) end.numbers.rows ∙ signed_count (setting_of s).bounds _ ∙ length-map (bounds_in s.parts.sentences) (bound_of s.parts.nodes)
+    ap (λ (ys : List ℤ). length ys) end.numbers.rows ∙ signed-length (setting_of s).bounds _ ∙ length-map (bounds_in s.parts.sentences) (bound_of s.parts.nodes)

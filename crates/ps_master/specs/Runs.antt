@@ -55,7 +55,7 @@ pub record IsNew (p : Parts) (kept : List Bool) (query : Option Query) (limits :
   pub trace : r.trace ≡ []
   pub broken : r.is_broken ≡ false
 
--- a run whose basic artificials have value 0, with so many worlds more than pivots at most
+-- a run whose basic artificials have value 0, with at most so many worlds more than pivots that were made
 pub record IsFeasibleRun (surplus : ℕ) (r : RunState) : Type 0 where
   pub feasible : IsFeasible (simplex_of r.table)
   pub room : length r.pool + r.left ≤ r.over.limits.pivots + surplus

@@ -1,4 +1,4 @@
-//! How phase one ends.
+//! How phase one ended.
 use ps_answer::{Cause, Dual, Model};
 
 /// How phase one ended.

@@ -1,5 +1,5 @@
 //! A run.
-ghost use Rattle.std.specs.Prelude.{◌≡◌, ◌≢◌, [], None, false, true, IfOk, IfSome, IsErr, OnErr, IsTrue};
+ghost use Rattle.std.specs.Prelude.{◌≡◌, ◌≢◌, [], None, false, IfOk, IfSome, IsErr, IsTrue, is_err};
 ghost use Rattle.ps_problem.specs.Problems.{HasNodes};
 ghost use Rattle.ps_claims.specs.declared.claim_kind.ClaimKind.TheVariants.{Lower, Nothing, Upper};
 ghost use Rattle.ps_runs.specs.Kept.{IsChoice};
@@ -22,7 +22,8 @@ use std::marker::Model;
 
 /// A run of the simplex method with column generation (D. Bertsimas, J. N. Tsitsiklis,
 /// "Introduction to Linear Optimization", 1997) over the bounds of a problem's kept sentences, for
-/// the verdict or for a query.
+/// the verdict or for a query. Once memory has run out in a phase, each further phase answers
+/// `NoMemory`.
 #[derive(Drop)]
 pub struct Run<'p> {
     alloc: Global,
@@ -77,7 +78,7 @@ impl<'p> Run<'p> {
         ensures printed { IfOk result IsPrintedFirst }
         ensures over { self.new.over ≡ self.old.over }
         ensures broken { IsTrue self.old.is_broken → IsErr result }
-        ensures breaks { OnErr result (self.new.is_broken ≡ true) }
+        ensures breaks { self.new.is_broken ≡ is_err result }
     {
         if self.broken {
             return Err(NoMemory);
@@ -97,7 +98,7 @@ impl<'p> Run<'p> {
         ensures printed { IfOk result IsPrintedSide }
         ensures over { self.new.over ≡ self.old.over }
         ensures broken { IsTrue self.old.is_broken → IsErr result }
-        ensures breaks { OnErr result (self.new.is_broken ≡ true) }
+        ensures breaks { self.new.is_broken ≡ is_err result }
     {
         if self.broken {
             return Err(NoMemory);
@@ -116,7 +117,7 @@ impl<'p> Run<'p> {
         ensures printed { IfOk result IsPrintedSide }
         ensures over { self.new.over ≡ self.old.over }
         ensures broken { IsTrue self.old.is_broken → IsErr result }
-        ensures breaks { OnErr result (self.new.is_broken ≡ true) }
+        ensures breaks { self.new.is_broken ≡ is_err result }
     {
         self.side(ClaimKind::Lower)
     }
@@ -129,7 +130,7 @@ impl<'p> Run<'p> {
         ensures printed { IfOk result IsPrintedSide }
         ensures over { self.new.over ≡ self.old.over }
         ensures broken { IsTrue self.old.is_broken → IsErr result }
-        ensures breaks { OnErr result (self.new.is_broken ≡ true) }
+        ensures breaks { self.new.is_broken ≡ is_err result }
     {
         self.side(ClaimKind::Upper)
     }

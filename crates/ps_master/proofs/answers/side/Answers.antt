@@ -1,8 +1,10 @@
+use Rattle.std.proofs.lemmas.Result.{IfOk-weaker}
 use Rattle.ps_table.specs.Tableau.{entry_at}
 use Rattle.ps_phases.proofs.Shapes.{basics_differ}
 use Rattle.ps_runs.specs.Runs.{setting_of}
 use Rattle.ps_generation.specs.Phases.{stage_of}
-use Rattle.ps_master.proofs.Sides.{spread_top, side_bound, side_open, ok_so, as_many_rows}
+use Rattle.ps_master.specs.States.{AnswersSide, IsBoundOf}
+use Rattle.ps_master.proofs.Sides.{spread_top, side_bound, side_open, as_many_rows}
 use Rattle.ps_master.proofs.answers.side.Goals as goal
 
 pub bound-requires-clause-apart : goal.bound-requires-clause-apart
@@ -25,8 +27,11 @@ bound-requires-clause-top c =
 pub returns-in_ok-spread-in-NoneAbove-clause-answer : goal.returns-in_ok-spread-in-NoneAbove-clause-answer
 returns-in_ok-spread-in-NoneAbove-clause-answer c =
     let end = rw c.in-NoneAbove.is at c.in_ok-phase.ensures.end in
-    ok_so c.bound.result c.bound.ensures.bound (side_bound c.args.kind c.args.setting.now c.args.state.now c.phase.new.state c.requires.side c.in-NoneAbove.dual end.0 end.1 c.in_ok-phase.ensures.left
-    c.in_ok-spread-in-NoneAbove.field-0 c.in_ok-spread-in-NoneAbove.ensures.spread)
+    let new = c.phase.new.state in
+    let dual = c.in_ok-spread-in-NoneAbove.field-0 in
+    IfOk-weaker c.bound.result (IsBoundOf new dual) (AnswersSide c.args.kind c.args.setting.now c.args.state.now new)
+    (side_bound c.args.kind c.args.setting.now c.args.state.now new c.requires.side c.in-NoneAbove.dual end.0 end.1 c.in_ok-phase.ensures.left dual c.in_ok-spread-in-NoneAbove.ensures.spread)
+    c.bound.ensures.bound
 
 pub returns-in-Open-clause-answer : goal.returns-in-Open-clause-answer
 returns-in-Open-clause-answer c =
