@@ -1,20 +1,17 @@
 -- What an answer to a problem is to be.
-use Rattle.std.specs.Prelude.{◌≡◌, ◌<◌, ◌⊎◌, false, length}
-use Rattle.std.specs.List.{AllByRecursion}
-use Rattle.ps_io.specs.declared.limits.TheConstants.{LONGEST_LINE}
+use Rattle.std.specs.Prelude.{false}
 use Rattle.ps_io.specs.LineText.{lines_bytes}
 use Rattle.ps_problem.specs.Problems.{Parts}
 use Rattle.ps_answer.specs.declared.answer.Answer.{Answer}
-use Rattle.ps_answer.specs.Items.{item_line}
-use Rattle.ps_answer.specs.Answers.{answer_items, answer_lines}
+use Rattle.ps_answer.specs.Answers.{answer_lines}
 use Rattle.ps_answer.specs.Faults.{IsReport}
-use Rattle.ps_claims.specs.Claims.{unfinished_of}
 use Rattle.ps_claims.specs.Validity.{IsValid}
 use Rattle.ps_valid.specs.Answers.{answer_of, IsRightOf}
 use Rattle.ps_phases.specs.Verdicts.{IsLawfulAnswer}
 use Rattle.ps_printed.specs.Printed.{IsPrintedAnswer}
 use Rattle.ps_generation.specs.declared.limits.Limits.{Limits}
-use Rattle.ps_answer.specs.declared.limits.TheConstants.{MOST_PIVOTS}
+use Rattle.ps_reported.specs.Laws.{NamesFewWorlds}
+pub use Rattle.ps_reported.specs.Laws.{AreShortLines}
 
 -- an answer to a problem within limits: each claim is valid and right, its runs are lawful, what is open is licensed, and all of it can be printed
 pub record IsSolution (limits : Limits) (p : Parts) (a : Answer) : Type 0 where
@@ -23,10 +20,6 @@ pub record IsSolution (limits : Limits) (p : Parts) (a : Answer) : Type 0 where
   pub lawful : IsLawfulAnswer p limits.pivots limits.conflicts a
   pub printed : IsPrintedAnswer a
 
--- each line of its report is short enough to be written
-abbrev pub AreShortLines : Answer → Type 0
-AreShortLines a = AllByRecursion (λ i. length (item_line i) < LONGEST_LINE) (answer_items a)
-
 -- where nothing is open, or the pivots were fewer than the most, the report is read back as the answer
 abbrev pub IsReadBack : Limits → Answer → Type 0
-IsReadBack limits a = (limits.pivots < MOST_PIVOTS) ⊎ (unfinished_of (answer_of a) ≡ 0) → IsReport (lines_bytes false (answer_lines a)) a
+IsReadBack limits a = NamesFewWorlds limits.pivots a → IsReport (lines_bytes false (answer_lines a)) a

@@ -24,21 +24,25 @@ pub record IsAnswered (p : Parts) (pivots conflicts : ℕ) (a : Answer) : Type 0
   pub valid : IsValid p (answer_of a)
   pub printed : IsPrintedAnswer a
 
--- what an open part may name lies within the limits: fewer pivots are allowed than a run may be, or nothing is open
+-- the worlds that an open part may name are within the limits of a report: the limit of pivots is below the greatest that words
+-- may set, or nothing is open
 abbrev pub NamesFewWorlds : ℕ → Answer → Type 0
 NamesFewWorlds pivots a = (pivots < MOST_PIVOTS) ⊎ (unfinished_of (answer_of a) ≡ 0)
 
--- each line of it is within the limits of a report, and has the signs that it asks
+-- each line item of an answer has numbers of the signs that it asks, and within the limits of a report
 abbrev pub AnswersAreWithin : Type 0
 AnswersAreWithin = (p : Parts) (pivots conflicts : ℕ) (a : Answer) → IsAnswered p pivots conflicts a → NamesFewWorlds pivots a
     → AllByRecursion (λ i. IsProper i × IsWithin i) (answer_items a)
 
--- each line is short enough to be written
-abbrev pub AnswersAreShort : Type 0
-AnswersAreShort = (p : Parts) (pivots conflicts : ℕ) (a : Answer) → IsAnswered p pivots conflicts a
-    → AllByRecursion (λ i. length (item_line i) < LONGEST_LINE) (answer_items a)
+-- each line of an answer's report is short enough to be written
+abbrev pub AreShortLines : Answer → Type 0
+AreShortLines a = AllByRecursion (λ i. length (item_line i) < LONGEST_LINE) (answer_items a)
 
--- the lines, as they are written, are a report of it
+-- so is each line of what a run answers
+abbrev pub AnswersAreShort : Type 0
+AnswersAreShort = (p : Parts) (pivots conflicts : ℕ) (a : Answer) → IsAnswered p pivots conflicts a → AreShortLines a
+
+-- the lines of an answer, as they are written, are a report of it
 abbrev pub AnswersAreReports : Type 0
 AnswersAreReports = (p : Parts) (pivots conflicts : ℕ) (a : Answer) → IsAnswered p pivots conflicts a → NamesFewWorlds pivots a
     → IsReport (lines_bytes false (answer_lines a)) a
