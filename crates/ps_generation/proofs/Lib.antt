@@ -2,5 +2,4 @@ pub mod Coming
 pub mod Settled
 pub mod Entered
 pub mod Priced
-pub mod Begun
 pub mod AllBounds

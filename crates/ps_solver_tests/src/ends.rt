@@ -1,8 +1,5 @@
 ghost use Rattle.std.specs.Prelude.{ℕ, ◌<◌, ◌≤ℤ◌, IsTrue, length, get_or, pos, negsuc};
-ghost use Rattle.ps_rational.specs.Order.{IsNonneg};
-ghost use Rattle.ps_table.specs.Tableau.{entry_at};
 ghost use Rattle.ps_table.specs.Pricing.{HasCosts};
-ghost use Rattle.ps_bland.specs.Ready.{HasNoNegativeValue};
 ghost use Rattle.ps_ends.specs.Models.{AreApart};
 
 use crate::tables::are_values_at_least_zero;

@@ -1,34 +1,21 @@
-use crate::problems::{CONTRADICTORY, SINGLE, problem};
+use crate::problems::{CONTRADICTORY, LIMITS, SINGLE, problem};
 use ps_claims::ClaimKind;
-use ps_columns::costs_for;
-use ps_generation::{End, Limits, Setting, run_phase};
+use ps_generation::{End, Setting, run_phase};
 use ps_io::NoMemory;
 use ps_problem::Problem;
-use ps_rule::Phase;
 use std::alloc::Global;
 use std::test::*;
 
 // How phase one ends, and how many worlds and pivots it takes.
 fn ended(alloc: Global, problem: &Problem, kept: &[bool]) -> Result<(End, u32, u64), NoMemory> {
-    let limits = Limits {
-        pivots: 100,
-        conflicts: 20_000,
-    };
     if problem.sentences().len() != kept.len() {
         return Err(NoMemory);
     }
-    let setting = Setting::new(alloc, problem, kept, None, limits)?;
+    let setting = Setting::new(alloc, problem, kept, None, LIMITS)?;
     let mut state = setting.start(alloc)?;
-    let mut costs = costs_for(
-        alloc,
-        Phase::One,
-        problem.formulas(),
-        0,
-        &state.table,
-        &state.pool,
-    )?;
+    let mut costs = setting.costs(alloc, ClaimKind::Nothing, &state)?;
     let end = run_phase(alloc, &setting, ClaimKind::Nothing, &mut state, &mut costs)?;
-    Ok((end, state.pool.len(), 100 - state.left))
+    Ok((end, state.pool.len(), LIMITS.pivots - state.left))
 }
 
 // Each world is a column, and a pivot brings it into the basis.

@@ -1,13 +1,8 @@
-use crate::problems::{CONTRADICTORY, SINGLE, THREE, problem};
-use ps_master::{First, Limits, Run};
+use crate::problems::{CONTRADICTORY, LIMITS, SINGLE, THREE, problem};
+use ps_master::{First, Run};
 use ps_problem::Problem;
 use std::alloc::Global;
 use std::test::*;
-
-const LIMITS: Limits = Limits {
-    pivots: 1_000,
-    conflicts: 20_000,
-};
 
 fn first_of(alloc: Global, problem: &Problem, kept: &[bool]) -> Option<First> {
     if problem.sentences().len() != kept.len() {

@@ -1,9 +1,16 @@
-//! Problems that the tests share, by their texts.
+//! Problems that the tests share, by their texts, and limits within which each is solved.
 ghost use Rattle.std.specs.Prelude.{◌+◌, ◌<◌, ◌^◌, length};
 
+use ps_master::Limits;
 use ps_problem::Problem;
 use ps_read::read_whole;
 use std::alloc::Global;
+
+// More than any of these problems needs.
+pub(crate) const LIMITS: Limits = Limits {
+    pivots: 1_000,
+    conflicts: 20_000,
+};
 
 pub(crate) const SINGLE: &[u8] = b"psat 1; P(a) = 1/3; end;";
 

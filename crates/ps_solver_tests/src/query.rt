@@ -1,14 +1,9 @@
-use crate::problems::{ASKED, problem};
+use crate::problems::{ASKED, LIMITS, problem};
 use ps_answer::{QueryAnswer, SideAnswer};
 use ps_problem::Problem;
-use ps_query::{Limits, solve};
+use ps_query::solve;
 use std::alloc::Global;
 use std::test::*;
-
-const LIMITS: Limits = Limits {
-    pivots: 1_000,
-    conflicts: 20_000,
-};
 
 fn is_value(side: &SideAnswer, over: i128, under: i128) -> bool {
     match side {

@@ -1,7 +1,5 @@
 //! What the tests need to know of a table.
-ghost use Rattle.std.specs.Prelude.{ℕ, ◌<◌, ◌≤ℤ◌, IsTrue, length, get_or, pos};
-ghost use Rattle.ps_rational.specs.Order.{IsNonneg};
-ghost use Rattle.ps_table.specs.Tableau.{entry_at};
+ghost use Rattle.std.specs.Prelude.{IsTrue};
 ghost use Rattle.ps_bland.specs.Ready.{HasNoNegativeValue};
 
 use ps_table::Table;
