@@ -45,15 +45,15 @@ pub record IsPrintedSearch (g : Constraint) (steps : List Step) : Type 0 where
   pub goal : IsGoalWithin g
   pub literals : AreOfLiterals steps
 
--- numerator and denominator are below 2^127
-pub record IsOperand (x : Rational) : Type 0 where
+-- numerator and denominator of an operand are below the limit of sizes
+pub record IsPrintedOperand (x : Rational) : Type 0 where
   pub over : Fits x.over
   pub under : x.under < size_limit
 
--- the operands that were refused
+-- both operands of the operation that was refused can be printed
 pub record ArePrintedOperands (w : WideAt) : Type 0 where
-  pub left : IsOperand w.left
-  pub right : IsOperand w.right
+  pub left : IsPrintedOperand w.left
+  pub right : IsPrintedOperand w.right
 
 -- of a cause, the search that was spent or the operands that were refused can be printed
 abbrev pub IsPrintedCause : Cause → Type 0

@@ -15,18 +15,19 @@ use Rattle.ps_problem.specs.declared.query.Query as stored
 use Rattle.ps_problem.specs.Problems.{Parts, AreParts, bounds_in, bound_of}
 use Rattle.ps_table.specs.declared.place.WideAt.{WideAt}
 use Rattle.ps_answer.specs.declared.limits.TheConstants.{MOST_PIVOTS, MOST_CONFLICTS}
+use Rattle.ps_answer.specs.declared.limits.TheConstants.{MOST_OPERAND}
+use Rattle.ps_table.specs.declared.limits.TheConstants.{MOST_ROWS}
 use Rattle.ps_answer.specs.declared.item.LineItem.{LineItem}
 use Rattle.ps_answer.specs.declared.item.LineItem.TheVariants as line
 use Rattle.ps_answer.specs.declared.answer.Cause.{Cause}
 use Rattle.ps_answer.specs.declared.answer.Cause.TheVariants.{Pivots, Conflicts, Wide}
 use Rattle.ps_answer.specs.Items.{IsReducedWithin, IsRatioWithin}
-use Rattle.ps_answer.specs.declared.limits.TheConstants.{MOST_OPERAND}
 use Rattle.ps_answer.specs.Answers.{ratio_of, cause_items}
 use Rattle.ps_claims.specs.declared.claim_kind.ClaimKind.{ClaimKind}
 use Rattle.ps_runs.specs.Rows.{rows_of, entries_of}
 use Rattle.ps_runs.specs.Runs.{Subject, setting_of, given_in, both_in, IsAsked, Stage, dual_at}
 use Rattle.ps_phases.specs.Licences.{IsOutOfConflicts, IsLicensed}
-use Rattle.ps_printed.specs.Printed.{IsOperand, ArePrintedOperands, IsPrintedSearch, IsPrintedCause}
+use Rattle.ps_printed.specs.Printed.{IsPrintedOperand, ArePrintedOperands, IsPrintedSearch, IsPrintedCause}
 use Rattle.ps_reported.proofs.All.{each}
 use Rattle.ps_runs.proofs.Asked.{given_there, both_there}
 use Rattle.ps_reported.proofs.Models.{IsFit}
@@ -42,14 +43,14 @@ pub record AreLimits (p : Parts) (pivots conflicts : ℕ) : Type 0 where
 -- what is so of a line that is fit, and of the line of an open part where a number is too wide, if any part may be open
 pub record AreLines (pivots : ℕ) (Q : LineItem → Type 0) (Open : Type 0) : Type 0 where
   pub fit : (i : LineItem) → IsFit i → Q i
-  pub wide : Open → (at : WideAt) → IsPlaceUnder 101 (pivots + 2) at.place → ArePrintedOperands at
+  pub wide : Open → (at : WideAt) → IsPlaceUnder MOST_ROWS (pivots + 2) at.place → ArePrintedOperands at
       → Q (line.OpenWide at.place at.op (ratio_of at.left) (ratio_of at.right))
 
 -- ---- operands
 pub operand_proper : (x : Rational) (limit : ℕ) → IsReducedWithin limit (ratio_of x)
 operand_proper x limit = (let h = x.lowest.positive in omega (arith, h), λ h k. x.lowest.coprime)
 
-pub operand_within : (x : Rational) → IsOperand x → IsRatioWithin MOST_OPERAND (ratio_of x)
+pub operand_within : (x : Rational) → IsPrintedOperand x → IsRatioWithin MOST_OPERAND (ratio_of x)
 operand_within x h = (let a = h.over in omega (arith, a), let b = h.under in omega (arith, b))
 
 -- ---- goals
@@ -62,7 +63,7 @@ coefficients (t ∷ ts) h =
 fit_goal : (g : Constraint) → IsGoalWithin g → IsFit (line.GoalLine g)
 fit_goal g h = ((coefficients g.terms h.normal.positive, h.normal.rising), h)
 
-pub few_rows : (p : Parts) (q : Option stored.Query) → AreParts p → rows_of (setting_of (record { parts = p; query = q })) ≤ 101
+pub few_rows : (p : Parts) (q : Option stored.Query) → AreParts p → rows_of (setting_of (record { parts = p; query = q })) ≤ MOST_ROWS
 few_rows p q are =
     let few = are.few_bounds in
     let same = length-map (bounds_in p.sentences) (bound_of p.nodes) in
@@ -90,7 +91,7 @@ module _ (p : Parts) (q : Option stored.Query) (pivots conflicts : ℕ) (limits 
 
   wide_fit : (at : WideAt) (worlds : ℕ) → Open → worlds ≤ pivots + 2 → IsPlaceUnder (rows_of (setting_of s)) worlds at.place → ArePrintedOperands at → AllByRecursion Q (cause_items (Wide at))
   wide_fit at worlds if_open few under printed =
-      (lines.wide if_open at (place_more (rows_of (setting_of s)) 101 worlds (pivots + 2) at.place (few_rows p q limits.parts) few under) printed, tt)
+      (lines.wide if_open at (place_more (rows_of (setting_of s)) MOST_ROWS worlds (pivots + 2) at.place (few_rows p q limits.parts) few under) printed, tt)
 
   pub cause_fit : (kind : ClaimKind) → IsAsked kind p q → (g : Stage) (left : ℕ) (pending : Option World) (cause : Cause) → IsLicensed kind s pivots conflicts g left pending cause
       → IsPrintedCause cause → length g.pool ≤ pivots + 2 → Open → AllByRecursion Q (cause_items cause)

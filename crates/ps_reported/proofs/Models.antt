@@ -10,6 +10,8 @@ use Rattle.ps_meaning.specs.Bounds.{Bound}
 use Rattle.ps_meaning.proofs.Weights.{weight-nonneg}
 use Rattle.ps_entailment.specs.Answers as claimed
 use Rattle.ps_answer.specs.declared.item.LineItem.{LineItem}
+use Rattle.ps_formula.specs.declared.limits.TheConstants.{MOST_ATOMS}
+use Rattle.ps_problem.specs.declared.limits.TheConstants.{MOST_BOUNDS}
 use Rattle.ps_answer.specs.declared.answer.Weighted.{Weighted}
 use Rattle.ps_answer.specs.declared.answer.Model.{Model}
 use Rattle.ps_answer.specs.Items.{IsProper, IsWithin, IsPrintable}
@@ -26,7 +28,7 @@ small_below : (z most : ℤ) → pos 0 ≤ℤ z → z ≤ℤ most → IsPrintabl
 small_below z most low high small = omega (arith, ints, low, high, small)
 
 -- each entry has its weight, at most the total, and a world of so many atoms
-fit_entries : (atoms : ℕ) (ws : List Weighted) (most : ℤ) → atoms ≤ 128 → IsPrintable most → All (λ e. length e.world ≡ atoms) (entries ws) → All (λ e. pos 1 ≤ℤ e.weight) (entries ws)
+fit_entries : (atoms : ℕ) (ws : List Weighted) (most : ℤ) → atoms ≤ MOST_ATOMS → IsPrintable most → All (λ e. length e.world ≡ atoms) (entries ws) → All (λ e. pos 1 ≤ℤ e.weight) (entries ws)
     → total (entries ws) ≤ℤ most → AllByRecursion IsFit (map entry_item ws)
 fit_entries atoms [] most few small sized weighed high = tt
 fit_entries atoms (w ∷ ws) most few small sized weighed high =
@@ -39,7 +41,7 @@ fit_entries atoms (w ∷ ws) most few small sized weighed high =
       fit_entries atoms ws most few small (All-tail (λ e. length e.world ≡ atoms) (entry_of w) (entries ws) sized) rest (omega (arith, ints, one, sum)),
     )
 
-pub fit_model : (atoms : ℕ) (bounds : List Bound) (m : Model) → atoms ≤ 128 → length bounds ≤ 100 → IsDistribution atoms (entries m.worlds) → claimed.IsBasicModel bounds (model_of m) → IsPrintedModel m
+pub fit_model : (atoms : ℕ) (bounds : List Bound) (m : Model) → atoms ≤ MOST_ATOMS → length bounds ≤ MOST_BOUNDS → IsDistribution atoms (entries m.worlds) → claimed.IsBasicModel bounds (model_of m) → IsPrintedModel m
     → AllByRecursion IsFit (model_items m)
 fit_model atoms bounds m few few_bounds distribution small printed =
     let low : pos 0 ≤ℤ total (entries m.worlds) = weight-nonneg (entries m.worlds) Truth distribution.weighed in

@@ -11,6 +11,8 @@ use Rattle.ps_table.specs.declared.place.Place.TheVariants as place
 use Rattle.ps_table.specs.declared.place.TableCol.{TableCol}
 use Rattle.ps_table.specs.declared.place.TableCol.TheVariants as shown
 use Rattle.ps_table.specs.Tableau.{IsInside, IsShown}
+use Rattle.ps_table.specs.declared.limits.TheConstants.{MOST_ROWS}
+use Rattle.ps_answer.specs.declared.limits.TheConstants.{MOST_WORLD}
 use Rattle.ps_table.specs.Places.{PivotPlace, at_scale, at_times, at_minus, NewPlace, at_new_times, at_new_plus, CostPlace, at_cost, MultiplierPlace, at_whole, at_scaled, WeightPlace, at_weight, at_weighed, at_total}
 use Rattle.ps_bland.specs.DuePlaces.{DuePlace, of_cost, of_ratio, of_pivot}
 use Rattle.ps_claims.specs.declared.claim_kind.ClaimKind.{ClaimKind}
@@ -95,15 +97,15 @@ place_more rows more few most (place.NewTimes i m) h k l = (omega (arith, h, l.0
 place_more rows more few most (place.NewPlus i m) h k l = (omega (arith, h, l.0), omega (arith, h, l.1))
 
 -- ---- within the limits of a report
-pub col_within : (rows most : ℕ) (c : Col) → rows ≤ 101 → most ≤ 1000001 → IsInside rows most c → IsColWithin c
+pub col_within : (rows most : ℕ) (c : Col) → rows ≤ MOST_ROWS → most ≤ MOST_WORLD → IsInside rows most c → IsColWithin c
 col_within rows most (col.Home i) few worlds h = omega (arith, few, h)
 col_within rows most (col.World n) few worlds h = (omega (arith, h.0), omega (arith, worlds, h.1))
 
-shown_within : (rows most : ℕ) (c : TableCol) → rows ≤ 101 → most ≤ 1000001 → IsShown rows most c → IsShownWithin c
+shown_within : (rows most : ℕ) (c : TableCol) → rows ≤ MOST_ROWS → most ≤ MOST_WORLD → IsShown rows most c → IsShownWithin c
 shown_within rows most shown.Right few worlds h = tt
 shown_within rows most (shown.Of c) few worlds h = col_within rows most c few worlds h
 
-pub place_within : (rows most : ℕ) (at : Place) → rows ≤ 101 → most ≤ 1000001 → IsPlaceUnder rows most at → IsPlaceWithin at
+pub place_within : (rows most : ℕ) (at : Place) → rows ≤ MOST_ROWS → most ≤ MOST_WORLD → IsPlaceUnder rows most at → IsPlaceWithin at
 place_within rows most (place.Ratio i) few worlds h = omega (arith, few, h)
 place_within rows most (place.Scale j) few worlds h = shown_within rows most j few worlds h
 place_within rows most (place.Times i j) few worlds h = (omega (arith, few, h.0), shown_within rows most j few worlds h.1)

@@ -12,7 +12,9 @@ use Rattle.ps_answer.specs.declared.answer.Verdict.TheVariants.{Consistent, Inco
 use Rattle.ps_answer.specs.declared.answer.QueryPart.{QueryPart}
 use Rattle.ps_answer.specs.declared.answer.Answer.{Answer}
 use Rattle.ps_answer.specs.Items.{item_line}
-use Rattle.ps_answer.specs.declared.limits.TheConstants.{MOST_OPERAND}
+use Rattle.ps_answer.specs.declared.limits.TheConstants.{MOST_OPERAND, MOST_PIVOTS, MOST_QUERIES, MOST_WORLD}
+use Rattle.ps_table.specs.declared.limits.TheConstants.{MOST_ROWS}
+use Rattle.ps_io.specs.declared.limits.TheConstants.{LONGEST_LINE}
 use Rattle.ps_answer.specs.Answers.{ratio_of, verdict_items, trace_items, query_items, part_items, answer_items}
 use Rattle.ps_claims.specs.Claims.{open_in_part, unfinished_of}
 use Rattle.ps_claims.specs.Validity.{IsValidPart}
@@ -51,7 +53,7 @@ asked_few (Open cause) qs = omega arith
 
 module _ (p : Parts) (pivots conflicts : ℕ) (limits : AreLimits p pivots conflicts) (Q : LineItem → Type 0) (AnyOpen : Type 0) (lines : AreLines pivots Q AnyOpen) where
   parts_fit : (j : ℕ) (qs : List Query) (parts : List QueryPart) → AllZip (IsLawfulPart p pivots conflicts) qs parts → AllZip (IsValidPart p) qs (parts_of parts)
-      → All (λ part. IsPrintedPart part.answer) parts → AllByRecursion (HasItsNodes p) qs → j + length qs ≤ 17 → (0 < sum (map open_in_part (parts_of parts)) → AnyOpen)
+      → All (λ part. IsPrintedPart part.answer) parts → AllByRecursion (HasItsNodes p) qs → j + length qs ≤ MOST_QUERIES + 1 → (0 < sum (map open_in_part (parts_of parts)) → AnyOpen)
       → AllByRecursion Q (part_items j parts)
   unfolding HasItsNodes
   parts_fit j [] [] h valid printed nodes few if_open = tt
@@ -88,12 +90,12 @@ module _ (p : Parts) (pivots conflicts : ℕ) (a : Answer) (h : IsAnswered p piv
   limits_are : AreLimits p pivots conflicts
   limits_are = record { parts = h.parts; few_pivots = h.few_pivots; few_conflicts = h.few_conflicts }
 
-  few_open : pivots < 1000000 → AreLines pivots IsFit (Unit {0})
+  few_open : pivots < MOST_PIVOTS → AreLines pivots IsFit (Unit {0})
   few_open few = record {
     fit = λ i k. k;
     wide = λ _ at under printed. (
       (operand_proper at.left MOST_OPERAND, operand_proper at.right MOST_OPERAND),
-      (place_within 101 (pivots + 2) at.place (omega arith) (omega (arith, few)) under, operand_within at.left printed.left, operand_within at.right printed.right),
+      (place_within MOST_ROWS (pivots + 2) at.place (omega arith) (omega (arith, few)) under, operand_within at.left printed.left, operand_within at.right printed.right),
     );
   }
 
@@ -107,15 +109,15 @@ module _ (p : Parts) (pivots conflicts : ℕ) (a : Answer) (h : IsAnswered p piv
   ]
 
   abbrev IsShort : LineItem → Type 0
-  IsShort i = length (item_line i) < 65536
+  IsShort i = length (item_line i) < LONGEST_LINE
 
   any_open : AreLines pivots IsShort (Unit {0})
   any_open = record {
     fit = λ i k. short_line i k.1;
     wide = λ _ at under printed.
         let most = h.few_pivots in
-        wide_short 101 at.place at.op (ratio_of at.left) (ratio_of at.right) (omega arith)
-        (place_more 101 101 (pivots + 2) 1000002 at.place (omega arith) (omega (arith, most)) under) (operand_within at.left printed.left) (operand_within at.right printed.right);
+        wide_short MOST_ROWS at.place at.op (ratio_of at.left) (ratio_of at.right) (omega arith)
+        (place_more MOST_ROWS MOST_ROWS (pivots + 2) (MOST_WORLD + 1) at.place (omega arith) (omega (arith, most)) under) (operand_within at.left printed.left) (operand_within at.right printed.right);
   }
 
   pub all_short : AllByRecursion IsShort (answer_items a)

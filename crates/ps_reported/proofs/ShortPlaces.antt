@@ -1,5 +1,5 @@
 -- The line of an open part that names the world 1,000,002, one past the limit, is as long as that of the world before it.
-use Rattle.std.proofs.Common.{◌≡◌, ℕ, ◌<◌, ◌≤◌, eqb, cond, List, [], ◌∷◌, ◌++◌, length, fold, inl, inr, refl, ap, subst, arith}
+use Rattle.std.proofs.Common.{◌≡◌, ℕ, ◌+◌, ◌<◌, ◌≤◌, eqb, cond, List, [], ◌∷◌, ◌++◌, length, fold, inl, inr, refl, ap, subst, arith}
 use Rattle.std.specs.Prelude.{codes, decimal}
 use Rattle.std.specs.List.{AllZip}
 use Rattle.std.proofs.lemmas.Fmt.{decimal_step}
@@ -14,11 +14,13 @@ use Rattle.ps_table.specs.declared.place.Place.TheVariants as place
 use Rattle.ps_table.specs.declared.place.TableCol.{TableCol}
 use Rattle.ps_table.specs.declared.place.TableCol.TheVariants as shown
 use Rattle.ps_table.specs.Tableau.{IsInside, IsShown}
+use Rattle.ps_table.specs.declared.limits.TheConstants.{MOST_ROWS}
+use Rattle.ps_io.specs.declared.limits.TheConstants.{LONGEST_LINE}
 use Rattle.ps_answer.specs.declared.item.Ratio.{Ratio}
 use Rattle.ps_answer.specs.declared.item.LineItem.TheVariants.{OpenWide}
 use Rattle.ps_answer.specs.Words.{Word, Fraction, Column, word_text}
 use Rattle.ps_answer.specs.Items.{op_word, shown_word, place_words, item_words, item_line, IsRatioWithin}
-use Rattle.ps_answer.specs.declared.limits.TheConstants.{MOST_OPERAND}
+use Rattle.ps_answer.specs.declared.limits.TheConstants.{MOST_OPERAND, MOST_WORLD}
 use Rattle.ps_valid.proofs.ShortLines.{short_line}
 use Rattle.ps_reported.proofs.Places.{IsPlaceUnder, place_within}
 
@@ -55,11 +57,11 @@ same_joined s t (v ∷ vs) (w ∷ ws) e h =
 
 -- ---- the world before
 before : ℕ → ℕ
-before n = cond (eqb n 1000002) 1000001 n
+before n = cond (eqb n (MOST_WORLD + 1)) MOST_WORLD n
 
 record IsBefore (n : ℕ) : Type 0 where
   some : 0 < n → 0 < before n
-  most : n ≤ 1000002 → before n ≤ 1000001
+  most : n ≤ MOST_WORLD + 1 → before n ≤ MOST_WORLD
   long : length (decimal (before n)) ≡ length (decimal n)
 
 as_many_digits : length (decimal 1000001) ≡ length (decimal 1000002)
@@ -70,7 +72,7 @@ as_many_digits =
 
 is_before : (n : ℕ) → IsBefore n
 unfolding before
-is_before n = elim (eqb_tells n 1000002) [
+is_before n = elim (eqb_tells n (MOST_WORLD + 1)) [
   | inl e ↦ rw (e.1) (record { some = λ h. omega arith; most = λ h. omega arith; long = as_many_digits })
   | inr e ↦ record {
     some = λ h. rw (e.0) h;
@@ -101,17 +103,17 @@ place_before (place.Total i) = place.Total i
 place_before (place.NewTimes i m) = place.NewTimes i m
 place_before (place.NewPlus i m) = place.NewPlus i m
 
-col_under : (rows : ℕ) (c : Col) → IsInside rows 1000002 c → IsInside rows 1000001 (col_before c)
+col_under : (rows : ℕ) (c : Col) → IsInside rows (MOST_WORLD + 1) c → IsInside rows MOST_WORLD (col_before c)
 unfolding col_before
 col_under rows (col.Home i) h = h
 col_under rows (col.World n) h = ((is_before n).some h.0, (is_before n).most h.1)
 
-shown_under : (rows : ℕ) (c : TableCol) → IsShown rows 1000002 c → IsShown rows 1000001 (shown_before c)
+shown_under : (rows : ℕ) (c : TableCol) → IsShown rows (MOST_WORLD + 1) c → IsShown rows MOST_WORLD (shown_before c)
 unfolding shown_before
 shown_under rows shown.Right h = tt
 shown_under rows (shown.Of c) h = col_under rows c h
 
-place_under : (rows : ℕ) (at : Place) → IsPlaceUnder rows 1000002 at → IsPlaceUnder rows 1000001 (place_before at)
+place_under : (rows : ℕ) (at : Place) → IsPlaceUnder rows (MOST_WORLD + 1) at → IsPlaceUnder rows MOST_WORLD (place_before at)
 unfolding place_before
 place_under rows (place.Ratio i) h = h
 place_under rows (place.Scale j) h = shown_under rows j h
@@ -161,8 +163,8 @@ line_long at op left right =
     (refl, (refl, long_append (place_words (place_before at)) (place_words at) (op_word op ∷ Fraction left ∷ Fraction right ∷ []) (place_long at)))
 
 -- the line of an open part over at most 1,000,002 worlds is short
-pub wide_short : (rows : ℕ) (at : Place) (op : Op) (left right : Ratio) → rows ≤ 101 → IsPlaceUnder rows 1000002 at → IsRatioWithin MOST_OPERAND left → IsRatioWithin MOST_OPERAND right
-    → length (item_line (OpenWide at op left right)) < 65536
+pub wide_short : (rows : ℕ) (at : Place) (op : Op) (left right : Ratio) → rows ≤ MOST_ROWS → IsPlaceUnder rows (MOST_WORLD + 1) at → IsRatioWithin MOST_OPERAND left → IsRatioWithin MOST_OPERAND right
+    → length (item_line (OpenWide at op left right)) < LONGEST_LINE
 wide_short rows at op left right few h l r =
-    subst (λ n. n < 65536) (line_long at op left right)
-    (short_line (OpenWide (place_before at) op left right) (place_within rows 1000001 (place_before at) few (omega arith) (place_under rows at h), l, r))
+    subst (λ n. n < LONGEST_LINE) (line_long at op left right)
+    (short_line (OpenWide (place_before at) op left right) (place_within rows MOST_WORLD (place_before at) few (omega arith) (place_under rows at h), l, r))

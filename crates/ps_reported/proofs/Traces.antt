@@ -6,6 +6,7 @@ use Rattle.ps_problem.specs.Problems.{Parts}
 use Rattle.ps_pool.specs.declared.event.Event.{Event}
 use Rattle.ps_pool.specs.declared.event.Event.TheVariants.{Pivot, Priced}
 use Rattle.ps_answer.specs.declared.item.LineItem.{LineItem}
+use Rattle.ps_answer.specs.declared.limits.TheConstants.{MOST_WORLD}
 use Rattle.ps_answer.specs.declared.item.LineItem.TheVariants as line
 use Rattle.ps_answer.specs.declared.answer.Verdict.{Verdict}
 use Rattle.ps_answer.specs.Answers.{event_item, trace_items}
@@ -24,7 +25,7 @@ module _ (p : Parts) (q : Option stored.Query) (pivots conflicts : ℕ) (limits 
   abbrev s : Subject
   s = record { parts = p; query = q }
 
-  event_fit : (most : ℕ) → most ≤ 1000001 → (e : Event) → IsEventUnder (rows_of (setting_of s)) most (atoms_of s) e → IsFit (event_item e)
+  event_fit : (most : ℕ) → most ≤ MOST_WORLD → (e : Event) → IsEventUnder (rows_of (setting_of s)) most (atoms_of s) e → IsFit (event_item e)
   event_fit most few (Pivot enter leave) h =
       let rows = few_rows p q limits.parts in
       (tt, (col_within (rows_of (setting_of s)) most enter rows few h.0, omega (arith, rows, h.1)))
