@@ -1,12 +1,10 @@
 -- Where there is no query the verdict is the whole answer.
 use Rattle.std.proofs.Common.{◌≡◌, ℕ, List, [], sym, subst}
 use Rattle.std.specs.List.{AllZip}
-use Rattle.ps_problem.specs.declared.query.Query.{Query}
 use Rattle.ps_problem.specs.Problems.{Parts}
 use Rattle.ps_pool.specs.declared.event.Event.{Event}
 use Rattle.ps_answer.specs.declared.answer.Verdict.{Verdict}
 use Rattle.ps_answer.specs.declared.answer.Verdict.TheVariants.{Consistent, Inconsistent, Open}
-use Rattle.ps_answer.specs.declared.answer.Answer.{Answer}
 use Rattle.ps_entailment.specs.Answers as claimed
 use Rattle.ps_claims.specs.Duals.{Dual}
 use Rattle.ps_claims.specs.Validity.{IsValidVerdict, IsValidPart, IsValid}

@@ -1,5 +1,5 @@
 -- Where a lawful answer is open for conflicts, it holds as many steps as their limit.
-use Rattle.std.proofs.Common.{◌≡◌, ℕ, Option, Some, None, List, [], ◌∷◌, length}
+use Rattle.std.proofs.Common.{ℕ, Option, Some, None, List, [], ◌∷◌}
 use Rattle.std.specs.List.{AllZip}
 use Rattle.ps_meaning.specs.Formula.{World}
 use Rattle.ps_problem.specs.declared.query.Query.{Query}
@@ -20,7 +20,7 @@ use Rattle.ps_claims.specs.declared.claim_kind.ClaimKind.{ClaimKind}
 use Rattle.ps_claims.specs.declared.claim_kind.ClaimKind.TheVariants.{Nothing, Lower, Upper}
 use Rattle.ps_runs.specs.Runs.{Subject, subject_of, Stage}
 use Rattle.ps_phases.specs.Licences.{IsLicensed}
-use Rattle.ps_phases.specs.Verdicts.{IsVerdictAt, IsLawfulPhaseOne, IsSideAt, IsLawfulAnswerTo, IsLawfulPart, IsLawfulAnswer, asked_after}
+use Rattle.ps_phases.specs.Verdicts.{IsVerdictAt, IsSideAt, IsLawfulAnswerTo, IsLawfulPart, IsLawfulAnswer, asked_after}
 
 licensed : (kind : ClaimKind) (s : Subject) (pivots conflicts : ℕ) (g : Stage) (left : ℕ) (world : Option World) (cause : Cause) → IsLicensed kind s pivots conflicts g left world cause → IsCounted cause
 licensed kind s pivots conflicts g left None (Pivots limit) h = tt

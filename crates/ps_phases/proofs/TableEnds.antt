@@ -1,7 +1,7 @@
 -- The numbers that are made of a solver's table are those of its stage.
-use Rattle.std.proofs.Common.{◌≡◌, ℕ, ℤ, pos, List, length, sym, refl, ap, ◌∙◌, subst}
+use Rattle.std.proofs.Common.{◌≡◌, ℕ, pos, List, refl, ap, ◌∙◌, subst}
 use Rattle.ps_meaning.specs.Formula.{World}
-use Rattle.ps_meaning.specs.Distribution.{Entry, total}
+use Rattle.ps_meaning.specs.Distribution.{total}
 use Rattle.ps_rational.specs.Rational.{Rational}
 use Rattle.ps_rational.specs.Sums.{int_sum_to}
 use Rattle.ps_steps.specs.Steps.{Step}

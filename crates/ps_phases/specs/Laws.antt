@@ -142,7 +142,7 @@ pub record SidesEndLawfully : Type 0 where
       → (w : World) (at : WideAt) → IsPricedBy kind s conflicts (stage_at pool t) (entry_at t) w → IsColumnTooWide s (stage_at pool t) w at
       → IsLawfulSide kind s pivots conflicts from had (stage_at pool t) left (side.Open (Wide at)) (trace ++ Priced w ∷ [])
 
--- the costs of a longer pool have the world's behind them
+-- the costs over a pool with one world more are those over the pool, and behind them the world's
 abbrev pub CostsGrow : Type 0
 CostsGrow = (kind : ClaimKind) (s : Setting) (pool : List World) (w : World)
     → costs_for kind s (pool ++ w ∷ []) ≡ record { homes = (costs_for kind s pool).homes; worlds = (costs_for kind s pool).worlds ++ world_cost kind s w ∷ [] }

@@ -1,11 +1,10 @@
 -- When a part may be open: the pivots are used up, a search was spent, or a number is too wide at a place that is due.
-use Rattle.std.specs.Prelude.{◌≡◌, ℕ, ◌<◌, pos, Option, Some, None, length}
+use Rattle.std.specs.Prelude.{◌≡◌, ℕ, ◌<◌, pos, Option, Some, None, List, length}
 use Rattle.ps_meaning.specs.Formula.{World}
 use Rattle.ps_rational.specs.Rational.{Rational}
 use Rattle.ps_frac.specs.declared.wide.Op.{Op}
 use Rattle.ps_steps.specs.Constraints.{Constraint}
 use Rattle.ps_steps.specs.Steps.{Step}
-use Rattle.std.specs.Prelude.{List}
 use Rattle.ps_forms.specs.Forms.{form_of}
 use Rattle.ps_pool.specs.declared.col.Col.TheVariants.{Home}
 use Rattle.ps_table.specs.declared.place.Place.{Place}

@@ -1,5 +1,5 @@
 -- A new run whose sentences are all kept is over all.
-use Rattle.std.proofs.Common.{◌≡◌, Bool, true, List, Option, Result, Ok, Err, IfOk, length, ◌∙◌, All}
+use Rattle.std.proofs.Common.{Bool, List, Option, Result, Ok, Err, IfOk, ◌∙◌}
 use Rattle.ps_problem.specs.declared.query.Query.{Query}
 use Rattle.ps_problem.specs.Problems.{Parts}
 use Rattle.ps_runs.specs.Kept.{flags_of, IsChoice, AreAllKept}

@@ -11,7 +11,7 @@ use Rattle.ps_answer.specs.declared.answer.SideAnswer.{SideAnswer}
 use Rattle.ps_answer.specs.declared.answer.Verdict.{Verdict}
 use Rattle.ps_claims.specs.declared.claim_kind.ClaimKind.TheVariants.{Lower, Upper}
 use Rattle.ps_claims.specs.Validity.{IsValidVerdict, IsValidPart}
-use Rattle.ps_valid.specs.Answers.{part_of, verdict_of}
+use Rattle.ps_valid.specs.Answers.{part_of, verdict_of as claimed_verdict}
 use Rattle.ps_runs.specs.Kept.{AreAllKept}
 use Rattle.ps_runs.specs.Runs.{Stage}
 use Rattle.ps_phases.specs.Verdicts.{IsLawfulSide, IsLawfulVerdict, IsLawfulPart, asked_after}
@@ -63,7 +63,7 @@ IsBehind r (first.Open cause) answer = answer ≡ query.Open cause
 -- the verdict, from a run without a query
 pub record IsVerdictOf (limits : Limits) (p : Parts) (verdict : Verdict) (first : List Event) : Type 0 where
   pub lawful : IsLawfulVerdict p limits.pivots limits.conflicts verdict first
-  pub valid : IsValidVerdict p (verdict_of verdict)
+  pub valid : IsValidVerdict p (claimed_verdict verdict)
   pub printed : IsPrintedVerdict verdict
 
 -- the answer to a query, from a run of its own

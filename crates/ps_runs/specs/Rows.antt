@@ -43,13 +43,13 @@ entry_in w b = signed_by b.side (row_value b w)
 abbrev pub entries_of : Setting → World → List ℤ
 entries_of s w = indicator s.query.evidence w ∷ map (entry_in w) s.bounds
 
--- an equation has no slack
+-- whether a side states an equation, whose row needs no slack
 abbrev pub is_exact : Side → Bool
 is_exact AtLeast = false
 is_exact AtMost = false
 is_exact Exactly = true
 
--- whether the home of each row is artificial: row 0 says that the evidence weighs 1; each bound has a row
+-- whether the home of each row is artificial: it is in row 0, which says that the evidence weighs 1, and in an equation's
 abbrev pub artificial_rows : Setting → List Bool
 artificial_rows s = true ∷ map (λ b. is_exact b.side) s.bounds
 
@@ -57,7 +57,7 @@ artificial_rows s = true ∷ map (λ b. is_exact b.side) s.bounds
 abbrev pub rows_of : Setting → ℕ
 rows_of s = suc (length s.bounds)
 
--- the right side, the homes, and the worlds of the pool
+-- the number in row m and column j: the columns are the right side, the homes, and the worlds of the pool
 abbrev pub columns_of : Setting → List World → ℕ → ℕ → Rational
 columns_of s pool m j =
     cond (leb j (rows_of s)) (unit_at m (j - 1)) (fraction (get_or (entries_of s (get_or pool (j - suc (rows_of s)) [])) m (pos 0)) 1)
@@ -70,24 +70,24 @@ artificial_of s j = get_or (artificial_rows s) (j - 1) false
 abbrev pub system_of : Setting → List World → System
 system_of s pool = record { rows = rows_of s; artificial = artificial_of s; columns = columns_of s pool }
 
--- the width of its tables
+-- how many columns a table of the pool's worlds has
 abbrev pub width_of : Setting → List World → ℕ
 width_of s pool = suc (rows_of s + length pool)
 
 -- ---- costs
--- phase one makes the artificials as small as it can
+-- the cost of a home: phase one makes the artificials as small as it can
 abbrev pub home_cost : ClaimKind → Bool → ℤ
 home_cost Nothing artificial = cond artificial (pos 1) (pos 0)
 home_cost Lower artificial = pos 0
 home_cost Upper artificial = pos 0
 
--- the sides make the query as small or as great as they can
+-- the cost of a world: the sides make the query as small or as great as they can
 abbrev pub world_cost : ClaimKind → Setting → World → ℤ
 world_cost Nothing s w = pos 0
 world_cost Lower s w = indicator (both_of s) w
 world_cost Upper s w = neg_ℤ (indicator (both_of s) w)
 
--- the cost of each home and each world
+-- the costs of all columns but the right side: of each home and each world
 abbrev pub costs_of : ClaimKind → Setting → List World → List ℤ
 costs_of kind s pool = map (home_cost kind) (artificial_rows s) ++ map (world_cost kind s) pool
 

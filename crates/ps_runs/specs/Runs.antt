@@ -42,7 +42,7 @@ subject_of p q = record { parts = p; query = Some q }
 abbrev pub sentences_of : Parts → Subject
 sentences_of p = record { parts = p; query = None }
 
--- the sure query, where there is none
+-- what is asked: the query, or the sure one where there is none
 abbrev pub asked_in : Parts → Option stored.Query → Query
 asked_in p None = record { formula = Truth; evidence = Truth }
 asked_in p (Some q) = query_of p.nodes q
