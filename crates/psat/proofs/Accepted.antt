@@ -1,5 +1,5 @@
 -- A report that is due for `solve` is that of one answer, and is accepted behind the problem's text.
-use Rattle.std.proofs.Common.{◌≡◌, ◌≢◌, ◌⊎◌, inl, inr, ℕ, zero, suc, ◌+◌, ◌-◌, ◌<◌, ◌≤◌, ◌^◌, List, [], ◌∷◌, ◌++◌, length, take, drop, map, codes, refl, sym, ap, subst, ◌∙◌, arith}
+use Rattle.std.proofs.Common.{◌≡◌, ◌≢◌, inl, inr, ℕ, zero, suc, ◌+◌, ◌-◌, ◌≤◌, List, [], ◌∷◌, ◌++◌, length, take, drop, map, codes, refl, sym, ap, subst, ◌∙◌, arith}
 use Rattle.std.specs.Prelude.{sum}
 use Rattle.std.specs.List.{AllZip}
 use Rattle.ps_text.specs.Pieces.{IsBare}
@@ -18,10 +18,10 @@ use Rattle.ps_claims.specs.Validity.{IsValid, IsValidPart}
 use Rattle.ps_read.specs.Readings.{SpellsProblem}
 use Rattle.ps_valid.specs.Answers.{answer_of, verdict_of}
 use Rattle.ps_generation.specs.declared.limits.Limits.{Limits}
-use Rattle.ps_answer.specs.declared.limits.TheConstants.{MOST_PIVOTS}
-use Rattle.psat.specs.declared.status.Status.{Status}
 use Rattle.psat.specs.declared.status.Status.TheVariants.{Unfinished}
 use Rattle.psat.specs.declared.command.Command.TheVariants.{Check}
+use Rattle.psat.specs.declared.checked.TheConstants.{MOST_SEARCHED}
+use Rattle.psat.specs.declared.command.TheConstants.{MOST_PROBLEM}
 use Rattle.psat.specs.Due.{Output, Accepted, ReadAs, Spelled, Within, DueFor, IsSolvedBy, accepted, report_of, searched, status_by, status_after}
 use Rattle.psat.specs.Accepting.{IsReadable}
 use Rattle.psat.proofs.Behind.{spelled_behind, drop_behind, take_behind}
@@ -68,7 +68,7 @@ bare_report a zero = tt
 bare_report a (suc n) = refl
 
 pub accepted_report : (limits : Limits) (bytes : List ℕ) (o : Output) (p : Parts) (a : Answer) (most : ℕ) → IsReadable limits o → IsSolvedBy limits bytes o p a
-    → length bytes ≤ 2 ^ 20 → length (bytes ++ (codes "\n" ++ o.text)) ≤ most
+    → length bytes ≤ MOST_PROBLEM → length (bytes ++ (codes "\n" ++ o.text)) ≤ most
     → DueFor (Check most) (bytes ++ (codes "\n" ++ o.text)) (accepted (length (claims_of p (answer_of a))) (unfinished_of (answer_of a)))
 accepted_report limits bytes o p a most readable h few within = Within within (Spelled p (length bytes + 1) spells (ReadAs a report (Accepted h.solution.valid h.solution.right refl)))
   where
@@ -77,9 +77,9 @@ accepted_report limits bytes o p a most readable h few within = Within within (S
 
     spells : SpellsProblem (searched (bytes ++ 10 ∷ o.text)) p (length bytes + 1)
     spells =
-        subst (λ (x : List ℕ). SpellsProblem x p (length bytes + 1)) (sym (take_behind bytes o.text (2 ^ 32 - 2) (2 ^ 32 - 2 - (length bytes + 1)) (omega (arith, few))))
-        (spelled_behind bytes (take (2 ^ 32 - 2 - (length bytes + 1)) o.text) p h.spells
-        (subst (λ (x : List ℕ). IsBare (take (2 ^ 32 - 2 - (length bytes + 1)) x)) (sym text_is) (bare_report a (2 ^ 32 - 2 - (length bytes + 1)))))
+        subst (λ (x : List ℕ). SpellsProblem x p (length bytes + 1)) (sym (take_behind bytes o.text MOST_SEARCHED (MOST_SEARCHED - (length bytes + 1)) (omega (arith, few))))
+        (spelled_behind bytes (take (MOST_SEARCHED - (length bytes + 1)) o.text) p h.spells
+        (subst (λ (x : List ℕ). IsBare (take (MOST_SEARCHED - (length bytes + 1)) x)) (sym text_is) (bare_report a (MOST_SEARCHED - (length bytes + 1)))))
 
     report : IsReport (drop (length bytes + 1) (bytes ++ 10 ∷ o.text)) a
     report = subst (λ (x : List ℕ). IsReport x a) (sym (drop_behind bytes o.text (length bytes + 1) refl ∙ text_is)) (read_as limits bytes o p a readable h)

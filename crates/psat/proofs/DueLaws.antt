@@ -1,5 +1,5 @@
 -- What is due for what was read and judged.
-use Rattle.std.proofs.Common.{◌≡◌, ◌⊎◌, inl, inr, ℕ, ◌+◌, ◌-◌, ◌<◌, ◌^◌, take, drop, arith, length-drop, length-append, ◌≤◌, List, [], ◌++◌, length, Option, Some, None, Err, String, refl, sym, ap, subst, ◌∙◌, append-nil}
+use Rattle.std.proofs.Common.{◌≡◌, inl, ℕ, ◌+◌, ◌-◌, ◌<◌, take, drop, arith, length-drop, length-append, ◌≤◌, List, [], ◌++◌, length, Option, Some, None, Err, String, refl, sym, ap, subst, ◌∙◌, append-nil}
 use Rattle.std.specs.declared.alloc.Global.{Global}
 use Rattle.std.proofs.Math.Seq.{take_all}
 use Rattle.std.proofs.lemmas.Option.{same_Some}
@@ -31,9 +31,9 @@ use Rattle.psat.specs.declared.command.Command.TheVariants as commands
 use Rattle.psat.specs.declared.status.Status.{Status}
 use Rattle.psat.specs.declared.status.Status.TheVariants as status
 use Rattle.psat.specs.Commands.{Spell, SpellNone, limit_of, words_of}
-use Rattle.psat.specs.Statuses.{EndsCheck, EndsSolve, HasText, IsAnswerOf, MayAnswer}
+use Rattle.psat.specs.Statuses.{EndsCheck, EndsSolve, HasText, IsAnswerOf}
 use Rattle.psat.specs.Due as due
-use Rattle.psat.specs.Due.{Output, too_long, usage, refused_line, unreadable, searched, DueAnswer, DueReport, FaultAt, DueText, NotRead, DueAnswered, NoProblem, IsSolvedBy, Solved, Within, TooLong, DueFor, Due, ForCommand, ForNone, report_of, status_by, status_after}
+use Rattle.psat.specs.Due.{Output, too_long, usage, refused_line, unreadable, searched, DueAnswer, DueReport, FaultAt, DueText, NotRead, DueAnswered, NoProblem, Solved, Within, TooLong, DueFor, Due, ForCommand, ForNone, report_of, status_after}
 use Rattle.psat.proofs.CommandLaws.{one_command}
 use Rattle.psat.specs.Runs.{IsTold, WasRead, Took, HasAnswered, HasTaken, HasRead, Wrote}
 use Rattle.psat.specs.Replies.{AreWithin, DueBytes, IsDueFor, IsDue}

@@ -1,5 +1,5 @@
 -- For words and bytes at most one output is due.
-use Rattle.std.proofs.Common.{◌≡◌, ◌≤◌, ◌^◌, ℕ, List, length, drop, sym, ap, subst, ◌∙◌, arith}
+use Rattle.std.proofs.Common.{◌≡◌, ◌≤◌, ℕ, List, length, drop, sym, ap, subst, ◌∙◌, arith}
 use Rattle.ps_read.specs.Readings.{SpellsWhole, Read, Unread}
 use Rattle.ps_read.proofs.OneReading.{one_reading, one_whole_reading}
 use Rattle.ps_problem.specs.Problems.{Parts}
@@ -11,6 +11,7 @@ use Rattle.ps_valid.proofs.SingleFaults.{one_refused}
 use Rattle.ps_generation.specs.declared.limits.Limits.{Limits}
 use Rattle.psat.specs.declared.command.Command.{Command}
 use Rattle.psat.specs.declared.command.Command.TheVariants as commands
+use Rattle.psat.specs.declared.command.TheConstants.{MOST_PROBLEM}
 use Rattle.psat.specs.Commands.{Spell}
 use Rattle.psat.specs.Due.{Output, refused, refused_line, unreadable, DueAnswer, Accepted, RefusedFor, DueReport, ReadAs, FaultAt, DueText, Spelled, NotRead, searched, DueAnswered, Solved, NoProblem, DueWithin, Within, TooLong, DueFor, Due, ForCommand, ForNone, IsSingle}
 use Rattle.psat.proofs.CommandLaws.{one_command}
@@ -66,7 +67,7 @@ one_unread limits bytes o o' none (NoProblem kind at u is) (NoProblem other ther
 
 one_for_command : (c : Command) (bytes : List ℕ) (o o' : Output) → IsSingle c bytes → DueFor c bytes o → DueFor c bytes o' → o ≡ o'
 one_for_command (commands.Check limit) bytes o o' single d e = one_within limit DueText bytes o o' (λ few. one_text bytes o o') d e
-one_for_command (commands.Solve limits) bytes o o' single d e = one_within (2 ^ 20) (DueAnswered limits) bytes o o' (λ few. one_unread limits bytes o o' (λ p. single p few)) d e
+one_for_command (commands.Solve limits) bytes o o' single d e = one_within MOST_PROBLEM (DueAnswered limits) bytes o o' (λ few. one_unread limits bytes o o' (λ p. single p few)) d e
 
 pub one_output : (words : List (List ℕ)) (bytes : List ℕ) (o o' : Output) → ((c : Command) → Spell words c → IsSingle c bytes) → Due words bytes o → Due words bytes o' → o ≡ o'
 one_output words bytes o o' single (ForCommand c spelled d) (ForCommand c' spelled' d') =

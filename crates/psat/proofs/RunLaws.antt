@@ -1,19 +1,18 @@
 -- What a run does where it has a reply.
-use Rattle.std.proofs.Common.{◌≡◌, ◌⊎◌, inl, inr, ℕ, List, Option, String, string_bytes, drop, sym, ap, subst, ◌∙◌}
+use Rattle.std.proofs.Common.{◌≡◌, inr, ℕ, List, Option, String, string_bytes, drop, sym, ap, subst, ◌∙◌}
 use Rattle.std.specs.Prelude.{Result, Ok}
 use Rattle.std.specs.Vec.Iter.{into_iter_items}
 use Rattle.std.specs.declared.alloc.Global.{Global}
 use Rattle.std.specs.declared.vec.IntoIter.{IntoIter}
-use Rattle.psat.specs.Commands.{words_of}
 use Rattle.psat.specs.Exits.{IfRan}
 use Rattle.psat.specs.declared.status.Status.{Status}
 use Rattle.psat.specs.declared.status.Status.TheVariants as status
 use Rattle.psat.specs.declared.reply.Reply.{Reply}
 use Rattle.psat.specs.declared.reply.Reply.TheVariants.{Line, Report}
 use Rattle.ps_io.specs.Transfer.{Appends, AppendsPrefix}
-use Rattle.psat.specs.Due.{Output, report_of, status_after}
+use Rattle.psat.specs.Due.{report_of, status_after}
 use Rattle.psat.specs.Statuses.{HasText, IsFailure, IsSilent}
-use Rattle.psat.specs.Runs.{IsGiven, Cut, Wrote, Ran, HasAnswered, CountsReads, CountsWrites}
+use Rattle.psat.specs.Runs.{IsGiven, Cut, Wrote, HasAnswered, CountsReads, CountsWrites}
 use Rattle.psat.specs.Replies.{IsDue, output_of, reply_status}
 use Rattle.psat.proofs.DueLaws.{ran_by}
 

@@ -1,5 +1,5 @@
 -- The report of an answer, behind the problem's text, is accepted by `check`.
-use Rattle.std.specs.Prelude.{◌≡◌, ◌≢◌, ◌<◌, ◌≤◌, ◌⊎◌, ◌^◌, ℕ, List, ◌++◌, length, codes}
+use Rattle.std.specs.Prelude.{◌≡◌, ◌≢◌, ◌<◌, ◌≤◌, ◌⊎◌, ℕ, List, ◌++◌, length, codes}
 use Rattle.ps_problem.specs.Problems.{Parts}
 use Rattle.ps_answer.specs.declared.answer.Answer.{Answer}
 use Rattle.ps_claims.specs.Claims.{claims_of, unfinished_of}
@@ -7,7 +7,7 @@ use Rattle.ps_valid.specs.Answers.{answer_of}
 use Rattle.ps_generation.specs.declared.limits.Limits.{Limits}
 use Rattle.ps_answer.specs.declared.limits.TheConstants.{MOST_PIVOTS}
 use Rattle.psat.specs.declared.status.Status.TheVariants.{Unfinished}
-use Rattle.psat.specs.declared.command.Command.TheVariants.{Check, Solve}
+use Rattle.psat.specs.declared.command.Command.TheVariants.{Check}
 use Rattle.psat.specs.declared.command.TheConstants.{MOST_PROBLEM}
 use Rattle.psat.specs.Due.{Output, DueFor, IsSolvedBy, accepted}
 

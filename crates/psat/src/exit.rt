@@ -88,7 +88,7 @@ pub fn run_program<I: Source, O: Sink>(
     Ok(run(alloc, behind_name(&all), source, sink))
 }
 
-/// What failed, where a status without its text, or none, is answered.
+/// What `main` tells of a failure, or None where the due text was written.
 pub fn failure(ended: Result<Status, NoWords>) -> Option<&'static str>
     ensures none { IfNone result (failure_words ended ≡ None) }
     ensures some { IfSome result (λ text. failure_words ended ≡ Some text.now) }
@@ -102,6 +102,7 @@ pub fn failure(ended: Result<Status, NoWords>) -> Option<&'static str>
     }
 }
 
+// The exit code where the words can't be had.
 const NO_WORDS: u8 = 10;
 
 /// The exit code after a run, or where the words can't be had.

@@ -1,8 +1,8 @@
 //! A text to be written.
-ghost use Rattle.std.specs.Prelude.{◌≡◌, ◌++◌, codes, string_bytes};
+ghost use Rattle.std.specs.Prelude.{string_bytes};
 ghost use Rattle.psat.specs.Due.{accepted, line, refused, refused_line};
 ghost use Rattle.psat.specs.Due.{too_long, unreadable, usage};
-ghost use Rattle.psat.specs.Replies.{Says, message_output};
+ghost use Rattle.psat.specs.Replies.{Says};
 
 use crate::shown::{claim_text, kind_text, line_text, reason_text};
 use crate::status::Status;

@@ -1,5 +1,5 @@
 //! The reply to a problem that is to be answered.
-ghost use Rattle.std.specs.Prelude.{◌≤◌, ◌^◌, length, IfOk};
+ghost use Rattle.std.specs.Prelude.{◌≤◌, length, IfOk};
 ghost use Rattle.ps_generation.specs.Phases.{AreLimits};
 ghost use Rattle.psat.specs.declared.command.TheConstants.{MOST_PROBLEM};
 ghost use Rattle.psat.specs.Due.{DueAnswered};

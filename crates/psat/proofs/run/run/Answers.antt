@@ -1,4 +1,4 @@
-use Rattle.std.proofs.Common.{ℕ, List, sym, subst}
+use Rattle.std.proofs.Common.{sym, subst}
 use Rattle.psat.specs.declared.status.Status.{Status}
 use Rattle.psat.specs.Commands.{words_of}
 use Rattle.psat.specs.Runs.{Wrote}
