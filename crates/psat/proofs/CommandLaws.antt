@@ -1,23 +1,24 @@
 -- Which words spell a command.
-use Rattle.std.proofs.Common.{◌≡◌, ◌≢◌, ◌⊎◌, inl, inr, ℕ, zero, suc, ◌^◌, ◌<◌, ◌≤◌, List, [], ◌∷◌, length, All, Contains, get_or, drop, codes, Option, Some, None, String, string_bytes, refl, sym, ap, subst, ◌∙◌, arith}
+use Rattle.std.proofs.Common.{◌≡◌, ◌⊎◌, inl, inr, ℕ, zero, suc, ◌^◌, ◌<◌, ◌≤◌, List, [], ◌∷◌, length, All, Contains, get_or, drop, codes, Option, Some, None, String, string_bytes, refl, sym, ap, subst, ◌∙◌, arith}
 use Rattle.std.specs.declared.alloc.Global.{Global}
-use Rattle.std.specs.Prelude.{IfSome, IfNone, MatchOption, AllPairs}
+use Rattle.std.specs.Prelude.{MatchOption}
 use Rattle.std.specs.Fmt.{decimal}
 use Rattle.std.proofs.lemmas.List.Elements.{All-nil, All-cons}
 use Rattle.ps_generation.specs.declared.limits.Limits.{Limits}
-use Rattle.ps_generation.specs.Phases.{AreLimits}
 use Rattle.psat.specs.declared.command.Command.{Command}
 use Rattle.psat.specs.declared.command.Command.TheVariants.{Check, Solve}
-use Rattle.psat.specs.declared.command.SolveSetting.{SolveSetting}
-use Rattle.psat.specs.declared.command.SolveSetting.TheVariants as set
-use Rattle.psat.specs.Commands.{words_of, Limit, Bytes, Pivots, Conflicts, limit_word, most_of, default_of, LimitSetting, setting_words, AreSettings, IsSetTo, AreWordsOf, Spell, SpellNone}
-use Rattle.psat.specs.Settings.{solve_limits, SpellSetting, SpellNoSetting, setting_of, limits_by, limits_by_both}
+use Rattle.psat.specs.declared.command.Limit.{Limit}
+use Rattle.psat.specs.declared.command.Limit.TheVariants.{Bytes, Pivots, Conflicts}
+use Rattle.psat.specs.declared.command.TheConstants.{DEFAULT_BYTES, MOST_BYTES}
+use Rattle.ps_log.proofs.StepShapes.{head, tail}
+use Rattle.psat.specs.Commands.{words_of, limit_word, most_of, LimitSetting, setting_words, AreSettings, IsSetTo, AreWordsOf, Spell, SpellNone}
+use Rattle.psat.specs.Settings.{FindsNumber}
 use Rattle.psat.specs.Replies.{AreLimitsOf}
-use Rattle.psat.proofs.Settings.{limit-is, head-is, tail-is, setting-is, one_number, AreSmall, settings-are, set-small}
+use Rattle.psat.proofs.Settings.{one_number, settings-are, set-small, words_are}
 
 -- ---- `check`
 -- no limit is set
-pub default_spelled : Spell (codes "check" ∷ []) (Check (2 ^ 30))
+pub default_spelled : Spell (codes "check" ∷ []) (Check DEFAULT_BYTES)
 default_spelled = (
   record {
     settings = [];
@@ -34,7 +35,7 @@ set_to n = record { limit = Bytes; number = n }
 alone : (P : LimitSetting → Type 0) (s : LimitSetting) → P s → All P (s ∷ [])
 alone P s p = All-cons P s [] p (All-nil P)
 
-pub set_spelled : (n : ℕ) → n ≤ 2 ^ 40 → Spell (codes "check" ∷ codes "--bytes" ∷ decimal n ∷ []) (Check n)
+pub set_spelled : (n : ℕ) → n ≤ MOST_BYTES → Spell (codes "check" ∷ codes "--bytes" ∷ decimal n ∷ []) (Check n)
 set_spelled n le = (
   record {
     settings = set_to n ∷ [];
@@ -50,8 +51,8 @@ set_spelled n le = (
 
 -- the words behind the command's name, and what they set
 pub data Behind (words : List (List ℕ)) (bytes : ℕ) : Type 0 where
-  Default : (none : words ≡ []) (is : bytes ≡ 2 ^ 30) → Behind words bytes
-  Set : (n : ℕ) (set : words ≡ codes "--bytes" ∷ decimal n ∷ []) (within : n ≤ 2 ^ 40) (is : bytes ≡ n) → Behind words bytes
+  Default : (none : words ≡ []) (is : bytes ≡ DEFAULT_BYTES) → Behind words bytes
+  Set : (n : ℕ) (set : words ≡ codes "--bytes" ∷ decimal n ∷ []) (within : n ≤ MOST_BYTES) (is : bytes ≡ n) → Behind words bytes
 
 only-bytes : (l : Limit) → Contains (Bytes ∷ []) l → l ≡ Bytes
 only-bytes l h = at h.0 h.1 h.2
@@ -78,7 +79,7 @@ behind words bytes (s ∷ t ∷ ss) e are h =
     absurd (are.once 0 1 s (omega arith) (omega arith) (only-bytes s.limit (are.known 0 s (omega arith)) ∙ sym (only-bytes t.limit (are.known 1 s (omega arith)))))
 
 pub behind_check : (words : List (List ℕ)) (bytes : ℕ) → Spell (codes "check" ∷ words) (Check bytes) → Behind words bytes
-behind_check words bytes h = behind words bytes h.0.settings (tail-is _ _ words (setting_words h.0.settings) h.0.words_are) h.0.are h.1
+behind_check words bytes h = behind words bytes h.0.settings (tail _ _ words (setting_words h.0.settings) h.0.words_are) h.0.are h.1
 
 -- ---- the command's name
 abbrev pub name_of : Command → List ℕ
@@ -86,8 +87,8 @@ name_of (Check n) = codes "check"
 name_of (Solve limits) = codes "solve"
 
 pub name-is : (name : List ℕ) (words : List (List ℕ)) (c : Command) → Spell (name ∷ words) c → name ≡ name_of c
-name-is name words (Check n) h = head-is _ _ _ _ h.0.words_are
-name-is name words (Solve limits) h = head-is _ _ _ _ h.0.words_are
+name-is name words (Check n) h = head _ _ _ _ h.0.words_are
+name-is name words (Solve limits) h = head _ _ _ _ h.0.words_are
 
 pub no_words : (c : Command) → ¬ Spell [] c
 no_words (Check n) h = let e = h.0.words_are in absurd (cc)
@@ -113,7 +114,7 @@ one_limits : (l m : Limits) → l.pivots ≡ m.pivots → l.conflicts ≡ m.conf
 one_limits l m p q = ap (λ (x : ℕ). record { pivots = x; conflicts = l.conflicts }) p ∙ ap (λ (x : ℕ). record { pivots = m.pivots; conflicts = x }) q
 
 same_settings : (name : List ℕ) (limits : List Limit) (words : List (List ℕ)) (a b : AreWordsOf name limits words) → b.settings ≡ a.settings
-same_settings name limits words a b = settings-are b.settings a.settings b.are.within a.are.within (tail-is _ _ _ _ (sym b.words_are ∙ a.words_are))
+same_settings name limits words a b = settings-are b.settings a.settings b.are.within a.are.within (tail _ _ _ _ (sym b.words_are ∙ a.words_are))
 
 pub one_command : (words : List (List ℕ)) (c d : Command) → Spell words c → Spell words d → c ≡ d
 one_command words (Check m) (Check n) a b =
@@ -124,8 +125,8 @@ one_command words (Solve l) (Solve m) a b =
     ap Solve (one_limits l m
     (one_number a.0.settings a.0.are.once Pivots l.pivots m.pivots a.1 (subst (λ (ss : List LimitSetting). IsSetTo ss Pivots m.pivots) same b.1))
     (one_number a.0.settings a.0.are.once Conflicts l.conflicts m.conflicts a.2 (subst (λ (ss : List LimitSetting). IsSetTo ss Conflicts m.conflicts) same b.2)))
-one_command words (Check m) (Solve l) a b = absurd (other_names (head-is _ _ _ _ (sym a.0.words_are ∙ b.0.words_are)))
-one_command words (Solve l) (Check m) a b = absurd (other_names (head-is _ _ _ _ (sym b.0.words_are ∙ a.0.words_are)))
+one_command words (Check m) (Solve l) a b = absurd (other_names (head _ _ _ _ (sym a.0.words_are ∙ b.0.words_are)))
+one_command words (Solve l) (Check m) a b = absurd (other_names (head _ _ _ _ (sym b.0.words_are ∙ a.0.words_are)))
 
 -- the limits that words spell are within theirs
 pub spelled_limits : (words : List (List ℕ)) (c : Command) → Spell words c → AreLimitsOf c
@@ -162,23 +163,15 @@ check_unspelled words not = record { none = by }
     by (Solve l) h = absurd (other_names (name-is (codes "check") words (Solve l) h))
 
 -- what two words behind the command's name set
-pub two_spelled : (r : Option ℕ) (words : List (List ℕ)) (word : List ℕ) → words ≡ codes "--bytes" ∷ word ∷ [] → IfSome r (λ n. word ≡ decimal n) → IfSome r (λ n. n ≤ 2 ^ 40)
-    → IfNone r ((n : ℕ) → n ≤ 2 ^ 40 → ¬ (word ≡ decimal n)) → MatchOption r (SpellNone (codes "check" ∷ words)) (λ n. Spell (codes "check" ∷ words) (Check n))
-two_spelled (Some n) words word e spelled within none =
-    subst (λ (ws : List (List ℕ)). Spell (codes "check" ∷ ws) (Check n)) (sym (e ∙ ap (λ (x : List ℕ). codes "--bytes" ∷ x ∷ []) spelled)) (set_spelled n within)
-two_spelled None words word e spelled within none = check_unspelled words not
+pub two_spelled : (word digits : List ℕ) (r : Option ℕ) → FindsNumber word digits Bytes r
+    → MatchOption r (SpellNone (codes "check" ∷ word ∷ digits ∷ [])) (λ n. Spell (codes "check" ∷ word ∷ digits ∷ []) (Check n))
+two_spelled word digits (Some n) h =
+    subst (λ (ws : List (List ℕ)). Spell (codes "check" ∷ ws) (Check n)) (sym (words_are word digits Bytes n h)) (set_spelled n h.within)
+two_spelled word digits None h = check_unspelled (word ∷ digits ∷ []) not
   where
-    not : (n : ℕ) → Behind words n → ⊥
-    not n (Default f p) = absurd (cc)
-    not n (Set k f le p) = let same : word ≡ decimal k = cc in none k le same
-
--- two words of another limit set nothing
-pub other_unspelled : (word number : List ℕ) → ¬ (word ≡ codes "--bytes") → SpellNone (codes "check" ∷ word ∷ number ∷ [])
-other_unspelled word number other = check_unspelled (word ∷ number ∷ []) not
-  where
-    not : (n : ℕ) → Behind (word ∷ number ∷ []) n → ⊥
-    not n (Default f p) = omega (arith, ap length f)
-    not n (Set k f le p) = other (head-is _ _ _ _ f)
+    not : (n : ℕ) → Behind (word ∷ digits ∷ []) n → ⊥
+    not n (Default e p) = omega (arith, ap length e)
+    not n (Set k e le p) = h.none k (record { word_is = head _ _ _ _ e; number_is = head _ _ _ _ (tail _ _ _ _ e); within = le })
 
 -- more than two words set nothing
 pub long_unspelled : (words : List (List ℕ)) → 3 ≤ length words → SpellNone (codes "check" ∷ words)

@@ -1,11 +1,15 @@
 -- Settings of limits, and the words that spell them.
-use Rattle.std.proofs.Common.{◌≡◌, ◌≢◌, ◌⊎◌, inl, inr, ℕ, suc, ◌^◌, ◌<◌, ◌≤◌, List, [], ◌∷◌, length, All, get_or, refl, sym, ap, subst, ◌∙◌, arith}
-use Rattle.std.specs.Prelude.{AllPairs}
+use Rattle.std.proofs.Common.{◌≡◌, ◌≢◌, ◌⊎◌, inl, inr, ℕ, ◌^◌, ◌<◌, ◌≤◌, List, [], ◌∷◌, length, All, get_or, refl, sym, ap, subst, ◌∙◌, arith}
+use Rattle.std.specs.Prelude.{AllPairs, Option, Some, None, IfSome, IfNone}
 use Rattle.std.specs.Fmt.{decimal}
 use Rattle.std.proofs.lemmas.Fmt.{decimal_injective}
 use Rattle.std.proofs.lemmas.Bool.{cases_order}
 use Rattle.std.proofs.lemmas.List.{get_or_default}
-use Rattle.psat.specs.Commands.{Limit, Bytes, Pivots, Conflicts, limit_word, most_of, default_of, LimitSetting, setting_words, IsSetTo}
+use Rattle.ps_log.proofs.StepShapes.{first_in, rest_in, head, tail}
+use Rattle.psat.specs.declared.command.Limit.{Limit}
+use Rattle.psat.specs.declared.command.Limit.TheVariants.{Bytes, Pivots, Conflicts}
+use Rattle.psat.specs.Commands.{limit_word, most_of, default_of, LimitSetting, setting_words, IsSetTo}
+use Rattle.psat.specs.Settings.{SetsLimit, IsUnset, FindsNumber}
 
 -- the word of a limit is its own
 third : List ℕ → ℕ
@@ -27,12 +31,6 @@ most-small : (l : Limit) → most_of l < 2 ^ 64
 most-small Bytes = omega arith
 most-small Pivots = omega arith
 most-small Conflicts = omega arith
-
-pub head-is : {X : Type 0} (x y : X) (xs ys : List X) → x ∷ xs ≡ y ∷ ys → x ≡ y
-head-is x y xs ys e = cc
-
-pub tail-is : {X : Type 0} (x y : X) (xs ys : List X) → x ∷ xs ≡ y ∷ ys → xs ≡ ys
-tail-is x y xs ys e = cc
 
 -- one setting is spelled by two words
 pub setting-is : (s t : LimitSetting) → s.number ≤ most_of s.limit → t.number ≤ most_of t.limit → limit_word s.limit ≡ limit_word t.limit → decimal s.number ≡ decimal t.number → s ≡ t
@@ -67,24 +65,21 @@ one_number ss once l m n (inr a) (inl b) = absurd (a.0 b.0 (record { limit = l; 
 one_number ss once l m n (inr a) (inr b) = a.1 ∙ sym b.1
 
 -- settings within their limits are spelled by their words alone
+abbrev pub IsSmall : LimitSetting → Type 0
+IsSmall s = s.number ≤ most_of s.limit
+
 abbrev pub AreSmall : List LimitSetting → Type 0
-AreSmall ss = All (λ s. s.number ≤ most_of s.limit) ss
-
-first-small : (s : LimitSetting) (ss : List LimitSetting) → AreSmall (s ∷ ss) → s.number ≤ most_of s.limit
-first-small s ss a = a 0 s (omega arith)
-
-rest-small : (s : LimitSetting) (ss : List LimitSetting) → AreSmall (s ∷ ss) → AreSmall ss
-rest-small s ss a = λ k d lt. a (suc k) d (omega (arith, lt))
+AreSmall ss = All IsSmall ss
 
 pub settings-are : (ss ts : List LimitSetting) → AreSmall ss → AreSmall ts → setting_words ss ≡ setting_words ts → ss ≡ ts
 settings-are [] [] a b e = refl
 settings-are [] (t ∷ ts) a b e = absurd (omega (arith, ap length e))
 settings-are (s ∷ ss) [] a b e = absurd (omega (arith, ap length e))
 settings-are (s ∷ ss) (t ∷ ts) a b e =
-    let word = head-is _ _ _ _ e in
-    let behind = tail-is _ _ _ _ e in
-    let first = setting-is s t (first-small s ss a) (first-small t ts b) word (head-is _ _ _ _ behind) in
-    let rest = settings-are ss ts (rest-small s ss a) (rest-small t ts b) (tail-is _ _ _ _ behind) in
+    let word = head _ _ _ _ e in
+    let behind = tail _ _ _ _ e in
+    let first = setting-is s t (first_in IsSmall s ss a) (first_in IsSmall t ts b) word (head _ _ _ _ behind) in
+    let rest = settings-are ss ts (rest_in IsSmall s ss a) (rest_in IsSmall t ts b) (tail _ _ _ _ behind) in
     ap (λ x. x ∷ ss) first ∙ ap (λ xs. t ∷ xs) rest
 
 -- a number that words set a limit to, or its default, is at most the limit's most
@@ -96,3 +91,15 @@ default-small Conflicts = omega arith
 pub set-small : (ss : List LimitSetting) → AreSmall ss → (l : Limit) (n : ℕ) → IsSetTo ss l n → n ≤ most_of l
 set-small ss small l n (inl h) = subst (λ (s : LimitSetting). s.number ≤ most_of s.limit) h.2 (small h.0 (record { limit = l; number = n }) h.1)
 set-small ss small l n (inr h) = subst (λ (k : ℕ). k ≤ most_of l) (sym h.1) (default-small l)
+
+-- ---- what two words set
+pub number_found : (word digits : List ℕ) (l : Limit) (most : ℕ) (r : Option ℕ) → word ≡ limit_word l → most ≡ most_of l → IfSome r (λ n. digits ≡ decimal n) → IfSome r (λ n. n ≤ most)
+    → IfNone r ((n : ℕ) → n ≤ most → ¬ (digits ≡ decimal n)) → FindsNumber word digits l r
+number_found word digits l most (Some n) w m spelled within none = record { word_is = w; number_is = spelled; within = subst (λ (k : ℕ). n ≤ k) m within }
+number_found word digits l most None w m spelled within none = record { none = λ n h. none n (subst (λ (k : ℕ). n ≤ k) (sym m) h.within) h.number_is }
+
+pub other_word : (word digits : List ℕ) (l : Limit) → ¬ (word ≡ limit_word l) → IsUnset word digits l
+other_word word digits l other = record { none = λ n h. other h.word_is }
+
+pub words_are : (word digits : List ℕ) (l : Limit) (n : ℕ) → SetsLimit word digits l n → word ∷ digits ∷ [] ≡ limit_word l ∷ decimal n ∷ []
+words_are word digits l n h = ap (λ (x : List ℕ). x ∷ digits ∷ []) h.word_is ∙ ap (λ (x : List ℕ). limit_word l ∷ x ∷ []) h.number_is

@@ -1,19 +1,16 @@
 -- The words of commands, and how much a command reads.
-use Rattle.std.specs.Prelude.{◌≡◌, ◌≢◌, ◌≤◌, ◌⊎◌, ◌^◌, ℕ, List, [], ◌∷◌, Option, Some, None, map, All, AllPairs, Contains, codes, decimal, String, string_bytes}
+use Rattle.std.specs.Prelude.{◌≡◌, ◌≢◌, ◌≤◌, ◌⊎◌, ℕ, List, [], ◌∷◌, Option, Some, None, map, All, AllPairs, Contains, codes, decimal, String, string_bytes}
 use Rattle.std.specs.declared.alloc.Global.{Global}
-use Rattle.ps_generation.specs.declared.limits.Limits.{Limits}
 use Rattle.ps_answer.specs.declared.limits.TheConstants.{MOST_PIVOTS, MOST_CONFLICTS}
 use Rattle.psat.specs.declared.command.Command.{Command}
 use Rattle.psat.specs.declared.command.Command.TheVariants.{Check, Solve}
+use Rattle.psat.specs.declared.command.Limit.{Limit}
+use Rattle.psat.specs.declared.command.Limit.TheVariants.{Bytes, Pivots, Conflicts}
 use Rattle.psat.specs.declared.command.TheConstants.{DEFAULT_BYTES, MOST_BYTES, MOST_PROBLEM, DEFAULT_PIVOTS, DEFAULT_CONFLICTS}
 
 -- the bytes of words
 abbrev pub words_of : List (String Global) → List (List ℕ)
 words_of words = map string_bytes words
-
--- a limit that words may set
-pub data Limit : Type 0 where
-  Bytes Pivots Conflicts : Limit
 
 -- the word with which a limit is set
 abbrev pub limit_word : Limit → List ℕ

@@ -1,9 +1,8 @@
 //! Commands and their words.
 ghost use Rattle.std.specs.Prelude.{◌≡◌, ◌≤◌, ◌<◌, ◌^◌, ◌↔◌, ℕ, IfNone, IfSome, IsTrue, MatchOption};
-ghost use Rattle.std.specs.Prelude.{decimal, string_bytes};
-ghost use Rattle.psat.specs.Commands.{Spell, SpellNone, words_of};
-ghost use Rattle.psat.specs.Settings.{FindsSetting, SetBytes, SetLimits};
-ghost use Rattle.psat.specs.Settings.{limits_by, limits_by_both};
+ghost use Rattle.std.specs.Prelude.{[], ◌∷◌, decimal, string_bytes};
+ghost use Rattle.psat.specs.Commands.{Spell, SpellNone, limit_word, most_of, words_of};
+ghost use Rattle.psat.specs.Settings.{FindsNumber, SetBytes, SetLimits};
 
 use itoa::Buffer;
 use ps_answer::{MOST_CONFLICTS, MOST_PIVOTS};
@@ -33,11 +32,39 @@ pub enum Command {
     Check { bytes: u64 },
 }
 
-// A limit of `solve` that words set.
+/// A limit that words may set.
 #[derive(Clone, Copy)]
-enum SolveSetting {
-    Pivots(u64),
-    Conflicts(u64),
+pub enum Limit {
+    /// How many bytes `check` reads at most.
+    Bytes,
+    /// How many pivots a run makes at most.
+    Pivots,
+    /// How many clauses a search learns at most.
+    Conflicts,
+}
+
+impl Limit {
+    // The word with which it is set.
+    fn word(self) -> &'static str
+        ensures { result.now ≡ limit_word self }
+    {
+        match self {
+            Limit::Bytes => "--bytes",
+            Limit::Pivots => "--pivots",
+            Limit::Conflicts => "--conflicts",
+        }
+    }
+
+    // The most to which words set it.
+    fn most(self) -> u64
+        ensures { result ≡ most_of self }
+    {
+        match self {
+            Limit::Bytes => MOST_BYTES,
+            Limit::Pivots => MOST_PIVOTS,
+            Limit::Conflicts => MOST_CONFLICTS,
+        }
+    }
 }
 
 // Whether a word is this text.
@@ -74,59 +101,56 @@ fn number(word: &String, most: u64) -> Option<u64>
     if is_spelling(word, n) { Some(n) } else { None }
 }
 
+// The number to which two words set a limit, or None where they don't set it.
+fn parse_setting(limit: Limit, word: &String, digits: &String) -> Option<u64>
+    ensures { FindsNumber (string_bytes word.now) (string_bytes digits.now) limit result }
+{
+    if is(word, limit.word()) {
+        number(digits, limit.most())
+    } else {
+        None
+    }
+}
+
 // The bytes that the words behind `check` set, or None where they aren't its settings.
 fn parse_check(settings: &[String]) -> Option<u64>
     ensures { SetBytes (words_of settings.now) result }
 {
     match settings {
         [] => Some(DEFAULT_BYTES),
-        [limit, bytes] if is(limit, "--bytes") => number(bytes, MOST_BYTES),
+        [word, digits] => parse_setting(Limit::Bytes, word, digits),
         _ => None,
     }
 }
 
-// The limit of `solve` that two words set, or None where they set none.
-fn parse_setting(word: &String, digits: &String) -> Option<SolveSetting>
-    ensures { FindsSetting (string_bytes word.now) (string_bytes digits.now) result }
+// The limits of `solve` where two words set one of them, or None where they set neither.
+fn limits_by(word: &String, digits: &String) -> Option<Limits>
+    ensures { SetLimits (words_of (word.now ∷ digits.now ∷ [])) result }
 {
-    if is(word, "--pivots") {
-        let pivots = number(digits, MOST_PIVOTS)?;
-        return Some(SolveSetting::Pivots(pivots));
-    }
-    if is(word, "--conflicts") {
-        let conflicts = number(digits, MOST_CONFLICTS)?;
-        return Some(SolveSetting::Conflicts(conflicts));
-    }
-    None
-}
-
-// The limits where one setting alone is named.
-fn limits_by(setting: SolveSetting) -> Limits
-    ensures { result ≡ limits_by setting }
-{
-    match setting {
-        SolveSetting::Pivots(pivots) => Limits {
+    if let Some(pivots) = parse_setting(Limit::Pivots, word, digits) {
+        return Some(Limits {
             pivots,
             conflicts: DEFAULT_CONFLICTS,
-        },
-        SolveSetting::Conflicts(conflicts) => Limits {
-            pivots: DEFAULT_PIVOTS,
-            conflicts,
-        },
+        });
     }
+    let conflicts = parse_setting(Limit::Conflicts, word, digits)?;
+    Some(Limits {
+        pivots: DEFAULT_PIVOTS,
+        conflicts,
+    })
 }
 
-// The limits where two settings are named, or None where they set one limit twice.
-fn limits_by_both(a: SolveSetting, b: SolveSetting) -> Option<Limits>
-    ensures { result ≡ limits_by_both a b }
+// The limits of `solve` where four words set both, or None where they don't.
+fn limits_by_both(first: &String, m: &String, second: &String, n: &String) -> Option<Limits>
+    ensures { SetLimits (words_of (first.now ∷ m.now ∷ second.now ∷ n.now ∷ [])) result }
 {
-    match (a, b) {
-        (SolveSetting::Pivots(pivots), SolveSetting::Conflicts(conflicts))
-        | (SolveSetting::Conflicts(conflicts), SolveSetting::Pivots(pivots)) => {
-            Some(Limits { pivots, conflicts })
-        }
-        _ => None,
+    if let Some(pivots) = parse_setting(Limit::Pivots, first, m) {
+        let conflicts = parse_setting(Limit::Conflicts, second, n)?;
+        return Some(Limits { pivots, conflicts });
     }
+    let conflicts = parse_setting(Limit::Conflicts, first, m)?;
+    let pivots = parse_setting(Limit::Pivots, second, n)?;
+    Some(Limits { pivots, conflicts })
 }
 
 // The limits that the words behind `solve` set, or None where they aren't its settings.
@@ -138,12 +162,8 @@ fn parse_solve(settings: &[String]) -> Option<Limits>
             pivots: DEFAULT_PIVOTS,
             conflicts: DEFAULT_CONFLICTS,
         }),
-        [word, digits] => Some(limits_by(parse_setting(word, digits)?)),
-        [first, m, second, n] => {
-            let first = parse_setting(first, m)?;
-            let second = parse_setting(second, n)?;
-            limits_by_both(first, second)
-        }
+        [word, digits] => limits_by(word, digits),
+        [first, m, second, n] => limits_by_both(first, m, second, n),
         _ => None,
     }
 }
