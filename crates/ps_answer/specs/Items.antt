@@ -11,11 +11,12 @@ use Rattle.ps_table.specs.declared.place.Place.{Place}
 use Rattle.ps_table.specs.declared.place.Place.TheVariants as place
 use Rattle.ps_table.specs.declared.place.TableCol.{TableCol}
 use Rattle.ps_table.specs.declared.place.TableCol.TheVariants as shown
-use Rattle.ps_table.specs.Places.{printed_limit}
+use Rattle.ps_rational.specs.declared.limits.TheConstants.{PRINTED_LIMIT}
 use Rattle.ps_log.specs.Texts.{step_numbers, goal_numbers}
 use Rattle.ps_log.specs.Limits.{IsStepWithin, IsGoalWithin}
 use Rattle.ps_log.specs.Spellings.{words_of}
-use Rattle.ps_answer.specs.declared.limits.TheConstants.{MOST_PIVOTS, MOST_CONFLICTS, MOST_OPERAND, MOST_ROW, MOST_WORLD, MOST_ENTRIES, MOST_MULTIPLIERS, MOST_DUAL_STEPS, MOST_EVENTS, MOST_QUERIES}
+use Rattle.ps_answer.specs.declared.limits.TheConstants.{MOST_PIVOTS, MOST_OPERAND, MOST_ROW, MOST_WORLD, MOST_ENTRIES, MOST_MULTIPLIERS, MOST_DUAL_STEPS, MOST_EVENTS, MOST_QUERIES}
+use Rattle.ps_log.specs.declared.limits.TheConstants.{MOST_CONFLICTS}
 use Rattle.ps_answer.specs.declared.item.Ratio.{Ratio}
 use Rattle.ps_answer.specs.declared.item.LineItem.{LineItem}
 use Rattle.ps_answer.specs.declared.item.LineItem.TheVariants.{Report, Consistent, Inconsistent, OpenPivots, OpenConflicts, OpenWide, ModelHead, Entry, DualHead, Rows, StepLine, GoalLine, TraceHead, PivotLine, PricedLine, Query, Bounds, Impossible, Bound, OpenSide, End}
@@ -104,7 +105,7 @@ IsProper (Entry weight world) = pos 0 ≤ℤ weight
 IsProper (DualHead top head n) = pos 0 ≤ℤ top
 IsProper (StepLine s) = IsTold (StepLine s)
 IsProper (GoalLine g) = IsTold (GoalLine g)
-IsProper (Bound upper value) = (pos 0 ≤ℤ value.over) × IsReducedWithin printed_limit value
+IsProper (Bound upper value) = (pos 0 ≤ℤ value.over) × IsReducedWithin PRINTED_LIMIT value
 IsProper i = ⊤
 
 -- a line spells this, with numbers of any size and any sign
@@ -119,7 +120,7 @@ pub record IsLine (line : List ℕ) (i : LineItem) : Type 0 where
 
 -- small enough to be printed
 abbrev pub IsPrintable : ℤ → Type 0
-IsPrintable z = unsigned_abs z ≤ printed_limit
+IsPrintable z = unsigned_abs z ≤ PRINTED_LIMIT
 
 -- homes are numbered up to the greatest row, worlds from 1 up to the greatest
 abbrev pub IsColWithin : Col → Type 0
@@ -165,5 +166,5 @@ IsWithin (TraceHead n) = n ≤ MOST_EVENTS
 IsWithin (PivotLine enter leave) = IsColWithin enter × (leave ≤ MOST_ROW)
 IsWithin (PricedLine world) = length world ≤ MOST_ATOMS
 IsWithin (Query number) = number ≤ MOST_QUERIES
-IsWithin (Bound upper value) = IsRatioWithin printed_limit value
+IsWithin (Bound upper value) = IsRatioWithin PRINTED_LIMIT value
 IsWithin i = ⊤

@@ -19,7 +19,8 @@ pub use laws::{
     due_lines_are_answers, faults_are_single, texts_determine_answers, written_lines_are_lines,
 };
 pub use limits::{
-    MOST_CONFLICTS, MOST_DUAL_STEPS, MOST_ENTRIES, MOST_EVENTS, MOST_MULTIPLIERS, MOST_OPERAND,
-    MOST_PIVOTS, MOST_QUERIES, MOST_ROW, MOST_WORLD, limits_have_these_numbers,
+    MOST_DUAL_STEPS, MOST_ENTRIES, MOST_EVENTS, MOST_MULTIPLIERS, MOST_OPERAND, MOST_PIVOTS,
+    MOST_QUERIES, MOST_ROW, MOST_WORLD, limits_have_these_numbers,
 };
 pub use part::Part;
+pub use ps_log::MOST_CONFLICTS;

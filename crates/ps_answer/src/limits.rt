@@ -1,6 +1,6 @@
 //! The limits of a report.
 ghost use Rattle.std.specs.Prelude.{◌≡◌, ◌-◌, ◌^◌};
-ghost use Rattle.ps_answer.specs.declared.limits.TheConstants.{MOST_PIVOTS, MOST_CONFLICTS};
+ghost use Rattle.ps_answer.specs.declared.limits.TheConstants.{MOST_PIVOTS};
 ghost use Rattle.ps_answer.specs.declared.limits.TheConstants.{MOST_OPERAND, MOST_ROW, MOST_WORLD};
 ghost use Rattle.ps_answer.specs.declared.limits.TheConstants.{MOST_ENTRIES, MOST_MULTIPLIERS};
 ghost use Rattle.ps_answer.specs.declared.limits.TheConstants.{MOST_DUAL_STEPS, MOST_EVENTS};
@@ -12,9 +12,6 @@ use ps_table::MOST_ROWS;
 
 /// The most pivots that a run may be allowed.
 pub const MOST_PIVOTS: u64 = 1_000_000;
-
-/// The most clauses that a search may be allowed to learn.
-pub const MOST_CONFLICTS: u64 = 1 << 40;
 
 /// The greatest numerator and denominator of an operand.
 pub const MOST_OPERAND: u128 = SIZE_LIMIT - 1;
@@ -43,7 +40,6 @@ pub const MOST_QUERIES: u64 = 16;
 /// The limits by their numbers.
 pub fn limits_have_these_numbers()
     ensures pivots { MOST_PIVOTS ≡ 1000000 }
-    ensures conflicts { MOST_CONFLICTS ≡ 2 ^ 40 }
     ensures operand { MOST_OPERAND ≡ 2 ^ 127 - 1 }
     ensures row { MOST_ROW ≡ 100 }
     ensures world { MOST_WORLD ≡ 1000001 }

@@ -12,7 +12,7 @@ use Rattle.ps_claims.specs.declared.claim_kind.ClaimKind.{ClaimKind}
 use Rattle.ps_claims.specs.declared.claim_kind.ClaimKind.TheVariants.{Nothing}
 use Rattle.ps_claims.specs.declared.combination.Combination.{Combination}
 use Rattle.ps_claims.specs.Goals.{combination_of}
-use Rattle.ps_claims.specs.Limits.{most_dual_number}
+use Rattle.ps_rational.specs.declared.limits.TheConstants.{PRINTED_LIMIT}
 
 -- the entry that a weighted world stands for
 abbrev pub entry_of : Weighted → Entry
@@ -32,7 +32,7 @@ dual_of d = record { top = d.top; head = d.head; rows = d.rows; steps = d.steps 
 
 -- small enough for a number of a dual
 abbrev pub IsMultiplier : ℤ → Type 0
-IsMultiplier y = unsigned_abs y ≤ most_dual_number
+IsMultiplier y = unsigned_abs y ≤ PRINTED_LIMIT
 
 -- each number of the dual is small enough
 pub record IsSmallDual (d : Dual) : Type 0 where

@@ -3,7 +3,8 @@ ghost use Rattle.std.specs.Prelude.{◌≡◌, ◌≤◌, ◌<◌, ◌+◌, ◌*
 ghost use Rattle.std.specs.Prelude.{IfOk, OnOk, IfSome, unsigned_abs};
 ghost use Rattle.ps_problem.specs.declared.limits.TheConstants.{MOST_BOUNDS, MOST_DENOMINATOR};
 ghost use Rattle.ps_problem.specs.Problems.{bounds_in};
-ghost use Rattle.ps_claims.specs.Limits.{most_combination, most_dual_number};
+ghost use Rattle.ps_claims.specs.Limits.{most_combination};
+ghost use Rattle.ps_rational.specs.declared.limits.TheConstants.{PRINTED_LIMIT};
 ghost use Rattle.ps_claims.specs.Goals.{plus, at_node, at_condition, row_times, rows_times};
 ghost use Rattle.ps_claims.specs.Goals.{claimed_of, size_of};
 ghost use Rattle.ps_certificate.specs.Certificates.{dual_of, combination_by, combination_on};
@@ -92,7 +93,7 @@ fn times(multiplier: &i128, number: u32) -> i128
     requires small { IsMultiplier multiplier.now }
     requires number { number ≤ MOST_DENOMINATOR }
     ensures value { result ≡ multiplier.now *ℤ pos number }
-    ensures size { unsigned_abs result ≤ most_dual_number * MOST_DENOMINATOR }
+    ensures size { unsigned_abs result ≤ PRINTED_LIMIT * MOST_DENOMINATOR }
 {
     *multiplier * i128::from(number)
 }

@@ -3,6 +3,7 @@ use Rattle.std.specs.Prelude.{◌≡◌, ◌≤◌, ◌<◌, ◌*ℤ◌, ◌⊎�
 use Rattle.ps_meaning.specs.Formula.{World}
 use Rattle.ps_meaning.specs.declared.side.Side.TheVariants.{AtLeast, AtMost}
 use Rattle.ps_meaning.specs.Bounds.{Bound}
+use Rattle.ps_rational.specs.declared.limits.TheConstants.{PRINTED_LIMIT}
 use Rattle.ps_rational.specs.Rational.{Rational, fraction}
 use Rattle.ps_problem.specs.Problems.{Parts, AreParts, bounds_of, bounds_in, HasNodes}
 use Rattle.ps_problem.specs.declared.query.Query as stored
@@ -14,7 +15,7 @@ use Rattle.ps_claims.specs.declared.claim.Claim.{Claim}
 use Rattle.ps_claims.specs.declared.reason.Reason.{Reason}
 use Rattle.ps_claims.specs.Duals.{Dual, ClaimKind, Nothing, Lower, Upper, HaveSigns, kept_of, AreZeroElsewhere, combination, IsNeverAbove, HasNothingHead, HasValueHead}
 use Rattle.ps_claims.specs.Goals.{Combination, value_under, size_of, combination_of, goal_of}
-use Rattle.ps_claims.specs.Limits.{most_dual_number, most_combination}
+use Rattle.ps_claims.specs.Limits.{most_combination}
 use Rattle.ps_claims.specs.Faults.{IsFaultless, IsFirstFault}
 use Rattle.ps_claims.specs.Claims.{claims_of, HasParts, AreValid, HaveWeightsNotBelow0, IsRefused}
 use Rattle.ps_claims.specs.Validity.{query_of, IsRefuted, IsValid, IsRightFor}
@@ -44,10 +45,10 @@ abbrev pub CombinationsAreSums : Type 0
 CombinationsAreSums = (p : Parts) (kind : ClaimKind) (q : stored.Query) (d : Dual) (w : World) → AreParts p → HasNodes p.nodes q.formula q.given q.both
     → value_under (extension p.nodes w) (combination_of kind q.given q.both (bounds_in p.sentences) d) ≡ combination kind (bounds_of p) (query_of p.nodes q) d w
 
--- by a dual of numbers of at most this size, the sizes in a combination sum to at most that
+-- by a dual of numbers that can be printed, the sizes in a combination sum to at most that
 abbrev pub CombinationsAreSmall : Type 0
-CombinationsAreSmall = (p : Parts) (kind : ClaimKind) (given : Option ℕ) (both : ℕ) (d : Dual) → AreParts p → All (λ y. unsigned_abs y ≤ most_dual_number) d.rows
-    → unsigned_abs d.head ≤ most_dual_number → unsigned_abs d.top ≤ most_dual_number
+CombinationsAreSmall = (p : Parts) (kind : ClaimKind) (given : Option ℕ) (both : ℕ) (d : Dual) → AreParts p → All (λ y. unsigned_abs y ≤ PRINTED_LIMIT) d.rows
+    → unsigned_abs d.head ≤ PRINTED_LIMIT → unsigned_abs d.top ≤ PRINTED_LIMIT
     → size_of (combination_of kind given both (bounds_in p.sentences) d) ≤ most_combination
 
 -- the goal of a combination is met exactly where the combination's value is at least 1

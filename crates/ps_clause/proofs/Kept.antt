@@ -7,7 +7,7 @@ use Rattle.ps_formula.specs.Nodes.{AreNodes}
 use Rattle.ps_steps.specs.Assignments.{place, AreDifferent}
 use Rattle.ps_steps.specs.Constraints.{Constraint}
 use Rattle.ps_steps.specs.Weights.{clause_of}
-use Rattle.ps_pb.specs.Limits.{most_variables}
+use Rattle.ps_pb.specs.declared.limits.TheConstants.{MOST_VARIABLES}
 use Rattle.ps_forms.specs.Clauses.{clause_form}
 use Rattle.ps_forms.specs.Forms.{form_over, is_other}
 use Rattle.ps_forms.proofs.Deciding.{nodes_decided, more_decided}
@@ -16,7 +16,7 @@ use Rattle.ps_clause.specs.Limits.{most_clauses}
 use Rattle.ps_clause.specs.Kept.{IsKept}
 use Rattle.ps_clause.proofs.Nodes.{form_length}
 
-pub kept-nodes : (ns : List Node) (variables : ℕ) (others : List Bool) (clauses : List Constraint) → AreNodes ns → length ns ≤ most_variables
+pub kept-nodes : (ns : List Node) (variables : ℕ) (others : List Bool) (clauses : List Constraint) → AreNodes ns → length ns ≤ MOST_VARIABLES
     → variables ≡ length ns → others ≡ map is_other ns → clauses ≡ map clause_of (clause_form ns) → IsKept (form_over variables others clauses)
 kept-nodes ns variables others clauses are h v o c =
     rw (v, o, c) (record { most = h; few = omega (arith, h, form_length ns); decided = nodes_decided ns are; clauses = nodes-clauses ns are })

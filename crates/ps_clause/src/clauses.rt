@@ -4,7 +4,7 @@ ghost use Rattle.std.specs.List.{list_any};
 ghost use Rattle.std.specs.Ordering.{int_eq};
 ghost use Rattle.ps_formula.specs.Nodes.{Fits as FitsAt, AreNodes};
 ghost use Rattle.ps_steps.specs.Weights.{clause_of};
-ghost use Rattle.ps_pb.specs.Limits.{most_variables};
+ghost use Rattle.ps_pb.specs.declared.limits.TheConstants.{MOST_VARIABLES};
 ghost use Rattle.ps_forms.specs.Clauses.{positive, negative, once, is_tautology, tidy};
 ghost use Rattle.ps_forms.specs.Clauses.{clauses_at, clause_form};
 ghost use Rattle.ps_forms.specs.Forms.{is_other, form_of};
@@ -17,7 +17,7 @@ use std::alloc::Global;
 
 // The literal that a node is true.
 fn positive(node: u32) -> Lit
-    requires { node < most_variables }
+    requires { node < MOST_VARIABLES }
     ensures { result ≡ positive node }
 {
     Lit::of_place(node as usize, true)
@@ -25,7 +25,7 @@ fn positive(node: u32) -> Lit
 
 // The literal that a node is false.
 fn negative(node: u32) -> Lit
-    requires { node < most_variables }
+    requires { node < MOST_VARIABLES }
     ensures { result ≡ negative node }
 {
     Lit::of_place(node as usize, false)
@@ -76,7 +76,7 @@ fn add_node(
     x: u32,
     node: Node,
 ) -> Result<(), NoMemory>
-    requires number { x < most_variables }
+    requires number { x < MOST_VARIABLES }
     requires fits { FitsAt x node }
     ensures { OnOk result (clauses.new ≡ clauses.old ++ map clause_of (clauses_at x node)) }
 {
@@ -115,7 +115,7 @@ fn add_node(
 /// The clauses of all nodes, in the nodes' order.
 pub(crate) fn clauses_of_nodes(alloc: Global, nodes: &[Node]) -> Result<List<Constraint>, NoMemory>
     requires sound { AreNodes nodes.now }
-    requires most { length nodes.now ≤ most_variables }
+    requires most { length nodes.now ≤ MOST_VARIABLES }
     ensures { IfOk result (λ cs. cs ≡ map clause_of (clause_form nodes.now)) }
 {
     let mut clauses = List::new(alloc);

@@ -2,7 +2,7 @@
 ghost use Rattle.std.specs.Prelude.{◌≡◌, ◌≤◌, List, Bool, false, length, All, IfOk, replicate};
 ghost use Rattle.ps_formula.specs.Nodes.{AreNodes, AtomBelow};
 ghost use Rattle.ps_steps.specs.Assignments.{all_unset, full, values_of};
-ghost use Rattle.ps_pb.specs.Limits.{most_variables};
+ghost use Rattle.ps_pb.specs.declared.limits.TheConstants.{MOST_VARIABLES};
 ghost use Rattle.ps_forms.specs.Extensions.{extension, world_of, IsWorldOf, HasSetAtoms};
 
 use ps_formula::{Formulas, Node, World, eval};
@@ -26,7 +26,7 @@ pub fn names_of(alloc: Global, formulas: &Formulas, world: &World) -> Result<Ass
 #[tactic(auto, using(crate::proofs::Assigned::none_set, crate::proofs::Assigned::one_set))]
 fn set_all(assignment: &mut Assignment, truths: &[bool])
     requires unset { assignment.old ≡ all_unset (length truths.now) }
-    requires most { length truths.now ≤ most_variables }
+    requires most { length truths.now ≤ MOST_VARIABLES }
     ensures { assignment.new ≡ full truths.now }
 {
     for place in 0..truths.len() {
@@ -56,7 +56,7 @@ pub fn world_of(
 // Gives each atom the value of its node's variable.
 fn set_atoms(nodes: &[Node], a: &Assignment, values: &mut [bool])
     requires sound { AreNodes nodes.now }
-    requires most { length nodes.now ≤ most_variables }
+    requires most { length nodes.now ≤ MOST_VARIABLES }
     requires atoms { All (AtomBelow (length values.old)) nodes.now }
     requires unset { values.old ≡ replicate (length values.old) false }
     ensures { values.new ≡ world_of (length values.old) nodes.now (values_of a.now) }

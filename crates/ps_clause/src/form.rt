@@ -3,7 +3,7 @@ ghost use Rattle.std.specs.Prelude.{◌≡◌, ◌≤◌, ◌<◌, length, IfOk,
 ghost use Rattle.ps_formula.specs.Nodes.{AreNodes};
 ghost use Rattle.ps_steps.specs.Assignments.{place, AreDifferent};
 ghost use Rattle.ps_steps.specs.Weights.{clause_of};
-ghost use Rattle.ps_pb.specs.Limits.{most_variables};
+ghost use Rattle.ps_pb.specs.declared.limits.TheConstants.{MOST_VARIABLES};
 ghost use Rattle.ps_forms.specs.Forms.{Form, form_of, empty_form, with_clause, clause_at};
 ghost use Rattle.ps_forms.specs.Forms.{is_atom_variable, AreInside, HasClauses};
 ghost use Rattle.ps_forms.specs.Decided.{AtomsDecide};
@@ -41,7 +41,7 @@ impl Model for ClauseForm {
 impl ClauseForm {
     /// The form of so many variables, each an atom's, without clauses.
     pub fn new(alloc: Global, variables: u32) -> ClauseForm
-        requires { variables ≤ most_variables }
+        requires { variables ≤ MOST_VARIABLES }
         ensures { result ≡ empty_form variables }
     {
         ClauseForm {
@@ -56,7 +56,7 @@ impl ClauseForm {
     /// atom's variable has a value the clauses decide all others.
     pub fn variables(&self) -> u32
         ensures value { result ≡ self.now.variables }
-        ensures within { result ≤ most_variables }
+        ensures within { result ≤ MOST_VARIABLES }
         ensures decided { AtomsDecide self.now }
         ensures clauses { HasClauses self.now }
         ensures inside { AreInside self.now }
@@ -130,7 +130,7 @@ impl ClauseForm {
     // The form of all nodes.
     pub(crate) fn of_nodes(alloc: Global, nodes: &[Node]) -> Result<ClauseForm, NoMemory>
         requires sound { AreNodes nodes.now }
-        requires most { length nodes.now ≤ most_variables }
+        requires most { length nodes.now ≤ MOST_VARIABLES }
         ensures { IfOk result (λ form. form ≡ form_of nodes.now) }
     {
         let others = others_of(alloc, nodes)?;

@@ -2,7 +2,7 @@
 //! implication, and the world of its atoms, by hand.
 ghost use Rattle.std.specs.Prelude.{◌≤◌, length, All, OnOk, IfOk};
 ghost use Rattle.ps_formula.specs.Nodes.{Fits, AtomBelow};
-ghost use Rattle.ps_pb.specs.Limits.{most_variables};
+ghost use Rattle.ps_pb.specs.declared.limits.TheConstants.{MOST_VARIABLES};
 
 use crate::{ClauseForm, clauses_of, names_of, world_of};
 use ps_formula::{Formulas, Node};
@@ -60,7 +60,7 @@ fn has_clauses(form: &ClauseForm) -> bool {
 }
 
 fn are_values(names: &Assignment, values: &[bool]) -> bool
-    requires { length values.now ≤ most_variables }
+    requires { length values.now ≤ MOST_VARIABLES }
 {
     for (i, value) in values.iter().enumerate() {
         if names.value(i as u32 + 1) != Some(*value) {

@@ -1,6 +1,6 @@
 //! The dual of a table.
 ghost use Rattle.std.specs.Prelude.{◌≡◌, suc, ◌≤◌, All, IfOk, IfErr, [], length};
-ghost use Rattle.ps_table.specs.declared.limits.TheConstants.{PRINTED_LIMIT};
+ghost use Rattle.ps_rational.specs.declared.limits.TheConstants.{PRINTED_LIMIT};
 ghost use Rattle.ps_table.specs.Tableau.{rows_of};
 ghost use Rattle.ps_table.specs.Pricing.{HasCosts};
 ghost use Rattle.ps_table.specs.Places.{IsNarrow, IsRefusedAt};

@@ -10,7 +10,8 @@ use Rattle.ps_rational.specs.Rational.{Rational}
 use Rattle.ps_rule.specs.Rule.{IsFeasible}
 use Rattle.ps_steps.specs.Steps.{Refutes}
 use Rattle.ps_forms.specs.Forms.{form_of, first_known}
-use Rattle.ps_answer.specs.declared.limits.TheConstants.{MOST_PIVOTS, MOST_CONFLICTS}
+use Rattle.ps_answer.specs.declared.limits.TheConstants.{MOST_PIVOTS}
+use Rattle.ps_log.specs.declared.limits.TheConstants.{MOST_CONFLICTS}
 use Rattle.ps_pool.specs.declared.event.Event.{Event}
 use Rattle.ps_pool.specs.declared.event.Event.TheVariants.{Priced}
 use Rattle.ps_table.specs.declared.costs.Costs.{Costs}

@@ -13,7 +13,8 @@ use crate::words::is;
 use ps_answer::{MOST_QUERIES, MOST_ROW, MOST_WORLD};
 use ps_frac::Op;
 use ps_pool::Col;
-use ps_table::{PRINTED_LIMIT, TableCol};
+use ps_rational::PRINTED_LIMIT;
+use ps_table::TableCol;
 
 /// A count up to a limit.
 pub(crate) fn count(word: &[u8], limit: u64) -> Result<u64, LineFault>

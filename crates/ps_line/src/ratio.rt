@@ -3,7 +3,7 @@ ghost use Rattle.std.specs.Prelude.{◌≡◌, Ok, ◌≤◌, ◌<◌, ◌-◌, 
 ghost use Rattle.std.specs.Int.{IsGcd};
 ghost use Rattle.ps_answer.specs.declared.limits.TheConstants.{MOST_OPERAND};
 ghost use Rattle.ps_log.specs.Numbers.{Lacks, IsCut};
-ghost use Rattle.ps_table.specs.Places.{printed_limit};
+ghost use Rattle.ps_rational.specs.declared.limits.TheConstants.{PRINTED_LIMIT};
 ghost use Rattle.ps_line.specs.Ratios.{IsRatioUpTo, IsValueUpTo, IsOver, IsUnder};
 ghost use Rattle.ps_line.specs.Ratios.{IsLowest, IsLowestOf, AreParts};
 ghost use Rattle.ps_rational.specs.Rational.{fraction};
@@ -13,11 +13,11 @@ use crate::line_fault::LineFault;
 use crate::numeral::{count_up_to, number_up_to};
 use ps_answer::{MOST_OPERAND, Ratio};
 use ps_frac::Fraction;
-use ps_table::PRINTED_LIMIT;
+use ps_rational::PRINTED_LIMIT;
 
 /// The value of a side: no less than 0, with numbers up to 2^90.
 pub(crate) fn value(word: &[u8]) -> Result<Ratio, LineFault>
-    ensures { IsValueUpTo printed_limit word.now result }
+    ensures { IsValueUpTo PRINTED_LIMIT word.now result }
 {
     match split_slash(word) {
         Some((over, under)) => lowest(amount_of(over), positive(PRINTED_LIMIT, under)),
@@ -51,7 +51,7 @@ fn split_slash(bytes: &[u8]) -> Option<(&[u8], &[u8])>
 }
 
 fn amount_of(word: &[u8]) -> Result<i128, LineFault>
-    ensures { IsOver (λ z. pos 0 ≤ℤ z) printed_limit word.now result }
+    ensures { IsOver (λ z. pos 0 ≤ℤ z) PRINTED_LIMIT word.now result }
 {
     match count_up_to(PRINTED_LIMIT, word) {
         Ok(n) => Ok(n as i128),

@@ -4,19 +4,22 @@ use Rattle.std.specs.Str.Parse.{digits_value}
 use Rattle.ps_log.specs.Spellings.{words_of, IsPlain, IsDecimal, Spells, SpellAll}
 use Rattle.ps_steps.specs.Steps.{Step}
 use Rattle.ps_log.specs.Texts.{hint_numbers}
-use Rattle.ps_log.specs.Limits.{most_hints, IsId, IsStepWithin}
-use Rattle.ps_pb.specs.Limits.{most_size, most_variables, IsLiteral}
+use Rattle.ps_log.specs.Limits.{IsId, IsStepWithin}
+use Rattle.ps_log.specs.declared.limits.TheConstants.{MOST_HINTS}
+use Rattle.ps_pb.specs.Limits.{IsLiteral}
+use Rattle.ps_steps.specs.declared.limits.TheConstants.{MOST_SIZE}
+use Rattle.ps_pb.specs.declared.limits.TheConstants.{MOST_VARIABLES}
 use Rattle.ps_log.specs.declared.line_error.LineError.{LineError}
 use Rattle.ps_log.specs.declared.line_error.LineError.TheVariants.{Truncated, BadByte, NotCanonical, TooLarge, NoMemory}
 
 -- a size, or one above each limit
 abbrev pub capped_size : ℕ → ℕ
-capped_size n = min (most_size + 1) n
+capped_size n = min (MOST_SIZE + 1) n
 
 -- a number whose size is cut off above each limit
 abbrev pub capped : ℤ → ℤ
 capped (pos n) = pos (capped_size n)
-capped (negsuc n) = negsuc (min most_size n)
+capped (negsuc n) = negsuc (min MOST_SIZE n)
 
 -- the size that digits spell
 abbrev pub IsSize : List ℕ → Option ℕ → Type 0
@@ -99,20 +102,20 @@ pub record HasParts (numbers : List ℤ) : Type 0 where
 
 -- literals that are these numbers
 abbrev pub AreLits : List ℤ → Result (List ℤ) LineError → Type 0
-AreLits numbers (Ok lits) = (lits ≡ numbers) × All IsLiteral lits × (length lits ≤ most_variables)
+AreLits numbers (Ok lits) = (lits ≡ numbers) × All IsLiteral lits × (length lits ≤ MOST_VARIABLES)
 AreLits numbers (Err Truncated) = ⊥
 AreLits numbers (Err BadByte) = ⊥
 AreLits numbers (Err NotCanonical) = ⊥
-AreLits numbers (Err TooLarge) = All IsLiteral numbers → length numbers ≤ most_variables → ⊥
+AreLits numbers (Err TooLarge) = All IsLiteral numbers → length numbers ≤ MOST_VARIABLES → ⊥
 AreLits numbers (Err NoMemory) = ⊤
 
 -- hints that are these numbers
 abbrev pub AreHints : List ℤ → Result (List ℕ) LineError → Type 0
-AreHints numbers (Ok hints) = (hint_numbers hints ≡ numbers) × All IsId hints × (length hints ≤ most_hints)
+AreHints numbers (Ok hints) = (hint_numbers hints ≡ numbers) × All IsId hints × (length hints ≤ MOST_HINTS)
 AreHints numbers (Err Truncated) = ⊥
 AreHints numbers (Err BadByte) = ⊥
 AreHints numbers (Err NotCanonical) = ⊥
-AreHints numbers (Err TooLarge) = (hints : List ℕ) → hint_numbers hints ≡ numbers → All IsId hints → length hints ≤ most_hints → ⊥
+AreHints numbers (Err TooLarge) = (hints : List ℕ) → hint_numbers hints ≡ numbers → All IsId hints → length hints ≤ MOST_HINTS → ⊥
 AreHints numbers (Err NoMemory) = ⊤
 
 -- an id that is this number

@@ -1,9 +1,10 @@
-//! The limits of goals and steps.
-ghost use Rattle.std.specs.Prelude.{◌≡◌, ◌↔◌, ◌<◌, All, length, IsTrue};
+//! The limits of goals, of steps and of the searches that make them.
+ghost use Rattle.std.specs.Prelude.{◌≡◌, ◌↔◌, ◌<◌, ◌^◌, All, length, IsTrue};
 ghost use Rattle.ps_pb.specs.Limits.{IsLiteral};
 ghost use Rattle.ps_log.specs.Limits.{IsId, IsGoalWithin, IsStepWithin};
 ghost use Rattle.ps_log.specs.Texts.{goal_line, step_line};
 ghost use Rattle.ps_log.specs.declared.limits.TheConstants.{MOST_LITS, MOST_HINTS};
+ghost use Rattle.ps_log.specs.declared.limits.TheConstants.{MOST_CONFLICTS};
 
 use ps_io::LONGEST_LINE;
 use ps_pb::{Constraint, Lit, MOST_VARIABLES, Step};
@@ -15,10 +16,14 @@ pub const MOST_LITS: usize = MOST_VARIABLES as usize;
 /// So many hints a step has at most.
 pub const MOST_HINTS: usize = MOST_LITS + 1;
 
+/// So many clauses a search may be allowed to learn at most.
+pub const MOST_CONFLICTS: u64 = 1 << 40;
+
 /// The limits by their numbers.
 pub fn limits_have_these_numbers()
     ensures lits { MOST_LITS ≡ 1024 }
     ensures hints { MOST_HINTS ≡ 1025 }
+    ensures conflicts { MOST_CONFLICTS ≡ 2 ^ 40 }
 {}
 
 /// Whether a step is within the limits: id and hints from 1 to `MOST_IDS`, at most `MOST_LITS`

@@ -3,7 +3,7 @@ ghost use Rattle.std.specs.Prelude.{◌≡◌, ◌≤◌, ◌<◌, ◌↔◌, �
 ghost use Rattle.std.specs.Prelude.{IfSome, IfNone, IsTrue, length, slice_index};
 ghost use Rattle.std.specs.Char.{digit_value};
 ghost use Rattle.std.specs.Str.Parse.{digits_value};
-ghost use Rattle.ps_pb.specs.Limits.{most_size};
+ghost use Rattle.ps_steps.specs.declared.limits.TheConstants.{MOST_SIZE};
 ghost use Rattle.ps_log.specs.Spellings.{IsPlain};
 ghost use Rattle.ps_log.specs.Numbers.{capped_size, IsSize, IsCount, IsNegative, IsNumber};
 
@@ -51,7 +51,7 @@ fn negative(digits: &[u8]) -> Option<i128>
 
 fn size(word: &[u8]) -> Option<u128>
     ensures size { IsSize word.now result }
-    ensures within { IfSome result (λ n. n ≤ most_size + 1) }
+    ensures within { IfSome result (λ n. n ≤ MOST_SIZE + 1) }
 {
     if is_plain(word) {
         Some(value(word))

@@ -5,17 +5,13 @@ use Rattle.ps_steps.specs.Weights.{size_sum}
 use Rattle.ps_maxsat.specs.declared.limits.TheConstants.{MOST_TOTAL}
 use Rattle.ps_maxsat.specs.declared.problem.Wcnf.{Wcnf}
 
--- what the sizes of the weights and of the base sum to at most
-abbrev pub most_total : ℕ
-most_total = MOST_TOTAL
-
 -- so many searches are made at most
 abbrev pub most_searches : ℕ
 most_searches = 124
 
 -- the weights and the base are small enough that no sum of them wraps
 abbrev pub IsNarrow : Wcnf → Type 0
-IsNarrow p = size_sum p.soft + unsigned_abs p.base ≤ most_total
+IsNarrow p = size_sum p.soft + unsigned_abs p.base ≤ MOST_TOTAL
 
 -- the soft literals are of the variables of the clauses
 abbrev pub IsSoftWithin : Wcnf → Type 0

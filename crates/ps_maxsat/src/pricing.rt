@@ -1,10 +1,11 @@
 //! The greatest value.
 ghost use Rattle.std.specs.Prelude.{◌≤◌, ◌*◌, ◌<ℤ◌, ◌≤ℤ◌, ◌≡◌, ◌+ℤ◌, ◌-ℤ◌, pos, unsigned_abs};
 ghost use Rattle.std.specs.Prelude.{IsTrue, IfOk, OnOk, IsErrOf};
-ghost use Rattle.ps_sat.specs.Limits.{most_conflicts};
+ghost use Rattle.ps_log.specs.declared.limits.TheConstants.{MOST_CONFLICTS};
 ghost use Rattle.ps_sat.specs.Errors.{CountsSearchFault};
 ghost use Rattle.ps_sat.specs.Searches.{IsOutcome};
-ghost use Rattle.ps_maxsat.specs.Limits.{most_total, IsNarrow, IsSoftWithin};
+ghost use Rattle.ps_maxsat.specs.Limits.{IsNarrow, IsSoftWithin};
+ghost use Rattle.ps_maxsat.specs.declared.limits.TheConstants.{MOST_TOTAL};
 ghost use Rattle.ps_maxsat.specs.Values.{goal_of, IsPriced, IsGoalLogged, IsBestLogged};
 
 use crate::problem::{Wcnf, most_value, value};
@@ -54,8 +55,8 @@ fn search_above<S: ProofSink>(
     requires whole { IsTrue (S.is_whole log.old) }
     requires soft { IsSoftWithin wcnf.now }
     requires sizes { IsNarrow wcnf.now }
-    requires least { unsigned_abs least ≤ 2 * most_total }
-    requires few { conflicts ≤ most_conflicts }
+    requires least { unsigned_abs least ≤ 2 * MOST_TOTAL }
+    requires few { conflicts ≤ MOST_CONFLICTS }
     ensures outcome { IfOk result (IsOutcome wcnf.now.hard (goal_of wcnf.now least) conflicts) }
     ensures logged { IsGoalLogged wcnf.now least conflicts (S.told log.old)
         (S.told log.new) result }
@@ -82,8 +83,8 @@ fn half(distance: i128) -> i128
 
 // The goal that halves the way from what was found to what nothing is above.
 fn middle(found: i128, bound: i128) -> i128
-    requires found_size { unsigned_abs found ≤ most_total }
-    requires bound_size { unsigned_abs bound ≤ most_total }
+    requires found_size { unsigned_abs found ≤ MOST_TOTAL }
+    requires bound_size { unsigned_abs bound ≤ MOST_TOTAL }
     requires below { found <ℤ bound }
     ensures above { found <ℤ result }
     ensures within { result ≤ℤ bound }
@@ -111,7 +112,7 @@ pub fn best<S: ProofSink>(
     requires whole { IsTrue (S.is_whole log.old) }
     requires soft { IsSoftWithin wcnf.now }
     requires sizes { IsNarrow wcnf.now }
-    requires few { conflicts ≤ most_conflicts }
+    requires few { conflicts ≤ MOST_CONFLICTS }
     ensures priced { IfOk result (IsPriced wcnf.now conflicts) }
     ensures logged { IsBestLogged wcnf.now conflicts (S.told log.old) (S.told log.new) result }
     ensures whole { OnOk result (IsTrue (S.is_whole log.new)) }

@@ -1,7 +1,8 @@
 //! Clauses, and weighted literals.
 ghost use Rattle.std.specs.Prelude.{◌≡◌, ◌≤◌, ◌<◌, ◌+ℤ◌, ◌↔◌, unsigned_abs, IsTrue, All};
 ghost use Rattle.ps_steps.specs.Assignments.{place};
-ghost use Rattle.ps_maxsat.specs.Limits.{IsNarrow, IsSoftWithin, most_total};
+ghost use Rattle.ps_maxsat.specs.Limits.{IsNarrow, IsSoftWithin};
+ghost use Rattle.ps_maxsat.specs.declared.limits.TheConstants.{MOST_TOTAL};
 ghost use Rattle.ps_maxsat.specs.Sums.{sum_of, weight_in, weight_if_positive};
 ghost use Rattle.ps_maxsat.specs.Values.{most_value, IsValueOfFull, NoneIsAbove};
 
@@ -63,7 +64,7 @@ pub(crate) fn value(wcnf: &Wcnf, a: &Assignment) -> i128
     requires { IsNarrow wcnf.now }
     ensures sum { result ≡ wcnf.now.base +ℤ sum_of (weight_in a.now) wcnf.now.soft }
     ensures full { IsValueOfFull wcnf.now a.now result }
-    ensures size { unsigned_abs result ≤ most_total }
+    ensures size { unsigned_abs result ≤ MOST_TOTAL }
 {
     let mut sum = wcnf.base;
     for term in wcnf.soft.as_slice() {
@@ -77,7 +78,7 @@ pub(crate) fn most_value(wcnf: &Wcnf) -> i128
     requires { IsNarrow wcnf.now }
     ensures value { result ≡ most_value wcnf.now }
     ensures above { NoneIsAbove wcnf.now result }
-    ensures size { unsigned_abs result ≤ most_total }
+    ensures size { unsigned_abs result ≤ MOST_TOTAL }
 {
     let mut sum = wcnf.base;
     for term in wcnf.soft.as_slice() {

@@ -4,7 +4,7 @@ use Rattle.std.proofs.Math.Nat.{mul-pos}
 use Rattle.ps_rational.specs.Coprime.{gcd_is}
 use Rattle.ps_rational.specs.Parts.{part_pos}
 use Rattle.ps_rational.specs.Gcd.{gcd, lcm}
-use Rattle.ps_table.specs.declared.limits.TheConstants.{PRINTED_LIMIT}
+use Rattle.ps_rational.specs.declared.limits.TheConstants.{PRINTED_LIMIT}
 
 times_above : (k b : ℕ) → 0 < k → b ≤ k * b
 times_above zero b h = absurd (omega (arith, h))

@@ -17,7 +17,8 @@ use Rattle.ps_table.specs.declared.place.WideAt.{WideAt}
 use Rattle.ps_table.specs.declared.error.TableError.{TableError}
 use Rattle.ps_table.specs.declared.error.TableError.TheVariants as refused
 use Rattle.ps_table.specs.declared.costs.Costs.{Costs}
-use Rattle.ps_table.specs.declared.limits.TheConstants.{MOST_ROWS, PRINTED_LIMIT}
+use Rattle.ps_table.specs.declared.limits.TheConstants.{MOST_ROWS}
+use Rattle.ps_rational.specs.declared.limits.TheConstants.{PRINTED_LIMIT}
 use Rattle.ps_table.specs.Tableau.{Tableau, IsTableau, rows_of}
 use Rattle.ps_table.specs.Pricing.{multiplier_of}
 use Rattle.ps_table.specs.Places.{IsWideAt, IsRefusedAt, IsTooLargeToPrint, HomePlaces, at_whole, at_scaled}

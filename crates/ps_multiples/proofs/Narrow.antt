@@ -16,7 +16,7 @@ use Rattle.ps_table.specs.declared.place.Place.{Place}
 use Rattle.ps_table.specs.declared.costs.Costs.{Costs}
 use Rattle.ps_table.specs.Tableau.{Tableau, rows_of, basic_at, entry_at}
 use Rattle.ps_table.specs.Pricing.{multiplier_of}
-use Rattle.ps_table.specs.declared.limits.TheConstants.{PRINTED_LIMIT}
+use Rattle.ps_rational.specs.declared.limits.TheConstants.{PRINTED_LIMIT}
 use Rattle.ps_table.specs.Places.{IsWide, IsNarrow, IsTooLargeToPrint, HomePlaces, at_whole, at_scaled, at_weight, at_weighed, at_total, weight_under}
 use Rattle.ps_table.proofs.Printed.{printed_exact}
 use Rattle.ps_table.proofs.Narrow.{all_more}

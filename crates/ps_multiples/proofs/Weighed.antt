@@ -15,7 +15,7 @@ use Rattle.ps_rational.proofs.Multiples.{lcm_to_multiple}
 use Rattle.ps_table.specs.declared.place.Place.TheVariants.{Weight, Weighed, Total}
 use Rattle.ps_table.specs.declared.place.WideAt.{WideAt}
 use Rattle.ps_table.specs.Tableau.{Tableau, rows_of, basic_at, entry_at}
-use Rattle.ps_table.specs.declared.limits.TheConstants.{PRINTED_LIMIT}
+use Rattle.ps_rational.specs.declared.limits.TheConstants.{PRINTED_LIMIT}
 use Rattle.ps_table.specs.Places.{IsWideAt, IsTooLargeToPrint, IsWeighed, weight_under, weight_at, weight_multiple_to, at_weight, at_weighed, at_total}
 use Rattle.ps_table.specs.Grids.{Names}
 use Rattle.ps_table.proofs.Printed.{printed_exact, whole_under}

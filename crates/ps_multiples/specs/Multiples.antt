@@ -7,7 +7,7 @@ use Rattle.ps_table.specs.declared.place.Place.{Place}
 use Rattle.ps_table.specs.declared.costs.Costs.{Costs}
 use Rattle.ps_table.specs.Tableau.{Tableau, rows_of, basic_at, entry_at}
 use Rattle.ps_table.specs.Pricing.{cost_at, multiplier_of}
-use Rattle.ps_table.specs.declared.limits.TheConstants.{PRINTED_LIMIT}
+use Rattle.ps_rational.specs.declared.limits.TheConstants.{PRINTED_LIMIT}
 use Rattle.ps_table.specs.Places.{HomePlaces, MultiplierPlace, WeightPlace, multiple_to, weight_multiple_to, weight_at}
 use Rattle.ps_multiples.specs.declared.scaled.Scaled.{Scaled}
 use Rattle.ps_multiples.specs.declared.weights.Weights.{Weights}

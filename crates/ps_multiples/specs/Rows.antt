@@ -13,7 +13,7 @@ use Rattle.ps_table.specs.Tableau.{Tableau, rows_of, basic_at, entry_at}
 use Rattle.ps_table.specs.Pricing.{multiplier_of}
 use Rattle.ps_table.specs.Grids.{Names}
 use Rattle.ps_rational.specs.Sums.{int_sum_to}
-use Rattle.ps_table.specs.declared.limits.TheConstants.{PRINTED_LIMIT}
+use Rattle.ps_rational.specs.declared.limits.TheConstants.{PRINTED_LIMIT}
 use Rattle.ps_table.specs.Places.{HomePlaces, IsNarrow, IsWeighed, weight_multiple_to}
 use Rattle.ps_multiples.specs.Multiples.{weight_of}
 

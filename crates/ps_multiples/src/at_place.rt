@@ -4,13 +4,14 @@ ghost use Rattle.std.specs.Option.{SomeIff};
 ghost use Rattle.ps_rational.specs.Gcd.{lcm};
 ghost use Rattle.ps_rational.specs.Rational.{whole};
 ghost use Rattle.ps_rational.specs.Scaled.{scaled};
-ghost use Rattle.ps_table.specs.declared.limits.TheConstants.{PRINTED_LIMIT};
+ghost use Rattle.ps_rational.specs.declared.limits.TheConstants.{PRINTED_LIMIT};
 ghost use Rattle.ps_table.specs.Places.{IsTooLargeToPrint};
 ghost use Rattle.ps_table.specs.Grids.{Names};
 ghost use Rattle.ps_multiples.specs.Rows.{NamesMultiple};
 
 use ps_frac::{Fraction, Op, lcm_upto};
-use ps_table::{PRINTED_LIMIT, Place, WideAt, can_be_printed};
+use ps_rational::PRINTED_LIMIT;
+use ps_table::{Place, WideAt, can_be_printed};
 
 /// The least common multiple, where it is small enough to be printed.
 #[tactic(auto, using(crate::proofs::Least::past_multiple))]

@@ -1,7 +1,8 @@
 //! Whole multiples of a table's multipliers.
 ghost use Rattle.std.specs.Prelude.{◌≡◌, ◌<◌, ◌≤◌, length, IfOk, IfErr};
 ghost use Rattle.ps_table.specs.Tableau.{rows_of};
-ghost use Rattle.ps_table.specs.declared.limits.TheConstants.{MOST_ROWS, PRINTED_LIMIT};
+ghost use Rattle.ps_table.specs.declared.limits.TheConstants.{MOST_ROWS};
+ghost use Rattle.ps_rational.specs.declared.limits.TheConstants.{PRINTED_LIMIT};
 ghost use Rattle.ps_table.specs.Pricing.{HasCosts};
 ghost use Rattle.ps_table.specs.Places.{IsWideAt, IsRefusedAt, IsNarrow};
 ghost use Rattle.ps_multiples.specs.Multiples.{AreScaled, DualPlaces};

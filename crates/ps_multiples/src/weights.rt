@@ -2,7 +2,7 @@
 ghost use Rattle.std.specs.Prelude.{◌≡◌, suc, ◌<◌, ◌≤◌};
 ghost use Rattle.std.specs.Prelude.{◌↔◌, IsTrue, IfOk, IfErr, unsigned_abs};
 ghost use Rattle.ps_table.specs.Tableau.{rows_of};
-ghost use Rattle.ps_table.specs.declared.limits.TheConstants.{PRINTED_LIMIT};
+ghost use Rattle.ps_rational.specs.declared.limits.TheConstants.{PRINTED_LIMIT};
 ghost use Rattle.ps_table.specs.Places.{IsWideAt, IsRefusedAt, IsNarrow};
 ghost use Rattle.ps_bland.specs.Ready.{HasNoNegativeValue};
 ghost use Rattle.ps_multiples.specs.Multiples.{weight_of, weight_multiple_of, ModelPlaces};

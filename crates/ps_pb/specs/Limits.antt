@@ -1,12 +1,8 @@
 -- The limits of literals and of constraints.
 use Rattle.std.specs.Prelude.{ℕ, ◌≤◌, ℤ, unsigned_abs}
-pub use Rattle.ps_steps.specs.Limits.{most_size, most_weight}
+pub use Rattle.ps_steps.specs.Limits.{most_weight}
 use Rattle.ps_pb.specs.declared.limits.TheConstants.{MOST_VARIABLES}
-
--- so many variables, numbered from 1 on
-abbrev pub most_variables : ℕ
-most_variables = MOST_VARIABLES
 
 -- the number of a literal: its size is that of a variable
 abbrev pub IsLiteral : ℤ → Type 0
-IsLiteral l = (1 ≤ unsigned_abs l) × (unsigned_abs l ≤ most_variables)
+IsLiteral l = (1 ≤ unsigned_abs l) × (unsigned_abs l ≤ MOST_VARIABLES)

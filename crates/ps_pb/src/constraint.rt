@@ -2,7 +2,7 @@
 ghost use Rattle.std.specs.Prelude.{◌≡◌, ◌≤◌, ◌↔◌, pos, ◌≤ℤ◌, All, unsigned_abs};
 ghost use Rattle.std.specs.Prelude.{IsTrue, IsSome, IfSome, IfOk};
 ghost use Rattle.ps_steps.specs.Weights.{are_rising, weighted, terms_of, IsNormal};
-ghost use Rattle.ps_pb.specs.Limits.{most_size};
+ghost use Rattle.ps_steps.specs.declared.limits.TheConstants.{MOST_SIZE};
 ghost use Rattle.ps_pb.specs.Weighing.{linear};
 
 use crate::lit::Lit;
@@ -66,7 +66,7 @@ impl Constraint {
     /// What the coefficients of the true literals sum to at least.
     pub fn degree(&self) -> i128
         ensures value { result ≡ self.now.degree }
-        ensures within { unsigned_abs result ≤ most_size }
+        ensures within { unsigned_abs result ≤ MOST_SIZE }
     {
         self.degree
     }

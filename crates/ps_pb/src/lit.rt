@@ -1,7 +1,8 @@
 //! A variable, or its opposite.
 ghost use Rattle.std.specs.Prelude.{◌≡◌, ◌≤◌, ◌<◌, ◌↔◌, IfSome, IsSome, unsigned_abs, neg_ℤ};
 ghost use Rattle.ps_steps.specs.Assignments.{place, is_positive, literal_at};
-ghost use Rattle.ps_pb.specs.Limits.{IsLiteral, most_variables};
+ghost use Rattle.ps_pb.specs.Limits.{IsLiteral};
+ghost use Rattle.ps_pb.specs.declared.limits.TheConstants.{MOST_VARIABLES};
 
 use crate::limits::MOST_VARIABLES;
 use std::marker::Model;
@@ -50,7 +51,7 @@ impl Lit {
 
     /// The literal of the variable at a place, from 0 on.
     pub fn of_place(place: usize, positive: bool) -> Lit
-        requires { place < most_variables }
+        requires { place < MOST_VARIABLES }
         ensures { result ≡ literal_at place positive }
     {
         let number = place as i32 + 1;
@@ -70,7 +71,7 @@ impl Lit {
     /// The number of its variable, from 1 to `MOST_VARIABLES`.
     pub fn variable(&self) -> u32
         ensures value { result ≡ unsigned_abs self.now }
-        ensures within { (1 ≤ result) × (result ≤ most_variables) }
+        ensures within { (1 ≤ result) × (result ≤ MOST_VARIABLES) }
     {
         self.number.unsigned_abs()
     }
@@ -87,7 +88,7 @@ impl Lit {
     /// The place of its variable in an assignment, from 0 on.
     pub fn place(&self) -> usize
         ensures value { result ≡ place self.now }
-        ensures within { result < most_variables }
+        ensures within { result < MOST_VARIABLES }
     {
         self.variable() as usize - 1
     }

@@ -5,7 +5,9 @@ ghost use Rattle.ps_steps.specs.Assignments.{place};
 ghost use Rattle.ps_steps.specs.Weights.{size_sum, constant_part, constant_of, term_at, turned};
 ghost use Rattle.ps_steps.specs.Weights.{sum_below, last_variable, weighted};
 ghost use Rattle.ps_steps.specs.Weights.{constraint_of, clause_of};
-ghost use Rattle.ps_pb.specs.Limits.{most_variables, most_weight, most_size};
+ghost use Rattle.ps_pb.specs.Limits.{most_weight};
+ghost use Rattle.ps_pb.specs.declared.limits.TheConstants.{MOST_VARIABLES};
+ghost use Rattle.ps_steps.specs.declared.limits.TheConstants.{MOST_SIZE};
 ghost use Rattle.ps_pb.specs.Weighing.{SaysAtLeast};
 ghost use Rattle.ps_pb.specs.Coefficients.{number_at, with_weight, HasRoomFor, terms_of_numbers};
 ghost use Rattle.ps_pb.specs.Coefficients.{AreCoefficients, AreSmall};
@@ -47,7 +49,7 @@ pub fn clause(alloc: Global, lits: &[Lit]) -> Result<Constraint, NoMemory>
 
 fn last_variable(weights: &[(Lit, i128)]) -> u32
     ensures value { result ≡ last_variable weights.now }
-    ensures within { result ≤ most_variables }
+    ensures within { result ≤ MOST_VARIABLES }
 {
     let mut last = 0;
     for weight in weights {
@@ -62,7 +64,7 @@ fn last_variable(weights: &[(Lit, i128)]) -> u32
 fn coefficients(alloc: Global, weights: &[(Lit, i128)]) -> Result<Vec<i128>, NoMemory>
     requires { size_sum weights.now ≤ most_weight }
     ensures sums { IfOk result (λ sums. AreCoefficients weights.now sums.items) }
-    ensures within { IfOk result (λ sums. length sums.items ≤ most_variables) }
+    ensures within { IfOk result (λ sums. length sums.items ≤ MOST_VARIABLES) }
 {
     let mut sums = vec![in alloc; 0i128; last_variable(weights) as usize]?;
     add_weights(&mut sums, weights);
@@ -121,14 +123,14 @@ fn turned(sums: &[i128]) -> i128
 }
 
 fn turned_part(coefficient: &i128) -> i128
-    requires { unsigned_abs coefficient.now ≤ most_size }
+    requires { unsigned_abs coefficient.now ≤ MOST_SIZE }
     ensures { result ≡ turned coefficient.now }
 {
     if *coefficient < 0 { -*coefficient } else { 0 }
 }
 
 fn terms_of_coefficients(alloc: Global, sums: &[i128]) -> Result<Terms, NoMemory>
-    requires places { length sums.now ≤ most_variables }
+    requires places { length sums.now ≤ MOST_VARIABLES }
     requires small { AreSmall sums.now }
     ensures { IfOk result (λ terms. terms ≡ terms_of_numbers sums.now) }
 {
@@ -140,8 +142,8 @@ fn terms_of_coefficients(alloc: Global, sums: &[i128]) -> Result<Terms, NoMemory
 }
 
 fn push_term(terms: &mut Terms, place: usize, coefficient: &i128) -> Result<(), NoMemory>
-    requires places { place < most_variables }
-    requires size { unsigned_abs coefficient.now ≤ most_size }
+    requires places { place < MOST_VARIABLES }
+    requires size { unsigned_abs coefficient.now ≤ MOST_SIZE }
     ensures { OnOk result (terms.new ≡ terms.old ++ weighted (term_at place coefficient.now)) }
 {
     if 0 < *coefficient {

@@ -16,7 +16,8 @@ use Rattle.ps_forms.specs.Extensions.{extension, world_of}
 use Rattle.ps_forms.proofs.Idle.{form-clauses}
 use Rattle.ps_forms.proofs.Extends.{met-extension}
 use Rattle.ps_forms.proofs.Worlds.{world_of-agrees}
-use Rattle.ps_pb.specs.Limits.{most_variables, IsLiteral}
+use Rattle.ps_pb.specs.Limits.{IsLiteral}
+use Rattle.ps_pb.specs.declared.limits.TheConstants.{MOST_VARIABLES}
 use Rattle.ps_log.specs.Logs.{Telling}
 use Rattle.ps_learning.specs.Trails.{IsLit}
 use Rattle.ps_sat.specs.Searches.{Handed, AreStepsOf}
@@ -48,19 +49,19 @@ told_steps told new goal f steps h tells is =
     cc
 
 -- literals of few variables are literals
-literals_of_few : (variables : ℕ) (steps : List Step) → variables ≤ most_variables → AreStepsOf variables steps → AreOfLiterals steps
+literals_of_few : (variables : ℕ) (steps : List Step) → variables ≤ MOST_VARIABLES → AreStepsOf variables steps → AreOfLiterals steps
 literals_of_few variables steps few =
     All-weaker (λ s. All (IsLit variables) s.lits) (λ s. All IsLiteral s.lits)
     (λ s. All-weaker (IsLit variables) IsLiteral (λ l is. (is.0, omega (arith, is.1, few))) s.lits) steps
 
 -- the steps that it told are of literals, where the form's variables are few
 told_literals : (told : Bool) (new : Telling) (goal : Constraint) (f : Form) (steps : List Step) → Handed f goal told new → IsTrue told → new.steps ≡ Some steps
-    → f.variables ≤ most_variables → AreOfLiterals steps
+    → f.variables ≤ MOST_VARIABLES → AreOfLiterals steps
 told_literals told new goal f steps h tells is few =
     subst AreOfLiterals (told_steps told new goal f steps h tells is) (literals_of_few f.variables h.steps few h.literals)
 
 pub log_literals : (p : Wcnf) (conflicts : ℕ) (told : Bool) (new : Telling) (priced : Priced) (steps : List Step) → IsTrue told → new.steps ≡ Some steps
-    → p.hard.variables ≤ most_variables → IsPricedLog p conflicts told new priced → AreOfLiterals steps
+    → p.hard.variables ≤ MOST_VARIABLES → IsPricedLog p conflicts told new priced → AreOfLiterals steps
 log_literals p conflicts told new (NoneAbove last) steps tells is few h = told_literals told new (goal_of p (pos 1)) p.hard steps h.0 tells is few
 log_literals p conflicts told new (Best a v searches) steps tells is few (inl h) = told_literals told new (goal_of p h.least) p.hard steps h.handed tells is few
 log_literals p conflicts told new (Best a v searches) steps tells is few (inr h) = told_literals told new (goal_of p (v +ℤ pos 1)) p.hard steps h.held.0 tells is few

@@ -1,7 +1,7 @@
 //! The pricing of a problem's duals.
 ghost use Rattle.std.specs.Prelude.{◌≡◌, ◌≤◌, length, IfOk};
 ghost use Rattle.ps_problem.specs.Problems.{AreParts, bounds_in};
-ghost use Rattle.ps_sat.specs.Limits.{most_conflicts};
+ghost use Rattle.ps_log.specs.declared.limits.TheConstants.{MOST_CONFLICTS};
 ghost use Rattle.ps_maxsat.specs.Limits.{IsNarrow, IsSoftWithin};
 ghost use Rattle.ps_runs.specs.Kept.{IsChoice};
 ghost use Rattle.ps_runs.specs.Runs.{IsAsked, atoms_of, given_in, both_in};
@@ -40,7 +40,7 @@ impl<'p> Model for Pricer<'p> {
     ghost use Rattle.ps_problem.specs.Problems.{AreParts, bounds_in};
     ghost use Rattle.ps_forms.specs.Forms.{form_of};
     ghost use Rattle.ps_runs.specs.Kept.{with_sentences};
-    ghost use Rattle.ps_sat.specs.Limits.{most_conflicts};
+    ghost use Rattle.ps_log.specs.declared.limits.TheConstants.{MOST_CONFLICTS};
     ghost use Rattle.ps_pricing.specs.Pricings.{PricingSubject};
 
     ghost Value = { PricingSubject };
@@ -51,7 +51,7 @@ impl<'p> Model for Pricer<'p> {
     } };
 
     ghost invariant = { λ p.
-        (p.form ≡ form_of p.problem.now.nodes) × (p.conflicts ≤ most_conflicts)
+        (p.form ≡ form_of p.problem.now.nodes) × (p.conflicts ≤ MOST_CONFLICTS)
         × (p.bounds ≡ bounds_in p.sentences)
         × AreParts (with_sentences p.problem.now p.sentences) };
 }
@@ -66,7 +66,7 @@ impl<'p> Pricer<'p> {
         conflicts: u64,
     ) -> Result<Pricer<'p>, NoMemory>
         requires kept { IsChoice kept.now problem.now }
-        requires conflicts { conflicts ≤ most_conflicts }
+        requires conflicts { conflicts ≤ MOST_CONFLICTS }
         ensures value { IfOk result (λ p. p ≡ priced_over problem.now kept.now query conflicts) }
     {
         // Called for its clauses: the problem is within the limits, and its numbers are in range.

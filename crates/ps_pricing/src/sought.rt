@@ -1,6 +1,6 @@
 //! A search for the greatest value, with its steps.
 ghost use Rattle.std.specs.Prelude.{◌≤◌, IfOk};
-ghost use Rattle.ps_sat.specs.Limits.{most_conflicts};
+ghost use Rattle.ps_log.specs.declared.limits.TheConstants.{MOST_CONFLICTS};
 ghost use Rattle.ps_maxsat.specs.Limits.{IsNarrow, IsSoftWithin};
 ghost use Rattle.ps_maxsat.specs.Values.{IsPriced};
 ghost use Rattle.ps_printed.specs.Printed.{AreOfLiterals};
@@ -24,7 +24,7 @@ pub(crate) struct Sought {
 pub(crate) fn seek(alloc: Global, wcnf: &Wcnf, conflicts: u64) -> Result<Sought, NoMemory>
     requires soft { IsSoftWithin wcnf.now }
     requires sizes { IsNarrow wcnf.now }
-    requires few { conflicts ≤ most_conflicts }
+    requires few { conflicts ≤ MOST_CONFLICTS }
     ensures priced { IfOk result (λ s. IsPriced wcnf.now conflicts s.priced) }
     ensures steps { IfOk result (λ s. HasSteps wcnf.now conflicts s.priced s.steps) }
     ensures few { IfOk result (λ s. HasFewSteps conflicts s.priced s.steps) }

@@ -14,7 +14,8 @@ use Rattle.ps_steps.proofs.Places.{after_hints-refused}
 use Rattle.ps_steps.proofs.Short.{lawful-start, lawful-short, within-more}
 use Rattle.ps_pb.specs.declared.limits.TheConstants.{MOST_VARIABLES}
 use Rattle.ps_pb.specs.Limits.{IsLiteral}
-use Rattle.ps_log.specs.Limits.{IsStepWithin, most_ids}
+use Rattle.ps_log.specs.Limits.{IsStepWithin}
+use Rattle.ps_steps.specs.declared.limits.TheConstants.{MOST_IDS}
 use Rattle.ps_printed.specs.Printed.{AreOfLiterals}
 
 -- ---- hints
@@ -66,7 +67,7 @@ next_only false r e = absurd (cc)
 id_is_next : (v : ℕ) (known : Known) (s : Step) → IsLawful v known s → s.id ≡ length known + 1
 id_is_next v known s h = eqb-true s.id (length known + 1) (next_only (s.id == next_id known) (from_start known s.hints (all_false v s.lits)) h)
 
-step_within : (v : ℕ) (known : Known) (s : Step) → AreWithin v known → v ≤ MOST_VARIABLES → length known + 1 ≤ most_ids → All IsLiteral s.lits → IsLawful v known s → IsStepWithin s
+step_within : (v : ℕ) (known : Known) (s : Step) → AreWithin v known → v ≤ MOST_VARIABLES → length known + 1 ≤ MOST_IDS → All IsLiteral s.lits → IsLawful v known s → IsStepWithin s
 step_within v known s within few room lits h =
     let id = id_is_next v known s h in
     let run = lawful-start v known s h in
@@ -82,7 +83,7 @@ step_within v known s within few room lits h =
     }
 
 -- ---- lawful steps
-pub steps_within : (v : ℕ) (known : Known) (steps : List Step) → AreWithin v known → v ≤ MOST_VARIABLES → length known + length steps ≤ most_ids → AreOfLiterals steps → AreLawful v known steps
+pub steps_within : (v : ℕ) (known : Known) (steps : List Step) → AreWithin v known → v ≤ MOST_VARIABLES → length known + length steps ≤ MOST_IDS → AreOfLiterals steps → AreLawful v known steps
     → AllByRecursion IsStepWithin steps
 steps_within v known [] within few room lits h = tt
 steps_within v known (s ∷ steps) within few room lits h = (

@@ -4,7 +4,8 @@ use Rattle.std.specs.List.{AllByRecursion}
 use Rattle.ps_io.specs.LineText.{lines_bytes}
 use Rattle.ps_io.specs.declared.limits.TheConstants.{LONGEST_LINE}
 use Rattle.ps_problem.specs.Problems.{Parts, AreParts}
-use Rattle.ps_answer.specs.declared.limits.TheConstants.{MOST_PIVOTS, MOST_CONFLICTS}
+use Rattle.ps_answer.specs.declared.limits.TheConstants.{MOST_PIVOTS}
+use Rattle.ps_log.specs.declared.limits.TheConstants.{MOST_CONFLICTS}
 use Rattle.ps_answer.specs.declared.answer.Answer.{Answer}
 use Rattle.ps_answer.specs.Items.{IsProper, IsWithin, item_line}
 use Rattle.ps_answer.specs.Answers.{answer_items, answer_lines}

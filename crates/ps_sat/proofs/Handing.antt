@@ -12,7 +12,7 @@ use Rattle.ps_steps.proofs.Ids.{known_of-length}
 use Rattle.ps_forms.specs.Forms.{Form, MeetsForm}
 use Rattle.ps_log.specs.Logs.{Telling, Starts, Grows}
 use Rattle.ps_log.specs.Limits.{IsStepWithin}
-use Rattle.ps_pb.specs.Limits.{most_variables}
+use Rattle.ps_pb.specs.declared.limits.TheConstants.{MOST_VARIABLES}
 use Rattle.ps_learning.specs.Known.{most_known, IsIdUpTo}
 use Rattle.ps_learning.specs.Trails.{Trail, IsLit, AreReasons}
 use Rattle.ps_sat.specs.Searches.{HoldsLearned, IsHeld, HasHanded, IsLogged}
@@ -40,7 +40,7 @@ pub is-learned : (n m : ℕ) (cs : List Constraint) (x y : Step) → x ≡ y →
 is-learned n m cs x y e q lawful lits few_lits hints few_hints = subst (λ k. IsLearned k cs x) q (subst (λ z. IsLearned m cs z) (sym e) (record { lawful = lawful; literals = lits; few_literals = few_lits; hints = hints; few_hints = few_hints }))
 
 -- it is within the limits
-pub step-within : (n : ℕ) (cs : List Constraint) (x : Step) → IsLearned n cs x → n ≤ most_variables → length cs ≤ most_known → IsStepWithin x
+pub step-within : (n : ℕ) (cs : List Constraint) (x : Step) → IsLearned n cs x → n ≤ MOST_VARIABLES → length cs ≤ most_known → IsStepWithin x
 step-within n cs x l most few = record {
   id = let own = lawful_id n cs x l.lawful in (omega (arith, own), omega (arith, own, few));
   lits = λ k d lt. let own = l.literals k d lt in (own.0, omega (arith, own.1, most));

@@ -1,5 +1,4 @@
 -- Meaning
-pub mod Limits
 pub mod Errors
 pub mod Searches
 -- Bridge: what the order of decisions has chosen so far

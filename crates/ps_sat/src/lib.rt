@@ -3,10 +3,9 @@
 
 mod advancing;
 mod error;
-mod limits;
 mod order;
 mod searching;
 
 pub use error::SearchError;
-pub use limits::{MOST_CONFLICTS, limits_have_these_numbers};
+pub use ps_log::MOST_CONFLICTS;
 pub use searching::{Outcome, search};

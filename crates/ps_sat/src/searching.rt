@@ -5,7 +5,7 @@ ghost use Rattle.ps_steps.specs.Steps.{added};
 ghost use Rattle.ps_steps.specs.Weights.{IsWithin};
 ghost use Rattle.ps_log.specs.Logs.{Grows, Stays};
 ghost use Rattle.ps_log.specs.Limits.{IsStepWithin};
-ghost use Rattle.ps_sat.specs.Limits.{most_conflicts};
+ghost use Rattle.ps_log.specs.declared.limits.TheConstants.{MOST_CONFLICTS};
 ghost use Rattle.ps_sat.specs.Errors.{CountsSearchFault};
 ghost use Rattle.ps_sat.specs.Searches.{IsOutcome, IsLogged, HasHanded, HoldsGoalAndSteps};
 
@@ -62,7 +62,7 @@ pub fn search<S: ProofSink>(
 ) -> Result<Outcome, SearchError>
     requires whole { IsTrue (S.is_whole log.old) }
     requires goal { IsWithin base.now.variables goal.now }
-    requires few { conflicts ≤ most_conflicts }
+    requires few { conflicts ≤ MOST_CONFLICTS }
     ensures outcome { IfOk result (IsOutcome base.now goal.now conflicts) }
     ensures logged { IsLogged base.now goal.now conflicts (S.told log.old) (S.told log.new) result }
     ensures whole { OnOk result (IsTrue (S.is_whole log.new)) }
@@ -95,7 +95,7 @@ fn learn_all<S: ProofSink>(
     requires unset { trail ≡ record { variables = base.now.variables; entries = [] } }
     requires begun { HoldsGoalAndSteps (S.told log.old).tells (S.told log.old) goal.now [] }
     requires small { length known ≤ 2 ^ 32 }
-    requires few { conflicts ≤ most_conflicts }
+    requires few { conflicts ≤ MOST_CONFLICTS }
     ensures outcome { IfOk result (IsOutcome base.now goal.now conflicts) }
     ensures logged { HasHanded base.now goal.now conflicts (S.told log.old)
         (S.told log.new) result }

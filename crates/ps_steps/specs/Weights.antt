@@ -1,6 +1,6 @@
 -- Sums of weighted literals, the constraint that bounds one from below, and clauses.
 use Rattle.std.specs.Prelude.{ℕ, zero, suc, ◌+◌, ◌≡◌, ◌≤◌, ◌<◌, ◌==◌, nat_lt, max, ℤ, pos, negsuc, ◌+ℤ◌, ◌-ℤ◌, neg_ℤ, ◌≤ℤ◌, Bool, true, ◌&&◌, if◌then◌else◌, List, [], ◌∷◌, ◌++◌, map, All, unsigned_abs}
-use Rattle.ps_steps.specs.Limits.{most_size}
+use Rattle.ps_steps.specs.declared.limits.TheConstants.{MOST_SIZE}
 use Rattle.ps_steps.specs.Assignments.{place, is_positive, holds}
 use Rattle.ps_steps.specs.Constraints.{Constraint}
 
@@ -109,4 +109,4 @@ are_rising above (t ∷ ts) = nat_lt above (unsigned_abs t.0) && are_rising (uns
 pub record IsNormal (terms : Weighted) (degree : ℤ) : Type 0 where
   pub positive : All (λ t. pos 1 ≤ℤ t.1) terms
   pub rising : are_rising 0 terms ≡ true
-  pub narrow : (size_sum terms + unsigned_abs degree) ≤ most_size
+  pub narrow : (size_sum terms + unsigned_abs degree) ≤ MOST_SIZE

@@ -11,7 +11,7 @@ use Rattle.ps_rational.proofs.Cross.{quotient_cross}
 use Rattle.ps_rational.proofs.Field.{mul_comm}
 use Rattle.ps_rational.proofs.Whole.{whole-add}
 use Rattle.ps_rational.proofs.Scaling.{scaled_is}
-use Rattle.ps_table.specs.declared.limits.TheConstants.{PRINTED_LIMIT}
+use Rattle.ps_rational.specs.declared.limits.TheConstants.{PRINTED_LIMIT}
 use Rattle.ps_table.specs.Places.{IsTooLargeToPrint}
 use Rattle.ps_table.specs.Laws.{PrintedPlacesAreExact}
 

@@ -10,7 +10,7 @@ use Rattle.ps_rational.specs.Rational.{Rational, whole, add, mul, neg, div, inve
 use Rattle.ps_rational.specs.Scaled.{scaled}
 use Rattle.ps_rational.specs.Sums.{sum_to, int_sum_to}
 use Rattle.ps_basis.specs.Table.{carried_by}
-use Rattle.ps_table.specs.declared.limits.TheConstants.{PRINTED_LIMIT}
+use Rattle.ps_rational.specs.declared.limits.TheConstants.{PRINTED_LIMIT}
 use Rattle.ps_table.specs.declared.place.Place.{Place}
 use Rattle.ps_table.specs.declared.place.Place.TheVariants.{Ratio, Scale, Times, Minus, Cost, Whole, Scaled, Weight, Weighed, Total, NewTimes, NewPlus}
 use Rattle.ps_table.specs.declared.place.TableCol.{TableCol}
@@ -31,10 +31,6 @@ IsOperationWide Sub x y = SumIsWide x (neg y)
 IsOperationWide Mul x y = ProductIsWide x y
 IsOperationWide Div x y = ProductIsWide x (inverse y)
 IsOperationWide Lcm x y = ⊥
-
--- the same as PRINTED_LIMIT, for the definitions of other crates
-abbrev pub printed_limit : ℕ
-printed_limit = PRINTED_LIMIT
 
 -- a number that an answer prints is too large
 abbrev pub IsTooLargeToPrint : ℤ → Type 0

@@ -22,7 +22,7 @@ pub use costs::{CostList, Costs};
 pub use error::TableError;
 pub use home::Home;
 pub use laws::printed_places;
-pub use limits::{MOST_ROWS, PRINTED_LIMIT, can_be_printed, limits_have_these_numbers};
+pub use limits::{MOST_ROWS, can_be_printed, limits_have_these_numbers};
 pub use place::{Place, TableCol, WideAt};
 pub use table::Table;
 

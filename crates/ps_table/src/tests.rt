@@ -4,9 +4,10 @@ mod carrying;
 mod conditions;
 mod refusals;
 
-use crate::{Home, PRINTED_LIMIT, Table, can_be_printed};
+use crate::{Home, Table, can_be_printed};
 use conditions::{adds, has_entry, has_value, pivots};
 use ps_pool::Col;
+use ps_rational::PRINTED_LIMIT;
 use std::test::Fail;
 
 /// A world of entry 3 becomes basic, so the value is 1/3, and a world of entry 2 has entry 2/3.

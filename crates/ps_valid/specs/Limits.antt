@@ -11,24 +11,16 @@ use Rattle.ps_answer.specs.declared.answer.QueryAnswer.TheVariants as query
 use Rattle.ps_answer.specs.declared.answer.Answer.{Answer}
 use Rattle.ps_answer.specs.declared.limits.TheConstants.{MOST_ENTRIES}
 use Rattle.ps_certificate.specs.Certificates.{IsSmallDual}
-use Rattle.ps_table.specs.declared.limits.TheConstants.{PRINTED_LIMIT}
+use Rattle.ps_rational.specs.declared.limits.TheConstants.{PRINTED_LIMIT}
 
--- the most that a total or a weight is
-abbrev pub most_weight : ℕ
-most_weight = PRINTED_LIMIT
-
--- the most worlds
-abbrev pub most_worlds : ℕ
-most_worlds = MOST_ENTRIES
-
--- from 0 to the most that a weight is
+-- from 0 to the most that is printed
 pub record IsAmount (z : ℤ) : Type 0 where
   pub low : pos 0 ≤ℤ z
-  pub high : z ≤ℤ pos most_weight
+  pub high : z ≤ℤ pos PRINTED_LIMIT
 
 -- few worlds, each of a small weight
 pub record AreSmall (ws : List Weighted) : Type 0 where
-  pub few : length ws ≤ most_worlds
+  pub few : length ws ≤ MOST_ENTRIES
   pub weights : All (λ w. IsAmount w.weight) ws
 
 -- a model with a small total and such worlds

@@ -8,7 +8,8 @@ use Rattle.ps_formula.specs.declared.node.Node.{Node}
 use Rattle.ps_problem.specs.declared.bound.Bound.{Bound}
 use Rattle.ps_problem.specs.declared.limits.TheConstants.{MOST_DENOMINATOR}
 use Rattle.ps_valid.specs.declared.truth.Row.{Row}
-use Rattle.ps_valid.specs.Limits.{IsAmount, most_worlds}
+use Rattle.ps_valid.specs.Limits.{IsAmount}
+use Rattle.ps_answer.specs.declared.limits.TheConstants.{MOST_ENTRIES}
 
 -- a row as an entry: its weight, and its truth values as a world
 abbrev pub row_entry : Row → Entry
@@ -24,7 +25,7 @@ over_nodes ns e = record { weight = e.weight; world = truths ns e.world }
 
 -- few rows, each of a small weight
 pub record AreRows (rows : List Row) : Type 0 where
-  pub few : length rows ≤ most_worlds
+  pub few : length rows ≤ MOST_ENTRIES
   pub weights : All (λ r. IsAmount r.weight) rows
 
 -- each row has the truth of this node

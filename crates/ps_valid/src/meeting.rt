@@ -6,7 +6,9 @@ ghost use Rattle.ps_meaning.specs.Bounds.{Compares};
 ghost use Rattle.ps_problem.specs.declared.limits.TheConstants.{MOST_BOUNDS, MOST_DENOMINATOR};
 ghost use Rattle.ps_claims.specs.Claims.{HasTotal};
 ghost use Rattle.ps_certificate.specs.Certificates.{entries, model_of};
-ghost use Rattle.ps_valid.specs.Limits.{IsAmount, IsSmallModel, most_weight, most_worlds};
+ghost use Rattle.ps_rational.specs.declared.limits.TheConstants.{PRINTED_LIMIT};
+ghost use Rattle.ps_valid.specs.Limits.{IsAmount, IsSmallModel};
+ghost use Rattle.ps_answer.specs.declared.limits.TheConstants.{MOST_ENTRIES};
 ghost use Rattle.ps_valid.specs.Rows.{AreRows, Covers, HaveNode, IsTableOf, MeetsAt};
 ghost use Rattle.ps_valid.specs.Rows.{node_at, row_entries};
 ghost use Rattle.ps_valid.specs.Tests.{FindsMissed, FindsMissedAt};
@@ -29,7 +31,7 @@ fn compares(side: Side, x: i128, y: i128) -> bool
 fn times(k: u32, x: i128) -> i128
     requires small { k ≤ MOST_DENOMINATOR }
     requires low { pos 0 ≤ℤ x }
-    requires high { x ≤ℤ pos (most_worlds * most_weight) }
+    requires high { x ≤ℤ pos (MOST_ENTRIES * PRINTED_LIMIT) }
     ensures { result ≡ pos k *ℤ x }
 {
     i128::from(k) * x
@@ -43,7 +45,7 @@ pub fn weight_given(rows: &[Row], sum: i128, given: Option<u32>) -> i128
     requires small { IsAmount sum }
     ensures weight { result ≡ weight (row_entries rows.now) (node_at given) }
     ensures low { pos 0 ≤ℤ result }
-    ensures high { result ≤ℤ pos (most_worlds * most_weight) }
+    ensures high { result ≤ℤ pos (MOST_ENTRIES * PRINTED_LIMIT) }
 {
     match given {
         Some(node) => weight_of(rows, node),

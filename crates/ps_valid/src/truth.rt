@@ -4,7 +4,9 @@ ghost use Rattle.ps_meaning.specs.Formula.{Atom};
 ghost use Rattle.ps_meaning.specs.Distribution.{weight};
 ghost use Rattle.ps_formula.specs.Nodes.{AtomBelow};
 ghost use Rattle.ps_certificate.specs.Certificates.{entries};
-ghost use Rattle.ps_valid.specs.Limits.{AreSmall, most_weight, most_worlds};
+ghost use Rattle.ps_rational.specs.declared.limits.TheConstants.{PRINTED_LIMIT};
+ghost use Rattle.ps_valid.specs.Limits.{AreSmall};
+ghost use Rattle.ps_answer.specs.declared.limits.TheConstants.{MOST_ENTRIES};
 ghost use Rattle.ps_valid.specs.Rows.{AreRows, HaveNode, IsTableOf, row_entries};
 
 use ps_answer::Weighted;
@@ -33,7 +35,7 @@ pub fn weight_of(rows: &[Row], node: u32) -> i128
     requires node { HaveNode rows.now node }
     ensures weight { result ≡ weight (row_entries rows.now) (Atom node) }
     ensures low { pos 0 ≤ℤ result }
-    ensures high { result ≤ℤ pos (most_worlds * most_weight) }
+    ensures high { result ≤ℤ pos (MOST_ENTRIES * PRINTED_LIMIT) }
 {
     let mut sum = 0;
     for row in rows {

@@ -1,6 +1,6 @@
 //! Forms to search.
 ghost use Rattle.std.specs.Prelude.{◌<◌, ◌≤◌, ◌≢◌, All, IsTrue};
-ghost use Rattle.ps_pb.specs.Limits.{most_variables};
+ghost use Rattle.ps_pb.specs.declared.limits.TheConstants.{MOST_VARIABLES};
 ghost use Rattle.ps_steps.specs.Assignments.{place, AreDifferent};
 
 use crate::draw::Draw;
@@ -50,7 +50,7 @@ pub fn add(form: &mut ClauseForm, lits: &[Lit]) -> Result<(), NoMemory> {
 /// A literal of one of so many variables.
 pub fn literal(draw: &mut Draw, variables: u32) -> Lit
     requires some { 0 < variables }
-    requires most { variables ≤ most_variables }
+    requires most { variables ≤ MOST_VARIABLES }
 {
     let place = draw.below(variables as u64) as usize;
     Lit::of_place(place, draw.coin())
@@ -64,7 +64,7 @@ pub fn three_clauses(
     clauses: u32,
 ) -> Result<ClauseForm, NoMemory>
     requires some { 0 < variables }
-    requires most { variables ≤ most_variables }
+    requires most { variables ≤ MOST_VARIABLES }
 {
     let mut form = ClauseForm::new(alloc, variables);
     for _ in 0..clauses {
@@ -77,7 +77,7 @@ pub fn three_clauses(
 /// Three literals, of different variables where a few draws find such.
 fn different(draw: &mut Draw, variables: u32) -> (Lit, Lit, Lit)
     requires some { 0 < variables }
-    requires most { variables ≤ most_variables }
+    requires most { variables ≤ MOST_VARIABLES }
 {
     let a = literal(draw, variables);
     let mut b = literal(draw, variables);

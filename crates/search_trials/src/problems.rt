@@ -1,6 +1,6 @@
 //! Random weighted problems, and their greatest values by trying all assignments.
 ghost use Rattle.std.specs.Prelude.{◌<◌, ◌≤◌};
-ghost use Rattle.ps_pb.specs.Limits.{most_variables};
+ghost use Rattle.ps_pb.specs.declared.limits.TheConstants.{MOST_VARIABLES};
 
 use crate::draw::Draw;
 use crate::forms::{add, literal};
@@ -41,7 +41,7 @@ pub fn random_problem(
     soft: u32,
 ) -> Result<Problem, SearchError>
     requires some { 0 < variables }
-    requires most { variables ≤ most_variables }
+    requires most { variables ≤ MOST_VARIABLES }
 {
     let mut problem = Problem {
         variables,

@@ -1,7 +1,7 @@
 //! Four clauses over two variables that nothing meets, over a log in memory and logs of lines.
 ghost use Rattle.std.specs.Prelude.{◌≡◌, ◌≤◌, []};
 ghost use Rattle.ps_steps.specs.Weights.{IsWithin};
-ghost use Rattle.ps_sat.specs.Limits.{most_conflicts};
+ghost use Rattle.ps_log.specs.declared.limits.TheConstants.{MOST_CONFLICTS};
 
 use crate::forms::add;
 use crate::refutations::{is_within, no_goal};
@@ -112,7 +112,7 @@ fn written(
 ) -> Result<Outcome, SearchError>
     requires empty { sink.old.written ≡ [] }
     requires goal { IsWithin form.now.variables goal.now }
-    requires few { conflicts ≤ most_conflicts }
+    requires few { conflicts ≤ MOST_CONFLICTS }
 {
     let lines = Lines::new(alloc, sink)?;
     let mut log = TextLog::new(lines);

@@ -1,5 +1,5 @@
 use Rattle.std.proofs.Common.{◌≡◌, ◌<◌, ◌≤◌}
-use Rattle.ps_table.specs.declared.limits.TheConstants.{PRINTED_LIMIT}
+use Rattle.ps_rational.specs.declared.limits.TheConstants.{PRINTED_LIMIT}
 use Rattle.ps_multiples.specs.Rows.{multiple_before}
 use Rattle.ps_multiples.proofs.multipliers.multiple_of.Given as goal
 
