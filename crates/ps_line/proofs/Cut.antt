@@ -17,13 +17,14 @@ use Rattle.ps_table.specs.declared.place.TableCol.TheVariants as shown
 use Rattle.ps_answer.specs.Items.{count, IsColWithin, IsShownWithin, shown_word}
 use Rattle.ps_answer.specs.Words.{Column, SpellsColumn, SpellsWord}
 use Rattle.ps_line.specs.Read.{IsRead, IsWordRead}
+use Rattle.ps_line.specs.Ratios.{IsUnder}
 use Rattle.ps_line.specs.Kinds.{IsHome, IsWorld, IsVersion, IsNumberedWorld, of_any_size}
-use Rattle.ps_line.specs.Numerals.{cut_size, IsCountUpTo, IsNumberUpTo}
+use Rattle.ps_line.specs.Numerals.{capped_size, IsCountUpTo, IsNumberUpTo}
 
 -- one more digit of a size
-pub cut_more : (digits : List ℕ) (i value r : ℕ) → All (λ b. digit_value b < 10) digits → i < length digits → value ≡ cut_size (digits_value 10 (take i digits))
-    → r ≡ cut_size (10 * value + (get_or digits i 0 - 48)) → r ≡ cut_size (digits_value 10 (take (i + 1) digits))
-cut_more digits i value r h lt e f =
+pub capped_more : (digits : List ℕ) (i value r : ℕ) → All (λ b. digit_value b < 10) digits → i < length digits → value ≡ capped_size (digits_value 10 (take i digits))
+    → r ≡ capped_size (10 * value + (get_or digits i 0 - 48)) → r ≡ capped_size (digits_value 10 (take (i + 1) digits))
+capped_more digits i value r h lt e f =
     omega (arith, e, f, digits_value_more 10 digits i lt, digit_value_digit (get_or digits i 0) (digit_from_value (get_or digits i 0) (h i 0 lt)))
 
 -- a count that isn't read is no number without a minus
@@ -50,6 +51,21 @@ negative_refused limit digits TooLarge h = large h.0 h.1 h.2
     large zero d p = absurd (p (omega arith))
     large (suc n) d p = (negsuc n, (refl, d), p)
 negative_refused limit digits NoMemory h = h
+
+-- a count that isn't read is no word of a count, and no denominator
+pub count_refused : (limit : ℕ) (word : List ℕ) (why : LineFault) → IsCountUpTo limit word (Err why) → IsWordRead count (λ n. ⊤) (λ n. n ≤ limit) word (Err why)
+count_refused limit word NotCanonical h = λ n s. h n s.0
+count_refused limit word TooLarge h = (h.0, (h.1, tt), h.2)
+count_refused limit word NoMemory h = h
+
+pub under_refused : (limit : ℕ) (word : List ℕ) (why : LineFault) → IsCountUpTo limit word (Err why) → IsUnder limit word (Err why)
+under_refused limit word NotCanonical h = λ n s. h n s.0
+under_refused limit word TooLarge h = large h.0 h.1 h.2
+  where
+    large : (n : ℕ) → IsDecimal word n → (n ≤ limit → ⊥) → IsUnder limit word (Err TooLarge)
+    large zero d p = absurd (p (omega arith))
+    large (suc n) d p = (suc n, (d, omega arith), p)
+under_refused limit word NoMemory h = h
 
 -- a count that isn't read is no number that isn't negative
 pub amount_refused : (limit : ℕ) (word : List ℕ) (why : LineFault) → IsCountUpTo limit word (Err why) → IsRead (λ z. Spells word z × pos 0 ≤ℤ z) (λ z. unsigned_abs z ≤ limit) (Err why)

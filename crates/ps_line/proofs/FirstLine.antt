@@ -1,22 +1,20 @@
 -- The line at the front.
-use Rattle.std.proofs.Common.{◌≡◌, ℕ, Bool, true, false, List, [], ◌∷◌, Result, Ok, Err, refl, sym, ap, subst, ◌∙◌}
+use Rattle.std.proofs.Common.{◌≡◌, ℕ, true, List, [], ◌∷◌, Result, Ok, Err, refl, sym, ap, subst, ◌∙◌}
 use Rattle.std.specs.Prelude.{bytes_eq}
 use Rattle.std.specs.List.{list_any}
 use Rattle.ps_log.specs.FirstLines.{IsFirstLine}
 use Rattle.ps_log.specs.Spellings.{words_of}
 use Rattle.ps_answer.specs.declared.item.LineItem.{LineItem}
 use Rattle.ps_answer.specs.declared.part.Part.{Part}
-use Rattle.ps_answer.specs.declared.part.Part.TheVariants as part
 use Rattle.ps_answer.specs.declared.error.LineKind.TheVariants as kind
 use Rattle.ps_answer.specs.ExpectedParts.{first_words}
 use Rattle.ps_answer.specs.Faults.{first_of, is_begun}
 use Rattle.ps_line.specs.declared.line_fault.LineFault.{LineFault}
-use Rattle.ps_line.specs.declared.line_fault.LineFault.TheVariants.{NotCanonical, TooLarge, NoMemory}
+use Rattle.ps_line.specs.declared.line_fault.LineFault.TheVariants.{TooLarge}
 use Rattle.ps_line.specs.declared.error.LineError.TheVariants as error
 use Rattle.ps_line.specs.Cursor.{later}
 use Rattle.ps_line.specs.Read.{IsItemRead}
 use Rattle.ps_line.specs.Lines.{TakesLine, IsLineFault}
-use Rattle.ps_line.specs.Sides.{side_letters}
 use Rattle.ps_line.proofs.Sequences.{has_words}
 use Rattle.ps_line.proofs.OpeningLines.{only_word}
 
@@ -69,7 +67,3 @@ arm_word part p text word words left r e f g k h = subst (λ q. IsItemRead q (wo
 
 pub arm_due : (part p : Part) (text word : List ℕ) (words : List (List ℕ)) → part ≡ p → words ≡ words_of text → word ≡ first_of words → is_begun part text ≡ true → list_any (λ w. bytes_eq word w) (first_words p) ≡ true
 arm_due part p text word words e f g b = due_word p text word (g ∙ ap first_of f) (subst (λ q. is_begun q text ≡ true) e b)
-
-pub side_words : (u : Bool) → first_words (part.ASide u) ≡ side_letters u ∷ []
-side_words false = refl
-side_words true = refl

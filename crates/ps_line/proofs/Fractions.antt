@@ -1,6 +1,6 @@
 -- Words of fractions.
 use Rattle.std.specs.Prelude.{⊤}
-use Rattle.std.proofs.Common.{◌≡◌, ◌≢◌, ℕ, zero, suc, ◌/◌, ◌<◌, ◌≤◌, ◌^◌, ℤ, pos, negsuc, Bool, true, List, [], ◌∷◌, ◌++◌, length, get_or, Result, Ok, Err, refl, sym, ap, subst, ◌∙◌, arith, unsigned_abs, int_div, ◌↔◌}
+use Rattle.std.proofs.Common.{◌≡◌, ◌≢◌, ℕ, zero, suc, ◌/◌, ◌<◌, ◌≤◌, ◌^◌, ℤ, pos, negsuc, Bool, true, List, [], ◌∷◌, length, get_or, Result, Ok, Err, sym, ap, subst, ◌∙◌, arith, unsigned_abs, int_div, ◌↔◌}
 use Rattle.std.specs.Int.{IsGcd}
 use Rattle.std.specs.Char.{digit_value}
 use Rattle.std.specs.Str.Parse.{AllDigits}
@@ -19,7 +19,7 @@ use Rattle.ps_answer.specs.Words.{SpellsRatio}
 use Rattle.ps_line.specs.declared.line_fault.LineFault.{LineFault}
 use Rattle.ps_line.specs.declared.line_fault.LineFault.TheVariants.{NotCanonical, TooLarge, NoMemory}
 use Rattle.ps_line.specs.Read.{IsRead}
-use Rattle.ps_line.specs.Ratios.{IsOver, IsUnder, AreParts, IsLowest}
+use Rattle.ps_line.specs.Ratios.{IsUnder, AreParts, IsLowest}
 use Rattle.ps_line.specs.Numerals.{IsNumberUpTo}
 
 -- a number has no slash
@@ -53,6 +53,10 @@ no_ratio word q l s = no_cut_at 47 word s.over s.under l s.is
 
 one_number : (word : List ℕ) (y z : ℤ) → Spells word y → Spells word z → y ≡ z
 one_number word y z s t = sym (value_of_spelling word y s) ∙ value_of_spelling word z t
+
+-- a numerator that asks this is read
+abbrev pub IsOver : (ℤ → Type 0) → ℕ → List ℕ → Result ℤ LineFault → Type 0
+IsOver Asks limit word result = IsRead (λ z. Spells word z × Asks z) (λ z. unsigned_abs z ≤ limit) result
 
 -- what is read of the parts is read of the fraction
 abbrev pub AsksRatio : (ℤ → Type 0) → ℕ → Ratio → Type 0

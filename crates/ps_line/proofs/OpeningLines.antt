@@ -1,11 +1,12 @@
 -- Lines of verdicts, queries and sides.
-use Rattle.std.proofs.Common.{◌≡◌, ℕ, suc, ◌==◌, ◌≤◌, ◌^◌, pos, ◌≤ℤ◌, Bool, true, false, ◌||◌, List, [], ◌∷◌, Some, None, Result, Ok, Err, refl, sym, ap, subst, ◌∙◌, arith, true≢false, inl, inr}
+use Rattle.std.proofs.Common.{◌≡◌, ℕ, suc, ◌==◌, ◌≤◌, ◌^◌, pos, ◌≤ℤ◌, Bool, true, false, ◌||◌, List, [], ◌∷◌, Some, None, Result, Ok, Err, refl, sym, ap, subst, ◌∙◌, true≢false, inl, inr}
 use Rattle.std.specs.Prelude.{⊤, codes, bytes_eq, if◌then◌else◌}
 use Rattle.std.specs.List.{list_any}
 use Rattle.std.proofs.lemmas.Slice.Eq.{bytes_eq-Decides}
 use Rattle.std.proofs.lemmas.Bool.{eqb-true}
 use Rattle.std.proofs.lemmas.Option.{none-some}
-use Rattle.ps_answer.specs.Words.{Fraction, SpellWords}
+use Rattle.ps_answer.proofs.Dues.{same_number}
+use Rattle.ps_answer.specs.Words.{Fraction, side_letters, SpellWords}
 use Rattle.ps_answer.specs.declared.item.LineItem.{LineItem}
 use Rattle.ps_answer.specs.declared.item.LineItem.TheVariants as line
 use Rattle.ps_answer.specs.declared.item.Ratio.{Ratio}
@@ -18,7 +19,6 @@ use Rattle.ps_line.specs.declared.line_fault.LineFault.{LineFault}
 use Rattle.ps_line.specs.declared.line_fault.LineFault.TheVariants.{NotCanonical, TooLarge, NoMemory}
 use Rattle.ps_line.specs.Cursor.{later}
 use Rattle.ps_line.specs.Read.{IsWordRead, both, Fits, FitsNot, IsSaid, IsItemRead}
-use Rattle.ps_line.specs.Sides.{side_letters}
 use Rattle.ps_line.proofs.Sequences.{Makes, IsMade, item_read, made}
 use Rattle.ps_line.proofs.Items.{other, IsEndRead, One, last_word, count_word, fraction_word}
 
@@ -108,9 +108,6 @@ pub end_read : (j : ℕ) (ws : List (List ℕ)) (e : Result (Unit {0}) LineFault
 end_read j ws e h = bare_read (part.AQuery j) (codes "end") line.End ws e (end_makes j ws) h
 
 -- a query, by its number
-same_number : (n : ℕ) → (n == n) ≡ true
-same_number n = grind arith
-
 query_makes : (j : ℕ) (ws : List (List ℕ)) → Makes {A = One ℕ} (part.AQuery j) (codes "query" ∷ []) ws (λ a. line.Query a.0) (λ a. count a.0 ∷ []) (λ a. (a.0 ≡ j) × ⊤) (λ a. (a.0 ≤ 16) × ⊤)
 unfolding behind
 query_makes j ws = record { words = λ a. refl; proper = λ a p. tt; within = λ a f. f.0; back = λ a w. (w, tt); fits = λ a p due. fit a.0 p.0 due; only = only }
@@ -135,27 +132,23 @@ query_read j ws n e h k = item_read (part.AQuery j) (codes "query" ∷ []) _ _ _
 abbrev pub IsValueProper : Ratio → Type 0
 IsValueProper q = (pos 0 ≤ℤ q.over) × IsReducedWithin (2 ^ 90) q
 
+unspelled : {P : Type 0} (ws : List (List ℕ)) → (ws ≡ [] → ⊥) → SpellWords ws [] → P
+unspelled [] n s = absurd (n refl)
+unspelled (w ∷ ws) n s = absurd s
+
 value_makes : (u : Bool) (ws : List (List ℕ)) → (ws ≡ [] → ⊥) → Makes {A = One Ratio} (part.ASide u) (side_letters u ∷ []) ws (λ a. line.Bound u a.0) (λ a. Fraction a.0 ∷ []) (λ a. IsValueProper a.0 × ⊤) (λ a. IsRatioWithin (2 ^ 90) a.0 × ⊤)
 unfolding behind
 value_makes false ws n = record { words = λ a. refl; proper = λ a p. p.0; within = λ a f. f.0; back = λ a w. (w, tt); fits = λ a p due. (_, refl); only = only }
   where
-    bare : {P : Type 0} (ws : List (List ℕ)) → (ws ≡ [] → ⊥) → SpellWords ws [] → P
-    bare [] n s = absurd (n refl)
-    bare (w ∷ ws) n s = absurd s
-
     only : (i : LineItem) → IsSaid (codes "lower" ∷ ws) i → IsMade {A = One Ratio} (part.ASide false) (λ a. line.Bound false a.0) (λ a. IsValueProper a.0 × ⊤) i
     only (line.Bound false q) s = inr ((q, tt), refl, (s.proper, tt))
-    only (line.OpenSide false) s = bare ws n s.spelled.1
+    only (line.OpenSide false) s = unspelled ws n s.spelled.1
     only i s = inl (λ due. refl)
 value_makes true ws n = record { words = λ a. refl; proper = λ a p. p.0; within = λ a f. f.0; back = λ a w. (w, tt); fits = λ a p due. (_, refl); only = only }
   where
-    bare : {P : Type 0} (ws : List (List ℕ)) → (ws ≡ [] → ⊥) → SpellWords ws [] → P
-    bare [] n s = absurd (n refl)
-    bare (w ∷ ws) n s = absurd s
-
     only : (i : LineItem) → IsSaid (codes "upper" ∷ ws) i → IsMade {A = One Ratio} (part.ASide true) (λ a. line.Bound true a.0) (λ a. IsValueProper a.0 × ⊤) i
     only (line.Bound true q) s = inr ((q, tt), refl, (s.proper, tt))
-    only (line.OpenSide true) s = bare ws n s.spelled.1
+    only (line.OpenSide true) s = unspelled ws n s.spelled.1
     only i s = inl (λ due. refl)
 
 pub value_read : (u : Bool) (ws : List (List ℕ)) (q : Result Ratio LineFault) (e : Result (Unit {0}) LineFault) → (ws ≡ [] → ⊥) → IsWordRead Fraction IsValueProper (IsRatioWithin (2 ^ 90)) (first_of ws) q → IsEndRead (later ws) e

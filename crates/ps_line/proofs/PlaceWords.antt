@@ -8,6 +8,7 @@ use Rattle.ps_table.specs.declared.place.Place.{Place}
 use Rattle.ps_table.specs.declared.place.Place.TheVariants as place
 use Rattle.ps_table.specs.declared.place.TableCol.{TableCol}
 use Rattle.ps_table.specs.declared.place.TableCol.TheVariants as shown
+use Rattle.ps_answer.proofs.OneItem.{no_word}
 use Rattle.ps_answer.specs.Words.{Word, Letters, Fraction, Column, SpellWords}
 use Rattle.ps_answer.specs.declared.item.LineItem.{LineItem}
 use Rattle.ps_answer.specs.declared.item.LineItem.TheVariants as line
@@ -297,10 +298,6 @@ letters (w ∷ ws) = (refl, letters ws)
 unnamed : {P : Type 0} (p : Place) → [] ≡ place_name p → P
 unnamed (place.Ratio i) e = absurd (omega (arith, ap length e))
 unnamed p e = absurd (omega (arith, ap length e))
-
-no_word : {P : Type 0} (p : Place) (tail : List Word) → SpellWords [] (place_words p ++ tail) → P
-no_word (place.Ratio i) tail s = absurd s
-no_word p tail s = absurd s
 
 name_of : (p : Place) (w : List ℕ) (ws : List (List ℕ)) (tail : List Word) → SpellWords (w ∷ ws) (place_words p ++ tail) → w ≡ place_name p
 name_of p w ws tail s = (subst (λ x. SpellWords (w ∷ ws) (x ++ tail)) (words_are p) s).0

@@ -1,11 +1,11 @@
 -- Words of multipliers.
 use Rattle.std.specs.Prelude.{⊤}
-use Rattle.std.proofs.Common.{◌≡◌, ℕ, ◌<◌, ◌≤◌, ℤ, List, [], ◌∷◌, ◌++◌, All, length, map, Result, Ok, Err, refl, sym, subst, ◌∙◌, arith, append_assoc, append-nil, length-append, to_z, of_z, FitsSigned as SFits}
+use Rattle.std.proofs.Common.{◌≡◌, ℕ, ◌<◌, ◌≤◌, ℤ, List, [], ◌∷◌, ◌++◌, All, length, map, Result, Err, refl, sym, subst, ◌∙◌, arith, append_assoc, length-append, to_z, of_z, FitsSigned as SFits}
 use mir.Syntax.{w128}
 use Rattle.std.proofs.lemmas.Int.{to_z-of_z, ints}
 use Rattle.ps_log.specs.Spellings.{Spells}
 use Rattle.ps_log.proofs.Spelled.{value_of_spelling}
-use Rattle.std.proofs.lemmas.List.Elements.{All-cons, All-nil}
+use Rattle.std.proofs.lemmas.List.Elements.{All-cons}
 use Rattle.ps_log.proofs.StepShapes.{first_in, rest_in}
 use Rattle.ps_answer.specs.Faults.{first_of}
 use Rattle.ps_answer.specs.Items.{IsPrintable}

@@ -15,6 +15,7 @@ use Rattle.ps_log.specs.declared.line_error.LineError.TheVariants as why
 use Rattle.ps_log.proofs.LineAnswers.{AreTexts, first-unique, lacks-all}
 use Rattle.ps_log.proofs.StepAnswers.{step_texts}
 use Rattle.ps_log.proofs.GoalAnswers.{goal_texts}
+use Rattle.ps_answer.proofs.OneItem.{numbers_spelled}
 use Rattle.ps_answer.proofs.Cuts.{no_cut_at}
 use Rattle.ps_answer.specs.Words.{Letters, Number, SpellWords}
 use Rattle.ps_answer.specs.Items.{item_words, IsWithin}
@@ -64,12 +65,6 @@ module _ {X : Type 0} {fits : ℕ → Bool} {IsText : List ℕ → X → Type 0}
   text_read (Err why.TooLarge) h =
       (mk h.of, k.said text h.of (subst (λ l. IsText l h.of) (sym (same h.line h.rest h.first)) h.text), k.fits h.of, λ w. h.past (k.back h.of w))
   text_read (Err why.NoMemory) h = k.takes (words_of text)
-
-numbers_spelled : (ws : List (List ℕ)) (zs : List ℤ) → SpellWords ws (map Number zs) → SpellAll ws zs
-numbers_spelled [] [] s = tt
-numbers_spelled [] (z ∷ zs) s = absurd s
-numbers_spelled (w ∷ ws) [] s = absurd s
-numbers_spelled (w ∷ ws) (z ∷ zs) s = (s.0, numbers_spelled ws zs s.1)
 
 spelled_numbers : (ws : List (List ℕ)) (zs : List ℤ) → SpellAll ws zs → SpellWords ws (map Number zs)
 spelled_numbers [] [] s = tt

@@ -8,6 +8,5 @@ pub mod Kinds
 pub mod Ratios
 pub mod Rows
 pub mod Truths
-pub mod Sides
 pub mod Places
 pub mod Texts

@@ -1,17 +1,13 @@
 -- The parts of a fraction.
 use Rattle.std.specs.Prelude.{ℕ, ◌≡◌, ◌≤◌, ◌<◌, ◌^◌, ℤ, pos, ◌≤ℤ◌, List, Result, Ok, Err, unsigned_abs, ⊤}
 use Rattle.std.specs.Int.{IsGcd}
-use Rattle.ps_log.specs.Spellings.{IsDecimal, Spells}
+use Rattle.ps_log.specs.Spellings.{IsDecimal}
 use Rattle.ps_answer.specs.declared.item.Ratio.{Ratio}
 use Rattle.ps_answer.specs.Items.{IsReducedWithin, IsRatioWithin}
 use Rattle.ps_answer.specs.Words.{Fraction}
 use Rattle.ps_line.specs.declared.line_fault.LineFault.{LineFault}
 use Rattle.ps_line.specs.declared.line_fault.LineFault.TheVariants.{NotCanonical}
 use Rattle.ps_line.specs.Read.{IsRead, IsWordRead, both}
-
--- a numerator that asks this is read
-abbrev pub IsOver : (ℤ → Type 0) → ℕ → List ℕ → Result ℤ LineFault → Type 0
-IsOver Asks limit word result = IsRead (λ z. Spells word z × Asks z) (λ z. unsigned_abs z ≤ limit) result
 
 -- a denominator is read
 abbrev pub IsUnder : ℕ → List ℕ → Result ℕ LineFault → Type 0

@@ -11,7 +11,7 @@ use crate::heads::{dual, entry, model, multipliers, report, trace};
 use crate::line_fault::LineFault;
 use crate::openings::{answer, cause, event, query, side, verdict};
 use crate::texts::{goal, step};
-use crate::words::Words;
+use crate::words::{Words, is};
 use ps_answer::{LineItem, Part};
 use std::alloc::Global;
 
@@ -58,28 +58,20 @@ fn is_due(part: Part, word: &[u8]) -> bool
     ensures { result ≡ list_any (λ w. bytes_eq word.now w) (first_words part) }
 {
     match part {
-        Part::AReport => same(word, b"report"),
-        Part::AVerdict => {
-            same(word, b"consistent") || same(word, b"inconsistent") || same(word, b"open")
-        }
-        Part::AModel => same(word, b"model"),
-        Part::AnEntry => same(word, b"w"),
-        Part::ADual => same(word, b"dual"),
-        Part::SomeRows => same(word, b"y"),
-        Part::AStep => same(word, b"s"),
-        Part::AGoal => same(word, b"g"),
-        Part::ACause => same(word, b"open"),
-        Part::ATrace => same(word, b"t"),
-        Part::AnEvent => same(word, b"p") || same(word, b"c"),
-        Part::AnAnswer => same(word, b"bounds") || same(word, b"impossible") || same(word, b"open"),
-        Part::ASide { upper: false } => same(word, b"lower"),
-        Part::ASide { upper: true } => same(word, b"upper"),
-        Part::AQuery { .. } => same(word, b"query") || same(word, b"end"),
+        Part::AReport => is(word, b"report"),
+        Part::AVerdict => is(word, b"consistent") || is(word, b"inconsistent") || is(word, b"open"),
+        Part::AModel => is(word, b"model"),
+        Part::AnEntry => is(word, b"w"),
+        Part::ADual => is(word, b"dual"),
+        Part::SomeRows => is(word, b"y"),
+        Part::AStep => is(word, b"s"),
+        Part::AGoal => is(word, b"g"),
+        Part::ACause => is(word, b"open"),
+        Part::ATrace => is(word, b"t"),
+        Part::AnEvent => is(word, b"p") || is(word, b"c"),
+        Part::AnAnswer => is(word, b"bounds") || is(word, b"impossible") || is(word, b"open"),
+        Part::ASide { upper: false } => is(word, b"lower"),
+        Part::ASide { upper: true } => is(word, b"upper"),
+        Part::AQuery { .. } => is(word, b"query") || is(word, b"end"),
     }
-}
-
-fn same(word: &[u8], text: &[u8]) -> bool
-    ensures { result ≡ bytes_eq word.now text.now }
-{
-    word == text
 }

@@ -1,5 +1,5 @@
 //! Words that say a number, a column, an operation or a fraction.
-ghost use Rattle.std.specs.Prelude.{◌≡◌, ◌≤◌, ◌<◌, ◌≤ℤ◌, ◌^◌, pos, ⊤};
+ghost use Rattle.std.specs.Prelude.{◌≡◌, ◌≤◌, ◌≤ℤ◌, pos, ⊤};
 ghost use Rattle.ps_answer.specs.Items.{count, IsPrintable, IsColWithin, IsShownWithin, shown_word};
 ghost use Rattle.ps_answer.specs.Items.{op_word};
 ghost use Rattle.ps_answer.specs.declared.limits.TheConstants.{MOST_ROW, MOST_WORLD, MOST_QUERIES};
@@ -20,20 +20,14 @@ use ps_table::TableCol;
 pub(crate) fn count(word: &[u8], limit: u64) -> Result<u64, LineFault>
     ensures { IsWordRead (λ n. count n) (λ n. ⊤) (λ n. n ≤ limit) word.now result }
 {
-    match count_up_to(u128::from(limit), word) {
-        Ok(n) => Ok(n as u64),
-        Err(why) => Err(why),
-    }
+    Ok(count_up_to(u128::from(limit), word)? as u64)
 }
 
 /// The number of a row or of its home, up to 100.
 pub(crate) fn row(word: &[u8]) -> Result<u32, LineFault>
     ensures { IsWordRead (λ n. count n) (λ n. ⊤) (λ n. n ≤ MOST_ROW) word.now result }
 {
-    match count_up_to(MOST_ROW, word) {
-        Ok(n) => Ok(n as u32),
-        Err(why) => Err(why),
-    }
+    Ok(count_up_to(MOST_ROW, word)? as u32)
 }
 
 /// A number up to 2^90 in size.
@@ -47,10 +41,7 @@ pub(crate) fn number(word: &[u8]) -> Result<i128, LineFault>
 pub(crate) fn amount(word: &[u8]) -> Result<i128, LineFault>
     ensures { IsWordRead (λ z. Number z) (λ z. pos 0 ≤ℤ z) IsPrintable word.now result }
 {
-    match count_up_to(PRINTED_LIMIT, word) {
-        Ok(n) => Ok(n as i128),
-        Err(why) => Err(why),
-    }
+    Ok(count_up_to(PRINTED_LIMIT, word)? as i128)
 }
 
 /// The version of a report.
@@ -110,19 +101,14 @@ pub(crate) fn column(word: &[u8]) -> Result<Col, LineFault>
 fn home(digits: &[u8]) -> Result<Col, LineFault>
     ensures { IsHome digits.now result }
 {
-    match count_up_to(MOST_ROW, digits) {
-        Ok(n) => Ok(Col::Home(n as u32)),
-        Err(why) => Err(why),
-    }
+    Ok(Col::Home(count_up_to(MOST_ROW, digits)? as u32))
 }
 
 fn world(digits: &[u8]) -> Result<Col, LineFault>
     ensures { IsWorld digits.now result }
 {
-    match count_up_to(MOST_WORLD, digits) {
-        Ok(n) => numbered_world(n),
-        Err(why) => Err(why),
-    }
+    let n = count_up_to(MOST_WORLD, digits)?;
+    numbered_world(n)
 }
 
 fn numbered_world(n: u128) -> Result<Col, LineFault>
@@ -143,10 +129,7 @@ pub(crate) fn shown(word: &[u8]) -> Result<TableCol, LineFault>
     if is(word, b"r") {
         return Ok(TableCol::Right);
     }
-    match column(word) {
-        Ok(c) => Ok(TableCol::Of(c)),
-        Err(why) => Err(why),
-    }
+    Ok(TableCol::Of(column(word)?))
 }
 
 /// An operation.

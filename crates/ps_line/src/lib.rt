@@ -20,3 +20,4 @@ mod words;
 
 pub use error::LineError;
 pub use line::read_line;
+pub use ratio::reduced;

@@ -1,5 +1,5 @@
 //! The line at the front of some bytes.
-ghost use Rattle.std.specs.Prelude.{◌≡◌, ◌<◌, IfOk, IfErr, IfSome, IfNone, length};
+ghost use Rattle.std.specs.Prelude.{IfOk, IfErr, IfSome, IfNone};
 ghost use Rattle.ps_log.specs.FirstLines.{IsFirstLine, IsOneLine};
 ghost use Rattle.ps_line.specs.Lines.{TakesLine, IsLineFault};
 
@@ -7,6 +7,7 @@ use crate::error::LineError;
 use crate::item::{is_begun, item};
 use crate::line_fault::LineFault;
 use ps_answer::{LineItem, LineKind, Part};
+use ps_log::split_once;
 use std::alloc::Global;
 
 /// Reads the line at the front, where a part is due: what it says, and the bytes that follow it.
@@ -35,8 +36,5 @@ fn split_line(bytes: &[u8]) -> Option<(&[u8], &[u8])>
     ensures found { IfSome result (λ r. IsFirstLine bytes.now r.0.now r.1.now) }
     ensures none { IfNone result (IsOneLine bytes.now) }
 {
-    match bytes.iter().position(|b| *b == b'\n') {
-        Some(i) => Some((&bytes[..i], &bytes[i + 1..])),
-        None => None,
-    }
+    split_once(bytes, b'\n')
 }

@@ -1,9 +1,10 @@
 //! Numbers of any size, cut off past every limit.
-ghost use Rattle.std.specs.Prelude.{◌≡◌, ◌≤◌, ◌<◌, ◌∷◌, ◌+◌, ◌*◌, ◌^◌, ℕ, List as Bytes, All};
+ghost use Rattle.std.specs.Prelude.{◌≡◌, ◌≤◌, ◌<◌, ◌∷◌, ◌+◌, ◌*◌, ℕ, List as Bytes, All};
 ghost use Rattle.std.specs.Prelude.{IfSome};
 ghost use Rattle.std.specs.Char.{digit_value};
 ghost use Rattle.std.specs.Str.Parse.{digits_value};
-ghost use Rattle.ps_line.specs.Numerals.{cut_size, IsSize, IsCountUpTo, IsNumberUpTo};
+ghost use Rattle.ps_answer.specs.declared.limits.TheConstants.{MOST_OPERAND};
+ghost use Rattle.ps_line.specs.Numerals.{capped_size, IsSize, IsCountUpTo, IsNumberUpTo};
 
 use crate::line_fault::LineFault;
 use ps_answer::MOST_OPERAND;
@@ -15,7 +16,7 @@ const CAP: u128 = MOST_OPERAND + 1;
 // The size that a word spells, if it spells one: digits without a leading zero.
 fn size(word: &[u8]) -> Option<u128>
     ensures size { IsSize word.now result }
-    ensures within { IfSome result (λ n. n ≤ 2 ^ 127) }
+    ensures within { IfSome result (λ n. n ≤ MOST_OPERAND + 1) }
 {
     if is_plain(word) {
         Some(value(word))
@@ -26,7 +27,7 @@ fn size(word: &[u8]) -> Option<u128>
 
 fn value(digits: &[u8]) -> u128
     requires { All (λ b. digit_value b < 10) digits.now }
-    ensures { result ≡ cut_size (digits_value 10 digits.now) }
+    ensures { result ≡ capped_size (digits_value 10 digits.now) }
 {
     let mut value = 0;
     for digit in digits {
@@ -37,14 +38,14 @@ fn value(digits: &[u8]) -> u128
 
 // Ten times the value and the digit; past every limit it stays there.
 fn one_more_digit(value: u128, digit: u8) -> u128
-    ensures { result ≡ cut_size (10 * value + digit) }
+    ensures { result ≡ capped_size (10 * value + digit) }
 {
     CAP.min(value.saturating_mul(10).saturating_add(u128::from(digit)))
 }
 
 /// A number that is no less than 0, up to a limit.
 pub(crate) fn count_up_to(limit: u128, word: &[u8]) -> Result<u128, LineFault>
-    requires { limit < 2 ^ 127 }
+    requires { limit ≤ MOST_OPERAND }
     ensures { IsCountUpTo limit word.now result }
 {
     match size(word) {
@@ -56,7 +57,7 @@ pub(crate) fn count_up_to(limit: u128, word: &[u8]) -> Result<u128, LineFault>
 
 /// A number up to a limit in size.
 pub(crate) fn number_up_to(limit: u128, word: &[u8]) -> Result<i128, LineFault>
-    requires { limit < 2 ^ 127 }
+    requires { limit ≤ MOST_OPERAND }
     ensures { IsNumberUpTo limit word.now result }
 {
     match without_minus(word) {
@@ -66,23 +67,19 @@ pub(crate) fn number_up_to(limit: u128, word: &[u8]) -> Result<i128, LineFault>
 }
 
 fn positive_up_to(limit: u128, word: &[u8]) -> Result<i128, LineFault>
-    requires limit { limit < 2 ^ 127 }
+    requires limit { limit ≤ MOST_OPERAND }
     requires no_minus { (rest : Bytes ℕ) → word.now ≡ 45 ∷ rest → ⊥ }
     ensures { IsNumberUpTo limit word.now result }
 {
-    match count_up_to(limit, word) {
-        Ok(n) => Ok(n as i128),
-        Err(why) => Err(why),
-    }
+    Ok(count_up_to(limit, word)? as i128)
 }
 
 fn negative_up_to(limit: u128, digits: &[u8]) -> Result<i128, LineFault>
-    requires { limit < 2 ^ 127 }
+    requires { limit ≤ MOST_OPERAND }
     ensures { IsNumberUpTo limit (45 ∷ digits.now) result }
 {
-    match count_up_to(limit, digits) {
-        Ok(0) => Err(LineFault::NotCanonical),
-        Ok(n) => Ok(-(n as i128)),
-        Err(why) => Err(why),
+    match count_up_to(limit, digits)? {
+        0 => Err(LineFault::NotCanonical),
+        n => Ok(-(n as i128)),
     }
 }

@@ -5,7 +5,7 @@ ghost use Rattle.ps_answer.specs.ExpectedParts.{first_words};
 ghost use Rattle.ps_answer.specs.declared.part.Part.TheVariants as part;
 ghost use Rattle.ps_line.specs.Cursor.{words_in};
 ghost use Rattle.ps_line.specs.Read.{IsItemRead};
-ghost use Rattle.ps_line.specs.Sides.{side_letters};
+ghost use Rattle.ps_answer.specs.Words.{side_letters};
 
 use crate::both::both;
 use crate::heads::{pivot, priced};

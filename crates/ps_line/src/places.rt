@@ -1,5 +1,5 @@
 //! Places of the solver, behind their names.
-ghost use Rattle.std.specs.Prelude.{◌≡◌, ◌∷◌, codes};
+ghost use Rattle.std.specs.Prelude.{◌∷◌, codes};
 ghost use Rattle.ps_line.specs.Cursor.{words_in};
 ghost use Rattle.ps_line.specs.Places.{IsPlaceRead};
 
@@ -9,6 +9,7 @@ use crate::line_fault::LineFault;
 use crate::words::Words;
 use ps_table::Place;
 
+/// The row behind `ratio`.
 pub(crate) fn ratio(words: &mut Words<'_>) -> Result<Place, LineFault>
     ensures { IsPlaceRead (codes "ratio" ∷ words_in words.old) (words_in words.new) result }
 {
@@ -16,6 +17,7 @@ pub(crate) fn ratio(words: &mut Words<'_>) -> Result<Place, LineFault>
     Ok(Place::Ratio { row })
 }
 
+/// The column behind `scale`.
 pub(crate) fn scale(words: &mut Words<'_>) -> Result<Place, LineFault>
     ensures { IsPlaceRead (codes "scale" ∷ words_in words.old) (words_in words.new) result }
 {
@@ -23,6 +25,7 @@ pub(crate) fn scale(words: &mut Words<'_>) -> Result<Place, LineFault>
     Ok(Place::Scale { col })
 }
 
+/// The row and the column behind `times`.
 pub(crate) fn times(words: &mut Words<'_>) -> Result<Place, LineFault>
     ensures { IsPlaceRead (codes "times" ∷ words_in words.old) (words_in words.new) result }
 {
@@ -32,6 +35,7 @@ pub(crate) fn times(words: &mut Words<'_>) -> Result<Place, LineFault>
     Ok(Place::Times { row, col })
 }
 
+/// The row and the column behind `minus`.
 pub(crate) fn minus(words: &mut Words<'_>) -> Result<Place, LineFault>
     ensures { IsPlaceRead (codes "minus" ∷ words_in words.old) (words_in words.new) result }
 {
@@ -41,6 +45,7 @@ pub(crate) fn minus(words: &mut Words<'_>) -> Result<Place, LineFault>
     Ok(Place::Minus { row, col })
 }
 
+/// The column and the row behind `cost`.
 pub(crate) fn cost(words: &mut Words<'_>) -> Result<Place, LineFault>
     ensures { IsPlaceRead (codes "cost" ∷ words_in words.old) (words_in words.new) result }
 {
@@ -50,6 +55,7 @@ pub(crate) fn cost(words: &mut Words<'_>) -> Result<Place, LineFault>
     Ok(Place::Cost { col, row })
 }
 
+/// The row behind `whole`.
 pub(crate) fn whole(words: &mut Words<'_>) -> Result<Place, LineFault>
     ensures { IsPlaceRead (codes "whole" ∷ words_in words.old) (words_in words.new) result }
 {
@@ -57,6 +63,7 @@ pub(crate) fn whole(words: &mut Words<'_>) -> Result<Place, LineFault>
     Ok(Place::Whole { row })
 }
 
+/// The row behind `scaled`.
 pub(crate) fn scaled(words: &mut Words<'_>) -> Result<Place, LineFault>
     ensures { IsPlaceRead (codes "scaled" ∷ words_in words.old) (words_in words.new) result }
 {
@@ -64,6 +71,7 @@ pub(crate) fn scaled(words: &mut Words<'_>) -> Result<Place, LineFault>
     Ok(Place::Scaled { row })
 }
 
+/// The row behind `weight`.
 pub(crate) fn weight(words: &mut Words<'_>) -> Result<Place, LineFault>
     ensures { IsPlaceRead (codes "weight" ∷ words_in words.old) (words_in words.new) result }
 {
@@ -71,6 +79,7 @@ pub(crate) fn weight(words: &mut Words<'_>) -> Result<Place, LineFault>
     Ok(Place::Weight { row })
 }
 
+/// The row behind `weighed`.
 pub(crate) fn weighed(words: &mut Words<'_>) -> Result<Place, LineFault>
     ensures { IsPlaceRead (codes "weighed" ∷ words_in words.old) (words_in words.new) result }
 {
@@ -78,6 +87,7 @@ pub(crate) fn weighed(words: &mut Words<'_>) -> Result<Place, LineFault>
     Ok(Place::Weighed { row })
 }
 
+/// The row behind `total`.
 pub(crate) fn total(words: &mut Words<'_>) -> Result<Place, LineFault>
     ensures { IsPlaceRead (codes "total" ∷ words_in words.old) (words_in words.new) result }
 {
@@ -85,6 +95,7 @@ pub(crate) fn total(words: &mut Words<'_>) -> Result<Place, LineFault>
     Ok(Place::Total { row })
 }
 
+/// The row and the home behind `new-times`.
 pub(crate) fn new_times(words: &mut Words<'_>) -> Result<Place, LineFault>
     ensures { IsPlaceRead (codes "new-times" ∷ words_in words.old) (words_in words.new) result }
 {
@@ -94,6 +105,7 @@ pub(crate) fn new_times(words: &mut Words<'_>) -> Result<Place, LineFault>
     Ok(Place::NewTimes { row, home })
 }
 
+/// The row and the home behind `new-plus`.
 pub(crate) fn new_plus(words: &mut Words<'_>) -> Result<Place, LineFault>
     ensures { IsPlaceRead (codes "new-plus" ∷ words_in words.old) (words_in words.new) result }
 {

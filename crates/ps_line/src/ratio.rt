@@ -1,26 +1,27 @@
 //! Words that say a fraction.
-ghost use Rattle.std.specs.Prelude.{◌≡◌, Ok, ◌≤◌, ◌<◌, ◌-◌, ◌≤ℤ◌, ◌↔◌, ◌^◌, pos, ℤ, IfSome, IfNone, IsTrue, unsigned_abs};
+ghost use Rattle.std.specs.Prelude.{◌≡◌, Ok, ◌≤◌, ◌<◌, ◌↔◌, ◌^◌, IsTrue, unsigned_abs};
 ghost use Rattle.std.specs.Int.{IsGcd};
 ghost use Rattle.ps_answer.specs.declared.limits.TheConstants.{MOST_OPERAND};
-ghost use Rattle.ps_log.specs.Numbers.{Lacks, IsCut};
 ghost use Rattle.ps_rational.specs.declared.limits.TheConstants.{PRINTED_LIMIT};
-ghost use Rattle.ps_line.specs.Ratios.{IsRatioUpTo, IsValueUpTo, IsOver, IsUnder};
+ghost use Rattle.ps_line.specs.Ratios.{IsRatioUpTo, IsValueUpTo, IsUnder};
 ghost use Rattle.ps_line.specs.Ratios.{IsLowest, IsLowestOf, AreParts};
 ghost use Rattle.ps_rational.specs.Rational.{fraction};
 
 use crate::both::both;
+use crate::kinds::amount;
 use crate::line_fault::LineFault;
 use crate::numeral::{count_up_to, number_up_to};
 use ps_answer::{MOST_OPERAND, Ratio};
 use ps_frac::Fraction;
+use ps_log::split_once;
 use ps_rational::PRINTED_LIMIT;
 
 /// The value of a side: no less than 0, with numbers up to 2^90.
 pub(crate) fn value(word: &[u8]) -> Result<Ratio, LineFault>
     ensures { IsValueUpTo PRINTED_LIMIT word.now result }
 {
-    match split_slash(word) {
-        Some((over, under)) => lowest(amount_of(over), positive(PRINTED_LIMIT, under)),
+    match split_once(word, b'/') {
+        Some((over, under)) => lowest(amount(over), positive(PRINTED_LIMIT, under)),
         None => Err(LineFault::NotCanonical),
     }
 }
@@ -29,7 +30,7 @@ pub(crate) fn value(word: &[u8]) -> Result<Ratio, LineFault>
 pub(crate) fn operand(word: &[u8]) -> Result<Ratio, LineFault>
     ensures { IsRatioUpTo MOST_OPERAND word.now result }
 {
-    match split_slash(word) {
+    match split_once(word, b'/') {
         Some((over, under)) => {
             lowest(
                 number_up_to(MOST_OPERAND, over),
@@ -40,34 +41,14 @@ pub(crate) fn operand(word: &[u8]) -> Result<Ratio, LineFault>
     }
 }
 
-fn split_slash(bytes: &[u8]) -> Option<(&[u8], &[u8])>
-    ensures found { IfSome result (λ r. IsCut bytes.now 47 r.0.now r.1.now) }
-    ensures none { IfNone result (Lacks 47 bytes.now) }
-{
-    match bytes.iter().position(|b| *b == b'/') {
-        Some(i) => Some((&bytes[..i], &bytes[i + 1..])),
-        None => None,
-    }
-}
-
-fn amount_of(word: &[u8]) -> Result<i128, LineFault>
-    ensures { IsOver (λ z. pos 0 ≤ℤ z) PRINTED_LIMIT word.now result }
-{
-    match count_up_to(PRINTED_LIMIT, word) {
-        Ok(n) => Ok(n as i128),
-        Err(why) => Err(why),
-    }
-}
-
 // A denominator: at least 1.
 fn positive(limit: u128, word: &[u8]) -> Result<u128, LineFault>
-    requires { limit < 2 ^ 127 }
+    requires { limit ≤ MOST_OPERAND }
     ensures { IsUnder limit word.now result }
 {
-    match count_up_to(limit, word) {
-        Ok(0) => Err(LineFault::NotCanonical),
-        Ok(n) => Ok(n),
-        Err(why) => Err(why),
+    match count_up_to(limit, word)? {
+        0 => Err(LineFault::NotCanonical),
+        n => Ok(n),
     }
 }
 
@@ -76,10 +57,8 @@ fn lowest(over: Result<i128, LineFault>, under: Result<u128, LineFault>) -> Resu
     requires { AreParts over under }
     ensures { IsLowest over under result }
 {
-    match both(over, under) {
-        Ok((over, under)) => lowest_of(&over, &under),
-        Err(why) => Err(why),
-    }
+    let (over, under) = both(over, under)?;
+    lowest_of(&over, &under)
 }
 
 fn lowest_of(over: &i128, under: &u128) -> Result<Ratio, LineFault>
@@ -108,7 +87,8 @@ fn is_lowest(over: &i128, under: &u128) -> bool
     has_numbers(&fraction, over, under)
 }
 
-fn reduced(over: &i128, under: &u128) -> Fraction
+/// The fraction of two numbers.
+pub fn reduced(over: &i128, under: &u128) -> Fraction
     requires over { unsigned_abs over.now < 2 ^ 127 }
     requires under { under.now < 2 ^ 127 }
     requires positive { 1 ≤ under.now }

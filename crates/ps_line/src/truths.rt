@@ -33,10 +33,7 @@ fn few_truths(alloc: Global, word: &[u8]) -> Result<World, LineFault>
     if MOST_ATOMS < word.len() {
         return Err(LineFault::TooLarge);
     }
-    match truths(alloc, word) {
-        Ok(world) => Ok(world),
-        Err(_) => Err(LineFault::NoMemory),
-    }
+    Ok(truths(alloc, word)?)
 }
 
 fn are_truths(word: &[u8]) -> bool

@@ -1,5 +1,5 @@
 //! Lines of operations that were refused.
-ghost use Rattle.std.specs.Prelude.{◌≡◌, ◌∷◌, codes};
+ghost use Rattle.std.specs.Prelude.{◌∷◌, codes};
 ghost use Rattle.ps_answer.specs.declared.part.Part.TheVariants.{ACause};
 ghost use Rattle.ps_line.specs.Cursor.{words_in};
 ghost use Rattle.ps_line.specs.Places.{IsPlaceRead, IsPrintedPlace};

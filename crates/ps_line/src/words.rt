@@ -1,12 +1,12 @@
 //! Words between spaces.
-ghost use Rattle.std.specs.Prelude.{◌≡◌, ◌↔◌, ◌∷◌, [], IsTrue, IfSome, IfNone, option_copied, ⊤};
+ghost use Rattle.std.specs.Prelude.{◌≡◌, ◌↔◌, [], IsTrue, bytes_eq, ⊤};
 ghost use Rattle.ps_log.specs.Spellings.{words_of};
-ghost use Rattle.ps_log.specs.Numbers.{Lacks, IsCut, words_after};
 ghost use Rattle.ps_answer.specs.Faults.{first_of};
 ghost use Rattle.ps_line.specs.Cursor.{words_in, later};
 ghost use Rattle.ps_line.specs.Read.{AreWordsRead};
 
 use crate::line_fault::LineFault;
+use ps_log::split_word;
 
 /// The words of a line that are still to be read.
 #[derive(Clone, Copy, Debug, Drop)]
@@ -60,27 +60,8 @@ impl<'l> Words<'l> {
 
 /// Whether a word is this text.
 pub(crate) fn is(word: &[u8], text: &[u8]) -> bool
-    ensures { IsTrue result ↔ (word.now ≡ text.now) }
+    ensures equal { IsTrue result ↔ (word.now ≡ text.now) }
+    ensures tested { result ≡ bytes_eq word.now text.now }
 {
     word == text
-}
-
-/// The bytes before the first space, and those after it if there is one.
-fn split_word(text: &[u8]) -> (&[u8], Option<&[u8]>)
-    ensures { words_of text.now ≡ result.0.now ∷ words_after (option_copied result.1) }
-{
-    match split_space(text) {
-        Some((word, after)) => (word, Some(after)),
-        None => (text, None),
-    }
-}
-
-fn split_space(bytes: &[u8]) -> Option<(&[u8], &[u8])>
-    ensures found { IfSome result (λ r. IsCut bytes.now 32 r.0.now r.1.now) }
-    ensures none { IfNone result (Lacks 32 bytes.now) }
-{
-    match bytes.iter().position(|b| *b == b' ') {
-        Some(i) => Some((&bytes[..i], &bytes[i + 1..])),
-        None => None,
-    }
 }

@@ -2,10 +2,10 @@ use Rattle.std.proofs.Common.{refl, sym, subst}
 use Rattle.std.specs.Prelude.{codes}
 use Rattle.ps_log.specs.Spellings.{words_of}
 use Rattle.ps_answer.specs.declared.part.Part.TheVariants as part
+use Rattle.ps_answer.specs.Words.{side_letters}
 use Rattle.ps_line.specs.Cursor.{words_in}
 use Rattle.ps_line.specs.Read.{IsItemRead}
-use Rattle.ps_line.specs.Sides.{side_letters}
-use Rattle.ps_line.proofs.FirstLine.{arm_letters, arm_word, arm_due, side_words}
+use Rattle.ps_line.proofs.FirstLine.{arm_letters, arm_word, arm_due}
 use Rattle.ps_line.proofs.item.item.Goals as goal
 
 pub returns-in-AReport : goal.returns-in-AReport
@@ -54,7 +54,7 @@ pub query-requires : goal.query-requires
 query-requires c = arm_due c.args.part (part.AQuery c.in-AQuery.number) c.args.line.now c.next-word.result.now (words_in c.of-words.result) c.in-AQuery.is c.of-words.ensures c.next-word.ensures.word c.requires.due
 
 pub returns-in-ASide : goal.returns-in-ASide
-returns-in-ASide c = arm_letters c.args.part (part.ASide c.in-ASide.upper) (side_letters c.in-ASide.upper) c.args.line.now (words_in c.of-words.result) (words_in c.next-word.new.self) c.side.result c.in-ASide.is (side_words c.in-ASide.upper) c.requires.due c.of-words.ensures c.next-word.ensures.later c.side.ensures
+returns-in-ASide c = arm_letters c.args.part (part.ASide c.in-ASide.upper) (side_letters c.in-ASide.upper) c.args.line.now (words_in c.of-words.result) (words_in c.next-word.new.self) c.side.result c.in-ASide.is refl c.requires.due c.of-words.ensures c.next-word.ensures.later c.side.ensures
 
 pub returns-in-AStep : goal.returns-in-AStep
 returns-in-AStep c = subst (λ p. IsItemRead p (words_of c.args.line.now) c.step.result) (sym c.in-AStep.is) (c.step.ensures c.args.line.now c.requires.first.0 c.requires.first.1)

@@ -1,5 +1,12 @@
+use Rattle.std.proofs.Common.{subst, sym, ap, ◌∙◌, Err}
+use Rattle.std.proofs.lemmas.Result.{err_from_is_err_and}
+use Rattle.ps_line.specs.Kinds.{IsHome}
+use Rattle.ps_line.specs.Numerals.{IsCountUpTo}
 use Rattle.ps_line.proofs.Cut.{home_refused}
 use Rattle.ps_line.proofs.kinds.home.Goals as goal
 
-pub returns-in-Err : goal.returns-in-Err
-returns-in-Err c = home_refused c.args.digits.now c.in-Err.why c.in-Err.ensures
+pub returns-in_err-count_up_to : goal.returns-in_err-count_up_to
+returns-in_err-count_up_to c =
+    let f = err_from_is_err_and c.from_residual.result c.from_residual.ensures.1 in
+    subst (λ r. IsHome c.args.digits.now r) (sym (f.1 ∙ ap Err f.2))
+    (home_refused c.args.digits.now c.in_err-count_up_to.field-0.0 (subst (λ r. IsCountUpTo 100 c.args.digits.now r) c.in_err-count_up_to.was c.count_up_to.ensures))

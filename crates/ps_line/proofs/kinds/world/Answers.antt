@@ -1,8 +1,15 @@
+use Rattle.std.proofs.Common.{subst, sym, ap, ◌∙◌, Err}
+use Rattle.std.proofs.lemmas.Result.{err_from_is_err_and}
+use Rattle.ps_line.specs.Kinds.{IsWorld}
+use Rattle.ps_line.specs.Numerals.{IsCountUpTo}
 use Rattle.ps_line.proofs.Cut.{world_refused, numbered_world}
 use Rattle.ps_line.proofs.kinds.world.Goals as goal
 
-pub returns-in-Err : goal.returns-in-Err
-returns-in-Err c = world_refused c.args.digits.now c.in-Err.why c.in-Err.ensures
+pub returns-in_err-n : goal.returns-in_err-n
+returns-in_err-n c =
+    let f = err_from_is_err_and c.from_residual.result c.from_residual.ensures.1 in
+    subst (λ r. IsWorld c.args.digits.now r) (sym (f.1 ∙ ap Err f.2))
+    (world_refused c.args.digits.now c.in_err-n.field-0.0 (subst (λ r. IsCountUpTo 1000001 c.args.digits.now r) c.in_err-n.was c.count_up_to.ensures))
 
-pub returns-in-Ok : goal.returns-in-Ok
-returns-in-Ok c = numbered_world c.args.digits.now c.in-Ok.n c.numbered_world.result c.in-Ok.ensures.0 c.in-Ok.ensures.1 c.numbered_world.ensures
+pub returns : goal.returns
+returns c = numbered_world c.args.digits.now c.in_ok-n.n c.numbered_world.result c.in_ok-n.ensures.0 c.in_ok-n.ensures.1 c.numbered_world.ensures

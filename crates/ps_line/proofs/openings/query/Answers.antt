@@ -8,5 +8,5 @@ use Rattle.ps_line.proofs.openings.query.Goals as goal
 
 pub returns : goal.returns
 returns c =
-    let e = second_word c.args.word.now (codes "query") (codes "end") c.requires (λ e. true≢false (sym (c.is.ensures.1 e) ∙ c.if-is.false)) in
+    let e = second_word c.args.word.now (codes "query") (codes "end") c.requires (λ e. true≢false (sym (c.is.ensures.equal.1 e) ∙ c.if-is.false)) in
     subst (λ w. IsItemRead (part.AQuery c.args.due) (w ∷ words_in c.args.words.now) c.end.result) (sym e) (c.end.ensures c.args.due)

@@ -3,7 +3,7 @@ use Rattle.std.proofs.lemmas.Result.{err_from_is_err_and}
 use Rattle.ps_answer.specs.declared.item.LineItem.TheVariants as line
 use Rattle.ps_answer.specs.declared.part.Part.TheVariants as part
 use Rattle.ps_line.specs.Cursor.{words_in}
-use Rattle.ps_line.specs.Sides.{side_letters}
+use Rattle.ps_answer.specs.Words.{side_letters}
 use Rattle.ps_line.proofs.Sequences.{made_ok, made_err}
 use Rattle.ps_line.proofs.OpeningLines.{value_item, open_side_read}
 use Rattle.ps_line.proofs.openings.side.Goals as goal

@@ -8,5 +8,5 @@ use Rattle.ps_line.proofs.openings.verdict.Goals as goal
 
 pub returns : goal.returns
 returns c =
-    let e = third_word c.args.word.now (codes "consistent") (codes "inconsistent") (codes "open") c.requires (λ e. true≢false (sym (c.is.ensures.1 e) ∙ c.if-is.false)) (λ e. true≢false (sym (c.is-2.ensures.1 e) ∙ c.if-is-2.false)) in
+    let e = third_word c.args.word.now (codes "consistent") (codes "inconsistent") (codes "open") c.requires (λ e. true≢false (sym (c.is.ensures.equal.1 e) ∙ c.if-is.false)) (λ e. true≢false (sym (c.is-2.ensures.equal.1 e) ∙ c.if-is-2.false)) in
     subst (λ w. IsItemRead part.AVerdict (w ∷ words_in c.args.words.now) c.cause.result) (sym e) (cause_verdict (words_in c.args.words.now) c.cause.result c.cause.ensures)
