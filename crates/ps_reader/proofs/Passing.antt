@@ -1,11 +1,12 @@
 -- Lines of values pass where their parts are due.
-use Rattle.std.proofs.Common.{◌≡◌, ℕ, suc, ◌+◌, ◌==◌, append-nil, Bool, true, false, List, [], ◌∷◌, ◌++◌, length, map, None, Some, refl, sym, ap, subst, ◌∙◌, arith, append_assoc}
+use Rattle.std.proofs.Common.{◌≡◌, ℕ, suc, ◌+◌, append-nil, Bool, true, false, List, [], ◌∷◌, ◌++◌, length, map, None, Some, refl, sym, ap, subst, ◌∙◌, arith, append_assoc}
 use Rattle.std.specs.Prelude.{if◌then◌else◌}
 use Rattle.std.proofs.lemmas.Option.{none-some}
 use Rattle.ps_steps.specs.Steps.{Step}
 use Rattle.ps_pool.specs.declared.event.Event.{Event}
 use Rattle.ps_pool.specs.declared.event.Event.TheVariants.{Pivot, Priced}
 use Rattle.ps_log.proofs.StepShapes.{head, tail}
+use Rattle.ps_answer.proofs.Dues.{same_number}
 use Rattle.ps_answer.specs.declared.item.Ratio.{Ratio}
 use Rattle.ps_answer.specs.declared.item.LineItem.{LineItem}
 use Rattle.ps_answer.specs.declared.item.LineItem.TheVariants as line
@@ -26,7 +27,7 @@ use Rattle.ps_answer.specs.declared.part.Part.TheVariants.{AVerdict, AModel, AnE
 use Rattle.ps_answer.specs.ExpectedParts.{many, behind, behind_cause, due_behind, and_then}
 use Rattle.ps_line.specs.Read.{Fits}
 use Rattle.ps_reader.specs.Taken.{repeated}
-use Rattle.ps_reader.specs.Reports.{parts_behind, side_lines, IsSideTold, answer_lines, IsPartTold}
+use Rattle.ps_reader.specs.Reports.{parts_behind, traced_items, IsSideTold, query_part_items, IsPartTold}
 use Rattle.ps_reader.proofs.Taking.{due_both, many_more, EachPasses}
 
 -- where these parts are due, and then any others, the lines are due, and then the others
@@ -134,7 +135,7 @@ side_passes upper (side.Open c) es h =
     rest_passes (ASide upper) (ACause ∷ ATrace ∷ []) (line.OpenSide upper) (cause_items c ++ trace_items es) (open_due upper)
     (both_pass (ACause ∷ []) (ATrace ∷ []) (cause_items c) (trace_items es) (cause_passes c h) (trace_passes es))
 
-pub one_side_passes : (upper : Bool) (s : SideAnswer × List Event) → IsSideTold s → Passes (ASide upper ∷ []) (side_lines upper s)
+pub one_side_passes : (upper : Bool) (s : SideAnswer × List Event) → IsSideTold s → Passes (ASide upper ∷ []) (traced_items upper s)
 one_side_passes upper s h = side_passes upper s.0 s.1 h
 
 -- what is answered to a query
@@ -154,13 +155,10 @@ query_passes (query.Open (Pivots limit)) es h = λ due. open_passes (Pivots limi
 query_passes (query.Open (Conflicts limit goal steps)) es h = λ due. open_passes (Conflicts limit goal steps) es h due
 query_passes (query.Open (Wide at)) es h = λ due. open_passes (Wide at) es h due
 
-pub part_passes : (p : QueryPart) → IsPartTold p → Passes (AnAnswer ∷ []) (answer_lines p)
+pub part_passes : (p : QueryPart) → IsPartTold p → Passes (AnAnswer ∷ []) (query_part_items p)
 part_passes p h = query_passes p.answer p.first h
 
 -- queries in their order
-same_number : (j : ℕ) → (j == j) ≡ true
-same_number j = grind arith
-
 pub query_due : (j : ℕ) (due : List Part) → behind (AQuery j) (line.Query j) due ≡ Some ((AnAnswer ∷ AQuery (suc j) ∷ []) ++ due)
 unfolding behind
 query_due j due = ap (λ t. if t then Some (AnAnswer ∷ AQuery (suc j) ∷ due) else None) (same_number j)
@@ -168,16 +166,16 @@ query_due j due = ap (λ t. if t then Some (AnAnswer ∷ AQuery (suc j) ∷ due)
 pub parts_due : (j : ℕ) (ps : List QueryPart) → ArePartsCounted ps → (due : List Part) → due_behind (AQuery j ∷ due) (part_items j ps) ≡ Some (AQuery (j + length ps) ∷ due)
 parts_due j [] h due = ap (λ n. Some (AQuery n ∷ due)) (omega arith)
 parts_due j (p ∷ ps) h due =
-    ap (λ r. and_then r (λ more. due_behind more (answer_lines p ++ part_items (suc j) ps))) (query_due j due)
-    ∙ due_both (AnAnswer ∷ AQuery (suc j) ∷ due) (AQuery (suc j) ∷ due) (answer_lines p) (part_items (suc j) ps) (part_passes p h.0 (AQuery (suc j) ∷ due))
+    ap (λ r. and_then r (λ more. due_behind more (query_part_items p ++ part_items (suc j) ps))) (query_due j due)
+    ∙ due_both (AnAnswer ∷ AQuery (suc j) ∷ due) (AQuery (suc j) ∷ due) (query_part_items p) (part_items (suc j) ps) (part_passes p h.0 (AQuery (suc j) ∷ due))
     ∙ parts_due (suc j) ps h.1 due
     ∙ ap (λ n. Some (AQuery n ∷ due)) (omega arith)
 
-pub parts_push : (j : ℕ) (ps : List QueryPart) (p : QueryPart) → part_items j (ps ++ p ∷ []) ≡ part_items j ps ++ (line.Query (j + length ps) ∷ answer_lines p)
-parts_push j [] p = ap (λ l. line.Query j ∷ l) (append-nil (answer_lines p)) ∙ ap (λ n. line.Query n ∷ answer_lines p) (omega arith)
+pub parts_push : (j : ℕ) (ps : List QueryPart) (p : QueryPart) → part_items j (ps ++ p ∷ []) ≡ part_items j ps ++ (line.Query (j + length ps) ∷ query_part_items p)
+parts_push j [] p = ap (λ l. line.Query j ∷ l) (append-nil (query_part_items p)) ∙ ap (λ n. line.Query n ∷ query_part_items p) (omega arith)
 parts_push j (q ∷ ps) p =
-    ap (λ l. line.Query j ∷ answer_lines q ++ l) (parts_push (suc j) ps p ∙ ap (λ n. part_items (suc j) ps ++ (line.Query n ∷ answer_lines p)) (omega arith))
-    ∙ ap (λ l. line.Query j ∷ l) (sym (append_assoc (answer_lines q) (part_items (suc j) ps) (line.Query (j + suc (length ps)) ∷ answer_lines p)))
+    ap (λ l. line.Query j ∷ query_part_items q ++ l) (parts_push (suc j) ps p ∙ ap (λ n. part_items (suc j) ps ++ (line.Query n ∷ query_part_items p)) (omega arith))
+    ∙ ap (λ l. line.Query j ∷ l) (sym (append_assoc (query_part_items q) (part_items (suc j) ps) (line.Query (j + suc (length ps)) ∷ query_part_items p)))
 
 pub counted_push : (ps : List QueryPart) (p : QueryPart) → ArePartsCounted ps → IsPartTold p → ArePartsCounted (ps ++ p ∷ [])
 counted_push [] p h k = (k, tt)

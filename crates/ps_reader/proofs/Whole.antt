@@ -13,13 +13,13 @@ use Rattle.ps_answer.specs.declared.answer.QueryPart.{QueryPart}
 use Rattle.ps_answer.specs.declared.answer.Answer.{Answer}
 use Rattle.ps_answer.specs.Answers.{verdict_items, trace_items, part_items, answer_items, IsVerdictCounted, ArePartsCounted, IsAnswerCounted}
 use Rattle.ps_answer.specs.ExpectedParts.{behind, at_start}
-use Rattle.ps_answer.specs.Faults.{BeginWith, IsReport, IsFirstFault}
+use Rattle.ps_answer.specs.Faults.{BeginWith, IsFirstFault}
 use Rattle.ps_answer.proofs.Dues.{answer_due}
 use Rattle.ps_line.specs.Read.{Fits}
 use Rattle.ps_reader.specs.declared.lines.Lines.{Lines}
 use Rattle.ps_reader.specs.Taken.{left_in, Takes, FaultAt, IsStopped, IsMore}
 use Rattle.ps_reader.specs.Errors.{LacksAt, TellsFault}
-use Rattle.ps_reader.specs.Reports.{answer_lines, IsPartTold, parts_lines}
+use Rattle.ps_reader.specs.Reports.{query_part_items, IsPartTold, parts_and_end_items}
 use Rattle.ps_reader.proofs.Taking.{takes_both, fault_later, stopped_later, stopped_more, stopped_behind}
 use Rattle.ps_reader.proofs.Passing.{Passes, both_pass, trace_passes, verdict_passes, query_due, parts_due, parts_push, counted_push}
 use Rattle.ps_reader.proofs.Rests.{stopped_after}
@@ -37,11 +37,11 @@ pub part_stopped : (a b c : Lines) (ps : List QueryPart) (number : ℕ) (e : Rep
 part_stopped a b c ps number e p t s =
     query_stopped a b ps number e p (stopped_behind b c (line.Query number) (AQuery number) (AnAnswer ∷ AQuery (suc number) ∷ []) e t (query_due number) (stopped_more c (AnAnswer ∷ []) (AQuery (suc number) ∷ []) e s))
 
-pub part_more : (a b c d : Lines) (ps qs : List QueryPart) (x : QueryPart) (number next : ℕ) → PartsSoFar a b ps number → Takes b c (line.Query number ∷ []) → Takes c d (answer_lines x) → IsPartTold x → qs ≡ ps ++ x ∷ [] → next ≡ number + 1
+pub part_more : (a b c d : Lines) (ps qs : List QueryPart) (x : QueryPart) (number next : ℕ) → PartsSoFar a b ps number → Takes b c (line.Query number ∷ []) → Takes c d (query_part_items x) → IsPartTold x → qs ≡ ps ++ x ∷ [] → next ≡ number + 1
     → PartsSoFar a d qs next
 part_more a b c d ps qs x number next p t u h e f = subst (λ l. PartsSoFar a d l next) (sym e) (record {
-  taken = subst (λ l. Takes a d l) (sym (parts_push 1 ps x ∙ ap (λ n. part_items 1 ps ++ (line.Query n ∷ answer_lines x)) (sym p.next)))
-      (takes_both a b d (part_items 1 ps) (line.Query number ∷ answer_lines x) p.taken (takes_both b c d (line.Query number ∷ []) (answer_lines x) t u));
+  taken = subst (λ l. Takes a d l) (sym (parts_push 1 ps x ∙ ap (λ n. part_items 1 ps ++ (line.Query n ∷ query_part_items x)) (sym p.next)))
+      (takes_both a b d (part_items 1 ps) (line.Query number ∷ query_part_items x) p.taken (takes_both b c d (line.Query number ∷ []) (query_part_items x) t u));
   counted = counted_push ps x p.counted h;
   next = omega (arith, f, p.next, length_push ps);
 })
@@ -50,7 +50,7 @@ part_more a b c d ps qs x number next p t u h e f = subst (λ l. PartsSoFar a d 
     length_push [] = refl
     length_push (y ∷ ys) = ap suc (length_push ys)
 
-pub parts_end : (a b c : Lines) (ps : List QueryPart) (number : ℕ) → PartsSoFar a b ps number → Takes b c (line.End ∷ []) → Takes a c (parts_lines ps)
+pub parts_end : (a b c : Lines) (ps : List QueryPart) (number : ℕ) → PartsSoFar a b ps number → Takes b c (line.End ∷ []) → Takes a c (parts_and_end_items ps)
 parts_end a b c ps number p t = takes_both a b c (part_items 1 ps) (line.End ∷ []) p.taken t
 
 -- the pieces of an answer
@@ -80,11 +80,11 @@ no_parts a b c d v es e t u h w s =
     (both_pass (AReport ∷ []) (AVerdict ∷ ATrace ∷ []) (line.Report ∷ []) (verdict_items v ++ trace_items es) report_passes
     (both_pass (AVerdict ∷ []) (ATrace ∷ []) (verdict_items v) (trace_items es) (verdict_passes v h) (trace_passes es))) s
 
-pub all_taken : (a b c d z : Lines) (x : Answer) → Takes a b (line.Report ∷ []) → Takes b c (verdict_items x.verdict) → Takes c d (trace_items x.first) → Takes d z (parts_lines x.parts) → Takes a z (answer_items x)
+pub all_taken : (a b c d z : Lines) (x : Answer) → Takes a b (line.Report ∷ []) → Takes b c (verdict_items x.verdict) → Takes c d (trace_items x.first) → Takes d z (parts_and_end_items x.parts) → Takes a z (answer_items x)
 unfolding answer_items
 all_taken a b c d z x t u w p =
-    takes_both a b z (line.Report ∷ []) (verdict_items x.verdict ++ (trace_items x.first ++ parts_lines x.parts)) t
-    (takes_both b c z (verdict_items x.verdict) (trace_items x.first ++ parts_lines x.parts) u (takes_both c d z (trace_items x.first) (parts_lines x.parts) w p))
+    takes_both a b z (line.Report ∷ []) (verdict_items x.verdict ++ (trace_items x.first ++ parts_and_end_items x.parts)) t
+    (takes_both b c z (verdict_items x.verdict) (trace_items x.first ++ parts_and_end_items x.parts) u (takes_both c d z (trace_items x.first) (parts_and_end_items x.parts) w p))
 
 first_fault : (bytes : List ℕ) (a : Lines) (kind : LineKind) (line : ℕ) → left_in a ≡ bytes → a.taken ≡ 0 → FaultAt a at_start kind line → IsFirstFault bytes kind line
 first_fault bytes a kind line l z f = record {

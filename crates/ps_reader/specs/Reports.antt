@@ -40,39 +40,39 @@ pub record IsGood (i : LineItem) : Type 0 where
   pub within : IsWithin i
 
 -- a side with its trace
-abbrev pub side_lines : Bool → SideAnswer × List Event → List LineItem
-side_lines upper s = side_items upper s.0 s.1
+abbrev pub traced_items : Bool → SideAnswer × List Event → List LineItem
+traced_items upper s = side_items upper s.0 s.1
 
 -- the rest of a side is read, lower and upper alike
 abbrev pub IsSideRest : (Bool → LineItem) → Lines → Lines → Result (SideAnswer × List Event) ReportError → Type 0
-IsSideRest first old new result = (upper : Bool) → IsRestRead (first upper) (side_lines upper) old new result
+IsSideRest first old new result = (upper : Bool) → IsRestRead (first upper) (traced_items upper) old new result
 
 -- a side that is open for conflicts has as many steps as their limit
 abbrev pub IsSideTold : SideAnswer × List Event → Type 0
 IsSideTold s = IsSideCounted s.0
 
 -- a query's answer with the trace of its first phase
-abbrev pub answer_lines : QueryPart → List LineItem
-answer_lines p = query_items p.answer p.first
+abbrev pub query_part_items : QueryPart → List LineItem
+query_part_items p = query_items p.answer p.first
 
 -- the rest of an open answer is read, whose cause begins so: the parts of the cause, and a trace
 abbrev pub IsOpenRest : LineItem → Lines → Lines → Result QueryPart ReportError → Type 0
-IsOpenRest i old new result = IsReadBehind i answer_lines (parts_behind i ++ ATrace ∷ []) old new result
+IsOpenRest i old new result = IsReadBehind i query_part_items (parts_behind i ++ ATrace ∷ []) old new result
 
 -- an answer to a query that is open for conflicts has as many steps as their limit, and so has each side that is
 abbrev pub IsPartTold : QueryPart → Type 0
 IsPartTold p = IsQueryCounted p.answer
 
 -- the parts from the first on, and the line that ends a report
-abbrev pub parts_lines : List QueryPart → List LineItem
-parts_lines ps = part_items 1 ps ++ line.End ∷ []
+abbrev pub parts_and_end_items : List QueryPart → List LineItem
+parts_and_end_items ps = part_items 1 ps ++ line.End ∷ []
 
--- whether the query of this number begins, or the report ends
-abbrev pub query_line : ℕ → Bool → List LineItem
-query_line j true = line.Query j ∷ []
-query_line j false = line.End ∷ []
+-- the line of the query of this number, or where there is none of the end
+abbrev pub next_items : ℕ → Bool → List LineItem
+next_items j true = line.Query j ∷ []
+next_items j false = line.End ∷ []
 
 -- the number of a query that begins is within the limit
-abbrev pub IsNumbered : ℕ → Bool → Type 0
-IsNumbered j true = j ≤ MOST_QUERIES
-IsNumbered j false = ⊤
+abbrev pub IsNumberWithin : ℕ → Bool → Type 0
+IsNumberWithin j true = j ≤ MOST_QUERIES
+IsNumberWithin j false = ⊤

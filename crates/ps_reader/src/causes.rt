@@ -1,6 +1,5 @@
 //! Causes and verdicts that are read.
-ghost use Rattle.std.specs.Prelude.{◌≡◌, ◌≤◌, ◌<◌, ◌-◌, ◌^◌, ◌∷◌, [], unsigned_abs, IfOk};
-ghost use Rattle.ps_rational.specs.Rational.{fraction as quotient};
+ghost use Rattle.std.specs.Prelude.{◌≡◌, ◌∷◌, [], IfOk};
 ghost use Rattle.ps_answer.specs.Answers.{ratio_of, cause_items, verdict_items, IsCounted, IsVerdictCounted};
 ghost use Rattle.ps_answer.specs.Items.{IsReducedWithin, IsRatioWithin};
 ghost use Rattle.ps_answer.specs.declared.limits.TheConstants.{MOST_OPERAND};
@@ -14,6 +13,7 @@ use crate::lines::Lines;
 use crate::models::{dual, model, steps};
 use ps_answer::{Cause, LineItem, Part, Ratio, ReportError, Verdict};
 use ps_frac::{Fraction, Op};
+use ps_line::reduced;
 use ps_pb::Constraint;
 use ps_table::{Place, WideAt};
 
@@ -89,15 +89,6 @@ pub(crate) fn fraction(ratio: &Ratio) -> Fraction
     ensures { ratio_of result ≡ ratio.now }
 {
     reduced(&ratio.over, &ratio.under)
-}
-
-fn reduced(over: &i128, under: &u128) -> Fraction
-    requires over { unsigned_abs over.now < 2 ^ 127 }
-    requires under { under.now < 2 ^ 127 }
-    requires positive { 1 ≤ under.now }
-    ensures { result ≡ quotient over.now under.now }
-{
-    Fraction::new(*over, *under as i128)
 }
 
 /// What is answered to a problem's sentences.

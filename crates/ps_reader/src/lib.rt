@@ -1,4 +1,4 @@
-//! Reports that are read.
+//! The reader of reports: the answer of a text, line by line, or the first line at fault.
 #![tactic(auto)]
 
 mod causes;

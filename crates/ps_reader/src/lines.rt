@@ -15,7 +15,7 @@ pub(crate) struct Lines<'b> {
 }
 
 impl<'b> Lines<'b> {
-    ghost use Rattle.std.specs.Prelude.{◌≡◌, ◌∷◌, [], IfOk, IfErr};
+    ghost use Rattle.std.specs.Prelude.{◌≡◌, ◌∷◌, [], IfOk, IfErr, OnErr};
     ghost use Rattle.ps_line.specs.Read.{Fits};
     ghost use Rattle.ps_reader.specs.Taken.{Takes, IsStopped, IsMore, left_in};
 
@@ -36,11 +36,12 @@ impl<'b> Lines<'b> {
         self.alloc
     }
 
-    /// Takes a line, where a part is due.
+    /// Takes a line, where a part is due. After an error the lines are as they were.
     pub(crate) fn take(&mut self, part: Part) -> Result<LineItem, ReportError>
         ensures line { IfOk result (λ i. Takes self.old self.new (i ∷ [])) }
         ensures fits { IfOk result (λ i. Fits part i) }
         ensures stopped { IfErr result (λ e. IsStopped self.old (part ∷ []) e) }
+        ensures unchanged { OnErr result (self.new ≡ self.old) }
     {
         match read_line(self.alloc, part, self.rest) {
             Ok((item, rest)) => {

@@ -8,8 +8,8 @@ ghost use Rattle.ps_answer.specs.declared.part.Part.TheVariants.{ACause, AnAnswe
 ghost use Rattle.ps_line.specs.Read.{Fits};
 ghost use Rattle.ps_reader.specs.Taken.{IsValueRead};
 ghost use Rattle.ps_reader.specs.Reports.{IsRestRead, IsSideRest, IsOpenRest, IsGood};
-ghost use Rattle.ps_reader.specs.Reports.{side_lines, IsSideTold};
-ghost use Rattle.ps_reader.specs.Reports.{answer_lines, IsPartTold, parts_lines, query_line, IsNumbered};
+ghost use Rattle.ps_reader.specs.Reports.{traced_items, query_part_items, parts_and_end_items};
+ghost use Rattle.ps_reader.specs.Reports.{next_items, IsSideTold, IsPartTold, IsNumberWithin};
 
 use crate::causes::{cause, cause_behind, fraction};
 use crate::lines::Lines;
@@ -21,7 +21,7 @@ use ps_pool::Trace;
 
 // A side of a query, and its events.
 fn side(upper: bool, lines: &mut Lines<'_>) -> Result<(SideAnswer, Trace), ReportError>
-    ensures side { IsValueRead (side_lines upper) (ASide upper ∷ []) lines.old lines.new result }
+    ensures side { IsValueRead (traced_items upper) (ASide upper ∷ []) lines.old lines.new result }
     ensures counted { IfOk result IsSideTold }
 {
     match lines.take(Part::ASide { upper })? {
@@ -55,7 +55,7 @@ fn open_side(lines: &mut Lines<'_>) -> Result<(SideAnswer, Trace), ReportError>
 
 // What is answered to a query, and the events of its first phase.
 fn part(lines: &mut Lines<'_>) -> Result<QueryPart, ReportError>
-    ensures part { IsValueRead answer_lines (AnAnswer ∷ []) lines.old lines.new result }
+    ensures part { IsValueRead query_part_items (AnAnswer ∷ []) lines.old lines.new result }
     ensures counted { IfOk result IsPartTold }
 {
     match lines.take(Part::AnAnswer)? {
@@ -66,7 +66,7 @@ fn part(lines: &mut Lines<'_>) -> Result<QueryPart, ReportError>
 }
 
 fn sides(lines: &mut Lines<'_>) -> Result<QueryPart, ReportError>
-    ensures part { IsRestRead line.Bounds answer_lines lines.old lines.new result }
+    ensures part { IsRestRead line.Bounds query_part_items lines.old lines.new result }
     ensures counted { IfOk result IsPartTold }
 {
     let first = trace(lines)?;
@@ -84,7 +84,7 @@ fn sides(lines: &mut Lines<'_>) -> Result<QueryPart, ReportError>
 }
 
 fn impossible(lines: &mut Lines<'_>) -> Result<QueryPart, ReportError>
-    ensures part { IsRestRead line.Impossible answer_lines lines.old lines.new result }
+    ensures part { IsRestRead line.Impossible query_part_items lines.old lines.new result }
     ensures counted { IfOk result IsPartTold }
 {
     let dual = dual(lines)?;
@@ -111,7 +111,7 @@ fn open(item: LineItem, lines: &mut Lines<'_>) -> Result<QueryPart, ReportError>
 
 /// The queries in their order, up to the line that ends a report.
 pub(crate) fn parts(lines: &mut Lines<'_>) -> Result<Parts, ReportError>
-    ensures parts { IsValueRead parts_lines (AQuery 1 ∷ []) lines.old lines.new result }
+    ensures parts { IsValueRead parts_and_end_items (AQuery 1 ∷ []) lines.old lines.new result }
     ensures counted { IfOk result ArePartsCounted }
 {
     let mut parts = List::new(lines.alloc());
@@ -124,8 +124,8 @@ pub(crate) fn parts(lines: &mut Lines<'_>) -> Result<Parts, ReportError>
 }
 
 fn is_query(number: u64, lines: &mut Lines<'_>) -> Result<bool, ReportError>
-    ensures line { IsValueRead (query_line number) (AQuery number ∷ []) lines.old lines.new result }
-    ensures number { IfOk result (IsNumbered number) }
+    ensures line { IsValueRead (next_items number) (AQuery number ∷ []) lines.old lines.new result }
+    ensures number { IfOk result (IsNumberWithin number) }
 {
     match lines.take(Part::AQuery { number })? {
         LineItem::Query { .. } => Ok(true),
