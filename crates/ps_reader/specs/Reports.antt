@@ -4,7 +4,7 @@ use Rattle.ps_pool.specs.declared.event.Event.{Event}
 use Rattle.ps_answer.specs.declared.item.LineItem.{LineItem}
 use Rattle.ps_answer.specs.declared.item.LineItem.TheVariants as line
 use Rattle.ps_answer.specs.declared.part.Part.{Part}
-use Rattle.ps_answer.specs.declared.part.Part.TheVariants.{AModel, ADual, AStep, AGoal, ACause, ATrace, ASide}
+use Rattle.ps_answer.specs.declared.part.Part.TheVariants.{AModel, ADual, AStep, AGoal, ACause, ATrace, ASide, AQuery}
 use Rattle.ps_answer.specs.declared.error.ReportError.{ReportError}
 use Rattle.ps_answer.specs.Items.{IsProper, IsWithin}
 use Rattle.ps_answer.specs.declared.limits.TheConstants.{MOST_QUERIES}
@@ -12,7 +12,7 @@ use Rattle.ps_answer.specs.declared.answer.SideAnswer.{SideAnswer}
 use Rattle.ps_answer.specs.declared.answer.QueryPart.{QueryPart}
 use Rattle.ps_answer.specs.Answers.{side_items, query_items, part_items, IsSideCounted, IsQueryCounted}
 use Rattle.ps_reader.specs.declared.lines.Lines.{Lines}
-use Rattle.ps_reader.specs.Taken.{Takes, IsStopped, repeated}
+use Rattle.ps_reader.specs.Taken.{Takes, IsStopped, IsValueRead, repeated}
 
 -- a value is read whose first line says this and whose other parts are these, or one of them is at fault
 abbrev pub IsReadBehind : {X : Type 0} → LineItem → (X → List LineItem) → List Part → Lines → Lines → Result X ReportError → Type 0
@@ -43,6 +43,10 @@ pub record IsGood (i : LineItem) : Type 0 where
 abbrev pub traced_items : Bool → SideAnswer × List Event → List LineItem
 traced_items upper s = side_items upper s.0 s.1
 
+-- a side is read with its trace, or one of its parts is at fault
+abbrev pub IsSideRead : Bool → Lines → Lines → Result (SideAnswer × List Event) ReportError → Type 0
+IsSideRead upper old new result = IsValueRead (traced_items upper) (ASide upper ∷ []) old new result
+
 -- the rest of a side is read, lower and upper alike
 abbrev pub IsSideRest : (Bool → LineItem) → Lines → Lines → Result (SideAnswer × List Event) ReportError → Type 0
 IsSideRest first old new result = (upper : Bool) → IsRestRead (first upper) (traced_items upper) old new result
@@ -71,6 +75,10 @@ parts_and_end_items ps = part_items 1 ps ++ line.End ∷ []
 abbrev pub next_items : ℕ → Bool → List LineItem
 next_items j true = line.Query j ∷ []
 next_items j false = line.End ∷ []
+
+-- whether the query of this number begins is read off its line or the end's, or that line is at fault
+abbrev pub IsNextRead : ℕ → Lines → Lines → Result Bool ReportError → Type 0
+IsNextRead j old new result = IsValueRead (next_items j) (AQuery j ∷ []) old new result
 
 -- the number of a query that begins is within the limit
 abbrev pub IsNumberWithin : ℕ → Bool → Type 0

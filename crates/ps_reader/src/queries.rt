@@ -4,12 +4,12 @@ ghost use Rattle.ps_answer.specs.Answers.{ArePartsCounted};
 ghost use Rattle.ps_answer.specs.Items.{IsReducedWithin, IsRatioWithin};
 ghost use Rattle.ps_answer.specs.declared.limits.TheConstants.{MOST_OPERAND};
 ghost use Rattle.ps_answer.specs.declared.item.LineItem.TheVariants as line;
-ghost use Rattle.ps_answer.specs.declared.part.Part.TheVariants.{ACause, AnAnswer, ASide, AQuery};
+ghost use Rattle.ps_answer.specs.declared.part.Part.TheVariants.{ACause, AnAnswer, AQuery};
 ghost use Rattle.ps_line.specs.Read.{Fits};
 ghost use Rattle.ps_reader.specs.Taken.{IsValueRead};
-ghost use Rattle.ps_reader.specs.Reports.{IsRestRead, IsSideRest, IsOpenRest, IsGood};
-ghost use Rattle.ps_reader.specs.Reports.{traced_items, query_part_items, parts_and_end_items};
-ghost use Rattle.ps_reader.specs.Reports.{next_items, IsSideTold, IsPartTold, IsNumberWithin};
+ghost use Rattle.ps_reader.specs.Reports.{IsRestRead, IsSideRead, IsSideRest, IsOpenRest, IsGood};
+ghost use Rattle.ps_reader.specs.Reports.{query_part_items, parts_and_end_items};
+ghost use Rattle.ps_reader.specs.Reports.{IsNextRead, IsSideTold, IsPartTold, IsNumberWithin};
 
 use crate::causes::{cause, cause_behind, fraction};
 use crate::lines::Lines;
@@ -21,7 +21,7 @@ use ps_pool::Trace;
 
 // A side of a query, and its events.
 fn side(upper: bool, lines: &mut Lines<'_>) -> Result<(SideAnswer, Trace), ReportError>
-    ensures side { IsValueRead (traced_items upper) (ASide upper ∷ []) lines.old lines.new result }
+    ensures side { IsSideRead upper lines.old lines.new result }
     ensures counted { IfOk result IsSideTold }
 {
     match lines.take(Part::ASide { upper })? {
@@ -124,7 +124,7 @@ pub(crate) fn parts(lines: &mut Lines<'_>) -> Result<Parts, ReportError>
 }
 
 fn is_query(number: u64, lines: &mut Lines<'_>) -> Result<bool, ReportError>
-    ensures line { IsValueRead (next_items number) (AQuery number ∷ []) lines.old lines.new result }
+    ensures line { IsNextRead number lines.old lines.new result }
     ensures number { IfOk result (IsNumberWithin number) }
 {
     match lines.take(Part::AQuery { number })? {
