@@ -5,3 +5,4 @@ pub mod Scanned
 pub mod Before
 pub mod Falsity
 pub mod Marked
+pub mod Ground

@@ -1,7 +1,7 @@
 //! Learning a clause from a conflict.
-ghost use Rattle.std.specs.Prelude.{◌≡◌, ◌≤◌, ◌+◌, length, IfOk, All};
+ghost use Rattle.std.specs.Prelude.{◌≡◌, ◌≤◌, ◌+◌, length, true, IfOk, All};
 ghost use Rattle.ps_steps.specs.Assignments.{all_unset};
-ghost use Rattle.ps_steps.specs.Steps.{IsLawful, known_of, lits_of, hints_of};
+ghost use Rattle.ps_steps.specs.Steps.{IsLawful, known_of, lits_of, hints_of, is_contradiction};
 ghost use Rattle.ps_learning.specs.Known.{most_known, IsIdUpTo};
 ghost use Rattle.ps_learning.specs.Trails.{values, level, IsLit, AreReasons, IsConflict};
 ghost use Rattle.ps_learning.specs.Levels.{IsAsserting};
@@ -33,7 +33,8 @@ pub struct Learned {
 
 /// A lawful step from a conflict. Its clause has the opposites of the causes that were kept: of one
 /// literal of the last level at most, and of literals of lower levels, the greatest of which is the
-/// level to go on from. All of them are false on the trail.
+/// level to go on from. All of them are false on the trail. A conflict at level 0 gives the clause
+/// without literals.
 pub fn learn(
     alloc: Global,
     known: &List<Constraint>,
@@ -45,6 +46,7 @@ pub fn learn(
     requires few { length known.now ≤ most_known }
     ensures lawful { IfOk result (λ x. IsLawful trail.now.variables (known_of known.now) x.step) }
     ensures asserting { IfOk result (λ x. IsAsserting trail.now (lits_of x.step) x.level) }
+    ensures ground { IfOk result (λ x. level trail.now ≡ 0 → is_contradiction x.step ≡ true) }
     ensures literals { IfOk result (λ x. All (IsLit trail.now.variables) (lits_of x.step)) }
     ensures falsified { IfOk result (λ x. AreFalseIn (values trail.now) (lits_of x.step)) }
     ensures few_literals { IfOk result (λ x. length (lits_of x.step) ≤ trail.now.variables) }

@@ -18,7 +18,7 @@ use Rattle.ps_sat.specs.declared.searching.Outcome.TheVariants.{Found, Refuted, 
 use Rattle.ps_sat.proofs.Going.{handed_told, handed_stays}
 use Rattle.ps_maxsat.specs.declared.problem.Wcnf.{Wcnf}
 use Rattle.ps_maxsat.specs.declared.pricing.Priced.{Priced}
-use Rattle.ps_maxsat.specs.Values.{value, goal_of, IsOf, NoneIsAbove, HoldsSearch, HoldsFound, HoldsRefutation, HoldsLast, HoldsSteps, HoldsSome, IsGoal, most_value, IsLogAfterFailed, IsLogAfterError, IsGoalLogged, IsBestLogged}
+use Rattle.ps_maxsat.specs.Values.{value, goal_of, IsOf, NoneIsAbove, IsHalfway, HoldsSearch, HoldsFound, HoldsRefutation, HoldsLast, HoldsSteps, HoldsSome, IsGoal, most_value, IsLogAfterFailed, IsLogAfterError, IsGoalLogged, IsBestLogged}
 use Rattle.ps_steps.proofs.Within.{constraint-within}
 use Rattle.ps_log.specs.Logs.{Telling, Stays}
 
@@ -71,9 +71,20 @@ held-end p m least conflicts told later new o o' e q tell h = subst (λ x. Holds
 pub spent-is : (p : Wcnf) (least : ℤ) (conflicts : ℕ) (o : Outcome) (learned : ℕ) → o ≡ Spent learned → IsOutcome p.hard (goal_of p least) conflicts o → o ≡ Spent conflicts
 spent-is p least conflicts o learned e out = let same : learned ≡ conflicts = subst (λ x. IsOutcome p.hard (goal_of p least) conflicts x) e out in e ∙ ap Spent same
 
+-- a goal halfway to what no value is above
+pub halfway : (p : Wcnf) (found m least bound : ℤ) → least ≡ m → NoneIsAbove p bound → found <ℤ m → m ≤ℤ bound → ((bound -ℤ m) +ℤ (bound -ℤ m)) <ℤ (bound -ℤ found)
+    → ((m -ℤ found) +ℤ (m -ℤ found)) ≤ℤ ((bound -ℤ found) +ℤ pos 2) → IsHalfway p found least
+halfway p found m least bound e none above within up down =
+    subst (IsHalfway p found) (sym e) (record { bound = bound; none_above = none; above = above; within = within; half_up = up; half_down = down })
+
+under_most : (p : Wcnf) (m least bound : ℤ) → least ≡ m → m ≤ℤ bound → bound ≤ℤ most_value p → least ≤ℤ most_value p
+under_most p m least bound e within most = omega (arith, ints, e, within, most)
+
 -- the goal of a later search
-pub later-goal : (p : Wcnf) (found m least bound : ℤ) → least ≡ m → pos 1 ≤ℤ found → found <ℤ m → m ≤ℤ bound → bound ≤ℤ most_value p → IsGoal p least
-later-goal p found m least bound e some up within none = inr (omega (arith, ints, e, some, up), omega (arith, ints, e, within, none))
+pub later-goal : (p : Wcnf) (a : Assignment) (found m least bound : ℤ) → least ≡ m → IsOf p a found → pos 1 ≤ℤ found → NoneIsAbove p bound → found <ℤ m → m ≤ℤ bound → bound ≤ℤ most_value p → ((bound -ℤ m) +ℤ (bound -ℤ m)) <ℤ (bound -ℤ found)
+    → ((m -ℤ found) +ℤ (m -ℤ found)) ≤ℤ ((bound -ℤ found) +ℤ pos 2) → IsGoal p least
+later-goal p a found m least bound e own some none above within most up down =
+    inr (record { assignment = a; found = found; reached = own; some = some; halfway = halfway p found m least bound e none above within up down; most = under_most p m least bound e within most })
 
 -- an assignment was found by the search that the log holds
 pub held-found : (p : Wcnf) (m v : ℤ) (conflicts : ℕ) (told later : Bool) (new : Telling) (o : Outcome) (a : Assignment) → o ≡ Found a → IsGoal p m → m ≤ℤ v → (IsTrue told → IsTrue later) → HoldsSearch p m conflicts later new o → HoldsFound p v conflicts told new
@@ -98,11 +109,11 @@ refuted_few conflicts ss front s e h = omega (arith, ap length e, length-append 
 
 -- the steps of the last search
 pub last-steps : (p : Wcnf) (v bound : ℤ) (conflicts : ℕ) (told : Bool) (new : Telling) → HoldsLast p v bound conflicts told new → HoldsSome p conflicts told new
-last-steps p v bound conflicts told new (inl h) = record { least = h.least; goal = h.goal; held = record { handed = h.handed; few = omega (arith, h.learned.0) } }
+last-steps p v bound conflicts told new (inl h) = record { least = h.least; goal = h.goal; held = record { handed = h.handed; few = omega (arith, h.learned.count) } }
 last-steps p v bound conflicts told new (inr h) = record {
   least = bound +ℤ pos 1;
   goal = h.goal;
-  held = record { handed = h.held.0; few = let shown = h.held.1 in refuted_few conflicts h.held.0.steps shown.0 shown.1 shown.2 shown.3.0 };
+  held = record { handed = h.held.0; few = let shown = h.held.1 in refuted_few conflicts h.held.0.steps shown.0 shown.1 shown.2 shown.3.count };
 }
 
 -- they stay with the log
@@ -133,7 +144,7 @@ on-error p conflicts old new (Err e) _ h = h
 
 -- an error of a search is one of the search for a value
 learned_steps : (p : Wcnf) (least : ℤ) (conflicts : ℕ) (told : Bool) (new : Telling) → HoldsLearned p.hard (goal_of p least) conflicts told new → HoldsSteps p least conflicts told new
-learned_steps p least conflicts told new h = record { handed = h.0; few = omega (arith, h.1.0) }
+learned_steps p least conflicts told new h = record { handed = h.0; few = omega (arith, h.1.count) }
 
 goal_logged : (p : Wcnf) (least : ℤ) (conflicts : ℕ) (old new : Telling) (r : Result Outcome SearchError) → IsLogged p.hard (goal_of p least) conflicts old new r → IsGoalLogged p least conflicts old new r
 goal_logged p least conflicts old new (Ok o) h = h

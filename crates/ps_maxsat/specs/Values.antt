@@ -31,10 +31,6 @@ most_value p = p.base +ℤ sum_of weight_if_positive p.soft
 abbrev pub goal_of : Wcnf → ℤ → Constraint
 goal_of p least = constraint_of p.soft (least -ℤ p.base)
 
--- what a search is for: a value of at least 1, or of at least a greater goal, which the positive weights reach
-abbrev pub IsGoal : Wcnf → ℤ → Type 0
-IsGoal p least = (least ≡ pos 1) ⊎ ((pos 1 <ℤ least) × (least ≤ℤ most_value p))
-
 -- a full assignment that meets the clauses, and has this value
 abbrev pub IsOf : Wcnf → Assignment → ℤ → Type 0
 IsOf p a v = (w : List Bool) × (a ≡ full w) × (length w ≡ p.hard.variables) × MeetsForm w p.hard × (v ≡ value p w)
@@ -43,16 +39,38 @@ IsOf p a v = (w : List Bool) × (a ≡ full w) × (length w ≡ p.hard.variables
 abbrev pub NoneIsAbove : Wcnf → ℤ → Type 0
 NoneIsAbove p v = (w : List Bool) → MeetsForm w p.hard → value p w ≤ℤ v
 
+-- a goal lies halfway between a value and a bound that no value is above, rounded up
+pub record IsHalfway (p : Wcnf) (found goal : ℤ) : Type 0 where
+  pub bound : ℤ
+  pub none_above : NoneIsAbove p bound
+  pub above : found <ℤ goal
+  pub within : goal ≤ℤ bound
+  pub half_up : ((bound -ℤ goal) +ℤ (bound -ℤ goal)) <ℤ (bound -ℤ found)
+  pub half_down : ((goal -ℤ found) +ℤ (goal -ℤ found)) ≤ℤ ((bound -ℤ found) +ℤ pos 2)
+
+-- a goal of a search after the first: halfway above a value of at least 1 that was found, and one that the positive weights reach
+pub record IsLaterGoal (p : Wcnf) (goal : ℤ) : Type 0 where
+  pub assignment : Assignment
+  pub found : ℤ
+  pub reached : IsOf p assignment found
+  pub some : pos 1 ≤ℤ found
+  pub halfway : IsHalfway p found goal
+  pub most : goal ≤ℤ most_value p
+
+-- what a search is for: a value of at least 1, or of at least a later goal
+abbrev pub IsGoal : Wcnf → ℤ → Type 0
+IsGoal p least = (least ≡ pos 1) ⊎ IsLaterGoal p least
+
 -- what an answer says of all assignments
 abbrev pub IsPriced : Wcnf → ℕ → Priced → Type 0
 IsPriced p conflicts (NoneAbove last) = NoneIsAbove p (pos 0)
 IsPriced p conflicts (Best a v searches) = IsOf p a v × (pos 1 ≤ℤ v) × NoneIsAbove p v × (1 ≤ searches) × (searches ≤ most_searches)
-IsPriced p conflicts (Cut a v goal searches) = IsOf p a v × (pos 1 ≤ℤ v) × (v <ℤ goal) × (goal ≤ℤ most_value p) × (2 ≤ searches) × (searches ≤ most_searches)
+IsPriced p conflicts (Cut a v goal searches) = IsOf p a v × (pos 1 ≤ℤ v) × IsHalfway p v goal × (goal ≤ℤ most_value p) × (2 ≤ searches) × (searches ≤ most_searches)
 IsPriced p conflicts (Spent learned) = learned ≡ conflicts
 
 -- the log holds the search of a goal with this end
 abbrev pub HoldsSearch : Wcnf → ℤ → ℕ → Bool → Telling → search.the_data → Type 0
-HoldsSearch p least conflicts told new o = (h : Handed p.hard (goal_of p least) told new) × IsShown conflicts h.steps o
+HoldsSearch p least conflicts told new o = (h : Handed p.hard (goal_of p least) told new) × IsShown p.hard (goal_of p least) conflicts h.steps o
 
 -- the log holds a search that found an assignment, for a value that is no greater than this
 pub record HoldsFound (p : Wcnf) (v : ℤ) (conflicts : ℕ) (told : Bool) (new : Telling) : Type 0 where
@@ -60,7 +78,7 @@ pub record HoldsFound (p : Wcnf) (v : ℤ) (conflicts : ℕ) (told : Bool) (new 
   pub goal : IsGoal p least
   pub up : least ≤ℤ v
   pub handed : Handed p.hard (goal_of p least) told new
-  pub learned : AreLearned conflicts handed.steps
+  pub learned : AreLearned p.hard conflicts handed.steps
 
 -- the log holds the refutation of a value of at least so much
 pub record HoldsRefutation (p : Wcnf) (least : ℤ) (conflicts : ℕ) (told : Bool) (new : Telling) : Type 0 where

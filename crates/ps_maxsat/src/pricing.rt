@@ -30,8 +30,8 @@ pub enum Priced {
         searches: u32,
     },
     /// This assignment has this value, which is at least 1. The last of so many searches was spent:
-    /// that for a value of at least the goal, which is above this value, and not above the base plus
-    /// the positive weights.
+    /// that for a value of at least the goal, which lies halfway between this value and a bound that
+    /// no value is above, and not above the base plus the positive weights.
     Cut {
         assignment: Assignment,
         value: i128,
@@ -95,9 +95,9 @@ fn middle(found: i128, bound: i128) -> i128
 }
 
 /// Looks for the greatest value of an assignment that meets the clauses, if it is at least 1. Each
-/// search is for a value of at least a goal, the first for 1, and each other goal halves what is
-/// left between the best value found and the least one that nothing is above. At least 1 search is
-/// made, and at most 124.
+/// search is for a value of at least a goal, the first for 1. Each other goal lies halfway between
+/// a value that was found and a bound that no value is above. At least 1 search is made, and at most
+/// 124.
 ///
 /// The log holds the refutation after `NoneAbove`, the search that was spent after `Cut` and
 /// `Spent`, and the last search after `Best`. After an error it is as it was, or holds the goal of

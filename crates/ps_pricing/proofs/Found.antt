@@ -76,10 +76,10 @@ log_steps p conflicts told new (NoneAbove last) steps tells is h =
 log_steps p conflicts told new (Best a v searches) steps tells is h = tt
 log_steps p conflicts told new (Cut a v least searches) steps tells is h =
     let same = told_steps told new (goal_of p least) p.hard steps h.0 tells is in
-    rw (← same) (record { lawful = h.0.lawful; count = h.1.0; literals = h.1.1 })
+    rw (← same) h.1
 log_steps p conflicts told new (Spent learned) steps tells is h =
     let same = told_steps told new (goal_of p (pos 1)) p.hard steps h.0 tells is in
-    rw (← same) (record { lawful = h.0.lawful; count = h.1.0; literals = h.1.1 })
+    rw (← same) h.1
 
 -- a refutation that it holds has at most one step more than clauses may be learned
 pub few_steps : (p : Wcnf) (conflicts : ℕ) (told : Bool) (new : Telling) (priced : Priced) (steps : List Step) → IsTrue told → new.steps ≡ Some steps
@@ -87,7 +87,7 @@ pub few_steps : (p : Wcnf) (conflicts : ℕ) (told : Bool) (new : Telling) (pric
 few_steps p conflicts told new (NoneAbove last) steps tells is h =
     let same : h.0.steps ≡ steps = told_steps told new (goal_of p (pos 1)) p.hard steps h.0 tells is in
     let sized : length h.0.steps ≡ length h.1.0 + 1 = rw (h.1.2) (simp length-append (omega arith)) in
-    rw (← same) (omega (arith, sized, h.1.3.0))
+    rw (← same) (omega (arith, sized, h.1.3.count))
 few_steps p conflicts told new (Best a v searches) steps tells is h = tt
 few_steps p conflicts told new (Cut a v least searches) steps tells is h = tt
 few_steps p conflicts told new (Spent learned) steps tells is h = tt

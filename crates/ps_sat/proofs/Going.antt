@@ -1,25 +1,32 @@
 -- How far a search has come.
-use Rattle.std.proofs.Common.{◌≡◌, ℕ, ◌+◌, ◌<◌, ◌≤◌, ℤ, Bool, true, false, Some, List, [], ◌∷◌, ◌++◌, length, length-append, take, get_or, map, arith, refl, sym, ap, ◌∙◌, subst}
+use Rattle.std.proofs.Common.{◌≡◌, ℕ, ◌+◌, ◌<◌, ◌≤◌, ◌^◌, ℤ, Bool, true, false, Some, List, [], ◌∷◌, ◌++◌, length, length-append, take, get_or, map, arith, refl, sym, ap, ◌∙◌, subst}
 use Rattle.std.specs.Prelude.{IsTrue}
 use Rattle.std.specs.Option.{option_map}
 use Rattle.std.specs.List.{All}
 use Rattle.std.proofs.lemmas.List.Elements.{All-nil, All-push}
 use Rattle.ps_steps.specs.Assignments.{Assignment, place}
 use Rattle.ps_steps.specs.Constraints.{Constraint, IsMet}
-use Rattle.ps_steps.specs.Weights.{IsWithin, clause_of}
+use Rattle.ps_steps.specs.Weights.{IsWithin, IsNormal, weighted, clause_of}
 use Rattle.ps_steps.specs.Steps.{known_of, Step, added, with_step, with_steps, IsLawful, is_contradiction}
 use Rattle.ps_steps.proofs.Within.{clause-within}
 use Rattle.ps_steps.proofs.Ids.{known_of-append}
 use Rattle.ps_steps.proofs.Onward.{lawful-append, steps-append}
-use Rattle.ps_forms.specs.Forms.{Form, MeetsForm, AreInside, first_known}
+use Rattle.ps_forms.specs.Forms.{Form, MeetsForm, AreInside, HasClauses, first_known}
 use Rattle.ps_forms.specs.Decided.{AtomsDecide}
 use Rattle.ps_log.specs.Logs.{Telling, Starts, Grows, Stays}
-use Rattle.ps_learning.specs.Trails.{Trail, values, IsLit, IsFresh, AreReasons}
+use Rattle.ps_learning.specs.Trails.{Trail, values, values_of, up_to, IsLit, IsFresh, AreFresh, AreLevels, AreReasons, IsConflict}
 use Rattle.ps_learning.proofs.Entries.{reasons-take, reasons-more, reasons-none, length-values}
-use Rattle.ps_learn.specs.Rest.{IsDone}
-use Rattle.ps_sat.specs.Searches.{HoldsGoalAndSteps, Handed, IsHeld, HoldsLearned}
+use Rattle.ps_learn.specs.Rest.{IsDone, IsLonger}
+use Rattle.ps_sat.specs.Searches.{HoldsGoalAndSteps, Handed, AreLearned, IsHeld, HoldsLearned}
 use Rattle.ps_sat.specs.declared.searching.Outcome.{Outcome}
 use Rattle.ps_sat.proofs.Ends.{found, refuted}
+use Rattle.ps_sat.proofs.Lessons.{IsResting, IsAtConflict, resting-learned, due-at}
+use Rattle.ps_forms.specs.Spent.{IsSpentSearch, AreNew}
+use Rattle.ps_spent.specs.Resting.{AreRested, AreOfAtoms}
+use Rattle.ps_spent.proofs.Learning.{Learns}
+use Rattle.ps_spent.proofs.Rising.{risen-none, risen-few, below-power}
+use Rattle.ps_spent.proofs.Growing.{rested-none, atoms-none}
+use Rattle.ps_spent.proofs.News.{new-none, new-more}
 
 -- a search: the trail's reasons are known, and what is known is the form, the goal and the steps that were handed over
 pub record Searching (f : Form) (goal : Constraint) (told : Bool) (new : Telling) (cs : List Constraint) (t : Trail) (learned : ℕ) : Type 0 where
@@ -30,6 +37,9 @@ pub record Searching (f : Form) (goal : Constraint) (told : Bool) (new : Telling
   pub inside : All (IsWithin f.variables) cs
   pub count : length handed.steps ≡ learned
   pub literals : All (λ x. is_contradiction x ≡ false) handed.steps
+  pub resting : IsResting f (known_of cs) t.entries learned
+  pub news : AreNew f handed.steps
+  pub few : learned ≤ 2 ^ f.variables
 
 pub begun : (old new : Telling) (goal : Constraint) → Starts old new goal → HoldsGoalAndSteps new.tells new goal []
 begun old new goal st = λ b. (let r = st.1 b in (b, r.0, r.1))
@@ -59,7 +69,7 @@ abbrev pub none_handed : (f : Form) (goal : Constraint) (told : Bool) (new : Tel
 none_handed f goal told new st = record { steps = []; held = st; lawful = tt; literals = All-nil (λ s. All (IsLit f.variables) s.lits) }
 
 pub handed-none : (f : Form) (goal : Constraint) (told : Bool) (new : Telling) (conflicts : ℕ) → HoldsGoalAndSteps told new goal [] → HoldsLearned f goal conflicts told new
-handed-none f goal told new conflicts st = (none_handed f goal told new st, (omega arith, All-nil (λ x. is_contradiction x ≡ false)))
+handed-none f goal told new conflicts st = (none_handed f goal told new st, record { count = omega arith; few = omega arith; literals = All-nil (λ x. is_contradiction x ≡ false); new = new-none f })
 
 pub begins : (f : Form) (goal : Constraint) (told : Bool) (new : Telling) (cs : List Constraint) (t : Trail) → HoldsGoalAndSteps told new goal [] → cs ≡ f.clauses ++ goal ∷ [] → t ≡ record { variables = f.variables; entries = [] } → AreInside f → IsWithin f.variables goal → Searching f goal told new cs t 0
 begins f goal told new cs t st e q inside own = rw (e, q) (record {
@@ -70,6 +80,9 @@ begins f goal told new cs t st e q inside own = rw (e, q) (record {
   inside = All-push (IsWithin f.variables) f.clauses goal inside own;
   count = refl;
   literals = All-nil (λ x. is_contradiction x ≡ false);
+  resting = record { rested = rested-none f.variables (first_known f goal); atoms = atoms-none f; risen = risen-none f.variables (first_known f goal) [] };
+  news = new-none f;
+  few = omega arith;
 })
 
 pub hold-more : (told : Bool) (old new : Telling) (c : Constraint) (ss : List Step) (x : Step) → HoldsGoalAndSteps told old c ss → Grows old new (x ∷ []) → HoldsGoalAndSteps told new c (ss ++ x ∷ [])
@@ -93,29 +106,69 @@ lits_inside v lits h = λ k d lt. within_by (get_or lits k d) (h k d lt)
     within_by : (l : ℤ) → IsLit v l → place l < v
     within_by l h = omega (arith, h.0, h.1)
 
+-- the steps of a search were learned
+pub steps-learned : (f : Form) (goal : Constraint) (told : Bool) (new : Telling) (cs : List Constraint) (t : Trail) (learned conflicts : ℕ) → (h : Searching f goal told new cs t learned) → learned ≤ conflicts → AreLearned f conflicts h.handed.steps
+steps-learned f goal told new cs t learned conflicts h le = record {
+  count = subst (λ n. n ≤ conflicts) (sym h.count) le;
+  few = subst (λ n. n ≤ 2 ^ f.variables) (sym h.count) h.few;
+  literals = h.literals;
+  new = h.news;
+}
+
 -- the steps that were handed over are of clauses that were learned
 pub handed-learned : (f : Form) (goal : Constraint) (told : Bool) (new : Telling) (cs : List Constraint) (t : Trail) (learned conflicts : ℕ) → Searching f goal told new cs t learned → learned ≤ conflicts → HoldsLearned f goal conflicts told new
-handed-learned f goal told new cs t learned conflicts h le = (h.handed, (omega (arith, h.count, le), h.literals))
+handed-learned f goal told new cs t learned conflicts h le = (h.handed, steps-learned f goal told new cs t learned conflicts h le)
 
 -- none was
 pub handed-stays : (f : Form) (goal : Constraint) (told : Bool) (old new : Telling) (cs : List Constraint) (t : Trail) (learned conflicts : ℕ) → Searching f goal told old cs t learned → learned ≤ conflicts → Stays old new → HoldsLearned f goal conflicts told new
-handed-stays f goal told old new cs t learned conflicts h le stays = (handed_stays f goal told old new stays h.handed, (omega (arith, h.count, le), h.literals))
+handed-stays f goal told old new cs t learned conflicts h le stays = (handed_stays f goal told old new stays h.handed, steps-learned f goal told old cs t learned conflicts h le)
 
 -- the search goes on after a step
-pub goes-on : (f : Form) (goal : Constraint) (told : Bool) (old new : Telling) (cs cs' : List Constraint) (t u w : Trail) (learned k : ℕ) (x : Step) → Searching f goal told old cs t learned → u.variables ≡ f.variables → AreReasons f.variables (known_of cs) u.entries → IsLawful f.variables (known_of cs) x → Grows old new (x ∷ [])
-    → cs' ≡ cs ++ added x ∷ [] → All (IsLit f.variables) x.lits → is_contradiction x ≡ false → w.variables ≡ u.variables → w.entries ≡ take k u.entries → Searching f goal told new cs' w (learned + 1)
+pub goes-on : (f : Form) (goal : Constraint) (told : Bool) (old new : Telling) (cs cs' : List Constraint) (t u w : Trail) (learned conflict next k : ℕ) (x : Step) → Searching f goal told old cs t learned → IsAtConflict f (known_of cs) u learned conflict → Learns u (known_of cs) x next → HasClauses f → IsLawful f.variables (known_of cs) x → Grows old new (x ∷ [])
+    → cs' ≡ cs ++ added x ∷ [] → All (IsLit f.variables) x.lits → w ≡ up_to next u → w.variables ≡ u.variables → w.entries ≡ take k u.entries → Searching f goal told new cs' w (learned + 1)
 unfolding handed-more
-goes-on f goal told old new cs cs' t u w learned k x h tu reasons lawful grows more lits non same cut =
+goes-on f goal told old new cs cs' t u w learned conflict next k x h at lesson clauses lawful grows more lits whole same cut =
     let now : known_of cs' ≡ with_step (known_of cs) x = ap known_of more ∙ known_of-append cs (added x) in
     record {
-      same = same ∙ tu;
+      same = same ∙ at.same;
       handed = handed-more f goal told old new cs t learned x h lawful lits grows;
       known = now ∙ ap (λ y. with_step y x) h.known ∙ sym (steps-append (first_known f goal) h.handed.steps x);
-      reasons = rw (now, cut) (reasons-take f.variables (with_step (known_of cs) x) u.entries k (reasons-more f.variables (known_of cs) (Some (added x)) u.entries reasons));
+      reasons = rw (now, cut) (reasons-take f.variables (with_step (known_of cs) x) u.entries k (reasons-more f.variables (known_of cs) (Some (added x)) u.entries at.reasons));
       inside = rw more (All-push (IsWithin f.variables) cs (clause_of x.lits) h.inside (clause-within f.variables x.lits (lits_inside f.variables x.lits lits)));
       count = omega (arith, h.count, length-append h.handed.steps (x ∷ []));
-      literals = All-push (λ y. is_contradiction y ≡ false) h.handed.steps x h.literals non;
+      literals = All-push (λ y. is_contradiction y ≡ false) h.handed.steps x h.literals lesson.some;
+      resting = subst (λ y. IsResting f y w.entries (learned + 1)) (sym now) (resting-learned f (known_of cs) u w learned conflict x next at lesson whole);
+      few = omega (arith, below-power f.variables u.entries learned at.risen);
+      news = new-more f goal h.handed.steps u x next clauses h.handed.lawful h.handed.literals (subst (λ y. Learns u y x next) h.known lesson) h.news;
     }
+
+-- a conflict that was come to
+pub comes-to : (f : Form) (goal : Constraint) (told : Bool) (new : Telling) (cs : List Constraint) (t u : Trail) (learned conflict : ℕ) → Searching f goal told new cs t learned → u.variables ≡ t.variables → IsLonger t.entries u.entries → AreReasons u.variables (known_of cs) u.entries → AreRested f.variables (known_of cs) u.entries → AreOfAtoms f u.entries
+    → IsConflict (known_of cs) (values u) conflict → AreFresh u.variables u.entries → AreLevels u.entries → IsAtConflict f (known_of cs) u learned conflict
+comes-to f goal told new cs t u learned conflict h tu longer reasons rested atoms conflict_is fresh levels =
+    let same : u.variables ≡ f.variables = tu ∙ h.same in
+    record {
+      same = same;
+      fresh = fresh;
+      levels = levels;
+      reasons = subst (λ m. AreReasons m (known_of cs) u.entries) same reasons;
+      rested = rested;
+      atoms = atoms;
+      conflict_is = conflict_is;
+      risen = risen-few f.variables (known_of cs) t.entries longer.more u.entries learned conflict longer.is h.resting.risen rested (subst (λ m. IsConflict (known_of cs) (values_of m u.entries) conflict) same conflict_is);
+    }
+
+-- a search that is spent
+pub search-spent : (f : Form) (goal : Constraint) (told : Bool) (new : Telling) (cs : List Constraint) (t u : Trail) (learned conflicts conflict next : ℕ) (x : Step) → (h : Searching f goal told new cs t learned) → IsAtConflict f (known_of cs) u learned conflict → Learns u (known_of cs) x next → HasClauses f → IsNormal (weighted goal.terms) goal.degree → learned ≡ conflicts
+    → IsSpentSearch f goal conflicts h.handed.steps
+search-spent f goal told new cs t u learned conflicts conflict next x h at lesson clauses normal e = record {
+  lawful = h.handed.lawful;
+  count = h.count ∙ e;
+  literals = h.literals;
+  few = subst (λ n. n < 2 ^ f.variables) e (below-power f.variables u.entries learned at.risen);
+  new = h.news;
+  due = due-at f goal h.handed.steps u learned conflict x next (subst (λ y. IsAtConflict f y u learned conflict) h.known at) (subst (λ y. Learns u y x next) h.known lesson) clauses normal;
+}
 
 -- a full assignment was found
 pub search-found : (f : Form) (goal : Constraint) (told : Bool) (new : Telling) (cs : List Constraint) (t u : Trail) (learned : ℕ) (a : Assignment) → Searching f goal told new cs t learned → u.variables ≡ t.variables → AtomsDecide f → AreInside f → IsWithin f.variables goal → IsDone f (known_of cs) (values u) → a ≡ values u

@@ -1,6 +1,6 @@
 -- What holds of the steps that are handed over.
 use Rattle.std.proofs.Common.{◌≡◌, ◌≢◌, ℕ, ◌+◌, ◌≤◌, ℤ, Bool, true, false, Option, Some, None, Result, Ok, Err, List, [], ◌∷◌, ◌++◌, length, take, cond, arith, refl, sym, ap, ◌∙◌, subst, ◌⊎◌, inl, inr}
-use Rattle.std.specs.Prelude.{◌==◌, IsErr}
+use Rattle.std.specs.Prelude.{◌==◌, IfOk, IsErr}
 use Rattle.std.specs.List.{All}
 use Rattle.std.proofs.lemmas.Bool.{eqb-true, false≢true}
 use Rattle.ps_steps.specs.Assignments.{Assignment}
@@ -9,17 +9,24 @@ use Rattle.ps_steps.specs.declared.refused.StepRefused.{StepRefused}
 use Rattle.ps_steps.specs.declared.refused.StepRefused.TheVariants.{IdNotNext}
 use Rattle.ps_steps.specs.Steps.{known_of, next_id, Step, lits_of, hints_of, added, IsLawful, is_contradiction}
 use Rattle.ps_steps.proofs.Ids.{known_of-length}
-use Rattle.ps_forms.specs.Forms.{Form, MeetsForm}
+use Rattle.ps_forms.specs.Forms.{Form, MeetsForm, HasClauses}
 use Rattle.ps_log.specs.Logs.{Telling, Starts, Grows}
 use Rattle.ps_log.specs.Limits.{IsStepWithin}
 use Rattle.ps_pb.specs.declared.limits.TheConstants.{MOST_VARIABLES}
 use Rattle.ps_learning.specs.Known.{most_known, IsIdUpTo}
-use Rattle.ps_learning.specs.Trails.{Trail, IsLit, AreReasons}
-use Rattle.ps_sat.specs.Searches.{HoldsLearned, IsHeld, HasHanded, IsLogged}
+use Rattle.ps_learning.specs.Trails.{Trail, values, up_to, IsLit}
+use Rattle.ps_sat.specs.Searches.{IsOutcome, IsOutcomeOfHints, HoldsLearned, IsHeld, HasHanded, IsLogged}
 use Rattle.ps_sat.specs.declared.searching.Outcome.{Outcome}
 use Rattle.ps_sat.specs.declared.error.SearchError.{SearchError}
 use Rattle.ps_sat.specs.declared.searching.Outcome.TheVariants.{Found, Refuted, Spent}
-use Rattle.ps_sat.proofs.Going.{Searching, handed-more, goes-on, search-refuted, told-before, told-learned, handed-learned}
+use Rattle.ps_sat.proofs.Ends.{refuted}
+use Rattle.ps_sat.proofs.Lessons.{IsAtConflict, lesson}
+use Rattle.ps_spent.proofs.Hints.{spent-unrefuted}
+use Rattle.ps_spent.proofs.Learning.{Learns}
+use Rattle.ps_learning.specs.Levels.{IsAsserting}
+use Rattle.ps_learn.specs.Falsity.{AreFalseIn}
+use Rattle.ps_steps.specs.Weights.{weighted, IsNormal}
+use Rattle.ps_sat.proofs.Going.{Searching, steps-learned, handed-more, goes-on, search-spent, search-refuted, told-before, told-learned, handed-learned}
 
 id_next : (b : Bool) (r : Option StepRefused) → cond b r (Some IdNotNext) ≡ None → b ≡ true
 id_next true r h = refl
@@ -53,9 +60,17 @@ step-within n cs x l most few = record {
 pub held-found : (f : Form) (goal : Constraint) (told : Bool) (new : Telling) (cs : List Constraint) (t : Trail) (learned conflicts : ℕ) (a : Assignment) → Searching f goal told new cs t learned → learned ≤ conflicts → IsHeld f goal conflicts told new (Found a)
 held-found f goal told new cs t learned conflicts a h le = handed-learned f goal told new cs t learned conflicts h le
 
+-- what was learned at a conflict
+pub learned-lesson : (f : Form) (cs : List Constraint) (u : Trail) (learned conflict : ℕ) (x y : Step) (next : ℕ) → IsAtConflict f (known_of cs) u learned conflict → IsLearned f.variables cs x → x ≡ y → IsAsserting u (lits_of y) next → AreFalseIn (values u) (lits_of y) → is_contradiction x ≡ false → Learns u (known_of cs) x next
+learned-lesson f cs u learned conflict x y next at l e asserting falsified some =
+    lesson f (known_of cs) u learned conflict x next at l.lawful l.literals
+    (subst (λ (z : Step). IsAsserting u (lits_of z) next) (sym e) asserting)
+    (subst (λ (z : Step). AreFalseIn (values u) (lits_of z)) (sym e) falsified)
+    some
+
 -- what it holds when no conflict is left
-pub held-spent : (f : Form) (goal : Constraint) (told : Bool) (new : Telling) (cs : List Constraint) (t : Trail) (learned conflicts : ℕ) → Searching f goal told new cs t learned → learned ≡ conflicts → IsHeld f goal conflicts told new (Spent learned)
-held-spent f goal told new cs t learned conflicts h e = (h.handed, (h.count ∙ e, h.literals))
+pub held-spent : (f : Form) (goal : Constraint) (told : Bool) (new : Telling) (cs : List Constraint) (t u : Trail) (learned conflicts conflict next : ℕ) (x : Step) → Searching f goal told new cs t learned → IsAtConflict f (known_of cs) u learned conflict → Learns u (known_of cs) x next → HasClauses f → IsNormal (weighted goal.terms) goal.degree → learned ≡ conflicts → IsHeld f goal conflicts told new (Spent learned)
+held-spent f goal told new cs t u learned conflicts conflict next x h at l clauses normal e = (h.handed, search-spent f goal told new cs t u learned conflicts conflict next x h at l clauses normal e)
 
 pub non-empty : (b : Bool) (ls : List ℤ) (x : Step) (r : Bool) → b ≡ (length ls == 0) → ls ≡ x.lits → b ≡ r → is_contradiction x ≡ r
 non-empty b ls x r p q e = sym (p ∙ ap (λ (z : List ℤ). length z == 0) q) ∙ e
@@ -63,18 +78,17 @@ non-empty b ls x r p q e = sym (p ∙ ap (λ (z : List ℤ). length z == 0) q) �
 -- what it holds after a contradiction
 pub held-refuted : (f : Form) (goal : Constraint) (told : Bool) (old new : Telling) (cs : List Constraint) (t : Trail) (learned conflicts : ℕ) (x : Step) (id : ℕ) → Searching f goal told old cs t learned → learned ≤ conflicts → IsLearned f.variables cs x → Grows old new (x ∷ []) → is_contradiction x ≡ true → x.id ≡ id → IsHeld f goal conflicts told new (Refuted id)
 unfolding handed-more
-held-refuted f goal told old new cs t learned conflicts x id h le l grows non own = (handed-more f goal told old new cs t learned x h l.lawful l.literals grows, (h.handed.steps, x, refl, (omega (arith, h.count, le), h.literals), own, non))
+held-refuted f goal told old new cs t learned conflicts x id h le l grows non own = (handed-more f goal told old new cs t learned x h l.lawful l.literals grows, (h.handed.steps, x, refl, steps-learned f goal told old cs t learned conflicts h le, own, non))
 
 -- the form and the goal are refuted by what was learned
 pub learned-refutes : (f : Form) (goal : Constraint) (told : Bool) (new : Telling) (cs : List Constraint) (t : Trail) (learned : ℕ) (x : Step) → Searching f goal told new cs t learned → IsLearned f.variables cs x → is_contradiction x ≡ true → (w : List Bool) → MeetsForm w f → IsMet w goal → ⊥
 learned-refutes f goal told new cs t learned x h l non = search-refuted f goal told new cs t learned x h l.lawful non
 
 -- the search goes on after what was learned
-pub goes-further : (f : Form) (goal : Constraint) (told : Bool) (old new : Telling) (cs cs' : List Constraint) (t u w : Trail) (learned k : ℕ) (x : Step) → Searching f goal told old cs t learned → u.variables ≡ t.variables → AreReasons u.variables (known_of cs) u.entries → IsLearned f.variables cs x → Grows old new (x ∷ [])
-    → cs' ≡ cs ++ added x ∷ [] → is_contradiction x ≡ false → w.variables ≡ u.variables → w.entries ≡ take k u.entries → Searching f goal told new cs' w (learned + 1)
-goes-further f goal told old new cs cs' t u w learned k x h tu reasons l grows more non same cut =
-    let uf : u.variables ≡ f.variables = tu ∙ h.same in
-    goes-on f goal told old new cs cs' t u w learned k x h uf (subst (λ m. AreReasons m (known_of cs) u.entries) uf reasons) l.lawful grows more l.literals non same cut
+pub goes-further : (f : Form) (goal : Constraint) (told : Bool) (old new : Telling) (cs cs' : List Constraint) (t u w : Trail) (learned conflict next k : ℕ) (x : Step) → Searching f goal told old cs t learned → IsAtConflict f (known_of cs) u learned conflict → Learns u (known_of cs) x next → HasClauses f → IsLearned f.variables cs x → Grows old new (x ∷ [])
+    → cs' ≡ cs ++ added x ∷ [] → w ≡ up_to next u → w.variables ≡ u.variables → w.entries ≡ take k u.entries → Searching f goal told new cs' w (learned + 1)
+goes-further f goal told old new cs cs' t u w learned conflict next k x h at lesson clauses l grows more whole same cut =
+    goes-on f goal told old new cs cs' t u w learned conflict next k x h at lesson clauses l.lawful grows more l.literals whole same cut
 
 -- a conflict more is left
 pub least-more : (b : Bool) (l k : ℕ) → ((b ≡ false) × (l ≢ k)) ⊎ (b ≡ true) → b ≡ false → l ≤ k → l + 1 ≤ k
@@ -95,3 +109,13 @@ logged-after f goal conflicts old start new (Err e) st h = inr (told-learned f g
 pub err-learned : (f : Form) (goal : Constraint) (start new : Telling) (conflicts : ℕ) (r : Result Outcome SearchError) → IsErr r → HoldsLearned f goal conflicts start.tells new → HasHanded f goal conflicts start new r
 err-learned f goal start new conflicts (Ok o) e h = absurd (false≢true e)
 err-learned f goal start new conflicts (Err e) _ h = h
+
+-- what hints alone refute is refuted
+hints_outcome : (f : Form) (goal : Constraint) (conflicts : ℕ) (told : Bool) (new : Telling) (o : Outcome) → IsOutcome f goal conflicts o → IsHeld f goal conflicts told new o → IsOutcomeOfHints f goal o
+hints_outcome f goal conflicts told new (Found a) out h = λ r. refuted f goal (f.clauses ++ goal ∷ []) [] r.step tt refl r.lawful r.contradiction out.0 out.3 out.4
+hints_outcome f goal conflicts told new (Refuted last) out h = tt
+hints_outcome f goal conflicts told new (Spent learned) out h = λ r. spent-unrefuted f goal conflicts h.0.steps r h.1
+
+pub hints-decided : (f : Form) (goal : Constraint) (conflicts : ℕ) (start new : Telling) (r : Result Outcome SearchError) → IfOk r (IsOutcome f goal conflicts) → HasHanded f goal conflicts start new r → IfOk r (IsOutcomeOfHints f goal)
+hints-decided f goal conflicts start new (Ok o) out h = hints_outcome f goal conflicts start.tells new o out h
+hints-decided f goal conflicts start new (Err e) out h = tt

@@ -1,4 +1,5 @@
 pub mod Atoms
 pub mod Ends
+pub mod Lessons
 pub mod Going
 pub mod Handing

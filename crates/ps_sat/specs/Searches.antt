@@ -1,11 +1,13 @@
 -- What a search answers, and what it hands over.
-use Rattle.std.specs.Prelude.{ℕ, ◌≡◌, ◌≤◌, true, false, Bool, IsTrue, Some, Result, Ok, Err, List, [], ◌∷◌, ◌++◌, length, All, ◌⊎◌}
+use Rattle.std.specs.Prelude.{ℕ, ◌≡◌, ◌≤◌, ◌^◌, ⊤, true, false, Bool, IsTrue, Some, Result, Ok, Err, List, [], ◌∷◌, ◌++◌, length, All, ◌⊎◌}
 use Rattle.ps_steps.specs.Assignments.{full}
 use Rattle.ps_steps.specs.Constraints.{Constraint, IsMet}
 use Rattle.ps_steps.specs.Steps.{Step, AreLawful, is_contradiction}
 use Rattle.ps_forms.specs.Forms.{Form, MeetsForm, first_known}
 use Rattle.ps_log.specs.Logs.{Telling, Stays}
 use Rattle.ps_learning.specs.Trails.{IsLit}
+use Rattle.ps_forms.specs.Spent.{AreNew, IsSpentSearch}
+use Rattle.ps_spent.specs.Hints.{AreRefutedByHints}
 use Rattle.ps_sat.specs.declared.searching.Outcome.{Outcome}
 use Rattle.ps_sat.specs.declared.searching.Outcome.TheVariants.{Found, Refuted, Spent}
 use Rattle.ps_sat.specs.declared.error.SearchError.{SearchError}
@@ -16,6 +18,12 @@ IsOutcome f goal conflicts (Found a) = (w : List Bool) × (a ≡ full w) × (len
 IsOutcome f goal conflicts (Refuted last) = (w : List Bool) → MeetsForm w f → IsMet w goal → ⊥
 IsOutcome f goal conflicts (Spent learned) = learned ≡ conflicts
 
+-- where hints alone refute the form and the goal, the outcome is a refutation
+abbrev pub IsOutcomeOfHints : Form → Constraint → Outcome → Type 0
+IsOutcomeOfHints f goal (Found a) = ¬ AreRefutedByHints f goal
+IsOutcomeOfHints f goal (Refuted last) = ⊤
+IsOutcomeOfHints f goal (Spent learned) = ¬ AreRefutedByHints f goal
+
 -- a log that told has this goal and these steps
 abbrev pub HoldsGoalAndSteps : Bool → Telling → Constraint → List Step → Type 0
 HoldsGoalAndSteps told new c ss = IsTrue told → IsTrue new.tells × (new.goal ≡ Some c) × (new.steps ≡ Some ss)
@@ -24,15 +32,20 @@ HoldsGoalAndSteps told new c ss = IsTrue told → IsTrue new.tells × (new.goal 
 abbrev pub HaveLiterals : List Step → Type 0
 HaveLiterals ss = All (λ s. is_contradiction s ≡ false) ss
 
--- so many steps at most, each with a literal
-abbrev pub AreLearned : ℕ → List Step → Type 0
-AreLearned conflicts ss = (length ss ≤ conflicts) × HaveLiterals ss
+-- so many steps at most, and at most 2 to the number of variables, each with a literal, and none of which includes a clause of
+-- the form or an earlier step
+pub record AreLearned (f : Form) (conflicts : ℕ) (ss : List Step) : Type 0 where
+  pub count : length ss ≤ conflicts
+  pub few : length ss ≤ 2 ^ f.variables
+  pub literals : HaveLiterals ss
+  pub new : AreNew f ss
 
--- what an outcome says of the steps that were handed over: a refutation ends in its only contradiction
-abbrev pub IsShown : ℕ → List Step → Outcome → Type 0
-IsShown conflicts ss (Found a) = AreLearned conflicts ss
-IsShown conflicts ss (Refuted last) = (front : List Step) × (s : Step) × (ss ≡ front ++ s ∷ []) × AreLearned conflicts front × (s.id ≡ last) × (is_contradiction s ≡ true)
-IsShown conflicts ss (Spent learned) = (length ss ≡ conflicts) × HaveLiterals ss
+-- what an outcome says of the steps that were handed over: a refutation ends in its only contradiction, and a search that was
+-- spent is a spent search
+abbrev pub IsShown : Form → Constraint → ℕ → List Step → Outcome → Type 0
+IsShown f goal conflicts ss (Found a) = AreLearned f conflicts ss
+IsShown f goal conflicts ss (Refuted last) = (front : List Step) × (s : Step) × (ss ≡ front ++ s ∷ []) × AreLearned f conflicts front × (s.id ≡ last) × (is_contradiction s ≡ true)
+IsShown f goal conflicts ss (Spent learned) = IsSpentSearch f goal conflicts ss
 
 -- each literal of each step is one of these variables
 abbrev pub AreStepsOf : ℕ → List Step → Type 0
@@ -48,11 +61,11 @@ pub record Handed (f : Form) (goal : Constraint) (told : Bool) (new : Telling) :
 
 -- the steps that were handed over are as an outcome says
 abbrev pub IsHeld : Form → Constraint → ℕ → Bool → Telling → Outcome → Type 0
-IsHeld f goal conflicts told new o = (h : Handed f goal told new) × IsShown conflicts h.steps o
+IsHeld f goal conflicts told new o = (h : Handed f goal told new) × IsShown f goal conflicts h.steps o
 
--- the steps that were handed over before an error are so many at most, each with a literal
+-- the steps that were handed over before an error were learned
 abbrev pub HoldsLearned : Form → Constraint → ℕ → Bool → Telling → Type 0
-HoldsLearned f goal conflicts told new = (h : Handed f goal told new) × AreLearned conflicts h.steps
+HoldsLearned f goal conflicts told new = (h : Handed f goal told new) × AreLearned f conflicts h.steps
 
 -- what was handed over is held by a log that told: as the outcome says, or before an error
 abbrev pub HasHanded : Form → Constraint → ℕ → Telling → Telling → Result Outcome SearchError → Type 0

@@ -5,6 +5,7 @@ ghost use Rattle.ps_steps.specs.Weights.{IsWithin};
 ghost use Rattle.ps_learning.specs.Known.{most_known};
 ghost use Rattle.ps_learning.specs.Trails.{values, AreReasons};
 ghost use Rattle.ps_learn.specs.Rest.{IsAdvanced, IsLonger};
+ghost use Rattle.ps_spent.specs.Resting.{AreRested, AreOfAtoms};
 
 use crate::order::Order;
 use ps_clause::ClauseForm;
@@ -26,9 +27,13 @@ pub(crate) fn advance(
     requires reasons { AreReasons trail.old.variables (known_of known.now) trail.old.entries }
     requires inside { All (IsWithin base.now.variables) known.now }
     requires few { length known.now ≤ most_known }
+    requires rested { AreRested base.now.variables (known_of known.now) trail.old.entries }
+    requires atoms { AreOfAtoms base.now trail.old.entries }
     ensures variables { trail.new.variables ≡ trail.old.variables }
     ensures longer { IsLonger trail.old.entries trail.new.entries }
     ensures reasons { AreReasons trail.new.variables (known_of known.now) trail.new.entries }
+    ensures rested { AreRested base.now.variables (known_of known.now) trail.new.entries }
+    ensures atoms { AreOfAtoms base.now trail.new.entries }
     ensures ended { IsAdvanced base.now (known_of known.now) (values trail.new) result }
 {
     'on: loop {

@@ -7,7 +7,8 @@ ghost use Rattle.ps_log.specs.Logs.{Grows, Stays};
 ghost use Rattle.ps_log.specs.Limits.{IsStepWithin};
 ghost use Rattle.ps_log.specs.declared.limits.TheConstants.{MOST_CONFLICTS};
 ghost use Rattle.ps_sat.specs.Errors.{CountsSearchFault};
-ghost use Rattle.ps_sat.specs.Searches.{IsOutcome, IsLogged, HasHanded, HoldsGoalAndSteps};
+ghost use Rattle.ps_sat.specs.Searches.{IsOutcome, IsOutcomeOfHints, IsLogged, HasHanded};
+ghost use Rattle.ps_sat.specs.Searches.{HoldsGoalAndSteps};
 
 use crate::advancing::advance;
 use crate::error::SearchError;
@@ -47,12 +48,16 @@ fn first_known(
 
 /// Looks for a full assignment that meets each clause of the form and the goal, and learns a clause
 /// from each conflict (J. P. Marques-Silva, K. A. Sakallah, "GRASP", 1999). At most `conflicts`
-/// clauses with literals are learned. Each goes to the log as a step that is lawful there.
+/// clauses with literals are learned, and at most 2 to the number of variables. Each goes to the log
+/// as a step that is lawful there, and none includes a clause of the form or an earlier one.
+///
+/// What hints alone refute is refuted at every limit. `Spent` comes only where one more clause is
+/// due: after the learned ones no contradiction is lawful, and a clause of opposites of atoms'
+/// literals is.
 ///
 /// After each outcome the log is whole and holds this goal and the steps of this search: after
 /// `Refuted` the last one, and no other, is a contradiction, and after `Spent` they are `conflicts`
-/// steps, each with a literal. `LogFault`, and no other answer, raises the log's count of faults,
-/// by one.
+/// steps. `LogFault`, and no other answer, raises the log's count of faults, by one.
 pub fn search<S: ProofSink>(
     alloc: Global,
     base: &ClauseForm,
@@ -64,6 +69,7 @@ pub fn search<S: ProofSink>(
     requires goal { IsWithin base.now.variables goal.now }
     requires few { conflicts ≤ MOST_CONFLICTS }
     ensures outcome { IfOk result (IsOutcome base.now goal.now conflicts) }
+    ensures hints { IfOk result (IsOutcomeOfHints base.now goal.now) }
     ensures logged { IsLogged base.now goal.now conflicts (S.told log.old) (S.told log.new) result }
     ensures whole { OnOk result (IsTrue (S.is_whole log.new)) }
     ensures counted { CountsSearchFault result (S.faults log.old) (S.faults log.new) }
@@ -106,12 +112,16 @@ fn learn_all<S: ProofSink>(
     ensures same_references { S.names log.new ≡ S.names log.old }
 {
     let mut order = Order::new(alloc, goal, base.variables())?;
+    // Read for its clauses: the goal is in the form in which constraints are kept.
+    let _terms = goal.terms();
     let mut learned = 0;
     'learn: loop {
         let conflict = match advance(base, &known, &order, &mut trail) {
             None => return Ok(Outcome::Found(trail.into_values())),
             Some(conflict) => conflict,
         };
+        // Read for its clauses: each literal of a trail is of a variable of its own, and levels rise.
+        let _entries = trail.entries();
         let found = learn(alloc, &known, &trail, conflict)?;
         let last = found.step.lits.as_slice().is_empty();
         if !last && learned == conflicts {

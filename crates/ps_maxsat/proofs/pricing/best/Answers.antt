@@ -2,7 +2,7 @@ use Rattle.std.proofs.Common.{◌≡◌, ◌≤◌, ◌∙◌, ◌+ℤ◌, ◌-�
 use mir.Syntax.{w128}
 use Rattle.std.proofs.lemmas.Int.{ints}
 use Rattle.ps_maxsat.proofs.Halving.{halved-first, halved-next, halved-few, halves-up, halves-down, least-up}
-use Rattle.ps_maxsat.proofs.Rounds.{refuted-none, none-same, found-of, held-end, spent-is, held-found, held-refutation, held-last, bound-above, later-error, later-goal, first-error, on-error}
+use Rattle.ps_maxsat.proofs.Rounds.{refuted-none, none-same, found-of, held-end, spent-is, held-found, held-refutation, held-last, bound-above, later-error, halfway, later-goal, first-error, on-error}
 use Rattle.ps_maxsat.proofs.pricing.best.Goals as goal
 
 pub returns-in_err-last-clause-logged : goal.returns-in_err-last-clause-logged
@@ -48,7 +48,6 @@ loop-found-preserved-in-Refuted-2 g c =
     let m = c.middle-goal.ensures in
     let r : ℤ = to_z w128 (of_z w128 c.middle-goal.result) in
     let same : r ≡ c.middle-goal.result = omega (arith, ints) in
-    let goal_is = later-goal c.args.wcnf.now (to_z w128 c.loop-found.found-bits) c.middle-goal.result r (to_z w128 c.loop-found.bound-bits) same i.least m.above m.within i.within in
     let b : ℤ = to_z w128 (of_z w128 (to_z w128 (of_z w128 c.middle-goal.result) -ℤ pos 1)) in
     let down : b +ℤ pos 1 ≡ r = omega (arith, ints, same, m.above, m.within, i.found_size, i.bound_size) in
     record {
@@ -60,7 +59,7 @@ loop-found-preserved-in-Refuted-2 g c =
       halved = halved-next _ _ _ b c.loop-found.searches i.halved (omega (arith, ints, c.loop-found-test.true)) (halves-down (to_z w128 c.loop-found.found-bits) (to_z w128 c.loop-found.bound-bits) c.middle-goal.result r b m.half_down same down);
       found_size = i.found_size;
       bound_size = omega (arith, ints, down, same, m.above, m.within, i.found_size, i.bound_size);
-      logged = inr (held-refutation c.args.wcnf.now r (b +ℤ pos 1) c.args.conflicts _ _ _ c.in_ok-search_above.field-0 _ c.in-Refuted-2.is goal_is (sym down) i.telling c.in_ok-search_above.ensures.logged);
+      logged = inr (held-refutation c.args.wcnf.now r (b +ℤ pos 1) c.args.conflicts _ _ _ c.in_ok-search_above.field-0 _ c.in-Refuted-2.is (later-goal c.args.wcnf.now c.loop-found.assignment (to_z w128 c.loop-found.found-bits) c.middle-goal.result r (to_z w128 c.loop-found.bound-bits) same i.own i.least i.none m.above m.within i.within m.half_up m.half_down) (sym down) i.telling c.in_ok-search_above.ensures.logged);
       telling = λ t. c.in_ok-search_above.ensures.telling (i.telling t);
       whole = c.in_ok-search_above.ensures.whole;
       same_faults = c.in_ok-search_above.ensures.counted.ok ∙ i.same_faults;
@@ -74,7 +73,6 @@ loop-found-preserved g c =
     let m = c.middle-goal.ensures in
     let r : ℤ = to_z w128 (of_z w128 c.middle-goal.result) in
     let same : r ≡ c.middle-goal.result = omega (arith, ints) in
-    let goal_is = later-goal c.args.wcnf.now (to_z w128 c.loop-found.found-bits) c.middle-goal.result r (to_z w128 c.loop-found.bound-bits) same i.least m.above m.within i.within in
     let v : ℤ = to_z w128 (of_z w128 c.value-found-in-Found-2.result) in
     let value_same : v ≡ c.value-found-in-Found-2.result = omega (arith, ints, c.value-found-in-Found-2.ensures.size) in
     let found = found-of c.args.wcnf.now r c.args.conflicts c.in_ok-search_above.field-0 c.in-Found-2.better v c.value-found-in-Found-2.result c.in-Found-2.is c.in_ok-search_above.ensures.outcome c.value-found-in-Found-2.ensures.full c.requires.soft value_same in
@@ -87,7 +85,7 @@ loop-found-preserved g c =
       halved = halved-next _ _ v _ c.loop-found.searches i.halved (omega (arith, ints, c.loop-found-test.true)) (halves-up (to_z w128 c.loop-found.found-bits) (to_z w128 c.loop-found.bound-bits) c.middle-goal.result r v m.half_up same found.up);
       found_size = omega (arith, ints, value_same, c.value-found-in-Found-2.ensures.size);
       bound_size = i.bound_size;
-      logged = inl (held-found c.args.wcnf.now r v c.args.conflicts _ _ _ c.in_ok-search_above.field-0 c.in-Found-2.better c.in-Found-2.is goal_is found.up i.telling c.in_ok-search_above.ensures.logged);
+      logged = inl (held-found c.args.wcnf.now r v c.args.conflicts _ _ _ c.in_ok-search_above.field-0 c.in-Found-2.better c.in-Found-2.is (later-goal c.args.wcnf.now c.loop-found.assignment (to_z w128 c.loop-found.found-bits) c.middle-goal.result r (to_z w128 c.loop-found.bound-bits) same i.own i.least i.none m.above m.within i.within m.half_up m.half_down) found.up i.telling c.in_ok-search_above.ensures.logged);
       telling = λ t. c.in_ok-search_above.ensures.telling (i.telling t);
       whole = c.in_ok-search_above.ensures.whole;
       same_faults = c.in_ok-search_above.ensures.counted.ok ∙ i.same_faults;
@@ -99,7 +97,10 @@ pub returns-in-Spent-2-clause-priced : goal.returns-in-Spent-2-clause-priced
 returns-in-Spent-2-clause-priced g c =
     let i = c.loop-found.invariant in
     let m = c.middle-goal.ensures in
-    (i.own, i.least, (omega (arith, ints, m.above)), (omega (arith, ints, m.within, i.within)), (omega (arith, i.some)), (omega (arith, halved-few _ _ c.loop-found.searches i.halved)))
+    let r : ℤ = to_z w128 (of_z w128 c.middle-goal.result) in
+    let same : r ≡ c.middle-goal.result = omega (arith, ints) in
+    let half = halfway c.args.wcnf.now (to_z w128 c.loop-found.found-bits) c.middle-goal.result r (to_z w128 c.loop-found.bound-bits) same i.none m.above m.within m.half_up m.half_down in
+    (i.own, i.least, half, (omega (arith, ints, m.within, i.within)), (omega (arith, i.some)), (omega (arith, halved-few _ _ c.loop-found.searches i.halved)))
 
 pub returns-in-Spent-2-clause-logged : goal.returns-in-Spent-2-clause-logged
 returns-in-Spent-2-clause-logged g c =
@@ -117,9 +118,9 @@ returns-in_err-search_above-clause-logged g c =
     let i = c.loop-found.invariant in
     let m = c.middle-goal.ensures in
     let r : ℤ = to_z w128 (of_z w128 c.middle-goal.result) in
-    let goal_is = later-goal c.args.wcnf.now (to_z w128 c.loop-found.found-bits) c.middle-goal.result r (to_z w128 c.loop-found.bound-bits) (omega (arith, ints)) i.least m.above m.within i.within in
+    let same : r ≡ c.middle-goal.result = omega (arith, ints) in
     on-error c.args.wcnf.now c.args.conflicts _ _ c.from_residual-in_err-search_above.result c.from_residual-in_err-search_above.ensures.0
-    (later-error c.args.wcnf.now (to_z w128 c.loop-found.found-bits) (to_z w128 c.loop-found.bound-bits) r c.args.conflicts _ _ _ i.logged i.telling goal_is c.in_err-search_above.ensures.logged)
+    (later-error c.args.wcnf.now (to_z w128 c.loop-found.found-bits) (to_z w128 c.loop-found.bound-bits) r c.args.conflicts _ _ _ i.logged i.telling (later-goal c.args.wcnf.now c.loop-found.assignment (to_z w128 c.loop-found.found-bits) c.middle-goal.result r (to_z w128 c.loop-found.bound-bits) same i.own i.least i.none m.above m.within i.within m.half_up m.half_down) c.in_err-search_above.ensures.logged)
 
 pub returns-clause-logged : goal.returns-clause-logged
 returns-clause-logged g c =

@@ -2,6 +2,7 @@ use Rattle.std.proofs.Common.{◌≡◌}
 use Rattle.ps_steps.specs.Steps.{known_of}
 use Rattle.ps_learning.specs.Trails.{values, unset_count, AreReasons}
 use Rattle.ps_learn.specs.Rest.{IsLonger}
+use Rattle.ps_spent.specs.Resting.{AreRested, AreOfAtoms}
 use Rattle.ps_sat.proofs.advancing.advance.Given as goal
 
 abbrev pub invariant-on : goal.invariant-on
@@ -9,6 +10,8 @@ invariant-on l = record {
   same : l.trail.variables ≡ l.initial.trail.variables;
   longer : IsLonger l.initial.trail.entries l.trail.entries;
   reasons : AreReasons l.trail.variables (known_of l.known) l.trail.entries;
+  rested : AreRested l.base.variables (known_of l.known) l.trail.entries;
+  atoms : AreOfAtoms l.base l.trail.entries;
 }
 
 abbrev pub decreases-on : goal.decreases-on

@@ -30,4 +30,4 @@ returns-in_ok-world-in-Cut-clause-pricing c =
     let h : IsPriced p c.args.self.now.conflicts (Cut c.in-Cut.assignment c.in-Cut.value c.in-Cut.goal c.in-Cut.searches) = search rules in
     let spent : IsSpentSearch p.hard (goal_of p c.in-Cut.goal) c.args.self.now.conflicts c.in_ok-priced.field-0.steps = search rules in
     cut_found c.args.kind c.args.self.now c.args.dual p c.in_ok-wcnf.ensures.value are.nodes c.in-Cut.assignment c.in-Cut.value c.in-Cut.goal c.in_ok-world-in-Cut.field-0
-    c.in_ok-priced.field-0.steps are.atoms h.0 c.in_ok-world-in-Cut.ensures.of c.in_ok-world-in-Cut.ensures.length h.1 h.2 spent
+    c.in_ok-priced.field-0.steps are.atoms h.0 c.in_ok-world-in-Cut.ensures.of c.in_ok-world-in-Cut.ensures.length h.1 h.2.above spent

@@ -1,0 +1,11 @@
+pub mod Staying
+pub mod Opening
+pub mod Terms
+pub mod Counts
+pub mod Learning
+pub mod Rising
+pub mod Due
+pub mod Distinct
+pub mod News
+pub mod Growing
+pub mod Hints
