@@ -15,7 +15,10 @@ use Rattle.ps_basis.proofs.PivotKeeps.{swapped}
 use Rattle.ps_basis.proofs.Units.{unit_at-same, unit_at-other}
 use Rattle.std.proofs.Common.{List, ◌≤◌, ◌-◌}
 use Rattle.ps_rule.proofs.Rays.{no_ray, no_ray_upper}
-use Rattle.ps_rule.specs.Rule.{Improves, IsFeasible, IsArtificialRow, HasLeastRatio, LeavesInPhaseTwo, Leaves}
+use Rattle.ps_rule.specs.Rule.{Improves, IsFeasible, table_of}
+use Rattle.ps_cycle.specs.Cycle.{HasZeroArtificials, IsStart}
+use Rattle.ps_cycle.proofs.Values as values
+use Rattle.ps_table.specs.declared.home.Home.{Home}
 use Rattle.ps_table.specs.declared.costs.Costs.{Costs}
 use Rattle.ps_pool.specs.declared.col.Col.{Col}
 use Rattle.ps_pool.specs.declared.col.Col.TheVariants as col
@@ -29,40 +32,13 @@ use Rattle.ps_bland.specs.Ready.{HasNoNegativeCost, HasUnitRow, BelongsTo, FitsP
 use Rattle.ps_bland.specs.Rounds.{HasRising, CanLeave}
 use Rattle.ps_bland.proofs.Steps.{not_above, costs_kept}
 
-above_or_not_z : (z : ℤ) → (pos 0 <ℤ z) ⊎ (pos 0 ≤ℤ neg_ℤ z)
-above_or_not_z (pos zero) = inr (omega (arith, ints))
-above_or_not_z (pos (suc n)) = inl (omega (arith, ints))
-above_or_not_z (negsuc n) = inr (omega (arith, ints))
+-- basic artificials are at 0 where a phase on the sides begins
+pub zero_artificials : (phase : Phase) (costs : Costs) (t : Tableau) → FitsPhase phase costs t → HasZeroArtificials phase (simplex_of t)
+zero_artificials One costs t fits = tt
+zero_artificials Lower costs t fits = fits.0
+zero_artificials Upper costs t fits = fits.0
 
-pub above_or_not : (x : Rational) → IsAbove x ⊎ IsNonneg (neg x)
-unfolding neg
-above_or_not x = elim (above_or_not_z x.over) [ inl h ↦ inl h | inr h ↦ inr (nonneg_of (neg_ℤ x.over) (den x) h) ]
-
-zero_or_not_z : (z : ℤ) → (z ≡ pos 0) ⊎ (z ≡ pos 0 → ⊥)
-zero_or_not_z (pos zero) = inl refl
-zero_or_not_z (pos (suc n)) = inr (λ e. absurd (omega (arith, ints)))
-zero_or_not_z (negsuc n) = inr (λ e. absurd (omega (arith, ints)))
-
-pub zero_or_not : (x : Rational) → (x ≡ zero_q) ⊎ (x ≡ zero_q → ⊥)
-zero_or_not x = elim (zero_or_not_z x.over) [ inl e ↦ inl (over_is_zero x e) | inr ne ↦ inr (λ e. ne (zero_over x e)) ]
-
-nonneg-div : (x y : Rational) → IsNonneg x → IsAbove y → IsNonneg (div x y)
-nonneg-div x y h k = nonneg-mul x (inverse y) h (inverse_nonneg y k)
-
--- a value after a pivot by the least ratio
-value_kept : (v x r s : Rational) → IsNonneg v → IsNonneg r → (IsAbove x → AtMost r (div v x)) → IsNonneg (sub v (mul x r))
-value_kept v x r s hv hr h =
-    elim (above_or_not x) [
-      | inl a ↦
-          subst IsNonneg
-          (ap (λ k. sub k (mul r x)) (div-mul v x (above_not_zero x a)) ∙ ring_q (v ∷ (x ∷ (r ∷ []))) (plus (var 0) (minus (by (var 2) (var 1)))) (plus (var 0) (minus (by (var 1) (var 2)))) refl)
-          (at_most_mul r (div v x) x (h a) (above_nonneg x a))
-      | inr n ↦
-          subst IsNonneg (ring_q (v ∷ (x ∷ (r ∷ []))) (plus (var 0) (by (minus (var 1)) (var 2))) (plus (var 0) (minus (by (var 1) (var 2)))) refl)
-          (nonneg-add v (mul (neg x) r) hv (nonneg-mul (neg x) r n hr))
-    ]
-
-module _ (t u : Tableau) (enter : Col) (leave : ℕ) (ok : IsTableau t) (pivot : IsPivot leave enter t u) where
+module _ (t u : Tableau) (enter : Col) (leave : ℕ) (pivot : IsPivot leave enter t u) where
   abbrev n : ℕ
   n = length t.kinds
 
@@ -72,77 +48,17 @@ module _ (t u : Tableau) (enter : Col) (leave : ℕ) (ok : IsTableau t) (pivot :
   abbrev q : ℕ
   q = number_in (length t.kinds) enter
 
-  first : 0 < w
-  first = omega arith
+  -- a phase may start at the new table, seen with the old one's kinds and worlds
+  abbrev StartsOf : Phase → List Home → ℕ → Type 0
+  StartsOf phase kinds worlds = IsStart phase (table_of (length kinds) (suc (length kinds + worlds)) (basic_at u) (artificial_at kinds) (entry_at u))
 
-  -- the values by the least ratio
-  by_ratio : ((i : ℕ) → i < n → IsNonneg (entry_at t i 0)) → HasLeastRatio (simplex_of t) q leave → (i : ℕ) → i < n → IsNonneg (entry_at u i 0)
-  by_ratio h least = λ i l.
-      let own : IsNonneg (entry_at u leave 0) = subst IsNonneg (sym (pivot.cells.row 0 first)) (nonneg-div (entry_at t leave 0) (entry_at t leave q) (h leave least.rising.within) least.rising.above) in
-      elim (cases_eq i leave) [
-        | inl e ↦ subst (λ k. IsNonneg (entry_at u k 0)) (sym e) own
-        | inr ne ↦
-            subst IsNonneg (sym (pivot.cells.others i 0 l first ne))
-            (value_kept (entry_at t i 0) (entry_at t i q) (entry_at u leave 0) zero_q (h i l) own
-            (λ a. subst (λ k. AtMost k (div (entry_at t i 0) (entry_at t i q))) (sym (pivot.cells.row 0 first)) (least.least i (record { within = l; above = a })).at_most))
-      ]
-
-  -- where the leaving row has value 0, no value changes
-  blank : entry_at t leave 0 ≡ zero_q → entry_at u leave 0 ≡ zero_q
-  blank e = pivot.cells.row 0 first ∙ ap (λ k. div k (entry_at t leave q)) e ∙ ring_q (inverse (entry_at t leave q) ∷ []) (by none (var 0)) none refl
-
-  unchanged : (i : ℕ) → i < n → entry_at t leave 0 ≡ zero_q → entry_at u i 0 ≡ entry_at t i 0
-  unchanged i l e =
-      elim (cases_eq i leave) [
-        | inl k ↦ ap (λ z. entry_at u z 0) k ∙ blank e ∙ sym e ∙ ap (λ z. entry_at t z 0) (sym k)
-        | inr ne ↦ pivot.cells.others i 0 l first ne ∙ ap (λ k. sub (entry_at t i 0) (mul (entry_at t i q) k)) (blank e) ∙ ring_q (entry_at t i 0 ∷ (entry_at t i q ∷ [])) (plus (var 0) (minus (by (var 1) none))) (var 0) refl
-      ]
-
-  -- where row i has 0 in the entering column, its value stays
-  level : (i : ℕ) → i < n → i ≢ leave → entry_at t i q ≡ zero_q → entry_at u i 0 ≡ entry_at t i 0
-  level i l ne e = pivot.cells.others i 0 l first ne ∙ ap (λ k. sub (entry_at t i 0) (mul k (entry_at u leave 0))) e ∙ ring_q (entry_at t i 0 ∷ (entry_at u leave 0 ∷ [])) (plus (var 0) (minus (by none (var 1)))) (var 0) refl
-
-  -- the basis after the pivot
-  basic_other : (i : ℕ) → i ≢ leave → basic_at u i ≡ basic_at t i
-  basic_other i ne = (λ z. number_in (length (pivot.kinds z)) (get_or (pivot.basic z) i (col.Home 0))) ∙ ap (number_in n) (rw get_or-set_other refl)
-
-  basic_own : leave < n → basic_at u leave ≡ q
-  basic_own l =
-      let hb : leave < length t.basic = omega (arith, ok.basics) in
-      (λ z. number_in (length (pivot.kinds z)) (get_or (pivot.basic z) leave (col.Home 0))) ∙ ap (number_in n) (get_or-set_same t.basic leave enter (col.Home 0) hb)
-
-  artificial_blank : IsFeasible (simplex_of t) → IsArtificialRow (simplex_of t) q leave → entry_at t leave 0 ≡ zero_q
-  artificial_blank feasible row = feasible.zero leave row.within row.artificial
-
-  -- in phase two the basic artificials stay at 0
-  second_zero : IsFeasible (simplex_of t) → artificial_at t.kinds q ≡ false → LeavesInPhaseTwo (simplex_of t) q leave → (i : ℕ) → i < n → artificial_at t.kinds (basic_at u i) ≡ true → entry_at u i 0 ≡ zero_q
-  second_zero feasible real leaves = λ i l a.
-      elim (cases_eq i leave) [
-        | inl e ↦ absurd (true≢false (sym a ∙ ap (artificial_at t.kinds) (ap (basic_at u) e ∙ basic_own (subst (λ k. k < n) e l)) ∙ real))
-        | inr ne ↦
-            let b : artificial_at t.kinds (basic_at t i) ≡ true = ap (artificial_at t.kinds) (sym (basic_other i ne)) ∙ a in
-            let old : entry_at t i 0 ≡ zero_q = feasible.zero i l b in
-            elim leaves [
-              | inl row ↦ unchanged i l (artificial_blank feasible row.row) ∙ old
-              | inr least ↦
-                  elim (zero_or_not (entry_at t i q)) [
-                    | inl e ↦ level i l ne e ∙ old
-                    | inr filled ↦ absurd (least.0 i (record { within = l; artificial = b; entry = filled }))
-                  ]
-            ]
-      ]
-
-  second_feasible : IsFeasible (simplex_of t) → artificial_at t.kinds q ≡ false → LeavesInPhaseTwo (simplex_of t) q leave → IsFeasible (simplex_of u)
-  second_feasible feasible real leaves = record {
-    zero = λ i l a. second_zero feasible real leaves i (subst (λ k. i < length k) pivot.kinds l) (subst (λ k. artificial_at k (basic_at u i) ≡ true) pivot.kinds a);
-  }
-
-  second_values : IsFeasible (simplex_of t) → ((i : ℕ) → i < n → IsNonneg (entry_at t i 0)) → LeavesInPhaseTwo (simplex_of t) q leave → (i : ℕ) → i < n → IsNonneg (entry_at u i 0)
-  second_values feasible values leaves = λ i l.
-      elim leaves [
-        | inl row ↦ subst IsNonneg (sym (unchanged i l (artificial_blank feasible row.row))) (values i l)
-        | inr least ↦ by_ratio values least.1 i l
-      ]
+  starts : (phase : Phase) (costs : Costs) → IsReady phase costs t → IsLawful phase costs t enter leave → IsStart phase (simplex_of u)
+  starts phase costs ready lawful =
+      subst (λ kinds. StartsOf phase kinds u.worlds) (sym pivot.kinds)
+      (subst (StartsOf phase t.kinds) (sym pivot.worlds)
+      (values.start_kept n w (artificial_at t.kinds) (basic_at t) (basic_at u) (entry_at t) (entry_at u) q leave (omega arith) lawful.enters.improves.within pivot.based pivot.cells phase
+      (record { values = ready.values; artificials = zero_artificials phase costs t ready.fits })
+      lawful.enters.improves.real lawful.leaves))
 
   width_same : suc (length u.kinds + u.worlds) ≡ w
   width_same = λ z. suc (length (pivot.kinds z) + pivot.worlds z)
@@ -175,25 +91,31 @@ module _ (t u : Tableau) (enter : Col) (leave : ℕ) (ok : IsTableau t) (pivot :
     cost = λ j a b. h.cost j a (subst (λ k. j < k) width_same b);
   }
 
-  all_values : (phase : Phase) (costs : Costs) → FitsPhase phase costs t → ((i : ℕ) → i < n → IsNonneg (entry_at t i 0)) → Leaves phase (simplex_of t) q leave → (i : ℕ) → i < n → IsNonneg (entry_at u i 0)
-  all_values One costs fits values leaves = by_ratio values leaves
-  all_values Lower costs fits values leaves = second_values fits.0 values leaves
-  all_values Upper costs fits values leaves = second_values fits.0 values leaves
+  leaves_how : (phase : Phase) (costs : Costs) → IsReady phase costs t → IsLawful phase costs t enter leave → values.HowLeaves (simplex_of t) q leave
+  leaves_how phase costs ready lawful =
+      values.how n w (artificial_at t.kinds) (basic_at t) (basic_at u) (entry_at t) (entry_at u) q leave (omega arith) lawful.enters.improves.within pivot.based pivot.cells phase
+      (zero_artificials phase costs t ready.fits) lawful.leaves
 
-  leaving_filled : LeavesInPhaseTwo (simplex_of t) q leave → (leave < n) × (entry_at t leave q ≢ zero_q)
-  leaving_filled leaves = elim leaves [ inl row ↦ (row.row.within, row.row.entry) | inr least ↦ (least.1.rising.within, above_not_zero (entry_at t leave q) least.1.rising.above) ]
+  upper_fits : (costs : Costs) → IsReady Upper costs t → IsLawful Upper costs t enter leave → HasUnitRow costs u
+  upper_fits costs ready lawful =
+      let how = leaves_how Upper costs ready lawful in
+      let column = lawful.enters.improves.within in
+      upper_kept costs
+      (values.row_within n w (artificial_at t.kinds) (basic_at t) (basic_at u) (entry_at t) (entry_at u) q leave (omega arith) column pivot.based pivot.cells how)
+      column
+      (values.entry_filled n w (artificial_at t.kinds) (basic_at t) (basic_at u) (entry_at t) (entry_at u) q leave (omega arith) column pivot.based pivot.cells how)
+      ready.fits.1
 
-  fits_kept : (phase : Phase) (costs : Costs) → FitsPhase phase costs t → Improves (simplex_of t) (cost_at costs) q → Leaves phase (simplex_of t) q leave → FitsPhase phase costs u
-  fits_kept One costs fits improves leaves = costs_not_negative costs fits
-  fits_kept Lower costs fits improves leaves = (second_feasible fits.0 improves.real leaves, costs_not_negative costs fits.1)
-  fits_kept Upper costs fits improves leaves =
-      let filled = leaving_filled leaves in (second_feasible fits.0 improves.real leaves, upper_kept costs filled.0 improves.within filled.1 fits.1)
+  fits_kept : (phase : Phase) (costs : Costs) → IsReady phase costs t → IsLawful phase costs t enter leave → FitsPhase phase costs u
+  fits_kept One costs ready lawful = costs_not_negative costs ready.fits
+  fits_kept Lower costs ready lawful = ((starts Lower costs ready lawful).artificials, costs_not_negative costs ready.fits.1)
+  fits_kept Upper costs ready lawful = ((starts Upper costs ready lawful).artificials, upper_fits costs ready lawful)
 
   pub ready_kept : (phase : Phase) (costs : Costs) → IsReady phase costs t → IsLawful phase costs t enter leave → IsReady phase costs u
   ready_kept phase costs ready lawful = record {
     costs_there = costs_kept costs enter leave t u pivot ready.costs_there;
-    values = λ i l. all_values phase costs ready.fits ready.values lawful.leaves i (subst (λ k. i < length k) pivot.kinds l);
-    fits = fits_kept phase costs ready.fits lawful.enters.improves lawful.leaves;
+    values = (starts phase costs ready lawful).values;
+    fits = fits_kept phase costs ready lawful;
   }
 
 -- ---- no ray
@@ -201,10 +123,10 @@ spot_above : (m worlds : ℕ) (c : Col) → IsInside m worlds c → 0 < number_i
 spot_above m worlds (col.Home i) h = omega arith
 spot_above m worlds (col.World k) h = omega (arith, h.0)
 
-basic_above : (t : Tableau) (i : ℕ) → IsTableau t → i < length t.kinds → 0 < basic_at t i
+pub basic_above : (t : Tableau) (i : ℕ) → IsTableau t → i < length t.kinds → 0 < basic_at t i
 basic_above t i ok l = spot_above (length t.kinds) t.worlds (get_or t.basic i (col.Home 0)) (ok.inside i l)
 
-basic_within : (t : Tableau) (i : ℕ) → IsTableau t → i < length t.kinds → basic_at t i < suc (length t.kinds + t.worlds)
+pub basic_within : (t : Tableau) (i : ℕ) → IsTableau t → i < length t.kinds → basic_at t i < suc (length t.kinds + t.worlds)
 basic_within t i ok l = number_within (length t.kinds) t.worlds (get_or t.basic i (col.Home 0)) (ok.inside i l)
 
 rising_first : (costs : Costs) (t : Tableau) (q : ℕ) → IsTableau t → HasNoNegativeCost costs t → Improves (simplex_of t) (cost_at costs) q → HasRising t q

@@ -1,14 +1,15 @@
 -- Ratios, rays and runs.
-use Rattle.std.proofs.Common.{◌≡◌, inl, inr, ℕ, suc, zero, ◌+◌, ◌<◌, ◌≤◌, ℤ, pos, negsuc, ◌*ℤ◌, ◌<ℤ◌, ◌≤ℤ◌, neg_ℤ, List, [], ◌∷◌, ◌++◌, length, Less, Equal, Greater, refl, sym, ap, ◌∙◌, subst, arith}
+use Rattle.std.proofs.Common.{◌≡◌, inl, inr, ℕ, suc, zero, ◌+◌, ◌<◌, ◌≤◌, ℤ, ◌*ℤ◌, ◌<ℤ◌, pos, List, [], ◌∷◌, ◌++◌, length, Less, Equal, Greater, refl, sym, ap, ◌∙◌, subst, arith}
 use Rattle.std.specs.Ordering.{int_cmp, MatchOrdering}
 use Rattle.std.specs.Cmp.{int_ranks}
 use Rattle.std.proofs.lemmas.Int.{ints}
 use Rattle.std.proofs.lemmas.Bool.{cases_eq}
-use Rattle.ps_rational.specs.Rational.{Rational, neg, den}
+use Rattle.ps_rational.specs.Rational.{Rational, neg}
 use Rattle.ps_rational.specs.Order.{IsNonneg, AtMost, IsAbove, IsLess}
 use Rattle.ps_rational.proofs.Cross.{same_from_cross}
-use Rattle.ps_rational.proofs.Order.{at_most_trans, at_most_from_less, at_most_refl, at_most_antisym, not_self_less, nonneg_of}
+use Rattle.ps_rational.proofs.Order.{at_most_trans, at_most_from_less, at_most_refl, at_most_antisym, not_self_less}
 use Rattle.ps_rule.specs.Rule.{SimplexTable, GoesBefore, Precedes, ratio, IsRising}
+use Rattle.ps_rule.proofs.Signs.{above_or_not}
 use Rattle.ps_table.specs.declared.costs.Costs.{Costs}
 use Rattle.ps_pool.specs.declared.col.Col.{Col}
 use Rattle.std.proofs.Common.{append-nil, append_assoc, length-append}
@@ -76,14 +77,8 @@ precedes_trans f q a b c h k = record {
 pub precedes_itself : (f : SimplexTable) (q a : ℕ) → Precedes f q a a
 precedes_itself f q a = before_tie (ratio f q a) (f.basic a) (ratio f q a) (f.basic a) refl (omega arith)
 
-not_above_z : (z : ℤ) → (pos 0 <ℤ z → ⊥) → pos 0 ≤ℤ neg_ℤ z
-not_above_z (pos zero) h = omega (arith, ints)
-not_above_z (pos (suc n)) h = let k : pos 0 <ℤ pos (suc n) = omega (arith, ints) in absurd (h k)
-not_above_z (negsuc n) h = omega (arith, ints)
-
 pub not_above : (x : Rational) → (IsAbove x → ⊥) → IsNonneg (neg x)
-unfolding neg
-not_above x h = nonneg_of (neg_ℤ x.over) (den x) (not_above_z x.over h)
+not_above x h = elim (above_or_not x) [ inl a ↦ absurd (h a) | inr n ↦ n ]
 
 -- the best row so far, with one row more
 pub next_kept : (t : Tableau) (q n p : ℕ) → IsLeastBefore t q n p → (IsRising (simplex_of t) q n → Precedes (simplex_of t) q p n) → IsLeastBefore t q (suc n) p
@@ -129,6 +124,15 @@ pivots_of-append : (n : ℕ) (events : List Event) (enter : Col) (leave : ℕ) �
 pivots_of-append n [] enter leave = refl
 pivots_of-append n (Pivot q p ∷ events) enter leave = ap (λ ps. record { enter = number_in n q; leave = p } ∷ ps) (pivots_of-append n events enter leave)
 pivots_of-append n (Priced world ∷ events) enter leave = pivots_of-append n events enter leave
+
+-- each event of a run is a pivot
+pub run_length : (phase : Phase) (costs : Costs) (n : ℕ) (s t : Tableau) (events : List Event) → Run phase costs s events t → length (pivots_of n events) ≡ length events
+run_length phase costs n s t events (still _) = refl
+run_length phase costs n s t events (more _ r _ es enter leave run lawful pivot keeps) =
+    let before = run_length phase costs n s r es run in
+    let a = length-append (pivots_of n es) (record { enter = number_in n enter; leave = leave } ∷ []) in
+    let b = length-append es (Pivot enter leave ∷ []) in
+    ap length (pivots_of-append n es enter leave) ∙ omega (arith, a, b, before)
 
 pub are_pivots : (phase : Phase) (costs : Costs) (s t : Tableau) (events : List Event) → Run phase costs s events t → ArePivots phase costs s events t
 are_pivots phase costs s t events (still _) = λ A h. (h, no_moves (basic_at s))

@@ -1,7 +1,9 @@
 -- Lawful pivots one after the other.
-use Rattle.std.specs.Prelude.{◌≡◌, ℕ, ◌+◌, List, [], ◌∷◌, ◌++◌, length}
+use Rattle.std.specs.Prelude.{◌≡◌, ℕ, ◌+◌, ◌<◌, List, [], ◌∷◌, ◌++◌, length}
 use Rattle.ps_rational.specs.Rational.{Rational}
 use Rattle.ps_rule.specs.Pivots.{System, Pivot as BasisPivot, Pivots}
+use Rattle.ps_cycle.specs.Count.{choose}
+use Rattle.ps_cycle.specs.Cycle.{NoBasisTwice}
 use Rattle.ps_table.specs.declared.home.Home.{Home}
 use Rattle.ps_pool.specs.declared.col.Col.{Col}
 use Rattle.ps_table.specs.declared.costs.Costs.{Costs}
@@ -41,3 +43,12 @@ pub record Ran (phase : Phase) (costs : Costs) (old new : Tableau) (trace longer
   pub lawful : ArePivots phase costs old events new
   pub appended : longer ≡ trace ++ events
   pub counted : left + length events ≡ had
+
+-- from the old table on the appended pivots meet no basis twice, not even with the same columns in other rows
+pub record MeetsNoBasisTwice (phase : Phase) (costs : Costs) (old : Tableau) (trace longer : List Event) : Type 0 where
+  pub none : (events : List Event) → longer ≡ trace ++ events → (A : ℕ → ℕ → Rational) → IsTableFor A old
+      → NoBasisTwice phase (system_of old.kinds A) (cost_at costs) (width_of old) (basic_at old) (pivots_of (rows_of old) events)
+
+-- fewer pivots were made than there are ways to choose the basic columns of a table that stands for some columns
+pub record MadeFewerThanBases (old : Tableau) (had left : ℕ) : Type 0 where
+  pub fewer : (A : ℕ → ℕ → Rational) → IsTableFor A old → had < left + choose (rows_of old + old.worlds) (rows_of old)

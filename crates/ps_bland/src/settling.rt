@@ -3,7 +3,7 @@ ghost use Rattle.std.specs.Prelude.{◌≡◌, ◌≢◌, ◌<◌, [], ◌∷◌
 ghost use Rattle.ps_rational.specs.Rational.{zero_q};
 ghost use Rattle.ps_table.specs.Tableau.{rows_of, HasColumn, entry_of, IsPivot, KeepsSystem};
 ghost use Rattle.ps_table.specs.Places.{PivotPlaces, IsRefusedAt};
-ghost use Rattle.ps_bland.specs.Runs.{Ran};
+ghost use Rattle.ps_bland.specs.Runs.{Ran, MadeFewerThanBases, MeetsNoBasisTwice};
 ghost use Rattle.ps_bland.specs.Ready.{IsReady};
 ghost use Rattle.ps_bland.specs.Ends.{IsEnd, AreDueNarrow};
 ghost use Rattle.ps_bland.specs.Rounds.{IsRound, IsCounted, IsNarrowEnd};
@@ -94,7 +94,9 @@ fn step(
 /// are those after the last whole pivot.
 ///
 /// A table is ready for a phase with the costs that `ready_tables` names, and stays so. Then a
-/// column that improves always has a row that leaves: no answer says that there is no bound.
+/// column that improves always has a row that leaves: no answer says that there is no bound. From
+/// the first table to the last no basis comes twice, not even with the same columns in other rows;
+/// so fewer pivots are made than there are ways to choose the basic columns.
 pub fn settle(
     table: &mut Table,
     costs: &Costs,
@@ -110,7 +112,11 @@ pub fn settle(
     ensures worlds { table.new.worlds ≡ table.old.worlds }
     ensures ready { IsReady phase costs.now table.new }
     ensures stands { KeepsSystem table.old table.new }
+    ensures no_cycle { MeetsNoBasisTwice phase costs.now table.old trace.old trace.new }
+    ensures fewer { MadeFewerThanBases table.old left.old left.new }
 {
+    // Called for its clauses: the table is in the form in which tables are kept.
+    let _sound = table.rows();
     loop {
         match step(table, costs, phase, left, trace)? {
             None => {}

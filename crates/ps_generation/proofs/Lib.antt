@@ -3,3 +3,4 @@ pub mod Settled
 pub mod Entered
 pub mod Priced
 pub mod AllBounds
+pub mod Counted

@@ -17,7 +17,7 @@ use Rattle.ps_table.specs.Pricing.{cost_at}
 use Rattle.ps_table.specs.Places.{IsWide, IsWideAt, IsRefusedAt, HomePlaces, MultiplierPlace}
 use Rattle.ps_multiples.specs.Multiples.{DualPlaces}
 use Rattle.ps_multiples.specs.Multiples.DualPlaces.{of_home, of_multiplier}
-use Rattle.ps_answer.specs.declared.answer.Cause.TheVariants.{Conflicts, Wide}
+use Rattle.ps_answer.specs.declared.answer.Cause.TheVariants.{Conflicts}
 use Rattle.ps_answer.specs.declared.answer.Dual.{Dual}
 use Rattle.ps_certificate.specs.Certificates.{dual_of}
 use Rattle.ps_claims.specs.declared.claim_kind.ClaimKind.{ClaimKind}

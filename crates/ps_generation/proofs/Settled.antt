@@ -16,7 +16,7 @@ use Rattle.ps_bland.specs.Rules.{simplex_of, IsDueToEndIn}
 use Rattle.ps_bland.specs.Ends.{IsDueWide, IsDueRefusal}
 use Rattle.ps_bland.specs.Ready.{IsReady}
 use Rattle.ps_bland.specs.Runs as bland
-use Rattle.ps_answer.specs.declared.answer.Cause.TheVariants.{Pivots, Wide}
+use Rattle.ps_answer.specs.declared.answer.Cause.TheVariants.{Pivots}
 use Rattle.ps_claims.specs.declared.claim_kind.ClaimKind.{ClaimKind}
 use Rattle.ps_runs.specs.Runs.{setting_of}
 use Rattle.ps_runs.specs.Rows.{phase_of}

@@ -3,6 +3,7 @@ ghost use Rattle.std.specs.Prelude.{IfOk, IfSome};
 ghost use Rattle.ps_runs.specs.Runs.{IsAsked};
 ghost use Rattle.ps_generation.specs.Phases.{HasRoom, IsEnd, IsInPhase, IsLeft, IsPrintedEnd};
 ghost use Rattle.ps_generation.specs.Phases.{LeavesRoomButForOne};
+ghost use Rattle.ps_generation.specs.Counts.{MakesFewPivots, StaysBelowBound};
 ghost use Rattle.ps_generation.specs.Rounds.{IsAtRest, IsRound};
 
 use crate::end::End;
@@ -32,6 +33,8 @@ fn round(
         (λ _. IsInPhase kind setting.now.subject costs.new state.new) }
     ensures room { IfOk result (λ _. LeavesRoomButForOne state.old state.new) }
     ensures end { IfOk result (IsRound kind setting.now state.old state.new) }
+    ensures pivots { IfOk result
+        (λ _. StaysBelowBound setting.now.subject state.old state.new) }
     ensures printed { IfOk result (λ end. IfSome end IsPrintedEnd) }
 {
     if let Some(end) = priced(alloc, setting, kind, state, costs)? {
@@ -44,6 +47,9 @@ fn round(
 /// Ford, D. R. Fulkerson, 1958; P. C. Gilmore, R. E. Gomory, 1961). Phase one is over where each
 /// basic artificial has value 0; any phase ends where no world's column improves. After want of
 /// memory nothing is said of the state.
+///
+/// With `r` rows, and `m` worlds in the pool at the end, a phase makes fewer pivots than there are
+/// ways to choose `r + 1` things out of `r + m + 1`.
 pub fn run_phase(
     alloc: Global,
     setting: &Setting<'_>,
@@ -56,6 +62,8 @@ pub fn run_phase(
     requires room { HasRoom state.old }
     ensures end { IfOk result (IsEnd kind setting.now state.old state.new) }
     ensures left { IfOk result (λ _. IsLeft kind setting.now.subject state.old state.new) }
+    ensures pivots { IfOk result
+        (λ _. MakesFewPivots setting.now.subject state.old state.new) }
     ensures printed { IfOk result IsPrintedEnd }
 {
     if let Some(end) = settled(setting, kind, state, costs)? {

@@ -52,6 +52,9 @@ fn enter(
         (λ _. IsInPhase kind setting.now.subject costs.new state.new) }
     ensures room { IfOk result (λ _. LeavesRoomButForOne state.old state.new) }
     ensures end { IfOk result (IsEntered kind setting.now state.old state.new) }
+    ensures left { IfOk result (λ _. state.new.left ≡ state.old.left) }
+    ensures pool { IfOk result
+        (λ end. IfSome end (λ _. state.new.pool ≡ state.old.pool)) }
     ensures printed { IfOk result (λ end. IfSome end IsPrintedEnd) }
 {
     let Column { entries, cost } = setting.column(alloc, kind, &world)?;
@@ -84,6 +87,9 @@ pub(crate) fn priced(
         (λ _. IsInPhase kind setting.now.subject costs.new state.new) }
     ensures room { IfOk result (λ _. LeavesRoomButForOne state.old state.new) }
     ensures end { IfOk result (IsEntered kind setting.now state.old state.new) }
+    ensures left { IfOk result (λ _. state.new.left ≡ state.old.left) }
+    ensures pool { IfOk result
+        (λ end. IfSome end (λ _. state.new.pool ≡ state.old.pool)) }
     ensures printed { IfOk result (λ end. IfSome end IsPrintedEnd) }
 {
     let dual = match setting.dual(alloc, kind, &state.table, costs) {

@@ -2,9 +2,11 @@
 ghost use Rattle.std.specs.Prelude.{◌≡◌, ◌≤◌, IfOk, IfSome};
 ghost use Rattle.ps_table.specs.Tableau.{IsTableau};
 ghost use Rattle.ps_bland.specs.Ready.{IsReady};
+ghost use Rattle.ps_bland.specs.Runs.{MadeFewerThanBases};
 ghost use Rattle.ps_bland.specs.Ends.{IsEnd as IsSettledEnd};
 ghost use Rattle.ps_runs.specs.Rows.{phase_of};
 ghost use Rattle.ps_generation.specs.Phases.{IsInPhase, IsPrintedEnd};
+ghost use Rattle.ps_generation.specs.Counts.{SettlesInFewerThanBases};
 ghost use Rattle.ps_generation.specs.Rounds.{HasPivoted, IsPhaseSettled};
 
 use crate::end::{End, end_at};
@@ -36,6 +38,7 @@ fn pivoted(kind: ClaimKind, state: &mut State, costs: &Costs) -> Result<Settled,
     ensures ready { IsReady (phase_of kind) costs.now state.new.table }
     ensures tableau { IsTableau state.new.table }
     ensures pool { state.new.pool ≡ state.old.pool }
+    ensures fewer { MadeFewerThanBases state.old.table state.old.left state.new.left }
 {
     let settled = settle(
         &mut state.table,
@@ -60,6 +63,7 @@ pub(crate) fn settled(
     ensures phase { IsInPhase kind setting.now.subject costs.now state.new }
     ensures pool { state.new.pool ≡ state.old.pool }
     ensures left { state.new.left ≤ state.old.left }
+    ensures fewer { SettlesInFewerThanBases setting.now.subject state.old state.new }
     ensures end { IfOk result (IsPhaseSettled kind setting.now state.old state.new) }
     ensures printed { IfOk result (λ end. IfSome end IsPrintedEnd) }
 {

@@ -24,6 +24,7 @@ use Rattle.ps_phases.specs.Tables.{stage_at}
 use Rattle.ps_phases.specs.Verdicts.{IsLawfulPhaseOne, IsLawfulSide}
 use Rattle.ps_printed.specs.Printed.{IsPrintedVerdict}
 use Rattle.ps_generation.specs.declared.limits.Limits.{Limits}
+use Rattle.ps_generation.specs.Counts.{AppendsFewPivots}
 use Rattle.ps_generation.specs.Phases.{LimitedSubject, limited, kept_dual}
 use Rattle.ps_master.specs.declared.first.First.{First}
 use Rattle.ps_master.specs.declared.first.First.TheVariants as first
@@ -67,6 +68,10 @@ pub record IsReached (r : RunState) : Type 0 where
 -- a side was answered, so that another may follow
 pub record IsLowered (r : RunState) : Type 0 where
   pub feasible : IsFeasibleRun 2 r
+
+-- a phase appends fewer pivots to the trace than there are ways to choose r + 1 things out of r + m + 1, with r rows and m worlds
+abbrev pub MakesFewPivots : RunState → RunState → Type 0
+MakesFewPivots old new = AppendsFewPivots old.over.subject new.pool old.trace new.trace
 
 -- the run is over the same, and these events are behind those not yet taken
 pub record HasTraced (old new : RunState) (events : List Event) : Type 0 where

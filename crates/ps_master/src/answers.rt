@@ -8,6 +8,7 @@ ghost use Rattle.ps_runs.specs.Runs.{IsAsked};
 ghost use Rattle.ps_printed.specs.Printed.{ArePrintedOperands, IsPrintedDual, IsPrintedModel};
 ghost use Rattle.ps_printed.specs.Printed.{IsPrintedSide};
 ghost use Rattle.ps_ends.specs.Models.{AreApart};
+ghost use Rattle.ps_generation.specs.Counts.{MakesFewPivots};
 ghost use Rattle.ps_generation.specs.Phases.{AreLimits, HasRoom, IsLeft};
 ghost use Rattle.ps_master.specs.Runs.{IsAtStart, IsPrintedFirst};
 ghost use Rattle.ps_master.specs.States.{IsBoundOf, IsModelOrWide, HasRunTable, run_of};
@@ -61,6 +62,8 @@ pub(crate) fn first(
     requires start { IsAtStart (run_of setting.now state.old false) }
     ensures answer { IfOk result (AnswersPhaseOne setting.now state.old state.new) }
     ensures there { IfOk result (λ _. HasRunTable setting.now.subject state.new) }
+    ensures pivots { IfOk result
+        (λ _. MakesFewPivots setting.now.subject state.old state.new) }
     ensures printed { IfOk result IsPrintedFirst }
 {
     match phase(alloc, setting, ClaimKind::Nothing, state)? {
@@ -106,6 +109,8 @@ pub(crate) fn side(
     requires room { HasRoom state.old }
     ensures answer { IfOk result (AnswersSide kind setting.now state.old state.new) }
     ensures left { IfOk result (λ _. IsLeft kind setting.now.subject state.old state.new) }
+    ensures pivots { IfOk result
+        (λ _. MakesFewPivots setting.now.subject state.old state.new) }
     ensures printed { IfOk result IsPrintedSide }
 {
     match phase(alloc, setting, kind, state)? {

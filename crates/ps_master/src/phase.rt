@@ -4,6 +4,7 @@ ghost use Rattle.ps_rule.specs.Rule.{IsFeasible};
 ghost use Rattle.ps_bland.specs.Rules.{simplex_of};
 ghost use Rattle.ps_claims.specs.declared.claim_kind.ClaimKind.TheVariants.{Nothing};
 ghost use Rattle.ps_runs.specs.Runs.{IsAsked};
+ghost use Rattle.ps_generation.specs.Counts.{MakesFewPivots};
 ghost use Rattle.ps_generation.specs.Phases.{HasRoom, IsEnd, IsLeft, IsPrintedEnd};
 ghost use Rattle.ps_master.specs.States.{HasRunTable};
 
@@ -25,6 +26,8 @@ pub(crate) fn phase(
     requires room { HasRoom state.old }
     ensures end { IfOk result (IsEnd kind setting.now state.old state.new) }
     ensures left { IfOk result (λ _. IsLeft kind setting.now.subject state.old state.new) }
+    ensures pivots { IfOk result
+        (λ _. MakesFewPivots setting.now.subject state.old state.new) }
     ensures printed { IfOk result IsPrintedEnd }
 {
     let mut costs = setting.costs(alloc, kind, state)?;

@@ -7,6 +7,7 @@ ghost use Rattle.ps_printed.specs.Printed.{IsPrintedSide};
 ghost use Rattle.ps_generation.specs.Phases.{AreLimits};
 ghost use Rattle.ps_master.specs.Runs.{IsAtStart, IsPhaseOneAnswer, IsLowered, IsNew};
 ghost use Rattle.ps_master.specs.Runs.{IsFeasibleRun, IsPrintedFirst, IsReached, IsSideAnswerOf};
+ghost use Rattle.ps_master.specs.Runs.{MakesFewPivots};
 ghost use Rattle.ps_master.specs.States.{HasGoneOn};
 
 use crate::answers::{first, side};
@@ -75,6 +76,7 @@ impl<'p> Run<'p> {
     pub fn phase_one(&mut self) -> Result<First, NoMemory>
         requires start { self.old.is_broken ≡ false → IsAtStart self.old }
         ensures answer { IfOk result (IsPhaseOneAnswer self.old self.new) }
+        ensures pivots { IfOk result (λ _. MakesFewPivots self.old self.new) }
         ensures printed { IfOk result IsPrintedFirst }
         ensures over { self.new.over ≡ self.old.over }
         ensures broken { IsTrue self.old.is_broken → IsErr result }
@@ -95,6 +97,7 @@ impl<'p> Run<'p> {
         requires feasible { self.old.is_broken ≡ false → IsFeasibleRun 2 self.old }
         ensures answer { IfOk result (IsSideAnswerOf kind self.old self.new) }
         ensures kept { IfOk result (λ _. HasGoneOn self.old self.new) }
+        ensures pivots { IfOk result (λ _. MakesFewPivots self.old self.new) }
         ensures printed { IfOk result IsPrintedSide }
         ensures over { self.new.over ≡ self.old.over }
         ensures broken { IsTrue self.old.is_broken → IsErr result }
@@ -114,6 +117,7 @@ impl<'p> Run<'p> {
         requires reached { self.old.is_broken ≡ false → IsReached self.old }
         ensures answer { IfOk result (IsSideAnswerOf Lower self.old self.new) }
         ensures lowered { IfOk result (λ _. IsLowered self.new) }
+        ensures pivots { IfOk result (λ _. MakesFewPivots self.old self.new) }
         ensures printed { IfOk result IsPrintedSide }
         ensures over { self.new.over ≡ self.old.over }
         ensures broken { IsTrue self.old.is_broken → IsErr result }
@@ -127,6 +131,7 @@ impl<'p> Run<'p> {
         requires query { self.old.over.subject.query ≢ None }
         requires lowered { self.old.is_broken ≡ false → IsLowered self.old }
         ensures answer { IfOk result (IsSideAnswerOf Upper self.old self.new) }
+        ensures pivots { IfOk result (λ _. MakesFewPivots self.old self.new) }
         ensures printed { IfOk result IsPrintedSide }
         ensures over { self.new.over ≡ self.old.over }
         ensures broken { IsTrue self.old.is_broken → IsErr result }

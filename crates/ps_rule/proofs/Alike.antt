@@ -117,7 +117,7 @@ module _ (n w : ℕ) (basic : ℕ → ℕ) (a b : ℕ → Bool) (cost other : �
 
 -- ---- lists of pivots
 -- a pivot leads from a basis within the width to one
-basis_kept : (n w p q : ℕ) (x y : ℕ → ℕ) → IsBasis n w x → q < w → Based n p q x y → IsBasis n w y
+pub basis_kept : (n w p q : ℕ) (x y : ℕ → ℕ) → IsBasis n w x → q < w → Based n p q x y → IsBasis n w y
 basis_kept n w p q x y hb hq based i l =
     elim (cases_eq i p) [
       | inl e ↦ subst (λ k. k < w) (sym (ap y e ∙ based.here)) hq

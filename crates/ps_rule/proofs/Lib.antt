@@ -1,3 +1,4 @@
+pub mod Signs
 pub mod Rays
 pub mod Combination
 pub mod Alike

@@ -25,15 +25,15 @@ same_least P a b ha hb la lb =
           ]
     ]
 
-module _ (s : System) (cost : ℕ → Rational) (w : ℕ) (basic : ℕ → ℕ) (X : ℕ → ℕ → Rational) (stands : IsBasisTable s.rows w s.columns basic X) where
-  -- no column is basic in two rows
-  distinct : (i k : ℕ) → i < s.rows → k < s.rows → basic i ≡ basic k → i ≡ k
-  distinct i k hi hk e =
-      elim (cases_eq k i) [
-        | inl f ↦ sym f
-        | inr ne ↦ absurd (one_not_zero (sym (stands.here i hi) ∙ ap (X i) e ∙ stands.apart i k hi hk ne))
-      ]
+-- no column is basic in two rows
+pub distinct : (n w : ℕ) (A X : ℕ → ℕ → Rational) (basic : ℕ → ℕ) → IsBasisTable n w A basic X → (i k : ℕ) → i < n → k < n → basic i ≡ basic k → i ≡ k
+distinct n w A X basic stands i k hi hk e =
+    elim (cases_eq k i) [
+      | inl f ↦ sym f
+      | inr ne ↦ absurd (one_not_zero (sym (stands.here i hi) ∙ ap (X i) e ∙ stands.apart i k hi hk ne))
+    ]
 
+module _ (s : System) (cost : ℕ → Rational) (w : ℕ) (basic : ℕ → ℕ) (X : ℕ → ℕ → Rational) (stands : IsBasisTable s.rows w s.columns basic X) where
   one_ratio : (q p r : ℕ) → HasLeastRatio (simplex_table s w basic X) q p → HasLeastRatio (simplex_table s w basic X) q r → p ≡ r
   one_ratio q p r h k =
       let a = h.least r k.rising in
@@ -41,7 +41,7 @@ module _ (s : System) (cost : ℕ → Rational) (w : ℕ) (basic : ℕ → ℕ) 
       let e = at_most_antisym (ratio (simplex_table s w basic X) q p) (ratio (simplex_table s w basic X) q r) a.at_most b.at_most in
       let l = a.tie e in
       let g = b.tie (sym e) in
-      distinct p r h.rising.within k.rising.within (omega arith)
+      distinct s.rows w s.columns X basic stands p r h.rising.within k.rising.within (omega arith)
 
   one_in_phase_two : (q p r : ℕ) → LeavesInPhaseTwo (simplex_table s w basic X) q p → LeavesInPhaseTwo (simplex_table s w basic X) q r → p ≡ r
   one_in_phase_two q p r h k =

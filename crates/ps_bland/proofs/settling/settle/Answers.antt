@@ -1,4 +1,5 @@
 use Rattle.std.proofs.Common.{refl, ◌∙◌}
+use Rattle.ps_bland.proofs.Cycles.{fewer, no_cycle}
 use Rattle.ps_bland.proofs.Steps.{ran_none, ran_more}
 use Rattle.ps_bland.proofs.settling.settle.Goals as goal
 
@@ -9,14 +10,21 @@ loop-settled-init c = record {
   worlds = refl;
   ready = c.requires.ready;
   stands = λ A h. h;
+  fewer = fewer c.args.phase c.args.costs.now c.args.table.now c.args.table.now c.args.trace.now c.args.trace.now c.args.left.now c.args.left.now c.rows-sound.ensures.tableau c.requires.ready (ran_none c.args.phase c.args.costs.now c.args.table.now c.args.trace.now c.args.left.now);
+  tableau = c.rows-sound.ensures.tableau;
+  no_cycle = no_cycle c.args.phase c.args.costs.now c.args.table.now c.args.table.now c.args.trace.now c.args.trace.now c.args.left.now c.args.left.now c.rows-sound.ensures.tableau c.requires.ready (ran_none c.args.phase c.args.costs.now c.args.table.now c.args.trace.now c.args.left.now);
 }
 
 pub loop-settled-preserved : goal.loop-settled-preserved
 loop-settled-preserved c =
     let step = rw c.in-None.is at c.in_ok-step.ensures.round in
     let counted = rw c.in-None.is at c.in_ok-step.ensures.counted in
+    let ran = ran_more _ _ _ _ _ _ _ _ _ _ _ c.loop-settled.invariant.ran step counted in
     record {
-      ran = ran_more _ _ _ _ _ _ _ _ _ _ _ c.loop-settled.invariant.ran step counted;
+      ran = ran;
+      tableau = c.loop-settled.invariant.tableau;
+      fewer = fewer _ _ _ _ _ _ _ _ c.loop-settled.invariant.tableau c.requires.ready ran;
+      no_cycle = no_cycle _ _ _ _ _ _ _ _ c.loop-settled.invariant.tableau c.requires.ready ran;
       kinds = step.pivot.kinds ∙ c.loop-settled.invariant.kinds;
       worlds = step.pivot.worlds ∙ c.loop-settled.invariant.worlds;
       ready = c.step.ensures.ready;

@@ -1,7 +1,7 @@
 use Rattle.std.proofs.Common.{◌≡◌, ℕ}
 use Rattle.ps_rational.specs.Rational.{Rational}
-use Rattle.ps_table.specs.Tableau.{IsTableFor}
-use Rattle.ps_bland.specs.Runs.{Ran}
+use Rattle.ps_table.specs.Tableau.{IsTableau, IsTableFor}
+use Rattle.ps_bland.specs.Runs.{Ran, MadeFewerThanBases, MeetsNoBasisTwice}
 use Rattle.ps_bland.specs.Ready.{IsReady}
 use Rattle.ps_bland.proofs.settling.settle.Given as goal
 
@@ -12,6 +12,9 @@ invariant-loop-settled l = record {
   worlds : l.table.worlds ≡ l.fn.table.worlds;
   ready : IsReady l.phase l.costs l.table;
   stands : (A : ℕ → ℕ → Rational) → IsTableFor A l.fn.table → IsTableFor A l.table;
+  tableau : IsTableau l.fn.table;
+  fewer : MadeFewerThanBases l.fn.table l.fn.left l.left;
+  no_cycle : MeetsNoBasisTwice l.phase l.costs l.fn.table l.fn.trace l.trace;
 }
 
 abbrev pub decreases-loop-settled : goal.decreases-loop-settled

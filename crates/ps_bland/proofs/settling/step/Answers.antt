@@ -43,7 +43,7 @@ pub returns-clause-ready : goal.returns-clause-ready
 returns-clause-ready c =
     let t = c.args.table.now in
     let lawful : IsLawful c.args.phase c.args.costs.now t c.in-Some.enter c.in_ok-leave.leave = search rules in
-    ready_kept t c.pivot_with_event.new.table c.in-Some.enter c.in_ok-leave.leave c.is_due_to_end.ensures.tableau c.in_ok-pivot_with_event.ensures.pivot c.args.phase c.args.costs.now c.requires lawful
+    ready_kept t c.pivot_with_event.new.table c.in-Some.enter c.in_ok-leave.leave c.in_ok-pivot_with_event.ensures.pivot c.args.phase c.args.costs.now c.requires lawful
 
 pub returns-in-None-clause-narrow : goal.returns-in-None-clause-narrow
 returns-in-None-clause-narrow c =

@@ -6,6 +6,8 @@ use Rattle.ps_bland.specs.Ends.{IsDueRefusal}
 use Rattle.ps_runs.specs.Rows.{phase_of}
 use Rattle.ps_generation.specs.Phases.{IsInPhase}
 use Rattle.ps_generation.proofs.Settled.{settled_phase, settled_rest, settled_done, settled_out, settled_wide}
+use Rattle.ps_generation.specs.Counts.{SettlesInFewerThanBases}
+use Rattle.ps_generation.proofs.Counted.{few_between}
 use Rattle.ps_generation.proofs.settling.settled.Goals as goal
 use Rattle.ps_generation.proofs.settling.settled.Goals.{After-pivoted}
 
@@ -13,6 +15,9 @@ phase_kept : (c : After-pivoted) → IsInPhase c.args.kind c.args.setting.now.su
 phase_kept c =
     settled_phase c.args.kind c.args.setting.now c.args.costs.now c.args.state.now c.pivoted.new.state c.requires.phase c.pivoted.ensures.pool c.pivoted.ensures.ran
     c.pivoted.ensures.tableau c.pivoted.ensures.ready
+
+fewer : (c : After-pivoted) → SettlesInFewerThanBases c.args.setting.now.subject c.args.state.now c.pivoted.new.state
+fewer c = few_between c.args.kind c.args.setting.now.subject c.args.costs.now c.args.state.now c.pivoted.new.state c.requires.phase c.pivoted.ensures.fewer
 
 pub returns-in-Ok-AtRest-clause-phase : goal.returns-in-Ok-AtRest-clause-phase
 returns-in-Ok-AtRest-clause-phase c = phase_kept (goal.at.returns-in-Ok-AtRest-clause-phase c).After-pivoted
@@ -53,3 +58,18 @@ returns-in_ok-end_at-in-Err-clause-end c =
 
 pub returns-in_err-end_at-in-Err-clause-phase : goal.returns-in_err-end_at-in-Err-clause-phase
 returns-in_err-end_at-in-Err-clause-phase c = phase_kept (goal.at.returns-in_err-end_at-in-Err-clause-phase c).After-pivoted
+
+pub returns-in-Ok-AtRest-clause-fewer : goal.returns-in-Ok-AtRest-clause-fewer
+returns-in-Ok-AtRest-clause-fewer c = fewer (goal.at.returns-in-Ok-AtRest-clause-fewer c).After-pivoted
+
+pub returns-in-Ok-Feasible-clause-fewer : goal.returns-in-Ok-Feasible-clause-fewer
+returns-in-Ok-Feasible-clause-fewer c = fewer (goal.at.returns-in-Ok-Feasible-clause-fewer c).After-pivoted
+
+pub returns-in-Ok-OutOfPivots-clause-fewer : goal.returns-in-Ok-OutOfPivots-clause-fewer
+returns-in-Ok-OutOfPivots-clause-fewer c = fewer (goal.at.returns-in-Ok-OutOfPivots-clause-fewer c).After-pivoted
+
+pub returns-in_ok-end_at-in-Err-clause-fewer : goal.returns-in_ok-end_at-in-Err-clause-fewer
+returns-in_ok-end_at-in-Err-clause-fewer c = fewer (goal.at.returns-in_ok-end_at-in-Err-clause-fewer c).After-pivoted
+
+pub returns-in_err-end_at-in-Err-clause-fewer : goal.returns-in_err-end_at-in-Err-clause-fewer
+returns-in_err-end_at-in-Err-clause-fewer c = fewer (goal.at.returns-in_err-end_at-in-Err-clause-fewer c).After-pivoted

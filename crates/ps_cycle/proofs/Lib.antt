@@ -1,0 +1,14 @@
+pub mod Reduced
+pub mod Values
+pub mod Heart
+pub mod Walks
+pub mod Degenerate
+pub mod Columns
+pub mod NoCycle
+pub mod Twice
+pub mod Pigeons
+pub mod Choices
+pub mod Chosen
+pub mod Few
+pub mod Ways
+pub mod Worlds

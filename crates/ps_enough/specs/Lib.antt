@@ -1,0 +1,2 @@
+-- Meaning, and the law
+pub mod Enough
