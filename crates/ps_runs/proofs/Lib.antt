@@ -17,3 +17,4 @@ pub mod Weighing
 pub mod Priced
 pub mod Kept
 pub mod Asked
+pub mod Reached

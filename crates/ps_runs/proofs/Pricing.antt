@@ -5,7 +5,7 @@ use Rattle.ps_rational.specs.Rational.{Rational, whole, mul}
 use Rattle.ps_rational.specs.Order.{IsLess}
 use Rattle.ps_rational.proofs.Sums.{sum_same}
 use Rattle.ps_meaning.specs.Formula.{World}
-use Rattle.ps_basis.specs.Table.{Widened}
+use Rattle.ps_basis.specs.Table.{Widened, IsBasisTable}
 use Rattle.ps_basis.proofs.Units.{less_one}
 use Rattle.ps_rule.specs.Rule.{carried, Improves, IsDueToEnd, IsMoving, IsResting}
 use Rattle.ps_runs.specs.Rows.{Setting, phase_of, entries_of, artificial_rows, rows_of, columns_of, width_of, world_cost, cost_of, table_of, IsTable}
@@ -26,7 +26,8 @@ pub world_real : (s : Setting) (k : ℕ) → get_or (artificial_rows s) (suc (ro
 world_real s k = ap (λ i. get_or (artificial_rows s) i false) (less_one (rows_of s + k)) ∙ get_or_past (artificial_rows s) (rows_of s + k) false (omega (arith, rows_length s))
 
 -- a world of the pool that is priced above its cost improves
-pool_improves : (kind : ClaimKind) (s : Setting) (pool : List World) (basic : ℕ → ℕ) (X : ℕ → ℕ → Rational) (k : ℕ) → IsTable s pool basic X → k < length pool
+pool_improves : (kind : ClaimKind) (s : Setting) (pool : List World) (basic : ℕ → ℕ) (X : ℕ → ℕ → Rational) (k : ℕ) → IsBasisTable (rows_of s) (width_of s pool) (columns_of s pool) basic X
+    → k < length pool
     → IsLess (whole (world_cost kind s (get_or pool k []))) (price s (table_of s pool basic X) (cost_of kind s pool) (get_or pool k []))
     → Improves (table_of s pool basic X) (cost_of kind s pool) (suc (rows_of s + k))
 pool_improves kind s pool basic X k t l less = record {
@@ -39,11 +40,17 @@ pool_improves kind s pool basic X k t l less = record {
 }
 
 -- so no world of the pool is priced at rest
+pub priced_apart : (kind : ClaimKind) (s : Setting) (pool : List World) (basic : ℕ → ℕ) (X : ℕ → ℕ → Rational) (k : ℕ)
+    → IsBasisTable (rows_of s) (width_of s pool) (columns_of s pool) basic X
+    → IsResting (phase_of kind) (table_of s pool basic X) (cost_of kind s pool) → k < length pool
+    → pos 1 ≤ℤ combination kind s.bounds s.query (table_dual kind s (table_of s pool basic X) (cost_of kind s pool)) (get_or pool k []) → ⊥
+priced_apart kind s pool basic X k t rest l above =
+    rest.none (suc (rows_of s + k)) (pool_improves kind s pool basic X k t l ((above_priced kind s (table_of s pool basic X) (cost_of kind s pool) (get_or pool k []) refl).0 (omega (arith, ints, above))))
+
 pub priced_is_new : (kind : ClaimKind) (s : Setting) (pool : List World) (basic : ℕ → ℕ) (X : ℕ → ℕ → Rational) (k : ℕ) → IsTable s pool basic X
     → IsResting (phase_of kind) (table_of s pool basic X) (cost_of kind s pool) → k < length pool
     → pos 1 ≤ℤ combination kind s.bounds s.query (table_dual kind s (table_of s pool basic X) (cost_of kind s pool)) (get_or pool k []) → ⊥
-priced_is_new kind s pool basic X k t rest l above =
-    rest.none (suc (rows_of s + k)) (pool_improves kind s pool basic X k t l ((above_priced kind s (table_of s pool basic X) (cost_of kind s pool) (get_or pool k []) refl).0 (omega (arith, ints, above))))
+priced_is_new kind s pool basic X k t rest l above = priced_apart kind s pool basic X k t.stands rest l above
 
 -- costs before the new world are the same
 pub same_cost : (kind : ClaimKind) (s : Setting) (pool : List World) (w : World) (j : ℕ) → 0 < j → j < width_of s pool → cost_of kind s (pool ++ w ∷ []) j ≡ cost_of kind s pool j
@@ -81,7 +88,7 @@ module _ (kind : ClaimKind) (s : Setting) (pool : List World) (w : World) (basic
       let less : IsLess (whole (world_cost kind s w)) (price s (table_of s pool basic X) (cost_of kind s pool) w) =
       (above_priced kind s (table_of s pool basic X) (cost_of kind s pool) w refl).0 (omega (arith, ints, above)) in
       let moved : IsLess (whole (world_cost kind s w)) (price s (table_of s (pool ++ w ∷ []) basic Z) (cost_of kind s (pool ++ w ∷ [])) w) = subst (IsLess (whole (world_cost kind s w))) (sym (same_price w)) less in
-      pool_improves kind s (pool ++ w ∷ []) basic Z (length pool) (added_table s pool w basic X Z t wide) (omega (arith, length-append pool (w ∷ [])))
+      pool_improves kind s (pool ++ w ∷ []) basic Z (length pool) (added_table s pool w basic X Z t wide).stands (omega (arith, length-append pool (w ∷ [])))
       (subst (λ v. IsLess (whole (world_cost kind s v)) (price s (table_of s (pool ++ w ∷ []) basic Z) (cost_of kind s (pool ++ w ∷ [])) v)) (sym (last_world pool w)) moved)
 
   still_unfinished : (b : ClaimKind) → (IsDueToEnd (phase_of b) (table_of s pool basic X) → ⊥) → IsDueToEnd (phase_of b) (table_of s (pool ++ w ∷ []) basic Z) → ⊥

@@ -13,13 +13,13 @@ use Rattle.ps_meaning.specs.declared.side.Side.TheVariants.{AtLeast, AtMost as M
 use Rattle.ps_meaning.specs.Bounds.{Bound}
 use Rattle.ps_meaning.proofs.Integers.{mul-nonpos}
 use Rattle.ps_rational.proofs.IntRing.{*ℤ_comm}
-use Rattle.ps_basis.specs.Table.{carried_by}
+use Rattle.ps_basis.specs.Table.{carried_by, IsBasisTable}
 use Rattle.ps_basis.proofs.Pricing.{carried_is_priced}
 use Rattle.ps_basis.proofs.Units.{less_one}
 use Rattle.ps_rule.specs.Rule.{carried, IsResting}
 use Rattle.ps_rule.proofs.Combination.{resting_most}
 use Rattle.ps_problem.specs.Rows.{signed_by}
-use Rattle.ps_runs.specs.Rows.{Setting, phase_of, is_exact, entries_of, artificial_rows, rows_of, columns_of, width_of, cost_of, table_of, IsTable}
+use Rattle.ps_runs.specs.Rows.{Setting, phase_of, is_exact, entries_of, artificial_rows, rows_of, columns_of, width_of, cost_of, table_of}
 use Rattle.ps_runs.specs.Certificates.{signed, table_dual, multiple_of, whole_multiplier, price}
 use Rattle.ps_runs.proofs.Columns.{world_at, slack_cost}
 use Rattle.ps_rule.specs.Laws.{multipliers}
@@ -29,10 +29,10 @@ use Rattle.ps_claims.specs.declared.claim_kind.ClaimKind.TheVariants.{Nothing, L
 use Rattle.ps_claims.specs.Duals.{HasSign, HaveSigns}
 
 -- ---- a world of the pool
-pub priced_in_pool : (kind : ClaimKind) (s : Setting) (pool : List World) (basic : ℕ → ℕ) (X : ℕ → ℕ → Rational) (k : ℕ) → IsTable s pool basic X → k < length pool
+pub priced_in_pool : (kind : ClaimKind) (s : Setting) (pool : List World) (basic : ℕ → ℕ) (X : ℕ → ℕ → Rational) (k : ℕ) → IsBasisTable (rows_of s) (width_of s pool) (columns_of s pool) basic X → k < length pool
     → carried (table_of s pool basic X) (cost_of kind s pool) (suc (rows_of s + k)) ≡ price s (table_of s pool basic X) (cost_of kind s pool) (get_or pool k [])
 priced_in_pool kind s pool basic X k t h =
-    carried_is_priced (rows_of s) (width_of s pool) (columns_of s pool) X basic (cost_of kind s pool) t.stands (suc (rows_of s + k)) (omega arith)
+    carried_is_priced (rows_of s) (width_of s pool) (columns_of s pool) X basic (cost_of kind s pool) t (suc (rows_of s + k)) (omega arith)
     ∙ sum_same (rows_of s) (λ m. mul (carried_by (rows_of s) (cost_of kind s pool) basic X (suc m)) (columns_of s pool m (suc (rows_of s + k)))) (λ m. mul (multipliers (table_of s pool basic X) (cost_of kind s pool) m) (whole (get_or (entries_of s (get_or pool k [])) m (pos 0))))
     (λ m l. ap (mul (carried_by (rows_of s) (cost_of kind s pool) basic X (suc m))) (world_at s pool m k))
 

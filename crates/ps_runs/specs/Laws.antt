@@ -24,6 +24,7 @@ use Rattle.ps_claims.specs.Validity.{IsRefuted, ShowsNothing, ShowsTight}
 use Rattle.ps_runs.specs.Rows.{Setting, both_of, phase_of, artificial_of, rows_of, columns_of, width_of, world_cost, cost_of, table_of, IsTable}
 use Rattle.ps_runs.specs.Searches.{IsSpentSearch}
 use Rattle.ps_runs.specs.Runs.{Subject, subject_of, setting_of, given_in, both_in, IsAsked, atoms_of, combination_over, goal_at_least, Stage, IsPool, table_at, costs_at, dual_at, AreAtMost, IsRestingAt, IsPricedBy, IsDualAt, LeadsTo, LeadsToPending, pivots_in}
+use Rattle.ps_runs.specs.Reached.{IsReached, HasOneTable, ArePricedFresh}
 use Rattle.ps_runs.specs.Kept.{kept_of, flags_of, kept_parts, kept_dual, IsChoice, AreAllKept}
 use Rattle.ps_runs.specs.Certificates.{HaveSameNumbers, table_dual, combination_at, multiple_of, price, value_of, weight_multiple, entry_for, entry_weighing, weighted_worlds, table_model}
 
@@ -102,6 +103,13 @@ pub record EventsCompose : Type 0 where
       → LeadsTo kind s conflicts a before b → LeadsToPending kind s conflicts b after world c
       → LeadsToPending kind s conflicts a (before ++ after) world c
   pub pivots : (before after : List Event) → pivots_in (before ++ after) ≡ pivots_in before + pivots_in after
+
+-- each stage to which lawful events lead from a start has one table; in its pool no world stands twice, and what is priced there
+-- isn't in it
+pub record ReachedStages : Type 0 where
+  pub table : (s : Subject) (conflicts : ℕ) (g : Stage) → IsReached s conflicts g → HasOneTable s g
+  pub pool : (s : Subject) (conflicts : ℕ) (g : Stage) → IsReached s conflicts g → IsPool (atoms_of s) g.pool
+  pub fresh : (s : Subject) (conflicts : ℕ) (g : Stage) → IsReached s conflicts g → ArePricedFresh s conflicts g
 
 -- the combination over the nodes has at a world's extension its value in the world; so what no assignment that meets the form is
 -- above, no world is above

@@ -5,6 +5,7 @@ ghost use Rattle.ps_runs.specs.Laws.{RestingTablesGiveDuals, TablesOfRuns, Costs
 ghost use Rattle.ps_runs.specs.Laws.{EvidenceRow, PricedWorldsMove, EventsCompose};
 ghost use Rattle.ps_runs.specs.Laws.{GainsAreValues, EndsAreValid, WorldsWeighTheirRows};
 ghost use Rattle.ps_runs.specs.Laws.{PricingsAreOfTheTable, KeptSentences};
+ghost use Rattle.ps_runs.specs.Laws.{ReachedStages};
 
 /// The combination of a table's dual in a world is a whole positive multiple of what the
 /// multipliers price the world's column above its cost. So it is at least 1 exactly where the
@@ -44,6 +45,12 @@ pub fn priced_worlds()
 /// Events that follow lawful ones lead on, and their pivots sum.
 pub fn composed_runs()
     ensures composed { EventsCompose }
+{}
+
+/// Each stage to which lawful events lead from a start, phase after phase, has exactly one table.
+/// No world stands twice in its pool, and a world that is priced there is new to the pool.
+pub fn reached_stages()
+    ensures reached { ReachedStages }
 {}
 
 /// The combination of a dual over the variables of the nodes has at a world's extension its value

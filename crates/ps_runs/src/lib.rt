@@ -7,6 +7,6 @@
 mod laws;
 
 pub use laws::{
-    composed_runs, gains, kept_sentences, phase_ends, phase_starts, priced_worlds, reduced_costs,
-    valid_ends,
+    composed_runs, gains, kept_sentences, phase_ends, phase_starts, priced_worlds, reached_stages,
+    reduced_costs, valid_ends,
 };

@@ -1,0 +1,27 @@
+-- The stages to which runs come, and the table of each.
+use Rattle.std.specs.Prelude.{ℕ, Option, List}
+use Rattle.ps_rational.specs.Rational.{Rational}
+use Rattle.ps_meaning.specs.Formula.{World}
+use Rattle.ps_basis.specs.Table.{AreSameWithin}
+use Rattle.ps_pool.specs.declared.event.Event.{Event}
+use Rattle.ps_pool.specs.Worlds.{HasNumber}
+use Rattle.ps_claims.specs.declared.claim_kind.ClaimKind.{ClaimKind}
+use Rattle.ps_runs.specs.Rows.{rows_of, width_of}
+use Rattle.ps_runs.specs.Runs.{Subject, setting_of, Stage, IsStart, BelongsTo, IsPricedAt, LeadsToPending}
+
+-- lawful events of phases, one phase after the other, lead from a start to the stage; each phase may have a pending world
+pub data IsReached (s : Subject) (conflicts : ℕ) : Stage → Type 0 where
+  started : (g : Stage) → IsStart s g → IsReached s conflicts g
+  led : (kind : ClaimKind) (a b : Stage) (events : List Event) (world : Option World) → IsReached s conflicts a
+      → LeadsToPending kind s conflicts a events world b → IsReached s conflicts b
+
+-- one table belongs to the basis of the stage, and each that does has the same entries
+pub record HasOneTable (s : Subject) (g : Stage) : Type 0 where
+  pub table : ℕ → ℕ → Rational
+  pub belongs : BelongsTo s g table
+  pub same : (X : ℕ → ℕ → Rational) → BelongsTo s g X
+      → AreSameWithin (rows_of (setting_of s)) (width_of (setting_of s) g.pool) table X
+
+-- a world that is priced at the stage has no number in its pool
+abbrev pub ArePricedFresh : Subject → ℕ → Stage → Type 0
+ArePricedFresh s conflicts g = (kind : ClaimKind) (w : World) (number : ℕ) → IsPricedAt kind s conflicts g w → ¬ HasNumber g.pool w number
