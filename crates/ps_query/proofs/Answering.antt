@@ -20,6 +20,7 @@ use Rattle.ps_printed.specs.Printed.{IsPrintedAnswer, IsPrintedPart}
 use Rattle.ps_generation.specs.declared.limits.Limits.{Limits}
 use Rattle.ps_generation.specs.Phases.{AreLimits, LimitedSubject}
 use Rattle.ps_reported.specs.Laws.{IsAnswered}
+use Rattle.ps_reported.proofs.LawfulAnswers.{answer_settled}
 use Rattle.ps_reported.proofs.Reports.{all_within, all_short, asked_same}
 use Rattle.ps_master.specs.declared.first.First.{First}
 use Rattle.ps_master.specs.declared.first.First.TheVariants as first
@@ -97,7 +98,7 @@ module _ (limits : Limits) (p : Parts) (v : Verdict) (events : List Event) (part
       parts = are;
       few_pivots = within.pivots;
       few_conflicts = within.conflicts;
-      lawful = (solution are).lawful;
+      settled = answer_settled p limits.pivots limits.conflicts answer (solution are).lawful;
       valid = valid;
       printed = printed;
     }

@@ -5,4 +5,4 @@ mod solving;
 mod starting;
 
 pub use ps_master::Limits;
-pub use solving::solve;
+pub use solving::{query_part, solve, verdict_part};

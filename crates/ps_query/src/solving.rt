@@ -5,13 +5,14 @@ ghost use Rattle.ps_problem.specs.Problems.{HasNodes};
 ghost use Rattle.ps_printed.specs.Printed.{IsPrintedPart};
 ghost use Rattle.ps_generation.specs.Phases.{AreLimits};
 ghost use Rattle.ps_master.specs.Runs.{IsPrintedFirst, IsReached, verdict_of};
-ghost use Rattle.ps_query.specs.Parts.{AreBoundsOf, ArePartsUnder, IsBehind, IsPartOf, MayGoOn};
+ghost use Rattle.ps_query.specs.Parts.{AreBoundsOf, ArePartsUnder, IsBehind, IsPartOf, IsVerdictOf, MayGoOn};
 ghost use Rattle.ps_query.specs.Solutions.{AreShortLines, IsReadBack, IsSolution};
 
 use crate::starting::run_over_all;
 use ps_answer::{Answer, Parts, QueryAnswer, QueryPart, Verdict};
 use ps_io::{List, NoMemory};
 use ps_master::{First, Limits, Run};
+use ps_pool::Trace;
 use ps_problem::{Problem, Query};
 use std::alloc::Global;
 
@@ -62,7 +63,7 @@ fn answer_behind(run: &mut Run<'_>, first: First) -> Result<QueryAnswer, NoMemor
 }
 
 /// The answer to a query, from a run of its own.
-fn query_part(
+pub fn query_part(
     alloc: Global,
     problem: &Problem,
     query: Query,
@@ -107,6 +108,20 @@ fn parts_under(
     }
 }
 
+/// The verdict on a problem, from a run without a query, with the run's events.
+pub fn verdict_part(
+    alloc: Global,
+    problem: &Problem,
+    limits: Limits,
+) -> Result<(Verdict, Trace), NoMemory>
+    requires limits { AreLimits limits }
+    ensures { IfOk result (λ r. IsVerdictOf limits problem.now r.0 r.1) }
+{
+    let mut run = run_over_all(alloc, problem, None, limits)?;
+    let verdict = verdict_of(run.phase_one()?);
+    Ok((verdict, run.take_trace()))
+}
+
 /// The answer to a problem within limits of pivots and conflicts: the verdict, and where that is
 /// consistent the tightest bounds of each query. A part is open only by the limits or for a number
 /// that is too wide.
@@ -118,9 +133,7 @@ pub fn solve(alloc: Global, problem: &Problem, limits: Limits) -> Result<Answer,
 {
     // Called for its clauses: the problem is within the limits, and its numbers are in range.
     let _sound = problem.bound_list();
-    let mut run = run_over_all(alloc, problem, None, limits)?;
-    let verdict = verdict_of(run.phase_one()?);
-    let first = run.take_trace();
+    let (verdict, first) = verdict_part(alloc, problem, limits)?;
     let parts = parts_under(alloc, problem, &verdict, limits)?;
     Ok(Answer {
         verdict,

@@ -12,3 +12,5 @@ pub mod Causes
 pub mod Traces
 pub mod Sides
 pub mod Reports
+pub mod CountedCauses
+pub mod LawfulAnswers

@@ -1,5 +1,5 @@
 -- The lines of what a run answers.
-use Rattle.std.proofs.Common.{◌≡◌, ℕ, suc, ◌+◌, ◌<◌, ◌≤◌, None, List, [], ◌∷◌, ◌++◌, length, map, sum, All, inl, inr, refl, subst, arith}
+use Rattle.std.proofs.Common.{◌≡◌, ℕ, suc, ◌+◌, ◌<◌, ◌≤◌, List, [], ◌∷◌, ◌++◌, length, map, sum, All, inl, inr, refl, subst, arith}
 use Rattle.std.specs.List.{AllByRecursion, AllZip}
 use Rattle.std.proofs.lemmas.List.Elements.{All-head, All-tail}
 use Rattle.std.proofs.lemmas.List.Sums.{sum_by-cons}
@@ -19,17 +19,17 @@ use Rattle.ps_answer.specs.Answers.{ratio_of, verdict_items, trace_items, query_
 use Rattle.ps_claims.specs.Claims.{open_in_part, unfinished_of}
 use Rattle.ps_claims.specs.Validity.{IsValidPart}
 use Rattle.ps_entailment.specs.Answers.{asked_under}
-use Rattle.ps_phases.specs.Verdicts.{IsLawfulPart, asked_after}
+use Rattle.ps_phases.specs.Verdicts.{asked_after}
 use Rattle.ps_printed.specs.Printed.{IsPrintedPart}
 use Rattle.ps_valid.specs.Answers.{verdict_of, part_of, parts_of, answer_of}
 use Rattle.ps_valid.proofs.ShortLines.{short_line}
 use Rattle.ps_reported.specs.Laws.{IsAnswered, NamesFewWorlds}
+use Rattle.ps_reported.specs.Settled.{IsSettledPart}
 use Rattle.ps_reported.proofs.All.{both, by_recursion}
 use Rattle.ps_reported.proofs.Models.{IsFit}
 use Rattle.ps_reported.proofs.Places.{place_more, place_within}
 use Rattle.ps_reported.proofs.ShortPlaces.{wide_short}
 use Rattle.ps_reported.proofs.Causes.{AreLimits, AreLines, operand_proper, operand_within}
-use Rattle.ps_reported.proofs.Traces.{first_pool, first_trace}
 use Rattle.ps_reported.proofs.Sides.{verdict_fit, query_fit}
 
 HasItsNodes : Parts → Query → Type 0
@@ -52,7 +52,7 @@ asked_few (Inconsistent d) qs = omega arith
 asked_few (Open cause) qs = omega arith
 
 module _ (p : Parts) (pivots conflicts : ℕ) (limits : AreLimits p pivots conflicts) (Q : LineItem → Type 0) (AnyOpen : Type 0) (lines : AreLines pivots Q AnyOpen) where
-  parts_fit : (j : ℕ) (qs : List Query) (parts : List QueryPart) → AllZip (IsLawfulPart p pivots conflicts) qs parts → AllZip (IsValidPart p) qs (parts_of parts)
+  parts_fit : (j : ℕ) (qs : List Query) (parts : List QueryPart) → AllZip (IsSettledPart p pivots conflicts) qs parts → AllZip (IsValidPart p) qs (parts_of parts)
       → All (λ part. IsPrintedPart part.answer) parts → AllByRecursion (HasItsNodes p) qs → j + length qs ≤ MOST_QUERIES + 1 → (0 < sum (map open_in_part (parts_of parts)) → AnyOpen)
       → AllByRecursion Q (part_items j parts)
   unfolding HasItsNodes
@@ -70,18 +70,17 @@ module _ (p : Parts) (pivots conflicts : ℕ) (limits : AreLimits p pivots confl
   pub answer_fit : (a : Answer) → IsAnswered p pivots conflicts a → (0 < unfinished_of (answer_of a) → AnyOpen) → AllByRecursion Q (answer_items a)
   unfolding answer_items
   answer_fit a h if_open =
-      let run = h.lawful.verdict in
       let qs = asked_after a.verdict p.queries in
       let few = limits.parts.few_queries in
       let asked = asked_few a.verdict p.queries in
-      let valid = subst (λ xs. AllZip (IsValidPart p) xs (parts_of a.parts)) (asked_same a.verdict p.queries) h.valid.parts in (
+      let valid = subst (λ xs. AllZip (IsValidPart p) xs (parts_of a.parts)) (asked_same a.verdict p.queries) h.valid.parts in
+      let verdict = verdict_fit p pivots conflicts limits Q AnyOpen lines a.verdict a.first h.settled.verdict h.valid.verdict h.printed.verdict (λ k. if_open (omega (arith, k))) in (
         lines.fit line.Report (tt, tt),
         both Q (verdict_items a.verdict) (trace_items a.first ++ (part_items 1 a.parts ++ line.End ∷ []))
-            (verdict_fit p pivots conflicts limits Q AnyOpen lines run.end run.left run.pending a.verdict run.answered h.valid.verdict h.printed.verdict
-            (first_pool p None pivots conflicts limits Q AnyOpen lines a.verdict a.first run) (λ k. if_open (omega (arith, k))))
-            (both Q (trace_items a.first) (part_items 1 a.parts ++ line.End ∷ []) (first_trace p None pivots conflicts limits Q AnyOpen lines a.verdict a.first run)
+            verdict.0
+            (both Q (trace_items a.first) (part_items 1 a.parts ++ line.End ∷ []) verdict.1
             (both Q (part_items 1 a.parts) (line.End ∷ [])
-            (parts_fit 1 qs a.parts h.lawful.parts valid h.printed.parts (asked_nodes p a.verdict p.queries limits.parts.queries) (omega (arith, few, asked)) (λ k. if_open (omega (arith, k))))
+            (parts_fit 1 qs a.parts h.settled.parts valid h.printed.parts (asked_nodes p a.verdict p.queries limits.parts.queries) (omega (arith, few, asked)) (λ k. if_open (omega (arith, k))))
             (lines.fit line.End (tt, tt), tt))),
       )
 

@@ -1,5 +1,5 @@
 -- The lines of what is answered to the sentences, and to a query.
-use Rattle.std.proofs.Common.{◌≡◌, ℕ, ◌+◌, ◌<◌, ◌≤◌, ◌^◌, pos, ◌≤ℤ◌, Bool, true, false, Option, Some, None, List, ◌++◌, length, refl, ap, arith}
+use Rattle.std.proofs.Common.{◌≡◌, ◌⊎◌, ℕ, ◌+◌, ◌<◌, ◌≤◌, ◌^◌, pos, ◌≤ℤ◌, Bool, true, false, Option, Some, None, List, [], ◌++◌, length, inl, inr, refl, sym, ap, subst, arith}
 use Rattle.std.specs.List.{AllByRecursion}
 use Rattle.std.proofs.lemmas.Int.{ints}
 use Rattle.std.proofs.lemmas.List.{length-map}
@@ -12,6 +12,7 @@ use Rattle.ps_answer.specs.declared.item.LineItem.{LineItem}
 use Rattle.ps_answer.specs.declared.item.LineItem.TheVariants as line
 use Rattle.ps_answer.specs.declared.answer.Model.{Model}
 use Rattle.ps_answer.specs.declared.answer.Dual.{Dual}
+use Rattle.ps_answer.specs.declared.answer.Cause.{Cause}
 use Rattle.ps_answer.specs.declared.answer.Verdict.{Verdict}
 use Rattle.ps_answer.specs.declared.answer.Verdict.TheVariants.{Consistent, Inconsistent, Open}
 use Rattle.ps_answer.specs.declared.answer.SideAnswer.{SideAnswer}
@@ -26,9 +27,10 @@ use Rattle.ps_claims.specs.Claims.{open_in_verdict, open_in_side, open_in_part}
 use Rattle.ps_claims.specs.Validity.{query_of, IsRefuted, IsValidVerdict, IsValidSide, IsValidPart}
 use Rattle.ps_certificate.specs.Certificates.{entries, model_of, dual_of}
 use Rattle.ps_runs.specs.Runs.{Subject, IsAsked, given_in, both_in, Stage, pivots_in}
-use Rattle.ps_phases.specs.Verdicts.{IsVerdictAt, IsSideAt, AreLawfulBounds, IsLawfulAnswerTo}
-use Rattle.ps_printed.specs.Printed.{IsPrintedModel, IsPrintedDual, IsPrintedVerdict, IsPrintedSide, IsPrintedPart}
+use Rattle.ps_phases.specs.Verdicts.{IsSideAt, AreLawfulBounds, IsLawfulPhaseOne, IsLawfulAnswerTo}
+use Rattle.ps_printed.specs.Printed.{IsPrintedModel, IsPrintedDual, IsPrintedCause, IsPrintedVerdict, IsPrintedSide, IsPrintedPart}
 use Rattle.ps_valid.specs.Answers.{verdict_of, side_of, part_of}
+use Rattle.ps_reported.specs.Settled.{IsClosed, IsCertifiedVerdict, IsCertifiedAnswer, IsLeftBy, IsBesideRun, IsOfRun, IsSettledVerdict}
 use Rattle.ps_reported.proofs.All.{both, each}
 use Rattle.ps_runs.proofs.Asked.{given_there, both_there}
 use Rattle.ps_reported.proofs.Values.{value_small, value_low}
@@ -58,26 +60,41 @@ module _ (p : Parts) (pivots conflicts : ℕ) (limits : AreLimits p pivots confl
       each IsFit Q (dual_items d) lines.fit
       (fit_dual p limits.parts Nothing (given_in q) 0 (given_there Nothing p q asked) (λ query. absurd (query refl)) d (omega (arith, ints, top)) refuted printed)
 
+  no_events : (events : List Event) → events ≡ [] → AllByRecursion Q (trace_items events)
+  no_events events e = subst (λ es. AllByRecursion Q (trace_items es)) (sym e) (lines.fit (line.TraceHead 0) (tt, omega arith), tt)
+
   -- ---- the verdict
-  pub verdict_fit : (g : Stage) (left : ℕ) (pending : Option World) (v : Verdict) → IsVerdictAt (record { parts = p; query = None }) pivots conflicts g left pending v → IsValidVerdict p (verdict_of v)
-      → IsPrintedVerdict v → length g.pool ≤ pivots + 2 → (0 < open_in_verdict (verdict_of v) → AnyOpen) → AllByRecursion Q (verdict_items v)
-  verdict_fit g left pending (Consistent m) h valid printed few if_open =
-      (lines.fit line.Consistent (tt, tt), model_fit m valid.model.distribution valid.basic printed)
-  verdict_fit g left pending (Inconsistent d) h valid printed few if_open =
-      (lines.fit line.Inconsistent (tt, tt), nothing_fit None d refl valid.refuted valid.head.top printed)
-  verdict_fit g left pending (Open cause) h valid printed few if_open =
-      cause_fit p None pivots conflicts limits Q AnyOpen lines Nothing refl g left pending cause h printed few (if_open (omega arith))
+  certified_verdict : (v : Verdict) (events : List Event) → IsCertifiedVerdict v events → IsValidVerdict p (verdict_of v) → IsPrintedVerdict v
+      → AllByRecursion Q (verdict_items v) × AllByRecursion Q (trace_items events)
+  certified_verdict (Consistent m) events h valid printed = ((lines.fit line.Consistent (tt, tt), model_fit m valid.model.distribution valid.basic printed), no_events events h)
+  certified_verdict (Inconsistent d) events h valid printed = ((lines.fit line.Inconsistent (tt, tt), nothing_fit None d refl valid.refuted valid.head.top printed), no_events events h)
+  certified_verdict (Open cause) events h valid printed = absurd h
+
+  run_verdict : (v : Verdict) (events : List Event) (h : IsLawfulPhaseOne (record { parts = p; query = None }) pivots conflicts v events) → IsValidVerdict p (verdict_of v) → IsPrintedVerdict v
+      → (0 < open_in_verdict (verdict_of v) → AnyOpen) → AllByRecursion Q (verdict_items v)
+  run_verdict (Consistent m) events h valid printed if_open = (lines.fit line.Consistent (tt, tt), model_fit m valid.model.distribution valid.basic printed)
+  run_verdict (Inconsistent d) events h valid printed if_open = (lines.fit line.Inconsistent (tt, tt), nothing_fit None d refl valid.refuted valid.head.top printed)
+  run_verdict (Open cause) events h valid printed if_open =
+      cause_fit p None pivots conflicts limits Q AnyOpen lines Nothing refl h.end h.left h.pending cause h.answered printed
+      (first_pool p None pivots conflicts limits Q AnyOpen lines (Open cause) events h) (if_open (omega arith))
+
+  -- the lines of a verdict, and those of its events
+  pub verdict_fit : (v : Verdict) (events : List Event) → IsSettledVerdict p pivots conflicts v events → IsValidVerdict p (verdict_of v) → IsPrintedVerdict v
+      → (0 < open_in_verdict (verdict_of v) → AnyOpen) → AllByRecursion Q (verdict_items v) × AllByRecursion Q (trace_items events)
+  verdict_fit v events h valid printed if_open = elim h [
+    | inl alone ↦ certified_verdict v events alone valid printed
+    | inr run ↦ (run_verdict v events run valid printed if_open, first_trace p None pivots conflicts limits Q AnyOpen lines v events run)
+  ]
 
   -- ---- a query
   module _ (q : stored.Query) (nodes : HasNodes p.nodes q.formula q.given q.both) where
     abbrev s : Subject
     s = record { parts = p; query = Some q }
 
-    -- a side
-    side_fit : (upper : Bool) (kind : ClaimKind) (g : Stage) (left : ℕ) (pending : Option World) (a : SideAnswer) (trace : List Event) → IsSideAt kind s pivots conflicts g left pending a
-        → IsValidSide p kind q (side_of a) → IsPrintedSide a → length g.pool ≤ pivots + 2 → (0 < open_in_side (side_of a) → AnyOpen) → AllByRecursion Q (trace_items trace)
-        → AllByRecursion Q (side_items upper a trace)
-    side_fit upper kind g left pending (side.Bound value m d) trace h valid printed few if_open events =
+    -- a side with its certificate
+    closed_fit : (upper : Bool) (kind : ClaimKind) (a : SideAnswer) (trace : List Event) → IsClosed a → IsValidSide p kind q (side_of a) → IsPrintedSide a
+        → AllByRecursion Q (trace_items trace) → AllByRecursion Q (side_items upper a trace)
+    closed_fit upper kind (side.Bound value m d) trace closed valid printed events =
         let small = value_small value (dual_of d) valid.head in
         let over = small.over in
         let under = small.under in
@@ -89,6 +106,13 @@ module _ (p : Parts) (pivots conflicts : ℕ) (limits : AreLimits p pivots confl
           both Q (model_items m) (dual_items d ++ trace_items trace) (model_fit m valid.reached.allowed.model.distribution valid.basic printed.0)
               (both Q (dual_items d) (trace_items trace) (dual_fit (Some q) kind d nodes (omega (arith, ints, least)) valid.refuted printed.1) events),
         )
+    closed_fit upper kind (side.Open cause) trace closed valid printed events = absurd closed
+
+    -- a side of a run
+    side_fit : (upper : Bool) (kind : ClaimKind) (g : Stage) (left : ℕ) (pending : Option World) (a : SideAnswer) (trace : List Event) → IsSideAt kind s pivots conflicts g left pending a
+        → IsValidSide p kind q (side_of a) → IsPrintedSide a → length g.pool ≤ pivots + 2 → (0 < open_in_side (side_of a) → AnyOpen) → AllByRecursion Q (trace_items trace)
+        → AllByRecursion Q (side_items upper a trace)
+    side_fit upper kind g left pending (side.Bound value m d) trace h valid printed few if_open events = closed_fit upper kind (side.Bound value m d) trace tt valid printed events
     side_fit upper kind g left pending (side.Open cause) trace h valid printed few if_open events = (
       lines.fit (line.OpenSide upper) (tt, tt),
       both Q (cause_items cause) (trace_items trace)
@@ -154,30 +178,92 @@ module _ (p : Parts) (pivots conflicts : ℕ) (limits : AreLimits p pivots confl
           let c = h.greatest.counted in
           trace_fit p (Some q) pivots conflicts limits Q AnyOpen lines upper_trace (length h.after_lower.pool + pivots_in upper_trace) (omega (arith, a, b, c)) upper_come.few (omega (arith, few, a, b, c)) upper_come.under
 
-      bounds_fit : IsValidSide p Lower q (side_of lower) → IsValidSide p Upper q (side_of upper) → IsPrintedSide lower → IsPrintedSide upper
-          → (0 < open_in_side (side_of lower) + open_in_side (side_of upper) → AnyOpen) → AllByRecursion Q (query_items (query.Bounds lower lower_trace upper upper_trace) first)
-      bounds_fit lower_valid upper_valid lower_printed upper_printed if_open =
+      -- the run's sides, where they are to be shown
+      lower_side : (upper : Bool) → IsValidSide p Lower q (side_of lower) → IsPrintedSide lower → (0 < open_in_side (side_of lower) → AnyOpen) → AllByRecursion Q (side_items upper lower lower_trace)
+      lower_side upper valid printed if_open =
           let few = lower_few in
           let a = h.counted in
-          let b = h.least.counted in (
-            lines.fit line.Bounds (tt, tt),
-            both Q (trace_items first) (side_items false lower lower_trace ++ side_items true upper upper_trace) first_fit
-                (both Q (side_items false lower lower_trace) (side_items true upper upper_trace)
-                (side_fit false Lower h.after_lower h.left_lower h.least.pending lower lower_trace h.least.answered lower_valid lower_printed (omega (arith, few, a, b)) (λ k. if_open (omega (arith, k))) lower_fit)
-                (side_fit true Upper h.end h.left h.greatest.pending upper upper_trace h.greatest.answered upper_valid upper_printed upper_few (λ k. if_open (omega (arith, k))) upper_fit)),
-          )
+          let b = h.least.counted in
+          side_fit upper Lower h.after_lower h.left_lower h.least.pending lower lower_trace h.least.answered valid printed (omega (arith, few, a, b)) if_open lower_fit
 
-    pub query_fit : (first : List Event) (a : QueryAnswer) → IsLawfulAnswerTo s pivots conflicts first a → IsValidPart p q (part_of a) → IsPrintedPart a → (0 < open_in_part (part_of a) → AnyOpen)
+      upper_side : (is_upper : Bool) → IsValidSide p Upper q (side_of upper) → IsPrintedSide upper → (0 < open_in_side (side_of upper) → AnyOpen) → AllByRecursion Q (side_items is_upper upper upper_trace)
+      upper_side is_upper valid printed if_open = side_fit is_upper Upper h.end h.left h.greatest.pending upper upper_trace h.greatest.answered valid printed upper_few if_open upper_fit
+
+    -- the lines of the events of a run's phase one
+    run_trace : (run : QueryAnswer) (first : List Event) → IsLawfulAnswerTo s pivots conflicts first run → AllByRecursion Q (trace_items first)
+    run_trace (query.Bounds lower lower_trace upper upper_trace) first h = first_fit first lower lower_trace upper upper_trace h
+    run_trace (query.Impossible d) first h = first_trace p (Some q) pivots conflicts limits Q AnyOpen lines (Inconsistent d) first h
+    run_trace (query.Open cause) first h = first_trace p (Some q) pivots conflicts limits Q AnyOpen lines (Open cause) first h
+
+    -- the cause for which phase one is open
+    cause_left : (cause : Cause) (first : List Event) → IsLawfulPhaseOne s pivots conflicts (Open cause) first → IsPrintedCause cause → AnyOpen → AllByRecursion Q (cause_items cause)
+    cause_left cause first h printed any =
+        cause_fit p (Some q) pivots conflicts limits Q AnyOpen lines Nothing nodes h.end h.left h.pending cause h.answered printed
+        (first_pool p (Some q) pivots conflicts limits Q AnyOpen lines (Open cause) first h) any
+
+    -- the lines of a side follow where it is valid, can be printed, and may be open
+    FitsWhereValid : Bool → ClaimKind → SideAnswer → List Event → Type 0
+    FitsWhereValid upper kind a events = IsValidSide p kind q (side_of a) → IsPrintedSide a → (0 < open_in_side (side_of a) → AnyOpen) → AllByRecursion Q (side_items upper a events)
+
+    left_fit : (run : QueryAnswer) (first : List Event) → IsLawfulAnswerTo s pivots conflicts first run → (upper : Bool) (kind : ClaimKind) (a : SideAnswer) (events : List Event)
+        → IsLeftBy run kind a events → FitsWhereValid upper kind a events
+    unfolding FitsWhereValid
+    left_fit (query.Bounds lower lower_trace upper upper_trace) first h is_upper Nothing a events left = absurd left
+    left_fit (query.Bounds lower lower_trace upper upper_trace) first h is_upper Lower a events left =
+        subst (λ x. FitsWhereValid is_upper Lower x events) (sym left.0) (subst (λ es. FitsWhereValid is_upper Lower lower es) (sym left.1) (lower_side first lower lower_trace upper upper_trace h is_upper))
+    left_fit (query.Bounds lower lower_trace upper upper_trace) first h is_upper Upper a events left =
+        subst (λ x. FitsWhereValid is_upper Upper x events) (sym left.0) (subst (λ es. FitsWhereValid is_upper Upper upper es) (sym left.1) (upper_side first lower lower_trace upper upper_trace h is_upper))
+    left_fit (query.Impossible d) first h is_upper kind a events left = absurd left
+    left_fit (query.Open cause) first h is_upper kind a events left =
+        let as_open : FitsWhereValid is_upper kind (side.Open cause) events = λ valid printed if_open. (
+          lines.fit (line.OpenSide is_upper) (tt, tt),
+          both Q (cause_items cause) (trace_items events) (cause_left cause first h printed (if_open (omega arith))) (no_events events left.1),
+        ) in
+        subst (λ x. FitsWhereValid is_upper kind x events) (sym left.0) as_open
+
+    beside_fit : (run : QueryAnswer) (first : List Event) → IsLawfulAnswerTo s pivots conflicts first run → (upper : Bool) (kind : ClaimKind) (a : SideAnswer) (events : List Event)
+        → IsBesideRun run kind a events → IsValidSide p kind q (side_of a) → IsPrintedSide a → (0 < open_in_side (side_of a) → AnyOpen) → AllByRecursion Q (side_items upper a events)
+    unfolding FitsWhereValid
+    beside_fit run first h upper kind a events beside valid printed if_open = elim beside [
+      | inl alone ↦ closed_fit upper kind a events alone.closed valid printed (no_events events alone.none)
+      | inr left ↦ left_fit run first h upper kind a events left valid printed if_open
+    ]
+
+    certified_fit : (first : List Event) (a : QueryAnswer) → IsCertifiedAnswer first a → IsValidPart p q (part_of a) → IsPrintedPart a → AllByRecursion Q (query_items a first)
+    certified_fit first (query.Bounds lower lower_trace upper upper_trace) h valid printed = (
+      lines.fit line.Bounds (tt, tt),
+      both Q (trace_items first) (side_items false lower lower_trace ++ side_items true upper upper_trace) (no_events first h.0)
+          (both Q (side_items false lower lower_trace) (side_items true upper upper_trace)
+          (closed_fit false Lower lower lower_trace h.1.closed valid.0 printed.0 (no_events lower_trace h.1.none))
+          (closed_fit true Upper upper upper_trace h.2.closed valid.1 printed.1 (no_events upper_trace h.2.none))),
+    )
+    certified_fit first (query.Impossible d) h valid printed = (
+      lines.fit line.Impossible (tt, tt),
+      both Q (dual_items d) (trace_items first) (nothing_fit (Some q) d nodes valid.refuted valid.head.top printed) (no_events first h),
+    )
+    certified_fit first (query.Open cause) h valid printed = absurd h
+
+    run_fit : (first : List Event) (a : QueryAnswer) → IsOfRun s pivots conflicts first a → IsValidPart p q (part_of a) → IsPrintedPart a → (0 < open_in_part (part_of a) → AnyOpen)
         → AllByRecursion Q (query_items a first)
-    query_fit first (query.Bounds lower lower_trace upper upper_trace) h valid printed if_open =
-        bounds_fit first lower lower_trace upper upper_trace h valid.0 valid.1 printed.0 printed.1 if_open
-    query_fit first (query.Impossible d) h valid printed if_open = (
+    run_fit first (query.Bounds lower lower_trace upper upper_trace) h valid printed if_open = (
+      lines.fit line.Bounds (tt, tt),
+      both Q (trace_items first) (side_items false lower lower_trace ++ side_items true upper upper_trace) (run_trace h.run first h.lawful)
+          (both Q (side_items false lower lower_trace) (side_items true upper upper_trace)
+          (beside_fit h.run first h.lawful false Lower lower lower_trace h.below valid.0 printed.0 (λ k. if_open (omega (arith, k))))
+          (beside_fit h.run first h.lawful true Upper upper upper_trace h.above valid.1 printed.1 (λ k. if_open (omega (arith, k))))),
+    )
+    run_fit first (query.Impossible d) h valid printed if_open = (
       lines.fit line.Impossible (tt, tt),
       both Q (dual_items d) (trace_items first) (nothing_fit (Some q) d nodes valid.refuted valid.head.top printed)
           (first_trace p (Some q) pivots conflicts limits Q AnyOpen lines (Inconsistent d) first h),
     )
-    query_fit first (query.Open cause) h valid printed if_open =
-        both Q (cause_items cause) (trace_items first)
-        (cause_fit p (Some q) pivots conflicts limits Q AnyOpen lines Nothing nodes h.end h.left h.pending cause h.answered printed
-        (first_pool p (Some q) pivots conflicts limits Q AnyOpen lines (Open cause) first h) (if_open (omega arith)))
+    run_fit first (query.Open cause) h valid printed if_open =
+        both Q (cause_items cause) (trace_items first) (cause_left cause first h printed (if_open (omega arith)))
         (first_trace p (Some q) pivots conflicts limits Q AnyOpen lines (Open cause) first h)
+
+    pub query_fit : (first : List Event) (a : QueryAnswer) → IsCertifiedAnswer first a ⊎ IsOfRun s pivots conflicts first a → IsValidPart p q (part_of a) → IsPrintedPart a
+        → (0 < open_in_part (part_of a) → AnyOpen) → AllByRecursion Q (query_items a first)
+    query_fit first a h valid printed if_open = elim h [
+      | inl alone ↦ certified_fit first a alone valid printed
+      | inr run ↦ run_fit first a run valid printed if_open
+    ]

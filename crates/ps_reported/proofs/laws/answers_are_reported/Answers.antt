@@ -1,5 +1,5 @@
 use Rattle.ps_answer.proofs.WrittenItems.{written_report}
-use Rattle.ps_phases.proofs.Counted.{answer_counted}
+use Rattle.ps_reported.proofs.CountedCauses.{settled_counted}
 use Rattle.ps_reported.proofs.Reports.{all_within, all_short}
 use Rattle.ps_reported.proofs.laws.answers_are_reported.Goals as goal
 
@@ -7,5 +7,5 @@ pub returns : goal.returns
 returns c = record {
   within = all_within;
   short = all_short;
-  reports = λ p pivots conflicts a h names. written_report a (answer_counted p pivots conflicts a h.lawful) (all_within p pivots conflicts a h names);
+  reports = λ p pivots conflicts a h names. written_report a (settled_counted p pivots conflicts a h.settled) (all_within p pivots conflicts a h names);
 }

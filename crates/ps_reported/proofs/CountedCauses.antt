@@ -1,0 +1,107 @@
+-- Where a settled answer is open for conflicts, it holds as many steps as their limit.
+use Rattle.std.proofs.Common.{◌⊎◌, ℕ, Option, Some, None, List, [], ◌∷◌, inl, inr, sym, subst}
+use Rattle.std.specs.List.{AllZip}
+use Rattle.ps_meaning.specs.Formula.{World}
+use Rattle.ps_problem.specs.declared.query.Query.{Query}
+use Rattle.ps_problem.specs.Problems.{Parts}
+use Rattle.ps_pool.specs.declared.event.Event.{Event}
+use Rattle.ps_answer.specs.declared.answer.Cause.{Cause}
+use Rattle.ps_answer.specs.declared.answer.Cause.TheVariants.{Pivots, Conflicts, Wide}
+use Rattle.ps_answer.specs.declared.answer.Verdict.{Verdict}
+use Rattle.ps_answer.specs.declared.answer.Verdict.TheVariants.{Consistent, Inconsistent, Open}
+use Rattle.ps_answer.specs.declared.answer.SideAnswer.{SideAnswer}
+use Rattle.ps_answer.specs.declared.answer.SideAnswer.TheVariants as side
+use Rattle.ps_answer.specs.declared.answer.QueryAnswer.{QueryAnswer}
+use Rattle.ps_answer.specs.declared.answer.QueryAnswer.TheVariants as query
+use Rattle.ps_answer.specs.declared.answer.QueryPart.{QueryPart}
+use Rattle.ps_answer.specs.declared.answer.Answer.{Answer}
+use Rattle.ps_answer.specs.Answers.{IsCounted, IsVerdictCounted, IsSideCounted, IsQueryCounted, ArePartsCounted, IsAnswerCounted}
+use Rattle.ps_claims.specs.declared.claim_kind.ClaimKind.{ClaimKind}
+use Rattle.ps_claims.specs.declared.claim_kind.ClaimKind.TheVariants.{Nothing, Lower, Upper}
+use Rattle.ps_runs.specs.Runs.{Subject, sentences_of, subject_of, Stage}
+use Rattle.ps_phases.specs.Licences.{IsLicensed}
+use Rattle.ps_phases.specs.Verdicts.{IsSideAt, IsLawfulPhaseOne, IsLawfulAnswerTo, asked_after}
+use Rattle.ps_reported.specs.Settled.{IsClosed, IsCertifiedVerdict, IsCertifiedAnswer, IsLeftBy, IsBesideRun, IsOfRun, IsSettledVerdict, IsSettledPart, IsSettledAnswer}
+
+licensed : (kind : ClaimKind) (s : Subject) (pivots conflicts : ℕ) (g : Stage) (left : ℕ) (world : Option World) (cause : Cause) → IsLicensed kind s pivots conflicts g left world cause → IsCounted cause
+licensed kind s pivots conflicts g left None (Pivots limit) h = tt
+licensed kind s pivots conflicts g left None (Conflicts limit goal steps) h = h.spent.count
+licensed kind s pivots conflicts g left None (Wide at) h = tt
+licensed kind s pivots conflicts g left (Some w) (Pivots limit) h = tt
+licensed kind s pivots conflicts g left (Some w) (Conflicts limit goal steps) h = absurd h
+licensed kind s pivots conflicts g left (Some w) (Wide at) h = tt
+
+-- ---- verdicts
+certified_verdict : (v : Verdict) (events : List Event) → IsCertifiedVerdict v events → IsVerdictCounted v
+certified_verdict (Consistent m) events h = tt
+certified_verdict (Inconsistent d) events h = tt
+certified_verdict (Open cause) events h = absurd h
+
+run_verdict : (s : Subject) (pivots conflicts : ℕ) (v : Verdict) (events : List Event) → IsLawfulPhaseOne s pivots conflicts v events → IsVerdictCounted v
+run_verdict s pivots conflicts (Consistent m) events h = tt
+run_verdict s pivots conflicts (Inconsistent d) events h = tt
+run_verdict s pivots conflicts (Open cause) events h = licensed Nothing s pivots conflicts h.end h.left h.pending cause h.answered
+
+verdict_counted : (p : Parts) (pivots conflicts : ℕ) (v : Verdict) (events : List Event) → IsSettledVerdict p pivots conflicts v events → IsVerdictCounted v
+verdict_counted p pivots conflicts v events h = elim h [
+  | inl alone ↦ certified_verdict v events alone
+  | inr run ↦ run_verdict (sentences_of p) pivots conflicts v events run
+]
+
+-- ---- parts
+closed_counted : (a : SideAnswer) → IsClosed a → IsSideCounted a
+closed_counted (side.Bound value m d) h = tt
+closed_counted (side.Open cause) h = absurd h
+
+run_side : (kind : ClaimKind) (s : Subject) (pivots conflicts : ℕ) (g : Stage) (left : ℕ) (world : Option World) (a : SideAnswer) → IsSideAt kind s pivots conflicts g left world a → IsSideCounted a
+run_side kind s pivots conflicts g left world (side.Bound value m d) h = tt
+run_side kind s pivots conflicts g left world (side.Open cause) h = licensed kind s pivots conflicts g left world cause h
+
+left_counted : (s : Subject) (pivots conflicts : ℕ) (first : List Event) (run : QueryAnswer) → IsLawfulAnswerTo s pivots conflicts first run → (kind : ClaimKind) (a : SideAnswer) (events : List Event)
+    → IsLeftBy run kind a events → IsSideCounted a
+left_counted s pivots conflicts first (query.Bounds lower lower_trace upper upper_trace) h Nothing a events left = absurd left
+left_counted s pivots conflicts first (query.Bounds lower lower_trace upper upper_trace) h Lower a events left =
+    subst IsSideCounted (sym left.0) (run_side Lower s pivots conflicts h.after_lower h.left_lower h.least.pending lower h.least.answered)
+left_counted s pivots conflicts first (query.Bounds lower lower_trace upper upper_trace) h Upper a events left =
+    subst IsSideCounted (sym left.0) (run_side Upper s pivots conflicts h.end h.left h.greatest.pending upper h.greatest.answered)
+left_counted s pivots conflicts first (query.Impossible d) h kind a events left = absurd left
+left_counted s pivots conflicts first (query.Open cause) h kind a events left =
+    subst IsSideCounted (sym left.0) (licensed Nothing s pivots conflicts h.end h.left h.pending cause h.answered)
+
+beside_counted : (s : Subject) (pivots conflicts : ℕ) (first : List Event) (run : QueryAnswer) → IsLawfulAnswerTo s pivots conflicts first run → (kind : ClaimKind) (a : SideAnswer) (events : List Event)
+    → IsBesideRun run kind a events → IsSideCounted a
+beside_counted s pivots conflicts first run h kind a events beside = elim beside [
+  | inl alone ↦ closed_counted a alone.closed
+  | inr left ↦ left_counted s pivots conflicts first run h kind a events left
+]
+
+certified_query : (first : List Event) (a : QueryAnswer) → IsCertifiedAnswer first a → IsQueryCounted a
+certified_query first (query.Bounds lower lower_trace upper upper_trace) h = (closed_counted lower h.1.closed, closed_counted upper h.2.closed)
+certified_query first (query.Impossible d) h = tt
+certified_query first (query.Open cause) h = absurd h
+
+run_query : (s : Subject) (pivots conflicts : ℕ) (first : List Event) (a : QueryAnswer) → IsOfRun s pivots conflicts first a → IsQueryCounted a
+run_query s pivots conflicts first (query.Bounds lower lower_trace upper upper_trace) h = (
+  beside_counted s pivots conflicts first h.run h.lawful Lower lower lower_trace h.below,
+  beside_counted s pivots conflicts first h.run h.lawful Upper upper upper_trace h.above,
+)
+run_query s pivots conflicts first (query.Impossible d) h = tt
+run_query s pivots conflicts first (query.Open cause) h = licensed Nothing s pivots conflicts h.end h.left h.pending cause h.answered
+
+query_counted : (s : Subject) (pivots conflicts : ℕ) (first : List Event) (a : QueryAnswer) → IsCertifiedAnswer first a ⊎ IsOfRun s pivots conflicts first a → IsQueryCounted a
+query_counted s pivots conflicts first a h = elim h [
+  | inl alone ↦ certified_query first a alone
+  | inr run ↦ run_query s pivots conflicts first a run
+]
+
+parts_counted : (p : Parts) (pivots conflicts : ℕ) (qs : List Query) (parts : List QueryPart) → AllZip (IsSettledPart p pivots conflicts) qs parts → ArePartsCounted parts
+parts_counted p pivots conflicts [] [] h = tt
+parts_counted p pivots conflicts [] (x ∷ xs) h = absurd h
+parts_counted p pivots conflicts (q ∷ qs) [] h = tt
+parts_counted p pivots conflicts (q ∷ qs) (x ∷ xs) h = (query_counted (subject_of p q) pivots conflicts x.first x.answer h.0, parts_counted p pivots conflicts qs xs h.1)
+
+pub settled_counted : (p : Parts) (pivots conflicts : ℕ) (a : Answer) → IsSettledAnswer p pivots conflicts a → IsAnswerCounted a
+settled_counted p pivots conflicts a h = record {
+  verdict = verdict_counted p pivots conflicts a.verdict a.first h.verdict;
+  parts = parts_counted p pivots conflicts (asked_after a.verdict p.queries) a.parts h.parts;
+}
