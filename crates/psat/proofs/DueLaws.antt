@@ -1,5 +1,5 @@
 -- What is due for what was read and judged.
-use Rattle.std.proofs.Common.{◌≡◌, inl, ℕ, ◌+◌, ◌-◌, ◌<◌, take, drop, arith, length-drop, length-append, ◌≤◌, List, [], ◌++◌, length, Option, Some, None, Err, String, refl, sym, ap, subst, ◌∙◌, append-nil}
+use Rattle.std.proofs.Common.{◌≡◌, inl, ℕ, ◌+◌, ◌-◌, ◌<◌, take, drop, arith, length-drop, length-append, ◌≤◌, Bool, List, [], ◌++◌, length, Option, Some, None, Err, String, refl, sym, ap, subst, ◌∙◌, append-nil}
 use Rattle.std.specs.declared.alloc.Global.{Global}
 use Rattle.std.proofs.Math.Seq.{take_all}
 use Rattle.std.proofs.lemmas.Option.{same_Some}
@@ -25,6 +25,7 @@ use Rattle.ps_io.specs.Transfer.{Appends, ReadAll, TookMore, TookWithin}
 use Rattle.ps_io.specs.declared.limits.TheConstants.{LONGEST_READ}
 use Rattle.ps_generation.specs.declared.limits.Limits.{Limits}
 use Rattle.ps_query.specs.Solutions.{IsReadBack, IsSolution}
+use Rattle.ps_enough.proofs.Limits.{answer_enough}
 use Rattle.psat.specs.declared.command.Command.{Command}
 use Rattle.psat.specs.declared.command.TheConstants.{MOST_PROBLEM}
 use Rattle.psat.specs.declared.command.Command.TheVariants as commands
@@ -32,8 +33,9 @@ use Rattle.psat.specs.declared.status.Status.{Status}
 use Rattle.psat.specs.declared.status.Status.TheVariants as status
 use Rattle.psat.specs.Commands.{Spell, SpellNone, limit_of, words_of}
 use Rattle.psat.specs.Statuses.{EndsCheck, EndsSolve, HasText, IsAnswerOf}
+use Rattle.psat.specs.RunLimits.{limits_for}
 use Rattle.psat.specs.Due as due
-use Rattle.psat.specs.Due.{Output, too_long, usage, refused_line, unreadable, searched, DueAnswer, DueReport, FaultAt, DueText, NotRead, DueAnswered, NoProblem, Solved, Within, TooLong, DueFor, Due, ForCommand, ForNone, report_of, status_after}
+use Rattle.psat.specs.Due.{Output, too_long, usage, refused_line, unreadable, searched, DueAnswer, DueReport, FaultAt, DueText, NotRead, DueAnswered, NoProblem, Solved, IsSolvedBy, Within, TooLong, DueFor, Due, ForCommand, ForNone, report_of, status_after}
 use Rattle.psat.proofs.CommandLaws.{one_command}
 use Rattle.psat.specs.Runs.{IsTold, WasRead, Took, HasAnswered, HasTaken, HasRead, Wrote}
 use Rattle.psat.specs.Replies.{AreWithin, DueBytes, IsDueFor, IsDue}
@@ -74,22 +76,22 @@ whole-is most (Some xs) (Some ys) taken bytes h e =
 -- a command that reads so many bytes at most is told what the source had left
 told-is : (c : Command) (limit : ℕ) (left : Option (List ℕ)) (bytes : List ℕ) → limit_of c ≡ Some limit → IsTold c left bytes → left ≡ Some bytes
 told-is (commands.Check n) limit left bytes e h = h
-told-is (commands.Solve l) limit left bytes e h = h
+told-is (commands.Solve l f) limit left bytes e h = h
 
 within_due : (c : Command) (limit : ℕ) (bytes : List ℕ) (o : Output) → limit_of c ≡ Some limit → length bytes ≤ limit → DueBytes c bytes o → DueFor c bytes o
 within_due (commands.Check n) limit bytes o e few d = let same : n ≡ limit = same_Some n limit e in Within (subst (λ (m : ℕ). length bytes ≤ m) (sym same) few) d
-within_due (commands.Solve l) limit bytes o e few d = let same : MOST_PROBLEM ≡ limit = same_Some MOST_PROBLEM limit e in Within (subst (λ (m : ℕ). length bytes ≤ m) (sym same) few) d
+within_due (commands.Solve l f) limit bytes o e few d = let same : MOST_PROBLEM ≡ limit = same_Some MOST_PROBLEM limit e in Within (subst (λ (m : ℕ). length bytes ≤ m) (sym same) few) d
 
 more_due : (c : Command) (limit : ℕ) (bytes : List ℕ) (o : Output) → limit_of c ≡ Some limit → limit < length bytes → o ≡ too_long limit → DueFor c bytes o
 more_due (commands.Check n) limit bytes o e more is =
     let same : n ≡ limit = same_Some n limit e in TooLong (subst (λ (m : ℕ). m < length bytes) (sym same) more) (subst (λ (m : ℕ). o ≡ too_long m) (sym same) is)
-more_due (commands.Solve l) limit bytes o e more is =
+more_due (commands.Solve l f) limit bytes o e more is =
     let same : MOST_PROBLEM ≡ limit = same_Some MOST_PROBLEM limit e in
     TooLong (subst (λ (m : ℕ). m < length bytes) (sym same) more) (subst (λ (m : ℕ). o ≡ too_long m) (sym same) is)
 
 pub within_limit : (c : Command) (limit n : ℕ) → limit_of c ≡ Some limit → n ≤ limit → AreWithin c n
 within_limit (commands.Check m) limit n e le = let same : m ≡ limit = same_Some m limit e in omega (arith, le, same)
-within_limit (commands.Solve l) limit n e le = let same : MOST_PROBLEM ≡ limit = same_Some MOST_PROBLEM limit e in omega (arith, le, same)
+within_limit (commands.Solve l f) limit n e le = let same : MOST_PROBLEM ≡ limit = same_Some MOST_PROBLEM limit e in omega (arith, le, same)
 
 pub input_due : (c : Command) (limit : ℕ) (old new : Option (List ℕ)) (taken given : List ℕ) (o : Output) → limit_of c ≡ Some limit → ReadAll limit old new taken → given ≡ taken
     → DueBytes c given o → IsDueFor c old o
@@ -147,7 +149,7 @@ solve_goes s g = tt
 
 pub answer_goes : (c : Command) (s : Status) → IsAnswerOf c s → HasText s
 answer_goes (commands.Check n) s g = check_goes s g
-answer_goes (commands.Solve l) s g = solve_goes s g
+answer_goes (commands.Solve l e) s g = solve_goes s g
 
 -- at an answer the source was read
 pub took_by : (limit : ℕ) (s : Status) (old new : Option (List ℕ)) → HasText s → WasRead limit old new → Took limit s old new
@@ -178,7 +180,7 @@ read_cut words s old new g h = record { read = λ command spelled. by command (h
   where
     by : (command : Command) → HasTaken command s old new → HasTaken command status.WriteFault old new
     by (commands.Check limit) taken = was_read limit s old new g taken
-    by (commands.Solve limits) taken = was_read MOST_PROBLEM s old new g taken
+    by (commands.Solve limits enough) taken = was_read MOST_PROBLEM s old new g taken
 
 pub command_due : (words : List (List ℕ)) (command : Command) (left : Option (List ℕ)) (o : Output) → Spell words command → IsDueFor command left o → IsDue words left o
 command_due words command left o spelled h = record { due = λ bytes given. ForCommand command spelled (h.due bytes (given.told command spelled)) }
@@ -212,10 +214,17 @@ ran_by words bytes text status.WriteFault old new g d a = absurd g
 ran_by words bytes text status.NoMemory old new g d a = absurd g
 
 -- ---- due for the bytes of a problem
-pub solved_due : (limits : Limits) (bytes : List ℕ) (p : Parts) (a : Answer) → SpellsWhole bytes p → IsSolution limits p a → IsReadBack limits a
-    → DueAnswered limits bytes (record { text = report_of a; status = status_after a })
-solved_due limits bytes p a spells solution back = Solved p a (record { spells = spells; solution = solution; read_back = back; is = refl })
+pub solved_due : (limits run : Limits) (enough : Bool) (bytes : List ℕ) (p : Parts) (a : Answer) → run ≡ limits_for limits enough p → SpellsWhole bytes p → IsSolution run p a → IsReadBack run a
+    → DueAnswered limits enough bytes (record { text = report_of a; status = status_after a })
+solved_due limits run enough bytes p a same spells solution back =
+    Solved p a (subst (λ (x : Limits). IsSolvedBy x bytes (record { text = report_of a; status = status_after a }) p a) same (record {
+      spells = spells;
+      solution = solution;
+      enough = λ h. answer_enough p run.pivots run.conflicts a h solution.lawful;
+      read_back = back;
+      is = refl;
+    }))
 
-pub unsolved_due : (limits : Limits) (bytes : List ℕ) (e : ReadError) (kind : ReadKind) (l k : ℕ) (o : Output) → e ≡ unread.At kind l k → Tells (IsUnreadWhole bytes) e
-    → o ≡ unreadable kind (record { line = l; column = k }) → DueAnswered limits bytes o
-unsolved_due limits bytes e kind l k o is told shown = let at = rw is at told in NoProblem kind (record { line = l; column = k }) at shown
+pub unsolved_due : (limits : Limits) (enough : Bool) (bytes : List ℕ) (e : ReadError) (kind : ReadKind) (l k : ℕ) (o : Output) → e ≡ unread.At kind l k → Tells (IsUnreadWhole bytes) e
+    → o ≡ unreadable kind (record { line = l; column = k }) → DueAnswered limits enough bytes o
+unsolved_due limits enough bytes e kind l k o is told shown = let at = rw is at told in NoProblem kind (record { line = l; column = k }) at shown

@@ -7,3 +7,5 @@ pub mod Behind
 pub mod Accepted
 pub mod RunLaws
 pub mod OpenParts
+pub mod EnoughPivots
+pub mod Answering

@@ -1,5 +1,5 @@
 -- For words and bytes at most one output is due.
-use Rattle.std.proofs.Common.{◌≡◌, ◌≤◌, ℕ, List, length, drop, sym, ap, subst, ◌∙◌, arith}
+use Rattle.std.proofs.Common.{◌≡◌, ◌≤◌, ℕ, Bool, List, length, drop, sym, ap, subst, ◌∙◌, arith}
 use Rattle.ps_read.specs.Readings.{SpellsWhole, Read, Unread}
 use Rattle.ps_read.proofs.OneReading.{one_reading, one_whole_reading}
 use Rattle.ps_problem.specs.Problems.{Parts}
@@ -56,10 +56,10 @@ one_within limit D bytes o o' one (Within few d) (TooLong more is) = absurd (ome
 one_within limit D bytes o o' one (TooLong more is) (Within few d) = absurd (omega (arith, few, more))
 one_within limit D bytes o o' one (TooLong more is) (TooLong more' is') = is ∙ sym is'
 
-one_unread : (limits : Limits) (bytes : List ℕ) (o o' : Output) → ((p : Parts) → ¬ SpellsWhole bytes p) → DueAnswered limits bytes o → DueAnswered limits bytes o' → o ≡ o'
-one_unread limits bytes o o' none (Solved p a h) d = absurd (none p h.spells)
-one_unread limits bytes o o' none (NoProblem kind at u is) (Solved p a h) = absurd (none p h.spells)
-one_unread limits bytes o o' none (NoProblem kind at u is) (NoProblem other there v is') =
+one_unread : (limits : Limits) (enough : Bool) (bytes : List ℕ) (o o' : Output) → ((p : Parts) → ¬ SpellsWhole bytes p) → DueAnswered limits enough bytes o → DueAnswered limits enough bytes o' → o ≡ o'
+one_unread limits enough bytes o o' none (Solved p a h) d = absurd (none p h.spells)
+one_unread limits enough bytes o o' none (NoProblem kind at u is) (Solved p a h) = absurd (none p h.spells)
+one_unread limits enough bytes o o' none (NoProblem kind at u is) (NoProblem other there v is') =
     let same : Unread kind at ≡ Unread other there = one_whole_reading bytes (Unread kind at) (Unread other there) u v in
     let k : kind ≡ other = cc in
     let l : at ≡ there = cc in
@@ -67,7 +67,7 @@ one_unread limits bytes o o' none (NoProblem kind at u is) (NoProblem other ther
 
 one_for_command : (c : Command) (bytes : List ℕ) (o o' : Output) → IsSingle c bytes → DueFor c bytes o → DueFor c bytes o' → o ≡ o'
 one_for_command (commands.Check limit) bytes o o' single d e = one_within limit DueText bytes o o' (λ few. one_text bytes o o') d e
-one_for_command (commands.Solve limits) bytes o o' single d e = one_within MOST_PROBLEM (DueAnswered limits) bytes o o' (λ few. one_unread limits bytes o o' (λ p. single p few)) d e
+one_for_command (commands.Solve limits enough) bytes o o' single d e = one_within MOST_PROBLEM (DueAnswered limits enough) bytes o o' (λ few. one_unread limits enough bytes o o' (λ p. single p few)) d e
 
 pub one_output : (words : List (List ℕ)) (bytes : List ℕ) (o o' : Output) → ((c : Command) → Spell words c → IsSingle c bytes) → Due words bytes o → Due words bytes o' → o ≡ o'
 one_output words bytes o o' single (ForCommand c spelled d) (ForCommand c' spelled' d') =

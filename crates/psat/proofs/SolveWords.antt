@@ -2,19 +2,19 @@
 use Rattle.std.proofs.Common.{◌≡◌, ◌≢◌, ◌⊎◌, inl, inr, ℕ, zero, suc, ◌<◌, ◌≤◌, List, [], ◌∷◌, ◌++◌, length, All, Contains, get_or, codes, String, string_bytes, refl, sym, ap, subst, ◌∙◌, arith}
 use Rattle.std.specs.declared.alloc.Global.{Global}
 use Rattle.std.specs.Prelude.{AllPairs}
-use Rattle.std.specs.Fmt.{decimal}
 use Rattle.std.proofs.lemmas.List.Elements.{All-nil, All-cons}
 use Rattle.std.proofs.lemmas.List.Kept.{AllPairs-cons}
-use Rattle.ps_generation.specs.declared.limits.Limits.{Limits}
 use Rattle.ps_log.proofs.StepShapes.{head, tail}
 use Rattle.psat.specs.declared.command.Command.{Command}
 use Rattle.psat.specs.declared.command.Command.TheVariants.{Check, Solve}
 use Rattle.psat.specs.declared.command.Limit.{Limit}
 use Rattle.psat.specs.declared.command.Limit.TheVariants.{Pivots, Conflicts}
+use Rattle.psat.specs.declared.command.LimitValue.{LimitValue}
+use Rattle.psat.specs.declared.command.LimitValue.TheVariants.{Number, Enough}
 use Rattle.psat.specs.declared.command.TheConstants.{DEFAULT_PIVOTS, DEFAULT_CONFLICTS}
-use Rattle.psat.specs.Commands.{words_of, limit_word, most_of, LimitSetting, setting_words, AreSettings, IsSetTo, Spell, SpellNone}
-use Rattle.psat.specs.Settings.{SetsLimit, IsUnset}
-use Rattle.psat.proofs.Settings.{limit-is, words_are}
+use Rattle.psat.specs.Commands.{words_of, limit_word, value_word, MayBe, LimitSetting, setting_words, AreSettings, IsSetTo, Spell, SpellNone}
+use Rattle.psat.specs.Settings.{SetsLimit, IsUnset, HasNoNumber, solve_with}
+use Rattle.psat.proofs.Settings.{limit-is, unset_by, words_are}
 use Rattle.psat.proofs.CommandLaws.{name-is, other_names}
 
 -- the limits of `solve`
@@ -53,8 +53,8 @@ both-of a b (inr p) (inl q) ab = inr (p, q)
 -- nothing is set, or one limit, or both in either order
 data Sets (words : List (List ℕ)) : Type 0 where
   Nothing : (is : words ≡ []) → Sets words
-  One : (s : LimitSetting) (is : words ≡ setting_words (s ∷ [])) (within : s.number ≤ most_of s.limit) (which : (s.limit ≡ Pivots) ⊎ (s.limit ≡ Conflicts)) → Sets words
-  Two : (s t : LimitSetting) (is : words ≡ setting_words (s ∷ t ∷ [])) (within : s.number ≤ most_of s.limit) (also : t.number ≤ most_of t.limit)
+  One : (s : LimitSetting) (is : words ≡ setting_words (s ∷ [])) (within : MayBe s.limit s.value) (which : (s.limit ≡ Pivots) ⊎ (s.limit ≡ Conflicts)) → Sets words
+  Two : (s t : LimitSetting) (is : words ≡ setting_words (s ∷ t ∷ [])) (within : MayBe s.limit s.value) (also : MayBe t.limit t.value)
       (which : ((s.limit ≡ Pivots) × (t.limit ≡ Conflicts)) ⊎ ((s.limit ≡ Conflicts) × (t.limit ≡ Pivots))) → Sets words
 
 sets : (words : List (List ℕ)) (ss : List LimitSetting) → words ≡ setting_words ss → AreSettings solve_limits ss → Sets words
@@ -73,7 +73,7 @@ solve_unspelled words not = record { none = by }
   where
     by : (c : Command) → ¬ Spell (codes "solve" ∷ words) c
     by (Check n) h = absurd (other_names (sym (name-is (codes "solve") words (Check n) h)))
-    by (Solve l) h = not (sets words h.0.settings (tail _ _ words (setting_words h.0.settings) h.0.words_are) h.0.are)
+    by (Solve l e) h = not (sets words h.0.settings (tail _ _ words (setting_words h.0.settings) h.0.words_are) h.0.are)
 
 -- none, two or four words set something
 pub odd_unspelled : (words : List (List ℕ)) → length words ≢ 0 → length words ≢ 2 → length words ≢ 4 → SpellNone (codes "solve" ∷ words)
@@ -85,21 +85,21 @@ odd_unspelled words p q r = solve_unspelled words not
     not (Two s t is within also which) = r (ap length is)
 
 -- words of a setting set its limit
-sets_limit : (word digits : List ℕ) (s : LimitSetting) (l : Limit) → s.limit ≡ l → word ≡ limit_word s.limit → digits ≡ decimal s.number → s.number ≤ most_of s.limit → SetsLimit word digits l s.number
-sets_limit word digits s l e p q within = subst (λ (k : Limit). SetsLimit word digits k s.number) e (record { word_is = p; number_is = q; within = within })
+sets_limit : (word value : List ℕ) (s : LimitSetting) (l : Limit) → s.limit ≡ l → word ≡ limit_word s.limit → value ≡ value_word s.value → MayBe s.limit s.value → SetsLimit word value l s.value
+sets_limit word value s l e p q within = subst (λ (k : Limit). SetsLimit word value k s.value) e (record { word_is = p; value_is = q; within = within })
 
 -- two words that set neither limit
-pub neither_unspelled : (w n : List ℕ) → IsUnset w n Pivots → IsUnset w n Conflicts → SpellNone (codes "solve" ∷ w ∷ n ∷ [])
+pub neither_unspelled : (w n : List ℕ) → IsUnset w n Pivots → HasNoNumber w n Conflicts → SpellNone (codes "solve" ∷ w ∷ n ∷ [])
 neither_unspelled w n p c = solve_unspelled (w ∷ n ∷ []) not
   where
     not : Sets (w ∷ n ∷ []) → ⊥
     not (Nothing is) = omega (arith, ap length is)
-    not (One s is within (inl e)) = p.none s.number (sets_limit w n s Pivots e (head _ _ _ _ is) (head _ _ _ _ (tail _ _ _ _ is)) within)
-    not (One s is within (inr e)) = c.none s.number (sets_limit w n s Conflicts e (head _ _ _ _ is) (head _ _ _ _ (tail _ _ _ _ is)) within)
+    not (One s is within (inl e)) = p.none s.value (sets_limit w n s Pivots e (head _ _ _ _ is) (head _ _ _ _ (tail _ _ _ _ is)) within)
+    not (One s is within (inr e)) = (unset_by w n Conflicts conflicts-apart c).none s.value (sets_limit w n s Conflicts e (head _ _ _ _ is) (head _ _ _ _ (tail _ _ _ _ is)) within)
     not (Two s t is within also which) = omega (arith, ap length is)
 
 -- four words that don't set both
-four_unspelled : (w n v m : List ℕ) → ((j k : ℕ) → SetsLimit w n Pivots j → SetsLimit v m Conflicts k → ⊥) → ((j k : ℕ) → SetsLimit w n Conflicts j → SetsLimit v m Pivots k → ⊥)
+four_unspelled : (w n v m : List ℕ) → ((j k : LimitValue) → SetsLimit w n Pivots j → SetsLimit v m Conflicts k → ⊥) → ((j k : LimitValue) → SetsLimit w n Conflicts j → SetsLimit v m Pivots k → ⊥)
     → SpellNone (codes "solve" ∷ w ∷ n ∷ v ∷ m ∷ [])
 four_unspelled w n v m p q = solve_unspelled (w ∷ n ∷ v ∷ m ∷ []) not
   where
@@ -108,19 +108,19 @@ four_unspelled w n v m p q = solve_unspelled (w ∷ n ∷ v ∷ m ∷ []) not
     not (One s is within which) = omega (arith, ap length is)
     not (Two s t is within also (inl which)) =
         let behind = tail _ _ _ _ (tail _ _ _ _ is) in
-        p s.number t.number (sets_limit w n s Pivots which.0 (head _ _ _ _ is) (head _ _ _ _ (tail _ _ _ _ is)) within)
+        p s.value t.value (sets_limit w n s Pivots which.0 (head _ _ _ _ is) (head _ _ _ _ (tail _ _ _ _ is)) within)
         (sets_limit v m t Conflicts which.1 (head _ _ _ _ behind) (head _ _ _ _ (tail _ _ _ _ behind)) also)
     not (Two s t is within also (inr which)) =
         let behind = tail _ _ _ _ (tail _ _ _ _ is) in
-        q s.number t.number (sets_limit w n s Conflicts which.0 (head _ _ _ _ is) (head _ _ _ _ (tail _ _ _ _ is)) within)
+        q s.value t.value (sets_limit w n s Conflicts which.0 (head _ _ _ _ is) (head _ _ _ _ (tail _ _ _ _ is)) within)
         (sets_limit v m t Pivots which.1 (head _ _ _ _ behind) (head _ _ _ _ (tail _ _ _ _ behind)) also)
 
-pub first_unspelled : (w n v m : List ℕ) → IsUnset w n Pivots → IsUnset w n Conflicts → SpellNone (codes "solve" ∷ w ∷ n ∷ v ∷ m ∷ [])
-first_unspelled w n v m p c = four_unspelled w n v m (λ j k f g. p.none j f) (λ j k f g. c.none j f)
+pub first_unspelled : (w n v m : List ℕ) → IsUnset w n Pivots → HasNoNumber w n Conflicts → SpellNone (codes "solve" ∷ w ∷ n ∷ v ∷ m ∷ [])
+first_unspelled w n v m p c = four_unspelled w n v m (λ j k f g. p.none j f) (λ j k f g. (unset_by w n Conflicts conflicts-apart c).none j f)
 
 -- the first two words set the pivots, and the others no conflicts
-pub conflicts_unspelled : (w n v m : List ℕ) (i : ℕ) → SetsLimit w n Pivots i → IsUnset v m Conflicts → SpellNone (codes "solve" ∷ w ∷ n ∷ v ∷ m ∷ [])
-conflicts_unspelled w n v m i h c = four_unspelled w n v m (λ j k f g. c.none k g) (λ j k f g. pivots-apart (limit-is Pivots Conflicts (sym h.word_is ∙ f.word_is)))
+pub conflicts_unspelled : (w n v m : List ℕ) (i : LimitValue) → SetsLimit w n Pivots i → HasNoNumber v m Conflicts → SpellNone (codes "solve" ∷ w ∷ n ∷ v ∷ m ∷ [])
+conflicts_unspelled w n v m i h c = four_unspelled w n v m (λ j k f g. (unset_by v m Conflicts conflicts-apart c).none k g) (λ j k f g. pivots-apart (limit-is Pivots Conflicts (sym h.word_is ∙ f.word_is)))
 
 -- the first two words set no pivots, and the others neither
 pub pivots_unspelled : (w n v m : List ℕ) → IsUnset w n Pivots → IsUnset v m Pivots → SpellNone (codes "solve" ∷ w ∷ n ∷ v ∷ m ∷ [])
@@ -133,27 +133,28 @@ no_settings = record { known = λ k d lt. absurd (omega (arith, lt)); once = λ 
 alone : (P : LimitSetting → Type 0) (s : LimitSetting) → P s → All P (s ∷ [])
 alone P s p = All-cons P s [] p (All-nil P)
 
-one_known : (s : LimitSetting) → Contains solve_limits s.limit → s.number ≤ most_of s.limit → AreSettings solve_limits (s ∷ [])
+one_known : (s : LimitSetting) → Contains solve_limits s.limit → MayBe s.limit s.value → AreSettings solve_limits (s ∷ [])
 one_known s known within = record {
   known = alone (λ s. Contains solve_limits s.limit) s known;
   once = λ i j d lt less. absurd (omega (arith, lt, less));
-  within = alone (λ s. s.number ≤ most_of s.limit) s within;
+  within = alone (λ s. MayBe s.limit s.value) s within;
 }
 
 two_apart : (s t : LimitSetting) → s.limit ≢ t.limit → AllPairs (λ s t. s.limit ≢ t.limit) (s ∷ t ∷ [])
 two_apart s t h = AllPairs-cons (λ (s t : LimitSetting). s.limit ≢ t.limit) s (t ∷ []) (alone (λ (t : LimitSetting). s.limit ≢ t.limit) t h) (λ i j d lt less. absurd (omega (arith, lt, less)))
 
-two_known : (s t : LimitSetting) → Contains solve_limits s.limit → Contains solve_limits t.limit → s.number ≤ most_of s.limit → t.number ≤ most_of t.limit → s.limit ≢ t.limit
+two_known : (s t : LimitSetting) → Contains solve_limits s.limit → Contains solve_limits t.limit → MayBe s.limit s.value → MayBe t.limit t.value → s.limit ≢ t.limit
     → AreSettings solve_limits (s ∷ t ∷ [])
 two_known s t p q le less apart = record {
   known = All-cons (λ s. Contains solve_limits s.limit) s (t ∷ []) p (alone (λ s. Contains solve_limits s.limit) t q);
   once = two_apart s t apart;
-  within = All-cons (λ s. s.number ≤ most_of s.limit) s (t ∷ []) le (alone (λ s. s.number ≤ most_of s.limit) t less);
+  within = All-cons (λ s. MayBe s.limit s.value) s (t ∷ []) le (alone (λ s. MayBe s.limit s.value) t less);
 }
 
-spelled_by : (limits : Limits) (words : List (List ℕ)) (ss : List LimitSetting) → words ≡ setting_words ss → AreSettings solve_limits ss → IsSetTo ss Pivots limits.pivots
-    → IsSetTo ss Conflicts limits.conflicts → Spell (codes "solve" ∷ words) (Solve limits)
-spelled_by limits words ss e are p q = (record { settings = ss; words_are = ap (λ ws. codes "solve" ∷ ws) e; are = are }, p, q)
+spelled_by : (pivots : LimitValue) (conflicts : ℕ) (words : List (List ℕ)) (ss : List LimitSetting) → words ≡ setting_words ss → AreSettings solve_limits ss → IsSetTo ss Pivots pivots
+    → IsSetTo ss Conflicts (Number conflicts) → Spell (codes "solve" ∷ words) (solve_with pivots conflicts)
+spelled_by (Number n) conflicts words ss e are p q = (record { settings = ss; words_are = ap (λ ws. codes "solve" ∷ ws) e; are = are }, p, q, λ wrong. absurd (cc))
+spelled_by Enough conflicts words ss e are p q = (record { settings = ss; words_are = ap (λ ws. codes "solve" ∷ ws) e; are = are }, p, q, λ _. refl)
 
 unset : (l : Limit) → All (λ (s : LimitSetting). s.limit ≢ l) []
 unset l = λ k d lt. absurd (omega (arith, lt))
@@ -164,36 +165,36 @@ has_pivots = (0, omega arith, refl)
 has_conflicts : Contains solve_limits Conflicts
 has_conflicts = (1, omega arith, refl)
 
-pub none_set : (words : List (List ℕ)) → words ≡ [] → Spell (codes "solve" ∷ words) (Solve (record { pivots = DEFAULT_PIVOTS; conflicts = DEFAULT_CONFLICTS }))
-none_set words e = spelled_by (record { pivots = DEFAULT_PIVOTS; conflicts = DEFAULT_CONFLICTS }) words [] e no_settings (inr (unset Pivots, refl)) (inr (unset Conflicts, refl))
+pub none_set : (words : List (List ℕ)) → words ≡ [] → Spell (codes "solve" ∷ words) (solve_with (Number DEFAULT_PIVOTS) DEFAULT_CONFLICTS)
+none_set words e = spelled_by (Number DEFAULT_PIVOTS) DEFAULT_CONFLICTS words [] e no_settings (inr (unset Pivots, refl)) (inr (unset Conflicts, refl))
 
-abbrev to : Limit → ℕ → LimitSetting
-to l n = record { limit = l; number = n }
+abbrev to : Limit → LimitValue → LimitSetting
+to l v = record { limit = l; value = v }
 
-pub pivots_set : (w n : List ℕ) (k : ℕ) → SetsLimit w n Pivots k → Spell (codes "solve" ∷ w ∷ n ∷ []) (Solve (record { pivots = k; conflicts = DEFAULT_CONFLICTS }))
-pivots_set w n k h =
-    spelled_by (record { pivots = k; conflicts = DEFAULT_CONFLICTS }) (w ∷ n ∷ []) (to Pivots k ∷ []) (words_are w n Pivots k h) (one_known (to Pivots k) has_pivots h.within) (inl (0, omega arith, refl))
-    (inr (alone (λ s. s.limit ≢ Conflicts) (to Pivots k) pivots-apart, refl))
+pub pivots_set : (w n : List ℕ) (v : LimitValue) → SetsLimit w n Pivots v → Spell (codes "solve" ∷ w ∷ n ∷ []) (solve_with v DEFAULT_CONFLICTS)
+pivots_set w n v h =
+    spelled_by v DEFAULT_CONFLICTS (w ∷ n ∷ []) (to Pivots v ∷ []) (words_are w n Pivots v h) (one_known (to Pivots v) has_pivots h.within) (inl (0, omega arith, refl))
+    (inr (alone (λ s. s.limit ≢ Conflicts) (to Pivots v) pivots-apart, refl))
 
-pub conflicts_set : (w n : List ℕ) (k : ℕ) → SetsLimit w n Conflicts k → Spell (codes "solve" ∷ w ∷ n ∷ []) (Solve (record { pivots = DEFAULT_PIVOTS; conflicts = k }))
+pub conflicts_set : (w n : List ℕ) (k : ℕ) → SetsLimit w n Conflicts (Number k) → Spell (codes "solve" ∷ w ∷ n ∷ []) (solve_with (Number DEFAULT_PIVOTS) k)
 conflicts_set w n k h =
-    spelled_by (record { pivots = DEFAULT_PIVOTS; conflicts = k }) (w ∷ n ∷ []) (to Conflicts k ∷ []) (words_are w n Conflicts k h) (one_known (to Conflicts k) has_conflicts h.within)
-    (inr (alone (λ s. s.limit ≢ Pivots) (to Conflicts k) conflicts-apart, refl)) (inl (0, omega arith, refl))
+    spelled_by (Number DEFAULT_PIVOTS) k (w ∷ n ∷ []) (to Conflicts (Number k) ∷ []) (words_are w n Conflicts (Number k) h) (one_known (to Conflicts (Number k)) has_conflicts h.within)
+    (inr (alone (λ s. s.limit ≢ Pivots) (to Conflicts (Number k)) conflicts-apart, refl)) (inl (0, omega arith, refl))
 
-four_are : (w n v m : List ℕ) (a b : Limit) (j k : ℕ) → SetsLimit w n a j → SetsLimit v m b k → w ∷ n ∷ v ∷ m ∷ [] ≡ setting_words (to a j ∷ to b k ∷ [])
-four_are w n v m a b j k f g = ap (λ (xs : List (List ℕ)). xs ++ v ∷ m ∷ []) (words_are w n a j f) ∙ ap (λ (xs : List (List ℕ)). limit_word a ∷ decimal j ∷ xs) (words_are v m b k g)
+four_are : (w n v m : List ℕ) (a b : Limit) (j k : LimitValue) → SetsLimit w n a j → SetsLimit v m b k → w ∷ n ∷ v ∷ m ∷ [] ≡ setting_words (to a j ∷ to b k ∷ [])
+four_are w n v m a b j k f g = ap (λ (xs : List (List ℕ)). xs ++ v ∷ m ∷ []) (words_are w n a j f) ∙ ap (λ (xs : List (List ℕ)). limit_word a ∷ value_word j ∷ xs) (words_are v m b k g)
 
-pub pivots_conflicts_set : (w n v m : List ℕ) (j k : ℕ) → SetsLimit w n Pivots j → SetsLimit v m Conflicts k
-    → Spell (codes "solve" ∷ w ∷ n ∷ v ∷ m ∷ []) (Solve (record { pivots = j; conflicts = k }))
+pub pivots_conflicts_set : (w n v m : List ℕ) (j : LimitValue) (k : ℕ) → SetsLimit w n Pivots j → SetsLimit v m Conflicts (Number k)
+    → Spell (codes "solve" ∷ w ∷ n ∷ v ∷ m ∷ []) (solve_with j k)
 pivots_conflicts_set w n v m j k f g =
-    spelled_by (record { pivots = j; conflicts = k }) (w ∷ n ∷ v ∷ m ∷ []) (to Pivots j ∷ to Conflicts k ∷ []) (four_are w n v m Pivots Conflicts j k f g)
-    (two_known (to Pivots j) (to Conflicts k) has_pivots has_conflicts f.within g.within pivots-apart) (inl (0, omega arith, refl)) (inl (1, omega arith, refl))
+    spelled_by j k (w ∷ n ∷ v ∷ m ∷ []) (to Pivots j ∷ to Conflicts (Number k) ∷ []) (four_are w n v m Pivots Conflicts j (Number k) f g)
+    (two_known (to Pivots j) (to Conflicts (Number k)) has_pivots has_conflicts f.within g.within pivots-apart) (inl (0, omega arith, refl)) (inl (1, omega arith, refl))
 
-pub conflicts_pivots_set : (w n v m : List ℕ) (j k : ℕ) → SetsLimit w n Conflicts k → SetsLimit v m Pivots j
-    → Spell (codes "solve" ∷ w ∷ n ∷ v ∷ m ∷ []) (Solve (record { pivots = j; conflicts = k }))
+pub conflicts_pivots_set : (w n v m : List ℕ) (j : LimitValue) (k : ℕ) → SetsLimit w n Conflicts (Number k) → SetsLimit v m Pivots j
+    → Spell (codes "solve" ∷ w ∷ n ∷ v ∷ m ∷ []) (solve_with j k)
 conflicts_pivots_set w n v m j k f g =
-    spelled_by (record { pivots = j; conflicts = k }) (w ∷ n ∷ v ∷ m ∷ []) (to Conflicts k ∷ to Pivots j ∷ []) (four_are w n v m Conflicts Pivots k j f g)
-    (two_known (to Conflicts k) (to Pivots j) has_conflicts has_pivots f.within g.within conflicts-apart) (inl (1, omega arith, refl)) (inl (0, omega arith, refl))
+    spelled_by j k (w ∷ n ∷ v ∷ m ∷ []) (to Conflicts (Number k) ∷ to Pivots j ∷ []) (four_are w n v m Conflicts Pivots (Number k) j f g)
+    (two_known (to Conflicts (Number k)) (to Pivots j) has_conflicts has_pivots f.within g.within conflicts-apart) (inl (1, omega arith, refl)) (inl (0, omega arith, refl))
 
 -- ---- the words of strings
 pub words-four : (xs : List (String Global)) (x y z u : String Global) → length xs ≡ 4 → x ≡ get_or xs 0 x → y ≡ get_or xs 1 y → z ≡ get_or xs 2 z → u ≡ get_or xs 3 u

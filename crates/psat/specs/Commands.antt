@@ -1,12 +1,15 @@
 -- The words of commands, and how much a command reads.
-use Rattle.std.specs.Prelude.{◌≡◌, ◌≢◌, ◌≤◌, ◌⊎◌, ℕ, List, [], ◌∷◌, Option, Some, None, map, All, AllPairs, Contains, codes, decimal, String, string_bytes}
+use Rattle.std.specs.Prelude.{◌≡◌, ◌≢◌, ◌≤◌, ◌⊎◌, ℕ, Bool, true, false, List, [], ◌∷◌, Option, Some, None, map, All, AllPairs, Contains, codes, decimal, String, string_bytes}
 use Rattle.std.specs.declared.alloc.Global.{Global}
 use Rattle.ps_answer.specs.declared.limits.TheConstants.{MOST_PIVOTS}
 use Rattle.ps_log.specs.declared.limits.TheConstants.{MOST_CONFLICTS}
+use Rattle.ps_generation.specs.declared.limits.Limits.{Limits}
 use Rattle.psat.specs.declared.command.Command.{Command}
 use Rattle.psat.specs.declared.command.Command.TheVariants.{Check, Solve}
 use Rattle.psat.specs.declared.command.Limit.{Limit}
 use Rattle.psat.specs.declared.command.Limit.TheVariants.{Bytes, Pivots, Conflicts}
+use Rattle.psat.specs.declared.command.LimitValue.{LimitValue}
+use Rattle.psat.specs.declared.command.LimitValue.TheVariants.{Number, Enough}
 use Rattle.psat.specs.declared.command.TheConstants.{DEFAULT_BYTES, MOST_BYTES, MOST_PROBLEM, DEFAULT_PIVOTS, DEFAULT_CONFLICTS}
 
 -- the bytes of words
@@ -31,25 +34,35 @@ default_of Bytes = DEFAULT_BYTES
 default_of Pivots = DEFAULT_PIVOTS
 default_of Conflicts = DEFAULT_CONFLICTS
 
--- a limit, set to a number
+-- the word of what a limit is set to: a number in its one spelling, or `enough`
+abbrev pub value_word : LimitValue → List ℕ
+value_word (Number n) = decimal n
+value_word Enough = codes "enough"
+
+-- words may set a limit to a number up to its most, and pivots alone to what is enough
+abbrev pub MayBe : Limit → LimitValue → Type 0
+MayBe limit (Number n) = n ≤ most_of limit
+MayBe limit Enough = limit ≡ Pivots
+
+-- a limit, set to a value
 pub record LimitSetting : Type 0 where
   pub limit : Limit
-  pub number : ℕ
+  pub value : LimitValue
 
--- the words of settings: the limit's word and the number behind it, each number in one spelling
+-- the words of settings: the limit's word, and behind it that of its value
 abbrev pub setting_words : List LimitSetting → List (List ℕ)
 setting_words [] = []
-setting_words (s ∷ ss) = limit_word s.limit ∷ decimal s.number ∷ setting_words ss
+setting_words (s ∷ ss) = limit_word s.limit ∷ value_word s.value ∷ setting_words ss
 
--- some of these limits are set, none twice, and none to more than its most
+-- some of these limits are set, none twice, and each to what it may be
 pub record AreSettings (limits : List Limit) (settings : List LimitSetting) : Type 0 where
   pub known : All (λ s. Contains limits s.limit) settings
   pub once : AllPairs (λ s t. s.limit ≢ t.limit) settings
-  pub within : All (λ s. s.number ≤ most_of s.limit) settings
+  pub within : All (λ s. MayBe s.limit s.value) settings
 
--- the limit is set to the number, or isn't set and the number is its default
-abbrev pub IsSetTo : List LimitSetting → Limit → ℕ → Type 0
-IsSetTo settings limit n = Contains settings (record { limit = limit; number = n }) ⊎ (All (λ s. s.limit ≢ limit) settings × (n ≡ default_of limit))
+-- the limit is set to the value, or isn't set and the value is its default
+abbrev pub IsSetTo : List LimitSetting → Limit → LimitValue → Type 0
+IsSetTo settings limit v = Contains settings (record { limit = limit; value = v }) ⊎ (All (λ s. s.limit ≢ limit) settings × (v ≡ Number (default_of limit)))
 
 -- the words are a command's word and behind it settings of its limits, in any order
 pub record AreWordsOf (name : List ℕ) (limits : List Limit) (words : List (List ℕ)) : Type 0 where
@@ -57,10 +70,17 @@ pub record AreWordsOf (name : List ℕ) (limits : List Limit) (words : List (Lis
   pub words_are : words ≡ name ∷ setting_words settings
   pub are : AreSettings limits settings
 
--- the words spell the command
+-- what pivots are set to: what is enough, or the number of the limits
+abbrev pub pivots_of : Limits → Bool → LimitValue
+pivots_of limits true = Enough
+pivots_of limits false = Number limits.pivots
+
+-- the words spell the command; where pivots are to be enough, their number is the default
 abbrev pub Spell : List (List ℕ) → Command → Type 0
-Spell words (Check bytes) = (w : AreWordsOf (codes "check") (Bytes ∷ []) words) × IsSetTo w.settings Bytes bytes
-Spell words (Solve limits) = (w : AreWordsOf (codes "solve") (Pivots ∷ Conflicts ∷ []) words) × IsSetTo w.settings Pivots limits.pivots × IsSetTo w.settings Conflicts limits.conflicts
+Spell words (Check bytes) = (w : AreWordsOf (codes "check") (Bytes ∷ []) words) × IsSetTo w.settings Bytes (Number bytes)
+Spell words (Solve limits enough) =
+    (w : AreWordsOf (codes "solve") (Pivots ∷ Conflicts ∷ []) words) × IsSetTo w.settings Pivots (pivots_of limits enough)
+    × IsSetTo w.settings Conflicts (Number limits.conflicts) × (enough ≡ true → limits.pivots ≡ DEFAULT_PIVOTS)
 
 -- the words spell no command
 pub record SpellNone (words : List (List ℕ)) : Type 0 where
@@ -69,7 +89,7 @@ pub record SpellNone (words : List (List ℕ)) : Type 0 where
 -- the most bytes that a command reads, and None where it reads nothing
 abbrev pub limit_of : Command → Option ℕ
 limit_of (Check bytes) = Some bytes
-limit_of (Solve limits) = Some MOST_PROBLEM
+limit_of (Solve limits enough) = Some MOST_PROBLEM
 
 -- the words are of no command that reads
 pub record ReadNothing (words : List (String Global)) : Type 0 where

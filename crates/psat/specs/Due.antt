@@ -1,5 +1,5 @@
 -- What the program writes for words and an input, and the status with which it ends.
-use Rattle.std.specs.Prelude.{◌≡◌, ◌<◌, ◌≤◌, ℕ, zero, suc, false, List, ◌++◌, length, take, drop, codes, decimal}
+use Rattle.std.specs.Prelude.{◌≡◌, ◌<◌, ◌≤◌, ℕ, zero, suc, Bool, true, false, List, ◌++◌, length, take, drop, codes, decimal}
 use Rattle.ps_io.specs.LineText.{lines_bytes}
 use Rattle.ps_text.specs.Positions.{Position}
 use Rattle.ps_text.specs.declared.kind.ReadKind.{ReadKind}
@@ -11,6 +11,7 @@ use Rattle.ps_answer.specs.declared.answer.Verdict.TheVariants as answer
 use Rattle.ps_answer.specs.Answers.{answer_lines}
 use Rattle.ps_answer.specs.declared.error.LineKind.{LineKind}
 use Rattle.ps_answer.specs.Faults.{IsReport, IsFirstFault}
+use Rattle.ps_answer.specs.declared.limits.TheConstants.{MOST_PIVOTS}
 use Rattle.ps_claims.specs.declared.claim.Claim.{Claim}
 use Rattle.ps_claims.specs.declared.reason.Reason.{Reason}
 use Rattle.ps_claims.specs.Claims.{IsRefused, claims_of, unfinished_of}
@@ -18,6 +19,8 @@ use Rattle.ps_claims.specs.Validity.{IsValid}
 use Rattle.ps_valid.specs.Answers.{answer_of, IsRightOf}
 use Rattle.ps_generation.specs.declared.limits.Limits.{Limits}
 use Rattle.ps_query.specs.Solutions.{IsReadBack, IsSolution}
+use Rattle.ps_runs.specs.Runs.{sentences_of}
+use Rattle.ps_enough.specs.Enough.{IsEnough, HasNoPivotsCause}
 use Rattle.psat.specs.declared.status.Status.{Status}
 use Rattle.psat.specs.declared.status.Status.TheVariants.{Done, Inconsistent, Usage, Unreadable, Unfinished, Refused}
 use Rattle.psat.specs.declared.command.Command.{Command}
@@ -25,6 +28,7 @@ use Rattle.psat.specs.declared.command.Command.TheVariants.{Check, Solve}
 use Rattle.psat.specs.declared.checked.TheConstants.{MOST_SEARCHED}
 use Rattle.psat.specs.declared.command.TheConstants.{MOST_PROBLEM}
 use Rattle.psat.specs.Commands.{Spell, SpellNone}
+use Rattle.psat.specs.RunLimits.{enough_for, limits_for}
 use Rattle.psat.specs.Words.{kind_words, line_words, claim_words, reason_words}
 
 -- a text, and the status after it
@@ -58,7 +62,7 @@ too_long limit = line (codes "unreadable: more than " ++ decimal limit ++ codes 
 
 -- the usage line, for words that spell no command
 abbrev pub usage : Output
-usage = line (codes "usage: psat solve|explain|check|make N [--pivots N] [--conflicts N] [--bytes N]") Usage
+usage = line (codes "usage: psat solve|explain|check|make N [--pivots N|enough] [--conflicts N] [--bytes N]") Usage
 
 -- due for a problem and an answer to it: the answer is accepted where it is valid, and it is then right; or else its first claim
 -- that isn't valid is refused, for the first reason against it
@@ -97,17 +101,20 @@ abbrev pub status_after : Answer → Status
 status_after a = status_by a.verdict (unfinished_of (answer_of a))
 
 -- the output is the report of an answer to the problem that all of the bytes spell: it is valid and right, its runs are lawful within
--- the limits, what is open is licensed, and where nothing is open or the pivots were fewer than the most, the report is read back
+-- the limits, what is open is licensed, where the pivots are enough no part is open for them, and where nothing is open or the pivots
+-- were fewer than the most, the report is read back
 pub record IsSolvedBy (limits : Limits) (bytes : List ℕ) (o : Output) (p : Parts) (a : Answer) : Type 0 where
   pub spells : SpellsWhole bytes p
   pub solution : IsSolution limits p a
+  pub enough : IsEnough (sentences_of p) limits.pivots → HasNoPivotsCause a
   pub read_back : IsReadBack limits a
   pub is : o ≡ record { text = report_of a; status = status_after a }
 
--- due for the bytes of a problem: the report of an answer to it, or they are no problem, for a kind of refusal at a position
-pub data DueAnswered (limits : Limits) (bytes : List ℕ) (o : Output) : Type 0 where
-  Solved : (p : Parts) (a : Answer) (answered : IsSolvedBy limits bytes o p a) → DueAnswered limits bytes o
-  NoProblem : (kind : ReadKind) (at : Position) (unread : IsUnreadWhole bytes kind at) (is : o ≡ unreadable kind at) → DueAnswered limits bytes o
+-- due for the bytes of a problem: the report of an answer to it, within the limits of its runs, or they are no problem, for a kind of
+-- refusal at a position
+pub data DueAnswered (limits : Limits) (enough : Bool) (bytes : List ℕ) (o : Output) : Type 0 where
+  Solved : (p : Parts) (a : Answer) (answered : IsSolvedBy (limits_for limits enough p) bytes o p a) → DueAnswered limits enough bytes o
+  NoProblem : (kind : ReadKind) (at : Position) (unread : IsUnreadWhole bytes kind at) (is : o ≡ unreadable kind at) → DueAnswered limits enough bytes o
 
 -- due for what the source had left, of which so many bytes are read at most, by what is due for bytes within the limit
 pub data DueWithin (limit : ℕ) (DueOf : List ℕ → Output → Type 0) (bytes : List ℕ) (o : Output) : Type 0 where
@@ -117,7 +124,7 @@ pub data DueWithin (limit : ℕ) (DueOf : List ℕ → Output → Type 0) (bytes
 -- due for a command and what the source had left
 abbrev pub DueFor : Command → List ℕ → Output → Type 0
 DueFor (Check limit) bytes o = DueWithin limit DueText bytes o
-DueFor (Solve limits) bytes o = DueWithin MOST_PROBLEM (DueAnswered limits) bytes o
+DueFor (Solve limits enough) bytes o = DueWithin MOST_PROBLEM (DueAnswered limits enough) bytes o
 
 -- due for words and bytes: what is due for the command that the words spell, or else the usage line
 pub data Due (words : List (List ℕ)) (bytes : List ℕ) (o : Output) : Type 0 where
@@ -128,9 +135,14 @@ pub data Due (words : List (List ℕ)) (bytes : List ℕ) (o : Output) : Type 0 
 -- one problem may be right
 abbrev pub IsSingle : Command → List ℕ → Type 0
 IsSingle (Check limit) bytes = Unit {0}
-IsSingle (Solve limits) bytes = (p : Parts) → length bytes ≤ MOST_PROBLEM → ¬ SpellsWhole bytes p
+IsSingle (Solve limits enough) bytes = (p : Parts) → length bytes ≤ MOST_PROBLEM → ¬ SpellsWhole bytes p
 
 -- for words and bytes at most one output is due, but for the words of `solve` and a problem
 abbrev pub OneOutputIsDue : Type 0
 OneOutputIsDue = (words : List (List ℕ)) (bytes : List ℕ) (o p : Output) → ((c : Command) → Spell words c → IsSingle c bytes)
     → Due words bytes o → Due words bytes p → o ≡ p
+
+-- where words ask for enough pivots, and these are at most the most, no part of a due answer is open for pivots
+abbrev pub EnoughLeavesNoneOpen : Type 0
+EnoughLeavesNoneOpen = (limits : Limits) (bytes : List ℕ) (o : Output) (p : Parts) (a : Answer) → enough_for p ≤ MOST_PIVOTS
+    → IsSolvedBy (limits_for limits true p) bytes o p a → HasNoPivotsCause a

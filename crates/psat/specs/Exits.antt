@@ -4,6 +4,7 @@ use Rattle.std.specs.Vec.Iter.{into_iter_items}
 use Rattle.std.specs.declared.alloc.Global.{Global}
 use Rattle.std.specs.declared.vec.IntoIter.{IntoIter}
 use Rattle.psat.specs.declared.exit.NoWords.{NoWords}
+use Rattle.psat.specs.declared.exit.NoWords.TheVariants as none
 use Rattle.psat.specs.declared.status.Status.{Status}
 use Rattle.psat.specs.declared.status.Status.TheVariants.{ReadFault, WriteFault, NoMemory}
 use Rattle.psat.specs.Statuses.{status_number}
@@ -16,7 +17,7 @@ IfRan all ended P = IfOk all (λ args. IfOk ended (λ status. P (drop 1 (into_it
 -- the number after a run, and where the words can't be had
 abbrev pub exit_number : Result Status NoWords → ℕ
 exit_number (Ok status) = status_number status
-exit_number (Err none) = 10
+exit_number (Err why) = 10
 
 -- what `main` tells of a failure: none where the due text was written
 abbrev pub failure_words : Result Status NoWords → Option (List ℕ)
@@ -24,4 +25,5 @@ failure_words (Ok ReadFault) = Some (codes "standard input failed")
 failure_words (Ok WriteFault) = Some (codes "standard output failed")
 failure_words (Ok NoMemory) = Some (codes "not enough memory")
 failure_words (Ok status) = None
-failure_words (Err none) = Some (codes "the words can't be had")
+failure_words (Err (none.Refused cause)) = Some (codes "the words can't be had")
+failure_words (Err none.NoMemory) = Some (codes "not enough memory")

@@ -2,9 +2,11 @@
 pub mod Statuses
 pub mod Commands
 pub mod Words
+pub mod RunLimits
 pub mod Due
 pub mod Accepting
 pub mod Runs
+pub mod Answering
 pub mod Exits
 -- Bridge: what the words behind a command's name set, and what a reply stands for
 pub mod Settings

@@ -51,7 +51,7 @@ status_of (Err e) = status_without_reply e
 -- the limits of a command are those that words may set
 abbrev pub AreLimitsOf : Command → Type 0
 AreLimitsOf (Check limit) = Unit {0}
-AreLimitsOf (Solve limits) = AreLimits limits
+AreLimitsOf (Solve limits enough) = AreLimits limits
 
 -- so many bytes are within the limit of a command
 abbrev pub AreWithin : Command → ℕ → Type 0
@@ -60,7 +60,7 @@ AreWithin command n = IfSome (limit_of command) (λ limit. n ≤ limit)
 -- due for bytes within the limit of a command
 abbrev pub DueBytes : Command → List ℕ → Output → Type 0
 DueBytes (Check limit) bytes o = DueText bytes o
-DueBytes (Solve limits) bytes o = DueAnswered limits bytes o
+DueBytes (Solve limits enough) bytes o = DueAnswered limits enough bytes o
 
 -- the output is due for the command and whatever the source tells that it had left
 pub record IsDueFor (command : Command) (left : Option (List ℕ)) (o : Output) : Type 0 where

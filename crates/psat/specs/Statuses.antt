@@ -35,7 +35,7 @@ EndsSolve other = ⊥
 -- a status of a command that goes with a text
 abbrev pub IsAnswerOf : Command → Status → Type 0
 IsAnswerOf (Check limit) status = EndsCheck status
-IsAnswerOf (Solve limits) status = EndsSolve status
+IsAnswerOf (Solve limits enough) status = EndsSolve status
 
 -- a status that goes with a text
 abbrev pub HasText : Status → Type 0

@@ -1,8 +1,9 @@
 //! Commands and their words.
 ghost use Rattle.std.specs.Prelude.{◌≡◌, ◌≤◌, ◌<◌, ◌^◌, ◌↔◌, ℕ, IfNone, IfSome, IsTrue, MatchOption};
 ghost use Rattle.std.specs.Prelude.{[], ◌∷◌, decimal, string_bytes};
+ghost use Rattle.psat.specs.declared.command.Limit.TheVariants.{Pivots};
 ghost use Rattle.psat.specs.Commands.{Spell, SpellNone, limit_word, most_of, words_of};
-ghost use Rattle.psat.specs.Settings.{FindsNumber, SetBytes, SetLimits};
+ghost use Rattle.psat.specs.Settings.{FindsNumber, FindsValue, SetBytes, SetEnough, SetSolve, solve_with};
 
 use itoa::Buffer;
 use ps_answer::{MOST_CONFLICTS, MOST_PIVOTS};
@@ -26,10 +27,33 @@ pub const DEFAULT_CONFLICTS: u64 = 20_000;
 /// What the program is to do.
 #[derive(Clone, Copy, Debug, PartialEq, Eq)]
 pub enum Command {
-    /// Answers a problem, within limits of pivots and conflicts.
-    Solve { limits: Limits },
+    /// Answers a problem, within limits of pivots and conflicts. Where `enough` is true, each run
+    /// makes as many pivots as are enough for the problem, and `limits.pivots` is the default and
+    /// isn't used.
+    Solve { limits: Limits, enough: bool },
     /// Judges the report behind a problem, and reads at most so many bytes.
     Check { bytes: u64 },
+}
+
+impl Command {
+    // `solve` with what pivots are set to, and so many conflicts.
+    fn solve(pivots: LimitValue, conflicts: u64) -> Command
+        ensures { result ≡ solve_with pivots conflicts }
+    {
+        match pivots {
+            LimitValue::Number(pivots) => Command::Solve {
+                limits: Limits { pivots, conflicts },
+                enough: false,
+            },
+            LimitValue::Enough => Command::Solve {
+                limits: Limits {
+                    pivots: DEFAULT_PIVOTS,
+                    conflicts,
+                },
+                enough: true,
+            },
+        }
+    }
 }
 
 /// A limit that words may set.
@@ -41,6 +65,15 @@ pub enum Limit {
     Pivots,
     /// How many clauses a search learns at most.
     Conflicts,
+}
+
+/// What words may set a limit to.
+#[derive(Clone, Copy)]
+pub enum LimitValue {
+    /// A number.
+    Number(u64),
+    /// As many as are enough for the problem. Pivots alone may be set to it.
+    Enough,
 }
 
 impl Limit {
@@ -112,6 +145,24 @@ fn parse_setting(limit: Limit, word: &String, digits: &String) -> Option<u64>
     }
 }
 
+// Whether two words set pivots to what is enough.
+fn are_enough(word: &String, value: &String) -> bool
+    ensures { IsTrue result ↔ SetEnough (string_bytes word.now) (string_bytes value.now) }
+{
+    is(word, Limit::Pivots.word()) && is(value, "enough")
+}
+
+// What two words set pivots to, or None where they don't set them.
+fn parse_pivots(word: &String, value: &String) -> Option<LimitValue>
+    ensures { FindsValue (string_bytes word.now) (string_bytes value.now) Pivots result }
+{
+    if are_enough(word, value) {
+        return Some(LimitValue::Enough);
+    }
+    let pivots = parse_setting(Limit::Pivots, word, value)?;
+    Some(LimitValue::Number(pivots))
+}
+
 // The bytes that the words behind `check` set, or None where they aren't its settings.
 fn parse_check(settings: &[String]) -> Option<u64>
     ensures { SetBytes (words_of settings.now) result }
@@ -123,47 +174,38 @@ fn parse_check(settings: &[String]) -> Option<u64>
     }
 }
 
-// The limits of `solve` where two words set one of them, or None where they set neither.
-fn limits_by(word: &String, digits: &String) -> Option<Limits>
-    ensures { SetLimits (words_of (word.now ∷ digits.now ∷ [])) result }
+// `solve` where two words set one of its limits, or None where they set neither.
+fn solve_by(word: &String, value: &String) -> Option<Command>
+    ensures { SetSolve (words_of (word.now ∷ value.now ∷ [])) result }
 {
-    if let Some(pivots) = parse_setting(Limit::Pivots, word, digits) {
-        return Some(Limits {
-            pivots,
-            conflicts: DEFAULT_CONFLICTS,
-        });
+    if let Some(pivots) = parse_pivots(word, value) {
+        return Some(Command::solve(pivots, DEFAULT_CONFLICTS));
     }
-    let conflicts = parse_setting(Limit::Conflicts, word, digits)?;
-    Some(Limits {
-        pivots: DEFAULT_PIVOTS,
-        conflicts,
-    })
+    let conflicts = parse_setting(Limit::Conflicts, word, value)?;
+    Some(Command::solve(LimitValue::Number(DEFAULT_PIVOTS), conflicts))
 }
 
-// The limits of `solve` where four words set both, or None where they don't.
-fn limits_by_both(first: &String, m: &String, second: &String, n: &String) -> Option<Limits>
-    ensures { SetLimits (words_of (first.now ∷ m.now ∷ second.now ∷ n.now ∷ [])) result }
+// `solve` where four words set both its limits, or None where they don't.
+fn solve_by_both(first: &String, m: &String, second: &String, n: &String) -> Option<Command>
+    ensures { SetSolve (words_of (first.now ∷ m.now ∷ second.now ∷ n.now ∷ [])) result }
 {
-    if let Some(pivots) = parse_setting(Limit::Pivots, first, m) {
+    if let Some(pivots) = parse_pivots(first, m) {
         let conflicts = parse_setting(Limit::Conflicts, second, n)?;
-        return Some(Limits { pivots, conflicts });
+        return Some(Command::solve(pivots, conflicts));
     }
     let conflicts = parse_setting(Limit::Conflicts, first, m)?;
-    let pivots = parse_setting(Limit::Pivots, second, n)?;
-    Some(Limits { pivots, conflicts })
+    let pivots = parse_pivots(second, n)?;
+    Some(Command::solve(pivots, conflicts))
 }
 
-// The limits that the words behind `solve` set, or None where they aren't its settings.
-fn parse_solve(settings: &[String]) -> Option<Limits>
-    ensures { SetLimits (words_of settings.now) result }
+// `solve` with the limits that the words behind it set, or None where they aren't its settings.
+fn parse_solve(settings: &[String]) -> Option<Command>
+    ensures { SetSolve (words_of settings.now) result }
 {
     match settings {
-        [] => Some(Limits {
-            pivots: DEFAULT_PIVOTS,
-            conflicts: DEFAULT_CONFLICTS,
-        }),
-        [word, digits] => limits_by(word, digits),
-        [first, m, second, n] => limits_by_both(first, m, second, n),
+        [] => Some(Command::solve(LimitValue::Number(DEFAULT_PIVOTS), DEFAULT_CONFLICTS)),
+        [word, value] => solve_by(word, value),
+        [first, m, second, n] => solve_by_both(first, m, second, n),
         _ => None,
     }
 }
@@ -173,10 +215,7 @@ pub fn parse_words(words: &[String]) -> Option<Command>
     ensures { MatchOption result (SpellNone (words_of words.now)) (Spell (words_of words.now)) }
 {
     match words {
-        [name, settings @ ..] if is(name, "solve") => {
-            let limits = parse_solve(settings)?;
-            Some(Command::Solve { limits })
-        }
+        [name, settings @ ..] if is(name, "solve") => parse_solve(settings),
         [name, settings @ ..] if is(name, "check") => {
             let bytes = parse_check(settings)?;
             Some(Command::Check { bytes })

@@ -1,9 +1,10 @@
 //! How the program begins and ends: the words that the system hands out, and the exit code.
-ghost use Rattle.std.specs.Prelude.{◌≡◌, drop, IfNone, IfOk, IfSome, IsErr, None, Some};
+ghost use Rattle.std.specs.Prelude.{◌≡◌, drop, Err, IfErr, IfNone, IfOk, IfSome, IsErr, None, Some};
 ghost use Rattle.std.specs.Process.{exit_status};
 ghost use Rattle.std.specs.Vec.Iter.{into_iter_items};
 ghost use Rattle.psat.specs.Commands.{ReadNothing, SpellNone, words_of};
 ghost use Rattle.psat.specs.Exits.{IfRan, exit_number, failure_words};
+ghost use Rattle.std.specs.IoError.{error_kind};
 ghost use Rattle.psat.specs.Runs.{CountsReads, CountsWrites, HasAnswered, HasRead, Ran};
 ghost use Rattle.psat.specs.Statuses.{AnswersUsage, IsSilent};
 
@@ -12,18 +13,28 @@ use crate::status::Status;
 use ps_io::{Sink, Source};
 use std::alloc::{AllocError, Global};
 use std::env::Args;
-use std::io;
+use std::io::{self, ErrorKind};
 use std::process::ExitCode;
 use thiserror::Error;
 
-/// The words can't be had.
+/// Why the words can't be had.
 #[derive(Clone, Copy, Debug, PartialEq, Eq, Error)]
-#[error("the words can't be had")]
-pub struct NoWords;
+pub enum NoWords {
+    /// The system doesn't hand them out, for this cause.
+    #[error("the words can't be had")]
+    Refused(ErrorKind),
+    /// There was not enough memory to hold them.
+    #[error("not enough memory")]
+    NoMemory,
+}
 
 impl From<AllocError> for NoWords {
+    ghost use Rattle.psat.specs.declared.exit.NoWords.TheVariants as none;
+
+    ghost from_gives = { λ _ e. e ≡ none.NoMemory };
+
     fn from(_: AllocError) -> NoWords {
-        NoWords
+        NoWords::NoMemory
     }
 }
 
@@ -55,8 +66,10 @@ pub fn run_program<I: Source, O: Sink>(
     source: &mut I,
     sink: &mut O,
 ) -> Result<Status, NoWords>
-    // Where the words can't be had, there is no status, and nothing is read or written.
-    ensures no_words { IsErr all → IsErr result }
+    // Where the system refuses the words, the cause is answered, and else want of memory alone may
+    // take the status's place. Then nothing is read or written.
+    ensures refused { IfErr all (λ e. result ≡ Err (NoWords.Refused (error_kind e))) }
+    ensures no_memory { IfOk all (λ args. IfErr result (λ why. why ≡ NoWords.NoMemory)) }
     ensures nothing_read { IsErr result → source.new ≡ source.old }
     ensures nothing_written { IsErr result → sink.new ≡ sink.old }
 
@@ -83,7 +96,7 @@ pub fn run_program<I: Source, O: Sink>(
 {
     let all = match all {
         Ok(all) => collected(alloc, all)?,
-        Err(_) => return Err(NoWords),
+        Err(error) => return Err(NoWords::Refused(error.kind())),
     };
     Ok(run(alloc, behind_name(&all), source, sink))
 }
@@ -98,7 +111,8 @@ pub fn failure(ended: Result<Status, NoWords>) -> Option<&'static str>
         Ok(Status::WriteFault) => Some("standard output failed"),
         Ok(Status::NoMemory) => Some("not enough memory"),
         Ok(_) => None,
-        Err(NoWords) => Some("the words can't be had"),
+        Err(NoWords::Refused(_)) => Some("the words can't be had"),
+        Err(NoWords::NoMemory) => Some("not enough memory"),
     }
 }
 
@@ -111,6 +125,6 @@ pub fn exit_code(ended: Result<Status, NoWords>) -> ExitCode
 {
     match ended {
         Ok(status) => ExitCode::from(status.number()),
-        Err(NoWords) => ExitCode::from(NO_WORDS),
+        Err(_) => ExitCode::from(NO_WORDS),
     }
 }

@@ -7,8 +7,9 @@ ghost use Rattle.psat.specs.declared.command.TheConstants.{DEFAULT_PIVOTS, DEFAU
 ghost use Rattle.ps_answer.specs.declared.limits.TheConstants.{MOST_PIVOTS};
 ghost use Rattle.ps_log.specs.declared.limits.TheConstants.{MOST_CONFLICTS};
 ghost use Rattle.psat.specs.Accepting.{OneAnswerIsDue, ReportsAreAccepted};
+ghost use Rattle.psat.specs.Answering.{FaultlessRunsAnswer, ProblemsAreSolved, ReportsAreJudged};
 ghost use Rattle.psat.specs.Commands.{Spell};
-ghost use Rattle.psat.specs.Due.{OneOutputIsDue};
+ghost use Rattle.psat.specs.Due.{EnoughLeavesNoneOpen, OneOutputIsDue};
 
 /// For words and bytes at most one output is due, but for the words of `solve`: to one problem
 /// several answers may be right. A report that is due for them is that of one answer, where nothing
@@ -24,6 +25,22 @@ pub fn one_output_is_due()
 /// `check`, where nothing is open or the pivots were fewer than the most.
 pub fn reports_are_accepted()
     ensures { ReportsAreAccepted }
+{}
+
+/// With `--pivots enough`, where that number is at most the most, no part of a due answer is open for
+/// pivots.
+pub fn enough_pivots_leave_none_open()
+    ensures { EnoughLeavesNoneOpen }
+{}
+
+/// Where no call of the source or the sink fails, a run answers what is due, or there was not
+/// enough memory: of its clauses no other status is left. For `solve` and bytes within the limit
+/// that are a problem, that is the report of an answer to it; for `check` and a problem at the front
+/// of such bytes, what is due for it and the bytes behind it.
+pub fn faultless_runs_answer()
+    ensures answered { FaultlessRunsAnswer }
+    ensures solved { ProblemsAreSolved }
+    ensures judged { ReportsAreJudged }
 {}
 
 /// The limits of the commands, and of the search for a problem, by their numbers.

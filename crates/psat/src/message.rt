@@ -35,7 +35,8 @@ impl Message {
     {
         let text = String::from_str(
             alloc,
-            "usage: psat solve|explain|check|make N [--pivots N] [--conflicts N] [--bytes N]",
+            "usage: psat solve|explain|check|make N [--pivots N|enough] \
+             [--conflicts N] [--bytes N]",
         )?;
         Message::line(text, Status::Usage)
     }

@@ -26,7 +26,7 @@ fn reply_to_bytes(alloc: Global, command: Command, bytes: &[u8]) -> Result<Reply
     ensures short { IfOk result IsShortReply }
 {
     match command {
-        Command::Solve { limits } => solved(alloc, bytes, limits),
+        Command::Solve { limits, enough } => solved(alloc, bytes, limits, enough),
         Command::Check { .. } => Ok(Reply::Line(checked(alloc, bytes)?)),
     }
 }

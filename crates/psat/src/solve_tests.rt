@@ -1,3 +1,5 @@
+mod enough;
+
 use crate::status::Status;
 use crate::tests::{USAGE, answers, ended};
 use ps_io::NoMemory;
@@ -8,11 +10,13 @@ const SOLVE: &[&str] = &["solve"];
 
 const NO_PIVOTS: &[&str] = &["solve", "--pivots", "0"];
 
+const ENOUGH: &[&str] = &["solve", "--pivots", "enough"];
+
 const NO_CONFLICTS: &[&str] = &["solve", "--conflicts", "0"];
 
 // Words, problems without their frame, reports or parts of them, and the lines of `check` on the
 // whole reports.
-const SOLVED: [(&[&str], &str, &str, Status, &str); 31] = [
+const SOLVED: [(&[&str], &str, &str, Status, &str); 30] = [
     (
         SOLVE,
         "P(a) = 7/10; P(a -> b) = 9/10; query P(b);",
@@ -175,6 +179,20 @@ const SOLVED: [(&[&str], &str, &str, Status, &str); 31] = [
         "accepted: claims 0, open 1\n",
     ),
     (
+        ENOUGH,
+        WIDE,
+        "\nopen wide ",
+        Status::Unfinished,
+        "accepted: claims 0, open 1\n",
+    ),
+    (
+        &["solve", "--conflicts", "0", "--pivots", "enough"],
+        FOUR,
+        "report 1\nopen conflicts 0\ng 1 1 11 0\nt 2\nc ",
+        Status::Unfinished,
+        "accepted: claims 0, open 1\n",
+    ),
+    (
         SOLVE,
         "P(a) = 1/2; query P(true given a);",
         "\nlower 1/1\n",
@@ -194,6 +212,32 @@ const SOLVED: [(&[&str], &str, &str, Status, &str); 31] = [
         "\nlower 0/1\n",
         Status::Done,
         "accepted: claims 3, open 0\n",
+    ),
+    (
+        NO_PIVOTS,
+        "P(a) = 1/2; P(b) = 1/4;",
+        "report 1\nopen pivots 0\nt 1\nc 11\nend\n",
+        Status::Unfinished,
+        "accepted: claims 0, open 1\n",
+    ),
+    (
+        &["solve", "--conflicts", "4", "--pivots", "0"],
+        "P(a) = 1/2; P(b) = 1/4;",
+        "report 1\nopen pivots 0\nt 1\nc 11\nend\n",
+        Status::Unfinished,
+        "accepted: claims 0, open 1\n",
+    ),
+];
+
+// The same at limits of conflicts: hints alone refute the first problem, at every limit, and a search
+// over the 11 nodes of the second learns fewer than 2^11 clauses.
+const LIMITED: [(&[&str], &str, &str, Status, &str); 5] = [
+    (
+        NO_CONFLICTS,
+        "P(a) = 1/3; P(a) = 2/3;",
+        "report 1\ninconsistent\ndual 0 1 1\ny -1 1\ns 2 0 1 0\nt 2\nc 1\np w1 1\nend\n",
+        Status::Inconsistent,
+        "accepted: claims 1, open 0\n",
     ),
     (
         NO_CONFLICTS,
@@ -217,18 +261,11 @@ const SOLVED: [(&[&str], &str, &str, Status, &str); 31] = [
         "accepted: claims 1, open 0\n",
     ),
     (
-        NO_PIVOTS,
-        "P(a) = 1/2; P(b) = 1/4;",
-        "report 1\nopen pivots 0\nt 1\nc 11\nend\n",
-        Status::Unfinished,
-        "accepted: claims 0, open 1\n",
-    ),
-    (
-        &["solve", "--conflicts", "4", "--pivots", "0"],
-        "P(a) = 1/2; P(b) = 1/4;",
-        "report 1\nopen pivots 0\nt 1\nc 11\nend\n",
-        Status::Unfinished,
-        "accepted: claims 0, open 1\n",
+        &["solve", "--conflicts", "2048"],
+        FOUR,
+        "\ninconsistent\n",
+        Status::Inconsistent,
+        "accepted: claims 1, open 0\n",
     ),
 ];
 
@@ -256,13 +293,19 @@ const UNSOLVED: [(&str, &str); 4] = [
 ];
 
 // Words of no command that begin with `solve`, or that name limits of another.
-const OTHER_WORDS: [&[&str]; 9] = [
+const OTHER_WORDS: [&[&str]; 15] = [
     &["solve", "--pivots"],
     &["solve", "--pivots", "01"],
     &["solve", "--pivots", "1000001"],
     &["solve", "--conflicts", "1099511627777"],
     &["solve", "--pivots", "1", "--pivots", "1"],
     &["solve", "--bytes", "1"],
+    &["solve", "--pivots", "enough", "--pivots", "3"],
+    &["solve", "--pivots", "3", "--pivots", "enough"],
+    &["solve", "--conflicts", "enough"],
+    &["check", "--bytes", "enough"],
+    &["check", "--pivots", "enough"],
+    &["make", "1", "--pivots", "enough"],
     &["check", "--pivots", "1"],
     &["make", "0"],
     &["make", "91"],
@@ -303,6 +346,14 @@ fn is_solved(
 fn all_are_solved(alloc: Global) -> bool {
     let mut right = true;
     for (words, problem, part, due, line) in SOLVED {
+        right = right && is_solved(alloc, words, problem, part, due, line);
+    }
+    right
+}
+
+fn all_limited_are_solved(alloc: Global) -> bool {
+    let mut right = true;
+    for (words, problem, part, due, line) in LIMITED {
         right = right && is_solved(alloc, words, problem, part, due, line);
     }
     right
@@ -359,5 +410,11 @@ fn faults_are_told(alloc: Global) -> bool {
 fn problems_get_their_reports(rt: HostRuntime) -> Result<(), Fail> {
     let alloc = rt.alloc();
     assert!(rt; all_are_solved(alloc) && all_are_unsolved(alloc) && faults_are_told(alloc));
+    Ok(())
+}
+
+#[test]
+fn limits_of_conflicts_are_reached_honestly(rt: HostRuntime) -> Result<(), Fail> {
+    assert!(rt; all_limited_are_solved(rt.alloc()));
     Ok(())
 }

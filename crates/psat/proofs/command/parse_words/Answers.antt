@@ -1,13 +1,13 @@
 use Rattle.std.proofs.Common.{arith, codes, drop, length-drop}
 use Rattle.std.proofs.Math.Seq.{take_all}
-use Rattle.psat.specs.declared.command.Command.TheVariants.{Check, Solve}
-use Rattle.psat.proofs.CommandLaws.{named_spelled}
+use Rattle.psat.specs.declared.command.Command.TheVariants.{Check}
+use Rattle.psat.proofs.CommandLaws.{named_found, named_spelled}
 use Rattle.psat.proofs.command.parse_words.Goals as goal
 
-pub returns-in_ok-limits-in-len1-up : goal.returns-in_ok-limits-in-len1-up
-returns-in_ok-limits-in-len1-up c =
-    named_spelled (Solve c.in_ok-limits-in-len1-up.limits) (codes "solve") c.args.words.now _ c.name-item.result (omega arith) c.name-item.is (c.is.ensures.0 c.if-is.true)
-    (take_all _ (drop 1 c.args.words.now) (omega (arith, length-drop 1 c.args.words.now))) c.in_ok-limits-in-len1-up.ensures
+pub returns-in-len1-up : goal.returns-in-len1-up
+returns-in-len1-up c =
+    named_found c.parse_solve.result (codes "solve") c.args.words.now _ c.name-item.result (omega arith) c.name-item.is (c.is.ensures.0 c.if-is.true)
+    (take_all _ (drop 1 c.args.words.now) (omega (arith, length-drop 1 c.args.words.now))) c.parse_solve.ensures
 
 pub returns-in_ok-bytes-in-len1-up-2 : goal.returns-in_ok-bytes-in-len1-up-2
 returns-in_ok-bytes-in-len1-up-2 c =

@@ -1,6 +1,8 @@
-use Rattle.std.proofs.Common.{string_bytes}
+use Rattle.std.proofs.Common.{ℕ, List, [], ◌∷◌, codes, string_bytes, sym, subst}
+use Rattle.psat.specs.declared.command.Command.{Command}
+use Rattle.psat.specs.Commands.{Spell}
 use Rattle.psat.proofs.SolveWords.{pivots_conflicts_set, conflicts_pivots_set, first_unspelled, conflicts_unspelled, pivots_unspelled}
-use Rattle.psat.proofs.command.limits_by_both.Goals as goal
+use Rattle.psat.proofs.command.solve_by_both.Goals as goal
 
 pub returns-in_err-conflicts : goal.returns-in_err-conflicts
 returns-in_err-conflicts c =
@@ -9,8 +11,9 @@ returns-in_err-conflicts c =
 
 pub returns-in-Some : goal.returns-in-Some
 returns-in-Some c =
-    pivots_conflicts_set (string_bytes c.args.first.now) (string_bytes c.args.m.now) (string_bytes c.args.second.now) (string_bytes c.args.n.now) c.in-Some.pivots
-    c.in_ok-conflicts.conflicts c.in-Some.ensures c.in_ok-conflicts.ensures
+    subst (λ (x : Command). Spell (codes "solve" ∷ string_bytes c.args.first.now ∷ string_bytes c.args.m.now ∷ string_bytes c.args.second.now ∷ string_bytes c.args.n.now ∷ []) x) (sym c.solve.ensures)
+    (pivots_conflicts_set (string_bytes c.args.first.now) (string_bytes c.args.m.now) (string_bytes c.args.second.now) (string_bytes c.args.n.now) c.in-Some.pivots
+    c.in_ok-conflicts.conflicts c.in-Some.ensures c.in_ok-conflicts.ensures)
 
 pub returns-in_err-conflicts-2 : goal.returns-in_err-conflicts-2
 returns-in_err-conflicts-2 c =
@@ -24,5 +27,7 @@ returns-in_err-pivots c =
 
 pub returns : goal.returns
 returns c =
-    conflicts_pivots_set (string_bytes c.args.first.now) (string_bytes c.args.m.now) (string_bytes c.args.second.now) (string_bytes c.args.n.now) c.in_ok-pivots.pivots
-    c.in_ok-conflicts-2.conflicts c.in_ok-conflicts-2.ensures c.in_ok-pivots.ensures
+    subst (λ (x : Command). Spell (codes "solve" ∷ string_bytes c.args.first.now ∷ string_bytes c.args.m.now ∷ string_bytes c.args.second.now ∷ string_bytes c.args.n.now ∷ []) x)
+    (sym c.solve-2.ensures)
+    (conflicts_pivots_set (string_bytes c.args.first.now) (string_bytes c.args.m.now) (string_bytes c.args.second.now) (string_bytes c.args.n.now) c.in_ok-pivots.pivots
+    c.in_ok-conflicts-2.conflicts c.in_ok-conflicts-2.ensures c.in_ok-pivots.ensures)

@@ -1,0 +1,11 @@
+use Rattle.psat.proofs.Answering.{faultless_answer, problem_solved, report_judged}
+use Rattle.psat.proofs.laws.faultless_runs_answer.Goals as goal
+
+pub returns-clause-answered : goal.returns-clause-answered
+returns-clause-answered c = faultless_answer
+
+pub returns-clause-solved : goal.returns-clause-solved
+returns-clause-solved c = problem_solved
+
+pub returns-clause-judged : goal.returns-clause-judged
+returns-clause-judged c = report_judged
