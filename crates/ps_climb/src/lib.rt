@@ -1,0 +1,20 @@
+//! Local search for worlds in which weighted nodes of formulas sum to more than a threshold. What it
+//! finds is a guess, to be judged exactly afterwards: what is proved is that each call is safe and ends,
+//! and that its worlds have a value for each atom.
+#![tactic(auto)]
+
+mod choice;
+mod demand;
+mod draw;
+mod goal;
+mod local_search;
+mod neighbours;
+mod nodes;
+
+pub use demand::Demand;
+pub use draw::{Draw, drawn_world};
+pub use goal::Goal;
+pub use local_search::LocalSearch;
+
+#[cfg(test)]
+mod tests;
