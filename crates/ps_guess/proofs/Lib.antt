@@ -1,0 +1,2 @@
+mod Against
+mod Logged

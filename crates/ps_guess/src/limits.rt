@@ -1,0 +1,45 @@
+//! Whether numbers of a guess are within the limits of claims.
+ghost use Rattle.std.specs.Prelude.{◌↔◌, All, IsTrue};
+ghost use Rattle.ps_certificate.specs.Certificates.{IsMultiplier, IsSmallDual};
+ghost use Rattle.ps_valid.specs.Limits.{AreSmall, IsAmount, IsSmallModel};
+
+use ps_answer::{Dual, MOST_ENTRIES, Model, Weighted};
+use ps_rational::PRINTED_LIMIT;
+
+fn is_amount(z: i128) -> bool
+    ensures { IsTrue result ↔ IsAmount z }
+{
+    0 <= z && z <= PRINTED_LIMIT as i128
+}
+
+fn are_small(worlds: &[Weighted]) -> bool
+    ensures { IsTrue result → AreSmall worlds.now }
+{
+    worlds.len() <= MOST_ENTRIES as usize && worlds.iter().all(|w| is_amount(w.weight))
+}
+
+/// Whether total and weights are within the limits.
+pub fn is_small_model(model: &Model) -> bool
+    ensures { IsTrue result → IsSmallModel model.now }
+{
+    is_amount(model.total) && are_small(model.worlds.as_slice())
+}
+
+fn is_multiplier(y: &i128) -> bool
+    ensures { IsTrue result ↔ IsMultiplier y.now }
+{
+    y.unsigned_abs() <= PRINTED_LIMIT
+}
+
+fn are_multipliers(rows: &[i128]) -> bool
+    ensures { IsTrue result ↔ All IsMultiplier rows.now }
+{
+    rows.iter().all(|y| is_multiplier(y))
+}
+
+/// Whether the numbers of a dual are within the limits.
+pub fn is_small_dual(dual: &Dual) -> bool
+    ensures { IsTrue result → IsSmallDual dual.now }
+{
+    is_multiplier(&dual.top) && is_multiplier(&dual.head) && are_multipliers(dual.rows.as_slice())
+}

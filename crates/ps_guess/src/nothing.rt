@@ -1,0 +1,50 @@
+//! Guesses that nothing is allowed.
+ghost use Rattle.std.specs.Prelude.{IfOk, IfSome};
+ghost use Rattle.ps_problem.specs.Problems.{HasNodes};
+ghost use Rattle.ps_claims.specs.declared.claim_kind.ClaimKind.TheVariants.{Nothing};
+ghost use Rattle.ps_guess.specs.Trials.{FindsAgainst, IsFoundDual, IsTrialOf};
+
+use crate::limits::is_small_dual;
+use crate::trial::Trial;
+use crate::trials::{Trials, given_in};
+use ps_answer::Dual;
+use ps_claims::{ClaimKind, Reason};
+use ps_io::NoMemory;
+use ps_problem::Query;
+use ps_valid::check_dual;
+use std::alloc::Global;
+
+impl<'p> Trials<'p> {
+    /// Whether the guess, a dual whose steps are sought here, shows that no distribution that meets
+    /// each bound gives the query's evidence positive probability; without a query, that there is
+    /// no such distribution.
+    pub fn nothing(
+        &self,
+        alloc: Global,
+        query: Option<Query>,
+        dual: Dual,
+    ) -> Result<Trial<Dual>, NoMemory>
+        requires query { IfSome query (λ q. HasNodes self.now.nodes q.formula q.given q.both) }
+        ensures shown { IfOk result (IsTrialOf (IsFoundDual self.now query)) }
+        ensures against { IfOk result (FindsAgainst self.now Nothing query dual) }
+    {
+        if !is_small_dual(&dual) {
+            return Ok(Trial::Wrong(Reason::HeadWrong));
+        }
+        let problem = self.problem();
+        let given = given_in(problem, ClaimKind::Nothing, query);
+        match check_dual(alloc, problem, given, &dual)? {
+            None | Some(Reason::NotRefuted) => {}
+            Some(reason) => return Ok(Trial::Wrong(reason)),
+        }
+        match self.refuted(alloc, ClaimKind::Nothing, query, dual)? {
+            Trial::Shown(shown) => match check_dual(alloc, problem, given, &shown)? {
+                Some(reason) => Ok(Trial::Wrong(reason)),
+                None => Ok(Trial::Shown(shown)),
+            },
+            Trial::Found(world) => Ok(Trial::Found(world)),
+            Trial::Wrong(reason) => Ok(Trial::Wrong(reason)),
+            Trial::Spent => Ok(Trial::Spent),
+        }
+    }
+}
