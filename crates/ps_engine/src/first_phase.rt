@@ -1,0 +1,131 @@
+//! The first phase: whether the bounds can be met.
+
+use crate::engine::{Engine, Stage};
+use crate::limits::{
+    FEASIBLE, LARGEST_ROUNDED, MOST_REPAIRS, MOST_ROUNDINGS, MOST_ROUNDS, NEAR_FEASIBLE,
+};
+use ps_answer::Dual;
+use ps_float_pricing::Priced;
+use ps_io::NoMemory;
+use ps_problem::Problem;
+use ps_relaxed::{Aim, Goal, Multipliers};
+use ps_simplex_float::Ending;
+use std::num::{nearest_i64_to_f64, saturating_f64_to_i64};
+
+impl Engine {
+    // Finds whether the bounds can be met.
+    pub(crate) fn first_phase(&mut self, problem: &Problem) -> Result<Stage, NoMemory> {
+        self.set_aim(Aim::Consistent);
+        if let Some(stage) = self.start(problem)? {
+            return Ok(stage);
+        }
+        for _ in 0..MOST_ROUNDS {
+            if let Some(stage) = self.first_round(problem)? {
+                return Ok(stage);
+            }
+        }
+        Ok(Stage::Unknown)
+    }
+
+    // Starts from a world that meets the certainties; an answer where that isn't possible.
+    fn start(&mut self, problem: &Problem) -> Result<Option<Stage>, NoMemory> {
+        let mut goal = Goal::new(self.alloc, self.relaxed.nodes())?;
+        goal.add_given(None, 1);
+        self.relaxed.add_certainties(&mut goal, 1);
+        match self.pricer.first(problem, &goal)? {
+            Priced::NoneAbove => Ok(Some(Stage::Excluded)),
+            Priced::Spent => Ok(Some(Stage::Unknown)),
+            Priced::Found(members) => {
+                self.take_all(members)?;
+                if self.simplex.start(0) {
+                    return Ok(None);
+                }
+                Ok(Some(Stage::Unknown))
+            }
+        }
+    }
+
+    // One minimisation and pricing; an answer where the phase is at its end.
+    fn first_round(&mut self, problem: &Problem) -> Result<Option<Stage>, NoMemory> {
+        if !self.optimise() && !self.may_mend() {
+            return Ok(Some(Stage::Unknown));
+        }
+        if self.simplex.objective() < NEAR_FEASIBLE {
+            if self.simplex.clean(MOST_REPAIRS) != Ending::Optimal {
+                self.simplex.perturb();
+                return Ok(if self.may_mend() {
+                    None
+                } else {
+                    Some(Stage::Unknown)
+                });
+            }
+            if self.simplex.objective() < FEASIBLE {
+                return Ok(Some(Stage::Feasible));
+            }
+        }
+        let distance = self.simplex.objective();
+        match self.price(problem, Aim::Consistent, 0.5 * distance.max(1e-7))? {
+            None => Ok(Some(Stage::Unknown)),
+            Some(0) => Ok(Some(Stage::Inconsistent(distance))),
+            Some(_) => Ok(None),
+        }
+    }
+
+    /// The next guess of what shows that the bounds contradict one another, where they were found to. No
+    /// world's gain is above half of the distance, so that roundings do.
+    pub fn refutation(&mut self) -> Result<Option<Dual>, NoMemory> {
+        let distance = match self.stage {
+            Stage::Excluded => 0.0,
+            Stage::Inconsistent(distance) => distance,
+            Stage::Fresh | Stage::Feasible | Stage::Unknown => return Ok(None),
+        };
+        if self.roundings >= MOST_ROUNDINGS {
+            return Ok(None);
+        }
+        let mut multipliers = Multipliers::new(self.alloc, 0, 1, self.relaxed.bounds())?;
+        if distance > 0.0 && !self.round_duals(distance, &mut multipliers) {
+            return Ok(None);
+        }
+        self.roundings = self.roundings.saturating_add(1);
+        self.completed(Aim::Consistent, multipliers)
+    }
+
+    // Rounds the rows' prices, to three bits more each time.
+    fn round_duals(&self, distance: f64, multipliers: &mut Multipliers) -> bool {
+        let mut scale = 1.0;
+        for row in self.relaxed.rows() {
+            scale += row.denominator();
+        }
+        for _ in 0..self.roundings {
+            scale *= 8.0;
+        }
+        scale *= 2.0 / distance;
+        for (row, dual) in self
+            .relaxed
+            .rows()
+            .iter()
+            .zip(self.simplex.duals().iter().skip(1))
+        {
+            let size = dual * scale / row.denominator();
+            if size.abs() > LARGEST_ROUNDED {
+                return false;
+            }
+            let whole = saturating_f64_to_i64((size * nearest_i64_to_f64(row.sign())).round());
+            multipliers.set(row.number, whole as i128);
+        }
+        true
+    }
+
+    // The dual of multipliers, with those of the certainties, where they are small.
+    pub(crate) fn completed(
+        &self,
+        aim: Aim,
+        mut multipliers: Multipliers,
+    ) -> Result<Option<Dual>, NoMemory> {
+        let mut goal = self.relaxed.combination(self.alloc, aim, &multipliers)?;
+        if !self.relaxed.outweigh(&mut goal, &mut multipliers) {
+            return Ok(None);
+        }
+        Ok(Some(multipliers.into_dual(self.alloc)))
+    }
+}

@@ -1,0 +1,18 @@
+//! An engine that guesses answers: it finds them by floats, and makes whole numbers of them. Nothing
+//! is claimed of its guesses; they are judged elsewhere.
+#![tactic(auto)]
+
+mod basis_system;
+mod engine;
+mod evidence;
+mod first_phase;
+mod guesses;
+mod limits;
+mod side;
+#[cfg(test)]
+mod tests;
+mod whole;
+
+pub use engine::Engine;
+pub use guesses::GuessedBound;
+pub use ps_relaxed::Aim;

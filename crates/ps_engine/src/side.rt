@@ -1,0 +1,175 @@
+//! One side of a query.
+
+use crate::basis_system::BasisSystem;
+use crate::engine::Engine;
+use crate::guesses::GuessedBound;
+use crate::limits::{ENOUGH_EVIDENCE, LEAST_GAIN, MOST_REPAIRS, MOST_ROUNDS, TRIVIAL};
+use crate::whole::{Prices, Values, WholeModel, extreme, model_of, multipliers_of};
+use ps_io::NoMemory;
+use ps_problem::Problem;
+use ps_relaxed::{Aim, Goal, Member, Multipliers};
+use ps_simplex_float::{Column, Ending};
+
+/// What a turn comes to.
+#[derive(Drop)]
+pub(crate) enum Turn {
+    /// One more is to be made.
+    Again,
+    /// The guess.
+    Guess(GuessedBound),
+    /// The objective is below what was asked for.
+    Enough,
+    /// There is no guess.
+    GiveUp,
+}
+
+impl Engine {
+    // Turns until there is a guess for an aim, or for evidence until there is enough of it.
+    pub(crate) fn turn(
+        &mut self,
+        problem: &Problem,
+        aim: Aim,
+        is_evidence: bool,
+    ) -> Result<Turn, NoMemory> {
+        for _ in 0..MOST_ROUNDS {
+            match self.one_turn(problem, aim, is_evidence)? {
+                Turn::Again => {}
+                turn => return Ok(turn),
+            }
+        }
+        Ok(Turn::GiveUp)
+    }
+
+    // One minimisation, one pricing, and where no world improves, whole numbers.
+    fn one_turn(
+        &mut self,
+        problem: &Problem,
+        aim: Aim,
+        is_evidence: bool,
+    ) -> Result<Turn, NoMemory> {
+        if !self.optimise() && !self.may_mend() {
+            return Ok(Turn::GiveUp);
+        }
+        if is_evidence && self.has_enough() {
+            return Ok(Turn::Enough);
+        }
+        let is_trivial = is_trivial(aim, self.simplex.objective());
+        if !is_trivial {
+            match self.price(problem, aim, LEAST_GAIN)? {
+                None => return Ok(Turn::GiveUp),
+                Some(0) => {}
+                Some(_) => return Ok(Turn::Again),
+            }
+        }
+        let pivots = self.simplex.pivots();
+        if self.simplex.clean(MOST_REPAIRS) != Ending::Optimal {
+            return Ok(self.moved());
+        }
+        if self.simplex.pivots() != pivots && !is_trivial && self.may_mend() {
+            return Ok(Turn::Again);
+        }
+        self.whole_turn(aim)
+    }
+
+    // Whether there is enough evidence, also at the true right side.
+    fn has_enough(&mut self) -> bool {
+        if self.simplex.objective() >= -ENOUGH_EVIDENCE {
+            return false;
+        }
+        self.simplex.clean(MOST_REPAIRS);
+        self.simplex.objective() < -ENOUGH_EVIDENCE
+    }
+
+    // Moves the values that are 0 again.
+    fn moved(&mut self) -> Turn {
+        if !self.may_mend() {
+            return Turn::GiveUp;
+        }
+        self.simplex.perturb();
+        Turn::Again
+    }
+
+    // Whole numbers from the basis. Where they are too large there is no guess: here smaller ones on
+    // the same face would be sought.
+    fn whole_turn(&mut self, aim: Aim) -> Result<Turn, NoMemory> {
+        let Some(system) = self.system()? else {
+            return Ok(self.moved());
+        };
+        let Some(values) = system.values()? else {
+            return Ok(Turn::GiveUp);
+        };
+        match model_of(self.alloc, &self.pool, aim, &system, &values)? {
+            Values::Negative => Ok(self.moved()),
+            Values::Model(whole) => self.guessed(aim, &system, whole),
+        }
+    }
+
+    // The guess of a distribution, with multipliers.
+    fn guessed(
+        &mut self,
+        aim: Aim,
+        system: &BasisSystem,
+        whole: WholeModel,
+    ) -> Result<Turn, NoMemory> {
+        if whole.given == 0 {
+            return Ok(Turn::GiveUp);
+        }
+        if whole.is_extreme(aim) {
+            let multipliers = extreme(self.alloc, aim, self.relaxed.bounds())?;
+            return self.tested(aim, whole, multipliers);
+        }
+        let Some(prices) = system.prices(&self.pool, aim)? else {
+            return Ok(Turn::GiveUp);
+        };
+        match multipliers_of(self.alloc, &self.relaxed, aim, system, &prices)? {
+            Prices::Multipliers(multipliers) => self.tested(aim, whole, multipliers),
+            Prices::WrongSign(row) => Ok(self.forcing(Column::Slack(row))),
+        }
+    }
+
+    // Lets a column enter the basis in the next turn.
+    fn forcing(&mut self, column: Column) -> Turn {
+        if !self.may_mend() {
+            return Turn::GiveUp;
+        }
+        self.forced = Some(column);
+        Turn::Again
+    }
+
+    // The guess, if the combination is below 1 in each world of the pool.
+    fn tested(
+        &mut self,
+        aim: Aim,
+        whole: WholeModel,
+        mut multipliers: Multipliers,
+    ) -> Result<Turn, NoMemory> {
+        let mut goal = self.relaxed.combination(self.alloc, aim, &multipliers)?;
+        if !self.relaxed.outweigh(&mut goal, &mut multipliers) {
+            return Ok(Turn::GiveUp);
+        }
+        match place_against(self.pool.members(), &goal) {
+            Some(place) => Ok(self.forcing(Column::Added(place))),
+            None => Ok(Turn::Guess(GuessedBound {
+                model: whole.model,
+                dual: multipliers.into_dual(self.alloc),
+            })),
+        }
+    }
+}
+
+// The place of a world in which the combination is at least 1.
+fn place_against(members: &[Member], goal: &Goal) -> Option<usize> {
+    (0..members.len()).find(|place| match members.get(*place) {
+        Some(member) => goal.value(&member.truth) >= 1,
+        None => false,
+    })
+}
+
+// Whether an objective is so near to the least possible one that no world need be sought.
+fn is_trivial(aim: Aim, objective: f64) -> bool {
+    match aim {
+        Aim::Consistent => false,
+        Aim::Least(_) => objective < TRIVIAL,
+        Aim::Greatest(_) => objective < TRIVIAL - 1.0,
+    }
+}

@@ -1,0 +1,71 @@
+//! Bounds that are known. Engines guess them; here they are only compared.
+ghost use Rattle.std.specs.Prelude.{◌+◌, ◌<◌, ◌^◌, length};
+
+use crate::{Aim, Engine, GuessedBound};
+use ps_io::NoMemory;
+use ps_problem::Problem;
+use ps_read::read_whole;
+use std::alloc::Global;
+use std::test::*;
+
+/// A sentence and an implication: from their sum less 1, to the implication (N. J. Nilsson,
+/// "Probabilistic logic", 1986).
+const IMPLIED: &[u8] = b"psat 1; P(a) = 7/10; P(a -> b) = 9/10; query P(b); end;";
+
+/// The evidence divides: from (1/2 + 3/4 - 1) / (3/4), to (1/2) / (3/4).
+const DIVIDED: &[u8] = b"psat 1; P(a) = 1/2; P(b) = 3/4; query P(a given b); end;";
+
+/// A certainty, and a sentence that it bounds.
+const CERTAIN: &[u8] = b"psat 1; P(a -> b) = 1; P(a) >= 1/3; query P(b); end;";
+
+fn problem(alloc: Global, text: &[u8]) -> Option<Problem>
+    requires { length text.now + 1 < 2 ^ 32 }
+{
+    read_whole(alloc, text).ok()
+}
+
+// Whether a guess is of this value.
+fn is(guess: Option<GuessedBound>, over: i128, under: i128) -> bool {
+    match guess {
+        None => false,
+        Some(GuessedBound { model: _, dual }) => {
+            0 < dual.top && dual.head.wrapping_mul(under) == dual.top.wrapping_mul(over)
+        }
+    }
+}
+
+// Whether the first query's sides are so.
+fn are(
+    alloc: Global,
+    problem: &Problem,
+    low: [i128; 2],
+    high: [i128; 2],
+) -> Result<bool, NoMemory> {
+    let mut engine = Engine::new(alloc, problem)?;
+    engine.model(problem)?;
+    for query in problem.queries().as_slice() {
+        if let Some(given) = query.given {
+            engine.nothing(problem, given)?;
+        }
+        let least = engine.bound(problem, Aim::Least(*query))?;
+        let greatest = engine.bound(problem, Aim::Greatest(*query))?;
+        return Ok(is(least, low[0], low[1]) && is(greatest, high[0], high[1]));
+    }
+    Ok(false)
+}
+
+fn sides(alloc: Global, problem: Option<Problem>, low: [i128; 2], high: [i128; 2]) -> Option<bool> {
+    are(alloc, &problem?, low, high).ok()
+}
+
+#[test]
+fn sides_are_guessed(rt: HostRuntime) -> Result<(), Fail> {
+    let alloc = rt.alloc();
+    let implied = sides(alloc, problem(alloc, IMPLIED), [3, 5], [9, 10]);
+    assert_eq!(rt; implied, Some(true));
+    let divided = sides(alloc, problem(alloc, DIVIDED), [1, 3], [2, 3]);
+    assert_eq!(rt; divided, Some(true));
+    let certain = sides(alloc, problem(alloc, CERTAIN), [1, 3], [1, 1]);
+    assert_eq!(rt; certain, Some(true));
+    Ok(())
+}

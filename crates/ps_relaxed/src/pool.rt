@@ -1,0 +1,69 @@
+//! Worlds with the truth of their nodes.
+
+use ps_formula::{World, eval};
+use ps_io::NoMemory;
+use ps_problem::Problem;
+use std::alloc::Global;
+
+/// A world with the truth of its nodes.
+#[derive(Drop)]
+pub struct Member {
+    /// The world.
+    pub world: World,
+    /// The truth of each node.
+    pub truth: Vec<bool>,
+}
+
+impl Member {
+    /// A world of a problem, with the truth of its nodes; none where the world isn't one of its.
+    pub fn new(alloc: Global, problem: &Problem, world: World) -> Result<Option<Member>, NoMemory> {
+        if world.len() != problem.atoms() as usize {
+            return Ok(None);
+        }
+        let truth = eval(alloc, problem.formulas(), &world)?;
+        Ok(Some(Member { world, truth }))
+    }
+}
+
+/// Different worlds, in the order in which they came.
+#[derive(Drop)]
+pub struct WorldPool {
+    members: Vec<Member>,
+}
+
+impl WorldPool {
+    /// The pool of no worlds.
+    pub fn new(alloc: Global) -> WorldPool {
+        WorldPool {
+            members: Vec::new(alloc),
+        }
+    }
+
+    /// The worlds.
+    pub fn members(&self) -> &[Member] {
+        &self.members
+    }
+
+    /// The truth of the nodes in the world at a place, from 0; of no nodes where there is none.
+    pub fn truth(&self, place: usize) -> &[bool] {
+        match self.members.get(place) {
+            Some(member) => &member.truth,
+            None => &[],
+        }
+    }
+
+    /// The place of a world.
+    pub fn place(&self, world: &World) -> Option<usize> {
+        let wanted = world.as_slice();
+        (0..self.members.len()).find(|place| match self.members.get(*place) {
+            Some(member) => member.world.as_slice() == wanted,
+            None => false,
+        })
+    }
+
+    /// Adds a world that isn't there.
+    pub fn add(&mut self, member: Member) -> Result<(), NoMemory> {
+        self.members.push(member)?;
+        Ok(())
+    }
+}

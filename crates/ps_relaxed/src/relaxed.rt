@@ -1,0 +1,180 @@
+//! A problem, split for a float program.
+
+use crate::aim::Aim;
+use crate::float_goal::FloatGoal;
+use crate::goal::Goal;
+use crate::multipliers::Multipliers;
+use crate::row::{Certainty, Row};
+use crate::sorting::{Part, part_of};
+use crate::truth::is_given;
+use ps_problem::Problem;
+use std::alloc::{AllocError, Global};
+use std::num::nearest_i64_to_f64;
+
+/// The most size of a multiplier.
+const MOST_MULTIPLIER: i128 = 1 << 90;
+
+/// A problem, split for a float program: the rows, and the certainties. Bounds that every distribution
+/// meets are left out. Row 0 of the program is that of the evidence, and then these rows follow.
+#[derive(Drop)]
+pub struct Relaxed {
+    nodes: usize,
+    bounds: usize,
+    rows: Vec<Row>,
+    certainties: Vec<Certainty>,
+}
+
+impl Relaxed {
+    /// The split of a problem.
+    pub fn new(alloc: Global, problem: &Problem) -> Result<Relaxed, AllocError> {
+        let bounds = problem.bound_list();
+        let mut rows = Vec::new(alloc);
+        let mut certainties = Vec::new(alloc);
+        for (number, bound) in bounds.iter().enumerate() {
+            match part_of(number, bound) {
+                Part::Row(row) => rows.push(row)?,
+                Part::Certain(certainty) => certainties.push(certainty)?,
+                Part::Met => {}
+            }
+        }
+        Ok(Relaxed {
+            nodes: problem.formulas().nodes().len(),
+            bounds: bounds.len(),
+            rows,
+            certainties,
+        })
+    }
+
+    /// The number of nodes.
+    pub fn nodes(&self) -> usize {
+        self.nodes
+    }
+
+    /// The number of bounds.
+    pub fn bounds(&self) -> usize {
+        self.bounds
+    }
+
+    /// The rows.
+    pub fn rows(&self) -> &[Row] {
+        &self.rows
+    }
+
+    /// The certainties.
+    pub fn certainties(&self) -> &[Certainty] {
+        &self.certainties
+    }
+
+    /// Whether a world meets the certainties.
+    pub fn allows(&self, truth: &[bool]) -> bool {
+        self.certainties.iter().all(|c| c.is_met(truth))
+    }
+
+    /// The entry of a row of the program for a world, in whole numbers.
+    pub fn entry(&self, row: usize, given: Option<u32>, truth: &[bool]) -> i64 {
+        if row == 0 {
+            return if is_given(truth, given) { 1 } else { 0 };
+        }
+        match self.rows.get(row.wrapping_sub(1)) {
+            Some(row) => row.entry(truth),
+            None => 0,
+        }
+    }
+
+    /// The column of a world.
+    pub fn column(
+        &self,
+        alloc: Global,
+        given: Option<u32>,
+        truth: &[bool],
+    ) -> Result<Vec<f64>, AllocError> {
+        let mut column = Vec::new(alloc);
+        column.push(if is_given(truth, given) { 1.0 } else { 0.0 })?;
+        for row in &self.rows {
+            column.push(nearest_i64_to_f64(row.entry(truth)) / row.denominator())?;
+        }
+        Ok(column)
+    }
+
+    /// Writes what the rows' prices make of a world's gain for an aim.
+    pub fn write_gain(&self, aim: Aim, duals: &[f64], goal: &mut FloatGoal) {
+        goal.clear();
+        goal.add_given(aim.given(), duals.first().copied().unwrap_or(0.0));
+        match aim {
+            Aim::Consistent => {}
+            Aim::Least(query) => goal.add(query.both, -1.0),
+            Aim::Greatest(query) => goal.add(query.both, 1.0),
+        }
+        for (row, dual) in self.rows.iter().zip(duals.iter().skip(1)) {
+            let price = dual * nearest_i64_to_f64(row.sign());
+            if price != 0.0 {
+                goal.add(row.bound.both, price);
+                goal.add_given(row.bound.given, -price * row.value());
+            }
+        }
+    }
+
+    /// The combination of multipliers for an aim, without the certainties.
+    pub fn combination(
+        &self,
+        alloc: Global,
+        aim: Aim,
+        multipliers: &Multipliers,
+    ) -> Result<Goal, AllocError> {
+        let mut goal = Goal::new(alloc, self.nodes)?;
+        match aim {
+            Aim::Consistent => goal.add_given(None, multipliers.head),
+            Aim::Least(query) => {
+                goal.add_given(query.given, multipliers.head);
+                goal.add(query.both, multipliers.top.wrapping_neg());
+            }
+            Aim::Greatest(query) => {
+                goal.add_given(query.given, multipliers.head.wrapping_neg());
+                goal.add(query.both, multipliers.top);
+            }
+        }
+        for row in &self.rows {
+            let multiplier = multipliers.get(row.number);
+            if multiplier != 0 {
+                let (num, den) = (row.bound.num as i128, row.bound.den as i128);
+                goal.add(row.bound.both, multiplier.wrapping_mul(den));
+                let loss = multiplier.wrapping_mul(num);
+                goal.add_given(row.bound.given, loss.wrapping_neg());
+            }
+        }
+        Ok(goal)
+    }
+
+    /// Adds the certainties to a combination, each with this multiplier.
+    pub fn add_certainties(&self, goal: &mut Goal, multiplier: i128) {
+        for certainty in &self.certainties {
+            if certainty.is_true {
+                goal.add(certainty.both, multiplier);
+                goal.add_given(certainty.given, multiplier.wrapping_neg());
+            } else {
+                goal.add(certainty.both, multiplier.wrapping_neg());
+            }
+        }
+    }
+
+    /// Gives the certainties multipliers that outweigh the rest of a combination, so that it is below
+    /// 1 where one isn't met. Answers whether they are small.
+    pub fn outweigh(&self, goal: &mut Goal, multipliers: &mut Multipliers) -> bool {
+        let most = goal.greatest().max(0);
+        if most > MOST_MULTIPLIER {
+            return false;
+        }
+        self.add_certainties(goal, most);
+        for certainty in &self.certainties {
+            multipliers.set(
+                certainty.number,
+                if certainty.is_true {
+                    most
+                } else {
+                    most.wrapping_neg()
+                },
+            );
+        }
+        true
+    }
+}
