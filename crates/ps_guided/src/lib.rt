@@ -5,10 +5,9 @@
 mod answering;
 mod beside;
 mod found;
-mod guesser;
 #[cfg(test)]
 mod tests;
 
 pub use answering::answer;
-pub use guesser::{Guess, Guesser};
+pub use ps_guesser::{Guess, Guesser};
 pub use ps_query::Limits;

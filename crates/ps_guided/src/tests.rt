@@ -60,6 +60,10 @@ fn dual(alloc: Global, top: i128, head: i128, multiplier: i128) -> Result<Dual, 
 }
 
 impl Guesser for Fixed {
+    fn keep(&mut self, _problem: &Problem, _kept: &[bool]) -> Result<(), NoMemory> {
+        Ok(())
+    }
+
     fn model(&mut self, _problem: &Problem) -> Result<Option<Model>, NoMemory> {
         Ok(Some(third(self.alloc)?))
     }

@@ -16,6 +16,11 @@ pub struct Guess {
 
 /// What makes guesses. Nothing rests on them.
 pub trait Guesser {
+    /// From now on guesses are about the problem with the sentences alone that are kept, by a truth
+    /// value for each; a guessed dual has a multiplier for each of the problem's bounds all the same,
+    /// 0 at those that aren't kept. Before the first call each sentence is kept.
+    fn keep(&mut self, problem: &Problem, kept: &[bool]) -> Result<(), NoMemory>;
+
     /// A distribution that meets each bound, or none where it has no guess.
     fn model(&mut self, problem: &Problem) -> Result<Option<Model>, NoMemory>;
 
