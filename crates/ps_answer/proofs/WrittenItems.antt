@@ -1,5 +1,5 @@
--- The line that is written of an item within the limits says it.
-use Rattle.std.proofs.Common.{ℕ, ◌≤◌, ◌^◌, ℤ, true, false, List, [], ◌∷◌, ◌++◌, map, refl, arith, unsigned_abs, All, sym, append-nil}
+-- The line that is written of an item whose numbers are below 10^64 spells it; within the limits it says it.
+use Rattle.std.proofs.Common.{◌≡◌, ℕ, ◌<◌, ◌≤◌, ◌^◌, ℤ, true, false, List, [], ◌∷◌, ◌++◌, map, length, refl, arith, unsigned_abs, All, sym, append-nil}
 use Rattle.std.specs.Prelude.{codes}
 use Rattle.std.specs.List.{AllByRecursion}
 use Rattle.ps_steps.specs.Weights.{weighted}
@@ -17,98 +17,196 @@ use Rattle.ps_log.proofs.StepShapes.{first_in, rest_in}
 use Rattle.ps_answer.specs.declared.item.Ratio.{Ratio}
 use Rattle.ps_answer.specs.declared.item.LineItem.{LineItem}
 use Rattle.ps_answer.specs.declared.item.LineItem.TheVariants as line
-use Rattle.ps_answer.specs.Words.{Word, Letters, Number, Fraction, Column, Truths, SpellWords}
+use Rattle.ps_answer.specs.Words.{Word, Letters, Number, Fraction, Column, Truths, IsShortWord, SpellWords, joined}
 use Rattle.ps_log.specs.Spellings.{words_of}
 use Rattle.ps_log.specs.FirstLines.{IsOneLine}
 use Rattle.ps_io.specs.LineText.{lines_bytes}
 use Rattle.ps_answer.specs.declared.answer.Answer.{Answer}
 use Rattle.ps_answer.specs.Answers.{answer_items, answer_lines, IsAnswerCounted}
-use Rattle.ps_answer.specs.Faults.{AreLines, IsReport}
-use Rattle.ps_answer.specs.Items.{item_words, item_line, place_words, op_word, shown_word, count, IsProper, IsWithin, IsLine, IsPrintable, IsColWithin, IsShownWithin, IsPlaceWithin, IsRatioWithin}
+use Rattle.ps_answer.specs.Faults.{AreLines, AreSpelled, IsText, IsReport}
+use Rattle.ps_answer.specs.Items.{item_words, item_line, place_words, op_word, shown_word, count, HasShortNumbers, IsTold, IsProper, IsWithin, IsSpelled, IsLine, IsPrintable, IsColWithin, IsShownWithin, IsPlaceWithin, IsRatioWithin}
 use Rattle.ps_answer.specs.declared.limits.TheConstants.{MOST_OPERAND}
-use Rattle.ps_answer.proofs.Written.{IsWordSmall, written_both}
+use Rattle.ps_answer.proofs.Written.{IsWordSmall, no_space, written_both}
+use Rattle.ps_answer.proofs.Single.{one_answer}
 
-col_small : (c : Col) → IsColWithin c → IsWordSmall (Column c)
+col_small : (c : Col) → IsColWithin c → IsShortWord (Column c)
 col_small (col.Home i) h = omega (arith, h)
 col_small (col.World n) h = omega (arith, h.1)
 
-shown_small : (c : TableCol) → IsShownWithin c → IsWordSmall (shown_word c)
-shown_small shown.Right h = refl
+shown_small : (c : TableCol) → IsShownWithin c → IsShortWord (shown_word c)
+shown_small shown.Right h = tt
 shown_small (shown.Of c) h = col_small c h
 
-row_small : (i : ℕ) → i ≤ 100 → IsWordSmall (count i)
+row_small : (i : ℕ) → i ≤ 100 → IsShortWord (count i)
 row_small i h = omega (arith, h)
 
-op_small : (o : Op) → IsWordSmall (op_word o)
-op_small op.Add = refl
-op_small op.Sub = refl
-op_small op.Mul = refl
-op_small op.Div = refl
-op_small op.Lcm = refl
+op_small : (o : Op) → IsShortWord (op_word o)
+op_small op.Add = tt
+op_small op.Sub = tt
+op_small op.Mul = tt
+op_small op.Div = tt
+op_small op.Lcm = tt
 
-place_small : (p : Place) (more : List Word) → IsPlaceWithin p → AllByRecursion IsWordSmall more → AllByRecursion IsWordSmall (place_words p ++ more)
-place_small (place.Ratio i) more h m = (refl, (row_small i h, m))
-place_small (place.Scale j) more h m = (refl, (shown_small j h, m))
-place_small (place.Times i j) more h m = (refl, (row_small i h.0, (shown_small j h.1, m)))
-place_small (place.Minus i j) more h m = (refl, (row_small i h.0, (shown_small j h.1, m)))
-place_small (place.Cost j i) more h m = (refl, (col_small j h.0, (row_small i h.1, m)))
-place_small (place.Whole i) more h m = (refl, (row_small i h, m))
-place_small (place.Scaled i) more h m = (refl, (row_small i h, m))
-place_small (place.Weight i) more h m = (refl, (row_small i h, m))
-place_small (place.Weighed i) more h m = (refl, (row_small i h, m))
-place_small (place.Total i) more h m = (refl, (row_small i h, m))
-place_small (place.NewTimes i j) more h m = (refl, (row_small i h.0, (row_small j h.1, m)))
-place_small (place.NewPlus i j) more h m = (refl, (row_small i h.0, (row_small j h.1, m)))
+place_small : (p : Place) (more : List Word) → IsPlaceWithin p → AllByRecursion IsShortWord more → AllByRecursion IsShortWord (place_words p ++ more)
+place_small (place.Ratio i) more h m = (tt, (row_small i h, m))
+place_small (place.Scale j) more h m = (tt, (shown_small j h, m))
+place_small (place.Times i j) more h m = (tt, (row_small i h.0, (shown_small j h.1, m)))
+place_small (place.Minus i j) more h m = (tt, (row_small i h.0, (shown_small j h.1, m)))
+place_small (place.Cost j i) more h m = (tt, (col_small j h.0, (row_small i h.1, m)))
+place_small (place.Whole i) more h m = (tt, (row_small i h, m))
+place_small (place.Scaled i) more h m = (tt, (row_small i h, m))
+place_small (place.Weight i) more h m = (tt, (row_small i h, m))
+place_small (place.Weighed i) more h m = (tt, (row_small i h, m))
+place_small (place.Total i) more h m = (tt, (row_small i h, m))
+place_small (place.NewTimes i j) more h m = (tt, (row_small i h.0, (row_small j h.1, m)))
+place_small (place.NewPlus i j) more h m = (tt, (row_small i h.0, (row_small j h.1, m)))
 
-number_small : (z : ℤ) → IsPrintable z → IsWordSmall (Number z)
+number_small : (z : ℤ) → IsPrintable z → IsShortWord (Number z)
 number_small z h = omega (arith, h)
 
-up_to_small : (n limit : ℕ) → n ≤ limit → limit ≤ 2 ^ 127 → IsWordSmall (count n)
+up_to_small : (n limit : ℕ) → n ≤ limit → limit ≤ 2 ^ 127 → IsShortWord (count n)
 up_to_small n limit h l = omega (arith, h, l)
 
-ratio_small : (limit : ℕ) (q : Ratio) → limit ≤ 2 ^ 127 → IsRatioWithin limit q → IsWordSmall (Fraction q)
+ratio_small : (limit : ℕ) (q : Ratio) → limit ≤ 2 ^ 127 → IsRatioWithin limit q → IsShortWord (Fraction q)
 ratio_small limit q l h = (omega (arith, h.0, l), omega (arith, h.1, l))
 
-numbers_small : (zs : List ℤ) → All Small zs → AllByRecursion IsWordSmall (map Number zs)
+numbers_small : (zs : List ℤ) → All Small zs → AllByRecursion IsShortWord (map Number zs)
 numbers_small [] h = tt
 numbers_small (z ∷ zs) h = let f : unsigned_abs z ≤ 2 ^ 126 = first_in Small z zs h in (omega (arith, f), numbers_small zs (rest_in Small z zs h))
 
-rows_small : (zs : List ℤ) → All IsPrintable zs → AllByRecursion IsWordSmall (map Number zs)
+rows_small : (zs : List ℤ) → All IsPrintable zs → AllByRecursion IsShortWord (map Number zs)
 rows_small [] h = tt
 rows_small (z ∷ zs) h = (number_small z (first_in IsPrintable z zs h), rows_small zs (rest_in IsPrintable z zs h))
 
--- the words of the line that is written of an item within the limits, and that it is one line
-written_words : (i : LineItem) → IsProper i → IsWithin i → SpellWords (words_of (item_line i)) (item_words i) × IsOneLine (item_line i)
-written_words line.Report p w = written_both (codes "report") (count 1 ∷ []) (omega arith, refl) (omega arith, tt)
-written_words line.Consistent p w = written_both (codes "consistent") [] (omega arith, refl) tt
-written_words line.Inconsistent p w = written_both (codes "inconsistent") [] (omega arith, refl) tt
-written_words (line.OpenPivots n) p w = written_both (codes "open") (Letters (codes "pivots") ∷ count n ∷ []) (omega arith, refl) (refl, (up_to_small n 1000000 w (omega arith), tt))
-written_words (line.OpenConflicts n) p w = written_both (codes "open") (Letters (codes "conflicts") ∷ count n ∷ []) (omega arith, refl) (refl, (up_to_small n (2 ^ 40) w (omega arith), tt))
-written_words (line.OpenWide at o l r) p w = written_both (codes "open") (Letters (codes "wide") ∷ place_words at ++ op_word o ∷ Fraction l ∷ Fraction r ∷ []) (omega arith, refl) (refl, place_small at (op_word o ∷ Fraction l ∷ Fraction r ∷ []) w.0 (op_small o, (ratio_small MOST_OPERAND l (omega arith) w.1, (ratio_small MOST_OPERAND r (omega arith) w.2, tt))))
-written_words (line.ModelHead t n) p w = written_both (codes "model") (Number t ∷ count n ∷ []) (omega arith, refl) (number_small t w.0, (up_to_small n 101 w.1 (omega arith), tt))
-written_words (line.Entry t v) p w = written_both (codes "w") (Number t ∷ Truths v ∷ []) (omega arith, refl) (number_small t w.0, (tt, tt))
-written_words (line.DualHead t h n) p w = written_both (codes "dual") (Number t ∷ Number h ∷ count n ∷ []) (omega arith, refl) (number_small t w.0, (number_small h w.1, (up_to_small n (2 ^ 41) w.2 (omega arith), tt)))
-written_words (line.Rows rs) p w = written_both (codes "y") (map Number rs) (omega arith, refl) (rows_small rs w.0)
-written_words (line.StepLine s) p w = written_both (codes "s") (map Number (step_numbers s.id s.lits s.hints)) (omega arith, refl) (numbers_small (step_numbers s.id s.lits s.hints) (step_small s w))
-written_words (line.GoalLine g) p w = written_both (codes "g") (map Number (goal_numbers g.degree (weighted g.terms))) (omega arith, refl) (numbers_small (goal_numbers g.degree (weighted g.terms)) (goal_small g w))
-written_words (line.TraceHead n) p w = written_both (codes "t") (count n ∷ []) (omega arith, refl) (up_to_small n 2000001 w (omega arith), tt)
-written_words (line.PivotLine c n) p w = written_both (codes "p") (Column c ∷ count n ∷ []) (omega arith, refl) (col_small c w.0, (row_small n w.1, tt))
-written_words (line.PricedLine v) p w = written_both (codes "c") (Truths v ∷ []) (omega arith, refl) (tt, tt)
-written_words (line.Query n) p w = written_both (codes "query") (count n ∷ []) (omega arith, refl) (up_to_small n 16 w (omega arith), tt)
-written_words line.Bounds p w = written_both (codes "bounds") [] (omega arith, refl) tt
-written_words line.Impossible p w = written_both (codes "impossible") [] (omega arith, refl) tt
-written_words (line.Bound false q) p w = written_both (codes "lower") (Fraction q ∷ []) (omega arith, refl) (ratio_small (2 ^ 90) q (omega arith) w, tt)
-written_words (line.Bound true q) p w = written_both (codes "upper") (Fraction q ∷ []) (omega arith, refl) (ratio_small (2 ^ 90) q (omega arith) w, tt)
-written_words (line.OpenSide false) p w = written_both (codes "lower") [] (omega arith, refl) tt
-written_words (line.OpenSide true) p w = written_both (codes "upper") [] (omega arith, refl) tt
-written_words line.End p w = written_both (codes "end") [] (omega arith, refl) tt
+-- the numbers of a line within the limits are below 10^64
+pub short_within : (i : LineItem) → IsWithin i → HasShortNumbers i
+short_within line.Report w = (tt, (omega arith, tt))
+short_within line.Consistent w = (tt, tt)
+short_within line.Inconsistent w = (tt, tt)
+short_within (line.OpenPivots n) w = (tt, (tt, (up_to_small n 1000000 w (omega arith), tt)))
+short_within (line.OpenConflicts n) w = (tt, (tt, (up_to_small n (2 ^ 40) w (omega arith), tt)))
+short_within (line.OpenWide at o l r) w = (tt, (tt, place_small at (op_word o ∷ Fraction l ∷ Fraction r ∷ []) w.0 (op_small o, (ratio_small MOST_OPERAND l (omega arith) w.1, (ratio_small MOST_OPERAND r (omega arith) w.2, tt)))))
+short_within (line.ModelHead t n) w = (tt, (number_small t w.0, (up_to_small n 101 w.1 (omega arith), tt)))
+short_within (line.Entry t v) w = (tt, (number_small t w.0, (tt, tt)))
+short_within (line.DualHead t h n) w = (tt, (number_small t w.0, (number_small h w.1, (up_to_small n (2 ^ 41) w.2 (omega arith), tt))))
+short_within (line.Rows rs) w = (tt, (rows_small rs w.0))
+short_within (line.StepLine s) w = (tt, (numbers_small (step_numbers s.id s.lits s.hints) (step_small s w)))
+short_within (line.GoalLine g) w = (tt, (numbers_small (goal_numbers g.degree (weighted g.terms)) (goal_small g w)))
+short_within (line.TraceHead n) w = (tt, (up_to_small n 2000001 w (omega arith), tt))
+short_within (line.PivotLine c n) w = (tt, (col_small c w.0, (row_small n w.1, tt)))
+short_within (line.PricedLine v) w = (tt, (tt, tt))
+short_within (line.Query n) w = (tt, (up_to_small n 16 w (omega arith), tt))
+short_within line.Bounds w = (tt, tt)
+short_within line.Impossible w = (tt, tt)
+short_within (line.Bound false q) w = (tt, (ratio_small (2 ^ 90) q (omega arith) w, tt))
+short_within (line.Bound true q) w = (tt, (ratio_small (2 ^ 90) q (omega arith) w, tt))
+short_within (line.OpenSide false) w = (tt, tt)
+short_within (line.OpenSide true) w = (tt, tt)
+short_within line.End w = (tt, tt)
+
+-- ---- letters
+-- letters have no space and no line feed
+abbrev IsClean : Word → Type 0
+IsClean (Letters l) = no_space l ≡ true
+IsClean other = Unit {0}
+
+small_word : (w : Word) → IsClean w → IsShortWord w → IsWordSmall w
+small_word (Letters l) c h = c
+small_word (Number z) c h = h
+small_word (Fraction q) c h = h
+small_word (Column (col.Home i)) c h = h
+small_word (Column (col.World n)) c h = h
+small_word (Truths w) c h = tt
+
+small_words : (ws : List Word) → AllByRecursion IsClean ws → AllByRecursion IsShortWord ws → AllByRecursion IsWordSmall ws
+small_words [] c h = tt
+small_words (w ∷ ws) c h = (small_word w c.0 h.0, small_words ws c.1 h.1)
+
+op_clean : (o : Op) → IsClean (op_word o)
+op_clean op.Add = refl
+op_clean op.Sub = refl
+op_clean op.Mul = refl
+op_clean op.Div = refl
+op_clean op.Lcm = refl
+
+shown_clean : (c : TableCol) → IsClean (shown_word c)
+shown_clean shown.Right = refl
+shown_clean (shown.Of c) = tt
+
+place_clean : (p : Place) (more : List Word) → AllByRecursion IsClean more → AllByRecursion IsClean (place_words p ++ more)
+place_clean (place.Ratio i) more m = (refl, (tt, m))
+place_clean (place.Scale j) more m = (refl, (shown_clean j, m))
+place_clean (place.Times i j) more m = (refl, (tt, (shown_clean j, m)))
+place_clean (place.Minus i j) more m = (refl, (tt, (shown_clean j, m)))
+place_clean (place.Cost j i) more m = (refl, (tt, (tt, m)))
+place_clean (place.Whole i) more m = (refl, (tt, m))
+place_clean (place.Scaled i) more m = (refl, (tt, m))
+place_clean (place.Weight i) more m = (refl, (tt, m))
+place_clean (place.Weighed i) more m = (refl, (tt, m))
+place_clean (place.Total i) more m = (refl, (tt, m))
+place_clean (place.NewTimes i j) more m = (refl, (tt, (tt, m)))
+place_clean (place.NewPlus i j) more m = (refl, (tt, (tt, m)))
+
+numbers_clean : (zs : List ℤ) → AllByRecursion IsClean (map Number zs)
+numbers_clean [] = tt
+numbers_clean (z ∷ zs) = (tt, numbers_clean zs)
+
+both : (l : List ℕ) (ws : List Word) → (0 < length l) × (no_space l ≡ true) → AllByRecursion IsClean ws → AllByRecursion IsShortWord ws
+    → SpellWords (words_of (joined (Letters l ∷ ws))) (Letters l ∷ ws) × IsOneLine (joined (Letters l ∷ ws))
+both l ws n c h = written_both l ws n (small_words ws c h)
+
+-- the words of the line that is written of an item with such numbers, and that it is one line
+short_words : (i : LineItem) → HasShortNumbers i → SpellWords (words_of (item_line i)) (item_words i) × IsOneLine (item_line i)
+short_words line.Report h = both (codes "report") (count 1 ∷ []) (omega arith, refl) (tt, tt) h.1
+short_words line.Consistent h = both (codes "consistent") [] (omega arith, refl) tt h.1
+short_words line.Inconsistent h = both (codes "inconsistent") [] (omega arith, refl) tt h.1
+short_words (line.OpenPivots n) h = both (codes "open") (Letters (codes "pivots") ∷ count n ∷ []) (omega arith, refl) (refl, (tt, tt)) h.1
+short_words (line.OpenConflicts n) h = both (codes "open") (Letters (codes "conflicts") ∷ count n ∷ []) (omega arith, refl) (refl, (tt, tt)) h.1
+short_words (line.OpenWide at o l r) h = both (codes "open") (Letters (codes "wide") ∷ place_words at ++ op_word o ∷ Fraction l ∷ Fraction r ∷ []) (omega arith, refl) (refl, place_clean at (op_word o ∷ Fraction l ∷ Fraction r ∷ []) (op_clean o, (tt, (tt, tt)))) h.1
+short_words (line.ModelHead t n) h = both (codes "model") (Number t ∷ count n ∷ []) (omega arith, refl) (tt, (tt, tt)) h.1
+short_words (line.Entry t v) h = both (codes "w") (Number t ∷ Truths v ∷ []) (omega arith, refl) (tt, (tt, tt)) h.1
+short_words (line.DualHead t h n) s = both (codes "dual") (Number t ∷ Number h ∷ count n ∷ []) (omega arith, refl) (tt, (tt, (tt, tt))) s.1
+short_words (line.Rows rs) h = both (codes "y") (map Number rs) (omega arith, refl) (numbers_clean rs) h.1
+short_words (line.StepLine s) h = both (codes "s") (map Number (step_numbers s.id s.lits s.hints)) (omega arith, refl) (numbers_clean (step_numbers s.id s.lits s.hints)) h.1
+short_words (line.GoalLine g) h = both (codes "g") (map Number (goal_numbers g.degree (weighted g.terms))) (omega arith, refl) (numbers_clean (goal_numbers g.degree (weighted g.terms))) h.1
+short_words (line.TraceHead n) h = both (codes "t") (count n ∷ []) (omega arith, refl) (tt, tt) h.1
+short_words (line.PivotLine c n) h = both (codes "p") (Column c ∷ count n ∷ []) (omega arith, refl) (tt, (tt, tt)) h.1
+short_words (line.PricedLine v) h = both (codes "c") (Truths v ∷ []) (omega arith, refl) (tt, tt) h.1
+short_words (line.Query n) h = both (codes "query") (count n ∷ []) (omega arith, refl) (tt, tt) h.1
+short_words line.Bounds h = both (codes "bounds") [] (omega arith, refl) tt h.1
+short_words line.Impossible h = both (codes "impossible") [] (omega arith, refl) tt h.1
+short_words (line.Bound false q) h = both (codes "lower") (Fraction q ∷ []) (omega arith, refl) (tt, tt) h.1
+short_words (line.Bound true q) h = both (codes "upper") (Fraction q ∷ []) (omega arith, refl) (tt, tt) h.1
+short_words (line.OpenSide false) h = both (codes "lower") [] (omega arith, refl) tt h.1
+short_words (line.OpenSide true) h = both (codes "upper") [] (omega arith, refl) tt h.1
+short_words line.End h = both (codes "end") [] (omega arith, refl) tt h.1
+
+-- it spells the item
+pub short_item : (i : LineItem) → IsTold i → HasShortNumbers i → IsSpelled (item_line i) i
+short_item i t h = record { words = (short_words i h).0; told = t }
+
+spell_all : (is : List LineItem) → AllByRecursion (λ i. IsTold i × HasShortNumbers i) is → AreSpelled (map item_line is) is
+spell_all [] h = tt
+spell_all (i ∷ is) h = (short_item i h.0.0 h.0.1, spell_all is h.1)
+
+lines_all : (is : List LineItem) → AllByRecursion (λ i. IsTold i × HasShortNumbers i) is → AllByRecursion IsOneLine (map item_line is)
+lines_all [] h = tt
+lines_all (i ∷ is) h = ((short_words i h.0.1).1, lines_all is h.1)
+
+-- the lines that are written of an answer with such numbers are its text, and that of no other
+pub short_text : (a : Answer) → IsAnswerCounted a → AllByRecursion (λ i. IsTold i × HasShortNumbers i) (answer_items a)
+    → IsText (lines_bytes false (answer_lines a)) a × ((b : Answer) → IsText (lines_bytes false (answer_lines a)) b → b ≡ a)
+short_text a c h =
+    let text : IsText (lines_bytes false (answer_lines a)) a =
+    record { lines = answer_lines a; are = refl; whole = lines_all (answer_items a) h; spell = spell_all (answer_items a) h; counted = c } in
+    (text, λ b other. one_answer (lines_bytes false (answer_lines a)) b a other text)
 
 -- the line that is written of an item within the limits says it
 pub written_item : (i : LineItem) → IsProper i → IsWithin i → IsLine (item_line i) i
-written_item i p w = record { words = (written_words i p w).0; proper = p }
+written_item i p w = record { words = (short_words i (short_within i w)).0; proper = p }
 
 pub written_one_line : (i : LineItem) → IsProper i → IsWithin i → IsOneLine (item_line i)
-written_one_line i p w = (written_words i p w).1
+written_one_line i p w = (short_words i (short_within i w)).1
 
 whole_all : (is : List LineItem) → AllByRecursion (λ i. IsProper i × IsWithin i) is → AllByRecursion IsOneLine (map item_line is)
 whole_all [] h = tt

@@ -1,6 +1,7 @@
 -- What the lines of a report say, and their words.
 use Rattle.std.specs.Prelude.{ℕ, ◌≡◌, ◌≤◌, ℤ, pos, ◌≤ℤ◌, Bool, true, List, [], ◌∷◌, ◌++◌, map, All, length, unsigned_abs, codes, ⊤}
 use Rattle.std.specs.Int.{IsGcd}
+use Rattle.std.specs.List.{AllByRecursion}
 use Rattle.ps_steps.specs.Weights.{weighted, are_rising}
 use Rattle.ps_formula.specs.declared.limits.TheConstants.{MOST_ATOMS}
 use Rattle.ps_frac.specs.declared.wide.Op.{Op}
@@ -20,7 +21,7 @@ use Rattle.ps_log.specs.declared.limits.TheConstants.{MOST_CONFLICTS}
 use Rattle.ps_answer.specs.declared.item.Ratio.{Ratio}
 use Rattle.ps_answer.specs.declared.item.LineItem.{LineItem}
 use Rattle.ps_answer.specs.declared.item.LineItem.TheVariants.{Report, Consistent, Inconsistent, OpenPivots, OpenConflicts, OpenWide, ModelHead, Entry, DualHead, Rows, StepLine, GoalLine, TraceHead, PivotLine, PricedLine, Query, Bounds, Impossible, Bound, OpenSide, End}
-use Rattle.ps_answer.specs.Words.{Word, Letters, Number, Fraction, Column, Truths, side_letters, SpellWords, joined}
+use Rattle.ps_answer.specs.Words.{Word, Letters, Number, Fraction, Column, Truths, side_letters, IsShortWord, SpellWords, joined}
 
 -- a whole number of at least 0 as a word
 abbrev pub count : ℕ → Word
@@ -117,6 +118,10 @@ pub record IsSpelled (line : List ℕ) (i : LineItem) : Type 0 where
 pub record IsLine (line : List ℕ) (i : LineItem) : Type 0 where
   pub words : SpellWords (words_of line) (item_words i)
   pub proper : IsProper i
+
+-- each number of a line is below 10^64
+abbrev pub HasShortNumbers : LineItem → Type 0
+HasShortNumbers i = AllByRecursion IsShortWord (item_words i)
 
 -- small enough to be printed
 abbrev pub IsPrintable : ℤ → Type 0

@@ -5,7 +5,7 @@ use Rattle.ps_io.specs.LineText.{lines_bytes}
 use Rattle.ps_answer.specs.declared.answer.Answer.{Answer}
 use Rattle.ps_answer.specs.declared.item.LineItem.{LineItem}
 use Rattle.ps_answer.specs.declared.error.LineKind.{LineKind}
-use Rattle.ps_answer.specs.Items.{IsLine, IsSpelled, IsProper, IsWithin, item_line}
+use Rattle.ps_answer.specs.Items.{IsLine, IsSpelled, IsTold, IsProper, IsWithin, HasShortNumbers, item_line}
 use Rattle.ps_answer.specs.Answers.{answer_items, answer_lines, IsAnswerCounted}
 use Rattle.ps_answer.specs.ExpectedParts.{at_start, due_behind}
 use Rattle.ps_answer.specs.Faults.{BeginWith, IsText, IsReport, IsFirstFault}
@@ -46,3 +46,12 @@ WrittenLinesSayTheirItem = (i : LineItem) → IsProper i → IsWithin i → IsLi
 abbrev pub WrittenLinesAreReports : Type 0
 WrittenLinesAreReports = (a : Answer) → IsAnswerCounted a → AllByRecursion (λ i. IsProper i × IsWithin i) (answer_items a)
     → IsReport (lines_bytes false (answer_lines a)) a
+
+-- what is written of a line spells it, where each number is below 10^64 and its numbers tell a step or a goal
+abbrev pub ShortLinesSpellTheirItem : Type 0
+ShortLinesSpellTheirItem = (i : LineItem) → IsTold i → HasShortNumbers i → IsSpelled (item_line i) i
+
+-- the lines that are written of an answer of such lines are its text, and that of no other answer
+abbrev pub ShortLinesAreTexts : Type 0
+ShortLinesAreTexts = (a : Answer) → IsAnswerCounted a → AllByRecursion (λ i. IsTold i × HasShortNumbers i) (answer_items a)
+    → IsText (lines_bytes false (answer_lines a)) a × ((b : Answer) → IsText (lines_bytes false (answer_lines a)) b → b ≡ a)

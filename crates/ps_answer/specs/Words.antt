@@ -1,5 +1,5 @@
 -- The words of a line.
-use Rattle.std.specs.Prelude.{ℕ, ◌≡◌, ℤ, Bool, true, false, List, [], ◌∷◌, ◌++◌, map, fold, codes, decimal, ⊤}
+use Rattle.std.specs.Prelude.{ℕ, ◌≡◌, ◌<◌, ◌^◌, ℤ, Bool, true, false, List, [], ◌∷◌, ◌++◌, map, fold, codes, decimal, unsigned_abs, ⊤}
 use Rattle.std.specs.Fmt.{signed_decimal}
 use Rattle.ps_io.specs.LineText.{with_word}
 use Rattle.ps_meaning.specs.Formula.{World}
@@ -76,3 +76,12 @@ SpellWords [] [] = ⊤
 SpellWords [] (w ∷ ws) = ⊥
 SpellWords (b ∷ bs) [] = ⊥
 SpellWords (b ∷ bs) (w ∷ ws) = SpellsWord b w × SpellWords bs ws
+
+-- each number of a word is below 10^64, and so its decimal is written whole
+abbrev pub IsShortWord : Word → Type 0
+IsShortWord (Letters letters) = ⊤
+IsShortWord (Number n) = unsigned_abs n < 10 ^ 64
+IsShortWord (Fraction q) = (unsigned_abs q.over < 10 ^ 64) × (q.under < 10 ^ 64)
+IsShortWord (Column (Home i)) = i < 10 ^ 64
+IsShortWord (Column (WorldCol n)) = n < 10 ^ 64
+IsShortWord (Truths w) = ⊤

@@ -3,6 +3,7 @@ ghost use Rattle.ps_answer.specs.Laws.{LinesSayOneThing, TextsDetermineAnswers, 
 ghost use Rattle.ps_answer.specs.Laws.{AnswersAreDue, DueLinesAreReports};
 ghost use Rattle.ps_answer.specs.Laws.{ReportsHaveNoFault, FaultsAreSingle};
 ghost use Rattle.ps_answer.specs.Laws.{WrittenLinesSayTheirItem, WrittenLinesAreReports};
+ghost use Rattle.ps_answer.specs.Laws.{ShortLinesSpellTheirItem, ShortLinesAreTexts};
 
 /// A line says one thing, whatever the size of its numbers. An answer is determined by its text,
 /// where each part that is open for conflicts holds as many steps as their limit.
@@ -32,4 +33,11 @@ pub fn faults_are_single()
 pub fn written_lines_are_lines()
     ensures line { WrittenLinesSayTheirItem }
     ensures report { WrittenLinesAreReports }
+{}
+
+/// What is written of a line whose numbers are below 10^64 spells it, also past the limits. So the
+/// lines that are written of an answer with such numbers are its text, which determines it.
+pub fn short_lines_are_texts()
+    ensures line { ShortLinesSpellTheirItem }
+    ensures answer { ShortLinesAreTexts }
 {}

@@ -16,7 +16,8 @@ pub use answer::{
 pub use error::{LineKind, ReportError};
 pub use item::{LineItem, Ratio};
 pub use laws::{
-    due_lines_are_answers, faults_are_single, texts_determine_answers, written_lines_are_lines,
+    due_lines_are_answers, faults_are_single, short_lines_are_texts, texts_determine_answers,
+    written_lines_are_lines,
 };
 pub use limits::{
     MOST_DUAL_STEPS, MOST_ENTRIES, MOST_EVENTS, MOST_MULTIPLIERS, MOST_OPERAND, MOST_PIVOTS,
