@@ -4,8 +4,8 @@ ghost use Rattle.ps_generation.specs.Phases.{AreLimits};
 ghost use Rattle.ps_query.specs.Solutions.{AreShortLines};
 ghost use Rattle.answer_trials.specs.declared.answering.TheConstants.{MOST_PROBLEM};
 
-use crate::guessing::{Guessing, Work};
 use ps_answer::{Answer, MOST_PIVOTS, QueryAnswer, SideAnswer, Verdict};
+use ps_engine::Engine;
 use ps_guided::Limits;
 use ps_io::{Lines, NoMemory, Sink, Source, read_all};
 use ps_read::read_whole;
@@ -17,6 +17,15 @@ const MOST_PROBLEM: u64 = 1 << 20;
 
 /// How many clauses a search learns at most.
 const CONFLICTS: u64 = 20_000;
+
+/// What the engine did.
+#[derive(Clone, Copy, Debug)]
+pub struct Work {
+    /// The pivots that it made.
+    pub pivots: u64,
+    /// The worlds that it met.
+    pub worlds: usize,
+}
 
 /// An answer, and the engine's work.
 #[derive(Drop)]
@@ -94,12 +103,13 @@ fn answer_of(alloc: Global, pivots: u64, bytes: &[u8]) -> Result<Option<Answered
         return Ok(None);
     };
     let limits = limits_of(pivots);
-    let mut guesser = Guessing::new(alloc, &problem)?;
-    let answer = ps_guided::answer(alloc, &problem, limits, &mut guesser)?;
-    Ok(Some(Answered {
-        answer,
-        work: guesser.work(),
-    }))
+    let mut engine = Engine::new(alloc, &problem)?;
+    let answer = ps_guided::answer(alloc, &problem, limits, &mut engine)?;
+    let work = Work {
+        pivots: engine.pivots(),
+        worlds: engine.worlds(),
+    };
+    Ok(Some(Answered { answer, work }))
 }
 
 /// Reads a problem, and writes its report.

@@ -3,10 +3,8 @@
 #![tactic(auto)]
 
 mod answering;
-mod guessing;
 
-use crate::answering::{Ended, answer_to};
-use crate::guessing::Work;
+use crate::answering::{Ended, Work, answer_to};
 use ps_io::{StdSink, StdSource};
 use std::env;
 use std::process::ExitCode;

@@ -84,7 +84,7 @@ fn basic_member<'p>(pool: &'p WorldPool, basis: &[Column], place: usize) -> Opti
 impl Engine {
     /// An engine for a problem.
     pub fn new(alloc: Global, problem: &Problem) -> Result<Engine, NoMemory> {
-        let relaxed = Relaxed::new(alloc, problem)?;
+        let relaxed = Relaxed::new(alloc, problem, &[])?;
         Ok(Engine {
             alloc,
             pricer: FloatPricer::new(alloc, problem, &relaxed)?,
@@ -101,6 +101,23 @@ impl Engine {
             draw: Draw::new(SEED),
             relaxed,
         })
+    }
+
+    // Goes over to the sentences that are kept, with the worlds that meet their certainties.
+    pub(crate) fn go_over(&mut self, problem: &Problem, kept: &[bool]) -> Result<(), NoMemory> {
+        self.relaxed = Relaxed::new(self.alloc, problem, kept)?;
+        self.pricer.keep(problem, &self.relaxed)?;
+        self.simplex = program(self.alloc, &self.relaxed)?;
+        self.waiting = Vec::new(self.alloc);
+        self.forced = None;
+        self.given = None;
+        self.aim = None;
+        self.stage = Stage::Fresh;
+        self.mended = 0;
+        self.roundings = 0;
+        let members = std::mem::replace(&mut self.pool, WorldPool::new(self.alloc)).into_members();
+        self.take_all(members)?;
+        Ok(())
     }
 
     // Takes a world in, and answers whether it is new and meets the certainties.

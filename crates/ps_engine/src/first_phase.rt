@@ -29,6 +29,9 @@ impl Engine {
 
     // Starts from a world that meets the certainties; an answer where that isn't possible.
     fn start(&mut self, problem: &Problem) -> Result<Option<Stage>, NoMemory> {
+        if !self.pool.members().is_empty() {
+            return Ok(self.start_at_first());
+        }
         let mut goal = Goal::new(self.alloc, self.relaxed.nodes())?;
         goal.add_given(None, 1);
         self.relaxed.add_certainties(&mut goal, 1);
@@ -37,11 +40,17 @@ impl Engine {
             Priced::Spent => Ok(Some(Stage::Unknown)),
             Priced::Found(members) => {
                 self.take_all(members)?;
-                if self.simplex.start(0) {
-                    return Ok(None);
-                }
-                Ok(Some(Stage::Unknown))
+                Ok(self.start_at_first())
             }
+        }
+    }
+
+    // Starts from the first world that is known.
+    fn start_at_first(&mut self) -> Option<Stage> {
+        if self.simplex.start(0) {
+            None
+        } else {
+            Some(Stage::Unknown)
         }
     }
 
@@ -71,10 +80,10 @@ impl Engine {
         }
     }
 
-    /// The next guess of what shows that the bounds contradict one another, where they were found to. No
-    /// world's gain is above half of the distance, so that roundings do.
-    pub fn refutation(&mut self) -> Result<Option<Dual>, NoMemory> {
-        let distance = match self.stage {
+    // The next guess of what shows that the bounds contradict one another, where they were found to. No
+    // world's gain is above half of the distance, so that roundings do.
+    pub(crate) fn refutation(&mut self, stage: Stage) -> Result<Option<Dual>, NoMemory> {
+        let distance = match stage {
             Stage::Excluded => 0.0,
             Stage::Inconsistent(distance) => distance,
             Stage::Fresh | Stage::Feasible | Stage::Unknown => return Ok(None),

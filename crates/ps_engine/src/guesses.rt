@@ -4,27 +4,51 @@ use crate::engine::{Engine, Stage};
 use crate::side::Turn;
 use crate::whole::{Values, model_of};
 use ps_answer::{Dual, Model};
+use ps_claims::ClaimKind;
 use ps_formula::World;
+use ps_guesser::{Guess, Guesser};
 use ps_io::NoMemory;
-use ps_problem::Problem;
+use ps_problem::{Problem, Query};
 use ps_relaxed::Aim;
 
-/// A guess of a bound.
-#[derive(Drop)]
-pub struct GuessedBound {
-    /// A distribution that reaches it.
-    pub model: Model,
-    /// The multipliers that show that it is a bound, without steps.
-    pub dual: Dual,
-}
-
 impl Engine {
-    /// A distribution that meets each bound, where one is found.
-    pub fn model(&mut self, problem: &Problem) -> Result<Option<Model>, NoMemory> {
+    // Finds whether the bounds can be met, where that isn't known.
+    fn settle(&mut self, problem: &Problem) -> Result<Stage, NoMemory> {
         if self.stage == Stage::Fresh {
             self.stage = self.first_phase(problem)?;
         }
-        if self.stage != Stage::Feasible {
+        Ok(self.stage)
+    }
+
+    /// How many pivots were made since the engine was made, or last told which sentences are kept.
+    pub fn pivots(&self) -> u64 {
+        self.simplex.pivots()
+    }
+
+    /// How many worlds it knows.
+    pub fn worlds(&self) -> usize {
+        self.pool.members().len()
+    }
+}
+
+// What a guess of a bound aims at.
+fn aim_of(kind: ClaimKind, query: Query) -> Option<Aim> {
+    match kind {
+        ClaimKind::Nothing => None,
+        ClaimKind::Lower => Some(Aim::Least(query)),
+        ClaimKind::Upper => Some(Aim::Greatest(query)),
+    }
+}
+
+impl Guesser for Engine {
+    /// From now on guesses are about the sentences that are kept. The worlds that were met and meet
+    /// their certainties stay known.
+    fn keep(&mut self, problem: &Problem, kept: &[bool]) -> Result<(), NoMemory> {
+        self.go_over(problem, kept)
+    }
+
+    fn model(&mut self, problem: &Problem) -> Result<Option<Model>, NoMemory> {
+        if self.settle(problem)? != Stage::Feasible {
             return Ok(None);
         }
         let Some(system) = self.system()? else {
@@ -39,17 +63,31 @@ impl Engine {
         }
     }
 
-    /// What shows that evidence is impossible, where its greatest probability is found to be 0.
-    pub fn nothing(&mut self, problem: &Problem, given: u32) -> Result<Option<Dual>, NoMemory> {
-        if self.stage != Stage::Feasible {
-            return Ok(None);
+    fn nothing(
+        &mut self,
+        problem: &Problem,
+        query: Option<Query>,
+    ) -> Result<Option<Dual>, NoMemory> {
+        let stage = self.settle(problem)?;
+        let Some(query) = query else {
+            return self.refutation(stage);
+        };
+        match query.given {
+            Some(given) if stage == Stage::Feasible => self.impossible(problem, given),
+            _ => Ok(None),
         }
-        self.impossible(problem, given)
     }
 
-    /// The least or greatest probability of a query, where it is found.
-    pub fn bound(&mut self, problem: &Problem, aim: Aim) -> Result<Option<GuessedBound>, NoMemory> {
-        if self.stage != Stage::Feasible || !self.begin(problem, aim)? {
+    fn bound(
+        &mut self,
+        problem: &Problem,
+        kind: ClaimKind,
+        query: Query,
+    ) -> Result<Option<Guess>, NoMemory> {
+        let Some(aim) = aim_of(kind, query) else {
+            return Ok(None);
+        };
+        if self.settle(problem)? != Stage::Feasible || !self.begin(problem, aim)? {
             return Ok(None);
         }
         match self.turn(problem, aim, false)? {
@@ -58,18 +96,7 @@ impl Engine {
         }
     }
 
-    /// How many pivots were made.
-    pub fn pivots(&self) -> u64 {
-        self.simplex.pivots()
-    }
-
-    /// How many worlds were met.
-    pub fn worlds(&self) -> usize {
-        self.pool.members().len()
-    }
-
-    /// Is told a world in which the last guess is wrong.
-    pub fn add(&mut self, world: World) -> Result<(), NoMemory> {
+    fn add(&mut self, world: World) -> Result<(), NoMemory> {
         self.waiting.push(world)?;
         Ok(())
     }

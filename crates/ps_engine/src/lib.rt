@@ -14,5 +14,4 @@ mod tests;
 mod whole;
 
 pub use engine::Engine;
-pub use guesses::GuessedBound;
-pub use ps_relaxed::Aim;
+pub use ps_guesser::{Guess, Guesser};

@@ -2,9 +2,9 @@
 
 use crate::basis_system::BasisSystem;
 use crate::engine::Engine;
-use crate::guesses::GuessedBound;
 use crate::limits::{ENOUGH_EVIDENCE, LEAST_GAIN, MOST_REPAIRS, MOST_ROUNDS, TRIVIAL};
 use crate::whole::{Prices, Values, WholeModel, extreme, model_of, multipliers_of};
+use ps_guesser::Guess;
 use ps_io::NoMemory;
 use ps_problem::Problem;
 use ps_relaxed::{Aim, Goal, Member, Multipliers};
@@ -16,7 +16,7 @@ pub(crate) enum Turn {
     /// One more is to be made.
     Again,
     /// The guess.
-    Guess(GuessedBound),
+    Guess(Guess),
     /// The objective is below what was asked for.
     Enough,
     /// There is no guess.
@@ -149,7 +149,7 @@ impl Engine {
         }
         match place_against(self.pool.members(), &goal) {
             Some(place) => Ok(self.forcing(Column::Added(place))),
-            None => Ok(Turn::Guess(GuessedBound {
+            None => Ok(Turn::Guess(Guess {
                 model: whole.model,
                 dual: multipliers.into_dual(self.alloc),
             })),

@@ -1,7 +1,8 @@
 //! Bounds that are known. Engines guess them; here they are only compared.
 ghost use Rattle.std.specs.Prelude.{◌+◌, ◌<◌, ◌^◌, length};
 
-use crate::{Aim, Engine, GuessedBound};
+use crate::{Engine, Guess, Guesser};
+use ps_claims::ClaimKind;
 use ps_io::NoMemory;
 use ps_problem::Problem;
 use ps_read::read_whole;
@@ -25,10 +26,10 @@ fn problem(alloc: Global, text: &[u8]) -> Option<Problem>
 }
 
 // Whether a guess is of this value.
-fn is(guess: Option<GuessedBound>, over: i128, under: i128) -> bool {
+fn is(guess: Option<Guess>, over: i128, under: i128) -> bool {
     match guess {
         None => false,
-        Some(GuessedBound { model: _, dual }) => {
+        Some(Guess { model: _, dual }) => {
             0 < dual.top && dual.head.wrapping_mul(under) == dual.top.wrapping_mul(over)
         }
     }
@@ -44,11 +45,9 @@ fn are(
     let mut engine = Engine::new(alloc, problem)?;
     engine.model(problem)?;
     for query in problem.queries().as_slice() {
-        if let Some(given) = query.given {
-            engine.nothing(problem, given)?;
-        }
-        let least = engine.bound(problem, Aim::Least(*query))?;
-        let greatest = engine.bound(problem, Aim::Greatest(*query))?;
+        engine.nothing(problem, Some(*query))?;
+        let least = engine.bound(problem, ClaimKind::Lower, *query)?;
+        let greatest = engine.bound(problem, ClaimKind::Upper, *query)?;
         return Ok(is(least, low[0], low[1]) && is(greatest, high[0], high[1]));
     }
     Ok(false)

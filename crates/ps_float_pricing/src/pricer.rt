@@ -91,6 +91,13 @@ impl FloatPricer {
         })
     }
 
+    /// Goes over to the certainties of another split of the problem.
+    pub fn keep(&mut self, problem: &Problem, relaxed: &Relaxed) -> Result<(), NoMemory> {
+        self.climbing = Climbing::new(self.alloc, problem, relaxed)?;
+        self.left = ALL_CONFLICTS;
+        Ok(())
+    }
+
     /// A world in which the goal is at least 1.
     pub fn first(&mut self, problem: &Problem, goal: &Goal) -> Result<Priced, NoMemory> {
         match self.seek(problem, goal, 1, true)? {
@@ -157,7 +164,7 @@ impl FloatPricer {
                     is_spent = true;
                 }
                 Ended::Found(world) => {
-                    self.keep(problem, gain, above, world, &mut found)?;
+                    self.keep_world(problem, gain, above, world, &mut found)?;
                     least = raised(greatest(&goals.plain.goal, &found, least));
                     is_spent = false;
                 }
@@ -167,7 +174,7 @@ impl FloatPricer {
     }
 
     // Keeps a world, and the one that a local search from it leads to.
-    fn keep(
+    fn keep_world(
         &mut self,
         problem: &Problem,
         gain: &FloatGoal,

@@ -39,6 +39,11 @@ impl WorldPool {
         }
     }
 
+    /// The worlds, taken out.
+    pub fn into_members(self) -> Vec<Member> {
+        self.members
+    }
+
     /// The worlds.
     pub fn members(&self) -> &[Member] {
         &self.members

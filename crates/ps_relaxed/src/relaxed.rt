@@ -7,7 +7,7 @@ use crate::multipliers::Multipliers;
 use crate::row::{Certainty, Row};
 use crate::sorting::{Part, part_of};
 use crate::truth::is_given;
-use ps_problem::Problem;
+use ps_problem::{Bound, Problem};
 use std::alloc::{AllocError, Global};
 use std::num::nearest_i64_to_f64;
 
@@ -15,7 +15,8 @@ use std::num::nearest_i64_to_f64;
 const MOST_MULTIPLIER: i128 = 1 << 90;
 
 /// A problem, split for a float program: the rows, and the certainties. Bounds that every distribution
-/// meets are left out. Row 0 of the program is that of the evidence, and then these rows follow.
+/// meets are left out, and those of sentences that aren't kept. Row 0 of the program is that of the
+/// evidence, and then these rows follow.
 #[derive(Drop)]
 pub struct Relaxed {
     nodes: usize,
@@ -25,24 +26,38 @@ pub struct Relaxed {
 }
 
 impl Relaxed {
-    /// The split of a problem.
-    pub fn new(alloc: Global, problem: &Problem) -> Result<Relaxed, AllocError> {
-        let bounds = problem.bound_list();
-        let mut rows = Vec::new(alloc);
-        let mut certainties = Vec::new(alloc);
-        for (number, bound) in bounds.iter().enumerate() {
-            match part_of(number, bound) {
-                Part::Row(row) => rows.push(row)?,
-                Part::Certain(certainty) => certainties.push(certainty)?,
-                Part::Met => {}
+    /// The split of the sentences of a problem that are kept, by a truth value for each; those past the
+    /// end of the list are kept. A bound has its number in the problem.
+    pub fn new(alloc: Global, problem: &Problem, kept: &[bool]) -> Result<Relaxed, AllocError> {
+        let mut relaxed = Relaxed {
+            nodes: problem.formulas().nodes().len(),
+            bounds: 0,
+            rows: Vec::new(alloc),
+            certainties: Vec::new(alloc),
+        };
+        for (place, sentence) in problem.sentences().as_slice().iter().enumerate() {
+            let is_kept = kept.get(place).copied().unwrap_or(true);
+            relaxed.add(&sentence.first, is_kept)?;
+            if let Some(second) = &sentence.second {
+                relaxed.add(second, is_kept)?;
             }
         }
-        Ok(Relaxed {
-            nodes: problem.formulas().nodes().len(),
-            bounds: bounds.len(),
-            rows,
-            certainties,
-        })
+        Ok(relaxed)
+    }
+
+    // Takes in the next bound, where it is kept.
+    fn add(&mut self, bound: &Bound, is_kept: bool) -> Result<(), AllocError> {
+        let number = self.bounds;
+        self.bounds = number.wrapping_add(1);
+        if !is_kept {
+            return Ok(());
+        }
+        match part_of(number, bound) {
+            Part::Row(row) => self.rows.push(row)?,
+            Part::Certain(certainty) => self.certainties.push(certainty)?,
+            Part::Met => {}
+        }
+        Ok(())
     }
 
     /// The number of nodes.
