@@ -1,2 +1,3 @@
 mod Against
+mod Kept
 mod Logged

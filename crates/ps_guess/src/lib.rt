@@ -2,6 +2,7 @@
 #![tactic(auto)]
 
 mod bound;
+mod kept;
 mod limits;
 mod model;
 mod nothing;

@@ -1,14 +1,16 @@
 //! Guesses of distributions.
 ghost use Rattle.std.specs.Prelude.{IfOk};
+ghost use Rattle.ps_runs.specs.Kept.{IsChoice, kept_parts};
 ghost use Rattle.ps_guess.specs.Trials.{IsFoundModel, IsTrialOf};
 
+use crate::kept::kept_bounds;
 use crate::limits::is_small_model;
 use crate::trial::Trial;
 use crate::trials::Trials;
 use ps_answer::Model;
 use ps_claims::Reason;
 use ps_io::NoMemory;
-use ps_valid::check_model;
+use ps_valid::{check_model, check_model_over};
 use std::alloc::Global;
 
 impl<'p> Trials<'p> {
@@ -20,6 +22,29 @@ impl<'p> Trials<'p> {
             return Ok(Trial::Wrong(Reason::TotalWrong));
         }
         match check_model(alloc, self.problem(), &model)? {
+            Some(reason) => Ok(Trial::Wrong(reason)),
+            None => Ok(Trial::Shown(model)),
+        }
+    }
+
+    /// Whether the guess is a distribution that meets each bound of the kept sentences, by a truth
+    /// value for each sentence, of at most one world more than these have bounds.
+    #[tactic(auto, using(crate::proofs::Kept::kept_sound, crate::proofs::Kept::kept_few, crate::proofs::Kept::kept_model))]
+    pub fn model_of(
+        &self,
+        alloc: Global,
+        kept: &[bool],
+        model: Model,
+    ) -> Result<Trial<Model>, NoMemory>
+        requires kept { IsChoice kept.now self.now }
+        ensures { IfOk result (IsTrialOf (IsFoundModel (kept_parts kept.now self.now))) }
+    {
+        if !is_small_model(&model) {
+            return Ok(Trial::Wrong(Reason::TotalWrong));
+        }
+        let problem = self.problem();
+        let bounds = kept_bounds(alloc, problem, kept)?;
+        match check_model_over(alloc, problem, bounds.as_slice(), &model)? {
             Some(reason) => Ok(Trial::Wrong(reason)),
             None => Ok(Trial::Shown(model)),
         }

@@ -1,15 +1,16 @@
 -- What is answered of an answer: that it is accepted, or that it is refused for the first reason against its first claim at fault.
-use Rattle.std.specs.Prelude.{◌≡◌, Option, MatchOption, Result, Ok, Err, length}
+use Rattle.std.specs.Prelude.{◌≡◌, List, Option, MatchOption, Result, Ok, Err, length}
 use Rattle.ps_rational.specs.Rational.{Rational}
 use Rattle.ps_problem.specs.declared.query.Query.{Query}
-use Rattle.ps_problem.specs.Problems.{Parts}
+use Rattle.ps_problem.specs.declared.bound.Bound.{Bound}
+use Rattle.ps_problem.specs.Problems.{Parts, bounds_in}
 use Rattle.ps_answer.specs.declared.answer.Model.{Model}
 use Rattle.ps_answer.specs.declared.answer.Dual.{Dual}
 use Rattle.ps_answer.specs.declared.answer.Answer.{Answer}
 use Rattle.ps_certificate.specs.Certificates.{model_of, dual_of}
 use Rattle.ps_claims.specs.declared.claim_kind.ClaimKind.{ClaimKind}
 use Rattle.ps_claims.specs.declared.reason.Reason.{Reason}
-use Rattle.ps_claims.specs.Claims.{Assertion, Bounded, IsValidClaim, IsFirstIn, IsRefused, claims_of, unfinished_of}
+use Rattle.ps_claims.specs.Claims.{Assertion, Bounded, Modelled, IsValidClaim, IsFirstIn, IsRefused, claims_of, unfinished_of}
 use Rattle.ps_claims.specs.Validity.{IsValid}
 use Rattle.ps_valid.specs.declared.refusal.Accepted.{Accepted}
 use Rattle.ps_valid.specs.declared.refusal.CheckError.{CheckError}
@@ -19,6 +20,16 @@ use Rattle.ps_valid.specs.Answers.{answer_of}
 -- the reason is the first against the claim, and there is none where it is valid
 abbrev pub FindsReason : Parts → Assertion → Option Reason → Type 0
 FindsReason p c found = MatchOption found (IsValidClaim p c) (IsFirstIn p c)
+
+-- a problem has the atoms and nodes of another, and these bounds
+pub record HasBounds (p : Parts) (bounds : List Bound) (q : Parts) : Type 0 where
+  pub names : q.names ≡ p.names
+  pub nodes : q.nodes ≡ p.nodes
+  pub bounds_are : bounds_in q.sentences ≡ bounds
+
+-- the reason is the first against the model of each problem that has these bounds over the same atoms and nodes, and there is none where it is valid
+abbrev pub FindsReasonOver : Parts → List Bound → Model → Option Reason → Type 0
+FindsReasonOver p bounds m found = (q : Parts) → HasBounds p bounds q → FindsReason q (Modelled (model_of m)) found
 
 -- the reason is the first against the value as a query's bound on this side, by a model and a dual, and there is none where it is tight
 abbrev pub FindsAgainstBound : Parts → ClaimKind → Query → Rational → Model → Dual → Option Reason → Type 0

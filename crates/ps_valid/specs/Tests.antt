@@ -1,11 +1,12 @@
 -- What the tests of a model find.
-use Rattle.std.specs.Prelude.{ℕ, ℤ, ◌≡◌, List, All, Option, MatchOption, length}
+use Rattle.std.specs.Prelude.{ℕ, ℤ, ◌≡◌, List, All, Option, MatchOption, length, map}
 use Rattle.ps_meaning.specs.declared.side.Side.TheVariants.{Exactly}
 use Rattle.ps_meaning.specs.Distribution.{Entry, weight}
 use Rattle.ps_meaning.specs.Bounds.{MeetsBound, MeetsAll}
+use Rattle.ps_formula.specs.declared.node.Node.{Node}
 use Rattle.ps_problem.specs.declared.bound.Bound.{Bound}
 use Rattle.ps_problem.specs.declared.query.Query.{Query}
-use Rattle.ps_problem.specs.Problems.{Parts, bounds_of, given_at}
+use Rattle.ps_problem.specs.Problems.{Parts, bound_of, bounds_of, given_at}
 use Rattle.ps_rational.specs.Rational.{Rational}
 use Rattle.ps_entailment.specs.Queries.{bound_on}
 use Rattle.ps_entailment.specs.Answers.{Model}
@@ -13,6 +14,7 @@ use Rattle.ps_claims.specs.Validity.{query_of}
 use Rattle.ps_claims.specs.declared.reason.Reason.{Reason}
 use Rattle.ps_claims.specs.declared.reason.Reason.TheVariants.{TooManyWorlds, WeightZero, WorldTwice, TotalWrong, BoundMissed}
 use Rattle.ps_claims.specs.Claims.{AreProperEntries, IsWeightless, IsRepeated, IsFirstWithout, MissesFirst, AreFew, HasTotal, IsSound}
+use Rattle.ps_valid.specs.Judged.{HasBounds}
 use Rattle.ps_valid.specs.Rows.{MeetsAt}
 
 -- each world has a truth value for each atom
@@ -37,9 +39,9 @@ FindsFault d found = MatchOption found (AreProperEntries d) (IsFirstAmong d)
 abbrev pub FindsMissedAt : List Entry → List Bound → Option ℕ → Type 0
 FindsMissedAt d bounds found = MatchOption found (All (MeetsAt d) bounds) (IsFirstWithout (MeetsAt d) bounds)
 
--- the bound is the problem's first that the entries miss, and there is none where they meet all
-abbrev pub FindsMissed : Parts → List Entry → Option ℕ → Type 0
-FindsMissed p d found = MatchOption found (MeetsAll (bounds_of p) d) (MissesFirst (bounds_of p) d)
+-- the bound over these nodes is the first that the entries miss, and there is none where they meet all
+abbrev pub FindsMissed : List Node → List Bound → List Entry → Option ℕ → Type 0
+FindsMissed ns bounds d found = MatchOption found (MeetsAll (map (bound_of ns) bounds) d) (MissesFirst (map (bound_of ns) bounds) d)
 
 -- the reason is the first against such a model
 abbrev pub IsFirstAgainst : Parts → Model → Reason → Type 0
@@ -53,6 +55,10 @@ IsFirstAgainst p m other = ⊥
 -- the reason is the first against such a model, and there is none where nothing is wrong with it
 abbrev pub FindsAgainst : Parts → Model → Option Reason → Type 0
 FindsAgainst p m found = MatchOption found (IsSound p m) (IsFirstAgainst p m)
+
+-- the reason is the first against such a model of each problem that has these bounds over the same atoms and nodes
+abbrev pub FindsAgainstOver : Parts → List Bound → Model → Option Reason → Type 0
+FindsAgainstOver p bounds m found = (q : Parts) → HasBounds p bounds q → FindsAgainst q m found
 
 -- the weight that a model gives a query's evidence
 abbrev pub evidence_weight : Parts → Query → Model → ℤ

@@ -18,7 +18,7 @@ mod weighing;
 pub use bounded::check_bound;
 pub use checking::check;
 pub use laws::{refusals_are_single, report_lines_are_short, reports_are_small};
-pub use modelled::check_model;
+pub use modelled::{check_model, check_model_over};
 pub use ps_claims::{Claim, Reason};
 pub use refusal::{Accepted, CheckError, Refusal};
 pub use refuting::check_dual;

@@ -3,6 +3,7 @@ ghost use Rattle.std.specs.Prelude.{◌≡◌, ◌≤◌, ◌*◌, ◌↔◌, po
 ghost use Rattle.std.specs.Prelude.{IfSome, IsTrue};
 ghost use Rattle.ps_meaning.specs.Distribution.{weight, total};
 ghost use Rattle.ps_meaning.specs.Bounds.{Compares};
+ghost use Rattle.ps_problem.specs.Problems.{AreBounds};
 ghost use Rattle.ps_problem.specs.declared.limits.TheConstants.{MOST_BOUNDS, MOST_DENOMINATOR};
 ghost use Rattle.ps_claims.specs.Claims.{HasTotal};
 ghost use Rattle.ps_certificate.specs.Certificates.{entries, model_of};
@@ -83,13 +84,20 @@ fn first_missed(rows: &[Row], sum: i128, bounds: &[Bound]) -> Option<u32>
     None
 }
 
-/// The number of a problem's first bound that a model doesn't meet; the rows have the truth of each
-/// node in its worlds.
-pub fn missed_bound(problem: &Problem, model: &Model, rows: &[Row]) -> Option<u32>
+/// The number of the first bound over a problem's nodes that a model doesn't meet; the rows have the
+/// truth of each node in its worlds.
+pub fn missed_bound(
+    problem: &Problem,
+    bounds: &[Bound],
+    model: &Model,
+    rows: &[Row],
+) -> Option<u32>
+    requires bounds { AreBounds problem.now.nodes bounds.now }
+    requires few { length bounds.now ≤ MOST_BOUNDS }
     requires table { IsTableOf problem.now.nodes (entries model.now.worlds) rows.now }
     requires small { IsSmallModel model.now }
     requires total { HasTotal (model_of model.now) }
-    ensures { FindsMissed problem.now (entries model.now.worlds) result }
+    ensures { FindsMissed problem.now.nodes bounds.now (entries model.now.worlds) result }
 {
-    first_missed(rows, model.total, problem.bound_list())
+    first_missed(rows, model.total, bounds)
 }

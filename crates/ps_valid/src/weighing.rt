@@ -1,7 +1,8 @@
 //! The entries of a model: their shape, number, weights and total, and that no world stands twice.
-ghost use Rattle.std.specs.Prelude.{◌≡◌, ◌≢◌, ◌↔◌, Any, IsTrue, IsFalse, length};
+ghost use Rattle.std.specs.Prelude.{◌≡◌, ◌≢◌, ◌≤◌, ◌<◌, ◌+◌, ◌↔◌, Any, IsTrue, IsFalse, length};
 ghost use Rattle.ps_meaning.specs.Distribution.{total};
-ghost use Rattle.ps_claims.specs.Claims.{AreFew, HasTotal};
+ghost use Rattle.ps_problem.specs.declared.limits.TheConstants.{MOST_BOUNDS};
+ghost use Rattle.ps_claims.specs.Claims.{HasTotal};
 ghost use Rattle.ps_certificate.specs.Certificates.{entries, model_of};
 ghost use Rattle.ps_valid.specs.Limits.{AreSmall, IsSmallModel};
 ghost use Rattle.ps_valid.specs.Tests.{FindsFault, HasAtoms};
@@ -9,7 +10,7 @@ ghost use Rattle.ps_valid.specs.Tests.{FindsFault, HasAtoms};
 use ps_answer::{Model, Weighted};
 use ps_claims::Reason;
 use ps_formula::World;
-use ps_problem::Problem;
+use ps_problem::{Bound, Problem};
 
 fn have_wrong_shape(worlds: &[Weighted], atoms: u16) -> bool
     ensures { IsTrue result ↔ Any (λ w. length w.world ≢ atoms) worlds.now }
@@ -26,11 +27,11 @@ pub fn has_wrong_shape(problem: &Problem, model: &Model) -> bool
 }
 
 /// Whether there are more worlds than bounds and one.
-pub fn has_too_many(problem: &Problem, model: &Model) -> bool
-    ensures many { IsTrue result → ¬ AreFew problem.now (model_of model.now) }
-    ensures few { IsFalse result → AreFew problem.now (model_of model.now) }
+pub fn has_too_many(bounds: &[Bound], model: &Model) -> bool
+    requires few { length bounds.now ≤ MOST_BOUNDS }
+    ensures { IsTrue result ↔ (length bounds.now + 1 < length model.now.worlds) }
 {
-    model.worlds.len() > problem.bounds() as usize + 1
+    model.worlds.len() > bounds.len() + 1
 }
 
 fn same(a: &World, b: &World) -> bool
