@@ -86,12 +86,7 @@ fn first_missed(rows: &[Row], sum: i128, bounds: &[Bound]) -> Option<u32>
 
 /// The number of the first bound over a problem's nodes that a model doesn't meet; the rows have the
 /// truth of each node in its worlds.
-pub fn missed_bound(
-    problem: &Problem,
-    bounds: &[Bound],
-    model: &Model,
-    rows: &[Row],
-) -> Option<u32>
+pub fn missed_bound(problem: &Problem, bounds: &[Bound], model: &Model, rows: &[Row]) -> Option<u32>
     requires bounds { AreBounds problem.now.nodes bounds.now }
     requires few { length bounds.now ≤ MOST_BOUNDS }
     requires table { IsTableOf problem.now.nodes (entries model.now.worlds) rows.now }
