@@ -11,6 +11,10 @@ Adds old new text = new ≡ old ++ text
 abbrev pub atom_name : ℕ → List ℕ
 atom_name i = codes "x" ++ decimal i
 
+-- that an atom implies another
+abbrev pub arrow_text : ℕ → ℕ → List ℕ
+arrow_text i j = atom_name i ++ (codes " -> " ++ atom_name j)
+
 -- the line of an item
 abbrev pub line_of : Item → List ℕ
 line_of i = item_text (canonical_item i)

@@ -2,7 +2,7 @@
 ghost use Rattle.std.specs.Prelude.{◌≡◌, ◌<◌, ◌≤◌, IfOk, OnOk, decimal};
 ghost use Rattle.ps_make.specs.declared.made.TheConstants.{MOST_LINKS};
 ghost use Rattle.ps_make.specs.Chain.{link, asked_of, made_text};
-ghost use Rattle.ps_make.specs.Lines.{Adds, atom_name, line_of};
+ghost use Rattle.ps_make.specs.Lines.{Adds, atom_name, arrow_text, line_of};
 
 use ps_io::NoMemory;
 use std::alloc::Global;
@@ -33,15 +33,22 @@ fn name(out: &mut Vec<u8>, atom: u32) -> Result<(), NoMemory>
     append(out, digits.format(atom).as_bytes())
 }
 
+// Writes that an atom implies another.
+fn implication(out: &mut Vec<u8>, from: u32, to: u32) -> Result<(), NoMemory>
+    ensures { OnOk result (Adds out.old.items out.new.items (arrow_text from to)) }
+{
+    name(out, from)?;
+    append(out, b" -> ")?;
+    name(out, to)
+}
+
 // Writes the line that says that an atom almost surely implies the next.
 fn write_link(out: &mut Vec<u8>, atom: u32) -> Result<(), NoMemory>
     requires { atom < MOST_LINKS }
     ensures { OnOk result (Adds out.old.items out.new.items (line_of (link atom))) }
 {
     append(out, b"P(")?;
-    name(out, atom)?;
-    append(out, b" -> ")?;
-    name(out, atom + 1)?;
+    implication(out, atom, atom + 1)?;
     append(out, b") >= 99/100;\n")
 }
 

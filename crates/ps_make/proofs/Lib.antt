@@ -1,0 +1,4 @@
+pub mod Laid
+pub mod Few
+pub mod Lawful
+pub mod Read
