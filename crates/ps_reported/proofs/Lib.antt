@@ -8,6 +8,7 @@ pub mod Models
 pub mod Duals
 pub mod Places
 pub mod ShortPlaces
+pub mod ShortNumbers
 pub mod Causes
 pub mod Traces
 pub mod Sides

@@ -1,5 +1,5 @@
 -- The lines of what a run answers.
-use Rattle.std.proofs.Common.{◌≡◌, ℕ, suc, ◌+◌, ◌<◌, ◌≤◌, List, [], ◌∷◌, ◌++◌, length, map, sum, All, inl, inr, refl, subst, arith}
+use Rattle.std.proofs.Common.{◌≡◌, ℕ, suc, ◌+◌, ◌<◌, ◌≤◌, false, List, [], ◌∷◌, ◌++◌, length, map, sum, All, inl, inr, refl, subst, arith}
 use Rattle.std.specs.List.{AllByRecursion, AllZip}
 use Rattle.std.proofs.lemmas.List.Elements.{All-head, All-tail}
 use Rattle.std.proofs.lemmas.List.Sums.{sum_by-cons}
@@ -11,11 +11,14 @@ use Rattle.ps_answer.specs.declared.answer.Verdict.{Verdict}
 use Rattle.ps_answer.specs.declared.answer.Verdict.TheVariants.{Consistent, Inconsistent, Open}
 use Rattle.ps_answer.specs.declared.answer.QueryPart.{QueryPart}
 use Rattle.ps_answer.specs.declared.answer.Answer.{Answer}
-use Rattle.ps_answer.specs.Items.{item_line}
+use Rattle.ps_answer.specs.Items.{IsTold, HasShortNumbers, item_line}
+use Rattle.ps_answer.proofs.WrittenItems.{short_within, short_text}
+use Rattle.ps_answer.specs.Faults.{IsText}
+use Rattle.ps_io.specs.LineText.{lines_bytes}
 use Rattle.ps_answer.specs.declared.limits.TheConstants.{MOST_OPERAND, MOST_PIVOTS, MOST_QUERIES, MOST_WORLD}
 use Rattle.ps_table.specs.declared.limits.TheConstants.{MOST_ROWS}
 use Rattle.ps_io.specs.declared.limits.TheConstants.{LONGEST_LINE}
-use Rattle.ps_answer.specs.Answers.{ratio_of, verdict_items, trace_items, query_items, part_items, answer_items}
+use Rattle.ps_answer.specs.Answers.{ratio_of, verdict_items, trace_items, query_items, part_items, answer_items, answer_lines}
 use Rattle.ps_claims.specs.Claims.{open_in_part, unfinished_of}
 use Rattle.ps_claims.specs.Validity.{IsValidPart}
 use Rattle.ps_entailment.specs.Answers.{asked_under}
@@ -29,8 +32,10 @@ use Rattle.ps_reported.proofs.All.{both, by_recursion}
 use Rattle.ps_reported.proofs.Models.{IsFit}
 use Rattle.ps_reported.proofs.Places.{place_more, place_within}
 use Rattle.ps_reported.proofs.ShortPlaces.{wide_short}
+use Rattle.ps_reported.proofs.ShortNumbers.{told_of, wide_numbers}
 use Rattle.ps_reported.proofs.Causes.{AreLimits, AreLines, operand_proper, operand_within}
 use Rattle.ps_reported.proofs.Sides.{verdict_fit, query_fit}
+use Rattle.ps_reported.proofs.CountedCauses.{settled_counted}
 
 HasItsNodes : Parts → Query → Type 0
 HasItsNodes p q = HasNodes p.nodes q.formula q.given q.both
@@ -121,3 +126,25 @@ module _ (p : Parts) (pivots conflicts : ℕ) (a : Answer) (h : IsAnswered p piv
 
   pub all_short : AllByRecursion IsShort (answer_items a)
   all_short = answer_fit p pivots conflicts limits_are IsShort (Unit {0}) any_open a h (λ k. tt)
+
+  -- also past the limits
+  abbrev IsSpellable : LineItem → Type 0
+  IsSpellable i = IsTold i × HasShortNumbers i
+
+  open_spellable : AreLines pivots IsSpellable (Unit {0})
+  open_spellable = record {
+    fit = λ i k. (told_of i k.0, short_within i k.1);
+    wide = λ _ at under printed.
+        let most = h.few_pivots in (
+          tt,
+          wide_numbers MOST_ROWS (MOST_WORLD + 1) at.place at.op (ratio_of at.left) (ratio_of at.right) (omega arith) (omega arith)
+              (place_more MOST_ROWS MOST_ROWS (pivots + 2) (MOST_WORLD + 1) at.place (omega arith) (omega (arith, most)) under) (operand_within at.left printed.left) (operand_within at.right printed.right),
+        );
+  }
+
+  pub all_spellable : AllByRecursion (λ i. IsTold i × HasShortNumbers i) (answer_items a)
+  all_spellable = answer_fit p pivots conflicts limits_are IsSpellable (Unit {0}) open_spellable a h (λ k. tt)
+
+  -- so what is written is the answer's text, and that of no other
+  pub written_text : IsText (lines_bytes false (answer_lines a)) a × ((b : Answer) → IsText (lines_bytes false (answer_lines a)) b → b ≡ a)
+  written_text = short_text a (settled_counted p pivots conflicts a h.settled) all_spellable

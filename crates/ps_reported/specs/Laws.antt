@@ -9,7 +9,7 @@ use Rattle.ps_log.specs.declared.limits.TheConstants.{MOST_CONFLICTS}
 use Rattle.ps_answer.specs.declared.answer.Answer.{Answer}
 use Rattle.ps_answer.specs.Items.{IsProper, IsWithin, item_line}
 use Rattle.ps_answer.specs.Answers.{answer_items, answer_lines}
-use Rattle.ps_answer.specs.Faults.{IsReport}
+use Rattle.ps_answer.specs.Faults.{IsText, IsReport}
 use Rattle.ps_claims.specs.Claims.{unfinished_of}
 use Rattle.ps_claims.specs.Validity.{IsValid}
 use Rattle.ps_valid.specs.Answers.{answer_of}
@@ -47,3 +47,8 @@ AnswersAreShort = (p : Parts) (pivots conflicts : ℕ) (a : Answer) → IsAnswer
 abbrev pub AnswersAreReports : Type 0
 AnswersAreReports = (p : Parts) (pivots conflicts : ℕ) (a : Answer) → IsAnswered p pivots conflicts a → NamesFewWorlds pivots a
     → IsReport (lines_bytes false (answer_lines a)) a
+
+-- whatever the limits, the lines of an answer, as they are written, are its text, and that of no other answer
+abbrev pub AnswersAreTexts : Type 0
+AnswersAreTexts = (p : Parts) (pivots conflicts : ℕ) (a : Answer) → IsAnswered p pivots conflicts a
+    → IsText (lines_bytes false (answer_lines a)) a × ((b : Answer) → IsText (lines_bytes false (answer_lines a)) b → b ≡ a)

@@ -1,6 +1,6 @@
 use Rattle.ps_answer.proofs.WrittenItems.{written_report}
 use Rattle.ps_reported.proofs.CountedCauses.{settled_counted}
-use Rattle.ps_reported.proofs.Reports.{all_within, all_short}
+use Rattle.ps_reported.proofs.Reports.{all_within, all_short, written_text}
 use Rattle.ps_reported.proofs.laws.answers_are_reported.Goals as goal
 
 pub returns : goal.returns
@@ -8,4 +8,5 @@ returns c = record {
   within = all_within;
   short = all_short;
   reports = λ p pivots conflicts a h names. written_report a (settled_counted p pivots conflicts a h.settled) (all_within p pivots conflicts a h names);
+  texts = written_text;
 }
