@@ -1,4 +1,4 @@
-//! A problem of any size: a chain of atoms, each of which almost surely implies the next.
+//! Problems of a chosen size: chains of atoms, each of which almost surely implies the next.
 #![tactic(auto)]
 
 mod laws;
