@@ -2,6 +2,7 @@
 
 use crate::basis_system::BasisSystem;
 use crate::limits::{BASIC_STARTS, MOST_MENDED, MOST_PIVOTS, MOST_REPAIRS, SEED};
+use crate::tolerances::Tolerances;
 use ps_climb::{Draw, drawn_world};
 use ps_float_pricing::{FloatPricer, Priced};
 use ps_formula::World;
@@ -31,6 +32,7 @@ pub(crate) enum Stage {
 #[derive(Drop)]
 pub struct Engine {
     pub(crate) alloc: Global,
+    pub(crate) tolerances: Tolerances,
     pub(crate) relaxed: Relaxed,
     pub(crate) pricer: FloatPricer,
     pub(crate) simplex: Simplex,
@@ -84,9 +86,19 @@ fn basic_member<'p>(pool: &'p WorldPool, basis: &[Column], place: usize) -> Opti
 impl Engine {
     /// An engine for a problem.
     pub fn new(alloc: Global, problem: &Problem) -> Result<Engine, NoMemory> {
+        Engine::with_tolerances(alloc, problem, Tolerances::usual())
+    }
+
+    /// The same with these tolerances.
+    pub fn with_tolerances(
+        alloc: Global,
+        problem: &Problem,
+        tolerances: Tolerances,
+    ) -> Result<Engine, NoMemory> {
         let relaxed = Relaxed::new(alloc, problem, &[])?;
         Ok(Engine {
             alloc,
+            tolerances,
             pricer: FloatPricer::new(alloc, problem, &relaxed)?,
             simplex: program(alloc, &relaxed)?,
             pool: WorldPool::new(alloc),

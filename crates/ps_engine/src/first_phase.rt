@@ -1,9 +1,7 @@
 //! The first phase: whether the bounds can be met.
 
 use crate::engine::{Engine, Stage};
-use crate::limits::{
-    FEASIBLE, LARGEST_ROUNDED, MOST_REPAIRS, MOST_ROUNDINGS, MOST_ROUNDS, NEAR_FEASIBLE,
-};
+use crate::limits::{LARGEST_ROUNDED, MOST_REPAIRS, MOST_ROUNDINGS, MOST_ROUNDS};
 use ps_answer::Dual;
 use ps_float_pricing::Priced;
 use ps_io::NoMemory;
@@ -59,7 +57,7 @@ impl Engine {
         if !self.optimise() && !self.may_mend() {
             return Ok(Some(Stage::Unknown));
         }
-        if self.simplex.objective() < NEAR_FEASIBLE {
+        if self.simplex.objective() < self.tolerances.near_feasible {
             if self.simplex.clean(MOST_REPAIRS) != Ending::Optimal {
                 self.simplex.perturb();
                 return Ok(if self.may_mend() {
@@ -68,7 +66,7 @@ impl Engine {
                     Some(Stage::Unknown)
                 });
             }
-            if self.simplex.objective() < FEASIBLE {
+            if self.simplex.objective() < self.tolerances.feasible {
                 return Ok(Some(Stage::Feasible));
             }
         }

@@ -1,6 +1,8 @@
 //! The guesses of an engine.
 
+use crate::basis_system::BasisSystem;
 use crate::engine::{Engine, Stage};
+use crate::limits::MOST_SHRINKS;
 use crate::side::Turn;
 use crate::whole::{Values, model_of};
 use ps_answer::{Dual, Model};
@@ -8,6 +10,7 @@ use ps_claims::ClaimKind;
 use ps_formula::World;
 use ps_guesser::{Guess, Guesser};
 use ps_io::NoMemory;
+use ps_lifting::Solution;
 use ps_problem::{Problem, Query};
 use ps_relaxed::Aim;
 
@@ -18,6 +21,14 @@ impl Engine {
             self.stage = self.first_phase(problem)?;
         }
         Ok(self.stage)
+    }
+
+    // The distribution of a basis.
+    fn meeting(&self, system: &BasisSystem, values: &Solution) -> Result<Option<Model>, NoMemory> {
+        match model_of(self.alloc, &self.pool, Aim::Consistent, system, values)? {
+            Values::Negative => Ok(None),
+            Values::Model(whole) => Ok(Some(whole.model)),
+        }
     }
 
     /// How many pivots were made since the engine was made, or last told which sentences are kept.
@@ -51,16 +62,18 @@ impl Guesser for Engine {
         if self.settle(problem)? != Stage::Feasible {
             return Ok(None);
         }
-        let Some(system) = self.system()? else {
-            return Ok(None);
-        };
-        let Some(values) = system.values()? else {
-            return Ok(None);
-        };
-        match model_of(self.alloc, &self.pool, Aim::Consistent, &system, &values)? {
-            Values::Negative => Ok(None),
-            Values::Model(whole) => Ok(Some(whole.model)),
+        for _ in 0..MOST_SHRINKS {
+            let Some(system) = self.system()? else {
+                return Ok(None);
+            };
+            if let Some(values) = system.values()? {
+                return self.meeting(&system, &values);
+            }
+            if !self.shrink(problem, Aim::Consistent)? {
+                return Ok(None);
+            }
         }
+        Ok(None)
     }
 
     fn nothing(

@@ -8,10 +8,13 @@ mod evidence;
 mod first_phase;
 mod guesses;
 mod limits;
+mod shrinking;
 mod side;
 #[cfg(test)]
 mod tests;
+mod tolerances;
 mod whole;
 
 pub use engine::Engine;
 pub use ps_guesser::{Guess, Guesser};
+pub use tolerances::Tolerances;

@@ -1,4 +1,4 @@
-//! Limits and tolerances of the engine.
+//! Limits of the engine.
 
 /// How many pivots one minimisation makes at most.
 pub(crate) const MOST_PIVOTS: u64 = 20_000;
@@ -11,18 +11,6 @@ pub(crate) const MOST_ROUNDS: u32 = 3_000;
 
 /// How many times a guess is mended at most.
 pub(crate) const MOST_MENDED: u32 = 30;
-
-/// A world whose gain is above this improves.
-pub(crate) const LEAST_GAIN: f64 = 1e-8;
-
-/// Where the first phase ends so near to 0, its values are looked at again.
-pub(crate) const NEAR_FEASIBLE: f64 = 1e-5;
-
-/// Where the first phase ends so near to 0, the bounds are met.
-pub(crate) const FEASIBLE: f64 = 1e-8;
-
-/// An objective nearer to its least possible value is taken for that.
-pub(crate) const TRIVIAL: f64 = 1e-7;
 
 /// Evidence of so much probability is possible, and serves as the first row.
 pub(crate) const ENOUGH_EVIDENCE: f64 = 0.01;
@@ -38,3 +26,21 @@ pub(crate) const BASIC_STARTS: u32 = 4;
 
 /// The seed of what is drawn.
 pub(crate) const SEED: u64 = 99;
+
+/// How often the numbers of a vertex are made smaller at most.
+pub(crate) const MOST_SHRINKS: u32 = 60;
+
+/// How many pivots within a face are made at most before whole numbers are tried.
+pub(crate) const MOST_FACE_PIVOTS: u32 = 20;
+
+/// How many worlds beside basic ones are taken in at most, where a face offers no pivot.
+pub(crate) const MOST_NEIGHBOURS: usize = 200;
+
+/// The least entry that blocks a column within a face.
+pub(crate) const LEAST_BLOCKING: f64 = 1e-7;
+
+/// The least entry of a pivot within a face.
+pub(crate) const SMALLEST_PIVOT: f64 = 0.02;
+
+/// By so much a step within a face may be too long.
+pub(crate) const SHORTER: f64 = 1e-13;

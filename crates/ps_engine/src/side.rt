@@ -2,7 +2,7 @@
 
 use crate::basis_system::BasisSystem;
 use crate::engine::Engine;
-use crate::limits::{ENOUGH_EVIDENCE, LEAST_GAIN, MOST_REPAIRS, MOST_ROUNDS, TRIVIAL};
+use crate::limits::{ENOUGH_EVIDENCE, MOST_REPAIRS, MOST_ROUNDS, MOST_SHRINKS};
 use crate::whole::{Prices, Values, WholeModel, extreme, model_of, multipliers_of};
 use ps_guesser::Guess;
 use ps_io::NoMemory;
@@ -19,6 +19,8 @@ pub(crate) enum Turn {
     Guess(Guess),
     /// The objective is below what was asked for.
     Enough,
+    /// The numbers of the vertex are too large.
+    TooLarge,
     /// There is no guess.
     GiveUp,
 }
@@ -53,9 +55,9 @@ impl Engine {
         if is_evidence && self.has_enough() {
             return Ok(Turn::Enough);
         }
-        let is_trivial = is_trivial(aim, self.simplex.objective());
+        let is_trivial = is_trivial(aim, self.simplex.objective(), self.tolerances.trivial);
         if !is_trivial {
-            match self.price(problem, aim, LEAST_GAIN)? {
+            match self.price(problem, aim, self.tolerances.least_gain)? {
                 None => return Ok(Turn::GiveUp),
                 Some(0) => {}
                 Some(_) => return Ok(Turn::Again),
@@ -68,7 +70,7 @@ impl Engine {
         if self.simplex.pivots() != pivots && !is_trivial && self.may_mend() {
             return Ok(Turn::Again);
         }
-        self.whole_turn(aim)
+        self.whole_turn(problem, aim)
     }
 
     // Whether there is enough evidence, also at the true right side.
@@ -89,14 +91,28 @@ impl Engine {
         Turn::Again
     }
 
-    // Whole numbers from the basis. Where they are too large there is no guess: here smaller ones on
-    // the same face would be sought.
-    fn whole_turn(&mut self, aim: Aim) -> Result<Turn, NoMemory> {
+    // Whole numbers from the basis, and where they are too large, from others on the same face.
+    fn whole_turn(&mut self, problem: &Problem, aim: Aim) -> Result<Turn, NoMemory> {
+        for _ in 0..MOST_SHRINKS {
+            match self.whole_guess(aim)? {
+                Turn::TooLarge => {
+                    if !self.shrink(problem, aim)? {
+                        return Ok(Turn::GiveUp);
+                    }
+                }
+                turn => return Ok(turn),
+            }
+        }
+        Ok(Turn::GiveUp)
+    }
+
+    // Whole numbers from the basis.
+    fn whole_guess(&mut self, aim: Aim) -> Result<Turn, NoMemory> {
         let Some(system) = self.system()? else {
             return Ok(self.moved());
         };
         let Some(values) = system.values()? else {
-            return Ok(Turn::GiveUp);
+            return Ok(Turn::TooLarge);
         };
         match model_of(self.alloc, &self.pool, aim, &system, &values)? {
             Values::Negative => Ok(self.moved()),
@@ -119,7 +135,7 @@ impl Engine {
             return self.tested(aim, whole, multipliers);
         }
         let Some(prices) = system.prices(&self.pool, aim)? else {
-            return Ok(Turn::GiveUp);
+            return Ok(Turn::TooLarge);
         };
         match multipliers_of(self.alloc, &self.relaxed, aim, system, &prices)? {
             Prices::Multipliers(multipliers) => self.tested(aim, whole, multipliers),
@@ -166,10 +182,10 @@ fn place_against(members: &[Member], goal: &Goal) -> Option<usize> {
 }
 
 // Whether an objective is so near to the least possible one that no world need be sought.
-fn is_trivial(aim: Aim, objective: f64) -> bool {
+fn is_trivial(aim: Aim, objective: f64, tolerance: f64) -> bool {
     match aim {
         Aim::Consistent => false,
-        Aim::Least(_) => objective < TRIVIAL,
-        Aim::Greatest(_) => objective < TRIVIAL - 1.0,
+        Aim::Least(_) => objective < tolerance,
+        Aim::Greatest(_) => objective < tolerance - 1.0,
     }
 }

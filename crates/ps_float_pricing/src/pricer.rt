@@ -131,10 +131,9 @@ impl FloatPricer {
         Ok(Priced::Found(found))
     }
 
-    /// Worlds with a gain of more than so much. The first search makes few conflicts; where it is
-    /// spent, a local search goes on from these worlds, and where that finds none, a search makes many
-    /// conflicts. From each world that is found a local search goes on, and the next search is for a gain
-    /// that is a quarter more.
+    /// Worlds with a gain of more than so much. Local search goes first, from these worlds: it is
+    /// quick, and its worlds have large gains, so that few pivots follow. Where it finds none, others
+    /// are sought by the clause form.
     pub fn price(
         &mut self,
         problem: &Problem,
@@ -143,6 +142,25 @@ impl FloatPricer {
         above: f64,
         starts: &[World],
     ) -> Result<Priced, NoMemory> {
+        let mut found = Vec::new(self.alloc);
+        self.climbing
+            .climb_all(problem, gain, above, starts, &mut found)?;
+        if !found.is_empty() {
+            return Ok(Priced::Found(found));
+        }
+        self.search(problem, relaxed, gain, above)
+    }
+
+    // The same by the clause form. The first search makes few conflicts; where it is spent and nothing
+    // was found, another makes many. From each world that is found a local search goes on, and the
+    // next search is for a gain that is a quarter more.
+    fn search(
+        &mut self,
+        problem: &Problem,
+        relaxed: &Relaxed,
+        gain: &FloatGoal,
+        above: f64,
+    ) -> Result<Priced, NoMemory> {
         let goals = Goals::new(self.alloc, problem.formulas().nodes(), relaxed, gain)?;
         let mut found = Vec::new(self.alloc);
         let mut least = goals.plain.least(above);
@@ -150,19 +168,9 @@ impl FloatPricer {
         for _ in 0..MOST_SEARCHES {
             match self.seek(problem, goals.goal(is_spent), least, is_spent)? {
                 Ended::Nothing => return Ok(what_was(found)),
-                Ended::Spent => {
-                    if is_spent {
-                        return Ok(Priced::Spent);
-                    }
-                    if found.is_empty() {
-                        self.climbing
-                            .climb_all(problem, gain, above, starts, &mut found)?;
-                    }
-                    if !found.is_empty() {
-                        return Ok(what_was(found));
-                    }
-                    is_spent = true;
-                }
+                Ended::Spent if is_spent => return Ok(Priced::Spent),
+                Ended::Spent if !found.is_empty() => return Ok(Priced::Found(found)),
+                Ended::Spent => is_spent = true,
                 Ended::Found(world) => {
                     self.keep_world(problem, gain, above, world, &mut found)?;
                     least = raised(greatest(&goals.plain.goal, &found, least));
