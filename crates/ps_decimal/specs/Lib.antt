@@ -1,0 +1,4 @@
+-- Meaning
+pub mod Decimals
+-- Bridge: what shows that a power is positive
+pub mod Powers
