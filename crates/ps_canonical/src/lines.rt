@@ -28,8 +28,9 @@ fn condition(
     }
 }
 
-// Writes the probability of a formula, perhaps given a condition.
-fn probability(
+/// Writes the probability of a formula, perhaps given a condition, behind what was written. Both
+/// are numbers of nodes.
+pub fn write_probability(
     alloc: Global,
     problem: &Problem,
     node: u32,
@@ -60,7 +61,7 @@ pub(crate) fn write_sentence(
         (Adds out.old.items out.new.items (sentence_line problem.now sentence.now)) }
 {
     let first = sentence.first;
-    probability(alloc, problem, first.formula, first.given, out)?;
+    write_probability(alloc, problem, first.formula, first.given, out)?;
     relation(out, sentence)?;
     append(out, b";\n")
 }
@@ -77,6 +78,6 @@ pub(crate) fn write_query(
     ensures { OnOk result (Adds out.old.items out.new.items (query_line problem.now query.now)) }
 {
     append(out, b"query ")?;
-    probability(alloc, problem, query.formula, query.given, out)?;
+    write_probability(alloc, problem, query.formula, query.given, out)?;
     append(out, b";\n")
 }
