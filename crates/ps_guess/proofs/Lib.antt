@@ -1,3 +1,3 @@
 mod Against
-mod Kept
+mod KeptBounds
 mod Logged

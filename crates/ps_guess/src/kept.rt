@@ -19,7 +19,7 @@ fn push_kept(bounds: &mut List<Bound>, kept: bool, sentence: Sentence) -> Result
 }
 
 /// The bounds of the kept sentences, by a truth value for each sentence.
-#[tactic(auto, using(crate::proofs::Kept::bounds_next))]
+#[tactic(auto, using(crate::proofs::KeptBounds::bounds_next))]
 pub(crate) fn kept_bounds(
     alloc: Global,
     problem: &Problem,

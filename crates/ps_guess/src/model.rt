@@ -29,7 +29,7 @@ impl<'p> Trials<'p> {
 
     /// Whether the guess is a distribution that meets each bound of the kept sentences, by a truth
     /// value for each sentence, of at most one world more than these have bounds.
-    #[tactic(auto, using(crate::proofs::Kept::kept_sound, crate::proofs::Kept::kept_few, crate::proofs::Kept::kept_model))]
+    #[tactic(auto, using(crate::proofs::KeptBounds::kept_sound, crate::proofs::KeptBounds::kept_few, crate::proofs::KeptBounds::kept_model))]
     pub fn model_of(
         &self,
         alloc: Global,
