@@ -81,7 +81,7 @@ fn ended_by(answer: &Answer, work: Work) -> Ended {
 }
 
 // The limits of the runs that make so many pivots.
-fn limits_of(pivots: u64) -> Limits
+pub(crate) fn limits_of(pivots: u64) -> Limits
     ensures { AreLimits result }
 {
     Limits {

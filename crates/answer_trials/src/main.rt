@@ -3,8 +3,11 @@
 #![tactic(auto)]
 
 mod answering;
+#[cfg(test)]
+mod tests;
 
 use crate::answering::{Ended, Work, answer_to};
+use ps_answer::MOST_PIVOTS;
 use ps_io::{StdSink, StdSource};
 use std::env;
 use std::process::ExitCode;
@@ -12,15 +15,27 @@ use std::process::ExitCode;
 /// How many pivots a run makes where no word names a number.
 const DEFAULT_PIVOTS: u64 = 10_000;
 
-fn pivots_of(rt: &HostRuntime) -> anyhow::Result<u64> {
-    let Some(word) = env::args(rt)?.nth(1) else {
-        return Ok(DEFAULT_PIVOTS);
+// How many pivots the words ask for; none where they aren't one number of those allowed.
+fn pivots_of(rt: &HostRuntime) -> anyhow::Result<Option<u64>> {
+    let mut words = env::args(rt)?;
+    let _program = words.next();
+    let Some(word) = words.next() else {
+        return Ok(Some(DEFAULT_PIVOTS));
     };
-    Ok(word.as_str().parse::<u64>().ok().unwrap_or(DEFAULT_PIVOTS))
+    if words.next().is_some() {
+        return Ok(None);
+    }
+    let pivots = word.as_str().parse::<u64>().ok();
+    Ok(pivots.filter(|pivots| *pivots <= MOST_PIVOTS))
 }
 
 fn main(rt: HostRuntime) -> anyhow::Result<ExitCode> {
-    let pivots = pivots_of(&rt)?;
+    let Some(pivots) = pivots_of(&rt)? else {
+        eprintln!(rt;
+            "answer_trials takes one word: how many pivots a run makes, at most {MOST_PIVOTS}"
+        )?;
+        return Ok(ExitCode::from(2));
+    };
     let mut input = StdSource::new(rt.stdin());
     let mut output = StdSink::new(rt.stdout());
     let ended = answer_to(rt.alloc(), pivots, &mut input, &mut output);

@@ -1,7 +1,7 @@
 //! The engine's state.
 
 use crate::basis_system::BasisSystem;
-use crate::limits::{BASIC_STARTS, MOST_MENDED, MOST_PIVOTS, MOST_REPAIRS, SEED};
+use crate::limits::{BASIC_STARTS, MOST_MENDED, MOST_PIVOTS, MOST_REPAIRS, MOST_TOLD, SEED};
 use crate::tolerances::Tolerances;
 use ps_climb::{Draw, drawn_world};
 use ps_float_pricing::{FloatPricer, Priced};
@@ -47,6 +47,8 @@ pub struct Engine {
     pub(crate) stage: Stage,
     /// How often the present guess was mended.
     pub(crate) mended: u32,
+    /// How often worlds were told that it overlooked.
+    pub(crate) told: u32,
     /// How many roundings of the refutation were tried.
     pub(crate) roundings: u32,
     pub(crate) gain: FloatGoal,
@@ -108,6 +110,7 @@ impl Engine {
             aim: None,
             stage: Stage::Fresh,
             mended: 0,
+            told: 0,
             roundings: 0,
             gain: FloatGoal::new(alloc, relaxed.nodes())?,
             draw: Draw::new(SEED),
@@ -126,6 +129,7 @@ impl Engine {
         self.aim = None;
         self.stage = Stage::Fresh;
         self.mended = 0;
+        self.told = 0;
         self.roundings = 0;
         let members = std::mem::replace(&mut self.pool, WorldPool::new(self.alloc)).into_members();
         self.take_all(members)?;
@@ -227,20 +231,26 @@ impl Engine {
     }
 
     // Looks for worlds that improve, and takes them in. Answers how many, or nothing where the search
-    // was spent.
+    // was spent; one that isn't thorough soon is.
     pub(crate) fn price(
         &mut self,
         problem: &Problem,
         aim: Aim,
         above: f64,
+        is_thorough: bool,
     ) -> Result<Option<u32>, NoMemory> {
         self.simplex.find_duals();
         self.relaxed
             .write_gain(aim, self.simplex.duals(), &mut self.gain);
         let starts = self.starts(problem)?;
-        let priced = self
-            .pricer
-            .price(problem, &self.relaxed, &self.gain, above, &starts)?;
+        let priced = self.pricer.price(
+            problem,
+            &self.relaxed,
+            &self.gain,
+            above,
+            &starts,
+            is_thorough,
+        )?;
         match priced {
             Priced::NoneAbove => Ok(Some(0)),
             Priced::Spent => Ok(None),
@@ -275,6 +285,12 @@ impl Engine {
             }
         }
         Ok(added)
+    }
+
+    // Counts that worlds were told, and answers whether the guess may go on.
+    pub(crate) fn may_go_on(&mut self) -> bool {
+        self.told = self.told.saturating_add(1);
+        self.told <= MOST_TOLD
     }
 
     // Counts that the present guess is mended, and answers whether it may be.

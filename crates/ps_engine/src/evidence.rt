@@ -49,11 +49,12 @@ impl Engine {
     // Begins an aim, or goes on with the worlds that were told. Answers whether that was possible.
     pub(crate) fn begin(&mut self, problem: &Problem, aim: Aim) -> Result<bool, NoMemory> {
         if self.aim == Some(aim) {
-            return Ok(self.take_waiting(problem)? && self.may_mend());
+            return Ok(self.take_waiting(problem)? && self.may_go_on());
         }
         self.take_waiting(problem)?;
         self.forced = None;
         self.mended = 0;
+        self.told = 0;
         if !self.set_given(aim.given())? {
             return Ok(false);
         }

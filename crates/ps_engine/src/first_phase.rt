@@ -71,7 +71,7 @@ impl Engine {
             }
         }
         let distance = self.simplex.objective();
-        match self.price(problem, Aim::Consistent, 0.5 * distance.max(1e-7))? {
+        match self.price(problem, Aim::Consistent, 0.5 * distance.max(1e-7), true)? {
             None => Ok(Some(Stage::Unknown)),
             Some(0) => Ok(Some(Stage::Inconsistent(distance))),
             Some(_) => Ok(None),

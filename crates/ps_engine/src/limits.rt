@@ -12,6 +12,9 @@ pub(crate) const MOST_ROUNDS: u32 = 3_000;
 /// How many times a guess is mended at most.
 pub(crate) const MOST_MENDED: u32 = 30;
 
+/// How many times worlds are told at most that one guess overlooked.
+pub(crate) const MOST_TOLD: u32 = 500;
+
 /// Evidence of so much probability is possible, and serves as the first row.
 pub(crate) const ENOUGH_EVIDENCE: f64 = 0.01;
 

@@ -57,9 +57,9 @@ impl Engine {
         }
         let is_trivial = is_trivial(aim, self.simplex.objective(), self.tolerances.trivial);
         if !is_trivial {
-            match self.price(problem, aim, self.tolerances.least_gain)? {
-                None => return Ok(Turn::GiveUp),
-                Some(0) => {}
+            // What a short search leaves open, the trial of the guess decides.
+            match self.price(problem, aim, self.tolerances.least_gain, false)? {
+                None | Some(0) => {}
                 Some(_) => return Ok(Turn::Again),
             }
         }

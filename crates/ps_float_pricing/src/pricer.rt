@@ -133,7 +133,7 @@ impl FloatPricer {
 
     /// Worlds with a gain of more than so much. Local search goes first, from these worlds: it is
     /// quick, and its worlds have large gains, so that few pivots follow. Where it finds none, others
-    /// are sought by the clause form.
+    /// are sought by the clause form: to the end where that is thorough, else with few conflicts.
     pub fn price(
         &mut self,
         problem: &Problem,
@@ -141,6 +141,7 @@ impl FloatPricer {
         gain: &FloatGoal,
         above: f64,
         starts: &[World],
+        is_thorough: bool,
     ) -> Result<Priced, NoMemory> {
         let mut found = Vec::new(self.alloc);
         self.climbing
@@ -148,11 +149,11 @@ impl FloatPricer {
         if !found.is_empty() {
             return Ok(Priced::Found(found));
         }
-        self.search(problem, relaxed, gain, above)
+        self.search(problem, relaxed, gain, above, is_thorough)
     }
 
     // The same by the clause form. The first search makes few conflicts; where it is spent and nothing
-    // was found, another makes many. From each world that is found a local search goes on, and the
+    // was found, another makes many if it is to be thorough. From each world that is found a local search goes on, and the
     // next search is for a gain that is a quarter more.
     fn search(
         &mut self,
@@ -160,6 +161,7 @@ impl FloatPricer {
         relaxed: &Relaxed,
         gain: &FloatGoal,
         above: f64,
+        is_thorough: bool,
     ) -> Result<Priced, NoMemory> {
         let goals = Goals::new(self.alloc, problem.formulas().nodes(), relaxed, gain)?;
         let mut found = Vec::new(self.alloc);
@@ -168,8 +170,8 @@ impl FloatPricer {
         for _ in 0..MOST_SEARCHES {
             match self.seek(problem, goals.goal(is_spent), least, is_spent)? {
                 Ended::Nothing => return Ok(what_was(found)),
-                Ended::Spent if is_spent => return Ok(Priced::Spent),
                 Ended::Spent if !found.is_empty() => return Ok(Priced::Found(found)),
+                Ended::Spent if is_spent || !is_thorough => return Ok(Priced::Spent),
                 Ended::Spent => is_spent = true,
                 Ended::Found(world) => {
                     self.keep_world(problem, gain, above, world, &mut found)?;
