@@ -25,6 +25,7 @@ const VALUES: [&[u8]; 8] = [
 ];
 
 /// A text that is drawn by chance.
+#[derive(Drop)]
 struct Text {
     bytes: Vec<u8>,
     draw: Draw,
@@ -130,7 +131,7 @@ fn same_verdict(one: &Verdict, other: &Verdict) -> bool {
 
 // Whether nothing is open, and verdicts and bounds are the same.
 fn same(one: &Answer, other: &Answer) -> bool {
-    let parts = one.parts.as_slice().iter().zip(other.parts.as_slice());
+    let mut parts = one.parts.as_slice().iter().zip(other.parts.as_slice());
     same_verdict(&one.verdict, &other.verdict)
         && one.parts.len() == other.parts.len()
         && parts.all(|(one, other)| same_part(one, other))
