@@ -1,16 +1,23 @@
 -- A report that is due for `solve` is that of one answer, and is accepted behind the problem's text.
-use Rattle.std.proofs.Common.{◌≡◌, ◌≢◌, inl, inr, ℕ, zero, suc, ◌+◌, ◌-◌, ◌≤◌, List, [], ◌∷◌, ◌++◌, length, take, drop, map, codes, refl, sym, ap, subst, ◌∙◌, arith}
+use Rattle.std.proofs.Common.{◌≡◌, ◌≢◌, inl, inr, ℕ, zero, suc, ◌+◌, ◌-◌, ◌≤◌, Bool, true, false, List, [], ◌∷◌, ◌++◌, length, take, drop, map, All, codes, refl, sym, ap, subst, ◌∙◌, arith}
 use Rattle.std.specs.Prelude.{sum}
 use Rattle.std.specs.List.{AllZip}
+use Rattle.std.proofs.lemmas.List.Elements.{All-nil, All-cons}
+use Rattle.std.proofs.Math.Nat.{min-le_right}
 use Rattle.ps_text.specs.Pieces.{IsBare}
-use Rattle.ps_problem.specs.Problems.{Parts}
+use Rattle.ps_meaning.specs.Statements.{Item, Stated, Asked}
+use Rattle.ps_text.specs.Canonical.{AreLawful}
+use Rattle.ps_text.proofs.Lawful.{front_lawful}
+use Rattle.ps_problem.specs.Problems.{Parts, AreParts}
+use Rattle.ps_problem.specs.Drafts.{HasReducedValues}
+use Rattle.ps_problem.proofs.Parts.{parts-in-order}
 use Rattle.ps_answer.specs.declared.answer.Answer.{Answer}
 use Rattle.ps_answer.specs.declared.answer.Verdict.{Verdict}
 use Rattle.ps_answer.specs.declared.answer.Verdict.TheVariants as verdict
 use Rattle.ps_answer.specs.declared.answer.Dual.{Dual}
 use Rattle.ps_answer.specs.Answers.{answer_items}
 use Rattle.ps_answer.specs.Faults.{IsReport, IsText}
-use Rattle.ps_answer.proofs.Single.{one_answer, report_is_text}
+use Rattle.ps_answer.specs.declared.limits.TheConstants.{MOST_PIVOTS}
 use Rattle.ps_entailment.specs.Answers.{QueryAnswer, asked_under}
 use Rattle.ps_claims.specs.Duals as duals
 use Rattle.ps_claims.specs.Claims.{claims_of, open_in_verdict, open_in_part, unfinished_of}
@@ -18,10 +25,15 @@ use Rattle.ps_claims.specs.Validity.{IsValid, IsValidPart}
 use Rattle.ps_read.specs.Readings.{SpellsProblem}
 use Rattle.ps_valid.specs.Answers.{answer_of, verdict_of}
 use Rattle.ps_generation.specs.declared.limits.Limits.{Limits}
+use Rattle.ps_generation.specs.Phases.{AreLimits}
+use Rattle.ps_reported.specs.Laws.{IsAnswered}
+use Rattle.ps_reported.proofs.Reports.{written_text}
+use Rattle.ps_reported.proofs.LawfulAnswers.{answer_settled}
 use Rattle.psat.specs.declared.status.Status.TheVariants.{Unfinished}
 use Rattle.psat.specs.declared.command.Command.TheVariants.{Check}
 use Rattle.psat.specs.declared.checked.TheConstants.{MOST_SEARCHED}
 use Rattle.psat.specs.declared.command.TheConstants.{MOST_PROBLEM}
+use Rattle.psat.specs.RunLimits.{enough_for, limits_for}
 use Rattle.psat.specs.Due.{Output, Accepted, ReadAs, Spelled, Within, DueFor, IsSolvedBy, accepted, report_of, searched, status_by, status_after}
 use Rattle.psat.specs.Accepting.{IsReadable}
 use Rattle.psat.proofs.Behind.{spelled_behind, drop_behind, take_behind}
@@ -55,11 +67,44 @@ read_as limits bytes o p a (inr not) h =
     let done : status_after a ≢ Unfinished = λ e. not (ap (λ (x : Output). x.status) h.is ∙ e) in
     h.read_back (inr (nothing_open p a (finished a.verdict (unfinished_of (answer_of a)) done) h.solution.valid))
 
-pub one_solution : (limits : Limits) (bytes : List ℕ) (o : Output) (p q : Parts) (a b : Answer) → IsReadable limits o → IsSolvedBy limits bytes o p a → IsSolvedBy limits bytes o q b → a ≡ b
-one_solution limits bytes o p q a b readable g h =
+-- values that are read are reduced
+reduced_of : (items : List Item) → AreLawful items → All HasReducedValues items
+reduced_of [] h = All-nil HasReducedValues
+reduced_of (Stated s ∷ is) h = All-cons HasReducedValues (Stated s) is (h.0.2, h.0.3) (reduced_of is h.1)
+reduced_of (Asked q ∷ is) h = All-cons HasReducedValues (Asked q) is tt (reduced_of is h.1)
+
+-- so a problem that bytes spell is in order
+spelled_parts : (bytes : List ℕ) (p : Parts) (place : ℕ) → SpellsProblem bytes p place → AreParts p
+spelled_parts bytes p place s =
+    subst AreParts (sym s.made.problem) (parts-in-order s.items s.made.formulas (reduced_of s.items (front_lawful bytes s.items place s.front)) s.made.within)
+
+-- the limits of a run are those that words may set, or less
+run_limits : (limits : Limits) (enough : Bool) (p : Parts) → AreLimits limits → AreLimits (limits_for limits enough p)
+run_limits limits false p h = h
+run_limits limits true p h = record { pivots = min-le_right (enough_for p) MOST_PIVOTS; conflicts = h.conflicts }
+
+solved_answered : (limits : Limits) (bytes : List ℕ) (o : Output) (p : Parts) (a : Answer) → AreLimits limits → IsSolvedBy limits bytes o p a → IsAnswered p limits.pivots limits.conflicts a
+solved_answered limits bytes o p a within h = record {
+  parts = spelled_parts bytes p (length bytes) h.spells;
+  few_pivots = within.pivots;
+  few_conflicts = within.conflicts;
+  settled = answer_settled p limits.pivots limits.conflicts a h.solution.lawful;
+  valid = h.solution.valid;
+  printed = h.solution.printed;
+}
+
+-- so its report is the answer's text, and that of no other
+solved_text : (limits : Limits) (bytes : List ℕ) (o : Output) (p : Parts) (a : Answer) → AreLimits limits → IsSolvedBy limits bytes o p a
+    → IsText (report_of a) a × ((b : Answer) → IsText (report_of a) b → b ≡ a)
+solved_text limits bytes o p a within h = written_text p limits.pivots limits.conflicts a (solved_answered limits bytes o p a within h)
+
+pub one_solution : (limits : Limits) (enough : Bool) (bytes : List ℕ) (o : Output) (p q : Parts) (a b : Answer) → AreLimits limits
+    → IsSolvedBy (limits_for limits enough p) bytes o p a → IsSolvedBy (limits_for limits enough q) bytes o q b → a ≡ b
+one_solution limits enough bytes o p q a b within g h =
     let same : report_of b ≡ report_of a = ap (λ (x : Output). x.text) (sym h.is ∙ g.is) in
-    one_answer (report_of a) a b (report_is_text (report_of a) a (read_as limits bytes o p a readable g))
-    (subst (λ (x : List ℕ). IsText x b) same (report_is_text (report_of b) b (read_as limits bytes o q b readable h)))
+    let first = solved_text (limits_for limits enough p) bytes o p a (run_limits limits enough p within) g in
+    let second = solved_text (limits_for limits enough q) bytes o q b (run_limits limits enough q within) h in
+    sym (first.1 b (subst (λ (x : List ℕ). IsText x b) same second.0))
 
 -- a report begins with a letter
 bare_report : (a : Answer) (n : ℕ) → IsBare (take n (report_of a))

@@ -1,14 +1,16 @@
 -- The report of an answer, behind the problem's text, is accepted by `check`.
-use Rattle.std.specs.Prelude.{◌≡◌, ◌≢◌, ◌<◌, ◌≤◌, ◌⊎◌, ℕ, List, ◌++◌, length, codes}
+use Rattle.std.specs.Prelude.{◌≡◌, ◌≢◌, ◌<◌, ◌≤◌, ◌⊎◌, ℕ, Bool, List, ◌++◌, length, codes}
 use Rattle.ps_problem.specs.Problems.{Parts}
 use Rattle.ps_answer.specs.declared.answer.Answer.{Answer}
 use Rattle.ps_claims.specs.Claims.{claims_of, unfinished_of}
 use Rattle.ps_valid.specs.Answers.{answer_of}
 use Rattle.ps_generation.specs.declared.limits.Limits.{Limits}
+use Rattle.ps_generation.specs.Phases.{AreLimits}
 use Rattle.ps_answer.specs.declared.limits.TheConstants.{MOST_PIVOTS}
 use Rattle.psat.specs.declared.status.Status.TheVariants.{Unfinished}
 use Rattle.psat.specs.declared.command.Command.TheVariants.{Check}
 use Rattle.psat.specs.declared.command.TheConstants.{MOST_PROBLEM}
+use Rattle.psat.specs.RunLimits.{limits_for}
 use Rattle.psat.specs.Due.{Output, DueFor, IsSolvedBy, accepted}
 
 -- the output is read back: nothing is open, or the pivots were fewer than the most
@@ -17,8 +19,8 @@ IsReadable limits o = (limits.pivots < MOST_PIVOTS) ⊎ (o.status ≢ Unfinished
 
 -- a report that is due for `solve` is that of one answer
 abbrev pub OneAnswerIsDue : Type 0
-OneAnswerIsDue = (limits : Limits) (bytes : List ℕ) (o : Output) (p q : Parts) (a b : Answer) → IsReadable limits o
-    → IsSolvedBy limits bytes o p a → IsSolvedBy limits bytes o q b → a ≡ b
+OneAnswerIsDue = (limits : Limits) (enough : Bool) (bytes : List ℕ) (o : Output) (p q : Parts) (a b : Answer) → AreLimits limits
+    → IsSolvedBy (limits_for limits enough p) bytes o p a → IsSolvedBy (limits_for limits enough q) bytes o q b → a ≡ b
 
 -- the problem, a line feed and a report that is due for `solve` are accepted by `check`, where they are within its limit, with the
 -- answer's counts of claims and of what is open

@@ -12,8 +12,7 @@ ghost use Rattle.psat.specs.Commands.{Spell};
 ghost use Rattle.psat.specs.Due.{EnoughLeavesNoneOpen, OneOutputIsDue};
 
 /// For words and bytes at most one output is due, but for the words of `solve`: to one problem
-/// several answers may be right. A report that is due for them is that of one answer, where nothing
-/// is open or the pivots were fewer than the most.
+/// several answers may be right. A report that is due for them is that of one answer.
 pub fn one_output_is_due()
     ensures command { (words : List (List ℕ)) (c d : Command)
         → Spell words c → Spell words d → c ≡ d }
