@@ -122,6 +122,12 @@ impl Engine {
         self.simplex.find_duals();
         self.relaxed
             .write_gain(aim, self.simplex.duals(), &mut self.gain);
+        let found = self.neighbours(problem)?;
+        self.take_all(found)
+    }
+
+    // Worlds of the face that differ from a basic one in one atom.
+    fn neighbours(&self, problem: &Problem) -> Result<Vec<Member>, NoMemory> {
         let mut found = Vec::new(self.alloc);
         for column in self.simplex.basis() {
             if let Column::Added(number) = *column {
@@ -130,7 +136,7 @@ impl Engine {
                 }
             }
         }
-        self.take_all(found)
+        Ok(found)
     }
 
     // Adds the worlds of the face that differ from this one in one atom, while there is room.
