@@ -1,12 +1,13 @@
 -- Rounding by long division: a quotient and its rest tell the decimals on both sides.
-use Rattle.std.proofs.Common.{◌≡◌, ◌≢◌, ℕ, ◌+◌, ◌*◌, ◌^◌, ◌<◌, ◌≤◌, ◌/◌, ◌%◌, suc, ℤ, pos, negsuc, ◌*ℤ◌, ◌≤ℤ◌, ◌<ℤ◌, unsigned_abs, add-one, sym, refl, ap, ◌∙◌, subst, arith}
+use Rattle.std.proofs.Common.{◌≡◌, ◌≢◌, ℕ, ◌+◌, ◌*◌, ◌^◌, ◌<◌, ◌≤◌, ◌/◌, ◌%◌, min, zero, suc, ℤ, pos, negsuc, ◌*ℤ◌, ◌≤ℤ◌, ◌<ℤ◌, unsigned_abs, add-one, sym, refl, ap, ◌∙◌, subst, arith}
 use Rattle.std.proofs.lemmas.Int.{ints, unsigned_abs-mul}
-use Rattle.std.proofs.Math.Nat.{mul-le-mul_left, mul-le-mul_right, le_of_mul-le-mul_right, lt_of_mul-lt-mul_right, pow-suc, pow-le-pow_right, div-eq_of_lt, add-mul-div_left, add-mul-mod_self_left, mod-eq_of_lt}
+use Rattle.std.proofs.Math.Nat.{mul-le-mul_left, mul-le-mul_right, le_of_mul-le-mul_right, lt_of_mul-lt-mul_right, pow-suc, pow-le-pow_right, div-eq_of_lt, add-mul-div_left, add-mul-mod_self_left, mod-eq_of_lt, div-add-mod, mod-lt}
 use Rattle.ps_rational.specs.Rational.{Rational, Positive, quotient}
 use Rattle.ps_rational.specs.Order.{IsNonneg, AtMost, IsLess}
 use Rattle.ps_rational.proofs.Cross.{quotient_cross}
 use Rattle.ps_rational.proofs.Order.{at_most_from_cross, cross_from_at_most, less_of, nonneg_of}
-use Rattle.ps_decimal.specs.Decimals.{Decimal, IsRoundedDown, IsRoundedUp, number_of, rounded_down as floor_of, rounded_up, ten_to}
+use Rattle.ps_decimal.specs.Laws.{DecimalsContainTheirFraction}
+use Rattle.ps_decimal.specs.Decimals.{Decimal, HasDecimals, IsRoundedDown, IsRoundedUp, number_of, rounded_down as floor_of, rounded_up, ten_to}
 
 -- ---- the order of p/c = u/d and a/b is that of u * b and a * d
 below_from : (u d p c a b : ℕ) → 0 < d → p * d ≡ u * c → u * b ≤ a * d → p * b ≤ a * c
@@ -203,3 +204,31 @@ module _ (x : Rational) (d : Decimal) (over under q n r : ℕ) (h : IsNonneg x) 
 
   pub next_value : r ≢ 0 → d.units ≡ q + 1 → d.digits ≡ n → d ≡ rounded_up x n
   next_value z e f = decimal_is d (rounded_up x n) (let a = units_are in let b = rest_is in omega (arith, e, z, a, b)) f
+
+-- ---- the decimals of a fraction
+module _ (x : Rational) (n : ℕ) (h : HasDecimals x) where
+  abbrev scaled : ℕ
+  scaled = unsigned_abs x.over * 10 ^ n
+
+  divides : scaled / x.under * x.under + scaled % x.under ≡ scaled
+  divides = let e = div-add-mod scaled x.under in omega (arith, e)
+
+  rest_below : scaled % x.under < x.under
+  rest_below = mod-lt scaled x.lowest.positive
+
+  down_law : IsRoundedDown x (floor_of x n)
+  down_law = rounded_down x (floor_of x n) (scaled % x.under) h.nonneg divides rest_below
+
+  up_law : IsRoundedUp x (rounded_up x n)
+  up_law = by (scaled % x.under) refl
+    where
+      by : (r : ℕ) → scaled % x.under ≡ r → IsRoundedUp x (rounded_up x n)
+      by zero e =
+          let u : scaled / x.under + min 1 (scaled % x.under) ≡ scaled / x.under = omega (arith, e) in
+          exact_up x (rounded_up x n) h.nonneg (ap (λ k. k * x.under) u ∙ (let f = divides in omega (arith, e, f)))
+      by (suc r) e =
+          let u : scaled / x.under + min 1 (scaled % x.under) ≡ scaled / x.under + 1 = omega (arith, e) in
+          next_up x (rounded_up x n) (scaled / x.under) (scaled % x.under) h.nonneg u divides (omega (arith, e)) rest_below
+
+pub contain_law : DecimalsContainTheirFraction
+contain_law x n h = (down_law x n h, up_law x n h)
