@@ -1,0 +1,6 @@
+mod Guessed
+mod Models
+mod Needed
+mod Parts
+mod SentLines
+mod Short

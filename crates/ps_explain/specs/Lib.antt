@@ -1,0 +1,6 @@
+-- Meaning
+pub mod Explanations
+pub mod Texts
+-- Bridge: what each step finds of it
+pub mod Used
+pub mod Steps

@@ -1,0 +1,22 @@
+//! Explanations: sentences of a problem that can't be met together, each of which is needed for
+//! it.
+#![tactic(auto)]
+
+mod conflict;
+mod explained;
+mod explaining;
+mod found;
+mod irreducible;
+mod means;
+mod met;
+mod numbers;
+mod outcome;
+#[cfg(test)]
+mod tests;
+mod used;
+mod writing;
+
+pub use explained::{Explained, Models, Numbers};
+pub use explaining::explain;
+pub use ps_master::Limits;
+pub use writing::write_explanation;
