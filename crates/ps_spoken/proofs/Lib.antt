@@ -1,0 +1,3 @@
+pub mod Paired
+pub mod Sides
+pub mod Values

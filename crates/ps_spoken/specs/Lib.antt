@@ -1,0 +1,4 @@
+-- Meaning
+pub mod Numbers
+pub mod Spoken
+pub mod Quiet

@@ -1,0 +1,17 @@
+-- Numbers as they are written for people.
+use Rattle.std.specs.Prelude.{ℕ, pos, ◌==◌, if◌then◌else◌, List, [], ◌++◌, codes}
+use Rattle.std.specs.Fmt.{signed_decimal}
+use Rattle.ps_rational.specs.Rational.{Rational}
+use Rattle.ps_decimal.specs.Decimals.{has_decimals, rounded_down, rounded_up, text_of}
+
+-- a fraction in lowest terms, and without its denominator where that is 1
+abbrev pub fraction_text : Rational → List ℕ
+fraction_text x = if x.under == 1 then signed_decimal x.over else signed_decimal x.over ++ (codes "/" ++ signed_decimal (pos x.under))
+
+-- a fraction as a decimal of so many digits, rounded down; a sign in its place where the fraction isn't from 0 to 1
+abbrev pub low_text : ℕ → Rational → List ℕ
+low_text digits x = if has_decimals x then text_of (rounded_down x digits) else codes "?"
+
+-- the same rounded up
+abbrev pub high_text : ℕ → Rational → List ℕ
+high_text digits x = if has_decimals x then text_of (rounded_up x digits) else codes "?"

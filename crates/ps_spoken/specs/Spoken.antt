@@ -1,0 +1,100 @@
+-- What is written of an answer for people.
+use Rattle.std.specs.Prelude.{ℕ, pos, List, [], ◌∷◌, ◌++◌, codes}
+use Rattle.std.specs.Fmt.{signed_decimal}
+use Rattle.std.specs.declared.cmp.Ordering.{Ordering}
+use Rattle.std.specs.declared.cmp.Ordering.TheVariants.{Less, Equal, Greater}
+use Rattle.ps_rational.specs.Rational.{Rational}
+use Rattle.ps_rational.specs.Order.{order_of}
+use Rattle.ps_problem.specs.declared.query.Query.{Query}
+use Rattle.ps_problem.specs.Problems.{Parts}
+use Rattle.ps_canonical.specs.Lines.{probability_text}
+use Rattle.ps_answer.specs.declared.answer.Cause.{Cause}
+use Rattle.ps_answer.specs.declared.answer.Cause.TheVariants.{Pivots, Conflicts, Wide}
+use Rattle.ps_answer.specs.declared.answer.Verdict.{Verdict}
+use Rattle.ps_answer.specs.declared.answer.Verdict.TheVariants.{Consistent, Inconsistent, Open}
+use Rattle.ps_answer.specs.declared.answer.SideAnswer.{SideAnswer}
+use Rattle.ps_answer.specs.declared.answer.SideAnswer.TheVariants as side
+use Rattle.ps_answer.specs.declared.answer.QueryAnswer.{QueryAnswer}
+use Rattle.ps_answer.specs.declared.answer.QueryAnswer.TheVariants as query
+use Rattle.ps_answer.specs.declared.answer.QueryPart.{QueryPart}
+use Rattle.ps_answer.specs.declared.answer.Answer.{Answer}
+use Rattle.ps_spoken.specs.Numbers.{fraction_text, low_text, high_text}
+
+-- what stopped a part, and what to do about it
+abbrev pub cause_text : Cause → List ℕ
+cause_text (Pivots limit) = codes "stopped at the limit of " ++ (signed_decimal (pos limit) ++ codes " pivots; allow more by --pivots")
+cause_text (Conflicts limit goal steps) =
+    codes "a search stopped at the limit of " ++ (signed_decimal (pos limit) ++ codes " conflicts; allow more by --conflicts")
+cause_text (Wide at) = codes "a number needs more than 127 bits; values of fewer digits may help"
+
+-- the decimals from a lower bound to an upper one
+abbrev pub decimals_text : ℕ → Rational → Rational → List ℕ
+decimals_text digits x y = codes " (" ++ (low_text digits x ++ (codes " to " ++ (high_text digits y ++ codes ")\n")))
+
+-- the one value that both bounds are
+abbrev pub one_value_text : ℕ → Rational → Rational → List ℕ
+one_value_text digits x y = codes "  one value: " ++ (fraction_text x ++ decimals_text digits x y)
+
+-- two bounds that differ
+abbrev pub two_values_text : ℕ → Rational → Rational → List ℕ
+two_values_text digits x y = codes "  between " ++ (fraction_text x ++ (codes " and " ++ (fraction_text y ++ decimals_text digits x y)))
+
+-- one value where the bounds are equal, else both of them
+abbrev pub ordered_text : Ordering → ℕ → Rational → Rational → List ℕ
+ordered_text Equal digits x y = one_value_text digits x y
+ordered_text Less digits x y = two_values_text digits x y
+ordered_text Greater digits x y = two_values_text digits x y
+
+-- both bounds of a query
+abbrev pub between_text : ℕ → Rational → Rational → List ℕ
+between_text digits x y = ordered_text (order_of x y) digits x y
+
+-- the lower side of a query: its bound, or what stopped it
+abbrev pub lower_text : ℕ → SideAnswer → List ℕ
+lower_text digits (side.Bound x m d) = codes "  at least " ++ (fraction_text x ++ (codes " (" ++ (low_text digits x ++ codes ")\n")))
+lower_text digits (side.Open c) = codes "  no lower bound yet: " ++ (cause_text c ++ codes "\n")
+
+-- the upper side of a query: its bound, or what stopped it
+abbrev pub upper_text : ℕ → SideAnswer → List ℕ
+upper_text digits (side.Bound x m d) = codes "  at most " ++ (fraction_text x ++ (codes " (" ++ (high_text digits x ++ codes ")\n")))
+upper_text digits (side.Open c) = codes "  no upper bound yet: " ++ (cause_text c ++ codes "\n")
+
+-- each side of a query
+abbrev pub sides_text : ℕ → SideAnswer → SideAnswer → List ℕ
+sides_text digits lower upper = lower_text digits lower ++ upper_text digits upper
+
+-- both bounds, or each side
+abbrev pub bounds_text : ℕ → SideAnswer → SideAnswer → List ℕ
+bounds_text digits (side.Bound x m d) (side.Bound y n e) = between_text digits x y
+bounds_text digits (side.Bound x m d) (side.Open c) = sides_text digits (side.Bound x m d) (side.Open c)
+bounds_text digits (side.Open c) upper = sides_text digits (side.Open c) upper
+
+-- the answer to a query
+abbrev pub answer_text : ℕ → QueryAnswer → List ℕ
+answer_text digits (query.Bounds lower lower_trace upper upper_trace) = bounds_text digits lower upper
+answer_text digits (query.Impossible d) = codes "  impossible: the sentences give the condition probability 0\n"
+answer_text digits (query.Open c) = codes "  open: " ++ (cause_text c ++ codes "\n")
+
+-- a query by its own text, and the answer to it
+abbrev pub part_text : ℕ → Parts → Query → QueryPart → List ℕ
+part_text digits p q part = probability_text p q.formula q.given ++ (codes "\n" ++ answer_text digits part.answer)
+
+-- the texts of pairs, as far as both lists go
+abbrev pub paired_text : {A B : Type 0} → (A → B → List ℕ) → List A → List B → List ℕ
+paired_text text [] ys = []
+paired_text text (x ∷ xs) [] = []
+paired_text text (x ∷ xs) (y ∷ ys) = text x y ++ paired_text text xs ys
+
+-- the queries, each with the answer to it
+abbrev pub parts_text : ℕ → Parts → List Query → List QueryPart → List ℕ
+parts_text digits p queries parts = paired_text (part_text digits p) queries parts
+
+-- the verdict
+abbrev pub verdict_text : Verdict → List ℕ
+verdict_text (Consistent m) = codes "consistent: some distribution meets all sentences\n"
+verdict_text (Inconsistent d) = codes "inconsistent: no distribution meets all sentences\n"
+verdict_text (Open c) = codes "open: whether a distribution meets all sentences isn't known; " ++ (cause_text c ++ codes "\n")
+
+-- what is written of an answer to a problem: the verdict, and each query with the answer to it
+unfoldable pub spoken : ℕ → Parts → Answer → List ℕ
+spoken digits p a = verdict_text a.verdict ++ parts_text digits p p.queries a.parts

@@ -1,0 +1,170 @@
+//! The bounds of a query, for people.
+ghost use Rattle.std.specs.Prelude.{◌≡◌, ◌<◌, ◌≤◌, ◌++◌, OnOk};
+ghost use Rattle.ps_canonical.specs.Lines.{Adds};
+ghost use Rattle.ps_decimal.specs.declared.limits.TheConstants.{MOST_DIGITS};
+ghost use Rattle.ps_spoken.specs.Numbers.{low_text, high_text};
+ghost use Rattle.ps_spoken.specs.Spoken.{between_text, lower_text, upper_text};
+ghost use Rattle.ps_spoken.specs.Spoken.{bounds_text, decimals_text};
+ghost use Rattle.ps_spoken.specs.Spoken.{one_value_text, sides_text, two_values_text};
+
+use crate::cause::write_cause;
+use crate::numbers::{append, fraction, high, low};
+use ps_answer::SideAnswer;
+use ps_frac::Fraction;
+use ps_io::NoMemory;
+use std::cmp::Ordering;
+
+// Writes the decimals of both bounds, from the lower one rounded down to the upper one rounded up.
+fn decimals(
+    out: &mut Vec<u8>,
+    lower: &Fraction,
+    upper: &Fraction,
+    digits: u32,
+) -> Result<(), NoMemory>
+    requires some { 0 < digits }
+    requires few { digits ≤ MOST_DIGITS }
+    ensures { OnOk result (Adds out.old.items out.new.items
+        (decimals_text digits lower.now upper.now)) }
+{
+    append(out, b" (")?;
+    low(out, lower, digits)?;
+    append(out, b" to ")?;
+    high(out, upper, digits)?;
+    append(out, b")\n")
+}
+
+// Writes the one value that both bounds are.
+fn one_value(
+    out: &mut Vec<u8>,
+    lower: &Fraction,
+    upper: &Fraction,
+    digits: u32,
+) -> Result<(), NoMemory>
+    requires some { 0 < digits }
+    requires few { digits ≤ MOST_DIGITS }
+    ensures { OnOk result (Adds out.old.items out.new.items
+        (one_value_text digits lower.now upper.now)) }
+{
+    append(out, b"  one value: ")?;
+    fraction(out, lower)?;
+    decimals(out, lower, upper, digits)
+}
+
+// Writes two bounds that differ.
+fn two_values(
+    out: &mut Vec<u8>,
+    lower: &Fraction,
+    upper: &Fraction,
+    digits: u32,
+) -> Result<(), NoMemory>
+    requires some { 0 < digits }
+    requires few { digits ≤ MOST_DIGITS }
+    ensures { OnOk result (Adds out.old.items out.new.items
+        (two_values_text digits lower.now upper.now)) }
+{
+    append(out, b"  between ")?;
+    fraction(out, lower)?;
+    append(out, b" and ")?;
+    fraction(out, upper)?;
+    decimals(out, lower, upper, digits)
+}
+
+// Writes both bounds, or the one value that they are.
+fn between(
+    out: &mut Vec<u8>,
+    lower: &Fraction,
+    upper: &Fraction,
+    digits: u32,
+) -> Result<(), NoMemory>
+    requires some { 0 < digits }
+    requires few { digits ≤ MOST_DIGITS }
+    ensures { OnOk result (Adds out.old.items out.new.items
+        (between_text digits lower.now upper.now)) }
+{
+    match lower.cmp(upper) {
+        Ordering::Equal => one_value(out, lower, upper, digits),
+        Ordering::Less | Ordering::Greater => two_values(out, lower, upper, digits),
+    }
+}
+
+// Writes a lower bound, or why there is none.
+fn lower_side(out: &mut Vec<u8>, side: &SideAnswer, digits: u32) -> Result<(), NoMemory>
+    requires some { 0 < digits }
+    requires few { digits ≤ MOST_DIGITS }
+    ensures { OnOk result (Adds out.old.items out.new.items (lower_text digits side.now)) }
+{
+    match side {
+        SideAnswer::Bound { value, .. } => {
+            append(out, b"  at least ")?;
+            fraction(out, value)?;
+            append(out, b" (")?;
+            low(out, value, digits)?;
+            append(out, b")\n")
+        }
+        SideAnswer::Open(cause) => {
+            append(out, b"  no lower bound yet: ")?;
+            write_cause(out, cause)?;
+            append(out, b"\n")
+        }
+    }
+}
+
+// Writes an upper bound, or why there is none.
+fn upper_side(out: &mut Vec<u8>, side: &SideAnswer, digits: u32) -> Result<(), NoMemory>
+    requires some { 0 < digits }
+    requires few { digits ≤ MOST_DIGITS }
+    ensures { OnOk result (Adds out.old.items out.new.items (upper_text digits side.now)) }
+{
+    match side {
+        SideAnswer::Bound { value, .. } => {
+            append(out, b"  at most ")?;
+            fraction(out, value)?;
+            append(out, b" (")?;
+            high(out, value, digits)?;
+            append(out, b")\n")
+        }
+        SideAnswer::Open(cause) => {
+            append(out, b"  no upper bound yet: ")?;
+            write_cause(out, cause)?;
+            append(out, b"\n")
+        }
+    }
+}
+
+// Writes each side of a query.
+fn sides(
+    out: &mut Vec<u8>,
+    lower: &SideAnswer,
+    upper: &SideAnswer,
+    digits: u32,
+) -> Result<(), NoMemory>
+    requires some { 0 < digits }
+    requires few { digits ≤ MOST_DIGITS }
+    ensures { OnOk result (Adds out.old.items out.new.items
+        (sides_text digits lower.now upper.now)) }
+{
+    lower_side(out, lower, digits)?;
+    upper_side(out, upper, digits)
+}
+
+/// Writes the bounds of a query: both in one line, or each side with what stopped it.
+#[tactic(auto, using(crate::proofs::Sides::open_lower, crate::proofs::Sides::open_upper))]
+pub fn write_bounds(
+    out: &mut Vec<u8>,
+    lower: &SideAnswer,
+    upper: &SideAnswer,
+    digits: u32,
+) -> Result<(), NoMemory>
+    requires some { 0 < digits }
+    requires few { digits ≤ MOST_DIGITS }
+    ensures { OnOk result (Adds out.old.items out.new.items
+        (bounds_text digits lower.now upper.now)) }
+{
+    match lower {
+        SideAnswer::Open(_) => sides(out, lower, upper, digits),
+        SideAnswer::Bound { value: least, .. } => match upper {
+            SideAnswer::Open(_) => sides(out, lower, upper, digits),
+            SideAnswer::Bound { value: most, .. } => between(out, least, most, digits),
+        },
+    }
+}
