@@ -53,7 +53,7 @@ links-push i (suc n) =
     ap (links_from i) (let e : suc n + 1 ≡ suc (n + 1) = omega arith in e) ∙ ap (λ is. link i ∷ is) (links-push (i + 1) n)
     ∙ ap (λ k. link i ∷ links_from (i + 1) n ++ link k ∷ []) (let e : i + 1 + n ≡ i + suc n = omega arith in e)
 
-more-lines : (n : ℕ) → lines_of (links_from 0 (n + 1)) ≡ lines_of (links_from 0 n) ++ line_of (link n)
+pub more-lines : (n : ℕ) → lines_of (links_from 0 (n + 1)) ≡ lines_of (links_from 0 n) ++ line_of (link n)
 more-lines n =
     ap lines_of (links-push 0 n ∙ ap (λ k. links_from 0 n ++ link k ∷ []) (let e : 0 + n ≡ n = omega arith in e))
     ∙ lines-append (links_from 0 n) (link n ∷ []) ∙ ap (λ bs. lines_of (links_from 0 n) ++ bs) (append-nil (line_of (link n)))
@@ -64,7 +64,7 @@ link-more n out new e f =
     f ∙ ap (λ bs. bs ++ line_of (link n)) e ∙ append_assoc front (lines_of (links_from 0 n)) (line_of (link n)) ∙ ap (λ bs. front ++ bs) (sym (more-lines n))
 
 -- the whole text, by its lines
-text-is : (n : ℕ) → made_text n ≡ front ++ (lines_of (links_from 0 n) ++ (line_of (asked_of n) ++ codes "end;\n"))
+pub text-is : (n : ℕ) → made_text n ≡ front ++ (lines_of (links_from 0 n) ++ (line_of (asked_of n) ++ codes "end;\n"))
 text-is n =
     let links = lines_of (links_from 0 n) in
     let last = line_of (asked_of n) in

@@ -1,5 +1,5 @@
 //! The text of a chain.
-ghost use Rattle.std.specs.Prelude.{◌≡◌, ◌<◌, ◌≤◌, IfOk, OnOk, decimal};
+ghost use Rattle.std.specs.Prelude.{◌≡◌, ◌<◌, ◌≤◌, ◌^◌, length, IfOk, OnOk, decimal};
 ghost use Rattle.ps_make.specs.declared.made.TheConstants.{MOST_LINKS};
 ghost use Rattle.ps_make.specs.Chain.{link, asked_of, made_text};
 ghost use Rattle.ps_make.specs.Lines.{Adds, atom_name, arrow_text, line_of};
@@ -63,10 +63,12 @@ fn write_query(out: &mut Vec<u8>, atom: u32) -> Result<(), NoMemory>
 
 /// The canonical text of a chain with so many links: `P(x0)` is at least 9/10, each atom implies
 /// the next with a probability of at least 99/100, and the query is for the last atom. Its
-/// probability is at least (90 - links) / 100, since each implication fails with at most 1/100.
+/// probability is at least (90 - links) / 100, since each implication fails with at most 1/100. The
+/// text has less than 2^20 bytes.
 pub fn make_text(alloc: Global, links: u32) -> Result<Vec<u8>, NoMemory>
     requires { links ≤ MOST_LINKS }
-    ensures { IfOk result (λ v. v.items ≡ made_text links) }
+    ensures text { IfOk result (λ v. v.items ≡ made_text links) }
+    ensures few { IfOk result (λ v. length v.items < 2 ^ 20) }
 {
     let mut out = Vec::new(alloc);
     append(&mut out, b"psat 1;\nP(x0) >= 9/10;\n")?;
