@@ -93,6 +93,7 @@ impl Engine {
         if distance > 0.0 && !self.round_duals(distance, &mut multipliers) {
             return Ok(None);
         }
+        reduce(&mut multipliers, self.relaxed.bounds());
         self.roundings = self.roundings.saturating_add(1);
         self.completed(Aim::Consistent, multipliers)
     }
@@ -134,5 +135,42 @@ impl Engine {
             return Ok(None);
         }
         Ok(Some(multipliers.into_dual(self.alloc)))
+    }
+}
+
+// The greatest common divisor (Euclid); of numbers of 128 bits it takes at most 185 divisions.
+fn common_divisor(first: u128, second: u128) -> u128 {
+    let mut divisor = first;
+    let mut rest = second;
+    for _ in 0..185 {
+        if rest == 0 {
+            break;
+        }
+        let next = divisor % rest;
+        divisor = rest;
+        rest = next;
+    }
+    divisor
+}
+
+// What divides each multiplier of a bound.
+fn divisor_of(multipliers: &Multipliers, bounds: usize) -> u128 {
+    let mut divisor = 0;
+    for number in 0..bounds {
+        divisor = common_divisor(divisor, multipliers.get(number).unsigned_abs());
+    }
+    divisor
+}
+
+// Divides the multipliers of a contradiction by what divides all of them: where the sum of the rows is
+// below 0 in each world it still is, and by a whole number.
+fn reduce(multipliers: &mut Multipliers, bounds: usize) {
+    let Ok(divisor) = i128::try_from(divisor_of(multipliers, bounds)) else {
+        return;
+    };
+    for number in 0..bounds {
+        if let Some(multiplier) = multipliers.get(number).checked_div(divisor) {
+            multipliers.set(number, multiplier);
+        }
     }
 }
