@@ -30,7 +30,8 @@ impl Model for Decimal {
 
     ghost inverse = { λ d. record { units = d.units; digits = d.digits } };
 
-    ghost invariant = { λ d. (0 < d.digits) × (d.digits ≤ MOST_DIGITS) × (d.units ≤ 10 ^ d.digits) };
+    ghost invariant = { λ d. (0 < d.digits) × (d.digits ≤ MOST_DIGITS)
+        × (d.units ≤ 10 ^ d.digits) };
 }
 
 // The size of a fraction's numerator, and its denominator.

@@ -80,6 +80,11 @@ abbrev pub IsModelledAt : Parts → List Bool → ℕ → List Model → List Mo
 IsModelledAt p kept i old new =
     AreModelsWithout p kept (places_from 0 (take i kept)) old → AreModelsWithout p kept (places_from 0 (take (i + 1) kept)) new
 
+-- so it is, if no explanation is open
+abbrev pub AddsModel : Parts → Conflict → ℕ → List Model → List Model → Option Explained → Type 0
+AddsModel p core i old new None = IsModelledAt p core.kept i old new
+AddsModel p core i old new (Some e) = Unit {0}
+
 -- a model for each kept sentence, or the explanation is open
 abbrev pub AreModelsOrOpen : Limits → Parts → List Bool → Result (List Model) Explained → Type 0
 AreModelsOrOpen limits p kept (Ok models) = AreModelsWithout p kept (places_from 0 kept) models

@@ -1,6 +1,10 @@
 -- The text of an explanation.
-use Rattle.std.specs.Prelude.{◌≡◌, ◌<◌, ℕ, ℤ, pos, List, [], ◌∷◌, ◌++◌, codes, length, map, flat_map, All}
+use Rattle.std.specs.Prelude.{◌≡◌, ◌<◌, ℕ, ℤ, pos, List, [], ◌∷◌, ◌++◌, codes, length, map, flat_map, All, Result}
+use Rattle.ps_io.specs.Wrote.{Wrote}
 use Rattle.ps_io.specs.declared.limits.TheConstants.{LONGEST_LINE}
+use Rattle.ps_io.specs.declared.lines.Lines.{Lines}
+use Rattle.ps_io.specs.declared.sink.Sink.{Ghosts}
+use Rattle.ps_io.specs.declared.sink.WriteFault.{WriteFault}
 use Rattle.ps_log.specs.Texts.{with_numbers}
 use Rattle.ps_pool.specs.declared.event.Event.{Event}
 use Rattle.ps_answer.specs.declared.answer.Cause.{Cause}
@@ -13,6 +17,10 @@ use Rattle.ps_answer.specs.Answers.{model_items, dual_items, cause_items, trace_
 use Rattle.ps_report.specs.Parts.{AreShort}
 use Rattle.ps_explain.specs.declared.explained.Explained.{Explained}
 use Rattle.ps_explain.specs.declared.explained.Explained.TheVariants as explained
+
+-- these lines were written, or a proper prefix of them where a write failed
+abbrev pub Prints : {O : Type 0} → Ghosts O → Lines O → Lines O → Result (Unit {0}) WriteFault → List (List ℕ) → Type 0
+Prints sink old new result lines = Wrote sink.written sink.faults old new result lines
 
 -- the lines of parts that reports have too
 abbrev pub lines_of : List LineItem → List (List ℕ)
@@ -48,13 +56,13 @@ models_lines (n ∷ ns) (m ∷ ms) = without_lines n m ++ models_lines ns ms
 abbrev pub consistent_lines : Model → List (List ℕ)
 consistent_lines m = lines_of (line.Consistent ∷ model_items m)
 
--- the dual of a core, and its distributions
-abbrev pub dual_and_models : List ℕ → Dual → List Model → List (List ℕ)
-dual_and_models ns d ms = lines_of (dual_items d) ++ models_lines ns ms
+-- what stands below the line of a core: its dual, and its distributions
+abbrev pub below_core : List ℕ → Dual → List Model → List (List ℕ)
+below_core ns d ms = lines_of (dual_items d) ++ models_lines ns ms
 
 -- the numbers of a core, its dual, and its distributions
 abbrev pub core_lines : List ℕ → Dual → List Model → List (List ℕ)
-core_lines ns d ms = numbers_line (codes "core") ns ∷ dual_and_models ns d ms
+core_lines ns d ms = numbers_line (codes "core") ns ∷ below_core ns d ms
 
 -- the numbers of a run's sentences, and its events
 abbrev pub list_and_trace : List ℕ → List Event → List (List ℕ)

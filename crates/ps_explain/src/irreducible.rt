@@ -1,9 +1,9 @@
 //! Irreducible lists of sentences that can't be met together.
-ghost use Rattle.std.specs.Prelude.{◌≡◌, true, false, length, get_or, IfOk, MatchOption};
+ghost use Rattle.std.specs.Prelude.{◌≡◌, true, false, length, get_or, IfOk, IfSome};
 ghost use Rattle.ps_generation.specs.Phases.{AreLimits};
 ghost use Rattle.ps_explain.specs.Explanations.{IsExplanation};
 ghost use Rattle.ps_explain.specs.Steps.{AreModelsOrOpen, AreNeeded, IsConflict};
-ghost use Rattle.ps_explain.specs.Steps.{IsModelledAt, IsNarrowed, IsNarrowedAt};
+ghost use Rattle.ps_explain.specs.Steps.{AddsModel, IsNarrowed, IsNarrowedAt};
 
 use crate::conflict::Conflict;
 use crate::explained::{Explained, Models};
@@ -20,26 +20,26 @@ use std::alloc::Global;
 fn narrow_at<G: Guesser>(
     alloc: Global,
     means: &Means<'_, '_>,
-    conflict: &mut Conflict,
+    core: &mut Conflict,
     place: usize,
     guesser: &mut G,
     met: &mut Met,
 ) -> Result<Option<Explained>, NoMemory>
-    requires conflict { IsConflict means.now.trials.now conflict.old }
+    requires conflict { IsConflict means.now.trials.now core.old }
     requires limits { AreLimits means.now.limits }
     ensures { IfOk result
-        (IsNarrowedAt means.now.limits means.now.trials.now place conflict.old conflict.new) }
+        (IsNarrowedAt means.now.limits means.now.trials.now place core.old core.new) }
 {
-    if !is_kept(conflict.kept.as_slice(), place) {
+    if !is_kept(core.kept.as_slice(), place) {
         return Ok(None);
     }
-    match outcome_without(alloc, means, conflict, place, guesser, met)? {
+    match outcome_without(alloc, means, core, place, guesser, met)? {
         Tried::Needed(model) => {
             put_met(met, place, model);
             Ok(None)
         }
         Tried::Left(smaller) => {
-            *conflict = smaller;
+            *core = smaller;
             Ok(None)
         }
         Tried::Open(open) => Ok(Some(open)),
@@ -82,8 +82,9 @@ fn push_model<G: Guesser>(
     requires conflict { IsConflict means.now.trials.now core.now }
     requires needed { AreNeeded means.now.trials.now core.now.kept (length core.now.kept) }
     requires limits { AreLimits means.now.limits }
-    ensures { IfOk result (λ o. MatchOption o
-        (IsModelledAt means.now.trials.now core.now.kept place models.old models.new)
+    ensures more { IfOk result
+        (AddsModel means.now.trials.now core.now place models.old models.new) }
+    ensures early { IfOk result (λ o. IfSome o
         (IsExplanation means.now.limits means.now.trials.now)) }
 {
     // Called for its clauses: the problem is within the limits.

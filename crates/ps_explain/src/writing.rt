@@ -9,10 +9,10 @@ ghost use Rattle.ps_log.specs.Lines.{AddsNumbers, HoldsLine, length_with};
 ghost use Rattle.ps_log.specs.Texts.{with_numbers};
 ghost use Rattle.ps_report.specs.Parts.{AreShort};
 ghost use Rattle.ps_explain.specs.Texts.{HasShortLines, IsShortList, body_lines, core_lines};
-ghost use Rattle.ps_explain.specs.Texts.{body_and_end, consistent_lines, dual_and_models, list_and_trace};
+ghost use Rattle.ps_explain.specs.Texts.{body_and_end, consistent_lines, below_core, list_and_trace};
 ghost use Rattle.ps_explain.specs.Texts.{explanation_line, explanation_lines, models_lines};
 ghost use Rattle.ps_explain.specs.Texts.{number_list, numbers_line, open_lines, without_line};
-ghost use Rattle.ps_explain.specs.Texts.{without_lines};
+ghost use Rattle.ps_explain.specs.Texts.{without_lines, Prints};
 
 use crate::explained::Explained;
 use ps_answer::{Cause, Dual, Model};
@@ -97,7 +97,7 @@ fn write_core<O: Sink>(
     requires dual { AreShort (dual_items dual.now) }
     requires models { All (λ m. AreShort (model_items m)) without.now }
     requires each { length sentences.now ≡ length without.now }
-    ensures { Wrote O.written O.faults lines.old lines.new result
+    ensures { Prints O.Sink lines.old lines.new result
         (core_lines sentences.now dual.now without.now) }
 {
     write_numbers(lines, b"core", sentences)?;
@@ -114,8 +114,8 @@ fn write_dual_and_models<O: Sink>(
     requires dual { AreShort (dual_items dual.now) }
     requires models { All (λ m. AreShort (model_items m)) without.now }
     requires each { length sentences.now ≡ length without.now }
-    ensures { Wrote O.written O.faults lines.old lines.new result
-        (dual_and_models sentences.now dual.now without.now) }
+    ensures { Prints O.Sink lines.old lines.new result
+        (below_core sentences.now dual.now without.now) }
 {
     write_dual(lines, dual)?;
     write_models(lines, sentences, without)
@@ -131,7 +131,7 @@ fn write_open<O: Sink>(
     requires cause { AreShort (cause_items cause.now) }
     requires list { IsShortList (codes "sentences") sentences.now }
     requires events { AreShort (trace_items first.now) }
-    ensures { Wrote O.written O.faults lines.old lines.new result
+    ensures { Prints O.Sink lines.old lines.new result
         (open_lines sentences.now cause.now first.now) }
 {
     write_cause(lines, cause)?;
@@ -146,7 +146,7 @@ fn write_list_and_trace<O: Sink>(
     requires empty { text_of lines.old ≡ [] }
     requires list { IsShortList (codes "sentences") sentences.now }
     requires events { AreShort (trace_items first.now) }
-    ensures { Wrote O.written O.faults lines.old lines.new result
+    ensures { Prints O.Sink lines.old lines.new result
         (list_and_trace sentences.now first.now) }
 {
     write_numbers(lines, b"sentences", sentences)?;
@@ -161,7 +161,7 @@ fn write_models<O: Sink>(
     requires empty { text_of lines.old ≡ [] }
     requires models { All (λ m. AreShort (model_items m)) without.now }
     requires each { length sentences.now ≡ length without.now }
-    ensures { Wrote O.written O.faults lines.old lines.new result
+    ensures { Prints O.Sink lines.old lines.new result
         (models_lines sentences.now without.now) }
 {
     for i in 0..sentences.len() {
@@ -201,7 +201,7 @@ fn write_numbers<O: Sink>(
     requires empty { text_of lines.old ≡ [] }
     requires word { IsWord word.now }
     requires short { IsShortList word.now numbers.now }
-    ensures { Wrote O.written O.faults lines.old lines.new result
+    ensures { Prints O.Sink lines.old lines.new result
         (numbers_line word.now numbers.now ∷ []) }
 {
     add_list(lines, word, numbers);

@@ -1,7 +1,8 @@
 -- Numbers as they are written for people.
-use Rattle.std.specs.Prelude.{ℕ, pos, ◌==◌, if◌then◌else◌, List, [], ◌++◌, codes}
+use Rattle.std.specs.Prelude.{ℕ, pos, ◌==◌, if◌then◌else◌, List, [], ◌++◌, codes, Result, OnOk}
 use Rattle.std.specs.Fmt.{signed_decimal}
 use Rattle.ps_rational.specs.Rational.{Rational}
+use Rattle.ps_canonical.specs.Lines.{Adds}
 use Rattle.ps_decimal.specs.Decimals.{has_decimals, rounded_down, rounded_up, text_of}
 
 -- a fraction in lowest terms, and without its denominator where that is 1
@@ -15,3 +16,7 @@ low_text digits x = if has_decimals x then text_of (rounded_down x digits) else 
 -- the same rounded up
 abbrev pub high_text : ℕ → Rational → List ℕ
 high_text digits x = if has_decimals x then text_of (rounded_up x digits) else codes "?"
+
+-- unless memory ran out, the text stands behind what was written before
+abbrev pub Says : {T E : Type 0} → Result T E → (old new text : List ℕ) → Type 0
+Says result old new text = OnOk result (Adds old new text)

@@ -20,11 +20,15 @@ use Rattle.ps_answer.specs.declared.answer.QueryPart.{QueryPart}
 use Rattle.ps_answer.specs.declared.answer.Answer.{Answer}
 use Rattle.ps_spoken.specs.Numbers.{fraction_text, low_text, high_text}
 
+-- a limit between words
+abbrev pub limit_text : List ℕ → ℕ → List ℕ → List ℕ
+limit_text before limit behind = before ++ (signed_decimal (pos limit) ++ behind)
+
 -- what stopped a part, and what to do about it
 abbrev pub cause_text : Cause → List ℕ
-cause_text (Pivots limit) = codes "stopped at the limit of " ++ (signed_decimal (pos limit) ++ codes " pivots; allow more by --pivots")
+cause_text (Pivots limit) = limit_text (codes "stopped at the limit of ") limit (codes " pivots; allow more by --pivots")
 cause_text (Conflicts limit goal steps) =
-    codes "a search stopped at the limit of " ++ (signed_decimal (pos limit) ++ codes " conflicts; allow more by --conflicts")
+    limit_text (codes "a search stopped at the limit of ") limit (codes " conflicts; allow more by --conflicts")
 cause_text (Wide at) = codes "a number needs more than 127 bits; values of fewer digits may help"
 
 -- the decimals from a lower bound to an upper one
@@ -88,6 +92,10 @@ paired_text text (x ∷ xs) (y ∷ ys) = text x y ++ paired_text text xs ys
 -- the queries, each with the answer to it
 abbrev pub parts_text : ℕ → Parts → List Query → List QueryPart → List ℕ
 parts_text digits p queries parts = paired_text (part_text digits p) queries parts
+
+-- the queries of a problem, each with the answer to it
+abbrev pub queries_text : ℕ → Parts → List QueryPart → List ℕ
+queries_text digits p parts = parts_text digits p p.queries parts
 
 -- the verdict
 abbrev pub verdict_text : Verdict → List ℕ

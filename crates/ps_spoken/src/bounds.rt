@@ -2,7 +2,7 @@
 ghost use Rattle.std.specs.Prelude.{◌≡◌, ◌<◌, ◌≤◌, ◌++◌, OnOk};
 ghost use Rattle.ps_canonical.specs.Lines.{Adds};
 ghost use Rattle.ps_decimal.specs.declared.limits.TheConstants.{MOST_DIGITS};
-ghost use Rattle.ps_spoken.specs.Numbers.{low_text, high_text};
+ghost use Rattle.ps_spoken.specs.Numbers.{low_text, high_text, Says};
 ghost use Rattle.ps_spoken.specs.Spoken.{between_text, lower_text, upper_text};
 ghost use Rattle.ps_spoken.specs.Spoken.{bounds_text, decimals_text};
 ghost use Rattle.ps_spoken.specs.Spoken.{one_value_text, sides_text, two_values_text};
@@ -23,8 +23,8 @@ fn decimals(
 ) -> Result<(), NoMemory>
     requires some { 0 < digits }
     requires few { digits ≤ MOST_DIGITS }
-    ensures { OnOk result (Adds out.old.items out.new.items
-        (decimals_text digits lower.now upper.now)) }
+    ensures { Says result out.old.items out.new.items
+        (decimals_text digits lower.now upper.now) }
 {
     append(out, b" (")?;
     low(out, lower, digits)?;
@@ -42,8 +42,8 @@ fn one_value(
 ) -> Result<(), NoMemory>
     requires some { 0 < digits }
     requires few { digits ≤ MOST_DIGITS }
-    ensures { OnOk result (Adds out.old.items out.new.items
-        (one_value_text digits lower.now upper.now)) }
+    ensures { Says result out.old.items out.new.items
+        (one_value_text digits lower.now upper.now) }
 {
     append(out, b"  one value: ")?;
     fraction(out, lower)?;
@@ -59,8 +59,8 @@ fn two_values(
 ) -> Result<(), NoMemory>
     requires some { 0 < digits }
     requires few { digits ≤ MOST_DIGITS }
-    ensures { OnOk result (Adds out.old.items out.new.items
-        (two_values_text digits lower.now upper.now)) }
+    ensures { Says result out.old.items out.new.items
+        (two_values_text digits lower.now upper.now) }
 {
     append(out, b"  between ")?;
     fraction(out, lower)?;

@@ -1,8 +1,7 @@
 //! Why a part is open, for people.
-ghost use Rattle.std.specs.Prelude.{◌++◌, pos, OnOk};
-ghost use Rattle.std.specs.Fmt.{signed_decimal};
+ghost use Rattle.std.specs.Prelude.{OnOk};
 ghost use Rattle.ps_canonical.specs.Lines.{Adds};
-ghost use Rattle.ps_spoken.specs.Spoken.{cause_text};
+ghost use Rattle.ps_spoken.specs.Spoken.{cause_text, limit_text};
 
 use crate::numbers::{append, number};
 use ps_answer::Cause;
@@ -11,7 +10,7 @@ use ps_io::NoMemory;
 // Writes a limit between words.
 fn limit(out: &mut Vec<u8>, before: &[u8], limit: u64, behind: &[u8]) -> Result<(), NoMemory>
     ensures { OnOk result (Adds out.old.items out.new.items
-        (before.now ++ (signed_decimal (pos limit) ++ behind.now))) }
+        (limit_text before.now limit behind.now)) }
 {
     append(out, before)?;
     number(out, i128::from(limit))?;

@@ -3,7 +3,8 @@ ghost use Rattle.std.specs.Prelude.{◌≡◌, ◌<◌, ◌≤◌, OnOk};
 ghost use Rattle.ps_problem.specs.Problems.{HasNodes};
 ghost use Rattle.ps_canonical.specs.Lines.{Adds};
 ghost use Rattle.ps_decimal.specs.declared.limits.TheConstants.{MOST_DIGITS};
-ghost use Rattle.ps_spoken.specs.Spoken.{answer_text, part_text, parts_text};
+ghost use Rattle.ps_spoken.specs.Numbers.{Says};
+ghost use Rattle.ps_spoken.specs.Spoken.{answer_text, part_text, parts_text, queries_text};
 
 use crate::bounds::write_bounds;
 use crate::cause::write_cause;
@@ -46,8 +47,8 @@ fn write_part(
     requires query { HasNodes problem.now.nodes query.formula query.given query.both }
     requires some { 0 < digits }
     requires few { digits ≤ MOST_DIGITS }
-    ensures { OnOk result (Adds out.old.items out.new.items
-        (part_text digits problem.now query part.now)) }
+    ensures { Says result out.old.items out.new.items
+        (part_text digits problem.now query part.now) }
 {
     write_probability(alloc, problem, query.formula, query.given, out)?;
     append(out, b"\n")?;
@@ -64,8 +65,8 @@ pub fn write_parts(
 ) -> Result<(), NoMemory>
     requires some { 0 < digits }
     requires few { digits ≤ MOST_DIGITS }
-    ensures { OnOk result (Adds out.old.items out.new.items
-        (parts_text digits problem.now problem.now.queries parts.now)) }
+    ensures { Says result out.old.items out.new.items
+        (queries_text digits problem.now parts.now) }
 {
     let queries = problem.queries().as_slice();
     let mut answered = 0;

@@ -18,5 +18,7 @@ pub returns-in_ok-push-in-Needed : goal.returns-in_ok-push-in-Needed
 returns-in_ok-push-in-Needed g c =
     let tried = rw c.in-Needed.is at c.in_ok-model.ensures in
     let kept : get_or c.args.core.now.kept c.args.place false ≡ true = search rules in
-    let more = rw c.in_ok-push-in-Needed.was at c.push.ensures.ok in
-    models_more c.args.means.now.trials.now c.args.core.now.kept c.args.place c.args.models.now c.push.new.self c.in-Needed.model kept tried.0 tried.1 more
+    let pushed = rw c.in_ok-push-in-Needed.was at c.push.ensures.ok in record {
+      more = models_more c.args.means.now.trials.now c.args.core.now.kept c.args.place c.args.models.now c.push.new.self c.in-Needed.model kept tried.0 tried.1 pushed;
+      early = tt;
+    }
