@@ -1,5 +1,5 @@
 -- A run in which no call failed answers what is due, or there was not enough memory.
-use Rattle.std.proofs.Common.{◌≡◌, ◌-◌, ◌^◌, ◌<◌, ◌≤◌, ◌⊎◌, ℕ, Bool, List, length, drop, Option, Some, refl, sym, ap, subst, arith, inl, inr, String}
+use Rattle.std.proofs.Common.{◌≡◌, ◌-◌, ◌^◌, ◌<◌, ◌≤◌, ◌⊎◌, ℕ, Bool, List, [], length, drop, Option, Some, refl, sym, ap, subst, arith, inl, inr, String}
 use Rattle.std.specs.declared.alloc.Global.{Global}
 use Rattle.ps_read.specs.Readings.{SpellsProblem, SpellsWhole, Read, Unread}
 use Rattle.ps_read.proofs.OneReading.{one_reading, one_whole_reading}
@@ -11,9 +11,9 @@ use Rattle.psat.specs.declared.command.TheConstants.{MOST_PROBLEM}
 use Rattle.psat.specs.declared.status.Status.{Status}
 use Rattle.psat.specs.declared.status.Status.TheVariants as status
 use Rattle.psat.specs.Commands.{Spell, words_of}
-use Rattle.psat.specs.Due.{Output, DueReport, DueText, Spelled, NotRead, DueAnswered, Solved, NoProblem, DueWithin, Within, TooLong, DueFor, Due, ForCommand, ForNone, searched}
+use Rattle.psat.specs.Due.{Output, DueReport, DueText, Spelled, NotRead, DueAnswered, Solved, NoProblem, DueExplained, Explains, NoneExplained, DueMade, DueWithin, Within, TooLong, DueFor, Due, ForCommand, ForNone, searched}
 use Rattle.psat.specs.Runs.{Answered, CountsReads, CountsWrites, IsTold, IsGiven, Wrote}
-use Rattle.psat.specs.Answering.{Ends, HasNotFailed, IsFaultless, IsOutOfMemory, HasWritten, IsSolved}
+use Rattle.psat.specs.Answering.{Ends, HasNotFailed, IsFaultless, IsOutOfMemory, HasWritten, IsExplained, IsSolved}
 use Rattle.psat.proofs.CommandLaws.{one_command}
 
 answered_or_none : (words : List (List ℕ)) (bytes : List ℕ) (s : Status) (old new : Ends) → CountsReads old.source.faults new.source.faults s → CountsWrites old.sink.faults new.sink.faults s
@@ -31,6 +31,8 @@ faultless_answer words old new s bytes h given = answered_or_none (words_of word
 told : (c : Command) (left : Option (List ℕ)) (bytes : List ℕ) → left ≡ Some bytes → IsTold c left bytes
 told (commands.Check limit) left bytes e = e
 told (commands.Solve limits enough) left bytes e = e
+told (commands.Explain limits enough) left bytes e = e
+told (commands.Make n limits) left bytes e = tt
 
 -- what is due for words is due for the command that they spell
 due_for : (words : List (List ℕ)) (c : Command) (bytes : List ℕ) (o : Output) → Spell words c → Due words bytes o → DueFor c bytes o
@@ -58,6 +60,14 @@ judged_front bytes p place o spells (Spelled q i a r) =
 judged_front bytes p place o spells (NotRead kind at u is) =
     let same = one_reading (searched bytes) (Read p place) (Unread kind at) spells u in absurd (cc)
 
+explained_whole : (limits : Limits) (enough : Bool) (bytes : List ℕ) (p : Parts) (o : Output) → SpellsWhole bytes p → DueExplained limits enough bytes o → IsExplained limits enough bytes p o
+explained_whole limits enough bytes p o spells (Explains q e h) =
+    let same = one_whole_reading bytes (Read q (length bytes)) (Read p (length bytes)) (h.spells, refl) (spells, refl) in
+    let problem : q ≡ p = cc in
+    subst (λ (x : Parts). IsExplained limits enough bytes x o) problem (e, h)
+explained_whole limits enough bytes p o spells (NoneExplained kind at u is) =
+    let same = one_whole_reading bytes (Read p (length bytes)) (Unread kind at) (spells, refl) u in absurd (cc)
+
 -- what holds of what is due holds of what was written
 written_so : (words : List (String Global)) (c : Command) (old new : Ends) (s : Status) (bytes : List ℕ) (D : Output → Type 0) → Spell (words_of words) c → IsFaultless words old new s
     → old.source.bytes ≡ Some bytes → ((o : Output) → DueFor c bytes o → D o) → HasWritten D s old new ⊎ IsOutOfMemory s old new
@@ -80,3 +90,22 @@ pub report_judged : (words : List (String Global)) (limit : ℕ) (old new : Ends
 report_judged words limit old new s bytes p place spelled h e few spells =
     written_so words (commands.Check limit) old new s bytes (DueReport p (drop place bytes)) spelled h e
     (λ o due. judged_front bytes p place o spells (due_within limit DueText bytes o few due))
+
+pub problem_explained : (words : List (String Global)) (limits : Limits) (enough : Bool) (old new : Ends) (s : Status) (bytes : List ℕ) (p : Parts) → Spell (words_of words) (commands.Explain limits enough)
+    → IsFaultless words old new s → old.source.bytes ≡ Some bytes → length bytes ≤ MOST_PROBLEM → SpellsWhole bytes p
+    → HasWritten (IsExplained limits enough bytes p) s old new ⊎ IsOutOfMemory s old new
+problem_explained words limits enough old new s bytes p spelled h e few spells =
+    written_so words (commands.Explain limits enough) old new s bytes (IsExplained limits enough bytes p) spelled h e
+    (λ o due. explained_whole limits enough bytes p o spells (due_within MOST_PROBLEM (DueExplained limits enough) bytes o few due))
+
+-- whatever bytes a run is given that makes a problem
+pub problem_made : (words : List (String Global)) (links : ℕ) (limits : Limits) (old new : Ends) (s : Status) → Spell (words_of words) (commands.Make links limits) → IsFaultless words old new s
+    → HasWritten (DueMade links limits) s old new ⊎ IsOutOfMemory s old new
+problem_made words links limits old new s spelled h =
+    elim (faultless_answer words old new s [] h (record { told = λ d other. unread d other })) [
+      | inl a ↦ inl (record { output = a.output; due = due_for (words_of words) (commands.Make links limits) [] a.output spelled a.due; status_is = a.status_is; written = a.written })
+      | inr none ↦ inr none
+    ]
+  where
+    unread : (d : Command) → Spell (words_of words) d → IsTold d old.source.bytes []
+    unread d other = subst (λ (x : Command). IsTold x old.source.bytes []) (one_command (words_of words) (commands.Make links limits) d spelled other) tt

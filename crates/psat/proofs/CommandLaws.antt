@@ -1,20 +1,24 @@
 -- Which words spell a command.
-use Rattle.std.proofs.Common.{◌≡◌, ◌⊎◌, inl, inr, ℕ, zero, suc, ◌^◌, ◌<◌, ◌≤◌, Bool, true, false, List, [], ◌∷◌, length, All, Contains, get_or, drop, codes, Option, Some, None, String, string_bytes, refl, sym, ap, subst, ◌∙◌, arith}
+use Rattle.std.proofs.Common.{◌≡◌, ◌≢◌, ◌⊎◌, inl, inr, ℕ, zero, suc, ◌^◌, ◌<◌, ◌≤◌, Bool, true, false, List, [], ◌∷◌, ◌++◌, length, All, Contains, get_or, drop, codes, Option, Some, None, String, string_bytes, refl, sym, ap, subst, ◌∙◌, arith}
 use Rattle.std.specs.declared.alloc.Global.{Global}
 use Rattle.std.specs.Prelude.{MatchOption}
 use Rattle.std.specs.Fmt.{decimal}
+use Rattle.std.proofs.lemmas.Fmt.{decimal_injective}
 use Rattle.std.proofs.lemmas.List.Elements.{All-nil, All-cons}
 use Rattle.ps_generation.specs.declared.limits.Limits.{Limits}
+use Rattle.ps_generation.specs.Phases.{AreLimits}
+use Rattle.ps_make.specs.declared.made.TheConstants.{MOST_LINKS}
 use Rattle.psat.specs.declared.command.Command.{Command}
-use Rattle.psat.specs.declared.command.Command.TheVariants.{Check, Solve}
+use Rattle.psat.specs.declared.command.Command.TheVariants.{Check, Explain, Make, Solve}
 use Rattle.psat.specs.declared.command.Limit.{Limit}
 use Rattle.psat.specs.declared.command.Limit.TheVariants.{Bytes, Pivots, Conflicts}
 use Rattle.psat.specs.declared.command.LimitValue.{LimitValue}
 use Rattle.psat.specs.declared.command.LimitValue.TheVariants.{Number, Enough}
+use Rattle.psat.specs.declared.command.RunSettings.{RunSettings}
 use Rattle.psat.specs.declared.command.TheConstants.{DEFAULT_BYTES, MOST_BYTES, DEFAULT_PIVOTS}
 use Rattle.ps_log.proofs.StepShapes.{head, tail}
-use Rattle.psat.specs.Commands.{words_of, limit_word, value_word, MayBe, pivots_of, LimitSetting, setting_words, AreSettings, IsSetTo, AreWordsOf, Spell, SpellNone}
-use Rattle.psat.specs.Settings.{FindsNumber}
+use Rattle.psat.specs.Commands.{words_of, limit_word, value_word, MayBe, pivots_of, LimitSetting, setting_words, AreSettings, IsSetTo, AreWordsOf, SetRuns, SpellRuns, SpellMake, Spell, SpellNone}
+use Rattle.psat.specs.Settings.{FindsNumber, FindsBehind, SetNoRuns, SpellsNoLinks, is_enough, limits_by}
 use Rattle.psat.specs.Replies.{AreLimitsOf}
 use Rattle.psat.proofs.Settings.{one_value, settings-are, set-small, words_are}
 
@@ -90,66 +94,250 @@ behind_check words bytes h = behind words bytes h.0.settings (tail _ _ words (se
 abbrev pub name_of : Command → List ℕ
 name_of (Check n) = codes "check"
 name_of (Solve limits enough) = codes "solve"
+name_of (Explain limits enough) = codes "explain"
+name_of (Make n limits) = codes "make"
+
+-- the words begin with it
+named : (words : List (List ℕ)) (c : Command) → Spell words c → (rest : List (List ℕ)) × (words ≡ name_of c ∷ rest)
+named words (Check n) h = (setting_words h.0.settings, h.0.words_are)
+named words (Solve limits enough) h = (setting_words h.set.spelled.settings, h.set.spelled.words_are)
+named words (Explain limits enough) h = (setting_words h.set.spelled.settings, h.set.spelled.words_are)
+named words (Make n limits) h = (decimal n ∷ setting_words h.set.spelled.settings, h.set.spelled.words_are)
 
 pub name-is : (name : List ℕ) (words : List (List ℕ)) (c : Command) → Spell (name ∷ words) c → name ≡ name_of c
-name-is name words (Check n) h = head _ _ _ _ h.0.words_are
-name-is name words (Solve limits enough) h = head _ _ _ _ h.0.words_are
+name-is name words c h = let n = named (name ∷ words) c h in head name (name_of c) words n.0 n.1
 
 pub no_words : (c : Command) → ¬ Spell [] c
-no_words (Check n) h = let e = h.0.words_are in absurd (cc)
-no_words (Solve limits enough) h = let e = h.0.words_are in absurd (cc)
+no_words c h = let n = named [] c h in let e = n.1 in absurd (cc)
 
 first_of : List ℕ → ℕ
 first_of w = get_or w 0 0
 
-pub other_names : codes "check" ≡ codes "solve" → ⊥
-unfolding first_of
-other_names e = omega (arith, ap first_of e)
+-- commands of other names aren't spelled by the same words
+apart : (words : List (List ℕ)) (c d : Command) → (first_of (name_of c) ≢ first_of (name_of d)) → Spell words c → Spell words d → ⊥
+apart words c d other g h =
+    let a = named words c g in
+    let b = named words d h in
+    other (ap first_of (head (name_of c) (name_of d) a.0 b.0 (sym a.1 ∙ b.1)))
+
+-- words behind a name that spell no command of this name spell none
+name_none : (name : List ℕ) (words : List (List ℕ)) → ((c : Command) → name ≡ name_of c → ¬ Spell (name ∷ words) c) → SpellNone (name ∷ words)
+name_none name words not = record { none = λ c h. not c (name-is name words c h) h }
 
 -- words that no command has a name for
-pub unnamed : (name : List ℕ) (words : List (List ℕ)) → ¬ (name ≡ codes "solve") → ¬ (name ≡ codes "check") → SpellNone (name ∷ words)
-unnamed name words p q = record { none = by }
+pub unnamed : (name : List ℕ) (words : List (List ℕ)) → ¬ (name ≡ codes "solve") → ¬ (name ≡ codes "explain") → ¬ (name ≡ codes "make") → ¬ (name ≡ codes "check") → SpellNone (name ∷ words)
+unnamed name words p q r t = name_none name words by
   where
-    by : (c : Command) → ¬ Spell (name ∷ words) c
-    by (Check n) h = q (name-is name words (Check n) h)
-    by (Solve limits enough) h = p (name-is name words (Solve limits enough) h)
+    by : (c : Command) → name ≡ name_of c → ¬ Spell (name ∷ words) c
+    by (Check n) e h = t e
+    by (Solve limits enough) e h = p e
+    by (Explain limits enough) e h = q e
+    by (Make n limits) e h = r e
 
 -- ---- words spell one command
 one_limits : (l m : Limits) → l.pivots ≡ m.pivots → l.conflicts ≡ m.conflicts → l ≡ m
 one_limits l m p q = ap (λ (x : ℕ). record { pivots = x; conflicts = l.conflicts }) p ∙ ap (λ (x : ℕ). record { pivots = m.pivots; conflicts = x }) q
 
--- and so one command: where pivots are to be enough, both numbers are the default
-one_solve : (l m : Limits) (e f : Bool) → pivots_of l e ≡ pivots_of m f → l.conflicts ≡ m.conflicts → (e ≡ true → l.pivots ≡ DEFAULT_PIVOTS) → (f ≡ true → m.pivots ≡ DEFAULT_PIVOTS)
-    → Solve l e ≡ Solve m f
-one_solve l m false false p q d g = ap (λ (x : Limits). Solve x false) (one_limits l m (same_number l.pivots m.pivots p) q)
-one_solve l m true true p q d g = ap (λ (x : Limits). Solve x true) (one_limits l m (d refl ∙ sym (g refl)) q)
-one_solve l m false true p q d g = absurd (cc)
-one_solve l m true false p q d g = absurd (cc)
+behind_same : (front xs ys : List (List ℕ)) → front ++ xs ≡ front ++ ys → xs ≡ ys
+behind_same [] xs ys e = e
+behind_same (w ∷ front) xs ys e = behind_same front xs ys (tail w w (front ++ xs) (front ++ ys) e)
 
-same_settings : (name : List ℕ) (limits : List Limit) (words : List (List ℕ)) (a b : AreWordsOf name limits words) → b.settings ≡ a.settings
-same_settings name limits words a b = settings-are b.settings a.settings b.are.within a.are.within (tail _ _ _ _ (sym b.words_are ∙ a.words_are))
+same_settings : (front : List (List ℕ)) (limits : List Limit) (words : List (List ℕ)) (a b : AreWordsOf front limits words) → b.settings ≡ a.settings
+same_settings front limits words a b =
+    settings-are b.settings a.settings b.are.within a.are.within (behind_same front (setting_words b.settings) (setting_words a.settings) (sym b.words_are ∙ a.words_are))
+
+-- the limits of runs are set to one value each
+one_set : (front words : List (List ℕ)) (v w : LimitValue) (j k : ℕ) → SetRuns front v j words → SetRuns front w k words → (v ≡ w) × (j ≡ k)
+one_set front words v w j k a b =
+    let same = same_settings front (Pivots ∷ Conflicts ∷ []) words a.spelled b.spelled in (
+      one_value a.spelled.settings a.spelled.are.once Pivots v w a.pivots_are (subst (λ (ss : List LimitSetting). IsSetTo ss Pivots w) same b.pivots_are),
+      same_number j k
+          (one_value a.spelled.settings a.spelled.are.once Conflicts (Number j) (Number k) a.conflicts_are (subst (λ (ss : List LimitSetting). IsSetTo ss Conflicts (Number k)) same b.conflicts_are)),
+    )
+
+-- where pivots are to be enough, both numbers are the default
+one_choice : (l m : Limits) (e f : Bool) → pivots_of l e ≡ pivots_of m f → l.conflicts ≡ m.conflicts → (e ≡ true → l.pivots ≡ DEFAULT_PIVOTS) → (f ≡ true → m.pivots ≡ DEFAULT_PIVOTS)
+    → (l ≡ m) × (e ≡ f)
+one_choice l m false false p q d g = (one_limits l m (same_number l.pivots m.pivots p) q, refl)
+one_choice l m true true p q d g = (one_limits l m (d refl ∙ sym (g refl)) q, refl)
+one_choice l m false true p q d g = absurd (cc)
+one_choice l m true false p q d g = absurd (cc)
+
+one_runs : (name : List ℕ) (l m : Limits) (e f : Bool) (words : List (List ℕ)) → SpellRuns name l e words → SpellRuns name m f words → (l ≡ m) × (e ≡ f)
+one_runs name l m e f words a b =
+    let same = one_set (name ∷ []) words (pivots_of l e) (pivots_of m f) l.conflicts m.conflicts a.set b.set in one_choice l m e f same.0 same.1 a.default b.default
+
+-- the numbers of made problems have one spelling
+one_made : (words : List (List ℕ)) (n m : ℕ) (l k : Limits) → SpellMake n l words → SpellMake m k words → Make n l ≡ Make m k
+one_made words n m l k a b = by (decimal_injective n m (let few = a.few in omega (arith, few)) (let few = b.few in omega (arith, few)) number)
+  where
+    rest : decimal n ∷ setting_words a.set.spelled.settings ≡ decimal m ∷ setting_words b.set.spelled.settings
+    rest = tail (codes "make") (codes "make") _ _ (sym a.set.spelled.words_are ∙ b.set.spelled.words_are)
+
+    number : decimal n ≡ decimal m
+    number = head _ _ _ _ rest
+
+    by : n ≡ m → Make n l ≡ Make m k
+    by e =
+        let first = subst (λ (x : ℕ). SpellMake x l words) e a in
+        let same = one_set (codes "make" ∷ decimal m ∷ []) words (Number l.pivots) (Number k.pivots) l.conflicts k.conflicts first.set b.set in
+        ap (λ (x : ℕ). Make x l) e ∙ ap (λ (x : Limits). Make m x) (one_limits l k (same_number l.pivots k.pivots same.0) same.1)
 
 pub one_command : (words : List (List ℕ)) (c d : Command) → Spell words c → Spell words d → c ≡ d
+unfolding first_of
 one_command words (Check m) (Check n) a b =
-    let same = same_settings (codes "check") (Bytes ∷ []) words a.0 b.0 in
+    let same = same_settings (codes "check" ∷ []) (Bytes ∷ []) words a.0 b.0 in
     ap Check (same_number m n (one_value a.0.settings a.0.are.once Bytes (Number m) (Number n) a.1 (subst (λ (ss : List LimitSetting). IsSetTo ss Bytes (Number n)) same b.1)))
 one_command words (Solve l e) (Solve m f) a b =
-    let same = same_settings (codes "solve") (Pivots ∷ Conflicts ∷ []) words a.0 b.0 in
-    one_solve l m e f
-    (one_value a.0.settings a.0.are.once Pivots (pivots_of l e) (pivots_of m f) a.1 (subst (λ (ss : List LimitSetting). IsSetTo ss Pivots (pivots_of m f)) same b.1))
-    (same_number l.conflicts m.conflicts
-    (one_value a.0.settings a.0.are.once Conflicts (Number l.conflicts) (Number m.conflicts) a.2 (subst (λ (ss : List LimitSetting). IsSetTo ss Conflicts (Number m.conflicts)) same b.2)))
-    a.3 b.3
-one_command words (Check m) (Solve l e) a b = absurd (other_names (head _ _ _ _ (sym a.0.words_are ∙ b.0.words_are)))
-one_command words (Solve l e) (Check m) a b = absurd (other_names (head _ _ _ _ (sym b.0.words_are ∙ a.0.words_are)))
+    let same = one_runs (codes "solve") l m e f words a b in ap (λ (x : Limits). Solve x e) same.0 ∙ ap (λ (x : Bool). Solve m x) same.1
+one_command words (Explain l e) (Explain m f) a b =
+    let same = one_runs (codes "explain") l m e f words a b in ap (λ (x : Limits). Explain x e) same.0 ∙ ap (λ (x : Bool). Explain m x) same.1
+one_command words (Make n l) (Make m k) a b = one_made words n m l k a b
+one_command words (Check m) (Solve l e) a b = absurd (apart words (Check m) (Solve l e) (λ x. omega (arith, x)) a b)
+one_command words (Check m) (Explain l e) a b = absurd (apart words (Check m) (Explain l e) (λ x. omega (arith, x)) a b)
+one_command words (Check m) (Make n l) a b = absurd (apart words (Check m) (Make n l) (λ x. omega (arith, x)) a b)
+one_command words (Solve l e) (Check m) a b = absurd (apart words (Solve l e) (Check m) (λ x. omega (arith, x)) a b)
+one_command words (Solve l e) (Explain k f) a b = absurd (apart words (Solve l e) (Explain k f) (λ x. omega (arith, x)) a b)
+one_command words (Solve l e) (Make n k) a b = absurd (apart words (Solve l e) (Make n k) (λ x. omega (arith, x)) a b)
+one_command words (Explain l e) (Check m) a b = absurd (apart words (Explain l e) (Check m) (λ x. omega (arith, x)) a b)
+one_command words (Explain l e) (Solve k f) a b = absurd (apart words (Explain l e) (Solve k f) (λ x. omega (arith, x)) a b)
+one_command words (Explain l e) (Make n k) a b = absurd (apart words (Explain l e) (Make n k) (λ x. omega (arith, x)) a b)
+one_command words (Make n l) (Check m) a b = absurd (apart words (Make n l) (Check m) (λ x. omega (arith, x)) a b)
+one_command words (Make n l) (Solve k f) a b = absurd (apart words (Make n l) (Solve k f) (λ x. omega (arith, x)) a b)
+one_command words (Make n l) (Explain k f) a b = absurd (apart words (Make n l) (Explain k f) (λ x. omega (arith, x)) a b)
 
 -- the limits that words spell are within theirs
+set_limits : (front words : List (List ℕ)) (l : Limits) → SetRuns front (Number l.pivots) l.conflicts words → AreLimits l
+set_limits front words l h = record {
+  pivots = set-small h.spelled.settings h.spelled.are.within Pivots (Number l.pivots) h.pivots_are;
+  conflicts = set-small h.spelled.settings h.spelled.are.within Conflicts (Number l.conflicts) h.conflicts_are;
+}
+
+runs_limits : (name : List ℕ) (words : List (List ℕ)) (l : Limits) (e : Bool) → SpellRuns name l e words → AreLimits l
+runs_limits name words l false h = set_limits (name ∷ []) words l h.set
+runs_limits name words l true h = record {
+  pivots = let default = h.default refl in omega (arith, default);
+  conflicts = set-small h.set.spelled.settings h.set.spelled.are.within Conflicts (Number l.conflicts) h.set.conflicts_are;
+}
+
 pub spelled_limits : (words : List (List ℕ)) (c : Command) → Spell words c → AreLimitsOf c
 spelled_limits words (Check n) h = tt
-spelled_limits words (Solve l false) h =
-    record { pivots = set-small h.0.settings h.0.are.within Pivots (Number l.pivots) h.1; conflicts = set-small h.0.settings h.0.are.within Conflicts (Number l.conflicts) h.2 }
-spelled_limits words (Solve l true) h =
-    record { pivots = let default = h.3 refl in omega (arith, default); conflicts = set-small h.0.settings h.0.are.within Conflicts (Number l.conflicts) h.2 }
+spelled_limits words (Solve l e) h = runs_limits (codes "solve") words l e h
+spelled_limits words (Explain l e) h = runs_limits (codes "explain") words l e h
+spelled_limits words (Make n l) h = record { some = h.some; few = h.few; limits_are = set_limits (codes "make" ∷ decimal n ∷ []) words l h.set }
+
+-- ---- settings of runs behind words
+set_behind : (front words : List (List ℕ)) (v : LimitValue) (k : ℕ) → SetRuns [] v k words → SetRuns front v k (front ++ words)
+set_behind front words v k h = record {
+  spelled = record { settings = h.spelled.settings; words_are = ap (λ (ws : List (List ℕ)). front ++ ws) h.spelled.words_are; are = h.spelled.are };
+  pivots_are = h.pivots_are;
+  conflicts_are = h.conflicts_are;
+}
+
+set_alone : (front words : List (List ℕ)) (v : LimitValue) (k : ℕ) → SetRuns front v k (front ++ words) → SetRuns [] v k words
+set_alone front words v k h = record {
+  spelled = record { settings = h.spelled.settings; words_are = behind_same front words (setting_words h.spelled.settings) h.spelled.words_are; are = h.spelled.are };
+  pivots_are = h.pivots_are;
+  conflicts_are = h.conflicts_are;
+}
+
+-- behind the name of `solve` or `explain`
+runs_spelled : (name : List ℕ) (words : List (List ℕ)) (v : LimitValue) (k : ℕ) → SetRuns [] v k words → SpellRuns name (limits_by v k) (is_enough v) (name ∷ words)
+runs_spelled name words (Number n) k h = record { set = set_behind (name ∷ []) words (Number n) k h; default = λ wrong. absurd (cc) }
+runs_spelled name words Enough k h = record { set = set_behind (name ∷ []) words Enough k h; default = λ _. refl }
+
+pub solve_spelled : (words : List (List ℕ)) (s : RunSettings) (l : Limits) (e : Bool) → SetRuns [] s.pivots s.conflicts words → l ≡ limits_by s.pivots s.conflicts → e ≡ is_enough s.pivots
+    → Spell (codes "solve" ∷ words) (Solve l e)
+solve_spelled words s l e h p q =
+    subst (λ (x : Limits). SpellRuns (codes "solve") x e (codes "solve" ∷ words)) (sym p)
+    (subst (λ (b : Bool). SpellRuns (codes "solve") (limits_by s.pivots s.conflicts) b (codes "solve" ∷ words)) (sym q) (runs_spelled (codes "solve") words s.pivots s.conflicts h))
+
+pub explain_spelled : (words : List (List ℕ)) (s : RunSettings) (l : Limits) (e : Bool) → SetRuns [] s.pivots s.conflicts words → l ≡ limits_by s.pivots s.conflicts → e ≡ is_enough s.pivots
+    → Spell (codes "explain" ∷ words) (Explain l e)
+explain_spelled words s l e h p q =
+    subst (λ (x : Limits). SpellRuns (codes "explain") x e (codes "explain" ∷ words)) (sym p)
+    (subst (λ (b : Bool). SpellRuns (codes "explain") (limits_by s.pivots s.conflicts) b (codes "explain" ∷ words)) (sym q) (runs_spelled (codes "explain") words s.pivots s.conflicts h))
+
+-- a command of another name
+other : (a b : List ℕ) → first_of a ≢ first_of b → a ≢ b
+other a b differ e = differ (ap first_of e)
+
+pub solve_unspelled : (words : List (List ℕ)) → SetNoRuns words → SpellNone (codes "solve" ∷ words)
+unfolding first_of
+solve_unspelled words not = name_none (codes "solve") words by
+  where
+    by : (c : Command) → codes "solve" ≡ name_of c → ¬ Spell (codes "solve" ∷ words) c
+    by (Solve l e) is h = not.none (pivots_of l e) l.conflicts (set_alone (codes "solve" ∷ []) words (pivots_of l e) l.conflicts h.set)
+    by (Check n) is h = other (codes "solve") (codes "check") (λ x. omega (arith, x)) is
+    by (Explain l e) is h = other (codes "solve") (codes "explain") (λ x. omega (arith, x)) is
+    by (Make n l) is h = other (codes "solve") (codes "make") (λ x. omega (arith, x)) is
+
+pub explain_unspelled : (words : List (List ℕ)) → SetNoRuns words → SpellNone (codes "explain" ∷ words)
+unfolding first_of
+explain_unspelled words not = name_none (codes "explain") words by
+  where
+    by : (c : Command) → codes "explain" ≡ name_of c → ¬ Spell (codes "explain" ∷ words) c
+    by (Explain l e) is h = not.none (pivots_of l e) l.conflicts (set_alone (codes "explain" ∷ []) words (pivots_of l e) l.conflicts h.set)
+    by (Check n) is h = other (codes "explain") (codes "check") (λ x. omega (arith, x)) is
+    by (Solve l e) is h = other (codes "explain") (codes "solve") (λ x. omega (arith, x)) is
+    by (Make n l) is h = other (codes "explain") (codes "make") (λ x. omega (arith, x)) is
+
+-- ---- behind the name of `make`
+make_none : (words : List (List ℕ)) → ((n : ℕ) (l : Limits) → ¬ SpellMake n l (codes "make" ∷ words)) → SpellNone (codes "make" ∷ words)
+unfolding first_of
+make_none words not = name_none (codes "make") words by
+  where
+    by : (c : Command) → codes "make" ≡ name_of c → ¬ Spell (codes "make" ∷ words) c
+    by (Make n l) is h = not n l h
+    by (Check n) is h = other (codes "make") (codes "check") (λ x. omega (arith, x)) is
+    by (Solve l e) is h = other (codes "make") (codes "solve") (λ x. omega (arith, x)) is
+    by (Explain l e) is h = other (codes "make") (codes "explain") (λ x. omega (arith, x)) is
+
+-- what the words behind the number set
+make_behind : (word : List ℕ) (words : List (List ℕ)) (n : ℕ) (l : Limits) → SpellMake n l (codes "make" ∷ word ∷ words) → (word ≡ decimal n) × SetRuns [] (Number l.pivots) l.conflicts words
+make_behind word words n l h =
+    let behind = tail (codes "make") (codes "make") (word ∷ words) (decimal n ∷ setting_words h.set.spelled.settings) h.set.spelled.words_are in (
+      head word (decimal n) words (setting_words h.set.spelled.settings) behind,
+      record {
+        spelled = record {
+          settings = h.set.spelled.settings;
+          words_are = tail word (decimal n) words (setting_words h.set.spelled.settings) behind;
+          are = h.set.spelled.are;
+        };
+        pivots_are = h.set.pivots_are;
+        conflicts_are = h.set.conflicts_are;
+      },
+    )
+
+pub make_spelled : (words : List (List ℕ)) (n : ℕ) (s : RunSettings) (l : Limits) → 1 ≤ n → n ≤ MOST_LINKS → SetRuns [] s.pivots s.conflicts words → is_enough s.pivots ≡ false
+    → l ≡ limits_by s.pivots s.conflicts → Spell (codes "make" ∷ decimal n ∷ words) (Make n l)
+make_spelled words n s l some few h not is = by s.pivots h not is
+  where
+    by : (v : LimitValue) → SetRuns [] v s.conflicts words → is_enough v ≡ false → l ≡ limits_by v s.conflicts → SpellMake n l (codes "make" ∷ decimal n ∷ words)
+    by (Number p) h not is =
+        subst (λ (x : Limits). SpellMake n x (codes "make" ∷ decimal n ∷ words)) (sym is)
+        (record { some = some; few = few; set = set_behind (codes "make" ∷ decimal n ∷ []) words (Number p) s.conflicts h })
+    by Enough h not is = absurd (cc)
+
+pub make_unset : (word : List ℕ) (words : List (List ℕ)) → SetNoRuns words → SpellNone (codes "make" ∷ word ∷ words)
+make_unset word words not = make_none (word ∷ words) (λ n l h. not.none (Number l.pivots) l.conflicts (make_behind word words n l h).1)
+
+-- `enough` is no number
+pub make_enough : (word : List ℕ) (words : List (List ℕ)) (s : RunSettings) → SetRuns [] s.pivots s.conflicts words → is_enough s.pivots ≡ true → SpellNone (codes "make" ∷ word ∷ words)
+make_enough word words s h is = make_none (word ∷ words) (λ n l m. by s.pivots l.pivots is (one_set [] words s.pivots (Number l.pivots) s.conflicts l.conflicts h (make_behind word words n l m).1).0)
+  where
+    by : (v : LimitValue) (p : ℕ) → is_enough v ≡ true → v ≡ Number p → ⊥
+    by (Number q) p holds same = absurd (cc)
+    by Enough p holds same = absurd (cc)
+
+pub make_uncounted : (word : List ℕ) (words : List (List ℕ)) → SpellsNoLinks word → SpellNone (codes "make" ∷ word ∷ words)
+make_uncounted word words not = make_none (word ∷ words) (λ n l h. not.none n h.some h.few (make_behind word words n l h).0)
+
+pub make_alone : (words : List (List ℕ)) → words ≡ [] → SpellNone (codes "make" ∷ words)
+make_alone words e = make_none words not
+  where
+    not : (n : ℕ) (l : Limits) → ¬ SpellMake n l (codes "make" ∷ words)
+    not n l h = let same = tail (codes "make") (codes "make") words (decimal n ∷ setting_words h.set.spelled.settings) h.set.spelled.words_are in absurd (cc)
 
 -- ---- the words of strings
 pub words-empty : (xs : List (String Global)) → length xs ≡ 0 → words_of xs ≡ []
@@ -173,11 +361,14 @@ none_spelled r word most fits reads not n le e = not n (reads n (omega arith) e)
 
 -- words that spell no command of their own name spell none
 pub check_unspelled : (words : List (List ℕ)) → ((n : ℕ) → ¬ Behind words n) → SpellNone (codes "check" ∷ words)
-check_unspelled words not = record { none = by }
+unfolding first_of
+check_unspelled words not = name_none (codes "check") words by
   where
-    by : (c : Command) → ¬ Spell (codes "check" ∷ words) c
-    by (Check n) h = not n (behind_check words n h)
-    by (Solve l e) h = absurd (other_names (name-is (codes "check") words (Solve l e) h))
+    by : (c : Command) → codes "check" ≡ name_of c → ¬ Spell (codes "check" ∷ words) c
+    by (Check n) is h = not n (behind_check words n h)
+    by (Solve l e) is h = other (codes "check") (codes "solve") (λ x. omega (arith, x)) is
+    by (Explain l e) is h = other (codes "check") (codes "explain") (λ x. omega (arith, x)) is
+    by (Make n l) is h = other (codes "check") (codes "make") (λ x. omega (arith, x)) is
 
 -- what two words behind the command's name set
 pub two_spelled : (word digits : List ℕ) (r : Option ℕ) → FindsNumber word digits Bytes r
@@ -218,3 +409,9 @@ pub named_found : (r : Option Command) (name : List ℕ) (xs rest : List (String
     → MatchOption r (SpellNone (name ∷ words_of rest)) (Spell (name ∷ words_of rest)) → MatchOption r (SpellNone (words_of xs)) (Spell (words_of xs))
 named_found (Some c) name xs rest x some e is behind h = named_spelled c name xs rest x some e is behind h
 named_found None name xs rest x some e is behind h = named_unspelled name xs rest x some e is behind h
+
+-- none isn't a number of links
+pub no_links : (word : List ℕ) (n : ℕ) → word ≡ decimal n → n ≡ 0 → SpellsNoLinks word
+no_links word n e zero_is = record {
+  none = λ k some few f. let same = decimal_injective n k (omega (arith, zero_is)) (omega (arith, few)) (sym e ∙ f) in omega (arith, same, zero_is, some);
+}

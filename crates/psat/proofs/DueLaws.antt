@@ -26,18 +26,20 @@ use Rattle.ps_io.specs.declared.limits.TheConstants.{LONGEST_READ}
 use Rattle.ps_generation.specs.declared.limits.Limits.{Limits}
 use Rattle.ps_query.specs.Solutions.{IsReadBack, IsSolution}
 use Rattle.ps_enough.proofs.Limits.{answer_enough}
+use Rattle.ps_explain.specs.declared.explained.Explained.{Explained}
+use Rattle.ps_explain.specs.Explanations.{IsRightExplanation}
 use Rattle.psat.specs.declared.command.Command.{Command}
 use Rattle.psat.specs.declared.command.TheConstants.{MOST_PROBLEM}
 use Rattle.psat.specs.declared.command.Command.TheVariants as commands
 use Rattle.psat.specs.declared.status.Status.{Status}
 use Rattle.psat.specs.declared.status.Status.TheVariants as status
 use Rattle.psat.specs.Commands.{Spell, SpellNone, limit_of, words_of}
-use Rattle.psat.specs.Statuses.{EndsCheck, EndsSolve, HasText, IsAnswerOf}
+use Rattle.psat.specs.Statuses.{EndsCheck, EndsMake, EndsSolve, HasText, IsAnswerOf}
 use Rattle.psat.specs.RunLimits.{limits_for}
 use Rattle.psat.specs.Due as due
-use Rattle.psat.specs.Due.{Output, too_long, usage, refused_line, unreadable, searched, DueAnswer, DueReport, FaultAt, DueText, NotRead, DueAnswered, NoProblem, Solved, IsSolvedBy, Within, TooLong, DueFor, Due, ForCommand, ForNone, report_of, status_after}
+use Rattle.psat.specs.Due.{Output, too_long, usage, refused_line, unreadable, searched, DueAnswer, DueReport, FaultAt, DueText, NotRead, DueAnswered, NoProblem, Solved, IsSolvedBy, DueExplained, Explains, NoneExplained, explanation_of, status_explained, DueMade, Within, TooLong, DueFor, Due, ForCommand, ForNone, report_of, status_after}
 use Rattle.psat.proofs.CommandLaws.{one_command}
-use Rattle.psat.specs.Runs.{IsTold, WasRead, Took, HasAnswered, HasTaken, HasRead, Wrote}
+use Rattle.psat.specs.Runs.{CountsReads, IsTold, WasRead, Took, HasAnswered, HasTaken, HasRead, Wrote}
 use Rattle.psat.specs.Replies.{AreWithin, DueBytes, IsDueFor, IsDue}
 
 pub rest-is : (n : ℕ) (bs : List ℕ) → take (length bs - n) (drop n bs) ≡ drop n bs
@@ -77,10 +79,14 @@ whole-is most (Some xs) (Some ys) taken bytes h e =
 told-is : (c : Command) (limit : ℕ) (left : Option (List ℕ)) (bytes : List ℕ) → limit_of c ≡ Some limit → IsTold c left bytes → left ≡ Some bytes
 told-is (commands.Check n) limit left bytes e h = h
 told-is (commands.Solve l f) limit left bytes e h = h
+told-is (commands.Explain l f) limit left bytes e h = h
+told-is (commands.Make n l) limit left bytes e h = absurd (cc)
 
 within_due : (c : Command) (limit : ℕ) (bytes : List ℕ) (o : Output) → limit_of c ≡ Some limit → length bytes ≤ limit → DueBytes c bytes o → DueFor c bytes o
 within_due (commands.Check n) limit bytes o e few d = let same : n ≡ limit = same_Some n limit e in Within (subst (λ (m : ℕ). length bytes ≤ m) (sym same) few) d
 within_due (commands.Solve l f) limit bytes o e few d = let same : MOST_PROBLEM ≡ limit = same_Some MOST_PROBLEM limit e in Within (subst (λ (m : ℕ). length bytes ≤ m) (sym same) few) d
+within_due (commands.Explain l f) limit bytes o e few d = let same : MOST_PROBLEM ≡ limit = same_Some MOST_PROBLEM limit e in Within (subst (λ (m : ℕ). length bytes ≤ m) (sym same) few) d
+within_due (commands.Make n l) limit bytes o e few d = d
 
 more_due : (c : Command) (limit : ℕ) (bytes : List ℕ) (o : Output) → limit_of c ≡ Some limit → limit < length bytes → o ≡ too_long limit → DueFor c bytes o
 more_due (commands.Check n) limit bytes o e more is =
@@ -88,10 +94,16 @@ more_due (commands.Check n) limit bytes o e more is =
 more_due (commands.Solve l f) limit bytes o e more is =
     let same : MOST_PROBLEM ≡ limit = same_Some MOST_PROBLEM limit e in
     TooLong (subst (λ (m : ℕ). m < length bytes) (sym same) more) (subst (λ (m : ℕ). o ≡ too_long m) (sym same) is)
+more_due (commands.Explain l f) limit bytes o e more is =
+    let same : MOST_PROBLEM ≡ limit = same_Some MOST_PROBLEM limit e in
+    TooLong (subst (λ (m : ℕ). m < length bytes) (sym same) more) (subst (λ (m : ℕ). o ≡ too_long m) (sym same) is)
+more_due (commands.Make n l) limit bytes o e more is = absurd (cc)
 
 pub within_limit : (c : Command) (limit n : ℕ) → limit_of c ≡ Some limit → n ≤ limit → AreWithin c n
 within_limit (commands.Check m) limit n e le = let same : m ≡ limit = same_Some m limit e in omega (arith, le, same)
 within_limit (commands.Solve l f) limit n e le = let same : MOST_PROBLEM ≡ limit = same_Some MOST_PROBLEM limit e in omega (arith, le, same)
+within_limit (commands.Explain l f) limit n e le = let same : MOST_PROBLEM ≡ limit = same_Some MOST_PROBLEM limit e in omega (arith, le, same)
+within_limit (commands.Make k l) limit n e le = tt
 
 pub input_due : (c : Command) (limit : ℕ) (old new : Option (List ℕ)) (taken given : List ℕ) (o : Output) → limit_of c ≡ Some limit → ReadAll limit old new taken → given ≡ taken
     → DueBytes c given o → IsDueFor c old o
@@ -147,9 +159,17 @@ solve_goes status.WriteFault g = g
 solve_goes status.NoMemory g = g
 solve_goes s g = tt
 
+make_goes : (s : Status) → EndsMake s → HasText s
+make_goes status.ReadFault g = g
+make_goes status.WriteFault g = g
+make_goes status.NoMemory g = g
+make_goes s g = tt
+
 pub answer_goes : (c : Command) (s : Status) → IsAnswerOf c s → HasText s
 answer_goes (commands.Check n) s g = check_goes s g
 answer_goes (commands.Solve l e) s g = solve_goes s g
+answer_goes (commands.Explain l e) s g = solve_goes s g
+answer_goes (commands.Make n l) s g = make_goes s g
 
 -- at an answer the source was read
 pub took_by : (limit : ℕ) (s : Status) (old new : Option (List ℕ)) → HasText s → WasRead limit old new → Took limit s old new
@@ -181,6 +201,8 @@ read_cut words s old new g h = record { read = λ command spelled. by command (h
     by : (command : Command) → HasTaken command s old new → HasTaken command status.WriteFault old new
     by (commands.Check limit) taken = was_read limit s old new g taken
     by (commands.Solve limits enough) taken = was_read MOST_PROBLEM s old new g taken
+    by (commands.Explain limits enough) taken = was_read MOST_PROBLEM s old new g taken
+    by (commands.Make n limits) taken = tt
 
 pub command_due : (words : List (List ℕ)) (command : Command) (left : Option (List ℕ)) (o : Output) → Spell words command → IsDueFor command left o → IsDue words left o
 command_due words command left o spelled h = record { due = λ bytes given. ForCommand command spelled (h.due bytes (given.told command spelled)) }
@@ -228,3 +250,25 @@ solved_due limits run enough bytes p a same spells solution back =
 pub unsolved_due : (limits : Limits) (enough : Bool) (bytes : List ℕ) (e : ReadError) (kind : ReadKind) (l k : ℕ) (o : Output) → e ≡ unread.At kind l k → Tells (IsUnreadWhole bytes) e
     → o ≡ unreadable kind (record { line = l; column = k }) → DueAnswered limits enough bytes o
 unsolved_due limits enough bytes e kind l k o is told shown = let at = rw is at told in NoProblem kind (record { line = l; column = k }) at shown
+
+-- ---- due for the bytes of a problem that is to be explained
+pub explained_due : (limits run : Limits) (enough : Bool) (bytes : List ℕ) (p : Parts) (e : Explained) → run ≡ limits_for limits enough p → SpellsWhole bytes p → IsRightExplanation run p e
+    → DueExplained limits enough bytes (record { text = explanation_of e; status = status_explained e })
+explained_due limits run enough bytes p e same spells right =
+    Explains p e (record { spells = spells; right = subst (λ (x : Limits). IsRightExplanation x p e) same right; is = refl })
+
+pub unexplained_due : (limits : Limits) (enough : Bool) (bytes : List ℕ) (e : ReadError) (kind : ReadKind) (l k : ℕ) (o : Output) → e ≡ unread.At kind l k → Tells (IsUnreadWhole bytes) e
+    → o ≡ unreadable kind (record { line = l; column = k }) → DueExplained limits enough bytes o
+unexplained_due limits enough bytes e kind l k o is told shown = let at = rw is at told in NoneExplained kind (record { line = l; column = k }) at shown
+
+-- ---- due for a command that reads nothing
+pub unread_due : (n : ℕ) (limits : Limits) (left : Option (List ℕ)) (o : Output) → DueMade n limits o → IsDueFor (commands.Make n limits) left o
+unread_due n limits left o d = record { due = λ bytes told. d }
+
+-- where nothing is read no fault is counted
+pub none_counted : (c : Command) (s : Status) (n : ℕ) → IsAnswerOf c s → CountsReads n n s
+none_counted c s n h = by s (answer_goes c s h)
+  where
+    by : (s : Status) → HasText s → CountsReads n n s
+    by status.ReadFault g = absurd g
+    by s g = refl

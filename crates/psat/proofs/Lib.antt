@@ -1,6 +1,8 @@
 pub mod Settings
+pub mod RunWords
 pub mod CommandLaws
-pub mod SolveWords
+pub mod SideText
+pub mod MadeText
 pub mod DueLaws
 pub mod OneOutput
 pub mod Behind

@@ -13,7 +13,7 @@ use Rattle.psat.specs.declared.command.Command.{Command}
 use Rattle.psat.specs.declared.command.Command.TheVariants as commands
 use Rattle.psat.specs.declared.command.TheConstants.{MOST_PROBLEM}
 use Rattle.psat.specs.Commands.{Spell}
-use Rattle.psat.specs.Due.{Output, refused, refused_line, unreadable, DueAnswer, Accepted, RefusedFor, DueReport, ReadAs, FaultAt, DueText, Spelled, NotRead, searched, DueAnswered, Solved, NoProblem, DueWithin, Within, TooLong, DueFor, Due, ForCommand, ForNone, IsSingle}
+use Rattle.psat.specs.Due.{Output, refused, refused_line, unreadable, DueAnswer, Accepted, RefusedFor, DueReport, ReadAs, FaultAt, DueText, Spelled, NotRead, searched, DueAnswered, Solved, NoProblem, DueExplained, Explains, NoneExplained, DueWithin, Within, TooLong, DueFor, Due, ForCommand, ForNone, IsSingle}
 use Rattle.psat.proofs.CommandLaws.{one_command}
 
 one_judged : (p : Parts) (a : Answer) (o o' : Output) → DueAnswer p a o → DueAnswer p a o' → o ≡ o'
@@ -65,9 +65,21 @@ one_unread limits enough bytes o o' none (NoProblem kind at u is) (NoProblem oth
     let l : at ≡ there = cc in
     is ∙ ap (λ x. unreadable x at) k ∙ ap (λ x. unreadable other x) l ∙ sym is'
 
+one_unexplained : (limits : Limits) (enough : Bool) (bytes : List ℕ) (o o' : Output) → ((p : Parts) → ¬ SpellsWhole bytes p) → DueExplained limits enough bytes o → DueExplained limits enough bytes o' → o ≡ o'
+one_unexplained limits enough bytes o o' none (Explains p e h) d = absurd (none p h.spells)
+one_unexplained limits enough bytes o o' none (NoneExplained kind at u is) (Explains p e h) = absurd (none p h.spells)
+one_unexplained limits enough bytes o o' none (NoneExplained kind at u is) (NoneExplained other there v is') =
+    let same : Unread kind at ≡ Unread other there = one_whole_reading bytes (Unread kind at) (Unread other there) u v in
+    let k : kind ≡ other = cc in
+    let l : at ≡ there = cc in
+    is ∙ ap (λ x. unreadable x at) k ∙ ap (λ x. unreadable other x) l ∙ sym is'
+
 one_for_command : (c : Command) (bytes : List ℕ) (o o' : Output) → IsSingle c bytes → DueFor c bytes o → DueFor c bytes o' → o ≡ o'
 one_for_command (commands.Check limit) bytes o o' single d e = one_within limit DueText bytes o o' (λ few. one_text bytes o o') d e
 one_for_command (commands.Solve limits enough) bytes o o' single d e = one_within MOST_PROBLEM (DueAnswered limits enough) bytes o o' (λ few. one_unread limits enough bytes o o' (λ p. single p few)) d e
+one_for_command (commands.Explain limits enough) bytes o o' single d e =
+    one_within MOST_PROBLEM (DueExplained limits enough) bytes o o' (λ few. one_unexplained limits enough bytes o o' (λ p. single p few)) d e
+one_for_command (commands.Make n limits) bytes o o' single d e = absurd single
 
 pub one_output : (words : List (List ℕ)) (bytes : List ℕ) (o o' : Output) → ((c : Command) → Spell words c → IsSingle c bytes) → Due words bytes o → Due words bytes o' → o ≡ o'
 one_output words bytes o o' single (ForCommand c spelled d) (ForCommand c' spelled' d') =

@@ -5,13 +5,14 @@ use Rattle.ps_io.specs.Transfer.{Appends}
 use Rattle.ps_read.specs.Readings.{SpellsProblem, SpellsWhole}
 use Rattle.ps_problem.specs.Problems.{Parts}
 use Rattle.ps_answer.specs.declared.answer.Answer.{Answer}
+use Rattle.ps_explain.specs.declared.explained.Explained.{Explained}
 use Rattle.ps_generation.specs.declared.limits.Limits.{Limits}
-use Rattle.psat.specs.declared.command.Command.TheVariants.{Check, Solve}
+use Rattle.psat.specs.declared.command.Command.TheVariants.{Check, Explain, Make, Solve}
 use Rattle.psat.specs.declared.command.TheConstants.{MOST_PROBLEM}
 use Rattle.psat.specs.declared.status.Status.{Status}
 use Rattle.psat.specs.declared.status.Status.TheVariants.{NoMemory}
 use Rattle.psat.specs.Commands.{Spell, words_of}
-use Rattle.psat.specs.Due.{Output, DueReport, IsSolvedBy, searched}
+use Rattle.psat.specs.Due.{Output, DueMade, DueReport, IsExplainedBy, IsSolvedBy, searched}
 use Rattle.psat.specs.RunLimits.{limits_for}
 use Rattle.psat.specs.Runs.{Answered, CountsReads, CountsWrites, IsGiven, Ran}
 
@@ -58,6 +59,10 @@ pub record HasWritten (D : Output → Type 0) (status : Status) (old new : Ends)
 abbrev pub IsSolved : Limits → Bool → List ℕ → Parts → Output → Type 0
 IsSolved limits enough bytes p o = (a : Answer) × IsSolvedBy (limits_for limits enough p) bytes o p a
 
+-- the output is an explanation of the problem that the bytes spell, within the limits of its runs
+abbrev pub IsExplained : Limits → Bool → List ℕ → Parts → Output → Type 0
+IsExplained limits enough bytes p o = (e : Explained) × IsExplainedBy (limits_for limits enough p) bytes o p e
+
 -- where no call failed, a run answers the output that is due, or there was not enough memory
 abbrev pub FaultlessRunsAnswer : Type 0
 FaultlessRunsAnswer = (words : List (String Global)) (old new : Ends) (status : Status) (bytes : List ℕ) → IsFaultless words old new status
@@ -70,6 +75,19 @@ ProblemsAreSolved = (words : List (String Global)) (limits : Limits) (enough : B
     (bytes : List ℕ) (p : Parts) → Spell (words_of words) (Solve limits enough) → IsFaultless words old new status → old.source.bytes ≡ Some bytes
     → length bytes ≤ MOST_PROBLEM → SpellsWhole bytes p
     → HasWritten (IsSolved limits enough bytes p) status old new ⊎ IsOutOfMemory status old new
+
+-- for `explain` it is then an explanation of the problem
+abbrev pub ProblemsAreExplained : Type 0
+ProblemsAreExplained = (words : List (String Global)) (limits : Limits) (enough : Bool) (old new : Ends) (status : Status)
+    (bytes : List ℕ) (p : Parts) → Spell (words_of words) (Explain limits enough) → IsFaultless words old new status → old.source.bytes ≡ Some bytes
+    → length bytes ≤ MOST_PROBLEM → SpellsWhole bytes p
+    → HasWritten (IsExplained limits enough bytes p) status old new ⊎ IsOutOfMemory status old new
+
+-- for `make` it is the chain with the summary of an answer, whatever the source has left
+abbrev pub ProblemsAreMade : Type 0
+ProblemsAreMade = (words : List (String Global)) (links : ℕ) (limits : Limits) (old new : Ends) (status : Status)
+    → Spell (words_of words) (Make links limits) → IsFaultless words old new status
+    → HasWritten (DueMade links limits) status old new ⊎ IsOutOfMemory status old new
 
 -- and for `check`, where a problem stands at the front of bytes within the limit, it is what is due for the problem and the bytes
 -- behind it

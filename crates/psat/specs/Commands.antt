@@ -1,11 +1,12 @@
 -- The words of commands, and how much a command reads.
-use Rattle.std.specs.Prelude.{◌≡◌, ◌≢◌, ◌≤◌, ◌⊎◌, ℕ, Bool, true, false, List, [], ◌∷◌, Option, Some, None, map, All, AllPairs, Contains, codes, decimal, String, string_bytes}
+use Rattle.std.specs.Prelude.{◌≡◌, ◌≢◌, ◌≤◌, ◌⊎◌, ℕ, Bool, true, false, List, [], ◌∷◌, ◌++◌, Option, Some, None, map, All, AllPairs, Contains, codes, decimal, String, string_bytes}
 use Rattle.std.specs.declared.alloc.Global.{Global}
 use Rattle.ps_answer.specs.declared.limits.TheConstants.{MOST_PIVOTS}
 use Rattle.ps_log.specs.declared.limits.TheConstants.{MOST_CONFLICTS}
 use Rattle.ps_generation.specs.declared.limits.Limits.{Limits}
+use Rattle.ps_make.specs.declared.made.TheConstants.{MOST_LINKS}
 use Rattle.psat.specs.declared.command.Command.{Command}
-use Rattle.psat.specs.declared.command.Command.TheVariants.{Check, Solve}
+use Rattle.psat.specs.declared.command.Command.TheVariants.{Check, Explain, Make, Solve}
 use Rattle.psat.specs.declared.command.Limit.{Limit}
 use Rattle.psat.specs.declared.command.Limit.TheVariants.{Bytes, Pivots, Conflicts}
 use Rattle.psat.specs.declared.command.LimitValue.{LimitValue}
@@ -64,23 +65,41 @@ pub record AreSettings (limits : List Limit) (settings : List LimitSetting) : Ty
 abbrev pub IsSetTo : List LimitSetting → Limit → LimitValue → Type 0
 IsSetTo settings limit v = Contains settings (record { limit = limit; value = v }) ⊎ (All (λ s. s.limit ≢ limit) settings × (v ≡ Number (default_of limit)))
 
--- the words are a command's word and behind it settings of its limits, in any order
-pub record AreWordsOf (name : List ℕ) (limits : List Limit) (words : List (List ℕ)) : Type 0 where
+-- the words are these, and behind them settings of these limits, in any order
+pub record AreWordsOf (front : List (List ℕ)) (limits : List Limit) (words : List (List ℕ)) : Type 0 where
   pub settings : List LimitSetting
-  pub words_are : words ≡ name ∷ setting_words settings
+  pub words_are : words ≡ front ++ setting_words settings
   pub are : AreSettings limits settings
+
+-- the words are these, and behind them settings that make pivots and conflicts be so many
+pub record SetRuns (front : List (List ℕ)) (pivots : LimitValue) (conflicts : ℕ) (words : List (List ℕ)) : Type 0 where
+  pub spelled : AreWordsOf front (Pivots ∷ Conflicts ∷ []) words
+  pub pivots_are : IsSetTo spelled.settings Pivots pivots
+  pub conflicts_are : IsSetTo spelled.settings Conflicts (Number conflicts)
 
 -- what pivots are set to: what is enough, or the number of the limits
 abbrev pub pivots_of : Limits → Bool → LimitValue
 pivots_of limits true = Enough
 pivots_of limits false = Number limits.pivots
 
--- the words spell the command; where pivots are to be enough, their number is the default
+-- the words are a command's word, and behind it settings of the limits of its runs; where pivots are to be enough, their number is the
+-- default
+pub record SpellRuns (name : List ℕ) (limits : Limits) (enough : Bool) (words : List (List ℕ)) : Type 0 where
+  pub set : SetRuns (name ∷ []) (pivots_of limits enough) limits.conflicts words
+  pub default : enough ≡ true → limits.pivots ≡ DEFAULT_PIVOTS
+
+-- the words are `make` and how many links, from 1 to the most, and behind them settings of the limits of its runs, in which pivots are a number
+pub record SpellMake (n : ℕ) (limits : Limits) (words : List (List ℕ)) : Type 0 where
+  pub some : 1 ≤ n
+  pub few : n ≤ MOST_LINKS
+  pub set : SetRuns (codes "make" ∷ decimal n ∷ []) (Number limits.pivots) limits.conflicts words
+
+-- the words spell the command
 abbrev pub Spell : List (List ℕ) → Command → Type 0
-Spell words (Check bytes) = (w : AreWordsOf (codes "check") (Bytes ∷ []) words) × IsSetTo w.settings Bytes (Number bytes)
-Spell words (Solve limits enough) =
-    (w : AreWordsOf (codes "solve") (Pivots ∷ Conflicts ∷ []) words) × IsSetTo w.settings Pivots (pivots_of limits enough)
-    × IsSetTo w.settings Conflicts (Number limits.conflicts) × (enough ≡ true → limits.pivots ≡ DEFAULT_PIVOTS)
+Spell words (Check bytes) = (w : AreWordsOf (codes "check" ∷ []) (Bytes ∷ []) words) × IsSetTo w.settings Bytes (Number bytes)
+Spell words (Solve limits enough) = SpellRuns (codes "solve") limits enough words
+Spell words (Explain limits enough) = SpellRuns (codes "explain") limits enough words
+Spell words (Make n limits) = SpellMake n limits words
 
 -- the words spell no command
 pub record SpellNone (words : List (List ℕ)) : Type 0 where
@@ -90,6 +109,8 @@ pub record SpellNone (words : List (List ℕ)) : Type 0 where
 abbrev pub limit_of : Command → Option ℕ
 limit_of (Check bytes) = Some bytes
 limit_of (Solve limits enough) = Some MOST_PROBLEM
+limit_of (Explain limits enough) = Some MOST_PROBLEM
+limit_of (Make n limits) = None
 
 -- the words are of no command that reads
 pub record ReadNothing (words : List (String Global)) : Type 0 where

@@ -1,5 +1,5 @@
 -- What the program writes for words and an input, and the status with which it ends.
-use Rattle.std.specs.Prelude.{◌≡◌, ◌<◌, ◌≤◌, ℕ, zero, suc, Bool, true, false, List, ◌++◌, length, take, drop, codes, decimal}
+use Rattle.std.specs.Prelude.{◌≡◌, ◌<◌, ◌≤◌, ℕ, zero, suc, Bool, true, false, List, [], ◌++◌, length, take, drop, codes, decimal}
 use Rattle.ps_io.specs.LineText.{lines_bytes}
 use Rattle.ps_text.specs.Positions.{Position}
 use Rattle.ps_text.specs.declared.kind.ReadKind.{ReadKind}
@@ -21,14 +21,20 @@ use Rattle.ps_generation.specs.declared.limits.Limits.{Limits}
 use Rattle.ps_query.specs.Solutions.{IsReadBack, IsSolution}
 use Rattle.ps_runs.specs.Runs.{sentences_of}
 use Rattle.ps_enough.specs.Enough.{IsEnough, HasNoPivotsCause}
+use Rattle.ps_explain.specs.declared.explained.Explained.{Explained}
+use Rattle.ps_explain.specs.declared.explained.Explained.TheVariants as explained
+use Rattle.ps_explain.specs.Explanations.{IsRightExplanation}
+use Rattle.ps_explain.specs.Texts.{explanation_lines}
+use Rattle.ps_make.specs.Chain.{made_problem, made_text}
 use Rattle.psat.specs.declared.status.Status.{Status}
 use Rattle.psat.specs.declared.status.Status.TheVariants.{Done, Inconsistent, Usage, Unreadable, Unfinished, Refused}
 use Rattle.psat.specs.declared.command.Command.{Command}
-use Rattle.psat.specs.declared.command.Command.TheVariants.{Check, Solve}
+use Rattle.psat.specs.declared.command.Command.TheVariants.{Check, Explain, Make, Solve}
 use Rattle.psat.specs.declared.checked.TheConstants.{MOST_SEARCHED}
 use Rattle.psat.specs.declared.command.TheConstants.{MOST_PROBLEM}
 use Rattle.psat.specs.Commands.{Spell, SpellNone}
 use Rattle.psat.specs.RunLimits.{enough_for, limits_for}
+use Rattle.psat.specs.Summaries.{summary}
 use Rattle.psat.specs.Words.{kind_words, line_words, claim_words, reason_words}
 
 -- a text, and the status after it
@@ -116,6 +122,57 @@ pub data DueAnswered (limits : Limits) (enough : Bool) (bytes : List ℕ) (o : O
   Solved : (p : Parts) (a : Answer) (answered : IsSolvedBy (limits_for limits enough p) bytes o p a) → DueAnswered limits enough bytes o
   NoProblem : (kind : ReadKind) (at : Position) (unread : IsUnreadWhole bytes kind at) (is : o ≡ unreadable kind at) → DueAnswered limits enough bytes o
 
+-- the lines of an explanation, not gone through letter by letter
+unfoldable pub explained_lines : Explained → List (List ℕ)
+explained_lines e = explanation_lines e
+
+-- what is written of an explanation: its lines
+abbrev pub explanation_of : Explained → List ℕ
+explanation_of e = lines_bytes false (explained_lines e)
+
+-- the status after an explanation
+abbrev pub status_explained : Explained → Status
+status_explained (explained.Consistent m) = Done
+status_explained (explained.Core sentences d models) = Inconsistent
+status_explained (explained.Open sentences cause first) = Unfinished
+
+-- the output is an explanation of the problem that all of the bytes spell: it is right, within the limits
+pub record IsExplainedBy (limits : Limits) (bytes : List ℕ) (o : Output) (p : Parts) (e : Explained) : Type 0 where
+  pub spells : SpellsWhole bytes p
+  pub right : IsRightExplanation limits p e
+  pub is : o ≡ record { text = explanation_of e; status = status_explained e }
+
+-- due for the bytes of a problem that is to be explained: an explanation of it, within the limits of its runs, or they are no problem,
+-- for a kind of refusal at a position
+pub data DueExplained (limits : Limits) (enough : Bool) (bytes : List ℕ) (o : Output) : Type 0 where
+  Explains : (p : Parts) (e : Explained) (explained : IsExplainedBy (limits_for limits enough p) bytes o p e) → DueExplained limits enough bytes o
+  NoneExplained : (kind : ReadKind) (at : Position) (unread : IsUnreadWhole bytes kind at) (is : o ≡ unreadable kind at) → DueExplained limits enough bytes o
+
+-- the report of an answer with a mark before each line
+abbrev pub comment_of : Answer → List ℕ
+comment_of a = lines_bytes true (answer_lines a)
+
+-- what stands behind the summary of an answer in which so much is open: nothing, or its report in comments
+abbrev pub behind_summary : Answer → ℕ → List ℕ
+behind_summary a zero = []
+behind_summary a (suc n) = comment_of a
+
+-- the status after a summary, where so much is open
+abbrev pub status_made : ℕ → Status
+status_made zero = Done
+status_made (suc n) = Unfinished
+
+-- the output is the text of the chain of so many links, and behind it the summary of an answer to its problem, with what is open: the
+-- answer is valid and right, its runs are lawful within the limits, and what is open is licensed
+pub record IsMadeBy (n : ℕ) (limits : Limits) (o : Output) (a : Answer) : Type 0 where
+  pub solution : IsSolution limits (made_problem n) a
+  pub text_is : o.text ≡ made_text n ++ (summary (made_problem n) a ++ behind_summary a (unfinished_of (answer_of a)))
+  pub status_is : o.status ≡ status_made (unfinished_of (answer_of a))
+
+-- due for so many links and the limits of the runs: the chain with the summary of an answer
+abbrev pub DueMade : ℕ → Limits → Output → Type 0
+DueMade n limits o = (a : Answer) × IsMadeBy n limits o a
+
 -- due for what the source had left, of which so many bytes are read at most, by what is due for bytes within the limit
 pub data DueWithin (limit : ℕ) (DueOf : List ℕ → Output → Type 0) (bytes : List ℕ) (o : Output) : Type 0 where
   Within : (within : length bytes ≤ limit) (due : DueOf bytes o) → DueWithin limit DueOf bytes o
@@ -125,19 +182,27 @@ pub data DueWithin (limit : ℕ) (DueOf : List ℕ → Output → Type 0) (bytes
 abbrev pub DueFor : Command → List ℕ → Output → Type 0
 DueFor (Check limit) bytes o = DueWithin limit DueText bytes o
 DueFor (Solve limits enough) bytes o = DueWithin MOST_PROBLEM (DueAnswered limits enough) bytes o
+DueFor (Explain limits enough) bytes o = DueWithin MOST_PROBLEM (DueExplained limits enough) bytes o
+DueFor (Make n limits) bytes o = DueMade n limits o
 
 -- due for words and bytes: what is due for the command that the words spell, or else the usage line
 pub data Due (words : List (List ℕ)) (bytes : List ℕ) (o : Output) : Type 0 where
   ForCommand : (command : Command) (spelled : Spell words command) (due : DueFor command bytes o) → Due words bytes o
   ForNone : (none : SpellNone words) (is : o ≡ usage) → Due words bytes o
 
--- one output at most is due for a command and bytes: for `solve` where the bytes are too long or no problem, since several answers to
--- one problem may be right
+-- the bytes are more than those of a problem, or no problem
+abbrev pub AreNoProblem : List ℕ → Type 0
+AreNoProblem bytes = (p : Parts) → length bytes ≤ MOST_PROBLEM → ¬ SpellsWhole bytes p
+
+-- one output at most is due for a command and bytes: for `solve` and `explain` where the bytes are no problem, since several answers
+-- to one problem and several explanations of it may be right; and for `make` of none is it said
 abbrev pub IsSingle : Command → List ℕ → Type 0
 IsSingle (Check limit) bytes = Unit {0}
-IsSingle (Solve limits enough) bytes = (p : Parts) → length bytes ≤ MOST_PROBLEM → ¬ SpellsWhole bytes p
+IsSingle (Solve limits enough) bytes = AreNoProblem bytes
+IsSingle (Explain limits enough) bytes = AreNoProblem bytes
+IsSingle (Make n limits) bytes = ⊥
 
--- for words and bytes at most one output is due, but for the words of `solve` and a problem
+-- for words and bytes at most one output is due, but for the words of `solve` or `explain` and a problem, and for those of `make`
 abbrev pub OneOutputIsDue : Type 0
 OneOutputIsDue = (words : List (List ℕ)) (bytes : List ℕ) (o p : Output) → ((c : Command) → Spell words c → IsSingle c bytes)
     → Due words bytes o → Due words bytes p → o ≡ p

@@ -3,6 +3,7 @@ pub mod Statuses
 pub mod Commands
 pub mod Words
 pub mod RunLimits
+pub mod Summaries
 pub mod Due
 pub mod Accepting
 pub mod Runs

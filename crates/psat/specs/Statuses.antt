@@ -1,7 +1,7 @@
 -- The numbers of statuses, and which of them go with a text.
 use Rattle.std.specs.Prelude.{ℕ, ◌⊎◌}
 use Rattle.psat.specs.declared.command.Command.{Command}
-use Rattle.psat.specs.declared.command.Command.TheVariants.{Check, Solve}
+use Rattle.psat.specs.declared.command.Command.TheVariants.{Check, Explain, Make, Solve}
 use Rattle.psat.specs.declared.status.Status.{Status}
 use Rattle.psat.specs.declared.status.Status.TheVariants.{Done, Inconsistent, Usage, Unreadable, Unfinished, ReadFault, WriteFault, NoMemory, Refused}
 
@@ -24,7 +24,7 @@ EndsCheck Unreadable = Unit {0}
 EndsCheck Refused = Unit {0}
 EndsCheck other = ⊥
 
--- a status of `solve` that goes with a text
+-- a status of `solve` or `explain` that goes with a text
 abbrev pub EndsSolve : Status → Type 0
 EndsSolve Done = Unit {0}
 EndsSolve Inconsistent = Unit {0}
@@ -32,10 +32,18 @@ EndsSolve Unreadable = Unit {0}
 EndsSolve Unfinished = Unit {0}
 EndsSolve other = ⊥
 
+-- a status of `make` that goes with a text
+abbrev pub EndsMake : Status → Type 0
+EndsMake Done = Unit {0}
+EndsMake Unfinished = Unit {0}
+EndsMake other = ⊥
+
 -- a status of a command that goes with a text
 abbrev pub IsAnswerOf : Command → Status → Type 0
 IsAnswerOf (Check limit) status = EndsCheck status
 IsAnswerOf (Solve limits enough) status = EndsSolve status
+IsAnswerOf (Explain limits enough) status = EndsSolve status
+IsAnswerOf (Make n limits) status = EndsMake status
 
 -- a status that goes with a text
 abbrev pub HasText : Status → Type 0

@@ -1,12 +1,15 @@
 //! Commands and their words.
 ghost use Rattle.std.specs.Prelude.{◌≡◌, ◌≤◌, ◌<◌, ◌^◌, ◌↔◌, ℕ, IfNone, IfSome, IsTrue, MatchOption};
-ghost use Rattle.std.specs.Prelude.{[], ◌∷◌, decimal, string_bytes};
+ghost use Rattle.std.specs.Prelude.{[], ◌∷◌, codes, decimal, string_bytes};
+ghost use Rattle.ps_make.specs.declared.made.TheConstants.{MOST_LINKS};
 ghost use Rattle.psat.specs.declared.command.Limit.TheVariants.{Pivots};
 ghost use Rattle.psat.specs.Commands.{Spell, SpellNone, limit_word, most_of, words_of};
-ghost use Rattle.psat.specs.Settings.{FindsNumber, FindsValue, SetBytes, SetEnough, SetSolve, solve_with};
+ghost use Rattle.psat.specs.Settings.{FindsBehind, FindsLinks, FindsNumber, FindsSettings};
+ghost use Rattle.psat.specs.Settings.{FindsValue, SetBytes, SetEnough, is_enough, limits_by};
 
 use itoa::Buffer;
 use ps_answer::{MOST_CONFLICTS, MOST_PIVOTS};
+use ps_make::MOST_LINKS;
 use ps_query::Limits;
 
 /// The most bytes that `check` reads where the words name no number.
@@ -31,29 +34,14 @@ pub enum Command {
     /// makes as many pivots as are enough for the problem, and `limits.pivots` is the default and
     /// isn't used.
     Solve { limits: Limits, enough: bool },
+    /// Explains why a problem's sentences can't be met together, or how they can. The limits are as
+    /// for `Solve`.
+    Explain { limits: Limits, enough: bool },
     /// Judges the report behind a problem, and reads at most so many bytes.
     Check { bytes: u64 },
-}
-
-impl Command {
-    // `solve` with what pivots are set to, and so many conflicts.
-    fn solve(pivots: LimitValue, conflicts: u64) -> Command
-        ensures { result ≡ solve_with pivots conflicts }
-    {
-        match pivots {
-            LimitValue::Number(pivots) => Command::Solve {
-                limits: Limits { pivots, conflicts },
-                enough: false,
-            },
-            LimitValue::Enough => Command::Solve {
-                limits: Limits {
-                    pivots: DEFAULT_PIVOTS,
-                    conflicts,
-                },
-                enough: true,
-            },
-        }
-    }
+    /// Makes the problem of a chain of `links` implications, answers it within limits of pivots and
+    /// conflicts, and reads nothing.
+    Make { links: u32, limits: Limits },
 }
 
 /// A limit that words may set.
@@ -74,6 +62,41 @@ pub enum LimitValue {
     Number(u64),
     /// As many as are enough for the problem. Pivots alone may be set to it.
     Enough,
+}
+
+/// What words set the limits of runs to.
+#[derive(Clone, Copy)]
+pub struct RunSettings {
+    /// What pivots are set to.
+    pub pivots: LimitValue,
+    /// How many clauses a search learns at most.
+    pub conflicts: u64,
+}
+
+impl RunSettings {
+    // The limits of runs, with the default where pivots are to be enough.
+    fn limits(self) -> Limits
+        ensures { result ≡ limits_by self.pivots self.conflicts }
+    {
+        let pivots = match self.pivots {
+            LimitValue::Number(pivots) => pivots,
+            LimitValue::Enough => DEFAULT_PIVOTS,
+        };
+        Limits {
+            pivots,
+            conflicts: self.conflicts,
+        }
+    }
+
+    // Whether pivots are to be enough.
+    fn is_enough(self) -> bool
+        ensures { result ≡ is_enough self.pivots }
+    {
+        match self.pivots {
+            LimitValue::Number(_) => false,
+            LimitValue::Enough => true,
+        }
+    }
 }
 
 impl Limit {
@@ -174,39 +197,104 @@ fn parse_check(settings: &[String]) -> Option<u64>
     }
 }
 
-// `solve` where two words set one of its limits, or None where they set neither.
-fn solve_by(word: &String, value: &String) -> Option<Command>
-    ensures { SetSolve (words_of (word.now ∷ value.now ∷ [])) result }
+// The settings of runs where two words set one of them, or None where they set neither.
+fn settings_by(word: &String, value: &String) -> Option<RunSettings>
+    ensures { FindsSettings (words_of (word.now ∷ value.now ∷ [])) result }
 {
     if let Some(pivots) = parse_pivots(word, value) {
-        return Some(Command::solve(pivots, DEFAULT_CONFLICTS));
+        return Some(RunSettings {
+            pivots,
+            conflicts: DEFAULT_CONFLICTS,
+        });
     }
     let conflicts = parse_setting(Limit::Conflicts, word, value)?;
-    Some(Command::solve(LimitValue::Number(DEFAULT_PIVOTS), conflicts))
+    Some(RunSettings {
+        pivots: LimitValue::Number(DEFAULT_PIVOTS),
+        conflicts,
+    })
 }
 
-// `solve` where four words set both its limits, or None where they don't.
-fn solve_by_both(first: &String, m: &String, second: &String, n: &String) -> Option<Command>
-    ensures { SetSolve (words_of (first.now ∷ m.now ∷ second.now ∷ n.now ∷ [])) result }
+// The settings of runs where four words set both, or None where they don't.
+fn settings_by_both(first: &String, m: &String, second: &String, n: &String) -> Option<RunSettings>
+    ensures { FindsSettings (words_of (first.now ∷ m.now ∷ second.now ∷ n.now ∷ [])) result }
 {
     if let Some(pivots) = parse_pivots(first, m) {
         let conflicts = parse_setting(Limit::Conflicts, second, n)?;
-        return Some(Command::solve(pivots, conflicts));
+        return Some(RunSettings { pivots, conflicts });
     }
     let conflicts = parse_setting(Limit::Conflicts, first, m)?;
     let pivots = parse_pivots(second, n)?;
-    Some(Command::solve(pivots, conflicts))
+    Some(RunSettings { pivots, conflicts })
+}
+
+// The settings of runs that words make, or None where they are none.
+fn parse_settings(settings: &[String]) -> Option<RunSettings>
+    ensures { FindsSettings (words_of settings.now) result }
+{
+    match settings {
+        [] => Some(RunSettings {
+            pivots: LimitValue::Number(DEFAULT_PIVOTS),
+            conflicts: DEFAULT_CONFLICTS,
+        }),
+        [word, value] => settings_by(word, value),
+        [first, m, second, n] => settings_by_both(first, m, second, n),
+        _ => None,
+    }
 }
 
 // `solve` with the limits that the words behind it set, or None where they aren't its settings.
 fn parse_solve(settings: &[String]) -> Option<Command>
-    ensures { SetSolve (words_of settings.now) result }
+    ensures { FindsBehind (codes "solve") (words_of settings.now) result }
 {
-    match settings {
-        [] => Some(Command::solve(LimitValue::Number(DEFAULT_PIVOTS), DEFAULT_CONFLICTS)),
-        [word, value] => solve_by(word, value),
-        [first, m, second, n] => solve_by_both(first, m, second, n),
-        _ => None,
+    let settings = parse_settings(settings)?;
+    Some(Command::Solve {
+        limits: settings.limits(),
+        enough: settings.is_enough(),
+    })
+}
+
+// `explain` with the limits that the words behind it set, or None where they aren't its settings.
+fn parse_explain(settings: &[String]) -> Option<Command>
+    ensures { FindsBehind (codes "explain") (words_of settings.now) result }
+{
+    let settings = parse_settings(settings)?;
+    Some(Command::Explain {
+        limits: settings.limits(),
+        enough: settings.is_enough(),
+    })
+}
+
+// How many links a word spells.
+fn parse_links(word: &String) -> Option<u32>
+    ensures { FindsLinks (string_bytes word.now) result }
+{
+    let links = number(word, u64::from(MOST_LINKS))?;
+    if links == 0 { None } else { Some(links as u32) }
+}
+
+// `make` of so many links with the limits that words set, or None where they aren't its settings.
+fn make_by(links: u32, settings: &[String]) -> Option<Command>
+    requires some { 1 ≤ links }
+    requires few { links ≤ MOST_LINKS }
+    ensures { FindsBehind (codes "make") (decimal links ∷ words_of settings.now) result }
+{
+    let settings = parse_settings(settings)?;
+    if settings.is_enough() {
+        return None;
+    }
+    Some(Command::Make {
+        links,
+        limits: settings.limits(),
+    })
+}
+
+// `make` with the links and the limits that the words behind it set, or None where they don't.
+fn parse_make(words: &[String]) -> Option<Command>
+    ensures { FindsBehind (codes "make") (words_of words.now) result }
+{
+    match words {
+        [links, settings @ ..] => make_by(parse_links(links)?, settings),
+        [] => None,
     }
 }
 
@@ -216,6 +304,8 @@ pub fn parse_words(words: &[String]) -> Option<Command>
 {
     match words {
         [name, settings @ ..] if is(name, "solve") => parse_solve(settings),
+        [name, settings @ ..] if is(name, "explain") => parse_explain(settings),
+        [name, settings @ ..] if is(name, "make") => parse_make(settings),
         [name, settings @ ..] if is(name, "check") => {
             let bytes = parse_check(settings)?;
             Some(Command::Check { bytes })

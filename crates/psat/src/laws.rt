@@ -6,13 +6,16 @@ ghost use Rattle.psat.specs.declared.command.TheConstants.{DEFAULT_BYTES, MOST_B
 ghost use Rattle.psat.specs.declared.command.TheConstants.{DEFAULT_PIVOTS, DEFAULT_CONFLICTS};
 ghost use Rattle.ps_answer.specs.declared.limits.TheConstants.{MOST_PIVOTS};
 ghost use Rattle.ps_log.specs.declared.limits.TheConstants.{MOST_CONFLICTS};
+ghost use Rattle.ps_make.specs.declared.made.TheConstants.{MOST_LINKS};
 ghost use Rattle.psat.specs.Accepting.{OneAnswerIsDue, ReportsAreAccepted};
-ghost use Rattle.psat.specs.Answering.{FaultlessRunsAnswer, ProblemsAreSolved, ReportsAreJudged};
+ghost use Rattle.psat.specs.Answering.{FaultlessRunsAnswer, ProblemsAreExplained, ProblemsAreMade};
+ghost use Rattle.psat.specs.Answering.{ProblemsAreSolved, ReportsAreJudged};
 ghost use Rattle.psat.specs.Commands.{Spell};
 ghost use Rattle.psat.specs.Due.{EnoughLeavesNoneOpen, OneOutputIsDue};
 
-/// For words and bytes at most one output is due, but for the words of `solve`: to one problem
-/// several answers may be right. A report that is due for them is that of one answer.
+/// For words and bytes at most one output is due, but for the words of `solve`, `explain` and
+/// `make`: to one problem several answers and several explanations may be right. A report that is
+/// due for `solve` is that of one answer.
 pub fn one_output_is_due()
     ensures command { (words : List (List ℕ)) (c d : Command)
         → Spell words c → Spell words d → c ≡ d }
@@ -34,12 +37,15 @@ pub fn enough_pivots_leave_none_open()
 
 /// Where no call of the source or the sink fails, a run answers what is due, or there was not
 /// enough memory: of its clauses no other status is left. For `solve` and bytes within the limit
-/// that are a problem, that is the report of an answer to it; for `check` and a problem at the front
-/// of such bytes, what is due for it and the bytes behind it.
+/// that are a problem, that is the report of an answer to it, and for `explain` an explanation of
+/// it; for `check` and a problem at the front of such bytes, what is due for it and the bytes behind
+/// it; and for `make` the chain of so many links with the summary of an answer to its problem.
 pub fn faultless_runs_answer()
     ensures answered { FaultlessRunsAnswer }
     ensures solved { ProblemsAreSolved }
+    ensures explained { ProblemsAreExplained }
     ensures judged { ReportsAreJudged }
+    ensures made { ProblemsAreMade }
 {}
 
 /// The limits of the commands, and of the search for a problem, by their numbers.
@@ -47,6 +53,7 @@ pub fn limits_have_these_numbers()
     ensures default_bytes { DEFAULT_BYTES ≡ 2 ^ 30 }
     ensures most_bytes { MOST_BYTES ≡ 2 ^ 40 }
     ensures most_problem { MOST_PROBLEM ≡ 2 ^ 20 }
+    ensures most_links { MOST_LINKS ≡ 90 }
     ensures most_searched { MOST_SEARCHED ≡ 2 ^ 32 - 2 }
     ensures default_pivots { DEFAULT_PIVOTS ≡ 10000 }
     ensures most_pivots { MOST_PIVOTS ≡ 1000000 }

@@ -1,12 +1,18 @@
-//! A solver and checker for probabilistic logic: it answers a problem with a report, and judges a
-//! report on a problem.
+//! A solver and checker for probabilistic logic: it answers a problem with a report, judges a
+//! report on a problem, explains why a problem's sentences can't be met, and makes problems.
 #![tactic(auto)]
 
 mod answered;
 mod checked;
 mod command;
 mod exit;
+#[cfg(test)]
+mod explain_tests;
+mod explained;
 mod laws;
+mod made;
+#[cfg(test)]
+mod make_tests;
 mod message;
 mod reply;
 mod reply_error;
@@ -16,6 +22,7 @@ mod shown;
 mod solve_tests;
 mod solved;
 mod status;
+mod summary;
 #[cfg(test)]
 mod tests;
 mod writing;

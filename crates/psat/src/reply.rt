@@ -1,11 +1,14 @@
 //! What is to be written.
 ghost use Rattle.std.specs.Prelude.{◌≡◌};
-ghost use Rattle.psat.specs.Replies.{reply_status};
+ghost use Rattle.psat.specs.Replies.{reply_status, status_by_open};
 
 use crate::answered::status_of;
+use crate::explained::status_explained;
+use crate::made::MadeProblem;
 use crate::message::Message;
 use crate::status::Status;
 use ps_answer::Answer;
+use ps_explain::Explained;
 
 /// What is to be written.
 #[derive(Drop)]
@@ -14,6 +17,10 @@ pub enum Reply {
     Line(Message),
     /// The report of an answer.
     Report(Answer),
+    /// An explanation.
+    Explanation(Explained),
+    /// A made problem with its summary.
+    Made(MadeProblem),
 }
 
 impl Reply {
@@ -24,6 +31,8 @@ impl Reply {
         match self {
             Reply::Line(message) => message.status,
             Reply::Report(answer) => status_of(answer),
+            Reply::Explanation(explained) => status_explained(explained),
+            Reply::Made(made) => made.status(),
         }
     }
 }

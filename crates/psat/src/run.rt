@@ -8,6 +8,8 @@ ghost use Rattle.psat.specs.Statuses.{AnswersUsage, HasText, IsAnswerOf, IsSilen
 
 use crate::checked::checked;
 use crate::command::{Command, MOST_PROBLEM, parse_words};
+use crate::explained::explained;
+use crate::made::made;
 use crate::message::Message;
 use crate::reply::Reply;
 use crate::reply_error::ReplyError;
@@ -17,7 +19,7 @@ use crate::writing::write_reply;
 use ps_io::{NoMemory, ReadAllError, Sink, Source, read_all};
 use std::alloc::Global;
 
-// The reply to bytes that are within the limit of a command.
+// The reply to bytes that are within the limit of a command; one that reads nothing takes any.
 fn reply_to_bytes(alloc: Global, command: Command, bytes: &[u8]) -> Result<Reply, NoMemory>
     requires limits { AreLimitsOf command }
     requires within { AreWithin command (length bytes.now) }
@@ -27,7 +29,9 @@ fn reply_to_bytes(alloc: Global, command: Command, bytes: &[u8]) -> Result<Reply
 {
     match command {
         Command::Solve { limits, enough } => solved(alloc, bytes, limits, enough),
+        Command::Explain { limits, enough } => explained(alloc, bytes, limits, enough),
         Command::Check { .. } => Ok(Reply::Line(checked(alloc, bytes)?)),
+        Command::Make { links, limits } => made(alloc, links, limits),
     }
 }
 
@@ -69,8 +73,11 @@ fn reply_to_command<I: Source>(
     ensures faults { CountsReads (I.faults source.old) (I.faults source.new) (status_of result) }
 {
     match command {
-        Command::Solve { .. } => reply_to_input(alloc, command, MOST_PROBLEM, source),
+        Command::Solve { .. } | Command::Explain { .. } => {
+            reply_to_input(alloc, command, MOST_PROBLEM, source)
+        }
         Command::Check { bytes } => reply_to_input(alloc, command, bytes, source),
+        Command::Make { .. } => Ok(reply_to_bytes(alloc, command, &[])?),
     }
 }
 

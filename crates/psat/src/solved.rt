@@ -27,9 +27,9 @@ fn enough_for(problem: &Problem) -> Option<u64>
     enough_pivots(problem.bounds() + 1, worlds)
 }
 
-// The limits of the runs on a problem: those of the words, and where pivots are to be enough, as
-// many as are, or `MOST_PIVOTS` where that is less.
-fn limits_for(problem: &Problem, limits: Limits, enough: bool) -> Limits
+/// The limits of the runs on a problem: those of the words, and where pivots are to be enough, as
+/// many as are, or `MOST_PIVOTS` where that is less.
+pub fn limits_for(problem: &Problem, limits: Limits, enough: bool) -> Limits
     requires limits { AreLimits limits }
     ensures limits { result ≡ run.limits_for limits enough problem.now }
     ensures within { AreLimits result }

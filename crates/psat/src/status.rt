@@ -5,15 +5,15 @@ ghost use Rattle.std.specs.Prelude.{◌≡◌};
 #[derive(Clone, Copy, Debug, PartialEq, Eq)]
 pub enum Status {
     /// `check`: each claim of the report is valid. `solve`: the sentences are consistent, and
-    /// nothing is open.
+    /// nothing is open. `explain`: they are consistent. `make`: nothing is open.
     Done,
-    /// `solve`: the sentences are inconsistent.
+    /// `solve`, `explain`: the sentences are inconsistent.
     Inconsistent,
     /// The words are not those of a command.
     Usage,
     /// The input is too long, or the problem that is due isn't there.
     Unreadable,
-    /// `solve`: some part of the answer is open.
+    /// `solve`, `explain`, `make`: some part of the answer is open.
     Unfinished,
     /// A read failed.
     ReadFault,

@@ -1,25 +1,22 @@
--- Which words spell `solve`.
-use Rattle.std.proofs.Common.{◌≡◌, ◌≢◌, ◌⊎◌, inl, inr, ℕ, zero, suc, ◌<◌, ◌≤◌, List, [], ◌∷◌, ◌++◌, length, All, Contains, get_or, codes, String, string_bytes, refl, sym, ap, subst, ◌∙◌, arith}
+-- Which words set the limits of runs.
+use Rattle.std.proofs.Common.{◌≡◌, ◌≢◌, ◌⊎◌, inl, inr, ℕ, zero, suc, ◌<◌, ◌≤◌, List, [], ◌∷◌, ◌++◌, length, All, Contains, get_or, String, string_bytes, refl, sym, ap, subst, ◌∙◌, arith}
 use Rattle.std.specs.declared.alloc.Global.{Global}
 use Rattle.std.specs.Prelude.{AllPairs}
 use Rattle.std.proofs.lemmas.List.Elements.{All-nil, All-cons}
 use Rattle.std.proofs.lemmas.List.Kept.{AllPairs-cons}
 use Rattle.ps_log.proofs.StepShapes.{head, tail}
-use Rattle.psat.specs.declared.command.Command.{Command}
-use Rattle.psat.specs.declared.command.Command.TheVariants.{Check, Solve}
 use Rattle.psat.specs.declared.command.Limit.{Limit}
 use Rattle.psat.specs.declared.command.Limit.TheVariants.{Pivots, Conflicts}
 use Rattle.psat.specs.declared.command.LimitValue.{LimitValue}
 use Rattle.psat.specs.declared.command.LimitValue.TheVariants.{Number, Enough}
 use Rattle.psat.specs.declared.command.TheConstants.{DEFAULT_PIVOTS, DEFAULT_CONFLICTS}
-use Rattle.psat.specs.Commands.{words_of, limit_word, value_word, MayBe, LimitSetting, setting_words, AreSettings, IsSetTo, Spell, SpellNone}
-use Rattle.psat.specs.Settings.{SetsLimit, IsUnset, HasNoNumber, solve_with}
+use Rattle.psat.specs.Commands.{words_of, limit_word, value_word, MayBe, LimitSetting, setting_words, AreSettings, IsSetTo, SetRuns}
+use Rattle.psat.specs.Settings.{SetsLimit, IsUnset, HasNoNumber, SetNoRuns}
 use Rattle.psat.proofs.Settings.{limit-is, unset_by, words_are}
-use Rattle.psat.proofs.CommandLaws.{name-is, other_names}
 
--- the limits of `solve`
-abbrev solve_limits : List Limit
-solve_limits = Pivots ∷ Conflicts ∷ []
+-- the limits of runs
+abbrev run_limits : List Limit
+run_limits = Pivots ∷ Conflicts ∷ []
 
 pivots-apart : Pivots ≢ Conflicts
 pivots-apart e = absurd (cc)
@@ -28,10 +25,10 @@ conflicts-apart : Conflicts ≢ Pivots
 conflicts-apart e = absurd (cc)
 
 -- ---- what the words behind the command's name may be
-of-search : (l : Limit) → Contains solve_limits l → (l ≡ Pivots) ⊎ (l ≡ Conflicts)
+of-search : (l : Limit) → Contains run_limits l → (l ≡ Pivots) ⊎ (l ≡ Conflicts)
 of-search l h = at h.0 h.1 h.2
   where
-    at : (k : ℕ) → k < 2 → get_or solve_limits k l ≡ l → (l ≡ Pivots) ⊎ (l ≡ Conflicts)
+    at : (k : ℕ) → k < 2 → get_or run_limits k l ≡ l → (l ≡ Pivots) ⊎ (l ≡ Conflicts)
     at zero lt e = inl (sym e)
     at (suc zero) lt e = inr (sym e)
     at (suc (suc k)) lt e = absurd (omega arith)
@@ -57,7 +54,7 @@ data Sets (words : List (List ℕ)) : Type 0 where
   Two : (s t : LimitSetting) (is : words ≡ setting_words (s ∷ t ∷ [])) (within : MayBe s.limit s.value) (also : MayBe t.limit t.value)
       (which : ((s.limit ≡ Pivots) × (t.limit ≡ Conflicts)) ⊎ ((s.limit ≡ Conflicts) × (t.limit ≡ Pivots))) → Sets words
 
-sets : (words : List (List ℕ)) (ss : List LimitSetting) → words ≡ setting_words ss → AreSettings solve_limits ss → Sets words
+sets : (words : List (List ℕ)) (ss : List LimitSetting) → words ≡ setting_words ss → AreSettings run_limits ss → Sets words
 sets words [] e are = Nothing e
 sets words (s ∷ []) e are = One s e (are.within 0 s (omega arith)) (of-search s.limit (are.known 0 s (omega arith)))
 sets words (s ∷ t ∷ []) e are =
@@ -67,17 +64,13 @@ sets words (s ∷ t ∷ u ∷ ss) e are =
     absurd (three s.limit t.limit u.limit (of-search s.limit (are.known 0 s (omega arith))) (of-search t.limit (are.known 1 s (omega arith))) (of-search u.limit (are.known 2 s (omega arith)))
     (are.once 0 1 s (omega arith) (omega arith)) (are.once 0 2 s (omega arith) (omega arith)) (are.once 1 2 s (omega arith) (omega arith)))
 
--- ---- words that spell none
-solve_unspelled : (words : List (List ℕ)) → (Sets words → ⊥) → SpellNone (codes "solve" ∷ words)
-solve_unspelled words not = record { none = by }
-  where
-    by : (c : Command) → ¬ Spell (codes "solve" ∷ words) c
-    by (Check n) h = absurd (other_names (sym (name-is (codes "solve") words (Check n) h)))
-    by (Solve l e) h = not (sets words h.0.settings (tail _ _ words (setting_words h.0.settings) h.0.words_are) h.0.are)
+-- ---- words that set none
+unset_runs : (words : List (List ℕ)) → (Sets words → ⊥) → SetNoRuns words
+unset_runs words not = record { none = λ v k h. not (sets words h.spelled.settings h.spelled.words_are h.spelled.are) }
 
 -- none, two or four words set something
-pub odd_unspelled : (words : List (List ℕ)) → length words ≢ 0 → length words ≢ 2 → length words ≢ 4 → SpellNone (codes "solve" ∷ words)
-odd_unspelled words p q r = solve_unspelled words not
+pub odd_unset : (words : List (List ℕ)) → length words ≢ 0 → length words ≢ 2 → length words ≢ 4 → SetNoRuns words
+odd_unset words p q r = unset_runs words not
   where
     not : Sets words → ⊥
     not (Nothing is) = p (ap length is)
@@ -89,8 +82,8 @@ sets_limit : (word value : List ℕ) (s : LimitSetting) (l : Limit) → s.limit 
 sets_limit word value s l e p q within = subst (λ (k : Limit). SetsLimit word value k s.value) e (record { word_is = p; value_is = q; within = within })
 
 -- two words that set neither limit
-pub neither_unspelled : (w n : List ℕ) → IsUnset w n Pivots → HasNoNumber w n Conflicts → SpellNone (codes "solve" ∷ w ∷ n ∷ [])
-neither_unspelled w n p c = solve_unspelled (w ∷ n ∷ []) not
+pub neither_unset : (w n : List ℕ) → IsUnset w n Pivots → HasNoNumber w n Conflicts → SetNoRuns (w ∷ n ∷ [])
+neither_unset w n p c = unset_runs (w ∷ n ∷ []) not
   where
     not : Sets (w ∷ n ∷ []) → ⊥
     not (Nothing is) = omega (arith, ap length is)
@@ -99,9 +92,9 @@ neither_unspelled w n p c = solve_unspelled (w ∷ n ∷ []) not
     not (Two s t is within also which) = omega (arith, ap length is)
 
 -- four words that don't set both
-four_unspelled : (w n v m : List ℕ) → ((j k : LimitValue) → SetsLimit w n Pivots j → SetsLimit v m Conflicts k → ⊥) → ((j k : LimitValue) → SetsLimit w n Conflicts j → SetsLimit v m Pivots k → ⊥)
-    → SpellNone (codes "solve" ∷ w ∷ n ∷ v ∷ m ∷ [])
-four_unspelled w n v m p q = solve_unspelled (w ∷ n ∷ v ∷ m ∷ []) not
+four_unset : (w n v m : List ℕ) → ((j k : LimitValue) → SetsLimit w n Pivots j → SetsLimit v m Conflicts k → ⊥) → ((j k : LimitValue) → SetsLimit w n Conflicts j → SetsLimit v m Pivots k → ⊥)
+    → SetNoRuns (w ∷ n ∷ v ∷ m ∷ [])
+four_unset w n v m p q = unset_runs (w ∷ n ∷ v ∷ m ∷ []) not
   where
     not : Sets (w ∷ n ∷ v ∷ m ∷ []) → ⊥
     not (Nothing is) = omega (arith, ap length is)
@@ -115,27 +108,27 @@ four_unspelled w n v m p q = solve_unspelled (w ∷ n ∷ v ∷ m ∷ []) not
         q s.value t.value (sets_limit w n s Conflicts which.0 (head _ _ _ _ is) (head _ _ _ _ (tail _ _ _ _ is)) within)
         (sets_limit v m t Pivots which.1 (head _ _ _ _ behind) (head _ _ _ _ (tail _ _ _ _ behind)) also)
 
-pub first_unspelled : (w n v m : List ℕ) → IsUnset w n Pivots → HasNoNumber w n Conflicts → SpellNone (codes "solve" ∷ w ∷ n ∷ v ∷ m ∷ [])
-first_unspelled w n v m p c = four_unspelled w n v m (λ j k f g. p.none j f) (λ j k f g. (unset_by w n Conflicts conflicts-apart c).none j f)
+pub first_unset : (w n v m : List ℕ) → IsUnset w n Pivots → HasNoNumber w n Conflicts → SetNoRuns (w ∷ n ∷ v ∷ m ∷ [])
+first_unset w n v m p c = four_unset w n v m (λ j k f g. p.none j f) (λ j k f g. (unset_by w n Conflicts conflicts-apart c).none j f)
 
 -- the first two words set the pivots, and the others no conflicts
-pub conflicts_unspelled : (w n v m : List ℕ) (i : LimitValue) → SetsLimit w n Pivots i → HasNoNumber v m Conflicts → SpellNone (codes "solve" ∷ w ∷ n ∷ v ∷ m ∷ [])
-conflicts_unspelled w n v m i h c = four_unspelled w n v m (λ j k f g. (unset_by v m Conflicts conflicts-apart c).none k g) (λ j k f g. pivots-apart (limit-is Pivots Conflicts (sym h.word_is ∙ f.word_is)))
+pub conflicts_unset : (w n v m : List ℕ) (i : LimitValue) → SetsLimit w n Pivots i → HasNoNumber v m Conflicts → SetNoRuns (w ∷ n ∷ v ∷ m ∷ [])
+conflicts_unset w n v m i h c = four_unset w n v m (λ j k f g. (unset_by v m Conflicts conflicts-apart c).none k g) (λ j k f g. pivots-apart (limit-is Pivots Conflicts (sym h.word_is ∙ f.word_is)))
 
 -- the first two words set no pivots, and the others neither
-pub pivots_unspelled : (w n v m : List ℕ) → IsUnset w n Pivots → IsUnset v m Pivots → SpellNone (codes "solve" ∷ w ∷ n ∷ v ∷ m ∷ [])
-pivots_unspelled w n v m p q = four_unspelled w n v m (λ j k f g. p.none j f) (λ j k f g. q.none k g)
+pub pivots_unset_behind : (w n v m : List ℕ) → IsUnset w n Pivots → IsUnset v m Pivots → SetNoRuns (w ∷ n ∷ v ∷ m ∷ [])
+pivots_unset_behind w n v m p q = four_unset w n v m (λ j k f g. p.none j f) (λ j k f g. q.none k g)
 
--- ---- words that spell `solve`
-no_settings : AreSettings solve_limits []
+-- ---- words that set them
+no_settings : AreSettings run_limits []
 no_settings = record { known = λ k d lt. absurd (omega (arith, lt)); once = λ i j d lt less. absurd (omega (arith, less)); within = λ k d lt. absurd (omega (arith, lt)) }
 
 alone : (P : LimitSetting → Type 0) (s : LimitSetting) → P s → All P (s ∷ [])
 alone P s p = All-cons P s [] p (All-nil P)
 
-one_known : (s : LimitSetting) → Contains solve_limits s.limit → MayBe s.limit s.value → AreSettings solve_limits (s ∷ [])
+one_known : (s : LimitSetting) → Contains run_limits s.limit → MayBe s.limit s.value → AreSettings run_limits (s ∷ [])
 one_known s known within = record {
-  known = alone (λ s. Contains solve_limits s.limit) s known;
+  known = alone (λ s. Contains run_limits s.limit) s known;
   once = λ i j d lt less. absurd (omega (arith, lt, less));
   within = alone (λ s. MayBe s.limit s.value) s within;
 }
@@ -143,57 +136,56 @@ one_known s known within = record {
 two_apart : (s t : LimitSetting) → s.limit ≢ t.limit → AllPairs (λ s t. s.limit ≢ t.limit) (s ∷ t ∷ [])
 two_apart s t h = AllPairs-cons (λ (s t : LimitSetting). s.limit ≢ t.limit) s (t ∷ []) (alone (λ (t : LimitSetting). s.limit ≢ t.limit) t h) (λ i j d lt less. absurd (omega (arith, lt, less)))
 
-two_known : (s t : LimitSetting) → Contains solve_limits s.limit → Contains solve_limits t.limit → MayBe s.limit s.value → MayBe t.limit t.value → s.limit ≢ t.limit
-    → AreSettings solve_limits (s ∷ t ∷ [])
+two_known : (s t : LimitSetting) → Contains run_limits s.limit → Contains run_limits t.limit → MayBe s.limit s.value → MayBe t.limit t.value → s.limit ≢ t.limit
+    → AreSettings run_limits (s ∷ t ∷ [])
 two_known s t p q le less apart = record {
-  known = All-cons (λ s. Contains solve_limits s.limit) s (t ∷ []) p (alone (λ s. Contains solve_limits s.limit) t q);
+  known = All-cons (λ s. Contains run_limits s.limit) s (t ∷ []) p (alone (λ s. Contains run_limits s.limit) t q);
   once = two_apart s t apart;
   within = All-cons (λ s. MayBe s.limit s.value) s (t ∷ []) le (alone (λ s. MayBe s.limit s.value) t less);
 }
 
-spelled_by : (pivots : LimitValue) (conflicts : ℕ) (words : List (List ℕ)) (ss : List LimitSetting) → words ≡ setting_words ss → AreSettings solve_limits ss → IsSetTo ss Pivots pivots
-    → IsSetTo ss Conflicts (Number conflicts) → Spell (codes "solve" ∷ words) (solve_with pivots conflicts)
-spelled_by (Number n) conflicts words ss e are p q = (record { settings = ss; words_are = ap (λ ws. codes "solve" ∷ ws) e; are = are }, p, q, λ wrong. absurd (cc))
-spelled_by Enough conflicts words ss e are p q = (record { settings = ss; words_are = ap (λ ws. codes "solve" ∷ ws) e; are = are }, p, q, λ _. refl)
+set_by : (pivots : LimitValue) (conflicts : ℕ) (words : List (List ℕ)) (ss : List LimitSetting) → words ≡ setting_words ss → AreSettings run_limits ss → IsSetTo ss Pivots pivots
+    → IsSetTo ss Conflicts (Number conflicts) → SetRuns [] pivots conflicts words
+set_by pivots conflicts words ss e are p q = record { spelled = record { settings = ss; words_are = e; are = are }; pivots_are = p; conflicts_are = q }
 
 unset : (l : Limit) → All (λ (s : LimitSetting). s.limit ≢ l) []
 unset l = λ k d lt. absurd (omega (arith, lt))
 
-has_pivots : Contains solve_limits Pivots
+has_pivots : Contains run_limits Pivots
 has_pivots = (0, omega arith, refl)
 
-has_conflicts : Contains solve_limits Conflicts
+has_conflicts : Contains run_limits Conflicts
 has_conflicts = (1, omega arith, refl)
 
-pub none_set : (words : List (List ℕ)) → words ≡ [] → Spell (codes "solve" ∷ words) (solve_with (Number DEFAULT_PIVOTS) DEFAULT_CONFLICTS)
-none_set words e = spelled_by (Number DEFAULT_PIVOTS) DEFAULT_CONFLICTS words [] e no_settings (inr (unset Pivots, refl)) (inr (unset Conflicts, refl))
+pub none_set : (words : List (List ℕ)) → words ≡ [] → SetRuns [] (Number DEFAULT_PIVOTS) DEFAULT_CONFLICTS words
+none_set words e = set_by (Number DEFAULT_PIVOTS) DEFAULT_CONFLICTS words [] e no_settings (inr (unset Pivots, refl)) (inr (unset Conflicts, refl))
 
 abbrev to : Limit → LimitValue → LimitSetting
 to l v = record { limit = l; value = v }
 
-pub pivots_set : (w n : List ℕ) (v : LimitValue) → SetsLimit w n Pivots v → Spell (codes "solve" ∷ w ∷ n ∷ []) (solve_with v DEFAULT_CONFLICTS)
+pub pivots_set : (w n : List ℕ) (v : LimitValue) → SetsLimit w n Pivots v → SetRuns [] v DEFAULT_CONFLICTS (w ∷ n ∷ [])
 pivots_set w n v h =
-    spelled_by v DEFAULT_CONFLICTS (w ∷ n ∷ []) (to Pivots v ∷ []) (words_are w n Pivots v h) (one_known (to Pivots v) has_pivots h.within) (inl (0, omega arith, refl))
+    set_by v DEFAULT_CONFLICTS (w ∷ n ∷ []) (to Pivots v ∷ []) (words_are w n Pivots v h) (one_known (to Pivots v) has_pivots h.within) (inl (0, omega arith, refl))
     (inr (alone (λ s. s.limit ≢ Conflicts) (to Pivots v) pivots-apart, refl))
 
-pub conflicts_set : (w n : List ℕ) (k : ℕ) → SetsLimit w n Conflicts (Number k) → Spell (codes "solve" ∷ w ∷ n ∷ []) (solve_with (Number DEFAULT_PIVOTS) k)
+pub conflicts_set : (w n : List ℕ) (k : ℕ) → SetsLimit w n Conflicts (Number k) → SetRuns [] (Number DEFAULT_PIVOTS) k (w ∷ n ∷ [])
 conflicts_set w n k h =
-    spelled_by (Number DEFAULT_PIVOTS) k (w ∷ n ∷ []) (to Conflicts (Number k) ∷ []) (words_are w n Conflicts (Number k) h) (one_known (to Conflicts (Number k)) has_conflicts h.within)
+    set_by (Number DEFAULT_PIVOTS) k (w ∷ n ∷ []) (to Conflicts (Number k) ∷ []) (words_are w n Conflicts (Number k) h) (one_known (to Conflicts (Number k)) has_conflicts h.within)
     (inr (alone (λ s. s.limit ≢ Pivots) (to Conflicts (Number k)) conflicts-apart, refl)) (inl (0, omega arith, refl))
 
 four_are : (w n v m : List ℕ) (a b : Limit) (j k : LimitValue) → SetsLimit w n a j → SetsLimit v m b k → w ∷ n ∷ v ∷ m ∷ [] ≡ setting_words (to a j ∷ to b k ∷ [])
 four_are w n v m a b j k f g = ap (λ (xs : List (List ℕ)). xs ++ v ∷ m ∷ []) (words_are w n a j f) ∙ ap (λ (xs : List (List ℕ)). limit_word a ∷ value_word j ∷ xs) (words_are v m b k g)
 
 pub pivots_conflicts_set : (w n v m : List ℕ) (j : LimitValue) (k : ℕ) → SetsLimit w n Pivots j → SetsLimit v m Conflicts (Number k)
-    → Spell (codes "solve" ∷ w ∷ n ∷ v ∷ m ∷ []) (solve_with j k)
+    → SetRuns [] j k (w ∷ n ∷ v ∷ m ∷ [])
 pivots_conflicts_set w n v m j k f g =
-    spelled_by j k (w ∷ n ∷ v ∷ m ∷ []) (to Pivots j ∷ to Conflicts (Number k) ∷ []) (four_are w n v m Pivots Conflicts j (Number k) f g)
+    set_by j k (w ∷ n ∷ v ∷ m ∷ []) (to Pivots j ∷ to Conflicts (Number k) ∷ []) (four_are w n v m Pivots Conflicts j (Number k) f g)
     (two_known (to Pivots j) (to Conflicts (Number k)) has_pivots has_conflicts f.within g.within pivots-apart) (inl (0, omega arith, refl)) (inl (1, omega arith, refl))
 
 pub conflicts_pivots_set : (w n v m : List ℕ) (j : LimitValue) (k : ℕ) → SetsLimit w n Conflicts (Number k) → SetsLimit v m Pivots j
-    → Spell (codes "solve" ∷ w ∷ n ∷ v ∷ m ∷ []) (solve_with j k)
+    → SetRuns [] j k (w ∷ n ∷ v ∷ m ∷ [])
 conflicts_pivots_set w n v m j k f g =
-    spelled_by j k (w ∷ n ∷ v ∷ m ∷ []) (to Conflicts (Number k) ∷ to Pivots j ∷ []) (four_are w n v m Conflicts Pivots (Number k) j f g)
+    set_by j k (w ∷ n ∷ v ∷ m ∷ []) (to Conflicts (Number k) ∷ to Pivots j ∷ []) (four_are w n v m Conflicts Pivots (Number k) j f g)
     (two_known (to Conflicts (Number k)) (to Pivots j) has_conflicts has_pivots f.within g.within conflicts-apart) (inl (1, omega arith, refl)) (inl (0, omega arith, refl))
 
 -- ---- the words of strings

@@ -1,0 +1,10 @@
+use Rattle.std.proofs.Common.{sym, subst, Some, Option}
+use Rattle.ps_io.specs.Transfer.{Appends, Writes}
+use Rattle.ps_answer.specs.declared.answer.Answer.{Answer}
+use Rattle.psat.specs.Replies.{open_report}
+use Rattle.psat.proofs.RunLaws.{made_wrote}
+use Rattle.psat.proofs.writing.write_made.Goals as goal
+
+pub returns-in-Some-clause-wrote : goal.returns-in-Some-clause-wrote
+returns-in-Some-clause-wrote g c =
+    made_wrote c.write_comment.result _ _ _ c.args.made.now c.in-Some.answer c.deref.result.now c.deref.ensures.value c.in-Some.is c.in_ok-write_all.ensures.ok c.write_comment.ensures.wrote
