@@ -76,7 +76,7 @@ impl Text {
 }
 
 // A text of four sentences and two queries.
-fn text(alloc: Global, seed: u64) -> Result<Vec<u8>, NoMemory> {
+fn drawn(alloc: Global, seed: u64) -> Result<Vec<u8>, NoMemory> {
     let mut text = Text {
         bytes: Vec::new(alloc),
         draw: Draw::new(seed),
@@ -92,7 +92,7 @@ fn text(alloc: Global, seed: u64) -> Result<Vec<u8>, NoMemory> {
 }
 
 fn problem(alloc: Global, seed: u64) -> Option<Problem> {
-    let text = text(alloc, seed).ok()?;
+    let text = drawn(alloc, seed).ok()?;
     if text.len() > 4096 {
         return None;
     }
