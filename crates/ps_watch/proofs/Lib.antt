@@ -1,0 +1,15 @@
+pub mod Pigeons
+pub mod Linked
+pub mod Clauses
+pub mod Seen
+pub mod Visited
+pub mod Reading
+pub mod Drained
+pub mod Followed
+pub mod Rested
+pub mod Levelled
+pub mod Paired
+pub mod Empty
+pub mod Chosen
+pub mod Attached
+pub mod Keeping

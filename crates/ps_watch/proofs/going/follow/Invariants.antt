@@ -1,0 +1,12 @@
+use Rattle.std.proofs.Common.{◌-◌, ◌≤◌}
+use Rattle.ps_watch.specs.Going.{HasFollowed}
+use Rattle.ps_watch.proofs.going.follow.Given as goal
+
+abbrev pub invariant-on : goal.invariant-on
+invariant-on l = record {
+  followed : HasFollowed l.known l.initial.w l.initial.trail l.w l.trail l.done;
+  grows : l.initial.done ≤ l.done;
+}
+
+abbrev pub decreases-on : goal.decreases-on
+decreases-on l = l.initial.trail.variables - l.done

@@ -1,0 +1,9 @@
+pub mod Links
+pub mod Looks
+pub mod Watches
+pub mod Going
+pub mod Scans
+pub mod Watching
+pub mod Choices
+pub mod Linking
+pub mod Keeping

@@ -1,0 +1,59 @@
+-- What constraints show that aren't watched, and how propagation ends.
+use Rattle.std.specs.Prelude.{◌≡◌, ◌≤◌, ◌<◌, unsigned_abs, ℕ, ℤ, false, true, Option, Some, None, List, length, slice_index_or, ◌⊎◌}
+use Rattle.ps_steps.specs.Assignments.{Assignment}
+use Rattle.ps_steps.specs.Constraints.{Constraint, slack, is_violated, some_forced, Forces}
+use Rattle.ps_steps.specs.Steps.{Known, constraint_at}
+use Rattle.ps_learning.specs.Trails.{Trail, IsReason, IsFresh, IsConflict}
+use Rattle.ps_forms.specs.Decided.{IsIdle}
+use Rattle.ps_watch.specs.declared.scanning.State.{State}
+use Rattle.ps_watch.specs.declared.scanning.State.TheVariants as state
+use Rattle.ps_watch.specs.declared.scanning.Scan.{Scan}
+use Rattle.ps_watch.specs.declared.scanning.Scan.TheVariants.{Violated, Forced, Idle}
+use Rattle.ps_watch.specs.declared.visiting.Watches.{Watches}
+use Rattle.ps_watch.specs.Watches.{number_at}
+
+-- the first literal that the constraint forces
+abbrev pub FirstForced : Constraint → Assignment → Option ℤ → Type 0
+FirstForced c a None = some_forced (slack c a) a c.terms ≡ false
+FirstForced c a (Some l) = Forces c a l × (1 ≤ unsigned_abs l)
+
+-- what one constraint shows
+abbrev pub ScansOne : Constraint → Assignment → State → Type 0
+ScansOne c a state.Violated = is_violated c a ≡ true
+ScansOne c a (state.Forced l) = Forces c a l × (1 ≤ unsigned_abs l)
+ScansOne c a state.Idle = IsIdle c a
+
+-- the constraint of an id is idle
+pub record IsIdleAt (known : Known) (a : Assignment) (id : ℕ) : Type 0 where
+  pub at : (c : Constraint) → constraint_at known id ≡ Some c → IsIdle c a
+
+-- what the constraint of an id shows
+abbrev pub ScansAt : Known → Assignment → ℕ → Scan → Type 0
+ScansAt known a id (Violated found) = IsConflict known a found
+ScansAt known a id (Forced l found) = IsReason known a l (Some found) × IsFresh (length a) a l
+ScansAt known a id Idle = IsIdleAt known a id
+
+-- the first so many of these constraints are idle
+pub record AreIdleTo (known : Known) (ids : List ℕ) (a : Assignment) (n : ℕ) : Type 0 where
+  pub at : (i : ℕ) → i < n → IsIdleAt known a (slice_index_or ids i 0)
+
+-- what the scan of these constraints finds
+abbrev pub ScansThese : Known → List ℕ → Assignment → Scan → Type 0
+ScansThese known ids a (Violated found) = IsConflict known a found
+ScansThese known ids a (Forced l found) = IsReason known a l (Some found) × IsFresh (length a) a l
+ScansThese known ids a Idle = AreIdleTo known ids a (length ids)
+
+-- a constraint is one of these
+pub record IsOneOf (ids : List ℕ) (id : ℕ) : Type 0 where
+  pub place : ℕ
+  pub within : place < length ids
+  pub there : slice_index_or ids place 0 ≡ id
+
+-- each constraint is watched, or one of these
+pub record AreCovered (known : Known) (w : Watches) (others : List ℕ) : Type 0 where
+  pub at : (id : ℕ) (c : Constraint) → constraint_at known id ≡ Some c → IsOneOf w.ids.items id ⊎ IsOneOf others id
+
+-- where nothing is violated, all literals have been gone through
+abbrev pub IsPropagatedTo : Trail → ℕ → Option ℕ → Type 0
+IsPropagatedTo t n None = n ≡ length t.entries
+IsPropagatedTo t n (Some id) = n ≤ length t.entries
