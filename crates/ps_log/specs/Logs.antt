@@ -7,10 +7,11 @@ use Rattle.ps_steps.specs.Steps.{Step}
 use Rattle.ps_log.specs.declared.error.LogError.{LogError}
 use Rattle.ps_log.specs.declared.error.LogError.TheVariants.{Fault, NoMemory}
 
--- what a log in memory holds
+-- what a log in memory holds, and how often it was begun
 pub record Held : Type 0 where
   pub goal : Option Constraint
   pub steps : List Step
+  pub begins : ℕ
 
 -- what a log tells: whether it does, the goal of the last begin, and the steps since
 pub record Telling : Type 0 where

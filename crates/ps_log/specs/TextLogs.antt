@@ -23,6 +23,10 @@ module _ {O : Type 0} {sink : Ghosts O} where
   abbrev pub reference_of : TextLog O sink → GName
   reference_of log = name_of log.lines
 
+  -- how often it was begun
+  abbrev pub begins_of : TextLog O sink → ℕ
+  begins_of log = log.begins
+
   -- how often a write to its sink has failed
   abbrev pub faults_of : TextLog O sink → ℕ
   faults_of log = sink.faults (sink_of log.lines)

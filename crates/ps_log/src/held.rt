@@ -8,12 +8,13 @@ use ps_pb::{Constraint, Step, Steps};
 use std::alloc::Global;
 use std::marker::Model;
 
-/// Keeps the goal and the steps.
+/// Keeps the goal and the steps, and counts how often it was begun.
 #[derive(Drop)]
 pub struct HeldLog {
     alloc: Global,
     goal: Option<Constraint>,
     steps: Steps,
+    begins: u64,
 }
 
 impl Model for HeldLog {
@@ -21,7 +22,7 @@ impl Model for HeldLog {
 
     ghost Value = { Held };
 
-    ghost view = { λ log. record { goal = log.goal; steps = log.steps } };
+    ghost view = { λ log. record { goal = log.goal; steps = log.steps; begins = log.begins } };
 }
 
 impl HeldLog {
@@ -34,6 +35,7 @@ impl HeldLog {
             alloc,
             goal: None,
             steps: List::new(alloc),
+            begins: 0,
         }
     }
 
@@ -42,6 +44,7 @@ impl HeldLog {
         ensures taken { result ≡ self.old.steps }
         ensures none_left { self.new.steps ≡ [] }
         ensures same_goal { self.new.goal ≡ self.old.goal }
+        ensures same_begins { self.new.begins ≡ self.old.begins }
     {
         std::mem::replace(&mut self.steps, List::new(self.alloc))
     }
@@ -49,6 +52,8 @@ impl HeldLog {
 
 impl ProofSink for HeldLog {
     ghost told = { λ l. record { tells = true; goal = l.goal; steps = Some l.steps } };
+
+    ghost begins = { λ l. l.begins };
 
     ghost faults = { λ _. 0 };
 
@@ -59,6 +64,7 @@ impl ProofSink for HeldLog {
     ghost names = { λ _. [] };
 
     fn begin(&mut self, constraint: &Constraint) -> Result<(), LogError> {
+        self.begins = self.begins.saturating_add(1);
         let held = constraint.copy(self.alloc)?;
         self.goal = Some(held);
         self.steps = List::new(self.alloc);

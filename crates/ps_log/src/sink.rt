@@ -1,6 +1,7 @@
 //! Where goals and steps are handed over.
 ghost use Rattle.std.specs.Prelude.{◌≡◌, ◌∷◌, [], ℕ, List, Bool, IsTrue, OnOk, OnErr};
 ghost use Rattle.std.specs.Borrow.{GName};
+ghost use Rattle.ps_io.specs.Causes.{next_count};
 ghost use Rattle.ps_log.specs.Logs.{Telling, Starts, Grows, Stays, CountsLogFault, OnNoMemory};
 ghost use Rattle.ps_log.specs.Limits.{IsGoalWithin, IsStepWithin};
 
@@ -11,6 +12,9 @@ use ps_pb::{Constraint, Step};
 pub trait ProofSink {
     /// What it tells: the goal of the last begin, and the steps since.
     ghost told: { Self → Telling };
+
+    /// How often it was begun, also where it refused to.
+    ghost begins: { Self → ℕ };
 
     /// How often a write has failed. It never falls.
     ghost faults: { Self → ℕ };
@@ -31,6 +35,7 @@ pub trait ProofSink {
         ensures ok { OnOk result (Starts (told self.old) (told self.new) constraint.now) }
         ensures whole { OnOk result (IsTrue (is_whole self.new)) }
         ensures err { OnErr result (Stays (told self.old) (told self.new)) }
+        ensures begun { begins self.new ≡ next_count (begins self.old) }
         ensures counted { CountsLogFault result (faults self.old) (faults self.new) }
         ensures no_memory { OnNoMemory result (takes_memory self.old) (is_whole self.new) }
         ensures same_kind { takes_memory self.new ≡ takes_memory self.old }
@@ -43,6 +48,7 @@ pub trait ProofSink {
         ensures ok { OnOk result (Grows (told self.old) (told self.new) (step.now ∷ [])) }
         ensures whole { OnOk result (IsTrue (is_whole self.new)) }
         ensures err { OnErr result (Stays (told self.old) (told self.new)) }
+        ensures same_begins { begins self.new ≡ begins self.old }
         ensures counted { CountsLogFault result (faults self.old) (faults self.new) }
         ensures no_memory { OnNoMemory result (takes_memory self.old) (is_whole self.new) }
         ensures same_kind { takes_memory self.new ≡ takes_memory self.old }

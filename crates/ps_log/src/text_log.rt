@@ -15,6 +15,7 @@ use ps_pb::{Constraint, Step};
 pub struct TextLog<'s, O: Sink> {
     lines: Lines<'s, O>,
     broken: bool,
+    begins: u64,
     ghost line_empty: { text_of lines ≡ [] },
     ghost unmarked: { is_commented lines ≡ false },
     ghost whole_lines: { broken ≡ false → ends_whole (O.written (sink_of lines)) ≡ true },
@@ -37,6 +38,7 @@ impl<'s, O: Sink> TextLog<'s, O> {
         TextLog {
             lines,
             broken: false,
+            begins: 0,
         }
     }
 }
@@ -46,9 +48,13 @@ impl<O: Sink> ProofSink for TextLog<'_, O> {
     ghost use Rattle.ps_log.specs.Logs.{Starts, Grows, Stays, CountsLogFault, OnNoMemory};
     ghost use Rattle.ps_log.specs.Texts.{goal_line, step_line};
     ghost use Rattle.ps_log.specs.Limits.{IsGoalWithin, IsStepWithin};
-    ghost use Rattle.ps_log.specs.TextLogs.{WroteLine, reference_of, faults_of, is_unbroken, told_by};
+    ghost use Rattle.ps_log.specs.TextLogs.{WroteLine, reference_of, begins_of, faults_of};
+    ghost use Rattle.ps_log.specs.TextLogs.{is_unbroken, told_by};
+    ghost use Rattle.ps_io.specs.Causes.{next_count};
 
     ghost told = { λ log. told_by log };
+
+    ghost begins = { λ log. begins_of log };
 
     ghost faults = { λ log. faults_of log };
 
@@ -65,6 +71,7 @@ impl<O: Sink> ProofSink for TextLog<'_, O> {
         ensures ok { OnOk result (Starts (told_by self.old) (told_by self.new) constraint.now) }
         ensures whole { OnOk result (IsTrue (is_unbroken self.new)) }
         ensures err { OnErr result (Stays (told_by self.old) (told_by self.new)) }
+        ensures begun { begins_of self.new ≡ next_count (begins_of self.old) }
         ensures counted { CountsLogFault result (faults_of self.old) (faults_of self.new) }
         ensures no_memory { OnNoMemory result false (is_unbroken self.new) }
         ensures only_fault { OnErr result (result ≡ Err LogError.Fault) }
@@ -72,6 +79,7 @@ impl<O: Sink> ProofSink for TextLog<'_, O> {
         ensures same_references { reference_of self.new ≡ reference_of self.old }
         ensures written { WroteLine self.old self.new result (goal_line constraint.now) }
     {
+        self.begins = self.begins.saturating_add(1);
         match write_goal(&mut self.lines, constraint) {
             Ok(()) => Ok(()),
             Err(_) => {
@@ -88,6 +96,7 @@ impl<O: Sink> ProofSink for TextLog<'_, O> {
         ensures ok { OnOk result (Grows (told_by self.old) (told_by self.new) (step.now ∷ [])) }
         ensures whole { OnOk result (IsTrue (is_unbroken self.new)) }
         ensures err { OnErr result (Stays (told_by self.old) (told_by self.new)) }
+        ensures same_begins { begins_of self.new ≡ begins_of self.old }
         ensures counted { CountsLogFault result (faults_of self.old) (faults_of self.new) }
         ensures no_memory { OnNoMemory result false (is_unbroken self.new) }
         ensures only_fault { OnErr result (result ≡ Err LogError.Fault) }

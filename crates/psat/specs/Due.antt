@@ -20,7 +20,7 @@ use Rattle.ps_valid.specs.Answers.{answer_of, IsRightOf}
 use Rattle.ps_generation.specs.declared.limits.Limits.{Limits}
 use Rattle.ps_query.specs.Solutions.{IsReadBack, IsSolution}
 use Rattle.ps_runs.specs.Runs.{sentences_of}
-use Rattle.ps_enough.specs.Enough.{IsEnough, HasNoPivotsCause}
+use Rattle.ps_enough.specs.Enough.{IsEnough, IsOtherThanPivots, HasNoPivotsCause}
 use Rattle.ps_explain.specs.declared.explained.Explained.{Explained}
 use Rattle.ps_explain.specs.declared.explained.Explained.TheVariants as explained
 use Rattle.ps_explain.specs.Explanations.{IsRightExplanation}
@@ -211,3 +211,14 @@ OneOutputIsDue = (words : List (List ℕ)) (bytes : List ℕ) (o p : Output) →
 abbrev pub EnoughLeavesNoneOpen : Type 0
 EnoughLeavesNoneOpen = (limits : Limits) (bytes : List ℕ) (o : Output) (p : Parts) (a : Answer) → enough_for p ≤ MOST_PIVOTS
     → IsSolvedBy (limits_for limits true p) bytes o p a → HasNoPivotsCause a
+
+-- an explanation is none that is open for pivots
+abbrev pub IsExplanationNotForPivots : Explained → Type 0
+IsExplanationNotForPivots (explained.Consistent m) = Unit {0}
+IsExplanationNotForPivots (explained.Core sentences d models) = Unit {0}
+IsExplanationNotForPivots (explained.Open sentences cause first) = IsOtherThanPivots cause
+
+-- nor is a due explanation then open for pivots
+abbrev pub EnoughLeavesNoExplanationOpen : Type 0
+EnoughLeavesNoExplanationOpen = (limits : Limits) (bytes : List ℕ) (o : Output) (p : Parts) (e : Explained)
+    → enough_for p ≤ MOST_PIVOTS → IsExplainedBy (limits_for limits true p) bytes o p e → IsExplanationNotForPivots e

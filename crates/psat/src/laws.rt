@@ -11,7 +11,8 @@ ghost use Rattle.psat.specs.Accepting.{OneAnswerIsDue, ReportsAreAccepted};
 ghost use Rattle.psat.specs.Answering.{FaultlessRunsAnswer, ProblemsAreExplained, ProblemsAreMade};
 ghost use Rattle.psat.specs.Answering.{ProblemsAreSolved, ReportsAreJudged};
 ghost use Rattle.psat.specs.Commands.{Spell};
-ghost use Rattle.psat.specs.Due.{EnoughLeavesNoneOpen, OneOutputIsDue};
+ghost use Rattle.psat.specs.Due.{EnoughLeavesNoExplanationOpen, EnoughLeavesNoneOpen};
+ghost use Rattle.psat.specs.Due.{OneOutputIsDue};
 
 /// For words and bytes at most one output is due, but for the words of `solve`, `explain` and
 /// `make`: to one problem several answers and several explanations may be right. A report that is
@@ -30,9 +31,10 @@ pub fn reports_are_accepted()
 {}
 
 /// With `--pivots enough`, where that number is at most the most, no part of a due answer is open for
-/// pivots.
+/// pivots, and no due explanation is.
 pub fn enough_pivots_leave_none_open()
-    ensures { EnoughLeavesNoneOpen }
+    ensures answer { EnoughLeavesNoneOpen }
+    ensures explanation { EnoughLeavesNoExplanationOpen }
 {}
 
 /// Where no call of the source or the sink fails, a run answers what is due, or there was not
