@@ -7,14 +7,14 @@ use Rattle.std.proofs.lemmas.List.Elements.{All-nil, All-push}
 use Rattle.ps_steps.specs.Assignments.{Assignment, place}
 use Rattle.ps_steps.specs.Constraints.{Constraint, IsMet}
 use Rattle.ps_steps.specs.Weights.{IsWithin, IsNormal, weighted, clause_of}
-use Rattle.ps_steps.specs.Steps.{known_of, Step, added, with_step, with_steps, IsLawful, is_contradiction}
+use Rattle.ps_steps.specs.Steps.{Known, known_of, Step, lits_of, added, with_step, with_steps, IsLawful, is_contradiction}
 use Rattle.ps_steps.proofs.Within.{clause-within}
 use Rattle.ps_steps.proofs.Ids.{known_of-append}
 use Rattle.ps_steps.proofs.Onward.{lawful-append, steps-append}
 use Rattle.ps_forms.specs.Forms.{Form, MeetsForm, AreInside, HasClauses, first_known}
 use Rattle.ps_forms.specs.Decided.{AtomsDecide}
 use Rattle.ps_log.specs.Logs.{Telling, Starts, Grows, Stays}
-use Rattle.ps_learning.specs.Trails.{Trail, values, values_of, up_to, IsLit, IsFresh, AreFresh, AreLevels, AreReasons, IsConflict}
+use Rattle.ps_learning.specs.Trails.{Trail, TrailEntry, values, values_of, rank, up_to, IsLit, IsFresh, AreFresh, AreLevels, AreReasons, IsConflict}
 use Rattle.ps_learning.proofs.Entries.{reasons-take, reasons-more, reasons-none, length-values}
 use Rattle.ps_learn.specs.Rest.{IsDone, IsLonger}
 use Rattle.ps_sat.specs.Searches.{HoldsGoalAndSteps, Handed, AreLearned, IsHeld, HoldsLearned}
@@ -22,10 +22,12 @@ use Rattle.ps_sat.specs.declared.searching.Outcome.{Outcome}
 use Rattle.ps_sat.proofs.Ends.{found, refuted}
 use Rattle.ps_sat.proofs.Lessons.{IsResting, IsAtConflict, resting-learned, due-at}
 use Rattle.ps_forms.specs.Spent.{IsSpentSearch, AreNew}
-use Rattle.ps_spent.specs.Resting.{AreRested, AreOfAtoms}
+use Rattle.ps_spent.specs.Resting.{AreRested, AreOfAtoms, HasRisen}
+use Rattle.ps_watch.specs.Watches.{Extends}
+use Rattle.std.proofs.lemmas.List.{append_assoc}
 use Rattle.ps_spent.proofs.Learning.{Learns}
 use Rattle.ps_spent.proofs.Rising.{risen-none, risen-few, below-power}
-use Rattle.ps_spent.proofs.Growing.{rested-none, atoms-none}
+use Rattle.ps_spent.proofs.Growing.{rested-none, atoms-none, rested-implied, atoms-implied}
 use Rattle.ps_spent.proofs.News.{new-none, new-more}
 
 -- a search: the trail's reasons are known, and what is known is the form, the goal and the steps that were handed over
@@ -182,3 +184,37 @@ search-refuted f goal told new cs t learned x h lawful non = refuted f goal cs h
 
 pub fresh-decided : (n : ℕ) (t : Trail) (a : Assignment) (l : ℤ) → a ≡ values t → t.variables ≡ n → IsFresh n a l → IsFresh t.variables (values t) l
 fresh-decided n t a l e q f = subst (λ m. IsFresh m (values t) l) (sym q) (subst (λ b. IsFresh n b l) e f)
+
+-- ---- implied literals more
+risen-longer : (v : ℕ) (known : Known) (es us : List TrailEntry) (least : ℕ) → IsLonger es us → HasRisen v known es least → HasRisen v known us least
+risen-longer v known es us least x h = record {
+  at = λ more id r k.
+      let e : us ++ more ≡ es ++ (x.more ++ more) = ap (λ z. z ++ more) x.is ∙ append_assoc es x.more more in
+      subst (λ z. least ≤ rank v z) (sym e) (h.at (x.more ++ more) id (subst (AreRested v known) e r) (subst (λ z. IsConflict known (values_of v z) id) e k));
+}
+
+pub searching-longer : (f : Form) (goal : Constraint) (told : Bool) (new : Telling) (cs : List Constraint) (t u : Trail) (learned : ℕ) → Searching f goal told new cs t learned → Extends (known_of cs) t u → Searching f goal told new cs u learned
+searching-longer f goal told new cs t u learned h x = record {
+  same = x.variables ∙ h.same;
+  handed = h.handed;
+  known = h.known;
+  reasons = subst (λ n. AreReasons n (known_of cs) u.entries) (x.variables ∙ h.same) (x.reasons (subst (λ n. AreReasons n (known_of cs) t.entries) (sym h.same) h.reasons));
+  inside = h.inside;
+  count = h.count;
+  literals = h.literals;
+  resting = record {
+    rested = rested-implied f.variables (known_of cs) t.entries u.entries x.longer x.level_is h.resting.rested;
+    atoms = atoms-implied f t.entries u.entries x.longer x.level_is h.resting.atoms;
+    risen = risen-longer f.variables (known_of cs) t.entries u.entries learned x.longer h.resting.risen;
+  };
+  news = h.news;
+  few = h.few;
+}
+
+-- the constraints are kept, beside a trail to which implied literals were added
+pub kept-searching : (f : Form) (goal : Constraint) (told : Bool) (new : Telling) (cs ds : List Constraint) (t u : Trail) (learned : ℕ) → ds ≡ cs → Extends (known_of cs) t u → Searching f goal told new cs t learned → Searching f goal told new ds u learned
+kept-searching f goal told new cs ds t u learned e x h = subst (λ zs. Searching f goal told new zs u learned) (sym e) (searching-longer f goal told new cs t u learned h x)
+
+-- a clause that was learned is of the trail's variables
+pub learned-inside : (n : ℕ) (x : Step) → All (IsLit n) (lits_of x) → IsWithin n (added x)
+learned-inside n x h = clause-within n (lits_of x) (lits_inside n (lits_of x) h)

@@ -1,6 +1,6 @@
 -- What holds of the steps that are handed over.
 use Rattle.std.proofs.Common.{◌≡◌, ◌≢◌, ℕ, ◌+◌, ◌≤◌, ℤ, Bool, true, false, Option, Some, None, Result, Ok, Err, List, [], ◌∷◌, ◌++◌, length, take, cond, arith, refl, sym, ap, ◌∙◌, subst, ◌⊎◌, inl, inr}
-use Rattle.std.specs.Prelude.{◌==◌, IfOk, IsErr}
+use Rattle.std.specs.Prelude.{◌==◌, IfOk, IsErr, IsErrAnd}
 use Rattle.std.specs.List.{All}
 use Rattle.std.proofs.lemmas.Bool.{eqb-true, false≢true}
 use Rattle.ps_steps.specs.Assignments.{Assignment}
@@ -14,7 +14,9 @@ use Rattle.ps_log.specs.Logs.{Telling, Starts, Grows}
 use Rattle.ps_log.specs.Limits.{IsStepWithin}
 use Rattle.ps_pb.specs.declared.limits.TheConstants.{MOST_VARIABLES}
 use Rattle.ps_learning.specs.Known.{most_known, IsIdUpTo}
-use Rattle.ps_learning.specs.Trails.{Trail, values, up_to, IsLit}
+use Rattle.ps_learning.specs.Trails.{Trail, values, up_to, IsLit, IsConflict}
+use Rattle.ps_io.specs.Causes.{next_count}
+use Rattle.ps_sat.specs.Errors.{SearchFaultAlone, CountsSearchFault, BeginsOnce}
 use Rattle.ps_sat.specs.Searches.{IsOutcome, IsOutcomeOfHints, HoldsLearned, IsHeld, HasHanded, IsLogged}
 use Rattle.ps_sat.specs.declared.searching.Outcome.{Outcome}
 use Rattle.ps_sat.specs.declared.error.SearchError.{SearchError}
@@ -45,6 +47,14 @@ pub record IsLearned (n : ℕ) (cs : List Constraint) (x : Step) : Type 0 where
 
 pub is-learned : (n m : ℕ) (cs : List Constraint) (x y : Step) → x ≡ y → m ≡ n → IsLawful m (known_of cs) y → All (IsLit m) (lits_of y) → length (lits_of y) ≤ m → All (IsIdUpTo (length cs)) (hints_of y) → length (hints_of y) ≤ m + 1 → IsLearned n cs x
 is-learned n m cs x y e q lawful lits few_lits hints few_hints = subst (λ k. IsLearned k cs x) q (subst (λ z. IsLearned m cs z) (sym e) (record { lawful = lawful; literals = lits; few_literals = few_lits; hints = hints; few_hints = few_hints }))
+
+-- it was learned over the same constraints
+pub own-learned : (n m : ℕ) (cs ds : List Constraint) (x y : Step) → x ≡ y → m ≡ n → ds ≡ cs → IsLawful m (known_of ds) y → All (IsLit m) (lits_of y) → length (lits_of y) ≤ m → All (IsIdUpTo (length ds)) (hints_of y) → length (hints_of y) ≤ m + 1 → IsLearned n cs x
+own-learned n m cs ds x y e q same lawful lits few_lits hints few_hints = subst (λ zs. IsLearned n zs x) same (is-learned n m ds x y e q lawful lits few_lits hints few_hints)
+
+-- the same constraint is violated
+pub conflict-known : (cs ds : List Constraint) (a : Assignment) (id : ℕ) → ds ≡ cs → IsConflict (known_of cs) a id → IsConflict (known_of ds) a id
+conflict-known cs ds a id e h = subst (λ zs. IsConflict (known_of zs) a id) (sym e) h
 
 -- it is within the limits
 pub step-within : (n : ℕ) (cs : List Constraint) (x : Step) → IsLearned n cs x → n ≤ MOST_VARIABLES → length cs ≤ most_known → IsStepWithin x
@@ -110,6 +120,15 @@ pub err-learned : (f : Form) (goal : Constraint) (start new : Telling) (conflict
 err-learned f goal start new conflicts (Ok o) e h = absurd (false≢true e)
 err-learned f goal start new conflicts (Err e) _ h = h
 
+-- how often the log failed, after an error of handing over
+pub counts-err : {T : Type 0} → (r : Result T SearchError) (e : SearchError) (old mid new : ℕ) → IsErr r → IsErrAnd r (λ x. x ≡ e) → mid ≡ old → mid ≤ new → SearchFaultAlone e mid new → CountsSearchFault r old new
+counts-err (Ok x) e old mid new h a q later s = absurd (false≢true h)
+counts-err (Err x) e old mid new h a q later s = record {
+  later = omega (arith, q, later);
+  ok = tt;
+  err = subst (λ z. SearchFaultAlone z old new) (sym a) (subst (λ n. SearchFaultAlone e n new) q s);
+}
+
 -- what hints alone refute is refuted
 hints_outcome : (f : Form) (goal : Constraint) (conflicts : ℕ) (told : Bool) (new : Telling) (o : Outcome) → IsOutcome f goal conflicts o → IsHeld f goal conflicts told new o → IsOutcomeOfHints f goal o
 hints_outcome f goal conflicts told new (Found a) out h = λ r. refuted f goal (f.clauses ++ goal ∷ []) [] r.step tt refl r.lawful r.contradiction out.0 out.3 out.4
@@ -119,3 +138,12 @@ hints_outcome f goal conflicts told new (Spent learned) out h = λ r. spent-unre
 pub hints-decided : (f : Form) (goal : Constraint) (conflicts : ℕ) (start new : Telling) (r : Result Outcome SearchError) → IfOk r (IsOutcome f goal conflicts) → HasHanded f goal conflicts start new r → IfOk r (IsOutcomeOfHints f goal)
 hints-decided f goal conflicts start new (Ok o) out h = hints_outcome f goal conflicts start.tells new o out h
 hints-decided f goal conflicts start new (Err e) out h = tt
+
+-- ---- how often the log was begun
+pub begins-none : {T E : Type 0} → (r : Result T E) (n : ℕ) → IsErr r → BeginsOnce r n n
+begins-none (Ok x) n h = absurd (false≢true h)
+begins-none (Err e) n h = record { ok = tt; err = inl refl }
+
+pub begins-after : {T E : Type 0} → (r : Result T E) (old mid new : ℕ) → mid ≡ next_count old → new ≡ mid → BeginsOnce r old new
+begins-after (Ok x) old mid new e q = record { ok = q ∙ e; err = tt }
+begins-after (Err x) old mid new e q = record { ok = tt; err = inr (q ∙ e) }

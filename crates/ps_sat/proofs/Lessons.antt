@@ -1,16 +1,17 @@
 -- What a learned clause does to a search.
-use Rattle.std.proofs.Common.{◌≡◌, ℕ, suc, ◌+◌, ◌≤◌, false, Some, List, [], ◌∷◌, ◌++◌, take, arith, sym, ap, ◌∙◌, subst}
+use Rattle.std.proofs.Common.{◌≡◌, ℕ, suc, ◌+◌, ◌<◌, ◌≤◌, false, Some, List, [], ◌∷◌, ◌++◌, take, arith, sym, ap, ◌∙◌, subst}
 use Rattle.std.specs.List.{All}
 use Rattle.ps_steps.specs.Constraints.{Constraint}
 use Rattle.ps_steps.specs.Weights.{weighted, IsNormal}
 use Rattle.ps_steps.specs.Steps.{Known, Step, lits_of, added, with_steps, IsLawful, is_contradiction}
 use Rattle.ps_forms.specs.Forms.{Form, HasClauses, first_known}
-use Rattle.ps_learning.specs.Trails.{Trail, TrailEntry, values, values_of, rank, up_to, IsLit, AreFresh, AreLevels, AreReasons, IsConflict}
+use Rattle.ps_learning.specs.Trails.{Trail, TrailEntry, values, values_of, level, rank, up_to, IsLit, AreFresh, AreLevels, AreReasons, IsConflict}
 use Rattle.ps_learning.specs.Levels.{IsAsserting}
 use Rattle.ps_learn.specs.Falsity.{AreFalseIn}
 use Rattle.ps_forms.specs.Spent.{IsDue}
 use Rattle.ps_spent.specs.Resting.{AreRested, AreOfAtoms, HasRisen}
-use Rattle.ps_spent.proofs.Opening.{up_to-opening}
+use Rattle.ps_spent.proofs.Opening.{up_to-opening, opening-level}
+use Rattle.ps_learning.proofs.Distinct.{level-most}
 use Rattle.ps_spent.proofs.Learning.{Learns, cut-opening, above-ground, rested-learned}
 use Rattle.ps_spent.proofs.Rising.{risen-learned}
 use Rattle.ps_spent.proofs.Due.{is-due}
@@ -46,6 +47,12 @@ lesson f known t learned conflict x next h lawful lits asserting falsified some 
   literals = subst (λ n. All (IsLit n) (lits_of x)) (sym h.same) lits;
   some = some;
 }
+
+-- the level to go on from is below the conflict's
+pub next-below : (t : Trail) (known : Known) (x : Step) (next : ℕ) → Learns t known x next → next < level t
+next-below t known x next l =
+    let o = cut-opening t known x next l in
+    omega (arith, opening-level t.entries o.place o.entry l.levels o.there o.chosen, level-most t.entries o.place o.entry l.levels o.there, o.below)
 
 -- the search goes on with it from the cut
 pub resting-learned : (f : Form) (known : Known) (t w : Trail) (learned conflict : ℕ) (x : Step) (next : ℕ) → IsAtConflict f known t learned conflict → Learns t known x next → w ≡ up_to next t → IsResting f (known ++ Some (added x) ∷ []) w.entries (learned + 1)

@@ -23,7 +23,7 @@ const SCALE: u32 = 32;
 /// Which variable to decide on next: the most active one, where the variables that took part in a
 /// conflict gain activity, the more the later it was (M. W. Moskewicz and others, "Chaff", 2001).
 /// It gets its last value again (K. Pipatsrisawat, A. Darwiche, 2007), at first the one that the
-/// goal wants.
+/// goal wants, and else false.
 #[derive(Drop)]
 pub(crate) struct Order {
     activities: Vec<u64>,
@@ -32,11 +32,12 @@ pub(crate) struct Order {
 }
 
 impl Order {
-    /// No variable is active; the values are those that make the goal's literals true.
+    /// No variable is active; the values are those that make the goal's literals true, and false for
+    /// the variables that the goal hasn't.
     pub(crate) fn new(alloc: Global, goal: &Constraint, variables: u32) -> Result<Order, NoMemory> {
         let mut order = Order {
             activities: vec![in alloc; 0; variables as usize]?,
-            values: vec![in alloc; true; variables as usize]?,
+            values: vec![in alloc; false; variables as usize]?,
             gain: FIRST_GAIN,
         };
         for term in goal.terms().as_slice() {
@@ -118,7 +119,7 @@ impl Order {
     }
 
     fn value(&self, place: u32) -> bool {
-        self.values.get(place as usize).copied().unwrap_or(true)
+        self.values.get(place as usize).copied().unwrap_or(false)
     }
 }
 

@@ -1,14 +1,16 @@
 //! The search.
 ghost use Rattle.std.specs.Prelude.{◌≡◌, ◌≤◌, ◌<◌, ◌^◌, ◌++◌, ◌∷◌, [], length};
 ghost use Rattle.std.specs.Prelude.{IfOk, OnOk, OnErr, IsTrue, IsErrOf};
-ghost use Rattle.ps_steps.specs.Steps.{added};
+ghost use Rattle.ps_steps.specs.Steps.{added, known_of};
 ghost use Rattle.ps_steps.specs.Weights.{IsWithin};
 ghost use Rattle.ps_log.specs.Logs.{Grows, Stays};
 ghost use Rattle.ps_log.specs.Limits.{IsStepWithin};
 ghost use Rattle.ps_log.specs.declared.limits.TheConstants.{MOST_CONFLICTS};
-ghost use Rattle.ps_sat.specs.Errors.{CountsSearchFault};
+ghost use Rattle.ps_sat.specs.Errors.{CountsSearchFault, BeginsOnce};
 ghost use Rattle.ps_sat.specs.Searches.{IsOutcome, IsOutcomeOfHints, IsLogged, HasHanded};
 ghost use Rattle.ps_sat.specs.Searches.{HoldsGoalAndSteps};
+ghost use Rattle.ps_watch.specs.Watches.{Extends};
+ghost use Rattle.ps_watch.specs.Keeping.{known_by, IsKeeping};
 
 use crate::advancing::advance;
 use crate::error::SearchError;
@@ -19,6 +21,7 @@ use ps_learn::learn;
 use ps_log::{ProofSink, is_goal_within};
 use ps_pb::{Assignment, Constraint, Step, clause};
 use ps_trail::Trail;
+use ps_watch::Kept;
 use std::alloc::Global;
 
 /// What a search answers.
@@ -57,7 +60,8 @@ fn first_known(
 ///
 /// After each outcome the log is whole and holds this goal and the steps of this search: after
 /// `Refuted` the last one, and no other, is a contradiction, and after `Spent` they are `conflicts`
-/// steps. `LogFault`, and no other answer, raises the log's count of faults, by one.
+/// steps. The log was begun just once; before an error it may not have been. `LogFault`, and no other
+/// answer, raises the log's count of faults, by one.
 pub fn search<S: ProofSink>(
     alloc: Global,
     base: &ClauseForm,
@@ -72,6 +76,7 @@ pub fn search<S: ProofSink>(
     ensures hints { IfOk result (IsOutcomeOfHints base.now goal.now) }
     ensures logged { IsLogged base.now goal.now conflicts (S.told log.old) (S.told log.new) result }
     ensures whole { OnOk result (IsTrue (S.is_whole log.new)) }
+    ensures begun { BeginsOnce result (S.begins log.old) (S.begins log.new) }
     ensures counted { CountsSearchFault result (S.faults log.old) (S.faults log.new) }
     ensures no_memory { IsErrOf result SearchError.NoMemory → IsTrue (S.is_whole log.new) }
     ensures same_kind { S.takes_memory log.new ≡ S.takes_memory log.old }
@@ -91,7 +96,7 @@ fn learn_all<S: ProofSink>(
     base: &ClauseForm,
     goal: &Constraint,
     conflicts: u64,
-    mut known: List<Constraint>,
+    known: List<Constraint>,
     mut trail: Trail,
     log: &mut S,
 ) -> Result<Outcome, SearchError>
@@ -106,6 +111,7 @@ fn learn_all<S: ProofSink>(
     ensures logged { HasHanded base.now goal.now conflicts (S.told log.old)
         (S.told log.new) result }
     ensures whole { OnOk result (IsTrue (S.is_whole log.new)) }
+    ensures same_begins { S.begins log.new ≡ S.begins log.old }
     ensures counted { CountsSearchFault result (S.faults log.old) (S.faults log.new) }
     ensures no_memory { IsErrOf result SearchError.NoMemory → IsTrue (S.is_whole log.new) }
     ensures same_kind { S.takes_memory log.new ≡ S.takes_memory log.old }
@@ -114,52 +120,60 @@ fn learn_all<S: ProofSink>(
     let mut order = Order::new(alloc, goal, base.variables())?;
     // Read for its clauses: the goal is in the form in which constraints are kept.
     let _terms = goal.terms();
+    let mut kept = Kept::new(alloc, known, &mut trail)?;
     let mut learned = 0;
     'learn: loop {
-        let conflict = match advance(base, &known, &order, &mut trail) {
+        let conflict = match advance(base, &mut kept, &order, &mut trail) {
             None => return Ok(Outcome::Found(trail.into_values())),
             Some(conflict) => conflict,
         };
         // Read for its clauses: each literal of a trail is of a variable of its own, and levels rise.
         let _entries = trail.entries();
-        let found = learn(alloc, &known, &trail, conflict)?;
+        let found = learn(alloc, kept.known(), &trail, conflict)?;
         let last = found.step.lits.as_slice().is_empty();
         if !last && learned == conflicts {
             return Ok(Outcome::Spent { learned });
         }
-        hand_over(alloc, &mut known, &found.step, log)?;
         if last {
+            hand_over(&found.step, log)?;
             return Ok(Outcome::Refuted {
                 last: found.step.id,
             });
         }
-        learned += 1;
         order.raise(&found.marks);
         order.keep_values(&trail);
-        trail.cut_to(found.level);
+        kept.cut_to(&mut trail, found.level);
+        keep(alloc, &mut kept, &mut trail, &found.step)?;
+        hand_over(&found.step, log)?;
+        learned += 1;
     }
 }
 
-// Adds the clause of a step, and hands the step over.
-fn hand_over<S: ProofSink>(
-    alloc: Global,
-    known: &mut List<Constraint>,
-    step: &Step,
-    log: &mut S,
-) -> Result<(), SearchError>
+// Keeps the clause of a step.
+fn keep(alloc: Global, kept: &mut Kept, trail: &mut Trail, step: &Step) -> Result<(), NoMemory>
+    requires keeping { IsKeeping kept.old trail.old }
+    requires inside { IsWithin trail.old.variables (added step.now) }
+    ensures known { OnOk result (known_by kept.new ≡ known_by kept.old ++ added step.now ∷ []) }
+    ensures extends { OnOk result (Extends (known_of (known_by kept.new)) trail.old trail.new) }
+    ensures keeping { OnOk result (IsKeeping kept.new trail.new) }
+{
+    let clause = clause(alloc, step.lits.as_slice())?;
+    kept.learn(trail, clause)
+}
+
+// Hands a step over.
+fn hand_over<S: ProofSink>(step: &Step, log: &mut S) -> Result<(), SearchError>
     requires whole { IsTrue (S.is_whole log.old) }
     requires within { IsStepWithin step.now }
-    ensures known { OnOk result (known.new ≡ known.old ++ added step.now ∷ []) }
     ensures ok { OnOk result (Grows (S.told log.old) (S.told log.new) (step.now ∷ [])) }
     ensures whole { OnOk result (IsTrue (S.is_whole log.new)) }
     ensures err { OnErr result (Stays (S.told log.old) (S.told log.new)) }
+    ensures same_begins { S.begins log.new ≡ S.begins log.old }
     ensures counted { CountsSearchFault result (S.faults log.old) (S.faults log.new) }
     ensures no_memory { IsErrOf result SearchError.NoMemory → IsTrue (S.is_whole log.new) }
     ensures same_kind { S.takes_memory log.new ≡ S.takes_memory log.old }
     ensures same_references { S.names log.new ≡ S.names log.old }
 {
-    let clause = clause(alloc, step.lits.as_slice())?;
-    known.push(clause)?;
     log.step(step)?;
     Ok(())
 }

@@ -8,11 +8,13 @@ mod draw;
 mod forms;
 mod pricings;
 mod problems;
+mod propagations;
 mod refutations;
 mod rows;
 mod trials;
 
 use crate::chain::chain_pricings;
+use crate::propagations::propagations;
 use crate::trials::{
     forty_variables, pricings, refutations, rows, six_pigeons, sixty_variables, weighted_problems,
 };
@@ -65,6 +67,10 @@ fn main(rt: HostRuntime) -> anyhow::Result<()> {
         Command::Trials => {
             println!(rt; "small searches: {} of 5", rows(alloc)?)?;
             println!(rt; "small problems: {} of 4", pricings(alloc)?)?;
+            println!(rt;
+                "propagations as by passes: {} of 200",
+                propagations(alloc, 200)?
+            )?;
             println!(rt;
                 "random forms decided: {} of 10",
                 sixty_variables(alloc, 10)?.0
