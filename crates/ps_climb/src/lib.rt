@@ -1,4 +1,5 @@
-//! Local search for worlds in which weighted nodes of formulas sum to more than a threshold. What it
+//! Local search for worlds in which weighted nodes of formulas sum to more than a threshold, and of few
+//! atoms a look at every world. What it
 //! finds is a guess, to be judged exactly afterwards: what is proved is that each call is safe and ends,
 //! and that its worlds have a value for each atom.
 #![tactic(auto)]

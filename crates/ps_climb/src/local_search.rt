@@ -1,10 +1,13 @@
-//! Local search over worlds.
+//! Search over worlds.
 ghost use Rattle.std.specs.Prelude.{◌≡◌, length, IfOk, IfSome};
+
+mod every_world;
 
 use crate::choice::Choice;
 use crate::demand::Demand;
 use crate::draw::Draw;
 use crate::goal::Goal;
+use crate::neighbours::Worlds;
 use crate::nodes::Nodes;
 use ps_formula::{Formulas, World};
 use ps_io::NoMemory;
@@ -137,7 +140,7 @@ impl LocalSearch {
 
     /// Finds the value of the present world, and how much more its neighbours have.
     fn look_around(&mut self) -> f64 {
-        self.nodes.evaluate(&self.world);
+        self.nodes.evaluate(Worlds::Around(&self.world));
         self.nodes.find_gains(&mut self.gains)
     }
 
@@ -179,7 +182,7 @@ impl LocalSearch {
     fn found(&mut self, goal: Goal<'_>, start: &World) -> Result<Option<World>, NoMemory>
         ensures { IfOk result (λ found. IfSome found (λ w. length w ≡ length start.now)) }
     {
-        self.nodes.evaluate(&self.best);
+        self.nodes.evaluate(Worlds::Around(&self.best));
         let value = goal.constant + self.nodes.value(goal.coefficients);
         if value > goal.threshold && self.nodes.meet_demands() {
             Ok(Some(with_values(self.alloc, start, &self.best)?))

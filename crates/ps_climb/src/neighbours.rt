@@ -1,7 +1,36 @@
-//! Truth in a world and in all its neighbours at once.
+//! Truth in many worlds at once.
+
+/// Worlds in which truth is found at once.
+#[derive(Clone, Copy)]
+pub(crate) enum Worlds<'w> {
+    /// A world, and those that differ from it in one atom.
+    Around(&'w [bool]),
+    /// The 128 worlds of this block. The worlds of all blocks are numbered in order, and an atom is true
+    /// in a world whose number has the atom's bit.
+    Block(u32),
+}
+
+impl<'w> Worlds<'w> {
+    /// An atom in these worlds.
+    pub(crate) fn atom(self, number: u16) -> Neighbours {
+        match self {
+            Worlds::Around(world) => {
+                let truth = world.get(number as usize).copied().unwrap_or(false);
+                Neighbours::atom(number, truth)
+            }
+            Worlds::Block(block) => Neighbours::in_block(number, block),
+        }
+    }
+}
+
+/// Whether a number has a bit.
+pub(crate) fn has_bit(number: u32, bit: u32) -> bool {
+    bit < 32 && (number >> bit) & 1 == 1
+}
 
 /// The truth of a node in a world, and in the world's neighbours: bit n is the truth where atom n is
-/// turned.
+/// turned. In a block it is that in the first world, and bit n is the truth in the world that is n
+/// further on.
 #[derive(Clone, Copy)]
 pub(crate) struct Neighbours {
     here: bool,
@@ -27,6 +56,25 @@ impl Neighbours {
             }
         } else {
             all
+        }
+    }
+
+    /// An atom that differs among the worlds of a block in this way.
+    fn varying(there: u128) -> Neighbours {
+        Neighbours { here: false, there }
+    }
+
+    /// An atom in the worlds of a block.
+    fn in_block(number: u16, block: u32) -> Neighbours {
+        match number {
+            0 => Neighbours::varying(0xaaaa_aaaa_aaaa_aaaa_aaaa_aaaa_aaaa_aaaa),
+            1 => Neighbours::varying(0xcccc_cccc_cccc_cccc_cccc_cccc_cccc_cccc),
+            2 => Neighbours::varying(0xf0f0_f0f0_f0f0_f0f0_f0f0_f0f0_f0f0_f0f0),
+            3 => Neighbours::varying(0xff00_ff00_ff00_ff00_ff00_ff00_ff00_ff00),
+            4 => Neighbours::varying(0xffff_0000_ffff_0000_ffff_0000_ffff_0000),
+            5 => Neighbours::varying(0xffff_ffff_0000_0000_ffff_ffff_0000_0000),
+            6 => Neighbours::varying(0xffff_ffff_ffff_ffff_0000_0000_0000_0000),
+            _ => Neighbours::all(has_bit(block, number.saturating_sub(7) as u32)),
         }
     }
 

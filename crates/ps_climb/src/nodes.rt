@@ -1,7 +1,7 @@
 //! The nodes of a search: those of formulas, and behind them one for each conditional demand.
 
 use crate::demand::{Demand, Demanded, Part, parts};
-use crate::neighbours::Neighbours;
+use crate::neighbours::{Neighbours, Worlds};
 use ps_formula::{Formulas, Node};
 use ps_io::NoMemory;
 use std::alloc::Global;
@@ -147,12 +147,12 @@ impl Nodes {
         }
     }
 
-    /// Finds the truth of the needed nodes in a world and its neighbours.
-    pub(crate) fn evaluate(&mut self, world: &[bool]) {
+    /// Finds the truth of the needed nodes in worlds.
+    pub(crate) fn evaluate(&mut self, worlds: Worlds<'_>) {
         for place in 0..self.all.len() {
             if let Some(weighed) = self.all.get(place).copied() {
                 if weighed.is_needed {
-                    let truth = self.truth_of(weighed.node, world);
+                    let truth = self.truth_of(weighed.node, worlds);
                     self.set_truth(place, truth);
                 }
             }
@@ -160,11 +160,11 @@ impl Nodes {
     }
 
     /// The truth of a node over that of its operands.
-    fn truth_of(&self, node: Node, world: &[bool]) -> Neighbours {
+    fn truth_of(&self, node: Node, worlds: Worlds<'_>) -> Neighbours {
         match node {
             Node::True => Neighbours::all(true),
             Node::False => Neighbours::all(false),
-            Node::Atom(n) => Neighbours::atom(n, world.get(n as usize).copied().unwrap_or(false)),
+            Node::Atom(n) => worlds.atom(n),
             Node::Not(a) => self.truth(a).not(),
             Node::And(a, b) => self.truth(a).and(self.truth(b)),
             Node::Or(a, b) => self.truth(a).or(self.truth(b)),

@@ -128,3 +128,37 @@ fn the_same_in_each_run(rt: HostRuntime) -> Result<(), Fail> {
     assert!(rt; found == other.search(goal, &same, 20)?);
     Ok(())
 }
+
+#[test]
+fn the_best_of_all_worlds(rt: HostRuntime) -> Result<(), Fail> {
+    let further = world_of(rt.alloc(), &[false; 4])?;
+    let mut all = search_of(rt.alloc(), &NODES, &[])?;
+    assert!(rt; is(all.best(goal(MOST), &further)?, &[true, true, false, false]));
+    assert!(rt; all.best(goal(3.0), &further)?.is_none());
+    let mut third = search_of(rt.alloc(), &NODES, &[Demand::True(2)])?;
+    assert!(rt; is(third.best(goal(1.5), &further)?, &[true, true, true, true]));
+    Ok(())
+}
+
+#[test]
+fn the_best_world_of_a_later_block(rt: HostRuntime) -> Result<(), Fail> {
+    // Of nine atoms the last and the first; the others cost.
+    let mut nodes = [Node::Atom(0); 9];
+    let mut coefficients = [-1.0; 9];
+    for (number, node) in (0..9u16).zip(nodes.iter_mut()) {
+        *node = Node::Atom(number);
+    }
+    coefficients[0] = 1.0;
+    coefficients[8] = 1.0;
+    let formulas = formulas_of(rt.alloc(), &nodes)?;
+    let mut search = LocalSearch::new(rt.alloc(), &formulas, 9, &[], 7)?;
+    let goal = Goal {
+        coefficients: &coefficients,
+        constant: 0.0,
+        threshold: 1.5,
+    };
+    let found = search.best(goal, &world_of(rt.alloc(), &[false; 9])?)?;
+    let wanted = [true, false, false, false, false, false, false, false, true];
+    assert!(rt; is(found, &wanted));
+    Ok(())
+}

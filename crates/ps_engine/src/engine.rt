@@ -52,6 +52,8 @@ pub struct Engine {
     /// How many roundings of the refutation were tried.
     pub(crate) roundings: u32,
     pub(crate) gain: FloatGoal,
+    /// The pivots that were made before it began anew.
+    pub(crate) earlier_pivots: u64,
     draw: Draw,
 }
 
@@ -113,6 +115,7 @@ impl Engine {
             told: 0,
             roundings: 0,
             gain: FloatGoal::new(alloc, relaxed.nodes())?,
+            earlier_pivots: 0,
             draw: Draw::new(SEED),
             relaxed,
         })
@@ -122,6 +125,25 @@ impl Engine {
     pub(crate) fn go_over(&mut self, problem: &Problem, kept: &[bool]) -> Result<(), NoMemory> {
         self.relaxed = Relaxed::new(self.alloc, problem, kept)?;
         self.pricer.keep(problem, &self.relaxed)?;
+        let members = self.forget()?;
+        self.earlier_pivots = 0;
+        self.take_all(members)?;
+        Ok(())
+    }
+
+    // Where worlds were found without local search, forgets them, and answers true: from now on local
+    // search goes first.
+    pub(crate) fn begin_anew(&mut self) -> Result<bool, NoMemory> {
+        if !self.pricer.put_local_first() {
+            return Ok(false);
+        }
+        self.forget()?;
+        Ok(true)
+    }
+
+    // Forgets all but the sentences that are kept, and hands over the worlds that were known.
+    fn forget(&mut self) -> Result<Vec<Member>, NoMemory> {
+        self.earlier_pivots = self.pivots();
         self.simplex = program(self.alloc, &self.relaxed)?;
         self.waiting = Vec::new(self.alloc);
         self.forced = None;
@@ -131,9 +153,7 @@ impl Engine {
         self.mended = 0;
         self.told = 0;
         self.roundings = 0;
-        let members = std::mem::replace(&mut self.pool, WorldPool::new(self.alloc)).into_members();
-        self.take_all(members)?;
-        Ok(())
+        Ok(std::mem::replace(&mut self.pool, WorldPool::new(self.alloc)).into_members())
     }
 
     // Takes a world in, and answers whether it is new and meets the certainties.

@@ -59,12 +59,7 @@ impl Engine {
         }
         if self.simplex.objective() < self.tolerances.near_feasible {
             if self.simplex.clean(MOST_REPAIRS) != Ending::Optimal {
-                self.simplex.perturb();
-                return Ok(if self.may_mend() {
-                    None
-                } else {
-                    Some(Stage::Unknown)
-                });
+                return Ok(self.unmet());
             }
             if self.simplex.objective() < self.tolerances.feasible {
                 return Ok(Some(Stage::Feasible));
@@ -75,6 +70,20 @@ impl Engine {
             None => Ok(Some(Stage::Unknown)),
             Some(0) => Ok(Some(Stage::Inconsistent(distance))),
             Some(_) => Ok(None),
+        }
+    }
+
+    // Where the worlds that are known don't meet the bounds at the true right side: the values that are 0
+    // are moved, but where light searches found these worlds, the phase is given up, since it can begin anew.
+    fn unmet(&mut self) -> Option<Stage> {
+        if self.pricer.has_been_light() {
+            return Some(Stage::Unknown);
+        }
+        self.simplex.perturb();
+        if self.may_mend() {
+            None
+        } else {
+            Some(Stage::Unknown)
         }
     }
 

@@ -19,6 +19,9 @@ impl Engine {
     fn settle(&mut self, problem: &Problem) -> Result<Stage, NoMemory> {
         if self.stage == Stage::Fresh {
             self.stage = self.first_phase(problem)?;
+            if self.stage == Stage::Unknown && self.begin_anew()? {
+                self.stage = self.first_phase(problem)?;
+            }
         }
         Ok(self.stage)
     }
@@ -31,9 +34,36 @@ impl Engine {
         }
     }
 
+    // The distribution of the basis, or of others on the same face where its numbers are too large.
+    fn small_model(&mut self, problem: &Problem) -> Result<Option<Model>, NoMemory> {
+        for _ in 0..MOST_SHRINKS {
+            let Some(system) = self.system()? else {
+                return Ok(None);
+            };
+            if let Some(values) = system.values()? {
+                return self.meeting(&system, &values);
+            }
+            if !self.shrink(problem, Aim::Consistent)? {
+                return Ok(None);
+            }
+        }
+        Ok(None)
+    }
+
+    // The guess for an aim, where the bounds can be met.
+    fn side(&mut self, problem: &Problem, aim: Aim) -> Result<Option<Guess>, NoMemory> {
+        if self.settle(problem)? != Stage::Feasible || !self.begin(problem, aim)? {
+            return Ok(None);
+        }
+        match self.turn(problem, aim, false)? {
+            Turn::Guess(guess) => Ok(Some(guess)),
+            _ => Ok(None),
+        }
+    }
+
     /// How many pivots were made since the engine was made, or last told which sentences are kept.
     pub fn pivots(&self) -> u64 {
-        self.simplex.pivots()
+        self.earlier_pivots.saturating_add(self.simplex.pivots())
     }
 
     /// How many worlds it knows.
@@ -62,18 +92,12 @@ impl Guesser for Engine {
         if self.settle(problem)? != Stage::Feasible {
             return Ok(None);
         }
-        for _ in 0..MOST_SHRINKS {
-            let Some(system) = self.system()? else {
-                return Ok(None);
-            };
-            if let Some(values) = system.values()? {
-                return self.meeting(&system, &values);
+        match self.small_model(problem)? {
+            None if self.begin_anew()? && self.settle(problem)? == Stage::Feasible => {
+                self.small_model(problem)
             }
-            if !self.shrink(problem, Aim::Consistent)? {
-                return Ok(None);
-            }
+            guess => Ok(guess),
         }
-        Ok(None)
     }
 
     fn nothing(
@@ -100,12 +124,9 @@ impl Guesser for Engine {
         let Some(aim) = aim_of(kind, query) else {
             return Ok(None);
         };
-        if self.settle(problem)? != Stage::Feasible || !self.begin(problem, aim)? {
-            return Ok(None);
-        }
-        match self.turn(problem, aim, false)? {
-            Turn::Guess(guess) => Ok(Some(guess)),
-            _ => Ok(None),
+        match self.side(problem, aim)? {
+            None if self.begin_anew()? => self.side(problem, aim),
+            guess => Ok(guess),
         }
     }
 

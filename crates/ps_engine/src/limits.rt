@@ -39,6 +39,9 @@ pub(crate) const MOST_FACE_PIVOTS: u32 = 20;
 /// How many worlds beside basic ones are taken in at most, where a face offers no pivot.
 pub(crate) const MOST_NEIGHBOURS: usize = 200;
 
+/// How often such worlds are taken in at most before a face is given up.
+pub(crate) const MOST_TAKEN: u32 = 10;
+
 /// The least entry that blocks a column within a face.
 pub(crate) const LEAST_BLOCKING: f64 = 1e-7;
 

@@ -1,7 +1,9 @@
 //! Smaller numbers: other vertices of the same face.
 
 use crate::engine::Engine;
-use crate::limits::{LEAST_BLOCKING, MOST_FACE_PIVOTS, MOST_NEIGHBOURS, SHORTER, SMALLEST_PIVOT};
+use crate::limits::{
+    LEAST_BLOCKING, MOST_FACE_PIVOTS, MOST_NEIGHBOURS, MOST_TAKEN, SHORTER, SMALLEST_PIVOT,
+};
 use ps_formula::World;
 use ps_io::NoMemory;
 use ps_problem::Problem;
@@ -67,10 +69,15 @@ impl Engine {
     // the determinant of the basis by its entry. Where the columns that are known offer none, worlds of
     // the face are taken in that differ from a basic one in one atom. Answers whether a pivot was made.
     pub(crate) fn shrink(&mut self, problem: &Problem, aim: Aim) -> Result<bool, NoMemory> {
-        if self.pivot_to_smaller()? {
-            return Ok(true);
+        for _ in 0..MOST_TAKEN {
+            if self.pivot_to_smaller()? {
+                return Ok(true);
+            }
+            if self.take_neighbours(problem, aim)? == 0 {
+                return Ok(false);
+            }
         }
-        Ok(self.take_neighbours(problem, aim)? > 0 && self.pivot_to_smaller()?)
+        Ok(false)
     }
 
     // Pivots until the determinant is at most half as large, and answers whether any pivot was made.

@@ -25,6 +25,24 @@ fn demand_of(certainty: &Certainty) -> Demand {
     }
 }
 
+// What a local search looks for.
+fn goal_of<'g>(gain: &'g FloatGoal, above: f64) -> ClimbGoal<'g> {
+    ClimbGoal {
+        coefficients: gain.weights(),
+        constant: gain.base(),
+        threshold: above,
+    }
+}
+
+// The world in which no atom is true.
+fn false_world(alloc: Global, atoms: u16) -> Result<World, NoMemory> {
+    let mut world = World::new(alloc);
+    for _ in 0..atoms {
+        world.push(false)?;
+    }
+    Ok(world)
+}
+
 impl Climbing {
     /// For the worlds of a problem that meet its certainties.
     pub(crate) fn new(
@@ -53,12 +71,32 @@ impl Climbing {
         start: &World,
         found: &mut Vec<Member>,
     ) -> Result<(), NoMemory> {
-        let goal = ClimbGoal {
-            coefficients: gain.weights(),
-            constant: gain.base(),
-            threshold: above,
-        };
-        let Some(world) = self.local.search(goal, start, self.steps)? else {
+        let world = self.local.search(goal_of(gain, above), start, self.steps)?;
+        self.add(problem, world, found)
+    }
+
+    /// Adds the world of the greatest gain, where that is above so much: each world of few atoms is
+    /// looked at.
+    pub(crate) fn best(
+        &mut self,
+        problem: &Problem,
+        gain: &FloatGoal,
+        above: f64,
+        found: &mut Vec<Member>,
+    ) -> Result<(), NoMemory> {
+        let start = false_world(self.alloc, problem.atoms())?;
+        let world = self.local.best(goal_of(gain, above), &start)?;
+        self.add(problem, world, found)
+    }
+
+    // Adds a world, where there is one.
+    fn add(
+        &self,
+        problem: &Problem,
+        world: Option<World>,
+        found: &mut Vec<Member>,
+    ) -> Result<(), NoMemory> {
+        let Some(world) = world else {
             return Ok(());
         };
         if let Some(member) = Member::new(self.alloc, problem, world)? {

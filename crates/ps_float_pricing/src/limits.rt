@@ -1,5 +1,11 @@
 //! Limits of a pricing.
 
+/// How many conflicts a light search makes.
+pub(crate) const LIGHT_CONFLICTS: u64 = 0;
+
+/// Of so many atoms each world is looked at where local search finds none.
+pub(crate) const FEW_ATOMS: u16 = 14;
+
 /// How many conflicts a search makes at first.
 pub(crate) const FEW_CONFLICTS: u64 = 30;
 

@@ -1,9 +1,8 @@
 //! The pricing of a float program.
-ghost use Rattle.std.specs.Prelude.{◌≤◌};
-ghost use Rattle.ps_log.specs.declared.limits.TheConstants.{MOST_CONFLICTS};
 
 use crate::climbing::Climbing;
-use crate::limits::{ALL_CONFLICTS, FEW_CONFLICTS, MANY_CONFLICTS, MOST_SEARCHES};
+use crate::effort::Effort;
+use crate::limits::{ALL_CONFLICTS, FEW_ATOMS, MOST_SEARCHES};
 use crate::scaled::Goals;
 use crate::search::{Ended, seek};
 use ps_clause::{ClauseForm, clauses_of};
@@ -32,6 +31,10 @@ pub struct FloatPricer {
     climbing: Climbing,
     /// How many conflicts the searches may still make.
     left: u64,
+    /// Whether light searches go first.
+    is_light: bool,
+    /// Whether they have settled a pricing.
+    has_been_light: bool,
 }
 
 // The greatest value of a goal in these worlds, or so much.
@@ -46,25 +49,6 @@ fn greatest(goal: &Goal, members: &[Member], least: i128) -> i128 {
 // A quarter more.
 fn raised(value: i128) -> i128 {
     value.wrapping_add((value / 4).max(1))
-}
-
-// How many conflicts a search makes, after another was spent or not.
-fn wanted_conflicts(is_spent: bool) -> u64
-    ensures { result ≤ MOST_CONFLICTS }
-{
-    if is_spent {
-        MANY_CONFLICTS
-    } else {
-        FEW_CONFLICTS
-    }
-}
-
-// The same, where so many are left in all.
-fn conflicts_of(is_spent: bool, left: u64) -> u64
-    ensures { result ≤ MOST_CONFLICTS }
-{
-    let wanted = wanted_conflicts(is_spent);
-    if left < wanted { left } else { wanted }
 }
 
 // What was found.
@@ -88,6 +72,8 @@ impl FloatPricer {
             form: clauses_of(alloc, problem.formulas())?,
             climbing: Climbing::new(alloc, problem, relaxed)?,
             left: ALL_CONFLICTS,
+            is_light: true,
+            has_been_light: false,
         })
     }
 
@@ -95,27 +81,42 @@ impl FloatPricer {
     pub fn keep(&mut self, problem: &Problem, relaxed: &Relaxed) -> Result<(), NoMemory> {
         self.climbing = Climbing::new(self.alloc, problem, relaxed)?;
         self.left = ALL_CONFLICTS;
+        self.is_light = true;
+        self.has_been_light = false;
         Ok(())
+    }
+
+    /// From now on local search goes first. Answers whether light searches have settled a pricing.
+    pub fn put_local_first(&mut self) -> bool {
+        let has_been_light = self.has_been_light;
+        self.is_light = false;
+        self.has_been_light = false;
+        has_been_light
+    }
+
+    /// Whether light searches go first, or did, and have settled a pricing.
+    pub fn has_been_light(&self) -> bool {
+        self.has_been_light
     }
 
     /// A world in which the goal is at least 1.
     pub fn first(&mut self, problem: &Problem, goal: &Goal) -> Result<Priced, NoMemory> {
-        match self.seek(problem, goal, 1, true)? {
+        match self.seek(problem, goal, 1, Effort::Long)? {
             Ended::Found(world) => self.one(Member::new(self.alloc, problem, world)?),
             Ended::Nothing => Ok(Priced::NoneAbove),
             Ended::Spent => Ok(Priced::Spent),
         }
     }
 
-    // A search, after another was spent or not.
+    // A search.
     fn seek(
         &mut self,
         problem: &Problem,
         goal: &Goal,
         least: i128,
-        is_spent: bool,
+        effort: Effort,
     ) -> Result<Ended, NoMemory> {
-        let conflicts = conflicts_of(is_spent, self.left);
+        let conflicts = effort.conflicts(self.left);
         let sought = seek(self.alloc, problem, &self.form, goal, least, conflicts)?;
         self.left = self.left.saturating_sub(sought.learned);
         Ok(sought.ended)
@@ -131,9 +132,13 @@ impl FloatPricer {
         Ok(Priced::Found(found))
     }
 
-    /// Worlds with a gain of more than so much. Local search goes first, from these worlds: it is
-    /// quick, and its worlds have large gains, so that few pivots follow. Where it finds none, others
-    /// are sought by the clause form: to the end where that is thorough, else with few conflicts.
+    /// Worlds with a gain of more than so much, from these worlds.
+    ///
+    /// Light searches by the clause form go first as long as none meets a conflict, as where the
+    /// formulas are a chain: they show that no gain is a quarter more than the greatest one found.
+    /// After that local search goes first: it is quick, and its worlds have large gains, so that few
+    /// pivots follow. Where it finds none, each world is looked at where there are few atoms, and else
+    /// worlds are sought by the clause form: to the end where that is thorough, else with few conflicts.
     pub fn price(
         &mut self,
         problem: &Problem,
@@ -143,18 +148,60 @@ impl FloatPricer {
         starts: &[World],
         is_thorough: bool,
     ) -> Result<Priced, NoMemory> {
+        if self.is_light {
+            match self.search_lightly(problem, relaxed, gain, above)? {
+                Priced::Spent => {}
+                priced => return Ok(priced),
+            }
+        }
         let mut found = Vec::new(self.alloc);
         self.climbing
             .climb_all(problem, gain, above, starts, &mut found)?;
         if !found.is_empty() {
             return Ok(Priced::Found(found));
         }
+        if problem.atoms() <= FEW_ATOMS {
+            self.climbing.best(problem, gain, above, &mut found)?;
+            return Ok(what_was(found));
+        }
         self.search(problem, relaxed, gain, above, is_thorough)
     }
 
+    // The same by light searches: each is for a gain that is a quarter more than the one before. Where one
+    // is spent, so is all, and from then on local search goes first.
+    fn search_lightly(
+        &mut self,
+        problem: &Problem,
+        relaxed: &Relaxed,
+        gain: &FloatGoal,
+        above: f64,
+    ) -> Result<Priced, NoMemory> {
+        let goals = Goals::new(self.alloc, problem.formulas().nodes(), relaxed, gain)?;
+        let mut found = Vec::new(self.alloc);
+        let mut least = goals.least(above);
+        for _ in 0..MOST_SEARCHES {
+            let degree = goals.degree(Effort::Light, least);
+            match self.seek(problem, goals.goal(Effort::Light), degree, Effort::Light)? {
+                Ended::Nothing => break,
+                Ended::Spent => {
+                    self.is_light = false;
+                    return Ok(Priced::Spent);
+                }
+                Ended::Found(world) => {
+                    if let Some(member) = Member::new(self.alloc, problem, world)? {
+                        found.push(member)?;
+                    }
+                    least = raised(greatest(&goals.plain, &found, least));
+                }
+            }
+        }
+        self.has_been_light = true;
+        Ok(what_was(found))
+    }
+
     // The same by the clause form. The first search makes few conflicts; where it is spent and nothing
-    // was found, another makes many if it is to be thorough. From each world that is found a local search goes on, and the
-    // next search is for a gain that is a quarter more.
+    // was found, another makes many if it is to be thorough. From each world that is found a local search
+    // goes on, and the next search is for a gain that is a quarter more.
     fn search(
         &mut self,
         problem: &Problem,
@@ -165,18 +212,19 @@ impl FloatPricer {
     ) -> Result<Priced, NoMemory> {
         let goals = Goals::new(self.alloc, problem.formulas().nodes(), relaxed, gain)?;
         let mut found = Vec::new(self.alloc);
-        let mut least = goals.plain.least(above);
-        let mut is_spent = false;
+        let mut least = goals.least(above);
+        let mut effort = Effort::Short;
         for _ in 0..MOST_SEARCHES {
-            match self.seek(problem, goals.goal(is_spent), least, is_spent)? {
+            let degree = goals.degree(effort, least);
+            match self.seek(problem, goals.goal(effort), degree, effort)? {
                 Ended::Nothing => return Ok(what_was(found)),
                 Ended::Spent if !found.is_empty() => return Ok(Priced::Found(found)),
-                Ended::Spent if is_spent || !is_thorough => return Ok(Priced::Spent),
-                Ended::Spent => is_spent = true,
+                Ended::Spent if effort == Effort::Long || !is_thorough => return Ok(Priced::Spent),
+                Ended::Spent => effort = Effort::Long,
                 Ended::Found(world) => {
                     self.keep_world(problem, gain, above, world, &mut found)?;
-                    least = raised(greatest(&goals.plain.goal, &found, least));
-                    is_spent = false;
+                    least = raised(greatest(&goals.plain, &found, least));
+                    effort = Effort::Short;
                 }
             }
         }
