@@ -33,6 +33,10 @@ value_text b = numeral_spelling (canonical_numeral (ratio_at b))
 abbrev pub bounds_text : Sentence → List ℕ
 bounds_text s = relation_text (canonical_relation s.first.side (ratio_at s.first) (option_map ratio_at s.second))
 
+-- a sentence: its probability, and how it is bounded
+abbrev pub statement_text : Parts → Sentence → List ℕ
+statement_text p s = probability_text p s.first.formula s.first.given ++ bounds_text s
+
 -- the line of a sentence
 abbrev pub sentence_line : Parts → Sentence → List ℕ
 sentence_line p s = item_text (canonical_item (Stated (statement_from p s)))

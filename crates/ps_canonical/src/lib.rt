@@ -1,4 +1,4 @@
-//! The canonical text of a problem, and of its probabilities.
+//! The canonical text of a problem, and of its sentences and probabilities.
 #![tactic(auto)]
 
 mod connective;
@@ -10,5 +10,5 @@ mod values;
 mod writing;
 
 pub use laws::equal_texts_are_of_equal_problems;
-pub use lines::write_probability;
+pub use lines::{write_probability, write_statement};
 pub use writing::canonical_text;

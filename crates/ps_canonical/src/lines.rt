@@ -1,7 +1,7 @@
 //! The lines of sentences and queries.
 ghost use Rattle.std.specs.Prelude.{◌<◌, IfSome, OnOk, length};
 ghost use Rattle.ps_canonical.specs.Lines.{Adds, condition_text, probability_text};
-ghost use Rattle.ps_canonical.specs.Lines.{sentence_line, query_line};
+ghost use Rattle.ps_canonical.specs.Lines.{sentence_line, statement_text, query_line};
 
 use crate::formulas::formula;
 use crate::values::{append, relation};
@@ -46,6 +46,23 @@ pub fn write_probability(
     formula(alloc, problem, node, out)?;
     condition(alloc, problem, given, out)?;
     append(out, b")")
+}
+
+/// Writes a sentence behind what was written: its probability, and how it is bounded.
+pub fn write_statement(
+    alloc: Global,
+    problem: &Problem,
+    sentence: &Sentence,
+    out: &mut Vec<u8>,
+) -> Result<(), NoMemory>
+    requires formula { sentence.now.first.formula < length problem.now.nodes }
+    requires given { IfSome sentence.now.first.given (λ g. g < length problem.now.nodes) }
+    ensures { OnOk result
+        (Adds out.old.items out.new.items (statement_text problem.now sentence.now)) }
+{
+    let first = sentence.first;
+    write_probability(alloc, problem, first.formula, first.given, out)?;
+    relation(out, sentence)
 }
 
 // Writes the line of a sentence.

@@ -1,3 +1,4 @@
+pub mod Clashing
 pub mod Paired
 pub mod Sides
 pub mod Values

@@ -2,3 +2,4 @@
 pub mod Numbers
 pub mod Spoken
 pub mod Quiet
+pub mod Clashes

@@ -1,0 +1,5 @@
+mod Harmless
+mod Lines
+mod Meant
+mod Moves
+mod Shows

@@ -1,0 +1,6 @@
+-- Meaning
+pub mod Shown
+pub mod Hints
+pub mod Names
+pub mod Places
+pub mod Warnings

@@ -1,0 +1,117 @@
+//! What is found at a place.
+ghost use Rattle.std.specs.Prelude.{◌≤◌, length};
+
+use crate::glyph::shown;
+use crate::message::Message;
+use crate::spot::Spot;
+use crate::words::word_at_front;
+use ps_io::NoMemory;
+
+// The most bytes of a word that are shown.
+const MOST_SHOWN: usize = 40;
+
+/// What is found at a place.
+#[derive(Clone, Copy)]
+pub(crate) enum Found<'t> {
+    /// The end of the text.
+    TextEnd,
+    /// The end of a line behind which no token stands.
+    LineEnd,
+    /// A byte that can't be shown.
+    Byte(u8),
+    /// A word, a number, a sign or another character.
+    Token(&'t [u8]),
+}
+
+// How many digits stand at the front.
+fn digits_at_front(bytes: &[u8]) -> usize
+    ensures { result ≤ length bytes.now }
+{
+    bytes
+        .iter()
+        .position(|byte| !byte.is_ascii_digit())
+        .unwrap_or(bytes.len())
+}
+
+/// The number at the front: digits, and perhaps more of them behind a `/` or a `.`.
+pub(crate) fn number_at_front(bytes: &[u8]) -> &[u8] {
+    let (whole, behind) = bytes.split_at(digits_at_front(bytes));
+    let part = match behind {
+        [b'/' | b'.', digits @ ..] => digits_at_front(digits),
+        _ => 0,
+    };
+    if whole.is_empty() || part == 0 {
+        whole
+    } else {
+        bytes.get(..whole.len() + 1 + part).unwrap_or(whole)
+    }
+}
+
+// The sign at the front that has more bytes than one, if one stands there.
+fn sign_at_front(bytes: &[u8]) -> Option<&[u8]> {
+    if bytes.starts_with(b"<->") {
+        bytes.get(..3)
+    } else if bytes.starts_with(b"->") || bytes.starts_with(b"<=") || bytes.starts_with(b">=") {
+        bytes.get(..2)
+    } else {
+        None
+    }
+}
+
+// The character at the front, as a token where it can be shown.
+fn character_at_front(bytes: &[u8]) -> Found<'_> {
+    let Some(first) = bytes.first() else {
+        return Found::TextEnd;
+    };
+    let Some(chunk) = bytes.utf8_chunks().next() else {
+        return Found::Byte(*first);
+    };
+    match chunk.valid().chars().next() {
+        Some(c) if shown(c) == c => match bytes.get(..c.len_utf8()) {
+            Some(character) => Found::Token(character),
+            None => Found::Byte(*first),
+        },
+        _ => Found::Byte(*first),
+    }
+}
+
+impl<'t> Found<'t> {
+    /// What is found at a spot.
+    pub(crate) fn at(spot: &Spot<'t>) -> Found<'t> {
+        let word = word_at_front(spot.behind);
+        let number = number_at_front(spot.behind);
+        if word.len() < number.len() {
+            return Found::Token(number);
+        }
+        if !word.is_empty() {
+            return Found::Token(word);
+        }
+        match sign_at_front(spot.behind) {
+            Some(sign) => Found::Token(sign),
+            None => character_at_front(spot.behind),
+        }
+    }
+
+    /// Adds it to a message, the front alone where it is long.
+    pub(crate) fn push_to(&self, message: &mut Message) -> Result<(), NoMemory> {
+        match self {
+            Found::TextEnd => message.push_text("the end of the text"),
+            Found::LineEnd => message.push_text("the end of the line"),
+            Found::Byte(byte) => {
+                message.push_text("the byte ")?;
+                message.push_number(u32::from(*byte))
+            }
+            Found::Token(token) => {
+                message.push_text("`")?;
+                match token.get(..MOST_SHOWN) {
+                    Some(front) if MOST_SHOWN < token.len() => {
+                        message.push_bytes(front)?;
+                        message.push_text("...")?;
+                    }
+                    _ => message.push_bytes(token)?,
+                }
+                message.push_text("`")
+            }
+        }
+    }
+}

@@ -1,0 +1,171 @@
+//! Hints: what to write instead.
+
+/// A hint for an error that people really make.
+#[derive(Clone, Copy)]
+pub enum Hint {
+    /// The text is empty.
+    Empty,
+    /// A byte-order mark stands at the front.
+    ByteOrderMark,
+    /// The text doesn't begin with its version.
+    Begin,
+    /// The text doesn't end with `end;`.
+    End,
+    /// Something stands behind `end;`.
+    BehindEnd,
+    /// `%`.
+    Percent,
+    /// `.5`.
+    PointFirst,
+    /// `1.`.
+    PointLast,
+    /// `0,5`.
+    DecimalComma,
+    /// `1e-3`.
+    Exponent,
+    /// `1 / 2`.
+    BlankFraction,
+    /// `-1`.
+    Negative,
+    /// A value above 1.
+    AboveOne,
+    /// Too many digits, or too great a denominator.
+    Round,
+    /// No number behind a relation.
+    Number,
+    /// No interval behind `in`.
+    Interval,
+    /// `<`.
+    AtMost,
+    /// `>`.
+    AtLeast,
+    /// `==` for `=`.
+    OneEquals,
+    /// No relation behind a probability.
+    Relation,
+    /// An operator behind a probability.
+    Outside,
+    /// `not`.
+    Not,
+    /// `and`, or a comma.
+    And,
+    /// `&&`.
+    OneAnd,
+    /// `or`.
+    Or,
+    /// `||`.
+    OneOr,
+    /// `=>`.
+    Implies,
+    /// `==` or `<=>`.
+    Iff,
+    /// `<-`.
+    Backwards,
+    /// A second `given`.
+    OneGiven,
+    /// A `(` without its `)`.
+    Unclosed,
+    /// Two operands side by side.
+    Joined,
+    /// A formula is missing.
+    Operand,
+    /// A reserved word as a name.
+    Reserved,
+    /// A name that begins with a digit.
+    DigitFirst,
+    /// `0` or `1` as a formula.
+    Truth,
+    /// A `-` in a name.
+    Hyphen,
+    /// A letter beyond ASCII.
+    Letters,
+    /// A quote.
+    Quote,
+    /// A name that is too long.
+    Short,
+    /// `//`.
+    Comment,
+    /// `Pr(a)`.
+    Probability,
+    /// `Query`.
+    SmallLetters,
+    /// An item that begins with something else.
+    Item,
+    /// `;;`.
+    OneSemicolon,
+    /// A missing `;`.
+    Semicolon,
+    /// Too many nestings.
+    Nesting,
+    /// Too many atoms.
+    Atoms,
+    /// Too many formulas.
+    Formulas,
+    /// Too many bounds.
+    Bounds,
+    /// Too many queries.
+    Queries,
+}
+
+impl Hint {
+    /// The hint's words.
+    pub fn text(self) -> &'static str {
+        match self {
+            Hint::Empty => "the text is empty: a problem begins with psat 1; and ends with end;",
+            Hint::ByteOrderMark =>
+                "a byte-order mark stands at the front: save the file without it",
+            Hint::Begin => "a problem begins with psat 1;",
+            Hint::End => "a problem ends with end;",
+            Hint::BehindEnd => "nothing but comments may stand behind end;",
+            Hint::Percent => "write 0.3 or 30/100 for 30%",
+            Hint::PointFirst => "write a 0 before the point: 0.5",
+            Hint::PointLast => "write a digit behind the point, or no point: 1.0 or 1",
+            Hint::DecimalComma => "a decimal has a point: 0.5",
+            Hint::Exponent => "a number has no exponent: write 0.001 or 1/1000",
+            Hint::BlankFraction => "write a fraction without blanks: 1/2",
+            Hint::Negative => "no value is below 0; write -> for \"implies\" and ! for \"not\"",
+            Hint::AboveOne => "a probability is at most 1: write 0.3 or 30/100 for 30 per cent",
+            Hint::Round => "round it, or write an interval: in [0.333333, 0.333334]",
+            Hint::Number => "write a number here: 0.5 or 1/2",
+            Hint::Interval => "write an interval as in [1/4, 1/2]",
+            Hint::AtMost => "write <= for \"at most\": no bound is strict",
+            Hint::AtLeast => "write >= for \"at least\": no bound is strict",
+            Hint::OneEquals => "one = is enough",
+            Hint::Relation =>
+                "write =, >=, <= or in [.., ..] and a value; to ask, write query before P",
+            Hint::Outside => "write this inside of the parentheses: P(a -> b)",
+            Hint::Not => "write ! for \"not\"",
+            Hint::And => "write & for \"and\"",
+            Hint::OneAnd => "one & is enough",
+            Hint::Or => "write | for \"or\"",
+            Hint::OneOr => "one | is enough",
+            Hint::Implies => "write -> for \"implies\"",
+            Hint::Iff => "write <-> for \"if and only if\"",
+            Hint::Backwards => "write b -> a for a <- b",
+            Hint::OneGiven =>
+                "one given may stand, outside of inner parentheses: join conditions by &",
+            Hint::Unclosed => "a ( before this isn't closed",
+            Hint::Joined => "write &, |, -> or <-> between two formulas, and a name without blanks",
+            Hint::Operand => "write a name, true, false, ! or ( here",
+            Hint::Reserved => "this word is reserved: take another name",
+            Hint::DigitFirst => "a name begins with a letter",
+            Hint::Truth => "write true for 1 and false for 0",
+            Hint::Hyphen => "a name has letters, digits and _, but no -",
+            Hint::Letters => "a name has the letters a to z and A to Z, digits and _",
+            Hint::Quote => "write names without quotes",
+            Hint::Short => "write a shorter name",
+            Hint::Comment => "a comment begins with #",
+            Hint::Probability => "write a probability as P(..)",
+            Hint::SmallLetters =>
+                "write psat, given, in, query, end, true and false in small letters",
+            Hint::Item => "begin a sentence with P(, and a query with query P(",
+            Hint::OneSemicolon => "one ; is enough",
+            Hint::Semicolon => "end each sentence and each query with ;",
+            Hint::Nesting => "leave out parentheses, or name a part: P(part <-> ..) = 1;",
+            Hint::Atoms => "leave out what no query needs",
+            Hint::Formulas => "write a formula the same way each time",
+            Hint::Bounds => "join laws by & in one sentence; an interval counts as two bounds",
+            Hint::Queries => "ask in several files",
+        }
+    }
+}

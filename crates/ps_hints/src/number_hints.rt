@@ -1,0 +1,94 @@
+//! Hints for relations and their numbers.
+ghost use Rattle.std.specs.Prelude.{IfSome};
+ghost use Rattle.ps_hints.specs.Hints.{IsAtNumber, IsInInterval, IsHintFor};
+ghost use Rattle.ps_text.specs.declared.kind.ReadKind.{ReadKind};
+ghost use Rattle.ps_text.specs.declared.kind.ReadKind.TheVariants as kind;
+ghost use Rattle.ps_text.specs.declared.kind.What.TheVariants as what;
+
+use crate::found::number_at_front;
+use crate::hint::Hint;
+use crate::spot::Spot;
+
+// Whether a digit stands right before.
+fn is_behind_digit(spot: &Spot) -> bool {
+    matches!(spot.last(), Some(byte) if byte.is_ascii_digit())
+}
+
+// Whether a digit stands behind the byte that stands here.
+fn is_before_digit(spot: &Spot) -> bool {
+    matches!(spot.second(), Some(byte) if byte.is_ascii_digit())
+}
+
+/// A hint for what stands behind the front of a number.
+pub(crate) fn behind_number(spot: &Spot) -> Option<Hint>
+    ensures { IfSome result (λ h. (k : ReadKind) → IsAtNumber k → IsHintFor h k) }
+{
+    if !is_behind_digit(spot) {
+        None
+    } else if spot.begins(",") && is_before_digit(spot) {
+        Some(Hint::DecimalComma)
+    } else if spot.begins_any(&["e", "E"]) {
+        Some(Hint::Exponent)
+    } else {
+        None
+    }
+}
+
+/// A hint where a relation is expected.
+pub(crate) fn relation_hint(spot: &Spot) -> Hint
+    ensures { IsHintFor result (kind.Expected what.Relation) }
+{
+    if spot.begins_any(&["&", "|", "->", "<->", "given"]) {
+        Hint::Outside
+    } else {
+        Hint::Relation
+    }
+}
+
+/// A hint where a number is expected.
+pub(crate) fn number_hint(spot: &Spot) -> Hint
+    ensures { IsHintFor result (kind.Expected what.Number) }
+{
+    if spot.follows("=") && spot.begins("=") {
+        Hint::OneEquals
+    } else {
+        Hint::Number
+    }
+}
+
+/// A hint where a part of an interval is expected.
+pub(crate) fn interval_hint(spot: &Spot) -> Hint
+    ensures { (k : ReadKind) → IsInInterval k → IsHintFor result k }
+{
+    match behind_number(spot) {
+        Some(hint) => hint,
+        None => Hint::Interval,
+    }
+}
+
+// Whether a number stands here with a percent sign behind.
+fn is_percentage(spot: &Spot) -> bool {
+    let number = number_at_front(spot.behind);
+    matches!(spot.behind.get(number.len()), Some(b'%'))
+}
+
+// Whether the number here is the part behind a decimal comma.
+fn is_behind_comma(spot: &Spot) -> bool {
+    match spot.before {
+        [.., digit, b','] => digit.is_ascii_digit(),
+        _ => false,
+    }
+}
+
+/// A hint for a value above 1.
+pub(crate) fn value_hint(spot: &Spot) -> Hint
+    ensures { IsHintFor result kind.NumberOutOfRange }
+{
+    if is_percentage(spot) {
+        Hint::Percent
+    } else if is_behind_comma(spot) {
+        Hint::DecimalComma
+    } else {
+        Hint::AboveOne
+    }
+}

@@ -1,0 +1,43 @@
+//! Words.
+
+/// Whether a byte may stand in a word.
+pub(crate) fn is_word_byte(byte: u8) -> bool {
+    byte.is_ascii_alphanumeric() || byte == b'_'
+}
+
+/// The bytes at the front that may stand in a word.
+pub(crate) fn word_at_front(bytes: &[u8]) -> &[u8] {
+    match bytes.iter().position(|byte| !is_word_byte(*byte)) {
+        Some(end) => &bytes[..end],
+        None => bytes,
+    }
+}
+
+/// The bytes at the end that may stand in a word.
+pub(crate) fn word_at_end(bytes: &[u8]) -> &[u8] {
+    match bytes.iter().rposition(|byte| !is_word_byte(*byte)) {
+        Some(last) => &bytes[last + 1..],
+        None => bytes,
+    }
+}
+
+/// Whether a word is one of these.
+pub(crate) fn is_any(word: &[u8], words: &[&'static str]) -> bool {
+    words.iter().any(|one| one.as_bytes() == word)
+}
+
+/// Whether a word has a meaning of its own, so that it can't be a name.
+pub(crate) fn is_reserved(word: &[u8]) -> bool {
+    is_any(
+        word,
+        &["psat", "P", "given", "in", "query", "end", "true", "false"],
+    )
+}
+
+/// Whether a word is one of the language in other letters, small ones or capitals.
+pub(crate) fn is_reserved_in_other_letters(word: &[u8]) -> bool {
+    !is_reserved(word)
+        && ["psat", "given", "in", "query", "end", "true", "false"]
+            .iter()
+            .any(|one| one.as_bytes().eq_ignore_ascii_case(word))
+}
