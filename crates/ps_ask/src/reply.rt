@@ -1,0 +1,64 @@
+//! What is to be written, or why nothing is.
+ghost use Rattle.std.specs.Prelude.{◌≡◌};
+ghost use Rattle.ps_ask.specs.Replies as replies;
+
+use crate::answered::status_of;
+use crate::status::Status;
+use ps_answer::Answer;
+use ps_io::NoMemory;
+
+/// What is to be written.
+#[derive(Drop)]
+pub enum Reply {
+    /// Nothing: the input is too long, or no problem.
+    Nothing,
+    /// An answer, in words or another text.
+    Text { answer: Answer, text: Vec<u8> },
+    /// An answer, by its report.
+    Report(Answer),
+}
+
+impl Reply {
+    /// The status after it.
+    pub fn status(&self) -> Status
+        ensures { result ≡ replies.status_of self.now }
+    {
+        match self {
+            Reply::Nothing => Status::Unreadable,
+            Reply::Text { answer, .. } => status_of(answer),
+            Reply::Report(answer) => status_of(answer),
+        }
+    }
+}
+
+/// Why there is no reply.
+#[derive(Clone, Copy, Debug, PartialEq, Eq)]
+pub enum ReplyError {
+    /// A read failed.
+    ReadFault,
+    /// There was not enough memory.
+    NoMemory,
+}
+
+impl ReplyError {
+    /// The status that takes the place of the reply's.
+    pub fn status(self) -> Status
+        ensures { result ≡ replies.status_without self }
+    {
+        match self {
+            ReplyError::ReadFault => Status::ReadFault,
+            ReplyError::NoMemory => Status::NoMemory,
+        }
+    }
+}
+
+impl From<NoMemory> for ReplyError {
+    ghost use Rattle.std.specs.Prelude.{◌≡◌};
+    ghost use Rattle.ps_ask.specs.declared.reply.ReplyError.TheVariants as errors;
+
+    ghost from_gives = { λ _ e. e ≡ errors.NoMemory };
+
+    fn from(_: NoMemory) -> ReplyError {
+        ReplyError::NoMemory
+    }
+}

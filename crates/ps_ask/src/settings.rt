@@ -1,0 +1,30 @@
+//! What is shown of an answer, and within which limits it is looked for.
+use ps_guided::Limits;
+
+/// How an answer is shown.
+#[derive(Clone, Copy, Debug, PartialEq, Eq)]
+pub enum Style {
+    /// In words and numbers.
+    Words,
+    /// The verdict in a word, and the values of each query in a line.
+    Values,
+    /// As an object of JSON, in a line.
+    Json,
+    /// By its report.
+    Report,
+}
+
+/// What is shown of an answer, and within which limits it is looked for.
+#[derive(Clone, Copy, Drop)]
+pub struct Settings {
+    /// The limits of the runs.
+    pub limits: Limits,
+    /// How many digits decimals have behind the point.
+    pub digits: u32,
+    /// How the answer is shown.
+    pub style: Style,
+    /// Whether its report is written too, apart from what is shown.
+    pub reports: bool,
+    /// Whether warnings are noted.
+    pub warns: bool,
+}

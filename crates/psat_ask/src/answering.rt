@@ -1,0 +1,129 @@
+//! Answers problems one after the other.
+ghost use Rattle.ps_ask.specs.Shown.{AreSettings};
+
+use crate::request::Asked;
+use ps_ask::{Sinks, Status, Style, ask};
+use ps_io::{MemSink, Sink, Source, StdSink, StdSource, write_all};
+use std::fs::File;
+
+/// The name of standard input in messages and objects.
+const INPUT: &str = "standard input";
+
+/// The name of standard output in messages.
+const OUTPUT: &str = "standard output";
+
+// Tells on standard error what failed. Where that fails too nothing can be told.
+fn tell(rt: &HostRuntime, name: &str, failure: &str) {
+    let _ = eprintln!(rt; "psat_ask: {name}: {failure}");
+}
+
+// Tells what failed in the answer to an input.
+fn tell_status(rt: &HostRuntime, name: &str, report: &str, status: Status) {
+    match status {
+        Status::ReadFault => tell(rt, name, "reading failed"),
+        Status::WriteFault => tell(rt, OUTPUT, "writing failed"),
+        Status::ReportFault => tell(rt, report, "writing failed"),
+        Status::NoMemory => tell(rt, name, "not enough memory"),
+        _ => {}
+    }
+}
+
+// Answers an input, with its report to a sink.
+fn answer_to<I: Source, R: Sink + Drop>(
+    rt: &HostRuntime,
+    asked: &Asked,
+    name: &str,
+    source: &mut I,
+    report: R,
+) -> Status
+    requires { AreSettings asked.now.settings }
+{
+    let alloc = rt.alloc();
+    let mut notes = Vec::new(alloc);
+    let mut sinks = Sinks {
+        shown: StdSink::new(rt.stdout()),
+        report,
+    };
+    let status = ask(alloc, asked.settings, name, source, &mut sinks, &mut notes);
+    if let Ok(text) = str::from_utf8(&notes) {
+        let _ = eprint!(rt; "{text}");
+    }
+    status
+}
+
+// Answers an input, with its report to a file where one is wanted.
+fn answer_source<I: Source>(rt: &HostRuntime, asked: &Asked, name: &str, source: &mut I) -> u8
+    requires { AreSettings asked.now.settings }
+{
+    let alloc = rt.alloc();
+    let Some(file) = &asked.report else {
+        let Ok(none) = MemSink::new(alloc, 1, Vec::new(alloc), 0) else {
+            tell_status(rt, name, OUTPUT, Status::NoMemory);
+            return Status::NoMemory.number();
+        };
+        let status = answer_to(rt, asked, name, source, none);
+        tell_status(rt, name, OUTPUT, status);
+        return status.number();
+    };
+    let Ok(created) = File::create(rt, file.as_str()) else {
+        tell(rt, file.as_str(), "can't be created");
+        return Status::ReportFault.number();
+    };
+    let status = answer_to(rt, asked, name, source, StdSink::new(created));
+    tell_status(rt, name, file.as_str(), status);
+    status.number()
+}
+
+// Answers the problem of a file.
+fn answer_file(rt: &HostRuntime, asked: &Asked, file: &str) -> u8
+    requires { AreSettings asked.now.settings }
+{
+    if file == "-" {
+        let mut input = StdSource::new(rt.stdin());
+        return answer_source(rt, asked, INPUT, &mut input);
+    }
+    let Ok(opened) = File::open(rt, file) else {
+        tell(rt, file, "can't be opened");
+        return Status::ReadFault.number();
+    };
+    let mut input = StdSource::new(opened);
+    answer_source(rt, asked, file, &mut input)
+}
+
+// Writes the line before the answer to a file, whole.
+fn write_heading(rt: &HostRuntime, file: &str) -> bool {
+    let mut output = StdSink::new(rt.stdout());
+    write_all(&mut output, b"== ").is_ok()
+        && write_all(&mut output, file.as_bytes()).is_ok()
+        && write_all(&mut output, b"\n").is_ok()
+}
+
+/// Writes a text alone: the status.
+pub fn show(rt: &HostRuntime, text: &str) -> u8 {
+    let mut output = StdSink::new(rt.stdout());
+    if write_all(&mut output, text.as_bytes()).is_ok() {
+        return 0;
+    }
+    tell(rt, OUTPUT, "writing failed");
+    Status::WriteFault.number()
+}
+
+/// Answers each problem, and without files that of standard input: the greatest status.
+pub fn answer_all(rt: &HostRuntime, asked: &Asked) -> u8
+    requires { AreSettings asked.now.settings }
+{
+    if asked.files.is_empty() {
+        return answer_file(rt, asked, "-");
+    }
+    let has_headings = asked.files.len() > 1 && asked.settings.style != Style::Json;
+    let mut greatest = 0;
+    for file in &asked.files {
+        if has_headings && !write_heading(rt, file.as_str()) {
+            tell(rt, OUTPUT, "writing failed");
+            return Status::WriteFault.number();
+        }
+        let status = answer_file(rt, asked, file.as_str());
+        greatest = if status > greatest { status } else { greatest };
+    }
+    greatest
+}

@@ -1,0 +1,52 @@
+//! What is shown without an input.
+
+/// What `--help` shows.
+pub const HELP: &str = "Answers problems of probabilistic logic in words and numbers.
+
+Usage: psat_ask [OPTIONS] [FILE]..
+
+Each FILE holds a problem. Without one, and for -, standard input is read.
+
+Options:
+  --digits N      digits of decimals behind the point, 1 to 18 (6)
+  --quiet         the verdict and the values alone
+  --json          one JSON object for each problem, on one line
+  --report FILE   write the report that psat check accepts to FILE as well
+  --report -      write that report alone
+  --pivots N      the most pivots of a run, 0 to 1000000 (10000)
+  --conflicts N   the most conflicts of a search, 0 to 1099511627776 (20000)
+  --no-warnings   no warnings
+  --help          this text
+  --version       the version
+
+Exit status, with several files the greatest:
+  0  consistent, and nothing is open
+  1  inconsistent
+  2  invalid arguments; no input was read
+  3  an input is no problem
+  4  some part is open
+  5  reading failed
+  6  writing failed
+  7  not enough memory
+";
+
+/// What `--version` shows.
+pub const VERSION: &str = "psat_ask 1\n";
+
+/// Digits of decimals that aren't a number from 1 to 18.
+pub const WRONG_DIGITS: &str = "--digits takes a number from 1 to 18";
+
+/// A limit of pivots that can't be.
+pub const WRONG_PIVOTS: &str = "--pivots takes a number from 0 to 1000000";
+
+/// A limit of conflicts that can't be.
+pub const WRONG_CONFLICTS: &str = "--conflicts takes a number from 0 to 1099511627776";
+
+/// A report without a file.
+pub const NO_REPORT: &str = "--report takes a file, or - for standard output";
+
+/// More than one way to show an answer.
+pub const STYLES: &str = "--quiet, --json and --report - don't go together";
+
+/// One report for several problems.
+pub const ONE_REPORT: &str = "--report FILE takes one problem";
