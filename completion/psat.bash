@@ -1,0 +1,46 @@
+# Completion of the arguments of psat and psat_ask for bash. To use it: source this file, or install it by scripts/install.
+
+# Offers the options that don't stand on the line yet.
+_psat_options() {
+    local option word
+    COMPREPLY=()
+    for option in "$@"; do
+        [[ $option == "${COMP_WORDS[COMP_CWORD]}"* ]] || continue
+        for word in "${COMP_WORDS[@]:1:COMP_CWORD-1}"; do [ "$word" = "$option" ] && continue 2; done
+        COMPREPLY+=("$option")
+    done
+}
+
+_psat() {
+    local command=${COMP_WORDS[1]} before=${COMP_WORDS[COMP_CWORD-1]} now=${COMP_WORDS[COMP_CWORD]}
+    COMPREPLY=()
+    if [ "$COMP_CWORD" -eq 1 ]; then
+        mapfile -t COMPREPLY < <(compgen -W 'solve explain check make' -- "$now")
+    elif [ "$before" = --pivots ]; then
+        [ "$command" = make ] || mapfile -t COMPREPLY < <(compgen -W enough -- "$now")
+    elif [ "$before" = --conflicts ] || [ "$before" = --bytes ]; then
+        :
+    else
+        case $command in
+        solve | explain) _psat_options --pivots --conflicts ;;
+        check) _psat_options --bytes ;;
+        make) [ "$COMP_CWORD" -eq 2 ] || _psat_options --pivots --conflicts ;;
+        esac
+    fi
+}
+complete -o default -F _psat psat
+
+_psat_ask() {
+    local before=${COMP_WORDS[COMP_CWORD-1]} now=${COMP_WORDS[COMP_CWORD]}
+    COMPREPLY=()
+    case $before in
+    --report) [ -n "$now" ] || COMPREPLY=(-) ;;
+    --digits | --pivots | --conflicts) ;;
+    *)
+        case $now in
+        -*) _psat_options --digits --quiet --json --report --pivots --conflicts --no-warnings --help --version ;;
+        esac
+        ;;
+    esac
+}
+complete -o default -F _psat_ask psat_ask
