@@ -60,12 +60,14 @@ verdict_items (Open c) = cause_items c
 
 -- a side and its trace
 abbrev pub side_items : Bool → SideAnswer → List Event → List LineItem
-side_items upper (side.Bound value m d) trace = line.Bound upper (ratio_of value) ∷ (model_items m ++ (dual_items d ++ trace_items trace))
+side_items upper (side.Bound value m d) trace =
+    line.Bound upper (ratio_of value) ∷ (model_items m ++ (dual_items d ++ trace_items trace))
 side_items upper (side.Open c) trace = line.OpenSide upper ∷ cause_items c ++ trace_items trace
 
 -- the answer to a query, and the trace of its first phase
 abbrev pub query_items : QueryAnswer → List Event → List LineItem
-query_items (query.Bounds lower lower_trace upper upper_trace) first = line.Bounds ∷ (trace_items first ++ (side_items false lower lower_trace ++ side_items true upper upper_trace))
+query_items (query.Bounds lower lower_trace upper upper_trace) first =
+    line.Bounds ∷ (trace_items first ++ (side_items false lower lower_trace ++ side_items true upper upper_trace))
 query_items (query.Impossible d) first = line.Impossible ∷ dual_items d ++ trace_items first
 query_items (query.Open c) first = cause_items c ++ trace_items first
 

@@ -1,10 +1,15 @@
 -- The parts of a report that are expected: what is due after lines of a report.
 use Rattle.std.specs.Prelude.{ℕ, zero, suc, ◌==◌, Bool, true, false, List, [], ◌∷◌, codes, Option, Some, None, if◌then◌else◌}
 use Rattle.ps_answer.specs.declared.item.LineItem.{LineItem}
-use Rattle.ps_answer.specs.declared.item.LineItem.TheVariants.{Report, Consistent, Inconsistent, OpenPivots, OpenConflicts, OpenWide, ModelHead, Entry, DualHead, Rows, StepLine, GoalLine, TraceHead, PivotLine, PricedLine, Query, Bounds, Impossible, Bound, OpenSide, End}
+use Rattle.ps_answer.specs.declared.item.LineItem.TheVariants.{Report, Consistent, Inconsistent, OpenPivots, OpenConflicts}
+use Rattle.ps_answer.specs.declared.item.LineItem.TheVariants.{OpenWide, ModelHead, Entry, DualHead, Rows}
+use Rattle.ps_answer.specs.declared.item.LineItem.TheVariants.{StepLine, GoalLine, TraceHead, PivotLine, PricedLine}
+use Rattle.ps_answer.specs.declared.item.LineItem.TheVariants.{Query, Bounds, Impossible, Bound, OpenSide}
+use Rattle.ps_answer.specs.declared.item.LineItem.TheVariants.{End}
 use Rattle.ps_answer.specs.Words.{side_letters}
 use Rattle.ps_answer.specs.declared.part.Part.{Part}
-use Rattle.ps_answer.specs.declared.part.Part.TheVariants.{AReport, AVerdict, AModel, AnEntry, ADual, SomeRows, AStep, AGoal, ACause, ATrace, AnEvent, AnAnswer, ASide, AQuery}
+use Rattle.ps_answer.specs.declared.part.Part.TheVariants.{AReport, AVerdict, AModel, AnEntry, ADual, SomeRows, AStep}
+use Rattle.ps_answer.specs.declared.part.Part.TheVariants.{AGoal, ACause, ATrace, AnEvent, AnAnswer, ASide, AQuery}
 
 -- the words with which the first line of a part may begin; where a query is due, the end is due too
 abbrev pub first_words : Part → List (List ℕ)

@@ -1,5 +1,6 @@
 -- What the lines of a report say, and their words.
-use Rattle.std.specs.Prelude.{ℕ, ◌≡◌, ◌≤◌, ℤ, pos, ◌≤ℤ◌, Bool, true, List, [], ◌∷◌, ◌++◌, map, All, length, unsigned_abs, codes, ⊤}
+use Rattle.std.specs.Prelude.{ℕ, ◌≡◌, ◌≤◌, ℤ, pos, ◌≤ℤ◌, Bool, true, List}
+use Rattle.std.specs.Prelude.{[], ◌∷◌, ◌++◌, map, All, length, unsigned_abs, codes, ⊤}
 use Rattle.std.specs.Int.{IsGcd}
 use Rattle.std.specs.List.{AllByRecursion}
 use Rattle.ps_steps.specs.Weights.{weighted, are_rising}
@@ -16,11 +17,16 @@ use Rattle.ps_rational.specs.declared.limits.TheConstants.{PRINTED_LIMIT}
 use Rattle.ps_log.specs.Texts.{step_numbers, goal_numbers}
 use Rattle.ps_log.specs.Limits.{IsStepWithin, IsGoalWithin}
 use Rattle.ps_log.specs.Spellings.{words_of}
-use Rattle.ps_answer.specs.declared.limits.TheConstants.{MOST_PIVOTS, MOST_OPERAND, MOST_ROW, MOST_WORLD, MOST_ENTRIES, MOST_MULTIPLIERS, MOST_DUAL_STEPS, MOST_EVENTS, MOST_QUERIES}
+use Rattle.ps_answer.specs.declared.limits.TheConstants.{MOST_PIVOTS, MOST_OPERAND, MOST_ROW, MOST_WORLD, MOST_ENTRIES}
+use Rattle.ps_answer.specs.declared.limits.TheConstants.{MOST_MULTIPLIERS, MOST_DUAL_STEPS, MOST_EVENTS, MOST_QUERIES}
 use Rattle.ps_log.specs.declared.limits.TheConstants.{MOST_CONFLICTS}
 use Rattle.ps_answer.specs.declared.item.Ratio.{Ratio}
 use Rattle.ps_answer.specs.declared.item.LineItem.{LineItem}
-use Rattle.ps_answer.specs.declared.item.LineItem.TheVariants.{Report, Consistent, Inconsistent, OpenPivots, OpenConflicts, OpenWide, ModelHead, Entry, DualHead, Rows, StepLine, GoalLine, TraceHead, PivotLine, PricedLine, Query, Bounds, Impossible, Bound, OpenSide, End}
+use Rattle.ps_answer.specs.declared.item.LineItem.TheVariants.{Report, Consistent, Inconsistent, OpenPivots, OpenConflicts}
+use Rattle.ps_answer.specs.declared.item.LineItem.TheVariants.{OpenWide, ModelHead, Entry, DualHead, Rows}
+use Rattle.ps_answer.specs.declared.item.LineItem.TheVariants.{StepLine, GoalLine, TraceHead, PivotLine, PricedLine}
+use Rattle.ps_answer.specs.declared.item.LineItem.TheVariants.{Query, Bounds, Impossible, Bound, OpenSide}
+use Rattle.ps_answer.specs.declared.item.LineItem.TheVariants.{End}
 use Rattle.ps_answer.specs.Words.{Word, Letters, Number, Fraction, Column, Truths, side_letters, IsShortWord, SpellWords, joined}
 
 -- a whole number of at least 0 as a word
@@ -66,7 +72,8 @@ item_words Consistent = Letters (codes "consistent") ∷ []
 item_words Inconsistent = Letters (codes "inconsistent") ∷ []
 item_words (OpenPivots limit) = Letters (codes "open") ∷ Letters (codes "pivots") ∷ count limit ∷ []
 item_words (OpenConflicts limit) = Letters (codes "open") ∷ Letters (codes "conflicts") ∷ count limit ∷ []
-item_words (OpenWide at op left right) = Letters (codes "open") ∷ Letters (codes "wide") ∷ place_words at ++ op_word op ∷ Fraction left ∷ Fraction right ∷ []
+item_words (OpenWide at op left right) =
+    Letters (codes "open") ∷ Letters (codes "wide") ∷ place_words at ++ op_word op ∷ Fraction left ∷ Fraction right ∷ []
 item_words (ModelHead total n) = Letters (codes "model") ∷ Number total ∷ count n ∷ []
 item_words (Entry weight world) = Letters (codes "w") ∷ Number weight ∷ Truths world ∷ []
 item_words (DualHead top head n) = Letters (codes "dual") ∷ Number top ∷ Number head ∷ count n ∷ []

@@ -28,7 +28,8 @@ AnswersAreDue = (a : Answer) → IsAnswerCounted a → due_behind at_start (answ
 
 -- lines within the limits that are due, up to the end, are the report of an answer
 abbrev pub DueLinesAreReports : Type 0
-DueLinesAreReports = (bytes : List ℕ) (is : List LineItem) → BeginWith bytes is [] → AllByRecursion IsWithin is → due_behind at_start is ≡ Some [] → (a : Answer) × IsReport bytes a
+DueLinesAreReports = (bytes : List ℕ) (is : List LineItem) → BeginWith bytes is [] → AllByRecursion IsWithin is
+    → due_behind at_start is ≡ Some [] → (a : Answer) × IsReport bytes a
 
 -- a report has no line at fault
 abbrev pub ReportsHaveNoFault : Type 0
@@ -36,7 +37,8 @@ ReportsHaveNoFault = (bytes : List ℕ) (a : Answer) (k : LineKind) (n : ℕ) �
 
 -- bytes have at most one first line at fault, of one kind
 abbrev pub FaultsAreSingle : Type 0
-FaultsAreSingle = (bytes : List ℕ) (k l : LineKind) (m n : ℕ) → IsFirstFault bytes k m → IsFirstFault bytes l n → (k ≡ l) × (m ≡ n)
+FaultsAreSingle = (bytes : List ℕ) (k l : LineKind) (m n : ℕ) → IsFirstFault bytes k m → IsFirstFault bytes l n
+    → (k ≡ l) × (m ≡ n)
 
 -- what is written of a line within the limits, with the signs that it asks, says it
 abbrev pub WrittenLinesSayTheirItem : Type 0

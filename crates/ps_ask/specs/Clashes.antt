@@ -29,7 +29,8 @@ pub record IsStopped (limits : Limits) (p : Parts) (cause : Cause) : Type 0 wher
   pub events : List Event
   pub open_over : IsOpenOver limits p sentences cause events
 
--- what is found of the sentences that clash: such that can't be met together and are each needed for it, or what stopped the search
+-- what is found of the sentences that clash: such that can't be met together and are each needed for it, or what
+-- stopped the search
 abbrev pub IsFoundClash : Limits → Parts → Clash → Type 0
 IsFoundClash limits p (clash.Irreducible ns) = AreIrreducible p ns
 IsFoundClash limits p (clash.Open cause) = IsStopped limits p cause

@@ -23,4 +23,5 @@ HaveBoundsDecimals (query.Open cause) = Unit {0}
 
 -- each bound of an answer that is shown has decimals
 abbrev pub BoundsHaveDecimals : Type 0
-BoundsHaveDecimals = (limits : Limits) (p : Parts) (a : Answer) → IsSettledSolution limits p a → All (λ part. HaveBoundsDecimals part.answer) a.parts
+BoundsHaveDecimals = (limits : Limits) (p : Parts) (a : Answer) → IsSettledSolution limits p a
+    → All (λ part. HaveBoundsDecimals part.answer) a.parts

@@ -63,8 +63,8 @@ IsClashFor Words limits p v clash = IsClashAt limits p v clash
 IsClashFor Json limits p v clash = IsClashAt limits p v clash
 IsClashFor other limits p v clash = clash ≡ None
 
--- this goes with an answer to a problem: the digits of the settings, the name of the file, how much is open, the status, and sentences
--- that can't be met together and are each needed for it, where some clash and are shown
+-- this goes with an answer to a problem: the digits of the settings, the name of the file, how much is open, the
+-- status, and sentences that can't be met together and are each needed for it, where some clash and are shown
 pub record IsToldFor (s : Settings) (name : List ℕ) (p : Parts) (a : Answer) (t : Beside) : Type 0 where
   pub digits : t.digits ≡ s.digits
   pub file : t.file ≡ name
@@ -99,7 +99,8 @@ pub record IsSolvedBy (s : Settings) (name : List ℕ) (p : Parts) (o : Output) 
   pub told : IsToldFor s name p answer beside
   pub is : o ≡ answer_output s p answer beside
 
--- due for bytes under a name: an answer to the problem that they spell is shown; or nothing is, where they are no problem or too many
+-- due for bytes under a name: an answer to the problem that they spell is shown; or nothing is, where they are no
+-- problem or too many
 pub data IsDue (s : Settings) (name bytes : List ℕ) (o : Output) : Type 0 where
   Shown : (p : Parts) (spells : SpellsWhole bytes p) (solved : IsSolvedBy s name p o) → IsDue s name bytes o
   NoProblem : (kind : ReadKind) (at : Position) (unread : IsUnreadWhole bytes kind at) (is : o ≡ no_output) → IsDue s name bytes o
@@ -152,8 +153,10 @@ pub record HasWritten (left : Option (List ℕ)) (old new : Ends) (s : Settings)
   pub wrote : (bytes : List ℕ) → left ≡ Some bytes → Wrote s name bytes status old new
 
 -- what is written for the bytes of a source goes to two sinks
-abbrev pub Asked : {I O R : Type 0} → sources.Ghosts I → Ghosts O → Ghosts R → Settings → List ℕ → I → Sinks O R → Sinks O R → Status → Type 0
-Asked from shown report s name source old new status = HasWritten (from.left source) (told_by shown report old) (told_by shown report new) s name status
+abbrev pub Asked : {I O R : Type 0} → sources.Ghosts I → Ghosts O → Ghosts R → Settings → List ℕ → I → Sinks O R
+    → Sinks O R → Status → Type 0
+Asked from shown report s name source old new status =
+    HasWritten (from.left source) (told_by shown report old) (told_by shown report new) s name status
 
 -- a source's count of faults rises by one at a read fault, and else stays as it was
 abbrev pub CountsReads : ℕ → ℕ → Status → Type 0

@@ -6,7 +6,8 @@ use Rattle.ps_answer.specs.declared.answer.Verdict.TheVariants as answer
 use Rattle.ps_claims.specs.Claims.{unfinished_of}
 use Rattle.ps_valid.specs.Answers.{answer_of}
 use Rattle.ps_ask.specs.declared.status.Status.{Status}
-use Rattle.ps_ask.specs.declared.status.Status.TheVariants.{Done, Inconsistent, Unreadable, Unfinished, ReadFault, WriteFault, ReportFault, NoMemory}
+use Rattle.ps_ask.specs.declared.status.Status.TheVariants.{Done, Inconsistent, Unreadable, Unfinished}
+use Rattle.ps_ask.specs.declared.status.Status.TheVariants.{ReadFault, WriteFault, ReportFault, NoMemory}
 
 -- the number of a status, which is the exit code
 abbrev pub status_number : Status → ℕ

@@ -47,7 +47,8 @@ pub record OnlyTheTableMatters : Type 0 where
 pub record MultipliersPriceColumns : Type 0 where
   pub right_side : (n w : ℕ) (A X : ℕ → ℕ → Rational) (basic : ℕ → ℕ) → 0 < n → n < w → IsBasisTable n w A basic X
       → (i : ℕ) → i < n → X i 0 ≡ X i 1
-  pub value : (n w : ℕ) (A X : ℕ → ℕ → Rational) (basic : ℕ → ℕ) (cost : ℕ → Rational) → 0 < n → n < w → IsBasisTable n w A basic X
+  pub value : (n w : ℕ) (A X : ℕ → ℕ → Rational) (basic : ℕ → ℕ) (cost : ℕ → Rational) → 0 < n → n < w
+      → IsBasisTable n w A basic X
       → carried_by n cost basic X 0 ≡ carried_by n cost basic X 1
   pub columns : (n w : ℕ) (A X : ℕ → ℕ → Rational) (basic : ℕ → ℕ) (cost : ℕ → Rational) → IsBasisTable n w A basic X
       → (j : ℕ) → j < w → carried_by n cost basic X j ≡ sum_to n (λ m. mul (carried_by n cost basic X (suc m)) (A m j))

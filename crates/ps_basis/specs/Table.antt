@@ -1,4 +1,5 @@
--- The table of a basis, as a function of row and column. Column 0 is the right side, columns 1 to n are the homes of the n rows, and the columns of worlds follow.
+-- The table of a basis, as a function of row and column. Column 0 is the right side, columns 1 to n are the homes of
+-- the n rows, and the columns of worlds follow.
 use Rattle.std.specs.Prelude.{◌≡◌, ◌≢◌, ℕ, suc, ◌-◌, ◌<◌, ◌≤◌, cond}
 use Rattle.std.proofs.Common.{eqb}
 use Rattle.ps_rational.specs.Rational.{Rational, mul, sub, div, zero_q, one_q}

@@ -18,7 +18,8 @@ use Rattle.ps_bland.specs.Ends.{RatiosDecide, IsDueWide}
 
 -- a place is due, with its operands: of what a slack or a world carries, where no column before it improves; and, while a
 -- pivot is left, of the ratios of the column that enters, where they decide, and of the pivot by the rule
-pub data DuePlace (phase : Phase) (t : SimplexTable) (worlds left : ℕ) (cost : ℕ → Rational) : Place → Op → Rational → Rational → Type 0 where
+pub data DuePlace (phase : Phase) (t : SimplexTable) (worlds left : ℕ) (cost : ℕ → Rational) : Place → Op → Rational
+    → Rational → Type 0 where
   of_cost : (c : Col) (place : Place) (op : Op) (l r : Rational) → (IsDueToEnd phase t → ⊥) → IsInside t.rows worlds c
       → t.artificial (number_in t.rows c) ≡ false → ((j : ℕ) → j < number_in t.rows c → Improves t cost j → ⊥)
       → CostPlace t.rows cost t.basic t.entry c place op l r → DuePlace phase t worlds left cost place op l r

@@ -24,7 +24,8 @@ pub record HasUnitRow (costs : Costs) (t : Tableau) : Type 0 where
   pub columns : ℕ → ℕ → Rational
   pub belongs : BelongsTo columns t
   pub row : (j : ℕ) → 0 < j → j < width_of t → IsNonneg (columns 0 j)
-  pub cost : (j : ℕ) → 0 < j → j < width_of t → (cost_at costs j ≡ zero_q) ⊎ ((cost_at costs j ≡ neg one_q) × (columns 0 j ≡ one_q))
+  pub cost : (j : ℕ) → 0 < j → j < width_of t
+      → (cost_at costs j ≡ zero_q) ⊎ ((cost_at costs j ≡ neg one_q) × (columns 0 j ≡ one_q))
 
 -- what a phase asks of the costs and the table
 abbrev pub FitsPhase : Phase → Costs → Tableau → Type 0
@@ -68,7 +69,8 @@ IsPosed Upper costs t = IsFeasible (simplex_of t) × HasWorldCosts (neg one_q) c
 -- ---- the laws
 -- a table without values below 0 is ready for a phase with the costs that the phase is for
 abbrev pub PosedTablesAreReady : Type 0
-PosedTablesAreReady = (phase : Phase) (costs : Costs) (t : Tableau) → HasCosts costs t → HasNoNegativeValue t → IsPosed phase costs t → IsReady phase costs t
+PosedTablesAreReady = (phase : Phase) (costs : Costs) (t : Tableau) → HasCosts costs t → HasNoNegativeValue t
+    → IsPosed phase costs t → IsReady phase costs t
 
 -- a world that is added makes no value fall below 0
 abbrev pub ValuesStay : Type 0
@@ -76,4 +78,5 @@ ValuesStay = (entries : List ℤ) (old new : Tableau) → IsAdded entries old ne
 
 -- a world that is added leaves each basic artificial's value at 0 where all of them are 0
 abbrev pub FeasibilityStays : Type 0
-FeasibilityStays = (entries : List ℤ) (old new : Tableau) → IsAdded entries old new → IsFeasible (simplex_of old) → IsFeasible (simplex_of new)
+FeasibilityStays = (entries : List ℤ) (old new : Tableau) → IsAdded entries old new → IsFeasible (simplex_of old)
+    → IsFeasible (simplex_of new)

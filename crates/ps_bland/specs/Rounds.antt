@@ -1,7 +1,8 @@
 -- What the code has looked at so far, and what one round does.
 use Rattle.std.specs.Prelude.{◌≡◌, ◌≢◌, ℕ, suc, ◌+◌, ◌<◌, true, false, List, [], ◌∷◌, ◌++◌, Option, Some, None, Result, Ok, Err}
 use Rattle.ps_rational.specs.Rational.{Rational, zero_q}
-use Rattle.ps_rule.specs.Rule.{Improves, Enters, IsRising, IsArtificialRow, HasNoArtificialRow, IsLeastArtificialRow, ratio, GoesBefore, Precedes, HasLeastRatio, Leaves}
+use Rattle.ps_rule.specs.Rule.{Improves, Enters, IsRising, IsArtificialRow, HasNoArtificialRow, IsLeastArtificialRow}
+use Rattle.ps_rule.specs.Rule.{ratio, GoesBefore, Precedes, HasLeastRatio, Leaves}
 use Rattle.ps_pool.specs.declared.col.Col.{Col}
 use Rattle.ps_table.specs.declared.costs.Costs.{Costs}
 use Rattle.ps_table.specs.declared.place.WideAt.{WideAt}
@@ -128,7 +129,8 @@ AreCarriedNarrow costs t = (w : WideAt) → ¬ IsCarriedWide costs t w
 
 -- no sum is too wide for a slack or a world before number m
 abbrev pub AreNarrowBefore : Costs → Tableau → ℕ → Type 0
-AreNarrowBefore costs t m = (c : Col) → HasColumn t c → is_artificial_column t c ≡ false → number_of t c < m → IsNarrow (CostPlaces t costs c)
+AreNarrowBefore costs t m = (c : Col) → HasColumn t c → is_artificial_column t c ≡ false → number_of t c < m
+    → IsNarrow (CostPlaces t costs c)
 
 -- no sum is too wide up to the entering column, or before number n where none was found
 abbrev pub AreNarrowTo : Costs → Tableau → ℕ → Option Col → Type 0

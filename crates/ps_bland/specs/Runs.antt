@@ -34,7 +34,8 @@ system_of kinds A = record { rows = length kinds; artificial = artificial_at kin
 -- for all columns that the table stands for, the events are lawful pivots of its system
 abbrev pub ArePivots : Phase → Costs → Tableau → List Event → Tableau → Type 0
 ArePivots phase costs s events t = (A : ℕ → ℕ → Rational) → IsTableFor A s
-    → IsTableFor A t × Pivots phase (system_of s.kinds A) (cost_at costs) (width_of s) (basic_at s) (pivots_of (rows_of s) events) (basic_at t)
+    → IsTableFor A t × Pivots phase (system_of s.kinds A) (cost_at costs) (width_of s) (basic_at s)
+    (pivots_of (rows_of s) events) (basic_at t)
 
 -- pivots were made, appended to the trace and counted
 pub record Ran (phase : Phase) (costs : Costs) (old new : Tableau) (trace longer : List Event) (had left : ℕ) : Type 0 where

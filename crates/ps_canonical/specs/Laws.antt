@@ -7,4 +7,5 @@ use Rattle.ps_problem.specs.Written.{items_from}
 
 -- problems whose canonical texts are equal are equal
 abbrev pub EqualTextsAreOfEqualProblems : Type 0
-EqualTextsAreOfEqualProblems = (p q : Parts) → IsProblem p → IsProblem q → canonical_text (items_from p) ≡ canonical_text (items_from q) → p ≡ q
+EqualTextsAreOfEqualProblems = (p q : Parts) → IsProblem p → IsProblem q
+    → canonical_text (items_from p) ≡ canonical_text (items_from q) → p ≡ q

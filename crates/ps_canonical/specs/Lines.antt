@@ -2,7 +2,9 @@
 use Rattle.std.specs.Prelude.{◌≡◌, ℕ, List, [], ◌∷◌, ◌++◌, Option, option_map}
 use Rattle.ps_meaning.specs.Statements.{Stated, Asked}
 use Rattle.ps_text.specs.Tokens.{numeral_spelling}
-use Rattle.ps_text.specs.Canonical.{canonical_formula, canonical_given, canonical_numeral, canonical_relation, canonical_prob, canonical_item, syntax_text, given_text, prob_text, relation_text, item_text}
+use Rattle.ps_text.specs.Canonical.{canonical_formula, canonical_given, canonical_numeral, canonical_relation}
+use Rattle.ps_text.specs.Canonical.{canonical_prob, canonical_item, syntax_text, given_text}
+use Rattle.ps_text.specs.Canonical.{prob_text, relation_text, item_text}
 use Rattle.ps_problem.specs.declared.bound.Bound.{Bound}
 use Rattle.ps_problem.specs.declared.sentence.Sentence.{Sentence}
 use Rattle.ps_problem.specs.declared.query.Query.{Query}

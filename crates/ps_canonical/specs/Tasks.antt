@@ -1,5 +1,6 @@
 -- What is still to be written of a formula: the tasks on a stack, the last one first.
-use Rattle.std.specs.Prelude.{◌≡◌, ℕ, ◌+◌, ◌<◌, ◌≤◌, Bool, List, [], ◌∷◌, ◌++◌, All, Result, OnOk, length, codes, nat_lt, if◌then◌else◌}
+use Rattle.std.specs.Prelude.{◌≡◌, ℕ, ◌+◌, ◌<◌, ◌≤◌, Bool, List, [], ◌∷◌}
+use Rattle.std.specs.Prelude.{◌++◌, All, Result, OnOk, length, codes, nat_lt, if◌then◌else◌}
 use Rattle.ps_meaning.specs.Formula as formula
 use Rattle.ps_meaning.specs.Statements.{Name}
 use Rattle.ps_text.specs.Grammar.{And, Or, Implies, Iff}

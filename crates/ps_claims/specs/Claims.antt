@@ -1,5 +1,6 @@
 -- The claims of an answer, in the order of a report, and the first fault among them.
-use Rattle.std.specs.Prelude.{◌≡◌, ◌≢◌, ◌≤◌, ◌+◌, ◌⊎◌, ℕ, suc, pos, ◌≤ℤ◌, Option, Some, None, List, [], ◌∷◌, ◌++◌, length, map, sum, take, slice_get, All, AllPairs, Any, IfSome, IsSomeAnd}
+use Rattle.std.specs.Prelude.{◌≡◌, ◌≢◌, ◌≤◌, ◌+◌, ◌⊎◌, ℕ, suc, pos, ◌≤ℤ◌, Option, Some, None, List}
+use Rattle.std.specs.Prelude.{[], ◌∷◌, ◌++◌, length, map, sum, take, slice_get, All, AllPairs, Any, IfSome, IsSomeAnd}
 use Rattle.ps_meaning.specs.Distribution.{Entry, weight, total}
 use Rattle.ps_meaning.specs.declared.side.Side.TheVariants.{Exactly}
 use Rattle.ps_meaning.specs.Bounds.{Bound, MeetsBound, MeetsAll}
@@ -7,12 +8,15 @@ use Rattle.ps_problem.specs.declared.query.Query as stored
 use Rattle.ps_problem.specs.Problems.{Parts, bounds_of, given_at}
 use Rattle.ps_rational.specs.Rational.{Rational}
 use Rattle.ps_entailment.specs.Queries.{bound_on}
-use Rattle.ps_entailment.specs.Answers.{Model, Verdict, Consistent, Inconsistent, OpenVerdict, SideAnswer, Value, OpenSide, QueryAnswer, Interval, Impossible, OpenQuery, Answer, ShowsConsistent, asked_under}
+use Rattle.ps_entailment.specs.Answers.{Model, Verdict, Consistent, Inconsistent, OpenVerdict}
+use Rattle.ps_entailment.specs.Answers.{SideAnswer, Value, OpenSide, QueryAnswer, Interval}
+use Rattle.ps_entailment.specs.Answers.{Impossible, OpenQuery, Answer, ShowsConsistent, asked_under}
 use Rattle.ps_claims.specs.declared.claim.Claim.{Claim}
 use Rattle.ps_claims.specs.declared.claim.Claim.TheVariants as claim
 use Rattle.ps_claims.specs.declared.claim.Claim.TheVariants.{Report}
 use Rattle.ps_claims.specs.declared.reason.Reason.{Reason}
-use Rattle.ps_claims.specs.declared.reason.Reason.TheVariants.{WrongShape, TooManyWorlds, WeightZero, WorldTwice, TotalWrong, BoundMissed, EvidenceZero, ValueMissed}
+use Rattle.ps_claims.specs.declared.reason.Reason.TheVariants.{WrongShape, TooManyWorlds, WeightZero, WorldTwice}
+use Rattle.ps_claims.specs.declared.reason.Reason.TheVariants.{TotalWrong, BoundMissed, EvidenceZero, ValueMissed}
 use Rattle.ps_claims.specs.Duals.{Dual, ClaimKind, Nothing, Lower, Upper}
 use Rattle.ps_claims.specs.Faults.{IsFirstFault}
 use Rattle.ps_claims.specs.Validity.{query_of, ShowsNothing, ShowsTight}
@@ -116,7 +120,8 @@ IsWeightless d n = (i : ℕ) × (n ≡ i + 1) × AreProperEntries (take i d) × 
 
 -- the entry of this number, from 1, is the first at fault: it has a weight, and its world stood before
 abbrev pub IsRepeated : List Entry → ℕ → Type 0
-IsRepeated d n = (i : ℕ) × (n ≡ i + 1) × AreProperEntries (take i d) × IsSomeAnd (slice_get d i) (λ e. (e.weight ≢ pos 0) × Any (λ x. x.world ≡ e.world) (take i d))
+IsRepeated d n = (i : ℕ) × (n ≡ i + 1) × AreProperEntries (take i d)
+    × IsSomeAnd (slice_get d i) (λ e. (e.weight ≢ pos 0) × Any (λ x. x.world ≡ e.world) (take i d))
 
 -- the item of this number, from 1, is the first that hasn't the property
 abbrev pub IsFirstWithout : {X : Type 0} → (X → Type 0) → List X → ℕ → Type 0
@@ -178,14 +183,20 @@ IsFirstIn p c TooManyWorlds = HasShape p c × OfModel c (λ m. ¬ AreFew p m)
 IsFirstIn p c (WeightZero n) = HasShape p c × OfModel c (λ m. AreFew p m × IsWeightless m.worlds n)
 IsFirstIn p c (WorldTwice n) = HasShape p c × OfModel c (λ m. AreFew p m × IsRepeated m.worlds n)
 IsFirstIn p c TotalWrong = HasShape p c × OfModel c (λ m. AreFew p m × AreProperEntries m.worlds × ¬ HasTotal m)
-IsFirstIn p c (BoundMissed n) = HasShape p c × OfModel c (λ m. AreFew p m × AreProperEntries m.worlds × HasTotal m × MissesFirst (bounds_of p) m.worlds n)
-IsFirstIn p c EvidenceZero = HasShape p c × OfModel c (λ m. AreFew p m × AreProperEntries m.worlds × HasTotal m × MeetsAll (bounds_of p) m.worlds) × ¬ HasEvidence p c
-IsFirstIn p c ValueMissed = HasShape p c × OfModel c (λ m. AreFew p m × AreProperEntries m.worlds × HasTotal m × MeetsAll (bounds_of p) m.worlds) × HasEvidence p c × ¬ HasValue p c
+IsFirstIn p c (BoundMissed n) = HasShape p c
+    × OfModel c (λ m. AreFew p m × AreProperEntries m.worlds × HasTotal m × MissesFirst (bounds_of p) m.worlds n)
+IsFirstIn p c EvidenceZero = HasShape p c
+    × OfModel c (λ m. AreFew p m × AreProperEntries m.worlds × HasTotal m × MeetsAll (bounds_of p) m.worlds)
+    × ¬ HasEvidence p c
+IsFirstIn p c ValueMissed = HasShape p c
+    × OfModel c (λ m. AreFew p m × AreProperEntries m.worlds × HasTotal m × MeetsAll (bounds_of p) m.worlds)
+    × HasEvidence p c × ¬ HasValue p c
 IsFirstIn p c r = IsModelRight p c × IsDualWrong p c r
 
 -- this claim is the first that isn't valid, and the reason is the first against it
 abbrev pub IsFirstAt : Parts → Answer Dual → Claim → Reason → Type 0
-IsFirstAt p a claim r = HasParts p a × ((i : ℕ) × AreValid p (take i (claims_of p a)) × IsSomeAnd (slice_get (claims_of p a) i) (λ c. (c.0 ≡ claim) × IsFirstIn p c.1 r))
+IsFirstAt p a claim r = HasParts p a × ((i : ℕ) × AreValid p (take i (claims_of p a))
+    × IsSomeAnd (slice_get (claims_of p a) i) (λ c. (c.0 ≡ claim) × IsFirstIn p c.1 r))
 
 -- the answer is refused for this reason against this claim: it hasn't its parts, or a claim isn't valid
 abbrev pub IsRefused : Parts → Answer Dual → Claim → Reason → Type 0

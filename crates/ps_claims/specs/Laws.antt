@@ -13,7 +13,8 @@ use Rattle.ps_entailment.specs.Queries.{Query, IsImpossible, Holds}
 use Rattle.ps_entailment.specs.Answers.{Answer}
 use Rattle.ps_claims.specs.declared.claim.Claim.{Claim}
 use Rattle.ps_claims.specs.declared.reason.Reason.{Reason}
-use Rattle.ps_claims.specs.Duals.{Dual, ClaimKind, Nothing, Lower, Upper, HaveSigns, kept_of, AreZeroElsewhere, combination, IsNeverAbove, HasNothingHead, HasValueHead}
+use Rattle.ps_claims.specs.Duals.{Dual, ClaimKind, Nothing, Lower, Upper, HaveSigns}
+use Rattle.ps_claims.specs.Duals.{kept_of, AreZeroElsewhere, combination, IsNeverAbove, HasNothingHead, HasValueHead}
 use Rattle.ps_claims.specs.Goals.{Combination, value_under, size_of, combination_of, goal_of}
 use Rattle.ps_claims.specs.Limits.{most_combination}
 use Rattle.ps_claims.specs.Faults.{IsFaultless, IsFirstFault}
@@ -27,27 +28,33 @@ DualsExcludeAll = (atoms : ℕ) (bounds : List Bound) (q : Query) (d : Dual) →
 
 -- it shows so of the bounds that are kept, where each is whose multiplier isn't 0
 abbrev pub KeptBoundsExcludeAll : Type 0
-KeptBoundsExcludeAll = (atoms : ℕ) (kept : List Bool) (bounds : List Bound) (q : Query) (d : Dual) → HaveSigns bounds d.rows → AreZeroElsewhere kept d.rows
+KeptBoundsExcludeAll = (atoms : ℕ) (kept : List Bool) (bounds : List Bound) (q : Query) (d : Dual)
+    → HaveSigns bounds d.rows → AreZeroElsewhere kept d.rows
     → HasNothingHead d → IsNeverAbove atoms (combination Nothing bounds q d) → IsImpossible atoms (kept_of kept bounds) q.evidence
 
 -- a dual whose head over its top is the value shows that the query's probability is at least the value
 abbrev pub DualsBoundBelow : Type 0
-DualsBoundBelow = (atoms : ℕ) (bounds : List Bound) (q : Query) (value : Rational) (d : Dual) → HaveSigns bounds d.rows → HasValueHead value d
+DualsBoundBelow = (atoms : ℕ) (bounds : List Bound) (q : Query) (value : Rational) (d : Dual)
+    → HaveSigns bounds d.rows → HasValueHead value d
     → IsNeverAbove atoms (combination Lower bounds q d) → Holds atoms bounds q AtLeast value
 
 -- a dual whose head over its top is the value shows that the query's probability is at most the value
 abbrev pub DualsBoundAbove : Type 0
-DualsBoundAbove = (atoms : ℕ) (bounds : List Bound) (q : Query) (value : Rational) (d : Dual) → HaveSigns bounds d.rows → HasValueHead value d
+DualsBoundAbove = (atoms : ℕ) (bounds : List Bound) (q : Query) (value : Rational) (d : Dual)
+    → HaveSigns bounds d.rows → HasValueHead value d
     → IsNeverAbove atoms (combination Upper bounds q d) → Holds atoms bounds q AtMost value
 
 -- a combination over nodes has at a world's extension the value of the combination in the world
 abbrev pub CombinationsAreSums : Type 0
-CombinationsAreSums = (p : Parts) (kind : ClaimKind) (q : stored.Query) (d : Dual) (w : World) → AreParts p → HasNodes p.nodes q.formula q.given q.both
-    → value_under (extension p.nodes w) (combination_of kind q.given q.both (bounds_in p.sentences) d) ≡ combination kind (bounds_of p) (query_of p.nodes q) d w
+CombinationsAreSums = (p : Parts) (kind : ClaimKind) (q : stored.Query) (d : Dual) (w : World) → AreParts p
+    → HasNodes p.nodes q.formula q.given q.both
+    → value_under (extension p.nodes w) (combination_of kind q.given q.both (bounds_in p.sentences) d)
+    ≡ combination kind (bounds_of p) (query_of p.nodes q) d w
 
 -- by a dual of numbers that can be printed, the sizes in a combination sum to at most that
 abbrev pub CombinationsAreSmall : Type 0
-CombinationsAreSmall = (p : Parts) (kind : ClaimKind) (given : Option ℕ) (both : ℕ) (d : Dual) → AreParts p → All (λ y. unsigned_abs y ≤ PRINTED_LIMIT) d.rows
+CombinationsAreSmall = (p : Parts) (kind : ClaimKind) (given : Option ℕ) (both : ℕ) (d : Dual) → AreParts p
+    → All (λ y. unsigned_abs y ≤ PRINTED_LIMIT) d.rows
     → unsigned_abs d.head ≤ PRINTED_LIMIT → unsigned_abs d.top ≤ PRINTED_LIMIT
     → size_of (combination_of kind given both (bounds_in p.sentences) d) ≤ most_combination
 
@@ -57,22 +64,26 @@ GoalsSayAtLeastOne = (v : List Bool) (c : Combination) → IsMet v (goal_of c) �
 
 -- where steps refute the goal of a combination, the combination is above 0 in no world
 abbrev pub RefutedGoalsBoundCombinations : Type 0
-RefutedGoalsBoundCombinations = (p : Parts) (kind : ClaimKind) (q : stored.Query) (d : Dual) → AreParts p → HasNodes p.nodes q.formula q.given q.both
+RefutedGoalsBoundCombinations = (p : Parts) (kind : ClaimKind) (q : stored.Query) (d : Dual) → AreParts p
+    → HasNodes p.nodes q.formula q.given q.both
     → IsRefuted p kind q.given q.both d → IsNeverAbove (length p.names) (combination kind (bounds_of p) (query_of p.nodes q) d)
 
 -- nothing is wrong with a dual that has a multiplier for each bound, or there is a first fault
 abbrev pub DualsAreFaultlessOrFaulty : Type 0
-DualsAreFaultlessOrFaulty = (p : Parts) (kind : ClaimKind) (given : Option ℕ) (both : ℕ) (value : Option Rational) (d : Dual) → length d.rows ≡ length (bounds_of p)
+DualsAreFaultlessOrFaulty = (p : Parts) (kind : ClaimKind) (given : Option ℕ) (both : ℕ) (value : Option Rational)
+    (d : Dual) → length d.rows ≡ length (bounds_of p)
     → IsFaultless p kind given both value d ⊎ ((r : Reason) × IsFirstFault p kind given both value d r)
 
 -- a faultless dual has no first fault
 abbrev pub FaultlessDualsHaveNoFault : Type 0
-FaultlessDualsHaveNoFault = (p : Parts) (kind : ClaimKind) (given : Option ℕ) (both : ℕ) (value : Option Rational) (d : Dual) (r : Reason)
+FaultlessDualsHaveNoFault = (p : Parts) (kind : ClaimKind) (given : Option ℕ) (both : ℕ) (value : Option Rational)
+    (d : Dual) (r : Reason)
     → IsFaultless p kind given both value d → ¬ IsFirstFault p kind given both value d r
 
 -- head over top is a value exactly where their quotient is
 abbrev pub HeadsAreQuotients : Type 0
-HeadsAreQuotients = (value : Rational) (head : ℤ) (top : ℕ) → 0 < top → ((head *ℤ pos value.under) ≡ (value.over *ℤ pos top)) ↔ (fraction head top ≡ value)
+HeadsAreQuotients = (value : Rational) (head : ℤ) (top : ℕ) → 0 < top
+    → ((head *ℤ pos value.under) ≡ (value.over *ℤ pos top)) ↔ (fraction head top ≡ value)
 
 -- valid answers are right
 abbrev pub ValidAnswersAreRight : Type 0
@@ -84,7 +95,8 @@ ValidAnswersHaveValidClaims = (p : Parts) (a : Answer Dual) → IsValid p a ↔ 
 
 -- an answer in which no weight is below 0 is valid or refused
 abbrev pub AnswersAreValidOrRefused : Type 0
-AnswersAreValidOrRefused = (p : Parts) (a : Answer Dual) → HaveWeightsNotBelow0 (claims_of p a) → IsValid p a ⊎ ((claim : Claim) × (r : Reason) × IsRefused p a claim r)
+AnswersAreValidOrRefused = (p : Parts) (a : Answer Dual) → HaveWeightsNotBelow0 (claims_of p a)
+    → IsValid p a ⊎ ((claim : Claim) × (r : Reason) × IsRefused p a claim r)
 
 -- a valid answer is refused for no reason
 abbrev pub ValidAnswersAreNotRefused : Type 0

@@ -8,7 +8,9 @@ use Rattle.ps_rational.specs.Rational.{Rational}
 use Rattle.ps_steps.specs.Steps.{Refutes}
 use Rattle.ps_forms.specs.Forms.{form_of, first_known}
 use Rattle.ps_entailment.specs.Queries.{Query, Reaches}
-use Rattle.ps_entailment.specs.Answers.{Model, Verdict, Consistent, Inconsistent, OpenVerdict, SideAnswer, Value, OpenSide, QueryAnswer, Interval, Impossible, OpenQuery, Answer, IsBasicModel, ShowsConsistent, asked_under, IsRight}
+use Rattle.ps_entailment.specs.Answers.{Model, Verdict, Consistent, Inconsistent, OpenVerdict, SideAnswer}
+use Rattle.ps_entailment.specs.Answers.{Value, OpenSide, QueryAnswer, Interval, Impossible, OpenQuery}
+use Rattle.ps_entailment.specs.Answers.{Answer, IsBasicModel, ShowsConsistent, asked_under, IsRight}
 use Rattle.ps_claims.specs.Duals.{Dual, ClaimKind, Nothing, Lower, Upper, HaveSigns, HasNothingHead, HasValueHead}
 use Rattle.ps_claims.specs.Goals.{combination_of, goal_of}
 
@@ -19,7 +21,8 @@ query_of ns q = record { formula = tree_at ns q.formula; evidence = given_at ns 
 -- no multiplier is of the wrong sign, and the steps refute, with the clause form, that the combination is at least 1
 pub record IsRefuted (p : Parts) (kind : ClaimKind) (given : Option ℕ) (both : ℕ) (d : Dual) : Type 0 where
   pub signs : HaveSigns (bounds_of p) d.rows
-  pub steps : Refutes (length p.nodes) (first_known (form_of p.nodes) (goal_of (combination_of kind given both (bounds_in p.sentences) d))) d.steps
+  pub steps : Refutes (length p.nodes) (first_known (form_of p.nodes)
+      (goal_of (combination_of kind given both (bounds_in p.sentences) d))) d.steps
 
 -- a dual that shows that no distribution gives the evidence positive probability
 pub record ShowsNothing (p : Parts) (given : Option ℕ) (d : Dual) : Type 0 where

@@ -17,20 +17,23 @@ ReducedCostsCombine = (n w : ℕ) (A X Y : ℕ → ℕ → Rational) (cost : ℕ
 
 -- lawful pivots from a table at which a phase may start meet no basis twice
 abbrev pub PivotsMeetNoBasisTwice : Type 0
-PivotsMeetNoBasisTwice = (phase : Phase) (s : System) (cost : ℕ → Rational) (w : ℕ) (a : ℕ → ℕ) (X : ℕ → ℕ → Rational) (pivots : List Pivot)
+PivotsMeetNoBasisTwice = (phase : Phase) (s : System) (cost : ℕ → Rational) (w : ℕ) (a : ℕ → ℕ) (X : ℕ → ℕ → Rational)
+    (pivots : List Pivot)
     → s.rows < w → IsBasis s.rows w a → IsBasisTable s.rows w s.columns a X → IsStart phase (simplex_table s w a X)
     → NoBasisTwice phase s cost w a pivots
 
 -- lawful pivots from such a table of m columns beside the right side are fewer than the ways to choose a basis
 abbrev pub PivotsAreFew : Type 0
-PivotsAreFew = (phase : Phase) (s : System) (cost : ℕ → Rational) (m : ℕ) (a b : ℕ → ℕ) (X : ℕ → ℕ → Rational) (pivots : List Pivot)
+PivotsAreFew = (phase : Phase) (s : System) (cost : ℕ → Rational) (m : ℕ) (a b : ℕ → ℕ) (X : ℕ → ℕ → Rational)
+    (pivots : List Pivot)
     → s.rows < suc m → IsBasis s.rows (suc m) a → ((i : ℕ) → i < s.rows → 0 < a i) → IsBasisTable s.rows (suc m) s.columns a X
     → IsStart phase (simplex_table s (suc m) a X) → Pivots phase s cost (suc m) a pivots b
     → length pivots < choose m s.rows
 
 -- different worlds of a atoms are 2 ^ a at most
 abbrev pub WorldsAreFew : Type 0
-WorldsAreFew = (a : ℕ) (pool : List (List Bool)) → AllPairs (λ u v. u ≢ v) pool → All (λ w. length w ≡ a) pool → length pool ≤ 2 ^ a
+WorldsAreFew = (a : ℕ) (pool : List (List Bool)) → AllPairs (λ u v. u ≢ v) pool → All (λ w. length w ≡ a) pool
+    → length pool ≤ 2 ^ a
 
 -- there are no fewer ways to choose of more things, and those of one thing more are with that thing or without it
 pub record WaysGrow : Type 0 where

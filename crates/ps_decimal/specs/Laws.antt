@@ -5,4 +5,5 @@ use Rattle.ps_decimal.specs.Decimals.{HasDecimals, IsRoundedDown, IsRoundedUp, r
 
 -- a fraction lies between its decimals, and they are the nearest ones of their digits
 abbrev pub DecimalsContainTheirFraction : Type 0
-DecimalsContainTheirFraction = (x : Rational) (digits : ℕ) → HasDecimals x → IsRoundedDown x (rounded_down x digits) × IsRoundedUp x (rounded_up x digits)
+DecimalsContainTheirFraction = (x : Rational) (digits : ℕ) → HasDecimals x
+    → IsRoundedDown x (rounded_down x digits) × IsRoundedUp x (rounded_up x digits)

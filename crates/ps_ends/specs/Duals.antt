@@ -24,4 +24,7 @@ AreSigned bounds P rows = (ns : List Node) → rows ≡ signed (map (bound_of ns
 -- the dual has the numbers of the dual of a table over these bounds, whatever the nodes and the query
 abbrev pub IsTableDual : ClaimKind → List Bound → Tableau → Costs → Dual → Type 0
 IsTableDual kind bounds t costs d = (ns : List Node) (q : Query)
-    → HaveSameNumbers (dual_of d) (table_dual kind (record { bounds = map (bound_of ns) bounds; query = q }) (simplex_of t) (cost_at costs))
+    → HaveSameNumbers (dual_of d) (table_dual kind (record {
+      bounds = map (bound_of ns) bounds;
+      query = q;
+    }) (simplex_of t) (cost_at costs))

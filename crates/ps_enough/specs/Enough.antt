@@ -59,4 +59,5 @@ pub record HasNoPivotsCause (a : Answer) : Type 0 where
 -- ---- the law
 -- with such a limit no part of a lawful answer is open for pivots
 abbrev pub LimitsAreEnough : Type 0
-LimitsAreEnough = (p : Parts) (pivots conflicts : ℕ) (a : Answer) → IsEnough (sentences_of p) pivots → IsLawfulAnswer p pivots conflicts a → HasNoPivotsCause a
+LimitsAreEnough = (p : Parts) (pivots conflicts : ℕ) (a : Answer) → IsEnough (sentences_of p) pivots
+    → IsLawfulAnswer p pivots conflicts a → HasNoPivotsCause a

@@ -65,7 +65,8 @@ IsRightSide atoms bounds q side OpenSide = Unit {0}
 
 -- a part is right: both of its sides are, or the query's evidence is impossible; an open one claims nothing
 abbrev pub IsRightPart : {C : Type 0} → ℕ → List Bound → Query → QueryAnswer C → Type 0
-IsRightPart atoms bounds q (Interval lower upper) = IsRightSide atoms bounds q AtLeast lower × IsRightSide atoms bounds q AtMost upper
+IsRightPart atoms bounds q (Interval lower upper) =
+    IsRightSide atoms bounds q AtLeast lower × IsRightSide atoms bounds q AtMost upper
 IsRightPart atoms bounds q (Impossible c) = IsImpossible atoms bounds q.evidence
 IsRightPart atoms bounds q OpenQuery = Unit {0}
 

@@ -10,7 +10,8 @@ use Rattle.ps_lex.specs.declared.token.Token.TheVariants as token
 use Rattle.ps_lex.specs.Seen.{seen}
 use Rattle.ps_expect.specs.declared.state.State.{State}
 
--- digits that are worth this value, and are one digit exactly if the count is 1: the last one is worth all of it, however much that is
+-- digits that are worth this value, and are one digit exactly if the count is 1: the last one is worth all of it,
+-- however much that is
 unfoldable pub figures : ℕ → ℕ → List ℕ
 figures count value = if count == 1 then (48 + value) ∷ [] else 48 ∷ (48 + value) ∷ []
 

@@ -1,5 +1,6 @@
 -- What each step to an explanation finds.
-use Rattle.std.specs.Prelude.{◌≡◌, ◌<◌, ℕ, Bool, true, false, Option, Some, None, List, get_or, take, ◌+◌, length, All, Result, Ok, Err}
+use Rattle.std.specs.Prelude.{◌≡◌, ◌<◌, ℕ, Bool, true, false, Option, Some, None}
+use Rattle.std.specs.Prelude.{List, get_or, take, ◌+◌, length, All, Result, Ok, Err}
 use Rattle.std.specs.List.{AllZip}
 use Rattle.ps_meaning.specs.Distribution.{Entry}
 use Rattle.ps_meaning.specs.Bounds.{IsModelOf}

@@ -28,11 +28,15 @@ meaning_of x node.True = (positive x ∷ []) ∷ []
 meaning_of x node.False = (negative x ∷ []) ∷ []
 meaning_of x (node.Atom n) = []
 meaning_of x (node.Not a) = (positive x ∷ positive a ∷ []) ∷ (negative x ∷ negative a ∷ []) ∷ []
-meaning_of x (node.And a b) = (negative x ∷ positive a ∷ []) ∷ (negative x ∷ positive b ∷ []) ∷ (positive x ∷ negative a ∷ negative b ∷ []) ∷ []
-meaning_of x (node.Or a b) = (positive x ∷ negative a ∷ []) ∷ (positive x ∷ negative b ∷ []) ∷ (negative x ∷ positive a ∷ positive b ∷ []) ∷ []
-meaning_of x (node.Implies a b) = (positive x ∷ positive a ∷ []) ∷ (positive x ∷ negative b ∷ []) ∷ (negative x ∷ negative a ∷ positive b ∷ []) ∷ []
+meaning_of x (node.And a b) = (negative x ∷ positive a ∷ []) ∷ (negative x ∷ positive b ∷ [])
+    ∷ (positive x ∷ negative a ∷ negative b ∷ []) ∷ []
+meaning_of x (node.Or a b) = (positive x ∷ negative a ∷ []) ∷ (positive x ∷ negative b ∷ [])
+    ∷ (negative x ∷ positive a ∷ positive b ∷ []) ∷ []
+meaning_of x (node.Implies a b) = (positive x ∷ positive a ∷ []) ∷ (positive x ∷ negative b ∷ [])
+    ∷ (negative x ∷ negative a ∷ positive b ∷ []) ∷ []
 meaning_of x (node.Iff a b) =
-    (negative x ∷ negative a ∷ positive b ∷ []) ∷ (negative x ∷ positive a ∷ negative b ∷ []) ∷ (positive x ∷ positive a ∷ positive b ∷ []) ∷ (positive x ∷ negative a ∷ negative b ∷ []) ∷ []
+    (negative x ∷ negative a ∷ positive b ∷ []) ∷ (negative x ∷ positive a ∷ negative b ∷ [])
+    ∷ (positive x ∷ positive a ∷ positive b ∷ []) ∷ (positive x ∷ negative a ∷ negative b ∷ []) ∷ []
 
 -- each literal once, where it first stands
 abbrev pub once : Clause → Clause

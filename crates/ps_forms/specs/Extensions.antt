@@ -1,5 +1,6 @@
 -- Worlds and the full assignments of the nodes' variables.
-use Rattle.std.specs.Prelude.{ℕ, zero, suc, ◌<◌, ◌≡◌, ◌==◌, Bool, false, if◌then◌else◌, Some, List, [], ◌∷◌, ◌++◌, length, slice_index_or, Contains}
+use Rattle.std.specs.Prelude.{ℕ, zero, suc, ◌<◌, ◌≡◌, ◌==◌, Bool, false, if◌then◌else◌}
+use Rattle.std.specs.Prelude.{Some, List, [], ◌∷◌, ◌++◌, length, slice_index_or, Contains}
 use Rattle.ps_meaning.specs.Formula.{World}
 use Rattle.ps_formula.specs.declared.node.Node.{Node}
 use Rattle.ps_formula.specs.declared.node.Node.TheVariants as node
@@ -27,7 +28,8 @@ abbrev pub is_atom : ℕ → Node → Bool
 is_atom n (node.Atom m) = m == n
 is_atom n other = false
 
--- the value that an assignment gives the variable of an atom's node, among nodes that are numbered from here on; false where no node is this atom
+-- the value that an assignment gives the variable of an atom's node, among nodes that are numbered from here on;
+-- false where no node is this atom
 abbrev pub value_from : ℕ → List Node → List Bool → ℕ → Bool
 value_from i [] w n = false
 value_from i (m ∷ ms) w n = if is_atom n m then slice_index_or w i false else value_from (suc i) ms w n

@@ -1,5 +1,6 @@
 -- Forms: clauses over some variables, as constraints.
-use Rattle.std.specs.Prelude.{ℕ, zero, suc, ◌<◌, ◌≡◌, ℤ, Bool, true, false, not, ◌&&◌, nat_lt, Option, None, List, [], ◌∷◌, ◌++◌, length, map, slice_get, slice_index_or, All}
+use Rattle.std.specs.Prelude.{ℕ, zero, suc, ◌<◌, ◌≡◌, ℤ, Bool, true, false, not, ◌&&◌, nat_lt}
+use Rattle.std.specs.Prelude.{Option, None, List, [], ◌∷◌, ◌++◌, length, map, slice_get, slice_index_or, All}
 use Rattle.ps_formula.specs.declared.node.Node.{Node}
 use Rattle.ps_formula.specs.declared.node.Node.TheVariants as node
 use Rattle.ps_steps.specs.Assignments.{place, AreDifferent}

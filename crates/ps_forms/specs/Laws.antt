@@ -16,7 +16,8 @@ use Rattle.ps_forms.specs.Decided.{IsIdle, AtomsAreSet, AllAreSet, AtomsDecide}
 -- ---- what clauses mean
 -- an assignment and a world that agree on atoms: the one meets the clauses exactly where it is the extension of the other
 abbrev pub ClausesSayExtensions : Type 0
-ClausesSayExtensions = (ns : List Node) (w : List Bool) (world : World) → AreNodes ns → length w ≡ length ns → AgreeOnAtoms ns w world
+ClausesSayExtensions = (ns : List Node) (w : List Bool) (world : World) → AreNodes ns → length w ≡ length ns
+    → AgreeOnAtoms ns w world
     → (list_all (meets w) (clause_form ns) ≡ true) ↔ (w ≡ extension ns world)
 
 -- an assignment meets the clauses exactly where it is the extension of the world that its atoms' variables give
@@ -56,12 +57,14 @@ AllSetAreFull = (f : Form) (a : Assignment) → length a ≡ f.variables → All
 -- ---- worlds
 -- where the atoms' variables are set, they have the values of the atoms in the assignment's world
 abbrev pub WorldsHaveAtoms : Type 0
-WorldsHaveAtoms = (atoms : ℕ) (ns : List Node) (a : Assignment) → AreNodes ns → All (AtomBelow atoms) ns → AtomsAreSet (form_of ns) a
+WorldsHaveAtoms = (atoms : ℕ) (ns : List Node) (a : Assignment) → AreNodes ns → All (AtomBelow atoms) ns
+    → AtomsAreSet (form_of ns) a
     → HasAtoms ns a (world_of atoms ns (values_of a))
 
 -- the world of an extension is the world that was extended, where each atom has a node
 abbrev pub ExtendedComeBack : Type 0
-ExtendedComeBack = (ns : List Node) (world : World) → AreNodes ns → All (AtomBelow (length world)) ns → HasEachAtom (length world) ns
+ExtendedComeBack = (ns : List Node) (world : World) → AreNodes ns → All (AtomBelow (length world)) ns
+    → HasEachAtom (length world) ns
     → world_of (length world) ns (extension ns world) ≡ world
 
 -- ---- clauses of a form's variables
@@ -85,7 +88,8 @@ StartSaysBoth = (f : Form) (goal : Constraint) (w : List Bool) → AreMet w (fir
 
 -- what is known at first is of the form's variables where the form and the goal are
 abbrev pub StartIsWithin : Type 0
-StartIsWithin = (f : Form) (goal : Constraint) → AreInside f → IsWithin f.variables goal → AreWithin f.variables (first_known f goal)
+StartIsWithin = (f : Form) (goal : Constraint) → AreInside f → IsWithin f.variables goal
+    → AreWithin f.variables (first_known f goal)
 
 -- where nothing meets what follows from what is known at first, nothing that meets the form meets the goal
 abbrev pub UnmetRefutesGoal : Type 0

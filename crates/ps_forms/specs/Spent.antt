@@ -1,5 +1,6 @@
 -- Spent searches: lawful steps, as many as the limit, none of which says less than was known, after which one more is due.
-use Rattle.std.specs.Prelude.{ℕ, ◌<◌, ◌^◌, ◌≡◌, ℤ, neg_ℤ, true, false, Some, List, length, map, slice_get, unsigned_abs, All, Contains}
+use Rattle.std.specs.Prelude.{ℕ, ◌<◌, ◌^◌, ◌≡◌, ℤ, neg_ℤ, true, false}
+use Rattle.std.specs.Prelude.{Some, List, length, map, slice_get, unsigned_abs, All, Contains}
 use Rattle.ps_steps.specs.Constraints.{Constraint, HasTerm}
 use Rattle.ps_steps.specs.Steps.{Known, Step, lits_of, IsLawful, AreLawful, with_steps, is_contradiction}
 use Rattle.ps_forms.specs.Forms.{Form, is_atom_variable, clause_at, first_known}
@@ -14,8 +15,10 @@ pub record IncludesLits (lits others : List ℤ) : Type 0 where
 
 -- no step's literals include all literals of a clause of the form, or of an earlier step
 pub record AreNew (form : Form) (steps : List Step) : Type 0 where
-  pub clauses : (i : ℕ) (s : Step) (id : ℕ) (c : Constraint) → slice_get steps i ≡ Some s → clause_at form id ≡ Some c → ¬ IncludesTerms (lits_of s) c
-  pub earlier : (j i : ℕ) (r s : Step) → j < i → slice_get steps j ≡ Some r → slice_get steps i ≡ Some s → ¬ IncludesLits (lits_of s) (lits_of r)
+  pub clauses : (i : ℕ) (s : Step) (id : ℕ) (c : Constraint) → slice_get steps i ≡ Some s → clause_at form id ≡ Some c
+      → ¬ IncludesTerms (lits_of s) c
+  pub earlier : (j i : ℕ) (r s : Step) → j < i → slice_get steps j ≡ Some r → slice_get steps i ≡ Some s
+      → ¬ IncludesLits (lits_of s) (lits_of r)
 
 -- one more step is due: no list of hints makes a contradiction lawful, and for some literals of atoms the step of their
 -- opposites is lawful with some hints

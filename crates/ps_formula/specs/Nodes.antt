@@ -1,5 +1,6 @@
 -- Which tree each node stands for, and which lists of nodes are in order.
-use Rattle.std.specs.Prelude.{ℕ, ◌<◌, ◌≢◌, Bool, true, false, not, ◌&&◌, ◌||◌, List, [], ◌∷◌, ◌++◌, length, map, slice_index_or, slice_get, Some, ◌≡◌, ◌⊎◌, Contains, AllPairs}
+use Rattle.std.specs.Prelude.{ℕ, ◌<◌, ◌≢◌, Bool, true, false, not, ◌&&◌, ◌||◌, List, []}
+use Rattle.std.specs.Prelude.{◌∷◌, ◌++◌, length, map, slice_index_or, slice_get, Some, ◌≡◌, ◌⊎◌, Contains, AllPairs}
 use Rattle.ps_meaning.specs.Formula.{World, Formula, Truth, is_true, agree}
 use Rattle.ps_meaning.specs.Formula as tree
 use Rattle.ps_formula.specs.declared.limits.TheConstants.{MOST_ATOMS, MOST_NODES}
@@ -44,7 +45,8 @@ pub record AreNodes (ns : List Node) : Type 0 where
 
 -- the tree of each node is its own over the trees of its operands
 pub record HaveOwnTrees (ns : List Node) : Type 0 where
-  pub over_operands : (i : ℕ) (d : Node) → i < length ns → slice_index_or (trees ns) i Truth ≡ tree_over (trees ns) (slice_index_or ns i d)
+  pub over_operands : (i : ℕ) (d : Node) → i < length ns
+      → slice_index_or (trees ns) i Truth ≡ tree_over (trees ns) (slice_index_or ns i d)
 
 -- there are as many nodes as there may be, and this one is new
 abbrev pub IsFullFor : Node → List Node → Type 0

@@ -27,7 +27,8 @@ use Rattle.ps_answer.specs.declared.answer.Dual.{Dual}
 use Rattle.ps_claims.specs.declared.claim_kind.ClaimKind.{ClaimKind}
 use Rattle.ps_claims.specs.declared.claim_kind.ClaimKind.TheVariants.{Nothing}
 use Rattle.ps_runs.specs.Certificates.{HaveSameNumbers}
-use Rattle.ps_runs.specs.Runs.{Subject, setting_of, given_in, both_in, atoms_of, goal_at_least, Stage, IsStart, IsPool, dual_at, AreAtMost, IsRestingAt, IsPricedBy}
+use Rattle.ps_runs.specs.Runs.{Subject, setting_of, given_in, both_in, atoms_of, goal_at_least, Stage}
+use Rattle.ps_runs.specs.Runs.{IsStart, IsPool, dual_at, AreAtMost, IsRestingAt, IsPricedBy}
 use Rattle.ps_certificate.specs.Certificates.{dual_of}
 use Rattle.ps_runs.specs.Rows.{phase_of}
 use Rattle.ps_phases.specs.Tables.{costs_for, IsRunTable, stage_at, IsUnderWay}
@@ -70,7 +71,8 @@ kept_dual flags d = record { top = d.top; head = d.head; rows = kept_of flags d.
 pub record IsSpread (r : LimitedSubject) (e d : Dual) : Type 0 where
   pub numbers : kept_dual r.flags d ≡ e
   pub others : AreZeroElsewhere r.flags d.rows
-  pub refuted : (kind : ClaimKind) → IsRefuted r.subject.parts kind (given_in r.subject.query) (both_in r.subject.query) (dual_of e)
+  pub refuted : (kind : ClaimKind) → IsRefuted r.subject.parts kind (given_in r.subject.query)
+      (both_in r.subject.query) (dual_of e)
       → IsRefuted r.whole kind (given_in r.subject.query) (both_in r.subject.query) (dual_of d)
 
 -- ---- states
@@ -115,7 +117,8 @@ pub record IsDualEnd (kind : ClaimKind) (s : Subject) (g : Stage) (X : ℕ → �
   pub rests : IsRestingAt kind s g X
   pub none : AreAtMost kind s g X (pos 0)
   pub numbers : HaveSameNumbers (dual_of d) (dual_at kind s g X)
-  pub steps : Refutes (length s.parts.nodes) (first_known (form_of s.parts.nodes) (goal_at_least (pos 1) kind s (dual_at kind s g X))) d.steps
+  pub steps : Refutes (length s.parts.nodes)
+      (first_known (form_of s.parts.nodes) (goal_at_least (pos 1) kind s (dual_at kind s g X))) d.steps
 
 -- a world was priced, and its column is too wide: its event is there, and it is pending
 pub record IsPendingEnd (kind : ClaimKind) (r : LimitedSubject) (old new : State) (at : WideAt) : Type 0 where

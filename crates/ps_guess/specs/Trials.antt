@@ -22,7 +22,8 @@ use Rattle.ps_guess.specs.declared.trial.Trial.TheVariants.{Shown, Found, Wrong,
 
 -- a side that was found: a tight value, with a model and a dual that show it and can be printed
 abbrev pub IsFoundSide : Parts → ClaimKind → Query → SideAnswer → Type 0
-IsFoundSide p kind q (side.Bound value m d) = ShowsTight p kind q value (model_of m) (dual_of d) × IsPrintedModel m × IsPrintedDual d
+IsFoundSide p kind q (side.Bound value m d) =
+    ShowsTight p kind q value (model_of m) (dual_of d) × IsPrintedModel m × IsPrintedDual d
 IsFoundSide p kind q (side.Open cause) = ⊥
 
 -- a dual that was found: it shows that no distribution gives the evidence positive probability, and can be printed

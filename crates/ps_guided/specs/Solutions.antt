@@ -35,7 +35,8 @@ pub record IsAnsweredPart (limits : Limits) (p : Parts) (q : Query) (part : Quer
   pub printed : IsPrintedPart part.answer
 
 -- a side that is answered beside a run that ends so
-pub record IsAnsweredSide (p : Parts) (q : Query) (run : QueryAnswer) (kind : ClaimKind) (a : SideAnswer) (events : List Event) : Type 0 where
+pub record IsAnsweredSide (p : Parts) (q : Query) (run : QueryAnswer) (kind : ClaimKind) (a : SideAnswer)
+    (events : List Event) : Type 0 where
   pub beside : IsBesideRun run kind a events
   pub valid : IsValidSide p kind q (side_of a)
   pub printed : IsPrintedSide a
@@ -63,7 +64,8 @@ IsAnsweredBeside run lower upper part = (limits : Limits) (p : Parts) (q : Query
 abbrev pub AreAnsweredParts : Limits → Parts → Verdict → List QueryPart → Type 0
 AreAnsweredParts limits p v parts = AllZip (IsAnsweredPart limits p) (asked_after v p.queries) parts
 
--- an answer to a problem within limits: each claim is valid and right, each part has its certificates alone or comes of a lawful run, which licenses what is open, and all of it can be printed
+-- an answer to a problem within limits: each claim is valid and right, each part has its certificates alone or comes
+-- of a lawful run, which licenses what is open, and all of it can be printed
 pub record IsSettledSolution (limits : Limits) (p : Parts) (a : Answer) : Type 0 where
   pub valid : IsValid p (answer_of a)
   pub right : IsRightOf p a

@@ -1,5 +1,6 @@
 -- Characters and texts as they are shown.
-use Rattle.std.specs.Prelude.{◌≡◌, ℕ, List, [], ◌∷◌, ◌++◌, Bool, ◌&&◌, ◌||◌, not, ◌==◌, if◌then◌else◌, ◌⊎◌, nat_lt, unwrap_or, false}
+use Rattle.std.specs.Prelude.{◌≡◌, ℕ, List, [], ◌∷◌, ◌++◌, Bool, ◌&&◌}
+use Rattle.std.specs.Prelude.{◌||◌, not, ◌==◌, if◌then◌else◌, ◌⊎◌, nat_lt, unwrap_or, false}
 use Rattle.std.proofs.Math.ListN.{replicate}
 use Rattle.std.specs.Str.{NoCharPasses}
 use Rattle.std.specs.List.{flat_map}

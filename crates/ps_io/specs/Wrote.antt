@@ -7,7 +7,8 @@ use Rattle.ps_io.specs.Transfer.{Appends, AppendsPrefix}
 use Rattle.ps_io.specs.declared.lines.Lines.{Lines}
 
 -- lines of these texts were written, or a proper prefix of them where a write failed; the line is then empty
-pub record Wrote {O E : Type 0} (written : O → Option (List ℕ)) (faults : O → ℕ) (old new : Lines O) (result : Result (Unit {0}) E) (texts : List (List ℕ)) : Type 0 where
+pub record Wrote {O E : Type 0} (written : O → Option (List ℕ)) (faults : O → ℕ) (old new : Lines O)
+    (result : Result (Unit {0}) E) (texts : List (List ℕ)) : Type 0 where
   pub same_reference : name_of new ≡ name_of old
   pub same_mark : is_commented new ≡ is_commented old
   pub empty : text_of new ≡ []

@@ -46,4 +46,5 @@ sides_members digits lower upper = lower_object digits lower ++ (codes ",\"upper
 
 -- the members of a query with bounds, from its status on
 abbrev pub bounds_members : ℕ → SideAnswer → SideAnswer → List ℕ
-bounds_members digits lower upper = status_text lower upper ++ (codes "\",\"why\":null,\"lower\":" ++ sides_members digits lower upper)
+bounds_members digits lower upper = status_text lower upper
+    ++ (codes "\",\"why\":null,\"lower\":" ++ sides_members digits lower upper)

@@ -10,11 +10,13 @@ use Rattle.ps_json.specs.Listings.{comma_before, texts_of}
 
 -- the number of a sentence, and its line
 unfoldable pub where_text : List ℕ → ℕ → List ℕ
-where_text lines n = codes "{\"number\":" ++ (signed_decimal (pos n) ++ (codes ",\"line\":" ++ signed_decimal (pos (line_at lines n))))
+where_text lines n = codes "{\"number\":"
+    ++ (signed_decimal (pos n) ++ (codes ",\"line\":" ++ signed_decimal (pos (line_at lines n))))
 
 -- a sentence with its number and its line, at a place of a list
 unfoldable pub clashing : Parts → List ℕ → ℕ → ℕ → List ℕ
-clashing p lines place n = comma_before place ++ (where_text lines n ++ (codes ",\"text\":\"" ++ (sentence_text p n ++ codes ";\"}")))
+clashing p lines place n = comma_before place
+    ++ (where_text lines n ++ (codes ",\"text\":\"" ++ (sentence_text p n ++ codes ";\"}")))
 
 -- sentences, each with its number and its line
 abbrev pub clash_items : Parts → List ℕ → List ℕ → List ℕ

@@ -9,12 +9,15 @@ count_text name n = name ++ signed_decimal n
 
 -- how many atoms and sentences a problem has
 unfoldable pub sentences_members : Parts → List ℕ
-sentences_members p = count_text (codes "{\"atoms\":") (pos (length p.names)) ++ count_text (codes ",\"sentences\":") (pos (length p.sentences))
+sentences_members p = count_text (codes "{\"atoms\":") (pos (length p.names))
+    ++ count_text (codes ",\"sentences\":") (pos (length p.sentences))
 
 -- how many bounds and queries it has
 unfoldable pub bounds_members : Parts → List ℕ
-bounds_members p = count_text (codes ",\"bounds\":") (pos (length (bounds_in p.sentences))) ++ count_text (codes ",\"queries\":") (pos (length p.queries))
+bounds_members p = count_text (codes ",\"bounds\":") (pos (length (bounds_in p.sentences)))
+    ++ count_text (codes ",\"queries\":") (pos (length p.queries))
 
 -- how many atoms, sentences, bounds and queries a problem has, and how much is open
 unfoldable pub counts_object : Parts → ℤ → List ℕ
-counts_object p unfinished = sentences_members p ++ (bounds_members p ++ (count_text (codes ",\"open\":") unfinished ++ codes "}"))
+counts_object p unfinished = sentences_members p
+    ++ (bounds_members p ++ (count_text (codes ",\"open\":") unfinished ++ codes "}"))

@@ -14,8 +14,8 @@ use Rattle.ps_json.specs.Counts.{counts_object}
 use Rattle.ps_json.specs.Queries.{queries_text}
 use Rattle.ps_json.specs.Strings.{string_text}
 
--- what is told beside an answer: how many digits decimals have, the file's name, which sentences clash, the lines of sentences, how
--- much is open, and the status
+-- what is told beside an answer: how many digits decimals have, the file's name, which sentences clash, the lines of
+-- sentences, how much is open, and the status
 pub record Beside : Type 0 where
   pub digits : ℕ
   pub file : List ℕ
@@ -26,7 +26,14 @@ pub record Beside : Type 0 where
 
 -- what is told beside an answer, out of references
 abbrev pub facts : Told → Beside
-facts t = record { digits = t.digits; file = t.file.now; clash = t.clash.now; lines = t.lines.now; unfinished = t.unfinished; status = t.status }
+facts t = record {
+  digits = t.digits;
+  file = t.file.now;
+  clash = t.clash.now;
+  lines = t.lines.now;
+  unfinished = t.unfinished;
+  status = t.status;
+}
 
 -- the members of an open verdict
 abbrev pub open_members : Cause → List ℕ
@@ -41,9 +48,12 @@ verdict_members (Open c) = open_members c
 -- the members behind the queries
 unfoldable pub end_text : Parts → Beside → List ℕ
 end_text p t =
-    codes "],\"clash\":" ++ (clash_member p t.lines t.clash ++ (codes ",\"counts\":" ++ (counts_object p t.unfinished ++ (codes ",\"status\":" ++ (signed_decimal (pos t.status) ++ codes "}\n")))))
+    codes "],\"clash\":" ++ (clash_member p t.lines t.clash
+    ++ (codes ",\"counts\":" ++ (counts_object p t.unfinished
+    ++ (codes ",\"status\":" ++ (signed_decimal (pos t.status) ++ codes "}\n")))))
 
 -- the object of an answer to a problem, on one line
 unfoldable pub object : Parts → Answer → Beside → List ℕ
 object p a t =
-    codes "{\"file\":" ++ (string_text t.file ++ (verdict_members a.verdict ++ (codes ",\"queries\":[" ++ (queries_text t.digits p a.parts ++ end_text p t))))
+    codes "{\"file\":" ++ (string_text t.file
+    ++ (verdict_members a.verdict ++ (codes ",\"queries\":[" ++ (queries_text t.digits p a.parts ++ end_text p t))))

@@ -19,7 +19,8 @@ answer_members digits (Open c) = codes "open\",\"why\":\"" ++ (cause_text c ++ c
 -- a query by its own text, with the answer to it
 unfoldable pub query_object : ℕ → Parts → Query → QueryPart → List ℕ
 query_object digits p q part =
-    codes "{\"query\":\"" ++ (probability_text p q.formula q.given ++ (codes "\",\"status\":\"" ++ answer_members digits part.answer))
+    codes "{\"query\":\"" ++ (probability_text p q.formula q.given
+    ++ (codes "\",\"status\":\"" ++ answer_members digits part.answer))
 
 -- the query at a place, where there is one, with the answer to it
 abbrev pub asked_text : ℕ → Parts → ℕ → Option Query → QueryPart → List ℕ

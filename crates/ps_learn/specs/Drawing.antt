@@ -24,7 +24,8 @@ abbrev pub AddsKept : TrailEntry → Marks → Kept → Assignment → Kept → 
 AddsKept e marks k a k' a' = AddsIf (is_marked marks e.lit) e k a k' a'
 
 -- propagation went along the reason of an entry whose literal isn't true, with this effect
-pub record FollowsBy (f : Effect) (known : Known) (e : TrailEntry) (hints : List ℕ) (a : Assignment) (hints' : List ℕ) (a' : Assignment) : Type 0 where
+pub record FollowsBy (f : Effect) (known : Known) (e : TrailEntry) (hints : List ℕ) (a : Assignment) (hints' : List ℕ)
+    (a' : Assignment) : Type 0 where
   pub other : value_of a e.lit ≢ Some true
   pub id : ℕ
   pub reason : e.reason ≡ Some id
@@ -38,9 +39,12 @@ pub record FollowsBy (f : Effect) (known : Known) (e : TrailEntry) (hints : List
 abbrev pub FollowsEntry : List Constraint → TrailEntry → Marks → List ℕ → Assignment → List ℕ → Assignment → Followed → Type 0
 FollowsEntry cs e marks hints a hints' a' Unmarked = (is_marked marks e.lit ≡ false) × (hints' ≡ hints) × (a' ≡ a)
 FollowsEntry cs e marks hints a hints' a' AlreadyTrue = (value_of a e.lit ≡ Some true) × (hints' ≡ hints) × (a' ≡ a)
-FollowsEntry cs e marks hints a hints' a' Decided = (is_marked marks e.lit ≡ true) × (value_of a e.lit ≢ Some true) × (e.reason ≡ None)
-FollowsEntry cs e marks hints a hints' a' Unknown = (is_marked marks e.lit ≡ true) × ((id : ℕ) × (e.reason ≡ Some id) × (constraint_at (known_of cs) id ≡ None))
-FollowsEntry cs e marks hints a hints' a' (Propagated f) = (is_marked marks e.lit ≡ true) × FollowsBy f (known_of cs) e hints a hints' a'
+FollowsEntry cs e marks hints a hints' a' Decided =
+    (is_marked marks e.lit ≡ true) × (value_of a e.lit ≢ Some true) × (e.reason ≡ None)
+FollowsEntry cs e marks hints a hints' a' Unknown =
+    (is_marked marks e.lit ≡ true) × ((id : ℕ) × (e.reason ≡ Some id) × (constraint_at (known_of cs) id ≡ None))
+FollowsEntry cs e marks hints a hints' a' (Propagated f) =
+    (is_marked marks e.lit ≡ true) × FollowsBy f (known_of cs) e hints a hints' a'
 
 -- propagation along the hints ends in a conflict, and they are few
 pub record EndsInConflict (known : Known) (start : Assignment) (most : ℕ) (hints : List ℕ) : Type 0 where

@@ -22,7 +22,8 @@ IsMarkedBefore t marks i false = NoneIsMarked (level t) t.entries marks i
 
 -- an entry that is marked is kept or explained; what was marked or kept stays so, and what is marked more is
 -- of a false literal of its reason
-pub record Explains (cs : List Constraint) (e : TrailEntry) (asked : Bool) (before : Assignment) (marks kept marks' kept' : Marks) : Type 0 where
+pub record Explains (cs : List Constraint) (e : TrailEntry) (asked : Bool) (before : Assignment)
+    (marks kept marks' kept' : Marks) : Type 0 where
   pub grows : Grows marks' marks
   pub only : AddsReason (known_of cs) e before marks' marks
   pub keeps : Grows kept' kept
@@ -45,18 +46,22 @@ IsTrailExplained known t marks kept = AreExplained t.variables known t.entries m
 abbrev pub AddsTrailReasons : Known → Trail → Marks → Marks → Marks → Type 0
 AddsTrailReasons known t kept new old = AddsReasons t.variables known t.entries kept new old
 
--- the causes of a conflict are marked and nothing else is, each is kept or explained by marked ones, and one of the last level at most is kept
+-- the causes of a conflict are marked and nothing else is, each is kept or explained by marked ones, and one of the
+-- last level at most is kept
 pub record IsCaused (known : Known) (t : Trail) (conflict : ℕ) (marks kept : Marks) : Type 0 where
   pub explained : IsTrailExplained known t marks kept
   pub covered : IsCoveredAt known conflict (values t) marks
   pub once : IsKeptOnce t kept
-  pub only : (l : ℤ) → is_marked marks l ≡ true → IsFalseAt known conflict (values t) l ⊎ IsFalseInReason t.variables known t.entries marks (λ m. is_marked kept m ≡ true) l
+  pub only : (l : ℤ) → is_marked marks l ≡ true
+      → IsFalseAt known conflict (values t) l
+      ⊎ IsFalseInReason t.variables known t.entries marks (λ m. is_marked kept m ≡ true) l
 
 -- a conflict is reached from the true literals along reasons: its false literals are marked, and each marked entry of the trail
 -- is true, or the false literals of its reason are marked
 pub record IsReached (known : Known) (t : Trail) (conflict : ℕ) (marks : Marks) (a : Assignment) : Type 0 where
   pub covered : IsCoveredAt known conflict (values t) marks
-  pub explained : (i : ℕ) (e : TrailEntry) → slice_get t.entries i ≡ Some e → is_marked marks e.lit ≡ true → (value_of a e.lit ≡ Some true) ⊎ IsExplained known (values_of t.variables (take i t.entries)) marks e
+  pub explained : (i : ℕ) (e : TrailEntry) → slice_get t.entries i ≡ Some e → is_marked marks e.lit ≡ true
+      → (value_of a e.lit ≡ Some true) ⊎ IsExplained known (values_of t.variables (take i t.entries)) marks e
 
 -- these are the causes of a conflict
 abbrev pub AreCauses : Known → Trail → ℕ → Causes → Type 0

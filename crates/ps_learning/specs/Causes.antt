@@ -1,5 +1,6 @@
 -- Which entries of a trail are causes of a conflict.
-use Rattle.std.specs.Prelude.{ℕ, ◌≡◌, ◌≤◌, ℤ, neg_ℤ, Bool, true, false, Some, List, take, slice_get, slice_index_or, Contains, ◌⊎◌}
+use Rattle.std.specs.Prelude.{ℕ, ◌≡◌, ◌≤◌, ℤ, neg_ℤ, Bool, true, false}
+use Rattle.std.specs.Prelude.{Some, List, take, slice_get, slice_index_or, Contains, ◌⊎◌}
 use Rattle.ps_steps.specs.Assignments.{Assignment, place, value_of}
 use Rattle.ps_steps.specs.Constraints.{Constraint, HasTerm}
 use Rattle.ps_steps.specs.Steps.{Known, constraint_at}
@@ -31,7 +32,8 @@ pub record IsExplained (known : Known) (a : Assignment) (marks : Marks) (e : Tra
 
 -- from place i on, each marked entry is kept or explained by marked ones
 pub record AreExplained (variables : ℕ) (known : Known) (es : List TrailEntry) (marks kept : Marks) (i : ℕ) : Type 0 where
-  pub at : (j : ℕ) (e : TrailEntry) → i ≤ j → slice_get es j ≡ Some e → is_marked marks e.lit ≡ true → (is_marked kept e.lit ≡ true) ⊎ IsExplained known (values_of variables (take j es)) marks e
+  pub at : (j : ℕ) (e : TrailEntry) → i ≤ j → slice_get es j ≡ Some e → is_marked marks e.lit ≡ true
+      → (is_marked kept e.lit ≡ true) ⊎ IsExplained known (values_of variables (take j es)) marks e
 
 -- a literal is of the variable of one of these terms' literals that is false
 pub record IsFalseIn (terms : List (ℤ × ℕ)) (a : Assignment) (l : ℤ) : Type 0 where
@@ -48,7 +50,8 @@ pub record IsFalseAt (known : Known) (id : ℕ) (a : Assignment) (l : ℤ) : Typ
   pub false_in : IsFalseIn constraint.terms a l
 
 -- a literal is of the variable of a false literal of the reason of a marked entry that isn't kept
-pub record IsFalseInReason (variables : ℕ) (known : Known) (es : List TrailEntry) (marks : Marks) (IsKept : ℤ → Type 0) (l : ℤ) : Type 0 where
+pub record IsFalseInReason (variables : ℕ) (known : Known) (es : List TrailEntry) (marks : Marks)
+    (IsKept : ℤ → Type 0) (l : ℤ) : Type 0 where
   pub at : ℕ
   pub entry : TrailEntry
   pub there : slice_get es at ≡ Some entry
@@ -63,5 +66,8 @@ pub record IsFalseInReason (variables : ℕ) (known : Known) (es : List TrailEnt
 -- of the conflict, and of the reasons of marked entries whose opposites aren't in the clause
 pub record HasMarkedCauses (known : Known) (t : Trail) (conflict : ℕ) (clause : List ℤ) (marks : Marks) : Type 0 where
   pub conflict_is_marked : IsCoveredAt known conflict (values t) marks
-  pub explained : (i : ℕ) (e : TrailEntry) → slice_get t.entries i ≡ Some e → is_marked marks e.lit ≡ true → Contains clause (neg_ℤ e.lit) ⊎ IsExplained known (values_of t.variables (take i t.entries)) marks e
-  pub only : (l : ℤ) → is_marked marks l ≡ true → IsFalseAt known conflict (values t) l ⊎ IsFalseInReason t.variables known t.entries marks (λ m. Contains clause (neg_ℤ m)) l
+  pub explained : (i : ℕ) (e : TrailEntry) → slice_get t.entries i ≡ Some e → is_marked marks e.lit ≡ true
+      → Contains clause (neg_ℤ e.lit) ⊎ IsExplained known (values_of t.variables (take i t.entries)) marks e
+  pub only : (l : ℤ) → is_marked marks l ≡ true
+      → IsFalseAt known conflict (values t) l
+      ⊎ IsFalseInReason t.variables known t.entries marks (λ m. Contains clause (neg_ℤ m)) l

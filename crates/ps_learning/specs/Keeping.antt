@@ -8,7 +8,8 @@ use Rattle.ps_learning.specs.Causes.{Marks, is_marked}
 -- one entry of the last level at most is kept, and none of level 0
 pub record IsKeptOnce (t : Trail) (kept : Marks) : Type 0 where
   pub above : (j : ℕ) (e : TrailEntry) → slice_get t.entries j ≡ Some e → is_marked kept e.lit ≡ true → 1 ≤ e.level
-  pub one : (j k : ℕ) (e d : TrailEntry) → k < j → slice_get t.entries j ≡ Some e → slice_get t.entries k ≡ Some d → e.level ≡ level t → d.level ≡ level t → is_marked kept e.lit ≡ true → is_marked kept d.lit ≡ false
+  pub one : (j k : ℕ) (e d : TrailEntry) → k < j → slice_get t.entries j ≡ Some e → slice_get t.entries k ≡ Some d
+      → e.level ≡ level t → d.level ≡ level t → is_marked kept e.lit ≡ true → is_marked kept d.lit ≡ false
 
 -- no entry of this level before a place is marked
 pub record NoneIsMarked (level : ℕ) (es : List TrailEntry) (marks : Marks) (i : ℕ) : Type 0 where
@@ -38,4 +39,5 @@ HasNoReason known e = (id : ℕ) → e.reason ≡ Some id → constraint_at know
 abbrev pub IsKeptOrNot : Known → TrailEntry → Bool → Marks → Marks → Marks → Marks → Type 0
 IsKeptOrNot known e explained marks kept marks' kept' =
     ((kept' ≡ kept) × ((marks' ≡ marks) ⊎ (is_marked marks e.lit ≡ true)))
-    ⊎ ((kept' ≡ slice_set kept (place e.lit) true) × (marks' ≡ marks) × (is_marked marks e.lit ≡ true) × ((explained ≡ false) ⊎ HasNoReason known e))
+    ⊎ ((kept' ≡ slice_set kept (place e.lit) true) × (marks' ≡ marks) × (is_marked marks e.lit ≡ true)
+    × ((explained ≡ false) ⊎ HasNoReason known e))

@@ -23,8 +23,11 @@ pub record AddsFalseAt (known : Known) (id : ℕ) (a : Assignment) (new old : Ma
 
 -- what is marked more is of a false literal of the reason of a marked entry that isn't kept
 pub record AddsReasons (variables : ℕ) (known : Known) (es : List TrailEntry) (kept new old : Marks) : Type 0 where
-  pub at : (l : ℤ) → is_marked new l ≡ true → (is_marked old l ≡ true) ⊎ IsFalseInReason variables known es new (λ m. is_marked kept m ≡ true) l
+  pub at : (l : ℤ) → is_marked new l ≡ true
+      → (is_marked old l ≡ true) ⊎ IsFalseInReason variables known es new (λ m. is_marked kept m ≡ true) l
 
 -- where more is marked, the entry is marked, and what is marked more is of a false literal of its reason
 pub record AddsReason (known : Known) (e : TrailEntry) (a : Assignment) (new old : Marks) : Type 0 where
-  pub at : (l : ℤ) → is_marked new l ≡ true → (is_marked old l ≡ true) ⊎ ((is_marked old e.lit ≡ true) × ((id : ℕ) × (e.reason ≡ Some id) × IsFalseAt known id a l))
+  pub at : (l : ℤ) → is_marked new l ≡ true
+      → (is_marked old l ≡ true) ⊎ ((is_marked old e.lit ≡ true)
+      × ((id : ℕ) × (e.reason ≡ Some id) × IsFalseAt known id a l))

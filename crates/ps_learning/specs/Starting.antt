@@ -9,8 +9,10 @@ use Rattle.ps_learning.specs.Causes.{Marks, is_marked}
 pub record Started (v : ℕ) (es : List TrailEntry) (kept : Marks) (i : ℕ) (lits : List ℤ) (a : Assignment) : Type 0 where
   pub lits_false : fold and_false (Some (all_unset v)) lits ≡ Some a
   pub includes : Includes (values_of v (take i es)) a
-  pub kept_true : (j : ℕ) (e : TrailEntry) → j < i → slice_get es j ≡ Some e → is_marked kept e.lit ≡ true → value_of a e.lit ≡ Some true
-  pub listed : (j : ℕ) (e : TrailEntry) → j < i → slice_get es j ≡ Some e → is_marked kept e.lit ≡ true → Contains lits (neg_ℤ e.lit)
+  pub kept_true : (j : ℕ) (e : TrailEntry) → j < i → slice_get es j ≡ Some e → is_marked kept e.lit ≡ true
+      → value_of a e.lit ≡ Some true
+  pub listed : (j : ℕ) (e : TrailEntry) → j < i → slice_get es j ≡ Some e → is_marked kept e.lit ≡ true
+      → Contains lits (neg_ℤ e.lit)
   pub only_kept : (l : ℤ) → Contains lits (neg_ℤ l) → is_marked kept l ≡ true
   pub len : length a ≡ v
   pub few : length lits ≤ i

@@ -1,5 +1,6 @@
 -- Trails: literals in the order in which they were set, each decided or implied by a known constraint.
-use Rattle.std.specs.Prelude.{ℕ, zero, suc, ◌+◌, ◌<◌, ◌≤◌, ◌≡◌, ◌^◌, ◌==◌, nat_le, ℤ, true, if◌then◌else◌, Option, Some, None, is_none, List, [], ◌∷◌, ◌++◌, take, fold, slice_get, unsigned_abs}
+use Rattle.std.specs.Prelude.{ℕ, zero, suc, ◌+◌, ◌<◌, ◌≤◌, ◌≡◌, ◌^◌, ◌==◌, nat_le, ℤ, true, if◌then◌else◌}
+use Rattle.std.specs.Prelude.{Option, Some, None, is_none, List, [], ◌∷◌, ◌++◌, take, fold, slice_get, unsigned_abs}
 use Rattle.std.specs.List.{filter}
 use Rattle.ps_steps.specs.Assignments.{Assignment, place, value_of, with_true, is_unset, all_unset}
 pub use Rattle.ps_steps.specs.Assignments.{unset_count}
@@ -40,11 +41,17 @@ level t = decisions t.entries
 
 -- one literal more, decided: it opens a level
 abbrev pub decided : ℤ → Trail → Trail
-decided l t = record { variables = t.variables; entries = t.entries ++ record { lit = l; reason = None; level = suc (decisions t.entries) } ∷ [] }
+decided l t = record {
+  variables = t.variables;
+  entries = t.entries ++ record { lit = l; reason = None; level = suc (decisions t.entries) } ∷ [];
+}
 
 -- one literal more, implied by the constraint of this id: it stays in the level
 abbrev pub implied : ℤ → ℕ → Trail → Trail
-implied l id t = record { variables = t.variables; entries = t.entries ++ record { lit = l; reason = Some id; level = decisions t.entries } ∷ [] }
+implied l id t = record {
+  variables = t.variables;
+  entries = t.entries ++ record { lit = l; reason = Some id; level = decisions t.entries } ∷ [];
+}
 
 -- what stands at a level or below it
 abbrev pub up_to : ℕ → Trail → Trail

@@ -1,5 +1,6 @@
 -- What one more byte does.
-use Rattle.std.specs.Prelude.{ℕ, Bool, true, false, ◌+◌, ◌≤◌, min, nat_lt, ◌==◌, if◌then◌else◌, List, [], ◌∷◌, ◌++◌, length, Option, Some, None}
+use Rattle.std.specs.Prelude.{ℕ, Bool, true, false, ◌+◌, ◌≤◌, min, nat_lt, ◌==◌}
+use Rattle.std.specs.Prelude.{if◌then◌else◌, List, [], ◌∷◌, ◌++◌, length, Option, Some, None}
 use Rattle.ps_text.specs.Tokens.{is_letter, is_digit, is_word_byte}
 use Rattle.ps_text.specs.Pieces.{is_blank}
 use Rattle.ps_lex.specs.declared.digits.Digits.{Digits}
@@ -65,7 +66,8 @@ point_followed d point began b =
 -- the mode behind a further byte of a symbol; where it doesn't fit, no token begins at the symbol's first byte
 abbrev pub symbol_followed : Mode → Position → ℕ → Mode
 symbol_followed mode.Minus began b = if b == 62 then mode.Sign symbol.Arrow else mode.Bad began
-symbol_followed mode.Less began b = if b == 61 then mode.Sign symbol.LessEquals else if b == 45 then mode.LessMinus else mode.Bad began
+symbol_followed mode.Less began b = if b == 61 then mode.Sign symbol.LessEquals else if b == 45 then mode.LessMinus
+    else mode.Bad began
 symbol_followed mode.LessMinus began b = if b == 62 then mode.Sign symbol.DoubleArrow else mode.Bad began
 symbol_followed mode.Greater began b = if b == 61 then mode.Sign symbol.GreaterEquals else mode.Bad began
 symbol_followed m began b = mode.Bad began
@@ -74,16 +76,20 @@ symbol_followed m began b = mode.Bad began
 abbrev pub stepped_in : Mode → Position → Position → ℕ → Step
 stepped_in mode.Between began here b = record { mode = begun here b; began = here; ended = None }
 stepped_in mode.Comment began here b = continued (if b == 10 then mode.Between else mode.Comment) began
-stepped_in (mode.Word w) began here b = if is_word_byte b then continued (mode.Word (letter_kept w b)) began else ended (token.Word w) here b
+stepped_in (mode.Word w) began here b = if is_word_byte b then continued (mode.Word (letter_kept w b)) began
+    else ended (token.Word w) here b
 stepped_in (mode.Whole d) began here b =
     if is_digit b then continued (mode.Whole (with_digit d b)) began
     else if b == 47 then continued (mode.Slash d here) began
     else if b == 46 then continued (mode.Point d here) began else ended (whole d) here b
 stepped_in (mode.Slash d slash) began here b = slash_followed d slash began b
-stepped_in (mode.Quotient d e) began here b = if is_digit b then continued (mode.Quotient d (with_digit e b)) began else ended (token.Number (numeral.Quotient d e)) here b
+stepped_in (mode.Quotient d e) began here b =
+    if is_digit b then continued (mode.Quotient d (with_digit e b)) began
+    else ended (token.Number (numeral.Quotient d e)) here b
 stepped_in (mode.Point d point) began here b = point_followed d point began b
 stepped_in (mode.Decimal d k) began here b =
-    if is_digit b then continued (mode.Decimal (with_digit d b) (min (k + 1) MANY_DIGITS)) began else ended (token.Number (numeral.Decimal d k)) here b
+    if is_digit b then continued (mode.Decimal (with_digit d b) (min (k + 1) MANY_DIGITS)) began
+    else ended (token.Number (numeral.Decimal d k)) here b
 stepped_in (mode.Sign s) began here b = ended (token.Sign s) here b
 stepped_in (mode.Bad p) began here b = continued (mode.Bad p) began
 stepped_in m began here b = continued (symbol_followed m began b) began
@@ -108,7 +114,11 @@ token_ended s b = (stepped_in s.mode s.began s.here b).ended
 
 -- what the bytes and one more stand in
 unfoldable pub with_byte : LexerState → ℕ → LexerState
-with_byte s b = record { mode = (stepped_in s.mode s.began s.here b).mode; began = (stepped_in s.mode s.began s.here b).began; here = behind s.here b }
+with_byte s b = record {
+  mode = (stepped_in s.mode s.began s.here b).mode;
+  began = (stepped_in s.mode s.began s.here b).began;
+  here = behind s.here b;
+}
 
 -- the token that ends with the bytes, if they end here
 abbrev pub last_token : Mode → Option Token
@@ -165,10 +175,12 @@ stops_or (Some p) rest = ([], Some p)
 stops_or None rest = rest
 
 -- tokens, and then what else is told
-abbrev pub after_tokens : List (Token × Position) → List (Token × Position) × Option Position → List (Token × Position) × Option Position
+abbrev pub after_tokens : List (Token × Position) → List (Token × Position) × Option Position
+    → List (Token × Position) × Option Position
 after_tokens ts rest = (ts ++ rest.0, rest.1)
 
 -- the tokens that bytes tell from here on, with where they begin, and where no token begins, if there is such a place
 unfoldable pub lexed : LexerState → List ℕ → List (Token × Position) × Option Position
 lexed s [] = (with_place (last_token s.mode) s.began, last_bad s.mode s.began)
-lexed s (b ∷ bs) = after_tokens (with_place (token_ended s b) s.began) (stops_or (bad_place (with_byte s b).mode) (lexed (with_byte s b) bs))
+lexed s (b ∷ bs) = after_tokens (with_place (token_ended s b) s.began)
+    (stops_or (bad_place (with_byte s b).mode) (lexed (with_byte s b) bs))

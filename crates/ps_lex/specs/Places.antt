@@ -13,7 +13,8 @@ start = record { line = 1; column = 1; offset = 0 }
 
 -- the position behind a byte that stands at this one
 unfoldable pub behind : Position → ℕ → Position
-behind p b = if b == 10 then record { line = p.line + 1; column = 1; offset = p.offset + 1 } else record { line = p.line; column = p.column + 1; offset = p.offset + 1 }
+behind p b = if b == 10 then record { line = p.line + 1; column = 1; offset = p.offset + 1 }
+    else record { line = p.line; column = p.column + 1; offset = p.offset + 1 }
 
 -- none of its numbers is greater
 pub record IsWithin (most : ℕ) (p : Position) : Type 0 where

@@ -13,7 +13,10 @@ TellsAll pieces = lexed new_lexer (texts pieces) ≡ (told start pieces, None)
 
 -- where no piece stands behind the pieces it tells their tokens and then this place
 pub record TellsUpTo (pieces : List Piece) (rest : List ℕ) : Type 0 where
-  pub bad : rest ≢ [] → IsBad rest → lexed new_lexer (texts pieces ++ rest) ≡ (told start pieces, Some (behind_all start (texts pieces)))
+  pub bad : rest ≢ [] → IsBad rest → lexed new_lexer (texts pieces ++ rest) ≡ (
+    told start pieces,
+    Some (behind_all start (texts pieces)),
+  )
 
 -- the position is the one behind the bytes, and counts them
 pub record IsPositionBehind (bytes : List ℕ) (position : Position) : Type 0 where

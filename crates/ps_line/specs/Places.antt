@@ -15,10 +15,12 @@ abbrev pub Leaves : {A : Type 0} → (A → List Word) → List (List ℕ) → L
 Leaves {A} written words rest = (a : A) (tail : List Word) → SpellWords words (written a ++ tail) → SpellWords rest tail
 
 -- something is read that words begin with
-abbrev pub IsFrontRead : {A : Type 0} → (A → List Word) → (A → Type 0) → List (List ℕ) → List (List ℕ) → Result A LineFault → Type 0
+abbrev pub IsFrontRead : {A : Type 0} → (A → List Word) → (A → Type 0) → List (List ℕ) → List (List ℕ)
+    → Result A LineFault → Type 0
 IsFrontRead written Fits words rest (Ok a) = Begins written words rest a × Fits a × Leaves written words rest
 IsFrontRead {A} written Fits words rest (Err NotCanonical) = (a : A) (tail : List Word) → SpellWords words (written a ++ tail) → ⊥
-IsFrontRead {A} written Fits words rest (Err TooLarge) = (a : A) × Begins written words rest a × (Fits a → ⊥) × Leaves written words rest
+IsFrontRead {A} written Fits words rest (Err TooLarge) =
+    (a : A) × Begins written words rest a × (Fits a → ⊥) × Leaves written words rest
 IsFrontRead written Fits words rest (Err NoMemory) = ⊥
 
 -- a place is read

@@ -15,11 +15,13 @@ IsUnder limit word result = IsRead (λ n. IsDecimal word n × (1 ≤ n)) (λ n. 
 
 -- a fraction is read whose numbers are up to a limit in size
 abbrev pub IsRatioUpTo : ℕ → List ℕ → Result Ratio LineFault → Type 0
-IsRatioUpTo limit word result = IsWordRead (λ q. Fraction q) (λ q. IsReducedWithin limit q) (λ q. IsRatioWithin limit q) word result
+IsRatioUpTo limit word result = IsWordRead (λ q. Fraction q) (λ q. IsReducedWithin limit q) (λ q.
+    IsRatioWithin limit q) word result
 
 -- the value of a side is read: such a fraction, no less than 0
 abbrev pub IsValueUpTo : ℕ → List ℕ → Result Ratio LineFault → Type 0
-IsValueUpTo limit word result = IsWordRead (λ q. Fraction q) (λ q. (pos 0 ≤ℤ q.over) × IsReducedWithin limit q) (λ q. IsRatioWithin limit q) word result
+IsValueUpTo limit word result = IsWordRead (λ q. Fraction q) (λ q. (pos 0 ≤ℤ q.over)
+    × IsReducedWithin limit q) (λ q. IsRatioWithin limit q) word result
 
 -- the parts fit a fraction
 abbrev pub AreParts : Result ℤ LineFault → Result ℕ LineFault → Type 0

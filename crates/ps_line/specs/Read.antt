@@ -22,19 +22,24 @@ abbrev pub IsRead : {A : Type 0} → (A → Type 0) → (A → Type 0) → Resul
 IsRead Says Fits result = IsReadOrLacks ⊥ Says Fits result
 
 -- a word is read: how it is written, what it asks, and its limit; or memory lacks, where it may
-abbrev pub IsWordReadOrLacks : {A : Type 0} → Type 0 → (A → Word) → (A → Type 0) → (A → Type 0) → List ℕ → Result A LineFault → Type 0
-IsWordReadOrLacks MayLack written Asks Fits word result = IsReadOrLacks MayLack (λ a. SpellsWord word (written a) × Asks a) Fits result
+abbrev pub IsWordReadOrLacks : {A : Type 0} → Type 0 → (A → Word) → (A → Type 0) → (A → Type 0) → List ℕ
+    → Result A LineFault → Type 0
+IsWordReadOrLacks MayLack written Asks Fits word result =
+    IsReadOrLacks MayLack (λ a. SpellsWord word (written a) × Asks a) Fits result
 
 -- a word is read
 abbrev pub IsWordRead : {A : Type 0} → (A → Word) → (A → Type 0) → (A → Type 0) → List ℕ → Result A LineFault → Type 0
 IsWordRead written Asks Fits word result = IsWordReadOrLacks ⊥ written Asks Fits word result
 
 -- words are read, or memory lacks, where it may
-abbrev pub AreWordsReadOrLacks : {A : Type 0} → Type 0 → (A → List Word) → (A → Type 0) → (A → Type 0) → List (List ℕ) → Result A LineFault → Type 0
-AreWordsReadOrLacks MayLack written Asks Fits words result = IsReadOrLacks MayLack (λ a. SpellWords words (written a) × Asks a) Fits result
+abbrev pub AreWordsReadOrLacks : {A : Type 0} → Type 0 → (A → List Word) → (A → Type 0) → (A → Type 0) → List (List ℕ)
+    → Result A LineFault → Type 0
+AreWordsReadOrLacks MayLack written Asks Fits words result =
+    IsReadOrLacks MayLack (λ a. SpellWords words (written a) × Asks a) Fits result
 
 -- words are read
-abbrev pub AreWordsRead : {A : Type 0} → (A → List Word) → (A → Type 0) → (A → Type 0) → List (List ℕ) → Result A LineFault → Type 0
+abbrev pub AreWordsRead : {A : Type 0} → (A → List Word) → (A → Type 0) → (A → Type 0) → List (List ℕ)
+    → Result A LineFault → Type 0
 AreWordsRead written Asks Fits words result = AreWordsReadOrLacks ⊥ written Asks Fits words result
 
 -- both of two readings, or why not; that something isn't written so comes before that it is too large

@@ -1,5 +1,6 @@
 -- What is answered of the first line of some bytes, where lines are the texts of steps or of goals.
-use Rattle.std.specs.Prelude.{ℕ, ◌+◌, ◌==◌, ◌≡◌, ◌≢◌, nat_lt, Bool, true, false, ◌||◌, List, ◌∷◌, ◌++◌, All, length, Result, Ok, Err, ⊤}
+use Rattle.std.specs.Prelude.{ℕ, ◌+◌, ◌==◌, ◌≡◌, ◌≢◌, nat_lt, Bool, true, false, ◌||◌}
+use Rattle.std.specs.Prelude.{List, ◌∷◌, ◌++◌, All, length, Result, Ok, Err, ⊤}
 use Rattle.std.specs.List.{list_all}
 use Rattle.std.specs.Char.{digit_value}
 use Rattle.ps_log.specs.declared.line_error.LineError.{LineError}
@@ -48,7 +49,8 @@ pub record PassesLimit {X : Type 0} (IsText : List ℕ → X → Type 0) (IsWith
   pub past : IsWithin of → ⊥
 
 -- the first line is that of something within the limits, and has with its line feed this many bytes
-pub record IsFirstLineOf {X : Type 0} (line_of : X → List ℕ) (IsWithin : X → Type 0) (bytes : List ℕ) (x : X) (count : ℕ) : Type 0 where
+pub record IsFirstLineOf {X : Type 0} (line_of : X → List ℕ) (IsWithin : X → Type 0) (bytes : List ℕ) (x : X)
+    (count : ℕ) : Type 0 where
   pub rest : List ℕ
   pub is : bytes ≡ line_of x ++ 10 ∷ rest
   pub within : IsWithin x
@@ -63,7 +65,8 @@ IsRefused fits IsText IsWithin bytes TooLarge = PassesLimit IsText IsWithin byte
 IsRefused fits IsText IsWithin bytes NoMemory = ⊥
 
 -- what is answered of bytes; want of memory may come at any
-abbrev pub IsAnswer : {X : Type 0} → (ℕ → Bool) → (List ℕ → X → Type 0) → (X → Type 0) → (X → List ℕ) → List ℕ → Result (X × ℕ) LineError → Type 0
+abbrev pub IsAnswer : {X : Type 0} → (ℕ → Bool) → (List ℕ → X → Type 0) → (X → Type 0) → (X → List ℕ) → List ℕ
+    → Result (X × ℕ) LineError → Type 0
 IsAnswer fits IsText IsWithin line_of bytes (Ok r) = IsFirstLineOf line_of IsWithin bytes r.0 r.1
 IsAnswer fits IsText IsWithin line_of bytes (Err Truncated) = IsRefused fits IsText IsWithin bytes Truncated
 IsAnswer fits IsText IsWithin line_of bytes (Err BadByte) = IsRefused fits IsText IsWithin bytes BadByte

@@ -25,7 +25,8 @@ Starts old new g = (IsTrue old.tells → IsTrue new.tells) × (IsTrue new.tells 
 
 -- the goal stays, and the steps grow by these
 abbrev pub Grows : Telling → Telling → List Step → Type 0
-Grows old new more = IsTrue old.tells → IsTrue new.tells × (new.goal ≡ old.goal) × (new.steps ≡ option_map (λ ss. ss ++ more) old.steps)
+Grows old new more = IsTrue old.tells → IsTrue new.tells × (new.goal ≡ old.goal)
+    × (new.steps ≡ option_map (λ ss. ss ++ more) old.steps)
 
 -- goal and steps stay
 abbrev pub Stays : Telling → Telling → Type 0

@@ -1,5 +1,7 @@
 -- What bytes tell of a goal and of the steps after it.
-use Rattle.std.specs.Prelude.{ℕ, ◌-◌, ◌==◌, ◌≡◌, nat_lt, ℤ, pos, neg_ℤ, unsigned_abs, List, [], ◌∷◌, ◌++◌, map, length, take, fold, slice_index, Bool, true, false, not, Option, Some, None, is_some, if◌then◌else◌, ◌&&◌, ◌||◌}
+use Rattle.std.specs.Prelude.{ℕ, ◌-◌, ◌==◌, ◌≡◌, nat_lt, ℤ, pos, neg_ℤ, unsigned_abs, List}
+use Rattle.std.specs.Prelude.{[], ◌∷◌, ◌++◌, map, length, take, fold, slice_index, Bool, true}
+use Rattle.std.specs.Prelude.{false, not, Option, Some, None, is_some, if◌then◌else◌, ◌&&◌, ◌||◌}
 use Rattle.std.specs.Char.{digit_value}
 use Rattle.std.specs.Cmp.Lexicographic.{pointwise}
 use Rattle.std.specs.List.{list_all}
@@ -29,7 +31,8 @@ whole_lines bytes = parts_after 10 [] bytes
 
 -- digits, and no leading zero before others
 abbrev pub is_plain : List ℕ → Bool
-is_plain word = nat_lt 0 (length word) && list_all (λ b. nat_lt (digit_value b) 10) word && (not (slice_index word 0 == 48) || length word == 1)
+is_plain word = nat_lt 0 (length word) && list_all (λ b. nat_lt (digit_value b) 10) word
+    && (not (slice_index word 0 == 48) || length word == 1)
 
 -- a number as it is written, with a minus before it where it is below 0
 abbrev pub is_number : List ℕ → Bool
@@ -88,7 +91,8 @@ step_with (Some zs) = let s = step_from zs in if pointwise int_eq (step_numbers 
 -- the goal whose numbers these are
 abbrev pub goal_with : Option (List ℤ) → Option Constraint
 goal_with None = None
-goal_with (Some zs) = let g = goal_from zs in if pointwise int_eq (goal_numbers g.degree (weighted g.terms)) zs && are_goal_terms g.terms then Some g else None
+goal_with (Some zs) = let g = goal_from zs in if pointwise int_eq (goal_numbers g.degree (weighted g.terms)) zs
+    && are_goal_terms g.terms then Some g else None
 
 -- the step whose line this is
 unfoldable pub step_of : List ℕ → Option Step

@@ -13,7 +13,13 @@ chain_atom i = Atom (codes "x" ++ decimal i)
 
 -- a sentence: the probability of a formula is at least a fraction
 abbrev pub at_least : Formula Name → ℕ → ℕ → Item
-at_least f num den = Stated (record { formula = f; given = None; side = AtLeast; value = record { num = num; den = den }; upper = None })
+at_least f num den = Stated (record {
+  formula = f;
+  given = None;
+  side = AtLeast;
+  value = record { num = num; den = den };
+  upper = None;
+})
 
 -- the first atom is probable: `P(x0) >= 9/10`
 abbrev pub first_item : Item

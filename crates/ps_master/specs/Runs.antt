@@ -105,7 +105,8 @@ verdict_of (first.Open cause) = verdict.Open cause
 
 -- a distribution meets the bounds and gives the evidence a positive probability, or none does
 abbrev pub IsValidFirst : Subject → First → Type 0
-IsValidFirst s (first.Reached m) = ShowsConsistent (atoms_of s) (bounds_of s.parts) (model_of m) × IsAllowed (atoms_of s) (bounds_of s.parts) (setting_of s).query.evidence (model_of m).worlds
+IsValidFirst s (first.Reached m) = ShowsConsistent (atoms_of s) (bounds_of s.parts) (model_of m)
+    × IsAllowed (atoms_of s) (bounds_of s.parts) (setting_of s).query.evidence (model_of m).worlds
 IsValidFirst s (first.Nothing d) = ShowsNothing s.parts (given_in s.query) (dual_of d)
 IsValidFirst s (first.Open cause) = Unit {0}
 
@@ -126,7 +127,8 @@ GoesOn old new events (first.Open cause) = Unit {0}
 pub record IsPhaseOneAnswer (old new : RunState) (answer : First) : Type 0 where
   pub events : List Event
   pub traced : HasTraced old new events
-  pub lawful : IsLawfulPhaseOne old.over.subject old.over.limits.pivots old.over.limits.conflicts (verdict_of (kept_first old.over.flags answer)) events
+  pub lawful : IsLawfulPhaseOne old.over.subject old.over.limits.pivots old.over.limits.conflicts
+      (verdict_of (kept_first old.over.flags answer)) events
   pub valid : IsValidFirst old.over.subject (kept_first old.over.flags answer)
   pub whole : IsWholeFirst old.over answer
   pub goes_on : GoesOn old new events answer
@@ -155,6 +157,8 @@ IsValidSide kind p q (side.Open cause) = Unit {0}
 pub record IsSideAnswerOf (kind : ClaimKind) (old new : RunState) (answer : SideAnswer) : Type 0 where
   pub events : List Event
   pub traced : HasTraced old new events
-  pub lawful : IsLawfulSide kind old.over.subject old.over.limits.pivots old.over.limits.conflicts (stage_of old) old.left (stage_of new) new.left (kept_side old.over.flags answer) events
-  pub valid : (q : Query) → old.over.subject.query ≡ Some q → IsValidSide kind old.over.subject.parts q (kept_side old.over.flags answer)
+  pub lawful : IsLawfulSide kind old.over.subject old.over.limits.pivots old.over.limits.conflicts (stage_of old)
+      old.left (stage_of new) new.left (kept_side old.over.flags answer) events
+  pub valid : (q : Query) → old.over.subject.query ≡ Some q
+      → IsValidSide kind old.over.subject.parts q (kept_side old.over.flags answer)
   pub whole : IsWholeSide kind old.over answer

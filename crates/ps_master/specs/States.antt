@@ -24,7 +24,14 @@ use Rattle.ps_master.specs.Runs.{RunState, IsPhaseOneAnswer, IsSideAnswerOf}
 
 -- a run by what it is over, its state, and whether memory ran out
 abbrev pub run_of : LimitedSubject → State → Bool → RunState
-run_of over state broken = record { over = over; pool = state.pool; table = state.table; trace = state.trace; left = state.left; is_broken = broken }
+run_of over state broken = record {
+  over = over;
+  pool = state.pool;
+  table = state.table;
+  trace = state.trace;
+  left = state.left;
+  is_broken = broken;
+}
 
 -- what phase one answers, from one state to another, while memory lasts
 abbrev pub AnswersPhaseOne : LimitedSubject → State → State → First → Type 0
@@ -52,7 +59,8 @@ IsModelOrWide state (Err at) = IsWideAt (ModelPlaces state.table) at
 
 -- the value that a dual shows, with the distribution of the state's table, unless a number of it is too wide
 abbrev pub IsBoundOf : State → Dual → SideAnswer → Type 0
-IsBoundOf state d (side.Bound value m shown_by) = IsTableModel state.table state.pool m × (shown_by ≡ d) × HasValueHead value (dual_of d)
+IsBoundOf state d (side.Bound value m shown_by) =
+    IsTableModel state.table state.pool m × (shown_by ≡ d) × HasValueHead value (dual_of d)
 IsBoundOf state d (side.Open (Wide at)) = IsWideAt (ModelPlaces state.table) at
 IsBoundOf state d (side.Open cause) = ⊥
 

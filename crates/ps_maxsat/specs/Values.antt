@@ -1,5 +1,6 @@
 -- Values of assignments, and which is the greatest.
-use Rattle.std.specs.Prelude.{ℕ, ◌≡◌, ◌≤◌, ◌<◌, ◌+◌, ℤ, pos, ◌+ℤ◌, ◌-ℤ◌, ◌≤ℤ◌, ◌<ℤ◌, Bool, Result, Ok, Err, List, length, All, ◌⊎◌}
+use Rattle.std.specs.Prelude.{ℕ, ◌≡◌, ◌≤◌, ◌<◌, ◌+◌, ℤ, pos, ◌+ℤ◌, ◌-ℤ◌, ◌≤ℤ◌}
+use Rattle.std.specs.Prelude.{◌<ℤ◌, Bool, Result, Ok, Err, List, length, All, ◌⊎◌}
 use Rattle.ps_steps.specs.Assignments.{Assignment, place, full}
 use Rattle.ps_steps.specs.Constraints.{Constraint}
 use Rattle.ps_steps.specs.Weights.{true_weight, constraint_of}
@@ -64,13 +65,16 @@ IsGoal p least = (least ≡ pos 1) ⊎ IsLaterGoal p least
 -- what an answer says of all assignments
 abbrev pub IsPriced : Wcnf → ℕ → Priced → Type 0
 IsPriced p conflicts (NoneAbove last) = NoneIsAbove p (pos 0)
-IsPriced p conflicts (Best a v searches) = IsOf p a v × (pos 1 ≤ℤ v) × NoneIsAbove p v × (1 ≤ searches) × (searches ≤ most_searches)
-IsPriced p conflicts (Cut a v goal searches) = IsOf p a v × (pos 1 ≤ℤ v) × IsHalfway p v goal × (goal ≤ℤ most_value p) × (2 ≤ searches) × (searches ≤ most_searches)
+IsPriced p conflicts (Best a v searches) =
+    IsOf p a v × (pos 1 ≤ℤ v) × NoneIsAbove p v × (1 ≤ searches) × (searches ≤ most_searches)
+IsPriced p conflicts (Cut a v goal searches) =
+    IsOf p a v × (pos 1 ≤ℤ v) × IsHalfway p v goal × (goal ≤ℤ most_value p) × (2 ≤ searches) × (searches ≤ most_searches)
 IsPriced p conflicts (Spent learned) = learned ≡ conflicts
 
 -- the log holds the search of a goal with this end
 abbrev pub HoldsSearch : Wcnf → ℤ → ℕ → Bool → Telling → search.the_data → Type 0
-HoldsSearch p least conflicts told new o = (h : Handed p.hard (goal_of p least) told new) × IsShown p.hard (goal_of p least) conflicts h.steps o
+HoldsSearch p least conflicts told new o =
+    (h : Handed p.hard (goal_of p least) told new) × IsShown p.hard (goal_of p least) conflicts h.steps o
 
 -- the log holds a search that found an assignment, for a value that is no greater than this
 pub record HoldsFound (p : Wcnf) (v : ℤ) (conflicts : ℕ) (told : Bool) (new : Telling) : Type 0 where

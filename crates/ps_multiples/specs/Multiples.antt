@@ -32,8 +32,10 @@ pub record AreScaled (t : Tableau) (costs : Costs) (s : Scaled) : Type 0 where
 
 -- the places of the whole multiples of a table's multipliers: of what is carried of each home, and of the multiples
 pub data DualPlaces (t : Tableau) (costs : Costs) : Place → Op → Rational → Rational → Type 0 where
-  of_home : (m : ℕ) (place : Place) (op : Op) (l r : Rational) → m < rows_of t → HomePlaces t costs m place op l r → DualPlaces t costs place op l r
-  of_multiplier : (place : Place) (op : Op) (l r : Rational) → MultiplierPlace (rows_of t) (cost_at costs) (basic_at t) (entry_at t) place op l r
+  of_home : (m : ℕ) (place : Place) (op : Op) (l r : Rational) → m < rows_of t → HomePlaces t costs m place op l r
+      → DualPlaces t costs place op l r
+  of_multiplier : (place : Place) (op : Op) (l r : Rational)
+      → MultiplierPlace (rows_of t) (cost_at costs) (basic_at t) (entry_at t) place op l r
       → DualPlaces t costs place op l r
 
 -- ---- weights

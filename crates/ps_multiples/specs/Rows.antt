@@ -36,8 +36,10 @@ multiple_before xs i = lcm_to i (under_at xs)
 
 -- the places of whole multiples of a list's numbers
 pub data ListPlaces (xs : List Rational) : Place → Op → Rational → Rational → Type 0 where
-  at_multiple : (i : ℕ) → i < length xs → ListPlaces xs (Whole i) Lcm (whole (pos (multiple_before xs i))) (whole (pos (under_at xs i)))
-  at_product : (i : ℕ) → i < length xs → ListPlaces xs (Scaled i) Mul (get_or xs i zero_q) (whole (pos (multiple_before xs (length xs))))
+  at_multiple : (i : ℕ) → i < length xs → ListPlaces xs (Whole i) Lcm (whole (pos (multiple_before xs i)))
+      (whole (pos (under_at xs i)))
+  at_product : (i : ℕ) → i < length xs → ListPlaces xs (Scaled i) Mul (get_or xs i zero_q)
+      (whole (pos (multiple_before xs (length xs))))
 
 -- a refusal of the least common multiple of two numbers at this place
 abbrev pub NamesMultiple : Place → ℕ → ℕ → WideAt → Type 0

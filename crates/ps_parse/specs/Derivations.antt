@@ -8,7 +8,9 @@ use Rattle.ps_text.specs.Grammar.{FormulaSyntax, Prob, Within, ItemSyntax, Sente
 use Rattle.ps_text.specs.Meanings.{formula_of, given_of, IsValue, AreItems}
 use Rattle.ps_text.specs.ExpectedTokens.{refusal}
 use Rattle.ps_text.specs.BegunFormulas.{Frame, BegunNot, BegunGroup, BegunAnd, BegunOr, BegunImplies, BegunIff}
-use Rattle.ps_text.specs.PartialParses.{Parse, InPsat, InVersion, InHeadEnd, InItem, InQueryProb, InTextEnd, InDone, InParen, InOperand, InOperator, InRelation, InBracket, InFirst, InNumber, InComma, InSecond, InBracketEnd, InItemEnd, state_of, IsParse, parsed}
+use Rattle.ps_text.specs.PartialParses.{Parse, InPsat, InVersion, InHeadEnd, InItem, InQueryProb, InTextEnd, InDone}
+use Rattle.ps_text.specs.PartialParses.{InParen, InOperand, InOperator, InRelation, InBracket, InFirst, InNumber, InComma}
+use Rattle.ps_text.specs.PartialParses.{InSecond, InBracketEnd, InItemEnd, state_of, IsParse, parsed}
 use Rattle.ps_problem.specs.Drafts.{formula_at, AreBelow}
 use Rattle.ps_parse.specs.declared.operator.Operator.{Operator}
 use Rattle.ps_parse.specs.declared.operator.Operator.TheVariants as operator

@@ -44,7 +44,14 @@ ratio_of v = record { num = v.num; den = v.den }
 
 -- what of an item was read
 abbrev pub item_of : declared.ItemSoFar → ItemSoFar
-item_of i = record { query = i.query; conditional = i.conditional; formula = i.formula; given = i.given; side = i.side; least = ratio_of i.least }
+item_of i = record {
+  query = i.query;
+  conditional = i.conditional;
+  formula = i.formula;
+  given = i.given;
+  side = i.side;
+  least = ratio_of i.least;
+}
 
 -- what waits with the draft, and the item so far, of a parser of items
 abbrev pub work_of : ItemParser → Work

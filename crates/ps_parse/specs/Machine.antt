@@ -1,5 +1,6 @@
 -- The machine over tokens: what a token that isn't refused does to a draft.
-use Rattle.std.specs.Prelude.{ℕ, ◌/◌, Bool, true, false, if◌then◌else◌, bytes_eq, codes, List, [], ◌∷◌, ◌++◌, Option, Some, None, length}
+use Rattle.std.specs.Prelude.{ℕ, ◌/◌, Bool, true, false, if◌then◌else◌, bytes_eq, codes}
+use Rattle.std.specs.Prelude.{List, [], ◌∷◌, ◌++◌, Option, Some, None, length}
 use Rattle.ps_meaning.specs.Formula as formula
 use Rattle.ps_meaning.specs.Statements.{Name, Ratio, Item, Stated, Asked}
 use Rattle.ps_meaning.specs.declared.side.Side.{Side}
@@ -41,7 +42,14 @@ pub record Machine : Type 0 where
 
 -- before the first item
 abbrev pub none_yet : ItemSoFar
-none_yet = record { query = false; conditional = false; formula = 0; given = None; side = side.Exactly; least = record { num = 0; den = 1 } }
+none_yet = record {
+  query = false;
+  conditional = false;
+  formula = 0;
+  given = None;
+  side = side.Exactly;
+  least = record { num = 0; den = 1 };
+}
 
 -- before the first token
 abbrev pub at_first : Machine
@@ -80,7 +88,8 @@ with_constant d false = with_mark d mark.False
 
 -- the formula of a word stands open last
 abbrev pub with_word : Drafted → List ℕ → Drafted
-with_word d w = if bytes_eq w (codes "true") then with_constant d true else (if bytes_eq w (codes "false") then with_constant d false else with_atom d w)
+with_word d w = if bytes_eq w (codes "true") then with_constant d true
+    else (if bytes_eq w (codes "false") then with_constant d false else with_atom d w)
 
 -- behind an operand each `!` before it is marked
 abbrev pub operand_ended : Pending → Drafted → Pending

@@ -1,5 +1,6 @@
 -- Operators that wait for their last operand, and the draft whose open formulas are their first ones.
-use Rattle.std.specs.Prelude.{◌≡◌, ◌≤◌, All, ℕ, suc, nat_le, if◌then◌else◌, Bool, true, false, List, [], ◌∷◌, length, Option, Some, None}
+use Rattle.std.specs.Prelude.{◌≡◌, ◌≤◌, All, ℕ, suc, nat_le, if◌then◌else◌, Bool, true}
+use Rattle.std.specs.Prelude.{false, List, [], ◌∷◌, length, Option, Some, None}
 use Rattle.ps_problem.specs.declared.mark.Mark.{Mark}
 use Rattle.ps_problem.specs.declared.mark.Mark.TheVariants as mark
 use Rattle.ps_problem.specs.declared.limits.TheConstants.{MOST_NESTING}
@@ -38,7 +39,8 @@ waiting o p = record { operators = o ∷ p.operators; draft = p.draft }
 -- each operator that waits last and binds at least so tightly is reduced: it is marked, and waits no more
 abbrev pub reduced_from : ℕ → List Operator → Drafted → Pending
 reduced_from k [] d = record { operators = []; draft = d }
-reduced_from k (o ∷ os) d = if nat_le k (binding o) then reduced_from k os (with_mark d (mark_of o)) else record { operators = o ∷ os; draft = d }
+reduced_from k (o ∷ os) d = if nat_le k (binding o) then reduced_from k os (with_mark d (mark_of o))
+    else record { operators = o ∷ os; draft = d }
 
 -- the same of all operators that wait
 abbrev pub reduced : ℕ → Pending → Pending

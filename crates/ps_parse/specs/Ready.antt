@@ -59,5 +59,6 @@ MayBeTaken part.Operand w t = HaveFirst w.pending × IsOperand t
 MayBeTaken part.Operator w t = HaveAll w.pending × MayEnd w t
 MayBeTaken part.Number w t = HasDraftedFormulas w × IsProbability (number_in t)
 MayBeTaken part.First w t = IsProbability (number_in t)
-MayBeTaken part.Second w t = HasDraftedFormulas w × IsProbability (number_in t) × IsReduced w.item.least × (w.item.side ≡ side.AtLeast)
+MayBeTaken part.Second w t = HasDraftedFormulas w × IsProbability (number_in t) × IsReduced w.item.least
+    × (w.item.side ≡ side.AtLeast)
 MayBeTaken p w t = Unit {0}

@@ -1,5 +1,6 @@
 -- What is asked of a token that is to be taken, and what was done when it was taken.
-use Rattle.std.specs.Prelude.{◌≡◌, ◌≤◌, ◌+◌, ◌++◌, ℕ, Bool, true, false, not, ◌&&◌, if◌then◌else◌, List, [], ◌∷◌, Some, None, codes, length, IsTrue}
+use Rattle.std.specs.Prelude.{◌≡◌, ◌≤◌, ◌+◌, ◌++◌, ℕ, Bool, true, false, not, ◌&&◌}
+use Rattle.std.specs.Prelude.{if◌then◌else◌, List, [], ◌∷◌, Some, None, codes, length, IsTrue}
 use Rattle.ps_meaning.specs.Names.{is_word}
 use Rattle.ps_text.specs.Tokens as text
 use Rattle.ps_text.specs.Tokens.{Word, is_the_word}
@@ -55,5 +56,7 @@ pub record IsTaken (old : Parser) (t : Token) (place : Position) (new : Parser) 
 
 -- a refused token changes nothing
 abbrev pub IsTokenRefused : Parser → Token → Parser → ParseError → Type 0
-IsTokenRefused old t new (error.Refused kind) = (refusal (machine_of old).state (token_of t) ≡ Some kind) × (machine_of new ≡ machine_of old) × (places_of new ≡ places_of old)
+IsTokenRefused old t new (error.Refused kind) =
+    (refusal (machine_of old).state (token_of t) ≡ Some kind) × (machine_of new ≡ machine_of old)
+    × (places_of new ≡ places_of old)
 IsTokenRefused old t new error.NoMemory = Unit {0}

@@ -9,4 +9,5 @@ use Rattle.ps_pb.specs.declared.propagation.Effect.TheVariants.{Violated, Forced
 abbrev pub Propagates : Constraint → Assignment → Assignment → Effect → Type 0
 Propagates c a b Violated = (is_violated c a ≡ true) × (b ≡ a)
 Propagates c a b Idle = (is_violated c a ≡ false) × (some_forced (slack c a) a c.terms ≡ false) × (b ≡ a)
-Propagates c a b Forced = (is_violated c a ≡ false) × (some_forced (slack c a) a c.terms ≡ true) × (b ≡ with_forced (slack c a) c.terms a)
+Propagates c a b Forced = (is_violated c a ≡ false) × (some_forced (slack c a) a c.terms ≡ true)
+    × (b ≡ with_forced (slack c a) c.terms a)

@@ -17,7 +17,8 @@ use Rattle.ps_claims.specs.declared.claim_kind.ClaimKind.{ClaimKind}
 use Rattle.ps_claims.specs.declared.claim_kind.ClaimKind.TheVariants.{Nothing, Lower, Upper}
 use Rattle.ps_runs.specs.Rows.{phase_of, rows_of, entries_of}
 use Rattle.ps_runs.specs.Searches.{IsSpentSearch}
-use Rattle.ps_runs.specs.Runs.{Subject, setting_of, Stage, table_at, costs_at, dual_at, goal_at_least, BelongsTo, IsMovingAt, IsRestingAt, IsFeasibleAt, AreAtMost}
+use Rattle.ps_runs.specs.Runs.{Subject, setting_of, Stage, table_at, costs_at, dual_at}
+use Rattle.ps_runs.specs.Runs.{goal_at_least, BelongsTo, IsMovingAt, IsRestingAt, IsFeasibleAt, AreAtMost}
 
 -- a model is due: phase one is due to end, or a side rests and no world is priced above 0
 abbrev pub IsModelDue : ClaimKind → Subject → Stage → (ℕ → ℕ → Rational) → Type 0
@@ -27,11 +28,14 @@ IsModelDue Upper s g X = IsRestingAt Upper s g X × AreAtMost Upper s g X (pos 0
 
 -- a place is due at a table, with its operands: for the pivots, of which so many are left; at rest, for the multiplier of a
 -- row and for the whole multiples of the multipliers; where a model is due, for its weights
-pub data DueAt (kind : ClaimKind) (s : Subject) (g : Stage) (left : ℕ) (X : ℕ → ℕ → Rational) : Place → Op → Rational → Rational → Type 0 where
+pub data DueAt (kind : ClaimKind) (s : Subject) (g : Stage) (left : ℕ) (X : ℕ → ℕ → Rational) : Place → Op → Rational
+    → Rational → Type 0 where
   for_pivots : (place : Place) (op : Op) (l r : Rational)
-      → DuePlace (phase_of kind) (table_at s g X) (length g.pool) left (costs_at kind s g) place op l r → DueAt kind s g left X place op l r
+      → DuePlace (phase_of kind) (table_at s g X) (length g.pool) left (costs_at kind s g) place op l r
+      → DueAt kind s g left X place op l r
   for_multiplier : (i : ℕ) (place : Place) (op : Op) (l r : Rational) → IsRestingAt kind s g X → i < rows_of (setting_of s)
-      → CostPlace (rows_of (setting_of s)) (costs_at kind s g) g.basis X (Home i) place op l r → DueAt kind s g left X place op l r
+      → CostPlace (rows_of (setting_of s)) (costs_at kind s g) g.basis X (Home i) place op l r
+      → DueAt kind s g left X place op l r
   for_dual : (place : Place) (op : Op) (l r : Rational) → IsRestingAt kind s g X
       → MultiplierPlace (rows_of (setting_of s)) (costs_at kind s g) g.basis X place op l r → DueAt kind s g left X place op l r
   for_model : (place : Place) (op : Op) (l r : Rational) → IsModelDue kind s g X
@@ -44,7 +48,8 @@ pub record IsOutOfPivots (kind : ClaimKind) (s : Subject) (pivots : ℕ) (g : St
   pub moving : IsMovingAt kind s g
 
 -- the table is resting, and the steps are those of a spent search for a world of combination at least 1
-pub record IsOutOfConflicts (kind : ClaimKind) (s : Subject) (conflicts : ℕ) (g : Stage) (limit : ℕ) (goal : Constraint) (steps : List Step) : Type 0 where
+pub record IsOutOfConflicts (kind : ClaimKind) (s : Subject) (conflicts : ℕ) (g : Stage) (limit : ℕ)
+    (goal : Constraint) (steps : List Step) : Type 0 where
   pub limit_is : limit ≡ conflicts
   pub table : ℕ → ℕ → Rational
   pub rests : IsRestingAt kind s g table

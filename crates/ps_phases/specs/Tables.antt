@@ -37,7 +37,8 @@ abbrev pub stage_at : List World → Tableau → Stage
 stage_at pool t = record { pool = pool; basis = basic_at t }
 
 -- a phase is under way: behind these events others have led from a stage, with so many pivots left there, to this pool and table
-pub record IsUnderWay (kind : ClaimKind) (s : Subject) (conflicts : ℕ) (from : Stage) (had : ℕ) (before : List Event) (pool : List World) (t : Tableau) (trace : List Event) (left : ℕ) : Type 0 where
+pub record IsUnderWay (kind : ClaimKind) (s : Subject) (conflicts : ℕ) (from : Stage) (had : ℕ) (before : List Event)
+    (pool : List World) (t : Tableau) (trace : List Event) (left : ℕ) : Type 0 where
   pub table : IsRunTable (setting_of s) pool t
   pub pool_kept : IsPool (atoms_of s) pool
   pub events : List Event

@@ -17,7 +17,8 @@ use Rattle.ps_answer.specs.declared.answer.Answer.{Answer}
 use Rattle.ps_claims.specs.declared.claim_kind.ClaimKind.{ClaimKind}
 use Rattle.ps_claims.specs.declared.claim_kind.ClaimKind.TheVariants.{Nothing, Lower, Upper}
 use Rattle.ps_claims.specs.Duals.{HasValueHead}
-use Rattle.ps_runs.specs.Runs.{Subject, subject_of, sentences_of, Stage, IsStart, LeadsTo, LeadsToPending, pivots_in, IsFeasibleAt, IsModelAt, IsDualAt}
+use Rattle.ps_runs.specs.Runs.{Subject, subject_of, sentences_of, Stage, IsStart, LeadsTo}
+use Rattle.ps_runs.specs.Runs.{LeadsToPending, pivots_in, IsFeasibleAt, IsModelAt, IsDualAt}
 use Rattle.ps_certificate.specs.Certificates.{model_of, dual_of}
 use Rattle.ps_phases.specs.Licences.{IsLicensed}
 
@@ -44,18 +45,21 @@ IsLawfulVerdict p pivots conflicts verdict events = IsLawfulPhaseOne (sentences_
 
 -- what a side answers at a stage
 abbrev pub IsSideAt : ClaimKind → Subject → ℕ → ℕ → Stage → ℕ → Option World → SideAnswer → Type 0
-IsSideAt kind s pivots conflicts g left pending (side.Bound value m d) = (pending ≡ None) × IsModelAt s g (model_of m) × IsDualAt kind s g (dual_of d) × HasValueHead value (dual_of d)
+IsSideAt kind s pivots conflicts g left pending (side.Bound value m d) =
+    (pending ≡ None) × IsModelAt s g (model_of m) × IsDualAt kind s g (dual_of d) × HasValueHead value (dual_of d)
 IsSideAt kind s pivots conflicts g left pending (side.Open cause) = IsLicensed kind s pivots conflicts g left pending cause
 
 -- the events of a side lead from one stage, with so many pivots left, to another where this is its answer
-pub record IsLawfulSide (kind : ClaimKind) (s : Subject) (pivots conflicts : ℕ) (a : Stage) (had : ℕ) (b : Stage) (left : ℕ) (answer : SideAnswer) (events : List Event) : Type 0 where
+pub record IsLawfulSide (kind : ClaimKind) (s : Subject) (pivots conflicts : ℕ) (a : Stage) (had : ℕ) (b : Stage)
+    (left : ℕ) (answer : SideAnswer) (events : List Event) : Type 0 where
   pub pending : Option World
   pub leads : LeadsToPending kind s conflicts a events pending b
   pub counted : left + pivots_in events ≡ had
   pub answered : IsSideAt kind s pivots conflicts b left pending answer
 
 -- phase one is over at a feasible table, and both sides go on from there, the upper one from where the lower one ended
-pub record AreLawfulBounds (s : Subject) (pivots conflicts : ℕ) (first : List Event) (lower : SideAnswer) (lower_events : List Event) (upper : SideAnswer) (upper_events : List Event) : Type 0 where
+pub record AreLawfulBounds (s : Subject) (pivots conflicts : ℕ) (first : List Event) (lower : SideAnswer)
+    (lower_events : List Event) (upper : SideAnswer) (upper_events : List Event) : Type 0 where
   pub start : Stage
   pub starts : IsStart s start
   pub after_first : Stage
@@ -73,7 +77,8 @@ pub record AreLawfulBounds (s : Subject) (pivots conflicts : ℕ) (first : List 
 
 -- what is answered to a query is what its run leads to; where it is open or impossible, phase one says so
 abbrev pub IsLawfulAnswerTo : Subject → ℕ → ℕ → List Event → QueryAnswer → Type 0
-IsLawfulAnswerTo s pivots conflicts first (query.Bounds lower lower_events upper upper_events) = AreLawfulBounds s pivots conflicts first lower lower_events upper upper_events
+IsLawfulAnswerTo s pivots conflicts first (query.Bounds lower lower_events upper upper_events) =
+    AreLawfulBounds s pivots conflicts first lower lower_events upper upper_events
 IsLawfulAnswerTo s pivots conflicts first (query.Impossible d) = IsLawfulPhaseOne s pivots conflicts (Inconsistent d) first
 IsLawfulAnswerTo s pivots conflicts first (query.Open cause) = IsLawfulPhaseOne s pivots conflicts (Open cause) first
 

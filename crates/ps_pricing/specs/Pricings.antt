@@ -29,7 +29,10 @@ pub record PricingSubject : Type 0 where
 
 -- duals of the kept sentences of a problem, by a truth value for each, and of a query, or none
 abbrev pub priced_over : Parts → List Bool → Option Query → ℕ → PricingSubject
-priced_over p kept query conflicts = record { subject = record { parts = kept_parts kept p; query = query }; conflicts = conflicts }
+priced_over p kept query conflicts = record {
+  subject = record { parts = kept_parts kept p; query = query };
+  conflicts = conflicts;
+}
 
 -- the world that an assignment gives, where it is full
 abbrev pub IsAssigned : Subject → Assignment → World → Type 0
@@ -70,7 +73,8 @@ pub record IsFound (kind : ClaimKind) (a : PricingSubject) (d : Dual) (w : World
 -- another dual has the same numbers, and its steps refute that the combination is at least 1
 pub record IsRefutedBy (kind : ClaimKind) (s : Subject) (d e : Dual) : Type 0 where
   pub numbers : HaveSameNumbers (dual_of e) (dual_of d)
-  pub steps : Refutes (length s.parts.nodes) (first_known (form_of s.parts.nodes) (goal_at_least (pos 1) kind s (dual_of d))) e.steps
+  pub steps : Refutes (length s.parts.nodes)
+      (first_known (form_of s.parts.nodes) (goal_at_least (pos 1) kind s (dual_of d))) e.steps
 
 -- the search for a combination of at least 1 was spent
 pub record IsSpent (kind : ClaimKind) (a : PricingSubject) (d : Dual) (goal : Constraint) (steps : List Step) : Type 0 where

@@ -25,7 +25,8 @@ over_one (f ∷ fs) = Not f ∷ fs
 abbrev pub over_two : ℕ → List (Formula Name) → List (Formula Name)
 over_two kind [] = []
 over_two kind (g ∷ []) = []
-over_two kind (g ∷ f ∷ fs) = (if kind == 4 then And f g else (if kind == 5 then Or f g else (if kind == 6 then Implies f g else Iff f g))) ∷ fs
+over_two kind (g ∷ f ∷ fs) = (if kind == 4 then And f g
+    else (if kind == 5 then Or f g else (if kind == 6 then Implies f g else Iff f g))) ∷ fs
 
 -- the formulas, the last one first, after a symbol
 abbrev pub after_symbol : List (Formula Name) → ℕ × Name → List (Formula Name)
@@ -43,7 +44,8 @@ first_of_stack [] = Truth
 first_of_stack (f ∷ fs) = f
 
 -- the symbols of a formula put it on the stack
-abbrev pub postfix_back : (f : Formula Name) (fs : List (Formula Name)) (rest : List (ℕ × Name)) → after_symbols fs (postfix f rest) ≡ after_symbols (f ∷ fs) rest
+abbrev pub postfix_back : (f : Formula Name) (fs : List (Formula Name)) (rest : List (ℕ × Name))
+    → after_symbols fs (postfix f rest) ≡ after_symbols (f ∷ fs) rest
 postfix_back Truth fs rest = refl
 postfix_back Falsity fs rest = refl
 postfix_back (Atom a) fs rest = refl
@@ -55,5 +57,6 @@ postfix_back (Iff f g) fs rest = postfix_back f fs (postfix g ((7, []) ∷ rest)
 
 -- formulas told apart by their postfix order
 abbrev pub formula_code : Coded (Formula Name)
-formula_code = code_by (List (ℕ × Name)) (coded_list (coded× coded_ℕ (coded_list coded_ℕ))) (λ f. postfix f []) (λ es. first_of_stack (after_symbols [] es))
+formula_code = code_by (List (ℕ × Name)) (coded_list (coded× coded_ℕ (coded_list coded_ℕ))) (λ f. postfix f []) (λ es.
+    first_of_stack (after_symbols [] es))
     (λ f i. first_of_stack (postfix_back f [] [] i))

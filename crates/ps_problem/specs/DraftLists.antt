@@ -52,7 +52,8 @@ item_of fs (item.Query q) = Asked (question_at fs q.formula q.given)
 
 -- the numbers of an item are in range, and its values in order
 abbrev pub IsDraftItem : ℕ → DraftItem → Type 0
-IsDraftItem n (item.Sentence s) = AreBelow n s.formula s.given × IsReduced (ratio_of (s.num, s.den)) × IsUpper s.side (option_map ratio_of s.upper)
+IsDraftItem n (item.Sentence s) = AreBelow n s.formula s.given × IsReduced (ratio_of (s.num, s.den))
+    × IsUpper s.side (option_map ratio_of s.upper)
 IsDraftItem n (item.Query q) = AreBelow n q.formula q.given
 
 -- what the lists hold together; the marks of formulas that have ended come first

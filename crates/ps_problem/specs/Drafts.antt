@@ -78,7 +78,13 @@ question_at fs f g = record { formula = formula_at fs f; given = option_map (for
 
 -- the statement over formulas by number, with a value on a side, and perhaps an upper value
 abbrev pub statement_at : List (Formula Name) → ℕ → Option ℕ → Side → Ratio → Option Ratio → Statement
-statement_at fs f g s value upper = record { formula = formula_at fs f; given = option_map (formula_at fs) g; side = s; value = value; upper = upper }
+statement_at fs f g s value upper = record {
+  formula = formula_at fs f;
+  given = option_map (formula_at fs) g;
+  side = s;
+  value = value;
+  upper = upper;
+}
 
 -- the numbers of a formula and perhaps a condition were given out
 abbrev pub AreBelow : ℕ → ℕ → Option ℕ → Type 0
@@ -102,7 +108,8 @@ with_item d item = record d { items = d.items ++ item ∷ [] }
 
 -- a draft with a sentence more, over its formulas by number
 abbrev pub with_statement : Drafted → ℕ → Option ℕ → Side → ℕ × ℕ → Option (ℕ × ℕ) → Drafted
-with_statement d f g s value upper = with_item d (Stated (statement_at d.formulas f g s (ratio_of value) (option_map ratio_of upper)))
+with_statement d f g s value upper = with_item d
+    (Stated (statement_at d.formulas f g s (ratio_of value) (option_map ratio_of upper)))
 
 -- a draft with a query more, over its formulas by number
 abbrev pub with_question : Drafted → ℕ → Option ℕ → Drafted

@@ -35,7 +35,8 @@ abbrev pub question_on : Statement → Question
 question_on s = record { formula = s.formula; given = s.given }
 
 -- the sentences and queries of statements and questions, over formulas among which all of theirs are
-pub record HasItems (fs : List (Formula Name)) (stated : List Statement) (asked : List Question) (sentences : List Sentence) (bounds : List Bound) (queries : List Query) : Type 0 where
+pub record HasItems (fs : List (Formula Name)) (stated : List Statement) (asked : List Question)
+    (sentences : List Sentence) (bounds : List Bound) (queries : List Query) : Type 0 where
   pub stated_there : All (λ s. HasQuestion fs (question_on s)) stated
   pub asked_there : All (HasQuestion fs) asked
   pub sentences_are : sentences ≡ map (sentence_in fs) stated
@@ -46,7 +47,8 @@ pub record HasItems (fs : List (Formula Name)) (stated : List Statement) (asked 
 pub record SentencesMade (d : Drafted) (i : ℕ) (a : Assembly) : Type 0 where
   pub built : Built d.names a.building.atoms a.building.formulas
   pub holds : HasItems built.formulas (statements_of (take i d.items)) [] a.sentences a.bounds a.queries
-  pub rest : after (with_statements i (length a.bounds) built.formulas (drop i d.items)) (λ fs. with_questions 0 0 fs d.items) ≡ counted d.items
+  pub rest : after (with_statements i (length a.bounds) built.formulas (drop i d.items)) (λ fs.
+      with_questions 0 0 fs d.items) ≡ counted d.items
 
 -- all sentences of a draft are made, and the queries of so many items; what is left gives what all give
 pub record QueriesMade (d : Drafted) (i : ℕ) (a : Assembly) : Type 0 where

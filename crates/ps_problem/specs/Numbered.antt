@@ -1,5 +1,6 @@
 -- Formulas of a draft as far as they are numbered.
-use Rattle.std.specs.Prelude.{◌≡◌, ◌≤◌, ◌<◌, ◌-◌, ℕ, true, List, [], ◌∷◌, ◌++◌, Option, Result, Ok, Err, length, map, take, drop, All, Contains, IfSome, slice_index_or}
+use Rattle.std.specs.Prelude.{◌≡◌, ◌≤◌, ◌<◌, ◌-◌, ℕ, true, List, [], ◌∷◌, ◌++◌, Option}
+use Rattle.std.specs.Prelude.{Result, Ok, Err, length, map, take, drop, All, Contains, IfSome, slice_index_or}
 use Rattle.std.specs.List.{list_any}
 use Rattle.ps_meaning.specs.Formula.{Formula, subformulas}
 use Rattle.ps_meaning.specs.Formula as formula
@@ -20,7 +21,8 @@ use Rattle.ps_problem.specs.Drafts.{Drafted, NameBelow, made_by, marked, formula
 use Rattle.ps_problem.specs.DraftLists.{open_after}
 use Rattle.ps_problem.specs.declared.building.Building.{Building}
 use Rattle.ps_problem.specs.Problems.{name_at}
-use Rattle.ps_problem.specs.Numbering.{AreOnce, same_name, same_formula, place_in, names_among, node_in, both_of, query_in, numbered_for}
+use Rattle.ps_problem.specs.Numbering.{AreOnce, same_name, same_formula, place_in, names_among}
+use Rattle.ps_problem.specs.Numbering.{node_in, both_of, query_in, numbered_for}
 
 -- a formula is among some
 abbrev pub IsAmong : List (Formula Name) → Formula Name → Type 0
@@ -81,8 +83,10 @@ IsAdded old n new (Err fault.NoMemory) = Unit {0}
 IsAdded old n new (Err other) = ⊥
 
 -- what is expected was built, and the formula has this number; or there is the excess that is expected
-abbrev pub GivesNumber : List Name → Result (List (Formula Name)) Excess → Formula Name → List ℕ → List Node → Result ℕ Fault → Type 0
-GivesNumber names expected f atoms nodes (Ok i) = (h : Built names atoms nodes) × (expected ≡ Ok h.formulas) × IsNumberOf h.formulas f i
+abbrev pub GivesNumber : List Name → Result (List (Formula Name)) Excess → Formula Name → List ℕ → List Node
+    → Result ℕ Fault → Type 0
+GivesNumber names expected f atoms nodes (Ok i) =
+    (h : Built names atoms nodes) × (expected ≡ Ok h.formulas) × IsNumberOf h.formulas f i
 GivesNumber names expected f atoms nodes (Err x) = IsFaultOf expected x
 
 -- a stack holds the numbers of formulas that stand open
@@ -96,10 +100,12 @@ tops names fs [] = []
 tops names fs (m ∷ ms) = made_by names fs m ∷ tops names (marked names fs m) ms
 
 -- as far as a list of marks has been gone through: what is left to be numbered gives what all of them give
-pub record MarksNumbered (names : List Name) (start : List (Formula Name)) (all : List Mark) (i : ℕ) (b : Building) (stack : List ℕ) : Type 0 where
+pub record MarksNumbered (names : List Name) (start : List (Formula Name)) (all : List Mark) (i : ℕ) (b : Building)
+    (stack : List ℕ) : Type 0 where
   pub built : Built names b.atoms b.formulas
   pub stack_is : IsStack built.formulas (open_after names [] (take i all)) stack
-  pub rest : with_formulas built.formulas (tops names (open_after names [] (take i all)) (drop i all)) ≡ with_formulas start (tops names [] all)
+  pub rest : with_formulas built.formulas (tops names (open_after names [] (take i all)) (drop i all))
+      ≡ with_formulas start (tops names [] all)
 
 -- the formulas of a question are among some
 pub record HasQuestion (fs : List (Formula Name)) (q : Question) : Type 0 where
@@ -108,8 +114,10 @@ pub record HasQuestion (fs : List (Formula Name)) (q : Question) : Type 0 where
   pub both : IsAmong fs (both_of q.formula q.given)
 
 -- what is expected was built, and the question has these numbers; or there is the excess that is expected
-abbrev pub GivesQuery : List Name → Result (List (Formula Name)) Excess → Question → List ℕ → List Node → Result Query Fault → Type 0
-GivesQuery names expected q atoms nodes (Ok r) = (h : Built names atoms nodes) × (expected ≡ Ok h.formulas) × HasQuestion h.formulas q × (r ≡ query_in h.formulas q)
+abbrev pub GivesQuery : List Name → Result (List (Formula Name)) Excess → Question → List ℕ → List Node
+    → Result Query Fault → Type 0
+GivesQuery names expected q atoms nodes (Ok r) =
+    (h : Built names atoms nodes) × (expected ≡ Ok h.formulas) × HasQuestion h.formulas q × (r ≡ query_in h.formulas q)
 GivesQuery names expected q atoms nodes (Err x) = IsFaultOf expected x
 
 -- a formula is behind some others and has this number; or there is the excess at it
@@ -122,7 +130,8 @@ ArePartsNumbered names fs f b result = GivesNumber names (with_formulas fs (subf
 
 -- all formulas of a question are behind some others, and it has these numbers; or there is the excess at one of them
 abbrev pub IsQuestionNumbered : List Name → List (Formula Name) → Question → Building → Result Query Fault → Type 0
-IsQuestionNumbered names fs q b result = GivesQuery names (with_formulas fs (numbered_for q.formula q.given)) q b.atoms b.formulas result
+IsQuestionNumbered names fs q b result =
+    GivesQuery names (with_formulas fs (numbered_for q.formula q.given)) q b.atoms b.formulas result
 
 -- whatever the names are and the formulas that were numbered before, the atom of the name with this number is behind them
 -- and has the number of the result; or there is the excess at it
@@ -138,11 +147,13 @@ pub record NumbersMark (old : Building) (stack : List ℕ) (m : Mark) (new : Bui
 -- whatever formulas of a draft were numbered before, all subformulas of one, by its number in the draft, are behind them and
 -- it has the number of the result; or there is the excess at one of them
 abbrev pub NumbersParts : Drafted → Building → ℕ → Building → Result ℕ Fault → Type 0
-NumbersParts d old f new result = (h : Built d.names old.atoms old.formulas) → ArePartsNumbered d.names h.formulas (formula_at d.formulas f) new result
+NumbersParts d old f new result = (h : Built d.names old.atoms old.formulas)
+    → ArePartsNumbered d.names h.formulas (formula_at d.formulas f) new result
 
 -- the same of all formulas of a question over formulas of the draft
 abbrev pub NumbersQuestion : Drafted → Building → ℕ → Option ℕ → Building → Result Query Fault → Type 0
-NumbersQuestion d old f g new result = (h : Built d.names old.atoms old.formulas) → IsQuestionNumbered d.names h.formulas (question_at d.formulas f g) new result
+NumbersQuestion d old f g new result = (h : Built d.names old.atoms old.formulas)
+    → IsQuestionNumbered d.names h.formulas (question_at d.formulas f g) new result
 
 -- a stack with a number in the place of its last ones, so many
 abbrev pub replaced : List ℕ → ℕ → ℕ → List ℕ

@@ -1,5 +1,7 @@
 -- The problem of a text's items: its formulas and atoms in the order in which they first come.
-use Rattle.std.specs.Prelude.{◌≡◌, ◌<◌, ℕ, suc, ◌==◌, Bool, true, false, ◌&&◌, List, [], ◌∷◌, ◌++◌, pos, Option, Some, None, map, option_map, option_to_list, fold, length, slice_index_or, if◌then◌else◌}
+use Rattle.std.specs.Prelude.{◌≡◌, ◌<◌, ℕ, suc, ◌==◌, Bool, true, false, ◌&&◌, List, [], ◌∷◌}
+use Rattle.std.specs.Prelude.{◌++◌, pos, Option, Some, None, map, option_map}
+use Rattle.std.specs.Prelude.{option_to_list, fold, length, slice_index_or, if◌then◌else◌}
 use Rattle.std.specs.List.{list_any}
 use Rattle.std.specs.Cmp.Lexicographic.{pointwise}
 use Rattle.ps_meaning.specs.Formula.{Formula, with_atoms, subformulas}
@@ -65,7 +67,8 @@ numbered_in_questions (q ∷ qs) = numbered_for q.formula q.given ++ numbered_in
 
 -- the different formulas of some items, those of all statements first
 abbrev pub formulas_of : List Item → List (Formula Name)
-formulas_of items = different same_formula (numbered_in_statements (statements_of items) ++ numbered_in_questions (questions_of items))
+formulas_of items = different same_formula (numbered_in_statements (statements_of items)
+    ++ numbered_in_questions (questions_of items))
 
 -- the names of the atoms among formulas, in order
 abbrev pub names_among : List (Formula Name) → List Name
@@ -143,7 +146,8 @@ stated_bound names s on value = record {
 -- what statements say, over numbers: one bound each, and an upper one too where it is an interval
 abbrev pub stated_bounds : List Name → List Statement → List meaning.Bound
 stated_bounds names [] = []
-stated_bounds names (s ∷ ss) = stated_bound names s s.side s.value ∷ map (stated_bound names s side.AtMost) (option_to_list s.upper) ++ stated_bounds names ss
+stated_bounds names (s ∷ ss) = stated_bound names s s.side s.value
+    ∷ map (stated_bound names s side.AtMost) (option_to_list s.upper) ++ stated_bounds names ss
 
 -- what the statements of items say, over numbers
 abbrev pub stated_by : List Item → List meaning.Bound

@@ -1,5 +1,6 @@
 -- What the numbers of a problem stand for, and which problems are in order.
-use Rattle.std.specs.Prelude.{◌≡◌, ◌≢◌, ◌≤◌, ◌<◌, ◌-◌, ◌==◌, if◌then◌else◌, slice_get, ℕ, pos, List, [], ◌∷◌, Option, Some, None, length, map, All, AllPairs, IfSome, slice_index_or}
+use Rattle.std.specs.Prelude.{◌≡◌, ◌≢◌, ◌≤◌, ◌<◌, ◌-◌, ◌==◌, if◌then◌else◌, slice_get, ℕ, pos, List}
+use Rattle.std.specs.Prelude.{[], ◌∷◌, Option, Some, None, length, map, All, AllPairs, IfSome, slice_index_or}
 use Rattle.ps_meaning.specs.Formula.{Formula, Truth, And}
 use Rattle.ps_meaning.specs.Bounds as meaning
 use Rattle.ps_meaning.specs.Statements.{Name}
@@ -50,7 +51,13 @@ given_at ns (Some g) = tree_at ns g
 
 -- the bound that a bound's numbers stand for
 abbrev pub bound_of : List Node → Bound → meaning.Bound
-bound_of ns b = record { formula = tree_at ns b.formula; given = given_at ns b.given; side = b.side; num = pos b.num; den = pos b.den }
+bound_of ns b = record {
+  formula = tree_at ns b.formula;
+  given = given_at ns b.given;
+  side = b.side;
+  num = pos b.num;
+  den = pos b.den;
+}
 
 -- the bounds that a problem's sentences stand for
 abbrev pub bounds_of : Parts → List meaning.Bound

@@ -30,15 +30,20 @@ pub record IsNewOverAll (p : Parts) (query : Option Query) (limits : Limits) (r 
   pub trace : r.trace ≡ []
 
 -- both sides of the run's query, the upper one from where the lower one ended
-pub record AreSidesOf (r : RunState) (lower : SideAnswer) (lower_events : List Event) (upper : SideAnswer) (upper_events : List Event) : Type 0 where
+pub record AreSidesOf (r : RunState) (lower : SideAnswer) (lower_events : List Event) (upper : SideAnswer)
+    (upper_events : List Event) : Type 0 where
   pub after_lower : Stage
   pub left_lower : ℕ
-  pub least : IsLawfulSide Lower r.over.subject r.over.limits.pivots r.over.limits.conflicts (stage_of r) r.left after_lower left_lower (kept_side r.over.flags lower) lower_events
+  pub least : IsLawfulSide Lower r.over.subject r.over.limits.pivots r.over.limits.conflicts (stage_of r) r.left
+      after_lower left_lower (kept_side r.over.flags lower) lower_events
   pub end : Stage
   pub left : ℕ
-  pub greatest : IsLawfulSide Upper r.over.subject r.over.limits.pivots r.over.limits.conflicts after_lower left_lower end left (kept_side r.over.flags upper) upper_events
-  pub valid_lower : (q : Query) → r.over.subject.query ≡ Some q → IsValidSide Lower r.over.subject.parts q (kept_side r.over.flags lower)
-  pub valid_upper : (q : Query) → r.over.subject.query ≡ Some q → IsValidSide Upper r.over.subject.parts q (kept_side r.over.flags upper)
+  pub greatest : IsLawfulSide Upper r.over.subject r.over.limits.pivots r.over.limits.conflicts after_lower left_lower
+      end left (kept_side r.over.flags upper) upper_events
+  pub valid_lower : (q : Query) → r.over.subject.query ≡ Some q
+      → IsValidSide Lower r.over.subject.parts q (kept_side r.over.flags lower)
+  pub valid_upper : (q : Query) → r.over.subject.query ≡ Some q
+      → IsValidSide Upper r.over.subject.parts q (kept_side r.over.flags upper)
   pub whole_lower : IsWholeSide Lower r.over lower
   pub whole_upper : IsWholeSide Upper r.over upper
 

@@ -13,7 +13,8 @@ use Rattle.ps_generation.specs.declared.limits.Limits.{Limits}
 use Rattle.ps_reported.specs.Laws.{NamesFewWorlds}
 pub use Rattle.ps_reported.specs.Laws.{AreShortLines}
 
--- an answer to a problem within limits: each claim is valid and right, its runs are lawful, what is open is licensed, and all of it can be printed
+-- an answer to a problem within limits: each claim is valid and right, its runs are lawful, what is open is licensed,
+-- and all of it can be printed
 pub record IsSolution (limits : Limits) (p : Parts) (a : Answer) : Type 0 where
   pub valid : IsValid p (answer_of a)
   pub right : IsRightOf p a

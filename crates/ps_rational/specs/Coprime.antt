@@ -1,6 +1,9 @@
 -- Greatest common divisors, coprime numbers and Gauss's lemma.
 use Rattle.std.proofs.Common.{◌≡◌, ℕ, zero, suc, ◌+◌, ◌*◌, ◌/◌, ◌%◌, ◌<◌, ◌≤◌, sym, refl, ap, ◌∙◌, subst, arith}
-use Rattle.std.proofs.Math.Nat.{dvd-mod_iff, mod-lt, dvd-mul_left, dvd_trans, dvd_refl, dvd-zero, div-mul_cancel, dvd_of_mul-dvd-mul_right, mul-dvd-mul_right, pos_of_dvd_of_pos, one-dvd, one-mul, mul-one, mul-zero, div-add-mod, add-mul-mod_self_left, mod-eq_of_lt, mul-lt-mul_of_pos_left}
+use Rattle.std.proofs.Math.Nat.{dvd-mod_iff, mod-lt, dvd-mul_left, dvd_trans, dvd_refl}
+use Rattle.std.proofs.Math.Nat.{dvd-zero, div-mul_cancel, dvd_of_mul-dvd-mul_right, mul-dvd-mul_right, pos_of_dvd_of_pos}
+use Rattle.std.proofs.Math.Nat.{one-dvd, one-mul, mul-one, mul-zero, div-add-mod}
+use Rattle.std.proofs.Math.Nat.{add-mul-mod_self_left, mod-eq_of_lt, mul-lt-mul_of_pos_left}
 use Rattle.std.proofs.lemmas.Nat.Gcd.{IsGcd-from_zero, IsGcd-swap, IsGcd-from_mod, same_from_IsGcd, le_of_dvd}
 use Rattle.std.specs.Int.{IsGcd, ◌∣◌}
 use Rattle.ps_rational.specs.Gcd.{gcd, gcd_within}
@@ -42,8 +45,10 @@ scale_within (suc k) c a zero g hc h p =
     let e : a ≡ g = same_from_IsGcd a zero a g (IsGcd-from_zero a zero refl) p in
     subst (λ n. IsGcd (c * a) (c * zero) (c * n)) e (IsGcd-from_zero (c * a) (c * zero) (mul-zero c))
 scale_within (suc k) c a (suc b) g hc h p =
-    let rest : IsGcd (c * suc b) (c * (a % suc b)) (c * g) = scale_within k c (suc b) (a % suc b) g hc (omega arith) (IsGcd-to_mod a (suc b) g p) in
-    IsGcd-from_mod (c * a) (c * suc b) (c * g) (subst (λ n. IsGcd (c * suc b) n (c * g)) (sym (mod-scale c a (suc b) hc (omega arith))) rest)
+    let rest : IsGcd (c * suc b) (c * (a % suc b)) (c * g) =
+    scale_within k c (suc b) (a % suc b) g hc (omega arith) (IsGcd-to_mod a (suc b) g p) in
+    IsGcd-from_mod (c * a) (c * suc b) (c * g)
+    (subst (λ n. IsGcd (c * suc b) n (c * g)) (sym (mod-scale c a (suc b) hc (omega arith))) rest)
 
 -- two numbers times a positive one have the greatest common divisor of the two, times that one
 pub IsGcd-scale : (c a b g : ℕ) → 0 < c → IsGcd a b g → IsGcd (c * a) (c * b) (c * g)
@@ -76,7 +81,8 @@ coprime_product a (suc b) c p q = (
 pub coprime_products : (a b c d : ℕ) → IsGcd a c 1 → IsGcd a d 1 → IsGcd b c 1 → IsGcd b d 1 → IsGcd (a * b) (c * d) 1
 coprime_products a b c d ac ad bc bd =
     IsGcd-swap (c * d) (a * b) 1
-    (coprime_product (c * d) a b (IsGcd-swap a (c * d) 1 (coprime_product a c d ac ad)) (IsGcd-swap b (c * d) 1 (coprime_product b c d bc bd)))
+    (coprime_product (c * d) a b (IsGcd-swap a (c * d) 1 (coprime_product a c d ac ad))
+    (IsGcd-swap b (c * d) 1 (coprime_product b c d bc bd)))
 
 -- what is left after division by the greatest common divisor is coprime
 pub coprime_rest : (a b g : ℕ) → 0 < g → IsGcd a b g → IsGcd (a / g) (b / g) 1

@@ -44,8 +44,10 @@ pub record WeightedSums (A B : Type 0) : Type 0 where
   pub appended : (w : A → ℤ) (xs ys : List A) → sum_of w (xs ++ ys) ≡ sum_of w xs +ℤ sum_of w ys
   pub scaled : (c : ℤ) (w : A → ℤ) (xs : List A) → c *ℤ sum_of w xs ≡ sum_of (λ x. c *ℤ w x) xs
   pub added : (v w : A → ℤ) (xs : List A) → sum_of (λ x. v x +ℤ w x) xs ≡ sum_of v xs +ℤ sum_of w xs
-  pub swapped : (f : A → B → ℤ) (xs : List A) (ys : List B) → sum_of (λ x. sum_of (f x) ys) xs ≡ sum_of (λ y. sum_of (λ x. f x y) xs) ys
-  pub single : (w : A → ℤ) (xs ys : List A) (x : A) → All (λ y. w y ≡ pos 0) xs → All (λ y. w y ≡ pos 0) ys → sum_of w (xs ++ x ∷ ys) ≡ w x
+  pub swapped : (f : A → B → ℤ) (xs : List A) (ys : List B)
+      → sum_of (λ x. sum_of (f x) ys) xs ≡ sum_of (λ y. sum_of (λ x. f x y) xs) ys
+  pub single : (w : A → ℤ) (xs ys : List A) (x : A) → All (λ y. w y ≡ pos 0) xs → All (λ y. w y ≡ pos 0) ys
+      → sum_of w (xs ++ x ∷ ys) ≡ w x
   pub ordered : (v w : A → ℤ) (xs : List A) → All (λ x. v x ≤ℤ w x) xs → sum_of v xs ≤ℤ sum_of w xs
 
 -- the least common multiple of two numbers, and of positive numbers one after the other, which is positive

@@ -1,5 +1,6 @@
 -- The rational numbers: integers over positive numbers, in lowest terms, so that equal numbers are equal.
-use Rattle.std.proofs.Common.{◌≡◌, ℕ, zero, suc, ◌*◌, ◌/◌, ◌<◌, ℤ, pos, negsuc, ◌+ℤ◌, ◌*ℤ◌, neg_ℤ, unsigned_abs, int_div, lit≤, sym, subst}
+use Rattle.std.proofs.Common.{◌≡◌, ℕ, zero, suc, ◌*◌, ◌/◌, ◌<◌, ℤ, pos}
+use Rattle.std.proofs.Common.{negsuc, ◌+ℤ◌, ◌*ℤ◌, neg_ℤ, unsigned_abs, int_div, lit≤, sym, subst}
 use Rattle.std.specs.Int.{IsGcd}
 use Rattle.std.specs.Coded.{Coded, coded×, coded_ℤ, coded_ℕ}
 use Rattle.std.proofs.Math.Nat.{mul-pos, ∣_prop}
@@ -42,7 +43,8 @@ unfoldable pub times : Positive → Positive → Positive
 times a b = record { value = a.value * b.value; positive = mul-pos a.positive b.positive }
 
 -- numerator and denominator divided by what is common to both are in lowest terms
-pub lowest_of : (z : ℤ) (d : Positive) → IsLowestTerms (int_div z (pos (gcd (unsigned_abs z) d.value))) (d.value / gcd (unsigned_abs z) d.value)
+pub lowest_of : (z : ℤ) (d : Positive) → IsLowestTerms (int_div z (pos (gcd (unsigned_abs z) d.value)))
+    (d.value / gcd (unsigned_abs z) d.value)
 lowest_of z d =
     let g = gcd (unsigned_abs z) d.value in
     let i = gcd_is (unsigned_abs z) d.value in

@@ -13,7 +13,8 @@ Fits z = unsigned_abs z < size_limit
 
 -- a/b times c/d, after gcd(|a|, d) and gcd(|c|, b) were cancelled: the numerator
 abbrev pub product_over : Rational → Rational → ℤ
-product_over x y = int_div x.over (pos (gcd (unsigned_abs x.over) y.under)) *ℤ int_div y.over (pos (gcd (unsigned_abs y.over) x.under))
+product_over x y = int_div x.over (pos (gcd (unsigned_abs x.over) y.under)) *ℤ int_div y.over
+    (pos (gcd (unsigned_abs y.over) x.under))
 
 -- the denominator of a/b times c/d, after the same was cancelled
 abbrev pub product_under : Rational → Rational → ℕ

@@ -1,5 +1,6 @@
 -- What bytes tell of a problem's text, worked out token by token.
-use Rattle.std.specs.Prelude.{◌≡◌, ◌+◌, ◌-◌, ◌++◌, ℕ, length, get_or, Bool, true, false, ◌&&◌, if◌then◌else◌, List, [], ◌∷◌, Option, Some, None, Result, Ok, Err, IsTrue}
+use Rattle.std.specs.Prelude.{◌≡◌, ◌+◌, ◌-◌, ◌++◌, ℕ, length, get_or, Bool, true, false, ◌&&◌}
+use Rattle.std.specs.Prelude.{if◌then◌else◌, List, [], ◌∷◌, Option, Some, None, Result, Ok, Err, IsTrue}
 use Rattle.ps_meaning.specs.Names.{is_word}
 use Rattle.ps_text.specs.Positions as text
 use Rattle.ps_text.specs.declared.part.Part.{Part}
@@ -48,7 +49,10 @@ part_of x = x.machine.state.part
 
 -- with a token that isn't refused
 abbrev pub with_token : Parsed → Token → Position → Parsed
-with_token x t place = record { machine = next x.machine (token_of t); places = x.places ++ begun_at (part_of x) (token_of t) place }
+with_token x t place = record {
+  machine = next x.machine (token_of t);
+  places = x.places ++ begun_at (part_of x) (token_of t) place;
+}
 
 -- why a token is refused
 abbrev pub refusal_of : Parsed → Token → Option ReadKind
@@ -80,7 +84,8 @@ refused_or None p rest = rest
 abbrev pub judged : Parsed → List (Token × Position) → Option Position → Position → Answer
 judged x [] None end = ended x EndMissing end
 judged x [] (Some p) end = ended x BadByte p
-judged x (t ∷ ts) bad end = if is_done (part_of x) then Ok (t.1, x) else refused_or (refusal_of x t.0) t.1 (judged (with_token x t.0 t.1) ts bad end)
+judged x (t ∷ ts) bad end = if is_done (part_of x) then Ok (t.1, x)
+    else refused_or (refusal_of x t.0) t.1 (judged (with_token x t.0 t.1) ts bad end)
 
 -- all bytes, behind what was lexed and parsed
 unfoldable pub answer : LexerState → Parsed → List ℕ → Answer
@@ -105,7 +110,8 @@ Agrees all rest x (Err (error.At kind line column)) = all ≡ Err (kind, record 
 Agrees all rest x (Err error.NoMemory) = Unit {0}
 
 -- a token, if one ended, and a place where none begins, if there is one, were judged
-pub record IsStepAnswered (token : Option Token) (began : Position) (bad : Option Position) (old new : Parsed) (result : Result (Option Position) ReadError) : Type 0 where
+pub record IsStepAnswered (token : Option Token) (began : Position) (bad : Option Position) (old new : Parsed)
+    (result : Result (Option Position) ReadError) : Type 0 where
   pub agrees : (rest : Parsed → Answer) → Agrees (step_answer token began bad old rest) (rest new) new result
 
 -- so a parser judged them
@@ -125,7 +131,8 @@ begun_behind x s = if is_done (part_of x) && is_within_token s.mode then Some s.
 -- a byte was taken: the answer to it and to more bytes is known, or it is that to more bytes
 pub record IsFed (byte : ℕ) (old new : Reader) (result : Result (Option Position) ReadError) : Type 0 where
   pub agrees : (more : List ℕ) →
-      Agrees (answer old.lexer (parsed_by old.parser) (byte ∷ more)) (answer new.lexer (parsed_by new.parser) more) (parsed_by new.parser) result
+      Agrees (answer old.lexer (parsed_by old.parser) (byte ∷ more)) (answer new.lexer (parsed_by new.parser) more)
+      (parsed_by new.parser) result
 
 -- bytes at the front were passed: the answer to all of them is that to those that are left
 pub record HasPassed (bytes : List ℕ) (old : Reader) (left : List ℕ) (new : Reader) : Type 0 where

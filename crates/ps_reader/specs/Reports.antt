@@ -15,7 +15,8 @@ use Rattle.ps_reader.specs.declared.lines.Lines.{Lines}
 use Rattle.ps_reader.specs.Taken.{Takes, IsStopped, IsValueRead, repeated}
 
 -- a value is read whose first line says this and whose other parts are these, or one of them is at fault
-abbrev pub IsReadBehind : {X : Type 0} → LineItem → (X → List LineItem) → List Part → Lines → Lines → Result X ReportError → Type 0
+abbrev pub IsReadBehind : {X : Type 0} → LineItem → (X → List LineItem) → List Part → Lines → Lines
+    → Result X ReportError → Type 0
 IsReadBehind i items_of parts old new (Ok x) = (more : List LineItem) × (items_of x ≡ i ∷ more) × Takes old new more
 IsReadBehind i items_of parts old new (Err e) = IsStopped old parts e
 

@@ -16,7 +16,8 @@ use Rattle.ps_valid.specs.Answers.{answer_of}
 use Rattle.ps_printed.specs.Printed.{IsPrintedAnswer}
 use Rattle.ps_reported.specs.Settled.{IsSettledAnswer}
 
--- an answer within the limits of pivots and conflicts: each part has its certificates or comes of a lawful run; it is valid, and of numbers that can be printed
+-- an answer within the limits of pivots and conflicts: each part has its certificates or comes of a lawful run; it is
+-- valid, and of numbers that can be printed
 pub record IsAnswered (p : Parts) (pivots conflicts : ℕ) (a : Answer) : Type 0 where
   pub parts : AreParts p
   pub few_pivots : pivots ≤ MOST_PIVOTS

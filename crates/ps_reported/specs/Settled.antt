@@ -36,7 +36,8 @@ IsCertifiedVerdict (Open cause) events = ⊥
 
 -- an answer to a query without a run: nothing is open in it, and no events led to it
 abbrev pub IsCertifiedAnswer : List Event → QueryAnswer → Type 0
-IsCertifiedAnswer first (query.Bounds lower lower_events upper upper_events) = (first ≡ []) × IsCertifiedSide lower lower_events × IsCertifiedSide upper upper_events
+IsCertifiedAnswer first (query.Bounds lower lower_events upper upper_events) =
+    (first ≡ []) × IsCertifiedSide lower lower_events × IsCertifiedSide upper upper_events
 IsCertifiedAnswer first (query.Impossible d) = first ≡ []
 IsCertifiedAnswer first (query.Open cause) = ⊥
 
@@ -54,15 +55,18 @@ abbrev pub IsBesideRun : QueryAnswer → ClaimKind → SideAnswer → List Event
 IsBesideRun run kind a events = IsCertifiedSide a events ⊎ IsLeftBy run kind a events
 
 -- both sides of a query beside a lawful run of it, with the events of the run's phase one
-pub record AreBesideRun (s : Subject) (pivots conflicts : ℕ) (first : List Event) (lower : SideAnswer) (lower_events : List Event) (upper : SideAnswer) (upper_events : List Event) : Type 0 where
+pub record AreBesideRun (s : Subject) (pivots conflicts : ℕ) (first : List Event) (lower : SideAnswer)
+    (lower_events : List Event) (upper : SideAnswer) (upper_events : List Event) : Type 0 where
   pub run : QueryAnswer
   pub lawful : IsLawfulAnswerTo s pivots conflicts first run
   pub below : IsBesideRun run Lower lower lower_events
   pub above : IsBesideRun run Upper upper upper_events
 
--- an answer to a query that comes of a lawful run: that of the run, with a certified side in place of the run's, or beside one that the run leaves open
+-- an answer to a query that comes of a lawful run: that of the run, with a certified side in place of the run's, or
+-- beside one that the run leaves open
 abbrev pub IsOfRun : Subject → ℕ → ℕ → List Event → QueryAnswer → Type 0
-IsOfRun s pivots conflicts first (query.Bounds lower lower_events upper upper_events) = AreBesideRun s pivots conflicts first lower lower_events upper upper_events
+IsOfRun s pivots conflicts first (query.Bounds lower lower_events upper upper_events) =
+    AreBesideRun s pivots conflicts first lower lower_events upper upper_events
 IsOfRun s pivots conflicts first (query.Impossible d) = IsLawfulPhaseOne s pivots conflicts (Inconsistent d) first
 IsOfRun s pivots conflicts first (query.Open cause) = IsLawfulPhaseOne s pivots conflicts (Open cause) first
 
@@ -73,7 +77,8 @@ IsSettledVerdict p pivots conflicts v events = IsCertifiedVerdict v events ⊎ I
 
 -- the part has its certificates alone, or comes of a lawful run, which licenses what is open in it
 abbrev pub IsSettledPart : Parts → ℕ → ℕ → Query → QueryPart → Type 0
-IsSettledPart p pivots conflicts q part = IsCertifiedAnswer part.first part.answer ⊎ IsOfRun (subject_of p q) pivots conflicts part.first part.answer
+IsSettledPart p pivots conflicts q part =
+    IsCertifiedAnswer part.first part.answer ⊎ IsOfRun (subject_of p q) pivots conflicts part.first part.answer
 
 -- so is each part of an answer
 pub record IsSettledAnswer (p : Parts) (pivots conflicts : ℕ) (a : Answer) : Type 0 where

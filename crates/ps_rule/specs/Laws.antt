@@ -10,7 +10,8 @@ use Rattle.ps_rule.specs.Pivots.{System, system_of, simplex_table, IsLawfulAt, P
 
 -- two pivots by the rule at a basis whose table is kept by pivots are the same
 abbrev pub RuleNamesOnePivot : Type 0
-RuleNamesOnePivot = (phase : Phase) (s : System) (cost : ℕ → Rational) (w : ℕ) (basic : ℕ → ℕ) (X : ℕ → ℕ → Rational) (q p k r : ℕ)
+RuleNamesOnePivot = (phase : Phase) (s : System) (cost : ℕ → Rational) (w : ℕ) (basic : ℕ → ℕ) (X : ℕ → ℕ → Rational)
+    (q p k r : ℕ)
     → s.rows < w → IsBasis s.rows w basic → IsBasisTable s.rows w s.columns basic X
     → IsLawfulAt phase s cost w basic q p → IsLawfulAt phase s cost w basic k r → (q ≡ k) × (p ≡ r)
 
@@ -38,7 +39,8 @@ pub record RaysDontImprove : Type 0 where
 
 -- a whole number is this multiple of what a column of n entries carries by the multipliers, above its cost
 abbrev pub IsCombination : ℕ → ℕ → (ℕ → Rational) → (ℕ → Rational) → Rational → ℤ → Type 0
-IsCombination big n multiplier entry cost z = whole z ≡ mul (whole (pos big)) (sub (sum_to n (λ m. mul (multiplier m) (entry m))) cost)
+IsCombination big n multiplier entry cost z =
+    whole z ≡ mul (whole (pos big)) (sub (sum_to n (λ m. mul (multiplier m) (entry m))) cost)
 
 -- the multipliers of the rows of a table: what is carried of the homes
 abbrev pub multipliers : SimplexTable → (ℕ → Rational) → ℕ → Rational
@@ -83,21 +85,28 @@ pub record AreAlike (n w : ℕ) (basic : ℕ → ℕ) (a b : ℕ → Bool) (cost
 -- what the rule says of one table it says of each that is alike
 pub record RuleReadsTheTable : Type 0 where
   pub due : (n w : ℕ) (basic : ℕ → ℕ) (a b : ℕ → Bool) (cost other : ℕ → Rational) (X Y : ℕ → ℕ → Rational) (phase : Phase)
-      → AreAlike n w basic a b cost other X Y → IsDueToEnd phase (table_of n w basic a X) → IsDueToEnd phase (table_of n w basic b Y)
+      → AreAlike n w basic a b cost other X Y → IsDueToEnd phase (table_of n w basic a X)
+      → IsDueToEnd phase (table_of n w basic b Y)
   pub improves : (n w : ℕ) (basic : ℕ → ℕ) (a b : ℕ → Bool) (cost other : ℕ → Rational) (X Y : ℕ → ℕ → Rational) (j : ℕ)
-      → AreAlike n w basic a b cost other X Y → Improves (table_of n w basic a X) cost j → Improves (table_of n w basic b Y) other j
+      → AreAlike n w basic a b cost other X Y → Improves (table_of n w basic a X) cost j
+      → Improves (table_of n w basic b Y) other j
   pub enters : (n w : ℕ) (basic : ℕ → ℕ) (a b : ℕ → Bool) (cost other : ℕ → Rational) (X Y : ℕ → ℕ → Rational) (q : ℕ)
       → AreAlike n w basic a b cost other X Y → Enters (table_of n w basic a X) cost q → Enters (table_of n w basic b Y) other q
-  pub leaves : (n w : ℕ) (basic : ℕ → ℕ) (a b : ℕ → Bool) (cost other : ℕ → Rational) (X Y : ℕ → ℕ → Rational) (phase : Phase) (q p : ℕ)
-      → AreAlike n w basic a b cost other X Y → q < w → Leaves phase (table_of n w basic a X) q p → Leaves phase (table_of n w basic b Y) q p
+  pub leaves : (n w : ℕ) (basic : ℕ → ℕ) (a b : ℕ → Bool) (cost other : ℕ → Rational) (X Y : ℕ → ℕ → Rational)
+      (phase : Phase) (q p : ℕ)
+      → AreAlike n w basic a b cost other X Y → q < w → Leaves phase (table_of n w basic a X) q p
+      → Leaves phase (table_of n w basic b Y) q p
   pub moving : (n w : ℕ) (basic : ℕ → ℕ) (a b : ℕ → Bool) (cost other : ℕ → Rational) (X Y : ℕ → ℕ → Rational) (phase : Phase)
-      → AreAlike n w basic a b cost other X Y → IsMoving phase (table_of n w basic a X) cost → IsMoving phase (table_of n w basic b Y) other
+      → AreAlike n w basic a b cost other X Y → IsMoving phase (table_of n w basic a X) cost
+      → IsMoving phase (table_of n w basic b Y) other
   pub resting : (n w : ℕ) (basic : ℕ → ℕ) (a b : ℕ → Bool) (cost other : ℕ → Rational) (X Y : ℕ → ℕ → Rational) (phase : Phase)
-      → AreAlike n w basic a b cost other X Y → IsResting phase (table_of n w basic a X) cost → IsResting phase (table_of n w basic b Y) other
+      → AreAlike n w basic a b cost other X Y → IsResting phase (table_of n w basic a X) cost
+      → IsResting phase (table_of n w basic b Y) other
 
 -- columns, artificials and costs past the width don't matter to lawful pivots, which lead to a basis within the width
 abbrev pub PivotsReadTheWidth : Type 0
-PivotsReadTheWidth = (phase : Phase) (n w : ℕ) (a b : ℕ → Bool) (A B : ℕ → ℕ → Rational) (cost other : ℕ → Rational) (x y : ℕ → ℕ) (pivots : List Pivot)
+PivotsReadTheWidth = (phase : Phase) (n w : ℕ) (a b : ℕ → Bool) (A B : ℕ → ℕ → Rational) (cost other : ℕ → Rational)
+    (x y : ℕ → ℕ) (pivots : List Pivot)
     → 0 < w → IsBasis n w x → HaveSameArtificials w a b → HaveSameCosts w cost other → AreSameWithin n w A B
     → Pivots phase (system_of n a A) cost w x pivots y
     → Pivots phase (system_of n b B) other w x pivots y × IsBasis n w y

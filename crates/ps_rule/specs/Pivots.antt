@@ -35,4 +35,6 @@ pub record Pivot : Type 0 where
 -- lawful pivots lead from one basis to another
 pub data Pivots (phase : Phase) (s : System) (cost : ℕ → Rational) (w : ℕ) : (ℕ → ℕ) → List Pivot → (ℕ → ℕ) → Type 0 where
   still : (a : ℕ → ℕ) → Pivots phase s cost w a [] a
-  more : (a b c : ℕ → ℕ) (pivots : List Pivot) (q p : ℕ) → Pivots phase s cost w a pivots b → IsLawfulAt phase s cost w b q p → Based s.rows p q b c → Pivots phase s cost w a (pivots ++ record { enter = q; leave = p } ∷ []) c
+  more : (a b c : ℕ → ℕ) (pivots : List Pivot) (q p : ℕ) → Pivots phase s cost w a pivots b
+      → IsLawfulAt phase s cost w b q p → Based s.rows p q b c
+      → Pivots phase s cost w a (pivots ++ record { enter = q; leave = p } ∷ []) c

@@ -1,5 +1,6 @@
 -- The whole numbers that certify an answer: duals, from the multipliers of a table, and models, from its values.
-use Rattle.std.specs.Prelude.{◌≡◌, ℕ, zero, suc, ◌+◌, ℤ, pos, neg_ℤ, Bool, cond, if◌then◌else◌, List, [], ◌∷◌, ◌++◌, length, get_or}
+use Rattle.std.specs.Prelude.{◌≡◌, ℕ, zero, suc, ◌+◌, ℤ, pos, neg_ℤ, Bool}
+use Rattle.std.specs.Prelude.{cond, if◌then◌else◌, List, [], ◌∷◌, ◌++◌, length, get_or}
 use Rattle.std.specs.Int.{is_positive}
 use Rattle.std.proofs.Common.{eqb}
 use Rattle.ps_rational.specs.Rational.{Rational, whole, mul, zero_q}

@@ -24,4 +24,5 @@ pub record HasOneTable (s : Subject) (g : Stage) : Type 0 where
 
 -- a world that is priced at the stage has no number in its pool
 abbrev pub ArePricedFresh : Subject → ℕ → Stage → Type 0
-ArePricedFresh s conflicts g = (kind : ClaimKind) (w : World) (number : ℕ) → IsPricedAt kind s conflicts g w → ¬ HasNumber g.pool w number
+ArePricedFresh s conflicts g = (kind : ClaimKind) (w : World) (number : ℕ) → IsPricedAt kind s conflicts g w
+    → ¬ HasNumber g.pool w number

@@ -1,5 +1,6 @@
 -- The rows and columns of a run: what its bounds and its query make of each world.
-use Rattle.std.specs.Prelude.{ℕ, suc, ◌-◌, ℤ, pos, neg_ℤ, Bool, true, false, cond, List, [], ◌∷◌, ◌++◌, map, length, get_or, ◌+◌, ◌<◌}
+use Rattle.std.specs.Prelude.{ℕ, suc, ◌-◌, ℤ, pos, neg_ℤ, Bool, true, false, cond}
+use Rattle.std.specs.Prelude.{List, [], ◌∷◌, ◌++◌, map, length, get_or, ◌+◌, ◌<◌}
 use Rattle.std.proofs.Common.{leb}
 use Rattle.ps_meaning.specs.Formula.{World, Formula, And}
 use Rattle.ps_meaning.specs.declared.side.Side.{Side}
@@ -60,7 +61,8 @@ rows_of s = suc (length s.bounds)
 -- the number in row m and column j: the columns are the right side, the homes, and the worlds of the pool
 abbrev pub columns_of : Setting → List World → ℕ → ℕ → Rational
 columns_of s pool m j =
-    cond (leb j (rows_of s)) (unit_at m (j - 1)) (fraction (get_or (entries_of s (get_or pool (j - suc (rows_of s)) [])) m (pos 0)) 1)
+    cond (leb j (rows_of s)) (unit_at m (j - 1))
+    (fraction (get_or (entries_of s (get_or pool (j - suc (rows_of s)) [])) m (pos 0)) 1)
 
 -- whether the column of a number is artificial
 abbrev pub artificial_of : Setting → ℕ → Bool

@@ -1,5 +1,6 @@
 -- Lawful runs: pivots by the rule at moving tables, and worlds that are priced at resting ones.
-use Rattle.std.specs.Prelude.{Option, Some, None, ◌≡◌, ◌⊎◌, ℕ, suc, ◌<◌, ℤ, pos, ◌≤ℤ◌, ◌<ℤ◌, ◌-ℤ◌, List, [], ◌∷◌, ◌++◌, length, All}
+use Rattle.std.specs.Prelude.{Option, Some, None, ◌≡◌, ◌⊎◌, ℕ, suc, ◌<◌, ℤ, pos}
+use Rattle.std.specs.Prelude.{◌≤ℤ◌, ◌<ℤ◌, ◌-ℤ◌, List, [], ◌∷◌, ◌++◌, length, All}
 use Rattle.ps_rational.specs.Rational.{Rational}
 use Rattle.ps_meaning.specs.Formula.{World, Truth}
 use Rattle.ps_basis.specs.Table.{Belongs, Based}
@@ -134,14 +135,16 @@ pub record IsFeasibleAt (s : Subject) (g : Stage) (X : ℕ → ℕ → Rational)
 -- a pivot by the rule: a column of the table enters and a row leaves
 pub record IsLawfulPivot (kind : ClaimKind) (s : Subject) (g : Stage) (enter : Col) (leave : ℕ) : Type 0 where
   pub there : IsInside (rows_of (setting_of s)) (length g.pool) enter
-  pub lawful : IsLawfulAt (phase_of kind) (system_of (setting_of s) g.pool) (costs_at kind s g) (width_of (setting_of s) g.pool) g.basis (number_in (rows_of (setting_of s)) enter) leave
+  pub lawful : IsLawfulAt (phase_of kind) (system_of (setting_of s) g.pool) (costs_at kind s g)
+      (width_of (setting_of s) g.pool) g.basis (number_in (rows_of (setting_of s)) enter) leave
 
 -- in no world is the combination of a table's dual greater than this
 pub record AreAtMost (kind : ClaimKind) (s : Subject) (g : Stage) (X : ℕ → ℕ → Rational) (most : ℤ) : Type 0 where
   pub at : (w : World) → length w ≡ atoms_of s → gain_at kind s g X w ≤ℤ most
 
 -- there is a spent search for a goal above this number
-pub record IsCutAbove (kind : ClaimKind) (s : Subject) (conflicts : ℕ) (g : Stage) (X : ℕ → ℕ → Rational) (found : ℤ) : Type 0 where
+pub record IsCutAbove (kind : ClaimKind) (s : Subject) (conflicts : ℕ) (g : Stage) (X : ℕ → ℕ → Rational)
+    (found : ℤ) : Type 0 where
   pub least : ℤ
   pub above : found <ℤ least
   pub steps : List Step
@@ -149,7 +152,8 @@ pub record IsCutAbove (kind : ClaimKind) (s : Subject) (conflicts : ℕ) (g : St
 
 -- a world is priced at a resting table: the combination of its dual is at least 1 there, and is greater in no world, unless a
 -- search for a greater one was spent
-pub record IsPricedBy (kind : ClaimKind) (s : Subject) (conflicts : ℕ) (g : Stage) (X : ℕ → ℕ → Rational) (w : World) : Type 0 where
+pub record IsPricedBy (kind : ClaimKind) (s : Subject) (conflicts : ℕ) (g : Stage) (X : ℕ → ℕ → Rational)
+    (w : World) : Type 0 where
   pub rests : IsRestingAt kind s g X
   pub sized : length w ≡ atoms_of s
   pub above : pos 1 ≤ℤ gain_at kind s g X w
@@ -164,16 +168,20 @@ pub record IsPricedAt (kind : ClaimKind) (s : Subject) (conflicts : ℕ) (g : St
 pub data LeadsTo (kind : ClaimKind) (s : Subject) (conflicts : ℕ) : Stage → List Event → Stage → Type 0 where
   still : (a : Stage) → LeadsTo kind s conflicts a [] a
   pivoted : (a b : Stage) (events : List Event) (enter : Col) (leave : ℕ) (basis : ℕ → ℕ) → LeadsTo kind s conflicts a events b
-      → IsLawfulPivot kind s b enter leave → Based (rows_of (setting_of s)) leave (number_in (rows_of (setting_of s)) enter) b.basis basis
+      → IsLawfulPivot kind s b enter leave
+      → Based (rows_of (setting_of s)) leave (number_in (rows_of (setting_of s)) enter) b.basis basis
       → LeadsTo kind s conflicts a (events ++ Pivot enter leave ∷ []) (record { pool = b.pool; basis = basis })
   priced : (a b : Stage) (events : List Event) (world : World) → LeadsTo kind s conflicts a events b
       → IsPricedAt kind s conflicts b world
       → LeadsTo kind s conflicts a (events ++ Priced world ∷ []) (record { pool = b.pool ++ world ∷ []; basis = b.basis })
 
 -- the same, where a world that was priced last may be pending: it got no column
-pub data LeadsToPending (kind : ClaimKind) (s : Subject) (conflicts : ℕ) : Stage → List Event → Option World → Stage → Type 0 where
-  entire : (a b : Stage) (events : List Event) → LeadsTo kind s conflicts a events b → LeadsToPending kind s conflicts a events None b
-  pending : (a b : Stage) (events : List Event) (world : World) → LeadsTo kind s conflicts a events b → IsPricedAt kind s conflicts b world
+pub data LeadsToPending (kind : ClaimKind) (s : Subject) (conflicts : ℕ) : Stage → List Event → Option World → Stage
+    → Type 0 where
+  entire : (a b : Stage) (events : List Event) → LeadsTo kind s conflicts a events b
+      → LeadsToPending kind s conflicts a events None b
+  pending : (a b : Stage) (events : List Event) (world : World) → LeadsTo kind s conflicts a events b
+      → IsPricedAt kind s conflicts b world
       → LeadsToPending kind s conflicts a (events ++ Priced world ∷ []) (Some world) b
 
 -- the number of pivots among events

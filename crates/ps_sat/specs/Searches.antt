@@ -1,5 +1,6 @@
 -- What a search answers, and what it hands over.
-use Rattle.std.specs.Prelude.{ℕ, ◌≡◌, ◌≤◌, ◌^◌, ⊤, true, false, Bool, IsTrue, Some, Result, Ok, Err, List, [], ◌∷◌, ◌++◌, length, All, ◌⊎◌}
+use Rattle.std.specs.Prelude.{ℕ, ◌≡◌, ◌≤◌, ◌^◌, ⊤, true, false, Bool, IsTrue, Some}
+use Rattle.std.specs.Prelude.{Result, Ok, Err, List, [], ◌∷◌, ◌++◌, length, All, ◌⊎◌}
 use Rattle.ps_steps.specs.Assignments.{full}
 use Rattle.ps_steps.specs.Constraints.{Constraint, IsMet}
 use Rattle.ps_steps.specs.Steps.{Step, AreLawful, is_contradiction}
@@ -44,7 +45,9 @@ pub record AreLearned (f : Form) (conflicts : ℕ) (ss : List Step) : Type 0 whe
 -- spent is a spent search
 abbrev pub IsShown : Form → Constraint → ℕ → List Step → Outcome → Type 0
 IsShown f goal conflicts ss (Found a) = AreLearned f conflicts ss
-IsShown f goal conflicts ss (Refuted last) = (front : List Step) × (s : Step) × (ss ≡ front ++ s ∷ []) × AreLearned f conflicts front × (s.id ≡ last) × (is_contradiction s ≡ true)
+IsShown f goal conflicts ss (Refuted last) =
+    (front : List Step) × (s : Step) × (ss ≡ front ++ s ∷ []) × AreLearned f conflicts front × (s.id ≡ last)
+    × (is_contradiction s ≡ true)
 IsShown f goal conflicts ss (Spent learned) = IsSpentSearch f goal conflicts ss
 
 -- each literal of each step is one of these variables

@@ -10,13 +10,16 @@ use Rattle.ps_spent.specs.Hints.{AreRefutedByHints}
 
 -- no search is spent where it may learn as many clauses as 2 to the number of variables
 abbrev pub SpentAreFew : Type 0
-SpentAreFew = (f : Form) (goal : Constraint) (limit : ℕ) (steps : List Step) → 2 ^ f.variables ≤ limit → ¬ IsSpentSearch f goal limit steps
+SpentAreFew = (f : Form) (goal : Constraint) (limit : ℕ) (steps : List Step) → 2 ^ f.variables ≤ limit
+    → ¬ IsSpentSearch f goal limit steps
 
 -- where hints alone refute a form and a goal, no search for the goal is spent, at any limit
 abbrev pub SpentAreUnrefuted : Type 0
-SpentAreUnrefuted = (f : Form) (goal : Constraint) (limit : ℕ) (steps : List Step) → AreRefutedByHints f goal → ¬ IsSpentSearch f goal limit steps
+SpentAreUnrefuted = (f : Form) (goal : Constraint) (limit : ℕ) (steps : List Step) → AreRefutedByHints f goal
+    → ¬ IsSpentSearch f goal limit steps
 
 -- where no known constraint is violated or forces a literal, no step is lawful whose literals are all false
 abbrev pub NothingFollowsAtRest : Type 0
-NothingFollowsAtRest = (variables : ℕ) (known : Known) (a : Assignment) (s : Step) → IsAtRest known a → All (λ l. value_of a l ≡ Some false) (lits_of s)
+NothingFollowsAtRest = (variables : ℕ) (known : Known) (a : Assignment) (s : Step) → IsAtRest known a
+    → All (λ l. value_of a l ≡ Some false) (lits_of s)
     → ¬ IsLawful variables known s

@@ -12,8 +12,10 @@ pub record AreRested (variables : ℕ) (known : Known) (es : List TrailEntry) : 
 
 -- each decided literal is an atom's
 pub record AreOfAtoms (form : Form) (es : List TrailEntry) : Type 0 where
-  pub at : (i : ℕ) (e : TrailEntry) → slice_get es i ≡ Some e → e.reason ≡ None → is_atom_variable form (unsigned_abs e.lit) ≡ true
+  pub at : (i : ℕ) (e : TrailEntry) → slice_get es i ≡ Some e → e.reason ≡ None
+      → is_atom_variable form (unsigned_abs e.lit) ≡ true
 
 -- at the next conflict the trail's rank is at least so much
 pub record HasRisen (variables : ℕ) (known : Known) (es : List TrailEntry) (least : ℕ) : Type 0 where
-  pub at : (more : List TrailEntry) (id : ℕ) → AreRested variables known (es ++ more) → IsConflict known (values_of variables (es ++ more)) id → least ≤ rank variables (es ++ more)
+  pub at : (more : List TrailEntry) (id : ℕ) → AreRested variables known (es ++ more)
+      → IsConflict known (values_of variables (es ++ more)) id → least ≤ rank variables (es ++ more)

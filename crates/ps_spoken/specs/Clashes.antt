@@ -24,7 +24,9 @@ line_at lines n = get_or lines (n - 1) 0
 -- a sentence with its number and its line
 unfoldable pub clashing_text : Parts → List ℕ → ℕ → List ℕ
 clashing_text p lines n =
-    codes "  sentence " ++ (signed_decimal (pos n) ++ (codes ", line " ++ (signed_decimal (pos (line_at lines n)) ++ (codes ": " ++ (sentence_text p n ++ codes ";\n")))))
+    codes "  sentence " ++ (signed_decimal (pos n)
+    ++ (codes ", line " ++ (signed_decimal (pos (line_at lines n))
+    ++ (codes ": " ++ (sentence_text p n ++ codes ";\n")))))
 
 -- sentences, each with its number and its line
 abbrev pub clash_texts : Parts → List ℕ → List ℕ → List ℕ
@@ -34,7 +36,8 @@ clash_texts p lines (n ∷ ns) = clashing_text p lines n ++ clash_texts p lines 
 -- sentences that clash
 abbrev pub core_text : Parts → List ℕ → List ℕ → List ℕ
 core_text p lines ns =
-    codes "these sentences clash:\n" ++ (clash_texts p lines ns ++ codes "leave any one of them out, and the others no longer clash\n")
+    codes "these sentences clash:\n" ++ (clash_texts p lines ns
+    ++ codes "leave any one of them out, and the others no longer clash\n")
 
 -- which sentences clash, or what stopped the search for them
 abbrev pub clash_text : Parts → List ℕ → Clash → List ℕ

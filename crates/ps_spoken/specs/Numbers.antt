@@ -7,7 +7,8 @@ use Rattle.ps_decimal.specs.Decimals.{has_decimals, rounded_down, rounded_up, te
 
 -- a fraction in lowest terms, and without its denominator where that is 1
 abbrev pub fraction_text : Rational → List ℕ
-fraction_text x = if x.under == 1 then signed_decimal x.over else signed_decimal x.over ++ (codes "/" ++ signed_decimal (pos x.under))
+fraction_text x = if x.under == 1 then signed_decimal x.over
+    else signed_decimal x.over ++ (codes "/" ++ signed_decimal (pos x.under))
 
 -- a fraction as a decimal of so many digits, rounded down; a sign in its place where the fraction isn't from 0 to 1
 abbrev pub low_text : ℕ → Rational → List ℕ

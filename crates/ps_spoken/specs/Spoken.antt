@@ -41,7 +41,8 @@ one_value_text digits x y = codes "  one value: " ++ (fraction_text x ++ decimal
 
 -- two bounds that differ
 abbrev pub two_values_text : ℕ → Rational → Rational → List ℕ
-two_values_text digits x y = codes "  between " ++ (fraction_text x ++ (codes " and " ++ (fraction_text y ++ decimals_text digits x y)))
+two_values_text digits x y = codes "  between "
+    ++ (fraction_text x ++ (codes " and " ++ (fraction_text y ++ decimals_text digits x y)))
 
 -- one value where the bounds are equal, else both of them
 abbrev pub ordered_text : Ordering → ℕ → Rational → Rational → List ℕ
@@ -55,12 +56,14 @@ between_text digits x y = ordered_text (order_of x y) digits x y
 
 -- the lower side of a query: its bound, or what stopped it
 abbrev pub lower_text : ℕ → SideAnswer → List ℕ
-lower_text digits (side.Bound x m d) = codes "  at least " ++ (fraction_text x ++ (codes " (" ++ (low_text digits x ++ codes ")\n")))
+lower_text digits (side.Bound x m d) = codes "  at least "
+    ++ (fraction_text x ++ (codes " (" ++ (low_text digits x ++ codes ")\n")))
 lower_text digits (side.Open c) = codes "  no lower bound yet: " ++ (cause_text c ++ codes "\n")
 
 -- the upper side of a query: its bound, or what stopped it
 abbrev pub upper_text : ℕ → SideAnswer → List ℕ
-upper_text digits (side.Bound x m d) = codes "  at most " ++ (fraction_text x ++ (codes " (" ++ (high_text digits x ++ codes ")\n")))
+upper_text digits (side.Bound x m d) = codes "  at most "
+    ++ (fraction_text x ++ (codes " (" ++ (high_text digits x ++ codes ")\n")))
 upper_text digits (side.Open c) = codes "  no upper bound yet: " ++ (cause_text c ++ codes "\n")
 
 -- each side of a query

@@ -1,5 +1,7 @@
 -- Literals, as whole numbers that aren't 0, and the truth values of their variables.
-use Rattle.std.specs.Prelude.{ℕ, zero, suc, ◌-◌, ◌<◌, ◌≤◌, ◌≡◌, ◌≢◌, ℤ, pos, negsuc, Bool, true, false, cond, not, Option, Some, None, List, [], ◌∷◌, length, map, unsigned_abs, slice_index_or, slice_set, replicate, AllPairs}
+use Rattle.std.specs.Prelude.{ℕ, zero, suc, ◌-◌, ◌<◌, ◌≤◌, ◌≡◌, ◌≢◌, ℤ, pos}
+use Rattle.std.specs.Prelude.{negsuc, Bool, true, false, cond, not, Option, Some, None, List}
+use Rattle.std.specs.Prelude.{[], ◌∷◌, length, map, unsigned_abs, slice_index_or, slice_set, replicate, AllPairs}
 pub use Rattle.ps_meaning.specs.Formula.{agree}
 
 -- the place of a literal's variable in an assignment: that of variable n is n - 1

@@ -1,5 +1,6 @@
 -- Pseudo-Boolean constraints: linear constraints over literals whose coefficients are natural numbers.
-use Rattle.std.specs.Prelude.{ℕ, ◌+◌, ◌≡◌, ℤ, pos, ◌-ℤ◌, ◌<ℤ◌, ◌≤ℤ◌, int_lt, Bool, true, false, not, ◌&&◌, if◌then◌else◌, List, [], ◌∷◌, ◌⊎◌}
+use Rattle.std.specs.Prelude.{ℕ, ◌+◌, ◌≡◌, ℤ, pos, ◌-ℤ◌, ◌<ℤ◌, ◌≤ℤ◌, int_lt, Bool}
+use Rattle.std.specs.Prelude.{true, false, not, ◌&&◌, if◌then◌else◌, List, [], ◌∷◌, ◌⊎◌}
 use Rattle.ps_steps.specs.Assignments.{Assignment, value_of, with_true, is_false, is_unset, holds}
 
 -- literals with their coefficients, and what the coefficients of the true ones sum to at least

@@ -1,11 +1,14 @@
 -- What holds of constraints and steps.
-use Rattle.std.specs.Prelude.{ℕ, ◌+◌, ◌<◌, ◌≤◌, ◌≡◌, ℤ, pos, ◌-ℤ◌, ◌≤ℤ◌, Bool, true, false, Some, None, List, [], ◌∷◌, ◌++◌, length, filter, All, ◌⊎◌, ◌↔◌}
+use Rattle.std.specs.Prelude.{ℕ, ◌+◌, ◌<◌, ◌≤◌, ◌≡◌, ℤ, pos, ◌-ℤ◌, ◌≤ℤ◌, Bool, true, false}
+use Rattle.std.specs.Prelude.{Some, None, List, [], ◌∷◌, ◌++◌, length, filter, All, ◌⊎◌, ◌↔◌}
 use Rattle.std.specs.List.{list_any}
 use Rattle.ps_steps.specs.declared.refused.StepRefused.{StepRefused}
 use Rattle.ps_steps.specs.Assignments.{Assignment, place, value_of, holds, full, values_of, IsComplete, AreDifferent}
 use Rattle.ps_steps.specs.Constraints.{Constraint, IsMet, is_open, slack, is_violated, with_forced, Forces, Covers}
 use Rattle.ps_steps.specs.Weights.{Weighted, true_weight, constraint_of, clause_of, weighted, IsWithin, IsPlain, IsNormal}
-use Rattle.ps_steps.specs.Steps.{Known, Step, id_of, lits_of, hints_of, AreWithin, refusal_of, IsLawful, added, with_step, with_steps, is_contradiction, AreLawful, ends_in_contradiction, or_later, first_refusal, Refutes, AreMet, Entails, IsUnmet}
+use Rattle.ps_steps.specs.Steps.{Known, Step, id_of, lits_of, hints_of, AreWithin, refusal_of}
+use Rattle.ps_steps.specs.Steps.{IsLawful, added, with_step, with_steps, is_contradiction, AreLawful, ends_in_contradiction}
+use Rattle.ps_steps.specs.Steps.{or_later, first_refusal, Refutes, AreMet, Entails, IsUnmet}
 
 -- ---- constraints
 -- the constraint of weighted literals is met where the true ones weigh at least so much, and nowhere else
@@ -22,7 +25,8 @@ ClausesArePlain = (lits : List ℤ) → AreDifferent lits → IsPlain (clause_of
 
 -- the slack of a clause of different variables is the number of its literals that aren't false, less 1
 abbrev pub SlackCountsOpen : Type 0
-SlackCountsOpen = (a : Assignment) (lits : List ℤ) → AreDifferent lits → slack (clause_of lits) a ≡ pos (length (filter (is_open a) lits)) -ℤ pos 1
+SlackCountsOpen = (a : Assignment) (lits : List ℤ) → AreDifferent lits
+    → slack (clause_of lits) a ≡ pos (length (filter (is_open a) lits)) -ℤ pos 1
 
 -- the constraint of weighted literals of these variables is of these variables
 abbrev pub ConstraintsStayWithin : Type 0
@@ -56,13 +60,15 @@ ForcedStay = (c : Constraint) (a b : Assignment) (l : ℤ) → Covers c a b → 
 
 -- propagation makes true what a constraint forces
 abbrev pub ForcedAreSet : Type 0
-ForcedAreSet = (c : Constraint) (a : Assignment) (l : ℤ) → IsNormal (weighted c.terms) c.degree → place l < length a → Forces c a l
+ForcedAreSet = (c : Constraint) (a : Assignment) (l : ℤ) → IsNormal (weighted c.terms) c.degree → place l < length a
+    → Forces c a l
     → value_of (with_forced (slack c a) c.terms a) l ≡ Some true
 
 -- ---- steps
 -- what meets the known constraints meets what a lawful step adds
 abbrev pub StepsFollow : Type 0
-StepsFollow = (w : List Bool) (variables : ℕ) (known : Known) (s : Step) → AreMet w known → IsLawful variables known s → IsMet w (added s)
+StepsFollow = (w : List Bool) (variables : ℕ) (known : Known) (s : Step) → AreMet w known → IsLawful variables known s
+    → IsMet w (added s)
 
 -- what is known with a lawful step follows from what was known before it
 abbrev pub StepsAreEntailed : Type 0
@@ -70,7 +76,8 @@ StepsAreEntailed = (variables : ℕ) (known : Known) (s : Step) → IsLawful var
 
 -- what is known after a list of lawful steps follows from what was known before
 abbrev pub ListsAreEntailed : Type 0
-ListsAreEntailed = (variables : ℕ) (known : Known) (ss : List Step) → AreLawful variables known ss → Entails known (with_steps known ss)
+ListsAreEntailed = (variables : ℕ) (known : Known) (ss : List Step) → AreLawful variables known ss
+    → Entails known (with_steps known ss)
 
 -- what follows from what follows follows
 abbrev pub FollowingIsTransitive : Type 0
@@ -99,7 +106,8 @@ OneMoreEnds = (ss : List Step) (s : Step) → ends_in_contradiction (ss ++ s ∷
 
 -- no step of a list is refused where all are lawful, and nowhere else
 abbrev pub NoneIsRefused : Type 0
-NoneIsRefused = (variables : ℕ) (known : Known) (ss : List Step) → (first_refusal variables known ss ≡ None) ↔ AreLawful variables known ss
+NoneIsRefused = (variables : ℕ) (known : Known) (ss : List Step)
+    → (first_refusal variables known ss ≡ None) ↔ AreLawful variables known ss
 
 -- after lawful steps the first refusal is that of the step behind them
 abbrev pub OneMoreIsRefused : Type 0
@@ -108,7 +116,8 @@ OneMoreIsRefused = (variables : ℕ) (known : Known) (ss : List Step) (s : Step)
 
 -- a refusal among the first steps stays the first with one more step behind them
 abbrev pub RefusalsStay : Type 0
-RefusalsStay = (variables : ℕ) (known : Known) (ss : List Step) (s : Step) (r : ℕ × StepRefused) → first_refusal variables known ss ≡ Some r
+RefusalsStay = (variables : ℕ) (known : Known) (ss : List Step) (s : Step) (r : ℕ × StepRefused)
+    → first_refusal variables known ss ≡ Some r
     → first_refusal variables known (ss ++ s ∷ []) ≡ Some r
 
 -- a lawful step has literals of different variables
@@ -117,7 +126,8 @@ LiteralsDiffer = (variables : ℕ) (known : Known) (s : Step) → IsLawful varia
 
 -- where the known constraints are of the variables, what a lawful step adds is
 abbrev pub StepsStayWithin : Type 0
-StepsStayWithin = (variables : ℕ) (known : Known) (s : Step) → AreWithin variables known → IsLawful variables known s → AreWithin variables (with_step known s)
+StepsStayWithin = (variables : ℕ) (known : Known) (s : Step) → AreWithin variables known → IsLawful variables known s
+    → AreWithin variables (with_step known s)
 
 -- after constraints of the variables a lawful step has at most one more literals and hints, together, than there are variables
 abbrev pub StepsAreShort : Type 0

@@ -1,5 +1,6 @@
 -- The steps of a refutation, and when one is lawful.
-use Rattle.std.specs.Prelude.{ℕ, zero, suc, ◌+◌, ◌==◌, nat_lt, ◌≡◌, ℤ, Bool, true, false, ◌&&◌, if◌then◌else◌, Option, Some, None, List, [], ◌∷◌, ◌++◌, length, map, slice_index_or, fold}
+use Rattle.std.specs.Prelude.{ℕ, zero, suc, ◌+◌, ◌==◌, nat_lt, ◌≡◌, ℤ, Bool, true, false, ◌&&◌}
+use Rattle.std.specs.Prelude.{if◌then◌else◌, Option, Some, None, List, [], ◌∷◌, ◌++◌, length, map, slice_index_or, fold}
 use Rattle.ps_steps.specs.declared.refused.StepRefused.{StepRefused}
 use Rattle.ps_steps.specs.declared.refused.StepRefused.TheVariants.{IdNotNext, BadLit, UnknownHint, HintIdle, NoConflict}
 use Rattle.ps_steps.specs.Assignments.{Assignment, place, value_of, with_false, is_unset, all_unset}
@@ -132,7 +133,8 @@ or_later id (Some why) later = Some (id, why)
 -- the id of the first step that isn't lawful after those before it, and why it isn't
 abbrev pub first_refusal : ℕ → Known → List Step → Option (ℕ × StepRefused)
 first_refusal variables known [] = None
-first_refusal variables known (s ∷ ss) = or_later (id_of s) (refusal_of variables known s) (first_refusal variables (with_step known s) ss)
+first_refusal variables known (s ∷ ss) =
+    or_later (id_of s) (refusal_of variables known s) (first_refusal variables (with_step known s) ss)
 
 -- whether the last of some steps is a contradiction
 abbrev pub ends_in_contradiction : List Step → Bool

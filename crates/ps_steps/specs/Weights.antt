@@ -1,5 +1,6 @@
 -- Sums of weighted literals, the constraint that bounds one from below, and clauses.
-use Rattle.std.specs.Prelude.{ℕ, zero, suc, ◌+◌, ◌≡◌, ◌≤◌, ◌<◌, ◌==◌, nat_lt, max, ℤ, pos, negsuc, ◌+ℤ◌, ◌-ℤ◌, neg_ℤ, ◌≤ℤ◌, Bool, true, ◌&&◌, if◌then◌else◌, List, [], ◌∷◌, ◌++◌, map, All, unsigned_abs}
+use Rattle.std.specs.Prelude.{ℕ, zero, suc, ◌+◌, ◌≡◌, ◌≤◌, ◌<◌, ◌==◌, nat_lt, max, ℤ, pos, negsuc, ◌+ℤ◌}
+use Rattle.std.specs.Prelude.{◌-ℤ◌, neg_ℤ, ◌≤ℤ◌, Bool, true, ◌&&◌, if◌then◌else◌, List, [], ◌∷◌, ◌++◌, map, All, unsigned_abs}
 use Rattle.ps_steps.specs.declared.limits.TheConstants.{MOST_SIZE}
 use Rattle.ps_steps.specs.Assignments.{place, is_positive, holds}
 use Rattle.ps_steps.specs.Constraints.{Constraint}

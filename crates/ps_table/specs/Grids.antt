@@ -138,7 +138,8 @@ pub record ArePivoted (g : GridCells) (p : Pivot) (made : List Rational) : Type 
 
 -- the cells of a table after a pivot in row p and column q
 abbrev pub ArePivotedIn : Tableau → ℕ → Col → List Rational → Type 0
-ArePivotedIn t p q made = (k : ℕ) → k < length t.cells → get_or made k zero_q ≡ pivot_cell (entry_at t) p (number_of t q) (k % rows_of t) (k / rows_of t)
+ArePivotedIn t p q made = (k : ℕ) → k < length t.cells
+    → get_or made k zero_q ≡ pivot_cell (entry_at t) p (number_of t q) (k % rows_of t) (k / rows_of t)
 
 -- ---- new columns
 -- entries of a new world, one for each row

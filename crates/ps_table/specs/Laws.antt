@@ -13,7 +13,9 @@ use Rattle.ps_table.specs.Places.{IsTooLargeToPrint, IsWide}
 -- value times a multiple of its denominator, and a sum of weights
 pub record PrintedPlacesAreExact : Type 0 where
   pub multiple : (i a b : ℕ) (op : Op) → IsWide (Whole i) op (whole (pos a)) (whole (pos b)) ↔ (PRINTED_LIMIT < lcm a b)
-  pub multiplier : (i big : ℕ) (op : Op) (x : Rational) → x.under ∣ big → IsWide (Scaled i) op x (whole (pos big)) ↔ IsTooLargeToPrint (scaled big x)
+  pub multiplier : (i big : ℕ) (op : Op) (x : Rational) → x.under ∣ big
+      → IsWide (Scaled i) op x (whole (pos big)) ↔ IsTooLargeToPrint (scaled big x)
   pub weight_multiple : (i a b : ℕ) (op : Op) → IsWide (Weight i) op (whole (pos a)) (whole (pos b)) ↔ (PRINTED_LIMIT < lcm a b)
-  pub weight : (i big : ℕ) (op : Op) (x : Rational) → x.under ∣ big → IsWide (Weighed i) op x (whole (pos big)) ↔ IsTooLargeToPrint (scaled big x)
+  pub weight : (i big : ℕ) (op : Op) (x : Rational) → x.under ∣ big
+      → IsWide (Weighed i) op x (whole (pos big)) ↔ IsTooLargeToPrint (scaled big x)
   pub total : (i : ℕ) (op : Op) (y z : ℤ) → IsWide (Total i) op (whole y) (whole z) ↔ IsTooLargeToPrint (y +ℤ z)

@@ -12,7 +12,8 @@ use Rattle.ps_rational.specs.Sums.{sum_to, int_sum_to}
 use Rattle.ps_basis.specs.Table.{carried_by}
 use Rattle.ps_rational.specs.declared.limits.TheConstants.{PRINTED_LIMIT}
 use Rattle.ps_table.specs.declared.place.Place.{Place}
-use Rattle.ps_table.specs.declared.place.Place.TheVariants.{Ratio, Scale, Times, Minus, Cost, Whole, Scaled, Weight, Weighed, Total, NewTimes, NewPlus}
+use Rattle.ps_table.specs.declared.place.Place.TheVariants.{Ratio, Scale, Times, Minus, Cost, Whole}
+use Rattle.ps_table.specs.declared.place.Place.TheVariants.{Scaled, Weight, Weighed, Total, NewTimes, NewPlus}
 use Rattle.ps_table.specs.declared.place.TableCol.{TableCol}
 use Rattle.ps_table.specs.declared.place.WideAt.{WideAt}
 use Rattle.ps_table.specs.declared.error.TableError.{TableError}
@@ -72,9 +73,11 @@ pub data NewPlace (n : ℕ) (X : ℕ → ℕ → Rational) (entries : List ℤ) 
       → NewPlace n X entries (NewPlus i m) Add (sum_to m (new_part X entries i)) (new_part X entries i m)
 
 -- the places of what the rows carry of column c, each with its operation and operands
-pub data CostPlace (n : ℕ) (cost : ℕ → Rational) (basic : ℕ → ℕ) (X : ℕ → ℕ → Rational) (c : Col) : Place → Op → Rational → Rational → Type 0 where
+pub data CostPlace (n : ℕ) (cost : ℕ → Rational) (basic : ℕ → ℕ) (X : ℕ → ℕ → Rational) (c : Col) : Place → Op
+    → Rational → Rational → Type 0 where
   at_cost : (i : ℕ) → i < n
-      → CostPlace n cost basic X c (Cost c i) Add (sum_to i (cost_part cost basic X (number_in n c))) (cost_part cost basic X (number_in n c) i)
+      → CostPlace n cost basic X c (Cost c i) Add (sum_to i (cost_part cost basic X (number_in n c)))
+      (cost_part cost basic X (number_in n c) i)
 
 -- the multiplier of a row: what is carried of its home
 abbrev pub multiplier : ℕ → (ℕ → Rational) → (ℕ → ℕ) → (ℕ → ℕ → Rational) → ℕ → Rational
@@ -85,9 +88,11 @@ abbrev pub multiple_to : ℕ → (ℕ → Rational) → (ℕ → ℕ) → (ℕ �
 multiple_to n cost basic X i = lcm_to i (λ m. (multiplier n cost basic X m).under)
 
 -- the places of the whole multiples of the multipliers that a dual prints, each with its operation and operands
-pub data MultiplierPlace (n : ℕ) (cost : ℕ → Rational) (basic : ℕ → ℕ) (X : ℕ → ℕ → Rational) : Place → Op → Rational → Rational → Type 0 where
+pub data MultiplierPlace (n : ℕ) (cost : ℕ → Rational) (basic : ℕ → ℕ) (X : ℕ → ℕ → Rational) : Place → Op → Rational
+    → Rational → Type 0 where
   at_whole : (i : ℕ) → i < n
-      → MultiplierPlace n cost basic X (Whole i) Lcm (whole (pos (multiple_to n cost basic X i))) (whole (pos (multiplier n cost basic X i).under))
+      → MultiplierPlace n cost basic X (Whole i) Lcm (whole (pos (multiple_to n cost basic X i)))
+      (whole (pos (multiplier n cost basic X i).under))
   at_scaled : (i : ℕ) → i < n
       → MultiplierPlace n cost basic X (Scaled i) Mul (multiplier n cost basic X i) (whole (pos (multiple_to n cost basic X n)))
 

@@ -126,8 +126,10 @@ pub record IsAdded (entries : List ℤ) (old new : Tableau) : Type 0 where
   pub worlds : new.worlds ≡ suc old.worlds
   pub basic : new.basic ≡ old.basic
   pub before : (i j : ℕ) → i < rows_of old → j < width_of old → entry_at new i j ≡ entry_at old i j
-  pub here : (i : ℕ) → i < rows_of old → entry_at new i (width_of old) ≡ sum_to (rows_of old) (λ m. mul (entry_at old i (suc m)) (world_entry entries m))
+  pub here : (i : ℕ) → i < rows_of old → entry_at new i (width_of old)
+      ≡ sum_to (rows_of old) (λ m. mul (entry_at old i (suc m)) (world_entry entries m))
 
 -- whatever system a table was of whose next column is that of the entries, it is of with that column
 abbrev pub ExtendsSystem : List ℤ → Tableau → Tableau → Type 0
-ExtendsSystem entries old new = (A : ℕ → ℕ → Rational) → IsColumn entries (rows_of old) (width_of old) A → IsTableFor A old → IsTableFor A new
+ExtendsSystem entries old new = (A : ℕ → ℕ → Rational) → IsColumn entries (rows_of old) (width_of old) A
+    → IsTableFor A old → IsTableFor A new

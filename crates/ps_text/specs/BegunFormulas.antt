@@ -70,7 +70,8 @@ AreFrames (BegunNot ∷ fs) = (length (opened_of fs) < MOST_OPEN) × AreFrames f
 AreFrames (BegunGroup ∷ fs) = (length (opened_of fs) < MOST_OPEN) × AreFrames fs
 AreFrames (BegunAnd f ∷ fs) = (required_level fs ≤ 4) × IsFirstOperand f 4 fs × AreFrames fs
 AreFrames (BegunOr f ∷ fs) = (required_level fs ≤ 3) × IsFirstOperand f 3 fs × AreFrames fs
-AreFrames (BegunImplies f ∷ fs) = (required_level fs ≤ 2) × IsFirstOperand f 3 fs × (length (opened_of fs) < MOST_OPEN) × AreFrames fs
+AreFrames (BegunImplies f ∷ fs) = (required_level fs ≤ 2) × IsFirstOperand f 3 fs
+    × (length (opened_of fs) < MOST_OPEN) × AreFrames fs
 AreFrames (BegunIff f ∷ fs) = (required_level fs ≤ 1) × IsFirstOperand f 1 fs × AreFrames fs
 
 -- the last begun is no `!`

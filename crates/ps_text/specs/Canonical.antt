@@ -1,5 +1,6 @@
 -- The canonical text of items: how each is written, and the bytes of what is written.
-use Rattle.std.specs.Prelude.{ℕ, ◌+◌, ◌<◌, ◌≤◌, ◌==◌, nat_le, nat_lt, max, if◌then◌else◌, List, [], ◌∷◌, ◌++◌, map, Option, Some, None, codes}
+use Rattle.std.specs.Prelude.{ℕ, ◌+◌, ◌<◌, ◌≤◌, ◌==◌, nat_le, nat_lt, max, if◌then◌else◌}
+use Rattle.std.specs.Prelude.{List, [], ◌∷◌, ◌++◌, map, Option, Some, None, codes}
 use Rattle.std.specs.Int.{IsGcd}
 use Rattle.std.specs.Fmt.{decimal}
 use Rattle.ps_meaning.specs.Formula as formula
@@ -10,7 +11,8 @@ use Rattle.ps_meaning.specs.Statements.{Ratio, Statement, Question, Item, Stated
 use Rattle.ps_meaning.specs.Names.{IsName}
 use Rattle.ps_text.specs.declared.limits.TheConstants.{GREATEST_DENOMINATOR}
 use Rattle.ps_text.specs.Tokens.{Numeral, Whole, Quotient, numeral_spelling}
-use Rattle.ps_text.specs.Grammar.{FormulaSyntax, Name, Truth, Falsity, Not, Group, And, Or, Implies, Iff, level, Nests, Prob, Relation, Exactly, AtLeast, AtMost, Within, ItemSyntax, Sentence, Query}
+use Rattle.ps_text.specs.Grammar.{FormulaSyntax, Name, Truth, Falsity, Not, Group, And, Or, Implies, Iff, level}
+use Rattle.ps_text.specs.Grammar.{Nests, Prob, Relation, Exactly, AtLeast, AtMost, Within, ItemSyntax, Sentence, Query}
 
 -- in parentheses where the level is below the required one, and only there
 abbrev pub fitted : ℕ → FormulaSyntax → FormulaSyntax

@@ -1,8 +1,11 @@
 -- Which tokens are expected after others, and why a token is refused.
-use Rattle.std.specs.Prelude.{◌≡◌, ◌^◌, Bool, true, false, not, ◌&&◌, ◌||◌, ◌==◌, nat_lt, if◌then◌else◌, bytes_eq, List, [], ◌∷◌, ◌++◌, length, Option, Some, None, codes}
+use Rattle.std.specs.Prelude.{◌≡◌, ◌^◌, Bool, true, false, not, ◌&&◌, ◌||◌, ◌==◌, nat_lt, if◌then◌else◌}
+use Rattle.std.specs.Prelude.{bytes_eq, List, [], ◌∷◌, ◌++◌, length, Option, Some, None, codes}
 use Rattle.std.specs.List.{list_any}
 use Rattle.ps_text.specs.declared.limits.TheConstants.{LONGEST_WORD, MOST_OPEN, GREATEST_DENOMINATOR, MOST_DECIMALS}
-use Rattle.ps_text.specs.Tokens.{Token, Word, Number, Sign, Numeral, Whole, Quotient, Decimal, Open, Close, OpenBracket, CloseBracket, Comma, Semicolon, Bang, Ampersand, Bar, Arrow, DoubleArrow, Equals, GreaterEquals, LessEquals, is_the_word, is_the_sign}
+use Rattle.ps_text.specs.Tokens.{Token, Word, Number, Sign, Numeral, Whole, Quotient, Decimal}
+use Rattle.ps_text.specs.Tokens.{Open, Close, OpenBracket, CloseBracket, Comma, Semicolon, Bang, Ampersand}
+use Rattle.ps_text.specs.Tokens.{Bar, Arrow, DoubleArrow, Equals, GreaterEquals, LessEquals, is_the_word, is_the_sign}
 use Rattle.ps_text.specs.declared.part.Part.{Part}
 use Rattle.ps_text.specs.declared.part.Part.TheVariants as part
 use Rattle.ps_text.specs.declared.part.Opening.{Opening}
@@ -11,7 +14,9 @@ use Rattle.ps_text.specs.Grammar.{is_reserved, value}
 use Rattle.ps_text.specs.declared.kind.What.TheVariants as what
 use Rattle.ps_text.specs.declared.kind.What.{What}
 use Rattle.ps_text.specs.declared.kind.ReadKind.{ReadKind}
-use Rattle.ps_text.specs.declared.kind.ReadKind.TheVariants.{NameTooLong, Expected, VersionUnknown, ZeroDenominator, DenominatorTooLarge, TooManyDecimals, NumberOutOfRange, TooDeep}
+use Rattle.ps_text.specs.declared.kind.ReadKind.TheVariants.{NameTooLong, Expected, VersionUnknown}
+use Rattle.ps_text.specs.declared.kind.ReadKind.TheVariants.{ZeroDenominator, DenominatorTooLarge, TooManyDecimals}
+use Rattle.ps_text.specs.declared.kind.ReadKind.TheVariants.{NumberOutOfRange, TooDeep}
 
 -- the part that is next and, in a probability, whether it is a query's, whether `given` stood, and what is open, the last first
 pub record State : Type 0 where
@@ -122,7 +127,8 @@ closed d (o ∷ os) = within part.Operator d (without_nots os)
 
 -- behind `P`, `query` or `end`
 abbrev pub after_item_word : Token → State
-after_item_word t = if is_the_word (codes "P") t then outside part.Paren else (if is_the_word (codes "query") t then outside part.QueryProb else outside part.TextEnd)
+after_item_word t = if is_the_word (codes "P") t then outside part.Paren
+    else (if is_the_word (codes "query") t then outside part.QueryProb else outside part.TextEnd)
 
 -- in a query's probability
 abbrev pub in_query : Part → State
@@ -146,7 +152,8 @@ after_operator d (Sign DoubleArrow) = within part.Operand d (without_arrows d.op
 after_operator d (Sign s) = within part.Operand d d.opened
 after_operator d t = record { part = part.Operand; query = d.query; given = true; opened = [] }
 
--- a part's row: the name of what is expected there, the tokens that are, why one of them is refused, and the state behind one that isn't
+-- a part's row: the name of what is expected there, the tokens that are, why one of them is refused, and the state
+-- behind one that isn't
 pub record Row : Type 0 where
   pub what : What
   pub expects : State → Token → Bool
@@ -155,23 +162,93 @@ pub record Row : Type 0 where
 
 -- the table of parts; behind the text no token is expected, and a refusal of the form (`IsRefused`) doesn't come there
 abbrev pub row : Part → Row
-row part.Psat = record { what = what.Psat; expects = λ d t. is_the_word (codes "psat") t; fault = λ d t. None; next = λ d t. outside part.Version }
-row part.Version = record { what = what.Version; expects = λ d t. is_number t; fault = λ d t. version_fault t; next = λ d t. outside part.HeadEnd }
-row part.HeadEnd = record { what = what.Semicolon; expects = λ d t. is_the_sign Semicolon t; fault = λ d t. None; next = λ d t. outside part.Item }
+row part.Psat = record {
+  what = what.Psat;
+  expects = λ d t. is_the_word (codes "psat") t;
+  fault = λ d t. None;
+  next = λ d t. outside part.Version;
+}
+row part.Version = record {
+  what = what.Version;
+  expects = λ d t. is_number t;
+  fault = λ d t. version_fault t;
+  next = λ d t. outside part.HeadEnd;
+}
+row part.HeadEnd = record {
+  what = what.Semicolon;
+  expects = λ d t. is_the_sign Semicolon t;
+  fault = λ d t. None;
+  next = λ d t. outside part.Item;
+}
 row part.Item = record { what = what.Item; expects = λ d t. begins_item t; fault = λ d t. None; next = λ d t. after_item_word t }
-row part.QueryProb = record { what = what.Prob; expects = λ d t. is_the_word (codes "P") t; fault = λ d t. None; next = λ d t. in_query part.Paren }
-row part.Paren = record { what = what.Paren; expects = λ d t. is_the_sign Open t; fault = λ d t. None; next = λ d t. within part.Operand d [] }
+row part.QueryProb = record {
+  what = what.Prob;
+  expects = λ d t. is_the_word (codes "P") t;
+  fault = λ d t. None;
+  next = λ d t. in_query part.Paren;
+}
+row part.Paren = record {
+  what = what.Paren;
+  expects = λ d t. is_the_sign Open t;
+  fault = λ d t. None;
+  next = λ d t. within part.Operand d [];
+}
 row part.Operand = record { what = what.Formula; expects = λ d t. begins_operand t; fault = depth_fault; next = after_operand }
 row part.Operator = record { what = what.Operator; expects = follows_operand; fault = depth_fault; next = after_operator }
-row part.Relation = record { what = what.Relation; expects = λ d t. is_relation t; fault = λ d t. None; next = λ d t. after_relation t }
-row part.Number = record { what = what.Number; expects = λ d t. is_number t; fault = λ d t. number_fault t; next = λ d t. outside part.ItemEnd }
-row part.Bracket = record { what = what.Bracket; expects = λ d t. is_the_sign OpenBracket t; fault = λ d t. None; next = λ d t. outside part.First }
-row part.First = record { what = what.Number; expects = λ d t. is_number t; fault = λ d t. number_fault t; next = λ d t. outside part.Comma }
-row part.Comma = record { what = what.Comma; expects = λ d t. is_the_sign Comma t; fault = λ d t. None; next = λ d t. outside part.Second }
-row part.Second = record { what = what.Number; expects = λ d t. is_number t; fault = λ d t. number_fault t; next = λ d t. outside part.BracketEnd }
-row part.BracketEnd = record { what = what.BracketEnd; expects = λ d t. is_the_sign CloseBracket t; fault = λ d t. None; next = λ d t. outside part.ItemEnd }
-row part.ItemEnd = record { what = what.Semicolon; expects = λ d t. is_the_sign Semicolon t; fault = λ d t. None; next = λ d t. outside part.Item }
-row part.TextEnd = record { what = what.Semicolon; expects = λ d t. is_the_sign Semicolon t; fault = λ d t. None; next = λ d t. outside part.Done }
+row part.Relation = record {
+  what = what.Relation;
+  expects = λ d t. is_relation t;
+  fault = λ d t. None;
+  next = λ d t. after_relation t;
+}
+row part.Number = record {
+  what = what.Number;
+  expects = λ d t. is_number t;
+  fault = λ d t. number_fault t;
+  next = λ d t. outside part.ItemEnd;
+}
+row part.Bracket = record {
+  what = what.Bracket;
+  expects = λ d t. is_the_sign OpenBracket t;
+  fault = λ d t. None;
+  next = λ d t. outside part.First;
+}
+row part.First = record {
+  what = what.Number;
+  expects = λ d t. is_number t;
+  fault = λ d t. number_fault t;
+  next = λ d t. outside part.Comma;
+}
+row part.Comma = record {
+  what = what.Comma;
+  expects = λ d t. is_the_sign Comma t;
+  fault = λ d t. None;
+  next = λ d t. outside part.Second;
+}
+row part.Second = record {
+  what = what.Number;
+  expects = λ d t. is_number t;
+  fault = λ d t. number_fault t;
+  next = λ d t. outside part.BracketEnd;
+}
+row part.BracketEnd = record {
+  what = what.BracketEnd;
+  expects = λ d t. is_the_sign CloseBracket t;
+  fault = λ d t. None;
+  next = λ d t. outside part.ItemEnd;
+}
+row part.ItemEnd = record {
+  what = what.Semicolon;
+  expects = λ d t. is_the_sign Semicolon t;
+  fault = λ d t. None;
+  next = λ d t. outside part.Item;
+}
+row part.TextEnd = record {
+  what = what.Semicolon;
+  expects = λ d t. is_the_sign Semicolon t;
+  fault = λ d t. None;
+  next = λ d t. outside part.Done;
+}
 row part.Done = record { what = what.Psat; expects = λ d t. false; fault = λ d t. None; next = λ d t. outside part.Done }
 
 -- whether the token is one that is expected

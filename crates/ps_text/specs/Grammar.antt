@@ -2,7 +2,9 @@
 use Rattle.std.specs.Prelude.{◌≡◌, ℕ, ◌+◌, ◌-◌, ◌*◌, ◌^◌, ◌<◌, ◌≤◌, false, List, [], ◌∷◌, ◌++◌, length, Option, Some, None, codes}
 pub use Rattle.ps_meaning.specs.Names.{is_reserved}
 use Rattle.ps_text.specs.declared.limits.TheConstants.{LONGEST_WORD, MOST_OPEN, GREATEST_DENOMINATOR, MOST_DECIMALS}
-use Rattle.ps_text.specs.Tokens.{Token, Word, Number, Sign, Numeral, Whole, Quotient, Decimal, Open, Close, OpenBracket, CloseBracket, Comma, Semicolon, Bang, Ampersand, Bar, Arrow, DoubleArrow, Equals, GreaterEquals, LessEquals}
+use Rattle.ps_text.specs.Tokens.{Token, Word, Number, Sign, Numeral, Whole, Quotient, Decimal}
+use Rattle.ps_text.specs.Tokens.{Open, Close, OpenBracket, CloseBracket, Comma, Semicolon, Bang, Ampersand}
+use Rattle.ps_text.specs.Tokens.{Bar, Arrow, DoubleArrow, Equals, GreaterEquals, LessEquals}
 
 -- how a formula is written
 pub data FormulaSyntax : Type 0 where

@@ -7,7 +7,8 @@ use Rattle.ps_meaning.specs.declared.side.Side.TheVariants as side
 use Rattle.ps_meaning.specs.Statements as meaning
 use Rattle.ps_meaning.specs.Statements.{Ratio, Statement, Question, Item, Stated, Asked}
 use Rattle.ps_text.specs.Tokens.{Numeral, Whole, Quotient, Decimal}
-use Rattle.ps_text.specs.Grammar.{FormulaSyntax, Name, Truth, Falsity, Not, Group, And, Or, Implies, Iff, Prob, Relation, Exactly, AtLeast, AtMost, Within, ItemSyntax, Sentence, Query, value}
+use Rattle.ps_text.specs.Grammar.{FormulaSyntax, Name, Truth, Falsity, Not, Group, And, Or, Implies, Iff}
+use Rattle.ps_text.specs.Grammar.{Prob, Relation, Exactly, AtLeast, AtMost, Within, ItemSyntax, Sentence, Query, value}
 
 -- the formula, without its parentheses
 abbrev pub formula_of : FormulaSyntax → formula.Formula meaning.Name

@@ -10,7 +10,8 @@ use Rattle.ps_text.specs.Refusals.{IsRefused}
 
 -- the tokens are those of one derivation at most
 pub record HasOneDerivation (tokens : List Token) : Type 0 where
-  pub same : (es fs : List ItemSyntax) → AreWellFormedItems es → AreWellFormedItems fs → tokens ≡ text_tokens es → tokens ≡ text_tokens fs → es ≡ fs
+  pub same : (es fs : List ItemSyntax) → AreWellFormedItems es → AreWellFormedItems fs → tokens ≡ text_tokens es
+      → tokens ≡ text_tokens fs → es ≡ fs
 
 -- what is written means one list of items at most
 pub record HaveOneMeaning (written : List ItemSyntax) : Type 0 where

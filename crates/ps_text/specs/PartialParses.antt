@@ -1,10 +1,17 @@
 -- A derivation of the tokens so far, and what one more token makes of it.
-use Rattle.std.specs.Prelude.{◌≡◌, ℕ, ◌≤◌, Bool, true, false, if◌then◌else◌, bytes_eq, codes, List, [], ◌∷◌, ◌++◌, Option, Some, None, is_some}
-use Rattle.ps_text.specs.Tokens.{Token, Word, Number, Sign, Numeral, Whole, Symbol, Open, Close, OpenBracket, Comma, Bang, Ampersand, Bar, Arrow, DoubleArrow, Equals, GreaterEquals, LessEquals, is_the_word}
-use Rattle.ps_text.specs.Grammar.{FormulaSyntax, Name, Truth, Falsity, Group, spelled, level, Prob, Relation, Exactly, AtLeast, AtMost, Within, ItemSyntax, Sentence, Query, prob_tokens, relation_tokens, tokens_up_to, text_tokens, IsProbability, IsGiven, IsProb, IsWellFormedItem, AreWellFormedItems}
+use Rattle.std.specs.Prelude.{◌≡◌, ℕ, ◌≤◌, Bool, true, false, if◌then◌else◌, bytes_eq, codes}
+use Rattle.std.specs.Prelude.{List, [], ◌∷◌, ◌++◌, Option, Some, None, is_some}
+use Rattle.ps_text.specs.Tokens.{Token, Word, Number, Sign, Numeral, Whole, Symbol}
+use Rattle.ps_text.specs.Tokens.{Open, Close, OpenBracket, Comma, Bang, Ampersand, Bar}
+use Rattle.ps_text.specs.Tokens.{Arrow, DoubleArrow, Equals, GreaterEquals, LessEquals, is_the_word}
+use Rattle.ps_text.specs.Grammar.{FormulaSyntax, Name, Truth, Falsity, Group, spelled, level}
+use Rattle.ps_text.specs.Grammar.{Prob, Relation, Exactly, AtLeast, AtMost, Within, ItemSyntax}
+use Rattle.ps_text.specs.Grammar.{Sentence, Query, prob_tokens, relation_tokens, tokens_up_to, text_tokens, IsProbability}
+use Rattle.ps_text.specs.Grammar.{IsGiven, IsProb, IsWellFormedItem, AreWellFormedItems}
 use Rattle.ps_text.specs.declared.part.Part.TheVariants as part
 use Rattle.ps_text.specs.ExpectedTokens.{State, outside, after, refusal}
-use Rattle.ps_text.specs.BegunFormulas.{Frame, BegunNot, BegunGroup, BegunAnd, BegunOr, BegunImplies, BegunIff, frame_tokens, opened_of, AreFrames, LastIsNoNot, IsNextOperand, joins}
+use Rattle.ps_text.specs.BegunFormulas.{Frame, BegunNot, BegunGroup, BegunAnd, BegunOr, BegunImplies, BegunIff}
+use Rattle.ps_text.specs.BegunFormulas.{frame_tokens, opened_of, AreFrames, LastIsNoNot, IsNextOperand, joins}
 
 -- the part that is expected next, with the items that are derived and what of the next one is: its formula before `given`,
 -- what is begun of a formula, the last operand, the values so far
@@ -13,7 +20,8 @@ pub data Parse : Type 0 where
   InItem InQueryProb InTextEnd InDone : (done : List ItemSyntax) → Parse
   InParen : (done : List ItemSyntax) (query : Bool) → Parse
   InOperand : (done : List ItemSyntax) (query : Bool) (formula : Option FormulaSyntax) (frames : List Frame) → Parse
-  InOperator : (done : List ItemSyntax) (query : Bool) (formula : Option FormulaSyntax) (frames : List Frame) (operand : FormulaSyntax) → Parse
+  InOperator : (done : List ItemSyntax) (query : Bool) (formula : Option FormulaSyntax) (frames : List Frame)
+      (operand : FormulaSyntax) → Parse
   InRelation InBracket InFirst : (done : List ItemSyntax) (prob : Prob) → Parse
   InNumber : (done : List ItemSyntax) (prob : Prob) (sign : Symbol) → Parse
   InComma InSecond : (done : List ItemSyntax) (prob : Prob) (least : Numeral) → Parse
@@ -87,7 +95,8 @@ parsed_tokens (InFirst es p) = sentence_lead es p ++ (Word (codes "in") ∷ Sign
 parsed_tokens (InNumber es p s) = sentence_lead es p ++ Sign s ∷ []
 parsed_tokens (InComma es p x) = sentence_lead es p ++ (Word (codes "in") ∷ Sign OpenBracket ∷ Number x ∷ [])
 parsed_tokens (InSecond es p x) = sentence_lead es p ++ (Word (codes "in") ∷ Sign OpenBracket ∷ Number x ∷ Sign Comma ∷ [])
-parsed_tokens (InBracketEnd es p x y) = sentence_lead es p ++ (Word (codes "in") ∷ Sign OpenBracket ∷ Number x ∷ Sign Comma ∷ Number y ∷ [])
+parsed_tokens (InBracketEnd es p x y) = sentence_lead es p
+    ++ (Word (codes "in") ∷ Sign OpenBracket ∷ Number x ∷ Sign Comma ∷ Number y ∷ [])
 parsed_tokens (InItemEnd es e) = tokens_up_to es ++ item_body e
 
 -- how a sign bounds a probability
@@ -156,7 +165,8 @@ operator_parsed es q c fs f t = InOperand es q (Some (joins 1 fs f).1) []
 
 -- behind the first token of an item, or `end`
 abbrev pub item_parsed : List ItemSyntax → Token → Parse
-item_parsed es t = if is_the_word (codes "P") t then InParen es false else (if is_the_word (codes "query") t then InQueryProb es else InTextEnd es)
+item_parsed es t = if is_the_word (codes "P") t then InParen es false
+    else (if is_the_word (codes "query") t then InQueryProb es else InTextEnd es)
 
 -- behind a sign, or `in`
 abbrev pub relation_parsed : List ItemSyntax → Prob → Token → Parse

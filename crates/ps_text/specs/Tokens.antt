@@ -3,7 +3,9 @@ use Rattle.std.specs.Prelude.{◌≡◌, ℕ, ◌≤◌, Bool, true, false, byte
 use Rattle.std.specs.List.{AllByRecursion}
 pub use Rattle.ps_meaning.specs.Names.{is_letter, is_digit, is_word_byte}
 pub use Rattle.ps_text.specs.declared.symbol.Symbol.{Symbol}
-pub use Rattle.ps_text.specs.declared.symbol.Symbol.TheVariants.{Open, Close, OpenBracket, CloseBracket, Comma, Semicolon, Bang, Ampersand, Bar, Arrow, DoubleArrow, Equals, GreaterEquals, LessEquals}
+pub use Rattle.ps_text.specs.declared.symbol.Symbol.TheVariants.{Open, Close, OpenBracket, CloseBracket, Comma}
+pub use Rattle.ps_text.specs.declared.symbol.Symbol.TheVariants.{Semicolon, Bang, Ampersand, Bar, Arrow}
+pub use Rattle.ps_text.specs.declared.symbol.Symbol.TheVariants.{DoubleArrow, Equals, GreaterEquals, LessEquals}
 
 -- a version of the text
 pub data Version : Type 0 where
@@ -88,7 +90,8 @@ is_the_sign s t = false
 
 -- no longer token of the version stands where this one does, before these bytes
 unfoldable pub IsLongest : Version → Token → List ℕ → Type 0
-IsLongest v t after = (u : Token) (more : List ℕ) → IsToken v u → spelling u ++ more ≡ spelling t ++ after → length (spelling u) ≤ length (spelling t)
+IsLongest v t after = (u : Token) (more : List ℕ) → IsToken v u → spelling u ++ more ≡ spelling t ++ after
+    → length (spelling u) ≤ length (spelling t)
 
 -- no token of the version stands at the front
 unfoldable pub BeginsNone : Version → List ℕ → Type 0

@@ -11,7 +11,8 @@ use Rattle.ps_claims.specs.declared.claim_kind.ClaimKind.{ClaimKind}
 use Rattle.ps_claims.specs.declared.claim.Claim.{Claim}
 use Rattle.ps_claims.specs.declared.reason.Reason.{Reason}
 use Rattle.ps_claims.specs.Duals.{Dual}
-use Rattle.ps_claims.specs.Claims.{Assertion, verdict_claims, side_claims, part_claims, claims_from, open_in_verdict, open_in_side, open_in_part, AreValid, IsFirstIn}
+use Rattle.ps_claims.specs.Claims.{Assertion, verdict_claims, side_claims, part_claims, claims_from}
+use Rattle.ps_claims.specs.Claims.{open_in_verdict, open_in_side, open_in_part, AreValid, IsFirstIn}
 use Rattle.ps_valid.specs.declared.refusal.Refusal.{Refusal}
 use Rattle.ps_valid.specs.declared.refusal.Accepted.{Accepted}
 use Rattle.ps_valid.specs.declared.refusal.CheckError.{CheckError}
@@ -38,7 +39,8 @@ AreJudged p claims unfinished (Err NoMemory) = Unit {0}
 
 -- one claim is accepted, or refused for the reason that is found
 abbrev pub IsAnswerTo : Claim → Option Reason → Result Accepted CheckError → Type 0
-IsAnswerTo claim found result = MatchOption found (result ≡ Ok (record { claims = 1; unfinished = 0 })) (λ reason. result ≡ Err (Refused (record { claim = claim; reason = reason })))
+IsAnswerTo claim found result = MatchOption found (result ≡ Ok (record { claims = 1; unfinished = 0 })) (λ reason.
+    result ≡ Err (Refused (record { claim = claim; reason = reason })))
 
 -- what is answered of a verdict, by its claims
 abbrev pub IsJudgedVerdict : Parts → Verdict → Result Accepted CheckError → Type 0
@@ -62,4 +64,5 @@ IsJudgedPart p n q answer result = IsJudgedClaim p n q (part_of answer) result
 
 -- what is answered of the parts of these queries, which are numbered from 1
 abbrev pub AreJudgedParts : Parts → List Query → List QueryPart → Result Accepted CheckError → Type 0
-AreJudgedParts p queries parts result = AreJudged p (claims_from 1 queries (parts_of parts)) (sum (map open_in_part (parts_of parts))) result
+AreJudgedParts p queries parts result = AreJudged p (claims_from 1 queries (parts_of parts))
+    (sum (map open_in_part (parts_of parts))) result

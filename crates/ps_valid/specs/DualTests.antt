@@ -19,7 +19,8 @@ HaveSignsAt bounds ys = AllZip (λ b y. HasSign b.side y) bounds ys
 
 -- the stored bound of this number, from 1, is the first whose multiplier is of the wrong sign
 abbrev pub IsFirstSignAt : List Bound → List ℤ → ℕ → Type 0
-IsFirstSignAt bounds ys n = (i : ℕ) × (n ≡ i + 1) × HaveSignsAt (take i bounds) (take i ys) × IsSomeAnd (slice_get bounds i) (λ b. IsSomeAnd (slice_get ys i) (λ y. ¬ HasSign b.side y))
+IsFirstSignAt bounds ys n = (i : ℕ) × (n ≡ i + 1) × HaveSignsAt (take i bounds) (take i ys)
+    × IsSomeAnd (slice_get bounds i) (λ b. IsSomeAnd (slice_get ys i) (λ y. ¬ HasSign b.side y))
 
 -- the bound is the first with a wrong sign, and there is none where no sign is wrong
 abbrev pub FindsSignAt : List Bound → List ℤ → Option ℕ → Type 0
@@ -35,8 +36,10 @@ HasRun p kind given both d = Refutes (length p.nodes) (start_for p kind given bo
 
 -- the reason is the first against the steps
 abbrev pub IsFirstInRun : Parts → ClaimKind → Option ℕ → ℕ → Dual → Reason → Type 0
-IsFirstInRun p kind given both d (StepRefused id why) = first_refusal (length p.nodes) (start_for p kind given both d) d.steps ≡ Some (id, why)
-IsFirstInRun p kind given both d NotRefuted = AreLawful (length p.nodes) (start_for p kind given both d) d.steps × (ends_in_contradiction d.steps ≡ false)
+IsFirstInRun p kind given both d (StepRefused id why) =
+    first_refusal (length p.nodes) (start_for p kind given both d) d.steps ≡ Some (id, why)
+IsFirstInRun p kind given both d NotRefuted =
+    AreLawful (length p.nodes) (start_for p kind given both d) d.steps × (ends_in_contradiction d.steps ≡ false)
 IsFirstInRun p kind given both d other = ⊥
 
 -- the reason is the first against the steps, and there is none where they refute the goal
@@ -45,4 +48,5 @@ FindsInRun p kind given both d found = MatchOption found (HasRun p kind given bo
 
 -- the reason is the first against the dual, and there is none where nothing is wrong with it
 abbrev pub FindsInDual : Parts → ClaimKind → Option ℕ → ℕ → Option Rational → Dual → Option Reason → Type 0
-FindsInDual p kind given both value d found = MatchOption found (IsFaultless p kind given both value d) (IsFirstFault p kind given both value d)
+FindsInDual p kind given both value d found =
+    MatchOption found (IsFaultless p kind given both value d) (IsFirstFault p kind given both value d)

@@ -1,4 +1,5 @@
--- What is answered of an answer: that it is accepted, or that it is refused for the first reason against its first claim at fault.
+-- What is answered of an answer: that it is accepted, or that it is refused for the first reason against its first
+-- claim at fault.
 use Rattle.std.specs.Prelude.{◌≡◌, List, Option, MatchOption, Result, Ok, Err, length}
 use Rattle.ps_rational.specs.Rational.{Rational}
 use Rattle.ps_problem.specs.declared.query.Query.{Query}
@@ -27,11 +28,13 @@ pub record HasBounds (p : Parts) (bounds : List Bound) (q : Parts) : Type 0 wher
   pub nodes : q.nodes ≡ p.nodes
   pub bounds_are : bounds_in q.sentences ≡ bounds
 
--- the reason is the first against the model of each problem that has these bounds over the same atoms and nodes, and there is none where it is valid
+-- the reason is the first against the model of each problem that has these bounds over the same atoms and nodes, and
+-- there is none where it is valid
 abbrev pub FindsReasonOver : Parts → List Bound → Model → Option Reason → Type 0
 FindsReasonOver p bounds m found = (q : Parts) → HasBounds p bounds q → FindsReason q (Modelled (model_of m)) found
 
--- the reason is the first against the value as a query's bound on this side, by a model and a dual, and there is none where it is tight
+-- the reason is the first against the value as a query's bound on this side, by a model and a dual, and there is none
+-- where it is tight
 abbrev pub FindsAgainstBound : Parts → ClaimKind → Query → Rational → Model → Dual → Option Reason → Type 0
 FindsAgainstBound p kind q value m d found = FindsReason p (Bounded kind q value (model_of m) (dual_of d)) found
 

@@ -16,7 +16,8 @@ use Rattle.ps_claims.specs.Claims.{IsRefused}
 
 -- an answer is refused for one reason, against one claim
 abbrev pub RefusalsAreSingle : Type 0
-RefusalsAreSingle = (p : Parts) (a : Answer Dual) (claim other : Claim) (r s : Reason) → IsRefused p a claim r → IsRefused p a other s → (claim ≡ other) × (r ≡ s)
+RefusalsAreSingle = (p : Parts) (a : Answer Dual) (claim other : Claim) (r s : Reason) → IsRefused p a claim r
+    → IsRefused p a other s → (claim ≡ other) × (r ≡ s)
 
 -- where each line of an answer is within the limits and has the signs that it asks, the answer is within those of a check
 abbrev pub AnswersWithinAreSmall : Type 0
@@ -28,4 +29,5 @@ ReportsAreSmall = (bytes : List ℕ) (a : found.Answer) → IsReport bytes a →
 
 -- where each line of an answer is within the limits, each is short enough to be written
 abbrev pub LinesWithinAreShort : Type 0
-LinesWithinAreShort = (a : found.Answer) → AllByRecursion IsWithin (answer_items a) → AllByRecursion (λ i. length (item_line i) < LONGEST_LINE) (answer_items a)
+LinesWithinAreShort = (a : found.Answer) → AllByRecursion IsWithin (answer_items a)
+    → AllByRecursion (λ i. length (item_line i) < LONGEST_LINE) (answer_items a)

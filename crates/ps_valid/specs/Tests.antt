@@ -13,7 +13,8 @@ use Rattle.ps_entailment.specs.Answers.{Model}
 use Rattle.ps_claims.specs.Validity.{query_of}
 use Rattle.ps_claims.specs.declared.reason.Reason.{Reason}
 use Rattle.ps_claims.specs.declared.reason.Reason.TheVariants.{TooManyWorlds, WeightZero, WorldTwice, TotalWrong, BoundMissed}
-use Rattle.ps_claims.specs.Claims.{AreProperEntries, IsWeightless, IsRepeated, IsFirstWithout, MissesFirst, AreFew, HasTotal, IsSound}
+use Rattle.ps_claims.specs.Claims.{AreProperEntries, IsWeightless, IsRepeated, IsFirstWithout}
+use Rattle.ps_claims.specs.Claims.{MissesFirst, AreFew, HasTotal, IsSound}
 use Rattle.ps_valid.specs.Judged.{HasBounds}
 use Rattle.ps_valid.specs.Rows.{MeetsAt}
 
@@ -41,7 +42,8 @@ FindsMissedAt d bounds found = MatchOption found (All (MeetsAt d) bounds) (IsFir
 
 -- the bound over these nodes is the first that the entries miss, and there is none where they meet all
 abbrev pub FindsMissed : List Node → List Bound → List Entry → Option ℕ → Type 0
-FindsMissed ns bounds d found = MatchOption found (MeetsAll (map (bound_of ns) bounds) d) (MissesFirst (map (bound_of ns) bounds) d)
+FindsMissed ns bounds d found = MatchOption found (MeetsAll (map (bound_of ns) bounds) d)
+    (MissesFirst (map (bound_of ns) bounds) d)
 
 -- the reason is the first against such a model
 abbrev pub IsFirstAgainst : Parts → Model → Reason → Type 0

@@ -1,5 +1,6 @@
 -- Going through the watches of a literal.
-use Rattle.std.specs.Prelude.{ℕ, ◌≡◌, ◌≢◌, ◌<◌, ◌≤◌, ℤ, neg_ℤ, true, Option, Some, None, List, [], length, take, slice_get, unsigned_abs}
+use Rattle.std.specs.Prelude.{ℕ, ◌≡◌, ◌≢◌, ◌<◌, ◌≤◌, ℤ, neg_ℤ, true, Option}
+use Rattle.std.specs.Prelude.{Some, None, List, [], length, take, slice_get, unsigned_abs}
 use Rattle.ps_steps.specs.Assignments.{Assignment, value_of}
 use Rattle.ps_steps.specs.Constraints.{Constraint}
 use Rattle.ps_steps.specs.Steps.{known_of}
@@ -30,7 +31,8 @@ IsEnd known w t f None = AreVisited w f (values t)
 IsEnd known w t f (Some id) = IsConflict (known_of known) (values t) id
 
 -- what was done on the way, and how it ended
-pub record HasGone (known : List Constraint) (w : Watches) (t : Trail) (w' : Watches) (t' : Trail) (f : ℤ) (result : Option ℕ) : Type 0 where
+pub record HasGone (known : List Constraint) (w : Watches) (t : Trail) (w' : Watches) (t' : Trail) (f : ℤ)
+    (result : Option ℕ) : Type 0 where
   pub kept : IsKept t.variables known w'
   pub filed : IsFiled t.variables w'
   pub nodes : length w'.lits.items ≡ length w.lits.items

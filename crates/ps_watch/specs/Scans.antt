@@ -1,5 +1,6 @@
 -- What constraints show that aren't watched, and how propagation ends.
-use Rattle.std.specs.Prelude.{◌≡◌, ◌≤◌, ◌<◌, unsigned_abs, ℕ, ℤ, false, true, Option, Some, None, List, length, slice_index_or, ◌⊎◌}
+use Rattle.std.specs.Prelude.{◌≡◌, ◌≤◌, ◌<◌, unsigned_abs, ℕ, ℤ, false, true}
+use Rattle.std.specs.Prelude.{Option, Some, None, List, length, slice_index_or, ◌⊎◌}
 use Rattle.ps_steps.specs.Assignments.{Assignment}
 use Rattle.ps_steps.specs.Constraints.{Constraint, slack, is_violated, some_forced, Forces}
 use Rattle.ps_steps.specs.Steps.{Known, constraint_at}

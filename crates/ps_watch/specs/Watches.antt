@@ -1,5 +1,6 @@
 -- Watched literals: of each clause of two or more literals, two are watched, and each literal has the list of its watches.
-use Rattle.std.specs.Prelude.{ℕ, ◌+◌, ◌*◌, ◌≡◌, ◌≢◌, ◌<◌, ◌≤◌, ℤ, pos, true, false, if◌then◌else◌, Some, List, [], length, slice_index_or, slice_set, All, ◌⊎◌}
+use Rattle.std.specs.Prelude.{ℕ, ◌+◌, ◌*◌, ◌≡◌, ◌≢◌, ◌<◌, ◌≤◌, ℤ, pos, true}
+use Rattle.std.specs.Prelude.{false, if◌then◌else◌, Some, List, [], length, slice_index_or, slice_set, All, ◌⊎◌}
 use Rattle.ps_steps.specs.Assignments.{Assignment, place, is_positive, value_of, unset_count, Includes}
 use Rattle.ps_steps.specs.Constraints.{Constraint, HasTerm}
 use Rattle.ps_steps.specs.Weights.{IsPlain, IsWithin}
@@ -56,13 +57,16 @@ pub record IsKept (v : ℕ) (known : List Constraint) (w : Watches) : Type 0 whe
 
 -- each watch but one stands in the list of its literal, or is on the way
 pub record IsListed (v : ℕ) (w : Watches) (but : ℕ) : Type 0 where
-  pub at : (n : ℕ) → n < length w.lits.items → n ≢ but → Holds n (list_of w (spare_of v)) ⊎ Holds n (list_of w (slot_of (lit_of w n)))
+  pub at : (n : ℕ) → n < length w.lits.items → n ≢ but
+      → Holds n (list_of w (spare_of v)) ⊎ Holds n (list_of w (slot_of (lit_of w n)))
 
 -- each watch but one is on the way, or stands in the list of its literal, and then, if this is the one that is gone through, the
 -- other watched literal is true
 pub record IsPlaced (v : ℕ) (w : Watches) (f : ℤ) (b : Assignment) (but : ℕ) : Type 0 where
   pub at : (n : ℕ) → n < length w.lits.items → n ≢ but
-      → Holds n (list_of w (spare_of v)) ⊎ (Holds n (list_of w (slot_of (lit_of w n))) × (slot_of (lit_of w n) ≡ slot_of f → value_of b (lit_of w (other_of w n)) ≡ Some true))
+      → Holds n (list_of w (spare_of v))
+      ⊎ (Holds n (list_of w (slot_of (lit_of w n)))
+      × (slot_of (lit_of w n) ≡ slot_of f → value_of b (lit_of w (other_of w n)) ≡ Some true))
 
 -- no watch is on the way, and each stands in the list of its literal
 pub record IsFiled (v : ℕ) (w : Watches) : Type 0 where
@@ -71,7 +75,8 @@ pub record IsFiled (v : ℕ) (w : Watches) : Type 0 where
 
 -- where a watched literal is false in one assignment, the other one is true in another
 pub record AreGood (w : Watches) (a c : Assignment) : Type 0 where
-  pub at : (n : ℕ) → n < length w.lits.items → value_of a (lit_of w n) ≡ Some false → value_of c (lit_of w (other_of w n)) ≡ Some true
+  pub at : (n : ℕ) → n < length w.lits.items → value_of a (lit_of w n) ≡ Some false
+      → value_of c (lit_of w (other_of w n)) ≡ Some true
 
 -- that is kept, for assignments that a third one includes
 pub record KeepsGood (w w' : Watches) (b : Assignment) : Type 0 where
@@ -106,7 +111,8 @@ IsSpareKept v w w' = list_of w' (spare_of v) ≡ list_of w (spare_of v)
 
 -- a visit of the one watch that has no place gives it one
 abbrev pub KeepsPlaced : Watches → Trail → Watches → Trail → ℕ → Type 0
-KeepsPlaced w t w' t' n = (f : ℤ) → value_of (values t) f ≡ Some false → IsPlaced t.variables w f (values t) n → IsPlaced t.variables w' f (values t') END
+KeepsPlaced w t w' t' n = (f : ℤ) → value_of (values t) f ≡ Some false → IsPlaced t.variables w f (values t) n
+    → IsPlaced t.variables w' f (values t') END
 
 -- at each level below this one: where a watched literal is false, the other one is true
 pub record IsClosedBelow (w : Watches) (t : Trail) (n : ℕ) : Type 0 where

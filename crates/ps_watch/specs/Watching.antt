@@ -33,7 +33,8 @@ pub record AddsPair (w w' : Watches) (first second : ℤ) (id : ℕ) : Type 0 wh
 -- where both literals may be watched, all watches are good
 pub record HasWatched (w w' : Watches) (first second : ℤ) (id : ℕ) : Type 0 where
   pub ids : w'.ids.items ≡ w.ids.items ++ id ∷ id ∷ []
-  pub good : (a c : Assignment) → AreGood w a c → (value_of a first ≡ Some false → value_of c second ≡ Some true) → (value_of a second ≡ Some false → value_of c first ≡ Some true) → AreGood w' a c
+  pub good : (a c : Assignment) → AreGood w a c → (value_of a first ≡ Some false → value_of c second ≡ Some true)
+      → (value_of a second ≡ Some false → value_of c first ≡ Some true) → AreGood w' a c
 
 -- the watches are kept, whatever constraints are known
 abbrev pub IsKeptForAny : ℕ → Watches → Type 0

@@ -22,9 +22,11 @@ abbrev pub OneAnswerIsDue : Type 0
 OneAnswerIsDue = (limits : Limits) (enough : Bool) (bytes : List ℕ) (o : Output) (p q : Parts) (a b : Answer) → AreLimits limits
     → IsSolvedBy (limits_for limits enough p) bytes o p a → IsSolvedBy (limits_for limits enough q) bytes o q b → a ≡ b
 
--- the problem, a line feed and a report that is due for `solve` are accepted by `check`, where they are within its limit, with the
--- answer's counts of claims and of what is open
+-- the problem, a line feed and a report that is due for `solve` are accepted by `check`, where they are within its
+-- limit, with the answer's counts of claims and of what is open
 abbrev pub ReportsAreAccepted : Type 0
-ReportsAreAccepted = (limits : Limits) (bytes : List ℕ) (o : Output) (p : Parts) (a : Answer) (most : ℕ) → IsReadable limits o → IsSolvedBy limits bytes o p a
+ReportsAreAccepted = (limits : Limits) (bytes : List ℕ) (o : Output) (p : Parts) (a : Answer) (most : ℕ)
+    → IsReadable limits o → IsSolvedBy limits bytes o p a
     → length bytes ≤ MOST_PROBLEM → length (bytes ++ (codes "\n" ++ o.text)) ≤ most
-    → DueFor (Check most) (bytes ++ (codes "\n" ++ o.text)) (accepted (length (claims_of p (answer_of a))) (unfinished_of (answer_of a)))
+    → DueFor (Check most) (bytes ++ (codes "\n" ++ o.text))
+    (accepted (length (claims_of p (answer_of a))) (unfinished_of (answer_of a)))

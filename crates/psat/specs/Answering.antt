@@ -65,21 +65,24 @@ IsExplained limits enough bytes p o = (e : Explained) × IsExplainedBy (limits_f
 
 -- where no call failed, a run answers the output that is due, or there was not enough memory
 abbrev pub FaultlessRunsAnswer : Type 0
-FaultlessRunsAnswer = (words : List (String Global)) (old new : Ends) (status : Status) (bytes : List ℕ) → IsFaultless words old new status
+FaultlessRunsAnswer = (words : List (String Global)) (old new : Ends) (status : Status) (bytes : List ℕ)
+    → IsFaultless words old new status
     → IsGiven (words_of words) old.source.bytes bytes
     → Answered (words_of words) bytes status old.sink.bytes new.sink.bytes ⊎ IsOutOfMemory status old new
 
 -- so for `solve`, where the source has a problem left that is within the limit, that is the report of an answer to it
 abbrev pub ProblemsAreSolved : Type 0
 ProblemsAreSolved = (words : List (String Global)) (limits : Limits) (enough : Bool) (old new : Ends) (status : Status)
-    (bytes : List ℕ) (p : Parts) → Spell (words_of words) (Solve limits enough) → IsFaultless words old new status → old.source.bytes ≡ Some bytes
+    (bytes : List ℕ) (p : Parts) → Spell (words_of words) (Solve limits enough) → IsFaultless words old new status
+    → old.source.bytes ≡ Some bytes
     → length bytes ≤ MOST_PROBLEM → SpellsWhole bytes p
     → HasWritten (IsSolved limits enough bytes p) status old new ⊎ IsOutOfMemory status old new
 
 -- for `explain` it is then an explanation of the problem
 abbrev pub ProblemsAreExplained : Type 0
 ProblemsAreExplained = (words : List (String Global)) (limits : Limits) (enough : Bool) (old new : Ends) (status : Status)
-    (bytes : List ℕ) (p : Parts) → Spell (words_of words) (Explain limits enough) → IsFaultless words old new status → old.source.bytes ≡ Some bytes
+    (bytes : List ℕ) (p : Parts) → Spell (words_of words) (Explain limits enough) → IsFaultless words old new status
+    → old.source.bytes ≡ Some bytes
     → length bytes ≤ MOST_PROBLEM → SpellsWhole bytes p
     → HasWritten (IsExplained limits enough bytes p) status old new ⊎ IsOutOfMemory status old new
 
@@ -93,6 +96,7 @@ ProblemsAreMade = (words : List (String Global)) (links : ℕ) (limits : Limits)
 -- behind it
 abbrev pub ReportsAreJudged : Type 0
 ReportsAreJudged = (words : List (String Global)) (limit : ℕ) (old new : Ends) (status : Status)
-    (bytes : List ℕ) (p : Parts) (place : ℕ) → Spell (words_of words) (Check limit) → IsFaultless words old new status → old.source.bytes ≡ Some bytes
+    (bytes : List ℕ) (p : Parts) (place : ℕ) → Spell (words_of words) (Check limit) → IsFaultless words old new status
+    → old.source.bytes ≡ Some bytes
     → length bytes ≤ limit → SpellsProblem (searched bytes) p place
     → HasWritten (DueReport p (drop place bytes)) status old new ⊎ IsOutOfMemory status old new

@@ -1,5 +1,6 @@
 -- The words of commands, and how much a command reads.
-use Rattle.std.specs.Prelude.{◌≡◌, ◌≢◌, ◌≤◌, ◌⊎◌, ℕ, Bool, true, false, List, [], ◌∷◌, ◌++◌, Option, Some, None, map, All, AllPairs, Contains, codes, decimal, String, string_bytes}
+use Rattle.std.specs.Prelude.{◌≡◌, ◌≢◌, ◌≤◌, ◌⊎◌, ℕ, Bool, true, false, List, [], ◌∷◌, ◌++◌}
+use Rattle.std.specs.Prelude.{Option, Some, None, map, All, AllPairs, Contains, codes, decimal, String, string_bytes}
 use Rattle.std.specs.declared.alloc.Global.{Global}
 use Rattle.ps_answer.specs.declared.limits.TheConstants.{MOST_PIVOTS}
 use Rattle.ps_log.specs.declared.limits.TheConstants.{MOST_CONFLICTS}
@@ -63,7 +64,8 @@ pub record AreSettings (limits : List Limit) (settings : List LimitSetting) : Ty
 
 -- the limit is set to the value, or isn't set and the value is its default
 abbrev pub IsSetTo : List LimitSetting → Limit → LimitValue → Type 0
-IsSetTo settings limit v = Contains settings (record { limit = limit; value = v }) ⊎ (All (λ s. s.limit ≢ limit) settings × (v ≡ Number (default_of limit)))
+IsSetTo settings limit v = Contains settings (record { limit = limit; value = v })
+    ⊎ (All (λ s. s.limit ≢ limit) settings × (v ≡ Number (default_of limit)))
 
 -- the words are these, and behind them settings of these limits, in any order
 pub record AreWordsOf (front : List (List ℕ)) (limits : List Limit) (words : List (List ℕ)) : Type 0 where
@@ -82,13 +84,14 @@ abbrev pub pivots_of : Limits → Bool → LimitValue
 pivots_of limits true = Enough
 pivots_of limits false = Number limits.pivots
 
--- the words are a command's word, and behind it settings of the limits of its runs; where pivots are to be enough, their number is the
--- default
+-- the words are a command's word, and behind it settings of the limits of its runs; where pivots are to be enough,
+-- their number is the default
 pub record SpellRuns (name : List ℕ) (limits : Limits) (enough : Bool) (words : List (List ℕ)) : Type 0 where
   pub set : SetRuns (name ∷ []) (pivots_of limits enough) limits.conflicts words
   pub default : enough ≡ true → limits.pivots ≡ DEFAULT_PIVOTS
 
--- the words are `make` and how many links, from 1 to the most, and behind them settings of the limits of its runs, in which pivots are a number
+-- the words are `make` and how many links, from 1 to the most, and behind them settings of the limits of its runs, in
+-- which pivots are a number
 pub record SpellMake (n : ℕ) (limits : Limits) (words : List (List ℕ)) : Type 0 where
   pub some : 1 ≤ n
   pub few : n ≤ MOST_LINKS

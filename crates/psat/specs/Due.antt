@@ -60,7 +60,8 @@ refused_line kind n = line (codes "refused report line " ++ (decimal n ++ (codes
 
 -- no problem is read, for a kind of refusal at a line and a column
 abbrev pub unreadable : ReadKind → Position → Output
-unreadable kind at = line (codes "unreadable: " ++ (kind_words kind ++ (codes " at " ++ (decimal at.line ++ (codes ":" ++ decimal at.column))))) Unreadable
+unreadable kind at = line (codes "unreadable: "
+    ++ (kind_words kind ++ (codes " at " ++ (decimal at.line ++ (codes ":" ++ decimal at.column))))) Unreadable
 
 -- no problem is read, since there are more bytes than the limit
 abbrev pub too_long : ℕ → Output
@@ -75,9 +76,11 @@ usage = line (codes "usage: psat solve|explain|check|make N [--pivots N|enough] 
 pub data DueAnswer (p : Parts) (a : Answer) (o : Output) : Type 0 where
   Accepted : (valid : IsValid p (answer_of a)) (right : IsRightOf p a)
       (is : o ≡ accepted (length (claims_of p (answer_of a))) (unfinished_of (answer_of a))) → DueAnswer p a o
-  RefusedFor : (claim : Claim) (reason : Reason) (first : IsRefused p (answer_of a) claim reason) (is : o ≡ refused claim reason) → DueAnswer p a o
+  RefusedFor : (claim : Claim) (reason : Reason) (first : IsRefused p (answer_of a) claim reason)
+      (is : o ≡ refused claim reason) → DueAnswer p a o
 
--- due for a problem and the bytes behind its text: they are the report of an answer within the limits, or a line is the first at fault
+-- due for a problem and the bytes behind its text: they are the report of an answer within the limits, or a line is
+-- the first at fault
 pub data DueReport (p : Parts) (rest : List ℕ) (o : Output) : Type 0 where
   ReadAs : (a : Answer) (report : IsReport rest a) (judged : DueAnswer p a o) → DueReport p rest o
   FaultAt : (kind : LineKind) (n : ℕ) (fault : IsFirstFault rest kind n) (is : o ≡ refused_line kind n) → DueReport p rest o
@@ -86,11 +89,13 @@ pub data DueReport (p : Parts) (rest : List ℕ) (o : Output) : Type 0 where
 abbrev pub searched : List ℕ → List ℕ
 searched bytes = take MOST_SEARCHED bytes
 
--- due for bytes within the limit: a problem is spelled at the front of those in which one is looked for, or none is read there, for a
--- kind of refusal at a position
+-- due for bytes within the limit: a problem is spelled at the front of those in which one is looked for, or none is
+-- read there, for a kind of refusal at a position
 pub data DueText (bytes : List ℕ) (o : Output) : Type 0 where
-  Spelled : (p : Parts) (place : ℕ) (spells : SpellsProblem (searched bytes) p place) (report : DueReport p (drop place bytes) o) → DueText bytes o
-  NotRead : (kind : ReadKind) (at : Position) (unread : IsUnread (searched bytes) kind at) (is : o ≡ unreadable kind at) → DueText bytes o
+  Spelled : (p : Parts) (place : ℕ) (spells : SpellsProblem (searched bytes) p place)
+      (report : DueReport p (drop place bytes) o) → DueText bytes o
+  NotRead : (kind : ReadKind) (at : Position) (unread : IsUnread (searched bytes) kind at)
+      (is : o ≡ unreadable kind at) → DueText bytes o
 
 -- what is written of an answer: its report
 abbrev pub report_of : Answer → List ℕ
@@ -106,9 +111,9 @@ status_by other (suc n) = Unfinished
 abbrev pub status_after : Answer → Status
 status_after a = status_by a.verdict (unfinished_of (answer_of a))
 
--- the output is the report of an answer to the problem that all of the bytes spell: it is valid and right, its runs are lawful within
--- the limits, what is open is licensed, where the pivots are enough no part is open for them, and where nothing is open or the pivots
--- were fewer than the most, the report is read back
+-- the output is the report of an answer to the problem that all of the bytes spell: it is valid and right, its runs
+-- are lawful within the limits, what is open is licensed, where the pivots are enough no part is open for them, and
+-- where nothing is open or the pivots were fewer than the most, the report is read back
 pub record IsSolvedBy (limits : Limits) (bytes : List ℕ) (o : Output) (p : Parts) (a : Answer) : Type 0 where
   pub spells : SpellsWhole bytes p
   pub solution : IsSolution limits p a
@@ -116,11 +121,13 @@ pub record IsSolvedBy (limits : Limits) (bytes : List ℕ) (o : Output) (p : Par
   pub read_back : IsReadBack limits a
   pub is : o ≡ record { text = report_of a; status = status_after a }
 
--- due for the bytes of a problem: the report of an answer to it, within the limits of its runs, or they are no problem, for a kind of
--- refusal at a position
+-- due for the bytes of a problem: the report of an answer to it, within the limits of its runs, or they are no
+-- problem, for a kind of refusal at a position
 pub data DueAnswered (limits : Limits) (enough : Bool) (bytes : List ℕ) (o : Output) : Type 0 where
-  Solved : (p : Parts) (a : Answer) (answered : IsSolvedBy (limits_for limits enough p) bytes o p a) → DueAnswered limits enough bytes o
-  NoProblem : (kind : ReadKind) (at : Position) (unread : IsUnreadWhole bytes kind at) (is : o ≡ unreadable kind at) → DueAnswered limits enough bytes o
+  Solved : (p : Parts) (a : Answer) (answered : IsSolvedBy (limits_for limits enough p) bytes o p a)
+      → DueAnswered limits enough bytes o
+  NoProblem : (kind : ReadKind) (at : Position) (unread : IsUnreadWhole bytes kind at) (is : o ≡ unreadable kind at)
+      → DueAnswered limits enough bytes o
 
 -- the lines of an explanation, not gone through letter by letter
 unfoldable pub explained_lines : Explained → List (List ℕ)
@@ -142,11 +149,13 @@ pub record IsExplainedBy (limits : Limits) (bytes : List ℕ) (o : Output) (p : 
   pub right : IsRightExplanation limits p e
   pub is : o ≡ record { text = explanation_of e; status = status_explained e }
 
--- due for the bytes of a problem that is to be explained: an explanation of it, within the limits of its runs, or they are no problem,
--- for a kind of refusal at a position
+-- due for the bytes of a problem that is to be explained: an explanation of it, within the limits of its runs, or
+-- they are no problem, for a kind of refusal at a position
 pub data DueExplained (limits : Limits) (enough : Bool) (bytes : List ℕ) (o : Output) : Type 0 where
-  Explains : (p : Parts) (e : Explained) (explained : IsExplainedBy (limits_for limits enough p) bytes o p e) → DueExplained limits enough bytes o
-  NoneExplained : (kind : ReadKind) (at : Position) (unread : IsUnreadWhole bytes kind at) (is : o ≡ unreadable kind at) → DueExplained limits enough bytes o
+  Explains : (p : Parts) (e : Explained) (explained : IsExplainedBy (limits_for limits enough p) bytes o p e)
+      → DueExplained limits enough bytes o
+  NoneExplained : (kind : ReadKind) (at : Position) (unread : IsUnreadWhole bytes kind at)
+      (is : o ≡ unreadable kind at) → DueExplained limits enough bytes o
 
 -- the report of an answer with a mark before each line
 abbrev pub comment_of : Answer → List ℕ
@@ -162,8 +171,8 @@ abbrev pub status_made : ℕ → Status
 status_made zero = Done
 status_made (suc n) = Unfinished
 
--- the output is the text of the chain of so many links, and behind it the summary of an answer to its problem, with what is open: the
--- answer is valid and right, its runs are lawful within the limits, and what is open is licensed
+-- the output is the text of the chain of so many links, and behind it the summary of an answer to its problem, with
+-- what is open: the answer is valid and right, its runs are lawful within the limits, and what is open is licensed
 pub record IsMadeBy (n : ℕ) (limits : Limits) (o : Output) (a : Answer) : Type 0 where
   pub solution : IsSolution limits (made_problem n) a
   pub text_is : o.text ≡ made_text n ++ (summary (made_problem n) a ++ behind_summary a (unfinished_of (answer_of a)))
@@ -194,8 +203,8 @@ pub data Due (words : List (List ℕ)) (bytes : List ℕ) (o : Output) : Type 0 
 abbrev pub AreNoProblem : List ℕ → Type 0
 AreNoProblem bytes = (p : Parts) → length bytes ≤ MOST_PROBLEM → ¬ SpellsWhole bytes p
 
--- one output at most is due for a command and bytes: for `solve` and `explain` where the bytes are no problem, since several answers
--- to one problem and several explanations of it may be right; and for `make` of none is it said
+-- one output at most is due for a command and bytes: for `solve` and `explain` where the bytes are no problem, since
+-- several answers to one problem and several explanations of it may be right; and for `make` of none is it said
 abbrev pub IsSingle : Command → List ℕ → Type 0
 IsSingle (Check limit) bytes = Unit {0}
 IsSingle (Solve limits enough) bytes = AreNoProblem bytes

@@ -11,7 +11,8 @@ use Rattle.psat.specs.Statuses.{status_number}
 
 -- where the words are had and a run gave a status, the fact holds of the words behind the program's name, which is the first, and
 -- of the status
-abbrev pub IfRan : {E : Type 0} → Result (IntoIter (String Global) Global) E → Result Status NoWords → (List (String Global) → Status → Type 0) → Type 0
+abbrev pub IfRan : {E : Type 0} → Result (IntoIter (String Global) Global) E → Result Status NoWords
+    → (List (String Global) → Status → Type 0) → Type 0
 IfRan all ended P = IfOk all (λ args. IfOk ended (λ status. P (drop 1 (into_iter_items args)) status))
 
 -- the number after a run, and where the words can't be had

@@ -1,5 +1,6 @@
 -- What a reply stands for, and for which sources it is right.
-use Rattle.std.specs.Prelude.{◌≡◌, ◌≤◌, ℕ, List, [], ◌++◌, Option, Some, None, IfOk, IfSome, Result, Ok, Err, String, string_bytes}
+use Rattle.std.specs.Prelude.{◌≡◌, ◌≤◌, ℕ, List, [], ◌++◌, Option, Some}
+use Rattle.std.specs.Prelude.{None, IfOk, IfSome, Result, Ok, Err, String, string_bytes}
 use Rattle.std.specs.declared.alloc.Global.{Global}
 use Rattle.ps_answer.specs.declared.answer.Answer.{Answer}
 use Rattle.ps_generation.specs.Phases.{AreLimits}
@@ -21,7 +22,8 @@ use Rattle.psat.specs.declared.reply_error.ReplyError.TheVariants as errors
 use Rattle.psat.specs.declared.status.Status.{Status}
 use Rattle.psat.specs.declared.status.Status.TheVariants as statuses
 use Rattle.psat.specs.Commands.{limit_of}
-use Rattle.psat.specs.Due.{Output, Due, DueAnswered, DueExplained, DueFor, DueMade, DueText, behind_summary, comment_of, explanation_of, report_of, status_after, status_explained, status_made}
+use Rattle.psat.specs.Due.{Output, Due, DueAnswered, DueExplained, DueFor, DueMade, DueText}
+use Rattle.psat.specs.Due.{behind_summary, comment_of, explanation_of, report_of, status_after, status_explained, status_made}
 use Rattle.psat.specs.Summaries.{summary}
 use Rattle.psat.specs.Runs.{IsTold, IsGiven}
 
@@ -92,8 +94,8 @@ pub record AreLimitsOfMake (n : ℕ) (limits : Limits) : Type 0 where
   pub few : n ≤ MOST_LINKS
   pub limits_are : AreLimits limits
 
--- it is a text with the summary of an answer to the problem, and that answer where some part of it is open: the answer is right and
--- valid, its runs are lawful within the limits, and what is open is licensed
+-- it is a text with the summary of an answer to the problem, and that answer where some part of it is open: the
+-- answer is right and valid, its runs are lawful within the limits, and what is open is licensed
 pub record IsMadeOf (text : List ℕ) (limits : Limits) (p : Parts) (m : MadeProblem) : Type 0 where
   pub answer : Answer
   pub solution : IsSolution limits p answer

@@ -6,12 +6,13 @@ use Rattle.ps_runs.specs.Runs.{sentences_of}
 use Rattle.ps_generation.specs.declared.limits.Limits.{Limits}
 use Rattle.ps_enough.specs.Enough.{enough_in}
 
--- a number of pivots that is enough for each run on a problem: three times the ways to choose one thing more than there are rows, of
--- one thing more than there are rows and worlds
+-- a number of pivots that is enough for each run on a problem: three times the ways to choose one thing more than
+-- there are rows, of one thing more than there are rows and worlds
 abbrev pub enough_for : Parts → ℕ
 enough_for p = enough_in (sentences_of p)
 
--- the limits of the runs on a problem: those of the words, and where pivots are to be enough, that number, or the most if it is less
+-- the limits of the runs on a problem: those of the words, and where pivots are to be enough, that number, or the
+-- most if it is less
 abbrev pub limits_for : Limits → Bool → Parts → Limits
 limits_for limits false p = limits
 limits_for limits true p = record { pivots = min (enough_for p) MOST_PIVOTS; conflicts = limits.conflicts }

@@ -32,7 +32,8 @@ FindsValue word value limit found = MatchOption found (IsUnset word value limit)
 
 -- they set it to the number that is found, or to none where there is none
 abbrev pub FindsNumber : List ℕ → List ℕ → Limit → Option ℕ → Type 0
-FindsNumber word digits limit found = MatchOption found (HasNoNumber word digits limit) (λ n. SetsLimit word digits limit (Number n))
+FindsNumber word digits limit found = MatchOption found (HasNoNumber word digits limit) (λ n.
+    SetsLimit word digits limit (Number n))
 
 -- the two words set pivots to what is enough
 abbrev pub SetEnough : List ℕ → List ℕ → Type 0

@@ -3,7 +3,8 @@ use Rattle.std.specs.Prelude.{ℕ, ◌⊎◌}
 use Rattle.psat.specs.declared.command.Command.{Command}
 use Rattle.psat.specs.declared.command.Command.TheVariants.{Check, Explain, Make, Solve}
 use Rattle.psat.specs.declared.status.Status.{Status}
-use Rattle.psat.specs.declared.status.Status.TheVariants.{Done, Inconsistent, Usage, Unreadable, Unfinished, ReadFault, WriteFault, NoMemory, Refused}
+use Rattle.psat.specs.declared.status.Status.TheVariants.{Done, Inconsistent, Usage, Unreadable, Unfinished}
+use Rattle.psat.specs.declared.status.Status.TheVariants.{ReadFault, WriteFault, NoMemory, Refused}
 
 -- the number of a status, which is the exit code
 abbrev pub status_number : Status → ℕ

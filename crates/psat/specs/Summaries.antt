@@ -42,7 +42,8 @@ counts_words claims unfinished = codes "; check accepted: claims " ++ (decimal c
 
 -- the summary of an answer, with so many claims, and so much open
 abbrev pub summary_with : Answer → ℕ → ℕ → List ℕ
-summary_with a claims unfinished = codes "# " ++ (verdict_word a.verdict ++ (part_words a.parts ++ (counts_words claims unfinished ++ codes "\n")))
+summary_with a claims unfinished = codes "# "
+    ++ (verdict_word a.verdict ++ (part_words a.parts ++ (counts_words claims unfinished ++ codes "\n")))
 
 -- the summary of an answer to a problem, a line
 abbrev pub summary : Parts → Answer → List ℕ
