@@ -22,9 +22,6 @@ implied-level t u l id e = rw e (let d = decisions-append t.entries (record { li
 more-fewer : (t : Trail) (e : TrailEntry) (es : List TrailEntry) → es ≡ t.entries ++ e ∷ [] → IsFresh t.variables (values t) e.lit → suc (unset_count (values_of t.variables es)) ≡ unset_count (values t)
 more-fewer t e es q f = rw (q, values-append t.variables t.entries e) (fewer-unset (values t) e.lit (rw (length-values t.variables t.entries) f))
 
-pub implied-fewer : (t u : Trail) (l : ℤ) (id : ℕ) → u ≡ implied l id t → IsFresh t.variables (values t) l → suc (unset_count (values u)) ≡ unset_count (values t)
-implied-fewer t u l id e f = rw e (more-fewer t (record { lit = l; reason = Some id; level = decisions t.entries }) _ refl f)
-
 pub decided-reasons : (known : Known) (t u : Trail) (l : ℤ) → u ≡ decided l t → AreReasons t.variables known t.entries → AreReasons u.variables known u.entries
 decided-reasons known t u l e r = rw e (reasons-append t.variables known t.entries (record { lit = l; reason = None; level = suc (decisions t.entries) }) r tt)
 

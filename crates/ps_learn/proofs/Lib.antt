@@ -1,7 +1,6 @@
 pub mod Steps
 pub mod Going
 pub mod Advancing
-pub mod Scanned
 pub mod Before
 pub mod Falsity
 pub mod Marked

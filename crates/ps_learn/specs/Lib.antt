@@ -2,7 +2,6 @@
 pub mod Rest
 pub mod Falsity
 pub mod Learning
--- Bridge: what a scan finds, how causes are marked, and how a clause is drawn from them
-pub mod Scans
+-- Bridge: how causes are marked, and how a clause is drawn from them
 pub mod Marks
 pub mod Drawing

@@ -3,6 +3,7 @@ pub mod Linked
 pub mod Clauses
 pub mod Seen
 pub mod Visited
+pub mod Scanned
 pub mod Reading
 pub mod Drained
 pub mod Followed

@@ -1,6 +1,6 @@
 use Rattle.std.proofs.Common.{ap, ◌∙◌}
 use Rattle.ps_steps.specs.Weights.{terms_of}
-use Rattle.ps_learn.proofs.Scanned.{first_forces}
+use Rattle.ps_watch.proofs.Scanned.{first_forces}
 use Rattle.ps_watch.proofs.scanning.first_forced.Goals as goal
 
 pub returns-then-is_forced : goal.returns-then-is_forced
