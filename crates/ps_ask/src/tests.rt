@@ -54,7 +54,7 @@ const OBJECT: &str = concat!(
     "\"status\":0}\n",
 );
 
-const WARNING: &str = "f: warning: P(dry | wet): | is \"or\"; for a condition write given\n";
+const WARNING: &str = "f:4: warning: P(dry | wet): | is \"or\"; for a condition write given\n";
 
 const CLASH: &[u8] = b"psat 1; P(a) = 1; # P(c) = 1;
 P(b) <= 1/2; query P(a);
@@ -77,9 +77,10 @@ const CLASH_OBJECT: &str = concat!(
     "\"status\":1}\n",
 );
 
-const NOTE: &str = "f:1:13: found `b`, expected an operator or `)`
+const NOTE: &str = "f:1:13: found `b`, expected `&`, `|`, `->`, `<->`, `given` or `)`
   psat 1; P(a b) = 1; end;
               ^
+  hint: write &, |, -> or <-> between two formulas, and a name without blanks
 ";
 
 const UNREADABLE: &[u8] = b"psat 1; P(a b) = 1; end;";
