@@ -2,4 +2,5 @@ mod Harmless
 mod Lines
 mod Meant
 mod Moves
+mod Ors
 mod Shows

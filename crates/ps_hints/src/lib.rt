@@ -6,6 +6,7 @@ mod byte_hints;
 mod caret;
 mod choice;
 mod close_names;
+mod disjunctions;
 mod expectation;
 mod formula_hints;
 mod found;

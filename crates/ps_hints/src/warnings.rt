@@ -1,15 +1,16 @@
 //! Warnings about a problem.
 ghost use Rattle.std.specs.Prelude.{◌≡◌, ◌↔◌, ◌<◌, IfSome, IsSome, IsSomeAnd, IsTrue};
-ghost use Rattle.std.specs.Prelude.{false, length, slice_get};
-ghost use Rattle.ps_hints.specs.Warnings.{is_or, IsBelow};
+ghost use Rattle.std.specs.Prelude.{false, length};
+ghost use Rattle.ps_problem.specs.Problems.{tree_at};
+ghost use Rattle.ps_hints.specs.Warnings.{is_one_or, IsBelow};
 ghost use Rattle.ps_hints.specs.Shown.{AddsLines};
 
 use crate::close_names::close_name;
+use crate::disjunctions::is_one_or;
 use crate::site::Site;
 use crate::starts::{query_lines, sentence_lines};
 use crate::uses::Uses;
 use ps_canonical::write_probability;
-use ps_formula::Node;
 use ps_io::NoMemory;
 use ps_problem::{Bound, Problem, Sentence};
 use std::alloc::Global;
@@ -43,17 +44,7 @@ fn warn_about(
     message.write_line(out)
 }
 
-// Whether the formula of a node is joined by `|`.
-fn is_or(problem: &Problem, node: u32) -> bool
-    ensures { result ≡ is_or (slice_get problem.now.nodes node) }
-{
-    matches!(
-        problem.formulas().nodes().get(node as usize),
-        Some(Node::Or(_, _))
-    )
-}
-
-// Warns of a `|` at the top of a probability without a condition.
+// Warns of a formula that is joined by one `|`, at its top, and has no condition.
 #[tactic(auto, using(crate::proofs::Lines::none))]
 fn warn_of_or(
     alloc: Global,
@@ -66,10 +57,10 @@ fn warn_of_or(
     requires { node < length problem.now.nodes }
     ensures lines { AddsLines out.old.items out.new.items }
     ensures given { IsSome given → out.new.items ≡ out.old.items }
-    ensures no_or { is_or (slice_get problem.now.nodes node) ≡ false
+    ensures no_or { is_one_or (tree_at problem.now.nodes node) ≡ false
         → out.new.items ≡ out.old.items }
 {
-    if given.is_some() || !is_or(problem, node) {
+    if given.is_some() || !is_one_or(alloc, problem, node)? {
         return Ok(());
     }
     warn_about(alloc, out, site, problem, node, None, OR)
@@ -205,9 +196,9 @@ fn warn_of_name(
     message.write_line(out)
 }
 
-/// Writes the warnings about a problem and its text, one line each: `|` at the top of a probability
-/// without a condition, intervals whose ends are turned round, and names that are used once and
-/// close to another. A line is `FILE:LINE: warning: ..`.
+/// Writes the warnings about a problem and its text, one line each: formulas without a condition that
+/// are joined by one `|`, at its top, intervals whose ends are turned round, and names that are used
+/// once and close to another. A line is `FILE:LINE: warning: ..`.
 #[tactic(auto, using(crate::proofs::Lines::none, crate::proofs::Lines::then))]
 pub fn write_warnings(
     alloc: Global,

@@ -55,3 +55,23 @@ fn numbered_names_have_none(rt: HostRuntime) -> Result<(), Fail> {
     assert!(rt; out.as_slice() == SHORT.as_bytes());
     Ok(())
 }
+
+const JOINED: &[u8] = b"psat 1;
+P(guard | courier | restorer | stranger) = 1;
+P((a | b) & c) = 1/2; P(!(a | b) | c) = 1;
+P(a | (b -> c | d)) = 1; P(a | b given c) = 1;
+P(dry | wet) = 1;
+P(!a & b | (c <-> d)) = 1;
+end;
+";
+
+const JOINED_ONCE: &str = "f:5: warning: P(dry | wet): | is \"or\"; for a condition write given
+f:6: warning: P(!a & b | (c <-> d)): | is \"or\"; for a condition write given
+";
+
+#[test]
+fn formulas_that_one_or_joins_have_warnings(rt: HostRuntime) -> Result<(), Fail> {
+    let out = warnings(rt.alloc(), JOINED).expect(&rt, "a problem");
+    assert!(rt; out.as_slice() == JOINED_ONCE.as_bytes());
+    Ok(())
+}
