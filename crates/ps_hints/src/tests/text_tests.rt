@@ -81,14 +81,53 @@ fn a_missing_semicolon_is_shown_where_the_item_ends(rt: HostRuntime) -> Result<(
     Ok(())
 }
 
-// A text with many items like this one.
+// Adds an item with a number in place of each `#`.
+fn push_item(text: &mut String, item: &str, number: usize) -> Result<(), NoMemory> {
+    let mut digits = itoa::Buffer::new();
+    for c in item.chars() {
+        if c == '#' {
+            text.push_str(digits.format(number))?;
+        } else {
+            text.push(c)?;
+        }
+    }
+    Ok(())
+}
+
+// A text with many items like this one, in which a `#` stands for the number of the item.
 fn with_many(alloc: Global, item: &str, count: usize) -> Result<String, NoMemory> {
     let mut text = String::from_str(alloc, "psat 1;\n")?;
-    for _item in 0..count {
-        text.push_str(item)?;
+    for number in 0..count {
+        push_item(&mut text, item, number)?;
     }
     text.push_str("end;\n")?;
     Ok(text)
+}
+
+#[test]
+fn too_many_atoms(rt: HostRuntime) -> Result<(), Fail> {
+    // Each sentence has two names of its own.
+    let text = with_many(rt.alloc(), "P(x# & y#) = 1;\n", 65)?;
+    let told = "f:66:1: with this there are more than 128 atoms
+  P(x64 & y64) = 1;
+  ^
+  hint: leave out what no query needs
+";
+    assert!(rt; is_told(rt.alloc(), text.as_bytes(), told));
+    Ok(())
+}
+
+#[test]
+fn too_many_formulas(rt: HostRuntime) -> Result<(), Fail> {
+    // Each sentence has 13 formulas of its own, and 79 times 13 is 1027.
+    let text = with_many(rt.alloc(), "P(!!!!!!!!!!!!x#) = 1;\n", 79)?;
+    let told = "f:80:1: with this there are more than 1024 different formulas
+  P(!!!!!!!!!!!!x78) = 1;
+  ^
+  hint: write a formula the same way each time
+";
+    assert!(rt; is_told(rt.alloc(), text.as_bytes(), told));
+    Ok(())
 }
 
 #[test]
