@@ -9,6 +9,8 @@ mod exit;
 #[cfg(test)]
 mod explain_tests;
 mod explained;
+#[cfg(test)]
+mod fault_tests;
 mod laws;
 mod made;
 #[cfg(test)]

@@ -9,7 +9,7 @@ const ACCEPTED: &str = "accepted: claims 1, open 0\n";
 pub const USAGE: &str =
     "usage: psat solve|explain|check|make N [--pivots N|enough] [--conflicts N] [--bytes N]\n";
 
-const HALF: &str =
+pub const HALF: &str =
     "psat 1; P(a) = 1/2; end;\nreport 1\nconsistent\nmodel 2 2\nw 1 1\nw 1 0\nt 0\nend\n";
 
 // Inputs that are accepted or refused, and their lines.
@@ -92,7 +92,7 @@ const UNREADABLE: [(&str, &str); 14] = [
 ];
 
 // The lines of a report on the problem `RAIN`.
-const RAIN: &str = "psat 1; P(a) = 7/10; P(a -> b) = 9/10; query P(b); end;\n";
+pub const RAIN: &str = "psat 1; P(a) = 7/10; P(a -> b) = 9/10; query P(b); end;\n";
 
 const LINES: [&str; 29] = [
     "report 1",
@@ -128,8 +128,9 @@ const LINES: [&str; 29] = [
 
 // From which line on, by its number from 1, how many of the lines are left out, what stands in
 // their place, and the line that is due.
-const CHANGES: [(u64, u64, &str, &str); 16] = [
+const CHANGES: [(u64, u64, &str, &str); 21] = [
     (1, 0, "", "accepted: claims 3, open 0\n"),
+    (3, 1, "model 10 102\n", "refused report line 3 too-large\n"),
     (4, 1, "w 06 11\n", "refused report line 4 not-canonical\n"),
     (5, 1, "w 1 11\n", "refused verdict world-twice 2\n"),
     (5, 1, "w 0 10\n", "refused verdict weight-zero 2\n"),
@@ -138,6 +139,24 @@ const CHANGES: [(u64, u64, &str, &str); 16] = [
     (4, 2, "w 5 11\nw 2 10\n", "refused verdict bound-missed 2\n"),
     (11, 1, "lower 1/2\n", "refused query 1 lower value-missed\n"),
     (25, 1, "dual 10 8 1\n", "refused query 1 upper head-wrong\n"),
+    (
+        18,
+        1,
+        "s 99999999999999999999 0 4 3 0\n",
+        "refused report line 18 too-large\n",
+    ),
+    (
+        18,
+        1,
+        "s 5 0 0\n",
+        "refused query 1 lower step 5 no-conflict\n",
+    ),
+    (
+        18,
+        1,
+        "s 5 0 9 0\n",
+        "refused query 1 lower step 5 unknown-hint 9\n",
+    ),
     (
         26,
         1,
@@ -159,6 +178,7 @@ const CHANGES: [(u64, u64, &str, &str); 16] = [
     (27, 1, "", "refused report line 27 bad-line\n"),
     (29, 1, "", "refused report line 29 truncated\n"),
     (29, 1, "end\n\n", "refused report line 30 more-after-end\n"),
+    (29, 1, "end\nx\n", "refused report line 30 more-after-end\n"),
     (1, 29, "", "refused report line 1 truncated\n"),
 ];
 
@@ -182,7 +202,7 @@ const OTHER_WORDS: [&[&str]; 8] = [
     &["check", "--bytes", "1", "--bytes", "1"],
 ];
 
-fn given(alloc: Global, words: &[&str]) -> Result<Vec<String>, NoMemory> {
+pub fn given(alloc: Global, words: &[&str]) -> Result<Vec<String>, NoMemory> {
     let mut given = Vec::new(alloc);
     for word in words {
         given.push(String::from_str(alloc, *word)?)?;
@@ -246,7 +266,7 @@ fn all_are_unreadable(alloc: Global) -> bool {
 }
 
 // The report on `RAIN` with so many lines from one on replaced.
-fn changed(alloc: Global, from: u64, count: u64, put: &str) -> Result<String, NoMemory> {
+pub fn changed(alloc: Global, from: u64, count: u64, put: &str) -> Result<String, NoMemory> {
     let mut text = String::from_str(alloc, RAIN)?;
     let mut number = 0u64;
     for line in LINES {
@@ -350,39 +370,5 @@ fn are_bytes_limited(alloc: Global) -> bool {
 fn limits_and_other_words(rt: HostRuntime) -> Result<(), Fail> {
     let alloc = rt.alloc();
     assert!(rt; are_limited(alloc) && get_usage(alloc) && are_bytes_limited(alloc));
-    Ok(())
-}
-
-// Whether a run with this failing read ends with the status, and writes only at Done.
-fn reads(alloc: Global, call: u64, due: Status) -> bool {
-    match ended(alloc, &["check"], HALF.as_bytes(), &[call], &[]) {
-        Ok((status, sink)) => status == due && sink.bytes().is_empty() == (due != Status::Done),
-        Err(_) => false,
-    }
-}
-
-// Whether a run with this failing write ends with the status, and has written so many bytes.
-fn writes(alloc: Global, call: u64, due: Status, count: usize) -> bool {
-    match ended(alloc, &["check"], HALF.as_bytes(), &[], &[call]) {
-        Ok((status, sink)) => status == due && sink.bytes().len() == count,
-        Err(_) => false,
-    }
-}
-
-#[test]
-fn faults(rt: HostRuntime) -> Result<(), Fail> {
-    let alloc = rt.alloc();
-    // The input of 75 bytes comes in pieces of 7, and the 12th read finds its end.
-    assert!(rt;
-        reads(alloc, 1, Status::ReadFault)
-            && reads(alloc, 12, Status::ReadFault)
-            && reads(alloc, 13, Status::Done)
-    );
-    // The line of 27 bytes goes in pieces of 8.
-    assert!(rt;
-        writes(alloc, 1, Status::WriteFault, 0)
-            && writes(alloc, 4, Status::WriteFault, 24)
-            && writes(alloc, 5, Status::Done, 27)
-    );
     Ok(())
 }
