@@ -2,5 +2,6 @@ mod Guessed
 mod Models
 mod Needed
 mod Parts
+mod NotMet
 mod SentLines
 mod Short

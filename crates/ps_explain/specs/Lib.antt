@@ -4,3 +4,5 @@ pub mod Texts
 -- Bridge: what each step finds of it
 pub mod Used
 pub mod Steps
+-- Meaning, in the words of the steps
+pub mod Rests

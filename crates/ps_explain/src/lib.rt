@@ -1,5 +1,5 @@
 //! Explanations: sentences of a problem that can't be met together, each of which is needed for
-//! it.
+//! it, and what is left without one of them.
 #![tactic(auto)]
 
 mod conflict;
@@ -11,6 +11,7 @@ mod means;
 mod met;
 mod numbers;
 mod outcome;
+mod rests;
 #[cfg(test)]
 mod tests;
 mod used;
@@ -19,4 +20,5 @@ mod writing;
 pub use explained::{Explained, Models, Numbers};
 pub use explaining::explain;
 pub use ps_master::Limits;
+pub use rests::verdict_without;
 pub use writing::write_explanation;

@@ -4,8 +4,8 @@ ghost use Rattle.ps_generation.specs.Phases.{AreLimits};
 ghost use Rattle.ps_runs.specs.Kept.{IsChoice};
 ghost use Rattle.ps_explain.specs.Texts.{HasShortLines};
 
-use crate::{Explained, Limits, explain, write_explanation};
-use ps_answer::{Dual, Model, Weighted};
+use crate::{Explained, Limits, explain, verdict_without, write_explanation};
+use ps_answer::{Dual, Model, Verdict, Weighted};
 use ps_claims::ClaimKind;
 use ps_formula::World;
 use ps_guesser::{Guess, Guesser};
@@ -256,6 +256,42 @@ fn begins(alloc: Global, text: &[u8], limits: Limits, kind: Kind, start: &[u8]) 
     Some(sink.bytes().get(..start.len()) == Some(start))
 }
 
+const TWICE: &[u8] = b"psat 1; P(a) = 1/3; P(a) = 2/3; P(b) = 1/4; P(b) = 3/4; end;";
+
+const THREE: &[u8] = b"psat 1; P(a) >= 1/2; P(a) <= 1/4; P(a) <= 1/3; end;";
+
+// A problem, one of its sentences by its number, whether the run has pivots, and what the problem
+// comes to without the sentence: met, not met, or open.
+const RESTS: [(&[u8], u32, bool, u8); 8] = [
+    (THIRDS, 1, true, b'm'),
+    (THIRDS, 2, true, b'm'),
+    (THIRDS, 3, true, b'n'),
+    (THIRDS, 9, true, b'n'),
+    (THIRDS, 1, false, b'o'),
+    (TWICE, 1, true, b'n'),
+    (THREE, 1, true, b'm'),
+    (THREE, 2, true, b'n'),
+];
+
+fn letter(verdict: &Verdict) -> u8 {
+    match verdict {
+        Verdict::Consistent(_) => b'm',
+        Verdict::Inconsistent(_) => b'n',
+        Verdict::Open(_) => b'o',
+    }
+}
+
+// Whether the rest of a row is told, by a lawful run.
+fn is_told(alloc: Global, row: &(&[u8], u32, bool, u8)) -> Option<bool> {
+    let (text, number, has_pivots, told) = *row;
+    let problem = problem_of(alloc, text)?;
+    let kind = Kind::Nothing;
+    let mut guesser = Fixed { alloc, kind };
+    let limits = if has_pivots { LIMITS } else { NO_PIVOTS };
+    let verdict = verdict_without(alloc, &problem, limits, number, &mut guesser).ok()?;
+    Some(letter(&verdict) == told)
+}
+
 const CORE: &[u8] = b"explanation 1\ncore 2 1 2\ndual 0 1 1\ny -1 1 0\ns 2 0 1 0\nwithout 1\n";
 
 const OPEN: &[u8] = b"explanation 1\nopen pivots 0\nsentences 3 1 2 3\n";
@@ -274,4 +310,11 @@ fn explanations_are_written(rt: HostRuntime) {
     assert!(rt; begins(alloc, THIRDS, LIMITS, Kind::Nothing, CORE) == Some(true));
     assert!(rt; begins(alloc, THIRDS, NO_PIVOTS, Kind::Nothing, OPEN) == Some(true));
     assert!(rt; begins(alloc, CHAINED, LIMITS, Kind::Wrong, met) == Some(true));
+}
+
+#[test]
+fn rests_are_told(rt: HostRuntime) {
+    for row in &RESTS {
+        assert!(rt; is_told(rt.alloc(), row) == Some(true));
+    }
 }
