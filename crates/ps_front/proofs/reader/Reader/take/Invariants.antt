@@ -1,0 +1,11 @@
+use Rattle.std.proofs.Common.{length}
+use Rattle.ps_front.proofs.Readers.{HasCome}
+use Rattle.ps_front.proofs.reader.Reader.take.Given as goal
+
+abbrev pub invariant-loop-left : goal.invariant-loop-left
+invariant-loop-left l = record {
+  come : HasCome l.piece l.left l.fn.self l.self;
+}
+
+abbrev pub decreases-loop-left : goal.decreases-loop-left
+decreases-loop-left l = length l.left

@@ -1,0 +1,5 @@
+-- Meaning
+pub mod Fronts
+-- Bridge: what a reader has taken, and what is known of the bytes that were pushed
+pub mod Takings
+pub mod Stages

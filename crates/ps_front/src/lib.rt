@@ -1,0 +1,13 @@
+//! Reads a problem's text at the front of bytes that come piece by piece.
+#![tactic(auto)]
+
+mod front;
+mod laws;
+mod problem;
+mod reader;
+mod stage;
+#[cfg(test)]
+mod tests;
+
+pub use front::Front;
+pub use laws::problem_parts_read_alone;
