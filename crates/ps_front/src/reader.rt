@@ -26,7 +26,7 @@ pub(crate) struct Reader {
 }
 
 // A refusal at a position.
-fn refused(kind: ReadKind, place: Position) -> ReadError
+fn refusal_at(kind: ReadKind, place: Position) -> ReadError
     ensures { result ≡ errors.At kind place.line place.column }
 {
     ReadError::At {
@@ -50,7 +50,7 @@ fn end(parser: &Parser, kind: ReadKind, place: Position) -> Result<Position, Rea
     if is_done(parser) {
         return Ok(place);
     }
-    Err(refused(kind, place))
+    Err(refusal_at(kind, place))
 }
 
 // Takes a token that ended, and stops where none begins.
@@ -75,7 +75,7 @@ fn judge(
         }
         match parser.take(&token, began) {
             Ok(()) => {}
-            Err(ParseError::Refused(kind)) => return Err(refused(kind, began)),
+            Err(ParseError::Refused(kind)) => return Err(refusal_at(kind, began)),
             Err(ParseError::NoMemory) => return Err(ReadError::NoMemory),
         }
     }

@@ -33,7 +33,7 @@ pub(crate) enum Stage {
 }
 
 // Behind a refusal, to which all of the bytes belong.
-fn refused(error: ReadError, all: u32) -> Result<(Stage, u32), NoMemory>
+fn stage_refused(error: ReadError, all: u32) -> Result<(Stage, u32), NoMemory>
     ensures { result ≡ behind_refusal error all }
 {
     match error {
@@ -43,13 +43,18 @@ fn refused(error: ReadError, all: u32) -> Result<(Stage, u32), NoMemory>
 }
 
 // Behind a text that ends before so many of the bytes: its problem, or a refusal.
-fn followed(alloc: Global, parser: &Parser, count: u32, all: u32) -> Result<(Stage, u32), NoMemory>
+fn stage_behind(
+    alloc: Global,
+    parser: &Parser,
+    count: u32,
+    all: u32,
+) -> Result<(Stage, u32), NoMemory>
     requires { AreWhole (parsed_by parser.now) }
     ensures { IsBehindText (parsed_by parser.now) count all result }
 {
     match problem_of(alloc, parser) {
         Ok(problem) => Ok((Stage::Followed(problem), count)),
-        Err(error) => refused(error, all),
+        Err(error) => stage_refused(error, all),
     }
 }
 
@@ -71,8 +76,8 @@ fn read_on(
     let all = taken + piece.len() as u32;
     match reader.take(piece) {
         Ok(None) => Ok((Stage::Reading(reader), all)),
-        Ok(Some(count)) => followed(alloc, &reader.into_parser(), taken + count, all),
-        Err(error) => refused(error, all),
+        Ok(Some(count)) => stage_behind(alloc, &reader.into_parser(), taken + count, all),
+        Err(error) => stage_refused(error, all),
     }
 }
 
