@@ -1,6 +1,6 @@
 //! A problem's text at the front of bytes that come piece by piece.
 ghost use Rattle.std.specs.Prelude.{◌≡◌, ◌<◌, ◌≤◌, ◌+◌, ◌^◌, ℕ, List, [], length};
-ghost use Rattle.std.specs.Prelude.{IfOk, IfErr, IsErr, Err};
+ghost use Rattle.std.specs.Prelude.{IfOk, IfErr, OnErr, IsErr, Err};
 ghost use Rattle.ps_read.specs.declared.read_error.ReadError.TheVariants as errors;
 ghost use Rattle.ps_read.specs.Readings.{IsUnread};
 ghost use Rattle.ps_read.specs.Reads.{Tells};
@@ -64,7 +64,8 @@ impl Front {
         ensures taken { IfOk result (λ n. self.new.taken ≡ self.old.taken + n) }
         ensures within { IfOk result (λ n. n ≤ length piece.now) }
         // Once memory ran out, it is answered each time.
-        ensures err { IsErr result → IsOutOfMemory self.new }
+        ensures err { OnErr result (IsOutOfMemory self.new) }
+        ensures err_taken { OnErr result (self.new.taken ≡ self.old.taken) }
         ensures stays { IsOutOfMemory self.old → IsErr result }
     {
         let stage = std::mem::replace(&mut self.stage, Stage::OutOfMemory);

@@ -15,7 +15,10 @@ fn told(alloc: Global, text: &[u8], cut: usize) -> Result<Told, Fail> {
     }
     let mut front = Front::new(alloc);
     let (first, second) = text.split_at(cut);
-    let (Ok(before), Ok(behind)) = (front.push(first), front.push(second)) else {
+    let Ok(before) = front.push(first) else {
+        return Err("memory")?;
+    };
+    let Ok(behind) = front.push(second) else {
         return Err("memory")?;
     };
     match front.done(alloc) {
