@@ -1,5 +1,5 @@
 -- A text at the front stands there too without the bytes behind it.
-use Rattle.std.proofs.Common.{◌≡◌, ℕ, ◌≤◌, Bool, true, false, ◌&&◌, List, [], ◌∷◌, ◌++◌, length, take, drop, refl, sym, ap, subst, ◌∙◌, arith, append_assoc, append-nil, length-append}
+use Rattle.std.proofs.Common.{◌≡◌, ℕ, ◌≤◌, Bool, true, false, ◌&&◌, List, [], ◌∷◌, ◌++◌, length, take, drop, refl, sym, ap, subst, ◌∙◌, arith, append_assoc, length-append}
 use Rattle.std.proofs.lemmas.List.{take-append-drop, length-take-le}
 use Rattle.std.specs.Prelude.{◌==◌}
 use Rattle.ps_meaning.specs.Names.{is_digit}
@@ -10,7 +10,7 @@ use Rattle.ps_meaning.specs.Statements.{Item}
 use Rattle.ps_text.proofs.Spans.{starts, starts_behind}
 use Rattle.ps_text.proofs.Longest.{Stops, longest_stops, stops_longest}
 use Rattle.ps_problem.specs.Problems.{Parts}
-use Rattle.ps_read.specs.Readings.{SpellsProblem, SpellsWhole}
+use Rattle.ps_read.specs.Readings.{SpellsProblem}
 use Rattle.ps_read.proofs.Returned.{place_within}
 use Rattle.ps_front.specs.Fronts.{IsReadAlone}
 

@@ -1,5 +1,5 @@
 -- What callers use of what was pushed.
-use Rattle.std.proofs.Common.{◌≡◌, ◌<◌, List, ℕ, ◌++◌, length, arith}
+use Rattle.std.proofs.Common.{◌<◌, List, ℕ, ◌++◌, length, arith}
 use Rattle.ps_front.specs.declared.stage.Stage.{Stage}
 use Rattle.ps_front.specs.declared.stage.Stage.TheVariants as stage
 use Rattle.ps_front.specs.Stages.{FrontState, Knows, HasPushed}

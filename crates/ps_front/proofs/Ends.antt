@@ -1,6 +1,6 @@
 -- Where the end of the text isn't known yet, it can only be the end of the bytes.
-use Rattle.std.proofs.Common.{◌≡◌, ℕ, Bool, true, false, not, ◌&&◌, List, [], ◌∷◌, Option, Some, None, refl, sym, ap, subst, ◌∙◌, true≢false}
-use Rattle.std.specs.Prelude.{if◌then◌else◌, Ok, Err}
+use Rattle.std.proofs.Common.{◌≡◌, Bool, true, false, not, ◌&&◌, [], Option, Some, None, refl, sym, ap, ◌∙◌, true≢false}
+use Rattle.std.specs.Prelude.{if◌then◌else◌, Ok}
 use Rattle.ps_text.specs.declared.part.Part.{Part}
 use Rattle.ps_text.specs.declared.part.Part.TheVariants as part
 use Rattle.ps_text.specs.declared.kind.ReadKind.{ReadKind}
@@ -9,18 +9,15 @@ use Rattle.ps_text.specs.Tokens as text
 use Rattle.ps_text.specs.ExpectedTokens.{State, row, refusal, after}
 use Rattle.ps_text.specs.declared.kind.What.{What}
 use Rattle.ps_lex.specs.declared.position.Position.{Position}
-use Rattle.ps_lex.specs.declared.digits.Digits.{Digits}
 use Rattle.ps_lex.specs.declared.mode.Mode.{Mode}
 use Rattle.ps_lex.specs.declared.mode.Mode.TheVariants as mode
 use Rattle.ps_lex.specs.declared.token.Token.{Token}
 use Rattle.ps_lex.specs.declared.token.Token.TheVariants as token
 use Rattle.ps_lex.specs.declared.token.Numeral.{Numeral}
 use Rattle.ps_lex.specs.declared.token.Numeral.TheVariants as numeral
-use Rattle.ps_lex.specs.Places.{line_and_column}
 use Rattle.ps_lex.specs.Lexing.{LexerState, is_within_token, bad_place, last_token, last_bad, whole}
-use Rattle.ps_expect.specs.KeptTokens.{token_of, numeral_of}
-use Rattle.ps_parse.specs.Machine.{Machine, next}
-use Rattle.ps_read.specs.Answers.{Parsed, part_of, with_token, refusal_of, is_done, begun_behind, Answer, ended, refused_at, refused_or, step_answer, bad_or, answer}
+use Rattle.ps_expect.specs.KeptTokens.{numeral_of}
+use Rattle.ps_read.specs.Answers.{Parsed, part_of, with_token, refusal_of, is_done, begun_behind, Answer, ended, refused_at, refused_or, step_answer, answer}
 use Rattle.ps_read.proofs.Steps.{answer_end}
 
 -- a number isn't the last token of a text

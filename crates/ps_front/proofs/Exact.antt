@@ -1,6 +1,6 @@
 -- The place that a reader finds is that of the byte which shows it.
-use Rattle.std.proofs.Common.{◌≡◌, ℕ, zero, suc, ◌+◌, ◌≤◌, ◌⊎◌, inl, inr, Bool, true, false, List, [], ◌∷◌, ◌++◌, length, refl, sym, ap, subst, ◌∙◌, arith, append_assoc, append-nil, length-append, true≢false}
-use Rattle.std.specs.Prelude.{Result, Ok, Err}
+use Rattle.std.proofs.Common.{◌≡◌, ℕ, zero, suc, ◌+◌, ◌≤◌, ◌⊎◌, inl, inr, List, [], ◌∷◌, ◌++◌, length, refl, sym, ap, subst, ◌∙◌, arith, append_assoc, append-nil, length-append, true≢false}
+use Rattle.std.specs.Prelude.{Ok, Err}
 use Rattle.ps_lex.specs.declared.position.Position.{Position}
 use Rattle.ps_lex.specs.Lexing.{new_lexer}
 use Rattle.ps_text.specs.Pieces.{texts, IsBare}
@@ -11,7 +11,7 @@ use Rattle.ps_read.specs.Answers.{Parsed, Answer, answer, nothing_parsed, parsed
 use Rattle.ps_read.proofs.Right.{IsSo, IsParsedText, answer_so}
 use Rattle.ps_front.specs.declared.reader.Reader.{Reader}
 use Rattle.ps_front.specs.Takings.{answer_behind, IsWaiting}
-use Rattle.ps_front.proofs.Alone.{Split, split, front_alone, front_within}
+use Rattle.ps_front.proofs.Alone.{split, front_alone, front_within}
 use Rattle.ps_front.proofs.Ends.{ends_here}
 
 -- a space at the front isn't bare

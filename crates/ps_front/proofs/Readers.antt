@@ -8,10 +8,10 @@ use Rattle.ps_parse.specs.Kept.{machine_of}
 use Rattle.ps_parse.specs.Machine.{at_first}
 use Rattle.ps_read.specs.declared.read_error.ReadError.{ReadError}
 use Rattle.ps_read.specs.declared.read_error.ReadError.TheVariants as error
-use Rattle.ps_read.specs.Answers.{Parsed, parsed_by, part_of, is_done, begun_behind}
+use Rattle.ps_read.specs.Answers.{parsed_by, part_of, is_done, begun_behind}
 use Rattle.ps_read.proofs.Steps.{together_first, has_passed, together_passed}
 use Rattle.ps_front.specs.declared.reader.Reader.{Reader}
-use Rattle.ps_front.specs.Takings.{BelongTogether, IsByteTaken, answer_behind, IsWaiting, GoesOnWithout, WaitsAt, HasTaken, HasPassed, HasFound, HasRefused, IsTaken}
+use Rattle.ps_front.specs.Takings.{BelongTogether, IsByteTaken, answer_behind, IsWaiting, WaitsAt, HasTaken, HasPassed, HasFound, IsTaken}
 
 -- nothing is read yet
 pub waits_first : (r : Reader) → r.lexer ≡ new_lexer → machine_of r.parser ≡ at_first → IsWaiting r

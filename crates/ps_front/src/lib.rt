@@ -6,8 +6,6 @@ mod laws;
 mod problem;
 mod reader;
 mod stage;
-#[cfg(test)]
-mod tests;
 
 pub use front::Front;
 pub use laws::problem_parts_read_alone;

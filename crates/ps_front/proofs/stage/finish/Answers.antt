@@ -1,5 +1,4 @@
 use Rattle.std.proofs.Common.{subst, sym}
-use Rattle.std.specs.Prelude.{Err}
 use Rattle.ps_read.proofs.Steps.{passed_on}
 use Rattle.ps_front.specs.Takings.{IsEnded}
 use Rattle.ps_front.specs.Stages.{IsRead}

@@ -1,7 +1,7 @@
 use Rattle.std.proofs.Common.{◌+◌, length, refl, sym, subst, arith}
-use Rattle.std.specs.Prelude.{Ok, Err, Some, None}
+use Rattle.std.specs.Prelude.{Ok}
 use Rattle.ps_read.specs.Answers.{parsed_by, AreWhole}
-use Rattle.ps_front.specs.Takings.{HasTaken, HasFound, IsTaken}
+use Rattle.ps_front.specs.Takings.{IsTaken}
 use Rattle.ps_front.specs.Stages.{IsBehindText}
 use Rattle.ps_front.proofs.Knowing.{ready_on, known_on, whole_there, count_below, text_known, text_grows, refused_known}
 use Rattle.ps_front.proofs.stage.read_on.Goals as goal

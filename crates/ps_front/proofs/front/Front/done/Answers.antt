@@ -1,5 +1,5 @@
 use Rattle.std.proofs.Common.{subst, sym}
-use Rattle.ps_front.specs.Stages.{StandsBehind, Knows}
+use Rattle.ps_front.specs.Stages.{Knows}
 use Rattle.ps_front.proofs.Knowing.{reads_front, refuses_front}
 use Rattle.ps_front.proofs.front.Front.done.Goals as goal
 

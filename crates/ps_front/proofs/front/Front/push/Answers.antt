@@ -1,4 +1,4 @@
-use Rattle.std.proofs.Common.{◌+◌, ◌++◌, subst, sym, ap, ◌∙◌, arith}
+use Rattle.std.proofs.Common.{◌++◌, subst, sym, ap, arith}
 use Rattle.ps_front.specs.Fronts.{IsProblemPart}
 use Rattle.ps_front.specs.Stages.{Knows}
 use Rattle.ps_front.proofs.Knowing.{part_known}

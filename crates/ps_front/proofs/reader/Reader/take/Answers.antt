@@ -1,5 +1,5 @@
-use Rattle.std.proofs.Common.{◌∷◌, ◌-◌, length, get_or, take, drop, Some, None, subst, sym, ap, ◌∙◌, arith}
-use Rattle.std.specs.Prelude.{Ok, Err}
+use Rattle.std.proofs.Common.{◌-◌, length, get_or, take, drop, subst, ap, ◌∙◌, arith}
+use Rattle.std.specs.Prelude.{Ok}
 use Rattle.ps_lex.proofs.Passing.{first_and_others}
 use Rattle.ps_read.proofs.Steps.{passed_on}
 use Rattle.ps_front.specs.Takings.{IsByteTaken}
