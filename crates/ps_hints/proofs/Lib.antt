@@ -1,3 +1,4 @@
+mod Fronts
 mod Harmless
 mod Lines
 mod Meant

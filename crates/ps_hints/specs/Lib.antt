@@ -1,5 +1,6 @@
 -- Meaning
 pub mod Shown
+pub mod Found
 pub mod Hints
 pub mod Names
 pub mod Places

@@ -1,5 +1,6 @@
 //! What is found at a place.
-ghost use Rattle.std.specs.Prelude.{◌≤◌, length};
+ghost use Rattle.std.specs.Prelude.{◌≡◌, ◌≤◌, ◌<◌, IfSome, length};
+ghost use Rattle.ps_hints.specs.Found.{IsFound, IsFront};
 
 use crate::glyph::shown;
 use crate::message::Message;
@@ -23,6 +24,19 @@ pub(crate) enum Found<'t> {
     Token(&'t [u8]),
 }
 
+// So many bytes at the front, where there are as many.
+#[tactic(auto, using(crate::proofs::Fronts::taken))]
+fn front(bytes: &[u8], count: usize) -> Option<&[u8]>
+    ensures front { IfSome result (λ front. IsFront front.now bytes.now) }
+    ensures len { IfSome result (λ front. length front.now ≡ count) }
+{
+    if count <= bytes.len() {
+        Some(&bytes[..count])
+    } else {
+        None
+    }
+}
+
 // How many digits stand at the front.
 fn digits_at_front(bytes: &[u8]) -> usize
     ensures { result ≤ length bytes.now }
@@ -34,7 +48,10 @@ fn digits_at_front(bytes: &[u8]) -> usize
 }
 
 /// The number at the front: digits, and perhaps more of them behind a `/` or a `.`.
-pub(crate) fn number_at_front(bytes: &[u8]) -> &[u8] {
+#[tactic(auto, using(crate::proofs::Fronts::taken))]
+pub(crate) fn number_at_front(bytes: &[u8]) -> &[u8]
+    ensures { IsFront result.now bytes.now }
+{
     let (whole, behind) = bytes.split_at(digits_at_front(bytes));
     let part = match behind {
         [b'/' | b'.', digits @ ..] => digits_at_front(digits),
@@ -43,23 +60,28 @@ pub(crate) fn number_at_front(bytes: &[u8]) -> &[u8] {
     if whole.is_empty() || part == 0 {
         whole
     } else {
-        bytes.get(..whole.len() + 1 + part).unwrap_or(whole)
+        front(bytes, whole.len() + 1 + part).unwrap_or(whole)
     }
 }
 
 // The sign at the front that has more bytes than one, if one stands there.
-fn sign_at_front(bytes: &[u8]) -> Option<&[u8]> {
+fn sign_at_front(bytes: &[u8]) -> Option<&[u8]>
+    ensures front { IfSome result (λ sign. IsFront sign.now bytes.now) }
+    ensures some { IfSome result (λ sign. 0 < length sign.now) }
+{
     if bytes.starts_with(b"<->") {
-        bytes.get(..3)
+        front(bytes, 3)
     } else if bytes.starts_with(b"->") || bytes.starts_with(b"<=") || bytes.starts_with(b">=") {
-        bytes.get(..2)
+        front(bytes, 2)
     } else {
         None
     }
 }
 
 // The character at the front, as a token where it can be shown.
-fn character_at_front(bytes: &[u8]) -> Found<'_> {
+fn character_at_front(bytes: &[u8]) -> Found<'_>
+    ensures { IsFound bytes.now result }
+{
     let Some(first) = bytes.first() else {
         return Found::TextEnd;
     };
@@ -67,7 +89,7 @@ fn character_at_front(bytes: &[u8]) -> Found<'_> {
         return Found::Byte(*first);
     };
     match chunk.valid().chars().next() {
-        Some(c) if shown(c) == c => match bytes.get(..c.len_utf8()) {
+        Some(c) if shown(c) == c => match front(bytes, c.len_utf8()) {
             Some(character) => Found::Token(character),
             None => Found::Byte(*first),
         },
@@ -77,7 +99,9 @@ fn character_at_front(bytes: &[u8]) -> Found<'_> {
 
 impl<'t> Found<'t> {
     /// What is found at a spot.
-    pub(crate) fn at(spot: &Spot<'t>) -> Found<'t> {
+    pub(crate) fn at(spot: &Spot<'t>) -> Found<'t>
+        ensures { IsFound spot.now.behind.now result }
+    {
         let word = word_at_front(spot.behind);
         let number = number_at_front(spot.behind);
         if word.len() < number.len() {

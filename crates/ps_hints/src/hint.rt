@@ -1,4 +1,5 @@
 //! Hints: what to write instead.
+ghost use Rattle.std.specs.Prelude.{◌<◌, length};
 
 /// A hint for an error that people really make.
 #[derive(Clone, Copy)]
@@ -109,7 +110,9 @@ pub enum Hint {
 
 impl Hint {
     /// The hint's words.
-    pub fn text(self) -> &'static str {
+    pub fn text(self) -> &'static str
+        ensures { 0 < length result.now }
+    {
         match self {
             Hint::Empty => "the text is empty: a problem begins with psat 1; and ends with end;",
             Hint::ByteOrderMark =>

@@ -1,5 +1,6 @@
 //! Messages: lines of text that a terminal can be given.
 ghost use Rattle.std.specs.Prelude.{◌≡◌, ◌++◌, ◌∷◌, [], OnOk};
+ghost use Rattle.std.specs.Str.{chars};
 ghost use Rattle.std.specs.String.{string_bytes};
 ghost use Rattle.ps_hints.specs.Shown.{IsHarmless, AddsLines, EndsLine, glyph, shown_text};
 
@@ -47,7 +48,9 @@ impl Message {
     }
 
     /// Adds a text as it is shown.
-    pub(crate) fn push_text(&mut self, text: &str) -> Result<(), NoMemory> {
+    pub(crate) fn push_text(&mut self, text: &str) -> Result<(), NoMemory>
+        ensures { OnOk result (self.new ≡ self.old ++ shown_text (chars text.now)) }
+    {
         for c in text.chars() {
             self.push(c)?;
         }

@@ -1,4 +1,7 @@
 //! What stands around a place.
+ghost use Rattle.std.specs.Prelude.{◌≡◌, ◌≤◌, ◌++◌, length, slice_get};
+ghost use Rattle.ps_hints.specs.Found.{IsFront};
+
 use crate::words::{word_at_end, word_at_front};
 
 /// What stands around a place of a text.
@@ -12,7 +15,10 @@ pub(crate) struct Spot<'t> {
 
 impl<'t> Spot<'t> {
     /// The spot behind so many bytes, at the end where there are fewer.
-    pub(crate) fn at(bytes: &'t [u8], offset: usize) -> Spot<'t> {
+    pub(crate) fn at(bytes: &'t [u8], offset: usize) -> Spot<'t>
+        ensures whole { result.before.now ++ result.behind.now ≡ bytes.now }
+        ensures offset { offset ≤ length bytes.now → length result.before.now ≡ offset }
+    {
         match bytes.split_at_checked(offset) {
             Some((before, behind)) => Spot { before, behind },
             None => Spot {
@@ -38,7 +44,9 @@ impl<'t> Spot<'t> {
     }
 
     /// The word that stands here.
-    pub(crate) fn word(&self) -> &'t [u8] {
+    pub(crate) fn word(&self) -> &'t [u8]
+        ensures { IsFront result.now self.now.behind.now }
+    {
         word_at_front(self.behind)
     }
 
@@ -53,12 +61,16 @@ impl<'t> Spot<'t> {
     }
 
     /// The byte that stands here.
-    pub(crate) fn first(&self) -> Option<u8> {
+    pub(crate) fn first(&self) -> Option<u8>
+        ensures { result ≡ slice_get self.now.behind.now 0 }
+    {
         self.behind.first().copied()
     }
 
     /// The byte behind the one that stands here.
-    pub(crate) fn second(&self) -> Option<u8> {
+    pub(crate) fn second(&self) -> Option<u8>
+        ensures { result ≡ slice_get self.now.behind.now 1 }
+    {
         self.behind.get(1).copied()
     }
 

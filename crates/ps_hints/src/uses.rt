@@ -1,4 +1,6 @@
 //! Where names are used.
+ghost use Rattle.std.specs.Prelude.{◌≡◌, ◌≤◌};
+
 use crate::words::is_word_byte;
 
 /// How often a name is used in a text, outside of comments, and where last.
@@ -20,7 +22,10 @@ fn count_in_line(line: &[u8], name: &[u8]) -> usize {
 
 impl Uses {
     /// The uses of a name.
-    pub(crate) fn of(bytes: &[u8], name: &[u8]) -> Uses {
+    pub(crate) fn of(bytes: &[u8], name: &[u8]) -> Uses
+        ensures line { 1 ≤ result.line }
+        ensures unused { result.count ≡ 0 → result.line ≡ 1 }
+    {
         let mut uses = Uses { count: 0, line: 1 };
         let mut line: u32 = 0;
         for text in bytes.split(|byte| *byte == b'\n') {

@@ -1,4 +1,5 @@
 //! Words.
+ghost use Rattle.ps_hints.specs.Found.{IsFront};
 
 /// Whether a byte may stand in a word.
 pub(crate) fn is_word_byte(byte: u8) -> bool {
@@ -6,7 +7,10 @@ pub(crate) fn is_word_byte(byte: u8) -> bool {
 }
 
 /// The bytes at the front that may stand in a word.
-pub(crate) fn word_at_front(bytes: &[u8]) -> &[u8] {
+#[tactic(auto, using(crate::proofs::Fronts::taken, crate::proofs::Fronts::all))]
+pub(crate) fn word_at_front(bytes: &[u8]) -> &[u8]
+    ensures { IsFront result.now bytes.now }
+{
     match bytes.iter().position(|byte| !is_word_byte(*byte)) {
         Some(end) => &bytes[..end],
         None => bytes,
