@@ -1,11 +1,23 @@
-//! What words ask for.
+//! What words ask for, and the report of an answer.
+ghost use Rattle.std.specs.Prelude.{IfSome};
+ghost use Rattle.ps_ask.specs.Shown.{AreSettings};
+ghost use Rattle.ps_valid.specs.Limits.{IsSmallAnswer};
+ghost use Rattle.psat_ask.specs.Requests.{HasSettings};
+
 use crate::request::{Asked, Request, request_of};
-use ps_ask::Style;
+use ps_answer::Answer;
+use ps_ask::{Settings, Sinks, Status, Style, ask};
+use ps_io::{MemSink, MemSource, NoMemory};
+use ps_read::read_whole;
+use ps_reader::read_report;
+use ps_valid::{check, reports_are_small};
 use std::alloc::Global;
 use std::test::*;
 
 // The request of words.
-fn request(alloc: Global, words: &[&'static str]) -> Option<Request> {
+fn request(alloc: Global, words: &[&'static str]) -> Option<Request>
+    ensures { IfSome result HasSettings }
+{
     let mut all = Vec::new(alloc);
     for word in words {
         all.push(String::from_str(alloc, word).ok()?).ok()?;
@@ -23,87 +35,231 @@ fn fault(alloc: Global, words: &[&'static str]) -> Option<String> {
     format!(in alloc; "{refused}").ok()
 }
 
-fn asked(alloc: Global, words: &[&'static str]) -> Option<Asked> {
+fn asked(alloc: Global, words: &[&'static str]) -> Option<Asked>
+    ensures { IfSome result (λ a. AreSettings a.settings) }
+{
     match request(alloc, words)? {
         Request::Ask(asked) => Some(asked),
         _ => None,
     }
 }
 
-#[test]
-fn words_ask_for_answers(rt: HostRuntime) -> Result<(), Fail> {
-    let words = ["--digits", "3", "-", "--report=r", "--pivots=0", "--quiet"];
-    let asked = asked(rt.alloc(), &words).expect(&rt, "answers");
-    let settings = asked.settings;
-    assert!(rt; settings.digits == 3 && settings.limits.pivots == 0 && settings.warns);
-    assert!(rt; settings.style == Style::Values && settings.reports);
-    assert!(rt; settings.limits.conflicts == 20_000);
-    assert!(rt; matches!(&asked.report, Some(file) if file.as_str() == "r"));
-    assert!(rt; asked.files.len() == 1 && asked.files[0].as_str() == "-");
-    Ok(())
-}
-
-#[test]
-fn words_ask_for_texts(rt: HostRuntime) -> Result<(), Fail> {
-    let alloc = rt.alloc();
-    assert!(rt;
-        matches!(
-            request(alloc, &["a", "--help", "--no"]),
-            Some(Request::Help)
-        )
-    );
-    assert!(rt; matches!(request(alloc, &["--version"]), Some(Request::Version)));
-    let asked = asked(alloc, &["--", "--help"]).expect(&rt, "a file");
-    assert!(rt; asked.files.len() == 1 && asked.settings.style == Style::Words);
-    Ok(())
-}
-
-// Words that ask for nothing, and what is said of them.
+// Words that ask for answers, and what they ask for.
 struct Row {
     words: &'static [&'static str],
-    fault: &'static str,
+    pivots: u64,
+    conflicts: u64,
+    digits: u32,
+    style: Style,
+    warns: bool,
+    report: Option<&'static str>,
+    files: &'static [&'static str],
 }
 
-const FAULTS: [Row; 8] = [
+const ASKED: [Row; 5] = [
     Row {
-        words: &["--digits", "19"],
-        fault: "--digits takes a number from 1 to 18",
+        words: &[],
+        pivots: 10_000,
+        conflicts: 20_000,
+        digits: 6,
+        style: Style::Words,
+        warns: true,
+        report: None,
+        files: &[],
     },
     Row {
-        words: &["--digits=0"],
-        fault: "--digits takes a number from 1 to 18",
+        words: &["--digits", "3", "-", "--report=r", "--pivots=0", "--quiet"],
+        pivots: 0,
+        conflicts: 20_000,
+        digits: 3,
+        style: Style::Values,
+        warns: true,
+        report: Some("r"),
+        files: &["-"],
     },
     Row {
-        words: &["--pivots", "1000001"],
-        fault: "--pivots takes a number from 0 to 1000000",
+        words: &["a", "--json", "--no-warnings", "--conflicts", "7", "b"],
+        pivots: 10_000,
+        conflicts: 7,
+        digits: 6,
+        style: Style::Json,
+        warns: false,
+        report: None,
+        files: &["a", "b"],
     },
     Row {
-        words: &["--conflicts"],
-        fault: "--conflicts takes a number from 0 to 1099511627776",
+        words: &["--report", "-", "--pivots", "5"],
+        pivots: 5,
+        conflicts: 20_000,
+        digits: 6,
+        style: Style::Report,
+        warns: true,
+        report: None,
+        files: &[],
     },
     Row {
-        words: &["--report"],
-        fault: "--report takes a file, or - for standard output",
-    },
-    Row {
-        words: &["--json", "--report", "-"],
-        fault: "--quiet, --json and --report - don't go together",
-    },
-    Row {
-        words: &["--report", "r", "a", "b"],
-        fault: "--report FILE takes one problem",
-    },
-    Row {
-        words: &["--quite", "a"],
-        fault: "the option --quite is unknown",
+        words: &["--", "--help"],
+        pivots: 10_000,
+        conflicts: 20_000,
+        digits: 6,
+        style: Style::Words,
+        warns: true,
+        report: None,
+        files: &["--help"],
     },
 ];
 
-#[test]
-fn other_words_are_refused(rt: HostRuntime) -> Result<(), Fail> {
-    for row in &FAULTS {
-        let fault = fault(rt.alloc(), row.words).expect(&rt, "a fault");
-        assert!(rt; fault.as_str() == row.fault);
+// Whether the settings are those of a row.
+fn are_settings(settings: Settings, row: &Row) -> bool {
+    settings.limits.pivots == row.pivots
+        && settings.limits.conflicts == row.conflicts
+        && settings.digits == row.digits
+        && settings.style == row.style
+        && settings.reports == row.report.is_some()
+        && settings.warns == row.warns
+}
+
+// Whether a report goes where a row says.
+fn is_report(file: &Option<String>, row: &Row) -> bool {
+    match (file, row.report) {
+        (Some(file), Some(due)) => file.as_str() == due,
+        (None, None) => true,
+        _ => false,
     }
-    Ok(())
+}
+
+// Whether the files are these.
+fn are_files(files: &[String], due: &[&'static str]) -> bool {
+    files.len() == due.len()
+        && files
+            .iter()
+            .zip(due)
+            .all(|(file, name)| file.as_str() == *name)
+}
+
+// Whether words ask for what a row says.
+fn is_asked(alloc: Global, row: &Row) -> bool {
+    match asked(alloc, row.words) {
+        Some(asked) => {
+            are_settings(asked.settings, row)
+                && is_report(&asked.report, row)
+                && are_files(&asked.files, row.files)
+        }
+        None => false,
+    }
+}
+
+#[test]
+fn words_ask_for_answers(rt: HostRuntime) {
+    assert!(rt; ASKED.iter().all(|row| is_asked(rt.alloc(), row)));
+}
+
+fn texts_are_asked(alloc: Global) -> bool {
+    matches!(
+        request(alloc, &["a", "--help", "--no"]),
+        Some(Request::Help)
+    ) && matches!(request(alloc, &["--version"]), Some(Request::Version))
+}
+
+#[test]
+fn words_ask_for_texts(rt: HostRuntime) {
+    assert!(rt; texts_are_asked(rt.alloc()));
+}
+
+// Words that ask for nothing, and what is said of them.
+const FAULTS: [(&[&'static str], &str); 8] = [
+    (&["--digits", "19"], "--digits takes a number from 1 to 18"),
+    (&["--digits=0"], "--digits takes a number from 1 to 18"),
+    (
+        &["--pivots", "1000001"],
+        "--pivots takes a number from 0 to 1000000",
+    ),
+    (
+        &["--conflicts"],
+        "--conflicts takes a number from 0 to 1099511627776",
+    ),
+    (
+        &["--report"],
+        "--report takes a file, or - for standard output",
+    ),
+    (
+        &["--json", "--report", "-"],
+        "--quiet, --json and --report - don't go together",
+    ),
+    (
+        &["--report", "r", "a", "b"],
+        "--report FILE takes one problem",
+    ),
+    (&["--quite", "a"], "the option --quite is unknown"),
+];
+
+// Whether this is said of words.
+fn is_refused(alloc: Global, words: &[&'static str], due: &str) -> bool {
+    match fault(alloc, words) {
+        Some(fault) => fault.as_str() == due,
+        None => false,
+    }
+}
+
+#[test]
+fn other_words_are_refused(rt: HostRuntime) {
+    let alloc = rt.alloc();
+    assert!(rt; FAULTS.iter().all(|row| is_refused(alloc, row.0, row.1)));
+}
+
+const PROBLEM: &[u8] = b"psat 1; P(a) in [1/3, 1/2]; P(b given a) >= 2/3; query P(b); end;";
+
+// The ends of an answer in memory.
+fn sinks(alloc: Global) -> Result<Sinks<MemSink, MemSink>, NoMemory> {
+    Ok(Sinks {
+        shown: MemSink::new(alloc, 100, Vec::new(alloc), 10_000)?,
+        report: MemSink::new(alloc, 100, Vec::new(alloc), 10_000)?,
+    })
+}
+
+// The answer of a report.
+fn answer_of(alloc: Global, report: &[u8]) -> Option<Answer>
+    ensures { IfSome result IsSmallAnswer }
+{
+    reports_are_small();
+    match read_report(alloc, report) {
+        Ok(answer) => Some(answer),
+        Err(_) => None,
+    }
+}
+
+// The answer of the report that is written, alone or beside what is shown.
+fn reported(alloc: Global, words: &[&'static str]) -> Option<Answer>
+    ensures { IfSome result IsSmallAnswer }
+{
+    let settings = asked(alloc, words)?.settings;
+    let bytes = Vec::from_slice(alloc, PROBLEM).ok()?;
+    let mut source = MemSource::new(bytes, 100, Vec::new(alloc));
+    let mut sinks = sinks(alloc).ok()?;
+    let mut notes = Vec::new(alloc);
+    let status = ask(alloc, settings, "f", &mut source, &mut sinks, &mut notes);
+    if status != Status::Done {
+        return None;
+    }
+    if settings.style == Style::Report {
+        answer_of(alloc, sinks.shown.bytes())
+    } else {
+        answer_of(alloc, sinks.report.bytes())
+    }
+}
+
+// Whether the report that is written for words is accepted, with its three claims.
+fn is_accepted(alloc: Global, words: &[&'static str]) -> bool {
+    match (read_whole(alloc, PROBLEM), reported(alloc, words)) {
+        (Ok(problem), Some(answer)) => {
+            matches!(check(alloc, &problem, &answer), Ok(accepted) if accepted.claims == 3)
+        }
+        _ => false,
+    }
+}
+
+#[test]
+fn reports_are_accepted(rt: HostRuntime) {
+    let alloc = rt.alloc();
+    assert!(rt; is_accepted(alloc, &["--report", "r"]) && is_accepted(alloc, &["--report", "-"]));
 }
