@@ -23,7 +23,6 @@ fn write_exact(out: &mut Vec<u8>, value: &Fraction) -> Result<(), NoMemory>
 }
 
 // Writes the object of a side that is open.
-#[tactic(auto, unfolding(crate::specs::Bounds::open_object))]
 fn write_open(out: &mut Vec<u8>, cause: &Cause) -> Result<(), NoMemory>
     ensures { Says result out.old.items out.new.items (open_object cause.now) }
 {

@@ -1,12 +1,14 @@
 //! Sentences that clash, as an object.
+ghost use Rattle.std.specs.Prelude.{◌≡◌};
 ghost use Rattle.ps_spoken.specs.Numbers.{Says};
 ghost use Rattle.ps_json.specs.Clashes.{clashing, clash_items, clash_member};
-ghost use Rattle.ps_json.specs.Clashes.{clash_object, core_object, where_text};
+ghost use Rattle.ps_json.specs.Clashes.{clash_object, core_object, rest_end, where_text};
 
 use crate::listing::write_comma;
+use ps_answer::Verdict;
 use ps_io::NoMemory;
 use ps_problem::Problem;
-use ps_spoken::{Clash, append, line_of, number, write_cause, write_sentence};
+use ps_spoken::{Clash, Clashing, append, line_of, number, write_cause, write_sentence};
 use std::alloc::Global;
 
 // Writes the number of a sentence, and its line.
@@ -20,7 +22,19 @@ fn write_where(out: &mut Vec<u8>, lines: &[u32], sentence: u32) -> Result<(), No
     number(out, i128::from(line_of(lines, sentence)))
 }
 
-// Writes a sentence with its number and its line, and a comma before it but before the first.
+// The end of the object of a sentence, with what the others come to.
+fn rest_end(rest: &Verdict) -> &'static [u8]
+    ensures { result.now ≡ rest_end rest.now }
+{
+    match rest {
+        Verdict::Consistent(_) => b";\",\"without\":\"met\"}",
+        Verdict::Inconsistent(_) => b";\",\"without\":\"clash\"}",
+        Verdict::Open(_) => b";\",\"without\":\"unknown\"}",
+    }
+}
+
+// Writes a sentence with its number and its line and what the others come to, and a comma before it
+// but before the first.
 #[tactic(auto, unfolding(crate::specs::Clashes::clashing))]
 fn write_clashing(
     alloc: Global,
@@ -28,31 +42,31 @@ fn write_clashing(
     problem: &Problem,
     lines: &[u32],
     place: usize,
-    sentence: u32,
+    it: &Clashing,
 ) -> Result<(), NoMemory>
     ensures { Says result out.old.items out.new.items
-        (clashing problem.now lines.now place sentence) }
+        (clashing problem.now lines.now place it.now) }
 {
     write_comma(out, place)?;
-    write_where(out, lines, sentence)?;
+    write_where(out, lines, it.number)?;
     append(out, b",\"text\":\"")?;
-    write_sentence(alloc, out, problem, sentence)?;
-    append(out, b";\"}")
+    write_sentence(alloc, out, problem, it.number)?;
+    append(out, rest_end(&it.rest))
 }
 
-// Writes sentences, each with its number and its line.
+// Writes sentences, each with its number, its line and what is left without it.
 fn write_all_clashing(
     alloc: Global,
     out: &mut Vec<u8>,
     problem: &Problem,
     lines: &[u32],
-    numbers: &[u32],
+    all: &[Clashing],
 ) -> Result<(), NoMemory>
     ensures { Says result out.old.items out.new.items
-        (clash_items problem.now lines.now numbers.now) }
+        (clash_items problem.now lines.now all.now) }
 {
-    for place in 0..numbers.len() {
-        write_clashing(alloc, out, problem, lines, place, numbers[place])?;
+    for place in 0..all.len() {
+        write_clashing(alloc, out, problem, lines, place, &all[place])?;
     }
     Ok(())
 }
@@ -63,13 +77,13 @@ fn write_core(
     out: &mut Vec<u8>,
     problem: &Problem,
     lines: &[u32],
-    numbers: &[u32],
+    all: &[Clashing],
 ) -> Result<(), NoMemory>
     ensures { Says result out.old.items out.new.items
-        (core_object problem.now lines.now numbers.now) }
+        (core_object problem.now lines.now all.now) }
 {
     append(out, b"{\"irreducible\":true,\"why\":null,\"sentences\":[")?;
-    write_all_clashing(alloc, out, problem, lines, numbers)?;
+    write_all_clashing(alloc, out, problem, lines, all)?;
     append(out, b"]}")
 }
 

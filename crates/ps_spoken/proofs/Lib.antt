@@ -1,4 +1,5 @@
-pub mod Clashing
+pub mod ClashLists
 pub mod Paired
+pub mod Said
 pub mod Sides
 pub mod Values

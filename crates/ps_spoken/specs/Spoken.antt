@@ -1,5 +1,5 @@
 -- What is written of an answer for people.
-use Rattle.std.specs.Prelude.{ℕ, pos, List, [], ◌∷◌, ◌++◌, codes}
+use Rattle.std.specs.Prelude.{ℕ, pos, ◌==◌, if◌then◌else◌, List, [], ◌∷◌, ◌++◌, codes}
 use Rattle.std.specs.Fmt.{signed_decimal}
 use Rattle.std.specs.declared.cmp.Ordering.{Ordering}
 use Rattle.std.specs.declared.cmp.Ordering.TheVariants.{Less, Equal, Greater}
@@ -18,15 +18,25 @@ use Rattle.ps_answer.specs.declared.answer.QueryAnswer.{QueryAnswer}
 use Rattle.ps_answer.specs.declared.answer.QueryAnswer.TheVariants as query
 use Rattle.ps_answer.specs.declared.answer.QueryPart.{QueryPart}
 use Rattle.ps_answer.specs.declared.answer.Answer.{Answer}
+use Rattle.ps_spoken.specs.declared.cause.TheConstants.{OUT_OF_TIME}
 use Rattle.ps_spoken.specs.Numbers.{fraction_text, low_text, high_text}
 
 -- a limit between words
 abbrev pub limit_text : List ℕ → ℕ → List ℕ → List ℕ
 limit_text before limit behind = before ++ (signed_decimal (pos limit) ++ behind)
 
+-- the cause of what wasn't finished within a limit of time
+abbrev pub out_of_time : Cause
+out_of_time = Pivots OUT_OF_TIME
+
+-- no pivots were left; a limit of pivots that no run has stands for a limit of time
+unfoldable pub pivots_text : ℕ → List ℕ
+pivots_text limit = if limit == OUT_OF_TIME then codes "not finished within the time limit; allow more by --time-limit"
+    else limit_text (codes "stopped at the limit of ") limit (codes " pivots; allow more by --pivots")
+
 -- what stopped a part, and what to do about it
 abbrev pub cause_text : Cause → List ℕ
-cause_text (Pivots limit) = limit_text (codes "stopped at the limit of ") limit (codes " pivots; allow more by --pivots")
+cause_text (Pivots limit) = pivots_text limit
 cause_text (Conflicts limit goal steps) =
     limit_text (codes "a search stopped at the limit of ") limit (codes " conflicts; allow more by --conflicts")
 cause_text (Wide at) = codes "a number needs more than 127 bits; values of fewer digits may help"

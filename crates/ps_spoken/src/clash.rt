@@ -6,24 +6,33 @@ ghost use Rattle.ps_spoken.specs.Clashes.{core_text, line_at, sentence_text};
 
 use crate::cause::write_cause;
 use crate::numbers::{append, number};
-use ps_answer::Cause;
+use crate::rests::write_left;
+use ps_answer::{Cause, Verdict};
 use ps_canonical::write_statement;
 use ps_io::{List, NoMemory};
 use ps_problem::Problem;
 use std::alloc::Global;
 
+/// A sentence that clashes with others.
+#[derive(Drop)]
+pub struct Clashing {
+    /// Its number, from 1.
+    pub number: u32,
+    /// What the problem comes to without it.
+    pub rest: Verdict,
+}
+
 /// Sentences that clash, or why it isn't known which ones do.
 #[derive(Drop)]
 pub enum Clash {
-    /// The numbers of sentences, from 1, that can't be met together, but can without any one of
-    /// them.
-    Irreducible(List<u32>),
+    /// Sentences that can't be met together, but can without any one of them.
+    Irreducible(List<Clashing>),
     /// What stopped the search for them.
     Open(Cause),
 }
 
 /// Writes the sentence of a number, from 1; nothing where there is none.
-#[tactic(auto, using(crate::proofs::Clashing::formula_there, crate::proofs::Clashing::given_there))]
+#[tactic(auto, using(crate::proofs::ClashLists::formula_there, crate::proofs::ClashLists::given_there))]
 pub fn write_sentence(
     alloc: Global,
     out: &mut Vec<u8>,
@@ -54,17 +63,17 @@ fn write_clashing(
     out: &mut Vec<u8>,
     problem: &Problem,
     lines: &[u32],
-    sentence: u32,
+    it: &Clashing,
 ) -> Result<(), NoMemory>
     ensures { Says result out.old.items out.new.items
-        (clashing_text problem.now lines.now sentence) }
+        (clashing_text problem.now lines.now it.now) }
 {
     append(out, b"  sentence ")?;
-    number(out, i128::from(sentence))?;
+    number(out, i128::from(it.number))?;
     append(out, b", line ")?;
-    number(out, i128::from(line_of(lines, sentence)))?;
+    number(out, i128::from(line_of(lines, it.number)))?;
     append(out, b": ")?;
-    write_sentence(alloc, out, problem, sentence)?;
+    write_sentence(alloc, out, problem, it.number)?;
     append(out, b";\n")
 }
 
@@ -74,13 +83,13 @@ fn write_all_clashing(
     out: &mut Vec<u8>,
     problem: &Problem,
     lines: &[u32],
-    numbers: &[u32],
+    clashing: &[Clashing],
 ) -> Result<(), NoMemory>
     ensures { Says result out.old.items out.new.items
-        (clash_texts problem.now lines.now numbers.now) }
+        (clash_texts problem.now lines.now clashing.now) }
 {
-    for sentence in numbers {
-        write_clashing(alloc, out, problem, lines, *sentence)?;
+    for sentence in clashing {
+        write_clashing(alloc, out, problem, lines, sentence)?;
     }
     Ok(())
 }
@@ -91,20 +100,18 @@ fn write_core(
     out: &mut Vec<u8>,
     problem: &Problem,
     lines: &[u32],
-    numbers: &[u32],
+    clashing: &[Clashing],
 ) -> Result<(), NoMemory>
     ensures { Says result out.old.items out.new.items
-        (core_text problem.now lines.now numbers.now) }
+        (core_text problem.now lines.now clashing.now) }
 {
     append(out, b"these sentences clash:\n")?;
-    write_all_clashing(alloc, out, problem, lines, numbers)?;
-    append(
-        out,
-        b"leave any one of them out, and the others no longer clash\n",
-    )
+    write_all_clashing(alloc, out, problem, lines, clashing)?;
+    write_left(out, clashing)
 }
 
-/// Writes which sentences of a problem clash, with the lines on which its sentences begin.
+/// Writes which sentences of a problem clash, with the lines on which its sentences begin, and
+/// what it comes to without each of them.
 pub fn write_clash(
     alloc: Global,
     out: &mut Vec<u8>,

@@ -35,8 +35,8 @@ fn write_query_answer(out: &mut Vec<u8>, answer: &QueryAnswer, digits: u32) -> R
     }
 }
 
-// Writes a query by its own text, and the answer to it.
-fn write_part(
+/// Writes a query by its own text, and the answer to it.
+pub fn write_part(
     alloc: Global,
     out: &mut Vec<u8>,
     problem: &Problem,

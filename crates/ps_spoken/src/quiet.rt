@@ -33,8 +33,12 @@ fn upper(out: &mut Vec<u8>, side: &SideAnswer, digits: u32) -> Result<(), NoMemo
     }
 }
 
-// Writes the values of a query in one line.
-fn query(out: &mut Vec<u8>, answer: &QueryAnswer, digits: u32) -> Result<(), NoMemory>
+/// Writes the values of a query in one line.
+pub fn write_query_values(
+    out: &mut Vec<u8>,
+    answer: &QueryAnswer,
+    digits: u32,
+) -> Result<(), NoMemory>
     requires some { 0 < digits }
     requires few { digits ≤ MOST_DIGITS }
     ensures { OnOk result (Adds out.old.items out.new.items (query_values digits answer.now)) }
@@ -62,13 +66,13 @@ fn queries(out: &mut Vec<u8>, parts: &[QueryPart], digits: u32) -> Result<(), No
     ensures { OnOk result (Adds out.old.items out.new.items (parts_values digits parts.now)) }
 {
     for part in parts {
-        query(out, &part.answer, digits)?;
+        write_query_values(out, &part.answer, digits)?;
     }
     Ok(())
 }
 
-// Writes the verdict in a word.
-fn verdict(out: &mut Vec<u8>, verdict: &Verdict) -> Result<(), NoMemory>
+/// Writes the verdict in a word.
+pub fn write_verdict_value(out: &mut Vec<u8>, verdict: &Verdict) -> Result<(), NoMemory>
     ensures { OnOk result (Adds out.old.items out.new.items (verdict_value verdict.now)) }
 {
     match verdict {
@@ -86,6 +90,6 @@ pub fn write_values(out: &mut Vec<u8>, answer: &Answer, digits: u32) -> Result<(
     requires few { digits ≤ MOST_DIGITS }
     ensures { OnOk result (Adds out.old.items out.new.items (values_of digits answer.now)) }
 {
-    verdict(out, &answer.verdict)?;
+    write_verdict_value(out, &answer.verdict)?;
     queries(out, answer.parts.as_slice(), digits)
 }

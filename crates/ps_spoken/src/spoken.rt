@@ -12,8 +12,8 @@ use ps_io::NoMemory;
 use ps_problem::Problem;
 use std::alloc::Global;
 
-// Writes the verdict.
-fn write_verdict(out: &mut Vec<u8>, verdict: &Verdict) -> Result<(), NoMemory>
+/// Writes the verdict.
+pub fn write_verdict(out: &mut Vec<u8>, verdict: &Verdict) -> Result<(), NoMemory>
     ensures { OnOk result (Adds out.old.items out.new.items (verdict_text verdict.now)) }
 {
     match verdict {

@@ -1,7 +1,7 @@
 use Rattle.std.proofs.Common.{◌++◌}
 use Rattle.std.specs.Prelude.{codes}
 use Rattle.ps_json.specs.Bounds.{sides_members, status_text}
-use Rattle.ps_json.proofs.Said.{said}
+use Rattle.ps_spoken.proofs.Said.{said}
 use Rattle.ps_json.proofs.bounds.write_bounds.Goals as goal
 
 pub returns : goal.returns

@@ -1,7 +1,7 @@
 use Rattle.std.proofs.Common.{◌++◌}
 use Rattle.std.specs.Prelude.{codes}
 use Rattle.ps_spoken.specs.Spoken.{cause_text}
-use Rattle.ps_json.proofs.Said.{said}
+use Rattle.ps_spoken.proofs.Said.{said}
 use Rattle.ps_json.proofs.queries.write_members.Goals as goal
 
 pub returns-in_ok-write_cause-in-Open : goal.returns-in_ok-write_cause-in-Open

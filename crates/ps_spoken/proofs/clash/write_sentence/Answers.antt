@@ -1,6 +1,6 @@
 use Rattle.std.proofs.Common.{rules, ◌≡◌, ◌-◌, Some}
 use Rattle.std.specs.Prelude.{slice_get}
-use Rattle.ps_spoken.proofs.Clashing.{given_there}
+use Rattle.ps_spoken.proofs.ClashLists.{given_there}
 use Rattle.ps_spoken.proofs.clash.write_sentence.Goals as goal
 
 pub write_statement-requires-clause-given : goal.write_statement-requires-clause-given

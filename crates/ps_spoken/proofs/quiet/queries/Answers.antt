@@ -8,8 +8,8 @@ use Rattle.ps_spoken.proofs.quiet.queries.Goals as goal
 pub loop-part-preserved : goal.loop-part-preserved
 loop-part-preserved c =
     lines-more (parts_values c.args.digits) (λ (part : QueryPart). query_values c.args.digits part.answer) (values-push c.args.digits) c.args.parts.now c.args.parts.now refl
-    c.loop-part.part-index c.part-item.result c.loop-part-test.true c.args.out.now.items c.loop-part.out.items c.query.new.out.items c.loop-part.invariant
-    (c.in_ok-query.ensures ∙ ap (λ (part : QueryPart). c.loop-part.out.items ++ query_values c.args.digits part.answer) c.part-item.is)
+    c.loop-part.part-index c.part-item.result c.loop-part-test.true c.args.out.now.items c.loop-part.out.items c.write_query_values.new.out.items c.loop-part.invariant
+    (c.in_ok-write_query_values.ensures ∙ ap (λ (part : QueryPart). c.loop-part.out.items ++ query_values c.args.digits part.answer) c.part-item.is)
 
 pub returns : goal.returns
 returns c =

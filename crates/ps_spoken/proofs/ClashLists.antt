@@ -5,12 +5,17 @@ use Rattle.std.proofs.lemmas.Option.{slice_get_cases, get_or_from_slice_get}
 use Rattle.ps_problem.specs.declared.sentence.Sentence.{Sentence}
 use Rattle.ps_problem.specs.Problems.{Parts, AreParts, IsBound}
 use Rattle.ps_canonical.proofs.Laid.{first-there}
-use Rattle.ps_spoken.specs.Clashes.{clashing_text, clash_texts}
+use Rattle.ps_spoken.specs.declared.clash.Clashing.{Clashing}
+use Rattle.ps_spoken.specs.Clashes.{clashing_text, clash_texts, rest_text, rest_texts}
 
-pub clashing-push : (p : Parts) (lines ns : List ℕ) (n : ℕ) → clash_texts p lines (ns ++ n ∷ []) ≡ clash_texts p lines ns ++ clashing_text p lines n
-clashing-push p lines [] n = append-nil (clashing_text p lines n)
-clashing-push p lines (m ∷ ns) n =
-    ap (λ bs. clashing_text p lines m ++ bs) (clashing-push p lines ns n) ∙ sym (append_assoc (clashing_text p lines m) (clash_texts p lines ns) (clashing_text p lines n))
+pub clashing-push : (p : Parts) (lines : List ℕ) (cs : List Clashing) (c : Clashing) → clash_texts p lines (cs ++ c ∷ []) ≡ clash_texts p lines cs ++ clashing_text p lines c
+clashing-push p lines [] c = append-nil (clashing_text p lines c)
+clashing-push p lines (b ∷ cs) c =
+    ap (λ bs. clashing_text p lines b ++ bs) (clashing-push p lines cs c) ∙ sym (append_assoc (clashing_text p lines b) (clash_texts p lines cs) (clashing_text p lines c))
+
+pub rest-push : (cs : List Clashing) (c : Clashing) → rest_texts (cs ++ c ∷ []) ≡ rest_texts cs ++ rest_text c
+rest-push [] c = append-nil (rest_text c)
+rest-push (b ∷ cs) c = ap (λ bs. rest_text b ++ bs) (rest-push cs c) ∙ sym (append_assoc (rest_text b) (rest_texts cs) (rest_text c))
 
 -- the sentence at a place has its nodes
 there-by : (p : Parts) → AreParts p → (i : ℕ) (s : Sentence) → slice_get p.sentences i ≡ Some s
