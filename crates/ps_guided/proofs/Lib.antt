@@ -1,1 +1,3 @@
-mod Settled
+pub mod Settled
+pub mod KnownLaws
+pub mod Right

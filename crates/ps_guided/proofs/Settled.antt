@@ -51,11 +51,11 @@ found_closed : (p : Parts) (kind : ClaimKind) (q : Query) (a : SideAnswer) → I
 found_closed p kind q (side.Bound value m d) h = tt
 found_closed p kind q (side.Open cause) h = absurd h
 
-found_valid : (p : Parts) (kind : ClaimKind) (q : Query) (a : SideAnswer) → IsFoundSide p kind q a → IsValidSide p kind q (side_of a)
+pub found_valid : (p : Parts) (kind : ClaimKind) (q : Query) (a : SideAnswer) → IsFoundSide p kind q a → IsValidSide p kind q (side_of a)
 found_valid p kind q (side.Bound value m d) h = h.0
 found_valid p kind q (side.Open cause) h = absurd h
 
-found_printed : (p : Parts) (kind : ClaimKind) (q : Query) (a : SideAnswer) → IsFoundSide p kind q a → IsPrintedSide a
+pub found_printed : (p : Parts) (kind : ClaimKind) (q : Query) (a : SideAnswer) → IsFoundSide p kind q a → IsPrintedSide a
 found_printed p kind q (side.Bound value m d) h = (h.1, h.2)
 found_printed p kind q (side.Open cause) h = absurd h
 

@@ -1,2 +1,3 @@
 -- Meaning
 pub mod Solutions
+pub mod Known

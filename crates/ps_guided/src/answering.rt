@@ -21,9 +21,9 @@ use ps_problem::{Problem, Query};
 use ps_query::{Limits, query_part, verdict_part};
 use std::alloc::Global;
 
-// The verdict, found or run.
+/// The verdict on the problem of trials: found, or run where no guess is shown.
 #[tactic(auto, using(crate::proofs::Settled::found_consistent, crate::proofs::Settled::found_inconsistent, crate::proofs::Settled::run_verdict))]
-fn verdict<G: Guesser>(
+pub fn answer_verdict<G: Guesser>(
     alloc: Global,
     trials: &Trials<'_>,
     limits: Limits,
@@ -41,8 +41,8 @@ fn verdict<G: Guesser>(
     verdict_part(alloc, trials.problem(), limits)
 }
 
-// The answer to a query by a run, with the sides that were found in place of the run's.
-fn run_beside(
+/// The answer to a query by a run, with the sides that were found in place of the run's.
+pub(crate) fn run_beside(
     alloc: Global,
     trials: &Trials<'_>,
     query: Query,
@@ -60,9 +60,9 @@ fn run_beside(
     Ok(beside_run(alloc, run, lower, upper))
 }
 
-// The answer to a query: what is found of it, and what isn't by a run.
+/// The answer to a query of the problem of trials: what is found of it, and what isn't by a run.
 #[tactic(auto, using(crate::proofs::Settled::found_impossible))]
-fn part<G: Guesser>(
+pub fn answer_part<G: Guesser>(
     alloc: Global,
     trials: &Trials<'_>,
     query: Query,
@@ -102,7 +102,7 @@ fn all_parts<G: Guesser>(
 {
     let mut parts = List::new(alloc);
     for query in trials.problem().queries().as_slice() {
-        parts.push(part(alloc, trials, *query, limits, guesser)?)?;
+        parts.push(answer_part(alloc, trials, *query, limits, guesser)?)?;
     }
     Ok(parts)
 }
@@ -142,7 +142,7 @@ pub fn answer<G: Guesser>(
     // Called for its clauses: the problem is within the limits, and its numbers are in range.
     let _sound = problem.bound_list();
     let trials = Trials::new(alloc, problem, limits.conflicts)?;
-    let (verdict, first) = verdict(alloc, &trials, limits, guesser)?;
+    let (verdict, first) = answer_verdict(alloc, &trials, limits, guesser)?;
     let parts = parts_under(alloc, &trials, &verdict, limits, guesser)?;
     Ok(Answer {
         verdict,

@@ -2,7 +2,7 @@ use Rattle.std.proofs.Common.{Option, IfSome, subst}
 use Rattle.ps_answer.specs.declared.answer.SideAnswer.{SideAnswer}
 use Rattle.ps_claims.specs.declared.claim_kind.ClaimKind.TheVariants.{Lower, Upper}
 use Rattle.ps_guess.specs.Trials.{IsFoundSide}
-use Rattle.ps_guided.proofs.answering.part.Goals as goal
+use Rattle.ps_guided.proofs.answering.answer_part.Goals as goal
 
 pub returns : goal.returns
 returns g c =

@@ -1,0 +1,46 @@
+-- What is known of a query, where time may be over before it is answered.
+use Rattle.std.specs.Prelude.{Option, IfSome}
+use Rattle.ps_problem.specs.declared.query.Query.{Query}
+use Rattle.ps_problem.specs.Problems.{Parts}
+use Rattle.ps_answer.specs.declared.answer.SideAnswer.{SideAnswer}
+use Rattle.ps_answer.specs.declared.answer.QueryPart.{QueryPart}
+use Rattle.ps_claims.specs.declared.claim_kind.ClaimKind.{ClaimKind}
+use Rattle.ps_claims.specs.declared.claim_kind.ClaimKind.TheVariants.{Lower, Upper}
+use Rattle.ps_valid.specs.Answers.{side_of}
+use Rattle.ps_claims.specs.Validity.{IsValidSide}
+use Rattle.ps_printed.specs.Printed.{IsPrintedSide}
+use Rattle.ps_generation.specs.declared.limits.Limits.{Limits}
+use Rattle.ps_guess.specs.Trials.{IsFoundSide}
+use Rattle.ps_query.specs.Parts.{IsPartOf}
+use Rattle.ps_guided.specs.Solutions.{IsAnsweredPart}
+use Rattle.ps_guided.specs.declared.known.Known.{Known}
+use Rattle.ps_guided.specs.declared.known.Known.TheVariants.{Answered, Sides}
+
+-- sides of a query that were found, each with its certificates
+abbrev pub AreFound : Parts → Query → Option SideAnswer → Option SideAnswer → Type 0
+AreFound p q lower upper = IfSome lower (IsFoundSide p Lower q) × IfSome upper (IsFoundSide p Upper q)
+
+-- what is known of a query: its answer within the limits, or sides that were found
+abbrev pub IsKnown : Limits → Parts → Query → Known → Type 0
+IsKnown limits p q (Answered part) = IsAnsweredPart limits p q part
+IsKnown limits p q (Sides lower upper) = AreFound p q lower upper
+
+-- of every problem and query, of whose sides these were found: that is known within all limits
+abbrev pub IsKnownBySides : Option SideAnswer → Option SideAnswer → Known → Type 0
+IsKnownBySides lower upper known = (limits : Limits) (p : Parts) (q : Query) → IfSome lower (IsFoundSide p Lower q)
+    → IfSome upper (IsFoundSide p Upper q) → IsKnown limits p q known
+
+-- a side that a run left: valid, and such as can be printed
+abbrev pub IsLeftSide : Parts → ClaimKind → Query → SideAnswer → Type 0
+IsLeftSide p kind q a = IsValidSide p kind q (side_of a) × IsPrintedSide a
+
+-- of every problem, query and side: beside a run that left this one, the other was found, where it is there
+abbrev pub IsClosedOrFound : Option SideAnswer → SideAnswer → Option SideAnswer → Type 0
+IsClosedOrFound found left known = (p : Parts) (q : Query) (kind : ClaimKind) → IfSome found (IsFoundSide p kind q)
+    → IsLeftSide p kind q left → IfSome known (IsFoundSide p kind q)
+
+-- of every problem and query, to which a run within some limits led to this part, and of whose sides these were found:
+-- that is known within all limits
+abbrev pub IsKnownBeside : QueryPart → Option SideAnswer → Option SideAnswer → Known → Type 0
+IsKnownBeside run lower upper known = (limits own : Limits) (p : Parts) (q : Query) → IsPartOf own p q run
+    → IfSome lower (IsFoundSide p Lower q) → IfSome upper (IsFoundSide p Upper q) → IsKnown limits p q known

@@ -1,0 +1,81 @@
+//! What is known of a query.
+ghost use Rattle.ps_guided.specs.Known.{IsClosedOrFound, IsKnownBeside, IsKnownBySides};
+
+use crate::beside::both_found;
+use ps_answer::{QueryAnswer, QueryPart, SideAnswer};
+use ps_io::List;
+use std::alloc::Global;
+
+/// What is known of a query.
+#[derive(Drop)]
+pub enum Known {
+    /// The answer to it.
+    Answered(QueryPart),
+    /// The sides that were found before time was over.
+    Sides {
+        lower: Option<SideAnswer>,
+        upper: Option<SideAnswer>,
+    },
+}
+
+/// What is known where these sides were found.
+pub fn known_by(alloc: Global, lower: Option<SideAnswer>, upper: Option<SideAnswer>) -> Known
+    ensures { IsKnownBySides lower upper result }
+{
+    let Some(least) = lower else {
+        return Known::Sides { lower: None, upper };
+    };
+    let Some(most) = upper else {
+        return Known::Sides {
+            lower: Some(least),
+            upper: None,
+        };
+    };
+    Known::Answered(both_found(alloc, least, most))
+}
+
+// The side that was found, or that of a run where it is a bound.
+#[tactic(auto, using(crate::proofs::KnownLaws::closed_side))]
+fn closed_or(found: Option<SideAnswer>, left: SideAnswer) -> Option<SideAnswer>
+    ensures { IsClosedOrFound found left result }
+{
+    match found {
+        Some(side) => Some(side),
+        None => match left {
+            SideAnswer::Bound { value, model, dual } => {
+                Some(SideAnswer::Bound { value, model, dual })
+            }
+            SideAnswer::Open(_) => None,
+        },
+    }
+}
+
+/// What is known behind a run, beside the sides that were found before: of the run what has its
+/// certificate, without its events.
+#[tactic(auto, using(crate::proofs::KnownLaws::known_impossible))]
+pub fn known_behind(
+    alloc: Global,
+    run: QueryPart,
+    lower: Option<SideAnswer>,
+    upper: Option<SideAnswer>,
+) -> Known
+    ensures { IsKnownBeside run lower upper result }
+{
+    let QueryPart { answer, first: _ } = run;
+    match answer {
+        QueryAnswer::Impossible(dual) => Known::Answered(QueryPart {
+            answer: QueryAnswer::Impossible(dual),
+            first: List::new(alloc),
+        }),
+        QueryAnswer::Open(_) => Known::Sides { lower, upper },
+        QueryAnswer::Bounds {
+            lower: lower_left,
+            upper: upper_left,
+            ..
+        } => known_by(
+            alloc,
+            closed_or(lower, lower_left),
+            closed_or(upper, upper_left),
+        ),
+    }
+}

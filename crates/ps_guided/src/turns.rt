@@ -1,0 +1,42 @@
+//! The limits of runs that are begun again and again while time is left.
+ghost use Rattle.std.specs.Prelude.{◌<◌, ◌≤◌};
+ghost use Rattle.ps_generation.specs.Phases.{AreLimits};
+ghost use Rattle.ps_guided.specs.declared.turns.TheConstants.{MOST_TURNS};
+
+use ps_query::Limits;
+
+/// How often a run is begun at most.
+pub const MOST_TURNS: u32 = 32;
+
+/// The most pivots of the first run.
+const FIRST_PIVOTS: u64 = 64;
+
+/// The most conflicts of a search of the first run.
+const FIRST_CONFLICTS: u64 = 1024;
+
+// A limit that is doubled so often, as far as the greatest.
+fn limit_at(first: u64, turn: u32, most: u64) -> u64
+    requires few { turn < MOST_TURNS }
+    ensures { result ≤ most }
+{
+    let limit = first << turn;
+    if limit < most { limit } else { most }
+}
+
+/// The limits of a run that was begun so often before: small ones at first, and twice as great ones
+/// each time, as far as the greatest.
+pub fn limits_at(most: Limits, turn: u32) -> Limits
+    requires limits { AreLimits most }
+    requires few { turn < MOST_TURNS }
+    ensures { AreLimits result }
+{
+    Limits {
+        pivots: limit_at(FIRST_PIVOTS, turn, most.pivots),
+        conflicts: limit_at(FIRST_CONFLICTS, turn, most.conflicts),
+    }
+}
+
+/// Whether these limits are the greatest.
+pub fn are_greatest(limits: Limits, most: Limits) -> bool {
+    limits.pivots == most.pivots && limits.conflicts == most.conflicts
+}
