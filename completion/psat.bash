@@ -35,10 +35,12 @@ _psat_ask() {
     COMPREPLY=()
     case $before in
     --report) [ -n "$now" ] || COMPREPLY=(-) ;;
-    --digits | --pivots | --conflicts) ;;
+    --digits | --pivots | --conflicts | --time-limit) ;;
     *)
         case $now in
-        -*) _psat_options --digits --quiet --json --report --pivots --conflicts --no-warnings --help --version ;;
+        -*)
+            _psat_options --digits --quiet --json --report --pivots --conflicts --time-limit --no-warnings --help --version
+            ;;
         esac
         ;;
     esac

@@ -1,5 +1,5 @@
 -- Each bound of an answer is a number from 0 to 1, of a small denominator.
-use Rattle.std.proofs.Common.{◌≡◌, ℕ, ◌*◌, ◌≤◌, ℤ, pos, negsuc, ◌*ℤ◌, ◌+ℤ◌, ◌≤ℤ◌, unsigned_abs, Bool, true, false, cond, ◌&&◌, List, [], ◌∷◌, All, sym, ap, ◌∙◌, subst, arith}
+use Rattle.std.proofs.Common.{◌≡◌, ℕ, ◌*◌, ◌≤◌, ℤ, pos, negsuc, ◌*ℤ◌, ◌+ℤ◌, ◌≤ℤ◌, unsigned_abs, Bool, true, false, cond, ◌&&◌, List, [], ◌∷◌, All, inl, inr, sym, ap, ◌∙◌, subst, arith}
 use Rattle.std.specs.List.{AllZip}
 use Rattle.std.proofs.lemmas.Int.{ints, unsigned_abs-mul}
 use Rattle.std.proofs.Math.Nat.{le_trans, le_of_mul-le-mul_right, mul-le-mul_left}
@@ -24,6 +24,10 @@ use Rattle.ps_claims.specs.Validity.{IsValidSide, IsValidPart}
 use Rattle.ps_valid.specs.Answers.{side_of, part_of, parts_of}
 use Rattle.ps_printed.specs.Printed.{IsPrintedSide, IsPrintedPart}
 use Rattle.ps_reported.proofs.Values.{value_low, value_small}
+use Rattle.std.specs.Prelude.{◌⊎◌}
+use Rattle.ps_guided.specs.Solutions.{IsAnsweredPart}
+use Rattle.ps_ask.specs.declared.settings.Settings.{Settings}
+use Rattle.ps_ask.specs.Fronts.{AreShownParts, IsLatePart}
 use Rattle.ps_ask.specs.Decimals.{HasBoundWithDecimals, HaveBoundsDecimals, BoundsHaveDecimals}
 
 -- ---- a conjunction weighs no more than one of its parts
@@ -70,13 +74,17 @@ part_decimals p q (query.Bounds lower lower_trace upper upper_trace) v h = (side
 part_decimals p q (query.Impossible d) v h = tt
 part_decimals p q (query.Open cause) v h = tt
 
-parts_decimals : (p : Parts) (qs : List stored.Query) (parts : List QueryPart) → AllZip (IsValidPart p) qs (parts_of parts) → All (λ part. IsPrintedPart part.answer) parts → All (λ part. HaveBoundsDecimals part.answer) parts
-parts_decimals p [] [] v h = All-nil (λ part. HaveBoundsDecimals part.answer)
-parts_decimals p [] (part ∷ parts) v h = absurd v
-parts_decimals p (q ∷ qs) [] v h = absurd v
-parts_decimals p (q ∷ qs) (part ∷ parts) v h = All-cons (λ x. HaveBoundsDecimals x.answer) part parts
-    (part_decimals p q part.answer v.0 (All-head (λ x. IsPrintedPart x.answer) part parts h))
-    (parts_decimals p qs parts v.1 (All-tail (λ x. IsPrintedPart x.answer) part parts h))
+shown_decimals : (s : Settings) (p : Parts) (q : stored.Query) (part : QueryPart) → IsAnsweredPart s.limits p q part ⊎ IsLatePart s p q part → HaveBoundsDecimals part.answer
+shown_decimals s p q part (inl h) = part_decimals p q part.answer h.valid h.printed
+shown_decimals s p q part (inr h) = part_decimals p q part.answer h.valid h.printed
+
+parts_decimals : (s : Settings) (p : Parts) (qs : List stored.Query) (parts : List QueryPart) → AreShownParts s p qs parts → All (λ part. HaveBoundsDecimals part.answer) parts
+parts_decimals s p [] [] h = All-nil (λ part. HaveBoundsDecimals part.answer)
+parts_decimals s p [] (part ∷ parts) h = absurd h
+parts_decimals s p (q ∷ qs) [] h = absurd h
+parts_decimals s p (q ∷ qs) (part ∷ parts) h = All-cons (λ x. HaveBoundsDecimals x.answer) part parts
+    (shown_decimals s p q part (h.0).judged)
+    (parts_decimals s p qs parts h.1)
 
 pub bounds_decimals : BoundsHaveDecimals
-bounds_decimals limits p a s = parts_decimals p _ a.parts s.valid.parts s.printed.parts
+bounds_decimals s p a h = parts_decimals s p _ a.parts h.parts

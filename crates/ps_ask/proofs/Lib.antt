@@ -1,6 +1,10 @@
 pub mod OpenParts
 pub mod ClashLaws
 pub mod ShownLaws
+pub mod EndLaws
+pub mod JudgedLaws
+pub mod FrontLaws
+pub mod StepLaws
 pub mod DueLaws
 pub mod RunLaws
 pub mod Decimals

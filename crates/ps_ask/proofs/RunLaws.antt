@@ -1,14 +1,20 @@
 -- What an answer to an input does where it has a reply.
-use Rattle.std.proofs.Common.{◌≡◌, ℕ, List, Option, Some, refl, sym, subst}
+use Rattle.std.proofs.Common.{◌≡◌, ℕ, Bool, List, ◌++◌, Option, Some, refl, sym, subst, inl, inr}
+use Rattle.std.specs.Prelude.{Result, Ok, Err}
+use Rattle.ps_io.specs.Causes.{next_count}
 use Rattle.ps_io.specs.Transfer.{Appends, AppendsPrefix}
+use Rattle.ps_io.proofs.Bytes.{appends-then}
+use Rattle.ps_io.proofs.CallerLemmas.{prefix-after}
 use Rattle.ps_ask.specs.declared.settings.Settings.{Settings}
 use Rattle.ps_ask.specs.declared.status.Status.{Status}
 use Rattle.ps_ask.specs.declared.status.Status.TheVariants as status
 use Rattle.ps_ask.specs.declared.reply.Reply.{Reply}
+use Rattle.ps_ask.specs.declared.reply.ReplyError.{ReplyError}
+use Rattle.ps_ask.specs.declared.reply.ReplyError.TheVariants as errors
 use Rattle.ps_ask.specs.Statuses.{HasNoReport, HasText, IsSilent}
-use Rattle.ps_ask.specs.Shown.{HasWritten, CountsReads, CountsReports, CountsWrites, Ends, IsDue, Output, Wrote, both}
+use Rattle.ps_ask.specs.Shown.{AsIsDue, HasWritten, CountsReads, CountsReports, CountsWrites, Ends, IsDue, IsText, Output, Wrote, both}
+use Rattle.ps_ask.specs.Replies.{CountsShown, HasShownFor, IsDueAfter, last_of, output_after, report_by, status_of, status_with, status_without}
 use Rattle.ps_ask.proofs.DueLaws.{has_text}
-use Rattle.ps_ask.specs.Replies.{IsDueFor, output_of, report_by, status_of, text_of}
 
 wrote_by : (s : Settings) (name bytes : List ℕ) (o : Output) (st : Status) (old new : Ends) → HasText st → IsDue s name bytes o → st ≡ o.status
     → Appends old.shown new.shown o.text → Appends old.report new.report o.report → Wrote s name bytes st old new
@@ -18,33 +24,59 @@ wrote_by s name bytes o status.ReportFault old new h d e a b = absurd h
 wrote_by s name bytes o status.NoMemory old new h d e a b = absurd h
 wrote_by s name bytes o st old new h d e a b = record { output = o; due = d; status_is = e; written = a; reported = b }
 
--- a reply was written whole
-pub reply_asked : (s : Settings) (name : List ℕ) (left : Option (List ℕ)) (r : Reply) (st : Status) (old new before after : Option (List ℕ)) → IsDueFor s name left r → st ≡ status_of r
-    → Appends old new (text_of r) → Appends before after (report_by s.reports r) → HasWritten left (both old before) (both new after) s name st
-reply_asked s name left r st old new before after due e a b = record {
-  wrote = λ bytes told.
-      let has : HasText st = subst HasText (sym e) (has_text r) in
-      wrote_by s name bytes (output_of s r) st (both old before) (both new after) has (due.due bytes told) e a b;
-}
+module _ (s : Settings) (name : List ℕ) (left : Option (List ℕ)) (r : Reply) (old between new : Option (List ℕ)) (shown : HasShownFor s name left (Ok r) old between) where
+  -- a reply was written whole
+  pub reply_asked : (st : Status) (before after : Option (List ℕ)) → st ≡ status_of s.is_timed r → Appends between new (last_of s.is_timed r)
+      → Appends before after (report_by s.reports s.is_timed r) → HasWritten left (both old before) (both new after) s name st
+  reply_asked st before after e a b = record {
+    wrote = λ bytes told.
+        let h : IsDueAfter s name bytes old between r = shown.shown bytes told in
+        let has : HasText st = subst HasText (sym e) (has_text s.is_timed r) in
+        wrote_by s name bytes (output_after s h.begun r) st (both old before) (both new after) has h.due e
+        (appends-then old between new h.begun (last_of s.is_timed r) h.written a) b;
+  }
 
--- a proper prefix of what is shown was written
-pub reply_cut : (s : Settings) (name : List ℕ) (left : Option (List ℕ)) (r : Reply) (old new before : Option (List ℕ)) → IsDueFor s name left r
-    → AppendsPrefix old new (text_of r) → HasWritten left (both old before) (both new before) s name status.WriteFault
-reply_cut s name left r old new before due a = record {
-  wrote = λ bytes told. record { output = output_of s r; due = due.due bytes told; written = a; unreported = refl };
-}
+  -- a proper prefix of what is shown at the end was written
+  pub reply_cut : (before : Option (List ℕ)) → AppendsPrefix between new (last_of s.is_timed r) → HasWritten left (both old before) (both new before) s name status.WriteFault
+  reply_cut before a = record {
+    wrote = λ bytes told.
+        let h : IsDueAfter s name bytes old between r = shown.shown bytes told in
+        record {
+          text = h.begun ++ last_of s.is_timed r;
+          is = AsIsDue (output_after s h.begun r) h.due refl;
+          written = prefix-after old between new h.begun (last_of s.is_timed r) h.written a;
+          unreported = refl;
+        };
+  }
 
--- a proper prefix of the report was written
-pub report_cut : (s : Settings) (name : List ℕ) (left : Option (List ℕ)) (r : Reply) (old new before after : Option (List ℕ)) → IsDueFor s name left r
-    → Appends old new (text_of r) → AppendsPrefix before after (report_by s.reports r) → HasWritten left (both old before) (both new after) s name status.ReportFault
-report_cut s name left r old new before after due a b = record {
-  wrote = λ bytes told. record { output = output_of s r; due = due.due bytes told; written = a; reported = b };
+  -- a proper prefix of the report was written
+  pub report_cut : (before after : Option (List ℕ)) → Appends between new (last_of s.is_timed r) → AppendsPrefix before after (report_by s.reports s.is_timed r)
+      → HasWritten left (both old before) (both new after) s name status.ReportFault
+  report_cut before after a b = record {
+    wrote = λ bytes told.
+        let h : IsDueAfter s name bytes old between r = shown.shown bytes told in
+        record {
+          output = output_after s h.begun r;
+          due = h.due;
+          written = appends-then old between new h.begun (last_of s.is_timed r) h.written a;
+          reported = b;
+        };
+  }
+
+-- there is no reply
+pub none_asked : (s : Settings) (name : List ℕ) (left : Option (List ℕ)) (e : ReplyError) (old new before : Option (List ℕ)) → HasShownFor s name left (Err e) old new
+    → HasWritten left (both old before) (both new before) s name (status_without e)
+none_asked s name left errors.ReadFault old new before h = record { wrote = λ bytes told. λ i. both (h.shown bytes told i) before }
+none_asked s name left errors.NoMemory old new before h = record {
+  wrote = λ bytes told. let k = h.shown bytes told in record { text = k.text; is = k.is; written = k.written; unreported = refl };
+}
+none_asked s name left errors.WriteFault old new before h = record {
+  wrote = λ bytes told. let k = h.shown bytes told in record { text = k.text; is = k.is; written = k.written; unreported = refl };
 }
 
 -- the status after a reply is none of a failure
 not-silent : (s : Status) → HasText s → ¬ IsSilent s
 not-silent status.ReadFault g h = g
-not-silent status.NoMemory g h = g
 not-silent s g h = absurd h
 
 has-report : (s : Status) → HasText s → ¬ HasNoReport s
@@ -65,20 +97,40 @@ reads-counted : (s : Status) (old new : ℕ) → HasText s → CountsReads old n
 reads-counted status.ReadFault old new g e = absurd g
 reads-counted s old new g e = e
 
-pub not_silent : (st : Status) (r : Reply) → st ≡ status_of r → ¬ IsSilent st
-not_silent st r e = not-silent st (subst HasText (sym e) (has_text r))
+pub not_silent : (st : Status) (timed : Bool) (r : Reply) → st ≡ status_of timed r → ¬ IsSilent st
+not_silent st timed r e = not-silent st (subst HasText (sym e) (has_text timed r))
 
-pub has_report : (st : Status) (r : Reply) → st ≡ status_of r → ¬ HasNoReport st
-has_report st r e = has-report st (subst HasText (sym e) (has_text r))
+pub has_report : (st : Status) (timed : Bool) (r : Reply) → st ≡ status_of timed r → ¬ HasNoReport st
+has_report st timed r e = has-report st (subst HasText (sym e) (has_text timed r))
 
-pub writes_counted : (st : Status) (r : Reply) (old new : ℕ) → st ≡ status_of r → new ≡ old → CountsWrites old new st
-writes_counted st r old new e = writes-counted st old new (subst HasText (sym e) (has_text r))
+pub writes_counted : (st : Status) (timed : Bool) (r : Reply) (old new : ℕ) → st ≡ status_of timed r → new ≡ old → CountsWrites old new st
+writes_counted st timed r old new e = writes-counted st old new (subst HasText (sym e) (has_text timed r))
 
-pub reports_counted : (st : Status) (r : Reply) (old new : ℕ) → st ≡ status_of r → new ≡ old → CountsReports old new st
-reports_counted st r old new e = reports-counted st old new (subst HasText (sym e) (has_text r))
+pub reports_counted : (st : Status) (timed : Bool) (r : Reply) (old new : ℕ) → st ≡ status_of timed r → new ≡ old → CountsReports old new st
+reports_counted st timed r old new e = reports-counted st old new (subst HasText (sym e) (has_text timed r))
 
-pub reads_counted : (st : Status) (r : Reply) (old new : ℕ) → st ≡ status_of r → CountsReads old new (status_of r) → CountsReads old new st
-reads_counted st r old new e h = subst (CountsReads old new) (sym e) h
+pub reads_counted : (st : Status) (timed : Bool) (r : Reply) (old new : ℕ) → st ≡ status_of timed r → CountsReads old new (status_of timed r) → CountsReads old new st
+reads_counted st timed r old new e h = subst (CountsReads old new) (sym e) h
 
-pub reads_same : (r : Reply) (old new : ℕ) → CountsReads old new (status_of r) → new ≡ old
-reads_same r old new h = reads-counted (status_of r) old new (has_text r) h
+pub reads_same : (timed : Bool) (r : Reply) (old new : ℕ) → CountsReads old new (status_of timed r) → new ≡ old
+reads_same timed r old new h = reads-counted (status_of timed r) old new (has_text timed r) h
+
+-- of a status without a reply
+abbrev pub failed : ReplyError → Result Reply ReplyError
+failed e = Err e
+
+pub writes_without : (e : ReplyError) (old new : ℕ) → CountsShown (failed e) old new → CountsWrites old new (status_without e)
+writes_without errors.ReadFault old new h = h
+writes_without errors.NoMemory old new h = h
+writes_without errors.WriteFault old new h = h
+
+pub reports_without : (e : ReplyError) (o : ℕ) → CountsReports o o (status_without e)
+reports_without errors.ReadFault o = refl
+reports_without errors.NoMemory o = refl
+reports_without errors.WriteFault o = refl
+
+-- of these only a read that failed is silent
+pub silent_read : (e : ReplyError) → IsSilent (status_without e) → e ≡ errors.ReadFault
+silent_read errors.ReadFault h = refl
+silent_read errors.NoMemory h = absurd h
+silent_read errors.WriteFault h = absurd h

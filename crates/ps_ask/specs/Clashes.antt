@@ -1,5 +1,5 @@
 -- Which sentences of a problem clash.
-use Rattle.std.specs.Prelude.{◌≡◌, ℕ, List, length, Option, Some, None}
+use Rattle.std.specs.Prelude.{◌≡◌, ◌⊎◌, true, ℕ, List, length, map, All, Option, Some, None}
 use Rattle.ps_problem.specs.Problems.{Parts, bounds_of}
 use Rattle.ps_entailment.specs.Queries.{IsInconsistent}
 use Rattle.ps_pool.specs.declared.event.Event.{Event}
@@ -9,9 +9,15 @@ use Rattle.ps_answer.specs.declared.answer.Model.{Model}
 use Rattle.ps_answer.specs.declared.answer.Verdict.{Verdict}
 use Rattle.ps_answer.specs.declared.answer.Verdict.TheVariants.{Consistent, Inconsistent, Open}
 use Rattle.ps_generation.specs.declared.limits.Limits.{Limits}
-use Rattle.ps_explain.specs.Explanations.{IsCore, IsOpenOver}
+use Rattle.ps_explain.specs.Explanations.{IsCore, IsModelOfKept, IsOpenOver}
+use Rattle.ps_explain.specs.Rests.{all_but, AreShownNotMet, IsVerdictWithout}
 use Rattle.ps_spoken.specs.declared.clash.Clash.{Clash}
 use Rattle.ps_spoken.specs.declared.clash.Clash.TheVariants as clash
+use Rattle.ps_spoken.specs.declared.clash.Clashing.{Clashing}
+use Rattle.ps_spoken.specs.Spoken.{out_of_time}
+use Rattle.ps_ask.specs.declared.cores.Core.{Core}
+use Rattle.ps_ask.specs.declared.cores.Core.TheVariants as core
+use Rattle.ps_ask.specs.declared.settings.Settings.{Settings}
 
 -- no distribution meets the problem's sentences
 abbrev pub IsShownInconsistent : Parts → Type 0
@@ -29,15 +35,48 @@ pub record IsStopped (limits : Limits) (p : Parts) (cause : Cause) : Type 0 wher
   pub events : List Event
   pub open_over : IsOpenOver limits p sentences cause events
 
--- what is found of the sentences that clash: such that can't be met together and are each needed for it, or what
--- stopped the search
-abbrev pub IsFoundClash : Limits → Parts → Clash → Type 0
-IsFoundClash limits p (clash.Irreducible ns) = AreIrreducible p ns
-IsFoundClash limits p (clash.Open cause) = IsStopped limits p cause
+-- time is limited, and was over before such sentences were found
+pub record IsLateClash (s : Settings) (cause : Cause) : Type 0 where
+  pub timed : s.is_timed ≡ true
+  pub over : cause ≡ out_of_time
+
+-- what is found within limits: sentences that can't be met together and are each needed for it, or what stopped the search
+abbrev pub IsCoreWithin : Limits → Parts → Core → Type 0
+IsCoreWithin limits p (core.Found ns) = AreIrreducible p ns
+IsCoreWithin limits p (core.Open cause) = IsStopped limits p cause
+
+-- the same within the settings' limits, or, where time is limited, as far as it went
+abbrev pub IsCoreFor : Settings → Parts → Core → Type 0
+IsCoreFor s p (core.Found ns) = AreIrreducible p ns
+IsCoreFor s p (core.Open cause) = IsStopped s.limits p cause ⊎ IsLateClash s cause
+
+-- what the problem comes to without the sentence of a number: the others can be met together, or can't, or it wasn't found out
+abbrev pub IsRestOf : Settings → Parts → ℕ → Verdict → Type 0
+IsRestOf s p n (Consistent m) = IsModelOfKept p (all_but p n) m
+IsRestOf s p n (Inconsistent d) = AreShownNotMet p (all_but p n) d
+IsRestOf s p n (Open cause) = IsVerdictWithout s.limits p n (Open cause) ⊎ IsLateClash s cause
+
+-- so it is told of a sentence that clashes
+abbrev pub IsRestFor : Settings → Parts → Clashing → Type 0
+IsRestFor s p c = IsRestOf s p c.number c.rest
+
+-- the number of a sentence that clashes
+abbrev pub number_of : Clashing → ℕ
+number_of c = c.number
+
+-- sentences that can't be met together and are each needed for it, with what the problem comes to without each
+pub record IsClash (s : Settings) (p : Parts) (clashing : List Clashing) : Type 0 where
+  pub irreducible : AreIrreducible p (map number_of clashing)
+  pub rests : All (IsRestFor s p) clashing
+
+-- what is found of the sentences that clash, or what stopped the search for them
+abbrev pub IsFoundClash : Settings → Parts → Clash → Type 0
+IsFoundClash s p (clash.Irreducible clashing) = IsClash s p clashing
+IsFoundClash s p (clash.Open cause) = IsStopped s.limits p cause ⊎ IsLateClash s cause
 
 -- what is shown of them: where the verdict is that the sentences are inconsistent what is found, and else nothing
-abbrev pub IsClashAt : Limits → Parts → Verdict → Option Clash → Type 0
-IsClashAt limits p (Inconsistent d) (Some c) = IsFoundClash limits p c
-IsClashAt limits p (Inconsistent d) None = ⊥
-IsClashAt limits p (Consistent m) c = c ≡ None
-IsClashAt limits p (Open cause) c = c ≡ None
+abbrev pub IsClashAt : Settings → Parts → Verdict → Option Clash → Type 0
+IsClashAt s p (Inconsistent d) (Some c) = IsFoundClash s p c
+IsClashAt s p (Inconsistent d) None = ⊥
+IsClashAt s p (Consistent m) c = c ≡ None
+IsClashAt s p (Open cause) c = c ≡ None

@@ -7,8 +7,8 @@ use Rattle.ps_answer.specs.declared.answer.QueryAnswer.{QueryAnswer}
 use Rattle.ps_answer.specs.declared.answer.QueryAnswer.TheVariants as query
 use Rattle.ps_answer.specs.declared.answer.Answer.{Answer}
 use Rattle.ps_decimal.specs.Decimals.{HasDecimals}
-use Rattle.ps_generation.specs.declared.limits.Limits.{Limits}
-use Rattle.ps_guided.specs.Solutions.{IsSettledSolution}
+use Rattle.ps_ask.specs.declared.settings.Settings.{Settings}
+use Rattle.ps_ask.specs.Fronts.{IsUnderWay}
 
 -- the bound of a side, where it has one, is a number that has decimals
 abbrev pub HasBoundWithDecimals : SideAnswer → Type 0
@@ -21,7 +21,7 @@ HaveBoundsDecimals (query.Bounds lower lower_trace upper upper_trace) = HasBound
 HaveBoundsDecimals (query.Impossible d) = Unit {0}
 HaveBoundsDecimals (query.Open cause) = Unit {0}
 
--- each bound of an answer that is shown has decimals
+-- each bound of an answer that is shown, as far as it goes, has decimals
 abbrev pub BoundsHaveDecimals : Type 0
-BoundsHaveDecimals = (limits : Limits) (p : Parts) (a : Answer) → IsSettledSolution limits p a
+BoundsHaveDecimals = (s : Settings) (p : Parts) (a : Answer) → IsUnderWay s p a
     → All (λ part. HaveBoundsDecimals part.answer) a.parts

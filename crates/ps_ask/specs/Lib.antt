@@ -1,6 +1,8 @@
 -- Meaning
+pub mod Late
 pub mod Statuses
 pub mod Clashes
+pub mod Fronts
 pub mod Shown
 -- The law of decimals
 pub mod Decimals

@@ -1,5 +1,6 @@
 -- What is shown for the bytes of an input.
-use Rattle.std.specs.Prelude.{◌≡◌, ◌<◌, ◌≤◌, ℕ, pos, Bool, true, false, List, [], ◌++◌, length, Option, Some, None}
+use Rattle.std.specs.Prelude.{◌≡◌, ◌⊎◌, ◌<◌, ◌≤◌, ℕ, pos, if◌then◌else◌, Bool, true, false, List, [], ◌++◌, length}
+use Rattle.std.specs.Prelude.{Option, Some, None}
 use Rattle.ps_io.specs.LineText.{lines_bytes}
 use Rattle.ps_io.specs.Causes.{next_count}
 use Rattle.ps_io.specs.Transfer.{Appends, AppendsPrefix}
@@ -12,14 +13,10 @@ use Rattle.ps_problem.specs.Problems.{Parts}
 use Rattle.ps_answer.specs.declared.answer.Answer.{Answer}
 use Rattle.ps_answer.specs.declared.answer.Verdict.{Verdict}
 use Rattle.ps_answer.specs.Answers.{answer_lines}
-use Rattle.ps_generation.specs.declared.limits.Limits.{Limits}
 use Rattle.ps_generation.specs.Phases.{AreLimits}
-use Rattle.ps_guided.specs.Solutions.{IsSettledSolution}
 use Rattle.ps_decimal.specs.declared.limits.TheConstants.{MOST_DIGITS}
 use Rattle.ps_spoken.specs.declared.clash.Clash.{Clash}
 use Rattle.ps_spoken.specs.Clashes.{clash_text}
-use Rattle.ps_spoken.specs.Spoken.{spoken}
-use Rattle.ps_spoken.specs.Quiet.{values_of}
 use Rattle.ps_json.specs.Objects.{Beside, object}
 use Rattle.ps_ask.specs.declared.answering.TheConstants.{MOST_PROBLEM}
 use Rattle.ps_ask.specs.declared.settings.Settings.{Settings}
@@ -29,6 +26,8 @@ use Rattle.ps_ask.specs.declared.sinks.Sinks.{Sinks}
 use Rattle.ps_ask.specs.declared.status.Status.{Status}
 use Rattle.ps_ask.specs.declared.status.Status.TheVariants.{Unreadable, ReadFault, WriteFault, ReportFault, NoMemory}
 use Rattle.ps_ask.specs.Clashes.{IsClashAt}
+use Rattle.ps_ask.specs.Fronts.{IsBegunText, IsWhole, begun_text}
+use Rattle.ps_ask.specs.Late.{is_late}
 use Rattle.ps_ask.specs.Statuses.{open_in, status_after, status_number}
 
 -- the limits are those of runs, and decimals have at least one digit and at most the most
@@ -37,31 +36,31 @@ pub record AreSettings (s : Settings) : Type 0 where
   pub some : 0 < s.digits
   pub few : s.digits ≤ MOST_DIGITS
 
--- the report of an answer
-abbrev pub report_of : Answer → List ℕ
-report_of a = lines_bytes false (answer_lines a)
+-- the report of an answer; none where time was over before it was whole
+abbrev pub report_of : Bool → Answer → List ℕ
+report_of timed a = if is_late timed a then [] else lines_bytes false (answer_lines a)
 
 -- which sentences clash, where some do
 abbrev pub clash_words : Parts → List ℕ → Option Clash → List ℕ
 clash_words p lines (Some c) = clash_text p lines c
 clash_words p lines None = []
 
--- an answer in words and numbers, and which sentences clash
-unfoldable pub words_text : Parts → Answer → Beside → List ℕ
-words_text p a t = spoken t.digits p a ++ clash_words p t.lines t.clash
+-- what is shown at the end: which sentences clash, nothing, an object, or a report
+abbrev pub last_text : Style → Bool → Parts → Answer → Beside → List ℕ
+last_text Words timed p a t = clash_words p t.lines t.clash
+last_text Values timed p a t = []
+last_text Json timed p a t = object p a t
+last_text Report timed p a t = report_of timed a
 
--- an answer as it is shown: in words and numbers, by its values alone, as an object, or by its report
-abbrev pub shown_by : Style → Parts → Answer → Beside → List ℕ
-shown_by Words p a t = words_text p a t
-shown_by Values p a t = values_of t.digits a
-shown_by Json p a t = object p a t
-shown_by Report p a t = report_of a
+-- an answer as it is shown: what is shown as it goes, and what is shown at the end
+abbrev pub shown_by : Settings → Parts → Answer → Beside → List ℕ
+shown_by s p a t = begun_text s.style s.digits p a ++ last_text s.style s.is_timed p a t
 
 -- sentences that clash are looked for where they are shown: in words and in an object
-abbrev pub IsClashFor : Style → Limits → Parts → Verdict → Option Clash → Type 0
-IsClashFor Words limits p v clash = IsClashAt limits p v clash
-IsClashFor Json limits p v clash = IsClashAt limits p v clash
-IsClashFor other limits p v clash = clash ≡ None
+abbrev pub IsClashFor : Style → Settings → Parts → Verdict → Option Clash → Type 0
+IsClashFor Words s p v clash = IsClashAt s p v clash
+IsClashFor Json s p v clash = IsClashAt s p v clash
+IsClashFor other s p v clash = clash ≡ None
 
 -- this goes with an answer to a problem: the digits of the settings, the name of the file, how much is open, the
 -- status, and sentences that can't be met together and are each needed for it, where some clash and are shown
@@ -69,13 +68,13 @@ pub record IsToldFor (s : Settings) (name : List ℕ) (p : Parts) (a : Answer) (
   pub digits : t.digits ≡ s.digits
   pub file : t.file ≡ name
   pub unfinished : t.unfinished ≡ pos (open_in a)
-  pub status : t.status ≡ status_number (status_after a)
-  pub clash : IsClashFor s.style s.limits p a.verdict t.clash
+  pub status : t.status ≡ status_number (status_after s.is_timed a)
+  pub clash : IsClashFor s.style s p a.verdict t.clash
 
 -- the report beside what is shown, where it is wanted
-abbrev pub wanted_report : Bool → Answer → List ℕ
-wanted_report true a = report_of a
-wanted_report false a = []
+abbrev pub wanted_report : Bool → Bool → Answer → List ℕ
+wanted_report true timed a = report_of timed a
+wanted_report false timed a = []
 
 -- what is written: what is shown, the report beside it, and the status after them
 pub record Output : Type 0 where
@@ -85,16 +84,21 @@ pub record Output : Type 0 where
 
 -- the output of an answer as it is shown
 abbrev pub answer_output : Settings → Parts → Answer → Beside → Output
-answer_output s p a t = record { text = shown_by s.style p a t; report = wanted_report s.reports a; status = status_after a }
+answer_output s p a t = record {
+  text = shown_by s p a t;
+  report = wanted_report s.reports s.is_timed a;
+  status = status_after s.is_timed a;
+}
 
 -- the output for an input that is no problem
 abbrev pub no_output : Output
 no_output = record { text = []; report = []; status = Unreadable }
 
--- the output shows an answer to a problem: it is valid and right, and each part has its certificates or comes of a lawful run
+-- the output shows a whole answer to a problem: it is valid and right, and each part has its certificates or comes of a lawful
+-- run, unless time was over
 pub record IsSolvedBy (s : Settings) (name : List ℕ) (p : Parts) (o : Output) : Type 0 where
   pub answer : Answer
-  pub solution : IsSettledSolution s.limits p answer
+  pub whole : IsWhole s p answer
   pub beside : Beside
   pub told : IsToldFor s name p answer beside
   pub is : o ≡ answer_output s p answer beside
@@ -122,11 +126,23 @@ pub record Answered (s : Settings) (name bytes : List ℕ) (status : Status) (ol
   pub written : Appends old.shown new.shown output.text
   pub reported : Appends old.report new.report output.report
 
--- a proper prefix of what is to be shown was written, and no report
+-- a text that may be shown for bytes: that of an answer to the problem that they spell, as far as it goes, or what is due
+pub data IsText (s : Settings) (name bytes text : List ℕ) : Type 0 where
+  AsItGoes : (p : Parts) (spells : SpellsWhole bytes p) (begun : IsBegunText s p text) → IsText s name bytes text
+  AsIsDue : (o : Output) (due : IsDue s name bytes o) (is : text ≡ o.text) → IsText s name bytes text
+
+-- memory ran out behind such a text, or before any was shown; and there is no report
+pub record Stopped (s : Settings) (name bytes : List ℕ) (old new : Ends) : Type 0 where
+  pub text : List ℕ
+  pub is : (text ≡ []) ⊎ IsText s name bytes text
+  pub written : Appends old.shown new.shown text
+  pub unreported : new.report ≡ old.report
+
+-- a proper prefix of such a text was written, and no report
 pub record Cut (s : Settings) (name bytes : List ℕ) (old new : Ends) : Type 0 where
-  pub output : Output
-  pub due : IsDue s name bytes output
-  pub written : AppendsPrefix old.shown new.shown output.text
+  pub text : List ℕ
+  pub is : IsText s name bytes text
+  pub written : AppendsPrefix old.shown new.shown text
   pub unreported : new.report ≡ old.report
 
 -- what is to be shown was written whole, and a proper prefix of the report
@@ -139,7 +155,7 @@ pub record CutReport (s : Settings) (name bytes : List ℕ) (old new : Ends) : T
 -- what was written for bytes, by the status
 abbrev pub Wrote : Settings → List ℕ → List ℕ → Status → Ends → Ends → Type 0
 Wrote s name bytes ReadFault old new = new ≡ old
-Wrote s name bytes NoMemory old new = new ≡ old
+Wrote s name bytes NoMemory old new = Stopped s name bytes old new
 Wrote s name bytes WriteFault old new = Cut s name bytes old new
 Wrote s name bytes ReportFault old new = CutReport s name bytes old new
 Wrote s name bytes status old new = Answered s name bytes status old new

@@ -6,6 +6,7 @@ ghost use Rattle.ps_claims.specs.Claims.{unfinished_of};
 ghost use Rattle.ps_valid.specs.Answers.{answer_of, part_of, parts_of, side_of, verdict_of};
 ghost use Rattle.ps_ask.specs.Statuses.{status_after, status_by};
 
+use crate::late::is_late;
 use crate::status::Status;
 use ps_answer::{Answer, QueryAnswer, QueryPart, SideAnswer, Verdict};
 
@@ -79,9 +80,12 @@ fn status_with(verdict: &Verdict, unfinished: u128) -> Status
     }
 }
 
-/// The status after an answer.
-pub fn status_of(answer: &Answer) -> Status
-    ensures { result ≡ status_after answer.now }
+/// The status after an answer, where time was limited or not.
+pub fn status_of(timed: bool, answer: &Answer) -> Status
+    ensures { result ≡ status_after timed answer.now }
 {
+    if is_late(timed, answer) {
+        return Status::Late;
+    }
     status_with(&answer.verdict, open_of(answer))
 }

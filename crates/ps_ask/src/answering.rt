@@ -1,20 +1,23 @@
 //! The answer to an input.
-ghost use Rattle.std.specs.Prelude.{◌≡◌, ◌≤◌, length, IfOk};
+ghost use Rattle.std.specs.Prelude.{◌≡◌, ◌≢◌, ◌≤◌, Err, IfErr, IfOk, length};
 ghost use Rattle.ps_ask.specs.declared.answering.TheConstants.{MOST_PROBLEM};
+ghost use Rattle.ps_ask.specs.declared.reply.ReplyError.TheVariants as errors;
 ghost use Rattle.ps_ask.specs.Statuses.{HasNoReport, IsSilent};
+ghost use Rattle.ps_ask.specs.Fronts.{IsBegunText};
 ghost use Rattle.ps_ask.specs.Shown.{AreSettings, Asked, CountsReads, CountsReports};
 ghost use Rattle.ps_ask.specs.Shown.{CountsWrites};
-ghost use Rattle.ps_ask.specs.Replies.{IsDueFor, IsDueReply, IsShort, IsSolved, status_with};
+ghost use Rattle.ps_ask.specs.Replies.{CountsReadsBy, CountsShown, Stops, IsShort, ShowsFor};
+ghost use Rattle.ps_ask.specs.Replies.{ShowsLeft, Solves};
 
-use crate::notes::{Input, note_length, note_refusal, note_warnings};
+use crate::company::Company;
+use crate::fronts::show_front;
+use crate::notes::{Input, length_noted, refusal_noted, warnings_noted};
 use crate::reply::{Reply, ReplyError};
 use crate::settings::Settings;
-use crate::shown::show;
+use crate::shown::show_last;
 use crate::sinks::Sinks;
 use crate::status::Status;
-use crate::writing::{write_beside, write_shown};
-use ps_engine::Engine;
-use ps_guided::answer;
+use crate::writing::{write_beside, write_last};
 use ps_io::{NoMemory, ReadAllError, Sink, Source, read_all};
 use ps_problem::Problem;
 use ps_read::{ReadError, read_whole};
@@ -23,61 +26,86 @@ use std::alloc::Global;
 /// The most bytes of a problem.
 pub const MOST_PROBLEM: u64 = 1 << 20;
 
-// The reply to a problem: an answer by the engine's guesses, and by lawful runs where no guess is
-// shown.
-fn reply_to_problem(
+// The reply to a problem, behind what is shown of its answer as it goes: guesses of the engine, and
+// lawful runs where no guess is shown.
+#[tactic(auto, using(crate::proofs::DueLaws::solved_after, crate::proofs::DueLaws::short_after))]
+fn reply_to_problem<O: Sink, W: Company>(
     alloc: Global,
     settings: Settings,
     input: Input<'_>,
     problem: &Problem,
-) -> Result<Reply, NoMemory>
+    sink: &mut O,
+    watch: &mut W,
+) -> Result<Reply, ReplyError>
     requires settings { AreSettings settings }
-    ensures solved { IfOk result (IsSolved settings input.entry.name.now problem.now) }
-    ensures short { IfOk result IsShort }
+    ensures solved { IfOk result (Solves O.Sink sink.old sink.new settings input.entry
+        problem.now) }
+    ensures ended { IfErr result (Stops O.Sink sink.old sink.new
+        (IsBegunText settings problem.now)) }
+    ensures short { IfOk result (IsShort settings.is_timed) }
+    ensures faults { CountsShown result (O.faults sink.old) (O.faults sink.new) }
 {
-    let mut engine = Engine::new(alloc, problem)?;
-    let answer = answer(alloc, problem, settings.limits, &mut engine)?;
-    show(alloc, settings, input, problem, answer)
-}
-
-// The reply to all bytes of an input.
-fn reply_to_bytes(
-    alloc: Global,
-    settings: Settings,
-    input: Input<'_>,
-    notes: &mut Vec<u8>,
-) -> Result<Reply, NoMemory>
-    requires settings { AreSettings settings }
-    requires few { length input.bytes.now ≤ MOST_PROBLEM }
-    ensures due { IfOk result (IsDueReply settings input.entry.name.now input.entry.bytes.now) }
-    ensures short { IfOk result IsShort }
-{
-    match read_whole(alloc, input.bytes) {
-        Ok(problem) => {
-            note_warnings(alloc, notes, input, &problem, settings.warns)?;
-            reply_to_problem(alloc, settings, input, &problem)
-        }
-        Err(ReadError::At { kind, line, column }) => {
-            note_refusal(alloc, notes, input, kind, line, column)?;
-            Ok(Reply::Nothing)
-        }
-        Err(ReadError::NoMemory) => Err(NoMemory),
+    match show_front(alloc, settings, problem, sink, watch) {
+        Ok(answer) => match show_last(alloc, settings, input, problem, answer, watch) {
+            Ok(reply) => Ok(reply),
+            Err(NoMemory) => Err(ReplyError::NoMemory),
+        },
+        Err(error) => Err(error),
     }
 }
 
-// The reply to an input, or why there is none.
-#[tactic(auto, using(crate::proofs::DueLaws::long_due))]
-fn reply_to<I: Source>(
+// The reply to all bytes of an input, behind what is shown as it goes.
+#[tactic(auto, using(crate::proofs::DueLaws::shown_for, crate::proofs::DueLaws::not_read, crate::proofs::DueLaws::unread_shown, crate::proofs::EndLaws::nothing_ended))]
+fn reply_to_bytes<O: Sink, W: Company>(
+    alloc: Global,
+    settings: Settings,
+    input: Input<'_>,
+    sink: &mut O,
+    watch: &mut W,
+) -> Result<Reply, ReplyError>
+    requires settings { AreSettings settings }
+    requires few { length input.bytes.now ≤ MOST_PROBLEM }
+    ensures shown { ShowsFor O.Sink sink.old sink.new settings input.entry result }
+    ensures short { IfOk result (IsShort settings.is_timed) }
+    ensures read { result ≢ Err errors.ReadFault }
+    ensures faults { CountsShown result (O.faults sink.old) (O.faults sink.new) }
+{
+    match read_whole(alloc, input.bytes) {
+        Ok(problem) => {
+            let Ok(text) = warnings_noted(alloc, input, &problem, settings.warns) else {
+                return Err(ReplyError::NoMemory);
+            };
+            watch.note(&text);
+            reply_to_problem(alloc, settings, input, &problem, sink, watch)
+        }
+        Err(ReadError::At { kind, line, column }) => {
+            let Ok(text) = refusal_noted(alloc, input, kind, line, column) else {
+                return Err(ReplyError::NoMemory);
+            };
+            watch.note(&text);
+            Ok(Reply::Nothing)
+        }
+        Err(ReadError::NoMemory) => Err(ReplyError::NoMemory),
+    }
+}
+
+// The reply to an input behind what is shown as it goes, or why there is none.
+#[tactic(auto, using(crate::proofs::DueLaws::input_shown, crate::proofs::DueLaws::nothing_read, crate::proofs::DueLaws::nothing_kept, crate::proofs::DueLaws::long_shown, crate::proofs::DueLaws::reads_counted_by))]
+fn reply_to<I: Source, O: Sink, W: Company>(
     alloc: Global,
     settings: Settings,
     name: &str,
     source: &mut I,
-    notes: &mut Vec<u8>,
+    sink: &mut O,
+    watch: &mut W,
 ) -> Result<Reply, ReplyError>
     requires settings { AreSettings settings }
-    ensures due { IfOk result (IsDueFor settings name.now (I.left source.old)) }
-    ensures short { IfOk result IsShort }
-    ensures faults { CountsReads (I.faults source.old) (I.faults source.new) (status_with result) }
+    ensures shown { ShowsLeft I.Source O.Sink source.old sink.old sink.new settings name.now
+        result }
+    ensures short { IfOk result (IsShort settings.is_timed) }
+    ensures silent { result ≡ Err errors.ReadFault → sink.new ≡ sink.old }
+    ensures reads { CountsReadsBy I.Source source.old source.new settings.is_timed result }
+    ensures faults { CountsShown result (O.faults sink.old) (O.faults sink.new) }
 {
     match read_all(alloc, source, MOST_PROBLEM) {
         Ok(bytes) => {
@@ -85,10 +113,13 @@ fn reply_to<I: Source>(
                 name,
                 bytes: &bytes,
             };
-            Ok(reply_to_bytes(alloc, settings, input, notes)?)
+            reply_to_bytes(alloc, settings, input, sink, watch)
         }
         Err(ReadAllError::TooLong { .. }) => {
-            note_length(alloc, notes, name, MOST_PROBLEM)?;
+            let Ok(text) = length_noted(alloc, name, MOST_PROBLEM) else {
+                return Err(ReplyError::NoMemory);
+            };
+            watch.note(&text);
             Ok(Reply::Nothing)
         }
         Err(ReadAllError::Fault) => Err(ReplyError::ReadFault),
@@ -96,27 +127,28 @@ fn reply_to<I: Source>(
     }
 }
 
-/// Answers an input: reads it whole, writes what is shown of the answer to one sink, and its report
-/// to another where that is wanted. Messages and warnings for people are noted apart, under the
-/// input's name.
-#[tactic(auto, using(crate::proofs::RunLaws::reply_asked, crate::proofs::RunLaws::reply_cut, crate::proofs::RunLaws::report_cut, crate::proofs::RunLaws::not_silent, crate::proofs::RunLaws::has_report, crate::proofs::RunLaws::writes_counted, crate::proofs::RunLaws::reports_counted, crate::proofs::RunLaws::reads_counted, crate::proofs::RunLaws::reads_same))]
-pub fn ask<I: Source, O: Sink, R: Sink>(
+/// Answers an input: reads it whole, and writes what is shown of the answer to one sink, piece by
+/// piece as soon as each is done, and its report to another where that is wanted. The watch tells
+/// whether time is over; it is told messages and warnings, under the input's name, and how far the
+/// answer is.
+pub fn ask<I: Source, O: Sink, R: Sink, W: Company>(
     alloc: Global,
     settings: Settings,
     name: &str,
     source: &mut I,
     sinks: &mut Sinks<O, R>,
-    notes: &mut Vec<u8>,
+    watch: &mut W,
 ) -> Status
     requires settings { AreSettings settings }
 
     // What is written for the bytes that the source tells that it had left: an answer that is valid
-    // and right for the problem that they spell, and nothing of a part that isn't judged.
+    // and right for the problem that they spell, and nothing of a part that isn't judged; where
+    // memory ran out or a write failed, the front of such an answer.
     ensures due { Asked I.Source O.Sink R.Sink settings name.now source.old sinks.old sinks.new
         result }
 
-    // Nothing is written where a read failed or memory ran out, and no report where what is shown
-    // could not be written.
+    // Nothing is written where a read failed, and no report where what is shown could not be
+    // written, or memory ran out.
     ensures silent { IsSilent result → sinks.new ≡ sinks.old }
     ensures unreported { HasNoReport result → sinks.new.report ≡ sinks.old.report }
 
@@ -127,13 +159,15 @@ pub fn ask<I: Source, O: Sink, R: Sink>(
     ensures reports { CountsReports (R.faults sinks.old.report) (R.faults sinks.new.report)
         result }
 {
-    let reply = match reply_to(alloc, settings, name, source, notes) {
+    let timed = settings.is_timed;
+    let reply = match reply_to(alloc, settings, name, source, &mut sinks.shown, watch) {
         Ok(reply) => reply,
         Err(error) => return error.status(),
     };
-    match write_shown(alloc, &mut sinks.shown, &reply) {
-        Ok(()) => match write_beside(alloc, &mut sinks.report, settings.reports, &reply) {
-            Ok(()) => reply.status(),
+    watch.clear();
+    match write_last(alloc, &mut sinks.shown, timed, &reply) {
+        Ok(()) => match write_beside(alloc, &mut sinks.report, settings.reports, timed, &reply) {
+            Ok(()) => reply.status(timed),
             Err(_) => Status::ReportFault,
         },
         Err(_) => Status::WriteFault,

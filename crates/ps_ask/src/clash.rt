@@ -1,59 +1,146 @@
-//! Which sentences of a problem clash.
-ghost use Rattle.std.specs.Prelude.{IfOk};
-ghost use Rattle.ps_generation.specs.Phases.{AreLimits};
+//! Which sentences of a problem clash, and what is left without each of them.
+ghost use Rattle.std.specs.Prelude.{◌≡◌, true, All, IfOk, map};
 ghost use Rattle.ps_valid.specs.Answers.{IsRightOf};
-ghost use Rattle.ps_explain.specs.Explanations.{IsRightExplanation};
-ghost use Rattle.ps_ask.specs.Clashes.{IsClashAt, IsFoundClash, IsShownInconsistent};
+ghost use Rattle.ps_ask.specs.Shown.{AreSettings};
+ghost use Rattle.ps_ask.specs.Clashes.{IsClashAt, IsCoreFor, IsFoundClash, IsRestFor, IsRestOf};
+ghost use Rattle.ps_ask.specs.Clashes.{IsShownInconsistent, number_of};
 
+use crate::cores::{Core, core_at_once, core_in_time};
+use crate::settings::Settings;
 use ps_answer::{Answer, Verdict};
 use ps_engine::Engine;
-use ps_explain::{Explained, explain};
-use ps_guided::Limits;
-use ps_io::NoMemory;
+use ps_explain::verdict_without;
+use ps_guided::{Guesser, InTime, Watch, limits_at};
+use ps_io::{List, NoMemory};
 use ps_problem::Problem;
-use ps_spoken::Clash;
+use ps_spoken::{Clash, Clashing, out_of_time};
 use std::alloc::Global;
 
-// What an explanation says of sentences that clash, where some do.
-#[tactic(auto, using(crate::proofs::ClashLaws::core_found, crate::proofs::ClashLaws::open_found, crate::proofs::ClashLaws::none_consistent))]
-fn clash_of(problem: &Problem, limits: Limits, explained: Explained) -> Clash
-    requires right { IsRightExplanation limits problem.now explained }
-    requires inconsistent { IsShownInconsistent problem.now }
-    ensures { IsFoundClash limits problem.now result }
+// What the problem comes to without a sentence, where time is limited: no more than a short run
+// stands behind the guesses.
+#[tactic(auto, using(crate::proofs::ClashLaws::rest_met, crate::proofs::ClashLaws::rest_not_met, crate::proofs::ClashLaws::rest_late))]
+fn rest_in_time<G: Guesser>(
+    alloc: Global,
+    problem: &Problem,
+    settings: Settings,
+    number: u32,
+    guesser: &mut G,
+) -> Result<Verdict, NoMemory>
+    requires settings { AreSettings settings }
+    requires timed { settings.is_timed ≡ true }
+    ensures { IfOk result (IsRestOf settings problem.now number) }
 {
-    match explained {
-        Explained::Core { sentences, .. } => Clash::Irreducible(sentences),
-        Explained::Open { cause, .. } => Clash::Open(cause),
-        Explained::Consistent(_) => unreachable!(),
+    let limits = limits_at(settings.limits, 0);
+    match verdict_without(alloc, problem, limits, number, guesser)? {
+        Verdict::Consistent(model) => Ok(Verdict::Consistent(model)),
+        Verdict::Inconsistent(dual) => Ok(Verdict::Inconsistent(dual)),
+        Verdict::Open(_) => Ok(Verdict::Open(out_of_time())),
+    }
+}
+
+// What the problem comes to without a sentence.
+#[tactic(auto, using(crate::proofs::ClashLaws::rest_by))]
+fn rest_of<G: Guesser>(
+    alloc: Global,
+    problem: &Problem,
+    settings: Settings,
+    number: u32,
+    guesser: &mut G,
+) -> Result<Verdict, NoMemory>
+    requires settings { AreSettings settings }
+    ensures { IfOk result (IsRestOf settings problem.now number) }
+{
+    if settings.is_timed {
+        return rest_in_time(alloc, problem, settings, number, guesser);
+    }
+    verdict_without(alloc, problem, settings.limits, number, guesser)
+}
+
+// These sentences, each with what the problem comes to without it.
+fn with_rests<G: Guesser>(
+    alloc: Global,
+    problem: &Problem,
+    settings: Settings,
+    numbers: &[u32],
+    guesser: &mut G,
+) -> Result<List<Clashing>, NoMemory>
+    requires settings { AreSettings settings }
+    ensures numbers { IfOk result (λ clashing. map number_of clashing ≡ numbers.now) }
+    ensures rests { IfOk result (All (IsRestFor settings problem.now)) }
+{
+    let mut clashing = List::new(alloc);
+    for number in numbers {
+        let number = *number;
+        let rest = rest_of(alloc, problem, settings, number, guesser)?;
+        clashing.push(Clashing { number, rest })?;
+    }
+    Ok(clashing)
+}
+
+// The clash of sentences that can't be met together, or what stopped the search for it.
+#[tactic(auto, using(crate::proofs::ClashLaws::clash_found, crate::proofs::ClashLaws::clash_open))]
+fn clash_of<G: Guesser>(
+    alloc: Global,
+    problem: &Problem,
+    settings: Settings,
+    core: Core,
+    guesser: &mut G,
+) -> Result<Clash, NoMemory>
+    requires settings { AreSettings settings }
+    requires core { IsCoreFor settings problem.now core }
+    ensures { IfOk result (IsFoundClash settings problem.now) }
+{
+    match core {
+        Core::Found(numbers) => {
+            let numbers = numbers.as_slice();
+            let clashing = with_rests(alloc, problem, settings, numbers, guesser)?;
+            Ok(Clash::Irreducible(clashing))
+        }
+        Core::Open(cause) => Ok(Clash::Open(cause)),
     }
 }
 
 // Which sentences of an inconsistent problem clash.
-fn find_clash(alloc: Global, problem: &Problem, limits: Limits) -> Result<Clash, NoMemory>
-    requires limits { AreLimits limits }
+fn clash_for<W: Watch>(
+    alloc: Global,
+    problem: &Problem,
+    settings: Settings,
+    watch: &mut W,
+) -> Result<Clash, NoMemory>
+    requires settings { AreSettings settings }
     requires inconsistent { IsShownInconsistent problem.now }
-    ensures { IfOk result (IsFoundClash limits problem.now) }
+    ensures { IfOk result (IsFoundClash settings problem.now) }
 {
     let mut engine = Engine::new(alloc, problem)?;
-    let explained = explain(alloc, problem, limits, &mut engine)?;
-    Ok(clash_of(problem, limits, explained))
+    if !settings.is_timed {
+        let core = core_at_once(alloc, problem, settings, &mut engine)?;
+        return clash_of(alloc, problem, settings, core, &mut engine);
+    }
+    let mut timed = InTime {
+        guesser: &mut engine,
+        watch,
+    };
+    let core = core_in_time(alloc, problem, settings, &mut timed)?;
+    clash_of(alloc, problem, settings, core, &mut timed)
 }
 
 /// Which sentences of a problem clash, where the answer to it is that they are inconsistent: some
-/// that can't be met together, each of which is needed for it; or what stopped the search for them.
+/// that can't be met together, each of which is needed for it, with what the problem comes to
+/// without it; or what stopped the search for them.
 #[tactic(auto, using(crate::proofs::ClashLaws::inconsistent_is, crate::proofs::ClashLaws::clash_at, crate::proofs::ClashLaws::no_clash_consistent, crate::proofs::ClashLaws::no_clash_open))]
-pub fn clash_in(
+pub fn clash_in<W: Watch>(
     alloc: Global,
     problem: &Problem,
-    limits: Limits,
+    settings: Settings,
     answer: &Answer,
+    watch: &mut W,
 ) -> Result<Option<Clash>, NoMemory>
-    requires limits { AreLimits limits }
+    requires settings { AreSettings settings }
     requires right { IsRightOf problem.now answer.now }
-    ensures { IfOk result (IsClashAt limits problem.now answer.now.verdict) }
+    ensures { IfOk result (IsClashAt settings problem.now answer.now.verdict) }
 {
     match &answer.verdict {
-        Verdict::Inconsistent(_) => Ok(Some(find_clash(alloc, problem, limits)?)),
+        Verdict::Inconsistent(_) => Ok(Some(clash_for(alloc, problem, settings, watch)?)),
         Verdict::Consistent(_) | Verdict::Open(_) => Ok(None),
     }
 }

@@ -4,9 +4,14 @@
 mod answered;
 mod answering;
 mod clash;
+mod company;
+mod cores;
+mod fronts;
+mod judged;
+mod late;
 mod laws;
-mod lines;
 mod notes;
+mod pieces;
 mod reply;
 mod settings;
 mod shown;
@@ -15,7 +20,9 @@ mod status;
 mod writing;
 
 pub use answering::{MOST_PROBLEM, ask};
+pub use company::Company;
 pub use laws::bounds_have_decimals;
+pub use ps_guided::Watch;
 pub use settings::{Settings, Style};
 pub use sinks::Sinks;
 pub use status::Status;

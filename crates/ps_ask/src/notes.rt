@@ -14,43 +14,34 @@ pub struct Input<'a> {
     pub bytes: &'a [u8],
 }
 
-/// Notes why the bytes are no problem.
-pub fn note_refusal(
+/// What is noted where the bytes are no problem.
+pub fn refusal_noted(
     alloc: Global,
-    notes: &mut Vec<u8>,
     input: Input<'_>,
     kind: ReadKind,
     line: u32,
     column: u32,
-) -> Result<(), NoMemory> {
+) -> Result<Vec<u8>, NoMemory> {
     let text = refusal_message(alloc, input.name, input.bytes, kind, line, column)?;
-    notes.extend_from_slice(text.as_bytes())?;
-    Ok(())
+    Ok(Vec::from_slice(alloc, text.as_bytes())?)
 }
 
-/// Notes that an input has more bytes than the limit.
-pub fn note_length(
-    alloc: Global,
-    notes: &mut Vec<u8>,
-    name: &str,
-    limit: u64,
-) -> Result<(), NoMemory> {
+/// What is noted of an input with more bytes than the limit.
+pub fn length_noted(alloc: Global, name: &str, limit: u64) -> Result<Vec<u8>, NoMemory> {
     let text = format!(in alloc; "{name}: the input has more than {limit} bytes\n")?;
-    notes.extend_from_slice(text.as_bytes())?;
-    Ok(())
+    Ok(Vec::from_slice(alloc, text.as_bytes())?)
 }
 
-/// Notes the warnings about a problem, where they are wanted.
-pub fn note_warnings(
+/// The warnings about a problem, where they are wanted.
+pub fn warnings_noted(
     alloc: Global,
-    notes: &mut Vec<u8>,
     input: Input<'_>,
     problem: &Problem,
     wanted: bool,
-) -> Result<(), NoMemory> {
+) -> Result<Vec<u8>, NoMemory> {
+    let mut notes = Vec::new(alloc);
     if wanted {
-        write_warnings(alloc, notes, input.name, input.bytes, problem)
-    } else {
-        Ok(())
+        write_warnings(alloc, &mut notes, input.name, input.bytes, problem)?;
     }
+    Ok(notes)
 }

@@ -1,4 +1,4 @@
-//! What is to be written, or why nothing is.
+//! What is to be written at the end, or why nothing is.
 ghost use Rattle.std.specs.Prelude.{◌≡◌};
 ghost use Rattle.ps_ask.specs.Replies as replies;
 
@@ -7,26 +7,26 @@ use crate::status::Status;
 use ps_answer::Answer;
 use ps_io::NoMemory;
 
-/// What is to be written.
+/// What is to be written at the end.
 #[derive(Drop)]
 pub enum Reply {
     /// Nothing: the input is too long, or no problem.
     Nothing,
-    /// An answer, in words or another text.
+    /// Of an answer that was shown as it went, or not, what is shown at the end.
     Text { answer: Answer, text: Vec<u8> },
     /// An answer, by its report.
     Report(Answer),
 }
 
 impl Reply {
-    /// The status after it.
-    pub fn status(&self) -> Status
-        ensures { result ≡ replies.status_of self.now }
+    /// The status after it, where time was limited or not.
+    pub fn status(&self, timed: bool) -> Status
+        ensures { result ≡ replies.status_of timed self.now }
     {
         match self {
             Reply::Nothing => Status::Unreadable,
-            Reply::Text { answer, .. } => status_of(answer),
-            Reply::Report(answer) => status_of(answer),
+            Reply::Text { answer, .. } => status_of(timed, answer),
+            Reply::Report(answer) => status_of(timed, answer),
         }
     }
 }
@@ -36,6 +36,8 @@ impl Reply {
 pub enum ReplyError {
     /// A read failed.
     ReadFault,
+    /// What is shown could not be written whole.
+    WriteFault,
     /// There was not enough memory.
     NoMemory,
 }
@@ -47,6 +49,7 @@ impl ReplyError {
     {
         match self {
             ReplyError::ReadFault => Status::ReadFault,
+            ReplyError::WriteFault => Status::WriteFault,
             ReplyError::NoMemory => Status::NoMemory,
         }
     }

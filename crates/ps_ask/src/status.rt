@@ -12,6 +12,8 @@ pub enum Status {
     Unreadable,
     /// Some part of the answer is open.
     Unfinished,
+    /// Time was over before the answer was whole. There is no report of it.
+    Late,
     /// A read failed.
     ReadFault,
     /// What is shown could not be written whole.
@@ -33,7 +35,7 @@ impl Status {
             Status::Done => 0,
             Status::Inconsistent => 1,
             Status::Unreadable => 3,
-            Status::Unfinished => 4,
+            Status::Unfinished | Status::Late => 4,
             Status::ReadFault => 5,
             Status::WriteFault | Status::ReportFault => 6,
             Status::NoMemory => 7,

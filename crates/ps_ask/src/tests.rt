@@ -1,8 +1,8 @@
 //! Whole inputs, with what is shown of their answers.
 ghost use Rattle.ps_ask.specs.Shown.{AreSettings};
 
-use crate::{Settings, Sinks, Status, Style, ask};
-use ps_guided::Limits;
+use crate::{Company, Settings, Sinks, Status, Style, ask};
+use ps_guided::{Limits, Watch};
 use ps_io::{MemSink, MemSource};
 use std::alloc::Global;
 use std::test::*;
@@ -65,14 +65,14 @@ const CLASH_WORDS: &str = "inconsistent: no distribution meets all sentences
 these sentences clash:
   sentence 1, line 1: P(a) = 1;
   sentence 3, line 4: P(!a) >= 1/2;
-leave any one of them out, and the others no longer clash
+leave any one of them out, and all the others can be met together
 ";
 
 const CLASH_OBJECT: &str = concat!(
     "{\"file\":\"f\",\"verdict\":\"inconsistent\",\"why\":null,\"queries\":[],",
     "\"clash\":{\"irreducible\":true,\"why\":null,\"sentences\":[",
-    "{\"number\":1,\"line\":1,\"text\":\"P(a) = 1;\"},",
-    "{\"number\":3,\"line\":4,\"text\":\"P(!a) >= 1/2;\"}]},",
+    "{\"number\":1,\"line\":1,\"text\":\"P(a) = 1;\",\"without\":\"met\"},",
+    "{\"number\":3,\"line\":4,\"text\":\"P(!a) >= 1/2;\",\"without\":\"met\"}]},",
     "\"counts\":{\"atoms\":2,\"sentences\":3,\"bounds\":3,\"queries\":1,\"open\":0},",
     "\"status\":1}\n",
 );
@@ -99,7 +99,35 @@ fn settings(style: Style) -> Settings
         style,
         reports: true,
         warns: true,
+        is_timed: false,
     }
+}
+
+// Time is over once this was asked so often; what is noted is kept.
+#[derive(Drop)]
+struct Asked {
+    left: u32,
+    notes: Vec<u8>,
+}
+
+impl Watch for Asked {
+    fn is_over(&mut self) -> bool {
+        if self.left == 0 {
+            return true;
+        }
+        self.left -= 1;
+        false
+    }
+}
+
+impl Company for Asked {
+    fn note(&mut self, text: &[u8]) {
+        let _ = self.notes.extend_from_slice(text);
+    }
+
+    fn tell(&mut self, _: usize, _: usize) {}
+
+    fn clear(&mut self) {}
 }
 
 // What is asked, and what is to be shown and noted, with the status.
@@ -173,18 +201,28 @@ const ROWS: [Row; 8] = [
 fn shows(alloc: Global, settings: Settings, row: &Row) -> Result<bool, Fail>
     requires { AreSettings settings }
 {
+    shows_in_time(alloc, settings, 0, row)
+}
+
+// Whether it is shown where time is over once it was asked so often.
+fn shows_in_time(alloc: Global, settings: Settings, left: u32, row: &Row) -> Result<bool, Fail>
+    requires { AreSettings settings }
+{
     let bytes = Vec::from_slice(alloc, row.text)?;
     let mut source = MemSource::new(bytes, 7, Vec::new(alloc));
     let mut sinks = Sinks {
         shown: MemSink::new(alloc, 8, Vec::new(alloc), 10_000)?,
         report: MemSink::new(alloc, 8, Vec::new(alloc), 10_000)?,
     };
-    let mut notes = Vec::new(alloc);
-    let status = ask(alloc, settings, "f", &mut source, &mut sinks, &mut notes);
+    let mut watch = Asked {
+        left,
+        notes: Vec::new(alloc),
+    };
+    let status = ask(alloc, settings, "f", &mut source, &mut sinks, &mut watch);
     Ok(
         status == row.status
             && sinks.shown.bytes() == row.shown.as_bytes()
-            && notes.as_slice() == row.noted.as_bytes(),
+            && watch.notes.as_slice() == row.noted.as_bytes(),
     )
 }
 
@@ -213,5 +251,102 @@ fn an_open_answer_tells_what_stopped_it(rt: HostRuntime) -> Result<(), Fail> {
         conflicts: 0,
     };
     assert!(rt; shows(rt.alloc(), none, &OPEN)?);
+    Ok(())
+}
+
+// Time is over before anything was begun, and behind the verdict.
+const LATE_VERDICT: Row = Row {
+    text: PROBLEM,
+    style: Style::Words,
+    shown: "open: whether a distribution meets all sentences isn't known; \
+        not finished within the time limit; allow more by --time-limit\n",
+    noted: WARNING,
+    status: Status::Late,
+};
+
+const LATE_PARTS: Row = Row {
+    text: PROBLEM,
+    style: Style::Words,
+    shown: "consistent: some distribution meets all sentences
+P(wet)
+  open: not finished within the time limit; allow more by --time-limit
+P(rain & wet)
+  open: not finished within the time limit; allow more by --time-limit
+P(dry given rain & !rain)
+  open: not finished within the time limit; allow more by --time-limit
+P(rain)
+  open: not finished within the time limit; allow more by --time-limit
+",
+    noted: WARNING,
+    status: Status::Late,
+};
+
+const LATE_VALUES: Row = Row {
+    text: PROBLEM,
+    style: Style::Values,
+    shown: "consistent\n? ?\n? ?\n? ?\n? ?\n",
+    noted: WARNING,
+    status: Status::Late,
+};
+
+const LATE_REPORT: Row = Row {
+    text: PROBLEM,
+    style: Style::Report,
+    shown: "",
+    noted: WARNING,
+    status: Status::Late,
+};
+
+fn timed(style: Style) -> Settings
+    ensures { AreSettings result }
+{
+    Settings {
+        is_timed: true,
+        ..settings(style)
+    }
+}
+
+#[test]
+fn what_is_not_finished_in_time_is_named(rt: HostRuntime) -> Result<(), Fail> {
+    let alloc = rt.alloc();
+    assert!(rt; shows_in_time(alloc, timed(Style::Words), 0, &LATE_VERDICT)?);
+    assert!(rt; shows_in_time(alloc, timed(Style::Words), 1, &LATE_PARTS)?);
+    assert!(rt; shows_in_time(alloc, timed(Style::Values), 1, &LATE_VALUES)?);
+    assert!(rt; shows_in_time(alloc, timed(Style::Report), 1, &LATE_REPORT)?);
+    Ok(())
+}
+
+#[test]
+fn all_is_finished_where_time_is_left(rt: HostRuntime) -> Result<(), Fail> {
+    for row in &ROWS {
+        assert!(rt; shows_in_time(rt.alloc(), timed(row.style), 100_000, row)?);
+    }
+    Ok(())
+}
+
+#[test]
+fn a_full_sink_holds_the_front(rt: HostRuntime) -> Result<(), Fail> {
+    let alloc = rt.alloc();
+    let bytes = Vec::from_slice(alloc, PROBLEM)?;
+    let mut source = MemSource::new(bytes, 7, Vec::new(alloc));
+    let mut sinks = Sinks {
+        shown: MemSink::new(alloc, 8, Vec::new(alloc), 100)?,
+        report: MemSink::new(alloc, 8, Vec::new(alloc), 10_000)?,
+    };
+    let mut watch = Asked {
+        left: 0,
+        notes: Vec::new(alloc),
+    };
+    let status = ask(
+        alloc,
+        settings(Style::Words),
+        "f",
+        &mut source,
+        &mut sinks,
+        &mut watch,
+    );
+    assert!(rt; status == Status::WriteFault);
+    assert!(rt; sinks.shown.bytes() == &WORDS.as_bytes()[..100]);
+    assert!(rt; sinks.report.bytes().is_empty());
     Ok(())
 }

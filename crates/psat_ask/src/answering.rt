@@ -1,6 +1,7 @@
 //! Answers problems one after the other.
 ghost use Rattle.ps_ask.specs.Shown.{AreSettings};
 
+use crate::company::Beside;
 use crate::request::Asked;
 use ps_ask::{Sinks, Status, Style, ask};
 use ps_io::{MemSink, Sink, Source, StdSink, StdSource, write_all};
@@ -18,12 +19,13 @@ fn tell(rt: &HostRuntime, name: &str, failure: &str) {
 }
 
 // Tells what failed in the answer to an input.
-fn tell_status(rt: &HostRuntime, name: &str, report: &str, status: Status) {
+fn tell_status(rt: &HostRuntime, name: &str, report: &str, reports: bool, status: Status) {
     match status {
         Status::ReadFault => tell(rt, name, "reading failed"),
         Status::WriteFault => tell(rt, OUTPUT, "writing failed"),
         Status::ReportFault => tell(rt, report, "writing failed"),
         Status::NoMemory => tell(rt, name, "not enough memory"),
+        Status::Late if reports => tell(rt, name, "no report: not finished within the time limit"),
         _ => {}
     }
 }
@@ -38,17 +40,19 @@ fn answer_to<I: Source, R: Sink + Drop>(
 ) -> Status
     requires { AreSettings asked.now.settings }
 {
-    let alloc = rt.alloc();
-    let mut notes = Vec::new(alloc);
     let mut sinks = Sinks {
         shown: StdSink::new(rt.stdout()),
         report,
     };
-    let status = ask(alloc, asked.settings, name, source, &mut sinks, &mut notes);
-    if let Ok(text) = str::from_utf8(&notes) {
-        let _ = eprint!(rt; "{text}");
-    }
-    status
+    let mut beside = Beside::new(rt, asked.seconds);
+    ask(
+        rt.alloc(),
+        asked.settings,
+        name,
+        source,
+        &mut sinks,
+        &mut beside,
+    )
 }
 
 // Answers an input, with its report to a file where one is wanted.
@@ -58,11 +62,12 @@ fn answer_source<I: Source>(rt: &HostRuntime, asked: &Asked, name: &str, source:
     let alloc = rt.alloc();
     let Some(file) = &asked.report else {
         let Ok(none) = MemSink::new(alloc, 1, Vec::new(alloc), 0) else {
-            tell_status(rt, name, OUTPUT, Status::NoMemory);
+            tell(rt, name, "not enough memory");
             return Status::NoMemory.number();
         };
         let status = answer_to(rt, asked, name, source, none);
-        tell_status(rt, name, OUTPUT, status);
+        let reports = asked.settings.style == Style::Report;
+        tell_status(rt, name, OUTPUT, reports, status);
         return status.number();
     };
     let Ok(created) = File::create(rt, file.as_str()) else {
@@ -70,7 +75,7 @@ fn answer_source<I: Source>(rt: &HostRuntime, asked: &Asked, name: &str, source:
         return Status::ReportFault.number();
     };
     let status = answer_to(rt, asked, name, source, StdSink::new(created));
-    tell_status(rt, name, file.as_str(), status);
+    tell_status(rt, name, file.as_str(), true, status);
     status.number()
 }
 

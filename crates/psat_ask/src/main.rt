@@ -2,6 +2,7 @@
 #![tactic(auto)]
 
 mod answering;
+mod company;
 mod options;
 mod refused;
 mod request;

@@ -2,12 +2,15 @@
 ghost use Rattle.std.specs.Prelude.{◌≡◌, ◌≤◌, IfSome};
 ghost use Rattle.ps_ask.specs.Shown.{AreSettings};
 
-use crate::texts::{NO_REPORT, WRONG_CONFLICTS, WRONG_DIGITS, WRONG_PIVOTS};
+use crate::texts::{NO_REPORT, WRONG_CONFLICTS, WRONG_DIGITS, WRONG_PIVOTS, WRONG_TIME};
 use ps_answer::MOST_PIVOTS;
 use ps_ask::{Settings, Style};
 use ps_decimal::MOST_DIGITS;
 use ps_guided::Limits;
 use ps_log::MOST_CONFLICTS;
+
+/// The most seconds of a limit of time.
+const MOST_SECONDS: u64 = 86_400;
 
 /// An option with a value.
 #[derive(Clone, Copy, Debug, PartialEq, Eq)]
@@ -20,6 +23,8 @@ pub enum Valued {
     Conflicts,
     /// Where the report goes.
     Report,
+    /// How many seconds a problem may take.
+    TimeLimit,
 }
 
 impl Valued {
@@ -30,6 +35,7 @@ impl Valued {
             Valued::Pivots => WRONG_PIVOTS,
             Valued::Conflicts => WRONG_CONFLICTS,
             Valued::Report => NO_REPORT,
+            Valued::TimeLimit => WRONG_TIME,
         }
     }
 }
@@ -41,6 +47,7 @@ pub fn option_named(word: &str) -> Option<Valued> {
         "--pivots" => Some(Valued::Pivots),
         "--conflicts" => Some(Valued::Conflicts),
         "--report" => Some(Valued::Report),
+        "--time-limit" => Some(Valued::TimeLimit),
         _ => None,
     }
 }
@@ -58,6 +65,7 @@ pub fn default_settings() -> Settings
         style: Style::Words,
         reports: false,
         warns: true,
+        is_timed: false,
     }
 }
 
@@ -114,6 +122,12 @@ fn with_conflicts(settings: Settings, word: &str) -> Option<Settings>
     })
 }
 
+/// The seconds of a limit of time.
+pub fn seconds_of(word: &str) -> Option<u64> {
+    let seconds = number_upto(word, MOST_SECONDS)?;
+    if seconds == 0 { None } else { Some(seconds) }
+}
+
 /// The settings with the value of an option.
 pub fn with_value(settings: Settings, option: Valued, word: &str) -> Option<Settings>
     requires { AreSettings settings }
@@ -123,7 +137,7 @@ pub fn with_value(settings: Settings, option: Valued, word: &str) -> Option<Sett
         Valued::Digits => with_digits(settings, word),
         Valued::Pivots => with_pivots(settings, word),
         Valued::Conflicts => with_conflicts(settings, word),
-        Valued::Report => None,
+        Valued::Report | Valued::TimeLimit => None,
     }
 }
 

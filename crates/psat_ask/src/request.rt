@@ -3,9 +3,9 @@ ghost use Rattle.std.specs.Prelude.{IfOk, IfSome};
 ghost use Rattle.ps_ask.specs.Shown.{AreSettings};
 ghost use Rattle.psat_ask.specs.Requests.{HasSettings};
 
-use crate::options::{Valued, default_settings, option_named, with_style, with_value};
+use crate::options::{Valued, default_settings, option_named, seconds_of, with_style, with_value};
 use crate::refused::Refused;
-use crate::texts::{NO_REPORT, ONE_REPORT, STYLES};
+use crate::texts::{NO_REPORT, ONE_REPORT, STYLES, WRONG_TIME};
 use ps_ask::{Settings, Style};
 use std::alloc::Global;
 
@@ -27,6 +27,8 @@ pub struct Asked {
     pub settings: Settings,
     /// The file of the report, where one is wanted beside what is shown.
     pub report: Option<String>,
+    /// How many seconds a problem may take, where that is limited.
+    pub seconds: Option<u64>,
     /// The files of the problems; `-` is standard input.
     pub files: Vec<String>,
 }
@@ -72,6 +74,19 @@ impl Reading {
         Ok(())
     }
 
+    // Sets a limit of time.
+    fn time_limit(&mut self, value: &str) -> Result<(), Refused>
+        requires { AreSettings self.old.asked.settings }
+        ensures { AreSettings self.new.asked.settings }
+    {
+        let Some(seconds) = seconds_of(value) else {
+            return Err(Refused::Wrong(WRONG_TIME));
+        };
+        self.asked.seconds = Some(seconds);
+        self.asked.settings.is_timed = true;
+        Ok(())
+    }
+
     // Sets the value of an option.
     fn value(&mut self, alloc: Global, option: Valued, value: &str) -> Result<(), Refused>
         requires { AreSettings self.old.asked.settings }
@@ -79,6 +94,9 @@ impl Reading {
     {
         if option == Valued::Report {
             return self.report(alloc, value);
+        }
+        if option == Valued::TimeLimit {
+            return self.time_limit(value);
         }
         match with_value(self.asked.settings, option, value) {
             Some(settings) => {
@@ -169,6 +187,7 @@ pub fn request_of(alloc: Global, words: &[String]) -> Result<Request, Refused>
         asked: Asked {
             settings: default_settings(),
             report: None,
+            seconds: None,
             files: Vec::new(alloc),
         },
         pending: None,

@@ -6,7 +6,7 @@ ghost use Rattle.psat_ask.specs.Requests.{HasSettings};
 
 use crate::request::{Asked, Request, request_of};
 use ps_answer::Answer;
-use ps_ask::{Settings, Sinks, Status, Style, ask};
+use ps_ask::{Company, Settings, Sinks, Status, Style, Watch, ask};
 use ps_io::{MemSink, MemSource, NoMemory};
 use ps_read::read_whole;
 use ps_reader::read_report;
@@ -209,6 +209,24 @@ fn other_words_are_refused(rt: HostRuntime) {
 
 const PROBLEM: &[u8] = b"psat 1; P(a) in [1/3, 1/2]; P(b given a) >= 2/3; query P(b); end;";
 
+/// Nothing is beside an answer: no clock, and nobody is told.
+#[derive(Drop)]
+struct Alone;
+
+impl Watch for Alone {
+    fn is_over(&mut self) -> bool {
+        false
+    }
+}
+
+impl Company for Alone {
+    fn note(&mut self, _text: &[u8]) {}
+
+    fn tell(&mut self, _done: usize, _of: usize) {}
+
+    fn clear(&mut self) {}
+}
+
 // The ends of an answer in memory.
 fn sinks(alloc: Global) -> Result<Sinks<MemSink, MemSink>, NoMemory> {
     Ok(Sinks {
@@ -236,8 +254,7 @@ fn reported(alloc: Global, words: &[&'static str]) -> Option<Answer>
     let bytes = Vec::from_slice(alloc, PROBLEM).ok()?;
     let mut source = MemSource::new(bytes, 100, Vec::new(alloc));
     let mut sinks = sinks(alloc).ok()?;
-    let mut notes = Vec::new(alloc);
-    let status = ask(alloc, settings, "f", &mut source, &mut sinks, &mut notes);
+    let status = ask(alloc, settings, "f", &mut source, &mut sinks, &mut Alone);
     if status != Status::Done {
         return None;
     }
@@ -262,4 +279,22 @@ fn is_accepted(alloc: Global, words: &[&'static str]) -> bool {
 fn reports_are_accepted(rt: HostRuntime) {
     let alloc = rt.alloc();
     assert!(rt; is_accepted(alloc, &["--report", "r"]) && is_accepted(alloc, &["--report", "-"]));
+}
+
+#[test]
+fn a_limit_of_time_is_asked_for(rt: HostRuntime) -> Result<(), Fail> {
+    let alloc = rt.alloc();
+    let timed = asked(alloc, &["--time-limit", "86400"]).expect(&rt, "answers");
+    assert!(rt; timed.seconds == Some(86_400) && timed.settings.is_timed);
+    let untimed = asked(alloc, &["a"]).expect(&rt, "answers");
+    assert!(rt; untimed.seconds == None && !untimed.settings.is_timed);
+    for words in [
+        ["--time-limit", "0"],
+        ["--time-limit", "86401"],
+        ["--time-limit", "1.5"],
+    ] {
+        let fault = fault(alloc, &words).expect(&rt, "a fault");
+        assert!(rt; fault.as_str() == "--time-limit takes a number of seconds from 1 to 86400");
+    }
+    Ok(())
 }

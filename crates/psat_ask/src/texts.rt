@@ -15,6 +15,7 @@ Options:
   --report -      write that report alone
   --pivots N      the most pivots of a run, 0 to 1000000 (10000)
   --conflicts N   the most conflicts of a search, 0 to 1099511627776 (20000)
+  --time-limit N  begin nothing more after N seconds for a problem, 1 to 86400
   --no-warnings   no warnings
   --help          this text
   --version       the version
@@ -41,6 +42,9 @@ pub const WRONG_PIVOTS: &str = "--pivots takes a number from 0 to 1000000";
 
 /// A limit of conflicts that can't be.
 pub const WRONG_CONFLICTS: &str = "--conflicts takes a number from 0 to 1099511627776";
+
+/// A limit of time that can't be.
+pub const WRONG_TIME: &str = "--time-limit takes a number of seconds from 1 to 86400";
 
 /// A report without a file.
 pub const NO_REPORT: &str = "--report takes a file, or - for standard output";

@@ -1,10 +1,11 @@
-use Rattle.ps_ask.proofs.DueLaws.{short_by, solved_by}
+use Rattle.ps_ask.specs.Fronts.{IsBegunText, begun_text}
+use Rattle.ps_ask.proofs.EndLaws.{some_ended}
+use Rattle.ps_ask.proofs.FrontLaws.{begun_whole}
 use Rattle.ps_ask.proofs.answering.reply_to_problem.Goals as goal
 
-pub returns-clause-solved : goal.returns-clause-solved
-returns-clause-solved c =
-    solved_by c.args.settings c.args.input.name.now c.args.problem.now _ c.show.result c.in_ok-answer.ensures.solution c.show.ensures
-
-pub returns-clause-short : goal.returns-clause-short
-returns-clause-short c =
-    short_by c.args.settings c.args.input.name.now c.args.problem.now _ c.show.result c.in_ok-answer.ensures.short c.show.ensures
+pub returns-in-Err-show_last-clause-ended : goal.returns-in-Err-show_last-clause-ended
+returns-in-Err-show_last-clause-ended g c =
+    let s = c.args.settings in
+    let p = c.args.problem.now in
+    some_ended (IsBegunText s p) (g.O.Sink.written c.args.sink.now) (g.O.Sink.written c.show_front.new.sink) (begun_text s.style s.digits p c.in-Ok.answer)
+    (begun_whole s p c.in-Ok.answer c.in-Ok.ensures.whole) c.in-Ok.ensures.wrote

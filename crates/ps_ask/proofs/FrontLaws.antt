@@ -1,0 +1,233 @@
+-- An answer as it goes.
+use Rattle.std.proofs.Common.{◌≡◌, ◌∙◌, ℕ, zero, suc, ◌+◌, ◌<◌, ◌≤◌, Bool, true, false, List, [], ◌∷◌, ◌++◌, length, take, get_or, refl, sym, ap, subst, append_assoc, append-nil, inl, inr, arith}
+use Rattle.std.specs.Prelude.{◌⊎◌, ◌&&◌, ◌||◌}
+use Rattle.std.specs.List.{AllZip}
+use Rattle.std.proofs.lemmas.List.{take_all}
+use Rattle.std.proofs.lemmas.Slice.Zip.{AllZip-long}
+use Rattle.ps_problem.specs.declared.query.Query.{Query}
+use Rattle.ps_problem.specs.Problems.{Parts, AreParts}
+use Rattle.ps_pool.specs.declared.event.Event.{Event}
+use Rattle.ps_answer.specs.declared.answer.Answer.{Answer}
+use Rattle.ps_answer.specs.declared.answer.QueryPart.{QueryPart}
+use Rattle.ps_answer.specs.declared.answer.Verdict.{Verdict}
+use Rattle.ps_answer.specs.declared.answer.Verdict.TheVariants.{Open}
+use Rattle.ps_claims.specs.Validity.{IsValid, IsValidPart, IsValidVerdict}
+use Rattle.ps_claims.proofs.Valid.{valid-right}
+use Rattle.ps_valid.specs.Answers.{answer_of, part_of, parts_of, verdict_of}
+use Rattle.ps_phases.specs.Verdicts.{asked_after}
+use Rattle.ps_reported.proofs.Reports.{asked_same}
+use Rattle.ps_generation.specs.declared.limits.Limits.{Limits}
+use Rattle.ps_generation.specs.Phases.{AreLimits}
+use Rattle.ps_query.proofs.Loops.{zip_next}
+use Rattle.ps_query.specs.Solutions.{AreShortLines}
+use Rattle.ps_guided.specs.Solutions.{IsAnsweredPart, IsAnsweredVerdict, IsSettledSolution}
+use Rattle.ps_guided.proofs.Settled.{solution, short}
+use Rattle.ps_spoken.specs.Spoken.{spoken, out_of_time, part_text, paired_text}
+use Rattle.ps_spoken.specs.Quiet.{values_of}
+use Rattle.ps_spoken.proofs.Values.{values-push}
+use Rattle.ps_ask.specs.declared.settings.Settings.{Settings}
+use Rattle.ps_ask.specs.declared.settings.Style.{Style}
+use Rattle.ps_ask.specs.declared.settings.Style.TheVariants.{Words, Values, Json, Report}
+use Rattle.ps_ask.specs.Late.{is_late, is_late_answer, is_late_in, is_late_verdict}
+use Rattle.ps_ask.specs.Fronts.{AreShownParts, IsBegunText, IsLatePart, IsLateVerdict, IsShownPart, IsShownVerdict, IsUnderWay, IsWhole, begun_text, part_piece, parts_pieces, verdict_piece}
+use Rattle.ps_ask.specs.Replies.{AreShortInTime, ArePieces, IsPiece, IsVerdictPiece}
+
+-- ---- pieces
+begun_is : (style : Style) (digits : ℕ) (p : Parts) (a : Answer) → begun_text style digits p a ≡ verdict_piece style a.verdict ++ parts_pieces style digits p a.parts
+unfolding spoken values_of
+begun_is Words digits p a = refl
+begun_is Values digits p a = refl
+begun_is Json digits p a = refl
+begun_is Report digits p a = refl
+
+module _ {A B : Type 0} (text : A → B → List ℕ) where
+  paired-none : (xs : List A) → paired_text text xs [] ≡ []
+  paired-none [] = refl
+  paired-none (x ∷ xs) = refl
+
+  paired-next : (xs : List A) (ys : List B) (y : B) (d : A) → length ys < length xs → paired_text text xs (ys ++ y ∷ []) ≡ paired_text text xs ys ++ text (get_or xs (length ys) d) y
+  paired-next [] ys y d lt = absurd (omega (arith, lt))
+  paired-next (x ∷ xs) [] y d lt = ap (λ t. text x y ++ t) (paired-none xs) ∙ append-nil (text x y)
+  paired-next (x ∷ xs) (z ∷ zs) y d lt =
+      ap (λ t. text x z ++ t) (paired-next xs zs y d (omega (arith, lt))) ∙ sym (append_assoc (text x z) (paired_text text xs zs) (text (get_or xs (length zs) d) y))
+
+pub pieces_none : (style : Style) (digits : ℕ) (p : Parts) → parts_pieces style digits p [] ≡ []
+pieces_none Words digits p = paired-none (part_text digits p) p.queries
+pieces_none Values digits p = refl
+pieces_none Json digits p = refl
+pieces_none Report digits p = refl
+
+pieces_next : (style : Style) (digits : ℕ) (p : Parts) (parts : List QueryPart) (part : QueryPart) (d : Query) → length parts < length p.queries
+    → parts_pieces style digits p (parts ++ part ∷ []) ≡ parts_pieces style digits p parts ++ part_piece style digits p (get_or p.queries (length parts) d) part
+pieces_next Words digits p parts part d lt = paired-next (part_text digits p) p.queries parts part d lt
+pieces_next Values digits p parts part d lt = values-push digits parts part
+pieces_next Json digits p parts part d lt = refl
+pieces_next Report digits p parts part d lt = refl
+
+-- ---- parts, as far as they go
+length-next : {A : Type 0} (xs : List A) (x : A) → length (xs ++ x ∷ []) ≡ length xs + 1
+length-next [] x = refl
+length-next (y ∷ xs) x = let h = length-next xs x in omega (arith, h)
+
+-- the parts of the first queries
+pub record ArePartsTo (s : Settings) (p : Parts) (i : ℕ) (parts : List QueryPart) : Type 0 where
+  pub count : length parts ≡ i
+  pub shown : AreShownParts s p (take i p.queries) parts
+
+pub pieces_begun : (s : Settings) (p : Parts) (i : ℕ) (parts : List QueryPart) → ArePartsTo s p i parts → ArePieces s p p.queries (parts_pieces s.style s.digits p parts)
+pieces_begun s p i parts h = record {
+  parts = parts;
+  shown = subst (λ k. AreShownParts s p (take k p.queries) parts) (sym h.count) h.shown;
+  is = refl;
+}
+
+module _ (s : Settings) (p : Parts) (i : ℕ) (parts : List QueryPart) (q d : Query) (are : ArePartsTo s p i parts) (is : q ≡ get_or p.queries i d) (lt : i < length p.queries) where
+  pub parts_next : (part : QueryPart) → IsShownPart s p q part → ArePartsTo s p (i + 1) (parts ++ part ∷ [])
+  parts_next part h = record {
+    count = length-next parts part ∙ ap (λ k. k + 1) are.count;
+    shown = zip_next (IsShownPart s p) p.queries parts i d part lt are.shown (subst (λ x. IsShownPart s p x part) is h);
+  }
+
+  pub text_next : (part : QueryPart) → parts_pieces s.style s.digits p (parts ++ part ∷ []) ≡ parts_pieces s.style s.digits p parts ++ part_piece s.style s.digits p q part
+  text_next part =
+      let within : length parts < length p.queries = omega (arith, are.count, lt) in
+      let there : get_or p.queries (length parts) d ≡ q = ap (λ k. get_or p.queries k d) are.count ∙ sym is in
+      pieces_next s.style s.digits p parts part d within ∙ ap (λ x. parts_pieces s.style s.digits p parts ++ part_piece s.style s.digits p x part) there
+
+  pub pieces_more : (text : List ℕ) → IsPiece s p q text → ArePieces s p p.queries (parts_pieces s.style s.digits p parts ++ text)
+  pieces_more text h =
+      let next = parts_next h.part h.shown in
+      record {
+        parts = parts ++ h.part ∷ [];
+        shown = subst (λ k. AreShownParts s p (take k p.queries) (parts ++ h.part ∷ [])) (sym next.count) next.shown;
+        is = ap (λ t. parts_pieces s.style s.digits p parts ++ t) h.is ∙ sym (text_next h.part);
+      }
+
+pub parts_begin : (s : Settings) (p : Parts) → ArePartsTo s p 0 []
+parts_begin s p = record { count = refl; shown = tt }
+
+pub parts_end : (s : Settings) (p : Parts) (i : ℕ) (parts : List QueryPart) → ArePartsTo s p i parts → length p.queries ≤ i → AreShownParts s p p.queries parts
+parts_end s p i parts h all = subst (λ qs. AreShownParts s p qs parts) (take_all i p.queries all) h.shown
+
+-- ---- an answer under way
+pub begun_verdict : (s : Settings) (p : Parts) (text : List ℕ) → IsVerdictPiece s p text → IsBegunText s p text
+begun_verdict s p text h =
+    let a : Answer = record { verdict = h.verdict; first = h.events; parts = [] } in
+    record {
+      answer = a;
+      under_way = record { verdict = h.shown; parts = tt };
+      is = h.is ∙ sym (append-nil (verdict_piece s.style h.verdict)) ∙ ap (λ t. verdict_piece s.style h.verdict ++ t) (sym (pieces_none s.style s.digits p))
+          ∙ sym (begun_is s.style s.digits p a);
+    }
+
+pub begun_after : (s : Settings) (p : Parts) (v : Verdict) (events : List Event) → IsShownVerdict s p v events → (text : List ℕ) → ArePieces s p (asked_after v p.queries) text
+    → IsBegunText s p (verdict_piece s.style v ++ text)
+begun_after s p v events is text h =
+    let a : Answer = record { verdict = v; first = events; parts = h.parts } in
+    record {
+      answer = a;
+      under_way = record { verdict = is; parts = h.shown };
+      is = ap (λ t. verdict_piece s.style v ++ t) h.is ∙ sym (begun_is s.style s.digits p a);
+    }
+
+pub begun_whole : (s : Settings) (p : Parts) (a : Answer) → IsWhole s p a → IsBegunText s p (begun_text s.style s.digits p a)
+begun_whole s p a h =
+    let long : length (asked_after a.verdict p.queries) ≡ length a.parts = sym (AllZip-long (IsShownPart s p) (asked_after a.verdict p.queries) a.parts h.parts) in
+    let all : take (length a.parts) (asked_after a.verdict p.queries) ≡ asked_after a.verdict p.queries = take_all (length a.parts) (asked_after a.verdict p.queries) (omega (arith, long)) in
+    record {
+      answer = a;
+      under_way = record { verdict = h.verdict; parts = subst (λ qs. AreShownParts s p qs a.parts) (sym all) h.parts };
+      is = refl;
+    }
+
+-- the text of a whole answer, from its pieces
+pub begun_all : (style : Style) (digits : ℕ) (p : Parts) (v : Verdict) (events : List Event) (parts : List QueryPart)
+    → verdict_piece style v ++ parts_pieces style digits p parts ≡ begun_text style digits p (record { verdict = v; first = events; parts = parts })
+begun_all style digits p v events parts = sym (begun_is style digits p (record { verdict = v; first = events; parts = parts }))
+
+-- ---- a whole answer
+valid-part : (s : Settings) (p : Parts) (q : Query) (part : QueryPart) → IsShownPart s p q part → IsValidPart p q (part_of part.answer)
+valid-part s p q part h = by h.judged
+  where
+    by : IsAnsweredPart s.limits p q part ⊎ IsLatePart s p q part → IsValidPart p q (part_of part.answer)
+    by (inl answered) = answered.valid
+    by (inr late) = late.valid
+
+valid-verdict : (s : Settings) (p : Parts) (v : Verdict) (events : List Event) → IsAnsweredVerdict s.limits p v events ⊎ IsLateVerdict s v → IsValidVerdict p (verdict_of v)
+valid-verdict s p v events (inl answered) = answered.valid
+valid-verdict s p v events (inr late) = subst (λ w. IsValidVerdict p (verdict_of w)) (sym late.over) tt
+
+valid-parts : (s : Settings) (p : Parts) (qs : List Query) (parts : List QueryPart) → AreShownParts s p qs parts → AllZip (IsValidPart p) qs (parts_of parts)
+valid-parts s p [] [] h = tt
+valid-parts s p [] (x ∷ xs) h = h
+valid-parts s p (q ∷ qs) [] h = h
+valid-parts s p (q ∷ qs) (x ∷ xs) h = (valid-part s p q x h.0, valid-parts s p qs xs h.1)
+
+-- nothing is late
+never : (b c : Bool) → b ≡ true → c ≡ true → (b && c) ≡ false → ⊥
+never true true e f h = absurd (cc)
+never true false e f h = absurd (cc)
+never false c e f h = absurd (cc)
+
+or-left : (b c : Bool) → (b || c) ≡ false → b ≡ false
+or-left true c h = h
+or-left false c h = refl
+
+or-right : (b c : Bool) → (b || c) ≡ false → c ≡ false
+or-right true c h = absurd (cc)
+or-right false c h = h
+
+and-right : (b c : Bool) → b ≡ true → (b && c) ≡ false → c ≡ false
+and-right true c e h = h
+and-right false c e h = absurd (cc)
+
+answered-verdict : (s : Settings) (p : Parts) (v : Verdict) (events : List Event) (late : Bool) → (s.is_timed && (is_late_verdict v || late)) ≡ false
+    → IsAnsweredVerdict s.limits p v events ⊎ IsLateVerdict s v → IsAnsweredVerdict s.limits p v events
+answered-verdict s p v events late h (inl answered) = answered
+answered-verdict s p v events late h (inr over) =
+    absurd (never s.is_timed (is_late_verdict v || late) over.timed (ap (λ w. is_late_verdict w || late) over.over) h)
+
+answered-part : (s : Settings) (p : Parts) (q : Query) (part : QueryPart) → (s.is_timed ≡ true → is_late_answer part.answer ≡ false)
+    → IsAnsweredPart s.limits p q part ⊎ IsLatePart s p q part → IsAnsweredPart s.limits p q part
+answered-part s p q part none (inl answered) = answered
+answered-part s p q part none (inr late) = let h : is_late_answer part.answer ≡ false = none late.timed in let g = late.late in absurd (cc)
+
+answered-parts : (s : Settings) (p : Parts) (qs : List Query) (parts : List QueryPart) → (s.is_timed ≡ true → is_late_in parts ≡ false) → AreShownParts s p qs parts
+    → AllZip (IsAnsweredPart s.limits p) qs parts
+answered-parts s p [] [] none h = tt
+answered-parts s p [] (x ∷ xs) none h = h
+answered-parts s p (q ∷ qs) [] none h = h
+answered-parts s p (q ∷ qs) (x ∷ xs) none h = (
+  answered-part s p q x (λ t. or-left (is_late_answer x.answer) (is_late_in xs) (none t)) (h.0).judged,
+  answered-parts s p qs xs (λ t. or-right (is_late_answer x.answer) (is_late_in xs) (none t)) h.1,
+)
+
+module _ (s : Settings) (p : Parts) (v : Verdict) (events : List Event) (parts : List QueryPart) (is : IsShownVerdict s p v events) (each : AreShownParts s p (asked_after v p.queries) parts) (are : AreParts p) where
+  abbrev a : Answer
+  a = record { verdict = v; first = events; parts = parts }
+
+  module _ (none : is_late s.is_timed a ≡ false) where
+    known : IsAnsweredVerdict s.limits p v events
+    known = answered-verdict s p v events (is_late_in parts) none is.judged
+
+    all : AllZip (IsAnsweredPart s.limits p) (asked_after v p.queries) parts
+    all = answered-parts s p (asked_after v p.queries) parts
+        (λ t. or-right (is_late_verdict v) (is_late_in parts) (and-right s.is_timed (is_late_verdict v || is_late_in parts) t none)) each
+
+  valid : IsValid p (answer_of a)
+  valid = record {
+    verdict = valid-verdict s p v events is.judged;
+    parts = subst (λ qs. AllZip (IsValidPart p) qs (parts_of parts)) (sym (asked_same v p.queries)) (valid-parts s p (asked_after v p.queries) parts each);
+  }
+
+  pub whole : IsWhole s p a
+  whole = record {
+    verdict = is;
+    parts = each;
+    valid = valid;
+    right = valid-right p (answer_of a) are valid;
+    settled = λ none. solution s.limits p v events parts (known none) (all none) are;
+  }
+
+  pub short_in_time : AreLimits s.limits → AreShortInTime s.is_timed a
+  short_in_time within none = short s.limits p v events parts (known none) (all none) are within

@@ -1,0 +1,68 @@
+use Rattle.std.proofs.Common.{rules, ◌≡◌, ◌<◌, ◌++◌, ◌∷◌, [], ◌∙◌, List, length, get_or, refl, ap, subst, arith}
+use Rattle.ps_io.proofs.Bytes.{appends-then}
+use Rattle.ps_problem.specs.declared.query.Query.{Query}
+use Rattle.ps_answer.specs.declared.answer.QueryPart.{QueryPart}
+use Rattle.ps_ask.specs.Fronts.{part_piece, parts_pieces}
+use Rattle.ps_ask.specs.Replies.{ArePieces, IsPiece}
+use Rattle.ps_ask.proofs.EndLaws.{ended_after, some_ended}
+use Rattle.ps_ask.proofs.FrontLaws.{parts_begin, parts_next, pieces_begun, pieces_more, text_next}
+use Rattle.ps_ask.proofs.StepLaws.{nothing_shown}
+use Rattle.ps_ask.proofs.fronts.show_parts.Goals as goal
+
+pub loop-query-init : goal.loop-query-init
+loop-query-init g c = rw c.new-parts.ensures (record {
+  parts = parts_begin c.args.settings c.args.trials.now;
+  written = nothing_shown c.args.settings.style c.args.settings.digits c.args.trials.now (g.O.Sink.written c.args.sink.now);
+  faults = refl;
+})
+
+pub returns-then-is_err-clause-ended : goal.returns-then-is_err-clause-ended
+returns-then-is_err-clause-ended g c =
+    let s = c.args.settings in
+    let p = c.args.trials.now in
+    let i = c.loop-query.query-index in
+    let parts = c.loop-query.parts in
+    let same : c.as_slice-queries.result.now ≡ p.queries = search rules in
+    let lt : i < length p.queries = subst (λ (qs : List Query). i < length qs) same c.loop-query-test.true in
+    let q = get_or c.as_slice-queries.result.now i _ in
+    let pieces = parts_pieces s.style s.digits p parts in
+    let piece = part_piece s.style s.digits p q c.in-Ok.part in
+    some_ended (ArePieces s p p.queries) (g.O.Sink.written c.args.sink.now) (g.O.Sink.written c.show_part.new.sink) (pieces ++ piece)
+    (pieces_more s p i parts q _ c.loop-query.invariant.parts (ap (λ (qs : List Query). get_or qs i _) same) lt piece
+    (record { part = c.in-Ok.part; shown = c.in-Ok.ensures.judged; is = refl }))
+    (appends-then (g.O.Sink.written c.args.sink.now) (g.O.Sink.written c.loop-query.sink) (g.O.Sink.written c.show_part.new.sink) pieces piece
+    c.loop-query.invariant.written c.in-Ok.ensures.wrote)
+
+pub returns-in-Err-clause-ended : goal.returns-in-Err-clause-ended
+returns-in-Err-clause-ended g c =
+    let s = c.args.settings in
+    let p = c.args.trials.now in
+    let i = c.loop-query.query-index in
+    let parts = c.loop-query.parts in
+    let same : c.as_slice-queries.result.now ≡ p.queries = search rules in
+    let lt : i < length p.queries = subst (λ (qs : List Query). i < length qs) same c.loop-query-test.true in
+    let q = get_or c.as_slice-queries.result.now i _ in
+    ended_after (IsPiece s p q) (ArePieces s p p.queries) c.in-Err.error (g.O.Sink.written c.args.sink.now) (g.O.Sink.written c.loop-query.sink)
+    (g.O.Sink.written c.show_part.new.sink) (parts_pieces s.style s.digits p parts) c.loop-query.invariant.written
+    (pieces_begun s p i parts c.loop-query.invariant.parts)
+    (pieces_more s p i parts q _ c.loop-query.invariant.parts (ap (λ (qs : List Query). get_or qs i _) same) lt) c.in-Err.ensures.ended
+
+pub loop-query-preserved : goal.loop-query-preserved
+loop-query-preserved g c =
+    let s = c.args.settings in
+    let p = c.args.trials.now in
+    let i = c.loop-query.query-index in
+    let parts = c.loop-query.parts in
+    let part = c.in-Ok.part in
+    let same : c.as_slice-queries.result.now ≡ p.queries = search rules in
+    let lt : i < length p.queries = subst (λ (qs : List Query). i < length qs) same c.loop-query-test.true in
+    let q = get_or c.as_slice-queries.result.now i _ in
+    let there = ap (λ (qs : List Query). get_or qs i _) same in
+    let pushed : c.push.new.self ≡ parts ++ part ∷ [] = search rules in
+    rw pushed (record {
+      parts = parts_next s p i parts q _ c.loop-query.invariant.parts there lt part c.in-Ok.ensures.judged;
+      written = rw (text_next s p i parts q _ c.loop-query.invariant.parts there lt part)
+          (appends-then (g.O.Sink.written c.args.sink.now) (g.O.Sink.written c.loop-query.sink) (g.O.Sink.written c.show_part.new.sink)
+          (parts_pieces s.style s.digits p parts) (part_piece s.style s.digits p q part) c.loop-query.invariant.written c.in-Ok.ensures.wrote);
+      faults = c.in-Ok.ensures.faults ∙ c.loop-query.invariant.faults;
+    })

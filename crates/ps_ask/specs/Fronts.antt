@@ -1,0 +1,123 @@
+-- An answer as it goes: its verdict, and the parts that are there.
+use Rattle.std.specs.Prelude.{◌≡◌, ◌⊎◌, ℕ, true, false, List, [], length, take, Option}
+use Rattle.std.specs.List.{AllZip}
+use Rattle.ps_problem.specs.declared.query.Query.{Query}
+use Rattle.ps_problem.specs.Problems.{Parts, bounds_of}
+use Rattle.ps_pool.specs.declared.event.Event.{Event}
+use Rattle.ps_answer.specs.declared.answer.Answer.{Answer}
+use Rattle.ps_answer.specs.declared.answer.QueryPart.{QueryPart}
+use Rattle.ps_answer.specs.declared.answer.SideAnswer.{SideAnswer}
+use Rattle.ps_answer.specs.declared.answer.Verdict.{Verdict}
+use Rattle.ps_answer.specs.declared.answer.Verdict.TheVariants.{Open}
+use Rattle.ps_entailment.specs.Answers.{IsRightVerdict, IsRightPart}
+use Rattle.ps_claims.specs.Validity.{IsValid, IsValidPart, query_of}
+use Rattle.ps_valid.specs.Answers.{answer_of, part_of, verdict_of, IsRightOf}
+use Rattle.ps_phases.specs.Verdicts.{asked_after}
+use Rattle.ps_printed.specs.Printed.{IsPrintedPart}
+use Rattle.ps_guided.specs.Known.{AreFound}
+use Rattle.ps_guided.specs.Solutions.{IsAnsweredPart, IsAnsweredVerdict, IsSettledSolution}
+use Rattle.ps_spoken.specs.Spoken.{spoken, out_of_time, verdict_text, part_text, parts_text}
+use Rattle.ps_spoken.specs.Quiet.{values_of, verdict_value, query_values, parts_values}
+use Rattle.ps_ask.specs.declared.settings.Settings.{Settings}
+use Rattle.ps_ask.specs.declared.settings.Style.{Style}
+use Rattle.ps_ask.specs.declared.settings.Style.TheVariants.{Words, Values, Json, Report}
+use Rattle.ps_ask.specs.Late.{is_late, is_late_answer, is_late_verdict}
+
+-- ---- what is judged
+-- time is limited, and was over before the verdict was known
+pub record IsLateVerdict (s : Settings) (v : Verdict) : Type 0 where
+  pub timed : s.is_timed ≡ true
+  pub over : v ≡ Open out_of_time
+
+-- a verdict that is shown: it is right, and was answered within the limits; or time was over before
+pub record IsShownVerdict (s : Settings) (p : Parts) (v : Verdict) (events : List Event) : Type 0 where
+  pub right : IsRightVerdict (length p.names) (bounds_of p) (verdict_of v)
+  pub judged : IsAnsweredVerdict s.limits p v events ⊎ IsLateVerdict s v
+
+-- time is limited, and was over before the part was answered; what it claims is valid all the same, and can be printed
+pub record IsLatePart (s : Settings) (p : Parts) (q : Query) (part : QueryPart) : Type 0 where
+  pub timed : s.is_timed ≡ true
+  pub late : is_late_answer part.answer ≡ true
+  pub valid : IsValidPart p q (part_of part.answer)
+  pub printed : IsPrintedPart part.answer
+
+-- of every problem and query, of whose sides these were found: the part isn't answered where time was over, and what it claims
+-- is valid
+abbrev pub IsLateBeside : Option SideAnswer → Option SideAnswer → QueryPart → Type 0
+IsLateBeside lower upper part = (s : Settings) (p : Parts) (q : Query) → s.is_timed ≡ true → AreFound p q lower upper
+    → IsLatePart s p q part
+
+-- a part that is shown: it is right, and was answered within the limits; or time was over before
+pub record IsShownPart (s : Settings) (p : Parts) (q : Query) (part : QueryPart) : Type 0 where
+  pub right : IsRightPart (length p.names) (bounds_of p) (query_of p.nodes q) (part_of part.answer)
+  pub judged : IsAnsweredPart s.limits p q part ⊎ IsLatePart s p q part
+
+-- a part that is shown for each of these queries
+abbrev pub AreShownParts : Settings → Parts → List Query → List QueryPart → Type 0
+AreShownParts s p qs parts = AllZip (IsShownPart s p) qs parts
+
+-- so it is of the queries that are asked behind a verdict
+abbrev pub AreShownAfter : Settings → Parts → Verdict → List QueryPart → Type 0
+AreShownAfter s p v parts = AreShownParts s p (asked_after v p.queries) parts
+
+-- an answer as it goes: its verdict, and parts for the first of the queries that are asked behind it
+pub record IsUnderWay (s : Settings) (p : Parts) (a : Answer) : Type 0 where
+  pub verdict : IsShownVerdict s p a.verdict a.first
+  pub parts : AreShownParts s p (take (length a.parts) (asked_after a.verdict p.queries)) a.parts
+
+-- a whole answer: its verdict, and a part for each query that is asked behind it. It is valid and right, and unless time was
+-- over, each part of it has its certificates or comes of a lawful run within the limits
+pub record IsWhole (s : Settings) (p : Parts) (a : Answer) : Type 0 where
+  pub verdict : IsShownVerdict s p a.verdict a.first
+  pub parts : AreShownParts s p (asked_after a.verdict p.queries) a.parts
+  pub valid : IsValid p (answer_of a)
+  pub right : IsRightOf p a
+  pub settled : is_late s.is_timed a ≡ false → IsSettledSolution s.limits p a
+
+-- ---- what is shown as it goes
+-- the text of an answer as far as it goes: in words, or by its values. An object and a report are shown whole, at the end
+abbrev pub begun_text : Style → ℕ → Parts → Answer → List ℕ
+begun_text Words digits p a = spoken digits p a
+begun_text Values digits p a = values_of digits a
+begun_text Json digits p a = []
+begun_text Report digits p a = []
+
+-- the piece of it that is the verdict's
+abbrev pub verdict_piece : Style → Verdict → List ℕ
+verdict_piece Words v = verdict_text v
+verdict_piece Values v = verdict_value v
+verdict_piece Json v = []
+verdict_piece Report v = []
+
+-- the piece of it that is a part's
+abbrev pub part_piece : Style → ℕ → Parts → Query → QueryPart → List ℕ
+part_piece Words digits p q part = part_text digits p q part
+part_piece Values digits p q part = query_values digits part.answer
+part_piece Json digits p q part = []
+part_piece Report digits p q part = []
+
+-- the pieces of the parts of the first queries
+abbrev pub parts_pieces : Style → ℕ → Parts → List QueryPart → List ℕ
+parts_pieces Words digits p parts = parts_text digits p p.queries parts
+parts_pieces Values digits p parts = parts_values digits parts
+parts_pieces Json digits p parts = []
+parts_pieces Report digits p parts = []
+
+-- the same by the settings: the piece of the verdict, that of a part, those of parts, and the text of an answer
+abbrev pub verdict_shown : Settings → Verdict × List Event → List ℕ
+verdict_shown s v = verdict_piece s.style v.0
+
+abbrev pub piece_of : Settings → Parts → Query → QueryPart → List ℕ
+piece_of s p q part = part_piece s.style s.digits p q part
+
+abbrev pub pieces_of : Settings → Parts → List QueryPart → List ℕ
+pieces_of s p parts = parts_pieces s.style s.digits p parts
+
+abbrev pub begun_of : Settings → Parts → Answer → List ℕ
+begun_of s p a = begun_text s.style s.digits p a
+
+-- the text of an answer to a problem, as far as it goes
+pub record IsBegunText (s : Settings) (p : Parts) (text : List ℕ) : Type 0 where
+  pub answer : Answer
+  pub under_way : IsUnderWay s p answer
+  pub is : text ≡ begun_text s.style s.digits p answer

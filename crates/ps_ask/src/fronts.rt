@@ -1,0 +1,248 @@
+//! What is shown of an answer as it goes: its verdict, and each part as soon as it is done.
+ghost use Rattle.std.specs.Prelude.{◌≡◌, IfErr, IfOk, OnOk};
+ghost use Rattle.ps_io.specs.Transfer.{Appends};
+ghost use Rattle.ps_problem.specs.Problems.{HasNodes};
+ghost use Rattle.ps_ask.specs.Shown.{AreSettings};
+ghost use Rattle.ps_ask.specs.Fronts.{AreShownAfter, AreShownParts, IsBegunText, IsShownPart};
+ghost use Rattle.ps_ask.specs.Fronts.{IsShownVerdict, IsWhole, begun_of, part_piece, piece_of};
+ghost use Rattle.ps_ask.specs.Fronts.{pieces_of, verdict_piece, verdict_shown};
+ghost use Rattle.ps_ask.specs.Replies.{AreAllPieces, AreShortInTime, CountsShown, EndedAfter};
+ghost use Rattle.ps_ask.specs.Replies.{Stops, IsCut, IsPiece, IsVerdictPiece, Shows};
+
+use crate::company::Company;
+use crate::judged::{judged_part, judged_verdict};
+use crate::pieces::{part_piece, verdict_piece};
+use crate::reply::ReplyError;
+use crate::settings::Settings;
+use ps_answer::{Answer, Parts, QueryPart, Verdict};
+use ps_engine::Engine;
+use ps_guess::Trials;
+use ps_guided::InTime;
+use ps_io::{List, NoMemory, Sink, write_all};
+use ps_pool::Trace;
+use ps_problem::{Problem, Query};
+use std::alloc::Global;
+
+// Writes a text that is shown.
+fn show_text<O: Sink>(sink: &mut O, text: &[u8]) -> Result<(), ReplyError>
+    ensures ok { OnOk result (Appends (O.written sink.old) (O.written sink.new) text.now) }
+    ensures cut { IfErr result
+        (λ e. IsCut e (O.written sink.old) (O.written sink.new) text.now) }
+    ensures faults { CountsShown result (O.faults sink.old) (O.faults sink.new) }
+{
+    match write_all(sink, text) {
+        Ok(()) => Ok(()),
+        Err(_) => Err(ReplyError::WriteFault),
+    }
+}
+
+// The verdict on the problem of trials, with the events of its run, and its piece.
+fn verdict_with_piece<W: Company>(
+    alloc: Global,
+    settings: Settings,
+    trials: &Trials<'_>,
+    timed: &mut InTime<'_, Engine, W>,
+) -> Result<((Verdict, Trace), Vec<u8>), NoMemory>
+    requires settings { AreSettings settings }
+    ensures judged { IfOk result (λ r. IsShownVerdict settings trials.now r.0.0 r.0.1) }
+    ensures piece { IfOk result (λ r. r.1.items ≡ verdict_piece settings.style r.0.0) }
+{
+    timed.watch.tell(0, trials.problem().queries().len());
+    let (verdict, first) = judged_verdict(alloc, settings, trials, timed)?;
+    let text = verdict_piece(alloc, settings.style, &verdict)?;
+    timed.watch.clear();
+    Ok(((verdict, first), text))
+}
+
+// Shows the verdict on the problem of trials.
+#[tactic(auto, using(crate::proofs::EndLaws::nothing_ended, crate::proofs::EndLaws::verdict_cut))]
+fn show_verdict<O: Sink, W: Company>(
+    alloc: Global,
+    settings: Settings,
+    trials: &Trials<'_>,
+    timed: &mut InTime<'_, Engine, W>,
+    sink: &mut O,
+) -> Result<(Verdict, Trace), ReplyError>
+    requires settings { AreSettings settings }
+    ensures judged { IfOk result (λ r. IsShownVerdict settings trials.now r.0 r.1) }
+    ensures wrote { IfOk result (Shows O.Sink sink.old sink.new (verdict_shown settings)) }
+    ensures ended { IfErr result (Stops O.Sink sink.old sink.new
+        (IsVerdictPiece settings trials.now)) }
+    ensures faults { CountsShown result (O.faults sink.old) (O.faults sink.new) }
+{
+    match verdict_with_piece(alloc, settings, trials, timed) {
+        Ok((verdict, text)) => match show_text(sink, &text) {
+            Ok(()) => Ok(verdict),
+            Err(error) => Err(error),
+        },
+        Err(NoMemory) => Err(ReplyError::NoMemory),
+    }
+}
+
+// The part of a query of the problem of trials, and its piece.
+fn part_with_piece<W: Company>(
+    alloc: Global,
+    settings: Settings,
+    trials: &Trials<'_>,
+    query: Query,
+    timed: &mut InTime<'_, Engine, W>,
+) -> Result<(QueryPart, Vec<u8>), NoMemory>
+    requires settings { AreSettings settings }
+    requires query { HasNodes trials.now.nodes query.formula query.given query.both }
+    ensures judged { IfOk result (λ r. IsShownPart settings trials.now query r.0) }
+    ensures piece { IfOk result (λ r. r.1.items ≡ piece_of settings trials.now query r.0) }
+{
+    let part = judged_part(alloc, settings, trials, query, timed)?;
+    let text = part_piece(alloc, settings, trials.problem(), query, &part)?;
+    timed.watch.clear();
+    Ok((part, text))
+}
+
+// Shows the part of a query of the problem of trials.
+#[tactic(auto, using(crate::proofs::EndLaws::nothing_ended, crate::proofs::EndLaws::part_cut))]
+fn show_part<O: Sink, W: Company>(
+    alloc: Global,
+    settings: Settings,
+    trials: &Trials<'_>,
+    query: Query,
+    timed: &mut InTime<'_, Engine, W>,
+    sink: &mut O,
+) -> Result<QueryPart, ReplyError>
+    requires settings { AreSettings settings }
+    requires query { HasNodes trials.now.nodes query.formula query.given query.both }
+    ensures judged { IfOk result (IsShownPart settings trials.now query) }
+    ensures wrote { IfOk result
+        (Shows O.Sink sink.old sink.new (piece_of settings trials.now query)) }
+    ensures ended { IfErr result (Stops O.Sink sink.old sink.new
+        (IsPiece settings trials.now query)) }
+    ensures faults { CountsShown result (O.faults sink.old) (O.faults sink.new) }
+{
+    match part_with_piece(alloc, settings, trials, query, timed) {
+        Ok((part, text)) => match show_text(sink, &text) {
+            Ok(()) => Ok(part),
+            Err(error) => Err(error),
+        },
+        Err(NoMemory) => Err(ReplyError::NoMemory),
+    }
+}
+
+// Shows the part of each query of the problem of trials, as soon as it is done.
+fn show_parts<O: Sink, W: Company>(
+    alloc: Global,
+    settings: Settings,
+    trials: &Trials<'_>,
+    timed: &mut InTime<'_, Engine, W>,
+    sink: &mut O,
+) -> Result<Parts, ReplyError>
+    requires settings { AreSettings settings }
+    ensures judged { IfOk result (AreShownParts settings trials.now trials.now.queries) }
+    ensures wrote { IfOk result
+        (Shows O.Sink sink.old sink.new (pieces_of settings trials.now)) }
+    ensures ended { IfErr result (Stops O.Sink sink.old sink.new
+        (AreAllPieces settings trials.now)) }
+    ensures faults { CountsShown result (O.faults sink.old) (O.faults sink.new) }
+{
+    let mut parts = List::new(alloc);
+    let queries = trials.problem().queries().as_slice();
+    for query in queries {
+        timed.watch.tell(parts.len(), queries.len());
+        match show_part(alloc, settings, trials, *query, timed, sink) {
+            Ok(part) => {
+                if parts.push(part).is_err() {
+                    return Err(ReplyError::NoMemory);
+                }
+            }
+            Err(error) => return Err(error),
+        }
+    }
+    Ok(parts)
+}
+
+// Shows the parts of the queries that are asked behind a verdict.
+#[tactic(auto, using(crate::proofs::StepLaws::nothing_shown))]
+fn show_parts_under<O: Sink, W: Company>(
+    alloc: Global,
+    settings: Settings,
+    trials: &Trials<'_>,
+    verdict: &Verdict,
+    timed: &mut InTime<'_, Engine, W>,
+    sink: &mut O,
+) -> Result<Parts, ReplyError>
+    requires settings { AreSettings settings }
+    ensures judged { IfOk result (AreShownAfter settings trials.now verdict.now) }
+    ensures wrote { IfOk result
+        (Shows O.Sink sink.old sink.new (pieces_of settings trials.now)) }
+    ensures ended { IfErr result (EndedAfter O.Sink sink.old sink.new settings trials.now
+        verdict.now) }
+    ensures faults { CountsShown result (O.faults sink.old) (O.faults sink.new) }
+{
+    match verdict {
+        Verdict::Consistent(_) => show_parts(alloc, settings, trials, timed, sink),
+        Verdict::Inconsistent(_) | Verdict::Open(_) => Ok(List::new(alloc)),
+    }
+}
+
+// Shows an answer to the problem of trials as it goes.
+fn show_answer<O: Sink, W: Company>(
+    alloc: Global,
+    settings: Settings,
+    trials: &Trials<'_>,
+    timed: &mut InTime<'_, Engine, W>,
+    sink: &mut O,
+) -> Result<Answer, ReplyError>
+    requires settings { AreSettings settings }
+    ensures whole { IfOk result (IsWhole settings trials.now) }
+    ensures wrote { IfOk result
+        (Shows O.Sink sink.old sink.new (begun_of settings trials.now)) }
+    ensures ended { IfErr result (Stops O.Sink sink.old sink.new
+        (IsBegunText settings trials.now)) }
+    ensures short { IfOk result (AreShortInTime settings.is_timed) }
+    ensures faults { CountsShown result (O.faults sink.old) (O.faults sink.new) }
+{
+    // Called for its clause: the problem is in order.
+    let _sound = trials.problem();
+    match show_verdict(alloc, settings, trials, timed, sink) {
+        Ok((verdict, first)) => {
+            match show_parts_under(alloc, settings, trials, &verdict, timed, sink) {
+                Ok(parts) => Ok(Answer {
+                    verdict,
+                    first,
+                    parts,
+                }),
+                Err(error) => Err(error),
+            }
+        }
+        Err(error) => Err(error),
+    }
+}
+
+/// Shows an answer to a problem as it goes, and gives it.
+#[tactic(auto, using(crate::proofs::EndLaws::nothing_ended))]
+pub fn show_front<O: Sink, W: Company>(
+    alloc: Global,
+    settings: Settings,
+    problem: &Problem,
+    sink: &mut O,
+    watch: &mut W,
+) -> Result<Answer, ReplyError>
+    requires settings { AreSettings settings }
+    ensures whole { IfOk result (IsWhole settings problem.now) }
+    ensures wrote { IfOk result
+        (Shows O.Sink sink.old sink.new (begun_of settings problem.now)) }
+    ensures ended { IfErr result (Stops O.Sink sink.old sink.new
+        (IsBegunText settings problem.now)) }
+    ensures short { IfOk result (AreShortInTime settings.is_timed) }
+    ensures faults { CountsShown result (O.faults sink.old) (O.faults sink.new) }
+{
+    let Ok(trials) = Trials::new(alloc, problem, settings.limits.conflicts) else {
+        return Err(ReplyError::NoMemory);
+    };
+    let Ok(mut engine) = Engine::new(alloc, problem) else {
+        return Err(ReplyError::NoMemory);
+    };
+    let mut timed = InTime {
+        guesser: &mut engine,
+        watch,
+    };
+    show_answer(alloc, settings, &trials, &mut timed, sink)
+}
