@@ -1,11 +1,11 @@
 -- The part of some bytes that a problem at their front takes up.
-use Rattle.std.specs.Prelude.{◌≡◌, ◌<◌, ◌≤◌, ℕ, List, length, take, Result, IfOk}
+use Rattle.std.specs.Prelude.{◌≡◌, ◌<◌, ◌≤◌, ℕ, List, length, take, Result, IfErr, IfOk}
 use Rattle.ps_text.specs.declared.kind.ReadKind.{ReadKind}
 use Rattle.ps_text.specs.Positions.{Position}
 use Rattle.ps_problem.specs.Problems.{Parts}
 use Rattle.ps_read.specs.declared.read_error.ReadError.{ReadError}
 use Rattle.ps_read.specs.Readings.{SpellsProblem, SpellsWhole, IsUnread}
-use Rattle.ps_read.specs.Reads.{Gives, Refuses}
+use Rattle.ps_read.specs.Reads.{Gives, Refuses, Tells}
 
 -- a problem is spelled at the front of the bytes, and this is the place behind its text and the blanks and comments that follow
 abbrev pub EndsAt : List ℕ → ℕ → Type 0
@@ -28,6 +28,10 @@ FindsUpTo bytes place result = IfOk result (λ p. SpellsProblem bytes p place)
 -- each problem that is spelled at the front is the answer
 pub record ReadsFront (bytes : List ℕ) (result : Result Parts ReadError) : Type 0 where
   pub read : (p : Parts) (place : ℕ) → SpellsProblem bytes p place → Gives p result
+
+-- what is told against the bytes is so
+abbrev pub TellsUnread : List ℕ → Result Parts ReadError → Type 0
+TellsUnread bytes result = IfErr result (Tells (IsUnread bytes))
 
 -- each refusal is the answer
 pub record RefusesFront (bytes : List ℕ) (result : Result Parts ReadError) : Type 0 where

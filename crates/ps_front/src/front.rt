@@ -1,10 +1,8 @@
 //! A problem's text at the front of bytes that come piece by piece.
 ghost use Rattle.std.specs.Prelude.{◌≡◌, ◌<◌, ◌≤◌, ◌+◌, ◌^◌, ℕ, List, [], length};
-ghost use Rattle.std.specs.Prelude.{IfOk, IfErr, OnErr, IsErr, Err};
+ghost use Rattle.std.specs.Prelude.{IfOk, OnErr, IsErr, Err};
 ghost use Rattle.ps_read.specs.declared.read_error.ReadError.TheVariants as errors;
-ghost use Rattle.ps_read.specs.Readings.{IsUnread};
-ghost use Rattle.ps_read.specs.Reads.{Tells};
-ghost use Rattle.ps_front.specs.Fronts.{FindsUpTo, ReadsFront, RefusesFront};
+ghost use Rattle.ps_front.specs.Fronts.{FindsUpTo, ReadsFront, RefusesFront, TellsUnread};
 ghost use Rattle.ps_front.specs.Stages.{HasPushed, HasPushedOn, IsPieceOfPart, IsOutOfMemory};
 
 use crate::reader::Reader;
@@ -85,8 +83,7 @@ impl Front {
         // What is spelled there is read, unless memory runs out.
         ensures only { (bytes : List ℕ) → HasPushed self bytes → ReadsFront bytes result }
         // What is told against the bytes is so.
-        ensures told { (bytes : List ℕ) → HasPushed self bytes
-            → IfErr result (Tells (IsUnread bytes)) }
+        ensures told { (bytes : List ℕ) → HasPushed self bytes → TellsUnread bytes result }
         // What is to be told is told, unless memory runs out.
         ensures refused { (bytes : List ℕ) → HasPushed self bytes → RefusesFront bytes result }
         // Once memory ran out, that is answered.
