@@ -45,7 +45,7 @@ fn reply_to_problem<O: Sink, W: Company>(
     ensures short { IfOk result (IsShort settings.is_timed) }
     ensures faults { CountsShown result (O.faults sink.old) (O.faults sink.new) }
 {
-    match show_front(alloc, settings, problem, sink, watch) {
+    match show_front(alloc, settings, input, problem, sink, watch) {
         Ok(answer) => match show_last(alloc, settings, input, problem, answer, watch) {
             Ok(reply) => Ok(reply),
             Err(NoMemory) => Err(ReplyError::NoMemory),

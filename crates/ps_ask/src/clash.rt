@@ -5,12 +5,14 @@ ghost use Rattle.ps_ask.specs.Shown.{AreSettings};
 ghost use Rattle.ps_ask.specs.Clashes.{IsClashAt, IsCoreFor, IsFoundClash, IsRestFor, IsRestOf};
 ghost use Rattle.ps_ask.specs.Clashes.{IsShownInconsistent, number_of};
 
+use crate::company::{Company, ROUNDS};
 use crate::cores::{Core, core_at_once, core_in_time};
 use crate::settings::Settings;
+use crate::sought::Sought;
 use ps_answer::{Answer, Verdict};
 use ps_engine::Engine;
 use ps_explain::verdict_without;
-use ps_guided::{Guesser, InTime, Watch, limits_at};
+use ps_guided::{Guesser, InTime, limits_at};
 use ps_io::{List, NoMemory};
 use ps_problem::Problem;
 use ps_spoken::{Clash, Clashing, out_of_time};
@@ -101,7 +103,7 @@ fn clash_of<G: Guesser>(
 }
 
 // Which sentences of an inconsistent problem clash.
-fn clash_for<W: Watch>(
+fn clash_for<W: Company>(
     alloc: Global,
     problem: &Problem,
     settings: Settings,
@@ -112,14 +114,16 @@ fn clash_for<W: Watch>(
     ensures { IfOk result (IsFoundClash settings problem.now) }
 {
     let mut engine = Engine::new(alloc, problem)?;
-    if !settings.is_timed {
-        let core = core_at_once(alloc, problem, settings, &mut engine)?;
-        return clash_of(alloc, problem, settings, core, &mut engine);
-    }
+    engine.pause_every(ROUNDS);
+    watch.turn_to(Sought::Clash);
     let mut timed = InTime {
         guesser: &mut engine,
         watch,
     };
+    if !settings.is_timed {
+        let core = core_at_once(alloc, problem, settings, &mut timed)?;
+        return clash_of(alloc, problem, settings, core, &mut timed);
+    }
     let core = core_in_time(alloc, problem, settings, &mut timed)?;
     clash_of(alloc, problem, settings, core, &mut timed)
 }
@@ -128,7 +132,7 @@ fn clash_for<W: Watch>(
 /// that can't be met together, each of which is needed for it, with what the problem comes to
 /// without it; or what stopped the search for them.
 #[tactic(auto, using(crate::proofs::ClashLaws::inconsistent_is, crate::proofs::ClashLaws::clash_at, crate::proofs::ClashLaws::no_clash_consistent, crate::proofs::ClashLaws::no_clash_open))]
-pub fn clash_in<W: Watch>(
+pub fn clash_in<W: Company>(
     alloc: Global,
     problem: &Problem,
     settings: Settings,

@@ -1,5 +1,9 @@
 //! What is beside an answer while it is looked for.
+use crate::sought::Sought;
 use ps_guided::Watch;
+
+/// So many rounds are made of a guess before time is looked at and people are told how far it is.
+pub const ROUNDS: u32 = 4;
 
 /// What is beside an answer while it is looked for: it tells whether time is over, and is told what
 /// people may want to know meanwhile. Nothing that is answered rests on it, but how much is.
@@ -7,8 +11,8 @@ pub trait Company: Watch {
     /// Messages or warnings about the input.
     fn note(&mut self, text: &[u8]);
 
-    /// So many queries of so many are done; none is before the verdict is known.
-    fn tell(&mut self, done: usize, of: usize);
+    /// From now on this is sought.
+    fn turn_to(&mut self, sought: Sought);
 
     /// Something is about to be shown.
     fn clear(&mut self);

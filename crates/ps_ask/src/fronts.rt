@@ -9,11 +9,14 @@ ghost use Rattle.ps_ask.specs.Fronts.{pieces_of, verdict_piece, verdict_shown};
 ghost use Rattle.ps_ask.specs.Replies.{AreAllPieces, AreShortInTime, CountsShown, EndedAfter};
 ghost use Rattle.ps_ask.specs.Replies.{Stops, IsCut, IsPiece, IsVerdictPiece, Shows};
 
-use crate::company::Company;
+use crate::company::{Company, ROUNDS};
+use crate::conditions::idle_noted;
 use crate::judged::{judged_part, judged_verdict};
+use crate::notes::Input;
 use crate::pieces::{part_piece, verdict_piece};
 use crate::reply::ReplyError;
 use crate::settings::Settings;
+use crate::sought::Sought;
 use ps_answer::{Answer, Parts, QueryPart, Verdict};
 use ps_engine::Engine;
 use ps_guess::Trials;
@@ -47,7 +50,7 @@ fn verdict_with_piece<W: Company>(
     ensures judged { IfOk result (λ r. IsShownVerdict settings trials.now r.0.0 r.0.1) }
     ensures piece { IfOk result (λ r. r.1.items ≡ verdict_piece settings.style r.0.0) }
 {
-    timed.watch.tell(0, trials.problem().queries().len());
+    timed.watch.turn_to(Sought::Verdict);
     let (verdict, first) = judged_verdict(alloc, settings, trials, timed)?;
     let text = verdict_piece(alloc, settings.style, &verdict)?;
     timed.watch.clear();
@@ -145,7 +148,10 @@ fn show_parts<O: Sink, W: Company>(
     let mut parts = List::new(alloc);
     let queries = trials.problem().queries().as_slice();
     for query in queries {
-        timed.watch.tell(parts.len(), queries.len());
+        timed.watch.turn_to(Sought::Query {
+            number: parts.len().saturating_add(1),
+            of: queries.len(),
+        });
         match show_part(alloc, settings, trials, *query, timed, sink) {
             Ok(part) => {
                 if parts.push(part).is_err() {
@@ -216,11 +222,32 @@ fn show_answer<O: Sink, W: Company>(
     }
 }
 
+// Warns of conditions that no distribution gives weight, where warnings are wanted. One for which
+// memory is lacking is left out.
+fn warn_of_conditions<W: Company>(
+    alloc: Global,
+    settings: Settings,
+    input: Input<'_>,
+    trials: &Trials<'_>,
+    answer: &Answer,
+    timed: &mut InTime<'_, Engine, W>,
+) {
+    if !settings.warns {
+        return;
+    }
+    let noted = idle_noted(alloc, input, trials, answer, timed);
+    timed.watch.clear();
+    if let Ok(text) = noted {
+        timed.watch.note(&text);
+    }
+}
+
 /// Shows an answer to a problem as it goes, and gives it.
 #[tactic(auto, using(crate::proofs::EndLaws::nothing_ended))]
 pub fn show_front<O: Sink, W: Company>(
     alloc: Global,
     settings: Settings,
+    input: Input<'_>,
     problem: &Problem,
     sink: &mut O,
     watch: &mut W,
@@ -240,9 +267,16 @@ pub fn show_front<O: Sink, W: Company>(
     let Ok(mut engine) = Engine::new(alloc, problem) else {
         return Err(ReplyError::NoMemory);
     };
+    engine.pause_every(ROUNDS);
     let mut timed = InTime {
         guesser: &mut engine,
         watch,
     };
-    show_answer(alloc, settings, &trials, &mut timed, sink)
+    match show_answer(alloc, settings, &trials, &mut timed, sink) {
+        Ok(answer) => {
+            warn_of_conditions(alloc, settings, input, &trials, &answer, &mut timed);
+            Ok(answer)
+        }
+        Err(error) => Err(error),
+    }
 }

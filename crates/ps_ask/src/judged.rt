@@ -52,7 +52,7 @@ pub fn judged_verdict<W: Watch>(
     if settings.is_timed {
         return verdict_within(alloc, settings, trials, timed);
     }
-    answer_verdict(alloc, trials, settings.limits, timed.guesser)
+    answer_verdict(alloc, trials, settings.limits, timed)
 }
 
 // The part of a query as far as time is left: where it was over before, the sides that were found.
@@ -95,5 +95,5 @@ pub fn judged_part<W: Watch>(
     if settings.is_timed {
         return part_within(alloc, settings, trials, query, timed);
     }
-    answer_part(alloc, trials, query, settings.limits, timed.guesser)
+    answer_part(alloc, trials, query, settings.limits, timed)
 }

@@ -5,6 +5,7 @@ mod answered;
 mod answering;
 mod clash;
 mod company;
+mod conditions;
 mod cores;
 mod fronts;
 mod judged;
@@ -16,15 +17,18 @@ mod reply;
 mod settings;
 mod shown;
 mod sinks;
+mod sought;
 mod status;
 mod writing;
 
 pub use answering::{MOST_PROBLEM, ask};
 pub use company::Company;
 pub use laws::bounds_have_decimals;
-pub use ps_guided::Watch;
+pub use ps_claims::ClaimKind;
+pub use ps_guided::{Progress, Watch};
 pub use settings::{Settings, Style};
 pub use sinks::Sinks;
+pub use sought::Sought;
 pub use status::Status;
 
 #[cfg(test)]

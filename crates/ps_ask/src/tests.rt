@@ -1,8 +1,8 @@
 //! Whole inputs, with what is shown of their answers.
 ghost use Rattle.ps_ask.specs.Shown.{AreSettings};
 
-use crate::{Company, Settings, Sinks, Status, Style, ask};
-use ps_guided::{Limits, Watch};
+use crate::{ClaimKind, Company, Progress, Settings, Sinks, Sought, Status, Style, Watch, ask};
+use ps_guided::Limits;
 use ps_io::{MemSink, MemSource};
 use std::alloc::Global;
 use std::test::*;
@@ -85,6 +85,14 @@ const NOTE: &str = "f:1:13: found `b`, expected `&`, `|`, `->`, `<->`, `given` o
 
 const UNREADABLE: &[u8] = b"psat 1; P(a b) = 1; end;";
 
+// Of the conditions one has no weight, and one has in no distribution but some.
+const IDLE: &[u8] = b"psat 1; P(a) = 0; P(b) <= 1/2;
+P(c given a & b) >= 1/2; P(c given b) >= 1/2;
+query P(c); end;";
+
+const IDLE_WARNING: &str = "f:2: warning: P(c given a & b): \
+    the sentences give the condition probability 0, so this one says nothing\n";
+
 const MANY_DIGITS: u32 = 3;
 
 fn settings(style: Style) -> Settings
@@ -118,6 +126,8 @@ impl Watch for Asked {
         self.left -= 1;
         false
     }
+
+    fn tell(&mut self, _: ClaimKind, _: Progress) {}
 }
 
 impl Company for Asked {
@@ -125,7 +135,7 @@ impl Company for Asked {
         let _ = self.notes.extend_from_slice(text);
     }
 
-    fn tell(&mut self, _: usize, _: usize) {}
+    fn turn_to(&mut self, _: Sought) {}
 
     fn clear(&mut self) {}
 }
@@ -139,7 +149,7 @@ struct Row {
     status: Status,
 }
 
-const ROWS: [Row; 8] = [
+const ROWS: [Row; 9] = [
     Row {
         text: PROBLEM,
         style: Style::Words,
@@ -196,12 +206,19 @@ const ROWS: [Row; 8] = [
         noted: NOTE,
         status: Status::Unreadable,
     },
+    Row {
+        text: IDLE,
+        style: Style::Values,
+        shown: "consistent\n0.000 1.000\n",
+        noted: IDLE_WARNING,
+        status: Status::Done,
+    },
 ];
 
 fn shows(alloc: Global, settings: Settings, row: &Row) -> Result<bool, Fail>
     requires { AreSettings settings }
 {
-    shows_in_time(alloc, settings, 0, row)
+    shows_in_time(alloc, settings, 100_000, row)
 }
 
 // Whether it is shown where time is over once it was asked so often.
@@ -254,20 +271,25 @@ fn an_open_answer_tells_what_stopped_it(rt: HostRuntime) -> Result<(), Fail> {
     Ok(())
 }
 
-// Time is over before anything was begun, and behind the verdict.
-const LATE_VERDICT: Row = Row {
-    text: PROBLEM,
-    style: Style::Words,
-    shown: "open: whether a distribution meets all sentences isn't known; \
-        not finished within the time limit; allow more by --time-limit\n",
-    noted: WARNING,
-    status: Status::Late,
-};
-
-const LATE_PARTS: Row = Row {
-    text: PROBLEM,
-    style: Style::Words,
-    shown: "consistent: some distribution meets all sentences
+// What is shown where time is over once it was asked so often.
+const LATE: [(u32, Row); 4] = [
+    (
+        0,
+        Row {
+            text: PROBLEM,
+            style: Style::Words,
+            shown: "open: whether a distribution meets all sentences isn't known; \
+                not finished within the time limit; allow more by --time-limit\n",
+            noted: WARNING,
+            status: Status::Late,
+        },
+    ),
+    (
+        1,
+        Row {
+            text: PROBLEM,
+            style: Style::Words,
+            shown: "consistent: some distribution meets all sentences
 P(wet)
   open: not finished within the time limit; allow more by --time-limit
 P(rain & wet)
@@ -277,25 +299,31 @@ P(dry given rain & !rain)
 P(rain)
   open: not finished within the time limit; allow more by --time-limit
 ",
-    noted: WARNING,
-    status: Status::Late,
-};
-
-const LATE_VALUES: Row = Row {
-    text: PROBLEM,
-    style: Style::Values,
-    shown: "consistent\n? ?\n? ?\n? ?\n? ?\n",
-    noted: WARNING,
-    status: Status::Late,
-};
-
-const LATE_REPORT: Row = Row {
-    text: PROBLEM,
-    style: Style::Report,
-    shown: "",
-    noted: WARNING,
-    status: Status::Late,
-};
+            noted: WARNING,
+            status: Status::Late,
+        },
+    ),
+    (
+        1,
+        Row {
+            text: PROBLEM,
+            style: Style::Values,
+            shown: "consistent\n? ?\n? ?\n? ?\n? ?\n",
+            noted: WARNING,
+            status: Status::Late,
+        },
+    ),
+    (
+        1,
+        Row {
+            text: PROBLEM,
+            style: Style::Report,
+            shown: "",
+            noted: WARNING,
+            status: Status::Late,
+        },
+    ),
+];
 
 fn timed(style: Style) -> Settings
     ensures { AreSettings result }
@@ -308,11 +336,9 @@ fn timed(style: Style) -> Settings
 
 #[test]
 fn what_is_not_finished_in_time_is_named(rt: HostRuntime) -> Result<(), Fail> {
-    let alloc = rt.alloc();
-    assert!(rt; shows_in_time(alloc, timed(Style::Words), 0, &LATE_VERDICT)?);
-    assert!(rt; shows_in_time(alloc, timed(Style::Words), 1, &LATE_PARTS)?);
-    assert!(rt; shows_in_time(alloc, timed(Style::Values), 1, &LATE_VALUES)?);
-    assert!(rt; shows_in_time(alloc, timed(Style::Report), 1, &LATE_REPORT)?);
+    for (left, row) in &LATE {
+        assert!(rt; shows_in_time(rt.alloc(), timed(row.style), *left, row)?);
+    }
     Ok(())
 }
 

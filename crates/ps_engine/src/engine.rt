@@ -2,10 +2,12 @@
 
 use crate::basis_system::BasisSystem;
 use crate::limits::{BASIC_STARTS, MOST_MENDED, MOST_PIVOTS, MOST_REPAIRS, MOST_TOLD, SEED};
+use crate::pace::Pace;
 use crate::tolerances::Tolerances;
 use ps_climb::{Draw, drawn_world};
 use ps_float_pricing::{FloatPricer, Priced};
 use ps_formula::World;
+use ps_guesser::Progress;
 use ps_io::NoMemory;
 use ps_problem::Problem;
 use ps_relaxed::{Aim, FloatGoal, Member, Relaxed, WorldPool};
@@ -18,6 +20,8 @@ use std::num::nearest_i64_to_f64;
 pub(crate) enum Stage {
     /// Nothing yet.
     Fresh,
+    /// The first phase is on its way.
+    Begun,
     /// The program has a basis that meets the bounds.
     Feasible,
     /// No world meets the certainties.
@@ -52,6 +56,9 @@ pub struct Engine {
     /// How many roundings of the refutation were tried.
     pub(crate) roundings: u32,
     pub(crate) gain: FloatGoal,
+    /// How far the objective is from its end, as far as is known.
+    pub(crate) gap: f64,
+    pub(crate) pace: Pace,
     /// The pivots that were made before it began anew.
     pub(crate) earlier_pivots: u64,
     draw: Draw,
@@ -115,6 +122,8 @@ impl Engine {
             told: 0,
             roundings: 0,
             gain: FloatGoal::new(alloc, relaxed.nodes())?,
+            gap: 1.0,
+            pace: Pace::steady(),
             earlier_pivots: 0,
             draw: Draw::new(SEED),
             relaxed,
@@ -153,6 +162,8 @@ impl Engine {
         self.mended = 0;
         self.told = 0;
         self.roundings = 0;
+        self.gap = 1.0;
+        self.pace.end();
         Ok(std::mem::replace(&mut self.pool, WorldPool::new(self.alloc)).into_members())
     }
 
@@ -274,8 +285,29 @@ impl Engine {
         match priced {
             Priced::NoneAbove => Ok(Some(0)),
             Priced::Spent => Ok(None),
-            Priced::Found(members) => Ok(Some(self.take_all(members)?)),
+            Priced::Found(members) => {
+                self.gap = self.greatest_gain(&members);
+                Ok(Some(self.take_all(members)?))
+            }
         }
+    }
+
+    // The greatest gain of these worlds.
+    fn greatest_gain(&self, members: &[Member]) -> f64 {
+        let mut greatest: f64 = 0.0;
+        for member in members {
+            greatest = greatest.max(self.gain.value(&member.truth));
+        }
+        greatest
+    }
+
+    // The guess pauses before this round.
+    pub(crate) fn pause(&mut self, round: u32, gap: f64) {
+        let progress = Progress {
+            worlds: self.pool.members().len(),
+            gap,
+        };
+        self.pace.pause(round, progress);
     }
 
     // Worlds from which local search starts: some basic ones, and one that is drawn.

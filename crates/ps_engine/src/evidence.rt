@@ -46,11 +46,16 @@ impl Engine {
         }
     }
 
-    // Begins an aim, or goes on with the worlds that were told. Answers whether that was possible.
+    // Begins an aim, or goes on after a pause or with the worlds that were told. Answers whether that was
+    // possible.
     pub(crate) fn begin(&mut self, problem: &Problem, aim: Aim) -> Result<bool, NoMemory> {
         if self.aim == Some(aim) {
+            if self.pace.is_resumed() {
+                return Ok(true);
+            }
             return Ok(self.take_waiting(problem)? && self.may_go_on());
         }
+        self.pace.end();
         self.take_waiting(problem)?;
         self.forced = None;
         self.mended = 0;

@@ -13,11 +13,18 @@ use std::num::{nearest_i64_to_f64, saturating_f64_to_i64};
 impl Engine {
     // Finds whether the bounds can be met.
     pub(crate) fn first_phase(&mut self, problem: &Problem) -> Result<Stage, NoMemory> {
-        self.set_aim(Aim::Consistent);
-        if let Some(stage) = self.start(problem)? {
-            return Ok(stage);
+        if self.stage == Stage::Fresh {
+            self.set_aim(Aim::Consistent);
+            if let Some(stage) = self.start(problem)? {
+                return Ok(stage);
+            }
         }
-        for _ in 0..MOST_ROUNDS {
+        for round in self.pace.first()..MOST_ROUNDS {
+            if self.pace.is_due(round) {
+                let distance = self.simplex.objective();
+                self.pause(round, distance);
+                return Ok(Stage::Begun);
+            }
             if let Some(stage) = self.first_round(problem)? {
                 return Ok(stage);
             }
@@ -93,7 +100,7 @@ impl Engine {
         let distance = match stage {
             Stage::Excluded => 0.0,
             Stage::Inconsistent(distance) => distance,
-            Stage::Fresh | Stage::Feasible | Stage::Unknown => return Ok(None),
+            Stage::Fresh | Stage::Begun | Stage::Feasible | Stage::Unknown => return Ok(None),
         };
         if self.roundings >= MOST_ROUNDINGS {
             return Ok(None);

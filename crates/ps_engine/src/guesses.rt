@@ -8,7 +8,7 @@ use crate::whole::{Values, model_of};
 use ps_answer::{Dual, Model};
 use ps_claims::ClaimKind;
 use ps_formula::World;
-use ps_guesser::{Guess, Guesser};
+use ps_guesser::{Guess, Guesser, Progress};
 use ps_io::NoMemory;
 use ps_lifting::Solution;
 use ps_problem::{Problem, Query};
@@ -17,10 +17,13 @@ use ps_relaxed::Aim;
 impl Engine {
     // Finds whether the bounds can be met, where that isn't known.
     fn settle(&mut self, problem: &Problem) -> Result<Stage, NoMemory> {
-        if self.stage == Stage::Fresh {
+        if self.stage == Stage::Fresh || self.stage == Stage::Begun {
             self.stage = self.first_phase(problem)?;
             if self.stage == Stage::Unknown && self.begin_anew()? {
                 self.stage = self.first_phase(problem)?;
+            }
+            if self.stage != Stage::Begun {
+                self.pace.end();
             }
         }
         Ok(self.stage)
@@ -61,6 +64,11 @@ impl Engine {
         }
     }
 
+    /// From now on each call pauses after so many rounds, each of which prices worlds once.
+    pub fn pause_every(&mut self, rounds: u32) {
+        self.pace.every = rounds;
+    }
+
     /// How many pivots were made since the engine was made, or last told which sentences are kept.
     pub fn pivots(&self) -> u64 {
         self.earlier_pivots.saturating_add(self.simplex.pivots())
@@ -89,6 +97,7 @@ impl Guesser for Engine {
     }
 
     fn model(&mut self, problem: &Problem) -> Result<Option<Model>, NoMemory> {
+        self.pace.begin();
         if self.settle(problem)? != Stage::Feasible {
             return Ok(None);
         }
@@ -105,6 +114,7 @@ impl Guesser for Engine {
         problem: &Problem,
         query: Option<Query>,
     ) -> Result<Option<Dual>, NoMemory> {
+        self.pace.begin();
         let stage = self.settle(problem)?;
         let Some(query) = query else {
             return self.refutation(stage);
@@ -124,10 +134,15 @@ impl Guesser for Engine {
         let Some(aim) = aim_of(kind, query) else {
             return Ok(None);
         };
+        self.pace.begin();
         match self.side(problem, aim)? {
-            None if self.begin_anew()? => self.side(problem, aim),
+            None if self.pace.paused().is_none() && self.begin_anew()? => self.side(problem, aim),
             guess => Ok(guess),
         }
+    }
+
+    fn paused(&self) -> Option<Progress> {
+        self.pace.paused()
     }
 
     fn add(&mut self, world: World) -> Result<(), NoMemory> {

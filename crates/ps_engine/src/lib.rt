@@ -8,6 +8,7 @@ mod evidence;
 mod first_phase;
 mod guesses;
 mod limits;
+mod pace;
 mod shrinking;
 mod side;
 #[cfg(test)]
@@ -16,5 +17,5 @@ mod tolerances;
 mod whole;
 
 pub use engine::Engine;
-pub use ps_guesser::{Guess, Guesser};
+pub use ps_guesser::{Guess, Guesser, Progress};
 pub use tolerances::Tolerances;

@@ -23,6 +23,8 @@ pub(crate) enum Turn {
     TooLarge,
     /// There is no guess.
     GiveUp,
+    /// The rounds of this call are made, and others are left.
+    Pause,
 }
 
 impl Engine {
@@ -33,7 +35,12 @@ impl Engine {
         aim: Aim,
         is_evidence: bool,
     ) -> Result<Turn, NoMemory> {
-        for _ in 0..MOST_ROUNDS {
+        for round in self.pace.first()..MOST_ROUNDS {
+            if self.pace.is_due(round) {
+                let gap = self.gap.min(room_of(aim, self.simplex.objective()));
+                self.pause(round, gap);
+                return Ok(Turn::Pause);
+            }
             match self.one_turn(problem, aim, is_evidence)? {
                 Turn::Again => {}
                 turn => return Ok(turn),
@@ -179,6 +186,14 @@ fn place_against(members: &[Member], goal: &Goal) -> Option<usize> {
         Some(member) => goal.value(&member.truth) >= 1,
         None => false,
     })
+}
+
+// By how much an objective may still fall at most.
+fn room_of(aim: Aim, objective: f64) -> f64 {
+    match aim {
+        Aim::Consistent | Aim::Least(_) => objective,
+        Aim::Greatest(_) => objective + 1.0,
+    }
 }
 
 // Whether an objective is so near to the least possible one that no world need be sought.

@@ -8,7 +8,7 @@ use crate::{Explained, Limits, explain, verdict_without, write_explanation};
 use ps_answer::{Dual, Model, Verdict, Weighted};
 use ps_claims::ClaimKind;
 use ps_formula::World;
-use ps_guesser::{Guess, Guesser};
+use ps_guesser::{Guess, Guesser, Progress};
 use ps_io::{Lines, List, MemSink, NoMemory};
 use ps_master::{First, Run};
 use ps_problem::{Problem, Query};
@@ -138,6 +138,10 @@ impl Guesser for Fixed {
     fn add(&mut self, _world: World) -> Result<(), NoMemory> {
         self.kind = Kind::Nothing;
         Ok(())
+    }
+
+    fn paused(&self) -> Option<Progress> {
+        None
     }
 }
 

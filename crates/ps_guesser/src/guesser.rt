@@ -1,4 +1,5 @@
 //! Guessers.
+use crate::progress::Progress;
 use ps_answer::{Dual, Model};
 use ps_claims::ClaimKind;
 use ps_formula::World;
@@ -42,4 +43,8 @@ pub trait Guesser {
 
     /// Is told a world in which the last dual's combination is at least 1.
     fn add(&mut self, world: World) -> Result<(), NoMemory>;
+
+    /// How far the last guess is, where the call paused before it had one: the same call goes on with
+    /// it. None where the call came to its end.
+    fn paused(&self) -> Option<Progress>;
 }

@@ -2,5 +2,7 @@
 #![tactic(auto)]
 
 mod guesser;
+mod progress;
 
 pub use guesser::{Guess, Guesser};
+pub use progress::Progress;

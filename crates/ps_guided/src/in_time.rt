@@ -3,11 +3,15 @@ use crate::watch::Watch;
 use ps_answer::{Dual, Model};
 use ps_claims::ClaimKind;
 use ps_formula::World;
-use ps_guesser::{Guess, Guesser};
+use ps_guesser::{Guess, Guesser, Progress};
 use ps_io::NoMemory;
 use ps_problem::{Problem, Query};
 
-/// A guesser beside what watches over it: it has no guess once time is over.
+/// How often a guess pauses at most before it is given up.
+const MOST_PAUSES: u32 = 1000000;
+
+/// A guesser beside what watches over it: it has no guess once time is over. Where a guess pauses, the
+/// watch is asked, and told how far it is.
 #[derive(Drop)]
 pub struct InTime<'a, G, W> {
     /// The guesser.
@@ -22,10 +26,17 @@ impl<'a, G: Guesser, W: Watch> Guesser for InTime<'a, G, W> {
     }
 
     fn model(&mut self, problem: &Problem) -> Result<Option<Model>, NoMemory> {
-        if self.watch.is_over() {
-            return Ok(None);
+        for _ in 0..MOST_PAUSES {
+            if self.watch.is_over() {
+                return Ok(None);
+            }
+            let guess = self.guesser.model(problem)?;
+            match self.guesser.paused() {
+                Some(progress) => self.watch.tell(ClaimKind::Nothing, progress),
+                None => return Ok(guess),
+            }
         }
-        self.guesser.model(problem)
+        Ok(None)
     }
 
     fn nothing(
@@ -33,10 +44,17 @@ impl<'a, G: Guesser, W: Watch> Guesser for InTime<'a, G, W> {
         problem: &Problem,
         query: Option<Query>,
     ) -> Result<Option<Dual>, NoMemory> {
-        if self.watch.is_over() {
-            return Ok(None);
+        for _ in 0..MOST_PAUSES {
+            if self.watch.is_over() {
+                return Ok(None);
+            }
+            let guess = self.guesser.nothing(problem, query)?;
+            match self.guesser.paused() {
+                Some(progress) => self.watch.tell(ClaimKind::Nothing, progress),
+                None => return Ok(guess),
+            }
         }
-        self.guesser.nothing(problem, query)
+        Ok(None)
     }
 
     fn bound(
@@ -45,13 +63,24 @@ impl<'a, G: Guesser, W: Watch> Guesser for InTime<'a, G, W> {
         kind: ClaimKind,
         query: Query,
     ) -> Result<Option<Guess>, NoMemory> {
-        if self.watch.is_over() {
-            return Ok(None);
+        for _ in 0..MOST_PAUSES {
+            if self.watch.is_over() {
+                return Ok(None);
+            }
+            let guess = self.guesser.bound(problem, kind, query)?;
+            match self.guesser.paused() {
+                Some(progress) => self.watch.tell(kind, progress),
+                None => return Ok(guess),
+            }
         }
-        self.guesser.bound(problem, kind, query)
+        Ok(None)
     }
 
     fn add(&mut self, world: World) -> Result<(), NoMemory> {
         self.guesser.add(world)
+    }
+
+    fn paused(&self) -> Option<Progress> {
+        self.guesser.paused()
     }
 }

@@ -15,9 +15,10 @@ mod turns;
 mod watch;
 
 pub use answering::{answer, answer_part, answer_verdict};
+pub use found::find_nothing;
 pub use in_time::InTime;
 pub use known::Known;
-pub use ps_guesser::{Guess, Guesser};
+pub use ps_guesser::{Guess, Guesser, Progress};
 pub use ps_query::Limits;
 pub use timed::{part_in_time, verdict_in_time};
 pub use turns::{MOST_TURNS, are_greatest, limits_at};

@@ -1,7 +1,7 @@
 //! Answers to one query, of which some sides are guessed.
 ghost use Rattle.std.specs.Prelude.{◌+◌, ◌<◌, ◌^◌, length};
 
-use crate::{Guess, Guesser, Limits, answer};
+use crate::{Guess, Guesser, Limits, Progress, answer};
 use ps_answer::{Answer, Dual, Model, QueryAnswer, QueryPart, SideAnswer, Verdict, Weighted};
 use ps_claims::ClaimKind;
 use ps_formula::World;
@@ -98,6 +98,10 @@ impl Guesser for Fixed {
     fn add(&mut self, _world: World) -> Result<(), NoMemory> {
         self.told = true;
         Ok(())
+    }
+
+    fn paused(&self) -> Option<Progress> {
+        None
     }
 }
 

@@ -12,6 +12,7 @@ mod formula_hints;
 mod found;
 mod glyph;
 mod hint;
+mod idle;
 mod item_hints;
 mod message;
 mod number_hints;
@@ -26,6 +27,7 @@ mod warnings;
 mod words;
 
 pub use hint::Hint;
+pub use idle::write_idle_condition;
 pub use refusal::refusal_message;
 pub use starts::{query_lines, sentence_lines};
 pub use warnings::write_warnings;

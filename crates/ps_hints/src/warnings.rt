@@ -21,9 +21,9 @@ const OR: &str = ": | is \"or\"; for a condition write given";
 // What is said of an interval whose first number is the greater one.
 const TURNED: &str = ": the ends of the interval are turned round, so nothing meets it";
 
-// Writes a warning about the probability of a formula, perhaps given a condition.
+/// Writes a warning about the probability of a formula, perhaps given a condition.
 #[tactic(auto, using(crate::proofs::Lines::none))]
-fn warn_about(
+pub(crate) fn warn_about(
     alloc: Global,
     out: &mut Vec<u8>,
     site: Site,

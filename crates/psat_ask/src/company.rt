@@ -1,10 +1,12 @@
 //! What is beside an answer: the clock, where time is limited, and standard error.
-use ps_ask::{Company, Watch};
+use crate::progress::{figures_of, words_of};
+use ps_ask::{ClaimKind, Company, Progress, Sought, Watch};
 use std::io::IsTerminal;
 use std::time::{Duration, Instant};
 
-/// As many blanks as the longest line that tells how far an answer is.
-const BLANK: &str = "\r                                        \r";
+/// As many blanks as the longest line that tells how far an answer is, between returns to its start.
+const BLANK: &str =
+    "\r                                                                              \r";
 
 /// What is beside the answer to a problem.
 #[derive(Drop)]
@@ -16,6 +18,7 @@ pub struct Beside<'a> {
     // Whether standard error is a terminal, where a line tells how far the answer is.
     is_terminal: bool,
     is_told: bool,
+    sought: Sought,
 }
 
 impl<'a> Beside<'a> {
@@ -28,6 +31,7 @@ impl<'a> Beside<'a> {
             is_over: false,
             is_terminal: rt.stderr().is_terminal(),
             is_told: false,
+            sought: Sought::Verdict,
         };
         if let Some(seconds) = seconds {
             match Instant::now(rt) {
@@ -36,6 +40,18 @@ impl<'a> Beside<'a> {
             }
         }
         beside
+    }
+
+    // Writes the line that tells what is sought, and how far it is.
+    fn write_line(&mut self, figures: &str) {
+        if !self.is_terminal {
+            return;
+        }
+        self.clear();
+        if let Ok(words) = words_of(self.rt.alloc(), self.sought) {
+            let _ = eprint!(self.rt; "{words}{figures}");
+        }
+        self.is_told = true;
     }
 }
 
@@ -51,6 +67,12 @@ impl<'a> Watch for Beside<'a> {
         }
         self.is_over
     }
+
+    fn tell(&mut self, kind: ClaimKind, progress: Progress) {
+        if let Ok(figures) = figures_of(self.rt.alloc(), kind, progress) {
+            self.write_line(&figures);
+        }
+    }
 }
 
 impl<'a> Company for Beside<'a> {
@@ -61,13 +83,9 @@ impl<'a> Company for Beside<'a> {
         }
     }
 
-    fn tell(&mut self, done: usize, of: usize) {
-        if !self.is_terminal {
-            return;
-        }
-        self.clear();
-        let _ = eprint!(self.rt; "{done} of {of} queries done");
-        self.is_told = true;
+    fn turn_to(&mut self, sought: Sought) {
+        self.sought = sought;
+        self.write_line("");
     }
 
     fn clear(&mut self) {

@@ -4,6 +4,7 @@
 mod answering;
 mod company;
 mod options;
+mod progress;
 mod refused;
 mod request;
 #[cfg(test)]

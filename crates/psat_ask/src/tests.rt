@@ -6,7 +6,7 @@ ghost use Rattle.psat_ask.specs.Requests.{HasSettings};
 
 use crate::request::{Asked, Request, request_of};
 use ps_answer::Answer;
-use ps_ask::{Company, Settings, Sinks, Status, Style, Watch, ask};
+use ps_ask::{ClaimKind, Company, Progress, Settings, Sinks, Sought, Status, Style, Watch, ask};
 use ps_io::{MemSink, MemSource, NoMemory};
 use ps_read::read_whole;
 use ps_reader::read_report;
@@ -217,12 +217,14 @@ impl Watch for Alone {
     fn is_over(&mut self) -> bool {
         false
     }
+
+    fn tell(&mut self, _kind: ClaimKind, _progress: Progress) {}
 }
 
 impl Company for Alone {
     fn note(&mut self, _text: &[u8]) {}
 
-    fn tell(&mut self, _done: usize, _of: usize) {}
+    fn turn_to(&mut self, _sought: Sought) {}
 
     fn clear(&mut self) {}
 }
