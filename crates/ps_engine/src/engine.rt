@@ -55,6 +55,8 @@ pub struct Engine {
     pub(crate) told: u32,
     /// How many roundings of the refutation were tried.
     pub(crate) roundings: u32,
+    /// How often the numbers of the present basis were made smaller.
+    pub(crate) shrinks: u32,
     pub(crate) gain: FloatGoal,
     /// How far the objective is from its end, as far as is known.
     pub(crate) gap: f64,
@@ -121,6 +123,7 @@ impl Engine {
             mended: 0,
             told: 0,
             roundings: 0,
+            shrinks: 0,
             gain: FloatGoal::new(alloc, relaxed.nodes())?,
             gap: 1.0,
             pace: Pace::steady(),
@@ -162,6 +165,7 @@ impl Engine {
         self.mended = 0;
         self.told = 0;
         self.roundings = 0;
+        self.shrinks = 0;
         self.gap = 1.0;
         self.pace.end();
         Ok(std::mem::replace(&mut self.pool, WorldPool::new(self.alloc)).into_members())
@@ -287,6 +291,7 @@ impl Engine {
             Priced::Spent => Ok(None),
             Priced::Found(members) => {
                 self.gap = self.greatest_gain(&members);
+                self.shrinks = 0;
                 Ok(Some(self.take_all(members)?))
             }
         }
@@ -342,12 +347,14 @@ impl Engine {
     // Counts that worlds were told, and answers whether the guess may go on.
     pub(crate) fn may_go_on(&mut self) -> bool {
         self.told = self.told.saturating_add(1);
+        self.shrinks = 0;
         self.told <= MOST_TOLD
     }
 
     // Counts that the present guess is mended, and answers whether it may be.
     pub(crate) fn may_mend(&mut self) -> bool {
         self.mended = self.mended.saturating_add(1);
+        self.shrinks = 0;
         self.mended <= MOST_MENDED
     }
 }

@@ -60,6 +60,7 @@ impl Engine {
         self.forced = None;
         self.mended = 0;
         self.told = 0;
+        self.shrinks = 0;
         if !self.set_given(aim.given())? {
             return Ok(false);
         }

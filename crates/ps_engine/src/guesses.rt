@@ -39,7 +39,11 @@ impl Engine {
 
     // The distribution of the basis, or of others on the same face where its numbers are too large.
     fn small_model(&mut self, problem: &Problem) -> Result<Option<Model>, NoMemory> {
-        for _ in 0..MOST_SHRINKS {
+        for round in self.pace.first()..MOST_SHRINKS {
+            if self.pace.is_due(round) {
+                self.pause(round, 0.0);
+                return Ok(None);
+            }
             let Some(system) = self.system()? else {
                 return Ok(None);
             };
@@ -51,6 +55,12 @@ impl Engine {
             }
         }
         Ok(None)
+    }
+
+    // Where a call came to its end without a guess, begins anew where that is possible, and answers
+    // whether it did.
+    fn begins_anew(&mut self) -> Result<bool, NoMemory> {
+        Ok(self.pace.paused().is_none() && self.begin_anew()?)
     }
 
     // The guess for an aim, where the bounds can be met.
@@ -102,7 +112,7 @@ impl Guesser for Engine {
             return Ok(None);
         }
         match self.small_model(problem)? {
-            None if self.begin_anew()? && self.settle(problem)? == Stage::Feasible => {
+            None if self.begins_anew()? && self.settle(problem)? == Stage::Feasible => {
                 self.small_model(problem)
             }
             guess => Ok(guess),
@@ -136,7 +146,7 @@ impl Guesser for Engine {
         };
         self.pace.begin();
         match self.side(problem, aim)? {
-            None if self.pace.paused().is_none() && self.begin_anew()? => self.side(problem, aim),
+            None if self.begins_anew()? => self.side(problem, aim),
             guess => Ok(guess),
         }
     }

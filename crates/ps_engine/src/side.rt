@@ -37,16 +37,22 @@ impl Engine {
     ) -> Result<Turn, NoMemory> {
         for round in self.pace.first()..MOST_ROUNDS {
             if self.pace.is_due(round) {
-                let gap = self.gap.min(room_of(aim, self.simplex.objective()));
-                self.pause(round, gap);
-                return Ok(Turn::Pause);
+                return Ok(self.pausing(round, aim));
             }
             match self.one_turn(problem, aim, is_evidence)? {
                 Turn::Again => {}
+                Turn::Pause => return Ok(self.pausing(round, aim)),
                 turn => return Ok(turn),
             }
         }
         Ok(Turn::GiveUp)
+    }
+
+    // The guess pauses before this round.
+    fn pausing(&mut self, round: u32, aim: Aim) -> Turn {
+        let gap = self.gap.min(room_of(aim, self.simplex.objective()));
+        self.pause(round, gap);
+        Turn::Pause
     }
 
     // One minimisation, one pricing, and where no world improves, whole numbers.
@@ -100,17 +106,18 @@ impl Engine {
 
     // Whole numbers from the basis, and where they are too large, from others on the same face.
     fn whole_turn(&mut self, problem: &Problem, aim: Aim) -> Result<Turn, NoMemory> {
-        for _ in 0..MOST_SHRINKS {
+        for _ in 0..self.pace.every {
             match self.whole_guess(aim)? {
                 Turn::TooLarge => {
-                    if !self.shrink(problem, aim)? {
+                    self.shrinks = self.shrinks.saturating_add(1);
+                    if self.shrinks > MOST_SHRINKS || !self.shrink(problem, aim)? {
                         return Ok(Turn::GiveUp);
                     }
                 }
                 turn => return Ok(turn),
             }
         }
-        Ok(Turn::GiveUp)
+        Ok(Turn::Pause)
     }
 
     // Whole numbers from the basis.

@@ -9,10 +9,10 @@ use ps_query::Limits;
 pub const MOST_TURNS: u32 = 32;
 
 /// The most pivots of the first run.
-const FIRST_PIVOTS: u64 = 64;
+const FIRST_PIVOTS: u64 = 8;
 
 /// The most conflicts of a search of the first run.
-const FIRST_CONFLICTS: u64 = 1024;
+const FIRST_CONFLICTS: u64 = 128;
 
 // A limit that is doubled so often, as far as the greatest.
 fn limit_at(first: u64, turn: u32, most: u64) -> u64
@@ -23,8 +23,8 @@ fn limit_at(first: u64, turn: u32, most: u64) -> u64
     if limit < most { limit } else { most }
 }
 
-/// The limits of a run that was begun so often before: small ones at first, and twice as great ones
-/// each time, as far as the greatest.
+/// The limits of a run that was begun so often before: small ones at first, then twice as many pivots
+/// each time and twice as many conflicts each other time, as far as the greatest.
 pub fn limits_at(most: Limits, turn: u32) -> Limits
     requires limits { AreLimits most }
     requires few { turn < MOST_TURNS }
@@ -32,7 +32,7 @@ pub fn limits_at(most: Limits, turn: u32) -> Limits
 {
     Limits {
         pivots: limit_at(FIRST_PIVOTS, turn, most.pivots),
-        conflicts: limit_at(FIRST_CONFLICTS, turn, most.conflicts),
+        conflicts: limit_at(FIRST_CONFLICTS, turn / 2, most.conflicts),
     }
 }
 
