@@ -60,7 +60,7 @@ impl Engine {
     // Where a call came to its end without a guess, begins anew where that is possible, and answers
     // whether it did.
     fn begins_anew(&mut self) -> Result<bool, NoMemory> {
-        Ok(self.pace.paused().is_none() && self.begin_anew()?)
+        Ok(self.pace.progress().is_none() && self.begin_anew()?)
     }
 
     // The guess for an aim, where the bounds can be met.
@@ -151,8 +151,8 @@ impl Guesser for Engine {
         }
     }
 
-    fn paused(&self) -> Option<Progress> {
-        self.pace.paused()
+    fn progress(&self) -> Option<Progress> {
+        self.pace.progress()
     }
 
     fn add(&mut self, world: World) -> Result<(), NoMemory> {

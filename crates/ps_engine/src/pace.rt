@@ -61,7 +61,7 @@ impl Pace {
     }
 
     /// How far the guess is that paused.
-    pub(crate) fn paused(&self) -> Option<Progress> {
+    pub(crate) fn progress(&self) -> Option<Progress> {
         self.paused
     }
 }

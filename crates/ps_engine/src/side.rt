@@ -37,11 +37,11 @@ impl Engine {
     ) -> Result<Turn, NoMemory> {
         for round in self.pace.first()..MOST_ROUNDS {
             if self.pace.is_due(round) {
-                return Ok(self.pausing(round, aim));
+                return Ok(self.rest(round, aim));
             }
             match self.one_turn(problem, aim, is_evidence)? {
                 Turn::Again => {}
-                Turn::Pause => return Ok(self.pausing(round, aim)),
+                Turn::Pause => return Ok(self.rest(round, aim)),
                 turn => return Ok(turn),
             }
         }
@@ -49,7 +49,7 @@ impl Engine {
     }
 
     // The guess pauses before this round.
-    fn pausing(&mut self, round: u32, aim: Aim) -> Turn {
+    fn rest(&mut self, round: u32, aim: Aim) -> Turn {
         let gap = self.gap.min(room_of(aim, self.simplex.objective()));
         self.pause(round, gap);
         Turn::Pause

@@ -47,7 +47,7 @@ fn side(
 ) -> Result<Option<Guess>, NoMemory> {
     for _ in 0..MOST_PAUSES {
         let guess = engine.bound(problem, kind, query)?;
-        if engine.paused().is_none() {
+        if engine.progress().is_none() {
             return Ok(guess);
         }
     }
@@ -87,7 +87,7 @@ fn pauses(alloc: Global, problem: Option<Problem>) -> Option<bool> {
     engine.pause_every(1);
     for query in problem.queries().as_slice() {
         let guess = engine.bound(&problem, ClaimKind::Lower, *query).ok()?;
-        return Some(guess.is_none() && engine.paused()?.worlds > 0);
+        return Some(guess.is_none() && engine.progress()?.worlds > 0);
     }
     None
 }

@@ -140,7 +140,7 @@ impl Guesser for Fixed {
         Ok(())
     }
 
-    fn paused(&self) -> Option<Progress> {
+    fn progress(&self) -> Option<Progress> {
         None
     }
 }

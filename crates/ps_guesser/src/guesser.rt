@@ -46,5 +46,5 @@ pub trait Guesser {
 
     /// How far the last guess is, where the call paused before it had one: the same call goes on with
     /// it. None where the call came to its end.
-    fn paused(&self) -> Option<Progress>;
+    fn progress(&self) -> Option<Progress>;
 }

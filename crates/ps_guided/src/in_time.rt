@@ -31,7 +31,7 @@ impl<'a, G: Guesser, W: Watch> Guesser for InTime<'a, G, W> {
                 return Ok(None);
             }
             let guess = self.guesser.model(problem)?;
-            match self.guesser.paused() {
+            match self.guesser.progress() {
                 Some(progress) => self.watch.tell(ClaimKind::Nothing, progress),
                 None => return Ok(guess),
             }
@@ -49,7 +49,7 @@ impl<'a, G: Guesser, W: Watch> Guesser for InTime<'a, G, W> {
                 return Ok(None);
             }
             let guess = self.guesser.nothing(problem, query)?;
-            match self.guesser.paused() {
+            match self.guesser.progress() {
                 Some(progress) => self.watch.tell(ClaimKind::Nothing, progress),
                 None => return Ok(guess),
             }
@@ -68,7 +68,7 @@ impl<'a, G: Guesser, W: Watch> Guesser for InTime<'a, G, W> {
                 return Ok(None);
             }
             let guess = self.guesser.bound(problem, kind, query)?;
-            match self.guesser.paused() {
+            match self.guesser.progress() {
                 Some(progress) => self.watch.tell(kind, progress),
                 None => return Ok(guess),
             }
@@ -80,7 +80,7 @@ impl<'a, G: Guesser, W: Watch> Guesser for InTime<'a, G, W> {
         self.guesser.add(world)
     }
 
-    fn paused(&self) -> Option<Progress> {
-        self.guesser.paused()
+    fn progress(&self) -> Option<Progress> {
+        self.guesser.progress()
     }
 }

@@ -100,7 +100,7 @@ impl Guesser for Fixed {
         Ok(())
     }
 
-    fn paused(&self) -> Option<Progress> {
+    fn progress(&self) -> Option<Progress> {
         None
     }
 }
