@@ -31,15 +31,20 @@ mod writing;
 
 use crate::exit::{exit_code, failure, run_program};
 use ps_io::{StdSink, StdSource};
+use ps_outlet::Outlet;
 use std::env;
 use std::process::ExitCode;
 
 fn main(rt: HostRuntime) -> ExitCode {
     let mut input = StdSource::new(rt.stdin());
-    let mut output = StdSink::new(rt.stdout());
+    let mut outlet = Outlet::new(rt.stdout());
+    let mut output = StdSink::new(&mut outlet);
     let ended = run_program(rt.alloc(), env::args(&rt), &mut input, &mut output);
-    if let Some(failure) = failure(ended) {
-        let _ = eprintln!(rt; "psat: {failure}");
+    // A reader that has gone, as `head` does, wants nothing more, also no message.
+    if !outlet.is_left() {
+        if let Some(failure) = failure(ended) {
+            let _ = eprintln!(rt; "psat: {failure}");
+        }
     }
     exit_code(ended)
 }

@@ -5,6 +5,7 @@ use crate::company::Beside;
 use crate::request::Asked;
 use ps_ask::{Sinks, Status, Style, ask};
 use ps_io::{MemSink, Sink, Source, StdSink, StdSource, write_all};
+use ps_outlet::Outlet;
 use std::fs::File;
 
 /// The name of standard input in messages and objects.
@@ -18,16 +19,31 @@ fn tell(rt: &HostRuntime, name: &str, failure: &str) {
     let _ = eprintln!(rt; "psat_ask: {name}: {failure}");
 }
 
+// Tells that standard output failed, but where its reader has gone, as `head` does: it wants nothing
+// more, also no message.
+fn tell_output(rt: &HostRuntime, is_left: bool) {
+    if !is_left {
+        tell(rt, OUTPUT, "writing failed");
+    }
+}
+
 // Tells what failed in the answer to an input.
-fn tell_status(rt: &HostRuntime, name: &str, report: &str, reports: bool, status: Status) {
-    match status {
+fn tell_status(rt: &HostRuntime, name: &str, report: &str, reports: bool, ended: Ended) {
+    match ended.status {
         Status::ReadFault => tell(rt, name, "reading failed"),
-        Status::WriteFault => tell(rt, OUTPUT, "writing failed"),
+        Status::WriteFault => tell_output(rt, ended.is_left),
         Status::ReportFault => tell(rt, report, "writing failed"),
         Status::NoMemory => tell(rt, name, "not enough memory"),
         Status::Late if reports => tell(rt, name, "no report: not finished within the time limit"),
         _ => {}
     }
+}
+
+// How an answer ended, and whether the reader of standard output has gone.
+#[derive(Clone, Copy, Drop)]
+struct Ended {
+    status: Status,
+    is_left: bool,
 }
 
 // Answers an input, with its report to a sink.
@@ -37,22 +53,27 @@ fn answer_to<I: Source, R: Sink + Drop>(
     name: &str,
     source: &mut I,
     report: R,
-) -> Status
+) -> Ended
     requires { AreSettings asked.now.settings }
 {
+    let mut outlet = Outlet::new(rt.stdout());
     let mut sinks = Sinks {
-        shown: StdSink::new(rt.stdout()),
+        shown: StdSink::new(&mut outlet),
         report,
     };
     let mut beside = Beside::new(rt, asked.seconds);
-    ask(
+    let status = ask(
         rt.alloc(),
         asked.settings,
         name,
         source,
         &mut sinks,
         &mut beside,
-    )
+    );
+    Ended {
+        status,
+        is_left: outlet.is_left(),
+    }
 }
 
 // Answers an input, with its report to a file where one is wanted.
@@ -65,18 +86,18 @@ fn answer_source<I: Source>(rt: &HostRuntime, asked: &Asked, name: &str, source:
             tell(rt, name, "not enough memory");
             return Status::NoMemory.number();
         };
-        let status = answer_to(rt, asked, name, source, none);
+        let ended = answer_to(rt, asked, name, source, none);
         let reports = asked.settings.style == Style::Report;
-        tell_status(rt, name, OUTPUT, reports, status);
-        return status.number();
+        tell_status(rt, name, OUTPUT, reports, ended);
+        return ended.status.number();
     };
     let Ok(created) = File::create(rt, file.as_str()) else {
         tell(rt, file.as_str(), "can't be created");
         return Status::ReportFault.number();
     };
-    let status = answer_to(rt, asked, name, source, StdSink::new(created));
-    tell_status(rt, name, file.as_str(), true, status);
-    status.number()
+    let ended = answer_to(rt, asked, name, source, StdSink::new(created));
+    tell_status(rt, name, file.as_str(), true, ended);
+    ended.status.number()
 }
 
 // Answers the problem of a file.
@@ -95,21 +116,24 @@ fn answer_file(rt: &HostRuntime, asked: &Asked, file: &str) -> u8
     answer_source(rt, asked, file, &mut input)
 }
 
-// Writes the line before the answer to a file, whole.
-fn write_heading(rt: &HostRuntime, file: &str) -> bool {
-    let mut output = StdSink::new(rt.stdout());
-    write_all(&mut output, b"== ").is_ok()
-        && write_all(&mut output, file.as_bytes()).is_ok()
-        && write_all(&mut output, b"\n").is_ok()
+// Writes texts one behind the other, whole; where that fails, it is told.
+fn is_written(rt: &HostRuntime, texts: &[&str]) -> bool {
+    let mut outlet = Outlet::new(rt.stdout());
+    let mut output = StdSink::new(&mut outlet);
+    for text in texts {
+        if write_all(&mut output, text.as_bytes()).is_err() {
+            tell_output(rt, outlet.is_left());
+            return false;
+        }
+    }
+    true
 }
 
 /// Writes a text alone: the status.
 pub fn show(rt: &HostRuntime, text: &str) -> u8 {
-    let mut output = StdSink::new(rt.stdout());
-    if write_all(&mut output, text.as_bytes()).is_ok() {
+    if is_written(rt, &[text]) {
         return 0;
     }
-    tell(rt, OUTPUT, "writing failed");
     Status::WriteFault.number()
 }
 
@@ -123,8 +147,7 @@ pub fn answer_all(rt: &HostRuntime, asked: &Asked) -> u8
     let has_headings = asked.files.len() > 1 && asked.settings.style != Style::Json;
     let mut greatest = 0;
     for file in &asked.files {
-        if has_headings && !write_heading(rt, file.as_str()) {
-            tell(rt, OUTPUT, "writing failed");
+        if has_headings && !is_written(rt, &["== ", file.as_str(), "\n"]) {
             return Status::WriteFault.number();
         }
         let status = answer_file(rt, asked, file.as_str());

@@ -1,0 +1,2 @@
+-- Meaning
+pub mod Readers

@@ -1,0 +1,24 @@
+-- Whether the reader of what is written has gone.
+use Rattle.std.specs.Prelude.{◌≡◌, ◌≢◌, Bool, true, Result, Ok, Err}
+use Rattle.std.specs.declared.io.ErrorKind.TheVariants.{BrokenPipe}
+use Rattle.std.specs.IoError.{error_kind}
+use Rattle.std.specs.declared.io.Error.{Error}
+use Rattle.ps_outlet.specs.declared.outlet.Outlet.{Outlet}
+
+-- whether a write found that the reader has gone
+abbrev pub has_left : {W : Type 0} → Outlet W → Bool
+has_left o = o.is_left
+
+-- what is written to
+abbrev pub writer_of : {W : Type 0} → Outlet W → W
+writer_of o = o.writer
+
+-- what is known of the reader behind an error: it has gone where a pipe is broken, and else what was known before
+pub record IsKnownBehind (e : Error) (old new : Bool) : Type 0 where
+  pub broken : error_kind e ≡ BrokenPipe → new ≡ true
+  pub other : error_kind e ≢ BrokenPipe → new ≡ old
+
+-- what is known of the reader behind a call that returned this
+abbrev pub Notes : {T : Type 0} → Result T Error → Bool → Bool → Type 0
+Notes (Ok x) old new = new ≡ old
+Notes (Err e) old new = IsKnownBehind e old new

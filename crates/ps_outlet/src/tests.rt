@@ -1,0 +1,37 @@
+//! Writers that fail.
+use crate::Outlet;
+use std::io::{self, ErrorKind, Write};
+use std::test::*;
+
+// Fails each write in this way.
+#[derive(Drop)]
+struct Failing(ErrorKind);
+
+impl Write for Failing {
+    fn write(&mut self, _buf: &[u8]) -> io::Result<usize> {
+        Err(self.0.into())
+    }
+
+    fn flush(&mut self) -> io::Result<()> {
+        Ok(())
+    }
+}
+
+// Whether a reader has gone, by the kind of error of a write.
+const ROWS: [(ErrorKind, bool); 3] = [
+    (ErrorKind::BrokenPipe, true),
+    (ErrorKind::StorageFull, false),
+    (ErrorKind::Other, false),
+];
+
+fn notes(kind: ErrorKind, is_left: bool) -> bool {
+    let mut outlet = Outlet::new(Failing(kind));
+    let before = outlet.is_left();
+    let failed = outlet.write(b"a").is_err();
+    failed && !before && outlet.is_left() == is_left
+}
+
+#[test]
+fn readers_that_go_are_noted(rt: HostRuntime) {
+    assert!(rt; ROWS.iter().all(|row| notes(row.0, row.1)));
+}
