@@ -6,7 +6,7 @@ ghost use Rattle.ps_outlet.specs.Readers.{IsKnownBehind, Notes, has_left, writer
 
 use std::io::{self, ErrorKind, Write};
 
-/// A writer that notes whether its reader has gone, as the reader of a pipe does that has read enough.
+/// A writer that notes whether its reader has gone, as that of a pipe goes that has read enough.
 #[derive(Drop)]
 pub struct Outlet<W> {
     writer: W,
@@ -47,8 +47,8 @@ impl<W: Write> Write for Outlet<W> {
 
     fn write(&mut self, buf: &[u8]) -> io::Result<usize>
         ensures bound { WritesAtMost result buf.now }
-        ensures bytes { WriteAppends (W.contents (writer_of self.old)) (W.contents (writer_of self.new))
-            result buf.now }
+        ensures bytes { WriteAppends (W.contents (writer_of self.old))
+            (W.contents (writer_of self.new)) result buf.now }
         ensures noted { Notes result (has_left self.old) (has_left self.new) }
     {
         match self.writer.write(buf) {
