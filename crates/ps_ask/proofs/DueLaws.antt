@@ -49,16 +49,6 @@ output-is s p a r t e h =
     let ends = status-is s.is_timed a r h in
     λ i. record { text = begun_text s.style s.digits p a ++ e i; report = reported i; status = ends i }
 
--- what shows an answer to a problem
-pub solved_by : {E : Type 0} (s : Settings) (name : List ℕ) (p : Parts) (a : Answer) (r : Result Reply E) (old new : Option (List ℕ)) → IsWhole s p a
-    → Appends old new (begun_text s.style s.digits p a) → IfOk r (IsShownFor s name p a) → IfOk r (IsSolvedAfter s name p old new)
-solved_by s name p a (Ok x) old new h w k = record {
-  begun = begun_text s.style s.digits p a;
-  written = w;
-  solved = record { answer = a; whole = h; beside = k.beside; told = k.told; is = output-is s p a x k.beside k.last_is k.answer_is };
-}
-solved_by s name p a (Err e) old new h w k = tt
-
 pub solved_after : (s : Settings) (name : List ℕ) (p : Parts) (a : Answer) (r : Reply) (old new : Option (List ℕ)) → IsWhole s p a
     → Appends old new (begun_text s.style s.digits p a) → IsShownFor s name p a r → IsSolvedAfter s name p old new r
 solved_after s name p a r old new h w k = record {

@@ -45,10 +45,14 @@ abbrev pub IsCoreWithin : Limits → Parts → Core → Type 0
 IsCoreWithin limits p (core.Found ns) = AreIrreducible p ns
 IsCoreWithin limits p (core.Open cause) = IsStopped limits p cause
 
+-- what stopped the search for sentences that clash: a limit of the settings, or that time was over
+abbrev pub IsStoppedBy : Settings → Parts → Cause → Type 0
+IsStoppedBy s p cause = IsStopped s.limits p cause ⊎ IsLateClash s cause
+
 -- the same within the settings' limits, or, where time is limited, as far as it went
 abbrev pub IsCoreFor : Settings → Parts → Core → Type 0
 IsCoreFor s p (core.Found ns) = AreIrreducible p ns
-IsCoreFor s p (core.Open cause) = IsStopped s.limits p cause ⊎ IsLateClash s cause
+IsCoreFor s p (core.Open cause) = IsStoppedBy s p cause
 
 -- what the problem comes to without the sentence of a number: the others can be met together, or can't, or it wasn't found out
 abbrev pub IsRestOf : Settings → Parts → ℕ → Verdict → Type 0
@@ -72,7 +76,7 @@ pub record IsClash (s : Settings) (p : Parts) (clashing : List Clashing) : Type 
 -- what is found of the sentences that clash, or what stopped the search for them
 abbrev pub IsFoundClash : Settings → Parts → Clash → Type 0
 IsFoundClash s p (clash.Irreducible clashing) = IsClash s p clashing
-IsFoundClash s p (clash.Open cause) = IsStopped s.limits p cause ⊎ IsLateClash s cause
+IsFoundClash s p (clash.Open cause) = IsStoppedBy s p cause
 
 -- what is shown of them: where the verdict is that the sentences are inconsistent what is found, and else nothing
 abbrev pub IsClashAt : Settings → Parts → Verdict → Option Clash → Type 0

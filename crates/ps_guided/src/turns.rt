@@ -1,5 +1,5 @@
 //! The limits of runs that are begun again and again while time is left.
-ghost use Rattle.std.specs.Prelude.{◌<◌, ◌≤◌};
+ghost use Rattle.std.specs.Prelude.{◌<◌, ◌≤◌, ◌≡◌, ◌↔◌, IsTrue};
 ghost use Rattle.ps_generation.specs.Phases.{AreLimits};
 ghost use Rattle.ps_guided.specs.declared.turns.TheConstants.{MOST_TURNS};
 
@@ -28,7 +28,9 @@ fn limit_at(first: u64, turn: u32, most: u64) -> u64
 pub fn limits_at(most: Limits, turn: u32) -> Limits
     requires limits { AreLimits most }
     requires few { turn < MOST_TURNS }
-    ensures { AreLimits result }
+    ensures within { AreLimits result }
+    ensures pivots { result.pivots ≤ most.pivots }
+    ensures conflicts { result.conflicts ≤ most.conflicts }
 {
     Limits {
         pivots: limit_at(FIRST_PIVOTS, turn, most.pivots),
@@ -37,6 +39,8 @@ pub fn limits_at(most: Limits, turn: u32) -> Limits
 }
 
 /// Whether these limits are the greatest.
-pub fn are_greatest(limits: Limits, most: Limits) -> bool {
+pub fn are_greatest(limits: Limits, most: Limits) -> bool
+    ensures { IsTrue result ↔ limits ≡ most }
+{
     limits.pivots == most.pivots && limits.conflicts == most.conflicts
 }
