@@ -16,10 +16,10 @@ use crate::advancing::advance;
 use crate::error::SearchError;
 use crate::order::Order;
 use ps_clause::ClauseForm;
-use ps_io::{List, NoMemory};
+use ps_io::NoMemory;
 use ps_learn::learn;
 use ps_log::{ProofSink, is_goal_within};
-use ps_pb::{Assignment, Constraint, Step, clause};
+use ps_pb::{Assignment, Constraint, Step};
 use ps_trail::Trail;
 use ps_watch::Kept;
 use std::alloc::Global;
@@ -33,20 +33,6 @@ pub enum Outcome {
     Refuted { last: u64 },
     /// So many clauses were learned, and one more is due.
     Spent { learned: u64 },
-}
-
-// The clauses of the form, and the goal.
-fn first_known(
-    alloc: Global,
-    base: &ClauseForm,
-    goal: &Constraint,
-) -> Result<List<Constraint>, NoMemory>
-    ensures value { IfOk result (λ known. known ≡ base.now.clauses ++ goal.now ∷ []) }
-    ensures few { IfOk result (λ known. length known ≤ 2 ^ 32) }
-{
-    let mut known = base.copy(alloc)?.into_clauses();
-    known.push(goal.copy(alloc)?)?;
-    Ok(known)
 }
 
 /// Looks for a full assignment that meets each clause of the form and the goal, and learns a clause
@@ -82,12 +68,12 @@ pub fn search<S: ProofSink>(
     ensures same_kind { S.takes_memory log.new ≡ S.takes_memory log.old }
     ensures same_references { S.names log.new ≡ S.names log.old }
 {
-    let known = first_known(alloc, base, goal)?;
+    let kept = Kept::new(alloc, base, goal)?;
     let trail = Trail::new(alloc, base.variables())?;
     // Called for its clauses: each constraint is within the limits of a goal.
     let _within = is_goal_within(goal);
     log.begin(goal)?;
-    learn_all(alloc, base, goal, conflicts, known, trail, log)
+    learn_all(alloc, base, goal, conflicts, kept, trail, log)
 }
 
 // Goes on from a log that has begun.
@@ -96,7 +82,7 @@ fn learn_all<S: ProofSink>(
     base: &ClauseForm,
     goal: &Constraint,
     conflicts: u64,
-    known: List<Constraint>,
+    mut kept: Kept,
     mut trail: Trail,
     log: &mut S,
 ) -> Result<Outcome, SearchError>
@@ -120,7 +106,6 @@ fn learn_all<S: ProofSink>(
     let mut order = Order::new(alloc, goal, base.variables())?;
     // Read for its clauses: the goal is in the form in which constraints are kept.
     let _terms = goal.terms();
-    let mut kept = Kept::new(alloc, known, &mut trail)?;
     let mut learned = 0;
     'learn: loop {
         let conflict = match advance(base, &mut kept, &order, &mut trail) {
@@ -142,23 +127,11 @@ fn learn_all<S: ProofSink>(
         }
         order.raise(&found.marks);
         order.keep_values(&trail);
+        kept.learn(found.step.lits.as_slice())?;
         kept.cut_to(&mut trail, found.level);
-        keep(alloc, &mut kept, &mut trail, &found.step)?;
         hand_over(&found.step, log)?;
         learned += 1;
     }
-}
-
-// Keeps the clause of a step.
-fn keep(alloc: Global, kept: &mut Kept, trail: &mut Trail, step: &Step) -> Result<(), NoMemory>
-    requires keeping { IsKeeping kept.old trail.old }
-    requires inside { IsWithin trail.old.variables (added step.now) }
-    ensures known { OnOk result (known_by kept.new ≡ known_by kept.old ++ added step.now ∷ []) }
-    ensures extends { OnOk result (Extends (known_of (known_by kept.new)) trail.old trail.new) }
-    ensures keeping { OnOk result (IsKeeping kept.new trail.new) }
-{
-    let clause = clause(alloc, step.lits.as_slice())?;
-    kept.learn(trail, clause)
 }
 
 // Hands a step over.

@@ -1,46 +1,47 @@
 -- What holds of the watches after one constraint more.
-use Rattle.std.proofs.Common.{◌≡◌, ◌≢◌, ℕ, zero, suc, ◌+◌, ◌<◌, ◌≤◌, ℤ, Bool, true, false, not, Option, Some, None, List, [], ◌∷◌, ◌++◌, length, length-append, get_or, arith, refl, sym, ap, subst, ◌∙◌, inl, inr, ◌⊎◌, unsigned_abs}
+use Rattle.std.proofs.Common.{◌≡◌, ◌≢◌, ℕ, zero, suc, ◌+◌, ◌<◌, ◌≤◌, ℤ, Bool, true, false, not, Option, Some, None, List, [], ◌∷◌, ◌++◌, length, length-append, take, get_or, arith, refl, sym, ap, subst, ◌∙◌, inl, inr, ◌⊎◌, unsigned_abs}
 use Rattle.std.proofs.lemmas.Bool.{cases_eq}
 use Rattle.ps_steps.specs.Assignments.{Assignment, value_of, is_false, is_unset, Includes}
 use Rattle.ps_steps.specs.Constraints.{Constraint, HasTerm, is_open}
 use Rattle.ps_steps.specs.Weights.{IsWithin}
-use Rattle.ps_steps.specs.Steps.{known_of, constraint_at}
+use Rattle.ps_steps.specs.Steps.{Known, known_of, constraint_at}
 use Rattle.ps_learning.specs.Trails.{Trail, values, level, up_to, implied, IsLit, IsFresh, AreFresh, AreLevels}
 use Rattle.ps_watch.specs.declared.visiting.Watches.{Watches}
 use Rattle.ps_watch.specs.Watches.{IsKept, IsFiled, AreGood, Extends, IsClosedBelow}
 use Rattle.ps_watch.specs.Going.{values_to, IsGoodUpTo}
-use Rattle.ps_watch.specs.Scans.{IsOneOf}
+use Rattle.ps_watch.specs.Scans.{IsOneOf, IsCoveredBy, AreCovered}
 use Rattle.ps_watch.specs.Watching.{HasWatched, IsPair}
 use Rattle.ps_watch.specs.Choices.{AreTwoOf, AreOpen, AreLast}
-use Rattle.ps_watch.specs.Linking.{IsCoveredBy, CoversMore, HasLinked, IsLinkedTo}
+use Rattle.ps_watch.specs.Linking.{CoversMore, HasLinked, StayCovered}
+use Rattle.ps_watch.specs.Keeping.{AreIdsTo}
 use Rattle.ps_watch.proofs.Clauses.{false-closed}
 use Rattle.ps_watch.proofs.Reading.{extends-same, extends-then, values-implied}
 use Rattle.std.specs.Prelude.{is_none, Result, Ok, Err, OnOk}
 use Rattle.ps_steps.proofs.Setting.{value-true}
 use Rattle.ps_steps.proofs.Full.{term-within}
 use Rattle.ps_learning.proofs.Entries.{length-values}
-use Rattle.ps_watch.proofs.Followed.{part-included, part-same, good-grows}
+use Rattle.ps_watch.proofs.Followed.{part-included, part-same, part-within, good-grows}
 use Rattle.ps_watch.proofs.Levelled.{IsNotFalseBelow, closed-watched, open-below}
 use Rattle.ps_watch.proofs.Chosen.{top-above}
 
-front : {X : Type 0} → (xs ys : List X) (d : X) (i : ℕ) → i < length xs → get_or (xs ++ ys) i d ≡ get_or xs i d
+pub front : {X : Type 0} → (xs ys : List X) (d : X) (i : ℕ) → i < length xs → get_or (xs ++ ys) i d ≡ get_or xs i d
 front [] ys d i h = absurd (omega (arith, h))
 front (x ∷ xs) ys d zero h = refl
 front (x ∷ xs) ys d (suc i) h = front xs ys d i (omega (arith, h))
 
-behind : {X : Type 0} → (xs : List X) (y : X) (ys : List X) (d : X) → get_or (xs ++ y ∷ ys) (length xs) d ≡ y
+pub behind : {X : Type 0} → (xs : List X) (y : X) (ys : List X) (d : X) → get_or (xs ++ y ∷ ys) (length xs) d ≡ y
 behind [] y ys d = refl
 behind (x ∷ xs) y ys d = behind xs y ys d
 
 -- one of a list is one of a longer list
-one-longer : (ids more new : List ℕ) (x : ℕ) → new ≡ ids ++ more → IsOneOf ids x → IsOneOf new x
+pub one-longer : (ids more new : List ℕ) (x : ℕ) → new ≡ ids ++ more → IsOneOf ids x → IsOneOf new x
 one-longer ids more new x e h = rw e (record {
   place = h.place;
   within = omega (arith, h.within, length-append ids more);
   there = front ids more 0 h.place h.within ∙ h.there;
 })
 
-one-new : (ids more new : List ℕ) (x : ℕ) → new ≡ ids ++ x ∷ more → IsOneOf new x
+pub one-new : (ids more new : List ℕ) (x : ℕ) → new ≡ ids ++ x ∷ more → IsOneOf new x
 one-new ids more new x e = rw e (record {
   place = length ids;
   within = let l = length-append ids (x ∷ more) in omega (arith, l);
@@ -117,17 +118,43 @@ linked-same cs w t kept filed = record {
 }
 
 -- ---- one constraint after the other
-pub linked-more : (cs : List Constraint) (t : Trail) (w : Watches) (scanned : List ℕ) (u : Trail) (n id : ℕ) (w' : Watches) (scanned' : List ℕ) (u' : Trail) → IsLinkedTo cs t w scanned u n → id ≡ n + 1 → HasLinked cs w u w' u' → CoversMore id w scanned w' scanned' → IsLinkedTo cs t w' scanned' u' (n + 1)
-linked-more cs t w scanned u n id w' scanned' u' a e h more = record {
-  kept = subst (λ v. IsKept v cs w') a.extends.variables h.kept;
-  filed = subst (λ v. IsFiled v w') a.extends.variables h.filed;
-  covered = λ x one most. elim (cases_eq x id) [
-    | inl q ↦ rw q more.own
-    | inr d ↦ more.each x (a.covered x one (omega (arith, most, d, e)))
+pub linked-then : (cs : List Constraint) (w : Watches) (t : Trail) (w1 : Watches) (t1 : Trail) (w2 : Watches) (t2 : Trail) → HasLinked cs w t w1 t1 → HasLinked cs w1 t1 w2 t2 → HasLinked cs w t w2 t2
+linked-then cs w t w1 t1 w2 t2 a b = record {
+  kept = subst (λ v. IsKept v cs w2) a.extends.variables b.kept;
+  filed = subst (λ v. IsFiled v w2) a.extends.variables b.filed;
+  extends = extends-then (known_of cs) t t1 t2 a.extends b.extends;
+  good = λ n within g. b.good n (part-within cs t t1 n a.extends within) (a.good n within g);
+  lower = λ g. subst (IsClosedBelow w2 t2) a.extends.level_is (b.lower (subst (IsClosedBelow w1 t1) (sym a.extends.level_is) (a.lower g)));
+}
+
+-- one of a list is one of its front, or the last one
+last-split : (xs : List ℕ) (n : ℕ) → length xs ≡ suc n → (i : ℕ) → i < length xs → (get_or xs i 0 ≡ get_or (take n xs) i 0) × (i < length (take n xs)) ⊎ (i ≡ n)
+last-split [] n e i h = absurd (omega (arith, e))
+last-split (x ∷ xs) zero e i h = inr (omega (arith, e, h))
+last-split (x ∷ xs) (suc n) e zero h = inl (refl, omega arith)
+last-split (x ∷ xs) (suc n) e (suc i) h = elim (last-split xs n (omega (arith, e)) i (omega (arith, h))) [
+  | inl p ↦ inl (p.0, omega (arith, p.1))
+  | inr q ↦ inr (omega (arith, q))
+]
+
+pub front-size : (xs : List ℕ) (n : ℕ) → length xs ≡ suc n → length (take n xs) ≡ n
+front-size xs zero h = refl
+front-size [] (suc n) h = absurd (omega (arith, h))
+front-size (x ∷ xs) (suc n) h = ap suc (front-size xs n (omega (arith, h)))
+
+-- the last one that waited is watched or scanned
+pub covered-last : (known : Known) (w : Watches) (scanned waiting : List ℕ) (w' : Watches) (scanned' : List ℕ) (n id : ℕ) → length waiting ≡ suc n → id ≡ get_or waiting n 0 → CoversMore id w scanned w' scanned' → StayCovered known w scanned waiting w' scanned' (take n waiting)
+covered-last known w scanned waiting w' scanned' n id size e h = λ goal cover. record {
+  at = λ x c at. elim (cover.at x c at) [
+    | inl one ↦ inl (h.each x one)
+    | inr r ↦ elim r [
+      | inl one ↦ elim (last-split waiting n size one.place one.within) [
+        | inl p ↦ inr (inl (record { place = one.place; within = p.1; there = sym p.0 ∙ one.there }))
+        | inr q ↦ (let own : x ≡ id = sym one.there ∙ ap (λ i. get_or waiting i 0) q ∙ sym e in inl (rw own h.own))
+      ]
+      | inr g ↦ inr (inr g)
+    ]
   ];
-  extends = extends-then (known_of cs) t u u' a.extends h.extends;
-  good = h.good 0 (omega arith) a.good;
-  lower = subst (IsClosedBelow w' u') a.extends.level_is (h.lower (subst (IsClosedBelow w u) (sym a.extends.level_is) a.lower));
 }
 
 -- ---- a literal that isn't false, set if it is unset
@@ -140,7 +167,12 @@ set-implied t u l id e i = rw (values-implied t u l id e) (value-true (values t)
 pub lit-of : (v : ℕ) (c : Constraint) (l : ℤ) (k : ℕ) → IsWithin v c → HasTerm l k c.terms → 1 ≤ unsigned_abs l → IsLit v l
 lit-of v c l k i h one = let w = term-within v c l k i h in (one, omega (arith, one, w))
 
--- three facts after an Ok
-pub on-three : {T E : Type 0} → (r : Result T E) (A B C D : Type 0) → OnOk r A → OnOk r B → OnOk r C → (A → B → C → D) → OnOk r D
-on-three (Ok x) A B C D a b c f = f a b c
-on-three (Err e) A B C D a b c f = tt
+-- ---- the numbers from 1 on
+pub ids-more : (n : ℕ) (ids new : List ℕ) → new ≡ ids ++ (n + 1) ∷ [] → AreIdsTo n ids → AreIdsTo (n + 1) new
+ids-more n ids new e h = rw e (record {
+  length_is = let l = length-append ids ((n + 1) ∷ []) in omega (arith, l, h.length_is);
+  at = λ i less. elim (cases_eq i n) [
+    | inl q ↦ rw (q, ← h.length_is) (behind ids (length ids + 1) [] 0)
+    | inr q ↦ front ids ((n + 1) ∷ []) 0 i (omega (arith, less, q, h.length_is)) ∙ h.at i (omega (arith, less, q))
+  ];
+})

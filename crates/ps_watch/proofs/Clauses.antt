@@ -13,6 +13,7 @@ use Rattle.ps_steps.specs.Weights.{IsPlain}
 use Rattle.ps_steps.proofs.Sums.{Implies, sum_where-le, sum_where-gap}
 use Rattle.ps_steps.proofs.Setting.{HasNone, AreDistinct}
 use Rattle.ps_forms.specs.Decided.{IsIdle}
+use Rattle.ps_watch.specs.Choices.{some_open}
 
 abbrev pub AreOnes : List (ℤ × ℕ) → Type 0
 AreOnes [] = Unit {0}
@@ -155,6 +156,25 @@ idle-pair c a l m p ne h k f g = elim (three (value_of a l)) [
     ]
   ]
 ]
+
+-- where all literals of a clause are false
+none-open : (a : Assignment) (ts : List (ℤ × ℕ)) (l : ℤ) (k : ℕ) → some_open a ts ≡ false → HasTerm l k ts → is_open a l ≡ false
+none-open a [] l k n h = absurd h
+none-open a (t ∷ ts) l k n h = elim (cases_Bool (is_open a t.0)) [
+  | inl e ↦ absurd (cc (subst (λ z. (cond z true (some_open a ts)) ≡ false) e n))
+  | inr e ↦ elim h [
+    | inl q ↦ subst (λ z. is_open a z ≡ false) q.0 e
+    | inr r ↦ none-open a ts l k (subst (λ z. (cond z true (some_open a ts)) ≡ false) e n) r
+  ]
+]
+
+violated_at : (s : ℕ) → s ≡ 0 → int_lt (pos s -ℤ pos 1) (pos 0) ≡ true
+violated_at s h = rw h refl
+
+pub violated-none : (c : Constraint) (a b : Assignment) → a ≡ b → IsPlain c → some_open a c.terms ≡ false → is_violated c b ≡ true
+violated-none c a b q p n =
+    let none = sum-none (is_open a) c.terms (λ l k z. none-open a c.terms l k n z) in
+    rw (← q, p.degree) (violated_at (sum_where (is_open a) c.terms) none)
 
 -- no literal but one isn't false
 pub record IsOnly (c : Constraint) (a : Assignment) (other : ℤ) : Type 0 where

@@ -67,7 +67,7 @@ opposite_signs true false (Some false) e h = absurd (cc h)
 opposite_signs false true (Some true) e h = absurd (cc h)
 opposite_signs false true (Some false) e h = refl
 
-sign_opposite : (l : ℤ) → 1 ≤ unsigned_abs l → not (is_positive (neg_ℤ l)) ≡ is_positive l
+pub sign_opposite : (l : ℤ) → 1 ≤ unsigned_abs l → not (is_positive (neg_ℤ l)) ≡ is_positive l
 sign_opposite (pos zero) h = absurd (omega arith)
 sign_opposite (pos (suc n)) h = refl
 sign_opposite (negsuc n) h = refl
@@ -76,7 +76,7 @@ pub opposite-false : (b : Assignment) (l : ℤ) → 1 ≤ unsigned_abs l → val
 unfolding value_of
 opposite-false b l h e = rw (place-opposite l) (opposite_signs (is_positive l) (is_positive (neg_ℤ l)) (get_or b (place l) None) (sign_opposite l h) e)
 
-same_sign : (x y z : Bool) → false ≡ agree x y → not z ≡ y → x ≡ z
+pub same_sign : (x y z : Bool) → false ≡ agree x y → not z ≡ y → x ≡ z
 same_sign true true z e h = absurd (cc e)
 same_sign false false z e h = absurd (cc e)
 same_sign true false true e h = refl
@@ -110,7 +110,7 @@ part-included t n f h =
     let i = values-earlier t.variables t.entries n (length t.entries - n) f (omega (arith, h)) in
     subst (λ z. Includes (values_of t.variables z) (values_to t n)) (take-length t.entries) (subst (λ z. Includes (values_of t.variables (take z t.entries)) (values_to t n)) e i)
 
-take-longer : (es more : List TrailEntry) (n : ℕ) → n ≤ length es → take n (es ++ more) ≡ take n es
+pub take-longer : (es more : List TrailEntry) (n : ℕ) → n ≤ length es → take n (es ++ more) ≡ take n es
 take-longer es more zero h = refl
 take-longer [] more (suc n) h = absurd (omega (arith, h))
 take-longer (e ∷ es) more (suc n) h = ap (λ r. e ∷ r) (take-longer es more n (omega (arith, h)))

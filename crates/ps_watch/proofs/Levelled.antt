@@ -55,14 +55,14 @@ not-lower n m k h e = grind (arith, h, e)
 still-lower : (n m k : ℕ) → k ≤ m → nat_le n k ≡ true → nat_le n m ≡ true
 still-lower n m k h e = grind (arith, h, e)
 
-min-filter : (es : List TrailEntry) (m k : ℕ) → m ≤ k → filter (λ e. nat_le e.level m) (filter (λ e. nat_le e.level k) es) ≡ filter (λ e. nat_le e.level m) es
+pub min-filter : (es : List TrailEntry) (m k : ℕ) → m ≤ k → filter (λ e. nat_le e.level m) (filter (λ e. nat_le e.level k) es) ≡ filter (λ e. nat_le e.level m) es
 min-filter [] m k h = refl
 min-filter (e ∷ es) m k h = elim (cases_Bool (nat_le e.level k)) [
   | inl y ↦ rw y (elim (cases_Bool (nat_le e.level m)) [ inl z ↦ rw z (ap (λ r. e ∷ r) (min-filter es m k h)) | inr z ↦ rw z (min-filter es m k h) ])
   | inr y ↦ rw (y, not-lower e.level m k h y) (min-filter es m k h)
 ]
 
-max-filter : (es : List TrailEntry) (m k : ℕ) → k ≤ m → filter (λ e. nat_le e.level m) (filter (λ e. nat_le e.level k) es) ≡ filter (λ e. nat_le e.level k) es
+pub max-filter : (es : List TrailEntry) (m k : ℕ) → k ≤ m → filter (λ e. nat_le e.level m) (filter (λ e. nat_le e.level k) es) ≡ filter (λ e. nat_le e.level k) es
 max-filter [] m k h = refl
 max-filter (e ∷ es) m k h = elim (cases_Bool (nat_le e.level k)) [
   | inl y ↦ rw (y, still-lower e.level m k h y) (ap (λ r. e ∷ r) (max-filter es m k h))

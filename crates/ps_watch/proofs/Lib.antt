@@ -13,4 +13,8 @@ pub mod Paired
 pub mod Empty
 pub mod Chosen
 pub mod Attached
+pub mod Sighted
+pub mod Slacks
+pub mod Backward
+pub mod Rooms
 pub mod Keeping

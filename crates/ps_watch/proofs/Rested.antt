@@ -51,20 +51,30 @@ watched-idle v known w a n id c k g h e at =
     idle-pair c a (lit_of w n) (lit_of w (other_of w n)) (subst IsPlain same x.plain) x.differ term term' (g.at n h)
     (λ q. ap (λ b. value_of a (lit_of w b)) (sym x.back) ∙ g.at (other_of w n) x.other_within q)
 
-pub all-idle : (v : ℕ) (known : List Constraint) (w : Watches) (others : List ℕ) (a : Assignment) → IsKept v known w → AreCovered (known_of known) w others → AreGood w a a → AreIdleTo (known_of known) others a (length others) → IsAtRest (known_of known) a
-all-idle v known w others a k cover g idle = record {
+pub all-idle : (v : ℕ) (known : List Constraint) (w : Watches) (others : List ℕ) (goal : ℕ) (a : Assignment) → IsKept v known w → AreCovered (known_of known) w others [] goal → AreGood w a a → AreIdleTo (known_of known) others a (length others) → IsIdleAt (known_of known) a goal → IsAtRest (known_of known) a
+all-idle v known w others goal a k cover g idle own = record {
   at = λ id c at. elim (cover.at id c at) [
-    | inl one ↦ watched-idle v known w a one.place id c k g (rw (← k.ids) one.within) one.there at
-    | inr one ↦ (idle.at one.place one.within).at c (ap (constraint_at (known_of known)) one.there ∙ at)
+    | inl held ↦ elim held [
+      | inl one ↦ watched-idle v known w a one.place id c k g (rw (← k.ids) one.within) one.there at
+      | inr one ↦ (idle.at one.place one.within).at c (ap (constraint_at (known_of known)) one.there ∙ at)
+    ]
+    | inr r ↦ elim r [
+      | inl one ↦ absurd (omega (arith, one.within))
+      | inr e ↦ own.at c (ap (constraint_at (known_of known)) (sym e) ∙ at)
+    ]
   ];
 }
+
+-- the same clauses are watched
+pub covered-ids : (known : Known) (w w' : Watches) (scanned waiting : List ℕ) (goal : ℕ) → w'.ids.items ≡ w.ids.items → AreCovered known w scanned waiting goal → AreCovered known w' scanned waiting goal
+covered-ids known w w' scanned waiting goal e cover = record { at = rw e cover.at }
 
 -- after all literals
 pub good-whole : (w : Watches) (t : Trail) (n : ℕ) → n ≡ length t.entries → IsGoodUpTo w t n → AreGood w (values t) (values t)
 good-whole w t n e g = subst (λ z. AreGood w (values_of t.variables z) (values t)) (ap (λ m. take m t.entries) e ∙ take-length t.entries) g
 
-pub rests : (known : List Constraint) (w : Watches) (t : Trail) (w' : Watches) (t' : Trail) (n : ℕ) (others : List ℕ) (a : Assignment) → HasFollowed known w t w' t' n → n ≡ length t'.entries → AreCovered (known_of known) w others → a ≡ values t' → AreIdleTo (known_of known) others a (length others) → IsAtRest (known_of known) (values t')
-rests known w t w' t' n others a f e cover ea idle = all-idle t.variables known w' others (values t') f.kept (record { at = rw f.ids cover.at }) (good-whole w' t' n e f.good) (subst (λ z. AreIdleTo (known_of known) others z (length others)) ea idle)
+pub rests : (known : List Constraint) (w : Watches) (t : Trail) (w' : Watches) (t' : Trail) (n : ℕ) (others : List ℕ) (goal : ℕ) (a : Assignment) → HasFollowed known w t w' t' n → n ≡ length t'.entries → AreCovered (known_of known) w others [] goal → a ≡ values t' → AreIdleTo (known_of known) others a (length others) → IsIdleAt (known_of known) a goal → IsAtRest (known_of known) (values t')
+rests known w t w' t' n others goal a f e cover ea idle own = all-idle t.variables known w' others goal (values t') f.kept (covered-ids (known_of known) w w' others [] goal f.ids cover) (good-whole w' t' n e f.good) (subst (λ z. AreIdleTo (known_of known) others z (length others)) ea idle) (subst (λ z. IsIdleAt (known_of known) z goal) ea own)
 
 -- one part of the way after the other
 pub followed-then : (known : List Constraint) (w : Watches) (t : Trail) (w1 : Watches) (t1 : Trail) (w2 : Watches) (t2 : Trail) (n m : ℕ) → HasFollowed known w t w1 t1 n → HasFollowed known w1 t1 w2 t2 m → HasFollowed known w t w2 t2 m

@@ -1,13 +1,18 @@
 -- Which two literals of a clause may be watched.
-use Rattle.std.specs.Prelude.{ℕ, ◌≡◌, ◌≢◌, ℤ, true, false, Some, None, unsigned_abs}
+use Rattle.std.specs.Prelude.{ℕ, ◌≡◌, ◌≢◌, ℤ, Bool, true, false, Some, None, List, [], ◌∷◌, if◌then◌else◌, unsigned_abs}
 use Rattle.ps_steps.specs.Assignments.{Assignment, value_of}
-use Rattle.ps_steps.specs.Constraints.{Constraint, HasTerm, Forces, is_open}
+use Rattle.ps_steps.specs.Constraints.{Constraint, HasTerm, Forces, is_open, is_violated}
 use Rattle.ps_steps.specs.Weights.{IsPlain}
 use Rattle.ps_steps.specs.Steps.{Known, constraint_at}
-use Rattle.ps_learning.specs.Trails.{Trail, values, level}
+use Rattle.ps_learning.specs.Trails.{Trail, values, level, IsConflict}
 use Rattle.ps_trail.specs.Lookups.{level_of}
 use Rattle.ps_watch.specs.declared.choosing.Choice.{Choice}
-use Rattle.ps_watch.specs.declared.choosing.Choice.TheVariants.{Open, Last, Unwatched}
+use Rattle.ps_watch.specs.declared.choosing.Choice.TheVariants.{Open, Last, Violated, Unwatched}
+
+-- whether one of the terms is of a literal that isn't false
+abbrev pub some_open : Assignment → List (ℤ × ℕ) → Bool
+some_open a [] = false
+some_open a (t ∷ ts) = if is_open a t.0 then true else some_open a ts
 
 -- a literal of the constraint that isn't false
 pub record IsOpenIn (c : Constraint) (a : Assignment) (l : ℤ) : Type 0 where
@@ -46,14 +51,16 @@ pub record AreLast (c : Constraint) (t : Trail) (first second : ℤ) : Type 0 wh
   pub forces : value_of (values t) first ≡ None → Forces c (values t) first
   pub second_false : IsFalseAtTop t second
 
--- the two may be watched
+-- the two may be watched, or all literals are false
 abbrev pub ChoosesIn : Constraint → Trail → Choice → Type 0
 ChoosesIn c t (Open first second) = AreOpen c t first second
 ChoosesIn c t (Last first second) = AreLast c t first second
+ChoosesIn c t Violated = is_violated c (values t) ≡ true
 ChoosesIn c t Unwatched = Unit {0}
 
 -- they are of the constraint of this id
 abbrev pub Chooses : Known → ℕ → Trail → Choice → Type 0
 Chooses known id t (Open first second) = (c : Constraint) × (constraint_at known id ≡ Some c) × AreOpen c t first second
 Chooses known id t (Last first second) = (c : Constraint) × (constraint_at known id ≡ Some c) × AreLast c t first second
+Chooses known id t Violated = IsConflict known (values t) id
 Chooses known id t Unwatched = Unit {0}

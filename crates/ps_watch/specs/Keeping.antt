@@ -1,29 +1,107 @@
--- Known constraints beside a trail.
-use Rattle.std.specs.Prelude.{ℕ, ◌≡◌, ◌≤◌, ◌+◌, List, length, All}
-use Rattle.ps_steps.specs.Constraints.{Constraint}
+-- Known constraints, and what has been seen of a trail.
+use Rattle.std.specs.Prelude.{ℕ, ◌≡◌, ◌≤◌, ◌<◌, ◌+◌, ℤ, Bool, false, IsTrue, is_none, Option, Some, None, Result, Ok, Err, ⊤}
+use Rattle.std.specs.Prelude.{List, [], ◌∷◌, ◌++◌, length, take, slice_index_or, nat_le, fold, All, ◌⊎◌}
+use Rattle.std.specs.List.{filter}
+use Rattle.ps_pb.specs.declared.limits.TheConstants.{MOST_VARIABLES}
+use Rattle.ps_steps.specs.Assignments.{Assignment, with_true, all_unset}
+use Rattle.ps_steps.specs.Constraints.{Constraint, slack}
 use Rattle.ps_steps.specs.Weights.{IsWithin}
-use Rattle.ps_steps.specs.Steps.{known_of}
-use Rattle.ps_learning.specs.Trails.{Trail, level}
-use Rattle.ps_watch.specs.declared.kept.Kept.{Kept}
+use Rattle.ps_steps.specs.Steps.{known_of, constraint_at}
+use Rattle.ps_learning.specs.Trails.{Trail, TrailEntry, level, up_to}
+use Rattle.ps_watch.specs.declared.visiting.Watches.{Watches}
 use Rattle.ps_watch.specs.Watches.{IsKept, IsFiled, IsClosedBelow}
-use Rattle.ps_watch.specs.Going.{IsGoodUpTo}
 use Rattle.ps_watch.specs.Scans.{AreCovered}
+use Rattle.ps_watch.specs.Rooms.{HasRoomForClauses}
+use Rattle.ps_watch.specs.Sights.{Sighting, literals_of}
 
--- the known constraints
-abbrev pub known_by : Kept → List Constraint
-known_by k = k.known
+-- known constraints over so many variables, one of them the goal, the literals of a trail that have been seen, each with its
+-- level, and whether propagation has come to its end since a constraint was learned
+pub record Keeping : Type 0 where
+  pub variables : ℕ
+  pub known : List Constraint
+  pub goal : Constraint
+  pub seen : List (ℤ × ℕ)
+  pub settled : Bool
 
--- each constraint is watched or scanned, and what is watched is good for what has been gone through, and at all lower levels
-pub record IsKeeping (k : Kept) (t : Trail) : Type 0 where
-  pub inside : All (IsWithin t.variables) k.known
-  pub kept : IsKept t.variables k.known k.w
-  pub filed : IsFiled t.variables k.w
-  pub covered : AreCovered (known_of k.known) k.w k.scanned.items
-  pub within : k.done ≤ length t.entries
-  pub good : IsGoodUpTo k.w t k.done
-  pub lower : IsClosedBelow k.w t (level t)
+-- one literal more set true
+abbrev pub and_seen : Assignment → (ℤ × ℕ) → Assignment
+and_seen a l = with_true a l.0
 
--- propagation came to its end: all literals have been gone through, and the last level is good too
-pub record IsSettled (k : Kept) (t : Trail) : Type 0 where
-  pub all : k.done ≡ length t.entries
-  pub closed : IsClosedBelow k.w t (level t + 1)
+-- the values after the literals that have been seen
+abbrev pub values_seen : Keeping → Assignment
+values_seen k = fold and_seen (all_unset k.variables) k.seen
+
+-- the goal's slack over the literals that have been seen
+abbrev pub slack_seen : Keeping → ℤ
+slack_seen k = slack k.goal (values_seen k)
+
+-- the literals that stand at a level or below it
+abbrev pub seen_to : ℕ → List (ℤ × ℕ) → List (ℤ × ℕ)
+seen_to n ls = filter (λ l. nat_le l.1 n) ls
+
+-- all of the trail has been seen
+abbrev pub HasSeenAll : Keeping → Trail → Type 0
+HasSeenAll k t = k.seen ≡ literals_of t.entries
+
+-- all of the trail has been seen but its last literal, which was decided
+pub record HasSeenAllBut (k : Keeping) (t : Trail) : Type 0 where
+  pub front : List TrailEntry
+  pub last : TrailEntry
+  pub entries : t.entries ≡ front ++ last ∷ []
+  pub decided : last.reason ≡ None
+  pub seen : k.seen ≡ literals_of front
+
+-- where propagation may go on: all of the trail has been seen, or what was seen is settled and one decided literal follows
+abbrev pub IsInStep : Keeping → Trail → Type 0
+IsInStep k t = HasSeenAll k t ⊎ (IsTrue k.settled × HasSeenAllBut k t)
+
+-- a first part of the trail has been seen, and with it each level below the last
+pub record HasSeenLower (k : Keeping) (t : Trail) : Type 0 where
+  pub first : (n : ℕ) × (k.seen ≡ take n (literals_of t.entries))
+  pub lower : (m : ℕ) → m < level t → seen_to m k.seen ≡ literals_of (up_to m t).entries
+
+-- what has been seen when propagation ends
+abbrev pub HasSeen : Option ℕ → Keeping → Trail → Type 0
+HasSeen None k t = HasSeenAll k t
+HasSeen (Some id) k t = HasSeenLower k t
+
+-- the constraints and the variables are as they were
+pub record IsOver (k k' : Keeping) : Type 0 where
+  pub variables : k'.variables ≡ k.variables
+  pub known : k'.known ≡ k.known
+  pub goal : k'.goal ≡ k.goal
+
+-- a clause was learned
+pub record HasLearned (k k' : Keeping) (c : Constraint) (id : ℕ) : Type 0 where
+  pub variables : k'.variables ≡ k.variables
+  pub known : k'.known ≡ k.known ++ c ∷ []
+  pub goal : k'.goal ≡ k.goal
+  pub seen : k'.seen ≡ k.seen
+  pub unsettled : k'.settled ≡ false
+  pub last : id ≡ length k'.known
+
+-- after an Ok a clause was learned
+abbrev pub IsLearning : {E : Type 0} → Keeping → Keeping → Constraint → Result ℕ E → Type 0
+IsLearning k k' c (Ok id) = HasLearned k k' c id
+IsLearning k k' c (Err e) = ⊤
+
+-- the numbers from 1 to this one
+pub record AreIdsTo (n : ℕ) (ids : List ℕ) : Type 0 where
+  pub length_is : length ids ≡ n
+  pub at : (i : ℕ) → i < n → slice_index_or ids i 0 ≡ i + 1
+
+-- how constraints are kept: each is watched, scanned, waiting or the goal, there is room for those that wait, and at each level
+-- below this one the watches are good for what has been seen; where it is settled, at each of its levels
+pub record IsKeeping (known : List Constraint) (w : Watches) (scanned waiting : List ℕ) (capacity : ℕ) (s : Sighting)
+    (goal closed : ℕ) (settled : Bool) : Type 0 where
+  pub few : s.seen.variables ≤ MOST_VARIABLES
+  pub inside : All (IsWithin s.seen.variables) known
+  pub kept : IsKept s.seen.variables known w
+  pub filed : IsFiled s.seen.variables w
+  pub covered : AreCovered (known_of known) w scanned waiting goal
+  pub room : HasRoomForClauses w (length waiting)
+  pub places : length scanned + length waiting ≤ capacity
+  pub goal_is : constraint_at (known_of known) goal ≡ Some s.goal
+  pub good : IsClosedBelow w s.seen closed
+  pub most : level s.seen ≤ closed
+  pub whole : IsTrue settled → level s.seen < closed

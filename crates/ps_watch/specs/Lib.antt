@@ -6,4 +6,6 @@ pub mod Scans
 pub mod Watching
 pub mod Choices
 pub mod Linking
+pub mod Rooms
+pub mod Sights
 pub mod Keeping

@@ -7,11 +7,7 @@ use Rattle.ps_learning.specs.Trails.{Trail, level, IsReason}
 use Rattle.ps_watch.specs.declared.visiting.Watches.{Watches}
 use Rattle.ps_watch.specs.Watches.{IsKept, IsFiled, Extends, IsClosedBelow}
 use Rattle.ps_watch.specs.Going.{IsGoodUpTo}
-use Rattle.ps_watch.specs.Scans.{IsOneOf}
-
--- the constraint of an id is watched, or one of those that are scanned
-abbrev pub IsCoveredBy : Watches → List ℕ → ℕ → Type 0
-IsCoveredBy w scanned id = IsOneOf w.ids.items id ⊎ IsOneOf scanned id
+use Rattle.ps_watch.specs.Scans.{IsCoveredBy, AreCovered}
 
 -- what was watched or scanned is so still, and the constraint of an id is watched or scanned now
 pub record CoversMore (id : ℕ) (w : Watches) (scanned : List ℕ) (w' : Watches) (scanned' : List ℕ) : Type 0 where
@@ -30,15 +26,7 @@ pub record HasLinked (known : List Constraint) (w : Watches) (t : Trail) (w' : W
 abbrev pub IsForcedIfUnset : Known → Assignment → ℤ → ℕ → Type 0
 IsForcedIfUnset known a l id = value_of a l ≡ None → IsReason known a l (Some id)
 
--- the first so many constraints are watched or scanned
-pub record IsLinkedTo (known : List Constraint) (t : Trail) (w : Watches) (scanned : List ℕ) (u : Trail) (n : ℕ) : Type 0 where
-  pub kept : IsKept t.variables known w
-  pub filed : IsFiled t.variables w
-  pub covered : (id : ℕ) → 1 ≤ id → id ≤ n → IsCoveredBy w scanned id
-  pub extends : Extends (known_of known) t u
-  pub good : IsGoodUpTo w u 0
-  pub lower : IsClosedBelow w u (level t)
-
--- all constraints are watched or scanned
-abbrev pub AreAllLinked : List Constraint → Trail → Watches → List ℕ → Trail → Type 0
-AreAllLinked known t w scanned u = IsLinkedTo known t w scanned u (length known)
+-- each constraint is covered still, where fewer wait
+abbrev pub StayCovered : Known → Watches → List ℕ → List ℕ → Watches → List ℕ → List ℕ → Type 0
+StayCovered known w scanned waiting w' scanned' waiting' = (goal : ℕ) → AreCovered known w scanned waiting goal
+    → AreCovered known w' scanned' waiting' goal

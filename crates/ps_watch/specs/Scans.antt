@@ -44,15 +44,26 @@ ScansThese known ids a (Violated found) = IsConflict known a found
 ScansThese known ids a (Forced l found) = IsReason known a l (Some found) × IsFresh (length a) a l
 ScansThese known ids a Idle = AreIdleTo known ids a (length ids)
 
+-- what the scan of these constraints and the goal finds
+abbrev pub ScansAll : Known → List ℕ → ℕ → Assignment → Scan → Type 0
+ScansAll known ids goal a (Violated found) = IsConflict known a found
+ScansAll known ids goal a (Forced l found) = IsReason known a l (Some found) × IsFresh (length a) a l
+ScansAll known ids goal a Idle = AreIdleTo known ids a (length ids) × IsIdleAt known a goal
+
 -- a constraint is one of these
 pub record IsOneOf (ids : List ℕ) (id : ℕ) : Type 0 where
   pub place : ℕ
   pub within : place < length ids
   pub there : slice_index_or ids place 0 ≡ id
 
--- each constraint is watched, or one of these
-pub record AreCovered (known : Known) (w : Watches) (others : List ℕ) : Type 0 where
-  pub at : (id : ℕ) (c : Constraint) → constraint_at known id ≡ Some c → IsOneOf w.ids.items id ⊎ IsOneOf others id
+-- the constraint of an id is watched, or one of those that are scanned
+abbrev pub IsCoveredBy : Watches → List ℕ → ℕ → Type 0
+IsCoveredBy w scanned id = IsOneOf w.ids.items id ⊎ IsOneOf scanned id
+
+-- each constraint is watched, or is scanned, or waits, or is the goal
+pub record AreCovered (known : Known) (w : Watches) (scanned waiting : List ℕ) (goal : ℕ) : Type 0 where
+  pub at : (id : ℕ) (c : Constraint) → constraint_at known id ≡ Some c
+      → IsCoveredBy w scanned id ⊎ (IsOneOf waiting id ⊎ (id ≡ goal))
 
 -- where nothing is violated, all literals have been gone through
 abbrev pub IsPropagatedTo : Trail → ℕ → Option ℕ → Type 0

@@ -1,10 +1,10 @@
 //! Which two literals of a clause to watch.
-ghost use Rattle.std.specs.Prelude.{◌≡◌, ◌↔◌, pos, All, IsTrue, IfSome};
+ghost use Rattle.std.specs.Prelude.{◌≡◌, ◌↔◌, pos, All, IsTrue, IfSome, IfNone, false};
 ghost use Rattle.ps_steps.specs.Constraints.{is_open};
 ghost use Rattle.ps_steps.specs.Weights.{IsPlain};
 ghost use Rattle.ps_steps.specs.Steps.{known_of};
 ghost use Rattle.ps_learning.specs.Trails.{values};
-ghost use Rattle.ps_watch.specs.Choices.{IsOpenIn, IsFalseAtTop, IsFalseIn, ChoosesIn, Chooses};
+ghost use Rattle.ps_watch.specs.Choices.{some_open, IsOpenIn, IsFalseAtTop, IsFalseIn, ChoosesIn, Chooses};
 
 use crate::looking::open_other;
 use ps_io::List;
@@ -18,6 +18,8 @@ pub(crate) enum Choice {
     Open(Lit, Lit),
     /// All but the first are false, the second since the last level was opened.
     Last(Lit, Lit),
+    /// All of its literals are false.
+    Violated,
     /// It isn't a clause, or has no such two.
     Unwatched,
 }
@@ -53,7 +55,8 @@ fn is_open(a: &Assignment, lit: Lit) -> bool
 
 // A literal that isn't false.
 fn first_open(c: &Constraint, a: &Assignment) -> Option<Lit>
-    ensures { IfSome result (IsOpenIn c.now a.now) }
+    ensures some { IfSome result (IsOpenIn c.now a.now) }
+    ensures none { IfNone result (some_open a.now c.now.terms ≡ false) }
 {
     for term in c.terms().as_slice() {
         if is_open(a, term.0) {
@@ -109,7 +112,7 @@ fn choose_in(c: &Constraint, trail: &Trail) -> Choice
         return Choice::Unwatched;
     }
     match first_open(c, trail.values()) {
-        None => Choice::Unwatched,
+        None => Choice::Violated,
         Some(first) => choose_with(c, trail, first),
     }
 }

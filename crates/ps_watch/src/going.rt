@@ -8,6 +8,7 @@ ghost use Rattle.ps_watch.specs.Links.{AreLinked, IsFree};
 ghost use Rattle.ps_watch.specs.Watches.{IsKept, Extends, KeepsGood, KeepsPlaced, IsListed, IsPlaced};
 ghost use Rattle.ps_watch.specs.Watches.{IsSpareKept, IsFiled, list_of};
 ghost use Rattle.ps_watch.specs.Watches.{slot_of, spare_of};
+ghost use Rattle.ps_watch.specs.Rooms.{room_of};
 ghost use Rattle.ps_watch.specs.Going.{IsTaken, IsNoneTaken, IsSent, HasGone, IsOppositeAt};
 ghost use Rattle.ps_watch.specs.Going.{IsGoodUpTo, HasFollowed, IsFollowed};
 
@@ -22,6 +23,7 @@ fn take(w: &mut Watches, slot: usize) -> Option<u32>
     requires within { slot < length w.old.links.heads.items }
     ensures some { IfSome result (IsTaken w.old w.new slot) }
     ensures none { IfNone result (IsNoneTaken w.old w.new slot) }
+    ensures room { room_of w.new ≡ room_of w.old }
 {
     w.links.pop(slot)
 }
@@ -41,6 +43,7 @@ fn go_to(
     ensures kept { IsKept trail.old.variables known.now w.new }
     ensures nodes { length w.new.lits.items ≡ length w.old.lits.items }
     ensures ids { w.new.ids.items ≡ w.old.ids.items }
+    ensures room { room_of w.new ≡ room_of w.old }
     ensures spare { IsSpareKept trail.old.variables w.old w.new }
     ensures extends { Extends (known_of known.now) trail.old trail.new }
     ensures good { KeepsGood w.old w.new (values trail.old) }
@@ -64,7 +67,8 @@ fn drain(known: &List<Constraint>, w: &mut Watches, trail: &mut Trail, lit: Lit)
     requires kept { IsKept trail.old.variables known.now w.old }
     requires false_is { value_of (values trail.old) lit ≡ Some false }
     requires placed { IsPlaced trail.old.variables w.old lit (values trail.old) END }
-    ensures { HasGone known.now w.old trail.old w.new trail.new lit result }
+    ensures gone { HasGone known.now w.old trail.old w.new trail.new lit result }
+    ensures room { room_of w.new ≡ room_of w.old }
 {
     // The falsified literal is named for the contract alone.
     let _lit = lit;
@@ -82,7 +86,8 @@ fn send(w: &mut Watches, from: usize, to: usize)
     requires from { from < length w.old.links.heads.items }
     requires to { to < length w.old.links.heads.items }
     requires empty { list_of w.old to ≡ [] }
-    ensures { IsSent w.old w.new from to }
+    ensures sent { IsSent w.old w.new from to }
+    ensures room { room_of w.new ≡ room_of w.old }
 {
     w.links.shift(from, to);
 }
@@ -93,7 +98,8 @@ fn go_through(known: &List<Constraint>, w: &mut Watches, trail: &mut Trail, lit:
     requires filed { IsFiled trail.old.variables w.old }
     requires false_is { value_of (values trail.old) lit ≡ Some false }
     requires within { slot_of lit < spare_of trail.old.variables }
-    ensures { HasGone known.now w.old trail.old w.new trail.new lit result }
+    ensures gone { HasGone known.now w.old trail.old w.new trail.new lit result }
+    ensures room { room_of w.new ≡ room_of w.old }
 {
     let spare = trail.variables() as usize * 2;
     send(w, slot(lit), spare);
@@ -125,6 +131,7 @@ pub(crate) fn follow(
     requires good { IsGoodUpTo w.old trail.old done.old }
     ensures grows { done.old ≤ done.new }
     ensures followed { HasFollowed known.now w.old trail.old w.new trail.new done.new }
+    ensures room { room_of w.new ≡ room_of w.old }
     ensures ended { IsFollowed known.now trail.new done.new result }
 {
     'on: while *done < trail.entries().len() {

@@ -1,110 +1,201 @@
 //! Known constraints, with what propagation has kept of them.
-ghost use Rattle.std.specs.Prelude.{◌≡◌, ◌≤◌, ◌<◌, ◌++◌, ◌∷◌, [], ℕ, take, All, IfOk, OnOk, IfNone};
-ghost use Rattle.ps_steps.specs.Weights.{IsWithin};
+ghost use Rattle.std.specs.Prelude.{◌≡◌, ◌≤◌, ◌<◌, ◌++◌, ◌∷◌, [], ℕ, take, false, is_none, length, nat_lt};
+ghost use Rattle.std.specs.Prelude.{◌+◌, ◌^◌, if◌then◌else◌};
+ghost use Rattle.std.specs.Prelude.{All, IfOk, OnErr, OnOk};
+ghost use Rattle.ps_pb.specs.declared.limits.TheConstants.{MOST_VARIABLES};
+ghost use Rattle.ps_steps.specs.Assignments.{place, AreDifferent};
+ghost use Rattle.ps_steps.specs.Weights.{IsWithin, clause_of};
 ghost use Rattle.ps_steps.specs.Steps.{known_of};
 ghost use Rattle.ps_learning.specs.Trails.{values, level, up_to, unset_count};
 ghost use Rattle.ps_learn.specs.Rest.{IsPropagated};
 ghost use Rattle.ps_watch.specs.Watches.{Extends};
+ghost use Rattle.ps_watch.specs.Keeping.{slack_seen, seen_to, IsInStep, HasSeen, IsOver, IsLearning, AreIdsTo};
 
-use crate::linking::{link, link_all};
-use crate::propagating::{cut_to, propagate};
+use crate::propagating::propagate;
+use crate::sight::Sight;
 use crate::visiting::Watches;
-use crate::watching::no_watches;
+use crate::watching::{make_room, no_watches};
+use ps_clause::ClauseForm;
 use ps_io::{List, NoMemory};
-use ps_pb::Constraint;
+use ps_pb::{Constraint, Lit, clause};
 use ps_trail::Trail;
 use std::alloc::Global;
+use std::marker::Model;
 
 /// Known constraints. Of each clause two literals are watched (M. W. Moskewicz and others, "Chaff",
-/// 2001), the other constraints are scanned.
+/// 2001); the goal's slack is kept, and the other constraints are scanned.
 #[derive(Drop)]
 pub struct Kept {
+    alloc: Global,
     known: List<Constraint>,
     w: Watches,
-    // The ids of the constraints that aren't watched.
+    // The ids of the constraints that are scanned.
     scanned: Vec<u64>,
-    // So many literals of the trail have been gone through.
-    done: usize,
+    // The ids of the constraints that are to be watched.
+    waiting: Vec<u64>,
+    sight: Sight,
+    goal: u64,
+    // At each level below this one the watches are good.
+    closed: u32,
+    settled: bool,
+}
+
+impl Model for Kept {
+    ghost use Rattle.std.specs.Prelude.{vec_capacity};
+    ghost use Rattle.ps_watch.specs.Sights.{literals_of};
+    ghost use Rattle.ps_watch.specs.Keeping.{Keeping, IsKeeping};
+
+    ghost Value = { Keeping };
+
+    ghost view = { λ k. record {
+        variables = k.sight.seen.variables; known = k.known; goal = k.sight.goal;
+        seen = literals_of k.sight.seen.entries; settled = k.settled } };
+
+    ghost invariant = { λ k. IsKeeping k.known k.w k.scanned.items k.waiting.items
+        (vec_capacity k.scanned) k.sight k.goal k.closed k.settled };
 }
 
 impl Kept {
-    ghost use Rattle.ps_watch.specs.Keeping.{known_by, IsKeeping, IsSettled};
-
-    /// Keeps these constraints, beside a trail without literals.
-    pub fn new(alloc: Global, known: List<Constraint>, trail: &mut Trail) -> Result<Kept, NoMemory>
-        requires inside { All (IsWithin trail.old.variables) known }
-        requires empty { trail.old.entries ≡ [] }
-        ensures known { IfOk result (λ k. known_by k ≡ known) }
-        ensures extends { IfOk result (λ k. Extends (known_of known) trail.old trail.new) }
-        ensures keeping { IfOk result (λ k. IsKeeping k trail.new) }
+    /// Keeps the clauses of a form, and then a goal. No literal has been seen.
+    pub fn new(alloc: Global, base: &ClauseForm, goal: &Constraint) -> Result<Kept, NoMemory>
+        requires { IsWithin base.now.variables goal.now }
+        ensures variables { IfOk result (λ k. k.variables ≡ base.now.variables) }
+        ensures known { IfOk result (λ k. k.known ≡ base.now.clauses ++ goal.now ∷ []) }
+        ensures few { IfOk result (λ k. length k.known ≤ 2 ^ 32) }
+        ensures goal { IfOk result (λ k. k.goal ≡ goal.now) }
+        ensures seen { IfOk result (λ k. k.seen ≡ []) }
+        ensures settled { IfOk result (λ k. k.settled ≡ false) }
     {
-        let mut w = no_watches(alloc, trail.variables())?;
-        let mut scanned = Vec::new(alloc);
-        link_all(&known, &mut w, &mut scanned, trail)?;
+        let mut known = base.copy(alloc)?.into_clauses();
+        let clauses = known.len();
+        known.push(goal.copy(alloc)?)?;
         Ok(Kept {
+            alloc,
             known,
-            w,
-            scanned,
-            done: 0,
+            w: no_watches(alloc, base.variables(), clauses)?,
+            scanned: Vec::with_capacity(alloc, clauses)?,
+            waiting: ids_to(alloc, clauses)?,
+            sight: Sight::new(alloc, goal, base.variables())?,
+            goal: clauses as u64 + 1,
+            closed: 0,
+            settled: false,
         })
     }
 
     /// The known constraints.
     pub fn known(&self) -> &List<Constraint>
-        ensures { result.now ≡ known_by self.now }
+        ensures { result.now ≡ self.now.known }
     {
         &self.known
     }
 
-    /// Adds a constraint at the end, and sets the literal that it forces where it is watched.
-    pub fn learn(&mut self, trail: &mut Trail, constraint: Constraint) -> Result<(), NoMemory>
-        requires keeping { IsKeeping self.old trail.old }
-        requires inside { IsWithin trail.old.variables constraint }
-        ensures known { OnOk result (known_by self.new ≡ known_by self.old ++ constraint ∷ []) }
-        ensures extends { OnOk result (Extends (known_of (known_by self.new)) trail.old trail.new) }
-        ensures keeping { OnOk result (IsKeeping self.new trail.new) }
+    /// Adds the clause of different literals at the end, and answers its id. It is no longer settled.
+    /// After `NoMemory` nothing has changed.
+    pub fn learn(&mut self, lits: &[Lit]) -> Result<u64, NoMemory>
+        requires within { All (λ l. place l < self.old.variables) lits.now }
+        requires once { AreDifferent lits.now }
+        ensures ok { IsLearning self.old self.new (clause_of lits.now) result }
+        ensures err { OnErr result (self.new ≡ self.old) }
     {
-        self.known.push(constraint)?;
+        let clauses = self.waiting.len() + 1;
+        make_room(&mut self.w, clauses)?;
+        self.scanned.reserve(clauses)?;
+        self.waiting.reserve(1)?;
+        let clause = clause(self.alloc, lits)?;
+        self.known.push(clause)?;
         let id = self.known.len() as u64;
-        link(&self.known, &mut self.w, &mut self.scanned, trail, id)?;
-        Ok(())
+        self.waiting.push_reserved(id);
+        self.settled = false;
+        Ok(id)
     }
 
     /// Sets forced literals with their reasons. `Some` names a violated constraint; `None` comes where
-    /// no constraint is violated or forces a literal. It takes no memory.
+    /// no constraint is violated or forces a literal, and then it is settled. All of the trail has
+    /// been seen, or it was settled and one decided literal follows. It takes no memory.
     pub fn propagate(&mut self, trail: &mut Trail) -> Option<u64>
-        requires keeping { IsKeeping self.old trail.old }
-        ensures known { known_by self.new ≡ known_by self.old }
-        ensures extends { Extends (known_of (known_by self.old)) trail.old trail.new }
+        requires variables { trail.old.variables ≡ self.old.variables }
+        requires in_step { IsInStep self.old trail.old }
+        ensures over { IsOver self.old self.new }
+        ensures extends { Extends (known_of self.old.known) trail.old trail.new }
         ensures fewer { unset_count (values trail.new) ≤ unset_count (values trail.old) }
-        ensures ended { IsPropagated (known_of (known_by self.old)) (values trail.new) result }
-        ensures keeping { IsKeeping self.new trail.new }
-        ensures settled { IfNone result (IsSettled self.new trail.new) }
+        ensures ended { IsPropagated (known_of self.old.known) (values trail.new) result }
+        ensures seen { HasSeen result self.new trail.new }
+        ensures settled { self.new.settled ≡ is_none result }
     {
-        // Called for its clauses: each literal is of another variable.
-        let _before = trail.entries();
+        // Called for their clauses: each literal is of another variable, and levels rise.
+        let _seen = self.sight.seen().entries();
+        let _set = trail.entries();
+        let done = first_unseen(&self.sight, self.closed);
+        let level = trail.level();
         let found = propagate(
             &self.known,
             &mut self.w,
-            self.scanned.as_slice(),
+            &mut self.scanned,
+            &mut self.waiting,
+            &mut self.sight,
+            self.goal,
             trail,
-            &mut self.done,
+            done,
         );
-        // The same of the literals that are set now.
-        let _after = trail.entries();
+        self.settled = found.is_none();
+        self.closed = closed_after(&found, level);
+        // The same of the literals that are set, and have been seen, now.
+        let _seen_now = self.sight.seen().entries();
+        let _set_now = trail.entries();
         found
     }
 
-    /// Takes back what stands above a level below the present one.
+    /// Takes back what stands above a level, and gives the goal's slack back. It takes no memory.
     pub fn cut_to(&mut self, trail: &mut Trail, most: u32)
-        requires keeping { IsKeeping self.old trail.old }
-        requires below { most < level trail.old }
-        ensures known { known_by self.new ≡ known_by self.old }
+        requires { most ≤ level trail.old }
+        ensures over { IsOver self.old self.new }
         ensures cut { trail.new ≡ up_to most trail.old }
         ensures variables { trail.new.variables ≡ trail.old.variables }
         ensures prefix { (k : ℕ) × (trail.new.entries ≡ take k trail.old.entries) }
-        ensures keeping { IsKeeping self.new trail.new }
+        ensures seen { self.new.seen ≡ seen_to most self.old.seen }
+        ensures settled { self.new.settled ≡ self.old.settled }
     {
-        cut_to(&self.w, trail, &mut self.done, most)
+        // Called for its clauses: levels rise.
+        let _seen = self.sight.seen().entries();
+        trail.cut_to(most);
+        self.sight.cut_to(most);
     }
+
+    /// The goal's slack over the literals that have been seen. It takes no memory.
+    pub fn slack_now(&self) -> i128
+        ensures { result ≡ slack_seen self.now }
+    {
+        self.sight.slack_now()
+    }
+}
+
+// The numbers of so many clauses, from 1 on.
+fn ids_to(alloc: Global, clauses: usize) -> Result<Vec<u64>, NoMemory>
+    ensures { IfOk result (λ ids. AreIdsTo clauses ids.items) }
+{
+    let mut ids = Vec::with_capacity(alloc, clauses)?;
+    for place in 0..clauses {
+        ids.push(place as u64 + 1)?;
+    }
+    Ok(ids)
+}
+
+// From where on the literals of a trail are to be gone through: after those that have been seen,
+// where the watches are good for them, and else from the first one.
+fn first_unseen(sight: &Sight, closed: u32) -> usize
+    ensures { result ≡ (if nat_lt (level sight.now.seen) closed then length sight.now.seen.entries else 0) }
+{
+    if sight.seen().level() < closed {
+        sight.seen().entries().len()
+    } else {
+        0
+    }
+}
+
+// Below which level all is closed where propagation on this one ended so.
+fn closed_after(found: &Option<u64>, level: u32) -> u32
+    requires { level ≤ MOST_VARIABLES }
+    ensures { result ≡ (if is_none found.now then level + 1 else level) }
+{
+    if found.is_none() { level + 1 } else { level }
 }

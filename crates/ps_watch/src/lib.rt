@@ -9,6 +9,7 @@ mod links;
 mod looking;
 mod propagating;
 mod scanning;
+mod sight;
 mod visiting;
 mod watching;
 

@@ -1,18 +1,19 @@
 //! Watching a constraint, where that may be.
-ghost use Rattle.std.specs.Prelude.{◌≡◌, ◌≤◌, ◌<◌, true, Some, All, OnOk};
+ghost use Rattle.std.specs.Prelude.{◌≡◌, ◌≤◌, ◌<◌, ◌+◌, true, Some, [], All, IfNone, IfSome, length};
+ghost use Rattle.std.specs.Prelude.{vec_capacity};
 ghost use Rattle.ps_steps.specs.Assignments.{value_of};
 ghost use Rattle.ps_steps.specs.Constraints.{is_open};
 ghost use Rattle.ps_steps.specs.Weights.{IsWithin};
 ghost use Rattle.ps_steps.specs.Steps.{known_of};
-ghost use Rattle.ps_learning.specs.Trails.{values, level, IsLit};
+ghost use Rattle.ps_learning.specs.Trails.{values, level, IsLit, IsConflict};
+ghost use Rattle.ps_watch.specs.Rooms.{room_of, HasRoomFor, HasRoomForClauses};
 ghost use Rattle.ps_watch.specs.Watches.{IsKept, IsFiled, Extends};
-ghost use Rattle.ps_watch.specs.Linking.{CoversMore, HasLinked, IsForcedIfUnset};
-ghost use Rattle.ps_watch.specs.Linking.{IsLinkedTo, AreAllLinked};
+ghost use Rattle.ps_watch.specs.Linking.{CoversMore, HasLinked, IsForcedIfUnset, StayCovered};
 
 use crate::choosing::{Choice, choose};
 use crate::visiting::Watches;
 use crate::watching::watch;
-use ps_io::{List, NoMemory};
+use ps_io::List;
 use ps_pb::{Constraint, Lit};
 use ps_trail::Trail;
 
@@ -35,26 +36,35 @@ fn set_open(known: &List<Constraint>, trail: &mut Trail, lit: Lit, id: u64)
     }
 }
 
-/// Watches two literals of the constraint of an id, if they may be watched, and sets the one that it
-/// forces then. Else it is to be scanned.
-pub(crate) fn link(
+// Watches two literals of the constraint of an id, if they may be watched, and sets the one that it
+// forces then. Some names it where it is violated; then nothing was done. Else it is to be scanned.
+// There is room for either.
+fn link(
     known: &List<Constraint>,
     w: &mut Watches,
     scanned: &mut Vec<u64>,
     trail: &mut Trail,
     id: u64,
-) -> Result<(), NoMemory>
+) -> Option<u64>
     requires inside { All (IsWithin trail.old.variables) known.now }
     requires kept { IsKept trail.old.variables known.now w.old }
     requires filed { IsFiled trail.old.variables w.old }
-    ensures linked { OnOk result (HasLinked known.now w.old trail.old w.new trail.new) }
-    ensures covers { OnOk result (CoversMore id w.old scanned.old.items w.new scanned.new.items) }
+    requires room { HasRoomFor w.old (length w.old.lits.items + 2) }
+    requires place { length scanned.old.items < vec_capacity scanned.old }
+    ensures linked { HasLinked known.now w.old trail.old w.new trail.new }
+    ensures covers { IfNone result (CoversMore id w.old scanned.old.items w.new scanned.new.items) }
+    ensures same { IfSome result (λ _. (w.new ≡ w.old) × (scanned.new ≡ scanned.old)) }
+    ensures conflict { IfSome result (IsConflict (known_of known.now) (values trail.new)) }
+    ensures nodes { length w.new.lits.items ≤ length w.old.lits.items + 2 }
+    ensures room { room_of w.new ≡ room_of w.old }
+    ensures places { length scanned.new.items ≤ length scanned.old.items + 1 }
+    ensures capacity { vec_capacity scanned.new ≡ vec_capacity scanned.old }
 {
     // Called for its clauses: each literal is of another variable, and levels rise.
     let _entries = trail.entries();
     if MOST_WATCHES < w.lits.len() {
-        scanned.push(id)?;
-        return Ok(());
+        scanned.push_reserved(id);
+        return None;
     }
     match choose(known, trail, id) {
         Choice::Open(first, second) => watch(trail.variables(), known, w, first, second, id),
@@ -62,28 +72,42 @@ pub(crate) fn link(
             // Called for its clauses: a literal is of a variable, numbered from 1 on.
             let _variables = (first.variable(), second.variable());
             set_open(known, trail, first, id);
-            watch(trail.variables(), known, w, first, second, id)
+            watch(trail.variables(), known, w, first, second, id);
         }
-        Choice::Unwatched => {
-            scanned.push(id)?;
-            Ok(())
-        }
+        Choice::Violated => return Some(id),
+        Choice::Unwatched => scanned.push_reserved(id),
     }
+    None
 }
 
-/// Links each constraint.
-pub(crate) fn link_all(
+/// Links the constraints that wait, the last one first. Some names a violated one, which waits on.
+/// There is room for all.
+pub(crate) fn link_waiting(
     known: &List<Constraint>,
     w: &mut Watches,
     scanned: &mut Vec<u64>,
+    waiting: &mut Vec<u64>,
     trail: &mut Trail,
-) -> Result<(), NoMemory>
+) -> Option<u64>
     requires inside { All (IsWithin trail.old.variables) known.now }
-    requires none { IsLinkedTo known.now trail.old w.old scanned.old.items trail.old 0 }
-    ensures { OnOk result (AreAllLinked known.now trail.old w.new scanned.new.items trail.new) }
+    requires kept { IsKept trail.old.variables known.now w.old }
+    requires filed { IsFiled trail.old.variables w.old }
+    requires room { HasRoomForClauses w.old (length waiting.old.items) }
+    requires places { length scanned.old.items + length waiting.old.items ≤ vec_capacity scanned.old }
+    ensures linked { HasLinked known.now w.old trail.old w.new trail.new }
+    ensures covered { StayCovered (known_of known.now) w.old scanned.old.items waiting.old.items
+        w.new scanned.new.items waiting.new.items }
+    ensures none { IfNone result (waiting.new.items ≡ []) }
+    ensures conflict { IfSome result (IsConflict (known_of known.now) (values trail.new)) }
+    ensures room { HasRoomForClauses w.new (length waiting.new.items) }
+    ensures places { length scanned.new.items + length waiting.new.items ≤ vec_capacity scanned.new }
 {
-    for place in 0..known.len() {
-        link(known, w, scanned, trail, place as u64 + 1)?;
+    'link: while 0 < waiting.len() {
+        let id = waiting[waiting.len() - 1];
+        if let Some(id) = link(known, w, scanned, trail, id) {
+            return Some(id);
+        }
+        waiting.truncate(waiting.len() - 1);
     }
-    Ok(())
+    None
 }

@@ -1,9 +1,7 @@
 //! Lists of numbers that are linked through one array.
-ghost use Rattle.std.specs.Prelude.{◌≡◌, ◌+◌, ◌<◌, ◌≤◌, ◌^◌, length, [], ◌∷◌, IfSome, IfNone, OnOk};
+ghost use Rattle.std.specs.Prelude.{◌≡◌, ◌+◌, ◌<◌, ◌≤◌, ◌^◌, length, [], ◌∷◌, vec_capacity, IfSome, IfNone};
 ghost use Rattle.ps_watch.specs.Links.{AreLinked, IsFree, PopsFirst, PushesOne, ShiftsList, AddsNumber, list_at};
 ghost use Rattle.ps_watch.specs.declared.links.TheConstants.{END};
-
-use ps_io::NoMemory;
 
 /// Behind the last number of a list.
 pub(crate) const END: u32 = u32::MAX;
@@ -24,6 +22,7 @@ impl Links {
         ensures some { IfSome result (PopsFirst self.old self.new slot) }
         ensures none { IfNone result (list_at self.old.next.items self.old.heads.items slot ≡ []) }
         ensures same { IfNone result (self.new ≡ self.old) }
+        ensures room { vec_capacity self.new.next ≡ vec_capacity self.old.next }
     {
         let head = self.heads[slot];
         if head == END {
@@ -39,7 +38,8 @@ impl Links {
         requires within { slot < length self.old.heads.items }
         requires node { node < length self.old.next.items }
         requires free { IsFree self.old.next.items self.old.heads.items node }
-        ensures { PushesOne self.old self.new slot node }
+        ensures pushed { PushesOne self.old self.new slot node }
+        ensures room { vec_capacity self.new.next ≡ vec_capacity self.old.next }
     {
         self.next[node as usize] = self.heads[slot];
         self.heads[slot] = node;
@@ -51,19 +51,21 @@ impl Links {
         requires from { from < length self.old.heads.items }
         requires to { to < length self.old.heads.items }
         requires empty { list_at self.old.next.items self.old.heads.items to ≡ [] }
-        ensures { ShiftsList self.old self.new from to }
+        ensures shifted { ShiftsList self.old self.new from to }
+        ensures room { vec_capacity self.new.next ≡ vec_capacity self.old.next }
     {
         self.heads[to] = self.heads[from];
         self.heads[from] = END;
     }
 
-    /// One number more, which stands in no list.
-    pub fn add(&mut self) -> Result<(), NoMemory>
+    /// One number more, which stands in no list. There is room for it.
+    pub fn add(&mut self)
         requires linked { AreLinked self.old.next.items self.old.heads.items }
         requires few { length self.old.next.items < END }
-        ensures { OnOk result (AddsNumber self.old self.new) }
+        requires room { length self.old.next.items < vec_capacity self.old.next }
+        ensures added { AddsNumber self.old self.new }
+        ensures room { vec_capacity self.new.next ≡ vec_capacity self.old.next }
     {
-        self.next.push(END)?;
-        Ok(())
+        self.next.push_reserved(END);
     }
 }

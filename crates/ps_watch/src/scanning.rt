@@ -1,10 +1,12 @@
 //! What constraints show that aren't watched.
-ghost use Rattle.std.specs.Prelude.{◌≡◌, length, All};
+ghost use Rattle.std.specs.Prelude.{◌≡◌, Some, length, All};
 ghost use Rattle.ps_steps.specs.Constraints.{slack};
 ghost use Rattle.ps_steps.specs.Weights.{IsWithin};
-ghost use Rattle.ps_steps.specs.Steps.{known_of};
-ghost use Rattle.ps_watch.specs.Scans.{FirstForced, ScansOne, ScansAt, ScansThese};
+ghost use Rattle.ps_steps.specs.Steps.{known_of, constraint_at};
+ghost use Rattle.ps_learning.specs.Trails.{values};
+ghost use Rattle.ps_watch.specs.Scans.{FirstForced, ScansOne, ScansAt, ScansThese, ScansAll};
 
+use crate::sight::Sight;
 use ps_io::List;
 use ps_pb::{Assignment, Constraint, Lit, constraint_at, is_forced, slack};
 
@@ -19,11 +21,14 @@ pub(crate) enum Scan {
     Idle,
 }
 
-// What one constraint shows.
+/// What one constraint shows.
 #[derive(Drop)]
-enum State {
+pub(crate) enum State {
+    /// It is violated.
     Violated,
+    /// It forces the literal.
     Forced(Lit),
+    /// It is neither violated nor forces a literal.
     Idle,
 }
 
@@ -83,4 +88,28 @@ pub(crate) fn scan_these(known: &List<Constraint>, ids: &[u64], a: &Assignment) 
         }
     }
     Scan::Idle
+}
+
+/// The first of these constraints that is violated or forces a literal; the goal, which has an id of
+/// its own, comes last.
+pub(crate) fn scan_all(
+    known: &List<Constraint>,
+    ids: &[u64],
+    sight: &Sight,
+    goal: u64,
+    a: &Assignment,
+) -> Scan
+    requires inside { All (IsWithin (length a.now)) known.now }
+    requires seen { a.now ≡ values sight.now.seen }
+    requires goal { constraint_at (known_of known.now) goal ≡ Some sight.now.goal }
+    ensures { ScansAll (known_of known.now) ids.now goal a.now result }
+{
+    match scan_these(known, ids, a) {
+        Scan::Idle => match sight.shown() {
+            State::Violated => Scan::Violated(goal),
+            State::Forced(lit) => Scan::Forced(lit, goal),
+            State::Idle => Scan::Idle,
+        },
+        found => found,
+    }
 }

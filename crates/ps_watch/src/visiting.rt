@@ -6,6 +6,7 @@ ghost use Rattle.ps_watch.specs.declared.links.TheConstants.{END};
 ghost use Rattle.ps_watch.specs.Links.{AreLinked, IsFree};
 ghost use Rattle.ps_watch.specs.Watches.{slot_of, IsKept, IsPut, IsMoved, Extends, KeepsGood};
 ghost use Rattle.ps_watch.specs.Watches.{KeepsPlaced, IsListed, IsSpareKept, lit_at};
+ghost use Rattle.ps_watch.specs.Rooms.{room_of};
 
 use crate::links::Links;
 use crate::looking::{Shown, look};
@@ -41,7 +42,8 @@ pub(crate) fn put(w: &mut Watches, node: u32)
     requires lit { node < length w.old.lits.items }
     requires within { slot_of (lit_at w.old.lits.items node) < length w.old.links.heads.items }
     requires free { IsFree w.old.links.next.items w.old.links.heads.items node }
-    ensures { IsPut w.old w.new node }
+    ensures put { IsPut w.old w.new node }
+    ensures room { room_of w.new ≡ room_of w.old }
 {
     let lit = w.lits[node as usize];
     w.links.push(slot(lit), node);
@@ -54,7 +56,8 @@ fn move_to(w: &mut Watches, node: u32, lit: Lit)
     requires lit { node < length w.old.lits.items }
     requires within { slot_of lit < length w.old.links.heads.items }
     requires free { IsFree w.old.links.next.items w.old.links.heads.items node }
-    ensures { IsMoved w.old w.new node lit }
+    ensures moved { IsMoved w.old w.new node lit }
+    ensures room { room_of w.new ≡ room_of w.old }
 {
     w.lits[node as usize] = lit;
     w.links.push(slot(lit), node);
@@ -74,6 +77,7 @@ pub(crate) fn visit(
     ensures kept { IsKept trail.old.variables known.now w.new }
     ensures nodes { length w.new.lits.items ≡ length w.old.lits.items }
     ensures ids { w.new.ids.items ≡ w.old.ids.items }
+    ensures room { room_of w.new ≡ room_of w.old }
     ensures spare { IsSpareKept trail.old.variables w.old w.new }
     ensures extends { Extends (known_of known.now) trail.old trail.new }
     ensures good { KeepsGood w.old w.new (values trail.old) }

@@ -14,7 +14,7 @@ go_through-requires-clause-within c = opposite-within c.on.trail c.on.done c.opp
 pub returns-in-Some-clause-followed : goal.returns-in-Some-clause-followed
 returns-in-Some-clause-followed c =
     followed-stop c.args.known.now c.args.w.now c.args.trail.now c.on.w c.on.trail c.go_through.new.w c.go_through.new.trail c.on.done c.in-Some.id c.opposite_at-lit.result c.entries.ensures.fresh c.on.invariant.followed
-    (subst (λ z. HasGone c.args.known.now c.on.w c.on.trail c.go_through.new.w c.go_through.new.trail c.opposite_at-lit.result z) c.in-Some.is c.go_through.ensures)
+    (subst (λ z. HasGone c.args.known.now c.on.w c.on.trail c.go_through.new.w c.go_through.new.trail c.opposite_at-lit.result z) c.in-Some.is c.go_through.ensures.gone)
 
 pub on-smaller : goal.on-smaller
 on-smaller c =
@@ -25,7 +25,8 @@ on-smaller c =
 pub on-preserved : goal.on-preserved
 on-preserved c = record {
   grows = omega (arith, c.on.invariant.grows);
+  room = c.go_through.ensures.room ∙ c.on.invariant.room;
   followed =
       followed-next c.args.known.now c.args.w.now c.args.trail.now c.on.w c.on.trail c.go_through.new.w c.go_through.new.trail c.on.done c.opposite_at-lit.result c.entries.ensures.fresh c.on.invariant.followed c.opposite_at-lit.ensures
-      (subst (λ z. HasGone c.args.known.now c.on.w c.on.trail c.go_through.new.w c.go_through.new.trail c.opposite_at-lit.result z) c.in_default.is c.go_through.ensures);
+      (subst (λ z. HasGone c.args.known.now c.on.w c.on.trail c.go_through.new.w c.go_through.new.trail c.opposite_at-lit.result z) c.in_default.is c.go_through.ensures.gone);
 }

@@ -3,7 +3,7 @@ use Rattle.ps_steps.specs.Steps.{known_of}
 use Rattle.ps_watch.specs.Watches.{IsKept, IsFiled}
 use Rattle.ps_watch.specs.Watching.{IsPair}
 use Rattle.ps_watch.proofs.Rested.{known-inside}
-use Rattle.ps_watch.proofs.Attached.{two-pair, lit-of, linked-open, linked-last, more-watched, on-three}
+use Rattle.ps_watch.proofs.Attached.{two-pair, lit-of, linked-open, linked-last, more-watched}
 use Rattle.ps_watch.proofs.linking.link.Goals as goal
 
 pub watch-requires-clause-pair : goal.watch-requires-clause-pair
@@ -29,25 +29,19 @@ watch-requires-in-Last-clause-pair c =
 pub returns-in-Open-clause-linked : goal.returns-in-Open-clause-linked
 returns-in-Open-clause-linked c =
     let x = c.in-Open.ensures in
-    on-three c.watch.result _ _ _ _ c.watch.ensures.kept c.watch.ensures.filed c.watch.ensures.watched (λ kept filed watched.
     linked-open c.args.known.now c.args.id c.args.w.now c.args.trail.now c.watch.new.w x.0 c.in-Open.first c.in-Open.second c.entries-entries.ensures.fresh c.entries-entries.ensures.levels
-    (subst (λ v. IsKept v c.args.known.now c.watch.new.w) c.variables.ensures kept) (subst (λ v. IsFiled v c.watch.new.w) c.variables.ensures filed) watched x.2)
+    (subst (λ v. IsKept v c.args.known.now c.watch.new.w) c.variables.ensures c.watch.ensures.kept) (subst (λ v. IsFiled v c.watch.new.w) c.variables.ensures c.watch.ensures.filed) c.watch.ensures.watched x.2
 
 pub returns-in-Last-clause-linked : goal.returns-in-Last-clause-linked
 returns-in-Last-clause-linked c =
     let x = c.in-Last.ensures in
     let v = c.variables-in-Last.ensures ∙ c.set_open.ensures.extends.variables in
-    on-three c.watch-in-Last.result _ _ _ _ c.watch-in-Last.ensures.kept c.watch-in-Last.ensures.filed c.watch-in-Last.ensures.watched (λ kept filed watched.
     linked-last c.args.known.now c.args.id c.args.w.now c.args.trail.now c.watch-in-Last.new.w c.set_open.new.trail x.0 c.in-Last.first c.in-Last.second c.entries-entries.ensures.fresh c.entries-entries.ensures.levels
     (subst (λ n. 1 ≤ n) c.variable-in-Last.ensures.value c.variable-in-Last.ensures.within.0)
-    (subst (λ n. IsKept n c.args.known.now c.watch-in-Last.new.w) v kept) (subst (λ n. IsFiled n c.watch-in-Last.new.w) v filed) watched x.2 c.set_open.ensures.extends c.set_open.ensures.set)
+    (subst (λ n. IsKept n c.args.known.now c.watch-in-Last.new.w) v c.watch-in-Last.ensures.kept) (subst (λ n. IsFiled n c.watch-in-Last.new.w) v c.watch-in-Last.ensures.filed) c.watch-in-Last.ensures.watched x.2 c.set_open.ensures.extends c.set_open.ensures.set
 
 pub returns-in-Open-clause-covers : goal.returns-in-Open-clause-covers
-returns-in-Open-clause-covers c =
-    on-three c.watch.result _ _ _ _ c.watch.ensures.kept c.watch.ensures.filed c.watch.ensures.watched (λ kept filed watched.
-    more-watched c.args.w.now c.watch.new.w c.args.scanned.now.items c.in-Open.first c.in-Open.second c.args.id watched)
+returns-in-Open-clause-covers c = more-watched c.args.w.now c.watch.new.w c.args.scanned.now.items c.in-Open.first c.in-Open.second c.args.id c.watch.ensures.watched
 
 pub returns-in-Last-clause-covers : goal.returns-in-Last-clause-covers
-returns-in-Last-clause-covers c =
-    on-three c.watch-in-Last.result _ _ _ _ c.watch-in-Last.ensures.kept c.watch-in-Last.ensures.filed c.watch-in-Last.ensures.watched (λ kept filed watched.
-    more-watched c.args.w.now c.watch-in-Last.new.w c.args.scanned.now.items c.in-Last.first c.in-Last.second c.args.id watched)
+returns-in-Last-clause-covers c = more-watched c.args.w.now c.watch-in-Last.new.w c.args.scanned.now.items c.in-Last.first c.in-Last.second c.args.id c.watch-in-Last.ensures.watched

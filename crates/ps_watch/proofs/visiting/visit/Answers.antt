@@ -40,40 +40,40 @@ pub returns-in-Moves-clause-kept : goal.returns-in-Moves-clause-kept
 returns-in-Moves-clause-kept c =
     let w = c.args.w.now in
     let r = are-read c.args.trail.now.variables c.args.known.now w c.args.node c.index.result.now c.index-lit.result.now c.index-2.result.now c.index-id.result.now c.requires.kept c.requires.node c.index-lit.ensures c.index.ensures c.index-2.ensures c.index-id.ensures in
-    moved-kept c.args.trail.now.variables c.args.known.now w c.move_to.new.w c.args.node (values c.args.trail.now) c.in-Moves.new c.requires.kept c.requires.node c.move_to.ensures (read-new c.args.trail.now.variables c.args.known.now w c.args.node c.index-lit.result.now c.index-2.result.now c.in-Moves.new c.index-id.result.now c.values.result.now (values c.args.trail.now) c.requires.kept c.requires.node r c.values.ensures.value c.in-Moves.ensures)
+    moved-kept c.args.trail.now.variables c.args.known.now w c.move_to.new.w c.args.node (values c.args.trail.now) c.in-Moves.new c.requires.kept c.requires.node c.move_to.ensures.moved (read-new c.args.trail.now.variables c.args.known.now w c.args.node c.index-lit.result.now c.index-2.result.now c.in-Moves.new c.index-id.result.now c.values.result.now (values c.args.trail.now) c.requires.kept c.requires.node r c.values.ensures.value c.in-Moves.ensures)
 
 pub returns-in-Moves-clause-spare : goal.returns-in-Moves-clause-spare
 returns-in-Moves-clause-spare c =
     let w = c.args.w.now in
     let r = are-read c.args.trail.now.variables c.args.known.now w c.args.node c.index.result.now c.index-lit.result.now c.index-2.result.now c.index-id.result.now c.requires.kept c.requires.node c.index-lit.ensures c.index.ensures c.index-2.ensures c.index-id.ensures in
-    moved-spare c.args.trail.now.variables c.args.known.now w c.move_to.new.w c.args.node (values c.args.trail.now) c.in-Moves.new c.move_to.ensures (read-new c.args.trail.now.variables c.args.known.now w c.args.node c.index-lit.result.now c.index-2.result.now c.in-Moves.new c.index-id.result.now c.values.result.now (values c.args.trail.now) c.requires.kept c.requires.node r c.values.ensures.value c.in-Moves.ensures)
+    moved-spare c.args.trail.now.variables c.args.known.now w c.move_to.new.w c.args.node (values c.args.trail.now) c.in-Moves.new c.move_to.ensures.moved (read-new c.args.trail.now.variables c.args.known.now w c.args.node c.index-lit.result.now c.index-2.result.now c.in-Moves.new c.index-id.result.now c.values.result.now (values c.args.trail.now) c.requires.kept c.requires.node r c.values.ensures.value c.in-Moves.ensures)
 
 pub returns-in-Moves-clause-placed : goal.returns-in-Moves-clause-placed
 returns-in-Moves-clause-placed c =
     let w = c.args.w.now in
     let r = are-read c.args.trail.now.variables c.args.known.now w c.args.node c.index.result.now c.index-lit.result.now c.index-2.result.now c.index-id.result.now c.requires.kept c.requires.node c.index-lit.ensures c.index.ensures c.index-2.ensures c.index-id.ensures in
-    λ f ff q. read-placed c.args.trail.now.variables c.args.known.now w c.move_to.new.w c.args.node c.index-lit.result.now c.index-2.result.now c.in-Moves.new f c.index-id.result.now c.values.result.now (values c.args.trail.now) c.requires.kept c.requires.node r c.values.ensures.value c.in-Moves.ensures c.move_to.ensures ff q
+    λ f ff q. read-placed c.args.trail.now.variables c.args.known.now w c.move_to.new.w c.args.node c.index-lit.result.now c.index-2.result.now c.in-Moves.new f c.index-id.result.now c.values.result.now (values c.args.trail.now) c.requires.kept c.requires.node r c.values.ensures.value c.in-Moves.ensures c.move_to.ensures.moved ff q
 
 pub returns-in-Moves-clause-good : goal.returns-in-Moves-clause-good
 returns-in-Moves-clause-good c =
     let w = c.args.w.now in
     let r = are-read c.args.trail.now.variables c.args.known.now w c.args.node c.index.result.now c.index-lit.result.now c.index-2.result.now c.index-id.result.now c.requires.kept c.requires.node c.index-lit.ensures c.index.ensures c.index-2.ensures c.index-id.ensures in
-    read-good c.args.trail.now.variables c.args.known.now w c.move_to.new.w c.args.node c.index-lit.result.now c.index-2.result.now c.in-Moves.new c.index-id.result.now c.values.result.now (values c.args.trail.now) c.requires.kept c.requires.node r c.values.ensures.value c.in-Moves.ensures c.move_to.ensures
+    read-good c.args.trail.now.variables c.args.known.now w c.move_to.new.w c.args.node c.index-lit.result.now c.index-2.result.now c.in-Moves.new c.index-id.result.now c.values.result.now (values c.args.trail.now) c.requires.kept c.requires.node r c.values.ensures.value c.in-Moves.ensures c.move_to.ensures.moved
 
 pub returns-in-Stays-clause-spare : goal.returns-in-Stays-clause-spare
-returns-in-Stays-clause-spare c = put-spare c.args.trail.now.variables c.args.known.now c.args.w.now c.put.new.w c.args.node c.requires.kept c.requires.node c.put.ensures
+returns-in-Stays-clause-spare c = put-spare c.args.trail.now.variables c.args.known.now c.args.w.now c.put.new.w c.args.node c.requires.kept c.requires.node c.put.ensures.put
 
 pub returns-in-Forces-clause-spare : goal.returns-in-Forces-clause-spare
-returns-in-Forces-clause-spare c = put-spare c.args.trail.now.variables c.args.known.now c.args.w.now c.put-in-Forces.new.w c.args.node c.requires.kept c.requires.node c.put-in-Forces.ensures
+returns-in-Forces-clause-spare c = put-spare c.args.trail.now.variables c.args.known.now c.args.w.now c.put-in-Forces.new.w c.args.node c.requires.kept c.requires.node c.put-in-Forces.ensures.put
 
 pub returns-in-Violated-clause-spare : goal.returns-in-Violated-clause-spare
-returns-in-Violated-clause-spare c = put-spare c.args.trail.now.variables c.args.known.now c.args.w.now c.put-in-Violated.new.w c.args.node c.requires.kept c.requires.node c.put-in-Violated.ensures
+returns-in-Violated-clause-spare c = put-spare c.args.trail.now.variables c.args.known.now c.args.w.now c.put-in-Violated.new.w c.args.node c.requires.kept c.requires.node c.put-in-Violated.ensures.put
 
 pub returns-in-Stays-clause-placed : goal.returns-in-Stays-clause-placed
 returns-in-Stays-clause-placed c =
     let w = c.args.w.now in
     let r = are-read c.args.trail.now.variables c.args.known.now w c.args.node c.index.result.now c.index-lit.result.now c.index-2.result.now c.index-id.result.now c.requires.kept c.requires.node c.index-lit.ensures c.index.ensures c.index-2.ensures c.index-id.ensures in
-    λ f ff q. stays-placed c.args.trail.now.variables w c.put.new.w c.args.node c.index-lit.result.now c.index-2.result.now f c.index-id.result.now c.values.result.now (values c.args.trail.now) r c.values.ensures.value c.in-Stays.ensures c.put.ensures ff q
+    λ f ff q. stays-placed c.args.trail.now.variables w c.put.new.w c.args.node c.index-lit.result.now c.index-2.result.now f c.index-id.result.now c.values.result.now (values c.args.trail.now) r c.values.ensures.value c.in-Stays.ensures c.put.ensures.put ff q
 
 pub returns-in-Forces-clause-extends : goal.returns-in-Forces-clause-extends
 returns-in-Forces-clause-extends c =
@@ -87,4 +87,4 @@ returns-in-Forces-clause-placed c =
     let w = c.args.w.now in
     let r = are-read c.args.trail.now.variables c.args.known.now w c.args.node c.index.result.now c.index-lit.result.now c.index-2.result.now c.index-id.result.now c.requires.kept c.requires.node c.index-lit.ensures c.index.ensures c.index-2.ensures c.index-id.ensures in
     let fresh = fresh-other c.args.trail.now.variables c.args.known.now w c.args.node c.index-lit.result.now c.index-2.result.now c.index-id.result.now c.variable-variable.result c.args.trail.now c.values.result.now refl c.requires.kept c.requires.node r c.values.ensures.value c.in-Forces.ensures c.variable-variable.ensures.value c.variable-variable.ensures.within.0 in
-    λ f ff q. forces-placed c.args.trail.now.variables w c.put-in-Forces.new.w c.args.node c.index-lit.result.now c.index-2.result.now f c.index-id.result.now c.args.trail.now c.imply.new.self r c.imply.ensures fresh c.put-in-Forces.ensures ff q
+    λ f ff q. forces-placed c.args.trail.now.variables w c.put-in-Forces.new.w c.args.node c.index-lit.result.now c.index-2.result.now f c.index-id.result.now c.args.trail.now c.imply.new.self r c.imply.ensures fresh c.put-in-Forces.ensures.put ff q

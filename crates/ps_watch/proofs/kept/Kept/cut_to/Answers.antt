@@ -1,6 +1,17 @@
-use Rattle.std.proofs.Common.{refl}
+use Rattle.std.proofs.Common.{◌≡◌, ◌∙◌, ap, subst, vec_capacity}
+use Rattle.ps_learning.specs.Trails.{Trail, AreLevels}
+use Rattle.ps_watch.specs.Sights.{literals_of}
+use Rattle.ps_watch.specs.Keeping.{Keeping, seen_to}
+use Rattle.ps_watch.proofs.Sighted.{literals-to}
 use Rattle.ps_watch.proofs.Keeping.{keeping-cut}
 use Rattle.ps_watch.proofs.kept.Kept.cut_to.Goals as goal
 
-pub returns-clause-keeping : goal.returns-clause-keeping
-returns-clause-keeping c = keeping-cut c.args.self.now _ c.args.trail.now c.cut_to.new.trail c.requires.keeping c.cut_to.ensures.variables refl refl refl c.cut_to.ensures.done c.cut_to.ensures.good c.cut_to.ensures.closed
+pub invariant_of-self : goal.invariant_of-self
+invariant_of-self c =
+    let s = c.self.inside in
+    keeping-cut s.known s.w s.scanned.items s.waiting.items (vec_capacity s.scanned) s.sight c.cut_to-2.new.self s.goal s.closed s.settled c.args.most c.self.invariant (subst (λ (z : Trail). AreLevels z.entries) c.seen.ensures c.entries-seen.ensures.levels) c.cut_to-2.ensures.goal c.cut_to-2.ensures.seen
+
+pub returns-clause-seen : goal.returns-clause-seen
+returns-clause-seen c =
+    let s = c.self.inside in
+    ap (λ (z : Trail). literals_of z.entries) c.cut_to-2.ensures.seen ∙ literals-to c.args.most s.sight.seen.entries ∙ ap (λ (z : Keeping). seen_to c.args.most z.seen) c.self.view_is

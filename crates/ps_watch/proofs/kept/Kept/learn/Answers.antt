@@ -1,12 +1,28 @@
-use Rattle.std.proofs.Common.{◌≡◌, refl, arith}
-use Rattle.ps_watch.proofs.Keeping.{kept-more, inside-more, keeping-learned}
+use Rattle.std.proofs.Common.{◌≡◌, ◌∙◌, ◌+◌, ◌<◌, ◌++◌, ◌∷◌, [], ℕ, List, All, length, arith, ap, sym, subst, vec_capacity}
+use Rattle.ps_steps.specs.Assignments.{place}
+use Rattle.ps_steps.specs.Constraints.{Constraint}
+use Rattle.ps_steps.specs.Weights.{IsWithin}
+use Rattle.ps_steps.proofs.Within.{clause-within}
+use Rattle.ps_watch.specs.Rooms.{HasRoomForClauses}
+use Rattle.ps_watch.specs.Keeping.{Keeping, IsKeeping}
+use Rattle.ps_watch.proofs.Keeping.{keeping-room, keeping-learned}
 use Rattle.ps_watch.proofs.kept.Kept.learn.Goals as goal
 
-pub link-requires-clause-inside : goal.link-requires-clause-inside
-link-requires-clause-inside c = inside-more c.args.trail.now.variables c.args.self.now.known _ c.args.constraint c.in_ok-push.ensures.ok c.requires.keeping.inside c.requires.inside
+pub invariant_of-self : goal.invariant_of-self
+invariant_of-self c =
+    let s = c.self.inside in
+    keeping-room s.known s.w c.make_room.new.w s.scanned.items s.waiting.items (vec_capacity s.scanned) (vec_capacity s.scanned) s.sight s.goal s.closed s.settled c.self.invariant c.in_err-make_room.ensures.same c.in_err-make_room.ensures.grows (omega arith)
 
-pub link-requires-clause-kept : goal.link-requires-clause-kept
-link-requires-clause-kept c = kept-more c.args.trail.now.variables c.args.self.now.known _ c.args.constraint c.args.self.now.w c.in_ok-push.ensures.ok c.requires.keeping.kept
-
-pub returns-clause-keeping : goal.returns-clause-keeping
-returns-clause-keeping c = keeping-learned c.args.self.now _ c.args.constraint c.args.trail.now c.link.new.trail c.len-id.result c.requires.keeping c.requires.inside c.in_ok-push.ensures.ok c.len-id.ensures c.in_ok-link.ensures.linked c.in_ok-link.ensures.covers refl
+pub invariant_of-self-2 : goal.invariant_of-self-2
+invariant_of-self-2 c =
+    let s = c.self.inside in
+    let size : c.len-clauses.result ≡ length s.waiting.items = omega (arith, c.len-clauses.ensures, s.waiting.ok.0) in
+    let roomy = keeping-room s.known s.w c.make_room.new.w s.scanned.items s.waiting.items (vec_capacity s.scanned) (vec_capacity c.reserve.new.self) s.sight s.goal s.closed s.settled c.self.invariant c.in_ok-make_room.ensures.same c.in_ok-make_room.ensures.grows c.in_ok-reserve.ensures.capacity in
+    let k : IsKeeping s.known c.make_room.new.w c.reserve.new.self.items c.reserve-2.new.self.items (vec_capacity c.reserve.new.self) s.sight s.goal s.closed s.settled =
+        subst (λ xs. IsKeeping s.known c.make_room.new.w xs c.reserve-2.new.self.items (vec_capacity c.reserve.new.self) s.sight s.goal s.closed s.settled) (sym c.in_ok-reserve.ensures.items)
+        (subst (λ xs. IsKeeping s.known c.make_room.new.w s.scanned.items xs (vec_capacity c.reserve.new.self) s.sight s.goal s.closed s.settled) (sym c.in_ok-reserve-2.ensures.items) roomy) in
+    let within : IsWithin s.sight.seen.variables c.in_ok-clause.clause = subst (IsWithin s.sight.seen.variables) (sym c.in_ok-clause.ensures) (clause-within s.sight.seen.variables c.args.lits.now (subst (λ n. All (λ l. place l < n) c.args.lits.now) (sym (ap (λ (z : Keeping). z.variables) c.self.view_is)) c.requires.within)) in
+    let old = ap length c.in_ok-reserve-2.ensures.items in
+    keeping-learned s.known c.push.new.self _ c.make_room.new.w c.reserve.new.self.items c.reserve-2.new.self.items c.push_reserved.new.self.items (vec_capacity c.reserve.new.self) s.sight s.goal s.closed c.len-id.result s.settled k c.in_ok-push.ensures.ok c.push_reserved.ensures.items c.len-id.ensures within
+    (subst (HasRoomForClauses c.make_room.new.w) (omega (arith, size, old)) c.in_ok-make_room.ensures.ok)
+    (omega (arith, c.in_ok-reserve.ensures.ok, c.reserve.new.self.ok.0, size, old))

@@ -1,13 +1,26 @@
-use Rattle.std.proofs.Common.{◌≡◌, refl, subst}
+use Rattle.std.proofs.Common.{◌≡◌, ◌∙◌, ◌+◌, ◌≤◌, ◌++◌, ◌∷◌, [], false, List, All, length, arith, ap, sym, subst, vec_capacity}
+use Rattle.ps_steps.specs.Constraints.{Constraint}
+use Rattle.ps_steps.specs.Weights.{IsWithin}
+use Rattle.ps_forms.specs.Forms.{Form}
+use Rattle.ps_watch.specs.Rooms.{HasRoomForClauses}
 use Rattle.ps_watch.specs.Watches.{IsKept, IsFiled}
-use Rattle.ps_watch.proofs.Keeping.{linked-first, keeping-first}
+use Rattle.ps_watch.specs.Keeping.{IsKeeping}
+use Rattle.ps_watch.proofs.Keeping.{keeping-first}
 use Rattle.ps_watch.proofs.kept.Kept.new.Goals as goal
 
-pub link_all-requires-clause-none : goal.link_all-requires-clause-none
-link_all-requires-clause-none c =
-    linked-first c.args.known c.args.trail.now c.in_ok-w.w c.new-scanned.result.items
-    (subst (λ n. IsKept n c.args.known c.in_ok-w.w) c.variables.ensures (c.in_ok-w.ensures.kept c.args.known))
-    (subst (λ n. IsFiled n c.in_ok-w.w) c.variables.ensures c.in_ok-w.ensures.filed) c.in_ok-w.ensures.none
-
-pub returns-clause-keeping : goal.returns-clause-keeping
-returns-clause-keeping c = keeping-first _ c.args.trail.now c.link_all.new.trail c.requires.inside c.in_ok-link_all.ensures refl
+pub invariant_of-result : goal.invariant_of-result
+invariant_of-result c =
+    let base = c.args.base.now in
+    let v = c.variables-2.result in
+    let same : c.variables.result ≡ v = c.variables.ensures.value ∙ sym c.variables-2.ensures.value in
+    let clauses : c.into_clauses-known.result ≡ base.clauses = c.into_clauses-known.ensures ∙ ap (λ (f : Form). f.clauses) c.in_ok-copy.ensures in
+    let size : c.len-clauses.result ≡ length base.clauses = c.len-clauses.ensures ∙ ap length clauses in
+    let known : c.push.new.self ≡ base.clauses ++ c.args.goal.now ∷ [] = c.in_ok-push.ensures.ok ∙ ap (λ cs. cs ++ c.in_ok-copy-2.field-0 ∷ []) clauses ∙ ap (λ (g : Constraint). base.clauses ++ g ∷ []) c.in_ok-copy-2.ensures in
+    subst (λ cs. IsKeeping cs c.in_ok-no_watches.field-0 c.in_ok-with_capacity.field-0.items c.in_ok-ids_to.field-0.items (vec_capacity c.in_ok-with_capacity.field-0) c.in_ok-new.field-0 (c.len-clauses.result + 1) 0 false) (sym c.known-2.view_is)
+    (keeping-first base.clauses c.push.new.self c.args.goal.now c.in_ok-no_watches.field-0 c.in_ok-with_capacity.field-0.items c.in_ok-ids_to.field-0.items (vec_capacity c.in_ok-with_capacity.field-0) c.in_ok-new.field-0 c.len-clauses.result v
+    known size c.in_ok-new.ensures c.in_ok-with_capacity.ensures.items c.variables-2.ensures.within
+    (subst (λ n. All (IsWithin n) base.clauses) (sym c.variables-2.ensures.value) c.variables-2.ensures.inside) (subst (λ n. IsWithin n c.args.goal.now) (sym c.variables-2.ensures.value) c.requires)
+    c.in_ok-ids_to.ensures
+    (subst (λ n. IsKept n c.push.new.self c.in_ok-no_watches.field-0) same (c.in_ok-no_watches.ensures.kept c.push.new.self))
+    (subst (λ n. IsFiled n c.in_ok-no_watches.field-0) same c.in_ok-no_watches.ensures.filed)
+    c.in_ok-no_watches.ensures.room c.in_ok-with_capacity.ensures.capacity (c.len-clauses.result + 1) (omega arith))

@@ -1,5 +1,5 @@
 use Rattle.ps_watch.proofs.Linked.{grown}
 use Rattle.ps_watch.proofs.links.Links.add.Goals as goal
 
-pub returns : goal.returns
-returns c = rw c.in_ok-push.ensures.items (grown _ _ _ c.requires.linked c.requires.few)
+pub returns-clause-added : goal.returns-clause-added
+returns-clause-added c = rw c.push_reserved.ensures.items (grown _ _ _ c.requires.linked c.requires.few)
