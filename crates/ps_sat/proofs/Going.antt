@@ -102,7 +102,7 @@ handed-more f goal told old new cs t learned x h lawful lits grows = record {
   literals = All-push (λ s. All (IsLit f.variables) s.lits) h.handed.steps x h.handed.literals lits;
 }
 
-lits_inside : (v : ℕ) (lits : List ℤ) → All (IsLit v) lits → All (λ l. place l < v) lits
+pub lits_inside : (v : ℕ) (lits : List ℤ) → All (IsLit v) lits → All (λ l. place l < v) lits
 lits_inside v lits h = λ k d lt. within_by (get_or lits k d) (h k d lt)
   where
     within_by : (l : ℤ) → IsLit v l → place l < v
@@ -184,37 +184,3 @@ search-refuted f goal told new cs t learned x h lawful non = refuted f goal cs h
 
 pub fresh-decided : (n : ℕ) (t : Trail) (a : Assignment) (l : ℤ) → a ≡ values t → t.variables ≡ n → IsFresh n a l → IsFresh t.variables (values t) l
 fresh-decided n t a l e q f = subst (λ m. IsFresh m (values t) l) (sym q) (subst (λ b. IsFresh n b l) e f)
-
--- ---- implied literals more
-risen-longer : (v : ℕ) (known : Known) (es us : List TrailEntry) (least : ℕ) → IsLonger es us → HasRisen v known es least → HasRisen v known us least
-risen-longer v known es us least x h = record {
-  at = λ more id r k.
-      let e : us ++ more ≡ es ++ (x.more ++ more) = ap (λ z. z ++ more) x.is ∙ append_assoc es x.more more in
-      subst (λ z. least ≤ rank v z) (sym e) (h.at (x.more ++ more) id (subst (AreRested v known) e r) (subst (λ z. IsConflict known (values_of v z) id) e k));
-}
-
-pub searching-longer : (f : Form) (goal : Constraint) (told : Bool) (new : Telling) (cs : List Constraint) (t u : Trail) (learned : ℕ) → Searching f goal told new cs t learned → Extends (known_of cs) t u → Searching f goal told new cs u learned
-searching-longer f goal told new cs t u learned h x = record {
-  same = x.variables ∙ h.same;
-  handed = h.handed;
-  known = h.known;
-  reasons = subst (λ n. AreReasons n (known_of cs) u.entries) (x.variables ∙ h.same) (x.reasons (subst (λ n. AreReasons n (known_of cs) t.entries) (sym h.same) h.reasons));
-  inside = h.inside;
-  count = h.count;
-  literals = h.literals;
-  resting = record {
-    rested = rested-implied f.variables (known_of cs) t.entries u.entries x.longer x.level_is h.resting.rested;
-    atoms = atoms-implied f t.entries u.entries x.longer x.level_is h.resting.atoms;
-    risen = risen-longer f.variables (known_of cs) t.entries u.entries learned x.longer h.resting.risen;
-  };
-  news = h.news;
-  few = h.few;
-}
-
--- the constraints are kept, beside a trail to which implied literals were added
-pub kept-searching : (f : Form) (goal : Constraint) (told : Bool) (new : Telling) (cs ds : List Constraint) (t u : Trail) (learned : ℕ) → ds ≡ cs → Extends (known_of cs) t u → Searching f goal told new cs t learned → Searching f goal told new ds u learned
-kept-searching f goal told new cs ds t u learned e x h = subst (λ zs. Searching f goal told new zs u learned) (sym e) (searching-longer f goal told new cs t u learned h x)
-
--- a clause that was learned is of the trail's variables
-pub learned-inside : (n : ℕ) (x : Step) → All (IsLit n) (lits_of x) → IsWithin n (added x)
-learned-inside n x h = clause-within n (lits_of x) (lits_inside n (lits_of x) h)

@@ -10,7 +10,7 @@ use Rattle.ps_steps.specs.declared.refused.StepRefused.TheVariants.{IdNotNext}
 use Rattle.ps_steps.specs.Steps.{known_of, next_id, Step, lits_of, hints_of, added, IsLawful, is_contradiction}
 use Rattle.ps_steps.proofs.Ids.{known_of-length}
 use Rattle.ps_forms.specs.Forms.{Form, MeetsForm, HasClauses}
-use Rattle.ps_log.specs.Logs.{Telling, Starts, Grows}
+use Rattle.ps_log.specs.Logs.{Telling, Starts, Grows, Stays}
 use Rattle.ps_log.specs.Limits.{IsStepWithin}
 use Rattle.ps_pb.specs.declared.limits.TheConstants.{MOST_VARIABLES}
 use Rattle.ps_learning.specs.Known.{most_known, IsIdUpTo}
@@ -109,6 +109,11 @@ least-more b l k (inr h) e le = absurd (false≢true (sym e ∙ h))
 pub logged-nothing : (f : Form) (goal : Constraint) (conflicts : ℕ) (old : Telling) (r : Result Outcome SearchError) → IsErr r → IsLogged f goal conflicts old old r
 logged-nothing f goal conflicts old (Ok o) h = absurd (false≢true h)
 logged-nothing f goal conflicts old (Err e) h = inl (λ b. (b, refl, refl))
+
+-- the log didn't begin
+pub logged-stays : (f : Form) (goal : Constraint) (conflicts : ℕ) (old new : Telling) (r : Result Outcome SearchError) → IsErr r → Stays old new → IsLogged f goal conflicts old new r
+logged-stays f goal conflicts old new (Ok o) h s = absurd (false≢true h)
+logged-stays f goal conflicts old new (Err e) h s = inl s
 
 -- what was told since the log began
 pub logged-after : (f : Form) (goal : Constraint) (conflicts : ℕ) (old start new : Telling) (r : Result Outcome SearchError) → Starts old start goal → HasHanded f goal conflicts start new r → IsLogged f goal conflicts old new r

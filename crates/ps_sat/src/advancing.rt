@@ -4,7 +4,7 @@ ghost use Rattle.ps_steps.specs.Steps.{known_of};
 ghost use Rattle.ps_learning.specs.Trails.{values, AreReasons};
 ghost use Rattle.ps_learn.specs.Rest.{IsAdvanced, IsLonger};
 ghost use Rattle.ps_spent.specs.Resting.{AreRested, AreOfAtoms};
-ghost use Rattle.ps_watch.specs.Keeping.{known_by, IsKeeping};
+ghost use Rattle.ps_watch.specs.Keeping.{IsInStep, IsOver, HasSeen};
 
 use crate::order::Order;
 use ps_clause::ClauseForm;
@@ -21,22 +21,19 @@ pub(crate) fn advance(
     trail: &mut Trail,
 ) -> Option<u64>
     requires variables { trail.old.variables ≡ base.now.variables }
-    requires keeping { IsKeeping kept.old trail.old }
-    requires reasons { AreReasons trail.old.variables (known_of (known_by kept.old))
-        trail.old.entries }
-    requires rested { AreRested base.now.variables (known_of (known_by kept.old))
-        trail.old.entries }
+    requires kept { kept.old.variables ≡ base.now.variables }
+    requires in_step { IsInStep kept.old trail.old }
+    requires reasons { AreReasons trail.old.variables (known_of kept.old.known) trail.old.entries }
+    requires rested { AreRested base.now.variables (known_of kept.old.known) trail.old.entries }
     requires atoms { AreOfAtoms base.now trail.old.entries }
-    ensures known { known_by kept.new ≡ known_by kept.old }
-    ensures keeping { IsKeeping kept.new trail.new }
+    ensures over { IsOver kept.old kept.new }
+    ensures seen { HasSeen result kept.new trail.new }
     ensures variables { trail.new.variables ≡ trail.old.variables }
     ensures longer { IsLonger trail.old.entries trail.new.entries }
-    ensures reasons { AreReasons trail.new.variables (known_of (known_by kept.old))
-        trail.new.entries }
-    ensures rested { AreRested base.now.variables (known_of (known_by kept.old))
-        trail.new.entries }
+    ensures reasons { AreReasons trail.new.variables (known_of kept.old.known) trail.new.entries }
+    ensures rested { AreRested base.now.variables (known_of kept.old.known) trail.new.entries }
     ensures atoms { AreOfAtoms base.now trail.new.entries }
-    ensures ended { IsAdvanced base.now (known_of (known_by kept.old)) (values trail.new) result }
+    ensures ended { IsAdvanced base.now (known_of kept.old.known) (values trail.new) result }
 {
     'on: loop {
         if let Some(id) = kept.propagate(trail) {

@@ -3,14 +3,13 @@ ghost use Rattle.std.specs.Prelude.{◌≡◌, ◌≤◌, ◌<◌, ◌^◌, ◌+
 ghost use Rattle.std.specs.Prelude.{IfOk, OnOk, OnErr, IsTrue, IsErrOf};
 ghost use Rattle.ps_steps.specs.Steps.{added, known_of};
 ghost use Rattle.ps_steps.specs.Weights.{IsWithin};
-ghost use Rattle.ps_log.specs.Logs.{Grows, Stays};
+ghost use Rattle.ps_io.specs.Causes.{next_count};
+ghost use Rattle.ps_log.specs.Logs.{Starts, Grows, Stays};
 ghost use Rattle.ps_log.specs.Limits.{IsStepWithin};
 ghost use Rattle.ps_log.specs.declared.limits.TheConstants.{MOST_CONFLICTS};
 ghost use Rattle.ps_sat.specs.Errors.{CountsSearchFault, BeginsOnce};
 ghost use Rattle.ps_sat.specs.Searches.{IsOutcome, IsOutcomeOfHints, IsLogged, HasHanded};
 ghost use Rattle.ps_sat.specs.Searches.{HoldsGoalAndSteps};
-ghost use Rattle.ps_watch.specs.Watches.{Extends};
-ghost use Rattle.ps_watch.specs.Keeping.{known_by, IsKeeping};
 
 use crate::advancing::advance;
 use crate::error::SearchError;
@@ -70,10 +69,26 @@ pub fn search<S: ProofSink>(
 {
     let kept = Kept::new(alloc, base, goal)?;
     let trail = Trail::new(alloc, base.variables())?;
+    begin(goal, log)?;
+    learn_all(alloc, base, goal, conflicts, kept, trail, log)
+}
+
+// Begins the log with the goal.
+fn begin<S: ProofSink>(goal: &Constraint, log: &mut S) -> Result<(), SearchError>
+    requires { IsTrue (S.is_whole log.old) }
+    ensures ok { OnOk result (Starts (S.told log.old) (S.told log.new) goal.now) }
+    ensures whole { OnOk result (IsTrue (S.is_whole log.new)) }
+    ensures err { OnErr result (Stays (S.told log.old) (S.told log.new)) }
+    ensures begun { S.begins log.new ≡ next_count (S.begins log.old) }
+    ensures counted { CountsSearchFault result (S.faults log.old) (S.faults log.new) }
+    ensures no_memory { IsErrOf result SearchError.NoMemory → IsTrue (S.is_whole log.new) }
+    ensures same_kind { S.takes_memory log.new ≡ S.takes_memory log.old }
+    ensures same_references { S.names log.new ≡ S.names log.old }
+{
     // Called for its clauses: each constraint is within the limits of a goal.
     let _within = is_goal_within(goal);
     log.begin(goal)?;
-    learn_all(alloc, base, goal, conflicts, kept, trail, log)
+    Ok(())
 }
 
 // Goes on from a log that has begun.
@@ -88,10 +103,12 @@ fn learn_all<S: ProofSink>(
 ) -> Result<Outcome, SearchError>
     requires whole { IsTrue (S.is_whole log.old) }
     requires goal { IsWithin base.now.variables goal.now }
-    requires started { known ≡ base.now.clauses ++ goal.now ∷ [] }
+    requires variables { kept.variables ≡ base.now.variables }
+    requires known { kept.known ≡ base.now.clauses ++ goal.now ∷ [] }
+    requires seen { kept.seen ≡ [] }
     requires unset { trail ≡ record { variables = base.now.variables; entries = [] } }
     requires begun { HoldsGoalAndSteps (S.told log.old).tells (S.told log.old) goal.now [] }
-    requires small { length known ≤ 2 ^ 32 }
+    requires small { length kept.known ≤ 2 ^ 32 }
     requires few { conflicts ≤ MOST_CONFLICTS }
     ensures outcome { IfOk result (IsOutcome base.now goal.now conflicts) }
     ensures logged { HasHanded base.now goal.now conflicts (S.told log.old)

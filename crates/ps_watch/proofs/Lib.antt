@@ -18,3 +18,4 @@ pub mod Slacks
 pub mod Backward
 pub mod Rooms
 pub mod Keeping
+pub mod Stepping

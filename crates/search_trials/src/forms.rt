@@ -12,8 +12,8 @@ use std::alloc::Global;
 /// So many clauses a form gets at most.
 const MOST_CLAUSES: u32 = 1_000_000;
 
-// Whether literals are of so many variables.
-fn are_within(variables: u32, lits: &[Lit]) -> bool
+/// Whether literals are of so many variables.
+pub fn are_within(variables: u32, lits: &[Lit]) -> bool
     ensures { IsTrue result → All (λ l. place l < variables) lits.now }
 {
     let variables = variables as usize;
@@ -27,8 +27,8 @@ fn are_apart(at: usize, lits: &[Lit]) -> bool
     lits.iter().all(|lit| lit.place() != at)
 }
 
-// Whether no two literals are of one variable.
-fn are_different(lits: &[Lit]) -> bool
+/// Whether no two literals are of one variable.
+pub fn are_different(lits: &[Lit]) -> bool
     ensures { IsTrue result → AreDifferent lits.now }
 {
     for i in 0..lits.len() {

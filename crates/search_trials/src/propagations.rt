@@ -1,14 +1,15 @@
 //! Propagation by watched literals, beside passes over all constraints.
-ghost use Rattle.std.specs.Prelude.{◌≡◌, All, IsTrue, OnOk};
-ghost use Rattle.ps_learning.specs.Trails.{values, IsFresh};
+ghost use Rattle.std.specs.Prelude.{◌≡◌, All, IsTrue, IfOk, OnOk, IfSome, IfNone};
+ghost use Rattle.ps_learning.specs.Trails.{values, decided, IsFresh};
 ghost use Rattle.ps_steps.specs.Weights.{IsWithin};
-ghost use Rattle.ps_watch.specs.Keeping.{IsKeeping, IsSettled};
+ghost use Rattle.ps_watch.specs.Keeping.{IsInStep, HasSeenLower};
 
 use crate::draw::Draw;
-use crate::forms::literal;
+use crate::forms::{add, are_different, are_within, literal};
 use crate::refutations::{is_within, no_goal};
-use ps_io::{List, NoMemory};
-use ps_pb::{Assignment, Constraint, Effect, Lit, clause, from_weights, propagate, sizes_fit};
+use ps_clause::ClauseForm;
+use ps_io::NoMemory;
+use ps_pb::{Assignment, Constraint, Effect, Lit, from_weights, propagate, sizes_fit, slack};
 use ps_trail::Trail;
 use ps_watch::Kept;
 use std::alloc::Global;
@@ -22,20 +23,19 @@ const MOVES: u32 = 40;
 /// So much the weights of a goal sum to at most.
 const MOST_SUM: u128 = 1_000;
 
-// A clause of one to four drawn literals.
-fn drawn_clause(alloc: Global, draw: &mut Draw) -> Result<Constraint, NoMemory> {
-    let lits = [
-        literal(draw, VARIABLES),
-        literal(draw, VARIABLES),
-        literal(draw, VARIABLES),
-        literal(draw, VARIABLES),
-    ];
-    match draw.below(8) {
-        0 => clause(alloc, &lits[..1]),
-        1 | 2 => clause(alloc, &lits[..2]),
-        3 | 4 => clause(alloc, &lits),
-        _ => clause(alloc, &lits[..3]),
+// One to four drawn literals.
+fn drawn_literals(alloc: Global, draw: &mut Draw) -> Result<Vec<Lit>, NoMemory> {
+    let mut lits = Vec::new(alloc);
+    let count = match draw.below(8) {
+        0 => 1,
+        1 | 2 => 2,
+        3 | 4 => 4,
+        _ => 3,
+    };
+    for _ in 0..count {
+        lits.push(literal(draw, VARIABLES))?;
     }
+    Ok(lits)
 }
 
 // A goal of six drawn literals with weights from 1 to 9.
@@ -51,24 +51,14 @@ fn drawn_goal(alloc: Global, draw: &mut Draw) -> Result<Constraint, NoMemory> {
     from_weights(alloc, &weights, least)
 }
 
-// Twenty clauses and two goals.
-fn drawn_known(alloc: Global, draw: &mut Draw) -> Result<List<Constraint>, NoMemory> {
-    let mut known = List::new(alloc);
-    for _ in 0..20 {
-        known.push(drawn_clause(alloc, draw)?)?;
+// A form of thirty clauses at most.
+fn drawn_form(alloc: Global, draw: &mut Draw) -> Result<ClauseForm, NoMemory> {
+    let mut form = ClauseForm::new(alloc, VARIABLES);
+    for _ in 0..30 {
+        let lits = drawn_literals(alloc, draw)?;
+        add(&mut form, &lits)?;
     }
-    known.push(drawn_goal(alloc, draw)?)?;
-    known.push(drawn_goal(alloc, draw)?)?;
-    Ok(known)
-}
-
-// Whether all constraints are of so many variables.
-fn are_all_within(variables: u32, known: &[Constraint]) -> bool
-    ensures { IsTrue result → All (IsWithin variables) known.now }
-{
-    known
-        .iter()
-        .all(|constraint| is_within(variables, constraint))
+    Ok(form)
 }
 
 // What all constraints force is set. Whether none of them was violated.
@@ -133,22 +123,15 @@ fn is_fresh(trail: &Trail, lit: Lit) -> bool
     lit.place() < trail.variables() as usize && trail.values().value_of(lit).is_none()
 }
 
-// What came of a move.
-#[derive(Clone, Copy, PartialEq, Eq)]
-enum Move {
-    /// Propagation was as by passes, and more is to come.
-    On,
-    /// It was, and no more is to come.
-    Ended,
-    /// It was otherwise.
-    Otherwise,
+// Whether the kept slack is the sum that is made anew over the trail.
+fn has_slack(kept: &Kept, goal: &Constraint, trail: &Trail) -> bool {
+    kept.slack_now() == slack(goal, trail.values())
 }
 
 // Decides on a literal of an unset variable, where a few draws find such.
-fn decide_one(draw: &mut Draw, kept: &Kept, trail: &mut Trail) -> Option<Lit>
-    requires keeping { IsKeeping kept.now trail.old }
-    requires settled { IsSettled kept.now trail.old }
-    ensures keeping { IsKeeping kept.now trail.new }
+fn decide_one(draw: &mut Draw, trail: &mut Trail) -> Option<Lit>
+    ensures some { IfSome result (λ lit. trail.new ≡ decided lit trail.old) }
+    ensures none { IfNone result (trail.new ≡ trail.old) }
 {
     let lit = literal(draw, VARIABLES);
     let other = literal(draw, VARIABLES);
@@ -163,86 +146,110 @@ fn decide_one(draw: &mut Draw, kept: &Kept, trail: &mut Trail) -> Option<Lit>
     None
 }
 
-// Goes back to a drawn level below the present one, and perhaps learns a drawn clause.
+// Learns a drawn clause, where its literals are of different variables.
+fn learn_one(
+    alloc: Global,
+    draw: &mut Draw,
+    kept: &mut Kept,
+    trail: &Trail,
+) -> Result<(), NoMemory>
+    requires { trail.now.variables ≡ kept.old.variables }
+    ensures variables { OnOk result (kept.new.variables ≡ kept.old.variables) }
+    ensures seen { OnOk result (kept.new.seen ≡ kept.old.seen) }
+{
+    let lits = drawn_literals(alloc, draw)?;
+    if are_within(trail.variables(), &lits) && are_different(&lits) {
+        kept.learn(&lits)?;
+    }
+    Ok(())
+}
+
+// Goes back to a drawn level below the present one, and perhaps learns a clause before. Some says
+// whether all was as it is to be where the case ends.
 fn go_back(
     alloc: Global,
     draw: &mut Draw,
     kept: &mut Kept,
+    goal: &Constraint,
     trail: &mut Trail,
     decided: &mut Vec<Lit>,
-) -> Result<Move, NoMemory>
-    requires keeping { IsKeeping kept.old trail.old }
-    ensures keeping { OnOk result (IsKeeping kept.new trail.new) }
+) -> Result<Option<bool>, NoMemory>
+    requires variables { trail.old.variables ≡ kept.old.variables }
+    requires lower { HasSeenLower kept.old trail.old }
+    ensures variables { OnOk result (trail.new.variables ≡ kept.new.variables) }
+    ensures in_step { IfOk result (λ ended. IfNone ended (IsInStep kept.new trail.new)) }
 {
     let present = trail.level();
     if present == 0 {
-        return Ok(Move::Ended);
+        return Ok(Some(true));
     }
     let most = draw.below(present as u64) as u32;
+    if draw.coin() {
+        learn_one(alloc, draw, kept, trail)?;
+    }
     kept.cut_to(trail, most);
     decided.truncate(most as usize);
-    if draw.coin() {
-        return Ok(Move::On);
+    if !has_slack(kept, goal, trail) {
+        return Ok(Some(false));
     }
-    let constraint = drawn_clause(alloc, draw)?;
-    if is_within(trail.variables(), &constraint) {
-        kept.learn(trail, constraint)?;
-    }
-    Ok(Move::On)
+    Ok(None)
 }
 
-// Propagates, and then decides or goes back.
+// Propagates, and then decides or goes back. Some says whether all was as it is to be where the case
+// ends.
 fn make_move(
     alloc: Global,
     draw: &mut Draw,
     kept: &mut Kept,
+    goal: &Constraint,
     trail: &mut Trail,
     decided: &mut Vec<Lit>,
-) -> Result<Move, NoMemory>
-    requires keeping { IsKeeping kept.old trail.old }
-    ensures keeping { OnOk result (IsKeeping kept.new trail.new) }
+) -> Result<Option<bool>, NoMemory>
+    requires variables { trail.old.variables ≡ kept.old.variables }
+    requires in_step { IsInStep kept.old trail.old }
+    ensures variables { OnOk result (trail.new.variables ≡ kept.new.variables) }
+    ensures in_step { IfOk result (λ ended. IfNone ended (IsInStep kept.new trail.new)) }
 {
     match kept.propagate(trail) {
         Some(_) => {
             if !is_as_passed(alloc, kept, trail, decided, true)? {
-                return Ok(Move::Otherwise);
+                return Ok(Some(false));
             }
-            go_back(alloc, draw, kept, trail, decided)
+            go_back(alloc, draw, kept, goal, trail, decided)
         }
         None => {
-            if !is_as_passed(alloc, kept, trail, decided, false)? {
-                return Ok(Move::Otherwise);
+            if !is_as_passed(alloc, kept, trail, decided, false)? || !has_slack(kept, goal, trail) {
+                return Ok(Some(false));
             }
-            match decide_one(draw, kept, trail) {
+            match decide_one(draw, trail) {
                 Some(lit) => decided.push(lit)?,
-                None => return go_back(alloc, draw, kept, trail, decided),
+                None => return go_back(alloc, draw, kept, goal, trail, decided),
             }
-            Ok(Move::On)
+            Ok(None)
         }
     }
 }
 
-// Whether each propagation of a drawn case is as by passes.
+// Whether each propagation of a drawn case is as by passes, and the slack as a sum that is made anew.
 fn is_alike(alloc: Global, draw: &mut Draw) -> Result<bool, NoMemory> {
-    let known = drawn_known(alloc, draw)?;
-    if !are_all_within(VARIABLES, known.as_slice()) {
+    let form = drawn_form(alloc, draw)?;
+    let goal = drawn_goal(alloc, draw)?;
+    if !is_within(form.variables(), &goal) {
         return Ok(false);
     }
-    let mut trail = Trail::new(alloc, VARIABLES)?;
-    let mut kept = Kept::new(alloc, known, &mut trail)?;
+    let mut kept = Kept::new(alloc, &form, &goal)?;
+    let mut trail = Trail::new(alloc, form.variables())?;
     let mut decided = Vec::new(alloc);
     for _ in 0..MOVES {
-        match make_move(alloc, draw, &mut kept, &mut trail, &mut decided)? {
-            Move::On => {}
-            Move::Ended => return Ok(true),
-            Move::Otherwise => return Ok(false),
+        if let Some(alike) = make_move(alloc, draw, &mut kept, &goal, &mut trail, &mut decided)? {
+            return Ok(alike);
         }
     }
     Ok(true)
 }
 
 /// How many of so many cases of decisions, cuts and learned clauses propagate as passes over all
-/// constraints do.
+/// constraints do, and keep the slack as a sum that is made anew.
 pub fn propagations(alloc: Global, cases: u32) -> Result<u32, NoMemory> {
     let mut alike = 0u32;
     for case in 0..cases {

@@ -3,17 +3,17 @@ use Rattle.ps_steps.specs.Steps.{known_of}
 use Rattle.ps_learning.specs.Trails.{values, unset_count, AreReasons}
 use Rattle.ps_learn.specs.Rest.{IsLonger}
 use Rattle.ps_spent.specs.Resting.{AreRested, AreOfAtoms}
-use Rattle.ps_watch.specs.Keeping.{known_by, IsKeeping}
+use Rattle.ps_watch.specs.Keeping.{IsInStep, IsOver}
 use Rattle.ps_sat.proofs.advancing.advance.Given as goal
 
 abbrev pub invariant-on : goal.invariant-on
 invariant-on l = record {
-  known : known_by l.kept ≡ known_by l.initial.kept;
-  keeping : IsKeeping l.kept l.trail;
+  over : IsOver l.initial.kept l.kept;
+  in_step : IsInStep l.kept l.trail;
   same : l.trail.variables ≡ l.initial.trail.variables;
   longer : IsLonger l.initial.trail.entries l.trail.entries;
-  reasons : AreReasons l.trail.variables (known_of (known_by l.initial.kept)) l.trail.entries;
-  rested : AreRested l.base.variables (known_of (known_by l.initial.kept)) l.trail.entries;
+  reasons : AreReasons l.trail.variables (known_of l.initial.kept.known) l.trail.entries;
+  rested : AreRested l.base.variables (known_of l.initial.kept.known) l.trail.entries;
   atoms : AreOfAtoms l.base l.trail.entries;
 }
 

@@ -1,14 +1,15 @@
 use Rattle.std.proofs.Common.{◌≡◌, ◌≤◌, ◌+◌, ◌-◌, ◌^◌, length}
 use Rattle.std.specs.Prelude.{IsTrue}
-use Rattle.ps_watch.specs.Keeping.{known_by, IsKeeping}
+use Rattle.ps_watch.specs.Keeping.{IsInStep}
 use Rattle.ps_sat.proofs.Going.{Searching}
 use Rattle.ps_sat.proofs.searching.learn_all.Given as goal
 
 abbrev pub invariant-learn : goal.invariant-learn
 invariant-learn g l = record {
-  so_far : Searching l.base l.goal (g.S.ProofSink.told l.fn.log).tells (g.S.ProofSink.told l.log) (known_by l.kept) l.trail l.learned;
-  keeping : IsKeeping l.kept l.trail;
-  few : length (known_by l.kept) ≤ 2 ^ 32 + l.learned;
+  so_far : Searching l.base l.goal (g.S.ProofSink.told l.fn.log).tells (g.S.ProofSink.told l.log) l.kept.known l.trail l.learned;
+  kept : l.kept.variables ≡ l.base.variables;
+  in_step : IsInStep l.kept l.trail;
+  few : length l.kept.known ≤ 2 ^ 32 + l.learned;
   least : l.learned ≤ l.conflicts;
   whole : IsTrue (g.S.ProofSink.is_whole l.log);
   same_begins : g.S.ProofSink.begins l.log ≡ g.S.ProofSink.begins l.fn.log;

@@ -1,5 +1,9 @@
-use Rattle.ps_watch.specs.Keeping.{IsKeeping}
+use Rattle.std.proofs.Common.{◌≡◌}
+use Rattle.ps_watch.specs.Keeping.{IsInStep}
 use Rattle.search_trials.proofs.propagations.is_alike.Given as goal
 
 abbrev pub invariant-loop : goal.invariant-loop
-invariant-loop l = IsKeeping l.kept l.trail
+invariant-loop l = record {
+  variables : l.trail.variables ≡ l.kept.variables;
+  in_step : IsInStep l.kept l.trail;
+}
