@@ -1,0 +1,14 @@
+pub mod DueParts
+pub mod BehindLines
+pub mod LinesTaken
+pub mod Weighed
+pub mod LaterSteps
+pub mod TakenLines
+pub mod TakenCounts
+pub mod CertificateLines
+pub mod JudgedLines
+pub mod AnswerLines
+pub mod WholeAnswers
+pub mod ReadLines
+pub mod LinesKnown
+pub mod Lighter

@@ -1,0 +1,15 @@
+-- Meaning
+pub mod Ends
+-- Laws, as the functions of laws.rt promise them
+pub mod Laws
+pub mod LaterSteps
+-- Bridge: how far a judge has come behind each line
+pub mod Subjects
+pub mod Found
+pub mod Progress
+-- Bridge: the parts that are due as they are kept, and the lines that were taken
+pub mod Runs
+pub mod DueLines
+pub mod Counts
+pub mod Reading
+pub mod States
