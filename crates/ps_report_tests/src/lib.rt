@@ -1,4 +1,4 @@
-//! Tests of the crates that write, read and judge reports: constraints, logs, lines, whole reports, claims.
+//! Tests of the crates that write, read and judge reports: constraints, logs, lines, whole reports, claims, reports line by line.
 #![tactic(auto)]
 
 #[cfg(test)]
@@ -15,5 +15,7 @@ mod report_lines;
 mod report_reading;
 #[cfg(test)]
 mod report_writing;
+#[cfg(test)]
+mod streamed;
 #[cfg(test)]
 mod validity;

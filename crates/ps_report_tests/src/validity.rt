@@ -36,16 +36,16 @@ const EVIDENCE_NOT_DIVIDED: &[u8] =
 const IMPOSSIBLE: &[u8] =
     b"psat 1; P(rain) = 0; P(flood -> rain) = 1; query P(loss given flood); end;";
 
-const INCONSISTENT: &[u8] = b"psat 1; P(rain) >= 2/3; P(rain -> wet) = 1; P(wet) <= 1/2; end;";
+pub(crate) const INCONSISTENT: &[u8] = b"psat 1; P(rain) >= 2/3; P(rain -> wet) = 1; P(wet) <= 1/2; end;";
 
 const WEATHER: &[u8] = b"psat 1; P(rain) = 3/10; P(!wind) = 1/2; end;";
 
 const HALF: &[u8] = b"psat 1; P(a) = 1/2; end;";
 
-const HALF_ASKED: &[u8] = b"psat 1; P(a) >= 1/2; query P(a); end;";
+pub(crate) const HALF_ASKED: &[u8] = b"psat 1; P(a) >= 1/2; query P(a); end;";
 
 // Problems, reports, how much they claim and how much they leave open.
-const ACCEPTED: [(&[u8], &[u8], u32, u32); 6] = [
+pub(crate) const ACCEPTED: [(&[u8], &[u8], u32, u32); 6] = [
     (EVIDENCE, EVIDENCE_DIVIDED, 3, 0),
     (
         IMPOSSIBLE,
@@ -85,7 +85,7 @@ const ACCEPTED: [(&[u8], &[u8], u32, u32); 6] = [
 ];
 
 // Problems, reports, the first claim at fault and the first reason against it.
-const REFUSED: [(&[u8], &[u8], Claim, Reason); 7] = [
+pub(crate) const REFUSED: [(&[u8], &[u8], Claim, Reason); 7] = [
     (
         EVIDENCE,
         EVIDENCE_NOT_DIVIDED,
@@ -135,7 +135,7 @@ const REFUSED: [(&[u8], &[u8], Claim, Reason); 7] = [
 ];
 
 // The problem of a text that isn't long.
-fn problem_of(alloc: Global, text: &[u8]) -> Option<Problem> {
+pub(crate) fn problem_of(alloc: Global, text: &[u8]) -> Option<Problem> {
     if text.len() > 1000 {
         return None;
     }
