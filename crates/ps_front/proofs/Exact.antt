@@ -7,10 +7,10 @@ use Rattle.ps_text.specs.Pieces.{texts, IsBare}
 use Rattle.ps_text.specs.Fronts.{IsTextFront}
 use Rattle.ps_text.proofs.Once.{front_once}
 use Rattle.ps_text.proofs.Excluding.{front_excludes}
-use Rattle.ps_read.specs.Answers.{Parsed, Answer, answer, nothing_parsed, parsed_by}
+use Rattle.ps_read.specs.Answers.{Parsed, Answer, answer, nothing_parsed, parsed_by, IsWaiting}
 use Rattle.ps_read.proofs.Right.{IsSo, IsParsedText, answer_so}
-use Rattle.ps_front.specs.declared.reader.Reader.{Reader}
-use Rattle.ps_front.specs.Takings.{answer_behind, IsWaiting}
+use Rattle.ps_read.specs.declared.reader.Reader.{Reader}
+use Rattle.ps_front.specs.Takings.{answer_behind}
 use Rattle.ps_front.proofs.Alone.{split, front_alone, front_within}
 use Rattle.ps_front.proofs.Ends.{ends_here}
 

@@ -11,14 +11,14 @@ use Rattle.ps_read.specs.declared.read_error.ReadError.{ReadError}
 use Rattle.ps_read.specs.declared.read_error.ReadError.TheVariants as error
 use Rattle.ps_read.specs.Readings.{SpellsProblem, IsUnread}
 use Rattle.ps_read.specs.Reads.{Tells}
-use Rattle.ps_read.specs.Answers.{Parsed, Answers, answer, nothing_parsed, parsed_by, AreWhole, IsBuiltOf, IsExcessIn}
+use Rattle.ps_read.specs.Answers.{Parsed, Answers, answer, nothing_parsed, parsed_by, AreWhole, IsBuiltOf, IsExcessIn, IsWaiting}
 use Rattle.ps_read.proofs.OneReading.{read_once, unread_once, read_excludes}
 use Rattle.ps_read.proofs.Returned.{are_whole, built, count_told, form_told}
-use Rattle.ps_front.specs.declared.reader.Reader.{Reader}
+use Rattle.ps_read.specs.declared.reader.Reader.{Reader}
 use Rattle.ps_front.specs.declared.stage.Stage.{Stage}
 use Rattle.ps_front.specs.declared.stage.Stage.TheVariants as stage
 use Rattle.ps_front.specs.Fronts.{IsProblemPart, ReadsFront, RefusesFront}
-use Rattle.ps_front.specs.Takings.{answer_behind, IsWaiting, HasTaken, HasFound, IsTaken}
+use Rattle.ps_front.specs.Takings.{answer_behind, HasTaken, HasFound, IsTaken}
 use Rattle.ps_front.specs.Stages.{IsReady, IsSound, StandsBehind, HasRead, IsFollowed, IsRefused, Knows, behind_refusal, IsBehindText, IsRead}
 use Rattle.ps_front.proofs.Ends.{ends_here}
 use Rattle.ps_front.proofs.Exact.{front_ends, found_there}

@@ -2,29 +2,14 @@
 use Rattle.std.proofs.Common.{◌≡◌, ℕ, ◌+◌, ◌-◌, Bool, true, false, ◌&&◌, List, [], ◌∷◌, ◌++◌, length, Option, Some, None, refl, sym, ap, subst, ◌∙◌, arith, append_assoc, append-nil, length-append}
 use Rattle.std.specs.Prelude.{if◌then◌else◌, Result, Ok, Err}
 use Rattle.ps_lex.specs.declared.position.Position.{Position}
-use Rattle.ps_lex.specs.Lexing.{LexerState, new_lexer, with_byte, bad_place, is_within_token}
+use Rattle.ps_lex.specs.Lexing.{LexerState, with_byte, bad_place, is_within_token}
 use Rattle.ps_lex.specs.Passing.{with_bytes, TellNothing, Passes}
-use Rattle.ps_parse.specs.Kept.{machine_of}
-use Rattle.ps_parse.specs.Machine.{at_first}
 use Rattle.ps_read.specs.declared.read_error.ReadError.{ReadError}
 use Rattle.ps_read.specs.declared.read_error.ReadError.TheVariants as error
-use Rattle.ps_read.specs.Answers.{parsed_by, part_of, is_done, begun_behind}
-use Rattle.ps_read.proofs.Steps.{together_first, has_passed, together_passed}
-use Rattle.ps_front.specs.declared.reader.Reader.{Reader}
-use Rattle.ps_front.specs.Takings.{BelongTogether, IsByteTaken, answer_behind, IsWaiting, WaitsAt, HasTaken, HasPassed, HasFound, IsTaken}
-
--- nothing is read yet
-pub waits_first : (r : Reader) → r.lexer ≡ new_lexer → machine_of r.parser ≡ at_first → IsWaiting r
-waits_first r e f = record {
-  together = together_first (record { lexer = r.lexer; parser = r.parser }) e f;
-  bad = ap (λ s. bad_place s.mode) e;
-  begun = ap (λ m. begun_behind (record { machine = m; places = (parsed_by r.parser).places }) r.lexer) f;
-}
-
--- behind a byte
-pub waits_at : (r : Reader) (bad : Option Position) (o : Option Position) → BelongTogether r → bad ≡ bad_place r.lexer.mode → bad ≡ None → o ≡ begun_behind (parsed_by r.parser) r.lexer → WaitsAt r (Ok o)
-waits_at r bad None t b n e = record { together = t; bad = sym b ∙ n; begun = sym e }
-waits_at r bad (Some p) t b n e = tt
+use Rattle.ps_read.specs.Answers.{parsed_by, part_of, is_done, IsFed, IsWaiting}
+use Rattle.ps_read.proofs.Steps.{has_passed, together_passed}
+use Rattle.ps_read.specs.declared.reader.Reader.{Reader}
+use Rattle.ps_front.specs.Takings.{answer_behind, HasTaken, HasPassed, HasFound, IsTaken}
 
 -- behind bytes that tell nothing
 quiet_place : (s : LexerState) (passed : List ℕ) → bad_place s.mode ≡ None → TellNothing s passed → bad_place (with_bytes s passed).mode ≡ None
@@ -41,13 +26,13 @@ nothing_passed bytes r w = record { passed = []; bytes_are = refl; taken = recor
 pub passed : (bytes left : List ℕ) (old new : Reader) → Passes old.lexer bytes new.lexer left → new.parser ≡ old.parser → is_done (part_of (parsed_by old.parser)) ≡ false → IsWaiting old → HasPassed bytes old left new
 passed bytes left old new p e d w =
     let of : (more : List ℕ) → Passes old.lexer (p.passed ++ more) new.lexer more = λ more. record { passed = p.passed; bytes_are = refl; nothing_told = p.nothing_told; state = p.state; place = p.place } in
-    let tells = λ (more : List ℕ). has_passed (p.passed ++ more) more (record { lexer = old.lexer; parser = old.parser }) (record { lexer = new.lexer; parser = new.parser }) (of more) e in record {
+    let tells = λ (more : List ℕ). has_passed (p.passed ++ more) more (old) (new) (of more) e in record {
       passed = p.passed;
       bytes_are = p.bytes_are;
       taken = record {
         answer_is = λ more. (tells more).answer_is;
         waits = record {
-          together = together_passed (p.passed ++ []) [] (record { lexer = old.lexer; parser = old.parser }) (record { lexer = new.lexer; parser = new.parser }) (of []) e w.together;
+          together = together_passed (p.passed ++ []) [] (old) (new) (of []) e w.together;
           bad = ap (λ s. bad_place s.mode) p.state ∙ quiet_place old.lexer p.passed w.bad p.nothing_told;
           begun = not_begun (is_done (part_of (parsed_by new.parser))) (is_within_token new.lexer.mode) new.lexer.began (ap (λ q. is_done (part_of (parsed_by q))) e ∙ d);
         };
@@ -66,7 +51,7 @@ module _ (piece : List ℕ) (old now : Reader) (byte : ℕ) (more : List ℕ) (c
   behind_piece : (after : List ℕ) → answer_behind old (piece ++ after) ≡ answer_behind now (byte ∷ (more ++ after))
   behind_piece after = ap (λ bs. answer_behind old (bs ++ after)) come.bytes_are ∙ ap (answer_behind old) (append_assoc come.passed (byte ∷ more) after) ∙ come.taken.answer_is (byte ∷ (more ++ after))
 
-  pub come_on : (fed new : Reader) (left : List ℕ) → IsByteTaken byte now fed (Ok None) → fed.lexer.here.offset ≡ now.lexer.here.offset + 1 → HasPassed more fed left new → HasCome piece left old new
+  pub come_on : (fed new : Reader) (left : List ℕ) → IsFed byte now fed (Ok None) → fed.lexer.here.offset ≡ now.lexer.here.offset + 1 → HasPassed more fed left new → HasCome piece left old new
   come_on fed new left f o p = record {
     passed = come.passed ++ byte ∷ p.passed;
     bytes_are = come.bytes_are ∙ ap (λ bs. come.passed ++ byte ∷ bs) p.bytes_are ∙ sym (append_assoc come.passed (byte ∷ p.passed) left);
@@ -77,7 +62,7 @@ module _ (piece : List ℕ) (old now : Reader) (byte : ℕ) (more : List ℕ) (c
     };
   }
 
-  pub found : (fed : Reader) (place : Position) (count : ℕ) → IsByteTaken byte now fed (Ok (Some place)) → count ≡ length piece - length (byte ∷ more) → HasFound piece old fed count
+  pub found : (fed : Reader) (place : Position) (count : ℕ) → IsFed byte now fed (Ok (Some place)) → count ≡ length piece - length (byte ∷ more) → HasFound piece old fed count
   found fed place count f n = record {
     before = come.passed;
     byte = byte;
@@ -90,7 +75,7 @@ module _ (piece : List ℕ) (old now : Reader) (byte : ℕ) (more : List ℕ) (c
     answer_is = f.agrees;
   }
 
-  pub refused_within : (fed : Reader) (e : ReadError) (r : Result (Option ℕ) ReadError) → IsByteTaken byte now fed (Err e) → r ≡ Err e → IsTaken piece old fed r
+  pub refused_within : (fed : Reader) (e : ReadError) (r : Result (Option ℕ) ReadError) → IsFed byte now fed (Err e) → r ≡ Err e → IsTaken piece old fed r
   refused_within fed (error.At k l c) r f h = subst (IsTaken piece old fed) (sym h) (record { answer_is = λ after. behind_piece after ∙ f.agrees (more ++ after) })
   refused_within fed error.NoMemory r f h = subst (IsTaken piece old fed) (sym h) tt
 

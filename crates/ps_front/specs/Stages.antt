@@ -8,13 +8,13 @@ use Rattle.ps_read.specs.declared.read_error.ReadError.{ReadError}
 use Rattle.ps_read.specs.declared.read_error.ReadError.TheVariants as error
 use Rattle.ps_read.specs.Readings.{SpellsProblem, IsUnread}
 use Rattle.ps_read.specs.Reads.{Tells}
-use Rattle.ps_read.specs.Answers.{Parsed, answer, nothing_parsed, IsBuiltOf, IsExcessIn}
+use Rattle.ps_read.specs.Answers.{Parsed, answer, nothing_parsed, IsBuiltOf, IsExcessIn, IsWaiting}
 use Rattle.ps_io.specs.declared.no_memory.NoMemory.{NoMemory}
-use Rattle.ps_front.specs.declared.reader.Reader.{Reader}
+use Rattle.ps_read.specs.declared.reader.Reader.{Reader}
 use Rattle.ps_front.specs.declared.stage.Stage.{Stage}
 use Rattle.ps_front.specs.declared.stage.Stage.TheVariants as stage
 use Rattle.ps_front.specs.Fronts.{IsProblemPart}
-use Rattle.ps_front.specs.Takings.{IsWaiting, answer_behind}
+use Rattle.ps_front.specs.Takings.{answer_behind}
 
 -- what is known, and how many of the bytes belong to the problem part
 pub record FrontState : Type 0 where

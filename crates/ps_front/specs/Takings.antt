@@ -1,44 +1,16 @@
 -- What a reader has taken of a piece.
-use Rattle.std.specs.Prelude.{◌≡◌, ◌+◌, ℕ, List, [], ◌∷◌, ◌++◌, length, Option, Some, None, Result, Ok, Err}
+use Rattle.std.specs.Prelude.{◌≡◌, ◌+◌, ℕ, List, ◌∷◌, ◌++◌, length, Option, Some, None, Result, Ok, Err}
 use Rattle.ps_lex.specs.declared.position.Position.{Position}
-use Rattle.ps_lex.specs.Lexing.{bad_place}
 use Rattle.ps_text.specs.declared.kind.ReadKind.{ReadKind}
 use Rattle.ps_text.specs.Positions as text
-use Rattle.ps_parse.specs.declared.parser.Parser.{Parser}
 use Rattle.ps_read.specs.declared.read_error.ReadError.{ReadError}
 use Rattle.ps_read.specs.declared.read_error.ReadError.TheVariants as error
-use Rattle.ps_read.specs.Answers.{Answer, Answers, answer, parsed_by, begun_behind, BelongsTogether}
-use Rattle.ps_read.specs.Answers.{IsFed}
-use Rattle.ps_front.specs.declared.reader.Reader.{Reader}
-
--- what was lexed and parsed belongs together
-abbrev pub BelongTogether : Reader → Type 0
-BelongTogether r = BelongsTogether (record { lexer = r.lexer; parser = r.parser })
-
--- a byte was taken
-abbrev pub IsByteTaken : ℕ → (old new : Reader) → Result (Option Position) ReadError → Type 0
-IsByteTaken byte old new result = IsFed byte (record { lexer = old.lexer; parser = old.parser })
-    (record { lexer = new.lexer; parser = new.parser }) result
+use Rattle.ps_read.specs.Answers.{Answer, answer, parsed_by, IsWaiting}
+use Rattle.ps_read.specs.declared.reader.Reader.{Reader}
 
 -- the answer to more bytes
 abbrev pub answer_behind : Reader → List ℕ → Answer
 answer_behind r more = answer r.lexer (parsed_by r.parser) more
-
--- where the text and the blanks behind it end isn't known yet
-pub record IsWaiting (r : Reader) : Type 0 where
-  pub together : BelongTogether r
-  pub bad : bad_place r.lexer.mode ≡ None
-  pub begun : begun_behind (parsed_by r.parser) r.lexer ≡ None
-
--- no answer is known only where no token is bad
-abbrev pub GoesOnWithout : Option Position → Result (Option Position) ReadError → Type 0
-GoesOnWithout bad (Ok None) = bad ≡ None
-GoesOnWithout bad r = Unit {0}
-
--- while no answer is known, the reader waits
-abbrev pub WaitsAt : Reader → Result (Option Position) ReadError → Type 0
-WaitsAt new (Ok None) = IsWaiting new
-WaitsAt new r = Unit {0}
 
 -- bytes were taken, and nothing is known
 pub record HasTaken (bytes : List ℕ) (old new : Reader) : Type 0 where
@@ -74,7 +46,3 @@ IsTaken piece old new (Ok None) = HasTaken piece old new
 IsTaken piece old new (Ok (Some count)) = HasFound piece old new count
 IsTaken piece old new (Err (error.At kind line column)) = HasRefused piece old kind (record { line = line; column = column })
 IsTaken piece old new (Err error.NoMemory) = Unit {0}
-
--- at the end of the bytes
-abbrev pub IsEnded : Reader → Result (Parser × Position) ReadError → Type 0
-IsEnded r result = Answers (answer_behind r []) result

@@ -5,11 +5,10 @@ ghost use Rattle.ps_read.specs.declared.read_error.ReadError.TheVariants as erro
 ghost use Rattle.ps_front.specs.Fronts.{FindsUpTo, ReadsFront, RefusesFront, TellsUnread};
 ghost use Rattle.ps_front.specs.Stages.{HasPushed, HasPushedOn, IsPieceOfPart, IsOutOfMemory};
 
-use crate::reader::Reader;
 use crate::stage::Stage;
 use ps_io::NoMemory;
 use ps_problem::Problem;
-use ps_read::ReadError;
+use ps_read::{ReadError, Reader};
 use std::alloc::Global;
 use std::marker::Model;
 

@@ -3,7 +3,6 @@
 
 mod front;
 mod laws;
-mod problem;
 mod reader;
 mod stage;
 

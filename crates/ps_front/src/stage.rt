@@ -7,12 +7,11 @@ ghost use Rattle.ps_front.specs.declared.stage.Stage.TheVariants as stages;
 ghost use Rattle.ps_front.specs.Stages.{IsReady, IsSound, StandsBehind};
 ghost use Rattle.ps_front.specs.Stages.{behind_refusal, IsBehindText, IsKnownOn, IsReadOf};
 
-use crate::problem::problem_of;
-use crate::reader::Reader;
+use crate::reader::take;
 use ps_io::NoMemory;
 use ps_parse::Parser;
 use ps_problem::Problem;
-use ps_read::{ReadError, ReadKind};
+use ps_read::{ReadError, ReadKind, Reader, problem_of};
 use std::alloc::Global;
 
 /// What is known of the bytes so far.
@@ -74,7 +73,7 @@ fn read_on(
     ensures known { IsKnownOn (stages.Reading reader) taken piece.now result }
 {
     let all = taken + piece.len() as u32;
-    match reader.take(piece) {
+    match take(&mut reader, piece) {
         Ok(None) => Ok((Stage::Reading(reader), all)),
         Ok(Some(count)) => stage_behind(alloc, &reader.into_parser(), taken + count, all),
         Err(error) => stage_refused(error, all),

@@ -4,7 +4,7 @@ use Rattle.std.proofs.lemmas.List.{length-take-le}
 use Rattle.std.specs.Prelude.{Result, Ok, Err, nat_lt, if◌then◌else◌}
 use Rattle.ps_meaning.specs.Formula.{Formula}
 use Rattle.ps_meaning.specs.Statements.{Name, Item, Stated, Asked}
-use Rattle.ps_text.specs.Pieces.{Spelled, text, texts}
+use Rattle.ps_text.specs.Pieces.{Spelled, texts}
 use Rattle.ps_text.specs.Grammar.{ItemSyntax}
 use Rattle.ps_text.specs.Meanings.{AreItems}
 use Rattle.ps_text.specs.Positions as text

@@ -3,7 +3,6 @@ use Rattle.std.proofs.Common.{◌≡◌, ℕ, zero, suc, ◌-◌, ◌<◌, ◌�
 use Rattle.std.proofs.lemmas.List.{length-append}
 use Rattle.std.specs.Prelude.{Result, Ok, Err, IfSome, option_map}
 use Rattle.ps_text.specs.Pieces.{texts}
-use Rattle.ps_text.specs.Positions as text
 use Rattle.ps_text.specs.Fronts.{IsTextFront}
 use Rattle.ps_lex.specs.declared.position.Position.{Position}
 use Rattle.ps_lex.specs.Places.{start, line_and_column}

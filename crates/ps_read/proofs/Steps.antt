@@ -21,7 +21,7 @@ use Rattle.ps_parse.specs.declared.parser.Parser.{Parser}
 use Rattle.ps_parse.specs.Kept.{machine_of}
 use Rattle.ps_parse.specs.Taking.{CountsAtMost, IsOneMore}
 use Rattle.ps_read.specs.declared.reader.Reader.{Reader}
-use Rattle.ps_read.specs.Answers.{Parsed, part_of, with_token, is_done, begun_behind, Answer, ended, judged, answer, bad_or, step_answer, Agrees, IsStepAnswered, IsWordMode, BelongsTogether, HasPassed, AgreesAtEnd, Answers, parsed_by}
+use Rattle.ps_read.specs.Answers.{Parsed, part_of, with_token, is_done, begun_behind, Answer, ended, judged, answer, bad_or, step_answer, Agrees, IsStepAnswered, IsWordMode, BelongsTogether, HasPassed, IsWaiting, WaitsAt, AgreesAtEnd, Answers, parsed_by}
 use Rattle.ps_read.proofs.Words.{word_behind}
 
 -- the rest is looked at only where no token is bad before it
@@ -200,3 +200,16 @@ together_passed bytes left old new p e r = record {
       (at_most old.lexer.here.offset new.lexer.here.offset (machine_of old.parser) r.counts
       (let o = ap (λ s. s.here.offset) p.state in omega (arith, o, quiet_offset old.lexer p.passed)));
 }
+
+-- nothing is read yet
+pub waits_first : (r : Reader) → r.lexer ≡ new_lexer → machine_of r.parser ≡ at_first → IsWaiting r
+waits_first r e f = record {
+  together = together_first r e f;
+  bad = ap (λ s. bad_place s.mode) e;
+  begun = ap (λ m. begun_behind (record { machine = m; places = (parsed_by r.parser).places }) r.lexer) f;
+}
+
+-- behind a byte
+pub waits_at : (r : Reader) (bad : Option Position) (o : Option Position) → BelongsTogether r → bad ≡ bad_place r.lexer.mode → bad ≡ None → o ≡ begun_behind (parsed_by r.parser) r.lexer → WaitsAt r (Ok o)
+waits_at r bad None t b n e = record { together = t; bad = sym b ∙ n; begun = sym e }
+waits_at r bad (Some p) t b n e = tt

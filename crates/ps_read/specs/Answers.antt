@@ -14,7 +14,7 @@ use Rattle.ps_lex.specs.declared.position.Position.{Position}
 use Rattle.ps_lex.specs.declared.token.Token.{Token}
 use Rattle.ps_lex.specs.Places.{start, line_and_column, IsWithin}
 use Rattle.ps_lex.specs.Seen.{behind_all}
-use Rattle.ps_lex.specs.Lexing.{LexerState, is_within_token, lexed}
+use Rattle.ps_lex.specs.Lexing.{LexerState, bad_place, is_within_token, lexed}
 use Rattle.ps_expect.specs.KeptTokens.{token_of}
 use Rattle.ps_parse.specs.declared.parser.Parser.{Parser}
 use Rattle.ps_parse.specs.Machine.{Machine, at_first, next}
@@ -165,6 +165,22 @@ pub record BelongsTogether (reader : Reader) : Type 0 where
   pub here : IsWithin (reader.lexer.here.offset + 1) reader.lexer.here
   pub parsed : IsParsed (machine_of reader.parser)
   pub counts : CountsAtMost reader.lexer.here.offset (machine_of reader.parser)
+
+-- where the text and the blanks behind it end isn't known yet
+pub record IsWaiting (r : Reader) : Type 0 where
+  pub together : BelongsTogether r
+  pub bad : bad_place r.lexer.mode ≡ None
+  pub begun : begun_behind (parsed_by r.parser) r.lexer ≡ None
+
+-- no answer is known only where no token is bad
+abbrev pub GoesOnWithout : Option Position → Result (Option Position) ReadError → Type 0
+GoesOnWithout bad (Ok None) = bad ≡ None
+GoesOnWithout bad r = Unit {0}
+
+-- while no answer is known, the reader waits
+abbrev pub WaitsAt : Reader → Result (Option Position) ReadError → Type 0
+WaitsAt new (Ok None) = IsWaiting new
+WaitsAt new r = Unit {0}
 
 -- an item of those that were parsed passes a limit of this kind, and its first token stands at this position
 pub record IsExcessIn (x : Parsed) (kind : ReadKind) (position : text.Position) : Type 0 where

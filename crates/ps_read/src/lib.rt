@@ -9,4 +9,5 @@ mod reading;
 pub use laws::bytes_have_one_reading;
 pub use ps_text::{ReadKind, What};
 pub use read_error::ReadError;
-pub use reading::{read_problem, read_whole};
+pub use reader::Reader;
+pub use reading::{problem_of, read_problem, read_whole};

@@ -1,6 +1,7 @@
 //! A problem's text, byte by byte.
 ghost use Rattle.std.specs.Prelude.{◌≡◌, ◌<◌, ◌≤◌, ◌+◌, ◌-◌, ◌^◌, OnOk, length};
 ghost use Rattle.ps_lex.specs.Lexing.{new_lexer};
+ghost use Rattle.ps_lex.specs.Passing.{Passes};
 ghost use Rattle.ps_problem.specs.declared.limits.TheConstants.{MOST_DRAFTED};
 ghost use Rattle.ps_parse.specs.Derivations.{IsParsed};
 ghost use Rattle.ps_parse.specs.Kept.{machine_of};
@@ -8,6 +9,7 @@ ghost use Rattle.ps_parse.specs.Taking.{CountsAtMost, IsOneMore};
 ghost use Rattle.ps_read.specs.Answers.{nothing_parsed, parsed_by, begun_behind, is_done};
 ghost use Rattle.ps_read.specs.Answers.{part_of, ended, AgreesAtEnd, IsJudged, IsFed, IsFinished};
 ghost use Rattle.ps_read.specs.Answers.{BelongsTogether, IsKeptIn, HasPassed};
+ghost use Rattle.ps_read.specs.Answers.{GoesOnWithout, IsWaiting, WaitsAt};
 
 use crate::{ReadError, ReadKind};
 use ps_lex::{Lexer, Position, Token};
@@ -17,9 +19,11 @@ use std::alloc::Global;
 
 /// Reads a problem's text that it is fed byte by byte.
 #[derive(Drop)]
-pub(crate) struct Reader {
-    lexer: Lexer,
-    parser: Parser,
+pub struct Reader {
+    /// The lexer, behind the bytes so far.
+    pub lexer: Lexer,
+    /// The parser, behind the tokens that have ended.
+    pub parser: Parser,
 }
 
 // Whether the text is whole.
@@ -53,6 +57,7 @@ fn judge(
     ensures judged { IsJudged token began bad parser.old parser.new result }
     ensures derivation { OnOk result (IsParsed (machine_of parser.new)) }
     ensures counts { OnOk result (IsOneMore parser.old parser.new) }
+    ensures goes_on { GoesOnWithout bad result }
 {
     if let Some(token) = token {
         if is_done(parser) {
@@ -72,15 +77,22 @@ fn judge(
 
 impl Reader {
     /// Before the first byte.
-    pub(crate) fn new(alloc: Global) -> Reader
+    pub fn new(alloc: Global) -> Reader
         ensures lexer { result.lexer ≡ new_lexer }
         ensures parser { parsed_by result.parser ≡ nothing_parsed }
-        ensures together { BelongsTogether result }
+        ensures waits { IsWaiting result }
     {
         Reader {
             lexer: Lexer::new(),
             parser: Parser::new(alloc),
         }
+    }
+
+    /// Whether the text is whole.
+    pub fn is_done(&self) -> bool
+        ensures { result ≡ is_done (part_of (parsed_by self.now.parser)) }
+    {
+        is_done(&self.parser)
     }
 
     // Where the token begins that stands behind a whole text, if one has begun.
@@ -96,11 +108,12 @@ impl Reader {
 
     /// Takes one more byte. Answers where the text and the blanks behind it ended, if that is known
     /// then, or the first refusal.
-    pub(crate) fn feed(&mut self, byte: u8) -> Result<Option<Position>, ReadError>
+    pub fn feed(&mut self, byte: u8) -> Result<Option<Position>, ReadError>
         requires together { BelongsTogether self.old }
         requires room { self.old.lexer.here.offset + 2 < 2 ^ 32 }
         ensures fed { IsFed byte self.old self.new result }
         ensures together { OnOk result (BelongsTogether self.new) }
+        ensures waits { WaitsAt self.new result }
         ensures taken { self.new.lexer.here.offset ≡ self.old.lexer.here.offset + 1 }
     {
         let began = self.lexer.began();
@@ -113,10 +126,12 @@ impl Reader {
 
     /// Passes the bytes at the front of some that tell nothing, blanks and comments or the rest of
     /// a word, and gives the bytes that are left.
-    pub(crate) fn pass<'a>(&mut self, bytes: &'a [u8]) -> &'a [u8]
+    pub fn pass<'a>(&mut self, bytes: &'a [u8]) -> &'a [u8]
         requires together { BelongsTogether self.old }
         requires room { self.old.lexer.here.offset + length bytes.now + 1 < 2 ^ 32 }
         ensures passed { HasPassed bytes.now self.old result.now self.new }
+        ensures passes { Passes self.old.lexer bytes.now self.new.lexer result.now }
+        ensures parser { self.new.parser ≡ self.old.parser }
         ensures together { BelongsTogether self.new }
         ensures shorter { length result.now ≤ length bytes.now }
     {
@@ -124,7 +139,7 @@ impl Reader {
     }
 
     /// At the end of the bytes: the parser, and where the text and the blanks behind it ended.
-    pub(crate) fn finish(self) -> Result<(Parser, Position), ReadError>
+    pub fn finish(self) -> Result<(Parser, Position), ReadError>
         requires together { BelongsTogether self }
         requires room { self.lexer.here.offset + 1 < 2 ^ 32 }
         ensures { IsFinished self result }
@@ -141,7 +156,7 @@ impl Reader {
     }
 
     /// The parser, once the text's end is known.
-    pub(crate) fn into_parser(self) -> Parser
+    pub fn into_parser(self) -> Parser
         ensures { result ≡ self.parser }
     {
         self.parser

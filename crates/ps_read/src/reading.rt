@@ -45,8 +45,8 @@ fn excess(error: BuildError) -> Option<(ReadKind, u32)>
     }
 }
 
-// The problem of what was parsed. A count is refused at the first token of its item.
-fn problem_of(alloc: Global, parser: &Parser) -> Result<Problem, ReadError>
+/// The problem of what was parsed. A count is refused at the first token of its item.
+pub fn problem_of(alloc: Global, parser: &Parser) -> Result<Problem, ReadError>
     requires { AreWhole (parsed_by parser.now) }
     ensures { IsBuiltOf (parsed_by parser.now) result }
 {

@@ -1,8 +1,8 @@
 use Rattle.std.proofs.Common.{◌∷◌, sym, subst, ap, ◌∙◌}
 use Rattle.std.specs.Prelude.{Ok}
-use Rattle.ps_read.specs.Answers.{answer, parsed_by, Agrees, IsKeptIn}
+use Rattle.ps_read.specs.Answers.{answer, parsed_by, Agrees, GoesOnWithout, IsKeptIn}
 use Rattle.ps_read.proofs.Words.{kept_ended}
-use Rattle.ps_read.proofs.Steps.{fed, fed_behind, together_behind, offset_behind, passed_on}
+use Rattle.ps_read.proofs.Steps.{fed, fed_behind, together_behind, offset_behind, passed_on, waits_at}
 use Rattle.ps_read.proofs.reader.Reader.feed.Goals as goal
 
 pub judge-requires-clause-word : goal.judge-requires-clause-word
@@ -46,6 +46,10 @@ returns-clause-fed c = record {
 
 pub returns-clause-together : goal.returns-clause-together
 returns-clause-together c = together_behind c.args.self.now _ c.args.byte c.requires.together c.take-token.ensures.state c.in_ok-place.ensures.derivation c.in_ok-place.ensures.counts
+
+pub returns-clause-waits : goal.returns-clause-waits
+returns-clause-waits c = waits_at _ c.bad.result c.begun_behind.result (together_behind c.args.self.now _ c.args.byte c.requires.together c.take-token.ensures.state c.in_ok-place.ensures.derivation c.in_ok-place.ensures.counts)
+    c.bad.ensures (subst (λ o. GoesOnWithout c.bad.result (Ok o)) c.in_default.is c.in_ok-place.ensures.goes_on) c.begun_behind.ensures
 
 pub returns-clause-taken : goal.returns-clause-taken
 returns-clause-taken c = offset_behind c.args.self.now.lexer c.take-token.new.self c.args.byte c.take-token.ensures.state

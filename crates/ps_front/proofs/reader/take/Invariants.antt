@@ -1,10 +1,10 @@
 use Rattle.std.proofs.Common.{length}
 use Rattle.ps_front.proofs.Readers.{HasCome}
-use Rattle.ps_front.proofs.reader.Reader.take.Given as goal
+use Rattle.ps_front.proofs.reader.take.Given as goal
 
 abbrev pub invariant-loop-left : goal.invariant-loop-left
 invariant-loop-left l = record {
-  come : HasCome l.piece l.left l.fn.self l.self;
+  come : HasCome l.piece l.left l.fn.reader l.reader;
 }
 
 abbrev pub decreases-loop-left : goal.decreases-loop-left

@@ -1,5 +1,0 @@
-use Rattle.ps_front.proofs.Readers.{waits_first}
-use Rattle.ps_front.proofs.reader.Reader.new.Goals as goal
-
-pub returns-clause-waits : goal.returns-clause-waits
-returns-clause-waits c = waits_first _ c.new.ensures c.new-2.ensures.machine
