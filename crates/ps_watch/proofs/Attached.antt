@@ -1,27 +1,26 @@
 -- What holds of the watches after one constraint more.
-use Rattle.std.proofs.Common.{◌≡◌, ◌≢◌, ℕ, zero, suc, ◌+◌, ◌<◌, ◌≤◌, ℤ, Bool, true, false, not, Option, Some, None, List, [], ◌∷◌, ◌++◌, length, length-append, take, get_or, arith, refl, sym, ap, subst, ◌∙◌, inl, inr, ◌⊎◌, unsigned_abs}
+use Rattle.std.proofs.Common.{◌≡◌, ℕ, zero, suc, ◌+◌, ◌-◌, ◌<◌, ◌≤◌, ℤ, true, false, Some, None, List, [], ◌∷◌, ◌++◌, length, length-append, take, get_or, arith, refl, sym, ap, subst, ◌∙◌, inl, inr, ◌⊎◌, unsigned_abs}
 use Rattle.std.proofs.lemmas.Bool.{cases_eq}
-use Rattle.ps_steps.specs.Assignments.{Assignment, value_of, is_false, is_unset, Includes}
+use Rattle.ps_steps.specs.Assignments.{value_of, is_unset}
 use Rattle.ps_steps.specs.Constraints.{Constraint, HasTerm, is_open}
 use Rattle.ps_steps.specs.Weights.{IsWithin}
 use Rattle.ps_steps.specs.Steps.{Known, known_of, constraint_at}
 use Rattle.ps_learning.specs.Trails.{Trail, values, level, up_to, implied, IsLit, IsFresh, AreFresh, AreLevels}
 use Rattle.ps_watch.specs.declared.visiting.Watches.{Watches}
 use Rattle.ps_watch.specs.Watches.{IsKept, IsFiled, AreGood, Extends, IsClosedBelow}
-use Rattle.ps_watch.specs.Going.{values_to, IsGoodUpTo}
+use Rattle.ps_watch.specs.Going.{values_to}
 use Rattle.ps_watch.specs.Scans.{IsOneOf, IsCoveredBy, AreCovered}
 use Rattle.ps_watch.specs.Watching.{HasWatched, IsPair}
 use Rattle.ps_watch.specs.Choices.{AreTwoOf, AreOpen, AreLast}
-use Rattle.ps_watch.specs.Linking.{CoversMore, HasLinked, StayCovered}
-use Rattle.ps_watch.specs.Keeping.{AreIdsTo}
+use Rattle.ps_watch.specs.Linking.{CoversMore, HasLinked}
+use Rattle.ps_watch.specs.Keeping.{AreIdsFrom}
 use Rattle.ps_watch.proofs.Clauses.{false-closed}
 use Rattle.ps_watch.proofs.Reading.{extends-same, extends-then, values-implied}
-use Rattle.std.specs.Prelude.{is_none, Result, Ok, Err, OnOk}
 use Rattle.ps_steps.proofs.Setting.{value-true}
 use Rattle.ps_steps.proofs.Full.{term-within}
 use Rattle.ps_learning.proofs.Entries.{length-values}
 use Rattle.ps_watch.proofs.Followed.{part-included, part-same, part-within, good-grows}
-use Rattle.ps_watch.proofs.Levelled.{IsNotFalseBelow, closed-watched, open-below}
+use Rattle.ps_watch.proofs.Levelled.{closed-watched, open-below}
 use Rattle.ps_watch.proofs.Chosen.{top-above}
 
 pub front : {X : Type 0} → (xs ys : List X) (d : X) (i : ℕ) → i < length xs → get_or (xs ++ ys) i d ≡ get_or xs i d
@@ -142,6 +141,10 @@ front-size xs zero h = refl
 front-size [] (suc n) h = absurd (omega (arith, h))
 front-size (x ∷ xs) (suc n) h = ap suc (front-size xs n (omega (arith, h)))
 
+-- each constraint is covered still, where fewer wait
+abbrev pub StayCovered : Known → Watches → List ℕ → List ℕ → Watches → List ℕ → List ℕ → Type 0
+StayCovered known w scanned waiting w' scanned' waiting' = (goal : ℕ) → AreCovered known w scanned waiting goal → AreCovered known w' scanned' waiting' goal
+
 -- the last one that waited is watched or scanned
 pub covered-last : (known : Known) (w : Watches) (scanned waiting : List ℕ) (w' : Watches) (scanned' : List ℕ) (n id : ℕ) → length waiting ≡ suc n → id ≡ get_or waiting n 0 → CoversMore id w scanned w' scanned' → StayCovered known w scanned waiting w' scanned' (take n waiting)
 covered-last known w scanned waiting w' scanned' n id size e h = λ goal cover. record {
@@ -167,12 +170,12 @@ set-implied t u l id e i = rw (values-implied t u l id e) (value-true (values t)
 pub lit-of : (v : ℕ) (c : Constraint) (l : ℤ) (k : ℕ) → IsWithin v c → HasTerm l k c.terms → 1 ≤ unsigned_abs l → IsLit v l
 lit-of v c l k i h one = let w = term-within v c l k i h in (one, omega (arith, one, w))
 
--- ---- the numbers from 1 on
-pub ids-more : (n : ℕ) (ids new : List ℕ) → new ≡ ids ++ (n + 1) ∷ [] → AreIdsTo n ids → AreIdsTo (n + 1) new
-ids-more n ids new e h = rw e (record {
-  length_is = let l = length-append ids ((n + 1) ∷ []) in omega (arith, l, h.length_is);
-  at = λ i less. elim (cases_eq i n) [
-    | inl q ↦ rw (q, ← h.length_is) (behind ids (length ids + 1) [] 0)
-    | inr q ↦ front ids ((n + 1) ∷ []) 0 i (omega (arith, less, q, h.length_is)) ∙ h.at i (omega (arith, less, q))
+-- ---- numbers that fall
+pub ids-more : (n k : ℕ) (ids new : List ℕ) → new ≡ ids ++ (n - k) ∷ [] → AreIdsFrom n k ids → AreIdsFrom n (k + 1) new
+ids-more n k ids new e h = rw e (record {
+  length_is = let l = length-append ids ((n - k) ∷ []) in omega (arith, l, h.length_is);
+  at = λ i less. elim (cases_eq i k) [
+    | inl q ↦ rw (q, ← h.length_is) (behind ids (n - length ids) [] 0)
+    | inr q ↦ front ids ((n - k) ∷ []) 0 i (omega (arith, less, q, h.length_is)) ∙ h.at i (omega (arith, less, q))
   ];
 })

@@ -1,10 +1,10 @@
 -- The goal's slack, one entry of a trail back.
-use Rattle.std.proofs.Common.{◌≡◌, ℕ, ◌+◌, ◌∙◌, ℤ, pos, neg_ℤ, take, get_or, Some, List, ap, sym, subst, arith, length}
+use Rattle.std.proofs.Common.{◌≡◌, ℕ, ◌+◌, ◌∙◌, ℤ, pos, neg_ℤ, take, get_or, Some, List, ap, sym, subst}
 use Rattle.std.specs.Prelude.{slice_get}
 use Rattle.ps_steps.specs.Assignments.{with_true}
 use Rattle.ps_steps.specs.Constraints.{Constraint, slack}
 use Rattle.ps_steps.specs.Weights.{IsNormal, weighted}
-use Rattle.ps_learning.specs.Trails.{Trail, TrailEntry, values_of, AreFresh, IsFresh}
+use Rattle.ps_learning.specs.Trails.{Trail, TrailEntry, AreFresh, IsFresh}
 use Rattle.ps_learning.proofs.Entries.{length-values, values-more}
 use Rattle.ps_watch.specs.Watches.{slot_of}
 use Rattle.ps_watch.specs.Going.{values_to}

@@ -1,21 +1,21 @@
 -- The two literals that may be watched.
-use Rattle.std.proofs.Common.{◌≡◌, ◌≢◌, ℕ, zero, suc, ◌<◌, ◌≤◌, ℤ, pos, Bool, true, false, Option, Some, None, List, [], ◌∷◌, length, map, take, get_or, inl, inr, arith, refl, sym, ap, subst, ◌∙◌, unsigned_abs}
+use Rattle.std.proofs.Common.{◌≡◌, ℕ, zero, suc, ◌<◌, ◌≤◌, ℤ, pos, Bool, true, false, Some, List, [], ◌∷◌, length, map, take, get_or, inl, inr, arith, sym, ap, subst, ◌∙◌, unsigned_abs}
 use Rattle.std.specs.Prelude.{slice_get, nat_le}
 use Rattle.std.specs.List.{All, filter}
 use Rattle.std.proofs.lemmas.Bool.{cases_Bool}
 use Rattle.ps_steps.specs.Assignments.{Assignment, place, value_of}
-use Rattle.ps_steps.specs.Constraints.{Constraint, HasTerm, Forces, is_open}
+use Rattle.ps_steps.specs.Constraints.{Constraint, HasTerm, is_open}
 use Rattle.ps_steps.specs.Weights.{Weighted, IsPlain, IsNormal, weighted, terms_of}
 use Rattle.std.proofs.lemmas.List.{get_or-map, length-map}
 use Rattle.ps_pb.proofs.Searched.{has_term-at}
-use Rattle.ps_learning.specs.Trails.{Trail, TrailEntry, values, values_of, level, up_to, entry_of, AreFresh, AreLevels}
+use Rattle.ps_learning.specs.Trails.{Trail, TrailEntry, values, values_of, level, entry_of, AreFresh, AreLevels}
 use Rattle.ps_learning.proofs.Entries.{get-taken}
 use Rattle.ps_learning.proofs.Levels.{below, up_to-take}
 use Rattle.ps_learning.proofs.Distinct.{entry-found}
 use Rattle.ps_trail.specs.Lookups.{level_in, level_of}
-use Rattle.ps_spent.proofs.Opening.{SetAt, set-at}
-use Rattle.ps_watch.specs.Looks.{is_new, some_new, IsNewIn}
-use Rattle.ps_watch.specs.Choices.{IsOpenIn, IsFalseAtTop, IsFalseIn, AreTwoOf, AreOpen, AreLast}
+use Rattle.ps_spent.proofs.Opening.{set-at}
+use Rattle.ps_watch.specs.Looks.{some_new, IsNewIn}
+use Rattle.ps_watch.specs.Choices.{IsOpenIn, IsFalseAtTop, IsFalseIn, AreOpen, AreLast}
 use Rattle.ps_watch.proofs.Clauses.{coefficient-one, false-closed}
 use Rattle.ps_watch.proofs.Seen.{new-open, forced}
 use Rattle.ps_watch.proofs.Levelled.{IsNotFalseBelow}

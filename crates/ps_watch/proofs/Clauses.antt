@@ -1,16 +1,15 @@
 -- Clauses under partial assignments: which literals of them aren't false.
-use Rattle.std.proofs.Common.{◌≡◌, ◌≢◌, ℕ, suc, ◌+◌, ◌<◌, ◌≤◌, ℤ, pos, ◌≤ℤ◌, ◌<ℤ◌, Bool, true, false, cond, not, Option, Some, None, List, [], ◌∷◌, length, arith, refl, sym, ap, subst, ◌∙◌, inl, inr, ◌⊎◌}
+use Rattle.std.proofs.Common.{◌≡◌, ◌≢◌, ℕ, suc, ◌≤◌, ℤ, pos, ◌≤ℤ◌, ◌<ℤ◌, Bool, true, false, cond, not, Option, Some, None, List, [], ◌∷◌, arith, refl, sym, ap, subst, ◌∙◌, inl, inr, ◌⊎◌}
 use Rattle.std.specs.Prelude.{int_lt, ◌-ℤ◌}
 use Rattle.std.specs.List.{All}
 use Rattle.std.specs.Ordering.{int_eq}
 use Rattle.std.proofs.lemmas.Int.{ints}
-use Rattle.std.proofs.lemmas.Bool.{cases_Bool, false_from_ne_true, and_parts, true≢false}
-use Rattle.std.proofs.lemmas.Bool.Decides.{Decides-int_eq}
+use Rattle.std.proofs.lemmas.Bool.{cases_Bool, false_from_ne_true, and_parts}
 use Rattle.ps_forms.proofs.Tidy.{same_int}
 use Rattle.ps_steps.specs.Assignments.{Assignment, place, value_of, is_false, is_unset}
 use Rattle.ps_steps.specs.Constraints.{Constraint, sum_where, is_open, slack, is_violated, is_forced, some_forced, HasTerm, Forces}
 use Rattle.ps_steps.specs.Weights.{IsPlain}
-use Rattle.ps_steps.proofs.Sums.{Implies, sum_where-le, sum_where-gap}
+use Rattle.ps_steps.proofs.Sums.{sum_where-gap}
 use Rattle.ps_steps.proofs.Setting.{HasNone, AreDistinct}
 use Rattle.ps_forms.specs.Decided.{IsIdle}
 use Rattle.ps_watch.specs.Choices.{some_open}

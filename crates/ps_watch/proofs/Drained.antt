@@ -1,6 +1,5 @@
 -- The watches on the way, one after the other.
-use Rattle.std.proofs.Common.{◌≡◌, ◌≢◌, ℕ, suc, ◌+◌, ◌<◌, ◌≤◌, ℤ, true, false, Option, Some, None, List, [], ◌∷◌, length, arith, refl, sym, ap, subst, ◌∙◌, inl, inr, ◌⊎◌, IfNone, IfSome}
-use Rattle.std.proofs.lemmas.Bool.{cases_eq}
+use Rattle.std.proofs.Common.{◌≡◌, ◌≢◌, ℕ, ◌<◌, ℤ, false, Option, Some, None, List, [], length, arith, refl, sym, ap, subst, ◌∙◌, inl, inr, IfNone, IfSome}
 use Rattle.ps_steps.specs.Assignments.{Assignment, value_of, Includes}
 use Rattle.ps_steps.specs.Constraints.{Constraint}
 use Rattle.ps_steps.specs.Steps.{known_of}
@@ -8,9 +7,9 @@ use Rattle.ps_steps.proofs.Values.{includes-trans}
 use Rattle.ps_learning.specs.Trails.{Trail, values, IsConflict}
 use Rattle.ps_watch.specs.declared.links.TheConstants.{END}
 use Rattle.ps_watch.specs.declared.visiting.Watches.{Watches}
-use Rattle.ps_watch.specs.Links.{Holds, IsPopped, list_at}
-use Rattle.ps_watch.specs.Watches.{slot_of, spare_of, lit_of, other_of, list_of, IsKept, IsListed, IsPlaced, IsFiled, AreGood, KeepsGood, KeepsPlaced, Extends}
-use Rattle.ps_watch.specs.Going.{IsTaken, AreVisited, IsEnd, HasGone}
+use Rattle.ps_watch.specs.Links.{Holds}
+use Rattle.ps_watch.specs.Watches.{slot_of, spare_of, lit_of, list_of, IsKept, IsListed, IsPlaced, KeepsGood, KeepsPlaced, Extends}
+use Rattle.ps_watch.specs.Going.{IsTaken, HasGone}
 use Rattle.ps_watch.proofs.Visited.{lit-slot}
 use Rattle.ps_watch.proofs.Reading.{extends-then}
 

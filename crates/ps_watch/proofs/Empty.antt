@@ -1,11 +1,11 @@
 -- No watches.
-use Rattle.std.proofs.Common.{◌≡◌, ℕ, ℤ, zero, suc, ◌+◌, ◌*◌, ◌<◌, ◌≤◌, List, [], ◌∷◌, length, replicate, arith, refl, sym, ap, subst, ◌∙◌}
+use Rattle.std.proofs.Common.{◌≡◌, ℕ, ℤ, zero, suc, ◌+◌, ◌*◌, ◌<◌, List, [], length, replicate, arith, refl, sym, ap, subst, ◌∙◌}
 use Rattle.std.proofs.lemmas.List.{length-replicate}
 use Rattle.ps_steps.specs.Constraints.{Constraint}
 use Rattle.ps_watch.specs.declared.links.TheConstants.{END}
 use Rattle.ps_watch.specs.declared.visiting.Watches.{Watches}
 use Rattle.ps_watch.specs.Links.{head_at, list_at, Holds, AreLinked}
-use Rattle.ps_watch.specs.Watches.{spare_of, list_of, IsKept, IsFiled}
+use Rattle.ps_watch.specs.Watches.{spare_of, IsKept, IsFiled}
 
 all-ends : (n s : ℕ) → head_at (replicate n END) s ≡ END
 all-ends zero s = refl

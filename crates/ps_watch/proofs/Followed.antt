@@ -1,21 +1,21 @@
 -- One literal of the trail after the other.
-use Rattle.std.proofs.Common.{◌≡◌, ◌≢◌, ℕ, zero, suc, ◌+◌, ◌-◌, ◌<◌, ◌≤◌, ◌*◌, ℤ, pos, negsuc, neg_ℤ, Bool, true, false, cond, not, Option, Some, None, List, [], ◌∷◌, ◌++◌, length, take, get_or, add-one, arith, refl, sym, ap, subst, ◌∙◌, inl, inr, ◌⊎◌}
-use Rattle.std.specs.Prelude.{slice_get, unsigned_abs}
+use Rattle.std.proofs.Common.{◌≡◌, ◌≢◌, ℕ, zero, suc, ◌+◌, ◌-◌, ◌<◌, ◌≤◌, ℤ, pos, negsuc, neg_ℤ, Bool, true, false, not, Option, Some, None, List, [], ◌∷◌, ◌++◌, length, take, get_or, arith, refl, sym, ap, subst, ◌∙◌, inl, inr, ◌⊎◌}
+use Rattle.std.specs.Prelude.{unsigned_abs}
 use Rattle.std.proofs.Math.Seq.{take-length}
 use Rattle.std.proofs.lemmas.Bool.{cases_eq}
-use Rattle.std.proofs.lemmas.Option.{slice_get_read, slice_get_within}
+use Rattle.std.proofs.lemmas.Option.{slice_get_within}
 use Rattle.ps_steps.specs.Assignments.{Assignment, place, is_positive, value_of, with_sign, with_true, agree, Includes}
 use Rattle.ps_steps.specs.Constraints.{Constraint}
 use Rattle.ps_steps.specs.Steps.{known_of}
-use Rattle.ps_steps.proofs.Values.{includes-refl, includes-trans, value-set}
+use Rattle.ps_steps.proofs.Values.{includes-refl, value-set}
 use Rattle.ps_steps.proofs.Setting.{place-opposite, value-true}
-use Rattle.ps_learning.specs.Trails.{Trail, TrailEntry, values, values_of, IsConflict, AreFresh, IsFresh}
+use Rattle.ps_learning.specs.Trails.{Trail, TrailEntry, values, values_of, AreFresh}
 use Rattle.ps_learning.proofs.Entries.{values-more, length-values}
 use Rattle.ps_learning.proofs.Marking.{values-earlier}
 use Rattle.ps_watch.specs.declared.links.TheConstants.{END}
 use Rattle.ps_watch.specs.declared.visiting.Watches.{Watches}
-use Rattle.ps_watch.specs.Links.{Holds, IsShifted, list_at}
-use Rattle.ps_watch.specs.Watches.{slot_of, spare_of, lit_of, other_of, list_of, IsKept, IsPlaced, IsFiled, AreGood, KeepsGood, Extends}
+use Rattle.ps_watch.specs.Links.{Holds}
+use Rattle.ps_watch.specs.Watches.{slot_of, spare_of, lit_of, other_of, list_of, IsKept, IsPlaced, IsFiled, AreGood, Extends}
 use Rattle.ps_watch.specs.Going.{IsSent, HasGone, IsOppositeAt, AreVisited, HasFollowed, IsGoodUpTo, values_to}
 use Rattle.ps_watch.proofs.Visited.{lit-slot, slot-small}
 use Rattle.ps_watch.proofs.Reading.{extends-then, extends-same}

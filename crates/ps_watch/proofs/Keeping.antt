@@ -1,11 +1,11 @@
 -- Known constraints, and what has been seen of a trail, from one call to the next.
-use Rattle.std.proofs.Common.{◌≡◌, ◌≢◌, ℕ, zero, suc, ◌+◌, ◌-◌, ◌*◌, ◌<◌, ◌≤◌, ℤ, Bool, true, false, cond, Option, Some, None, List, [], ◌∷◌, ◌++◌, length, length-append, take, get_or, arith, refl, sym, ap, subst, ◌∙◌, inl, inr, ◌⊎◌, IfNone, nat_lt, is_none, is_some, not}
-use Rattle.std.specs.Prelude.{slice_get, IsTrue, vec_capacity}
+use Rattle.std.proofs.Common.{◌≡◌, ◌≢◌, ℕ, zero, suc, ◌+◌, ◌-◌, ◌*◌, ◌<◌, ◌≤◌, ℤ, Bool, true, false, cond, Option, Some, None, List, [], ◌∷◌, ◌++◌, length, length-append, arith, refl, sym, ap, subst, ◌∙◌, inl, inr, ◌⊎◌, IfNone, nat_lt, is_none, is_some, not}
+use Rattle.std.specs.Prelude.{slice_get, IsTrue}
 use Rattle.std.specs.List.{All}
 use Rattle.std.proofs.lemmas.Bool.{cases_eq, cases_lt, false≢true}
 use Rattle.std.proofs.lemmas.Option.{slice_get_within}
 use Rattle.std.proofs.lemmas.List.Elements.{All-push}
-use Rattle.ps_steps.specs.Assignments.{Assignment, value_of, Includes}
+use Rattle.ps_steps.specs.Assignments.{Assignment, value_of}
 use Rattle.ps_steps.specs.Constraints.{Constraint}
 use Rattle.ps_steps.specs.Weights.{IsWithin}
 use Rattle.ps_steps.specs.Steps.{Known, known_of, constraint_at}
@@ -16,22 +16,25 @@ use Rattle.ps_learning.specs.Trails.{Trail, TrailEntry, values, values_of, level
 use Rattle.ps_learning.proofs.Counting.{counted}
 use Rattle.ps_learning.proofs.Distinct.{decisions-take}
 use Rattle.ps_learning.proofs.Levels.{up_to-take}
-use Rattle.ps_learn.specs.Rest.{IsLonger}
 use Rattle.ps_trail.proofs.Cutting.{up_to-all, levels-front}
 use Rattle.ps_trail.proofs.Pushing.{decisions-append, one_if}
 use Rattle.ps_watch.specs.declared.visiting.Watches.{Watches}
-use Rattle.ps_watch.specs.Watches.{lit_of, IsKept, IsWatch, IsFiled, AreGood, Extends, IsClosedBelow}
+use Rattle.ps_watch.specs.Watches.{lit_of, IsKept, IsFiled, AreGood, Extends, IsClosedBelow}
 use Rattle.ps_watch.specs.Going.{values_to, IsGoodUpTo}
-use Rattle.ps_watch.specs.Scans.{IsOneOf, IsCoveredBy, AreCovered}
+use Rattle.ps_watch.specs.Scans.{AreCovered}
 use Rattle.ps_watch.specs.Rooms.{HasRoomFor, HasRoomForClauses, GrowsRoom, IsSameBut}
 use Rattle.ps_watch.specs.Sights.{Sighting, literals_of, IsSeenOf, SeesTo}
-use Rattle.ps_watch.specs.Keeping.{Keeping, seen_to, HasSeenAll, HasSeenAllBut, IsInStep, HasSeen, HasSeenLower, AreIdsTo, IsKeeping}
+use Rattle.ps_watch.specs.Keeping.{Keeping, seen_to, IsInStep, HasSeen, AreIdsFrom, IsKeeping as IsKeepingStore}
 use Rattle.ps_watch.proofs.Followed.{good-grows, part-included}
 use Rattle.ps_watch.proofs.Rested.{longer-size, covered-ids}
 use Rattle.ps_watch.proofs.Levelled.{min-filter, max-filter}
-use Rattle.ps_watch.proofs.Sighted.{same-decisions, same-values, whole-seen, front-seen, seen-lower, seen-whole, seen-values, seen-level, closed-like, closed-unlike, whole-lower, literals-take, literals-size}
+use Rattle.ps_watch.proofs.Sighted.{same-decisions, whole-seen, front-seen, seen-lower, seen-whole, seen-values, seen-level, closed-like, closed-unlike, whole-lower, literals-take, literals-size}
 use Rattle.ps_watch.proofs.Attached.{one-longer, one-new}
 use Rattle.std.proofs.lemmas.List.{append-nil}
+
+-- how constraints are kept, by their parts
+abbrev pub IsKeeping : List Constraint → Watches → List ℕ → List ℕ → ℕ → Sighting → ℕ → ℕ → Bool → Type 0
+IsKeeping known w scanned waiting capacity s goal closed settled = IsKeepingStore (record { known = known; watches = w; scanned = scanned; waiting = waiting; capacity = capacity }) s goal closed settled
 
 -- ---- one constraint more is known
 pub kept-more : (v : ℕ) (cs new : List Constraint) (c : Constraint) (w : Watches) → new ≡ cs ++ c ∷ [] → IsKept v cs w → IsKept v new w
@@ -96,15 +99,15 @@ to-last cs zero c at = omega arith
 to-last cs (suc i) c at = let w = slice_get_within cs i c (sym (at-id cs i) ∙ at) in omega (arith, w)
 
 -- at first all clauses wait
-pub covered-first : (cs new : List Constraint) (g : Constraint) (w : Watches) (scanned waiting : List ℕ) (n goal : ℕ) → new ≡ cs ++ g ∷ [] → n ≡ length cs → goal ≡ n + 1 → AreIdsTo n waiting → AreCovered (known_of new) w scanned waiting goal
+pub covered-first : (cs new : List Constraint) (g : Constraint) (w : Watches) (scanned waiting : List ℕ) (n goal : ℕ) → new ≡ cs ++ g ∷ [] → n ≡ length cs → goal ≡ n + 1 → AreIdsFrom n n waiting → AreCovered (known_of new) w scanned waiting goal
 covered-first cs new g w scanned waiting n goal e size own ids = record {
   at = λ x d at. elim (at-end cs g x d (subst (λ (z : List Constraint). constraint_at (known_of z) x ≡ Some d) e at)) [
     | inl old ↦ (let one = from-one cs x d old in
         let most = to-last cs x d old in
         inr (inl (record {
-          place = x - 1;
+          place = n - x;
           within = omega (arith, one, most, size, ids.length_is);
-          there = (let r = ids.at (x - 1) (omega (arith, one, most, size)) in omega (arith, r, one));
+          there = (let r = ids.at (n - x) (omega (arith, one, most, size)) in omega (arith, r, most, size));
         })))
     | inr last ↦ inr (inr (omega (arith, last, size, own)))
   ];
@@ -327,7 +330,7 @@ keeping-cut cs w scanned waiting capacity s s' goal closed settled most k l same
     }
 
 -- ---- nothing has been seen
-pub keeping-first : (cs new : List Constraint) (g : Constraint) (w : Watches) (scanned ids : List ℕ) (capacity : ℕ) (s : Sighting) (n v : ℕ) → new ≡ cs ++ g ∷ [] → n ≡ length cs → s ≡ record { goal = g; seen = record { variables = v; entries = [] } } → scanned ≡ [] → v ≤ MOST_VARIABLES → All (IsWithin v) cs → IsWithin v g → AreIdsTo n ids → IsKept v new w → IsFiled v w → HasRoomForClauses w n → n ≤ capacity → (goal : ℕ) → goal ≡ n + 1 → IsKeeping new w scanned ids capacity s goal 0 false
+pub keeping-first : (cs new : List Constraint) (g : Constraint) (w : Watches) (scanned ids : List ℕ) (capacity : ℕ) (s : Sighting) (n v : ℕ) → new ≡ cs ++ g ∷ [] → n ≡ length cs → s ≡ record { goal = g; seen = record { variables = v; entries = [] } } → scanned ≡ [] → v ≤ MOST_VARIABLES → All (IsWithin v) cs → IsWithin v g → AreIdsFrom n n ids → IsKept v new w → IsFiled v w → HasRoomForClauses w n → n ≤ capacity → (goal : ℕ) → goal ≡ n + 1 → IsKeeping new w scanned ids capacity s goal 0 false
 keeping-first cs new g w scanned ids capacity s n v e size q none few inside own are kept filed room places goal last = rw (q, none) (record {
   few = few;
   inside = subst (All (IsWithin v)) (sym e) (All-push (IsWithin v) cs g inside own);

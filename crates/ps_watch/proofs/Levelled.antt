@@ -1,16 +1,14 @@
 -- The levels below.
-use Rattle.std.proofs.Common.{◌≡◌, ◌≢◌, ℕ, zero, suc, ◌+◌, ◌<◌, ◌≤◌, Bool, true, false, cond, ℤ, Some, None, List, [], ◌∷◌, length, take, arith, refl, sym, ap, subst, ◌∙◌, inl, inr, min}
+use Rattle.std.proofs.Common.{◌≡◌, ℕ, zero, suc, ◌+◌, ◌<◌, ◌≤◌, true, false, ℤ, Some, None, List, [], ◌∷◌, length, take, arith, refl, sym, ap, subst, inl, inr}
 use Rattle.std.specs.Prelude.{nat_le}
 use Rattle.std.specs.List.{filter}
-use Rattle.std.proofs.Math.Seq.{take-length}
 use Rattle.std.proofs.lemmas.Bool.{cases_lt, cases_Bool}
 use Rattle.ps_steps.specs.Assignments.{Assignment, value_of, Includes}
 use Rattle.ps_steps.specs.Constraints.{Constraint}
-use Rattle.ps_steps.specs.Steps.{known_of}
 use Rattle.ps_learning.specs.Trails.{Trail, TrailEntry, values, values_of, level, decisions, up_to, decided, AreFresh, AreLevels}
 use Rattle.ps_learning.proofs.Levels.{up_to-take}
 use Rattle.ps_watch.specs.declared.visiting.Watches.{Watches}
-use Rattle.ps_watch.specs.Watches.{AreGood, KeepsGood, Extends, IsClosedBelow}
+use Rattle.ps_watch.specs.Watches.{AreGood, IsClosedBelow}
 use Rattle.ps_watch.specs.Going.{HasFollowed, values_to, IsGoodUpTo}
 use Rattle.ps_trail.proofs.Cutting.{up_to-all}
 use Rattle.ps_watch.proofs.Reading.{lower-append}

@@ -1,12 +1,12 @@
 -- Two watches more.
-use Rattle.std.proofs.Common.{◌≡◌, ◌≢◌, ℕ, zero, suc, ◌+◌, ◌<◌, ◌≤◌, ℤ, pos, true, false, Some, List, [], ◌∷◌, ◌++◌, length, get_or, arith, refl, sym, ap, subst, ◌∙◌, inl, inr, ◌⊎◌}
+use Rattle.std.proofs.Common.{◌≡◌, ℕ, zero, suc, ◌+◌, ◌<◌, ℤ, pos, true, false, Some, List, [], ◌∷◌, ◌++◌, length, get_or, arith, refl, sym, ap, subst, ◌∙◌, inl, inr, ◌⊎◌}
 use Rattle.std.proofs.lemmas.Bool.{cases_eq, cases_lt}
 use Rattle.ps_steps.specs.Assignments.{Assignment, value_of}
-use Rattle.ps_steps.specs.Constraints.{Constraint, HasTerm}
-use Rattle.ps_steps.specs.Steps.{Known, constraint_at, known_of}
+use Rattle.ps_steps.specs.Constraints.{Constraint}
+use Rattle.ps_steps.specs.Steps.{Known, known_of}
 use Rattle.ps_watch.specs.declared.visiting.Watches.{Watches}
 use Rattle.ps_watch.specs.Links.{Holds}
-use Rattle.ps_watch.specs.Watches.{slot_of, spare_of, lit_at, number_at, lit_of, other_of, list_of, IsWatch, IsKept, IsFiled, AreGood, IsPut}
+use Rattle.ps_watch.specs.Watches.{slot_of, spare_of, lit_at, number_at, lit_of, other_of, IsWatch, IsKept, IsFiled, AreGood, IsPut}
 use Rattle.ps_watch.specs.Watching.{IsPair, AddsPair, HasWatched}
 use Rattle.ps_watch.proofs.Visited.{slot-below, holds-pushed, holds-own}
 

@@ -1,26 +1,26 @@
 -- What a visit reads, and what it does with it.
-use Rattle.std.proofs.Common.{◌≡◌, ℕ, suc, ◌+◌, ◌<◌, ◌≤◌, ℤ, pos, true, false, Option, Some, None, List, [], ◌∷◌, ◌++◌, length, get_or, arith, refl, sym, ap, subst, ◌∙◌, unsigned_abs}
+use Rattle.std.proofs.Common.{◌≡◌, ℕ, ◌<◌, ◌≤◌, ℤ, pos, true, false, Some, List, [], ◌∷◌, ◌++◌, length, get_or, arith, refl, sym, ap, subst, ◌∙◌, unsigned_abs}
 use Rattle.std.specs.Prelude.{nat_le}
 use Rattle.std.specs.List.{filter}
 use Rattle.std.proofs.lemmas.List.{append-nil}
 use Rattle.std.proofs.lemmas.List.Elements.{filter-append}
-use Rattle.ps_steps.specs.Assignments.{Assignment, place, value_of, with_true, is_unset, Includes}
-use Rattle.ps_steps.specs.Constraints.{Constraint, HasTerm}
-use Rattle.ps_steps.specs.Steps.{Known, constraint_at, known_of}
+use Rattle.ps_steps.specs.Assignments.{Assignment, value_of, with_true}
+use Rattle.ps_steps.specs.Constraints.{Constraint}
+use Rattle.ps_steps.specs.Steps.{Known, known_of}
 use Rattle.ps_steps.proofs.Full.{term-within}
 use Rattle.ps_steps.proofs.Values.{includes-refl, includes-trans, with_true-includes}
 use Rattle.ps_steps.proofs.Setting.{value-true}
-use Rattle.ps_learning.specs.Trails.{Trail, TrailEntry, values, values_of, level, decisions, implied, IsFresh, IsConflict, IsReason}
+use Rattle.ps_learning.specs.Trails.{Trail, TrailEntry, values, decisions, implied, IsFresh, IsConflict, IsReason}
 use Rattle.ps_learning.proofs.Entries.{values-append, length-values}
 use Rattle.ps_learn.proofs.Advancing.{implied-reasons, implied-level, implied-longer, variables-same, longer_none, longer_then}
 use Rattle.ps_watch.specs.declared.links.TheConstants.{END}
 use Rattle.ps_watch.specs.declared.visiting.Watches.{Watches}
 use Rattle.ps_watch.specs.declared.looking.Shown.{Shown}
-use Rattle.ps_watch.specs.declared.looking.Shown.TheVariants.{Stays, Moves, Forces as ForcesOther, Violated}
+use Rattle.ps_watch.specs.declared.looking.Shown.TheVariants.{Moves, Forces as ForcesOther, Violated}
 use Rattle.ps_watch.specs.Looks.{ShowsAt, IsClauseAt}
-use Rattle.ps_watch.specs.Watches.{slot_of, spare_of, number_at, lit_of, other_of, list_of, IsKept, IsPut, IsMoved, IsPlaced, Extends, KeepsGood}
+use Rattle.ps_watch.specs.Watches.{slot_of, spare_of, number_at, lit_of, other_of, IsKept, IsPut, IsMoved, IsPlaced, Extends, KeepsGood}
 use Rattle.ps_watch.proofs.Linked.{read-at}
-use Rattle.ps_watch.proofs.Visited.{lit-slot, other-clause, new-lit, IsNewLit, put-placed, moved-kept, moved-placed, moved-spare, moved-good}
+use Rattle.ps_watch.proofs.Visited.{lit-slot, other-clause, new-lit, IsNewLit, put-placed, moved-placed, moved-good}
 
 -- what was read of a watch
 pub record AreRead (w : Watches) (n : ℕ) (l other : ℤ) (id : ℕ) : Type 0 where

@@ -1,17 +1,17 @@
 -- Where propagation ends.
-use Rattle.std.proofs.Common.{◌≡◌, ◌≢◌, ℕ, zero, suc, ◌+◌, ◌-◌, ◌<◌, ◌≤◌, ℤ, true, false, Option, Some, None, List, [], ◌∷◌, ◌++◌, length, take, get_or, arith, refl, sym, ap, subst, ◌∙◌, inl, inr, ◌⊎◌, unsigned_abs}
+use Rattle.std.proofs.Common.{◌≡◌, ℕ, zero, suc, ◌+◌, ◌-◌, ◌<◌, ◌≤◌, ℤ, Some, List, [], ◌∷◌, ◌++◌, length, take, get_or, arith, refl, sym, ap, subst, ◌∙◌, inl, inr, unsigned_abs}
 use Rattle.std.specs.Prelude.{slice_get}
 use Rattle.std.specs.List.{All}
 use Rattle.std.proofs.Math.Seq.{take-length}
 use Rattle.std.proofs.lemmas.Option.{slice_get_within, get_or_from_slice_get}
 use Rattle.ps_steps.proofs.Ids.{constraint_at-known, zero_unknown}
 use Rattle.std.proofs.lemmas.Bool.{cases_lt}
-use Rattle.ps_steps.specs.Assignments.{Assignment, value_of, Includes}
+use Rattle.ps_steps.specs.Assignments.{Assignment, value_of}
 use Rattle.ps_steps.specs.Constraints.{Constraint, HasTerm, Forces}
 use Rattle.ps_steps.specs.Weights.{IsPlain, IsWithin}
 use Rattle.ps_steps.specs.Steps.{Known, constraint_at, known_of}
 use Rattle.ps_steps.proofs.Full.{term-within}
-use Rattle.ps_learning.specs.Trails.{Trail, TrailEntry, values, values_of, decisions, implied, IsConflict, IsReason, IsFresh, AreFresh}
+use Rattle.ps_learning.specs.Trails.{Trail, TrailEntry, values, values_of, decisions, implied, IsFresh, AreFresh}
 use Rattle.ps_forms.specs.Decided.{IsIdle}
 use Rattle.ps_learning.proofs.Counting.{counted, fewer-unset}
 use Rattle.ps_learning.proofs.Entries.{length-values}
@@ -19,10 +19,10 @@ use Rattle.ps_learn.specs.Rest.{IsAtRest, IsLonger}
 use Rattle.ps_watch.specs.declared.visiting.Watches.{Watches}
 use Rattle.ps_watch.specs.Watches.{number_at, lit_of, other_of, IsKept, IsFiled, AreGood, Extends}
 use Rattle.ps_watch.specs.Going.{HasFollowed, values_to, IsGoodUpTo}
-use Rattle.ps_watch.specs.Scans.{IsIdleAt, AreIdleTo, AreCovered, IsOneOf}
+use Rattle.ps_watch.specs.Scans.{IsIdleAt, AreIdleTo, AreCovered}
 use Rattle.ps_watch.proofs.Linked.{read-at}
 use Rattle.ps_watch.proofs.Clauses.{idle-pair}
-use Rattle.ps_watch.proofs.Reading.{extends-then, extends-implied}
+use Rattle.ps_watch.proofs.Reading.{extends-then}
 use Rattle.ps_watch.proofs.Followed.{part-same, part-within, good-grows, append-size}
 use Rattle.ps_watch.proofs.Drained.{good-then, good-same}
 

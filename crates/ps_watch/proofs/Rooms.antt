@@ -1,7 +1,7 @@
 -- Room for watches.
-use Rattle.std.proofs.Common.{◌≡◌, ℕ, suc, ◌+◌, ◌*◌, ◌≤◌, length, vec_capacity, arith, ap}
+use Rattle.std.proofs.Common.{◌≡◌, ℕ, ◌≤◌, arith, ap}
 use Rattle.ps_watch.specs.declared.visiting.Watches.{Watches}
-use Rattle.ps_watch.specs.Rooms.{room_of, HasRoomFor, HasRoomForClauses}
+use Rattle.ps_watch.specs.Rooms.{room_of, HasRoomFor}
 
 -- the same room serves for fewer watches
 pub room-less : (w w' : Watches) (n m : ℕ) → room_of w' ≡ room_of w → m ≤ n → HasRoomFor w n → HasRoomFor w' m

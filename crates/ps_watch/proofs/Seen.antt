@@ -1,7 +1,7 @@
 -- What a clause shows at a watched literal.
-use Rattle.std.proofs.Common.{◌≡◌, ◌≢◌, ℕ, zero, suc, ◌<◌, ℤ, Bool, true, false, cond, not, Option, Some, None, List, [], ◌∷◌, length, get_or, arith, refl, sym, ap, subst, ◌∙◌, inl, inr, ◌⊎◌, unsigned_abs}
+use Rattle.std.proofs.Common.{◌≡◌, ◌≢◌, ℕ, ◌<◌, ℤ, Bool, true, false, cond, not, Some, None, List, [], ◌∷◌, length, get_or, refl, sym, ap, subst, ◌∙◌, inl, inr, unsigned_abs}
 use Rattle.std.specs.Ordering.{int_eq}
-use Rattle.std.proofs.lemmas.Bool.{cases_Bool, and_parts, and_from, false_from_ne_true, not_from_false, true≢false}
+use Rattle.std.proofs.lemmas.Bool.{cases_Bool, and_parts, and_from, not_from_false, true≢false}
 use Rattle.std.proofs.lemmas.Bool.Decides.{Decides-int_eq}
 use Rattle.ps_forms.proofs.Tidy.{same_int}
 use Rattle.ps_steps.specs.Assignments.{Assignment, value_of, is_unset}
@@ -12,7 +12,7 @@ use Rattle.ps_steps.proofs.Setting.{rising-distinct}
 use Rattle.ps_pb.proofs.Searched.{has_term-at}
 use Rattle.ps_watch.specs.declared.looking.Shown.{Shown}
 use Rattle.ps_watch.specs.declared.looking.Shown.TheVariants.{Stays, Moves, Forces as ForcesOther, Violated}
-use Rattle.ps_watch.specs.Looks.{is_new, some_new, IsNewIn, LooksAt, Looks, ShowsAt, IsClauseAt}
+use Rattle.ps_watch.specs.Looks.{is_new, some_new, IsNewIn, LooksAt, Looks}
 use Rattle.ps_watch.proofs.Clauses.{IsOnly, forces-only, violated-only}
 
 pub new-at : (c : Constraint) (a : Assignment) (other : ℤ) (ts : Weighted) (i : ℕ) (t : ℤ × ℤ) (b : Bool) → terms_of ts ≡ c.terms → i < length ts → t ≡ get_or ts i t → b ≡ is_new a other t.0 → b ≡ true → IsNewIn c a other t.0

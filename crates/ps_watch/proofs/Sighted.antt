@@ -1,23 +1,22 @@
 -- What has been seen of a trail.
-use Rattle.std.proofs.Common.{◌≡◌, ℕ, zero, suc, ◌+◌, ◌<◌, ◌≤◌, Bool, true, false, cond, ℤ, Some, None, List, [], ◌∷◌, ◌++◌, length, map, take, arith, refl, sym, ap, subst, ◌∙◌, inl, inr, ◌⊎◌}
+use Rattle.std.proofs.Common.{◌≡◌, ℕ, zero, suc, ◌+◌, ◌<◌, ◌≤◌, Bool, true, false, cond, ℤ, Some, List, [], ◌∷◌, ◌++◌, length, take, arith, refl, sym, ap, subst, ◌∙◌, inl, inr}
 use Rattle.std.specs.Prelude.{slice_get, nat_le, fold, is_none}
 use Rattle.std.specs.List.{filter}
-use Rattle.std.proofs.Math.Seq.{take-length, take-suc}
+use Rattle.std.proofs.Math.Seq.{take-length}
 use Rattle.std.proofs.lemmas.Bool.{cases_Bool, cases_eq}
 use Rattle.std.proofs.lemmas.List.{length-map}
 use Rattle.std.proofs.lemmas.Option.{slice_get_within}
-use Rattle.ps_steps.specs.Assignments.{Assignment, value_of, with_true, all_unset}
-use Rattle.ps_steps.specs.Steps.{Known}
+use Rattle.ps_steps.specs.Assignments.{Assignment, with_true, all_unset}
 use Rattle.ps_learning.specs.Trails.{Trail, TrailEntry, values, values_of, and_entry, level, decisions, up_to, AreFresh, AreLevels, IsFresh}
 use Rattle.ps_learning.proofs.Distinct.{decisions-take, decisions-next}
 use Rattle.ps_learning.proofs.Levels.{decisions-more}
 use Rattle.ps_learn.specs.Rest.{IsLonger}
 use Rattle.ps_trail.proofs.Cutting.{up_to-all}
 use Rattle.ps_watch.specs.declared.visiting.Watches.{Watches}
-use Rattle.ps_watch.specs.Watches.{AreGood, Extends, IsClosedBelow}
+use Rattle.ps_watch.specs.Watches.{AreGood, IsClosedBelow}
 use Rattle.ps_watch.specs.Going.{values_to}
 use Rattle.ps_steps.specs.Constraints.{Constraint}
-use Rattle.ps_watch.specs.Sights.{Sighting, literals_of, with_entry, IsNext, IsSeenOf, SeesTo}
+use Rattle.ps_watch.specs.Sights.{Sighting, literals_of, with_entry, IsNext, IsSeenOf}
 use Rattle.ps_watch.specs.Keeping.{and_seen, seen_to}
 use Rattle.ps_watch.proofs.Followed.{take-longer, append-size}
 

@@ -1,25 +1,25 @@
 -- The goal's slack, one literal on or back.
-use Rattle.std.proofs.Common.{◌≡◌, ◌≢◌, ℕ, zero, suc, ◌+◌, ◌*◌, ◌<◌, ◌≤◌, ◌==◌, ℤ, pos, negsuc, neg_ℤ, ◌+ℤ◌, ◌-ℤ◌, ◌≤ℤ◌, ◌<ℤ◌, Bool, true, false, cond, not, ◌&&◌, Option, Some, None, List, [], ◌∷◌, length, length-set, map, get_or, set, drop, arith, refl, sym, ap, subst, ◌∙◌, inl, inr, ◌⊎◌, unsigned_abs}
-use Rattle.std.specs.Prelude.{int_lt, is_some, IsPermutation, replicate}
+use Rattle.std.proofs.Common.{◌≡◌, ◌≢◌, ℕ, zero, suc, ◌+◌, ◌*◌, ◌<◌, ◌≤◌, ◌==◌, ℤ, pos, neg_ℤ, ◌+ℤ◌, ◌-ℤ◌, ◌≤ℤ◌, ◌<ℤ◌, Bool, true, false, cond, not, Option, Some, None, List, [], ◌∷◌, length, length-set, get_or, set, drop, arith, refl, sym, ap, subst, ◌∙◌, inl, inr, unsigned_abs}
+use Rattle.std.specs.Prelude.{int_lt, is_some, replicate}
 use Rattle.std.specs.List.{All}
 use Rattle.std.proofs.lemmas.Int.{ints}
-use Rattle.std.proofs.lemmas.List.{drop_all, length-replicate, length-map, get_or-map}
+use Rattle.std.proofs.lemmas.List.{drop_all, length-replicate}
 use Rattle.std.proofs.lemmas.List.Sorted.{All-permutation, IsPermutation-sym}
-use Rattle.std.proofs.lemmas.Bool.{cases_Bool, cases_eq, cases_lt, and_parts, false_from_ne_true, true≢false}
+use Rattle.std.proofs.lemmas.Bool.{cases_Bool, cases_eq, cases_lt, and_parts, false_from_ne_true}
 use Rattle.ps_steps.specs.declared.limits.TheConstants.{MOST_SIZE}
 use Rattle.ps_steps.specs.Assignments.{Assignment, place, is_positive, agree, value_of, with_true, is_false, is_unset}
 use Rattle.ps_steps.specs.Constraints.{Constraint, HasTerm, Forces, sum_where, is_open, slack, is_forced, some_forced}
-use Rattle.ps_steps.specs.Weights.{Weighted, weighted, size_sum, term_of, terms_of, IsNormal, IsWithin}
+use Rattle.ps_steps.specs.Weights.{Weighted, weighted, size_sum, term_of, terms_of, IsNormal}
 use Rattle.ps_steps.proofs.Setting.{place-opposite, value-own, value-other, value-true, unset-same, unset-both}
 use Rattle.ps_steps.proofs.Forcing.{lt-of}
 use Rattle.ps_steps.proofs.Bounds.{IsPositive}
-use Rattle.ps_pb.proofs.Summed.{drop-item, size_sum-drop, sum_where-size}
+use Rattle.ps_pb.proofs.Summed.{drop-item, sum_where-size}
 use Rattle.ps_watch.specs.Watches.{slot_of}
 use Rattle.ps_learning.specs.Trails.{Trail, values, IsFresh}
 use Rattle.ps_watch.specs.Sights.{coefficient_of, size_of, AreCoefficients, AreByCoefficient, IsSight}
 use Rattle.ps_watch.proofs.Linked.{read-set, read-other, read-at}
 use Rattle.ps_watch.proofs.Visited.{value-slot, slot-small}
-use Rattle.ps_watch.proofs.Followed.{opposite-false, same_sign, sign_opposite}
+use Rattle.ps_watch.proofs.Followed.{opposite-false, sign_opposite}
 use Rattle.ps_watch.proofs.Clauses.{unset-open, true-open}
 
 -- ---- one literal more is true

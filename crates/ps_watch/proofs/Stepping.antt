@@ -1,10 +1,9 @@
 -- For callers: where propagation may go on.
-use Rattle.std.proofs.Common.{◌≡◌, ℕ, suc, ◌+◌, ◌<◌, ◌≤◌, ◌∙◌, ◌++◌, ◌∷◌, [], Option, Some, None, List, length, ℤ, true, ap, sym, refl, inl, inr}
-use Rattle.std.specs.Prelude.{IsTrue}
+use Rattle.std.proofs.Common.{◌≡◌, ℕ, suc, ◌<◌, ◌∙◌, [], None, length, ℤ, true, ap, sym, refl, inl, inr}
 use Rattle.std.proofs.Math.Seq.{take-length}
-use Rattle.ps_learning.specs.Trails.{Trail, TrailEntry, level, decisions, decided, up_to}
+use Rattle.ps_learning.specs.Trails.{Trail, level, decisions, decided, up_to}
 use Rattle.ps_watch.specs.Sights.{literals_of}
-use Rattle.ps_watch.specs.Keeping.{Keeping, seen_to, IsInStep, HasSeen, HasSeenAll, HasSeenLower, IsOver}
+use Rattle.ps_watch.specs.Keeping.{Keeping, seen_to, IsInStep, HasSeenAll, HasSeenLower, IsOver}
 use Rattle.ps_watch.proofs.Sighted.{literals-to}
 
 pub over-same : (k : Keeping) → IsOver k k
@@ -19,13 +18,16 @@ first-step k t e q = inl (e ∙ sym (ap literals_of q))
 
 -- where propagation came to its end, and one literal was decided
 pub decided-step : (k : Keeping) (t u : Trail) (l : ℤ) → u ≡ decided l t → k.settled ≡ true → HasSeenAll k t → IsInStep k u
-decided-step k t u l e settled seen = inr (settled, record {
-  front = t.entries;
-  last = record { lit = l; reason = None; level = suc (decisions t.entries) };
-  entries = ap (λ (z : Trail). z.entries) e;
-  decided = refl;
-  seen = seen;
-})
+decided-step k t u l e settled seen = inr (
+  settled,
+  record {
+    front = t.entries;
+    last = record { lit = l; reason = None; level = suc (decisions t.entries) };
+    entries = ap (λ (z : Trail). z.entries) e;
+    decided = refl;
+    seen = seen;
+  },
+)
 
 -- a cut to a level below the last
 pub cut-step : (k k' : Keeping) (t u : Trail) (most : ℕ) → HasSeenLower k t → most < level t → u ≡ up_to most t → k'.seen ≡ seen_to most k.seen → IsInStep k' u

@@ -1,18 +1,17 @@
 -- A watch that was visited.
-use Rattle.std.proofs.Common.{◌≡◌, ◌≢◌, ℕ, suc, ◌+◌, ◌*◌, ◌<◌, ◌≤◌, ℤ, pos, Bool, true, false, cond, Option, Some, None, List, [], ◌∷◌, length, set, get_or, arith, refl, sym, ap, subst, ◌∙◌, inl, inr, ◌⊎◌}
-use Rattle.std.proofs.lemmas.Bool.{cases_eq, cases_Bool}
-use Rattle.ps_steps.specs.Assignments.{Assignment, place, is_positive, value_of, with_sign, is_unset, Includes}
+use Rattle.std.proofs.Common.{◌≡◌, ◌≢◌, ℕ, ◌+◌, ◌*◌, ◌<◌, ℤ, pos, Bool, true, false, cond, Some, List, length, arith, refl, sym, ap, subst, ◌∙◌, inl, inr}
+use Rattle.std.proofs.lemmas.Bool.{cases_eq}
+use Rattle.ps_steps.specs.Assignments.{Assignment, place, is_positive, value_of, Includes}
 use Rattle.ps_steps.specs.Constraints.{Constraint, HasTerm, is_open}
-use Rattle.ps_steps.specs.Weights.{IsPlain, IsWithin}
+use Rattle.ps_steps.specs.Weights.{IsWithin}
 use Rattle.ps_steps.specs.Steps.{Known, constraint_at, known_of}
 use Rattle.ps_steps.proofs.Full.{term-within}
-use Rattle.ps_learning.specs.Trails.{Trail, values}
 use Rattle.ps_watch.specs.declared.links.TheConstants.{END}
 use Rattle.ps_watch.specs.declared.visiting.Watches.{Watches}
-use Rattle.ps_watch.specs.declared.looking.Shown.TheVariants.{Stays, Moves, Forces as ForcesOther, Violated}
-use Rattle.ps_watch.specs.Links.{Holds, AreLinked, IsPushed, list_at}
-use Rattle.ps_watch.specs.Looks.{IsNewIn, ShowsAt, IsClauseAt}
-use Rattle.ps_watch.specs.Watches.{slot_of, spare_of, lit_at, number_at, lit_of, other_of, list_of, IsWatch, IsKept, IsListed, IsPlaced, AreGood, KeepsGood, IsPut, IsMoved}
+use Rattle.ps_watch.specs.declared.looking.Shown.TheVariants.{Moves}
+use Rattle.ps_watch.specs.Links.{Holds, IsPushed, list_at}
+use Rattle.ps_watch.specs.Looks.{ShowsAt, IsClauseAt}
+use Rattle.ps_watch.specs.Watches.{slot_of, spare_of, lit_at, number_at, lit_of, other_of, list_of, IsWatch, IsKept, IsListed, IsPlaced, KeepsGood, IsPut, IsMoved}
 use Rattle.ps_watch.proofs.Linked.{read-set, read-other, length-put}
 use Rattle.ps_watch.proofs.Clauses.{false-closed, coefficient-one}
 use Rattle.ps_watch.proofs.Seen.{new-open}

@@ -1,5 +1,5 @@
 -- Going through the watches of a literal.
-use Rattle.std.specs.Prelude.{ℕ, ◌≡◌, ◌≢◌, ◌<◌, ◌≤◌, ℤ, neg_ℤ, true, Option}
+use Rattle.std.specs.Prelude.{ℕ, ◌≡◌, ◌<◌, ◌≤◌, ℤ, neg_ℤ, true, Option}
 use Rattle.std.specs.Prelude.{Some, None, List, [], length, take, slice_get, unsigned_abs}
 use Rattle.ps_steps.specs.Assignments.{Assignment, value_of}
 use Rattle.ps_steps.specs.Constraints.{Constraint}

@@ -1,5 +1,5 @@
 -- Known constraints, and what has been seen of a trail.
-use Rattle.std.specs.Prelude.{ℕ, ◌≡◌, ◌≤◌, ◌<◌, ◌+◌, ℤ, Bool, false, IsTrue, is_none, Option, Some, None, Result, Ok, Err, ⊤}
+use Rattle.std.specs.Prelude.{ℕ, ◌≡◌, ◌≤◌, ◌<◌, ◌+◌, ◌-◌, ℤ, Bool, false, IsTrue, Option, Some, None, Result, Ok, Err, ⊤}
 use Rattle.std.specs.Prelude.{List, [], ◌∷◌, ◌++◌, length, take, slice_index_or, nat_le, fold, All, ◌⊎◌}
 use Rattle.std.specs.List.{filter}
 use Rattle.ps_pb.specs.declared.limits.TheConstants.{MOST_VARIABLES}
@@ -85,23 +85,31 @@ abbrev pub IsLearning : {E : Type 0} → Keeping → Keeping → Constraint → 
 IsLearning k k' c (Ok id) = HasLearned k k' c id
 IsLearning k k' c (Err e) = ⊤
 
--- the numbers from 1 to this one
-pub record AreIdsTo (n : ℕ) (ids : List ℕ) : Type 0 where
-  pub length_is : length ids ≡ n
-  pub at : (i : ℕ) → i < n → slice_index_or ids i 0 ≡ i + 1
+-- so many numbers from this one down
+pub record AreIdsFrom (n k : ℕ) (ids : List ℕ) : Type 0 where
+  pub length_is : length ids ≡ k
+  pub at : (i : ℕ) → i < k → slice_index_or ids i 0 ≡ n - i
+
+-- known constraints: their watches, the ids of those that are scanned and of those that wait to be watched, and for how many ids
+-- there is room among the first
+pub record Store : Type 0 where
+  pub known : List Constraint
+  pub watches : Watches
+  pub scanned : List ℕ
+  pub waiting : List ℕ
+  pub capacity : ℕ
 
 -- how constraints are kept: each is watched, scanned, waiting or the goal, there is room for those that wait, and at each level
 -- below this one the watches are good for what has been seen; where it is settled, at each of its levels
-pub record IsKeeping (known : List Constraint) (w : Watches) (scanned waiting : List ℕ) (capacity : ℕ) (s : Sighting)
-    (goal closed : ℕ) (settled : Bool) : Type 0 where
+pub record IsKeeping (x : Store) (s : Sighting) (goal closed : ℕ) (settled : Bool) : Type 0 where
   pub few : s.seen.variables ≤ MOST_VARIABLES
-  pub inside : All (IsWithin s.seen.variables) known
-  pub kept : IsKept s.seen.variables known w
-  pub filed : IsFiled s.seen.variables w
-  pub covered : AreCovered (known_of known) w scanned waiting goal
-  pub room : HasRoomForClauses w (length waiting)
-  pub places : length scanned + length waiting ≤ capacity
-  pub goal_is : constraint_at (known_of known) goal ≡ Some s.goal
-  pub good : IsClosedBelow w s.seen closed
+  pub inside : All (IsWithin s.seen.variables) x.known
+  pub kept : IsKept s.seen.variables x.known x.watches
+  pub filed : IsFiled s.seen.variables x.watches
+  pub covered : AreCovered (known_of x.known) x.watches x.scanned x.waiting goal
+  pub room : HasRoomForClauses x.watches (length x.waiting)
+  pub places : length x.scanned + length x.waiting ≤ x.capacity
+  pub goal_is : constraint_at (known_of x.known) goal ≡ Some s.goal
+  pub good : IsClosedBelow x.watches s.seen closed
   pub most : level s.seen ≤ closed
   pub whole : IsTrue settled → level s.seen < closed

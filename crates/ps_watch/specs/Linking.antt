@@ -1,5 +1,5 @@
 -- How a constraint comes to be watched, or scanned.
-use Rattle.std.specs.Prelude.{ℕ, ◌≡◌, ◌≤◌, ℤ, Some, None, List, length, ◌⊎◌}
+use Rattle.std.specs.Prelude.{ℕ, ◌≡◌, ◌≤◌, ℤ, Some, None, List, length}
 use Rattle.ps_steps.specs.Assignments.{Assignment, value_of}
 use Rattle.ps_steps.specs.Constraints.{Constraint}
 use Rattle.ps_steps.specs.Steps.{Known, known_of}
@@ -7,7 +7,7 @@ use Rattle.ps_learning.specs.Trails.{Trail, level, IsReason}
 use Rattle.ps_watch.specs.declared.visiting.Watches.{Watches}
 use Rattle.ps_watch.specs.Watches.{IsKept, IsFiled, Extends, IsClosedBelow}
 use Rattle.ps_watch.specs.Going.{IsGoodUpTo}
-use Rattle.ps_watch.specs.Scans.{IsCoveredBy, AreCovered}
+use Rattle.ps_watch.specs.Scans.{IsCoveredBy}
 
 -- what was watched or scanned is so still, and the constraint of an id is watched or scanned now
 pub record CoversMore (id : ℕ) (w : Watches) (scanned : List ℕ) (w' : Watches) (scanned' : List ℕ) : Type 0 where
@@ -25,8 +25,3 @@ pub record HasLinked (known : List Constraint) (w : Watches) (t : Trail) (w' : W
 -- where a literal is unset, the constraint of an id forces it
 abbrev pub IsForcedIfUnset : Known → Assignment → ℤ → ℕ → Type 0
 IsForcedIfUnset known a l id = value_of a l ≡ None → IsReason known a l (Some id)
-
--- each constraint is covered still, where fewer wait
-abbrev pub StayCovered : Known → Watches → List ℕ → List ℕ → Watches → List ℕ → List ℕ → Type 0
-StayCovered known w scanned waiting w' scanned' waiting' = (goal : ℕ) → AreCovered known w scanned waiting goal
-    → AreCovered known w' scanned' waiting' goal

@@ -1,5 +1,5 @@
 -- What a clause shows at a watched literal.
-use Rattle.std.specs.Prelude.{ℕ, ◌≡◌, ◌≢◌, ℤ, Bool, true, false, not, ◌&&◌, if◌then◌else◌, Option, Some, None, List, [], ◌∷◌}
+use Rattle.std.specs.Prelude.{ℕ, ◌≡◌, ℤ, Bool, true, false, not, ◌&&◌, if◌then◌else◌, Option, Some, None, List, [], ◌∷◌}
 use Rattle.std.specs.Ordering.{int_eq}
 use Rattle.ps_steps.specs.Assignments.{Assignment, value_of}
 use Rattle.ps_steps.specs.Constraints.{Constraint, HasTerm, Forces, is_open, is_violated}

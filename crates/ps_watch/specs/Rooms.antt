@@ -1,5 +1,5 @@
 -- Room that is kept for watches.
-use Rattle.std.specs.Prelude.{ℕ, ◌+◌, ◌*◌, ◌≡◌, ◌≤◌, length, vec_len, vec_capacity}
+use Rattle.std.specs.Prelude.{ℕ, ◌+◌, ◌*◌, ◌≡◌, ◌≤◌, length, vec_capacity}
 use Rattle.ps_watch.specs.declared.visiting.Watches.{Watches}
 
 -- for how many watches there is room in all

@@ -11,7 +11,6 @@ use Rattle.ps_watch.specs.declared.scanning.State.TheVariants as state
 use Rattle.ps_watch.specs.declared.scanning.Scan.{Scan}
 use Rattle.ps_watch.specs.declared.scanning.Scan.TheVariants.{Violated, Forced, Idle}
 use Rattle.ps_watch.specs.declared.visiting.Watches.{Watches}
-use Rattle.ps_watch.specs.Watches.{number_at}
 
 -- the first literal that the constraint forces
 abbrev pub FirstForced : Constraint → Assignment → Option ℤ → Type 0

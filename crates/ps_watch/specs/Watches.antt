@@ -1,7 +1,7 @@
 -- Watched literals: of each clause of two or more literals, two are watched, and each literal has the list of its watches.
-use Rattle.std.specs.Prelude.{ℕ, ◌+◌, ◌*◌, ◌≡◌, ◌≢◌, ◌<◌, ◌≤◌, ℤ, pos, true}
-use Rattle.std.specs.Prelude.{false, if◌then◌else◌, Some, List, [], length, slice_index_or, slice_set, All, ◌⊎◌}
-use Rattle.ps_steps.specs.Assignments.{Assignment, place, is_positive, value_of, unset_count, Includes}
+use Rattle.std.specs.Prelude.{ℕ, ◌+◌, ◌*◌, ◌≡◌, ◌≢◌, ◌<◌, ℤ, pos, true}
+use Rattle.std.specs.Prelude.{false, if◌then◌else◌, Some, List, [], length, slice_index_or, slice_set, ◌⊎◌}
+use Rattle.ps_steps.specs.Assignments.{Assignment, place, is_positive, value_of, Includes}
 use Rattle.ps_steps.specs.Constraints.{Constraint, HasTerm}
 use Rattle.ps_steps.specs.Weights.{IsPlain, IsWithin}
 use Rattle.ps_steps.specs.Steps.{Known, constraint_at, known_of}

@@ -1,11 +1,11 @@
 -- Watching a clause.
-use Rattle.std.specs.Prelude.{ℕ, ◌+◌, ◌≡◌, ◌≢◌, ◌<◌, ◌≤◌, ℤ, true, false, Some, List, [], ◌∷◌, ◌++◌, length}
+use Rattle.std.specs.Prelude.{ℕ, ◌+◌, ◌≡◌, ◌≢◌, ℤ, true, false, Some, List, [], ◌∷◌, ◌++◌, length}
 use Rattle.ps_steps.specs.Assignments.{Assignment, value_of}
 use Rattle.ps_steps.specs.Constraints.{Constraint, HasTerm}
 use Rattle.ps_steps.specs.Weights.{IsPlain, IsWithin}
 use Rattle.ps_steps.specs.Steps.{Known, constraint_at}
 use Rattle.ps_watch.specs.declared.visiting.Watches.{Watches}
-use Rattle.ps_watch.specs.Links.{AreLinked, IsFree, list_at}
+use Rattle.ps_watch.specs.Links.{AreLinked, IsFree}
 use Rattle.ps_watch.specs.Watches.{IsKept, AreGood, list_of}
 
 -- two different literals of a clause

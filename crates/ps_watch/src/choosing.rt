@@ -4,7 +4,8 @@ ghost use Rattle.ps_steps.specs.Constraints.{is_open};
 ghost use Rattle.ps_steps.specs.Weights.{IsPlain};
 ghost use Rattle.ps_steps.specs.Steps.{known_of};
 ghost use Rattle.ps_learning.specs.Trails.{values};
-ghost use Rattle.ps_watch.specs.Choices.{some_open, IsOpenIn, IsFalseAtTop, IsFalseIn, ChoosesIn, Chooses};
+ghost use Rattle.ps_watch.specs.Choices.{some_open, IsOpenIn, IsFalseAtTop, IsFalseIn};
+ghost use Rattle.ps_watch.specs.Choices.{ChoosesIn, Chooses};
 
 use crate::looking::open_other;
 use ps_io::List;

@@ -1,5 +1,6 @@
 //! Known constraints, with what propagation has kept of them.
-ghost use Rattle.std.specs.Prelude.{◌≡◌, ◌≤◌, ◌<◌, ◌++◌, ◌∷◌, [], ℕ, take, false, is_none, length, nat_lt};
+ghost use Rattle.std.specs.Prelude.{◌≡◌, ◌≤◌, ◌<◌, ◌++◌, ◌∷◌, [], ℕ, take, false, is_none};
+ghost use Rattle.std.specs.Prelude.{length, nat_lt};
 ghost use Rattle.std.specs.Prelude.{◌+◌, ◌^◌, if◌then◌else◌};
 ghost use Rattle.std.specs.Prelude.{All, IfOk, OnErr, OnOk};
 ghost use Rattle.ps_pb.specs.declared.limits.TheConstants.{MOST_VARIABLES};
@@ -9,7 +10,8 @@ ghost use Rattle.ps_steps.specs.Steps.{known_of};
 ghost use Rattle.ps_learning.specs.Trails.{values, level, up_to, unset_count};
 ghost use Rattle.ps_learn.specs.Rest.{IsPropagated};
 ghost use Rattle.ps_watch.specs.Watches.{Extends};
-ghost use Rattle.ps_watch.specs.Keeping.{slack_seen, seen_to, IsInStep, HasSeen, IsOver, IsLearning, AreIdsTo};
+ghost use Rattle.ps_watch.specs.Keeping.{slack_seen, seen_to, IsInStep, HasSeen, IsOver};
+ghost use Rattle.ps_watch.specs.Keeping.{IsLearning, AreIdsFrom};
 
 use crate::propagating::propagate;
 use crate::sight::Sight;
@@ -48,11 +50,20 @@ impl Model for Kept {
     ghost Value = { Keeping };
 
     ghost view = { λ k. record {
-        variables = k.sight.seen.variables; known = k.known; goal = k.sight.goal;
-        seen = literals_of k.sight.seen.entries; settled = k.settled } };
+      variables = k.sight.seen.variables;
+      known = k.known;
+      goal = k.sight.goal;
+      seen = literals_of k.sight.seen.entries;
+      settled = k.settled;
+    } };
 
-    ghost invariant = { λ k. IsKeeping k.known k.w k.scanned.items k.waiting.items
-        (vec_capacity k.scanned) k.sight k.goal k.closed k.settled };
+    ghost invariant = { λ k. IsKeeping (record {
+      known = k.known;
+      watches = k.w;
+      scanned = k.scanned.items;
+      waiting = k.waiting.items;
+      capacity = vec_capacity k.scanned;
+    }) k.sight k.goal k.closed k.settled };
 }
 
 impl Kept {
@@ -89,8 +100,8 @@ impl Kept {
         &self.known
     }
 
-    /// Adds the clause of different literals at the end, and answers its id. It is no longer settled.
-    /// After `NoMemory` nothing has changed.
+    /// Adds the clause of different literals at the end, and answers its id. It is no longer
+    /// settled. After `NoMemory` nothing has changed.
     pub fn learn(&mut self, lits: &[Lit]) -> Result<u64, NoMemory>
         requires within { All (λ l. place l < self.old.variables) lits.now }
         requires once { AreDifferent lits.now }
@@ -109,9 +120,9 @@ impl Kept {
         Ok(id)
     }
 
-    /// Sets forced literals with their reasons. `Some` names a violated constraint; `None` comes where
-    /// no constraint is violated or forces a literal, and then it is settled. All of the trail has
-    /// been seen, or it was settled and one decided literal follows. It takes no memory.
+    /// Sets forced literals with their reasons. `Some` names a violated constraint; `None` comes
+    /// where no constraint is violated or forces a literal, and then it is settled. Before, all of
+    /// the trail has been seen, or it is settled and one decided literal follows. It takes no memory.
     pub fn propagate(&mut self, trail: &mut Trail) -> Option<u64>
         requires variables { trail.old.variables ≡ self.old.variables }
         requires in_step { IsInStep self.old trail.old }
@@ -123,7 +134,7 @@ impl Kept {
         ensures settled { self.new.settled ≡ is_none result }
     {
         // Called for their clauses: each literal is of another variable, and levels rise.
-        let _seen = self.sight.seen().entries();
+        let _seen = self.sight.trail().entries();
         let _set = trail.entries();
         let done = first_unseen(&self.sight, self.closed);
         let level = trail.level();
@@ -140,7 +151,7 @@ impl Kept {
         self.settled = found.is_none();
         self.closed = closed_after(&found, level);
         // The same of the literals that are set, and have been seen, now.
-        let _seen_now = self.sight.seen().entries();
+        let _seen_now = self.sight.trail().entries();
         let _set_now = trail.entries();
         found
     }
@@ -156,7 +167,7 @@ impl Kept {
         ensures settled { self.new.settled ≡ self.old.settled }
     {
         // Called for its clauses: levels rise.
-        let _seen = self.sight.seen().entries();
+        let _seen = self.sight.trail().entries();
         trail.cut_to(most);
         self.sight.cut_to(most);
     }
@@ -169,13 +180,14 @@ impl Kept {
     }
 }
 
-// The numbers of so many clauses, from 1 on.
+// The ids of so many clauses. They are linked from the last one of these on, so the first clause
+// comes last.
 fn ids_to(alloc: Global, clauses: usize) -> Result<Vec<u64>, NoMemory>
-    ensures { IfOk result (λ ids. AreIdsTo clauses ids.items) }
+    ensures { IfOk result (λ ids. AreIdsFrom clauses clauses ids.items) }
 {
     let mut ids = Vec::with_capacity(alloc, clauses)?;
     for place in 0..clauses {
-        ids.push(place as u64 + 1)?;
+        ids.push((clauses - place) as u64)?;
     }
     Ok(ids)
 }
@@ -183,10 +195,11 @@ fn ids_to(alloc: Global, clauses: usize) -> Result<Vec<u64>, NoMemory>
 // From where on the literals of a trail are to be gone through: after those that have been seen,
 // where the watches are good for them, and else from the first one.
 fn first_unseen(sight: &Sight, closed: u32) -> usize
-    ensures { result ≡ (if nat_lt (level sight.now.seen) closed then length sight.now.seen.entries else 0) }
+    ensures { result ≡ (if nat_lt (level sight.now.seen) closed
+        then length sight.now.seen.entries else 0) }
 {
-    if sight.seen().level() < closed {
-        sight.seen().entries().len()
+    if sight.trail().level() < closed {
+        sight.trail().entries().len()
     } else {
         0
     }

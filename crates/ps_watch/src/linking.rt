@@ -1,5 +1,6 @@
 //! Watching a constraint, where that may be.
-ghost use Rattle.std.specs.Prelude.{◌≡◌, ◌≤◌, ◌<◌, ◌+◌, true, Some, [], All, IfNone, IfSome, length};
+ghost use Rattle.std.specs.Prelude.{◌≡◌, ◌≤◌, ◌<◌, ◌+◌, ℕ, true, Some, [], All, IfNone, IfSome};
+ghost use Rattle.std.specs.Prelude.{length};
 ghost use Rattle.std.specs.Prelude.{vec_capacity};
 ghost use Rattle.ps_steps.specs.Assignments.{value_of};
 ghost use Rattle.ps_steps.specs.Constraints.{is_open};
@@ -8,7 +9,8 @@ ghost use Rattle.ps_steps.specs.Steps.{known_of};
 ghost use Rattle.ps_learning.specs.Trails.{values, level, IsLit, IsConflict};
 ghost use Rattle.ps_watch.specs.Rooms.{room_of, HasRoomFor, HasRoomForClauses};
 ghost use Rattle.ps_watch.specs.Watches.{IsKept, IsFiled, Extends};
-ghost use Rattle.ps_watch.specs.Linking.{CoversMore, HasLinked, IsForcedIfUnset, StayCovered};
+ghost use Rattle.ps_watch.specs.Linking.{CoversMore, HasLinked, IsForcedIfUnset};
+ghost use Rattle.ps_watch.specs.Scans.{AreCovered};
 
 use crate::choosing::{Choice, choose};
 use crate::visiting::Watches;
@@ -93,14 +95,15 @@ pub(crate) fn link_waiting(
     requires kept { IsKept trail.old.variables known.now w.old }
     requires filed { IsFiled trail.old.variables w.old }
     requires room { HasRoomForClauses w.old (length waiting.old.items) }
-    requires places { length scanned.old.items + length waiting.old.items ≤ vec_capacity scanned.old }
+    requires ids { length scanned.old.items + length waiting.old.items ≤ vec_capacity scanned.old }
     ensures linked { HasLinked known.now w.old trail.old w.new trail.new }
-    ensures covered { StayCovered (known_of known.now) w.old scanned.old.items waiting.old.items
-        w.new scanned.new.items waiting.new.items }
+    ensures covered { (goal : ℕ)
+        → AreCovered (known_of known.now) w.old scanned.old.items waiting.old.items goal
+        → AreCovered (known_of known.now) w.new scanned.new.items waiting.new.items goal }
     ensures none { IfNone result (waiting.new.items ≡ []) }
     ensures conflict { IfSome result (IsConflict (known_of known.now) (values trail.new)) }
     ensures room { HasRoomForClauses w.new (length waiting.new.items) }
-    ensures places { length scanned.new.items + length waiting.new.items ≤ vec_capacity scanned.new }
+    ensures ids { length scanned.new.items + length waiting.new.items ≤ vec_capacity scanned.new }
 {
     'link: while 0 < waiting.len() {
         let id = waiting[waiting.len() - 1];

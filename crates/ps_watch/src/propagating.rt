@@ -1,5 +1,6 @@
 //! Propagation.
-ghost use Rattle.std.specs.Prelude.{◌≡◌, ◌≤◌, ◌<◌, ◌+◌, Some, [], length, All, IfNone, vec_capacity};
+ghost use Rattle.std.specs.Prelude.{◌≡◌, ◌≤◌, ◌<◌, ◌+◌, Some, [], length, All, IfNone};
+ghost use Rattle.std.specs.Prelude.{vec_capacity};
 ghost use Rattle.ps_steps.specs.Weights.{IsWithin};
 ghost use Rattle.ps_steps.specs.Steps.{known_of, constraint_at};
 ghost use Rattle.ps_learning.specs.Trails.{values, level};
@@ -26,8 +27,8 @@ fn see_to(sight: &mut Sight, trail: &Trail, done: usize)
     ensures goal { sight.new.goal ≡ sight.old.goal }
     ensures seen { SeesTo sight.old.seen sight.new.seen trail.now done }
 {
-    'see: while sight.seen().entries().len() < done {
-        let place = sight.seen().entries().len();
+    'see: while sight.trail().entries().len() < done {
+        let place = sight.trail().entries().len();
         sight.see(&trail.entries()[place]);
     }
 }
@@ -99,20 +100,22 @@ pub(crate) fn propagate(
     done: usize,
 ) -> Option<u64>
     requires inside { All (IsWithin trail.old.variables) known.now }
-    requires covered { AreCovered (known_of known.now) w.old scanned.old.items waiting.old.items goal }
+    requires covered { AreCovered (known_of known.now) w.old scanned.old.items waiting.old.items
+        goal }
     requires kept { IsKept trail.old.variables known.now w.old }
     requires filed { IsFiled trail.old.variables w.old }
     requires room { HasRoomForClauses w.old (length waiting.old.items) }
-    requires places { length scanned.old.items + length waiting.old.items ≤ vec_capacity scanned.old }
+    requires ids { length scanned.old.items + length waiting.old.items ≤ vec_capacity scanned.old }
     requires done { done ≤ length trail.old.entries }
     requires good { IsGoodUpTo w.old trail.old done }
     requires goal { constraint_at (known_of known.now) goal ≡ Some sight.old.goal }
     requires seen { IsSeenOf sight.old.seen trail.old }
-    ensures covered { AreCovered (known_of known.now) w.new scanned.new.items waiting.new.items goal }
+    ensures covered { AreCovered (known_of known.now) w.new scanned.new.items waiting.new.items
+        goal }
     ensures kept { IsKept trail.old.variables known.now w.new }
     ensures filed { IsFiled trail.old.variables w.new }
     ensures room { HasRoomForClauses w.new (length waiting.new.items) }
-    ensures places { length scanned.new.items + length waiting.new.items ≤ vec_capacity scanned.new }
+    ensures ids { length scanned.new.items + length waiting.new.items ≤ vec_capacity scanned.new }
     ensures extends { Extends (known_of known.now) trail.old trail.new }
     ensures goal { sight.new.goal ≡ sight.old.goal }
     ensures seen { SeesTo sight.old.seen sight.new.seen trail.new 0 }

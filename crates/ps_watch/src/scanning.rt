@@ -90,8 +90,8 @@ pub(crate) fn scan_these(known: &List<Constraint>, ids: &[u64], a: &Assignment) 
     Scan::Idle
 }
 
-/// The first of these constraints that is violated or forces a literal; the goal, which has an id of
-/// its own, comes last.
+/// The first of these constraints that is violated or forces a literal; the goal, which has an id
+/// of its own, comes last.
 pub(crate) fn scan_all(
     known: &List<Constraint>,
     ids: &[u64],
@@ -105,7 +105,7 @@ pub(crate) fn scan_all(
     ensures { ScansAll (known_of known.now) ids.now goal a.now result }
 {
     match scan_these(known, ids, a) {
-        Scan::Idle => match sight.shown() {
+        Scan::Idle => match sight.state() {
             State::Violated => Scan::Violated(goal),
             State::Forced(lit) => Scan::Forced(lit, goal),
             State::Idle => Scan::Idle,

@@ -40,7 +40,10 @@ impl Sight {
     /// Nothing has been seen of a trail over so many variables.
     pub fn new(alloc: Global, goal: &Constraint, variables: u32) -> Result<Sight, NoMemory>
         requires { IsWithin variables goal.now }
-        ensures { IfOk result (λ s. s ≡ record { goal = goal.now; seen = record { variables = variables; entries = [] } }) }
+        ensures { IfOk result (λ s. s ≡ record {
+          goal = goal.now;
+          seen = record { variables = variables; entries = [] };
+        }) }
     {
         // Read for its clauses: the goal is in the form in which constraints are kept.
         let _terms = goal.terms();
@@ -58,7 +61,7 @@ impl Sight {
     }
 
     /// What has been seen.
-    pub fn seen(&self) -> &Trail
+    pub fn trail(&self) -> &Trail
         ensures { result.now ≡ self.now.seen }
     {
         &self.seen
@@ -93,13 +96,19 @@ impl Sight {
         // Called for its clauses: levels rise.
         let _entries = self.seen.entries();
         if most < self.seen.level() {
-            self.slack = slack_to(&self.goal, &self.coefficients, &self.seen, &self.slack, most);
+            self.slack = slack_to(
+                &self.goal,
+                &self.coefficients,
+                &self.seen,
+                &self.slack,
+                most,
+            );
             self.seen.cut_to(most);
         }
     }
 
     /// What the goal shows.
-    pub fn shown(&self) -> State
+    pub fn state(&self) -> State
         ensures { ScansOne self.now.goal (values self.now.seen) result }
     {
         if self.slack < 0 {

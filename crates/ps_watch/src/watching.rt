@@ -3,7 +3,8 @@ ghost use Rattle.std.specs.Prelude.{◌≡◌, ◌<◌, ◌≤◌, ◌+◌, ◌^
 ghost use Rattle.ps_steps.specs.Steps.{known_of};
 ghost use Rattle.ps_watch.specs.declared.links.TheConstants.{END};
 ghost use Rattle.ps_watch.specs.Links.{AreLinked};
-ghost use Rattle.ps_watch.specs.Rooms.{room_of, HasRoomFor, HasRoomForClauses, GrowsRoom, IsSameBut};
+ghost use Rattle.ps_watch.specs.Rooms.{room_of, HasRoomFor, HasRoomForClauses, GrowsRoom};
+ghost use Rattle.ps_watch.specs.Rooms.{IsSameBut};
 ghost use Rattle.ps_watch.specs.Watches.{IsKept, IsFiled};
 ghost use Rattle.ps_watch.specs.Watching.{IsPair, AddsPair, HasWatched, IsKeptForAny};
 

@@ -147,12 +147,7 @@ fn decide_one(draw: &mut Draw, trail: &mut Trail) -> Option<Lit>
 }
 
 // Learns a drawn clause, where its literals are of different variables.
-fn learn_one(
-    alloc: Global,
-    draw: &mut Draw,
-    kept: &mut Kept,
-    trail: &Trail,
-) -> Result<(), NoMemory>
+fn learn_one(alloc: Global, draw: &mut Draw, kept: &mut Kept, trail: &Trail) -> Result<(), NoMemory>
     requires { trail.now.variables ≡ kept.old.variables }
     ensures variables { OnOk result (kept.new.variables ≡ kept.old.variables) }
     ensures seen { OnOk result (kept.new.seen ≡ kept.old.seen) }
@@ -195,8 +190,8 @@ fn go_back(
     Ok(None)
 }
 
-// Propagates, and then decides or goes back. Some says whether all was as it is to be where the case
-// ends.
+// Propagates, and then decides or goes back. Some says whether all was as it is to be where the
+// case ends.
 fn make_move(
     alloc: Global,
     draw: &mut Draw,
@@ -230,7 +225,8 @@ fn make_move(
     }
 }
 
-// Whether each propagation of a drawn case is as by passes, and the slack as a sum that is made anew.
+// Whether each propagation of a drawn case is as by passes, and the slack as a sum that is made
+// anew.
 fn is_alike(alloc: Global, draw: &mut Draw) -> Result<bool, NoMemory> {
     let form = drawn_form(alloc, draw)?;
     let goal = drawn_goal(alloc, draw)?;

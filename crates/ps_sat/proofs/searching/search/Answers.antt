@@ -30,6 +30,6 @@ pub returns-in_err-begin-clause-logged : goal.returns-in_err-begin-clause-logged
 returns-in_err-begin-clause-logged g c = logged-stays c.args.base.now c.args.goal.now c.args.conflicts _ _ c.from_residual-in_err-begin.result c.from_residual-in_err-begin.ensures.0 c.in_err-begin.ensures.err
 
 pub returns-in_err-begin-clause-counted : goal.returns-in_err-begin-clause-counted
-returns-in_err-begin-clause-counted g c = 
+returns-in_err-begin-clause-counted g c =
     let counted = c.in_err-begin.ensures.counted in
     counts-err _ _ _ _ _ c.from_residual-in_err-begin.ensures.0 c.from_residual-in_err-begin.ensures.1 refl counted.later counted.err

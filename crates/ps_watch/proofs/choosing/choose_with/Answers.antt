@@ -1,4 +1,3 @@
-use Rattle.std.proofs.Common.{sym}
 use Rattle.ps_watch.proofs.Chosen.{open-pair, last-pair}
 use Rattle.ps_watch.proofs.choosing.choose_with.Goals as goal
 

@@ -1,5 +1,4 @@
-use Rattle.std.proofs.Common.{◌≡◌, ◌∙◌, ◌<◌, length, Some, None, sym, subst, arith}
-use Rattle.ps_learning.specs.Trails.{Trail, AreFresh}
+use Rattle.std.proofs.Common.{◌∙◌, ◌<◌, length, subst, arith}
 use Rattle.ps_learning.proofs.Counting.{counted}
 use Rattle.ps_watch.specs.Going.{HasGone}
 use Rattle.ps_watch.proofs.Followed.{now-false, opposite-within, followed-stop, followed-next}

@@ -1,6 +1,5 @@
-use Rattle.std.proofs.Common.{◌≡◌, ◌∙◌, ◌+◌, ◌*◌, ◌≤◌, ◌<◌, suc, ◌-◌, take, get_or, length, List, ℕ, arith, ap, sym, subst}
+use Rattle.std.proofs.Common.{◌≡◌, ◌∙◌, ◌+◌, ◌*◌, ◌<◌, suc, ◌-◌, get_or, length, arith, ap, sym}
 use Rattle.ps_steps.specs.Steps.{known_of}
-use Rattle.ps_watch.specs.Linking.{StayCovered}
 use Rattle.ps_watch.proofs.Attached.{linked-then, covered-last, front-size}
 use Rattle.ps_watch.proofs.Linked.{read-at}
 use Rattle.ps_watch.proofs.Rooms.{room-less}
@@ -13,9 +12,9 @@ link-preserved c =
     let n = c.len-in-link-2.result - 1 in
     let size : length c.link.waiting.items ≡ suc n = omega (arith, c.link-test.true, c.len.ensures, c.len-in-link-2.ensures, c.link.waiting.ok.0) in
     let last : c.index-id.result.now ≡ get_or c.link.waiting.items n 0 =
-        (let same : c.len-in-link.result - 1 ≡ n = omega (arith, c.len-in-link.ensures, c.len-in-link-2.ensures) in
-        let inside : c.len-in-link.result - 1 < length c.link.waiting.items = omega (arith, same, size) in
-        sym (read-at c.link.waiting.items (c.len-in-link.result - 1) c.index-id.result.now 0 inside c.index-id.ensures) ∙ ap (λ i. get_or c.link.waiting.items i 0) same) in
+    (let same : c.len-in-link.result - 1 ≡ n = omega (arith, c.len-in-link.ensures, c.len-in-link-2.ensures) in
+    let inside : c.len-in-link.result - 1 < length c.link.waiting.items = omega (arith, same, size) in
+    sym (read-at c.link.waiting.items (c.len-in-link.result - 1) c.index-id.result.now 0 inside c.index-id.ensures) ∙ ap (λ i. get_or c.link.waiting.items i 0) same) in
     let less : length c.truncate.new.self.items ≡ n = ap length c.truncate.ensures.items ∙ front-size c.link.waiting.items n size in
     record {
       linked = linked-then c.args.known.now c.args.w.now c.args.trail.now c.link.w c.link.trail c.link-in-link.new.w c.link-in-link.new.trail inv.linked step.linked;

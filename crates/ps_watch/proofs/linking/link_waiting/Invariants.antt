@@ -1,7 +1,8 @@
 use Rattle.std.proofs.Common.{◌+◌, ◌≤◌, length, vec_capacity}
 use Rattle.ps_steps.specs.Steps.{known_of}
 use Rattle.ps_watch.specs.Rooms.{HasRoomForClauses}
-use Rattle.ps_watch.specs.Linking.{HasLinked, StayCovered}
+use Rattle.ps_watch.specs.Linking.{HasLinked}
+use Rattle.ps_watch.proofs.Attached.{StayCovered}
 use Rattle.ps_watch.proofs.linking.link_waiting.Given as goal
 
 abbrev pub invariant-link : goal.invariant-link

@@ -1,4 +1,4 @@
-use Rattle.std.proofs.Common.{◌≡◌, ◌∙◌, sym, Some}
+use Rattle.std.proofs.Common.{◌≡◌, sym, Some}
 use Rattle.ps_steps.specs.Steps.{known_of, constraint_at}
 use Rattle.ps_watch.proofs.Rested.{known-fresh}
 use Rattle.ps_watch.proofs.scanning.show_at.Goals as goal

@@ -1,6 +1,6 @@
-use Rattle.std.proofs.Common.{◌≡◌, ◌∙◌, ◌-◌, ◌+◌, ◌<◌, ℤ, length, ap, sym, subst, arith, not, true, false, is_some}
+use Rattle.std.proofs.Common.{◌≡◌, ◌∙◌, ◌-◌, ◌+◌, ◌<◌, length, ap, sym, subst, arith}
 use Rattle.std.proofs.lemmas.Int.{ints}
-use Rattle.ps_steps.specs.Assignments.{is_unset, value_of}
+use Rattle.ps_steps.specs.Assignments.{is_unset}
 use Rattle.ps_steps.specs.Weights.{IsNormal, weighted}
 use Rattle.ps_watch.proofs.Slacks.{AreUnforcedFrom, sorted-term, sorted-forces, none-below, none-forced, unforced-more, none-unset, some-set}
 use Rattle.ps_watch.proofs.sight.last_forced.Goals as goal
@@ -19,9 +19,11 @@ pub returns-then-is_none : goal.returns-then-is_none
 returns-then-is_none c =
     let g = c.args.goal.now in
     let normal : IsNormal (weighted g.terms) g.degree = subst (λ ts. IsNormal ts g.degree) c.terms-terms.ensures.value c.terms-terms.ensures.normal in
-    let less : c.back.left - 1 < length c.args.terms.now = omega (arith, c.back-test.true, c.back.invariant.within) in
-    (sorted-forces g c.args.a.now c.args.room.now c.args.terms.now (c.back.left - 1) c.index-terms-left.result normal c.requires.terms c.requires.room less c.index-terms-left.is (omega (arith, ints, c.if-term-room.false))
-    (ap is_unset (sym c.value_of.ensures) ∙ none-unset c.value_of.result (c.if-is_none.ensures)), omega (arith, c.variable-variable.ensures.value, c.variable-variable.ensures.within.0))
+    let less : c.back.left - 1 < length c.args.terms.now = omega (arith, c.back-test.true, c.back.invariant.within) in (
+      sorted-forces g c.args.a.now c.args.room.now c.args.terms.now (c.back.left - 1) c.index-terms-left.result normal c.requires.terms c.requires.room less c.index-terms-left.is (omega (arith, ints, c.if-term-room.false))
+          (ap is_unset (sym c.value_of.ensures) ∙ none-unset c.value_of.result (c.if-is_none.ensures)),
+      omega (arith, c.variable-variable.ensures.value, c.variable-variable.ensures.within.0),
+    )
 
 pub returns : goal.returns
 returns c =

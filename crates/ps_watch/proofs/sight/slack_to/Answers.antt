@@ -1,13 +1,11 @@
-use Rattle.std.proofs.Common.{◌≡◌, ◌∙◌, ◌-◌, ◌+◌, ◌<◌, ◌≤◌, ℤ, to_z, Some, take, length, ap, sym, subst, arith}
+use Rattle.std.proofs.Common.{◌≡◌, ◌∙◌, ◌-◌, ◌+◌, ◌<◌, ◌≤◌, to_z, Some, take, length, ap, sym, subst, arith}
 use Rattle.std.specs.Prelude.{slice_get}
 use Rattle.std.proofs.lemmas.Int.{ints}
 use Rattle.std.proofs.lemmas.Option.{slice_get_read}
 use Rattle.ps_steps.specs.Assignments.{place}
 use Rattle.ps_steps.specs.Constraints.{slack}
-use Rattle.ps_steps.specs.Weights.{IsNormal, weighted}
-use Rattle.ps_learning.specs.Trails.{Trail, TrailEntry, values, values_of, decisions, IsFresh}
-use Rattle.ps_learning.proofs.Entries.{length-values, values-more}
-use Rattle.ps_watch.specs.Going.{values_to}
+use Rattle.ps_steps.specs.Weights.{IsNormal}
+use Rattle.ps_learning.specs.Trails.{TrailEntry, decisions}
 use Rattle.ps_watch.specs.Watches.{slot_of}
 use mir.Syntax.{w128}
 use Rattle.ps_watch.proofs.Slacks.{slot-read}

@@ -1,7 +1,7 @@
 use Rattle.std.proofs.Common.{arith, refl}
 use Rattle.ps_learning.specs.Trails.{values}
-use Rattle.ps_watch.proofs.Visited.{put-spare, put-kept, put-listed, put-good, moved-kept, moved-listed, moved-spare}
-use Rattle.ps_watch.proofs.Reading.{are-read, other-small, read-clause, read-new, read-good, read-placed, stays-placed, slot-within, own-within, fresh-other, extends-implied, shows-reason, forces-placed, shows-conflict}
+use Rattle.ps_watch.proofs.Visited.{put-spare, moved-kept, moved-spare}
+use Rattle.ps_watch.proofs.Reading.{are-read, other-small, read-clause, read-new, read-good, read-placed, stays-placed, slot-within, own-within, fresh-other, extends-implied, shows-reason, forces-placed}
 use Rattle.ps_watch.proofs.visiting.visit.Goals as goal
 
 pub index-requires-2 : goal.index-requires-2

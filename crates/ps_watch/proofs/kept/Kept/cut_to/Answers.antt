@@ -1,4 +1,4 @@
-use Rattle.std.proofs.Common.{◌≡◌, ◌∙◌, ap, subst, vec_capacity}
+use Rattle.std.proofs.Common.{◌∙◌, ap, subst, vec_capacity}
 use Rattle.ps_learning.specs.Trails.{Trail, AreLevels}
 use Rattle.ps_watch.specs.Sights.{literals_of}
 use Rattle.ps_watch.specs.Keeping.{Keeping, seen_to}
@@ -9,7 +9,7 @@ use Rattle.ps_watch.proofs.kept.Kept.cut_to.Goals as goal
 pub invariant_of-self : goal.invariant_of-self
 invariant_of-self c =
     let s = c.self.inside in
-    keeping-cut s.known s.w s.scanned.items s.waiting.items (vec_capacity s.scanned) s.sight c.cut_to-2.new.self s.goal s.closed s.settled c.args.most c.self.invariant (subst (λ (z : Trail). AreLevels z.entries) c.seen.ensures c.entries-seen.ensures.levels) c.cut_to-2.ensures.goal c.cut_to-2.ensures.seen
+    keeping-cut s.known s.w s.scanned.items s.waiting.items (vec_capacity s.scanned) s.sight c.cut_to-2.new.self s.goal s.closed s.settled c.args.most c.self.invariant (subst (λ (z : Trail). AreLevels z.entries) c.trail.ensures c.entries-seen.ensures.levels) c.cut_to-2.ensures.goal c.cut_to-2.ensures.seen
 
 pub returns-clause-seen : goal.returns-clause-seen
 returns-clause-seen c =

@@ -1,11 +1,9 @@
-use Rattle.std.proofs.Common.{◌≡◌, ◌∙◌, ◌+◌, ◌≤◌, ◌++◌, ◌∷◌, [], false, List, All, length, arith, ap, sym, subst, vec_capacity}
+use Rattle.std.proofs.Common.{◌≡◌, ◌∙◌, ◌+◌, ◌++◌, ◌∷◌, [], false, All, length, arith, ap, sym, subst, vec_capacity}
 use Rattle.ps_steps.specs.Constraints.{Constraint}
 use Rattle.ps_steps.specs.Weights.{IsWithin}
 use Rattle.ps_forms.specs.Forms.{Form}
-use Rattle.ps_watch.specs.Rooms.{HasRoomForClauses}
 use Rattle.ps_watch.specs.Watches.{IsKept, IsFiled}
-use Rattle.ps_watch.specs.Keeping.{IsKeeping}
-use Rattle.ps_watch.proofs.Keeping.{keeping-first}
+use Rattle.ps_watch.proofs.Keeping.{IsKeeping, keeping-first}
 use Rattle.ps_watch.proofs.kept.Kept.new.Goals as goal
 
 pub invariant_of-result : goal.invariant_of-result

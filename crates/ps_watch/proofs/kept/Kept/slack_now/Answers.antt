@@ -1,9 +1,8 @@
-use Rattle.std.proofs.Common.{◌≡◌, ◌∙◌, ℤ, ap, sym, to_z, of_z, arith}
-use mir.Syntax.{w128}
+use Rattle.std.proofs.Common.{◌≡◌, ◌∙◌, ap, arith}
 use Rattle.std.proofs.lemmas.Int.{ints}
 use Rattle.ps_steps.specs.Constraints.{slack}
 use Rattle.ps_watch.proofs.Sighted.{values-literals}
-use Rattle.ps_watch.specs.Keeping.{Keeping, slack_seen}
+use Rattle.ps_watch.specs.Keeping.{slack_seen}
 use Rattle.ps_watch.proofs.kept.Kept.slack_now.Goals as goal
 
 pub returns : goal.returns

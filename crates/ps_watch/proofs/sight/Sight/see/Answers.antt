@@ -1,9 +1,9 @@
-use Rattle.std.proofs.Common.{◌≡◌, ◌∙◌, ℤ, Some, None, neg_ℤ, ap, sym, subst, arith}
+use Rattle.std.proofs.Common.{◌∙◌, ap, arith}
 use Rattle.std.proofs.lemmas.Int.{ints}
-use Rattle.ps_learning.specs.Trails.{TrailEntry, values, decisions}
+use Rattle.ps_learning.specs.Trails.{values}
 use Rattle.ps_learning.proofs.Entries.{values-append, length-values}
 use Rattle.ps_watch.specs.Watches.{slot_of}
-use Rattle.ps_watch.proofs.Slacks.{IsLess, seen-less, sight-more}
+use Rattle.ps_watch.proofs.Slacks.{seen-less, sight-more}
 use Rattle.ps_watch.proofs.Sighted.{fresh-view}
 use Rattle.ps_watch.proofs.sight.Sight.see.Goals as goal
 
