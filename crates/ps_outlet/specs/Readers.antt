@@ -1,5 +1,6 @@
 -- Whether the reader of what is written has gone.
-use Rattle.std.specs.Prelude.{◌≡◌, ◌≢◌, Bool, true, Result, Ok, Err}
+use Rattle.std.specs.Prelude.{◌≡◌, ◌≢◌, ℕ, Bool, true, List, Option, Result, Ok, Err}
+use Rattle.std.specs.Io.KnownBytes.{WriteAppends}
 use Rattle.std.specs.declared.io.ErrorKind.TheVariants.{BrokenPipe}
 use Rattle.std.specs.IoError.{error_kind}
 use Rattle.std.specs.declared.io.Error.{Error}
@@ -22,3 +23,7 @@ pub record IsKnownBehind (e : Error) (old new : Bool) : Type 0 where
 abbrev pub Notes : {T : Type 0} → Result T Error → Bool → Bool → Type 0
 Notes (Ok x) old new = new ≡ old
 Notes (Err e) old new = IsKnownBehind e old new
+
+-- a write by an outlet adds to what its writer holds, by what is told of that
+abbrev pub Writes : {W : Type 0} → (W → Option (List ℕ)) → Outlet W → Outlet W → Result ℕ Error → List ℕ → Type 0
+Writes contents old new result bytes = WriteAppends (contents (writer_of old)) (contents (writer_of new)) result bytes

@@ -1,8 +1,8 @@
 //! A writer that notes whether its reader has gone.
 ghost use Rattle.std.specs.Prelude.{◌≡◌, false};
 ghost use Rattle.std.specs.Io.{WritesAtMost};
-ghost use Rattle.std.specs.Io.KnownBytes.{Keeps, WriteAppends};
-ghost use Rattle.ps_outlet.specs.Readers.{IsKnownBehind, Notes, has_left, writer_of};
+ghost use Rattle.std.specs.Io.KnownBytes.{Keeps};
+ghost use Rattle.ps_outlet.specs.Readers.{IsKnownBehind, Notes, Writes, has_left, writer_of};
 
 use std::io::{self, ErrorKind, Write};
 
@@ -47,8 +47,7 @@ impl<W: Write> Write for Outlet<W> {
 
     fn write(&mut self, buf: &[u8]) -> io::Result<usize>
         ensures bound { WritesAtMost result buf.now }
-        ensures bytes { WriteAppends (W.contents (writer_of self.old))
-            (W.contents (writer_of self.new)) result buf.now }
+        ensures bytes { Writes W.contents self.old self.new result buf.now }
         ensures noted { Notes result (has_left self.old) (has_left self.new) }
     {
         match self.writer.write(buf) {

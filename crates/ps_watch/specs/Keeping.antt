@@ -1,6 +1,7 @@
 -- Known constraints, and what has been seen of a trail.
 use Rattle.std.specs.Prelude.{ℕ, ◌≡◌, ◌≤◌, ◌<◌, ◌+◌, ◌-◌, ℤ, Bool, false, IsTrue, Option, Some, None, Result, Ok, Err, ⊤}
-use Rattle.std.specs.Prelude.{List, [], ◌∷◌, ◌++◌, length, take, slice_index_or, nat_le, fold, All, ◌⊎◌}
+use Rattle.std.specs.Prelude.{List, [], ◌∷◌, ◌++◌, length, take, slice_index_or, nat_le, nat_lt, fold, All, ◌⊎◌}
+use Rattle.std.specs.Prelude.{if◌then◌else◌}
 use Rattle.std.specs.List.{filter}
 use Rattle.ps_pb.specs.declared.limits.TheConstants.{MOST_VARIABLES}
 use Rattle.ps_steps.specs.Assignments.{Assignment, with_true, all_unset}
@@ -98,6 +99,10 @@ pub record Store : Type 0 where
   pub scanned : List ℕ
   pub waiting : List ℕ
   pub capacity : ℕ
+
+-- so many of the literals that have been seen have been gone through: all, where the watches are good at their last level
+abbrev pub gone_through : Sighting → ℕ → ℕ
+gone_through s closed = if nat_lt (level s.seen) closed then length s.seen.entries else 0
 
 -- how constraints are kept: each is watched, scanned, waiting or the goal, there is room for those that wait, and at each level
 -- below this one the watches are good for what has been seen; where it is settled, at each of its levels

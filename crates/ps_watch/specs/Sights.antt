@@ -17,6 +17,10 @@ pub record Sighting : Type 0 where
   pub goal : Constraint
   pub seen : Trail
 
+-- nothing has been seen of a trail over so many variables
+abbrev pub unseen : Constraint → ℕ → Sighting
+unseen goal variables = record { goal = goal; seen = record { variables = variables; entries = [] } }
+
 -- the trail with one entry more
 abbrev pub with_entry : Trail → TrailEntry → Trail
 with_entry t e = record { variables = t.variables; entries = t.entries ++ e ∷ [] }

@@ -11,7 +11,7 @@ ghost use Rattle.ps_learning.specs.Trails.{values, level, up_to, unset_count};
 ghost use Rattle.ps_learn.specs.Rest.{IsPropagated};
 ghost use Rattle.ps_watch.specs.Watches.{Extends};
 ghost use Rattle.ps_watch.specs.Keeping.{slack_seen, seen_to, IsInStep, HasSeen, IsOver};
-ghost use Rattle.ps_watch.specs.Keeping.{IsLearning, AreIdsFrom};
+ghost use Rattle.ps_watch.specs.Keeping.{IsLearning, AreIdsFrom, gone_through};
 
 use crate::propagating::propagate;
 use crate::sight::Sight;
@@ -195,8 +195,7 @@ fn ids_to(alloc: Global, clauses: usize) -> Result<Vec<u64>, NoMemory>
 // From where on the literals of a trail are to be gone through: after those that have been seen,
 // where the watches are good for them, and else from the first one.
 fn first_unseen(sight: &Sight, closed: u32) -> usize
-    ensures { result ≡ (if nat_lt (level sight.now.seen) closed
-        then length sight.now.seen.entries else 0) }
+    ensures { result ≡ gone_through sight.now closed }
 {
     if sight.trail().level() < closed {
         sight.trail().entries().len()

@@ -89,6 +89,7 @@ pub(crate) fn link_waiting(
     w: &mut Watches,
     scanned: &mut Vec<u64>,
     waiting: &mut Vec<u64>,
+    goal: u64,
     trail: &mut Trail,
 ) -> Option<u64>
     requires inside { All (IsWithin trail.old.variables) known.now }
@@ -96,15 +97,18 @@ pub(crate) fn link_waiting(
     requires filed { IsFiled trail.old.variables w.old }
     requires room { HasRoomForClauses w.old (length waiting.old.items) }
     requires ids { length scanned.old.items + length waiting.old.items ≤ vec_capacity scanned.old }
+    requires covered { AreCovered (known_of known.now) w.old scanned.old.items
+        waiting.old.items goal }
     ensures linked { HasLinked known.now w.old trail.old w.new trail.new }
-    ensures covered { (goal : ℕ)
-        → AreCovered (known_of known.now) w.old scanned.old.items waiting.old.items goal
-        → AreCovered (known_of known.now) w.new scanned.new.items waiting.new.items goal }
+    ensures covered { AreCovered (known_of known.now) w.new scanned.new.items
+        waiting.new.items goal }
     ensures none { IfNone result (waiting.new.items ≡ []) }
     ensures conflict { IfSome result (IsConflict (known_of known.now) (values trail.new)) }
     ensures room { HasRoomForClauses w.new (length waiting.new.items) }
     ensures ids { length scanned.new.items + length waiting.new.items ≤ vec_capacity scanned.new }
 {
+    // The goal is named for the contract alone.
+    let _goal = goal;
     'link: while 0 < waiting.len() {
         let id = waiting[waiting.len() - 1];
         if let Some(id) = link(known, w, scanned, trail, id) {

@@ -125,7 +125,7 @@ pub(crate) fn propagate(
     ensures shut { IfNone result
         (StayClosed w.old trail.old w.new trail.new (level trail.old + 1)) }
 {
-    if let Some(id) = link_waiting(known, w, scanned, waiting, trail) {
+    if let Some(id) = link_waiting(known, w, scanned, waiting, goal, trail) {
         return Some(id);
     }
     let mut done = done;

@@ -4,6 +4,7 @@ ghost use Rattle.ps_steps.specs.Weights.{IsWithin};
 ghost use Rattle.ps_steps.specs.Constraints.{slack};
 ghost use Rattle.ps_learning.specs.Trails.{values, up_to, IsFresh, level};
 ghost use Rattle.ps_watch.specs.Sights.{with_entry, IsNext, AreCoefficients, AreByCoefficient};
+ghost use Rattle.ps_watch.specs.Sights.{unseen};
 ghost use Rattle.ps_watch.specs.Scans.{ScansOne, FirstForced};
 
 use crate::scanning::State;
@@ -40,10 +41,7 @@ impl Sight {
     /// Nothing has been seen of a trail over so many variables.
     pub fn new(alloc: Global, goal: &Constraint, variables: u32) -> Result<Sight, NoMemory>
         requires { IsWithin variables goal.now }
-        ensures { IfOk result (λ s. s ≡ record {
-          goal = goal.now;
-          seen = record { variables = variables; entries = [] };
-        }) }
+        ensures { IfOk result (λ s. s ≡ unseen goal.now variables) }
     {
         // Read for its clauses: the goal is in the form in which constraints are kept.
         let _terms = goal.terms();
