@@ -1,0 +1,4 @@
+pub mod PartialLines
+pub mod SearchedBytes
+pub mod ReportsSoFar
+pub mod InputsSoFar
