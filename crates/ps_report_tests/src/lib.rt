@@ -1,4 +1,5 @@
-//! Tests of the crates that write, read and judge reports: constraints, logs, lines, whole reports, claims, reports line by line.
+//! Tests of the crates that write, read and judge reports: constraints, logs, lines, whole reports,
+//! claims, and reports line by line.
 #![tactic(auto)]
 
 #[cfg(test)]
