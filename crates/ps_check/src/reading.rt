@@ -13,7 +13,7 @@ use ps_io::{LONGEST_READ, ReadAllError, Source};
 use std::alloc::Global;
 
 // What is found at the end of the bytes.
-fn finished(alloc: Global, intake: Intake) -> Result<Checked, ReadAllError>
+fn end_of_bytes(alloc: Global, intake: Intake) -> Result<Checked, ReadAllError>
     requires sound { IsSound intake }
     ensures found { IfOk result (IsFound intake) }
     ensures err { OnErr result (result ≡ Err errors.NoMemory) }
@@ -45,7 +45,7 @@ pub fn check_stream<I: Source>(
             Err(_) => return Err(ReadAllError::Fault),
         };
         if n == 0 {
-            return finished(alloc, intake);
+            return end_of_bytes(alloc, intake);
         }
         if limit - taken < n as u64 {
             return Err(ReadAllError::TooLong { limit });
