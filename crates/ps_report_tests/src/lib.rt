@@ -19,4 +19,6 @@ mod report_writing;
 #[cfg(test)]
 mod streamed;
 #[cfg(test)]
+mod streamed_inputs;
+#[cfg(test)]
 mod validity;

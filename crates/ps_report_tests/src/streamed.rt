@@ -11,7 +11,7 @@ use ps_valid::{Accepted, Refusal};
 use std::alloc::Global;
 
 // Problems, reports, the first line at fault and its kind.
-const FAULTY: [(&[u8], &[u8], LineKind, u64); 9] = [
+pub(crate) const FAULTY: [(&[u8], &[u8], LineKind, u64); 9] = [
     (HALF_ASKED, b"", LineKind::Truncated, 1),
     (HALF_ASKED, b"report 1", LineKind::Truncated, 1),
     (HALF_ASKED, b"report 1\n", LineKind::Truncated, 2),
