@@ -74,7 +74,7 @@ reduced_of (Stated s ∷ is) h = All-cons HasReducedValues (Stated s) is (h.0.2,
 reduced_of (Asked q ∷ is) h = All-cons HasReducedValues (Asked q) is tt (reduced_of is h.1)
 
 -- so a problem that bytes spell is in order
-spelled_parts : (bytes : List ℕ) (p : Parts) (place : ℕ) → SpellsProblem bytes p place → AreParts p
+pub spelled_parts : (bytes : List ℕ) (p : Parts) (place : ℕ) → SpellsProblem bytes p place → AreParts p
 spelled_parts bytes p place s =
     subst AreParts (sym s.made.problem) (parts-in-order s.items s.made.formulas (reduced_of s.items (front_lawful bytes s.items place s.front)) s.made.within)
 

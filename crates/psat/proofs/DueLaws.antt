@@ -13,7 +13,6 @@ use Rattle.ps_read.specs.declared.read_error.ReadError.TheVariants as unread
 use Rattle.ps_text.specs.declared.kind.ReadKind.{ReadKind}
 use Rattle.ps_read.specs.Readings.{SpellsWhole, IsUnread, IsUnreadWhole}
 use Rattle.ps_read.specs.Reads.{Tells}
-use Rattle.ps_reader.specs.Errors.{TellsFault}
 use Rattle.ps_claims.specs.Claims.{claims_of}
 use Rattle.ps_valid.specs.declared.refusal.Accepted.{Accepted}
 use Rattle.ps_valid.specs.declared.refusal.Refusal.{Refusal}
@@ -42,9 +41,6 @@ use Rattle.psat.proofs.CommandLaws.{one_command}
 use Rattle.psat.specs.Runs.{CountsReads, IsTold, WasRead, Took, HasAnswered, HasTaken, HasRead, Wrote}
 use Rattle.psat.specs.Replies.{AreWithin, DueBytes, IsDueFor, IsDue}
 
-pub rest-is : (n : ℕ) (bs : List ℕ) → take (length bs - n) (drop n bs) ≡ drop n bs
-rest-is n bs = take_all (length bs - n) (drop n bs) (omega (arith, length-drop n bs))
-
 -- what is due for what a check answered of the report's answer
 pub judged-accepted : (p : Parts) (a : Answer) (accepted : Accepted) (o : Output) → IsAccepted p a accepted → IsRightOf p a
     → o ≡ due.accepted accepted.claims accepted.unfinished → DueAnswer p a o
@@ -53,17 +49,6 @@ judged-accepted p a accepted o is right shown =
 
 pub judged-refused : (p : Parts) (a : Answer) (e : CheckError) (r : Refusal) (o : Output) → e ≡ Refused r → IsJudged p a (Err e) → o ≡ due.refused r.claim r.reason → DueAnswer p a o
 judged-refused p a e r o is judged shown = let first = rw is at judged in due.RefusedFor r.claim r.reason first shown
-
--- for a report that isn't read
-pub report-fault : (p : Parts) (rest : List ℕ) (e : ReportError) (kind : LineKind) (n : ℕ) (o : Output) → e ≡ errors.At kind n → TellsFault rest e → o ≡ refused_line kind n → DueReport p rest o
-report-fault p rest e kind n o is told shown = let fault = rw is at told in FaultAt kind n fault shown
-
--- and for a problem that isn't read
-pub problem-unread : (bytes front : List ℕ) (e : ReadError) (kind : ReadKind) (l k : ℕ) (o : Output) → front ≡ searched bytes → e ≡ unread.At kind l k → Tells (IsUnread front) e
-    → o ≡ unreadable kind (record { line = l; column = k }) → DueText bytes o
-problem-unread bytes front e kind l k o same is told shown =
-    let at = rw is at told in
-    NotRead kind (record { line = l; column = k }) (subst (λ (x : List ℕ). IsUnread x kind (record { line = l; column = k })) same at) shown
 
 -- all bytes that were left were taken
 whole-is : (most : ℕ) (old new : Option (List ℕ)) (taken bytes : List ℕ) → ReadAll most old new taken → old ≡ Some bytes → taken ≡ bytes

@@ -7,6 +7,7 @@ pub mod DueLaws
 pub mod OneOutput
 pub mod Behind
 pub mod Accepted
+pub mod FoundInputs
 pub mod RunLaws
 pub mod OpenParts
 pub mod EnoughPivots

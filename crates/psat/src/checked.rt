@@ -1,71 +1,54 @@
-//! The message for an input.
-ghost use Rattle.std.specs.Prelude.{◌≡◌, ◌+◌, ◌<◌, ◌≤◌, ◌^◌, length, IfOk};
-ghost use Rattle.ps_valid.specs.Limits.{IsSmallAnswer};
-ghost use Rattle.psat.specs.Due as due;
-ghost use Rattle.psat.specs.Due.{DueAnswer, DueReport, DueText};
-ghost use Rattle.psat.specs.Replies.{message_output};
+//! The reply to an input with a report.
+ghost use Rattle.std.specs.Prelude.{ℕ, List, IfOk};
+ghost use Rattle.ps_check.specs.Checks.{IsFoundIn};
+ghost use Rattle.psat.specs.Due.{DueText};
+ghost use Rattle.psat.specs.Replies.{IsDueFor, IsShortReply, message_output, output_of};
+ghost use Rattle.psat.specs.Replies.{reply_status, status_of};
+ghost use Rattle.psat.specs.Runs.{CountsReads, Took};
 ghost use Rattle.psat.specs.Statuses.{EndsCheck};
 
+use crate::command::Command;
 use crate::message::Message;
-use ps_answer::{Answer, ReportError};
-use ps_io::NoMemory;
-use ps_problem::Problem;
-use ps_read::{ReadError, read_problem};
-use ps_reader::read_report;
-use ps_valid::{CheckError, check};
+use crate::reply::Reply;
+use crate::reply_error::ReplyError;
+use ps_check::{Checked, check_stream};
+use ps_io::{NoMemory, ReadAllError, Source};
 use std::alloc::Global;
 
 /// The most bytes in which a problem is looked for: one fewer than a line or a column can number.
-pub const MOST_SEARCHED: usize = (1 << 32) - 2;
+pub const MOST_SEARCHED: usize = ps_check::MOST_SEARCHED;
 
-// The message for the answer of a report.
-fn answer_claims(alloc: Global, problem: &Problem, answer: &Answer) -> Result<Message, NoMemory>
-    requires limits { IsSmallAnswer answer.now }
-    ensures due { IfOk result (λ r. DueAnswer problem.now answer.now (message_output r)) }
+// The message for what is found of an input.
+fn message_of(alloc: Global, found: Checked) -> Result<Message, NoMemory>
+    // It is due for each input of which this is found.
+    ensures due { IfOk result (λ r.
+        (bytes : List ℕ) → IsFoundIn bytes found → DueText bytes (message_output r)) }
     ensures status { IfOk result (λ r. EndsCheck r.status) }
 {
-    match check(alloc, problem, answer) {
-        Ok(accepted) => Ok(Message::accepted(alloc, accepted)?),
-        Err(CheckError::Refused(refusal)) => Ok(Message::refused(alloc, refusal)?),
-        Err(CheckError::NoMemory) => Err(NoMemory),
-    }
-}
-
-// The message for what stands behind the problem.
-fn answer_report(alloc: Global, problem: &Problem, rest: &[u8]) -> Result<Message, NoMemory>
-    ensures due { IfOk result (λ r. DueReport problem.now rest.now (message_output r)) }
-    ensures status { IfOk result (λ r. EndsCheck r.status) }
-{
-    match read_report(alloc, rest) {
-        Ok(answer) => answer_claims(alloc, problem, &answer),
-        Err(ReportError::At { kind, line }) => Ok(Message::refused_line(alloc, kind, line)?),
-        Err(ReportError::NoMemory) => Err(NoMemory),
-    }
-}
-
-// The bytes in which a problem is looked for.
-fn searched(bytes: &[u8]) -> &[u8]
-    ensures front { result.now ≡ due.searched bytes.now }
-    ensures short { length result.now + 1 < 2 ^ 32 }
-    ensures within { length result.now ≤ length bytes.now }
-{
-    if bytes.len() <= MOST_SEARCHED {
-        bytes
-    } else {
-        &bytes[..MOST_SEARCHED]
-    }
-}
-
-/// The message for all bytes of an input.
-pub fn checked(alloc: Global, bytes: &[u8]) -> Result<Message, NoMemory>
-    ensures due { IfOk result (λ r. DueText bytes.now (message_output r)) }
-    ensures status { IfOk result (λ r. EndsCheck r.status) }
-{
-    match read_problem(alloc, searched(bytes)) {
-        Ok((problem, place)) => answer_report(alloc, &problem, &bytes[place as usize..]),
-        Err(ReadError::At { kind, line, column }) => {
+    match found {
+        Checked::Accepted(accepted) => Ok(Message::accepted(alloc, accepted)?),
+        Checked::Refused(refusal) => Ok(Message::refused(alloc, refusal)?),
+        Checked::RefusedLine { kind, line } => Ok(Message::refused_line(alloc, kind, line)?),
+        Checked::Unreadable { kind, line, column } => {
             Ok(Message::unreadable(alloc, kind, line, column)?)
         }
-        Err(ReadError::NoMemory) => Err(NoMemory),
+    }
+}
+
+/// The reply to an input that is judged as it comes, and of which so many bytes are read at most, or
+/// why there is none.
+pub fn checked<I: Source>(alloc: Global, limit: u64, source: &mut I) -> Result<Reply, ReplyError>
+    ensures due { IfOk result (λ r.
+        IsDueFor (Command.Check limit) (I.left source.old) (output_of r)) }
+    ensures took { Took limit (status_of result) (I.left source.old) (I.left source.new) }
+    ensures status { IfOk result (λ r. EndsCheck (reply_status r)) }
+    ensures short { IfOk result IsShortReply }
+    ensures faults { CountsReads (I.faults source.old) (I.faults source.new) (status_of result) }
+{
+    match check_stream(alloc, source, limit) {
+        Ok(found) => Ok(Reply::Line(message_of(alloc, found)?)),
+        Err(ReadAllError::TooLong { .. }) => Ok(Reply::Line(Message::too_long(alloc, limit)?)),
+        Err(ReadAllError::Fault) => Err(ReplyError::ReadFault),
+        Err(ReadAllError::NoMemory) => Err(ReplyError::NoMemory),
     }
 }

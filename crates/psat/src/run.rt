@@ -1,5 +1,5 @@
 //! The top call.
-ghost use Rattle.std.specs.Prelude.{◌≡◌, None, Some, IfOk, length};
+ghost use Rattle.std.specs.Prelude.{◌≡◌, ◌≢◌, ℕ, None, Some, IfOk, length};
 ghost use Rattle.psat.specs.Commands.{ReadNothing, SpellNone, limit_of, words_of};
 ghost use Rattle.psat.specs.Replies.{AreLimitsOf, AreWithin, DueBytes, IsDue, IsDueFor};
 ghost use Rattle.psat.specs.Replies.{IsShortReply, output_of, reply_status, status_of};
@@ -20,7 +20,9 @@ use ps_io::{NoMemory, ReadAllError, Sink, Source, read_all};
 use std::alloc::Global;
 
 // The reply to bytes that are within the limit of a command; one that reads nothing takes any.
+// `check` keeps no bytes.
 fn reply_to_bytes(alloc: Global, command: Command, bytes: &[u8]) -> Result<Reply, NoMemory>
+    requires kept { (n : ℕ) → command ≢ Command.Check n }
     requires limits { AreLimitsOf command }
     requires within { AreWithin command (length bytes.now) }
     ensures due { IfOk result (λ r. DueBytes command bytes.now (output_of r)) }
@@ -30,18 +32,20 @@ fn reply_to_bytes(alloc: Global, command: Command, bytes: &[u8]) -> Result<Reply
     match command {
         Command::Solve { limits, enough } => solved(alloc, bytes, limits, enough),
         Command::Explain { limits, enough } => explained(alloc, bytes, limits, enough),
-        Command::Check { .. } => Ok(Reply::Line(checked(alloc, bytes)?)),
+        Command::Check { .. } => unreachable!(),
         Command::Make { links, limits } => made(alloc, links, limits),
     }
 }
 
-// The reply to an input of which a command reads so many bytes at most, or why there is none.
+// The reply to an input that a command keeps, and of which it reads so many bytes at most, or why
+// there is none.
 fn reply_to_input<I: Source>(
     alloc: Global,
     command: Command,
     limit: u64,
     source: &mut I,
 ) -> Result<Reply, ReplyError>
+    requires kept { (n : ℕ) → command ≢ Command.Check n }
     requires limits { AreLimitsOf command }
     requires limit { limit_of command ≡ Some limit }
     ensures due { IfOk result (λ r. IsDueFor command (I.left source.old) (output_of r)) }
@@ -76,7 +80,7 @@ fn reply_to_command<I: Source>(
         Command::Solve { .. } | Command::Explain { .. } => {
             reply_to_input(alloc, command, MOST_PROBLEM, source)
         }
-        Command::Check { bytes } => reply_to_input(alloc, command, bytes, source),
+        Command::Check { bytes } => checked(alloc, bytes, source),
         Command::Make { .. } => Ok(reply_to_bytes(alloc, command, &[])?),
     }
 }
