@@ -10,6 +10,8 @@ use Rattle.ps_problem.specs.Problems.{Parts}
 use Rattle.ps_claims.specs.Claims.{unfinished_of}
 use Rattle.ps_valid.specs.Answers.{answer_of}
 use Rattle.ps_query.specs.Solutions.{AreShortLines, IsSolution}
+use Rattle.ps_check.specs.declared.checked.Checked.{Checked}
+use Rattle.ps_check.specs.Checks.{IsFoundIn}
 use Rattle.psat.specs.declared.command.Command.{Command}
 use Rattle.ps_make.specs.declared.made.TheConstants.{MOST_LINKS}
 use Rattle.psat.specs.declared.command.Command.TheVariants.{Check, Explain, Make, Solve}
@@ -34,6 +36,10 @@ IsText result words = IfOk result (λ text. string_bytes text ≡ words)
 -- the output of a message: its text and its status
 abbrev pub message_output : Message → Output
 message_output m = record { text = string_bytes m.text; status = m.status }
+
+-- the output is due for all bytes of which this is found
+abbrev pub IsDueWhere : Checked → Output → Type 0
+IsDueWhere found o = (bytes : List ℕ) → IsFoundIn bytes found → DueText bytes o
 
 -- where there is a message, this is its output
 abbrev pub Says : {E : Type 0} → Result Message E → Output → Type 0

@@ -1,8 +1,6 @@
 //! The reply to an input with a report.
-ghost use Rattle.std.specs.Prelude.{ℕ, List, IfOk};
-ghost use Rattle.ps_check.specs.Checks.{IsFoundIn};
-ghost use Rattle.psat.specs.Due.{DueText};
-ghost use Rattle.psat.specs.Replies.{IsDueFor, IsShortReply, message_output, output_of};
+ghost use Rattle.std.specs.Prelude.{IfOk};
+ghost use Rattle.psat.specs.Replies.{IsDueFor, IsDueWhere, IsShortReply, message_output, output_of};
 ghost use Rattle.psat.specs.Replies.{reply_status, status_of};
 ghost use Rattle.psat.specs.Runs.{CountsReads, Took};
 ghost use Rattle.psat.specs.Statuses.{EndsCheck};
@@ -21,8 +19,7 @@ pub const MOST_SEARCHED: usize = ps_check::MOST_SEARCHED;
 // The message for what is found of an input.
 fn message_of(alloc: Global, found: Checked) -> Result<Message, NoMemory>
     // It is due for each input of which this is found.
-    ensures due { IfOk result (λ r.
-        (bytes : List ℕ) → IsFoundIn bytes found → DueText bytes (message_output r)) }
+    ensures due { IfOk result (λ r. IsDueWhere found (message_output r)) }
     ensures status { IfOk result (λ r. EndsCheck r.status) }
 {
     match found {
