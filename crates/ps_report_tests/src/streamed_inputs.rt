@@ -15,12 +15,7 @@ const UNREAD: [(&[u8], ReadKind, u32, u32); 5] = [
     (b"psat 1; P(a) = 1/2;", ReadKind::EndMissing, 1, 20),
     (b"psat 1; P(a) = 1/2;\n\n ", ReadKind::EndMissing, 3, 2),
     (b"psat 1;\n$ P(a) = 1/2; end;", ReadKind::BadByte, 2, 1),
-    (
-        b"psat 1; $ end;\nreport 1\nend\n",
-        ReadKind::BadByte,
-        1,
-        9,
-    ),
+    (b"psat 1; $ end;\nreport 1\nend\n", ReadKind::BadByte, 1, 9),
 ];
 
 // A source of an input in pieces, whose call of this number fails.

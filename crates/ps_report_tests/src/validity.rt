@@ -36,7 +36,8 @@ const EVIDENCE_NOT_DIVIDED: &[u8] =
 const IMPOSSIBLE: &[u8] =
     b"psat 1; P(rain) = 0; P(flood -> rain) = 1; query P(loss given flood); end;";
 
-pub(crate) const INCONSISTENT: &[u8] = b"psat 1; P(rain) >= 2/3; P(rain -> wet) = 1; P(wet) <= 1/2; end;";
+pub(crate) const INCONSISTENT: &[u8] =
+    b"psat 1; P(rain) >= 2/3; P(rain -> wet) = 1; P(wet) <= 1/2; end;";
 
 const WEATHER: &[u8] = b"psat 1; P(rain) = 3/10; P(!wind) = 1/2; end;";
 

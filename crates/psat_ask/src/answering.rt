@@ -7,6 +7,7 @@ use ps_ask::{Sinks, Status, Style, ask};
 use ps_io::{MemSink, Sink, Source, StdSink, StdSource, write_all};
 use ps_outlet::Outlet;
 use std::fs::File;
+use std::io::Stdout;
 
 /// The name of standard input in messages and objects.
 const INPUT: &str = "standard input";
@@ -46,6 +47,32 @@ struct Ended {
     is_left: bool,
 }
 
+// Answers an input over an outlet, with its report to a sink.
+fn answer_over<I: Source, R: Sink + Drop>(
+    rt: &HostRuntime,
+    asked: &Asked,
+    name: &str,
+    source: &mut I,
+    outlet: &mut Outlet<Stdout>,
+    report: R,
+) -> Status
+    requires { AreSettings asked.now.settings }
+{
+    let mut sinks = Sinks {
+        shown: StdSink::new(outlet),
+        report,
+    };
+    let mut beside = Beside::new(rt, asked.seconds);
+    ask(
+        rt.alloc(),
+        asked.settings,
+        name,
+        source,
+        &mut sinks,
+        &mut beside,
+    )
+}
+
 // Answers an input, with its report to a sink.
 fn answer_to<I: Source, R: Sink + Drop>(
     rt: &HostRuntime,
@@ -57,19 +84,7 @@ fn answer_to<I: Source, R: Sink + Drop>(
     requires { AreSettings asked.now.settings }
 {
     let mut outlet = Outlet::new(rt.stdout());
-    let mut sinks = Sinks {
-        shown: StdSink::new(&mut outlet),
-        report,
-    };
-    let mut beside = Beside::new(rt, asked.seconds);
-    let status = ask(
-        rt.alloc(),
-        asked.settings,
-        name,
-        source,
-        &mut sinks,
-        &mut beside,
-    );
+    let status = answer_over(rt, asked, name, source, &mut outlet, report);
     Ended {
         status,
         is_left: outlet.is_left(),
