@@ -46,6 +46,13 @@ module _ (g : GridCells) (p : Pivot) (i j : ℕ) (zero : LosesNothing g p i j) w
     minus = subst (λ k. ¬ SumIsWide (cell_in g i j) (neg k)) (sym nothing) (difference_narrow (cell_in g i j) ho hu);
   }
 
+-- an entry at cost 0, and an entry 0
+pub zero_cost : (cost : ℤ) (x : Rational) → cost ≡ pos 0 → mul (fraction cost 1) x ≡ zero_q
+zero_cost cost x e = ap (λ z. mul (fraction z 1) x) e ∙ ap (λ k. mul k x) zero_is_fraction ∙ ring_q (x ∷ []) (by none (var 0)) none refl
+
+pub zero_entry : (cost : ℤ) (x : Rational) → x ≡ zero_q → mul (fraction cost 1) x ≡ zero_q
+zero_entry cost x e = ap (mul (fraction cost 1)) e ∙ ring_q (fraction cost 1 ∷ []) (by (var 0) none) none refl
+
 -- 0 added to a number
 pub zero_added : (x y : Rational) → y ≡ zero_q → x ≡ add x y
 zero_added x y e = ring_q (x ∷ []) (var 0) (plus (var 0) none) refl ∙ ap (add x) (sym e)

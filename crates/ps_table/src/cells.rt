@@ -1,5 +1,6 @@
 //! Cells of columns that stand one after the other, and the numbers of columns.
-ghost use Rattle.std.specs.Prelude.{◌≡◌, ℕ, suc, ◌+◌, ◌*◌, ◌<◌, ◌≤◌, length};
+ghost use Rattle.std.specs.Prelude.{◌≡◌, ℕ, suc, ◌+◌, ◌*◌, ◌<◌, ◌≤◌, length, get_or};
+ghost use Rattle.ps_rational.specs.Rational.{zero_q};
 ghost use Rattle.ps_pool.specs.declared.pool.TheConstants.{MOST_WORLDS};
 ghost use Rattle.ps_table.specs.Tableau.{number_in, number_shown, IsInside, IsShown, cell_at};
 ghost use Rattle.ps_table.specs.declared.limits.TheConstants.{MOST_ROWS};
@@ -14,6 +15,14 @@ pub(crate) fn cell(cells: &[Fraction], rows: usize, row: usize, column: usize) -
     ensures value { result ≡ cell_at rows cells.now row column }
 {
     cells[column * rows + row]
+}
+
+/// Row `row` of the column whose first cell is at `start`.
+pub(crate) fn cell_after(cells: &[Fraction], start: usize, row: usize) -> Fraction
+    requires { start + row < length cells.now }
+    ensures value { result ≡ get_or cells.now (start + row) zero_q }
+{
+    cells[start + row]
 }
 
 /// The number of a column, where the right side is 0.

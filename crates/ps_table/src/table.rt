@@ -1,5 +1,6 @@
 //! The table of a basis.
-ghost use Rattle.std.specs.Prelude.{◌≡◌, ◌≢◌, suc, ◌+◌, ◌<◌, ◌≤◌, length, get_or, IfOk, IfErr};
+ghost use Rattle.std.specs.Prelude.{◌≡◌, ◌≢◌, suc, ◌+◌, ◌*◌, ◌<◌, ◌≤◌, length, get_or};
+ghost use Rattle.std.specs.Prelude.{IfOk, IfErr, IsTrue};
 ghost use Rattle.ps_rational.specs.Rational.{zero_q};
 ghost use Rattle.ps_pool.specs.declared.pool.TheConstants.{MOST_WORLDS};
 ghost use Rattle.ps_table.specs.declared.limits.TheConstants.{MOST_ROWS};
@@ -16,7 +17,7 @@ ghost use Rattle.ps_table.specs.Changes.{AreInside, ArePivotChangesIn};
 
 use crate::adding::new_column;
 use crate::at_place::plus_at;
-use crate::cells::{cell, number_of as column_number};
+use crate::cells::{cell, cell_after, number_of as column_number};
 use crate::change::{Change, write_all};
 use crate::costs::{Costs, cost_of, cost_times};
 use crate::error::TableError;
@@ -158,14 +159,57 @@ impl Table {
         ensures refused { IfErr result (IsWideAt (CostPlaces self.now costs.now col)) }
     {
         let mut sum = Fraction::new(0, 1);
-        for row in 0..self.rows() {
-            sum = self.sum_with(costs, col, row, &sum)?;
-        }
+        self.add_rows(costs, col, &mut sum)?;
         Ok(sum)
     }
 
-    /// The sum of what the rows before row `row` carry of a column, and of what that row does; a
-    /// row that carries 0 takes no operation.
+    /// Adds what the rows carry of a column to 0.
+    fn add_rows(&self, costs: &Costs, col: Col, sum: &mut Fraction) -> Result<(), WideAt>
+        requires costs { HasCosts costs.now self.now }
+        requires col { HasColumn self.now col }
+        requires sum { sum.old ≡ zero_q }
+        ensures value { IfOk result (λ _. sum.new ≡ carried_of self.now costs.now col) }
+        ensures narrow { IfOk result (λ _. IsNarrow (CostPlaces self.now costs.now col)) }
+        ensures refused { IfErr result (IsWideAt (CostPlaces self.now costs.now col)) }
+    {
+        let rows = self.homes.len();
+        let start = column_number(rows, col) * rows;
+        for row in 0..self.rows() {
+            self.add_row(costs, col, start, row, sum)?;
+        }
+        Ok(())
+    }
+
+    /// Adds what row `row` carries of a column to what the rows before do; a row that carries 0
+    /// takes no operation.
+    fn add_row(
+        &self,
+        costs: &Costs,
+        col: Col,
+        start: usize,
+        row: u32,
+        sum: &mut Fraction,
+    ) -> Result<(), WideAt>
+        requires costs { HasCosts costs.now self.now }
+        requires col { HasColumn self.now col }
+        requires start { start ≡ number_of self.now col * rows_of self.now }
+        requires row { row < rows_of self.now }
+        requires sum { sum.old ≡ carried_before self.now costs.now col row }
+        ensures value { IfOk result
+            (λ _. sum.new ≡ carried_before self.now costs.now col (suc row)) }
+        ensures narrow { IfOk result (λ _. IsSumNarrowAt self.now costs.now col row) }
+        ensures refused { IfErr result (IsWideAt (CostPlaces self.now costs.now col)) }
+    {
+        if self.carries_nothing(costs, col, start, row) {
+            // Called for its clauses: a sum that fits isn't refused with 0.
+            sum.fits();
+            return Ok(());
+        }
+        *sum = self.sum_with(costs, col, row, sum)?;
+        Ok(())
+    }
+
+    /// The sum of what the rows before row `row` carry of a column, and of what that row does.
     fn sum_with(
         &self,
         costs: &Costs,
@@ -181,13 +225,21 @@ impl Table {
         ensures narrow { IfOk result (λ _. IsSumNarrowAt self.now costs.now col row) }
         ensures refused { IfErr result (IsWideAt (CostPlaces self.now costs.now col)) }
     {
-        let part = self.part(costs, col, row);
-        if part.is_zero() {
-            // Called for its clauses: a sum that fits isn't refused with 0.
-            sum.fits();
-            return Ok(*sum);
-        }
-        plus_at(Place::Cost { col, row }, sum, &part)
+        plus_at(Place::Cost { col, row }, sum, &self.part(costs, col, row))
+    }
+
+    /// Whether row `row` carries 0 of the column whose first cell is at `start`: its basic column
+    /// costs 0, or its entry is 0.
+    fn carries_nothing(&self, costs: &Costs, col: Col, start: usize, row: u32) -> bool
+        requires costs { HasCosts costs.now self.now }
+        requires col { HasColumn self.now col }
+        requires start { start ≡ number_of self.now col * rows_of self.now }
+        requires row { row < rows_of self.now }
+        ensures nothing { IsTrue result → part_at self.now costs.now (number_of self.now col) row
+            ≡ zero_q }
+    {
+        cost_of(costs, self.basic(row)) == 0
+            || cell_after(&self.cells, start, row as usize).is_zero()
     }
 
     /// The cost of a column.

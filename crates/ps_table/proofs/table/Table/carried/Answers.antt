@@ -1,14 +1,6 @@
-use Rattle.std.proofs.Common.{length, ◌∙◌, arith}
+use Rattle.std.proofs.Common.{◌∙◌}
 use Rattle.ps_rational.proofs.Field.{zero_is_fraction}
-use Rattle.ps_table.specs.Tableau.{entry_at, basic_at}
-use Rattle.ps_table.specs.Pricing.{cost_at}
-use Rattle.ps_table.proofs.Narrow.{cost_narrow}
 use Rattle.ps_table.proofs.table.Table.carried.Goals as goal
 
-pub loop-row-init : goal.loop-row-init
-loop-row-init c = record { value = c.new-sum.ensures.value ∙ zero_is_fraction; narrow = λ k l. omega (arith, l) }
-
-pub returns-clause-narrow : goal.returns-clause-narrow
-returns-clause-narrow c =
-    cost_narrow (length c.args.self.now.kinds) (cost_at c.args.costs.now) (basic_at c.args.self.now) (entry_at c.args.self.now) c.args.col
-    (λ i hi. c.loop-row.invariant.narrow i (omega (arith, c.loop-row-test.false, c.rows-row-end.ensures.value, hi)))
+pub add_rows-requires-clause-sum : goal.add_rows-requires-clause-sum
+add_rows-requires-clause-sum c = c.new-sum.ensures.value ∙ zero_is_fraction

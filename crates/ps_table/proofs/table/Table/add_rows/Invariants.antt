@@ -1,6 +1,6 @@
 use Rattle.std.proofs.Common.{◌≡◌, ◌<◌, ℕ}
 use Rattle.ps_table.specs.Grids.{carried_before, IsSumNarrowAt}
-use Rattle.ps_table.proofs.table.Table.carried.Given as goal
+use Rattle.ps_table.proofs.table.Table.add_rows.Given as goal
 
 abbrev pub invariant-loop-row : goal.invariant-loop-row
 invariant-loop-row l = record {
