@@ -2,15 +2,17 @@
 ghost use Rattle.std.specs.Prelude.{◌≡◌, ◌++◌, ◌∷◌, [], IfOk, IfErr, OnOk, OnErr};
 ghost use Rattle.std.specs.Prelude.{true, Some, fold};
 ghost use Rattle.ps_steps.specs.declared.refused.StepRefused.TheVariants.{NoMemory as Lack};
+ghost use Rattle.ps_steps.specs.Assignments.{AreDifferent};
 ghost use Rattle.ps_steps.specs.Weights.{clause_of};
 ghost use Rattle.ps_steps.specs.Steps.{known_of, refusal_of, and_false, Entails, IsUnmet};
 ghost use Rattle.ps_pbcheck.specs.Checked.{first_checked, after_step, AnswersStep};
 ghost use Rattle.ps_pbcheck.specs.Judged.{AllFalse};
 
+use crate::held::Held;
 use crate::hints::follow_hints;
 use ps_clause::ClauseForm;
-use ps_io::{List, NoMemory};
-use ps_pb::{Assignment, Constraint, Lit, Step, clause};
+use ps_io::NoMemory;
+use ps_pb::{Assignment, Constraint, Lit, Step};
 use ps_steps::StepRefused;
 use std::alloc::Global;
 use std::marker::Model;
@@ -20,7 +22,7 @@ use std::marker::Model;
 pub struct Checker {
     alloc: Global,
     variables: u32,
-    known: List<Constraint>,
+    known: Held,
     refuted: bool,
 }
 
@@ -43,12 +45,12 @@ impl Checker {
         ensures { IfOk result (λ c. c ≡ first_checked form goal) }
     {
         let variables = form.variables();
-        let mut known = form.into_clauses();
-        known.push(goal)?;
+        let mut first = form.into_clauses();
+        first.push(goal)?;
         Ok(Checker {
             alloc,
             variables,
-            known,
+            known: Held::new(alloc, first),
             refuted: false,
         })
     }
@@ -64,8 +66,7 @@ impl Checker {
         ensures entailed { OnOk result (Entails self.old.known self.new.known) }
     {
         judge(self.alloc, self.variables, &self.known, s)?;
-        let added = added_by(self.alloc, s.lits.as_slice())?;
-        push(&mut self.known, added)?;
+        push(&mut self.known, s.lits.as_slice())?;
         self.refuted = s.lits.as_slice().is_empty();
         Ok(())
     }
@@ -85,29 +86,18 @@ fn no_memory(_: NoMemory) -> StepRefused
     StepRefused::NoMemory
 }
 
-fn added_by(alloc: Global, lits: &[Lit]) -> Result<Constraint, StepRefused>
-    ensures ok { IfOk result (λ c. c ≡ clause_of lits.now) }
-    ensures lack { IfErr result (λ e. e ≡ Lack) }
-{
-    clause(alloc, lits).map_err(no_memory)
-}
-
-fn push(known: &mut List<Constraint>, added: Constraint) -> Result<(), StepRefused>
-    ensures ok { OnOk result (known.new ≡ known.old ++ added ∷ []) }
+fn push(known: &mut Held, lits: &[Lit]) -> Result<(), StepRefused>
+    requires { AreDifferent lits.now }
+    ensures ok { OnOk result (known.new ≡ known.old ++ clause_of lits.now ∷ []) }
     ensures err { OnErr result (known.new ≡ known.old) }
     ensures lack { IfErr result (λ e. e ≡ Lack) }
 {
-    known.push(added).map_err(no_memory)
+    known.push(lits).map_err(no_memory)
 }
 
 /// Why a step isn't lawful, if it isn't.
 #[tactic(auto, using(ps_steps::proofs::Ids::ids), unfolding(ps_steps::specs::Steps::all_false))]
-fn judge(
-    alloc: Global,
-    variables: u32,
-    known: &List<Constraint>,
-    s: &Step,
-) -> Result<(), StepRefused>
+fn judge(alloc: Global, variables: u32, known: &Held, s: &Step) -> Result<(), StepRefused>
     ensures { AnswersStep (refusal_of variables (known_of known.now) s.now) result }
 {
     if s.id == 0 || s.id - 1 != known.len() as u64 {

@@ -2,38 +2,34 @@
 ghost use Rattle.ps_steps.specs.Steps.{known_of, after_hints, end_of, Open};
 ghost use Rattle.ps_pbcheck.specs.Judged.{gone_along, IsAfter, IsEnded};
 
-use ps_io::List;
-use ps_pb::{Assignment, Constraint, Effect, constraint_at, propagate};
+use crate::held::Held;
+use ps_pb::{Assignment, Effect};
 use ps_steps::StepRefused;
 
 /// Goes on along one hint, and answers whether it is violated.
 #[tactic(auto, unfolding(ps_steps::specs::Steps::after_hint))]
 fn follow_hint(
-    known: &List<Constraint>,
+    known: &Held,
     a: &mut Assignment,
     conflict: bool,
     hint: u64,
 ) -> Result<bool, StepRefused>
     ensures { IsAfter (gone_along known.now conflict a.old hint) a.new result }
 {
-    match constraint_at(known, hint) {
+    if conflict && known.has(hint) {
+        return Err(StepRefused::HintIdle { hint });
+    }
+    match known.follow(hint, a) {
         None => Err(StepRefused::UnknownHint { hint }),
-        Some(c) => {
-            if conflict {
-                return Err(StepRefused::HintIdle { hint });
-            }
-            match propagate(c, a) {
-                Effect::Violated => Ok(true),
-                Effect::Forced => Ok(false),
-                Effect::Idle => Err(StepRefused::HintIdle { hint }),
-            }
-        }
+        Some(Effect::Violated) => Ok(true),
+        Some(Effect::Forced) => Ok(false),
+        Some(Effect::Idle) => Err(StepRefused::HintIdle { hint }),
     }
 }
 
 /// Goes along the hints up to a conflict at the last one.
 pub(crate) fn follow_hints(
-    known: &List<Constraint>,
+    known: &Held,
     a: &mut Assignment,
     hints: &[u64],
 ) -> Result<(), StepRefused>

@@ -2,7 +2,10 @@
 #![tactic(auto)]
 
 mod checker;
+mod clauses;
+mod held;
 mod hints;
+mod propagation;
 
 pub use checker::Checker;
 pub use ps_steps::StepRefused;

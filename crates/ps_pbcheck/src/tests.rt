@@ -5,8 +5,11 @@ use ps_pb::{Hints, Lit, Lits, Step, clause, from_weights};
 use std::alloc::Global;
 use std::test::Fail;
 
-/// Literals, hints, and why the step with the next id is refused.
-const REFUSED: [(&[i32], &[u64], StepRefused); 8] = [
+/// Literals, hints, and why the step is refused.
+type Refusal = (&'static [i32], &'static [u64], StepRefused);
+
+/// Why the step with the next id is refused.
+const REFUSED: [Refusal; 8] = [
     (&[3], &[0], StepRefused::BadLit),
     (&[1, -1], &[0], StepRefused::BadLit),
     (&[1], &[0], StepRefused::UnknownHint { hint: 0 }),
@@ -50,10 +53,15 @@ fn is_taken(alloc: Global, checker: &mut Checker, id: u64, numbers: &[i32], ids:
     answer(alloc, checker, id, numbers, ids) == Some(Ok(()))
 }
 
-/// The first row whose step isn't refused for its reason.
-fn first_wrong_row(alloc: Global, checker: &mut Checker) -> Option<usize> {
-    for (row, (numbers, ids, reason)) in REFUSED.iter().enumerate() {
-        if answer(alloc, checker, 4, numbers, ids) != Some(Err(*reason)) {
+/// The first row whose step with this id isn't refused for its reason.
+fn first_wrong_row(
+    alloc: Global,
+    checker: &mut Checker,
+    id: u64,
+    rows: &[Refusal],
+) -> Option<usize> {
+    for (row, (numbers, ids, reason)) in rows.iter().enumerate() {
+        if answer(alloc, checker, id, numbers, ids) != Some(Err(*reason)) {
             return Some(row);
         }
     }
@@ -82,7 +90,7 @@ fn a_refutation_is_taken(rt: HostRuntime) -> Result<(), Fail> {
 fn the_first_reason_is_named(rt: HostRuntime) -> Result<(), Fail> {
     let alloc = rt.alloc();
     let mut checker = checker(alloc)?;
-    assert_eq!(rt; first_wrong_row(alloc, &mut checker), None);
+    assert_eq!(rt; first_wrong_row(alloc, &mut checker, 4, &REFUSED), None);
     Ok(())
 }
 
@@ -108,5 +116,71 @@ fn an_implication_is_refuted(rt: HostRuntime) -> Result<(), Fail> {
     let alloc = rt.alloc();
     let mut checker = implied(alloc)?;
     assert!(rt; is_taken(alloc, &mut checker, 5, &[], &[4, 3]) && checker.refuted());
+    Ok(())
+}
+
+/// Steps of five literals, of four, and so on, up to the contradiction. Their hints are clauses of
+/// the form, the goal, and steps before them.
+const FALLING: [(&[i32], &[u64]); 6] = [
+    (&[1, 2, 3, 4, 5], &[6, 1]),
+    (&[4, 3, 2, 1], &[2, 7]),
+    (&[1, 2, 3], &[3, 8]),
+    (&[2, 1], &[4, 9]),
+    (&[1], &[5, 10]),
+    (&[], &[6, 11]),
+];
+
+/// What is refused before the last of these steps.
+const REFUSED_AFTER: [Refusal; 10] = [
+    (&[3, 4, 5], &[7], StepRefused::HintIdle { hint: 7 }),
+    (&[6], &[10], StepRefused::HintIdle { hint: 10 }),
+    (&[-1], &[11], StepRefused::HintIdle { hint: 11 }),
+    (&[2], &[10, 10], StepRefused::HintIdle { hint: 10 }),
+    (&[-5], &[6, 6], StepRefused::HintIdle { hint: 6 }),
+    (&[-3], &[4, 4], StepRefused::HintIdle { hint: 4 }),
+    (&[1], &[11, 7], StepRefused::HintIdle { hint: 7 }),
+    (&[1], &[11, 12], StepRefused::UnknownHint { hint: 12 }),
+    (&[2, 3, 4, 5], &[7], StepRefused::NoConflict),
+    (&[], &[8], StepRefused::HintIdle { hint: 8 }),
+];
+
+/// The clauses are 1 2 3 4 5 6; -5 1; -4 1; -3 1; -2 1. The goal is that the first variable and the
+/// last are false.
+fn falling(alloc: Global) -> Result<Checker, Fail> {
+    let mut form = ClauseForm::new(alloc, 6);
+    let all = [
+        Lit::of_place(0, true),
+        Lit::of_place(1, true),
+        Lit::of_place(2, true),
+        Lit::of_place(3, true),
+        Lit::of_place(4, true),
+        Lit::of_place(5, true),
+    ];
+    form.add(&all)?;
+    form.add(&[Lit::of_place(4, false), Lit::of_place(0, true)])?;
+    form.add(&[Lit::of_place(3, false), Lit::of_place(0, true)])?;
+    form.add(&[Lit::of_place(2, false), Lit::of_place(0, true)])?;
+    form.add(&[Lit::of_place(1, false), Lit::of_place(0, true)])?;
+    let terms = [(Lit::of_place(5, false), 3), (Lit::of_place(0, false), 2)];
+    let goal = from_weights(alloc, &terms, 4)?;
+    Ok(Checker::new(alloc, form, goal)?)
+}
+
+#[test]
+fn clauses_of_each_length_are_kept(rt: HostRuntime) -> Result<(), Fail> {
+    let alloc = rt.alloc();
+    let mut checker = falling(alloc)?;
+    let mut id = 7;
+    for (numbers, ids) in &FALLING {
+        if numbers.is_empty() {
+            assert_eq!(rt;
+                first_wrong_row(alloc, &mut checker, id, &REFUSED_AFTER),
+                None
+            );
+        }
+        assert!(rt; is_taken(alloc, &mut checker, id, numbers, ids));
+        id += 1;
+    }
+    assert!(rt; checker.refuted());
     Ok(())
 }

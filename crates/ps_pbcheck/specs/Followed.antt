@@ -1,0 +1,26 @@
+-- What is known as constraints and clauses, and what one of these does to an assignment.
+use Rattle.std.specs.Prelude.{ℕ, ◌≡◌, ◌≤◌, ℤ, Option, Some, None, List, [], ◌∷◌, ◌++◌, length, map}
+use Rattle.ps_steps.specs.Assignments.{Assignment}
+use Rattle.ps_steps.specs.Constraints.{Constraint}
+use Rattle.ps_steps.specs.Weights.{clause_of}
+use Rattle.ps_pb.specs.declared.propagation.Effect.{Effect}
+use Rattle.ps_pb.specs.Effects.{Propagates}
+use Rattle.ps_pbcheck.specs.declared.propagation.Left.{Left}
+use Rattle.ps_pbcheck.specs.declared.propagation.Left.TheVariants.{Nothing, One, Several}
+
+-- constraints, and clauses behind them
+abbrev pub held_of : List Constraint → List (List ℤ) → List Constraint
+held_of first clauses = first ++ map clause_of clauses
+
+-- which literals aren't false: none, or this one alone, or more
+abbrev pub Leaves : List ℤ → Left → Type 0
+Leaves lits Nothing = lits ≡ []
+Leaves lits (One l) = lits ≡ l ∷ []
+Leaves lits Several = 2 ≤ length lits
+
+-- what a constraint does to an assignment, if there is one
+abbrev pub Follows : Option Constraint → Assignment → Assignment → Option Effect → Type 0
+Follows None a b None = b ≡ a
+Follows None a b (Some effect) = ⊥
+Follows (Some c) a b None = ⊥
+Follows (Some c) a b (Some effect) = Propagates c a b effect
