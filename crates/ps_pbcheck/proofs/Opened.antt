@@ -1,5 +1,5 @@
 -- What a clause does to an assignment, by its literals that aren't false.
-use Rattle.std.proofs.Common.{◌≡◌, ℕ, suc, ◌+◌, ◌≤◌, ℤ, pos, Bool, true, false, cond, not, Option, Some, None, List, [], ◌∷◌, ◌++◌, length, get_or, take, drop, ◌<◌, arith, refl, sym, ap, ◌∙◌, subst, inl, inr, ◌⊎◌}
+use Rattle.std.proofs.Common.{◌≡◌, ℕ, suc, ◌+◌, ◌≤◌, ℤ, pos, Bool, true, false, cond, not, Option, Some, None, List, [], ◌∷◌, ◌++◌, length, get_or, take, drop, ◌<◌, arith, refl, sym, ap, ◌∙◌, inl, inr}
 use Rattle.std.specs.Prelude.{int_lt, ◌-ℤ◌, ◌&&◌, ◌==◌, is_some}
 use Rattle.std.specs.List.{All, count_by, filter}
 use Rattle.std.proofs.lemmas.Int.{ints}
@@ -8,8 +8,8 @@ use Rattle.std.proofs.lemmas.List.Sums.{sum_by-cons, length-filter}
 use Rattle.std.proofs.lemmas.List.Filters.{length-filter_more}
 use Rattle.std.proofs.lemmas.List.Elements.{filter-append}
 use Rattle.std.proofs.lemmas.List.{take-append-drop, length-append}
-use Rattle.ps_steps.specs.Assignments.{Assignment, place, is_positive, agree, with_sign, value_of, with_true, is_false, is_unset, Includes, AreDifferent}
-use Rattle.ps_steps.specs.Constraints.{sum_where, is_open, slack, is_violated, is_forced, some_forced, with_forced}
+use Rattle.ps_steps.specs.Assignments.{Assignment, place, is_positive, agree, value_of, with_true, is_false, is_unset, Includes, AreDifferent}
+use Rattle.ps_steps.specs.Constraints.{sum_where, is_open, slack, is_forced, some_forced, with_forced}
 use Rattle.ps_steps.specs.Weights.{clause_of}
 use Rattle.ps_steps.proofs.Clauses.{Reads, open-reads, place_of, sign_of, clause-plain, clause-slack, clause-sum}
 use Rattle.ps_steps.proofs.Sums.{Implies, sum_where-le}

@@ -1,5 +1,5 @@
 -- What stands at an id among constraints and the clauses behind them.
-use Rattle.std.proofs.Common.{◌≡◌, ◌≢◌, ℕ, zero, suc, ◌-◌, ◌+◌, ◌<◌, ◌≤◌, ℤ, Bool, true, false, Option, Some, None, List, [], ◌∷◌, ◌++◌, length, map, arith, refl, sym, ap, ◌∙◌, inl, inr}
+use Rattle.std.proofs.Common.{◌≡◌, ◌≢◌, ℕ, zero, suc, ◌-◌, ◌+◌, ◌≤◌, ℤ, Option, Some, None, List, [], ◌∷◌, ◌++◌, length, map, arith, refl, sym, ap, ◌∙◌, inl, inr}
 use Rattle.std.specs.Prelude.{slice_get, is_some, nat_lt}
 use Rattle.std.specs.Option.{option_map}
 use Rattle.std.specs.List.{All}
@@ -9,7 +9,7 @@ use Rattle.ps_steps.specs.Assignments.{AreDifferent}
 use Rattle.ps_steps.specs.Constraints.{Constraint}
 use Rattle.ps_steps.specs.Weights.{clause_of}
 use Rattle.ps_steps.specs.Steps.{constraint_at, known_of}
-use Rattle.ps_steps.proofs.Ids.{constraint_at-known, at-zero}
+use Rattle.ps_steps.proofs.Ids.{constraint_at-known}
 use Rattle.ps_pbcheck.specs.Followed.{held_of}
 
 front_get : (cs ds : List Constraint) (i : ℕ) (c : Constraint) → slice_get cs i ≡ Some c → slice_get (cs ++ ds) i ≡ Some c

@@ -1,5 +1,5 @@
 -- What is known as constraints and clauses, and what one of these does to an assignment.
-use Rattle.std.specs.Prelude.{ℕ, ◌≡◌, ◌≤◌, ℤ, Option, Some, None, List, [], ◌∷◌, ◌++◌, length, map}
+use Rattle.std.specs.Prelude.{◌≡◌, ◌≤◌, ℤ, Option, Some, None, List, [], ◌∷◌, ◌++◌, length, map}
 use Rattle.ps_steps.specs.Assignments.{Assignment}
 use Rattle.ps_steps.specs.Constraints.{Constraint}
 use Rattle.ps_steps.specs.Weights.{clause_of}

@@ -119,18 +119,17 @@ fn an_implication_is_refuted(rt: HostRuntime) -> Result<(), Fail> {
     Ok(())
 }
 
-/// Steps of five literals, of four, and so on, up to the contradiction. Their hints are clauses of
-/// the form, the goal, and steps before them.
-const FALLING: [(&[i32], &[u64]); 6] = [
+/// Steps of five literals, of four, and so on. Their hints are clauses of the form, the goal, and
+/// steps before them.
+const FALLING: [(&[i32], &[u64]); 5] = [
     (&[1, 2, 3, 4, 5], &[6, 1]),
     (&[4, 3, 2, 1], &[2, 7]),
     (&[1, 2, 3], &[3, 8]),
     (&[2, 1], &[4, 9]),
     (&[1], &[5, 10]),
-    (&[], &[6, 11]),
 ];
 
-/// What is refused before the last of these steps.
+/// What is refused after these steps.
 const REFUSED_AFTER: [Refusal; 10] = [
     (&[3, 4, 5], &[7], StepRefused::HintIdle { hint: 7 }),
     (&[6], &[10], StepRefused::HintIdle { hint: 10 }),
@@ -143,6 +142,23 @@ const REFUSED_AFTER: [Refusal; 10] = [
     (&[2, 3, 4, 5], &[7], StepRefused::NoConflict),
     (&[], &[8], StepRefused::HintIdle { hint: 8 }),
 ];
+
+/// The first of some steps, with ids from one on, that isn't taken.
+fn first_refused(
+    alloc: Global,
+    checker: &mut Checker,
+    first: u64,
+    steps: &[(&[i32], &[u64])],
+) -> Option<u64> {
+    let mut id = first;
+    for (numbers, ids) in steps {
+        if !is_taken(alloc, checker, id, numbers, ids) {
+            return Some(id);
+        }
+        id = id.wrapping_add(1);
+    }
+    None
+}
 
 /// The clauses are 1 2 3 4 5 6; -5 1; -4 1; -3 1; -2 1. The goal is that the first variable and the
 /// last are false.
@@ -170,17 +186,11 @@ fn falling(alloc: Global) -> Result<Checker, Fail> {
 fn clauses_of_each_length_are_kept(rt: HostRuntime) -> Result<(), Fail> {
     let alloc = rt.alloc();
     let mut checker = falling(alloc)?;
-    let mut id = 7;
-    for (numbers, ids) in &FALLING {
-        if numbers.is_empty() {
-            assert_eq!(rt;
-                first_wrong_row(alloc, &mut checker, id, &REFUSED_AFTER),
-                None
-            );
-        }
-        assert!(rt; is_taken(alloc, &mut checker, id, numbers, ids));
-        id += 1;
-    }
-    assert!(rt; checker.refuted());
+    assert_eq!(rt; first_refused(alloc, &mut checker, 7, &FALLING), None);
+    assert_eq!(rt;
+        first_wrong_row(alloc, &mut checker, 12, &REFUSED_AFTER),
+        None
+    );
+    assert!(rt; is_taken(alloc, &mut checker, 12, &[], &[6, 11]) && checker.refuted());
     Ok(())
 }

@@ -1,4 +1,4 @@
-use Rattle.std.proofs.Common.{◌≡◌, ℕ, ◌-◌, ◌<◌, Some, take, drop, length, ap, sym, ◌∙◌, arith}
+use Rattle.std.proofs.Common.{◌≡◌, ◌-◌, ◌<◌, Some, take, drop, length, ap, sym, ◌∙◌, arith}
 use Rattle.ps_pbcheck.specs.Parts.{start_at}
 use Rattle.ps_pbcheck.proofs.Parting.{part-at, part-past, part-within, IsPart}
 use Rattle.ps_pbcheck.proofs.clauses.Clauses.get.Goals as goal

@@ -1,4 +1,4 @@
-use Rattle.std.proofs.Common.{rules, ◌≡◌, ap, sym, ◌∙◌, arith, length}
+use Rattle.std.proofs.Common.{arith}
 use Rattle.ps_pbcheck.proofs.Parting.{parts-length}
 use Rattle.ps_pbcheck.proofs.clauses.Clauses.len.Goals as goal
 

@@ -1,4 +1,4 @@
-use Rattle.std.proofs.Common.{◌≡◌, ◌≤◌, ◌+◌, ◌++◌, [], ◌∷◌, ap, sym, ◌∙◌, arith, length}
+use Rattle.std.proofs.Common.{◌≡◌, ◌≤◌, ◌+◌, ◌++◌, [], ◌∷◌, ap, ◌∙◌, arith, length}
 use Rattle.std.proofs.lemmas.List.{length-append}
 use Rattle.ps_pbcheck.specs.Parts.{parts_from, AreEnds}
 use Rattle.ps_pbcheck.proofs.Parting.{ends-more, parts-more}

@@ -1,4 +1,4 @@
-use Rattle.std.proofs.Common.{◌≡◌, ℕ, ◌-◌, Some, None, length, ap, sym, ◌∙◌, arith, refl}
+use Rattle.std.proofs.Common.{◌≡◌, ◌-◌, Some, None, length, ap, sym, ◌∙◌, arith, refl}
 use Rattle.std.specs.Prelude.{slice_get}
 use Rattle.ps_pbcheck.proofs.Placed.{known-first, known-clause, zero-none, none-past, at-different}
 use Rattle.ps_pbcheck.proofs.held.Held.follow.Goals as goal
