@@ -3,10 +3,6 @@ ghost use Rattle.std.specs.Prelude.{◌≡◌, ◌<◌, ◌≤◌, Some, IfOk, I
 ghost use Rattle.ps_problem.specs.Problems.{bounds_in};
 ghost use Rattle.ps_certificate.specs.Certificates.{dual_of, IsSmallDual};
 ghost use Rattle.ps_claims.specs.Claims.{Excluded};
-ghost use Rattle.ps_claims.specs.Goals.{goal_of, size_of};
-ghost use Rattle.ps_claims.specs.Limits.{most_combination};
-ghost use Rattle.ps_forms.specs.Forms.{form_of};
-ghost use Rattle.ps_pbcheck.specs.Checked.{first_checked};
 ghost use Rattle.ps_stream.specs.Subjects.{query_at};
 ghost use Rattle.ps_stream.specs.Found.{FindsFor, Finds, HasRowsIfOpen, IsAskedBy};
 ghost use Rattle.ps_stream.specs.Found.{tight, IsCheckerFor, IsQueryOf};
@@ -15,11 +11,9 @@ use crate::small_model::SmallModel;
 use crate::subject::{Subject, kind_of};
 use ps_answer::Dual;
 use ps_certificate::combination;
-use ps_claims::{ClaimKind, Combination, Reason};
-use ps_clause::clauses_of;
+use ps_claims::{ClaimKind, Reason};
 use ps_frac::Fraction;
 use ps_io::NoMemory;
-use ps_pb::from_weights;
 use ps_pbcheck::Checker;
 use ps_problem::{Problem, Query};
 use ps_valid::{check_bound, check_dual};
@@ -125,17 +119,6 @@ fn asked_by(problem: &Problem, subject: &Subject) -> (ClaimKind, (Option<u32>, u
     }
 }
 
-// The checker that knows the clauses of a problem's formulas, and the goal that a combination is at
-// least 1.
-fn checker_on(alloc: Global, problem: &Problem, sum: &Combination) -> Result<Checker, NoMemory>
-    requires { size_of sum.now ≤ most_combination }
-    ensures { IfOk result (λ c. c ≡ first_checked (form_of problem.now.nodes) (goal_of sum.now)) }
-{
-    let goal = from_weights(alloc, sum.terms.as_slice(), 1 - sum.base)?;
-    let form = clauses_of(alloc, problem.formulas())?;
-    Checker::new(alloc, form, goal)
-}
-
 /// The checker of the steps that are to come.
 pub(crate) fn checker_of(
     alloc: Global,
@@ -149,5 +132,5 @@ pub(crate) fn checker_of(
 {
     let (kind, (given, both)) = asked_by(problem, subject);
     let sum = combination(alloc, problem, kind, given, both, dual)?;
-    checker_on(alloc, problem, &sum)
+    ps_valid::checker_of(alloc, problem, &sum)
 }

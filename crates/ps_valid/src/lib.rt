@@ -22,3 +22,4 @@ pub use modelled::{check_model, check_model_over};
 pub use ps_claims::{Claim, Reason};
 pub use refusal::{Accepted, CheckError, Refusal};
 pub use refuting::check_dual;
+pub use steps::checker_of;
