@@ -18,7 +18,7 @@ use Rattle.ps_sat.specs.declared.searching.Outcome.TheVariants.{Found, Refuted, 
 use Rattle.ps_sat.proofs.Going.{handed_told, handed_stays}
 use Rattle.ps_maxsat.specs.declared.problem.Wcnf.{Wcnf}
 use Rattle.ps_maxsat.specs.declared.pricing.Priced.{Priced}
-use Rattle.ps_maxsat.specs.Values.{value, goal_of, IsOf, NoneIsAbove, IsHalfway, HoldsSearch, HoldsFound, HoldsRefutation, HoldsLast, HoldsSteps, HoldsSome, IsGoal, most_value, IsLogAfterFailed, IsLogAfterError, IsGoalLogged, IsBestLogged}
+use Rattle.ps_maxsat.specs.Values.{value, goal_of, IsOf, NoneIsAbove, NoneIsBetween, IsHalfway, HoldsSearch, HoldsFound, HoldsRefutation, HoldsLast, HoldsSteps, HoldsSome, IsGoal, most_value, IsLogAfterFailed, IsLogAfterError, IsGoalLogged, IsBestLogged}
 use Rattle.ps_steps.proofs.Within.{constraint-within}
 use Rattle.ps_log.specs.Logs.{Telling, Stays}
 
@@ -49,6 +49,10 @@ refuted-none p least v conflicts o last e out q = none_refuted p least v q (subs
 
 pub none-same : (p : Wcnf) (b v : ℤ) → NoneIsAbove p b → b ≡ v → NoneIsAbove p v
 none-same p b v h e = λ w form. omega (arith, ints, h w form, e)
+
+-- no value is above a number where none is between it and a bound
+pub none-lower : (p : Wcnf) (low bound : ℤ) → NoneIsAbove p bound → NoneIsBetween p low (bound +ℤ pos 1) → NoneIsAbove p low
+none-lower p low bound none between = λ w form. none_case (int_lt low (value p w)) low (value p w) refl (λ up. let far = between w (omega (arith, ints, up)) in omega (arith, ints, none w form, far))
 
 -- an assignment that was found
 pub record IsFound (p : Wcnf) (a : Assignment) (least v : ℤ) : Type 0 where
@@ -92,9 +96,10 @@ held-found p m v conflicts told later new o a e goal up tell h =
     let own = held-end p m m conflicts told later new o (Found a) e refl tell h in
     record { least = m; goal = goal; up = up; handed = own.0; learned = own.1 }
 
--- a goal was refuted by it
-pub held-refutation : (p : Wcnf) (m least : ℤ) (conflicts : ℕ) (told later : Bool) (new : Telling) (o : Outcome) (last : ℕ) → o ≡ Refuted last → IsGoal p m → m ≡ least → (IsTrue told → IsTrue later) → HoldsSearch p m conflicts later new o → HoldsRefutation p least conflicts told new
-held-refutation p m least conflicts told later new o last e goal q tell h = record { last = last; goal = subst (IsGoal p) q goal; held = held-end p m least conflicts told later new o (Refuted last) e q tell h }
+-- a goal was refuted by it, and no assignment has a value between the bound and the goal
+pub held-refutation : (p : Wcnf) (m b : ℤ) (conflicts : ℕ) (told later : Bool) (new : Telling) (o : Outcome) (last : ℕ) → o ≡ Refuted last → IsGoal p m → b <ℤ m → NoneIsBetween p b m → (IsTrue told → IsTrue later) → HoldsSearch p m conflicts later new o → HoldsRefutation p b conflicts told new
+held-refutation p m b conflicts told later new o last e goal above next tell h =
+    record { least = m; above = above; next = next; last = last; goal = goal; held = held-end p m m conflicts told later new o (Refuted last) e refl tell h }
 
 -- the last search, where the value is the bound
 pub held-last : (p : Wcnf) (v bound : ℤ) (conflicts : ℕ) (told : Bool) (new : Telling) → bound ≡ v → HoldsLast p v bound conflicts told new → HoldsLast p v v conflicts told new
@@ -111,7 +116,7 @@ refuted_few conflicts ss front s e h = omega (arith, ap length e, length-append 
 pub last-steps : (p : Wcnf) (v bound : ℤ) (conflicts : ℕ) (told : Bool) (new : Telling) → HoldsLast p v bound conflicts told new → HoldsSome p conflicts told new
 last-steps p v bound conflicts told new (inl h) = record { least = h.least; goal = h.goal; held = record { handed = h.handed; few = omega (arith, h.learned.count) } }
 last-steps p v bound conflicts told new (inr h) = record {
-  least = bound +ℤ pos 1;
+  least = h.least;
   goal = h.goal;
   held = record { handed = h.held.0; few = let shown = h.held.1 in refuted_few conflicts h.held.0.steps shown.0 shown.1 shown.2 shown.3.count };
 }

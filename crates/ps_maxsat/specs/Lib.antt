@@ -1,4 +1,5 @@
 -- Meaning
 pub mod Limits
+pub mod Spacing
 pub mod Sums
 pub mod Values

@@ -40,6 +40,10 @@ IsOf p a v = (w : List Bool) × (a ≡ full w) × (length w ≡ p.hard.variables
 abbrev pub NoneIsAbove : Wcnf → ℤ → Type 0
 NoneIsAbove p v = (w : List Bool) → MeetsForm w p.hard → value p w ≤ℤ v
 
+-- no assignment has a value above the one number and below the other, whether it meets the clauses or not
+abbrev pub NoneIsBetween : Wcnf → ℤ → ℤ → Type 0
+NoneIsBetween p low high = (w : List Bool) → low <ℤ value p w → high ≤ℤ value p w
+
 -- a goal lies halfway between a value and a bound that no value is above, rounded up
 pub record IsHalfway (p : Wcnf) (found goal : ℤ) : Type 0 where
   pub bound : ℤ
@@ -84,15 +88,18 @@ pub record HoldsFound (p : Wcnf) (v : ℤ) (conflicts : ℕ) (told : Bool) (new 
   pub handed : Handed p.hard (goal_of p least) told new
   pub learned : AreLearned p.hard conflicts handed.steps
 
--- the log holds the refutation of a value of at least so much
-pub record HoldsRefutation (p : Wcnf) (least : ℤ) (conflicts : ℕ) (told : Bool) (new : Telling) : Type 0 where
+-- the log holds the refutation of a goal above the bound, and no assignment has a value between the two
+pub record HoldsRefutation (p : Wcnf) (bound : ℤ) (conflicts : ℕ) (told : Bool) (new : Telling) : Type 0 where
+  pub least : ℤ
+  pub above : bound <ℤ least
+  pub next : NoneIsBetween p bound least
   pub last : ℕ
   pub goal : IsGoal p least
   pub held : HoldsSearch p least conflicts told new (search.Refuted last)
 
 -- the last search: it found an assignment of at most the one value, or none was there above the other
 abbrev pub HoldsLast : Wcnf → ℤ → ℤ → ℕ → Bool → Telling → Type 0
-HoldsLast p v bound conflicts told new = HoldsFound p v conflicts told new ⊎ HoldsRefutation p (bound +ℤ pos 1) conflicts told new
+HoldsLast p v bound conflicts told new = HoldsFound p v conflicts told new ⊎ HoldsRefutation p bound conflicts told new
 
 -- what the log holds after an answer: the search that the answer speaks of, and after the greatest value the last one
 abbrev pub IsPricedLog : Wcnf → ℕ → Bool → Telling → Priced → Type 0

@@ -4,6 +4,7 @@
 mod limits;
 mod pricing;
 mod problem;
+mod spacing;
 
 pub use limits::{MOST_TOTAL, limits_have_these_numbers};
 pub use pricing::{Priced, best};

@@ -9,6 +9,7 @@ ghost use Rattle.ps_maxsat.specs.declared.limits.TheConstants.{MOST_TOTAL};
 ghost use Rattle.ps_maxsat.specs.Values.{goal_of, IsPriced, IsGoalLogged, IsBestLogged};
 
 use crate::problem::{Wcnf, most_value, value};
+use crate::spacing::{greatest_in_steps, unit_of};
 use ps_log::ProofSink;
 use ps_pb::{Assignment, from_weights};
 use ps_sat::{Outcome, SearchError, search};
@@ -96,8 +97,9 @@ fn middle(found: i128, bound: i128) -> i128
 
 /// Looks for the greatest value of an assignment that meets the clauses, if it is at least 1. Each
 /// search is for a value of at least a goal, the first for 1. Each other goal lies halfway between
-/// a value that was found and a bound that no value is above. At least 1 search is made, and at most
-/// 124.
+/// a value that was found and a bound that no value is above. Values lie multiples of the weights'
+/// greatest common divisor apart, so a bound is lowered to the next number that may be one. At least
+/// 1 search is made, and at most 124.
 ///
 /// The log holds the refutation after `NoneAbove`, the search that was spent after `Cut` and
 /// `Spent`, and the last search after `Best`. After an error it is as it was, or holds the goal of
@@ -129,13 +131,14 @@ pub fn best<S: ProofSink>(
             (assignment, found)
         }
     };
-    let mut bound = most_value(wcnf);
+    let unit = unit_of(wcnf.soft.as_slice());
+    let mut bound = greatest_in_steps(found, unit, most_value(wcnf));
     let mut searches = 1;
     while found < bound {
         let goal = middle(found, bound);
         searches += 1;
         match search_above(alloc, wcnf, goal, conflicts, log)? {
-            Outcome::Refuted { last: _ } => bound = goal - 1,
+            Outcome::Refuted { last: _ } => bound = greatest_in_steps(found, unit, goal - 1),
             Outcome::Found(better) => {
                 found = value(wcnf, &better);
                 assignment = better;

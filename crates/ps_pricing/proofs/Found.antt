@@ -64,7 +64,7 @@ pub log_literals : (p : Wcnf) (conflicts : ℕ) (told : Bool) (new : Telling) (p
     → p.hard.variables ≤ MOST_VARIABLES → IsPricedLog p conflicts told new priced → AreOfLiterals steps
 log_literals p conflicts told new (NoneAbove last) steps tells is few h = told_literals told new (goal_of p (pos 1)) p.hard steps h.0 tells is few
 log_literals p conflicts told new (Best a v searches) steps tells is few (inl h) = told_literals told new (goal_of p h.least) p.hard steps h.handed tells is few
-log_literals p conflicts told new (Best a v searches) steps tells is few (inr h) = told_literals told new (goal_of p (v +ℤ pos 1)) p.hard steps h.held.0 tells is few
+log_literals p conflicts told new (Best a v searches) steps tells is few (inr h) = told_literals told new (goal_of p h.least) p.hard steps h.held.0 tells is few
 log_literals p conflicts told new (Cut a v least searches) steps tells is few h = told_literals told new (goal_of p least) p.hard steps h.0 tells is few
 log_literals p conflicts told new (Spent learned) steps tells is few h = told_literals told new (goal_of p (pos 1)) p.hard steps h.0 tells is few
 

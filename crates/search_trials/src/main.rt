@@ -66,7 +66,7 @@ fn main(rt: HostRuntime) -> anyhow::Result<()> {
         }
         Command::Trials => {
             println!(rt; "small searches: {} of 5", rows(alloc)?)?;
-            println!(rt; "small problems: {} of 4", pricings(alloc)?)?;
+            println!(rt; "small problems: {} of 5", pricings(alloc)?)?;
             println!(rt;
                 "propagations as by passes: {} of 200",
                 propagations(alloc, 200)?

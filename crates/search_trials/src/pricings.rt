@@ -29,9 +29,12 @@ fn not_both(alloc: Global) -> Result<ClauseForm, NoMemory> {
     Ok(form)
 }
 
-// The first of two variables weighs 3, and the second 2.
-fn three_and_two(alloc: Global) -> Result<List<(Lit, i128)>, NoMemory> {
-    let soft = [(Lit::of_place(0, true), 3), (Lit::of_place(1, true), 2)];
+// Two variables with their weights.
+fn weighing(alloc: Global, first: i128, second: i128) -> Result<List<(Lit, i128)>, NoMemory> {
+    let soft = [
+        (Lit::of_place(0, true), first),
+        (Lit::of_place(1, true), second),
+    ];
     Ok(List::from_vec(Vec::from_slice(alloc, &soft)?))
 }
 
@@ -39,7 +42,7 @@ fn three_and_two(alloc: Global) -> Result<List<(Lit, i128)>, NoMemory> {
 fn one_of_two(alloc: Global, base: i128) -> Result<Wcnf, NoMemory> {
     Ok(Wcnf {
         hard: not_both(alloc)?,
-        soft: three_and_two(alloc)?,
+        soft: weighing(alloc, 3, 2)?,
         base,
     })
 }
@@ -56,14 +59,38 @@ pub fn is_none_above(alloc: Global) -> Result<bool, SearchError> {
     Ok(matches!(priced, Some(Priced::NoneAbove { last: 3 })) && steps == 1)
 }
 
-// The answer over a log in memory, and the number of the steps of its last search.
+/// Where the first weighs 2000 and the second 1000, and the base is -500, two searches find that the
+/// greatest value is 1500. The first finds it. The second is for 2001, halfway up to 2500: it is
+/// refuted, and no value lies between 1500 and 2001, since the weights are multiples of 1000.
+pub fn is_1500_by_two_searches(alloc: Global) -> Result<bool, SearchError> {
+    let wcnf = Wcnf {
+        hard: not_both(alloc)?,
+        soft: weighing(alloc, 2000, 1000)?,
+        base: -500,
+    };
+    let (priced, _) = held_best(alloc, &wcnf)?;
+    Ok(matches!(
+        priced,
+        Some(Priced::Best {
+            value: 1500,
+            searches: 2,
+            ..
+        })
+    ))
+}
+
+// The answer where the first weighs 3 and the second 2.
 fn held(alloc: Global, base: i128) -> Result<(Option<Priced>, usize), SearchError> {
-    let wcnf = one_of_two(alloc, base)?;
+    held_best(alloc, &one_of_two(alloc, base)?)
+}
+
+// The answer over a log in memory, and the number of the steps of its last search.
+fn held_best(alloc: Global, wcnf: &Wcnf) -> Result<(Option<Priced>, usize), SearchError> {
     if !wcnf.is_narrow() || !wcnf.is_soft_within() {
         return Ok((None, 0));
     }
     let mut log = HeldLog::new(alloc);
-    let priced = best(alloc, &wcnf, CONFLICTS, &mut log)?;
+    let priced = best(alloc, wcnf, CONFLICTS, &mut log)?;
     Ok((Some(priced), log.take_steps().as_slice().len()))
 }
 

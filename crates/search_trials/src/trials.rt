@@ -3,7 +3,9 @@ ghost use Rattle.std.specs.Prelude.{◌≤◌};
 
 use crate::draw::Draw;
 use crate::forms::{pigeons, three_clauses};
-use crate::pricings::{is_3, is_none_above, is_written_3, is_written_none_above};
+use crate::pricings::{
+    is_3, is_1500_by_two_searches, is_none_above, is_written_3, is_written_none_above,
+};
 use crate::problems::{Greatest, random_problem};
 use crate::refutations::{Ended, searched};
 use crate::rows::{
@@ -28,13 +30,14 @@ pub fn rows(alloc: Global) -> Result<u32, SearchError> {
     Ok(spent + refuted + spent_in_lines + refuted_in_lines + fault)
 }
 
-/// How many of four small problems have the greatest value that they should.
+/// How many of five small problems have the greatest value that they should.
 pub fn pricings(alloc: Global) -> Result<u32, SearchError> {
     let three = one(is_3(alloc)?);
     let none = one(is_none_above(alloc)?);
     let written_three = one(is_written_3(alloc)?);
     let written_none = one(is_written_none_above(alloc)?);
-    Ok(three + none + written_three + written_none)
+    let apart = one(is_1500_by_two_searches(alloc)?);
+    Ok(three + none + written_three + written_none + apart)
 }
 
 /// How many of so many forms of 60 variables and 258 clauses were found or refuted to the checker's
