@@ -1,11 +1,11 @@
 -- A bound that is lowered by steps from a value that was found.
-use Rattle.std.proofs.Common.{◌≡◌, ℕ, ℤ, pos, ◌+ℤ◌, ◌≤ℤ◌, ◌<ℤ◌, Bool, List, arith, sym, subst}
+use Rattle.std.proofs.Common.{◌≡◌, ℕ, ℤ, pos, ◌+ℤ◌, ◌≤ℤ◌, ◌<ℤ◌, arith, sym, subst}
 use Rattle.std.proofs.lemmas.Int.{ints}
 use Rattle.ps_steps.specs.Assignments.{Assignment}
 use Rattle.ps_steps.specs.Weights.{Weighted}
 use Rattle.ps_maxsat.specs.declared.problem.Wcnf.{Wcnf}
 use Rattle.ps_maxsat.specs.Spacing.{DividesWeights, IsUnit}
-use Rattle.ps_maxsat.specs.Values.{value, most_value, IsOf, NoneIsAbove, NoneIsBetween}
+use Rattle.ps_maxsat.specs.Values.{most_value, IsOf, NoneIsAbove, NoneIsBetween, LeavesNone}
 use Rattle.ps_maxsat.proofs.Rounds.{none-lower}
 
 -- a bound that is no lower than a value that was found, and above which no value lies up to the old one
@@ -13,10 +13,6 @@ pub record IsLowered (p : Wcnf) (found bound low : ℤ) : Type 0 where
   pub from : found ≤ℤ low
   pub within : low ≤ℤ bound
   pub next : NoneIsBetween p low (bound +ℤ pos 1)
-
--- what a function says that goes up by steps, of numbers as the code has them
-abbrev pub LeavesNone : ℕ → ℤ → ℤ → ℤ → Type 0
-LeavesNone unit found r bound = (p : Wcnf) (w : List Bool) → DividesWeights unit p.soft → found ≡ value p w → NoneIsBetween p r (bound +ℤ pos 1)
 
 pub lowered : (p : Wcnf) (a : Assignment) (ts : Weighted) (unit : ℕ) (found bound r low : ℤ) → IsOf p a found → ts ≡ p.soft → IsUnit ts unit → low ≡ r → found ≤ℤ r → r ≤ℤ bound → LeavesNone unit found r bound → IsLowered p found bound low
 lowered p a ts unit found bound r low own same is e from within next =

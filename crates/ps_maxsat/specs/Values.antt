@@ -11,6 +11,7 @@ use Rattle.ps_sat.specs.declared.searching.Outcome.TheVariants as search
 use Rattle.ps_sat.specs.Searches.{IsShown}
 use Rattle.ps_sat.specs.declared.error.SearchError.{SearchError}
 use Rattle.ps_maxsat.specs.Limits.{most_searches}
+use Rattle.ps_maxsat.specs.Spacing.{DividesWeights}
 use Rattle.ps_maxsat.specs.Sums.{sum_of, weight_if_positive}
 use Rattle.ps_maxsat.specs.declared.problem.Wcnf.{Wcnf}
 use Rattle.ps_maxsat.specs.declared.pricing.Priced.{Priced}
@@ -43,6 +44,11 @@ NoneIsAbove p v = (w : List Bool) → MeetsForm w p.hard → value p w ≤ℤ v
 -- no assignment has a value above the one number and below the other, whether it meets the clauses or not
 abbrev pub NoneIsBetween : Wcnf → ℤ → ℤ → Type 0
 NoneIsBetween p low high = (w : List Bool) → low <ℤ value p w → high ≤ℤ value p w
+
+-- where a unit divides the weights, and the one number is a value, none is above the second number and at most the third
+abbrev pub LeavesNone : ℕ → ℤ → ℤ → ℤ → Type 0
+LeavesNone unit found low bound =
+    (p : Wcnf) (w : List Bool) → DividesWeights unit p.soft → found ≡ value p w → NoneIsBetween p low (bound +ℤ pos 1)
 
 -- a goal lies halfway between a value and a bound that no value is above, rounded up
 pub record IsHalfway (p : Wcnf) (found goal : ℤ) : Type 0 where

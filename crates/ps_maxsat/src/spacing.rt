@@ -3,8 +3,8 @@
 ghost use Rattle.std.specs.Prelude.{◌≡◌, ◌<◌, ◌≤◌, ◌+ℤ◌, ◌-ℤ◌, ◌≤ℤ◌, ◌<ℤ◌, pos, unsigned_abs};
 ghost use Rattle.std.specs.Int.{IsGcd, ◌∣◌};
 ghost use Rattle.ps_maxsat.specs.declared.limits.TheConstants.{MOST_TOTAL};
-ghost use Rattle.ps_maxsat.specs.Spacing.{DividesWeights, IsUnit};
-ghost use Rattle.ps_maxsat.specs.Values.{value, NoneIsBetween};
+ghost use Rattle.ps_maxsat.specs.Spacing.{IsUnit};
+ghost use Rattle.ps_maxsat.specs.Values.{LeavesNone};
 
 use ps_pb::Lit;
 
@@ -43,8 +43,7 @@ pub(crate) fn greatest_in_steps(found: i128, unit: u128, bound: i128) -> i128
     ensures within { result ≤ℤ bound }
     ensures steps { unit ∣ unsigned_abs (result -ℤ found) }
     ensures greatest { 0 < unit → bound <ℤ (result +ℤ pos unit) }
-    ensures none_between { (p : _) (w : _) → DividesWeights unit p.soft → found ≡ value p w
-        → NoneIsBetween p result (bound +ℤ pos 1) }
+    ensures none_between { LeavesNone unit found result bound }
 {
     if unit == 0 {
         return found;
