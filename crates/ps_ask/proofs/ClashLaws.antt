@@ -8,7 +8,7 @@ use Rattle.ps_answer.specs.declared.answer.Model.{Model}
 use Rattle.ps_answer.specs.declared.answer.Answer.{Answer}
 use Rattle.ps_answer.specs.declared.answer.Verdict.{Verdict}
 use Rattle.ps_answer.specs.declared.answer.Verdict.TheVariants as verdict
-use Rattle.ps_entailment.specs.Answers.{ShowsConsistent, IsRightVerdict}
+use Rattle.ps_claims.specs.Answers.{ShowsConsistent, IsRightVerdict}
 use Rattle.ps_certificate.specs.Certificates.{model_of}
 use Rattle.ps_valid.specs.Answers.{IsRightOf, verdict_of}
 use Rattle.ps_generation.specs.declared.limits.Limits.{Limits}

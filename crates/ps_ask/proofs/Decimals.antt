@@ -9,7 +9,7 @@ use Rattle.ps_meaning.specs.Formula.{Formula, And, is_true}
 use Rattle.ps_meaning.specs.Distribution.{Entry, weight}
 use Rattle.ps_meaning.specs.Bounds as meaning
 use Rattle.ps_meaning.proofs.Weights.{weight-nonneg}
-use Rattle.ps_entailment.specs.Queries.{Query, Reaches}
+use Rattle.ps_claims.specs.Queries.{Query, Reaches}
 use Rattle.ps_problem.specs.declared.query.Query as stored
 use Rattle.ps_problem.specs.Problems.{Parts}
 use Rattle.ps_claims.specs.declared.claim_kind.ClaimKind.{ClaimKind}
@@ -22,7 +22,7 @@ use Rattle.ps_claims.specs.declared.claim_kind.ClaimKind.TheVariants.{Lower, Upp
 use Rattle.ps_certificate.specs.Certificates.{dual_of}
 use Rattle.ps_claims.specs.Validity.{IsValidSide, IsValidPart}
 use Rattle.ps_valid.specs.Answers.{side_of, part_of, parts_of}
-use Rattle.ps_printed.specs.Printed.{IsPrintedSide, IsPrintedPart}
+use Rattle.ps_certificate.specs.Printed.{IsPrintedSide, IsPrintedPart}
 use Rattle.ps_reported.proofs.Values.{value_low, value_small}
 use Rattle.std.specs.Prelude.{◌⊎◌}
 use Rattle.ps_guided.specs.Solutions.{IsAnsweredPart}

@@ -1,7 +1,7 @@
 -- Which sentences of a problem clash.
 use Rattle.std.specs.Prelude.{◌≡◌, ◌⊎◌, true, ℕ, List, length, map, All, Option, Some, None}
 use Rattle.ps_problem.specs.Problems.{Parts, bounds_of}
-use Rattle.ps_entailment.specs.Queries.{IsInconsistent}
+use Rattle.ps_claims.specs.Queries.{IsInconsistent}
 use Rattle.ps_pool.specs.declared.event.Event.{Event}
 use Rattle.ps_answer.specs.declared.answer.Cause.{Cause}
 use Rattle.ps_answer.specs.declared.answer.Dual.{Dual}

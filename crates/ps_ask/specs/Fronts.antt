@@ -9,11 +9,11 @@ use Rattle.ps_answer.specs.declared.answer.QueryPart.{QueryPart}
 use Rattle.ps_answer.specs.declared.answer.SideAnswer.{SideAnswer}
 use Rattle.ps_answer.specs.declared.answer.Verdict.{Verdict}
 use Rattle.ps_answer.specs.declared.answer.Verdict.TheVariants.{Open}
-use Rattle.ps_entailment.specs.Answers.{IsRightVerdict, IsRightPart}
+use Rattle.ps_claims.specs.Answers.{IsRightVerdict, IsRightPart}
 use Rattle.ps_claims.specs.Validity.{IsValid, IsValidPart, query_of}
 use Rattle.ps_valid.specs.Answers.{answer_of, part_of, verdict_of, IsRightOf}
 use Rattle.ps_phases.specs.Verdicts.{asked_after}
-use Rattle.ps_printed.specs.Printed.{IsPrintedPart}
+use Rattle.ps_certificate.specs.Printed.{IsPrintedPart}
 use Rattle.ps_guided.specs.Known.{AreFound}
 use Rattle.ps_guided.specs.Solutions.{IsAnsweredPart, IsAnsweredVerdict, IsSettledSolution}
 use Rattle.ps_spoken.specs.Spoken.{spoken, out_of_time, verdict_text, part_text, parts_text}

@@ -6,12 +6,12 @@ use crate::notes::Input;
 use crate::sought::Sought;
 use ps_answer::{Answer, Model, QueryAnswer, SideAnswer, Verdict};
 use ps_engine::Engine;
+use ps_float_pricing::Member;
 use ps_guess::Trials;
 use ps_guided::{InTime, find_nothing};
 use ps_hints::{sentence_lines, write_idle_condition};
 use ps_io::NoMemory;
 use ps_problem::{Bound, Problem, Query, Sentence};
-use ps_relaxed::Member;
 use std::alloc::Global;
 
 // Marks the formulas, as nodes, that a distribution gives weight.

@@ -7,12 +7,12 @@ use Rattle.ps_rational.specs.Rational.{Rational, fraction, neg, zero_q, one_q}
 use Rattle.ps_rational.specs.Order.{IsNonneg}
 use Rattle.ps_rational.proofs.Field.{zero_is_fraction, one_is_fraction, minus_one_is_fraction}
 use Rattle.ps_rational.proofs.Order.{above_nonneg, one_above}
-use Rattle.ps_basis.specs.Table.{unit_at}
+use Rattle.ps_simplex.specs.Table.{unit_at}
 use Rattle.ps_table.specs.declared.costs.Costs.{Costs}
 use Rattle.ps_table.specs.Tableau.{Tableau, IsTableFor, IsColumn}
 use Rattle.ps_table.specs.Pricing.{cost_at, cost_number, HasCosts}
-use Rattle.ps_rule.specs.Rule.{IsFeasible}
-use Rattle.ps_rule.specs.declared.phase.Phase.TheVariants.{Upper}
+use Rattle.ps_simplex.specs.Rule.{IsFeasible}
+use Rattle.ps_simplex.specs.declared.phase.Phase.TheVariants.{Upper}
 use Rattle.ps_bland.specs.Columns.{AreColumns}
 use Rattle.ps_bland.specs.Rules.{simplex_of}
 use Rattle.ps_bland.specs.Ready.{HasUnitRow, HasNoNegativeValue, IsReady}

@@ -1,7 +1,7 @@
 -- Pivots by the rule meet no basis twice.
 use Rattle.std.proofs.Common.{ℕ, ◌+◌, List, sym, ◌∙◌, subst, arith}
 use Rattle.std.proofs.lemmas.List.{append_cancel_left}
-use Rattle.ps_rule.specs.declared.phase.Phase.{Phase}
+use Rattle.ps_simplex.specs.declared.phase.Phase.{Phase}
 use Rattle.ps_cycle.specs.Cycle.{NoBasisTwice, IsStart}
 use Rattle.ps_cycle.proofs.Few as few_of
 use Rattle.ps_cycle.proofs.Twice as twice

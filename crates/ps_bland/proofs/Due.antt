@@ -3,7 +3,7 @@ use Rattle.std.proofs.Common.{◌≡◌, ℕ, suc, ◌+◌, ◌-◌, ◌<◌, le
 use Rattle.std.proofs.lemmas.Bool.{cases_eq, cases_lt}
 use Rattle.std.proofs.lemmas.List.{get_or_past}
 use Rattle.ps_table.specs.declared.home.Home.TheVariants.{Slack}
-use Rattle.ps_rule.specs.Rule.{Improves}
+use Rattle.ps_simplex.specs.Rule.{Improves}
 use Rattle.ps_table.specs.declared.costs.Costs.{Costs}
 use Rattle.ps_table.specs.declared.place.WideAt.{WideAt}
 use Rattle.ps_pool.specs.declared.col.Col.{Col}
@@ -11,7 +11,7 @@ use Rattle.ps_pool.specs.declared.col.Col.TheVariants as col
 use Rattle.ps_table.specs.Tableau.{Tableau, number_in, number_of, IsInside, HasColumn}
 use Rattle.ps_table.specs.Pricing.{cost_at}
 use Rattle.ps_table.specs.Places.{CostPlaces, IsWideAt, IsNarrow}
-use Rattle.ps_rule.specs.declared.phase.Phase.{Phase}
+use Rattle.ps_simplex.specs.declared.phase.Phase.{Phase}
 use Rattle.ps_bland.specs.Rules.{simplex_of, is_artificial, artificial_at, is_artificial_column}
 use Rattle.ps_bland.specs.Ends.{IsCarriedWide, IsDueWide}
 use Rattle.ps_bland.specs.Rounds.{AreCarriedNarrow, AreNarrowBefore}

@@ -8,7 +8,7 @@ use Rattle.ps_table.specs.declared.place.WideAt.{WideAt}
 use Rattle.ps_table.specs.Tableau.{Tableau}
 use Rattle.ps_table.specs.Pricing.{cost_at}
 use Rattle.ps_table.specs.Places.{IsWide, IsWideAt}
-use Rattle.ps_rule.specs.declared.phase.Phase.{Phase}
+use Rattle.ps_simplex.specs.declared.phase.Phase.{Phase}
 use Rattle.ps_bland.specs.Rules.{simplex_of}
 use Rattle.ps_bland.specs.Ends.{IsDueWide}
 use Rattle.ps_bland.specs.Ends.IsDueWide.{at_cost, at_ratio, at_pivot}

@@ -7,8 +7,8 @@ use Rattle.ps_rational.proofs.Order.{zero_nonneg, above_nonneg, one_above}
 use Rattle.ps_table.specs.declared.costs.Costs.{Costs}
 use Rattle.ps_table.specs.Tableau.{Tableau}
 use Rattle.ps_table.specs.Pricing.{cost_at, HasCosts}
-use Rattle.ps_rule.specs.declared.phase.Phase.{Phase}
-use Rattle.ps_rule.specs.declared.phase.Phase.TheVariants.{One, Lower, Upper}
+use Rattle.ps_simplex.specs.declared.phase.Phase.{Phase}
+use Rattle.ps_simplex.specs.declared.phase.Phase.TheVariants.{One, Lower, Upper}
 use Rattle.ps_bland.specs.Rules.{artificial_at}
 use Rattle.ps_bland.specs.Ready.{HasNoNegativeCost, HasUnitRow, FitsPhase, HasNoNegativeValue, IsReady, HasFirstCosts, HasWorldCosts, HasWorldRow, IsPosed}
 

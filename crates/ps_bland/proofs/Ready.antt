@@ -10,12 +10,12 @@ use Rattle.ps_rational.proofs.Order.{at_most_mul, nonneg-add, nonneg-mul, nonneg
 use Rattle.ps_rational.proofs.Whole.{whole_nonneg}
 use Rattle.std.proofs.Math.ListN.{get_or-append}
 use Rattle.std.proofs.Common.{get_or-append-add, ◌++◌}
-use Rattle.ps_basis.specs.Table.{unit_at, Belongs}
-use Rattle.ps_basis.proofs.PivotKeeps.{swapped}
-use Rattle.ps_basis.proofs.Units.{unit_at-same, unit_at-other}
+use Rattle.ps_simplex.specs.Table.{unit_at, Belongs}
+use Rattle.ps_simplex.proofs.PivotKeeps.{swapped}
+use Rattle.ps_simplex.proofs.Units.{unit_at-same, unit_at-other}
 use Rattle.std.proofs.Common.{List, ◌≤◌, ◌-◌}
-use Rattle.ps_rule.proofs.Rays.{no_ray, no_ray_upper}
-use Rattle.ps_rule.specs.Rule.{Improves, IsFeasible, table_of}
+use Rattle.ps_simplex.proofs.Rays.{no_ray, no_ray_upper}
+use Rattle.ps_simplex.specs.Rule.{Improves, IsFeasible, table_of}
 use Rattle.ps_cycle.specs.Cycle.{HasZeroArtificials, IsStart}
 use Rattle.ps_cycle.proofs.Values as values
 use Rattle.ps_table.specs.declared.home.Home.{Home}
@@ -25,8 +25,8 @@ use Rattle.ps_pool.specs.declared.col.Col.TheVariants as col
 use Rattle.ps_table.specs.Tableau.{Tableau, IsTableau, IsInside, IsPivot, IsAdded, basic_at, entry_at, number_in}
 use Rattle.ps_table.specs.Pricing.{cost_at}
 use Rattle.ps_table.proofs.Columns.{number_within}
-use Rattle.ps_rule.specs.declared.phase.Phase.{Phase}
-use Rattle.ps_rule.specs.declared.phase.Phase.TheVariants.{One, Lower, Upper}
+use Rattle.ps_simplex.specs.declared.phase.Phase.{Phase}
+use Rattle.ps_simplex.specs.declared.phase.Phase.TheVariants.{One, Lower, Upper}
 use Rattle.ps_bland.specs.Rules.{simplex_of, artificial_at, IsLawful}
 use Rattle.ps_bland.specs.Ready.{HasNoNegativeCost, HasUnitRow, BelongsTo, FitsPhase, IsReady}
 use Rattle.ps_bland.specs.Rounds.{HasRising, CanLeave}

@@ -8,8 +8,8 @@ use Rattle.ps_rational.specs.Rational.{Rational, neg}
 use Rattle.ps_rational.specs.Order.{IsNonneg, AtMost, IsAbove, IsLess}
 use Rattle.ps_rational.proofs.Cross.{same_from_cross}
 use Rattle.ps_rational.proofs.Order.{at_most_trans, at_most_from_less, at_most_refl, at_most_antisym, not_self_less}
-use Rattle.ps_rule.specs.Rule.{SimplexTable, GoesBefore, Precedes, ratio, IsRising}
-use Rattle.ps_rule.proofs.Signs.{above_or_not}
+use Rattle.ps_simplex.specs.Rule.{SimplexTable, GoesBefore, Precedes, ratio, IsRising}
+use Rattle.ps_simplex.proofs.Signs.{above_or_not}
 use Rattle.ps_table.specs.declared.costs.Costs.{Costs}
 use Rattle.ps_pool.specs.declared.col.Col.{Col}
 use Rattle.std.proofs.Common.{append-nil, append_assoc, length-append}
@@ -22,11 +22,11 @@ use Rattle.ps_bland.specs.Rules.{simplex_of, IsLawful}
 use Rattle.ps_bland.specs.Runs.{system_of, pivots_of, ArePivots, Ran, Run}
 use Rattle.ps_bland.specs.Ends.{IsDueRefusal}
 use Rattle.ps_bland.specs.Rounds.{IsLeastBefore, IsStep}
-use Rattle.ps_basis.specs.Table.{Based}
-use Rattle.ps_rule.specs.Pivots.{Pivots, IsLawfulAt}
-use Rattle.ps_rule.specs.Pivots.Pivots.{still as no_moves, more as one_move}
+use Rattle.ps_simplex.specs.Table.{Based}
+use Rattle.ps_simplex.specs.Pivots.{Pivots, IsLawfulAt}
+use Rattle.ps_simplex.specs.Pivots.Pivots.{still as no_moves, more as one_move}
 use Rattle.ps_table.specs.declared.home.Home.{Home}
-use Rattle.ps_rule.specs.declared.phase.Phase.{Phase}
+use Rattle.ps_simplex.specs.declared.phase.Phase.{Phase}
 use Rattle.ps_bland.specs.Ends.IsDueWide.{at_pivot}
 use Rattle.ps_table.specs.declared.error.TableError.{TableError}
 use Rattle.ps_table.specs.declared.error.TableError.TheVariants.{Wide, NoMemory}

@@ -1,7 +1,7 @@
 -- How the pivots of a phase end, and which places are due.
 use Rattle.std.specs.Prelude.{◌≡◌, ℕ, ◌<◌, false, Result, Ok, Err}
 use Rattle.ps_frac.specs.declared.wide.Op.TheVariants.{Div}
-use Rattle.ps_rule.specs.Rule.{SimplexTable, Improves, IsMoving, IsResting, Enters, IsRising, HasNoArtificialRow}
+use Rattle.ps_simplex.specs.Rule.{SimplexTable, Improves, IsMoving, IsResting, Enters, IsRising, HasNoArtificialRow}
 use Rattle.ps_pool.specs.declared.col.Col.{Col}
 use Rattle.ps_table.specs.declared.costs.Costs.{Costs}
 use Rattle.ps_table.specs.declared.place.Place.TheVariants.{Ratio}
@@ -11,8 +11,8 @@ use Rattle.ps_table.specs.declared.error.TableError.TheVariants.{Wide, NoMemory}
 use Rattle.ps_table.specs.Tableau.{Tableau, number_of, entry_at, HasColumn}
 use Rattle.ps_table.specs.Pricing.{cost_at}
 use Rattle.ps_table.specs.Places.{IsOperationWide, IsWideAt, PivotPlaces, CostPlaces}
-use Rattle.ps_rule.specs.declared.phase.Phase.{Phase}
-use Rattle.ps_rule.specs.declared.phase.Phase.TheVariants.{One, Lower, Upper}
+use Rattle.ps_simplex.specs.declared.phase.Phase.{Phase}
+use Rattle.ps_simplex.specs.declared.phase.Phase.TheVariants.{One, Lower, Upper}
 use Rattle.ps_bland.specs.declared.settled.Settled.{Settled}
 use Rattle.ps_bland.specs.declared.settled.Settled.TheVariants.{Feasible, AtRest, OutOfPivots}
 use Rattle.ps_bland.specs.Rules.{IsDueToEndIn, IsLawful, is_artificial_column, simplex_of}

@@ -1,8 +1,8 @@
 -- What the code has looked at so far, and what one round does.
 use Rattle.std.specs.Prelude.{◌≡◌, ◌≢◌, ℕ, suc, ◌+◌, ◌<◌, true, false, List, [], ◌∷◌, ◌++◌, Option, Some, None, Result, Ok, Err}
 use Rattle.ps_rational.specs.Rational.{Rational, zero_q}
-use Rattle.ps_rule.specs.Rule.{Improves, Enters, IsRising, IsArtificialRow, HasNoArtificialRow, IsLeastArtificialRow}
-use Rattle.ps_rule.specs.Rule.{ratio, GoesBefore, Precedes, HasLeastRatio, Leaves}
+use Rattle.ps_simplex.specs.Rule.{Improves, Enters, IsRising, IsArtificialRow, HasNoArtificialRow, IsLeastArtificialRow}
+use Rattle.ps_simplex.specs.Rule.{ratio, GoesBefore, Precedes, HasLeastRatio, Leaves}
 use Rattle.ps_pool.specs.declared.col.Col.{Col}
 use Rattle.ps_table.specs.declared.costs.Costs.{Costs}
 use Rattle.ps_table.specs.declared.place.WideAt.{WideAt}
@@ -12,8 +12,8 @@ use Rattle.ps_table.specs.Pricing.{cost_at}
 use Rattle.ps_table.specs.Places.{CostPlaces, IsNarrow}
 use Rattle.ps_pool.specs.declared.event.Event.{Event}
 use Rattle.ps_pool.specs.declared.event.Event.TheVariants.{Pivot}
-use Rattle.ps_rule.specs.declared.phase.Phase.{Phase}
-use Rattle.ps_rule.specs.declared.phase.Phase.TheVariants.{One, Lower, Upper}
+use Rattle.ps_simplex.specs.declared.phase.Phase.{Phase}
+use Rattle.ps_simplex.specs.declared.phase.Phase.TheVariants.{One, Lower, Upper}
 use Rattle.ps_bland.specs.declared.settled.Settled.{Settled}
 use Rattle.ps_bland.specs.Rules.{artificial_at, IsLawful, is_artificial_column, simplex_of}
 use Rattle.ps_bland.specs.Ends.{IsRatioWide, IsCarriedWide, IsLeftToRatios, AreDueNarrow, IsDueRefusal, IsSettled}

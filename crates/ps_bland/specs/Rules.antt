@@ -1,13 +1,13 @@
 -- A table as the rule sees it, and its pivots by the rule.
 use Rattle.std.specs.Prelude.{ℕ, ◌-◌, Bool, true, false, List, get_or}
-use Rattle.ps_rule.specs.Rule.{SimplexTable, IsDueToEnd, Enters, Leaves}
+use Rattle.ps_simplex.specs.Rule.{SimplexTable, IsDueToEnd, Enters, Leaves}
 use Rattle.ps_table.specs.declared.home.Home.{Home}
 use Rattle.ps_table.specs.declared.home.Home.TheVariants.{Slack, Artificial}
 use Rattle.ps_pool.specs.declared.col.Col.{Col}
 use Rattle.ps_table.specs.declared.costs.Costs.{Costs}
 use Rattle.ps_table.specs.Tableau.{Tableau, number_of, entry_at, basic_at, HasColumn, rows_of, width_of}
 use Rattle.ps_table.specs.Pricing.{cost_at}
-use Rattle.ps_rule.specs.declared.phase.Phase.{Phase}
+use Rattle.ps_simplex.specs.declared.phase.Phase.{Phase}
 
 -- whether a home is an artificial
 abbrev pub is_artificial : Home → Bool

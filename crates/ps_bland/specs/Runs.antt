@@ -1,7 +1,7 @@
 -- Lawful pivots one after the other.
 use Rattle.std.specs.Prelude.{◌≡◌, ℕ, ◌+◌, ◌<◌, List, [], ◌∷◌, ◌++◌, length}
 use Rattle.ps_rational.specs.Rational.{Rational}
-use Rattle.ps_rule.specs.Pivots.{System, Pivot as BasisPivot, Pivots}
+use Rattle.ps_simplex.specs.Pivots.{System, Pivot as BasisPivot, Pivots}
 use Rattle.ps_cycle.specs.Count.{choose}
 use Rattle.ps_cycle.specs.Cycle.{NoBasisTwice}
 use Rattle.ps_table.specs.declared.home.Home.{Home}
@@ -11,7 +11,7 @@ use Rattle.ps_table.specs.Tableau.{Tableau, number_in, rows_of, width_of, basic_
 use Rattle.ps_table.specs.Pricing.{cost_at}
 use Rattle.ps_pool.specs.declared.event.Event.{Event}
 use Rattle.ps_pool.specs.declared.event.Event.TheVariants.{Pivot, Priced}
-use Rattle.ps_rule.specs.declared.phase.Phase.{Phase}
+use Rattle.ps_simplex.specs.declared.phase.Phase.{Phase}
 use Rattle.ps_bland.specs.Rules.{artificial_at, IsLawful}
 
 -- lawful pivots lead from s to t

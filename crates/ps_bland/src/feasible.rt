@@ -1,12 +1,12 @@
 //! Whether phase one is due to end.
 ghost use Rattle.std.specs.Prelude.{◌<◌, ◌↔◌, IsTrue};
-ghost use Rattle.ps_rule.specs.Rule.{IsFeasible};
+ghost use Rattle.ps_simplex.specs.Rule.{IsFeasible};
 ghost use Rattle.ps_table.specs.Tableau.{rows_of, IsTableau};
 ghost use Rattle.ps_bland.specs.Rules.{simplex_of, IsDueToEndIn};
 ghost use Rattle.ps_bland.specs.Rounds.{IsRowFeasible};
 
 use crate::columns::is_artificial;
-use ps_rule::Phase;
+use ps_simplex::Phase;
 use ps_table::Table;
 
 /// Whether a row has value 0, or a basic column that isn't artificial.

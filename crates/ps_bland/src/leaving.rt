@@ -7,7 +7,7 @@ ghost use Rattle.ps_bland.specs.Rounds.{LeavesIn, HasEntryIn, IsRatioWideIn, IsL
 use crate::columns::is_artificial;
 use crate::ratios::least_row;
 use ps_pool::Col;
-use ps_rule::Phase;
+use ps_simplex::Phase;
 use ps_table::{Table, WideAt};
 
 /// Whether the row's basic column is artificial and its entry isn't 0.

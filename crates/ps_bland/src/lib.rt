@@ -12,7 +12,7 @@ mod settling;
 
 pub use laws::{due_places, ready_tables};
 /// The phases of a run.
-pub use ps_rule::Phase;
+pub use ps_simplex::Phase;
 /// Why the pivots were broken off.
 pub use ps_table::TableError as SettleError;
 pub use settled::Settled;

@@ -13,7 +13,7 @@ use crate::feasible::is_due_to_end;
 use crate::leaving::leaving;
 use crate::settled::Settled;
 use ps_pool::{Col, Event, Trace};
-use ps_rule::Phase;
+use ps_simplex::Phase;
 use ps_table::{Costs, Table, TableError};
 
 /// The pivot and its event, or neither.

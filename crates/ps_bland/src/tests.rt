@@ -22,7 +22,7 @@ use five_rows::FIVE_ROWS;
 use ps_frac::Fraction;
 use ps_io::{List, NoMemory};
 use ps_pool::{Col, Event, Trace};
-use ps_rule::Phase;
+use ps_simplex::Phase;
 use ps_table::{CostList, Costs, Home, Table, WideAt};
 use std::alloc::Global;
 use three_rows::THREE_ROWS;

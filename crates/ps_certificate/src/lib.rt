@@ -1,4 +1,6 @@
-//! Combinations of a claim and a problem's bounds, by the multipliers of a dual.
+//! Combinations of a claim and a problem's bounds, by the multipliers of a dual; and the words in
+//! which contracts say that what was found can be printed: its numbers are within the limits of a
+//! report.
 #![tactic(auto)]
 
 mod combining;

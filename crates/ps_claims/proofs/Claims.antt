@@ -11,7 +11,7 @@ use Rattle.ps_meaning.specs.Bounds.{MeetsBound, MeetsAll}
 use Rattle.ps_meaning.proofs.Weights.{total-positive}
 use Rattle.ps_problem.specs.declared.query.Query as stored
 use Rattle.ps_problem.specs.Problems.{Parts, bounds_of}
-use Rattle.ps_entailment.specs.Answers.{Model, Verdict, Consistent, Inconsistent, OpenVerdict, SideAnswer, Value, OpenSide, QueryAnswer, Interval, Impossible, OpenQuery, Answer, asked_under}
+use Rattle.ps_claims.specs.Answers.{Model, Verdict, Consistent, Inconsistent, OpenVerdict, SideAnswer, Value, OpenSide, QueryAnswer, Interval, Impossible, OpenQuery, Answer, asked_under}
 use Rattle.ps_claims.specs.Duals.{Dual, ClaimKind, Nothing, Lower, Upper, HasSign}
 use Rattle.ps_claims.specs.declared.claim.Claim.{Claim}
 use Rattle.ps_claims.specs.declared.claim.Claim.TheVariants as claim

@@ -9,9 +9,9 @@ use Rattle.ps_meaning.specs.Rows.{indicator, weighted_sum}
 use Rattle.ps_meaning.proofs.Integers.{mul-nonneg, mul_sub, mul-one}
 use Rattle.ps_meaning.proofs.Rows.{weighted_sum-add, weighted_sum-sub}
 use Rattle.ps_rational.specs.Rational.{Rational}
-use Rattle.ps_entailment.specs.Queries.{Query, IsImpossible, Holds}
+use Rattle.ps_claims.specs.Queries.{Query, IsImpossible, Holds}
 use Rattle.ps_claims.specs.Duals.{Dual, ClaimKind, Nothing, Lower, Upper, HaveSigns, kept_of, AreZeroElsewhere, sum_of_rows, claimed_in, combination, IsNeverAbove, HasNothingHead, HasValueHead}
-use Rattle.ps_entailment.proofs.Products.{ratio-least, ratio-most}
+use Rattle.ps_claims.proofs.Products.{ratio-least, ratio-most}
 use Rattle.ps_claims.proofs.Sums.{weighted_sum-rows, weighted_sum-kept, weighted_sum-times, weighted_sum-never_above}
 
 -- over a distribution the claim alone sums to at most 0, where the bounds' rows sum to at least 0

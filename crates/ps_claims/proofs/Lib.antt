@@ -1,3 +1,5 @@
+pub mod Products
+pub mod Tight
 pub mod Sums
 pub mod Duality
 pub mod NodeSums

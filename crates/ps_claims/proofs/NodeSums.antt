@@ -20,7 +20,7 @@ use Rattle.ps_steps.specs.Assignments.{holds}
 use Rattle.ps_forms.specs.Extensions.{extension}
 use Rattle.ps_forms.specs.Clauses.{positive}
 use Rattle.ps_forms.proofs.Tidy.{holds-positive}
-use Rattle.ps_entailment.specs.Queries.{Query}
+use Rattle.ps_claims.specs.Queries.{Query}
 use Rattle.ps_claims.specs.Duals.{Dual, ClaimKind, Nothing, Lower, Upper, sum_of_rows, claimed_in, combination}
 use Rattle.ps_claims.specs.Validity.{query_of}
 use Rattle.ps_claims.specs.Goals.{Combination, value_under, plus, at_node, at_condition, row_times, rows_times, claimed_of, combination_of}

@@ -12,7 +12,7 @@ use Rattle.ps_meaning.specs.Rows.{indicator, row_value, weighted_sum}
 use Rattle.ps_meaning.proofs.Integers.{mul-nonneg, mul-zero}
 use Rattle.ps_meaning.proofs.Rows.{weighted_sum-indicator, weighted_sum-add, weighted_sum-scale, weighted_sum-nonpos, meets_row}
 use Rattle.ps_claims.specs.Duals.{HasSign, HaveSigns, kept_of, AreZeroElsewhere, sum_of_rows, IsNeverAbove}
-use Rattle.ps_entailment.proofs.Products.{mul-nonpos_nonpos}
+use Rattle.ps_claims.proofs.Products.{mul-nonpos_nonpos}
 
 -- a number on its side of 0, times a multiplier that isn't of the wrong sign
 sign-product : (side : Side) (y s : ℤ) → HasSign side y → Compares side s (pos 0) → pos 0 ≤ℤ (y *ℤ s)

@@ -9,8 +9,8 @@ use Rattle.ps_meaning.proofs.Weights.{total-positive}
 use Rattle.ps_problem.specs.declared.query.Query as stored
 use Rattle.ps_problem.specs.Problems.{Parts, AreParts, bounds_in, bounds_of, given_at, HasNodes}
 use Rattle.ps_forms.specs.Extensions.{extension}
-use Rattle.ps_entailment.specs.Queries.{Query, IsInconsistent, IsImpossible}
-use Rattle.ps_entailment.specs.Answers.{Verdict, Consistent, Inconsistent, OpenVerdict, SideAnswer, Value, OpenSide, QueryAnswer, Interval, Impossible, OpenQuery, Answer, IsRightVerdict, IsRightSide, IsRightPart, asked_under}
+use Rattle.ps_claims.specs.Queries.{Query, IsInconsistent, IsImpossible}
+use Rattle.ps_claims.specs.Answers.{Verdict, Consistent, Inconsistent, OpenVerdict, SideAnswer, Value, OpenSide, QueryAnswer, Interval, Impossible, OpenQuery, Answer, IsRightVerdict, IsRightSide, IsRightPart, asked_under}
 use Rattle.ps_claims.specs.Duals.{Dual, ClaimKind, Nothing, Lower, Upper, claimed_in, combination, IsNeverAbove}
 use Rattle.ps_claims.specs.Goals.{value_under, claimed_of, combination_of}
 use Rattle.ps_claims.specs.Validity.{query_of, IsRefuted, ShowsNothing, IsValidVerdict, IsValidSide, IsValidPart, IsValid, IsRightFor}

@@ -7,10 +7,10 @@ use Rattle.ps_meaning.specs.Bounds.{Bound, MeetsBound, MeetsAll}
 use Rattle.ps_problem.specs.declared.query.Query as stored
 use Rattle.ps_problem.specs.Problems.{Parts, bounds_of, given_at}
 use Rattle.ps_rational.specs.Rational.{Rational}
-use Rattle.ps_entailment.specs.Queries.{bound_on}
-use Rattle.ps_entailment.specs.Answers.{Model, Verdict, Consistent, Inconsistent, OpenVerdict}
-use Rattle.ps_entailment.specs.Answers.{SideAnswer, Value, OpenSide, QueryAnswer, Interval}
-use Rattle.ps_entailment.specs.Answers.{Impossible, OpenQuery, Answer, ShowsConsistent, asked_under}
+use Rattle.ps_claims.specs.Queries.{bound_on}
+use Rattle.ps_claims.specs.Answers.{Model, Verdict, Consistent, Inconsistent, OpenVerdict}
+use Rattle.ps_claims.specs.Answers.{SideAnswer, Value, OpenSide, QueryAnswer, Interval}
+use Rattle.ps_claims.specs.Answers.{Impossible, OpenQuery, Answer, ShowsConsistent, asked_under}
 use Rattle.ps_claims.specs.declared.claim.Claim.{Claim}
 use Rattle.ps_claims.specs.declared.claim.Claim.TheVariants as claim
 use Rattle.ps_claims.specs.declared.claim.Claim.TheVariants.{Report}

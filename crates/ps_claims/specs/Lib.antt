@@ -1,9 +1,13 @@
--- Meaning
+-- Meaning: what the sentences entail
+pub mod Queries
+pub mod Answers
+-- Meaning: claims and their certificates
 pub mod Duals
 pub mod Goals
 pub mod Limits
 pub mod Validity
 pub mod Faults
 pub mod Claims
--- Laws, as the functions of laws.rt promise them
-pub mod Laws
+-- Laws, as the functions of entailment_laws.rt and claim_laws.rt promise them
+pub mod EntailmentLaws
+pub mod ClaimLaws

@@ -7,10 +7,10 @@ use Rattle.ps_problem.specs.Problems.{Parts, bounds_in, bounds_of, tree_at, give
 use Rattle.ps_rational.specs.Rational.{Rational}
 use Rattle.ps_steps.specs.Steps.{Refutes}
 use Rattle.ps_forms.specs.Forms.{form_of, first_known}
-use Rattle.ps_entailment.specs.Queries.{Query, Reaches}
-use Rattle.ps_entailment.specs.Answers.{Model, Verdict, Consistent, Inconsistent, OpenVerdict, SideAnswer}
-use Rattle.ps_entailment.specs.Answers.{Value, OpenSide, QueryAnswer, Interval, Impossible, OpenQuery}
-use Rattle.ps_entailment.specs.Answers.{Answer, IsBasicModel, ShowsConsistent, asked_under, IsRight}
+use Rattle.ps_claims.specs.Queries.{Query, Reaches}
+use Rattle.ps_claims.specs.Answers.{Model, Verdict, Consistent, Inconsistent, OpenVerdict, SideAnswer}
+use Rattle.ps_claims.specs.Answers.{Value, OpenSide, QueryAnswer, Interval, Impossible, OpenQuery}
+use Rattle.ps_claims.specs.Answers.{Answer, IsBasicModel, ShowsConsistent, asked_under, IsRight}
 use Rattle.ps_claims.specs.Duals.{Dual, ClaimKind, Nothing, Lower, Upper, HaveSigns, HasNothingHead, HasValueHead}
 use Rattle.ps_claims.specs.Goals.{combination_of, goal_of}
 

@@ -1,19 +1,22 @@
-//! The words in which contracts speak of answers to a problem: when they are right, and when their
-//! certificates are valid.
+//! The words in which contracts say what a problem's sentences entail: which distributions are
+//! allowed, when bounds are inconsistent and evidence impossible, what bounds a query's
+//! probability; when an answer is right, and when its certificates are valid.
 #![tactic(auto)]
 
 mod claim;
 mod claim_kind;
+mod claim_laws;
 mod combination;
-mod laws;
+mod entailment_laws;
 mod reason;
 
 pub use claim::Claim;
 pub use claim_kind::ClaimKind;
-pub use combination::Combination;
-pub use laws::{
+pub use claim_laws::{
     combinations_are_sums, duals_are_faultless_or_not, duals_bound_probabilities,
     heads_are_quotients, refuted_goals_bound_combinations, valid_answers_are_right,
     valid_claims_have_no_fault,
 };
+pub use combination::Combination;
+pub use entailment_laws::{reached_bounds_are_tight, reached_values_are_quotients};
 pub use reason::Reason;

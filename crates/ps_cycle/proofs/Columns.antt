@@ -1,7 +1,7 @@
 -- Which columns enter and leave on a walk, and which rows change.
 use Rattle.std.proofs.Common.{◌≡◌, ◌⊎◌, inl, inr, ℕ, zero, suc, ◌<◌, ◌≤◌, refl, sym, ap, ◌∙◌, subst, arith}
 use Rattle.std.proofs.lemmas.Bool.{cases_eq, cases_lt}
-use Rattle.ps_basis.specs.Table.{Based}
+use Rattle.ps_simplex.specs.Table.{Based}
 use Rattle.ps_cycle.specs.Cycle.{IsBasicIn}
 
 -- column c enters at one of these steps

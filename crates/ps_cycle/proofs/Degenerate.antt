@@ -8,12 +8,12 @@ use Rattle.ps_rational.specs.Sums.{sum_to}
 use Rattle.ps_rational.proofs.Field.{ring_q}
 use Rattle.ps_rational.proofs.Order.{nonneg-mul, zero_nonneg, at_most_from_less, at_most_refl, at_most_trans, at_most_antisym}
 use Rattle.ps_rational.proofs.Sums.{sum_nonneg, sum_parts_zero, sum_all_zero}
-use Rattle.ps_basis.specs.Table.{carried_by}
-use Rattle.ps_rule.specs.declared.phase.Phase.{Phase}
-use Rattle.ps_rule.specs.Pivots.{System, simplex_table}
+use Rattle.ps_simplex.specs.Table.{carried_by}
+use Rattle.ps_simplex.specs.declared.phase.Phase.{Phase}
+use Rattle.ps_simplex.specs.Pivots.{System, simplex_table}
 use Rattle.ps_cycle.specs.Cycle.{gain, HaveSameColumns}
 use Rattle.ps_cycle.proofs.Reduced.{reduced_along}
-use Rattle.ps_rule.proofs.Signs.{difference_not_zero, other_factor}
+use Rattle.ps_simplex.proofs.Signs.{difference_not_zero, other_factor}
 use Rattle.ps_cycle.proofs.Values as values
 use Rattle.ps_cycle.proofs.Heart.{gain_of_basic}
 use Rattle.ps_cycle.proofs.Walks.{Stage, IsSound, IsStep, IsWalk}

@@ -2,10 +2,10 @@
 use Rattle.std.proofs.Common.{◌≡◌, ◌≢◌, ℕ, zero, suc, ◌+◌, ◌-◌, ◌<◌, ◌≤◌, List, length, sym, ap, ◌∙◌, subst, arith, inl, inr}
 use Rattle.std.proofs.lemmas.Bool.{cases_eq}
 use Rattle.ps_rational.specs.Rational.{Rational}
-use Rattle.ps_basis.specs.Table.{IsBasisTable, IsBasis}
-use Rattle.ps_rule.specs.declared.phase.Phase.{Phase}
-use Rattle.ps_rule.specs.Pivots.{System, simplex_table, Pivot, Pivots}
-use Rattle.ps_rule.proofs.OnePivot.{distinct}
+use Rattle.ps_simplex.specs.Table.{IsBasisTable, IsBasis}
+use Rattle.ps_simplex.specs.declared.phase.Phase.{Phase}
+use Rattle.ps_simplex.specs.Pivots.{System, simplex_table, Pivot, Pivots}
+use Rattle.ps_simplex.proofs.OnePivot.{distinct}
 use Rattle.ps_cycle.specs.Count.{choose}
 use Rattle.ps_cycle.specs.Cycle.{IsStart, HaveSameColumns}
 use Rattle.ps_cycle.proofs.Choices.{count, rank, rank_less}

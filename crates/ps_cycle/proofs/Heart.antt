@@ -8,11 +8,11 @@ use Rattle.ps_rational.specs.Sums.{sum_to}
 use Rattle.ps_rational.proofs.Field.{ring_q}
 use Rattle.ps_rational.proofs.Order.{nonneg-add, nonneg-mul, zero_nonneg, above_nonneg, at_most_from_less, at_most_of, less_or_not, not_less}
 use Rattle.ps_rational.proofs.Sums.{sum_nonneg, unit_sum}
-use Rattle.ps_basis.specs.Table.{IsBasisTable, IsBasis, carried_by}
-use Rattle.ps_rule.specs.Rule.{table_of, Enters, HasLeastRatio}
+use Rattle.ps_simplex.specs.Table.{IsBasisTable, IsBasis, carried_by}
+use Rattle.ps_simplex.specs.Rule.{table_of, Enters, HasLeastRatio}
 use Rattle.ps_cycle.specs.Cycle.{gain, IsBasicIn}
 use Rattle.ps_cycle.proofs.Reduced.{reduced_along}
-use Rattle.ps_rule.proofs.Signs.{above_or_not, zero-div}
+use Rattle.ps_simplex.proofs.Signs.{above_or_not, zero-div}
 
 -- a basic column carries its cost
 pub gain_of_basic : (n w : ℕ) (A X : ℕ → ℕ → Rational) (cost : ℕ → Rational) (a : ℕ → ℕ) (c : ℕ) → IsBasisTable n w A a X → IsBasicIn n a c → gain n cost a X c ≡ zero_q

@@ -2,13 +2,13 @@
 use Rattle.std.proofs.Common.{◌≡◌, ◌≢◌, ◌⊎◌, inl, inr, ℕ, suc, ◌<◌, ◌≤◌, false, sym, ap, ◌∙◌, subst, arith}
 use Rattle.std.proofs.lemmas.Bool.{true≢false}
 use Rattle.ps_rational.specs.Rational.{Rational, zero_q}
-use Rattle.ps_basis.specs.Table.{carried_by}
-use Rattle.ps_rule.specs.declared.phase.Phase.{Phase}
-use Rattle.ps_rule.specs.Rule.{HasLeastRatio}
-use Rattle.ps_rule.specs.Pivots.{System, simplex_table}
-use Rattle.ps_rule.proofs.OnePivot.{distinct}
+use Rattle.ps_simplex.specs.Table.{carried_by}
+use Rattle.ps_simplex.specs.declared.phase.Phase.{Phase}
+use Rattle.ps_simplex.specs.Rule.{HasLeastRatio}
+use Rattle.ps_simplex.specs.Pivots.{System, simplex_table}
+use Rattle.ps_simplex.proofs.OnePivot.{distinct}
 use Rattle.ps_cycle.specs.Cycle.{IsBasicIn, HaveSameColumns}
-use Rattle.ps_rule.proofs.Signs.{difference_not_zero}
+use Rattle.ps_simplex.proofs.Signs.{difference_not_zero}
 use Rattle.ps_cycle.proofs.Values as values
 use Rattle.ps_cycle.proofs.Heart.{gain_of_basic, IsLow, no_leaving}
 use Rattle.ps_cycle.proofs.Walks.{Stage, IsWalk}

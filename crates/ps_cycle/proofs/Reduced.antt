@@ -5,8 +5,8 @@ use Rattle.ps_rational.specs.Sums.{sum_to}
 use Rattle.ps_rational.proofs.Ring.{var, plus, by, minus}
 use Rattle.ps_rational.proofs.Field.{ring_q, mul_comm}
 use Rattle.ps_rational.proofs.Sums.{sum_same, sum_scale, sum_swap, sum-sub}
-use Rattle.ps_basis.specs.Table.{IsBasisTable, IsBasis, Belongs, carried_by}
-use Rattle.ps_basis.proofs.Pricing.{carried_is_priced}
+use Rattle.ps_simplex.specs.Table.{IsBasisTable, IsBasis, Belongs, carried_by}
+use Rattle.ps_simplex.proofs.Pricing.{carried_is_priced}
 use Rattle.ps_cycle.specs.Cycle.{gain}
 
 module _ (n w : ℕ) (A X Y : ℕ → ℕ → Rational) (cost : ℕ → Rational) (a b : ℕ → ℕ) (stands : IsBasisTable n w A a X) (hb : IsBasis n w b) (belongs : Belongs n w A b Y) where

@@ -1,9 +1,9 @@
 -- On the way of lawful pivots no basis comes twice.
 use Rattle.std.proofs.Common.{◌≡◌, ℕ, ◌<◌, List, [], ◌∷◌, length, refl, sym, subst, arith}
 use Rattle.ps_rational.specs.Rational.{Rational}
-use Rattle.ps_basis.specs.Table.{IsBasisTable, IsBasis}
-use Rattle.ps_rule.specs.declared.phase.Phase.{Phase}
-use Rattle.ps_rule.specs.Pivots.{System, simplex_table, Pivot, Pivots}
+use Rattle.ps_simplex.specs.Table.{IsBasisTable, IsBasis}
+use Rattle.ps_simplex.specs.declared.phase.Phase.{Phase}
+use Rattle.ps_simplex.specs.Pivots.{System, simplex_table, Pivot, Pivots}
 use Rattle.ps_cycle.specs.Cycle.{IsStart, HaveSameColumns, NoBasisTwice}
 use Rattle.ps_cycle.proofs.Walks.{stage_of, arrives, walk_of, IsSound}
 use Rattle.ps_cycle.proofs.NoCycle.{no_cycle}

@@ -6,12 +6,12 @@ use Rattle.ps_rational.specs.Rational.{Rational, mul, zero_q, sub, div}
 use Rattle.ps_rational.specs.Order.{IsNonneg, AtMost}
 use Rattle.ps_rational.proofs.Field.{div-mul, ring_q}
 use Rattle.ps_rational.proofs.Order.{above_not_zero, zero_nonneg}
-use Rattle.ps_basis.specs.Table.{Pivoted, Based}
-use Rattle.ps_rule.specs.declared.phase.Phase.{Phase}
-use Rattle.ps_rule.specs.declared.phase.Phase.TheVariants.{One, Lower, Upper}
-use Rattle.ps_rule.specs.Rule.{SimplexTable, table_of, IsFeasible, IsArtificialRow, HasLeastRatio, LeavesInPhaseTwo, Leaves}
+use Rattle.ps_simplex.specs.Table.{Pivoted, Based}
+use Rattle.ps_simplex.specs.declared.phase.Phase.{Phase}
+use Rattle.ps_simplex.specs.declared.phase.Phase.TheVariants.{One, Lower, Upper}
+use Rattle.ps_simplex.specs.Rule.{SimplexTable, table_of, IsFeasible, IsArtificialRow, HasLeastRatio, LeavesInPhaseTwo, Leaves}
 use Rattle.ps_cycle.specs.Cycle.{IsStart, HasZeroArtificials}
-use Rattle.ps_rule.proofs.Signs.{zero_or_not, nonneg-div, zero-div, value_kept}
+use Rattle.ps_simplex.proofs.Signs.{zero_or_not, nonneg-div, zero-div, value_kept}
 
 -- how a row leaves: by the least ratio, or with a basic artificial of value 0
 abbrev pub HowLeaves : SimplexTable → ℕ → ℕ → Type 0

@@ -2,14 +2,14 @@
 use Rattle.std.proofs.Common.{◌≡◌, ◌≢◌, ℕ, zero, suc, ◌+◌, ◌<◌, ◌≤◌, List, [], ◌∷◌, ◌++◌, length, length-append, cond, eqb, eq-eqb, refl, sym, ap, ◌∙◌, subst, arith, inl, inr}
 use Rattle.std.proofs.lemmas.Bool.{ne_eqb, cases_eq}
 use Rattle.ps_rational.specs.Rational.{Rational, mul, sub, div}
-use Rattle.ps_basis.specs.Table.{IsBasisTable, IsBasis, Pivoted, Based}
-use Rattle.ps_basis.proofs.OneTable as tables
-use Rattle.ps_basis.proofs.PivotKeeps.{stands_kept}
-use Rattle.ps_rule.specs.declared.phase.Phase.{Phase}
-use Rattle.ps_rule.specs.Rule.{Enters, Leaves}
-use Rattle.ps_rule.specs.Pivots.{System, simplex_table, IsLawfulAt, Pivot, Pivots, still, more}
-use Rattle.ps_rule.specs.Laws.{AreAlike}
-use Rattle.ps_rule.proofs.Alike as alike
+use Rattle.ps_simplex.specs.Table.{IsBasisTable, IsBasis, Pivoted, Based}
+use Rattle.ps_simplex.proofs.OneTable as tables
+use Rattle.ps_simplex.proofs.PivotKeeps.{stands_kept}
+use Rattle.ps_simplex.specs.declared.phase.Phase.{Phase}
+use Rattle.ps_simplex.specs.Rule.{Enters, Leaves}
+use Rattle.ps_simplex.specs.Pivots.{System, simplex_table, IsLawfulAt, Pivot, Pivots, still, more}
+use Rattle.ps_simplex.specs.RuleLaws.{AreAlike}
+use Rattle.ps_simplex.proofs.Alike as alike
 use Rattle.ps_cycle.specs.Cycle.{IsStart}
 use Rattle.ps_cycle.proofs.Values.{start_kept, how, row_within, entry_filled}
 

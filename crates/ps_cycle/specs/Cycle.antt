@@ -2,11 +2,11 @@
 use Rattle.std.specs.Prelude.{◌≡◌, ℕ, ◌<◌, List, [], ◌++◌}
 use Rattle.ps_rational.specs.Rational.{Rational, sub}
 use Rattle.ps_rational.specs.Order.{IsNonneg}
-use Rattle.ps_basis.specs.Table.{carried_by}
-use Rattle.ps_rule.specs.declared.phase.Phase.{Phase}
-use Rattle.ps_rule.specs.declared.phase.Phase.TheVariants.{One, Lower, Upper}
-use Rattle.ps_rule.specs.Rule.{SimplexTable, IsFeasible}
-use Rattle.ps_rule.specs.Pivots.{System, Pivot, Pivots}
+use Rattle.ps_simplex.specs.Table.{carried_by}
+use Rattle.ps_simplex.specs.declared.phase.Phase.{Phase}
+use Rattle.ps_simplex.specs.declared.phase.Phase.TheVariants.{One, Lower, Upper}
+use Rattle.ps_simplex.specs.Rule.{SimplexTable, IsFeasible}
+use Rattle.ps_simplex.specs.Pivots.{System, Pivot, Pivots}
 
 -- what column j carries above its cost: the reduced cost, turned round
 abbrev pub gain : ℕ → (ℕ → Rational) → (ℕ → ℕ) → (ℕ → ℕ → Rational) → ℕ → Rational

@@ -2,9 +2,9 @@
 use Rattle.std.specs.Prelude.{◌≡◌, ◌≢◌, ℕ, suc, ◌+◌, ◌^◌, ◌<◌, ◌≤◌, Bool, List, length, All, AllPairs}
 use Rattle.ps_rational.specs.Rational.{Rational, mul, sub}
 use Rattle.ps_rational.specs.Sums.{sum_to}
-use Rattle.ps_basis.specs.Table.{IsBasisTable, IsBasis, Belongs}
-use Rattle.ps_rule.specs.declared.phase.Phase.{Phase}
-use Rattle.ps_rule.specs.Pivots.{System, simplex_table, Pivot, Pivots}
+use Rattle.ps_simplex.specs.Table.{IsBasisTable, IsBasis, Belongs}
+use Rattle.ps_simplex.specs.declared.phase.Phase.{Phase}
+use Rattle.ps_simplex.specs.Pivots.{System, simplex_table, Pivot, Pivots}
 use Rattle.ps_cycle.specs.Count.{choose}
 use Rattle.ps_cycle.specs.Cycle.{gain, IsStart, NoBasisTwice}
 

@@ -14,8 +14,8 @@ use Rattle.ps_table.specs.Tableau.{Tableau, rows_of}
 use Rattle.ps_claims.specs.declared.claim_kind.ClaimKind.{ClaimKind}
 use Rattle.ps_answer.specs.declared.answer.Dual.{Dual}
 use Rattle.ps_certificate.specs.Certificates.{IsMultiplier}
-use Rattle.ps_multiples.specs.declared.scaled.Scaled.{Scaled}
-use Rattle.ps_multiples.specs.Multiples.{whole_multiplier, AreScaled}
+use Rattle.ps_ends.specs.declared.scaled.Scaled.{Scaled}
+use Rattle.ps_ends.specs.Multiples.{whole_multiplier, AreScaled}
 use Rattle.ps_ends.specs.Duals.{AreSigned, IsTableDual, bound_numbers}
 
 -- one more bound

@@ -5,7 +5,7 @@ use Rattle.std.proofs.lemmas.Bool.{lt-ltb}
 use Rattle.std.proofs.lemmas.List.{map-append}
 use Rattle.std.proofs.Math.Nat.{one-dvd}
 use Rattle.std.specs.Int.{◌∣◌, w128, is_positive}
-use Rattle.ps_multiples.proofs.Weighed.{zero_under}
+use Rattle.ps_ends.proofs.Weighed.{zero_under}
 use Rattle.ps_meaning.specs.Formula.{World}
 use Rattle.ps_rational.specs.Parts.{part_pos}
 use Rattle.ps_rational.specs.Rational.{Rational, zero_q}
@@ -18,8 +18,8 @@ use Rattle.ps_table.specs.Tableau.{Tableau, IsTableau, IsInside, number_in, rows
 use Rattle.ps_table.specs.Places.{weight_under}
 use Rattle.ps_bland.specs.Rules.{simplex_of}
 use Rattle.ps_answer.specs.declared.answer.Weighted.{Weighted}
-use Rattle.ps_multiples.specs.declared.weights.Weights.{Weights}
-use Rattle.ps_multiples.specs.Multiples.{weight_multiple_of, weight_of, AreWeights}
+use Rattle.ps_ends.specs.declared.weights.Weights.{Weights}
+use Rattle.ps_ends.specs.Multiples.{weight_multiple_of, weight_of, AreWeights}
 use Rattle.ps_runs.specs.Certificates.{value_of, is_above, entry_for, entries_to}
 use Rattle.ps_runs.proofs.BasicSolution.{value_in_row, value_in_none}
 use Rattle.ps_runs.proofs.Weighing.{positive_times}

@@ -3,7 +3,7 @@ use Rattle.std.specs.Prelude.{◌≡◌, ℕ, suc, ℤ, pos, List, get_or, map}
 use Rattle.ps_formula.specs.declared.node.Node.{Node}
 use Rattle.ps_problem.specs.declared.bound.Bound.{Bound}
 use Rattle.ps_problem.specs.Problems.{bound_of}
-use Rattle.ps_entailment.specs.Queries.{Query}
+use Rattle.ps_claims.specs.Queries.{Query}
 use Rattle.ps_table.specs.declared.costs.Costs.{Costs}
 use Rattle.ps_table.specs.Tableau.{Tableau}
 use Rattle.ps_table.specs.Pricing.{cost_at}

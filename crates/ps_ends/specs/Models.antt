@@ -9,7 +9,7 @@ use Rattle.ps_table.specs.Tableau.{Tableau, rows_of, basic_at}
 use Rattle.ps_bland.specs.Rules.{simplex_of}
 use Rattle.ps_answer.specs.declared.answer.Weighted.{Weighted}
 use Rattle.ps_answer.specs.declared.answer.Model.{Model}
-use Rattle.ps_multiples.specs.Multiples.{weight_multiple_of, total_of}
+use Rattle.ps_ends.specs.Multiples.{weight_multiple_of, total_of}
 use Rattle.ps_runs.specs.Certificates.{value_of, weighted_worlds}
 use Rattle.ps_certificate.specs.Certificates.{entry_of}
 

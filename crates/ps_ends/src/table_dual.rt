@@ -4,16 +4,16 @@ ghost use Rattle.ps_rational.specs.declared.limits.TheConstants.{PRINTED_LIMIT};
 ghost use Rattle.ps_table.specs.Tableau.{rows_of};
 ghost use Rattle.ps_table.specs.Pricing.{HasCosts};
 ghost use Rattle.ps_table.specs.Places.{IsNarrow, IsRefusedAt};
-ghost use Rattle.ps_multiples.specs.Multiples.{DualPlaces};
+ghost use Rattle.ps_ends.specs.Multiples.{DualPlaces};
 ghost use Rattle.ps_problem.specs.Rows.{signed_by};
 ghost use Rattle.ps_runs.specs.Certificates.{top_of, head_of};
 ghost use Rattle.ps_certificate.specs.Certificates.{IsMultiplier, IsSmallDual};
 ghost use Rattle.ps_ends.specs.Duals.{AreSigned, IsTableDual, bound_numbers};
 
+use crate::multipliers::scaled_multipliers;
 use ps_answer::Dual;
 use ps_claims::ClaimKind;
 use ps_io::{List, NoMemory};
-use ps_multiples::scaled_multipliers;
 use ps_problem::{Bound, Side};
 use ps_table::{Costs, Table, TableError};
 use std::alloc::Global;

@@ -1,8 +1,8 @@
 //! The equations of a basis, in whole numbers.
 
+use ps_float_pricing::{Aim, Relaxed, WorldPool};
 use ps_io::{List, NoMemory};
 use ps_lifting::{Inverse, Solution, inverse_of, solve};
-use ps_relaxed::{Aim, Relaxed, WorldPool};
 use ps_simplex_float::Column;
 use std::alloc::Global;
 

@@ -5,12 +5,11 @@ use crate::limits::{BASIC_STARTS, MOST_MENDED, MOST_PIVOTS, MOST_REPAIRS, MOST_T
 use crate::pace::Pace;
 use crate::tolerances::Tolerances;
 use ps_climb::{Draw, drawn_world};
-use ps_float_pricing::{FloatPricer, Priced};
+use ps_float_pricing::{Aim, FloatGoal, FloatPricer, Member, Priced, Relaxed, WorldPool};
 use ps_formula::World;
 use ps_guesser::Progress;
 use ps_io::NoMemory;
 use ps_problem::Problem;
-use ps_relaxed::{Aim, FloatGoal, Member, Relaxed, WorldPool};
 use ps_simplex_float::{Column, Ending, MOST_ROWS, Phase, RowKind, Simplex};
 use std::alloc::Global;
 use std::num::nearest_i64_to_f64;

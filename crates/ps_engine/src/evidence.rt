@@ -3,9 +3,9 @@
 use crate::engine::Engine;
 use crate::side::Turn;
 use ps_answer::Dual;
+use ps_float_pricing::Aim;
 use ps_io::NoMemory;
 use ps_problem::{Problem, Query};
-use ps_relaxed::Aim;
 
 // The query for the evidence itself.
 fn evidence_query(given: u32) -> Query {

@@ -3,10 +3,9 @@
 use crate::engine::{Engine, Stage};
 use crate::limits::{LARGEST_ROUNDED, MOST_REPAIRS, MOST_ROUNDINGS, MOST_ROUNDS};
 use ps_answer::Dual;
-use ps_float_pricing::Priced;
+use ps_float_pricing::{Aim, Goal, Multipliers, Priced};
 use ps_io::NoMemory;
 use ps_problem::Problem;
-use ps_relaxed::{Aim, Goal, Multipliers};
 use ps_simplex_float::Ending;
 use std::num::{nearest_i64_to_f64, saturating_f64_to_i64};
 

@@ -7,12 +7,12 @@ use crate::side::Turn;
 use crate::whole::{Values, model_of};
 use ps_answer::{Dual, Model};
 use ps_claims::ClaimKind;
+use ps_float_pricing::Aim;
 use ps_formula::World;
 use ps_guesser::{Guess, Guesser, Progress};
 use ps_io::NoMemory;
 use ps_lifting::Solution;
 use ps_problem::{Problem, Query};
-use ps_relaxed::Aim;
 
 impl Engine {
     // Finds whether the bounds can be met, where that isn't known.

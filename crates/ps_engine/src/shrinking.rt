@@ -4,10 +4,10 @@ use crate::engine::Engine;
 use crate::limits::{
     LEAST_BLOCKING, MOST_FACE_PIVOTS, MOST_NEIGHBOURS, MOST_TAKEN, SHORTER, SMALLEST_PIVOT,
 };
+use ps_float_pricing::{Aim, Member};
 use ps_formula::World;
 use ps_io::NoMemory;
 use ps_problem::Problem;
-use ps_relaxed::{Aim, Member};
 use ps_simplex_float::Column;
 use std::alloc::{AllocError, Global};
 

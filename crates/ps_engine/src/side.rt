@@ -4,10 +4,10 @@ use crate::basis_system::BasisSystem;
 use crate::engine::Engine;
 use crate::limits::{ENOUGH_EVIDENCE, MOST_REPAIRS, MOST_ROUNDS, MOST_SHRINKS};
 use crate::whole::{Prices, Values, WholeModel, extreme, model_of, multipliers_of};
+use ps_float_pricing::{Aim, Goal, Member, Multipliers};
 use ps_guesser::Guess;
 use ps_io::NoMemory;
 use ps_problem::Problem;
-use ps_relaxed::{Aim, Goal, Member, Multipliers};
 use ps_simplex_float::{Column, Ending};
 
 /// What a turn comes to.

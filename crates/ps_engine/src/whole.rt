@@ -2,9 +2,9 @@
 
 use crate::basis_system::BasisSystem;
 use ps_answer::{Model, Weighted};
+use ps_float_pricing::{Aim, Member, Multipliers, Relaxed, WorldPool, is_given, is_true};
 use ps_io::{List, NoMemory};
 use ps_lifting::Solution;
-use ps_relaxed::{Aim, Member, Multipliers, Relaxed, WorldPool, is_given, is_true};
 use std::alloc::{AllocError, Global};
 
 /// What the whole values of a basis are.

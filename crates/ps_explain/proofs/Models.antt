@@ -7,13 +7,13 @@ use Rattle.ps_problem.specs.Problems.{Parts, AreParts}
 use Rattle.ps_pool.specs.declared.event.Event.{Event}
 use Rattle.ps_answer.specs.declared.answer.Cause.{Cause}
 use Rattle.ps_answer.specs.declared.answer.Model.{Model}
-use Rattle.ps_entailment.specs.Answers.{ShowsConsistent}
+use Rattle.ps_claims.specs.Answers.{ShowsConsistent}
 use Rattle.ps_problem.specs.Problems.{bounds_of}
 use Rattle.ps_certificate.specs.Certificates.{model_of}
 use Rattle.std.proofs.Common.{length}
 use Rattle.ps_runs.specs.Kept.{kept_parts, IsChoice, AreAllKept}
 use Rattle.ps_runs.proofs.Kept.{parts-all}
-use Rattle.ps_printed.specs.Printed.{IsPrintedModel, IsPrintedCause}
+use Rattle.ps_certificate.specs.Printed.{IsPrintedModel, IsPrintedCause}
 use Rattle.ps_generation.specs.declared.limits.Limits.{Limits}
 use Rattle.ps_explain.specs.declared.conflict.Conflict.{Conflict}
 use Rattle.ps_explain.specs.declared.explained.Explained.TheVariants as explained

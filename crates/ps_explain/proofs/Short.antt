@@ -20,12 +20,12 @@ use Rattle.ps_answer.specs.declared.answer.Dual.{Dual}
 use Rattle.ps_answer.specs.declared.answer.Model.{Model}
 use Rattle.ps_answer.specs.declared.answer.Verdict.TheVariants as verdict
 use Rattle.ps_answer.specs.Answers.{answer_items, cause_items, dual_items, model_items, trace_items}
-use Rattle.ps_entailment.specs.Answers.{ShowsConsistent}
+use Rattle.ps_claims.specs.Answers.{ShowsConsistent}
 use Rattle.ps_claims.specs.declared.claim_kind.ClaimKind.TheVariants.{Nothing}
 use Rattle.ps_certificate.specs.Certificates.{model_of}
 use Rattle.ps_runs.specs.Kept.{kept_parts}
 use Rattle.ps_runs.proofs.Kept.{parts-kept}
-use Rattle.ps_printed.specs.Printed.{IsPrintedModel, IsPrintedDual, IsPrintedCause, IsPrintedPart}
+use Rattle.ps_certificate.specs.Printed.{IsPrintedModel, IsPrintedDual, IsPrintedCause, IsPrintedPart}
 use Rattle.ps_valid.proofs.ShortLines.{short_line}
 use Rattle.ps_report.specs.Parts.{AreShort}
 use Rattle.ps_reported.proofs.Models.{IsFit, fit_model}

@@ -8,14 +8,14 @@ use Rattle.ps_answer.specs.declared.answer.Cause.{Cause}
 use Rattle.ps_answer.specs.declared.answer.Dual.{Dual}
 use Rattle.ps_answer.specs.declared.answer.Model.{Model}
 use Rattle.ps_answer.specs.declared.answer.Verdict.TheVariants as verdict
-use Rattle.ps_entailment.specs.Queries.{IsInconsistent}
-use Rattle.ps_entailment.specs.Answers.{ShowsConsistent}
+use Rattle.ps_claims.specs.Queries.{IsInconsistent}
+use Rattle.ps_claims.specs.Answers.{ShowsConsistent}
 use Rattle.ps_claims.specs.Duals.{AreZeroElsewhere}
 use Rattle.ps_claims.specs.Validity.{ShowsNothing}
 use Rattle.ps_certificate.specs.Certificates.{model_of, dual_of}
 use Rattle.ps_runs.specs.Kept.{flags_of, kept_parts, IsChoice, AreAllKept}
 use Rattle.ps_phases.specs.Verdicts.{IsLawfulVerdict}
-use Rattle.ps_printed.specs.Printed.{IsPrintedModel, IsPrintedDual, IsPrintedCause}
+use Rattle.ps_certificate.specs.Printed.{IsPrintedModel, IsPrintedDual, IsPrintedCause}
 use Rattle.ps_generation.specs.declared.limits.Limits.{Limits}
 use Rattle.ps_explain.specs.declared.explained.Explained.{Explained}
 use Rattle.ps_explain.specs.declared.explained.Explained.TheVariants as explained

@@ -1,11 +1,14 @@
 //! Local search from worlds.
 
+use crate::float_goal::FloatGoal;
 use crate::limits::{MORE_STEPS, SEED};
+use crate::pool::Member;
+use crate::relaxed::Relaxed;
+use crate::row::Certainty;
 use ps_climb::{Demand, Goal as ClimbGoal, LocalSearch};
 use ps_formula::World;
 use ps_io::NoMemory;
 use ps_problem::Problem;
-use ps_relaxed::{Certainty, FloatGoal, Member, Relaxed};
 use std::alloc::Global;
 
 /// Local search from worlds of a problem.

@@ -2,14 +2,17 @@
 
 use crate::climbing::Climbing;
 use crate::effort::Effort;
+use crate::float_goal::FloatGoal;
+use crate::goal::Goal;
 use crate::limits::{ALL_CONFLICTS, FEW_ATOMS, MOST_SEARCHES};
+use crate::pool::Member;
+use crate::relaxed::Relaxed;
 use crate::scaled::Goals;
 use crate::search::{Ended, seek};
 use ps_clause::{ClauseForm, clauses_of};
 use ps_formula::World;
 use ps_io::NoMemory;
 use ps_problem::Problem;
-use ps_relaxed::{FloatGoal, Goal, Member, Relaxed};
 use std::alloc::Global;
 
 /// What a pricing finds.

@@ -1,11 +1,13 @@
 //! The goals of a pricing in whole numbers.
 
 use crate::effort::Effort;
+use crate::float_goal::FloatGoal;
+use crate::goal::Goal;
 use crate::limits::LARGEST_WEIGHT;
+use crate::relaxed::Relaxed;
 use crate::wishes::wishes_of;
 use ps_formula::Node;
 use ps_io::NoMemory;
-use ps_relaxed::{FloatGoal, Goal, Relaxed};
 use std::alloc::Global;
 use std::num::saturating_f64_to_i64;
 

@@ -4,13 +4,13 @@ ghost use Rattle.ps_steps.specs.Assignments.{place};
 ghost use Rattle.ps_steps.specs.Weights.{IsWithin};
 ghost use Rattle.ps_log.specs.declared.limits.TheConstants.{MOST_CONFLICTS};
 
+use crate::goal::Goal;
 use ps_clause::{ClauseForm, world_of};
 use ps_formula::World;
 use ps_io::NoMemory;
 use ps_log::HeldLog;
 use ps_pb::{Constraint, Lit, MOST_VARIABLES, Terms};
 use ps_problem::Problem;
-use ps_relaxed::Goal;
 use ps_sat::{Outcome, SearchError, search};
 use std::alloc::Global;
 

@@ -10,7 +10,7 @@ use Rattle.ps_claims.specs.Duals.{AreZeroElsewhere}
 use Rattle.ps_claims.specs.Validity.{IsRefuted}
 use Rattle.ps_answer.specs.declared.answer.Dual.{Dual}
 use Rattle.ps_certificate.specs.Certificates.{IsMultiplier}
-use Rattle.ps_printed.specs.Printed.{IsPrintedDual}
+use Rattle.ps_certificate.specs.Printed.{IsPrintedDual}
 use Rattle.ps_runs.specs.Kept.{kept_of, flags_of}
 use Rattle.ps_runs.specs.Runs.{given_in, both_in}
 use Rattle.ps_runs.proofs.Kept.{same-count, bounds-kept, length-flags, refuted-kept, part-next}

@@ -11,7 +11,7 @@ use Rattle.ps_answer.specs.declared.answer.Cause.{Cause}
 use Rattle.ps_answer.specs.declared.answer.Cause.TheVariants.{Pivots, Conflicts, Wide}
 use Rattle.ps_claims.specs.declared.claim_kind.ClaimKind.{ClaimKind}
 use Rattle.ps_claims.specs.declared.claim_kind.ClaimKind.TheVariants.{Nothing, Lower, Upper}
-use Rattle.ps_rule.specs.Rule.{IsFeasible}
+use Rattle.ps_simplex.specs.Rule.{IsFeasible}
 use Rattle.ps_runs.specs.Runs.{Subject, Stage}
 use Rattle.ps_runs.proofs.Composed.{pivots_in-append, leads_on}
 use Rattle.ps_phases.specs.Tables.{stage_at, IsUnderWay}

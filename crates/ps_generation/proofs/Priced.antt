@@ -15,8 +15,8 @@ use Rattle.ps_table.specs.declared.place.WideAt.{WideAt}
 use Rattle.ps_table.specs.Tableau.{rows_of as table_rows, entry_at, basic_at}
 use Rattle.ps_table.specs.Pricing.{cost_at}
 use Rattle.ps_table.specs.Places.{IsWide, IsWideAt, IsRefusedAt, HomePlaces, MultiplierPlace}
-use Rattle.ps_multiples.specs.Multiples.{DualPlaces}
-use Rattle.ps_multiples.specs.Multiples.DualPlaces.{of_home, of_multiplier}
+use Rattle.ps_ends.specs.Multiples.{DualPlaces}
+use Rattle.ps_ends.specs.Multiples.DualPlaces.{of_home, of_multiplier}
 use Rattle.ps_answer.specs.declared.answer.Cause.TheVariants.{Conflicts}
 use Rattle.ps_answer.specs.declared.answer.Dual.{Dual}
 use Rattle.ps_certificate.specs.Certificates.{dual_of}

@@ -1,7 +1,7 @@
 -- The pivots of `settle`, as what a phase does, and its ends.
 use Rattle.std.proofs.Common.{◌≡◌, ℕ, ◌<◌, ◌≤◌, List, [], ◌∷◌, length, inl, sym, ap, ◌∙◌, subst, arith}
 use Rattle.std.proofs.lemmas.List.{length-append}
-use Rattle.ps_rule.specs.Rule.{SimplexTable, IsMoving, IsResting}
+use Rattle.ps_simplex.specs.Rule.{SimplexTable, IsMoving, IsResting}
 use Rattle.ps_meaning.specs.Formula.{World}
 use Rattle.ps_rational.specs.Rational.{Rational}
 use Rattle.ps_pool.specs.declared.event.Event.{Event}
@@ -11,7 +11,7 @@ use Rattle.ps_table.specs.declared.error.TableError.{TableError}
 use Rattle.ps_table.specs.declared.error.TableError.TheVariants as refused
 use Rattle.ps_table.specs.Tableau.{Tableau, IsTableau}
 use Rattle.ps_table.specs.Pricing.{cost_at}
-use Rattle.ps_rule.specs.declared.phase.Phase.{Phase}
+use Rattle.ps_simplex.specs.declared.phase.Phase.{Phase}
 use Rattle.ps_bland.specs.Rules.{simplex_of, IsDueToEndIn}
 use Rattle.ps_bland.specs.Ends.{IsDueWide, IsDueRefusal}
 use Rattle.ps_bland.specs.Ready.{IsReady}

@@ -7,7 +7,7 @@ use Rattle.ps_claims.specs.Validity.{IsRefuted}
 use Rattle.ps_runs.specs.Kept.{kept_of, flags_of, kept_parts}
 use Rattle.ps_meaning.specs.Formula.{World}
 use Rattle.ps_rational.specs.Rational.{Rational}
-use Rattle.ps_rule.specs.Rule.{IsFeasible}
+use Rattle.ps_simplex.specs.Rule.{IsFeasible}
 use Rattle.ps_steps.specs.Steps.{Refutes}
 use Rattle.ps_forms.specs.Forms.{form_of, first_known}
 use Rattle.ps_answer.specs.declared.limits.TheConstants.{MOST_PIVOTS}
@@ -33,7 +33,7 @@ use Rattle.ps_certificate.specs.Certificates.{dual_of}
 use Rattle.ps_runs.specs.Rows.{phase_of}
 use Rattle.ps_phases.specs.Tables.{costs_for, IsRunTable, stage_at, IsUnderWay}
 use Rattle.ps_phases.specs.Licences.{IsLicensed, IsColumnTooWide}
-use Rattle.ps_printed.specs.Printed.{IsPrintedDual, IsPrintedCause}
+use Rattle.ps_certificate.specs.Printed.{IsPrintedDual, IsPrintedCause}
 use Rattle.ps_generation.specs.declared.limits.Limits.{Limits}
 use Rattle.ps_generation.specs.declared.state.State.{State}
 use Rattle.ps_generation.specs.declared.end.End.{End}

@@ -1,6 +1,6 @@
 -- What a phase does between two rests of its table: a pricing, and the pivots that follow.
 use Rattle.std.specs.Prelude.{◌≡◌, suc, ◌+◌, ◌<◌, ◌≤◌, length, Option, Some, None}
-use Rattle.ps_rule.specs.Rule.{IsMoving}
+use Rattle.ps_simplex.specs.Rule.{IsMoving}
 use Rattle.ps_meaning.specs.Formula.{World}
 use Rattle.ps_table.specs.declared.costs.Costs.{Costs}
 use Rattle.ps_table.specs.Tableau.{Tableau, entry_at}

@@ -16,7 +16,7 @@ use ps_answer::Cause;
 use ps_bland::{SettleError, Settled, settle};
 use ps_claims::ClaimKind;
 use ps_io::NoMemory;
-use ps_rule::Phase;
+use ps_simplex::Phase;
 use ps_table::Costs;
 
 /// The phase that shows a claim of this kind.

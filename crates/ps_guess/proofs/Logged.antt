@@ -9,11 +9,11 @@ use Rattle.ps_forms.specs.Forms.{Form}
 use Rattle.ps_pb.specs.Limits.{IsLiteral}
 use Rattle.ps_pb.specs.declared.limits.TheConstants.{MOST_VARIABLES}
 use Rattle.ps_log.specs.Logs.{Telling}
-use Rattle.ps_learning.specs.Trails.{IsLit}
+use Rattle.ps_trail.specs.Trails.{IsLit}
 use Rattle.ps_sat.specs.Searches.{IsHeld}
 use Rattle.ps_sat.specs.declared.searching.Outcome.{Outcome}
 use Rattle.ps_sat.specs.declared.searching.Outcome.TheVariants.{Found, Refuted, Spent}
-use Rattle.ps_printed.specs.Printed.{AreOfLiterals}
+use Rattle.ps_certificate.specs.Printed.{AreOfLiterals}
 use Rattle.ps_guess.specs.Steps.{HasFewSteps}
 
 module _ (f : Form) (goal : Constraint) (conflicts : ℕ) (told : Bool) (new : Telling) (o : Outcome) (steps : List Step) (tells : IsTrue told) (is : new.steps ≡ Some steps)

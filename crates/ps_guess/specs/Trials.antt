@@ -14,8 +14,8 @@ use Rattle.ps_claims.specs.declared.claim_kind.ClaimKind.{ClaimKind}
 use Rattle.ps_claims.specs.declared.combination.Combination.{Combination}
 use Rattle.ps_claims.specs.Goals.{value_under}
 use Rattle.ps_claims.specs.Validity.{ShowsNothing, ShowsTight}
-use Rattle.ps_entailment.specs.Answers.{ShowsConsistent}
-use Rattle.ps_printed.specs.Printed.{IsPrintedModel, IsPrintedDual}
+use Rattle.ps_claims.specs.Answers.{ShowsConsistent}
+use Rattle.ps_certificate.specs.Printed.{IsPrintedModel, IsPrintedDual}
 use Rattle.ps_runs.specs.Runs.{given_in, both_in}
 use Rattle.ps_guess.specs.declared.trial.Trial.{Trial}
 use Rattle.ps_guess.specs.declared.trial.Trial.TheVariants.{Shown, Found, Wrong, Spent}

@@ -7,8 +7,8 @@ use Rattle.ps_meaning.proofs.Weights.{total-positive}
 use Rattle.ps_problem.specs.declared.query.Query as stored
 use Rattle.ps_problem.specs.Problems.{Parts, AreParts, bounds_in, bounds_of, given_at, HasNodes}
 use Rattle.ps_forms.specs.Extensions.{extension}
-use Rattle.ps_entailment.specs.Queries.{Query, IsInconsistent, IsImpossible}
-use Rattle.ps_entailment.specs.Answers.{Verdict, Consistent, Inconsistent, OpenVerdict, SideAnswer, Value, OpenSide, QueryAnswer, Interval, Impossible, OpenQuery, IsRightVerdict, IsRightSide, IsRightPart}
+use Rattle.ps_claims.specs.Queries.{Query, IsInconsistent, IsImpossible}
+use Rattle.ps_claims.specs.Answers.{Verdict, Consistent, Inconsistent, OpenVerdict, SideAnswer, Value, OpenSide, QueryAnswer, Interval, Impossible, OpenQuery, IsRightVerdict, IsRightSide, IsRightPart}
 use Rattle.ps_claims.specs.declared.claim_kind.ClaimKind.TheVariants.{Nothing, Lower, Upper}
 use Rattle.ps_claims.specs.Duals.{Dual, combination, IsNeverAbove}
 use Rattle.ps_claims.specs.Goals.{combination_of}

@@ -23,7 +23,7 @@ use Rattle.ps_claims.specs.Validity.{IsValidSide, IsValidPart, IsValid}
 use Rattle.ps_claims.proofs.Valid.{valid-right}
 use Rattle.ps_valid.specs.Answers.{answer_of, parts_of, side_of}
 use Rattle.ps_phases.specs.Verdicts.{asked_after}
-use Rattle.ps_printed.specs.Printed.{IsPrintedAnswer, IsPrintedPart, IsPrintedSide}
+use Rattle.ps_certificate.specs.Printed.{IsPrintedAnswer, IsPrintedPart, IsPrintedSide}
 use Rattle.ps_generation.specs.declared.limits.Limits.{Limits}
 use Rattle.ps_generation.specs.Phases.{AreLimits}
 use Rattle.ps_reported.specs.Laws.{IsAnswered}

@@ -8,7 +8,7 @@ use Rattle.ps_claims.specs.declared.claim_kind.ClaimKind.{ClaimKind}
 use Rattle.ps_claims.specs.declared.claim_kind.ClaimKind.TheVariants.{Lower, Upper}
 use Rattle.ps_valid.specs.Answers.{side_of}
 use Rattle.ps_claims.specs.Validity.{IsValidSide}
-use Rattle.ps_printed.specs.Printed.{IsPrintedSide}
+use Rattle.ps_certificate.specs.Printed.{IsPrintedSide}
 use Rattle.ps_generation.specs.declared.limits.Limits.{Limits}
 use Rattle.ps_guess.specs.Trials.{IsFoundSide}
 use Rattle.ps_query.specs.Parts.{IsPartOf}

@@ -16,7 +16,7 @@ use Rattle.ps_claims.specs.declared.claim_kind.ClaimKind.TheVariants.{Lower, Upp
 use Rattle.ps_claims.specs.Validity.{IsValid, IsValidPart, IsValidSide, IsValidVerdict}
 use Rattle.ps_valid.specs.Answers.{answer_of, part_of, side_of, verdict_of as claimed_verdict, IsRightOf}
 use Rattle.ps_phases.specs.Verdicts.{asked_after}
-use Rattle.ps_printed.specs.Printed.{IsPrintedAnswer, IsPrintedPart, IsPrintedSide, IsPrintedVerdict}
+use Rattle.ps_certificate.specs.Printed.{IsPrintedAnswer, IsPrintedPart, IsPrintedSide, IsPrintedVerdict}
 use Rattle.ps_generation.specs.declared.limits.Limits.{Limits}
 use Rattle.ps_guess.specs.Trials.{IsFoundSide}
 use Rattle.ps_query.specs.Parts.{IsPartOf}

@@ -4,10 +4,10 @@ use Rattle.std.proofs.lemmas.List.{append_assoc, append-nil}
 use Rattle.ps_steps.specs.Assignments.{Assignment}
 use Rattle.ps_steps.specs.Steps.{Known}
 use Rattle.ps_learn.specs.Rest.{IsLonger}
-use Rattle.ps_learning.specs.Trails.{Trail, TrailEntry, values, values_of, level, decisions, implied, decided, IsReason, IsFresh, AreReasons}
-use Rattle.ps_learning.proofs.Entries.{values-append, reasons-append, length-values}
-use Rattle.ps_learning.specs.Trails.{unset_count}
-use Rattle.ps_learning.proofs.Counting.{fewer-unset}
+use Rattle.ps_trail.specs.Trails.{Trail, TrailEntry, values, values_of, level, decisions, implied, decided, IsReason, IsFresh, AreReasons}
+use Rattle.ps_trail.proofs.Entries.{values-append, reasons-append, length-values}
+use Rattle.ps_trail.specs.Trails.{unset_count}
+use Rattle.ps_trail.proofs.Counting.{fewer-unset}
 use Rattle.ps_trail.proofs.Pushing.{decisions-append}
 
 pub fresh-now : (t : Trail) (a : Assignment) (l : ℤ) → a ≡ values t → length a ≡ t.variables → IsFresh (length a) a l → IsFresh t.variables (values t) l

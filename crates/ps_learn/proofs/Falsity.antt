@@ -9,9 +9,9 @@ use Rattle.ps_steps.specs.Assignments.{Assignment, place, is_positive, agree, wi
 use Rattle.ps_steps.specs.Steps.{and_false}
 use Rattle.ps_steps.proofs.Places.{and_false-none}
 use Rattle.ps_steps.proofs.Values.{includes-refl, includes-trans, value-kept, unset-is}
-use Rattle.ps_learning.specs.Trails.{Trail, values, values_of}
-use Rattle.ps_learning.specs.Causes.{Marks}
-use Rattle.ps_learning.specs.Starting.{AreKeptLits}
+use Rattle.ps_trail.specs.Trails.{Trail, values, values_of}
+use Rattle.ps_trail.specs.Causes.{Marks}
+use Rattle.ps_trail.specs.Starting.{AreKeptLits}
 use Rattle.ps_learn.specs.Falsity.{AreFalseIn}
 
 abbrev IsFalseIn : Assignment → ℤ → Type 0

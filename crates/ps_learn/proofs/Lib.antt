@@ -5,3 +5,14 @@ pub mod Before
 pub mod Falsity
 pub mod Marked
 pub mod Ground
+pub mod Staying
+pub mod Opening
+pub mod Terms
+pub mod Counts
+pub mod Learnt
+pub mod Rising
+pub mod Due
+pub mod Distinct
+pub mod News
+pub mod Growing
+pub mod Hints

@@ -10,18 +10,18 @@ use Rattle.ps_steps.specs.Assignments.{Assignment, place, value_of, all_unset}
 use Rattle.ps_steps.specs.Constraints.{Constraint, HasTerm, Forces, is_violated}
 use Rattle.ps_steps.specs.Weights.{Weighted, terms_of}
 use Rattle.ps_steps.specs.Steps.{Known, known_of, constraint_at, Open, Conflict, after_hints}
-use Rattle.ps_learning.specs.Trails.{TrailEntry, Trail, values_of, IsReason, AreFresh, AreLevels, AreReasons, IsConflict}
-use Rattle.ps_learning.specs.Causes.{Marks, is_marked, AreCovered, IsExplained}
+use Rattle.ps_trail.specs.Trails.{TrailEntry, Trail, values_of, IsReason, AreFresh, AreLevels, AreReasons, IsConflict}
+use Rattle.ps_trail.specs.Causes.{Marks, is_marked, AreCovered, IsExplained}
 use Rattle.ps_steps.proofs.Values.{signed-some}
 use Rattle.ps_steps.proofs.Setting.{rising-distinct}
 use Rattle.ps_pb.proofs.Searched.{has_term-at}
-use Rattle.ps_learning.specs.Starting.{Started}
-use Rattle.ps_learning.proofs.Starting.{started-none, started-skip, started-keep}
-use Rattle.ps_learning.proofs.Asserting.{Asserted, asserted-none, asserted-skip, asserted-keep}
-use Rattle.ps_learning.specs.Keeping.{IsKeptOnce}
-use Rattle.ps_learning.proofs.Following.{Followed, followed-unmarked, followed-true, followed-violated, followed-forced, followed-idle, followed-end, known-id, IsKnownId}
-use Rattle.ps_learning.specs.Marking.{Grows, AddsFalseIn}
-use Rattle.ps_learning.proofs.Marking.{grows-refl, grows-trans, marked-set, grows-set, own-set}
+use Rattle.ps_trail.specs.Starting.{Started}
+use Rattle.ps_trail.proofs.Starting.{started-none, started-skip, started-keep}
+use Rattle.ps_trail.proofs.Asserting.{Asserted, asserted-none, asserted-skip, asserted-keep}
+use Rattle.ps_trail.specs.Keeping.{IsKeptOnce}
+use Rattle.ps_trail.proofs.Following.{Followed, followed-unmarked, followed-true, followed-violated, followed-forced, followed-idle, followed-end, known-id, IsKnownId}
+use Rattle.ps_trail.specs.Marking.{Grows, AddsFalseIn}
+use Rattle.ps_trail.proofs.Marking.{grows-refl, grows-trans, marked-set, grows-set, own-set}
 use Rattle.ps_learn.specs.Marks.{MarksCause, IsReached}
 use Rattle.ps_learn.specs.Drawing.{AddsIf, AddsKept, FollowsEntry, EndsInConflict}
 use Rattle.ps_learn.specs.declared.learning.Kept.{Kept}

@@ -4,9 +4,9 @@ use Rattle.ps_steps.specs.Assignments.{Assignment, value_of, with_false}
 use Rattle.ps_steps.specs.Constraints.{Constraint}
 use Rattle.ps_steps.specs.Weights.{weighted, IsNormal}
 use Rattle.ps_steps.specs.Steps.{Known, known_of, constraint_at, after_hints, Open, Conflict}
-use Rattle.ps_learning.specs.Trails.{TrailEntry}
-use Rattle.ps_learning.specs.Causes.{Marks, is_marked}
-use Rattle.ps_learning.specs.Known.{IsIdUpTo}
+use Rattle.ps_trail.specs.Trails.{TrailEntry}
+use Rattle.ps_trail.specs.Causes.{Marks, is_marked}
+use Rattle.ps_trail.specs.Known.{IsIdUpTo}
 use Rattle.ps_pb.specs.Effects.{Propagates}
 use Rattle.ps_pb.specs.declared.propagation.Effect.{Effect}
 use Rattle.ps_learn.specs.declared.learning.Kept.{Kept}

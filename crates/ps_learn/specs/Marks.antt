@@ -3,10 +3,10 @@ use Rattle.std.specs.Prelude.{ℕ, ◌≡◌, ℤ, Bool, true, false, Option, So
 use Rattle.ps_steps.specs.Assignments.{Assignment, place, value_of}
 use Rattle.ps_steps.specs.Constraints.{Constraint}
 use Rattle.ps_steps.specs.Steps.{Known, known_of}
-use Rattle.ps_learning.specs.Trails.{TrailEntry, Trail, values, values_of, level}
-use Rattle.ps_learning.specs.Causes.{Marks, is_marked, IsCoveredAt, IsExplained, AreExplained, IsFalseAt, IsFalseInReason}
-use Rattle.ps_learning.specs.Marking.{Grows, AddsReason, AddsReasons}
-use Rattle.ps_learning.specs.Keeping.{IsKeptOnce, IsToExplain, IsKeptOrNot, SomeIsMarked, NoneIsMarked}
+use Rattle.ps_trail.specs.Trails.{TrailEntry, Trail, values, values_of, level}
+use Rattle.ps_trail.specs.Causes.{Marks, is_marked, IsCoveredAt, IsExplained, AreExplained, IsFalseAt, IsFalseInReason}
+use Rattle.ps_trail.specs.Marking.{Grows, AddsReason, AddsReasons}
+use Rattle.ps_trail.specs.Keeping.{IsKeptOnce, IsToExplain, IsKeptOrNot, SomeIsMarked, NoneIsMarked}
 use Rattle.ps_learn.specs.declared.explaining.Causes.{Causes}
 
 -- the variable of a false literal is marked

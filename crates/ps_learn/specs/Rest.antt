@@ -3,7 +3,7 @@ use Rattle.std.specs.Prelude.{ℕ, ◌≡◌, Option, Some, None, List, ◌++◌
 use Rattle.ps_steps.specs.Assignments.{Assignment}
 use Rattle.ps_steps.specs.Constraints.{Constraint}
 use Rattle.ps_steps.specs.Steps.{Known, constraint_at}
-use Rattle.ps_learning.specs.Trails.{TrailEntry, IsConflict}
+use Rattle.ps_trail.specs.Trails.{TrailEntry, IsConflict}
 use Rattle.ps_forms.specs.Forms.{Form}
 use Rattle.ps_forms.specs.Decided.{IsIdle, AtomsAreSet}
 

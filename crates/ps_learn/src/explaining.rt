@@ -2,10 +2,10 @@
 ghost use Rattle.std.specs.Prelude.{◌≡◌, ◌<◌, ℤ, true, false, take, length, IfOk};
 ghost use Rattle.ps_steps.specs.Assignments.{place};
 ghost use Rattle.ps_steps.specs.Steps.{known_of};
-ghost use Rattle.ps_learning.specs.Trails.{values, values_of, level, IsConflict, AreReasons};
-ghost use Rattle.ps_learning.specs.Causes.{is_marked, IsCoveredAt};
-ghost use Rattle.ps_learning.specs.Marking.{Grows, AddsFalseAt};
-ghost use Rattle.ps_learning.specs.Keeping.{IsKeptOnce, IsToExplain};
+ghost use Rattle.ps_trail.specs.Trails.{values, values_of, level, IsConflict, AreReasons};
+ghost use Rattle.ps_trail.specs.Causes.{is_marked, IsCoveredAt};
+ghost use Rattle.ps_trail.specs.Marking.{Grows, AddsFalseAt};
+ghost use Rattle.ps_trail.specs.Keeping.{IsKeptOnce, IsToExplain};
 ghost use Rattle.ps_learn.specs.Marks.{Explains, ExplainsAt, IsMarkedBefore};
 ghost use Rattle.ps_learn.specs.Marks.{IsCaused, IsTrailExplained, AddsTrailReasons, AreCauses};
 

@@ -2,11 +2,11 @@
 ghost use Rattle.std.specs.Prelude.{◌≡◌, ◌≤◌, ◌+◌, length, true, IfOk, All};
 ghost use Rattle.ps_steps.specs.Assignments.{all_unset};
 ghost use Rattle.ps_steps.specs.Steps.{IsLawful, known_of, lits_of, hints_of, is_contradiction};
-ghost use Rattle.ps_learning.specs.Known.{most_known, IsIdUpTo};
-ghost use Rattle.ps_learning.specs.Trails.{values, level, IsLit, AreReasons, IsConflict};
-ghost use Rattle.ps_learning.specs.Levels.{IsAsserting};
-ghost use Rattle.ps_learning.specs.Keeping.{IsKeptOnce};
-ghost use Rattle.ps_learning.specs.Starting.{AreKeptLits};
+ghost use Rattle.ps_trail.specs.Known.{most_known, IsIdUpTo};
+ghost use Rattle.ps_trail.specs.Trails.{values, level, IsLit, AreReasons, IsConflict};
+ghost use Rattle.ps_trail.specs.Levels.{IsAsserting};
+ghost use Rattle.ps_trail.specs.Keeping.{IsKeptOnce};
+ghost use Rattle.ps_trail.specs.Starting.{AreKeptLits};
 ghost use Rattle.ps_learn.specs.Learning.{MarksCauses};
 ghost use Rattle.ps_learn.specs.Marks.{IsReached};
 ghost use Rattle.ps_learn.specs.Falsity.{AreFalseIn};

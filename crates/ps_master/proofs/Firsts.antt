@@ -6,7 +6,7 @@ use Rattle.ps_table.specs.Tableau.{entry_at}
 use Rattle.ps_table.specs.declared.place.WideAt.{WideAt}
 use Rattle.ps_table.specs.Places.{IsWideAt}
 use Rattle.ps_bland.specs.Rules.{IsDueToEndIn}
-use Rattle.ps_multiples.specs.Multiples.{ModelPlaces}
+use Rattle.ps_ends.specs.Multiples.{ModelPlaces}
 use Rattle.ps_answer.specs.declared.answer.Cause.{Cause}
 use Rattle.ps_answer.specs.declared.answer.Cause.TheVariants.{Pivots, Conflicts, Wide}
 use Rattle.ps_answer.specs.declared.answer.Dual.{Dual}

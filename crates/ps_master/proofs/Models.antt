@@ -1,20 +1,20 @@
 -- The model of a feasible table is that of its stage, or a number of it is too wide where a model is due.
 use Rattle.std.proofs.Common.{◌≡◌, ℕ, List, sym, subst}
 use Rattle.ps_meaning.specs.Formula.{World}
-use Rattle.ps_rule.specs.Rule.{IsFeasible}
+use Rattle.ps_simplex.specs.Rule.{IsFeasible}
 use Rattle.ps_table.specs.Tableau.{Tableau, entry_at, basic_at}
 use Rattle.ps_table.specs.declared.place.WideAt.{WideAt}
 use Rattle.ps_table.specs.Places.{IsWideAt}
 use Rattle.ps_bland.specs.Rules.{simplex_of}
-use Rattle.ps_multiples.specs.Multiples.{ModelPlaces}
+use Rattle.ps_ends.specs.Multiples.{ModelPlaces}
 use Rattle.ps_answer.specs.declared.answer.Model.{Model}
 use Rattle.ps_claims.specs.declared.claim_kind.ClaimKind.{ClaimKind}
 use Rattle.ps_runs.specs.Runs.{Subject, setting_of, atoms_of, IsPool, table_at, IsFeasibleAt, IsModelAt}
 use Rattle.ps_runs.specs.Certificates.{table_model}
 use Rattle.ps_problem.specs.Problems.{bounds_of}
-use Rattle.ps_entailment.specs.Queries.{IsAllowed}
-use Rattle.ps_entailment.specs.Answers as claimed
-use Rattle.ps_entailment.specs.Answers.{ShowsConsistent}
+use Rattle.ps_claims.specs.Queries.{IsAllowed}
+use Rattle.ps_claims.specs.Answers as claimed
+use Rattle.ps_claims.specs.Answers.{ShowsConsistent}
 use Rattle.ps_certificate.specs.Certificates.{model_of}
 use Rattle.ps_phases.specs.Tables.{IsRunTable, stage_at}
 use Rattle.ps_phases.specs.Licences.{IsModelDue, IsTooWide}

@@ -1,7 +1,7 @@
 -- A state of the run is in a phase once the phase has its costs.
 use Rattle.std.proofs.Common.{◌≡◌, ◌≢◌, List, sym, subst}
 use Rattle.ps_meaning.specs.Formula.{World}
-use Rattle.ps_rule.specs.Rule.{IsFeasible}
+use Rattle.ps_simplex.specs.Rule.{IsFeasible}
 use Rattle.ps_table.specs.declared.costs.Costs.{Costs}
 use Rattle.ps_table.specs.Tableau.{Tableau}
 use Rattle.ps_bland.specs.Rules.{simplex_of}

@@ -10,7 +10,7 @@ use Rattle.ps_problem.specs.declared.query.Query as stored
 use Rattle.ps_problem.specs.Problems.{Parts, bounds_in, bound_of}
 use Rattle.ps_steps.specs.Steps.{Refutes}
 use Rattle.ps_forms.specs.Forms.{form_of, first_known}
-use Rattle.ps_rule.specs.Rule.{IsFeasible, IsResting}
+use Rattle.ps_simplex.specs.Rule.{IsFeasible, IsResting}
 use Rattle.ps_answer.specs.declared.answer.Cause.{Cause}
 use Rattle.ps_answer.specs.declared.answer.Cause.TheVariants.{Pivots, Conflicts, Wide}
 use Rattle.ps_answer.specs.declared.answer.Dual.{Dual}

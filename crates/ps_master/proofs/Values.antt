@@ -3,7 +3,7 @@ use Rattle.std.proofs.Common.{◌≡◌, ◌<◌, pos, ◌≤ℤ◌, ◌*ℤ◌,
 use Rattle.std.specs.Prelude.{unsigned_abs}
 use Rattle.std.proofs.lemmas.Int.{ints}
 use Rattle.ps_rational.specs.Rational.{Rational, fraction}
-use Rattle.ps_entailment.proofs.Tight.{quotient-ratio}
+use Rattle.ps_claims.proofs.Tight.{quotient-ratio}
 use Rattle.ps_claims.specs.Duals.{Dual, HasValueHead}
 
 pub head_of_value : (value : Rational) (d : Dual) → pos 1 ≤ℤ d.top → value ≡ fraction d.head (unsigned_abs d.top) → HasValueHead value d

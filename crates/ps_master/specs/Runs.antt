@@ -1,7 +1,7 @@
 -- The phases of a run: what each answers, and how the run goes on behind it.
 use Rattle.std.specs.Prelude.{◌≡◌, ◌+◌, ◌≤◌, ◌++◌, ℕ, Bool, false, Option, Some, List, [], length}
 use Rattle.ps_meaning.specs.Formula.{World}
-use Rattle.ps_rule.specs.Rule.{IsFeasible}
+use Rattle.ps_simplex.specs.Rule.{IsFeasible}
 use Rattle.ps_pool.specs.declared.event.Event.{Event}
 use Rattle.ps_problem.specs.declared.query.Query.{Query}
 use Rattle.ps_problem.specs.Problems.{Parts, bounds_of}
@@ -12,8 +12,8 @@ use Rattle.ps_answer.specs.declared.answer.Verdict.{Verdict}
 use Rattle.ps_answer.specs.declared.answer.Verdict.TheVariants as verdict
 use Rattle.ps_answer.specs.declared.answer.SideAnswer.{SideAnswer}
 use Rattle.ps_answer.specs.declared.answer.SideAnswer.TheVariants as side
-use Rattle.ps_entailment.specs.Queries.{IsAllowed}
-use Rattle.ps_entailment.specs.Answers.{ShowsConsistent}
+use Rattle.ps_claims.specs.Queries.{IsAllowed}
+use Rattle.ps_claims.specs.Answers.{ShowsConsistent}
 use Rattle.ps_claims.specs.declared.claim_kind.ClaimKind.{ClaimKind}
 use Rattle.ps_claims.specs.declared.claim_kind.ClaimKind.TheVariants.{Nothing}
 use Rattle.ps_claims.specs.Duals.{AreZeroElsewhere}
@@ -22,7 +22,7 @@ use Rattle.ps_runs.specs.Runs.{Subject, setting_of, given_in, both_in, atoms_of,
 use Rattle.ps_certificate.specs.Certificates.{model_of, dual_of}
 use Rattle.ps_phases.specs.Tables.{stage_at}
 use Rattle.ps_phases.specs.Verdicts.{IsLawfulPhaseOne, IsLawfulSide}
-use Rattle.ps_printed.specs.Printed.{IsPrintedVerdict}
+use Rattle.ps_certificate.specs.Printed.{IsPrintedVerdict}
 use Rattle.ps_generation.specs.declared.limits.Limits.{Limits}
 use Rattle.ps_generation.specs.Counts.{AppendsFewPivots}
 use Rattle.ps_generation.specs.Phases.{LimitedSubject, limited, kept_dual}

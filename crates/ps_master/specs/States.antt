@@ -1,6 +1,6 @@
 -- A run as its struct keeps it.
 use Rattle.std.specs.Prelude.{◌≡◌, ◌+◌, ◌≤◌, Bool, false, Result, Ok, Err, length}
-use Rattle.ps_rule.specs.Rule.{IsFeasible}
+use Rattle.ps_simplex.specs.Rule.{IsFeasible}
 use Rattle.ps_bland.specs.Rules.{simplex_of}
 use Rattle.ps_table.specs.declared.place.WideAt.{WideAt}
 use Rattle.ps_table.specs.Places.{IsWideAt}
@@ -12,7 +12,7 @@ use Rattle.ps_answer.specs.declared.answer.SideAnswer.TheVariants as side
 use Rattle.ps_claims.specs.declared.claim_kind.ClaimKind.{ClaimKind}
 use Rattle.ps_claims.specs.declared.claim_kind.ClaimKind.TheVariants.{Nothing}
 use Rattle.ps_claims.specs.Duals.{HasValueHead}
-use Rattle.ps_multiples.specs.Multiples.{ModelPlaces}
+use Rattle.ps_ends.specs.Multiples.{ModelPlaces}
 use Rattle.ps_runs.specs.Runs.{Subject, setting_of, IsAsked, atoms_of, IsPool}
 use Rattle.ps_certificate.specs.Certificates.{dual_of}
 use Rattle.ps_phases.specs.Tables.{IsRunTable}

@@ -1,12 +1,12 @@
 //! What the phases of a run answer.
 ghost use Rattle.std.specs.Prelude.{◌≢◌, ◌≤ℤ◌, IfOk, MatchResult, pos, false};
-ghost use Rattle.ps_rule.specs.Rule.{IsFeasible};
+ghost use Rattle.ps_simplex.specs.Rule.{IsFeasible};
 ghost use Rattle.ps_bland.specs.Ready.{HasNoNegativeValue};
 ghost use Rattle.ps_bland.specs.Rules.{simplex_of};
 ghost use Rattle.ps_claims.specs.declared.claim_kind.ClaimKind.TheVariants.{Nothing};
 ghost use Rattle.ps_runs.specs.Runs.{IsAsked};
-ghost use Rattle.ps_printed.specs.Printed.{ArePrintedOperands, IsPrintedDual, IsPrintedModel};
-ghost use Rattle.ps_printed.specs.Printed.{IsPrintedSide};
+ghost use Rattle.ps_certificate.specs.Printed.{ArePrintedOperands, IsPrintedDual, IsPrintedModel};
+ghost use Rattle.ps_certificate.specs.Printed.{IsPrintedSide};
 ghost use Rattle.ps_ends.specs.Models.{AreApart};
 ghost use Rattle.ps_generation.specs.Counts.{MakesFewPivots};
 ghost use Rattle.ps_generation.specs.Phases.{AreLimits, HasRoom, IsLeft};

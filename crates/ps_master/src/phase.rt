@@ -1,6 +1,6 @@
 //! A phase of a run.
 ghost use Rattle.std.specs.Prelude.{◌≢◌, IfOk};
-ghost use Rattle.ps_rule.specs.Rule.{IsFeasible};
+ghost use Rattle.ps_simplex.specs.Rule.{IsFeasible};
 ghost use Rattle.ps_bland.specs.Rules.{simplex_of};
 ghost use Rattle.ps_claims.specs.declared.claim_kind.ClaimKind.TheVariants.{Nothing};
 ghost use Rattle.ps_runs.specs.Runs.{IsAsked};

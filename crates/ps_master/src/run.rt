@@ -3,7 +3,7 @@ ghost use Rattle.std.specs.Prelude.{◌≡◌, ◌≢◌, [], None, false, IfOk,
 ghost use Rattle.ps_problem.specs.Problems.{HasNodes};
 ghost use Rattle.ps_claims.specs.declared.claim_kind.ClaimKind.TheVariants.{Lower, Nothing, Upper};
 ghost use Rattle.ps_runs.specs.Kept.{IsChoice};
-ghost use Rattle.ps_printed.specs.Printed.{IsPrintedSide};
+ghost use Rattle.ps_certificate.specs.Printed.{IsPrintedSide};
 ghost use Rattle.ps_generation.specs.Phases.{AreLimits};
 ghost use Rattle.ps_master.specs.Runs.{IsAtStart, IsPhaseOneAnswer, IsLowered, IsNew};
 ghost use Rattle.ps_master.specs.Runs.{IsFeasibleRun, IsPrintedFirst, IsReached, IsSideAnswerOf};

@@ -4,7 +4,7 @@ use Rattle.std.proofs.lemmas.List.{length-append, map-append}
 use Rattle.ps_meaning.specs.Formula.{World}
 use Rattle.ps_rational.specs.Rational.{fraction}
 use Rattle.ps_rational.specs.Order.{IsNonneg}
-use Rattle.ps_basis.specs.Table.{HasHomes}
+use Rattle.ps_simplex.specs.Table.{HasHomes}
 use Rattle.ps_table.specs.Tableau.{Tableau, IsTableau, IsAdded, ExtendsSystem, IsTableFor, IsTableForHomes, HasUnitHomes, HasBasicHomes, IsColumn, rows_of as table_rows, width_of as table_width, number_in, entry_at, basic_at}
 use Rattle.ps_claims.specs.declared.claim_kind.ClaimKind.{ClaimKind}
 use Rattle.ps_runs.specs.Rows.{Setting, artificial_rows, home_cost, world_cost, entries_of, rows_of, width_of, columns_of}

@@ -5,7 +5,7 @@ use Rattle.ps_problem.specs.Problems.{Parts}
 use Rattle.ps_pool.specs.declared.event.Event.{Event}
 use Rattle.ps_answer.specs.declared.answer.Verdict.{Verdict}
 use Rattle.ps_answer.specs.declared.answer.Verdict.TheVariants.{Consistent, Inconsistent, Open}
-use Rattle.ps_entailment.specs.Answers as claimed
+use Rattle.ps_claims.specs.Answers as claimed
 use Rattle.ps_claims.specs.Duals.{Dual}
 use Rattle.ps_claims.specs.Validity.{IsValidVerdict, IsValidPart, IsValid}
 use Rattle.ps_phases.specs.Verdicts.{IsLawfulVerdict, IsLawfulPart, IsLawfulAnswer, asked_after}

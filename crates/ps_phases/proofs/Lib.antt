@@ -1,3 +1,4 @@
+pub mod Pools
 pub mod Shapes
 pub mod Ready
 pub mod Settling
@@ -10,3 +11,5 @@ pub mod NodeColumns
 pub mod Counted
 pub mod TableEnds
 pub mod Alone
+pub mod Reached
+pub mod Limits

@@ -3,7 +3,7 @@ use Rattle.std.proofs.Common.{◌≡◌, ℕ, ◌<◌, List, length, subst}
 use Rattle.ps_meaning.specs.Formula.{World}
 use Rattle.ps_rational.specs.Rational.{Rational}
 use Rattle.ps_frac.specs.declared.wide.Op.{Op}
-use Rattle.ps_rule.specs.Rule.{IsDueToEnd, IsMoving, IsResting}
+use Rattle.ps_simplex.specs.Rule.{IsDueToEnd, IsMoving, IsResting}
 use Rattle.ps_pool.specs.declared.col.Col.TheVariants.{Home}
 use Rattle.ps_table.specs.declared.place.Place.{Place}
 use Rattle.ps_table.specs.declared.place.WideAt.{WideAt}

@@ -16,7 +16,7 @@ use Rattle.ps_table.specs.declared.home.Home.{Home}
 use Rattle.ps_claims.specs.declared.claim_kind.ClaimKind.{ClaimKind}
 use Rattle.ps_claims.specs.declared.claim_kind.ClaimKind.TheVariants.{Nothing, Lower, Upper}
 use Rattle.ps_claims.proofs.NodeSums.{both-indicator}
-use Rattle.ps_columns.specs.Columns as over
+use Rattle.ps_phases.specs.Columns as over
 use Rattle.ps_problem.specs.Rows as rows
 use Rattle.ps_runs.specs.Rows.{phase_of, entry_in, entries_of, is_exact, artificial_rows, home_cost, world_cost, both_of}
 use Rattle.ps_runs.specs.Runs.{Subject, setting_of, asked_in, given_in, both_in, IsAsked}

@@ -4,8 +4,8 @@ use Rattle.std.proofs.lemmas.List.{length-append}
 use Rattle.ps_meaning.specs.Formula.{World}
 use Rattle.ps_rational.specs.Rational.{mul}
 use Rattle.ps_rational.proofs.Sums.{sum_same}
-use Rattle.ps_basis.specs.Table.{Widened}
-use Rattle.ps_rule.specs.Rule.{IsMoving}
+use Rattle.ps_simplex.specs.Table.{Widened}
+use Rattle.ps_simplex.specs.Rule.{IsMoving}
 use Rattle.ps_pool.specs.declared.col.Col.TheVariants as col
 use Rattle.ps_pool.specs.declared.event.Event.{Event}
 use Rattle.ps_pool.specs.declared.event.Event.TheVariants.{Pivot}

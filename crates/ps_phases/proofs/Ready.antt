@@ -4,10 +4,10 @@ use Rattle.std.proofs.lemmas.Int.{ints}
 use Rattle.std.proofs.lemmas.List.{get_or-map, length-map}
 use Rattle.ps_meaning.specs.Formula.{World, is_true}
 use Rattle.ps_rational.specs.Rational.{one_q, zero_q}
-use Rattle.ps_rule.specs.Rule.{IsFeasible}
+use Rattle.ps_simplex.specs.Rule.{IsFeasible}
 use Rattle.ps_table.specs.Tableau.{Tableau}
 use Rattle.ps_table.specs.Pricing.{HasCosts}
-use Rattle.ps_rule.specs.declared.phase.Phase.TheVariants as phase
+use Rattle.ps_simplex.specs.declared.phase.Phase.TheVariants as phase
 use Rattle.ps_bland.specs.Rules.{simplex_of}
 use Rattle.ps_bland.specs.Ready.{IsReady}
 use Rattle.ps_bland.proofs.Posed.{ready_posed}

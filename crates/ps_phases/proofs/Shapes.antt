@@ -5,7 +5,7 @@ use Rattle.std.proofs.lemmas.List.{length-map}
 use Rattle.ps_meaning.specs.Formula.{World}
 use Rattle.ps_rational.specs.Rational.{Rational}
 use Rattle.ps_rational.proofs.Field.{one_not_zero}
-use Rattle.ps_basis.specs.Table.{IsBasisTable}
+use Rattle.ps_simplex.specs.Table.{IsBasisTable}
 use Rattle.ps_pool.specs.declared.col.Col.{Col}
 use Rattle.ps_pool.specs.declared.col.Col.TheVariants as col
 use Rattle.ps_table.specs.declared.home.Home.TheVariants.{Slack}

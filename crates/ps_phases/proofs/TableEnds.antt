@@ -11,7 +11,7 @@ use Rattle.ps_table.specs.Tableau.{Tableau, rows_of as table_rows, entry_at, bas
 use Rattle.ps_table.specs.Pricing.{cost_at}
 use Rattle.ps_table.specs.Places.{weight_at}
 use Rattle.ps_bland.specs.Rules.{simplex_of}
-use Rattle.ps_entailment.specs.Answers.{Model}
+use Rattle.ps_claims.specs.Answers.{Model}
 use Rattle.ps_claims.specs.declared.claim_kind.ClaimKind.{ClaimKind}
 use Rattle.ps_claims.specs.Duals.{Dual}
 use Rattle.ps_runs.specs.Certificates.{HaveSameNumbers, table_dual, weighted_worlds, table_model}

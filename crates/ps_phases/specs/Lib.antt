@@ -1,6 +1,9 @@
 -- Meaning
+pub mod Columns
 pub mod Licences
 pub mod Verdicts
 pub mod Tables
--- Laws, as the functions of laws.rt promise them
-pub mod Laws
+-- Laws, as the functions of phase_laws.rt promise them
+pub mod PhaseLaws
+-- Meaning, and the law, of a limit of pivots
+pub mod Enough

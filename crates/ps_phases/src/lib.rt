@@ -1,9 +1,20 @@
-//! The phases of a run over the solver's tables: how they go on, when a part may be open, and which
-//! answers are lawful.
+//! The phases of a run over the solver's tables: the homes, the columns of worlds and their costs;
+//! how phases go on, when a part may be open, which answers are lawful, and a limit of pivots that
+//! no lawful run reaches.
 //!
-//! A call does nothing: its contract is the law.
+//! A call of a law does nothing: its contract is the law.
 #![tactic(auto)]
 
-mod laws;
+mod column;
+mod costs;
+mod homes;
+mod phase_laws;
+mod pivot_limit;
+#[cfg(test)]
+mod tests;
 
-pub use laws::{lawful_ends, licences, node_columns, phases_go_on, run_tables};
+pub use column::column_of;
+pub use costs::{costs_for, world_cost, world_in};
+pub use homes::homes_of;
+pub use phase_laws::{lawful_ends, licences, node_columns, phases_go_on, run_tables};
+pub use pivot_limit::enough;

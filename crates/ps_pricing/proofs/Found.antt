@@ -19,7 +19,7 @@ use Rattle.ps_forms.proofs.Worlds.{world_of-agrees}
 use Rattle.ps_pb.specs.Limits.{IsLiteral}
 use Rattle.ps_pb.specs.declared.limits.TheConstants.{MOST_VARIABLES}
 use Rattle.ps_log.specs.Logs.{Telling}
-use Rattle.ps_learning.specs.Trails.{IsLit}
+use Rattle.ps_trail.specs.Trails.{IsLit}
 use Rattle.ps_sat.specs.Searches.{Handed, AreStepsOf}
 use Rattle.ps_maxsat.specs.declared.problem.Wcnf.{Wcnf}
 use Rattle.ps_maxsat.specs.declared.pricing.Priced.{Priced}
@@ -29,7 +29,7 @@ use Rattle.ps_answer.specs.declared.answer.Dual.{Dual}
 use Rattle.ps_claims.specs.declared.claim_kind.ClaimKind.{ClaimKind}
 use Rattle.ps_claims.proofs.Refutations.{extension-meets}
 use Rattle.ps_certificate.specs.Certificates.{dual_of}
-use Rattle.ps_printed.specs.Printed.{AreOfLiterals}
+use Rattle.ps_certificate.specs.Printed.{AreOfLiterals}
 use Rattle.ps_runs.specs.Searches.{IsSpentSearch}
 use Rattle.ps_runs.specs.Runs.{goal_at_least}
 use Rattle.ps_pricing.specs.Sought.{HasSteps, HasFewSteps}

@@ -13,7 +13,7 @@ use Rattle.ps_claims.specs.declared.claim_kind.ClaimKind.{ClaimKind}
 use Rattle.ps_claims.specs.declared.combination.Combination.{Combination}
 use Rattle.ps_claims.specs.Goals.{value_under}
 use Rattle.ps_certificate.specs.Certificates.{dual_of, IsSmallDual}
-use Rattle.ps_printed.specs.Printed.{IsPrintedDual, IsPrintedSearch}
+use Rattle.ps_certificate.specs.Printed.{IsPrintedDual, IsPrintedSearch}
 use Rattle.ps_maxsat.specs.declared.problem.Wcnf.{Wcnf}
 use Rattle.ps_runs.specs.Kept.{kept_parts}
 use Rattle.ps_runs.specs.Searches.{IsSpentSearch}

@@ -16,7 +16,7 @@ use Rattle.ps_runs.specs.Runs.{sentences_of}
 use Rattle.ps_answer.proofs.WrittenItems.{written_report}
 use Rattle.ps_phases.proofs.Counted.{answer_counted}
 use Rattle.ps_phases.specs.Verdicts.{IsLawfulPart, IsLawfulPhaseOne, IsLawfulVerdict, asked_after}
-use Rattle.ps_printed.specs.Printed.{IsPrintedAnswer, IsPrintedPart}
+use Rattle.ps_certificate.specs.Printed.{IsPrintedAnswer, IsPrintedPart}
 use Rattle.ps_generation.specs.declared.limits.Limits.{Limits}
 use Rattle.ps_generation.specs.Phases.{AreLimits, LimitedSubject}
 use Rattle.ps_reported.specs.Laws.{IsAnswered}

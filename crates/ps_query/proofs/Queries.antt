@@ -19,7 +19,7 @@ use Rattle.ps_runs.specs.Runs.{subject_of, given_in}
 use Rattle.ps_runs.proofs.Kept.{rows-all}
 use Rattle.ps_certificate.specs.Certificates.{dual_of}
 use Rattle.ps_phases.specs.Verdicts.{IsLawfulPhaseOne, IsLawfulSide, IsLawfulAnswerTo, AreLawfulBounds}
-use Rattle.ps_printed.specs.Printed.{IsPrintedPart}
+use Rattle.ps_certificate.specs.Printed.{IsPrintedPart}
 use Rattle.ps_generation.specs.declared.limits.Limits.{Limits}
 use Rattle.ps_generation.specs.Phases.{LimitedSubject}
 use Rattle.ps_master.specs.declared.first.First.{First}

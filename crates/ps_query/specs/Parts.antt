@@ -15,7 +15,7 @@ use Rattle.ps_valid.specs.Answers.{part_of, verdict_of as claimed_verdict}
 use Rattle.ps_runs.specs.Kept.{AreAllKept}
 use Rattle.ps_runs.specs.Runs.{Stage}
 use Rattle.ps_phases.specs.Verdicts.{IsLawfulSide, IsLawfulVerdict, IsLawfulPart, asked_after}
-use Rattle.ps_printed.specs.Printed.{IsPrintedPart, IsPrintedVerdict}
+use Rattle.ps_certificate.specs.Printed.{IsPrintedPart, IsPrintedVerdict}
 use Rattle.ps_generation.specs.declared.limits.Limits.{Limits}
 use Rattle.ps_master.specs.declared.first.First.{First}
 use Rattle.ps_master.specs.declared.first.First.TheVariants as first

@@ -8,7 +8,7 @@ use Rattle.ps_answer.specs.Faults.{IsReport}
 use Rattle.ps_claims.specs.Validity.{IsValid}
 use Rattle.ps_valid.specs.Answers.{answer_of, IsRightOf}
 use Rattle.ps_phases.specs.Verdicts.{IsLawfulAnswer}
-use Rattle.ps_printed.specs.Printed.{IsPrintedAnswer}
+use Rattle.ps_certificate.specs.Printed.{IsPrintedAnswer}
 use Rattle.ps_generation.specs.declared.limits.Limits.{Limits}
 use Rattle.ps_reported.specs.Laws.{NamesFewWorlds}
 pub use Rattle.ps_reported.specs.Laws.{AreShortLines}

@@ -2,7 +2,7 @@
 ghost use Rattle.std.specs.Prelude.{◌≡◌, ◌≢◌, [], None, IfOk};
 ghost use Rattle.std.specs.List.{AllZip};
 ghost use Rattle.ps_problem.specs.Problems.{HasNodes};
-ghost use Rattle.ps_printed.specs.Printed.{IsPrintedPart};
+ghost use Rattle.ps_certificate.specs.Printed.{IsPrintedPart};
 ghost use Rattle.ps_generation.specs.Phases.{AreLimits};
 ghost use Rattle.ps_master.specs.Runs.{IsPrintedFirst, IsReached, verdict_of};
 ghost use Rattle.ps_query.specs.Parts.{AreBoundsOf, ArePartsUnder, IsBehind, IsPartOf, IsVerdictOf, MayGoOn};

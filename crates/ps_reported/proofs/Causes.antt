@@ -28,7 +28,7 @@ use Rattle.ps_claims.specs.declared.claim_kind.ClaimKind.{ClaimKind}
 use Rattle.ps_runs.specs.Rows.{rows_of, entries_of}
 use Rattle.ps_runs.specs.Runs.{Subject, setting_of, given_in, both_in, IsAsked, Stage, dual_at}
 use Rattle.ps_phases.specs.Licences.{IsOutOfConflicts, IsLicensed}
-use Rattle.ps_printed.specs.Printed.{IsPrintedOperand, ArePrintedOperands, IsPrintedSearch, IsPrintedCause}
+use Rattle.ps_certificate.specs.Printed.{IsPrintedOperand, ArePrintedOperands, IsPrintedSearch, IsPrintedCause}
 use Rattle.ps_reported.proofs.All.{each}
 use Rattle.ps_runs.proofs.Asked.{given_there, both_there}
 use Rattle.ps_reported.proofs.Models.{IsFit}

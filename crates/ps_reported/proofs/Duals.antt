@@ -17,7 +17,7 @@ use Rattle.ps_claims.specs.declared.claim_kind.ClaimKind.{ClaimKind}
 use Rattle.ps_claims.specs.Duals as claims
 use Rattle.ps_claims.specs.Goals.{combination_of, goal_of}
 use Rattle.ps_claims.specs.Validity.{IsRefuted}
-use Rattle.ps_printed.specs.Printed.{AreOfLiterals, IsPrintedDual, most_steps}
+use Rattle.ps_certificate.specs.Printed.{AreOfLiterals, IsPrintedDual, most_steps}
 use Rattle.ps_reported.proofs.All.{mapped}
 use Rattle.ps_reported.proofs.Combinations.{known_within, few_known}
 use Rattle.ps_reported.proofs.Steps.{steps_within}

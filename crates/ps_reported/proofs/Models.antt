@@ -8,7 +8,7 @@ use Rattle.ps_meaning.specs.Formula.{Truth}
 use Rattle.ps_meaning.specs.Distribution.{IsDistribution, weight, total}
 use Rattle.ps_meaning.specs.Bounds.{Bound}
 use Rattle.ps_meaning.proofs.Weights.{weight-nonneg}
-use Rattle.ps_entailment.specs.Answers as claimed
+use Rattle.ps_claims.specs.Answers as claimed
 use Rattle.ps_answer.specs.declared.item.LineItem.{LineItem}
 use Rattle.ps_formula.specs.declared.limits.TheConstants.{MOST_ATOMS}
 use Rattle.ps_problem.specs.declared.limits.TheConstants.{MOST_BOUNDS}
@@ -16,7 +16,7 @@ use Rattle.ps_answer.specs.declared.answer.Weighted.{Weighted}
 use Rattle.ps_answer.specs.declared.answer.Model.{Model}
 use Rattle.ps_answer.specs.Items.{IsProper, IsWithin, IsPrintable}
 use Rattle.ps_answer.specs.Answers.{entry_item, model_items}
-use Rattle.ps_printed.specs.Printed.{IsPrintedModel}
+use Rattle.ps_certificate.specs.Printed.{IsPrintedModel}
 use Rattle.ps_certificate.specs.Certificates.{entry_of, entries, model_of}
 
 -- what is asked of a line

@@ -21,9 +21,9 @@ use Rattle.ps_io.specs.declared.limits.TheConstants.{LONGEST_LINE}
 use Rattle.ps_answer.specs.Answers.{ratio_of, verdict_items, trace_items, query_items, part_items, answer_items, answer_lines}
 use Rattle.ps_claims.specs.Claims.{open_in_part, unfinished_of}
 use Rattle.ps_claims.specs.Validity.{IsValidPart}
-use Rattle.ps_entailment.specs.Answers.{asked_under}
+use Rattle.ps_claims.specs.Answers.{asked_under}
 use Rattle.ps_phases.specs.Verdicts.{asked_after}
-use Rattle.ps_printed.specs.Printed.{IsPrintedPart}
+use Rattle.ps_certificate.specs.Printed.{IsPrintedPart}
 use Rattle.ps_valid.specs.Answers.{verdict_of, part_of, parts_of, answer_of}
 use Rattle.ps_valid.proofs.ShortLines.{short_line}
 use Rattle.ps_reported.specs.Laws.{IsAnswered, NamesFewWorlds}

@@ -20,7 +20,7 @@ use Rattle.ps_answer.specs.declared.answer.SideAnswer.TheVariants as side
 use Rattle.ps_answer.specs.declared.answer.QueryAnswer.{QueryAnswer}
 use Rattle.ps_answer.specs.declared.answer.QueryAnswer.TheVariants as query
 use Rattle.ps_answer.specs.Answers.{ratio_of, model_items, dual_items, trace_items, cause_items, verdict_items, side_items, query_items}
-use Rattle.ps_entailment.specs.Answers as claimed
+use Rattle.ps_claims.specs.Answers as claimed
 use Rattle.ps_claims.specs.declared.claim_kind.ClaimKind.{ClaimKind}
 use Rattle.ps_claims.specs.declared.claim_kind.ClaimKind.TheVariants.{Nothing, Lower, Upper}
 use Rattle.ps_claims.specs.Claims.{open_in_verdict, open_in_side, open_in_part}
@@ -28,7 +28,7 @@ use Rattle.ps_claims.specs.Validity.{query_of, IsRefuted, IsValidVerdict, IsVali
 use Rattle.ps_certificate.specs.Certificates.{entries, model_of, dual_of}
 use Rattle.ps_runs.specs.Runs.{Subject, IsAsked, given_in, both_in, Stage, pivots_in}
 use Rattle.ps_phases.specs.Verdicts.{IsSideAt, AreLawfulBounds, IsLawfulPhaseOne, IsLawfulAnswerTo}
-use Rattle.ps_printed.specs.Printed.{IsPrintedModel, IsPrintedDual, IsPrintedCause, IsPrintedVerdict, IsPrintedSide, IsPrintedPart}
+use Rattle.ps_certificate.specs.Printed.{IsPrintedModel, IsPrintedDual, IsPrintedCause, IsPrintedVerdict, IsPrintedSide, IsPrintedPart}
 use Rattle.ps_valid.specs.Answers.{verdict_of, side_of, part_of}
 use Rattle.ps_reported.specs.Settled.{IsClosed, IsCertifiedVerdict, IsCertifiedAnswer, IsLeftBy, IsBesideRun, IsOfRun, IsSettledVerdict}
 use Rattle.ps_reported.proofs.All.{both, each}

@@ -9,17 +9,17 @@ use Rattle.ps_rational.specs.Rational.{Rational, whole, mul, sub, div, zero_q}
 use Rattle.ps_rational.specs.Sums.{sum_to}
 use Rattle.ps_rational.proofs.Sums.{sum_same}
 use Rattle.ps_rational.proofs.Order.{above_not_zero}
-use Rattle.ps_basis.specs.Table.{Pivoted, Based, Belongs, IsBasisTable, Widened, unit_at}
-use Rattle.ps_basis.proofs.PivotKeeps.{stands_kept}
-use Rattle.ps_basis.proofs.Columns.{stands_more}
-use Rattle.ps_basis.proofs.OneTable.{one_table}
-use Rattle.ps_basis.proofs.Agreeing.{same_stands}
-use Rattle.ps_rule.specs.declared.phase.Phase.{Phase}
-use Rattle.ps_rule.specs.declared.phase.Phase.TheVariants.{One, Lower, Upper}
-use Rattle.ps_rule.specs.Rule.{SimplexTable, carried, Improves, HasLeastRatio, LeavesInPhaseTwo, Leaves}
-use Rattle.ps_rule.specs.Pivots.{IsLawfulAt}
-use Rattle.ps_rule.specs.Laws.{multipliers}
-use Rattle.ps_rule.proofs.Combination.{priced_improves}
+use Rattle.ps_simplex.specs.Table.{Pivoted, Based, Belongs, IsBasisTable, Widened, unit_at}
+use Rattle.ps_simplex.proofs.PivotKeeps.{stands_kept}
+use Rattle.ps_simplex.proofs.Columns.{stands_more}
+use Rattle.ps_simplex.proofs.OneTable.{one_table}
+use Rattle.ps_simplex.proofs.Agreeing.{same_stands}
+use Rattle.ps_simplex.specs.declared.phase.Phase.{Phase}
+use Rattle.ps_simplex.specs.declared.phase.Phase.TheVariants.{One, Lower, Upper}
+use Rattle.ps_simplex.specs.Rule.{SimplexTable, carried, Improves, HasLeastRatio, LeavesInPhaseTwo, Leaves}
+use Rattle.ps_simplex.specs.Pivots.{IsLawfulAt}
+use Rattle.ps_simplex.specs.RuleLaws.{multipliers}
+use Rattle.ps_simplex.proofs.Combination.{priced_improves}
 use Rattle.ps_claims.specs.declared.claim_kind.ClaimKind.{ClaimKind}
 use Rattle.ps_claims.specs.declared.claim_kind.ClaimKind.TheVariants.{Nothing}
 use Rattle.ps_runs.specs.Rows.{Setting, phase_of, entries_of, rows_of, columns_of, width_of, system_of, world_cost, cost_of, table_of}

@@ -16,7 +16,7 @@ use Rattle.ps_pb.specs.declared.limits.TheConstants.{MOST_VARIABLES}
 use Rattle.ps_pb.specs.Limits.{IsLiteral}
 use Rattle.ps_log.specs.Limits.{IsStepWithin}
 use Rattle.ps_steps.specs.declared.limits.TheConstants.{MOST_IDS}
-use Rattle.ps_printed.specs.Printed.{AreOfLiterals}
+use Rattle.ps_certificate.specs.Printed.{AreOfLiterals}
 
 -- ---- hints
 -- the id of a known constraint

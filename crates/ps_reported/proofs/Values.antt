@@ -9,7 +9,7 @@ use Rattle.ps_rational.specs.Coprime.{gauss}
 use Rattle.ps_meaning.specs.Formula.{And}
 use Rattle.ps_meaning.specs.Distribution.{Entry, weight}
 use Rattle.ps_meaning.proofs.Weights.{weight-nonneg}
-use Rattle.ps_entailment.specs.Queries.{Query, Reaches}
+use Rattle.ps_claims.specs.Queries.{Query, Reaches}
 use Rattle.ps_meaning.specs.Bounds as meaning
 use Rattle.ps_claims.specs.Duals.{Dual, HasValueHead}
 

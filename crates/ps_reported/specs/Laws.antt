@@ -13,7 +13,7 @@ use Rattle.ps_answer.specs.Faults.{IsText, IsReport}
 use Rattle.ps_claims.specs.Claims.{unfinished_of}
 use Rattle.ps_claims.specs.Validity.{IsValid}
 use Rattle.ps_valid.specs.Answers.{answer_of}
-use Rattle.ps_printed.specs.Printed.{IsPrintedAnswer}
+use Rattle.ps_certificate.specs.Printed.{IsPrintedAnswer}
 use Rattle.ps_reported.specs.Settled.{IsSettledAnswer}
 
 -- an answer within the limits of pivots and conflicts: each part has its certificates or comes of a lawful run; it is

@@ -9,9 +9,9 @@ use Rattle.ps_rational.proofs.Field.{ring_q, mul_comm, one_not_zero}
 use Rattle.ps_rational.proofs.Order.{zero_nonneg}
 use Rattle.ps_rational.proofs.Sums.{sum_split, sum_same, sum_scale, sum_swap, sum_of_zeros, sum_one, unit_sum, sum_nonneg}
 use Rattle.ps_meaning.specs.Formula.{World}
-use Rattle.ps_basis.specs.Table.{unit_at}
-use Rattle.ps_basis.proofs.Units.{less_one, unit_at-same, unit_at-other}
-use Rattle.ps_rule.specs.Rule.{SimplexTable, IsFeasible}
+use Rattle.ps_simplex.specs.Table.{unit_at}
+use Rattle.ps_simplex.proofs.Units.{less_one, unit_at-same, unit_at-other}
+use Rattle.ps_simplex.specs.Rule.{SimplexTable, IsFeasible}
 use Rattle.ps_runs.specs.Rows.{Setting, artificial_rows, entries_of, rows_of, columns_of, width_of, table_of, IsTable}
 use Rattle.ps_runs.specs.Certificates.{value_of}
 use Rattle.ps_runs.proofs.Columns.{home_at, world_at}

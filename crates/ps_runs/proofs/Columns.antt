@@ -6,8 +6,8 @@ use Rattle.std.proofs.lemmas.List.{get_or-map, get_or_append_left, length-map}
 use Rattle.ps_rational.specs.Rational.{fraction, whole, zero_q, one_q}
 use Rattle.ps_rational.proofs.Field.{zero_is_fraction, one_is_fraction}
 use Rattle.ps_meaning.specs.Formula.{World}
-use Rattle.ps_basis.specs.Table.{unit_at, HasHomes}
-use Rattle.ps_basis.proofs.Units.{less_one}
+use Rattle.ps_simplex.specs.Table.{unit_at, HasHomes}
+use Rattle.ps_simplex.proofs.Units.{less_one}
 use Rattle.ps_runs.specs.Rows.{Setting, is_exact, entries_of, artificial_rows, rows_of, columns_of, home_cost, world_cost, costs_of, cost_of}
 use Rattle.ps_claims.specs.declared.claim_kind.ClaimKind.{ClaimKind}
 use Rattle.ps_claims.specs.declared.claim_kind.ClaimKind.TheVariants.{Nothing, Lower, Upper}

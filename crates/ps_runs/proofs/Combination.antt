@@ -10,14 +10,14 @@ use Rattle.ps_meaning.specs.declared.side.Side.{Side}
 use Rattle.ps_meaning.specs.declared.side.Side.TheVariants.{AtLeast, AtMost, Exactly}
 use Rattle.ps_meaning.specs.Bounds.{Bound}
 use Rattle.ps_meaning.specs.Rows.{indicator, row_value}
-use Rattle.ps_rule.specs.Rule.{SimplexTable}
-use Rattle.ps_rule.proofs.Combination.{combination_is, improves_from, improves_back}
+use Rattle.ps_simplex.specs.Rule.{SimplexTable}
+use Rattle.ps_simplex.proofs.Combination.{combination_is, improves_from, improves_back}
 use Rattle.ps_problem.specs.Rows.{signed_by}
 use Rattle.ps_runs.specs.Rows.{Setting, both_of, entry_in, entries_of, rows_of, world_cost}
 use Rattle.ps_runs.specs.Certificates.{signed, table_dual, multiple_of, whole_multiplier, price}
 use Rattle.ps_rational.proofs.Scaling.{scaled_is}
 use Rattle.ps_rational.proofs.Multiples.{lcm_to_positive, lcm_to_multiple}
-use Rattle.ps_rule.specs.Laws.{multipliers}
+use Rattle.ps_simplex.specs.RuleLaws.{multipliers}
 use Rattle.ps_claims.specs.declared.claim_kind.ClaimKind.{ClaimKind}
 use Rattle.ps_claims.specs.declared.claim_kind.ClaimKind.TheVariants.{Nothing, Lower, Upper}
 use Rattle.ps_claims.specs.Duals.{sum_of_rows, combination}

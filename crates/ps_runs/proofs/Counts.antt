@@ -5,7 +5,7 @@ use Rattle.std.proofs.lemmas.List.{length-append}
 use Rattle.ps_rational.specs.Rational.{Rational}
 use Rattle.ps_meaning.specs.Formula.{World}
 use Rattle.ps_meaning.specs.Distribution.{Entry}
-use Rattle.ps_rule.specs.Rule.{SimplexTable}
+use Rattle.ps_simplex.specs.Rule.{SimplexTable}
 use Rattle.ps_runs.specs.Certificates.{value_of, is_above, entry_for, entries_to}
 use Rattle.ps_rational.specs.Scaled.{scaled}
 

@@ -15,9 +15,9 @@ use Rattle.ps_meaning.specs.Formula.{World}
 use Rattle.ps_meaning.specs.Distribution.{Entry, weight}
 use Rattle.ps_meaning.specs.Rows.{indicator, weighted_sum}
 use Rattle.ps_meaning.proofs.Rows.{weighted_sum-indicator}
-use Rattle.ps_basis.proofs.Pricing.{value_is_multiplier}
-use Rattle.ps_basis.proofs.Units.{less_one}
-use Rattle.ps_rule.specs.Rule.{SimplexTable, IsFeasible}
+use Rattle.ps_simplex.proofs.Pricing.{value_is_multiplier}
+use Rattle.ps_simplex.proofs.Units.{less_one}
+use Rattle.ps_simplex.specs.Rule.{SimplexTable, IsFeasible}
 use Rattle.ps_runs.specs.Rows.{Setting, both_of, artificial_rows, rows_of, columns_of, width_of, cost_of, home_cost, world_cost, table_of, IsTable}
 use Rattle.ps_runs.specs.Certificates.{value_of, weight_multiple, weighted_worlds, table_dual, multiple_of, whole_multiplier}
 use Rattle.ps_runs.proofs.Combination.{multiple_positive, multiplier_scaled, neg_out}
@@ -26,7 +26,7 @@ use Rattle.ps_runs.proofs.Columns.{rows_length, home_cost_at, world_cost_at, art
 use Rattle.ps_runs.proofs.BasicSolution.{column_cases, basic_sum, value_right}
 use Rattle.ps_runs.proofs.Models.{model_sum, evidence_weight}
 use Rattle.ps_rational.proofs.Scaling.{whole_tells}
-use Rattle.ps_rule.specs.Laws.{multipliers}
+use Rattle.ps_simplex.specs.RuleLaws.{multipliers}
 use Rattle.ps_claims.specs.declared.claim_kind.ClaimKind.{ClaimKind}
 use Rattle.ps_claims.specs.declared.claim_kind.ClaimKind.TheVariants.{Nothing, Lower, Upper}
 

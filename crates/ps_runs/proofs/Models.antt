@@ -19,9 +19,9 @@ use Rattle.ps_meaning.specs.declared.side.Side.TheVariants.{AtLeast, AtMost as M
 use Rattle.ps_meaning.specs.Bounds.{Compares, MeetsAll}
 use Rattle.ps_meaning.specs.Rows.{row_value, weighted_sum}
 use Rattle.ps_meaning.proofs.Rows.{weighted_sum-indicator, meets_row}
-use Rattle.ps_basis.specs.Table.{unit_at}
-use Rattle.ps_basis.proofs.Units.{less_one, unit_at-same, unit_at-other}
-use Rattle.ps_rule.specs.Rule.{SimplexTable, IsFeasible}
+use Rattle.ps_simplex.specs.Table.{unit_at}
+use Rattle.ps_simplex.proofs.Units.{less_one, unit_at-same, unit_at-other}
+use Rattle.ps_simplex.specs.Rule.{SimplexTable, IsFeasible}
 use Rattle.ps_problem.specs.Rows.{signed_by}
 use Rattle.ps_runs.specs.Rows.{Setting, is_exact, entry_in, entries_of, artificial_rows, rows_of, table_of, IsTable}
 use Rattle.ps_runs.specs.Certificates.{value_of, is_above, weight_multiple, entries_to, weighted_worlds}

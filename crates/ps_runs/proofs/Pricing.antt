@@ -5,9 +5,9 @@ use Rattle.ps_rational.specs.Rational.{Rational, whole, mul}
 use Rattle.ps_rational.specs.Order.{IsLess}
 use Rattle.ps_rational.proofs.Sums.{sum_same}
 use Rattle.ps_meaning.specs.Formula.{World}
-use Rattle.ps_basis.specs.Table.{Widened, IsBasisTable}
-use Rattle.ps_basis.proofs.Units.{less_one}
-use Rattle.ps_rule.specs.Rule.{carried, Improves, IsDueToEnd, IsMoving, IsResting}
+use Rattle.ps_simplex.specs.Table.{Widened, IsBasisTable}
+use Rattle.ps_simplex.proofs.Units.{less_one}
+use Rattle.ps_simplex.specs.Rule.{carried, Improves, IsDueToEnd, IsMoving, IsResting}
 use Rattle.ps_runs.specs.Rows.{Setting, phase_of, entries_of, artificial_rows, rows_of, columns_of, width_of, world_cost, cost_of, table_of, IsTable}
 use Rattle.ps_runs.specs.Certificates.{table_dual, price}
 use Rattle.ps_runs.proofs.Columns.{rows_length, home_cost_at, world_cost_at}
@@ -16,7 +16,7 @@ use Rattle.ps_runs.proofs.Resting.{priced_in_pool}
 use Rattle.ps_runs.proofs.BasicSolution.{column_cases}
 use Rattle.ps_runs.proofs.Starts.{added_table}
 use Rattle.std.proofs.lemmas.List.{length-append, get_or_append_left, get_or_past}
-use Rattle.ps_rule.specs.Laws.{multipliers}
+use Rattle.ps_simplex.specs.RuleLaws.{multipliers}
 use Rattle.ps_claims.specs.declared.claim_kind.ClaimKind.{ClaimKind}
 use Rattle.ps_claims.specs.declared.claim_kind.ClaimKind.TheVariants.{Nothing, Lower, Upper}
 use Rattle.ps_claims.specs.Duals.{combination}

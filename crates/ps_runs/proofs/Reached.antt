@@ -9,14 +9,14 @@ use Rattle.ps_rational.specs.Rational.{Rational, zero_q, mul, sub}
 use Rattle.ps_rational.specs.Sums.{sum_to}
 use Rattle.ps_rational.proofs.Order.{above_not_zero}
 use Rattle.ps_meaning.specs.Formula.{World}
-use Rattle.ps_basis.specs.Table.{unit_at, IsBasis, IsBasisTable, IsFirst, Based, Pivoted, Widened}
-use Rattle.ps_basis.proofs.OneTable as tables
-use Rattle.ps_basis.proofs.PivotKeeps.{stands_kept}
-use Rattle.ps_basis.proofs.Columns.{stands_more}
-use Rattle.ps_basis.proofs.Agreeing.{same_stands}
-use Rattle.ps_rule.specs.declared.phase.Phase.{Phase}
-use Rattle.ps_rule.specs.declared.phase.Phase.TheVariants as phase
-use Rattle.ps_rule.specs.Rule.{SimplexTable, LeavesInPhaseTwo, Leaves}
+use Rattle.ps_simplex.specs.Table.{unit_at, IsBasis, IsBasisTable, IsFirst, Based, Pivoted, Widened}
+use Rattle.ps_simplex.proofs.OneTable as tables
+use Rattle.ps_simplex.proofs.PivotKeeps.{stands_kept}
+use Rattle.ps_simplex.proofs.Columns.{stands_more}
+use Rattle.ps_simplex.proofs.Agreeing.{same_stands}
+use Rattle.ps_simplex.specs.declared.phase.Phase.{Phase}
+use Rattle.ps_simplex.specs.declared.phase.Phase.TheVariants as phase
+use Rattle.ps_simplex.specs.Rule.{SimplexTable, LeavesInPhaseTwo, Leaves}
 use Rattle.ps_pool.specs.declared.event.Event.{Event}
 use Rattle.ps_pool.specs.Worlds.{HasNumber}
 use Rattle.ps_table.specs.Grids.{pivot_cell}

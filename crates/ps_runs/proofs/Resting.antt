@@ -13,16 +13,16 @@ use Rattle.ps_meaning.specs.declared.side.Side.TheVariants.{AtLeast, AtMost as M
 use Rattle.ps_meaning.specs.Bounds.{Bound}
 use Rattle.ps_meaning.proofs.Integers.{mul-nonpos}
 use Rattle.ps_rational.proofs.IntRing.{*ℤ_comm}
-use Rattle.ps_basis.specs.Table.{carried_by, IsBasisTable}
-use Rattle.ps_basis.proofs.Pricing.{carried_is_priced}
-use Rattle.ps_basis.proofs.Units.{less_one}
-use Rattle.ps_rule.specs.Rule.{carried, IsResting}
-use Rattle.ps_rule.proofs.Combination.{resting_most}
+use Rattle.ps_simplex.specs.Table.{carried_by, IsBasisTable}
+use Rattle.ps_simplex.proofs.Pricing.{carried_is_priced}
+use Rattle.ps_simplex.proofs.Units.{less_one}
+use Rattle.ps_simplex.specs.Rule.{carried, IsResting}
+use Rattle.ps_simplex.proofs.Combination.{resting_most}
 use Rattle.ps_problem.specs.Rows.{signed_by}
 use Rattle.ps_runs.specs.Rows.{Setting, phase_of, is_exact, entries_of, artificial_rows, rows_of, columns_of, width_of, cost_of, table_of}
 use Rattle.ps_runs.specs.Certificates.{signed, table_dual, multiple_of, whole_multiplier, price}
 use Rattle.ps_runs.proofs.Columns.{world_at, slack_cost}
-use Rattle.ps_rule.specs.Laws.{multipliers}
+use Rattle.ps_simplex.specs.RuleLaws.{multipliers}
 use Rattle.ps_rational.specs.Scaled.{scaled}
 use Rattle.ps_claims.specs.declared.claim_kind.ClaimKind.{ClaimKind}
 use Rattle.ps_claims.specs.declared.claim_kind.ClaimKind.TheVariants.{Nothing, Lower, Upper}

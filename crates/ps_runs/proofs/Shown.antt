@@ -3,9 +3,9 @@ use Rattle.std.proofs.Common.{◌≡◌, ◌≢◌, ℕ, List, length, All, AllP
 use Rattle.std.proofs.lemmas.Int.{ints}
 use Rattle.ps_rational.specs.Rational.{Rational}
 use Rattle.ps_meaning.specs.Formula.{World}
-use Rattle.ps_rule.specs.Rule.{IsFeasible}
-use Rattle.ps_entailment.specs.Queries.{IsAllowed}
-use Rattle.ps_entailment.specs.Answers.{IsBasicModel}
+use Rattle.ps_simplex.specs.Rule.{IsFeasible}
+use Rattle.ps_claims.specs.Queries.{IsAllowed}
+use Rattle.ps_claims.specs.Answers.{IsBasicModel}
 use Rattle.ps_claims.specs.declared.claim_kind.ClaimKind.TheVariants.{Nothing}
 use Rattle.ps_claims.specs.Duals.{HasNothingHead}
 use Rattle.ps_runs.specs.Rows.{Setting, cost_of, table_of, IsTable}

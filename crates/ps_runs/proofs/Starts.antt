@@ -9,9 +9,9 @@ use Rattle.ps_rational.proofs.Ring.{var, minus, none}
 use Rattle.ps_rational.proofs.Order.{zero_nonneg, above_nonneg, one_above}
 use Rattle.ps_rational.proofs.Sums.{sum_same}
 use Rattle.ps_meaning.specs.Formula.{World, is_true}
-use Rattle.ps_basis.specs.Table.{unit_at, HasHomes, IsBasisTable, IsFirst, Widened}
-use Rattle.ps_basis.proofs.Columns.{stands_new, stands_more}
-use Rattle.ps_basis.proofs.Units.{less_one}
+use Rattle.ps_simplex.specs.Table.{unit_at, HasHomes, IsBasisTable, IsFirst, Widened}
+use Rattle.ps_simplex.proofs.Columns.{stands_new, stands_more}
+use Rattle.ps_simplex.proofs.Units.{less_one}
 use Rattle.ps_runs.specs.Rows.{Setting, both_of, entries_of, artificial_rows, rows_of, columns_of, width_of, home_cost, cost_of, IsTable}
 use Rattle.ps_runs.proofs.Columns.{home_at, has_homes, world_at, rows_length, home_cost_at, world_cost_at}
 use Rattle.ps_runs.proofs.BasicSolution.{column_cases}

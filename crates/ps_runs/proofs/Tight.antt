@@ -5,7 +5,7 @@ use Rattle.ps_rational.specs.Rational.{Rational}
 use Rattle.ps_rational.proofs.Ring.{var, by}
 use Rattle.ps_rational.proofs.IntRing.{*ℤ_cancel, ring_z}
 use Rattle.ps_meaning.specs.Distribution.{weight}
-use Rattle.ps_rule.specs.Rule.{IsFeasible, IsResting}
+use Rattle.ps_simplex.specs.Rule.{IsFeasible, IsResting}
 use Rattle.ps_steps.specs.Steps.{Refutes}
 use Rattle.ps_forms.specs.Forms.{form_of, first_known}
 use Rattle.ps_problem.specs.declared.query.Query as stored

@@ -12,7 +12,7 @@ use Rattle.ps_meaning.specs.Formula.{World, Truth}
 use Rattle.ps_meaning.specs.Distribution.{total}
 use Rattle.ps_meaning.specs.Rows.{indicator}
 use Rattle.ps_meaning.proofs.Rows.{weighted_sum-indicator}
-use Rattle.ps_rule.specs.Rule.{SimplexTable}
+use Rattle.ps_simplex.specs.Rule.{SimplexTable}
 use Rattle.ps_runs.specs.Rows.{Setting, rows_of, width_of, table_of, IsTable}
 use Rattle.ps_table.specs.Places.{weight_under, weight_at}
 use Rattle.ps_runs.specs.Certificates.{value_of, weight_multiple, weighted_worlds}

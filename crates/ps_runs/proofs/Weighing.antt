@@ -11,7 +11,7 @@ use Rattle.ps_rational.proofs.IntRing.{*ℤ_comm}
 use Rattle.ps_meaning.proofs.Integers.{mul-nonpos}
 use Rattle.ps_rational.proofs.Multiples.{lcm_to_multiple}
 use Rattle.ps_meaning.specs.Formula.{World}
-use Rattle.ps_rule.specs.Rule.{SimplexTable}
+use Rattle.ps_simplex.specs.Rule.{SimplexTable}
 use Rattle.ps_table.specs.Places.{weight_under, weight_at}
 use Rattle.ps_runs.specs.Rows.{Setting, rows_of, table_of, IsTable}
 use Rattle.ps_runs.specs.Certificates.{value_of, weight_multiple, entry_for, entry_weighing}

@@ -14,7 +14,7 @@ use Rattle.ps_rational.proofs.Whole.{whole-add, whole-mul}
 use Rattle.ps_meaning.specs.Formula.{World}
 use Rattle.ps_meaning.specs.Distribution.{Entry}
 use Rattle.ps_meaning.specs.Rows.{weighted_sum}
-use Rattle.ps_rule.specs.Rule.{SimplexTable}
+use Rattle.ps_simplex.specs.Rule.{SimplexTable}
 use Rattle.ps_runs.specs.Certificates.{value_of, is_above, entry_for, entries_to}
 use Rattle.ps_rational.proofs.Scaling.{scaled_is}
 use Rattle.ps_rational.specs.Scaled.{scaled}

@@ -9,10 +9,10 @@ use Rattle.ps_rational.specs.Sums.{sum_to}
 use Rattle.ps_meaning.specs.Formula.{World}
 use Rattle.ps_meaning.specs.Distribution.{Entry, total}
 use Rattle.ps_meaning.specs.Bounds.{Bound}
-use Rattle.ps_rule.specs.Rule.{SimplexTable}
-use Rattle.ps_rule.specs.Laws.{multipliers}
+use Rattle.ps_simplex.specs.Rule.{SimplexTable}
+use Rattle.ps_simplex.specs.RuleLaws.{multipliers}
 use Rattle.ps_table.specs.Places as places
-use Rattle.ps_entailment.specs.Answers.{Model}
+use Rattle.ps_claims.specs.Answers.{Model}
 use Rattle.ps_claims.specs.declared.claim_kind.ClaimKind.{ClaimKind}
 use Rattle.ps_claims.specs.declared.claim_kind.ClaimKind.TheVariants.{Nothing, Lower, Upper}
 use Rattle.ps_claims.specs.Duals.{Dual, combination}

@@ -6,8 +6,8 @@ use Rattle.ps_rational.specs.Order.{IsLess, IsNonneg}
 use Rattle.ps_rational.specs.Sums.{int_sum_to}
 use Rattle.ps_meaning.specs.Formula.{World}
 use Rattle.ps_meaning.specs.Distribution.{total, weight}
-use Rattle.ps_basis.specs.Table.{IsFirst, Widened}
-use Rattle.ps_rule.specs.Rule.{SimplexTable, IsFeasible, IsMoving, IsResting}
+use Rattle.ps_simplex.specs.Table.{IsFirst, Widened}
+use Rattle.ps_simplex.specs.Rule.{SimplexTable, IsFeasible, IsMoving, IsResting}
 use Rattle.ps_pool.specs.declared.event.Event.{Event}
 use Rattle.ps_table.specs.Places.{weight_at}
 use Rattle.ps_steps.specs.Steps.{Step, Refutes}
@@ -15,8 +15,8 @@ use Rattle.ps_forms.specs.Forms.{form_of, first_known, MeetsForm}
 use Rattle.ps_forms.specs.Extensions.{extension}
 use Rattle.ps_problem.specs.declared.query.Query as stored
 use Rattle.ps_problem.specs.Problems.{Parts, AreParts, bounds_in, bounds_of}
-use Rattle.ps_entailment.specs.Queries.{IsAllowed}
-use Rattle.ps_entailment.specs.Answers.{IsBasicModel, ShowsConsistent}
+use Rattle.ps_claims.specs.Queries.{IsAllowed}
+use Rattle.ps_claims.specs.Answers.{IsBasicModel, ShowsConsistent}
 use Rattle.ps_claims.specs.declared.claim_kind.ClaimKind.{ClaimKind}
 use Rattle.ps_claims.specs.declared.claim_kind.ClaimKind.TheVariants.{Nothing, Lower, Upper}
 use Rattle.ps_claims.specs.Duals.{Dual, combination, HaveSigns, AreZeroElsewhere, HasNothingHead, HasValueHead}

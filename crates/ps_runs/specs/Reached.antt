@@ -2,7 +2,7 @@
 use Rattle.std.specs.Prelude.{ℕ, Option, List}
 use Rattle.ps_rational.specs.Rational.{Rational}
 use Rattle.ps_meaning.specs.Formula.{World}
-use Rattle.ps_basis.specs.Table.{AreSameWithin}
+use Rattle.ps_simplex.specs.Table.{AreSameWithin}
 use Rattle.ps_pool.specs.declared.event.Event.{Event}
 use Rattle.ps_pool.specs.Worlds.{HasNumber}
 use Rattle.ps_claims.specs.declared.claim_kind.ClaimKind.{ClaimKind}

@@ -9,13 +9,13 @@ use Rattle.ps_meaning.specs.Bounds.{Bound}
 use Rattle.ps_meaning.specs.Rows.{indicator, row_value}
 use Rattle.ps_rational.specs.Rational.{Rational, fraction}
 use Rattle.ps_rational.specs.Order.{IsNonneg}
-use Rattle.ps_basis.specs.Table.{unit_at, IsBasisTable}
-use Rattle.ps_rule.specs.declared.phase.Phase.{Phase}
-use Rattle.ps_rule.specs.declared.phase.Phase.TheVariants as phase
-use Rattle.ps_rule.specs.Rule.{SimplexTable}
-use Rattle.ps_rule.specs.Pivots.{System, simplex_table}
+use Rattle.ps_simplex.specs.Table.{unit_at, IsBasisTable}
+use Rattle.ps_simplex.specs.declared.phase.Phase.{Phase}
+use Rattle.ps_simplex.specs.declared.phase.Phase.TheVariants as phase
+use Rattle.ps_simplex.specs.Rule.{SimplexTable}
+use Rattle.ps_simplex.specs.Pivots.{System, simplex_table}
 use Rattle.ps_problem.specs.Rows.{signed_by}
-use Rattle.ps_entailment.specs.Queries.{Query}
+use Rattle.ps_claims.specs.Queries.{Query}
 use Rattle.ps_claims.specs.declared.claim_kind.ClaimKind.{ClaimKind}
 use Rattle.ps_claims.specs.declared.claim_kind.ClaimKind.TheVariants.{Nothing, Lower, Upper}
 

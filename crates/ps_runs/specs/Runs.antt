@@ -3,9 +3,9 @@ use Rattle.std.specs.Prelude.{Option, Some, None, ◌≡◌, ◌⊎◌, ℕ, suc
 use Rattle.std.specs.Prelude.{◌≤ℤ◌, ◌<ℤ◌, ◌-ℤ◌, List, [], ◌∷◌, ◌++◌, length, All}
 use Rattle.ps_rational.specs.Rational.{Rational}
 use Rattle.ps_meaning.specs.Formula.{World, Truth}
-use Rattle.ps_basis.specs.Table.{Belongs, Based}
-use Rattle.ps_rule.specs.Rule.{SimplexTable, IsFeasible, IsMoving, IsResting}
-use Rattle.ps_rule.specs.Pivots.{IsLawfulAt}
+use Rattle.ps_simplex.specs.Table.{Belongs, Based}
+use Rattle.ps_simplex.specs.Rule.{SimplexTable, IsFeasible, IsMoving, IsResting}
+use Rattle.ps_simplex.specs.Pivots.{IsLawfulAt}
 use Rattle.ps_steps.specs.Constraints.{Constraint}
 use Rattle.ps_steps.specs.Weights.{constraint_of}
 use Rattle.ps_steps.specs.Steps.{Step}
@@ -17,8 +17,8 @@ use Rattle.ps_pool.specs.declared.col.Col.{Col}
 use Rattle.ps_pool.specs.declared.event.Event.{Event}
 use Rattle.ps_pool.specs.declared.event.Event.TheVariants.{Pivot, Priced}
 use Rattle.ps_table.specs.Tableau.{number_in, IsInside}
-use Rattle.ps_entailment.specs.Queries.{Query}
-use Rattle.ps_entailment.specs.Answers.{Model}
+use Rattle.ps_claims.specs.Queries.{Query}
+use Rattle.ps_claims.specs.Answers.{Model}
 use Rattle.ps_claims.specs.declared.claim_kind.ClaimKind.{ClaimKind}
 use Rattle.ps_claims.specs.declared.claim_kind.ClaimKind.TheVariants.{Nothing}
 use Rattle.ps_claims.specs.Duals.{Dual}

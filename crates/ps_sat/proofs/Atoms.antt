@@ -6,7 +6,7 @@ use Rattle.ps_steps.specs.Assignments.{Assignment, with_sign, value_of, value_at
 use Rattle.ps_steps.proofs.Clauses.{place_of}
 use Rattle.ps_forms.specs.Forms.{Form, is_atom_variable}
 use Rattle.ps_forms.specs.Decided.{AtomsAreSet}
-use Rattle.ps_learning.specs.Trails.{IsFresh}
+use Rattle.ps_trail.specs.Trails.{IsFresh}
 use Rattle.ps_sat.specs.Choices.{is_open_atom, IsOpenAt, AtomsTo, IsChosen}
 
 pub chosen-none : (f : Form) (a : Assignment) → IsChosen f a 0 None

@@ -14,21 +14,21 @@ use Rattle.ps_steps.proofs.Onward.{lawful-append, steps-append}
 use Rattle.ps_forms.specs.Forms.{Form, MeetsForm, AreInside, HasClauses, first_known}
 use Rattle.ps_forms.specs.Decided.{AtomsDecide}
 use Rattle.ps_log.specs.Logs.{Telling, Starts, Grows, Stays}
-use Rattle.ps_learning.specs.Trails.{Trail, TrailEntry, values, values_of, rank, up_to, IsLit, IsFresh, AreFresh, AreLevels, AreReasons, IsConflict}
-use Rattle.ps_learning.proofs.Entries.{reasons-take, reasons-more, reasons-none, length-values}
+use Rattle.ps_trail.specs.Trails.{Trail, TrailEntry, values, values_of, rank, up_to, IsLit, IsFresh, AreFresh, AreLevels, AreReasons, IsConflict}
+use Rattle.ps_trail.proofs.Entries.{reasons-take, reasons-more, reasons-none, length-values}
 use Rattle.ps_learn.specs.Rest.{IsDone, IsLonger}
 use Rattle.ps_sat.specs.Searches.{HoldsGoalAndSteps, Handed, AreLearned, IsHeld, HoldsLearned}
 use Rattle.ps_sat.specs.declared.searching.Outcome.{Outcome}
 use Rattle.ps_sat.proofs.Ends.{found, refuted}
 use Rattle.ps_sat.proofs.Lessons.{IsResting, IsAtConflict, resting-learned, due-at}
 use Rattle.ps_forms.specs.Spent.{IsSpentSearch, AreNew}
-use Rattle.ps_spent.specs.Resting.{AreRested, AreOfAtoms, HasRisen}
+use Rattle.ps_learn.specs.Resting.{AreRested, AreOfAtoms, HasRisen}
 use Rattle.ps_watch.specs.Watches.{Extends}
 use Rattle.std.proofs.lemmas.List.{append_assoc}
-use Rattle.ps_spent.proofs.Learning.{Learns}
-use Rattle.ps_spent.proofs.Rising.{risen-none, risen-few, below-power}
-use Rattle.ps_spent.proofs.Growing.{rested-none, atoms-none, rested-implied, atoms-implied}
-use Rattle.ps_spent.proofs.News.{new-none, new-more}
+use Rattle.ps_learn.proofs.Learnt.{Learns}
+use Rattle.ps_learn.proofs.Rising.{risen-none, risen-few, below-power}
+use Rattle.ps_learn.proofs.Growing.{rested-none, atoms-none, rested-implied, atoms-implied}
+use Rattle.ps_learn.proofs.News.{new-none, new-more}
 
 -- a search: the trail's reasons are known, and what is known is the form, the goal and the steps that were handed over
 pub record Searching (f : Form) (goal : Constraint) (told : Bool) (new : Telling) (cs : List Constraint) (t : Trail) (learned : ℕ) : Type 0 where

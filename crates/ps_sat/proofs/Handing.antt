@@ -13,8 +13,8 @@ use Rattle.ps_forms.specs.Forms.{Form, MeetsForm, HasClauses}
 use Rattle.ps_log.specs.Logs.{Telling, Starts, Grows, Stays}
 use Rattle.ps_log.specs.Limits.{IsStepWithin}
 use Rattle.ps_pb.specs.declared.limits.TheConstants.{MOST_VARIABLES}
-use Rattle.ps_learning.specs.Known.{most_known, IsIdUpTo}
-use Rattle.ps_learning.specs.Trails.{Trail, values, up_to, IsLit, IsConflict}
+use Rattle.ps_trail.specs.Known.{most_known, IsIdUpTo}
+use Rattle.ps_trail.specs.Trails.{Trail, values, up_to, IsLit, IsConflict}
 use Rattle.ps_io.specs.Causes.{next_count}
 use Rattle.ps_sat.specs.Errors.{SearchFaultAlone, CountsSearchFault, BeginsOnce}
 use Rattle.ps_sat.specs.Searches.{IsOutcome, IsOutcomeOfHints, HoldsLearned, IsHeld, HasHanded, IsLogged}
@@ -23,9 +23,9 @@ use Rattle.ps_sat.specs.declared.error.SearchError.{SearchError}
 use Rattle.ps_sat.specs.declared.searching.Outcome.TheVariants.{Found, Refuted, Spent}
 use Rattle.ps_sat.proofs.Ends.{refuted}
 use Rattle.ps_sat.proofs.Lessons.{IsAtConflict, lesson}
-use Rattle.ps_spent.proofs.Hints.{spent-unrefuted}
-use Rattle.ps_spent.proofs.Learning.{Learns}
-use Rattle.ps_learning.specs.Levels.{IsAsserting}
+use Rattle.ps_learn.proofs.Hints.{spent-unrefuted}
+use Rattle.ps_learn.proofs.Learnt.{Learns}
+use Rattle.ps_trail.specs.Levels.{IsAsserting}
 use Rattle.ps_learn.specs.Falsity.{AreFalseIn}
 use Rattle.ps_steps.specs.Weights.{weighted, IsNormal}
 use Rattle.ps_sat.proofs.Going.{Searching, steps-learned, handed-more, goes-on, search-spent, search-refuted, told-before, told-learned, handed-learned}

@@ -5,18 +5,18 @@ use Rattle.ps_steps.specs.Constraints.{Constraint}
 use Rattle.ps_steps.specs.Weights.{weighted, IsNormal}
 use Rattle.ps_steps.specs.Steps.{Known, Step, lits_of, added, with_steps, IsLawful, is_contradiction}
 use Rattle.ps_forms.specs.Forms.{Form, HasClauses, first_known}
-use Rattle.ps_learning.specs.Trails.{Trail, TrailEntry, values, values_of, level, rank, up_to, IsLit, AreFresh, AreLevels, AreReasons, IsConflict}
-use Rattle.ps_learning.specs.Levels.{IsAsserting}
+use Rattle.ps_trail.specs.Trails.{Trail, TrailEntry, values, values_of, level, rank, up_to, IsLit, AreFresh, AreLevels, AreReasons, IsConflict}
+use Rattle.ps_trail.specs.Levels.{IsAsserting}
 use Rattle.ps_learn.specs.Falsity.{AreFalseIn}
 use Rattle.ps_forms.specs.Spent.{IsDue}
-use Rattle.ps_spent.specs.Resting.{AreRested, AreOfAtoms, HasRisen}
-use Rattle.ps_spent.proofs.Opening.{up_to-opening, opening-level}
-use Rattle.ps_learning.proofs.Distinct.{level-most}
-use Rattle.ps_spent.proofs.Learning.{Learns, cut-opening, above-ground, rested-learned}
-use Rattle.ps_spent.proofs.Rising.{risen-learned}
-use Rattle.ps_spent.proofs.Due.{is-due}
-use Rattle.ps_spent.proofs.Distinct.{all-distinct}
-use Rattle.ps_spent.proofs.Growing.{atoms-take}
+use Rattle.ps_learn.specs.Resting.{AreRested, AreOfAtoms, HasRisen}
+use Rattle.ps_learn.proofs.Opening.{up_to-opening, opening-level}
+use Rattle.ps_trail.proofs.Distinct.{level-most}
+use Rattle.ps_learn.proofs.Learnt.{Learns, cut-opening, above-ground, rested-learned}
+use Rattle.ps_learn.proofs.Rising.{risen-learned}
+use Rattle.ps_learn.proofs.Due.{is-due}
+use Rattle.ps_learn.proofs.Distinct.{all-distinct}
+use Rattle.ps_learn.proofs.Growing.{atoms-take}
 
 -- how far a search has come with the levels of its trail, and with the rank
 pub record IsResting (f : Form) (known : Known) (es : List TrailEntry) (learned : ℕ) : Type 0 where

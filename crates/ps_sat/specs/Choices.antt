@@ -3,7 +3,7 @@ use Rattle.std.specs.Prelude.{ℕ, ◌≡◌, ◌≤◌, ◌<◌, ◌+◌, Bool,
 use Rattle.ps_steps.specs.Assignments.{Assignment, value_at, is_unset}
 use Rattle.ps_forms.specs.Forms.{Form, is_atom_variable}
 use Rattle.ps_forms.specs.Decided.{AtomsAreSet}
-use Rattle.ps_learning.specs.Trails.{IsFresh}
+use Rattle.ps_trail.specs.Trails.{IsFresh}
 
 -- whether a variable is an atom's, and has no value
 abbrev pub is_open_atom : Form → Assignment → ℕ → Bool

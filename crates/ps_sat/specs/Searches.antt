@@ -6,9 +6,9 @@ use Rattle.ps_steps.specs.Constraints.{Constraint, IsMet}
 use Rattle.ps_steps.specs.Steps.{Step, AreLawful, is_contradiction}
 use Rattle.ps_forms.specs.Forms.{Form, MeetsForm, first_known}
 use Rattle.ps_log.specs.Logs.{Telling, Stays}
-use Rattle.ps_learning.specs.Trails.{IsLit}
+use Rattle.ps_trail.specs.Trails.{IsLit}
 use Rattle.ps_forms.specs.Spent.{AreNew, IsSpentSearch}
-use Rattle.ps_spent.specs.Hints.{AreRefutedByHints}
+use Rattle.ps_learn.specs.Hints.{AreRefutedByHints}
 use Rattle.ps_sat.specs.declared.searching.Outcome.{Outcome}
 use Rattle.ps_sat.specs.declared.searching.Outcome.TheVariants.{Found, Refuted, Spent}
 use Rattle.ps_sat.specs.declared.error.SearchError.{SearchError}

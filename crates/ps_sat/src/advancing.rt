@@ -1,9 +1,9 @@
 //! Propagation and decisions.
 ghost use Rattle.std.specs.Prelude.{◌≡◌};
 ghost use Rattle.ps_steps.specs.Steps.{known_of};
-ghost use Rattle.ps_learning.specs.Trails.{values, AreReasons};
+ghost use Rattle.ps_trail.specs.Trails.{values, AreReasons};
 ghost use Rattle.ps_learn.specs.Rest.{IsAdvanced, IsLonger};
-ghost use Rattle.ps_spent.specs.Resting.{AreRested, AreOfAtoms};
+ghost use Rattle.ps_learn.specs.Resting.{AreRested, AreOfAtoms};
 ghost use Rattle.ps_watch.specs.Keeping.{IsInStep, IsOver, HasSeen};
 
 use crate::order::Order;

@@ -4,7 +4,7 @@ use Rattle.std.specs.Prelude.{nat_le}
 use Rattle.std.specs.List.{AllByRecursion}
 use Rattle.std.proofs.lemmas.List.{append-nil, length-append, length-map}
 use Rattle.ps_rational.specs.Rational.{Rational, fraction}
-use Rattle.ps_entailment.proofs.Tight.{ratio-quotient}
+use Rattle.ps_claims.proofs.Tight.{ratio-quotient}
 use Rattle.ps_problem.specs.declared.query.Query.{Query}
 use Rattle.ps_problem.specs.Problems.{Parts}
 use Rattle.ps_pool.specs.declared.event.Event.{Event}

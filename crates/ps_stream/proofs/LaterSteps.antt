@@ -7,7 +7,7 @@ use Rattle.ps_problem.specs.Problems.{Parts, bounds_of}
 use Rattle.ps_steps.specs.declared.refused.StepRefused.{StepRefused as Why}
 use Rattle.ps_steps.specs.Steps.{first_refusal, ends_in_contradiction}
 use Rattle.ps_steps.proofs.Onward.{none-lawful}
-use Rattle.ps_entailment.specs.Answers.{Model}
+use Rattle.ps_claims.specs.Answers.{Model}
 use Rattle.ps_claims.specs.declared.reason.Reason.{Reason}
 use Rattle.ps_claims.specs.declared.reason.Reason.TheVariants.{WrongShape, TooManyWorlds, WeightZero, WorldTwice, TotalWrong, BoundMissed, EvidenceZero, ValueMissed, HeadWrong, MultiplierSign, StepRefused, NotRefuted}
 use Rattle.ps_claims.specs.declared.claim_kind.ClaimKind.{ClaimKind}

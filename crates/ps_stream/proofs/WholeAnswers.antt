@@ -15,7 +15,7 @@ use Rattle.ps_answer.specs.declared.answer.QueryPart.{QueryPart}
 use Rattle.ps_answer.specs.declared.answer.Answer.{Answer}
 use Rattle.ps_answer.specs.Answers.{model_items, dual_items, trace_items, cause_items, verdict_items, query_items, part_items, answer_items}
 use Rattle.ps_certificate.specs.Certificates.{model_of, dual_of}
-use Rattle.ps_entailment.specs.Answers.{asked_under}
+use Rattle.ps_claims.specs.Answers.{asked_under}
 use Rattle.ps_claims.specs.declared.claim.Claim.{Claim}
 use Rattle.ps_claims.specs.declared.claim.Claim.TheVariants.{Report}
 use Rattle.ps_claims.specs.declared.reason.Reason.TheVariants.{WrongShape}

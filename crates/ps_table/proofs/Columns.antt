@@ -17,12 +17,12 @@ use Rattle.ps_rational.specs.Sums.{sum_to}
 use Rattle.ps_rational.proofs.Sums.{sum_same}
 use Rattle.std.proofs.Common.{ℤ, pos, negsuc, get_or-append-add}
 use Rattle.ps_table.specs.declared.home.Home.{Home}
-use Rattle.ps_basis.specs.Table.{unit_at, HasHomes, IsBasisTable, Based}
-use Rattle.ps_basis.proofs.Units.{unit_at-same, unit_at-other}
-use Rattle.ps_basis.proofs.Columns.{stands_new, stands_more}
+use Rattle.ps_simplex.specs.Table.{unit_at, HasHomes, IsBasisTable, Based}
+use Rattle.ps_simplex.proofs.Units.{unit_at-same, unit_at-other}
+use Rattle.ps_simplex.proofs.Columns.{stands_new, stands_more}
 use Rattle.ps_rational.specs.Rational.{sub, div}
 use Rattle.ps_rational.proofs.Field.{ring_q, one_is_fraction, zero_is_fraction, minus_one_is_fraction}
-use Rattle.ps_basis.proofs.PivotKeeps.{stands_kept}
+use Rattle.ps_simplex.proofs.PivotKeeps.{stands_kept}
 use Rattle.ps_pool.specs.declared.col.Col.{Col}
 use Rattle.ps_pool.specs.declared.col.Col.TheVariants as col
 use Rattle.ps_table.specs.Tableau.{Tableau, IsTableau, IsInside, IsPivot, entry_at, cell_at, basic_at, number_in, IsTableFor, IsAdded, IsColumn}

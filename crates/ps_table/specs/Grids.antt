@@ -14,7 +14,7 @@ use Rattle.ps_table.specs.Tableau.{Tableau, cell_at, entry_at, number_of, rows_o
 use Rattle.ps_pool.specs.declared.pool.TheConstants.{MOST_WORLDS}
 use Rattle.ps_pool.specs.declared.col.Col.{Col}
 use Rattle.ps_pool.specs.declared.col.Col.TheVariants as col
-use Rattle.ps_basis.specs.Table.{unit_at}
+use Rattle.ps_simplex.specs.Table.{unit_at}
 use Rattle.ps_table.specs.declared.costs.Costs.{Costs}
 use Rattle.ps_table.specs.Pricing.{part_at, carried_to}
 use Rattle.ps_table.specs.Places.{IsOperationWide, PivotPlace, NewPlace, new_part}

@@ -9,7 +9,7 @@ use Rattle.ps_rational.specs.Order.{IsAbove}
 use Rattle.ps_rational.specs.Rational.{Rational, whole, add, mul, neg, div, inverse}
 use Rattle.ps_rational.specs.Scaled.{scaled}
 use Rattle.ps_rational.specs.Sums.{sum_to, int_sum_to}
-use Rattle.ps_basis.specs.Table.{carried_by}
+use Rattle.ps_simplex.specs.Table.{carried_by}
 use Rattle.ps_rational.specs.declared.limits.TheConstants.{PRINTED_LIMIT}
 use Rattle.ps_table.specs.declared.place.Place.{Place}
 use Rattle.ps_table.specs.declared.place.Place.TheVariants.{Ratio, Scale, Times, Minus, Cost, Whole}

@@ -3,7 +3,7 @@ use Rattle.std.specs.Prelude.{◌≡◌, ℕ, suc, ◌-◌, ◌<◌, ◌≤◌, 
 use Rattle.ps_pool.specs.declared.col.Col.{Col}
 use Rattle.ps_table.specs.declared.costs.Costs.{Costs}
 use Rattle.ps_rational.specs.Rational.{Rational, fraction, mul}
-use Rattle.ps_basis.specs.Table.{carried_by}
+use Rattle.ps_simplex.specs.Table.{carried_by}
 use Rattle.ps_table.specs.Tableau.{Tableau, IsInside, entry_at, basic_at, number_of, rows_of}
 
 -- the costs are from -1 to 1

@@ -9,7 +9,7 @@ use Rattle.ps_table.specs.declared.place.TableCol.{TableCol}
 use Rattle.ps_table.specs.declared.place.TableCol.TheVariants.{Right, Of}
 use Rattle.ps_rational.specs.Rational.{Rational, fraction, mul, zero_q}
 use Rattle.ps_rational.specs.Sums.{sum_to}
-use Rattle.ps_basis.specs.Table.{IsBasisTable, Pivoted, Based, HasHomes, unit_at}
+use Rattle.ps_simplex.specs.Table.{IsBasisTable, Pivoted, Based, HasHomes, unit_at}
 
 -- a table as it is seen: the kind of each home, the number of worlds, the cells column by column, and the basic columns
 pub record Tableau : Type 0 where

@@ -1,6 +1,6 @@
 //! The first table.
 ghost use Rattle.std.specs.Prelude.{◌≡◌, suc, ◌-◌, ◌*◌, ◌<◌, ◌≤◌, length, IfOk};
-ghost use Rattle.ps_basis.specs.Table.{unit_at};
+ghost use Rattle.ps_simplex.specs.Table.{unit_at};
 ghost use Rattle.ps_table.specs.declared.limits.TheConstants.{MOST_ROWS};
 ghost use Rattle.ps_table.specs.Grids.{AreUnits, AreHomes};
 

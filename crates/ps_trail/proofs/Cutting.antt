@@ -4,10 +4,10 @@ use Rattle.std.specs.Prelude.{slice_get, is_none, nat_le, unsigned_abs}
 use Rattle.std.specs.List.{filter}
 use Rattle.std.proofs.Math.Seq.{take-suc}
 use Rattle.ps_steps.specs.Assignments.{Assignment, without}
-use Rattle.ps_learning.specs.Trails.{TrailEntry, Trail, values_of, decisions, up_to, AreFresh, AreLevels}
-use Rattle.ps_learning.proofs.Entries.{values-cut, fresh-front}
-use Rattle.ps_learning.proofs.Distinct.{decisions-take}
-use Rattle.ps_learning.proofs.Levels.{up_to-take}
+use Rattle.ps_trail.specs.Trails.{TrailEntry, Trail, values_of, decisions, up_to, AreFresh, AreLevels}
+use Rattle.ps_trail.proofs.Entries.{values-cut, fresh-front}
+use Rattle.ps_trail.proofs.Distinct.{decisions-take}
+use Rattle.ps_trail.proofs.Levels.{up_to-take}
 use Rattle.ps_trail.specs.Fields.{trail_of, IsTrail}
 use Rattle.ps_trail.proofs.Pushing.{decisions-append, one_if}
 

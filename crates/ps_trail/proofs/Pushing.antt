@@ -2,11 +2,11 @@
 use Rattle.std.proofs.Common.{◌≡◌, ℕ, zero, suc, ◌+◌, ◌<◌, ◌≤◌, ◌^◌, ℤ, Bool, true, false, cond, Some, None, List, [], ◌∷◌, ◌++◌, length, take, set, arith, refl, sym, ap, ◌∙◌, subst, inl, inr}
 use Rattle.std.specs.Prelude.{slice_get, slice_set, is_none}
 use Rattle.ps_steps.specs.Assignments.{Assignment, with_true, all_unset}
-use Rattle.ps_learning.specs.Trails.{TrailEntry, Trail, values_of, values, decided, implied, decisions, IsFresh, AreLevels}
+use Rattle.ps_trail.specs.Trails.{TrailEntry, Trail, values_of, values, decided, implied, decisions, IsFresh, AreLevels}
 use Rattle.ps_steps.proofs.Setting.{length-with_true}
 use Rattle.ps_steps.proofs.Short.{length-unset}
-use Rattle.ps_learning.proofs.Entries.{values-append, fresh-append, get-last, length-values}
-use Rattle.ps_learning.proofs.Counting.{counted, fewer-unset}
+use Rattle.ps_trail.proofs.Entries.{values-append, fresh-append, get-last, length-values}
+use Rattle.ps_trail.proofs.Counting.{counted, fewer-unset}
 use Rattle.ps_trail.specs.Fields.{trail_of, IsTrail}
 
 -- one slot more is used

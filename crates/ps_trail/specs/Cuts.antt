@@ -1,6 +1,6 @@
 -- Taking literals back.
 use Rattle.std.specs.Prelude.{ℕ, ◌≡◌, ◌<◌, Bool, true, false, length}
-use Rattle.ps_learning.specs.Trails.{Trail, up_to}
+use Rattle.ps_trail.specs.Trails.{Trail, up_to}
 
 -- a literal was taken back, or none stood above the level
 abbrev pub IsCutBy : Bool → Trail → Trail → ℕ → Type 0

@@ -1,7 +1,7 @@
 -- The fields of a trail.
 use Rattle.std.specs.Prelude.{ℕ, ◌≡◌, ◌≤◌, ◌<◌, ◌^◌, List, length, take}
 use Rattle.ps_steps.specs.Assignments.{Assignment}
-use Rattle.ps_learning.specs.Trails.{TrailEntry, Trail, values_of, decisions, AreFresh, AreLevels}
+use Rattle.ps_trail.specs.Trails.{TrailEntry, Trail, values_of, decisions, AreFresh, AreLevels}
 
 -- the trail of the first entries
 abbrev pub trail_of : Assignment → List TrailEntry → ℕ → Trail

@@ -1,6 +1,6 @@
 -- What a trail answers.
 use Rattle.std.specs.Prelude.{ℕ, ℤ, Option, Some, None, slice_get}
-use Rattle.ps_learning.specs.Trails.{TrailEntry, Trail, entry_of}
+use Rattle.ps_trail.specs.Trails.{TrailEntry, Trail, entry_of}
 
 -- the level of an entry, if there is one
 abbrev pub level_in : Option TrailEntry → Option ℕ

@@ -15,7 +15,7 @@ pub struct TrailEntry {
 }
 
 impl Model for TrailEntry {
-    ghost use Rattle.ps_learning.specs.Trails.{TrailEntry as TrailEntryValue};
+    ghost use Rattle.ps_trail.specs.Trails.{TrailEntry as TrailEntryValue};
 
     ghost Value = { TrailEntryValue };
 

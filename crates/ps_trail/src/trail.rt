@@ -2,8 +2,8 @@
 ghost use Rattle.std.specs.Prelude.{◌≡◌, ◌≤◌, ◌<◌, [], length, IfOk, ℕ, take};
 ghost use Rattle.std.specs.Prelude.{is_none, if◌then◌else◌};
 ghost use Rattle.ps_steps.specs.Assignments.{value_at};
-ghost use Rattle.ps_learning.specs.Trails.{values, level, decided, implied, up_to};
-ghost use Rattle.ps_learning.specs.Trails.{IsFresh, AreFresh, AreLevels};
+ghost use Rattle.ps_trail.specs.Trails.{values, level, decided, implied, up_to};
+ghost use Rattle.ps_trail.specs.Trails.{IsFresh, AreFresh, AreLevels};
 ghost use Rattle.ps_trail.specs.Lookups.{level_of, reason_of, lit_at};
 ghost use Rattle.ps_trail.specs.Cuts.{IsCutBy};
 
@@ -24,7 +24,7 @@ pub struct Trail {
 }
 
 impl Model for Trail {
-    ghost use Rattle.ps_learning.specs.Trails.{Trail as TrailValue};
+    ghost use Rattle.ps_trail.specs.Trails.{Trail as TrailValue};
     ghost use Rattle.ps_trail.specs.Fields.{trail_of, IsTrail};
 
     ghost Value = { TrailValue };

@@ -9,8 +9,8 @@ use Rattle.ps_problem.specs.declared.query.Query.{Query}
 use Rattle.ps_problem.specs.Problems.{Parts}
 use Rattle.ps_answer.specs.declared.answer.QueryPart.{QueryPart}
 use Rattle.ps_answer.specs.declared.answer.Answer.{Answer}
-use Rattle.ps_entailment.specs.Answers as claimed
-use Rattle.ps_entailment.specs.Answers.{asked_under}
+use Rattle.ps_claims.specs.Answers as claimed
+use Rattle.ps_claims.specs.Answers.{asked_under}
 use Rattle.ps_claims.specs.declared.claim_kind.ClaimKind.{ClaimKind}
 use Rattle.ps_claims.specs.declared.claim_kind.ClaimKind.TheVariants.{Lower, Upper}
 use Rattle.ps_claims.specs.Duals.{Dual}

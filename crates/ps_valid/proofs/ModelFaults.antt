@@ -8,7 +8,7 @@ use Rattle.ps_problem.specs.declared.bound.Bound.{Bound}
 use Rattle.ps_problem.specs.Problems.{Parts, bound_of, bounds_in, bounds_of}
 use Rattle.ps_answer.specs.declared.answer.Weighted.{Weighted}
 use Rattle.ps_answer.specs.declared.answer.Model.{Model}
-use Rattle.ps_entailment.specs.Answers as claimed
+use Rattle.ps_claims.specs.Answers as claimed
 use Rattle.ps_claims.specs.declared.reason.Reason.{Reason}
 use Rattle.ps_claims.specs.declared.reason.Reason.TheVariants.{WrongShape, TooManyWorlds, WeightZero, WorldTwice, TotalWrong, BoundMissed}
 use Rattle.ps_claims.specs.Claims.{Assertion, Modelled, HasShape, AreFew, AreProperEntries, HasTotal, MissesFirst, IsFirstIn, claimed_model}

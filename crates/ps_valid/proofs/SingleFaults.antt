@@ -11,7 +11,7 @@ use Rattle.ps_rational.specs.Rational.{Rational}
 use Rattle.ps_steps.specs.declared.refused.StepRefused.{StepRefused as Why}
 use Rattle.ps_steps.specs.Steps.{first_refusal}
 use Rattle.ps_steps.proofs.Onward.{lawful-none}
-use Rattle.ps_entailment.specs.Answers.{Model, Answer}
+use Rattle.ps_claims.specs.Answers.{Model, Answer}
 use Rattle.ps_claims.specs.declared.claim_kind.ClaimKind.{ClaimKind}
 use Rattle.ps_claims.specs.declared.claim_kind.ClaimKind.TheVariants.{Nothing}
 use Rattle.ps_claims.specs.Duals.{Dual, HasSign, HaveSigns}

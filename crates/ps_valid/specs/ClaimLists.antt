@@ -6,7 +6,7 @@ use Rattle.ps_answer.specs.declared.answer.Verdict.{Verdict}
 use Rattle.ps_answer.specs.declared.answer.SideAnswer.{SideAnswer}
 use Rattle.ps_answer.specs.declared.answer.QueryAnswer.{QueryAnswer}
 use Rattle.ps_answer.specs.declared.answer.QueryPart.{QueryPart}
-use Rattle.ps_entailment.specs.Answers as claimed
+use Rattle.ps_claims.specs.Answers as claimed
 use Rattle.ps_claims.specs.declared.claim_kind.ClaimKind.{ClaimKind}
 use Rattle.ps_claims.specs.declared.claim.Claim.{Claim}
 use Rattle.ps_claims.specs.declared.reason.Reason.{Reason}

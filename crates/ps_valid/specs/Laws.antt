@@ -8,7 +8,7 @@ use Rattle.ps_answer.specs.Answers.{answer_items}
 use Rattle.ps_answer.specs.Faults.{IsReport}
 use Rattle.ps_valid.specs.Limits.{IsSmallAnswer}
 use Rattle.ps_problem.specs.Problems.{Parts}
-use Rattle.ps_entailment.specs.Answers.{Answer}
+use Rattle.ps_claims.specs.Answers.{Answer}
 use Rattle.ps_claims.specs.Duals.{Dual}
 use Rattle.ps_claims.specs.declared.claim.Claim.{Claim}
 use Rattle.ps_claims.specs.declared.reason.Reason.{Reason}

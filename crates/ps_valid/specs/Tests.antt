@@ -8,8 +8,8 @@ use Rattle.ps_problem.specs.declared.bound.Bound.{Bound}
 use Rattle.ps_problem.specs.declared.query.Query.{Query}
 use Rattle.ps_problem.specs.Problems.{Parts, bound_of, bounds_of, given_at}
 use Rattle.ps_rational.specs.Rational.{Rational}
-use Rattle.ps_entailment.specs.Queries.{bound_on}
-use Rattle.ps_entailment.specs.Answers.{Model}
+use Rattle.ps_claims.specs.Queries.{bound_on}
+use Rattle.ps_claims.specs.Answers.{Model}
 use Rattle.ps_claims.specs.Validity.{query_of}
 use Rattle.ps_claims.specs.declared.reason.Reason.{Reason}
 use Rattle.ps_claims.specs.declared.reason.Reason.TheVariants.{TooManyWorlds, WeightZero, WorldTwice, TotalWrong, BoundMissed}

@@ -2,7 +2,7 @@
 ghost use Rattle.std.specs.Prelude.{◌≡◌, ◌+◌, ◌<◌, ◌≤◌, ◌^◌, All, OnOk, length};
 ghost use Rattle.ps_problem.specs.declared.limits.TheConstants.{MOST_QUERIES};
 ghost use Rattle.ps_problem.specs.Problems.{HasNodes};
-ghost use Rattle.ps_entailment.specs.Answers.{asked_under};
+ghost use Rattle.ps_claims.specs.Answers.{asked_under};
 ghost use Rattle.ps_valid.specs.Answers.{verdict_of, IsRightOf};
 ghost use Rattle.ps_valid.specs.ClaimLists.{IsAnswerTo, IsJudgedVerdict, IsJudgedSide};
 ghost use Rattle.ps_valid.specs.ClaimLists.{AreJudgedSides, IsJudgedPart, AreJudgedParts};

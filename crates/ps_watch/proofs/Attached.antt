@@ -5,7 +5,7 @@ use Rattle.ps_steps.specs.Assignments.{value_of, is_unset}
 use Rattle.ps_steps.specs.Constraints.{Constraint, HasTerm, is_open}
 use Rattle.ps_steps.specs.Weights.{IsWithin}
 use Rattle.ps_steps.specs.Steps.{Known, known_of, constraint_at}
-use Rattle.ps_learning.specs.Trails.{Trail, values, level, up_to, implied, IsLit, IsFresh, AreFresh, AreLevels}
+use Rattle.ps_trail.specs.Trails.{Trail, values, level, up_to, implied, IsLit, IsFresh, AreFresh, AreLevels}
 use Rattle.ps_watch.specs.declared.visiting.Watches.{Watches}
 use Rattle.ps_watch.specs.Watches.{IsKept, IsFiled, AreGood, Extends, IsClosedBelow}
 use Rattle.ps_watch.specs.Going.{values_to}
@@ -18,7 +18,7 @@ use Rattle.ps_watch.proofs.Clauses.{false-closed}
 use Rattle.ps_watch.proofs.Reading.{extends-same, extends-then, values-implied}
 use Rattle.ps_steps.proofs.Setting.{value-true}
 use Rattle.ps_steps.proofs.Full.{term-within}
-use Rattle.ps_learning.proofs.Entries.{length-values}
+use Rattle.ps_trail.proofs.Entries.{length-values}
 use Rattle.ps_watch.proofs.Followed.{part-included, part-same, part-within, good-grows}
 use Rattle.ps_watch.proofs.Levelled.{closed-watched, open-below}
 use Rattle.ps_watch.proofs.Chosen.{top-above}

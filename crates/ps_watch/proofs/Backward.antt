@@ -4,8 +4,8 @@ use Rattle.std.specs.Prelude.{slice_get}
 use Rattle.ps_steps.specs.Assignments.{with_true}
 use Rattle.ps_steps.specs.Constraints.{Constraint, slack}
 use Rattle.ps_steps.specs.Weights.{IsNormal, weighted}
-use Rattle.ps_learning.specs.Trails.{Trail, TrailEntry, AreFresh, IsFresh}
-use Rattle.ps_learning.proofs.Entries.{length-values, values-more}
+use Rattle.ps_trail.specs.Trails.{Trail, TrailEntry, AreFresh, IsFresh}
+use Rattle.ps_trail.proofs.Entries.{length-values, values-more}
 use Rattle.ps_watch.specs.Watches.{slot_of}
 use Rattle.ps_watch.specs.Going.{values_to}
 use Rattle.ps_watch.specs.Sights.{AreCoefficients}

@@ -8,12 +8,12 @@ use Rattle.ps_steps.specs.Constraints.{Constraint, HasTerm, is_open}
 use Rattle.ps_steps.specs.Weights.{Weighted, IsPlain, IsNormal, weighted, terms_of}
 use Rattle.std.proofs.lemmas.List.{get_or-map, length-map}
 use Rattle.ps_pb.proofs.Searched.{has_term-at}
-use Rattle.ps_learning.specs.Trails.{Trail, TrailEntry, values, values_of, level, entry_of, AreFresh, AreLevels}
-use Rattle.ps_learning.proofs.Entries.{get-taken}
-use Rattle.ps_learning.proofs.Levels.{below, up_to-take}
-use Rattle.ps_learning.proofs.Distinct.{entry-found}
+use Rattle.ps_trail.specs.Trails.{Trail, TrailEntry, values, values_of, level, entry_of, AreFresh, AreLevels}
+use Rattle.ps_trail.proofs.Entries.{get-taken}
+use Rattle.ps_trail.proofs.Levels.{below, up_to-take}
+use Rattle.ps_trail.proofs.Distinct.{entry-found}
 use Rattle.ps_trail.specs.Lookups.{level_in, level_of}
-use Rattle.ps_spent.proofs.Opening.{set-at}
+use Rattle.ps_learn.proofs.Opening.{set-at}
 use Rattle.ps_watch.specs.Looks.{some_new, IsNewIn}
 use Rattle.ps_watch.specs.Choices.{IsOpenIn, IsFalseAtTop, IsFalseIn, AreOpen, AreLast}
 use Rattle.ps_watch.proofs.Clauses.{coefficient-one, false-closed}

@@ -4,7 +4,7 @@ use Rattle.ps_steps.specs.Assignments.{Assignment, value_of, Includes}
 use Rattle.ps_steps.specs.Constraints.{Constraint}
 use Rattle.ps_steps.specs.Steps.{known_of}
 use Rattle.ps_steps.proofs.Values.{includes-trans}
-use Rattle.ps_learning.specs.Trails.{Trail, values, IsConflict}
+use Rattle.ps_trail.specs.Trails.{Trail, values, IsConflict}
 use Rattle.ps_watch.specs.declared.links.TheConstants.{END}
 use Rattle.ps_watch.specs.declared.visiting.Watches.{Watches}
 use Rattle.ps_watch.specs.Links.{Holds}

@@ -9,9 +9,9 @@ use Rattle.ps_steps.specs.Constraints.{Constraint}
 use Rattle.ps_steps.specs.Steps.{known_of}
 use Rattle.ps_steps.proofs.Values.{includes-refl, value-set}
 use Rattle.ps_steps.proofs.Setting.{place-opposite, value-true}
-use Rattle.ps_learning.specs.Trails.{Trail, TrailEntry, values, values_of, AreFresh}
-use Rattle.ps_learning.proofs.Entries.{values-more, length-values}
-use Rattle.ps_learning.proofs.Marking.{values-earlier}
+use Rattle.ps_trail.specs.Trails.{Trail, TrailEntry, values, values_of, AreFresh}
+use Rattle.ps_trail.proofs.Entries.{values-more, length-values}
+use Rattle.ps_trail.proofs.Marking.{values-earlier}
 use Rattle.ps_watch.specs.declared.links.TheConstants.{END}
 use Rattle.ps_watch.specs.declared.visiting.Watches.{Watches}
 use Rattle.ps_watch.specs.Links.{Holds}

@@ -12,10 +12,10 @@ use Rattle.ps_steps.specs.Steps.{Known, known_of, constraint_at}
 use Rattle.ps_steps.proofs.Ids.{known_of-append, known-kept, at-id, at-zero}
 use Rattle.ps_steps.proofs.Lawful.{value-unset}
 use Rattle.ps_pb.specs.declared.limits.TheConstants.{MOST_VARIABLES}
-use Rattle.ps_learning.specs.Trails.{Trail, TrailEntry, values, values_of, level, decisions, up_to, unset_count, AreFresh, AreLevels}
-use Rattle.ps_learning.proofs.Counting.{counted}
-use Rattle.ps_learning.proofs.Distinct.{decisions-take}
-use Rattle.ps_learning.proofs.Levels.{up_to-take}
+use Rattle.ps_trail.specs.Trails.{Trail, TrailEntry, values, values_of, level, decisions, up_to, unset_count, AreFresh, AreLevels}
+use Rattle.ps_trail.proofs.Counting.{counted}
+use Rattle.ps_trail.proofs.Distinct.{decisions-take}
+use Rattle.ps_trail.proofs.Levels.{up_to-take}
 use Rattle.ps_trail.proofs.Cutting.{up_to-all, levels-front}
 use Rattle.ps_trail.proofs.Pushing.{decisions-append, one_if}
 use Rattle.ps_watch.specs.declared.visiting.Watches.{Watches}

@@ -5,8 +5,8 @@ use Rattle.std.specs.List.{filter}
 use Rattle.std.proofs.lemmas.Bool.{cases_lt, cases_Bool}
 use Rattle.ps_steps.specs.Assignments.{Assignment, value_of, Includes}
 use Rattle.ps_steps.specs.Constraints.{Constraint}
-use Rattle.ps_learning.specs.Trails.{Trail, TrailEntry, values, values_of, level, decisions, up_to, decided, AreFresh, AreLevels}
-use Rattle.ps_learning.proofs.Levels.{up_to-take}
+use Rattle.ps_trail.specs.Trails.{Trail, TrailEntry, values, values_of, level, decisions, up_to, decided, AreFresh, AreLevels}
+use Rattle.ps_trail.proofs.Levels.{up_to-take}
 use Rattle.ps_watch.specs.declared.visiting.Watches.{Watches}
 use Rattle.ps_watch.specs.Watches.{AreGood, IsClosedBelow}
 use Rattle.ps_watch.specs.Going.{HasFollowed, values_to, IsGoodUpTo}

@@ -10,8 +10,8 @@ use Rattle.ps_steps.specs.Steps.{Known, known_of}
 use Rattle.ps_steps.proofs.Full.{term-within}
 use Rattle.ps_steps.proofs.Values.{includes-refl, includes-trans, with_true-includes}
 use Rattle.ps_steps.proofs.Setting.{value-true}
-use Rattle.ps_learning.specs.Trails.{Trail, TrailEntry, values, decisions, implied, IsFresh, IsConflict, IsReason}
-use Rattle.ps_learning.proofs.Entries.{values-append, length-values}
+use Rattle.ps_trail.specs.Trails.{Trail, TrailEntry, values, decisions, implied, IsFresh, IsConflict, IsReason}
+use Rattle.ps_trail.proofs.Entries.{values-append, length-values}
 use Rattle.ps_learn.proofs.Advancing.{implied-reasons, implied-level, implied-longer, variables-same, longer_none, longer_then}
 use Rattle.ps_watch.specs.declared.links.TheConstants.{END}
 use Rattle.ps_watch.specs.declared.visiting.Watches.{Watches}

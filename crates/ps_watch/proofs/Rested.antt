@@ -11,10 +11,10 @@ use Rattle.ps_steps.specs.Constraints.{Constraint, HasTerm, Forces}
 use Rattle.ps_steps.specs.Weights.{IsPlain, IsWithin}
 use Rattle.ps_steps.specs.Steps.{Known, constraint_at, known_of}
 use Rattle.ps_steps.proofs.Full.{term-within}
-use Rattle.ps_learning.specs.Trails.{Trail, TrailEntry, values, values_of, decisions, implied, IsFresh, AreFresh}
+use Rattle.ps_trail.specs.Trails.{Trail, TrailEntry, values, values_of, decisions, implied, IsFresh, AreFresh}
 use Rattle.ps_forms.specs.Decided.{IsIdle}
-use Rattle.ps_learning.proofs.Counting.{counted, fewer-unset}
-use Rattle.ps_learning.proofs.Entries.{length-values}
+use Rattle.ps_trail.proofs.Counting.{counted, fewer-unset}
+use Rattle.ps_trail.proofs.Entries.{length-values}
 use Rattle.ps_learn.specs.Rest.{IsAtRest, IsLonger}
 use Rattle.ps_watch.specs.declared.visiting.Watches.{Watches}
 use Rattle.ps_watch.specs.Watches.{number_at, lit_of, other_of, IsKept, IsFiled, AreGood, Extends}

@@ -7,9 +7,9 @@ use Rattle.std.proofs.lemmas.Bool.{cases_Bool, cases_eq}
 use Rattle.std.proofs.lemmas.List.{length-map}
 use Rattle.std.proofs.lemmas.Option.{slice_get_within}
 use Rattle.ps_steps.specs.Assignments.{Assignment, with_true, all_unset}
-use Rattle.ps_learning.specs.Trails.{Trail, TrailEntry, values, values_of, and_entry, level, decisions, up_to, AreFresh, AreLevels, IsFresh}
-use Rattle.ps_learning.proofs.Distinct.{decisions-take, decisions-next}
-use Rattle.ps_learning.proofs.Levels.{decisions-more}
+use Rattle.ps_trail.specs.Trails.{Trail, TrailEntry, values, values_of, and_entry, level, decisions, up_to, AreFresh, AreLevels, IsFresh}
+use Rattle.ps_trail.proofs.Distinct.{decisions-take, decisions-next}
+use Rattle.ps_trail.proofs.Levels.{decisions-more}
 use Rattle.ps_learn.specs.Rest.{IsLonger}
 use Rattle.ps_trail.proofs.Cutting.{up_to-all}
 use Rattle.ps_watch.specs.declared.visiting.Watches.{Watches}

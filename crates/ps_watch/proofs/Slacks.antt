@@ -15,7 +15,7 @@ use Rattle.ps_steps.proofs.Forcing.{lt-of}
 use Rattle.ps_steps.proofs.Bounds.{IsPositive}
 use Rattle.ps_pb.proofs.Summed.{drop-item, sum_where-size}
 use Rattle.ps_watch.specs.Watches.{slot_of}
-use Rattle.ps_learning.specs.Trails.{Trail, values, IsFresh}
+use Rattle.ps_trail.specs.Trails.{Trail, values, IsFresh}
 use Rattle.ps_watch.specs.Sights.{coefficient_of, size_of, AreCoefficients, AreByCoefficient, IsSight}
 use Rattle.ps_watch.proofs.Linked.{read-set, read-other, read-at}
 use Rattle.ps_watch.proofs.Visited.{value-slot, slot-small}

@@ -1,7 +1,7 @@
 -- For callers: where propagation may go on.
 use Rattle.std.proofs.Common.{◌≡◌, ℕ, suc, ◌<◌, ◌∙◌, [], None, length, ℤ, true, ap, sym, refl, inl, inr}
 use Rattle.std.proofs.Math.Seq.{take-length}
-use Rattle.ps_learning.specs.Trails.{Trail, level, decisions, decided, up_to}
+use Rattle.ps_trail.specs.Trails.{Trail, level, decisions, decided, up_to}
 use Rattle.ps_watch.specs.Sights.{literals_of}
 use Rattle.ps_watch.specs.Keeping.{Keeping, seen_to, IsInStep, HasSeenAll, HasSeenLower, IsOver}
 use Rattle.ps_watch.proofs.Sighted.{literals-to}

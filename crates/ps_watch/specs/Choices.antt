@@ -4,7 +4,7 @@ use Rattle.ps_steps.specs.Assignments.{Assignment, value_of}
 use Rattle.ps_steps.specs.Constraints.{Constraint, HasTerm, Forces, is_open, is_violated}
 use Rattle.ps_steps.specs.Weights.{IsPlain}
 use Rattle.ps_steps.specs.Steps.{Known, constraint_at}
-use Rattle.ps_learning.specs.Trails.{Trail, values, level, IsConflict}
+use Rattle.ps_trail.specs.Trails.{Trail, values, level, IsConflict}
 use Rattle.ps_trail.specs.Lookups.{level_of}
 use Rattle.ps_watch.specs.declared.choosing.Choice.{Choice}
 use Rattle.ps_watch.specs.declared.choosing.Choice.TheVariants.{Open, Last, Violated, Unwatched}

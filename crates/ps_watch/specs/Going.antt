@@ -4,7 +4,7 @@ use Rattle.std.specs.Prelude.{Some, None, List, [], length, take, slice_get, uns
 use Rattle.ps_steps.specs.Assignments.{Assignment, value_of}
 use Rattle.ps_steps.specs.Constraints.{Constraint}
 use Rattle.ps_steps.specs.Steps.{known_of}
-use Rattle.ps_learning.specs.Trails.{Trail, TrailEntry, values, values_of, IsConflict}
+use Rattle.ps_trail.specs.Trails.{Trail, TrailEntry, values, values_of, IsConflict}
 use Rattle.ps_watch.specs.declared.visiting.Watches.{Watches}
 use Rattle.ps_watch.specs.Links.{IsPopped, IsShifted}
 use Rattle.ps_watch.specs.Watches.{slot_of, lit_of, other_of, list_of, IsKept, IsFiled, AreGood, KeepsGood, Extends}

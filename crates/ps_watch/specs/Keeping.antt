@@ -8,7 +8,7 @@ use Rattle.ps_steps.specs.Assignments.{Assignment, with_true, all_unset}
 use Rattle.ps_steps.specs.Constraints.{Constraint, slack}
 use Rattle.ps_steps.specs.Weights.{IsWithin}
 use Rattle.ps_steps.specs.Steps.{known_of, constraint_at}
-use Rattle.ps_learning.specs.Trails.{Trail, TrailEntry, level, up_to}
+use Rattle.ps_trail.specs.Trails.{Trail, TrailEntry, level, up_to}
 use Rattle.ps_watch.specs.declared.visiting.Watches.{Watches}
 use Rattle.ps_watch.specs.Watches.{IsKept, IsFiled, IsClosedBelow}
 use Rattle.ps_watch.specs.Scans.{AreCovered}

@@ -3,7 +3,7 @@ use Rattle.std.specs.Prelude.{ℕ, ◌≡◌, ◌≤◌, ℤ, Some, None, List, 
 use Rattle.ps_steps.specs.Assignments.{Assignment, value_of}
 use Rattle.ps_steps.specs.Constraints.{Constraint}
 use Rattle.ps_steps.specs.Steps.{Known, known_of}
-use Rattle.ps_learning.specs.Trails.{Trail, level, IsReason}
+use Rattle.ps_trail.specs.Trails.{Trail, level, IsReason}
 use Rattle.ps_watch.specs.declared.visiting.Watches.{Watches}
 use Rattle.ps_watch.specs.Watches.{IsKept, IsFiled, Extends, IsClosedBelow}
 use Rattle.ps_watch.specs.Going.{IsGoodUpTo}

@@ -4,7 +4,7 @@ use Rattle.std.specs.Prelude.{Option, Some, None, List, length, slice_index_or, 
 use Rattle.ps_steps.specs.Assignments.{Assignment}
 use Rattle.ps_steps.specs.Constraints.{Constraint, slack, is_violated, some_forced, Forces}
 use Rattle.ps_steps.specs.Steps.{Known, constraint_at}
-use Rattle.ps_learning.specs.Trails.{Trail, IsReason, IsFresh, IsConflict}
+use Rattle.ps_trail.specs.Trails.{Trail, IsReason, IsFresh, IsConflict}
 use Rattle.ps_forms.specs.Decided.{IsIdle}
 use Rattle.ps_watch.specs.declared.scanning.State.{State}
 use Rattle.ps_watch.specs.declared.scanning.State.TheVariants as state

@@ -5,7 +5,7 @@ use Rattle.std.specs.Prelude.{IsPermutation}
 use Rattle.std.specs.List.Sorted.{IsNonDecreasingBy}
 use Rattle.ps_steps.specs.Constraints.{Constraint, sum_where, slack}
 use Rattle.ps_steps.specs.Weights.{Weighted, weighted, IsWithin, IsNormal}
-use Rattle.ps_learning.specs.Trails.{TrailEntry, Trail, values, level}
+use Rattle.ps_trail.specs.Trails.{TrailEntry, Trail, values, level}
 use Rattle.ps_watch.specs.Watches.{slot_of}
 
 -- the literals of some entries, each with its level

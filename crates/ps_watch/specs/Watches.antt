@@ -5,7 +5,7 @@ use Rattle.ps_steps.specs.Assignments.{Assignment, place, is_positive, value_of,
 use Rattle.ps_steps.specs.Constraints.{Constraint, HasTerm}
 use Rattle.ps_steps.specs.Weights.{IsPlain, IsWithin}
 use Rattle.ps_steps.specs.Steps.{Known, constraint_at, known_of}
-use Rattle.ps_learning.specs.Trails.{Trail, values, level, up_to, AreReasons}
+use Rattle.ps_trail.specs.Trails.{Trail, values, level, up_to, AreReasons}
 use Rattle.ps_learn.specs.Rest.{IsLonger}
 use Rattle.ps_watch.specs.declared.links.TheConstants.{END}
 use Rattle.ps_watch.specs.declared.visiting.Watches.{Watches}

@@ -3,7 +3,7 @@ ghost use Rattle.std.specs.Prelude.{◌≡◌, ◌↔◌, pos, All, IsTrue, IfSo
 ghost use Rattle.ps_steps.specs.Constraints.{is_open};
 ghost use Rattle.ps_steps.specs.Weights.{IsPlain};
 ghost use Rattle.ps_steps.specs.Steps.{known_of};
-ghost use Rattle.ps_learning.specs.Trails.{values};
+ghost use Rattle.ps_trail.specs.Trails.{values};
 ghost use Rattle.ps_watch.specs.Choices.{some_open, IsOpenIn, IsFalseAtTop, IsFalseIn};
 ghost use Rattle.ps_watch.specs.Choices.{ChoosesIn, Chooses};
 

@@ -2,7 +2,7 @@
 ghost use Rattle.std.specs.Prelude.{◌≡◌, ◌≤◌, ◌<◌, length, [], Some, None, false, IfNone, IfSome};
 ghost use Rattle.ps_steps.specs.Assignments.{value_of};
 ghost use Rattle.ps_steps.specs.Steps.{known_of};
-ghost use Rattle.ps_learning.specs.Trails.{values, IsConflict};
+ghost use Rattle.ps_trail.specs.Trails.{values, IsConflict};
 ghost use Rattle.ps_watch.specs.declared.links.TheConstants.{END};
 ghost use Rattle.ps_watch.specs.Links.{AreLinked, IsFree};
 ghost use Rattle.ps_watch.specs.Watches.{IsKept, Extends, KeepsGood, KeepsPlaced, IsListed};

@@ -7,7 +7,7 @@ ghost use Rattle.ps_pb.specs.declared.limits.TheConstants.{MOST_VARIABLES};
 ghost use Rattle.ps_steps.specs.Assignments.{place, AreDifferent};
 ghost use Rattle.ps_steps.specs.Weights.{IsWithin, clause_of};
 ghost use Rattle.ps_steps.specs.Steps.{known_of};
-ghost use Rattle.ps_learning.specs.Trails.{values, level, up_to, unset_count};
+ghost use Rattle.ps_trail.specs.Trails.{values, level, up_to, unset_count};
 ghost use Rattle.ps_learn.specs.Rest.{IsPropagated};
 ghost use Rattle.ps_watch.specs.Watches.{Extends};
 ghost use Rattle.ps_watch.specs.Keeping.{slack_seen, seen_to, IsInStep, HasSeen, IsOver};

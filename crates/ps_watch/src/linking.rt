@@ -6,7 +6,7 @@ ghost use Rattle.ps_steps.specs.Assignments.{value_of};
 ghost use Rattle.ps_steps.specs.Constraints.{is_open};
 ghost use Rattle.ps_steps.specs.Weights.{IsWithin};
 ghost use Rattle.ps_steps.specs.Steps.{known_of};
-ghost use Rattle.ps_learning.specs.Trails.{values, level, IsLit, IsConflict};
+ghost use Rattle.ps_trail.specs.Trails.{values, level, IsLit, IsConflict};
 ghost use Rattle.ps_watch.specs.Rooms.{room_of, HasRoomFor, HasRoomForClauses};
 ghost use Rattle.ps_watch.specs.Watches.{IsKept, IsFiled, Extends};
 ghost use Rattle.ps_watch.specs.Linking.{CoversMore, HasLinked, IsForcedIfUnset};

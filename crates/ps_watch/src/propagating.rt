@@ -3,7 +3,7 @@ ghost use Rattle.std.specs.Prelude.{◌≡◌, ◌≤◌, ◌<◌, ◌+◌, Some
 ghost use Rattle.std.specs.Prelude.{vec_capacity};
 ghost use Rattle.ps_steps.specs.Weights.{IsWithin};
 ghost use Rattle.ps_steps.specs.Steps.{known_of, constraint_at};
-ghost use Rattle.ps_learning.specs.Trails.{values, level};
+ghost use Rattle.ps_trail.specs.Trails.{values, level};
 ghost use Rattle.ps_learn.specs.Rest.{IsPropagated};
 ghost use Rattle.ps_watch.specs.Rooms.{room_of, HasRoomForClauses};
 ghost use Rattle.ps_watch.specs.Watches.{IsKept, IsFiled, Extends, StayClosed};

@@ -3,7 +3,7 @@ ghost use Rattle.std.specs.Prelude.{◌≡◌, Some, length, All};
 ghost use Rattle.ps_steps.specs.Constraints.{slack};
 ghost use Rattle.ps_steps.specs.Weights.{IsWithin};
 ghost use Rattle.ps_steps.specs.Steps.{known_of, constraint_at};
-ghost use Rattle.ps_learning.specs.Trails.{values};
+ghost use Rattle.ps_trail.specs.Trails.{values};
 ghost use Rattle.ps_watch.specs.Scans.{FirstForced, ScansOne, ScansAt, ScansThese, ScansAll};
 
 use crate::sight::Sight;

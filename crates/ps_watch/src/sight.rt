@@ -2,7 +2,7 @@
 ghost use Rattle.std.specs.Prelude.{◌≡◌, ◌≤◌, [], length, IfOk};
 ghost use Rattle.ps_steps.specs.Weights.{IsWithin};
 ghost use Rattle.ps_steps.specs.Constraints.{slack};
-ghost use Rattle.ps_learning.specs.Trails.{values, up_to, IsFresh, level};
+ghost use Rattle.ps_trail.specs.Trails.{values, up_to, IsFresh, level};
 ghost use Rattle.ps_watch.specs.Sights.{with_entry, IsNext, AreCoefficients, AreByCoefficient};
 ghost use Rattle.ps_watch.specs.Sights.{unseen};
 ghost use Rattle.ps_watch.specs.Scans.{ScansOne, FirstForced};

@@ -1,7 +1,7 @@
 //! Visits to watches.
 ghost use Rattle.std.specs.Prelude.{◌≡◌, ◌<◌, ◌≤◌, length, IfNone, IfSome};
 ghost use Rattle.ps_steps.specs.Steps.{known_of};
-ghost use Rattle.ps_learning.specs.Trails.{values, IsConflict};
+ghost use Rattle.ps_trail.specs.Trails.{values, IsConflict};
 ghost use Rattle.ps_watch.specs.declared.links.TheConstants.{END};
 ghost use Rattle.ps_watch.specs.Links.{AreLinked, IsFree};
 ghost use Rattle.ps_watch.specs.Watches.{slot_of, IsKept, IsPut, IsMoved, Extends, KeepsGood};

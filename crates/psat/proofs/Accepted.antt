@@ -18,7 +18,7 @@ use Rattle.ps_answer.specs.declared.answer.Dual.{Dual}
 use Rattle.ps_answer.specs.Answers.{answer_items}
 use Rattle.ps_answer.specs.Faults.{IsReport, IsText}
 use Rattle.ps_answer.specs.declared.limits.TheConstants.{MOST_PIVOTS}
-use Rattle.ps_entailment.specs.Answers.{QueryAnswer, asked_under}
+use Rattle.ps_claims.specs.Answers.{QueryAnswer, asked_under}
 use Rattle.ps_claims.specs.Duals as duals
 use Rattle.ps_claims.specs.Claims.{claims_of, open_in_verdict, open_in_part, unfinished_of}
 use Rattle.ps_claims.specs.Validity.{IsValid, IsValidPart}

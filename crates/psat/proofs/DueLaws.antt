@@ -24,7 +24,7 @@ use Rattle.ps_io.specs.Transfer.{Appends, ReadAll, TookMore, TookWithin}
 use Rattle.ps_io.specs.declared.limits.TheConstants.{LONGEST_READ}
 use Rattle.ps_generation.specs.declared.limits.Limits.{Limits}
 use Rattle.ps_query.specs.Solutions.{IsReadBack, IsSolution}
-use Rattle.ps_enough.proofs.Limits.{answer_enough}
+use Rattle.ps_phases.proofs.Limits.{answer_enough}
 use Rattle.ps_explain.specs.declared.explained.Explained.{Explained}
 use Rattle.ps_explain.specs.Explanations.{IsRightExplanation}
 use Rattle.psat.specs.declared.command.Command.{Command}

@@ -14,8 +14,8 @@ use Rattle.ps_answer.specs.declared.answer.Verdict.TheVariants.{Open}
 use Rattle.ps_runs.specs.Runs.{sentences_of}
 use Rattle.ps_runs.specs.Kept.{kept_of, flags_of, kept_parts}
 use Rattle.ps_runs.proofs.Kept.{length-kept, bounds-kept}
-use Rattle.ps_enough.specs.Enough.{IsEnough, HasNoPivotsCause}
-use Rattle.ps_enough.proofs.Limits.{answer_enough}
+use Rattle.ps_phases.specs.Enough.{IsEnough, HasNoPivotsCause}
+use Rattle.ps_phases.proofs.Limits.{answer_enough}
 use Rattle.ps_explain.specs.declared.explained.Explained.{Explained}
 use Rattle.ps_explain.specs.declared.explained.Explained.TheVariants as explained
 use Rattle.ps_explain.specs.Explanations.{IsRightExplanation}

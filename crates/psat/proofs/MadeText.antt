@@ -13,8 +13,8 @@ use Rattle.ps_read.specs.declared.read_error.ReadError.TheVariants as unread
 use Rattle.ps_read.specs.Readings.{SpellsWhole, IsUnreadWhole, Read, Unread}
 use Rattle.ps_read.specs.Reads.{Tells}
 use Rattle.ps_read.proofs.OneReading.{one_whole_reading}
-use Rattle.ps_entailment.specs.Answers as claimed
-use Rattle.ps_entailment.specs.Answers.{asked_under}
+use Rattle.ps_claims.specs.Answers as claimed
+use Rattle.ps_claims.specs.Answers.{asked_under}
 use Rattle.ps_answer.specs.declared.answer.Weighted.{Weighted}
 use Rattle.ps_answer.specs.declared.answer.Model.{Model}
 use Rattle.ps_answer.specs.declared.answer.Answer.{Answer}
@@ -28,7 +28,7 @@ use Rattle.ps_answer.specs.declared.answer.Verdict.TheVariants as verdict
 use Rattle.ps_answer.specs.Items.{IsProper, IsWithin}
 use Rattle.ps_answer.specs.Answers.{entry_item, model_items}
 use Rattle.ps_certificate.specs.Certificates.{entries, model_of}
-use Rattle.ps_printed.specs.Printed.{IsPrintedModel, IsPrintedPart, IsPrintedSide, IsPrintedVerdict}
+use Rattle.ps_certificate.specs.Printed.{IsPrintedModel, IsPrintedPart, IsPrintedSide, IsPrintedVerdict}
 use Rattle.ps_reported.proofs.Models.{fit_model}
 use Rattle.ps_claims.specs.declared.claim_kind.ClaimKind.{ClaimKind}
 use Rattle.ps_claims.specs.Claims.{claims_of, unfinished_of}

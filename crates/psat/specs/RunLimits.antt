@@ -4,7 +4,7 @@ use Rattle.ps_problem.specs.Problems.{Parts}
 use Rattle.ps_answer.specs.declared.limits.TheConstants.{MOST_PIVOTS}
 use Rattle.ps_runs.specs.Runs.{sentences_of}
 use Rattle.ps_generation.specs.declared.limits.Limits.{Limits}
-use Rattle.ps_enough.specs.Enough.{enough_in}
+use Rattle.ps_phases.specs.Enough.{enough_in}
 
 -- a number of pivots that is enough for each run on a problem: three times the ways to choose one thing more than
 -- there are rows, of one thing more than there are rows and worlds

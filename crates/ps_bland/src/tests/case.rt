@@ -5,7 +5,7 @@
 use crate::Settled;
 use ps_frac::Op;
 use ps_pool::Col;
-use ps_rule::Phase;
+use ps_simplex::Phase;
 use ps_table::{Home, Place};
 
 /// How a phase ends; a fraction is its numerator and its denominator.

@@ -3,7 +3,7 @@
 use super::case::{Case, End, Stage};
 use ps_frac::Op;
 use ps_pool::Col;
-use ps_rule::Phase;
+use ps_simplex::Phase;
 use ps_table::{Home, Place};
 
 pub(crate) const FIVE_ROWS: [Case<5>; 2] = [

@@ -3,7 +3,7 @@
 use super::case::{Case, End, Stage};
 use crate::Settled;
 use ps_pool::Col;
-use ps_rule::Phase;
+use ps_simplex::Phase;
 use ps_table::Home;
 
 pub(crate) const THREE_ROWS: [Case<3>; 13] = [

@@ -4,7 +4,7 @@ use super::case::{Case, End, Stage};
 use crate::Settled;
 use ps_frac::Op;
 use ps_pool::Col;
-use ps_rule::Phase;
+use ps_simplex::Phase;
 use ps_table::{Home, Place, TableCol};
 
 pub(crate) const THREE_ROWS_WIDE: [Case<3>; 7] = [

@@ -1,5 +1,5 @@
 use Rattle.std.proofs.Common.{◌<◌, ℕ, suc}
-use Rattle.ps_rule.specs.Rule.{Improves}
+use Rattle.ps_simplex.specs.Rule.{Improves}
 use Rattle.ps_table.specs.Pricing.{cost_at}
 use Rattle.ps_bland.specs.Rules.{simplex_of}
 use Rattle.ps_bland.specs.Rounds.{AreNarrowBefore}

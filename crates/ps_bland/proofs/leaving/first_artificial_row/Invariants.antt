@@ -1,5 +1,5 @@
 use Rattle.std.proofs.Common.{◌<◌, ℕ, length}
-use Rattle.ps_rule.specs.Rule.{IsArtificialRow}
+use Rattle.ps_simplex.specs.Rule.{IsArtificialRow}
 use Rattle.ps_table.specs.Tableau.{number_in}
 use Rattle.ps_bland.specs.Rules.{simplex_of}
 use Rattle.ps_bland.proofs.leaving.first_artificial_row.Given as goal

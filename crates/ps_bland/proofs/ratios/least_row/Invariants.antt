@@ -1,5 +1,5 @@
 use Rattle.std.proofs.Common.{◌≡◌, length}
-use Rattle.ps_rule.specs.Rule.{ratio}
+use Rattle.ps_simplex.specs.Rule.{ratio}
 use Rattle.ps_table.specs.Tableau.{number_in}
 use Rattle.ps_bland.specs.Rules.{simplex_of}
 use Rattle.ps_bland.specs.Rounds.{IsLeastBefore}

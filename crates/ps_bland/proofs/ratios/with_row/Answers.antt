@@ -1,5 +1,5 @@
 use Rattle.std.proofs.Common.{rules, length}
-use Rattle.ps_rule.specs.Rule.{IsRising}
+use Rattle.ps_simplex.specs.Rule.{IsRising}
 use Rattle.ps_table.specs.Tableau.{number_in}
 use Rattle.ps_bland.specs.Rules.{simplex_of}
 use Rattle.ps_bland.specs.Rounds.{GoesBeforeRow}

@@ -1,5 +1,5 @@
 use Rattle.std.proofs.Common.{◌≡◌, ◌<◌, ℕ, length, Err, rules}
-use Rattle.ps_rule.specs.Rule.{Improves, Enters}
+use Rattle.ps_simplex.specs.Rule.{Improves, Enters}
 use Rattle.ps_table.specs.Tableau.{number_in, number_of, HasColumn}
 use Rattle.ps_table.specs.Pricing.{cost_at}
 use Rattle.ps_bland.specs.Rules.{simplex_of, IsLawful, IsDueToEndIn}

@@ -1,5 +1,5 @@
 use Rattle.std.proofs.Common.{rules, ◌≡◌, ℕ, ◌<◌, ◌≤◌, ◌≤ℤ◌, [], length, get_or, pos, negsuc}
-use Rattle.ps_rule.specs.Rule.{IsFeasible}
+use Rattle.ps_simplex.specs.Rule.{IsFeasible}
 use Rattle.ps_bland.specs.Rules.{simplex_of}
 use Rattle.ps_bland.specs.Ready.{HasNoNegativeValue}
 use Rattle.ps_bland.proofs.Above.{ready_checked}

@@ -1,6 +1,6 @@
 use Rattle.std.proofs.Common.{rules, ◌≡◌, ◌∙◌, sym, subst, ap, length, [], get_or, ◌<◌}
 use Rattle.std.proofs.lemmas.List.{get_or_read}
-use Rattle.ps_basis.specs.Table.{HasHomes}
+use Rattle.ps_simplex.specs.Table.{HasHomes}
 use Rattle.ps_bland.proofs.Above.{world_column}
 use Rattle.ps_bland.proofs.tests.table_of.Goals as goal
 

@@ -1,6 +1,6 @@
 use Rattle.std.proofs.Common.{◌≡◌, map}
 use Rattle.ps_bland.specs.Rules.{simplex_of}
-use Rattle.ps_multiples.specs.Multiples.{weight_multiple_of}
+use Rattle.ps_ends.specs.Multiples.{weight_multiple_of}
 use Rattle.ps_runs.specs.Certificates.{entries_to}
 use Rattle.ps_certificate.specs.Certificates.{entry_of}
 use Rattle.ps_ends.proofs.modelled.weighed_worlds.Given as goal

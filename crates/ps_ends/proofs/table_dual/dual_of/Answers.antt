@@ -2,7 +2,7 @@ use Rattle.std.proofs.Common.{◌≡◌, ◌≤◌, ◌^◌, ℤ, pos, unsigned_
 use Rattle.std.proofs.lemmas.List.Elements.{All-from_get_or}
 use Rattle.ps_certificate.specs.Certificates.{IsMultiplier}
 use Rattle.ps_runs.specs.Certificates.{head_of}
-use Rattle.ps_multiples.specs.Multiples.{AreScaled}
+use Rattle.ps_ends.specs.Multiples.{AreScaled}
 use Rattle.ps_ends.specs.Duals.{AreSigned, bound_numbers}
 use Rattle.ps_ends.proofs.Signed.{is_dual, count_rows}
 use Rattle.ps_ends.proofs.Weighing.{read_back}

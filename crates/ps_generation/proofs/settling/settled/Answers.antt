@@ -1,5 +1,5 @@
 use Rattle.std.proofs.Common.{rules, ◌≡◌, ap}
-use Rattle.ps_rule.specs.Rule.{IsMoving, IsResting}
+use Rattle.ps_simplex.specs.Rule.{IsMoving, IsResting}
 use Rattle.ps_table.specs.Pricing.{cost_at}
 use Rattle.ps_bland.specs.Rules.{simplex_of, IsDueToEndIn}
 use Rattle.ps_bland.specs.Ends.{IsDueRefusal}

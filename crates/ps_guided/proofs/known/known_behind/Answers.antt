@@ -2,7 +2,7 @@ use Rattle.std.proofs.Common.{subst}
 use Rattle.ps_answer.specs.declared.answer.QueryAnswer.{QueryAnswer}
 use Rattle.ps_claims.specs.declared.claim_kind.ClaimKind.TheVariants.{Lower, Upper}
 use Rattle.ps_claims.specs.Validity.{IsValidPart}
-use Rattle.ps_printed.specs.Printed.{IsPrintedPart}
+use Rattle.ps_certificate.specs.Printed.{IsPrintedPart}
 use Rattle.ps_valid.specs.Answers.{part_of}
 use Rattle.ps_guided.proofs.known.known_behind.Goals as goal
 

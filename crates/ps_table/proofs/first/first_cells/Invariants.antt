@@ -1,6 +1,6 @@
 use Rattle.std.proofs.Common.{◌≡◌, ◌<◌, ◌-◌, ◌/◌, ◌%◌, ℕ, get_or, length}
 use Rattle.ps_rational.specs.Rational.{zero_q}
-use Rattle.ps_basis.specs.Table.{unit_at}
+use Rattle.ps_simplex.specs.Table.{unit_at}
 use Rattle.ps_table.proofs.first.first_cells.Given as goal
 
 abbrev pub invariant-loop-k : goal.invariant-loop-k

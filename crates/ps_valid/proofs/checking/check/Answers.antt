@@ -1,6 +1,6 @@
 use Rattle.std.proofs.Common.{◌≡◌, Err, length, ap, arith, rules}
 use Rattle.std.proofs.lemmas.List.{length-map}
-use Rattle.ps_entailment.specs.Answers.{asked_under}
+use Rattle.ps_claims.specs.Answers.{asked_under}
 use Rattle.ps_claims.proofs.Valid.{valid-right}
 use Rattle.ps_valid.specs.Answers.{answer_of, part_of, parts_of, verdict_of}
 use Rattle.ps_valid.proofs.ClaimsInOrder.{all_accepted, few_in_all, others_refused, verdict_refused}

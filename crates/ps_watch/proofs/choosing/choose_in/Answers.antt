@@ -1,5 +1,5 @@
 use Rattle.ps_watch.proofs.Clauses.{violated-none}
-use Rattle.ps_learning.specs.Trails.{values}
+use Rattle.ps_trail.specs.Trails.{values}
 use Rattle.ps_watch.proofs.choosing.choose_in.Goals as goal
 
 pub returns-in-None : goal.returns-in-None

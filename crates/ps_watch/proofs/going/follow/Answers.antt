@@ -1,5 +1,5 @@
 use Rattle.std.proofs.Common.{◌∙◌, ◌<◌, length, subst, arith}
-use Rattle.ps_learning.proofs.Counting.{counted}
+use Rattle.ps_trail.proofs.Counting.{counted}
 use Rattle.ps_watch.specs.Going.{HasGone}
 use Rattle.ps_watch.proofs.Followed.{now-false, opposite-within, followed-stop, followed-next}
 use Rattle.ps_watch.proofs.going.follow.Goals as goal

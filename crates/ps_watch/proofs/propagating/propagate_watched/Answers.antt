@@ -1,6 +1,6 @@
 use Rattle.std.proofs.Common.{◌∙◌, sym, ap, subst, arith, Some}
 use Rattle.ps_steps.specs.Steps.{known_of}
-use Rattle.ps_learning.specs.Trails.{IsReason}
+use Rattle.ps_trail.specs.Trails.{IsReason}
 use Rattle.ps_learn.proofs.Advancing.{fresh-now}
 use Rattle.ps_watch.specs.Watches.{IsKept, IsFiled}
 use Rattle.ps_watch.proofs.Reading.{extends-implied}

@@ -1,7 +1,7 @@
 use Rattle.std.proofs.Common.{◌≡◌, ◌∙◌, ◌<◌, Some, length, ap, sym, subst, arith}
 use Rattle.std.specs.Prelude.{slice_get}
 use Rattle.std.proofs.lemmas.Option.{slice_get_read}
-use Rattle.ps_learning.specs.Trails.{Trail, AreLevels}
+use Rattle.ps_trail.specs.Trails.{Trail, AreLevels}
 use Rattle.ps_watch.proofs.Sighted.{next-fresh, next-level}
 use Rattle.ps_watch.proofs.propagating.see_to.Goals as goal
 

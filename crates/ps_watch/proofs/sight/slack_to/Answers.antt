@@ -5,7 +5,7 @@ use Rattle.std.proofs.lemmas.Option.{slice_get_read}
 use Rattle.ps_steps.specs.Assignments.{place}
 use Rattle.ps_steps.specs.Constraints.{slack}
 use Rattle.ps_steps.specs.Weights.{IsNormal}
-use Rattle.ps_learning.specs.Trails.{TrailEntry, decisions}
+use Rattle.ps_trail.specs.Trails.{TrailEntry, decisions}
 use Rattle.ps_watch.specs.Watches.{slot_of}
 use mir.Syntax.{w128}
 use Rattle.ps_watch.proofs.Slacks.{slot-read}

@@ -1,5 +1,5 @@
 use Rattle.std.proofs.Common.{arith, refl}
-use Rattle.ps_learning.specs.Trails.{values}
+use Rattle.ps_trail.specs.Trails.{values}
 use Rattle.ps_watch.proofs.Visited.{put-spare, moved-kept, moved-spare}
 use Rattle.ps_watch.proofs.Reading.{are-read, other-small, read-clause, read-new, read-good, read-placed, stays-placed, slot-within, own-within, fresh-other, extends-implied, shows-reason, forces-placed}
 use Rattle.ps_watch.proofs.visiting.visit.Goals as goal

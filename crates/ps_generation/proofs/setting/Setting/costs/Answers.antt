@@ -3,9 +3,9 @@ use Rattle.ps_meaning.specs.Formula.{World}
 use Rattle.ps_formula.specs.declared.node.Node.{Node}
 use Rattle.ps_table.specs.declared.home.Home.{Home}
 use Rattle.ps_table.specs.declared.costs.Costs.{Costs}
-use Rattle.ps_rule.specs.declared.phase.Phase.{Phase}
+use Rattle.ps_simplex.specs.declared.phase.Phase.{Phase}
 use Rattle.ps_claims.specs.declared.claim_kind.ClaimKind.{ClaimKind}
-use Rattle.ps_columns.specs.Columns.{home_cost, costs_over}
+use Rattle.ps_phases.specs.Columns.{home_cost, costs_over}
 use Rattle.ps_runs.specs.Runs.{Subject, setting_of, IsAsked, both_in}
 use Rattle.ps_runs.specs.Rows.{phase_of}
 use Rattle.ps_phases.specs.Tables.{homes_of, costs_for}

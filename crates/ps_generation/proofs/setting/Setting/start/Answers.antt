@@ -3,7 +3,7 @@ use Rattle.ps_meaning.specs.Formula.{World}
 use Rattle.ps_table.specs.declared.home.Home.{Home}
 use Rattle.ps_table.specs.Tableau.{HasUnitHomes, HasBasicHomes, IsTableForHomes}
 use Rattle.ps_problem.specs.Problems.{bounds_in}
-use Rattle.ps_columns.specs.Columns.{homes_over}
+use Rattle.ps_phases.specs.Columns.{homes_over}
 use Rattle.ps_runs.specs.Runs.{setting_of, IsStart}
 use Rattle.ps_phases.specs.Tables.{homes_of, IsRunTable, stage_at}
 use Rattle.ps_phases.proofs.NodeColumns.{homes_are}

@@ -1,5 +1,5 @@
 use Rattle.std.proofs.Common.{ap, ◌∙◌, subst}
-use Rattle.ps_learning.specs.Trails.{Trail, AreLevels}
+use Rattle.ps_trail.specs.Trails.{Trail, AreLevels}
 use Rattle.ps_trail.proofs.Cutting.{up_to_part}
 use Rattle.ps_trail.proofs.trail.Trail.cut_to.Goals as goal
 

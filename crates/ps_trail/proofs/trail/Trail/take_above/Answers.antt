@@ -1,6 +1,6 @@
 use Rattle.std.proofs.Common.{arith, ap, ◌∙◌, unsigned_abs}
 use Rattle.ps_steps.specs.Assignments.{without}
-use Rattle.ps_learning.specs.Trails.{TrailEntry}
+use Rattle.ps_trail.specs.Trails.{TrailEntry}
 use Rattle.ps_trail.proofs.Cutting.{none-above, taken-inside, taken-level, taken-same, taken-vars}
 use Rattle.ps_trail.proofs.trail.Trail.take_above.Goals as goal
 

@@ -1,5 +1,5 @@
 use Rattle.std.proofs.Common.{◌∙◌, ap, subst, vec_capacity}
-use Rattle.ps_learning.specs.Trails.{Trail, AreLevels}
+use Rattle.ps_trail.specs.Trails.{Trail, AreLevels}
 use Rattle.ps_watch.specs.Sights.{literals_of}
 use Rattle.ps_watch.specs.Keeping.{Keeping, seen_to}
 use Rattle.ps_watch.proofs.Sighted.{literals-to}

@@ -1,7 +1,7 @@
 use Rattle.std.proofs.Common.{◌≡◌, ◌∙◌, ◌+◌, arith, ap, sym, subst, vec_capacity, is_none, cond, refl}
 use Rattle.ps_steps.specs.Steps.{known_of}
-use Rattle.ps_learning.specs.Trails.{Trail, AreLevels, level}
-use Rattle.ps_learning.proofs.Counting.{counted}
+use Rattle.ps_trail.specs.Trails.{Trail, AreLevels, level}
+use Rattle.ps_trail.proofs.Counting.{counted}
 use Rattle.ps_trail.proofs.Pushing.{decisions-few}
 use Rattle.ps_watch.specs.Keeping.{Keeping}
 use Rattle.ps_watch.proofs.Keeping.{IsKeeping, begins-step, start-within, start-good, keeping-propagated, has-seen, fewer-after, none-is}

@@ -1,5 +1,5 @@
 use Rattle.std.proofs.Common.{◌≡◌, ap, sym, subst, arith}
-use Rattle.ps_learning.specs.Trails.{Trail, up_to}
+use Rattle.ps_trail.specs.Trails.{Trail, up_to}
 use Rattle.ps_trail.proofs.Cutting.{up_to-all}
 use Rattle.ps_watch.specs.Sights.{Sighting}
 use Rattle.ps_watch.proofs.sight.Sight.cut_to.Goals as goal

@@ -1,7 +1,7 @@
 use Rattle.std.proofs.Common.{◌∙◌, ap, arith}
 use Rattle.std.proofs.lemmas.Int.{ints}
-use Rattle.ps_learning.specs.Trails.{values}
-use Rattle.ps_learning.proofs.Entries.{values-append, length-values}
+use Rattle.ps_trail.specs.Trails.{values}
+use Rattle.ps_trail.proofs.Entries.{values-append, length-values}
 use Rattle.ps_watch.specs.Watches.{slot_of}
 use Rattle.ps_watch.proofs.Slacks.{seen-less, sight-more}
 use Rattle.ps_watch.proofs.Sighted.{fresh-view}

@@ -1,5 +1,0 @@
-use Rattle.ps_basis.proofs.Columns.{stands_more}
-use Rattle.ps_basis.proofs.laws.wider_table.Goals as goal
-
-pub returns : goal.returns
-returns c = record { stands = λ n w A X Z basic h b more. stands_more n w A X Z basic h b more.same more.made }

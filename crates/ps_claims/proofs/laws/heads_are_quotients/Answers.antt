@@ -1,5 +1,0 @@
-use Rattle.ps_entailment.proofs.Tight.{ratio-quotient, quotient-ratio}
-use Rattle.ps_claims.proofs.laws.heads_are_quotients.Goals as goal
-
-pub returns : goal.returns
-returns c = record { head = λ value h t some. (ratio-quotient value h t some, quotient-ratio value h t some) }

@@ -1,2 +1,0 @@
--- Meaning, and the law
-pub mod Enough

@@ -1,5 +1,0 @@
-use Rattle.ps_entailment.proofs.Tight.{reached-quotient, quotient-reached}
-use Rattle.ps_entailment.proofs.laws.reached_values_are_quotients.Goals as goal
-
-pub returns : goal.returns
-returns c = record { reached = λ q value d e some is. (reached-quotient q value d e some is, quotient-reached q value d e some is) }

@@ -1,5 +1,0 @@
--- Meaning
-pub mod Queries
-pub mod Answers
--- Laws, as the functions of laws.rt promise them
-pub mod Laws

@@ -1,4 +1,0 @@
-pub mod Least
-pub mod Listed
-pub mod Narrow
-pub mod Weighed

@@ -1,5 +1,0 @@
-use Rattle.ps_multiples.specs.Rows.{AreWeightRows}
-use Rattle.ps_multiples.proofs.weights.weight_rows.Given as goal
-
-abbrev pub invariant-loop-row : goal.invariant-loop-row
-invariant-loop-row l = AreWeightRows l.table l.row l.rows

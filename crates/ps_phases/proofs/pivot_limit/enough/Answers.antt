@@ -1,0 +1,5 @@
+use Rattle.ps_phases.proofs.Limits.{answer_enough}
+use Rattle.ps_phases.proofs.pivot_limit.enough.Goals as goal
+
+pub returns : goal.returns
+returns c = record { enough = answer_enough }

@@ -1,5 +1,0 @@
-pub mod Signs
-pub mod Rays
-pub mod Combination
-pub mod Alike
-pub mod OnePivot

@@ -1,0 +1,11 @@
+pub mod Units
+pub mod PivotKeeps
+pub mod Columns
+pub mod OneTable
+pub mod Pricing
+pub mod Agreeing
+pub mod Signs
+pub mod Rays
+pub mod Combination
+pub mod Alike
+pub mod OnePivot
