@@ -44,7 +44,7 @@ fn fractions(alloc: Global) -> anyhow::Result<Vec<Fraction>> {
 }
 
 /// What is kept of a sequence of results.
-fn mixed(sum: u64, answer: &Fraction) -> u64 {
+fn mix(sum: u64, answer: &Fraction) -> u64 {
     let over = answer.numerator().unsigned_abs() & 0xFFFF_FFFF;
     let under = answer.denominator().unsigned_abs() & 0xFFFF_FFFF;
     sum.wrapping_mul(31)
@@ -70,7 +70,7 @@ where
         }
         if left < list.len() && right < list.len() {
             if let Ok(answer) = operation(&list[left], &list[right]) {
-                checksum = mixed(checksum, &answer);
+                checksum = mix(checksum, &answer);
             }
         }
         left = left.wrapping_add(1);

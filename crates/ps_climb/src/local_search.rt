@@ -71,7 +71,7 @@ impl LocalSearch {
     {
         let tolerance = self.begin(goal, start);
         self.walk(steps, tolerance);
-        self.found(goal, start)
+        self.best_world(goal, start)
     }
 
     /// The world at the end of a way of so many steps at most, each of which turns the atom that raises
@@ -86,7 +86,7 @@ impl LocalSearch {
     {
         let tolerance = self.begin(goal, start);
         self.rise(steps, tolerance);
-        self.found(goal, start)
+        self.best_world(goal, start)
     }
 
     /// Takes in a goal and a world, and answers by how much equal values may differ.
@@ -179,7 +179,7 @@ impl LocalSearch {
 
     /// The best world, where it meets the demands and is above the threshold. Its value is found afresh
     /// without the demands, which may have rounded it away.
-    fn found(&mut self, goal: Goal<'_>, start: &World) -> Result<Option<World>, NoMemory>
+    fn best_world(&mut self, goal: Goal<'_>, start: &World) -> Result<Option<World>, NoMemory>
         ensures { IfOk result (λ found. IfSome found (λ w. length w ≡ length start.now)) }
     {
         self.nodes.evaluate(Worlds::Around(&self.best));

@@ -66,7 +66,7 @@ fn row_entries(
 }
 
 // Rows and columns exchanged.
-fn transposed(
+fn transpose(
     alloc: Global,
     entries: &[List<i64>],
     width: usize,
@@ -127,8 +127,8 @@ impl BasisSystem {
         for world in &self.worlds {
             costs.push(aim.cost(pool.truth(*world)))?;
         }
-        let columns = transposed(self.alloc, &self.entries, self.worlds.len())?;
-        let inverse = self.inverse.transposed(self.alloc)?;
+        let columns = transpose(self.alloc, &self.entries, self.worlds.len())?;
+        let inverse = self.inverse.transpose(self.alloc)?;
         solve(self.alloc, &columns, &inverse, &costs)
     }
 }

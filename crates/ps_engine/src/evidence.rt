@@ -61,7 +61,7 @@ impl Engine {
         self.mended = 0;
         self.told = 0;
         self.shrinks = 0;
-        if !self.set_given(aim.given())? {
+        if !self.set_given(aim.evidence())? {
             return Ok(false);
         }
         self.set_aim(aim);

@@ -110,7 +110,7 @@ impl Engine {
         }
         reduce(&mut multipliers, self.relaxed.bounds());
         self.roundings = self.roundings.saturating_add(1);
-        self.completed(Aim::Consistent, multipliers)
+        self.dual_of(Aim::Consistent, multipliers)
     }
 
     // Rounds the rows' prices, to three bits more each time.
@@ -140,7 +140,7 @@ impl Engine {
     }
 
     // The dual of multipliers, with those of the certainties, where they are small.
-    pub(crate) fn completed(
+    pub(crate) fn dual_of(
         &self,
         aim: Aim,
         mut multipliers: Multipliers,

@@ -56,7 +56,7 @@ fn smallest_blocking(values: &[f64], direction: &[f64]) -> Option<(usize, f64)> 
 }
 
 // The world with one atom turned.
-fn turned(alloc: Global, world: &World, atom: usize) -> Result<World, NoMemory> {
+fn with_atom_turned(alloc: Global, world: &World, atom: usize) -> Result<World, NoMemory> {
     let mut other = World::new(alloc);
     for (place, value) in world.as_slice().iter().enumerate() {
         other.push(*value != (place == atom))?;
@@ -157,7 +157,7 @@ impl Engine {
             if found.len() >= MOST_NEIGHBOURS {
                 return Ok(());
             }
-            let other = turned(self.alloc, world, atom)?;
+            let other = with_atom_turned(self.alloc, world, atom)?;
             if let Some(member) = Member::new(self.alloc, problem, other)? {
                 if self.is_new_on_face(&member) {
                     found.push(member)?;

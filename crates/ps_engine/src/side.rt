@@ -78,7 +78,7 @@ impl Engine {
         }
         let pivots = self.simplex.pivots();
         if self.simplex.clean(MOST_REPAIRS) != Ending::Optimal {
-            return Ok(self.moved());
+            return Ok(self.perturb());
         }
         if self.simplex.pivots() != pivots && !is_trivial && self.may_mend() {
             return Ok(Turn::Again);
@@ -96,7 +96,7 @@ impl Engine {
     }
 
     // Moves the values that are 0 again.
-    fn moved(&mut self) -> Turn {
+    fn perturb(&mut self) -> Turn {
         if !self.may_mend() {
             return Turn::GiveUp;
         }
@@ -123,19 +123,19 @@ impl Engine {
     // Whole numbers from the basis.
     fn whole_guess(&mut self, aim: Aim) -> Result<Turn, NoMemory> {
         let Some(system) = self.system()? else {
-            return Ok(self.moved());
+            return Ok(self.perturb());
         };
         let Some(values) = system.values()? else {
             return Ok(Turn::TooLarge);
         };
         match model_of(self.alloc, &self.pool, aim, &system, &values)? {
-            Values::Negative => Ok(self.moved()),
-            Values::Model(whole) => self.guessed(aim, &system, whole),
+            Values::Negative => Ok(self.perturb()),
+            Values::Model(whole) => self.guess_from(aim, &system, whole),
         }
     }
 
     // The guess of a distribution, with multipliers.
-    fn guessed(
+    fn guess_from(
         &mut self,
         aim: Aim,
         system: &BasisSystem,
@@ -146,19 +146,19 @@ impl Engine {
         }
         if whole.is_extreme(aim) {
             let multipliers = extreme(self.alloc, aim, self.relaxed.bounds())?;
-            return self.tested(aim, whole, multipliers);
+            return self.test_guess(aim, whole, multipliers);
         }
         let Some(prices) = system.prices(&self.pool, aim)? else {
             return Ok(Turn::TooLarge);
         };
         match multipliers_of(self.alloc, &self.relaxed, aim, system, &prices)? {
-            Prices::Multipliers(multipliers) => self.tested(aim, whole, multipliers),
-            Prices::WrongSign(row) => Ok(self.forcing(Column::Slack(row))),
+            Prices::Multipliers(multipliers) => self.test_guess(aim, whole, multipliers),
+            Prices::WrongSign(row) => Ok(self.force(Column::Slack(row))),
         }
     }
 
     // Lets a column enter the basis in the next turn.
-    fn forcing(&mut self, column: Column) -> Turn {
+    fn force(&mut self, column: Column) -> Turn {
         if !self.may_mend() {
             return Turn::GiveUp;
         }
@@ -167,7 +167,7 @@ impl Engine {
     }
 
     // The guess, if the combination is below 1 in each world of the pool.
-    fn tested(
+    fn test_guess(
         &mut self,
         aim: Aim,
         whole: WholeModel,
@@ -178,7 +178,7 @@ impl Engine {
             return Ok(Turn::GiveUp);
         }
         match place_against(self.pool.members(), &goal) {
-            Some(place) => Ok(self.forcing(Column::Added(place))),
+            Some(place) => Ok(self.force(Column::Added(place))),
             None => Ok(Turn::Guess(Guess {
                 model: whole.model,
                 dual: multipliers.into_dual(self.alloc),

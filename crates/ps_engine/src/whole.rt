@@ -47,7 +47,7 @@ impl WholeModel {
         weight: i128,
     ) -> Result<(), NoMemory> {
         self.model.total = self.model.total.wrapping_add(weight);
-        if is_given(&member.truth, aim.given()) {
+        if is_given(&member.truth, aim.evidence()) {
             self.given = self.given.wrapping_add(weight);
         }
         if let Some(query) = aim.query() {

@@ -31,7 +31,7 @@ fn all_kept(alloc: Global, problem: &Problem) -> Result<List<bool>, NoMemory>
 }
 
 /// The explanation that these means lead to.
-fn explained<G: Guesser>(
+fn explain_with<G: Guesser>(
     alloc: Global,
     means: &Means<'_, '_>,
     guesser: &mut G,
@@ -77,5 +77,5 @@ pub fn explain<G: Guesser>(
         trials: &trials,
         limits,
     };
-    explained(alloc, &means, guesser)
+    explain_with(alloc, &means, guesser)
 }

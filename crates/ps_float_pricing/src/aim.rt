@@ -16,7 +16,7 @@ pub enum Aim {
 
 impl Aim {
     /// The node of the evidence, if there is one.
-    pub fn given(self) -> Option<u32> {
+    pub fn evidence(self) -> Option<u32> {
         match self {
             Aim::Consistent => None,
             Aim::Least(query) | Aim::Greatest(query) => query.given,

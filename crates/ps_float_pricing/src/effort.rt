@@ -20,11 +20,11 @@ impl Effort {
     pub(crate) fn conflicts(self, left: u64) -> u64
         ensures { result ≤ MOST_CONFLICTS }
     {
-        let wanted = self.wanted();
+        let wanted = self.most_conflicts();
         if left < wanted { left } else { wanted }
     }
 
-    fn wanted(self) -> u64
+    fn most_conflicts(self) -> u64
         ensures { result ≤ MOST_CONFLICTS }
     {
         match self {

@@ -72,7 +72,7 @@ impl FloatGoal {
     }
 
     /// The sum times a scale, in whole numbers.
-    pub fn scaled(&self, alloc: Global, scale: f64) -> Result<Goal, AllocError> {
+    pub fn to_goal(&self, alloc: Global, scale: f64) -> Result<Goal, AllocError> {
         let mut goal = Goal::new(alloc, self.weights.len())?;
         for (node, weight) in (0..u32::MAX).zip(&self.weights) {
             goal.add(

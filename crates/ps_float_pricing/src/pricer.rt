@@ -10,6 +10,7 @@ use crate::relaxed::Relaxed;
 use crate::scaled::Goals;
 use crate::search::{Ended, seek};
 use ps_clause::{ClauseForm, clauses_of};
+use ps_float_pricing::{FloatGoal, Goal, Member, Relaxed};
 use ps_formula::World;
 use ps_io::NoMemory;
 use ps_problem::Problem;
@@ -50,7 +51,7 @@ fn greatest(goal: &Goal, members: &[Member], least: i128) -> i128 {
 }
 
 // A quarter more.
-fn raised(value: i128) -> i128 {
+fn quarter_more(value: i128) -> i128 {
     value.wrapping_add((value / 4).max(1))
 }
 
@@ -194,7 +195,7 @@ impl FloatPricer {
                     if let Some(member) = Member::new(self.alloc, problem, world)? {
                         found.push(member)?;
                     }
-                    least = raised(greatest(&goals.plain, &found, least));
+                    least = quarter_more(greatest(&goals.plain, &found, least));
                 }
             }
         }
@@ -226,7 +227,7 @@ impl FloatPricer {
                 Ended::Spent => effort = Effort::Long,
                 Ended::Found(world) => {
                     self.keep_world(problem, gain, above, world, &mut found)?;
-                    least = raised(greatest(&goals.plain, &found, least));
+                    least = quarter_more(greatest(&goals.plain, &found, least));
                     effort = Effort::Short;
                 }
             }

@@ -114,7 +114,7 @@ impl Relaxed {
     /// Writes what the rows' prices make of a world's gain for an aim.
     pub fn write_gain(&self, aim: Aim, duals: &[f64], goal: &mut FloatGoal) {
         goal.clear();
-        goal.add_given(aim.given(), duals.first().copied().unwrap_or(0.0));
+        goal.add_given(aim.evidence(), duals.first().copied().unwrap_or(0.0));
         match aim {
             Aim::Consistent => {}
             Aim::Least(query) => goal.add(query.both, -1.0),

@@ -6,6 +6,7 @@ use crate::goal::Goal;
 use crate::limits::LARGEST_WEIGHT;
 use crate::relaxed::Relaxed;
 use crate::wishes::wishes_of;
+use ps_float_pricing::{FloatGoal, Goal, Relaxed};
 use ps_formula::Node;
 use ps_io::NoMemory;
 use std::alloc::Global;
@@ -71,7 +72,7 @@ impl Goals {
         gain: &FloatGoal,
     ) -> Result<Goals, NoMemory> {
         let scale = LARGEST_WEIGHT / gain.largest().max(1e-300);
-        let mut plain = gain.scaled(alloc, scale)?;
+        let mut plain = gain.to_goal(alloc, scale)?;
         let mut leaning = times(alloc, &plain, LEANING)?;
         lean(
             &mut leaning,

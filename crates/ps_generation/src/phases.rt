@@ -7,9 +7,9 @@ ghost use Rattle.ps_generation.specs.Counts.{MakesFewPivots, StaysBelowBound};
 ghost use Rattle.ps_generation.specs.Rounds.{IsAtRest, IsRound};
 
 use crate::end::End;
-use crate::pricing::priced;
+use crate::pricing::price_table;
 use crate::setting::Setting;
-use crate::settling::settled;
+use crate::settling::settle_phase;
 use crate::state::State;
 use ps_claims::ClaimKind;
 use ps_io::NoMemory;
@@ -37,10 +37,10 @@ fn round(
         (λ _. StaysBelowBound setting.now.subject state.old state.new) }
     ensures printed { IfOk result (λ end. IfSome end IsPrintedEnd) }
 {
-    if let Some(end) = priced(alloc, setting, kind, state, costs)? {
+    if let Some(end) = price_table(alloc, setting, kind, state, costs)? {
         return Ok(Some(end));
     }
-    settled(setting, kind, state, costs)
+    settle_phase(setting, kind, state, costs)
 }
 
 /// A phase to its end: pivots by Bland's rule, and at rest a pricing, whose world enters (L. R.
@@ -66,7 +66,7 @@ pub fn run_phase(
         (λ _. MakesFewPivots setting.now.subject state.old state.new) }
     ensures printed { IfOk result IsPrintedEnd }
 {
-    if let Some(end) = settled(setting, kind, state, costs)? {
+    if let Some(end) = settle_phase(setting, kind, state, costs)? {
         return Ok(end);
     }
     loop {

@@ -72,7 +72,7 @@ fn enter(
 }
 
 /// The pricing of a table at rest: a world enters, or there is an end.
-pub(crate) fn priced(
+pub(crate) fn price_table(
     alloc: Global,
     setting: &Setting<'_>,
     kind: ClaimKind,

@@ -142,7 +142,7 @@ impl<'p> Setting<'p> {
         let bounds = self.pricer.bounds();
         let values = eval(alloc, self.problem.formulas(), world)?;
         Ok(Column {
-            entries: column_of(alloc, &values, bounds, self.pricer.given())?,
+            entries: column_of(alloc, &values, bounds, self.pricer.evidence())?,
             cost: world_cost(phase_of(kind), self.pricer.both(), &values),
         })
     }

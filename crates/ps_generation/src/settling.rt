@@ -31,7 +31,7 @@ pub(crate) fn phase_of(kind: ClaimKind) -> Phase
 }
 
 /// Pivots by Bland's rule until an end.
-fn pivoted(kind: ClaimKind, state: &mut State, costs: &Costs) -> Result<Settled, SettleError>
+fn settle_table(kind: ClaimKind, state: &mut State, costs: &Costs) -> Result<Settled, SettleError>
     requires { IsReady (phase_of kind) costs.now state.old.table }
     ensures ran { HasPivoted kind costs.now state.old state.new }
     ensures end { IsSettledEnd (phase_of kind) costs.now state.new.table state.new.left result }
@@ -53,7 +53,7 @@ fn pivoted(kind: ClaimKind, state: &mut State, costs: &Costs) -> Result<Settled,
 }
 
 /// Pivots until an end; none where the table comes to rest.
-pub(crate) fn settled(
+pub(crate) fn settle_phase(
     setting: &Setting<'_>,
     kind: ClaimKind,
     state: &mut State,
@@ -67,7 +67,7 @@ pub(crate) fn settled(
     ensures end { IfOk result (IsPhaseSettled kind setting.now state.old state.new) }
     ensures printed { IfOk result (λ end. IfSome end IsPrintedEnd) }
 {
-    match pivoted(kind, state, costs) {
+    match settle_table(kind, state, costs) {
         Ok(Settled::AtRest) => Ok(None),
         Ok(Settled::Feasible) => Ok(Some(End::Feasible)),
         Ok(Settled::OutOfPivots) => Ok(Some(End::Open(Cause::Pivots {

@@ -17,7 +17,7 @@ use ps_valid::check_bound;
 use std::alloc::Global;
 
 // The bound that the model and the dual, which has steps, show.
-fn checked(
+fn shown_bound(
     alloc: Global,
     problem: &Problem,
     kind: ClaimKind,
@@ -66,8 +66,10 @@ impl<'p> Trials<'p> {
             None | Some(Reason::NotRefuted) => {}
             Some(reason) => return Ok(Trial::Wrong(reason)),
         }
-        match self.refuted(alloc, kind, Some(query), dual)? {
-            Trial::Shown(dual) => match checked(alloc, problem, kind, query, value, model, dual)? {
+        match self.refute(alloc, kind, Some(query), dual)? {
+            Trial::Shown(dual) => match shown_bound(
+                alloc, problem, kind, query, value, model, dual,
+            )? {
                 None => Ok(Trial::Wrong(Reason::NotRefuted)),
                 Some(side) => Ok(Trial::Shown(side)),
             },

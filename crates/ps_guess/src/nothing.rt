@@ -37,7 +37,7 @@ impl<'p> Trials<'p> {
             None | Some(Reason::NotRefuted) => {}
             Some(reason) => return Ok(Trial::Wrong(reason)),
         }
-        match self.refuted(alloc, ClaimKind::Nothing, query, dual)? {
+        match self.refute(alloc, ClaimKind::Nothing, query, dual)? {
             Trial::Shown(shown) => match check_dual(alloc, problem, given, &shown)? {
                 Some(reason) => Ok(Trial::Wrong(reason)),
                 None => Ok(Trial::Shown(shown)),

@@ -125,7 +125,7 @@ impl<'p> Trials<'p> {
 
     /// The dual with the steps of a refutation, where its combination is below 1 in each world: one
     /// search looks for a world in which it isn't.
-    pub(crate) fn refuted(
+    pub(crate) fn refute(
         &self,
         alloc: Global,
         kind: ClaimKind,

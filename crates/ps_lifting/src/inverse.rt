@@ -28,7 +28,7 @@ fn column_of(alloc: Global, rows: &[Residues], place: usize) -> Result<Residues,
 
 impl Inverse {
     /// The inverse of the transposed matrix, whose rows are this one's columns.
-    pub fn transposed(&self, alloc: Global) -> Result<Inverse, NoMemory> {
+    pub fn transpose(&self, alloc: Global) -> Result<Inverse, NoMemory> {
         let mut found = Vec::new(alloc);
         for place in 0..self.rows.len() {
             found.push(column_of(alloc, self.rows.as_slice(), place)?)?;
@@ -72,7 +72,7 @@ fn pivot_place(table: &[Residues], column: usize) -> Option<usize>
 }
 
 // The row divided by its entry, with the entry's inverse in the entry's place.
-fn scaled(alloc: Global, row: &[Residue], column: usize) -> Result<Residues, NoMemory> {
+fn pivot_row(alloc: Global, row: &[Residue], column: usize) -> Result<Residues, NoMemory> {
     let mut found = Vec::new(alloc);
     if column >= row.len() {
         return Ok(found);
@@ -109,7 +109,7 @@ fn take_away(row: &mut [Residue], column: usize, pivot: &[Residue]) {
 }
 
 // Takes the pivot row away from all rows but the column's own, which it takes the place of.
-fn pivoted(table: &mut [Residues], column: usize, pivot: Residues) {
+fn eliminate(table: &mut [Residues], column: usize, pivot: Residues) {
     for i in 0..table.len() {
         if i != column {
             take_away(&mut table[i], column, pivot.as_slice());
@@ -154,8 +154,8 @@ pub fn inverse_of(alloc: Global, rows: &[List<i64>]) -> Result<Option<Inverse>, 
         };
         table.swap(column, place);
         swaps.push(place)?;
-        let pivot = scaled(alloc, table[column].as_slice(), column)?;
-        pivoted(table.as_mut_slice(), column, pivot);
+        let pivot = pivot_row(alloc, table[column].as_slice(), column)?;
+        eliminate(table.as_mut_slice(), column, pivot);
     }
     swap_back(table.as_mut_slice(), swaps.as_slice());
     Ok(Some(Inverse { rows: table }))

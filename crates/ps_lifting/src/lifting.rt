@@ -90,7 +90,7 @@ fn numbers_of(
 }
 
 /// The solution of a system modulo the fourth power of the prime.
-pub fn lifted(
+pub fn lift(
     alloc: Global,
     rows: &[List<i64>],
     inverse: &Inverse,

@@ -18,7 +18,7 @@ struct Rest {
 // The greatest power of two by which the number stays below another that is not below it.
 fn shift(a: Wide, b: Wide) -> u32 {
     let by = a.bits().saturating_sub(b.bits());
-    if by > 0 && a.is_below(b.shifted(by)) {
+    if by > 0 && a.is_below(b.shift_left(by)) {
         by - 1
     } else {
         by
@@ -32,7 +32,7 @@ fn taken(a: Rest, b: Rest) -> Option<Rest> {
         return None;
     }
     Some(Rest {
-        rest: a.rest.minus(b.rest.shifted(by)),
+        rest: a.rest.minus(b.rest.shift_left(by)),
         times: a.times.wrapping_add(b.times << by),
     })
 }

@@ -4,7 +4,7 @@ ghost use Rattle.ps_lifting.specs.Systems.{Solves, AreSmall};
 
 use crate::checking::solves;
 use crate::inverse::Inverse;
-use crate::lifting::lifted;
+use crate::lifting::lift;
 use crate::number::{LIMIT, Number};
 use crate::reconstruction::denominator_of;
 use crate::solution::Solution;
@@ -63,7 +63,7 @@ fn numerators_over(
 }
 
 // A solution that was tested.
-fn tested(
+fn verified_solution(
     rows: &[List<i64>],
     right: &[i64],
     numerators: List<i128>,
@@ -98,12 +98,12 @@ pub fn solve(
     ensures small { IfOk result (λ o. IfSome o (λ s. AreSmall s.numerators)) }
     ensures denominator { IfOk result (λ o. IfSome o (λ s. s.denominator ≤ℤ pos (2 ^ 90))) }
 {
-    let numbers = lifted(alloc, rows, inverse, right)?;
+    let numbers = lift(alloc, rows, inverse, right)?;
     let Some(denominator) = common_denominator(numbers.as_slice()) else {
         return Ok(None);
     };
     match numerators_over(alloc, numbers.as_slice(), denominator)? {
-        Some(numerators) => Ok(tested(rows, right, numerators, denominator as i128)),
+        Some(numerators) => Ok(verified_solution(rows, right, numerators, denominator as i128)),
         None => Ok(None),
     }
 }

@@ -117,7 +117,7 @@ fn solution_of_columns(alloc: Global) -> Result<Option<Solution>, NoMemory> {
     let columns = rows_of(alloc, &[&[2, 0], &[1, 3]])?;
     match inverse_of(alloc, rows.as_slice())? {
         Some(inverse) => {
-            let inverse = inverse.transposed(alloc)?;
+            let inverse = inverse.transpose(alloc)?;
             solve(alloc, columns.as_slice(), &inverse, &[1, 1])
         }
         None => Ok(None),

@@ -53,7 +53,7 @@ impl Wide {
     }
 
     /// The number times a power of two, without what is carried out.
-    pub fn shifted(self, by: u32) -> Wide {
+    pub fn shift_left(self, by: u32) -> Wide {
         if by == 0 {
             return self;
         }
@@ -74,7 +74,7 @@ impl Wide {
 
     /// The number times the prime, and a digit.
     fn next(self, digit: u64) -> Wide {
-        self.shifted(61).minus(self).plus(Wide::of(digit))
+        self.shift_left(61).minus(self).plus(Wide::of(digit))
     }
 
     /// The number of these digits.

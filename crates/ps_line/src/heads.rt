@@ -81,7 +81,7 @@ pub(crate) fn pivot(words: &mut Words<'_>) -> Result<LineItem, LineFault>
 }
 
 /// The words behind `c`.
-pub(crate) fn priced(alloc: Global, words: &mut Words<'_>) -> Result<LineItem, LineFault>
+pub(crate) fn priced_world(alloc: Global, words: &mut Words<'_>) -> Result<LineItem, LineFault>
     ensures { IsItemRead AnEvent (codes "c" ∷ words_in words.old) result }
 {
     let world = world(alloc, words.next());

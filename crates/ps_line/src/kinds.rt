@@ -123,7 +123,7 @@ fn numbered_world(n: u128) -> Result<Col, LineFault>
 }
 
 /// A column, or `r` for the right side.
-pub(crate) fn shown(word: &[u8]) -> Result<TableCol, LineFault>
+pub(crate) fn table_column(word: &[u8]) -> Result<TableCol, LineFault>
     ensures { IsWordRead shown_word (λ c. ⊤) IsShownWithin word.now result }
 {
     if is(word, b"r") {

@@ -20,4 +20,4 @@ mod words;
 
 pub use error::LineError;
 pub use line::read_line;
-pub use ratio::reduced;
+pub use ratio::fraction_of;

@@ -8,7 +8,7 @@ ghost use Rattle.ps_line.specs.Read.{IsItemRead};
 ghost use Rattle.ps_answer.specs.Words.{side_letters};
 
 use crate::both::both;
-use crate::heads::{pivot, priced};
+use crate::heads::{pivot, priced_world};
 use crate::kinds::{count, query_number};
 use crate::line_fault::LineFault;
 use crate::ratio::value;
@@ -119,7 +119,7 @@ pub(crate) fn event(
     if is(word, b"p") {
         return pivot(words);
     }
-    priced(alloc, words)
+    priced_world(alloc, words)
 }
 
 /// The words of the query that is due, or of the end.
@@ -128,12 +128,12 @@ pub(crate) fn query(word: &[u8], due: u64, words: &mut Words<'_>) -> Result<Line
     ensures { IsItemRead (part.AQuery due) (word.now ∷ words_in words.old) result }
 {
     if is(word, b"query") {
-        return numbered(due, words);
+        return numbered_query(due, words);
     }
     end(words)
 }
 
-fn numbered(due: u64, words: &mut Words<'_>) -> Result<LineItem, LineFault>
+fn numbered_query(due: u64, words: &mut Words<'_>) -> Result<LineItem, LineFault>
     ensures { IsItemRead (part.AQuery due) (codes "query" ∷ words_in words.old) result }
 {
     let number = query_number(words.next(), due);

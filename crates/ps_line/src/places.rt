@@ -4,7 +4,7 @@ ghost use Rattle.ps_line.specs.Cursor.{words_in};
 ghost use Rattle.ps_line.specs.Places.{IsPlaceRead};
 
 use crate::both::both;
-use crate::kinds::{column, row, shown};
+use crate::kinds::{column, row, table_column};
 use crate::line_fault::LineFault;
 use crate::words::Words;
 use ps_table::Place;
@@ -21,7 +21,7 @@ pub(crate) fn ratio(words: &mut Words<'_>) -> Result<Place, LineFault>
 pub(crate) fn scale(words: &mut Words<'_>) -> Result<Place, LineFault>
     ensures { IsPlaceRead (codes "scale" ∷ words_in words.old) (words_in words.new) result }
 {
-    let col = shown(words.next())?;
+    let col = table_column(words.next())?;
     Ok(Place::Scale { col })
 }
 
@@ -30,7 +30,7 @@ pub(crate) fn times(words: &mut Words<'_>) -> Result<Place, LineFault>
     ensures { IsPlaceRead (codes "times" ∷ words_in words.old) (words_in words.new) result }
 {
     let row = row(words.next());
-    let col = shown(words.next());
+    let col = table_column(words.next());
     let (row, col) = both(row, col)?;
     Ok(Place::Times { row, col })
 }
@@ -40,7 +40,7 @@ pub(crate) fn minus(words: &mut Words<'_>) -> Result<Place, LineFault>
     ensures { IsPlaceRead (codes "minus" ∷ words_in words.old) (words_in words.new) result }
 {
     let row = row(words.next());
-    let col = shown(words.next());
+    let col = table_column(words.next());
     let (row, col) = both(row, col)?;
     Ok(Place::Minus { row, col })
 }
@@ -64,7 +64,7 @@ pub(crate) fn whole(words: &mut Words<'_>) -> Result<Place, LineFault>
 }
 
 /// The row behind `scaled`.
-pub(crate) fn scaled(words: &mut Words<'_>) -> Result<Place, LineFault>
+pub(crate) fn scaled_row(words: &mut Words<'_>) -> Result<Place, LineFault>
     ensures { IsPlaceRead (codes "scaled" ∷ words_in words.old) (words_in words.new) result }
 {
     let row = row(words.next())?;
@@ -80,7 +80,7 @@ pub(crate) fn weight(words: &mut Words<'_>) -> Result<Place, LineFault>
 }
 
 /// The row behind `weighed`.
-pub(crate) fn weighed(words: &mut Words<'_>) -> Result<Place, LineFault>
+pub(crate) fn weighed_row(words: &mut Words<'_>) -> Result<Place, LineFault>
     ensures { IsPlaceRead (codes "weighed" ∷ words_in words.old) (words_in words.new) result }
 {
     let row = row(words.next())?;

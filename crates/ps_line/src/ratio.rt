@@ -83,12 +83,12 @@ fn is_lowest(over: &i128, under: &u128) -> bool
     requires positive { 1 ≤ under.now }
     ensures { IsTrue result ↔ IsGcd (unsigned_abs over.now) under.now 1 }
 {
-    let fraction = reduced(over, under);
+    let fraction = fraction_of(over, under);
     has_numbers(&fraction, over, under)
 }
 
 /// The fraction of two numbers.
-pub fn reduced(over: &i128, under: &u128) -> Fraction
+pub fn fraction_of(over: &i128, under: &u128) -> Fraction
     requires over { unsigned_abs over.now < 2 ^ 127 }
     requires under { under.now < 2 ^ 127 }
     requires positive { 1 ≤ under.now }

@@ -9,7 +9,8 @@ use crate::both::both;
 use crate::kinds::op;
 use crate::line_fault::LineFault;
 use crate::places::{
-    cost, minus, new_plus, new_times, ratio, scale, scaled, times, total, weighed, weight, whole,
+    cost, minus, new_plus, new_times, ratio, scale, scaled_row, times, total, weighed_row, weight,
+    whole,
 };
 use crate::ratio::operand;
 use crate::words::{Words, is};
@@ -72,13 +73,13 @@ fn place_of_value(name: &[u8], words: &mut Words<'_>) -> Result<Place, LineFault
         return whole(words);
     }
     if is(name, b"scaled") {
-        return scaled(words);
+        return scaled_row(words);
     }
     if is(name, b"weight") {
         return weight(words);
     }
     if is(name, b"weighed") {
-        return weighed(words);
+        return weighed_row(words);
     }
     if is(name, b"total") {
         return total(words);

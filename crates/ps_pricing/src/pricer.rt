@@ -91,7 +91,7 @@ impl<'p> Pricer<'p> {
     }
 
     /// The node of the query's evidence; none without a query, or where nothing is given.
-    pub fn given(&self) -> Option<u32>
+    pub fn evidence(&self) -> Option<u32>
         ensures { result ≡ given_in self.now.subject.query }
     {
         match self.query {
@@ -119,7 +119,7 @@ impl<'p> Pricer<'p> {
         ensures within { IfOk result IsSoftWithin }
     {
         let bounds = self.bounds();
-        let (given, both) = (self.given(), self.both());
+        let (given, both) = (self.evidence(), self.both());
         let Combination { terms, base } = combination_of(alloc, bounds, kind, given, both, dual)?;
         Ok(Wcnf {
             hard: self.form.copy(alloc)?,
@@ -155,7 +155,7 @@ impl<'p> Pricer<'p> {
         let wcnf = self.wcnf(alloc, kind, &dual)?;
         let Sought { priced, steps } = seek(alloc, &wcnf, self.conflicts)?;
         match priced {
-            Priced::NoneAbove { last: _ } => Ok(Pricing::Refuted(refuted(dual, steps))),
+            Priced::NoneAbove { last: _ } => Ok(Pricing::Refuted(with_steps(dual, steps))),
             Priced::Spent { learned: _ } => {
                 let goal = from_weights(alloc, wcnf.soft.as_slice(), 1 - wcnf.base)?;
                 // Called for its clauses: each constraint is within the limits of a goal.
@@ -173,7 +173,7 @@ impl<'p> Pricer<'p> {
 }
 
 /// A dual with the steps of a refutation.
-fn refuted(dual: Dual, steps: Steps) -> Dual
+fn with_steps(dual: Dual, steps: Steps) -> Dual
     ensures { result ≡ record dual { steps = steps } }
 {
     Dual {

@@ -13,7 +13,7 @@ use crate::lines::Lines;
 use crate::models::{dual, model, steps};
 use ps_answer::{Cause, LineItem, Part, Ratio, ReportError, Verdict};
 use ps_frac::{Fraction, Op};
-use ps_line::reduced;
+use ps_line::fraction_of;
 use ps_pb::Constraint;
 use ps_table::{Place, WideAt};
 
@@ -88,7 +88,7 @@ pub(crate) fn fraction(ratio: &Ratio) -> Fraction
     requires within { IsRatioWithin MOST_OPERAND ratio.now }
     ensures { ratio_of result ≡ ratio.now }
 {
-    reduced(&ratio.over, &ratio.under)
+    fraction_of(&ratio.over, &ratio.under)
 }
 
 /// What is answered to a problem's sentences.

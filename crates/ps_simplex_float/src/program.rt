@@ -81,7 +81,7 @@ impl Program {
     }
 
     /// How many columns are added.
-    pub(crate) fn added(&self) -> usize {
+    pub(crate) fn columns(&self) -> usize {
         self.added.len()
     }
 

@@ -19,7 +19,7 @@ use ps_answer::{LineItem, Multipliers, Ratio};
 use ps_claims::{Claim, Reason};
 use ps_formula::World;
 use ps_io::NoMemory;
-use ps_line::reduced;
+use ps_line::fraction_of;
 use ps_pb::Step;
 use ps_pbcheck::Checker;
 use ps_problem::Problem;
@@ -198,7 +198,7 @@ impl Progress {
         ensures { HasTakenSide upper value.now self.old self.new }
     {
         let number = self.parts;
-        let value = reduced(&value.over, &value.under);
+        let value = fraction_of(&value.over, &value.under);
         self.begin(Subject::OfSide {
             number,
             upper,

@@ -163,7 +163,7 @@ fn check_parts(
 }
 
 // The queries that have a part.
-fn asked<'p>(problem: &'p Problem, verdict: &Verdict) -> &'p [Query]
+fn queries_asked<'p>(problem: &'p Problem, verdict: &Verdict) -> &'p [Query]
     ensures queries { result.now ≡ asked_under (verdict_of verdict.now) problem.now.queries }
     ensures few { length result.now ≤ MOST_QUERIES }
     ensures sound { All (λ q. HasNodes problem.now.nodes q.formula q.given q.both) result.now }
@@ -185,7 +185,7 @@ pub fn check(alloc: Global, problem: &Problem, answer: &Answer) -> Result<Accept
 {
     // Called for its clauses: the problem is within the limits, its numbers in range.
     let _sound = problem.bound_list();
-    let queries = asked(problem, &answer.verdict);
+    let queries = queries_asked(problem, &answer.verdict);
     let parts = answer.parts.as_slice();
     if parts.len() != queries.len() {
         return Err(CheckError::Refused(Refusal {

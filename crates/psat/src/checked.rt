@@ -23,8 +23,8 @@ fn message_of(alloc: Global, found: Checked) -> Result<Message, NoMemory>
     ensures status { IfOk result (λ r. EndsCheck r.status) }
 {
     match found {
-        Checked::Accepted(accepted) => Ok(Message::accepted(alloc, accepted)?),
-        Checked::Refused(refusal) => Ok(Message::refused(alloc, refusal)?),
+        Checked::Accepted(accepted) => Ok(Message::accepted_answer(alloc, accepted)?),
+        Checked::Refused(refusal) => Ok(Message::refused_claim(alloc, refusal)?),
         Checked::RefusedLine { kind, line } => Ok(Message::refused_line(alloc, kind, line)?),
         Checked::Unreadable { kind, line, column } => {
             Ok(Message::unreadable(alloc, kind, line, column)?)
@@ -34,7 +34,11 @@ fn message_of(alloc: Global, found: Checked) -> Result<Message, NoMemory>
 
 /// The reply to an input that is judged as it comes, and of which so many bytes are read at most, or
 /// why there is none.
-pub fn checked<I: Source>(alloc: Global, limit: u64, source: &mut I) -> Result<Reply, ReplyError>
+pub fn reply_to_check<I: Source>(
+    alloc: Global,
+    limit: u64,
+    source: &mut I,
+) -> Result<Reply, ReplyError>
     ensures due { IfOk result (λ r.
         IsDueFor (Command.Check limit) (I.left source.old) (output_of r)) }
     ensures took { Took limit (status_of result) (I.left source.old) (I.left source.new) }

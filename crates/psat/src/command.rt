@@ -131,7 +131,7 @@ fn is(word: &String, text: &str) -> bool
 }
 
 // The number that a word spells, if it spells one below 2^64.
-fn parsed(word: &String) -> Option<u64>
+fn parse_number(word: &String) -> Option<u64>
     ensures { (n : ℕ) → n < 2 ^ 64 → string_bytes word.now ≡ decimal n → result ≡ Some n }
 {
     word.as_str().parse::<u64>().ok()
@@ -150,7 +150,7 @@ fn number(word: &String, most: u64) -> Option<u64>
     ensures within { IfSome result (λ n. n ≤ most) }
     ensures none { IfNone result ((n : ℕ) → n ≤ most → ¬ (string_bytes word.now ≡ decimal n)) }
 {
-    let n = parsed(word)?;
+    let n = parse_number(word)?;
     if most < n {
         return None;
     }

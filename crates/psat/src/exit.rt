@@ -39,7 +39,7 @@ impl From<AllocError> for NoWords {
 }
 
 // All words, in order.
-fn collected(alloc: Global, all: Args) -> Result<Vec<String>, AllocError>
+fn collect(alloc: Global, all: Args) -> Result<Vec<String>, AllocError>
     ensures { IfOk result (λ words. words.items ≡ into_iter_items all) }
 {
     let mut words = Vec::new(alloc);
@@ -95,7 +95,7 @@ pub fn run_program<I: Source, O: Sink>(
     ensures write_faults { IfOk result (CountsWrites (O.faults sink.old) (O.faults sink.new)) }
 {
     let all = match all {
-        Ok(all) => collected(alloc, all)?,
+        Ok(all) => collect(alloc, all)?,
         Err(error) => return Err(NoWords::Refused(error.kind())),
     };
     Ok(run(alloc, behind_name(&all), source, sink))

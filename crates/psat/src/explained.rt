@@ -31,7 +31,7 @@ pub fn status_explained(explained: &Explained) -> Status
 
 /// The reply to all bytes of a problem that is to be explained. Where `enough` is true, each run
 /// makes as many pivots as are enough for the problem, in place of those of the limits.
-pub fn explained(
+pub fn reply_to_explain(
     alloc: Global,
     bytes: &[u8],
     limits: Limits,

@@ -42,7 +42,7 @@ impl MadeProblem {
 }
 
 // The counts of the check, which accepts the answer, since it is valid.
-fn accepted(
+fn accept(
     alloc: Global,
     problem: &Problem,
     answer: &Answer,
@@ -71,7 +71,7 @@ fn summed_up(
     ensures { IfOk result (IsMadeOf text.items limits problem.now) }
 {
     let answer = solve(alloc, problem, limits)?;
-    let accepted = accepted(alloc, problem, &answer, limits)?;
+    let accepted = accept(alloc, problem, &answer, limits)?;
     let summary = summary_text(alloc, &answer, accepted)?;
     let mut text = text;
     text.extend_from_slice(summary.as_bytes())?;
@@ -89,7 +89,7 @@ fn summed_up(
 }
 
 /// The reply with the chain of so many links, whose problem is answered within limits.
-pub fn made(alloc: Global, links: u32, limits: Limits) -> Result<Reply, NoMemory>
+pub fn reply_to_make(alloc: Global, links: u32, limits: Limits) -> Result<Reply, NoMemory>
     requires limits { AreLimitsOfMake links limits }
     ensures due { IfOk result (λ r. DueMade links limits (output_of r)) }
     ensures status { IfOk result (λ r. EndsMake (reply_status r)) }

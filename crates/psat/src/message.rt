@@ -73,7 +73,7 @@ impl Message {
     }
 
     /// The message for an answer with a claim that isn't valid.
-    pub fn refused(alloc: Global, refusal: Refusal) -> Result<Message, AllocError>
+    pub fn refused_claim(alloc: Global, refusal: Refusal) -> Result<Message, AllocError>
         ensures { Says result (refused refusal.claim refusal.reason) }
     {
         let claim = claim_text(alloc, refusal.claim)?;
@@ -83,7 +83,7 @@ impl Message {
     }
 
     /// The message for an answer that is valid.
-    pub fn accepted(alloc: Global, answer: Accepted) -> Result<Message, AllocError>
+    pub fn accepted_answer(alloc: Global, answer: Accepted) -> Result<Message, AllocError>
         ensures { Says result (accepted answer.claims answer.unfinished) }
     {
         let claims = answer.claims;

@@ -6,14 +6,14 @@ ghost use Rattle.psat.specs.Replies.{IsShortReply, output_of, reply_status, stat
 ghost use Rattle.psat.specs.Runs.{CountsReads, CountsWrites, HasAnswered, HasRead, HasTaken, Ran, Took};
 ghost use Rattle.psat.specs.Statuses.{AnswersUsage, HasText, IsAnswerOf, IsSilent};
 
-use crate::checked::checked;
+use crate::checked::reply_to_check;
 use crate::command::{Command, MOST_PROBLEM, parse_words};
-use crate::explained::explained;
-use crate::made::made;
+use crate::explained::reply_to_explain;
+use crate::made::reply_to_make;
 use crate::message::Message;
 use crate::reply::Reply;
 use crate::reply_error::ReplyError;
-use crate::solved::solved;
+use crate::solved::reply_to_solve;
 use crate::status::Status;
 use crate::writing::write_reply;
 use ps_io::{NoMemory, ReadAllError, Sink, Source, read_all};
@@ -30,10 +30,10 @@ fn reply_to_bytes(alloc: Global, command: Command, bytes: &[u8]) -> Result<Reply
     ensures short { IfOk result IsShortReply }
 {
     match command {
-        Command::Solve { limits, enough } => solved(alloc, bytes, limits, enough),
-        Command::Explain { limits, enough } => explained(alloc, bytes, limits, enough),
+        Command::Solve { limits, enough } => reply_to_solve(alloc, bytes, limits, enough),
+        Command::Explain { limits, enough } => reply_to_explain(alloc, bytes, limits, enough),
         Command::Check { .. } => unreachable!(),
-        Command::Make { links, limits } => made(alloc, links, limits),
+        Command::Make { links, limits } => reply_to_make(alloc, links, limits),
     }
 }
 
@@ -80,7 +80,7 @@ fn reply_to_command<I: Source>(
         Command::Solve { .. } | Command::Explain { .. } => {
             reply_to_input(alloc, command, MOST_PROBLEM, source)
         }
-        Command::Check { bytes } => checked(alloc, bytes, source),
+        Command::Check { bytes } => reply_to_check(alloc, bytes, source),
         Command::Make { .. } => Ok(reply_to_bytes(alloc, command, &[])?),
     }
 }

@@ -46,7 +46,12 @@ pub fn limits_for(problem: &Problem, limits: Limits, enough: bool) -> Limits
 
 /// The reply to all bytes of a problem. Where `enough` is true, each run makes as many pivots as
 /// are enough for the problem, in place of those of the limits.
-pub fn solved(alloc: Global, bytes: &[u8], limits: Limits, enough: bool) -> Result<Reply, NoMemory>
+pub fn reply_to_solve(
+    alloc: Global,
+    bytes: &[u8],
+    limits: Limits,
+    enough: bool,
+) -> Result<Reply, NoMemory>
     requires limits { AreLimits limits }
     requires few { length bytes.now ≤ MOST_PROBLEM }
     ensures due { IfOk result (λ r. DueAnswered limits enough bytes.now (output_of r)) }

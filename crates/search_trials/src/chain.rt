@@ -71,7 +71,7 @@ fn problem(alloc: Global, bounds: u16) -> Result<Wcnf, NoMemory>
 }
 
 // What the greatest value after so many bounds is.
-fn priced(alloc: Global, bounds: u16) -> Result<Option<Priced>, SearchError>
+fn best_after(alloc: Global, bounds: u16) -> Result<Option<Priced>, SearchError>
     requires { bounds ≤ LINKS + 1 }
 {
     let wcnf = problem(alloc, bounds)?;
@@ -87,11 +87,11 @@ fn priced(alloc: Global, bounds: u16) -> Result<Option<Priced>, SearchError>
 pub fn chain_pricings(alloc: Global) -> Result<u32, SearchError> {
     let mut right = 0u32;
     for bounds in 0..LINKS + 1 {
-        if let Some(Priced::Best { value: 100, .. }) = priced(alloc, bounds)? {
+        if let Some(Priced::Best { value: 100, .. }) = best_after(alloc, bounds)? {
             right = right.wrapping_add(1);
         }
     }
-    if let Some(Priced::NoneAbove { last: _ }) = priced(alloc, LINKS + 1)? {
+    if let Some(Priced::NoneAbove { last: _ }) = best_after(alloc, LINKS + 1)? {
         right = right.wrapping_add(1);
     }
     Ok(right)

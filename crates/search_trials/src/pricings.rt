@@ -114,12 +114,12 @@ fn in_lines(alloc: Global, base: i128) -> Result<(Option<Priced>, MemSink), Sear
     if !wcnf.is_narrow() || !wcnf.is_soft_within() || !sink.bytes().is_empty() {
         return Ok((None, sink));
     }
-    let priced = written(alloc, &wcnf, &mut sink)?;
+    let priced = best_in_lines(alloc, &wcnf, &mut sink)?;
     Ok((Some(priced), sink))
 }
 
 // The answer over a log of lines.
-fn written(alloc: Global, wcnf: &Wcnf, sink: &mut MemSink) -> Result<Priced, SearchError>
+fn best_in_lines(alloc: Global, wcnf: &Wcnf, sink: &mut MemSink) -> Result<Priced, SearchError>
     requires empty { sink.old.written ≡ [] }
     requires narrow { IsNarrow wcnf.now }
     requires soft { IsSoftWithin wcnf.now }

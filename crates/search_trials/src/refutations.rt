@@ -38,7 +38,7 @@ pub fn is_within(variables: u32, goal: &Constraint) -> bool
 }
 
 /// Searches a form, and checks the refutation where there is one. The second is the number of steps.
-pub fn searched(alloc: Global, form: ClauseForm) -> Result<(Ended, u64), SearchError> {
+pub fn search_and_check(alloc: Global, form: ClauseForm) -> Result<(Ended, u64), SearchError> {
     let goal = no_goal(alloc)?;
     if !is_within(form.variables(), &goal) {
         return Ok((Ended::Untaken, 0));

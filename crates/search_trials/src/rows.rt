@@ -98,12 +98,12 @@ fn in_lines(
     {
         return Ok((None, sink));
     }
-    let outcome = written(alloc, &form, &goal, conflicts, &mut sink);
+    let outcome = search_in_lines(alloc, &form, &goal, conflicts, &mut sink);
     Ok((Some(outcome), sink))
 }
 
 // The outcome over a log of lines.
-fn written(
+fn search_in_lines(
     alloc: Global,
     form: &ClauseForm,
     goal: &Constraint,

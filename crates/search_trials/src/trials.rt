@@ -7,7 +7,7 @@ use crate::pricings::{
     is_3, is_1500_by_two_searches, is_none_above, is_written_3, is_written_none_above,
 };
 use crate::problems::{Greatest, random_problem};
-use crate::refutations::{Ended, searched};
+use crate::refutations::{Ended, search_and_check};
 use crate::rows::{
     is_fault, is_refuted_at_1, is_refuted_in_lines, is_spent_at_0, is_spent_in_lines,
 };
@@ -48,7 +48,7 @@ pub fn sixty_variables(alloc: Global, forms: u32) -> Result<(u32, u64), SearchEr
     let mut steps = 0u64;
     for _ in 0..forms {
         let form = three_clauses(alloc, &mut draw, 60, 258)?;
-        let (ended, count) = searched(alloc, form)?;
+        let (ended, count) = search_and_check(alloc, form)?;
         decided = decided.wrapping_add(one(ended != Ended::Untaken));
         steps = steps.wrapping_add(count);
     }
@@ -63,7 +63,7 @@ pub fn refutations(alloc: Global, wanted: u32) -> Result<u32, SearchError> {
     for _ in 0..wanted as u64 * 10 {
         if taken < wanted {
             let form = three_clauses(alloc, &mut draw, 20, 110)?;
-            let (ended, _) = searched(alloc, form)?;
+            let (ended, _) = search_and_check(alloc, form)?;
             if ended == Ended::Untaken {
                 return Ok(taken);
             }
@@ -75,7 +75,7 @@ pub fn refutations(alloc: Global, wanted: u32) -> Result<u32, SearchError> {
 
 /// Whether six pigeons in five holes are refuted, and the number of steps.
 pub fn six_pigeons(alloc: Global) -> Result<(bool, u64), SearchError> {
-    let (ended, steps) = searched(alloc, pigeons(alloc)?)?;
+    let (ended, steps) = search_and_check(alloc, pigeons(alloc)?)?;
     Ok((ended == Ended::Taken, steps))
 }
 

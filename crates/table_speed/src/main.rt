@@ -51,7 +51,7 @@ fn entries(alloc: Global, draw: &mut Draw) -> anyhow::Result<Vec<i64>> {
 }
 
 /// Adds the column of a world, where the entries are as many as the rows.
-fn added(table: &mut Table, entries: &[i64]) -> bool {
+fn add_world(table: &mut Table, entries: &[i64]) -> bool {
     if entries.len() != table.rows() as usize || table.worlds() >= WORLDS {
         return false;
     }
@@ -59,7 +59,7 @@ fn added(table: &mut Table, entries: &[i64]) -> bool {
 }
 
 /// Makes a column basic in a row, where it is there and its entry isn't 0.
-fn pivoted(table: &mut Table, row: u32, col: Col) -> bool {
+fn pivot(table: &mut Table, row: u32, col: Col) -> bool {
     let inside = match col {
         Col::Home(home) => home < table.rows(),
         Col::World(world) => 0 < world && world <= table.worlds(),
@@ -71,7 +71,7 @@ fn pivoted(table: &mut Table, row: u32, col: Col) -> bool {
 }
 
 /// What is kept of a sequence of entries.
-fn mixed(sum: u64, entry: &Fraction) -> u64 {
+fn mix(sum: u64, entry: &Fraction) -> u64 {
     let over = entry.numerator().unsigned_abs() & 0xFFFF_FFFF;
     let under = entry.denominator().unsigned_abs() & 0xFFFF_FFFF;
     let sign = if entry.is_negative() { 7 } else { 3 };
@@ -86,12 +86,12 @@ fn row_sum(table: &Table, row: u32, before: u64) -> u64 {
     if row >= table.rows() {
         return before;
     }
-    let mut sum = mixed(before, &table.value(row));
+    let mut sum = mix(before, &table.value(row));
     for home in 0..table.rows() {
-        sum = mixed(sum, &table.entry(row, Col::Home(home)));
+        sum = mix(sum, &table.entry(row, Col::Home(home)));
     }
     for world in 0..table.worlds() {
-        sum = mixed(sum, &table.entry(row, Col::World(world + 1)));
+        sum = mix(sum, &table.entry(row, Col::World(world + 1)));
     }
     sum
 }
@@ -109,7 +109,7 @@ fn checksum(table: &Table) -> u64 {
 fn pivots(table: &mut Table, count: u64) -> u64 {
     let mut made = 0u64;
     for row in 1..4 {
-        if pivoted(table, row, Col::World(row)) {
+        if pivot(table, row, Col::World(row)) {
             made = made.wrapping_add(1);
         }
     }
@@ -119,7 +119,7 @@ fn pivots(table: &mut Table, count: u64) -> u64 {
         } else {
             Col::Home(4)
         };
-        if pivoted(table, 4, col) {
+        if pivot(table, 4, col) {
             made = made.wrapping_add(1);
         }
     }
@@ -151,7 +151,7 @@ fn table(alloc: Global) -> anyhow::Result<Option<Table>> {
     let mut table = Table::new(alloc, &homes)?;
     for _ in 0..WORLDS {
         let entries = entries(alloc, &mut draw)?;
-        if !added(&mut table, &entries) {
+        if !add_world(&mut table, &entries) {
             return Ok(None);
         }
     }

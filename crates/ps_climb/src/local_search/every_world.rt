@@ -61,7 +61,7 @@ impl LocalSearch {
         self.begin(goal, further);
         let number = self.greatest();
         write_world(&mut self.best, number);
-        self.found(goal, further)
+        self.best_world(goal, further)
     }
 
     /// The number of the world of the greatest value.

@@ -12,7 +12,7 @@ impl Simplex {
 
     /// How many columns are added.
     pub fn columns(&self) -> usize {
-        self.program.added()
+        self.program.columns()
     }
 
     /// The entries of an added column, one for each row. None where there is no such column.

@@ -61,7 +61,7 @@ impl Simplex {
         self.read(column);
         if !self.program.is_phase_one() {
             if let Some(row) = artificial_row(self.basis.columns(), &self.direction) {
-                return self.made(row, column);
+                return self.make_step(row, column);
             }
         }
         let Some(row) = leaving_row(self.basis.columns(), self.basis.values(), &self.direction)
@@ -74,7 +74,7 @@ impl Simplex {
         } else {
             0
         };
-        let step = self.made(row, column);
+        let step = self.make_step(row, column);
         if self.degenerate > MOST_DEGENERATE {
             self.perturb();
         }
@@ -82,7 +82,7 @@ impl Simplex {
     }
 
     /// Makes the column that was read basic in a row.
-    fn made(&mut self, row: usize, column: Column) -> Step
+    fn make_step(&mut self, row: usize, column: Column) -> Step
         requires row_in { row < self.old.basis.inverse.rows }
         requires tall { row < vec_len self.old.direction }
     {

@@ -8,10 +8,10 @@ use Rattle.ps_generation.proofs.phases.run_phase.Goals as goal
 
 pub loop-end-init : goal.loop-end-init
 loop-end-init c =
-    let rested : HasRested c.args.kind c.args.setting.now c.args.state.now c.settled.new.state = search rules in
-    let left = c.settled.ensures.left in
-    let pool = ap (λ ws. length ws) c.settled.ensures.pool in
-    record { come = rested.come; phase = c.settled.ensures.phase; rests = rested.rests; room = omega (arith, left, pool); below = first_few c.args.setting.now.subject c.args.state.now c.settled.new.state c.settled.ensures.pool c.settled.ensures.fewer }
+    let rested : HasRested c.args.kind c.args.setting.now c.args.state.now c.settle_phase.new.state = search rules in
+    let left = c.settle_phase.ensures.left in
+    let pool = ap (λ ws. length ws) c.settle_phase.ensures.pool in
+    record { come = rested.come; phase = c.settle_phase.ensures.phase; rests = rested.rests; room = omega (arith, left, pool); below = first_few c.args.setting.now.subject c.args.state.now c.settle_phase.new.state c.settle_phase.ensures.pool c.settle_phase.ensures.fewer }
 
 pub round-requires-clause-room : goal.round-requires-clause-room
 round-requires-clause-room c = record { room = let a = c.loop-end.invariant.room in let b = c.requires.room.room in omega (arith, a, b) }
@@ -45,9 +45,9 @@ loop-end-preserved c =
 
 pub returns-in-Some-clause-pivots : goal.returns-in-Some-clause-pivots
 returns-in-Some-clause-pivots c =
-    let end : IsEnd c.args.kind c.args.setting.now c.args.state.now c.settled.new.state c.in-Some.end = search rules in
-    few_at c.args.kind c.args.setting.now c.args.state.now c.settled.new.state c.in-Some.end end c.settled.ensures.phase.pool_kept
-    (first_few c.args.setting.now.subject c.args.state.now c.settled.new.state c.settled.ensures.pool c.settled.ensures.fewer)
+    let end : IsEnd c.args.kind c.args.setting.now c.args.state.now c.settle_phase.new.state c.in-Some.end = search rules in
+    few_at c.args.kind c.args.setting.now c.args.state.now c.settle_phase.new.state c.in-Some.end end c.settle_phase.ensures.phase.pool_kept
+    (first_few c.args.setting.now.subject c.args.state.now c.settle_phase.new.state c.settle_phase.ensures.pool c.settle_phase.ensures.fewer)
 
 pub returns-in-Some-2-clause-pivots : goal.returns-in-Some-2-clause-pivots
 returns-in-Some-2-clause-pivots c =

@@ -9,4 +9,4 @@ use Rattle.ps_line.proofs.openings.event.Goals as goal
 pub returns : goal.returns
 returns c =
     let e = second_word c.args.word.now (codes "p") (codes "c") c.requires (λ e. true≢false (sym (c.is.ensures.equal.1 e) ∙ c.if-is.false)) in
-    subst (λ w. IsItemRead part.AnEvent (w ∷ words_in c.args.words.now) c.priced.result) (sym e) c.priced.ensures
+    subst (λ w. IsItemRead part.AnEvent (w ∷ words_in c.args.words.now) c.priced_world.result) (sym e) c.priced_world.ensures

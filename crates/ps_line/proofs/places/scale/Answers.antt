@@ -13,7 +13,7 @@ use Rattle.ps_line.proofs.places.scale.Goals as goal
 pub returns-in_err-col : goal.returns-in_err-col
 returns-in_err-col c =
     let f = err_from_is_err_and c.from_residual.result c.from_residual.ensures.1 in
-    mapped_err (λ i. place.Scale i) (codes "scale" ∷ words_in c.args.words.now) (words_in c.next.new.self) c.shown.result c.in_err-col.field-0.0 c.from_residual.result
-    (subst (λ z. IsPlaceRead (codes "scale" ∷ words_in c.args.words.now) z (mapped (λ i. place.Scale i) c.shown.result)) (sym c.next.ensures.later)
-    (scale_read (words_in c.args.words.now) c.shown.result (subst (λ z. IsWordRead shown_word (λ n. ⊤) IsShownWithin z c.shown.result) c.next.ensures.word c.shown.ensures)))
+    mapped_err (λ i. place.Scale i) (codes "scale" ∷ words_in c.args.words.now) (words_in c.next.new.self) c.table_column.result c.in_err-col.field-0.0 c.from_residual.result
+    (subst (λ z. IsPlaceRead (codes "scale" ∷ words_in c.args.words.now) z (mapped (λ i. place.Scale i) c.table_column.result)) (sym c.next.ensures.later)
+    (scale_read (words_in c.args.words.now) c.table_column.result (subst (λ z. IsWordRead shown_word (λ n. ⊤) IsShownWithin z c.table_column.result) c.next.ensures.word c.table_column.ensures)))
     c.in_err-col.was (f.1 ∙ ap Err f.2)

@@ -2,13 +2,13 @@ use Rattle.psat.specs.Replies.{message_output}
 use Rattle.psat.proofs.FoundInputs.{accepted_due, line_due, refused_due, unread_due}
 use Rattle.psat.proofs.checked.message_of.Goals as goal
 
-pub returns-in_ok-accepted-in-Accepted-clause-due : goal.returns-in_ok-accepted-in-Accepted-clause-due
-returns-in_ok-accepted-in-Accepted-clause-due c =
-    accepted_due c.args.found c.in-Accepted.accepted (message_output c.in_ok-accepted-in-Accepted.field-0) c.in-Accepted.is c.in_ok-accepted-in-Accepted.ensures
+pub returns-in_ok-accepted_answer-in-Accepted-clause-due : goal.returns-in_ok-accepted_answer-in-Accepted-clause-due
+returns-in_ok-accepted_answer-in-Accepted-clause-due c =
+    accepted_due c.args.found c.in-Accepted.accepted (message_output c.in_ok-accepted_answer-in-Accepted.field-0) c.in-Accepted.is c.in_ok-accepted_answer-in-Accepted.ensures
 
-pub returns-in_ok-refused-in-Refused-clause-due : goal.returns-in_ok-refused-in-Refused-clause-due
-returns-in_ok-refused-in-Refused-clause-due c =
-    refused_due c.args.found c.in-Refused.refusal (message_output c.in_ok-refused-in-Refused.field-0) c.in-Refused.is c.in_ok-refused-in-Refused.ensures
+pub returns-in_ok-refused_claim-in-Refused-clause-due : goal.returns-in_ok-refused_claim-in-Refused-clause-due
+returns-in_ok-refused_claim-in-Refused-clause-due c =
+    refused_due c.args.found c.in-Refused.refusal (message_output c.in_ok-refused_claim-in-Refused.field-0) c.in-Refused.is c.in_ok-refused_claim-in-Refused.ensures
 
 pub returns-in_ok-refused_line-in-RefusedLine-clause-due : goal.returns-in_ok-refused_line-in-RefusedLine-clause-due
 returns-in_ok-refused_line-in-RefusedLine-clause-due c =

@@ -14,7 +14,7 @@ returns c =
     let are : AreParts s.parts = search rules in
     let nodes : c.formulas.result.now ≡ s.parts.nodes = search rules in
     let bounds : c.bounds-bounds.result.now ≡ bounds_in s.parts.sentences = search rules in
-    let given : c.given.result ≡ given_in s.query = search rules in
+    let given : c.evidence.result ≡ given_in s.query = search rules in
     let both : c.both.result ≡ both_in s.query = search rules in
     let first : c.deref.result.now ≡ truths s.parts.nodes c.args.world.now =
     c.deref.ensures.value ∙ c.in_ok-values.ensures.truths ∙ ap (λ ns. truths ns c.args.world.now) nodes in

@@ -21,7 +21,7 @@ pub combination_of-requires-clause-given : goal.combination_of-requires-clause-g
 combination_of-requires-clause-given c =
     let s = c.args.self.now.subject in
     let are : AreParts s.parts = search rules in
-    let is : c.given-given.result ≡ given_in s.query = search rules in
+    let is : c.evidence-given.result ≡ given_in s.query = search rules in
     subst (λ (g : Option ℕ). IfSome g IsNode) (sym is)
     (node-given s.parts.nodes (given_in s.query) (given_there c.args.kind s.parts s.query c.requires.asked) are.few_nodes)
 
