@@ -115,7 +115,7 @@ gain_at kind s g X w = combination_at kind (setting_of s) (table_at s g X) (cost
 abbrev pub BelongsTo : Subject → Stage → (ℕ → ℕ → Rational) → Type 0
 BelongsTo s g X = Belongs (rows_of (setting_of s)) (width_of (setting_of s) g.pool) (columns_of (setting_of s) g.pool) g.basis X
 
--- a table of the stage isn't due to end, and a column improves
+-- a table belongs to the stage in which the phase isn't due to end and some column improves: the run goes on with a pivot
 pub record IsMovingAt (kind : ClaimKind) (s : Subject) (g : Stage) : Type 0 where
   pub table : ℕ → ℕ → Rational
   pub belongs : BelongsTo s g table

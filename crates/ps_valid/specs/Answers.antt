@@ -39,6 +39,6 @@ parts_of parts = map (λ part. part_of part.answer) parts
 abbrev pub answer_of : Answer → claimed.Answer Dual
 answer_of a = record { verdict = verdict_of a.verdict; parts = parts_of a.parts }
 
--- the answer is right: so are its verdict and each of its parts, of the problem's bounds and queries
+-- what the answer claims is right for the problem's bounds and queries; its causes and traces claim nothing
 abbrev pub IsRightOf : Parts → Answer → Type 0
 IsRightOf p a = IsRightFor p (answer_of a)

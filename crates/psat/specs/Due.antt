@@ -111,9 +111,8 @@ status_by other (suc n) = Unfinished
 abbrev pub status_after : Answer → Status
 status_after a = status_by a.verdict (unfinished_of (answer_of a))
 
--- the output is the report of an answer to the problem that all of the bytes spell: it is valid and right, its runs
--- are lawful within the limits, what is open is licensed, where the pivots are enough no part is open for them, and
--- where nothing is open or the pivots were fewer than the most, the report is read back
+-- the output is the report of an answer to the problem that the bytes spell: a solution within the limits, of which no part is
+-- open for pivots where these are enough; where nothing is open, or the pivots are below the most, the report is read back as it
 pub record IsSolvedBy (limits : Limits) (bytes : List ℕ) (o : Output) (p : Parts) (a : Answer) : Type 0 where
   pub spells : SpellsWhole bytes p
   pub solution : IsSolution limits p a
@@ -203,8 +202,8 @@ pub data Due (words : List (List ℕ)) (bytes : List ℕ) (o : Output) : Type 0 
 abbrev pub AreNoProblem : List ℕ → Type 0
 AreNoProblem bytes = (p : Parts) → length bytes ≤ MOST_PROBLEM → ¬ SpellsWhole bytes p
 
--- one output at most is due for a command and bytes: for `solve` and `explain` where the bytes are no problem, since
--- several answers to one problem and several explanations of it may be right; and for `make` of none is it said
+-- where one output at most is due: for `check` always; for `solve` and `explain` where the bytes are no problem, since a problem
+-- may have several right answers and explanations; for `make` it is never claimed
 abbrev pub IsSingle : Command → List ℕ → Type 0
 IsSingle (Check limit) bytes = Unit {0}
 IsSingle (Solve limits enough) bytes = AreNoProblem bytes

@@ -16,7 +16,7 @@ use Rattle.psat.specs.Due.{Output, Due}
 abbrev pub IsTold : Command → Option (List ℕ) → List ℕ → Type 0
 IsTold command left bytes = IfSome (limit_of command) (λ limit. left ≡ Some bytes)
 
--- the same for the command of the words: where it reads nothing, or there is none, these may be any bytes
+-- the bytes are the run's input: what the source had left, or any bytes where the words spell no command that reads
 pub record IsGiven (words : List (List ℕ)) (left : Option (List ℕ)) (bytes : List ℕ) : Type 0 where
   pub told : (command : Command) → Spell words command → IsTold command left bytes
 
@@ -74,7 +74,6 @@ Wrote words bytes NoMemory old new = new ≡ old
 Wrote words bytes WriteFault old new = Cut words bytes old new
 Wrote words bytes status old new = Answered words bytes status old new
 
--- what a run does with the words, by its status: whatever bytes it was given of what the source had left, it wrote what goes with
--- them to a sink that held this before and that after
+-- whatever bytes are the run's input, it wrote what `Wrote` says of them and of its status: the sink went from `old` to `new`
 pub record Ran (left old new : Option (List ℕ)) (words : List (String Global)) (status : Status) : Type 0 where
   pub wrote : (bytes : List ℕ) → IsGiven (words_of words) left bytes → Wrote (words_of words) bytes status old new
