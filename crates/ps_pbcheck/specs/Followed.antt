@@ -1,5 +1,5 @@
 -- What is known as constraints and clauses, and what one of these does to an assignment.
-use Rattle.std.specs.Prelude.{◌≡◌, ◌≤◌, ℤ, Option, Some, None, List, [], ◌∷◌, ◌++◌, length, map}
+use Rattle.std.specs.Prelude.{ℕ, ◌≡◌, ◌≤◌, ℤ, Option, Some, None, List, [], ◌∷◌, ◌++◌, length, map, take, drop}
 use Rattle.ps_steps.specs.Assignments.{Assignment}
 use Rattle.ps_steps.specs.Constraints.{Constraint}
 use Rattle.ps_steps.specs.Weights.{clause_of}
@@ -8,9 +8,13 @@ use Rattle.ps_pb.specs.Effects.{Propagates}
 use Rattle.ps_pbcheck.specs.declared.propagation.Left.{Left}
 use Rattle.ps_pbcheck.specs.declared.propagation.Left.TheVariants.{Nothing, One, Several}
 
--- constraints, and clauses behind them
-abbrev pub held_of : List Constraint → List (List ℤ) → List Constraint
-held_of first clauses = first ++ map clause_of clauses
+-- the literals of a constraint
+abbrev pub lits_in : Constraint → List ℤ
+lits_in c = map (λ t. t.0) c.terms
+
+-- clauses, of which so many stand before the goal
+abbrev pub held_of : List (List ℤ) → ℕ → Constraint → List Constraint
+held_of clauses before goal = map clause_of (take before clauses) ++ goal ∷ map clause_of (drop before clauses)
 
 -- which literals aren't false: none, or this one alone, or more
 abbrev pub Leaves : List ℤ → Left → Type 0

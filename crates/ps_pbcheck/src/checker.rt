@@ -1,8 +1,8 @@
 //! The checker of steps.
 ghost use Rattle.std.specs.Prelude.{◌≡◌, ◌++◌, ◌∷◌, [], IfOk, IfErr, OnOk, OnErr};
-ghost use Rattle.std.specs.Prelude.{true, Some, fold};
+ghost use Rattle.std.specs.Prelude.{true, Some, fold, length};
 ghost use Rattle.ps_steps.specs.declared.refused.StepRefused.TheVariants.{NoMemory as Lack};
-ghost use Rattle.ps_steps.specs.Assignments.{AreDifferent};
+ghost use Rattle.ps_steps.specs.Assignments.{all_unset, AreDifferent};
 ghost use Rattle.ps_steps.specs.Weights.{clause_of};
 ghost use Rattle.ps_steps.specs.Steps.{known_of, refusal_of, and_false, Entails, IsUnmet};
 ghost use Rattle.ps_pbcheck.specs.Checked.{first_checked, after_step, AnswersStep};
@@ -21,22 +21,25 @@ use std::marker::Model;
 #[derive(Drop)]
 pub struct Checker {
     alloc: Global,
-    variables: u32,
+    // The variables, none with a value: for each step a copy is made.
+    unset: Assignment,
     known: Held,
     refuted: bool,
 }
 
 impl Model for Checker {
-    ghost use Rattle.std.specs.Prelude.{◌≡◌, true};
+    ghost use Rattle.std.specs.Prelude.{◌≡◌, true, length};
+    ghost use Rattle.ps_steps.specs.Assignments.{all_unset};
     ghost use Rattle.ps_steps.specs.Weights.{clause_of};
     ghost use Rattle.ps_steps.specs.Steps.{known_of, IsUnmet};
     ghost use Rattle.ps_pbcheck.specs.Checked.{Checked, checked_of};
 
     ghost Value = { Checked };
 
-    ghost view = { λ c. checked_of c.variables c.known c.refuted };
+    ghost view = { λ c. checked_of (length c.unset) c.known c.refuted };
 
-    ghost invariant = { λ c. c.refuted ≡ true → IsUnmet (known_of c.known) };
+    ghost invariant = { λ c. (c.unset ≡ all_unset (length c.unset))
+        × (c.refuted ≡ true → IsUnmet (known_of c.known)) };
 }
 
 impl Checker {
@@ -45,12 +48,10 @@ impl Checker {
         ensures { IfOk result (λ c. c ≡ first_checked form goal) }
     {
         let variables = form.variables();
-        let mut first = form.into_clauses();
-        first.push(goal)?;
         Ok(Checker {
             alloc,
-            variables,
-            known: Held::new(alloc, first),
+            unset: Assignment::new(alloc, variables)?,
+            known: Held::new(alloc, form, goal)?,
             refuted: false,
         })
     }
@@ -65,7 +66,7 @@ impl Checker {
         // Each full assignment that met what was known meets what is known now.
         ensures entailed { OnOk result (Entails self.old.known self.new.known) }
     {
-        judge(self.alloc, self.variables, &self.known, s)?;
+        judge(self.alloc, &self.unset, &self.known, s)?;
         push(&mut self.known, s.lits.as_slice())?;
         self.refuted = s.lits.as_slice().is_empty();
         Ok(())
@@ -97,13 +98,14 @@ fn push(known: &mut Held, lits: &[Lit]) -> Result<(), StepRefused>
 
 /// Why a step isn't lawful, if it isn't.
 #[tactic(auto, using(ps_steps::proofs::Ids::ids), unfolding(ps_steps::specs::Steps::all_false))]
-fn judge(alloc: Global, variables: u32, known: &Held, s: &Step) -> Result<(), StepRefused>
-    ensures { AnswersStep (refusal_of variables (known_of known.now) s.now) result }
+fn judge(alloc: Global, unset: &Assignment, known: &Held, s: &Step) -> Result<(), StepRefused>
+    requires { unset.now ≡ all_unset (length unset.now) }
+    ensures { AnswersStep (refusal_of (length unset.now) (known_of known.now) s.now) result }
 {
     if s.id == 0 || s.id - 1 != known.len() as u64 {
         return Err(StepRefused::IdNotNext);
     }
-    let mut a = Assignment::new(alloc, variables).map_err(no_memory)?;
+    let mut a = unset.copy(alloc).map_err(no_memory)?;
     if !set_all_false(&mut a, s.lits.as_slice()) {
         return Err(StepRefused::BadLit);
     }

@@ -1,61 +1,63 @@
 //! What the checker knows.
-ghost use Rattle.std.specs.Prelude.{◌≡◌, ◌++◌, [], ◌∷◌, length, is_some, OnOk, OnErr};
+ghost use Rattle.std.specs.Prelude.{◌≡◌, ◌++◌, [], ◌∷◌, length, map, slice_get};
+ghost use Rattle.std.specs.Prelude.{option_copied, IfOk, OnOk, OnErr};
 ghost use Rattle.ps_steps.specs.Assignments.{AreDifferent};
 ghost use Rattle.ps_steps.specs.Weights.{clause_of};
 ghost use Rattle.ps_steps.specs.Steps.{constraint_at, known_of};
-ghost use Rattle.ps_pbcheck.specs.Followed.{Follows};
+ghost use Rattle.ps_pbcheck.specs.Followed.{lits_in, Follows};
 
 use crate::clauses::Clauses;
 use crate::propagation::propagate_clause;
-use ps_io::{List, NoMemory};
-use ps_pb::{Assignment, Constraint, Effect, Lit, propagate};
+use ps_clause::ClauseForm;
+use ps_io::NoMemory;
+use ps_pb::{Assignment, Constraint, Effect, Lit, Lits, propagate};
 use std::alloc::Global;
 use std::marker::Model;
 
-/// The constraints that are known at first, and behind them the clauses of steps, of which only the
-/// literals are kept.
+/// The goal, with the clauses of a form before it and those of steps behind it. Of clauses the
+/// literals alone are kept.
 #[derive(Drop)]
 pub(crate) struct Held {
-    first: List<Constraint>,
     clauses: Clauses,
+    // How many clauses stand before the goal.
+    before: usize,
+    goal: Box<Constraint>,
 }
 
 impl Model for Held {
-    ghost use Rattle.std.specs.Prelude.{List, All};
+    ghost use Rattle.std.specs.Prelude.{List, All, length, ◌≤◌};
     ghost use Rattle.ps_steps.specs.Assignments.{AreDifferent};
     ghost use Rattle.ps_steps.specs.Constraints.{Constraint as Linear};
     ghost use Rattle.ps_pbcheck.specs.Followed.{held_of};
 
     ghost Value = { List Linear };
 
-    ghost view = { λ h. held_of h.first h.clauses };
+    ghost view = { λ h. held_of h.clauses h.before h.goal.value };
 
-    ghost invariant = { λ h. All AreDifferent h.clauses };
+    ghost invariant = { λ h. (h.before ≤ length h.clauses) × All AreDifferent h.clauses };
 }
 
 impl Held {
-    /// Constraints that are known at first.
-    pub(crate) fn new(alloc: Global, first: List<Constraint>) -> Held
-        ensures { result ≡ first }
+    /// The clauses of a form, and a goal behind them.
+    pub(crate) fn new(alloc: Global, form: ClauseForm, goal: Constraint) -> Result<Held, NoMemory>
+        ensures { IfOk result (λ h. h ≡ form.clauses ++ goal ∷ []) }
     {
-        Held {
-            first,
-            clauses: Clauses::new(alloc),
-        }
+        // Called for its clause: each constraint of the form is a clause.
+        let _variables = form.variables();
+        let constraints = form.into_clauses();
+        let clauses = clauses_of(alloc, constraints.as_slice())?;
+        Ok(Held {
+            before: clauses.len(),
+            clauses,
+            goal: Box::new(alloc, goal)?,
+        })
     }
 
     /// How many constraints are known.
     pub(crate) fn len(&self) -> usize
         ensures { result ≡ length self.now }
     {
-        self.first.as_slice().len() + self.clauses.len()
-    }
-
-    /// Whether a constraint has the id.
-    pub(crate) fn has(&self, id: u64) -> bool
-        ensures { result ≡ is_some (constraint_at (known_of self.now) id) }
-    {
-        id != 0 && id - 1 < self.len() as u64
+        self.clauses.len() + 1
     }
 
     /// What the constraint of an id does to an assignment. `None` where no constraint has it.
@@ -66,13 +68,11 @@ impl Held {
             return None;
         }
         let place = (id - 1) as usize;
-        match self.first.get(place) {
-            Some(c) => Some(propagate(c, a)),
-            None => match self.clauses.get(place - self.first.len()) {
-                Some(lits) => Some(propagate_clause(lits, a)),
-                None => None,
-            },
+        if place == self.before {
+            return Some(propagate(&self.goal, a));
         }
+        let lits = self.clauses.get(place - usize::from(self.before < place))?;
+        Some(propagate_clause(lits, a))
     }
 
     /// Knows the clause of some literals too.
@@ -83,4 +83,26 @@ impl Held {
     {
         self.clauses.push(lits)
     }
+}
+
+// The literals of a constraint.
+fn lits_of(alloc: Global, c: &Constraint) -> Result<Lits, NoMemory>
+    ensures { IfOk result (λ lits. lits ≡ lits_in c.now) }
+{
+    let mut lits = Lits::new(alloc);
+    for term in c.terms().as_slice() {
+        lits.push(term.0)?;
+    }
+    Ok(lits)
+}
+
+// The clauses of the literals of constraints.
+fn clauses_of(alloc: Global, constraints: &[Constraint]) -> Result<Clauses, NoMemory>
+    ensures { IfOk result (λ clauses. clauses ≡ map lits_in constraints.now) }
+{
+    let mut clauses = Clauses::new(alloc);
+    for constraint in constraints {
+        clauses.push(lits_of(alloc, constraint)?.as_slice())?;
+    }
+    Ok(clauses)
 }

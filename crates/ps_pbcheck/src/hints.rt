@@ -16,11 +16,9 @@ fn follow_hint(
 ) -> Result<bool, StepRefused>
     ensures { IsAfter (gone_along known.now conflict a.old hint) a.new result }
 {
-    if conflict && known.has(hint) {
-        return Err(StepRefused::HintIdle { hint });
-    }
     match known.follow(hint, a) {
         None => Err(StepRefused::UnknownHint { hint }),
+        Some(_) if conflict => Err(StepRefused::HintIdle { hint }),
         Some(Effect::Violated) => Ok(true),
         Some(Effect::Forced) => Ok(false),
         Some(Effect::Idle) => Err(StepRefused::HintIdle { hint }),

@@ -22,10 +22,7 @@ enum Left {
 fn is_open(a: &Assignment, lit: Lit) -> bool
     ensures { result ≡ is_open a.now lit }
 {
-    match a.value_of(lit) {
-        Some(false) => false,
-        _ => true,
-    }
+    a.value_of(lit) != Some(false)
 }
 
 fn left_of(lits: &[Lit], a: &Assignment) -> Left

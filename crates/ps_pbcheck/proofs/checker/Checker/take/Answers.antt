@@ -1,4 +1,4 @@
-use Rattle.std.proofs.Common.{◌≡◌, ◌++◌, ◌∷◌, [], ℤ, List, Some, sym, ap, ◌∙◌, subst}
+use Rattle.std.proofs.Common.{◌≡◌, ◌++◌, ◌∷◌, [], ℤ, List, length, Some, sym, ap, ◌∙◌, subst}
 use Rattle.ps_steps.specs.Assignments.{AreDifferent}
 use Rattle.ps_steps.specs.Weights.{clause_of}
 use Rattle.ps_steps.specs.Steps.{Step, Entails, known_of, with_step}
@@ -12,7 +12,7 @@ use Rattle.ps_pbcheck.proofs.checker.Checker.take.Goals as goal
 pub push-requires : goal.push-requires
 push-requires c =
     let lits = c.as_slice.ensures ∙ ap (λ (s : Step). s.lits) c.s.view_is in
-    subst AreDifferent (sym lits) (lawful-different c.self.inside.variables (known_of c.self.inside.known) c.args.s.now c.in_ok-judge.ensures)
+    subst AreDifferent (sym lits) (lawful-different (length c.self.inside.unset) (known_of c.self.inside.known) c.args.s.now c.in_ok-judge.ensures)
 
 pub returns-clause-entailed : goal.returns-clause-entailed
 returns-clause-entailed c =
@@ -21,9 +21,12 @@ returns-clause-entailed c =
     let after : known_of c.push.new.known ≡ with_step (known_of before) c.args.s.now =
     ap known_of c.in_ok-push.ensures.ok ∙ known_of-append before (clause_of c.as_slice.result.now) ∙ ap (λ (ls : List ℤ). known_of before ++ Some (clause_of ls) ∷ []) lits in
     subst (λ x. Entails x (known_of c.push.new.known)) (ap (λ (x : Checked). x.known) c.self.view_is)
-    (rw after (lawful-entails c.self.inside.variables (known_of before) c.args.s.now c.in_ok-judge.ensures))
+    (rw after (lawful-entails (length c.self.inside.unset) (known_of before) c.args.s.now c.in_ok-judge.ensures))
 
 pub invariant_of-self-2 : goal.invariant_of-self-2
-invariant_of-self-2 c = λ empty.
-    let same = c.as_slice.ensures ∙ sym c.as_slice-2.ensures in
-    none_left c.self.inside.known c.push.new.known c.as_slice-2.result.now (clause_of c.as_slice.result.now) c.in_ok-push.ensures.ok (ap clause_of same) (sym c.is_empty-self-inside.ensures ∙ empty)
+invariant_of-self-2 c = (
+  c.self.invariant.0,
+  λ empty.
+      let same = c.as_slice.ensures ∙ sym c.as_slice-2.ensures in
+      none_left c.self.inside.known c.push.new.known c.as_slice-2.result.now (clause_of c.as_slice.result.now) c.in_ok-push.ensures.ok (ap clause_of same) (sym c.is_empty-self-inside.ensures ∙ empty),
+)

@@ -1,27 +1,31 @@
-use Rattle.std.proofs.Common.{◌≡◌, ◌-◌, Some, None, length, ap, sym, ◌∙◌, arith, refl}
+use Rattle.std.proofs.Common.{◌-◌, Some, None, ap, sym, subst, ◌∙◌, refl}
 use Rattle.std.specs.Prelude.{slice_get}
-use Rattle.ps_pbcheck.proofs.Placed.{known-first, known-clause, zero-none, none-past, at-different}
+use Rattle.ps_pb.specs.Effects.{Propagates}
+use Rattle.ps_pbcheck.proofs.Placed.{known-goal, known-clause, zero-none, at-different}
 use Rattle.ps_pbcheck.proofs.held.Held.follow.Goals as goal
 
 pub returns-then-id-eq0 : goal.returns-then-id-eq0
 returns-then-id-eq0 c = rw (zero-none c.args.self.now c.args.id c.if-id-eq0.true) refl
 
-pub overflow_sub-place-in-None : goal.overflow_sub-place-in-None
-overflow_sub-place-in-None c = omega (arith, c.len.ensures, none-past c.self.inside.first (c.args.id - 1) (sym c.in-None.ensures))
+pub returns-then-place-self : goal.returns-then-place-self
+returns-then-place-self c =
+    let here = c.self.inside in
+    rw (← c.self.view_is, known-goal here.clauses here.before here.goal.value c.args.id c.self.invariant.0 c.if-id-eq0.false c.if-place-self.true)
+    (subst (λ k. Propagates k c.args.a.now c.propagate.new.a c.propagate.result) c.deref.ensures c.propagate.ensures)
+
+pub returns-in_err-lits : goal.returns-in_err-lits
+returns-in_err-lits c =
+    let here = c.self.inside in
+    let none = c.in_err-lits.ensures ∙ ap (λ k. slice_get here.clauses (c.args.id - 1 - k)) c.from.ensures in
+    rw (c.from_residual.ensures, ← c.self.view_is, known-clause here.clauses here.before here.goal.value c.args.id None c.self.invariant.0 c.if-id-eq0.false c.if-place-self.false none) refl
 
 pub propagate_clause-requires : goal.propagate_clause-requires
-propagate_clause-requires c = at-different c.self.inside.clauses (c.args.id - 1 - c.len.result) c.in-Some-get.lits.now c.self.invariant (sym c.in-Some-get.ensures)
+propagate_clause-requires c =
+    at-different c.self.inside.clauses (c.args.id - 1 - c.from.result) c.in_ok-lits.lits.now c.self.invariant.1 (sym c.in_ok-lits.ensures)
 
-pub returns-in-Some : goal.returns-in-Some
-returns-in-Some c =
-    rw (← c.self.view_is, known-first c.self.inside.first c.self.inside.clauses c.args.id c.in-Some.c.now c.if-id-eq0.false (sym c.in-Some.ensures)) c.propagate.ensures
-
-pub returns-in-Some-get : goal.returns-in-Some-get
-returns-in-Some-get c =
-    let there : slice_get c.self.inside.clauses (c.args.id - 1 - length c.self.inside.first) ≡ Some c.in-Some-get.lits.now = ap (λ n. slice_get c.self.inside.clauses (c.args.id - 1 - n)) (sym c.len.ensures) ∙ sym c.in-Some-get.ensures in
-    rw (← c.self.view_is, known-clause c.self.inside.first c.self.inside.clauses c.args.id (Some c.in-Some-get.lits.now) c.if-id-eq0.false (sym c.in-None.ensures) there) c.propagate_clause.ensures
-
-pub returns-in-None-get : goal.returns-in-None-get
-returns-in-None-get c =
-    let there : slice_get c.self.inside.clauses (c.args.id - 1 - length c.self.inside.first) ≡ None = ap (λ n. slice_get c.self.inside.clauses (c.args.id - 1 - n)) (sym c.len.ensures) ∙ sym c.in-None-get.ensures in
-    rw (← c.self.view_is, known-clause c.self.inside.first c.self.inside.clauses c.args.id None c.if-id-eq0.false (sym c.in-None.ensures) there) refl
+pub returns : goal.returns
+returns c =
+    let here = c.self.inside in
+    let some = c.in_ok-lits.ensures ∙ ap (λ k. slice_get here.clauses (c.args.id - 1 - k)) c.from.ensures in
+    rw (← c.self.view_is, known-clause here.clauses here.before here.goal.value c.args.id (Some c.in_ok-lits.lits.now) c.self.invariant.0 c.if-id-eq0.false c.if-place-self.false some)
+    c.propagate_clause.ensures
