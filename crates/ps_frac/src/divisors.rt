@@ -63,7 +63,7 @@ fn gcd_of_words(a: u64, b: u64) -> u64
 }
 
 /// The greatest common divisor of `a` and `b`.
-pub(crate) fn gcd(a: u128, b: u128) -> u128
+pub fn gcd(a: u128, b: u128) -> u128
     ensures value { result ≡ gcd_of a b }
     ensures positive { 0 < b → 0 < result }
     ensures at_most { 0 < b → result ≤ b }

@@ -12,6 +12,7 @@ mod products;
 mod sums;
 mod wide;
 
+pub use divisors::gcd;
 pub use fraction::Fraction;
 pub use limits::{MOST_MULTIPLE, SIZE_LIMIT, limits_have_these_numbers};
 pub use multiples::lcm_upto;

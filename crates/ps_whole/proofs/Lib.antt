@@ -1,0 +1,9 @@
+pub mod NewCells
+pub mod Sizes
+pub mod Changes
+pub mod Pushed
+pub mod NarrowPivots
+pub mod NewColumns
+pub mod Widened
+pub mod FirstRows
+pub mod Added

@@ -1,0 +1,65 @@
+use Rattle.std.proofs.Common.{◌≡◌, ◌<◌, ◌*◌, ◌/◌, pos, ◌*ℤ◌, unsigned_abs, int_div, arith, subst, sym, ap, ◌∙◌, rules, FitsSigned, to_z, of_z, w64}
+use Rattle.std.specs.Int.{IsGcd, ◌∣◌}
+use Rattle.std.proofs.lemmas.Int.{to_z-of_z}
+use Rattle.std.proofs.Math.Nat.{mul-pos, div-le_self}
+use Rattle.ps_rational.specs.Parts.{part_pos}
+use Rattle.ps_whole.specs.Whole.{number_at, under_at}
+use Rattle.ps_whole.specs.Pivots.{raw_number, IsContent}
+use Rattle.ps_whole.proofs.Changes.{other_cell, less_is}
+use Rattle.ps_whole.proofs.rows.Whole.other_change.Goals as goal
+
+pub content-requires-clause-base : goal.content-requires-clause-base
+content-requires-clause-base c =
+    let a = c.pivot_number-entry.result in
+    let fa : FitsSigned w64 a = search rules in
+    let size : c.unsigned_abs-3.result ≡ unsigned_abs a = c.unsigned_abs-3.ensures.value ∙ ap unsigned_abs (to_z-of_z w64 a fa) in
+    let again : c.unsigned_abs-2.result ≡ c.unsigned_abs-3.result = omega (arith, c.unsigned_abs-2.ensures.value, c.unsigned_abs-3.ensures.value) in
+    mul-pos c.under.ensures.positive
+    (part_pos c.unsigned_abs-3.result c.gcd_of_words-g.result (subst (λ n. 0 < n) (sym size) c.pivot_number-entry.ensures.not_zero)
+    (subst (λ n. c.gcd_of_words-g.result ∣ n) again c.gcd_of_words-g.ensures.value.1))
+
+pub returns : goal.returns
+returns c =
+    let w = c.args.self.now in
+    let p = c.args.p in
+    let q = c.args.q in
+    let i = c.args.i in
+    let a = c.pivot_number-entry.result in
+    let k = c.number-lost.result in
+    let s = c.with_sign-less.result in
+    let g = c.gcd_of_words-g.result in
+    let t = c.unsigned_abs-3.result / g in
+    let fa : FitsSigned w64 a = search rules in
+    let fk : FitsSigned w64 k = search rules in
+    let fs : FitsSigned w64 s = search rules in
+    let ft : FitsSigned w64 c.signed_size-times.result = search rules in
+    let es : to_z w64 (of_z w64 s) ≡ s = to_z-of_z w64 s fs in
+    let et : to_z w64 (of_z w64 c.signed_size-times.result) ≡ pos t = to_z-of_z w64 c.signed_size-times.result ft ∙ c.signed_size-times.ensures.value in
+    let s1 : c.unsigned_abs.result ≡ unsigned_abs k = c.unsigned_abs.ensures.value ∙ ap unsigned_abs (to_z-of_z w64 k fk) in
+    let s2 : c.unsigned_abs-2.result ≡ unsigned_abs a = c.unsigned_abs-2.ensures.value ∙ ap unsigned_abs (to_z-of_z w64 a fa) in
+    let s3 : c.unsigned_abs-3.result ≡ unsigned_abs a = c.unsigned_abs-3.ensures.value ∙ ap unsigned_abs (to_z-of_z w64 a fa) in
+    let va : a ≡ number_at w p q = c.pivot_number-entry.ensures.value in
+    let vk : k ≡ number_at w i q = c.number-lost.ensures.value in
+    let common : IsGcd (unsigned_abs k) (unsigned_abs a) g =
+    subst (λ n. IsGcd n (unsigned_abs a) g) s1 (subst (λ n. IsGcd c.unsigned_abs.result n g) s2 c.gcd_of_words-g.ensures.value) in
+    let fh : FitsSigned w64 c.cofactor.result = search rules in
+    let signed : s *ℤ a ≡ c.cofactor.result *ℤ pos (unsigned_abs a) = simp to_z-of_z at c.with_sign-less.ensures.value in
+    let shared : c.cofactor.result ≡ int_div k (pos g) = simp to_z-of_z at c.cofactor.ensures.value in
+    let less : s *ℤ a ≡ k *ℤ pos t = less_is s c.cofactor.result k a g t signed shared common (ap (λ n. n / g) s3) in
+    let ht : 0 < t = part_pos c.unsigned_abs-3.result g (subst (λ n. 0 < n) (sym s3) c.pivot_number-entry.ensures.not_zero)
+    (subst (λ n. g ∣ n) (sym s3) common.1) in
+    let d : c.under.result ≡ under_at w i = c.under.ensures.value in
+    let hd : 0 < under_at w i = subst (λ n. 0 < n) d c.under.ensures.positive in
+    rw (es, et) (record {
+      change = record {
+        times = omega (arith, div-le_self c.unsigned_abs-3.result g, s3, c.pivot_number-entry.ensures.small);
+        less = c.with_sign-less.ensures.small;
+        base = mul-pos c.under.ensures.positive ht;
+        content = subst (λ z. IsContent (raw_number w p i (pos t) z) w.width (c.under.result * t) c.content.result) es (subst (λ z. IsContent (raw_number w p i z (to_z w64 (of_z w64 s))) w.width (c.under.result * t) c.content.result) et c.content.ensures.content);
+        cells = λ j. record {
+          own = λ same. absurd (c.requires.other same);
+          other = λ _. other_cell (number_at w i j) (number_at w i q) (number_at w p j) (number_at w p q) s (under_at w i) (under_at w p) (c.under.result * t) t
+              c.requires.pivot.not_zero hd ht (subst (λ z. s *ℤ z ≡ number_at w i q *ℤ pos t) va (less ∙ ap (λ z. z *ℤ pos t) vk)) (ap (λ n. n * t) d);
+        };
+      };
+    })

@@ -1,0 +1,6 @@
+pub mod Whole
+pub mod Pivots
+pub mod Laws
+pub mod Columns
+pub mod Homes
+pub mod Sums

@@ -1,0 +1,79 @@
+-- Pivots of rows of whole numbers.
+use Rattle.std.specs.Prelude.{◌≡◌, ◌≢◌, ℕ, ◌+◌, ◌*◌, ◌<◌, ◌^◌, List, get_or, length, ℤ, pos, ◌*ℤ◌, ◌-ℤ◌, unsigned_abs}
+use Rattle.std.specs.Int.{◌∣◌}
+use Rattle.ps_rational.specs.Rational.{Rational, fraction, mul, sub, neg, div, inverse, zero_q}
+use Rattle.ps_rational.specs.Wide.{ProductIsWide, SumIsWide}
+use Rattle.ps_whole.specs.Whole.{WholeCells, number_at, whole_at}
+use Rattle.ps_whole.specs.declared.change.RowChange.{RowChange}
+
+-- a row, a column, and their entry, which isn't 0
+pub record IsPivotOf (w : WholeCells) (p q : ℕ) : Type 0 where
+  pub row : p < w.rows
+  pub column : q < w.width
+  pub not_zero : whole_at w p q ≢ zero_q
+
+-- the entry of row i in column j after a pivot in row p and column q
+pub record IsPivotCell (X : ℕ → ℕ → Rational) (p q i j : ℕ) (x : Rational) : Type 0 where
+  pub own : i ≡ p → x ≡ div (X p j) (X p q)
+  pub other : i ≢ p → x ≡ sub (X i j) (mul (X i q) (div (X p j) (X p q)))
+
+-- a number, so many times as large, less so many times that of row p
+abbrev pub raw_number : WholeCells → ℕ → ℕ → ℤ → ℤ → ℕ → ℤ
+raw_number w p i times less j = (number_at w i j *ℤ times) -ℤ (less *ℤ number_at w p j)
+
+-- what is common to a denominator and to each of the first n numbers of a row
+pub record IsContent (row : ℕ → ℤ) (n base by : ℕ) : Type 0 where
+  pub positive : 0 < by
+  pub under : by ∣ base
+  pub over : (j : ℕ) → j < n → by ∣ unsigned_abs (row j)
+
+-- what becomes of row i in the pivot
+pub record IsRowChange (w : WholeCells) (p q i : ℕ) (change : RowChange) : Type 0 where
+  pub times : unsigned_abs change.times < 2 ^ 62
+  pub less : unsigned_abs change.less < 2 ^ 62
+  pub base : 0 < change.base
+  pub content : IsContent (raw_number w p i change.times change.less) w.width change.base change.by
+  pub cells : (j : ℕ) → IsPivotCell (whole_at w) p q i j (fraction (raw_number w p i change.times change.less j) change.base)
+
+-- the number as it is kept
+abbrev pub IsNarrowed : ℤ → ℤ → Type 0
+IsNarrowed number kept = (kept ≡ number) × (unsigned_abs number < 2 ^ 62)
+
+-- a change of a row by small numbers, and what is common to the row after it
+pub record IsSmallContent (w : WholeCells) (p i : ℕ) (change : RowChange) : Type 0 where
+  pub times : unsigned_abs change.times < 2 ^ 62
+  pub less : unsigned_abs change.less < 2 ^ 62
+  pub content : IsContent (raw_number w p i change.times change.less) w.width change.base change.by
+
+-- the first n numbers of a row, divided by what is common to them, were appended
+pub record IsPushedTo (row : ℕ → ℤ) (by : ℕ) (old : List ℤ) (n : ℕ) (new : List ℤ) : Type 0 where
+  pub count : length new ≡ length old + n
+  pub before : (k : ℕ) → k < length old → get_or new k (pos 0) ≡ get_or old k (pos 0)
+  pub small : (j : ℕ) → j < n → unsigned_abs (get_or new (length old + j) (pos 0)) < 2 ^ 62
+  pub here : (j : ℕ) → j < n → get_or new (length old + j) (pos 0) *ℤ pos by ≡ row j
+
+-- the first n rows after the pivot
+pub record IsPivotedTo (w : WholeCells) (p q n : ℕ) (numbers : List ℤ) (unders : List ℕ) : Type 0 where
+  pub count : length numbers ≡ n * w.width
+  pub rows : length unders ≡ n
+  pub positive : (i : ℕ) → 0 < get_or unders i 1
+  pub small_unders : (i : ℕ) → get_or unders i 1 < 2 ^ 62
+  pub small : (k : ℕ) → unsigned_abs (get_or numbers k (pos 0)) < 2 ^ 62
+  pub cells : (i j : ℕ) → i < n → j < w.width
+      → IsPivotCell (whole_at w) p q i j (fraction (get_or numbers (i * w.width + j) (pos 0)) (get_or unders i 1))
+
+-- the table after a pivot in row p and column q
+pub record IsPivoted (old : WholeCells) (p q : ℕ) (new : WholeCells) : Type 0 where
+  pub rows : new.rows ≡ old.rows
+  pub width : new.width ≡ old.width
+  pub cells : (i j : ℕ) → i < old.rows → j < old.width → IsPivotCell (whole_at old) p q i j (whole_at new i j)
+
+-- no operation of a pivot in row p and column q is too large in row i of column j
+pub record IsNarrowPivot (X : ℕ → ℕ → Rational) (p q i j : ℕ) : Type 0 where
+  pub scale : ¬ ProductIsWide (X p j) (inverse (X p q))
+  pub times : ¬ ProductIsWide (X i q) (div (X p j) (X p q))
+  pub minus : ¬ SumIsWide (X i j) (neg (mul (X i q) (div (X p j) (X p q))))
+
+-- nor in any row and column
+abbrev pub ArePivotsNarrow : WholeCells → ℕ → ℕ → Type 0
+ArePivotsNarrow w p q = (i j : ℕ) → IsNarrowPivot (whole_at w) p q i j

@@ -1,0 +1,19 @@
+//! Tables of rows of whole numbers, each row over a denominator of its own.
+#![tactic(auto)]
+
+mod change;
+mod dividing;
+mod divisors;
+mod homes;
+mod laws;
+mod limits;
+mod pivoting;
+mod rows;
+mod sums;
+mod turning;
+mod widening;
+
+pub use laws::row_laws;
+pub use limits::MOST_ROWS;
+pub use rows::Whole;
+pub use sums::WholeSum;

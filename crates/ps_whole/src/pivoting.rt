@@ -1,0 +1,123 @@
+//! Tables after a pivot.
+ghost use Rattle.std.specs.Prelude.{◌≡◌, ◌≢◌, suc, ◌+◌, ◌*◌, ◌<◌, ◌≤◌, ◌^◌, length, IsTrue};
+ghost use Rattle.std.specs.Prelude.{IfOk, IfSome, unsigned_abs};
+ghost use Rattle.ps_whole.specs.Pivots.{IsPivotOf, IsPivoted, IsNarrowed, ArePivotsNarrow};
+ghost use Rattle.ps_whole.specs.Pivots.{raw_number, IsPushedTo, IsPivotedTo, IsSmallContent};
+
+use crate::change::RowChange;
+use crate::dividing::{part, quotient};
+use crate::limits::LIMIT;
+use crate::rows::Whole;
+use ps_io::NoMemory;
+
+/// A number that is small enough to be kept.
+pub(crate) fn narrow(number: i128) -> Option<i64>
+    ensures value { IfSome result (IsNarrowed number) }
+{
+    if number.unsigned_abs() < LIMIT {
+        return Some(number as i64);
+    }
+    None
+}
+
+impl Whole {
+    /// Appends the numbers of a row after a pivot, and tells whether all of them are small enough.
+    fn push_numbers(
+        &self,
+        p: usize,
+        i: usize,
+        change: &RowChange,
+        made: &mut Vec<i64>,
+    ) -> Result<bool, NoMemory>
+        requires own { p < self.now.rows }
+        requires row { i < self.now.rows }
+        requires change { IsSmallContent self.now p i change.now }
+        ensures made { let row = raw_number self.now p i change.now.times change.now.less in
+            IfOk result (λ all. IsTrue all
+            → IsPushedTo row change.now.by made.old.items self.now.width made.new.items) }
+    {
+        for column in 0..self.width() {
+            let raw = self.raw(p, i, change.times, change.less, column);
+            match narrow(quotient(raw, change.by)) {
+                Some(number) => made.push(number)?,
+                None => return Ok(false),
+            }
+        }
+        Ok(true)
+    }
+
+    /// Appends a row after a pivot, and tells whether all of its numbers are small enough.
+    fn push_row(
+        &self,
+        p: usize,
+        q: usize,
+        i: usize,
+        numbers: &mut Vec<i64>,
+        unders: &mut Vec<u64>,
+    ) -> Result<bool, NoMemory>
+        requires pivot { IsPivotOf self.now p q }
+        requires row { i < self.now.rows }
+        requires before { IsPivotedTo self.now p q i numbers.old.items unders.old.items }
+        ensures after { IfOk result (λ all. IsTrue all
+            → IsPivotedTo self.now p q (suc i) numbers.new.items unders.new.items) }
+    {
+        let change = self.change(p, q, i);
+        let under = part(change.base, change.by);
+        if !(under < LIMIT) {
+            return Ok(false);
+        }
+        if !self.push_numbers(p, i, &change, numbers)? {
+            return Ok(false);
+        }
+        unders.push(under as u64)?;
+        Ok(true)
+    }
+
+    /// Appends the rows after a pivot, and tells whether all of their numbers are small enough.
+    fn push_rows(
+        &self,
+        p: usize,
+        q: usize,
+        numbers: &mut Vec<i64>,
+        unders: &mut Vec<u64>,
+    ) -> Result<bool, NoMemory>
+        requires pivot { IsPivotOf self.now p q }
+        requires before { IsPivotedTo self.now p q 0 numbers.old.items unders.old.items }
+        ensures after { IfOk result (λ all. IsTrue all
+            → IsPivotedTo self.now p q self.now.rows numbers.new.items unders.new.items) }
+    {
+        for i in 0..self.rows() {
+            if !self.push_row(p, q, i, numbers, unders)? {
+                return Ok(false);
+            }
+        }
+        Ok(true)
+    }
+
+    /// The table after a pivot in row `p` and column `q`, if its numbers are small enough.
+    pub fn after_pivot(&self, p: usize, q: usize) -> Result<Option<Whole>, NoMemory>
+        requires pivot { IsPivotOf self.now p q }
+        ensures pivoted { IfOk result (λ made. IfSome made (IsPivoted self.now p q)) }
+    {
+        let mut numbers = Vec::new(self.alloc);
+        let mut unders = Vec::new(self.alloc);
+        if !self.push_rows(p, q, &mut numbers, &mut unders)? {
+            return Ok(None);
+        }
+        Ok(Some(Whole {
+            alloc: self.alloc,
+            rows: self.rows,
+            width: self.width,
+            numbers,
+            unders,
+        }))
+    }
+
+    /// No operation on the entries of a pivot is too large: a law, no more than a read.
+    pub fn pivots_are_narrow(&self, p: usize, q: usize)
+        requires pivot { IsPivotOf self.now p q }
+        ensures narrow { ArePivotsNarrow self.now p q }
+    {
+        self.rows();
+    }
+}

@@ -1,0 +1,158 @@
+//! Pivots of rows of whole numbers.
+ghost use Rattle.std.specs.Prelude.{◌≡◌, ◌≢◌, ◌+◌, ◌*◌, ◌<◌, ◌≤◌, ◌^◌, ◌↔◌, length, pos, IsTrue};
+ghost use Rattle.std.specs.Prelude.{IfOk, IfSome, unsigned_abs, int_div, ◌*ℤ◌, ◌-ℤ◌};
+ghost use Rattle.std.specs.Int.{◌∣◌};
+ghost use Rattle.ps_rational.specs.Rational.{zero_q};
+ghost use Rattle.ps_whole.specs.Whole.{WholeCells, IsWhole, number_at, under_at, whole_at};
+ghost use Rattle.ps_whole.specs.Pivots.{raw_number, IsPivotOf, IsRowChange, IsContent};
+
+use crate::change::RowChange;
+use crate::divisors::gcd_of_words;
+use crate::rows::Whole;
+use ps_frac::gcd;
+
+/// A product of two numbers of a table.
+fn product(left: i64, right: i64) -> i128
+    requires left { unsigned_abs left < 2 ^ 62 }
+    requires right { unsigned_abs right < 2 ^ 62 }
+    ensures value { result ≡ left *ℤ right }
+    ensures small { unsigned_abs result < 2 ^ 124 }
+{
+    left as i128 * right as i128
+}
+
+/// A difference of two products.
+fn difference(left: i128, right: i128) -> i128
+    requires left { unsigned_abs left < 2 ^ 124 }
+    requires right { unsigned_abs right < 2 ^ 124 }
+    ensures value { result ≡ left -ℤ right }
+    ensures small { unsigned_abs result < 2 ^ 126 }
+{
+    left - right
+}
+
+/// A size as a signed number.
+fn signed_size(size: u64) -> i64
+    requires { size < 2 ^ 62 }
+    ensures value { result ≡ pos size }
+{
+    size as i64
+}
+
+/// A number with its sign changed, where another is below 0.
+fn with_sign(number: i64, other: i64) -> i64
+    requires { unsigned_abs number < 2 ^ 62 }
+    ensures value { result *ℤ other ≡ number *ℤ pos (unsigned_abs other) }
+    ensures small { unsigned_abs result < 2 ^ 62 }
+{
+    if other < 0 { -number } else { number }
+}
+
+/// `number / g`, of a divisor of the number.
+fn cofactor(number: i64, g: u64) -> i64
+    requires positive { 0 < g }
+    requires small { unsigned_abs number < 2 ^ 62 }
+    ensures value { result ≡ int_div number (pos g) }
+    ensures small { unsigned_abs result < 2 ^ 62 }
+{
+    let size = signed_size(number.unsigned_abs() / g);
+    if number < 0 { -size } else { size }
+}
+
+impl Whole {
+    /// `times` times a number, less `less` times that of row `p`.
+    pub(crate) fn raw(&self, p: usize, i: usize, times: i64, less: i64, column: usize) -> i128
+        requires row { i < self.now.rows }
+        requires own { p < self.now.rows }
+        requires column { column < self.now.width }
+        requires times { unsigned_abs times < 2 ^ 62 }
+        requires less { unsigned_abs less < 2 ^ 62 }
+        ensures value { result ≡ raw_number self.now p i times less column }
+        ensures small { unsigned_abs result < 2 ^ 126 }
+    {
+        difference(
+            product(self.number(i, column), times),
+            product(less, self.number(p, column)),
+        )
+    }
+
+    /// The entry of a pivot, which isn't 0.
+    fn pivot_number(&self, p: usize, q: usize) -> i64
+        requires { IsPivotOf self.now p q }
+        ensures value { result ≡ number_at self.now p q }
+        ensures small { unsigned_abs result < 2 ^ 62 }
+        ensures not_zero { 0 < unsigned_abs result }
+    {
+        self.number(p, q)
+    }
+
+    /// What is common to a denominator and all numbers of a row.
+    fn content(&self, p: usize, i: usize, times: i64, less: i64, base: u128) -> u128
+        requires row { i < self.now.rows }
+        requires own { p < self.now.rows }
+        requires times { unsigned_abs times < 2 ^ 62 }
+        requires less { unsigned_abs less < 2 ^ 62 }
+        requires base { 0 < base }
+        ensures content { let row = raw_number self.now p i times less in
+            IsContent row self.now.width base result }
+    {
+        let mut g = base;
+        for column in 0..self.width() {
+            if g == 1 {
+                return 1;
+            }
+            g = gcd(self.raw(p, i, times, less, column).unsigned_abs(), g);
+        }
+        g
+    }
+
+    /// What becomes of the pivot's row.
+    fn own_change(&self, p: usize, q: usize) -> RowChange
+        requires pivot { IsPivotOf self.now p q }
+        ensures change { IsRowChange self.now p q p result }
+    {
+        let entry = self.pivot_number(p, q);
+        let times = with_sign(1, entry);
+        let base = entry.unsigned_abs() as u128;
+        RowChange {
+            times,
+            less: 0,
+            base,
+            by: self.content(p, p, times, 0, base),
+        }
+    }
+
+    /// What becomes of another row.
+    fn other_change(&self, p: usize, q: usize, i: usize) -> RowChange
+        requires pivot { IsPivotOf self.now p q }
+        requires row { i < self.now.rows }
+        requires other { i ≢ p }
+        ensures change { IsRowChange self.now p q i result }
+    {
+        let entry = self.pivot_number(p, q);
+        let lost = self.number(i, q);
+        let g = gcd_of_words(lost.unsigned_abs(), entry.unsigned_abs());
+        let size = entry.unsigned_abs() / g;
+        let times = signed_size(size);
+        let less = with_sign(cofactor(lost, g), entry);
+        let base = self.under(i) as u128 * size as u128;
+        RowChange {
+            times,
+            less,
+            base,
+            by: self.content(p, i, times, less, base),
+        }
+    }
+
+    /// What becomes of a row.
+    pub(crate) fn change(&self, p: usize, q: usize, i: usize) -> RowChange
+        requires pivot { IsPivotOf self.now p q }
+        requires row { i < self.now.rows }
+        ensures change { IsRowChange self.now p q i result }
+    {
+        if i == p {
+            return self.own_change(p, q);
+        }
+        self.other_change(p, q, i)
+    }
+}
