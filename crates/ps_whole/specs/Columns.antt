@@ -31,6 +31,10 @@ pub record IsCopiedTo (w : WholeCells) (i : ℕ) (old : List ℤ) (n : ℕ) (new
   pub before : (k : ℕ) → k < length old → get_or new k (pos 0) ≡ get_or old k (pos 0)
   pub here : (j : ℕ) → j < n → get_or new (length old + j) (pos 0) ≡ number_at w i j
 
+-- a whole row was appended
+abbrev pub IsCopied : WholeCells → ℕ → List ℤ → List ℤ → Type 0
+IsCopied w i old new = IsCopiedTo w i old w.width new
+
 -- the first n rows with a new column
 pub record IsWidenedTo (w : WholeCells) (entries : List ℤ) (n : ℕ) (numbers : List ℤ) : Type 0 where
   pub count : length numbers ≡ n * suc w.width

@@ -1,5 +1,5 @@
 -- Pivots of rows of whole numbers.
-use Rattle.std.specs.Prelude.{◌≡◌, ◌≢◌, ℕ, ◌+◌, ◌*◌, ◌<◌, ◌^◌, List, get_or, length, ℤ, pos, ◌*ℤ◌, ◌-ℤ◌, unsigned_abs}
+use Rattle.std.specs.Prelude.{◌≡◌, ◌≢◌, ℕ, suc, ◌+◌, ◌*◌, ◌<◌, ◌^◌, List, get_or, length, ℤ, pos, ◌*ℤ◌, ◌-ℤ◌, unsigned_abs}
 use Rattle.std.specs.Int.{◌∣◌}
 use Rattle.ps_rational.specs.Rational.{Rational, fraction, mul, sub, neg, div, inverse, zero_q}
 use Rattle.ps_rational.specs.Wide.{ProductIsWide, SumIsWide}
@@ -52,6 +52,10 @@ pub record IsPushedTo (row : ℕ → ℤ) (by : ℕ) (old : List ℤ) (n : ℕ) 
   pub small : (j : ℕ) → j < n → unsigned_abs (get_or new (length old + j) (pos 0)) < 2 ^ 62
   pub here : (j : ℕ) → j < n → get_or new (length old + j) (pos 0) *ℤ pos by ≡ row j
 
+-- a whole row after the change was appended
+abbrev pub HasRow : WholeCells → ℕ → ℕ → RowChange → List ℤ → List ℤ → Type 0
+HasRow w p i change old new = IsPushedTo (raw_number w p i change.times change.less) change.by old w.width new
+
 -- the first n rows after the pivot
 pub record IsPivotedTo (w : WholeCells) (p q n : ℕ) (numbers : List ℤ) (unders : List ℕ) : Type 0 where
   pub count : length numbers ≡ n * w.width
@@ -61,6 +65,14 @@ pub record IsPivotedTo (w : WholeCells) (p q n : ℕ) (numbers : List ℤ) (unde
   pub small : (k : ℕ) → unsigned_abs (get_or numbers k (pos 0)) < 2 ^ 62
   pub cells : (i j : ℕ) → i < n → j < w.width
       → IsPivotCell (whole_at w) p q i j (fraction (get_or numbers (i * w.width + j) (pos 0)) (get_or unders i 1))
+
+-- the first n rows after the pivot, and row n
+abbrev pub HasNextRow : WholeCells → ℕ → ℕ → ℕ → List ℤ → List ℕ → Type 0
+HasNextRow w p q n numbers unders = IsPivotedTo w p q (suc n) numbers unders
+
+-- all rows after the pivot
+abbrev pub ArePivoted : WholeCells → ℕ → ℕ → List ℤ → List ℕ → Type 0
+ArePivoted w p q numbers unders = IsPivotedTo w p q w.rows numbers unders
 
 -- the table after a pivot in row p and column q
 pub record IsPivoted (old : WholeCells) (p q : ℕ) (new : WholeCells) : Type 0 where

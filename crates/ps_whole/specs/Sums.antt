@@ -1,6 +1,6 @@
 -- Sums of entries, over one denominator.
-use Rattle.std.specs.Prelude.{◌≡◌, ◌<◌, ◌^◌, unsigned_abs}
-use Rattle.ps_rational.specs.Rational.{Rational, fraction, add}
+use Rattle.std.specs.Prelude.{◌≡◌, ◌<◌, ◌^◌, ℤ, unsigned_abs}
+use Rattle.ps_rational.specs.Rational.{Rational, fraction, add, mul}
 use Rattle.ps_rational.specs.Wide.{SumIsWide}
 use Rattle.ps_whole.specs.declared.sums.WholeSum.{WholeSum}
 
@@ -19,3 +19,7 @@ pub record IsSumOf (x y : Rational) (s : WholeSum) : Type 0 where
   pub small : IsSmallSum s
   pub value : value_of s ≡ add x y
   pub narrow : ¬ SumIsWide x y
+
+-- a sum with a cost times an entry
+abbrev pub IsSumWith : WholeSum → ℤ → Rational → WholeSum → Type 0
+IsSumWith sum cost entry s = IsSumOf (value_of sum) (mul (fraction cost 1) entry) s

@@ -17,3 +17,6 @@ pub use laws::row_laws;
 pub use limits::MOST_ROWS;
 pub use rows::Whole;
 pub use sums::WholeSum;
+
+#[cfg(test)]
+mod tests;

@@ -1,8 +1,9 @@
 //! Tables after a pivot.
-ghost use Rattle.std.specs.Prelude.{◌≡◌, ◌≢◌, suc, ◌+◌, ◌*◌, ◌<◌, ◌≤◌, ◌^◌, length, IsTrue};
+ghost use Rattle.std.specs.Prelude.{◌≡◌, ◌≢◌, suc, ◌+◌, ◌*◌, ◌<◌, ◌≤◌, ◌^◌, length};
 ghost use Rattle.std.specs.Prelude.{IfOk, IfSome, unsigned_abs};
+ghost use Rattle.ps_whole.specs.Whole.{IfAll};
 ghost use Rattle.ps_whole.specs.Pivots.{IsPivotOf, IsPivoted, IsNarrowed, ArePivotsNarrow};
-ghost use Rattle.ps_whole.specs.Pivots.{raw_number, IsPushedTo, IsPivotedTo, IsSmallContent};
+ghost use Rattle.ps_whole.specs.Pivots.{HasRow, HasNextRow, IsPivotedTo, ArePivoted, IsSmallContent};
 
 use crate::change::RowChange;
 use crate::dividing::{part, quotient};
@@ -32,9 +33,7 @@ impl Whole {
         requires own { p < self.now.rows }
         requires row { i < self.now.rows }
         requires change { IsSmallContent self.now p i change.now }
-        ensures made { let row = raw_number self.now p i change.now.times change.now.less in
-            IfOk result (λ all. IsTrue all
-            → IsPushedTo row change.now.by made.old.items self.now.width made.new.items) }
+        ensures all { IfAll result (HasRow self.now p i change.now made.old.items made.new.items) }
     {
         for column in 0..self.width() {
             let raw = self.raw(p, i, change.times, change.less, column);
@@ -58,8 +57,7 @@ impl Whole {
         requires pivot { IsPivotOf self.now p q }
         requires row { i < self.now.rows }
         requires before { IsPivotedTo self.now p q i numbers.old.items unders.old.items }
-        ensures after { IfOk result (λ all. IsTrue all
-            → IsPivotedTo self.now p q (suc i) numbers.new.items unders.new.items) }
+        ensures all { IfAll result (HasNextRow self.now p q i numbers.new.items unders.new.items) }
     {
         let change = self.change(p, q, i);
         let under = part(change.base, change.by);
@@ -83,8 +81,7 @@ impl Whole {
     ) -> Result<bool, NoMemory>
         requires pivot { IsPivotOf self.now p q }
         requires before { IsPivotedTo self.now p q 0 numbers.old.items unders.old.items }
-        ensures after { IfOk result (λ all. IsTrue all
-            → IsPivotedTo self.now p q self.now.rows numbers.new.items unders.new.items) }
+        ensures all { IfAll result (ArePivoted self.now p q numbers.new.items unders.new.items) }
     {
         for i in 0..self.rows() {
             if !self.push_row(p, q, i, numbers, unders)? {

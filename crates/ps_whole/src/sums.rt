@@ -1,9 +1,9 @@
 //! Sums of entries, over one denominator.
 ghost use Rattle.std.specs.Prelude.{◌≡◌, ◌+◌, ◌*◌, ◌/◌, ◌<◌, ◌≤◌, ◌^◌, pos, negsuc, ◌+ℤ◌, ◌*ℤ◌};
 ghost use Rattle.std.specs.Prelude.{◌≤ℤ◌, IfSome, unsigned_abs};
-ghost use Rattle.ps_rational.specs.Rational.{fraction, mul, zero_q};
+ghost use Rattle.ps_rational.specs.Rational.{fraction, zero_q};
 ghost use Rattle.ps_whole.specs.Whole.{whole_at};
-ghost use Rattle.ps_whole.specs.Sums.{value_of, IsSmallSum, IsSumOf};
+ghost use Rattle.ps_whole.specs.Sums.{value_of, IsSmallSum, IsSumOf, IsSumWith};
 
 use crate::dividing::part;
 use crate::limits::SUM_LIMIT;
@@ -136,8 +136,7 @@ impl Whole {
         requires high { cost ≤ℤ pos 1 }
         requires row { row < self.now.rows }
         requires column { column < self.now.width }
-        ensures sum { let entry = whole_at self.now row column in
-            IfSome result (IsSumOf (value_of sum.now) (mul (fraction cost 1) entry)) }
+        ensures sum { IfSome result (IsSumWith sum.now cost (whole_at self.now row column)) }
     {
         sum.plus(cost_times(cost, self.number(row, column)), self.under(row))
     }

@@ -93,8 +93,7 @@ impl Whole {
         requires times { unsigned_abs times < 2 ^ 62 }
         requires less { unsigned_abs less < 2 ^ 62 }
         requires base { 0 < base }
-        ensures content { let row = raw_number self.now p i times less in
-            IsContent row self.now.width base result }
+        ensures common { IsContent (raw_number self.now p i times less) self.now.width base result }
     {
         let mut g = base;
         for column in 0..self.width() {

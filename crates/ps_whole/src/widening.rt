@@ -1,7 +1,8 @@
 //! A column more.
 ghost use Rattle.std.specs.Prelude.{◌≡◌, suc, ◌+◌, ◌<◌, ◌≤◌, ◌^◌, length, ◌+ℤ◌, ◌*ℤ◌};
-ghost use Rattle.std.specs.Prelude.{IfOk, IfSome, IsTrue, unsigned_abs};
-ghost use Rattle.ps_whole.specs.Columns.{IsPartSum, IsCopiedTo, IsWidenedTo, IsWidened};
+ghost use Rattle.std.specs.Prelude.{IfOk, IfSome, unsigned_abs};
+ghost use Rattle.ps_whole.specs.Whole.{IfAll};
+ghost use Rattle.ps_whole.specs.Columns.{IsPartSum, IsCopied, IsWidenedTo, IsWidened};
 ghost use Rattle.ps_whole.specs.declared.limits.TheConstants.{MOST_COLUMNS};
 
 use crate::pivoting::narrow;
@@ -58,8 +59,7 @@ impl Whole {
     /// Appends the numbers of a row.
     fn push_copied(&self, i: usize, made: &mut Vec<i64>) -> Result<(), NoMemory>
         requires row { i < self.now.rows }
-        ensures copied { IfOk result
-            (λ _. IsCopiedTo self.now i made.old.items self.now.width made.new.items) }
+        ensures copied { IfOk result (λ _. IsCopied self.now i made.old.items made.new.items) }
     {
         for column in 0..self.width() {
             made.push(self.number(i, column))?;
@@ -73,8 +73,7 @@ impl Whole {
         requires homes { self.now.rows < self.now.width }
         requires count { length entries.now ≡ self.now.rows }
         requires before { IsWidenedTo self.now entries.now i made.old.items }
-        ensures after { IfOk result (λ all. IsTrue all
-            → IsWidenedTo self.now entries.now (suc i) made.new.items) }
+        ensures after { IfAll result (IsWidenedTo self.now entries.now (suc i) made.new.items) }
     {
         // Called for its clauses: the numbers are small.
         self.rows();
@@ -93,8 +92,7 @@ impl Whole {
         requires homes { self.now.rows < self.now.width }
         requires count { length entries.now ≡ self.now.rows }
         requires before { IsWidenedTo self.now entries.now 0 made.old.items }
-        ensures after { IfOk result (λ all. IsTrue all
-            → IsWidenedTo self.now entries.now self.now.rows made.new.items) }
+        ensures all { IfAll result (IsWidenedTo self.now entries.now self.now.rows made.new.items) }
     {
         for i in 0..self.rows() {
             if !self.push_wider(entries, i, made)? {

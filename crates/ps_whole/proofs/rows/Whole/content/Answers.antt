@@ -8,7 +8,7 @@ use Rattle.ps_whole.specs.Pivots.{raw_number}
 use Rattle.ps_whole.proofs.rows.Whole.content.Goals as goal
 
 pub returns-then-g-eq1 : goal.returns-then-g-eq1
-returns-then-g-eq1 c = record { content = record { positive = omega arith; under = one-dvd c.args.base; over = λ j l. one-dvd (unsigned_abs (raw_number c.args.self.now c.args.p c.args.i c.args.times c.args.less j)) } }
+returns-then-g-eq1 c = record { common = record { positive = omega arith; under = one-dvd c.args.base; over = λ j l. one-dvd (unsigned_abs (raw_number c.args.self.now c.args.p c.args.i c.args.times c.args.less j)) } }
 
 pub loop-column-preserved : goal.loop-column-preserved
 loop-column-preserved c =
@@ -38,7 +38,7 @@ returns c =
     let et : to_z w64 (of_z w64 c.args.times) ≡ c.args.times = to_z-of_z w64 c.args.times ft in
     let el : to_z w64 (of_z w64 c.args.less) ≡ c.args.less = to_z-of_z w64 c.args.less fl in
     record {
-      content = record {
+      common = record {
         positive = c.loop-column.invariant.positive;
         under = c.loop-column.invariant.under;
         over = λ j l. subst (λ z. c.loop-column.g ∣ unsigned_abs z) (λ k. raw_number w c.args.p c.args.i (et k) (el k) j)

@@ -15,7 +15,7 @@ returns c =
     let all : IsTrue c.in_ok-push_all_wider.field-0 = search rules in
     let un : c.extend_from_slice.new.self.items ≡ us = search rules in
     let wide : suc k ≡ k + 1 = omega arith in
-    let to : IsWidenedTo w es n zs = subst (λ (s : WholeCells). IsWidenedTo s es s.rows zs) (sym c.self.view_is) (c.in_ok-push_all_wider.ensures.after all) in
+    let to : IsWidenedTo w es n zs = subst (λ (s : WholeCells). IsWidenedTo s es s.rows zs) (sym c.self.view_is) (c.in_ok-push_all_wider.ensures.all all) in
     record {
       widened = subst (λ (old : WholeCells). IsWidened es old (record { rows = n; width = k + 1; numbers = zs; unders = c.extend_from_slice.new.self.items })) c.self.view_is
           (subst (λ m. IsWidened es w (record { rows = n; width = m; numbers = zs; unders = c.extend_from_slice.new.self.items })) wide
