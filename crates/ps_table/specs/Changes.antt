@@ -4,9 +4,7 @@ use Rattle.std.specs.List.{All}
 use Rattle.ps_rational.specs.Rational.{Rational, zero_q}
 use Rattle.ps_table.specs.declared.change.Change.{Change}
 use Rattle.ps_table.specs.declared.pivot.Pivot.{Pivot}
-use Rattle.ps_pool.specs.declared.col.Col.{Col}
-use Rattle.ps_table.specs.Tableau.{Tableau}
-use Rattle.ps_table.specs.Grids.{GridCells, pivoted_in, IsNarrowBeside, ArePivoted, ArePivotedIn}
+use Rattle.ps_table.specs.Grids.{GridCells, pivoted_in, IsNarrowBeside, ArePivoted}
 
 -- the cells with these changes, made one after the other
 abbrev pub written : List Rational → List Change → List Rational
@@ -35,7 +33,3 @@ IsUpToRow g p i j changes = IsUpTo g p (j * g.rows + i) changes
 -- the changes of a pivot: with them the cells are those after it
 abbrev pub ArePivotChanges : GridCells → Pivot → List Change → Type 0
 ArePivotChanges g p changes = ArePivoted g p (written g.cells changes)
-
--- the changes of a table's pivot in row p and column q
-abbrev pub ArePivotChangesIn : Tableau → ℕ → Col → List Change → Type 0
-ArePivotChangesIn t p q changes = ArePivotedIn t p q (written t.cells changes)

@@ -16,6 +16,8 @@ use Rattle.ps_pool.specs.declared.col.Col.{Col}
 use Rattle.ps_pool.specs.declared.col.Col.TheVariants as col
 use Rattle.ps_simplex.specs.Table.{unit_at}
 use Rattle.ps_table.specs.declared.costs.Costs.{Costs}
+use Rattle.ps_whole.specs.declared.sums.WholeSum.{WholeSum}
+use Rattle.ps_whole.specs.Sums.{value_of, IsSumOf}
 use Rattle.ps_table.specs.Pricing.{part_at, carried_to}
 use Rattle.ps_table.specs.Places.{IsOperationWide, PivotPlace, NewPlace, new_part}
 
@@ -62,6 +64,10 @@ AreHomes n basic = (i : ℕ) → i < n → get_or basic i (col.Home 0) ≡ col.H
 -- what the rows before row i carry of a column
 abbrev pub carried_before : Tableau → Costs → Col → ℕ → Rational
 carried_before t costs c i = carried_to t costs (number_of t c) i
+
+-- a sum with what row i carries of a column
+abbrev pub IsNextSum : Tableau → Costs → Col → ℕ → WholeSum → WholeSum → Type 0
+IsNextSum t costs c i old new = IsSumOf (value_of old) (part_at t costs (number_of t c) i) new
 
 -- adding what row i carries of a column isn't refused
 abbrev pub IsSumNarrowAt : Tableau → Costs → Col → ℕ → Type 0

@@ -17,14 +17,6 @@ pub(crate) fn cell(cells: &[Fraction], rows: usize, row: usize, column: usize) -
     cells[column * rows + row]
 }
 
-/// Row `row` of the column whose first cell is at `start`.
-pub(crate) fn cell_after(cells: &[Fraction], start: usize, row: usize) -> Fraction
-    requires { start + row < length cells.now }
-    ensures value { result ≡ get_or cells.now (start + row) zero_q }
-{
-    cells[start + row]
-}
-
 /// The number of a column, where the right side is 0.
 pub(crate) fn number_of(rows: usize, col: Col) -> usize
     requires { rows ≤ MOST_ROWS }

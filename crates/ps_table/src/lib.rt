@@ -10,6 +10,7 @@ mod error;
 mod first;
 mod grid;
 mod home;
+mod kept;
 mod laws;
 mod limits;
 mod pivot;

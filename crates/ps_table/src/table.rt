@@ -1,7 +1,8 @@
 //! The table of a basis.
 ghost use Rattle.std.specs.Prelude.{◌≡◌, ◌≢◌, suc, ◌+◌, ◌*◌, ◌<◌, ◌≤◌, length, get_or};
-ghost use Rattle.std.specs.Prelude.{IfOk, IfErr, IsTrue};
+ghost use Rattle.std.specs.Prelude.{IfOk, IfErr, IfSome, IsTrue};
 ghost use Rattle.ps_rational.specs.Rational.{zero_q};
+ghost use Rattle.ps_whole.specs.Sums.{IsSmallSum};
 ghost use Rattle.ps_pool.specs.declared.pool.TheConstants.{MOST_WORLDS};
 ghost use Rattle.ps_table.specs.declared.limits.TheConstants.{MOST_ROWS};
 ghost use Rattle.ps_table.specs.Tableau.{Tableau, IsTableau, rows_of};
@@ -11,25 +12,23 @@ ghost use Rattle.ps_table.specs.Tableau.{IsPivot, IsAdded, KeepsSystem, ExtendsS
 ghost use Rattle.ps_table.specs.Pricing.{HasCosts, cost_at, part_at, carried_of, multiplier_of};
 ghost use Rattle.ps_table.specs.Places.{PivotPlaces, NewPlaces, CostPlaces, HomePlaces};
 ghost use Rattle.ps_table.specs.Places.{IsWideAt, IsRefusedAt, IsNarrow};
-ghost use Rattle.ps_table.specs.Grids.{grid_of, IsMadeColumn};
-ghost use Rattle.ps_table.specs.Grids.{carried_before, IsSumNarrowAt};
-ghost use Rattle.ps_table.specs.Changes.{AreInside, ArePivotChangesIn};
+ghost use Rattle.ps_table.specs.Grids.{grid_of, IsPivotOf, ArePivotedIn};
+ghost use Rattle.ps_table.specs.Grids.{carried_before, IsNextSum, IsSumNarrowAt};
+ghost use Rattle.ps_table.specs.KeptCells.{IsWorldOn};
 
-use crate::adding::new_column;
 use crate::at_place::plus_at;
-use crate::cells::{cell, cell_after, number_of as column_number};
-use crate::change::{Change, write_all};
+use crate::cells::number_of as column_number;
 use crate::costs::{Costs, cost_of, cost_times};
 use crate::error::TableError;
-use crate::first::{first_basic, first_cells};
-use crate::grid::Grid;
+use crate::first::first_basic;
 use crate::home::Home;
+use crate::kept::Kept;
 use crate::pivot::Pivot;
-use crate::pivoting::pivot_changes;
 use crate::place::{Place, WideAt};
 use ps_frac::Fraction;
 use ps_io::NoMemory;
 use ps_pool::Col;
+use ps_whole::WholeSum;
 use std::alloc::Global;
 use std::marker::Model;
 
@@ -37,31 +36,31 @@ use std::marker::Model;
 /// in each row.
 #[derive(Drop)]
 pub struct Table {
-    alloc: Global,
     homes: Vec<Home>,
     worlds: u32,
-    cells: Vec<Fraction>,
+    kept: Kept,
     basic: Vec<Col>,
 }
 
 impl Model for Table {
-    ghost use Rattle.ps_table.specs.Tableau.{Tableau, IsTableau};
+    ghost use Rattle.ps_table.specs.Tableau.{Tableau};
+    ghost use Rattle.ps_table.specs.KeptCells.{IsKeptTableau};
 
     ghost Value = { Tableau };
 
     ghost view = { λ t. record {
       kinds = t.homes.items;
       worlds = t.worlds;
-      cells = t.cells.items;
+      cells = t.kept.cells;
       basic = t.basic.items;
     } };
 
-    ghost invariant = { λ t. IsTableau (record {
+    ghost invariant = { λ t. IsKeptTableau (record {
       kinds = t.homes.items;
       worlds = t.worlds;
-      cells = t.cells.items;
+      cells = t.kept.cells;
       basic = t.basic.items;
-    }) };
+    }) t.kept };
 }
 
 impl Table {
@@ -75,15 +74,14 @@ impl Table {
         ensures cells { IfOk result (HasUnitHomes homes.now) }
         ensures stands { IfOk result (IsTableForHomes homes.now) }
     {
-        let cells = first_cells(alloc, homes.len())?;
+        let kept = Kept::of_homes(alloc, homes.len())?;
         let basic = first_basic(alloc, homes.len())?;
         let mut kinds = Vec::new(alloc);
         kinds.extend_from_slice(homes)?;
         Ok(Table {
-            alloc,
             homes: kinds,
             worlds: 0,
-            cells,
+            kept,
             basic,
         })
     }
@@ -123,23 +121,21 @@ impl Table {
     }
 
     /// The entry of the right side in a row.
-    #[tactic(auto, using(crate::proofs::Columns::cell_within))]
     pub fn value(&self, row: u32) -> Fraction
         requires { row < rows_of self.now }
         ensures value { result ≡ entry_at self.now row 0 }
     {
-        cell(&self.cells, self.homes.len(), row as usize, 0)
+        self.kept.entry(row as usize, 0)
     }
 
     /// The entry of a column in a row.
-    #[tactic(auto, using(crate::proofs::Columns::cell_within))]
     pub fn entry(&self, row: u32, col: Col) -> Fraction
         requires row { row < rows_of self.now }
         requires col { HasColumn self.now col }
         ensures value { result ≡ entry_of self.now row col }
     {
-        let rows = self.homes.len();
-        cell(&self.cells, rows, row as usize, column_number(rows, col))
+        self.kept
+            .entry(row as usize, column_number(self.homes.len(), col))
     }
 
     /// The number of a column, where the right side is 0.
@@ -152,6 +148,49 @@ impl Table {
 
     /// What the rows carry of a column: the sum of the basic columns' costs times the entries.
     pub fn carried(&self, costs: &Costs, col: Col) -> Result<Fraction, WideAt>
+        requires costs { HasCosts costs.now self.now }
+        requires col { HasColumn self.now col }
+        ensures value { IfOk result (λ r. r ≡ carried_of self.now costs.now col) }
+        ensures narrow { IfOk result (λ _. IsNarrow (CostPlaces self.now costs.now col)) }
+        ensures refused { IfErr result (IsWideAt (CostPlaces self.now costs.now col)) }
+    {
+        match self.carried_whole(costs, col) {
+            Some(sum) => Ok(sum),
+            None => self.carried_fractions(costs, col),
+        }
+    }
+
+    /// What the rows carry of a column, added over one denominator, where the entries are rows of
+    /// whole numbers and the sums stay small.
+    fn carried_whole(&self, costs: &Costs, col: Col) -> Option<Fraction>
+        requires costs { HasCosts costs.now self.now }
+        requires col { HasColumn self.now col }
+        ensures value { IfSome result (λ r. r ≡ carried_of self.now costs.now col) }
+        ensures narrow { IfSome result (λ _. IsNarrow (CostPlaces self.now costs.now col)) }
+    {
+        let mut sum = WholeSum::zero();
+        for row in 0..self.rows() {
+            sum = self.whole_sum_with(costs, col, row, &sum)?;
+        }
+        Some(sum.fraction())
+    }
+
+    /// A sum with what row `row` carries of a column, where the entries are rows of whole numbers
+    /// and the sum stays small.
+    fn whole_sum_with(&self, costs: &Costs, col: Col, row: u32, sum: &WholeSum) -> Option<WholeSum>
+        requires costs { HasCosts costs.now self.now }
+        requires col { HasColumn self.now col }
+        requires row { row < rows_of self.now }
+        requires small { IsSmallSum sum.now }
+        ensures sum { IfSome result (IsNextSum self.now costs.now col row sum.now) }
+    {
+        let cost = cost_of(costs, self.basic(row));
+        let column = column_number(self.homes.len(), col);
+        self.kept.sum_with(sum, cost, row as usize, column)
+    }
+
+    /// What the rows carry of a column, added as fractions.
+    fn carried_fractions(&self, costs: &Costs, col: Col) -> Result<Fraction, WideAt>
         requires costs { HasCosts costs.now self.now }
         requires col { HasColumn self.now col }
         ensures value { IfOk result (λ r. r ≡ carried_of self.now costs.now col) }
@@ -172,27 +211,17 @@ impl Table {
         ensures narrow { IfOk result (λ _. IsNarrow (CostPlaces self.now costs.now col)) }
         ensures refused { IfErr result (IsWideAt (CostPlaces self.now costs.now col)) }
     {
-        let rows = self.homes.len();
-        let start = column_number(rows, col) * rows;
         for row in 0..self.rows() {
-            self.add_row(costs, col, start, row, sum)?;
+            self.add_row(costs, col, row, sum)?;
         }
         Ok(())
     }
 
     /// Adds what row `row` carries of a column to what the rows before do; a row that carries 0
     /// takes no operation.
-    fn add_row(
-        &self,
-        costs: &Costs,
-        col: Col,
-        start: usize,
-        row: u32,
-        sum: &mut Fraction,
-    ) -> Result<(), WideAt>
+    fn add_row(&self, costs: &Costs, col: Col, row: u32, sum: &mut Fraction) -> Result<(), WideAt>
         requires costs { HasCosts costs.now self.now }
         requires col { HasColumn self.now col }
-        requires start { start ≡ number_of self.now col * rows_of self.now }
         requires row { row < rows_of self.now }
         requires sum { sum.old ≡ carried_before self.now costs.now col row }
         ensures value { IfOk result
@@ -200,7 +229,7 @@ impl Table {
         ensures narrow { IfOk result (λ _. IsSumNarrowAt self.now costs.now col row) }
         ensures refused { IfErr result (IsWideAt (CostPlaces self.now costs.now col)) }
     {
-        if self.carries_nothing(costs, col, start, row) {
+        if self.carries_nothing(costs, col, row) {
             // Called for its clauses: a sum that fits isn't refused with 0.
             sum.fits();
             return Ok(());
@@ -228,18 +257,25 @@ impl Table {
         plus_at(Place::Cost { col, row }, sum, &self.part(costs, col, row))
     }
 
-    /// Whether row `row` carries 0 of the column whose first cell is at `start`: its basic column
-    /// costs 0, or its entry is 0.
-    fn carries_nothing(&self, costs: &Costs, col: Col, start: usize, row: u32) -> bool
+    /// Whether row `row` carries 0 of a column: its basic column costs 0, or its entry is 0.
+    fn carries_nothing(&self, costs: &Costs, col: Col, row: u32) -> bool
         requires costs { HasCosts costs.now self.now }
         requires col { HasColumn self.now col }
-        requires start { start ≡ number_of self.now col * rows_of self.now }
         requires row { row < rows_of self.now }
         ensures nothing { IsTrue result → part_at self.now costs.now (number_of self.now col) row
             ≡ zero_q }
     {
-        cost_of(costs, self.basic(row)) == 0
-            || cell_after(&self.cells, start, row as usize).is_zero()
+        cost_of(costs, self.basic(row)) == 0 || self.has_zero(row, col)
+    }
+
+    /// Whether the entry of a column in a row is 0.
+    fn has_zero(&self, row: u32, col: Col) -> bool
+        requires row { row < rows_of self.now }
+        requires col { HasColumn self.now col }
+        ensures zero { IsTrue result → entry_of self.now row col ≡ zero_q }
+    {
+        self.kept
+            .is_zero(row as usize, column_number(self.homes.len(), col))
     }
 
     /// The cost of a column.
@@ -272,21 +308,14 @@ impl Table {
         self.carried(costs, Col::Home(row))
     }
 
-    /// The entries by row and column.
-    fn grid(&self) -> Grid<'_>
-        ensures value { result ≡ grid_of self.now }
-    {
-        Grid::of(self.homes.len(), self.worlds as usize, &self.cells)
-    }
-
-    /// The column of a new world with these entries.
-    fn new_column(&self, entries: &[i64]) -> Result<Vec<Fraction>, TableError>
+    /// The entries with the column of a new world.
+    fn with_world(&self, entries: &[i64]) -> Result<Kept, TableError>
         requires count { length entries.now ≡ rows_of self.now }
-        ensures made { IfOk result (λ v. IsMadeColumn (grid_of self.now) entries.now v.items) }
-        ensures narrow { IfOk result (λ _. IsNarrow (NewPlaces self.now entries.now)) }
+        requires room { self.now.worlds < MOST_WORLDS }
+        ensures widened { IfOk result (IsWorldOn (grid_of self.now) entries.now) }
         ensures refused { IfErr result (IsRefusedAt (NewPlaces self.now entries.now)) }
     {
-        new_column(self.alloc, &self.grid(), entries)
+        self.kept.with_world(entries)
     }
 
     /// Adds the column of a world with these entries, and answers its number.
@@ -300,28 +329,41 @@ impl Table {
         ensures refused { IfErr result (IsRefusedAt (NewPlaces self.old entries.now)) }
         ensures same { IfErr result (λ _. self.new ≡ self.old) }
     {
-        let column = self.new_column(entries)?;
-        self.cells.extend_from_slice(&column)?;
+        let made = self.with_world(entries)?;
+        self.kept = made;
         self.worlds += 1;
         Ok(self.worlds)
     }
 
-    /// The changes of a pivot in a row and a column.
-    fn changes(&self, row: u32, col: Col) -> Result<Vec<Change>, TableError>
+    /// The pivot in a row and a column.
+    fn pivot_at(&self, row: u32, col: Col) -> Pivot
         requires row { row < rows_of self.now }
         requires col { HasColumn self.now col }
         requires pivot { entry_of self.now row col ≢ zero_q }
-        ensures inside { IfOk result (λ v. AreInside self.now.cells v.items) }
-        ensures pivoted { IfOk result (λ v. ArePivotChangesIn self.now row col v.items) }
-        ensures narrow { IfOk result (λ _. IsNarrow (PivotPlaces self.now row col)) }
-        ensures refused { IfErr result (IsRefusedAt (PivotPlaces self.now row col)) }
+        ensures row { result.row ≡ row }
+        ensures column { result.column ≡ number_of self.now col }
+        ensures pivot { IsPivotOf (grid_of self.now) result }
     {
-        let pivot = Pivot {
+        Pivot {
             row: row as usize,
             column: column_number(self.homes.len(), col),
             by: self.entry(row, col),
-        };
-        pivot_changes(self.alloc, &self.grid(), &pivot)
+        }
+    }
+
+    /// The entries after a pivot in a row and a column.
+    fn after_pivot(&self, row: u32, col: Col) -> Result<Kept, TableError>
+        requires row { row < rows_of self.now }
+        requires col { HasColumn self.now col }
+        requires pivot { entry_of self.now row col ≢ zero_q }
+        ensures rows { IfOk result (λ g. g.rows ≡ rows_of self.now) }
+        ensures worlds { IfOk result (λ g. g.worlds ≡ self.now.worlds) }
+        ensures count { IfOk result (λ g. length g.cells ≡ length self.now.cells) }
+        ensures pivoted { IfOk result (λ g. ArePivotedIn self.now row col g.cells) }
+        ensures narrow { IfOk result (λ _. IsNarrow (PivotPlaces self.now row col)) }
+        ensures refused { IfErr result (IsRefusedAt (PivotPlaces self.now row col)) }
+    {
+        self.kept.after_pivot(&self.pivot_at(row, col))
     }
 
     /// Makes column `col` basic in row `row`.
@@ -335,8 +377,8 @@ impl Table {
         ensures refused { IfErr result (IsRefusedAt (PivotPlaces self.old row col)) }
         ensures same { IfErr result (λ _. self.new ≡ self.old) }
     {
-        let changes = self.changes(row, col)?;
-        write_all(&mut self.cells, &changes);
+        let made = self.after_pivot(row, col)?;
+        self.kept = made;
         self.basic[row as usize] = col;
         Ok(())
     }

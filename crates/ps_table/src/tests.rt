@@ -3,6 +3,7 @@
 mod carrying;
 mod conditions;
 mod refusals;
+mod turning;
 
 use crate::{Home, Table, can_be_printed};
 use conditions::{adds, has_entry, has_value, pivots};

@@ -34,14 +34,15 @@ const CASES: [Case; 3] = [
     },
 ];
 
-fn costs(alloc: Global, case: &Case) -> Result<Costs, Fail> {
-    let mut homes = Vec::new(alloc);
-    homes.extend_from_slice(&case.homes)?;
-    let mut worlds = Vec::new(alloc);
-    worlds.extend_from_slice(&case.worlds)?;
+/// Costs of homes and of worlds.
+pub(crate) fn costs_of(alloc: Global, homes: &[i8], worlds: &[i8]) -> Result<Costs, Fail> {
+    let mut of_homes = Vec::new(alloc);
+    of_homes.extend_from_slice(homes)?;
+    let mut of_worlds = Vec::new(alloc);
+    of_worlds.extend_from_slice(worlds)?;
     Ok(Costs {
-        homes: List::from_vec(homes),
-        worlds: List::from_vec(worlds),
+        homes: List::from_vec(of_homes),
+        worlds: List::from_vec(of_worlds),
     })
 }
 
@@ -52,7 +53,7 @@ fn is_made(table: &mut Table) -> bool {
 }
 
 /// Whether the rows carry so much of a column.
-fn carries(table: &Table, costs: &Costs, col: Col, expected: (i128, i128)) -> bool {
+pub(crate) fn carries(table: &Table, costs: &Costs, col: Col, expected: (i128, i128)) -> bool {
     if !is_inside(table, col) || !has_costs(table, costs) {
         return false;
     }
@@ -111,7 +112,7 @@ fn rows_carry_columns(rt: HostRuntime) -> Result<(), Fail> {
     let mut table = Table::new(alloc, &[Home::Artificial, Home::Slack])?;
     assert!(rt; is_made(&mut table));
     for case in &CASES {
-        let costs = costs(alloc, case)?;
+        let costs = costs_of(alloc, &case.homes, &case.worlds)?;
         assert!(rt; is_case(&table, &costs, case));
     }
     Ok(())

@@ -1,6 +1,6 @@
 use Rattle.std.proofs.Common.{◌∙◌}
 use Rattle.ps_rational.proofs.Field.{zero_is_fraction}
-use Rattle.ps_table.proofs.table.Table.carried.Goals as goal
+use Rattle.ps_table.proofs.table.Table.carried_fractions.Goals as goal
 
 pub add_rows-requires-clause-sum : goal.add_rows-requires-clause-sum
 add_rows-requires-clause-sum c = c.new-sum.ensures.value ∙ zero_is_fraction

@@ -1,0 +1,295 @@
+//! The entries of a table as they are kept: rows of whole numbers while these are small, then
+//! fractions.
+ghost use Rattle.std.specs.Prelude.{◌≡◌, suc, ◌+◌, ◌*◌, ◌<◌, ◌≤◌, length, IfOk, IfErr, IfSome, IsTrue};
+ghost use Rattle.std.specs.Prelude.{pos, negsuc, ◌≤ℤ◌};
+ghost use Rattle.ps_rational.specs.Rational.{zero_q};
+ghost use Rattle.ps_whole.specs.Sums.{IsSmallSum, IsSumWith};
+ghost use Rattle.ps_whole.specs.Whole.{whole_at};
+ghost use Rattle.ps_pool.specs.declared.pool.TheConstants.{MOST_WORLDS};
+ghost use Rattle.ps_table.specs.declared.limits.TheConstants.{MOST_ROWS};
+ghost use Rattle.ps_table.specs.Places.{IsNarrow, IsRefusedAt};
+ghost use Rattle.ps_table.specs.Grids.{IsGrid, cell_in, width, AreUnits, IsPivotOf, IsNewColumn};
+ghost use Rattle.ps_table.specs.Grids.{GridPivotPlaces, GridNewPlaces, IsMadeColumn};
+ghost use Rattle.ps_table.specs.Changes.{AreInside, ArePivotChanges};
+ghost use Rattle.ps_table.specs.KeptCells.{whole_list, IsPivotOn, IsWorldOn};
+ghost use Rattle.ps_table.specs.KeptCells.{IsWholePivot, IsWholeWorld};
+
+use crate::adding::new_column;
+use crate::cells::cell;
+use crate::change::{Change, write_all};
+use crate::error::TableError;
+use crate::grid::Grid;
+use crate::pivot::Pivot;
+use crate::pivoting::pivot_changes;
+use ps_frac::Fraction;
+use ps_io::NoMemory;
+use ps_whole::{Whole, WholeSum};
+use std::alloc::Global;
+use std::marker::Model;
+
+/// The entries of a table.
+#[derive(Drop)]
+pub(crate) enum Cells {
+    /// Rows of whole numbers.
+    Whole(Whole),
+    /// Columns of fractions, one after the other.
+    Fractions(Vec<Fraction>),
+}
+
+/// The entries of a table: the right side, the homes, the worlds.
+#[derive(Drop)]
+pub(crate) struct Kept {
+    alloc: Global,
+    rows: usize,
+    worlds: usize,
+    cells: Cells,
+}
+
+impl Model for Kept {
+    ghost use Rattle.ps_table.specs.Grids.{GridCells, cells_of};
+    ghost use Rattle.ps_table.specs.KeptCells.{list_of, AreKept};
+
+    ghost Value = { GridCells };
+
+    ghost view = { λ g. cells_of g.rows g.worlds (list_of g.cells) };
+
+    ghost invariant = { λ g. AreKept g.rows g.worlds g.cells };
+}
+
+/// Whether the number of a row in a column is 0.
+fn has_number_zero(whole: &Whole, row: usize, column: usize) -> bool
+    requires row { row < whole.now.rows }
+    requires column { column < whole.now.width }
+    ensures zero { IsTrue result → whole_at whole.now row column ≡ zero_q }
+{
+    if whole.number(row, column) == 0 {
+        return true;
+    }
+    false
+}
+
+/// The entries of rows of whole numbers as fractions, one column after the other.
+fn fractions_of(
+    alloc: Global,
+    whole: &Whole,
+    rows: usize,
+    columns: usize,
+) -> Result<Vec<Fraction>, NoMemory>
+    requires few { rows ≤ MOST_ROWS }
+    requires many { columns ≤ suc (MOST_ROWS + MOST_WORLDS) }
+    requires rows { whole.now.rows ≡ rows }
+    requires columns { whole.now.width ≡ columns }
+    ensures value { IfOk result (λ v. v.items ≡ whole_list whole.now) }
+{
+    let mut made = Vec::new(alloc);
+    for k in 0..columns * rows {
+        made.push(whole.entry(k % rows, k / rows))?;
+    }
+    Ok(made)
+}
+
+impl Kept {
+    /// The homes of so many rows.
+    pub(crate) fn of_homes(alloc: Global, rows: usize) -> Result<Kept, NoMemory>
+        requires few { rows ≤ MOST_ROWS }
+        ensures rows { IfOk result (λ g. g.rows ≡ rows) }
+        ensures worlds { IfOk result (λ g. g.worlds ≡ 0) }
+        ensures count { IfOk result (λ g. length g.cells ≡ suc rows * rows) }
+        ensures units { IfOk result (λ g. AreUnits rows g.cells) }
+    {
+        let whole = Whole::of_homes(alloc, rows)?;
+        Ok(Kept {
+            alloc,
+            rows,
+            worlds: 0,
+            cells: Cells::Whole(whole),
+        })
+    }
+
+    /// The entry of a row and a column.
+    #[tactic(auto, using(crate::proofs::Columns::cell_within))]
+    pub(crate) fn entry(&self, row: usize, column: usize) -> Fraction
+        requires row { row < self.now.rows }
+        requires column { column < width self.now }
+        ensures value { result ≡ cell_in self.now row column }
+    {
+        match &self.cells {
+            Cells::Whole(whole) => whole.entry(row, column),
+            Cells::Fractions(cells) => cell(cells, self.rows, row, column),
+        }
+    }
+
+    /// Whether the entry of a row and a column is found to be 0.
+    pub(crate) fn is_zero(&self, row: usize, column: usize) -> bool
+        requires row { row < self.now.rows }
+        requires column { column < width self.now }
+        ensures zero { IsTrue result → cell_in self.now row column ≡ zero_q }
+    {
+        match &self.cells {
+            Cells::Whole(whole) => has_number_zero(whole, row, column),
+            Cells::Fractions(cells) => cell(cells, self.rows, row, column).is_zero(),
+        }
+    }
+
+    /// A sum with a cost times the entry of a row and a column, where the entries are rows of whole
+    /// numbers and the sum stays small.
+    pub(crate) fn sum_with(
+        &self,
+        sum: &WholeSum,
+        cost: i8,
+        row: usize,
+        column: usize,
+    ) -> Option<WholeSum>
+        requires small { IsSmallSum sum.now }
+        requires low { negsuc 0 ≤ℤ cost }
+        requires high { cost ≤ℤ pos 1 }
+        requires row { row < self.now.rows }
+        requires column { column < width self.now }
+        ensures sum { IfSome result (IsSumWith sum.now cost (cell_in self.now row column)) }
+    {
+        match &self.cells {
+            Cells::Whole(whole) => whole.sum_with(sum, cost, row, column),
+            Cells::Fractions(_) => None,
+        }
+    }
+
+    /// The entries as fractions.
+    fn fractions(&self) -> Result<Vec<Fraction>, NoMemory>
+        ensures value { IfOk result (λ v. v.items ≡ self.now.cells) }
+        ensures grid { IsGrid self.now }
+    {
+        match &self.cells {
+            Cells::Whole(whole) => {
+                fractions_of(self.alloc, whole, self.rows, 1 + self.rows + self.worlds)
+            }
+            Cells::Fractions(cells) => {
+                let mut made = Vec::new(self.alloc);
+                made.extend_from_slice(cells)?;
+                Ok(made)
+            }
+        }
+    }
+
+    /// The entries after a pivot as rows of whole numbers, where they are so before and after.
+    fn whole_pivoted(&self, pivot: &Pivot) -> Result<Option<Whole>, NoMemory>
+        requires pivot { IsPivotOf self.now pivot.now }
+        ensures pivoted { IfOk result (λ made. IfSome made (IsWholePivot self.now pivot.now)) }
+    {
+        match &self.cells {
+            Cells::Whole(whole) => {
+                // Called for its clauses: no operation of the pivot is refused.
+                whole.pivots_are_narrow(pivot.row, pivot.column);
+                whole.after_pivot(pivot.row, pivot.column)
+            }
+            Cells::Fractions(_) => Ok(None),
+        }
+    }
+
+    /// The changes of a pivot on these entries.
+    fn changes(&self, cells: &[Fraction], pivot: &Pivot) -> Result<Vec<Change>, TableError>
+        requires pivot { IsPivotOf self.now pivot.now }
+        requires cells { cells.now ≡ self.now.cells }
+        ensures inside { IfOk result (λ v. AreInside self.now.cells v.items) }
+        ensures pivoted { IfOk result (λ v. ArePivotChanges self.now pivot.now v.items) }
+        ensures narrow { IfOk result (λ _. IsNarrow (GridPivotPlaces self.now pivot.now)) }
+        ensures refused { IfErr result (IsRefusedAt (GridPivotPlaces self.now pivot.now)) }
+    {
+        let grid = Grid::of(self.rows, self.worlds, cells);
+        pivot_changes(self.alloc, &grid, pivot)
+    }
+
+    /// The entries after a pivot as fractions.
+    fn fractions_pivoted(&self, pivot: &Pivot) -> Result<Kept, TableError>
+        requires pivot { IsPivotOf self.now pivot.now }
+        ensures pivoted { IfOk result (IsPivotOn self.now pivot.now) }
+        ensures refused { IfErr result (IsRefusedAt (GridPivotPlaces self.now pivot.now)) }
+    {
+        let mut cells = self.fractions()?;
+        let changes = self.changes(&cells, pivot)?;
+        write_all(&mut cells, &changes);
+        Ok(Kept {
+            alloc: self.alloc,
+            rows: self.rows,
+            worlds: self.worlds,
+            cells: Cells::Fractions(cells),
+        })
+    }
+
+    /// The entries after a pivot.
+    pub(crate) fn after_pivot(&self, pivot: &Pivot) -> Result<Kept, TableError>
+        requires pivot { IsPivotOf self.now pivot.now }
+        ensures pivoted { IfOk result (IsPivotOn self.now pivot.now) }
+        ensures refused { IfErr result (IsRefusedAt (GridPivotPlaces self.now pivot.now)) }
+    {
+        match self.whole_pivoted(pivot)? {
+            Some(whole) => Ok(Kept {
+                alloc: self.alloc,
+                rows: self.rows,
+                worlds: self.worlds,
+                cells: Cells::Whole(whole),
+            }),
+            None => self.fractions_pivoted(pivot),
+        }
+    }
+
+    /// The entries with a new world's column as rows of whole numbers, where they are so before
+    /// and after.
+    fn whole_widened(&self, entries: &[i64]) -> Result<Option<Whole>, NoMemory>
+        requires column { IsNewColumn self.now entries.now }
+        requires room { self.now.worlds < MOST_WORLDS }
+        ensures widened { IfOk result (λ made. IfSome made (IsWholeWorld self.now entries.now)) }
+    {
+        match &self.cells {
+            Cells::Whole(whole) => whole.with_column(entries),
+            Cells::Fractions(_) => Ok(None),
+        }
+    }
+
+    /// The column of a new world on these entries.
+    fn column(&self, cells: &[Fraction], entries: &[i64]) -> Result<Vec<Fraction>, TableError>
+        requires column { IsNewColumn self.now entries.now }
+        requires cells { cells.now ≡ self.now.cells }
+        ensures made { IfOk result (λ v. IsMadeColumn self.now entries.now v.items) }
+        ensures narrow { IfOk result (λ _. IsNarrow (GridNewPlaces self.now entries.now)) }
+        ensures refused { IfErr result (IsRefusedAt (GridNewPlaces self.now entries.now)) }
+    {
+        let grid = Grid::of(self.rows, self.worlds, cells);
+        new_column(self.alloc, &grid, entries)
+    }
+
+    /// The entries with a new world's column as fractions.
+    fn fractions_widened(&self, entries: &[i64]) -> Result<Kept, TableError>
+        requires column { IsNewColumn self.now entries.now }
+        requires room { self.now.worlds < MOST_WORLDS }
+        ensures widened { IfOk result (IsWorldOn self.now entries.now) }
+        ensures refused { IfErr result (IsRefusedAt (GridNewPlaces self.now entries.now)) }
+    {
+        let mut cells = self.fractions()?;
+        let column = self.column(&cells, entries)?;
+        cells.extend_from_slice(&column)?;
+        Ok(Kept {
+            alloc: self.alloc,
+            rows: self.rows,
+            worlds: self.worlds + 1,
+            cells: Cells::Fractions(cells),
+        })
+    }
+
+    /// The entries with a new world's column.
+    pub(crate) fn with_world(&self, entries: &[i64]) -> Result<Kept, TableError>
+        requires column { IsNewColumn self.now entries.now }
+        requires room { self.now.worlds < MOST_WORLDS }
+        ensures widened { IfOk result (IsWorldOn self.now entries.now) }
+        ensures refused { IfErr result (IsRefusedAt (GridNewPlaces self.now entries.now)) }
+    {
+        match self.whole_widened(entries)? {
+            Some(whole) => Ok(Kept {
+                alloc: self.alloc,
+                rows: self.rows,
+                worlds: self.worlds + 1,
+                cells: Cells::Whole(whole),
+            }),
+            None => self.fractions_widened(entries),
+        }
+    }
+}
