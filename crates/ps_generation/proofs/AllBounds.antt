@@ -12,7 +12,7 @@ use Rattle.ps_answer.specs.declared.answer.Dual.{Dual}
 use Rattle.ps_certificate.specs.Certificates.{IsMultiplier}
 use Rattle.ps_certificate.specs.Printed.{IsPrintedDual}
 use Rattle.ps_runs.specs.Kept.{kept_of, flags_of}
-use Rattle.ps_runs.specs.Runs.{given_in, both_in}
+use Rattle.ps_runs.specs.Subjects.{given_in, both_in}
 use Rattle.ps_runs.proofs.Kept.{same-count, bounds-kept, length-flags, refuted-kept, part-next}
 use Rattle.ps_generation.specs.Phases.{LimitedSubject, IsSpread}
 use Rattle.ps_generation.specs.Spreading.{spread_of, number_for, next_for, IsKeptOf}

@@ -12,7 +12,8 @@ use Rattle.ps_answer.specs.declared.answer.Cause.TheVariants.{Pivots, Conflicts,
 use Rattle.ps_claims.specs.declared.claim_kind.ClaimKind.{ClaimKind}
 use Rattle.ps_claims.specs.declared.claim_kind.ClaimKind.TheVariants.{Nothing, Lower, Upper}
 use Rattle.ps_simplex.specs.Rule.{IsFeasible}
-use Rattle.ps_runs.specs.Runs.{Subject, Stage}
+use Rattle.ps_runs.specs.Subjects.{Subject, program_of}
+use Rattle.ps_runs.specs.Runs.{Stage}
 use Rattle.ps_runs.proofs.Composed.{pivots_in-append, leads_on}
 use Rattle.ps_phases.specs.Tables.{stage_at, IsUnderWay}
 use Rattle.ps_phases.proofs.GoingOn.{begun}
@@ -23,14 +24,14 @@ use Rattle.ps_generation.specs.Phases.{LimitedSubject, IsInPhase, HasCome, IsOpe
 use Rattle.ps_generation.specs.Rounds.{HasEntered, IsPhaseSettled, IsRound}
 
 pub way_on : (kind : ClaimKind) (s : Subject) (conflicts : ℕ) (from : Stage) (had : ℕ) (before : List Event) (pool : List World) (t : Tableau) (trace : List Event) (left : ℕ)
-    (more : List World) (u : Tableau) (longer : List Event) (now : ℕ) → IsUnderWay kind s conflicts from had before pool t trace left
-    → IsUnderWay kind s conflicts (stage_at pool t) left trace more u longer now → IsUnderWay kind s conflicts from had before more u longer now
+    (more : List World) (u : Tableau) (longer : List Event) (now : ℕ) → IsUnderWay (program_of kind s) conflicts from had before pool t trace left
+    → IsUnderWay (program_of kind s) conflicts (stage_at pool t) left trace more u longer now → IsUnderWay (program_of kind s) conflicts from had before more u longer now
 way_on kind s conflicts from had before pool t trace left more u longer now a b = record {
   table = b.table;
   pool_kept = b.pool_kept;
   events = a.events ++ b.events;
   appended = b.appended ∙ ap (λ es. es ++ b.events) a.appended ∙ append_assoc before a.events b.events;
-  leads = leads_on kind s conflicts from (stage_at pool t) (stage_at more u) a.events b.events a.leads b.leads;
+  leads = leads_on (program_of kind s) conflicts from (stage_at pool t) (stage_at more u) a.events b.events a.leads b.leads;
   counted =
       let x = a.counted in
       let y = b.counted in
@@ -41,7 +42,7 @@ way_on kind s conflicts from had before pool t trace left more u longer now a b 
 module _ (kind : ClaimKind) (r : LimitedSubject) where
   -- a phase begins where it is
   pub come_none : (costs : Costs) (old : State) → IsInPhase kind r.subject costs old → HasCome kind r old old
-  come_none costs old phase = record { way = begun kind r.subject r.limits.conflicts old.pool old.table old.trace old.left phase.table phase.pool_kept }
+  come_none costs old phase = record { way = begun (program_of kind r.subject) r.limits.conflicts old.pool old.table old.trace old.left phase.table phase.pool_kept }
 
   module _ (a b c : State) (come : HasCome kind r a b) where
     pub come_on : HasCome kind r b c → HasCome kind r a c

@@ -11,11 +11,11 @@ use Rattle.ps_table.specs.declared.costs.Costs.{Costs}
 use Rattle.ps_table.specs.declared.home.Home.{Home}
 use Rattle.ps_table.specs.declared.place.WideAt.{WideAt}
 use Rattle.ps_bland.specs.Runs.{MadeFewerThanBases}
-use Rattle.ps_answer.specs.declared.answer.Cause.{Cause}
 use Rattle.ps_answer.specs.declared.answer.Cause.TheVariants.{Pivots, Conflicts, Wide}
 use Rattle.ps_claims.specs.declared.claim_kind.ClaimKind.{ClaimKind}
 use Rattle.ps_runs.specs.Rows.{rows_of, columns_of}
-use Rattle.ps_runs.specs.Runs.{Subject, IsPool, setting_of, atoms_of, pivots_in}
+use Rattle.ps_runs.specs.Subjects.{Subject, setting_of, atoms_of}
+use Rattle.ps_runs.specs.Runs.{IsPool, pivots_in}
 use Rattle.ps_runs.proofs.Composed.{pivots_in-append}
 use Rattle.ps_phases.proofs.Shapes.{homes_count}
 use Rattle.ps_generation.specs.declared.state.State.{State}

@@ -17,7 +17,7 @@ use Rattle.ps_answer.specs.declared.answer.Cause.TheVariants.{Wide}
 use Rattle.ps_claims.specs.declared.claim_kind.ClaimKind.{ClaimKind}
 use Rattle.ps_claims.specs.declared.claim_kind.ClaimKind.TheVariants.{Nothing, Lower, Upper}
 use Rattle.ps_runs.specs.Rows.{phase_of, entries_of, world_cost}
-use Rattle.ps_runs.specs.Runs.{Subject, setting_of}
+use Rattle.ps_runs.specs.Subjects.{Subject, setting_of, frame_of, program_of}
 use Rattle.ps_phases.specs.Tables.{costs_for, IsRunTable}
 use Rattle.ps_phases.proofs.Adding.{costs_grow}
 use Rattle.ps_phases.proofs.GoingOn.{begun, priced_goes_on, priced_fresh}
@@ -36,7 +36,7 @@ same_state t pool more trace longer left e f = λ i. record { table = t; pool = 
 
 -- a run's table that has a column more is ready for its phase
 ready_with : (kind : ClaimKind) (s : Subject) (costs : Costs) (pool more : List World) (entries : List ℤ) (t u : Tableau) → IsReady (phase_of kind) costs t → IsAdded entries t u
-    → IsRunTable (setting_of s) more u → IsReady (phase_of kind) (costs_for kind (setting_of s) more) u
+    → IsRunTable (frame_of s) more u → IsReady (phase_of kind) (costs_for kind (setting_of s) more) u
 ready_with Nothing s costs pool more entries t u ready added run = ready_first (setting_of s) more u run
 ready_with Lower s costs pool more entries t u ready added run = ready_lower (setting_of s) more u run (feasible_added entries t u added ready.fits.0)
 ready_with Upper s costs pool more entries t u ready added run = ready_upper (setting_of s) more u run (feasible_added entries t u added ready.fits.0)
@@ -55,7 +55,7 @@ module _ (kind : ClaimKind) (r : LimitedSubject) (costs : Costs) (old : State) (
     trace = old.trace;
     world = w;
     appended = refl;
-    way = begun kind r.subject r.limits.conflicts old.pool old.table old.trace old.left phase.table phase.pool_kept;
+    way = begun (program_of kind r.subject) r.limits.conflicts old.pool old.table old.trace old.left phase.table phase.pool_kept;
     priced = is;
     wide = column_due r.subject old.pool old.table phase.table w at wide;
   })
@@ -77,7 +77,7 @@ module _ (kind : ClaimKind) (r : LimitedSubject) (costs : Costs) (old : State) (
     grown_come = record {
       way =
           priced_goes_on kind r.subject r.limits.conflicts (stage_of old) old.left old.trace old.pool old.table u old.trace old.left w
-          (begun kind r.subject r.limits.conflicts old.pool old.table old.trace old.left phase.table phase.pool_kept) is added stands tableau;
+          (begun (program_of kind r.subject) r.limits.conflicts old.pool old.table old.trace old.left phase.table phase.pool_kept) is added stands tableau;
     }
 
     longer_is : record { homes = costs.homes; worlds = costs.worlds ++ world_cost kind (setting_of r.subject) w ∷ [] } ≡ costs_for kind (setting_of r.subject) (old.pool ++ w ∷ [])

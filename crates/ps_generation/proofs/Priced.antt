@@ -22,7 +22,8 @@ use Rattle.ps_answer.specs.declared.answer.Dual.{Dual}
 use Rattle.ps_certificate.specs.Certificates.{dual_of}
 use Rattle.ps_claims.specs.declared.claim_kind.ClaimKind.{ClaimKind}
 use Rattle.ps_runs.specs.Certificates.{HaveSameNumbers}
-use Rattle.ps_runs.specs.Runs.{IsAsked, dual_at}
+use Rattle.ps_runs.specs.Subjects.{IsAsked, program_of}
+use Rattle.ps_runs.specs.Runs.{dual_at}
 use Rattle.ps_runs.proofs.Priced.{same_goal, priced_greatest, priced_cut, refuted_most}
 use Rattle.ps_phases.specs.Licences.{IsOutOfConflicts, IsTooWide}
 use Rattle.ps_phases.proofs.Licensing.{multiplier_due, dual_due}
@@ -37,7 +38,7 @@ use Rattle.ps_generation.proofs.Coming.{come_none}
 
 module _ (kind : ClaimKind) (r : LimitedSubject) (costs : Costs) (old : State) (phase : IsInPhase kind r.subject costs old) (rests : IsAtRest kind r.subject old) where
   refused_at : (place : Place) (op : Op) (a b : Rational) → DualPlaces old.table costs place op a b → IsWide place op a b
-      → IsTooWide kind r.subject (stage_of old) old.left (record { place = place; op = op; left = a; right = b })
+      → IsTooWide (program_of kind r.subject) (stage_of old) old.left (record { place = place; op = op; left = a; right = b })
   refused_at place op a b (of_home m p o x y low there) wide =
       let w : WideAt = record { place = place; op = op; left = a; right = b } in
       multiplier_due r.subject old.pool old.table phase.table kind old.left m w rests low
@@ -56,7 +57,7 @@ module _ (kind : ClaimKind) (r : LimitedSubject) (costs : Costs) (old : State) (
 
   module _ (d : Dual) (same : IsDualOver kind r.subject old.table costs d)
       (are : AreParts r.subject.parts) (asked : IsAsked kind r.subject.parts r.subject.query) where
-    same_at : HaveSameNumbers (dual_of d) (dual_at kind r.subject (stage_of old) (entry_at old.table))
+    same_at : HaveSameNumbers (dual_of d) (dual_at (program_of kind r.subject) (stage_of old) (entry_at old.table))
     same_at = dual_of_stage r.subject old.pool old.table phase.table kind costs (dual_of d) phase.costs_are same
 
     pub found_priced : (w : World) → IsFound kind (pricing_subject_of r) d w → IsPricedIn kind r old w
@@ -77,7 +78,7 @@ module _ (kind : ClaimKind) (r : LimitedSubject) (costs : Costs) (old : State) (
         numbers = record { top = refuted.numbers.top ∙ same_at.top; head = refuted.numbers.head ∙ same_at.head; rows = refuted.numbers.rows ∙ same_at.rows };
         steps =
             subst (λ (c : Constraint). Refutes (length r.subject.parts.nodes) (first_known (form_of r.subject.parts.nodes) c) e.steps)
-            (same_goal (pos 1) kind r.subject (dual_of d) (dual_at kind r.subject (stage_of old) (entry_at old.table)) same_at) refuted.steps;
+            (same_goal (pos 1) kind r.subject (dual_of d) (dual_at (program_of kind r.subject) (stage_of old) (entry_at old.table)) same_at) refuted.steps;
       },
     )
 
@@ -85,6 +86,6 @@ module _ (kind : ClaimKind) (r : LimitedSubject) (costs : Costs) (old : State) (
     spent_end goal steps spent = record {
       come = come_none kind r costs old phase;
       licensed =
-          subst (λ (c : Constraint). IsOutOfConflicts kind r.subject r.limits.conflicts (stage_of old) r.limits.conflicts c steps) (sym spent.goal_is)
+          subst (λ (c : Constraint). IsOutOfConflicts (program_of kind r.subject) r.limits.conflicts (stage_of old) r.limits.conflicts c steps) (sym spent.goal_is)
           (spent_at_rest kind r.subject r.limits.conflicts (stage_of old) (entry_at old.table) (dual_of d) same_at rests steps spent.search);
     }

@@ -18,7 +18,7 @@ use Rattle.ps_bland.specs.Ready.{IsReady}
 use Rattle.ps_bland.specs.Runs as bland
 use Rattle.ps_answer.specs.declared.answer.Cause.TheVariants.{Pivots}
 use Rattle.ps_claims.specs.declared.claim_kind.ClaimKind.{ClaimKind}
-use Rattle.ps_runs.specs.Runs.{setting_of}
+use Rattle.ps_runs.specs.Subjects.{setting_of, program_of}
 use Rattle.ps_runs.specs.Rows.{phase_of}
 use Rattle.ps_phases.specs.Tables.{costs_for}
 use Rattle.ps_phases.proofs.GoingOn.{begun, settled_goes_on}
@@ -51,7 +51,7 @@ module _ (kind : ClaimKind) (r : LimitedSubject) (costs : Costs) (old new : Stat
       subst (λ (x : State). HasCome kind r old x) (same_state old new same) (record {
         way =
             settled_goes_on kind r.subject r.limits.conflicts (stage_of old) old.left old.trace old.pool old.table new.table old.trace new.trace old.left new.left
-            (begun kind r.subject r.limits.conflicts old.pool old.table old.trace old.left phase.table phase.pool_kept)
+            (begun (program_of kind r.subject) r.limits.conflicts old.pool old.table old.trace old.left phase.table phase.pool_kept)
             (subst (λ (c : Costs). HasPivoted kind c old new) phase.costs_are ran) tableau ready.values;
       })
 

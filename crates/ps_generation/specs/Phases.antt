@@ -8,8 +8,6 @@ use Rattle.ps_runs.specs.Kept.{kept_of, flags_of, kept_parts}
 use Rattle.ps_meaning.specs.Formula.{World}
 use Rattle.ps_rational.specs.Rational.{Rational}
 use Rattle.ps_simplex.specs.Rule.{IsFeasible}
-use Rattle.ps_steps.specs.Steps.{Refutes}
-use Rattle.ps_forms.specs.Forms.{form_of, first_known}
 use Rattle.ps_answer.specs.declared.limits.TheConstants.{MOST_PIVOTS}
 use Rattle.ps_log.specs.declared.limits.TheConstants.{MOST_CONFLICTS}
 use Rattle.ps_pool.specs.declared.event.Event.{Event}
@@ -27,8 +25,9 @@ use Rattle.ps_answer.specs.declared.answer.Dual.{Dual}
 use Rattle.ps_claims.specs.declared.claim_kind.ClaimKind.{ClaimKind}
 use Rattle.ps_claims.specs.declared.claim_kind.ClaimKind.TheVariants.{Nothing}
 use Rattle.ps_runs.specs.Certificates.{HaveSameNumbers}
-use Rattle.ps_runs.specs.Runs.{Subject, setting_of, given_in, both_in, atoms_of, goal_at_least, Stage}
-use Rattle.ps_runs.specs.Runs.{IsStart, IsPool, dual_at, AreAtMost, IsRestingAt, IsPricedBy}
+use Rattle.ps_runs.specs.Programs.{Program, RefutesGain}
+use Rattle.ps_runs.specs.Subjects.{Subject, setting_of, given_in, both_in, atoms_of, frame_of, program_of}
+use Rattle.ps_runs.specs.Runs.{Stage, IsStart, IsPool, dual_at, AreAtMost, IsRestingAt, IsPricedBy}
 use Rattle.ps_certificate.specs.Certificates.{dual_of}
 use Rattle.ps_runs.specs.Rows.{phase_of}
 use Rattle.ps_phases.specs.Tables.{costs_for, IsRunTable, stage_at, IsUnderWay}
@@ -82,7 +81,7 @@ stage_of state = stage_at state.pool state.table
 
 -- table, pool and costs are those of a run in this phase
 pub record IsInPhase (kind : ClaimKind) (s : Subject) (costs : Costs) (state : State) : Type 0 where
-  pub table : IsRunTable (setting_of s) state.pool state.table
+  pub table : IsRunTable (frame_of s) state.pool state.table
   pub pool_kept : IsPool (atoms_of s) state.pool
   pub costs_are : costs ≡ costs_for kind (setting_of s) state.pool
   pub ready : IsReady (phase_of kind) costs state.table
@@ -102,37 +101,36 @@ LeavesRoomButForOne old new = length new.pool + new.left ≤ length old.pool + o
 
 -- a run at its start: the table of the homes, no world, no event, and all pivots left
 pub record IsNewState (r : LimitedSubject) (state : State) : Type 0 where
-  pub table : IsRunTable (setting_of r.subject) state.pool state.table
-  pub start : IsStart r.subject (stage_of state)
+  pub table : IsRunTable (frame_of r.subject) state.pool state.table
+  pub start : IsStart (frame_of r.subject) (stage_of state)
   pub trace : state.trace ≡ []
   pub left : state.left ≡ r.limits.pivots
 
 -- a phase has come from one state to another, lawfully
 pub record HasCome (kind : ClaimKind) (r : LimitedSubject) (old new : State) : Type 0 where
-  pub way : IsUnderWay kind r.subject r.limits.conflicts (stage_of old) old.left old.trace new.pool new.table new.trace new.left
+  pub way : IsUnderWay (program_of kind r.subject) r.limits.conflicts (stage_of old) old.left old.trace new.pool new.table new.trace new.left
 
 -- ---- ends
--- the table rests, its dual's combination is above 0 in no world, and the steps refute that it is
-pub record IsDualEnd (kind : ClaimKind) (s : Subject) (g : Stage) (X : ℕ → ℕ → Rational) (d : Dual) : Type 0 where
-  pub rests : IsRestingAt kind s g X
-  pub none : AreAtMost kind s g X (pos 0)
-  pub numbers : HaveSameNumbers (dual_of d) (dual_at kind s g X)
-  pub steps : Refutes (length s.parts.nodes)
-      (first_known (form_of s.parts.nodes) (goal_at_least (pos 1) kind s (dual_at kind s g X))) d.steps
+-- the table rests, the gain of its dual is above 0 in no world, and the steps refute that it is
+pub record IsDualEnd (p : Program) (g : Stage) (X : ℕ → ℕ → Rational) (d : Dual) : Type 0 where
+  pub rests : IsRestingAt p g X
+  pub none : AreAtMost p g X (pos 0)
+  pub numbers : HaveSameNumbers (dual_of d) (dual_at p g X)
+  pub steps : RefutesGain p (dual_at p g X) d.steps
 
 -- a world was priced, and its column is too wide: its event is there, and it is pending
 pub record IsPendingEnd (kind : ClaimKind) (r : LimitedSubject) (old new : State) (at : WideAt) : Type 0 where
   pub trace : List Event
   pub world : World
   pub appended : new.trace ≡ trace ++ Priced world ∷ []
-  pub way : IsUnderWay kind r.subject r.limits.conflicts (stage_of old) old.left old.trace new.pool new.table trace new.left
-  pub priced : IsPricedBy kind r.subject r.limits.conflicts (stage_of new) (entry_at new.table) world
-  pub wide : IsColumnTooWide r.subject (stage_of new) world at
+  pub way : IsUnderWay (program_of kind r.subject) r.limits.conflicts (stage_of old) old.left old.trace new.pool new.table trace new.left
+  pub priced : IsPricedBy (program_of kind r.subject) r.limits.conflicts (stage_of new) (entry_at new.table) world
+  pub wide : IsColumnTooWide (frame_of r.subject) (stage_of new) world at
 
 -- the phase is open where it has come to, by a licence
 pub record IsOpenEnd (kind : ClaimKind) (r : LimitedSubject) (old new : State) (cause : Cause) : Type 0 where
   pub come : HasCome kind r old new
-  pub licensed : IsLicensed kind r.subject r.limits.pivots r.limits.conflicts (stage_of new) new.left None cause
+  pub licensed : IsLicensed (program_of kind r.subject) r.limits.pivots r.limits.conflicts (stage_of new) new.left None cause
 
 -- why the phase is open: where it has come to, or with a pending world
 abbrev pub IsOpen : ClaimKind → LimitedSubject → State → State → Cause → Type 0
@@ -142,7 +140,7 @@ IsOpen kind r old new cause = IsOpenEnd kind r old new cause
 -- how a phase ends
 abbrev pub IsEnd : ClaimKind → LimitedSubject → State → State → End → Type 0
 IsEnd kind r old new Feasible = HasCome kind r old new × IsDueToEndIn (phase_of kind) new.table
-IsEnd kind r old new (NoneAbove d) = HasCome kind r old new × IsDualEnd kind r.subject (stage_of new) (entry_at new.table) d
+IsEnd kind r old new (NoneAbove d) = HasCome kind r old new × IsDualEnd (program_of kind r.subject) (stage_of new) (entry_at new.table) d
 IsEnd kind r old new (Open cause) = IsOpen kind r old new cause
 
 -- the end at a refusal: the phase is open for the number that is too wide; want of memory is no end
@@ -158,7 +156,7 @@ IsPrintedEnd (Open cause) = IsPrintedCause cause
 
 -- where the state is left: the table is one of the run, in a side feasible, and there is as much room as before but for one world
 pub record IsLeft (kind : ClaimKind) (s : Subject) (old new : State) : Type 0 where
-  pub table : IsRunTable (setting_of s) new.pool new.table
+  pub table : IsRunTable (frame_of s) new.pool new.table
   pub pool_kept : IsPool (atoms_of s) new.pool
   pub feasible : kind ≢ Nothing → IsFeasible (simplex_of new.table)
   pub room : LeavesRoomButForOne old new

@@ -12,7 +12,8 @@ use Rattle.ps_certificate.specs.Certificates.{dual_of}
 use Rattle.ps_claims.specs.declared.claim_kind.ClaimKind.{ClaimKind}
 use Rattle.ps_runs.specs.Certificates.{table_dual, HaveSameNumbers}
 use Rattle.ps_runs.specs.Rows.{phase_of, entries_of, world_cost}
-use Rattle.ps_runs.specs.Runs.{Subject, setting_of, IsRestingAt, IsPricedBy}
+use Rattle.ps_runs.specs.Subjects.{Subject, setting_of, program_of}
+use Rattle.ps_runs.specs.Runs.{IsRestingAt, IsPricedBy}
 use Rattle.ps_phases.specs.Tables.{costs_for}
 use Rattle.ps_pricing.specs.Pricings.{PricingSubject}
 use Rattle.ps_generation.specs.declared.column.Column.{Column}
@@ -43,11 +44,11 @@ IsInMotion kind s state = IsMoving (phase_of kind) (simplex_of state.table) (cos
 
 -- the table is resting
 abbrev pub IsAtRest : ClaimKind → Subject → State → Type 0
-IsAtRest kind s state = IsRestingAt kind s (stage_of state) (entry_at state.table)
+IsAtRest kind s state = IsRestingAt (program_of kind s) (stage_of state) (entry_at state.table)
 
 -- the world is priced at the table
 abbrev pub IsPricedIn : ClaimKind → LimitedSubject → State → World → Type 0
-IsPricedIn kind r state w = IsPricedBy kind r.subject r.limits.conflicts (stage_of state) (entry_at state.table) w
+IsPricedIn kind r state w = IsPricedBy (program_of kind r.subject) r.limits.conflicts (stage_of state) (entry_at state.table) w
 
 -- the table has come to rest, and not without a pivot if it was moving
 pub record HasRested (kind : ClaimKind) (r : LimitedSubject) (old new : State) : Type 0 where

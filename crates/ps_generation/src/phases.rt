@@ -1,6 +1,6 @@
 //! The phases of a run.
 ghost use Rattle.std.specs.Prelude.{IfOk, IfSome};
-ghost use Rattle.ps_runs.specs.Runs.{IsAsked};
+ghost use Rattle.ps_runs.specs.Subjects.{IsAsked};
 ghost use Rattle.ps_generation.specs.Phases.{HasRoom, IsEnd, IsInPhase, IsLeft, IsPrintedEnd};
 ghost use Rattle.ps_generation.specs.Phases.{LeavesRoomButForOne};
 ghost use Rattle.ps_generation.specs.Counts.{MakesFewPivots, StaysBelowBound};

@@ -3,7 +3,7 @@ ghost use Rattle.std.specs.Prelude.{◌≡◌, ◌≤◌, ◌<◌, ◌++◌, ◌
 ghost use Rattle.std.specs.Prelude.{IfOk, IfSome};
 ghost use Rattle.ps_pool.specs.Worlds.{HasNumber};
 ghost use Rattle.ps_pool.specs.declared.pool.TheConstants.{MOST_WORLDS};
-ghost use Rattle.ps_runs.specs.Runs.{IsAsked};
+ghost use Rattle.ps_runs.specs.Subjects.{IsAsked};
 ghost use Rattle.ps_generation.specs.Phases.{IsInPhase, IsPrintedEnd};
 ghost use Rattle.ps_generation.specs.Phases.{LeavesRoomButForOne, most_columns};
 ghost use Rattle.ps_generation.specs.Rounds.{IsAtRest, IsPricedIn, IsEntered};

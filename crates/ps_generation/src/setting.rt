@@ -7,7 +7,8 @@ ghost use Rattle.ps_table.specs.Places.{IsNarrow, IsRefusedAt};
 ghost use Rattle.ps_ends.specs.Multiples.{DualPlaces};
 ghost use Rattle.ps_runs.specs.Rows.{rows_of};
 ghost use Rattle.ps_runs.specs.Kept.{IsChoice};
-ghost use Rattle.ps_runs.specs.Runs.{IsAsked, IsPool, atoms_of, setting_of};
+ghost use Rattle.ps_runs.specs.Subjects.{IsAsked, atoms_of, setting_of, frame_of};
+ghost use Rattle.ps_runs.specs.Runs.{IsPool};
 ghost use Rattle.ps_phases.specs.Tables.{IsRunTable, costs_for};
 ghost use Rattle.ps_pricing.specs.Pricings.{IsDualFor, IsPricing, IsPrintedPricing};
 ghost use Rattle.ps_certificate.specs.Printed.{IsPrintedDual};
@@ -113,7 +114,7 @@ impl<'p> Setting<'p> {
     /// The costs of a phase in a state.
     pub fn costs(&self, alloc: Global, kind: ClaimKind, state: &State) -> Result<Costs, NoMemory>
         requires asked { IsAsked kind self.now.subject.parts self.now.subject.query }
-        requires table { IsRunTable (setting_of self.now.subject) state.now.pool state.now.table }
+        requires table { IsRunTable (frame_of self.now.subject) state.now.pool state.now.table }
         requires pool { IsPool (atoms_of self.now.subject) state.now.pool }
         ensures { IfOk result
             (λ c. c ≡ costs_for kind (setting_of self.now.subject) state.now.pool) }

@@ -18,7 +18,7 @@ use Rattle.ps_answer.specs.declared.answer.Dual.{Dual}
 use Rattle.ps_io.specs.declared.no_memory.NoMemory.{NoMemory}
 use Rattle.ps_certificate.specs.Certificates.{dual_of}
 use Rattle.ps_certificate.proofs.Variables.{combination_below}
-use Rattle.ps_runs.specs.Runs.{IsAsked, given_in, both_in}
+use Rattle.ps_runs.specs.Subjects.{IsAsked, given_in, both_in}
 use Rattle.ps_runs.proofs.Asked.{given_there, both_there}
 use Rattle.ps_claims.specs.declared.claim_kind.ClaimKind.{ClaimKind}
 use Rattle.ps_claims.specs.declared.combination.Combination.{Combination}

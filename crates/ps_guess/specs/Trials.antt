@@ -16,7 +16,7 @@ use Rattle.ps_claims.specs.Goals.{value_under}
 use Rattle.ps_claims.specs.Validity.{ShowsNothing, ShowsTight}
 use Rattle.ps_claims.specs.Answers.{ShowsConsistent}
 use Rattle.ps_certificate.specs.Printed.{IsPrintedModel, IsPrintedDual}
-use Rattle.ps_runs.specs.Runs.{given_in, both_in}
+use Rattle.ps_runs.specs.Subjects.{given_in, both_in}
 use Rattle.ps_guess.specs.declared.trial.Trial.{Trial}
 use Rattle.ps_guess.specs.declared.trial.Trial.TheVariants.{Shown, Found, Wrong, Spent}
 

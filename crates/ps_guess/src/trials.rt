@@ -6,7 +6,7 @@ ghost use Rattle.ps_problem.specs.Problems.{AreParts, bounds_in};
 ghost use Rattle.ps_claims.specs.Goals.{goal_of};
 ghost use Rattle.ps_certificate.specs.Certificates.{HasQuery, IsSmallDual};
 ghost use Rattle.ps_certificate.specs.Printed.{IsPrintedDual};
-ghost use Rattle.ps_runs.specs.Runs.{IsAsked, given_in, both_in};
+ghost use Rattle.ps_runs.specs.Subjects.{IsAsked, given_in, both_in};
 ghost use Rattle.ps_guess.specs.Trials.{FindsAgainst, IsAssigned, IsTrialOf, combined};
 
 use crate::searching::{Searched, seek};

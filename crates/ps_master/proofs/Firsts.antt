@@ -13,7 +13,9 @@ use Rattle.ps_answer.specs.declared.answer.Dual.{Dual}
 use Rattle.ps_answer.specs.declared.answer.Model.{Model}
 use Rattle.ps_claims.specs.declared.claim_kind.ClaimKind.TheVariants.{Nothing}
 use Rattle.ps_claims.specs.Validity.{ShowsNothing}
-use Rattle.ps_runs.specs.Runs.{setting_of, given_in, IsFeasibleAt, IsDualAt}
+use Rattle.ps_runs.specs.Subjects.{setting_of, given_in, frame_of, program_of}
+use Rattle.ps_runs.specs.Subjects.{frame_of, program_of}
+use Rattle.ps_runs.specs.Runs.{IsFeasibleAt, IsDualAt}
 use Rattle.ps_runs.proofs.Certified.{nothing_at_rest}
 use Rattle.ps_certificate.specs.Certificates.{dual_of}
 use Rattle.ps_runs.specs.Rows.{phase_of}
@@ -34,19 +36,19 @@ use Rattle.ps_master.proofs.Ways.{own_way, one_more}
 
 module _ (r : LimitedSubject) (old new : State) (start : IsAtStart (run_of r old false)) where
   -- the way with as many pivots left at first as the limit says
-  from_start : (trace : List Event) (way : IsUnderWay Nothing r.subject r.limits.conflicts (stage_of old) old.left old.trace new.pool new.table trace new.left)
-      → IsUnderWay Nothing r.subject r.limits.conflicts (stage_of old) r.limits.pivots [] new.pool new.table way.events new.left
+  from_start : (trace : List Event) (way : IsUnderWay (program_of Nothing r.subject) r.limits.conflicts (stage_of old) old.left old.trace new.pool new.table trace new.left)
+      → IsUnderWay (program_of Nothing r.subject) r.limits.conflicts (stage_of old) r.limits.pivots [] new.pool new.table way.events new.left
   from_start trace way =
-      subst (λ had. IsUnderWay Nothing r.subject r.limits.conflicts (stage_of old) had [] new.pool new.table way.events new.left) start.left
+      subst (λ had. IsUnderWay (program_of Nothing r.subject) r.limits.conflicts (stage_of old) had [] new.pool new.table way.events new.left) start.left
       (own_way Nothing r.subject r.limits.conflicts (stage_of old) old.left old.trace new.pool new.table trace new.left way)
 
-  answered : (come : HasCome Nothing r old new) (answer : First) → IsVerdictAt r.subject r.limits.pivots r.limits.conflicts (stage_of new) new.left None (verdict_of (kept_first r.flags answer))
+  answered : (come : HasCome Nothing r old new) (answer : First) → IsVerdictAt (program_of Nothing r.subject) r.limits.pivots r.limits.conflicts (stage_of new) new.left None (verdict_of (kept_first r.flags answer))
       → IsValidFirst r.subject (kept_first r.flags answer) → IsWholeFirst r answer → GoesOn (run_of r old false) (run_of r new false) come.way.events answer
       → IsPhaseOneAnswer (run_of r old false) (run_of r new false) answer
   answered come answer due valid whole on = record {
     events = come.way.events;
     traced = record { over = refl; appended = come.way.appended };
-    lawful = ended r.subject r.limits.pivots r.limits.conflicts (stage_of old) new.pool new.table come.way.events new.left start.start (from_start new.trace come.way) (verdict_of (kept_first r.flags answer)) due;
+    lawful = ended (program_of Nothing r.subject) r.limits.pivots r.limits.conflicts (stage_of old) new.pool new.table come.way.events new.left start.start (from_start new.trace come.way) (verdict_of (kept_first r.flags answer)) due;
     valid = valid;
     whole = whole;
     goes_on = on;
@@ -54,7 +56,7 @@ module _ (r : LimitedSubject) (old new : State) (start : IsAtStart (run_of r old
 
   -- a table whose basic artificials have value 0
   module _ (come : HasCome Nothing r old new) (done : IsDueToEndIn (phase_of Nothing) new.table) (left : IsLeft Nothing r.subject old new) where
-    feasible : IsFeasibleAt r.subject (stage_of new) (entry_at new.table)
+    feasible : IsFeasibleAt (frame_of r.subject) (stage_of new) (entry_at new.table)
     feasible = feasible_there r.subject new.pool new.table left.table done
 
     reached : HasReached (run_of r old false) (run_of r new false) come.way.events
@@ -82,14 +84,14 @@ module _ (r : LimitedSubject) (old new : State) (start : IsAtStart (run_of r old
     pub first_wide : (at : WideAt) → IsWideAt (ModelPlaces new.table) at → IsPhaseOneAnswer (run_of r old false) (run_of r new false) (first.Open (Wide at))
     first_wide at wide = answered come (first.Open (Wide at)) (models.model_wide r.subject new.pool new.table left.table Nothing new.left at feasible wide) tt tt tt
 
-  pub first_nothing : (e d : Dual) → IsSpread r e d → HasCome Nothing r old new × IsDualEnd Nothing r.subject (stage_of new) (entry_at new.table) e → IsLeft Nothing r.subject old new
+  pub first_nothing : (e d : Dual) → IsSpread r e d → HasCome Nothing r old new × IsDualEnd (program_of Nothing r.subject) (stage_of new) (entry_at new.table) e → IsLeft Nothing r.subject old new
       → IsPhaseOneAnswer (run_of r old false) (run_of r new false) (first.Nothing d)
   first_nothing e d spread h left =
       let end = h.1 in
       let shown : ShowsNothing r.subject.parts (given_in r.subject.query) (dual_of e) =
       nothing_at_rest r.subject (stage_of new) (entry_at new.table) (dual_of e) end.numbers (run_table (setting_of r.subject) new.pool new.table left.table) end.rests.resting end.steps in
-      let due : IsDualAt Nothing r.subject (stage_of new) (dual_of e) = record { table = entry_at new.table; rests = end.rests; none = end.none; numbers = end.numbers } in
-      answered h.0 (first.Nothing d) (refl, subst (λ (x : Dual). IsDualAt Nothing r.subject (stage_of new) (dual_of x)) (sym spread.numbers) due)
+      let due : IsDualAt (program_of Nothing r.subject) (stage_of new) (dual_of e) = record { table = entry_at new.table; rests = end.rests; none = end.none; numbers = end.numbers } in
+      answered h.0 (first.Nothing d) (refl, subst (λ (x : Dual). IsDualAt (program_of Nothing r.subject) (stage_of new) (dual_of x)) (sym spread.numbers) due)
       (subst (λ (x : Dual). ShowsNothing r.subject.parts (given_in r.subject.query) (dual_of x)) (sym spread.numbers) shown)
       (record {
         others = spread.others;
@@ -109,7 +111,7 @@ module _ (r : LimitedSubject) (old new : State) (start : IsAtStart (run_of r old
       appended = one_more Nothing r.subject r.limits.conflicts (stage_of old) old.left old.trace new.pool new.table end.trace new.left end.way new.trace (Priced end.world) end.appended;
     };
     lawful =
-        ended_pending r.subject r.limits.pivots r.limits.conflicts (stage_of old) new.pool new.table end.way.events new.left start.start (from_start end.trace end.way) end.world at end.priced
+        ended_pending (program_of Nothing r.subject) r.limits.pivots r.limits.conflicts (stage_of old) new.pool new.table end.way.events new.left start.start (from_start end.trace end.way) end.world at end.priced
         end.wide;
     valid = tt;
     whole = tt;

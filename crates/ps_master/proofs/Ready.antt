@@ -9,14 +9,14 @@ use Rattle.ps_bland.specs.Ready.{IsReady}
 use Rattle.ps_claims.specs.declared.claim_kind.ClaimKind.{ClaimKind}
 use Rattle.ps_claims.specs.declared.claim_kind.ClaimKind.TheVariants.{Nothing, Lower, Upper}
 use Rattle.ps_runs.specs.Rows.{Setting, phase_of}
-use Rattle.ps_runs.specs.Runs.{Subject, setting_of}
+use Rattle.ps_runs.specs.Subjects.{Subject, setting_of, frame_over}
 use Rattle.ps_phases.specs.Tables.{costs_for, IsRunTable}
 use Rattle.ps_phases.proofs.Ready.{lower_apart, upper_apart, ready_first, ready_lower, ready_upper}
 use Rattle.ps_generation.specs.declared.state.State.{State}
 use Rattle.ps_generation.specs.Phases.{IsInPhase}
 use Rattle.ps_master.specs.States.{HasRunTable}
 
-ready : (kind : ClaimKind) (s : Setting) (pool : List World) (t : Tableau) → IsRunTable s pool t → (kind ≢ Nothing → IsFeasible (simplex_of t)) → IsReady (phase_of kind) (costs_for kind s pool) t
+ready : (kind : ClaimKind) (s : Setting) (pool : List World) (t : Tableau) → IsRunTable (frame_over s) pool t → (kind ≢ Nothing → IsFeasible (simplex_of t)) → IsReady (phase_of kind) (costs_for kind s pool) t
 ready Nothing s pool t run feasible = ready_first s pool t run
 ready Lower s pool t run feasible = ready_lower s pool t run (feasible lower_apart)
 ready Upper s pool t run feasible = ready_upper s pool t run (feasible upper_apart)

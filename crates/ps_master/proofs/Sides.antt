@@ -8,8 +8,6 @@ use Rattle.ps_table.specs.Tableau.{entry_at}
 use Rattle.ps_table.specs.declared.place.WideAt.{WideAt}
 use Rattle.ps_problem.specs.declared.query.Query as stored
 use Rattle.ps_problem.specs.Problems.{Parts, bounds_in, bound_of}
-use Rattle.ps_steps.specs.Steps.{Refutes}
-use Rattle.ps_forms.specs.Forms.{form_of, first_known}
 use Rattle.ps_simplex.specs.Rule.{IsFeasible, IsResting}
 use Rattle.ps_answer.specs.declared.answer.Cause.{Cause}
 use Rattle.ps_answer.specs.declared.answer.Cause.TheVariants.{Pivots, Conflicts, Wide}
@@ -22,9 +20,11 @@ use Rattle.ps_claims.specs.declared.claim_kind.ClaimKind.TheVariants.{Nothing, L
 use Rattle.ps_claims.specs.Duals as claims
 use Rattle.ps_claims.specs.Duals.{HasValueHead}
 use Rattle.ps_claims.specs.Validity.{IsRefuted, ShowsTight}
+use Rattle.ps_runs.specs.Programs.{RefutesGain}
 use Rattle.ps_runs.specs.Rows.{phase_of, IsTable}
 use Rattle.ps_runs.specs.Certificates.{HaveSameNumbers, table_model}
-use Rattle.ps_runs.specs.Runs.{Subject, subject_of, setting_of, given_in, both_in, atoms_of, IsPool, Stage, table_at, costs_at, dual_at, goal_at_least, AreAtMost, IsRestingAt}
+use Rattle.ps_runs.specs.Subjects.{Subject, subject_of, setting_of, given_in, both_in, atoms_of, frame_of, program_of}
+use Rattle.ps_runs.specs.Runs.{IsPool, Stage, table_at, costs_at, dual_at, AreAtMost, IsRestingAt}
 use Rattle.ps_runs.proofs.Combination.{multiple_positive, signed-length}
 use Rattle.ps_runs.proofs.Certified.{refuted_at_rest}
 use Rattle.ps_runs.proofs.Tight.{tight_at_end}
@@ -42,54 +42,54 @@ use Rattle.ps_master.proofs.Models as models
 use Rattle.ps_master.proofs.Ways.{own_way, one_more}
 
 -- at rest with no world above 0 a side's model is due
-due_at_rest : (kind : ClaimKind) (s : Subject) (g : Stage) (X : ℕ → ℕ → Rational) → kind ≢ Nothing → IsRestingAt kind s g X → AreAtMost kind s g X (pos 0) → IsModelDue kind s g X
+due_at_rest : (kind : ClaimKind) (s : Subject) (g : Stage) (X : ℕ → ℕ → Rational) → kind ≢ Nothing → IsRestingAt (program_of kind s) g X → AreAtMost (program_of kind s) g X (pos 0) → IsModelDue (program_of kind s) g X
 due_at_rest Nothing s g X apart rests none = absurd (apart refl)
 due_at_rest Lower s g X apart rests none = (rests, none)
 due_at_rest Upper s g X apart rests none = (rests, none)
 
 -- the top of a side's dual is at least 1
-top_above : (kind : ClaimKind) (s : Subject) (g : Stage) (X : ℕ → ℕ → Rational) → kind ≢ Nothing → pos 1 ≤ℤ (dual_at kind s g X).top
+top_above : (kind : ClaimKind) (s : Subject) (g : Stage) (X : ℕ → ℕ → Rational) → kind ≢ Nothing → pos 1 ≤ℤ (dual_at (program_of kind s) g X).top
 top_above Nothing s g X apart = absurd (apart refl)
-top_above Lower s g X apart = let h = multiple_positive (table_at s g X) (costs_at Lower s g) in omega (arith, ints, h)
-top_above Upper s g X apart = let h = multiple_positive (table_at s g X) (costs_at Upper s g) in omega (arith, ints, h)
+top_above Lower s g X apart = let h = multiple_positive (table_at (frame_of s) g X) (costs_at (program_of Lower s) g) in omega (arith, ints, h)
+top_above Upper s g X apart = let h = multiple_positive (table_at (frame_of s) g X) (costs_at (program_of Upper s) g) in omega (arith, ints, h)
 
-top_at_least : (kind : ClaimKind) (s : Subject) (g : Stage) (X : ℕ → ℕ → Rational) (d : Dual) → kind ≢ Nothing → IsDualEnd kind s g X d → pos 1 ≤ℤ d.top
+top_at_least : (kind : ClaimKind) (s : Subject) (g : Stage) (X : ℕ → ℕ → Rational) (d : Dual) → kind ≢ Nothing → IsDualEnd (program_of kind s) g X d → pos 1 ≤ℤ d.top
 top_at_least kind s g X d apart end = subst (λ z. pos 1 ≤ℤ z) (sym end.numbers.top) (top_above kind s g X apart)
 
 -- and so is that of the dual spread over all bounds
-pub spread_top : (kind : ClaimKind) (r : LimitedSubject) (g : Stage) (X : ℕ → ℕ → Rational) (e d : Dual) → kind ≢ Nothing → IsDualEnd kind r.subject g X e → IsSpread r e d → pos 1 ≤ℤ d.top
+pub spread_top : (kind : ClaimKind) (r : LimitedSubject) (g : Stage) (X : ℕ → ℕ → Rational) (e d : Dual) → kind ≢ Nothing → IsDualEnd (program_of kind r.subject) g X e → IsSpread r e d → pos 1 ≤ℤ d.top
 spread_top kind r g X e d apart end spread = subst (λ (x : Dual). pos 1 ≤ℤ x.top) (sym spread.numbers) (top_at_least kind r.subject g X e apart end)
 
 -- what makes a value tight
 record ShowsAtEnd (kind : ClaimKind) (g : Stage) (X : ℕ → ℕ → Rational) (value : Rational) (d : claims.Dual) (s : Subject) : Type 0 where
-  numbers : HaveSameNumbers d (dual_at kind s g X)
+  numbers : HaveSameNumbers d (dual_at (program_of kind s) g X)
   head : HasValueHead value d
   table : IsTable (setting_of s) g.pool g.basis X
-  feasible : IsFeasible (table_at s g X)
+  feasible : IsFeasible (table_at (frame_of s) g X)
   pooled : IsPool (atoms_of s) g.pool
-  resting : IsResting (phase_of kind) (table_at s g X) (costs_at kind s g)
-  steps : Refutes (length s.parts.nodes) (first_known (form_of s.parts.nodes) (goal_at_least (pos 1) kind s (dual_at kind s g X))) d.steps
+  resting : IsResting (phase_of kind) (table_at (frame_of s) g X) (costs_at (program_of kind s) g)
+  steps : RefutesGain (program_of kind s) (dual_at (program_of kind s) g X) d.steps
 
 tight_so : (kind : ClaimKind) (p : Parts) (q : stored.Query) (g : Stage) (X : ℕ → ℕ → Rational) (value : Rational) (d : claims.Dual) → kind ≢ Nothing
-    → ShowsAtEnd kind g X value d (subject_of p q) → ShowsTight p kind q value (table_model (table_at (subject_of p q) g X) g.pool) d
+    → ShowsAtEnd kind g X value d (subject_of p q) → ShowsTight p kind q value (table_model (table_at (frame_of (subject_of p q)) g X) g.pool) d
 tight_so kind p q g X value d apart h = tight_at_end kind p q g X value d apart h.numbers h.head h.table h.feasible h.pooled h.resting h.steps
 
 module _ (kind : ClaimKind) (r : LimitedSubject) (old new : State) (apart : kind ≢ Nothing) where
-  answered : (come : HasCome kind r old new) (answer : SideAnswer) → IsSideAt kind r.subject r.limits.pivots r.limits.conflicts (stage_of new) new.left None (kept_side r.flags answer)
+  answered : (come : HasCome kind r old new) (answer : SideAnswer) → IsSideAt (program_of kind r.subject) r.limits.pivots r.limits.conflicts (stage_of new) new.left None (kept_side r.flags answer)
       → ((q : stored.Query) → r.subject.query ≡ Some q → IsValidSide kind r.subject.parts q (kept_side r.flags answer)) → IsWholeSide kind r answer
       → IsSideAnswerOf kind (run_of r old false) (run_of r new false) answer
   answered come answer due valid whole = record {
     events = come.way.events;
     traced = record { over = refl; appended = come.way.appended };
     lawful =
-        side_ended kind r.subject r.limits.pivots r.limits.conflicts (stage_of old) old.left new.pool new.table come.way.events new.left
+        side_ended (program_of kind r.subject) r.limits.pivots r.limits.conflicts (stage_of old) old.left new.pool new.table come.way.events new.left
         (own_way kind r.subject r.limits.conflicts (stage_of old) old.left old.trace new.pool new.table new.trace new.left come.way) (kept_side r.flags answer) due;
     valid = valid;
     whole = whole;
   }
 
   -- at rest, where no world's combination is above 0
-  module _ (d : Dual) (come : HasCome kind r old new) (end : IsDualEnd kind r.subject (stage_of new) (entry_at new.table) d) (left : IsLeft kind r.subject old new) where
+  module _ (d : Dual) (come : HasCome kind r old new) (end : IsDualEnd (program_of kind r.subject) (stage_of new) (entry_at new.table) d) (left : IsLeft kind r.subject old new) where
     shown : (value : Rational) → HasValueHead value (dual_of d) → ShowsAtEnd kind (stage_of new) (entry_at new.table) value (dual_of d) r.subject
     shown value head = record {
       numbers = end.numbers;
@@ -102,17 +102,17 @@ module _ (kind : ClaimKind) (r : LimitedSubject) (old new : State) (apart : kind
     }
 
     tight : (value : Rational) → HasValueHead value (dual_of d) → (q : stored.Query) → r.subject.query ≡ Some q
-        → ShowsTight r.subject.parts kind q value (table_model (table_at r.subject (stage_of new) (entry_at new.table)) new.pool) (dual_of d)
+        → ShowsTight r.subject.parts kind q value (table_model (table_at (frame_of r.subject) (stage_of new) (entry_at new.table)) new.pool) (dual_of d)
     tight value head q is =
         let same : r.subject ≡ subject_of r.subject.parts q = λ i. record { parts = r.subject.parts; query = is i } in
-        subst (λ s. ShowsTight r.subject.parts kind q value (table_model (table_at s (stage_of new) (entry_at new.table)) new.pool) (dual_of d)) (sym same)
+        subst (λ s. ShowsTight r.subject.parts kind q value (table_model (table_at (frame_of s) (stage_of new) (entry_at new.table)) new.pool) (dual_of d)) (sym same)
         (tight_so kind r.subject.parts q (stage_of new) (entry_at new.table) value (dual_of d) apart
         (subst (ShowsAtEnd kind (stage_of new) (entry_at new.table) value (dual_of d)) same (shown value head)))
 
     -- the value with its dual spread over all bounds
     module _ (f : Dual) (spread : IsSpread r d f) where
       due : (value : Rational) (m : Model) → IsTableModel new.table new.pool m → HasValueHead value (dual_of d)
-          → IsSideAt kind r.subject r.limits.pivots r.limits.conflicts (stage_of new) new.left None (side.Bound value m d)
+          → IsSideAt (program_of kind r.subject) r.limits.pivots r.limits.conflicts (stage_of new) new.left None (side.Bound value m d)
       due value m is head = (
         refl,
         models.model_at r.subject new.pool new.table left.table m (models.feasible_at r.subject new.pool new.table left.table (left.feasible apart)) is,
@@ -126,7 +126,7 @@ module _ (kind : ClaimKind) (r : LimitedSubject) (old new : State) (apart : kind
       bound : (value : Rational) (m : Model) → IsTableModel new.table new.pool m → HasValueHead value (dual_of d) → IsSideAnswerOf kind (run_of r old false) (run_of r new false) (side.Bound value m f)
       bound value m is head =
           answered come (side.Bound value m f)
-          (subst (λ (x : Dual). IsSideAt kind r.subject r.limits.pivots r.limits.conflicts (stage_of new) new.left None (side.Bound value m x)) (sym spread.numbers) (due value m is head))
+          (subst (λ (x : Dual). IsSideAt (program_of kind r.subject) r.limits.pivots r.limits.conflicts (stage_of new) new.left None (side.Bound value m x)) (sym spread.numbers) (due value m is head))
           (λ q e. subst (λ (x : Dual). IsValidSide kind r.subject.parts q (side.Bound value m x)) (sym spread.numbers)
           (subst (λ n. ShowsTight r.subject.parts kind q value n (dual_of d)) (sym (models.is_table_model r.subject new.pool new.table left.table m is)) (tight value head q e)))
           (record { others = spread.others; refuted = spread.refuted kind refuted })
@@ -154,7 +154,7 @@ module _ (kind : ClaimKind) (r : LimitedSubject) (old new : State) (apart : kind
       appended = one_more kind r.subject r.limits.conflicts (stage_of old) old.left old.trace new.pool new.table end.trace new.left end.way new.trace (Priced end.world) end.appended;
     };
     lawful =
-        side_pending kind r.subject r.limits.pivots r.limits.conflicts (stage_of old) old.left new.pool new.table end.way.events new.left
+        side_pending (program_of kind r.subject) r.limits.pivots r.limits.conflicts (stage_of old) old.left new.pool new.table end.way.events new.left
         (own_way kind r.subject r.limits.conflicts (stage_of old) old.left old.trace new.pool new.table end.trace new.left end.way) end.world at end.priced end.wide;
     valid = λ q e. tt;
     whole = tt;
@@ -166,6 +166,6 @@ module _ (kind : ClaimKind) (r : LimitedSubject) (old new : State) (apart : kind
   side_open (Wide at) end = elim end [ inl e ↦ open_end (Wide at) e | inr e ↦ pending_end at e ]
 
 -- a dual has a multiplier for each bound of the kept sentences
-pub as_many_rows : (kind : ClaimKind) (s : Subject) (g : Stage) (X : ℕ → ℕ → Rational) (d : Dual) → IsDualEnd kind s g X d → length d.rows ≡ length (bounds_in s.parts.sentences)
+pub as_many_rows : (kind : ClaimKind) (s : Subject) (g : Stage) (X : ℕ → ℕ → Rational) (d : Dual) → IsDualEnd (program_of kind s) g X d → length d.rows ≡ length (bounds_in s.parts.sentences)
 as_many_rows kind s g X d end =
     ap (λ (ys : List ℤ). length ys) end.numbers.rows ∙ signed-length (setting_of s).bounds _ ∙ length-map (bounds_in s.parts.sentences) (bound_of s.parts.nodes)

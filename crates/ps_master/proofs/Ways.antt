@@ -4,13 +4,14 @@ use Rattle.ps_meaning.specs.Formula.{World}
 use Rattle.ps_pool.specs.declared.event.Event.{Event}
 use Rattle.ps_table.specs.Tableau.{Tableau}
 use Rattle.ps_claims.specs.declared.claim_kind.ClaimKind.{ClaimKind}
-use Rattle.ps_runs.specs.Runs.{Subject, Stage}
+use Rattle.ps_runs.specs.Subjects.{Subject, program_of}
+use Rattle.ps_runs.specs.Runs.{Stage}
 use Rattle.ps_phases.specs.Tables.{IsUnderWay}
 
 module _ (kind : ClaimKind) (s : Subject) (conflicts : ℕ) (from : Stage) (had : ℕ) (before : List Event) (pool : List World) (t : Tableau) (trace : List Event) (left : ℕ)
-    (way : IsUnderWay kind s conflicts from had before pool t trace left) where
+    (way : IsUnderWay (program_of kind s) conflicts from had before pool t trace left) where
   -- seen by its own events alone
-  pub own_way : IsUnderWay kind s conflicts from had [] pool t way.events left
+  pub own_way : IsUnderWay (program_of kind s) conflicts from had [] pool t way.events left
   own_way = record {
     table = way.table;
     pool_kept = way.pool_kept;

@@ -18,7 +18,9 @@ use Rattle.ps_claims.specs.declared.claim_kind.ClaimKind.{ClaimKind}
 use Rattle.ps_claims.specs.declared.claim_kind.ClaimKind.TheVariants.{Nothing}
 use Rattle.ps_claims.specs.Duals.{AreZeroElsewhere}
 use Rattle.ps_claims.specs.Validity.{IsRefuted, ShowsNothing, ShowsTight}
-use Rattle.ps_runs.specs.Runs.{Subject, setting_of, given_in, both_in, atoms_of, Stage, IsStart, LeadsTo, pivots_in, IsFeasibleAt}
+use Rattle.ps_runs.specs.Subjects.{Subject, setting_of, given_in, both_in, atoms_of, frame_of, program_of}
+use Rattle.ps_runs.specs.Subjects.{frame_of, program_of}
+use Rattle.ps_runs.specs.Runs.{Stage, IsStart, LeadsTo, pivots_in, IsFeasibleAt}
 use Rattle.ps_certificate.specs.Certificates.{model_of, dual_of}
 use Rattle.ps_phases.specs.Tables.{stage_at}
 use Rattle.ps_phases.specs.Verdicts.{IsLawfulPhaseOne, IsLawfulSide}
@@ -46,7 +48,7 @@ stage_of r = stage_at r.pool r.table
 
 -- a run at its start: the homes are basic, there is no world, and all pivots are left
 pub record IsAtStart (r : RunState) : Type 0 where
-  pub start : IsStart r.over.subject (stage_of r)
+  pub start : IsStart (frame_of r.over.subject) (stage_of r)
   pub left : r.left ≡ r.over.limits.pivots
 
 -- a new run over the kept sentences of a problem, by a truth value for each, and a query, or none
@@ -112,9 +114,9 @@ IsValidFirst s (first.Open cause) = Unit {0}
 
 -- the events have led to a table whose basic artificials have value 0
 pub record HasReached (old new : RunState) (events : List Event) : Type 0 where
-  pub leads : LeadsTo Nothing old.over.subject old.over.limits.conflicts (stage_of old) events (stage_of new)
+  pub leads : LeadsTo (program_of Nothing old.over.subject) old.over.limits.conflicts (stage_of old) events (stage_of new)
   pub counted : new.left + pivots_in events ≡ old.left
-  pub feasible : IsFeasibleAt old.over.subject (stage_of new) (entry_at new.table)
+  pub feasible : IsFeasibleAt (frame_of old.over.subject) (stage_of new) (entry_at new.table)
   pub reached : IsReached new
 
 -- where a distribution was reached, a query's sides go on from there
@@ -127,7 +129,7 @@ GoesOn old new events (first.Open cause) = Unit {0}
 pub record IsPhaseOneAnswer (old new : RunState) (answer : First) : Type 0 where
   pub events : List Event
   pub traced : HasTraced old new events
-  pub lawful : IsLawfulPhaseOne old.over.subject old.over.limits.pivots old.over.limits.conflicts
+  pub lawful : IsLawfulPhaseOne (program_of Nothing old.over.subject) old.over.limits.pivots old.over.limits.conflicts
       (verdict_of (kept_first old.over.flags answer)) events
   pub valid : IsValidFirst old.over.subject (kept_first old.over.flags answer)
   pub whole : IsWholeFirst old.over answer
@@ -157,7 +159,7 @@ IsValidSide kind p q (side.Open cause) = Unit {0}
 pub record IsSideAnswerOf (kind : ClaimKind) (old new : RunState) (answer : SideAnswer) : Type 0 where
   pub events : List Event
   pub traced : HasTraced old new events
-  pub lawful : IsLawfulSide kind old.over.subject old.over.limits.pivots old.over.limits.conflicts (stage_of old)
+  pub lawful : IsLawfulSide (program_of kind old.over.subject) old.over.limits.pivots old.over.limits.conflicts (stage_of old)
       old.left (stage_of new) new.left (kept_side old.over.flags answer) events
   pub valid : (q : Query) → old.over.subject.query ≡ Some q
       → IsValidSide kind old.over.subject.parts q (kept_side old.over.flags answer)

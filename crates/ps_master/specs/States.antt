@@ -13,7 +13,8 @@ use Rattle.ps_claims.specs.declared.claim_kind.ClaimKind.{ClaimKind}
 use Rattle.ps_claims.specs.declared.claim_kind.ClaimKind.TheVariants.{Nothing}
 use Rattle.ps_claims.specs.Duals.{HasValueHead}
 use Rattle.ps_ends.specs.Multiples.{ModelPlaces}
-use Rattle.ps_runs.specs.Runs.{Subject, setting_of, IsAsked, atoms_of, IsPool}
+use Rattle.ps_runs.specs.Subjects.{Subject, IsAsked, atoms_of, frame_of}
+use Rattle.ps_runs.specs.Runs.{IsPool}
 use Rattle.ps_certificate.specs.Certificates.{dual_of}
 use Rattle.ps_phases.specs.Tables.{IsRunTable}
 use Rattle.ps_ends.specs.Models.{IsTableModel}
@@ -43,7 +44,7 @@ AnswersSide kind over old new answer = IsSideAnswerOf kind (run_of over old fals
 
 -- table and pool are those of a run
 pub record HasRunTable (s : Subject) (state : State) : Type 0 where
-  pub table : IsRunTable (setting_of s) state.pool state.table
+  pub table : IsRunTable (frame_of s) state.pool state.table
   pub pool_kept : IsPool (atoms_of s) state.pool
 
 -- the nodes of the query are there, the limits are such as words may set, and unless memory ran out so are table and pool

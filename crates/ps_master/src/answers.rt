@@ -4,7 +4,7 @@ ghost use Rattle.ps_simplex.specs.Rule.{IsFeasible};
 ghost use Rattle.ps_bland.specs.Ready.{HasNoNegativeValue};
 ghost use Rattle.ps_bland.specs.Rules.{simplex_of};
 ghost use Rattle.ps_claims.specs.declared.claim_kind.ClaimKind.TheVariants.{Nothing};
-ghost use Rattle.ps_runs.specs.Runs.{IsAsked};
+ghost use Rattle.ps_runs.specs.Subjects.{IsAsked};
 ghost use Rattle.ps_certificate.specs.Printed.{ArePrintedOperands, IsPrintedDual, IsPrintedModel};
 ghost use Rattle.ps_certificate.specs.Printed.{IsPrintedSide};
 ghost use Rattle.ps_ends.specs.Models.{AreApart};

@@ -3,7 +3,7 @@ ghost use Rattle.std.specs.Prelude.{◌≢◌, IfOk};
 ghost use Rattle.ps_simplex.specs.Rule.{IsFeasible};
 ghost use Rattle.ps_bland.specs.Rules.{simplex_of};
 ghost use Rattle.ps_claims.specs.declared.claim_kind.ClaimKind.TheVariants.{Nothing};
-ghost use Rattle.ps_runs.specs.Runs.{IsAsked};
+ghost use Rattle.ps_runs.specs.Subjects.{IsAsked};
 ghost use Rattle.ps_generation.specs.Counts.{MakesFewPivots};
 ghost use Rattle.ps_generation.specs.Phases.{HasRoom, IsEnd, IsLeft, IsPrintedEnd};
 ghost use Rattle.ps_master.specs.States.{HasRunTable};

@@ -8,14 +8,16 @@ use Rattle.ps_simplex.specs.Table.{HasHomes}
 use Rattle.ps_table.specs.Tableau.{Tableau, IsTableau, IsAdded, ExtendsSystem, IsTableFor, IsTableForHomes, HasUnitHomes, HasBasicHomes, IsColumn, rows_of as table_rows, width_of as table_width, number_in, entry_at, basic_at}
 use Rattle.ps_claims.specs.declared.claim_kind.ClaimKind.{ClaimKind}
 use Rattle.ps_runs.specs.Rows.{Setting, artificial_rows, home_cost, world_cost, entries_of, rows_of, width_of, columns_of}
-use Rattle.ps_runs.specs.Runs.{Subject, setting_of, IsStart}
+use Rattle.ps_runs.specs.Subjects.{Subject, setting_of, frame_over, frame_of}
+use Rattle.ps_runs.specs.Runs.{IsStart}
 use Rattle.ps_runs.proofs.Columns.{has_homes, world_at}
 use Rattle.ps_runs.proofs.Starts.{stands_same, more_worlds, unit_nonneg}
 use Rattle.ps_runs.proofs.Pricing.{last_world}
-use Rattle.ps_phases.specs.Tables.{homes_of, costs_for, IsRunTable, stage_at}
+use Rattle.ps_runs.specs.Rows.{homes_of}
+use Rattle.ps_phases.specs.Tables.{costs_for, IsRunTable, stage_at}
 use Rattle.ps_phases.proofs.Shapes.{rows_are, stands_there, stands_back, run_table, homes_count}
 
-module _ (s : Setting) (pool : List World) (w : World) (t : Tableau) (run : IsRunTable s pool t) where
+module _ (s : Setting) (pool : List World) (w : World) (t : Tableau) (run : IsRunTable (frame_over s) pool t) where
   abbrev more : List World
   more = pool ++ w ∷ []
 
@@ -34,7 +36,7 @@ module _ (s : Setting) (pool : List World) (w : World) (t : Tableau) (run : IsRu
       let place : table_width t ≡ suc (rows_of s + length pool) = omega (arith, e, k) in
       ap (columns_of s more m) place ∙ world_at s more m (length pool) ∙ ap (λ v. fraction (get_or (entries_of s v) m (pos 0)) 1) (last_world pool w)
 
-  pub added_world : (u : Tableau) → IsAdded (entries_of s w) t u → ExtendsSystem (entries_of s w) t u → IsTableau u → IsRunTable s more u
+  pub added_world : (u : Tableau) → IsAdded (entries_of s w) t u → ExtendsSystem (entries_of s w) t u → IsTableau u → IsRunTable (frame_over s) more u
   added_world u added stands tableau = record {
     kinds = added.kinds ∙ run.kinds;
     worlds = let a = added.worlds in let b = run.worlds in let e = length-append pool (w ∷ []) in omega (arith, a, b, e);
@@ -47,7 +49,7 @@ module _ (s : Setting) (pool : List World) (w : World) (t : Tableau) (run : IsRu
   }
 
 -- the table of the homes
-pub new_table : (s : Setting) (t : Tableau) → t.kinds ≡ homes_of s → t.worlds ≡ 0 → HasUnitHomes (homes_of s) t → IsTableForHomes (homes_of s) t → IsTableau t → IsRunTable s [] t
+pub new_table : (s : Setting) (t : Tableau) → t.kinds ≡ homes_of s → t.worlds ≡ 0 → HasUnitHomes (homes_of s) t → IsTableForHomes (homes_of s) t → IsTableau t → IsRunTable (frame_over s) [] t
 new_table s t kinds worlds units stands tableau = record {
   kinds = kinds;
   worlds = worlds;
@@ -59,7 +61,7 @@ new_table s t kinds worlds units stands tableau = record {
 }
 
 -- it stands at the start
-pub new_stage : (s : Subject) (t : Tableau) → t.kinds ≡ homes_of (setting_of s) → HasBasicHomes (homes_of (setting_of s)) t → IsStart s (stage_at [] t)
+pub new_stage : (s : Subject) (t : Tableau) → t.kinds ≡ homes_of (setting_of s) → HasBasicHomes (homes_of (setting_of s)) t → IsStart (frame_of s) (stage_at [] t)
 new_stage s t kinds basics = record {
   pool = refl;
   homes = λ i l. ap (number_in (length t.kinds)) (basics i (let e = homes_count (setting_of s) in omega (arith, l, e)));

@@ -18,11 +18,13 @@ use Rattle.ps_answer.specs.declared.answer.Answer.{Answer}
 use Rattle.ps_answer.specs.Answers.{IsCounted, IsVerdictCounted, IsSideCounted, IsQueryCounted, ArePartsCounted, IsAnswerCounted}
 use Rattle.ps_claims.specs.declared.claim_kind.ClaimKind.{ClaimKind}
 use Rattle.ps_claims.specs.declared.claim_kind.ClaimKind.TheVariants.{Nothing, Lower, Upper}
-use Rattle.ps_runs.specs.Runs.{Subject, subject_of, Stage}
+use Rattle.ps_runs.specs.Subjects.{Subject, subject_of, program_of}
+use Rattle.ps_runs.specs.Subjects.{program_of}
+use Rattle.ps_runs.specs.Runs.{Stage}
 use Rattle.ps_phases.specs.Licences.{IsLicensed}
 use Rattle.ps_phases.specs.Verdicts.{IsVerdictAt, IsSideAt, IsLawfulAnswerTo, IsLawfulPart, IsLawfulAnswer, asked_after}
 
-licensed : (kind : ClaimKind) (s : Subject) (pivots conflicts : ℕ) (g : Stage) (left : ℕ) (world : Option World) (cause : Cause) → IsLicensed kind s pivots conflicts g left world cause → IsCounted cause
+licensed : (kind : ClaimKind) (s : Subject) (pivots conflicts : ℕ) (g : Stage) (left : ℕ) (world : Option World) (cause : Cause) → IsLicensed (program_of kind s) pivots conflicts g left world cause → IsCounted cause
 licensed kind s pivots conflicts g left None (Pivots limit) h = tt
 licensed kind s pivots conflicts g left None (Conflicts limit goal steps) h = h.spent.count
 licensed kind s pivots conflicts g left None (Wide at) h = tt
@@ -30,12 +32,12 @@ licensed kind s pivots conflicts g left (Some w) (Pivots limit) h = tt
 licensed kind s pivots conflicts g left (Some w) (Conflicts limit goal steps) h = absurd h
 licensed kind s pivots conflicts g left (Some w) (Wide at) h = tt
 
-verdict_counted : (s : Subject) (pivots conflicts : ℕ) (g : Stage) (left : ℕ) (world : Option World) (v : Verdict) → IsVerdictAt s pivots conflicts g left world v → IsVerdictCounted v
+verdict_counted : (s : Subject) (pivots conflicts : ℕ) (g : Stage) (left : ℕ) (world : Option World) (v : Verdict) → IsVerdictAt (program_of Nothing s) pivots conflicts g left world v → IsVerdictCounted v
 verdict_counted s pivots conflicts g left world (Consistent m) h = tt
 verdict_counted s pivots conflicts g left world (Inconsistent d) h = tt
 verdict_counted s pivots conflicts g left world (Open cause) h = licensed Nothing s pivots conflicts g left world cause h
 
-side_counted : (kind : ClaimKind) (s : Subject) (pivots conflicts : ℕ) (g : Stage) (left : ℕ) (world : Option World) (a : SideAnswer) → IsSideAt kind s pivots conflicts g left world a → IsSideCounted a
+side_counted : (kind : ClaimKind) (s : Subject) (pivots conflicts : ℕ) (g : Stage) (left : ℕ) (world : Option World) (a : SideAnswer) → IsSideAt (program_of kind s) pivots conflicts g left world a → IsSideCounted a
 side_counted kind s pivots conflicts g left world (side.Bound value m d) h = tt
 side_counted kind s pivots conflicts g left world (side.Open cause) h = licensed kind s pivots conflicts g left world cause h
 

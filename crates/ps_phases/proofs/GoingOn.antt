@@ -13,8 +13,10 @@ use Rattle.ps_table.specs.Tableau.{Tableau, IsTableau, IsAdded, ExtendsSystem, n
 use Rattle.ps_bland.specs.Ready.{HasNoNegativeValue}
 use Rattle.ps_bland.specs.Runs as bland
 use Rattle.ps_claims.specs.declared.claim_kind.ClaimKind.{ClaimKind}
+use Rattle.ps_runs.specs.Programs.{Program}
 use Rattle.ps_runs.specs.Rows.{phase_of, entries_of}
-use Rattle.ps_runs.specs.Runs.{Subject, setting_of, atoms_of, Stage, IsPool, gain_at, IsPricedBy, LeadsTo, still, priced, LeadsToPending, pending}
+use Rattle.ps_runs.specs.Subjects.{Subject, setting_of, atoms_of, frame_of, program_of}
+use Rattle.ps_runs.specs.Runs.{Stage, IsPool, gain_at, IsPricedBy, LeadsTo, still, priced, LeadsToPending, pending}
 use Rattle.ps_runs.proofs.Composed.{pivots_in-append, leads_on}
 use Rattle.ps_runs.proofs.Pricing.{priced_is_new}
 use Rattle.ps_phases.specs.Tables.{costs_for, IsRunTable, stage_at, IsUnderWay}
@@ -23,13 +25,13 @@ use Rattle.ps_phases.proofs.Adding.{added_world}
 use Rattle.ps_phases.proofs.Settling.{LedBy, settled_leads}
 
 -- what `settle` leaves is a table of the run
-pub settled_table : (kind : ClaimKind) (s : Subject) (conflicts : ℕ) (pool : List World) (t u : Tableau) (events : List Event) → IsRunTable (setting_of s) pool t
-    → LedBy kind s conflicts pool t events u → IsTableau u → HasNoNegativeValue u → IsRunTable (setting_of s) pool u
+pub settled_table : (kind : ClaimKind) (s : Subject) (conflicts : ℕ) (pool : List World) (t u : Tableau) (events : List Event) → IsRunTable (frame_of s) pool t
+    → LedBy kind s conflicts pool t events u → IsTableau u → HasNoNegativeValue u → IsRunTable (frame_of s) pool u
 settled_table kind s conflicts pool t u events run led tableau values = record { kinds = led.kinds; worlds = led.worlds; tableau = tableau; stands = led.stands; values = values }
 
-module _ (kind : ClaimKind) (s : Subject) (conflicts : ℕ) where
-  pub begun : (pool : List World) (t : Tableau) (trace : List Event) (left : ℕ) → IsRunTable (setting_of s) pool t → IsPool (atoms_of s) pool
-      → IsUnderWay kind s conflicts (stage_at pool t) left trace pool t trace left
+module _ (p : Program) (conflicts : ℕ) where
+  pub begun : (pool : List World) (t : Tableau) (trace : List Event) (left : ℕ) → IsRunTable p.frame pool t → IsPool p.atoms pool
+      → IsUnderWay p conflicts (stage_at pool t) left trace pool t trace left
   begun pool t trace left run pooled = record {
     table = run;
     pool_kept = pooled;
@@ -39,10 +41,18 @@ module _ (kind : ClaimKind) (s : Subject) (conflicts : ℕ) where
     counted = omega arith;
   }
 
+  -- a world whose column is refused is pending
+  pub priced_pends : (from : Stage) (had : ℕ) (before : List Event) (pool : List World) (t : Tableau) (trace : List Event) (left : ℕ) (w : World)
+      → (way : IsUnderWay p conflicts from had before pool t trace left)
+      → IsPricedBy p conflicts (stage_at pool t) (entry_at t) w
+      → LeadsToPending p conflicts from (way.events ++ Priced w ∷ []) (Some w) (stage_at pool t)
+  priced_pends from had before pool t trace left w way is = pending from (stage_at pool t) way.events w way.leads (record { table = entry_at t; priced = is })
+
+module _ (kind : ClaimKind) (s : Subject) (conflicts : ℕ) where
   pub settled_goes_on : (from : Stage) (had : ℕ) (before : List Event) (pool : List World) (t u : Tableau) (trace longer : List Event) (left now : ℕ)
-      → IsUnderWay kind s conflicts from had before pool t trace left
+      → IsUnderWay (program_of kind s) conflicts from had before pool t trace left
       → bland.Ran (phase_of kind) (costs_for kind (setting_of s) pool) t u trace longer left now → IsTableau u → HasNoNegativeValue u
-      → IsUnderWay kind s conflicts from had before pool u longer now
+      → IsUnderWay (program_of kind s) conflicts from had before pool u longer now
   settled_goes_on from had before pool t u trace longer left now way ran tableau values =
       let led : LedBy kind s conflicts pool t ran.events u = settled_leads kind s conflicts pool t ran.events u way.table.kinds way.table.worlds way.table.stands ran.run in
       record {
@@ -50,7 +60,7 @@ module _ (kind : ClaimKind) (s : Subject) (conflicts : ℕ) where
         pool_kept = way.pool_kept;
         events = way.events ++ ran.events;
         appended = ran.appended ∙ ap (λ es. es ++ ran.events) way.appended ∙ append_assoc before way.events ran.events;
-        leads = leads_on kind s conflicts from (stage_at pool t) (stage_at pool u) way.events ran.events way.leads led.leads;
+        leads = leads_on (program_of kind s) conflicts from (stage_at pool t) (stage_at pool u) way.events ran.events way.leads led.leads;
         counted =
             let a = way.counted in
             let b = ran.counted in
@@ -60,14 +70,14 @@ module _ (kind : ClaimKind) (s : Subject) (conflicts : ℕ) where
       }
 
   -- a world that is priced at a run's table isn't in the pool
-  pub priced_apart : (pool : List World) (t : Tableau) (w : World) → IsRunTable (setting_of s) pool t → IsPricedBy kind s conflicts (stage_at pool t) (entry_at t) w
+  pub priced_apart : (pool : List World) (t : Tableau) (w : World) → IsRunTable (frame_of s) pool t → IsPricedBy (program_of kind s) conflicts (stage_at pool t) (entry_at t) w
       → (k : ℕ) → k < length pool → get_or pool k [] ≡ w → ⊥
   priced_apart pool t w run is k l e =
       priced_is_new kind (setting_of s) pool (basic_at t) (entry_at t) k (run_table (setting_of s) pool t run) is.rests.resting l
-      (subst (λ v. pos 1 ≤ℤ gain_at kind s (stage_at pool t) (entry_at t) v) (sym e) is.above)
+      (subst (λ v. pos 1 ≤ℤ gain_at (program_of kind s) (stage_at pool t) (entry_at t) v) (sym e) is.above)
 
-  pub priced_fresh : (pool : List World) (t : Tableau) (w : World) (number : ℕ) → IsRunTable (setting_of s) pool t
-      → IsPricedBy kind s conflicts (stage_at pool t) (entry_at t) w → HasNumber pool w number → ⊥
+  pub priced_fresh : (pool : List World) (t : Tableau) (w : World) (number : ℕ) → IsRunTable (frame_of s) pool t
+      → IsPricedBy (program_of kind s) conflicts (stage_at pool t) (entry_at t) w → HasNumber pool w number → ⊥
   priced_fresh pool t w zero run is e = absurd (is_some w e)
     where
       is_some : (x : World) → None ≡ Some x → ⊥
@@ -75,10 +85,10 @@ module _ (kind : ClaimKind) (s : Subject) (conflicts : ℕ) where
   priced_fresh pool t w (suc i) run is e = priced_apart pool t w run is i (slice_get_within pool i w e) (get_or_from_slice_get pool i w [] e)
 
   pub priced_goes_on : (from : Stage) (had : ℕ) (before : List Event) (pool : List World) (t u : Tableau) (trace : List Event) (left : ℕ) (w : World)
-      → IsUnderWay kind s conflicts from had before pool t trace left
-      → IsPricedBy kind s conflicts (stage_at pool t) (entry_at t) w
+      → IsUnderWay (program_of kind s) conflicts from had before pool t trace left
+      → IsPricedBy (program_of kind s) conflicts (stage_at pool t) (entry_at t) w
       → IsAdded (entries_of (setting_of s) w) t u → ExtendsSystem (entries_of (setting_of s) w) t u → IsTableau u
-      → IsUnderWay kind s conflicts from had before (pool ++ w ∷ []) u (trace ++ Priced w ∷ []) left
+      → IsUnderWay (program_of kind s) conflicts from had before (pool ++ w ∷ []) u (trace ++ Priced w ∷ []) left
   priced_goes_on from had before pool t u trace left w way is added stands tableau = record {
     table = added_world (setting_of s) pool w t way.table u added stands tableau;
     pool_kept = record {
@@ -88,7 +98,7 @@ module _ (kind : ClaimKind) (s : Subject) (conflicts : ℕ) where
     events = way.events ++ Priced w ∷ [];
     appended = ap (λ es. es ++ Priced w ∷ []) way.appended ∙ append_assoc before way.events (Priced w ∷ []);
     leads =
-        subst (λ b. LeadsTo kind s conflicts from (way.events ++ Priced w ∷ []) (record { pool = pool ++ w ∷ []; basis = b })) same_basis
+        subst (λ b. LeadsTo (program_of kind s) conflicts from (way.events ++ Priced w ∷ []) (record { pool = pool ++ w ∷ []; basis = b })) same_basis
         (priced from (stage_at pool t) way.events w way.leads (record { table = entry_at t; priced = is }));
     counted =
         let a = way.counted in
@@ -101,10 +111,3 @@ module _ (kind : ClaimKind) (s : Subject) (conflicts : ℕ) where
 
       same_basis : basic_at t ≡ basic_at u
       same_basis = λ j i. number_in (length (sym added.kinds j)) (get_or (sym added.basic j) i (col.Home 0))
-
-  -- a world whose column is refused is pending
-  pub priced_pends : (from : Stage) (had : ℕ) (before : List Event) (pool : List World) (t : Tableau) (trace : List Event) (left : ℕ) (w : World)
-      → (way : IsUnderWay kind s conflicts from had before pool t trace left)
-      → IsPricedBy kind s conflicts (stage_at pool t) (entry_at t) w
-      → LeadsToPending kind s conflicts from (way.events ++ Priced w ∷ []) (Some w) (stage_at pool t)
-  priced_pends from had before pool t trace left w way is = pending from (stage_at pool t) way.events w way.leads (record { table = entry_at t; priced = is })

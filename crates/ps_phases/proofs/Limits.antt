@@ -22,7 +22,9 @@ use Rattle.ps_answer.specs.declared.answer.SideAnswer.{SideAnswer}
 use Rattle.ps_answer.specs.declared.answer.SideAnswer.TheVariants as side
 use Rattle.ps_claims.specs.declared.claim_kind.ClaimKind.{ClaimKind}
 use Rattle.ps_claims.specs.declared.claim_kind.ClaimKind.TheVariants.{Nothing, Lower, Upper}
-use Rattle.ps_runs.specs.Runs.{Subject, subject_of, sentences_of, setting_of, atoms_of, Stage, IsStart, IsPool, LeadsToPending, entire, pending, pivots_in}
+use Rattle.ps_runs.specs.Subjects.{Subject, subject_of, sentences_of, setting_of, atoms_of, frame_of, program_of}
+use Rattle.ps_runs.specs.Subjects.{frame_of, program_of}
+use Rattle.ps_runs.specs.Runs.{Stage, IsStart, IsPool, LeadsToPending, entire, pending, pivots_in}
 use Rattle.ps_runs.proofs.Composed.{pivots_in-append}
 use Rattle.ps_runs.proofs.Starts.{first_table}
 use Rattle.ps_phases.specs.Licences.{IsLicensed}
@@ -34,7 +36,7 @@ no_worlds : (a : ℕ) → IsPool a []
 no_worlds a = record { different = λ i j d l h. absurd (omega (arith, h)); sized = All-nil (λ (w : World). length w ≡ a) }
 
 -- phase one begins with the table of the homes
-first_reached : (s : Subject) (g : Stage) → IsStart s g → Reached Nothing s g 0
+first_reached : (s : Subject) (g : Stage) → IsStart (frame_of s) g → Reached Nothing s g 0
 first_reached s g start =
     let X : ℕ → ℕ → Rational = λ i j. unit_at i (j - 1) in
     subst (λ (pool : List World). Reached Nothing s (record { pool = pool; basis = g.basis }) 0) (sym start.pool)
@@ -44,23 +46,23 @@ first_reached s g start =
     }))
 
 -- a pending world makes no pivot
-leads_pending : (kind : ClaimKind) (s : Subject) (conflicts : ℕ) (a b : Stage) (events : List Event) (world : Option World) → Reached kind s a 0 → LeadsToPending kind s conflicts a events world b → Reached kind s b (pivots_in events)
+leads_pending : (kind : ClaimKind) (s : Subject) (conflicts : ℕ) (a b : Stage) (events : List Event) (world : Option World) → Reached kind s a 0 → LeadsToPending (program_of kind s) conflicts a events world b → Reached kind s b (pivots_in events)
 leads_pending kind s conflicts a b events world r (entire x y es way) = leads kind s conflicts a b events r way
 leads_pending kind s conflicts a b events world r (pending x y es w way at) =
     let e : pivots_in es ≡ pivots_in (es ++ Priced w ∷ []) = let f = pivots_in-append es (Priced w ∷ []) in omega (arith, f) in
     subst (Reached kind s b) e (leads kind s conflicts a b es r way)
 
-none_left : (kind : ClaimKind) (s : Subject) (pivots conflicts limit left : ℕ) (g : Stage) (world : Option World) → IsLicensed kind s pivots conflicts g left world (Pivots limit) → left ≡ 0
+none_left : (kind : ClaimKind) (s : Subject) (pivots conflicts limit left : ℕ) (g : Stage) (world : Option World) → IsLicensed (program_of kind s) pivots conflicts g left world (Pivots limit) → left ≡ 0
 none_left kind s pivots conflicts limit left g None h = h.none_left
 none_left kind s pivots conflicts limit left g (Some w) h = absurd h
 
 -- where a pivot is left, the cause is another
-other_cause : (kind : ClaimKind) (s : Subject) (pivots conflicts left : ℕ) (g : Stage) (world : Option World) (cause : Cause) → (left ≡ 0 → ⊥) → IsLicensed kind s pivots conflicts g left world cause → IsOtherThanPivots cause
+other_cause : (kind : ClaimKind) (s : Subject) (pivots conflicts left : ℕ) (g : Stage) (world : Option World) (cause : Cause) → (left ≡ 0 → ⊥) → IsLicensed (program_of kind s) pivots conflicts g left world cause → IsOtherThanPivots cause
 other_cause kind s pivots conflicts left g world (Pivots limit) some h = some (none_left kind s pivots conflicts limit left g world h)
 other_cause kind s pivots conflicts left g world (Conflicts limit goal steps) some h = tt
 other_cause kind s pivots conflicts left g world (Wide at) some h = tt
 
-verdict_enough : (s : Subject) (pivots conflicts : ℕ) (events : List Event) (v : Verdict) → IsEnough s pivots → IsLawfulPhaseOne s pivots conflicts v events → IsVerdictNotForPivots v
+verdict_enough : (s : Subject) (pivots conflicts : ℕ) (events : List Event) (v : Verdict) → IsEnough s pivots → IsLawfulPhaseOne (program_of Nothing s) pivots conflicts v events → IsVerdictNotForPivots v
 verdict_enough s pivots conflicts events (Consistent m) enough h = tt
 verdict_enough s pivots conflicts events (Inconsistent d) enough h = tt
 verdict_enough s pivots conflicts events (Open cause) enough h =
@@ -69,7 +71,7 @@ verdict_enough s pivots conflicts events (Open cause) enough h =
     let counted = h.counted in
     other_cause Nothing s pivots conflicts h.left h.end h.pending cause (λ left. absurd (omega (arith, enough, few, left, counted))) h.answered
 
-side_otherwise : (kind : ClaimKind) (s : Subject) (pivots conflicts left : ℕ) (g : Stage) (world : Option World) (a : SideAnswer) → (left ≡ 0 → ⊥) → IsSideAt kind s pivots conflicts g left world a → IsSideNotForPivots a
+side_otherwise : (kind : ClaimKind) (s : Subject) (pivots conflicts left : ℕ) (g : Stage) (world : Option World) (a : SideAnswer) → (left ≡ 0 → ⊥) → IsSideAt (program_of kind s) pivots conflicts g left world a → IsSideNotForPivots a
 side_otherwise kind s pivots conflicts left g world (side.Bound value m d) some h = tt
 side_otherwise kind s pivots conflicts left g world (side.Open cause) some h = other_cause kind s pivots conflicts left g world cause some h
 

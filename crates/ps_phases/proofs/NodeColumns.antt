@@ -19,8 +19,9 @@ use Rattle.ps_claims.proofs.NodeSums.{both-indicator}
 use Rattle.ps_phases.specs.Columns as over
 use Rattle.ps_problem.specs.Rows as rows
 use Rattle.ps_runs.specs.Rows.{phase_of, entry_in, entries_of, is_exact, artificial_rows, home_cost, world_cost, both_of}
-use Rattle.ps_runs.specs.Runs.{Subject, setting_of, asked_in, given_in, both_in, IsAsked}
-use Rattle.ps_phases.specs.Tables.{home_of, homes_of, costs_for}
+use Rattle.ps_runs.specs.Subjects.{Subject, setting_of, asked_in, given_in, both_in, IsAsked}
+use Rattle.ps_runs.specs.Rows.{home_of, homes_of}
+use Rattle.ps_phases.specs.Tables.{costs_for}
 use Rattle.ps_phases.proofs.Ready.{lower_apart, upper_apart}
 
 module _ (ns : List Node) (w : World) where

@@ -15,7 +15,8 @@ use Rattle.ps_bland.specs.Rules.{simplex_of}
 use Rattle.ps_bland.specs.Runs as bland
 use Rattle.ps_claims.specs.declared.claim_kind.ClaimKind.{ClaimKind}
 use Rattle.ps_runs.specs.Rows.{Setting, phase_of, entries_of, rows_of, width_of, columns_of, cost_of, table_of}
-use Rattle.ps_runs.specs.Runs.{Subject, setting_of, IsPricedBy}
+use Rattle.ps_runs.specs.Subjects.{Subject, setting_of, frame_of, program_of}
+use Rattle.ps_runs.specs.Runs.{IsPricedBy}
 use Rattle.ps_runs.proofs.Pricing.{priced_moves}
 use Rattle.ps_phases.specs.Tables.{costs_for, IsRunTable, stage_at}
 use Rattle.ps_phases.proofs.Shapes.{rows_are, width_is, same_table, run_table}
@@ -28,8 +29,8 @@ some_pivots : (kind : ClaimKind) (s : Setting) (pool : List World) (u v : Tablea
 some_pivots kind s pool u v events (bland.still x) moving ended = absurd (ended moving)
 some_pivots kind s pool u v events (bland.more x m y es enter leave run lawful pivot on) moving ended = let l = length-append es (Pivot enter leave ∷ []) in omega (arith, l)
 
-module _ (kind : ClaimKind) (s : Subject) (conflicts : ℕ) (pool : List World) (t u : Tableau) (w : World) (run : IsRunTable (setting_of s) pool t)
-    (is : IsPricedBy kind s conflicts (stage_at pool t) (entry_at t) w) (added : IsAdded (entries_of (setting_of s) w) t u) where
+module _ (kind : ClaimKind) (s : Subject) (conflicts : ℕ) (pool : List World) (t u : Tableau) (w : World) (run : IsRunTable (frame_of s) pool t)
+    (is : IsPricedBy (program_of kind s) conflicts (stage_at pool t) (entry_at t) w) (added : IsAdded (entries_of (setting_of s) w) t u) where
   abbrev more : List World
   more = pool ++ w ∷ []
 

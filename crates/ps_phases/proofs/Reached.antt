@@ -27,7 +27,8 @@ use Rattle.ps_cycle.proofs.Ways.{choose_next, more_things}
 use Rattle.ps_cycle.proofs.Worlds.{few_worlds}
 use Rattle.ps_claims.specs.declared.claim_kind.ClaimKind.{ClaimKind}
 use Rattle.ps_runs.specs.Rows.{Setting, rows_of, width_of, columns_of, system_of, table_of, cost_of, phase_of, IsTable}
-use Rattle.ps_runs.specs.Runs.{Subject, setting_of, atoms_of, Stage, IsPool, IsPricedAt, gain_at, LeadsTo, still, pivoted, priced, pivots_in}
+use Rattle.ps_runs.specs.Subjects.{Subject, setting_of, atoms_of, program_of}
+use Rattle.ps_runs.specs.Runs.{Stage, IsPool, IsPricedAt, gain_at, LeadsTo, still, pivoted, priced, pivots_in}
 use Rattle.ps_runs.proofs.Composed.{pivots_in-append}
 use Rattle.ps_runs.proofs.Pricing.{priced_is_new}
 use Rattle.ps_runs.proofs.Starts.{added_table}
@@ -185,14 +186,14 @@ module _ (kind : ClaimKind) (s : Subject) where
     counted = let e = length-append r.pivots (record { enter = q; leave = p } ∷ []) in let c = r.counted in omega (arith, e, c);
   }
 
-  one_priced_more : (conflicts : ℕ) (b : Stage) (made : ℕ) (world : World) → Reached kind s b made → IsPricedAt kind s conflicts b world
+  one_priced_more : (conflicts : ℕ) (b : Stage) (made : ℕ) (world : World) → Reached kind s b made → IsPricedAt (program_of kind s) conflicts b world
       → Reached kind s (record { pool = b.pool ++ world ∷ []; basis = b.basis }) made
   one_priced_more conflicts b made world r at =
       let here = stands_at b made r in
       let is = the_table (phase_of kind) S b.pool b.basis here.table at.table here.is at.priced.rests.belongs in
       let more = length-append b.pool (world ∷ []) in
       let fresh : (k : ℕ) → k < length b.pool → get_or b.pool k [] ≢ world =
-      λ k l e. priced_is_new kind S b.pool b.basis at.table k is.there at.priced.rests.resting l (subst (λ v. pos 1 ≤ℤ gain_at kind s b at.table v) (sym e) at.priced.above) in
+      λ k l e. priced_is_new kind S b.pool b.basis at.table k is.there at.priced.rests.resting l (subst (λ v. pos 1 ≤ℤ gain_at (program_of kind s) b at.table v) (sym e) at.priced.above) in
       record {
         pool_kept = record {
           different = all_pairs_push (λ x y. x ≢ y) b.pool world r.pool_kept.different (λ k d l e. fresh k l (get_or_default b.pool k [] d l ∙ e));
@@ -213,7 +214,7 @@ module _ (kind : ClaimKind) (s : Subject) where
       }
 
   -- lawful events lead on
-  pub leads : (conflicts : ℕ) (a b : Stage) (events : List Event) → Reached kind s a 0 → LeadsTo kind s conflicts a events b → Reached kind s b (pivots_in events)
+  pub leads : (conflicts : ℕ) (a b : Stage) (events : List Event) → Reached kind s a 0 → LeadsTo (program_of kind s) conflicts a events b → Reached kind s b (pivots_in events)
   leads conflicts a b events r (still x) = r
   leads conflicts a b events r (pivoted x m es enter leave basis before lawful based) =
       let here = leads conflicts a m es r before in

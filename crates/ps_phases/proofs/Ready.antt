@@ -18,6 +18,7 @@ use Rattle.ps_runs.proofs.Columns.{rows_length}
 use Rattle.ps_runs.proofs.Starts.{first_costs, side_homes, lower_worlds, upper_worlds, row_homes, row_worlds, row_costly}
 use Rattle.ps_phases.specs.Tables.{costs_for, IsRunTable}
 use Rattle.ps_phases.proofs.Shapes.{rows_are, width_is, artificial_is}
+use Rattle.ps_runs.specs.Subjects.{frame_over}
 
 abbrev is_first : ClaimKind → Type 0
 is_first Nothing = Unit {0}
@@ -57,7 +58,7 @@ narrow_world Upper s w = narrow_down (is_true (both_of s) w)
 images : {A : Type 0} (P : ℤ → Type 0) (f : A → ℤ) (xs : List A) (d : A) → ((x : A) → P (f x)) → (i : ℕ) → i < length (map f xs) → P (get_or (map f xs) i (pos 0))
 images P f xs d h i l = subst P (sym (get_or-map f xs i d (pos 0) (subst (λ k. i < k) (length-map xs f) l))) (h (get_or xs i d))
 
-module _ (s : Setting) (pool : List World) (t : Tableau) (run : IsRunTable s pool t) where
+module _ (s : Setting) (pool : List World) (t : Tableau) (run : IsRunTable (frame_over s) pool t) where
   abbrev rows_same : length t.kinds ≡ rows_of s
   rows_same = rows_are s pool t run.kinds run.worlds
 

@@ -14,9 +14,11 @@ use Rattle.ps_bland.specs.Rules.{simplex_of, IsLawful}
 use Rattle.ps_bland.specs.Runs as bland
 use Rattle.ps_claims.specs.declared.claim_kind.ClaimKind.{ClaimKind}
 use Rattle.ps_runs.specs.Rows.{phase_of, rows_of, width_of, columns_of, cost_of, table_of}
-use Rattle.ps_runs.specs.Runs.{Subject, setting_of, LeadsTo, still, pivoted, IsLawfulPivot, pivots_in}
+use Rattle.ps_runs.specs.Subjects.{Subject, setting_of, program_of}
+use Rattle.ps_runs.specs.Runs.{LeadsTo, still, pivoted, IsLawfulPivot, pivots_in}
 use Rattle.ps_runs.proofs.Composed.{pivots_in-append}
-use Rattle.ps_phases.specs.Tables.{homes_of, costs_for, stage_at}
+use Rattle.ps_runs.specs.Rows.{homes_of}
+use Rattle.ps_phases.specs.Tables.{costs_for, stage_at}
 use Rattle.ps_phases.proofs.Shapes.{rows_are, same_table, stands_there}
 
 -- what the rule says of a table and of a column's number, where they are the same
@@ -25,7 +27,7 @@ RuleAllows phase t cost q p = (IsDueToEnd phase t → ⊥) × Enters t cost q ×
 
 module _ (kind : ClaimKind) (s : Subject) (pool : List World) (t : Tableau) (kinds : t.kinds ≡ homes_of (setting_of s)) (worlds : t.worlds ≡ length pool) where
   lawful_pivot : (enter : Col) (leave : ℕ) → IsTableFor (columns_of (setting_of s) pool) t → IsLawful (phase_of kind) (costs_for kind (setting_of s) pool) t enter leave
-      → IsLawfulPivot kind s (stage_at pool t) enter leave
+      → IsLawfulPivot (program_of kind s) (stage_at pool t) enter leave
   lawful_pivot enter leave stands lawful =
       let rows = rows_are (setting_of s) pool t kinds worlds in
       let there : IsBasisTable (rows_of (setting_of s)) (width_of (setting_of s) pool) (columns_of (setting_of s) pool) (basic_at t) (entry_at t) = stands_there (setting_of s) pool t kinds worlds (columns_of (setting_of s) pool) stands in
@@ -45,7 +47,7 @@ pub record LedBy (kind : ClaimKind) (s : Subject) (conflicts : ℕ) (pool : List
   pub kinds : u.kinds ≡ homes_of (setting_of s)
   pub worlds : u.worlds ≡ length pool
   pub stands : IsTableFor (columns_of (setting_of s) pool) u
-  pub leads : LeadsTo kind s conflicts (stage_at pool t) events (stage_at pool u)
+  pub leads : LeadsTo (program_of kind s) conflicts (stage_at pool t) events (stage_at pool u)
   pub counted : pivots_in events ≡ length events
 
 pub settled_leads : (kind : ClaimKind) (s : Subject) (conflicts : ℕ) (pool : List World) (t : Tableau) (events : List Event) (u : Tableau)

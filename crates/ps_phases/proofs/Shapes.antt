@@ -13,7 +13,9 @@ use Rattle.ps_table.specs.Tableau.{Tableau, IsInside, IsTableFor, number_in, ent
 use Rattle.ps_bland.specs.Rules.{simplex_of, is_artificial, artificial_at}
 use Rattle.ps_runs.specs.Rows.{Setting, artificial_rows, artificial_of, rows_of, width_of, columns_of, table_of, IsTable}
 use Rattle.ps_runs.proofs.Columns.{rows_length}
-use Rattle.ps_phases.specs.Tables.{home_of, homes_of, IsRunTable}
+use Rattle.ps_runs.specs.Rows.{home_of, homes_of}
+use Rattle.ps_phases.specs.Tables.{IsRunTable}
+use Rattle.ps_runs.specs.Subjects.{frame_over}
 
 home_back : (b : Bool) → is_artificial (home_of b) ≡ b
 home_back true = refl
@@ -52,7 +54,7 @@ module _ (s : Setting) (pool : List World) (t : Tableau) (kinds : t.kinds ≡ ho
       subst (λ w. IsBasisTable (length t.kinds) w A (basic_at t) (entry_at t)) (sym width_is) (subst (λ k. IsBasisTable k (width_of s pool) A (basic_at t) (entry_at t)) (sym rows_are) stands)
 
 -- the table is one of the setting
-pub run_table : (s : Setting) (pool : List World) (t : Tableau) → IsRunTable s pool t → IsTable s pool (basic_at t) (entry_at t)
+pub run_table : (s : Setting) (pool : List World) (t : Tableau) → IsRunTable (frame_over s) pool t → IsTable s pool (basic_at t) (entry_at t)
 run_table s pool t run =
     let e = rows_are s pool t run.kinds run.worlds in
     let w = width_is s pool t run.kinds run.worlds in
@@ -64,7 +66,7 @@ run_table s pool t run =
     }
 
 -- no column is basic in two rows
-pub basics_differ : (s : Setting) (pool : List World) (t : Tableau) → IsRunTable s pool t → (i k : ℕ) → i < length t.kinds → k < length t.kinds → basic_at t i ≡ basic_at t k → i ≡ k
+pub basics_differ : (s : Setting) (pool : List World) (t : Tableau) → IsRunTable (frame_over s) pool t → (i k : ℕ) → i < length t.kinds → k < length t.kinds → basic_at t i ≡ basic_at t k → i ≡ k
 basics_differ s pool t run i k h l e =
     elim (cases_eq k i) [
       | inl same ↦ sym same

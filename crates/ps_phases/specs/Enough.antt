@@ -12,7 +12,7 @@ use Rattle.ps_answer.specs.declared.answer.QueryAnswer.{QueryAnswer}
 use Rattle.ps_answer.specs.declared.answer.QueryAnswer.TheVariants as query
 use Rattle.ps_answer.specs.declared.answer.Answer.{Answer}
 use Rattle.ps_runs.specs.Rows.{rows_of}
-use Rattle.ps_runs.specs.Runs.{Subject, sentences_of, setting_of, atoms_of}
+use Rattle.ps_runs.specs.Subjects.{Subject, sentences_of, setting_of, atoms_of}
 use Rattle.ps_phases.specs.Verdicts.{IsLawfulAnswer}
 
 -- the ways to choose one thing more than rows, of one thing more than rows and all worlds

@@ -39,10 +39,14 @@ use Rattle.ps_claims.specs.Duals.{Dual}
 use Rattle.ps_runs.specs.Certificates.{HaveSameNumbers, table_dual, weighted_worlds, table_model}
 use Rattle.ps_runs.specs.Searches.{IsSpentSearch}
 use Rattle.ps_runs.specs.Rows.{Setting, phase_of, world_cost, table_of, entries_of, IsTable}
-use Rattle.ps_runs.specs.Runs.{Subject, setting_of, given_in, both_in, IsAsked, atoms_of}
-use Rattle.ps_runs.specs.Runs.{goal_at_least, Stage, table_at, dual_at, IsStart, IsPool}
-use Rattle.ps_runs.specs.Runs.{IsMovingAt, IsRestingAt, IsFeasibleAt, IsPricedBy, LeadsToPending}
-use Rattle.ps_phases.specs.Tables.{homes_of, costs_for, IsRunTable, stage_at, IsUnderWay}
+use Rattle.ps_runs.specs.Programs.{goal_at_least, Program}
+use Rattle.ps_runs.specs.Subjects.{Subject, setting_of, given_in, both_in, IsAsked, frame_over, frame_of}
+use Rattle.ps_runs.specs.Subjects.{program_of}
+use Rattle.ps_runs.specs.Subjects.{frame_over, frame_of, program_of}
+use Rattle.ps_runs.specs.Runs.{Stage, table_at, dual_at, IsStart, IsPool, IsMovingAt, IsRestingAt, IsFeasibleAt}
+use Rattle.ps_runs.specs.Runs.{IsPricedBy, LeadsToPending}
+use Rattle.ps_runs.specs.Rows.{homes_of}
+use Rattle.ps_phases.specs.Tables.{costs_for, IsRunTable, stage_at, IsUnderWay}
 use Rattle.ps_phases.specs.Licences.{IsModelDue, IsOutOfConflicts, IsTooWide, IsColumnTooWide}
 use Rattle.ps_phases.specs.Verdicts.{IsVerdictAt, IsLawfulPhaseOne, IsLawfulVerdict, IsSideAt, IsLawfulSide, IsLawfulAnswer}
 
@@ -50,123 +54,122 @@ use Rattle.ps_phases.specs.Verdicts.{IsVerdictAt, IsLawfulPhaseOne, IsLawfulVerd
 pub record NewTablesStart : Type 0 where
   pub table : (s : Setting) (t : Tableau) → t.kinds ≡ homes_of s → t.worlds ≡ 0 → HasUnitHomes (homes_of s) t
       → IsTableForHomes (homes_of s) t
-      → IsTableau t → IsRunTable s [] t
+      → IsTableau t → IsRunTable (frame_over s) [] t
   pub stage : (s : Subject) (t : Tableau) → t.kinds ≡ homes_of (setting_of s)
-      → HasBasicHomes (homes_of (setting_of s)) t → IsStart s (stage_at [] t)
+      → HasBasicHomes (homes_of (setting_of s)) t → IsStart (frame_of s) (stage_at [] t)
 
 -- as the rule sees it a run's table is that of its setting, and it is ready for each phase with the phase's costs: for the sides
 -- where each basic artificial has value 0
 pub record RunTablesAreReady : Type 0 where
-  pub same : (s : Setting) (pool : List World) (t : Tableau) → IsRunTable s pool t
+  pub same : (s : Setting) (pool : List World) (t : Tableau) → IsRunTable (frame_over s) pool t
       → simplex_of t ≡ table_of s pool (basic_at t) (entry_at t)
-  pub table : (s : Setting) (pool : List World) (t : Tableau) → IsRunTable s pool t → IsTable s pool (basic_at t) (entry_at t)
-  pub first : (s : Setting) (pool : List World) (t : Tableau) → IsRunTable s pool t
+  pub table : (s : Setting) (pool : List World) (t : Tableau) → IsRunTable (frame_over s) pool t → IsTable s pool (basic_at t) (entry_at t)
+  pub first : (s : Setting) (pool : List World) (t : Tableau) → IsRunTable (frame_over s) pool t
       → IsReady (phase_of Nothing) (costs_for Nothing s pool) t
-  pub lower : (s : Setting) (pool : List World) (t : Tableau) → IsRunTable s pool t → IsFeasible (simplex_of t)
+  pub lower : (s : Setting) (pool : List World) (t : Tableau) → IsRunTable (frame_over s) pool t → IsFeasible (simplex_of t)
       → IsReady (phase_of Lower) (costs_for Lower s pool) t
-  pub upper : (s : Setting) (pool : List World) (t : Tableau) → IsRunTable s pool t → IsFeasible (simplex_of t)
+  pub upper : (s : Setting) (pool : List World) (t : Tableau) → IsRunTable (frame_over s) pool t → IsFeasible (simplex_of t)
       → IsReady (phase_of Upper) (costs_for Upper s pool) t
 
 -- a phase begins at any table of the run, goes on by the pivots of `settle` and by a world that is priced, which isn't in the
 -- pool, and has a pending world where its column is refused
 pub record PhasesGoOn : Type 0 where
-  pub begun : (kind : ClaimKind) (s : Subject) (conflicts : ℕ) (pool : List World) (t : Tableau) (trace : List Event) (left : ℕ)
-      → IsRunTable (setting_of s) pool t → IsPool (atoms_of s) pool
-      → IsUnderWay kind s conflicts (stage_at pool t) left trace pool t trace left
+  pub begun : (p : Program) (conflicts : ℕ) (pool : List World) (t : Tableau) (trace : List Event) (left : ℕ)
+      → IsRunTable p.frame pool t → IsPool p.atoms pool → IsUnderWay p conflicts (stage_at pool t) left trace pool t trace left
   pub settled : (kind : ClaimKind) (s : Subject) (conflicts : ℕ) (from : Stage) (had : ℕ) (before : List Event)
       (pool : List World)
-      (t u : Tableau) (trace longer : List Event) (left now : ℕ) → IsUnderWay kind s conflicts from had before pool t trace left
+      (t u : Tableau) (trace longer : List Event) (left now : ℕ) → IsUnderWay (program_of kind s) conflicts from had before pool t trace left
       → bland.Ran (phase_of kind) (costs_for kind (setting_of s) pool) t u trace longer left now → IsTableau u
       → HasNoNegativeValue u
-      → IsUnderWay kind s conflicts from had before pool u longer now
+      → IsUnderWay (program_of kind s) conflicts from had before pool u longer now
   pub fresh : (kind : ClaimKind) (s : Subject) (conflicts : ℕ) (pool : List World) (t : Tableau) (w : World) (number : ℕ)
-      → IsRunTable (setting_of s) pool t → IsPricedBy kind s conflicts (stage_at pool t) (entry_at t) w
+      → IsRunTable (frame_of s) pool t → IsPricedBy (program_of kind s) conflicts (stage_at pool t) (entry_at t) w
       → HasNumber pool w number → ⊥
   pub priced : (kind : ClaimKind) (s : Subject) (conflicts : ℕ) (from : Stage) (had : ℕ) (before : List Event) (pool : List World)
-      (t u : Tableau) (trace : List Event) (left : ℕ) (w : World) → IsUnderWay kind s conflicts from had before pool t trace left
-      → IsPricedBy kind s conflicts (stage_at pool t) (entry_at t) w
+      (t u : Tableau) (trace : List Event) (left : ℕ) (w : World) → IsUnderWay (program_of kind s) conflicts from had before pool t trace left
+      → IsPricedBy (program_of kind s) conflicts (stage_at pool t) (entry_at t) w
       → IsAdded (entries_of (setting_of s) w) t u → ExtendsSystem (entries_of (setting_of s) w) t u → IsTableau u
-      → IsUnderWay kind s conflicts from had before (pool ++ w ∷ []) u (trace ++ Priced w ∷ []) left
-  pub pends : (kind : ClaimKind) (s : Subject) (conflicts : ℕ) (from : Stage) (had : ℕ) (before : List Event) (pool : List World)
+      → IsUnderWay (program_of kind s) conflicts from had before (pool ++ w ∷ []) u (trace ++ Priced w ∷ []) left
+  pub pends : (p : Program) (conflicts : ℕ) (from : Stage) (had : ℕ) (before : List Event) (pool : List World)
       (t : Tableau) (trace : List Event) (left : ℕ) (w : World)
-      (way : IsUnderWay kind s conflicts from had before pool t trace left)
-      → IsPricedBy kind s conflicts (stage_at pool t) (entry_at t) w
-      → LeadsToPending kind s conflicts from (way.events ++ Priced w ∷ []) (Some w) (stage_at pool t)
+      (way : IsUnderWay p conflicts from had before pool t trace left)
+      → IsPricedBy p conflicts (stage_at pool t) (entry_at t) w
+      → LeadsToPending p conflicts from (way.events ++ Priced w ∷ []) (Some w) (stage_at pool t)
 
 -- once the column of a priced world is there the table is moving, so that fewer pivots are left where it ends otherwise
 pub record PricedWorldsTakePivots : Type 0 where
   pub moving : (kind : ClaimKind) (s : Subject) (conflicts : ℕ) (pool : List World) (t u : Tableau) (w : World)
-      → IsRunTable (setting_of s) pool t
-      → IsPricedBy kind s conflicts (stage_at pool t) (entry_at t) w → IsAdded (entries_of (setting_of s) w) t u
+      → IsRunTable (frame_of s) pool t
+      → IsPricedBy (program_of kind s) conflicts (stage_at pool t) (entry_at t) w → IsAdded (entries_of (setting_of s) w) t u
       → IsMoving (phase_of kind) (simplex_of u) (cost_at (costs_for kind (setting_of s) (pool ++ w ∷ [])))
   pub fewer : (kind : ClaimKind) (s : Subject) (conflicts : ℕ) (pool : List World) (t u : Tableau) (w : World)
-      → IsRunTable (setting_of s) pool t
-      → IsPricedBy kind s conflicts (stage_at pool t) (entry_at t) w → IsAdded (entries_of (setting_of s) w) t u
+      → IsRunTable (frame_of s) pool t
+      → IsPricedBy (program_of kind s) conflicts (stage_at pool t) (entry_at t) w → IsAdded (entries_of (setting_of s) w) t u
       → (v : Tableau) (trace longer : List Event) (left now : ℕ)
       → bland.Ran (phase_of kind) (costs_for kind (setting_of s) (pool ++ w ∷ [])) u v trace longer left now
       → (IsMoving (phase_of kind) (simplex_of v) (cost_at (costs_for kind (setting_of s) (pool ++ w ∷ []))) → ⊥) → now < left
 
 -- where `settle` leaves a run's table, its stage is so
 pub record SettledStages : Type 0 where
-  pub feasible : (s : Subject) (pool : List World) (t : Tableau) → IsRunTable (setting_of s) pool t
+  pub feasible : (s : Subject) (pool : List World) (t : Tableau) → IsRunTable (frame_of s) pool t
       → IsDueToEndIn (phase_of Nothing) t
-      → IsFeasibleAt s (stage_at pool t) (entry_at t)
-  pub resting : (s : Subject) (pool : List World) (t : Tableau) → IsRunTable (setting_of s) pool t → (kind : ClaimKind)
+      → IsFeasibleAt (frame_of s) (stage_at pool t) (entry_at t)
+  pub resting : (s : Subject) (pool : List World) (t : Tableau) → IsRunTable (frame_of s) pool t → (kind : ClaimKind)
       → IsResting (phase_of kind) (simplex_of t) (cost_at (costs_for kind (setting_of s) pool))
-      → IsRestingAt kind s (stage_at pool t) (entry_at t)
-  pub moving : (s : Subject) (pool : List World) (t : Tableau) → IsRunTable (setting_of s) pool t → (kind : ClaimKind)
+      → IsRestingAt (program_of kind s) (stage_at pool t) (entry_at t)
+  pub moving : (s : Subject) (pool : List World) (t : Tableau) → IsRunTable (frame_of s) pool t → (kind : ClaimKind)
       → IsMoving (phase_of kind) (simplex_of t) (cost_at (costs_for kind (setting_of s) pool))
-      → IsMovingAt kind s (stage_at pool t)
+      → IsMovingAt (program_of kind s) (stage_at pool t)
 
 -- a number that is too wide at a place of a run's table is so at a due place: in `settle`; at rest in the multiplier of a row and
 -- in the whole multiples of the multipliers; in the weights of a model that is due; and in the column of a world
 pub record RefusalsAreLicensed : Type 0 where
-  pub settling : (s : Subject) (pool : List World) (t : Tableau) → IsRunTable (setting_of s) pool t
+  pub settling : (s : Subject) (pool : List World) (t : Tableau) → IsRunTable (frame_of s) pool t
       → (kind : ClaimKind) (left : ℕ) (w : WideAt)
-      → IsDueWide (phase_of kind) (costs_for kind (setting_of s) pool) t left w → IsTooWide kind s (stage_at pool t) left w
-  pub multiplier : (s : Subject) (pool : List World) (t : Tableau) → IsRunTable (setting_of s) pool t
+      → IsDueWide (phase_of kind) (costs_for kind (setting_of s) pool) t left w → IsTooWide (program_of kind s) (stage_at pool t) left w
+  pub multiplier : (s : Subject) (pool : List World) (t : Tableau) → IsRunTable (frame_of s) pool t
       → (kind : ClaimKind) (left i : ℕ) (w : WideAt)
-      → IsRestingAt kind s (stage_at pool t) (entry_at t) → i < table_rows t
+      → IsRestingAt (program_of kind s) (stage_at pool t) (entry_at t) → i < table_rows t
       → IsWideAt (HomePlaces t (costs_for kind (setting_of s) pool) i) w
-      → IsTooWide kind s (stage_at pool t) left w
-  pub dual : (s : Subject) (pool : List World) (t : Tableau) → IsRunTable (setting_of s) pool t
+      → IsTooWide (program_of kind s) (stage_at pool t) left w
+  pub dual : (s : Subject) (pool : List World) (t : Tableau) → IsRunTable (frame_of s) pool t
       → (kind : ClaimKind) (left : ℕ) (w : WideAt)
-      → IsRestingAt kind s (stage_at pool t) (entry_at t)
+      → IsRestingAt (program_of kind s) (stage_at pool t) (entry_at t)
       → IsWideAt (MultiplierPlace (table_rows t) (cost_at (costs_for kind (setting_of s) pool)) (basic_at t) (entry_at t)) w
-      → IsTooWide kind s (stage_at pool t) left w
-  pub model : (s : Subject) (pool : List World) (t : Tableau) → IsRunTable (setting_of s) pool t
+      → IsTooWide (program_of kind s) (stage_at pool t) left w
+  pub model : (s : Subject) (pool : List World) (t : Tableau) → IsRunTable (frame_of s) pool t
       → (kind : ClaimKind) (left : ℕ) (w : WideAt)
-      → IsModelDue kind s (stage_at pool t) (entry_at t) → IsWideAt (WeightPlace (table_rows t) (basic_at t) (entry_at t)) w
-      → IsTooWide kind s (stage_at pool t) left w
-  pub column : (s : Subject) (pool : List World) (t : Tableau) → IsRunTable (setting_of s) pool t → (world : World) (w : WideAt)
-      → IsWideAt (NewPlaces t (entries_of (setting_of s) world)) w → IsColumnTooWide s (stage_at pool t) world w
+      → IsModelDue (program_of kind s) (stage_at pool t) (entry_at t) → IsWideAt (WeightPlace (table_rows t) (basic_at t) (entry_at t)) w
+      → IsTooWide (program_of kind s) (stage_at pool t) left w
+  pub column : (s : Subject) (pool : List World) (t : Tableau) → IsRunTable (frame_of s) pool t → (world : World) (w : WideAt)
+      → IsWideAt (NewPlaces t (entries_of (setting_of s) world)) w → IsColumnTooWide (frame_of s) (stage_at pool t) world w
 
 -- where phase one is under way from the start, an answer that is due there is lawful, and so is one that a pending
 -- world leaves open
 pub record PhaseOneEndsLawfully : Type 0 where
-  pub ended : (s : Subject) (pivots conflicts : ℕ) (from : Stage) (pool : List World) (t : Tableau)
+  pub ended : (p : Program) (pivots conflicts : ℕ) (from : Stage) (pool : List World) (t : Tableau)
       (trace : List Event) (left : ℕ)
-      → IsStart s from → IsUnderWay Nothing s conflicts from pivots [] pool t trace left
-      → (answer : Verdict) → IsVerdictAt s pivots conflicts (stage_at pool t) left None answer
-      → IsLawfulPhaseOne s pivots conflicts answer trace
-  pub pending : (s : Subject) (pivots conflicts : ℕ) (from : Stage) (pool : List World) (t : Tableau)
+      → IsStart p.frame from → IsUnderWay p conflicts from pivots [] pool t trace left
+      → (answer : Verdict) → IsVerdictAt p pivots conflicts (stage_at pool t) left None answer
+      → IsLawfulPhaseOne p pivots conflicts answer trace
+  pub pending : (p : Program) (pivots conflicts : ℕ) (from : Stage) (pool : List World) (t : Tableau)
       (trace : List Event) (left : ℕ)
-      → IsStart s from → IsUnderWay Nothing s conflicts from pivots [] pool t trace left
-      → (w : World) (at : WideAt) → IsPricedBy Nothing s conflicts (stage_at pool t) (entry_at t) w
-      → IsColumnTooWide s (stage_at pool t) w at
-      → IsLawfulPhaseOne s pivots conflicts (Open (Wide at)) (trace ++ Priced w ∷ [])
+      → IsStart p.frame from → IsUnderWay p conflicts from pivots [] pool t trace left
+      → (w : World) (at : WideAt) → IsPricedBy p conflicts (stage_at pool t) (entry_at t) w
+      → IsColumnTooWide p.frame (stage_at pool t) w at
+      → IsLawfulPhaseOne p pivots conflicts (Open (Wide at)) (trace ++ Priced w ∷ [])
 
 -- where a side is under way, an answer that is due there is lawful, and so is one that a pending world leaves open
 pub record SidesEndLawfully : Type 0 where
-  pub ended : (kind : ClaimKind) (s : Subject) (pivots conflicts : ℕ) (from : Stage) (had : ℕ) (pool : List World) (t : Tableau)
-      (trace : List Event) (left : ℕ) → IsUnderWay kind s conflicts from had [] pool t trace left
-      → (answer : SideAnswer) → IsSideAt kind s pivots conflicts (stage_at pool t) left None answer
-      → IsLawfulSide kind s pivots conflicts from had (stage_at pool t) left answer trace
-  pub pending : (kind : ClaimKind) (s : Subject) (pivots conflicts : ℕ) (from : Stage) (had : ℕ) (pool : List World) (t : Tableau)
-      (trace : List Event) (left : ℕ) → IsUnderWay kind s conflicts from had [] pool t trace left
-      → (w : World) (at : WideAt) → IsPricedBy kind s conflicts (stage_at pool t) (entry_at t) w
-      → IsColumnTooWide s (stage_at pool t) w at
-      → IsLawfulSide kind s pivots conflicts from had (stage_at pool t) left (side.Open (Wide at)) (trace ++ Priced w ∷ [])
+  pub ended : (p : Program) (pivots conflicts : ℕ) (from : Stage) (had : ℕ) (pool : List World) (t : Tableau)
+      (trace : List Event) (left : ℕ) → IsUnderWay p conflicts from had [] pool t trace left
+      → (answer : SideAnswer) → IsSideAt p pivots conflicts (stage_at pool t) left None answer
+      → IsLawfulSide p pivots conflicts from had (stage_at pool t) left answer trace
+  pub pending : (p : Program) (pivots conflicts : ℕ) (from : Stage) (had : ℕ) (pool : List World) (t : Tableau)
+      (trace : List Event) (left : ℕ) → IsUnderWay p conflicts from had [] pool t trace left
+      → (w : World) (at : WideAt) → IsPricedBy p conflicts (stage_at pool t) (entry_at t) w
+      → IsColumnTooWide p.frame (stage_at pool t) w at
+      → IsLawfulSide p pivots conflicts from had (stage_at pool t) left (side.Open (Wide at)) (trace ++ Priced w ∷ [])
 
 -- the costs over a pool with one world more are those over the pool, and behind them the world's
 abbrev pub CostsGrow : Type 0
@@ -199,22 +202,22 @@ LawfulAnswersAreCounted = (p : Parts) (pivots conflicts : ℕ) (a : Answer) → 
 -- in a run's table no column is basic in two rows; the dual and the model that are made of it are those of its stage; and a spent
 -- search for the goal of the dual at rest leaves the phase out of conflicts
 pub record TablesGiveTheirStage : Type 0 where
-  pub apart : (s : Setting) (pool : List World) (t : Tableau) → IsRunTable s pool t → (i k : ℕ) → i < table_rows t
+  pub apart : (s : Setting) (pool : List World) (t : Tableau) → IsRunTable (frame_over s) pool t → (i k : ℕ) → i < table_rows t
       → k < table_rows t
       → basic_at t i ≡ basic_at t k → i ≡ k
-  pub dual : (s : Subject) (pool : List World) (t : Tableau) → IsRunTable (setting_of s) pool t
+  pub dual : (s : Subject) (pool : List World) (t : Tableau) → IsRunTable (frame_of s) pool t
       → (kind : ClaimKind) (costs : Costs) (d : Dual)
       → costs ≡ costs_for kind (setting_of s) pool
       → HaveSameNumbers d (table_dual kind (setting_of s) (simplex_of t) (cost_at costs))
-      → HaveSameNumbers d (dual_at kind s (stage_at pool t) (entry_at t))
-  pub model : (s : Subject) (pool : List World) (t : Tableau) → IsRunTable (setting_of s) pool t → (m : Model)
+      → HaveSameNumbers d (dual_at (program_of kind s) (stage_at pool t) (entry_at t))
+  pub model : (s : Subject) (pool : List World) (t : Tableau) → IsRunTable (frame_of s) pool t → (m : Model)
       → m.total ≡ int_sum_to (table_rows t) (weight_at (table_rows t) (basic_at t) (entry_at t))
       → m.worlds ≡ weighted_worlds (simplex_of t) pool
-      → m ≡ table_model (table_at s (stage_at pool t) (entry_at t)) pool
+      → m ≡ table_model (table_at (frame_of s) (stage_at pool t) (entry_at t)) pool
   pub conflicts : (kind : ClaimKind) (s : Subject) (conflicts : ℕ) (g : Stage) (X : ℕ → ℕ → Rational) (d : Dual)
-      → HaveSameNumbers d (dual_at kind s g X) → IsRestingAt kind s g X → (steps : List Step)
-      → IsSpentSearch (form_of s.parts.nodes) (goal_at_least (pos 1) kind s d) conflicts steps
-      → IsOutOfConflicts kind s conflicts g conflicts (goal_at_least (pos 1) kind s d) steps
+      → HaveSameNumbers d (dual_at (program_of kind s) g X) → IsRestingAt (program_of kind s) g X → (steps : List Step)
+      → IsSpentSearch (form_of s.parts.nodes) (goal_at_least (pos 1) (program_of kind s) d) conflicts steps
+      → IsOutOfConflicts (program_of kind s) conflicts g conflicts (goal_at_least (pos 1) (program_of kind s) d) steps
 
 -- where there is no query, a verdict that is lawful, or valid, is the whole of an answer that is so
 pub record VerdictsAreAnswers : Type 0 where

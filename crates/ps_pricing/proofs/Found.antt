@@ -31,7 +31,8 @@ use Rattle.ps_claims.proofs.Refutations.{extension-meets}
 use Rattle.ps_certificate.specs.Certificates.{dual_of}
 use Rattle.ps_certificate.specs.Printed.{AreOfLiterals}
 use Rattle.ps_runs.specs.Searches.{IsSpentSearch}
-use Rattle.ps_runs.specs.Runs.{goal_at_least}
+use Rattle.ps_runs.specs.Programs.{goal_at_least, RefutesGain}
+use Rattle.ps_runs.specs.Subjects.{program_of}
 use Rattle.ps_pricing.specs.Sought.{HasSteps, HasFewSteps}
 use Rattle.ps_pricing.specs.Pricings.{IsAssigned, PricingSubject, gain, AreAtMost, IsCutAbove, IsFound, IsSpent, IsRefutedBy, IsWcnf}
 
@@ -122,17 +123,17 @@ module _ (kind : ClaimKind) (q : PricingSubject) (d : Dual) (p : Wcnf) (is : IsW
         (none (extension q.subject.parts.nodes u) (subst (λ (f : Form). MeetsForm (extension q.subject.parts.nodes u) f) (sym is.hard) (extension-meets q.subject.parts.nodes u are)));
   }
 
-  goal_same : (least : ℤ) → goal_of p least ≡ goal_at_least least kind q.subject (dual_of d)
+  goal_same : (least : ℤ) → goal_of p least ≡ goal_at_least least (program_of kind q.subject) (dual_of d)
   goal_same least = λ k. constraint_of (is.soft k) (least -ℤ is.base k)
 
   spent_is : (least : ℤ) (steps : List Step) → IsSpentSearch p.hard (goal_of p least) q.conflicts steps
-      → IsSpentSearch (form_of q.subject.parts.nodes) (goal_at_least least kind q.subject (dual_of d)) q.conflicts steps
+      → IsSpentSearch (form_of q.subject.parts.nodes) (goal_at_least least (program_of kind q.subject) (dual_of d)) q.conflicts steps
   spent_is least steps h =
       subst (λ (c : Constraint). IsSpentSearch (form_of q.subject.parts.nodes) c q.conflicts steps) (goal_same least)
       (subst (λ (f : Form). IsSpentSearch f (goal_of p least) q.conflicts steps) is.hard h)
 
   refutes_is : (steps : List Step) → Refutes p.hard.variables (first_known p.hard (goal_of p (pos 1))) steps
-      → Refutes (length q.subject.parts.nodes) (first_known (form_of q.subject.parts.nodes) (goal_at_least (pos 1) kind q.subject (dual_of d))) steps
+      → RefutesGain (program_of kind q.subject) (dual_of d) steps
   refutes_is steps h =
       subst (λ (c : Constraint). Refutes (length q.subject.parts.nodes) (first_known (form_of q.subject.parts.nodes) c) steps) (goal_same (pos 1))
       (subst (λ (f : Form). Refutes f.variables (first_known f (goal_of p (pos 1))) steps) is.hard h)

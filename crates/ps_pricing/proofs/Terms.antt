@@ -1,7 +1,6 @@
 -- The literals of a combination are of the nodes' variables.
 use Rattle.std.proofs.Common.{◌≡◌, ℕ, length, All, sym, ap, subst}
 use Rattle.ps_steps.proofs.Full.{Below}
-use Rattle.ps_claims.specs.Duals.{Dual}
 use Rattle.ps_claims.specs.declared.claim_kind.ClaimKind.{ClaimKind}
 use Rattle.ps_claims.specs.Goals.{combination_of}
 use Rattle.ps_certificate.proofs.Variables.{combination_below}
@@ -9,7 +8,7 @@ use Rattle.ps_answer.specs.declared.answer.Dual as answered
 use Rattle.ps_problem.specs.Problems.{AreParts, bounds_in}
 use Rattle.ps_maxsat.specs.declared.problem.Wcnf.{Wcnf}
 use Rattle.ps_maxsat.specs.Limits.{IsSoftWithin}
-use Rattle.ps_runs.specs.Runs.{Subject, IsAsked, given_in, both_in}
+use Rattle.ps_runs.specs.Subjects.{Subject, IsAsked, given_in, both_in}
 use Rattle.ps_runs.proofs.Asked.{given_there, both_there}
 use Rattle.ps_pricing.specs.Pricings.{IsWcnf}
 

@@ -3,8 +3,8 @@ use Rattle.std.specs.Prelude.{◌≡◌, ◌⊎◌, ℕ, ℤ, pos, ◌<ℤ◌, �
 use Rattle.ps_meaning.specs.Formula.{World}
 use Rattle.ps_steps.specs.Assignments.{Assignment, full}
 use Rattle.ps_steps.specs.Constraints.{Constraint}
-use Rattle.ps_steps.specs.Steps.{Step, Refutes}
-use Rattle.ps_forms.specs.Forms.{form_of, first_known}
+use Rattle.ps_steps.specs.Steps.{Step}
+use Rattle.ps_forms.specs.Forms.{form_of}
 use Rattle.ps_forms.specs.Extensions.{extension, IsWorldOf}
 use Rattle.ps_problem.specs.declared.query.Query.{Query}
 use Rattle.ps_problem.specs.Problems.{Parts, bounds_in}
@@ -18,7 +18,8 @@ use Rattle.ps_maxsat.specs.declared.problem.Wcnf.{Wcnf}
 use Rattle.ps_runs.specs.Kept.{kept_parts}
 use Rattle.ps_runs.specs.Searches.{IsSpentSearch}
 use Rattle.ps_runs.specs.Certificates.{HaveSameNumbers}
-use Rattle.ps_runs.specs.Runs.{Subject, atoms_of, combination_over, goal_at_least}
+use Rattle.ps_runs.specs.Programs.{goal_at_least, RefutesGain}
+use Rattle.ps_runs.specs.Subjects.{Subject, atoms_of, combination_over, program_of}
 use Rattle.ps_pricing.specs.declared.pricing.Pricing.{Pricing}
 use Rattle.ps_pricing.specs.declared.pricing.Pricing.TheVariants.{Found, Refuted, Spent}
 
@@ -62,7 +63,7 @@ pub record IsCutAbove (kind : ClaimKind) (a : PricingSubject) (d : Dual) (found 
   pub least : ℤ
   pub above : found <ℤ least
   pub steps : List Step
-  pub spent : IsSpentSearch (form_of a.subject.parts.nodes) (goal_at_least least kind a.subject (dual_of d)) a.conflicts steps
+  pub spent : IsSpentSearch (form_of a.subject.parts.nodes) (goal_at_least least (program_of kind a.subject) (dual_of d)) a.conflicts steps
 
 -- in the world the combination is at least 1, and it is greater in none, unless a search for a greater one was spent
 pub record IsFound (kind : ClaimKind) (a : PricingSubject) (d : Dual) (w : World) : Type 0 where
@@ -73,13 +74,12 @@ pub record IsFound (kind : ClaimKind) (a : PricingSubject) (d : Dual) (w : World
 -- another dual has the same numbers, and its steps refute that the combination is at least 1
 pub record IsRefutedBy (kind : ClaimKind) (s : Subject) (d e : Dual) : Type 0 where
   pub numbers : HaveSameNumbers (dual_of e) (dual_of d)
-  pub steps : Refutes (length s.parts.nodes)
-      (first_known (form_of s.parts.nodes) (goal_at_least (pos 1) kind s (dual_of d))) e.steps
+  pub steps : RefutesGain (program_of kind s) (dual_of d) e.steps
 
 -- the search for a combination of at least 1 was spent
 pub record IsSpent (kind : ClaimKind) (a : PricingSubject) (d : Dual) (goal : Constraint) (steps : List Step) : Type 0 where
-  pub goal_is : goal ≡ goal_at_least (pos 1) kind a.subject (dual_of d)
-  pub search : IsSpentSearch (form_of a.subject.parts.nodes) (goal_at_least (pos 1) kind a.subject (dual_of d)) a.conflicts steps
+  pub goal_is : goal ≡ goal_at_least (pos 1) (program_of kind a.subject) (dual_of d)
+  pub search : IsSpentSearch (form_of a.subject.parts.nodes) (goal_at_least (pos 1) (program_of kind a.subject) (dual_of d)) a.conflicts steps
 
 -- what the pricing of a dual ends with: a world that is found, its refutation, or a search that was spent
 abbrev pub IsPricing : ClaimKind → PricingSubject → Dual → Pricing → Type 0

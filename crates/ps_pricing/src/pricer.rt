@@ -4,7 +4,7 @@ ghost use Rattle.ps_problem.specs.Problems.{AreParts, bounds_in};
 ghost use Rattle.ps_log.specs.declared.limits.TheConstants.{MOST_CONFLICTS};
 ghost use Rattle.ps_maxsat.specs.Limits.{IsNarrow, IsSoftWithin};
 ghost use Rattle.ps_runs.specs.Kept.{IsChoice};
-ghost use Rattle.ps_runs.specs.Runs.{IsAsked, atoms_of, given_in, both_in};
+ghost use Rattle.ps_runs.specs.Subjects.{IsAsked, atoms_of, given_in, both_in};
 ghost use Rattle.ps_pricing.specs.Pricings.{IsAssigned, IsDualFor, IsPricing};
 ghost use Rattle.ps_pricing.specs.Pricings.{IsPrintedPricing, IsWcnf, priced_over};
 

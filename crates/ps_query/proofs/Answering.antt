@@ -11,8 +11,9 @@ use Rattle.ps_answer.specs.declared.answer.Verdict.{Verdict}
 use Rattle.ps_claims.specs.Validity.{IsValidVerdict, IsValidPart, IsValid}
 use Rattle.ps_claims.proofs.Valid.{valid-right}
 use Rattle.ps_valid.specs.Answers.{answer_of, parts_of, verdict_of as claimed_verdict}
+use Rattle.ps_claims.specs.declared.claim_kind.ClaimKind.TheVariants.{Nothing}
 use Rattle.ps_runs.specs.Kept.{AreAllKept}
-use Rattle.ps_runs.specs.Runs.{sentences_of}
+use Rattle.ps_runs.specs.Subjects.{sentences_of}
 use Rattle.ps_answer.proofs.WrittenItems.{written_report}
 use Rattle.ps_phases.proofs.Counted.{answer_counted}
 use Rattle.ps_phases.specs.Verdicts.{IsLawfulPart, IsLawfulPhaseOne, IsLawfulVerdict, asked_after}
@@ -28,6 +29,7 @@ use Rattle.ps_master.specs.Runs.{RunState, IsPhaseOneAnswer, IsValidFirst, IsPri
 use Rattle.ps_query.specs.Parts.{IsNewOverAll, IsPartOf, IsVerdictOf}
 use Rattle.ps_query.specs.Solutions.{AreShortLines, IsReadBack, IsSolution}
 use Rattle.ps_query.proofs.Queries.{traced_alone, lawful_whole, valid_whole}
+use Rattle.ps_runs.specs.Subjects.{program_of}
 
 -- ---- the verdict
 valid_first : (p : Parts) (answer : First) → IsValidFirst (sentences_of p) answer → IsValidVerdict p (claimed_verdict (verdict_of answer))
@@ -43,7 +45,7 @@ is_verdict limits p new done answer is_new of printed =
     record {
       lawful =
           subst (λ es. IsLawfulVerdict p limits.pivots limits.conflicts (verdict_of answer) es) (sym events)
-          (subst (λ (o : LimitedSubject). IsLawfulPhaseOne o.subject o.limits.pivots o.limits.conflicts (verdict_of answer) of.events) is_new.over (lawful_whole new done answer all of));
+          (subst (λ (o : LimitedSubject). IsLawfulPhaseOne (program_of Nothing o.subject) o.limits.pivots o.limits.conflicts (verdict_of answer) of.events) is_new.over (lawful_whole new done answer all of));
       valid = valid_first p answer (subst (λ (o : LimitedSubject). IsValidFirst o.subject answer) is_new.over (valid_whole new done answer all of));
       printed = printed;
     }

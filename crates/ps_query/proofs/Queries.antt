@@ -11,11 +11,11 @@ use Rattle.ps_answer.specs.declared.answer.QueryAnswer.TheVariants as query
 use Rattle.ps_answer.specs.declared.answer.SideAnswer.{SideAnswer}
 use Rattle.ps_answer.specs.declared.answer.SideAnswer.TheVariants as side
 use Rattle.ps_claims.specs.declared.claim_kind.ClaimKind.{ClaimKind}
-use Rattle.ps_claims.specs.declared.claim_kind.ClaimKind.TheVariants.{Lower, Upper}
+use Rattle.ps_claims.specs.declared.claim_kind.ClaimKind.TheVariants.{Lower, Upper, Nothing}
 use Rattle.ps_claims.specs.Validity as claims
 use Rattle.ps_valid.specs.Answers.{side_of}
 use Rattle.ps_runs.specs.Kept.{AreAllKept}
-use Rattle.ps_runs.specs.Runs.{subject_of, given_in}
+use Rattle.ps_runs.specs.Subjects.{subject_of, given_in, program_of}
 use Rattle.ps_runs.proofs.Kept.{rows-all}
 use Rattle.ps_certificate.specs.Certificates.{dual_of}
 use Rattle.ps_phases.specs.Verdicts.{IsLawfulPhaseOne, IsLawfulSide, IsLawfulAnswerTo, AreLawfulBounds}
@@ -27,6 +27,7 @@ use Rattle.ps_master.specs.declared.first.First.TheVariants as first
 use Rattle.ps_master.specs.Runs.{RunState, stage_of, IsPhaseOneAnswer, IsSideAnswerOf, IsValidFirst, IsValidSide, IsWholeFirst, IsWholeSide, kept_first, kept_side, verdict_of}
 use Rattle.ps_query.specs.Parts.{IsNewOverAll, AreSidesOf, IsBehind, MayGoOn, IsPartOf}
 use Rattle.ps_query.proofs.Taken.{taken_from, reached_taken, trace_taken}
+use Rattle.ps_runs.specs.Subjects.{program_of}
 
 -- what stands in a trace that was empty are the events
 pub traced_alone : (trace events longer : List Event) → trace ≡ [] → longer ≡ trace ++ events → longer ≡ events
@@ -43,9 +44,9 @@ first_whole over (first.Nothing d) all whole = ap (λ (ys : List ℤ). first.Not
 first_whole over (first.Open cause) all whole = refl
 
 module _ (new done : RunState) (answer : First) (all : AreAllKept new.over.flags) (of : IsPhaseOneAnswer new done answer) where
-  pub lawful_whole : IsLawfulPhaseOne new.over.subject new.over.limits.pivots new.over.limits.conflicts (verdict_of answer) of.events
+  pub lawful_whole : IsLawfulPhaseOne (program_of Nothing new.over.subject) new.over.limits.pivots new.over.limits.conflicts (verdict_of answer) of.events
   lawful_whole =
-      subst (λ (a : First). IsLawfulPhaseOne new.over.subject new.over.limits.pivots new.over.limits.conflicts (verdict_of a) of.events) (first_whole new.over answer all of.whole) of.lawful
+      subst (λ (a : First). IsLawfulPhaseOne (program_of Nothing new.over.subject) new.over.limits.pivots new.over.limits.conflicts (verdict_of a) of.events) (first_whole new.over answer all of.whole) of.lawful
 
   pub valid_whole : IsValidFirst new.over.subject answer
   valid_whole = subst (λ (a : First). IsValidFirst new.over.subject a) (first_whole new.over answer all of.whole) of.valid
@@ -63,7 +64,7 @@ module _ (r low mid up : RunState) (lower upper : SideAnswer) (none : r.trace �
 
   -- an upper side from a run in which so much is left, over this
   abbrev Greatest : RunState → LimitedSubject → List Event → Type 0
-  Greatest from over events = IsLawfulSide Upper over.subject over.limits.pivots over.limits.conflicts (stage_of from) from.left (stage_of up) up.left (kept_side over.flags upper) events
+  Greatest from over events = IsLawfulSide (program_of Upper over.subject) over.limits.pivots over.limits.conflicts (stage_of from) from.left (stage_of up) up.left (kept_side over.flags upper) events
 
   greatest : Greatest low r.over up.trace
   greatest =
@@ -75,7 +76,7 @@ module _ (r low mid up : RunState) (lower upper : SideAnswer) (none : r.trace �
     after_lower = stage_of low;
     left_lower = low.left;
     least =
-        subst (λ es. IsLawfulSide Lower r.over.subject r.over.limits.pivots r.over.limits.conflicts (stage_of r) r.left (stage_of low) low.left (kept_side r.over.flags lower) es) (sym lower_events) below.lawful;
+        subst (λ es. IsLawfulSide (program_of Lower r.over.subject) r.over.limits.pivots r.over.limits.conflicts (stage_of r) r.left (stage_of low) low.left (kept_side r.over.flags lower) es) (sym lower_events) below.lawful;
     end = stage_of up;
     left = up.left;
     greatest = greatest;
@@ -162,12 +163,12 @@ module _ (limits : Limits) (p : Parts) (q : Query) (new done : RunState) (is_new
       feasible = of.goes_on.feasible;
       after_lower = h.after_lower;
       left_lower = h.left_lower;
-      least = subst (λ (o : LimitedSubject). IsLawfulSide Lower o.subject o.limits.pivots o.limits.conflicts (stage_of done) done.left h.after_lower h.left_lower lower lower_events) of.traced.over
-          (subst (λ (a : SideAnswer). IsLawfulSide Lower done.over.subject done.over.limits.pivots done.over.limits.conflicts (stage_of done) done.left h.after_lower h.left_lower a lower_events) (lower_is h) h.least);
+      least = subst (λ (o : LimitedSubject). IsLawfulSide (program_of Lower o.subject) o.limits.pivots o.limits.conflicts (stage_of done) done.left h.after_lower h.left_lower lower lower_events) of.traced.over
+          (subst (λ (a : SideAnswer). IsLawfulSide (program_of Lower done.over.subject) done.over.limits.pivots done.over.limits.conflicts (stage_of done) done.left h.after_lower h.left_lower a lower_events) (lower_is h) h.least);
       end = h.end;
       left = h.left;
-      greatest = subst (λ (o : LimitedSubject). IsLawfulSide Upper o.subject o.limits.pivots o.limits.conflicts h.after_lower h.left_lower h.end h.left upper upper_events) of.traced.over
-          (subst (λ (a : SideAnswer). IsLawfulSide Upper done.over.subject done.over.limits.pivots done.over.limits.conflicts h.after_lower h.left_lower h.end h.left a upper_events) (upper_is h) h.greatest);
+      greatest = subst (λ (o : LimitedSubject). IsLawfulSide (program_of Upper o.subject) o.limits.pivots o.limits.conflicts h.after_lower h.left_lower h.end h.left upper upper_events) of.traced.over
+          (subst (λ (a : SideAnswer). IsLawfulSide (program_of Upper done.over.subject) done.over.limits.pivots done.over.limits.conflicts h.after_lower h.left_lower h.end h.left a upper_events) (upper_is h) h.greatest);
     }
 
     pub part_bounds : AreSidesOf on lower lower_events upper upper_events → IsPrintedPart (query.Bounds lower lower_events upper upper_events)

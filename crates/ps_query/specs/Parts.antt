@@ -13,6 +13,7 @@ use Rattle.ps_claims.specs.declared.claim_kind.ClaimKind.TheVariants.{Lower, Upp
 use Rattle.ps_claims.specs.Validity.{IsValidVerdict, IsValidPart}
 use Rattle.ps_valid.specs.Answers.{part_of, verdict_of as claimed_verdict}
 use Rattle.ps_runs.specs.Kept.{AreAllKept}
+use Rattle.ps_runs.specs.Subjects.{program_of}
 use Rattle.ps_runs.specs.Runs.{Stage}
 use Rattle.ps_phases.specs.Verdicts.{IsLawfulSide, IsLawfulVerdict, IsLawfulPart, asked_after}
 use Rattle.ps_certificate.specs.Printed.{IsPrintedPart, IsPrintedVerdict}
@@ -34,11 +35,11 @@ pub record AreSidesOf (r : RunState) (lower : SideAnswer) (lower_events : List E
     (upper_events : List Event) : Type 0 where
   pub after_lower : Stage
   pub left_lower : ℕ
-  pub least : IsLawfulSide Lower r.over.subject r.over.limits.pivots r.over.limits.conflicts (stage_of r) r.left
+  pub least : IsLawfulSide (program_of Lower r.over.subject) r.over.limits.pivots r.over.limits.conflicts (stage_of r) r.left
       after_lower left_lower (kept_side r.over.flags lower) lower_events
   pub end : Stage
   pub left : ℕ
-  pub greatest : IsLawfulSide Upper r.over.subject r.over.limits.pivots r.over.limits.conflicts after_lower left_lower
+  pub greatest : IsLawfulSide (program_of Upper r.over.subject) r.over.limits.pivots r.over.limits.conflicts after_lower left_lower
       end left (kept_side r.over.flags upper) upper_events
   pub valid_lower : (q : Query) → r.over.subject.query ≡ Some q
       → IsValidSide Lower r.over.subject.parts q (kept_side r.over.flags lower)

@@ -26,7 +26,8 @@ use Rattle.ps_answer.specs.Items.{IsReducedWithin, IsRatioWithin}
 use Rattle.ps_answer.specs.Answers.{ratio_of, cause_items}
 use Rattle.ps_claims.specs.declared.claim_kind.ClaimKind.{ClaimKind}
 use Rattle.ps_runs.specs.Rows.{rows_of, entries_of}
-use Rattle.ps_runs.specs.Runs.{Subject, setting_of, given_in, both_in, IsAsked, Stage, dual_at}
+use Rattle.ps_runs.specs.Subjects.{Subject, setting_of, given_in, both_in, IsAsked, program_of}
+use Rattle.ps_runs.specs.Runs.{Stage, dual_at}
 use Rattle.ps_phases.specs.Licences.{IsOutOfConflicts, IsLicensed}
 use Rattle.ps_certificate.specs.Printed.{IsPrintedOperand, ArePrintedOperands, IsPrintedSearch, IsPrintedCause}
 use Rattle.ps_reported.proofs.All.{each}
@@ -74,13 +75,13 @@ module _ (p : Parts) (q : Option stored.Query) (pivots conflicts : ℕ) (limits 
   abbrev s : Subject
   s = record { parts = p; query = q }
 
-  conflicts_fit : (kind : ClaimKind) → IsAsked kind p q → (g : Stage) (limit : ℕ) (goal : Constraint) (steps : List Step) → IsOutOfConflicts kind s conflicts g limit goal steps
+  conflicts_fit : (kind : ClaimKind) → IsAsked kind p q → (g : Stage) (limit : ℕ) (goal : Constraint) (steps : List Step) → IsOutOfConflicts (program_of kind s) conflicts g limit goal steps
       → IsPrintedSearch goal steps → AllByRecursion Q (cause_items (Conflicts limit goal steps))
   conflicts_fit kind asked g limit goal steps h printed =
       let few = limits.few_conflicts in
       let same = h.limit_is in
       let count = h.spent.count in
-      let d = dual_at kind s g h.table in
+      let d = dual_at (program_of kind s) g h.table in
       let lawful = subst (λ c. AreLawful (length p.nodes) (first_known (form_of p.nodes) c) steps) h.goal_is h.spent.lawful in (
         lines.fit (line.OpenConflicts limit) (tt, omega (arith, few, same)),
         (
@@ -94,7 +95,7 @@ module _ (p : Parts) (q : Option stored.Query) (pivots conflicts : ℕ) (limits 
   wide_fit at worlds if_open few under printed =
       (lines.wide if_open at (place_more (rows_of (setting_of s)) MOST_ROWS worlds (pivots + 2) at.place (few_rows p q limits.parts) few under) printed, tt)
 
-  pub cause_fit : (kind : ClaimKind) → IsAsked kind p q → (g : Stage) (left : ℕ) (pending : Option World) (cause : Cause) → IsLicensed kind s pivots conflicts g left pending cause
+  pub cause_fit : (kind : ClaimKind) → IsAsked kind p q → (g : Stage) (left : ℕ) (pending : Option World) (cause : Cause) → IsLicensed (program_of kind s) pivots conflicts g left pending cause
       → IsPrintedCause cause → length g.pool ≤ pivots + 2 → Open → AllByRecursion Q (cause_items cause)
   cause_fit kind asked g left None (Pivots limit) h printed few if_open =
       let most = limits.few_pivots in

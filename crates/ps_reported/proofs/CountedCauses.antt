@@ -18,12 +18,14 @@ use Rattle.ps_answer.specs.declared.answer.Answer.{Answer}
 use Rattle.ps_answer.specs.Answers.{IsCounted, IsVerdictCounted, IsSideCounted, IsQueryCounted, ArePartsCounted, IsAnswerCounted}
 use Rattle.ps_claims.specs.declared.claim_kind.ClaimKind.{ClaimKind}
 use Rattle.ps_claims.specs.declared.claim_kind.ClaimKind.TheVariants.{Nothing, Lower, Upper}
-use Rattle.ps_runs.specs.Runs.{Subject, sentences_of, subject_of, Stage}
+use Rattle.ps_runs.specs.Subjects.{Subject, sentences_of, subject_of, program_of}
+use Rattle.ps_runs.specs.Subjects.{program_of}
+use Rattle.ps_runs.specs.Runs.{Stage}
 use Rattle.ps_phases.specs.Licences.{IsLicensed}
 use Rattle.ps_phases.specs.Verdicts.{IsSideAt, IsLawfulPhaseOne, IsLawfulAnswerTo, asked_after}
 use Rattle.ps_reported.specs.Settled.{IsClosed, IsCertifiedVerdict, IsCertifiedAnswer, IsLeftBy, IsBesideRun, IsOfRun, IsSettledVerdict, IsSettledPart, IsSettledAnswer}
 
-licensed : (kind : ClaimKind) (s : Subject) (pivots conflicts : ℕ) (g : Stage) (left : ℕ) (world : Option World) (cause : Cause) → IsLicensed kind s pivots conflicts g left world cause → IsCounted cause
+licensed : (kind : ClaimKind) (s : Subject) (pivots conflicts : ℕ) (g : Stage) (left : ℕ) (world : Option World) (cause : Cause) → IsLicensed (program_of kind s) pivots conflicts g left world cause → IsCounted cause
 licensed kind s pivots conflicts g left None (Pivots limit) h = tt
 licensed kind s pivots conflicts g left None (Conflicts limit goal steps) h = h.spent.count
 licensed kind s pivots conflicts g left None (Wide at) h = tt
@@ -37,7 +39,7 @@ certified_verdict (Consistent m) events h = tt
 certified_verdict (Inconsistent d) events h = tt
 certified_verdict (Open cause) events h = absurd h
 
-run_verdict : (s : Subject) (pivots conflicts : ℕ) (v : Verdict) (events : List Event) → IsLawfulPhaseOne s pivots conflicts v events → IsVerdictCounted v
+run_verdict : (s : Subject) (pivots conflicts : ℕ) (v : Verdict) (events : List Event) → IsLawfulPhaseOne (program_of Nothing s) pivots conflicts v events → IsVerdictCounted v
 run_verdict s pivots conflicts (Consistent m) events h = tt
 run_verdict s pivots conflicts (Inconsistent d) events h = tt
 run_verdict s pivots conflicts (Open cause) events h = licensed Nothing s pivots conflicts h.end h.left h.pending cause h.answered
@@ -53,7 +55,7 @@ closed_counted : (a : SideAnswer) → IsClosed a → IsSideCounted a
 closed_counted (side.Bound value m d) h = tt
 closed_counted (side.Open cause) h = absurd h
 
-run_side : (kind : ClaimKind) (s : Subject) (pivots conflicts : ℕ) (g : Stage) (left : ℕ) (world : Option World) (a : SideAnswer) → IsSideAt kind s pivots conflicts g left world a → IsSideCounted a
+run_side : (kind : ClaimKind) (s : Subject) (pivots conflicts : ℕ) (g : Stage) (left : ℕ) (world : Option World) (a : SideAnswer) → IsSideAt (program_of kind s) pivots conflicts g left world a → IsSideCounted a
 run_side kind s pivots conflicts g left world (side.Bound value m d) h = tt
 run_side kind s pivots conflicts g left world (side.Open cause) h = licensed kind s pivots conflicts g left world cause h
 

@@ -13,7 +13,9 @@ use Rattle.ps_table.specs.Tableau.{number_in, IsInside}
 use Rattle.ps_claims.specs.declared.claim_kind.ClaimKind.{ClaimKind}
 use Rattle.ps_claims.specs.declared.claim_kind.ClaimKind.TheVariants.{Nothing}
 use Rattle.ps_runs.specs.Rows.{rows_of}
-use Rattle.ps_runs.specs.Runs.{Subject, setting_of, atoms_of, Stage, costs_at, LeadsTo, still, pivoted, priced, LeadsToPending, entire, pending, pivots_in, IsFeasibleAt, IsPricedAt}
+use Rattle.ps_runs.specs.Subjects.{Subject, setting_of, atoms_of, frame_of, program_of}
+use Rattle.ps_runs.specs.Runs.{Stage, costs_at, LeadsTo, still, pivoted, priced, LeadsToPending, entire, pending}
+use Rattle.ps_runs.specs.Runs.{pivots_in, IsFeasibleAt, IsPricedAt}
 use Rattle.ps_runs.proofs.Composed.{pivots_in-append}
 use Rattle.ps_reported.proofs.All.{both, each}
 use Rattle.ps_reported.proofs.Stages.{HasTable, pivot_table, more_table, leaving_row, none_twice, not_feasible}
@@ -53,8 +55,8 @@ events_more rows few most atoms events h k = each (IsEventUnder rows few atoms) 
 
 -- at a stage no world is priced, nor does phase one end
 pub record IsSettling (kind : ClaimKind) (s : Subject) (conflicts : ℕ) (g : Stage) : Type 0 where
-  pub none : (w : World) → IsPricedAt kind s conflicts g w → ⊥
-  pub unfinished : kind ≡ Nothing → (X : ℕ → ℕ → Rational) → IsFeasibleAt s g X → ⊥
+  pub none : (w : World) → IsPricedAt (program_of kind s) conflicts g w → ⊥
+  pub unfinished : kind ≡ Nothing → (X : ℕ → ℕ → Rational) → IsFeasibleAt (frame_of s) g X → ⊥
 
 -- at most as many worlds as pivots, or one more where a pivot is to follow
 abbrev pub AreBalanced : ClaimKind → Subject → ℕ → Stage → ℕ → ℕ → Type 0
@@ -94,14 +96,14 @@ module _ (kind : ClaimKind) (s : Subject) (conflicts : ℕ) (a b : Stage) (event
       }
 
   -- where a world is priced there are at most as many as pivots
-  pub few_before : (w : World) → IsPricedAt kind s conflicts b w → worlds_in events ≤ pivots_in events
+  pub few_before : (w : World) → IsPricedAt (program_of kind s) conflicts b w → worlds_in events ≤ pivots_in events
   few_before w is = elim come.balanced [
     | inl few ↦ few
     | inr one ↦ absurd (one.1.none w is)
   ]
 
   -- a world more
-  pub with_world : (w : World) → IsPricedAt kind s conflicts b w → HasCome kind s conflicts a (events ++ Priced w ∷ []) (record { pool = b.pool ++ w ∷ []; basis = b.basis })
+  pub with_world : (w : World) → IsPricedAt (program_of kind s) conflicts b w → HasCome kind s conflicts a (events ++ Priced w ∷ []) (record { pool = b.pool ++ w ∷ []; basis = b.basis })
   with_world w is =
       let rows = rows_of (setting_of s) in
       let few = few_before w is in
@@ -115,7 +117,7 @@ module _ (kind : ClaimKind) (s : Subject) (conflicts : ℕ) (a b : Stage) (event
           omega (arith, few, more, same),
           record {
             none = λ v again. none_twice kind s conflicts b w v come.table is again;
-            unfinished = λ e X feasible. not_feasible s conflicts b w X come.table (subst (λ k. IsPricedAt k s conflicts b w) e is) feasible;
+            unfinished = λ e X feasible. not_feasible s conflicts b w X come.table (subst (λ k. IsPricedAt (program_of k s) conflicts b w) e is) feasible;
           },
         );
         under =
@@ -124,14 +126,14 @@ module _ (kind : ClaimKind) (s : Subject) (conflicts : ℕ) (a b : Stage) (event
             (is.priced.sized, tt);
       }
 
-pub has_come : (kind : ClaimKind) (s : Subject) (conflicts : ℕ) (a b : Stage) (events : List Event) → HasTable (setting_of s) a.pool a.basis → LeadsTo kind s conflicts a events b
+pub has_come : (kind : ClaimKind) (s : Subject) (conflicts : ℕ) (a b : Stage) (events : List Event) → HasTable (setting_of s) a.pool a.basis → LeadsTo (program_of kind s) conflicts a events b
     → HasCome kind s conflicts a events b
 has_come kind s conflicts a b events h (still c) = record { table = h; pool = omega arith; balanced = inl (omega arith); under = tt }
 has_come kind s conflicts a b events h (pivoted c d before enter leave basis leads is based) =
     let come = has_come kind s conflicts c d before h leads in
     with_pivot kind s conflicts c d before come enter leave basis
-    (pivot_table kind (setting_of s) d.pool d.basis basis (costs_at kind s d) (number_in (rows_of (setting_of s)) enter) leave come.table is.lawful based)
-    is.there (leaving_row kind (setting_of s) d.pool d.basis (costs_at kind s d) (number_in (rows_of (setting_of s)) enter) leave is.lawful)
+    (pivot_table kind (setting_of s) d.pool d.basis basis (costs_at (program_of kind s) d) (number_in (rows_of (setting_of s)) enter) leave come.table is.lawful based)
+    is.there (leaving_row kind (setting_of s) d.pool d.basis (costs_at (program_of kind s) d) (number_in (rows_of (setting_of s)) enter) leave is.lawful)
 has_come kind s conflicts a b events h (priced c d before world leads is) =
     with_world kind s conflicts c d before (has_come kind s conflicts c d before h leads) world is
 
@@ -143,7 +145,7 @@ pub record HasComePending (kind : ClaimKind) (s : Subject) (a : Stage) (events :
   pub under : AllByRecursion (IsEventUnder (rows_of (setting_of s)) (length a.pool + pivots_in events) (atoms_of s)) events
 
 pub has_come_pending : (kind : ClaimKind) (s : Subject) (conflicts : ℕ) (a b : Stage) (events : List Event) (world : Option World) → HasTable (setting_of s) a.pool a.basis
-    → LeadsToPending kind s conflicts a events world b → HasComePending kind s a events b
+    → LeadsToPending (program_of kind s) conflicts a events world b → HasComePending kind s a events b
 has_come_pending kind s conflicts a b events world h (entire c d es leads) =
     let come = has_come kind s conflicts c d es h leads in
     let few = most_worlds kind s conflicts d (worlds_in es) (pivots_in es) come.balanced in
@@ -163,7 +165,7 @@ has_come_pending kind s conflicts a b events world h (pending c d es w leads is)
     }
 
 -- where phase one ends feasible there are at most as many worlds as pivots
-pub ended_few : (s : Subject) (conflicts : ℕ) (a b : Stage) (events : List Event) (X : ℕ → ℕ → Rational) → HasCome Nothing s conflicts a events b → IsFeasibleAt s b X
+pub ended_few : (s : Subject) (conflicts : ℕ) (a b : Stage) (events : List Event) (X : ℕ → ℕ → Rational) → HasCome Nothing s conflicts a events b → IsFeasibleAt (frame_of s) b X
     → worlds_in events ≤ pivots_in events
 ended_few s conflicts a b events X come feasible = elim come.balanced [
   | inl few ↦ few

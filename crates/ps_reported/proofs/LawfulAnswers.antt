@@ -8,7 +8,7 @@ use Rattle.ps_answer.specs.declared.answer.QueryAnswer.{QueryAnswer}
 use Rattle.ps_answer.specs.declared.answer.QueryAnswer.TheVariants as query
 use Rattle.ps_answer.specs.declared.answer.QueryPart.{QueryPart}
 use Rattle.ps_answer.specs.declared.answer.Answer.{Answer}
-use Rattle.ps_runs.specs.Runs.{Subject, subject_of}
+use Rattle.ps_runs.specs.Subjects.{Subject, subject_of}
 use Rattle.ps_phases.specs.Verdicts.{IsLawfulAnswerTo, IsLawfulPart, IsLawfulAnswer, asked_after}
 use Rattle.ps_reported.specs.Settled.{IsOfRun, IsSettledPart, IsSettledAnswer}
 

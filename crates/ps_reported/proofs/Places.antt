@@ -17,7 +17,8 @@ use Rattle.ps_table.specs.Places.{PivotPlace, at_scale, at_times, at_minus, NewP
 use Rattle.ps_bland.specs.DuePlaces.{DuePlace, of_cost, of_ratio, of_pivot}
 use Rattle.ps_claims.specs.declared.claim_kind.ClaimKind.{ClaimKind}
 use Rattle.ps_runs.specs.Rows.{rows_of}
-use Rattle.ps_runs.specs.Runs.{Subject, setting_of, Stage}
+use Rattle.ps_runs.specs.Subjects.{Subject, setting_of, program_of}
+use Rattle.ps_runs.specs.Runs.{Stage}
 use Rattle.ps_phases.specs.Licences.{DueAt, for_pivots, for_multiplier, for_dual, for_model}
 use Rattle.ps_answer.specs.Items.{IsColWithin, IsShownWithin, IsPlaceWithin}
 use Rattle.ps_reported.proofs.Counting.{col_more}
@@ -70,7 +71,7 @@ settle_under phase t worlds left cost at op l r (of_pivot c p at' op' l' r' unfi
     pivot_under t.rows worlds t.entry p _ at' op' l' r' h
 
 -- a place that is due names the stage's rows and worlds
-pub due_under : (kind : ClaimKind) (s : Subject) (g : Stage) (left : ℕ) (X : ℕ → ℕ → Rational) (at : Place) (op : Op) (l r : Rational) → DueAt kind s g left X at op l r
+pub due_under : (kind : ClaimKind) (s : Subject) (g : Stage) (left : ℕ) (X : ℕ → ℕ → Rational) (at : Place) (op : Op) (l r : Rational) → DueAt (program_of kind s) g left X at op l r
     → IsPlaceUnder (rows_of (setting_of s)) (length g.pool) at
 due_under kind s g left X at op l r (for_pivots at' op' l' r' h) = settle_under _ _ (length g.pool) left _ at' op' l' r' h
 due_under kind s g left X at op l r (for_multiplier i at' op' l' r' rests k h) = cost_under (rows_of (setting_of s)) (length g.pool) _ g.basis X (col.Home i) at' op' l' r' k h

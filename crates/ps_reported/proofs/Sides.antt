@@ -26,7 +26,9 @@ use Rattle.ps_claims.specs.declared.claim_kind.ClaimKind.TheVariants.{Nothing, L
 use Rattle.ps_claims.specs.Claims.{open_in_verdict, open_in_side, open_in_part}
 use Rattle.ps_claims.specs.Validity.{query_of, IsRefuted, IsValidVerdict, IsValidSide, IsValidPart}
 use Rattle.ps_certificate.specs.Certificates.{entries, model_of, dual_of}
-use Rattle.ps_runs.specs.Runs.{Subject, IsAsked, given_in, both_in, Stage, pivots_in}
+use Rattle.ps_runs.specs.Subjects.{Subject, IsAsked, given_in, both_in, program_of}
+use Rattle.ps_runs.specs.Subjects.{program_of}
+use Rattle.ps_runs.specs.Runs.{Stage, pivots_in}
 use Rattle.ps_phases.specs.Verdicts.{IsSideAt, AreLawfulBounds, IsLawfulPhaseOne, IsLawfulAnswerTo}
 use Rattle.ps_certificate.specs.Printed.{IsPrintedModel, IsPrintedDual, IsPrintedCause, IsPrintedVerdict, IsPrintedSide, IsPrintedPart}
 use Rattle.ps_valid.specs.Answers.{verdict_of, side_of, part_of}
@@ -70,7 +72,7 @@ module _ (p : Parts) (pivots conflicts : ℕ) (limits : AreLimits p pivots confl
   certified_verdict (Inconsistent d) events h valid printed = ((lines.fit line.Inconsistent (tt, tt), nothing_fit None d refl valid.refuted valid.head.top printed), no_events events h)
   certified_verdict (Open cause) events h valid printed = absurd h
 
-  run_verdict : (v : Verdict) (events : List Event) (h : IsLawfulPhaseOne (record { parts = p; query = None }) pivots conflicts v events) → IsValidVerdict p (verdict_of v) → IsPrintedVerdict v
+  run_verdict : (v : Verdict) (events : List Event) (h : IsLawfulPhaseOne (program_of Nothing (record { parts = p; query = None })) pivots conflicts v events) → IsValidVerdict p (verdict_of v) → IsPrintedVerdict v
       → (0 < open_in_verdict (verdict_of v) → AnyOpen) → AllByRecursion Q (verdict_items v)
   run_verdict (Consistent m) events h valid printed if_open = (lines.fit line.Consistent (tt, tt), model_fit m valid.model.distribution valid.basic printed)
   run_verdict (Inconsistent d) events h valid printed if_open = (lines.fit line.Inconsistent (tt, tt), nothing_fit None d refl valid.refuted valid.head.top printed)
@@ -109,7 +111,7 @@ module _ (p : Parts) (pivots conflicts : ℕ) (limits : AreLimits p pivots confl
     closed_fit upper kind (side.Open cause) trace closed valid printed events = absurd closed
 
     -- a side of a run
-    side_fit : (upper : Bool) (kind : ClaimKind) (g : Stage) (left : ℕ) (pending : Option World) (a : SideAnswer) (trace : List Event) → IsSideAt kind s pivots conflicts g left pending a
+    side_fit : (upper : Bool) (kind : ClaimKind) (g : Stage) (left : ℕ) (pending : Option World) (a : SideAnswer) (trace : List Event) → IsSideAt (program_of kind s) pivots conflicts g left pending a
         → IsValidSide p kind q (side_of a) → IsPrintedSide a → length g.pool ≤ pivots + 2 → (0 < open_in_side (side_of a) → AnyOpen) → AllByRecursion Q (trace_items trace)
         → AllByRecursion Q (side_items upper a trace)
     side_fit upper kind g left pending (side.Bound value m d) trace h valid printed few if_open events = closed_fit upper kind (side.Bound value m d) trace tt valid printed events
@@ -196,7 +198,7 @@ module _ (p : Parts) (pivots conflicts : ℕ) (limits : AreLimits p pivots confl
     run_trace (query.Open cause) first h = first_trace p (Some q) pivots conflicts limits Q AnyOpen lines (Open cause) first h
 
     -- the cause for which phase one is open
-    cause_left : (cause : Cause) (first : List Event) → IsLawfulPhaseOne s pivots conflicts (Open cause) first → IsPrintedCause cause → AnyOpen → AllByRecursion Q (cause_items cause)
+    cause_left : (cause : Cause) (first : List Event) → IsLawfulPhaseOne (program_of Nothing s) pivots conflicts (Open cause) first → IsPrintedCause cause → AnyOpen → AllByRecursion Q (cause_items cause)
     cause_left cause first h printed any =
         cause_fit p (Some q) pivots conflicts limits Q AnyOpen lines Nothing nodes h.end h.left h.pending cause h.answered printed
         (first_pool p (Some q) pivots conflicts limits Q AnyOpen lines (Open cause) first h) any

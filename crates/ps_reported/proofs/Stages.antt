@@ -24,7 +24,8 @@ use Rattle.ps_claims.specs.declared.claim_kind.ClaimKind.{ClaimKind}
 use Rattle.ps_claims.specs.declared.claim_kind.ClaimKind.TheVariants.{Nothing}
 use Rattle.ps_runs.specs.Rows.{Setting, phase_of, entries_of, rows_of, columns_of, width_of, system_of, world_cost, cost_of, table_of}
 use Rattle.ps_runs.specs.Certificates.{combination_at, multiple_of, price}
-use Rattle.ps_runs.specs.Runs.{Subject, setting_of, Stage, IsStart, IsFeasibleAt, IsPricedAt}
+use Rattle.ps_runs.specs.Subjects.{Subject, setting_of, frame_of, program_of}
+use Rattle.ps_runs.specs.Runs.{Stage, IsStart, IsFeasibleAt, IsPricedAt}
 use Rattle.ps_runs.proofs.Columns.{has_homes, world_at, world_cost_at}
 use Rattle.ps_runs.proofs.Combination.{gain_is}
 use Rattle.ps_runs.proofs.Starts.{first_table, stands_same, more_worlds, longer}
@@ -38,7 +39,7 @@ pub record HasTable (s : Setting) (pool : List World) (basic : ℕ → ℕ) : Ty
   pub last : (i : ℕ) → i < rows_of s → basic i < width_of s pool
 
 -- ---- the start
-pub start_table : (s : Subject) (g : Stage) → IsStart s g → HasTable (setting_of s) g.pool g.basis
+pub start_table : (s : Subject) (g : Stage) → IsStart (frame_of s) g → HasTable (setting_of s) g.pool g.basis
 start_table s g h =
     let t = first_table (setting_of s) g.basis (λ i j. unit_at i (j - 1)) (record { entries = λ i j l k. refl; basics = h.homes }) in
     subst (λ pool. HasTable (setting_of s) pool g.basis) (sym h.pool) (record { table = λ i j. unit_at i (j - 1); stands = t.stands; first = t.first; last = t.last })
@@ -205,15 +206,15 @@ module _ (kind : ClaimKind) (s : Setting) (pool : List World) (w : World) (basic
       gain (omega (arith, ints, above))
 
 -- after a priced world none is priced before a pivot
-pub none_twice : (kind : ClaimKind) (s : Subject) (conflicts : ℕ) (g : Stage) (w v : World) → HasTable (setting_of s) g.pool g.basis → IsPricedAt kind s conflicts g w
-    → IsPricedAt kind s conflicts (record { pool = g.pool ++ w ∷ []; basis = g.basis }) v → ⊥
+pub none_twice : (kind : ClaimKind) (s : Subject) (conflicts : ℕ) (g : Stage) (w v : World) → HasTable (setting_of s) g.pool g.basis → IsPricedAt (program_of kind s) conflicts g w
+    → IsPricedAt (program_of kind s) conflicts (record { pool = g.pool ++ w ∷ []; basis = g.basis }) v → ⊥
 none_twice kind s conflicts g w v h p q =
     q.priced.rests.resting.none (suc (rows_of (setting_of s) + length g.pool))
     (column_improves kind (setting_of s) g.pool w g.basis h p.table q.table p.priced.rests.belongs q.priced.rests.belongs p.priced.above)
 
 -- nor does phase one end there
-pub not_feasible : (s : Subject) (conflicts : ℕ) (g : Stage) (w : World) (Z : ℕ → ℕ → Rational) → HasTable (setting_of s) g.pool g.basis → IsPricedAt Nothing s conflicts g w
-    → IsFeasibleAt s (record { pool = g.pool ++ w ∷ []; basis = g.basis }) Z → ⊥
+pub not_feasible : (s : Subject) (conflicts : ℕ) (g : Stage) (w : World) (Z : ℕ → ℕ → Rational) → HasTable (setting_of s) g.pool g.basis → IsPricedAt (program_of Nothing s) conflicts g w
+    → IsFeasibleAt (frame_of s) (record { pool = g.pool ++ w ∷ []; basis = g.basis }) Z → ⊥
 not_feasible s conflicts g w Z h p q =
     p.priced.rests.resting.unfinished (record {
       zero = λ i l artificial.

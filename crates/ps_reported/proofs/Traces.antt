@@ -12,7 +12,9 @@ use Rattle.ps_answer.specs.declared.answer.Verdict.{Verdict}
 use Rattle.ps_answer.specs.Answers.{event_item, trace_items}
 use Rattle.ps_claims.specs.declared.claim_kind.ClaimKind.TheVariants.{Nothing}
 use Rattle.ps_runs.specs.Rows.{rows_of}
-use Rattle.ps_runs.specs.Runs.{Subject, setting_of, atoms_of, pivots_in}
+use Rattle.ps_runs.specs.Subjects.{Subject, setting_of, atoms_of}
+use Rattle.ps_runs.specs.Subjects.{program_of}
+use Rattle.ps_runs.specs.Runs.{pivots_in}
 use Rattle.ps_phases.specs.Verdicts.{IsLawfulPhaseOne}
 use Rattle.ps_reported.proofs.All.{mapped}
 use Rattle.ps_reported.proofs.Models.{IsFit}
@@ -43,7 +45,7 @@ module _ (p : Parts) (q : Option stored.Query) (pivots conflicts : ℕ) (limits 
       )
 
   -- ---- phase one
-  module _ (answer : Verdict) (events : List Event) (h : IsLawfulPhaseOne s pivots conflicts answer events) where
+  module _ (answer : Verdict) (events : List Event) (h : IsLawfulPhaseOne (program_of Nothing s) pivots conflicts answer events) where
     came : HasComePending Nothing s h.start events h.end
     came = has_come_pending Nothing s conflicts h.start h.end events h.pending (start_table s h.start h.starts) h.leads
 

@@ -14,8 +14,9 @@ use Rattle.ps_answer.specs.declared.answer.QueryPart.{QueryPart}
 use Rattle.ps_answer.specs.declared.answer.Answer.{Answer}
 use Rattle.ps_claims.specs.declared.claim_kind.ClaimKind.{ClaimKind}
 use Rattle.ps_claims.specs.declared.claim_kind.ClaimKind.TheVariants.{Nothing, Lower, Upper}
-use Rattle.ps_runs.specs.Runs.{Subject, subject_of}
+use Rattle.ps_runs.specs.Subjects.{Subject, subject_of}
 use Rattle.ps_phases.specs.Verdicts.{IsLawfulVerdict, IsLawfulPhaseOne, IsLawfulAnswerTo, asked_after}
+use Rattle.ps_runs.specs.Subjects.{program_of}
 
 -- ---- without a run
 -- the side is a value, with its certificate
@@ -67,8 +68,8 @@ pub record AreBesideRun (s : Subject) (pivots conflicts : ℕ) (first : List Eve
 abbrev pub IsOfRun : Subject → ℕ → ℕ → List Event → QueryAnswer → Type 0
 IsOfRun s pivots conflicts first (query.Bounds lower lower_events upper upper_events) =
     AreBesideRun s pivots conflicts first lower lower_events upper upper_events
-IsOfRun s pivots conflicts first (query.Impossible d) = IsLawfulPhaseOne s pivots conflicts (Inconsistent d) first
-IsOfRun s pivots conflicts first (query.Open cause) = IsLawfulPhaseOne s pivots conflicts (Open cause) first
+IsOfRun s pivots conflicts first (query.Impossible d) = IsLawfulPhaseOne (program_of Nothing s) pivots conflicts (Inconsistent d) first
+IsOfRun s pivots conflicts first (query.Open cause) = IsLawfulPhaseOne (program_of Nothing s) pivots conflicts (Open cause) first
 
 -- ---- answers
 -- the verdict has its certificate alone, or is that of a lawful run, and where it is open that is licensed

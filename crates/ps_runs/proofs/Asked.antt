@@ -4,7 +4,7 @@ use Rattle.ps_problem.specs.declared.query.Query.{Query}
 use Rattle.ps_problem.specs.Problems.{Parts}
 use Rattle.ps_claims.specs.declared.claim_kind.ClaimKind.{ClaimKind}
 use Rattle.ps_claims.specs.declared.claim_kind.ClaimKind.TheVariants.{Nothing}
-use Rattle.ps_runs.specs.Runs.{IsAsked, given_in, both_in}
+use Rattle.ps_runs.specs.Subjects.{IsAsked, given_in, both_in}
 
 pub given_there : (kind : ClaimKind) (p : Parts) (query : Option Query) → IsAsked kind p query → IfSome (given_in query) (λ g. g < length p.nodes)
 given_there kind p None asked = tt

@@ -17,9 +17,12 @@ use Rattle.ps_claims.specs.Goals.{value_under, plus, at_node, at_condition, rows
 use Rattle.ps_claims.specs.Validity.{IsRefuted, ShowsNothing}
 use Rattle.ps_claims.proofs.NodeSums.{value-nothing, value-claimed, value-combination}
 use Rattle.ps_claims.proofs.Refutations.{extension-meets}
+use Rattle.ps_runs.specs.Programs.{RefutesGain}
 use Rattle.ps_runs.specs.Rows.{phase_of, IsTable}
 use Rattle.ps_runs.specs.Certificates.{table_model, HaveSameNumbers}
-use Rattle.ps_runs.specs.Runs.{Subject, setting_of, asked_in, given_in, both_in, IsAsked, atoms_of, combination_over, goal_at_least, Stage, IsPool, table_at, costs_at, dual_at, AreAtMost}
+use Rattle.ps_runs.specs.Subjects.{Subject, setting_of, asked_in, given_in, both_in, IsAsked, atoms_of}
+use Rattle.ps_runs.specs.Subjects.{combination_over, frame_of, program_of}
+use Rattle.ps_runs.specs.Runs.{Stage, IsPool, table_at, costs_at, dual_at, AreAtMost}
 use Rattle.ps_runs.proofs.Resting.{rest_signs}
 use Rattle.ps_runs.proofs.Shown.{allowed_at_end, small_at_end, nothing_head}
 
@@ -38,10 +41,10 @@ value_of_gain kind s d w are asked = value_is kind s.parts s.query d w are asked
 
 -- what no assignment that meets the form is above, no world is above
 pub most_of_gains : (kind : ClaimKind) (s : Subject) (g : Stage) (X : ℕ → ℕ → Rational) (most : ℤ) → AreParts s.parts → IsAsked kind s.parts s.query
-    → ((v : List Bool) → MeetsForm v (form_of s.parts.nodes) → value_under v (combination_over kind s (dual_at kind s g X)) ≤ℤ most)
-    → AreAtMost kind s g X most
+    → ((v : List Bool) → MeetsForm v (form_of s.parts.nodes) → value_under v (combination_over kind s (dual_at (program_of kind s) g X)) ≤ℤ most)
+    → AreAtMost (program_of kind s) g X most
 most_of_gains kind s g X most are asked h = record {
-  at = λ w long. subst (λ z. z ≤ℤ most) (value_of_gain kind s (dual_at kind s g X) w are asked) (h (extension s.parts.nodes w) (extension-meets s.parts.nodes w are.nodes));
+  at = λ w long. subst (λ z. z ≤ℤ most) (value_of_gain kind s (dual_at (program_of kind s) g X) w are asked) (h (extension s.parts.nodes w) (extension-meets s.parts.nodes w are.nodes));
 }
 
 -- ---- claims
@@ -54,22 +57,22 @@ pub same_combination : (kind : ClaimKind) (given : Option ℕ) (both : ℕ) (bou
     → combination_of kind given both bounds d ≡ combination_of kind given both bounds e
 same_combination kind given both bounds d e same = λ i. plus (same_claim kind given both d e same i) (rows_times (same.rows i) bounds)
 
-module _ (kind : ClaimKind) (s : Subject) (g : Stage) (X : ℕ → ℕ → Rational) (d : Dual) (same : HaveSameNumbers d (dual_at kind s g X)) where
+module _ (kind : ClaimKind) (s : Subject) (g : Stage) (X : ℕ → ℕ → Rational) (d : Dual) (same : HaveSameNumbers d (dual_at (program_of kind s) g X)) where
   -- steps that refute the table's goal make a dual with its numbers a refutation
-  pub refuted_at_rest : IsResting (phase_of kind) (table_at s g X) (costs_at kind s g)
-      → Refutes (length s.parts.nodes) (first_known (form_of s.parts.nodes) (goal_at_least (pos 1) kind s (dual_at kind s g X))) d.steps
+  pub refuted_at_rest : IsResting (phase_of kind) (table_at (frame_of s) g X) (costs_at (program_of kind s) g)
+      → RefutesGain (program_of kind s) (dual_at (program_of kind s) g X) d.steps
       → IsRefuted s.parts kind (given_in s.query) (both_in s.query) d
   refuted_at_rest rest steps = record {
     signs = subst (HaveSigns (bounds_of s.parts)) (sym same.rows) (rest_signs kind (setting_of s) g.pool g.basis X rest);
     steps =
         subst (λ c. Refutes (length s.parts.nodes) (first_known (form_of s.parts.nodes) (goal_of c)) d.steps)
-        (sym (same_combination kind (given_in s.query) (both_in s.query) (bounds_in s.parts.sentences) d (dual_at kind s g X) same)) steps;
+        (sym (same_combination kind (given_in s.query) (both_in s.query) (bounds_in s.parts.sentences) d (dual_at (program_of kind s) g X) same)) steps;
   }
 
 -- where phase one so rests, nothing is allowed
-pub nothing_at_rest : (s : Subject) (g : Stage) (X : ℕ → ℕ → Rational) (d : Dual) → HaveSameNumbers d (dual_at Nothing s g X)
-    → IsTable (setting_of s) g.pool g.basis X → IsResting (phase_of Nothing) (table_at s g X) (costs_at Nothing s g)
-    → Refutes (length s.parts.nodes) (first_known (form_of s.parts.nodes) (goal_at_least (pos 1) Nothing s (dual_at Nothing s g X))) d.steps
+pub nothing_at_rest : (s : Subject) (g : Stage) (X : ℕ → ℕ → Rational) (d : Dual) → HaveSameNumbers d (dual_at (program_of Nothing s) g X)
+    → IsTable (setting_of s) g.pool g.basis X → IsResting (phase_of Nothing) (table_at (frame_of s) g X) (costs_at (program_of Nothing s) g)
+    → RefutesGain (program_of Nothing s) (dual_at (program_of Nothing s) g X) d.steps
     → ShowsNothing s.parts (given_in s.query) d
 nothing_at_rest s g X d same t rest steps =
     let head = nothing_head (setting_of s) g.pool g.basis X t rest.unfinished in
@@ -80,8 +83,8 @@ nothing_at_rest s g X d same t rest steps =
     }
 
 -- a feasible table's model shows that the bounds are consistent
-pub consistent_at_end : (s : Subject) (g : Stage) (X : ℕ → ℕ → Rational) → IsTable (setting_of s) g.pool g.basis X → IsFeasible (table_at s g X) → IsPool (atoms_of s) g.pool
-    → ShowsConsistent (atoms_of s) (bounds_of s.parts) (table_model (table_at s g X) g.pool)
+pub consistent_at_end : (s : Subject) (g : Stage) (X : ℕ → ℕ → Rational) → IsTable (setting_of s) g.pool g.basis X → IsFeasible (table_at (frame_of s) g X) → IsPool (atoms_of s) g.pool
+    → ShowsConsistent (atoms_of s) (bounds_of s.parts) (table_model (table_at (frame_of s) g X) g.pool)
 consistent_at_end s g X t feasible pooled = record {
   model = (allowed_at_end (setting_of s) g.pool g.basis X t (atoms_of s) feasible pooled.different pooled.sized).model;
   basic = small_at_end (setting_of s) g.pool g.basis X t;

@@ -4,25 +4,25 @@ use Rattle.std.proofs.lemmas.List.{append-nil, append_assoc}
 use Rattle.ps_meaning.specs.Formula.{World}
 use Rattle.ps_pool.specs.declared.event.Event.{Event}
 use Rattle.ps_pool.specs.declared.event.Event.TheVariants.{Pivot, Priced}
-use Rattle.ps_claims.specs.declared.claim_kind.ClaimKind.{ClaimKind}
-use Rattle.ps_runs.specs.Runs.{Subject, Stage, LeadsTo, still, pivoted, priced, LeadsToPending, entire, pending, pivots_in}
+use Rattle.ps_runs.specs.Programs.{Program}
+use Rattle.ps_runs.specs.Runs.{Stage, LeadsTo, still, pivoted, priced, LeadsToPending, entire, pending, pivots_in}
 
 pub pivots_in-append : (xs ys : List Event) → pivots_in (xs ++ ys) ≡ pivots_in xs + pivots_in ys
 pivots_in-append [] ys = omega arith
 pivots_in-append (Pivot enter leave ∷ xs) ys = let e = pivots_in-append xs ys in omega (arith, e)
 pivots_in-append (Priced world ∷ xs) ys = pivots_in-append xs ys
 
-module _ (kind : ClaimKind) (s : Subject) (conflicts : ℕ) where
-  pub leads_on : (a b c : Stage) (xs ys : List Event) → LeadsTo kind s conflicts a xs b → LeadsTo kind s conflicts b ys c → LeadsTo kind s conflicts a (xs ++ ys) c
-  leads_on a b c xs ys first (still d) = subst (λ es. LeadsTo kind s conflicts a es b) (sym (append-nil xs)) first
+module _ (p : Program) (conflicts : ℕ) where
+  pub leads_on : (a b c : Stage) (xs ys : List Event) → LeadsTo p conflicts a xs b → LeadsTo p conflicts b ys c → LeadsTo p conflicts a (xs ++ ys) c
+  leads_on a b c xs ys first (still d) = subst (λ es. LeadsTo p conflicts a es b) (sym (append-nil xs)) first
   leads_on a b c xs ys first (pivoted d e events enter leave basis before lawful based) =
-      subst (λ es. LeadsTo kind s conflicts a es c) (append_assoc xs events (Pivot enter leave ∷ []))
+      subst (λ es. LeadsTo p conflicts a es c) (append_assoc xs events (Pivot enter leave ∷ []))
       (pivoted a e (xs ++ events) enter leave basis (leads_on a b e xs events first before) lawful based)
   leads_on a b c xs ys first (priced d e events world before is) =
-      subst (λ es. LeadsTo kind s conflicts a es c) (append_assoc xs events (Priced world ∷ [])) (priced a e (xs ++ events) world (leads_on a b e xs events first before) is)
+      subst (λ es. LeadsTo p conflicts a es c) (append_assoc xs events (Priced world ∷ [])) (priced a e (xs ++ events) world (leads_on a b e xs events first before) is)
 
-  pub leads_on_pending : (a b c : Stage) (xs ys : List Event) (w : Option World) → LeadsTo kind s conflicts a xs b → LeadsToPending kind s conflicts b ys w c
-      → LeadsToPending kind s conflicts a (xs ++ ys) w c
+  pub leads_on_pending : (a b c : Stage) (xs ys : List Event) (w : Option World) → LeadsTo p conflicts a xs b → LeadsToPending p conflicts b ys w c
+      → LeadsToPending p conflicts a (xs ++ ys) w c
   leads_on_pending a b c xs ys w first (entire d e events leads) = entire a c (xs ++ ys) (leads_on a b c xs ys first leads)
   leads_on_pending a b c xs ys w first (pending d e events world leads is) =
-      subst (λ es. LeadsToPending kind s conflicts a es (Some world) c) (append_assoc xs events (Priced world ∷ [])) (pending a c (xs ++ events) world (leads_on a b c xs events first leads) is)
+      subst (λ es. LeadsToPending p conflicts a es (Some world) c) (append_assoc xs events (Priced world ∷ [])) (pending a c (xs ++ events) world (leads_on a b c xs events first leads) is)

@@ -24,7 +24,9 @@ use Rattle.ps_table.specs.Tableau.{number_in}
 use Rattle.ps_table.proofs.Columns.{pivot_own, pivot_other}
 use Rattle.ps_claims.specs.declared.claim_kind.ClaimKind.{ClaimKind}
 use Rattle.ps_runs.specs.Rows.{Setting, phase_of, rows_of, width_of, columns_of, IsTable}
-use Rattle.ps_runs.specs.Runs.{Subject, setting_of, Stage, IsPool, atoms_of, table_at, gain_at, BelongsTo, IsPricedAt, LeadsTo, still, pivoted, priced, LeadsToPending, entire, pending}
+use Rattle.ps_runs.specs.Subjects.{Subject, setting_of, atoms_of, frame_of, program_of}
+use Rattle.ps_runs.specs.Runs.{Stage, IsPool, table_at, gain_at, BelongsTo, IsPricedAt, LeadsTo, still, pivoted, priced}
+use Rattle.ps_runs.specs.Runs.{LeadsToPending, entire, pending}
 use Rattle.ps_runs.specs.Reached.{IsReached, started, led, HasOneTable}
 use Rattle.ps_runs.proofs.Columns.{has_homes}
 use Rattle.ps_runs.proofs.Starts.{first_table, stands_same, more_worlds, longer}
@@ -99,8 +101,8 @@ module _ (s : Setting) where
       }
 
 module _ (kind : ClaimKind) (s : Subject) (conflicts : ℕ) where
-  pivot_stands : (g : Stage) (q p : ℕ) (basis : ℕ → ℕ) (X : ℕ → ℕ → Rational) → BelongsTo s g X → q < width_of (setting_of s) g.pool
-      → IsLeavingRow (table_at s g X) q p → Based (rows_of (setting_of s)) p q g.basis basis → Stands (setting_of s) g.pool g.basis → Stands (setting_of s) g.pool basis
+  pivot_stands : (g : Stage) (q p : ℕ) (basis : ℕ → ℕ) (X : ℕ → ℕ → Rational) → BelongsTo (frame_of s) g X → q < width_of (setting_of s) g.pool
+      → IsLeavingRow (table_at (frame_of s) g X) q p → Based (rows_of (setting_of s)) p q g.basis basis → Stands (setting_of s) g.pool g.basis → Stands (setting_of s) g.pool basis
   pivot_stands g q p basis X belongs column leaving based h =
       let n = rows_of (setting_of s) in
       let w = width_of (setting_of s) g.pool in
@@ -114,16 +116,16 @@ module _ (kind : ClaimKind) (s : Subject) (conflicts : ℕ) where
             (is_pivoted n w p q h.table) based h.stands;
       }
 
-  stands_on : (a b : Stage) (events : List Event) → Stands (setting_of s) a.pool a.basis → LeadsTo kind s conflicts a events b → Stands (setting_of s) b.pool b.basis
+  stands_on : (a b : Stage) (events : List Event) → Stands (setting_of s) a.pool a.basis → LeadsTo (program_of kind s) conflicts a events b → Stands (setting_of s) b.pool b.basis
   stands_on a b events h (still x) = h
   stands_on a b events h (pivoted x m es enter leave basis leads is based) =
       let q = number_in (rows_of (setting_of s)) enter in
       pivot_stands m q leave basis is.lawful.table is.lawful.belongs is.lawful.enters.improves.within
-      (leaving_row (phase_of kind) (table_at s m is.lawful.table) q leave is.lawful.leaves) based (stands_on a m es h leads)
+      (leaving_row (phase_of kind) (table_at (frame_of s) m is.lawful.table) q leave is.lawful.leaves) based (stands_on a m es h leads)
   stands_on a b events h (priced x m es world leads is) = wider_stands (setting_of s) m.pool m.basis world (stands_on a m es h leads)
 
   stands_on_pending : (a b : Stage) (events : List Event) (world : Option World) → Stands (setting_of s) a.pool a.basis
-      → LeadsToPending kind s conflicts a events world b → Stands (setting_of s) b.pool b.basis
+      → LeadsToPending (program_of kind s) conflicts a events world b → Stands (setting_of s) b.pool b.basis
   stands_on_pending a b events world h (entire x y es leads) = stands_on a b es h leads
   stands_on_pending a b events world h (pending x y es w leads is) = stands_on a b es h leads
 
@@ -145,7 +147,7 @@ module _ (s : Subject) (conflicts : ℕ) (g : Stage) (reached : IsReached s conf
       }
 
   -- a table that belongs to the basis is that of the basis
-  the_table : (X : ℕ → ℕ → Rational) → BelongsTo s g X → IsBasisTable (rows_of (setting_of s)) (width_of (setting_of s) g.pool) (columns_of (setting_of s) g.pool) g.basis X
+  the_table : (X : ℕ → ℕ → Rational) → BelongsTo (frame_of s) g X → IsBasisTable (rows_of (setting_of s)) (width_of (setting_of s) g.pool) (columns_of (setting_of s) g.pool) g.basis X
   the_table X belongs =
       let h = reached_stands s conflicts g reached in
       let n = rows_of (setting_of s) in
@@ -154,12 +156,12 @@ module _ (s : Subject) (conflicts : ℕ) (g : Stage) (reached : IsReached s conf
       same_stands n w A A h.table X g.basis (omega arith) h.basis (record { same = λ i j k l. refl })
       (record { same = λ i j l k. tables.one_table n w A h.table X g.basis (omega arith) h.basis h.stands belongs i j l k }) h.stands
 
-  priced_elsewhere : (kind : ClaimKind) (w : World) (k : ℕ) → IsPricedAt kind s conflicts g w → k < length g.pool → get_or g.pool k [] ≡ w → ⊥
+  priced_elsewhere : (kind : ClaimKind) (w : World) (k : ℕ) → IsPricedAt (program_of kind s) conflicts g w → k < length g.pool → get_or g.pool k [] ≡ w → ⊥
   priced_elsewhere kind w k at l e =
       priced_apart kind (setting_of s) g.pool g.basis at.table k (the_table at.table at.priced.rests.belongs) at.priced.rests.resting l
-      (subst (λ v. pos 1 ≤ℤ gain_at kind s g at.table v) (sym e) at.priced.above)
+      (subst (λ v. pos 1 ≤ℤ gain_at (program_of kind s) g at.table v) (sym e) at.priced.above)
 
-  pub priced_fresh : (kind : ClaimKind) (w : World) (number : ℕ) → IsPricedAt kind s conflicts g w → HasNumber g.pool w number → ⊥
+  pub priced_fresh : (kind : ClaimKind) (w : World) (number : ℕ) → IsPricedAt (program_of kind s) conflicts g w → HasNumber g.pool w number → ⊥
   priced_fresh kind w zero at e = absurd (is_some w e)
     where
       is_some : (x : World) → None ≡ Some x → ⊥
@@ -175,7 +177,7 @@ pool_grows s pool w h sized fresh = record {
 }
 
 pool_on : (kind : ClaimKind) (s : Subject) (conflicts : ℕ) (a b : Stage) (events : List Event) → IsReached s conflicts a → IsPool (atoms_of s) a.pool
-    → LeadsTo kind s conflicts a events b → IsPool (atoms_of s) b.pool
+    → LeadsTo (program_of kind s) conflicts a events b → IsPool (atoms_of s) b.pool
 pool_on kind s conflicts a b events reached h (still x) = h
 pool_on kind s conflicts a b events reached h (pivoted x m es enter leave basis leads is based) = pool_on kind s conflicts a m es reached h leads
 pool_on kind s conflicts a b events reached h (priced x m es world leads is) =
@@ -183,7 +185,7 @@ pool_on kind s conflicts a b events reached h (priced x m es world leads is) =
     pool_grows s m.pool world (pool_on kind s conflicts a m es reached h leads) is.priced.sized (λ k l e. priced_elsewhere s conflicts m there kind world k is l e)
 
 pool_on_pending : (kind : ClaimKind) (s : Subject) (conflicts : ℕ) (a b : Stage) (events : List Event) (world : Option World) → IsReached s conflicts a → IsPool (atoms_of s) a.pool
-    → LeadsToPending kind s conflicts a events world b → IsPool (atoms_of s) b.pool
+    → LeadsToPending (program_of kind s) conflicts a events world b → IsPool (atoms_of s) b.pool
 pool_on_pending kind s conflicts a b events world reached h (entire x y es leads) = pool_on kind s conflicts a b es reached h leads
 pool_on_pending kind s conflicts a b events world reached h (pending x y es w leads is) = pool_on kind s conflicts a b es reached h leads
 

@@ -6,17 +6,17 @@ use Rattle.ps_rational.proofs.Ring.{var, by}
 use Rattle.ps_rational.proofs.IntRing.{*ℤ_cancel, ring_z}
 use Rattle.ps_meaning.specs.Distribution.{weight}
 use Rattle.ps_simplex.specs.Rule.{IsFeasible, IsResting}
-use Rattle.ps_steps.specs.Steps.{Refutes}
-use Rattle.ps_forms.specs.Forms.{form_of, first_known}
 use Rattle.ps_problem.specs.declared.query.Query as stored
 use Rattle.ps_problem.specs.Problems.{Parts}
 use Rattle.ps_claims.specs.declared.claim_kind.ClaimKind.{ClaimKind}
 use Rattle.ps_claims.specs.declared.claim_kind.ClaimKind.TheVariants.{Nothing}
 use Rattle.ps_claims.specs.Duals.{Dual, HasValueHead}
 use Rattle.ps_claims.specs.Validity.{ShowsTight}
+use Rattle.ps_runs.specs.Programs.{RefutesGain}
 use Rattle.ps_runs.specs.Rows.{phase_of, both_of, IsTable}
 use Rattle.ps_runs.specs.Certificates.{HaveSameNumbers, weighted_worlds, table_model}
-use Rattle.ps_runs.specs.Runs.{Subject, setting_of, atoms_of, goal_at_least, Stage, IsPool, table_at, costs_at, dual_at}
+use Rattle.ps_runs.specs.Subjects.{Subject, setting_of, atoms_of, frame_of, program_of}
+use Rattle.ps_runs.specs.Runs.{Stage, IsPool, table_at, costs_at, dual_at}
 use Rattle.ps_runs.proofs.Ends.{reached}
 use Rattle.ps_runs.proofs.Shown.{allowed_at_end, small_at_end}
 use Rattle.ps_runs.proofs.Certified.{refuted_at_rest}
@@ -35,13 +35,13 @@ module _ (kind : ClaimKind) (p : Parts) (q : stored.Query) (g : Stage) (X : ℕ 
   abbrev s : Subject
   s = record { parts = p; query = Some q }
 
-  pub tight_at_end : kind ≢ Nothing → HaveSameNumbers d (dual_at kind s g X) → HasValueHead value d
-      → IsTable (setting_of s) g.pool g.basis X → IsFeasible (table_at s g X) → IsPool (atoms_of s) g.pool
-      → IsResting (phase_of kind) (table_at s g X) (costs_at kind s g)
-      → Refutes (length p.nodes) (first_known (form_of p.nodes) (goal_at_least (pos 1) kind s (dual_at kind s g X))) d.steps
-      → ShowsTight p kind q value (table_model (table_at s g X) g.pool) d
+  pub tight_at_end : kind ≢ Nothing → HaveSameNumbers d (dual_at (program_of kind s) g X) → HasValueHead value d
+      → IsTable (setting_of s) g.pool g.basis X → IsFeasible (table_at (frame_of s) g X) → IsPool (atoms_of s) g.pool
+      → IsResting (phase_of kind) (table_at (frame_of s) g X) (costs_at (program_of kind s) g)
+      → RefutesGain (program_of kind s) (dual_at (program_of kind s) g X) d.steps
+      → ShowsTight p kind q value (table_model (table_at (frame_of s) g X) g.pool) d
   tight_at_end side same head t feasible pooled rest steps =
-      let worlds = weighted_worlds (table_at s g X) g.pool in
+      let worlds = weighted_worlds (table_at (frame_of s) g X) g.pool in
       let numbers : d.top *ℤ weight worlds (both_of (setting_of s)) ≡ d.head *ℤ weight worlds (setting_of s).query.evidence =
       ap (λ z. z *ℤ weight worlds (both_of (setting_of s))) same.top
       ∙ reached kind (setting_of s) g.pool g.basis X side t feasible

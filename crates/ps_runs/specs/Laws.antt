@@ -10,8 +10,8 @@ use Rattle.ps_simplex.specs.Table.{IsFirst, Widened}
 use Rattle.ps_simplex.specs.Rule.{SimplexTable, IsFeasible, IsMoving, IsResting}
 use Rattle.ps_pool.specs.declared.event.Event.{Event}
 use Rattle.ps_table.specs.Places.{weight_at}
-use Rattle.ps_steps.specs.Steps.{Step, Refutes}
-use Rattle.ps_forms.specs.Forms.{form_of, first_known, MeetsForm}
+use Rattle.ps_steps.specs.Steps.{Step}
+use Rattle.ps_forms.specs.Forms.{form_of, MeetsForm}
 use Rattle.ps_forms.specs.Extensions.{extension}
 use Rattle.ps_problem.specs.declared.query.Query as stored
 use Rattle.ps_problem.specs.Problems.{Parts, AreParts, bounds_in, bounds_of}
@@ -25,9 +25,11 @@ use Rattle.ps_claims.specs.Validity.{IsRefuted, ShowsNothing, ShowsTight}
 use Rattle.ps_runs.specs.Rows.{Setting, both_of, phase_of, artificial_of, rows_of, columns_of}
 use Rattle.ps_runs.specs.Rows.{width_of, world_cost, cost_of, table_of, IsTable}
 use Rattle.ps_runs.specs.Searches.{IsSpentSearch}
-use Rattle.ps_runs.specs.Runs.{Subject, subject_of, setting_of, given_in, both_in, IsAsked, atoms_of}
-use Rattle.ps_runs.specs.Runs.{combination_over, goal_at_least, Stage, IsPool, table_at, costs_at, dual_at}
-use Rattle.ps_runs.specs.Runs.{AreAtMost, IsRestingAt, IsPricedBy, IsDualAt, LeadsTo, LeadsToPending, pivots_in}
+use Rattle.ps_runs.specs.Programs.{Program, goal_at_least, RefutesGain}
+use Rattle.ps_runs.specs.Subjects.{Subject, subject_of, setting_of, given_in, both_in, IsAsked, atoms_of}
+use Rattle.ps_runs.specs.Subjects.{combination_over, frame_of, program_of}
+use Rattle.ps_runs.specs.Runs.{Stage, IsPool, table_at, costs_at, dual_at, AreAtMost, IsRestingAt, IsPricedBy, IsDualAt}
+use Rattle.ps_runs.specs.Runs.{LeadsTo, LeadsToPending, pivots_in}
 use Rattle.ps_runs.specs.Reached.{IsReached, HasOneTable, ArePricedFresh}
 use Rattle.ps_runs.specs.Kept.{kept_of, flags_of, kept_parts, kept_dual, IsChoice, AreAllKept}
 use Rattle.ps_runs.specs.Certificates.{HaveSameNumbers, table_dual, combination_at, multiple_of, price, value_of}
@@ -110,12 +112,11 @@ pub record PricedWorldsMove : Type 0 where
 
 -- events that follow lawful ones lead on, also to a pending world, and their pivots sum
 pub record EventsCompose : Type 0 where
-  pub leads : (kind : ClaimKind) (s : Subject) (conflicts : ℕ) (a b c : Stage) (before after : List Event)
-      → LeadsTo kind s conflicts a before b → LeadsTo kind s conflicts b after c → LeadsTo kind s conflicts a (before ++ after) c
-  pub pending : (kind : ClaimKind) (s : Subject) (conflicts : ℕ) (a b c : Stage) (before after : List Event)
-      (world : Option World)
-      → LeadsTo kind s conflicts a before b → LeadsToPending kind s conflicts b after world c
-      → LeadsToPending kind s conflicts a (before ++ after) world c
+  pub leads : (p : Program) (conflicts : ℕ) (a b c : Stage) (before after : List Event)
+      → LeadsTo p conflicts a before b → LeadsTo p conflicts b after c → LeadsTo p conflicts a (before ++ after) c
+  pub pending : (p : Program) (conflicts : ℕ) (a b c : Stage) (before after : List Event) (world : Option World)
+      → LeadsTo p conflicts a before b → LeadsToPending p conflicts b after world c
+      → LeadsToPending p conflicts a (before ++ after) world c
   pub pivots : (before after : List Event) → pivots_in (before ++ after) ≡ pivots_in before + pivots_in after
 
 -- each stage to which lawful events lead from a start has one table; in its pool no world stands twice, and what is priced there
@@ -134,36 +135,33 @@ pub record GainsAreValues : Type 0 where
   pub most : (kind : ClaimKind) (s : Subject) (g : Stage) (X : ℕ → ℕ → Rational) (most : ℤ) → AreParts s.parts
       → IsAsked kind s.parts s.query
       → ((v : List Bool) → MeetsForm v (form_of s.parts.nodes)
-      → value_under v (combination_over kind s (dual_at kind s g X)) ≤ℤ most)
-      → AreAtMost kind s g X most
+      → value_under v (combination_over kind s (dual_at (program_of kind s) g X)) ≤ℤ most)
+      → AreAtMost (program_of kind s) g X most
 
 -- a dual with the numbers of a resting table, whose steps refute that its combination is at least 1, is refuted; in phase one it
 -- shows that nothing is allowed, and in a side, with the model of the table, that the value is tight; and the model of a feasible
 -- table shows that the bounds are consistent
 pub record EndsAreValid : Type 0 where
   pub refuted : (kind : ClaimKind) (s : Subject) (g : Stage) (X : ℕ → ℕ → Rational) (d : Dual)
-      → HaveSameNumbers d (dual_at kind s g X)
-      → IsResting (phase_of kind) (table_at s g X) (costs_at kind s g)
-      → Refutes (length s.parts.nodes) (first_known (form_of s.parts.nodes)
-      (goal_at_least (pos 1) kind s (dual_at kind s g X))) d.steps
+      → HaveSameNumbers d (dual_at (program_of kind s) g X)
+      → IsResting (phase_of kind) (table_at (frame_of s) g X) (costs_at (program_of kind s) g)
+      → RefutesGain (program_of kind s) (dual_at (program_of kind s) g X) d.steps
       → IsRefuted s.parts kind (given_in s.query) (both_in s.query) d
-  pub nothing : (s : Subject) (g : Stage) (X : ℕ → ℕ → Rational) (d : Dual) → HaveSameNumbers d (dual_at Nothing s g X)
-      → IsTable (setting_of s) g.pool g.basis X → IsResting (phase_of Nothing) (table_at s g X) (costs_at Nothing s g)
-      → Refutes (length s.parts.nodes) (first_known (form_of s.parts.nodes)
-      (goal_at_least (pos 1) Nothing s (dual_at Nothing s g X))) d.steps
+  pub nothing : (s : Subject) (g : Stage) (X : ℕ → ℕ → Rational) (d : Dual) → HaveSameNumbers d (dual_at (program_of Nothing s) g X)
+      → IsTable (setting_of s) g.pool g.basis X → IsResting (phase_of Nothing) (table_at (frame_of s) g X) (costs_at (program_of Nothing s) g)
+      → RefutesGain (program_of Nothing s) (dual_at (program_of Nothing s) g X) d.steps
       → ShowsNothing s.parts (given_in s.query) d
   pub tight : (kind : ClaimKind) (p : Parts) (q : stored.Query) (g : Stage) (X : ℕ → ℕ → Rational) (value : Rational)
       (d : Dual) → kind ≢ Nothing
-      → HaveSameNumbers d (dual_at kind (subject_of p q) g X) → HasValueHead value d
-      → IsTable (setting_of (subject_of p q)) g.pool g.basis X → IsFeasible (table_at (subject_of p q) g X)
+      → HaveSameNumbers d (dual_at (program_of kind (subject_of p q)) g X) → HasValueHead value d
+      → IsTable (setting_of (subject_of p q)) g.pool g.basis X → IsFeasible (table_at (frame_of (subject_of p q)) g X)
       → IsPool (length p.names) g.pool
-      → IsResting (phase_of kind) (table_at (subject_of p q) g X) (costs_at kind (subject_of p q) g)
-      → Refutes (length p.nodes) (first_known (form_of p.nodes)
-      (goal_at_least (pos 1) kind (subject_of p q) (dual_at kind (subject_of p q) g X))) d.steps
-      → ShowsTight p kind q value (table_model (table_at (subject_of p q) g X) g.pool) d
+      → IsResting (phase_of kind) (table_at (frame_of (subject_of p q)) g X) (costs_at (program_of kind (subject_of p q)) g)
+      → RefutesGain (program_of kind (subject_of p q)) (dual_at (program_of kind (subject_of p q)) g X) d.steps
+      → ShowsTight p kind q value (table_model (table_at (frame_of (subject_of p q)) g X) g.pool) d
   pub consistent : (s : Subject) (g : Stage) (X : ℕ → ℕ → Rational) → IsTable (setting_of s) g.pool g.basis X
-      → IsFeasible (table_at s g X)
-      → IsPool (atoms_of s) g.pool → ShowsConsistent (atoms_of s) (bounds_of s.parts) (table_model (table_at s g X) g.pool)
+      → IsFeasible (table_at (frame_of s) g X)
+      → IsPool (atoms_of s) g.pool → ShowsConsistent (atoms_of s) (bounds_of s.parts) (table_model (table_at (frame_of s) g X) g.pool)
 
 -- a world of the pool has in the model the weight of the row in which it is basic, where that is above 0, and isn't there where
 -- it is basic in none
@@ -183,24 +181,24 @@ pub record WorldsWeighTheirRows : Type 0 where
 -- table is so of the table: a world is priced, or the table ends with the dual
 pub record PricingsAreOfTheTable : Type 0 where
   pub goal : (least : ℤ) (kind : ClaimKind) (s : Subject) (d e : Dual) → HaveSameNumbers d e
-      → goal_at_least least kind s d ≡ goal_at_least least kind s e
+      → goal_at_least least (program_of kind s) d ≡ goal_at_least least (program_of kind s) e
   pub greatest : (kind : ClaimKind) (s : Subject) (conflicts : ℕ) (g : Stage) (X : ℕ → ℕ → Rational) (d : Dual)
-      → HaveSameNumbers d (dual_at kind s g X) → AreParts s.parts → IsAsked kind s.parts s.query → IsRestingAt kind s g X
+      → HaveSameNumbers d (dual_at (program_of kind s) g X) → AreParts s.parts → IsAsked kind s.parts s.query → IsRestingAt (program_of kind s) g X
       → (w : World) → length w ≡ atoms_of s → pos 1 ≤ℤ value_under (extension s.parts.nodes w) (combination_over kind s d)
       → ((v : World) → length v ≡ atoms_of s
       → value_under (extension s.parts.nodes v) (combination_over kind s d) ≤ℤ value_under (extension s.parts.nodes w)
       (combination_over kind s d))
-      → IsPricedBy kind s conflicts g X w
+      → IsPricedBy (program_of kind s) conflicts g X w
   pub cut : (kind : ClaimKind) (s : Subject) (conflicts : ℕ) (g : Stage) (X : ℕ → ℕ → Rational) (d : Dual)
-      → HaveSameNumbers d (dual_at kind s g X) → AreParts s.parts → IsAsked kind s.parts s.query → IsRestingAt kind s g X
+      → HaveSameNumbers d (dual_at (program_of kind s) g X) → AreParts s.parts → IsAsked kind s.parts s.query → IsRestingAt (program_of kind s) g X
       → (w : World) → length w ≡ atoms_of s → pos 1 ≤ℤ value_under (extension s.parts.nodes w) (combination_over kind s d)
       → (least : ℤ) (steps : List Step) → value_under (extension s.parts.nodes w) (combination_over kind s d) <ℤ least
-      → IsSpentSearch (form_of s.parts.nodes) (goal_at_least least kind s d) conflicts steps → IsPricedBy kind s conflicts g X w
+      → IsSpentSearch (form_of s.parts.nodes) (goal_at_least least (program_of kind s) d) conflicts steps → IsPricedBy (program_of kind s) conflicts g X w
   pub dual : (kind : ClaimKind) (s : Subject) (conflicts : ℕ) (g : Stage) (X : ℕ → ℕ → Rational) (d : Dual)
-      → HaveSameNumbers d (dual_at kind s g X) → AreParts s.parts → IsAsked kind s.parts s.query → IsRestingAt kind s g X
+      → HaveSameNumbers d (dual_at (program_of kind s) g X) → AreParts s.parts → IsAsked kind s.parts s.query → IsRestingAt (program_of kind s) g X
       → (e : Dual) → HaveSameNumbers e d
-      → Refutes (length s.parts.nodes) (first_known (form_of s.parts.nodes) (goal_at_least (pos 1) kind s d)) e.steps
-      → IsDualAt kind s g e
+      → RefutesGain (program_of kind s) d e.steps
+      → IsDualAt (program_of kind s) g e
 
 -- the kept sentences of a problem in order make one in order, and their bounds are the kept ones; all of them are the whole
 -- problem; and a dual that is refuted over them is so over the whole problem, where it has 0 at the other bounds

@@ -14,6 +14,8 @@ use Rattle.ps_simplex.specs.declared.phase.Phase.{Phase}
 use Rattle.ps_simplex.specs.declared.phase.Phase.TheVariants as phase
 use Rattle.ps_simplex.specs.Rule.{SimplexTable}
 use Rattle.ps_simplex.specs.Pivots.{System, simplex_table}
+use Rattle.ps_table.specs.declared.home.Home.{Home}
+use Rattle.ps_table.specs.declared.home.Home.TheVariants.{Slack, Artificial}
 use Rattle.ps_problem.specs.Rows.{signed_by}
 use Rattle.ps_claims.specs.Queries.{Query}
 use Rattle.ps_claims.specs.declared.claim_kind.ClaimKind.{ClaimKind}
@@ -53,6 +55,15 @@ is_exact Exactly = true
 -- whether the home of each row is artificial: it is in row 0, which says that the evidence weighs 1, and in an equation's
 abbrev pub artificial_rows : Setting → List Bool
 artificial_rows s = true ∷ map (λ b. is_exact b.side) s.bounds
+
+-- the kind of a home: artificial, else a slack
+abbrev pub home_of : Bool → Home
+home_of true = Artificial
+home_of false = Slack
+
+-- the kinds of the homes
+abbrev pub homes_of : Setting → List Home
+homes_of s = map home_of (artificial_rows s)
 
 -- how many rows there are: one for the evidence, and one for each bound
 abbrev pub rows_of : Setting → ℕ

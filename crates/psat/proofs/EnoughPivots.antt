@@ -11,7 +11,7 @@ use Rattle.ps_cycle.specs.Count.{choose}
 use Rattle.ps_cycle.proofs.Ways.{ways_rise, one_of}
 use Rattle.ps_answer.specs.declared.answer.Answer.{Answer}
 use Rattle.ps_answer.specs.declared.answer.Verdict.TheVariants.{Open}
-use Rattle.ps_runs.specs.Runs.{sentences_of}
+use Rattle.ps_runs.specs.Subjects.{sentences_of}
 use Rattle.ps_runs.specs.Kept.{kept_of, flags_of, kept_parts}
 use Rattle.ps_runs.proofs.Kept.{length-kept, bounds-kept}
 use Rattle.ps_phases.specs.Enough.{IsEnough, HasNoPivotsCause}

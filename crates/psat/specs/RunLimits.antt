@@ -2,7 +2,7 @@
 use Rattle.std.specs.Prelude.{ℕ, min, Bool, true, false}
 use Rattle.ps_problem.specs.Problems.{Parts}
 use Rattle.ps_answer.specs.declared.limits.TheConstants.{MOST_PIVOTS}
-use Rattle.ps_runs.specs.Runs.{sentences_of}
+use Rattle.ps_runs.specs.Subjects.{sentences_of}
 use Rattle.ps_generation.specs.declared.limits.Limits.{Limits}
 use Rattle.ps_phases.specs.Enough.{enough_in}
 

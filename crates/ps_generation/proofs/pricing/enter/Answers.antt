@@ -3,7 +3,7 @@ use Rattle.ps_pool.specs.declared.event.Event.TheVariants.{Priced}
 use Rattle.ps_table.specs.Tableau.{IsAdded, ExtendsSystem}
 use Rattle.ps_table.specs.Places.{IsRefusedAt, NewPlaces}
 use Rattle.ps_runs.specs.Rows.{entries_of, world_cost}
-use Rattle.ps_runs.specs.Runs.{setting_of}
+use Rattle.ps_runs.specs.Subjects.{setting_of}
 use Rattle.ps_generation.proofs.Entered.{not_there, pending_wide, entered_phase, entered}
 use Rattle.ps_generation.proofs.pricing.enter.Goals as goal
 

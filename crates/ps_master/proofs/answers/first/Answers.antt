@@ -2,7 +2,7 @@ use Rattle.ps_table.specs.Tableau.{entry_at}
 use Rattle.ps_claims.specs.declared.claim_kind.ClaimKind.TheVariants.{Nothing}
 use Rattle.ps_phases.proofs.Shapes.{basics_differ}
 use Rattle.ps_generation.specs.Phases.{stage_of}
-use Rattle.ps_runs.specs.Runs.{setting_of}
+use Rattle.ps_runs.specs.Subjects.{setting_of}
 use Rattle.ps_master.proofs.Firsts.{first_reached, first_wide, first_nothing, first_open}
 use Rattle.ps_master.proofs.Sides.{as_many_rows}
 use Rattle.ps_master.proofs.answers.first.Goals as goal

@@ -1,7 +1,7 @@
 use Rattle.std.proofs.lemmas.Result.{IfOk-weaker}
 use Rattle.ps_table.specs.Tableau.{entry_at}
 use Rattle.ps_phases.proofs.Shapes.{basics_differ}
-use Rattle.ps_runs.specs.Runs.{setting_of}
+use Rattle.ps_runs.specs.Subjects.{setting_of}
 use Rattle.ps_generation.specs.Phases.{stage_of}
 use Rattle.ps_master.specs.States.{AnswersSide, IsBoundOf}
 use Rattle.ps_master.proofs.Sides.{spread_top, side_bound, side_open, as_many_rows}

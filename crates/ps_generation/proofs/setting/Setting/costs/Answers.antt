@@ -6,9 +6,10 @@ use Rattle.ps_table.specs.declared.costs.Costs.{Costs}
 use Rattle.ps_simplex.specs.declared.phase.Phase.{Phase}
 use Rattle.ps_claims.specs.declared.claim_kind.ClaimKind.{ClaimKind}
 use Rattle.ps_phases.specs.Columns.{home_cost, costs_over}
-use Rattle.ps_runs.specs.Runs.{Subject, setting_of, IsAsked, both_in}
+use Rattle.ps_runs.specs.Subjects.{Subject, setting_of, IsAsked, both_in}
 use Rattle.ps_runs.specs.Rows.{phase_of}
-use Rattle.ps_phases.specs.Tables.{homes_of, costs_for}
+use Rattle.ps_runs.specs.Rows.{homes_of}
+use Rattle.ps_phases.specs.Tables.{costs_for}
 use Rattle.ps_phases.proofs.NodeColumns.{costs_are}
 use Rattle.ps_problem.specs.Problems.{Parts}
 use Rattle.ps_generation.specs.Phases.{LimitedSubject}

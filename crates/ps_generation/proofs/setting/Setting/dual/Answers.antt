@@ -6,7 +6,7 @@ use Rattle.ps_problem.specs.declared.bound.Bound.{Bound}
 use Rattle.ps_problem.specs.Problems.{bounds_in, bound_of}
 use Rattle.ps_certificate.specs.Certificates.{dual_of}
 use Rattle.ps_runs.specs.Certificates.{HaveSameNumbers, table_dual}
-use Rattle.ps_runs.specs.Runs.{asked_in}
+use Rattle.ps_runs.specs.Subjects.{asked_in}
 use Rattle.ps_ends.specs.Duals.{IsTableDual}
 use Rattle.ps_generation.specs.Rounds.{IsDualOver}
 use Rattle.ps_generation.proofs.setting.Setting.dual.Goals as goal

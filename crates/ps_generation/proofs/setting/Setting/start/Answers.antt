@@ -4,8 +4,10 @@ use Rattle.ps_table.specs.declared.home.Home.{Home}
 use Rattle.ps_table.specs.Tableau.{HasUnitHomes, HasBasicHomes, IsTableForHomes}
 use Rattle.ps_problem.specs.Problems.{bounds_in}
 use Rattle.ps_phases.specs.Columns.{homes_over}
-use Rattle.ps_runs.specs.Runs.{setting_of, IsStart}
-use Rattle.ps_phases.specs.Tables.{homes_of, IsRunTable, stage_at}
+use Rattle.ps_runs.specs.Subjects.{setting_of, frame_of}
+use Rattle.ps_runs.specs.Runs.{IsStart}
+use Rattle.ps_runs.specs.Rows.{homes_of}
+use Rattle.ps_phases.specs.Tables.{IsRunTable, stage_at}
 use Rattle.ps_phases.proofs.NodeColumns.{homes_are}
 use Rattle.ps_phases.proofs.Adding.{new_table, new_stage}
 use Rattle.ps_generation.proofs.setting.Setting.start.Goals as goal
@@ -22,9 +24,9 @@ returns c =
     let basics : HasBasicHomes (homes_of (setting_of s)) t = subst (λ (hs : List Home). HasBasicHomes hs t) is c.in_ok-table.ensures.basic in
     record {
       table =
-          subst (λ (ws : List World). IsRunTable (setting_of s) ws t) (sym c.new-2.ensures)
+          subst (λ (ws : List World). IsRunTable (frame_of s) ws t) (sym c.new-2.ensures)
           (new_table (setting_of s) t kinds c.in_ok-table.ensures.worlds units stands c.rows-sound.ensures.tableau);
-      start = subst (λ (ws : List World). IsStart s (stage_at ws t)) (sym c.new-2.ensures) (new_stage s t kinds basics);
+      start = subst (λ (ws : List World). IsStart (frame_of s) (stage_at ws t)) (sym c.new-2.ensures) (new_stage s t kinds basics);
       trace = c.new-3.ensures;
       left = search rules;
     }

@@ -1,6 +1,6 @@
 use Rattle.std.proofs.Common.{rules, ◌≡◌, ℕ, Option, sym, subst}
 use Rattle.std.specs.Option.{IfSome}
-use Rattle.ps_runs.specs.Runs.{given_in, both_in}
+use Rattle.ps_runs.specs.Subjects.{given_in, both_in}
 use Rattle.ps_problem.specs.Problems.{AreParts, bounds_in}
 use Rattle.ps_certificate.specs.Rows.{AreOverNodes, IsNode}
 use Rattle.ps_certificate.proofs.Sums.{node-given, node-both}
