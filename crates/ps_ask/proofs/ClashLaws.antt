@@ -11,7 +11,7 @@ use Rattle.ps_answer.specs.declared.answer.Verdict.TheVariants as verdict
 use Rattle.ps_claims.specs.Answers.{ShowsConsistent, IsRightVerdict}
 use Rattle.ps_certificate.specs.Certificates.{model_of}
 use Rattle.ps_valid.specs.Answers.{IsRightOf, verdict_of}
-use Rattle.ps_generation.specs.declared.limits.Limits.{Limits}
+use Rattle.ps_phases.specs.declared.limits.Limits.{Limits}
 use Rattle.ps_explain.specs.declared.explained.Explained.{Explained}
 use Rattle.ps_explain.specs.declared.explained.Explained.TheVariants as explained
 use Rattle.ps_explain.specs.Explanations.{IsRightExplanation, IsCore, IsOpenOver}

@@ -16,7 +16,7 @@ use Rattle.ps_claims.proofs.Valid.{valid-right}
 use Rattle.ps_valid.specs.Answers.{answer_of, part_of, parts_of, verdict_of}
 use Rattle.ps_phases.specs.Verdicts.{asked_after}
 use Rattle.ps_reported.proofs.Reports.{asked_same}
-use Rattle.ps_generation.specs.declared.limits.Limits.{Limits}
+use Rattle.ps_phases.specs.declared.limits.Limits.{Limits}
 use Rattle.ps_generation.specs.Phases.{AreLimits}
 use Rattle.ps_query.proofs.Loops.{zip_next}
 use Rattle.ps_query.specs.Solutions.{AreShortLines}

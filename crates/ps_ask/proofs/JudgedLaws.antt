@@ -54,6 +54,11 @@ late_above s p q upper timed h = record { timed = timed; late = refl; valid = (t
 pub late_whole : (s : Settings) (p : Parts) (q : Query) → s.is_timed ≡ true → IsLatePart s p q (record { answer = query.Open out_of_time; first = [] })
 late_whole s p q timed = record { timed = timed; late = refl; valid = tt; printed = tt }
 
+pub shown_verdict_ok : {E : Type 0} (s : Settings) (p : Parts) (r : Result (Verdict × List Event) E) → AreParts p → IfOk r (λ x. IsAnsweredVerdict s.limits p x.0 x.1)
+    → IfOk r (λ x. IsShownVerdict s p x.0 x.1)
+shown_verdict_ok s p (Ok x) are h = shown_verdict s p x.0 x.1 are h
+shown_verdict_ok s p (Err e) are h = tt
+
 pub shown_part_ok : {E : Type 0} (s : Settings) (p : Parts) (q : Query) (r : Result QueryPart E) → AreParts p → HasNodes p.nodes q.formula q.given q.both
     → IfOk r (IsAnsweredPart s.limits p q) → IfOk r (IsShownPart s p q)
 shown_part_ok s p q (Ok part) are has h = shown_part s p q part are has h

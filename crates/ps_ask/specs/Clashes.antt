@@ -8,7 +8,7 @@ use Rattle.ps_answer.specs.declared.answer.Dual.{Dual}
 use Rattle.ps_answer.specs.declared.answer.Model.{Model}
 use Rattle.ps_answer.specs.declared.answer.Verdict.{Verdict}
 use Rattle.ps_answer.specs.declared.answer.Verdict.TheVariants.{Consistent, Inconsistent, Open}
-use Rattle.ps_generation.specs.declared.limits.Limits.{Limits}
+use Rattle.ps_phases.specs.declared.limits.Limits.{Limits}
 use Rattle.ps_explain.specs.Explanations.{IsCore, IsModelOfKept, IsOpenOver}
 use Rattle.ps_explain.specs.Rests.{all_but, AreShownNotMet, IsVerdictWithout}
 use Rattle.ps_spoken.specs.declared.clash.Clash.{Clash}

@@ -14,7 +14,7 @@ use Rattle.std.proofs.Common.{length}
 use Rattle.ps_runs.specs.Kept.{kept_parts, IsChoice, AreAllKept}
 use Rattle.ps_runs.proofs.Kept.{parts-all}
 use Rattle.ps_certificate.specs.Printed.{IsPrintedModel, IsPrintedCause}
-use Rattle.ps_generation.specs.declared.limits.Limits.{Limits}
+use Rattle.ps_phases.specs.declared.limits.Limits.{Limits}
 use Rattle.ps_explain.specs.declared.conflict.Conflict.{Conflict}
 use Rattle.ps_explain.specs.declared.explained.Explained.TheVariants as explained
 use Rattle.ps_explain.specs.Explanations.{places_from, numbers_of, without, IsModelOfKept, IsModelWithout, IsOpen, IsExplanation}

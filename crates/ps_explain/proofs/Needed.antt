@@ -23,7 +23,7 @@ use Rattle.ps_claims.proofs.Valid.{valid-right}
 use Rattle.ps_certificate.specs.Certificates.{model_of, dual_of}
 use Rattle.ps_runs.specs.Kept.{kept_of, flags_of, kept_parts, kept_dual, IsChoice}
 use Rattle.ps_runs.proofs.Kept.{bounds-kept, goal-kept, length-flags, parts-kept}
-use Rattle.ps_generation.specs.declared.limits.Limits.{Limits}
+use Rattle.ps_phases.specs.declared.limits.Limits.{Limits}
 use Rattle.ps_generation.specs.Phases.{limited}
 use Rattle.ps_master.specs.declared.first.First.TheVariants as first
 use Rattle.ps_master.specs.Runs.{RunState, IsNew, IsPhaseOneAnswer, IsPrintedFirst, IsOfTheWhole}

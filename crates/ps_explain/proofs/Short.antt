@@ -31,7 +31,7 @@ use Rattle.ps_report.specs.Parts.{AreShort}
 use Rattle.ps_reported.proofs.Models.{IsFit, fit_model}
 use Rattle.ps_reported.proofs.Duals.{fit_dual}
 use Rattle.ps_reported.proofs.Reports.{all_short}
-use Rattle.ps_generation.specs.declared.limits.Limits.{Limits}
+use Rattle.ps_phases.specs.declared.limits.Limits.{Limits}
 use Rattle.ps_generation.specs.Phases.{AreLimits}
 use Rattle.ps_explain.specs.declared.explained.Explained.{Explained}
 use Rattle.ps_explain.specs.declared.explained.Explained.TheVariants as explained
@@ -105,7 +105,7 @@ module _ (p : Parts) (are : AreParts p) where
   unfolding answer_items
   short_open limits cause events within lawful printed =
       let a : Answer = record { verdict = verdict.Open cause; first = events; parts = [] } in
-      let all : AreShort (answer_items a) = all_short p limits.pivots limits.conflicts a (record {
+      let all : AreShort (answer_items a) = all_short p limits a (record {
         parts = are;
         few_pivots = within.pivots;
         few_conflicts = within.conflicts;

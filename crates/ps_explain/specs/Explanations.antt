@@ -16,7 +16,7 @@ use Rattle.ps_certificate.specs.Certificates.{model_of, dual_of}
 use Rattle.ps_runs.specs.Kept.{flags_of, kept_parts, IsChoice, AreAllKept}
 use Rattle.ps_phases.specs.Verdicts.{IsLawfulVerdict}
 use Rattle.ps_certificate.specs.Printed.{IsPrintedModel, IsPrintedDual, IsPrintedCause}
-use Rattle.ps_generation.specs.declared.limits.Limits.{Limits}
+use Rattle.ps_phases.specs.declared.limits.Limits.{Limits}
 use Rattle.ps_explain.specs.declared.explained.Explained.{Explained}
 use Rattle.ps_explain.specs.declared.explained.Explained.TheVariants as explained
 
@@ -83,7 +83,7 @@ pub record IsOneShort (p : Parts) (kept : List Bool) : Type 0 where
 
 -- a lawful run over a problem is open for the cause, by a licence
 abbrev pub IsOpen : Limits → Parts → Cause → List Event → Type 0
-IsOpen limits p cause first = IsLawfulVerdict p limits.pivots limits.conflicts (verdict.Open cause) first
+IsOpen limits p cause first = IsLawfulVerdict p limits (verdict.Open cause) first
 
 -- the run over the sentences of these numbers is open, by a licence: over all sentences, or over such that no distribution meets
 -- together with one further sentence

@@ -6,7 +6,7 @@ use Rattle.ps_answer.specs.declared.answer.Dual.{Dual}
 use Rattle.ps_answer.specs.declared.answer.Verdict.{Verdict}
 use Rattle.ps_answer.specs.declared.answer.Verdict.TheVariants.{Consistent, Inconsistent, Open}
 use Rattle.ps_runs.specs.Kept.{kept_parts}
-use Rattle.ps_generation.specs.declared.limits.Limits.{Limits}
+use Rattle.ps_phases.specs.declared.limits.Limits.{Limits}
 use Rattle.ps_explain.specs.Explanations.{without, CannotBeMet, IsModelOfKept, IsShownBy, IsOpen}
 use Rattle.ps_explain.specs.Steps.{AreAmong}
 

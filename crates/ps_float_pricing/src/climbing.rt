@@ -6,7 +6,6 @@ use crate::pool::Member;
 use crate::relaxed::Relaxed;
 use crate::row::Certainty;
 use ps_climb::{Demand, Goal as ClimbGoal, LocalSearch};
-use ps_float_pricing::{Certainty, FloatGoal, Member, Relaxed};
 use ps_formula::World;
 use ps_io::NoMemory;
 use ps_problem::Problem;

@@ -10,7 +10,6 @@ use crate::relaxed::Relaxed;
 use crate::scaled::Goals;
 use crate::search::{Ended, seek};
 use ps_clause::{ClauseForm, clauses_of};
-use ps_float_pricing::{FloatGoal, Goal, Member, Relaxed};
 use ps_formula::World;
 use ps_io::NoMemory;
 use ps_problem::Problem;

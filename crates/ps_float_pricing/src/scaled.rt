@@ -6,7 +6,6 @@ use crate::goal::Goal;
 use crate::limits::LARGEST_WEIGHT;
 use crate::relaxed::Relaxed;
 use crate::wishes::wishes_of;
-use ps_float_pricing::{FloatGoal, Goal, Relaxed};
 use ps_formula::Node;
 use ps_io::NoMemory;
 use std::alloc::Global;

@@ -6,7 +6,6 @@ ghost use Rattle.ps_log.specs.declared.limits.TheConstants.{MOST_CONFLICTS};
 
 use crate::goal::Goal;
 use ps_clause::{ClauseForm, world_of};
-use ps_float_pricing::Goal;
 use ps_formula::World;
 use ps_io::NoMemory;
 use ps_log::HeldLog;

@@ -15,17 +15,17 @@ use Rattle.ps_simplex.specs.Rule.{IsFeasible}
 use Rattle.ps_runs.specs.Subjects.{Subject, program_of}
 use Rattle.ps_runs.specs.Runs.{Stage}
 use Rattle.ps_runs.proofs.Composed.{pivots_in-append, leads_on}
-use Rattle.ps_phases.specs.Tables.{stage_at, IsUnderWay}
+use Rattle.ps_phases.specs.Tables.{stage_at, IsUnderWay, standing}
 use Rattle.ps_phases.proofs.GoingOn.{begun}
-use Rattle.ps_generation.specs.declared.state.State.{State}
+use Rattle.ps_phases.specs.declared.state.State.{State}
 use Rattle.ps_generation.specs.declared.end.End.{End}
 use Rattle.ps_generation.specs.declared.end.End.TheVariants.{Feasible, NoneAbove, Open}
 use Rattle.ps_generation.specs.Phases.{LimitedSubject, IsInPhase, HasCome, IsOpenEnd, IsPendingEnd, IsEnd, IsLeft}
 use Rattle.ps_generation.specs.Rounds.{HasEntered, IsPhaseSettled, IsRound}
 
 pub way_on : (kind : ClaimKind) (s : Subject) (conflicts : ℕ) (from : Stage) (had : ℕ) (before : List Event) (pool : List World) (t : Tableau) (trace : List Event) (left : ℕ)
-    (more : List World) (u : Tableau) (longer : List Event) (now : ℕ) → IsUnderWay (program_of kind s) conflicts from had before pool t trace left
-    → IsUnderWay (program_of kind s) conflicts (stage_at pool t) left trace more u longer now → IsUnderWay (program_of kind s) conflicts from had before more u longer now
+    (more : List World) (u : Tableau) (longer : List Event) (now : ℕ) → IsUnderWay (program_of kind s) conflicts from had before (standing pool t trace left)
+    → IsUnderWay (program_of kind s) conflicts (stage_at pool t) left trace (standing more u longer now) → IsUnderWay (program_of kind s) conflicts from had before (standing more u longer now)
 way_on kind s conflicts from had before pool t trace left more u longer now a b = record {
   table = b.table;
   pool_kept = b.pool_kept;

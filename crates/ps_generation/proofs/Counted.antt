@@ -18,7 +18,7 @@ use Rattle.ps_runs.specs.Subjects.{Subject, setting_of, atoms_of}
 use Rattle.ps_runs.specs.Runs.{IsPool, pivots_in}
 use Rattle.ps_runs.proofs.Composed.{pivots_in-append}
 use Rattle.ps_phases.proofs.Shapes.{homes_count}
-use Rattle.ps_generation.specs.declared.state.State.{State}
+use Rattle.ps_phases.specs.declared.state.State.{State}
 use Rattle.ps_generation.specs.declared.end.End.{End}
 use Rattle.ps_generation.specs.declared.end.End.TheVariants.{Feasible, NoneAbove, Open}
 use Rattle.ps_generation.specs.Phases.{LimitedSubject, IsInPhase, HasCome, IsPendingEnd, IsEnd}

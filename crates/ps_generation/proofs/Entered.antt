@@ -24,7 +24,7 @@ use Rattle.ps_phases.proofs.GoingOn.{begun, priced_goes_on, priced_fresh}
 use Rattle.ps_phases.proofs.Licensing.{column_due}
 use Rattle.ps_phases.proofs.Progress.{moving_after}
 use Rattle.ps_phases.proofs.Ready.{ready_first, ready_lower, ready_upper}
-use Rattle.ps_generation.specs.declared.state.State.{State}
+use Rattle.ps_phases.specs.declared.state.State.{State}
 use Rattle.ps_generation.specs.declared.end.End.{End}
 use Rattle.ps_generation.specs.declared.end.End.TheVariants.{Open}
 use Rattle.ps_generation.specs.Phases.{LimitedSubject, stage_of, IsInPhase, HasCome, IsEnd, IsEndAt}

@@ -29,7 +29,7 @@ use Rattle.ps_phases.specs.Licences.{IsOutOfConflicts, IsTooWide}
 use Rattle.ps_phases.proofs.Licensing.{multiplier_due, dual_due}
 use Rattle.ps_phases.proofs.TableEnds.{dual_of_stage, spent_at_rest}
 use Rattle.ps_pricing.specs.Pricings.{IsFound, IsRefutedBy, IsSpent}
-use Rattle.ps_generation.specs.declared.state.State.{State}
+use Rattle.ps_phases.specs.declared.state.State.{State}
 use Rattle.ps_generation.specs.declared.end.End.{End}
 use Rattle.ps_generation.specs.declared.end.End.TheVariants.{NoneAbove, Open}
 use Rattle.ps_generation.specs.Phases.{LimitedSubject, stage_of, IsInPhase, IsEnd, IsEndAt}

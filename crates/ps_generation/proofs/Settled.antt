@@ -23,7 +23,7 @@ use Rattle.ps_runs.specs.Rows.{phase_of}
 use Rattle.ps_phases.specs.Tables.{costs_for}
 use Rattle.ps_phases.proofs.GoingOn.{begun, settled_goes_on}
 use Rattle.ps_phases.proofs.Licensing.{resting_there, moving_there, settling_due}
-use Rattle.ps_generation.specs.declared.state.State.{State}
+use Rattle.ps_phases.specs.declared.state.State.{State}
 use Rattle.ps_generation.specs.declared.end.End.{End}
 use Rattle.ps_generation.specs.declared.end.End.TheVariants.{Feasible, Open}
 use Rattle.ps_generation.specs.Phases.{LimitedSubject, stage_of, IsInPhase, HasCome, IsEnd, IsEndAt}

@@ -33,8 +33,8 @@ use Rattle.ps_runs.specs.Rows.{phase_of}
 use Rattle.ps_phases.specs.Tables.{costs_for, IsRunTable, stage_at, IsUnderWay}
 use Rattle.ps_phases.specs.Licences.{IsLicensed, IsColumnTooWide}
 use Rattle.ps_certificate.specs.Printed.{IsPrintedDual, IsPrintedCause}
-use Rattle.ps_generation.specs.declared.limits.Limits.{Limits}
-use Rattle.ps_generation.specs.declared.state.State.{State}
+use Rattle.ps_phases.specs.declared.limits.Limits.{Limits}
+use Rattle.ps_phases.specs.declared.state.State.{State}
 use Rattle.ps_generation.specs.declared.end.End.{End}
 use Rattle.ps_generation.specs.declared.end.End.TheVariants.{Feasible, NoneAbove, Open}
 
@@ -108,7 +108,7 @@ pub record IsNewState (r : LimitedSubject) (state : State) : Type 0 where
 
 -- a phase has come from one state to another, lawfully
 pub record HasCome (kind : ClaimKind) (r : LimitedSubject) (old new : State) : Type 0 where
-  pub way : IsUnderWay (program_of kind r.subject) r.limits.conflicts (stage_of old) old.left old.trace new.pool new.table new.trace new.left
+  pub way : IsUnderWay (program_of kind r.subject) r.limits.conflicts (stage_of old) old.left old.trace new
 
 -- ---- ends
 -- the table rests, the gain of its dual is above 0 in no world, and the steps refute that it is
@@ -123,14 +123,15 @@ pub record IsPendingEnd (kind : ClaimKind) (r : LimitedSubject) (old new : State
   pub trace : List Event
   pub world : World
   pub appended : new.trace ≡ trace ++ Priced world ∷ []
-  pub way : IsUnderWay (program_of kind r.subject) r.limits.conflicts (stage_of old) old.left old.trace new.pool new.table trace new.left
+  pub way : IsUnderWay (program_of kind r.subject) r.limits.conflicts (stage_of old) old.left old.trace
+      (record new { trace = trace })
   pub priced : IsPricedBy (program_of kind r.subject) r.limits.conflicts (stage_of new) (entry_at new.table) world
   pub wide : IsColumnTooWide (frame_of r.subject) (stage_of new) world at
 
 -- the phase is open where it has come to, by a licence
 pub record IsOpenEnd (kind : ClaimKind) (r : LimitedSubject) (old new : State) (cause : Cause) : Type 0 where
   pub come : HasCome kind r old new
-  pub licensed : IsLicensed (program_of kind r.subject) r.limits.pivots r.limits.conflicts (stage_of new) new.left None cause
+  pub licensed : IsLicensed (program_of kind r.subject) r.limits (stage_of new) new.left None cause
 
 -- why the phase is open: where it has come to, or with a pending world
 abbrev pub IsOpen : ClaimKind → LimitedSubject → State → State → Cause → Type 0
@@ -140,7 +141,8 @@ IsOpen kind r old new cause = IsOpenEnd kind r old new cause
 -- how a phase ends
 abbrev pub IsEnd : ClaimKind → LimitedSubject → State → State → End → Type 0
 IsEnd kind r old new Feasible = HasCome kind r old new × IsDueToEndIn (phase_of kind) new.table
-IsEnd kind r old new (NoneAbove d) = HasCome kind r old new × IsDualEnd (program_of kind r.subject) (stage_of new) (entry_at new.table) d
+IsEnd kind r old new (NoneAbove d) = HasCome kind r old new
+    × IsDualEnd (program_of kind r.subject) (stage_of new) (entry_at new.table) d
 IsEnd kind r old new (Open cause) = IsOpen kind r old new cause
 
 -- the end at a refusal: the phase is open for the number that is too wide; want of memory is no end

@@ -17,7 +17,7 @@ use Rattle.ps_runs.specs.Runs.{IsRestingAt, IsPricedBy}
 use Rattle.ps_phases.specs.Tables.{costs_for}
 use Rattle.ps_pricing.specs.Pricings.{PricingSubject}
 use Rattle.ps_generation.specs.declared.column.Column.{Column}
-use Rattle.ps_generation.specs.declared.state.State.{State}
+use Rattle.ps_phases.specs.declared.state.State.{State}
 use Rattle.ps_generation.specs.declared.end.End.{End}
 use Rattle.ps_generation.specs.Phases.{LimitedSubject, stage_of, HasCome, IsEnd}
 

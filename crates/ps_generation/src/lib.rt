@@ -4,16 +4,13 @@
 
 mod column;
 mod end;
-mod limits;
 mod phases;
 mod pricing;
 mod setting;
 mod settling;
 mod spreading;
-mod state;
 
 pub use end::End;
-pub use limits::Limits;
 pub use phases::run_phase;
+pub use ps_phases::{Limits, State};
 pub use setting::Setting;
-pub use state::State;

@@ -10,9 +10,9 @@ use crate::end::End;
 use crate::pricing::price_table;
 use crate::setting::Setting;
 use crate::settling::settle_phase;
-use crate::state::State;
 use ps_claims::ClaimKind;
 use ps_io::NoMemory;
+use ps_phases::State;
 use ps_table::Costs;
 use std::alloc::Global;
 

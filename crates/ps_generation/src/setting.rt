@@ -16,16 +16,14 @@ ghost use Rattle.ps_generation.specs.Phases.{AreLimits, IsNewState, IsSpread, li
 ghost use Rattle.ps_generation.specs.Rounds.{IsColumnOf, IsDualOver, pricing_subject_of};
 
 use crate::column::Column;
-use crate::limits::Limits;
 use crate::settling::phase_of;
 use crate::spreading::{flags_of, spread, with_rows};
-use crate::state::State;
 use ps_answer::Dual;
 use ps_claims::ClaimKind;
 use ps_ends::dual_of;
 use ps_formula::{World, eval};
 use ps_io::{List, NoMemory};
-use ps_phases::{column_of, costs_for, homes_of, world_cost};
+use ps_phases::{Limits, State, column_of, costs_for, homes_of, world_cost};
 use ps_pool::Pool;
 use ps_pricing::{Pricer, Pricing};
 use ps_problem::{Problem, Query};
@@ -45,7 +43,7 @@ pub struct Setting<'p> {
 
 impl<'p> Model for Setting<'p> {
     ghost use Rattle.std.specs.Prelude.{◌≡◌};
-    ghost use Rattle.ps_runs.specs.Runs.{IsAsked};
+    ghost use Rattle.ps_runs.specs.Subjects.{IsAsked};
     ghost use Rattle.ps_claims.specs.declared.claim_kind.ClaimKind.TheVariants.{Nothing};
     ghost use Rattle.ps_generation.specs.Phases.{LimitedSubject, AreLimits};
     ghost use Rattle.ps_generation.specs.Spreading.{IsKeptOf};

@@ -11,11 +11,11 @@ ghost use Rattle.ps_generation.specs.Rounds.{HasPivoted, IsPhaseSettled};
 
 use crate::end::{End, end_at};
 use crate::setting::Setting;
-use crate::state::State;
 use ps_answer::Cause;
 use ps_bland::{SettleError, Settled, settle};
 use ps_claims::ClaimKind;
 use ps_io::NoMemory;
+use ps_phases::State;
 use ps_simplex::Phase;
 use ps_table::Costs;
 

@@ -1,24 +1,19 @@
 -- What is known of a query.
 use Rattle.std.proofs.Common.{Option, Some, None, List, []}
 use Rattle.std.specs.Prelude.{IfSome}
-use Rattle.ps_frac.specs.declared.fraction.Fraction.{Fraction}
 use Rattle.ps_rational.specs.Rational.{Rational}
 use Rattle.ps_problem.specs.declared.query.Query.{Query}
 use Rattle.ps_problem.specs.Problems.{Parts}
 use Rattle.ps_pool.specs.declared.event.Event.{Event}
-use Rattle.ps_answer.specs.declared.answer.Cause.{Cause}
 use Rattle.ps_answer.specs.declared.answer.Dual.{Dual}
 use Rattle.ps_answer.specs.declared.answer.Model.{Model}
-use Rattle.ps_answer.specs.declared.answer.QueryPart.{QueryPart}
-use Rattle.ps_answer.specs.declared.answer.QueryAnswer.{QueryAnswer}
 use Rattle.ps_answer.specs.declared.answer.QueryAnswer.TheVariants as query
 use Rattle.ps_answer.specs.declared.answer.SideAnswer.{SideAnswer}
 use Rattle.ps_answer.specs.declared.answer.SideAnswer.TheVariants as side
-use Rattle.ps_answer.specs.declared.answer.Verdict.{Verdict}
 use Rattle.ps_answer.specs.declared.answer.Verdict.TheVariants.{Consistent, Inconsistent}
 use Rattle.ps_claims.specs.declared.claim_kind.ClaimKind.{ClaimKind}
 use Rattle.ps_claims.specs.declared.claim_kind.ClaimKind.TheVariants.{Lower, Upper}
-use Rattle.ps_generation.specs.declared.limits.Limits.{Limits}
+use Rattle.ps_phases.specs.declared.limits.Limits.{Limits}
 use Rattle.ps_query.specs.Parts.{IsPartOf, IsVerdictOf}
 use Rattle.ps_guided.specs.Solutions.{IsAnsweredPart, IsAnsweredVerdict}
 use Rattle.std.proofs.Common.{refl, inl}

@@ -24,7 +24,7 @@ use Rattle.ps_claims.proofs.Valid.{valid-right}
 use Rattle.ps_valid.specs.Answers.{answer_of, parts_of, side_of}
 use Rattle.ps_phases.specs.Verdicts.{asked_after}
 use Rattle.ps_certificate.specs.Printed.{IsPrintedAnswer, IsPrintedPart, IsPrintedSide}
-use Rattle.ps_generation.specs.declared.limits.Limits.{Limits}
+use Rattle.ps_phases.specs.declared.limits.Limits.{Limits}
 use Rattle.ps_generation.specs.Phases.{AreLimits}
 use Rattle.ps_reported.specs.Laws.{IsAnswered}
 use Rattle.ps_reported.specs.Settled.{IsClosed, IsCertifiedSide, IsSettledPart, IsSettledAnswer}
@@ -80,7 +80,7 @@ found_bounds limits p q lower upper l u = record {
 
 -- a run's own part
 pub run_part : (limits : Limits) (p : Parts) (q : Query) (part : QueryPart) → IsPartOf limits p q part → IsAnsweredPart limits p q part
-run_part limits p q part h = record { settled = lawful_settled p limits.pivots limits.conflicts q part h.lawful; valid = h.valid; printed = h.printed }
+run_part limits p q part h = record { settled = lawful_settled p limits q part h.lawful; valid = h.valid; printed = h.printed }
 
 -- both sides beside a run
 pub beside_bounds : (limits : Limits) (p : Parts) (q : Query) (run : QueryPart) (lower upper : SideAnswer) (lower_events upper_events : List Event) → IsPartOf limits p q run
@@ -128,7 +128,7 @@ only_upper limits p q upper cause first h u =
     (left_open limits p q cause first Lower h) (found_beside p q (query.Open cause) Upper upper u)
 
 -- ---- all parts
-settled_parts : (limits : Limits) (p : Parts) (qs : List Query) (parts : List QueryPart) → AllZip (IsAnsweredPart limits p) qs parts → AllZip (IsSettledPart p limits.pivots limits.conflicts) qs parts
+settled_parts : (limits : Limits) (p : Parts) (qs : List Query) (parts : List QueryPart) → AllZip (IsAnsweredPart limits p) qs parts → AllZip (IsSettledPart p limits) qs parts
 settled_parts limits p [] [] h = tt
 settled_parts limits p [] (x ∷ xs) h = h
 settled_parts limits p (q ∷ qs) [] h = h
@@ -157,7 +157,7 @@ module _ (limits : Limits) (p : Parts) (v : Verdict) (events : List Event) (part
     parts = subst (λ qs. AllZip (IsValidPart p) qs (parts_of parts)) (sym (asked_same v p.queries)) (valid_parts limits p (asked_after v p.queries) parts each);
   }
 
-  settled : IsSettledAnswer p limits.pivots limits.conflicts answer
+  settled : IsSettledAnswer p limits answer
   settled = record { verdict = is.settled; parts = settled_parts limits p (asked_after v p.queries) parts each }
 
   printed : IsPrintedAnswer answer
@@ -167,11 +167,11 @@ module _ (limits : Limits) (p : Parts) (v : Verdict) (events : List Event) (part
   solution are = record { valid = valid; right = valid-right p (answer_of answer) are valid; settled = settled; printed = printed }
 
   module _ (are : AreParts p) (within : AreLimits limits) where
-    answered : IsAnswered p limits.pivots limits.conflicts answer
+    answered : IsAnswered p limits answer
     answered = record { parts = are; few_pivots = within.pivots; few_conflicts = within.conflicts; settled = settled; valid = valid; printed = printed }
 
     pub short : AreShortLines answer
-    short = all_short p limits.pivots limits.conflicts answer answered
+    short = all_short p limits answer answered
 
     pub read_back : IsReadBack limits answer
-    read_back few = written_report answer (settled_counted p limits.pivots limits.conflicts answer settled) (all_within p limits.pivots limits.conflicts answer answered few)
+    read_back few = written_report answer (settled_counted p limits answer settled) (all_within p limits answer answered few)

@@ -9,7 +9,7 @@ use Rattle.ps_claims.specs.declared.claim_kind.ClaimKind.TheVariants.{Lower, Upp
 use Rattle.ps_valid.specs.Answers.{side_of}
 use Rattle.ps_claims.specs.Validity.{IsValidSide}
 use Rattle.ps_certificate.specs.Printed.{IsPrintedSide}
-use Rattle.ps_generation.specs.declared.limits.Limits.{Limits}
+use Rattle.ps_phases.specs.declared.limits.Limits.{Limits}
 use Rattle.ps_guess.specs.Trials.{IsFoundSide}
 use Rattle.ps_query.specs.Parts.{IsPartOf}
 use Rattle.ps_guided.specs.Solutions.{IsAnsweredPart}

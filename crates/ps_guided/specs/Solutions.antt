@@ -17,20 +17,20 @@ use Rattle.ps_claims.specs.Validity.{IsValid, IsValidPart, IsValidSide, IsValidV
 use Rattle.ps_valid.specs.Answers.{answer_of, part_of, side_of, verdict_of as claimed_verdict, IsRightOf}
 use Rattle.ps_phases.specs.Verdicts.{asked_after}
 use Rattle.ps_certificate.specs.Printed.{IsPrintedAnswer, IsPrintedPart, IsPrintedSide, IsPrintedVerdict}
-use Rattle.ps_generation.specs.declared.limits.Limits.{Limits}
+use Rattle.ps_phases.specs.declared.limits.Limits.{Limits}
 use Rattle.ps_guess.specs.Trials.{IsFoundSide}
 use Rattle.ps_query.specs.Parts.{IsPartOf}
 use Rattle.ps_reported.specs.Settled.{IsBesideRun, IsSettledVerdict, IsSettledPart, IsSettledAnswer}
 
 -- a verdict that is answered, with its events
 pub record IsAnsweredVerdict (limits : Limits) (p : Parts) (v : Verdict) (events : List Event) : Type 0 where
-  pub settled : IsSettledVerdict p limits.pivots limits.conflicts v events
+  pub settled : IsSettledVerdict p limits v events
   pub valid : IsValidVerdict p (claimed_verdict v)
   pub printed : IsPrintedVerdict v
 
 -- a part that is answered
 pub record IsAnsweredPart (limits : Limits) (p : Parts) (q : Query) (part : QueryPart) : Type 0 where
-  pub settled : IsSettledPart p limits.pivots limits.conflicts q part
+  pub settled : IsSettledPart p limits q part
   pub valid : IsValidPart p q (part_of part.answer)
   pub printed : IsPrintedPart part.answer
 
@@ -69,5 +69,5 @@ AreAnsweredParts limits p v parts = AllZip (IsAnsweredPart limits p) (asked_afte
 pub record IsSettledSolution (limits : Limits) (p : Parts) (a : Answer) : Type 0 where
   pub valid : IsValid p (answer_of a)
   pub right : IsRightOf p a
-  pub settled : IsSettledAnswer p limits.pivots limits.conflicts a
+  pub settled : IsSettledAnswer p limits a
   pub printed : IsPrintedAnswer a

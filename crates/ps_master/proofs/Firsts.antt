@@ -25,7 +25,7 @@ use Rattle.ps_phases.proofs.Shapes.{run_table}
 use Rattle.ps_phases.proofs.Licensing.{feasible_there}
 use Rattle.ps_phases.proofs.Ending.{ended, ended_pending}
 use Rattle.ps_ends.specs.Models.{IsTableModel}
-use Rattle.ps_generation.specs.declared.state.State.{State}
+use Rattle.ps_phases.specs.declared.state.State.{State}
 use Rattle.ps_generation.specs.Phases.{LimitedSubject, IsSpread, stage_of, HasCome, IsDualEnd, IsOpenEnd, IsPendingEnd, IsOpen, IsLeft}
 use Rattle.ps_master.specs.declared.first.First.{First}
 use Rattle.ps_master.specs.declared.first.First.TheVariants as first
@@ -36,19 +36,19 @@ use Rattle.ps_master.proofs.Ways.{own_way, one_more}
 
 module _ (r : LimitedSubject) (old new : State) (start : IsAtStart (run_of r old false)) where
   -- the way with as many pivots left at first as the limit says
-  from_start : (trace : List Event) (way : IsUnderWay (program_of Nothing r.subject) r.limits.conflicts (stage_of old) old.left old.trace new.pool new.table trace new.left)
-      → IsUnderWay (program_of Nothing r.subject) r.limits.conflicts (stage_of old) r.limits.pivots [] new.pool new.table way.events new.left
+  from_start : (trace : List Event) (way : IsUnderWay (program_of Nothing r.subject) r.limits.conflicts (stage_of old) old.left old.trace (record new { trace = trace }))
+      → IsUnderWay (program_of Nothing r.subject) r.limits.conflicts (stage_of old) r.limits.pivots [] (record new { trace = way.events })
   from_start trace way =
-      subst (λ had. IsUnderWay (program_of Nothing r.subject) r.limits.conflicts (stage_of old) had [] new.pool new.table way.events new.left) start.left
+      subst (λ had. IsUnderWay (program_of Nothing r.subject) r.limits.conflicts (stage_of old) had [] (record new { trace = way.events })) start.left
       (own_way Nothing r.subject r.limits.conflicts (stage_of old) old.left old.trace new.pool new.table trace new.left way)
 
-  answered : (come : HasCome Nothing r old new) (answer : First) → IsVerdictAt (program_of Nothing r.subject) r.limits.pivots r.limits.conflicts (stage_of new) new.left None (verdict_of (kept_first r.flags answer))
+  answered : (come : HasCome Nothing r old new) (answer : First) → IsVerdictAt (program_of Nothing r.subject) r.limits (stage_of new) new.left None (verdict_of (kept_first r.flags answer))
       → IsValidFirst r.subject (kept_first r.flags answer) → IsWholeFirst r answer → GoesOn (run_of r old false) (run_of r new false) come.way.events answer
       → IsPhaseOneAnswer (run_of r old false) (run_of r new false) answer
   answered come answer due valid whole on = record {
     events = come.way.events;
     traced = record { over = refl; appended = come.way.appended };
-    lawful = ended (program_of Nothing r.subject) r.limits.pivots r.limits.conflicts (stage_of old) new.pool new.table come.way.events new.left start.start (from_start new.trace come.way) (verdict_of (kept_first r.flags answer)) due;
+    lawful = ended (program_of Nothing r.subject) r.limits (stage_of old) new.pool new.table come.way.events new.left start.start (from_start new.trace come.way) (verdict_of (kept_first r.flags answer)) due;
     valid = valid;
     whole = whole;
     goes_on = on;
@@ -111,7 +111,7 @@ module _ (r : LimitedSubject) (old new : State) (start : IsAtStart (run_of r old
       appended = one_more Nothing r.subject r.limits.conflicts (stage_of old) old.left old.trace new.pool new.table end.trace new.left end.way new.trace (Priced end.world) end.appended;
     };
     lawful =
-        ended_pending (program_of Nothing r.subject) r.limits.pivots r.limits.conflicts (stage_of old) new.pool new.table end.way.events new.left start.start (from_start end.trace end.way) end.world at end.priced
+        ended_pending (program_of Nothing r.subject) r.limits (stage_of old) new.pool new.table end.way.events new.left start.start (from_start end.trace end.way) end.world at end.priced
         end.wide;
     valid = tt;
     whole = tt;

@@ -12,7 +12,7 @@ use Rattle.ps_runs.specs.Rows.{Setting, phase_of}
 use Rattle.ps_runs.specs.Subjects.{Subject, setting_of, frame_over}
 use Rattle.ps_phases.specs.Tables.{costs_for, IsRunTable}
 use Rattle.ps_phases.proofs.Ready.{lower_apart, upper_apart, ready_first, ready_lower, ready_upper}
-use Rattle.ps_generation.specs.declared.state.State.{State}
+use Rattle.ps_phases.specs.declared.state.State.{State}
 use Rattle.ps_generation.specs.Phases.{IsInPhase}
 use Rattle.ps_master.specs.States.{HasRunTable}
 

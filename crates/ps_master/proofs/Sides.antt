@@ -34,7 +34,7 @@ use Rattle.ps_phases.specs.Verdicts.{IsSideAt}
 use Rattle.ps_phases.proofs.Shapes.{run_table}
 use Rattle.ps_phases.proofs.Ending.{side_ended, side_pending}
 use Rattle.ps_ends.specs.Models.{IsTableModel}
-use Rattle.ps_generation.specs.declared.state.State.{State}
+use Rattle.ps_phases.specs.declared.state.State.{State}
 use Rattle.ps_generation.specs.Phases.{LimitedSubject, IsSpread, stage_of, HasCome, IsDualEnd, IsOpenEnd, IsPendingEnd, IsOpen, IsLeft}
 use Rattle.ps_master.specs.Runs.{IsSideAnswerOf, IsValidSide, IsWholeSide, kept_side}
 use Rattle.ps_master.specs.States.{run_of, IsBoundOf}
@@ -75,14 +75,14 @@ tight_so : (kind : ClaimKind) (p : Parts) (q : stored.Query) (g : Stage) (X : �
 tight_so kind p q g X value d apart h = tight_at_end kind p q g X value d apart h.numbers h.head h.table h.feasible h.pooled h.resting h.steps
 
 module _ (kind : ClaimKind) (r : LimitedSubject) (old new : State) (apart : kind ≢ Nothing) where
-  answered : (come : HasCome kind r old new) (answer : SideAnswer) → IsSideAt (program_of kind r.subject) r.limits.pivots r.limits.conflicts (stage_of new) new.left None (kept_side r.flags answer)
+  answered : (come : HasCome kind r old new) (answer : SideAnswer) → IsSideAt (program_of kind r.subject) r.limits (stage_of new) new.left None (kept_side r.flags answer)
       → ((q : stored.Query) → r.subject.query ≡ Some q → IsValidSide kind r.subject.parts q (kept_side r.flags answer)) → IsWholeSide kind r answer
       → IsSideAnswerOf kind (run_of r old false) (run_of r new false) answer
   answered come answer due valid whole = record {
     events = come.way.events;
     traced = record { over = refl; appended = come.way.appended };
     lawful =
-        side_ended (program_of kind r.subject) r.limits.pivots r.limits.conflicts (stage_of old) old.left new.pool new.table come.way.events new.left
+        side_ended (program_of kind r.subject) r.limits (stage_of old) old.left new.pool new.table come.way.events new.left
         (own_way kind r.subject r.limits.conflicts (stage_of old) old.left old.trace new.pool new.table new.trace new.left come.way) (kept_side r.flags answer) due;
     valid = valid;
     whole = whole;
@@ -112,7 +112,7 @@ module _ (kind : ClaimKind) (r : LimitedSubject) (old new : State) (apart : kind
     -- the value with its dual spread over all bounds
     module _ (f : Dual) (spread : IsSpread r d f) where
       due : (value : Rational) (m : Model) → IsTableModel new.table new.pool m → HasValueHead value (dual_of d)
-          → IsSideAt (program_of kind r.subject) r.limits.pivots r.limits.conflicts (stage_of new) new.left None (side.Bound value m d)
+          → IsSideAt (program_of kind r.subject) r.limits (stage_of new) new.left None (side.Bound value m d)
       due value m is head = (
         refl,
         models.model_at r.subject new.pool new.table left.table m (models.feasible_at r.subject new.pool new.table left.table (left.feasible apart)) is,
@@ -126,7 +126,7 @@ module _ (kind : ClaimKind) (r : LimitedSubject) (old new : State) (apart : kind
       bound : (value : Rational) (m : Model) → IsTableModel new.table new.pool m → HasValueHead value (dual_of d) → IsSideAnswerOf kind (run_of r old false) (run_of r new false) (side.Bound value m f)
       bound value m is head =
           answered come (side.Bound value m f)
-          (subst (λ (x : Dual). IsSideAt (program_of kind r.subject) r.limits.pivots r.limits.conflicts (stage_of new) new.left None (side.Bound value m x)) (sym spread.numbers) (due value m is head))
+          (subst (λ (x : Dual). IsSideAt (program_of kind r.subject) r.limits (stage_of new) new.left None (side.Bound value m x)) (sym spread.numbers) (due value m is head))
           (λ q e. subst (λ (x : Dual). IsValidSide kind r.subject.parts q (side.Bound value m x)) (sym spread.numbers)
           (subst (λ n. ShowsTight r.subject.parts kind q value n (dual_of d)) (sym (models.is_table_model r.subject new.pool new.table left.table m is)) (tight value head q e)))
           (record { others = spread.others; refuted = spread.refuted kind refuted })
@@ -154,7 +154,7 @@ module _ (kind : ClaimKind) (r : LimitedSubject) (old new : State) (apart : kind
       appended = one_more kind r.subject r.limits.conflicts (stage_of old) old.left old.trace new.pool new.table end.trace new.left end.way new.trace (Priced end.world) end.appended;
     };
     lawful =
-        side_pending (program_of kind r.subject) r.limits.pivots r.limits.conflicts (stage_of old) old.left new.pool new.table end.way.events new.left
+        side_pending (program_of kind r.subject) r.limits (stage_of old) old.left new.pool new.table end.way.events new.left
         (own_way kind r.subject r.limits.conflicts (stage_of old) old.left old.trace new.pool new.table end.trace new.left end.way) end.world at end.priced end.wide;
     valid = λ q e. tt;
     whole = tt;

@@ -25,7 +25,7 @@ use Rattle.ps_certificate.specs.Certificates.{model_of, dual_of}
 use Rattle.ps_phases.specs.Tables.{stage_at}
 use Rattle.ps_phases.specs.Verdicts.{IsLawfulPhaseOne, IsLawfulSide}
 use Rattle.ps_certificate.specs.Printed.{IsPrintedVerdict}
-use Rattle.ps_generation.specs.declared.limits.Limits.{Limits}
+use Rattle.ps_phases.specs.declared.limits.Limits.{Limits}
 use Rattle.ps_generation.specs.Counts.{AppendsFewPivots}
 use Rattle.ps_generation.specs.Phases.{LimitedSubject, limited, kept_dual}
 use Rattle.ps_master.specs.declared.first.First.{First}
@@ -129,7 +129,7 @@ GoesOn old new events (first.Open cause) = Unit {0}
 pub record IsPhaseOneAnswer (old new : RunState) (answer : First) : Type 0 where
   pub events : List Event
   pub traced : HasTraced old new events
-  pub lawful : IsLawfulPhaseOne (program_of Nothing old.over.subject) old.over.limits.pivots old.over.limits.conflicts
+  pub lawful : IsLawfulPhaseOne (program_of Nothing old.over.subject) old.over.limits
       (verdict_of (kept_first old.over.flags answer)) events
   pub valid : IsValidFirst old.over.subject (kept_first old.over.flags answer)
   pub whole : IsWholeFirst old.over answer
@@ -159,7 +159,7 @@ IsValidSide kind p q (side.Open cause) = Unit {0}
 pub record IsSideAnswerOf (kind : ClaimKind) (old new : RunState) (answer : SideAnswer) : Type 0 where
   pub events : List Event
   pub traced : HasTraced old new events
-  pub lawful : IsLawfulSide (program_of kind old.over.subject) old.over.limits.pivots old.over.limits.conflicts (stage_of old)
+  pub lawful : IsLawfulSide (program_of kind old.over.subject) old.over.limits (stage_of old)
       old.left (stage_of new) new.left (kept_side old.over.flags answer) events
   pub valid : (q : Query) → old.over.subject.query ≡ Some q
       → IsValidSide kind old.over.subject.parts q (kept_side old.over.flags answer)

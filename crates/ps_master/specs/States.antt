@@ -18,7 +18,7 @@ use Rattle.ps_runs.specs.Runs.{IsPool}
 use Rattle.ps_certificate.specs.Certificates.{dual_of}
 use Rattle.ps_phases.specs.Tables.{IsRunTable}
 use Rattle.ps_ends.specs.Models.{IsTableModel}
-use Rattle.ps_generation.specs.declared.state.State.{State}
+use Rattle.ps_phases.specs.declared.state.State.{State}
 use Rattle.ps_generation.specs.Phases.{AreLimits, LimitedSubject}
 use Rattle.ps_master.specs.declared.first.First.{First}
 use Rattle.ps_master.specs.Runs.{RunState, IsPhaseOneAnswer, IsSideAnswerOf}

@@ -1,5 +1,6 @@
 -- Where there is no query the verdict is the whole answer.
-use Rattle.std.proofs.Common.{◌≡◌, ℕ, List, [], sym, subst}
+use Rattle.ps_phases.specs.declared.limits.Limits.{Limits}
+use Rattle.std.proofs.Common.{◌≡◌, List, [], sym, subst}
 use Rattle.std.specs.List.{AllZip}
 use Rattle.ps_problem.specs.Problems.{Parts}
 use Rattle.ps_pool.specs.declared.event.Event.{Event}
@@ -10,16 +11,16 @@ use Rattle.ps_claims.specs.Duals.{Dual}
 use Rattle.ps_claims.specs.Validity.{IsValidVerdict, IsValidPart, IsValid}
 use Rattle.ps_phases.specs.Verdicts.{IsLawfulVerdict, IsLawfulPart, IsLawfulAnswer, asked_after}
 
-no_parts : (p : Parts) (pivots conflicts : ℕ) (v : Verdict) → AllZip (IsLawfulPart p pivots conflicts) (asked_after v []) []
-no_parts p pivots conflicts (Consistent m) = tt
-no_parts p pivots conflicts (Inconsistent d) = tt
-no_parts p pivots conflicts (Open cause) = tt
+no_parts : (p : Parts) (limits : Limits) (v : Verdict) → AllZip (IsLawfulPart p limits) (asked_after v []) []
+no_parts p limits (Consistent m) = tt
+no_parts p limits (Inconsistent d) = tt
+no_parts p limits (Open cause) = tt
 
-pub lawful_alone : (p : Parts) (pivots conflicts : ℕ) (v : Verdict) (events : List Event) → p.queries ≡ [] → IsLawfulVerdict p pivots conflicts v events
-    → IsLawfulAnswer p pivots conflicts (record { verdict = v; first = events; parts = [] })
-lawful_alone p pivots conflicts v events e h = record {
+pub lawful_alone : (p : Parts) (limits : Limits) (v : Verdict) (events : List Event) → p.queries ≡ [] → IsLawfulVerdict p limits v events
+    → IsLawfulAnswer p limits (record { verdict = v; first = events; parts = [] })
+lawful_alone p limits v events e h = record {
   verdict = h;
-  parts = subst (λ qs. AllZip (IsLawfulPart p pivots conflicts) (asked_after v qs) []) (sym e) (no_parts p pivots conflicts v);
+  parts = subst (λ qs. AllZip (IsLawfulPart p limits) (asked_after v qs) []) (sym e) (no_parts p limits v);
 }
 
 no_claims : (p : Parts) (v : claimed.Verdict Dual) → AllZip (IsValidPart p) (claimed.asked_under v []) []

@@ -19,7 +19,7 @@ use Rattle.ps_runs.specs.Subjects.{Subject, setting_of, atoms_of, frame_of, prog
 use Rattle.ps_runs.specs.Runs.{Stage, IsPool, gain_at, IsPricedBy, LeadsTo, still, priced, LeadsToPending, pending}
 use Rattle.ps_runs.proofs.Composed.{pivots_in-append, leads_on}
 use Rattle.ps_runs.proofs.Pricing.{priced_is_new}
-use Rattle.ps_phases.specs.Tables.{costs_for, IsRunTable, stage_at, IsUnderWay}
+use Rattle.ps_phases.specs.Tables.{costs_for, IsRunTable, stage_at, IsUnderWay, standing}
 use Rattle.ps_phases.proofs.Shapes.{run_table}
 use Rattle.ps_phases.proofs.Adding.{added_world}
 use Rattle.ps_phases.proofs.Settling.{LedBy, settled_leads}
@@ -31,7 +31,7 @@ settled_table kind s conflicts pool t u events run led tableau values = record {
 
 module _ (p : Program) (conflicts : ℕ) where
   pub begun : (pool : List World) (t : Tableau) (trace : List Event) (left : ℕ) → IsRunTable p.frame pool t → IsPool p.atoms pool
-      → IsUnderWay p conflicts (stage_at pool t) left trace pool t trace left
+      → IsUnderWay p conflicts (stage_at pool t) left trace (standing pool t trace left)
   begun pool t trace left run pooled = record {
     table = run;
     pool_kept = pooled;
@@ -43,16 +43,16 @@ module _ (p : Program) (conflicts : ℕ) where
 
   -- a world whose column is refused is pending
   pub priced_pends : (from : Stage) (had : ℕ) (before : List Event) (pool : List World) (t : Tableau) (trace : List Event) (left : ℕ) (w : World)
-      → (way : IsUnderWay p conflicts from had before pool t trace left)
+      → (way : IsUnderWay p conflicts from had before (standing pool t trace left))
       → IsPricedBy p conflicts (stage_at pool t) (entry_at t) w
       → LeadsToPending p conflicts from (way.events ++ Priced w ∷ []) (Some w) (stage_at pool t)
   priced_pends from had before pool t trace left w way is = pending from (stage_at pool t) way.events w way.leads (record { table = entry_at t; priced = is })
 
 module _ (kind : ClaimKind) (s : Subject) (conflicts : ℕ) where
   pub settled_goes_on : (from : Stage) (had : ℕ) (before : List Event) (pool : List World) (t u : Tableau) (trace longer : List Event) (left now : ℕ)
-      → IsUnderWay (program_of kind s) conflicts from had before pool t trace left
+      → IsUnderWay (program_of kind s) conflicts from had before (standing pool t trace left)
       → bland.Ran (phase_of kind) (costs_for kind (setting_of s) pool) t u trace longer left now → IsTableau u → HasNoNegativeValue u
-      → IsUnderWay (program_of kind s) conflicts from had before pool u longer now
+      → IsUnderWay (program_of kind s) conflicts from had before (standing pool u longer now)
   settled_goes_on from had before pool t u trace longer left now way ran tableau values =
       let led : LedBy kind s conflicts pool t ran.events u = settled_leads kind s conflicts pool t ran.events u way.table.kinds way.table.worlds way.table.stands ran.run in
       record {
@@ -85,10 +85,10 @@ module _ (kind : ClaimKind) (s : Subject) (conflicts : ℕ) where
   priced_fresh pool t w (suc i) run is e = priced_apart pool t w run is i (slice_get_within pool i w e) (get_or_from_slice_get pool i w [] e)
 
   pub priced_goes_on : (from : Stage) (had : ℕ) (before : List Event) (pool : List World) (t u : Tableau) (trace : List Event) (left : ℕ) (w : World)
-      → IsUnderWay (program_of kind s) conflicts from had before pool t trace left
+      → IsUnderWay (program_of kind s) conflicts from had before (standing pool t trace left)
       → IsPricedBy (program_of kind s) conflicts (stage_at pool t) (entry_at t) w
       → IsAdded (entries_of (setting_of s) w) t u → ExtendsSystem (entries_of (setting_of s) w) t u → IsTableau u
-      → IsUnderWay (program_of kind s) conflicts from had before (pool ++ w ∷ []) u (trace ++ Priced w ∷ []) left
+      → IsUnderWay (program_of kind s) conflicts from had before (standing (pool ++ w ∷ []) u (trace ++ Priced w ∷ []) left)
   priced_goes_on from had before pool t u trace left w way is added stands tableau = record {
     table = added_world (setting_of s) pool w t way.table u added stands tableau;
     pool_kept = record {

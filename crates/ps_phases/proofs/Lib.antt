@@ -12,4 +12,4 @@ pub mod Counted
 pub mod TableEnds
 pub mod Alone
 pub mod Reached
-pub mod Limits
+pub mod EnoughPivots

@@ -1,5 +1,5 @@
 -- Columns, homes and costs by the truth values of nodes are those of the setting.
-use Rattle.std.proofs.Common.{◌≡◌, ℕ, ℤ, pos, neg_ℤ, ◌-ℤ◌, ◌*ℤ◌, Bool, true, false, cond, Option, Some, None, List, [], ◌∷◌, map, All, refl, ap, ◌∙◌}
+use Rattle.std.proofs.Common.{◌≡◌, ℕ, pos, neg_ℤ, ◌-ℤ◌, ◌*ℤ◌, Bool, true, false, cond, Option, Some, None, List, [], ◌∷◌, map, All, refl, ap, ◌∙◌}
 use Rattle.std.proofs.lemmas.List.Elements.{All-head, All-tail}
 use Rattle.ps_meaning.specs.declared.side.Side.{Side}
 use Rattle.ps_meaning.specs.declared.side.Side.TheVariants.{AtLeast, AtMost, Exactly}

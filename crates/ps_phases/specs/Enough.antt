@@ -11,6 +11,7 @@ use Rattle.ps_answer.specs.declared.answer.SideAnswer.TheVariants as side
 use Rattle.ps_answer.specs.declared.answer.QueryAnswer.{QueryAnswer}
 use Rattle.ps_answer.specs.declared.answer.QueryAnswer.TheVariants as query
 use Rattle.ps_answer.specs.declared.answer.Answer.{Answer}
+use Rattle.ps_phases.specs.declared.limits.Limits.{Limits}
 use Rattle.ps_runs.specs.Rows.{rows_of}
 use Rattle.ps_runs.specs.Subjects.{Subject, sentences_of, setting_of, atoms_of}
 use Rattle.ps_phases.specs.Verdicts.{IsLawfulAnswer}
@@ -19,13 +20,9 @@ use Rattle.ps_phases.specs.Verdicts.{IsLawfulAnswer}
 abbrev pub ways_in : Subject → ℕ
 ways_in s = choose (rows_of (setting_of s) + 2 ^ atoms_of s + 1) (rows_of (setting_of s) + 1)
 
--- more pivots than a run makes: three times these, since phase one and each side make fewer
-abbrev pub enough_in : Subject → ℕ
-enough_in s = 3 * ways_in s
-
--- a limit of at least so many pivots is enough
+-- a limit of at least three times these pivots is enough, since phase one and each side make fewer
 abbrev pub IsEnough : Subject → ℕ → Type 0
-IsEnough s pivots = enough_in s ≤ pivots
+IsEnough s pivots = 3 * ways_in s ≤ pivots
 
 -- ---- causes other than the limit of pivots
 -- the cause is another than the limit of pivots
@@ -59,5 +56,5 @@ pub record HasNoPivotsCause (a : Answer) : Type 0 where
 -- ---- the law
 -- with such a limit no part of a lawful answer is open for pivots
 abbrev pub LimitsAreEnough : Type 0
-LimitsAreEnough = (p : Parts) (pivots conflicts : ℕ) (a : Answer) → IsEnough (sentences_of p) pivots
-    → IsLawfulAnswer p pivots conflicts a → HasNoPivotsCause a
+LimitsAreEnough = (p : Parts) (limits : Limits) (a : Answer) → IsEnough (sentences_of p) limits.pivots
+    → IsLawfulAnswer p limits a → HasNoPivotsCause a

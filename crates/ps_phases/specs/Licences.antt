@@ -14,6 +14,7 @@ use Rattle.ps_table.specs.Places.{CostPlace, MultiplierPlace, WeightPlace, NewPl
 use Rattle.ps_bland.specs.DuePlaces.{DuePlace}
 use Rattle.ps_answer.specs.declared.answer.Cause.{Cause}
 use Rattle.ps_answer.specs.declared.answer.Cause.TheVariants.{Pivots, Conflicts, Wide}
+use Rattle.ps_phases.specs.declared.limits.Limits.{Limits}
 use Rattle.ps_runs.specs.Searches.{IsSpentSearch}
 use Rattle.ps_runs.specs.Programs.{Frame, Program, goal_at_least}
 use Rattle.ps_runs.specs.Runs.{Stage, table_at, costs_at, dual_at}
@@ -72,10 +73,10 @@ pub record IsColumnTooWide (f : Frame) (g : Stage) (world : World) (at : WideAt)
   pub wide : IsWideAt (NewPlace f.rows table (f.entries world)) at
 
 -- why a phase may be open at a stage, with so many pivots left, and perhaps a pending world
-abbrev pub IsLicensed : Program → ℕ → ℕ → Stage → ℕ → Option World → Cause → Type 0
-IsLicensed p pivots conflicts g left None (Pivots limit) = IsOutOfPivots p pivots g left limit
-IsLicensed p pivots conflicts g left None (Conflicts limit goal steps) = IsOutOfConflicts p conflicts g limit goal steps
-IsLicensed p pivots conflicts g left None (Wide at) = IsTooWide p g left at
-IsLicensed p pivots conflicts g left (Some world) (Pivots limit) = ⊥
-IsLicensed p pivots conflicts g left (Some world) (Conflicts limit goal steps) = ⊥
-IsLicensed p pivots conflicts g left (Some world) (Wide at) = IsColumnTooWide p.frame g world at
+abbrev pub IsLicensed : Program → Limits → Stage → ℕ → Option World → Cause → Type 0
+IsLicensed p limits g left None (Pivots limit) = IsOutOfPivots p limits.pivots g left limit
+IsLicensed p limits g left None (Conflicts limit goal steps) = IsOutOfConflicts p limits.conflicts g limit goal steps
+IsLicensed p limits g left None (Wide at) = IsTooWide p g left at
+IsLicensed p limits g left (Some world) (Pivots limit) = ⊥
+IsLicensed p limits g left (Some world) (Conflicts limit goal steps) = ⊥
+IsLicensed p limits g left (Some world) (Wide at) = IsColumnTooWide p.frame g world at

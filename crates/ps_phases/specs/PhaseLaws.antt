@@ -36,6 +36,7 @@ use Rattle.ps_claims.specs.Answers as claimed
 use Rattle.ps_claims.specs.Answers.{Model}
 use Rattle.ps_claims.specs.Validity.{IsValidVerdict, IsValid}
 use Rattle.ps_claims.specs.Duals.{Dual}
+use Rattle.ps_phases.specs.declared.limits.Limits.{Limits}
 use Rattle.ps_runs.specs.Certificates.{HaveSameNumbers, table_dual, weighted_worlds, table_model}
 use Rattle.ps_runs.specs.Searches.{IsSpentSearch}
 use Rattle.ps_runs.specs.Rows.{Setting, phase_of, world_cost, table_of, entries_of, IsTable}
@@ -46,7 +47,7 @@ use Rattle.ps_runs.specs.Subjects.{frame_over, frame_of, program_of}
 use Rattle.ps_runs.specs.Runs.{Stage, table_at, dual_at, IsStart, IsPool, IsMovingAt, IsRestingAt, IsFeasibleAt}
 use Rattle.ps_runs.specs.Runs.{IsPricedBy, LeadsToPending}
 use Rattle.ps_runs.specs.Rows.{homes_of}
-use Rattle.ps_phases.specs.Tables.{costs_for, IsRunTable, stage_at, IsUnderWay}
+use Rattle.ps_phases.specs.Tables.{costs_for, IsRunTable, stage_at, IsUnderWay, standing}
 use Rattle.ps_phases.specs.Licences.{IsModelDue, IsOutOfConflicts, IsTooWide, IsColumnTooWide}
 use Rattle.ps_phases.specs.Verdicts.{IsVerdictAt, IsLawfulPhaseOne, IsLawfulVerdict, IsSideAt, IsLawfulSide, IsLawfulAnswer}
 
@@ -63,7 +64,8 @@ pub record NewTablesStart : Type 0 where
 pub record RunTablesAreReady : Type 0 where
   pub same : (s : Setting) (pool : List World) (t : Tableau) → IsRunTable (frame_over s) pool t
       → simplex_of t ≡ table_of s pool (basic_at t) (entry_at t)
-  pub table : (s : Setting) (pool : List World) (t : Tableau) → IsRunTable (frame_over s) pool t → IsTable s pool (basic_at t) (entry_at t)
+  pub table : (s : Setting) (pool : List World) (t : Tableau) → IsRunTable (frame_over s) pool t
+      → IsTable s pool (basic_at t) (entry_at t)
   pub first : (s : Setting) (pool : List World) (t : Tableau) → IsRunTable (frame_over s) pool t
       → IsReady (phase_of Nothing) (costs_for Nothing s pool) t
   pub lower : (s : Setting) (pool : List World) (t : Tableau) → IsRunTable (frame_over s) pool t → IsFeasible (simplex_of t)
@@ -75,24 +77,27 @@ pub record RunTablesAreReady : Type 0 where
 -- pool, and has a pending world where its column is refused
 pub record PhasesGoOn : Type 0 where
   pub begun : (p : Program) (conflicts : ℕ) (pool : List World) (t : Tableau) (trace : List Event) (left : ℕ)
-      → IsRunTable p.frame pool t → IsPool p.atoms pool → IsUnderWay p conflicts (stage_at pool t) left trace pool t trace left
+      → IsRunTable p.frame pool t → IsPool p.atoms pool
+      → IsUnderWay p conflicts (stage_at pool t) left trace (standing pool t trace left)
   pub settled : (kind : ClaimKind) (s : Subject) (conflicts : ℕ) (from : Stage) (had : ℕ) (before : List Event)
       (pool : List World)
-      (t u : Tableau) (trace longer : List Event) (left now : ℕ) → IsUnderWay (program_of kind s) conflicts from had before pool t trace left
+      (t u : Tableau) (trace longer : List Event) (left now : ℕ)
+      → IsUnderWay (program_of kind s) conflicts from had before (standing pool t trace left)
       → bland.Ran (phase_of kind) (costs_for kind (setting_of s) pool) t u trace longer left now → IsTableau u
       → HasNoNegativeValue u
-      → IsUnderWay (program_of kind s) conflicts from had before pool u longer now
+      → IsUnderWay (program_of kind s) conflicts from had before (standing pool u longer now)
   pub fresh : (kind : ClaimKind) (s : Subject) (conflicts : ℕ) (pool : List World) (t : Tableau) (w : World) (number : ℕ)
       → IsRunTable (frame_of s) pool t → IsPricedBy (program_of kind s) conflicts (stage_at pool t) (entry_at t) w
       → HasNumber pool w number → ⊥
   pub priced : (kind : ClaimKind) (s : Subject) (conflicts : ℕ) (from : Stage) (had : ℕ) (before : List Event) (pool : List World)
-      (t u : Tableau) (trace : List Event) (left : ℕ) (w : World) → IsUnderWay (program_of kind s) conflicts from had before pool t trace left
+      (t u : Tableau) (trace : List Event) (left : ℕ) (w : World)
+      → IsUnderWay (program_of kind s) conflicts from had before (standing pool t trace left)
       → IsPricedBy (program_of kind s) conflicts (stage_at pool t) (entry_at t) w
       → IsAdded (entries_of (setting_of s) w) t u → ExtendsSystem (entries_of (setting_of s) w) t u → IsTableau u
-      → IsUnderWay (program_of kind s) conflicts from had before (pool ++ w ∷ []) u (trace ++ Priced w ∷ []) left
+      → IsUnderWay (program_of kind s) conflicts from had before (standing (pool ++ w ∷ []) u (trace ++ Priced w ∷ []) left)
   pub pends : (p : Program) (conflicts : ℕ) (from : Stage) (had : ℕ) (before : List Event) (pool : List World)
       (t : Tableau) (trace : List Event) (left : ℕ) (w : World)
-      (way : IsUnderWay p conflicts from had before pool t trace left)
+      (way : IsUnderWay p conflicts from had before (standing pool t trace left))
       → IsPricedBy p conflicts (stage_at pool t) (entry_at t) w
       → LeadsToPending p conflicts from (way.events ++ Priced w ∷ []) (Some w) (stage_at pool t)
 
@@ -126,7 +131,8 @@ pub record SettledStages : Type 0 where
 pub record RefusalsAreLicensed : Type 0 where
   pub settling : (s : Subject) (pool : List World) (t : Tableau) → IsRunTable (frame_of s) pool t
       → (kind : ClaimKind) (left : ℕ) (w : WideAt)
-      → IsDueWide (phase_of kind) (costs_for kind (setting_of s) pool) t left w → IsTooWide (program_of kind s) (stage_at pool t) left w
+      → IsDueWide (phase_of kind) (costs_for kind (setting_of s) pool) t left w
+      → IsTooWide (program_of kind s) (stage_at pool t) left w
   pub multiplier : (s : Subject) (pool : List World) (t : Tableau) → IsRunTable (frame_of s) pool t
       → (kind : ClaimKind) (left i : ℕ) (w : WideAt)
       → IsRestingAt (program_of kind s) (stage_at pool t) (entry_at t) → i < table_rows t
@@ -139,7 +145,8 @@ pub record RefusalsAreLicensed : Type 0 where
       → IsTooWide (program_of kind s) (stage_at pool t) left w
   pub model : (s : Subject) (pool : List World) (t : Tableau) → IsRunTable (frame_of s) pool t
       → (kind : ClaimKind) (left : ℕ) (w : WideAt)
-      → IsModelDue (program_of kind s) (stage_at pool t) (entry_at t) → IsWideAt (WeightPlace (table_rows t) (basic_at t) (entry_at t)) w
+      → IsModelDue (program_of kind s) (stage_at pool t) (entry_at t)
+      → IsWideAt (WeightPlace (table_rows t) (basic_at t) (entry_at t)) w
       → IsTooWide (program_of kind s) (stage_at pool t) left w
   pub column : (s : Subject) (pool : List World) (t : Tableau) → IsRunTable (frame_of s) pool t → (world : World) (w : WideAt)
       → IsWideAt (NewPlaces t (entries_of (setting_of s) world)) w → IsColumnTooWide (frame_of s) (stage_at pool t) world w
@@ -147,29 +154,29 @@ pub record RefusalsAreLicensed : Type 0 where
 -- where phase one is under way from the start, an answer that is due there is lawful, and so is one that a pending
 -- world leaves open
 pub record PhaseOneEndsLawfully : Type 0 where
-  pub ended : (p : Program) (pivots conflicts : ℕ) (from : Stage) (pool : List World) (t : Tableau)
+  pub ended : (p : Program) (limits : Limits) (from : Stage) (pool : List World) (t : Tableau)
       (trace : List Event) (left : ℕ)
-      → IsStart p.frame from → IsUnderWay p conflicts from pivots [] pool t trace left
-      → (answer : Verdict) → IsVerdictAt p pivots conflicts (stage_at pool t) left None answer
-      → IsLawfulPhaseOne p pivots conflicts answer trace
-  pub pending : (p : Program) (pivots conflicts : ℕ) (from : Stage) (pool : List World) (t : Tableau)
+      → IsStart p.frame from → IsUnderWay p limits.conflicts from limits.pivots [] (standing pool t trace left)
+      → (answer : Verdict) → IsVerdictAt p limits (stage_at pool t) left None answer
+      → IsLawfulPhaseOne p limits answer trace
+  pub pending : (p : Program) (limits : Limits) (from : Stage) (pool : List World) (t : Tableau)
       (trace : List Event) (left : ℕ)
-      → IsStart p.frame from → IsUnderWay p conflicts from pivots [] pool t trace left
-      → (w : World) (at : WideAt) → IsPricedBy p conflicts (stage_at pool t) (entry_at t) w
+      → IsStart p.frame from → IsUnderWay p limits.conflicts from limits.pivots [] (standing pool t trace left)
+      → (w : World) (at : WideAt) → IsPricedBy p limits.conflicts (stage_at pool t) (entry_at t) w
       → IsColumnTooWide p.frame (stage_at pool t) w at
-      → IsLawfulPhaseOne p pivots conflicts (Open (Wide at)) (trace ++ Priced w ∷ [])
+      → IsLawfulPhaseOne p limits (Open (Wide at)) (trace ++ Priced w ∷ [])
 
 -- where a side is under way, an answer that is due there is lawful, and so is one that a pending world leaves open
 pub record SidesEndLawfully : Type 0 where
-  pub ended : (p : Program) (pivots conflicts : ℕ) (from : Stage) (had : ℕ) (pool : List World) (t : Tableau)
-      (trace : List Event) (left : ℕ) → IsUnderWay p conflicts from had [] pool t trace left
-      → (answer : SideAnswer) → IsSideAt p pivots conflicts (stage_at pool t) left None answer
-      → IsLawfulSide p pivots conflicts from had (stage_at pool t) left answer trace
-  pub pending : (p : Program) (pivots conflicts : ℕ) (from : Stage) (had : ℕ) (pool : List World) (t : Tableau)
-      (trace : List Event) (left : ℕ) → IsUnderWay p conflicts from had [] pool t trace left
-      → (w : World) (at : WideAt) → IsPricedBy p conflicts (stage_at pool t) (entry_at t) w
+  pub ended : (p : Program) (limits : Limits) (from : Stage) (had : ℕ) (pool : List World) (t : Tableau)
+      (trace : List Event) (left : ℕ) → IsUnderWay p limits.conflicts from had [] (standing pool t trace left)
+      → (answer : SideAnswer) → IsSideAt p limits (stage_at pool t) left None answer
+      → IsLawfulSide p limits from had (stage_at pool t) left answer trace
+  pub pending : (p : Program) (limits : Limits) (from : Stage) (had : ℕ) (pool : List World) (t : Tableau)
+      (trace : List Event) (left : ℕ) → IsUnderWay p limits.conflicts from had [] (standing pool t trace left)
+      → (w : World) (at : WideAt) → IsPricedBy p limits.conflicts (stage_at pool t) (entry_at t) w
       → IsColumnTooWide p.frame (stage_at pool t) w at
-      → IsLawfulSide p pivots conflicts from had (stage_at pool t) left (side.Open (Wide at)) (trace ++ Priced w ∷ [])
+      → IsLawfulSide p limits from had (stage_at pool t) left (side.Open (Wide at)) (trace ++ Priced w ∷ [])
 
 -- the costs over a pool with one world more are those over the pool, and behind them the world's
 abbrev pub CostsGrow : Type 0
@@ -196,7 +203,7 @@ pub record NodesGiveTheSetting : Type 0 where
 
 -- a lawful answer holds as many steps as their limit in each part that is open for conflicts
 abbrev pub LawfulAnswersAreCounted : Type 0
-LawfulAnswersAreCounted = (p : Parts) (pivots conflicts : ℕ) (a : Answer) → IsLawfulAnswer p pivots conflicts a
+LawfulAnswersAreCounted = (p : Parts) (limits : Limits) (a : Answer) → IsLawfulAnswer p limits a
     → IsAnswerCounted a
 
 -- in a run's table no column is basic in two rows; the dual and the model that are made of it are those of its stage; and a spent
@@ -221,8 +228,8 @@ pub record TablesGiveTheirStage : Type 0 where
 
 -- where there is no query, a verdict that is lawful, or valid, is the whole of an answer that is so
 pub record VerdictsAreAnswers : Type 0 where
-  pub lawful : (p : Parts) (pivots conflicts : ℕ) (v : Verdict) (events : List Event) → p.queries ≡ []
-      → IsLawfulVerdict p pivots conflicts v events
-      → IsLawfulAnswer p pivots conflicts (record { verdict = v; first = events; parts = [] })
+  pub lawful : (p : Parts) (limits : Limits) (v : Verdict) (events : List Event) → p.queries ≡ []
+      → IsLawfulVerdict p limits v events
+      → IsLawfulAnswer p limits (record { verdict = v; first = events; parts = [] })
   pub valid : (p : Parts) (v : claimed.Verdict Dual) → p.queries ≡ [] → IsValidVerdict p v
       → IsValid p (record { verdict = v; parts = [] })

@@ -7,6 +7,7 @@ use Rattle.ps_table.specs.Tableau.{Tableau, IsTableau, IsTableFor, basic_at}
 use Rattle.ps_bland.specs.Ready.{HasNoNegativeValue}
 use Rattle.ps_claims.specs.declared.claim_kind.ClaimKind.{ClaimKind}
 use Rattle.ps_runs.specs.Rows.{Setting, artificial_rows, home_cost, world_cost}
+use Rattle.ps_phases.specs.declared.state.State.{State}
 use Rattle.ps_runs.specs.Programs.{Frame, Program}
 use Rattle.ps_runs.specs.Runs.{Stage, IsPool, LeadsTo, pivots_in}
 
@@ -22,16 +23,19 @@ pub record IsRunTable (f : Frame) (pool : List World) (t : Tableau) : Type 0 whe
   pub stands : IsTableFor (f.system pool).columns t
   pub values : HasNoNegativeValue t
 
+-- where a run stands: its table, the worlds of its columns, the events that were not yet taken, and how many pivots are left
+abbrev pub standing : List World → Tableau → List Event → ℕ → State
+standing pool t trace left = record { table = t; pool = pool; trace = trace; left = left }
+
 -- the stage at which a table stands
 abbrev pub stage_at : List World → Tableau → Stage
 stage_at pool t = record { pool = pool; basis = basic_at t }
 
--- a phase is under way: behind these events others have led from a stage, with so many pivots left there, to this pool and table
-pub record IsUnderWay (p : Program) (conflicts : ℕ) (from : Stage) (had : ℕ) (before : List Event)
-    (pool : List World) (t : Tableau) (trace : List Event) (left : ℕ) : Type 0 where
-  pub table : IsRunTable p.frame pool t
-  pub pool_kept : IsPool p.atoms pool
+-- a phase is under way: behind these events others have led from a stage, with so many pivots left there, to where the run stands
+pub record IsUnderWay (p : Program) (conflicts : ℕ) (from : Stage) (had : ℕ) (before : List Event) (now : State) : Type 0 where
+  pub table : IsRunTable p.frame now.pool now.table
+  pub pool_kept : IsPool p.atoms now.pool
   pub events : List Event
-  pub appended : trace ≡ before ++ events
-  pub leads : LeadsTo p conflicts from events (stage_at pool t)
-  pub counted : left + pivots_in events ≡ had
+  pub appended : now.trace ≡ before ++ events
+  pub leads : LeadsTo p conflicts from events (stage_at now.pool now.table)
+  pub counted : now.left + pivots_in events ≡ had

@@ -16,6 +16,7 @@ use Rattle.ps_answer.specs.declared.answer.QueryPart.{QueryPart}
 use Rattle.ps_answer.specs.declared.answer.Answer.{Answer}
 use Rattle.ps_claims.specs.declared.claim_kind.ClaimKind.TheVariants.{Nothing, Lower, Upper}
 use Rattle.ps_claims.specs.Duals.{HasValueHead}
+use Rattle.ps_phases.specs.declared.limits.Limits.{Limits}
 use Rattle.ps_runs.specs.Programs.{Program}
 use Rattle.ps_runs.specs.Subjects.{Subject, subject_of, sentences_of, frame_of, program_of}
 use Rattle.ps_runs.specs.Runs.{Stage, IsStart, LeadsTo}
@@ -24,68 +25,68 @@ use Rattle.ps_certificate.specs.Certificates.{model_of, dual_of}
 use Rattle.ps_phases.specs.Licences.{IsLicensed}
 
 -- what phase one answers at a stage
-abbrev pub IsVerdictAt : Program → ℕ → ℕ → Stage → ℕ → Option World → Verdict → Type 0
-IsVerdictAt p pivots conflicts g left pending (Consistent m) = (pending ≡ None) × IsModelAt p.frame g (model_of m)
-IsVerdictAt p pivots conflicts g left pending (Inconsistent d) = (pending ≡ None) × IsDualAt p g (dual_of d)
-IsVerdictAt p pivots conflicts g left pending (Open cause) = IsLicensed p pivots conflicts g left pending cause
+abbrev pub IsVerdictAt : Program → Limits → Stage → ℕ → Option World → Verdict → Type 0
+IsVerdictAt p limits g left pending (Consistent m) = (pending ≡ None) × IsModelAt p.frame g (model_of m)
+IsVerdictAt p limits g left pending (Inconsistent d) = (pending ≡ None) × IsDualAt p g (dual_of d)
+IsVerdictAt p limits g left pending (Open cause) = IsLicensed p limits g left pending cause
 
 -- the events of phase one lead from the homes, within the limit of pivots, to where this is its answer
-pub record IsLawfulPhaseOne (p : Program) (pivots conflicts : ℕ) (answer : Verdict) (events : List Event) : Type 0 where
+pub record IsLawfulPhaseOne (p : Program) (limits : Limits) (answer : Verdict) (events : List Event) : Type 0 where
   pub start : Stage
   pub starts : IsStart p.frame start
   pub end : Stage
   pub left : ℕ
   pub pending : Option World
-  pub leads : LeadsToPending p conflicts start events pending end
-  pub counted : left + pivots_in events ≡ pivots
-  pub answered : IsVerdictAt p pivots conflicts end left pending answer
+  pub leads : LeadsToPending p limits.conflicts start events pending end
+  pub counted : left + pivots_in events ≡ limits.pivots
+  pub answered : IsVerdictAt p limits end left pending answer
 
 -- the verdict on a problem's sentences is that of a run without a query
-abbrev pub IsLawfulVerdict : Parts → ℕ → ℕ → Verdict → List Event → Type 0
-IsLawfulVerdict p pivots conflicts verdict events = IsLawfulPhaseOne (program_of Nothing (sentences_of p)) pivots conflicts verdict events
+abbrev pub IsLawfulVerdict : Parts → Limits → Verdict → List Event → Type 0
+IsLawfulVerdict p limits verdict events = IsLawfulPhaseOne (program_of Nothing (sentences_of p)) limits verdict events
 
 -- what a side answers at a stage
-abbrev pub IsSideAt : Program → ℕ → ℕ → Stage → ℕ → Option World → SideAnswer → Type 0
-IsSideAt p pivots conflicts g left pending (side.Bound value m d) =
+abbrev pub IsSideAt : Program → Limits → Stage → ℕ → Option World → SideAnswer → Type 0
+IsSideAt p limits g left pending (side.Bound value m d) =
     (pending ≡ None) × IsModelAt p.frame g (model_of m) × IsDualAt p g (dual_of d) × HasValueHead value (dual_of d)
-IsSideAt p pivots conflicts g left pending (side.Open cause) = IsLicensed p pivots conflicts g left pending cause
+IsSideAt p limits g left pending (side.Open cause) = IsLicensed p limits g left pending cause
 
 -- the events of a side lead from one stage, with so many pivots left, to another where this is its answer
-pub record IsLawfulSide (p : Program) (pivots conflicts : ℕ) (a : Stage) (had : ℕ) (b : Stage) (left : ℕ)
+pub record IsLawfulSide (p : Program) (limits : Limits) (a : Stage) (had : ℕ) (b : Stage) (left : ℕ)
     (answer : SideAnswer) (events : List Event) : Type 0 where
   pub pending : Option World
-  pub leads : LeadsToPending p conflicts a events pending b
+  pub leads : LeadsToPending p limits.conflicts a events pending b
   pub counted : left + pivots_in events ≡ had
-  pub answered : IsSideAt p pivots conflicts b left pending answer
+  pub answered : IsSideAt p limits b left pending answer
 
 -- phase one is over at a feasible table, and both sides go on from there, the upper one from where the lower one ended
-pub record AreLawfulBounds (s : Subject) (pivots conflicts : ℕ) (first : List Event) (lower : SideAnswer)
+pub record AreLawfulBounds (s : Subject) (limits : Limits) (first : List Event) (lower : SideAnswer)
     (lower_events : List Event) (upper : SideAnswer) (upper_events : List Event) : Type 0 where
   pub start : Stage
   pub starts : IsStart (frame_of s) start
   pub after_first : Stage
   pub left_first : ℕ
-  pub leads : LeadsTo (program_of Nothing s) conflicts start first after_first
-  pub counted : left_first + pivots_in first ≡ pivots
+  pub leads : LeadsTo (program_of Nothing s) limits.conflicts start first after_first
+  pub counted : left_first + pivots_in first ≡ limits.pivots
   pub table : ℕ → ℕ → Rational
   pub feasible : IsFeasibleAt (frame_of s) after_first table
   pub after_lower : Stage
   pub left_lower : ℕ
-  pub least : IsLawfulSide (program_of Lower s) pivots conflicts after_first left_first after_lower left_lower lower lower_events
+  pub least : IsLawfulSide (program_of Lower s) limits after_first left_first after_lower left_lower lower lower_events
   pub end : Stage
   pub left : ℕ
-  pub greatest : IsLawfulSide (program_of Upper s) pivots conflicts after_lower left_lower end left upper upper_events
+  pub greatest : IsLawfulSide (program_of Upper s) limits after_lower left_lower end left upper upper_events
 
 -- what is answered to a query is what its run leads to; where it is open or impossible, phase one says so
-abbrev pub IsLawfulAnswerTo : Subject → ℕ → ℕ → List Event → QueryAnswer → Type 0
-IsLawfulAnswerTo s pivots conflicts first (query.Bounds lower lower_events upper upper_events) =
-    AreLawfulBounds s pivots conflicts first lower lower_events upper upper_events
-IsLawfulAnswerTo s pivots conflicts first (query.Impossible d) = IsLawfulPhaseOne (program_of Nothing s) pivots conflicts (Inconsistent d) first
-IsLawfulAnswerTo s pivots conflicts first (query.Open cause) = IsLawfulPhaseOne (program_of Nothing s) pivots conflicts (Open cause) first
+abbrev pub IsLawfulAnswerTo : Subject → Limits → List Event → QueryAnswer → Type 0
+IsLawfulAnswerTo s limits first (query.Bounds lower lower_events upper upper_events) =
+    AreLawfulBounds s limits first lower lower_events upper upper_events
+IsLawfulAnswerTo s limits first (query.Impossible d) = IsLawfulPhaseOne (program_of Nothing s) limits (Inconsistent d) first
+IsLawfulAnswerTo s limits first (query.Open cause) = IsLawfulPhaseOne (program_of Nothing s) limits (Open cause) first
 
 -- each query has a run of its own
-abbrev pub IsLawfulPart : Parts → ℕ → ℕ → Query → QueryPart → Type 0
-IsLawfulPart p pivots conflicts q part = IsLawfulAnswerTo (subject_of p q) pivots conflicts part.first part.answer
+abbrev pub IsLawfulPart : Parts → Limits → Query → QueryPart → Type 0
+IsLawfulPart p limits q part = IsLawfulAnswerTo (subject_of p q) limits part.first part.answer
 
 -- the queries that are gone into: each where the verdict is consistent, else none
 abbrev pub asked_after : Verdict → List Query → List Query
@@ -94,6 +95,6 @@ asked_after (Inconsistent d) qs = []
 asked_after (Open cause) qs = []
 
 -- the runs of an answer are lawful, and what is open is licensed
-pub record IsLawfulAnswer (p : Parts) (pivots conflicts : ℕ) (a : Answer) : Type 0 where
-  pub verdict : IsLawfulVerdict p pivots conflicts a.verdict a.first
-  pub parts : AllZip (IsLawfulPart p pivots conflicts) (asked_after a.verdict p.queries) a.parts
+pub record IsLawfulAnswer (p : Parts) (limits : Limits) (a : Answer) : Type 0 where
+  pub verdict : IsLawfulVerdict p limits a.verdict a.first
+  pub parts : AllZip (IsLawfulPart p limits) (asked_after a.verdict p.queries) a.parts

@@ -8,13 +8,17 @@
 mod column;
 mod costs;
 mod homes;
+mod limits;
 mod phase_laws;
 mod pivot_limit;
+mod state;
 #[cfg(test)]
 mod tests;
 
 pub use column::column_of;
 pub use costs::{costs_for, world_cost, world_in};
 pub use homes::homes_of;
+pub use limits::Limits;
 pub use phase_laws::{lawful_ends, licences, node_columns, phases_go_on, run_tables};
 pub use pivot_limit::enough;
+pub use state::State;

@@ -63,7 +63,8 @@ pub record IsCutAbove (kind : ClaimKind) (a : PricingSubject) (d : Dual) (found 
   pub least : ℤ
   pub above : found <ℤ least
   pub steps : List Step
-  pub spent : IsSpentSearch (form_of a.subject.parts.nodes) (goal_at_least least (program_of kind a.subject) (dual_of d)) a.conflicts steps
+  pub spent : IsSpentSearch (form_of a.subject.parts.nodes)
+      (goal_at_least least (program_of kind a.subject) (dual_of d)) a.conflicts steps
 
 -- in the world the combination is at least 1, and it is greater in none, unless a search for a greater one was spent
 pub record IsFound (kind : ClaimKind) (a : PricingSubject) (d : Dual) (w : World) : Type 0 where
@@ -79,7 +80,8 @@ pub record IsRefutedBy (kind : ClaimKind) (s : Subject) (d e : Dual) : Type 0 wh
 -- the search for a combination of at least 1 was spent
 pub record IsSpent (kind : ClaimKind) (a : PricingSubject) (d : Dual) (goal : Constraint) (steps : List Step) : Type 0 where
   pub goal_is : goal ≡ goal_at_least (pos 1) (program_of kind a.subject) (dual_of d)
-  pub search : IsSpentSearch (form_of a.subject.parts.nodes) (goal_at_least (pos 1) (program_of kind a.subject) (dual_of d)) a.conflicts steps
+  pub search : IsSpentSearch (form_of a.subject.parts.nodes)
+      (goal_at_least (pos 1) (program_of kind a.subject) (dual_of d)) a.conflicts steps
 
 -- what the pricing of a dual ends with: a world that is found, its refutation, or a search that was spent
 abbrev pub IsPricing : ClaimKind → PricingSubject → Dual → Pricing → Type 0

@@ -18,7 +18,7 @@ use Rattle.ps_answer.proofs.WrittenItems.{written_report}
 use Rattle.ps_phases.proofs.Counted.{answer_counted}
 use Rattle.ps_phases.specs.Verdicts.{IsLawfulPart, IsLawfulPhaseOne, IsLawfulVerdict, asked_after}
 use Rattle.ps_certificate.specs.Printed.{IsPrintedAnswer, IsPrintedPart}
-use Rattle.ps_generation.specs.declared.limits.Limits.{Limits}
+use Rattle.ps_phases.specs.declared.limits.Limits.{Limits}
 use Rattle.ps_generation.specs.Phases.{AreLimits, LimitedSubject}
 use Rattle.ps_reported.specs.Laws.{IsAnswered}
 use Rattle.ps_reported.proofs.LawfulAnswers.{answer_settled}
@@ -44,8 +44,8 @@ is_verdict limits p new done answer is_new of printed =
     let all : AreAllKept new.over.flags = subst (λ (o : LimitedSubject). AreAllKept o.flags) (sym is_new.over) is_new.all in
     record {
       lawful =
-          subst (λ es. IsLawfulVerdict p limits.pivots limits.conflicts (verdict_of answer) es) (sym events)
-          (subst (λ (o : LimitedSubject). IsLawfulPhaseOne (program_of Nothing o.subject) o.limits.pivots o.limits.conflicts (verdict_of answer) of.events) is_new.over (lawful_whole new done answer all of));
+          subst (λ es. IsLawfulVerdict p limits (verdict_of answer) es) (sym events)
+          (subst (λ (o : LimitedSubject). IsLawfulPhaseOne (program_of Nothing o.subject) o.limits (verdict_of answer) of.events) is_new.over (lawful_whole new done answer all of));
       valid = valid_first p answer (subst (λ (o : LimitedSubject). IsValidFirst o.subject answer) is_new.over (valid_whole new done answer all of));
       printed = printed;
     }
@@ -55,7 +55,7 @@ pub same_verdict : (limits : Limits) (p : Parts) (v w : Verdict) (events same : 
 same_verdict limits p v w events same e es h = subst (λ x. IsVerdictOf limits p x events) (sym e) (subst (λ x. IsVerdictOf limits p w x) (sym es) h)
 
 -- ---- the parts
-lawful_parts : (limits : Limits) (p : Parts) (qs : List Query) (parts : List QueryPart) → AllZip (IsPartOf limits p) qs parts → AllZip (IsLawfulPart p limits.pivots limits.conflicts) qs parts
+lawful_parts : (limits : Limits) (p : Parts) (qs : List Query) (parts : List QueryPart) → AllZip (IsPartOf limits p) qs parts → AllZip (IsLawfulPart p limits) qs parts
 lawful_parts limits p [] [] h = tt
 lawful_parts limits p [] (x ∷ xs) h = h
 lawful_parts limits p (q ∷ qs) [] h = h
@@ -95,18 +95,18 @@ module _ (limits : Limits) (p : Parts) (v : Verdict) (events : List Event) (part
   }
 
   module _ (are : AreParts p) (within : AreLimits limits) where
-    answered : IsAnswered p limits.pivots limits.conflicts answer
+    answered : IsAnswered p limits answer
     answered = record {
       parts = are;
       few_pivots = within.pivots;
       few_conflicts = within.conflicts;
-      settled = answer_settled p limits.pivots limits.conflicts answer (solution are).lawful;
+      settled = answer_settled p limits answer (solution are).lawful;
       valid = valid;
       printed = printed;
     }
 
     pub short : AreShortLines answer
-    short = all_short p limits.pivots limits.conflicts answer answered
+    short = all_short p limits answer answered
 
     pub read_back : IsReadBack limits answer
-    read_back few = written_report answer (answer_counted p limits.pivots limits.conflicts answer (solution are).lawful) (all_within p limits.pivots limits.conflicts answer answered few)
+    read_back few = written_report answer (answer_counted p limits answer (solution are).lawful) (all_within p limits answer answered few)

@@ -20,7 +20,7 @@ use Rattle.ps_runs.proofs.Kept.{rows-all}
 use Rattle.ps_certificate.specs.Certificates.{dual_of}
 use Rattle.ps_phases.specs.Verdicts.{IsLawfulPhaseOne, IsLawfulSide, IsLawfulAnswerTo, AreLawfulBounds}
 use Rattle.ps_certificate.specs.Printed.{IsPrintedPart}
-use Rattle.ps_generation.specs.declared.limits.Limits.{Limits}
+use Rattle.ps_phases.specs.declared.limits.Limits.{Limits}
 use Rattle.ps_generation.specs.Phases.{LimitedSubject}
 use Rattle.ps_master.specs.declared.first.First.{First}
 use Rattle.ps_master.specs.declared.first.First.TheVariants as first
@@ -44,9 +44,9 @@ first_whole over (first.Nothing d) all whole = ap (λ (ys : List ℤ). first.Not
 first_whole over (first.Open cause) all whole = refl
 
 module _ (new done : RunState) (answer : First) (all : AreAllKept new.over.flags) (of : IsPhaseOneAnswer new done answer) where
-  pub lawful_whole : IsLawfulPhaseOne (program_of Nothing new.over.subject) new.over.limits.pivots new.over.limits.conflicts (verdict_of answer) of.events
+  pub lawful_whole : IsLawfulPhaseOne (program_of Nothing new.over.subject) new.over.limits (verdict_of answer) of.events
   lawful_whole =
-      subst (λ (a : First). IsLawfulPhaseOne (program_of Nothing new.over.subject) new.over.limits.pivots new.over.limits.conflicts (verdict_of a) of.events) (first_whole new.over answer all of.whole) of.lawful
+      subst (λ (a : First). IsLawfulPhaseOne (program_of Nothing new.over.subject) new.over.limits (verdict_of a) of.events) (first_whole new.over answer all of.whole) of.lawful
 
   pub valid_whole : IsValidFirst new.over.subject answer
   valid_whole = subst (λ (a : First). IsValidFirst new.over.subject a) (first_whole new.over answer all of.whole) of.valid
@@ -64,7 +64,7 @@ module _ (r low mid up : RunState) (lower upper : SideAnswer) (none : r.trace �
 
   -- an upper side from a run in which so much is left, over this
   abbrev Greatest : RunState → LimitedSubject → List Event → Type 0
-  Greatest from over events = IsLawfulSide (program_of Upper over.subject) over.limits.pivots over.limits.conflicts (stage_of from) from.left (stage_of up) up.left (kept_side over.flags upper) events
+  Greatest from over events = IsLawfulSide (program_of Upper over.subject) over.limits (stage_of from) from.left (stage_of up) up.left (kept_side over.flags upper) events
 
   greatest : Greatest low r.over up.trace
   greatest =
@@ -76,7 +76,7 @@ module _ (r low mid up : RunState) (lower upper : SideAnswer) (none : r.trace �
     after_lower = stage_of low;
     left_lower = low.left;
     least =
-        subst (λ es. IsLawfulSide (program_of Lower r.over.subject) r.over.limits.pivots r.over.limits.conflicts (stage_of r) r.left (stage_of low) low.left (kept_side r.over.flags lower) es) (sym lower_events) below.lawful;
+        subst (λ es. IsLawfulSide (program_of Lower r.over.subject) r.over.limits (stage_of r) r.left (stage_of low) low.left (kept_side r.over.flags lower) es) (sym lower_events) below.lawful;
     end = stage_of up;
     left = up.left;
     greatest = greatest;
@@ -110,14 +110,14 @@ module _ (limits : Limits) (p : Parts) (q : Query) (new done : RunState) (is_new
   all_kept = subst (λ (o : LimitedSubject). AreAllKept o.flags) (sym over_is) is_new.all
 
   abbrev Lawful : LimitedSubject → QueryAnswer → List Event → Type 0
-  Lawful o answer events = IsLawfulAnswerTo o.subject o.limits.pivots o.limits.conflicts events answer
+  Lawful o answer events = IsLawfulAnswerTo o.subject o.limits events answer
 
   pub part_impossible : (d : Dual) → IsPhaseOneAnswer new done (first.Nothing d) → IsPrintedPart (query.Impossible d)
       → IsPartOf limits p q (record { answer = query.Impossible d; first = done.trace })
   part_impossible d of printed =
       let events : done.trace ≡ of.events = traced_alone new.trace of.events done.trace is_new.trace of.traced.appended in
       record {
-        lawful = subst (λ es. IsLawfulAnswerTo (subject_of p q) limits.pivots limits.conflicts es (query.Impossible d)) (sym events) (subst (λ o. Lawful o (query.Impossible d) of.events) over_is (lawful_whole new done (first.Nothing d) all_kept of));
+        lawful = subst (λ es. IsLawfulAnswerTo (subject_of p q) limits es (query.Impossible d)) (sym events) (subst (λ o. Lawful o (query.Impossible d) of.events) over_is (lawful_whole new done (first.Nothing d) all_kept of));
         valid = subst (λ (o : LimitedSubject). claims.ShowsNothing o.subject.parts (given_in o.subject.query) (dual_of d)) over_is (valid_whole new done (first.Nothing d) all_kept of);
         printed = printed;
       }
@@ -127,7 +127,7 @@ module _ (limits : Limits) (p : Parts) (q : Query) (new done : RunState) (is_new
   part_open cause of printed =
       let events : done.trace ≡ of.events = traced_alone new.trace of.events done.trace is_new.trace of.traced.appended in
       record {
-        lawful = subst (λ es. IsLawfulAnswerTo (subject_of p q) limits.pivots limits.conflicts es (query.Open cause)) (sym events) (subst (λ o. Lawful o (query.Open cause) of.events) over_is of.lawful);
+        lawful = subst (λ es. IsLawfulAnswerTo (subject_of p q) limits es (query.Open cause)) (sym events) (subst (λ o. Lawful o (query.Open cause) of.events) over_is of.lawful);
         valid = tt;
         printed = printed;
       }
@@ -151,7 +151,7 @@ module _ (limits : Limits) (p : Parts) (q : Query) (new done : RunState) (is_new
     upper_is h = side_whole Upper done.over upper all_done h.whole_upper
 
     lawful_bounds : AreSidesOf (taken_from done) lower lower_events upper upper_events
-        → AreLawfulBounds new.over.subject new.over.limits.pivots new.over.limits.conflicts of.events lower lower_events upper upper_events
+        → AreLawfulBounds new.over.subject new.over.limits of.events lower lower_events upper upper_events
     lawful_bounds h = record {
       start = stage_of new;
       starts = is_new.start.start;
@@ -163,12 +163,12 @@ module _ (limits : Limits) (p : Parts) (q : Query) (new done : RunState) (is_new
       feasible = of.goes_on.feasible;
       after_lower = h.after_lower;
       left_lower = h.left_lower;
-      least = subst (λ (o : LimitedSubject). IsLawfulSide (program_of Lower o.subject) o.limits.pivots o.limits.conflicts (stage_of done) done.left h.after_lower h.left_lower lower lower_events) of.traced.over
-          (subst (λ (a : SideAnswer). IsLawfulSide (program_of Lower done.over.subject) done.over.limits.pivots done.over.limits.conflicts (stage_of done) done.left h.after_lower h.left_lower a lower_events) (lower_is h) h.least);
+      least = subst (λ (o : LimitedSubject). IsLawfulSide (program_of Lower o.subject) o.limits (stage_of done) done.left h.after_lower h.left_lower lower lower_events) of.traced.over
+          (subst (λ (a : SideAnswer). IsLawfulSide (program_of Lower done.over.subject) done.over.limits (stage_of done) done.left h.after_lower h.left_lower a lower_events) (lower_is h) h.least);
       end = h.end;
       left = h.left;
-      greatest = subst (λ (o : LimitedSubject). IsLawfulSide (program_of Upper o.subject) o.limits.pivots o.limits.conflicts h.after_lower h.left_lower h.end h.left upper upper_events) of.traced.over
-          (subst (λ (a : SideAnswer). IsLawfulSide (program_of Upper done.over.subject) done.over.limits.pivots done.over.limits.conflicts h.after_lower h.left_lower h.end h.left a upper_events) (upper_is h) h.greatest);
+      greatest = subst (λ (o : LimitedSubject). IsLawfulSide (program_of Upper o.subject) o.limits h.after_lower h.left_lower h.end h.left upper upper_events) of.traced.over
+          (subst (λ (a : SideAnswer). IsLawfulSide (program_of Upper done.over.subject) done.over.limits h.after_lower h.left_lower h.end h.left a upper_events) (upper_is h) h.greatest);
     }
 
     pub part_bounds : AreSidesOf on lower lower_events upper upper_events → IsPrintedPart (query.Bounds lower lower_events upper upper_events)
@@ -179,8 +179,8 @@ module _ (limits : Limits) (p : Parts) (q : Query) (new done : RunState) (is_new
         let asked : done.over.subject.query ≡ Some q = ap (λ (o : LimitedSubject). o.subject.query) over_done in
         record {
           lawful =
-              subst (λ es. AreLawfulBounds (subject_of p q) limits.pivots limits.conflicts es lower lower_events upper upper_events) (sym events)
-              (subst (λ (o : LimitedSubject). AreLawfulBounds o.subject o.limits.pivots o.limits.conflicts of.events lower lower_events upper upper_events) over_is (lawful_bounds h));
+              subst (λ es. AreLawfulBounds (subject_of p q) limits es lower lower_events upper upper_events) (sym events)
+              (subst (λ (o : LimitedSubject). AreLawfulBounds o.subject o.limits of.events lower lower_events upper upper_events) over_is (lawful_bounds h));
           valid = (
             valid_side Lower p q lower (subst (λ (o : LimitedSubject). IsValidSide Lower o.subject.parts q lower) over_done
                 (subst (λ (a : SideAnswer). IsValidSide Lower done.over.subject.parts q a) (lower_is h) (h.valid_lower q asked))),

@@ -17,7 +17,7 @@ use Rattle.ps_runs.specs.Subjects.{program_of}
 use Rattle.ps_runs.specs.Runs.{Stage}
 use Rattle.ps_phases.specs.Verdicts.{IsLawfulSide, IsLawfulVerdict, IsLawfulPart, asked_after}
 use Rattle.ps_certificate.specs.Printed.{IsPrintedPart, IsPrintedVerdict}
-use Rattle.ps_generation.specs.declared.limits.Limits.{Limits}
+use Rattle.ps_phases.specs.declared.limits.Limits.{Limits}
 use Rattle.ps_master.specs.declared.first.First.{First}
 use Rattle.ps_master.specs.declared.first.First.TheVariants as first
 use Rattle.ps_master.specs.Runs.{RunState, stage_of, IsAtStart, IsReached, IsValidSide, IsWholeSide, kept_side}
@@ -35,11 +35,11 @@ pub record AreSidesOf (r : RunState) (lower : SideAnswer) (lower_events : List E
     (upper_events : List Event) : Type 0 where
   pub after_lower : Stage
   pub left_lower : ℕ
-  pub least : IsLawfulSide (program_of Lower r.over.subject) r.over.limits.pivots r.over.limits.conflicts (stage_of r) r.left
+  pub least : IsLawfulSide (program_of Lower r.over.subject) r.over.limits (stage_of r) r.left
       after_lower left_lower (kept_side r.over.flags lower) lower_events
   pub end : Stage
   pub left : ℕ
-  pub greatest : IsLawfulSide (program_of Upper r.over.subject) r.over.limits.pivots r.over.limits.conflicts after_lower left_lower
+  pub greatest : IsLawfulSide (program_of Upper r.over.subject) r.over.limits after_lower left_lower
       end left (kept_side r.over.flags upper) upper_events
   pub valid_lower : (q : Query) → r.over.subject.query ≡ Some q
       → IsValidSide Lower r.over.subject.parts q (kept_side r.over.flags lower)
@@ -68,13 +68,13 @@ IsBehind r (first.Open cause) answer = answer ≡ query.Open cause
 
 -- the verdict, from a run without a query
 pub record IsVerdictOf (limits : Limits) (p : Parts) (verdict : Verdict) (first : List Event) : Type 0 where
-  pub lawful : IsLawfulVerdict p limits.pivots limits.conflicts verdict first
+  pub lawful : IsLawfulVerdict p limits verdict first
   pub valid : IsValidVerdict p (claimed_verdict verdict)
   pub printed : IsPrintedVerdict verdict
 
 -- the answer to a query, from a run of its own
 pub record IsPartOf (limits : Limits) (p : Parts) (q : Query) (part : QueryPart) : Type 0 where
-  pub lawful : IsLawfulPart p limits.pivots limits.conflicts q part
+  pub lawful : IsLawfulPart p limits q part
   pub valid : IsValidPart p q (part_of part.answer)
   pub printed : IsPrintedPart part.answer
 

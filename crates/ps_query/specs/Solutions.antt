@@ -9,7 +9,7 @@ use Rattle.ps_claims.specs.Validity.{IsValid}
 use Rattle.ps_valid.specs.Answers.{answer_of, IsRightOf}
 use Rattle.ps_phases.specs.Verdicts.{IsLawfulAnswer}
 use Rattle.ps_certificate.specs.Printed.{IsPrintedAnswer}
-use Rattle.ps_generation.specs.declared.limits.Limits.{Limits}
+use Rattle.ps_phases.specs.declared.limits.Limits.{Limits}
 use Rattle.ps_reported.specs.Laws.{NamesFewWorlds}
 pub use Rattle.ps_reported.specs.Laws.{AreShortLines}
 
@@ -18,7 +18,7 @@ pub use Rattle.ps_reported.specs.Laws.{AreShortLines}
 pub record IsSolution (limits : Limits) (p : Parts) (a : Answer) : Type 0 where
   pub valid : IsValid p (answer_of a)
   pub right : IsRightOf p a
-  pub lawful : IsLawfulAnswer p limits.pivots limits.conflicts a
+  pub lawful : IsLawfulAnswer p limits a
   pub printed : IsPrintedAnswer a
 
 -- where nothing is open, or the pivots were fewer than the most, the report is read back as the answer

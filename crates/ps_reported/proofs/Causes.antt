@@ -25,6 +25,7 @@ use Rattle.ps_answer.specs.declared.answer.Cause.TheVariants.{Pivots, Conflicts,
 use Rattle.ps_answer.specs.Items.{IsReducedWithin, IsRatioWithin}
 use Rattle.ps_answer.specs.Answers.{ratio_of, cause_items}
 use Rattle.ps_claims.specs.declared.claim_kind.ClaimKind.{ClaimKind}
+use Rattle.ps_phases.specs.declared.limits.Limits.{Limits}
 use Rattle.ps_runs.specs.Rows.{rows_of, entries_of}
 use Rattle.ps_runs.specs.Subjects.{Subject, setting_of, given_in, both_in, IsAsked, program_of}
 use Rattle.ps_runs.specs.Runs.{Stage, dual_at}
@@ -37,10 +38,10 @@ use Rattle.ps_reported.proofs.Duals.{fit_steps}
 use Rattle.ps_reported.proofs.Places.{IsPlaceUnder, place_more, due_under, new_under}
 
 -- a problem, and limits of pivots and conflicts
-pub record AreLimits (p : Parts) (pivots conflicts : ℕ) : Type 0 where
+pub record AreLimits (p : Parts) (limits : Limits) : Type 0 where
   pub parts : AreParts p
-  pub few_pivots : pivots ≤ MOST_PIVOTS
-  pub few_conflicts : conflicts ≤ MOST_CONFLICTS
+  pub few_pivots : limits.pivots ≤ MOST_PIVOTS
+  pub few_conflicts : limits.conflicts ≤ MOST_CONFLICTS
 
 -- what is so of a line that is fit, and of the line of an open part where a number is too wide, if any part may be open
 pub record AreLines (pivots : ℕ) (Q : LineItem → Type 0) (Open : Type 0) : Type 0 where
@@ -71,14 +72,14 @@ few_rows p q are =
     let same = length-map (bounds_in p.sentences) (bound_of p.nodes) in
     omega (arith, few, same)
 
-module _ (p : Parts) (q : Option stored.Query) (pivots conflicts : ℕ) (limits : AreLimits p pivots conflicts) (Q : LineItem → Type 0) (Open : Type 0) (lines : AreLines pivots Q Open) where
+module _ (p : Parts) (q : Option stored.Query) (limits : Limits) (within : AreLimits p limits) (Q : LineItem → Type 0) (Open : Type 0) (lines : AreLines limits.pivots Q Open) where
   abbrev s : Subject
   s = record { parts = p; query = q }
 
-  conflicts_fit : (kind : ClaimKind) → IsAsked kind p q → (g : Stage) (limit : ℕ) (goal : Constraint) (steps : List Step) → IsOutOfConflicts (program_of kind s) conflicts g limit goal steps
+  conflicts_fit : (kind : ClaimKind) → IsAsked kind p q → (g : Stage) (limit : ℕ) (goal : Constraint) (steps : List Step) → IsOutOfConflicts (program_of kind s) limits.conflicts g limit goal steps
       → IsPrintedSearch goal steps → AllByRecursion Q (cause_items (Conflicts limit goal steps))
   conflicts_fit kind asked g limit goal steps h printed =
-      let few = limits.few_conflicts in
+      let few = within.few_conflicts in
       let same = h.limit_is in
       let count = h.spent.count in
       let d = dual_at (program_of kind s) g h.table in
@@ -87,18 +88,18 @@ module _ (p : Parts) (q : Option stored.Query) (pivots conflicts : ℕ) (limits 
         (
           lines.fit (line.GoalLine goal) (fit_goal goal printed.goal),
           each IsFit Q (map line.StepLine steps) lines.fit
-              (fit_steps p limits.parts kind (given_in q) (both_in q) (given_there kind p q asked) (both_there kind p q asked) d steps (omega (arith, few, same, count)) printed.literals lawful),
+              (fit_steps p within.parts kind (given_in q) (both_in q) (given_there kind p q asked) (both_there kind p q asked) d steps (omega (arith, few, same, count)) printed.literals lawful),
         ),
       )
 
-  wide_fit : (at : WideAt) (worlds : ℕ) → Open → worlds ≤ pivots + 2 → IsPlaceUnder (rows_of (setting_of s)) worlds at.place → ArePrintedOperands at → AllByRecursion Q (cause_items (Wide at))
+  wide_fit : (at : WideAt) (worlds : ℕ) → Open → worlds ≤ limits.pivots + 2 → IsPlaceUnder (rows_of (setting_of s)) worlds at.place → ArePrintedOperands at → AllByRecursion Q (cause_items (Wide at))
   wide_fit at worlds if_open few under printed =
-      (lines.wide if_open at (place_more (rows_of (setting_of s)) MOST_ROWS worlds (pivots + 2) at.place (few_rows p q limits.parts) few under) printed, tt)
+      (lines.wide if_open at (place_more (rows_of (setting_of s)) MOST_ROWS worlds (limits.pivots + 2) at.place (few_rows p q within.parts) few under) printed, tt)
 
-  pub cause_fit : (kind : ClaimKind) → IsAsked kind p q → (g : Stage) (left : ℕ) (pending : Option World) (cause : Cause) → IsLicensed (program_of kind s) pivots conflicts g left pending cause
-      → IsPrintedCause cause → length g.pool ≤ pivots + 2 → Open → AllByRecursion Q (cause_items cause)
+  pub cause_fit : (kind : ClaimKind) → IsAsked kind p q → (g : Stage) (left : ℕ) (pending : Option World) (cause : Cause) → IsLicensed (program_of kind s) limits g left pending cause
+      → IsPrintedCause cause → length g.pool ≤ limits.pivots + 2 → Open → AllByRecursion Q (cause_items cause)
   cause_fit kind asked g left None (Pivots limit) h printed few if_open =
-      let most = limits.few_pivots in
+      let most = within.few_pivots in
       let same = h.limit_is in
       (lines.fit (line.OpenPivots limit) (tt, omega (arith, most, same)), tt)
   cause_fit kind asked g left None (Conflicts limit goal steps) h printed few if_open = conflicts_fit kind asked g limit goal steps h printed

@@ -1,4 +1,5 @@
 -- The lines of what a run answers.
+use Rattle.ps_phases.specs.declared.limits.Limits.{Limits}
 use Rattle.std.proofs.Common.{◌≡◌, ℕ, suc, ◌+◌, ◌<◌, ◌≤◌, false, List, [], ◌∷◌, ◌++◌, length, map, sum, All, inl, inr, refl, subst, arith}
 use Rattle.std.specs.List.{AllByRecursion, AllZip}
 use Rattle.std.proofs.lemmas.List.Elements.{All-head, All-tail}
@@ -56,8 +57,8 @@ asked_few (Consistent m) qs = omega arith
 asked_few (Inconsistent d) qs = omega arith
 asked_few (Open cause) qs = omega arith
 
-module _ (p : Parts) (pivots conflicts : ℕ) (limits : AreLimits p pivots conflicts) (Q : LineItem → Type 0) (AnyOpen : Type 0) (lines : AreLines pivots Q AnyOpen) where
-  parts_fit : (j : ℕ) (qs : List Query) (parts : List QueryPart) → AllZip (IsSettledPart p pivots conflicts) qs parts → AllZip (IsValidPart p) qs (parts_of parts)
+module _ (p : Parts) (limits : Limits) (within : AreLimits p limits) (Q : LineItem → Type 0) (AnyOpen : Type 0) (lines : AreLines limits.pivots Q AnyOpen) where
+  parts_fit : (j : ℕ) (qs : List Query) (parts : List QueryPart) → AllZip (IsSettledPart p limits) qs parts → AllZip (IsValidPart p) qs (parts_of parts)
       → All (λ part. IsPrintedPart part.answer) parts → AllByRecursion (HasItsNodes p) qs → j + length qs ≤ MOST_QUERIES + 1 → (0 < sum (map open_in_part (parts_of parts)) → AnyOpen)
       → AllByRecursion Q (part_items j parts)
   unfolding HasItsNodes
@@ -68,83 +69,83 @@ module _ (p : Parts) (pivots conflicts : ℕ) (limits : AreLimits p pivots confl
       let all : sum (map open_in_part (parts_of (x ∷ xs))) ≡ open_in_part (part_of x.answer) + sum (map open_in_part (parts_of xs)) = sum_by-cons (λ k. k) (open_in_part (part_of x.answer)) (map open_in_part (parts_of xs)) in (
         lines.fit (line.Query j) (tt, omega (arith, few)),
         both Q (query_items x.answer x.first) (part_items (suc j) xs)
-            (query_fit p pivots conflicts limits Q AnyOpen lines q nodes.0 x.first x.answer h.0 valid.0 (All-head (λ part. IsPrintedPart part.answer) x xs printed) (λ k. if_open (omega (arith, all, k))))
+            (query_fit p limits within Q AnyOpen lines q nodes.0 x.first x.answer h.0 valid.0 (All-head (λ part. IsPrintedPart part.answer) x xs printed) (λ k. if_open (omega (arith, all, k))))
             (parts_fit (suc j) qs xs h.1 valid.1 (All-tail (λ part. IsPrintedPart part.answer) x xs printed) nodes.1 (omega (arith, few)) (λ k. if_open (omega (arith, all, k)))),
       )
 
-  pub answer_fit : (a : Answer) → IsAnswered p pivots conflicts a → (0 < unfinished_of (answer_of a) → AnyOpen) → AllByRecursion Q (answer_items a)
+  pub answer_fit : (a : Answer) → IsAnswered p limits a → (0 < unfinished_of (answer_of a) → AnyOpen) → AllByRecursion Q (answer_items a)
   unfolding answer_items
   answer_fit a h if_open =
       let qs = asked_after a.verdict p.queries in
-      let few = limits.parts.few_queries in
+      let few = within.parts.few_queries in
       let asked = asked_few a.verdict p.queries in
       let valid = subst (λ xs. AllZip (IsValidPart p) xs (parts_of a.parts)) (asked_same a.verdict p.queries) h.valid.parts in
-      let verdict = verdict_fit p pivots conflicts limits Q AnyOpen lines a.verdict a.first h.settled.verdict h.valid.verdict h.printed.verdict (λ k. if_open (omega (arith, k))) in (
+      let verdict = verdict_fit p limits within Q AnyOpen lines a.verdict a.first h.settled.verdict h.valid.verdict h.printed.verdict (λ k. if_open (omega (arith, k))) in (
         lines.fit line.Report (tt, tt),
         both Q (verdict_items a.verdict) (trace_items a.first ++ (part_items 1 a.parts ++ line.End ∷ []))
             verdict.0
             (both Q (trace_items a.first) (part_items 1 a.parts ++ line.End ∷ []) verdict.1
             (both Q (part_items 1 a.parts) (line.End ∷ [])
-            (parts_fit 1 qs a.parts h.settled.parts valid h.printed.parts (asked_nodes p a.verdict p.queries limits.parts.queries) (omega (arith, few, asked)) (λ k. if_open (omega (arith, k))))
+            (parts_fit 1 qs a.parts h.settled.parts valid h.printed.parts (asked_nodes p a.verdict p.queries within.parts.queries) (omega (arith, few, asked)) (λ k. if_open (omega (arith, k))))
             (lines.fit line.End (tt, tt), tt))),
       )
 
 -- ---- the laws
-module _ (p : Parts) (pivots conflicts : ℕ) (a : Answer) (h : IsAnswered p pivots conflicts a) where
-  limits_are : AreLimits p pivots conflicts
+module _ (p : Parts) (limits : Limits) (a : Answer) (h : IsAnswered p limits a) where
+  limits_are : AreLimits p limits
   limits_are = record { parts = h.parts; few_pivots = h.few_pivots; few_conflicts = h.few_conflicts }
 
-  few_open : pivots < MOST_PIVOTS → AreLines pivots IsFit (Unit {0})
+  few_open : limits.pivots < MOST_PIVOTS → AreLines limits.pivots IsFit (Unit {0})
   few_open few = record {
     fit = λ i k. k;
     wide = λ _ at under printed. (
       (operand_proper at.left MOST_OPERAND, operand_proper at.right MOST_OPERAND),
-      (place_within MOST_ROWS (pivots + 2) at.place (omega arith) (omega (arith, few)) under, operand_within at.left printed.left, operand_within at.right printed.right),
+      (place_within MOST_ROWS (limits.pivots + 2) at.place (omega arith) (omega (arith, few)) under, operand_within at.left printed.left, operand_within at.right printed.right),
     );
   }
 
-  none_open : AreLines pivots IsFit ⊥
+  none_open : AreLines limits.pivots IsFit ⊥
   none_open = record { fit = λ i k. k; wide = λ if_open at under printed. absurd if_open }
 
-  pub all_within : NamesFewWorlds pivots a → AllByRecursion IsFit (answer_items a)
+  pub all_within : NamesFewWorlds limits.pivots a → AllByRecursion IsFit (answer_items a)
   all_within names = elim names [
-    | inl few ↦ answer_fit p pivots conflicts limits_are IsFit (Unit {0}) (few_open few) a h (λ k. tt)
-    | inr none ↦ answer_fit p pivots conflicts limits_are IsFit ⊥ none_open a h (λ k. absurd (omega (arith, none, k)))
+    | inl few ↦ answer_fit p limits limits_are IsFit (Unit {0}) (few_open few) a h (λ k. tt)
+    | inr none ↦ answer_fit p limits limits_are IsFit ⊥ none_open a h (λ k. absurd (omega (arith, none, k)))
   ]
 
   abbrev IsShort : LineItem → Type 0
   IsShort i = length (item_line i) < LONGEST_LINE
 
-  any_open : AreLines pivots IsShort (Unit {0})
+  any_open : AreLines limits.pivots IsShort (Unit {0})
   any_open = record {
     fit = λ i k. short_line i k.1;
     wide = λ _ at under printed.
         let most = h.few_pivots in
         wide_short MOST_ROWS at.place at.op (ratio_of at.left) (ratio_of at.right) (omega arith)
-        (place_more MOST_ROWS MOST_ROWS (pivots + 2) (MOST_WORLD + 1) at.place (omega arith) (omega (arith, most)) under) (operand_within at.left printed.left) (operand_within at.right printed.right);
+        (place_more MOST_ROWS MOST_ROWS (limits.pivots + 2) (MOST_WORLD + 1) at.place (omega arith) (omega (arith, most)) under) (operand_within at.left printed.left) (operand_within at.right printed.right);
   }
 
   pub all_short : AllByRecursion IsShort (answer_items a)
-  all_short = answer_fit p pivots conflicts limits_are IsShort (Unit {0}) any_open a h (λ k. tt)
+  all_short = answer_fit p limits limits_are IsShort (Unit {0}) any_open a h (λ k. tt)
 
   -- also past the limits
   abbrev IsSpellable : LineItem → Type 0
   IsSpellable i = IsTold i × HasShortNumbers i
 
-  open_spellable : AreLines pivots IsSpellable (Unit {0})
+  open_spellable : AreLines limits.pivots IsSpellable (Unit {0})
   open_spellable = record {
     fit = λ i k. (told_of i k.0, short_within i k.1);
     wide = λ _ at under printed.
         let most = h.few_pivots in (
           tt,
           wide_numbers MOST_ROWS (MOST_WORLD + 1) at.place at.op (ratio_of at.left) (ratio_of at.right) (omega arith) (omega arith)
-              (place_more MOST_ROWS MOST_ROWS (pivots + 2) (MOST_WORLD + 1) at.place (omega arith) (omega (arith, most)) under) (operand_within at.left printed.left) (operand_within at.right printed.right),
+              (place_more MOST_ROWS MOST_ROWS (limits.pivots + 2) (MOST_WORLD + 1) at.place (omega arith) (omega (arith, most)) under) (operand_within at.left printed.left) (operand_within at.right printed.right),
         );
   }
 
   pub all_spellable : AllByRecursion (λ i. IsTold i × HasShortNumbers i) (answer_items a)
-  all_spellable = answer_fit p pivots conflicts limits_are IsSpellable (Unit {0}) open_spellable a h (λ k. tt)
+  all_spellable = answer_fit p limits limits_are IsSpellable (Unit {0}) open_spellable a h (λ k. tt)
 
   -- so what is written is the answer's text, and that of no other
   pub written_text : IsText (lines_bytes false (answer_lines a)) a × ((b : Answer) → IsText (lines_bytes false (answer_lines a)) b → b ≡ a)
-  written_text = short_text a (settled_counted p pivots conflicts a h.settled) all_spellable
+  written_text = short_text a (settled_counted p limits a h.settled) all_spellable

@@ -26,6 +26,7 @@ use Rattle.ps_claims.specs.declared.claim_kind.ClaimKind.TheVariants.{Nothing, L
 use Rattle.ps_claims.specs.Claims.{open_in_verdict, open_in_side, open_in_part}
 use Rattle.ps_claims.specs.Validity.{query_of, IsRefuted, IsValidVerdict, IsValidSide, IsValidPart}
 use Rattle.ps_certificate.specs.Certificates.{entries, model_of, dual_of}
+use Rattle.ps_phases.specs.declared.limits.Limits.{Limits}
 use Rattle.ps_runs.specs.Subjects.{Subject, IsAsked, given_in, both_in, program_of}
 use Rattle.ps_runs.specs.Subjects.{program_of}
 use Rattle.ps_runs.specs.Runs.{Stage, pivots_in}
@@ -43,24 +44,24 @@ use Rattle.ps_reported.proofs.Counting.{HasCome, has_come, HasComePending, has_c
 use Rattle.ps_reported.proofs.Causes.{AreLimits, AreLines, operand_proper, cause_fit}
 use Rattle.ps_reported.proofs.Traces.{trace_fit, first_pool, first_trace}
 
-module _ (p : Parts) (pivots conflicts : ℕ) (limits : AreLimits p pivots conflicts) (Q : LineItem → Type 0) (AnyOpen : Type 0) (lines : AreLines pivots Q AnyOpen) where
+module _ (p : Parts) (limits : Limits) (within : AreLimits p limits) (Q : LineItem → Type 0) (AnyOpen : Type 0) (lines : AreLines limits.pivots Q AnyOpen) where
   model_fit : (m : Model) → IsDistribution (length p.names) (entries m.worlds) → claimed.IsBasicModel (bounds_of p) (model_of m) → IsPrintedModel m → AllByRecursion Q (model_items m)
   model_fit m distribution small printed =
-      let bounds = limits.parts.few_bounds in
+      let bounds = within.parts.few_bounds in
       let same = length-map (bounds_in p.sentences) (bound_of p.nodes) in
       each IsFit Q (model_items m) lines.fit
-      (fit_model (length p.names) (bounds_of p) m limits.parts.few_atoms (omega (arith, bounds, same)) distribution small printed)
+      (fit_model (length p.names) (bounds_of p) m within.parts.few_atoms (omega (arith, bounds, same)) distribution small printed)
 
   dual_fit : (q : Option stored.Query) (kind : ClaimKind) (d : Dual) → IsAsked kind p q → pos 0 ≤ℤ d.top → IsRefuted p kind (given_in q) (both_in q) (dual_of d) → IsPrintedDual d
       → AllByRecursion Q (dual_items d)
   dual_fit q kind d asked top refuted printed =
       each IsFit Q (dual_items d) lines.fit
-      (fit_dual p limits.parts kind (given_in q) (both_in q) (given_there kind p q asked) (both_there kind p q asked) d top refuted printed)
+      (fit_dual p within.parts kind (given_in q) (both_in q) (given_there kind p q asked) (both_there kind p q asked) d top refuted printed)
 
   nothing_fit : (q : Option stored.Query) (d : Dual) → (IsAsked Nothing p q) → IsRefuted p Nothing (given_in q) 0 (dual_of d) → d.top ≡ pos 0 → IsPrintedDual d → AllByRecursion Q (dual_items d)
   nothing_fit q d asked refuted top printed =
       each IsFit Q (dual_items d) lines.fit
-      (fit_dual p limits.parts Nothing (given_in q) 0 (given_there Nothing p q asked) (λ query. absurd (query refl)) d (omega (arith, ints, top)) refuted printed)
+      (fit_dual p within.parts Nothing (given_in q) 0 (given_there Nothing p q asked) (λ query. absurd (query refl)) d (omega (arith, ints, top)) refuted printed)
 
   no_events : (events : List Event) → events ≡ [] → AllByRecursion Q (trace_items events)
   no_events events e = subst (λ es. AllByRecursion Q (trace_items es)) (sym e) (lines.fit (line.TraceHead 0) (tt, omega arith), tt)
@@ -72,20 +73,20 @@ module _ (p : Parts) (pivots conflicts : ℕ) (limits : AreLimits p pivots confl
   certified_verdict (Inconsistent d) events h valid printed = ((lines.fit line.Inconsistent (tt, tt), nothing_fit None d refl valid.refuted valid.head.top printed), no_events events h)
   certified_verdict (Open cause) events h valid printed = absurd h
 
-  run_verdict : (v : Verdict) (events : List Event) (h : IsLawfulPhaseOne (program_of Nothing (record { parts = p; query = None })) pivots conflicts v events) → IsValidVerdict p (verdict_of v) → IsPrintedVerdict v
+  run_verdict : (v : Verdict) (events : List Event) (h : IsLawfulPhaseOne (program_of Nothing (record { parts = p; query = None })) limits v events) → IsValidVerdict p (verdict_of v) → IsPrintedVerdict v
       → (0 < open_in_verdict (verdict_of v) → AnyOpen) → AllByRecursion Q (verdict_items v)
   run_verdict (Consistent m) events h valid printed if_open = (lines.fit line.Consistent (tt, tt), model_fit m valid.model.distribution valid.basic printed)
   run_verdict (Inconsistent d) events h valid printed if_open = (lines.fit line.Inconsistent (tt, tt), nothing_fit None d refl valid.refuted valid.head.top printed)
   run_verdict (Open cause) events h valid printed if_open =
-      cause_fit p None pivots conflicts limits Q AnyOpen lines Nothing refl h.end h.left h.pending cause h.answered printed
-      (first_pool p None pivots conflicts limits Q AnyOpen lines (Open cause) events h) (if_open (omega arith))
+      cause_fit p None limits within Q AnyOpen lines Nothing refl h.end h.left h.pending cause h.answered printed
+      (first_pool p None limits within Q AnyOpen lines (Open cause) events h) (if_open (omega arith))
 
   -- the lines of a verdict, and those of its events
-  pub verdict_fit : (v : Verdict) (events : List Event) → IsSettledVerdict p pivots conflicts v events → IsValidVerdict p (verdict_of v) → IsPrintedVerdict v
+  pub verdict_fit : (v : Verdict) (events : List Event) → IsSettledVerdict p limits v events → IsValidVerdict p (verdict_of v) → IsPrintedVerdict v
       → (0 < open_in_verdict (verdict_of v) → AnyOpen) → AllByRecursion Q (verdict_items v) × AllByRecursion Q (trace_items events)
   verdict_fit v events h valid printed if_open = elim h [
     | inl alone ↦ certified_verdict v events alone valid printed
-    | inr run ↦ (run_verdict v events run valid printed if_open, first_trace p None pivots conflicts limits Q AnyOpen lines v events run)
+    | inr run ↦ (run_verdict v events run valid printed if_open, first_trace p None limits within Q AnyOpen lines v events run)
   ]
 
   -- ---- a query
@@ -111,26 +112,26 @@ module _ (p : Parts) (pivots conflicts : ℕ) (limits : AreLimits p pivots confl
     closed_fit upper kind (side.Open cause) trace closed valid printed events = absurd closed
 
     -- a side of a run
-    side_fit : (upper : Bool) (kind : ClaimKind) (g : Stage) (left : ℕ) (pending : Option World) (a : SideAnswer) (trace : List Event) → IsSideAt (program_of kind s) pivots conflicts g left pending a
-        → IsValidSide p kind q (side_of a) → IsPrintedSide a → length g.pool ≤ pivots + 2 → (0 < open_in_side (side_of a) → AnyOpen) → AllByRecursion Q (trace_items trace)
+    side_fit : (upper : Bool) (kind : ClaimKind) (g : Stage) (left : ℕ) (pending : Option World) (a : SideAnswer) (trace : List Event) → IsSideAt (program_of kind s) limits g left pending a
+        → IsValidSide p kind q (side_of a) → IsPrintedSide a → length g.pool ≤ limits.pivots + 2 → (0 < open_in_side (side_of a) → AnyOpen) → AllByRecursion Q (trace_items trace)
         → AllByRecursion Q (side_items upper a trace)
     side_fit upper kind g left pending (side.Bound value m d) trace h valid printed few if_open events = closed_fit upper kind (side.Bound value m d) trace tt valid printed events
     side_fit upper kind g left pending (side.Open cause) trace h valid printed few if_open events = (
       lines.fit (line.OpenSide upper) (tt, tt),
       both Q (cause_items cause) (trace_items trace)
-          (cause_fit p (Some q) pivots conflicts limits Q AnyOpen lines kind nodes g left pending cause h printed few (if_open (omega arith))) events,
+          (cause_fit p (Some q) limits within Q AnyOpen lines kind nodes g left pending cause h printed few (if_open (omega arith))) events,
     )
 
     -- both sides
-    module _ (first : List Event) (lower : SideAnswer) (lower_trace : List Event) (upper : SideAnswer) (upper_trace : List Event) (h : AreLawfulBounds s pivots conflicts first lower lower_trace upper upper_trace) where
-      first_come : HasCome Nothing s conflicts h.start first h.after_first
-      first_come = has_come Nothing s conflicts h.start h.after_first first (start_table s h.start h.starts) h.leads
+    module _ (first : List Event) (lower : SideAnswer) (lower_trace : List Event) (upper : SideAnswer) (upper_trace : List Event) (h : AreLawfulBounds s limits first lower lower_trace upper upper_trace) where
+      first_come : HasCome Nothing s limits.conflicts h.start first h.after_first
+      first_come = has_come Nothing s limits.conflicts h.start h.after_first first (start_table s h.start h.starts) h.leads
 
       lower_come : HasComePending Lower s h.after_first lower_trace h.after_lower
-      lower_come = has_come_pending Lower s conflicts h.after_first h.after_lower lower_trace h.least.pending first_come.table h.least.leads
+      lower_come = has_come_pending Lower s limits.conflicts h.after_first h.after_lower lower_trace h.least.pending first_come.table h.least.leads
 
       upper_come : HasComePending Upper s h.after_lower upper_trace h.end
-      upper_come = has_come_pending Upper s conflicts h.after_lower h.end upper_trace h.greatest.pending lower_come.table h.greatest.leads
+      upper_come = has_come_pending Upper s limits.conflicts h.after_lower h.end upper_trace h.greatest.pending lower_come.table h.greatest.leads
 
       empty : length h.start.pool ≡ 0
       empty = ap length h.starts.pool
@@ -140,7 +141,7 @@ module _ (p : Parts) (pivots conflicts : ℕ) (limits : AreLimits p pivots confl
       first_few =
           let none = empty in
           let pool = first_come.pool in
-          let few = ended_few s conflicts h.start h.after_first first h.table first_come h.feasible in
+          let few = ended_few s limits.conflicts h.start h.after_first first h.table first_come h.feasible in
           omega (arith, none, pool, few)
 
       lower_few : length h.after_lower.pool ≤ pivots_in first + pivots_in lower_trace + 1
@@ -149,7 +150,7 @@ module _ (p : Parts) (pivots conflicts : ℕ) (limits : AreLimits p pivots confl
           let few = first_few in
           omega (arith, pool, few)
 
-      upper_few : length h.end.pool ≤ pivots + 2
+      upper_few : length h.end.pool ≤ limits.pivots + 2
       upper_few =
           let pool = upper_come.pool in
           let few = lower_few in
@@ -161,16 +162,16 @@ module _ (p : Parts) (pivots conflicts : ℕ) (limits : AreLimits p pivots confl
       first_fit : AllByRecursion Q (trace_items first)
       first_fit =
           let none = empty in
-          let few = ended_few s conflicts h.start h.after_first first h.table first_come h.feasible in
+          let few = ended_few s limits.conflicts h.start h.after_first first h.table first_come h.feasible in
           let a = h.counted in
-          trace_fit p (Some q) pivots conflicts limits Q AnyOpen lines first (length h.start.pool + pivots_in first) (omega (arith, a)) (omega (arith, few)) (omega (arith, none, a)) first_come.under
+          trace_fit p (Some q) limits within Q AnyOpen lines first (length h.start.pool + pivots_in first) (omega (arith, a)) (omega (arith, few)) (omega (arith, none, a)) first_come.under
 
       lower_fit : AllByRecursion Q (trace_items lower_trace)
       lower_fit =
           let few = first_few in
           let a = h.counted in
           let b = h.least.counted in
-          trace_fit p (Some q) pivots conflicts limits Q AnyOpen lines lower_trace (length h.after_first.pool + pivots_in lower_trace) (omega (arith, a, b)) lower_come.few (omega (arith, few, a, b)) lower_come.under
+          trace_fit p (Some q) limits within Q AnyOpen lines lower_trace (length h.after_first.pool + pivots_in lower_trace) (omega (arith, a, b)) lower_come.few (omega (arith, few, a, b)) lower_come.under
 
       upper_fit : AllByRecursion Q (trace_items upper_trace)
       upper_fit =
@@ -178,7 +179,7 @@ module _ (p : Parts) (pivots conflicts : ℕ) (limits : AreLimits p pivots confl
           let a = h.counted in
           let b = h.least.counted in
           let c = h.greatest.counted in
-          trace_fit p (Some q) pivots conflicts limits Q AnyOpen lines upper_trace (length h.after_lower.pool + pivots_in upper_trace) (omega (arith, a, b, c)) upper_come.few (omega (arith, few, a, b, c)) upper_come.under
+          trace_fit p (Some q) limits within Q AnyOpen lines upper_trace (length h.after_lower.pool + pivots_in upper_trace) (omega (arith, a, b, c)) upper_come.few (omega (arith, few, a, b, c)) upper_come.under
 
       -- the run's sides, where they are to be shown
       lower_side : (upper : Bool) → IsValidSide p Lower q (side_of lower) → IsPrintedSide lower → (0 < open_in_side (side_of lower) → AnyOpen) → AllByRecursion Q (side_items upper lower lower_trace)
@@ -192,22 +193,22 @@ module _ (p : Parts) (pivots conflicts : ℕ) (limits : AreLimits p pivots confl
       upper_side is_upper valid printed if_open = side_fit is_upper Upper h.end h.left h.greatest.pending upper upper_trace h.greatest.answered valid printed upper_few if_open upper_fit
 
     -- the lines of the events of a run's phase one
-    run_trace : (run : QueryAnswer) (first : List Event) → IsLawfulAnswerTo s pivots conflicts first run → AllByRecursion Q (trace_items first)
+    run_trace : (run : QueryAnswer) (first : List Event) → IsLawfulAnswerTo s limits first run → AllByRecursion Q (trace_items first)
     run_trace (query.Bounds lower lower_trace upper upper_trace) first h = first_fit first lower lower_trace upper upper_trace h
-    run_trace (query.Impossible d) first h = first_trace p (Some q) pivots conflicts limits Q AnyOpen lines (Inconsistent d) first h
-    run_trace (query.Open cause) first h = first_trace p (Some q) pivots conflicts limits Q AnyOpen lines (Open cause) first h
+    run_trace (query.Impossible d) first h = first_trace p (Some q) limits within Q AnyOpen lines (Inconsistent d) first h
+    run_trace (query.Open cause) first h = first_trace p (Some q) limits within Q AnyOpen lines (Open cause) first h
 
     -- the cause for which phase one is open
-    cause_left : (cause : Cause) (first : List Event) → IsLawfulPhaseOne (program_of Nothing s) pivots conflicts (Open cause) first → IsPrintedCause cause → AnyOpen → AllByRecursion Q (cause_items cause)
+    cause_left : (cause : Cause) (first : List Event) → IsLawfulPhaseOne (program_of Nothing s) limits (Open cause) first → IsPrintedCause cause → AnyOpen → AllByRecursion Q (cause_items cause)
     cause_left cause first h printed any =
-        cause_fit p (Some q) pivots conflicts limits Q AnyOpen lines Nothing nodes h.end h.left h.pending cause h.answered printed
-        (first_pool p (Some q) pivots conflicts limits Q AnyOpen lines (Open cause) first h) any
+        cause_fit p (Some q) limits within Q AnyOpen lines Nothing nodes h.end h.left h.pending cause h.answered printed
+        (first_pool p (Some q) limits within Q AnyOpen lines (Open cause) first h) any
 
     -- the lines of a side follow where it is valid, can be printed, and may be open
     FitsWhereValid : Bool → ClaimKind → SideAnswer → List Event → Type 0
     FitsWhereValid upper kind a events = IsValidSide p kind q (side_of a) → IsPrintedSide a → (0 < open_in_side (side_of a) → AnyOpen) → AllByRecursion Q (side_items upper a events)
 
-    left_fit : (run : QueryAnswer) (first : List Event) → IsLawfulAnswerTo s pivots conflicts first run → (upper : Bool) (kind : ClaimKind) (a : SideAnswer) (events : List Event)
+    left_fit : (run : QueryAnswer) (first : List Event) → IsLawfulAnswerTo s limits first run → (upper : Bool) (kind : ClaimKind) (a : SideAnswer) (events : List Event)
         → IsLeftBy run kind a events → FitsWhereValid upper kind a events
     unfolding FitsWhereValid
     left_fit (query.Bounds lower lower_trace upper upper_trace) first h is_upper Nothing a events left = absurd left
@@ -223,7 +224,7 @@ module _ (p : Parts) (pivots conflicts : ℕ) (limits : AreLimits p pivots confl
         ) in
         subst (λ x. FitsWhereValid is_upper kind x events) (sym left.0) as_open
 
-    beside_fit : (run : QueryAnswer) (first : List Event) → IsLawfulAnswerTo s pivots conflicts first run → (upper : Bool) (kind : ClaimKind) (a : SideAnswer) (events : List Event)
+    beside_fit : (run : QueryAnswer) (first : List Event) → IsLawfulAnswerTo s limits first run → (upper : Bool) (kind : ClaimKind) (a : SideAnswer) (events : List Event)
         → IsBesideRun run kind a events → IsValidSide p kind q (side_of a) → IsPrintedSide a → (0 < open_in_side (side_of a) → AnyOpen) → AllByRecursion Q (side_items upper a events)
     unfolding FitsWhereValid
     beside_fit run first h upper kind a events beside valid printed if_open = elim beside [
@@ -245,7 +246,7 @@ module _ (p : Parts) (pivots conflicts : ℕ) (limits : AreLimits p pivots confl
     )
     certified_fit first (query.Open cause) h valid printed = absurd h
 
-    run_fit : (first : List Event) (a : QueryAnswer) → IsOfRun s pivots conflicts first a → IsValidPart p q (part_of a) → IsPrintedPart a → (0 < open_in_part (part_of a) → AnyOpen)
+    run_fit : (first : List Event) (a : QueryAnswer) → IsOfRun s limits first a → IsValidPart p q (part_of a) → IsPrintedPart a → (0 < open_in_part (part_of a) → AnyOpen)
         → AllByRecursion Q (query_items a first)
     run_fit first (query.Bounds lower lower_trace upper upper_trace) h valid printed if_open = (
       lines.fit line.Bounds (tt, tt),
@@ -257,13 +258,13 @@ module _ (p : Parts) (pivots conflicts : ℕ) (limits : AreLimits p pivots confl
     run_fit first (query.Impossible d) h valid printed if_open = (
       lines.fit line.Impossible (tt, tt),
       both Q (dual_items d) (trace_items first) (nothing_fit (Some q) d nodes valid.refuted valid.head.top printed)
-          (first_trace p (Some q) pivots conflicts limits Q AnyOpen lines (Inconsistent d) first h),
+          (first_trace p (Some q) limits within Q AnyOpen lines (Inconsistent d) first h),
     )
     run_fit first (query.Open cause) h valid printed if_open =
         both Q (cause_items cause) (trace_items first) (cause_left cause first h printed (if_open (omega arith)))
-        (first_trace p (Some q) pivots conflicts limits Q AnyOpen lines (Open cause) first h)
+        (first_trace p (Some q) limits within Q AnyOpen lines (Open cause) first h)
 
-    pub query_fit : (first : List Event) (a : QueryAnswer) → IsCertifiedAnswer first a ⊎ IsOfRun s pivots conflicts first a → IsValidPart p q (part_of a) → IsPrintedPart a
+    pub query_fit : (first : List Event) (a : QueryAnswer) → IsCertifiedAnswer first a ⊎ IsOfRun s limits first a → IsValidPart p q (part_of a) → IsPrintedPart a
         → (0 < open_in_part (part_of a) → AnyOpen) → AllByRecursion Q (query_items a first)
     query_fit first a h valid printed if_open = elim h [
       | inl alone ↦ certified_fit first a alone valid printed

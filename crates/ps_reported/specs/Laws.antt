@@ -1,4 +1,5 @@
 -- Laws of writing what a run answers.
+use Rattle.ps_phases.specs.declared.limits.Limits.{Limits}
 use Rattle.std.specs.Prelude.{◌≡◌, ◌⊎◌, ℕ, ◌<◌, ◌≤◌, false, length}
 use Rattle.std.specs.List.{AllByRecursion}
 use Rattle.ps_io.specs.LineText.{lines_bytes}
@@ -18,11 +19,11 @@ use Rattle.ps_reported.specs.Settled.{IsSettledAnswer}
 
 -- an answer within the limits of pivots and conflicts: each part has its certificates or comes of a lawful run; it is
 -- valid, and of numbers that can be printed
-pub record IsAnswered (p : Parts) (pivots conflicts : ℕ) (a : Answer) : Type 0 where
+pub record IsAnswered (p : Parts) (limits : Limits) (a : Answer) : Type 0 where
   pub parts : AreParts p
-  pub few_pivots : pivots ≤ MOST_PIVOTS
-  pub few_conflicts : conflicts ≤ MOST_CONFLICTS
-  pub settled : IsSettledAnswer p pivots conflicts a
+  pub few_pivots : limits.pivots ≤ MOST_PIVOTS
+  pub few_conflicts : limits.conflicts ≤ MOST_CONFLICTS
+  pub settled : IsSettledAnswer p limits a
   pub valid : IsValid p (answer_of a)
   pub printed : IsPrintedAnswer a
 
@@ -33,7 +34,7 @@ NamesFewWorlds pivots a = (pivots < MOST_PIVOTS) ⊎ (unfinished_of (answer_of a
 
 -- each line item of an answer has numbers of the signs that it asks, and within the limits of a report
 abbrev pub AnswersAreWithin : Type 0
-AnswersAreWithin = (p : Parts) (pivots conflicts : ℕ) (a : Answer) → IsAnswered p pivots conflicts a → NamesFewWorlds pivots a
+AnswersAreWithin = (p : Parts) (limits : Limits) (a : Answer) → IsAnswered p limits a → NamesFewWorlds limits.pivots a
     → AllByRecursion (λ i. IsProper i × IsWithin i) (answer_items a)
 
 -- each line of an answer's report is short enough to be written
@@ -42,14 +43,14 @@ AreShortLines a = AllByRecursion (λ i. length (item_line i) < LONGEST_LINE) (an
 
 -- so is each line of what a run answers
 abbrev pub AnswersAreShort : Type 0
-AnswersAreShort = (p : Parts) (pivots conflicts : ℕ) (a : Answer) → IsAnswered p pivots conflicts a → AreShortLines a
+AnswersAreShort = (p : Parts) (limits : Limits) (a : Answer) → IsAnswered p limits a → AreShortLines a
 
 -- the lines of an answer, as they are written, are a report of it
 abbrev pub AnswersAreReports : Type 0
-AnswersAreReports = (p : Parts) (pivots conflicts : ℕ) (a : Answer) → IsAnswered p pivots conflicts a → NamesFewWorlds pivots a
+AnswersAreReports = (p : Parts) (limits : Limits) (a : Answer) → IsAnswered p limits a → NamesFewWorlds limits.pivots a
     → IsReport (lines_bytes false (answer_lines a)) a
 
 -- whatever the limits, the lines of an answer, as they are written, are its text, and that of no other answer
 abbrev pub AnswersAreTexts : Type 0
-AnswersAreTexts = (p : Parts) (pivots conflicts : ℕ) (a : Answer) → IsAnswered p pivots conflicts a
+AnswersAreTexts = (p : Parts) (limits : Limits) (a : Answer) → IsAnswered p limits a
     → IsText (lines_bytes false (answer_lines a)) a × ((b : Answer) → IsText (lines_bytes false (answer_lines a)) b → b ≡ a)

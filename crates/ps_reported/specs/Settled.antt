@@ -14,6 +14,7 @@ use Rattle.ps_answer.specs.declared.answer.QueryPart.{QueryPart}
 use Rattle.ps_answer.specs.declared.answer.Answer.{Answer}
 use Rattle.ps_claims.specs.declared.claim_kind.ClaimKind.{ClaimKind}
 use Rattle.ps_claims.specs.declared.claim_kind.ClaimKind.TheVariants.{Nothing, Lower, Upper}
+use Rattle.ps_phases.specs.declared.limits.Limits.{Limits}
 use Rattle.ps_runs.specs.Subjects.{Subject, subject_of}
 use Rattle.ps_phases.specs.Verdicts.{IsLawfulVerdict, IsLawfulPhaseOne, IsLawfulAnswerTo, asked_after}
 use Rattle.ps_runs.specs.Subjects.{program_of}
@@ -56,32 +57,32 @@ abbrev pub IsBesideRun : QueryAnswer → ClaimKind → SideAnswer → List Event
 IsBesideRun run kind a events = IsCertifiedSide a events ⊎ IsLeftBy run kind a events
 
 -- both sides of a query beside a lawful run of it, with the events of the run's phase one
-pub record AreBesideRun (s : Subject) (pivots conflicts : ℕ) (first : List Event) (lower : SideAnswer)
+pub record AreBesideRun (s : Subject) (limits : Limits) (first : List Event) (lower : SideAnswer)
     (lower_events : List Event) (upper : SideAnswer) (upper_events : List Event) : Type 0 where
   pub run : QueryAnswer
-  pub lawful : IsLawfulAnswerTo s pivots conflicts first run
+  pub lawful : IsLawfulAnswerTo s limits first run
   pub below : IsBesideRun run Lower lower lower_events
   pub above : IsBesideRun run Upper upper upper_events
 
 -- an answer to a query that comes of a lawful run: that of the run, with a certified side in place of the run's, or
 -- beside one that the run leaves open
-abbrev pub IsOfRun : Subject → ℕ → ℕ → List Event → QueryAnswer → Type 0
-IsOfRun s pivots conflicts first (query.Bounds lower lower_events upper upper_events) =
-    AreBesideRun s pivots conflicts first lower lower_events upper upper_events
-IsOfRun s pivots conflicts first (query.Impossible d) = IsLawfulPhaseOne (program_of Nothing s) pivots conflicts (Inconsistent d) first
-IsOfRun s pivots conflicts first (query.Open cause) = IsLawfulPhaseOne (program_of Nothing s) pivots conflicts (Open cause) first
+abbrev pub IsOfRun : Subject → Limits → List Event → QueryAnswer → Type 0
+IsOfRun s limits first (query.Bounds lower lower_events upper upper_events) =
+    AreBesideRun s limits first lower lower_events upper upper_events
+IsOfRun s limits first (query.Impossible d) = IsLawfulPhaseOne (program_of Nothing s) limits (Inconsistent d) first
+IsOfRun s limits first (query.Open cause) = IsLawfulPhaseOne (program_of Nothing s) limits (Open cause) first
 
 -- ---- answers
 -- the verdict has its certificate alone, or is that of a lawful run, and where it is open that is licensed
-abbrev pub IsSettledVerdict : Parts → ℕ → ℕ → Verdict → List Event → Type 0
-IsSettledVerdict p pivots conflicts v events = IsCertifiedVerdict v events ⊎ IsLawfulVerdict p pivots conflicts v events
+abbrev pub IsSettledVerdict : Parts → Limits → Verdict → List Event → Type 0
+IsSettledVerdict p limits v events = IsCertifiedVerdict v events ⊎ IsLawfulVerdict p limits v events
 
 -- the part has its certificates alone, or comes of a lawful run, which licenses what is open in it
-abbrev pub IsSettledPart : Parts → ℕ → ℕ → Query → QueryPart → Type 0
-IsSettledPart p pivots conflicts q part =
-    IsCertifiedAnswer part.first part.answer ⊎ IsOfRun (subject_of p q) pivots conflicts part.first part.answer
+abbrev pub IsSettledPart : Parts → Limits → Query → QueryPart → Type 0
+IsSettledPart p limits q part =
+    IsCertifiedAnswer part.first part.answer ⊎ IsOfRun (subject_of p q) limits part.first part.answer
 
 -- so is each part of an answer
-pub record IsSettledAnswer (p : Parts) (pivots conflicts : ℕ) (a : Answer) : Type 0 where
-  pub verdict : IsSettledVerdict p pivots conflicts a.verdict a.first
-  pub parts : AllZip (IsSettledPart p pivots conflicts) (asked_after a.verdict p.queries) a.parts
+pub record IsSettledAnswer (p : Parts) (limits : Limits) (a : Answer) : Type 0 where
+  pub verdict : IsSettledVerdict p limits a.verdict a.first
+  pub parts : AllZip (IsSettledPart p limits) (asked_after a.verdict p.queries) a.parts

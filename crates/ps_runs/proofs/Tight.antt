@@ -1,5 +1,5 @@
 -- The end of a side: the model reaches the value that the dual shows.
-use Rattle.std.proofs.Common.{◌≡◌, ◌≢◌, ℕ, ℤ, pos, negsuc, ◌*ℤ◌, ◌≤ℤ◌, Some, [], ◌∷◌, length, sym, refl, ap, ◌∙◌, arith}
+use Rattle.std.proofs.Common.{◌≡◌, ◌≢◌, ℕ, ℤ, pos, negsuc, ◌*ℤ◌, ◌≤ℤ◌, Some, [], ◌∷◌, sym, refl, ap, ◌∙◌, arith}
 use Rattle.std.proofs.lemmas.Int.{ints}
 use Rattle.ps_rational.specs.Rational.{Rational}
 use Rattle.ps_rational.proofs.Ring.{var, by}

@@ -147,8 +147,10 @@ pub record EndsAreValid : Type 0 where
       → IsResting (phase_of kind) (table_at (frame_of s) g X) (costs_at (program_of kind s) g)
       → RefutesGain (program_of kind s) (dual_at (program_of kind s) g X) d.steps
       → IsRefuted s.parts kind (given_in s.query) (both_in s.query) d
-  pub nothing : (s : Subject) (g : Stage) (X : ℕ → ℕ → Rational) (d : Dual) → HaveSameNumbers d (dual_at (program_of Nothing s) g X)
-      → IsTable (setting_of s) g.pool g.basis X → IsResting (phase_of Nothing) (table_at (frame_of s) g X) (costs_at (program_of Nothing s) g)
+  pub nothing : (s : Subject) (g : Stage) (X : ℕ → ℕ → Rational) (d : Dual)
+      → HaveSameNumbers d (dual_at (program_of Nothing s) g X)
+      → IsTable (setting_of s) g.pool g.basis X
+      → IsResting (phase_of Nothing) (table_at (frame_of s) g X) (costs_at (program_of Nothing s) g)
       → RefutesGain (program_of Nothing s) (dual_at (program_of Nothing s) g X) d.steps
       → ShowsNothing s.parts (given_in s.query) d
   pub tight : (kind : ClaimKind) (p : Parts) (q : stored.Query) (g : Stage) (X : ℕ → ℕ → Rational) (value : Rational)
@@ -161,7 +163,8 @@ pub record EndsAreValid : Type 0 where
       → ShowsTight p kind q value (table_model (table_at (frame_of (subject_of p q)) g X) g.pool) d
   pub consistent : (s : Subject) (g : Stage) (X : ℕ → ℕ → Rational) → IsTable (setting_of s) g.pool g.basis X
       → IsFeasible (table_at (frame_of s) g X)
-      → IsPool (atoms_of s) g.pool → ShowsConsistent (atoms_of s) (bounds_of s.parts) (table_model (table_at (frame_of s) g X) g.pool)
+      → IsPool (atoms_of s) g.pool
+      → ShowsConsistent (atoms_of s) (bounds_of s.parts) (table_model (table_at (frame_of s) g X) g.pool)
 
 -- a world of the pool has in the model the weight of the row in which it is basic, where that is above 0, and isn't there where
 -- it is basic in none
@@ -183,19 +186,23 @@ pub record PricingsAreOfTheTable : Type 0 where
   pub goal : (least : ℤ) (kind : ClaimKind) (s : Subject) (d e : Dual) → HaveSameNumbers d e
       → goal_at_least least (program_of kind s) d ≡ goal_at_least least (program_of kind s) e
   pub greatest : (kind : ClaimKind) (s : Subject) (conflicts : ℕ) (g : Stage) (X : ℕ → ℕ → Rational) (d : Dual)
-      → HaveSameNumbers d (dual_at (program_of kind s) g X) → AreParts s.parts → IsAsked kind s.parts s.query → IsRestingAt (program_of kind s) g X
+      → HaveSameNumbers d (dual_at (program_of kind s) g X) → AreParts s.parts → IsAsked kind s.parts s.query
+      → IsRestingAt (program_of kind s) g X
       → (w : World) → length w ≡ atoms_of s → pos 1 ≤ℤ value_under (extension s.parts.nodes w) (combination_over kind s d)
       → ((v : World) → length v ≡ atoms_of s
       → value_under (extension s.parts.nodes v) (combination_over kind s d) ≤ℤ value_under (extension s.parts.nodes w)
       (combination_over kind s d))
       → IsPricedBy (program_of kind s) conflicts g X w
   pub cut : (kind : ClaimKind) (s : Subject) (conflicts : ℕ) (g : Stage) (X : ℕ → ℕ → Rational) (d : Dual)
-      → HaveSameNumbers d (dual_at (program_of kind s) g X) → AreParts s.parts → IsAsked kind s.parts s.query → IsRestingAt (program_of kind s) g X
+      → HaveSameNumbers d (dual_at (program_of kind s) g X) → AreParts s.parts → IsAsked kind s.parts s.query
+      → IsRestingAt (program_of kind s) g X
       → (w : World) → length w ≡ atoms_of s → pos 1 ≤ℤ value_under (extension s.parts.nodes w) (combination_over kind s d)
       → (least : ℤ) (steps : List Step) → value_under (extension s.parts.nodes w) (combination_over kind s d) <ℤ least
-      → IsSpentSearch (form_of s.parts.nodes) (goal_at_least least (program_of kind s) d) conflicts steps → IsPricedBy (program_of kind s) conflicts g X w
+      → IsSpentSearch (form_of s.parts.nodes) (goal_at_least least (program_of kind s) d) conflicts steps
+      → IsPricedBy (program_of kind s) conflicts g X w
   pub dual : (kind : ClaimKind) (s : Subject) (conflicts : ℕ) (g : Stage) (X : ℕ → ℕ → Rational) (d : Dual)
-      → HaveSameNumbers d (dual_at (program_of kind s) g X) → AreParts s.parts → IsAsked kind s.parts s.query → IsRestingAt (program_of kind s) g X
+      → HaveSameNumbers d (dual_at (program_of kind s) g X) → AreParts s.parts → IsAsked kind s.parts s.query
+      → IsRestingAt (program_of kind s) g X
       → (e : Dual) → HaveSameNumbers e d
       → RefutesGain (program_of kind s) d e.steps
       → IsDualAt (program_of kind s) g e

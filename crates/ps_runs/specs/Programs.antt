@@ -1,5 +1,5 @@
 -- Linear programs whose columns are worlds: what a run needs of one, and no more.
-use Rattle.std.specs.Prelude.{ℕ, suc, ℤ, pos, ◌+◌, ◌-ℤ◌, List, length}
+use Rattle.std.specs.Prelude.{ℕ, ℤ, pos, ◌-ℤ◌, List}
 use Rattle.ps_rational.specs.Rational.{Rational}
 use Rattle.ps_meaning.specs.Formula.{World}
 use Rattle.ps_simplex.specs.declared.phase.Phase.{Phase}
@@ -20,12 +20,8 @@ pub record Frame : Type 0 where
   pub entries : World → List ℤ
   pub system : List World → System
 
--- how many columns a table over a pool has
-abbrev pub width_over : Frame → List World → ℕ
-width_over f pool = suc (f.rows + length pool)
-
--- the program of a phase: its rows and columns, how many atoms a world has, and the cost of each column over a pool; the dual that
--- a table's multipliers make; and the gain of a dual in a world, also as a combination of the variables that a search goes over
+-- the program of a phase: its rows and columns, how many atoms a world has, and the cost of each column over a pool; the dual
+-- that a table's multipliers make; and the gain of a dual in a world, also as a combination of the variables of a search
 pub record Program : Type 0 where
   pub frame : Frame
   pub atoms : ℕ

@@ -1,5 +1,5 @@
 -- Lawful runs of a linear program: pivots by the rule at moving tables, and worlds that are priced at resting ones.
-use Rattle.std.specs.Prelude.{Option, Some, None, ◌≡◌, ◌⊎◌, ℕ, suc, ◌<◌, ℤ, pos}
+use Rattle.std.specs.Prelude.{Option, Some, None, ◌≡◌, ◌⊎◌, ℕ, suc, ◌+◌, ◌<◌, ℤ, pos}
 use Rattle.std.specs.Prelude.{◌≤ℤ◌, ◌<ℤ◌, List, [], ◌∷◌, ◌++◌, length, All}
 use Rattle.ps_rational.specs.Rational.{Rational}
 use Rattle.ps_meaning.specs.Formula.{World}
@@ -14,7 +14,7 @@ use Rattle.ps_pool.specs.declared.event.Event.TheVariants.{Pivot, Priced}
 use Rattle.ps_table.specs.Tableau.{number_in, IsInside}
 use Rattle.ps_claims.specs.Answers.{Model}
 use Rattle.ps_claims.specs.Duals.{Dual}
-use Rattle.ps_runs.specs.Programs.{Frame, Program, width_over, goal_at_least}
+use Rattle.ps_runs.specs.Programs.{Frame, Program, goal_at_least}
 use Rattle.ps_runs.specs.Certificates.{table_model, HaveSameNumbers}
 use Rattle.ps_runs.specs.Searches.{IsSpentSearch}
 
@@ -36,7 +36,7 @@ pub record IsPool (atoms : ℕ) (pool : List World) : Type 0 where
 
 -- a table as the rule sees it at the stage
 abbrev pub table_at : Frame → Stage → (ℕ → ℕ → Rational) → SimplexTable
-table_at f g X = simplex_table (f.system g.pool) (width_over f g.pool) g.basis X
+table_at f g X = simplex_table (f.system g.pool) (suc (f.rows + length g.pool)) g.basis X
 
 -- the costs of its columns
 abbrev pub costs_at : Program → Stage → ℕ → Rational
@@ -52,7 +52,7 @@ gain_at p g X w = p.gain (dual_at p g X) w
 
 -- a table belongs to the basis of the stage
 abbrev pub BelongsTo : Frame → Stage → (ℕ → ℕ → Rational) → Type 0
-BelongsTo f g X = Belongs f.rows (width_over f g.pool) (f.system g.pool).columns g.basis X
+BelongsTo f g X = Belongs f.rows (suc (f.rows + length g.pool)) (f.system g.pool).columns g.basis X
 
 -- a table of the stage isn't due to end, and a column improves: the run goes on with a pivot
 pub record IsMovingAt (p : Program) (g : Stage) : Type 0 where
@@ -75,7 +75,7 @@ pub record IsFeasibleAt (f : Frame) (g : Stage) (X : ℕ → ℕ → Rational) :
 pub record IsLawfulPivot (p : Program) (g : Stage) (enter : Col) (leave : ℕ) : Type 0 where
   pub there : IsInside p.frame.rows (length g.pool) enter
   pub lawful : IsLawfulAt p.phase (p.frame.system g.pool) (costs_at p g)
-      (width_over p.frame g.pool) g.basis (number_in p.frame.rows enter) leave
+      (suc (p.frame.rows + length g.pool)) g.basis (number_in p.frame.rows enter) leave
 
 -- in no world is the gain of a table's dual greater than this
 pub record AreAtMost (p : Program) (g : Stage) (X : ℕ → ℕ → Rational) (most : ℤ) : Type 0 where

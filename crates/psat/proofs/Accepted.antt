@@ -24,7 +24,7 @@ use Rattle.ps_claims.specs.Claims.{claims_of, open_in_verdict, open_in_part, unf
 use Rattle.ps_claims.specs.Validity.{IsValid, IsValidPart}
 use Rattle.ps_read.specs.Readings.{SpellsProblem}
 use Rattle.ps_valid.specs.Answers.{answer_of, verdict_of}
-use Rattle.ps_generation.specs.declared.limits.Limits.{Limits}
+use Rattle.ps_phases.specs.declared.limits.Limits.{Limits}
 use Rattle.ps_generation.specs.Phases.{AreLimits}
 use Rattle.ps_reported.specs.Laws.{IsAnswered}
 use Rattle.ps_reported.proofs.Reports.{written_text}
@@ -83,12 +83,12 @@ run_limits : (limits : Limits) (enough : Bool) (p : Parts) → AreLimits limits 
 run_limits limits false p h = h
 run_limits limits true p h = record { pivots = min-le_right (enough_for p) MOST_PIVOTS; conflicts = h.conflicts }
 
-solved_answered : (limits : Limits) (bytes : List ℕ) (o : Output) (p : Parts) (a : Answer) → AreLimits limits → IsSolvedBy limits bytes o p a → IsAnswered p limits.pivots limits.conflicts a
+solved_answered : (limits : Limits) (bytes : List ℕ) (o : Output) (p : Parts) (a : Answer) → AreLimits limits → IsSolvedBy limits bytes o p a → IsAnswered p limits a
 solved_answered limits bytes o p a within h = record {
   parts = spelled_parts bytes p (length bytes) h.spells;
   few_pivots = within.pivots;
   few_conflicts = within.conflicts;
-  settled = answer_settled p limits.pivots limits.conflicts a h.solution.lawful;
+  settled = answer_settled p limits a h.solution.lawful;
   valid = h.solution.valid;
   printed = h.solution.printed;
 }
@@ -96,7 +96,7 @@ solved_answered limits bytes o p a within h = record {
 -- so its report is the answer's text, and that of no other
 solved_text : (limits : Limits) (bytes : List ℕ) (o : Output) (p : Parts) (a : Answer) → AreLimits limits → IsSolvedBy limits bytes o p a
     → IsText (report_of a) a × ((b : Answer) → IsText (report_of a) b → b ≡ a)
-solved_text limits bytes o p a within h = written_text p limits.pivots limits.conflicts a (solved_answered limits bytes o p a within h)
+solved_text limits bytes o p a within h = written_text p limits a (solved_answered limits bytes o p a within h)
 
 pub one_solution : (limits : Limits) (enough : Bool) (bytes : List ℕ) (o : Output) (p q : Parts) (a b : Answer) → AreLimits limits
     → IsSolvedBy (limits_for limits enough p) bytes o p a → IsSolvedBy (limits_for limits enough q) bytes o q b → a ≡ b

@@ -5,13 +5,11 @@ use Rattle.std.proofs.Math.Seq.{take_all}
 use Rattle.std.proofs.lemmas.Option.{same_Some}
 use Rattle.ps_problem.specs.Problems.{Parts}
 use Rattle.ps_answer.specs.declared.answer.Answer.{Answer}
-use Rattle.ps_answer.specs.declared.error.LineKind.{LineKind}
-use Rattle.ps_answer.specs.declared.error.ReportError.{ReportError}
 use Rattle.ps_answer.specs.declared.error.ReportError.TheVariants as errors
 use Rattle.ps_read.specs.declared.read_error.ReadError.{ReadError}
 use Rattle.ps_read.specs.declared.read_error.ReadError.TheVariants as unread
 use Rattle.ps_text.specs.declared.kind.ReadKind.{ReadKind}
-use Rattle.ps_read.specs.Readings.{SpellsWhole, IsUnread, IsUnreadWhole}
+use Rattle.ps_read.specs.Readings.{SpellsWhole, IsUnreadWhole}
 use Rattle.ps_read.specs.Reads.{Tells}
 use Rattle.ps_claims.specs.Claims.{claims_of}
 use Rattle.ps_valid.specs.declared.refusal.Accepted.{Accepted}
@@ -22,9 +20,9 @@ use Rattle.ps_valid.specs.Answers.{answer_of, IsRightOf}
 use Rattle.ps_valid.specs.Judged.{IsJudged, IsAccepted}
 use Rattle.ps_io.specs.Transfer.{Appends, ReadAll, TookMore, TookWithin}
 use Rattle.ps_io.specs.declared.limits.TheConstants.{LONGEST_READ}
-use Rattle.ps_generation.specs.declared.limits.Limits.{Limits}
+use Rattle.ps_phases.specs.declared.limits.Limits.{Limits}
 use Rattle.ps_query.specs.Solutions.{IsReadBack, IsSolution}
-use Rattle.ps_phases.proofs.Limits.{answer_enough}
+use Rattle.ps_phases.proofs.EnoughPivots.{answer_enough}
 use Rattle.ps_explain.specs.declared.explained.Explained.{Explained}
 use Rattle.ps_explain.specs.Explanations.{IsRightExplanation}
 use Rattle.psat.specs.declared.command.Command.{Command}
@@ -227,7 +225,7 @@ solved_due limits run enough bytes p a same spells solution back =
     Solved p a (subst (λ (x : Limits). IsSolvedBy x bytes (record { text = report_of a; status = status_after a }) p a) same (record {
       spells = spells;
       solution = solution;
-      enough = λ h. answer_enough p run.pivots run.conflicts a h solution.lawful;
+      enough = λ h. answer_enough p run a h solution.lawful;
       read_back = back;
       is = refl;
     }))

@@ -5,7 +5,7 @@ use Rattle.std.proofs.lemmas.List.{length-map}
 use Rattle.std.proofs.Math.Nat.{min-eq_left, min-eq_right, min-le_right}
 use Rattle.ps_problem.specs.Problems.{Parts, bound_of, bounds_in, bounds_of}
 use Rattle.ps_answer.specs.declared.limits.TheConstants.{MOST_PIVOTS}
-use Rattle.ps_generation.specs.declared.limits.Limits.{Limits}
+use Rattle.ps_phases.specs.declared.limits.Limits.{Limits}
 use Rattle.ps_generation.specs.Phases.{AreLimits}
 use Rattle.ps_cycle.specs.Count.{choose}
 use Rattle.ps_cycle.proofs.Ways.{ways_rise, one_of}
@@ -15,7 +15,7 @@ use Rattle.ps_runs.specs.Subjects.{sentences_of}
 use Rattle.ps_runs.specs.Kept.{kept_of, flags_of, kept_parts}
 use Rattle.ps_runs.proofs.Kept.{length-kept, bounds-kept}
 use Rattle.ps_phases.specs.Enough.{IsEnough, HasNoPivotsCause}
-use Rattle.ps_phases.proofs.Limits.{answer_enough}
+use Rattle.ps_phases.proofs.EnoughPivots.{answer_enough}
 use Rattle.ps_explain.specs.declared.explained.Explained.{Explained}
 use Rattle.ps_explain.specs.declared.explained.Explained.TheVariants as explained
 use Rattle.ps_explain.specs.Explanations.{IsRightExplanation}
@@ -88,7 +88,7 @@ explanation_enough limits p (explained.Consistent m) enough h = tt
 explanation_enough limits p (explained.Core sentences d models) enough h = tt
 explanation_enough limits p (explained.Open sentences cause first) enough h =
     let fewer = kept_enough h.kept p in
-    let none = answer_enough (kept_parts h.kept p) limits.pivots limits.conflicts (record { verdict = Open cause; first = first; parts = [] })
+    let none = answer_enough (kept_parts h.kept p) limits (record { verdict = Open cause; first = first; parts = [] })
     (omega (arith, enough, fewer)) (record { verdict = h.lawful; parts = tt }) in
     none.verdict
 

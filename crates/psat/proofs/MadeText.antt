@@ -42,7 +42,7 @@ use Rattle.ps_valid.specs.declared.refusal.CheckError.TheVariants.{Refused}
 use Rattle.std.specs.Prelude.{Err}
 use Rattle.ps_valid.specs.Limits.{IsAmount, IsSmallModel, IsSmallVerdict, IsSmallSide, IsSmallPart, IsSmallAnswer}
 use Rattle.ps_valid.specs.declared.refusal.Accepted.{Accepted}
-use Rattle.ps_generation.specs.declared.limits.Limits.{Limits}
+use Rattle.ps_phases.specs.declared.limits.Limits.{Limits}
 use Rattle.ps_query.specs.Solutions.{AreShortLines, IsSolution}
 use Rattle.ps_make.specs.Chain.{made_problem, made_text}
 use Rattle.psat.specs.declared.made.MadeProblem.{MadeProblem}

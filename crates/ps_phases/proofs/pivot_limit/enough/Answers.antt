@@ -1,4 +1,4 @@
-use Rattle.ps_phases.proofs.Limits.{answer_enough}
+use Rattle.ps_phases.proofs.EnoughPivots.{answer_enough}
 use Rattle.ps_phases.proofs.pivot_limit.enough.Goals as goal
 
 pub returns : goal.returns

@@ -7,6 +7,6 @@ pub returns : goal.returns
 returns c = record {
   within = all_within;
   short = all_short;
-  reports = λ p pivots conflicts a h names. written_report a (settled_counted p pivots conflicts a h.settled) (all_within p pivots conflicts a h names);
+  reports = λ p limits a h names. written_report a (settled_counted p limits a h.settled) (all_within p limits a h names);
   texts = written_text;
 }

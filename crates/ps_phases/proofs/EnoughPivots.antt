@@ -22,6 +22,7 @@ use Rattle.ps_answer.specs.declared.answer.SideAnswer.{SideAnswer}
 use Rattle.ps_answer.specs.declared.answer.SideAnswer.TheVariants as side
 use Rattle.ps_claims.specs.declared.claim_kind.ClaimKind.{ClaimKind}
 use Rattle.ps_claims.specs.declared.claim_kind.ClaimKind.TheVariants.{Nothing, Lower, Upper}
+use Rattle.ps_phases.specs.declared.limits.Limits.{Limits}
 use Rattle.ps_runs.specs.Subjects.{Subject, subject_of, sentences_of, setting_of, atoms_of, frame_of, program_of}
 use Rattle.ps_runs.specs.Subjects.{frame_of, program_of}
 use Rattle.ps_runs.specs.Runs.{Stage, IsStart, IsPool, LeadsToPending, entire, pending, pivots_in}
@@ -52,32 +53,32 @@ leads_pending kind s conflicts a b events world r (pending x y es w way at) =
     let e : pivots_in es ≡ pivots_in (es ++ Priced w ∷ []) = let f = pivots_in-append es (Priced w ∷ []) in omega (arith, f) in
     subst (Reached kind s b) e (leads kind s conflicts a b es r way)
 
-none_left : (kind : ClaimKind) (s : Subject) (pivots conflicts limit left : ℕ) (g : Stage) (world : Option World) → IsLicensed (program_of kind s) pivots conflicts g left world (Pivots limit) → left ≡ 0
-none_left kind s pivots conflicts limit left g None h = h.none_left
-none_left kind s pivots conflicts limit left g (Some w) h = absurd h
+none_left : (kind : ClaimKind) (s : Subject) (limits : Limits) (limit left : ℕ) (g : Stage) (world : Option World) → IsLicensed (program_of kind s) limits g left world (Pivots limit) → left ≡ 0
+none_left kind s limits limit left g None h = h.none_left
+none_left kind s limits limit left g (Some w) h = absurd h
 
 -- where a pivot is left, the cause is another
-other_cause : (kind : ClaimKind) (s : Subject) (pivots conflicts left : ℕ) (g : Stage) (world : Option World) (cause : Cause) → (left ≡ 0 → ⊥) → IsLicensed (program_of kind s) pivots conflicts g left world cause → IsOtherThanPivots cause
-other_cause kind s pivots conflicts left g world (Pivots limit) some h = some (none_left kind s pivots conflicts limit left g world h)
-other_cause kind s pivots conflicts left g world (Conflicts limit goal steps) some h = tt
-other_cause kind s pivots conflicts left g world (Wide at) some h = tt
+other_cause : (kind : ClaimKind) (s : Subject) (limits : Limits) (left : ℕ) (g : Stage) (world : Option World) (cause : Cause) → (left ≡ 0 → ⊥) → IsLicensed (program_of kind s) limits g left world cause → IsOtherThanPivots cause
+other_cause kind s limits left g world (Pivots limit) some h = some (none_left kind s limits limit left g world h)
+other_cause kind s limits left g world (Conflicts limit goal steps) some h = tt
+other_cause kind s limits left g world (Wide at) some h = tt
 
-verdict_enough : (s : Subject) (pivots conflicts : ℕ) (events : List Event) (v : Verdict) → IsEnough s pivots → IsLawfulPhaseOne (program_of Nothing s) pivots conflicts v events → IsVerdictNotForPivots v
-verdict_enough s pivots conflicts events (Consistent m) enough h = tt
-verdict_enough s pivots conflicts events (Inconsistent d) enough h = tt
-verdict_enough s pivots conflicts events (Open cause) enough h =
-    let reached = leads_pending Nothing s conflicts h.start h.end events h.pending (first_reached s h.start h.starts) h.leads in
+verdict_enough : (s : Subject) (limits : Limits) (events : List Event) (v : Verdict) → IsEnough s limits.pivots → IsLawfulPhaseOne (program_of Nothing s) limits v events → IsVerdictNotForPivots v
+verdict_enough s limits events (Consistent m) enough h = tt
+verdict_enough s limits events (Inconsistent d) enough h = tt
+verdict_enough s limits events (Open cause) enough h =
+    let reached = leads_pending Nothing s limits.conflicts h.start h.end events h.pending (first_reached s h.start h.starts) h.leads in
     let few = few_made Nothing s h.end (pivots_in events) reached in
     let counted = h.counted in
-    other_cause Nothing s pivots conflicts h.left h.end h.pending cause (λ left. absurd (omega (arith, enough, few, left, counted))) h.answered
+    other_cause Nothing s limits h.left h.end h.pending cause (λ left. absurd (omega (arith, enough, few, left, counted))) h.answered
 
-side_otherwise : (kind : ClaimKind) (s : Subject) (pivots conflicts left : ℕ) (g : Stage) (world : Option World) (a : SideAnswer) → (left ≡ 0 → ⊥) → IsSideAt (program_of kind s) pivots conflicts g left world a → IsSideNotForPivots a
-side_otherwise kind s pivots conflicts left g world (side.Bound value m d) some h = tt
-side_otherwise kind s pivots conflicts left g world (side.Open cause) some h = other_cause kind s pivots conflicts left g world cause some h
+side_otherwise : (kind : ClaimKind) (s : Subject) (limits : Limits) (left : ℕ) (g : Stage) (world : Option World) (a : SideAnswer) → (left ≡ 0 → ⊥) → IsSideAt (program_of kind s) limits g left world a → IsSideNotForPivots a
+side_otherwise kind s limits left g world (side.Bound value m d) some h = tt
+side_otherwise kind s limits left g world (side.Open cause) some h = other_cause kind s limits left g world cause some h
 
-module _ (s : Subject) (pivots conflicts : ℕ) (first lower_events upper_events : List Event) (lower upper : SideAnswer) (enough : IsEnough s pivots) (h : AreLawfulBounds s pivots conflicts first lower lower_events upper upper_events) where
+module _ (s : Subject) (limits : Limits) (first lower_events upper_events : List Event) (lower upper : SideAnswer) (enough : IsEnough s limits.pivots) (h : AreLawfulBounds s limits first lower lower_events upper upper_events) where
   after_one : Reached Nothing s h.after_first (pivots_in first)
-  after_one = leads Nothing s conflicts h.start h.after_first first (first_reached s h.start h.starts) h.leads
+  after_one = leads Nothing s limits.conflicts h.start h.after_first first (first_reached s h.start h.starts) h.leads
 
   lower_begins : Reached Lower s h.after_first 0
   lower_begins =
@@ -86,7 +87,7 @@ module _ (s : Subject) (pivots conflicts : ℕ) (first lower_events upper_events
       begins Lower s h.after_first h.table after_one.pool_kept (record { there = is.there; zeros = h.feasible.feasible })
 
   after_least : Reached Lower s h.after_lower (pivots_in lower_events)
-  after_least = leads_pending Lower s conflicts h.after_first h.after_lower lower_events h.least.pending lower_begins h.least.leads
+  after_least = leads_pending Lower s limits.conflicts h.after_first h.after_lower lower_events h.least.pending lower_begins h.least.leads
 
   upper_begins : Reached Upper s h.after_lower 0
   upper_begins =
@@ -94,7 +95,7 @@ module _ (s : Subject) (pivots conflicts : ℕ) (first lower_events upper_events
       begins Upper s h.after_lower here.table after_least.pool_kept (record { there = here.is.there; zeros = here.is.zeros })
 
   after_greatest : Reached Upper s h.end (pivots_in upper_events)
-  after_greatest = leads_pending Upper s conflicts h.after_lower h.end upper_events h.greatest.pending upper_begins h.greatest.leads
+  after_greatest = leads_pending Upper s limits.conflicts h.after_lower h.end upper_events h.greatest.pending upper_begins h.greatest.leads
 
   few_first : pivots_in first < ways_in s
   few_first = few_made Nothing s h.after_first (pivots_in first) after_one
@@ -111,7 +112,7 @@ module _ (s : Subject) (pivots conflicts : ℕ) (first lower_events upper_events
       let b = h.least.counted in
       let c = few_first in
       let d = few_lower in
-      side_otherwise Lower s pivots conflicts h.left_lower h.after_lower h.least.pending lower (λ left. absurd (omega (arith, enough, left, a, b, c, d))) h.least.answered
+      side_otherwise Lower s limits h.left_lower h.after_lower h.least.pending lower (λ left. absurd (omega (arith, enough, left, a, b, c, d))) h.least.answered
 
   upper_enough : IsSideNotForPivots upper
   upper_enough =
@@ -121,27 +122,27 @@ module _ (s : Subject) (pivots conflicts : ℕ) (first lower_events upper_events
       let d = few_first in
       let f = few_lower in
       let g = few_upper in
-      side_otherwise Upper s pivots conflicts h.left h.end h.greatest.pending upper (λ left. absurd (omega (arith, enough, left, a, b, c, d, f, g))) h.greatest.answered
+      side_otherwise Upper s limits h.left h.end h.greatest.pending upper (λ left. absurd (omega (arith, enough, left, a, b, c, d, f, g))) h.greatest.answered
 
-query_enough : (s : Subject) (pivots conflicts : ℕ) (first : List Event) (a : QueryAnswer) → IsEnough s pivots → IsLawfulAnswerTo s pivots conflicts first a → IsQueryNotForPivots a
-query_enough s pivots conflicts first (query.Bounds lower lower_events upper upper_events) enough h = (
-  lower_enough s pivots conflicts first lower_events upper_events lower upper enough h,
-  upper_enough s pivots conflicts first lower_events upper_events lower upper enough h,
+query_enough : (s : Subject) (limits : Limits) (first : List Event) (a : QueryAnswer) → IsEnough s limits.pivots → IsLawfulAnswerTo s limits first a → IsQueryNotForPivots a
+query_enough s limits first (query.Bounds lower lower_events upper upper_events) enough h = (
+  lower_enough s limits first lower_events upper_events lower upper enough h,
+  upper_enough s limits first lower_events upper_events lower upper enough h,
 )
-query_enough s pivots conflicts first (query.Impossible d) enough h = tt
-query_enough s pivots conflicts first (query.Open cause) enough h = verdict_enough s pivots conflicts first (Open cause) enough h
+query_enough s limits first (query.Impossible d) enough h = tt
+query_enough s limits first (query.Open cause) enough h = verdict_enough s limits first (Open cause) enough h
 
-parts_enough : (p : Parts) (pivots conflicts : ℕ) (qs : List Query) (parts : List QueryPart) → IsEnough (sentences_of p) pivots → AllZip (IsLawfulPart p pivots conflicts) qs parts
+parts_enough : (p : Parts) (limits : Limits) (qs : List Query) (parts : List QueryPart) → IsEnough (sentences_of p) limits.pivots → AllZip (IsLawfulPart p limits) qs parts
     → All (λ (x : QueryPart). IsQueryNotForPivots x.answer) parts
-parts_enough p pivots conflicts [] [] enough h = All-nil (λ (x : QueryPart). IsQueryNotForPivots x.answer)
-parts_enough p pivots conflicts [] (x ∷ xs) enough h = absurd h
-parts_enough p pivots conflicts (q ∷ qs) [] enough h = All-nil (λ (x : QueryPart). IsQueryNotForPivots x.answer)
-parts_enough p pivots conflicts (q ∷ qs) (x ∷ xs) enough h =
-    All-cons (λ (x : QueryPart). IsQueryNotForPivots x.answer) x xs (query_enough (subject_of p q) pivots conflicts x.first x.answer enough h.0)
-    (parts_enough p pivots conflicts qs xs enough h.1)
+parts_enough p limits [] [] enough h = All-nil (λ (x : QueryPart). IsQueryNotForPivots x.answer)
+parts_enough p limits [] (x ∷ xs) enough h = absurd h
+parts_enough p limits (q ∷ qs) [] enough h = All-nil (λ (x : QueryPart). IsQueryNotForPivots x.answer)
+parts_enough p limits (q ∷ qs) (x ∷ xs) enough h =
+    All-cons (λ (x : QueryPart). IsQueryNotForPivots x.answer) x xs (query_enough (subject_of p q) limits x.first x.answer enough h.0)
+    (parts_enough p limits qs xs enough h.1)
 
-pub answer_enough : (p : Parts) (pivots conflicts : ℕ) (a : Answer) → IsEnough (sentences_of p) pivots → IsLawfulAnswer p pivots conflicts a → HasNoPivotsCause a
-answer_enough p pivots conflicts a enough h = record {
-  verdict = verdict_enough (sentences_of p) pivots conflicts a.first a.verdict enough h.verdict;
-  parts = parts_enough p pivots conflicts (asked_after a.verdict p.queries) a.parts enough h.parts;
+pub answer_enough : (p : Parts) (limits : Limits) (a : Answer) → IsEnough (sentences_of p) limits.pivots → IsLawfulAnswer p limits a → HasNoPivotsCause a
+answer_enough p limits a enough h = record {
+  verdict = verdict_enough (sentences_of p) limits a.first a.verdict enough h.verdict;
+  parts = parts_enough p limits (asked_after a.verdict p.queries) a.parts enough h.parts;
 }
