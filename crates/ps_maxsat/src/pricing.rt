@@ -12,7 +12,7 @@ use crate::problem::{Wcnf, most_value, value};
 use crate::spacing::{greatest_in_steps, unit_of};
 use ps_log::ProofSink;
 use ps_pb::{Assignment, from_weights};
-use ps_sat::{Outcome, SearchError, search};
+use ps_sat::{Outcome, SearchError, search_from};
 use std::alloc::Global;
 
 /// What the greatest value is.
@@ -69,7 +69,7 @@ fn search_above<S: ProofSink>(
     ensures same_references { S.names log.new ≡ S.names log.old }
 {
     let goal = from_weights(alloc, wcnf.soft.as_slice(), least - wcnf.base)?;
-    search(alloc, &wcnf.hard, &goal, conflicts, log)
+    search_from(alloc, &wcnf.hard, &goal, &wcnf.first, conflicts, log)
 }
 
 // Half of a distance, rounded down.

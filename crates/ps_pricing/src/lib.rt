@@ -2,6 +2,7 @@
 //! one, unless the search for it was spent.
 #![tactic(auto)]
 
+mod alone;
 mod kept;
 mod pricer;
 mod pricing;

@@ -8,6 +8,7 @@ ghost use Rattle.ps_runs.specs.Subjects.{IsAsked, atoms_of, given_in, both_in};
 ghost use Rattle.ps_pricing.specs.Pricings.{IsAssigned, IsDualFor, IsPricing};
 ghost use Rattle.ps_pricing.specs.Pricings.{IsPrintedPricing, IsWcnf, priced_over};
 
+use crate::alone::first_world;
 use crate::kept::{bounds_of, kept_sentences};
 use crate::pricing::Pricing;
 use crate::sought::{Sought, seek};
@@ -24,7 +25,8 @@ use std::alloc::Global;
 use std::marker::Model;
 
 /// What duals are priced over: the kept sentences of a problem with their bounds, the clause form
-/// of the problem's nodes, and a query, or none; and how many clauses a search may learn.
+/// of the problem's nodes, and a query, or none; how many clauses a search may learn, and with which
+/// values it begins.
 #[derive(Drop)]
 pub struct Pricer<'p> {
     problem: &'p Problem,
@@ -33,6 +35,7 @@ pub struct Pricer<'p> {
     form: ClauseForm,
     query: Option<Query>,
     conflicts: u64,
+    first: Assignment,
 }
 
 impl<'p> Model for Pricer<'p> {
@@ -72,11 +75,14 @@ impl<'p> Pricer<'p> {
         // Called for its clauses: the problem is within the limits, and its numbers are in range.
         let _sound = problem.bound_list();
         let sentences = kept_sentences(alloc, problem.sentences().as_slice(), kept)?;
+        let bounds = bounds_of(alloc, sentences.as_slice())?;
+        let form = clauses_of(alloc, problem.formulas())?;
         Ok(Pricer {
+            first: first_world(alloc, &form, bounds.as_slice(), conflicts)?,
             problem,
-            bounds: bounds_of(alloc, sentences.as_slice())?,
+            bounds,
             sentences,
-            form: clauses_of(alloc, problem.formulas())?,
+            form,
             query,
             conflicts,
         })
@@ -125,6 +131,7 @@ impl<'p> Pricer<'p> {
             hard: self.form.copy(alloc)?,
             soft: terms,
             base,
+            first: self.first.copy(alloc)?,
         })
     }
 

@@ -7,14 +7,14 @@ use Rattle.std.proofs.lemmas.List.Elements.{All-nil, All-push}
 use Rattle.ps_steps.specs.Assignments.{Assignment, place}
 use Rattle.ps_steps.specs.Constraints.{Constraint, IsMet}
 use Rattle.ps_steps.specs.Weights.{IsWithin, IsNormal, weighted, clause_of}
-use Rattle.ps_steps.specs.Steps.{Known, known_of, Step, lits_of, added, with_step, with_steps, IsLawful, is_contradiction}
+use Rattle.ps_steps.specs.Steps.{known_of, Step, added, with_step, with_steps, IsLawful, is_contradiction}
 use Rattle.ps_steps.proofs.Within.{clause-within}
 use Rattle.ps_steps.proofs.Ids.{known_of-append}
 use Rattle.ps_steps.proofs.Onward.{lawful-append, steps-append}
 use Rattle.ps_forms.specs.Forms.{Form, MeetsForm, AreInside, HasClauses, first_known}
 use Rattle.ps_forms.specs.Decided.{AtomsDecide}
 use Rattle.ps_log.specs.Logs.{Telling, Starts, Grows, Stays}
-use Rattle.ps_trail.specs.Trails.{Trail, TrailEntry, values, values_of, rank, up_to, IsLit, IsFresh, AreFresh, AreLevels, AreReasons, IsConflict}
+use Rattle.ps_trail.specs.Trails.{Trail, values, values_of, up_to, IsLit, IsFresh, AreFresh, AreLevels, AreReasons, IsConflict}
 use Rattle.ps_trail.proofs.Entries.{reasons-take, reasons-more, reasons-none, length-values}
 use Rattle.ps_learn.specs.Rest.{IsDone, IsLonger}
 use Rattle.ps_sat.specs.Searches.{HoldsGoalAndSteps, Handed, AreLearned, IsHeld, HoldsLearned}
@@ -22,12 +22,10 @@ use Rattle.ps_sat.specs.declared.searching.Outcome.{Outcome}
 use Rattle.ps_sat.proofs.Ends.{found, refuted}
 use Rattle.ps_sat.proofs.Lessons.{IsResting, IsAtConflict, resting-learned, due-at}
 use Rattle.ps_forms.specs.Spent.{IsSpentSearch, AreNew}
-use Rattle.ps_learn.specs.Resting.{AreRested, AreOfAtoms, HasRisen}
-use Rattle.ps_watch.specs.Watches.{Extends}
-use Rattle.std.proofs.lemmas.List.{append_assoc}
+use Rattle.ps_learn.specs.Resting.{AreRested, AreOfAtoms}
 use Rattle.ps_learn.proofs.Learnt.{Learns}
 use Rattle.ps_learn.proofs.Rising.{risen-none, risen-few, below-power}
-use Rattle.ps_learn.proofs.Growing.{rested-none, atoms-none, rested-implied, atoms-implied}
+use Rattle.ps_learn.proofs.Growing.{rested-none, atoms-none}
 use Rattle.ps_learn.proofs.News.{new-none, new-more}
 
 -- a search: the trail's reasons are known, and what is known is the form, the goal and the steps that were handed over

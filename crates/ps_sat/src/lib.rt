@@ -9,4 +9,4 @@ mod searching;
 pub use error::SearchError;
 pub use ps_log::MOST_CONFLICTS;
 pub use ps_watch::Kept;
-pub use searching::{Outcome, search};
+pub use searching::{Outcome, search, search_from};

@@ -23,7 +23,7 @@ const SCALE: u32 = 32;
 /// Which variable to decide on next: the most active one, where the variables that took part in a
 /// conflict gain activity, the more the later it was (M. W. Moskewicz and others, "Chaff", 2001).
 /// It gets its last value again (K. Pipatsrisawat, A. Darwiche, 2007), at first the one that the
-/// goal wants, and else false.
+/// goal wants, else the one that a first assignment gives, and else false.
 #[derive(Drop)]
 pub(crate) struct Order {
     activities: Vec<u64>,
@@ -32,12 +32,17 @@ pub(crate) struct Order {
 }
 
 impl Order {
-    /// No variable is active; the values are those that make the goal's literals true, and false for
-    /// the variables that the goal hasn't.
-    pub(crate) fn new(alloc: Global, goal: &Constraint, variables: u32) -> Result<Order, NoMemory> {
+    /// No variable is active; the values are those that make the goal's literals true, and those of
+    /// the first assignment, or false, for the variables that the goal hasn't.
+    pub(crate) fn new(
+        alloc: Global,
+        goal: &Constraint,
+        first: &Assignment,
+        variables: u32,
+    ) -> Result<Order, NoMemory> {
         let mut order = Order {
             activities: vec![in alloc; 0; variables as usize]?,
-            values: vec![in alloc; false; variables as usize]?,
+            values: first_values(alloc, first, variables)?,
             gain: FIRST_GAIN,
         };
         for term in goal.terms().as_slice() {
@@ -121,6 +126,15 @@ impl Order {
     fn value(&self, place: u32) -> bool {
         self.values.get(place as usize).copied().unwrap_or(false)
     }
+}
+
+// The values of so many variables in an assignment; false where it has none.
+fn first_values(alloc: Global, first: &Assignment, variables: u32) -> Result<Vec<bool>, NoMemory> {
+    let mut values = Vec::with_capacity(alloc, variables as usize)?;
+    for place in 0..variables {
+        values.push(first.value(place + 1).unwrap_or(false))?;
+    }
+    Ok(values)
 }
 
 // Whether a variable is an atom's, and has no value.

@@ -67,10 +67,37 @@ pub fn search<S: ProofSink>(
     ensures same_kind { S.takes_memory log.new ≡ S.takes_memory log.old }
     ensures same_references { S.names log.new ≡ S.names log.old }
 {
+    let first = Assignment::new(alloc, 0)?;
+    search_from(alloc, base, goal, &first, conflicts, log)
+}
+
+/// As `search`. A variable that the goal hasn't is first tried with the value that the first
+/// assignment gives it, and false where it gives none.
+pub fn search_from<S: ProofSink>(
+    alloc: Global,
+    base: &ClauseForm,
+    goal: &Constraint,
+    first: &Assignment,
+    conflicts: u64,
+    log: &mut S,
+) -> Result<Outcome, SearchError>
+    requires whole { IsTrue (S.is_whole log.old) }
+    requires goal { IsWithin base.now.variables goal.now }
+    requires few { conflicts ≤ MOST_CONFLICTS }
+    ensures outcome { IfOk result (IsOutcome base.now goal.now conflicts) }
+    ensures hints { IfOk result (IsOutcomeOfHints base.now goal.now) }
+    ensures logged { IsLogged base.now goal.now conflicts (S.told log.old) (S.told log.new) result }
+    ensures whole { OnOk result (IsTrue (S.is_whole log.new)) }
+    ensures begun { BeginsOnce result (S.begins log.old) (S.begins log.new) }
+    ensures counted { CountsSearchFault result (S.faults log.old) (S.faults log.new) }
+    ensures no_memory { IsErrOf result SearchError.NoMemory → IsTrue (S.is_whole log.new) }
+    ensures same_kind { S.takes_memory log.new ≡ S.takes_memory log.old }
+    ensures same_references { S.names log.new ≡ S.names log.old }
+{
     let kept = Kept::new(alloc, base, goal)?;
-    let trail = Trail::new(alloc, base.variables())?;
+    let order = Order::new(alloc, goal, first, base.variables())?;
     begin(goal, log)?;
-    learn_all(alloc, base, goal, conflicts, kept, trail, log)
+    learn_all(alloc, base, goal, conflicts, kept, order, log)
 }
 
 // Begins the log with the goal.
@@ -98,7 +125,7 @@ fn learn_all<S: ProofSink>(
     goal: &Constraint,
     conflicts: u64,
     mut kept: Kept,
-    mut trail: Trail,
+    mut order: Order,
     log: &mut S,
 ) -> Result<Outcome, SearchError>
     requires whole { IsTrue (S.is_whole log.old) }
@@ -106,7 +133,6 @@ fn learn_all<S: ProofSink>(
     requires variables { kept.variables ≡ base.now.variables }
     requires known { kept.known ≡ base.now.clauses ++ goal.now ∷ [] }
     requires seen { kept.seen ≡ [] }
-    requires unset { trail ≡ record { variables = base.now.variables; entries = [] } }
     requires begun { HoldsGoalAndSteps (S.told log.old).tells (S.told log.old) goal.now [] }
     requires small { length kept.known ≤ 2 ^ 32 }
     requires few { conflicts ≤ MOST_CONFLICTS }
@@ -120,7 +146,7 @@ fn learn_all<S: ProofSink>(
     ensures same_kind { S.takes_memory log.new ≡ S.takes_memory log.old }
     ensures same_references { S.names log.new ≡ S.names log.old }
 {
-    let mut order = Order::new(alloc, goal, base.variables())?;
+    let mut trail = Trail::new(alloc, base.variables())?;
     // Read for its clauses: the goal is in the form in which constraints are kept.
     let _terms = goal.terms();
     let mut learned = 0;

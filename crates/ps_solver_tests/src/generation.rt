@@ -1,4 +1,4 @@
-use crate::problems::{CONTRADICTORY, LIMITS, SINGLE, problem};
+use crate::problems::{CHAIN, CONTRADICTORY, LIMITS, SINGLE, problem};
 use ps_claims::ClaimKind;
 use ps_generation::{End, Setting, run_phase};
 use ps_io::NoMemory;
@@ -40,10 +40,29 @@ fn is_refuted(alloc: Global) -> bool {
     }
 }
 
+// The world that meets both bounds alone is the first, though false is tried first without it: one
+// pivot brings it into the basis in place of the artificial column, and the slacks stay.
+fn ends_at_the_first_world(alloc: Global) -> bool {
+    match problem(alloc, CHAIN) {
+        Some(problem) => match ended(alloc, &problem, &[true, true]) {
+            Ok((End::Feasible, worlds, pivots)) => worlds == 1 && pivots == 1,
+            Ok(_) | Err(_) => false,
+        },
+        None => false,
+    }
+}
+
 #[test]
 fn phase_one_ends_feasible_or_refuted(rt: HostRuntime) -> Result<(), Fail> {
     let alloc = rt.alloc();
     assert!(rt; is_feasible(alloc));
     assert!(rt; is_refuted(alloc));
+    Ok(())
+}
+
+#[test]
+fn a_world_that_meets_all_bounds_is_first(rt: HostRuntime) -> Result<(), Fail> {
+    let alloc = rt.alloc();
+    assert!(rt; ends_at_the_first_world(alloc));
     Ok(())
 }

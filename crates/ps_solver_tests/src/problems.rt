@@ -22,6 +22,9 @@ pub(crate) const ASKED: &[u8] = b"psat 1; P(a) >= 1/3; query P(a); end;";
 
 pub(crate) const CONDITIONAL: &[u8] = b"psat 1; P(!a given b) in [1/4, 1/2]; P(!a) >= 1/2; end;";
 
+// Both bounds hold in the world in which both atoms are true.
+pub(crate) const CHAIN: &[u8] = b"psat 1; P(a) >= 9/10; P(a -> b) >= 99/100; end;";
+
 // The problem that a text spells.
 pub(crate) fn problem(alloc: Global, text: &[u8]) -> Option<Problem>
     requires { length text.now + 1 < 2 ^ 32 }

@@ -1,4 +1,4 @@
-use Rattle.std.proofs.Common.{◌≡◌, ◌<◌, All, List, ◌++◌, sym, ◌∷◌, [], ap, ◌∙◌, refl, subst, length, length-append, arith}
+use Rattle.std.proofs.Common.{◌≡◌, ◌<◌, ℕ, All, List, ◌++◌, sym, ◌∷◌, [], ap, ◌∙◌, refl, subst, length, length-append, arith}
 use Rattle.ps_steps.specs.Weights.{IsNormal, clause_of}
 use Rattle.ps_steps.specs.Constraints.{Constraint}
 use Rattle.ps_steps.specs.Steps.{Step, known_of, added, lits_of}
@@ -14,11 +14,15 @@ use Rattle.ps_sat.proofs.Handing.{own-learned, learned-lesson, step-within, conf
 use Rattle.ps_sat.proofs.Lessons.{next-below}
 use Rattle.ps_sat.proofs.searching.learn_all.Goals as goal
 
+-- a trail without entries, over an equal number of variables
+unset-same : (t : Trail) (n m : ℕ) → t ≡ record { variables = n; entries = [] } → n ≡ m → t ≡ record { variables = m; entries = [] }
+unset-same t n m unset same = subst (λ k. t ≡ record { variables = k; entries = [] }) same unset
+
 pub learn-init : goal.learn-init
 learn-init g c = record {
-  so_far = begins _ _ _ _ _ _ c.requires.begun c.requires.known c.requires.unset c.variables.ensures.inside c.requires.goal;
+  so_far = begins _ _ _ _ _ _ c.requires.begun c.requires.known (unset-same _ _ _ c.in_ok-trail.ensures c.variables.ensures.value) c.variables.ensures.inside c.requires.goal;
   kept = c.requires.variables;
-  in_step = first-step c.args.kept c.args.trail c.requires.seen (ap (λ (t : Trail). t.entries) c.requires.unset);
+  in_step = first-step c.args.kept _ c.requires.seen (ap (λ (t : Trail). t.entries) c.in_ok-trail.ensures);
   few = omega (arith, c.requires.small);
   least = omega arith;
   whole = c.requires.whole;
@@ -100,8 +104,8 @@ learn-preserved g c =
       same_references = c.hand_over-in-learn.ensures.same_references ∙ c.learn.invariant.same_references;
     }
 
-pub returns-in_err-order-clause-logged : goal.returns-in_err-order-clause-logged
-returns-in_err-order-clause-logged g c =
+pub returns-in_err-trail-clause-logged : goal.returns-in_err-trail-clause-logged
+returns-in_err-trail-clause-logged g c =
     err-learned c.args.base.now c.args.goal.now (g.S.ProofSink.told c.args.log.now) _ c.args.conflicts c.from_residual.result c.from_residual.ensures.0 (handed-none c.args.base.now c.args.goal.now _ _ c.args.conflicts c.requires.begun)
 
 pub returns-in_err-found-clause-logged : goal.returns-in_err-found-clause-logged

@@ -1,0 +1,31 @@
+-- The literals that make all bounds hold alone.
+use Rattle.std.proofs.Common.{◌≡◌, ◌<◌, ◌+◌, ◌++◌, ◌∷◌, [], ℕ, ℤ, pos, Bool, List, All, length, arith}
+use Rattle.std.proofs.lemmas.List.Elements.{All-nil, All-append, All-cons}
+use Rattle.ps_steps.specs.Assignments.{literal_at, place}
+use Rattle.ps_steps.specs.Constraints.{Constraint}
+use Rattle.ps_steps.specs.Weights.{Weighted, size_sum, constraint_of, IsWithin}
+use Rattle.ps_steps.proofs.Bounds.{size_sum-append}
+use Rattle.ps_steps.proofs.Clauses.{place_of}
+use Rattle.ps_steps.proofs.Full.{Below}
+use Rattle.ps_steps.proofs.Within.{constraint-within}
+use Rattle.ps_formula.specs.declared.node.Node.{Node}
+use Rattle.ps_problem.specs.declared.bound.Bound.{Bound}
+use Rattle.ps_problem.specs.Problems.{AreBounds}
+
+-- one more literal of these variables
+pub one-more : (n p : ℕ) (s : Bool) (l : ℤ) (ts us : Weighted) → us ≡ ts ++ (l, pos 1) ∷ [] → l ≡ literal_at p s → p < n → All (Below n) ts → All (Below n) us
+one-more n p s l ts us e q below h =
+    let here : place (literal_at p s) < n = omega (arith, below, place_of p s) in
+    rw (e, q) (All-append (Below n) ts ((literal_at p s, pos 1) ∷ []) h (All-cons (Below n) (literal_at p s, pos 1) [] here (All-nil (Below n))))
+
+-- one more weight of 1
+pub one-larger : (l : ℤ) (ts us : Weighted) (i : ℕ) → us ≡ ts ++ (l, pos 1) ∷ [] → size_sum ts ≡ i → size_sum us ≡ i + 1
+one-larger l ts us i e h = rw e (omega (arith, size_sum-append ts ((l, pos 1) ∷ []), h))
+
+-- the constraint of such literals
+pub goal-inside : (n : ℕ) (g : Constraint) (ts us : Weighted) (least : ℤ) → g ≡ constraint_of ts least → ts ≡ us → All (Below n) us → IsWithin n g
+goal-inside n g ts us least e q h = rw (e, q) (constraint-within n us least h)
+
+-- the nodes of bounds are there
+pub nodes-inside : (ns : List Node) (bs cs : List Bound) (n : ℕ) → cs ≡ bs → n ≡ length ns → AreBounds ns bs → All (λ b. b.both < n) cs
+nodes-inside ns bs cs n e q are = rw (e, q) (λ i d lt. (are i d lt).nodes.both_there)

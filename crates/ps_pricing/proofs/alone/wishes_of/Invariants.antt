@@ -1,0 +1,10 @@
+use Rattle.std.proofs.Common.{◌≡◌, ◌<◌, All}
+use Rattle.ps_steps.specs.Assignments.{place}
+use Rattle.ps_steps.specs.Weights.{size_sum}
+use Rattle.ps_pricing.proofs.alone.wishes_of.Given as goal
+
+abbrev pub invariant-loop-bound : goal.invariant-loop-bound
+invariant-loop-bound l = record {
+  inside : All (λ t. place t.0 < l.variables) l.wishes.items;
+  size : size_sum l.wishes.items ≡ l.bound-index;
+}
