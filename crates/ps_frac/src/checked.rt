@@ -22,7 +22,7 @@ pub(crate) fn part(n: u128, g: u128) -> u128
 }
 
 /// `n / g`, rounded toward zero.
-pub(crate) fn divided(n: i128, g: u128) -> i128
+pub(crate) fn exact_quotient(n: i128, g: u128) -> i128
     requires positive { 0 < g }
     requires size { Fits n }
     ensures value { result ≡ int_div n (pos g) }

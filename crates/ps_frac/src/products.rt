@@ -6,7 +6,7 @@ ghost use Rattle.ps_rational.specs.Wide.{product_over, product_under, ProductIsW
 ghost use Rattle.ps_frac.specs.Fitting.{IfFits, IfSizeFits, common};
 ghost use Rattle.ps_frac.specs.Refusals.{Refuses};
 
-use crate::checked::{divided, part, signed_product, size_product};
+use crate::checked::{exact_quotient, part, signed_product, size_product};
 use crate::divisors::gcd;
 use crate::fraction::Fraction;
 use crate::wide::{Op, Wide};
@@ -31,7 +31,10 @@ impl Fraction {
         requires h_small { h < size_limit }
         ensures value { IfFits (product_over self.now other.now) result }
     {
-        signed_product(divided(self.numerator(), g), divided(other.numerator(), h))
+        signed_product(
+            exact_quotient(self.numerator(), g),
+            exact_quotient(other.numerator(), h),
+        )
     }
 
     /// The denominator of the product.
@@ -64,7 +67,7 @@ impl Fraction {
     }
 
     /// The fraction turned over.
-    fn turned(&self) -> Fraction
+    fn reciprocal(&self) -> Fraction
         requires not_zero { self.now ≢ zero_q }
         ensures value { result ≡ inverse self.now }
     {
@@ -85,7 +88,7 @@ impl Fraction {
         ensures wide { IsErr result ↔ ProductIsWide self.now (inverse other.now) }
         ensures operands { IfErr result (Refuses Op.Div self.now other.now) }
     {
-        match self.mul(&other.turned()) {
+        match self.mul(&other.reciprocal()) {
             Ok(quotient) => Ok(quotient),
             Err(_) => Err(Wide::of(Op::Div, self, other)),
         }

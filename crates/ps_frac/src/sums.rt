@@ -7,14 +7,14 @@ ghost use Rattle.ps_rational.specs.Wide.{Fits, size_limit, sum_over, SumIsWide};
 ghost use Rattle.ps_frac.specs.Fitting.{IfFits, IfSumOverFits, IfSumUnderFits};
 ghost use Rattle.ps_frac.specs.Refusals.{Refuses};
 
-use crate::checked::{divided, part, signed_product, signed_sum, size_product};
+use crate::checked::{exact_quotient, part, signed_product, signed_sum, size_product};
 use crate::divisors::gcd;
 use crate::fraction::Fraction;
 use crate::wide::{Op, Wide};
 
 impl Fraction {
     /// The numerator over a denominator that is `factor` times as large.
-    fn scaled(&self, factor: u128) -> Option<i128>
+    fn scaled_numerator(&self, factor: u128) -> Option<i128>
         requires small { factor < size_limit }
         ensures value { IfFits (self.now.over *ℤ pos factor) result }
     {
@@ -29,8 +29,8 @@ impl Fraction {
         ensures value { IfSumOverFits self.now other.now result }
     {
         match (
-            self.scaled(part(other.under(), g)),
-            other.scaled(part(self.under(), g)),
+            self.scaled_numerator(part(other.under(), g)),
+            other.scaled_numerator(part(self.under(), g)),
         ) {
             (Some(left), Some(right)) => signed_sum(left, right),
             _ => None,
@@ -48,7 +48,7 @@ impl Fraction {
     {
         let h = gcd(top.unsigned_abs(), g);
         match size_product(part(self.under(), g), part(other.under(), h)) {
-            Some(denominator) => Some(Fraction::of_lowest(divided(top, h), denominator)),
+            Some(denominator) => Some(Fraction::of_lowest(exact_quotient(top, h), denominator)),
             None => None,
         }
     }

@@ -2,7 +2,7 @@
 ghost use Rattle.std.specs.Prelude.{◌≡◌, ◌++◌, OnOk};
 ghost use Rattle.ps_hints.specs.Shown.{blank, blank_below, spaces, EndsLine};
 
-use crate::glyph::{columns, shown};
+use crate::glyph::{columns, shown_character};
 use crate::message::Message;
 use crate::spot::Spot;
 use ps_io::NoMemory;
@@ -14,7 +14,7 @@ const MOST_BESIDE: usize = 48;
 // Adds the characters of a text, as they are shown.
 fn extend(characters: &mut Vec<char>, text: &str) -> Result<(), NoMemory> {
     for c in text.chars() {
-        characters.push(shown(c))?;
+        characters.push(shown_character(c))?;
     }
     Ok(())
 }

@@ -5,7 +5,7 @@ ghost use Rattle.ps_hints.specs.Hints.{IsCount};
 use ps_read::{ReadKind, What};
 
 // What is expected, where it is a token or a formula.
-fn expected(what: What) -> &'static str {
+fn expected_text(what: What) -> &'static str {
     match what {
         What::Psat => "`psat 1;`",
         What::Version => "the version 1",
@@ -29,7 +29,7 @@ pub(crate) fn expectation(kind: ReadKind) -> Option<&'static str>
 {
     match kind {
         ReadKind::BadByte => Some("a word, a number or a sign"),
-        ReadKind::Expected(what) => Some(expected(what)),
+        ReadKind::Expected(what) => Some(expected_text(what)),
         ReadKind::NameTooLong => Some("a name of at most 32 bytes"),
         ReadKind::VersionUnknown => Some("the version 1"),
         ReadKind::ZeroDenominator => Some("a denominator of at least 1"),

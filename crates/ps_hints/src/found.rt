@@ -2,7 +2,7 @@
 ghost use Rattle.std.specs.Prelude.{◌≡◌, ◌≤◌, ◌<◌, IfSome, length};
 ghost use Rattle.ps_hints.specs.Found.{IsFound, IsFront};
 
-use crate::glyph::shown;
+use crate::glyph::shown_character;
 use crate::message::Message;
 use crate::spot::Spot;
 use crate::words::word_at_front;
@@ -89,7 +89,7 @@ fn character_at_front(bytes: &[u8]) -> Found<'_>
         return Found::Byte(*first);
     };
     match chunk.valid().chars().next() {
-        Some(c) if shown(c) == c => match front(bytes, c.len_utf8()) {
+        Some(c) if shown_character(c) == c => match front(bytes, c.len_utf8()) {
             Some(character) => Found::Token(character),
             None => Found::Byte(*first),
         },

@@ -18,7 +18,7 @@ fn can_be_shown(c: char) -> bool
 
 /// A character as it is shown: a tab and what takes columns as itself, all else as `?`.
 #[tactic(auto, unfolding(crate::specs::Shown::shown))]
-pub(crate) fn shown(c: char) -> char
+pub(crate) fn shown_character(c: char) -> char
     ensures shown { result ≡ shown c }
     ensures harmless { is_command result ≡ false }
 {

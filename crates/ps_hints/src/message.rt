@@ -4,7 +4,7 @@ ghost use Rattle.std.specs.Str.{chars};
 ghost use Rattle.std.specs.String.{string_bytes};
 ghost use Rattle.ps_hints.specs.Shown.{IsHarmless, AddsLines, EndsLine, glyph, shown_text};
 
-use crate::glyph::shown;
+use crate::glyph::shown_character;
 use ps_io::NoMemory;
 use std::alloc::Global;
 use std::marker::Model;
@@ -43,7 +43,7 @@ impl Message {
     pub(crate) fn push(&mut self, c: char) -> Result<(), NoMemory>
         ensures { OnOk result (self.new ≡ self.old ++ glyph c) }
     {
-        self.text.push(shown(c))?;
+        self.text.push(shown_character(c))?;
         Ok(())
     }
 

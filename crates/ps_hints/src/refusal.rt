@@ -28,7 +28,7 @@ fn shown_offset(kind: ReadKind, before: &[u8]) -> usize
 }
 
 // What was found: the end of the line where that is shown in place of the next token.
-fn found<'t>(kind: ReadKind, spot: &Spot<'t>, shown: usize) -> Found<'t> {
+fn found_at<'t>(kind: ReadKind, spot: &Spot<'t>, shown: usize) -> Found<'t> {
     if kind == ReadKind::EndMissing {
         Found::TextEnd
     } else if shown < spot.before.len() {
@@ -98,7 +98,7 @@ pub fn refusal_message(
     let shown_spot = Spot::at(bytes, shown);
     let mut message = Message::new(alloc);
     push_place(&mut message, name, Place::behind_all(shown_spot.before))?;
-    push_fault(&mut message, kind, found(kind, &spot, shown))?;
+    push_fault(&mut message, kind, found_at(kind, &spot, shown))?;
     push_line_and_caret(alloc, &mut message, &shown_spot)?;
     push_hint(&mut message, hint_for(kind, &spot))?;
     Ok(message.into_text())

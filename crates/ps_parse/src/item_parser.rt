@@ -112,12 +112,12 @@ impl ItemParser {
             Token::Sign(Symbol::DoubleArrow) => {
                 self.formulas.connective(Operator::Iff, Operator::Iff)
             }
-            _ => self.given(),
+            _ => self.take_given(),
         }
     }
 
     // At a `given`.
-    fn given(&mut self) -> Result<(), NoMemory>
+    fn take_given(&mut self) -> Result<(), NoMemory>
         requires operands { HaveAll (work_of self.old).pending }
         requires end { IsWhole (work_of self.old) }
         requires room { HasRoom (work_of self.old) }

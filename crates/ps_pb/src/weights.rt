@@ -32,7 +32,7 @@ pub fn from_weights(
 {
     let sums = coefficients(alloc, weights)?;
     let terms = terms_of_coefficients(alloc, &sums)?;
-    let degree = least - constant(weights) + turned(&sums);
+    let degree = least - constant(weights) + turned_sum(&sums);
     Ok(Constraint::of_normal(terms, degree))
 }
 
@@ -111,7 +111,7 @@ fn constant_part(weight: &(Lit, i128)) -> i128
     if weight.0.is_positive() { 0 } else { weight.1 }
 }
 
-fn turned(sums: &[i128]) -> i128
+fn turned_sum(sums: &[i128]) -> i128
     requires { AreSmall sums.now }
     ensures { result ≡ sum_below (length sums.now) (λ p. turned (number_at sums.now p)) }
 {

@@ -8,7 +8,7 @@ use crate::place::{Place, WideAt};
 use ps_frac::{Fraction, Op, Wide};
 
 /// A refusal of fractions, with its place.
-fn named(place: Place, wide: Wide) -> WideAt
+fn wide_at(place: Place, wide: Wide) -> WideAt
     ensures value { Names place wide.op wide.left wide.right result }
 {
     WideAt {
@@ -26,7 +26,7 @@ pub fn divided_at(place: Place, left: &Fraction, right: &Fraction) -> Result<Fra
     ensures wide { IsErr result ↔ ProductIsWide left.now (inverse right.now) }
     ensures operands { IfErr result (Names place Op.Div left.now right.now) }
 {
-    left.div(right).map_err(|wide| named(place, wide))
+    left.div(right).map_err(|wide| wide_at(place, wide))
 }
 
 /// A product, whose refusal names the place.
@@ -35,7 +35,7 @@ pub(crate) fn times_at(place: Place, left: &Fraction, right: &Fraction) -> Resul
     ensures wide { IsErr result ↔ ProductIsWide left.now right.now }
     ensures operands { IfErr result (Names place Op.Mul left.now right.now) }
 {
-    left.mul(right).map_err(|wide| named(place, wide))
+    left.mul(right).map_err(|wide| wide_at(place, wide))
 }
 
 /// A difference, whose refusal names the place.
@@ -44,7 +44,7 @@ pub(crate) fn minus_at(place: Place, left: &Fraction, right: &Fraction) -> Resul
     ensures wide { IsErr result ↔ SumIsWide left.now (neg right.now) }
     ensures operands { IfErr result (Names place Op.Sub left.now right.now) }
 {
-    left.sub(right).map_err(|wide| named(place, wide))
+    left.sub(right).map_err(|wide| wide_at(place, wide))
 }
 
 /// A sum, whose refusal names the place.
@@ -53,5 +53,5 @@ pub(crate) fn plus_at(place: Place, left: &Fraction, right: &Fraction) -> Result
     ensures wide { IsErr result ↔ SumIsWide left.now right.now }
     ensures operands { IfErr result (Names place Op.Add left.now right.now) }
 {
-    left.add(right).map_err(|wide| named(place, wide))
+    left.add(right).map_err(|wide| wide_at(place, wide))
 }

@@ -30,7 +30,7 @@ pub(crate) fn number_of(rows: usize, col: Col) -> usize
 }
 
 /// The column of a number.
-pub(crate) fn shown(rows: usize, column: usize) -> TableCol
+pub(crate) fn column_shown(rows: usize, column: usize) -> TableCol
     requires few { rows ≤ MOST_ROWS }
     requires many { column ≤ rows + MOST_WORLDS }
     ensures number { number_shown rows result ≡ column }

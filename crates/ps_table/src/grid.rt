@@ -5,7 +5,7 @@ ghost use Rattle.ps_table.specs.declared.limits.TheConstants.{MOST_ROWS};
 ghost use Rattle.ps_table.specs.Tableau.{number_shown, IsShown};
 ghost use Rattle.ps_table.specs.Grids.{IsGrid, ColumnFits, cell_in, cells_of, width};
 
-use crate::cells::{cell, shown};
+use crate::cells::{cell, column_shown};
 use crate::place::TableCol;
 use ps_frac::Fraction;
 use std::marker::Model;
@@ -91,11 +91,11 @@ impl<'a> Grid<'a> {
     }
 
     /// The column of a number, as a refusal names it.
-    pub(crate) fn shown(&self, column: usize) -> TableCol
+    pub(crate) fn column_shown(&self, column: usize) -> TableCol
         requires column { column < width self.now }
         ensures number { number_shown self.now.rows result ≡ column }
         ensures shown { IsShown self.now.rows self.now.worlds result }
     {
-        shown(self.rows, column)
+        column_shown(self.rows, column)
     }
 }

@@ -25,7 +25,7 @@ fn quotient(grid: &Grid<'_>, pivot: &Pivot, column: usize) -> Result<Fraction, W
     ensures refused { IfErr result (IsWideAt (GridPivotPlaces grid.now pivot.now)) }
 {
     let place = Place::Scale {
-        col: grid.shown(column),
+        col: grid.column_shown(column),
     };
     divided_at(place, &grid.cell(pivot.row, column), &pivot.by)
 }
@@ -47,13 +47,13 @@ fn lost(
 {
     let place = Place::Times {
         row: row as u32,
-        col: grid.shown(column),
+        col: grid.column_shown(column),
     };
     times_at(place, &grid.cell(row, pivot.column), scaled)
 }
 
 /// A cell of another row than the pivot's, after the pivot: less what it loses.
-fn changed(
+fn changed_entry(
     grid: &Grid<'_>,
     pivot: &Pivot,
     scaled: &Fraction,
@@ -70,7 +70,7 @@ fn changed(
     let product = lost(grid, pivot, scaled, row, column)?;
     let place = Place::Minus {
         row: row as u32,
-        col: grid.shown(column),
+        col: grid.column_shown(column),
     };
     minus_at(place, &grid.cell(row, column), &product)
 }
@@ -104,7 +104,7 @@ fn push_cell(
         grid.cell(row, column).fits();
         return Ok(());
     }
-    let entry = changed(grid, pivot, scaled, row, column)?;
+    let entry = changed_entry(grid, pivot, scaled, row, column)?;
     changes.push(Change { place, entry })?;
     Ok(())
 }

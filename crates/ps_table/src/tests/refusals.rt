@@ -110,7 +110,7 @@ const CASES: [Case; 5] = [
 ];
 
 /// What a change answers; `None` where it may not be asked for.
-fn changed(table: &mut Table, change: Change) -> Option<Result<(), TableError>> {
+fn try_change(table: &mut Table, change: Change) -> Option<Result<(), TableError>> {
     match change {
         Change::World(entries) => {
             if table.rows() != 9 || table.worlds() >= 10 {
@@ -219,7 +219,7 @@ fn wide_places_are_named(rt: HostRuntime) -> Result<(), Fail> {
         let mut table = Table::new(alloc, &[Home::Slack; 9])?;
         assert!(rt; is_prepared(&mut table, case));
         let before = (entries(alloc, &table)?, basics(alloc, &table)?);
-        assert!(rt; is_refused(changed(&mut table, case.refused), case));
+        assert!(rt; is_refused(try_change(&mut table, case.refused), case));
         let after = (entries(alloc, &table)?, basics(alloc, &table)?);
         assert!(rt; before.0 == after.0 && before.1 == after.1);
     }

@@ -16,8 +16,8 @@ pub terms_of_coefficients-requires-clause-small : goal.terms_of_coefficients-req
 terms_of_coefficients-requires-clause-small c =
     rw c.deref.ensures.value (small_of c.args.weights.now c.in_ok-sums.sums.items (omega (arith, c.requires)) c.in_ok-sums.ensures.sums)
 
-pub turned-requires : goal.turned-requires
-turned-requires c =
+pub turned_sum-requires : goal.turned_sum-requires
+turned_sum-requires c =
     rw c.deref-2.ensures.value (small_of c.args.weights.now c.in_ok-sums.sums.items (omega (arith, c.requires)) c.in_ok-sums.ensures.sums)
 
 pub overflow_sub-degree : goal.overflow_sub-degree
@@ -27,18 +27,18 @@ overflow_sub-degree c =
 
 pub overflow_add-degree : goal.overflow_add-degree
 overflow_add-degree c =
-    let e = c.turned.ensures ∙ ap turns_of c.deref-2.ensures.value in
-    let fits = degree_fits c.args.weights.now c.args.least c.in_ok-sums.sums.items c.turned.result c.requires c.in_ok-sums.ensures.sums e in
+    let e = c.turned_sum.ensures ∙ ap turns_of c.deref-2.ensures.value in
+    let fits = degree_fits c.args.weights.now c.args.least c.in_ok-sums.sums.items c.turned_sum.result c.requires c.in_ok-sums.ensures.sums e in
     omega (arith, ints, fits.constant, fits.first, fits.turns_low, fits.turns_high, fits.whole, c.requires, c.constant.ensures)
 
 pub of_normal-requires : goal.of_normal-requires
 of_normal-requires c =
-    let d = degree_value c.args.weights.now c.args.least c.in_ok-sums.sums.items c.constant.result c.turned.result c.requires c.in_ok-sums.ensures.sums c.constant.ensures (c.turned.ensures ∙ ap turns_of c.deref-2.ensures.value) in
+    let d = degree_value c.args.weights.now c.args.least c.in_ok-sums.sums.items c.constant.result c.turned_sum.result c.requires c.in_ok-sums.ensures.sums c.constant.ensures (c.turned_sum.ensures ∙ ap turns_of c.deref-2.ensures.value) in
     normal_of c.args.weights.now c.args.least c.in_ok-sums.sums.items c.in_ok-terms.terms _ c.requires c.in_ok-sums.ensures.sums (c.in_ok-terms.ensures ∙ ap terms_of_sums c.deref.ensures.value) d
 
 pub returns-clause-value : goal.returns-clause-value
 returns-clause-value c =
-    let d = degree_value c.args.weights.now c.args.least c.in_ok-sums.sums.items c.constant.result c.turned.result c.requires c.in_ok-sums.ensures.sums c.constant.ensures (c.turned.ensures ∙ ap turns_of c.deref-2.ensures.value) in
+    let d = degree_value c.args.weights.now c.args.least c.in_ok-sums.sums.items c.constant.result c.turned_sum.result c.requires c.in_ok-sums.ensures.sums c.constant.ensures (c.turned_sum.ensures ∙ ap turns_of c.deref-2.ensures.value) in
     c.of_normal.ensures ∙ constraint_is c.args.weights.now c.args.least c.in_ok-sums.sums.items c.in_ok-terms.terms _ c.in_ok-sums.ensures.sums (c.in_ok-terms.ensures ∙ ap terms_of_sums c.deref.ensures.value) d
 
 pub returns-clause-met : goal.returns-clause-met

@@ -1,7 +1,7 @@
 use Rattle.std.proofs.Common.{arith}
 use Rattle.std.proofs.lemmas.Int.{ints}
 use Rattle.ps_frac.proofs.Reduced.{is_inverse_up, is_inverse_down, turned_lowest}
-use Rattle.ps_frac.proofs.fraction.Fraction.turned.Goals as goal
+use Rattle.ps_frac.proofs.fraction.Fraction.reciprocal.Goals as goal
 
 pub of_lowest-requires-clause-lowest : goal.of_lowest-requires-clause-lowest
 of_lowest-requires-clause-lowest c = turned_lowest c.args.self.now _ _ c.requires.not_zero (omega (arith, ints)) (omega (arith, ints))

@@ -2,7 +2,7 @@ use Rattle.std.proofs.Common.{sym, subst}
 use Rattle.ps_parse.specs.Ready.{HasRoom}
 use Rattle.ps_parse.specs.Kept.{item_of, work_of}
 use Rattle.ps_parse.proofs.Counting.{room_reduced}
-use Rattle.ps_parse.proofs.item_parser.ItemParser.given.Goals as goal
+use Rattle.ps_parse.proofs.item_parser.ItemParser.take_given.Goals as goal
 
 pub end_formula-requires-clause-room : goal.end_formula-requires-clause-room
 end_formula-requires-clause-room c =

@@ -2,7 +2,7 @@ use Rattle.std.proofs.Common.{◌≡◌, ◌+ℤ◌, to_z, of_z, arith, ◌∙�
 use mir.Syntax.{w128}
 use Rattle.std.proofs.lemmas.Int.{ints}
 use Rattle.ps_pb.proofs.Summed.{next_turned, at_size}
-use Rattle.ps_pb.proofs.weights.turned.Goals as goal
+use Rattle.ps_pb.proofs.weights.turned_sum.Goals as goal
 
 pub turned_part-sum-requires : goal.turned_part-sum-requires
 turned_part-sum-requires c =
