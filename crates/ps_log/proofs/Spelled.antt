@@ -1,14 +1,15 @@
 -- Words that spell numbers: their bytes, their values, and what is written of a number.
 use Rattle.std.proofs.Common.{◌≡◌, ℕ, zero, suc, ◌+◌, ◌*◌, ◌-◌, ◌<◌, ◌≤◌, ◌^◌, ◌%◌, ◌/◌, ◌==◌, ℤ, pos, negsuc, neg_ℤ, Bool, true, false, List, [], ◌∷◌, ◌++◌, length, map, min, Option, None, Some, nat_lt, refl, sym, ap, subst, ◌∙◌, append_assoc, append-nil, arith, get_or, length-append, take, All, unsigned_abs}
 use Rattle.std.specs.Prelude.{slice_index}
-use Rattle.std.proofs.lemmas.List.{get_or_append_left}
+use Rattle.std.proofs.lemmas.List.{get_or_append_left, length-take}
 use Rattle.std.specs.Fmt.{decimal, signed_decimal}
 use Rattle.std.specs.Char.{digit_value}
 use Rattle.std.specs.Str.Parse.{AllDigits, digits_value, digits_value_after}
 use Rattle.std.proofs.lemmas.Fmt.{decimal_is_IsNumeral_wide, decimal_step_wide, decimal_by_steps_wide, decimal_digit}
 use Rattle.std.proofs.lemmas.Str.Parse.{digit_from_value}
 use Rattle.std.proofs.lemmas.Str.{digit_value_digit}
-use Rattle.std.proofs.lemmas.Int.Digits.{digits_value_more}
+use Rattle.std.proofs.lemmas.Int.Digits.{digits_value_more, digits_value-lt}
+use Rattle.std.proofs.Math.Nat.{pow-le-pow_right}
 use Rattle.std.proofs.lemmas.List.Elements.{All-cons, All-nil}
 use Rattle.std.proofs.lemmas.Bool.{eqb-true}
 use Rattle.ps_log.specs.Told.{number_of}
@@ -133,6 +134,26 @@ pub capped_more : (digits : List ℕ) (i value r : ℕ) → All (λ b. digit_val
     → r ≡ capped_size (10 * value + (get_or digits i 0 - 48)) → r ≡ capped_size (digits_value 10 (take (i + 1) digits))
 capped_more digits i value r h lt e f =
     omega (arith, e, f, digits_value_more 10 digits i lt, digit_value_digit (get_or digits i 0) (digit_from_value (get_or digits i 0) (h i 0 lt)))
+
+-- some of the digits are digits
+first_digits : (ds : List ℕ) (i : ℕ) → AllDigits 10 ds → AllDigits 10 (take i ds)
+first_digits ds zero h = tt
+first_digits [] (suc i) h = tt
+first_digits (c ∷ cs) (suc i) h = (h.0, first_digits cs i h.1)
+
+-- the digits before a place of few digits are a number that one more digit leaves below 10 ^ 18
+pub few_digits : (digits : List ℕ) (i : ℕ) → All (λ b. digit_value b < 10) digits → length digits ≤ 18 → i < length digits → digits_value 10 (take i digits) < 10 ^ 17
+few_digits digits i h short lt =
+    omega (arith, digits_value-lt 10 (take i digits) (first_digits digits i (all_digits digits h)), pow-le-pow_right {n = 10} (omega arith) (few digits i short lt))
+  where
+    few : (digits : List ℕ) (i : ℕ) → length digits ≤ 18 → i < length digits → length (take i digits) ≤ 17
+    few digits i short lt = omega (arith, short, lt, length-take i digits)
+
+-- one more digit of a short number
+pub one_more : (digits : List ℕ) (i value : ℕ) → All (λ b. digit_value b < 10) digits → i < length digits → value ≡ digits_value 10 (take i digits)
+    → 10 * value + (get_or digits i 0 - 48) ≡ digits_value 10 (take (i + 1) digits)
+one_more digits i value h lt e =
+    omega (arith, e, digits_value_more 10 digits i lt, digit_value_digit (get_or digits i 0) (digit_from_value (get_or digits i 0) (h i 0 lt)))
 
 -- a number after a minus
 pub number-minus : (word rest : List ℕ) (r : Option ℤ) → word ≡ 45 ∷ rest → IsNegative rest r → IsNumber word r

@@ -13,7 +13,8 @@ pub(crate) fn are_text_bytes(line: &[u8], letter: u8) -> bool
 fn is_text_byte(b: u8, letter: u8) -> bool
     ensures { result ≡ is_text_byte letter b }
 {
-    b == letter || b.is_ascii_digit() || b == b'-' || b == b' '
+    // All four are looked at: among digits and spaces a branch would often be foretold wrongly.
+    (b == letter) | b.is_ascii_digit() | (b == b'-') | (b == b' ')
 }
 
 /// What follows the letter and a space.

@@ -12,6 +12,7 @@ mod line_error;
 mod numbers;
 mod numeral;
 mod rising;
+mod room;
 mod sink;
 mod step_parts;
 mod step_reader;

@@ -12,6 +12,9 @@ use ps_pb::MOST_SIZE;
 // One above the greatest limit, that of a goal's numbers: what is more counts as this.
 const CAP: u128 = MOST_SIZE + 1;
 
+// The most digits of numbers that are counted in 64 bits.
+const SHORT: usize = 18;
+
 /// The number that a word spells, if it spells one: digits without a leading zero, after a minus
 /// where it is below 0.
 pub(crate) fn number(word: &[u8]) -> Option<i128>
@@ -86,6 +89,29 @@ fn are_digits(word: &[u8]) -> bool
 }
 
 fn value(digits: &[u8]) -> u128
+    requires { All (λ b. digit_value b < 10) digits.now }
+    ensures { result ≡ capped_size (digits_value 10 digits.now) }
+{
+    if digits.len() <= SHORT {
+        u128::from(short_value(digits))
+    } else {
+        long_value(digits)
+    }
+}
+
+fn short_value(digits: &[u8]) -> u64
+    requires digits { All (λ b. digit_value b < 10) digits.now }
+    requires short { length digits.now ≤ 18 }
+    ensures { result ≡ digits_value 10 digits.now }
+{
+    let mut value = 0;
+    for digit in digits {
+        value = 10 * value + u64::from(*digit - b'0');
+    }
+    value
+}
+
+fn long_value(digits: &[u8]) -> u128
     requires { All (λ b. digit_value b < 10) digits.now }
     ensures { result ≡ capped_size (digits_value 10 digits.now) }
 {

@@ -7,6 +7,7 @@ ghost use Rattle.ps_log.specs.Numbers.{AreParts, HasParts, AreLits, AreHints, Is
 
 use crate::limits::{MOST_HINTS, MOST_LITS, is_id};
 use crate::line_error::LineError;
+use crate::room::list_with_room;
 use ps_io::List;
 use ps_pb::{Hints, Lit, Lits, Step};
 use std::alloc::Global;
@@ -107,7 +108,7 @@ fn lits(alloc: Global, numbers: &[i128]) -> Result<Lits, LineError>
     if MOST_LITS < numbers.len() {
         return Err(LineError::TooLarge);
     }
-    let mut lits = List::new(alloc);
+    let mut lits = list_with_room(alloc, numbers.len())?;
     for number in numbers {
         match lit(number) {
             Some(lit) => lits.push(lit)?,
@@ -123,7 +124,7 @@ fn hints(alloc: Global, numbers: &[i128]) -> Result<Hints, LineError>
     if MOST_HINTS < numbers.len() {
         return Err(LineError::TooLarge);
     }
-    let mut hints = List::new(alloc);
+    let mut hints = list_with_room(alloc, numbers.len())?;
     for number in numbers {
         match id(number) {
             Some(id) => hints.push(id)?,

@@ -5,6 +5,7 @@ ghost use Rattle.ps_log.specs.FirstLines.{FirstLine, IsOneLine};
 ghost use Rattle.ps_log.specs.Numbers.{AreRead, Lacks, IsCut, words_after, left_of};
 
 use crate::numeral::number;
+use crate::room::list_with_room;
 use ps_io::{List, NoMemory};
 use std::alloc::Global;
 
@@ -12,7 +13,7 @@ use std::alloc::Global;
 pub(crate) fn numbers(alloc: Global, text: &[u8]) -> Result<Option<List<i128>>, NoMemory>
     ensures { IfOk result (AreRead text.now) }
 {
-    let mut numbers = List::new(alloc);
+    let mut numbers = list_with_room(alloc, text.len() / 4)?;
     let mut rest = Some(text);
     while let Some(bytes) = rest {
         let (word, after) = split_word(bytes);

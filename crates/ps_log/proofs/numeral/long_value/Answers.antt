@@ -1,5 +1,5 @@
 use Rattle.ps_log.proofs.Spelled.{capped_more}
-use Rattle.ps_log.proofs.numeral.value.Goals as goal
+use Rattle.ps_log.proofs.numeral.long_value.Goals as goal
 
 pub loop-digit-preserved : goal.loop-digit-preserved
 loop-digit-preserved c =
