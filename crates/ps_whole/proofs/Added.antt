@@ -10,7 +10,7 @@ use Rattle.ps_rational.specs.Rational.{at_least_one, fraction, add, mul, zero_q}
 use Rattle.ps_rational.specs.Wide.{SumIsWide}
 use Rattle.ps_rational.proofs.Cross.{quotient-same}
 use Rattle.ps_rational.proofs.Field.{add-zero, mul_comm}
-use Rattle.ps_rational.proofs.IntRing.{cross_reduced, *ℤ_comm}
+use Rattle.ps_rational.proofs.IntRing.{cross_reduced, *ℤ_comm, *ℤ-zero}
 use Rattle.ps_rational.proofs.Zeros.{sum_narrow}
 use Rattle.ps_whole.specs.declared.sums.WholeSum.{WholeSum}
 use Rattle.ps_whole.specs.Sums.{value_of, IsSmallSum, IsSumOf}
@@ -86,3 +86,8 @@ no_sum s y d h e =
 pub cost_entry : (cost n : ℤ) (d : ℕ) → mul (fraction cost 1) (fraction n d) ≡ fraction (cost *ℤ n) d
 cost_entry cost n d =
     mul_comm (fraction cost 1) (fraction n d) ∙ part_is n cost (at_least_one d) ∙ ap (λ z. fraction z d) (*ℤ_comm n cost)
+
+-- a cost of 0
+pub no_cost : (s : WholeSum) (cost n : ℤ) (d : ℕ) → IsSmallSum s → cost ≡ pos 0 → IsSumOf (value_of s) (mul (fraction cost 1) (fraction n d)) s
+no_cost s cost n d h e =
+    subst (λ x. IsSumOf (value_of s) x s) (sym (cost_entry cost n d)) (no_sum s (cost *ℤ n) d h (ap (λ z. z *ℤ n) e ∙ *ℤ_comm (pos 0) n ∙ *ℤ-zero n))

@@ -4,11 +4,16 @@ use Rattle.std.proofs.lemmas.Int.{ints}
 use Rattle.std.proofs.Math.Nat.{mul-pos, div-mul_cancel}
 use Rattle.std.proofs.Common.{◌/◌, int_div}
 use Rattle.std.specs.Int.{IsGcd}
+use Rattle.std.proofs.Math.Nat.{one-dvd}
 use Rattle.ps_rational.proofs.ExactQuotient.{quot_exact}
-use Rattle.ps_rational.specs.Rational.{one_positive, at_least_one, fraction, mul, sub, div, zero_q}
+use Rattle.ps_rational.specs.Rational.{Rational, one_positive, at_least_one, fraction, mul, sub, div, zero_q}
 use Rattle.ps_rational.proofs.Ring.{var, plus, by, minus, none}
 use Rattle.ps_rational.proofs.IntRing.{ring_z, *ℤ-one, cross_reduced}
 use Rattle.ps_rational.proofs.Cross.{quotient-same}
+use Rattle.ps_rational.proofs.Field.{ring_q}
+use Rattle.ps_whole.specs.Whole.{WholeCells, number_at, under_at, whole_at}
+use Rattle.ps_whole.specs.Pivots.{raw_number, IsContent, IsRowChange}
+use Rattle.ps_whole.specs.declared.change.RowChange.{RowChange}
 use Rattle.ps_whole.proofs.NewCells.{own_row, new_cell}
 
 pub at_least_one_value : (d : ℕ) → 0 < d → (at_least_one d).value ≡ d
@@ -97,3 +102,35 @@ other_cell N c P a s d e b t nz hd ht less base =
     let both : (at_least_one d).value * (at_least_one t).value ≡ d * t = λ k. de k * te k in
     omega (arith, at_least_one_value b hb, base, both) in
     new_cell N c P a (u *ℤ P) (u *ℤ s) V (at_least_one d) (at_least_one e) r (at_least_one t) (at_least_one b) 1 nz own lost value under
+
+pub nothing_lost : (N P : ℤ) → (N *ℤ pos 1) -ℤ (pos 0 *ℤ P) ≡ N
+nothing_lost N P =
+    minus_is (N *ℤ pos 1) (pos 0 *ℤ P)
+    ∙ ring_z ((N *ℤ pos 1) ∷ P ∷ []) (plus (var 0) (minus (by none (var 1)))) (var 0) refl
+    ∙ *ℤ-one N
+
+-- another row that loses nothing
+pub kept_cell : (N c P : ℤ) (d e : ℕ) (x : Rational) → c ≡ pos 0 → fraction ((N *ℤ pos 1) -ℤ (pos 0 *ℤ P)) d ≡ sub (fraction N d) (mul (fraction c e) x)
+kept_cell N c P d e x lost =
+    let zero : mul (fraction c e) x ≡ zero_q =
+    ap (λ z. mul (fraction z e) x) lost ∙ ap (λ y. mul y x) (over_nothing e) ∙ ring_q (x ∷ []) (by none (var 0)) none refl in
+    ap (λ z. fraction z d) (nothing_lost N P) ∙ sym (ap (sub (fraction N d)) zero ∙ ring_q ((fraction N d) ∷ []) (plus (var 0) (minus none)) (var 0) refl)
+
+-- 1 divides all numbers
+one_common : (row : ℕ → ℤ) (n base : ℕ) → IsContent row n base 1
+one_common row n base = record { positive = omega arith; under = one-dvd base; over = λ j l. one-dvd (unsigned_abs (row j)) }
+
+-- a row that loses nothing stays as it is
+pub kept_change : (w : WholeCells) (p q i : ℕ) (change : RowChange) → i ≢ p → number_at w i q ≡ pos 0
+    → change.times ≡ pos 1 → change.less ≡ pos 0 → change.base ≡ under_at w i → 0 < change.base → change.by ≡ 1 → IsRowChange w p q i change
+kept_change w p q i change ne lost times less base positive by_is = record {
+  times = omega (arith, ints, times);
+  less = omega (arith, ints, less);
+  base = positive;
+  content = subst (IsContent (raw_number w p i change.times change.less) w.width change.base) (sym by_is) (one_common (raw_number w p i change.times change.less) w.width change.base);
+  cells = λ j. record {
+    own = λ same. absurd (ne same);
+    other = λ _. (λ k. fraction ((number_at w i j *ℤ times k) -ℤ (less k *ℤ number_at w p j)) (base k))
+        ∙ kept_cell (number_at w i j) (number_at w i q) (number_at w p j) (under_at w i) (under_at w i) (div (whole_at w p j) (whole_at w p q)) lost;
+  };
+}

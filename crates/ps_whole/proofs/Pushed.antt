@@ -1,5 +1,5 @@
 -- Rows that were appended.
-use Rattle.std.proofs.Common.{◌≡◌, ℕ, suc, ◌+◌, ◌-◌, ◌*◌, ◌/◌, ◌<◌, ◌≤◌, ◌^◌, List, [], ◌∷◌, ◌++◌, get_or, length, ℤ, pos, ◌*ℤ◌, unsigned_abs, arith, sym, ap, ◌∙◌, subst, inl, inr}
+use Rattle.std.proofs.Common.{◌≡◌, ℕ, suc, ◌+◌, ◌-◌, ◌*◌, ◌/◌, ◌<◌, ◌≤◌, ◌^◌, List, [], ◌∷◌, ◌++◌, get_or, length, ℤ, pos, ◌*ℤ◌, ◌-ℤ◌, unsigned_abs, arith, sym, ap, ◌∙◌, subst, inl, inr}
 use Rattle.std.proofs.lemmas.Bool.{cases_eq, cases_lt}
 use Rattle.std.proofs.lemmas.Int.{ints}
 use Rattle.std.proofs.lemmas.List.{get_or_past, get_or_append_left, length-append}
@@ -7,11 +7,13 @@ use Rattle.std.proofs.Math.Seq.{get_or-append_seam}
 use Rattle.std.proofs.Math.Nat.{mul-le-mul_right, div-mul_cancel}
 use Rattle.ps_rational.specs.Rational.{fraction, at_least_one}
 use Rattle.ps_rational.specs.Parts.{part_pos}
-use Rattle.ps_whole.specs.Whole.{WholeCells, whole_at}
+use Rattle.ps_rational.proofs.IntRing.{*ℤ-one}
+use Rattle.ps_whole.specs.Whole.{WholeCells, IsWhole, number_at, whole_at}
+use Rattle.ps_whole.specs.Columns.{IsCopied}
 use Rattle.ps_whole.specs.Pivots.{raw_number, IsPushedTo, IsPivotedTo, IsPivotCell, IsRowChange}
 use Rattle.ps_whole.specs.declared.change.RowChange.{RowChange}
 use Rattle.ps_whole.proofs.NewCells.{reduced}
-use Rattle.ps_whole.proofs.Changes.{at_least_one_value}
+use Rattle.ps_whole.proofs.Changes.{at_least_one_value, nothing_lost}
 
 one_more : (now items : List ℤ) (v : ℤ) → items ≡ now ++ v ∷ [] → length items ≡ length now + 1
 one_more now items v e = ap (λ zs. length zs) e ∙ length-append now (v ∷ [])
@@ -106,3 +108,15 @@ module _ (w : WholeCells) (p q i : ℕ) (change : RowChange) (numbers new : List
       | inr ne ↦ subst (λ x. IsPivotCell (whole_at w) p q m j x) (sym (cell_before m j (omega (arith, hm, ne)) hj)) (done.cells m j (omega (arith, hm, ne)) hj)
     ];
   }
+
+-- a row that stays as it is was appended
+pub copied_row : (w : WholeCells) → IsWhole w → (p i : ℕ) (change : RowChange) (old new : List ℤ)
+    → change.times ≡ pos 1 → change.less ≡ pos 0 → change.by ≡ 1 → IsCopied w i old new
+    → IsPushedTo (raw_number w p i change.times change.less) change.by old w.width new
+copied_row w ok p i change old new times less by_is copy = record {
+  count = copy.count;
+  before = copy.before;
+  small = λ j l. subst (λ z. unsigned_abs z < 2 ^ 62) (sym (copy.here j l)) (ok.small (i * w.width + j));
+  here = λ j l. (λ k. copy.here j l k *ℤ pos (by_is k)) ∙ *ℤ-one (number_at w i j)
+      ∙ sym ((λ k. (number_at w i j *ℤ times k) -ℤ (less k *ℤ number_at w p j)) ∙ nothing_lost (number_at w i j) (number_at w p j));
+}

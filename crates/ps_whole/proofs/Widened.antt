@@ -1,31 +1,39 @@
 -- Rows with a new column.
-use Rattle.std.proofs.Common.{◌≡◌, ℕ, suc, ◌+◌, ◌-◌, ◌*◌, ◌<◌, ◌^◌, List, [], ◌∷◌, ◌++◌, get_or, length, ℤ, pos, unsigned_abs, arith, refl, sym, ap, ◌∙◌, subst, inl, inr}
+use Rattle.std.proofs.Common.{◌≡◌, ℕ, suc, ◌+◌, ◌-◌, ◌*◌, ◌<◌, ◌^◌, List, [], ◌∷◌, ◌++◌, get_or, length, drop, ℤ, pos, unsigned_abs, arith, refl, sym, ap, ◌∙◌, subst, inl, inr}
 use Rattle.std.proofs.lemmas.Bool.{cases_eq, cases_lt}
 use Rattle.std.proofs.lemmas.Int.{ints}
-use Rattle.std.proofs.lemmas.List.{get_or_past, get_or_append_left, length-append}
+use Rattle.std.proofs.lemmas.List.{get_or_past, get_or_append_left, get_or-append-add, get_or-take, get_or-drop, length-append, length-take, length-drop}
+use Rattle.std.proofs.Math.Nat.{mul-le-mul_right}
 use Rattle.std.proofs.Math.Seq.{get_or-append_seam}
 use Rattle.ps_rational.specs.Rational.{fraction}
-use Rattle.ps_whole.specs.Whole.{WholeCells, IsWhole, number_at, under_at}
-use Rattle.ps_whole.specs.Columns.{IsPartSum, IsCopiedTo, IsWidenedTo, IsWidened}
+use Rattle.ps_whole.specs.Whole.{WholeCells, IsWhole, number_at, under_at, numbers_of}
+use Rattle.ps_whole.specs.Columns.{IsPartSum, IsCopiedTo, IsCopied, IsWidenedTo, IsWidened}
 use Rattle.ps_whole.proofs.Pushed.{row_within}
 use Rattle.ps_whole.proofs.NewColumns.{column_cell}
 
--- one number more
-pub copied_next : (w : WholeCells) (i : ℕ) (old now items : List ℤ) (n : ℕ) (v : ℤ) → IsCopiedTo w i old n now → items ≡ now ++ v ∷ []
-    → v ≡ number_at w i n → IsCopiedTo w i old (n + 1) items
-copied_next w i old now items n v h e value =
-    let kept : (k : ℕ) → k < length now → get_or items k (pos 0) ≡ get_or now k (pos 0) =
-    λ k l. ap (λ zs. get_or zs k (pos 0)) e ∙ get_or_append_left now (v ∷ []) (pos 0) k l in
-    let last : get_or items (length old + n) (pos 0) ≡ v =
-    ap (λ k. get_or items k (pos 0)) (sym h.count) ∙ ap (λ zs. get_or zs (length now) (pos 0)) e ∙ get_or-append_seam now v [] (pos 0) in
-    let count : length items ≡ length now + 1 = ap (λ zs. length zs) e ∙ length-append now (v ∷ []) in
+-- the numbers of a row are as many as the columns
+length_numbers : (w : WholeCells) → IsWhole w → (i : ℕ) → i < w.rows → length (numbers_of w i) ≡ w.width
+length_numbers w ok i hi =
+    omega (
+      arith,
+      length-take ((i * w.width + w.width) - i * w.width) (drop (i * w.width) w.numbers),
+      length-drop (i * w.width) w.numbers,
+      ok.numbers,
+      mul-le-mul_right w.width hi,
+    )
+
+-- a row was copied whole
+pub copied_all : (w : WholeCells) → IsWhole w → (i : ℕ) → i < w.rows → (old items : List ℤ) → items ≡ old ++ numbers_of w i → IsCopied w i old items
+copied_all w ok i hi old items e =
+    let part = numbers_of w i in
+    let size : length part ≡ w.width = length_numbers w ok i hi in
     record {
-      count = omega (arith, count, h.count);
-      before = λ k l. kept k (omega (arith, h.count, l)) ∙ h.before k l;
-      here = λ j l. elim (cases_eq j n) [
-        | inl same ↦ subst (λ m. get_or items (length old + m) (pos 0) ≡ number_at w i m) (sym same) (last ∙ value)
-        | inr ne ↦ kept (length old + j) (omega (arith, h.count, l, ne)) ∙ h.here j (omega (arith, l, ne))
-      ];
+      count = omega (arith, ap (λ zs. length zs) e, length-append old part, size);
+      before = λ k l. ap (λ zs. get_or zs k (pos 0)) e ∙ get_or_append_left old part (pos 0) k l;
+      here = λ j l. ap (λ zs. get_or zs (length old + j) (pos 0)) e
+          ∙ get_or-append-add old part j (pos 0)
+          ∙ get_or-take ((i * w.width + w.width) - i * w.width) (drop (i * w.width) w.numbers) j (pos 0) (omega (arith, l))
+          ∙ get_or-drop (i * w.width) w.numbers j (pos 0);
     }
 
 module _ (w : WholeCells) (ok : IsWhole w) (entries : List ℤ) (i : ℕ) (numbers copied items : List ℤ) (v : ℤ)

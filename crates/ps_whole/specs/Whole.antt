@@ -1,6 +1,7 @@
 -- Rows of whole numbers, each over a denominator of its own.
 use Rattle.std.specs.Prelude.{◌≡◌, ℕ, ◌+◌, ◌*◌, ◌<◌, ◌≤◌, ◌^◌, List, get_or, length, ℤ, pos, unsigned_abs}
 use Rattle.std.specs.Prelude.{Bool, IsTrue, Result, IfOk}
+use Rattle.std.specs.List.{slice_range}
 use Rattle.ps_rational.specs.Rational.{Rational, fraction}
 use Rattle.ps_whole.specs.declared.limits.TheConstants.{MOST_ROWS, MOST_COLUMNS}
 
@@ -14,6 +15,10 @@ pub record WholeCells : Type 0 where
 -- the number of a row in a column
 abbrev pub number_at : WholeCells → ℕ → ℕ → ℤ
 number_at w i j = get_or w.numbers (i * w.width + j) (pos 0)
+
+-- the numbers of a row
+abbrev pub numbers_of : WholeCells → ℕ → List ℤ
+numbers_of w i = slice_range w.numbers (i * w.width) (i * w.width + w.width)
 
 -- the denominator of a row
 abbrev pub under_at : WholeCells → ℕ → ℕ

@@ -1,4 +1,5 @@
 //! What becomes of a row in a pivot.
+ghost use Rattle.std.specs.Prelude.{◌≡◌, IsTrue, pos};
 
 /// Each number of the row, `times` as large, loses the pivot's row `less` times; the denominator
 /// becomes `base`, and all of these are divided by `by`.
@@ -8,4 +9,15 @@ pub(crate) struct RowChange {
     pub(crate) less: i64,
     pub(crate) base: u128,
     pub(crate) by: u128,
+}
+
+impl RowChange {
+    /// Whether the row stays as it is.
+    pub(crate) fn keeps(&self) -> bool
+        ensures times { IsTrue result → self.now.times ≡ pos 1 }
+        ensures less { IsTrue result → self.now.less ≡ pos 0 }
+        ensures by { IsTrue result → self.now.by ≡ 1 }
+    {
+        self.times == 1 && self.less == 0 && self.by == 1
+    }
 }

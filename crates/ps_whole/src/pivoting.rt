@@ -45,6 +45,29 @@ impl Whole {
         Ok(true)
     }
 
+    /// Appends the numbers of a row after a pivot, which may be those before it, and tells whether
+    /// all of them are small enough.
+    fn push_changed(
+        &self,
+        p: usize,
+        i: usize,
+        change: &RowChange,
+        made: &mut Vec<i64>,
+    ) -> Result<bool, NoMemory>
+        requires own { p < self.now.rows }
+        requires row { i < self.now.rows }
+        requires change { IsSmallContent self.now p i change.now }
+        ensures all { IfAll result (HasRow self.now p i change.now made.old.items made.new.items) }
+    {
+        if change.keeps() {
+            // Called for its clauses: the numbers are small.
+            self.rows();
+            self.push_copied(i, made)?;
+            return Ok(true);
+        }
+        self.push_numbers(p, i, change, made)
+    }
+
     /// Appends a row after a pivot, and tells whether all of its numbers are small enough.
     fn push_row(
         &self,
@@ -64,7 +87,7 @@ impl Whole {
         if !(under < LIMIT) {
             return Ok(false);
         }
-        if !self.push_numbers(p, i, &change, numbers)? {
+        if !self.push_changed(p, i, &change, numbers)? {
             return Ok(false);
         }
         unders.push(under as u64)?;
@@ -96,8 +119,8 @@ impl Whole {
         requires pivot { IsPivotOf self.now p q }
         ensures pivoted { IfOk result (λ made. IfSome made (IsPivoted self.now p q)) }
     {
-        let mut numbers = Vec::new(self.alloc);
-        let mut unders = Vec::new(self.alloc);
+        let mut numbers = Vec::with_capacity(self.alloc, self.numbers.len())?;
+        let mut unders = Vec::with_capacity(self.alloc, self.rows)?;
         if !self.push_rows(p, q, &mut numbers, &mut unders)? {
             return Ok(None);
         }

@@ -3,6 +3,7 @@ ghost use Rattle.std.specs.Prelude.{◌≡◌, ◌≢◌, ◌+◌, ◌*◌, ◌<
 ghost use Rattle.std.specs.Prelude.{IfOk, unsigned_abs};
 ghost use Rattle.ps_rational.specs.Rational.{zero_q};
 ghost use Rattle.ps_whole.specs.Whole.{WholeCells, IsWhole, number_at, under_at, whole_at};
+ghost use Rattle.ps_whole.specs.Whole.{numbers_of};
 ghost use Rattle.ps_whole.specs.declared.limits.TheConstants.{MOST_ROWS, MOST_COLUMNS};
 
 use ps_frac::Fraction;
@@ -74,6 +75,15 @@ impl Whole {
         ensures small { result < 2 ^ 62 }
     {
         self.unders[row]
+    }
+
+    /// The numbers of a row.
+    pub(crate) fn row_numbers(&self, row: usize) -> &[i64]
+        requires row { row < self.now.rows }
+        ensures numbers { result.now ≡ numbers_of self.now row }
+    {
+        let start = row * self.width;
+        &self.numbers[start..start + self.width]
     }
 
     /// The entry of a row in a column.

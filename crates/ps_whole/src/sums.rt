@@ -138,6 +138,9 @@ impl Whole {
         requires column { column < self.now.width }
         ensures sum { IfSome result (IsSumWith sum.now cost (whole_at self.now row column)) }
     {
+        if cost == 0 {
+            return Some(*sum);
+        }
         sum.plus(cost_times(cost, self.number(row, column)), self.under(row))
     }
 }

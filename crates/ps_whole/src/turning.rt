@@ -121,6 +121,23 @@ impl Whole {
         }
     }
 
+    /// What becomes of a row that loses nothing.
+    fn no_change(&self, i: usize) -> RowChange
+        requires row { i < self.now.rows }
+        ensures times { result.times ≡ pos 1 }
+        ensures less { result.less ≡ pos 0 }
+        ensures base { result.base ≡ under_at self.now i }
+        ensures positive { 0 < result.base }
+        ensures by { result.by ≡ 1 }
+    {
+        RowChange {
+            times: 1,
+            less: 0,
+            base: self.under(i) as u128,
+            by: 1,
+        }
+    }
+
     /// What becomes of another row.
     fn other_change(&self, p: usize, q: usize, i: usize) -> RowChange
         requires pivot { IsPivotOf self.now p q }
@@ -130,6 +147,9 @@ impl Whole {
     {
         let entry = self.pivot_number(p, q);
         let lost = self.number(i, q);
+        if lost == 0 {
+            return self.no_change(i);
+        }
         let g = gcd_of_words(lost.unsigned_abs(), entry.unsigned_abs());
         let size = entry.unsigned_abs() / g;
         let times = signed_size(size);

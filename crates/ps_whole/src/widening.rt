@@ -57,13 +57,13 @@ impl Whole {
     }
 
     /// Appends the numbers of a row.
-    fn push_copied(&self, i: usize, made: &mut Vec<i64>) -> Result<(), NoMemory>
+    pub(crate) fn push_copied(&self, i: usize, made: &mut Vec<i64>) -> Result<(), NoMemory>
         requires row { i < self.now.rows }
         ensures copied { IfOk result (λ _. IsCopied self.now i made.old.items made.new.items) }
     {
-        for column in 0..self.width() {
-            made.push(self.number(i, column))?;
-        }
+        // Called for its clauses: each row has a number for each column.
+        self.rows();
+        made.extend_from_slice(self.row_numbers(i))?;
         Ok(())
     }
 
@@ -110,7 +110,10 @@ impl Whole {
         requires count { length entries.now ≡ self.now.rows }
         ensures widened { IfOk result (λ made. IfSome made (IsWidened entries.now self.now)) }
     {
-        let mut numbers = Vec::new(self.alloc);
+        let mut numbers = Vec::with_capacity(
+            self.alloc,
+            self.numbers.len().saturating_add(self.rows),
+        )?;
         if !self.push_all_wider(entries, &mut numbers)? {
             return Ok(None);
         }

@@ -1,11 +1,11 @@
 use Rattle.std.proofs.Common.{◌≡◌, ◌<◌, ◌*◌, ◌/◌, pos, ◌*ℤ◌, unsigned_abs, int_div, arith, subst, sym, ap, ◌∙◌, rules, FitsSigned, to_z, of_z, w64}
 use Rattle.std.specs.Int.{IsGcd, ◌∣◌}
-use Rattle.std.proofs.lemmas.Int.{to_z-of_z}
+use Rattle.std.proofs.lemmas.Int.{ints, to_z-of_z}
 use Rattle.std.proofs.Math.Nat.{mul-pos, div-le_self}
 use Rattle.ps_rational.specs.Parts.{part_pos}
 use Rattle.ps_whole.specs.Whole.{number_at, under_at}
 use Rattle.ps_whole.specs.Pivots.{raw_number, IsContent}
-use Rattle.ps_whole.proofs.Changes.{other_cell, less_is}
+use Rattle.ps_whole.proofs.Changes.{other_cell, less_is, kept_change}
 use Rattle.ps_whole.proofs.rows.Whole.other_change.Goals as goal
 
 pub content-requires-clause-base : goal.content-requires-clause-base
@@ -17,6 +17,12 @@ content-requires-clause-base c =
     mul-pos c.under.ensures.positive
     (part_pos c.unsigned_abs-3.result c.gcd_of_words-g.result (subst (λ n. 0 < n) (sym size) c.pivot_number-entry.ensures.not_zero)
     (subst (λ n. c.gcd_of_words-g.result ∣ n) again c.gcd_of_words-g.ensures.value.1))
+
+pub returns-then-lost-eq0 : goal.returns-then-lost-eq0
+returns-then-lost-eq0 c =
+    let zero : c.number-lost.result ≡ pos 0 = omega (arith, ints) in
+    let lost : number_at c.args.self.now c.args.i c.args.q ≡ pos 0 = sym c.number-lost.ensures.value ∙ zero in
+    record { change = kept_change c.args.self.now c.args.p c.args.q c.args.i c.no_change.result c.requires.other lost c.no_change.ensures.times c.no_change.ensures.less c.no_change.ensures.base c.no_change.ensures.positive c.no_change.ensures.by }
 
 pub returns : goal.returns
 returns c =

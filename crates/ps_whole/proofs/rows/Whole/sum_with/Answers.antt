@@ -1,10 +1,15 @@
-use Rattle.std.proofs.Common.{◌≡◌, ◌*ℤ◌, IfSome, subst, sym, ap, ◌∙◌, rules, FitsSigned, to_z, of_z, w8, w64}
-use Rattle.std.proofs.lemmas.Int.{to_z-of_z}
+use Rattle.std.proofs.Common.{pos, arith, ◌≡◌, ◌*ℤ◌, IfSome, subst, sym, ap, ◌∙◌, rules, FitsSigned, to_z, of_z, w8, w64}
+use Rattle.std.proofs.lemmas.Int.{ints, to_z-of_z}
 use Rattle.ps_rational.specs.Rational.{fraction, mul}
 use Rattle.ps_whole.specs.Whole.{number_at, under_at, whole_at}
 use Rattle.ps_whole.specs.Sums.{value_of, IsSumOf}
-use Rattle.ps_whole.proofs.Added.{cost_entry}
+use Rattle.ps_whole.proofs.Added.{cost_entry, no_cost}
 use Rattle.ps_whole.proofs.rows.Whole.sum_with.Goals as goal
+
+pub returns-then-cost-eq0 : goal.returns-then-cost-eq0
+returns-then-cost-eq0 c =
+    let none : c.args.cost ≡ pos 0 = omega (arith, ints) in
+    record { sum = no_cost c.args.sum.now c.args.cost (number_at c.args.self.now c.args.row c.args.column) (under_at c.args.self.now c.args.row) c.requires.small none }
 
 pub returns : goal.returns
 returns c =
