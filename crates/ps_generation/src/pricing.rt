@@ -16,23 +16,10 @@ use ps_claims::ClaimKind;
 use ps_formula::World;
 use ps_io::NoMemory;
 use ps_phases::State;
-use ps_pool::{Event, Pool, PoolError};
+use ps_pool::Event;
 use ps_pricing::Pricing;
 use ps_table::Costs;
 use std::alloc::Global;
-
-/// Adds a world that isn't there to the pool.
-fn add_to_pool(pool: &mut Pool, world: World) -> Result<(), NoMemory>
-    requires room { length pool.old < MOST_WORLDS }
-    requires fresh { (at : ℕ) → HasNumber pool.old world at → ⊥ }
-    ensures { IfOk result (λ _. pool.new ≡ pool.old ++ world ∷ []) }
-{
-    match pool.add(world) {
-        Ok(_) => Ok(()),
-        Err(PoolError::NoMemory) => Err(NoMemory),
-        Err(PoolError::Present { at: _ }) => unreachable!(),
-    }
-}
 
 /// Enters a priced world: its event, its column with its cost, and its place in the pool. Where a
 /// number of its column is too wide its event alone is there, and the phase ends.
@@ -66,7 +53,7 @@ fn enter(
     }
     // Called for its clauses: the table is in the form in which tables are kept.
     let _sound = state.table.rows();
-    add_to_pool(&mut state.pool, world)?;
+    state.pool.add_new(world)?;
     costs.worlds.push(cost)?;
     Ok(None)
 }

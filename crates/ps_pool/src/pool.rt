@@ -6,6 +6,7 @@ ghost use Rattle.ps_pool.specs.declared.pool.TheConstants.{MOST_WORLDS};
 
 use indexmap::IndexSet;
 use ps_formula::World;
+use ps_io::NoMemory;
 use std::alloc::Global;
 use std::marker::Model;
 use thiserror::Error;
@@ -92,5 +93,30 @@ impl Pool {
             Ok((i, _)) => Ok(i as u32 + 1),
             Err(_) => Err(PoolError::NoMemory),
         }
+    }
+
+    /// Adds a world that isn't there.
+    pub fn add_new(&mut self, world: World) -> Result<(), NoMemory>
+        requires room { length self.old < MOST_WORLDS }
+        requires fresh { (at : ℕ) → HasNumber self.old world at → ⊥ }
+        ensures added { OnOk result (self.new ≡ self.old ++ world ∷ []) }
+        ensures same { OnErr result (self.new ≡ self.old) }
+    {
+        match self.add(world) {
+            Ok(_) => Ok(()),
+            Err(PoolError::NoMemory) => Err(NoMemory),
+            Err(PoolError::Present { at: _ }) => unreachable!(),
+        }
+    }
+
+    /// A pool of equal worlds.
+    pub fn copy(&self, alloc: Global) -> Result<Pool, NoMemory>
+        ensures { IfOk result (λ pool. pool ≡ self.now) }
+    {
+        let mut copy = Pool::new(alloc);
+        for world in self.worlds.as_slice() {
+            copy.add_new(world.copy(alloc)?)?;
+        }
+        Ok(copy)
     }
 }

@@ -89,6 +89,22 @@ fn fractions_of(
 }
 
 impl Kept {
+    /// Equal entries.
+    pub(crate) fn copy(&self) -> Result<Kept, NoMemory>
+        ensures { IfOk result (λ kept. kept ≡ self.now) }
+    {
+        let cells = match &self.cells {
+            Cells::Whole(whole) => Cells::Whole(whole.copy()?),
+            Cells::Fractions(_) => Cells::Fractions(self.fractions()?),
+        };
+        Ok(Kept {
+            alloc: self.alloc,
+            rows: self.rows,
+            worlds: self.worlds,
+            cells,
+        })
+    }
+
     /// The homes of so many rows.
     pub(crate) fn of_homes(alloc: Global, rows: usize) -> Result<Kept, NoMemory>
         requires few { rows ≤ MOST_ROWS }

@@ -86,6 +86,18 @@ impl Table {
         })
     }
 
+    /// An equal table.
+    pub fn copy(&self, alloc: Global) -> Result<Table, NoMemory>
+        ensures { IfOk result (λ table. table ≡ self.now) }
+    {
+        Ok(Table {
+            homes: self.homes.as_slice().to_vec(alloc)?,
+            worlds: self.worlds,
+            kept: self.kept.copy()?,
+            basic: self.basic.as_slice().to_vec(alloc)?,
+        })
+    }
+
     /// How many rows there are.
     pub fn rows(&self) -> u32
         ensures value { result ≡ rows_of self.now }

@@ -7,6 +7,7 @@ ghost use Rattle.ps_whole.specs.Whole.{numbers_of};
 ghost use Rattle.ps_whole.specs.declared.limits.TheConstants.{MOST_ROWS, MOST_COLUMNS};
 
 use ps_frac::Fraction;
+use ps_io::NoMemory;
 use std::alloc::Global;
 use std::marker::Model;
 
@@ -93,5 +94,18 @@ impl Whole {
         ensures value { result ≡ whole_at self.now row column }
     {
         Fraction::new(self.number(row, column) as i128, self.under(row) as i128)
+    }
+
+    /// Equal rows.
+    pub fn copy(&self) -> Result<Whole, NoMemory>
+        ensures { IfOk result (λ rows. rows ≡ self.now) }
+    {
+        Ok(Whole {
+            alloc: self.alloc,
+            rows: self.rows,
+            width: self.width,
+            numbers: self.numbers.as_slice().to_vec(self.alloc)?,
+            unders: self.unders.as_slice().to_vec(self.alloc)?,
+        })
     }
 }

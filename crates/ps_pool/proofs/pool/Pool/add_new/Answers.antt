@@ -1,5 +1,5 @@
 use Rattle.std.proofs.Common.{Err, ap, ◌∙◌}
-use Rattle.ps_generation.proofs.pricing.add_to_pool.Goals as goal
+use Rattle.ps_pool.proofs.pool.Pool.add_new.Goals as goal
 
 pub unreachable-requires : goal.unreachable-requires
 unreachable-requires c =
