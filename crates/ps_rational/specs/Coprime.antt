@@ -39,20 +39,21 @@ mod-scale c a b hc hb =
     let l : c * (a % b) < c * b = mul-lt-mul_of_pos_left (mod-lt a hb) hc in
     rw e (add-mul-mod_self_left (c * (a % b)) (c * b) (a / b) ∙ mod-eq_of_lt l)
 
-scale_within : (k c a b g : ℕ) → 0 < c → b < k → IsGcd a b g → IsGcd (c * a) (c * b) (c * g)
-scale_within zero c a b g hc h p = absurd (omega arith)
-scale_within (suc k) c a zero g hc h p =
-    let e : a ≡ g = same_from_IsGcd a zero a g (IsGcd-from_zero a zero refl) p in
-    subst (λ n. IsGcd (c * a) (c * zero) (c * n)) e (IsGcd-from_zero (c * a) (c * zero) (mul-zero c))
-scale_within (suc k) c a (suc b) g hc h p =
-    let rest : IsGcd (c * suc b) (c * (a % suc b)) (c * g) =
-    scale_within k c (suc b) (a % suc b) g hc (omega arith) (IsGcd-to_mod a (suc b) g p) in
-    IsGcd-from_mod (c * a) (c * suc b) (c * g)
-    (subst (λ n. IsGcd (c * suc b) n (c * g)) (sym (mod-scale c a (suc b) hc (omega arith))) rest)
+module _ (c : ℕ) (hc : 0 < c) where
+  scale_within : (k a b g : ℕ) → b < k → IsGcd a b g → IsGcd (c * a) (c * b) (c * g)
+  scale_within zero a b g h p = absurd (omega arith)
+  scale_within (suc k) a zero g h p =
+      let e : a ≡ g = same_from_IsGcd a zero a g (IsGcd-from_zero a zero refl) p in
+      subst (λ n. IsGcd (c * a) (c * zero) (c * n)) e (IsGcd-from_zero (c * a) (c * zero) (mul-zero c))
+  scale_within (suc k) a (suc b) g h p =
+      let rest : IsGcd (c * suc b) (c * (a % suc b)) (c * g) =
+      scale_within k (suc b) (a % suc b) g (omega arith) (IsGcd-to_mod a (suc b) g p) in
+      IsGcd-from_mod (c * a) (c * suc b) (c * g)
+      (subst (λ n. IsGcd (c * suc b) n (c * g)) (sym (mod-scale c a (suc b) hc (omega arith))) rest)
 
 -- two numbers times a positive one have the greatest common divisor of the two, times that one
 pub IsGcd-scale : (c a b g : ℕ) → 0 < c → IsGcd a b g → IsGcd (c * a) (c * b) (c * g)
-IsGcd-scale c a b g hc p = scale_within (suc b) c a b g hc (omega arith) p
+IsGcd-scale c a b g hc p = scale_within c hc (suc b) a b g (omega arith) p
 
 -- Gauss's lemma
 pub gauss : (a b c : ℕ) → IsGcd a b 1 → a ∣ c * b → a ∣ c
@@ -60,10 +61,10 @@ gauss a b zero p d = dvd-zero a
 gauss a b (suc c) p d =
     subst (λ n. a ∣ n) (mul-one (suc c)) ((IsGcd-scale (suc c) a b 1 (omega arith) p).2 a (dvd-mul_left a (suc c)) d)
 
--- divisors of coprime numbers are coprime
-pub coprime_parts : (a b x y : ℕ) → IsGcd a b 1 → x ∣ a → y ∣ b → IsGcd x y 1
-coprime_parts a b x y p hx hy =
-    (one-dvd x, one-dvd y, λ d dx dy. p.2 d (dvd_trans d dx hx) (dvd_trans d dy hy))
+module _ (a b x y : ℕ) where
+  -- divisors of coprime numbers are coprime
+  pub coprime_parts : IsGcd a b 1 → x ∣ a → y ∣ b → IsGcd x y 1
+  coprime_parts p hx hy = (one-dvd x, one-dvd y, λ d dx dy. p.2 d (dvd_trans d dx hx) (dvd_trans d dy hy))
 
 -- a number coprime to each factor is coprime to the product
 pub coprime_product : (a b c : ℕ) → IsGcd a b 1 → IsGcd a c 1 → IsGcd a (b * c) 1
@@ -77,12 +78,13 @@ coprime_product a (suc b) c p q = (
       p.2 d da (gauss d c (suc b) dc dbc),
 )
 
--- two products are coprime where each factor of the one is coprime to each of the other
-pub coprime_products : (a b c d : ℕ) → IsGcd a c 1 → IsGcd a d 1 → IsGcd b c 1 → IsGcd b d 1 → IsGcd (a * b) (c * d) 1
-coprime_products a b c d ac ad bc bd =
-    IsGcd-swap (c * d) (a * b) 1
-    (coprime_product (c * d) a b (IsGcd-swap a (c * d) 1 (coprime_product a c d ac ad))
-    (IsGcd-swap b (c * d) 1 (coprime_product b c d bc bd)))
+module _ (a b c d : ℕ) where
+  -- two products are coprime where each factor of the one is coprime to each of the other
+  pub coprime_products : IsGcd a c 1 → IsGcd a d 1 → IsGcd b c 1 → IsGcd b d 1 → IsGcd (a * b) (c * d) 1
+  coprime_products ac ad bc bd =
+      IsGcd-swap (c * d) (a * b) 1
+      (coprime_product (c * d) a b (IsGcd-swap a (c * d) 1 (coprime_product a c d ac ad))
+      (IsGcd-swap b (c * d) 1 (coprime_product b c d bc bd)))
 
 -- what is left after division by the greatest common divisor is coprime
 pub coprime_rest : (a b g : ℕ) → 0 < g → IsGcd a b g → IsGcd (a / g) (b / g) 1
