@@ -23,7 +23,7 @@ use Rattle.ps_bland.specs.Runs.{system_of, pivots_of, ArePivots, Ran, Run}
 use Rattle.ps_bland.specs.Ends.{IsDueRefusal}
 use Rattle.ps_bland.specs.Rounds.{IsLeastBefore, IsStep}
 use Rattle.ps_simplex.specs.Table.{Based}
-use Rattle.ps_simplex.specs.Pivots.{Pivots, IsLawfulAt}
+use Rattle.ps_simplex.specs.Pivots.{linear_program, Pivots, IsLawfulAt}
 use Rattle.ps_simplex.specs.Pivots.Pivots.{still as no_moves, more as one_move}
 use Rattle.ps_table.specs.declared.home.Home.{Home}
 use Rattle.ps_simplex.specs.declared.phase.Phase.{Phase}
@@ -109,7 +109,7 @@ run_worlds phase costs s t events (still _) = refl
 run_worlds phase costs s t events (more _ r _ es enter leave run lawful pivot keeps) = pivot.worlds ∙ run_worlds phase costs s r es run
 
 abbrev LawfulIn : (phase : Phase) (costs : Costs) (A : ℕ → ℕ → Rational) (t : Tableau) (enter : Col) (leave : ℕ) → List Home → ℕ → Type 0
-LawfulIn phase costs A t enter leave k v = IsLawfulAt phase (system_of k A) (cost_at costs) (suc (length k + v)) (basic_at t) (number_in (length k) enter) leave
+LawfulIn phase costs A t enter leave k v = IsLawfulAt (linear_program phase (system_of k A) (cost_at costs) (suc (length k + v))) (basic_at t) (number_in (length k) enter) leave
 
 lawful_at : (phase : Phase) (costs : Costs) (A : ℕ → ℕ → Rational) (t : Tableau) (enter : Col) (leave : ℕ) → IsLawful phase costs t enter leave → IsTableFor A t → LawfulIn phase costs A t enter leave t.kinds t.worlds
 lawful_at phase costs A t enter leave lawful stands = record {
@@ -143,7 +143,7 @@ are_pivots phase costs s t events (more _ r _ es enter leave run lawful pivot ke
     let at : LawfulIn phase costs A r enter leave s.kinds s.worlds = subst (λ k. LawfulIn phase costs A r enter leave k s.worlds) ek (subst (λ v. LawfulIn phase costs A r enter leave r.kinds v) ew (lawful_at phase costs A r enter leave lawful before.0)) in
     let based : Based (length s.kinds) leave (number_in (length s.kinds) enter) (basic_at r) (basic_at t) = subst (λ k. Based (length k) leave (number_in (length k) enter) (basic_at r) (basic_at t)) ek pivot.based in (
       keeps A before.0,
-      subst (λ pivots. Pivots phase (system_of s.kinds A) (cost_at costs) (suc (length s.kinds + s.worlds)) (basic_at s) pivots (basic_at t)) (sym (pivots_of-append (length s.kinds) es enter leave))
+      subst (λ pivots. Pivots (linear_program phase (system_of s.kinds A) (cost_at costs) (suc (length s.kinds + s.worlds))) (basic_at s) pivots (basic_at t)) (sym (pivots_of-append (length s.kinds) es enter leave))
           (one_move (basic_at s) (basic_at r) (basic_at t) (pivots_of (length s.kinds) es) (number_in (length s.kinds) enter) leave before.1 at based),
     )
 

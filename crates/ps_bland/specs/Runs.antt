@@ -1,7 +1,7 @@
 -- Lawful pivots one after the other.
 use Rattle.std.specs.Prelude.{◌≡◌, ℕ, ◌+◌, ◌<◌, List, [], ◌∷◌, ◌++◌, length}
 use Rattle.ps_rational.specs.Rational.{Rational}
-use Rattle.ps_simplex.specs.Pivots.{System, Pivot as BasisPivot, Pivots}
+use Rattle.ps_simplex.specs.Pivots.{linear_program, System, Pivot as BasisPivot, Pivots}
 use Rattle.ps_cycle.specs.Count.{choose}
 use Rattle.ps_cycle.specs.Cycle.{NoBasisTwice}
 use Rattle.ps_table.specs.declared.home.Home.{Home}
@@ -34,7 +34,7 @@ system_of kinds A = record { rows = length kinds; artificial = artificial_at kin
 -- for all columns that the table stands for, the events are lawful pivots of its system
 abbrev pub ArePivots : Phase → Costs → Tableau → List Event → Tableau → Type 0
 ArePivots phase costs s events t = (A : ℕ → ℕ → Rational) → IsTableFor A s
-    → IsTableFor A t × Pivots phase (system_of s.kinds A) (cost_at costs) (width_of s) (basic_at s)
+    → IsTableFor A t × Pivots (linear_program phase (system_of s.kinds A) (cost_at costs) (width_of s)) (basic_at s)
     (pivots_of (rows_of s) events) (basic_at t)
 
 -- pivots were made, appended to the trace and counted

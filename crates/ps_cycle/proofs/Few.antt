@@ -4,7 +4,7 @@ use Rattle.std.proofs.lemmas.Bool.{cases_eq}
 use Rattle.ps_rational.specs.Rational.{Rational}
 use Rattle.ps_simplex.specs.Table.{IsBasisTable, IsBasis}
 use Rattle.ps_simplex.specs.declared.phase.Phase.{Phase}
-use Rattle.ps_simplex.specs.Pivots.{System, simplex_table, Pivot, Pivots}
+use Rattle.ps_simplex.specs.Pivots.{linear_program, System, simplex_table, Pivot, Pivots}
 use Rattle.ps_simplex.proofs.OnePivot.{distinct}
 use Rattle.ps_cycle.specs.Count.{choose}
 use Rattle.ps_cycle.specs.Cycle.{IsStart, HaveSameColumns}
@@ -66,7 +66,7 @@ module _ (phase : Phase) (s : System) (cost : ℕ → Rational) (m steps : ℕ) 
 
 pub few_pivots : (phase : Phase) (s : System) (cost : ℕ → Rational) (m : ℕ) (a b : ℕ → ℕ) (X : ℕ → ℕ → Rational) (pivots : List Pivot)
     → s.rows < suc m → IsBasis s.rows (suc m) a → ((i : ℕ) → i < s.rows → 0 < a i) → IsBasisTable s.rows (suc m) s.columns a X → IsStart phase (simplex_table s (suc m) a X)
-    → Pivots phase s cost (suc m) a pivots b
+    → Pivots (linear_program phase s cost (suc m)) a pivots b
     → length pivots < choose m s.rows
 few_pivots phase s cost m a b X pivots hn basis above stands start there =
     let ends = walk_of phase s cost (suc m) hn a b X pivots (record { basis = basis; stands = stands; start = start }) there in

@@ -3,7 +3,7 @@ use Rattle.std.proofs.Common.{◌≡◌, ℕ, ◌<◌, List, [], ◌∷◌, leng
 use Rattle.ps_rational.specs.Rational.{Rational}
 use Rattle.ps_simplex.specs.Table.{IsBasisTable, IsBasis}
 use Rattle.ps_simplex.specs.declared.phase.Phase.{Phase}
-use Rattle.ps_simplex.specs.Pivots.{System, simplex_table, Pivot, Pivots}
+use Rattle.ps_simplex.specs.Pivots.{linear_program, System, simplex_table, Pivot, Pivots}
 use Rattle.ps_cycle.specs.Cycle.{IsStart, HaveSameColumns, NoBasisTwice}
 use Rattle.ps_cycle.proofs.Walks.{stage_of, arrives, walk_of, IsSound}
 use Rattle.ps_cycle.proofs.NoCycle.{no_cycle}
@@ -13,7 +13,7 @@ none_from_length : (pivots : List Pivot) → (0 < length pivots → ⊥) → piv
 none_from_length [] h = refl
 none_from_length (p ∷ ps) h = absurd (h (omega arith))
 
-no_return : (phase : Phase) (s : System) (cost : ℕ → Rational) (w : ℕ) (x y : ℕ → ℕ) (X : ℕ → ℕ → Rational) (pivots : List Pivot) → s.rows < w → IsSound phase s w (stage_of x X) → Pivots phase s cost w x pivots y → HaveSameColumns s.rows x y → pivots ≡ []
+no_return : (phase : Phase) (s : System) (cost : ℕ → Rational) (w : ℕ) (x y : ℕ → ℕ) (X : ℕ → ℕ → Rational) (pivots : List Pivot) → s.rows < w → IsSound phase s w (stage_of x X) → Pivots (linear_program phase s cost w) x pivots y → HaveSameColumns s.rows x y → pivots ≡ []
 no_return phase s cost w x y X pivots hn sound there same =
     let ends = walk_of phase s cost w hn x y X pivots sound there in
     let h = ends.1 in

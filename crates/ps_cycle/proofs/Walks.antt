@@ -7,8 +7,8 @@ use Rattle.ps_simplex.proofs.OneTable as tables
 use Rattle.ps_simplex.proofs.PivotKeeps.{stands_kept}
 use Rattle.ps_simplex.specs.declared.phase.Phase.{Phase}
 use Rattle.ps_simplex.specs.Rule.{Enters, Leaves}
-use Rattle.ps_simplex.specs.Pivots.{System, simplex_table, IsLawfulAt, Pivot, Pivots, still, more}
-use Rattle.ps_simplex.specs.RuleLaws.{AreAlike}
+use Rattle.ps_simplex.specs.Pivots.{linear_program, System, simplex_table, IsLawfulAt, Pivot, Pivots, still, more}
+use Rattle.ps_simplex.specs.RuleLaws.{priced_columns, AreAlike}
 use Rattle.ps_simplex.proofs.Alike as alike
 use Rattle.ps_cycle.specs.Cycle.{IsStart}
 use Rattle.ps_cycle.proofs.Values.{start_kept, how, row_within, entry_filled}
@@ -70,9 +70,9 @@ is_pivoted n w p q X = record { row = λ j l. own_row p q X j; others = λ i j h
 
 module _ (phase : Phase) (s : System) (cost : ℕ → Rational) (w : ℕ) (hn : s.rows < w) where
   -- what is lawful at a basis is lawful at its table
-  lawful_step : (x : Stage) (q p : ℕ) (c : ℕ → ℕ) → IsSound phase s w x → IsLawfulAt phase s cost w x.basic q p → Based s.rows p q x.basic c → IsStep phase s cost w x q p (stage_of c (pivoted_table p q x.table))
+  lawful_step : (x : Stage) (q p : ℕ) (c : ℕ → ℕ) → IsSound phase s w x → IsLawfulAt (linear_program phase s cost w) x.basic q p → Based s.rows p q x.basic c → IsStep phase s cost w x q p (stage_of c (pivoted_table p q x.table))
   lawful_step x q p c sound h based =
-      let like : AreAlike s.rows w x.basic s.artificial s.artificial cost cost h.table x.table =
+      let like : AreAlike s.rows w x.basic (priced_columns s.artificial cost h.table) (priced_columns s.artificial cost x.table) =
       record {
         some = omega arith;
         basis = sound.basis;
@@ -137,7 +137,7 @@ module _ (phase : Phase) (s : System) (cost : ℕ → Rational) (w : ℕ) (hn : 
     pub sound : IsSound phase s w (stage_of b table)
     pub before : (steps : ℕ) (z : Stage) → Walk phase s cost w steps (stage_of b table) z → Walk phase s cost w (many + steps) (stage_of a X) z
 
-  pub arrives : (a b : ℕ → ℕ) (X : ℕ → ℕ → Rational) (pivots : List Pivot) → IsSound phase s w (stage_of a X) → Pivots phase s cost w a pivots b → Arrives a b X (length pivots)
+  pub arrives : (a b : ℕ → ℕ) (X : ℕ → ℕ → Rational) (pivots : List Pivot) → IsSound phase s w (stage_of a X) → Pivots (linear_program phase s cost w) a pivots b → Arrives a b X (length pivots)
   arrives a b X pivots sound (still z) = record { table = X; sound = sound; before = λ steps y rest. subst (λ k. Walk phase s cost w k (stage_of a X) y) (omega arith) rest }
   arrives a b X pivots sound (more z m c ps q p first at based) =
       let here = arrives a m X ps sound first in
@@ -151,7 +151,7 @@ module _ (phase : Phase) (s : System) (cost : ℕ → Rational) (w : ℕ) (hn : 
       }
 
   -- lawful pivots make a walk of as many steps
-  pub walk_of : (a b : ℕ → ℕ) (X : ℕ → ℕ → Rational) (pivots : List Pivot) → IsSound phase s w (stage_of a X) → Pivots phase s cost w a pivots b
+  pub walk_of : (a b : ℕ → ℕ) (X : ℕ → ℕ → Rational) (pivots : List Pivot) → IsSound phase s w (stage_of a X) → Pivots (linear_program phase s cost w) a pivots b
       → (Y : ℕ → ℕ → Rational) × Walk phase s cost w (length pivots) (stage_of a X) (stage_of b Y)
   walk_of a b X pivots sound there =
       let here = arrives a b X pivots sound there in

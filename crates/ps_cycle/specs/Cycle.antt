@@ -6,7 +6,7 @@ use Rattle.ps_simplex.specs.Table.{carried_by}
 use Rattle.ps_simplex.specs.declared.phase.Phase.{Phase}
 use Rattle.ps_simplex.specs.declared.phase.Phase.TheVariants.{One, Lower, Upper}
 use Rattle.ps_simplex.specs.Rule.{SimplexTable, IsFeasible}
-use Rattle.ps_simplex.specs.Pivots.{System, Pivot, Pivots}
+use Rattle.ps_simplex.specs.Pivots.{linear_program, System, Pivot, Pivots}
 
 -- what column j carries above its cost: the reduced cost, turned round
 abbrev pub gain : ℕ → (ℕ → Rational) → (ℕ → ℕ) → (ℕ → ℕ → Rational) → ℕ → Rational
@@ -35,4 +35,5 @@ pub record IsStart (phase : Phase) (t : SimplexTable) : Type 0 where
 -- from basis a on these pivots meet no basis twice, not even with the same columns in other rows
 abbrev pub NoBasisTwice : Phase → System → (ℕ → Rational) → ℕ → (ℕ → ℕ) → List Pivot → Type 0
 NoBasisTwice phase s cost w a pivots = (x y : ℕ → ℕ) (before between after : List Pivot) → pivots ≡ before ++ (between ++ after)
-    → Pivots phase s cost w a before x → Pivots phase s cost w x between y → HaveSameColumns s.rows x y → between ≡ []
+    → Pivots (linear_program phase s cost w) a before x → Pivots (linear_program phase s cost w) x between y
+    → HaveSameColumns s.rows x y → between ≡ []

@@ -4,7 +4,7 @@ use Rattle.ps_rational.specs.Rational.{Rational, mul, sub}
 use Rattle.ps_rational.specs.Sums.{sum_to}
 use Rattle.ps_simplex.specs.Table.{IsBasisTable, IsBasis, Belongs}
 use Rattle.ps_simplex.specs.declared.phase.Phase.{Phase}
-use Rattle.ps_simplex.specs.Pivots.{System, simplex_table, Pivot, Pivots}
+use Rattle.ps_simplex.specs.Pivots.{linear_program, System, simplex_table, Pivot, Pivots}
 use Rattle.ps_cycle.specs.Count.{choose}
 use Rattle.ps_cycle.specs.Cycle.{gain, IsStart, NoBasisTwice}
 
@@ -27,7 +27,7 @@ abbrev pub PivotsAreFew : Type 0
 PivotsAreFew = (phase : Phase) (s : System) (cost : ℕ → Rational) (m : ℕ) (a b : ℕ → ℕ) (X : ℕ → ℕ → Rational)
     (pivots : List Pivot)
     → s.rows < suc m → IsBasis s.rows (suc m) a → ((i : ℕ) → i < s.rows → 0 < a i) → IsBasisTable s.rows (suc m) s.columns a X
-    → IsStart phase (simplex_table s (suc m) a X) → Pivots phase s cost (suc m) a pivots b
+    → IsStart phase (simplex_table s (suc m) a X) → Pivots (linear_program phase s cost (suc m)) a pivots b
     → length pivots < choose m s.rows
 
 -- different worlds of a atoms are 2 ^ a at most

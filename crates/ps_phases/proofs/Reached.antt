@@ -14,7 +14,7 @@ use Rattle.ps_simplex.proofs.Agreeing.{same_stands}
 use Rattle.ps_simplex.proofs.OneTable as tables
 use Rattle.ps_simplex.specs.declared.phase.Phase.{Phase}
 use Rattle.ps_simplex.specs.declared.phase.Phase.TheVariants.{One, Lower, Upper}
-use Rattle.ps_simplex.specs.Pivots.{System, Pivot, Pivots}
+use Rattle.ps_simplex.specs.Pivots.{linear_program, System, Pivot, Pivots}
 use Rattle.ps_simplex.specs.Pivots.Pivots.{still as no_moves, more as one_move}
 use Rattle.ps_pool.specs.declared.event.Event.{Event}
 use Rattle.ps_pool.specs.declared.event.Event.TheVariants as event
@@ -40,7 +40,7 @@ pub record IsTableOf (phase : Phase) (s : Setting) (pool : List World) (basic : 
 
 -- ---- pivots between pricings
 -- the right side is never basic
-above_kept : (phase : Phase) (s : System) (cost : ℕ → Rational) (w : ℕ) (a b : ℕ → ℕ) (pivots : List Pivot) → Pivots phase s cost w a pivots b
+above_kept : (phase : Phase) (s : System) (cost : ℕ → Rational) (w : ℕ) (a b : ℕ → ℕ) (pivots : List Pivot) → Pivots (linear_program phase s cost w) a pivots b
     → ((i : ℕ) → i < s.rows → 0 < a i) → (i : ℕ) → i < s.rows → 0 < b i
 above_kept phase s cost w a b pivots (no_moves x) above i l = above i l
 above_kept phase s cost w a b pivots (one_move x m c ps q p first at based) above i l =
@@ -55,7 +55,7 @@ pub record Led (phase : Phase) (s : Setting) (pool : List World) (basic : ℕ �
   pub is : IsTableOf phase s pool basic table
 
 led : (phase : Phase) (s : Setting) (pool : List World) (cost : ℕ → Rational) (a b : ℕ → ℕ) (X : ℕ → ℕ → Rational) (pivots : List Pivot) → IsTableOf phase s pool a X
-    → Pivots phase (system_of s pool) cost (width_of s pool) a pivots b → Led phase s pool b
+    → Pivots (linear_program phase (system_of s pool) cost (width_of s pool)) a pivots b → Led phase s pool b
 led phase s pool cost a b X pivots start there =
     let here = arrives phase (system_of s pool) cost (width_of s pool) (omega arith) a b X pivots
     (record { basis = start.there.last; stands = start.there.stands; start = record { values = start.there.values; artificials = start.zeros } }) there in
@@ -124,7 +124,7 @@ pub record Reached (kind : ClaimKind) (s : Subject) (b : Stage) (made : ℕ) : T
   pub before : ℕ
   pub few : before ≤ choose (rows_of (setting_of s) + length b.pool) (suc (rows_of (setting_of s)))
   pub pivots : List Pivot
-  pub there : Pivots (phase_of kind) (system_of (setting_of s) b.pool) (cost_of kind (setting_of s) b.pool) (width_of (setting_of s) b.pool) start pivots b.basis
+  pub there : Pivots (linear_program (phase_of kind) (system_of (setting_of s) b.pool) (cost_of kind (setting_of s) b.pool) (width_of (setting_of s) b.pool)) start pivots b.basis
   pub counted : before + length pivots ≡ made
 
 module _ (kind : ClaimKind) (s : Subject) where
@@ -172,7 +172,7 @@ module _ (kind : ClaimKind) (s : Subject) where
       omega (arith, few, more, same)
 
   one_pivot_more : (b : Stage) (made q p : ℕ) (basis : ℕ → ℕ) (r : Reached kind s b made)
-      → Pivots (phase_of kind) (system_of (setting_of s) b.pool) (cost_of kind (setting_of s) b.pool) (width_of (setting_of s) b.pool) r.start (r.pivots ++ record { enter = q; leave = p } ∷ []) basis
+      → Pivots (linear_program (phase_of kind) (system_of (setting_of s) b.pool) (cost_of kind (setting_of s) b.pool) (width_of (setting_of s) b.pool)) r.start (r.pivots ++ record { enter = q; leave = p } ∷ []) basis
       → Reached kind s (record { pool = b.pool; basis = basis }) (suc made)
   one_pivot_more b made q p basis r there = record {
     pool_kept = r.pool_kept;

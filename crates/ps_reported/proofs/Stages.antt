@@ -17,7 +17,7 @@ use Rattle.ps_simplex.proofs.Agreeing.{same_stands}
 use Rattle.ps_simplex.specs.declared.phase.Phase.{Phase}
 use Rattle.ps_simplex.specs.declared.phase.Phase.TheVariants.{One, Lower, Upper}
 use Rattle.ps_simplex.specs.Rule.{SimplexTable, carried, Improves, HasLeastRatio, LeavesInPhaseTwo, Leaves}
-use Rattle.ps_simplex.specs.Pivots.{IsLawfulAt}
+use Rattle.ps_simplex.specs.Pivots.{linear_program, IsLawfulAt}
 use Rattle.ps_simplex.specs.RuleLaws.{multipliers}
 use Rattle.ps_simplex.proofs.Combination.{priced_improves}
 use Rattle.ps_claims.specs.declared.claim_kind.ClaimKind.{ClaimKind}
@@ -90,12 +90,12 @@ leaves_well Upper f q p h = in_phase_two f q p h
 
 -- the leaving row of a lawful pivot is one of the rows
 pub leaving_row : (kind : ClaimKind) (s : Setting) (pool : List World) (basic : ℕ → ℕ) (cost : ℕ → Rational) (q p : ℕ)
-    → IsLawfulAt (phase_of kind) (system_of s pool) cost (width_of s pool) basic q p → p < rows_of s
+    → IsLawfulAt (linear_program (phase_of kind) (system_of s pool) cost (width_of s pool)) basic q p → p < rows_of s
 leaving_row kind s pool basic cost q p lawful =
     (leaves_well (phase_of kind) (table_of s pool basic lawful.table) q p lawful.leaves).within
 
 pub pivot_table : (kind : ClaimKind) (s : Setting) (pool : List World) (basic new : ℕ → ℕ) (cost : ℕ → Rational) (q p : ℕ) → HasTable s pool basic
-    → IsLawfulAt (phase_of kind) (system_of s pool) cost (width_of s pool) basic q p → Based (rows_of s) p q basic new → HasTable s pool new
+    → IsLawfulAt (linear_program (phase_of kind) (system_of s pool) cost (width_of s pool)) basic q p → Based (rows_of s) p q basic new → HasTable s pool new
 pivot_table kind s pool basic new cost q p h lawful based =
     let n = rows_of s in
     let w = width_of s pool in

@@ -5,7 +5,7 @@ use Rattle.ps_rational.specs.Rational.{Rational}
 use Rattle.ps_meaning.specs.Formula.{World}
 use Rattle.ps_simplex.specs.Table.{Belongs, Based}
 use Rattle.ps_simplex.specs.Rule.{SimplexTable, IsFeasible, IsMoving, IsResting}
-use Rattle.ps_simplex.specs.Pivots.{IsLawfulAt, simplex_table}
+use Rattle.ps_simplex.specs.Pivots.{linear_program, IsLawfulAt, simplex_table}
 use Rattle.ps_steps.specs.Steps.{Step}
 use Rattle.ps_pool.specs.Worlds.{AreDifferent}
 use Rattle.ps_pool.specs.declared.col.Col.{Col}
@@ -74,8 +74,8 @@ pub record IsFeasibleAt (f : Frame) (g : Stage) (X : ℕ → ℕ → Rational) :
 -- a pivot by the rule: a column of the table enters and a row leaves
 pub record IsLawfulPivot (p : Program) (g : Stage) (enter : Col) (leave : ℕ) : Type 0 where
   pub there : IsInside p.frame.rows (length g.pool) enter
-  pub lawful : IsLawfulAt p.phase (p.frame.system g.pool) (costs_at p g)
-      (suc (p.frame.rows + length g.pool)) g.basis (number_in p.frame.rows enter) leave
+  pub lawful : IsLawfulAt (linear_program p.phase (p.frame.system g.pool) (costs_at p g)
+      (suc (p.frame.rows + length g.pool))) g.basis (number_in p.frame.rows enter) leave
 
 -- in no world is the gain of a table's dual greater than this
 pub record AreAtMost (p : Program) (g : Stage) (X : ℕ → ℕ → Rational) (most : ℤ) : Type 0 where

@@ -9,11 +9,11 @@ use Rattle.ps_simplex.proofs.Agreeing.{same_carried, same_belongs}
 use Rattle.ps_simplex.specs.declared.phase.Phase.{Phase}
 use Rattle.ps_simplex.specs.declared.phase.Phase.TheVariants.{One, Lower, Upper}
 use Rattle.ps_simplex.specs.Rule.{SimplexTable, table_of, Improves, IsFeasible, IsDueToEnd, IsMoving, IsResting, Enters, IsArtificialRow, IsLeastArtificialRow, IsRising, ratio, Precedes, HasLeastRatio, LeavesInPhaseTwo, Leaves}
-use Rattle.ps_simplex.specs.Pivots.{System, system_of, IsLawfulAt, Pivot, Pivots, still, more}
-use Rattle.ps_simplex.specs.RuleLaws.{HaveSameArtificials, AreAlike}
+use Rattle.ps_simplex.specs.Pivots.{system_of, LinearProgram, linear_program, IsLawfulAt, Pivot, Pivots, still, more}
+use Rattle.ps_simplex.specs.RuleLaws.{HaveSameArtificials, priced_columns, AreAlike}
 
 module _ (n w : ℕ) (basic : ℕ → ℕ) (a b : ℕ → Bool) (cost other : ℕ → Rational) (X Y : ℕ → ℕ → Rational) where
-  pub turned : AreAlike n w basic a b cost other X Y → AreAlike n w basic b a other cost Y X
+  pub turned : AreAlike n w basic (priced_columns a cost X) (priced_columns b other Y) → AreAlike n w basic (priced_columns b other Y) (priced_columns a cost X)
   turned h = record {
     some = h.some;
     basis = h.basis;
@@ -22,7 +22,7 @@ module _ (n w : ℕ) (basic : ℕ → ℕ) (a b : ℕ → Bool) (cost other : �
     entries = record { same = λ i j k l. sym (h.entries.same i j k l) };
   }
 
-module _ (n w : ℕ) (basic : ℕ → ℕ) (a b : ℕ → Bool) (cost other : ℕ → Rational) (X Y : ℕ → ℕ → Rational) (alike : AreAlike n w basic a b cost other X Y) where
+module _ (n w : ℕ) (basic : ℕ → ℕ) (a b : ℕ → Bool) (cost other : ℕ → Rational) (X Y : ℕ → ℕ → Rational) (alike : AreAlike n w basic (priced_columns a cost X) (priced_columns b other Y)) where
   abbrev F : SimplexTable
   F = table_of n w basic a X
 
@@ -66,8 +66,8 @@ module _ (n w : ℕ) (basic : ℕ → ℕ) (a b : ℕ → Bool) (cost other : �
     tie = λ e. h.tie (ratios q p l hp ∙ e ∙ sym (ratios q i l hi));
   }
 
-module _ (n w : ℕ) (basic : ℕ → ℕ) (a b : ℕ → Bool) (cost other : ℕ → Rational) (X Y : ℕ → ℕ → Rational) (alike : AreAlike n w basic a b cost other X Y) where
-  back : AreAlike n w basic b a other cost Y X
+module _ (n w : ℕ) (basic : ℕ → ℕ) (a b : ℕ → Bool) (cost other : ℕ → Rational) (X Y : ℕ → ℕ → Rational) (alike : AreAlike n w basic (priced_columns a cost X) (priced_columns b other Y)) where
+  back : AreAlike n w basic (priced_columns b other Y) (priced_columns a cost X)
   back = turned n w basic a b cost other X Y alike
 
   pub enters : (q : ℕ) → Enters (table_of n w basic a X) cost q → Enters (table_of n w basic b Y) other q
@@ -125,10 +125,10 @@ basis_kept n w p q x y hb hq based i l =
     ]
 
 module _ (phase : Phase) (n w : ℕ) (a b : ℕ → Bool) (A B : ℕ → ℕ → Rational) (cost other : ℕ → Rational) (some : 0 < w) (ab : HaveSameArtificials w a b) (cd : HaveSameCosts w cost other) (columns : AreSameWithin n w A B) where
-  lawful : (basic : ℕ → ℕ) (q p : ℕ) → IsBasis n w basic → IsLawfulAt phase (system_of n a A) cost w basic q p → IsLawfulAt phase (system_of n b B) other w basic q p
+  lawful : (basic : ℕ → ℕ) (q p : ℕ) → IsBasis n w basic → IsLawfulAt (linear_program phase (system_of n a A) cost w) basic q p → IsLawfulAt (linear_program phase (system_of n b B) other w) basic q p
   lawful basic q p hb h =
       let same : AreSameWithin n w h.table h.table = record { same = λ i j k l. refl } in
-      let alike : AreAlike n w basic a b cost other h.table h.table = record { some = some; basis = hb; artificials = ab; costs = cd; entries = same } in
+      let alike : AreAlike n w basic (priced_columns a cost h.table) (priced_columns b other h.table) = record { some = some; basis = hb; artificials = ab; costs = cd; entries = same } in
       let back = turned n w basic a b cost other h.table h.table alike in
       record {
         table = h.table;
@@ -138,15 +138,15 @@ module _ (phase : Phase) (n w : ℕ) (a b : ℕ → Bool) (A B : ℕ → ℕ →
         leaves = leaves n w basic a b cost other h.table h.table alike phase q p h.enters.improves.within h.leaves;
       }
 
-  pub same_pivots : (x y : ℕ → ℕ) (pivots : List Pivot) → IsBasis n w x → Pivots phase (system_of n a A) cost w x pivots y → Pivots phase (system_of n b B) other w x pivots y × IsBasis n w y
+  pub same_pivots : (x y : ℕ → ℕ) (pivots : List Pivot) → IsBasis n w x → Pivots (linear_program phase (system_of n a A) cost w) x pivots y → Pivots (linear_program phase (system_of n b B) other w) x pivots y × IsBasis n w y
   same_pivots x y pivots hb (still z) = (still x, hb)
   same_pivots x y pivots hb (more z m c ps q p first at based) =
       let r = same_pivots x m ps hb first in
       (more x m y ps q p r.0 (lawful m q p r.1 at) based, basis_kept n w p q m y r.1 at.enters.improves.within based)
 
 -- pivots after pivots are pivots
-pub compose : (phase : Phase) (s : System) (cost : ℕ → Rational) (w : ℕ) (a b c : ℕ → ℕ) (before after : List Pivot) → Pivots phase s cost w a before b → Pivots phase s cost w b after c → Pivots phase s cost w a (before ++ after) c
-compose phase s cost w a b c before after first (still z) = subst (λ ps. Pivots phase s cost w a ps b) (sym (append-nil before)) first
-compose phase s cost w a b c before after first (more z m d ps q p rest at based) =
-    subst (λ k. Pivots phase s cost w a k c) (append_assoc before ps (record { enter = q; leave = p } ∷ []))
-    (more a m c (before ++ ps) q p (compose phase s cost w a b m before ps first rest) at based)
+pub compose : (l : LinearProgram) (a b c : ℕ → ℕ) (before after : List Pivot) → Pivots l a before b → Pivots l b after c → Pivots l a (before ++ after) c
+compose l a b c before after first (still z) = subst (λ ps. Pivots l a ps b) (sym (append-nil before)) first
+compose l a b c before after first (more z m d ps q p rest at based) =
+    subst (λ k. Pivots l a k c) (append_assoc before ps (record { enter = q; leave = p } ∷ []))
+    (more a m c (before ++ ps) q p (compose l a b m before ps first rest) at based)

@@ -9,8 +9,8 @@ use Rattle.ps_simplex.proofs.OneTable as tables
 use Rattle.ps_simplex.specs.declared.phase.Phase.{Phase}
 use Rattle.ps_simplex.specs.declared.phase.Phase.TheVariants.{One, Lower, Upper}
 use Rattle.ps_simplex.specs.Rule.{Improves, IsArtificialRow, ratio, HasLeastRatio, LeavesInPhaseTwo, Leaves}
-use Rattle.ps_simplex.specs.Pivots.{System, simplex_table, IsLawfulAt}
-use Rattle.ps_simplex.specs.RuleLaws.{AreAlike}
+use Rattle.ps_simplex.specs.Pivots.{System, simplex_table, LinearProgram, IsLawfulAt}
+use Rattle.ps_simplex.specs.RuleLaws.{priced_columns, AreAlike}
 use Rattle.ps_simplex.proofs.Alike as alike
 
 -- there is one least number with a property
@@ -63,11 +63,15 @@ module _ (s : System) (cost : ℕ → Rational) (w : ℕ) (basic : ℕ → ℕ) 
   one_leaves Lower q p r h k = one_in_phase_two q p r h k
   one_leaves Upper q p r h k = one_in_phase_two q p r h k
 
-pub one_pivot : (phase : Phase) (s : System) (cost : ℕ → Rational) (w : ℕ) (basic : ℕ → ℕ) (X : ℕ → ℕ → Rational) (q p k r : ℕ)
-    → s.rows < w → IsBasis s.rows w basic → IsBasisTable s.rows w s.columns basic X
-    → IsLawfulAt phase s cost w basic q p → IsLawfulAt phase s cost w basic k r → (q ≡ k) × (p ≡ r)
-one_pivot phase s cost w basic X q p k r hn hb stands h g =
-    let like : (T : ℕ → ℕ → Rational) → ((i j : ℕ) → i < s.rows → j < w → X i j ≡ T i j) → AreAlike s.rows w basic s.artificial s.artificial cost cost T X =
+pub one_pivot : (l : LinearProgram) (basic : ℕ → ℕ) (X : ℕ → ℕ → Rational) (q p k r : ℕ)
+    → l.system.rows < l.width → IsBasis l.system.rows l.width basic → IsBasisTable l.system.rows l.width l.system.columns basic X
+    → IsLawfulAt l basic q p → IsLawfulAt l basic k r → (q ≡ k) × (p ≡ r)
+one_pivot l basic X q p k r hn hb stands h g =
+    let phase = l.phase in
+    let s = l.system in
+    let cost = l.cost in
+    let w = l.width in
+    let like : (T : ℕ → ℕ → Rational) → ((i j : ℕ) → i < s.rows → j < w → X i j ≡ T i j) → AreAlike s.rows w basic (priced_columns s.artificial cost T) (priced_columns s.artificial cost X) =
     λ T e. record { some = omega arith; basis = hb; artificials = record { same = λ j l. refl }; costs = record { same = λ j l. refl }; entries = record { same = λ i j a b. sym (e i j a b) } } in
     let ah = like h.table (tables.one_table s.rows w s.columns X h.table basic hn hb stands h.belongs) in
     let ag = like g.table (tables.one_table s.rows w s.columns X g.table basic hn hb stands g.belongs) in

@@ -19,13 +19,24 @@ system_of n artificial A = record { rows = n; artificial = artificial; columns =
 abbrev pub simplex_table : System → ℕ → (ℕ → ℕ) → (ℕ → ℕ → Rational) → SimplexTable
 simplex_table s w basic X = table_of s.rows w basic s.artificial X
 
--- a pivot by the rule at a table of the basis, with w columns
-pub record IsLawfulAt (phase : Phase) (s : System) (cost : ℕ → Rational) (w : ℕ) (basic : ℕ → ℕ) (q p : ℕ) : Type 0 where
+-- a phase on a system: what its columns cost, and how many there are
+pub record LinearProgram : Type 0 where
+  pub phase : Phase
+  pub system : System
+  pub cost : ℕ → Rational
+  pub width : ℕ
+
+-- the phase on the system at this cost, with w columns
+abbrev pub linear_program : Phase → System → (ℕ → Rational) → ℕ → LinearProgram
+linear_program phase s cost w = record { phase = phase; system = s; cost = cost; width = w }
+
+-- a pivot by the rule at a table of the basis
+pub record IsLawfulAt (l : LinearProgram) (basic : ℕ → ℕ) (q p : ℕ) : Type 0 where
   pub table : ℕ → ℕ → Rational
-  pub belongs : Belongs s.rows w s.columns basic table
-  pub unfinished : IsDueToEnd phase (simplex_table s w basic table) → ⊥
-  pub enters : Enters (simplex_table s w basic table) cost q
-  pub leaves : Leaves phase (simplex_table s w basic table) q p
+  pub belongs : Belongs l.system.rows l.width l.system.columns basic table
+  pub unfinished : IsDueToEnd l.phase (simplex_table l.system l.width basic table) → ⊥
+  pub enters : Enters (simplex_table l.system l.width basic table) l.cost q
+  pub leaves : Leaves l.phase (simplex_table l.system l.width basic table) q p
 
 -- the column that enters and the row that leaves
 pub record Pivot : Type 0 where
@@ -33,8 +44,7 @@ pub record Pivot : Type 0 where
   pub leave : ℕ
 
 -- lawful pivots lead from one basis to another
-pub data Pivots (phase : Phase) (s : System) (cost : ℕ → Rational) (w : ℕ) : (ℕ → ℕ) → List Pivot → (ℕ → ℕ) → Type 0 where
-  still : (a : ℕ → ℕ) → Pivots phase s cost w a [] a
-  more : (a b c : ℕ → ℕ) (pivots : List Pivot) (q p : ℕ) → Pivots phase s cost w a pivots b
-      → IsLawfulAt phase s cost w b q p → Based s.rows p q b c
-      → Pivots phase s cost w a (pivots ++ record { enter = q; leave = p } ∷ []) c
+pub data Pivots (l : LinearProgram) : (ℕ → ℕ) → List Pivot → (ℕ → ℕ) → Type 0 where
+  still : (a : ℕ → ℕ) → Pivots l a [] a
+  more : (a b c : ℕ → ℕ) (pivots : List Pivot) (q p : ℕ) → Pivots l a pivots b → IsLawfulAt l b q p → Based l.system.rows p q b c
+      → Pivots l a (pivots ++ record { enter = q; leave = p } ∷ []) c

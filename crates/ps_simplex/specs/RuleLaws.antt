@@ -6,14 +6,14 @@ use Rattle.ps_rational.specs.Sums.{sum_to, int_sum_to}
 use Rattle.ps_simplex.specs.Table.{IsBasisTable, IsBasis, AreSameWithin, HaveSameCosts}
 use Rattle.ps_simplex.specs.declared.phase.Phase.{Phase}
 use Rattle.ps_simplex.specs.Rule.{SimplexTable, table_of, carried, Improves, IsDueToEnd, IsMoving, IsResting, Enters, Leaves}
-use Rattle.ps_simplex.specs.Pivots.{System, system_of, simplex_table, IsLawfulAt, Pivot, Pivots}
+use Rattle.ps_simplex.specs.Pivots.{System, system_of, simplex_table, LinearProgram, linear_program, IsLawfulAt, Pivot, Pivots}
 
 -- two pivots by the rule at a basis whose table is kept by pivots are the same
 abbrev pub RuleNamesOnePivot : Type 0
-RuleNamesOnePivot = (phase : Phase) (s : System) (cost : ℕ → Rational) (w : ℕ) (basic : ℕ → ℕ) (X : ℕ → ℕ → Rational)
-    (q p k r : ℕ)
-    → s.rows < w → IsBasis s.rows w basic → IsBasisTable s.rows w s.columns basic X
-    → IsLawfulAt phase s cost w basic q p → IsLawfulAt phase s cost w basic k r → (q ≡ k) × (p ≡ r)
+RuleNamesOnePivot = (l : LinearProgram) (basic : ℕ → ℕ) (X : ℕ → ℕ → Rational) (q p k r : ℕ)
+    → l.system.rows < l.width → IsBasis l.system.rows l.width basic
+    → IsBasisTable l.system.rows l.width l.system.columns basic X
+    → IsLawfulAt l basic q p → IsLawfulAt l basic k r → (q ≡ k) × (p ≡ r)
 
 -- none of the first n numbers is below 0
 abbrev pub AreNonneg : ℕ → (ℕ → Rational) → Type 0
@@ -67,46 +67,54 @@ pub record CombinationsPrice : Type 0 where
 
 -- pivots after pivots are pivots
 abbrev pub PivotsCompose : Type 0
-PivotsCompose = (phase : Phase) (s : System) (cost : ℕ → Rational) (w : ℕ) (a b c : ℕ → ℕ) (before after : List Pivot)
-    → Pivots phase s cost w a before b → Pivots phase s cost w b after c → Pivots phase s cost w a (before ++ after) c
+PivotsCompose = (l : LinearProgram) (a b c : ℕ → ℕ) (before after : List Pivot)
+    → Pivots l a before b → Pivots l b after c → Pivots l a (before ++ after) c
 
 -- the same artificials among w columns
 pub record HaveSameArtificials (w : ℕ) (a b : ℕ → Bool) : Type 0 where
   pub same : (j : ℕ) → j < w → a j ≡ b j
 
+-- columns of a table: which are artificial, what they cost, and their entries
+pub record PricedColumns : Type 0 where
+  pub artificial : ℕ → Bool
+  pub cost : ℕ → Rational
+  pub entry : ℕ → ℕ → Rational
+
+-- the columns with these artificials, costs and entries
+abbrev pub priced_columns : (ℕ → Bool) → (ℕ → Rational) → (ℕ → ℕ → Rational) → PricedColumns
+priced_columns artificial cost X = record { artificial = artificial; cost = cost; entry = X }
+
+-- the table of n rows and w columns with this basis
+abbrev pub table_with : ℕ → ℕ → (ℕ → ℕ) → PricedColumns → SimplexTable
+table_with n w basic a = table_of n w basic a.artificial a.entry
+
 -- a table with the same basis, and with the same artificials, costs and entries in n rows and w columns
-pub record AreAlike (n w : ℕ) (basic : ℕ → ℕ) (a b : ℕ → Bool) (cost other : ℕ → Rational) (X Y : ℕ → ℕ → Rational) : Type 0 where
+pub record AreAlike (n w : ℕ) (basic : ℕ → ℕ) (a b : PricedColumns) : Type 0 where
   pub some : 0 < w
   pub basis : IsBasis n w basic
-  pub artificials : HaveSameArtificials w a b
-  pub costs : HaveSameCosts w cost other
-  pub entries : AreSameWithin n w X Y
+  pub artificials : HaveSameArtificials w a.artificial b.artificial
+  pub costs : HaveSameCosts w a.cost b.cost
+  pub entries : AreSameWithin n w a.entry b.entry
 
 -- what the rule says of one table it says of each that is alike
 pub record RuleReadsTheTable : Type 0 where
-  pub due : (n w : ℕ) (basic : ℕ → ℕ) (a b : ℕ → Bool) (cost other : ℕ → Rational) (X Y : ℕ → ℕ → Rational) (phase : Phase)
-      → AreAlike n w basic a b cost other X Y → IsDueToEnd phase (table_of n w basic a X)
-      → IsDueToEnd phase (table_of n w basic b Y)
-  pub improves : (n w : ℕ) (basic : ℕ → ℕ) (a b : ℕ → Bool) (cost other : ℕ → Rational) (X Y : ℕ → ℕ → Rational) (j : ℕ)
-      → AreAlike n w basic a b cost other X Y → Improves (table_of n w basic a X) cost j
-      → Improves (table_of n w basic b Y) other j
-  pub enters : (n w : ℕ) (basic : ℕ → ℕ) (a b : ℕ → Bool) (cost other : ℕ → Rational) (X Y : ℕ → ℕ → Rational) (q : ℕ)
-      → AreAlike n w basic a b cost other X Y → Enters (table_of n w basic a X) cost q → Enters (table_of n w basic b Y) other q
-  pub leaves : (n w : ℕ) (basic : ℕ → ℕ) (a b : ℕ → Bool) (cost other : ℕ → Rational) (X Y : ℕ → ℕ → Rational)
-      (phase : Phase) (q p : ℕ)
-      → AreAlike n w basic a b cost other X Y → q < w → Leaves phase (table_of n w basic a X) q p
-      → Leaves phase (table_of n w basic b Y) q p
-  pub moving : (n w : ℕ) (basic : ℕ → ℕ) (a b : ℕ → Bool) (cost other : ℕ → Rational) (X Y : ℕ → ℕ → Rational) (phase : Phase)
-      → AreAlike n w basic a b cost other X Y → IsMoving phase (table_of n w basic a X) cost
-      → IsMoving phase (table_of n w basic b Y) other
-  pub resting : (n w : ℕ) (basic : ℕ → ℕ) (a b : ℕ → Bool) (cost other : ℕ → Rational) (X Y : ℕ → ℕ → Rational) (phase : Phase)
-      → AreAlike n w basic a b cost other X Y → IsResting phase (table_of n w basic a X) cost
-      → IsResting phase (table_of n w basic b Y) other
+  pub due : (n w : ℕ) (basic : ℕ → ℕ) (a b : PricedColumns) (phase : Phase) → AreAlike n w basic a b
+      → IsDueToEnd phase (table_with n w basic a) → IsDueToEnd phase (table_with n w basic b)
+  pub improves : (n w : ℕ) (basic : ℕ → ℕ) (a b : PricedColumns) (j : ℕ) → AreAlike n w basic a b
+      → Improves (table_with n w basic a) a.cost j → Improves (table_with n w basic b) b.cost j
+  pub enters : (n w : ℕ) (basic : ℕ → ℕ) (a b : PricedColumns) (q : ℕ) → AreAlike n w basic a b
+      → Enters (table_with n w basic a) a.cost q → Enters (table_with n w basic b) b.cost q
+  pub leaves : (n w : ℕ) (basic : ℕ → ℕ) (a b : PricedColumns) (phase : Phase) (q p : ℕ) → AreAlike n w basic a b → q < w
+      → Leaves phase (table_with n w basic a) q p → Leaves phase (table_with n w basic b) q p
+  pub moving : (n w : ℕ) (basic : ℕ → ℕ) (a b : PricedColumns) (phase : Phase) → AreAlike n w basic a b
+      → IsMoving phase (table_with n w basic a) a.cost → IsMoving phase (table_with n w basic b) b.cost
+  pub resting : (n w : ℕ) (basic : ℕ → ℕ) (a b : PricedColumns) (phase : Phase) → AreAlike n w basic a b
+      → IsResting phase (table_with n w basic a) a.cost → IsResting phase (table_with n w basic b) b.cost
 
 -- columns, artificials and costs past the width don't matter to lawful pivots, which lead to a basis within the width
 abbrev pub PivotsReadTheWidth : Type 0
 PivotsReadTheWidth = (phase : Phase) (n w : ℕ) (a b : ℕ → Bool) (A B : ℕ → ℕ → Rational) (cost other : ℕ → Rational)
     (x y : ℕ → ℕ) (pivots : List Pivot)
     → 0 < w → IsBasis n w x → HaveSameArtificials w a b → HaveSameCosts w cost other → AreSameWithin n w A B
-    → Pivots phase (system_of n a A) cost w x pivots y
-    → Pivots phase (system_of n b B) other w x pivots y × IsBasis n w y
+    → Pivots (linear_program phase (system_of n a A) cost w) x pivots y
+    → Pivots (linear_program phase (system_of n b B) other w) x pivots y × IsBasis n w y
