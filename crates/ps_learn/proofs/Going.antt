@@ -57,7 +57,7 @@ pub going-place : (n : ℕ) (known : Known) (es : List TrailEntry) (first : Mark
 going-place n known es first i j e before marks kept f g q at = rw g.kept_len (f.at j e (slice_get_read es (length es) j e refl (omega (arith, q, g.within)) at)).within
 
 pub going-next : (cs : List Constraint) (t : Trail) (first : Marks) (i j : ℕ) (e : TrailEntry) (before before' : Assignment) (marks kept marks' kept' : Marks) → IsSound t.variables (known_of cs) t.entries → Going t.variables (known_of cs) t.entries first i before marks kept → j + 1 ≡ i → e ≡ get_or t.entries j e
-    → before' ≡ without before (unsigned_abs e.lit) → ExplainsAt cs t j e marks kept marks' kept' → Going t.variables (known_of cs) t.entries first j before' marks' kept'
+    → before' ≡ without before (unsigned_abs e.lit) → ExplainsAt cs t j e (marks, kept) (marks', kept') → Going t.variables (known_of cs) t.entries first j before' marks' kept'
 going-next cs t first i j e before before' marks kept marks' kept' sound g q at b xs =
     let n = t.variables in
     let es = t.entries in
@@ -86,7 +86,7 @@ going-start known t es i before marks kept v l k r e un =
     going-first t.variables known t.entries i before marks kept v (l ∙ n) (k ∙ n) (e ∙ ap length r) un
 
 -- the marked entry is kept
-pub kept_explains : (cs : List Constraint) (e : TrailEntry) (b : Bool) (before : Assignment) (marks kept kept' : Marks) → kept' ≡ slice_set kept (place e.lit) true → place e.lit < length kept → is_marked marks e.lit ≡ true → (b ≡ false) ⊎ HasNoReason (known_of cs) e → Explains cs e b before marks kept marks kept'
+pub kept_explains : (cs : List Constraint) (e : TrailEntry) (b : Bool) (before : Assignment) (marks kept kept' : Marks) → kept' ≡ slice_set kept (place e.lit) true → place e.lit < length kept → is_marked marks e.lit ≡ true → (b ≡ false) ⊎ HasNoReason (known_of cs) e → Explains cs e b before (marks, kept) (marks, kept')
 kept_explains cs e b before marks kept kept' q p m why = rw q (record {
   grows = grows-refl marks;
   only = record { at = λ l m. inl m };
@@ -98,7 +98,7 @@ kept_explains cs e b before marks kept kept' q p m why = rw q (record {
 })
 
 -- an entry that isn't marked
-pub unmarked_explains : (cs : List Constraint) (t : Trail) (i : ℕ) (e : TrailEntry) (marks kept : Marks) (b : Bool) → b ≡ is_marked marks e.lit → b ≡ false → ExplainsAt cs t i e marks kept marks kept
+pub unmarked_explains : (cs : List Constraint) (t : Trail) (i : ℕ) (e : TrailEntry) (marks kept : Marks) (b : Bool) → b ≡ is_marked marks e.lit → b ≡ false → ExplainsAt cs t i e (marks, kept) (marks, kept)
 unmarked_explains cs t i e marks kept b q f = record {
   asked = false;
   test = λ m. absurd (cc (q, f, m));
@@ -114,7 +114,7 @@ unmarked_explains cs t i e marks kept b q f = record {
 }
 
 -- an entry that is kept, since it isn't to be explained
-pub kept_explains_at : (cs : List Constraint) (t : Trail) (i : ℕ) (e : TrailEntry) (marks kept kept' : Marks) (m b : Bool) → m ≡ is_marked marks e.lit → m ≡ true → IsToExplain (level t) t.entries marks i e b → b ≡ false → kept' ≡ slice_set kept (place e.lit) true → place e.lit < length kept → ExplainsAt cs t i e marks kept marks kept'
+pub kept_explains_at : (cs : List Constraint) (t : Trail) (i : ℕ) (e : TrailEntry) (marks kept kept' : Marks) (m b : Bool) → m ≡ is_marked marks e.lit → m ≡ true → IsToExplain (level t) t.entries marks i e b → b ≡ false → kept' ≡ slice_set kept (place e.lit) true → place e.lit < length kept → ExplainsAt cs t i e (marks, kept) (marks, kept')
 kept_explains_at cs t i e marks kept kept' m b q y to f is p = record {
   asked = b;
   test = λ _. to;
@@ -122,26 +122,26 @@ kept_explains_at cs t i e marks kept kept' m b q y to f is p = record {
 }
 
 -- an entry that is explained where it has a reason
-pub asked_explains_at : (cs : List Constraint) (t : Trail) (i : ℕ) (e : TrailEntry) (before : Assignment) (marks kept marks' kept' : Marks) (b : Bool) → before ≡ values_of t.variables (take i t.entries) → IsToExplain (level t) t.entries marks i e b → b ≡ true → Explains cs e true before marks kept marks' kept' → ExplainsAt cs t i e marks kept marks' kept'
+pub asked_explains_at : (cs : List Constraint) (t : Trail) (i : ℕ) (e : TrailEntry) (before : Assignment) (marks kept marks' kept' : Marks) (b : Bool) → before ≡ values_of t.variables (take i t.entries) → IsToExplain (level t) t.entries marks i e b → b ≡ true → Explains cs e true before (marks, kept) (marks', kept') → ExplainsAt cs t i e (marks, kept) (marks', kept')
 asked_explains_at cs t i e before marks kept marks' kept' b v to y x = record {
   asked = true;
   test = λ _. subst (λ c. IsToExplain (level t) t.entries marks i e c) y to;
-  done = subst (λ a. Explains cs e true a marks kept marks' kept') v x;
+  done = subst (λ a. Explains cs e true a (marks, kept) (marks', kept')) v x;
 }
 
 no_id : (known : Known) (e : TrailEntry) → e.reason ≡ None → HasNoReason known e
 no_id known e n id q = absurd (cc (n, q))
 
 -- a decided entry is kept
-pub decided_explains : (cs : List Constraint) (e : TrailEntry) (before : Assignment) (marks kept kept' : Marks) → kept' ≡ slice_set kept (place e.lit) true → place e.lit < length kept → is_marked marks e.lit ≡ true → e.reason ≡ None → Explains cs e true before marks kept marks kept'
+pub decided_explains : (cs : List Constraint) (e : TrailEntry) (before : Assignment) (marks kept kept' : Marks) → kept' ≡ slice_set kept (place e.lit) true → place e.lit < length kept → is_marked marks e.lit ≡ true → e.reason ≡ None → Explains cs e true before (marks, kept) (marks, kept')
 decided_explains cs e before marks kept kept' q p m n = kept_explains cs e true before marks kept kept' q p m (inr (no_id (known_of cs) e n))
 
 -- and one whose reason isn't known
-pub unknown_explains : (cs : List Constraint) (e : TrailEntry) (before : Assignment) (marks kept kept' : Marks) (id : ℕ) → kept' ≡ slice_set kept (place e.lit) true → place e.lit < length kept → is_marked marks e.lit ≡ true → e.reason ≡ Some id → constraint_at (known_of cs) id ≡ None → Explains cs e true before marks kept marks kept'
+pub unknown_explains : (cs : List Constraint) (e : TrailEntry) (before : Assignment) (marks kept kept' : Marks) (id : ℕ) → kept' ≡ slice_set kept (place e.lit) true → place e.lit < length kept → is_marked marks e.lit ≡ true → e.reason ≡ Some id → constraint_at (known_of cs) id ≡ None → Explains cs e true before (marks, kept) (marks, kept')
 unknown_explains cs e before marks kept kept' id q p m r n = kept_explains cs e true before marks kept kept' q p m (inr (λ j s. (let z : Some j ≡ Some id = sym s ∙ r in let y : j ≡ id = cc z in rw y n)))
 
 -- the entry's reason explains it
-pub reason_explains : (cs : List Constraint) (e : TrailEntry) (before : Assignment) (marks marks' kept : Marks) (id : ℕ) (c : Constraint) → e.reason ≡ Some id → constraint_at (known_of cs) id ≡ Some c → AreCovered c before marks' → Grows marks' marks → AddsFalseIn c.terms before marks' marks → length marks' ≡ length marks → is_marked marks e.lit ≡ true → Explains cs e true before marks kept marks' kept
+pub reason_explains : (cs : List Constraint) (e : TrailEntry) (before : Assignment) (marks marks' kept : Marks) (id : ℕ) (c : Constraint) → e.reason ≡ Some id → constraint_at (known_of cs) id ≡ Some c → AreCovered c before marks' → Grows marks' marks → AddsFalseIn c.terms before marks' marks → length marks' ≡ length marks → is_marked marks e.lit ≡ true → Explains cs e true before (marks, kept) (marks', kept)
 reason_explains cs e before marks marks' kept id c r k cov g s l m = record {
   grows = g;
   only = record {

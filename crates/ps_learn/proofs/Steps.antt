@@ -23,7 +23,7 @@ use Rattle.ps_trail.proofs.Following.{Followed, followed-unmarked, followed-true
 use Rattle.ps_trail.specs.Marking.{Grows, AddsFalseIn}
 use Rattle.ps_trail.proofs.Marking.{grows-refl, grows-trans, marked-set, grows-set, own-set}
 use Rattle.ps_learn.specs.Marks.{MarksCause, IsReached}
-use Rattle.ps_learn.specs.Drawing.{AddsIf, AddsKept, FollowsEntry, EndsInConflict}
+use Rattle.ps_learn.specs.Drawing.{AddsIf, AddsKept, Passes, EndsInConflict}
 use Rattle.ps_learn.specs.declared.learning.Kept.{Kept}
 use Rattle.ps_pb.specs.declared.propagation.Effect.TheVariants as effect
 use Rattle.ps_learn.specs.declared.learning.Followed.TheVariants as v
@@ -166,7 +166,7 @@ reason_shown n known es marks start i hints a e id c al f q m ne r k =
     )
 
 -- one entry more of the reasons
-pub followed-next : (n : ℕ) (cs : List Constraint) (es : List TrailEntry) (marks : Marks) (start : Assignment) (i : ℕ) (hints : List ℕ) (a : Assignment) (e : TrailEntry) (hints' : List ℕ) (a' : Assignment) (r : v.the_data) → Along n (known_of cs) es marks start → Followed n (known_of cs) es marks start i hints a → i < length es → e ≡ get_or es i e → FollowsEntry cs e marks hints a hints' a' r → r ≢ v.Propagated effect.Violated → Followed n (known_of cs) es marks start (i + 1) hints' a'
+pub followed-next : (n : ℕ) (cs : List Constraint) (es : List TrailEntry) (marks : Marks) (start : Assignment) (i : ℕ) (hints : List ℕ) (a : Assignment) (e : TrailEntry) (hints' : List ℕ) (a' : Assignment) (r : v.the_data) → Along n (known_of cs) es marks start → Followed n (known_of cs) es marks start i hints a → i < length es → e ≡ get_or es i e → Passes cs e marks (hints, a) (hints', a') r → r ≢ v.Propagated effect.Violated → Followed n (known_of cs) es marks start (i + 1) hints' a'
 followed-next n cs es marks start i hints a e hints' a' v.Unmarked al f h at fol ne =
     let q = slice_get_read es (length es) i e refl h at in
     subst (λ x. Followed n (known_of cs) es marks start (i + 1) x a') (sym fol.1) (subst (λ x. Followed n (known_of cs) es marks start (i + 1) hints x) (sym fol.2) (followed-unmarked n (known_of cs) es marks start i hints a e al.fresh f q fol.0))
@@ -207,9 +207,9 @@ ended known start most i hints hints' id c e x few m ids k = rw e (record {
 })
 
 -- a reason that is violated ends the propagation
-pub followed-stop : (n : ℕ) (cs : List Constraint) (es : List TrailEntry) (marks : Marks) (start : Assignment) (i : ℕ) (hints : List ℕ) (a : Assignment) (e : TrailEntry) (hints' : List ℕ) (a' : Assignment) (r : v.the_data) → Followed n (known_of cs) es marks start i hints a → i ≤ length es → FollowsEntry cs e marks hints a hints' a' r → r ≡ v.Propagated effect.Violated → EndsInConflict (known_of cs) start (length es) hints'
+pub followed-stop : (n : ℕ) (cs : List Constraint) (es : List TrailEntry) (marks : Marks) (start : Assignment) (i : ℕ) (hints : List ℕ) (a : Assignment) (e : TrailEntry) (hints' : List ℕ) (a' : Assignment) (r : v.the_data) → Followed n (known_of cs) es marks start i hints a → i ≤ length es → Passes cs e marks (hints, a) (hints', a') r → r ≡ v.Propagated effect.Violated → EndsInConflict (known_of cs) start (length es) hints'
 followed-stop n cs es marks start i hints a e hints' a' r f m fol is =
-    let b = (subst (λ x. FollowsEntry cs e marks hints a hints' a' x) is fol).1 in
+    let b = (subst (λ x. Passes cs e marks (hints, a) (hints', a') x) is fol).1 in
     ended (known_of cs) start (length es) i hints hints' b.id b.constraint b.hints_are (followed-violated (known_of cs) start a hints b.id b.constraint f.going b.known_at b.does.0) f.few m f.ids b.known_at
 
 -- at the end the conflict ends the propagation

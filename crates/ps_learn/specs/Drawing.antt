@@ -23,28 +23,38 @@ AddsIf true e k a k' a' =
 abbrev pub AddsKept : TrailEntry → Marks → Kept → Assignment → Kept → Assignment → Type 0
 AddsKept e marks k a k' a' = AddsIf (is_marked marks e.lit) e k a k' a'
 
+-- the hints of a walk along reasons, and the values after propagation along them
+abbrev pub Walk : Type 0
+Walk = List ℕ × Assignment
+
+-- the hints of a walk
+abbrev pub walk_hints : Walk → List ℕ
+walk_hints w = w.0
+
+-- the values after it
+abbrev pub walk_values : Walk → Assignment
+walk_values w = w.1
+
 -- propagation went along the reason of an entry whose literal isn't true, with this effect
-pub record FollowsBy (f : Effect) (known : Known) (e : TrailEntry) (hints : List ℕ) (a : Assignment) (hints' : List ℕ)
-    (a' : Assignment) : Type 0 where
-  pub other : value_of a e.lit ≢ Some true
+pub record FollowsBy (f : Effect) (known : Known) (e : TrailEntry) (old new : Walk) : Type 0 where
+  pub other : value_of (walk_values old) e.lit ≢ Some true
   pub id : ℕ
   pub reason : e.reason ≡ Some id
   pub constraint : Constraint
   pub known_at : constraint_at known id ≡ Some constraint
   pub normal : IsNormal (weighted constraint.terms) constraint.degree
-  pub hints_are : hints' ≡ hints ++ id ∷ []
-  pub does : Propagates constraint a a' f
+  pub hints_are : walk_hints new ≡ walk_hints old ++ id ∷ []
+  pub does : Propagates constraint (walk_values old) (walk_values new) f
 
--- how an entry is followed: it isn't marked, is true already, or has no known reason; or its reason is gone along
-abbrev pub FollowsEntry : List Constraint → TrailEntry → Marks → List ℕ → Assignment → List ℕ → Assignment → Followed → Type 0
-FollowsEntry cs e marks hints a hints' a' Unmarked = (is_marked marks e.lit ≡ false) × (hints' ≡ hints) × (a' ≡ a)
-FollowsEntry cs e marks hints a hints' a' AlreadyTrue = (value_of a e.lit ≡ Some true) × (hints' ≡ hints) × (a' ≡ a)
-FollowsEntry cs e marks hints a hints' a' Decided =
+-- how an entry is passed: it isn't marked, is true already, or has no known reason; or its reason is gone along
+abbrev pub Passes : List Constraint → TrailEntry → Marks → Walk → Walk → Followed → Type 0
+Passes cs e marks (hints, a) (hints', a') Unmarked = (is_marked marks e.lit ≡ false) × (hints' ≡ hints) × (a' ≡ a)
+Passes cs e marks (hints, a) (hints', a') AlreadyTrue = (value_of a e.lit ≡ Some true) × (hints' ≡ hints) × (a' ≡ a)
+Passes cs e marks (hints, a) new Decided =
     (is_marked marks e.lit ≡ true) × (value_of a e.lit ≢ Some true) × (e.reason ≡ None)
-FollowsEntry cs e marks hints a hints' a' Unknown =
+Passes cs e marks old new Unknown =
     (is_marked marks e.lit ≡ true) × ((id : ℕ) × (e.reason ≡ Some id) × (constraint_at (known_of cs) id ≡ None))
-FollowsEntry cs e marks hints a hints' a' (Propagated f) =
-    (is_marked marks e.lit ≡ true) × FollowsBy f (known_of cs) e hints a hints' a'
+Passes cs e marks old new (Propagated f) = (is_marked marks e.lit ≡ true) × FollowsBy f (known_of cs) e old new
 
 -- propagation along the hints ends in a conflict, and they are few
 pub record EndsInConflict (known : Known) (start : Assignment) (most : ℕ) (hints : List ℕ) : Type 0 where

@@ -6,7 +6,8 @@ use Rattle.ps_steps.specs.Steps.{Known, known_of}
 use Rattle.ps_trail.specs.Trails.{TrailEntry, Trail, values, values_of, level}
 use Rattle.ps_trail.specs.Causes.{Marks, is_marked, IsCoveredAt, IsExplained, AreExplained, IsFalseAt, IsFalseInReason}
 use Rattle.ps_trail.specs.Marking.{Grows, AddsReason, AddsReasons}
-use Rattle.ps_trail.specs.Keeping.{IsKeptOnce, IsToExplain, IsKeptOrNot, SomeIsMarked, NoneIsMarked}
+use Rattle.ps_trail.specs.Keeping.{IsKeptOnce, IsToExplain, Marking, marked_in, kept_in, IsKeptOrNot}
+use Rattle.ps_trail.specs.Keeping.{SomeIsMarked, NoneIsMarked}
 use Rattle.ps_learn.specs.declared.explaining.Causes.{Causes}
 
 -- the variable of a false literal is marked
@@ -23,20 +24,21 @@ IsMarkedBefore t marks i false = NoneIsMarked (level t) t.entries marks i
 -- an entry that is marked is kept or explained; what was marked or kept stays so, and what is marked more is
 -- of a false literal of its reason
 pub record Explains (cs : List Constraint) (e : TrailEntry) (asked : Bool) (before : Assignment)
-    (marks kept marks' kept' : Marks) : Type 0 where
-  pub grows : Grows marks' marks
-  pub only : AddsReason (known_of cs) e before marks' marks
-  pub keeps : Grows kept' kept
-  pub len : length marks' ≡ length marks
-  pub kept_len : length kept' ≡ length kept
-  pub own : is_marked marks e.lit ≡ true → (is_marked kept' e.lit ≡ true) ⊎ IsExplained (known_of cs) before marks' e
-  pub kept_is : IsKeptOrNot (known_of cs) e asked marks kept marks' kept'
+    (old new : Marking) : Type 0 where
+  pub grows : Grows (marked_in new) (marked_in old)
+  pub only : AddsReason (known_of cs) e before (marked_in new) (marked_in old)
+  pub keeps : Grows (kept_in new) (kept_in old)
+  pub len : length (marked_in new) ≡ length (marked_in old)
+  pub kept_len : length (kept_in new) ≡ length (kept_in old)
+  pub own : is_marked (marked_in old) e.lit ≡ true
+      → (is_marked (kept_in new) e.lit ≡ true) ⊎ IsExplained (known_of cs) before (marked_in new) e
+  pub kept_is : IsKeptOrNot (known_of cs) e asked old new
 
 -- an entry that is marked is kept or explained, and kept only where it isn't to be explained or has no known reason
-pub record ExplainsAt (cs : List Constraint) (t : Trail) (i : ℕ) (e : TrailEntry) (marks kept marks' kept' : Marks) : Type 0 where
+pub record ExplainsAt (cs : List Constraint) (t : Trail) (i : ℕ) (e : TrailEntry) (old new : Marking) : Type 0 where
   pub asked : Bool
-  pub test : is_marked marks e.lit ≡ true → IsToExplain (level t) t.entries marks i e asked
-  pub done : Explains cs e asked (values_of t.variables (take i t.entries)) marks kept marks' kept'
+  pub test : is_marked (marked_in old) e.lit ≡ true → IsToExplain (level t) t.entries (marked_in old) i e asked
+  pub done : Explains cs e asked (values_of t.variables (take i t.entries)) old new
 
 -- each marked entry of the trail is kept or explained by marked ones
 abbrev pub IsTrailExplained : Known → Trail → Marks → Marks → Type 0

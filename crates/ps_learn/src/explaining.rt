@@ -159,7 +159,8 @@ fn explain(
     requires values { before.now ≡ values_of trail.now.variables (take i trail.now.entries) }
     requires len { length marks.old ≡ length before.now }
     requires kept_len { place entry.now.lit < length kept.old }
-    ensures { ExplainsAt known.now trail.now i entry.now marks.old kept.old marks.new kept.new }
+    ensures { ExplainsAt known.now trail.now i entry.now
+        (marks.old, kept.old) (marks.new, kept.new) }
 {
     if !is_marked(marks, entry.lit) {
         return;
@@ -182,7 +183,8 @@ fn explain_by_reason(
     requires len { length marks.old ≡ length before.now }
     requires kept_len { place entry.now.lit < length kept.old }
     requires marked { is_marked marks.old entry.now.lit ≡ true }
-    ensures { Explains known.now entry.now true before.now marks.old kept.old marks.new kept.new }
+    ensures { Explains known.now entry.now true before.now
+        (marks.old, kept.old) (marks.new, kept.new) }
 {
     match entry.reason {
         None => mark(kept, entry.lit),

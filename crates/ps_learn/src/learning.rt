@@ -10,7 +10,7 @@ ghost use Rattle.ps_trail.specs.Starting.{AreKeptLits};
 ghost use Rattle.ps_learn.specs.Learning.{MarksCauses};
 ghost use Rattle.ps_learn.specs.Marks.{IsReached};
 ghost use Rattle.ps_learn.specs.Falsity.{AreFalseIn};
-ghost use Rattle.ps_learn.specs.Drawing.{AddsKept, FollowsEntry, EndsInConflict};
+ghost use Rattle.ps_learn.specs.Drawing.{AddsKept, Passes, EndsInConflict};
 
 use crate::explaining::explain_conflict;
 use crate::marks::is_marked;
@@ -142,7 +142,7 @@ fn follow(
     a: &mut Assignment,
 ) -> Result<Followed, NoMemory>
     ensures { IfOk result
-        (FollowsEntry known.now entry.now marks.now hints.old a.old hints.new a.new) }
+        (Passes known.now entry.now marks.now (hints.old, a.old) (hints.new, a.new)) }
 {
     if !is_marked(marks, entry.lit) {
         return Ok(Followed::Unmarked);

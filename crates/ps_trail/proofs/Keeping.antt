@@ -130,7 +130,7 @@ spares v known es marks marks' kept i e s q k g new (inr m) = record {
 }
 
 -- one entry back
-pub keeping-next : (v : ℕ) (known : Known) (es : List TrailEntry) (marks kept marks' kept' : Marks) (i : ℕ) (e : TrailEntry) (b : Bool) → IsSound v known es → slice_get es i ≡ Some e → Keeping es marks kept (suc i) → (is_marked marks e.lit ≡ true → IsToExplain (decisions es) es marks i e b) → Grows marks' marks → AreSetIn (values_of v (take i es)) marks' marks → IsKeptOrNot known e b marks kept marks' kept' → Keeping es marks' kept' i
+pub keeping-next : (v : ℕ) (known : Known) (es : List TrailEntry) (marks kept marks' kept' : Marks) (i : ℕ) (e : TrailEntry) (b : Bool) → IsSound v known es → slice_get es i ≡ Some e → Keeping es marks kept (suc i) → (is_marked marks e.lit ≡ true → IsToExplain (decisions es) es marks i e b) → Grows marks' marks → AreSetIn (values_of v (take i es)) marks' marks → IsKeptOrNot known e b (marks, kept) (marks', kept') → Keeping es marks' kept' i
 keeping-next v known es marks kept marks' kept' i e b s q k t g new (inl x) = rw (x.0) (spares v known es marks marks' kept i e s q k g new x.1)
 keeping-next v known es marks kept marks' kept' i e b s q k t g new (inr x) = rw (x.1) (keeps v known es marks kept kept' i e s q k x.0 x.2 (kept_false v known es marks i e b s q (t x.2) x.3))
 
@@ -147,7 +147,7 @@ marked_by-first v known es marks kept i = record { at = λ l m. inl m }
 
 -- one entry back
 pub marked_by-next : (v : ℕ) (known : Known) (es : List TrailEntry) (first marks kept marks' kept' : Marks) (i : ℕ) (e : TrailEntry) (b : Bool) → AreFresh v es → slice_get es i ≡ Some e → Keeping es marks kept (suc i) → Grows marks' marks → MarkedBy v known es first marks kept (suc i) → AddsReason known e (values_of v (take i es)) marks' marks
-    → IsKeptOrNot known e b marks kept marks' kept' → MarkedBy v known es first marks' kept' i
+    → IsKeptOrNot known e b (marks, kept) (marks', kept') → MarkedBy v known es first marks' kept' i
 marked_by-next v known es first marks kept marks' kept' i e b f there k g h x (inl o) = record {
   at = λ l m. elim (x.at l m) [
     | inl was ↦ elim (h.at l was) [

@@ -34,10 +34,22 @@ IsToExplain top es marks i e false = (1 ≤ e.level) × (e.level ≡ top → Non
 abbrev pub HasNoReason : Known → TrailEntry → Type 0
 HasNoReason known e = (id : ℕ) → e.reason ≡ Some id → constraint_at known id ≡ None
 
+-- what is marked, and what is kept of it
+abbrev pub Marking : Type 0
+Marking = Marks × Marks
+
+-- what is marked
+abbrev pub marked_in : Marking → Marks
+marked_in m = m.0
+
+-- what is kept of it
+abbrev pub kept_in : Marking → Marks
+kept_in m = m.1
+
 -- a marked entry is kept where it wasn't to be explained or has no reason; else nothing more is kept, and marks are added only
 -- where the entry is marked
-abbrev pub IsKeptOrNot : Known → TrailEntry → Bool → Marks → Marks → Marks → Marks → Type 0
-IsKeptOrNot known e explained marks kept marks' kept' =
+abbrev pub IsKeptOrNot : Known → TrailEntry → Bool → Marking → Marking → Type 0
+IsKeptOrNot known e explained (marks, kept) (marks', kept') =
     ((kept' ≡ kept) × ((marks' ≡ marks) ⊎ (is_marked marks e.lit ≡ true)))
     ⊎ ((kept' ≡ slice_set kept (place e.lit) true) × (marks' ≡ marks) × (is_marked marks e.lit ≡ true)
     × ((explained ≡ false) ⊎ HasNoReason known e))
