@@ -9,7 +9,7 @@ use Rattle.ps_watch.specs.declared.links.TheConstants.{END}
 use Rattle.ps_watch.specs.declared.visiting.Watches.{Watches}
 use Rattle.ps_watch.specs.Links.{Holds}
 use Rattle.ps_watch.specs.Watches.{slot_of, spare_of, lit_of, list_of, IsKept, IsListed, IsPlaced, KeepsGood, KeepsPlaced, Extends}
-use Rattle.ps_watch.specs.Going.{IsTaken, HasGone}
+use Rattle.ps_watch.specs.Going.{IsTaken, watched, HasGone}
 use Rattle.ps_watch.proofs.Visited.{lit-slot}
 use Rattle.ps_watch.proofs.Reading.{extends-then}
 
@@ -86,7 +86,7 @@ pub record IsGoing (v : ℕ) (known : List Constraint) (w : Watches) (t : Trail)
 none-left : (v : ℕ) (w : Watches) (n : ℕ) → list_of w (spare_of v) ≡ [] → Holds n (list_of w (spare_of v)) → ⊥
 none-left v w n e h = subst (Holds n) e h
 
-pub gone : (v : ℕ) (known : List Constraint) (w : Watches) (t : Trail) (w' : Watches) (t' : Trail) (f : ℤ) (found : Option ℕ) → v ≡ t.variables → IsGoing v known w t w' t' f found → list_of w' (spare_of v) ≡ [] → HasGone known w t w' t' f found
+pub gone : (v : ℕ) (known : List Constraint) (w : Watches) (t : Trail) (w' : Watches) (t' : Trail) (f : ℤ) (found : Option ℕ) → v ≡ t.variables → IsGoing v known w t w' t' f found → list_of w' (spare_of v) ≡ [] → HasGone known (watched w t) (watched w' t') f found
 gone v known w t w' t' f None e g empty = record {
   kept = rw (← e) g.kept;
   filed = rw (← e) (record { spare = empty; at = λ n h. elim (g.listed.at n h (node-inside v known w' n g.kept h)) [ inl s ↦ absurd (none-left v w' n empty s) | inr s ↦ s ] });

@@ -16,7 +16,7 @@ use Rattle.ps_watch.specs.declared.links.TheConstants.{END}
 use Rattle.ps_watch.specs.declared.visiting.Watches.{Watches}
 use Rattle.ps_watch.specs.Links.{Holds}
 use Rattle.ps_watch.specs.Watches.{slot_of, spare_of, lit_of, other_of, list_of, IsKept, IsPlaced, IsFiled, AreGood, Extends}
-use Rattle.ps_watch.specs.Going.{IsSent, HasGone, IsOppositeAt, AreVisited, HasFollowed, IsGoodUpTo, values_to}
+use Rattle.ps_watch.specs.Going.{IsSent, watched, HasGone, IsOppositeAt, AreVisited, HasFollowed, IsGoodUpTo, values_to}
 use Rattle.ps_watch.proofs.Visited.{lit-slot, slot-small}
 use Rattle.ps_watch.proofs.Reading.{extends-then, extends-same}
 use Rattle.ps_watch.proofs.Drained.{good-then, good-same}
@@ -46,7 +46,7 @@ sent-placed v known w w' f b k filed less p = record {
       ];
 }
 
-pub sent-gone : (known : List Constraint) (w w1 : Watches) (t : Trail) (w2 : Watches) (t2 : Trail) (from to : ℕ) (f : ℤ) (result : Option ℕ) → IsSent w w1 from to → HasGone known w1 t w2 t2 f result → HasGone known w t w2 t2 f result
+pub sent-gone : (known : List Constraint) (w w1 : Watches) (t : Trail) (w2 : Watches) (t2 : Trail) (from to : ℕ) (f : ℤ) (result : Option ℕ) → IsSent w w1 from to → HasGone known (watched w1 t) (watched w2 t2) f result → HasGone known (watched w t) (watched w2 t2) f result
 sent-gone known w w1 t w2 t2 from to f result p g = record {
   kept = g.kept;
   filed = g.filed;
@@ -139,7 +139,7 @@ opposite-within t n f fresh o = rw (o.opposite, place-opposite o.entry.lit) (slo
 pub followed-first : (known : List Constraint) (w : Watches) (t : Trail) (n : ℕ) → IsKept t.variables known w → IsFiled t.variables w → n ≤ length t.entries → IsGoodUpTo w t n → HasFollowed known w t w t n
 followed-first known w t n k filed h g = record { kept = k; filed = filed; nodes = refl; ids = refl; extends = extends-same (known_of known) t; keeps = good-same w (values t); within = h; good = g }
 
-followed-part : (known : List Constraint) (w : Watches) (t : Trail) (w1 : Watches) (t1 : Trail) (w2 : Watches) (t2 : Trail) (n m : ℕ) (f : ℤ) (result : Option ℕ) → HasFollowed known w t w1 t1 n → HasGone known w1 t1 w2 t2 f result → m ≤ length t2.entries → IsGoodUpTo w2 t2 m → HasFollowed known w t w2 t2 m
+followed-part : (known : List Constraint) (w : Watches) (t : Trail) (w1 : Watches) (t1 : Trail) (w2 : Watches) (t2 : Trail) (n m : ℕ) (f : ℤ) (result : Option ℕ) → HasFollowed known w t w1 t1 n → HasGone known (watched w1 t1) (watched w2 t2) f result → m ≤ length t2.entries → IsGoodUpTo w2 t2 m → HasFollowed known w t w2 t2 m
 followed-part known w t w1 t1 w2 t2 n m f result a g h good = record {
   kept = subst (λ z. IsKept z known w2) a.extends.variables g.kept;
   filed = subst (λ z. IsFiled z w2) a.extends.variables g.filed;
@@ -152,15 +152,15 @@ followed-part known w t w1 t1 w2 t2 n m f result a g h good = record {
 }
 
 -- the values so far are good after the watches of one literal too
-still-good : (known : List Constraint) (w1 : Watches) (t1 : Trail) (w2 : Watches) (t2 : Trail) (n : ℕ) (f : ℤ) (result : Option ℕ) → AreFresh t1.variables t1.entries → n ≤ length t1.entries → IsGoodUpTo w1 t1 n → HasGone known w1 t1 w2 t2 f result → AreGood w2 (values_to t1 n) (values t1)
+still-good : (known : List Constraint) (w1 : Watches) (t1 : Trail) (w2 : Watches) (t2 : Trail) (n : ℕ) (f : ℤ) (result : Option ℕ) → AreFresh t1.variables t1.entries → n ≤ length t1.entries → IsGoodUpTo w1 t1 n → HasGone known (watched w1 t1) (watched w2 t2) f result → AreGood w2 (values_to t1 n) (values t1)
 still-good known w1 t1 w2 t2 n f result fresh h good g = g.good.at (values_to t1 n) (values t1) (part-included t1 n fresh h) (includes-refl (values t1)) good
 
-pub followed-stop : (known : List Constraint) (w : Watches) (t : Trail) (w1 : Watches) (t1 : Trail) (w2 : Watches) (t2 : Trail) (n id : ℕ) (f : ℤ) → AreFresh t1.variables t1.entries → HasFollowed known w t w1 t1 n → HasGone known w1 t1 w2 t2 f (Some id) → HasFollowed known w t w2 t2 n
+pub followed-stop : (known : List Constraint) (w : Watches) (t : Trail) (w1 : Watches) (t1 : Trail) (w2 : Watches) (t2 : Trail) (n id : ℕ) (f : ℤ) → AreFresh t1.variables t1.entries → HasFollowed known w t w1 t1 n → HasGone known (watched w1 t1) (watched w2 t2) f (Some id) → HasFollowed known w t w2 t2 n
 followed-stop known w t w1 t1 w2 t2 n id f fresh a g =
     followed-part known w t w1 t1 w2 t2 n n f (Some id) a g (part-within known t1 t2 n g.extends a.within)
     (rw (part-same known t1 t2 n g.extends a.within) (good-grows w2 (values_to t1 n) (values t1) (values t2) g.extends.includes (still-good known w1 t1 w2 t2 n f (Some id) fresh a.within a.good g)))
 
-pub followed-next : (known : List Constraint) (w : Watches) (t : Trail) (w1 : Watches) (t1 : Trail) (w2 : Watches) (t2 : Trail) (n : ℕ) (f : ℤ) → AreFresh t1.variables t1.entries → HasFollowed known w t w1 t1 n → IsOppositeAt t1 n f → HasGone known w1 t1 w2 t2 f None → HasFollowed known w t w2 t2 (n + 1)
+pub followed-next : (known : List Constraint) (w : Watches) (t : Trail) (w1 : Watches) (t1 : Trail) (w2 : Watches) (t2 : Trail) (n : ℕ) (f : ℤ) → AreFresh t1.variables t1.entries → HasFollowed known w t w1 t1 n → IsOppositeAt t1 n f → HasGone known (watched w1 t1) (watched w2 t2) f None → HasFollowed known w t w2 t2 (n + 1)
 followed-next known w t w1 t1 w2 t2 n f fresh a o g =
     let less = slice_get_within t1.entries n o.entry o.there in
     let within : n + 1 ≤ length t1.entries = omega (arith, less) in

@@ -30,16 +30,24 @@ abbrev pub IsEnd : List Constraint → Watches → Trail → ℤ → Option ℕ 
 IsEnd known w t f None = AreVisited w f (values t)
 IsEnd known w t f (Some id) = IsConflict (known_of known) (values t) id
 
+-- a trail, and the watches of its literals
+pub record WatchedTrail : Type 0 where
+  pub watches : Watches
+  pub trail : Trail
+
+-- the trail with these watches
+abbrev pub watched : Watches → Trail → WatchedTrail
+watched w t = record { watches = w; trail = t }
+
 -- what was done on the way, and how it ended
-pub record HasGone (known : List Constraint) (w : Watches) (t : Trail) (w' : Watches) (t' : Trail) (f : ℤ)
-    (result : Option ℕ) : Type 0 where
-  pub kept : IsKept t.variables known w'
-  pub filed : IsFiled t.variables w'
-  pub nodes : length w'.lits.items ≡ length w.lits.items
-  pub ids : w'.ids.items ≡ w.ids.items
-  pub extends : Extends (known_of known) t t'
-  pub good : KeepsGood w w' (values t)
-  pub ended : IsEnd known w' t' f result
+pub record HasGone (known : List Constraint) (old new : WatchedTrail) (f : ℤ) (result : Option ℕ) : Type 0 where
+  pub kept : IsKept old.trail.variables known new.watches
+  pub filed : IsFiled old.trail.variables new.watches
+  pub nodes : length new.watches.lits.items ≡ length old.watches.lits.items
+  pub ids : new.watches.ids.items ≡ old.watches.ids.items
+  pub extends : Extends (known_of known) old.trail new.trail
+  pub good : KeepsGood old.watches new.watches (values old.trail)
+  pub ended : IsEnd known new.watches new.trail f result
 
 -- the watches of one list were sent to another one
 pub record IsSent (w w' : Watches) (from to : ℕ) : Type 0 where

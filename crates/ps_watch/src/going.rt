@@ -10,7 +10,7 @@ ghost use Rattle.ps_watch.specs.Watches.{IsPlaced};
 ghost use Rattle.ps_watch.specs.Watches.{IsSpareKept, IsFiled, list_of};
 ghost use Rattle.ps_watch.specs.Watches.{slot_of, spare_of};
 ghost use Rattle.ps_watch.specs.Rooms.{room_of};
-ghost use Rattle.ps_watch.specs.Going.{IsTaken, IsNoneTaken, IsSent, HasGone, IsOppositeAt};
+ghost use Rattle.ps_watch.specs.Going.{IsTaken, IsNoneTaken, IsSent, watched, HasGone, IsOppositeAt};
 ghost use Rattle.ps_watch.specs.Going.{IsGoodUpTo, HasFollowed, IsFollowed};
 
 use crate::visiting::{Watches, put, slot, visit};
@@ -68,7 +68,8 @@ fn drain(known: &List<Constraint>, w: &mut Watches, trail: &mut Trail, lit: Lit)
     requires kept { IsKept trail.old.variables known.now w.old }
     requires false_is { value_of (values trail.old) lit ≡ Some false }
     requires placed { IsPlaced trail.old.variables w.old lit (values trail.old) END }
-    ensures gone { HasGone known.now w.old trail.old w.new trail.new lit result }
+    ensures gone { HasGone known.now
+        (watched w.old trail.old) (watched w.new trail.new) lit result }
     ensures room { room_of w.new ≡ room_of w.old }
 {
     // The falsified literal is named for the contract alone.
@@ -99,7 +100,8 @@ fn go_through(known: &List<Constraint>, w: &mut Watches, trail: &mut Trail, lit:
     requires filed { IsFiled trail.old.variables w.old }
     requires false_is { value_of (values trail.old) lit ≡ Some false }
     requires within { slot_of lit < spare_of trail.old.variables }
-    ensures gone { HasGone known.now w.old trail.old w.new trail.new lit result }
+    ensures gone { HasGone known.now
+        (watched w.old trail.old) (watched w.new trail.new) lit result }
     ensures room { room_of w.new ≡ room_of w.old }
 {
     let spare = trail.variables() as usize * 2;

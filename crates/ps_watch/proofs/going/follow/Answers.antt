@@ -1,6 +1,6 @@
 use Rattle.std.proofs.Common.{◌∙◌, ◌<◌, length, subst, arith}
 use Rattle.ps_trail.proofs.Counting.{counted}
-use Rattle.ps_watch.specs.Going.{HasGone}
+use Rattle.ps_watch.specs.Going.{watched, HasGone}
 use Rattle.ps_watch.proofs.Followed.{now-false, opposite-within, followed-stop, followed-next}
 use Rattle.ps_watch.proofs.going.follow.Goals as goal
 
@@ -13,7 +13,7 @@ go_through-requires-clause-within c = opposite-within c.on.trail c.on.done c.opp
 pub returns-in-Some-clause-followed : goal.returns-in-Some-clause-followed
 returns-in-Some-clause-followed c =
     followed-stop c.args.known.now c.args.w.now c.args.trail.now c.on.w c.on.trail c.go_through.new.w c.go_through.new.trail c.on.done c.in-Some.id c.opposite_at-lit.result c.entries.ensures.fresh c.on.invariant.followed
-    (subst (λ z. HasGone c.args.known.now c.on.w c.on.trail c.go_through.new.w c.go_through.new.trail c.opposite_at-lit.result z) c.in-Some.is c.go_through.ensures.gone)
+    (subst (λ z. HasGone c.args.known.now (watched c.on.w c.on.trail) (watched c.go_through.new.w c.go_through.new.trail) c.opposite_at-lit.result z) c.in-Some.is c.go_through.ensures.gone)
 
 pub on-smaller : goal.on-smaller
 on-smaller c =
@@ -27,5 +27,5 @@ on-preserved c = record {
   room = c.go_through.ensures.room ∙ c.on.invariant.room;
   followed =
       followed-next c.args.known.now c.args.w.now c.args.trail.now c.on.w c.on.trail c.go_through.new.w c.go_through.new.trail c.on.done c.opposite_at-lit.result c.entries.ensures.fresh c.on.invariant.followed c.opposite_at-lit.ensures
-      (subst (λ z. HasGone c.args.known.now c.on.w c.on.trail c.go_through.new.w c.go_through.new.trail c.opposite_at-lit.result z) c.in_default.is c.go_through.ensures.gone);
+      (subst (λ z. HasGone c.args.known.now (watched c.on.w c.on.trail) (watched c.go_through.new.w c.go_through.new.trail) c.opposite_at-lit.result z) c.in_default.is c.go_through.ensures.gone);
 }
