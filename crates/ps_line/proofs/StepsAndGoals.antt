@@ -4,11 +4,11 @@ use Rattle.std.specs.List.{list_all}
 use Rattle.ps_steps.specs.Steps.{Step}
 use Rattle.ps_steps.specs.Constraints.{Constraint}
 use Rattle.ps_steps.specs.Weights.{weighted}
-use Rattle.ps_log.specs.FirstLines.{IsFirstLine, IsAnswer}
-use Rattle.ps_log.specs.StepTexts.{IsStepText, is_step_byte}
-use Rattle.ps_log.specs.GoalTexts.{IsGoalText, is_goal_byte}
+use Rattle.ps_log.specs.FirstLines.{IsFirstLine, IsFirstLineOf, IsRefused, IsAnswer}
+use Rattle.ps_log.specs.StepTexts.{IsStepText, IsStepAnswer}
+use Rattle.ps_log.specs.GoalTexts.{IsGoalText, IsGoalAnswer}
 use Rattle.ps_log.specs.Limits.{IsStepWithin, IsGoalWithin}
-use Rattle.ps_log.specs.Texts.{step_line, goal_line, step_numbers, goal_numbers}
+use Rattle.ps_log.specs.Texts.{step_numbers, goal_numbers}
 use Rattle.ps_log.specs.Spellings.{words_of, SpellAll}
 use Rattle.ps_log.specs.declared.line_error.LineError.{LineError}
 use Rattle.ps_log.specs.declared.line_error.LineError.TheVariants as why
@@ -55,7 +55,7 @@ module _ {X : Type 0} {fits : ℕ → Bool} {IsText : List ℕ → X → Type 0}
       by (inl h) = h
       by (inr h) = absurd (n h.0 (k.text text h.0 (subst (λ j. IsSaid (words_of text) j) h.1 s)))
 
-  pub text_read : (r : Result (X × ℕ) LineError) → IsAnswer fits IsText IsIn line_of bytes r → IsItemRead p (words_of text) (item_of mk r)
+  pub text_read : (r : Result (X × ℕ) LineError) → IsAnswer (IsFirstLineOf line_of IsIn bytes) (IsRefused fits IsText IsIn bytes) r → IsItemRead p (words_of text) (item_of mk r)
   text_read (Ok x) h =
       let e : text ≡ line_of x.0 = same (line_of x.0) h.rest (record { is = h.is; whole = lacks-all 10 (line_of x.0) (t.one_line x.0 h.within) }) in
       (k.said text x.0 (subst (λ l. IsText l x.0) (sym e) (t.is_text x.0 h.within)), k.within x.0 h.within, k.fits x.0)
@@ -114,11 +114,11 @@ goal_kind = record {
     only (line.GoalLine g) = inr (g, refl)
     only i = inl (λ due. refl)
 
-pub step_read : (bytes text rest : List ℕ) (r : Result (Step × ℕ) LineError) → IsFirstLine bytes text rest → IsAnswer is_step_byte IsStepText IsStepWithin step_line bytes r
+pub step_read : (bytes text rest : List ℕ) (r : Result (Step × ℕ) LineError) → IsFirstLine bytes text rest → IsStepAnswer bytes r
     → IsItemRead part.AStep (words_of text) (item_of (λ s. line.StepLine s) r)
 step_read bytes text rest r f h = text_read step_texts (λ s. line.StepLine s) part.AStep step_kind bytes text rest f r h
 
-pub goal_read : (bytes text rest : List ℕ) (r : Result (Constraint × ℕ) LineError) → IsFirstLine bytes text rest → IsAnswer is_goal_byte IsGoalText IsGoalWithin goal_line bytes r
+pub goal_read : (bytes text rest : List ℕ) (r : Result (Constraint × ℕ) LineError) → IsFirstLine bytes text rest → IsGoalAnswer bytes r
     → IsItemRead part.AGoal (words_of text) (item_of (λ g. line.GoalLine g) r)
 goal_read bytes text rest r f h = text_read goal_texts (λ g. line.GoalLine g) part.AGoal goal_kind bytes text rest f r h
 

@@ -217,7 +217,7 @@ module _ {X : Type 0} {fits : ℕ → Bool} {IsText : List ℕ → X → Type 0}
   refused-once e NoMemory p q = absurd q
 
   -- an answer is the one that the bytes ask for
-  pub value-given : (r : Result (X × ℕ) LineError) (s : X) (n : ℕ) → IsAnswer fits IsText IsWithin line_of bytes r → IsFirstLineOf line_of IsWithin bytes s n → Gives r (Ok (s, n))
+  pub value-given : (r : Result (X × ℕ) LineError) (s : X) (n : ℕ) → IsAnswer (IsFirstLineOf line_of IsWithin bytes) (IsRefused fits IsText IsWithin bytes) r → IsFirstLineOf line_of IsWithin bytes s n → Gives r (Ok (s, n))
   value-given (Ok q) s n a h = let e = one-only s q.0 n q.1 h a in ap (λ x. Ok (x, n)) e.0 ∙ ap (λ x. Ok (q.0, x)) e.1
   value-given (Err Truncated) s n a h = absurd (not-refused s n Truncated h a)
   value-given (Err BadByte) s n a h = absurd (not-refused s n BadByte h a)
@@ -225,7 +225,7 @@ module _ {X : Type 0} {fits : ℕ → Bool} {IsText : List ℕ → X → Type 0}
   value-given (Err TooLarge) s n a h = absurd (not-refused s n TooLarge h a)
   value-given (Err NoMemory) s n a h = tt
 
-  pub refusal-given : (r : Result (X × ℕ) LineError) (why : LineError) → IsAnswer fits IsText IsWithin line_of bytes r → IsRefused fits IsText IsWithin bytes why → Gives r (Err why)
+  pub refusal-given : (r : Result (X × ℕ) LineError) (why : LineError) → IsAnswer (IsFirstLineOf line_of IsWithin bytes) (IsRefused fits IsText IsWithin bytes) r → IsRefused fits IsText IsWithin bytes why → Gives r (Err why)
   refusal-given (Ok q) why a h = absurd (not-refused q.0 q.1 why a h)
   refusal-given (Err Truncated) why a h = ap Err (refused-once Truncated why a h)
   refusal-given (Err BadByte) why a h = ap Err (refused-once BadByte why a h)
@@ -234,7 +234,7 @@ module _ {X : Type 0} {fits : ℕ → Bool} {IsText : List ℕ → X → Type 0}
   refusal-given (Err NoMemory) why a h = tt
 
   -- what was found of the first line is the answer
-  pub line-answer : (line : List ℕ) (s : X) (n : ℕ) → FirstLine bytes line → IsLineAnswer IsText IsWithin line (Ok s) → n ≡ length line + 1 → IsAnswer fits IsText IsWithin line_of bytes (Ok (s, n))
+  pub line-answer : (line : List ℕ) (s : X) (n : ℕ) → FirstLine bytes line → IsLineAnswer IsText IsWithin line (Ok s) → n ≡ length line + 1 → IsAnswer (IsFirstLineOf line_of IsWithin bytes) (IsRefused fits IsText IsWithin bytes) (Ok (s, n))
   line-answer line s n f a e =
       let same : line ≡ line_of s = t.is_line line s a.0 a.1 in record {
         rest = f.rest;
@@ -243,12 +243,12 @@ module _ {X : Type 0} {fits : ℕ → Bool} {IsText : List ℕ → X → Type 0}
         count_is = e ∙ ap (λ l. length l + 1) same;
       }
 
-  pub line-refusal : (line : List ℕ) (e : LineError) → FirstLine bytes line → list_all fits line ≡ true → IsLineAnswer IsText IsWithin line (Err e) → IsAnswer fits IsText IsWithin line_of bytes (Err e)
+  pub line-refusal : (line : List ℕ) (e : LineError) → FirstLine bytes line → list_all fits line ≡ true → IsLineAnswer IsText IsWithin line (Err e) → IsAnswer (IsFirstLineOf line_of IsWithin bytes) (IsRefused fits IsText IsWithin bytes) (Err e)
   line-refusal line Truncated f b a = absurd a
   line-refusal line BadByte f b a = absurd a
   line-refusal line NotCanonical f b a = record { line = line; rest = f.rest; first = f.first; bytes_fit = b; no_text = a }
   line-refusal line TooLarge f b a = record { line = line; rest = f.rest; first = f.first; of = a.0; text = a.1; past = a.2 }
   line-refusal line NoMemory f b a = tt
 
-  pub bad-line : (line : List ℕ) (b : Bool) → FirstLine bytes line → b ≡ list_all fits line → b ≡ false → IsAnswer fits IsText IsWithin line_of bytes (Err BadByte)
+  pub bad-line : (line : List ℕ) (b : Bool) → FirstLine bytes line → b ≡ list_all fits line → b ≡ false → IsAnswer (IsFirstLineOf line_of IsWithin bytes) (IsRefused fits IsText IsWithin bytes) (Err BadByte)
   bad-line line b f e h = record { line = line; rest = f.rest; first = f.first; bad = sym e ∙ h }

@@ -64,15 +64,14 @@ IsRefused fits IsText IsWithin bytes NotCanonical = IsNoText fits IsText bytes
 IsRefused fits IsText IsWithin bytes TooLarge = PassesLimit IsText IsWithin bytes
 IsRefused fits IsText IsWithin bytes NoMemory = ⊥
 
--- what is answered of bytes; want of memory may come at any
-abbrev pub IsAnswer : {X : Type 0} → (ℕ → Bool) → (List ℕ → X → Type 0) → (X → Type 0) → (X → List ℕ) → List ℕ
-    → Result (X × ℕ) LineError → Type 0
-IsAnswer fits IsText IsWithin line_of bytes (Ok r) = IsFirstLineOf line_of IsWithin bytes r.0 r.1
-IsAnswer fits IsText IsWithin line_of bytes (Err Truncated) = IsRefused fits IsText IsWithin bytes Truncated
-IsAnswer fits IsText IsWithin line_of bytes (Err BadByte) = IsRefused fits IsText IsWithin bytes BadByte
-IsAnswer fits IsText IsWithin line_of bytes (Err NotCanonical) = IsRefused fits IsText IsWithin bytes NotCanonical
-IsAnswer fits IsText IsWithin line_of bytes (Err TooLarge) = IsRefused fits IsText IsWithin bytes TooLarge
-IsAnswer fits IsText IsWithin line_of bytes (Err NoMemory) = ⊤
+-- what is answered: what the first line is, with its count of bytes, or why it is refused; want of memory may come at any
+abbrev pub IsAnswer : {X : Type 0} → (X → ℕ → Type 0) → (LineError → Type 0) → Result (X × ℕ) LineError → Type 0
+IsAnswer IsFirst IsRefusedFor (Ok r) = IsFirst r.0 r.1
+IsAnswer IsFirst IsRefusedFor (Err Truncated) = IsRefusedFor Truncated
+IsAnswer IsFirst IsRefusedFor (Err BadByte) = IsRefusedFor BadByte
+IsAnswer IsFirst IsRefusedFor (Err NotCanonical) = IsRefusedFor NotCanonical
+IsAnswer IsFirst IsRefusedFor (Err TooLarge) = IsRefusedFor TooLarge
+IsAnswer IsFirst IsRefusedFor (Err NoMemory) = ⊤
 
 -- this was answered, unless memory ran out
 abbrev pub Gives : {X : Type 0} → Result (X × ℕ) LineError → Result (X × ℕ) LineError → Type 0

@@ -30,4 +30,4 @@ IsGoalRefused bytes why = IsRefused is_goal_byte IsGoalText IsGoalWithin bytes w
 
 -- what is answered of bytes that should begin with a goal
 abbrev pub IsGoalAnswer : List ℕ → Result (Constraint × ℕ) LineError → Type 0
-IsGoalAnswer bytes result = IsAnswer is_goal_byte IsGoalText IsGoalWithin goal_line bytes result
+IsGoalAnswer bytes result = IsAnswer (HasGoal bytes) (IsGoalRefused bytes) result

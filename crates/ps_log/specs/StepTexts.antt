@@ -28,4 +28,4 @@ IsStepRefused bytes why = IsRefused is_step_byte IsStepText IsStepWithin bytes w
 
 -- what is answered of bytes that should begin with a step
 abbrev pub IsStepAnswer : List ℕ → Result (Step × ℕ) LineError → Type 0
-IsStepAnswer bytes result = IsAnswer is_step_byte IsStepText IsStepWithin step_line bytes result
+IsStepAnswer bytes result = IsAnswer (HasStep bytes) (IsStepRefused bytes) result
