@@ -1,6 +1,7 @@
 -- What is still to be written of a formula: the tasks on a stack, the last one first.
 use Rattle.std.specs.Prelude.{◌≡◌, ℕ, ◌+◌, ◌<◌, ◌≤◌, Bool, List, [], ◌∷◌}
 use Rattle.std.specs.Prelude.{◌++◌, All, Result, OnOk, length, codes, nat_lt, if◌then◌else◌}
+use Rattle.ps_io.specs.declared.no_memory.NoMemory.{NoMemory}
 use Rattle.ps_meaning.specs.Formula as formula
 use Rattle.ps_meaning.specs.Statements.{Name}
 use Rattle.ps_text.specs.Grammar.{And, Or, Implies, Iff}
@@ -120,10 +121,14 @@ pub record IsCarriedOut (p : Parts) (t : Task) (ts : List Task) (out : List ℕ)
   pub there : All (IsTask (length p.nodes)) ts'
   pub fewer : tasks_steps p ts' < task_steps p t + tasks_steps p ts
 
+-- a text on the way: the tasks that are left of it, and what is written
+abbrev pub Writing : Type 0
+Writing = List Task × List ℕ
+
 -- so a task was carried out, unless memory ran out
-abbrev pub CarriesOut : {X E : Type 0} → Parts → Task → List Task → List ℕ → List Task → List ℕ → Result X E → Type 0
-CarriesOut p t ts out ts' out' result = OnOk result (IsCarriedOut p t ts out ts' out')
+abbrev pub CarriesOut : Parts → Task → Writing → Writing → Result (Unit {0}) NoMemory → Type 0
+CarriesOut p t (ts, out) (ts', out') result = OnOk result (IsCarriedOut p t ts out ts' out')
 
 -- so a node was written as far as its operands where an operand of this level is required, unless memory ran out
-abbrev pub Begins : {X E : Type 0} → Parts → ℕ → ℕ → List Task → List ℕ → List Task → List ℕ → Result X E → Type 0
-Begins p i level ts out ts' out' result = CarriesOut p (task.Formula i level) ts out ts' out' result
+abbrev pub Begins : Parts → ℕ → ℕ → Writing → Writing → Result (Unit {0}) NoMemory → Type 0
+Begins p i level old new result = CarriesOut p (task.Formula i level) old new result

@@ -83,7 +83,8 @@ fn begin(
     requires there { i < length problem.now.nodes }
     requires level { level ≤ 5 }
     requires tasks { All (IsTask (length problem.now.nodes)) tasks.old }
-    ensures { Begins problem.now i level tasks.old out.old.items tasks.new out.new.items result }
+    ensures { Begins problem.now i level
+        (tasks.old, out.old.items) (tasks.new, out.new.items) result }
 {
     match node_at(problem, i) {
         Node::True => append(out, b"true"),
@@ -112,7 +113,8 @@ fn step(
 ) -> Result<(), NoMemory>
     requires task { IsTask (length problem.now.nodes) task }
     requires tasks { All (IsTask (length problem.now.nodes)) tasks.old }
-    ensures { CarriesOut problem.now task tasks.old out.old.items tasks.new out.new.items result }
+    ensures { CarriesOut problem.now task
+        (tasks.old, out.old.items) (tasks.new, out.new.items) result }
 {
     match task {
         Task::Formula { node, level } => begin(problem, node, level, tasks, out),
