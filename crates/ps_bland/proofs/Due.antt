@@ -11,6 +11,7 @@ use Rattle.ps_pool.specs.declared.col.Col.TheVariants as col
 use Rattle.ps_table.specs.Tableau.{Tableau, number_in, number_of, IsInside, HasColumn}
 use Rattle.ps_table.specs.Pricing.{cost_at}
 use Rattle.ps_table.specs.Places.{CostPlaces, IsWideAt, IsNarrow}
+use Rattle.ps_table.proofs.Operations.{operation_of}
 use Rattle.ps_simplex.specs.declared.phase.Phase.{Phase}
 use Rattle.ps_bland.specs.Rules.{simplex_of, is_artificial, artificial_at, is_artificial_column}
 use Rattle.ps_bland.specs.Ends.{IsCarriedWide, IsDueWide}
@@ -38,7 +39,7 @@ pub carried_first : (costs : Costs) (t : Tableau) (q : Col) → Improves (simple
 carried_first costs t q improves before = λ w h.
     elim (cases_lt (number_in (length t.kinds) q) (number_in (length t.kinds) h.column)) [
       | inl l ↦ h.least (number_in (length t.kinds) q) l improves
-      | inr l ↦ (before h.column h.inside h.real (omega (arith, l))).nowhere w.place w.op w.left w.right h.wide.at h.wide.wide
+      | inr l ↦ (before h.column h.inside h.real (omega (arith, l))).nowhere (operation_of w) h.wide.at h.wide.wide
     ]
 
 -- no column improves: only sums were due

@@ -5,13 +5,11 @@ use Rattle.std.proofs.Math.Seq.{get_or-append_seam}
 use Rattle.std.proofs.lemmas.List.{length-append}
 use Rattle.std.proofs.lemmas.Bool.{cases_eq}
 use Rattle.std.specs.Int.{◌∣◌}
-use Rattle.ps_frac.specs.declared.wide.Op.{Op}
 use Rattle.ps_frac.specs.declared.wide.Op.TheVariants.{Mul, Lcm}
 use Rattle.ps_rational.specs.Gcd.{lcm, lcm_to}
 use Rattle.ps_rational.specs.Rational.{Rational, whole, zero_q}
 use Rattle.ps_rational.specs.Scaled.{scaled}
 use Rattle.ps_rational.proofs.Multiples.{lcm_to_multiple}
-use Rattle.ps_table.specs.declared.place.Place.{Place}
 use Rattle.ps_table.specs.declared.place.Place.TheVariants.{Whole, Scaled}
 use Rattle.ps_table.specs.declared.place.WideAt.{WideAt}
 use Rattle.ps_table.specs.declared.error.TableError.{TableError}
@@ -21,8 +19,9 @@ use Rattle.ps_table.specs.declared.limits.TheConstants.{MOST_ROWS}
 use Rattle.ps_rational.specs.declared.limits.TheConstants.{PRINTED_LIMIT}
 use Rattle.ps_table.specs.Tableau.{Tableau, IsTableau, rows_of}
 use Rattle.ps_table.specs.Pricing.{multiplier_of}
-use Rattle.ps_table.specs.Places.{IsWideAt, IsRefusedAt, IsTooLargeToPrint, HomePlaces, at_whole, at_scaled}
+use Rattle.ps_table.specs.Places.{Operation, IsWideAt, IsRefusedAt, IsTooLargeToPrint, HomePlaces, at_whole, at_scaled}
 use Rattle.ps_table.specs.Grids.{Names}
+use Rattle.ps_table.proofs.Operations.{operation, operation_of}
 use Rattle.ps_table.proofs.Printed.{printed_exact}
 use Rattle.ps_ends.specs.Multiples.{multiple_of, DualPlaces, of_multiplier, of_home, AreScaled}
 use Rattle.ps_ends.specs.Rows.{AreMultipliers, under_at, multiple_before, ListPlaces, at_multiple, at_product, AreProducts}
@@ -102,27 +101,27 @@ same_whole : (t : Tableau) (costs : Costs) (xs : List Rational) → AreMultiplie
 same_whole t costs xs h = ap (multiple_before xs) h.count ∙ same_multiple t costs xs h (rows_of t) (omega arith)
 
 -- so a place of the list is one of the table
-place_of_table : (t : Tableau) (costs : Costs) (xs : List Rational) → AreMultipliers t costs xs → (place : Place) (op : Op) (l r : Rational)
-    → ListPlaces xs place op l r → DualPlaces t costs place op l r
-place_of_table t costs xs h _ _ _ _ (at_multiple i hi) =
+place_of_table : (t : Tableau) (costs : Costs) (xs : List Rational) → AreMultipliers t costs xs → (o : Operation)
+    → ListPlaces xs o → DualPlaces t costs o
+place_of_table t costs xs h _ (at_multiple i hi) =
     let here : i < rows_of t = omega (arith, hi, h.count) in
     let e : multiple_before xs i ≡ lcm_to i (λ m. (multiplier_of t costs m).under) = same_multiple t costs xs h i (omega (arith, here)) in
     let f : get_or xs i zero_q ≡ multiplier_of t costs i = h.each i here in
-    let P : ℕ → Rational → Type 0 = λ k x. DualPlaces t costs (Whole i) Lcm (whole (pos k)) (whole (pos x.under)) in
-    let there : P (lcm_to i (λ m. (multiplier_of t costs m).under)) (multiplier_of t costs i) = of_multiplier (Whole i) Lcm _ _ (at_whole i here) in
+    let P : ℕ → Rational → Type 0 = λ k x. DualPlaces t costs (operation (Whole i) Lcm (whole (pos k)) (whole (pos x.under))) in
+    let there : P (lcm_to i (λ m. (multiplier_of t costs m).under)) (multiplier_of t costs i) = of_multiplier _ (at_whole i here) in
     subst (λ (k : ℕ). P k (get_or xs i zero_q)) (sym e) (subst (P (lcm_to i (λ m. (multiplier_of t costs m).under))) (sym f) there)
-place_of_table t costs xs h _ _ _ _ (at_product i hi) =
+place_of_table t costs xs h _ (at_product i hi) =
     let here : i < rows_of t = omega (arith, hi, h.count) in
     let e : multiple_before xs (length xs) ≡ multiple_of t costs = same_whole t costs xs h in
     let f : get_or xs i zero_q ≡ multiplier_of t costs i = h.each i here in
-    let P : ℕ → Rational → Type 0 = λ k x. DualPlaces t costs (Scaled i) Mul x (whole (pos k)) in
-    let there : P (multiple_of t costs) (multiplier_of t costs i) = of_multiplier (Scaled i) Mul _ _ (at_scaled i here) in
+    let P : ℕ → Rational → Type 0 = λ k x. DualPlaces t costs (operation (Scaled i) Mul x (whole (pos k))) in
+    let there : P (multiple_of t costs) (multiplier_of t costs i) = of_multiplier _ (at_scaled i here) in
     subst (λ (k : ℕ). P k (get_or xs i zero_q)) (sym e) (subst (P (multiple_of t costs)) (sym f) there)
 
 -- a refusal at a place of the list is one at a place of the table
 pub wide_in_table : (t : Tableau) (costs : Costs) (xs : List Rational) → AreMultipliers t costs xs → (w : WideAt) → IsWideAt (ListPlaces xs) w
     → IsWideAt (DualPlaces t costs) w
-wide_in_table t costs xs h w p = record { at = place_of_table t costs xs h w.place w.op w.left w.right p.at; wide = p.wide }
+wide_in_table t costs xs h w p = record { at = place_of_table t costs xs h (operation_of w) p.at; wide = p.wide }
 
 pub refused_in_table : (t : Tableau) (costs : Costs) (xs : List Rational) → AreMultipliers t costs xs → (e : TableError) → IsRefusedAt (ListPlaces xs) e
     → IsRefusedAt (DualPlaces t costs) e
@@ -131,7 +130,7 @@ refused_in_table t costs xs h refused.NoMemory p = tt
 
 -- the refusal of what is carried of a home
 pub refused_home : (t : Tableau) (costs : Costs) (m : ℕ) (w : WideAt) → m < rows_of t → IsWideAt (HomePlaces t costs m) w → IsWideAt (DualPlaces t costs) w
-refused_home t costs m w hm p = record { at = of_home m w.place w.op w.left w.right hm p.at; wide = p.wide }
+refused_home t costs m w hm p = record { at = of_home m (operation_of w) hm p.at; wide = p.wide }
 
 pub few_multipliers : (t : Tableau) (costs : Costs) (xs : List Rational) → AreMultipliers t costs xs → IsTableau t → length xs ≤ MOST_ROWS
 few_multipliers t costs xs h is = omega (arith, h.count, is.few)

@@ -4,7 +4,6 @@ use Rattle.std.proofs.lemmas.Int.{ints}
 use Rattle.std.proofs.lemmas.Bool.{cases_eq}
 use Rattle.std.proofs.lemmas.Nat.Gcd.{le_of_dvd}
 use Rattle.std.specs.Int.{◌∣◌}
-use Rattle.ps_frac.specs.declared.wide.Op.{Op}
 use Rattle.ps_frac.specs.declared.wide.Op.TheVariants.{Add, Mul, Lcm}
 use Rattle.ps_rational.specs.Gcd.{lcm, lcm_to, ArePositive}
 use Rattle.ps_rational.specs.Rational.{Rational}
@@ -12,12 +11,11 @@ use Rattle.ps_rational.specs.Order.{IsNonneg}
 use Rattle.ps_rational.specs.Scaled.{scaled}
 use Rattle.ps_rational.specs.Sums.{int_sum_to}
 use Rattle.ps_rational.proofs.Multiples.{lcm_is, lcm_to_multiple, lcm_to_positive}
-use Rattle.ps_table.specs.declared.place.Place.{Place}
 use Rattle.ps_table.specs.declared.costs.Costs.{Costs}
 use Rattle.ps_table.specs.Tableau.{Tableau, rows_of, basic_at, entry_at}
 use Rattle.ps_table.specs.Pricing.{multiplier_of}
 use Rattle.ps_rational.specs.declared.limits.TheConstants.{PRINTED_LIMIT}
-use Rattle.ps_table.specs.Places.{IsWide, IsNarrow, IsTooLargeToPrint, HomePlaces, at_whole, at_scaled, at_weight, at_weighed, at_total, weight_under}
+use Rattle.ps_table.specs.Places.{Operation, IsWide, IsNarrow, IsTooLargeToPrint, HomePlaces, at_whole, at_scaled, at_weight, at_weighed, at_total, weight_under}
 use Rattle.ps_table.proofs.Printed.{printed_exact}
 use Rattle.ps_table.proofs.Narrow.{all_more}
 use Rattle.ps_bland.specs.Ready.{HasNoNegativeValue}
@@ -84,12 +82,12 @@ pub homes_more : (t : Tableau) (costs : Costs) (m : ℕ) → AreHomesNarrow t co
 homes_more t costs m h e = all_more (λ k. IsNarrow (HomePlaces t costs k)) m h e
 
 dual_nowhere : (t : Tableau) (costs : Costs) (s : Scaled) → AreHomesNarrow t costs (rows_of t) → AreScaled t costs s
-    → (place : Place) (op : Op) (l r : Rational) → DualPlaces t costs place op l r → ¬ IsWide place op l r
-dual_nowhere t costs s homes h _ _ _ _ (of_home m place op l r hm p) = (homes m hm).nowhere place op l r p
-dual_nowhere t costs s homes h _ _ _ _ (of_multiplier _ _ _ _ (at_whole i hi)) = λ wide.
+    → (o : Operation) → DualPlaces t costs o → ¬ IsWide o
+dual_nowhere t costs s homes h _ (of_home m o hm p) = (homes m hm).nowhere o p
+dual_nowhere t costs s homes h _ (of_multiplier _ (at_whole i hi)) = λ wide.
     let d : ℕ → ℕ = λ m. (multiplier_of t costs m).under in
     lcm_within (rows_of t) i d (λ k _. (multiplier_of t costs k).lowest.positive) hi h.small ((printed_exact.multiple i (lcm_to i d) (d i) Lcm).0 wide)
-dual_nowhere t costs s homes h _ _ _ _ (of_multiplier _ _ _ _ (at_scaled i hi)) = λ wide.
+dual_nowhere t costs s homes h _ (of_multiplier _ (at_scaled i hi)) = λ wide.
     let d : ℕ → ℕ = λ m. (multiplier_of t costs m).under in
     let divides : d i ∣ multiple_of t costs = lcm_to_multiple (rows_of t) d (λ k _. (multiplier_of t costs k).lowest.positive) i hi in
     let past = (printed_exact.multiplier i (multiple_of t costs) Mul (multiplier_of t costs i) divides).0 wide in
@@ -110,21 +108,21 @@ weight_low t values k hk = cases (ltb (rows_of t) (basic_at t k))
     cases false = omega (arith, ints)
 
 model_nowhere : (t : Tableau) (m : ℕ) (rows : List ℤ) → HasNoNegativeValue t → IsPrintedMultiple (weight_multiple_of t) m → AreWeightRows t (rows_of t) rows
-    → unsigned_abs (total_of t) ≤ PRINTED_LIMIT → (place : Place) (op : Op) (l r : Rational) → ModelPlaces t place op l r → ¬ IsWide place op l r
-model_nowhere t m rows values multiple h small _ _ _ _ (at_weight i hi weighed) = λ wide.
+    → unsigned_abs (total_of t) ≤ PRINTED_LIMIT → (o : Operation) → ModelPlaces t o → ¬ IsWide o
+model_nowhere t m rows values multiple h small _ (at_weight i hi weighed) = λ wide.
     let n = rows_of t in
     let d : ℕ → ℕ = weight_under n (basic_at t) (entry_at t) in
     let past : PRINTED_LIMIT < lcm (lcm_to i d) (entry_at t i 0).under = (printed_exact.weight_multiple i (lcm_to i d) (entry_at t i 0).under Lcm).0 wide in
     let here : PRINTED_LIMIT < lcm (lcm_to i d) (d i) = subst (λ (k : ℕ). PRINTED_LIMIT < lcm (lcm_to i d) k) (sym (weighed_under n (basic_at t) (entry_at t) i weighed)) past in
     let within : lcm_to n d ≤ PRINTED_LIMIT = subst (λ (k : ℕ). k ≤ PRINTED_LIMIT) multiple.value multiple.small in
     lcm_within n i d (λ k _. under_above n (basic_at t) (entry_at t) k) hi within here
-model_nowhere t m rows values multiple h small _ _ _ _ (at_weighed i hi weighed) = λ wide.
+model_nowhere t m rows values multiple h small _ (at_weighed i hi weighed) = λ wide.
     let past = (printed_exact.weight i (weight_multiple_of t) Mul (entry_at t i 0) (weighed_divides t i hi weighed)).0 wide in
     let within : unsigned_abs (weight_of t i) ≤ PRINTED_LIMIT = subst (λ z. unsigned_abs z ≤ PRINTED_LIMIT) (h.each i hi) (h.small i hi) in
     let same = weighed_weight (rows_of t) (basic_at t) (entry_at t) i weighed in
     let here : unsigned_abs (scaled (weight_multiple_of t) (entry_at t i 0)) ≤ PRINTED_LIMIT = subst (λ z. unsigned_abs z ≤ PRINTED_LIMIT) same within in
     omega (arith, past, here)
-model_nowhere t m rows values multiple h small _ _ _ _ (at_total i hi weighed) = λ wide.
+model_nowhere t m rows values multiple h small _ (at_total i hi weighed) = λ wide.
     sum_within (rows_of t) i (weight_of t) (weight_low t values) hi small ((printed_exact.total i Add (total_to_row t i) (weight_of t i)).0 wide)
 
 -- where the multiple, each weight and their sum are small, all places are narrow

@@ -1,14 +1,11 @@
 -- Whole multiples of a table's multipliers and values.
 use Rattle.std.specs.Prelude.{◌≡◌, ℕ, ◌<◌, ◌≤◌, ℤ, pos, unsigned_abs, length, get_or}
-use Rattle.ps_frac.specs.declared.wide.Op.{Op}
-use Rattle.ps_rational.specs.Rational.{Rational}
 use Rattle.ps_rational.specs.Scaled.{scaled}
-use Rattle.ps_table.specs.declared.place.Place.{Place}
 use Rattle.ps_table.specs.declared.costs.Costs.{Costs}
 use Rattle.ps_table.specs.Tableau.{Tableau, rows_of, basic_at, entry_at}
 use Rattle.ps_table.specs.Pricing.{cost_at, multiplier_of}
 use Rattle.ps_rational.specs.declared.limits.TheConstants.{PRINTED_LIMIT}
-use Rattle.ps_table.specs.Places.{HomePlaces, MultiplierPlace, WeightPlace, multiple_to, weight_multiple_to, weight_at}
+use Rattle.ps_table.specs.Places.{Operation, HomePlaces, MultiplierPlace, WeightPlace, multiple_to, weight_multiple_to, weight_at}
 use Rattle.ps_ends.specs.declared.scaled.Scaled.{Scaled}
 use Rattle.ps_ends.specs.declared.weights.Weights.{Weights}
 use Rattle.ps_rational.specs.Sums.{int_sum_to}
@@ -30,13 +27,11 @@ pub record AreScaled (t : Tableau) (costs : Costs) (s : Scaled) : Type 0 where
   pub small : multiple_of t costs ≤ PRINTED_LIMIT
   pub all_small : (m : ℕ) → m < rows_of t → unsigned_abs (get_or s.numbers m (pos 0)) ≤ PRINTED_LIMIT
 
--- the places of the whole multiples of a table's multipliers: of what is carried of each home, and of the multiples
-pub data DualPlaces (t : Tableau) (costs : Costs) : Place → Op → Rational → Rational → Type 0 where
-  of_home : (m : ℕ) (place : Place) (op : Op) (l r : Rational) → m < rows_of t → HomePlaces t costs m place op l r
-      → DualPlaces t costs place op l r
-  of_multiplier : (place : Place) (op : Op) (l r : Rational)
-      → MultiplierPlace (rows_of t) (cost_at costs) (basic_at t) (entry_at t) place op l r
-      → DualPlaces t costs place op l r
+-- the operations at the places of a dual's multiples: of what is carried of each home, and of the multiples of these
+pub data DualPlaces (t : Tableau) (costs : Costs) : Operation → Type 0 where
+  of_home : (m : ℕ) (o : Operation) → m < rows_of t → HomePlaces t costs m o → DualPlaces t costs o
+  of_multiplier : (o : Operation) → MultiplierPlace (rows_of t) (cost_at costs) (basic_at t) (entry_at t) o
+      → DualPlaces t costs o
 
 -- ---- weights
 -- the least common multiple of the denominators of the values of the rows whose basic column is a world
@@ -47,8 +42,8 @@ weight_multiple_of t = weight_multiple_to (rows_of t) (basic_at t) (entry_at t) 
 abbrev pub weight_of : Tableau → ℕ → ℤ
 weight_of t i = weight_at (rows_of t) (basic_at t) (entry_at t) i
 
--- the places of the weights of a table
-abbrev pub ModelPlaces : Tableau → Place → Op → Rational → Rational → Type 0
+-- the operations at the places of the weights of a table
+abbrev pub ModelPlaces : Tableau → Operation → Type 0
 ModelPlaces t = WeightPlace (rows_of t) (basic_at t) (entry_at t)
 
 -- the sum of the weights

@@ -1,6 +1,5 @@
 -- Lists of a table's multipliers and weights.
 use Rattle.std.specs.Prelude.{◌≡◌, ℕ, ◌<◌, ◌≤◌, ℤ, pos, unsigned_abs, List, length, get_or}
-use Rattle.ps_frac.specs.declared.wide.Op.{Op}
 use Rattle.ps_frac.specs.declared.wide.Op.TheVariants.{Mul, Lcm}
 use Rattle.ps_rational.specs.Gcd.{lcm_to}
 use Rattle.ps_rational.specs.Rational.{Rational, whole, zero_q}
@@ -14,7 +13,7 @@ use Rattle.ps_table.specs.Pricing.{multiplier_of}
 use Rattle.ps_table.specs.Grids.{Names}
 use Rattle.ps_rational.specs.Sums.{int_sum_to}
 use Rattle.ps_rational.specs.declared.limits.TheConstants.{PRINTED_LIMIT}
-use Rattle.ps_table.specs.Places.{HomePlaces, IsNarrow, IsWeighed, weight_multiple_to}
+use Rattle.ps_table.specs.Places.{Operation, HomePlaces, IsNarrow, IsWeighed, weight_multiple_to}
 use Rattle.ps_ends.specs.Multiples.{weight_of}
 
 -- the multiplier of each row
@@ -34,12 +33,19 @@ under_at xs i = (get_or xs i zero_q).under
 abbrev pub multiple_before : List Rational → ℕ → ℕ
 multiple_before xs i = lcm_to i (under_at xs)
 
--- the places of whole multiples of a list's numbers
-pub data ListPlaces (xs : List Rational) : Place → Op → Rational → Rational → Type 0 where
-  at_multiple : (i : ℕ) → i < length xs → ListPlaces xs (Whole i) Lcm (whole (pos (multiple_before xs i)))
-      (whole (pos (under_at xs i)))
-  at_product : (i : ℕ) → i < length xs → ListPlaces xs (Scaled i) Mul (get_or xs i zero_q)
-      (whole (pos (multiple_before xs (length xs))))
+-- the operations at the places of whole multiples of a list's numbers
+pub data ListPlaces (xs : List Rational) : Operation → Type 0 where
+  at_multiple : (i : ℕ) → i < length xs
+      → ListPlaces xs
+      (record { place = Whole i; op = Lcm; left = whole (pos (multiple_before xs i)); right = whole (pos (under_at xs i)) })
+  at_product : (i : ℕ) → i < length xs
+      → ListPlaces xs
+      (record {
+        place = Scaled i;
+        op = Mul;
+        left = get_or xs i zero_q;
+        right = whole (pos (multiple_before xs (length xs)));
+      })
 
 -- a refusal of the least common multiple of two numbers at this place
 abbrev pub NamesMultiple : Place → ℕ → ℕ → WideAt → Type 0

@@ -6,15 +6,13 @@ use Rattle.ps_steps.specs.Steps.{Step, Refutes}
 use Rattle.ps_forms.specs.Forms.{form_of, first_known}
 use Rattle.ps_problem.specs.Problems.{AreParts}
 use Rattle.ps_table.specs.declared.costs.Costs.{Costs}
-use Rattle.ps_frac.specs.declared.wide.Op.{Op}
-use Rattle.ps_rational.specs.Rational.{Rational}
-use Rattle.ps_table.specs.declared.place.Place.{Place}
 use Rattle.ps_table.specs.declared.error.TableError.{TableError}
 use Rattle.ps_table.specs.declared.error.TableError.TheVariants as refused
 use Rattle.ps_table.specs.declared.place.WideAt.{WideAt}
 use Rattle.ps_table.specs.Tableau.{rows_of as table_rows, entry_at, basic_at}
 use Rattle.ps_table.specs.Pricing.{cost_at}
-use Rattle.ps_table.specs.Places.{IsWide, IsWideAt, IsRefusedAt, HomePlaces, MultiplierPlace}
+use Rattle.ps_table.specs.Places.{Operation, IsWide, IsWideAt, IsRefusedAt, HomePlaces, MultiplierPlace}
+use Rattle.ps_table.proofs.Operations.{operation_of}
 use Rattle.ps_ends.specs.Multiples.{DualPlaces}
 use Rattle.ps_ends.specs.Multiples.DualPlaces.{of_home, of_multiplier}
 use Rattle.ps_answer.specs.declared.answer.Cause.TheVariants.{Conflicts}
@@ -37,14 +35,14 @@ use Rattle.ps_generation.specs.Rounds.{pricing_subject_of, IsDualOver, IsAtRest,
 use Rattle.ps_generation.proofs.Coming.{come_none}
 
 module _ (kind : ClaimKind) (r : LimitedSubject) (costs : Costs) (old : State) (phase : IsInPhase kind r.subject costs old) (rests : IsAtRest kind r.subject old) where
-  refused_at : (place : Place) (op : Op) (a b : Rational) → DualPlaces old.table costs place op a b → IsWide place op a b
-      → IsTooWide (program_of kind r.subject) (stage_of old) old.left (record { place = place; op = op; left = a; right = b })
-  refused_at place op a b (of_home m p o x y low there) wide =
-      let w : WideAt = record { place = place; op = op; left = a; right = b } in
+  refused_at : (o : Operation) → DualPlaces old.table costs o → IsWide o
+      → IsTooWide (program_of kind r.subject) (stage_of old) old.left (record { place = o.place; op = o.op; left = o.left; right = o.right })
+  refused_at _ (of_home m o low there) wide =
+      let w : WideAt = record { place = o.place; op = o.op; left = o.left; right = o.right } in
       multiplier_due r.subject old.pool old.table phase.table kind old.left m w rests low
       (subst (λ (c : Costs). IsWideAt (HomePlaces old.table c m) w) phase.costs_are (record { at = there; wide = wide }))
-  refused_at place op a b (of_multiplier p o x y there) wide =
-      let w : WideAt = record { place = place; op = op; left = a; right = b } in
+  refused_at _ (of_multiplier o there) wide =
+      let w : WideAt = record { place = o.place; op = o.op; left = o.left; right = o.right } in
       dual_due r.subject old.pool old.table phase.table kind old.left w rests
       (subst (λ (c : Costs). IsWideAt (MultiplierPlace (table_rows old.table) (cost_at c) (basic_at old.table) (entry_at old.table)) w) phase.costs_are (record { at = there; wide = wide }))
 
@@ -52,7 +50,7 @@ module _ (kind : ClaimKind) (r : LimitedSubject) (costs : Costs) (old : State) (
   pub dual_wide : (e : TableError) (end : End) → IsRefusedAt (DualPlaces old.table costs) e → IsEndAt e end → IsEnd kind r old old end
   dual_wide (refused.Wide at) end wide is =
       subst (λ (x : End). IsEnd kind r old old x) (sym is)
-      (inl (record { come = come_none kind r costs old phase; licensed = refused_at at.place at.op at.left at.right wide.at wide.wide }))
+      (inl (record { come = come_none kind r costs old phase; licensed = refused_at (operation_of at) wide.at wide.wide }))
   dual_wide refused.NoMemory end wide is = absurd is
 
   module _ (d : Dual) (same : IsDualOver kind r.subject old.table costs d)

@@ -2,14 +2,13 @@
 use Rattle.std.proofs.Common.{◌≡◌, ℕ, ◌<◌, List, length, subst}
 use Rattle.ps_meaning.specs.Formula.{World}
 use Rattle.ps_rational.specs.Rational.{Rational}
-use Rattle.ps_frac.specs.declared.wide.Op.{Op}
 use Rattle.ps_simplex.specs.Rule.{IsDueToEnd, IsMoving, IsResting}
 use Rattle.ps_pool.specs.declared.col.Col.TheVariants.{Home}
-use Rattle.ps_table.specs.declared.place.Place.{Place}
 use Rattle.ps_table.specs.declared.place.WideAt.{WideAt}
 use Rattle.ps_table.specs.Tableau.{Tableau, rows_of as table_rows, entry_at, basic_at}
 use Rattle.ps_table.specs.Pricing.{cost_at}
-use Rattle.ps_table.specs.Places.{CostPlace, MultiplierPlace, WeightPlace, NewPlace, IsWideAt, HomePlaces, NewPlaces}
+use Rattle.ps_table.specs.Places.{Operation, CostPlace, MultiplierPlace, WeightPlace, NewPlace, IsWideAt, HomePlaces, NewPlaces}
+use Rattle.ps_table.proofs.Operations.{operation_of}
 use Rattle.ps_bland.specs.Rules.{simplex_of, IsDueToEndIn}
 use Rattle.ps_bland.specs.Ends.{IsDueWide}
 use Rattle.ps_bland.specs.DuePlaces.{DuePlace}
@@ -23,8 +22,8 @@ use Rattle.ps_phases.specs.Tables.{costs_for, IsRunTable, stage_at}
 use Rattle.ps_phases.specs.Licences.{DueAt, for_pivots, for_multiplier, for_dual, for_model, IsModelDue, IsTooWide, IsColumnTooWide}
 use Rattle.ps_phases.proofs.Shapes.{rows_are, same_table, stands_there}
 
-wide_as : (P Q : Place → Op → Rational → Rational → Type 0) (w : WideAt) → ((place : Place) (op : Op) (l r : Rational) → P place op l r → Q place op l r) → IsWideAt P w → IsWideAt Q w
-wide_as P Q w h wide = record { at = h w.place w.op w.left w.right wide.at; wide = wide.wide }
+wide_as : (P Q : Operation → Type 0) (w : WideAt) → ((o : Operation) → P o → Q o) → IsWideAt P w → IsWideAt Q w
+wide_as P Q w h wide = record { at = h (operation_of w) wide.at; wide = wide.wide }
 
 module _ (s : Subject) (pool : List World) (t : Tableau) (run : IsRunTable (frame_of s) pool t) where
   abbrev g : Stage
@@ -68,7 +67,7 @@ module _ (s : Subject) (pool : List World) (t : Tableau) (run : IsRunTable (fram
       let by_worlds = subst (λ k. IsWideAt (DuePlace (phase_of kind) (simplex_of t) k left (costs_at (program_of kind s) g)) w) run.worlds wide in
       let by_table = subst (λ x. IsWideAt (DuePlace (phase_of kind) x (length pool) left (costs_at (program_of kind s) g)) w) table_same by_worlds in
       too_wide kind left w
-      (wide_as (DuePlace (phase_of kind) (table_at (frame_of s) g X) (length pool) left (costs_at (program_of kind s) g)) (DueAt (program_of kind s) g left X) w (λ place op l r at. for_pivots place op l r at) by_table)
+      (wide_as (DuePlace (phase_of kind) (table_at (frame_of s) g X) (length pool) left (costs_at (program_of kind s) g)) (DueAt (program_of kind s) g left X) w for_pivots by_table)
 
   -- a refusal of the multiplier of a row
   pub multiplier_due : (kind : ClaimKind) (left i : ℕ) (w : WideAt) → IsRestingAt (program_of kind s) g X → i < table_rows t
@@ -76,7 +75,7 @@ module _ (s : Subject) (pool : List World) (t : Tableau) (run : IsRunTable (fram
   multiplier_due kind left i w rest l wide =
       let low : i < rows_of (setting_of s) = subst (λ n. i < n) rows_same l in
       too_wide kind left w
-      (wide_as (CostPlace (rows_of (setting_of s)) (costs_at (program_of kind s) g) (basic_at t) X (Home i)) (DueAt (program_of kind s) g left X) w (λ place op l r at. for_multiplier i place op l r rest low at)
+      (wide_as (CostPlace (rows_of (setting_of s)) (costs_at (program_of kind s) g) (basic_at t) X (Home i)) (DueAt (program_of kind s) g left X) w (λ o at. for_multiplier i o rest low at)
       (subst (λ n. IsWideAt (CostPlace n (costs_at (program_of kind s) g) (basic_at t) X (Home i)) w) rows_same wide))
 
   -- a refusal of the whole multiples of the multipliers
@@ -84,7 +83,7 @@ module _ (s : Subject) (pool : List World) (t : Tableau) (run : IsRunTable (fram
       → IsWideAt (MultiplierPlace (table_rows t) (cost_at (costs_for kind (setting_of s) pool)) (basic_at t) X) w → IsTooWide (program_of kind s) g left w
   dual_due kind left w rest wide =
       too_wide kind left w
-      (wide_as (MultiplierPlace (rows_of (setting_of s)) (costs_at (program_of kind s) g) (basic_at t) X) (DueAt (program_of kind s) g left X) w (λ place op l r at. for_dual place op l r rest at)
+      (wide_as (MultiplierPlace (rows_of (setting_of s)) (costs_at (program_of kind s) g) (basic_at t) X) (DueAt (program_of kind s) g left X) w (λ o at. for_dual o rest at)
       (subst (λ n. IsWideAt (MultiplierPlace n (costs_at (program_of kind s) g) (basic_at t) X) w) rows_same wide))
 
   -- a refusal of a weight
@@ -92,7 +91,7 @@ module _ (s : Subject) (pool : List World) (t : Tableau) (run : IsRunTable (fram
       → IsWideAt (WeightPlace (table_rows t) (basic_at t) X) w → IsTooWide (program_of kind s) g left w
   model_due kind left w due wide =
       too_wide kind left w
-      (wide_as (WeightPlace (rows_of (setting_of s)) (basic_at t) X) (DueAt (program_of kind s) g left X) w (λ place op l r at. for_model place op l r due at)
+      (wide_as (WeightPlace (rows_of (setting_of s)) (basic_at t) X) (DueAt (program_of kind s) g left X) w (λ o at. for_model o due at)
       (subst (λ n. IsWideAt (WeightPlace n (basic_at t) X) w) rows_same wide))
 
   -- a refusal of a new world's column

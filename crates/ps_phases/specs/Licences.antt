@@ -2,15 +2,12 @@
 use Rattle.std.specs.Prelude.{◌≡◌, ℕ, ◌<◌, pos, Option, Some, None, List, length}
 use Rattle.ps_meaning.specs.Formula.{World}
 use Rattle.ps_rational.specs.Rational.{Rational}
-use Rattle.ps_frac.specs.declared.wide.Op.{Op}
-use Rattle.ps_simplex.specs.declared.phase.Phase.{Phase}
 use Rattle.ps_simplex.specs.declared.phase.Phase.TheVariants.{One, Lower, Upper}
 use Rattle.ps_steps.specs.Constraints.{Constraint}
 use Rattle.ps_steps.specs.Steps.{Step}
 use Rattle.ps_pool.specs.declared.col.Col.TheVariants.{Home}
-use Rattle.ps_table.specs.declared.place.Place.{Place}
 use Rattle.ps_table.specs.declared.place.WideAt.{WideAt}
-use Rattle.ps_table.specs.Places.{CostPlace, MultiplierPlace, WeightPlace, NewPlace, IsWideAt}
+use Rattle.ps_table.specs.Places.{Operation, CostPlace, MultiplierPlace, WeightPlace, NewPlace, IsWideAt}
 use Rattle.ps_bland.specs.DuePlaces.{DuePlace}
 use Rattle.ps_answer.specs.declared.answer.Cause.{Cause}
 use Rattle.ps_answer.specs.declared.answer.Cause.TheVariants.{Pivots, Conflicts, Wide}
@@ -21,29 +18,23 @@ use Rattle.ps_runs.specs.Runs.{Stage, table_at, costs_at, dual_at}
 use Rattle.ps_runs.specs.Runs.{BelongsTo, IsMovingAt, IsRestingAt, IsFeasibleAt, AreAtMost}
 
 -- a model is due: phase one is due to end, or a side rests and no world is priced above 0
-abbrev pub IsModelDueIn : Phase → Program → Stage → (ℕ → ℕ → Rational) → Type 0
-IsModelDueIn One p g X = IsFeasibleAt p.frame g X
-IsModelDueIn Lower p g X = IsRestingAt p g X × AreAtMost p g X (pos 0)
-IsModelDueIn Upper p g X = IsRestingAt p g X × AreAtMost p g X (pos 0)
-
--- a model is due in the program's phase
 abbrev pub IsModelDue : Program → Stage → (ℕ → ℕ → Rational) → Type 0
-IsModelDue p g X = IsModelDueIn p.phase p g X
+IsModelDue p g X = elim p.phase [
+  | One ↦ IsFeasibleAt p.frame g X
+  | Lower ↦ IsRestingAt p g X × AreAtMost p g X (pos 0)
+  | Upper ↦ IsRestingAt p g X × AreAtMost p g X (pos 0)
+]
 
--- a place is due at a table, with its operands: for the pivots, of which so many are left; at rest, for the multiplier of a
+-- an operation is due at its place in a table: for the pivots, of which so many are left; at rest, for the multiplier of a
 -- row and for the whole multiples of the multipliers; where a model is due, for its weights
-pub data DueAt (p : Program) (g : Stage) (left : ℕ) (X : ℕ → ℕ → Rational) : Place → Op → Rational
-    → Rational → Type 0 where
-  for_pivots : (place : Place) (op : Op) (l r : Rational)
-      → DuePlace p.phase (table_at p.frame g X) (length g.pool) left (costs_at p g) place op l r
-      → DueAt p g left X place op l r
-  for_multiplier : (i : ℕ) (place : Place) (op : Op) (l r : Rational) → IsRestingAt p g X → i < p.frame.rows
-      → CostPlace p.frame.rows (costs_at p g) g.basis X (Home i) place op l r
-      → DueAt p g left X place op l r
-  for_dual : (place : Place) (op : Op) (l r : Rational) → IsRestingAt p g X
-      → MultiplierPlace p.frame.rows (costs_at p g) g.basis X place op l r → DueAt p g left X place op l r
-  for_model : (place : Place) (op : Op) (l r : Rational) → IsModelDue p g X
-      → WeightPlace p.frame.rows g.basis X place op l r → DueAt p g left X place op l r
+pub data DueAt (p : Program) (g : Stage) (left : ℕ) (X : ℕ → ℕ → Rational) : Operation → Type 0 where
+  for_pivots : (o : Operation)
+      → DuePlace p.phase (table_at p.frame g X) (length g.pool) left (costs_at p g) o → DueAt p g left X o
+  for_multiplier : (i : ℕ) (o : Operation) → IsRestingAt p g X → i < p.frame.rows
+      → CostPlace p.frame.rows (costs_at p g) g.basis X (Home i) o → DueAt p g left X o
+  for_dual : (o : Operation) → IsRestingAt p g X
+      → MultiplierPlace p.frame.rows (costs_at p g) g.basis X o → DueAt p g left X o
+  for_model : (o : Operation) → IsModelDue p g X → WeightPlace p.frame.rows g.basis X o → DueAt p g left X o
 
 -- as many pivots as the limit were made, and the table is moving
 pub record IsOutOfPivots (p : Program) (pivots : ℕ) (g : Stage) (left limit : ℕ) : Type 0 where

@@ -14,6 +14,7 @@ use Rattle.ps_log.specs.Limits.{IsGoalWithin}
 use Rattle.ps_problem.specs.declared.query.Query as stored
 use Rattle.ps_problem.specs.Problems.{Parts, AreParts, bounds_in, bound_of}
 use Rattle.ps_table.specs.declared.place.WideAt.{WideAt}
+use Rattle.ps_table.proofs.Operations.{operation_of}
 use Rattle.ps_answer.specs.declared.limits.TheConstants.{MOST_PIVOTS}
 use Rattle.ps_log.specs.declared.limits.TheConstants.{MOST_CONFLICTS}
 use Rattle.ps_answer.specs.declared.limits.TheConstants.{MOST_OPERAND}
@@ -104,8 +105,8 @@ module _ (p : Parts) (q : Option stored.Query) (limits : Limits) (within : AreLi
       (lines.fit (line.OpenPivots limit) (tt, omega (arith, most, same)), tt)
   cause_fit kind asked g left None (Conflicts limit goal steps) h printed few if_open = conflicts_fit kind asked g limit goal steps h printed
   cause_fit kind asked g left None (Wide at) h printed few if_open =
-      wide_fit at (length g.pool) if_open few (due_under kind s g left h.table at.place at.op at.left at.right h.wide.at) printed
+      wide_fit at (length g.pool) if_open few (due_under kind s g left h.table (operation_of at) h.wide.at) printed
   cause_fit kind asked g left (Some w) (Pivots limit) h printed few if_open = absurd h
   cause_fit kind asked g left (Some w) (Conflicts limit goal steps) h printed few if_open = absurd h
   cause_fit kind asked g left (Some w) (Wide at) h printed few if_open =
-      wide_fit at (length g.pool) if_open few (new_under (rows_of (setting_of s)) (length g.pool) h.table (entries_of (setting_of s) w) at.place at.op at.left at.right h.wide.at) printed
+      wide_fit at (length g.pool) if_open few (new_under (rows_of (setting_of s)) (length g.pool) h.table (entries_of (setting_of s) w) (operation_of at) h.wide.at) printed

@@ -1,7 +1,6 @@
 -- The places that are due at a table name its rows and columns.
 use Rattle.std.proofs.Common.{ℕ, ◌<◌, ◌≤◌, ℤ, List, length, arith}
 use Rattle.ps_rational.specs.Rational.{Rational}
-use Rattle.ps_frac.specs.declared.wide.Op.{Op}
 use Rattle.ps_simplex.specs.declared.phase.Phase.{Phase}
 use Rattle.ps_simplex.specs.Rule.{SimplexTable}
 use Rattle.ps_pool.specs.declared.col.Col.{Col}
@@ -13,7 +12,7 @@ use Rattle.ps_table.specs.declared.place.TableCol.TheVariants as shown
 use Rattle.ps_table.specs.Tableau.{IsInside, IsShown}
 use Rattle.ps_table.specs.declared.limits.TheConstants.{MOST_ROWS}
 use Rattle.ps_answer.specs.declared.limits.TheConstants.{MOST_WORLD}
-use Rattle.ps_table.specs.Places.{PivotPlace, at_scale, at_times, at_minus, NewPlace, at_new_times, at_new_plus, CostPlace, at_cost, MultiplierPlace, at_whole, at_scaled, WeightPlace, at_weight, at_weighed, at_total}
+use Rattle.ps_table.specs.Places.{Operation, PivotPlace, at_scale, at_times, at_minus, NewPlace, at_new_times, at_new_plus, CostPlace, at_cost, MultiplierPlace, at_whole, at_scaled, WeightPlace, at_weight, at_weighed, at_total}
 use Rattle.ps_bland.specs.DuePlaces.{DuePlace, of_cost, of_ratio, of_pivot}
 use Rattle.ps_claims.specs.declared.claim_kind.ClaimKind.{ClaimKind}
 use Rattle.ps_runs.specs.Rows.{rows_of}
@@ -39,44 +38,44 @@ IsPlaceUnder rows most (place.NewTimes i m) = (i < rows) × (m < rows)
 IsPlaceUnder rows most (place.NewPlus i m) = (i < rows) × (m < rows)
 
 module _ (rows most : ℕ) where
-  pivot_under : (X : ℕ → ℕ → Rational) (p q : ℕ) (at : Place) (op : Op) (l r : Rational) → PivotPlace rows most X p q at op l r → IsPlaceUnder rows most at
-  pivot_under X p q at op l r (at_scale c h) = h
-  pivot_under X p q at op l r (at_times i c h ne k) = (h, k)
-  pivot_under X p q at op l r (at_minus i c h ne k) = (h, k)
+  pivot_under : (X : ℕ → ℕ → Rational) (p q : ℕ) (o : Operation) → PivotPlace rows most X p q o → IsPlaceUnder rows most o.place
+  pivot_under X p q _ (at_scale c h) = h
+  pivot_under X p q _ (at_times i c h ne k) = (h, k)
+  pivot_under X p q _ (at_minus i c h ne k) = (h, k)
 
-  cost_under : (cost : ℕ → Rational) (basic : ℕ → ℕ) (X : ℕ → ℕ → Rational) (c : Col) (at : Place) (op : Op) (l r : Rational) → IsInside rows most c
-      → CostPlace rows cost basic X c at op l r → IsPlaceUnder rows most at
-  cost_under cost basic X c at op l r h (at_cost i k) = (h, k)
+  cost_under : (cost : ℕ → Rational) (basic : ℕ → ℕ) (X : ℕ → ℕ → Rational) (c : Col) (o : Operation) → IsInside rows most c
+      → CostPlace rows cost basic X c o → IsPlaceUnder rows most o.place
+  cost_under cost basic X c _ h (at_cost i k) = (h, k)
 
-  multiplier_under : (cost : ℕ → Rational) (basic : ℕ → ℕ) (X : ℕ → ℕ → Rational) (at : Place) (op : Op) (l r : Rational)
-      → MultiplierPlace rows cost basic X at op l r → IsPlaceUnder rows most at
-  multiplier_under cost basic X at op l r (at_whole i h) = h
-  multiplier_under cost basic X at op l r (at_scaled i h) = h
+  multiplier_under : (cost : ℕ → Rational) (basic : ℕ → ℕ) (X : ℕ → ℕ → Rational) (o : Operation)
+      → MultiplierPlace rows cost basic X o → IsPlaceUnder rows most o.place
+  multiplier_under cost basic X _ (at_whole i h) = h
+  multiplier_under cost basic X _ (at_scaled i h) = h
 
-  weight_under : (basic : ℕ → ℕ) (X : ℕ → ℕ → Rational) (at : Place) (op : Op) (l r : Rational) → WeightPlace rows basic X at op l r → IsPlaceUnder rows most at
-  weight_under basic X at op l r (at_weight i h k) = h
-  weight_under basic X at op l r (at_weighed i h k) = h
-  weight_under basic X at op l r (at_total i h k) = h
+  weight_under : (basic : ℕ → ℕ) (X : ℕ → ℕ → Rational) (o : Operation) → WeightPlace rows basic X o → IsPlaceUnder rows most o.place
+  weight_under basic X _ (at_weight i h k) = h
+  weight_under basic X _ (at_weighed i h k) = h
+  weight_under basic X _ (at_total i h k) = h
 
-  pub new_under : (X : ℕ → ℕ → Rational) (entries : List ℤ) (at : Place) (op : Op) (l r : Rational) → NewPlace rows X entries at op l r → IsPlaceUnder rows most at
-  new_under X entries at op l r (at_new_times i m h k) = (h, k)
-  new_under X entries at op l r (at_new_plus i m h k) = (h, k)
+  pub new_under : (X : ℕ → ℕ → Rational) (entries : List ℤ) (o : Operation) → NewPlace rows X entries o → IsPlaceUnder rows most o.place
+  new_under X entries _ (at_new_times i m h k) = (h, k)
+  new_under X entries _ (at_new_plus i m h k) = (h, k)
 
-settle_under : (phase : Phase) (t : SimplexTable) (worlds left : ℕ) (cost : ℕ → Rational) (at : Place) (op : Op) (l r : Rational) → DuePlace phase t worlds left cost at op l r
-    → IsPlaceUnder t.rows worlds at
-settle_under phase t worlds left cost at op l r (of_cost c at' op' l' r' unfinished inside real least h) =
-    cost_under t.rows worlds cost t.basic t.entry c at' op' l' r' inside h
-settle_under phase t worlds left cost at op l r (of_ratio c i unfinished some inside enters decide rising) = rising.within
-settle_under phase t worlds left cost at op l r (of_pivot c p at' op' l' r' unfinished some inside enters leaves h) =
-    pivot_under t.rows worlds t.entry p _ at' op' l' r' h
+settle_under : (phase : Phase) (t : SimplexTable) (worlds left : ℕ) (cost : ℕ → Rational) (o : Operation) → DuePlace phase t worlds left cost o
+    → IsPlaceUnder t.rows worlds o.place
+settle_under phase t worlds left cost _ (of_cost c o unfinished inside real least h) =
+    cost_under t.rows worlds cost t.basic t.entry c o inside h
+settle_under phase t worlds left cost _ (of_ratio c i unfinished some inside enters decide rising) = rising.within
+settle_under phase t worlds left cost _ (of_pivot c p o unfinished some inside enters leaves h) =
+    pivot_under t.rows worlds t.entry p _ o h
 
 -- a place that is due names the stage's rows and worlds
-pub due_under : (kind : ClaimKind) (s : Subject) (g : Stage) (left : ℕ) (X : ℕ → ℕ → Rational) (at : Place) (op : Op) (l r : Rational) → DueAt (program_of kind s) g left X at op l r
-    → IsPlaceUnder (rows_of (setting_of s)) (length g.pool) at
-due_under kind s g left X at op l r (for_pivots at' op' l' r' h) = settle_under _ _ (length g.pool) left _ at' op' l' r' h
-due_under kind s g left X at op l r (for_multiplier i at' op' l' r' rests k h) = cost_under (rows_of (setting_of s)) (length g.pool) _ g.basis X (col.Home i) at' op' l' r' k h
-due_under kind s g left X at op l r (for_dual at' op' l' r' rests h) = multiplier_under (rows_of (setting_of s)) (length g.pool) _ g.basis X at' op' l' r' h
-due_under kind s g left X at op l r (for_model at' op' l' r' due h) = weight_under (rows_of (setting_of s)) (length g.pool) g.basis X at' op' l' r' h
+pub due_under : (kind : ClaimKind) (s : Subject) (g : Stage) (left : ℕ) (X : ℕ → ℕ → Rational) (o : Operation) → DueAt (program_of kind s) g left X o
+    → IsPlaceUnder (rows_of (setting_of s)) (length g.pool) o.place
+due_under kind s g left X _ (for_pivots o h) = settle_under _ _ (length g.pool) left _ o h
+due_under kind s g left X _ (for_multiplier i o rests k h) = cost_under (rows_of (setting_of s)) (length g.pool) _ g.basis X (col.Home i) o k h
+due_under kind s g left X _ (for_dual o rests h) = multiplier_under (rows_of (setting_of s)) (length g.pool) _ g.basis X o h
+due_under kind s g left X _ (for_model o due h) = weight_under (rows_of (setting_of s)) (length g.pool) g.basis X o h
 
 -- ---- over more rows and worlds
 shown_more : (rows more few most : ℕ) (c : TableCol) → rows ≤ more → few ≤ most → IsShown rows few c → IsShown more most c

@@ -8,7 +8,8 @@ use Rattle.ps_rational.specs.Rational.{zero_q}
 use Rattle.ps_frac.specs.declared.wide.Op.{Op}
 use Rattle.ps_table.specs.declared.place.Place.{Place}
 use Rattle.ps_table.specs.declared.place.WideAt.{WideAt}
-use Rattle.ps_table.specs.Places.{IsWide, IsWideAt}
+use Rattle.ps_table.specs.Places.{Operation, IsWide, IsWideAt}
+use Rattle.ps_table.proofs.Operations.{operation}
 use Rattle.std.proofs.Common.{set, get_or-set_same, get_or-set_other, cond, eq-eqb}
 use Rattle.std.proofs.lemmas.Bool.{ne_eqb}
 use Rattle.ps_rational.specs.Rational.{mul, neg, fraction}
@@ -33,10 +34,10 @@ pub cell_within : (i j n w len : ℕ) → i < n → j < w → len ≡ w * n → 
 cell_within i j n w len hi hj e = let l : suc j ≤ w = omega arith in omega (arith, mul-le-mul_right n l)
 
 -- what is refused where it is wide, with its place and operands, is refused at one of the places
-pub refused_at : (P : Place → Op → Rational → Rational → Type 0) (r : Result Rational WideAt) (place : Place) (op : Op) (x y a b : Rational) → x ≡ a → y ≡ b → IfErr r (λ w. w ≡ record { place = place; op = op; left = x; right = y }) → (IsErr r → IsWide place op x y) → P place op a b → IfErr r (IsWideAt P)
+pub refused_at : (P : Operation → Type 0) (r : Result Rational WideAt) (place : Place) (op : Op) (x y a b : Rational) → x ≡ a → y ≡ b → IfErr r (λ w. w ≡ record { place = place; op = op; left = x; right = y }) → (IsErr r → IsWide (operation place op x y)) → P (operation place op a b) → IfErr r (IsWideAt P)
 refused_at P (Ok v) place op x y a b ex ey e h p = tt
 refused_at P (Err w) place op x y a b ex ey e h p =
-    subst (IsWideAt P) (sym e) (record { at = subst (λ k. P place op k y) (sym ex) (subst (λ k. P place op a k) (sym ey) p); wide = h refl })
+    subst (IsWideAt P) (sym e) (record { at = subst (λ k. P (operation place op k y)) (sym ex) (subst (λ k. P (operation place op a k)) (sym ey) p); wide = h refl })
 
 -- a column that is there has a place in the order
 pub number_within : (n worlds : ℕ) (q : Col) → IsInside n worlds q → number_in n q < suc (n + worlds)

@@ -9,15 +9,13 @@ use Rattle.ps_whole.specs.Pivots.{IsPivotCell, IsPivoted, IsNarrowPivot, ArePivo
 use Rattle.ps_whole.specs.Pivots as whole
 use Rattle.ps_table.specs.Tableau.{Tableau}
 use Rattle.ps_table.specs.declared.pivot.Pivot.{Pivot}
-use Rattle.ps_table.specs.Places.{IsNarrow, IsOperationWide, PivotPlace}
+use Rattle.ps_table.specs.Places.{Operation, IsNarrow, IsOperationWide, PivotPlace}
 use Rattle.ps_table.specs.Grids.{GridCells, width, cell_in, cells_of, grid_of, pivot_cell, IsPivotOf, IsNarrowCell, ArePivoted, GridPivotPlaces}
 use Rattle.ps_table.specs.KeptCells.{entry_in, whole_list, IsPivotOn, IsWholePivot}
 use Rattle.ps_table.proofs.Columns.{pivot_own, pivot_other}
 use Rattle.ps_table.proofs.Narrow.{pivot_narrow}
 use Rattle.ps_table.proofs.KeptCells.{list_length, list_entry, place_row, place_column, IsGridOf, cell_is}
 use Rattle.std.proofs.Common.{Result, Ok, Err, IfOk, Option, Some, None, IfSome}
-use Rattle.ps_frac.specs.declared.wide.Op.{Op}
-use Rattle.ps_table.specs.declared.place.Place.{Place}
 use Rattle.ps_pool.specs.declared.col.Col.{Col}
 use Rattle.ps_table.specs.Tableau.{number_of, rows_of, entry_at}
 use Rattle.ps_table.specs.Places.{PivotPlaces}
@@ -100,7 +98,7 @@ whole_pivot w new g p h of narrow is = record {
 }
 
 -- the places of a pivot of the grid are those of the table's
-pub pivot_places : (P : (Place → Op → Rational → Rational → Type 0) → Type 0) (g : GridCells) (p : Pivot) (t : Tableau) (row : ℕ) (col : Col)
+pub pivot_places : (P : (Operation → Type 0) → Type 0) (g : GridCells) (p : Pivot) (t : Tableau) (row : ℕ) (col : Col)
     → g ≡ grid_of t → p.row ≡ row → p.column ≡ number_of t col → P (GridPivotPlaces g p) → P (PivotPlaces t row col)
 pivot_places P g p t row col e er ec h =
     subst (λ (j : ℕ). P (PivotPlace (rows_of t) t.worlds (entry_at t) row j)) ec

@@ -7,12 +7,11 @@ use Rattle.ps_frac.specs.declared.wide.Op.TheVariants.{Add, Div}
 use Rattle.ps_rational.specs.Rational.{Rational}
 use Rattle.ps_rational.specs.Sums.{sum_to}
 use Rattle.ps_pool.specs.declared.col.Col.{Col}
-use Rattle.ps_table.specs.declared.place.Place.{Place}
 use Rattle.ps_table.specs.declared.place.WideAt.{WideAt}
 use Rattle.ps_table.specs.declared.place.TableCol.{TableCol}
 use Rattle.ps_table.specs.declared.place.TableCol.TheVariants.{Right, Of}
 use Rattle.ps_table.specs.Tableau.{number_in, number_shown, IsShown}
-use Rattle.ps_table.specs.Places.{IsWide, IsOperationWide, PivotPlace, at_scale, at_times, at_minus, NewPlace, at_new_times, at_new_plus, CostPlace, at_cost, IsNarrow}
+use Rattle.ps_table.specs.Places.{Operation, IsWide, IsOperationWide, PivotPlace, at_scale, at_times, at_minus, NewPlace, at_new_times, at_new_plus, CostPlace, at_cost, IsNarrow}
 use Rattle.ps_table.specs.Pricing.{cost_part}
 use Rattle.ps_table.specs.Grids.{IsNarrowCell, IsNarrowPart}
 use Rattle.ps_table.proofs.Columns.{cell_within, number_within}
@@ -40,10 +39,10 @@ shown_within n worlds (Of c) h = number_within n worlds c h
 pivot_nowhere : (n worlds : ℕ) (X : ℕ → ℕ → Rational) (p q : ℕ)
     → ((j : ℕ) → j < suc (n + worlds) → ¬ IsOperationWide Div (X p j) (X p q))
     → ((i j : ℕ) → i < n → j < suc (n + worlds) → i ≢ p → IsNarrowCell X p q i j)
-    → (place : Place) (op : Op) (l r : Rational) → PivotPlace n worlds X p q place op l r → ¬ IsWide place op l r
-pivot_nowhere n worlds X p q scale cells _ _ _ _ (at_scale c shown) = scale (number_shown n c) (shown_within n worlds c shown)
-pivot_nowhere n worlds X p q scale cells _ _ _ _ (at_times i c hi ne shown) = (cells i (number_shown n c) hi (shown_within n worlds c shown) ne).times
-pivot_nowhere n worlds X p q scale cells _ _ _ _ (at_minus i c hi ne shown) = (cells i (number_shown n c) hi (shown_within n worlds c shown) ne).minus
+    → (o : Operation) → PivotPlace n worlds X p q o → ¬ IsWide o
+pivot_nowhere n worlds X p q scale cells _ (at_scale c shown) = scale (number_shown n c) (shown_within n worlds c shown)
+pivot_nowhere n worlds X p q scale cells _ (at_times i c hi ne shown) = (cells i (number_shown n c) hi (shown_within n worlds c shown) ne).times
+pivot_nowhere n worlds X p q scale cells _ (at_minus i c hi ne shown) = (cells i (number_shown n c) hi (shown_within n worlds c shown) ne).minus
 
 cell_of : (n w p q len : ℕ) (X : ℕ → ℕ → Rational) → len ≡ w * n
     → ((k : ℕ) → k < len → k % n ≢ p → IsNarrowCell X p q (k % n) (k / n))
@@ -62,9 +61,9 @@ pub pivot_narrow : (n worlds p q len : ℕ) (X : ℕ → ℕ → Rational) → l
 pivot_narrow n worlds p q len X e scale cells = record { nowhere = pivot_nowhere n worlds X p q scale (cell_of n (suc (n + worlds)) p q len X e cells) }
 
 new_nowhere : (n : ℕ) (X : ℕ → ℕ → Rational) (entries : List ℤ) → ((i : ℕ) → i < n → (m : ℕ) → m < n → IsNarrowPart X entries i m)
-    → (place : Place) (op : Op) (l r : Rational) → NewPlace n X entries place op l r → ¬ IsWide place op l r
-new_nowhere n X entries parts _ _ _ _ (at_new_times i m hi hm) = (parts i hi m hm).times
-new_nowhere n X entries parts _ _ _ _ (at_new_plus i m hi hm) = (parts i hi m hm).plus
+    → (o : Operation) → NewPlace n X entries o → ¬ IsWide o
+new_nowhere n X entries parts _ (at_new_times i m hi hm) = (parts i hi m hm).times
+new_nowhere n X entries parts _ (at_new_plus i m hi hm) = (parts i hi m hm).plus
 
 -- all rows make the whole column
 pub new_narrow : (n : ℕ) (X : ℕ → ℕ → Rational) (entries : List ℤ) → ((i : ℕ) → i < n → (m : ℕ) → m < n → IsNarrowPart X entries i m) → IsNarrow (NewPlace n X entries)
@@ -72,8 +71,8 @@ new_narrow n X entries parts = record { nowhere = new_nowhere n X entries parts 
 
 cost_nowhere : (n : ℕ) (cost : ℕ → Rational) (basic : ℕ → ℕ) (X : ℕ → ℕ → Rational) (c : Col)
     → ((i : ℕ) → i < n → ¬ IsOperationWide Add (sum_to i (cost_part cost basic X (number_in n c))) (cost_part cost basic X (number_in n c) i))
-    → (place : Place) (op : Op) (l r : Rational) → CostPlace n cost basic X c place op l r → ¬ IsWide place op l r
-cost_nowhere n cost basic X c sums _ _ _ _ (at_cost i hi) = sums i hi
+    → (o : Operation) → CostPlace n cost basic X c o → ¬ IsWide o
+cost_nowhere n cost basic X c sums _ (at_cost i hi) = sums i hi
 
 -- the sums of all rows make the whole of what is carried
 pub cost_narrow : (n : ℕ) (cost : ℕ → Rational) (basic : ℕ → ℕ) (X : ℕ → ℕ → Rational) (c : Col)

@@ -19,7 +19,7 @@ use Rattle.ps_table.specs.declared.costs.Costs.{Costs}
 use Rattle.ps_whole.specs.declared.sums.WholeSum.{WholeSum}
 use Rattle.ps_whole.specs.Sums.{value_of, IsSumOf}
 use Rattle.ps_table.specs.Pricing.{part_at, carried_to}
-use Rattle.ps_table.specs.Places.{IsOperationWide, PivotPlace, NewPlace, new_part}
+use Rattle.ps_table.specs.Places.{Operation, IsOperationWide, PivotPlace, NewPlace, new_part}
 
 -- columns one after the other
 pub record GridCells : Type 0 where
@@ -108,8 +108,8 @@ lost_in g p i j = mul (cell_in g i p.column) (scaled_in g p j)
 abbrev pub pivoted_in : GridCells → Pivot → ℕ → ℕ → Rational
 pivoted_in g p i j = pivot_cell (cell_in g) p.row p.column i j
 
--- the places of the pivot
-abbrev pub GridPivotPlaces : GridCells → Pivot → Place → Op → Rational → Rational → Type 0
+-- the operations at the places of the pivot
+abbrev pub GridPivotPlaces : GridCells → Pivot → Operation → Type 0
 GridPivotPlaces g p = PivotPlace g.rows g.worlds (cell_in g) p.row p.column
 
 -- the division in column j isn't refused
@@ -153,8 +153,8 @@ pub record IsNewColumn (g : GridCells) (entries : List ℤ) : Type 0 where
   pub grid : IsGrid g
   pub count : length entries ≡ g.rows
 
--- the places of the new column
-abbrev pub GridNewPlaces : GridCells → List ℤ → Place → Op → Rational → Rational → Type 0
+-- the operations at the places of the new column
+abbrev pub GridNewPlaces : GridCells → List ℤ → Operation → Type 0
 GridNewPlaces g entries = NewPlace g.rows (cell_in g) entries
 
 -- row m of a new world's column, times the home of row m in row i

@@ -1,4 +1,4 @@
--- The places where an operation can be refused, each with its operands, over a basis and the entries of its table.
+-- The operations that can be refused, each at its place, over a basis and the entries of its table.
 use Rattle.std.specs.Prelude.{◌≢◌, ℕ, suc, ◌<◌, List, ℤ, pos, unsigned_abs, if◌then◌else◌}
 use Rattle.std.proofs.Common.{ltb}
 use Rattle.ps_frac.specs.declared.wide.Op.{Op}
@@ -24,6 +24,14 @@ use Rattle.ps_pool.specs.declared.col.Col.TheVariants as col
 use Rattle.ps_table.specs.Tableau.{Tableau, number_in, number_shown, number_of, rows_of, IsShown, entry_at, basic_at, world_entry}
 use Rattle.ps_table.specs.Pricing.{cost_at, cost_part}
 
+-- ---- operations
+-- an operation on two numbers, with its place
+pub record Operation : Type 0 where
+  pub place : Place
+  pub op : Op
+  pub left : Rational
+  pub right : Rational
+
 -- ---- when an operation is refused
 -- a named number of the operation is too large; a common multiple has none, since its places are of printed numbers
 abbrev pub IsOperationWide : Op → Rational → Rational → Type 0
@@ -38,46 +46,61 @@ abbrev pub IsTooLargeToPrint : ℤ → Type 0
 IsTooLargeToPrint z = PRINTED_LIMIT < unsigned_abs z
 
 -- at a place of a printed number the result is too large to be printed, at each other one a named number is too large
-abbrev pub IsWide : Place → Op → Rational → Rational → Type 0
-IsWide (Whole i) op x y = PRINTED_LIMIT < lcm (unsigned_abs x.over) (unsigned_abs y.over)
-IsWide (Scaled i) op x y = IsTooLargeToPrint (mul x y).over
-IsWide (Weight i) op x y = PRINTED_LIMIT < lcm (unsigned_abs x.over) (unsigned_abs y.over)
-IsWide (Weighed i) op x y = IsTooLargeToPrint (mul x y).over
-IsWide (Total i) op x y = IsTooLargeToPrint (add x y).over
-IsWide (Ratio i) op x y = IsOperationWide op x y
-IsWide (Scale c) op x y = IsOperationWide op x y
-IsWide (Times i c) op x y = IsOperationWide op x y
-IsWide (Minus i c) op x y = IsOperationWide op x y
-IsWide (Cost c i) op x y = IsOperationWide op x y
-IsWide (NewTimes i m) op x y = IsOperationWide op x y
-IsWide (NewPlus i m) op x y = IsOperationWide op x y
+abbrev pub IsWide : Operation → Type 0
+IsWide o = elim o.place [
+  | Whole i ↦ PRINTED_LIMIT < lcm (unsigned_abs o.left.over) (unsigned_abs o.right.over)
+  | Scaled i ↦ IsTooLargeToPrint (mul o.left o.right).over
+  | Weight i ↦ PRINTED_LIMIT < lcm (unsigned_abs o.left.over) (unsigned_abs o.right.over)
+  | Weighed i ↦ IsTooLargeToPrint (mul o.left o.right).over
+  | Total i ↦ IsTooLargeToPrint (add o.left o.right).over
+  | Ratio i ↦ IsOperationWide o.op o.left o.right
+  | Scale c ↦ IsOperationWide o.op o.left o.right
+  | Times i c ↦ IsOperationWide o.op o.left o.right
+  | Minus i c ↦ IsOperationWide o.op o.left o.right
+  | Cost c i ↦ IsOperationWide o.op o.left o.right
+  | NewTimes i m ↦ IsOperationWide o.op o.left o.right
+  | NewPlus i m ↦ IsOperationWide o.op o.left o.right
+]
 
 -- ---- the places of each call, in a table of n rows with entries X
--- the places of a pivot in row p and column q, each with its operation and operands
-pub data PivotPlace (n worlds : ℕ) (X : ℕ → ℕ → Rational) (p q : ℕ) : Place → Op → Rational → Rational → Type 0 where
+-- the operations at the places of a pivot in row p and column q
+pub data PivotPlace (n worlds : ℕ) (X : ℕ → ℕ → Rational) (p q : ℕ) : Operation → Type 0 where
   at_scale : (c : TableCol) → IsShown n worlds c
-      → PivotPlace n worlds X p q (Scale c) Div (X p (number_shown n c)) (X p q)
+      → PivotPlace n worlds X p q (record { place = Scale c; op = Div; left = X p (number_shown n c); right = X p q })
   at_times : (i : ℕ) (c : TableCol) → i < n → i ≢ p → IsShown n worlds c
-      → PivotPlace n worlds X p q (Times i c) Mul (X i q) (div (X p (number_shown n c)) (X p q))
+      → PivotPlace n worlds X p q
+      (record { place = Times i c; op = Mul; left = X i q; right = div (X p (number_shown n c)) (X p q) })
   at_minus : (i : ℕ) (c : TableCol) → i < n → i ≢ p → IsShown n worlds c
-      → PivotPlace n worlds X p q (Minus i c) Sub (X i (number_shown n c)) (mul (X i q) (div (X p (number_shown n c)) (X p q)))
+      → PivotPlace n worlds X p q
+      (record {
+        place = Minus i c;
+        op = Sub;
+        left = X i (number_shown n c);
+        right = mul (X i q) (div (X p (number_shown n c)) (X p q));
+      })
 
 -- row m of a new world's column, times the home of row m in row i
 abbrev pub new_part : (ℕ → ℕ → Rational) → List ℤ → ℕ → ℕ → Rational
 new_part X entries i m = mul (X i (suc m)) (world_entry entries m)
 
--- the places of a new world's column, each with its operation and operands
-pub data NewPlace (n : ℕ) (X : ℕ → ℕ → Rational) (entries : List ℤ) : Place → Op → Rational → Rational → Type 0 where
-  at_new_times : (i m : ℕ) → i < n → m < n → NewPlace n X entries (NewTimes i m) Mul (X i (suc m)) (world_entry entries m)
+-- the operations at the places of a new world's column
+pub data NewPlace (n : ℕ) (X : ℕ → ℕ → Rational) (entries : List ℤ) : Operation → Type 0 where
+  at_new_times : (i m : ℕ) → i < n → m < n
+      → NewPlace n X entries (record { place = NewTimes i m; op = Mul; left = X i (suc m); right = world_entry entries m })
   at_new_plus : (i m : ℕ) → i < n → m < n
-      → NewPlace n X entries (NewPlus i m) Add (sum_to m (new_part X entries i)) (new_part X entries i m)
+      → NewPlace n X entries
+      (record { place = NewPlus i m; op = Add; left = sum_to m (new_part X entries i); right = new_part X entries i m })
 
--- the places of what the rows carry of column c, each with its operation and operands
-pub data CostPlace (n : ℕ) (cost : ℕ → Rational) (basic : ℕ → ℕ) (X : ℕ → ℕ → Rational) (c : Col) : Place → Op
-    → Rational → Rational → Type 0 where
+-- the operations at the places of what the rows carry of column c
+pub data CostPlace (n : ℕ) (cost : ℕ → Rational) (basic : ℕ → ℕ) (X : ℕ → ℕ → Rational) (c : Col) : Operation → Type 0 where
   at_cost : (i : ℕ) → i < n
-      → CostPlace n cost basic X c (Cost c i) Add (sum_to i (cost_part cost basic X (number_in n c)))
-      (cost_part cost basic X (number_in n c) i)
+      → CostPlace n cost basic X c
+      (record {
+        place = Cost c i;
+        op = Add;
+        left = sum_to i (cost_part cost basic X (number_in n c));
+        right = cost_part cost basic X (number_in n c) i;
+      })
 
 -- the multiplier of a row: what is carried of its home
 abbrev pub multiplier : ℕ → (ℕ → Rational) → (ℕ → ℕ) → (ℕ → ℕ → Rational) → ℕ → Rational
@@ -87,14 +110,24 @@ multiplier n cost basic X m = carried_by n cost basic X (suc m)
 abbrev pub multiple_to : ℕ → (ℕ → Rational) → (ℕ → ℕ) → (ℕ → ℕ → Rational) → ℕ → ℕ
 multiple_to n cost basic X i = lcm_to i (λ m. (multiplier n cost basic X m).under)
 
--- the places of the whole multiples of the multipliers that a dual prints, each with its operation and operands
-pub data MultiplierPlace (n : ℕ) (cost : ℕ → Rational) (basic : ℕ → ℕ) (X : ℕ → ℕ → Rational) : Place → Op → Rational
-    → Rational → Type 0 where
+-- the operations at the places of the whole multiples of the multipliers that a dual prints
+pub data MultiplierPlace (n : ℕ) (cost : ℕ → Rational) (basic : ℕ → ℕ) (X : ℕ → ℕ → Rational) : Operation → Type 0 where
   at_whole : (i : ℕ) → i < n
-      → MultiplierPlace n cost basic X (Whole i) Lcm (whole (pos (multiple_to n cost basic X i)))
-      (whole (pos (multiplier n cost basic X i).under))
+      → MultiplierPlace n cost basic X
+      (record {
+        place = Whole i;
+        op = Lcm;
+        left = whole (pos (multiple_to n cost basic X i));
+        right = whole (pos (multiplier n cost basic X i).under);
+      })
   at_scaled : (i : ℕ) → i < n
-      → MultiplierPlace n cost basic X (Scaled i) Mul (multiplier n cost basic X i) (whole (pos (multiple_to n cost basic X n)))
+      → MultiplierPlace n cost basic X
+      (record {
+        place = Scaled i;
+        op = Mul;
+        left = multiplier n cost basic X i;
+        right = whole (pos (multiple_to n cost basic X n));
+      })
 
 -- the basic column of a row is a world, and its value is above 0
 pub record IsWeighed (n : ℕ) (basic : ℕ → ℕ) (X : ℕ → ℕ → Rational) (i : ℕ) : Type 0 where
@@ -113,43 +146,56 @@ weight_multiple_to n basic X i = lcm_to i (weight_under n basic X)
 abbrev pub weight_at : ℕ → (ℕ → ℕ) → (ℕ → ℕ → Rational) → ℕ → ℤ
 weight_at n basic X i = if ltb n (basic i) then scaled (weight_multiple_to n basic X n) (X i 0) else pos 0
 
--- the places of the weights that a model prints, and of their sums, each with its operation and operands
-pub data WeightPlace (n : ℕ) (basic : ℕ → ℕ) (X : ℕ → ℕ → Rational) : Place → Op → Rational → Rational → Type 0 where
+-- the operations at the places of the weights that a model prints, and of their sums
+pub data WeightPlace (n : ℕ) (basic : ℕ → ℕ) (X : ℕ → ℕ → Rational) : Operation → Type 0 where
   at_weight : (i : ℕ) → i < n → IsWeighed n basic X i
-      → WeightPlace n basic X (Weight i) Lcm (whole (pos (weight_multiple_to n basic X i))) (whole (pos (X i 0).under))
+      → WeightPlace n basic X
+      (record {
+        place = Weight i;
+        op = Lcm;
+        left = whole (pos (weight_multiple_to n basic X i));
+        right = whole (pos (X i 0).under);
+      })
   at_weighed : (i : ℕ) → i < n → IsWeighed n basic X i
-      → WeightPlace n basic X (Weighed i) Mul (X i 0) (whole (pos (weight_multiple_to n basic X n)))
+      → WeightPlace n basic X
+      (record { place = Weighed i; op = Mul; left = X i 0; right = whole (pos (weight_multiple_to n basic X n)) })
   at_total : (i : ℕ) → i < n → IsWeighed n basic X i
-      → WeightPlace n basic X (Total i) Add (whole (int_sum_to i (weight_at n basic X))) (whole (weight_at n basic X i))
+      → WeightPlace n basic X
+      (record {
+        place = Total i;
+        op = Add;
+        left = whole (int_sum_to i (weight_at n basic X));
+        right = whole (weight_at n basic X i);
+      })
 
 -- ---- the places of a table's calls
--- the places of a pivot in a table
-abbrev pub PivotPlaces : Tableau → ℕ → Col → Place → Op → Rational → Rational → Type 0
+-- the operations at the places of a pivot in a table
+abbrev pub PivotPlaces : Tableau → ℕ → Col → Operation → Type 0
 PivotPlaces t p q = PivotPlace (rows_of t) t.worlds (entry_at t) p (number_of t q)
 
--- the places of a new world's column in a table
-abbrev pub NewPlaces : Tableau → List ℤ → Place → Op → Rational → Rational → Type 0
+-- the operations at the places of a new world's column in a table
+abbrev pub NewPlaces : Tableau → List ℤ → Operation → Type 0
 NewPlaces t entries = NewPlace (rows_of t) (entry_at t) entries
 
--- the places of what the rows of a table carry of a column
-abbrev pub CostPlaces : Tableau → Costs → Col → Place → Op → Rational → Rational → Type 0
+-- the operations at the places of what the rows of a table carry of a column
+abbrev pub CostPlaces : Tableau → Costs → Col → Operation → Type 0
 CostPlaces t costs c = CostPlace (rows_of t) (cost_at costs) (basic_at t) (entry_at t) c
 
--- the places of the multiplier of a row of a table
-abbrev pub HomePlaces : Tableau → Costs → ℕ → Place → Op → Rational → Rational → Type 0
+-- the operations at the places of the multiplier of a row of a table
+abbrev pub HomePlaces : Tableau → Costs → ℕ → Operation → Type 0
 HomePlaces t costs m = CostPlaces t costs (col.Home m)
 
 -- ---- refusals
--- the operation at none of these places is refused
-pub record IsNarrow (P : Place → Op → Rational → Rational → Type 0) : Type 0 where
-  pub nowhere : (place : Place) (op : Op) (l r : Rational) → P place op l r → ¬ IsWide place op l r
+-- none of these operations is refused
+pub record IsNarrow (P : Operation → Type 0) : Type 0 where
+  pub nowhere : (o : Operation) → P o → ¬ IsWide o
 
--- the refusal stands at a place with its operands, and is wide there
-pub record IsWideAt (P : Place → Op → Rational → Rational → Type 0) (w : WideAt) : Type 0 where
-  pub at : P w.place w.op w.left w.right
-  pub wide : IsWide w.place w.op w.left w.right
+-- the refusal is of one of these operations, which is wide
+pub record IsWideAt (P : Operation → Type 0) (w : WideAt) : Type 0 where
+  pub at : P (record { place = w.place; op = w.op; left = w.left; right = w.right })
+  pub wide : IsWide (record { place = w.place; op = w.op; left = w.left; right = w.right })
 
--- a refusal stands at one of these places and is wide there, or is want of memory
-abbrev pub IsRefusedAt : (Place → Op → Rational → Rational → Type 0) → TableError → Type 0
+-- a refusal is of one of these operations, which is wide, or is want of memory
+abbrev pub IsRefusedAt : (Operation → Type 0) → TableError → Type 0
 IsRefusedAt P (refused.Wide w) = IsWideAt P w
 IsRefusedAt P refused.NoMemory = Unit {0}
