@@ -13,7 +13,7 @@ use Rattle.ps_answer.specs.Items.{count, IsPrintable, IsColWithin}
 use Rattle.ps_answer.specs.ExpectedParts.{behind}
 use Rattle.ps_line.specs.declared.line_fault.LineFault.{LineFault}
 use Rattle.ps_line.specs.Cursor.{later}
-use Rattle.ps_line.specs.Read.{IsWordRead, AreWordsRead, AreWordsReadOrLacks, both, IsSaid, IsItemRead}
+use Rattle.ps_line.specs.Read.{IsWordRead, AreWordsRead, IsReadOrLacks, WordsSay, both, IsSaid, IsItemRead}
 use Rattle.ps_line.specs.Rows.{AreRowsWithin, AreRowsRead}
 use Rattle.ps_line.specs.Truths.{IsWorldRead}
 use Rattle.ps_line.proofs.Sequences.{Makes, IsMade, item_read, item_or_lacks, made, word_then, word_or_lacks, sure, all_sure, IsNeverEmpty}
@@ -55,7 +55,7 @@ IsEndRead ws e = AreWordsRead {A = Unit {0}} (λ u. []) (λ u. ⊤) (λ u. ⊤) 
 
 -- a world with nothing after it
 pub last_world : (ws : List (List ℕ)) (r : Result World LineFault) (e : Result (Unit {0}) LineFault) → IsWorldRead (first_of ws) r → IsEndRead (later ws) e
-    → AreWordsReadOrLacks {A = World × Unit {0}} ⊤ (λ p. Truths p.0 ∷ []) (λ p. ⊤ × ⊤) (λ p. (length p.0 ≤ 128) × ⊤) ws (both r e)
+    → IsReadOrLacks {A = World × Unit {0}} ⊤ (WordsSay (λ p. Truths p.0 ∷ []) (λ p. ⊤ × ⊤) ws) (λ p. (length p.0 ≤ 128) × ⊤) (both r e)
 last_world ws r e h k = word_or_lacks ⊤ Truths (λ w. ⊤) (λ w. length w ≤ 128) (λ u. []) (λ u. ⊤) (λ u. ⊤) ws r e truths_word h (all_sure ⊤ (λ u. []) (λ u. ⊤) (λ u. ⊤) (later ws) e k)
 
 -- the first line of a report

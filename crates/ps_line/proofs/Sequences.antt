@@ -11,7 +11,7 @@ use Rattle.ps_answer.specs.Items.{item_words, IsProper, IsWithin}
 use Rattle.ps_line.specs.declared.line_fault.LineFault.{LineFault}
 use Rattle.ps_line.specs.declared.line_fault.LineFault.TheVariants.{NotCanonical, TooLarge, NoMemory}
 use Rattle.ps_line.specs.Cursor.{later}
-use Rattle.ps_line.specs.Read.{IsWordRead, IsWordReadOrLacks, AreWordsRead, AreWordsReadOrLacks, both, Fits, FitsNot, IsSaid, TakesMemory, IsItemRead}
+use Rattle.ps_line.specs.Read.{IsReadOrLacks, WordSays, IsWordRead, WordsSay, AreWordsRead, both, Fits, FitsNot, IsSaid, TakesMemory, IsItemRead}
 
 -- a line has a word
 pub has_words : (text : List ℕ) → words_of text ≡ [] → ⊥
@@ -33,14 +33,14 @@ abbrev pub IsNeverEmpty : {A : Type 0} → (A → Word) → Type 0
 IsNeverEmpty {A} written = (a : A) → SpellsWord [] (written a) → ⊥
 
 -- a word that is read without memory is read
-pub sure : {A : Type 0} (L : Type 0) (v : A → Word) (P F : A → Type 0) (word : List ℕ) (r : Result A LineFault) → IsWordRead v P F word r → IsWordReadOrLacks L v P F word r
+pub sure : {A : Type 0} (L : Type 0) (v : A → Word) (P F : A → Type 0) (word : List ℕ) (r : Result A LineFault) → IsWordRead v P F word r → IsReadOrLacks L (WordSays v P word) F r
 sure L v P F word (Ok a) h = h
 sure L v P F word (Err NotCanonical) h = h
 sure L v P F word (Err TooLarge) h = h
 sure L v P F word (Err NoMemory) h = absurd h
 
 -- so are words
-pub all_sure : {A : Type 0} (L : Type 0) (vs : A → List Word) (P F : A → Type 0) (ws : List (List ℕ)) (r : Result A LineFault) → AreWordsRead vs P F ws r → AreWordsReadOrLacks L vs P F ws r
+pub all_sure : {A : Type 0} (L : Type 0) (vs : A → List Word) (P F : A → Type 0) (ws : List (List ℕ)) (r : Result A LineFault) → AreWordsRead vs P F ws r → IsReadOrLacks L (WordsSay vs P ws) F r
 all_sure L vs P F ws (Ok a) h = h
 all_sure L vs P F ws (Err NotCanonical) h = h
 all_sure L vs P F ws (Err TooLarge) h = h
@@ -48,8 +48,8 @@ all_sure L vs P F ws (Err NoMemory) h = absurd h
 
 -- a word, and those after it, where memory may lack
 pub word_or_lacks : {A B : Type 0} (L : Type 0) (v : A → Word) (P F : A → Type 0) (vs : B → List Word) (Q G : B → Type 0) (ws : List (List ℕ)) (r : Result A LineFault) (q : Result B LineFault)
-    → IsNeverEmpty v → IsWordReadOrLacks L v P F (first_of ws) r → AreWordsReadOrLacks L vs Q G (later ws) q
-    → AreWordsReadOrLacks {A = A × B} L (λ p. v p.0 ∷ vs p.1) (λ p. P p.0 × Q p.1) (λ p. F p.0 × G p.1) ws (both r q)
+    → IsNeverEmpty v → IsReadOrLacks L (WordSays v P (first_of ws)) F r → IsReadOrLacks L (WordsSay vs Q (later ws)) G q
+    → IsReadOrLacks {A = A × B} L (WordsSay (λ p. v p.0 ∷ vs p.1) (λ p. P p.0 × Q p.1) ws) (λ p. F p.0 × G p.1) (both r q)
 word_or_lacks L v P F vs Q G [] (Ok a) q ne h k = absurd (ne a h.0.0)
 word_or_lacks L v P F vs Q G [] (Err NotCanonical) q ne h k = λ p s. s.0
 word_or_lacks L v P F vs Q G [] (Err TooLarge) q ne h k = absurd (ne h.0 h.1.0)
@@ -98,7 +98,7 @@ behind_front (w ∷ front) ws vs s = behind_front front ws vs s.1
 
 -- the words behind those that a kind of line begins with are read, and so is the line
 pub item_or_lacks : {A : Type 0} (L : Type 0) (p : Part) (front : List (List ℕ)) (mk : A → LineItem) (vs : A → List Word) (P F : A → Type 0) (ws : List (List ℕ))
-    → (L → TakesMemory p (front ++ ws)) → Makes p front ws mk vs P F → (r : Result A LineFault) → AreWordsReadOrLacks L vs P F ws r → IsItemRead p (front ++ ws) (made mk r)
+    → (L → TakesMemory p (front ++ ws)) → Makes p front ws mk vs P F → (r : Result A LineFault) → IsReadOrLacks L (WordsSay vs P ws) F r → IsItemRead p (front ++ ws) (made mk r)
 item_or_lacks L p front mk vs P F ws takes m r h = by r h
   where
     said : (a : _) → SpellWords ws (vs a) × P a → IsSaid (front ++ ws) (mk a)
@@ -109,7 +109,7 @@ item_or_lacks L p front mk vs P F ws takes m r h = by r h
     none i n s (inr t) =
         absurd (n t.0 (behind_front front ws (vs t.0) (subst (λ x. SpellWords (front ++ ws) x) (ap item_words t.1 ∙ m.words t.0) s.spelled), t.2))
 
-    by : (r : Result _ LineFault) → AreWordsReadOrLacks L vs P F ws r → IsItemRead p (front ++ ws) (made mk r)
+    by : (r : Result _ LineFault) → IsReadOrLacks L (WordsSay vs P ws) F r → IsItemRead p (front ++ ws) (made mk r)
     by (Ok a) h = (said a h.0, m.within a h.1, m.fits a h.0.1)
     by (Err NotCanonical) h = λ i s. none i h s (m.only i s)
     by (Err TooLarge) h = (mk h.0, said h.0 h.1, m.fits h.0 h.1.1, λ g. h.2 (m.back h.0 g))

@@ -21,26 +21,22 @@ IsReadOrLacks MayLack Says Fits (Err NoMemory) = MayLack
 abbrev pub IsRead : {A : Type 0} → (A → Type 0) → (A → Type 0) → Result A LineFault → Type 0
 IsRead Says Fits result = IsReadOrLacks ⊥ Says Fits result
 
--- a word is read: how it is written, what it asks, and its limit; or memory lacks, where it may
-abbrev pub IsWordReadOrLacks : {A : Type 0} → Type 0 → (A → Word) → (A → Type 0) → (A → Type 0) → List ℕ
-    → Result A LineFault → Type 0
-IsWordReadOrLacks MayLack written Asks Fits word result =
-    IsReadOrLacks MayLack (λ a. SpellsWord word (written a) × Asks a) Fits result
+-- a word says this: it is written so, and is what is asked
+abbrev pub WordSays : {A : Type 0} → (A → Word) → (A → Type 0) → List ℕ → A → Type 0
+WordSays written Asks word a = SpellsWord word (written a) × Asks a
 
--- a word is read
+-- a word is read: how it is written, what it asks, and its limit
 abbrev pub IsWordRead : {A : Type 0} → (A → Word) → (A → Type 0) → (A → Type 0) → List ℕ → Result A LineFault → Type 0
-IsWordRead written Asks Fits word result = IsWordReadOrLacks ⊥ written Asks Fits word result
+IsWordRead written Asks Fits word result = IsRead (WordSays written Asks word) Fits result
 
--- words are read, or memory lacks, where it may
-abbrev pub AreWordsReadOrLacks : {A : Type 0} → Type 0 → (A → List Word) → (A → Type 0) → (A → Type 0) → List (List ℕ)
-    → Result A LineFault → Type 0
-AreWordsReadOrLacks MayLack written Asks Fits words result =
-    IsReadOrLacks MayLack (λ a. SpellWords words (written a) × Asks a) Fits result
+-- words say this: they are written so, and are what is asked
+abbrev pub WordsSay : {A : Type 0} → (A → List Word) → (A → Type 0) → List (List ℕ) → A → Type 0
+WordsSay written Asks words a = SpellWords words (written a) × Asks a
 
 -- words are read
 abbrev pub AreWordsRead : {A : Type 0} → (A → List Word) → (A → Type 0) → (A → Type 0) → List (List ℕ)
     → Result A LineFault → Type 0
-AreWordsRead written Asks Fits words result = AreWordsReadOrLacks ⊥ written Asks Fits words result
+AreWordsRead written Asks Fits words result = IsRead (WordsSay written Asks words) Fits result
 
 -- both of two readings, or why not; that something isn't written so comes before that it is too large
 abbrev pub both : {A B : Type 0} → Result A LineFault → Result B LineFault → Result (A × B) LineFault

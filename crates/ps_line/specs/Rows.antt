@@ -4,7 +4,7 @@ use Rattle.ps_log.specs.Spellings.{Spells}
 use Rattle.ps_answer.specs.Items.{IsPrintable}
 use Rattle.ps_answer.specs.declared.limits.TheConstants.{MOST_MULTIPLIERS}
 use Rattle.ps_answer.specs.Words.{Number, SpellWords}
-use Rattle.ps_line.specs.Read.{AreWordsReadOrLacks}
+use Rattle.ps_line.specs.Read.{IsReadOrLacks, WordsSay}
 use Rattle.ps_line.specs.declared.line_fault.LineFault.{LineFault}
 use Rattle.ps_line.specs.declared.line_fault.LineFault.TheVariants.{NotCanonical, TooLarge, NoMemory}
 
@@ -32,4 +32,4 @@ AreRowsWithin rows = All IsPrintable rows × (length rows ≤ MOST_MULTIPLIERS)
 
 -- the rows that the words spell are read, or memory lacks
 abbrev pub AreRowsRead : List (List ℕ) → Result (List ℤ) LineFault → Type 0
-AreRowsRead words result = AreWordsReadOrLacks ⊤ (λ zs. map Number zs) (λ zs. ⊤) AreRowsWithin words result
+AreRowsRead words result = IsReadOrLacks ⊤ (WordsSay (λ zs. map Number zs) (λ zs. ⊤) words) AreRowsWithin result
