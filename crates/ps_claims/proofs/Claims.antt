@@ -17,6 +17,7 @@ use Rattle.ps_claims.specs.declared.claim.Claim.{Claim}
 use Rattle.ps_claims.specs.declared.claim.Claim.TheVariants as claim
 use Rattle.ps_claims.specs.declared.reason.Reason.{Reason}
 use Rattle.ps_claims.specs.declared.reason.Reason.TheVariants.{WrongShape, TooManyWorlds, WeightZero, WorldTwice, TotalWrong, BoundMissed, EvidenceZero, ValueMissed, HeadWrong, MultiplierSign, StepRefused, NotRefuted}
+use Rattle.ps_claims.specs.Faults.{start_for}
 use Rattle.ps_claims.proofs.Faults.{no_fault}
 use Rattle.ps_claims.specs.Validity.{IsValidVerdict, IsValidSide, IsValidPart, IsValid}
 use Rattle.ps_claims.specs.Claims.{Assertion, Modelled, Excluded, Bounded, verdict_claims, side_claims, part_claims, claims_from, claims_of, IsValidClaim, HasParts, AreValid, claimed_model, AreProperEntries, IsRepeated, AreFew, HasTotal, IsModelRight, IsDualWrong, IsFirstIn, IsFirstAt, IsRefused}
@@ -200,8 +201,8 @@ valid-model p (Bounded kind q value m d) h = record {
 -- nor with its dual
 valid-dual : (p : Parts) (c : Assertion) → IsValidClaim p c → (r : Reason) → IsDualWrong p c r → ⊥
 valid-dual p (Modelled m) h r f = f
-valid-dual p (Excluded given d) h r f = no_fault p Nothing given 0 None d r (record { head = h.head; refuted = h.refuted }) f
-valid-dual p (Bounded kind q value m d) h r f = no_fault p kind q.given q.both (Some value) d r (record { head = h.head; refuted = h.refuted }) f
+valid-dual p (Excluded given d) h r f = no_fault p (start_for p Nothing given 0 d) None d r (record { head = h.head; signs = h.refuted.signs; steps = h.refuted.steps }) f
+valid-dual p (Bounded kind q value m d) h r f = no_fault p (start_for p kind q.given q.both d) (Some value) d r (record { head = h.head; signs = h.refuted.signs; steps = h.refuted.steps }) f
 
 pub valid_faultless : (p : Parts) (c : Assertion) (r : Reason) → IsValidClaim p c → IsFirstIn p c r → ⊥
 valid_faultless p c r h first = no_model_fault p c r (valid-model p c h) (valid-dual p c h r) first

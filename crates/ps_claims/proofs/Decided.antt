@@ -20,7 +20,7 @@ use Rattle.ps_rational.specs.Rational.{Rational}
 use Rattle.ps_claims.specs.Queries.{bound_on}
 use Rattle.ps_claims.specs.Answers.{Model, Answer, ShowsConsistent, asked_under}
 use Rattle.ps_claims.specs.Duals.{Dual, ClaimKind, Nothing}
-use Rattle.ps_claims.specs.Faults.{IsFaultless}
+use Rattle.ps_claims.specs.Faults.{start_for, IsFaultless}
 use Rattle.ps_claims.specs.Validity.{query_of, IsValid}
 use Rattle.ps_claims.proofs.Claims.{claims-valid, first_of_dual}
 use Rattle.ps_claims.specs.declared.claim.Claim.{Claim}
@@ -202,8 +202,8 @@ modelled_cases p m low = elim (shape_cases p (Modelled m)) [
 excluded_cases : (p : Parts) (given : Option ℕ) (d : Dual) → IsValidClaim p (Excluded given d) ⊎ ((r : Reason) × IsFirstIn p (Excluded given d) r)
 excluded_cases p given d = elim (shape_cases p (Excluded given d)) [
   | inr bad ↦ inr (WrongShape, bad)
-  | inl shape ↦ elim (fault_cases p Nothing given 0 None d shape.rows) [
-    | inl right ↦ inl (record { head = right.head; refuted = right.refuted })
+  | inl shape ↦ elim (fault_cases p (start_for p Nothing given 0 d) None d shape.rows) [
+    | inl right ↦ inl (record { head = right.head; refuted = record { signs = right.signs; steps = right.steps } })
     | inr wrong ↦ inr (wrong.0, first_of_dual p (Excluded given d) wrong.0 (record { shape = shape; few = tt; proper = tt; total = tt; met = tt; evidence = tt; value = tt }) wrong.1)
   ]
 ]
@@ -222,7 +222,7 @@ bounded-model p kind q value m d shape good evidence is = record {
 
 -- a bound with such a model and a faultless dual is valid
 pub bounded-valid : (p : Parts) (kind : ClaimKind) (q : stored.Query) (value : Rational) (m : Model) (d : Dual) → All (λ e. pos 0 ≤ℤ e.weight) m.worlds → HasShape p (Bounded kind q value m d) → IsSound p m
-    → HasEvidence p (Bounded kind q value m d) → HasValue p (Bounded kind q value m d) → IsFaultless p kind q.given q.both (Some value) d → IsValidClaim p (Bounded kind q value m d)
+    → HasEvidence p (Bounded kind q value m d) → HasValue p (Bounded kind q value m d) → IsFaultless p (start_for p kind q.given q.both d) (Some value) d → IsValidClaim p (Bounded kind q value m d)
 bounded-valid p kind q value m d low shape good evidence is right =
     let shown = sound-shows p m shape.worlds low good in
     let least = weight-nonneg m.worlds (given_at p.nodes q.given) shown.model.distribution.weighed in
@@ -230,7 +230,7 @@ bounded-valid p kind q value m d low shape good evidence is right =
       reached = record { allowed = record { model = shown.model; positive = at_least_one (weight m.worlds (given_at p.nodes q.given)) evidence least }; equal = is };
       basic = shown.basic;
       head = right.head;
-      refuted = right.refuted;
+      refuted = record { signs = right.signs; steps = right.steps };
     }
 
 bounded_cases : (p : Parts) (kind : ClaimKind) (q : stored.Query) (value : Rational) (m : Model) (d : Dual) → All (λ e. pos 0 ≤ℤ e.weight) m.worlds
@@ -243,7 +243,7 @@ bounded_cases p kind q value m d low = elim (shape_cases p (Bounded kind q value
       | inr nothing ↦ inr (EvidenceZero, (shape, (good.few, good.proper, good.total, good.met), nothing))
       | inl evidence ↦ elim (meets_cases (bound_on (query_of p.nodes q) Exactly value) m.worlds) [
         | inr other ↦ inr (ValueMissed, (shape, (good.few, good.proper, good.total, good.met), evidence, other))
-        | inl is ↦ elim (fault_cases p kind q.given q.both (Some value) d shape.rows) [
+        | inl is ↦ elim (fault_cases p (start_for p kind q.given q.both d) (Some value) d shape.rows) [
           | inr wrong ↦ inr (wrong.0, first_of_dual p (Bounded kind q value m d) wrong.0 (bounded-model p kind q value m d shape good evidence is) wrong.1)
           | inl right ↦ inl (bounded-valid p kind q value m d low shape good evidence is right)
         ]

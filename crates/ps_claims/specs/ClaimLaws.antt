@@ -17,7 +17,7 @@ use Rattle.ps_claims.specs.Duals.{Dual, ClaimKind, Nothing, Lower, Upper, HaveSi
 use Rattle.ps_claims.specs.Duals.{kept_of, AreZeroElsewhere, combination, IsNeverAbove, HasNothingHead, HasValueHead}
 use Rattle.ps_claims.specs.Goals.{Combination, value_under, size_of, combination_of, goal_of}
 use Rattle.ps_claims.specs.Limits.{most_combination}
-use Rattle.ps_claims.specs.Faults.{IsFaultless, IsFirstFault}
+use Rattle.ps_claims.specs.Faults.{start_for, IsFaultless, IsFirstFault}
 use Rattle.ps_claims.specs.Claims.{claims_of, HasParts, AreValid, HaveWeightsNotBelow0, IsRefused}
 use Rattle.ps_claims.specs.Validity.{query_of, IsRefuted, IsValid, IsRightFor}
 
@@ -72,13 +72,14 @@ RefutedGoalsBoundCombinations = (p : Parts) (kind : ClaimKind) (q : stored.Query
 abbrev pub DualsAreFaultlessOrFaulty : Type 0
 DualsAreFaultlessOrFaulty = (p : Parts) (kind : ClaimKind) (given : Option ℕ) (both : ℕ) (value : Option Rational)
     (d : Dual) → length d.rows ≡ length (bounds_of p)
-    → IsFaultless p kind given both value d ⊎ ((r : Reason) × IsFirstFault p kind given both value d r)
+    → IsFaultless p (start_for p kind given both d) value d
+    ⊎ ((r : Reason) × IsFirstFault p (start_for p kind given both d) value d r)
 
 -- a faultless dual has no first fault
 abbrev pub FaultlessDualsHaveNoFault : Type 0
 FaultlessDualsHaveNoFault = (p : Parts) (kind : ClaimKind) (given : Option ℕ) (both : ℕ) (value : Option Rational)
     (d : Dual) (r : Reason)
-    → IsFaultless p kind given both value d → ¬ IsFirstFault p kind given both value d r
+    → IsFaultless p (start_for p kind given both d) value d → ¬ IsFirstFault p (start_for p kind given both d) value d r
 
 -- head over top is a value exactly where their quotient is
 abbrev pub HeadsAreQuotients : Type 0

@@ -18,7 +18,7 @@ use Rattle.ps_claims.specs.declared.reason.Reason.{Reason}
 use Rattle.ps_claims.specs.declared.reason.Reason.TheVariants.{WrongShape, TooManyWorlds, WeightZero, WorldTwice}
 use Rattle.ps_claims.specs.declared.reason.Reason.TheVariants.{TotalWrong, BoundMissed, EvidenceZero, ValueMissed}
 use Rattle.ps_claims.specs.Duals.{Dual, ClaimKind, Nothing, Lower, Upper}
-use Rattle.ps_claims.specs.Faults.{IsFirstFault}
+use Rattle.ps_claims.specs.Faults.{start_for, IsFirstFault}
 use Rattle.ps_claims.specs.Validity.{query_of, ShowsNothing, ShowsTight}
 
 -- what a claim asserts, and what is to show it: a model of the bounds, that nothing is allowed, or a value on one side of a query
@@ -169,8 +169,8 @@ pub record IsModelRight (p : Parts) (c : Assertion) : Type 0 where
 -- the reason is the first against the dual, if there is one
 abbrev pub IsDualWrong : Parts → Assertion → Reason → Type 0
 IsDualWrong p (Modelled m) r = ⊥
-IsDualWrong p (Excluded given d) r = IsFirstFault p Nothing given 0 None d r
-IsDualWrong p (Bounded kind q value m d) r = IsFirstFault p kind q.given q.both (Some value) d r
+IsDualWrong p (Excluded given d) r = IsFirstFault p (start_for p Nothing given 0 d) None d r
+IsDualWrong p (Bounded kind q value m d) r = IsFirstFault p (start_for p kind q.given q.both d) (Some value) d r
 
 -- the model is there, and this is true of it
 abbrev pub OfModel : Assertion → (Model → Type 0) → Type 0

@@ -5,7 +5,7 @@ use Rattle.ps_rational.specs.Rational.{Rational}
 use Rattle.ps_problem.specs.declared.query.Query.{Query}
 use Rattle.ps_problem.specs.Problems.{Parts, bounds_of}
 use Rattle.ps_steps.specs.declared.refused.StepRefused.{StepRefused as Why}
-use Rattle.ps_steps.specs.Steps.{first_refusal, ends_in_contradiction}
+use Rattle.ps_steps.specs.Steps.{Known, first_refusal, ends_in_contradiction}
 use Rattle.ps_steps.proofs.Onward.{none-lawful}
 use Rattle.ps_claims.specs.Answers.{Model}
 use Rattle.ps_claims.specs.declared.reason.Reason.{Reason}
@@ -22,7 +22,7 @@ use Rattle.ps_stream.specs.Subjects.{without_steps}
 use Rattle.ps_stream.specs.LaterSteps.{stepless, HasDual, HasWeightsNotBelow0, reason_by, steps_find, with_steps_find, IsRightButSteps, IsDecidedByLaterSteps}
 
 -- ---- the dual alone
-module _ (p : Parts) (kind : ClaimKind) (given : Option ℕ) (both : ℕ) (d : Dual) where
+module _ (p : Parts) (known : Known) (d : Dual) where
   abbrev bare : Dual
   bare = without_steps d.top d.head d.rows
 
@@ -35,7 +35,7 @@ module _ (p : Parts) (kind : ClaimKind) (given : Option ℕ) (both : ℕ) (d : D
   head_back (Some x) h = record { top = h.top; ratio = h.ratio }
 
   -- each reason but the want of steps is one against the dual with its steps
-  fault_kept : (value : Option Rational) (r : Reason) → r ≢ NotRefuted → IsFirstFault p kind given both value bare r → IsFirstFault p kind given both value d r
+  fault_kept : (value : Option Rational) (r : Reason) → r ≢ NotRefuted → IsFirstFault p known value bare r → IsFirstFault p known value d r
   fault_kept value HeadWrong other f = λ h. f (head_back value h)
   fault_kept value (MultiplierSign n) other f = (head_kept value f.0, f.1)
   fault_kept value (StepRefused id why) other f = absurd (none-some (id, why) f.2)
@@ -44,16 +44,16 @@ module _ (p : Parts) (kind : ClaimKind) (given : Option ℕ) (both : ℕ) (d : D
 
   -- a reason by the steps, or none where they refute the goal
   abbrev IsFoundBy : Option Rational → Option Reason → Type 0
-  IsFoundBy value None = IsFaultless p kind given both value d
-  IsFoundBy value (Some r) = IsFirstFault p kind given both value d r
+  IsFoundBy value None = IsFaultless p known value d
+  IsFoundBy value (Some r) = IsFirstFault p known value d r
 
   -- where all but the steps is right, the steps decide
-  steps_decide : (value : Option Rational) (o : Option (ℕ × Why)) (b : Bool) → first_refusal (length p.nodes) (start_for p kind given both d) d.steps ≡ o → ends_in_contradiction d.steps ≡ b
+  steps_decide : (value : Option Rational) (o : Option (ℕ × Why)) (b : Bool) → first_refusal (length p.nodes) known d.steps ≡ o → ends_in_contradiction d.steps ≡ b
       → HasHead value d → HaveSigns (bounds_of p) d.rows → IsFoundBy value (reason_by o b)
   steps_decide value (Some refused) b e f head signs = (head, signs, e)
   steps_decide value None true e f head signs =
-      record { head = head; refuted = record { signs = signs; steps = record { lawful = none-lawful (length p.nodes) (start_for p kind given both d) d.steps e; contradiction = f } } }
-  steps_decide value None false e f head signs = (head, signs, none-lawful (length p.nodes) (start_for p kind given both d) d.steps e, f)
+      record { head = head; signs = signs; steps = record { lawful = none-lawful (length p.nodes) known d.steps e; contradiction = f } }
+  steps_decide value None false e f head signs = (head, signs, none-lawful (length p.nodes) known d.steps e, f)
 
 -- ---- that nothing is allowed
 module _ (p : Parts) (given : Option ℕ) (d : Dual) where
@@ -66,8 +66,8 @@ module _ (p : Parts) (given : Option ℕ) (d : Dual) where
   right_bare : HasShape p excluded → IsModelRight p (stepless excluded)
   right_bare shape = record { shape = record { worlds = tt; rows = shape.rows }; few = tt; proper = tt; total = tt; met = tt; evidence = tt; value = tt }
 
-  excluded_by_steps : (found : Option Reason) → IsModelRight p excluded → IsFoundBy p Nothing given 0 d None found → FindsReason p excluded found
-  excluded_by_steps None right h = record { head = h.head; refuted = h.refuted }
+  excluded_by_steps : (found : Option Reason) → IsModelRight p excluded → IsFoundBy p (start_for p Nothing given 0 d) d None found → FindsReason p excluded found
+  excluded_by_steps None right h = record { head = h.head; refuted = record { signs = h.signs; steps = h.steps } }
   excluded_by_steps (Some r) right h = first_of_dual p excluded r right h
 
   excluded_kept : (r : Reason) → r ≢ NotRefuted → IsFirstIn p (stepless excluded) r → IsFirstIn p excluded r
@@ -79,7 +79,7 @@ module _ (p : Parts) (given : Option ℕ) (d : Dual) where
   excluded_kept (BoundMissed n) other f = absurd f.1
   excluded_kept EvidenceZero other f = absurd f.1
   excluded_kept ValueMissed other f = absurd f.1
-  excluded_kept r other f = first_of_dual p excluded r (right_excluded f.0.shape) (fault_kept p Nothing given 0 d None r other f.1)
+  excluded_kept r other f = first_of_dual p excluded r (right_excluded f.0.shape) (fault_kept p (start_for p Nothing given 0 d) d None r other f.1)
 
 -- ---- a value as a bound
 module _ (p : Parts) (kind : ClaimKind) (q : Query) (value : Rational) (m : Model) (d : Dual) where
@@ -98,7 +98,7 @@ module _ (p : Parts) (kind : ClaimKind) (q : Query) (value : Rational) (m : Mode
   right_back : IsModelRight p bounded → IsModelRight p (stepless bounded)
   right_back r = record { shape = shape_back r.shape; few = r.few; proper = r.proper; total = r.total; met = r.met; evidence = r.evidence; value = r.value }
 
-  bounded_by_steps : (found : Option Reason) → All (λ e. pos 0 ≤ℤ e.weight) m.worlds → IsModelRight p bounded → IsFoundBy p kind q.given q.both d (Some value) found → FindsReason p bounded found
+  bounded_by_steps : (found : Option Reason) → All (λ e. pos 0 ≤ℤ e.weight) m.worlds → IsModelRight p bounded → IsFoundBy p (start_for p kind q.given q.both d) d (Some value) found → FindsReason p bounded found
   bounded_by_steps None low right h =
       bounded-valid p kind q value m d low right.shape (record { few = right.few; proper = right.proper; total = right.total; met = right.met }) right.evidence right.value h
   bounded_by_steps (Some r) low right h = first_of_dual p bounded r right h
@@ -112,29 +112,29 @@ module _ (p : Parts) (kind : ClaimKind) (q : Query) (value : Rational) (m : Mode
   bounded_kept (BoundMissed n) other f = (shape_kept f.0, f.1)
   bounded_kept EvidenceZero other f = (shape_kept f.0, f.1, f.2)
   bounded_kept ValueMissed other f = (shape_kept f.0, f.1, f.2, f.3)
-  bounded_kept r other f = first_of_dual p bounded r (right_kept f.0) (fault_kept p kind q.given q.both d (Some value) r other f.1)
+  bounded_kept r other f = first_of_dual p bounded r (right_kept f.0) (fault_kept p (start_for p kind q.given q.both d) d (Some value) r other f.1)
 
 -- ---- each claim with a dual
 right_but_steps : (p : Parts) (c : Assertion) → IsFirstIn p (stepless c) NotRefuted → IsRightButSteps p c
 right_but_steps p (Modelled m) f = absurd f.1
-right_but_steps p (Excluded given d) f = record { model = right_excluded p given d f.0.shape; head = head_kept p Nothing given 0 d None f.1.0; signs = f.1.1 }
+right_but_steps p (Excluded given d) f = record { model = right_excluded p given d f.0.shape; head = head_kept p (start_for p Nothing given 0 d) d None f.1.0; signs = f.1.1 }
 right_but_steps p (Bounded kind q value m d) f =
-    record { model = right_kept p kind q value m d f.0; head = head_kept p kind q.given q.both d (Some value) f.1.0; signs = f.1.1 }
+    record { model = right_kept p kind q value m d f.0; head = head_kept p (start_for p kind q.given q.both d) d (Some value) f.1.0; signs = f.1.1 }
 
 left_open : (p : Parts) (c : Assertion) → HasDual c → IsRightButSteps p c → IsFirstIn p (stepless c) NotRefuted
 left_open p (Modelled m) has r = absurd has
-left_open p (Excluded given d) has r = (right_bare p given d r.model.shape, (head_back p Nothing given 0 d None r.head, r.signs, tt, refl))
-left_open p (Bounded kind q value m d) has r = (right_back p kind q value m d r.model, (head_back p kind q.given q.both d (Some value) r.head, r.signs, tt, refl))
+left_open p (Excluded given d) has r = (right_bare p given d r.model.shape, (head_back p (start_for p Nothing given 0 d) d None r.head, r.signs, tt, refl))
+left_open p (Bounded kind q value m d) has r = (right_back p kind q value m d r.model, (head_back p (start_for p kind q.given q.both d) d (Some value) r.head, r.signs, tt, refl))
 
 -- the steps decide what is left open
 decided : (p : Parts) (c : Assertion) → HasDual c → HasWeightsNotBelow0 c → IsRightButSteps p c → FindsReason p c (steps_find p c)
 decided p (Modelled m) has low r = absurd has
 decided p (Excluded given d) has low r =
     excluded_by_steps p given d (steps_find p (Excluded given d)) r.model
-    (steps_decide p Nothing given 0 d None (first_refusal (length p.nodes) (start_for p Nothing given 0 d) d.steps) (ends_in_contradiction d.steps) refl refl r.head r.signs)
+    (steps_decide p (start_for p Nothing given 0 d) d None (first_refusal (length p.nodes) (start_for p Nothing given 0 d) d.steps) (ends_in_contradiction d.steps) refl refl r.head r.signs)
 decided p (Bounded kind q value m d) has low r =
     bounded_by_steps p kind q value m d (steps_find p (Bounded kind q value m d)) low r.model
-    (steps_decide p kind q.given q.both d (Some value) (first_refusal (length p.nodes) (start_for p kind q.given q.both d) d.steps) (ends_in_contradiction d.steps) refl refl r.head r.signs)
+    (steps_decide p (start_for p kind q.given q.both d) d (Some value) (first_refusal (length p.nodes) (start_for p kind q.given q.both d) d.steps) (ends_in_contradiction d.steps) refl refl r.head r.signs)
 
 -- nothing shows a claim by a dual without steps
 never_shown : (p : Parts) (c : Assertion) → HasDual c → IsValidClaim p (stepless c) → ⊥

@@ -1,5 +1,5 @@
 -- The first reason against a bound of a query, and the claim that it makes.
-use Rattle.std.proofs.Common.{◌≡◌, ◌≢◌, ℤ, pos, ◌≤ℤ◌, ◌*ℤ◌, Option, Some, None, Result, Ok, Err, List, length, All, refl, sym, ap, ◌∙◌}
+use Rattle.std.proofs.Common.{◌≡◌, ◌≢◌, ℤ, pos, ◌≤ℤ◌, ◌*ℤ◌, Option, Some, None, Result, Ok, Err, List, length, All, refl, sym, ap, subst, ◌∙◌}
 use Rattle.std.specs.Prelude.{◌↔◌, IfOk}
 use Rattle.std.proofs.lemmas.List.{length-map}
 use Rattle.ps_meaning.specs.Formula.{Atom}
@@ -13,7 +13,7 @@ use Rattle.ps_answer.specs.declared.answer.Model.{Model}
 use Rattle.ps_certificate.specs.Certificates.{entries, model_of}
 use Rattle.ps_claims.specs.declared.claim_kind.ClaimKind.{ClaimKind}
 use Rattle.ps_claims.specs.Duals.{Dual}
-use Rattle.ps_claims.specs.Faults.{IsFaultless}
+use Rattle.ps_claims.specs.Faults.{start_for, IsFirstFault, IsFaultless}
 use Rattle.ps_claims.specs.Validity.{ShowsTight}
 use Rattle.ps_claims.specs.declared.reason.Reason.{Reason}
 use Rattle.ps_claims.specs.declared.reason.Reason.TheVariants.{WrongShape, EvidenceZero, ValueMissed}
@@ -23,8 +23,10 @@ use Rattle.ps_claims.proofs.Decided.{bounded-valid}
 use Rattle.ps_valid.specs.Judged.{FindsReason}
 use Rattle.ps_valid.specs.declared.truth.Row.{Row}
 use Rattle.ps_valid.specs.Rows.{IsTableOf, node_at, row_entries}
+use Rattle.ps_valid.specs.Aims.{aim_of}
 use Rattle.ps_valid.specs.DualTests.{FindsInDual}
 use Rattle.ps_valid.specs.Tests.{HaveShape, IsFirstAgainst, evidence_weight, GivesValue}
+use Rattle.ps_valid.proofs.DualFaults.{start_is}
 use Rattle.ps_valid.proofs.ModelFaults.{first_in_model}
 use Rattle.ps_valid.proofs.Tables.{weight-node, weight-given, weight-both}
 
@@ -70,16 +72,18 @@ module _ (p : Parts) (kind : ClaimKind) (q : Query) (value : Rational) (m : clai
   model_right : HasShape p claim → IsSound p m → evidence_weight p q m ≢ pos 0 → GivesValue p q value m → IsModelRight p claim
   model_right shape sound some gives = record { shape = shape; few = sound.few; proper = sound.proper; total = sound.total; met = sound.met; evidence = some; value = gives }
 
-  tight : All (λ e. pos 0 ≤ℤ e.weight) m.worlds → IsModelRight p claim → IsFaultless p kind q.given q.both (Some value) d → IsSound p m → ShowsTight p kind q value m d
+  tight : All (λ e. pos 0 ≤ℤ e.weight) m.worlds → IsModelRight p claim → IsFaultless p (start_for p kind q.given q.both d) (Some value) d → IsSound p m → ShowsTight p kind q value m d
   tight low right faultless sound = bounded-valid p kind q value m d low right.shape sound right.evidence right.value faultless
 
   -- what is found against the dual of a bound whose model is right is found against its claim
   pub judged_bound : (found : Option Reason) → All (λ e. pos 0 ≤ℤ e.weight) m.worlds → HaveShape (length p.names) m.worlds → length d.rows ≡ length (bounds_in p.sentences) → IsSound p m
-      → evidence_weight p q m ≢ pos 0 → GivesValue p q value m → FindsInDual p kind q.given q.both (Some value) d found → FindsReason p claim found
-  judged_bound None low worlds rows sound some gives faultless = tight low (model_right (bound_shape worlds rows) sound some gives) faultless sound
-  judged_bound (Some r) low worlds rows sound some gives first = first_of_dual p claim r (model_right (bound_shape worlds rows) sound some gives) first
+      → evidence_weight p q m ≢ pos 0 → GivesValue p q value m → FindsInDual p (aim_of kind q.given q.both) (Some value) d found → FindsReason p claim found
+  judged_bound None low worlds rows sound some gives faultless =
+      tight low (model_right (bound_shape worlds rows) sound some gives) (subst (λ k. IsFaultless p k (Some value) d) (sym (start_is p kind q.given q.both d)) faultless) sound
+  judged_bound (Some r) low worlds rows sound some gives first =
+      first_of_dual p claim r (model_right (bound_shape worlds rows) sound some gives) (subst (λ k. IsFirstFault p k (Some value) d r) (sym (start_is p kind q.given q.both d)) first)
 
   pub bound_found : {E : Type 0} (result : Result (Option Reason) E) → All (λ e. pos 0 ≤ℤ e.weight) m.worlds → HaveShape (length p.names) m.worlds → length d.rows ≡ length (bounds_in p.sentences) → IsSound p m
-      → evidence_weight p q m ≢ pos 0 → GivesValue p q value m → IfOk result (FindsInDual p kind q.given q.both (Some value) d) → IfOk result (FindsReason p claim)
+      → evidence_weight p q m ≢ pos 0 → GivesValue p q value m → IfOk result (FindsInDual p (aim_of kind q.given q.both) (Some value) d) → IfOk result (FindsReason p claim)
   bound_found (Ok found) low worlds rows sound some gives h = judged_bound found low worlds rows sound some gives h
   bound_found (Err e) low worlds rows sound some gives h = tt

@@ -9,13 +9,12 @@ use Rattle.ps_meaning.specs.Bounds.{Bound, MeetsAll}
 use Rattle.ps_problem.specs.Problems.{Parts, bounds_of}
 use Rattle.ps_rational.specs.Rational.{Rational}
 use Rattle.ps_steps.specs.declared.refused.StepRefused.{StepRefused as Why}
-use Rattle.ps_steps.specs.Steps.{first_refusal}
+use Rattle.ps_steps.specs.Steps.{Known, first_refusal}
 use Rattle.ps_steps.proofs.Onward.{lawful-none}
 use Rattle.ps_claims.specs.Answers.{Model, Answer}
-use Rattle.ps_claims.specs.declared.claim_kind.ClaimKind.{ClaimKind}
-use Rattle.ps_claims.specs.declared.claim_kind.ClaimKind.TheVariants.{Nothing}
 use Rattle.ps_claims.specs.Duals.{Dual, HasSign, HaveSigns}
 use Rattle.ps_claims.specs.declared.claim.Claim.{Claim}
+use Rattle.ps_claims.specs.declared.claim_kind.ClaimKind.TheVariants.{Nothing}
 use Rattle.ps_claims.specs.declared.reason.Reason.{Reason}
 use Rattle.ps_claims.specs.declared.reason.Reason.TheVariants.{WrongShape, TooManyWorlds, WeightZero, WorldTwice, TotalWrong, BoundMissed, EvidenceZero, ValueMissed, HeadWrong, MultiplierSign, StepRefused, NotRefuted}
 use Rattle.ps_claims.specs.Faults.{HasHead, IsFirstWrongSign, start_for, IsFirstFault}
@@ -77,9 +76,9 @@ from_some r (Some x) = x
 one_refusal : (o : Option (ℕ × Why)) (x y : ℕ × Why) → o ≡ Some x → o ≡ Some y → x ≡ y
 one_refusal o x y e f = ap (from_some x) (sym e ∙ f)
 
-module _ (p : Parts) (kind : ClaimKind) (given : Option ℕ) (both : ℕ) (value : Option Rational) (d : Dual) where
+module _ (p : Parts) (known : Known) (value : Option Rational) (d : Dual) where
   abbrev refusal : Option (ℕ × Why)
-  refusal = first_refusal (length p.nodes) (start_for p kind given both d) d.steps
+  refusal = first_refusal (length p.nodes) known d.steps
 
   -- the reason is against the steps: one of them isn't lawful, or they don't end in a contradiction
   abbrev AgainstSteps : Reason → Type 0
@@ -95,14 +94,14 @@ module _ (p : Parts) (kind : ClaimKind) (given : Option ℕ) (both : ℕ) (value
   one_against_dual : IsSingle AgainstDual
   one_against_dual = tested _ _ _ (only HeadWrong) (tested _ _ _ (numbered MultiplierSign (IsFirstWrongSign (bounds_of p) d.rows) (one_sign (bounds_of p) d.rows)) one_against_steps)
 
-  against_dual : (r : Reason) → IsFirstFault p kind given both value d r → AgainstDual r
+  against_dual : (r : Reason) → IsFirstFault p known value d r → AgainstDual r
   against_dual HeadWrong a = inl (a, refl)
   against_dual (MultiplierSign n) a = inr (a.0, inl ((λ signs. sign_there (bounds_of p) d.rows a.1.0 signs a.1.3), (n, refl, a.1)))
   against_dual (StepRefused id why) a = inr (a.0, inr (a.1, inl ((λ none. no_refusal refusal (id, why) a.2 none), ((id, why), refl, a.2))))
-  against_dual NotRefuted a = inr (a.0, inr (a.1, inr (lawful-none (length p.nodes) (start_for p kind given both d) d.steps a.2, refl)))
+  against_dual NotRefuted a = inr (a.0, inr (a.1, inr (lawful-none (length p.nodes) known d.steps a.2, refl)))
   against_dual other a = absurd a
 
-  one_dual : IsSingle (IsFirstFault p kind given both value d)
+  one_dual : IsSingle (IsFirstFault p known value d)
   one_dual r s a b = one_against_dual r s (against_dual r a) (against_dual s b)
 
 -- ---- models
@@ -154,7 +153,7 @@ module _ (p : Parts) (c : Assertion) (m : Model) where
 
 -- a claim without a model: the test of its shape, and then those of the dual
 against_excluded : (p : Parts) (given : Option ℕ) (d : Dual) (r : Reason) → IsFirstIn p (Excluded given d) r
-    → Tested (HasShape p (Excluded given d)) (λ s. s ≡ WrongShape) (IsFirstFault p Nothing given 0 None d) r
+    → Tested (HasShape p (Excluded given d)) (λ s. s ≡ WrongShape) (IsFirstFault p (start_for p Nothing given 0 d) None d) r
 against_excluded p given d WrongShape a = inl (a, refl)
 against_excluded p given d HeadWrong a = inr (a.0.shape, a.1)
 against_excluded p given d (MultiplierSign n) a = inr (a.0.shape, a.1)
@@ -166,8 +165,8 @@ against_excluded p given d other a = absurd a.1
 pub one_reason : (p : Parts) (c : Assertion) (r s : Reason) → IsFirstIn p c r → IsFirstIn p c s → r ≡ s
 one_reason p (Modelled m) r s a b = one_claimed p (Modelled m) m refl (λ r s a b. absurd a) r s a b
 one_reason p (Excluded given d) r s a b =
-    tested _ _ _ (only WrongShape) (one_dual p Nothing given 0 None d) r s (against_excluded p given d r a) (against_excluded p given d s b)
-one_reason p (Bounded kind q value m d) r s a b = one_claimed p (Bounded kind q value m d) m refl (one_dual p kind q.given q.both (Some value) d) r s a b
+    tested _ _ _ (only WrongShape) (one_dual p (start_for p Nothing given 0 d) None d) r s (against_excluded p given d r a) (against_excluded p given d s b)
+one_reason p (Bounded kind q value m d) r s a b = one_claimed p (Bounded kind q value m d) m refl (one_dual p (start_for p kind q.given q.both d) (Some value) d) r s a b
 
 -- ---- claims in order
 not_valid : (p : Parts) (o : Option (Claim × Assertion)) (claim : Claim) (r : Reason) → IsSomeAnd o (λ c. (c.0 ≡ claim) × IsFirstIn p c.1 r) → IsSomeAnd o (λ c. ¬ IsValidClaim p c.1)

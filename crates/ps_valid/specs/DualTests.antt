@@ -7,11 +7,11 @@ use Rattle.ps_rational.specs.Rational.{Rational}
 use Rattle.ps_steps.specs.declared.refused.StepRefused as refused
 use Rattle.ps_steps.specs.Steps.{Step, Refutes, AreLawful, ends_in_contradiction, first_refusal}
 use Rattle.ps_pbcheck.specs.Checked.{Checked}
-use Rattle.ps_claims.specs.declared.claim_kind.ClaimKind.{ClaimKind}
 use Rattle.ps_claims.specs.declared.reason.Reason.{Reason}
 use Rattle.ps_claims.specs.declared.reason.Reason.TheVariants.{StepRefused, NotRefuted}
 use Rattle.ps_claims.specs.Duals.{Dual, HasSign}
-use Rattle.ps_claims.specs.Faults.{start_for, IsFaultless, IsFirstFault}
+use Rattle.ps_claims.specs.Faults.{IsFaultless, IsFirstFault}
+use Rattle.ps_valid.specs.Aims.{Aim, start_of}
 
 -- no multiplier of the stored bounds is of the wrong sign
 abbrev pub HaveSignsAt : List Bound → List ℤ → Type 0
@@ -31,22 +31,22 @@ abbrev pub first_refused_by : Checked → List Step → Option (ℕ × refused.S
 first_refused_by c steps = first_refusal c.variables c.known steps
 
 -- the steps of a dual refute its goal
-abbrev pub HasRun : Parts → ClaimKind → Option ℕ → ℕ → Dual → Type 0
-HasRun p kind given both d = Refutes (length p.nodes) (start_for p kind given both d) d.steps
+abbrev pub HasRun : Parts → Aim → Dual → Type 0
+HasRun p aim d = Refutes (length p.nodes) (start_of p aim d) d.steps
 
 -- the reason is the first against the steps
-abbrev pub IsFirstInRun : Parts → ClaimKind → Option ℕ → ℕ → Dual → Reason → Type 0
-IsFirstInRun p kind given both d (StepRefused id why) =
-    first_refusal (length p.nodes) (start_for p kind given both d) d.steps ≡ Some (id, why)
-IsFirstInRun p kind given both d NotRefuted =
-    AreLawful (length p.nodes) (start_for p kind given both d) d.steps × (ends_in_contradiction d.steps ≡ false)
-IsFirstInRun p kind given both d other = ⊥
+abbrev pub IsFirstInRun : Parts → Aim → Dual → Reason → Type 0
+IsFirstInRun p aim d (StepRefused id why) =
+    first_refusal (length p.nodes) (start_of p aim d) d.steps ≡ Some (id, why)
+IsFirstInRun p aim d NotRefuted =
+    AreLawful (length p.nodes) (start_of p aim d) d.steps × (ends_in_contradiction d.steps ≡ false)
+IsFirstInRun p aim d other = ⊥
 
 -- the reason is the first against the steps, and there is none where they refute the goal
-abbrev pub FindsInRun : Parts → ClaimKind → Option ℕ → ℕ → Dual → Option Reason → Type 0
-FindsInRun p kind given both d found = MatchOption found (HasRun p kind given both d) (IsFirstInRun p kind given both d)
+abbrev pub FindsInRun : Parts → Aim → Dual → Option Reason → Type 0
+FindsInRun p aim d found = MatchOption found (HasRun p aim d) (IsFirstInRun p aim d)
 
 -- the reason is the first against the dual, and there is none where nothing is wrong with it
-abbrev pub FindsInDual : Parts → ClaimKind → Option ℕ → ℕ → Option Rational → Dual → Option Reason → Type 0
-FindsInDual p kind given both value d found =
-    MatchOption found (IsFaultless p kind given both value d) (IsFirstFault p kind given both value d)
+abbrev pub FindsInDual : Parts → Aim → Option Rational → Dual → Option Reason → Type 0
+FindsInDual p aim value d found =
+    MatchOption found (IsFaultless p (start_of p aim d) value d) (IsFirstFault p (start_of p aim d) value d)

@@ -1,17 +1,16 @@
 -- What is answered of an answer: that it is accepted, or that it is refused for the first reason against its first
 -- claim at fault.
 use Rattle.std.specs.Prelude.{◌≡◌, List, Option, MatchOption, Result, Ok, Err, length}
-use Rattle.ps_rational.specs.Rational.{Rational}
-use Rattle.ps_problem.specs.declared.query.Query.{Query}
 use Rattle.ps_problem.specs.declared.bound.Bound.{Bound}
 use Rattle.ps_problem.specs.Problems.{Parts, bounds_in}
 use Rattle.ps_answer.specs.declared.answer.Model.{Model}
 use Rattle.ps_answer.specs.declared.answer.Dual.{Dual}
 use Rattle.ps_answer.specs.declared.answer.Answer.{Answer}
 use Rattle.ps_certificate.specs.Certificates.{model_of, dual_of}
-use Rattle.ps_claims.specs.declared.claim_kind.ClaimKind.{ClaimKind}
+use Rattle.ps_claims.specs.Answers as claimed
+use Rattle.ps_claims.specs.Duals as claimed_by
 use Rattle.ps_claims.specs.declared.reason.Reason.{Reason}
-use Rattle.ps_claims.specs.Claims.{Assertion, Bounded, Modelled, IsValidClaim, IsFirstIn, IsRefused, claims_of, unfinished_of}
+use Rattle.ps_claims.specs.Claims.{Assertion, Modelled, IsValidClaim, IsFirstIn, IsRefused, claims_of, unfinished_of}
 use Rattle.ps_claims.specs.Validity.{IsValid}
 use Rattle.ps_valid.specs.declared.refusal.Accepted.{Accepted}
 use Rattle.ps_valid.specs.declared.refusal.CheckError.{CheckError}
@@ -33,10 +32,9 @@ pub record HasBounds (p : Parts) (bounds : List Bound) (q : Parts) : Type 0 wher
 abbrev pub FindsReasonOver : Parts → List Bound → Model → Option Reason → Type 0
 FindsReasonOver p bounds m found = (q : Parts) → HasBounds p bounds q → FindsReason q (Modelled (model_of m)) found
 
--- the reason is the first against the value as a query's bound on this side, by a model and a dual, and there is none
--- where it is tight
-abbrev pub FindsAgainstBound : Parts → ClaimKind → Query → Rational → Model → Dual → Option Reason → Type 0
-FindsAgainstBound p kind q value m d found = FindsReason p (Bounded kind q value (model_of m) (dual_of d)) found
+-- the reason is the first against what is claimed by this model and this dual, and there is none where it is valid
+abbrev pub FindsBy : Parts → (claimed.Model → claimed_by.Dual → Assertion) → Model → Dual → Option Reason → Type 0
+FindsBy p claim m d found = FindsReason p (claim (model_of m) (dual_of d)) found
 
 -- the answer is valid, and its claims and what is open in it are so many
 pub record IsAccepted (p : Parts) (a : Answer) (accepted : Accepted) : Type 0 where

@@ -8,5 +8,6 @@ pub mod Laws
 -- the truth of each node
 pub mod ClaimLists
 pub mod Tests
+pub mod Aims
 pub mod DualTests
 pub mod Rows

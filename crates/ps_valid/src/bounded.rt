@@ -1,8 +1,9 @@
 //! The check of a bound: a value on one side of a query, with its model and its dual.
 ghost use Rattle.std.specs.Prelude.{IfOk};
 ghost use Rattle.ps_problem.specs.Problems.{HasNodes};
+ghost use Rattle.ps_claims.specs.Claims.{Bounded};
 ghost use Rattle.ps_certificate.specs.Certificates.{IsSmallDual};
-ghost use Rattle.ps_valid.specs.Judged.{FindsAgainstBound};
+ghost use Rattle.ps_valid.specs.Judged.{FindsBy};
 ghost use Rattle.ps_valid.specs.Limits.{IsSmallModel};
 
 use crate::meeting::weight_given;
@@ -35,7 +36,7 @@ pub fn check_bound(
     requires model { IsSmallModel model.now }
     requires dual { IsSmallDual dual.now }
     ensures { IfOk result
-        (FindsAgainstBound problem.now kind query.now value.now model.now dual.now) }
+        (FindsBy problem.now (Bounded kind query.now value.now) model.now dual.now) }
 {
     if has_wrong_shape(problem, model) {
         return Ok(Some(Reason::WrongShape));

@@ -4,6 +4,7 @@ ghost use Rattle.ps_problem.specs.Problems.{bounds_in};
 ghost use Rattle.ps_claims.specs.Claims.{Excluded};
 ghost use Rattle.ps_claims.specs.Faults.{HasHead};
 ghost use Rattle.ps_certificate.specs.Certificates.{dual_of, HasQuery, IsSmallDual};
+ghost use Rattle.ps_valid.specs.Aims.{aim_of};
 ghost use Rattle.ps_valid.specs.Judged.{FindsReason};
 ghost use Rattle.ps_valid.specs.DualTests.{FindsInDual, FindsInRun};
 
@@ -43,7 +44,7 @@ fn first_in_run(
     requires both { HasQuery kind → both < length problem.now.nodes }
     requires rows { length dual.now.rows ≡ length (bounds_in problem.now.sentences) }
     requires small { IsSmallDual dual.now }
-    ensures { IfOk result (FindsInRun problem.now kind given both (dual_of dual.now)) }
+    ensures { IfOk result (FindsInRun problem.now (aim_of kind given both) (dual_of dual.now)) }
 {
     let sum = combination(alloc, problem, kind, given, both, dual)?;
     let mut checker = checker_of(alloc, problem, &sum)?;
@@ -72,7 +73,8 @@ pub fn first_in_dual(
     requires both { HasQuery kind → both < length problem.now.nodes }
     requires rows { length dual.now.rows ≡ length (bounds_in problem.now.sentences) }
     requires small { IsSmallDual dual.now }
-    ensures { IfOk result (FindsInDual problem.now kind given both value (dual_of dual.now)) }
+    ensures { IfOk result
+        (FindsInDual problem.now (aim_of kind given both) value (dual_of dual.now)) }
 {
     if !has_head(value, dual) {
         return Ok(Some(Reason::HeadWrong));
