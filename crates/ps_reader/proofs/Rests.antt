@@ -14,7 +14,7 @@ use Rattle.ps_answer.specs.ExpectedParts.{behind, due_behind}
 use Rattle.ps_answer.specs.Faults.{AreLines}
 use Rattle.ps_reader.specs.declared.lines.Lines.{Lines}
 use Rattle.ps_reader.specs.Taken.{Takes, IsStopped, IsValueRead}
-use Rattle.ps_reader.specs.Reports.{IsReadBehind, IsGood}
+use Rattle.ps_reader.specs.Reports.{HasRest, IsReadBehind, IsGood}
 use Rattle.ps_reader.proofs.Taking.{takes_both, stopped_later, stopped_more, stopped_behind}
 use Rattle.ps_reader.proofs.Passing.{Passes}
 
@@ -32,7 +32,7 @@ stopped_after a b ps qs is e t h s = stopped_later a b is (ps ++ qs) qs e t (λ 
 
 -- a first line, and the rest of its value
 pub value_read : {X : Type 0} (items_of : X → List LineItem) (a b c : Lines) (i : LineItem) (p : Part) (parts : List Part) (r : Result X ReportError)
-    → Takes a b (i ∷ []) → ((due : List Part) → behind p i due ≡ Some (parts ++ due)) → IsReadBehind i items_of parts b c r → IsValueRead items_of (p ∷ []) a c r
+    → Takes a b (i ∷ []) → ((due : List Part) → behind p i due ≡ Some (parts ++ due)) → IsReadBehind (HasRest i items_of) parts b c r → IsValueRead items_of (p ∷ []) a c r
 value_read items_of a b c i p parts (Ok x) t h k = subst (λ l. Takes a c l) (sym k.1) (takes_both a b c (i ∷ []) k.0 t k.2)
 value_read items_of a b c i p parts (Err e) t h k = stopped_behind a b i p parts e t h k
 

@@ -14,11 +14,14 @@ use Rattle.ps_answer.specs.Answers.{side_items, query_items, part_items, IsSideC
 use Rattle.ps_reader.specs.declared.lines.Lines.{Lines}
 use Rattle.ps_reader.specs.Taken.{Takes, IsStopped, IsValueRead, repeated}
 
--- a value is read whose first line says this and whose other parts are these, or one of them is at fault
-abbrev pub IsReadBehind : {X : Type 0} → LineItem → (X → List LineItem) → List Part → Lines → Lines
-    → Result X ReportError → Type 0
-IsReadBehind i items_of parts old new (Ok x) = (more : List LineItem) × (items_of x ≡ i ∷ more) × Takes old new more
-IsReadBehind i items_of parts old new (Err e) = IsStopped old parts e
+-- the first line of a value says this, and these are its other lines
+abbrev pub HasRest : {X : Type 0} → LineItem → (X → List LineItem) → X → List LineItem → Type 0
+HasRest i items_of x more = items_of x ≡ i ∷ more
+
+-- the rest of a value is read, whose parts are these, or one of them is at fault
+abbrev pub IsReadBehind : {X : Type 0} → (X → List LineItem → Type 0) → List Part → Lines → Lines → Result X ReportError → Type 0
+IsReadBehind IsRest parts old new (Ok x) = (more : List LineItem) × IsRest x more × Takes old new more
+IsReadBehind IsRest parts old new (Err e) = IsStopped old parts e
 
 -- the parts behind the first line of a verdict, a cause, a side or a query's answer
 abbrev pub parts_behind : LineItem → List Part
@@ -33,7 +36,7 @@ parts_behind i = []
 
 -- the rest of a value is read, whose first line says this
 abbrev pub IsRestRead : {X : Type 0} → LineItem → (X → List LineItem) → Lines → Lines → Result X ReportError → Type 0
-IsRestRead i items_of old new result = IsReadBehind i items_of (parts_behind i) old new result
+IsRestRead i items_of old new result = IsReadBehind (HasRest i items_of) (parts_behind i) old new result
 
 -- a line that says what may be said, within the limits
 pub record IsGood (i : LineItem) : Type 0 where
@@ -62,7 +65,7 @@ query_part_items p = query_items p.answer p.first
 
 -- the rest of an open answer is read, whose cause begins so: the parts of the cause, and a trace
 abbrev pub IsOpenRest : LineItem → Lines → Lines → Result QueryPart ReportError → Type 0
-IsOpenRest i old new result = IsReadBehind i query_part_items (parts_behind i ++ ATrace ∷ []) old new result
+IsOpenRest i old new result = IsReadBehind (HasRest i query_part_items) (parts_behind i ++ ATrace ∷ []) old new result
 
 -- an answer to a query that is open for conflicts has as many steps as their limit, and so has each side that is
 abbrev pub IsPartTold : QueryPart → Type 0
