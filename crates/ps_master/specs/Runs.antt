@@ -159,8 +159,8 @@ IsValidSide kind p q (side.Open cause) = Unit {0}
 pub record IsSideAnswerOf (kind : ClaimKind) (old new : RunState) (answer : SideAnswer) : Type 0 where
   pub events : List Event
   pub traced : HasTraced old new events
-  pub lawful : IsLawfulSide (program_of kind old.over.subject) old.over.limits (stage_of old)
-      old.left (stage_of new) new.left (kept_side old.over.flags answer) events
+  pub lawful : IsLawfulSide (program_of kind old.over.subject) old.over.limits (stage_of old, old.left)
+      (stage_of new, new.left) (kept_side old.over.flags answer, events)
   pub valid : (q : Query) → old.over.subject.query ≡ Some q
       → IsValidSide kind old.over.subject.parts q (kept_side old.over.flags answer)
   pub whole : IsWholeSide kind old.over answer

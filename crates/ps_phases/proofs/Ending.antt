@@ -53,7 +53,7 @@ module _ (p : Program) (limits : Limits) (from : Stage) (pool : List World) (t :
 
 module _ (p : Program) (limits : Limits) (from : Stage) (had : ℕ) (pool : List World) (t : Tableau) (trace : List Event) (left : ℕ)
     (way : IsUnderWay p limits.conflicts from had [] (standing pool t trace left)) where
-  pub side_ended : (answer : SideAnswer) → IsSideAt p limits (stage_at pool t) left None answer → IsLawfulSide p limits from had (stage_at pool t) left answer trace
+  pub side_ended : (answer : SideAnswer) → IsSideAt p limits (stage_at pool t) left None answer → IsLawfulSide p limits (from, had) (stage_at pool t, left) (answer, trace)
   side_ended answer answered = record {
     pending = None;
     leads = entire from (stage_at pool t) trace (subst (λ es. LeadsTo p limits.conflicts from es (stage_at pool t)) (sym way.appended) way.leads);
@@ -62,7 +62,7 @@ module _ (p : Program) (limits : Limits) (from : Stage) (had : ℕ) (pool : List
   }
 
   pub side_pending : (w : World) (at : WideAt) → IsPricedBy p limits.conflicts (stage_at pool t) (entry_at t) w → IsColumnTooWide p.frame (stage_at pool t) w at
-      → IsLawfulSide p limits from had (stage_at pool t) left (side.Open (Wide at)) (trace ++ Priced w ∷ [])
+      → IsLawfulSide p limits (from, had) (stage_at pool t, left) (side.Open (Wide at), trace ++ Priced w ∷ [])
   side_pending w at is wide =
       let longer : way.events ++ Priced w ∷ [] ≡ trace ++ Priced w ∷ [] = ap (λ es. es ++ Priced w ∷ []) (sym way.appended) in
       record {

@@ -1,5 +1,5 @@
 -- No lawful run reaches a limit that is enough.
-use Rattle.std.proofs.Common.{◌≡◌, ℕ, ◌-◌, ◌<◌, Option, Some, None, List, [], ◌∷◌, ◌++◌, length, sym, refl, subst, arith, All}
+use Rattle.std.proofs.Common.{◌+◌, ◌≡◌, ℕ, ◌-◌, ◌<◌, Option, Some, None, List, [], ◌∷◌, ◌++◌, length, sym, refl, subst, arith, All}
 use Rattle.std.proofs.lemmas.List.Elements.{All-nil, All-cons}
 use Rattle.ps_rational.specs.Rational.{Rational}
 use Rattle.ps_meaning.specs.Formula.{World}
@@ -76,7 +76,7 @@ side_otherwise : (kind : ClaimKind) (s : Subject) (limits : Limits) (left : ℕ)
 side_otherwise kind s limits left g world (side.Bound value m d) some h = tt
 side_otherwise kind s limits left g world (side.Open cause) some h = other_cause kind s limits left g world cause some h
 
-module _ (s : Subject) (limits : Limits) (first lower_events upper_events : List Event) (lower upper : SideAnswer) (enough : IsEnough s limits.pivots) (h : AreLawfulBounds s limits first lower lower_events upper upper_events) where
+module _ (s : Subject) (limits : Limits) (first lower_events upper_events : List Event) (lower upper : SideAnswer) (enough : IsEnough s limits.pivots) (h : AreLawfulBounds s limits first (lower, lower_events) (upper, upper_events)) where
   after_one : Reached Nothing s h.after_first (pivots_in first)
   after_one = leads Nothing s limits.conflicts h.start h.after_first first (first_reached s h.start h.starts) h.leads
 
@@ -109,7 +109,7 @@ module _ (s : Subject) (limits : Limits) (first lower_events upper_events : List
   lower_enough : IsSideNotForPivots lower
   lower_enough =
       let a = h.counted in
-      let b = h.least.counted in
+      let b : h.left_lower + pivots_in lower_events ≡ h.left_first = h.least.counted in
       let c = few_first in
       let d = few_lower in
       side_otherwise Lower s limits h.left_lower h.after_lower h.least.pending lower (λ left. absurd (omega (arith, enough, left, a, b, c, d))) h.least.answered
@@ -117,8 +117,8 @@ module _ (s : Subject) (limits : Limits) (first lower_events upper_events : List
   upper_enough : IsSideNotForPivots upper
   upper_enough =
       let a = h.counted in
-      let b = h.least.counted in
-      let c = h.greatest.counted in
+      let b : h.left_lower + pivots_in lower_events ≡ h.left_first = h.least.counted in
+      let c : h.left + pivots_in upper_events ≡ h.left_lower = h.greatest.counted in
       let d = few_first in
       let f = few_lower in
       let g = few_upper in

@@ -171,12 +171,12 @@ pub record SidesEndLawfully : Type 0 where
   pub ended : (p : Program) (limits : Limits) (from : Stage) (had : ℕ) (pool : List World) (t : Tableau)
       (trace : List Event) (left : ℕ) → IsUnderWay p limits.conflicts from had [] (standing pool t trace left)
       → (answer : SideAnswer) → IsSideAt p limits (stage_at pool t) left None answer
-      → IsLawfulSide p limits from had (stage_at pool t) left answer trace
+      → IsLawfulSide p limits (from, had) (stage_at pool t, left) (answer, trace)
   pub pending : (p : Program) (limits : Limits) (from : Stage) (had : ℕ) (pool : List World) (t : Tableau)
       (trace : List Event) (left : ℕ) → IsUnderWay p limits.conflicts from had [] (standing pool t trace left)
       → (w : World) (at : WideAt) → IsPricedBy p limits.conflicts (stage_at pool t) (entry_at t) w
       → IsColumnTooWide p.frame (stage_at pool t) w at
-      → IsLawfulSide p limits from had (stage_at pool t) left (side.Open (Wide at)) (trace ++ Priced w ∷ [])
+      → IsLawfulSide p limits (from, had) (stage_at pool t, left) (side.Open (Wide at), trace ++ Priced w ∷ [])
 
 -- the costs over a pool with one world more are those over the pool, and behind them the world's
 abbrev pub CostsGrow : Type 0

@@ -51,17 +51,18 @@ IsSideAt p limits g left pending (side.Bound value m d) =
     (pending ≡ None) × IsModelAt p.frame g (model_of m) × IsDualAt p g (dual_of d) × HasValueHead value (dual_of d)
 IsSideAt p limits g left pending (side.Open cause) = IsLicensed p limits g left pending cause
 
--- the events of a side lead from one stage, with so many pivots left, to another where this is its answer
-pub record IsLawfulSide (p : Program) (limits : Limits) (a : Stage) (had : ℕ) (b : Stage) (left : ℕ)
-    (answer : SideAnswer) (events : List Event) : Type 0 where
+-- the events of a side lead from one stage, with so many pivots left, to another where this is its answer: a stage goes with
+-- the pivots that are left there, and the answer with its events
+pub record IsLawfulSide (p : Program) (limits : Limits) (from to : Stage × ℕ) (a : SideAnswer × List Event) : Type 0 where
   pub pending : Option World
-  pub leads : LeadsToPending p limits.conflicts a events pending b
-  pub counted : left + pivots_in events ≡ had
-  pub answered : IsSideAt p limits b left pending answer
+  pub leads : LeadsToPending p limits.conflicts from.0 a.1 pending to.0
+  pub counted : to.1 + pivots_in a.1 ≡ from.1
+  pub answered : IsSideAt p limits to.0 to.1 pending a.0
 
--- phase one is over at a feasible table, and both sides go on from there, the upper one from where the lower one ended
-pub record AreLawfulBounds (s : Subject) (limits : Limits) (first : List Event) (lower : SideAnswer)
-    (lower_events : List Event) (upper : SideAnswer) (upper_events : List Event) : Type 0 where
+-- phase one is over at a feasible table, and both sides, each with its events, go on from there, the upper one from where the
+-- lower one ended
+pub record AreLawfulBounds (s : Subject) (limits : Limits) (first : List Event) (lower upper : SideAnswer × List Event)
+    : Type 0 where
   pub start : Stage
   pub starts : IsStart (frame_of s) start
   pub after_first : Stage
@@ -72,15 +73,15 @@ pub record AreLawfulBounds (s : Subject) (limits : Limits) (first : List Event) 
   pub feasible : IsFeasibleAt (frame_of s) after_first table
   pub after_lower : Stage
   pub left_lower : ℕ
-  pub least : IsLawfulSide (program_of Lower s) limits after_first left_first after_lower left_lower lower lower_events
+  pub least : IsLawfulSide (program_of Lower s) limits (after_first, left_first) (after_lower, left_lower) lower
   pub end : Stage
   pub left : ℕ
-  pub greatest : IsLawfulSide (program_of Upper s) limits after_lower left_lower end left upper upper_events
+  pub greatest : IsLawfulSide (program_of Upper s) limits (after_lower, left_lower) (end, left) upper
 
 -- what is answered to a query is what its run leads to; where it is open or impossible, phase one says so
 abbrev pub IsLawfulAnswerTo : Subject → Limits → List Event → QueryAnswer → Type 0
 IsLawfulAnswerTo s limits first (query.Bounds lower lower_events upper upper_events) =
-    AreLawfulBounds s limits first lower lower_events upper upper_events
+    AreLawfulBounds s limits first (lower, lower_events) (upper, upper_events)
 IsLawfulAnswerTo s limits first (query.Impossible d) = IsLawfulPhaseOne (program_of Nothing s) limits (Inconsistent d) first
 IsLawfulAnswerTo s limits first (query.Open cause) = IsLawfulPhaseOne (program_of Nothing s) limits (Open cause) first
 

@@ -64,7 +64,7 @@ module _ (r low mid up : RunState) (lower upper : SideAnswer) (none : r.trace �
 
   -- an upper side from a run in which so much is left, over this
   abbrev Greatest : RunState → LimitedSubject → List Event → Type 0
-  Greatest from over events = IsLawfulSide (program_of Upper over.subject) over.limits (stage_of from) from.left (stage_of up) up.left (kept_side over.flags upper) events
+  Greatest from over events = IsLawfulSide (program_of Upper over.subject) over.limits (stage_of from, from.left) (stage_of up, up.left) (kept_side over.flags upper, events)
 
   greatest : Greatest low r.over up.trace
   greatest =
@@ -76,7 +76,7 @@ module _ (r low mid up : RunState) (lower upper : SideAnswer) (none : r.trace �
     after_lower = stage_of low;
     left_lower = low.left;
     least =
-        subst (λ es. IsLawfulSide (program_of Lower r.over.subject) r.over.limits (stage_of r) r.left (stage_of low) low.left (kept_side r.over.flags lower) es) (sym lower_events) below.lawful;
+        subst (λ es. IsLawfulSide (program_of Lower r.over.subject) r.over.limits (stage_of r, r.left) (stage_of low, low.left) (kept_side r.over.flags lower, es)) (sym lower_events) below.lawful;
     end = stage_of up;
     left = up.left;
     greatest = greatest;
@@ -151,7 +151,7 @@ module _ (limits : Limits) (p : Parts) (q : Query) (new done : RunState) (is_new
     upper_is h = side_whole Upper done.over upper all_done h.whole_upper
 
     lawful_bounds : AreSidesOf (taken_from done) lower lower_events upper upper_events
-        → AreLawfulBounds new.over.subject new.over.limits of.events lower lower_events upper upper_events
+        → AreLawfulBounds new.over.subject new.over.limits of.events (lower, lower_events) (upper, upper_events)
     lawful_bounds h = record {
       start = stage_of new;
       starts = is_new.start.start;
@@ -163,12 +163,12 @@ module _ (limits : Limits) (p : Parts) (q : Query) (new done : RunState) (is_new
       feasible = of.goes_on.feasible;
       after_lower = h.after_lower;
       left_lower = h.left_lower;
-      least = subst (λ (o : LimitedSubject). IsLawfulSide (program_of Lower o.subject) o.limits (stage_of done) done.left h.after_lower h.left_lower lower lower_events) of.traced.over
-          (subst (λ (a : SideAnswer). IsLawfulSide (program_of Lower done.over.subject) done.over.limits (stage_of done) done.left h.after_lower h.left_lower a lower_events) (lower_is h) h.least);
+      least = subst (λ (o : LimitedSubject). IsLawfulSide (program_of Lower o.subject) o.limits (stage_of done, done.left) (h.after_lower, h.left_lower) (lower, lower_events)) of.traced.over
+          (subst (λ (a : SideAnswer). IsLawfulSide (program_of Lower done.over.subject) done.over.limits (stage_of done, done.left) (h.after_lower, h.left_lower) (a, lower_events)) (lower_is h) h.least);
       end = h.end;
       left = h.left;
-      greatest = subst (λ (o : LimitedSubject). IsLawfulSide (program_of Upper o.subject) o.limits h.after_lower h.left_lower h.end h.left upper upper_events) of.traced.over
-          (subst (λ (a : SideAnswer). IsLawfulSide (program_of Upper done.over.subject) done.over.limits h.after_lower h.left_lower h.end h.left a upper_events) (upper_is h) h.greatest);
+      greatest = subst (λ (o : LimitedSubject). IsLawfulSide (program_of Upper o.subject) o.limits (h.after_lower, h.left_lower) (h.end, h.left) (upper, upper_events)) of.traced.over
+          (subst (λ (a : SideAnswer). IsLawfulSide (program_of Upper done.over.subject) done.over.limits (h.after_lower, h.left_lower) (h.end, h.left) (a, upper_events)) (upper_is h) h.greatest);
     }
 
     pub part_bounds : AreSidesOf on lower lower_events upper upper_events → IsPrintedPart (query.Bounds lower lower_events upper upper_events)
@@ -179,8 +179,8 @@ module _ (limits : Limits) (p : Parts) (q : Query) (new done : RunState) (is_new
         let asked : done.over.subject.query ≡ Some q = ap (λ (o : LimitedSubject). o.subject.query) over_done in
         record {
           lawful =
-              subst (λ es. AreLawfulBounds (subject_of p q) limits es lower lower_events upper upper_events) (sym events)
-              (subst (λ (o : LimitedSubject). AreLawfulBounds o.subject o.limits of.events lower lower_events upper upper_events) over_is (lawful_bounds h));
+              subst (λ es. AreLawfulBounds (subject_of p q) limits es (lower, lower_events) (upper, upper_events)) (sym events)
+              (subst (λ (o : LimitedSubject). AreLawfulBounds o.subject o.limits of.events (lower, lower_events) (upper, upper_events)) over_is (lawful_bounds h));
           valid = (
             valid_side Lower p q lower (subst (λ (o : LimitedSubject). IsValidSide Lower o.subject.parts q lower) over_done
                 (subst (λ (a : SideAnswer). IsValidSide Lower done.over.subject.parts q a) (lower_is h) (h.valid_lower q asked))),

@@ -35,12 +35,12 @@ pub record AreSidesOf (r : RunState) (lower : SideAnswer) (lower_events : List E
     (upper_events : List Event) : Type 0 where
   pub after_lower : Stage
   pub left_lower : ℕ
-  pub least : IsLawfulSide (program_of Lower r.over.subject) r.over.limits (stage_of r) r.left
-      after_lower left_lower (kept_side r.over.flags lower) lower_events
+  pub least : IsLawfulSide (program_of Lower r.over.subject) r.over.limits (stage_of r, r.left)
+      (after_lower, left_lower) (kept_side r.over.flags lower, lower_events)
   pub end : Stage
   pub left : ℕ
-  pub greatest : IsLawfulSide (program_of Upper r.over.subject) r.over.limits after_lower left_lower
-      end left (kept_side r.over.flags upper) upper_events
+  pub greatest : IsLawfulSide (program_of Upper r.over.subject) r.over.limits (after_lower, left_lower)
+      (end, left) (kept_side r.over.flags upper, upper_events)
   pub valid_lower : (q : Query) → r.over.subject.query ≡ Some q
       → IsValidSide Lower r.over.subject.parts q (kept_side r.over.flags lower)
   pub valid_upper : (q : Query) → r.over.subject.query ≡ Some q

@@ -123,7 +123,7 @@ module _ (p : Parts) (limits : Limits) (within : AreLimits p limits) (Q : LineIt
     )
 
     -- both sides
-    module _ (first : List Event) (lower : SideAnswer) (lower_trace : List Event) (upper : SideAnswer) (upper_trace : List Event) (h : AreLawfulBounds s limits first lower lower_trace upper upper_trace) where
+    module _ (first : List Event) (lower : SideAnswer) (lower_trace : List Event) (upper : SideAnswer) (upper_trace : List Event) (h : AreLawfulBounds s limits first (lower, lower_trace) (upper, upper_trace)) where
       first_come : HasCome Nothing s limits.conflicts h.start first h.after_first
       first_come = has_come Nothing s limits.conflicts h.start h.after_first first (start_table s h.start h.starts) h.leads
 
@@ -155,8 +155,8 @@ module _ (p : Parts) (limits : Limits) (within : AreLimits p limits) (Q : LineIt
           let pool = upper_come.pool in
           let few = lower_few in
           let a = h.counted in
-          let b = h.least.counted in
-          let c = h.greatest.counted in
+          let b : h.left_lower + pivots_in lower_trace ≡ h.left_first = h.least.counted in
+          let c : h.left + pivots_in upper_trace ≡ h.left_lower = h.greatest.counted in
           omega (arith, pool, few, a, b, c)
 
       first_fit : AllByRecursion Q (trace_items first)
@@ -170,15 +170,15 @@ module _ (p : Parts) (limits : Limits) (within : AreLimits p limits) (Q : LineIt
       lower_fit =
           let few = first_few in
           let a = h.counted in
-          let b = h.least.counted in
+          let b : h.left_lower + pivots_in lower_trace ≡ h.left_first = h.least.counted in
           trace_fit p (Some q) limits within Q AnyOpen lines lower_trace (length h.after_first.pool + pivots_in lower_trace) (omega (arith, a, b)) lower_come.few (omega (arith, few, a, b)) lower_come.under
 
       upper_fit : AllByRecursion Q (trace_items upper_trace)
       upper_fit =
           let few = lower_few in
           let a = h.counted in
-          let b = h.least.counted in
-          let c = h.greatest.counted in
+          let b : h.left_lower + pivots_in lower_trace ≡ h.left_first = h.least.counted in
+          let c : h.left + pivots_in upper_trace ≡ h.left_lower = h.greatest.counted in
           trace_fit p (Some q) limits within Q AnyOpen lines upper_trace (length h.after_lower.pool + pivots_in upper_trace) (omega (arith, a, b, c)) upper_come.few (omega (arith, few, a, b, c)) upper_come.under
 
       -- the run's sides, where they are to be shown
@@ -186,7 +186,7 @@ module _ (p : Parts) (limits : Limits) (within : AreLimits p limits) (Q : LineIt
       lower_side upper valid printed if_open =
           let few = lower_few in
           let a = h.counted in
-          let b = h.least.counted in
+          let b : h.left_lower + pivots_in lower_trace ≡ h.left_first = h.least.counted in
           side_fit upper Lower h.after_lower h.left_lower h.least.pending lower lower_trace h.least.answered valid printed (omega (arith, few, a, b)) if_open lower_fit
 
       upper_side : (is_upper : Bool) → IsValidSide p Upper q (side_of upper) → IsPrintedSide upper → (0 < open_in_side (side_of upper) → AnyOpen) → AllByRecursion Q (side_items is_upper upper upper_trace)

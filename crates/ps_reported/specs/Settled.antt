@@ -56,19 +56,19 @@ IsLeftBy (query.Open cause) kind a events = (a ≡ side.Open cause) × (events �
 abbrev pub IsBesideRun : QueryAnswer → ClaimKind → SideAnswer → List Event → Type 0
 IsBesideRun run kind a events = IsCertifiedSide a events ⊎ IsLeftBy run kind a events
 
--- both sides of a query beside a lawful run of it, with the events of the run's phase one
-pub record AreBesideRun (s : Subject) (limits : Limits) (first : List Event) (lower : SideAnswer)
-    (lower_events : List Event) (upper : SideAnswer) (upper_events : List Event) : Type 0 where
+-- both sides of a query, each with its events, beside a lawful run of it, with the events of the run's phase one
+pub record AreBesideRun (s : Subject) (limits : Limits) (first : List Event) (lower upper : SideAnswer × List Event)
+    : Type 0 where
   pub run : QueryAnswer
   pub lawful : IsLawfulAnswerTo s limits first run
-  pub below : IsBesideRun run Lower lower lower_events
-  pub above : IsBesideRun run Upper upper upper_events
+  pub below : IsBesideRun run Lower lower.0 lower.1
+  pub above : IsBesideRun run Upper upper.0 upper.1
 
 -- an answer to a query that comes of a lawful run: that of the run, with a certified side in place of the run's, or
 -- beside one that the run leaves open
 abbrev pub IsOfRun : Subject → Limits → List Event → QueryAnswer → Type 0
 IsOfRun s limits first (query.Bounds lower lower_events upper upper_events) =
-    AreBesideRun s limits first lower lower_events upper upper_events
+    AreBesideRun s limits first (lower, lower_events) (upper, upper_events)
 IsOfRun s limits first (query.Impossible d) = IsLawfulPhaseOne (program_of Nothing s) limits (Inconsistent d) first
 IsOfRun s limits first (query.Open cause) = IsLawfulPhaseOne (program_of Nothing s) limits (Open cause) first
 
