@@ -24,7 +24,7 @@ use Rattle.ps_runs.specs.Programs.{RefutesGain}
 use Rattle.ps_runs.specs.Rows.{phase_of, IsTable}
 use Rattle.ps_runs.specs.Certificates.{HaveSameNumbers, table_model}
 use Rattle.ps_runs.specs.Subjects.{Subject, subject_of, setting_of, given_in, both_in, atoms_of, frame_of, program_of}
-use Rattle.ps_runs.specs.Runs.{IsPool, Stage, table_at, costs_at, dual_at, AreAtMost, IsRestingAt}
+use Rattle.ps_runs.specs.Runs.{IsPool, Stage, table_at, dual_at, AreAtMost, IsRestingAt}
 use Rattle.ps_runs.proofs.Combination.{multiple_positive, signed-length}
 use Rattle.ps_runs.proofs.Certified.{refuted_at_rest}
 use Rattle.ps_runs.proofs.Tight.{tight_at_end}
@@ -50,8 +50,8 @@ due_at_rest Upper s g X apart rests none = (rests, none)
 -- the top of a side's dual is at least 1
 top_above : (kind : ClaimKind) (s : Subject) (g : Stage) (X : ℕ → ℕ → Rational) → kind ≢ Nothing → pos 1 ≤ℤ (dual_at (program_of kind s) g X).top
 top_above Nothing s g X apart = absurd (apart refl)
-top_above Lower s g X apart = let h = multiple_positive (table_at (frame_of s) g X) (costs_at (program_of Lower s) g) in omega (arith, ints, h)
-top_above Upper s g X apart = let h = multiple_positive (table_at (frame_of s) g X) (costs_at (program_of Upper s) g) in omega (arith, ints, h)
+top_above Lower s g X apart = let h = multiple_positive (table_at (frame_of s) g X) ((program_of Lower s).cost g.pool) in omega (arith, ints, h)
+top_above Upper s g X apart = let h = multiple_positive (table_at (frame_of s) g X) ((program_of Upper s).cost g.pool) in omega (arith, ints, h)
 
 top_at_least : (kind : ClaimKind) (s : Subject) (g : Stage) (X : ℕ → ℕ → Rational) (d : Dual) → kind ≢ Nothing → IsDualEnd (program_of kind s) g X d → pos 1 ≤ℤ d.top
 top_at_least kind s g X d apart end = subst (λ z. pos 1 ≤ℤ z) (sym end.numbers.top) (top_above kind s g X apart)
@@ -67,7 +67,7 @@ record ShowsAtEnd (kind : ClaimKind) (g : Stage) (X : ℕ → ℕ → Rational) 
   table : IsTable (setting_of s) g.pool g.basis X
   feasible : IsFeasible (table_at (frame_of s) g X)
   pooled : IsPool (atoms_of s) g.pool
-  resting : IsResting (phase_of kind) (table_at (frame_of s) g X) (costs_at (program_of kind s) g)
+  resting : IsResting (phase_of kind) (table_at (frame_of s) g X) ((program_of kind s).cost g.pool)
   steps : RefutesGain (program_of kind s) (dual_at (program_of kind s) g X) d.steps
 
 tight_so : (kind : ClaimKind) (p : Parts) (q : stored.Query) (g : Stage) (X : ℕ → ℕ → Rational) (value : Rational) (d : claims.Dual) → kind ≢ Nothing

@@ -17,7 +17,7 @@ use Rattle.ps_claims.specs.declared.claim_kind.ClaimKind.{ClaimKind}
 use Rattle.ps_claims.specs.declared.claim_kind.ClaimKind.TheVariants.{Nothing}
 use Rattle.ps_runs.specs.Rows.{phase_of, rows_of, columns_of, entries_of}
 use Rattle.ps_runs.specs.Subjects.{Subject, setting_of, frame_of, program_of}
-use Rattle.ps_runs.specs.Runs.{Stage, table_at, costs_at, BelongsTo, IsMovingAt, IsRestingAt, IsFeasibleAt}
+use Rattle.ps_runs.specs.Runs.{Stage, table_at, BelongsTo, IsMovingAt, IsRestingAt, IsFeasibleAt}
 use Rattle.ps_phases.specs.Tables.{costs_for, IsRunTable, stage_at}
 use Rattle.ps_phases.specs.Licences.{DueAt, for_pivots, for_multiplier, for_dual, for_model, IsModelDue, IsTooWide, IsColumnTooWide}
 use Rattle.ps_phases.proofs.Shapes.{rows_are, same_table, stands_there}
@@ -47,14 +47,14 @@ module _ (s : Subject) (pool : List World) (t : Tableau) (run : IsRunTable (fram
   pub resting_there : (kind : ClaimKind) → IsResting (phase_of kind) (simplex_of t) (cost_at (costs_for kind (setting_of s) pool)) → IsRestingAt (program_of kind s) g X
   resting_there kind rest = record {
     belongs = belongs_there;
-    resting = subst (λ x. IsResting (phase_of kind) x (costs_at (program_of kind s) g)) table_same rest;
+    resting = subst (λ x. IsResting (phase_of kind) x ((program_of kind s).cost g.pool)) table_same rest;
   }
 
   pub moving_there : (kind : ClaimKind) → IsMoving (phase_of kind) (simplex_of t) (cost_at (costs_for kind (setting_of s) pool)) → IsMovingAt (program_of kind s) g
   moving_there kind moving = record {
     table = X;
     belongs = belongs_there;
-    moving = subst (λ x. IsMoving (phase_of kind) x (costs_at (program_of kind s) g)) table_same moving;
+    moving = subst (λ x. IsMoving (phase_of kind) x ((program_of kind s).cost g.pool)) table_same moving;
   }
 
   too_wide : (kind : ClaimKind) (left : ℕ) (w : WideAt) → IsWideAt (DueAt (program_of kind s) g left X) w → IsTooWide (program_of kind s) g left w
@@ -63,11 +63,11 @@ module _ (s : Subject) (pool : List World) (t : Tableau) (run : IsRunTable (fram
   -- a refusal of `settle`
   pub settling_due : (kind : ClaimKind) (left : ℕ) (w : WideAt) → IsDueWide (phase_of kind) (costs_for kind (setting_of s) pool) t left w → IsTooWide (program_of kind s) g left w
   settling_due kind left w due =
-      let wide : IsWideAt (DuePlace (phase_of kind) (simplex_of t) t.worlds left (costs_at (program_of kind s) g)) w = due_there (phase_of kind) (costs_for kind (setting_of s) pool) t left w due in
-      let by_worlds = subst (λ k. IsWideAt (DuePlace (phase_of kind) (simplex_of t) k left (costs_at (program_of kind s) g)) w) run.worlds wide in
-      let by_table = subst (λ x. IsWideAt (DuePlace (phase_of kind) x (length pool) left (costs_at (program_of kind s) g)) w) table_same by_worlds in
+      let wide : IsWideAt (DuePlace (phase_of kind) (simplex_of t) t.worlds left ((program_of kind s).cost g.pool)) w = due_there (phase_of kind) (costs_for kind (setting_of s) pool) t left w due in
+      let by_worlds = subst (λ k. IsWideAt (DuePlace (phase_of kind) (simplex_of t) k left ((program_of kind s).cost g.pool)) w) run.worlds wide in
+      let by_table = subst (λ x. IsWideAt (DuePlace (phase_of kind) x (length pool) left ((program_of kind s).cost g.pool)) w) table_same by_worlds in
       too_wide kind left w
-      (wide_as (DuePlace (phase_of kind) (table_at (frame_of s) g X) (length pool) left (costs_at (program_of kind s) g)) (DueAt (program_of kind s) g left X) w for_pivots by_table)
+      (wide_as (DuePlace (phase_of kind) (table_at (frame_of s) g X) (length pool) left ((program_of kind s).cost g.pool)) (DueAt (program_of kind s) g left X) w for_pivots by_table)
 
   -- a refusal of the multiplier of a row
   pub multiplier_due : (kind : ClaimKind) (left i : ℕ) (w : WideAt) → IsRestingAt (program_of kind s) g X → i < table_rows t
@@ -75,16 +75,16 @@ module _ (s : Subject) (pool : List World) (t : Tableau) (run : IsRunTable (fram
   multiplier_due kind left i w rest l wide =
       let low : i < rows_of (setting_of s) = subst (λ n. i < n) rows_same l in
       too_wide kind left w
-      (wide_as (CostPlace (rows_of (setting_of s)) (costs_at (program_of kind s) g) (basic_at t) X (Home i)) (DueAt (program_of kind s) g left X) w (λ o at. for_multiplier i o rest low at)
-      (subst (λ n. IsWideAt (CostPlace n (costs_at (program_of kind s) g) (basic_at t) X (Home i)) w) rows_same wide))
+      (wide_as (CostPlace (rows_of (setting_of s)) ((program_of kind s).cost g.pool) (basic_at t) X (Home i)) (DueAt (program_of kind s) g left X) w (λ o at. for_multiplier i o rest low at)
+      (subst (λ n. IsWideAt (CostPlace n ((program_of kind s).cost g.pool) (basic_at t) X (Home i)) w) rows_same wide))
 
   -- a refusal of the whole multiples of the multipliers
   pub dual_due : (kind : ClaimKind) (left : ℕ) (w : WideAt) → IsRestingAt (program_of kind s) g X
       → IsWideAt (MultiplierPlace (table_rows t) (cost_at (costs_for kind (setting_of s) pool)) (basic_at t) X) w → IsTooWide (program_of kind s) g left w
   dual_due kind left w rest wide =
       too_wide kind left w
-      (wide_as (MultiplierPlace (rows_of (setting_of s)) (costs_at (program_of kind s) g) (basic_at t) X) (DueAt (program_of kind s) g left X) w (λ o at. for_dual o rest at)
-      (subst (λ n. IsWideAt (MultiplierPlace n (costs_at (program_of kind s) g) (basic_at t) X) w) rows_same wide))
+      (wide_as (MultiplierPlace (rows_of (setting_of s)) ((program_of kind s).cost g.pool) (basic_at t) X) (DueAt (program_of kind s) g left X) w (λ o at. for_dual o rest at)
+      (subst (λ n. IsWideAt (MultiplierPlace n ((program_of kind s).cost g.pool) (basic_at t) X) w) rows_same wide))
 
   -- a refusal of a weight
   pub model_due : (kind : ClaimKind) (left : ℕ) (w : WideAt) → IsModelDue (program_of kind s) g X

@@ -14,7 +14,7 @@ use Rattle.ps_answer.specs.declared.answer.Cause.TheVariants.{Pivots, Conflicts,
 use Rattle.ps_phases.specs.declared.limits.Limits.{Limits}
 use Rattle.ps_runs.specs.Searches.{IsSpentSearch}
 use Rattle.ps_runs.specs.Programs.{Frame, Program, goal_at_least}
-use Rattle.ps_runs.specs.Runs.{Stage, table_at, costs_at, dual_at}
+use Rattle.ps_runs.specs.Runs.{Stage, table_at, dual_at}
 use Rattle.ps_runs.specs.Runs.{BelongsTo, IsMovingAt, IsRestingAt, IsFeasibleAt, AreAtMost}
 
 -- a model is due: phase one is due to end, or a side rests and no world is priced above 0
@@ -29,11 +29,11 @@ IsModelDue p g X = elim p.phase [
 -- row and for the whole multiples of the multipliers; where a model is due, for its weights
 pub data DueAt (p : Program) (g : Stage) (left : ℕ) (X : ℕ → ℕ → Rational) : Operation → Type 0 where
   for_pivots : (o : Operation)
-      → DuePlace p.phase (table_at p.frame g X) (length g.pool) left (costs_at p g) o → DueAt p g left X o
+      → DuePlace p.phase (table_at p.frame g X) (length g.pool) left (p.cost g.pool) o → DueAt p g left X o
   for_multiplier : (i : ℕ) (o : Operation) → IsRestingAt p g X → i < p.frame.rows
-      → CostPlace p.frame.rows (costs_at p g) g.basis X (Home i) o → DueAt p g left X o
+      → CostPlace p.frame.rows (p.cost g.pool) g.basis X (Home i) o → DueAt p g left X o
   for_dual : (o : Operation) → IsRestingAt p g X
-      → MultiplierPlace p.frame.rows (costs_at p g) g.basis X o → DueAt p g left X o
+      → MultiplierPlace p.frame.rows (p.cost g.pool) g.basis X o → DueAt p g left X o
   for_model : (o : Operation) → IsModelDue p g X → WeightPlace p.frame.rows g.basis X o → DueAt p g left X o
 
 -- as many pivots as the limit were made, and the table is moving

@@ -14,7 +14,7 @@ use Rattle.ps_claims.specs.declared.claim_kind.ClaimKind.{ClaimKind}
 use Rattle.ps_claims.specs.declared.claim_kind.ClaimKind.TheVariants.{Nothing}
 use Rattle.ps_runs.specs.Rows.{rows_of}
 use Rattle.ps_runs.specs.Subjects.{Subject, setting_of, atoms_of, frame_of, program_of}
-use Rattle.ps_runs.specs.Runs.{Stage, costs_at, LeadsTo, still, pivoted, priced, LeadsToPending, entire, pending}
+use Rattle.ps_runs.specs.Runs.{Stage, LeadsTo, still, pivoted, priced, LeadsToPending, entire, pending}
 use Rattle.ps_runs.specs.Runs.{pivots_in, IsFeasibleAt, IsPricedAt}
 use Rattle.ps_runs.proofs.Composed.{pivots_in-append}
 use Rattle.ps_reported.proofs.All.{both, each}
@@ -132,8 +132,8 @@ has_come kind s conflicts a b events h (still c) = record { table = h; pool = om
 has_come kind s conflicts a b events h (pivoted c d before enter leave basis leads is based) =
     let come = has_come kind s conflicts c d before h leads in
     with_pivot kind s conflicts c d before come enter leave basis
-    (pivot_table kind (setting_of s) d.pool d.basis basis (costs_at (program_of kind s) d) (number_in (rows_of (setting_of s)) enter) leave come.table is.lawful based)
-    is.there (leaving_row kind (setting_of s) d.pool d.basis (costs_at (program_of kind s) d) (number_in (rows_of (setting_of s)) enter) leave is.lawful)
+    (pivot_table kind (setting_of s) d.pool d.basis basis ((program_of kind s).cost d.pool) (number_in (rows_of (setting_of s)) enter) leave come.table is.lawful based)
+    is.there (leaving_row kind (setting_of s) d.pool d.basis ((program_of kind s).cost d.pool) (number_in (rows_of (setting_of s)) enter) leave is.lawful)
 has_come kind s conflicts a b events h (priced c d before world leads is) =
     with_world kind s conflicts c d before (has_come kind s conflicts c d before h leads) world is
 

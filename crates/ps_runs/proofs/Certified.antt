@@ -22,7 +22,7 @@ use Rattle.ps_runs.specs.Rows.{phase_of, IsTable}
 use Rattle.ps_runs.specs.Certificates.{table_model, HaveSameNumbers}
 use Rattle.ps_runs.specs.Subjects.{Subject, setting_of, asked_in, given_in, both_in, IsAsked, atoms_of}
 use Rattle.ps_runs.specs.Subjects.{combination_over, frame_of, program_of}
-use Rattle.ps_runs.specs.Runs.{Stage, IsPool, table_at, costs_at, dual_at, AreAtMost}
+use Rattle.ps_runs.specs.Runs.{Stage, IsPool, table_at, dual_at, AreAtMost}
 use Rattle.ps_runs.proofs.Resting.{rest_signs}
 use Rattle.ps_runs.proofs.Shown.{allowed_at_end, small_at_end, nothing_head}
 
@@ -59,7 +59,7 @@ same_combination kind given both bounds d e same = λ i. plus (same_claim kind g
 
 module _ (kind : ClaimKind) (s : Subject) (g : Stage) (X : ℕ → ℕ → Rational) (d : Dual) (same : HaveSameNumbers d (dual_at (program_of kind s) g X)) where
   -- steps that refute the table's goal make a dual with its numbers a refutation
-  pub refuted_at_rest : IsResting (phase_of kind) (table_at (frame_of s) g X) (costs_at (program_of kind s) g)
+  pub refuted_at_rest : IsResting (phase_of kind) (table_at (frame_of s) g X) ((program_of kind s).cost g.pool)
       → RefutesGain (program_of kind s) (dual_at (program_of kind s) g X) d.steps
       → IsRefuted s.parts kind (given_in s.query) (both_in s.query) d
   refuted_at_rest rest steps = record {
@@ -71,7 +71,7 @@ module _ (kind : ClaimKind) (s : Subject) (g : Stage) (X : ℕ → ℕ → Ratio
 
 -- where phase one so rests, nothing is allowed
 pub nothing_at_rest : (s : Subject) (g : Stage) (X : ℕ → ℕ → Rational) (d : Dual) → HaveSameNumbers d (dual_at (program_of Nothing s) g X)
-    → IsTable (setting_of s) g.pool g.basis X → IsResting (phase_of Nothing) (table_at (frame_of s) g X) (costs_at (program_of Nothing s) g)
+    → IsTable (setting_of s) g.pool g.basis X → IsResting (phase_of Nothing) (table_at (frame_of s) g X) ((program_of Nothing s).cost g.pool)
     → RefutesGain (program_of Nothing s) (dual_at (program_of Nothing s) g X) d.steps
     → ShowsNothing s.parts (given_in s.query) d
 nothing_at_rest s g X d same t rest steps =

@@ -16,7 +16,7 @@ use Rattle.ps_runs.specs.Programs.{RefutesGain}
 use Rattle.ps_runs.specs.Rows.{phase_of, both_of, IsTable}
 use Rattle.ps_runs.specs.Certificates.{HaveSameNumbers, weighted_worlds, table_model}
 use Rattle.ps_runs.specs.Subjects.{Subject, setting_of, atoms_of, frame_of, program_of}
-use Rattle.ps_runs.specs.Runs.{Stage, IsPool, table_at, costs_at, dual_at}
+use Rattle.ps_runs.specs.Runs.{Stage, IsPool, table_at, dual_at}
 use Rattle.ps_runs.proofs.Ends.{reached}
 use Rattle.ps_runs.proofs.Shown.{allowed_at_end, small_at_end}
 use Rattle.ps_runs.proofs.Certified.{refuted_at_rest}
@@ -37,7 +37,7 @@ module _ (kind : ClaimKind) (p : Parts) (q : stored.Query) (g : Stage) (X : ℕ 
 
   pub tight_at_end : kind ≢ Nothing → HaveSameNumbers d (dual_at (program_of kind s) g X) → HasValueHead value d
       → IsTable (setting_of s) g.pool g.basis X → IsFeasible (table_at (frame_of s) g X) → IsPool (atoms_of s) g.pool
-      → IsResting (phase_of kind) (table_at (frame_of s) g X) (costs_at (program_of kind s) g)
+      → IsResting (phase_of kind) (table_at (frame_of s) g X) ((program_of kind s).cost g.pool)
       → RefutesGain (program_of kind s) (dual_at (program_of kind s) g X) d.steps
       → ShowsTight p kind q value (table_model (table_at (frame_of s) g X) g.pool) d
   tight_at_end side same head t feasible pooled rest steps =

@@ -28,7 +28,7 @@ use Rattle.ps_runs.specs.Searches.{IsSpentSearch}
 use Rattle.ps_runs.specs.Programs.{Program, goal_at_least, RefutesGain}
 use Rattle.ps_runs.specs.Subjects.{Subject, subject_of, setting_of, given_in, both_in, IsAsked, atoms_of}
 use Rattle.ps_runs.specs.Subjects.{combination_over, frame_of, program_of}
-use Rattle.ps_runs.specs.Runs.{Stage, IsPool, table_at, costs_at, dual_at, AreAtMost, IsRestingAt, IsPricedBy, IsDualAt}
+use Rattle.ps_runs.specs.Runs.{Stage, IsPool, table_at, dual_at, AreAtMost, IsRestingAt, IsPricedBy, IsDualAt}
 use Rattle.ps_runs.specs.Runs.{LeadsTo, LeadsToPending, pivots_in}
 use Rattle.ps_runs.specs.Reached.{IsReached, HasOneTable, ArePricedFresh}
 use Rattle.ps_runs.specs.Kept.{kept_of, flags_of, kept_parts, kept_dual, IsChoice, AreAllKept}
@@ -144,13 +144,13 @@ pub record GainsAreValues : Type 0 where
 pub record EndsAreValid : Type 0 where
   pub refuted : (kind : ClaimKind) (s : Subject) (g : Stage) (X : ℕ → ℕ → Rational) (d : Dual)
       → HaveSameNumbers d (dual_at (program_of kind s) g X)
-      → IsResting (phase_of kind) (table_at (frame_of s) g X) (costs_at (program_of kind s) g)
+      → IsResting (phase_of kind) (table_at (frame_of s) g X) ((program_of kind s).cost g.pool)
       → RefutesGain (program_of kind s) (dual_at (program_of kind s) g X) d.steps
       → IsRefuted s.parts kind (given_in s.query) (both_in s.query) d
   pub nothing : (s : Subject) (g : Stage) (X : ℕ → ℕ → Rational) (d : Dual)
       → HaveSameNumbers d (dual_at (program_of Nothing s) g X)
       → IsTable (setting_of s) g.pool g.basis X
-      → IsResting (phase_of Nothing) (table_at (frame_of s) g X) (costs_at (program_of Nothing s) g)
+      → IsResting (phase_of Nothing) (table_at (frame_of s) g X) ((program_of Nothing s).cost g.pool)
       → RefutesGain (program_of Nothing s) (dual_at (program_of Nothing s) g X) d.steps
       → ShowsNothing s.parts (given_in s.query) d
   pub tight : (kind : ClaimKind) (p : Parts) (q : stored.Query) (g : Stage) (X : ℕ → ℕ → Rational) (value : Rational)
@@ -158,7 +158,7 @@ pub record EndsAreValid : Type 0 where
       → HaveSameNumbers d (dual_at (program_of kind (subject_of p q)) g X) → HasValueHead value d
       → IsTable (setting_of (subject_of p q)) g.pool g.basis X → IsFeasible (table_at (frame_of (subject_of p q)) g X)
       → IsPool (length p.names) g.pool
-      → IsResting (phase_of kind) (table_at (frame_of (subject_of p q)) g X) (costs_at (program_of kind (subject_of p q)) g)
+      → IsResting (phase_of kind) (table_at (frame_of (subject_of p q)) g X) ((program_of kind (subject_of p q)).cost g.pool)
       → RefutesGain (program_of kind (subject_of p q)) (dual_at (program_of kind (subject_of p q)) g X) d.steps
       → ShowsTight p kind q value (table_model (table_at (frame_of (subject_of p q)) g X) g.pool) d
   pub consistent : (s : Subject) (g : Stage) (X : ℕ → ℕ → Rational) → IsTable (setting_of s) g.pool g.basis X

@@ -5,7 +5,7 @@ use Rattle.ps_rational.specs.Rational.{Rational}
 use Rattle.ps_meaning.specs.Formula.{World}
 use Rattle.ps_simplex.specs.Table.{Belongs, Based}
 use Rattle.ps_simplex.specs.Rule.{SimplexTable, IsFeasible, IsMoving, IsResting}
-use Rattle.ps_simplex.specs.Pivots.{linear_program, IsLawfulAt, simplex_table}
+use Rattle.ps_simplex.specs.Pivots.{IsLawfulAt, simplex_table}
 use Rattle.ps_steps.specs.Steps.{Step}
 use Rattle.ps_pool.specs.Worlds.{AreDifferent}
 use Rattle.ps_pool.specs.declared.col.Col.{Col}
@@ -38,13 +38,9 @@ pub record IsPool (atoms : ℕ) (pool : List World) : Type 0 where
 abbrev pub table_at : Frame → Stage → (ℕ → ℕ → Rational) → SimplexTable
 table_at f g X = simplex_table (f.system g.pool) (suc (f.rows + length g.pool)) g.basis X
 
--- the costs of its columns
-abbrev pub costs_at : Program → Stage → ℕ → Rational
-costs_at p g = p.cost g.pool
-
 -- the dual of a table at the stage
 abbrev pub dual_at : Program → Stage → (ℕ → ℕ → Rational) → Dual
-dual_at p g X = p.dual (table_at p.frame g X) (costs_at p g)
+dual_at p g X = p.dual (table_at p.frame g X) (p.cost g.pool)
 
 -- the gain of its dual in a world
 abbrev pub gain_at : Program → Stage → (ℕ → ℕ → Rational) → World → ℤ
@@ -58,12 +54,12 @@ BelongsTo f g X = Belongs f.rows (suc (f.rows + length g.pool)) (f.system g.pool
 pub record IsMovingAt (p : Program) (g : Stage) : Type 0 where
   pub table : ℕ → ℕ → Rational
   pub belongs : BelongsTo p.frame g table
-  pub moving : IsMoving p.phase (table_at p.frame g table) (costs_at p g)
+  pub moving : IsMoving p.phase (table_at p.frame g table) (p.cost g.pool)
 
 -- a table of the stage isn't due to end, and no column improves
 pub record IsRestingAt (p : Program) (g : Stage) (X : ℕ → ℕ → Rational) : Type 0 where
   pub belongs : BelongsTo p.frame g X
-  pub resting : IsResting p.phase (table_at p.frame g X) (costs_at p g)
+  pub resting : IsResting p.phase (table_at p.frame g X) (p.cost g.pool)
 
 -- in a table of the stage each basic artificial has value 0
 pub record IsFeasibleAt (f : Frame) (g : Stage) (X : ℕ → ℕ → Rational) : Type 0 where
@@ -74,8 +70,12 @@ pub record IsFeasibleAt (f : Frame) (g : Stage) (X : ℕ → ℕ → Rational) :
 -- a pivot by the rule: a column of the table enters and a row leaves
 pub record IsLawfulPivot (p : Program) (g : Stage) (enter : Col) (leave : ℕ) : Type 0 where
   pub there : IsInside p.frame.rows (length g.pool) enter
-  pub lawful : IsLawfulAt (linear_program p.phase (p.frame.system g.pool) (costs_at p g)
-      (suc (p.frame.rows + length g.pool))) g.basis (number_in p.frame.rows enter) leave
+  pub lawful : IsLawfulAt (record {
+    phase = p.phase;
+    system = p.frame.system g.pool;
+    cost = p.cost g.pool;
+    width = suc (p.frame.rows + length g.pool);
+  }) g.basis (number_in p.frame.rows enter) leave
 
 -- in no world is the gain of a table's dual greater than this
 pub record AreAtMost (p : Program) (g : Stage) (X : ℕ → ℕ → Rational) (most : ℤ) : Type 0 where
