@@ -1,5 +1,5 @@
 -- How a phase of a run goes to its end, from one state of the solver to another.
-use Rattle.std.specs.Prelude.{◌≡◌, ◌≢◌, ◌+◌, ◌≤◌, ◌++◌, ◌⊎◌, ℕ, pos, Bool, Option, None, List, [], ◌∷◌, length}
+use Rattle.std.specs.Prelude.{◌≡◌, ◌≢◌, ◌+◌, ◌≤◌, ◌++◌, ◌⊎◌, ℕ, pos, Bool, Option, Some, None, List, [], ◌∷◌, length}
 use Rattle.ps_problem.specs.declared.query.Query.{Query}
 use Rattle.ps_problem.specs.Problems.{Parts}
 use Rattle.ps_claims.specs.Duals.{AreZeroElsewhere}
@@ -59,6 +59,15 @@ limited p kept query limits = record {
   flags = flags_of kept p.sentences;
   subject = record { parts = kept_parts kept p; query = query };
   limits = limits;
+}
+
+-- the same with this query
+abbrev pub asking : Query → LimitedSubject → LimitedSubject
+asking q r = record {
+  whole = r.whole;
+  flags = r.flags;
+  subject = record { parts = r.subject.parts; query = Some q };
+  limits = r.limits;
 }
 
 -- ---- duals of the whole problem

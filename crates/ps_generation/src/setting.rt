@@ -12,7 +12,7 @@ ghost use Rattle.ps_runs.specs.Runs.{IsPool};
 ghost use Rattle.ps_phases.specs.Tables.{IsRunTable, costs_for};
 ghost use Rattle.ps_pricing.specs.Pricings.{IsDualFor, IsPricing, IsPrintedPricing};
 ghost use Rattle.ps_certificate.specs.Printed.{IsPrintedDual};
-ghost use Rattle.ps_generation.specs.Phases.{AreLimits, IsNewState, IsSpread, limited};
+ghost use Rattle.ps_generation.specs.Phases.{AreLimits, IsNewState, IsSpread, asking, limited};
 ghost use Rattle.ps_generation.specs.Rounds.{IsColumnOf, IsDualOver, pricing_subject_of};
 
 use crate::column::Column;
@@ -83,6 +83,20 @@ impl<'p> Setting<'p> {
             flags: flags_of(alloc, problem.sentences().as_slice(), kept)?,
             pricer: Pricer::new(alloc, problem, kept, query, limits.conflicts)?,
             limits,
+        })
+    }
+
+    /// The same with this query.
+    pub fn asking(&self, alloc: Global, query: Query) -> Result<Setting<'p>, NoMemory>
+        requires query { HasNodes self.now.subject.parts.nodes
+            query.formula query.given query.both }
+        ensures value { IfOk result (λ setting. setting ≡ asking query self.now) }
+    {
+        Ok(Setting {
+            problem: self.problem,
+            flags: List::from_vec(self.flags.as_slice().to_vec(alloc)?),
+            pricer: self.pricer.asking(alloc, query)?,
+            limits: self.limits,
         })
     }
 

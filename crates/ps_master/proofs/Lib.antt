@@ -5,3 +5,4 @@ pub mod Sides
 pub mod Ready
 pub mod Values
 pub mod Memory
+pub mod Sure

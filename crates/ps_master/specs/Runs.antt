@@ -27,7 +27,7 @@ use Rattle.ps_phases.specs.Verdicts.{IsLawfulPhaseOne, IsLawfulSide}
 use Rattle.ps_certificate.specs.Printed.{IsPrintedVerdict}
 use Rattle.ps_phases.specs.declared.limits.Limits.{Limits}
 use Rattle.ps_generation.specs.Counts.{AppendsFewPivots}
-use Rattle.ps_generation.specs.Phases.{LimitedSubject, limited, kept_dual}
+use Rattle.ps_generation.specs.Phases.{LimitedSubject, limited, asking, kept_dual}
 use Rattle.ps_master.specs.declared.first.First.{First}
 use Rattle.ps_master.specs.declared.first.First.TheVariants as first
 
@@ -57,6 +57,10 @@ pub record IsNew (p : Parts) (kept : List Bool) (query : Option Query) (limits :
   pub start : IsAtStart r
   pub trace : r.trace ≡ []
   pub broken : r.is_broken ≡ false
+
+-- the same run with this query, and no events
+abbrev pub run_asking : Query → RunState → RunState
+run_asking q r = record r { over = asking q r.over; trace = [] }
 
 -- a run whose basic artificials have value 0, with at most so many worlds more than pivots that were made
 pub record IsFeasibleRun (surplus : ℕ) (r : RunState) : Type 0 where

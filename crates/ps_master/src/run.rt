@@ -7,7 +7,7 @@ ghost use Rattle.ps_certificate.specs.Printed.{IsPrintedSide};
 ghost use Rattle.ps_generation.specs.Phases.{AreLimits};
 ghost use Rattle.ps_master.specs.Runs.{IsAtStart, IsPhaseOneAnswer, IsLowered, IsNew};
 ghost use Rattle.ps_master.specs.Runs.{IsFeasibleRun, IsPrintedFirst, IsReached, IsSideAnswerOf};
-ghost use Rattle.ps_master.specs.Runs.{MakesFewPivots};
+ghost use Rattle.ps_master.specs.Runs.{MakesFewPivots, run_asking};
 ghost use Rattle.ps_master.specs.States.{HasGoneOn};
 
 use crate::answers::{first, side};
@@ -88,6 +88,28 @@ impl<'p> Run<'p> {
         let reached = first(self.alloc, &self.setting, &mut self.state);
         self.broken = reached.is_err();
         reached
+    }
+
+    /// An equal run with a query without evidence in place of none, and no events. Phase one is the
+    /// same for both, so a side may follow where the run has reached a distribution.
+    pub fn asking(&self, query: Query) -> Result<Run<'p>, NoMemory>
+        requires none { self.now.over.subject.query ≡ None }
+        requires query { HasNodes self.now.over.subject.parts.nodes
+            query.formula query.given query.both }
+        requires sure { query.given ≡ None }
+        ensures run { IfOk result (λ run. run ≡ run_asking query self.now) }
+    {
+        Ok(Run {
+            alloc: self.alloc,
+            setting: self.setting.asking(self.alloc, query)?,
+            state: State {
+                table: self.state.table.copy(self.alloc)?,
+                pool: self.state.pool.copy(self.alloc)?,
+                trace: List::new(self.alloc),
+                left: self.state.left,
+            },
+            broken: self.broken,
+        })
     }
 
     /// The answer of a side, unless memory ran out, here or before.

@@ -1,5 +1,5 @@
 -- What the pricing of a dual gives: a world in which its combination is at least 1, a refutation, or a search that was spent.
-use Rattle.std.specs.Prelude.{◌≡◌, ◌⊎◌, ℕ, ℤ, pos, ◌<ℤ◌, ◌≤ℤ◌, Bool, List, Option, length}
+use Rattle.std.specs.Prelude.{◌≡◌, ◌⊎◌, ℕ, ℤ, pos, ◌<ℤ◌, ◌≤ℤ◌, Bool, List, Option, Some, length}
 use Rattle.ps_meaning.specs.Formula.{World}
 use Rattle.ps_steps.specs.Assignments.{Assignment, full}
 use Rattle.ps_steps.specs.Constraints.{Constraint}
@@ -34,6 +34,10 @@ priced_over p kept query conflicts = record {
   subject = record { parts = kept_parts kept p; query = query };
   conflicts = conflicts;
 }
+
+-- the same with this query
+abbrev pub asking : Query → PricingSubject → PricingSubject
+asking q a = record { subject = record { parts = a.subject.parts; query = Some q }; conflicts = a.conflicts }
 
 -- the world that an assignment gives, where it is full
 abbrev pub IsAssigned : Subject → Assignment → World → Type 0

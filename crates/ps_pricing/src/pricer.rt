@@ -6,7 +6,7 @@ ghost use Rattle.ps_maxsat.specs.Limits.{IsNarrow, IsSoftWithin};
 ghost use Rattle.ps_runs.specs.Kept.{IsChoice};
 ghost use Rattle.ps_runs.specs.Subjects.{IsAsked, atoms_of, given_in, both_in};
 ghost use Rattle.ps_pricing.specs.Pricings.{IsAssigned, IsDualFor, IsPricing};
-ghost use Rattle.ps_pricing.specs.Pricings.{IsPrintedPricing, IsWcnf, priced_over};
+ghost use Rattle.ps_pricing.specs.Pricings.{IsPrintedPricing, IsWcnf, asking, priced_over};
 
 use crate::alone::first_world;
 use crate::kept::{bounds_of, kept_sentences};
@@ -85,6 +85,21 @@ impl<'p> Pricer<'p> {
             form,
             query,
             conflicts,
+        })
+    }
+
+    /// The same with this query.
+    pub fn asking(&self, alloc: Global, query: Query) -> Result<Pricer<'p>, NoMemory>
+        ensures value { IfOk result (λ pricer. pricer ≡ asking query self.now) }
+    {
+        Ok(Pricer {
+            problem: self.problem,
+            sentences: List::from_vec(self.sentences.as_slice().to_vec(alloc)?),
+            bounds: List::from_vec(self.bounds.as_slice().to_vec(alloc)?),
+            form: self.form.copy(alloc)?,
+            query: Some(query),
+            conflicts: self.conflicts,
+            first: self.first.copy(alloc)?,
         })
     }
 

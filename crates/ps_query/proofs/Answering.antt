@@ -26,7 +26,8 @@ use Rattle.ps_reported.proofs.Reports.{all_within, all_short, asked_same}
 use Rattle.ps_master.specs.declared.first.First.{First}
 use Rattle.ps_master.specs.declared.first.First.TheVariants as first
 use Rattle.ps_master.specs.Runs.{RunState, IsPhaseOneAnswer, IsValidFirst, IsPrintedFirst, verdict_of}
-use Rattle.ps_query.specs.Parts.{IsNewOverAll, IsPartOf, IsVerdictOf}
+use Rattle.ps_query.specs.declared.opening.Opening.{Opening}
+use Rattle.ps_query.specs.Parts.{ComesOf, IsNewOverAll, IsOpening, IsPartOf, IsVerdictOf}
 use Rattle.ps_query.specs.Solutions.{AreShortLines, IsReadBack, IsSolution}
 use Rattle.ps_query.proofs.Queries.{traced_alone, lawful_whole, valid_whole}
 use Rattle.ps_runs.specs.Subjects.{program_of}
@@ -37,7 +38,7 @@ valid_first p (first.Reached m) h = h.0
 valid_first p (first.Nothing d) h = h
 valid_first p (first.Open cause) h = tt
 
-pub is_verdict : (limits : Limits) (p : Parts) (new done : RunState) (answer : First) → IsNewOverAll p None limits new → IsPhaseOneAnswer new done answer → IsPrintedFirst answer
+is_verdict : (limits : Limits) (p : Parts) (new done : RunState) (answer : First) → IsNewOverAll p None limits new → IsPhaseOneAnswer new done answer → IsPrintedFirst answer
     → IsVerdictOf limits p (verdict_of answer) done.trace
 is_verdict limits p new done answer is_new of printed =
     let events : done.trace ≡ of.events = traced_alone new.trace of.events done.trace is_new.trace of.traced.appended in
@@ -51,8 +52,24 @@ is_verdict limits p new done answer is_new of printed =
     }
 
 -- by what else it is called
-pub same_verdict : (limits : Limits) (p : Parts) (v w : Verdict) (events same : List Event) → v ≡ w → events ≡ same → IsVerdictOf limits p w same → IsVerdictOf limits p v events
+same_verdict : (limits : Limits) (p : Parts) (v w : Verdict) (events same : List Event) → v ≡ w → events ≡ same → IsVerdictOf limits p w same → IsVerdictOf limits p v events
 same_verdict limits p v w events same e es h = subst (λ x. IsVerdictOf limits p x events) (sym e) (subst (λ x. IsVerdictOf limits p w x) (sym es) h)
+
+-- the run behind a verdict
+comes_of : (limits : Limits) (p : Parts) (new done : RunState) (answer : First) (first : List Event) (run : RunState) → IsNewOverAll p None limits new
+    → first ≡ done.trace → run ≡ record done { trace = [] } → IsPhaseOneAnswer new done answer → ComesOf limits p (verdict_of answer) first run
+comes_of limits p new done (first.Reached m) events run is_new traced taken of =
+    record { new = new; done = done; model = m; is_new = is_new; answered = of; taken = taken; trace = traced }
+comes_of limits p new done (first.Nothing d) events run is_new traced taken of = tt
+comes_of limits p new done (first.Open cause) events run is_new traced taken of = tt
+
+pub opening : (limits : Limits) (p : Parts) (new done : RunState) (answer : First) (o : Opening) → IsNewOverAll p None limits new
+    → IsPhaseOneAnswer new done answer → IsPrintedFirst answer → o.verdict ≡ verdict_of answer → o.first ≡ done.trace → o.run ≡ record done { trace = [] }
+    → IsOpening limits p o
+opening limits p new done answer o is_new of printed verdict traced taken = record {
+  verdict = same_verdict limits p o.verdict (verdict_of answer) o.first done.trace verdict traced (is_verdict limits p new done answer is_new of printed);
+  run = subst (λ v. ComesOf limits p v o.first o.run) (sym verdict) (comes_of limits p new done answer o.first o.run is_new traced taken of);
+}
 
 -- ---- the parts
 lawful_parts : (limits : Limits) (p : Parts) (qs : List Query) (parts : List QueryPart) → AllZip (IsPartOf limits p) qs parts → AllZip (IsLawfulPart p limits) qs parts

@@ -1,5 +1,7 @@
 -- A run without a query that has reached a distribution goes on as that of a query without evidence.
-use Rattle.std.proofs.Common.{◌≡◌, ◌≢◌, Option, Some, None, List, [], tt, sym, ap, ◌∙◌, subst}
+use Rattle.std.proofs.Common.{◌≡◌, ◌≢◌, ℕ, Bool, false, refl, true≢false, Option, Some, None, List, [], sym, ap, ◌∙◌, subst}
+use Rattle.std.specs.Option.{is_some}
+use Rattle.std.proofs.lemmas.Option.{none-some}
 use Rattle.ps_problem.specs.declared.query.Query.{Query}
 use Rattle.ps_problem.specs.Problems.{Parts, HasNodes, bounds_of}
 use Rattle.ps_pool.specs.declared.event.Event.{Event}
@@ -22,8 +24,16 @@ use Rattle.ps_master.specs.Runs.{RunState, run_asking, stage_of, verdict_of, IsR
 use Rattle.ps_query.specs.Parts.{IsNewOverAll, HasReachedAlone, AreBoundsOf, IsPartOf}
 use Rattle.ps_query.proofs.Queries.{may_go_on, part_behind}
 
+pub none_given : (g : Option ℕ) (b : Bool) → b ≡ is_some g → b ≡ false → g ≡ None
+none_given None b e f = refl
+none_given (Some n) b e f = absurd (true≢false (sym e ∙ f))
+
+-- a run with this query, and its events
+abbrev with_query : Query → RunState → RunState
+with_query q r = record r { over = asking q r.over }
+
 module _ (q : Query) (sure : q.given ≡ None) where
-  new_asked : (limits : Limits) (p : Parts) (new : RunState) → IsNewOverAll p None limits new → IsNewOverAll p (Some q) limits (run_asking q new)
+  new_asked : (limits : Limits) (p : Parts) (new : RunState) → IsNewOverAll p None limits new → IsNewOverAll p (Some q) limits (with_query q new)
   new_asked limits p new h = record {
     flags = h.flags;
     all = h.all;
@@ -33,7 +43,7 @@ module _ (q : Query) (sure : q.given ≡ None) where
   }
 
   answer_asked : (new done : RunState) (m : Model) → new.over.subject.query ≡ None → IsPhaseOneAnswer new done (first.Reached m)
-      → IsPhaseOneAnswer (run_asking q new) (run_asking q done) (first.Reached m)
+      → IsPhaseOneAnswer (with_query q new) (with_query q done) (first.Reached m)
   answer_asked new done m none of =
       let same : program_of Nothing (subject_of new.over.subject.parts q) ≡ program_of Nothing new.over.subject = program_asked new.over.subject q none sure in
       record {
@@ -65,15 +75,21 @@ module _ (q : Query) (sure : q.given ≡ None) where
     pub asks_none : r.over.subject.query ≡ None
     asks_none = ap (λ (o : LimitedSubject). o.subject.query) over_new ∙ new_none
 
-    pub has_parts : r.over.subject.parts ≡ p
+    has_parts : r.over.subject.parts ≡ p
     has_parts = ap (λ (o : LimitedSubject). o.subject.parts) (over_new ∙ h.is_new.over)
 
+    pub has_nodes : HasNodes p.nodes q.formula q.given q.both → HasNodes r.over.subject.parts.nodes q.formula q.given q.both
+    has_nodes nodes = subst (λ (x : Parts). HasNodes x.nodes q.formula q.given q.both) (sym has_parts) nodes
+
+    pub is_asked : (on : RunState) → on ≡ run_asking q r → on.over.subject.query ≢ None
+    is_asked on same none = none-some q (sym none ∙ ap (λ (x : RunState). x.over.subject.query) same)
+
     pub none_traced : (on : RunState) → on ≡ run_asking q r → on.trace ≡ []
-    none_traced on same = ap (λ (x : RunState). x.trace) (same ∙ ap (run_asking q) h.taken)
+    none_traced on same = ap (λ (x : RunState). x.trace) same
 
     pub may_ask : (on : RunState) → on ≡ run_asking q r → IsReached on
     may_ask on same =
-        may_go_on limits p q (run_asking q h.new) (run_asking q h.done) (new_asked limits p h.new h.is_new) (first.Reached h.model) (answer_asked h.new h.done h.model new_none h.answered)
+        may_go_on limits p q (with_query q h.new) (with_query q h.done) (new_asked limits p h.new h.is_new) (first.Reached h.model) (answer_asked h.new h.done h.model new_none h.answered)
         on (same ∙ ap (run_asking q) h.taken)
 
     -- the answer that it gives is one to the query
@@ -81,5 +97,5 @@ module _ (q : Query) (sure : q.given ≡ None) where
         → IsPartOf limits p q (record { answer = answer; first = events })
     part_asked on same answer bounds printed =
         subst (λ es. IsPartOf limits p q (record { answer = answer; first = es })) (sym h.trace)
-        (part_behind limits p q (run_asking q h.new) (run_asking q h.done) (new_asked limits p h.new h.is_new) (first.Reached h.model)
+        (part_behind limits p q (with_query q h.new) (with_query q h.done) (new_asked limits p h.new h.is_new) (first.Reached h.model)
         (answer_asked h.new h.done h.model new_none h.answered) on (same ∙ ap (run_asking q) h.taken) answer bounds printed)

@@ -3,3 +3,4 @@ pub mod Queries
 pub mod Answering
 pub mod Loops
 pub mod Whole
+pub mod Asked

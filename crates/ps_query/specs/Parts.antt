@@ -1,5 +1,5 @@
 -- What is found of a query.
-use Rattle.std.specs.Prelude.{◌≡◌, ℕ, Bool, Option, Some, List, []}
+use Rattle.std.specs.Prelude.{◌≡◌, ℕ, Bool, Option, Some, None, List, []}
 use Rattle.std.specs.List.{AllZip}
 use Rattle.ps_problem.specs.declared.query.Query.{Query}
 use Rattle.ps_problem.specs.Problems.{Parts}
@@ -8,7 +8,9 @@ use Rattle.ps_answer.specs.declared.answer.QueryAnswer.{QueryAnswer}
 use Rattle.ps_answer.specs.declared.answer.QueryAnswer.TheVariants as query
 use Rattle.ps_answer.specs.declared.answer.QueryPart.{QueryPart}
 use Rattle.ps_answer.specs.declared.answer.SideAnswer.{SideAnswer}
+use Rattle.ps_answer.specs.declared.answer.Model.{Model}
 use Rattle.ps_answer.specs.declared.answer.Verdict.{Verdict}
+use Rattle.ps_answer.specs.declared.answer.Verdict.TheVariants as verdict
 use Rattle.ps_claims.specs.declared.claim_kind.ClaimKind.TheVariants.{Lower, Upper}
 use Rattle.ps_claims.specs.Validity.{IsValidVerdict, IsValidPart}
 use Rattle.ps_valid.specs.Answers.{part_of, verdict_of as claimed_verdict}
@@ -18,9 +20,10 @@ use Rattle.ps_runs.specs.Runs.{Stage}
 use Rattle.ps_phases.specs.Verdicts.{IsLawfulSide, IsLawfulVerdict, IsLawfulPart, asked_after}
 use Rattle.ps_certificate.specs.Printed.{IsPrintedPart, IsPrintedVerdict}
 use Rattle.ps_phases.specs.declared.limits.Limits.{Limits}
+use Rattle.ps_query.specs.declared.opening.Opening.{Opening}
 use Rattle.ps_master.specs.declared.first.First.{First}
 use Rattle.ps_master.specs.declared.first.First.TheVariants as first
-use Rattle.ps_master.specs.Runs.{RunState, stage_of, IsAtStart, IsReached, IsValidSide, IsWholeSide, kept_side}
+use Rattle.ps_master.specs.Runs.{RunState, stage_of, IsAtStart, IsPhaseOneAnswer, IsReached, IsValidSide, IsWholeSide, kept_side}
 
 -- a new run over all sentences of a problem, and a query, or none
 pub record IsNewOverAll (p : Parts) (query : Option Query) (limits : Limits) (r : RunState) : Type 0 where
@@ -77,6 +80,27 @@ pub record IsPartOf (limits : Limits) (p : Parts) (q : Query) (part : QueryPart)
   pub lawful : IsLawfulPart p limits q part
   pub valid : IsValidPart p q (part_of part.answer)
   pub printed : IsPrintedPart part.answer
+
+-- a run without a query has reached a distribution by these events, which were taken
+pub record HasReachedAlone (limits : Limits) (p : Parts) (events : List Event) (r : RunState) : Type 0 where
+  pub new : RunState
+  pub done : RunState
+  pub model : Model
+  pub is_new : IsNewOverAll p None limits new
+  pub answered : IsPhaseOneAnswer new done (first.Reached model)
+  pub taken : r ≡ record done { trace = [] }
+  pub trace : events ≡ done.trace
+
+-- a consistent verdict comes of a run that has reached a distribution by these events
+abbrev pub ComesOf : Limits → Parts → Verdict → List Event → RunState → Type 0
+ComesOf limits p (verdict.Consistent m) events r = HasReachedAlone limits p events r
+ComesOf limits p (verdict.Inconsistent d) events r = Unit {0}
+ComesOf limits p (verdict.Open cause) events r = Unit {0}
+
+-- the verdict on a problem with the events of its run, and the run behind them
+pub record IsOpening (limits : Limits) (p : Parts) (o : Opening) : Type 0 where
+  pub verdict : IsVerdictOf limits p o.verdict o.first
+  pub run : ComesOf limits p o.verdict o.first o.run
 
 -- a part for each query of a problem that is asked behind this verdict
 abbrev pub ArePartsUnder : Limits → Parts → Verdict → List QueryPart → Type 0

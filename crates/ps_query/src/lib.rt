@@ -1,6 +1,8 @@
 //! Answers to problems: the verdict, and the tightest bounds of the queries.
 #![tactic(auto)]
 
+mod events;
+mod opening;
 mod solving;
 mod starting;
 

@@ -5,9 +5,12 @@ ghost use Rattle.ps_problem.specs.Problems.{HasNodes};
 ghost use Rattle.ps_certificate.specs.Printed.{IsPrintedPart};
 ghost use Rattle.ps_generation.specs.Phases.{AreLimits};
 ghost use Rattle.ps_master.specs.Runs.{IsPrintedFirst, IsReached, verdict_of};
-ghost use Rattle.ps_query.specs.Parts.{AreBoundsOf, ArePartsUnder, IsBehind, IsPartOf, IsVerdictOf, MayGoOn};
+ghost use Rattle.ps_query.specs.Parts.{AreBoundsOf, ArePartsUnder, HasReachedAlone};
+ghost use Rattle.ps_query.specs.Parts.{IsBehind, IsOpening, IsPartOf, IsVerdictOf, MayGoOn};
 ghost use Rattle.ps_query.specs.Solutions.{AreShortLines, IsReadBack, IsSolution};
 
+use crate::events::trace_copy;
+use crate::opening::Opening;
 use crate::starting::run_over_all;
 use ps_answer::{Answer, Parts, QueryAnswer, QueryPart, Verdict};
 use ps_io::{List, NoMemory};
@@ -80,32 +83,81 @@ pub fn query_part(
     Ok(QueryPart { answer, first })
 }
 
-/// The answers to all queries.
-fn query_parts(alloc: Global, problem: &Problem, limits: Limits) -> Result<Parts, NoMemory>
+/// The answer to a query, behind a run without a query: one without evidence goes on from there.
+fn part_behind(
+    alloc: Global,
+    problem: &Problem,
+    query: Query,
+    limits: Limits,
+    run: &Run<'_>,
+    first: &Trace,
+) -> Result<QueryPart, NoMemory>
+    requires query { HasNodes problem.now.nodes query.formula query.given query.both }
     requires limits { AreLimits limits }
+    requires reached { HasReachedAlone limits problem.now first.now run.now }
+    ensures { IfOk result (IsPartOf limits problem.now query) }
+{
+    if query.given.is_some() {
+        return query_part(alloc, problem, query, limits);
+    }
+    let mut asked = run.asking(query)?;
+    Ok(QueryPart {
+        answer: bounds(&mut asked)?,
+        first: trace_copy(alloc, first.as_slice())?,
+    })
+}
+
+/// The answers to all queries, behind a run without a query.
+fn query_parts(
+    alloc: Global,
+    problem: &Problem,
+    limits: Limits,
+    run: &Run<'_>,
+    first: &Trace,
+) -> Result<Parts, NoMemory>
+    requires limits { AreLimits limits }
+    requires reached { HasReachedAlone limits problem.now first.now run.now }
     ensures { IfOk result (AllZip (IsPartOf limits problem.now) problem.now.queries) }
 {
     let mut parts = List::new(alloc);
     for query in problem.queries().as_slice() {
-        parts.push(query_part(alloc, problem, *query, limits)?)?;
+        parts.push(part_behind(alloc, problem, *query, limits, run, first)?)?;
     }
     Ok(parts)
 }
 
-/// The answers to the queries of a problem with this verdict.
+/// The answers to the queries of a problem, behind its verdict.
 fn parts_under(
     alloc: Global,
     problem: &Problem,
-    verdict: &Verdict,
     limits: Limits,
+    opening: &Opening<'_>,
 ) -> Result<Parts, NoMemory>
     requires limits { AreLimits limits }
-    ensures { IfOk result (ArePartsUnder limits problem.now verdict.now) }
+    requires opening { IsOpening limits problem.now opening.now }
+    ensures { IfOk result (ArePartsUnder limits problem.now opening.now.verdict) }
 {
-    match verdict {
-        Verdict::Consistent(_) => query_parts(alloc, problem, limits),
+    match &opening.verdict {
+        Verdict::Consistent(_) => {
+            query_parts(alloc, problem, limits, &opening.run, &opening.first)
+        }
         Verdict::Inconsistent(_) | Verdict::Open(_) => Ok(List::new(alloc)),
     }
+}
+
+/// The verdict on a problem, from a run without a query.
+fn open(alloc: Global, problem: &Problem, limits: Limits) -> Result<Opening<'_>, NoMemory>
+    requires limits { AreLimits limits }
+    ensures { IfOk result (IsOpening limits problem.now) }
+{
+    let mut run = run_over_all(alloc, problem, None, limits)?;
+    let verdict = verdict_of(run.phase_one()?);
+    let first = run.take_trace();
+    Ok(Opening {
+        verdict,
+        first,
+        run,
+    })
 }
 
 /// The verdict on a problem, from a run without a query, with the run's events.
@@ -117,9 +169,8 @@ pub fn verdict_part(
     requires limits { AreLimits limits }
     ensures { IfOk result (λ r. IsVerdictOf limits problem.now r.0 r.1) }
 {
-    let mut run = run_over_all(alloc, problem, None, limits)?;
-    let verdict = verdict_of(run.phase_one()?);
-    Ok((verdict, run.take_trace()))
+    let opening = open(alloc, problem, limits)?;
+    Ok((opening.verdict, opening.first))
 }
 
 /// The answer to a problem within limits of pivots and conflicts: the verdict, and where that is
@@ -133,11 +184,11 @@ pub fn solve(alloc: Global, problem: &Problem, limits: Limits) -> Result<Answer,
 {
     // Called for its clauses: the problem is within the limits, and its numbers are in range.
     let _sound = problem.bound_list();
-    let (verdict, first) = verdict_part(alloc, problem, limits)?;
-    let parts = parts_under(alloc, problem, &verdict, limits)?;
+    let opening = open(alloc, problem, limits)?;
+    let parts = parts_under(alloc, problem, limits, &opening)?;
     Ok(Answer {
-        verdict,
-        first,
+        verdict: opening.verdict,
+        first: opening.first,
         parts,
     })
 }
