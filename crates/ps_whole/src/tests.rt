@@ -87,30 +87,44 @@ fn thirds(homes: &Whole) -> Option<Whole> {
     pivoted(&wider(&halves(homes)?, &[4, 6])?, 1, 1)
 }
 
+/// The rows behind `halves`.
+const HALVES: [[(i128, i128); 5]; 2] = [
+    [(1, 2), (1, 2), (0, 1), (1, 1), (1, 2)],
+    [(-3, 2), (-3, 2), (1, 1), (0, 1), (-5, 2)],
+];
+
+/// The rows behind `thirds`.
+const THIRDS: [[(i128, i128); 6]; 2] = [
+    [(0, 1), (0, 1), (1, 3), (1, 1), (-1, 3), (2, 1)],
+    [(1, 1), (1, 1), (-2, 3), (0, 1), (5, 3), (0, 1)],
+];
+
+/// Whether the first rows are the right side and the homes.
+fn are_homes(table: &Whole) -> bool {
+    has_row(table, 0, &[(1, 1), (1, 1), (0, 1)]) && has_row(table, 1, &[(0, 1), (0, 1), (1, 1)])
+}
+
+/// Whether the rows are these after the first pivot.
+fn are_halves(homes: &Whole) -> bool {
+    match halves(homes) {
+        Some(table) => has_row(&table, 0, &HALVES[0]) && has_row(&table, 1, &HALVES[1]),
+        None => false,
+    }
+}
+
+/// Whether the rows are these after the second pivot.
+fn are_thirds(homes: &Whole) -> bool {
+    match thirds(homes) {
+        Some(table) => has_row(&table, 0, &THIRDS[0]) && has_row(&table, 1, &THIRDS[1]),
+        None => false,
+    }
+}
+
 #[test]
 fn pivots_and_columns(rt: HostRuntime) -> Result<(), Fail> {
     let homes = Whole::of_homes(rt.alloc(), 2)?;
-    assert!(rt; has_row(&homes, 0, &[(1, 1), (1, 1), (0, 1)]));
-    assert!(rt; has_row(&homes, 1, &[(0, 1), (0, 1), (1, 1)]));
-    assert!(rt; homes.number(0, 1) == 1 && homes.number(1, 1) == 0);
-    let half = halves(&homes).expect(&rt, "the numbers are small");
-    assert!(rt; has_row(&half, 0, &[(1, 2), (1, 2), (0, 1), (1, 1), (1, 2)]));
-    assert!(rt; has_row(&half, 1, &[(-3, 2), (-3, 2), (1, 1), (0, 1), (-5, 2)]));
-    let third = thirds(&homes).expect(&rt, "the numbers are small");
-    assert!(rt;
-        has_row(
-            &third,
-            0,
-            &[(0, 1), (0, 1), (1, 3), (1, 1), (-1, 3), (2, 1)]
-        )
-    );
-    assert!(rt;
-        has_row(
-            &third,
-            1,
-            &[(1, 1), (1, 1), (-2, 3), (0, 1), (5, 3), (0, 1)]
-        )
-    );
+    assert!(rt; are_homes(&homes) && homes.number(0, 1) == 1 && homes.number(1, 1) == 0);
+    assert!(rt; are_halves(&homes) && are_thirds(&homes));
     row_laws();
     Ok(())
 }
@@ -139,15 +153,53 @@ fn divided_rows(homes: &Whole, by: [i64; 3]) -> Option<Whole> {
     wider(&third, &[1, 1, 1])
 }
 
+/// Costs of three rows, a column, and the sum of the costs times its entries.
+struct Sum {
+    costs: [i8; 3],
+    column: usize,
+    expected: (i128, i128),
+}
+
+/// Sums in rows over 2, 3 and 4.
+const SUMS: [Sum; 5] = [
+    Sum {
+        costs: [1, 1, 1],
+        column: 7,
+        expected: (13, 12),
+    },
+    Sum {
+        costs: [1, -1, 0],
+        column: 7,
+        expected: (1, 6),
+    },
+    Sum {
+        costs: [-1, 0, -1],
+        column: 7,
+        expected: (-3, 4),
+    },
+    Sum {
+        costs: [0, 0, 0],
+        column: 7,
+        expected: (0, 1),
+    },
+    Sum {
+        costs: [1, 1, 1],
+        column: 5,
+        expected: (1, 1),
+    },
+];
+
+/// The place of the first sum that isn't as expected.
+fn wrong_sum(table: &Whole) -> Option<usize> {
+    SUMS.iter()
+        .position(|sum| !is_sum(table, sum.costs, sum.column, sum.expected))
+}
+
 #[test]
 fn sums_over_one_denominator(rt: HostRuntime) -> Result<(), Fail> {
     let homes = Whole::of_homes(rt.alloc(), 3)?;
     let table = divided_rows(&homes, [2, 3, 4]).expect(&rt, "the numbers are small");
-    assert!(rt; is_sum(&table, [1, 1, 1], 7, (13, 12)));
-    assert!(rt; is_sum(&table, [1, -1, 0], 7, (1, 6)));
-    assert!(rt; is_sum(&table, [-1, 0, -1], 7, (-3, 4)));
-    assert!(rt; is_sum(&table, [0, 0, 0], 7, (0, 1)));
-    assert!(rt; is_sum(&table, [1, 1, 1], 5, (1, 1)));
+    assert!(rt; wrong_sum(&table) == None);
     Ok(())
 }
 

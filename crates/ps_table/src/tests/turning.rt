@@ -3,7 +3,7 @@
 
 use super::carrying::{carries, costs_of};
 use super::conditions::{adds, has_entry, has_value, pivots};
-use crate::{Home, Table};
+use crate::{Costs, Home, Table};
 use ps_pool::Col;
 use std::test::Fail;
 
@@ -40,15 +40,23 @@ fn is_divided(table: &Table) -> bool {
         && has_entry(table, 0, Col::World(3), (3, 1 << 61))
 }
 
+/// Whether the world of cost 1 carries 1/2^62 of the home and 3/2^61 of the last world.
+fn carries_quotients(table: &Table, costs: &Costs) -> bool {
+    carries(table, costs, Col::Home(0), (1, LARGE as i128))
+        && carries(table, costs, Col::World(3), (3, 1 << 61))
+}
+
 #[test]
 fn a_new_world_turns_rows_to_fractions(rt: HostRuntime) -> Result<(), Fail> {
     let alloc = rt.alloc();
     let mut table = Table::new(alloc, &[Home::Artificial])?;
-    assert!(rt; turns_by_a_world(&mut table) && is_turned_by_a_world(&table));
-    assert!(rt; pivots(&mut table, 0, Col::World(2)) && is_divided(&table));
     let costs = costs_of(alloc, &[0], &[0, 1, 0])?;
-    assert!(rt; carries(&table, &costs, Col::Home(0), (1, LARGE as i128)));
-    assert!(rt; carries(&table, &costs, Col::World(3), (3, 1 << 61)));
+    assert!(rt; turns_by_a_world(&mut table) && is_turned_by_a_world(&table));
+    assert!(rt;
+        pivots(&mut table, 0, Col::World(2))
+            && is_divided(&table)
+            && carries_quotients(&table, &costs)
+    );
     Ok(())
 }
 
@@ -75,10 +83,12 @@ fn is_turned_by_a_pivot(table: &Table) -> bool {
 fn a_pivot_turns_rows_to_fractions(rt: HostRuntime) -> Result<(), Fail> {
     let alloc = rt.alloc();
     let mut table = Table::new(alloc, &[Home::Artificial, Home::Slack])?;
-    assert!(rt; turns_by_a_pivot(&mut table) && is_turned_by_a_pivot(&table));
     let costs = costs_of(alloc, &[-1, 0], &[1, 0])?;
-    assert!(rt; carries(&table, &costs, Col::World(2), (5 - LOST, 1)));
-    assert!(rt; carries(&table, &costs, Col::Home(1), ((1 << 61) + 1, 1)));
+    assert!(rt; turns_by_a_pivot(&mut table) && is_turned_by_a_pivot(&table));
+    assert!(rt;
+        carries(&table, &costs, Col::World(2), (5 - LOST, 1))
+            && carries(&table, &costs, Col::Home(1), ((1 << 61) + 1, 1))
+    );
     Ok(())
 }
 
@@ -97,11 +107,13 @@ fn is_over_two_and_three(table: &mut Table) -> bool {
 fn rows_of_two_denominators_are_added(rt: HostRuntime) -> Result<(), Fail> {
     let alloc = rt.alloc();
     let mut table = Table::new(alloc, &[Home::Artificial, Home::Slack])?;
-    assert!(rt; is_over_two_and_three(&mut table));
     let both = costs_of(alloc, &[0, 0], &[1, 1, 0])?;
-    assert!(rt; carries(&table, &both, Col::World(3), (5, 6)));
     let less = costs_of(alloc, &[0, 0], &[1, -1, 0])?;
-    assert!(rt; carries(&table, &less, Col::World(3), (1, 6)));
-    assert!(rt; carries(&table, &less, Col::Home(1), (-1, 3)));
+    assert!(rt;
+        is_over_two_and_three(&mut table)
+            && carries(&table, &both, Col::World(3), (5, 6))
+            && carries(&table, &less, Col::World(3), (1, 6))
+            && carries(&table, &less, Col::Home(1), (-1, 3))
+    );
     Ok(())
 }
