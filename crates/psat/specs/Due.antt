@@ -112,7 +112,8 @@ abbrev pub status_after : Answer → Status
 status_after a = status_by a.verdict (unfinished_of (answer_of a))
 
 -- the output is the report of an answer to the problem that the bytes spell: a solution within the limits, of which no part is
--- open for pivots where these are enough; where nothing is open, or the pivots are below the most, the report is read back as it
+-- open for pivots where these are enough; where nothing is open, or the pivots are below the most, its report is read back as it
+-- stands
 pub record IsSolvedBy (limits : Limits) (bytes : List ℕ) (o : Output) (p : Parts) (a : Answer) : Type 0 where
   pub spells : SpellsWhole bytes p
   pub solution : IsSolution limits p a
