@@ -7,7 +7,7 @@ ghost use Rattle.ps_frac.specs.Fitting.{IfFits, IfSizeFits};
 use crate::limits::{HALF_WORD, SIZE_LIMIT, WORD};
 
 /// `n / g`, rounded down; most numbers fit 64 bits, where a division is much faster.
-pub(crate) fn part(n: u128, g: u128) -> u128
+pub fn size_quotient(n: u128, g: u128) -> u128
     requires positive { 0 < g }
     ensures value { result ≡ n / g }
     ensures at_most { result ≤ n }
@@ -22,12 +22,12 @@ pub(crate) fn part(n: u128, g: u128) -> u128
 }
 
 /// `n / g`, rounded toward zero.
-pub(crate) fn exact_quotient(n: i128, g: u128) -> i128
+pub fn signed_quotient(n: i128, g: u128) -> i128
     requires positive { 0 < g }
     requires size { Fits n }
     ensures value { result ≡ int_div n (pos g) }
 {
-    let size = part(n.unsigned_abs(), g) as i128;
+    let size = size_quotient(n.unsigned_abs(), g) as i128;
     if n < 0 { -size } else { size }
 }
 

@@ -4,7 +4,7 @@ ghost use Rattle.std.specs.Prelude.{◌≡◌, ◌<◌, ◌↔◌, IsTrue, pos, 
 ghost use Rattle.ps_rational.specs.Rational.{Rational, IsLowestTerms, fraction, neg, zero_q};
 ghost use Rattle.ps_rational.specs.Wide.{Fits, size_limit};
 
-use crate::checked::exact_quotient;
+use crate::checked::signed_quotient;
 use crate::divisors::gcd;
 use std::marker::Model;
 
@@ -56,7 +56,7 @@ impl Fraction {
     {
         let bottom = d.unsigned_abs();
         let g = gcd(n.unsigned_abs(), bottom);
-        Fraction::of_lowest(exact_quotient(n, g), bottom / g)
+        Fraction::of_lowest(signed_quotient(n, g), bottom / g)
     }
 
     /// Both numbers are below the limit: a law, no more than two reads.

@@ -6,7 +6,7 @@ ghost use Rattle.ps_rational.specs.Wide.{product_over, product_under, ProductIsW
 ghost use Rattle.ps_frac.specs.Fitting.{IfFits, IfSizeFits, common};
 ghost use Rattle.ps_frac.specs.Refusals.{Refuses};
 
-use crate::checked::{exact_quotient, part, signed_product, size_product};
+use crate::checked::{signed_product, signed_quotient, size_product, size_quotient};
 use crate::divisors::gcd;
 use crate::fraction::Fraction;
 use crate::wide::{Op, Wide};
@@ -32,8 +32,8 @@ impl Fraction {
         ensures value { IfFits (product_over self.now other.now) result }
     {
         signed_product(
-            exact_quotient(self.numerator(), g),
-            exact_quotient(other.numerator(), h),
+            signed_quotient(self.numerator(), g),
+            signed_quotient(other.numerator(), h),
         )
     }
 
@@ -45,7 +45,7 @@ impl Fraction {
         requires h_positive { 0 < h }
         ensures value { IfSizeFits (product_under self.now other.now) result }
     {
-        size_product(part(self.under(), h), part(other.under(), g))
+        size_product(size_quotient(self.under(), h), size_quotient(other.under(), g))
     }
 
     /// The product, refused exactly where its numerator or denominator is too large.

@@ -7,7 +7,9 @@ ghost use Rattle.ps_rational.specs.Wide.{Fits, size_limit, sum_over, SumIsWide};
 ghost use Rattle.ps_frac.specs.Fitting.{IfFits, IfSumOverFits, IfSumUnderFits};
 ghost use Rattle.ps_frac.specs.Refusals.{Refuses};
 
-use crate::checked::{exact_quotient, part, signed_product, signed_sum, size_product};
+use crate::checked::{
+    signed_product, signed_quotient, signed_sum, size_product, size_quotient,
+};
 use crate::divisors::gcd;
 use crate::fraction::Fraction;
 use crate::wide::{Op, Wide};
@@ -29,8 +31,8 @@ impl Fraction {
         ensures value { IfSumOverFits self.now other.now result }
     {
         match (
-            self.scaled_numerator(part(other.under(), g)),
-            other.scaled_numerator(part(self.under(), g)),
+            self.scaled_numerator(size_quotient(other.under(), g)),
+            other.scaled_numerator(size_quotient(self.under(), g)),
         ) {
             (Some(left), Some(right)) => signed_sum(left, right),
             _ => None,
@@ -47,8 +49,8 @@ impl Fraction {
         ensures value { IfSumUnderFits self.now other.now result }
     {
         let h = gcd(top.unsigned_abs(), g);
-        match size_product(part(self.under(), g), part(other.under(), h)) {
-            Some(denominator) => Some(Fraction::of_lowest(exact_quotient(top, h), denominator)),
+        match size_product(size_quotient(self.under(), g), size_quotient(other.under(), h)) {
+            Some(denominator) => Some(Fraction::of_lowest(signed_quotient(top, h), denominator)),
             None => None,
         }
     }

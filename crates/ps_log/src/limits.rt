@@ -16,6 +16,10 @@ pub const MOST_LITS: usize = MOST_VARIABLES as usize;
 /// So many hints a step has at most.
 pub const MOST_HINTS: usize = MOST_LITS + 1;
 
+/// A line of a step has at most so many numbers: its id, literals and hints, and two zeros. A goal's
+/// has fewer.
+pub(crate) const MOST_NUMBERS: usize = MOST_LITS + MOST_HINTS + 3;
+
 /// So many clauses a search may be allowed to learn at most.
 pub const MOST_CONFLICTS: u64 = 1 << 40;
 

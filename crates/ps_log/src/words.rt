@@ -4,6 +4,7 @@ ghost use Rattle.ps_log.specs.Spellings.{words_of};
 ghost use Rattle.ps_log.specs.FirstLines.{FirstLine, IsOneLine};
 ghost use Rattle.ps_log.specs.Numbers.{AreRead, Lacks, IsCut, words_after, left_of};
 
+use crate::limits::MOST_NUMBERS;
 use crate::numeral::number;
 use crate::room::list_with_room;
 use ps_io::{List, NoMemory};
@@ -13,7 +14,7 @@ use std::alloc::Global;
 pub(crate) fn numbers(alloc: Global, text: &[u8]) -> Result<Option<List<i128>>, NoMemory>
     ensures { IfOk result (AreRead text.now) }
 {
-    let mut numbers = list_with_room(alloc, text.len() / 4)?;
+    let mut numbers = list_with_room(alloc, (text.len() / 4).min(MOST_NUMBERS))?;
     let mut rest = Some(text);
     while let Some(bytes) = rest {
         let (word, after) = split_word(bytes);

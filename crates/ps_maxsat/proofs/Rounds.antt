@@ -164,6 +164,11 @@ pub error-first : (p : Wcnf) (least : ℤ) (conflicts : ℕ) (old : Telling) (r 
 error-first p least conflicts old (Ok o) h = absurd (false≢true h)
 error-first p least conflicts old (Err e) h = inl (λ b. (b, refl, refl))
 
+-- nothing was told before an error of the greatest value
+pub priced-nothing : (p : Wcnf) (conflicts : ℕ) (old : Telling) (r : Result Priced SearchError) → IsErr r → IsBestLogged p conflicts old old r
+priced-nothing p conflicts old (Ok o) h = absurd (false≢true h)
+priced-nothing p conflicts old (Err e) h = inl (λ b. (b, refl, refl))
+
 -- after an error in the first search
 pub first-error : (p : Wcnf) (conflicts : ℕ) (old new : Telling) → IsLogAfterFailed p (pos 1) conflicts old new → IsLogAfterError p conflicts old new
 first-error p conflicts old new (inl st) = inl st

@@ -7,5 +7,5 @@ mod problem;
 mod spacing;
 
 pub use limits::{MOST_TOTAL, limits_have_these_numbers};
-pub use pricing::{Priced, best};
+pub use pricing::{Priced, best, best_from};
 pub use problem::Wcnf;

@@ -49,6 +49,7 @@ pub enum Priced {
 fn search_above<S: ProofSink>(
     alloc: Global,
     wcnf: &Wcnf,
+    first: &Assignment,
     least: i128,
     conflicts: u64,
     log: &mut S,
@@ -69,7 +70,7 @@ fn search_above<S: ProofSink>(
     ensures same_references { S.names log.new ≡ S.names log.old }
 {
     let goal = from_weights(alloc, wcnf.soft.as_slice(), least - wcnf.base)?;
-    search_from(alloc, &wcnf.hard, &goal, &wcnf.first, conflicts, log)
+    search_from(alloc, &wcnf.hard, &goal, first, conflicts, log)
 }
 
 // Half of a distance, rounded down.
@@ -123,7 +124,32 @@ pub fn best<S: ProofSink>(
     ensures same_kind { S.takes_memory log.new ≡ S.takes_memory log.old }
     ensures same_references { S.names log.new ≡ S.names log.old }
 {
-    let (mut assignment, mut found) = match search_above(alloc, wcnf, 1, conflicts, log)? {
+    let first = Assignment::new(alloc, 0)?;
+    best_from(alloc, wcnf, &first, conflicts, log)
+}
+
+/// As `best`. A variable that no soft literal has is first tried with the value that the first
+/// assignment gives it, and false where it gives none.
+pub fn best_from<S: ProofSink>(
+    alloc: Global,
+    wcnf: &Wcnf,
+    first: &Assignment,
+    conflicts: u64,
+    log: &mut S,
+) -> Result<Priced, SearchError>
+    requires whole { IsTrue (S.is_whole log.old) }
+    requires soft { IsSoftWithin wcnf.now }
+    requires sizes { IsNarrow wcnf.now }
+    requires few { conflicts ≤ MOST_CONFLICTS }
+    ensures priced { IfOk result (IsPriced wcnf.now conflicts) }
+    ensures logged { IsBestLogged wcnf.now conflicts (S.told log.old) (S.told log.new) result }
+    ensures whole { OnOk result (IsTrue (S.is_whole log.new)) }
+    ensures counted { CountsSearchFault result (S.faults log.old) (S.faults log.new) }
+    ensures no_memory { IsErrOf result SearchError.NoMemory → IsTrue (S.is_whole log.new) }
+    ensures same_kind { S.takes_memory log.new ≡ S.takes_memory log.old }
+    ensures same_references { S.names log.new ≡ S.names log.old }
+{
+    let (mut assignment, mut found) = match search_above(alloc, wcnf, first, 1, conflicts, log)? {
         Outcome::Refuted { last } => return Ok(Priced::NoneAbove { last }),
         Outcome::Spent { learned } => return Ok(Priced::Spent { learned }),
         Outcome::Found(assignment) => {
@@ -137,7 +163,7 @@ pub fn best<S: ProofSink>(
     while found < bound {
         let goal = middle(found, bound);
         searches += 1;
-        match search_above(alloc, wcnf, goal, conflicts, log)? {
+        match search_above(alloc, wcnf, first, goal, conflicts, log)? {
             Outcome::Refuted { last: _ } => bound = greatest_in_steps(found, unit, goal - 1),
             Outcome::Found(better) => {
                 found = value(wcnf, &better);

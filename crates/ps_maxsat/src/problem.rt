@@ -20,8 +20,6 @@ pub struct Wcnf {
     pub soft: WeightedLits,
     /// The value of an assignment in which no soft literal is true.
     pub base: i128,
-    /// What searches first try for variables that no soft literal has, and false where it has none.
-    pub first: Assignment,
 }
 
 impl Wcnf {

@@ -146,7 +146,6 @@ impl<'p> Pricer<'p> {
             hard: self.form.copy(alloc)?,
             soft: terms,
             base,
-            first: self.first.copy(alloc)?,
         })
     }
 
@@ -175,7 +174,7 @@ impl<'p> Pricer<'p> {
         // numbers are in range.
         let _sound = self.bounds();
         let wcnf = self.wcnf(alloc, kind, &dual)?;
-        let Sought { priced, steps } = seek(alloc, &wcnf, self.conflicts)?;
+        let Sought { priced, steps } = seek(alloc, &wcnf, &self.first, self.conflicts)?;
         match priced {
             Priced::NoneAbove { last: _ } => Ok(Pricing::Refuted(with_steps(dual, steps))),
             Priced::Spent { learned: _ } => {

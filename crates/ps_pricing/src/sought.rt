@@ -8,8 +8,8 @@ ghost use Rattle.ps_pricing.specs.Sought.{HasSteps, HasFewSteps};
 
 use ps_io::NoMemory;
 use ps_log::HeldLog;
-use ps_maxsat::{Priced, Wcnf, best};
-use ps_pb::Steps;
+use ps_maxsat::{Priced, Wcnf, best_from};
+use ps_pb::{Assignment, Steps};
 use ps_sat::SearchError;
 use std::alloc::Global;
 
@@ -20,8 +20,13 @@ pub(crate) struct Sought {
     pub(crate) steps: Steps,
 }
 
-/// Looks for the greatest value.
-pub(crate) fn seek(alloc: Global, wcnf: &Wcnf, conflicts: u64) -> Result<Sought, NoMemory>
+/// Looks for the greatest value, with the values of the first assignment first.
+pub(crate) fn seek(
+    alloc: Global,
+    wcnf: &Wcnf,
+    first: &Assignment,
+    conflicts: u64,
+) -> Result<Sought, NoMemory>
     requires soft { IsSoftWithin wcnf.now }
     requires sizes { IsNarrow wcnf.now }
     requires few { conflicts ≤ MOST_CONFLICTS }
@@ -31,7 +36,7 @@ pub(crate) fn seek(alloc: Global, wcnf: &Wcnf, conflicts: u64) -> Result<Sought,
     ensures literals { IfOk result (λ s. AreOfLiterals s.steps) }
 {
     let mut log = HeldLog::new(alloc);
-    match best(alloc, wcnf, conflicts, &mut log) {
+    match best_from(alloc, wcnf, first, conflicts, &mut log) {
         Ok(priced) => {
             // Called for its clauses: each of the form's variables is one that a literal may have.
             let _variables = wcnf.hard.variables();

@@ -2,7 +2,6 @@
 #![tactic(auto)]
 
 mod change;
-mod dividing;
 mod divisors;
 mod homes;
 mod laws;

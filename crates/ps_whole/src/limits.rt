@@ -11,6 +11,3 @@ pub(crate) const LIMIT: u128 = 1 << 62;
 
 /// Above the size of each number of a sum.
 pub(crate) const SUM_LIMIT: u128 = 1 << 126;
-
-/// Above every number that fits 64 bits.
-pub(crate) const WORD: u128 = 1 << 64;

@@ -6,9 +6,9 @@ ghost use Rattle.ps_whole.specs.Pivots.{IsPivotOf, IsPivoted, IsNarrowed, ArePiv
 ghost use Rattle.ps_whole.specs.Pivots.{HasRow, HasNextRow, IsPivotedTo, ArePivoted, IsSmallContent};
 
 use crate::change::RowChange;
-use crate::dividing::{part, quotient};
 use crate::limits::LIMIT;
 use crate::rows::Whole;
+use ps_frac::{signed_quotient, size_quotient};
 use ps_io::NoMemory;
 
 /// A number that is small enough to be kept.
@@ -37,7 +37,7 @@ impl Whole {
     {
         for column in 0..self.width() {
             let raw = self.raw(p, i, change.times, change.less, column);
-            match narrow(quotient(raw, change.by)) {
+            match narrow(signed_quotient(raw, change.by)) {
                 Some(number) => made.push(number)?,
                 None => return Ok(false),
             }
@@ -83,7 +83,7 @@ impl Whole {
         ensures all { IfAll result (HasNextRow self.now p q i numbers.new.items unders.new.items) }
     {
         let change = self.change(p, q, i);
-        let under = part(change.base, change.by);
+        let under = size_quotient(change.base, change.by);
         if !(under < LIMIT) {
             return Ok(false);
         }

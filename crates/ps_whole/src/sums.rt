@@ -5,10 +5,9 @@ ghost use Rattle.ps_rational.specs.Rational.{fraction, zero_q};
 ghost use Rattle.ps_whole.specs.Whole.{whole_at};
 ghost use Rattle.ps_whole.specs.Sums.{value_of, IsSmallSum, IsSumOf, IsSumWith};
 
-use crate::dividing::part;
 use crate::limits::SUM_LIMIT;
 use crate::rows::Whole;
-use ps_frac::{Fraction, gcd};
+use ps_frac::{Fraction, gcd, size_quotient};
 
 /// A sum over one denominator.
 #[derive(Clone, Copy, Drop)]
@@ -103,9 +102,9 @@ impl WholeSum {
         ensures sum { IfSome result (IsSumOf (value_of self.now) (fraction number under)) }
     {
         let g = gcd(self.under, under as u128);
-        let times = part(under as u128, g);
+        let times = size_quotient(under as u128, g);
         let left = multiple(self.over, times)?;
-        let right = multiple(number as i128, part(self.under, g))?;
+        let right = multiple(number as i128, size_quotient(self.under, g))?;
         let common = multiple(self.under as i128, times)?.unsigned_abs();
         total(left, right, common)
     }

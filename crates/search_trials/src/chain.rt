@@ -9,7 +9,7 @@ use ps_formula::{AddError, Formulas, Node};
 use ps_io::{List, NoMemory};
 use ps_log::HeldLog;
 use ps_maxsat::{Priced, Wcnf, best};
-use ps_pb::{Assignment, Lit};
+use ps_pb::Lit;
 use ps_sat::SearchError;
 use std::alloc::Global;
 
@@ -67,7 +67,6 @@ fn problem(alloc: Global, bounds: u16) -> Result<Wcnf, NoMemory>
         hard: chain(alloc)?,
         soft,
         base: 100 - 100 * bounds as i128,
-        first: Assignment::new(alloc, 0)?,
     })
 }
 

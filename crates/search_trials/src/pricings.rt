@@ -8,7 +8,7 @@ use ps_clause::ClauseForm;
 use ps_io::{Lines, List, MemSink, NoMemory};
 use ps_log::{HeldLog, TextLog};
 use ps_maxsat::{Priced, Wcnf, best};
-use ps_pb::{Assignment, Lit};
+use ps_pb::Lit;
 use ps_sat::SearchError;
 use std::alloc::Global;
 
@@ -44,7 +44,6 @@ fn one_of_two(alloc: Global, base: i128) -> Result<Wcnf, NoMemory> {
         hard: not_both(alloc)?,
         soft: weighing(alloc, 3, 2)?,
         base,
-        first: Assignment::new(alloc, 0)?,
     })
 }
 
@@ -68,7 +67,6 @@ pub fn is_1500_by_two_searches(alloc: Global) -> Result<bool, SearchError> {
         hard: not_both(alloc)?,
         soft: weighing(alloc, 2000, 1000)?,
         base: -500,
-        first: Assignment::new(alloc, 0)?,
     };
     let (priced, _) = held_best(alloc, &wcnf)?;
     Ok(matches!(

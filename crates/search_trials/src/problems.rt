@@ -8,7 +8,7 @@ use ps_clause::ClauseForm;
 use ps_io::List;
 use ps_log::HeldLog;
 use ps_maxsat::{Priced, Wcnf, best};
-use ps_pb::{Assignment, Lit, MOST_VARIABLES};
+use ps_pb::{Lit, MOST_VARIABLES};
 use ps_sat::{MOST_CONFLICTS, SearchError};
 use std::alloc::Global;
 
@@ -91,7 +91,6 @@ impl Problem {
             hard: self.hard(alloc)?,
             soft: self.soft(alloc)?,
             base: self.base as i128,
-            first: Assignment::new(alloc, 0)?,
         })
     }
 

@@ -13,13 +13,13 @@ loop-column-preserved c =
     let g = c.args.change.now.by in
     let raw = raw_number w c.args.p c.args.i c.args.change.now.times c.args.change.now.less n in
     let fr : FitsSigned w128 c.raw-raw.result = search rules in
-    let fd : FitsSigned w128 c.quotient.result = search rules in
+    let fd : FitsSigned w128 c.signed_quotient.result = search rules in
     let ft : FitsSigned w64 c.args.change.now.times = search rules in
     let fl : FitsSigned w64 c.args.change.now.less = search rules in
     let r : c.raw-raw.result ≡ raw = simp to_z-of_z at c.raw-raw.ensures.value in
-    let d : c.quotient.result ≡ int_div c.raw-raw.result (pos g) = simp to_z-of_z at c.quotient.ensures.value in
+    let d : c.signed_quotient.result ≡ int_div c.raw-raw.result (pos g) = simp to_z-of_z at c.signed_quotient.ensures.value in
     let fn : FitsSigned w64 c.in-Some.number = search rules in
-    let kept : IsNarrowed c.quotient.result c.in-Some.number = simp to_z-of_z at c.in-Some.ensures.value in
+    let kept : IsNarrowed c.signed_quotient.result c.in-Some.number = simp to_z-of_z at c.in-Some.ensures.value in
     let exact : int_div raw (pos g) *ℤ pos g ≡ raw = quot_exact raw g (c.requires.change.content.over n (omega (arith, c.loop-column-test.true, c.width-column-end.ensures.value))) in
     pushed_next (raw_number w c.args.p c.args.i c.args.change.now.times c.args.change.now.less) g c.args.made.now.items c.loop-column.made.items c.push.new.self.items n c.in-Some.number
     c.loop-column.invariant (c.in_ok-push-in-Some.ensures.items ∙ ap (λ v. c.loop-column.made.items ++ v ∷ []) (to_z-of_z w64 c.in-Some.number fn))

@@ -15,9 +15,9 @@ total-requires-clause-positive c =
     let fz : FitsSigned w128 z = search rules in
     let size : c.unsigned_abs-common.result ≡ unsigned_abs z = c.unsigned_abs-common.ensures.value ∙ ap unsigned_abs (to_z-of_z w128 z fz) in
     let eu : to_z w128 e ≡ pos e = to_z_pos w128 e (omega (arith, c.requires.small.under)) in
-    let made : z ≡ pos e *ℤ pos c.part-times.result = c.in_ok-multiple.ensures.value ∙ ap (λ k. k *ℤ pos c.part-times.result) eu in
+    let made : z ≡ pos e *ℤ pos c.size_quotient-times.result = c.in_ok-multiple.ensures.value ∙ ap (λ k. k *ℤ pos c.size_quotient-times.result) eu in
     common_positive z e d g c.unsigned_abs-common.result c.requires.small.positive c.requires.positive c.gcd-g.ensures.value size
-    (made ∙ ap (λ n. pos e *ℤ pos n) c.part-times.ensures.value)
+    (made ∙ ap (λ n. pos e *ℤ pos n) c.size_quotient-times.ensures.value)
 
 pub returns : goal.returns
 returns c =
@@ -38,15 +38,15 @@ returns c =
     let fz : FitsSigned w128 z = search rules in
     let size : b ≡ unsigned_abs z = c.unsigned_abs-common.ensures.value ∙ ap unsigned_abs (to_z-of_z w128 z fz) in
     let eu : to_z w128 e ≡ pos e = to_z_pos w128 e (omega (arith, c.requires.small.under)) in
-    let made : z ≡ pos e *ℤ pos c.part-times.result = c.in_ok-multiple.ensures.value ∙ ap (λ k. k *ℤ pos c.part-times.result) eu in
-    let common : b ≡ e * (d / g) = common_is z e (d / g) b size (made ∙ ap (λ n. pos e *ℤ pos n) c.part-times.ensures.value) in
-    let el : left ≡ s.over *ℤ pos c.part-times.result = simp to_z-of_z at c.in_ok-left.ensures.value in
-    let er : right ≡ y *ℤ pos c.part.result = simp to_z-of_z at c.in_ok-right.ensures.value in
+    let made : z ≡ pos e *ℤ pos c.size_quotient-times.result = c.in_ok-multiple.ensures.value ∙ ap (λ k. k *ℤ pos c.size_quotient-times.result) eu in
+    let common : b ≡ e * (d / g) = common_is z e (d / g) b size (made ∙ ap (λ n. pos e *ℤ pos n) c.size_quotient-times.ensures.value) in
+    let el : left ≡ s.over *ℤ pos c.size_quotient-times.result = simp to_z-of_z at c.in_ok-left.ensures.value in
+    let er : right ≡ y *ℤ pos c.size_quotient.result = simp to_z-of_z at c.in_ok-right.ensures.value in
     let sum : IfSome c.total.result (IsSumOf (fraction left b) (fraction right b)) =
     subst (λ l. IfSome c.total.result (IsSumOf (fraction l b) (fraction right b))) (to_z-of_z w128 left fl)
     (subst (λ r. IfSome c.total.result (IsSumOf (fraction (to_z w128 (of_z w128 left)) b) (fraction r b))) (to_z-of_z w128 right fr) c.total.ensures.sum) in
     record {
       sum = some_map c.total.result (IsSumOf (fraction left b) (fraction right b)) (IsSumOf (value_of s) (fraction y d))
           (λ new is. other_sum s.over y left right e d g b new c.requires.small.positive c.requires.positive c.gcd-g.ensures.value
-          (el ∙ ap (λ n. s.over *ℤ pos n) c.part-times.ensures.value) (er ∙ ap (λ n. y *ℤ pos n) c.part.ensures.value) common is) sum;
+          (el ∙ ap (λ n. s.over *ℤ pos n) c.size_quotient-times.ensures.value) (er ∙ ap (λ n. y *ℤ pos n) c.size_quotient.ensures.value) common is) sum;
     }

@@ -2,7 +2,7 @@ use Rattle.std.proofs.Common.{◌≡◌, ◌≤◌, ◌^◌, ◌-◌, unsigned_a
 use Rattle.std.specs.Prelude.{IsTrue}
 use Rattle.ps_maxsat.specs.Values.{IsOf, NoneIsAbove, HoldsLast, most_value}
 use Rattle.ps_maxsat.proofs.Halving.{IsHalved}
-use Rattle.ps_maxsat.proofs.pricing.best.Given as goal
+use Rattle.ps_maxsat.proofs.pricing.best_from.Given as goal
 
 abbrev pub invariant-loop-found : goal.invariant-loop-found
 invariant-loop-found g l = record {
