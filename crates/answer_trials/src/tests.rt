@@ -1,5 +1,5 @@
 //! Random small problems: by guesses they have the answers of lawful runs, whatever the tolerances.
-ghost use Rattle.std.specs.Prelude.{◌+◌, ◌<◌, ◌^◌, length};
+ghost use Rattle.std.specs.Prelude.{◌<◌};
 
 use crate::answering::limits_of;
 use ps_answer::{Answer, QueryAnswer, QueryPart, SideAnswer, Verdict};

@@ -1,5 +1,5 @@
 -- What an explanation tells of sentences that clash.
-use Rattle.std.proofs.Common.{◌≡◌, true, ℕ, List, All, Option, Some, None, length, map, refl, sym, subst, inl, inr}
+use Rattle.std.proofs.Common.{◌≡◌, true, ℕ, List, All, Some, None, length, map, refl, sym, subst, inl, inr}
 use Rattle.ps_problem.specs.Problems.{Parts, bounds_of}
 use Rattle.ps_pool.specs.declared.event.Event.{Event}
 use Rattle.ps_answer.specs.declared.answer.Cause.{Cause}
@@ -14,14 +14,14 @@ use Rattle.ps_valid.specs.Answers.{IsRightOf, verdict_of}
 use Rattle.ps_phases.specs.declared.limits.Limits.{Limits}
 use Rattle.ps_explain.specs.declared.explained.Explained.{Explained}
 use Rattle.ps_explain.specs.declared.explained.Explained.TheVariants as explained
-use Rattle.ps_explain.specs.Explanations.{IsRightExplanation, IsCore, IsOpenOver}
+use Rattle.ps_explain.specs.Explanations.{IsRightExplanation}
 use Rattle.ps_spoken.specs.declared.clash.Clash.{Clash}
 use Rattle.ps_spoken.specs.declared.clash.Clash.TheVariants as clash
 use Rattle.ps_spoken.specs.declared.clash.Clashing.{Clashing}
 use Rattle.ps_explain.specs.Rests.{IsVerdictWithout}
 use Rattle.ps_ask.specs.declared.cores.Core.{Core}
 use Rattle.ps_ask.specs.declared.cores.Core.TheVariants as core
-use Rattle.ps_ask.specs.Clashes.{AreIrreducible, IsStopped, IsClashAt, IsFoundClash, IsCoreWithin, IsCoreFor, IsLateClash, IsShownInconsistent}
+use Rattle.ps_ask.specs.Clashes.{AreIrreducible, IsClashAt, IsFoundClash, IsCoreWithin, IsCoreFor, IsShownInconsistent}
 use Rattle.ps_ask.specs.Clashes.{IsRestOf, IsRestFor, number_of}
 use Rattle.ps_spoken.specs.Spoken.{out_of_time}
 use Rattle.ps_ask.specs.declared.settings.Settings.{Settings}

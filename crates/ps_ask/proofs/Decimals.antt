@@ -1,9 +1,8 @@
 -- Each bound of an answer is a number from 0 to 1, of a small denominator.
 use Rattle.std.proofs.Common.{◌≡◌, ℕ, ◌*◌, ◌≤◌, ℤ, pos, negsuc, ◌*ℤ◌, ◌+ℤ◌, ◌≤ℤ◌, unsigned_abs, Bool, true, false, cond, ◌&&◌, List, [], ◌∷◌, All, inl, inr, sym, ap, ◌∙◌, subst, arith}
-use Rattle.std.specs.List.{AllZip}
 use Rattle.std.proofs.lemmas.Int.{ints, unsigned_abs-mul}
 use Rattle.std.proofs.Math.Nat.{le_trans, le_of_mul-le-mul_right, mul-le-mul_left}
-use Rattle.std.proofs.lemmas.List.Elements.{All-cons, All-head, All-nil, All-tail}
+use Rattle.std.proofs.lemmas.List.Elements.{All-cons, All-nil, All-tail}
 use Rattle.ps_rational.specs.Rational.{Rational}
 use Rattle.ps_meaning.specs.Formula.{Formula, And, is_true}
 use Rattle.ps_meaning.specs.Distribution.{Entry, weight}
@@ -21,7 +20,7 @@ use Rattle.ps_answer.specs.declared.answer.QueryPart.{QueryPart}
 use Rattle.ps_claims.specs.declared.claim_kind.ClaimKind.TheVariants.{Lower, Upper}
 use Rattle.ps_certificate.specs.Certificates.{dual_of}
 use Rattle.ps_claims.specs.Validity.{IsValidSide, IsValidPart}
-use Rattle.ps_valid.specs.Answers.{side_of, part_of, parts_of}
+use Rattle.ps_valid.specs.Answers.{side_of, part_of}
 use Rattle.ps_certificate.specs.Printed.{IsPrintedSide, IsPrintedPart}
 use Rattle.ps_reported.proofs.Values.{value_low, value_small}
 use Rattle.std.specs.Prelude.{◌⊎◌}

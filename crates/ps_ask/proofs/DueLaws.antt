@@ -1,5 +1,5 @@
 -- What is due for what was read and answered.
-use Rattle.std.proofs.Common.{◌≡◌, ◌≢◌, ◌+◌, ◌<◌, ◌≤◌, ℕ, zero, suc, Bool, true, false, List, [], ◌++◌, length, Option, Some, None, Ok, Err, IfOk, sym, refl, ap, subst, ◌∙◌, append-nil, length-append, arith}
+use Rattle.std.proofs.Common.{◌≡◌, ◌≢◌, ◌+◌, ◌<◌, ℕ, zero, suc, Bool, true, false, List, [], ◌++◌, length, Option, Some, None, Ok, Err, IfOk, sym, refl, ap, subst, ◌∙◌, append-nil, length-append, arith}
 use Rattle.std.specs.Prelude.{Result, IfErr, if◌then◌else◌}
 use Rattle.ps_io.specs.Transfer.{Appends, ReadAll, TookMore}
 use Rattle.ps_problem.specs.Problems.{Parts}
@@ -23,7 +23,7 @@ use Rattle.ps_ask.specs.declared.reply.ReplyError.TheVariants as errors
 use Rattle.ps_ask.specs.Late.{is_late}
 use Rattle.ps_ask.specs.Statuses.{HasText, status_after, status_by}
 use Rattle.ps_ask.specs.Fronts.{IsBegunText, IsWhole, begun_text}
-use Rattle.ps_ask.specs.Shown.{AsItGoes, CountsReads, IsDue, IsText, Shown, NoProblem, TooLong, answer_output, last_text, wanted_report}
+use Rattle.ps_ask.specs.Shown.{AsItGoes, CountsReads, IsText, Shown, NoProblem, TooLong, answer_output, last_text, wanted_report}
 use Rattle.ps_ask.specs.Replies.{AreShortInTime, Ended, HasShown, HasShownFor, IsDueAfter, IsOf, IsShort, IsShownFor, IsSolvedAfter, last_of, output_after, report_by, status_of, status_with}
 use Rattle.ps_ask.proofs.EndLaws.{ended_as, nothing_appended, nothing_ended}
 

@@ -1,8 +1,7 @@
 -- Texts that are written one after the other, and where they end early.
 use Rattle.std.proofs.Common.{◌≡◌, ◌∙◌, ℕ, List, [], ◌++◌, Option, Some, None, refl, sym, ap, append-nil, inl, inr, subst}
-use Rattle.std.specs.Prelude.{◌⊎◌, Result, Ok, Err}
-use Rattle.ps_io.specs.Causes.{CountsFault, next_count}
-use Rattle.ps_io.specs.Transfer.{Appends, AppendsPrefix, Writes}
+use Rattle.std.specs.Prelude.{◌⊎◌}
+use Rattle.ps_io.specs.Transfer.{Appends}
 use Rattle.ps_io.proofs.Bytes.{appends-then}
 use Rattle.ps_io.proofs.CallerLemmas.{prefix-after}
 use Rattle.ps_ask.specs.declared.reply.ReplyError.{ReplyError}
@@ -14,7 +13,7 @@ use Rattle.ps_answer.specs.declared.answer.QueryPart.{QueryPart}
 use Rattle.ps_answer.specs.declared.answer.Verdict.{Verdict}
 use Rattle.ps_ask.specs.declared.settings.Settings.{Settings}
 use Rattle.ps_ask.specs.Fronts.{IsShownPart, IsShownVerdict, part_piece, verdict_piece}
-use Rattle.ps_ask.specs.Replies.{Ended, IsCut, IsPiece, IsVerdictPiece, WroteFront, WroteSome}
+use Rattle.ps_ask.specs.Replies.{Ended, IsCut, IsPiece, IsVerdictPiece, WroteSome}
 
 pub nothing_appended : (o : Option (List ℕ)) → Appends o o []
 nothing_appended None = refl

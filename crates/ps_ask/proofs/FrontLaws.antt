@@ -1,5 +1,5 @@
 -- An answer as it goes.
-use Rattle.std.proofs.Common.{◌≡◌, ◌∙◌, ℕ, zero, suc, ◌+◌, ◌<◌, ◌≤◌, Bool, true, false, List, [], ◌∷◌, ◌++◌, length, take, get_or, refl, sym, ap, subst, append_assoc, append-nil, inl, inr, arith}
+use Rattle.std.proofs.Common.{◌≡◌, ◌∙◌, ℕ, ◌+◌, ◌<◌, ◌≤◌, Bool, true, false, List, [], ◌∷◌, ◌++◌, length, take, get_or, refl, sym, ap, subst, append_assoc, append-nil, inl, inr, arith}
 use Rattle.std.specs.Prelude.{◌⊎◌, ◌&&◌, ◌||◌}
 use Rattle.std.specs.List.{AllZip}
 use Rattle.std.proofs.lemmas.List.{take_all}
@@ -10,26 +10,23 @@ use Rattle.ps_pool.specs.declared.event.Event.{Event}
 use Rattle.ps_answer.specs.declared.answer.Answer.{Answer}
 use Rattle.ps_answer.specs.declared.answer.QueryPart.{QueryPart}
 use Rattle.ps_answer.specs.declared.answer.Verdict.{Verdict}
-use Rattle.ps_answer.specs.declared.answer.Verdict.TheVariants.{Open}
 use Rattle.ps_claims.specs.Validity.{IsValid, IsValidPart, IsValidVerdict}
 use Rattle.ps_claims.proofs.Valid.{valid-right}
 use Rattle.ps_valid.specs.Answers.{answer_of, part_of, parts_of, verdict_of}
 use Rattle.ps_phases.specs.Verdicts.{asked_after}
 use Rattle.ps_reported.proofs.Reports.{asked_same}
-use Rattle.ps_phases.specs.declared.limits.Limits.{Limits}
 use Rattle.ps_generation.specs.Phases.{AreLimits}
 use Rattle.ps_query.proofs.Loops.{zip_next}
-use Rattle.ps_query.specs.Solutions.{AreShortLines}
-use Rattle.ps_guided.specs.Solutions.{IsAnsweredPart, IsAnsweredVerdict, IsSettledSolution}
+use Rattle.ps_guided.specs.Solutions.{IsAnsweredPart, IsAnsweredVerdict}
 use Rattle.ps_guided.proofs.Settled.{solution, short}
-use Rattle.ps_spoken.specs.Spoken.{spoken, out_of_time, part_text, paired_text}
+use Rattle.ps_spoken.specs.Spoken.{spoken, part_text, paired_text}
 use Rattle.ps_spoken.specs.Quiet.{values_of}
 use Rattle.ps_spoken.proofs.Values.{values-push}
 use Rattle.ps_ask.specs.declared.settings.Settings.{Settings}
 use Rattle.ps_ask.specs.declared.settings.Style.{Style}
 use Rattle.ps_ask.specs.declared.settings.Style.TheVariants.{Words, Values, Json, Report}
 use Rattle.ps_ask.specs.Late.{is_late, is_late_answer, is_late_in, is_late_verdict}
-use Rattle.ps_ask.specs.Fronts.{AreShownParts, IsBegunText, IsLatePart, IsLateVerdict, IsShownPart, IsShownVerdict, IsUnderWay, IsWhole, begun_text, part_piece, parts_pieces, verdict_piece}
+use Rattle.ps_ask.specs.Fronts.{AreShownParts, IsBegunText, IsLatePart, IsLateVerdict, IsShownPart, IsShownVerdict, IsWhole, begun_text, part_piece, parts_pieces, verdict_piece}
 use Rattle.ps_ask.specs.Replies.{AreShortInTime, ArePieces, IsPiece, IsVerdictPiece}
 
 -- ---- pieces

@@ -1,5 +1,5 @@
 -- What is judged may be shown.
-use Rattle.std.proofs.Common.{◌≡◌, Bool, true, false, List, [], Option, Some, None, IfSome, refl, inl, inr}
+use Rattle.std.proofs.Common.{◌≡◌, Bool, true, false, List, [], Option, refl, inl, inr}
 use Rattle.std.specs.Prelude.{◌||◌, Result, Ok, Err, IfOk}
 use Rattle.ps_problem.specs.declared.query.Query.{Query}
 use Rattle.ps_problem.specs.Problems.{Parts, AreParts, HasNodes}

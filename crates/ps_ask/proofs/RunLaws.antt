@@ -1,7 +1,6 @@
 -- What an answer to an input does where it has a reply.
-use Rattle.std.proofs.Common.{◌≡◌, ℕ, Bool, List, ◌++◌, Option, Some, refl, sym, subst, inl, inr}
+use Rattle.std.proofs.Common.{◌≡◌, ℕ, Bool, List, ◌++◌, Option, refl, sym, subst}
 use Rattle.std.specs.Prelude.{Result, Ok, Err}
-use Rattle.ps_io.specs.Causes.{next_count}
 use Rattle.ps_io.specs.Transfer.{Appends, AppendsPrefix}
 use Rattle.ps_io.proofs.Bytes.{appends-then}
 use Rattle.ps_io.proofs.CallerLemmas.{prefix-after}
@@ -12,8 +11,8 @@ use Rattle.ps_ask.specs.declared.reply.Reply.{Reply}
 use Rattle.ps_ask.specs.declared.reply.ReplyError.{ReplyError}
 use Rattle.ps_ask.specs.declared.reply.ReplyError.TheVariants as errors
 use Rattle.ps_ask.specs.Statuses.{HasNoReport, HasText, IsSilent}
-use Rattle.ps_ask.specs.Shown.{AsIsDue, HasWritten, CountsReads, CountsReports, CountsWrites, Ends, IsDue, IsText, Output, Wrote, both}
-use Rattle.ps_ask.specs.Replies.{CountsShown, HasShownFor, IsDueAfter, last_of, output_after, report_by, status_of, status_with, status_without}
+use Rattle.ps_ask.specs.Shown.{AsIsDue, HasWritten, CountsReads, CountsReports, CountsWrites, Ends, IsDue, Output, Wrote, both}
+use Rattle.ps_ask.specs.Replies.{CountsShown, HasShownFor, IsDueAfter, last_of, output_after, report_by, status_of, status_without}
 use Rattle.ps_ask.proofs.DueLaws.{has_text}
 
 wrote_by : (s : Settings) (name bytes : List ℕ) (o : Output) (st : Status) (old new : Ends) → HasText st → IsDue s name bytes o → st ≡ o.status

@@ -1,5 +1,5 @@
 -- Replies that show the end of an answer, by their style.
-use Rattle.std.proofs.Common.{◌≡◌, ℕ, pos, Bool, List, [], None, refl, sym, subst}
+use Rattle.std.proofs.Common.{◌≡◌, ℕ, pos, List, [], None, refl, sym, subst}
 use Rattle.std.specs.Prelude.{Option}
 use Rattle.ps_problem.specs.Problems.{Parts}
 use Rattle.ps_answer.specs.declared.answer.Answer.{Answer}

@@ -1,7 +1,6 @@
 -- The pieces of an answer, one after the other.
-use Rattle.std.proofs.Common.{◌≡◌, ◌∙◌, ℕ, List, [], ◌++◌, Option, refl, sym, subst}
-use Rattle.std.specs.Prelude.{Result, Ok, Err}
-use Rattle.ps_io.specs.Causes.{next_count}
+use Rattle.std.proofs.Common.{◌≡◌, ℕ, List, [], Option, refl, sym, subst}
+use Rattle.std.specs.Prelude.{Result}
 use Rattle.ps_io.specs.Transfer.{Appends}
 use Rattle.ps_io.proofs.Bytes.{appends-then}
 use Rattle.ps_problem.specs.Problems.{Parts}

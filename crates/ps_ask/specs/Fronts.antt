@@ -21,7 +21,7 @@ use Rattle.ps_spoken.specs.Quiet.{values_of, verdict_value, query_values, parts_
 use Rattle.ps_ask.specs.declared.settings.Settings.{Settings}
 use Rattle.ps_ask.specs.declared.settings.Style.{Style}
 use Rattle.ps_ask.specs.declared.settings.Style.TheVariants.{Words, Values, Json, Report}
-use Rattle.ps_ask.specs.Late.{is_late, is_late_answer, is_late_verdict}
+use Rattle.ps_ask.specs.Late.{is_late, is_late_answer}
 
 -- ---- what is judged
 -- time is limited, and was over before the verdict was known

@@ -1,5 +1,5 @@
 //! How much is open in an answer, and its status.
-ghost use Rattle.std.specs.Prelude.{◌≡◌, ◌≤◌, ◌+◌, ◌<◌, ◌^◌, pos, map, sum};
+ghost use Rattle.std.specs.Prelude.{◌≡◌, ◌≤◌, ◌+◌, ◌<◌, ◌^◌, map, sum};
 ghost use Rattle.ps_answer.specs.declared.answer.Verdict.{Verdict};
 ghost use Rattle.ps_claims.specs.Claims.{open_in_part, open_in_side, open_in_verdict};
 ghost use Rattle.ps_claims.specs.Claims.{unfinished_of};

@@ -1,5 +1,5 @@
 //! What wasn't finished within a limit of time.
-ghost use Rattle.std.specs.Prelude.{◌≡◌, [], IfSome};
+ghost use Rattle.std.specs.Prelude.{◌≡◌, []};
 ghost use Rattle.ps_answer.specs.declared.answer.QueryAnswer.TheVariants as query;
 ghost use Rattle.ps_ask.specs.Late.{is_late, is_late_answer, is_late_cause, is_late_in, is_late_side};
 ghost use Rattle.ps_ask.specs.Late.{is_late_verdict};

@@ -1,7 +1,6 @@
 //! What is shown at the end of an answer.
 ghost use Rattle.std.specs.Prelude.{◌≡◌, ◌<◌, ◌≤◌, pos, IfOk};
 ghost use Rattle.ps_decimal.specs.declared.limits.TheConstants.{MOST_DIGITS};
-ghost use Rattle.ps_spoken.specs.Numbers.{Says};
 ghost use Rattle.ps_json.specs.Objects.{facts, object};
 ghost use Rattle.ps_valid.specs.Answers.{IsRightOf};
 ghost use Rattle.ps_ask.specs.declared.settings.Style.TheVariants as style;

@@ -1,5 +1,5 @@
 //! Writes what is due.
-ghost use Rattle.std.specs.Prelude.{[], ◌≡◌};
+ghost use Rattle.std.specs.Prelude.{[]};
 ghost use Rattle.ps_io.specs.Causes.{CountsFault};
 ghost use Rattle.ps_io.specs.Transfer.{Writes};
 ghost use Rattle.ps_ask.specs.Replies.{AreShortInTime, IsShort, WritesTo, last_of, report_by};

@@ -1,12 +1,12 @@
 -- What each phase needs, kept by a lawful pivot; and no ray.
-use Rattle.std.proofs.Common.{◌≡◌, ◌≢◌, ◌⊎◌, inl, inr, ℕ, suc, zero, ◌+◌, ◌<◌, ℤ, pos, negsuc, ◌<ℤ◌, ◌≤ℤ◌, neg_ℤ, [], ◌∷◌, length, get_or, get_or-set_same, get_or-set_other, true, false, refl, sym, ap, ◌∙◌, subst, arith}
+use Rattle.std.proofs.Common.{◌≡◌, ◌≢◌, inl, inr, ℕ, suc, zero, ◌+◌, ◌<◌, ℤ, pos, ◌≤ℤ◌, length, get_or, true, refl, sym, ap, ◌∙◌, subst, arith}
 use Rattle.std.proofs.lemmas.Int.{ints}
-use Rattle.std.proofs.lemmas.Bool.{cases_eq, cases_lt, true≢false}
-use Rattle.ps_rational.proofs.Ring.{var, plus, by, minus, none}
-use Rattle.ps_rational.specs.Rational.{Rational, neg, den, mul, zero_q, one_q, sub, div, inverse}
-use Rattle.ps_rational.specs.Order.{IsNonneg, AtMost, IsAbove}
-use Rattle.ps_rational.proofs.Field.{div-mul, ring_q, over_is_zero, zero_over}
-use Rattle.ps_rational.proofs.Order.{at_most_mul, nonneg-add, nonneg-mul, nonneg_of, zero_nonneg, above_nonneg, above_not_zero, inverse_nonneg, one_above}
+use Rattle.std.proofs.lemmas.Bool.{cases_eq, cases_lt}
+use Rattle.ps_rational.proofs.Ring.{none}
+use Rattle.ps_rational.specs.Rational.{Rational, mul, zero_q, one_q}
+use Rattle.ps_rational.specs.Order.{IsNonneg}
+use Rattle.ps_rational.proofs.Field.{div-mul}
+use Rattle.ps_rational.proofs.Order.{zero_nonneg, above_nonneg, one_above}
 use Rattle.ps_rational.proofs.Whole.{whole_nonneg}
 use Rattle.std.proofs.Math.ListN.{get_or-append}
 use Rattle.std.proofs.Common.{get_or-append-add, ◌++◌}

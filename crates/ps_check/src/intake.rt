@@ -1,5 +1,5 @@
 //! How far an input has come.
-ghost use Rattle.std.specs.Prelude.{◌≡◌, ◌≤◌, [], take, length, IfOk};
+ghost use Rattle.std.specs.Prelude.{◌≡◌, ◌≤◌, [], take, IfOk};
 ghost use Rattle.ps_check.specs.declared.intake.TheConstants.{MOST_SEARCHED};
 ghost use Rattle.ps_check.specs.Intakes.{IsSound, IsReadOn, Knows, HasTakenOn, IsFound};
 

@@ -1,5 +1,5 @@
 //! What stands behind the problem part of an input.
-ghost use Rattle.std.specs.Prelude.{◌≡◌, IfOk};
+ghost use Rattle.std.specs.Prelude.{IfOk};
 ghost use Rattle.ps_check.specs.Reports.{IsSound, IsJudging, HasBegun, HasTakenOn, IsFound};
 
 use crate::checked::Checked;

@@ -1,6 +1,6 @@
 -- Lawful pivots one after the other, by number, with the table at each basis.
-use Rattle.std.proofs.Common.{◌≡◌, ◌≢◌, ℕ, zero, suc, ◌+◌, ◌<◌, ◌≤◌, List, [], ◌∷◌, ◌++◌, length, length-append, cond, eqb, eq-eqb, refl, sym, ap, ◌∙◌, subst, arith, inl, inr}
-use Rattle.std.proofs.lemmas.Bool.{ne_eqb, cases_eq}
+use Rattle.std.proofs.Common.{◌≡◌, ◌≢◌, ℕ, zero, suc, ◌+◌, ◌<◌, ◌≤◌, List, [], ◌∷◌, ◌++◌, length, length-append, cond, eqb, eq-eqb, refl, sym, ap, ◌∙◌, subst, arith}
+use Rattle.std.proofs.lemmas.Bool.{ne_eqb}
 use Rattle.ps_rational.specs.Rational.{Rational, mul, sub, div}
 use Rattle.ps_simplex.specs.Table.{IsBasisTable, IsBasis, Pivoted, Based}
 use Rattle.ps_simplex.proofs.OneTable as tables

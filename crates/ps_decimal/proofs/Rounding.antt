@@ -1,9 +1,9 @@
 -- Rounding by long division: a quotient and its rest tell the decimals on both sides.
-use Rattle.std.proofs.Common.{◌≡◌, ◌≢◌, ℕ, ◌+◌, ◌*◌, ◌^◌, ◌<◌, ◌≤◌, ◌/◌, ◌%◌, min, zero, suc, ℤ, pos, negsuc, ◌*ℤ◌, ◌≤ℤ◌, ◌<ℤ◌, unsigned_abs, add-one, sym, refl, ap, ◌∙◌, subst, arith}
+use Rattle.std.proofs.Common.{◌≡◌, ◌≢◌, ℕ, ◌+◌, ◌*◌, ◌^◌, ◌<◌, ◌≤◌, ◌/◌, ◌%◌, min, zero, suc, ℤ, pos, negsuc, ◌≤ℤ◌, unsigned_abs, add-one, sym, refl, ap, ◌∙◌, arith}
 use Rattle.std.proofs.lemmas.Int.{ints, unsigned_abs-mul}
-use Rattle.std.proofs.Math.Nat.{mul-le-mul_left, mul-le-mul_right, le_of_mul-le-mul_right, lt_of_mul-lt-mul_right, pow-suc, pow-le-pow_right, div-eq_of_lt, add-mul-div_left, add-mul-mod_self_left, mod-eq_of_lt, div-add-mod, mod-lt}
-use Rattle.ps_rational.specs.Rational.{Rational, Positive, quotient}
-use Rattle.ps_rational.specs.Order.{IsNonneg, AtMost, IsLess}
+use Rattle.std.proofs.Math.Nat.{mul-le-mul_right, le_of_mul-le-mul_right, lt_of_mul-lt-mul_right, pow-suc, pow-le-pow_right, div-eq_of_lt, add-mul-div_left, add-mul-mod_self_left, mod-eq_of_lt, div-add-mod, mod-lt}
+use Rattle.ps_rational.specs.Rational.{Rational}
+use Rattle.ps_rational.specs.Order.{IsNonneg, AtMost}
 use Rattle.ps_rational.proofs.Cross.{quotient_cross}
 use Rattle.ps_rational.proofs.Order.{at_most_from_cross, cross_from_at_most, less_of, nonneg_of}
 use Rattle.ps_decimal.specs.Laws.{DecimalsContainTheirFraction}

@@ -1,5 +1,5 @@
 //! The explanation of a problem.
-ghost use Rattle.std.specs.Prelude.{◌≡◌, length, IfOk};
+ghost use Rattle.std.specs.Prelude.{IfOk};
 ghost use Rattle.ps_runs.specs.Kept.{AreAllKept, IsChoice};
 ghost use Rattle.ps_generation.specs.Phases.{AreLimits};
 ghost use Rattle.ps_explain.specs.Explanations.{IsExplanation, IsPrintedExplanation};

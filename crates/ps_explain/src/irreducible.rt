@@ -1,5 +1,5 @@
 //! Irreducible lists of sentences that can't be met together.
-ghost use Rattle.std.specs.Prelude.{◌≡◌, true, false, length, get_or, IfOk, IfSome};
+ghost use Rattle.std.specs.Prelude.{length, IfOk, IfSome};
 ghost use Rattle.ps_generation.specs.Phases.{AreLimits};
 ghost use Rattle.ps_explain.specs.Explanations.{IsExplanation};
 ghost use Rattle.ps_explain.specs.Steps.{AreModelsOrOpen, AreNeeded, IsConflict};

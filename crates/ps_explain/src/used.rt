@@ -1,5 +1,5 @@
 //! The sentences whose bounds a dual uses.
-ghost use Rattle.std.specs.Prelude.{◌≡◌, ◌<◌, ◌≤◌, ◌+◌, ◌^◌, length, IfOk};
+ghost use Rattle.std.specs.Prelude.{◌≡◌, ◌<◌, ◌≤◌, ◌+◌, ◌^◌, IfOk};
 ghost use Rattle.ps_explain.specs.Used.{behind, is_other, is_used, uses, used_from};
 
 use ps_io::{List, NoMemory};

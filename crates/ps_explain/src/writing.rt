@@ -6,7 +6,6 @@ ghost use Rattle.ps_io.specs.LineText.{IsWord};
 ghost use Rattle.ps_io.specs.Lines.{text_of};
 ghost use Rattle.ps_io.specs.Wrote.{Wrote};
 ghost use Rattle.ps_log.specs.Lines.{AddsNumbers, HoldsLine, length_with};
-ghost use Rattle.ps_log.specs.Texts.{with_numbers};
 ghost use Rattle.ps_report.specs.Parts.{AreShort};
 ghost use Rattle.ps_explain.specs.Texts.{HasShortLines, IsShortList, body_lines, core_lines};
 ghost use Rattle.ps_explain.specs.Texts.{body_and_end, consistent_lines, below_core, list_and_trace};

@@ -1,8 +1,6 @@
 //! The pricing of a table at rest.
-ghost use Rattle.std.specs.Prelude.{◌≡◌, ◌≤◌, ◌<◌, ◌++◌, ◌∷◌, [], ℕ, length};
+ghost use Rattle.std.specs.Prelude.{◌≡◌, ◌≤◌, ◌<◌, length};
 ghost use Rattle.std.specs.Prelude.{IfOk, IfSome};
-ghost use Rattle.ps_pool.specs.Worlds.{HasNumber};
-ghost use Rattle.ps_pool.specs.declared.pool.TheConstants.{MOST_WORLDS};
 ghost use Rattle.ps_runs.specs.Subjects.{IsAsked};
 ghost use Rattle.ps_generation.specs.Phases.{IsInPhase, IsPrintedEnd};
 ghost use Rattle.ps_generation.specs.Phases.{LeavesRoomButForOne, most_columns};

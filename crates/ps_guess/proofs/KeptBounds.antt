@@ -1,13 +1,12 @@
 -- The bounds of kept sentences.
-use Rattle.std.proofs.Common.{◌≡◌, ℕ, suc, ◌+◌, ◌<◌, ◌≤◌, Bool, Option, None, List, [], ◌∷◌, ◌++◌, length, drop, get_or, refl, sym, ap, ◌∙◌, subst, arith}
-use Rattle.std.specs.Prelude.{MatchOption}
+use Rattle.std.proofs.Common.{◌≡◌, ℕ, suc, ◌+◌, ◌<◌, ◌≤◌, Bool, None, List, [], ◌∷◌, ◌++◌, length, drop, get_or, refl, sym, ap, ◌∙◌, subst, arith}
 use Rattle.ps_problem.specs.declared.bound.Bound.{Bound}
 use Rattle.ps_problem.specs.declared.sentence.Sentence.{Sentence}
 use Rattle.ps_problem.specs.declared.limits.TheConstants.{MOST_BOUNDS}
 use Rattle.ps_problem.specs.Problems.{Parts, AreBounds, AreParts, bounds_in}
 use Rattle.ps_problem.proofs.Growth.{bounds-append}
 use Rattle.ps_answer.specs.declared.answer.Model.{Model}
-use Rattle.ps_runs.specs.Kept.{IsChoice, kept_of, kept_parts}
+use Rattle.ps_runs.specs.Kept.{kept_of, kept_parts}
 use Rattle.ps_runs.proofs.Kept.{kept-left, parts-kept, part-next}
 use Rattle.ps_certificate.specs.Printed.{IsPrintedModel}
 use Rattle.ps_valid.specs.Judged.{FindsReasonOver}

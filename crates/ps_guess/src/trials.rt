@@ -1,5 +1,5 @@
 //! What guesses are tried over, and the search for a world that a guessed dual overlooks.
-ghost use Rattle.std.specs.Prelude.{◌≡◌, ◌≢◌, ◌<◌, ◌≤◌, length, IfOk, IfSome};
+ghost use Rattle.std.specs.Prelude.{◌≡◌, ◌<◌, ◌≤◌, length, IfOk, IfSome};
 ghost use Rattle.ps_forms.specs.Forms.{IsWithin};
 ghost use Rattle.ps_log.specs.declared.limits.TheConstants.{MOST_CONFLICTS};
 ghost use Rattle.ps_problem.specs.Problems.{AreParts, bounds_in};

@@ -1,6 +1,5 @@
 -- What is known of a query.
-use Rattle.std.proofs.Common.{Option, Some, None, List, []}
-use Rattle.std.specs.Prelude.{IfSome}
+use Rattle.std.proofs.Common.{List, []}
 use Rattle.ps_rational.specs.Rational.{Rational}
 use Rattle.ps_problem.specs.declared.query.Query.{Query}
 use Rattle.ps_problem.specs.Problems.{Parts}

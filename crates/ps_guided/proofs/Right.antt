@@ -1,12 +1,11 @@
 -- Claims that are valid are right, each by itself.
-use Rattle.std.proofs.Common.{◌≡◌, ℕ, ◌<◌, Option, None, List, length, refl}
+use Rattle.std.proofs.Common.{◌≡◌, ℕ, ◌<◌, Option, None, length, refl}
 use Rattle.std.specs.Option.{IfSome}
-use Rattle.ps_meaning.specs.Formula.{World, Truth}
+use Rattle.ps_meaning.specs.Formula.{Truth}
 use Rattle.ps_meaning.specs.declared.side.Side.TheVariants.{AtLeast, AtMost}
 use Rattle.ps_meaning.proofs.Weights.{total-positive}
 use Rattle.ps_problem.specs.declared.query.Query as stored
 use Rattle.ps_problem.specs.Problems.{Parts, AreParts, bounds_in, bounds_of, given_at, HasNodes}
-use Rattle.ps_forms.specs.Extensions.{extension}
 use Rattle.ps_claims.specs.Queries.{Query, IsInconsistent, IsImpossible}
 use Rattle.ps_claims.specs.Answers.{Verdict, Consistent, Inconsistent, OpenVerdict, SideAnswer, Value, OpenSide, QueryAnswer, Interval, Impossible, OpenQuery, IsRightVerdict, IsRightSide, IsRightPart}
 use Rattle.ps_claims.specs.declared.claim_kind.ClaimKind.TheVariants.{Nothing, Lower, Upper}

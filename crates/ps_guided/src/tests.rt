@@ -1,5 +1,5 @@
 //! Answers to one query, of which some sides are guessed.
-ghost use Rattle.std.specs.Prelude.{◌+◌, ◌<◌, ◌^◌, length};
+ghost use Rattle.std.specs.Prelude.{◌<◌};
 
 use crate::{Guess, Guesser, Limits, Progress, answer};
 use ps_answer::{Answer, Dual, Model, QueryAnswer, QueryPart, SideAnswer, Verdict, Weighted};

@@ -1,5 +1,5 @@
 -- Texts of the items of a list, one after the other, by their places.
-use Rattle.std.specs.Prelude.{ℕ, zero, suc, ◌==◌, if◌then◌else◌, List, [], ◌∷◌, ◌++◌, codes}
+use Rattle.std.specs.Prelude.{ℕ, suc, ◌==◌, if◌then◌else◌, List, [], ◌∷◌, ◌++◌, codes}
 
 -- a comma before each item but the first
 abbrev pub comma_before : ℕ → List ℕ

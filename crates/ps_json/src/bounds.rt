@@ -1,5 +1,5 @@
 //! The bounds of a query as objects.
-ghost use Rattle.std.specs.Prelude.{◌≡◌, ◌<◌, ◌≤◌};
+ghost use Rattle.std.specs.Prelude.{◌<◌, ◌≤◌};
 ghost use Rattle.ps_spoken.specs.Numbers.{Says};
 ghost use Rattle.ps_decimal.specs.declared.limits.TheConstants.{MOST_DIGITS};
 ghost use Rattle.ps_json.specs.Bounds.{bounds_members, exact_text, lower_object};

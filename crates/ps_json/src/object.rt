@@ -1,5 +1,5 @@
 //! The object of an answer.
-ghost use Rattle.std.specs.Prelude.{◌≡◌, ◌<◌, ◌≤◌};
+ghost use Rattle.std.specs.Prelude.{◌<◌, ◌≤◌};
 ghost use Rattle.ps_spoken.specs.Numbers.{Says};
 ghost use Rattle.ps_decimal.specs.declared.limits.TheConstants.{MOST_DIGITS};
 ghost use Rattle.ps_json.specs.Objects.{end_text, facts, object, open_members};

@@ -1,6 +1,5 @@
 //! Whether the variables of a goal's text rise, with numbers of any size.
-ghost use Rattle.std.specs.Prelude.{◌≡◌, ◌∷◌, [], ◌≤◌, IfSome, IfNone, length, option_copied};
-ghost use Rattle.std.specs.Prelude.{ℕ, List as Bytes};
+ghost use Rattle.std.specs.Prelude.{◌≡◌, ◌≤◌, IfSome, IfNone, length, option_copied};
 ghost use Rattle.ps_log.specs.Spellings.{words_of};
 ghost use Rattle.ps_log.specs.Numbers.{left_of};
 ghost use Rattle.ps_log.specs.GoalNumbers.{size_word, TellsLess, HasVariable, HasOneWord, TellsRising};

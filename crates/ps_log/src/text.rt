@@ -3,7 +3,6 @@ ghost use Rattle.std.specs.Prelude.{◌≡◌, ◌<◌, [], ◌∷◌, length};
 ghost use Rattle.ps_io.specs.Lines.{text_of};
 ghost use Rattle.ps_io.specs.Wrote.{Wrote};
 ghost use Rattle.ps_log.specs.Lines.{HoldsLine};
-ghost use Rattle.ps_steps.specs.Weights.{weighted};
 ghost use Rattle.ps_log.specs.Texts.{step_line, goal_line};
 
 use crate::numbers::{add_goal_numbers, add_step_numbers};

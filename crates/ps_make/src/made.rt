@@ -1,5 +1,5 @@
 //! The text of a chain.
-ghost use Rattle.std.specs.Prelude.{◌≡◌, ◌<◌, ◌≤◌, ◌^◌, length, IfOk, OnOk, decimal};
+ghost use Rattle.std.specs.Prelude.{◌≡◌, ◌<◌, ◌≤◌, ◌^◌, length, IfOk, OnOk};
 ghost use Rattle.ps_make.specs.declared.made.TheConstants.{MOST_LINKS};
 ghost use Rattle.ps_make.specs.Chain.{link, asked_of, made_text};
 ghost use Rattle.ps_make.specs.Lines.{Adds, atom_name, arrow_text, line_of};

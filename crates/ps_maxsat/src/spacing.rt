@@ -1,6 +1,6 @@
 //! How far apart values lie: each is the base plus a multiple of the greatest common divisor of the
 //! weights.
-ghost use Rattle.std.specs.Prelude.{◌≡◌, ◌<◌, ◌≤◌, ◌+ℤ◌, ◌-ℤ◌, ◌≤ℤ◌, ◌<ℤ◌, pos, unsigned_abs};
+ghost use Rattle.std.specs.Prelude.{◌<◌, ◌≤◌, ◌+ℤ◌, ◌-ℤ◌, ◌≤ℤ◌, ◌<ℤ◌, pos, unsigned_abs};
 ghost use Rattle.std.specs.Int.{IsGcd, ◌∣◌};
 ghost use Rattle.ps_maxsat.specs.declared.limits.TheConstants.{MOST_TOTAL};
 ghost use Rattle.ps_maxsat.specs.Spacing.{IsUnit};

@@ -1,5 +1,5 @@
 -- The limits of literals and of constraints.
-use Rattle.std.specs.Prelude.{ℕ, ◌≤◌, ℤ, unsigned_abs}
+use Rattle.std.specs.Prelude.{◌≤◌, ℤ, unsigned_abs}
 pub use Rattle.ps_steps.specs.Limits.{most_weight}
 use Rattle.ps_pb.specs.declared.limits.TheConstants.{MOST_VARIABLES}
 

@@ -1,6 +1,6 @@
 //! What the checker knows.
-ghost use Rattle.std.specs.Prelude.{◌≡◌, ◌++◌, [], ◌∷◌, length, map, slice_get};
-ghost use Rattle.std.specs.Prelude.{option_copied, IfOk, OnOk, OnErr};
+ghost use Rattle.std.specs.Prelude.{◌≡◌, ◌++◌, [], ◌∷◌, length, map};
+ghost use Rattle.std.specs.Prelude.{IfOk, OnOk, OnErr};
 ghost use Rattle.ps_steps.specs.Assignments.{AreDifferent};
 ghost use Rattle.ps_steps.specs.Weights.{clause_of};
 ghost use Rattle.ps_steps.specs.Steps.{constraint_at, known_of};

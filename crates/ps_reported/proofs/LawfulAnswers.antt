@@ -1,5 +1,5 @@
 -- A lawful answer is settled.
-use Rattle.std.proofs.Common.{ℕ, List, [], ◌∷◌, inr, refl}
+use Rattle.std.proofs.Common.{List, [], ◌∷◌, inr, refl}
 use Rattle.std.specs.List.{AllZip}
 use Rattle.ps_problem.specs.declared.query.Query.{Query}
 use Rattle.ps_problem.specs.Problems.{Parts}

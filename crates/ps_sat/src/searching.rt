@@ -1,7 +1,6 @@
 //! The search.
 ghost use Rattle.std.specs.Prelude.{◌≡◌, ◌≤◌, ◌<◌, ◌^◌, ◌++◌, ◌∷◌, [], length};
 ghost use Rattle.std.specs.Prelude.{IfOk, OnOk, OnErr, IsTrue, IsErrOf};
-ghost use Rattle.ps_steps.specs.Steps.{added, known_of};
 ghost use Rattle.ps_steps.specs.Weights.{IsWithin};
 ghost use Rattle.ps_io.specs.Causes.{next_count};
 ghost use Rattle.ps_log.specs.Logs.{Starts, Grows, Stays};

@@ -1,5 +1,5 @@
 -- Numbers as they are written for people.
-use Rattle.std.specs.Prelude.{ℕ, pos, ◌==◌, if◌then◌else◌, List, [], ◌++◌, codes, Result, OnOk}
+use Rattle.std.specs.Prelude.{ℕ, pos, ◌==◌, if◌then◌else◌, List, ◌++◌, codes, Result, OnOk}
 use Rattle.std.specs.Fmt.{signed_decimal}
 use Rattle.ps_rational.specs.Rational.{Rational}
 use Rattle.ps_canonical.specs.Lines.{Adds}

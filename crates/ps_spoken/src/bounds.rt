@@ -1,8 +1,8 @@
 //! The bounds of a query, for people.
-ghost use Rattle.std.specs.Prelude.{◌≡◌, ◌<◌, ◌≤◌, ◌++◌, OnOk};
+ghost use Rattle.std.specs.Prelude.{◌<◌, ◌≤◌, OnOk};
 ghost use Rattle.ps_canonical.specs.Lines.{Adds};
 ghost use Rattle.ps_decimal.specs.declared.limits.TheConstants.{MOST_DIGITS};
-ghost use Rattle.ps_spoken.specs.Numbers.{low_text, high_text, Says};
+ghost use Rattle.ps_spoken.specs.Numbers.{Says};
 ghost use Rattle.ps_spoken.specs.Spoken.{between_text, lower_text, upper_text};
 ghost use Rattle.ps_spoken.specs.Spoken.{bounds_text, decimals_text};
 ghost use Rattle.ps_spoken.specs.Spoken.{one_value_text, sides_text, two_values_text};

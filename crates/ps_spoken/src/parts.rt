@@ -1,10 +1,10 @@
 //! The answers to queries, for people.
-ghost use Rattle.std.specs.Prelude.{◌≡◌, ◌<◌, ◌≤◌, OnOk};
+ghost use Rattle.std.specs.Prelude.{◌<◌, ◌≤◌, OnOk};
 ghost use Rattle.ps_problem.specs.Problems.{HasNodes};
 ghost use Rattle.ps_canonical.specs.Lines.{Adds};
 ghost use Rattle.ps_decimal.specs.declared.limits.TheConstants.{MOST_DIGITS};
 ghost use Rattle.ps_spoken.specs.Numbers.{Says};
-ghost use Rattle.ps_spoken.specs.Spoken.{answer_text, part_text, parts_text, queries_text};
+ghost use Rattle.ps_spoken.specs.Spoken.{answer_text, part_text, queries_text};
 
 use crate::bounds::write_bounds;
 use crate::cause::write_cause;

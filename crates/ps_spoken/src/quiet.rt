@@ -1,5 +1,5 @@
 //! The values of an answer alone.
-ghost use Rattle.std.specs.Prelude.{◌≡◌, ◌<◌, ◌≤◌, OnOk};
+ghost use Rattle.std.specs.Prelude.{◌<◌, ◌≤◌, OnOk};
 ghost use Rattle.ps_canonical.specs.Lines.{Adds};
 ghost use Rattle.ps_decimal.specs.declared.limits.TheConstants.{MOST_DIGITS};
 ghost use Rattle.ps_spoken.specs.Quiet.{lower_value, upper_value, query_values};

@@ -1,5 +1,5 @@
 //! What is found against a claim before the steps of its dual.
-ghost use Rattle.std.specs.Prelude.{◌≡◌, ◌<◌, ◌≤◌, Some, IfOk, IfSome, option_copied, length};
+ghost use Rattle.std.specs.Prelude.{◌≡◌, ◌<◌, Some, IfOk, IfSome, option_copied, length};
 ghost use Rattle.ps_problem.specs.Problems.{bounds_in};
 ghost use Rattle.ps_certificate.specs.Certificates.{dual_of, IsSmallDual};
 ghost use Rattle.ps_claims.specs.Claims.{Excluded};

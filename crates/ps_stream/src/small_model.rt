@@ -1,5 +1,5 @@
 //! A model in hand.
-ghost use Rattle.std.specs.Prelude.{◌≡◌, ◌≤◌, ◌++◌, ◌∷◌, [], IfOk, IfSome, IsNone};
+ghost use Rattle.std.specs.Prelude.{◌≡◌, ◌≤◌, [], IfOk, IfSome, IsNone};
 ghost use Rattle.std.specs.Prelude.{length, option_copied};
 ghost use Rattle.ps_answer.specs.declared.limits.TheConstants.{MOST_ENTRIES};
 ghost use Rattle.ps_valid.specs.Limits.{IsAmount, IsSmallModel};

@@ -1,8 +1,7 @@
 //! A report whose lines come one by one.
-ghost use Rattle.std.specs.Prelude.{◌≡◌, ◌≤◌, ◌+◌, ◌↔◌, ◌++◌, ◌∷◌, [], ℕ, List, Err};
-ghost use Rattle.std.specs.Prelude.{IfOk, IfErr, OnOk, OnErr, IsErr};
+ghost use Rattle.std.specs.Prelude.{◌≡◌, ◌+◌, ◌↔◌, ◌++◌, ◌∷◌, [], Err};
+ghost use Rattle.std.specs.Prelude.{IfOk, OnOk, OnErr, IsErr};
 ghost use Rattle.ps_log.specs.FirstLines.{IsOneLine};
-ghost use Rattle.ps_answer.specs.declared.part.Part.{Part};
 ghost use Rattle.ps_stream.specs.declared.end.StreamEnd.TheVariants as end;
 ghost use Rattle.ps_stream.specs.declared.state.State.TheVariants.{Reading};
 ghost use Rattle.ps_stream.specs.Reading.{of_stream, Answers, Lines};

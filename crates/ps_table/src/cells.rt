@@ -1,6 +1,5 @@
 //! Cells of columns that stand one after the other, and the numbers of columns.
-ghost use Rattle.std.specs.Prelude.{◌≡◌, ℕ, suc, ◌+◌, ◌*◌, ◌<◌, ◌≤◌, length, get_or};
-ghost use Rattle.ps_rational.specs.Rational.{zero_q};
+ghost use Rattle.std.specs.Prelude.{◌≡◌, ℕ, suc, ◌+◌, ◌*◌, ◌<◌, ◌≤◌, length};
 ghost use Rattle.ps_pool.specs.declared.pool.TheConstants.{MOST_WORLDS};
 ghost use Rattle.ps_table.specs.Tableau.{number_in, number_shown, IsInside, IsShown, cell_at};
 ghost use Rattle.ps_table.specs.declared.limits.TheConstants.{MOST_ROWS};

@@ -1,5 +1,5 @@
 //! Costs of columns.
-ghost use Rattle.std.specs.Prelude.{◌≡◌, ◌≤◌, length, pos, negsuc, ◌≤ℤ◌};
+ghost use Rattle.std.specs.Prelude.{◌≡◌, length, pos, negsuc, ◌≤ℤ◌};
 ghost use Rattle.ps_rational.specs.Rational.{fraction, mul};
 ghost use Rattle.ps_table.specs.Tableau.{number_in};
 ghost use Rattle.ps_table.specs.Pricing.{HasSmallCosts, HasCostOf, cost_number};

@@ -1,5 +1,5 @@
 -- The first reason against a model, and the claim that it makes.
-use Rattle.std.proofs.Common.{◌≡◌, ◌≢◌, ℕ, zero, suc, ◌+◌, ◌<◌, ◌≤◌, pos, ◌≤ℤ◌, Option, Some, None, Result, Ok, Err, List, length, map, All, refl, sym, ap, subst, arith}
+use Rattle.std.proofs.Common.{◌≡◌, ◌≢◌, ℕ, zero, suc, ◌+◌, ◌<◌, pos, ◌≤ℤ◌, Option, Some, None, Result, Ok, Err, List, length, map, All, refl, sym, ap, subst, arith}
 use Rattle.std.specs.Prelude.{Any, IfOk}
 use Rattle.std.proofs.lemmas.List.{length-map}
 use Rattle.std.proofs.lemmas.List.Elements.{All-map}

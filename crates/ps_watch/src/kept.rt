@@ -1,8 +1,8 @@
 //! Known constraints, with what propagation has kept of them.
 ghost use Rattle.std.specs.Prelude.{◌≡◌, ◌≤◌, ◌<◌, ◌++◌, ◌∷◌, [], ℕ, take, false, is_none};
-ghost use Rattle.std.specs.Prelude.{length, nat_lt};
+ghost use Rattle.std.specs.Prelude.{length};
 ghost use Rattle.std.specs.Prelude.{◌+◌, ◌^◌, if◌then◌else◌};
-ghost use Rattle.std.specs.Prelude.{All, IfOk, OnErr, OnOk};
+ghost use Rattle.std.specs.Prelude.{All, IfOk, OnErr};
 ghost use Rattle.ps_pb.specs.declared.limits.TheConstants.{MOST_VARIABLES};
 ghost use Rattle.ps_steps.specs.Assignments.{place, AreDifferent};
 ghost use Rattle.ps_steps.specs.Weights.{IsWithin, clause_of};

@@ -1,12 +1,12 @@
 //! Watching a constraint, where that may be.
-ghost use Rattle.std.specs.Prelude.{◌≡◌, ◌≤◌, ◌<◌, ◌+◌, ℕ, true, Some, [], All, IfNone, IfSome};
+ghost use Rattle.std.specs.Prelude.{◌≡◌, ◌≤◌, ◌<◌, ◌+◌, true, Some, [], All, IfNone, IfSome};
 ghost use Rattle.std.specs.Prelude.{length};
 ghost use Rattle.std.specs.Prelude.{vec_capacity};
 ghost use Rattle.ps_steps.specs.Assignments.{value_of};
 ghost use Rattle.ps_steps.specs.Constraints.{is_open};
 ghost use Rattle.ps_steps.specs.Weights.{IsWithin};
 ghost use Rattle.ps_steps.specs.Steps.{known_of};
-ghost use Rattle.ps_trail.specs.Trails.{values, level, IsLit, IsConflict};
+ghost use Rattle.ps_trail.specs.Trails.{values, IsLit, IsConflict};
 ghost use Rattle.ps_watch.specs.Rooms.{room_of, HasRoomFor, HasRoomForClauses};
 ghost use Rattle.ps_watch.specs.Watches.{IsKept, IsFiled, Extends};
 ghost use Rattle.ps_watch.specs.Linking.{CoversMore, HasLinked, IsForcedIfUnset};

@@ -1,5 +1,5 @@
 //! Lists of numbers that are linked through one array.
-ghost use Rattle.std.specs.Prelude.{◌≡◌, ◌+◌, ◌<◌, ◌≤◌, ◌^◌, length, [], ◌∷◌, vec_capacity};
+ghost use Rattle.std.specs.Prelude.{◌≡◌, ◌<◌, length, [], vec_capacity};
 ghost use Rattle.std.specs.Prelude.{IfSome, IfNone};
 ghost use Rattle.ps_watch.specs.Links.{AreLinked, IsFree, PopsFirst, PushesOne, ShiftsList};
 ghost use Rattle.ps_watch.specs.Links.{AddsNumber, list_at};

@@ -1,5 +1,5 @@
 //! What has been seen of a trail, and the goal's slack over it.
-ghost use Rattle.std.specs.Prelude.{◌≡◌, ◌≤◌, [], length, IfOk};
+ghost use Rattle.std.specs.Prelude.{◌≡◌, IfOk};
 ghost use Rattle.ps_steps.specs.Weights.{IsWithin};
 ghost use Rattle.ps_steps.specs.Constraints.{slack};
 ghost use Rattle.ps_trail.specs.Trails.{values, up_to, IsFresh, level};

@@ -1,5 +1,5 @@
 //! Visits to watches.
-ghost use Rattle.std.specs.Prelude.{◌≡◌, ◌<◌, ◌≤◌, length, IfNone, IfSome};
+ghost use Rattle.std.specs.Prelude.{◌≡◌, ◌<◌, length, IfNone, IfSome};
 ghost use Rattle.ps_steps.specs.Steps.{known_of};
 ghost use Rattle.ps_trail.specs.Trails.{values, IsConflict};
 ghost use Rattle.ps_watch.specs.declared.links.TheConstants.{END};

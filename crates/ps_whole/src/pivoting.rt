@@ -1,5 +1,5 @@
 //! Tables after a pivot.
-ghost use Rattle.std.specs.Prelude.{◌≡◌, ◌≢◌, suc, ◌+◌, ◌*◌, ◌<◌, ◌≤◌, ◌^◌, length};
+ghost use Rattle.std.specs.Prelude.{◌<◌};
 ghost use Rattle.std.specs.Prelude.{IfOk, IfSome, unsigned_abs};
 ghost use Rattle.ps_whole.specs.Whole.{IfAll};
 ghost use Rattle.ps_whole.specs.Pivots.{IsPivotOf, IsPivoted, IsNarrowed, ArePivotsNarrow};

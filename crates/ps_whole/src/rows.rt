@@ -1,10 +1,8 @@
 //! The rows of a table.
-ghost use Rattle.std.specs.Prelude.{◌≡◌, ◌≢◌, ◌+◌, ◌*◌, ◌<◌, ◌≤◌, ◌^◌, ◌↔◌, length, pos, IsTrue};
+ghost use Rattle.std.specs.Prelude.{◌≡◌, ◌+◌, ◌*◌, ◌<◌, ◌^◌};
 ghost use Rattle.std.specs.Prelude.{IfOk, unsigned_abs};
-ghost use Rattle.ps_rational.specs.Rational.{zero_q};
 ghost use Rattle.ps_whole.specs.Whole.{WholeCells, IsWhole, number_at, under_at, whole_at};
 ghost use Rattle.ps_whole.specs.Whole.{numbers_of};
-ghost use Rattle.ps_whole.specs.declared.limits.TheConstants.{MOST_ROWS, MOST_COLUMNS};
 
 use ps_frac::Fraction;
 use ps_io::NoMemory;

@@ -1,9 +1,7 @@
 //! Pivots of rows of whole numbers.
-ghost use Rattle.std.specs.Prelude.{◌≡◌, ◌≢◌, ◌+◌, ◌*◌, ◌<◌, ◌≤◌, ◌^◌, ◌↔◌, length, pos, IsTrue};
-ghost use Rattle.std.specs.Prelude.{IfOk, IfSome, unsigned_abs, int_div, ◌*ℤ◌, ◌-ℤ◌};
-ghost use Rattle.std.specs.Int.{◌∣◌};
-ghost use Rattle.ps_rational.specs.Rational.{zero_q};
-ghost use Rattle.ps_whole.specs.Whole.{WholeCells, IsWhole, number_at, under_at, whole_at};
+ghost use Rattle.std.specs.Prelude.{◌≡◌, ◌≢◌, ◌*◌, ◌<◌, ◌^◌, pos};
+ghost use Rattle.std.specs.Prelude.{unsigned_abs, int_div, ◌*ℤ◌, ◌-ℤ◌};
+ghost use Rattle.ps_whole.specs.Whole.{number_at, under_at};
 ghost use Rattle.ps_whole.specs.Pivots.{raw_number, IsPivotOf, IsRowChange, IsContent};
 
 use crate::change::RowChange;

@@ -1,5 +1,5 @@
 -- A run in which no call failed answers what is due, or there was not enough memory.
-use Rattle.std.proofs.Common.{◌≡◌, ◌-◌, ◌^◌, ◌<◌, ◌≤◌, ◌⊎◌, ℕ, Bool, List, [], length, drop, Option, Some, refl, sym, ap, subst, arith, inl, inr, String}
+use Rattle.std.proofs.Common.{◌≡◌, ◌≤◌, ◌⊎◌, ℕ, Bool, List, [], length, drop, Option, Some, refl, subst, arith, inl, inr, String}
 use Rattle.std.specs.declared.alloc.Global.{Global}
 use Rattle.ps_read.specs.Readings.{SpellsProblem, SpellsWhole, Read, Unread}
 use Rattle.ps_read.proofs.OneReading.{one_reading, one_whole_reading}

@@ -18,7 +18,7 @@ use Rattle.psat.specs.declared.command.RunSettings.{RunSettings}
 use Rattle.psat.specs.declared.command.TheConstants.{DEFAULT_BYTES, MOST_BYTES, DEFAULT_PIVOTS}
 use Rattle.ps_log.proofs.StepShapes.{head, tail}
 use Rattle.psat.specs.Commands.{words_of, limit_word, value_word, MayBe, pivots_of, LimitSetting, setting_words, AreSettings, IsSetTo, AreWordsOf, SetRuns, SpellRuns, SpellMake, Spell, SpellNone}
-use Rattle.psat.specs.Settings.{FindsNumber, FindsBehind, SetNoRuns, SpellsNoLinks, is_enough, limits_by}
+use Rattle.psat.specs.Settings.{FindsNumber, SetNoRuns, SpellsNoLinks, is_enough, limits_by}
 use Rattle.psat.specs.Replies.{AreLimitsOf}
 use Rattle.psat.proofs.Settings.{one_value, settings-are, set-small, words_are}
 

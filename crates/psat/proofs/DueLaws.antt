@@ -1,7 +1,6 @@
 -- What is due for what was read and judged.
-use Rattle.std.proofs.Common.{◌≡◌, inl, ℕ, ◌+◌, ◌-◌, ◌<◌, take, drop, arith, length-drop, length-append, ◌≤◌, Bool, List, [], ◌++◌, length, Option, Some, None, Err, String, refl, sym, ap, subst, ◌∙◌, append-nil}
+use Rattle.std.proofs.Common.{◌≡◌, inl, ℕ, ◌+◌, ◌-◌, ◌<◌, arith, length-append, ◌≤◌, Bool, List, [], ◌++◌, length, Option, Some, None, Err, String, refl, sym, ap, subst, ◌∙◌, append-nil}
 use Rattle.std.specs.declared.alloc.Global.{Global}
-use Rattle.std.proofs.Math.Seq.{take_all}
 use Rattle.std.proofs.lemmas.Option.{same_Some}
 use Rattle.ps_problem.specs.Problems.{Parts}
 use Rattle.ps_answer.specs.declared.answer.Answer.{Answer}
@@ -34,7 +33,7 @@ use Rattle.psat.specs.Commands.{Spell, SpellNone, limit_of, words_of}
 use Rattle.psat.specs.Statuses.{EndsCheck, EndsMake, EndsSolve, HasText, IsAnswerOf}
 use Rattle.psat.specs.RunLimits.{limits_for}
 use Rattle.psat.specs.Due as due
-use Rattle.psat.specs.Due.{Output, too_long, usage, refused_line, unreadable, searched, DueAnswer, DueReport, FaultAt, DueText, NotRead, DueAnswered, NoProblem, Solved, IsSolvedBy, DueExplained, Explains, NoneExplained, explanation_of, status_explained, DueMade, Within, TooLong, DueFor, Due, ForCommand, ForNone, report_of, status_after}
+use Rattle.psat.specs.Due.{Output, too_long, usage, unreadable, DueAnswer, DueAnswered, NoProblem, Solved, IsSolvedBy, DueExplained, Explains, NoneExplained, explanation_of, status_explained, DueMade, Within, TooLong, DueFor, Due, ForCommand, ForNone, report_of, status_after}
 use Rattle.psat.proofs.CommandLaws.{one_command}
 use Rattle.psat.specs.Runs.{CountsReads, IsTold, WasRead, Took, HasAnswered, HasTaken, HasRead, Wrote}
 use Rattle.psat.specs.Replies.{AreWithin, DueBytes, IsDueFor, IsDue}

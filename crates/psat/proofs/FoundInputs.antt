@@ -1,7 +1,5 @@
 -- What is due for what is found of an input.
-use Rattle.std.proofs.Common.{◌≡◌, ℕ, List, drop, Ok, Err, Option, refl, subst}
-use Rattle.ps_io.specs.Transfer.{ReadAll}
-use Rattle.ps_problem.specs.Problems.{Parts}
+use Rattle.std.proofs.Common.{◌≡◌, ℕ, List, Ok, Err, Option, refl, subst}
 use Rattle.ps_text.specs.declared.kind.ReadKind.{ReadKind}
 use Rattle.ps_answer.specs.declared.error.LineKind.{LineKind}
 use Rattle.ps_claims.proofs.Valid.{valid-right}
@@ -10,13 +8,12 @@ use Rattle.ps_valid.specs.declared.refusal.Refusal.{Refusal}
 use Rattle.ps_valid.specs.declared.refusal.CheckError.TheVariants as whole
 use Rattle.ps_valid.specs.Answers.{answer_of}
 use Rattle.ps_stream.specs.declared.end.StreamEnd.TheVariants as end
-use Rattle.ps_stream.specs.Ends.{AnswersReport}
 use Rattle.ps_check.specs.declared.checked.Checked.{Checked}
 use Rattle.ps_check.specs.declared.checked.Checked.TheVariants as found
 use Rattle.ps_check.specs.Checks.{HasChecked, IsFoundIn, IsReportJudged}
 use Rattle.psat.specs.declared.command.Command.TheVariants.{Check}
 use Rattle.psat.specs.Due as due
-use Rattle.psat.specs.Due.{Output, DueReport, DueText, FaultAt, NotRead, ReadAs, Spelled, searched}
+use Rattle.psat.specs.Due.{Output, DueText, FaultAt, NotRead, ReadAs, Spelled, searched}
 use Rattle.psat.specs.Replies.{IsDueFor}
 use Rattle.psat.specs.Runs.{WasRead}
 use Rattle.psat.proofs.Accepted.{spelled_parts}

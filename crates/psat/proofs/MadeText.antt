@@ -1,5 +1,5 @@
 -- The answer to a chain's problem is small enough for the check, and due with its text and summary.
-use Rattle.std.proofs.Common.{◌≡◌, ℕ, zero, suc, ◌≤◌, ◌^◌, ℤ, pos, ◌≤ℤ◌, unsigned_abs, true, List, [], ◌∷◌, ◌++◌, length, map, All, IfSome, Option, Some, None, refl, sym, ap, subst, ◌∙◌, arith, append_assoc, append-nil}
+use Rattle.std.proofs.Common.{◌≡◌, ℕ, zero, suc, ◌≤◌, ◌^◌, ℤ, pos, ◌≤ℤ◌, unsigned_abs, List, [], ◌∷◌, ◌++◌, length, map, All, IfSome, Option, Some, None, refl, sym, ap, subst, ◌∙◌, arith, append_assoc}
 use Rattle.std.specs.List.{AllZip, AllByRecursion}
 use Rattle.std.proofs.lemmas.Int.{ints}
 use Rattle.std.proofs.lemmas.List.{length-map}
@@ -46,10 +46,9 @@ use Rattle.ps_phases.specs.declared.limits.Limits.{Limits}
 use Rattle.ps_query.specs.Solutions.{AreShortLines, IsSolution}
 use Rattle.ps_make.specs.Chain.{made_problem, made_text}
 use Rattle.psat.specs.declared.made.MadeProblem.{MadeProblem}
-use Rattle.psat.specs.declared.status.Status.{Status}
 use Rattle.psat.specs.Statuses.{EndsMake}
 use Rattle.psat.specs.Summaries.{summary, summary_with}
-use Rattle.psat.specs.Due.{Output, DueMade, behind_summary, status_made}
+use Rattle.psat.specs.Due.{DueMade, behind_summary, status_made}
 use Rattle.psat.specs.Replies.{IsMadeOf, made_bytes, open_report, status_by_open}
 
 -- ---- small answers

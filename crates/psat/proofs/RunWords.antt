@@ -1,5 +1,5 @@
 -- Which words set the limits of runs.
-use Rattle.std.proofs.Common.{◌≡◌, ◌≢◌, ◌⊎◌, inl, inr, ℕ, zero, suc, ◌<◌, ◌≤◌, List, [], ◌∷◌, ◌++◌, length, All, Contains, get_or, String, string_bytes, refl, sym, ap, subst, ◌∙◌, arith}
+use Rattle.std.proofs.Common.{◌≡◌, ◌≢◌, ◌⊎◌, inl, inr, ℕ, zero, suc, ◌<◌, List, [], ◌∷◌, ◌++◌, length, All, Contains, get_or, String, string_bytes, refl, sym, ap, subst, ◌∙◌, arith}
 use Rattle.std.specs.declared.alloc.Global.{Global}
 use Rattle.std.specs.Prelude.{AllPairs}
 use Rattle.std.proofs.lemmas.List.Elements.{All-nil, All-cons}
@@ -8,7 +8,7 @@ use Rattle.ps_log.proofs.StepShapes.{head, tail}
 use Rattle.psat.specs.declared.command.Limit.{Limit}
 use Rattle.psat.specs.declared.command.Limit.TheVariants.{Pivots, Conflicts}
 use Rattle.psat.specs.declared.command.LimitValue.{LimitValue}
-use Rattle.psat.specs.declared.command.LimitValue.TheVariants.{Number, Enough}
+use Rattle.psat.specs.declared.command.LimitValue.TheVariants.{Number}
 use Rattle.psat.specs.declared.command.TheConstants.{DEFAULT_PIVOTS, DEFAULT_CONFLICTS}
 use Rattle.psat.specs.Commands.{words_of, limit_word, value_word, MayBe, LimitSetting, setting_words, AreSettings, IsSetTo, SetRuns}
 use Rattle.psat.specs.Settings.{SetsLimit, IsUnset, HasNoNumber, SetNoRuns}

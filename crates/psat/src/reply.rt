@@ -1,6 +1,6 @@
 //! What is to be written.
 ghost use Rattle.std.specs.Prelude.{◌≡◌};
-ghost use Rattle.psat.specs.Replies.{reply_status, status_by_open};
+ghost use Rattle.psat.specs.Replies.{reply_status};
 
 use crate::answered::status_of;
 use crate::explained::status_explained;

@@ -1,5 +1,5 @@
 //! Options, and what is asked for without any.
-ghost use Rattle.std.specs.Prelude.{◌≡◌, ◌≤◌, IfSome};
+ghost use Rattle.std.specs.Prelude.{◌≤◌, IfSome};
 ghost use Rattle.ps_ask.specs.Shown.{AreSettings};
 
 use crate::texts::{NO_REPORT, WRONG_CONFLICTS, WRONG_DIGITS, WRONG_PIVOTS, WRONG_TIME};

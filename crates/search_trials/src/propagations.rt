@@ -1,7 +1,6 @@
 //! Propagation by watched literals, beside passes over all constraints.
-ghost use Rattle.std.specs.Prelude.{◌≡◌, All, IsTrue, IfOk, OnOk, IfSome, IfNone};
+ghost use Rattle.std.specs.Prelude.{◌≡◌, IsTrue, IfOk, OnOk, IfSome, IfNone};
 ghost use Rattle.ps_trail.specs.Trails.{values, decided, IsFresh};
-ghost use Rattle.ps_steps.specs.Weights.{IsWithin};
 ghost use Rattle.ps_watch.specs.Keeping.{IsInStep, HasSeenLower};
 
 use crate::draw::Draw;

@@ -1,5 +1,5 @@
 //! Single pivots.
-ghost use Rattle.std.specs.Prelude.{◌≡◌, ◌<◌, vec_len};
+ghost use Rattle.std.specs.Prelude.{◌<◌, vec_len};
 
 use crate::column::Column;
 use crate::limits::{LEAST_PIVOT, LEAST_STEP, MOST_DEGENERATE, MOST_UPDATES, PERTURBATION};

@@ -1,6 +1,4 @@
-use Rattle.std.proofs.Common.{subst, sym}
-use Rattle.ps_ask.specs.Shown.{HasWritten, both}
-use Rattle.ps_ask.proofs.RunLaws.{has_report, none_asked, not_silent, reads_counted, reads_same, reply_asked, reply_cut, report_cut, reports_counted, writes_counted}
+use Rattle.ps_ask.proofs.RunLaws.{has_report, none_asked, not_silent, reads_same, reply_asked, reply_cut, report_cut, reports_counted, writes_counted}
 use Rattle.ps_ask.proofs.answering.ask.Goals as goal
 
 pub returns-in-Err-clause-due : goal.returns-in-Err-clause-due

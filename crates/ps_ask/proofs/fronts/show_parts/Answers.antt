@@ -1,7 +1,6 @@
-use Rattle.std.proofs.Common.{rules, ◌≡◌, ◌<◌, ◌++◌, ◌∷◌, [], ◌∙◌, List, length, get_or, refl, ap, subst, arith}
+use Rattle.std.proofs.Common.{rules, ◌≡◌, ◌<◌, ◌++◌, ◌∷◌, [], ◌∙◌, List, length, get_or, refl, ap, subst}
 use Rattle.ps_io.proofs.Bytes.{appends-then}
 use Rattle.ps_problem.specs.declared.query.Query.{Query}
-use Rattle.ps_answer.specs.declared.answer.QueryPart.{QueryPart}
 use Rattle.ps_ask.specs.Fronts.{part_piece, parts_pieces}
 use Rattle.ps_ask.specs.Replies.{ArePieces, IsPiece}
 use Rattle.ps_ask.proofs.EndLaws.{ended_after, some_ended}

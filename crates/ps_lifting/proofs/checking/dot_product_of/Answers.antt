@@ -1,6 +1,6 @@
-use Rattle.std.proofs.Common.{◌≡◌, pos, ℤ, ◌+ℤ◌, ◌*ℤ◌, get_or, to_z, of_z, FitsSigned, refl, rules, arith}
+use Rattle.std.proofs.Common.{pos, get_or, to_z, FitsSigned, refl, rules, arith}
 use Rattle.std.specs.Int.{w64, w128}
-use Rattle.std.proofs.lemmas.Int.{ints, to_z-of_z}
+use Rattle.std.proofs.lemmas.Int.{to_z-of_z}
 use Rattle.ps_lifting.specs.Systems.{dot_product}
 use Rattle.ps_lifting.proofs.Products.{dot_product_more}
 use Rattle.ps_lifting.proofs.checking.dot_product_of.Goals as goal

@@ -1,4 +1,4 @@
-use Rattle.std.proofs.Common.{◌≡◌, length, drop, ◌+ℤ◌}
+use Rattle.std.proofs.Common.{◌≡◌, drop, ◌+ℤ◌}
 use Rattle.ps_lifting.specs.Systems.{dot_product}
 use Rattle.ps_lifting.proofs.checking.dot_product_of.Given as goal
 

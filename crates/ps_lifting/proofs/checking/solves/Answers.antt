@@ -1,5 +1,5 @@
-use Rattle.std.proofs.Common.{◌≡◌, pos, get_or, to_z, of_z, FitsSigned, rules, arith, refl}
-use Rattle.std.specs.Int.{w64, w128}
+use Rattle.std.proofs.Common.{pos, get_or, FitsSigned, rules, arith, refl}
+use Rattle.std.specs.Int.{w64}
 use Rattle.std.proofs.lemmas.Int.{to_z-of_z}
 use Rattle.ps_lifting.proofs.Products.{met_more}
 use Rattle.ps_lifting.proofs.checking.solves.Goals as goal

@@ -1,4 +1,4 @@
-use Rattle.std.proofs.Common.{◌≡◌, ◌<◌, ◌^◌, ℕ, List, length, sym, ap, subst, ◌∙◌, arith}
+use Rattle.std.proofs.Common.{ℕ, List, length, ap, subst, ◌∙◌, arith}
 use Rattle.ps_read.specs.Readings.{SpellsWhole}
 use Rattle.psat.proofs.MadeText.{made_due, never_unread}
 use Rattle.psat.proofs.made.reply_to_make.Goals as goal

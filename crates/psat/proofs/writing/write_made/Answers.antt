@@ -1,7 +1,3 @@
-use Rattle.std.proofs.Common.{sym, subst, Some, Option}
-use Rattle.ps_io.specs.Transfer.{Appends, Writes}
-use Rattle.ps_answer.specs.declared.answer.Answer.{Answer}
-use Rattle.psat.specs.Replies.{open_report}
 use Rattle.psat.proofs.RunLaws.{made_wrote}
 use Rattle.psat.proofs.writing.write_made.Goals as goal
 
