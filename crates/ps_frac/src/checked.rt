@@ -1,6 +1,6 @@
 //! Operations on 128-bit numbers whose results are at most 2^127 - 1 in size.
 
-ghost use Rattle.std.specs.Prelude.{◌≡◌, ◌*◌, ◌/◌, ◌<◌, ◌≤◌, pos, ◌+ℤ◌, ◌*ℤ◌, int_div};
+ghost use Rattle.std.specs.Prelude.{◌≡◌, ◌*◌, ◌/◌, ◌%◌, ◌<◌, ◌≤◌, pos, ◌+ℤ◌, ◌*ℤ◌, int_div};
 ghost use Rattle.ps_rational.specs.Wide.{Fits};
 ghost use Rattle.ps_frac.specs.Fitting.{IfFits, IfSizeFits};
 
@@ -19,6 +19,17 @@ pub fn size_quotient(n: u128, g: u128) -> u128
         return ((n as u64) / (g as u64)) as u128;
     }
     n / g
+}
+
+/// The rest of `n` by `g`; most numbers fit 64 bits, where a division is much faster.
+pub fn size_remainder(n: u128, g: u128) -> u128
+    requires positive { 0 < g }
+    ensures value { result ≡ n % g }
+{
+    if n < WORD && g < WORD {
+        return ((n as u64) % (g as u64)) as u128;
+    }
+    n % g
 }
 
 /// `n / g`, rounded toward zero.

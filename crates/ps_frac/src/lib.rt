@@ -12,7 +12,7 @@ mod products;
 mod sums;
 mod wide;
 
-pub use checked::{signed_quotient, size_quotient};
+pub use checked::{signed_quotient, size_quotient, size_remainder};
 pub use divisors::gcd;
 pub use fraction::Fraction;
 pub use limits::{MOST_MULTIPLE, SIZE_LIMIT, limits_have_these_numbers};

@@ -45,7 +45,10 @@ impl Fraction {
         requires h_positive { 0 < h }
         ensures value { IfSizeFits (product_under self.now other.now) result }
     {
-        size_product(size_quotient(self.under(), h), size_quotient(other.under(), g))
+        size_product(
+            size_quotient(self.under(), h),
+            size_quotient(other.under(), g),
+        )
     }
 
     /// The product, refused exactly where its numerator or denominator is too large.

@@ -7,9 +7,7 @@ ghost use Rattle.ps_rational.specs.Wide.{Fits, size_limit, sum_over, SumIsWide};
 ghost use Rattle.ps_frac.specs.Fitting.{IfFits, IfSumOverFits, IfSumUnderFits};
 ghost use Rattle.ps_frac.specs.Refusals.{Refuses};
 
-use crate::checked::{
-    signed_product, signed_quotient, signed_sum, size_product, size_quotient,
-};
+use crate::checked::{signed_product, signed_quotient, signed_sum, size_product, size_quotient};
 use crate::divisors::gcd;
 use crate::fraction::Fraction;
 use crate::wide::{Op, Wide};
@@ -49,7 +47,10 @@ impl Fraction {
         ensures value { IfSumUnderFits self.now other.now result }
     {
         let h = gcd(top.unsigned_abs(), g);
-        match size_product(size_quotient(self.under(), g), size_quotient(other.under(), h)) {
+        match size_product(
+            size_quotient(self.under(), g),
+            size_quotient(other.under(), h),
+        ) {
             Some(denominator) => Some(Fraction::of_lowest(signed_quotient(top, h), denominator)),
             None => None,
         }

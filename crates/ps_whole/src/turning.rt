@@ -5,9 +5,8 @@ ghost use Rattle.ps_whole.specs.Whole.{number_at, under_at};
 ghost use Rattle.ps_whole.specs.Pivots.{raw_number, IsPivotOf, IsRowChange, IsContent};
 
 use crate::change::RowChange;
-use crate::divisors::gcd_of_words;
+use crate::divisors::{gcd_by_rest, gcd_of_words};
 use crate::rows::Whole;
-use ps_frac::gcd;
 
 /// A product of two numbers of a table.
 fn product(left: i64, right: i64) -> i128
@@ -98,7 +97,7 @@ impl Whole {
             if g == 1 {
                 return 1;
             }
-            g = gcd(self.raw(p, i, times, less, column).unsigned_abs(), g);
+            g = gcd_by_rest(self.raw(p, i, times, less, column).unsigned_abs(), g);
         }
         g
     }

@@ -1,9 +1,8 @@
 use Rattle.std.proofs.Common.{◌≡◌, unsigned_abs, arith, subst, sym, ◌∙◌, ap, inl, inr, rules, FitsSigned, to_z, of_z, w64}
-use Rattle.std.specs.Int.{IsGcd, ◌∣◌, w128}
+use Rattle.std.specs.Int.{◌∣◌, w128}
 use Rattle.std.proofs.lemmas.Int.{to_z-of_z}
 use Rattle.std.proofs.lemmas.Bool.{cases_eq}
 use Rattle.std.proofs.Math.Nat.{one-dvd, dvd_trans, pos_of_dvd_of_pos}
-use Rattle.ps_rational.specs.Coprime.{gcd_is}
 use Rattle.ps_whole.specs.Pivots.{raw_number}
 use Rattle.ps_whole.proofs.rows.Whole.content.Goals as goal
 
@@ -13,20 +12,20 @@ returns-then-g-eq1 c = record { common = record { positive = omega arith; under 
 pub loop-column-preserved : goal.loop-column-preserved
 loop-column-preserved c =
     let w = c.args.self.now in
-    let is = subst (λ n. IsGcd c.unsigned_abs.result c.loop-column.g n) (sym c.gcd-g.ensures.value) (gcd_is c.unsigned_abs.result c.loop-column.g) in
+    let is = c.gcd_by_rest-g.ensures.value in
     let fr : FitsSigned w128 c.raw.result = search rules in
     let t = to_z w64 (of_z w64 c.args.times) in
     let k = to_z w64 (of_z w64 c.args.less) in
     let size : c.unsigned_abs.result ≡ unsigned_abs (raw_number w c.args.p c.args.i t k c.loop-column.column) =
     c.unsigned_abs.ensures.value ∙ ap unsigned_abs (to_z-of_z w128 c.raw.result fr ∙ c.raw.ensures.value) in
-    let here : c.gcd-g.result ∣ unsigned_abs (raw_number w c.args.p c.args.i t k c.loop-column.column) =
-    subst (λ n. c.gcd-g.result ∣ n) size is.0 in
+    let here : c.gcd_by_rest-g.result ∣ unsigned_abs (raw_number w c.args.p c.args.i t k c.loop-column.column) =
+    subst (λ n. c.gcd_by_rest-g.result ∣ n) size is.0 in
     record {
       positive = pos_of_dvd_of_pos is.1 c.loop-column.invariant.positive;
-      under = dvd_trans c.gcd-g.result is.1 c.loop-column.invariant.under;
+      under = dvd_trans c.gcd_by_rest-g.result is.1 c.loop-column.invariant.under;
       over = λ j l. elim (cases_eq j c.loop-column.column) [
-        | inl same ↦ subst (λ m. c.gcd-g.result ∣ unsigned_abs (raw_number w c.args.p c.args.i t k m)) (sym same) here
-        | inr ne ↦ dvd_trans c.gcd-g.result is.1 (c.loop-column.invariant.over j (omega (arith, l, ne)))
+        | inl same ↦ subst (λ m. c.gcd_by_rest-g.result ∣ unsigned_abs (raw_number w c.args.p c.args.i t k m)) (sym same) here
+        | inr ne ↦ dvd_trans c.gcd_by_rest-g.result is.1 (c.loop-column.invariant.over j (omega (arith, l, ne)))
       ];
     }
 
