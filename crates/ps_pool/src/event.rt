@@ -34,3 +34,14 @@ impl Event {
 
 /// The events of a run, in order.
 pub type Trace = List<Event>;
+
+/// Equal events.
+pub fn trace_copy(alloc: Global, events: &[Event]) -> Result<Trace, NoMemory>
+    ensures { IfOk result (λ copy. copy ≡ events.now) }
+{
+    let mut copy = List::new(alloc);
+    for event in events {
+        copy.push(event.copy(alloc)?)?;
+    }
+    Ok(copy)
+}

@@ -6,7 +6,7 @@ mod event;
 mod pool;
 
 pub use col::Col;
-pub use event::{Event, Trace};
+pub use event::{Event, Trace, trace_copy};
 pub use pool::{MOST_WORLDS, Pool, PoolError, limits_have_these_numbers};
 
 #[cfg(test)]

@@ -47,16 +47,6 @@ fn wishes_of(
     Ok(Some(from_weights(alloc, &wishes, bounds.len() as i128)?))
 }
 
-fn few_of(conflicts: u64) -> u64
-    ensures { result ≤ conflicts }
-{
-    if conflicts < FEW_CONFLICTS {
-        conflicts
-    } else {
-        FEW_CONFLICTS
-    }
-}
-
 /// A world that meets all bounds alone, with the values of all nodes. No variable has a value where
 /// none is found.
 pub(crate) fn first_world(
@@ -71,8 +61,9 @@ pub(crate) fn first_world(
     let Some(goal) = wishes_of(alloc, bounds, form.variables())? else {
         return Assignment::new(alloc, 0);
     };
+    let few = conflicts.min(FEW_CONFLICTS);
     let mut log = HeldLog::new(alloc);
-    match search(alloc, form, &goal, few_of(conflicts), &mut log) {
+    match search(alloc, form, &goal, few, &mut log) {
         Ok(Outcome::Found(world)) => Ok(world),
         Ok(_) => Assignment::new(alloc, 0),
         Err(SearchError::NoMemory) => Err(NoMemory),

@@ -9,13 +9,12 @@ ghost use Rattle.ps_query.specs.Parts.{AreBoundsOf, ArePartsUnder, HasReachedAlo
 ghost use Rattle.ps_query.specs.Parts.{IsBehind, IsOpening, IsPartOf, IsVerdictOf, MayGoOn};
 ghost use Rattle.ps_query.specs.Solutions.{AreShortLines, IsReadBack, IsSolution};
 
-use crate::events::trace_copy;
 use crate::opening::Opening;
 use crate::starting::run_over_all;
 use ps_answer::{Answer, Parts, QueryAnswer, QueryPart, Verdict};
 use ps_io::{List, NoMemory};
 use ps_master::{First, Limits, Run};
-use ps_pool::Trace;
+use ps_pool::{Trace, trace_copy};
 use ps_problem::{Problem, Query};
 use std::alloc::Global;
 
