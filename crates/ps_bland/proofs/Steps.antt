@@ -146,16 +146,15 @@ are_pivots phase costs s t events (more _ r _ es enter leave run lawful pivot ke
           (one_move (basic_at s) (basic_at r) (basic_at t) (pivots_of (length s.kinds) es) (number_in (length s.kinds) enter) leave before.1 at based),
     )
 
-pub ran_none : (phase : Phase) (costs : Costs) (t : Tableau) (trace : List Event) (left : ℕ) → Ran phase costs t t trace trace left left
-ran_none phase costs t trace left = record { events = []; run = still t; lawful = are_pivots phase costs t t [] (still t); appended = sym (append-nil trace); counted = omega arith }
+pub ran_none : (phase : Phase) (costs : Costs) (t : Tableau) (trace : List Event) → Ran phase costs t t trace trace
+ran_none phase costs t trace = record { events = []; run = still t; lawful = are_pivots phase costs t t [] (still t); appended = sym (append-nil trace) }
 
-pub ran_more : (phase : Phase) (costs : Costs) (s t u : Tableau) (trace now longer : List Event) (had mid left : ℕ) → Ran phase costs s t trace now had mid → IsStep phase costs t u now longer → left + 1 ≡ mid → Ran phase costs s u trace longer had left
-ran_more phase costs s t u trace now longer had mid left ran step here = record {
+pub ran_more : (phase : Phase) (costs : Costs) (s t u : Tableau) (trace now longer : List Event) → Ran phase costs s t trace now → IsStep phase costs t u now longer → Ran phase costs s u trace longer
+ran_more phase costs s t u trace now longer ran step = record {
   events = ran.events ++ Pivot step.enter step.leave ∷ [];
   run = more s t u ran.events step.enter step.leave ran.run step.lawful step.pivot step.stands;
   lawful = are_pivots phase costs s u (ran.events ++ Pivot step.enter step.leave ∷ []) (more s t u ran.events step.enter step.leave ran.run step.lawful step.pivot step.stands);
   appended = step.appended ∙ ap (λ k. k ++ Pivot step.enter step.leave ∷ []) ran.appended ∙ append_assoc trace ran.events (Pivot step.enter step.leave ∷ []);
-  counted = let a = ran.counted in omega (arith, a, here, length-append ran.events (Pivot step.enter step.leave ∷ []));
 }
 
 pub costs_kept : (costs : Costs) (enter : Col) (leave : ℕ) (t u : Tableau) → IsPivot leave enter t u → HasCosts costs t → HasCosts costs u

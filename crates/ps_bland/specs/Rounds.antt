@@ -1,5 +1,6 @@
 -- What the code has looked at so far, and what one round does.
-use Rattle.std.specs.Prelude.{◌≡◌, ◌≢◌, ℕ, suc, ◌+◌, ◌<◌, true, false, List, [], ◌∷◌, ◌++◌, Option, Some, None, Result, Ok, Err}
+use Rattle.std.specs.Prelude.{◌≡◌, ◌≢◌, ℕ, suc, ◌<◌, true, false, List, [], ◌∷◌, ◌++◌}
+use Rattle.std.specs.Prelude.{Option, Some, None, IfNone, Result, Ok, Err, IfOk}
 use Rattle.ps_rational.specs.Rational.{Rational, zero_q}
 use Rattle.ps_simplex.specs.Rule.{Improves, Enters, IsRising, IsArtificialRow, HasNoArtificialRow, IsLeastArtificialRow}
 use Rattle.ps_simplex.specs.Rule.{ratio, GoesBefore, Precedes, HasLeastRatio, Leaves}
@@ -16,7 +17,7 @@ use Rattle.ps_simplex.specs.declared.phase.Phase.{Phase}
 use Rattle.ps_simplex.specs.declared.phase.Phase.TheVariants.{One, Lower, Upper}
 use Rattle.ps_bland.specs.declared.settled.Settled.{Settled}
 use Rattle.ps_bland.specs.Rules.{artificial_at, IsLawful, is_artificial_column, simplex_of}
-use Rattle.ps_bland.specs.Ends.{IsRatioWide, IsCarriedWide, IsLeftToRatios, AreDueNarrow, IsDueRefusal, IsSettled}
+use Rattle.ps_bland.specs.Ends.{IsRatioWide, IsCarriedWide, IsLeftToRatios, AreDueNarrow}
 
 -- a row with an entry above 0 that goes before each such row before row n
 pub record IsLeastBefore (t : Tableau) (q n p : ℕ) : Type 0 where
@@ -81,22 +82,15 @@ pub record IsStep (phase : Phase) (costs : Costs) (old new : Tableau) (trace lon
   pub stands : KeepsSystem old new
   pub appended : longer ≡ trace ++ Pivot enter leave ∷ []
 
--- nothing has changed
-pub record IsSame (old new : Tableau) (trace longer : List Event) : Type 0 where
-  pub table_same : new ≡ old
-  pub trace_same : longer ≡ trace
+-- a fact of a round that made a pivot
+abbrev pub IfPivoted : Result (Option Settled) TableError → Type 0 → Type 0
+IfPivoted result P = IfOk result (λ end. IfNone end P)
 
--- one round: one lawful pivot, or an end or a refusal that is due with so many pivots left
-abbrev pub IsRound : Phase → Costs → Tableau → Tableau → List Event → List Event → ℕ → Result (Option Settled) TableError → Type 0
-IsRound phase costs old new trace longer left (Ok None) = IsStep phase costs old new trace longer
-IsRound phase costs old new trace longer left (Ok (Some s)) = IsSame old new trace longer × IsSettled phase costs old left s
-IsRound phase costs old new trace longer left (Err e) = IsSame old new trace longer × IsDueRefusal phase costs old left e
-
--- the pivots left after a round: one less after a pivot, else as many
-abbrev pub IsCounted : Result (Option Settled) TableError → ℕ → ℕ → Type 0
-IsCounted (Ok None) had left = left + 1 ≡ had
-IsCounted (Ok (Some s)) had left = left ≡ had
-IsCounted (Err e) had left = left ≡ had
+-- a fact of a round that came to an end or was refused
+abbrev pub IfStopped : Result (Option Settled) TableError → Type 0 → Type 0
+IfStopped (Ok None) P = Unit {0}
+IfStopped (Ok (Some s)) P = P
+IfStopped (Err e) P = P
 
 -- the entering column, or none
 abbrev pub IsEntering : Costs → Tableau → Option Col → Type 0

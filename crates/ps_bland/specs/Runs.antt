@@ -37,13 +37,12 @@ ArePivots phase costs s events t = (A : ℕ → ℕ → Rational) → IsTableFor
     → IsTableFor A t × Pivots (linear_program phase (system_of s.kinds A) (cost_at costs) (width_of s)) (basic_at s)
     (pivots_of (rows_of s) events) (basic_at t)
 
--- pivots were made, appended to the trace and counted
-pub record Ran (phase : Phase) (costs : Costs) (old new : Tableau) (trace longer : List Event) (had left : ℕ) : Type 0 where
+-- pivots were made and appended to the trace
+pub record Ran (phase : Phase) (costs : Costs) (old new : Tableau) (trace longer : List Event) : Type 0 where
   pub events : List Event
   pub run : Run phase costs old events new
   pub lawful : ArePivots phase costs old events new
   pub appended : longer ≡ trace ++ events
-  pub counted : left + length events ≡ had
 
 -- from the old table on the appended pivots meet no basis twice, not even with the same columns in other rows
 pub record MeetsNoBasisTwice (phase : Phase) (costs : Costs) (old : Tableau) (trace longer : List Event) : Type 0 where

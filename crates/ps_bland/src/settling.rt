@@ -1,12 +1,12 @@
 //! Pivots until an end.
-ghost use Rattle.std.specs.Prelude.{◌≡◌, ◌≢◌, ◌<◌, [], ◌∷◌, ◌++◌, IfOk, IfErr};
+ghost use Rattle.std.specs.Prelude.{◌≡◌, ◌≢◌, ◌+◌, ◌<◌, [], ◌∷◌, ◌++◌, length, IfOk, IfErr, IfSome};
 ghost use Rattle.ps_rational.specs.Rational.{zero_q};
 ghost use Rattle.ps_table.specs.Tableau.{rows_of, HasColumn, entry_of, IsPivot, KeepsSystem};
 ghost use Rattle.ps_table.specs.Places.{PivotPlaces, IsRefusedAt};
 ghost use Rattle.ps_bland.specs.Runs.{Ran, MadeFewerThanBases, MeetsNoBasisTwice};
 ghost use Rattle.ps_bland.specs.Ready.{IsReady};
-ghost use Rattle.ps_bland.specs.Ends.{IsEnd, AreDueNarrow};
-ghost use Rattle.ps_bland.specs.Rounds.{IsRound, IsCounted, IsNarrowEnd};
+ghost use Rattle.ps_bland.specs.Ends.{IsEnd, IsSettled, IsDueRefusal, AreDueNarrow};
+ghost use Rattle.ps_bland.specs.Rounds.{IfPivoted, IfStopped, IsStep, IsNarrowEnd};
 
 use crate::entering::entering;
 use crate::feasible::is_due_to_end;
@@ -50,9 +50,13 @@ fn step(
     trace: &mut Trace,
 ) -> Result<Option<Settled>, TableError>
     requires { IsReady phase costs.now table.old }
-    ensures round { IsRound phase costs.now table.old table.new
-        trace.old trace.new left.old result }
-    ensures counted { IsCounted result left.old left.new }
+    ensures pivot { IfPivoted result
+        (IsStep phase costs.now table.old table.new trace.old trace.new) }
+    ensures table_same { IfStopped result (table.new ≡ table.old) }
+    ensures trace_same { IfStopped result (trace.new ≡ trace.old) }
+    ensures end { IfOk result (λ end. IfSome end (IsSettled phase costs.now table.new left.new)) }
+    ensures refused { IfErr result (IsDueRefusal phase costs.now table.new left.new) }
+    ensures counted { left.new + length trace.new ≡ left.old + length trace.old }
     ensures narrow { IfOk result (IsNarrowEnd phase costs.now table.new left.new) }
     ensures ready { IsReady phase costs.now table.new }
     ensures stands { KeepsSystem table.old table.new }
@@ -105,7 +109,8 @@ pub fn settle(
     trace: &mut Trace,
 ) -> Result<Settled, TableError>
     requires ready { IsReady phase costs.now table.old }
-    ensures ran { Ran phase costs.now table.old table.new trace.old trace.new left.old left.new }
+    ensures ran { Ran phase costs.now table.old table.new trace.old trace.new }
+    ensures counted { left.new + length trace.new ≡ left.old + length trace.old }
     ensures end { IsEnd phase costs.now table.new left.new result }
     ensures narrow { IfOk result (λ _. AreDueNarrow phase costs.now table.new left.new) }
     ensures kinds { table.new.kinds ≡ table.old.kinds }

@@ -1,4 +1,4 @@
-use Rattle.std.proofs.Common.{◌≡◌, ℕ}
+use Rattle.std.proofs.Common.{◌≡◌, ℕ, ◌+◌, length}
 use Rattle.ps_rational.specs.Rational.{Rational}
 use Rattle.ps_table.specs.Tableau.{IsTableau, IsTableFor}
 use Rattle.ps_bland.specs.Runs.{Ran, MadeFewerThanBases, MeetsNoBasisTwice}
@@ -7,7 +7,8 @@ use Rattle.ps_bland.proofs.settling.settle.Given as goal
 
 abbrev pub invariant-loop-settled : goal.invariant-loop-settled
 invariant-loop-settled l = record {
-  ran : Ran l.phase l.costs l.fn.table l.table l.fn.trace l.trace l.fn.left l.left;
+  ran : Ran l.phase l.costs l.fn.table l.table l.fn.trace l.trace;
+  counted : l.left + length l.trace ≡ l.fn.left + length l.fn.trace;
   kinds : l.table.kinds ≡ l.fn.table.kinds;
   worlds : l.table.worlds ≡ l.fn.table.worlds;
   ready : IsReady l.phase l.costs l.table;

@@ -1,11 +1,14 @@
-use Rattle.std.proofs.Common.{◌≡◌, ◌<◌, ℕ, length, Err, rules}
+use Rattle.std.proofs.Common.{◌≡◌, ◌+◌, ◌<◌, ℕ, List, length, Err, sym, ap, subst, arith, rules}
 use Rattle.ps_simplex.specs.Rule.{Improves, Enters}
-use Rattle.ps_table.specs.Tableau.{number_in, number_of, HasColumn}
+use Rattle.ps_pool.specs.declared.event.Event.{Event}
+use Rattle.ps_pool.specs.declared.event.Event.TheVariants.{Pivot}
+use Rattle.ps_table.specs.Tableau.{Tableau, number_in, number_of, HasColumn}
 use Rattle.ps_table.specs.Pricing.{cost_at}
 use Rattle.ps_bland.specs.Rules.{simplex_of, IsLawful, IsDueToEndIn}
-use Rattle.ps_bland.specs.Rounds.{IsSame}
+use Rattle.ps_bland.specs.Ends.{IsDueRefusal}
 use Rattle.ps_bland.specs.Ends.IsDueWide.{at_ratio}
 use Rattle.ps_bland.proofs.Steps.{due_refusal}
+use Rattle.ps_bland.proofs.Counts.{event_counted}
 use Rattle.ps_bland.proofs.Due.{rest_narrow, out_narrow}
 use Rattle.ps_bland.proofs.Ready.{can_leave, ready_kept}
 use Rattle.ps_table.specs.declared.error.TableError.TheVariants as refused
@@ -17,27 +20,34 @@ leaving-requires-clause-can_leave c =
     let enters : Enters (simplex_of c.args.table.now) (cost_at c.args.costs.now) q = search rules in
     can_leave c.args.phase c.args.costs.now c.args.table.now q c.is_due_to_end.ensures.tableau c.requires.fits enters.improves
 
-pub returns-in_err-leave-clause-round : goal.returns-in_err-leave-clause-round
-returns-in_err-leave-clause-round c =
+pub returns-in_err-leave-clause-refused : goal.returns-in_err-leave-clause-refused
+returns-in_err-leave-clause-refused c =
     let t = c.args.table.now in
     let w = c.in_err-leave.field-0.0 in
     let inside : HasColumn t c.in-Some.enter = search rules in
     let enters : Enters (simplex_of t) (cost_at c.args.costs.now) (number_of t c.in-Some.enter) = search rules in
     let unfinished : IsDueToEndIn c.args.phase t → ⊥ = search rules in
-    let same : IsSame t t c.args.trace.now c.args.trace.now = search rules in
     let some : 0 < c.args.left.now = search rules in
     let e : c.from_residual-in_err-leave.result ≡ Err (refused.Wide w) = search rules in
-    rw e (same, at_ratio c.in-Some.enter unfinished some inside enters c.in_err-leave.ensures.ratios c.in_err-leave.ensures.refused)
+    rw e (at_ratio c.in-Some.enter unfinished some inside enters c.in_err-leave.ensures.ratios c.in_err-leave.ensures.refused)
 
-pub returns-in_err-pivot_with_event-clause-round : goal.returns-in_err-pivot_with_event-clause-round
-returns-in_err-pivot_with_event-clause-round c =
+pub returns-in_err-pivot_with_event-clause-refused : goal.returns-in_err-pivot_with_event-clause-refused
+returns-in_err-pivot_with_event-clause-refused c =
     let t = c.args.table.now in
     let r = c.in_err-pivot_with_event.field-0.0 in
     let lawful : IsLawful c.args.phase c.args.costs.now t c.in-Some.enter c.in_ok-leave.leave = search rules in
-    let same : IsSame t c.pivot_with_event.new.table c.args.trace.now c.pivot_with_event.new.trace = search rules in
     let some : 0 < c.args.left.now = search rules in
     let e : c.from_residual-in_err-pivot_with_event.result ≡ Err r = search rules in
-    rw e (same, due_refusal c.args.phase c.args.costs.now t c.args.left.now c.in-Some.enter c.in_ok-leave.leave some lawful r c.in_err-pivot_with_event.ensures.refused)
+    let due = due_refusal c.args.phase c.args.costs.now t c.args.left.now c.in-Some.enter c.in_ok-leave.leave some lawful r c.in_err-pivot_with_event.ensures.refused in
+    rw e (subst (λ (u : Tableau). IsDueRefusal c.args.phase c.args.costs.now u c.args.left.now r) (sym c.in_err-pivot_with_event.ensures.table_same) due)
+
+pub returns-in_err-pivot_with_event-clause-counted : goal.returns-in_err-pivot_with_event-clause-counted
+returns-in_err-pivot_with_event-clause-counted c = ap (λ (events : List Event). c.args.left.now + length events) c.in_err-pivot_with_event.ensures.trace_same
+
+pub returns-clause-counted : goal.returns-clause-counted
+returns-clause-counted c =
+    let some : 0 < c.args.left.now = search rules in
+    event_counted c.args.trace.now c.pivot_with_event.new.trace (Pivot c.in-Some.enter c.in_ok-leave.leave) c.args.left.now _ c.in_ok-pivot_with_event.ensures.event (omega (arith, some))
 
 pub returns-clause-ready : goal.returns-clause-ready
 returns-clause-ready c =
