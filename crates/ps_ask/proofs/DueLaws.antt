@@ -24,7 +24,7 @@ use Rattle.ps_ask.specs.Late.{is_late}
 use Rattle.ps_ask.specs.Statuses.{HasText, status_after, status_by}
 use Rattle.ps_ask.specs.Fronts.{IsBegunText, IsWhole, begun_text}
 use Rattle.ps_ask.specs.Shown.{AsItGoes, CountsReads, IsText, Shown, NoProblem, TooLong, answer_output, last_text, wanted_report}
-use Rattle.ps_ask.specs.Replies.{AreShortInTime, Ended, HasShown, HasShownFor, IsDueAfter, IsOf, IsShort, IsShownFor, IsSolvedAfter, last_of, output_after, report_by, status_of, status_with}
+use Rattle.ps_ask.specs.Replies.{AreShortInTime, Ended, HasShown, Shows, IsDueAfter, IsOf, IsShort, IsShownFor, IsSolvedAfter, last_of, output_after, report_by, status_of, status_with}
 use Rattle.ps_ask.proofs.EndLaws.{ended_as, nothing_appended, nothing_ended}
 
 report-is : (w : Bool) (timed : Bool) (a : Answer) (r : Reply) → IsOf a r → report_by w timed r ≡ wanted_report w timed a
@@ -129,7 +129,7 @@ whole-is most (Some xs) (Some ys) taken bytes h e =
     sym (append-nil taken) ∙ ap (λ r. taken ++ r) (sym none) ∙ sym all ∙ same
 
 pub input_shown : (s : Settings) (name : List ℕ) (limit : ℕ) (left after : Option (List ℕ)) (taken given : List ℕ) (r : Result Reply ReplyError) (old new : Option (List ℕ))
-    → ReadAll limit left after taken → given ≡ taken → HasShown s name given r old new → HasShownFor s name left r old new
+    → ReadAll limit left after taken → given ≡ taken → HasShown s name given r old new → Shows s name left r old new
 input_shown s name limit left after taken given r old new h same shown = record {
   shown = λ bytes told.
       let is : taken ≡ bytes = whole-is limit left after taken bytes h told in
@@ -137,10 +137,10 @@ input_shown s name limit left after taken given r old new h same shown = record 
 }
 
 -- where a read failed, or memory ran out before, nothing was shown
-pub nothing_read : (s : Settings) (name : List ℕ) (left : Option (List ℕ)) (o : Option (List ℕ)) → HasShownFor s name left (Err errors.ReadFault) o o
+pub nothing_read : (s : Settings) (name : List ℕ) (left : Option (List ℕ)) (o : Option (List ℕ)) → Shows s name left (Err errors.ReadFault) o o
 nothing_read s name left o = record { shown = λ bytes told. refl }
 
-pub nothing_kept : (s : Settings) (name : List ℕ) (left : Option (List ℕ)) (o : Option (List ℕ)) → HasShownFor s name left (Err errors.NoMemory) o o
+pub nothing_kept : (s : Settings) (name : List ℕ) (left : Option (List ℕ)) (o : Option (List ℕ)) → Shows s name left (Err errors.NoMemory) o o
 nothing_kept s name left o = record { shown = λ bytes told. nothing_ended (IsText s name bytes) o }
 
 -- where more than the limit was taken, there was more
@@ -150,7 +150,7 @@ more_is limit xs (Some ys) h =
     let all : length xs ≡ length h.taken + length ys = ap length h.consumed ∙ length-append h.taken ys in
     omega (arith, h.more)
 
-pub long_shown : (s : Settings) (name : List ℕ) (left after o : Option (List ℕ)) → TookMore MOST_PROBLEM left after → HasShownFor s name left (Ok Nothing) o o
+pub long_shown : (s : Settings) (name : List ℕ) (left after o : Option (List ℕ)) → TookMore MOST_PROBLEM left after → Shows s name left (Ok Nothing) o o
 long_shown s name left after o h = record {
   shown = λ bytes told. record {
     begun = [];

@@ -27,7 +27,7 @@ use Rattle.ps_ask.specs.declared.settings.Style.{Style}
 use Rattle.ps_ask.specs.declared.settings.Style.TheVariants.{Words, Values, Json, Report}
 use Rattle.ps_ask.specs.Late.{is_late, is_late_answer, is_late_in, is_late_verdict}
 use Rattle.ps_ask.specs.Fronts.{AreShownParts, IsBegunText, IsLatePart, IsLateVerdict, IsShownPart, IsShownVerdict, IsWhole, begun_text, part_piece, parts_pieces, verdict_piece}
-use Rattle.ps_ask.specs.Replies.{AreShortInTime, ArePieces, IsPiece, IsVerdictPiece}
+use Rattle.ps_ask.specs.Replies.{AreShortInTime, ArePiecesFor, IsPiece, IsVerdictPiece}
 
 -- ---- pieces
 begun_is : (style : Style) (digits : ℕ) (p : Parts) (a : Answer) → begun_text style digits p a ≡ verdict_piece style a.verdict ++ parts_pieces style digits p a.parts
@@ -71,7 +71,7 @@ pub record ArePartsTo (s : Settings) (p : Parts) (i : ℕ) (parts : List QueryPa
   pub count : length parts ≡ i
   pub shown : AreShownParts s p (take i p.queries) parts
 
-pub pieces_begun : (s : Settings) (p : Parts) (i : ℕ) (parts : List QueryPart) → ArePartsTo s p i parts → ArePieces s p p.queries (parts_pieces s.style s.digits p parts)
+pub pieces_begun : (s : Settings) (p : Parts) (i : ℕ) (parts : List QueryPart) → ArePartsTo s p i parts → ArePiecesFor s p p.queries (parts_pieces s.style s.digits p parts)
 pieces_begun s p i parts h = record {
   parts = parts;
   shown = subst (λ k. AreShownParts s p (take k p.queries) parts) (sym h.count) h.shown;
@@ -91,7 +91,7 @@ module _ (s : Settings) (p : Parts) (i : ℕ) (parts : List QueryPart) (q d : Qu
       let there : get_or p.queries (length parts) d ≡ q = ap (λ k. get_or p.queries k d) are.count ∙ sym is in
       pieces_next s.style s.digits p parts part d within ∙ ap (λ x. parts_pieces s.style s.digits p parts ++ part_piece s.style s.digits p x part) there
 
-  pub pieces_more : (text : List ℕ) → IsPiece s p q text → ArePieces s p p.queries (parts_pieces s.style s.digits p parts ++ text)
+  pub pieces_more : (text : List ℕ) → IsPiece s p q text → ArePiecesFor s p p.queries (parts_pieces s.style s.digits p parts ++ text)
   pieces_more text h =
       let next = parts_next h.part h.shown in
       record {
@@ -117,7 +117,7 @@ begun_verdict s p text h =
           ∙ sym (begun_is s.style s.digits p a);
     }
 
-pub begun_after : (s : Settings) (p : Parts) (v : Verdict) (events : List Event) → IsShownVerdict s p v events → (text : List ℕ) → ArePieces s p (asked_after v p.queries) text
+pub begun_after : (s : Settings) (p : Parts) (v : Verdict) (events : List Event) → IsShownVerdict s p v events → (text : List ℕ) → ArePiecesFor s p (asked_after v p.queries) text
     → IsBegunText s p (verdict_piece s.style v ++ text)
 begun_after s p v events is text h =
     let a : Answer = record { verdict = v; first = events; parts = h.parts } in

@@ -11,8 +11,8 @@ use Rattle.ps_ask.specs.declared.reply.Reply.{Reply}
 use Rattle.ps_ask.specs.declared.reply.ReplyError.{ReplyError}
 use Rattle.ps_ask.specs.declared.reply.ReplyError.TheVariants as errors
 use Rattle.ps_ask.specs.Statuses.{HasNoReport, HasText, IsSilent}
-use Rattle.ps_ask.specs.Shown.{AsIsDue, HasWritten, CountsReads, CountsReports, CountsWrites, Ends, IsDue, Output, Wrote, both}
-use Rattle.ps_ask.specs.Replies.{CountsShown, HasShownFor, IsDueAfter, last_of, output_after, report_by, status_of, status_without}
+use Rattle.ps_ask.specs.Shown.{AsIsDue, Due, CountsReads, CountsReports, CountsWrites, Ends, IsDue, Output, Wrote, both}
+use Rattle.ps_ask.specs.Replies.{CountsShown, Shows, IsDueAfter, last_of, output_after, report_by, status_of, status_without}
 use Rattle.ps_ask.proofs.DueLaws.{has_text}
 
 wrote_by : (s : Settings) (name bytes : List ℕ) (o : Output) (st : Status) (old new : Ends) → HasText st → IsDue s name bytes o → st ≡ o.status
@@ -23,10 +23,10 @@ wrote_by s name bytes o status.ReportFault old new h d e a b = absurd h
 wrote_by s name bytes o status.NoMemory old new h d e a b = absurd h
 wrote_by s name bytes o st old new h d e a b = record { output = o; due = d; status_is = e; written = a; reported = b }
 
-module _ (s : Settings) (name : List ℕ) (left : Option (List ℕ)) (r : Reply) (old between new : Option (List ℕ)) (shown : HasShownFor s name left (Ok r) old between) where
+module _ (s : Settings) (name : List ℕ) (left : Option (List ℕ)) (r : Reply) (old between new : Option (List ℕ)) (shown : Shows s name left (Ok r) old between) where
   -- a reply was written whole
   pub reply_asked : (st : Status) (before after : Option (List ℕ)) → st ≡ status_of s.is_timed r → Appends between new (last_of s.is_timed r)
-      → Appends before after (report_by s.reports s.is_timed r) → HasWritten left (both old before) (both new after) s name st
+      → Appends before after (report_by s.reports s.is_timed r) → Due s name left st (both old before) (both new after)
   reply_asked st before after e a b = record {
     wrote = λ bytes told.
         let h : IsDueAfter s name bytes old between r = shown.shown bytes told in
@@ -36,7 +36,7 @@ module _ (s : Settings) (name : List ℕ) (left : Option (List ℕ)) (r : Reply)
   }
 
   -- a proper prefix of what is shown at the end was written
-  pub reply_cut : (before : Option (List ℕ)) → AppendsPrefix between new (last_of s.is_timed r) → HasWritten left (both old before) (both new before) s name status.WriteFault
+  pub reply_cut : (before : Option (List ℕ)) → AppendsPrefix between new (last_of s.is_timed r) → Due s name left status.WriteFault (both old before) (both new before)
   reply_cut before a = record {
     wrote = λ bytes told.
         let h : IsDueAfter s name bytes old between r = shown.shown bytes told in
@@ -50,7 +50,7 @@ module _ (s : Settings) (name : List ℕ) (left : Option (List ℕ)) (r : Reply)
 
   -- a proper prefix of the report was written
   pub report_cut : (before after : Option (List ℕ)) → Appends between new (last_of s.is_timed r) → AppendsPrefix before after (report_by s.reports s.is_timed r)
-      → HasWritten left (both old before) (both new after) s name status.ReportFault
+      → Due s name left status.ReportFault (both old before) (both new after)
   report_cut before after a b = record {
     wrote = λ bytes told.
         let h : IsDueAfter s name bytes old between r = shown.shown bytes told in
@@ -63,8 +63,8 @@ module _ (s : Settings) (name : List ℕ) (left : Option (List ℕ)) (r : Reply)
   }
 
 -- there is no reply
-pub none_asked : (s : Settings) (name : List ℕ) (left : Option (List ℕ)) (e : ReplyError) (old new before : Option (List ℕ)) → HasShownFor s name left (Err e) old new
-    → HasWritten left (both old before) (both new before) s name (status_without e)
+pub none_asked : (s : Settings) (name : List ℕ) (left : Option (List ℕ)) (e : ReplyError) (old new before : Option (List ℕ)) → Shows s name left (Err e) old new
+    → Due s name left (status_without e) (both old before) (both new before)
 none_asked s name left errors.ReadFault old new before h = record { wrote = λ bytes told. λ i. both (h.shown bytes told i) before }
 none_asked s name left errors.NoMemory old new before h = record {
   wrote = λ bytes told. let k = h.shown bytes told in record { text = k.text; is = k.is; written = k.written; unreported = refl };

@@ -13,7 +13,7 @@ use Rattle.ps_ask.specs.declared.settings.Style.{Style}
 use Rattle.ps_ask.specs.declared.reply.ReplyError.{ReplyError}
 use Rattle.ps_ask.specs.declared.reply.ReplyError.TheVariants as errors
 use Rattle.ps_ask.specs.Fronts.{IsBegunText, IsShownVerdict, begun_text, parts_pieces, verdict_piece}
-use Rattle.ps_ask.specs.Replies.{ArePieces, CountsShown, Ended, IsVerdictPiece}
+use Rattle.ps_ask.specs.Replies.{ArePiecesFor, CountsShown, Ended, IsVerdictPiece}
 use Rattle.ps_ask.proofs.EndLaws.{ended_after, ended_as, nothing_appended}
 use Rattle.ps_ask.proofs.FrontLaws.{begun_after, begun_all, begun_verdict, pieces_none}
 
@@ -29,9 +29,9 @@ answer_wrote s p v events parts old between new a b =
     (appends-then old between new (verdict_piece s.style v) (parts_pieces s.style s.digits p parts) a b)
 
 pub answer_ended : (s : Settings) (p : Parts) (v : Verdict) (events : List Event) (e : ReplyError) (old between new : Option (List ℕ)) → IsShownVerdict s p v events
-    → Appends old between (verdict_piece s.style v) → Ended (ArePieces s p (asked_after v p.queries)) e between new → Ended (IsBegunText s p) e old new
+    → Appends old between (verdict_piece s.style v) → Ended (ArePiecesFor s p (asked_after v p.queries)) e between new → Ended (IsBegunText s p) e old new
 answer_ended s p v events e old between new is a h =
-    ended_after (ArePieces s p (asked_after v p.queries)) (IsBegunText s p) e old between new (verdict_piece s.style v) a
+    ended_after (ArePiecesFor s p (asked_after v p.queries)) (IsBegunText s p) e old between new (verdict_piece s.style v) a
     (begun_verdict s p (verdict_piece s.style v) (record { verdict = v; events = events; shown = is; is = refl }))
     (begun_after s p v events is) h
 

@@ -1,5 +1,5 @@
 -- What a reply stands for, and what was written before it.
-use Rattle.std.specs.Prelude.{◌≡◌, ◌⊎◌, ℕ, Bool, false, List, [], ◌++◌, length, take, Option, Some, Result, Ok, Err}
+use Rattle.std.specs.Prelude.{◌≡◌, ◌⊎◌, ℕ, Bool, false, List, [], ◌++◌, length, take, Option, Some, Result, Ok, Err, IfOk, IfErr}
 use Rattle.ps_io.specs.Causes.{next_count}
 use Rattle.ps_io.specs.Transfer.{Appends, AppendsPrefix, Writes}
 use Rattle.ps_io.specs.declared.sink.Sink.{Ghosts}
@@ -133,7 +133,7 @@ pub record IsPiece (s : Settings) (p : Parts) (q : Query) (text : List ℕ) : Ty
   pub is : text ≡ part_piece s.style s.digits p q part
 
 -- the pieces of parts that are shown for the first of these queries
-pub record ArePieces (s : Settings) (p : Parts) (qs : List Query) (text : List ℕ) : Type 0 where
+pub record ArePiecesFor (s : Settings) (p : Parts) (qs : List Query) (text : List ℕ) : Type 0 where
   pub parts : List QueryPart
   pub shown : AreShownParts s p (take (length parts) qs) parts
   pub is : text ≡ parts_pieces s.style s.digits p parts
@@ -159,44 +159,42 @@ HasShown s name bytes (Err errors.NoMemory) old new = WroteSome (IsText s name b
 HasShown s name bytes (Err errors.WriteFault) old new = WroteFront (IsText s name bytes) old new
 
 -- that was shown for whatever the source told that it had left
-pub record HasShownFor (s : Settings) (name : List ℕ) (left : Option (List ℕ)) (result : Result Reply ReplyError)
+pub record Shows (s : Settings) (name : List ℕ) (left : Option (List ℕ)) (result : Result Reply ReplyError)
     (old new : Option (List ℕ)) : Type 0 where
   pub shown : (bytes : List ℕ) → left ≡ Some bytes → HasShown s name bytes result old new
 
 -- ---- the same, as two states of a sink tell
+-- a fact of what a sink told before and after
+abbrev pub Tells : {O : Type 0} → Ghosts O → O → O → (Option (List ℕ) → Option (List ℕ) → Type 0) → Type 0
+Tells sink old new P = P (sink.written old) (sink.written new)
+
 -- the text of a thing was written
-abbrev pub Shows : {O X : Type 0} → Ghosts O → O → O → (X → List ℕ) → X → Type 0
-Shows sink old new text x = Appends (sink.written old) (sink.written new) (text x)
+abbrev pub Adds : {O X : Type 0} → Ghosts O → O → O → (X → List ℕ) → X → Type 0
+Adds sink old new text x = Appends (sink.written old) (sink.written new) (text x)
 
 -- a text was written, or a proper prefix of it
 abbrev pub WritesTo : {O E : Type 0} → Ghosts O → O → O → Result (Unit {0}) E → List ℕ → Type 0
 WritesTo sink old new result text = Writes result (sink.written old) (sink.written new) text
 
--- texts stopped early
-abbrev pub Stops : {O : Type 0} → Ghosts O → O → O → (List ℕ → Type 0) → ReplyError → Type 0
-Stops sink old new Is e = Ended Is e (sink.written old) (sink.written new)
+-- where there is an error, texts stopped early
+abbrev pub Stops : {O T : Type 0} → Ghosts O → O → O → (List ℕ → Type 0) → Result T ReplyError → Type 0
+Stops sink old new Is result = IfErr result (λ e. Ended Is e (sink.written old) (sink.written new))
 
 -- the pieces of parts for the first queries of a problem
 abbrev pub AreAllPieces : Settings → Parts → List ℕ → Type 0
-AreAllPieces s p text = ArePieces s p p.queries text
+AreAllPieces s p text = ArePiecesFor s p p.queries text
 
--- the pieces of the queries that are asked behind a verdict ended early
-abbrev pub EndedAfter : {O : Type 0} → Ghosts O → O → O → Settings → Parts → Verdict → ReplyError → Type 0
-EndedAfter sink old new s p v e = Stops sink old new (ArePieces s p (asked_after v p.queries)) e
+-- the pieces of parts for the first of the queries that are asked behind a verdict
+abbrev pub ArePieces : Settings → Parts → Verdict → List ℕ → Type 0
+ArePieces s p v text = ArePiecesFor s p (asked_after v p.queries) text
 
--- behind what was shown of a whole answer the reply is its end
-abbrev pub Solves : {O : Type 0} → Ghosts O → O → O → Settings → Input → Parts → Reply → Type 0
-Solves sink old new s input p r = IsSolvedAfter s input.name.now p (sink.written old) (sink.written new) r
+-- behind what was shown of a whole answer a reply is its end
+abbrev pub Solves : Settings → Input → Parts → Result Reply ReplyError → Option (List ℕ) → Option (List ℕ) → Type 0
+Solves s input p result old new = IfOk result (IsSolvedAfter s input.name.now p old new)
 
 -- what was shown for the bytes of an input
-abbrev pub ShowsFor : {O : Type 0} → Ghosts O → O → O → Settings → Input → Result Reply ReplyError → Type 0
-ShowsFor sink old new s input result = HasShown s input.name.now input.bytes.now result (sink.written old) (sink.written new)
-
--- what was shown for whatever a source told that it had left
-abbrev pub ShowsLeft : {I O : Type 0} → sources.Ghosts I → Ghosts O → I → O → O → Settings → List ℕ
-    → Result Reply ReplyError → Type 0
-ShowsLeft from sink source old new s name result =
-    HasShownFor s name (from.left source) result (sink.written old) (sink.written new)
+abbrev pub ShowsFor : Settings → Input → Result Reply ReplyError → Option (List ℕ) → Option (List ℕ) → Type 0
+ShowsFor s input result old new = HasShown s input.name.now input.bytes.now result old new
 
 -- the count of a source's faults rises by one at a read that failed
 abbrev pub CountsReadsBy : {I : Type 0} → sources.Ghosts I → I → I → Bool → Result Reply ReplyError → Type 0

@@ -164,15 +164,13 @@ Wrote s name bytes status old new = Answered s name bytes status old new
 abbrev pub told_by : {O R : Type 0} → Ghosts O → Ghosts R → Sinks O R → Ends
 told_by shown report sinks = both (shown.written sinks.shown) (report.written sinks.report)
 
--- whatever bytes the source told that it had left, what goes with them was written to sinks that told this before and that after
-pub record HasWritten (left : Option (List ℕ)) (old new : Ends) (s : Settings) (name : List ℕ) (status : Status) : Type 0 where
-  pub wrote : (bytes : List ℕ) → left ≡ Some bytes → Wrote s name bytes status old new
+-- a fact of what two sinks told before and after
+abbrev pub On : {O R : Type 0} → Ghosts O → Ghosts R → Sinks O R → Sinks O R → (Ends → Ends → Type 0) → Type 0
+On shown report old new P = P (told_by shown report old) (told_by shown report new)
 
--- what is written for the bytes of a source goes to two sinks
-abbrev pub Asked : {I O R : Type 0} → sources.Ghosts I → Ghosts O → Ghosts R → Settings → List ℕ → I → Sinks O R
-    → Sinks O R → Status → Type 0
-Asked from shown report s name source old new status =
-    HasWritten (from.left source) (told_by shown report old) (told_by shown report new) s name status
+-- whatever bytes the source told that it had left, what goes with them was written to sinks that told this before and that after
+pub record Due (s : Settings) (name : List ℕ) (left : Option (List ℕ)) (status : Status) (old new : Ends) : Type 0 where
+  pub wrote : (bytes : List ℕ) → left ≡ Some bytes → Wrote s name bytes status old new
 
 -- a source's count of faults rises by one at a read fault, and else stays as it was
 abbrev pub CountsReads : ℕ → ℕ → Status → Type 0

@@ -1,13 +1,13 @@
 //! The answer to an input.
-ghost use Rattle.std.specs.Prelude.{◌≡◌, ◌≢◌, ◌≤◌, Err, IfErr, IfOk, length};
+ghost use Rattle.std.specs.Prelude.{◌≡◌, ◌≢◌, ◌≤◌, Err, IfOk, length};
 ghost use Rattle.ps_ask.specs.declared.answering.TheConstants.{MOST_PROBLEM};
 ghost use Rattle.ps_ask.specs.declared.reply.ReplyError.TheVariants as errors;
 ghost use Rattle.ps_ask.specs.Statuses.{HasNoReport, IsSilent};
 ghost use Rattle.ps_ask.specs.Fronts.{IsBegunText};
-ghost use Rattle.ps_ask.specs.Shown.{AreSettings, Asked, CountsReads, CountsReports};
+ghost use Rattle.ps_ask.specs.Shown.{AreSettings, CountsReads, CountsReports, Due, On};
 ghost use Rattle.ps_ask.specs.Shown.{CountsWrites};
 ghost use Rattle.ps_ask.specs.Replies.{CountsReadsBy, CountsShown, Stops, IsShort, ShowsFor};
-ghost use Rattle.ps_ask.specs.Replies.{ShowsLeft, Solves};
+ghost use Rattle.ps_ask.specs.Replies.{Shows, Solves, Tells};
 
 use crate::company::Company;
 use crate::fronts::show_front;
@@ -38,10 +38,9 @@ fn reply_to_problem<O: Sink, W: Company>(
     watch: &mut W,
 ) -> Result<Reply, ReplyError>
     requires settings { AreSettings settings }
-    ensures solved { IfOk result (Solves O.Sink sink.old sink.new settings input.entry
-        problem.now) }
-    ensures ended { IfErr result (Stops O.Sink sink.old sink.new
-        (IsBegunText settings problem.now)) }
+    ensures solved { Tells O.Sink sink.old sink.new
+        (Solves settings input.entry problem.now result) }
+    ensures ended { Stops O.Sink sink.old sink.new (IsBegunText settings problem.now) result }
     ensures short { IfOk result (IsShort settings.is_timed) }
     ensures faults { CountsShown result (O.faults sink.old) (O.faults sink.new) }
 {
@@ -65,7 +64,7 @@ fn reply_to_bytes<O: Sink, W: Company>(
 ) -> Result<Reply, ReplyError>
     requires settings { AreSettings settings }
     requires few { length input.bytes.now ≤ MOST_PROBLEM }
-    ensures shown { ShowsFor O.Sink sink.old sink.new settings input.entry result }
+    ensures shown { Tells O.Sink sink.old sink.new (ShowsFor settings input.entry result) }
     ensures short { IfOk result (IsShort settings.is_timed) }
     ensures read { result ≢ Err errors.ReadFault }
     ensures faults { CountsShown result (O.faults sink.old) (O.faults sink.new) }
@@ -100,8 +99,8 @@ fn reply_to<I: Source, O: Sink, W: Company>(
     watch: &mut W,
 ) -> Result<Reply, ReplyError>
     requires settings { AreSettings settings }
-    ensures shown { ShowsLeft I.Source O.Sink source.old sink.old sink.new settings name.now
-        result }
+    ensures due { Tells O.Sink sink.old sink.new
+        (Shows settings name.now (I.left source.old) result) }
     ensures short { IfOk result (IsShort settings.is_timed) }
     ensures silent { result ≡ Err errors.ReadFault → sink.new ≡ sink.old }
     ensures reads { CountsReadsBy I.Source source.old source.new settings.is_timed result }
@@ -136,7 +135,7 @@ pub fn ask<I: Source, O: Sink, R: Sink, W: Company>(
     settings: Settings,
     name: &str,
     source: &mut I,
-    sinks: &mut Sinks<O, R>,
+    out: &mut Sinks<O, R>,
     watch: &mut W,
 ) -> Status
     requires settings { AreSettings settings }
@@ -144,29 +143,29 @@ pub fn ask<I: Source, O: Sink, R: Sink, W: Company>(
     // What is written for the bytes that the source tells that it had left: an answer that is valid
     // and right for the problem that they spell, and nothing of a part that isn't judged; where
     // memory ran out or a write failed, the front of such an answer.
-    ensures due { Asked I.Source O.Sink R.Sink settings name.now source.old sinks.old sinks.new
-        result }
+    ensures due { On O.Sink R.Sink out.old out.new
+        (Due settings name.now (I.left source.old) result) }
 
     // Nothing is written where a read failed, and no report where what is shown could not be
     // written, or memory ran out.
-    ensures silent { IsSilent result → sinks.new ≡ sinks.old }
-    ensures unreported { HasNoReport result → sinks.new.report ≡ sinks.old.report }
+    ensures silent { IsSilent result → out.new ≡ out.old }
+    ensures unreported { HasNoReport result → out.new.report ≡ out.old.report }
 
     // A fault is answered exactly where the count of the source or of a sink rose, and then by one.
     ensures read_faults { CountsReads (I.faults source.old) (I.faults source.new) result }
-    ensures write_faults { CountsWrites (O.faults sinks.old.shown) (O.faults sinks.new.shown)
+    ensures write_faults { CountsWrites (O.faults out.old.shown) (O.faults out.new.shown)
         result }
-    ensures reports { CountsReports (R.faults sinks.old.report) (R.faults sinks.new.report)
+    ensures reports { CountsReports (R.faults out.old.report) (R.faults out.new.report)
         result }
 {
     let timed = settings.is_timed;
-    let reply = match reply_to(alloc, settings, name, source, &mut sinks.shown, watch) {
+    let reply = match reply_to(alloc, settings, name, source, &mut out.shown, watch) {
         Ok(reply) => reply,
         Err(error) => return error.status(),
     };
     watch.clear();
-    match write_last(alloc, &mut sinks.shown, timed, &reply) {
-        Ok(()) => match write_beside(alloc, &mut sinks.report, settings.reports, timed, &reply) {
+    match write_last(alloc, &mut out.shown, timed, &reply) {
+        Ok(()) => match write_beside(alloc, &mut out.report, settings.reports, timed, &reply) {
             Ok(()) => reply.status(timed),
             Err(_) => Status::ReportFault,
         },

@@ -6,8 +6,8 @@ ghost use Rattle.ps_ask.specs.Shown.{AreSettings};
 ghost use Rattle.ps_ask.specs.Fronts.{AreShownAfter, AreShownParts, IsBegunText, IsShownPart};
 ghost use Rattle.ps_ask.specs.Fronts.{IsShownVerdict, IsWhole, begun_of, part_piece, piece_of};
 ghost use Rattle.ps_ask.specs.Fronts.{pieces_of, verdict_piece, verdict_shown};
-ghost use Rattle.ps_ask.specs.Replies.{AreAllPieces, AreShortInTime, CountsShown, EndedAfter};
-ghost use Rattle.ps_ask.specs.Replies.{Stops, IsCut, IsPiece, IsVerdictPiece, Shows};
+ghost use Rattle.ps_ask.specs.Replies.{AreAllPieces, AreShortInTime, CountsShown};
+ghost use Rattle.ps_ask.specs.Replies.{Adds, ArePieces, Stops, IsCut, IsPiece, IsVerdictPiece};
 
 use crate::company::{Company, ROUNDS};
 use crate::conditions::idle_noted;
@@ -68,9 +68,8 @@ fn show_verdict<O: Sink, W: Company>(
 ) -> Result<(Verdict, Trace), ReplyError>
     requires settings { AreSettings settings }
     ensures judged { IfOk result (λ r. IsShownVerdict settings trials.now r.0 r.1) }
-    ensures wrote { IfOk result (Shows O.Sink sink.old sink.new (verdict_shown settings)) }
-    ensures ended { IfErr result (Stops O.Sink sink.old sink.new
-        (IsVerdictPiece settings trials.now)) }
+    ensures wrote { IfOk result (Adds O.Sink sink.old sink.new (verdict_shown settings)) }
+    ensures ended { Stops O.Sink sink.old sink.new (IsVerdictPiece settings trials.now) result }
     ensures faults { CountsShown result (O.faults sink.old) (O.faults sink.new) }
 {
     match verdict_with_piece(alloc, settings, trials, timed) {
@@ -115,9 +114,8 @@ fn show_part<O: Sink, W: Company>(
     requires query { HasNodes trials.now.nodes query.formula query.given query.both }
     ensures judged { IfOk result (IsShownPart settings trials.now query) }
     ensures wrote { IfOk result
-        (Shows O.Sink sink.old sink.new (piece_of settings trials.now query)) }
-    ensures ended { IfErr result (Stops O.Sink sink.old sink.new
-        (IsPiece settings trials.now query)) }
+        (Adds O.Sink sink.old sink.new (piece_of settings trials.now query)) }
+    ensures ended { Stops O.Sink sink.old sink.new (IsPiece settings trials.now query) result }
     ensures faults { CountsShown result (O.faults sink.old) (O.faults sink.new) }
 {
     match part_with_piece(alloc, settings, trials, query, timed) {
@@ -140,9 +138,8 @@ fn show_parts<O: Sink, W: Company>(
     requires settings { AreSettings settings }
     ensures judged { IfOk result (AreShownParts settings trials.now trials.now.queries) }
     ensures wrote { IfOk result
-        (Shows O.Sink sink.old sink.new (pieces_of settings trials.now)) }
-    ensures ended { IfErr result (Stops O.Sink sink.old sink.new
-        (AreAllPieces settings trials.now)) }
+        (Adds O.Sink sink.old sink.new (pieces_of settings trials.now)) }
+    ensures ended { Stops O.Sink sink.old sink.new (AreAllPieces settings trials.now) result }
     ensures faults { CountsShown result (O.faults sink.old) (O.faults sink.new) }
 {
     let mut parts = List::new(alloc);
@@ -177,9 +174,9 @@ fn show_parts_under<O: Sink, W: Company>(
     requires settings { AreSettings settings }
     ensures judged { IfOk result (AreShownAfter settings trials.now verdict.now) }
     ensures wrote { IfOk result
-        (Shows O.Sink sink.old sink.new (pieces_of settings trials.now)) }
-    ensures ended { IfErr result (EndedAfter O.Sink sink.old sink.new settings trials.now
-        verdict.now) }
+        (Adds O.Sink sink.old sink.new (pieces_of settings trials.now)) }
+    ensures ended { Stops O.Sink sink.old sink.new
+        (ArePieces settings trials.now verdict.now) result }
     ensures faults { CountsShown result (O.faults sink.old) (O.faults sink.new) }
 {
     match verdict {
@@ -199,9 +196,8 @@ fn show_answer<O: Sink, W: Company>(
     requires settings { AreSettings settings }
     ensures whole { IfOk result (IsWhole settings trials.now) }
     ensures wrote { IfOk result
-        (Shows O.Sink sink.old sink.new (begun_of settings trials.now)) }
-    ensures ended { IfErr result (Stops O.Sink sink.old sink.new
-        (IsBegunText settings trials.now)) }
+        (Adds O.Sink sink.old sink.new (begun_of settings trials.now)) }
+    ensures ended { Stops O.Sink sink.old sink.new (IsBegunText settings trials.now) result }
     ensures short { IfOk result (AreShortInTime settings.is_timed) }
     ensures faults { CountsShown result (O.faults sink.old) (O.faults sink.new) }
 {
@@ -255,9 +251,8 @@ pub fn show_front<O: Sink, W: Company>(
     requires settings { AreSettings settings }
     ensures whole { IfOk result (IsWhole settings problem.now) }
     ensures wrote { IfOk result
-        (Shows O.Sink sink.old sink.new (begun_of settings problem.now)) }
-    ensures ended { IfErr result (Stops O.Sink sink.old sink.new
-        (IsBegunText settings problem.now)) }
+        (Adds O.Sink sink.old sink.new (begun_of settings problem.now)) }
+    ensures ended { Stops O.Sink sink.old sink.new (IsBegunText settings problem.now) result }
     ensures short { IfOk result (AreShortInTime settings.is_timed) }
     ensures faults { CountsShown result (O.faults sink.old) (O.faults sink.new) }
 {

@@ -4,13 +4,13 @@ use Rattle.ps_ask.proofs.answering.ask.Goals as goal
 pub returns-in-Err-clause-due : goal.returns-in-Err-clause-due
 returns-in-Err-clause-due g c =
     rw c.status.ensures
-    (none_asked c.args.settings c.args.name.now (g.I.Source.left c.args.source.now) c.in-Err.error (g.O.Sink.written c.args.sinks.now.shown) (g.O.Sink.written c.reply_to.new.sink)
-    (g.R.Sink.written c.args.sinks.now.report) c.in-Err.ensures.shown)
+    (none_asked c.args.settings c.args.name.now (g.I.Source.left c.args.source.now) c.in-Err.error (g.O.Sink.written c.args.out.now.shown) (g.O.Sink.written c.reply_to.new.sink)
+    (g.R.Sink.written c.args.out.now.report) c.in-Err.ensures.due)
 
 pub returns-in-Ok-write_beside-clause-due : goal.returns-in-Ok-write_beside-clause-due
 returns-in-Ok-write_beside-clause-due g c =
-    reply_asked c.args.settings c.args.name.now (g.I.Source.left c.args.source.now) c.in-Ok.reply (g.O.Sink.written c.args.sinks.now.shown) (g.O.Sink.written c.reply_to.new.sink)
-    (g.O.Sink.written c.write_last.new.sink) c.in-Ok.ensures.shown c.status-in-Ok-write_beside.result (g.R.Sink.written c.args.sinks.now.report) (g.R.Sink.written c.write_beside.new.sink)
+    reply_asked c.args.settings c.args.name.now (g.I.Source.left c.args.source.now) c.in-Ok.reply (g.O.Sink.written c.args.out.now.shown) (g.O.Sink.written c.reply_to.new.sink)
+    (g.O.Sink.written c.write_last.new.sink) c.in-Ok.ensures.due c.status-in-Ok-write_beside.result (g.R.Sink.written c.args.out.now.report) (g.R.Sink.written c.write_beside.new.sink)
     c.status-in-Ok-write_beside.ensures c.in-Ok-write_last.ensures.wrote c.in-Ok-write_beside.ensures.done
 
 pub returns-in-Ok-write_beside-clause-silent : goal.returns-in-Ok-write_beside-clause-silent
@@ -23,18 +23,18 @@ returns-in-Ok-write_beside-clause-unreported g c =
 
 pub returns-in-Ok-write_beside-clause-write_faults : goal.returns-in-Ok-write_beside-clause-write_faults
 returns-in-Ok-write_beside-clause-write_faults g c =
-    writes_counted c.status-in-Ok-write_beside.result c.args.settings.is_timed c.in-Ok.reply (g.O.Sink.faults c.args.sinks.now.shown) (g.O.Sink.faults c.write_last.new.sink)
+    writes_counted c.status-in-Ok-write_beside.result c.args.settings.is_timed c.in-Ok.reply (g.O.Sink.faults c.args.out.now.shown) (g.O.Sink.faults c.write_last.new.sink)
     c.status-in-Ok-write_beside.ensures (rw c.in-Ok.ensures.faults at c.in-Ok-write_last.ensures.faults.ok)
 
 pub returns-in-Ok-write_beside-clause-reports : goal.returns-in-Ok-write_beside-clause-reports
 returns-in-Ok-write_beside-clause-reports g c =
-    reports_counted c.status-in-Ok-write_beside.result c.args.settings.is_timed c.in-Ok.reply (g.R.Sink.faults c.args.sinks.now.report) (g.R.Sink.faults c.write_beside.new.sink)
+    reports_counted c.status-in-Ok-write_beside.result c.args.settings.is_timed c.in-Ok.reply (g.R.Sink.faults c.args.out.now.report) (g.R.Sink.faults c.write_beside.new.sink)
     c.status-in-Ok-write_beside.ensures c.in-Ok-write_beside.ensures.faults.ok
 
 pub returns-in-Ok-write_last-clause-due : goal.returns-in-Ok-write_last-clause-due
 returns-in-Ok-write_last-clause-due g c =
-    report_cut c.args.settings c.args.name.now (g.I.Source.left c.args.source.now) c.in-Ok.reply (g.O.Sink.written c.args.sinks.now.shown) (g.O.Sink.written c.reply_to.new.sink)
-    (g.O.Sink.written c.write_last.new.sink) c.in-Ok.ensures.shown (g.R.Sink.written c.args.sinks.now.report) (g.R.Sink.written c.write_beside.new.sink)
+    report_cut c.args.settings c.args.name.now (g.I.Source.left c.args.source.now) c.in-Ok.reply (g.O.Sink.written c.args.out.now.shown) (g.O.Sink.written c.reply_to.new.sink)
+    (g.O.Sink.written c.write_last.new.sink) c.in-Ok.ensures.due (g.R.Sink.written c.args.out.now.report) (g.R.Sink.written c.write_beside.new.sink)
     c.in-Ok-write_last.ensures.wrote c.in-Err-write_beside.ensures.done
 
 pub returns-in-Ok-write_last-clause-read_faults : goal.returns-in-Ok-write_last-clause-read_faults
@@ -43,8 +43,8 @@ returns-in-Ok-write_last-clause-read_faults g c =
 
 pub returns-clause-due : goal.returns-clause-due
 returns-clause-due g c =
-    reply_cut c.args.settings c.args.name.now (g.I.Source.left c.args.source.now) c.in-Ok.reply (g.O.Sink.written c.args.sinks.now.shown) (g.O.Sink.written c.reply_to.new.sink)
-    (g.O.Sink.written c.write_last.new.sink) c.in-Ok.ensures.shown (g.R.Sink.written c.args.sinks.now.report) c.in-Err-write_last.ensures.wrote
+    reply_cut c.args.settings c.args.name.now (g.I.Source.left c.args.source.now) c.in-Ok.reply (g.O.Sink.written c.args.out.now.shown) (g.O.Sink.written c.reply_to.new.sink)
+    (g.O.Sink.written c.write_last.new.sink) c.in-Ok.ensures.due (g.R.Sink.written c.args.out.now.report) c.in-Err-write_last.ensures.wrote
 
 pub returns-clause-read_faults : goal.returns-clause-read_faults
 returns-clause-read_faults g c =

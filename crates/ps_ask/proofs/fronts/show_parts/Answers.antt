@@ -2,7 +2,7 @@ use Rattle.std.proofs.Common.{rules, ◌≡◌, ◌<◌, ◌++◌, ◌∷◌, []
 use Rattle.ps_io.proofs.Bytes.{appends-then}
 use Rattle.ps_problem.specs.declared.query.Query.{Query}
 use Rattle.ps_ask.specs.Fronts.{part_piece, parts_pieces}
-use Rattle.ps_ask.specs.Replies.{ArePieces, IsPiece}
+use Rattle.ps_ask.specs.Replies.{ArePiecesFor, IsPiece}
 use Rattle.ps_ask.proofs.EndLaws.{ended_after, some_ended}
 use Rattle.ps_ask.proofs.FrontLaws.{parts_begin, parts_next, pieces_begun, pieces_more, text_next}
 use Rattle.ps_ask.proofs.StepLaws.{nothing_shown}
@@ -26,7 +26,7 @@ returns-then-is_err-clause-ended g c =
     let q = get_or c.as_slice-queries.result.now i _ in
     let pieces = parts_pieces s.style s.digits p parts in
     let piece = part_piece s.style s.digits p q c.in-Ok.part in
-    some_ended (ArePieces s p p.queries) (g.O.Sink.written c.args.sink.now) (g.O.Sink.written c.show_part.new.sink) (pieces ++ piece)
+    some_ended (ArePiecesFor s p p.queries) (g.O.Sink.written c.args.sink.now) (g.O.Sink.written c.show_part.new.sink) (pieces ++ piece)
     (pieces_more s p i parts q _ c.loop-query.invariant.parts (ap (λ (qs : List Query). get_or qs i _) same) lt piece
     (record { part = c.in-Ok.part; shown = c.in-Ok.ensures.judged; is = refl }))
     (appends-then (g.O.Sink.written c.args.sink.now) (g.O.Sink.written c.loop-query.sink) (g.O.Sink.written c.show_part.new.sink) pieces piece
@@ -41,7 +41,7 @@ returns-in-Err-clause-ended g c =
     let same : c.as_slice-queries.result.now ≡ p.queries = search rules in
     let lt : i < length p.queries = subst (λ (qs : List Query). i < length qs) same c.loop-query-test.true in
     let q = get_or c.as_slice-queries.result.now i _ in
-    ended_after (IsPiece s p q) (ArePieces s p p.queries) c.in-Err.error (g.O.Sink.written c.args.sink.now) (g.O.Sink.written c.loop-query.sink)
+    ended_after (IsPiece s p q) (ArePiecesFor s p p.queries) c.in-Err.error (g.O.Sink.written c.args.sink.now) (g.O.Sink.written c.loop-query.sink)
     (g.O.Sink.written c.show_part.new.sink) (parts_pieces s.style s.digits p parts) c.loop-query.invariant.written
     (pieces_begun s p i parts c.loop-query.invariant.parts)
     (pieces_more s p i parts q _ c.loop-query.invariant.parts (ap (λ (qs : List Query). get_or qs i _) same) lt) c.in-Err.ensures.ended
