@@ -1,5 +1,5 @@
 -- A phase that is under way goes on: by the pivots of `settle`, and by worlds that are priced.
-use Rattle.std.proofs.Common.{◌≡◌, ◌≢◌, ℕ, zero, suc, ◌<◌, pos, ◌≤ℤ◌, Some, None, List, [], ◌∷◌, ◌++◌, length, get_or, sym, ap, ◌∙◌, subst, arith}
+use Rattle.std.proofs.Common.{◌≡◌, ◌≢◌, ℕ, zero, suc, ◌+◌, ◌<◌, pos, ◌≤ℤ◌, Some, None, List, [], ◌∷◌, ◌++◌, length, get_or, sym, ap, ◌∙◌, subst, arith}
 use Rattle.std.proofs.lemmas.List.{append-nil, append_assoc, get_or_default}
 use Rattle.std.proofs.lemmas.Option.{slice_get_within, get_or_from_slice_get}
 use Rattle.std.proofs.lemmas.List.Elements.{All-nil, All-append, All-cons}
@@ -12,6 +12,7 @@ use Rattle.ps_pool.specs.declared.col.Col.TheVariants as col
 use Rattle.ps_table.specs.Tableau.{Tableau, IsTableau, IsAdded, ExtendsSystem, number_in, entry_at, basic_at}
 use Rattle.ps_bland.specs.Ready.{HasNoNegativeValue}
 use Rattle.ps_bland.specs.Runs as bland
+use Rattle.ps_bland.proofs.Counts.{events_counted}
 use Rattle.ps_claims.specs.declared.claim_kind.ClaimKind.{ClaimKind}
 use Rattle.ps_runs.specs.Programs.{Program}
 use Rattle.ps_runs.specs.Rows.{phase_of, entries_of}
@@ -51,9 +52,9 @@ module _ (p : Program) (conflicts : ℕ) where
 module _ (kind : ClaimKind) (s : Subject) (conflicts : ℕ) where
   pub settled_goes_on : (from : Stage) (had : ℕ) (before : List Event) (pool : List World) (t u : Tableau) (trace longer : List Event) (left now : ℕ)
       → IsUnderWay (program_of kind s) conflicts from had before (standing pool t trace left)
-      → bland.Ran (phase_of kind) (costs_for kind (setting_of s) pool) t u trace longer left now → IsTableau u → HasNoNegativeValue u
+      → bland.Ran (phase_of kind) (costs_for kind (setting_of s) pool) t u trace longer → now + length longer ≡ left + length trace → IsTableau u → HasNoNegativeValue u
       → IsUnderWay (program_of kind s) conflicts from had before (standing pool u longer now)
-  settled_goes_on from had before pool t u trace longer left now way ran tableau values =
+  settled_goes_on from had before pool t u trace longer left now way ran count tableau values =
       let led : LedBy kind s conflicts pool t ran.events u = settled_leads kind s conflicts pool t ran.events u way.table.kinds way.table.worlds way.table.stands ran.run in
       record {
         table = settled_table kind s conflicts pool t u ran.events way.table led tableau values;
@@ -63,7 +64,7 @@ module _ (kind : ClaimKind) (s : Subject) (conflicts : ℕ) where
         leads = leads_on (program_of kind s) conflicts from (stage_at pool t) (stage_at pool u) way.events ran.events way.leads led.leads;
         counted =
             let a = way.counted in
-            let b = ran.counted in
+            let b = events_counted trace longer ran.events left now ran.appended count in
             let c = led.counted in
             let d = pivots_in-append way.events ran.events in
             omega (arith, a, b, c, d);

@@ -13,6 +13,7 @@ use Rattle.ps_table.specs.Tableau.{Tableau, IsAdded, number_in, world_entry, ent
 use Rattle.ps_table.specs.Pricing.{cost_at}
 use Rattle.ps_bland.specs.Rules.{simplex_of}
 use Rattle.ps_bland.specs.Runs as bland
+use Rattle.ps_bland.proofs.Counts.{events_counted}
 use Rattle.ps_claims.specs.declared.claim_kind.ClaimKind.{ClaimKind}
 use Rattle.ps_runs.specs.Rows.{Setting, phase_of, entries_of, rows_of, width_of, columns_of, cost_of, table_of}
 use Rattle.ps_runs.specs.Subjects.{Subject, setting_of, frame_of, program_of}
@@ -64,9 +65,9 @@ module _ (kind : ClaimKind) (s : Subject) (conflicts : ℕ) (pool : List World) 
 
   -- an end that isn't moving comes after a pivot
   pub fewer_left : (v : Tableau) (trace longer : List Event) (left now : ℕ)
-      → bland.Ran (phase_of kind) (costs_for kind (setting_of s) more) u v trace longer left now
+      → bland.Ran (phase_of kind) (costs_for kind (setting_of s) more) u v trace longer → now + length longer ≡ left + length trace
       → (IsMoving (phase_of kind) (simplex_of v) (cost_at (costs_for kind (setting_of s) more)) → ⊥) → now < left
-  fewer_left v trace longer left now ran ended =
+  fewer_left v trace longer left now ran counted ended =
       let some = some_pivots kind (setting_of s) more u v ran.events ran.run moving_after ended in
-      let count = ran.counted in
+      let count = events_counted trace longer ran.events left now ran.appended counted in
       omega (arith, some, count)

@@ -1,5 +1,5 @@
 -- Laws of runs over the solver's tables.
-use Rattle.std.specs.Prelude.{◌≡◌, ℕ, ◌<◌, pos, Some, None, List, [], ◌∷◌, ◌++◌, map}
+use Rattle.std.specs.Prelude.{◌≡◌, ℕ, ◌+◌, ◌<◌, pos, Some, None, List, [], ◌∷◌, ◌++◌, length, map}
 use Rattle.ps_meaning.specs.Formula.{World}
 use Rattle.ps_rational.specs.Rational.{Rational}
 use Rattle.ps_rational.specs.Sums.{int_sum_to}
@@ -83,8 +83,8 @@ pub record PhasesGoOn : Type 0 where
       (pool : List World)
       (t u : Tableau) (trace longer : List Event) (left now : ℕ)
       → IsUnderWay (program_of kind s) conflicts from had before (standing pool t trace left)
-      → bland.Ran (phase_of kind) (costs_for kind (setting_of s) pool) t u trace longer left now → IsTableau u
-      → HasNoNegativeValue u
+      → bland.Ran (phase_of kind) (costs_for kind (setting_of s) pool) t u trace longer
+      → now + length longer ≡ left + length trace → IsTableau u → HasNoNegativeValue u
       → IsUnderWay (program_of kind s) conflicts from had before (standing pool u longer now)
   pub fresh : (kind : ClaimKind) (s : Subject) (conflicts : ℕ) (pool : List World) (t : Tableau) (w : World) (number : ℕ)
       → IsRunTable (frame_of s) pool t → IsPricedBy (program_of kind s) conflicts (stage_at pool t) (entry_at t) w
@@ -111,7 +111,8 @@ pub record PricedWorldsTakePivots : Type 0 where
       → IsRunTable (frame_of s) pool t
       → IsPricedBy (program_of kind s) conflicts (stage_at pool t) (entry_at t) w → IsAdded (entries_of (setting_of s) w) t u
       → (v : Tableau) (trace longer : List Event) (left now : ℕ)
-      → bland.Ran (phase_of kind) (costs_for kind (setting_of s) (pool ++ w ∷ [])) u v trace longer left now
+      → bland.Ran (phase_of kind) (costs_for kind (setting_of s) (pool ++ w ∷ [])) u v trace longer
+      → now + length longer ≡ left + length trace
       → (IsMoving (phase_of kind) (simplex_of v) (cost_at (costs_for kind (setting_of s) (pool ++ w ∷ []))) → ⊥) → now < left
 
 -- where `settle` leaves a run's table, its stage is so
