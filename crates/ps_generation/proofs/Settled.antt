@@ -1,5 +1,5 @@
 -- The pivots of `settle`, as what a phase does, and its ends.
-use Rattle.std.proofs.Common.{◌≡◌, ℕ, ◌<◌, ◌≤◌, List, [], ◌∷◌, length, inl, sym, ap, ◌∙◌, subst, arith}
+use Rattle.std.proofs.Common.{◌≡◌, ℕ, ◌+◌, ◌<◌, ◌≤◌, List, [], ◌∷◌, length, inl, sym, ap, ◌∙◌, subst, arith}
 use Rattle.std.proofs.lemmas.List.{length-append}
 use Rattle.ps_simplex.specs.Rule.{SimplexTable, IsMoving, IsResting}
 use Rattle.ps_meaning.specs.Formula.{World}
@@ -16,6 +16,7 @@ use Rattle.ps_bland.specs.Rules.{simplex_of, IsDueToEndIn}
 use Rattle.ps_bland.specs.Ends.{IsDueWide, IsDueRefusal}
 use Rattle.ps_bland.specs.Ready.{IsReady}
 use Rattle.ps_bland.specs.Runs as bland
+use Rattle.ps_bland.proofs.Counts.{events_counted}
 use Rattle.ps_answer.specs.declared.answer.Cause.TheVariants.{Pivots}
 use Rattle.ps_claims.specs.declared.claim_kind.ClaimKind.{ClaimKind}
 use Rattle.ps_runs.specs.Subjects.{setting_of, program_of}
@@ -44,7 +45,7 @@ same_state : (old new : State) → new.pool ≡ old.pool → record { table = ne
 same_state old new same = λ i. record { table = new.table; pool = sym same i; trace = new.trace; left = new.left }
 
 module _ (kind : ClaimKind) (r : LimitedSubject) (costs : Costs) (old new : State) (phase : IsInPhase kind r.subject costs old) (same : new.pool ≡ old.pool)
-    (ran : HasPivoted kind costs old new) (tableau : IsTableau new.table)
+    (ran : HasPivoted kind costs old new) (counted : new.left + length new.trace ≡ old.left + length old.trace) (tableau : IsTableau new.table)
     (ready : IsReady (phase_of kind) costs new.table) where
   pub settled_come : HasCome kind r old new
   settled_come =
@@ -52,7 +53,7 @@ module _ (kind : ClaimKind) (r : LimitedSubject) (costs : Costs) (old new : Stat
         way =
             settled_goes_on kind r.subject r.limits.conflicts (stage_of old) old.left old.trace old.pool old.table new.table old.trace new.trace old.left new.left
             (begun (program_of kind r.subject) r.limits.conflicts old.pool old.table old.trace old.left phase.table phase.pool_kept)
-            (subst (λ (c : Costs). HasPivoted kind c old new) phase.costs_are ran) tableau ready.values;
+            (subst (λ (c : Costs). HasPivoted kind c old new) phase.costs_are ran) counted tableau ready.values;
       })
 
   costs_there : costs ≡ costs_for kind (setting_of r.subject) new.pool
@@ -61,8 +62,11 @@ module _ (kind : ClaimKind) (r : LimitedSubject) (costs : Costs) (old new : Stat
   pub settled_phase : IsInPhase kind r.subject costs new
   settled_phase = record { table = settled_come.way.table; pool_kept = settled_come.way.pool_kept; costs_are = costs_there; ready = ready }
 
+  pivots_counted : new.left + length ran.events ≡ old.left
+  pivots_counted = events_counted old.trace new.trace ran.events old.left new.left ran.appended counted
+
   pub settled_left : new.left ≤ old.left
-  settled_left = let c = ran.counted in omega (arith, c)
+  settled_left = let c = pivots_counted in omega (arith, c)
 
   pub settled_rest : IsResting (phase_of kind) (simplex_of new.table) (cost_at costs) → HasRested kind r old new
   settled_rest rest = record {
@@ -74,7 +78,7 @@ module _ (kind : ClaimKind) (r : LimitedSubject) (costs : Costs) (old new : Stat
         let some : 0 < length ran.events =
         some_pivots (phase_of kind) costs old.table new.table ran.events ran.run
         (subst (λ (c : Costs). IsMoving (phase_of kind) (simplex_of old.table) (cost_at c)) (sym phase.costs_are) moving) rest in
-        let c = ran.counted in
+        let c = pivots_counted in
         omega (arith, some, c);
   }
 

@@ -34,9 +34,9 @@ pub record IsColumnOf (kind : ClaimKind) (s : Subject) (w : World) (c : Column) 
 abbrev pub IsDualOver : ClaimKind → Subject → Tableau → Costs → Dual → Type 0
 IsDualOver kind s t costs d = HaveSameNumbers (dual_of d) (table_dual kind (setting_of s) (simplex_of t) (cost_at costs))
 
--- pivots by the rule were made, appended to the trace and counted
+-- pivots by the rule were made and appended to the trace
 abbrev pub HasPivoted : ClaimKind → Costs → State → State → Type 0
-HasPivoted kind costs old new = Ran (phase_of kind) costs old.table new.table old.trace new.trace old.left new.left
+HasPivoted kind costs old new = Ran (phase_of kind) costs old.table new.table old.trace new.trace
 
 -- the table is moving
 abbrev pub IsInMotion : ClaimKind → Subject → State → Type 0

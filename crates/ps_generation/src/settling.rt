@@ -1,5 +1,5 @@
 //! Pivots between pricings.
-ghost use Rattle.std.specs.Prelude.{◌≡◌, ◌≤◌, IfOk, IfSome};
+ghost use Rattle.std.specs.Prelude.{◌≡◌, ◌+◌, ◌≤◌, length, IfOk, IfSome};
 ghost use Rattle.ps_table.specs.Tableau.{IsTableau};
 ghost use Rattle.ps_bland.specs.Ready.{IsReady};
 ghost use Rattle.ps_bland.specs.Runs.{MadeFewerThanBases};
@@ -34,6 +34,8 @@ pub(crate) fn phase_of(kind: ClaimKind) -> Phase
 fn settle_table(kind: ClaimKind, state: &mut State, costs: &Costs) -> Result<Settled, SettleError>
     requires { IsReady (phase_of kind) costs.now state.old.table }
     ensures ran { HasPivoted kind costs.now state.old state.new }
+    ensures count { state.new.left + length state.new.trace
+        ≡ state.old.left + length state.old.trace }
     ensures end { IsSettledEnd (phase_of kind) costs.now state.new.table state.new.left result }
     ensures ready { IsReady (phase_of kind) costs.now state.new.table }
     ensures tableau { IsTableau state.new.table }
