@@ -176,3 +176,29 @@ fn endless_inputs_are_refused(rt: HostRuntime) -> Result<(), Fail> {
     assert!(rt; all_are_endless(rt.alloc())?);
     Ok(())
 }
+
+// Whether a run of `solve` where these calls fail ends with the status, and has written this.
+fn is_solving_cut(
+    alloc: Global,
+    reads: &[u64],
+    writes: &[u64],
+    due: Status,
+    written: &str,
+) -> bool {
+    let input = "psat 1; P(a) = 0.6; P(b) = 0.7; query P(a & b); end;";
+    match ended(alloc, &["solve"], input.as_bytes(), reads, writes) {
+        Ok((status, sink)) => status == due && sink.bytes() == written.as_bytes(),
+        Err(_) => false,
+    }
+}
+
+fn faults_of_solve_are_told(alloc: Global) -> bool {
+    is_solving_cut(alloc, &[], &[2], Status::WriteFault, "report 1")
+        && is_solving_cut(alloc, &[1], &[], Status::ReadFault, "")
+}
+
+#[test]
+fn faults_while_solving(rt: HostRuntime) -> Result<(), Fail> {
+    assert!(rt; faults_of_solve_are_told(rt.alloc()));
+    Ok(())
+}

@@ -25,7 +25,8 @@ pub fn one_output_is_due()
 {}
 
 /// Behind the problem's text and a line feed, a report that is due for `solve` is accepted by
-/// `check`, where nothing is open or the pivots were fewer than the most.
+/// `check`, where nothing is open or the pivots were fewer than the most, and all of it is within
+/// the limit of `check`.
 pub fn reports_are_accepted()
     ensures { ReportsAreAccepted }
 {}

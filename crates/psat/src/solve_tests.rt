@@ -292,8 +292,8 @@ const UNSOLVED: [(&str, &str); 4] = [
     ("psat 2;\nend;", "unreadable: version unknown at 1:6\n"),
 ];
 
-// Words of no command that begin with `solve`, or that name limits of another.
-const OTHER_WORDS: [&[&str]; 15] = [
+// Words of no command: of `solve` with limits that are wrong, and of `check` with those of `solve`.
+const OTHER_WORDS: [&[&str]; 12] = [
     &["solve", "--pivots"],
     &["solve", "--pivots", "01"],
     &["solve", "--pivots", "1000001"],
@@ -305,10 +305,7 @@ const OTHER_WORDS: [&[&str]; 15] = [
     &["solve", "--conflicts", "enough"],
     &["check", "--bytes", "enough"],
     &["check", "--pivots", "enough"],
-    &["make", "1", "--pivots", "enough"],
     &["check", "--pivots", "1"],
-    &["make", "0"],
-    &["make", "91"],
 ];
 
 // What a run writes, and its status.
@@ -392,24 +389,10 @@ fn all_are_unsolved(alloc: Global) -> bool {
     right
 }
 
-// Whether a run where these calls fail ends with the status, and has written this.
-fn is_cut(alloc: Global, reads: &[u64], writes: &[u64], due: Status, written: &str) -> bool {
-    let input = "psat 1; P(a) = 0.6; P(b) = 0.7; query P(a & b); end;";
-    match ended(alloc, SOLVE, input.as_bytes(), reads, writes) {
-        Ok((status, sink)) => status == due && sink.bytes() == written.as_bytes(),
-        Err(_) => false,
-    }
-}
-
-fn faults_are_told(alloc: Global) -> bool {
-    is_cut(alloc, &[], &[2], Status::WriteFault, "report 1")
-        && is_cut(alloc, &[1], &[], Status::ReadFault, "")
-}
-
 #[test]
 fn problems_get_their_reports(rt: HostRuntime) -> Result<(), Fail> {
     let alloc = rt.alloc();
-    assert!(rt; all_are_solved(alloc) && all_are_unsolved(alloc) && faults_are_told(alloc));
+    assert!(rt; all_are_solved(alloc) && all_are_unsolved(alloc));
     Ok(())
 }
 
