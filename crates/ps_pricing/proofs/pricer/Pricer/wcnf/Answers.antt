@@ -34,7 +34,7 @@ combination_of-requires-clause-both c = λ asked.
 
 pub returns-clause-within : goal.returns-clause-within
 returns-clause-within c =
-    let p : Wcnf = record { hard = c.in_ok-copy.field-0; soft = c.terms.inside.items.items; base = c.in_ok-terms.field-0.base } in
+    let p : Wcnf = record { hard = c.in_ok-copy.field-0; soft = c.in_ok-terms.field-0.terms; base = c.in_ok-terms.field-0.base } in
     let are : AreParts c.args.self.now.subject.parts = search rules in
     let is : IsWcnf c.args.kind c.args.self.now.subject c.args.dual.now p = search rules in
     soft_within c.args.kind c.args.self.now.subject c.args.dual.now p are c.requires.asked is
