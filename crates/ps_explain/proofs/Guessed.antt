@@ -12,7 +12,7 @@ use Rattle.ps_phases.specs.declared.limits.Limits.{Limits}
 use Rattle.ps_explain.specs.declared.outcome.Outcome.TheVariants as outcome
 use Rattle.ps_explain.specs.declared.outcome.Tried.TheVariants as tried
 use Rattle.ps_explain.specs.Explanations.{without}
-use Rattle.ps_explain.specs.Steps.{AreAmong, AreAmongTo, IsConflict, IsConflictAmong, IsOutcome, IsTried}
+use Rattle.ps_explain.specs.Steps.{AreAmong, IsAmongAt, AreAmongTo, IsConflict, IsConflictAmong, IsOutcome, IsTried}
 use Rattle.ps_explain.specs.Used.{used_from}
 use Rattle.ps_explain.proofs.Parts.{length_used, others_zero}
 use Rattle.ps_explain.proofs.Needed.{last_of}
@@ -21,7 +21,7 @@ use Rattle.ps_explain.proofs.Needed.{last_of}
 pub among_none : (few many : List Bool) → AreAmongTo few many 0
 among_none few many = record { at = λ i lt e. absurd (omega (arith, lt)) }
 
-pub among_more : (few many : List Bool) (n : ℕ) → (get_or few n false ≡ true → get_or many n false ≡ true) → AreAmongTo few many n → AreAmongTo few many (n + 1)
+pub among_more : (few many : List Bool) (n : ℕ) → IsAmongAt few many n → AreAmongTo few many n → AreAmongTo few many (n + 1)
 among_more few many n last h = record { at = λ i lt e. by i e (last_of i n lt) }
   where
     by : (i : ℕ) → get_or few i false ≡ true → (i < n) ⊎ (i ≡ n) → get_or many i false ≡ true

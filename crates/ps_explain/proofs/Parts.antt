@@ -11,7 +11,7 @@ use Rattle.ps_problem.specs.Problems.{Parts, AreParts, bounds_in}
 use Rattle.ps_claims.specs.Duals.{AreZeroElsewhere}
 use Rattle.ps_runs.specs.Kept.{kept_of, flags_of}
 use Rattle.ps_explain.specs.Used.{is_other, uses, behind, used_from}
-use Rattle.ps_explain.specs.Steps.{AreAmong}
+use Rattle.ps_explain.specs.Steps.{AreAmong, IsAmongAt}
 
 -- ---- how many there are
 -- a sentence has a bound or two
@@ -42,7 +42,7 @@ among_without (a ∷ cs) [] i h = absurd h
 among_without (a ∷ cs) (b ∷ bs) zero h = (λ e. e, h.1)
 among_without (a ∷ cs) (b ∷ bs) (suc i) h = (h.0, among_without cs bs i h.1)
 
-pub among_at : (few many : List Bool) (i : ℕ) → AreAmong few many → get_or few i false ≡ true → get_or many i false ≡ true
+pub among_at : (few many : List Bool) (i : ℕ) → AreAmong few many → IsAmongAt few many i
 among_at [] [] i h e = e
 among_at [] (b ∷ bs) i h e = absurd h
 among_at (a ∷ cs) [] i h e = absurd h

@@ -23,9 +23,13 @@ use Rattle.ps_explain.specs.Explanations.{IsShownBy, IsOpen, IsExplanation}
 abbrev pub AreAmong : List Bool → List Bool → Type 0
 AreAmong few many = AllZip (λ a b. a ≡ true → b ≡ true) few many
 
--- so far, of so many sentences
+-- the sentence at a place is kept by the second if it is by the first
+abbrev pub IsAmongAt : List Bool → List Bool → ℕ → Type 0
+IsAmongAt few many i = get_or few i false ≡ true → get_or many i false ≡ true
+
+-- each of the first sentences, so many
 pub record AreAmongTo (few many : List Bool) (n : ℕ) : Type 0 where
-  pub at : (i : ℕ) → i < n → get_or few i false ≡ true → get_or many i false ≡ true
+  pub at : (i : ℕ) → i < n → IsAmongAt few many i
 
 -- some distribution meets the kept sentences
 pub record CanBeMet (p : Parts) (kept : List Bool) : Type 0 where

@@ -1,8 +1,8 @@
 //! What is found by guesses.
-ghost use Rattle.std.specs.Prelude.{◌≡◌, None, true, false, get_or, length, IfOk, IfSome, IsTrue};
+ghost use Rattle.std.specs.Prelude.{◌≡◌, ◌↔◌, None, length, IfOk, IfSome, IsTrue};
 ghost use Rattle.ps_runs.specs.Kept.{IsChoice, kept_parts};
 ghost use Rattle.ps_guess.specs.Trials.{IsFoundDual, IsFoundModel};
-ghost use Rattle.ps_explain.specs.Steps.{AreAmong, IsConflictAmong};
+ghost use Rattle.ps_explain.specs.Steps.{AreAmong, IsAmongAt, IsConflictAmong};
 
 use crate::conflict::Conflict;
 use crate::numbers::is_kept;
@@ -72,17 +72,16 @@ fn find_dual<G: Guesser>(
 
 /// Whether the sentence at a place is kept by the second list if it is by the first.
 fn is_among(few: &[bool], many: &[bool], place: usize) -> bool
-    ensures { IsTrue result
-        → get_or few.now place false ≡ true → get_or many.now place false ≡ true }
+    ensures { IsTrue result ↔ IsAmongAt few.now many.now place }
 {
     !is_kept(few, place) || is_kept(many, place)
 }
 
 /// Whether the sentences that are kept by the first list are by the second.
-#[tactic(auto, using(crate::proofs::Guessed::among_none, crate::proofs::Guessed::among_more, crate::proofs::Guessed::among_all))]
+#[tactic(auto, using(crate::proofs::Guessed::among_none, crate::proofs::Guessed::among_more, crate::proofs::Guessed::among_all, crate::proofs::Parts::among_at))]
 fn are_among(few: &[bool], many: &[bool]) -> bool
     requires { length few.now ≡ length many.now }
-    ensures { IsTrue result → AreAmong few.now many.now }
+    ensures { IsTrue result ↔ AreAmong few.now many.now }
 {
     for place in 0..few.len() {
         if !is_among(few, many, place) {
