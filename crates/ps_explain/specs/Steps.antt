@@ -1,6 +1,6 @@
 -- What each step to an explanation finds.
 use Rattle.std.specs.Prelude.{◌≡◌, ◌<◌, ℕ, Bool, true, false, Option, Some, None}
-use Rattle.std.specs.Prelude.{List, get_or, take, ◌+◌, length, All, Result, Ok, Err}
+use Rattle.std.specs.Prelude.{List, get_or, take, ◌+◌, length, All}
 use Rattle.std.specs.List.{AllZip}
 use Rattle.ps_meaning.specs.Distribution.{Entry}
 use Rattle.ps_meaning.specs.Bounds.{IsModelOf}
@@ -15,6 +15,8 @@ use Rattle.ps_explain.specs.declared.outcome.Outcome.TheVariants as outcome
 use Rattle.ps_explain.specs.declared.outcome.Tried.{Tried}
 use Rattle.ps_explain.specs.declared.outcome.Tried.TheVariants as tried
 use Rattle.ps_explain.specs.declared.explained.Explained.{Explained}
+use Rattle.ps_explain.specs.declared.witnesses.Witnesses.{Witnesses}
+use Rattle.ps_explain.specs.declared.witnesses.Witnesses.TheVariants as witnesses
 use Rattle.ps_explain.specs.Explanations.{without, kept_bounds, places_from, IsModelOfKept, IsModelWithout}
 use Rattle.ps_explain.specs.Explanations.{IsShownBy, IsOpen, IsExplanation}
 
@@ -91,6 +93,6 @@ AddsModel p core i old new None = IsModelledAt p core.kept i old new
 AddsModel p core i old new (Some e) = Unit {0}
 
 -- a model for each kept sentence, or the explanation is open
-abbrev pub AreModelsOrOpen : Limits → Parts → List Bool → Result (List Model) Explained → Type 0
-AreModelsOrOpen limits p kept (Ok models) = AreModelsWithout p kept (places_from 0 kept) models
-AreModelsOrOpen limits p kept (Err e) = IsExplanation limits p e
+abbrev pub AreWitnesses : Limits → Parts → List Bool → Witnesses → Type 0
+AreWitnesses limits p kept (witnesses.Found models) = AreModelsWithout p kept (places_from 0 kept) models
+AreWitnesses limits p kept (witnesses.Open e) = IsExplanation limits p e

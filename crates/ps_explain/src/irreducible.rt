@@ -2,7 +2,7 @@
 ghost use Rattle.std.specs.Prelude.{length, IfOk, IfSome};
 ghost use Rattle.ps_generation.specs.Phases.{AreLimits};
 ghost use Rattle.ps_explain.specs.Explanations.{IsExplanation};
-ghost use Rattle.ps_explain.specs.Steps.{AreModelsOrOpen, AreNeeded, IsConflict};
+ghost use Rattle.ps_explain.specs.Steps.{AreNeeded, AreWitnesses, IsConflict};
 ghost use Rattle.ps_explain.specs.Steps.{AddsModel, IsNarrowed, IsNarrowedAt};
 
 use crate::conflict::Conflict;
@@ -11,6 +11,7 @@ use crate::means::Means;
 use crate::met::{Met, none_met, put_met};
 use crate::numbers::{is_kept, numbers_of};
 use crate::outcome::{Tried, outcome_without};
+use crate::witnesses::Witnesses;
 use ps_guesser::Guesser;
 use ps_io::{List, NoMemory};
 use std::alloc::Global;
@@ -102,7 +103,7 @@ fn push_model<G: Guesser>(
     }
 }
 
-/// For each sentence of a core a distribution that meets the others.
+/// For each sentence of a core a distribution that meets the others, unless a limit is reached.
 #[tactic(auto, using(crate::proofs::Models::models_none))]
 fn models_without<G: Guesser>(
     alloc: Global,
@@ -110,19 +111,19 @@ fn models_without<G: Guesser>(
     core: &Conflict,
     guesser: &mut G,
     met: &mut Met,
-) -> Result<Result<Models, Explained>, NoMemory>
+) -> Result<Witnesses, NoMemory>
     requires conflict { IsConflict means.now.trials.now core.now }
     requires needed { AreNeeded means.now.trials.now core.now.kept (length core.now.kept) }
     requires limits { AreLimits means.now.limits }
-    ensures { IfOk result (AreModelsOrOpen means.now.limits means.now.trials.now core.now.kept) }
+    ensures { IfOk result (AreWitnesses means.now.limits means.now.trials.now core.now.kept) }
 {
     let mut models = List::new(alloc);
     for place in 0..core.kept.len() {
         if let Some(open) = push_model(alloc, means, core, place, guesser, met, &mut models)? {
-            return Ok(Err(open));
+            return Ok(Witnesses::Open(open));
         }
     }
-    Ok(Ok(models))
+    Ok(Witnesses::Found(models))
 }
 
 /// The explanation by a core: each of its sentences is needed.
@@ -141,12 +142,12 @@ fn explained_by<G: Guesser>(
     // It has the clause that the problem is within the limits.
     let problem = means.trials.problem();
     match models_without(alloc, means, &core, guesser, met)? {
-        Ok(without) => Ok(Explained::Core {
+        Witnesses::Found(without) => Ok(Explained::Core {
             sentences: numbers_of(alloc, problem, core.kept.as_slice())?,
             dual: core.dual,
             without,
         }),
-        Err(open) => Ok(open),
+        Witnesses::Open(open) => Ok(open),
     }
 }
 

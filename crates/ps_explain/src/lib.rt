@@ -15,6 +15,7 @@ mod rests;
 #[cfg(test)]
 mod tests;
 mod used;
+mod witnesses;
 mod writing;
 
 pub use explained::{Explained, Models, Numbers};
