@@ -11,8 +11,8 @@ use Rattle.ps_guess.specs.Trials.{IsFoundDual, IsFoundModel}
 use Rattle.ps_phases.specs.declared.limits.Limits.{Limits}
 use Rattle.ps_explain.specs.declared.outcome.Outcome.TheVariants as outcome
 use Rattle.ps_explain.specs.declared.outcome.Tried.TheVariants as tried
-use Rattle.ps_explain.specs.Explanations.{without}
-use Rattle.ps_explain.specs.Steps.{AreAmong, IsAmongAt, AreAmongTo, IsConflict, IsConflictAmong, IsOutcome, IsTried}
+use Rattle.ps_explain.specs.Explanations.{without, AreAmong}
+use Rattle.ps_explain.specs.Steps.{IsAmongAt, AreAmongTo, IsConflict, IsConflictAmong, IsOutcome, IsTried}
 use Rattle.ps_explain.specs.Used.{used_from}
 use Rattle.ps_explain.proofs.Parts.{length_used, others_zero}
 use Rattle.ps_explain.proofs.Needed.{last_of}

@@ -28,8 +28,8 @@ use Rattle.ps_generation.specs.Phases.{limited}
 use Rattle.ps_master.specs.declared.first.First.TheVariants as first
 use Rattle.ps_master.specs.Runs.{RunState, IsNew, IsPhaseOneAnswer, IsPrintedFirst, IsOfTheWhole}
 use Rattle.ps_explain.specs.declared.conflict.Conflict.{Conflict}
-use Rattle.ps_explain.specs.Explanations.{without, CannotBeMet, IsModelWithout, IsShownBy, IsOneShort}
-use Rattle.ps_explain.specs.Steps.{AreAmong, CanBeMet, AreNeeded, IsConflict, IsConflictAmong}
+use Rattle.ps_explain.specs.Explanations.{without, AreAmong, CannotBeMet, IsModelWithout, IsShownBy, IsOneShort}
+use Rattle.ps_explain.specs.Steps.{CanBeMet, AreNeeded, IsConflict, IsConflictAmong}
 use Rattle.ps_explain.specs.Used.{used_from}
 use Rattle.ps_explain.proofs.Parts.{length_used, others_zero, used_among, among_before, among_without, among_at, left_out, put_back, kept_inside, all_among}
 

@@ -11,7 +11,8 @@ use Rattle.ps_problem.specs.Problems.{Parts, AreParts, bounds_in}
 use Rattle.ps_claims.specs.Duals.{AreZeroElsewhere}
 use Rattle.ps_runs.specs.Kept.{kept_of, flags_of}
 use Rattle.ps_explain.specs.Used.{is_other, uses, behind, used_from}
-use Rattle.ps_explain.specs.Steps.{AreAmong, IsAmongAt}
+use Rattle.ps_explain.specs.Explanations.{AreAmong}
+use Rattle.ps_explain.specs.Steps.{IsAmongAt}
 
 -- ---- how many there are
 -- a sentence has a bound or two

@@ -39,6 +39,10 @@ without kept i = set kept i false
 abbrev pub with_also : List Bool → ℕ → List Bool
 with_also kept i = set kept i true
 
+-- the sentences that are kept by the first are by the second
+abbrev pub AreAmong : List Bool → List Bool → Type 0
+AreAmong few many = AllZip (λ a b. a ≡ true → b ≡ true) few many
+
 -- the bounds of the kept sentences
 abbrev pub kept_bounds : Parts → List Bool → List Bound
 kept_bounds p kept = bounds_of (kept_parts kept p)

@@ -7,8 +7,7 @@ use Rattle.ps_answer.specs.declared.answer.Verdict.{Verdict}
 use Rattle.ps_answer.specs.declared.answer.Verdict.TheVariants.{Consistent, Inconsistent, Open}
 use Rattle.ps_runs.specs.Kept.{kept_parts}
 use Rattle.ps_phases.specs.declared.limits.Limits.{Limits}
-use Rattle.ps_explain.specs.Explanations.{without, CannotBeMet, IsModelOfKept, IsShownBy, IsOpen}
-use Rattle.ps_explain.specs.Steps.{AreAmong}
+use Rattle.ps_explain.specs.Explanations.{without, AreAmong, CannotBeMet, IsModelOfKept, IsShownBy, IsOpen}
 
 -- each sentence is kept but for the one of a number, from 1
 abbrev pub all_but : Parts → ℕ → List Bool

@@ -17,14 +17,10 @@ use Rattle.ps_explain.specs.declared.outcome.Tried.TheVariants as tried
 use Rattle.ps_explain.specs.declared.explained.Explained.{Explained}
 use Rattle.ps_explain.specs.declared.witnesses.Witnesses.{Witnesses}
 use Rattle.ps_explain.specs.declared.witnesses.Witnesses.TheVariants as witnesses
-use Rattle.ps_explain.specs.Explanations.{without, kept_bounds, places_from, IsModelOfKept, IsModelWithout}
+use Rattle.ps_explain.specs.Explanations.{without, kept_bounds, places_from, AreAmong, IsModelOfKept, IsModelWithout}
 use Rattle.ps_explain.specs.Explanations.{IsShownBy, IsOpen, IsExplanation}
 
 -- ---- parts of the sentences
--- the sentences that are kept by the first are by the second
-abbrev pub AreAmong : List Bool → List Bool → Type 0
-AreAmong few many = AllZip (λ a b. a ≡ true → b ≡ true) few many
-
 -- the sentence at a place is kept by the second if it is by the first
 abbrev pub IsAmongAt : List Bool → List Bool → ℕ → Type 0
 IsAmongAt few many i = get_or few i false ≡ true → get_or many i false ≡ true

@@ -2,7 +2,8 @@
 ghost use Rattle.std.specs.Prelude.{◌≡◌, ◌↔◌, None, length, IfOk, IfSome, IsTrue};
 ghost use Rattle.ps_runs.specs.Kept.{IsChoice, kept_parts};
 ghost use Rattle.ps_guess.specs.Trials.{IsFoundDual, IsFoundModel};
-ghost use Rattle.ps_explain.specs.Steps.{AreAmong, IsAmongAt, IsConflictAmong};
+ghost use Rattle.ps_explain.specs.Explanations.{AreAmong};
+ghost use Rattle.ps_explain.specs.Steps.{IsAmongAt, IsConflictAmong};
 
 use crate::conflict::Conflict;
 use crate::numbers::is_kept;
