@@ -264,36 +264,105 @@ const TWICE: &[u8] = b"psat 1; P(a) = 1/3; P(a) = 2/3; P(b) = 1/4; P(b) = 3/4; e
 
 const THREE: &[u8] = b"psat 1; P(a) >= 1/2; P(a) <= 1/4; P(a) <= 1/3; end;";
 
-// A problem, one of its sentences by its number, whether the run has pivots, and what the problem
-// comes to without the sentence: met, not met, or open.
-const RESTS: [(&[u8], u32, bool, u8); 8] = [
-    (THIRDS, 1, true, b'm'),
-    (THIRDS, 2, true, b'm'),
-    (THIRDS, 3, true, b'n'),
-    (THIRDS, 9, true, b'n'),
-    (THIRDS, 1, false, b'o'),
-    (TWICE, 1, true, b'n'),
-    (THREE, 1, true, b'm'),
-    (THREE, 2, true, b'n'),
+/// How many pivots a run has.
+#[derive(Clone, Copy, Drop)]
+enum Pivots {
+    Enough,
+    None,
+}
+
+/// Which verdict it is.
+#[derive(Clone, Copy, PartialEq, Drop)]
+enum Told {
+    Consistent,
+    Inconsistent,
+    Open,
+}
+
+// A problem, one of its sentences by its number, and what the problem comes to without it.
+struct Row {
+    text: &'static [u8],
+    sentence: u32,
+    pivots: Pivots,
+    told: Told,
+}
+
+const RESTS: [Row; 8] = [
+    Row {
+        text: THIRDS,
+        sentence: 1,
+        pivots: Pivots::Enough,
+        told: Told::Consistent,
+    },
+    Row {
+        text: THIRDS,
+        sentence: 2,
+        pivots: Pivots::Enough,
+        told: Told::Consistent,
+    },
+    Row {
+        text: THIRDS,
+        sentence: 3,
+        pivots: Pivots::Enough,
+        told: Told::Inconsistent,
+    },
+    Row {
+        text: THIRDS,
+        sentence: 9,
+        pivots: Pivots::Enough,
+        told: Told::Inconsistent,
+    },
+    Row {
+        text: THIRDS,
+        sentence: 1,
+        pivots: Pivots::None,
+        told: Told::Open,
+    },
+    Row {
+        text: TWICE,
+        sentence: 1,
+        pivots: Pivots::Enough,
+        told: Told::Inconsistent,
+    },
+    Row {
+        text: THREE,
+        sentence: 1,
+        pivots: Pivots::Enough,
+        told: Told::Consistent,
+    },
+    Row {
+        text: THREE,
+        sentence: 2,
+        pivots: Pivots::Enough,
+        told: Told::Inconsistent,
+    },
 ];
 
-fn letter(verdict: &Verdict) -> u8 {
+fn limits_with(pivots: Pivots) -> Limits
+    ensures { AreLimits result }
+{
+    match pivots {
+        Pivots::Enough => LIMITS,
+        Pivots::None => NO_PIVOTS,
+    }
+}
+
+fn told_by(verdict: &Verdict) -> Told {
     match verdict {
-        Verdict::Consistent(_) => b'm',
-        Verdict::Inconsistent(_) => b'n',
-        Verdict::Open(_) => b'o',
+        Verdict::Consistent(_) => Told::Consistent,
+        Verdict::Inconsistent(_) => Told::Inconsistent,
+        Verdict::Open(_) => Told::Open,
     }
 }
 
 // Whether the rest of a row is told, by a lawful run.
-fn is_told(alloc: Global, row: &(&[u8], u32, bool, u8)) -> Option<bool> {
-    let (text, number, has_pivots, told) = *row;
-    let problem = problem_of(alloc, text)?;
+fn is_told(alloc: Global, row: &Row) -> Option<bool> {
+    let problem = problem_of(alloc, row.text)?;
     let kind = Kind::Nothing;
     let mut guesser = Fixed { alloc, kind };
-    let limits = if has_pivots { LIMITS } else { NO_PIVOTS };
-    let verdict = verdict_without(alloc, &problem, limits, number, &mut guesser).ok()?;
-    Some(letter(&verdict) == told)
+    let limits = limits_with(row.pivots);
+    let verdict = verdict_without(alloc, &problem, limits, row.sentence, &mut guesser).ok()?;
+    Some(told_by(&verdict) == row.told)
 }
 
 const CORE: &[u8] = b"explanation 1\ncore 2 1 2\ndual 0 1 1\ny -1 1 0\ns 2 0 1 0\nwithout 1\n";
