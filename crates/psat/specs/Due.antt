@@ -27,7 +27,7 @@ use Rattle.ps_explain.specs.Explanations.{IsRightExplanation}
 use Rattle.ps_explain.specs.Texts.{explanation_lines}
 use Rattle.ps_make.specs.Chain.{made_problem, made_text}
 use Rattle.psat.specs.declared.status.Status.{Status}
-use Rattle.psat.specs.declared.status.Status.TheVariants.{Done, Inconsistent, Unreadable, Unfinished, Refused}
+use Rattle.psat.specs.declared.status.Status.TheVariants.{Done, Inconsistent, Usage, Unreadable, Unfinished, Refused}
 use Rattle.psat.specs.declared.command.Command.{Command}
 use Rattle.psat.specs.declared.command.Command.TheVariants.{Check, Explain, Make, Solve}
 use Rattle.psat.specs.declared.checked.TheConstants.{MOST_SEARCHED}
