@@ -1,4 +1,6 @@
 //! Distributions that were found before.
+ghost use Rattle.std.specs.Prelude.{◌≡◌, None, Some, get_or, length, replicate, set, IfOk};
+
 use ps_answer::Model;
 use ps_io::{List, NoMemory};
 use ps_problem::Problem;
@@ -9,7 +11,9 @@ use std::alloc::Global;
 pub(crate) type Met = Vec<Option<Model>>;
 
 /// None for each sentence.
-pub(crate) fn none_met(alloc: Global, problem: &Problem) -> Result<Met, NoMemory> {
+pub(crate) fn none_met(alloc: Global, problem: &Problem) -> Result<Met, NoMemory>
+    ensures { IfOk result (λ met. met.items ≡ replicate (length problem.now.sentences) None) }
+{
     let mut met = List::new(alloc);
     for _ in 0..problem.sentences().len() {
         met.push(None)?;
@@ -18,14 +22,19 @@ pub(crate) fn none_met(alloc: Global, problem: &Problem) -> Result<Met, NoMemory
 }
 
 /// Notes a distribution at a place.
-pub(crate) fn put_met(met: &mut Met, place: usize, model: Model) {
+pub(crate) fn put_met(met: &mut Met, place: usize, model: Model)
+    ensures { met.new.items ≡ set met.old.items place (Some model) }
+{
     if place < met.len() {
         met[place] = Some(model);
     }
 }
 
 /// Takes the distribution at a place, if there is one.
-pub(crate) fn take_met(met: &mut Met, place: usize) -> Option<Model> {
+pub(crate) fn take_met(met: &mut Met, place: usize) -> Option<Model>
+    ensures taken { result ≡ get_or met.old.items place None }
+    ensures rest { met.new.items ≡ set met.old.items place None }
+{
     if place < met.len() {
         met[place].take()
     } else {
