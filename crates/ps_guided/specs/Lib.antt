@@ -1,3 +1,4 @@
 -- Meaning
 pub mod Solutions
 pub mod Known
+pub mod Turns

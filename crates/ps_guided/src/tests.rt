@@ -1,10 +1,14 @@
-//! Answers to one query, of which some sides are guessed.
+//! Answers to one query, of which some sides are guessed, and runs that are begun again while time is
+//! left.
 ghost use Rattle.std.specs.Prelude.{◌<◌};
 
-use crate::{Guess, Guesser, Limits, Progress, answer};
+use crate::{
+    Guess, Guesser, InTime, Known, Limits, Progress, Watch, answer, part_in_time, verdict_in_time,
+};
 use ps_answer::{Answer, Dual, Model, QueryAnswer, QueryPart, SideAnswer, Verdict, Weighted};
 use ps_claims::ClaimKind;
 use ps_formula::World;
+use ps_guess::Trials;
 use ps_io::{List, NoMemory};
 use ps_problem::{Problem, Query};
 use ps_read::read_whole;
@@ -18,10 +22,18 @@ const LIMITS: Limits = Limits {
     conflicts: 1000,
 };
 
-/// Which sides are guessed. The first guess of the lower one overlooks a world.
+// No pivot, and more conflicts than the turns before the last one come to.
+const NO_PIVOTS: Limits = Limits {
+    pivots: 0,
+    conflicts: 5_000_000,
+};
+
+/// Whether a distribution is guessed, and which sides are. The first guess of the lower one overlooks
+/// a world.
 #[derive(Drop)]
 struct Fixed {
     alloc: Global,
+    model: bool,
     lower: bool,
     upper: bool,
     told: bool,
@@ -65,6 +77,9 @@ impl Guesser for Fixed {
     }
 
     fn model(&mut self, _problem: &Problem) -> Result<Option<Model>, NoMemory> {
+        if !self.model {
+            return Ok(None);
+        }
         Ok(Some(third(self.alloc)?))
     }
 
@@ -136,6 +151,7 @@ fn answered(alloc: Global, lower: bool, upper: bool) -> Option<Answer> {
     let problem = read_whole(alloc, ASKED).ok()?;
     let mut guesser = Fixed {
         alloc,
+        model: true,
         lower,
         upper,
         told: false,
@@ -160,4 +176,60 @@ fn sides_are_guessed_or_run(rt: HostRuntime) {
     for (lower, upper) in GUESSED {
         assert!(rt; is_answered(rt.alloc(), lower, upper));
     }
+}
+
+// By this time is never over.
+#[derive(Drop)]
+struct Endless;
+
+impl Watch for Endless {
+    fn is_over(&mut self) -> bool {
+        false
+    }
+
+    fn tell(&mut self, _: ClaimKind, _: Progress) {}
+}
+
+fn is_open(known: &Known) -> bool {
+    match known {
+        Known::Answered(part) => matches!(part.answer, QueryAnswer::Open(_)),
+        Known::Sides { .. } => false,
+    }
+}
+
+// Whether the verdict and the answer to each query are told as open, where nothing is guessed and a
+// run has no pivot.
+fn is_told_as_open(alloc: Global, trials: &Trials<'_>) -> Result<bool, NoMemory> {
+    let mut guesser = Fixed {
+        alloc,
+        model: false,
+        lower: false,
+        upper: false,
+        told: false,
+    };
+    let mut watch = Endless;
+    let mut timed = InTime {
+        guesser: &mut guesser,
+        watch: &mut watch,
+    };
+    let Some((verdict, _)) = verdict_in_time(alloc, trials, NO_PIVOTS, &mut timed)? else {
+        return Ok(false);
+    };
+    for query in trials.problem().queries().as_slice() {
+        if !is_open(&part_in_time(alloc, trials, *query, NO_PIVOTS, &mut timed)?) {
+            return Ok(false);
+        }
+    }
+    Ok(matches!(verdict, Verdict::Open(_)))
+}
+
+fn ends_open(alloc: Global) -> Option<bool> {
+    let problem = read_whole(alloc, ASKED).ok()?;
+    let trials = Trials::new(alloc, &problem, NO_PIVOTS.conflicts).ok()?;
+    is_told_as_open(alloc, &trials).ok()
+}
+
+#[test]
+fn the_last_turn_has_the_greatest_limits(rt: HostRuntime) {
+    assert!(rt; ends_open(rt.alloc()) == Some(true));
 }
