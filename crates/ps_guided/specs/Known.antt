@@ -1,8 +1,10 @@
 -- What is known of a query, where time may be over before it is answered.
-use Rattle.std.specs.Prelude.{Option, IfSome}
+use Rattle.std.specs.Prelude.{Option, Some, IfSome, IsSome, ◌≡◌}
 use Rattle.ps_problem.specs.declared.query.Query.{Query}
 use Rattle.ps_problem.specs.Problems.{Parts}
 use Rattle.ps_answer.specs.declared.answer.SideAnswer.{SideAnswer}
+use Rattle.ps_answer.specs.declared.answer.QueryAnswer.{QueryAnswer}
+use Rattle.ps_answer.specs.declared.answer.QueryAnswer.TheVariants as query
 use Rattle.ps_answer.specs.declared.answer.QueryPart.{QueryPart}
 use Rattle.ps_claims.specs.declared.claim_kind.ClaimKind.{ClaimKind}
 use Rattle.ps_claims.specs.declared.claim_kind.ClaimKind.TheVariants.{Lower, Upper}
@@ -12,6 +14,7 @@ use Rattle.ps_certificate.specs.Printed.{IsPrintedSide}
 use Rattle.ps_phases.specs.declared.limits.Limits.{Limits}
 use Rattle.ps_guess.specs.Trials.{IsFoundSide}
 use Rattle.ps_query.specs.Parts.{IsPartOf}
+use Rattle.ps_reported.specs.Settled.{IsClosed}
 use Rattle.ps_guided.specs.Solutions.{IsAnsweredPart}
 use Rattle.ps_guided.specs.declared.known.Known.{Known}
 use Rattle.ps_guided.specs.declared.known.Known.TheVariants.{Answered, Sides}
@@ -44,3 +47,26 @@ IsClosedOrFound found left known = (p : Parts) (q : Query) (kind : ClaimKind) �
 abbrev pub IsKnownBeside : QueryPart → Option SideAnswer → Option SideAnswer → Known → Type 0
 IsKnownBeside run lower upper known = (limits own : Limits) (p : Parts) (q : Query) → IsPartOf own p q run
     → IfSome lower (IsFoundSide p Lower q) → IfSome upper (IsFoundSide p Upper q) → IsKnown limits p q known
+
+-- the answer to a query is known
+abbrev pub HasAnswer : Known → Type 0
+HasAnswer (Answered part) = Unit {0}
+HasAnswer (Sides lower upper) = ⊥
+
+-- no side that was found before is lost: the answer is known, or each of these sides still is
+abbrev pub KeepsSides : Option SideAnswer → Option SideAnswer → Known → Type 0
+KeepsSides lower upper (Answered part) = Unit {0}
+KeepsSides lower upper (Sides l u) = IfSome lower (λ a. l ≡ Some a) × IfSome upper (λ a. u ≡ Some a)
+
+-- nothing that was known before is lost: an answer stays one, and of sides none is lost
+abbrev pub KeepsKnown : Known → Known → Type 0
+KeepsKnown (Answered part) known = HasAnswer known
+KeepsKnown (Sides lower upper) known = KeepsSides lower upper known
+
+-- no bound that a run left is lost: the answer is known, or a side is for each bound of the run; where the run excludes the
+-- evidence, the answer is known
+abbrev pub TakesBounds : QueryAnswer → Known → Type 0
+TakesBounds run (Answered part) = Unit {0}
+TakesBounds (query.Bounds lower les upper ues) (Sides l u) = (IsClosed lower → IsSome l) × (IsClosed upper → IsSome u)
+TakesBounds (query.Impossible d) (Sides l u) = ⊥
+TakesBounds (query.Open cause) (Sides l u) = Unit {0}

@@ -1,5 +1,8 @@
 //! What is known of a query.
-ghost use Rattle.ps_guided.specs.Known.{IsClosedOrFound, IsKnownBeside, IsKnownBySides};
+ghost use Rattle.std.specs.Prelude.{◌≡◌, ◌⊎◌, None, Some, IfSome, IsSome};
+ghost use Rattle.ps_reported.specs.Settled.{IsClosed};
+ghost use Rattle.ps_guided.specs.Known.{HasAnswer, IsClosedOrFound, IsKnownBeside};
+ghost use Rattle.ps_guided.specs.Known.{IsKnownBySides, KeepsSides, TakesBounds};
 
 use crate::beside::both_found;
 use ps_answer::{QueryAnswer, QueryPart, SideAnswer};
@@ -20,7 +23,9 @@ pub enum Known {
 
 /// What is known where these sides were found.
 pub fn known_by(alloc: Global, lower: Option<SideAnswer>, upper: Option<SideAnswer>) -> Known
-    ensures { IsKnownBySides lower upper result }
+    ensures known { IsKnownBySides lower upper result }
+    ensures sides { lower ≡ None ⊎ upper ≡ None → result ≡ Known.Sides lower upper }
+    ensures both { IsSome lower → IsSome upper → HasAnswer result }
 {
     let Some(least) = lower else {
         return Known::Sides { lower: None, upper };
@@ -37,7 +42,9 @@ pub fn known_by(alloc: Global, lower: Option<SideAnswer>, upper: Option<SideAnsw
 // The side that was found, or that of a run where it is a bound.
 #[tactic(auto, using(crate::proofs::KnownLaws::closed_side))]
 fn closed_or(found: Option<SideAnswer>, left: SideAnswer) -> Option<SideAnswer>
-    ensures { IsClosedOrFound found left result }
+    ensures known { IsClosedOrFound found left result }
+    ensures kept { IfSome found (λ side. result ≡ Some side) }
+    ensures taken { found ≡ None → IsClosed left → result ≡ Some left }
 {
     match found {
         Some(side) => Some(side),
@@ -52,14 +59,16 @@ fn closed_or(found: Option<SideAnswer>, left: SideAnswer) -> Option<SideAnswer>
 
 /// What is known behind a run, beside the sides that were found before: of the run what has its
 /// certificate, without its events.
-#[tactic(auto, using(crate::proofs::KnownLaws::known_impossible))]
+#[tactic(auto, using(crate::proofs::KnownLaws::known_impossible, crate::proofs::KnownLaws::keeps_same, crate::proofs::KnownLaws::takes_none))]
 pub fn known_behind(
     alloc: Global,
     run: QueryPart,
     lower: Option<SideAnswer>,
     upper: Option<SideAnswer>,
 ) -> Known
-    ensures { IsKnownBeside run lower upper result }
+    ensures known { IsKnownBeside run lower upper result }
+    ensures kept { KeepsSides lower upper result }
+    ensures taken { TakesBounds run.answer result }
 {
     let QueryPart { answer, first: _ } = run;
     match answer {

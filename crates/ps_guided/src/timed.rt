@@ -1,11 +1,11 @@
 //! The verdict on a problem and the answer to a query, as far as time is left.
-ghost use Rattle.std.specs.Prelude.{IfOk, IfSome, ◌<◌};
+ghost use Rattle.std.specs.Prelude.{IfOk, IfSome, IsSome, ◌<◌, ◌+◌, ◌≡◌};
 ghost use Rattle.ps_problem.specs.Problems.{HasNodes};
 ghost use Rattle.ps_claims.specs.declared.claim_kind.ClaimKind.TheVariants.{Lower, Upper};
 ghost use Rattle.ps_guess.specs.Trials.{IsFoundSide};
 ghost use Rattle.ps_generation.specs.Phases.{AreLimits};
 ghost use Rattle.ps_guided.specs.Solutions.{IsAnsweredVerdict};
-ghost use Rattle.ps_guided.specs.Known.{IsKnown};
+ghost use Rattle.ps_guided.specs.Known.{HasAnswer, IsKnown, KeepsKnown, KeepsSides};
 ghost use Rattle.ps_guided.specs.declared.turns.TheConstants.{MOST_TURNS};
 
 use crate::answering::run_beside;
@@ -33,7 +33,8 @@ fn verdict_at(
 ) -> Result<Option<(Verdict, Trace)>, NoMemory>
     requires limits { AreLimits limits }
     requires few { turn < MOST_TURNS }
-    ensures { IfOk result (λ o. IfSome o (λ r. IsAnsweredVerdict limits trials.now r.0 r.1)) }
+    ensures told { IfOk result (λ o. IfSome o (λ r. IsAnsweredVerdict limits trials.now r.0 r.1)) }
+    ensures last { turn + 1 ≡ MOST_TURNS → IfOk result IsSome }
 {
     let own = limits_at(limits, turn);
     if are_greatest(own, limits) {
@@ -90,7 +91,9 @@ fn known_at(
     requires few { turn < MOST_TURNS }
     requires lower { IfSome lower (IsFoundSide trials.now Lower query) }
     requires upper { IfSome upper (IsFoundSide trials.now Upper query) }
-    ensures { IfOk result (IsKnown limits trials.now query) }
+    ensures known { IfOk result (IsKnown limits trials.now query) }
+    ensures kept { IfOk result (KeepsSides lower upper) }
+    ensures last { turn + 1 ≡ MOST_TURNS → IfOk result HasAnswer }
 {
     let own = limits_at(limits, turn);
     if are_greatest(own, limits) {
@@ -102,6 +105,7 @@ fn known_at(
 }
 
 // What is known of a query behind runs, as far as time is left.
+#[tactic(auto, using(crate::proofs::KnownLaws::keeps_known, crate::proofs::KnownLaws::keeps_on))]
 fn known_behind_runs<G: Guesser, W: Watch>(
     alloc: Global,
     trials: &Trials<'_>,
@@ -113,7 +117,8 @@ fn known_behind_runs<G: Guesser, W: Watch>(
     requires query { HasNodes trials.now.nodes query.formula query.given query.both }
     requires limits { AreLimits limits }
     requires found { IsKnown limits trials.now query found }
-    ensures { IfOk result (IsKnown limits trials.now query) }
+    ensures known { IfOk result (IsKnown limits trials.now query) }
+    ensures kept { IfOk result (KeepsKnown found) }
 {
     let mut known = found;
     for turn in 0..MOST_TURNS {
