@@ -1,6 +1,7 @@
 //! Which sentences of a problem clash, and what is left without each of them.
-ghost use Rattle.std.specs.Prelude.{◌≡◌, true, All, IfOk, map};
+ghost use Rattle.std.specs.Prelude.{◌≡◌, ◌<◌, true, All, IfOk, IfSome, map};
 ghost use Rattle.ps_valid.specs.Answers.{IsRightOf};
+ghost use Rattle.ps_guided.specs.declared.turns.TheConstants.{MOST_TURNS};
 ghost use Rattle.ps_ask.specs.Shown.{AreSettings};
 ghost use Rattle.ps_ask.specs.Clashes.{IsClashAt, IsCoreFor, IsFoundClash, IsRestFor, IsRestOf};
 ghost use Rattle.ps_ask.specs.Clashes.{IsShownInconsistent, number_of};
@@ -12,59 +13,88 @@ use crate::sought::Sought;
 use ps_answer::{Answer, Verdict};
 use ps_engine::Engine;
 use ps_explain::verdict_without;
-use ps_guided::{Guesser, InTime, limits_at};
+use ps_guided::{Guesser, InTime, MOST_TURNS, Watch, are_greatest, limits_at};
 use ps_io::{List, NoMemory};
 use ps_problem::Problem;
 use ps_spoken::{Clash, Clashing, out_of_time};
 use std::alloc::Global;
 
-// What the problem comes to without a sentence, where time is limited: no more than a short run
-// stands behind the guesses.
-#[tactic(auto, using(crate::proofs::ClashLaws::rest_met, crate::proofs::ClashLaws::rest_not_met, crate::proofs::ClashLaws::rest_late))]
-fn rest_in_time<G: Guesser>(
+// What the problem comes to without a sentence, by a run with the limits of this turn; none where it
+// is open below the greatest ones.
+#[tactic(auto, using(crate::proofs::ClashLaws::rest_by, crate::proofs::ClashLaws::rest_met, crate::proofs::ClashLaws::rest_not_met))]
+fn rest_at<G: Guesser>(
     alloc: Global,
     problem: &Problem,
     settings: Settings,
     number: u32,
+    turn: u32,
     guesser: &mut G,
+) -> Result<Option<Verdict>, NoMemory>
+    requires settings { AreSettings settings }
+    requires few { turn < MOST_TURNS }
+    ensures { IfOk result (λ o. IfSome o (IsRestOf settings problem.now number)) }
+{
+    let own = limits_at(settings.limits, turn);
+    if are_greatest(own, settings.limits) {
+        let rest = verdict_without(alloc, problem, settings.limits, number, guesser)?;
+        return Ok(Some(rest));
+    }
+    match verdict_without(alloc, problem, own, number, guesser)? {
+        Verdict::Consistent(model) => Ok(Some(Verdict::Consistent(model))),
+        Verdict::Inconsistent(dual) => Ok(Some(Verdict::Inconsistent(dual))),
+        Verdict::Open(_) => Ok(None),
+    }
+}
+
+// The same as far as time is left.
+#[tactic(auto, using(crate::proofs::ClashLaws::rest_late))]
+fn rest_in_time<G: Guesser, W: Watch>(
+    alloc: Global,
+    problem: &Problem,
+    settings: Settings,
+    number: u32,
+    timed: &mut InTime<'_, G, W>,
 ) -> Result<Verdict, NoMemory>
     requires settings { AreSettings settings }
     requires timed { settings.is_timed ≡ true }
     ensures { IfOk result (IsRestOf settings problem.now number) }
 {
-    let limits = limits_at(settings.limits, 0);
-    match verdict_without(alloc, problem, limits, number, guesser)? {
-        Verdict::Consistent(model) => Ok(Verdict::Consistent(model)),
-        Verdict::Inconsistent(dual) => Ok(Verdict::Inconsistent(dual)),
-        Verdict::Open(_) => Ok(Verdict::Open(out_of_time())),
+    for turn in 0..MOST_TURNS {
+        if timed.watch.is_over() {
+            return Ok(Verdict::Open(out_of_time()));
+        }
+        if let Some(rest) = rest_at(alloc, problem, settings, number, turn, timed)? {
+            return Ok(rest);
+        }
     }
+    Ok(Verdict::Open(out_of_time()))
 }
 
 // What the problem comes to without a sentence.
 #[tactic(auto, using(crate::proofs::ClashLaws::rest_by))]
-fn rest_of<G: Guesser>(
+fn rest_of<G: Guesser, W: Watch>(
     alloc: Global,
     problem: &Problem,
     settings: Settings,
     number: u32,
-    guesser: &mut G,
+    timed: &mut InTime<'_, G, W>,
 ) -> Result<Verdict, NoMemory>
     requires settings { AreSettings settings }
     ensures { IfOk result (IsRestOf settings problem.now number) }
 {
     if settings.is_timed {
-        return rest_in_time(alloc, problem, settings, number, guesser);
+        return rest_in_time(alloc, problem, settings, number, timed);
     }
-    verdict_without(alloc, problem, settings.limits, number, guesser)
+    verdict_without(alloc, problem, settings.limits, number, timed)
 }
 
 // These sentences, each with what the problem comes to without it.
-fn with_rests<G: Guesser>(
+fn with_rests<G: Guesser, W: Watch>(
     alloc: Global,
     problem: &Problem,
     settings: Settings,
     numbers: &[u32],
-    guesser: &mut G,
+    timed: &mut InTime<'_, G, W>,
 ) -> Result<List<Clashing>, NoMemory>
     requires settings { AreSettings settings }
     ensures numbers { IfOk result (λ clashing. map number_of clashing ≡ numbers.now) }
@@ -73,7 +103,7 @@ fn with_rests<G: Guesser>(
     let mut clashing = List::new(alloc);
     for number in numbers {
         let number = *number;
-        let rest = rest_of(alloc, problem, settings, number, guesser)?;
+        let rest = rest_of(alloc, problem, settings, number, timed)?;
         clashing.push(Clashing { number, rest })?;
     }
     Ok(clashing)
@@ -81,12 +111,12 @@ fn with_rests<G: Guesser>(
 
 // The clash of sentences that can't be met together, or what stopped the search for it.
 #[tactic(auto, using(crate::proofs::ClashLaws::clash_found, crate::proofs::ClashLaws::clash_open))]
-fn clash_of<G: Guesser>(
+fn clash_of<G: Guesser, W: Watch>(
     alloc: Global,
     problem: &Problem,
     settings: Settings,
     core: Core,
-    guesser: &mut G,
+    timed: &mut InTime<'_, G, W>,
 ) -> Result<Clash, NoMemory>
     requires settings { AreSettings settings }
     requires core { IsCoreFor settings problem.now core }
@@ -95,7 +125,7 @@ fn clash_of<G: Guesser>(
     match core {
         Core::Found(numbers) => {
             let numbers = numbers.as_slice();
-            let clashing = with_rests(alloc, problem, settings, numbers, guesser)?;
+            let clashing = with_rests(alloc, problem, settings, numbers, timed)?;
             Ok(Clash::Irreducible(clashing))
         }
         Core::Open(cause) => Ok(Clash::Open(cause)),
