@@ -41,16 +41,19 @@ pub record IsLatePart (s : Settings) (p : Parts) (q : Query) (part : QueryPart) 
   pub valid : IsValidPart p q (part_of part.answer)
   pub printed : IsPrintedPart part.answer
 
--- of every problem and query, of whose sides these were found: the part isn't answered where time was over, and what it claims
--- is valid
-abbrev pub IsLateBeside : Option SideAnswer → Option SideAnswer → QueryPart → Type 0
-IsLateBeside lower upper part = (s : Settings) (p : Parts) (q : Query) → s.is_timed ≡ true → AreFound p q lower upper
-    → IsLatePart s p q part
+-- so a part is judged: it was answered within the limits; or time was over before
+abbrev pub IsJudgedPart : Settings → Parts → Query → QueryPart → Type 0
+IsJudgedPart s p q part = IsAnsweredPart s.limits p q part ⊎ IsLatePart s p q part
+
+-- of every problem and query, of whose sides these were found: where time is limited, the part is judged so
+abbrev pub IsJudgedBeside : Option SideAnswer → Option SideAnswer → QueryPart → Type 0
+IsJudgedBeside lower upper part = (s : Settings) (p : Parts) (q : Query) → s.is_timed ≡ true → AreFound p q lower upper
+    → IsJudgedPart s p q part
 
 -- a part that is shown: it is right, and was answered within the limits; or time was over before
 pub record IsShownPart (s : Settings) (p : Parts) (q : Query) (part : QueryPart) : Type 0 where
   pub right : IsRightPart (length p.names) (bounds_of p) (query_of p.nodes q) (part_of part.answer)
-  pub judged : IsAnsweredPart s.limits p q part ⊎ IsLatePart s p q part
+  pub judged : IsJudgedPart s p q part
 
 -- a part that is shown for each of these queries
 abbrev pub AreShownParts : Settings → Parts → List Query → List QueryPart → Type 0

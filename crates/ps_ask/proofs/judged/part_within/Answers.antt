@@ -18,4 +18,4 @@ returns-in-Sides g c =
     let p = c.args.trials.now in
     let q = c.args.query in
     let h = subst (λ (k : Known). IsKnown s.limits p q k) c.in-Sides.is c.in_ok-part.ensures in
-    late_part s p q c.in-Sides.lower c.in-Sides.upper c.late_part.result c.problem-sound.ensures.parts c.requires.query c.requires.timed h c.late_part.ensures
+    late_part s p q c.in-Sides.lower c.in-Sides.upper c.late_part.result c.problem-sound.ensures.parts c.requires.query c.requires.timed h c.late_part.ensures.judged
