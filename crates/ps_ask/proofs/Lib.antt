@@ -1,5 +1,6 @@
 pub mod OpenParts
 pub mod ClashLaws
+pub mod IdleLaws
 pub mod ShownLaws
 pub mod EndLaws
 pub mod JudgedLaws

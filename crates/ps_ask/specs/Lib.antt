@@ -2,6 +2,7 @@
 pub mod Late
 pub mod Statuses
 pub mod Clashes
+pub mod Conditions
 pub mod Fronts
 pub mod Shown
 -- The law of decimals

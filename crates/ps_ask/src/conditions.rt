@@ -1,5 +1,7 @@
 //! Conditions of sentences that no distribution gives weight.
+ghost use Rattle.std.specs.Prelude.{◌≡◌, true, IfOk};
 ghost use Rattle.ps_problem.specs.Problems.{HasNodes};
+ghost use Rattle.ps_ask.specs.Conditions.{IsIdle};
 
 use crate::company::Company;
 use crate::notes::Input;
@@ -14,7 +16,7 @@ use ps_io::NoMemory;
 use ps_problem::{Bound, Problem, Query, Sentence};
 use std::alloc::Global;
 
-// Marks the formulas, as nodes, that a distribution gives weight.
+// Marks the nodes of formulas that are true in a world of the distribution: it gives them weight.
 fn mark_by_model(
     alloc: Global,
     problem: &Problem,
@@ -29,7 +31,7 @@ fn mark_by_model(
     Ok(())
 }
 
-// Marks the nodes that are true.
+// Marks the nodes that are true in a world.
 fn mark_true(truth: &[bool], marks: &mut Vec<bool>) {
     for (place, is_true) in truth.iter().enumerate() {
         if *is_true && place < marks.len() {
@@ -38,6 +40,7 @@ fn mark_true(truth: &[bool], marks: &mut Vec<bool>) {
     }
 }
 
+// Marks the nodes that the distribution of a side gives weight, where the side has one.
 fn mark_by_side(
     alloc: Global,
     problem: &Problem,
@@ -50,7 +53,7 @@ fn mark_by_side(
     }
 }
 
-// The nodes that a distribution of the answer gives weight.
+// Whether each node, in order, has weight in the verdict's distribution or in that of some side.
 fn weighed_in(
     alloc: Global,
     problem: &Problem,
@@ -76,7 +79,9 @@ fn is_unweighed(bound: &Bound, weighed: &[bool]) -> bool {
     }
 }
 
-// Whether it is shown that no distribution gives the bound's condition weight.
+// Whether it is shown in time that no distribution that meets the sentences gives the bound's
+// condition weight.
+#[tactic(auto, using(crate::proofs::IdleLaws::idle_shown))]
 fn is_idle<W: Company>(
     alloc: Global,
     trials: &Trials<'_>,
@@ -84,18 +89,24 @@ fn is_idle<W: Company>(
     timed: &mut InTime<'_, Engine, W>,
 ) -> Result<bool, NoMemory>
     requires bound { HasNodes trials.now.nodes bound.now.formula bound.now.given bound.now.both }
+    ensures { IfOk result (λ told. told ≡ true → IsIdle trials.now bound.now.given) }
 {
+    // Called for its clause: the problem is in order.
+    let _sound = trials.problem();
     timed.watch.turn_to(Sought::Conditions);
     let query = Query {
         formula: bound.formula,
         given: bound.given,
         both: bound.both,
     };
-    Ok(find_nothing(alloc, trials, Some(query), timed)?.is_some())
+    match find_nothing(alloc, trials, Some(query), timed)? {
+        Some(_) => Ok(true),
+        None => Ok(false),
+    }
 }
 
 // How many bounds a sentence states.
-fn bounds_of(sentence: &Sentence) -> usize {
+fn bound_count(sentence: &Sentence) -> usize {
     if sentence.second.is_some() { 2 } else { 1 }
 }
 
@@ -130,7 +141,7 @@ pub(crate) fn idle_noted<W: Company>(
                 )?;
             }
         }
-        place = place.saturating_add(bounds_of(sentence));
+        place = place.saturating_add(bound_count(sentence));
     }
     Ok(notes)
 }
