@@ -53,6 +53,23 @@ fn reply_to_problem<O: Sink, W: Company>(
     }
 }
 
+// Warns of what a problem may not mean, where warnings are wanted. Where memory for them is lacking
+// they are left out.
+fn warn_of_problem<W: Company>(
+    alloc: Global,
+    settings: Settings,
+    input: Input<'_>,
+    problem: &Problem,
+    watch: &mut W,
+) {
+    if !settings.warns {
+        return;
+    }
+    if let Ok(text) = warnings_noted(alloc, input, problem) {
+        watch.note(&text);
+    }
+}
+
 // The reply to all bytes of an input, behind what is shown as it goes.
 #[tactic(auto, using(crate::proofs::DueLaws::shown_for, crate::proofs::DueLaws::not_read, crate::proofs::DueLaws::unread_shown, crate::proofs::EndLaws::nothing_ended))]
 fn reply_to_bytes<O: Sink, W: Company>(
@@ -71,10 +88,7 @@ fn reply_to_bytes<O: Sink, W: Company>(
 {
     match read_whole(alloc, input.bytes) {
         Ok(problem) => {
-            let Ok(text) = warnings_noted(alloc, input, &problem, settings.warns) else {
-                return Err(ReplyError::NoMemory);
-            };
-            watch.note(&text);
+            warn_of_problem(alloc, settings, input, &problem, watch);
             reply_to_problem(alloc, settings, input, &problem, sink, watch)
         }
         Err(ReadError::At { kind, line, column }) => {

@@ -32,16 +32,13 @@ pub fn length_noted(alloc: Global, name: &str, limit: u64) -> Result<Vec<u8>, No
     Ok(Vec::from_slice(alloc, text.as_bytes())?)
 }
 
-/// The warnings about a problem, where they are wanted.
+/// The warnings about a problem.
 pub fn warnings_noted(
     alloc: Global,
     input: Input<'_>,
     problem: &Problem,
-    wanted: bool,
 ) -> Result<Vec<u8>, NoMemory> {
     let mut notes = Vec::new(alloc);
-    if wanted {
-        write_warnings(alloc, &mut notes, input.name, input.bytes, problem)?;
-    }
+    write_warnings(alloc, &mut notes, input.name, input.bytes, problem)?;
     Ok(notes)
 }
