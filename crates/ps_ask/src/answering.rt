@@ -179,7 +179,7 @@ pub fn ask<I: Source, O: Sink, R: Sink, W: Company>(
     };
     watch.clear();
     match write_last(alloc, &mut out.shown, timed, &reply) {
-        Ok(()) => match write_beside(alloc, &mut out.report, settings.reports, timed, &reply) {
+        Ok(()) => match write_beside(alloc, &mut out.report, settings, &reply) {
             Ok(()) => reply.status(timed),
             Err(_) => Status::ReportFault,
         },

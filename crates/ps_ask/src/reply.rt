@@ -5,7 +5,6 @@ ghost use Rattle.ps_ask.specs.Replies as replies;
 use crate::answered::status_of;
 use crate::status::Status;
 use ps_answer::Answer;
-use ps_io::NoMemory;
 
 /// What is to be written at the end.
 #[derive(Drop)]
@@ -52,16 +51,5 @@ impl ReplyError {
             ReplyError::WriteFault => Status::WriteFault,
             ReplyError::NoMemory => Status::NoMemory,
         }
-    }
-}
-
-impl From<NoMemory> for ReplyError {
-    ghost use Rattle.std.specs.Prelude.{◌≡◌};
-    ghost use Rattle.ps_ask.specs.declared.reply.ReplyError.TheVariants as errors;
-
-    ghost from_gives = { λ _ e. e ≡ errors.NoMemory };
-
-    fn from(_: NoMemory) -> ReplyError {
-        ReplyError::NoMemory
     }
 }

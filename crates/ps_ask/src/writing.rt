@@ -7,6 +7,7 @@ ghost use Rattle.ps_ask.specs.Shown.{report_of};
 
 use crate::late::is_late;
 use crate::reply::Reply;
+use crate::settings::Settings;
 use ps_answer::Answer;
 use ps_io::{Lines, Sink, WriteFault, write_all};
 use ps_report::write_report;
@@ -54,21 +55,21 @@ pub fn write_last<O: Sink>(
 pub fn write_beside<R: Sink>(
     alloc: Global,
     sink: &mut R,
-    asked: bool,
-    timed: bool,
+    settings: Settings,
     reply: &Reply,
 ) -> Result<(), WriteFault>
-    requires short { IsShort timed reply.now }
-    ensures done { WritesTo R.Sink sink.old sink.new result (report_by asked timed reply.now) }
+    requires short { IsShort settings.is_timed reply.now }
+    ensures done { WritesTo R.Sink sink.old sink.new result
+        (report_by settings.reports settings.is_timed reply.now) }
     ensures faults { CountsFault result (R.faults sink.old) (R.faults sink.new) }
 {
-    if !asked {
+    if !settings.reports {
         return write_all(sink, &[]);
     }
     match reply {
         Reply::Nothing => write_all(sink, &[]),
         Reply::Text { answer, .. } | Reply::Report(answer) => {
-            write_answer(alloc, sink, timed, answer)
+            write_answer(alloc, sink, settings.is_timed, answer)
         }
     }
 }
