@@ -35,7 +35,7 @@ pub record IsStopped (limits : Limits) (p : Parts) (cause : Cause) : Type 0 wher
   pub events : List Event
   pub open_over : IsOpenOver limits p sentences cause events
 
--- time is limited, and was over before such sentences were found
+-- time is limited, and what is sought is shown as not finished within it
 pub record IsLateClash (s : Settings) (cause : Cause) : Type 0 where
   pub timed : s.is_timed ≡ true
   pub over : cause ≡ out_of_time
@@ -45,7 +45,7 @@ abbrev pub IsCoreWithin : Limits → Parts → Core → Type 0
 IsCoreWithin limits p (core.Found ns) = AreIrreducible p ns
 IsCoreWithin limits p (core.Open cause) = IsStopped limits p cause
 
--- what stopped the search for sentences that clash: a limit of the settings, or that time was over
+-- what stopped the search for sentences that clash: a limit of the settings, or that of time
 abbrev pub IsStoppedBy : Settings → Parts → Cause → Type 0
 IsStoppedBy s p cause = IsStopped s.limits p cause ⊎ IsLateClash s cause
 

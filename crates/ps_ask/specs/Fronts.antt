@@ -24,24 +24,24 @@ use Rattle.ps_ask.specs.declared.settings.Style.TheVariants.{Words, Values, Json
 use Rattle.ps_ask.specs.Late.{is_late, is_late_answer}
 
 -- ---- what is judged
--- time is limited, and was over before the verdict was known
+-- time is limited, and the verdict is shown as not finished within it
 pub record IsLateVerdict (s : Settings) (v : Verdict) : Type 0 where
   pub timed : s.is_timed ≡ true
   pub over : v ≡ Open out_of_time
 
--- a verdict that is shown: it is right, and was answered within the limits; or time was over before
+-- a verdict that is shown: it is right, and was answered within the limits; or it is shown as not finished in time
 pub record IsShownVerdict (s : Settings) (p : Parts) (v : Verdict) (events : List Event) : Type 0 where
   pub right : IsRightVerdict (length p.names) (bounds_of p) (verdict_of v)
   pub judged : IsAnsweredVerdict s.limits p v events ⊎ IsLateVerdict s v
 
--- time is limited, and was over before the part was answered; what it claims is valid all the same, and can be printed
+-- time is limited, and the part is shown as not finished within it; what it claims is valid all the same, and can be printed
 pub record IsLatePart (s : Settings) (p : Parts) (q : Query) (part : QueryPart) : Type 0 where
   pub timed : s.is_timed ≡ true
   pub late : is_late_answer part.answer ≡ true
   pub valid : IsValidPart p q (part_of part.answer)
   pub printed : IsPrintedPart part.answer
 
--- so a part is judged: it was answered within the limits; or time was over before
+-- so a part is judged: it was answered within the limits; or it is shown as not finished in time
 abbrev pub IsJudgedPart : Settings → Parts → Query → QueryPart → Type 0
 IsJudgedPart s p q part = IsAnsweredPart s.limits p q part ⊎ IsLatePart s p q part
 
@@ -50,7 +50,7 @@ abbrev pub IsJudgedBeside : Option SideAnswer → Option SideAnswer → QueryPar
 IsJudgedBeside lower upper part = (s : Settings) (p : Parts) (q : Query) → s.is_timed ≡ true → AreFound p q lower upper
     → IsJudgedPart s p q part
 
--- a part that is shown: it is right, and was answered within the limits; or time was over before
+-- a part that is shown: it is right, and was answered within the limits; or it is shown as not finished in time
 pub record IsShownPart (s : Settings) (p : Parts) (q : Query) (part : QueryPart) : Type 0 where
   pub right : IsRightPart (length p.names) (bounds_of p) (query_of p.nodes q) (part_of part.answer)
   pub judged : IsJudgedPart s p q part
@@ -68,8 +68,8 @@ pub record IsUnderWay (s : Settings) (p : Parts) (a : Answer) : Type 0 where
   pub verdict : IsShownVerdict s p a.verdict a.first
   pub parts : AreShownParts s p (take (length a.parts) (asked_after a.verdict p.queries)) a.parts
 
--- a whole answer: its verdict, and a part for each query that is asked behind it. It is valid and right, and unless time was
--- over, each part of it has its certificates or comes of a lawful run within the limits
+-- a whole answer: its verdict, and a part for each query that is asked behind it. It is valid and right, and unless something is
+-- shown as not finished in time, each part of it has its certificates or comes of a lawful run within the limits
 pub record IsWhole (s : Settings) (p : Parts) (a : Answer) : Type 0 where
   pub verdict : IsShownVerdict s p a.verdict a.first
   pub parts : AreShownParts s p (asked_after a.verdict p.queries) a.parts

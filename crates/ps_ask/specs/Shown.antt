@@ -95,7 +95,7 @@ abbrev pub no_output : Output
 no_output = record { text = []; report = []; status = Unreadable }
 
 -- the output shows a whole answer to a problem: it is valid and right, and each part has its certificates or comes of a lawful
--- run, unless time was over
+-- run, unless something is shown as not finished in time
 pub record IsSolvedBy (s : Settings) (name : List ℕ) (p : Parts) (o : Output) : Type 0 where
   pub answer : Answer
   pub whole : IsWhole s p answer

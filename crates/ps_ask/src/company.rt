@@ -6,7 +6,8 @@ use ps_guided::Watch;
 pub const ROUNDS: u32 = 4;
 
 /// What is beside an answer while it is looked for: it tells whether time is over, and is told what
-/// people may want to know meanwhile. Nothing that is answered rests on it, but how much is.
+/// people may want to know meanwhile. What an answer says doesn't depend on it; how much of it is
+/// finished does.
 pub trait Company: Watch {
     /// Messages or warnings about the input.
     fn note(&mut self, text: &[u8]);
