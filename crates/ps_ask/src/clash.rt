@@ -175,6 +175,6 @@ pub fn clash_in<W: Company>(
 {
     match &answer.verdict {
         Verdict::Inconsistent(_) => Ok(Some(clash_for(alloc, problem, settings, watch)?)),
-        Verdict::Consistent(_) | Verdict::Open(_) => Ok(None),
+        Verdict::Open(_) | Verdict::Consistent(_) => Ok(None),
     }
 }
