@@ -27,10 +27,10 @@ use Rattle.ps_ask.specs.Shown.{AsItGoes, CountsReads, IsText, Shown, NoProblem, 
 use Rattle.ps_ask.specs.Replies.{AreShortInTime, Ended, HasShown, Shows, IsDueAfter, IsOf, IsShort, IsShownFor, IsSolvedAfter, last_of, output_after, report_by, status_of, status_with}
 use Rattle.ps_ask.proofs.EndLaws.{ended_as, nothing_appended, nothing_ended}
 
-report-is : (w : Bool) (timed : Bool) (a : Answer) (r : Reply) → IsOf a r → report_by w timed r ≡ wanted_report w timed a
-report-is w timed a Nothing h = absurd h
-report-is w timed a (Text b text) h = ap (wanted_report w timed) h
-report-is w timed a (Report b) h = ap (wanted_report w timed) h
+report-is : (s : Settings) (a : Answer) (r : Reply) → IsOf a r → report_by s r ≡ wanted_report s.reports s.is_timed a
+report-is s a Nothing h = absurd h
+report-is s a (Text b text) h = ap (wanted_report s.reports s.is_timed) h
+report-is s a (Report b) h = ap (wanted_report s.reports s.is_timed) h
 
 status-is : (timed : Bool) (a : Answer) (r : Reply) → IsOf a r → status_of timed r ≡ status_after timed a
 status-is timed a Nothing h = absurd h
@@ -45,7 +45,7 @@ short-is timed a (Report b) h k = subst (AreShortInTime timed) (sym h) k
 output-is : (s : Settings) (p : Parts) (a : Answer) (r : Reply) (t : Beside) → last_of s.is_timed r ≡ last_text s.style s.is_timed p a t → IsOf a r
     → output_after s (begun_text s.style s.digits p a) r ≡ answer_output s p a t
 output-is s p a r t e h =
-    let reported = report-is s.reports s.is_timed a r h in
+    let reported = report-is s a r h in
     let ends = status-is s.is_timed a r h in
     λ i. record { text = begun_text s.style s.digits p a ++ e i; report = reported i; status = ends i }
 

@@ -26,7 +26,7 @@ wrote_by s name bytes o st old new h d e a b = record { output = o; due = d; sta
 module _ (s : Settings) (name : List ℕ) (left : Option (List ℕ)) (r : Reply) (old between new : Option (List ℕ)) (shown : Shows s name left (Ok r) old between) where
   -- a reply was written whole
   pub reply_asked : (st : Status) (before after : Option (List ℕ)) → st ≡ status_of s.is_timed r → Appends between new (last_of s.is_timed r)
-      → Appends before after (report_by s.reports s.is_timed r) → Due s name left st (both old before) (both new after)
+      → Appends before after (report_by s r) → Due s name left st (both old before) (both new after)
   reply_asked st before after e a b = record {
     wrote = λ bytes told.
         let h : IsDueAfter s name bytes old between r = shown.shown bytes told in
@@ -49,7 +49,7 @@ module _ (s : Settings) (name : List ℕ) (left : Option (List ℕ)) (r : Reply)
   }
 
   -- a proper prefix of the report was written
-  pub report_cut : (before after : Option (List ℕ)) → Appends between new (last_of s.is_timed r) → AppendsPrefix before after (report_by s.reports s.is_timed r)
+  pub report_cut : (before after : Option (List ℕ)) → Appends between new (last_of s.is_timed r) → AppendsPrefix before after (report_by s r)
       → Due s name left status.ReportFault (both old before) (both new after)
   report_cut before after a b = record {
     wrote = λ bytes told.

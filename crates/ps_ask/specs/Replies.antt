@@ -34,10 +34,10 @@ last_of timed (Text a text) = text.items
 last_of timed (Report a) = report_of timed a
 
 -- the report that goes beside it, where one is wanted
-abbrev pub report_by : Bool → Bool → Reply → List ℕ
-report_by wanted timed Nothing = []
-report_by wanted timed (Text a text) = wanted_report wanted timed a
-report_by wanted timed (Report a) = wanted_report wanted timed a
+abbrev pub report_by : Settings → Reply → List ℕ
+report_by s Nothing = []
+report_by s (Text a text) = wanted_report s.reports s.is_timed a
+report_by s (Report a) = wanted_report s.reports s.is_timed a
 
 -- the status after it
 abbrev pub status_of : Bool → Reply → Status
@@ -49,7 +49,7 @@ status_of timed (Report a) = status_after timed a
 abbrev pub output_after : Settings → List ℕ → Reply → Output
 output_after s begun r = record {
   text = begun ++ last_of s.is_timed r;
-  report = report_by s.reports s.is_timed r;
+  report = report_by s r;
   status = status_of s.is_timed r;
 }
 

@@ -59,8 +59,7 @@ pub fn write_beside<R: Sink>(
     reply: &Reply,
 ) -> Result<(), WriteFault>
     requires short { IsShort settings.is_timed reply.now }
-    ensures done { WritesTo R.Sink sink.old sink.new result
-        (report_by settings.reports settings.is_timed reply.now) }
+    ensures done { WritesTo R.Sink sink.old sink.new result (report_by settings reply.now) }
     ensures faults { CountsFault result (R.faults sink.old) (R.faults sink.new) }
 {
     if !settings.reports {
