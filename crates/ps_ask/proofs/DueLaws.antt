@@ -119,7 +119,7 @@ unread_shown s name bytes e kind l k o is told = let at = rw is at told in recor
 }
 
 -- all bytes that were left were taken
-whole-is : (most : ℕ) (old new : Option (List ℕ)) (taken bytes : List ℕ) → ReadAll most old new taken → old ≡ Some bytes → taken ≡ bytes
+pub whole-is : (most : ℕ) (old new : Option (List ℕ)) (taken bytes : List ℕ) → ReadAll most old new taken → old ≡ Some bytes → taken ≡ bytes
 whole-is most None new taken bytes h e = absurd (cc)
 whole-is most (Some xs) None taken bytes h e = absurd h.consumed
 whole-is most (Some xs) (Some ys) taken bytes h e =
@@ -144,7 +144,7 @@ pub nothing_kept : (s : Settings) (name : List ℕ) (left : Option (List ℕ)) (
 nothing_kept s name left o = record { shown = λ bytes told. nothing_ended (IsText s name bytes) o }
 
 -- where more than the limit was taken, there was more
-more_is : (limit : ℕ) (xs : List ℕ) (new : Option (List ℕ)) → TookMore limit (Some xs) new → limit < length xs
+pub more_is : (limit : ℕ) (xs : List ℕ) (new : Option (List ℕ)) → TookMore limit (Some xs) new → limit < length xs
 more_is limit xs None h = absurd h.consumed
 more_is limit xs (Some ys) h =
     let all : length xs ≡ length h.taken + length ys = ap length h.consumed ∙ length-append h.taken ys in

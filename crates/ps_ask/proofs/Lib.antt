@@ -7,5 +7,6 @@ pub mod JudgedLaws
 pub mod FrontLaws
 pub mod StepLaws
 pub mod DueLaws
+pub mod ReadLaws
 pub mod RunLaws
 pub mod Decimals

@@ -9,3 +9,5 @@ pub mod Shown
 pub mod Decimals
 -- Bridge: what a reply stands for
 pub mod Replies
+-- How much is read
+pub mod Reads

@@ -6,8 +6,9 @@ ghost use Rattle.ps_ask.specs.Statuses.{HasNoReport, IsSilent};
 ghost use Rattle.ps_ask.specs.Fronts.{IsBegunText};
 ghost use Rattle.ps_ask.specs.Shown.{AreSettings, CountsReads, CountsReports, Due, On};
 ghost use Rattle.ps_ask.specs.Shown.{CountsWrites};
+ghost use Rattle.ps_ask.specs.Reads.{Took};
 ghost use Rattle.ps_ask.specs.Replies.{CountsReadsBy, CountsShown, Stops, IsShort, ShowsFor};
-ghost use Rattle.ps_ask.specs.Replies.{Shows, Solves, Tells};
+ghost use Rattle.ps_ask.specs.Replies.{Shows, Solves, Tells, status_with};
 
 use crate::company::Company;
 use crate::fronts::show_front;
@@ -103,7 +104,7 @@ fn reply_to_bytes<O: Sink, W: Company>(
 }
 
 // The reply to an input behind what is shown as it goes, or why there is none.
-#[tactic(auto, using(crate::proofs::DueLaws::input_shown, crate::proofs::DueLaws::nothing_read, crate::proofs::DueLaws::nothing_kept, crate::proofs::DueLaws::long_shown, crate::proofs::DueLaws::reads_counted_by))]
+#[tactic(auto, using(crate::proofs::DueLaws::input_shown, crate::proofs::DueLaws::nothing_read, crate::proofs::DueLaws::nothing_kept, crate::proofs::DueLaws::long_shown, crate::proofs::DueLaws::reads_counted_by, crate::proofs::ReadLaws::took_by, crate::proofs::ReadLaws::took_more, crate::proofs::ReadLaws::took_long, crate::proofs::ReadLaws::took_less))]
 fn reply_to<I: Source, O: Sink, W: Company>(
     alloc: Global,
     settings: Settings,
@@ -118,6 +119,8 @@ fn reply_to<I: Source, O: Sink, W: Company>(
     ensures short { IfOk result (IsShort settings.is_timed) }
     ensures silent { result ≡ Err errors.ReadFault → sink.new ≡ sink.old }
     ensures reads { CountsReadsBy I.Source source.old source.new settings.is_timed result }
+    ensures read { Took (status_with settings.is_timed result)
+        (I.left source.old) (I.left source.new) }
     ensures faults { CountsShown result (O.faults sink.old) (O.faults sink.new) }
 {
     match read_all(alloc, source, MOST_PROBLEM) {
@@ -159,6 +162,10 @@ pub fn ask<I: Source, O: Sink, R: Sink, W: Company>(
     // memory ran out or a write failed, the front of such an answer.
     ensures due { On O.Sink R.Sink out.old out.new
         (Due settings name.now (I.left source.old) result) }
+
+    // An input is read whole, and of one with more bytes than a problem may have no more than one
+    // read beyond them.
+    ensures read { Took result (I.left source.old) (I.left source.new) }
 
     // Nothing is written where a read failed, and no report where what is shown could not be
     // written, or memory ran out.

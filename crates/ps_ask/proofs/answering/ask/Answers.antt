@@ -1,4 +1,5 @@
 use Rattle.ps_ask.proofs.RunLaws.{has_report, none_asked, not_silent, reads_same, reply_asked, reply_cut, report_cut, reports_counted, writes_counted}
+use Rattle.ps_ask.proofs.ReadLaws.{was_read}
 use Rattle.ps_ask.proofs.answering.ask.Goals as goal
 
 pub returns-in-Err-clause-due : goal.returns-in-Err-clause-due
@@ -49,3 +50,11 @@ returns-clause-due g c =
 pub returns-clause-read_faults : goal.returns-clause-read_faults
 returns-clause-read_faults g c =
     reads_same c.args.settings.is_timed c.in-Ok.reply (g.I.Source.faults c.args.source.now) (g.I.Source.faults c.reply_to.new.source) c.in-Ok.ensures.reads
+
+pub returns-in-Ok-write_last-clause-read : goal.returns-in-Ok-write_last-clause-read
+returns-in-Ok-write_last-clause-read g c =
+    was_read c.args.settings.is_timed c.in-Ok.reply (g.I.Source.left c.args.source.now) (g.I.Source.left c.reply_to.new.source) c.in-Ok.ensures.read
+
+pub returns-clause-read : goal.returns-clause-read
+returns-clause-read g c =
+    was_read c.args.settings.is_timed c.in-Ok.reply (g.I.Source.left c.args.source.now) (g.I.Source.left c.reply_to.new.source) c.in-Ok.ensures.read
