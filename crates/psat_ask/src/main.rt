@@ -11,26 +11,53 @@ mod request;
 mod tests;
 mod texts;
 
+ghost use Rattle.std.specs.Prelude.{◌≡◌, Err, IfErr, IfOk};
+ghost use Rattle.std.specs.IoError.{error_kind};
+ghost use Rattle.psat_ask.specs.Refusals.{refused_by};
+ghost use Rattle.psat_ask.specs.Requests.{HasSettings};
+
 use crate::answering::{answer_all, show};
+use crate::refused::{Refused, WRONG_WORDS};
 use crate::request::{Request, request_of};
 use crate::texts::{HELP, VERSION};
-use std::env;
+use std::alloc::Global;
+use std::env::{self, Args};
+use std::io;
 use std::process::ExitCode;
 
-fn main(rt: HostRuntime) -> anyhow::Result<ExitCode> {
-    let mut words = Vec::new(rt.alloc());
-    for word in env::args(&rt)?.skip(1) {
+// What the words behind the program's name, which is the first, ask for.
+fn request_behind_name(alloc: Global, all: io::Result<Args>) -> Result<Request, Refused>
+    ensures unhad { IfErr all (λ e. result ≡ Err (refused_by (error_kind e))) }
+    ensures settings { IfOk result HasSettings }
+{
+    let all = match all {
+        Ok(all) => all,
+        Err(error) => return Err(Refused::by_system(error.kind())),
+    };
+    let mut words = Vec::new(alloc);
+    for word in all.skip(1) {
         words.push(word)?;
     }
-    let status = match request_of(rt.alloc(), &words) {
+    request_of(alloc, &words)
+}
+
+// Tells why nothing is asked for. Where standard error fails nothing can be told.
+fn tell_refused(rt: &HostRuntime, refused: &Refused) {
+    let _ = eprintln!(rt; "psat_ask: {refused}");
+    if refused.status() == WRONG_WORDS {
+        let _ = eprintln!(rt; "psat_ask: --help shows the options");
+    }
+}
+
+fn main(rt: HostRuntime) -> ExitCode {
+    let status = match request_behind_name(rt.alloc(), env::args(&rt)) {
         Ok(Request::Help) => show(&rt, HELP),
         Ok(Request::Version) => show(&rt, VERSION),
         Ok(Request::Ask(asked)) => answer_all(&rt, &asked),
         Err(refused) => {
-            eprintln!(rt; "psat_ask: {refused}")?;
-            eprintln!(rt; "psat_ask: --help shows the options")?;
-            2
+            tell_refused(&rt, &refused);
+            refused.status()
         }
     };
-    Ok(ExitCode::from(status))
+    ExitCode::from(status)
 }

@@ -4,6 +4,7 @@ ghost use Rattle.ps_ask.specs.Shown.{AreSettings};
 ghost use Rattle.ps_valid.specs.Limits.{IsSmallAnswer};
 ghost use Rattle.psat_ask.specs.Requests.{HasSettings};
 
+use crate::refused::Refused;
 use crate::request::{Asked, Request, request_of};
 use ps_answer::Answer;
 use ps_ask::{ClaimKind, Company, Progress, Settings, Sinks, Sought, Status, Style, Watch, ask};
@@ -199,6 +200,23 @@ fn is_refused(alloc: Global, words: &[&'static str], due: &str) -> bool {
         Some(fault) => fault.as_str() == due,
         None => false,
     }
+}
+
+// Whether a refusal has this number, and this is said of it.
+fn is_told(alloc: Global, refused: &Refused, number: u8, due: &str) -> bool {
+    match format!(in alloc; "{refused}") {
+        Ok(text) => refused.status() == number && text.as_str() == due,
+        Err(_) => false,
+    }
+}
+
+#[test]
+fn refusals_have_numbers(rt: HostRuntime) {
+    let alloc = rt.alloc();
+    assert!(rt; is_told(alloc, &Refused::Wrong("a fault"), 2, "a fault"));
+    assert!(rt; is_told(alloc, &Refused::NotText, 10, "an argument isn't UTF-8"));
+    assert!(rt; is_told(alloc, &Refused::NoWords, 10, "the arguments can't be had"));
+    assert!(rt; is_told(alloc, &Refused::NoMemory, 7, "not enough memory"));
 }
 
 #[test]

@@ -29,6 +29,7 @@ Exit status, with several files the greatest:
   5  reading failed
   6  writing failed
   7  not enough memory
+  10 the arguments can't be had, or one isn't UTF-8; no input was read
 ";
 
 /// What `--version` shows.
