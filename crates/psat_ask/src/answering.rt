@@ -160,13 +160,12 @@ pub fn answer_all(rt: &HostRuntime, asked: &Asked) -> u8
         return answer_file(rt, asked, "-");
     }
     let has_headings = asked.files.len() > 1 && asked.settings.style != Style::Json;
-    let mut greatest = 0;
+    let mut greatest = 0_u8;
     for file in &asked.files {
         if has_headings && !is_written(rt, &["== ", file.as_str(), "\n"]) {
-            return Status::WriteFault.number();
+            return greatest.max(Status::WriteFault.number());
         }
-        let status = answer_file(rt, asked, file.as_str());
-        greatest = if status > greatest { status } else { greatest };
+        greatest = greatest.max(answer_file(rt, asked, file.as_str()));
     }
     greatest
 }
