@@ -1,2 +1,4 @@
+pub mod Numbers
+pub mod Options
 pub mod Refusals
 pub mod Requests

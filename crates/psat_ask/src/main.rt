@@ -3,6 +3,7 @@
 
 mod answering;
 mod company;
+mod number;
 mod options;
 mod progress;
 mod refused;

@@ -1,7 +1,12 @@
 //! Options, and what is asked for without any.
-ghost use Rattle.std.specs.Prelude.{◌≤◌, IfSome};
+ghost use Rattle.std.specs.Prelude.{IfSome};
 ghost use Rattle.ps_ask.specs.Shown.{AreSettings};
+ghost use Rattle.psat_ask.specs.Numbers.{FindsNumber};
+ghost use Rattle.psat_ask.specs.Options.{FindsStyle, FindsValue};
+ghost use Rattle.psat_ask.specs.declared.options.Valued.TheVariants.{Conflicts, Digits, Pivots};
+ghost use Rattle.psat_ask.specs.declared.options.TheConstants.{MOST_SECONDS};
 
+use crate::number::number_within;
 use crate::texts::{NO_REPORT, WRONG_CONFLICTS, WRONG_DIGITS, WRONG_PIVOTS, WRONG_TIME};
 use ps_answer::MOST_PIVOTS;
 use ps_ask::{Settings, Style};
@@ -10,7 +15,7 @@ use ps_guided::Limits;
 use ps_log::MOST_CONFLICTS;
 
 /// The most seconds of a limit of time.
-const MOST_SECONDS: u64 = 86_400;
+pub const MOST_SECONDS: u64 = 86_400;
 
 /// An option with a value.
 #[derive(Clone, Copy, Debug, PartialEq, Eq)]
@@ -69,35 +74,26 @@ pub fn default_settings() -> Settings
     }
 }
 
-// The number of a word, where it is at most so much.
-fn number_upto(word: &str, most: u64) -> Option<u64>
-    ensures { IfSome result (λ n. n ≤ most) }
-{
-    let number = word.parse::<u64>().ok()?;
-    if number <= most { Some(number) } else { None }
-}
-
-// The settings with so many digits of decimals.
+// The settings with as many digits of decimals as a word spells.
 fn with_digits(settings: Settings, word: &str) -> Option<Settings>
     requires { AreSettings settings }
-    ensures { IfSome result AreSettings }
+    ensures found { FindsValue Digits word.now settings result }
+    ensures lawful { IfSome result AreSettings }
 {
-    let digits = number_upto(word, u64::from(MOST_DIGITS))?;
-    if digits == 0 {
-        return None;
-    }
+    let digits = number_within(word, 1, u64::from(MOST_DIGITS))?;
     Some(Settings {
         digits: digits as u32,
         ..settings
     })
 }
 
-// The settings with so many pivots of a run.
+// The settings with as many pivots of a run as a word spells.
 fn with_pivots(settings: Settings, word: &str) -> Option<Settings>
     requires { AreSettings settings }
-    ensures { IfSome result AreSettings }
+    ensures found { FindsValue Pivots word.now settings result }
+    ensures lawful { IfSome result AreSettings }
 {
-    let pivots = number_upto(word, MOST_PIVOTS)?;
+    let pivots = number_within(word, 0, MOST_PIVOTS)?;
     Some(Settings {
         limits: Limits {
             pivots,
@@ -107,12 +103,13 @@ fn with_pivots(settings: Settings, word: &str) -> Option<Settings>
     })
 }
 
-// The settings with so many conflicts of a search.
+// The settings with as many conflicts of a search as a word spells.
 fn with_conflicts(settings: Settings, word: &str) -> Option<Settings>
     requires { AreSettings settings }
-    ensures { IfSome result AreSettings }
+    ensures found { FindsValue Conflicts word.now settings result }
+    ensures lawful { IfSome result AreSettings }
 {
-    let conflicts = number_upto(word, MOST_CONFLICTS)?;
+    let conflicts = number_within(word, 0, MOST_CONFLICTS)?;
     Some(Settings {
         limits: Limits {
             pivots: settings.limits.pivots,
@@ -122,16 +119,18 @@ fn with_conflicts(settings: Settings, word: &str) -> Option<Settings>
     })
 }
 
-/// The seconds of a limit of time.
-pub fn seconds_of(word: &str) -> Option<u64> {
-    let seconds = number_upto(word, MOST_SECONDS)?;
-    if seconds == 0 { None } else { Some(seconds) }
+/// The seconds of a limit of time that a word spells.
+pub fn seconds_of(word: &str) -> Option<u64>
+    ensures { FindsNumber 1 MOST_SECONDS word.now result }
+{
+    number_within(word, 1, MOST_SECONDS)
 }
 
-/// The settings with the value of an option.
+/// The settings with the value that a word spells for an option.
 pub fn with_value(settings: Settings, option: Valued, word: &str) -> Option<Settings>
     requires { AreSettings settings }
-    ensures { IfSome result AreSettings }
+    ensures found { FindsValue option word.now settings result }
+    ensures lawful { IfSome result AreSettings }
 {
     match option {
         Valued::Digits => with_digits(settings, word),
@@ -144,7 +143,8 @@ pub fn with_value(settings: Settings, option: Valued, word: &str) -> Option<Sett
 /// The settings in another style, where none was asked for yet.
 pub fn with_style(settings: Settings, style: Style) -> Option<Settings>
     requires { AreSettings settings }
-    ensures { IfSome result AreSettings }
+    ensures found { FindsStyle style settings result }
+    ensures lawful { IfSome result AreSettings }
 {
     if settings.style != Style::Words && settings.style != style {
         return None;

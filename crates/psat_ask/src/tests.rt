@@ -168,9 +168,18 @@ fn words_ask_for_texts(rt: HostRuntime) {
 }
 
 // Words that ask for nothing, and what is said of them.
-const FAULTS: [(&[&'static str], &str); 8] = [
+const FAULTS: [(&[&'static str], &str); 11] = [
     (&["--digits", "19"], "--digits takes a number from 1 to 18"),
     (&["--digits=0"], "--digits takes a number from 1 to 18"),
+    (&["--digits=+5"], "--digits takes a number from 1 to 18"),
+    (
+        &["--pivots", "007"],
+        "--pivots takes a number from 0 to 1000000",
+    ),
+    (
+        &["--conflicts=00"],
+        "--conflicts takes a number from 0 to 1099511627776",
+    ),
     (
         &["--pivots", "1000001"],
         "--pivots takes a number from 0 to 1000000",
@@ -312,6 +321,8 @@ fn a_limit_of_time_is_asked_for(rt: HostRuntime) -> Result<(), Fail> {
         ["--time-limit", "0"],
         ["--time-limit", "86401"],
         ["--time-limit", "1.5"],
+        ["--time-limit", "+5"],
+        ["--time-limit", "05"],
     ] {
         let fault = fault(alloc, &words).expect(&rt, "a fault");
         assert!(rt; fault.as_str() == "--time-limit takes a number of seconds from 1 to 86400");

@@ -1,0 +1,48 @@
+-- What the words of options set.
+use Rattle.std.specs.Prelude.{◌≡◌, ◌≢◌, List, ℕ, Option, None, MatchOption}
+use Rattle.ps_answer.specs.declared.limits.TheConstants.{MOST_PIVOTS}
+use Rattle.ps_log.specs.declared.limits.TheConstants.{MOST_CONFLICTS}
+use Rattle.ps_decimal.specs.declared.limits.TheConstants.{MOST_DIGITS}
+use Rattle.ps_ask.specs.declared.settings.Settings.{Settings}
+use Rattle.ps_ask.specs.declared.settings.Style.{Style}
+use Rattle.ps_ask.specs.declared.settings.Style.TheVariants.{Words}
+use Rattle.psat_ask.specs.declared.options.Valued.{Valued}
+use Rattle.psat_ask.specs.declared.options.Valued.TheVariants.{Digits, Pivots, Conflicts}
+use Rattle.psat_ask.specs.Numbers.{Spells, SpellsNone}
+
+-- the digits of decimals are those that the word spells, and nothing else changes
+pub record SetsDigits (word : List ℕ) (old new : Settings) : Type 0 where
+  pub spelled : Spells 1 MOST_DIGITS word new.digits
+  pub kept : new ≡ record old { digits = new.digits }
+
+-- the most pivots of a run are those that the word spells, and nothing else changes
+pub record SetsPivots (word : List ℕ) (old new : Settings) : Type 0 where
+  pub spelled : Spells 0 MOST_PIVOTS word new.limits.pivots
+  pub kept : new ≡ record old { limits = record old.limits { pivots = new.limits.pivots } }
+
+-- the most conflicts of a search are those that the word spells, and nothing else changes
+pub record SetsConflicts (word : List ℕ) (old new : Settings) : Type 0 where
+  pub spelled : Spells 0 MOST_CONFLICTS word new.limits.conflicts
+  pub kept : new ≡ record old { limits = record old.limits { conflicts = new.limits.conflicts } }
+
+-- the settings that are found are the old ones with what the word spells for the option; there are none where it spells no number
+-- that may be, and of an option that sets none of them
+abbrev pub FindsValue : Valued → List ℕ → Settings → Option Settings → Type 0
+FindsValue Digits word old found = MatchOption found (SpellsNone 1 MOST_DIGITS word) (SetsDigits word old)
+FindsValue Pivots word old found = MatchOption found (SpellsNone 0 MOST_PIVOTS word) (SetsPivots word old)
+FindsValue Conflicts word old found = MatchOption found (SpellsNone 0 MOST_CONFLICTS word) (SetsConflicts word old)
+FindsValue other word old found = found ≡ None
+
+-- settings have another style than this one, and it was asked for
+pub record HasOtherStyle (settings : Settings) (style : Style) : Type 0 where
+  pub asked : settings.style ≢ Words
+  pub other : settings.style ≢ style
+
+-- the old settings may take the style; then nothing else changes
+pub record SetsStyle (style : Style) (old new : Settings) : Type 0 where
+  pub free : ¬ HasOtherStyle old style
+  pub kept : new ≡ record old { style = style }
+
+-- the settings that are found are the old ones in the style; there are none where another was asked for
+abbrev pub FindsStyle : Style → Settings → Option Settings → Type 0
+FindsStyle style old found = MatchOption found (HasOtherStyle old style) (SetsStyle style old)
