@@ -22,8 +22,8 @@ fn tell(rt: &HostRuntime, name: &str, failure: &str) {
 
 // Tells that standard output failed, but where its reader has gone, as `head` does: it wants nothing
 // more, also no message.
-fn tell_output(rt: &HostRuntime, is_left: bool) {
-    if !is_left {
+fn tell_output(rt: &HostRuntime, has_reader_gone: bool) {
+    if !has_reader_gone {
         tell(rt, OUTPUT, "writing failed");
     }
 }
@@ -32,7 +32,7 @@ fn tell_output(rt: &HostRuntime, is_left: bool) {
 fn tell_status(rt: &HostRuntime, name: &str, report: &str, reports: bool, ended: Ended) {
     match ended.status {
         Status::ReadFault => tell(rt, name, "reading failed"),
-        Status::WriteFault => tell_output(rt, ended.is_left),
+        Status::WriteFault => tell_output(rt, ended.has_reader_gone),
         Status::ReportFault => tell(rt, report, "writing failed"),
         Status::NoMemory => tell(rt, name, "not enough memory"),
         Status::Late if reports => tell(rt, name, "no report: not finished within the time limit"),
@@ -44,7 +44,7 @@ fn tell_status(rt: &HostRuntime, name: &str, report: &str, reports: bool, ended:
 #[derive(Clone, Copy, Drop)]
 struct Ended {
     status: Status,
-    is_left: bool,
+    has_reader_gone: bool,
 }
 
 // Answers an input over an outlet, with its report to a sink.
@@ -87,7 +87,7 @@ fn answer_to<I: Source, R: Sink + Drop>(
     let status = answer_over(rt, asked, name, source, &mut outlet, report);
     Ended {
         status,
-        is_left: outlet.is_left(),
+        has_reader_gone: outlet.is_left(),
     }
 }
 
@@ -131,8 +131,8 @@ fn answer_file(rt: &HostRuntime, asked: &Asked, file: &str) -> u8
     answer_source(rt, asked, file, &mut input)
 }
 
-// Writes texts one behind the other, whole; where that fails, it is told.
-fn is_written(rt: &HostRuntime, texts: &[&str]) -> bool {
+// Writes texts one behind the other: whether they are written whole. Where they aren't, it is told.
+fn write_texts(rt: &HostRuntime, texts: &[&str]) -> bool {
     let mut outlet = Outlet::new(rt.stdout());
     let mut output = StdSink::new(&mut outlet);
     for text in texts {
@@ -146,7 +146,7 @@ fn is_written(rt: &HostRuntime, texts: &[&str]) -> bool {
 
 /// Writes a text alone: the status.
 pub fn show(rt: &HostRuntime, text: &str) -> u8 {
-    if is_written(rt, &[text]) {
+    if write_texts(rt, &[text]) {
         return 0;
     }
     Status::WriteFault.number()
@@ -162,7 +162,7 @@ pub fn answer_all(rt: &HostRuntime, asked: &Asked) -> u8
     let has_headings = asked.files.len() > 1 && asked.settings.style != Style::Json;
     let mut greatest = 0_u8;
     for file in &asked.files {
-        if has_headings && !is_written(rt, &["== ", file.as_str(), "\n"]) {
+        if has_headings && !write_texts(rt, &["== ", file.as_str(), "\n"]) {
             return greatest.max(Status::WriteFault.number());
         }
         greatest = greatest.max(answer_file(rt, asked, file.as_str()));
