@@ -1,21 +1,18 @@
 //! What is found by guesses.
-ghost use Rattle.std.specs.Prelude.{◌≡◌, ◌↔◌, None, length, IfOk, IfSome, IsTrue};
+ghost use Rattle.std.specs.Prelude.{◌≡◌, ◌↔◌, length, IfOk, IfSome, IsTrue};
 ghost use Rattle.ps_runs.specs.Kept.{IsChoice, kept_parts};
-ghost use Rattle.ps_guess.specs.Trials.{IsFoundDual, IsFoundModel};
+ghost use Rattle.ps_guess.specs.Trials.{IsFoundModel};
 ghost use Rattle.ps_explain.specs.Explanations.{AreAmong};
 ghost use Rattle.ps_explain.specs.Steps.{IsAmongAt, IsConflictAmong};
 
 use crate::conflict::Conflict;
 use crate::numbers::is_kept;
 use crate::used::used_by;
-use ps_answer::{Dual, Model};
-use ps_guess::{Trial, Trials};
+use ps_answer::Model;
+use ps_guess::{Trial, Trials, find_nothing};
 use ps_guesser::Guesser;
 use ps_io::NoMemory;
 use std::alloc::Global;
-
-/// How often a dual is guessed at most. Each guess but the last adds a world.
-const MOST_GUESSES: u32 = 1000000;
 
 /// The guess, where it is a distribution that meets the kept sentences.
 pub(crate) fn shown_model(
@@ -50,27 +47,6 @@ pub(crate) fn find_model<G: Guesser>(
     shown_model(alloc, trials, kept, guess)
 }
 
-/// A dual that is found to exclude each distribution.
-fn find_dual<G: Guesser>(
-    alloc: Global,
-    trials: &Trials<'_>,
-    guesser: &mut G,
-) -> Result<Option<Dual>, NoMemory>
-    ensures { IfOk result (λ o. IfSome o (IsFoundDual trials.now None)) }
-{
-    for _ in 0..MOST_GUESSES {
-        let Some(dual) = guesser.nothing(trials.problem(), None)? else {
-            return Ok(None);
-        };
-        match trials.nothing(alloc, None, dual)? {
-            Trial::Shown(dual) => return Ok(Some(dual)),
-            Trial::Found(world) => guesser.add(world)?,
-            Trial::Wrong(_) | Trial::Spent => return Ok(None),
-        }
-    }
-    Ok(None)
-}
-
 /// Whether the sentence at a place is kept by the second list if it is by the first.
 fn is_among(few: &[bool], many: &[bool], place: usize) -> bool
     ensures { IsTrue result ↔ IsAmongAt few.now many.now place }
@@ -103,7 +79,7 @@ pub(crate) fn find_conflict<G: Guesser>(
     requires kept { IsChoice kept.now trials.now }
     ensures { IfOk result (λ o. IfSome o (IsConflictAmong trials.now kept.now)) }
 {
-    let Some(dual) = find_dual(alloc, trials, guesser)? else {
+    let Some(dual) = find_nothing(alloc, trials, None, guesser)? else {
         return Ok(None);
     };
     let sentences = trials.problem().sentences().as_slice();

@@ -2,6 +2,7 @@
 #![tactic(auto)]
 
 mod bound;
+mod found;
 mod kept;
 mod limits;
 mod model;
@@ -10,5 +11,6 @@ mod searching;
 mod trial;
 mod trials;
 
+pub use found::{find_model, find_nothing, find_side};
 pub use trial::Trial;
 pub use trials::Trials;

@@ -10,10 +10,9 @@ ghost use Rattle.ps_guided.specs.Solutions.{AreAnsweredParts, IsAnsweredPart};
 ghost use Rattle.ps_guided.specs.Solutions.{IsAnsweredVerdict, IsSettledSolution};
 
 use crate::beside::{beside_run, both_found};
-use crate::found::{find_model, find_nothing, find_side};
 use ps_answer::{Answer, Parts, QueryAnswer, QueryPart, SideAnswer, Verdict};
 use ps_claims::ClaimKind;
-use ps_guess::Trials;
+use ps_guess::{Trials, find_model, find_nothing, find_side};
 use ps_guesser::Guesser;
 use ps_io::{List, NoMemory};
 use ps_pool::Trace;

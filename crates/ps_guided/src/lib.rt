@@ -5,7 +5,6 @@
 
 mod answering;
 mod beside;
-mod found;
 mod in_time;
 mod known;
 #[cfg(test)]
@@ -15,7 +14,6 @@ mod turns;
 mod watch;
 
 pub use answering::{answer, answer_part, answer_verdict};
-pub use found::find_nothing;
 pub use in_time::InTime;
 pub use known::Known;
 pub use ps_guesser::{Guess, Guesser, Progress};

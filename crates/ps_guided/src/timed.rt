@@ -9,14 +9,13 @@ ghost use Rattle.ps_guided.specs.Known.{HasAnswer, IsKnown, KeepsKnown, KeepsSid
 ghost use Rattle.ps_guided.specs.declared.turns.TheConstants.{MOST_TURNS};
 
 use crate::answering::run_beside;
-use crate::found::{find_model, find_nothing, find_side};
 use crate::in_time::InTime;
 use crate::known::{Known, known_behind, known_by};
 use crate::turns::{MOST_TURNS, are_greatest, limits_at};
 use crate::watch::Watch;
 use ps_answer::{QueryAnswer, QueryPart, SideAnswer, Verdict};
 use ps_claims::ClaimKind;
-use ps_guess::Trials;
+use ps_guess::{Trials, find_model, find_nothing, find_side};
 use ps_guesser::Guesser;
 use ps_io::{List, NoMemory};
 use ps_pool::Trace;

@@ -3,9 +3,10 @@ ghost use Rattle.std.specs.Prelude.{IfOk, IfSome};
 ghost use Rattle.ps_problem.specs.Problems.{HasNodes};
 ghost use Rattle.ps_guess.specs.Trials.{IsFoundDual, IsFoundModel, IsFoundSide};
 
+use crate::trial::Trial;
+use crate::trials::Trials;
 use ps_answer::{Dual, Model, SideAnswer};
 use ps_claims::ClaimKind;
-use ps_guess::{Trial, Trials};
 use ps_guesser::{Guess, Guesser};
 use ps_io::NoMemory;
 use ps_problem::Query;
