@@ -7,7 +7,6 @@ use Rattle.std.proofs.lemmas.Fmt.{decimal_injective}
 use Rattle.std.proofs.lemmas.List.Elements.{All-nil, All-cons}
 use Rattle.ps_phases.specs.declared.limits.Limits.{Limits}
 use Rattle.ps_generation.specs.Phases.{AreLimits}
-use Rattle.ps_make.specs.declared.made.TheConstants.{MOST_LINKS}
 use Rattle.psat.specs.declared.command.Command.{Command}
 use Rattle.psat.specs.declared.command.Command.TheVariants.{Check, Explain, Make, Solve}
 use Rattle.psat.specs.declared.command.Limit.{Limit}
@@ -110,7 +109,7 @@ name-is name words c h = let n = named (name ∷ words) c h in head name (name_o
 pub no_words : (c : Command) → ¬ Spell [] c
 no_words c h = let n = named [] c h in let e = n.1 in absurd (cc)
 
-first_of : List ℕ → ℕ
+pub first_of : List ℕ → ℕ
 first_of w = get_or w 0 0
 
 -- commands of other names aren't spelled by the same words
@@ -121,7 +120,7 @@ apart words c d other g h =
     other (ap first_of (head (name_of c) (name_of d) a.0 b.0 (sym a.1 ∙ b.1)))
 
 -- words behind a name that spell no command of this name spell none
-name_none : (name : List ℕ) (words : List (List ℕ)) → ((c : Command) → name ≡ name_of c → ¬ Spell (name ∷ words) c) → SpellNone (name ∷ words)
+pub name_none : (name : List ℕ) (words : List (List ℕ)) → ((c : Command) → name ≡ name_of c → ¬ Spell (name ∷ words) c) → SpellNone (name ∷ words)
 name_none name words not = record { none = λ c h. not c (name-is name words c h) h }
 
 -- words that no command has a name for
@@ -147,7 +146,7 @@ same_settings front limits words a b =
     settings-are b.settings a.settings b.are.within a.are.within (behind_same front (setting_words b.settings) (setting_words a.settings) (sym b.words_are ∙ a.words_are))
 
 -- the limits of runs are set to one value each
-one_set : (front words : List (List ℕ)) (v w : LimitValue) (j k : ℕ) → SetRuns front v j words → SetRuns front w k words → (v ≡ w) × (j ≡ k)
+pub one_set : (front words : List (List ℕ)) (v w : LimitValue) (j k : ℕ) → SetRuns front v j words → SetRuns front w k words → (v ≡ w) × (j ≡ k)
 one_set front words v w j k a b =
     let same = same_settings front (Pivots ∷ Conflicts ∷ []) words a.spelled b.spelled in (
       one_value a.spelled.settings a.spelled.are.once Pivots v w a.pivots_are (subst (λ (ss : List LimitSetting). IsSetTo ss Pivots w) same b.pivots_are),
@@ -227,7 +226,7 @@ spelled_limits words (Explain l e) h = runs_limits (codes "explain") words l e h
 spelled_limits words (Make n l) h = record { some = h.some; few = h.few; limits_are = set_limits (codes "make" ∷ decimal n ∷ []) words l h.set }
 
 -- ---- settings of runs behind words
-set_behind : (front words : List (List ℕ)) (v : LimitValue) (k : ℕ) → SetRuns [] v k words → SetRuns front v k (front ++ words)
+pub set_behind : (front words : List (List ℕ)) (v : LimitValue) (k : ℕ) → SetRuns [] v k words → SetRuns front v k (front ++ words)
 set_behind front words v k h = record {
   spelled = record { settings = h.spelled.settings; words_are = ap (λ (ws : List (List ℕ)). front ++ ws) h.spelled.words_are; are = h.spelled.are };
   pivots_are = h.pivots_are;
@@ -259,7 +258,7 @@ explain_spelled words s l e h p q =
     (subst (λ (b : Bool). SpellRuns (codes "explain") (limits_by s.pivots s.conflicts) b (codes "explain" ∷ words)) (sym q) (runs_spelled (codes "explain") words s.pivots s.conflicts h))
 
 -- a command of another name
-other : (a b : List ℕ) → first_of a ≢ first_of b → a ≢ b
+pub other : (a b : List ℕ) → first_of a ≢ first_of b → a ≢ b
 other a b differ e = differ (ap first_of e)
 
 pub solve_unspelled : (words : List (List ℕ)) → SetNoRuns words → SpellNone (codes "solve" ∷ words)
@@ -281,63 +280,6 @@ explain_unspelled words not = name_none (codes "explain") words by
     by (Check n) is h = other (codes "explain") (codes "check") (λ x. omega (arith, x)) is
     by (Solve l e) is h = other (codes "explain") (codes "solve") (λ x. omega (arith, x)) is
     by (Make n l) is h = other (codes "explain") (codes "make") (λ x. omega (arith, x)) is
-
--- ---- behind the name of `make`
-make_none : (words : List (List ℕ)) → ((n : ℕ) (l : Limits) → ¬ SpellMake n l (codes "make" ∷ words)) → SpellNone (codes "make" ∷ words)
-unfolding first_of
-make_none words not = name_none (codes "make") words by
-  where
-    by : (c : Command) → codes "make" ≡ name_of c → ¬ Spell (codes "make" ∷ words) c
-    by (Make n l) is h = not n l h
-    by (Check n) is h = other (codes "make") (codes "check") (λ x. omega (arith, x)) is
-    by (Solve l e) is h = other (codes "make") (codes "solve") (λ x. omega (arith, x)) is
-    by (Explain l e) is h = other (codes "make") (codes "explain") (λ x. omega (arith, x)) is
-
--- what the words behind the number set
-make_behind : (word : List ℕ) (words : List (List ℕ)) (n : ℕ) (l : Limits) → SpellMake n l (codes "make" ∷ word ∷ words) → (word ≡ decimal n) × SetRuns [] (Number l.pivots) l.conflicts words
-make_behind word words n l h =
-    let behind = tail (codes "make") (codes "make") (word ∷ words) (decimal n ∷ setting_words h.set.spelled.settings) h.set.spelled.words_are in (
-      head word (decimal n) words (setting_words h.set.spelled.settings) behind,
-      record {
-        spelled = record {
-          settings = h.set.spelled.settings;
-          words_are = tail word (decimal n) words (setting_words h.set.spelled.settings) behind;
-          are = h.set.spelled.are;
-        };
-        pivots_are = h.set.pivots_are;
-        conflicts_are = h.set.conflicts_are;
-      },
-    )
-
-pub make_spelled : (words : List (List ℕ)) (n : ℕ) (s : RunSettings) (l : Limits) → 1 ≤ n → n ≤ MOST_LINKS → SetRuns [] s.pivots s.conflicts words → is_enough s.pivots ≡ false
-    → l ≡ limits_by s.pivots s.conflicts → Spell (codes "make" ∷ decimal n ∷ words) (Make n l)
-make_spelled words n s l some few h not is = by s.pivots h not is
-  where
-    by : (v : LimitValue) → SetRuns [] v s.conflicts words → is_enough v ≡ false → l ≡ limits_by v s.conflicts → SpellMake n l (codes "make" ∷ decimal n ∷ words)
-    by (Number p) h not is =
-        subst (λ (x : Limits). SpellMake n x (codes "make" ∷ decimal n ∷ words)) (sym is)
-        (record { some = some; few = few; set = set_behind (codes "make" ∷ decimal n ∷ []) words (Number p) s.conflicts h })
-    by Enough h not is = absurd (cc)
-
-pub make_unset : (word : List ℕ) (words : List (List ℕ)) → SetNoRuns words → SpellNone (codes "make" ∷ word ∷ words)
-make_unset word words not = make_none (word ∷ words) (λ n l h. not.none (Number l.pivots) l.conflicts (make_behind word words n l h).1)
-
--- `enough` is no number
-pub make_enough : (word : List ℕ) (words : List (List ℕ)) (s : RunSettings) → SetRuns [] s.pivots s.conflicts words → is_enough s.pivots ≡ true → SpellNone (codes "make" ∷ word ∷ words)
-make_enough word words s h is = make_none (word ∷ words) (λ n l m. by s.pivots l.pivots is (one_set [] words s.pivots (Number l.pivots) s.conflicts l.conflicts h (make_behind word words n l m).1).0)
-  where
-    by : (v : LimitValue) (p : ℕ) → is_enough v ≡ true → v ≡ Number p → ⊥
-    by (Number q) p holds same = absurd (cc)
-    by Enough p holds same = absurd (cc)
-
-pub make_uncounted : (word : List ℕ) (words : List (List ℕ)) → SpellsNoLinks word → SpellNone (codes "make" ∷ word ∷ words)
-make_uncounted word words not = make_none (word ∷ words) (λ n l h. not.none n h.some h.few (make_behind word words n l h).0)
-
-pub make_alone : (words : List (List ℕ)) → words ≡ [] → SpellNone (codes "make" ∷ words)
-make_alone words e = make_none words not
-  where
-    not : (n : ℕ) (l : Limits) → ¬ SpellMake n l (codes "make" ∷ words)
-    not n l h = let same = tail (codes "make") (codes "make") words (decimal n ∷ setting_words h.set.spelled.settings) h.set.spelled.words_are in absurd (cc)
 
 -- ---- the words of strings
 pub words-empty : (xs : List (String Global)) → length xs ≡ 0 → words_of xs ≡ []

@@ -1,6 +1,7 @@
 pub mod Settings
 pub mod RunWords
 pub mod CommandLaws
+pub mod MakeWords
 pub mod SideText
 pub mod MadeText
 pub mod DueLaws

@@ -1,7 +1,7 @@
 use Rattle.std.proofs.Common.{sym, ◌∙◌}
 use Rattle.std.specs.Fmt.{decimal}
 use Rattle.psat.specs.Commands.{words_of}
-use Rattle.psat.proofs.CommandLaws.{make_enough, make_spelled, make_unset}
+use Rattle.psat.proofs.MakeWords.{make_enough, make_spelled, make_unset}
 use Rattle.psat.proofs.command.make_by.Goals as goal
 
 pub returns-in_err-settings : goal.returns-in_err-settings
