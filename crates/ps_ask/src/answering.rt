@@ -182,7 +182,10 @@ pub fn ask<I: Source, O: Sink, R: Sink, W: Company>(
     let timed = settings.is_timed;
     let reply = match reply_to(alloc, settings, name, source, &mut out.shown, watch) {
         Ok(reply) => reply,
-        Err(error) => return error.status(),
+        Err(error) => {
+            watch.clear();
+            return error.status();
+        }
     };
     watch.clear();
     match write_last(alloc, &mut out.shown, timed, &reply) {

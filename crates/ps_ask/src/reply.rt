@@ -11,7 +11,8 @@ use ps_answer::Answer;
 pub enum Reply {
     /// Nothing: the input is too long, or no problem.
     Nothing,
-    /// Of an answer that was shown as it went, or not, what is shown at the end.
+    /// An answer, with the text that is shown at its end: which sentences clash, an object, or
+    /// nothing.
     Text { answer: Answer, text: Vec<u8> },
     /// An answer, by its report.
     Report(Answer),

@@ -4,15 +4,15 @@ ghost use Rattle.ps_ask.specs.Shown.{AreSettings};
 use crate::{ClaimKind, Company, Progress, Settings, Sinks, Sought, Status, Style, Watch, ask};
 use late_rows::{LATE, RESTS};
 use ps_guided::Limits;
-use ps_io::{MemSink, MemSource};
-use rows::{OPEN, PROBLEM, ROWS, Row, WORDS};
+use ps_io::{MemSink, MemSource, NoMemory};
+use rows::{OPEN, PROBLEM, ROWS, Row, UNWARNED, WORDS};
 use std::alloc::Global;
 use std::test::*;
 
 mod late_rows;
 mod rows;
 
-const MANY_DIGITS: u32 = 3;
+const DIGITS: u32 = 3;
 
 fn settings(style: Style) -> Settings
     ensures { AreSettings result }
@@ -22,7 +22,7 @@ fn settings(style: Style) -> Settings
             pivots: 10_000,
             conflicts: 20_000,
         },
-        digits: MANY_DIGITS,
+        digits: DIGITS,
         style,
         reports: true,
         warns: true,
@@ -59,6 +59,22 @@ impl Company for Asked {
     fn clear(&mut self) {}
 }
 
+// Time is over once this was asked so often.
+fn asked(alloc: Global, left: u32) -> Asked {
+    Asked {
+        left,
+        notes: Vec::new(alloc),
+    }
+}
+
+// A sink of so many bytes for what is shown, and one for the report.
+fn sinks(alloc: Global, most: u64) -> Result<Sinks<MemSink, MemSink>, NoMemory> {
+    Ok(Sinks {
+        shown: MemSink::new(alloc, 8, Vec::new(alloc), most)?,
+        report: MemSink::new(alloc, 8, Vec::new(alloc), 10_000)?,
+    })
+}
+
 fn shows(alloc: Global, settings: Settings, row: &Row) -> Result<bool, Fail>
     requires { AreSettings settings }
 {
@@ -71,14 +87,8 @@ fn shows_in_time(alloc: Global, settings: Settings, left: u32, row: &Row) -> Res
 {
     let bytes = Vec::from_slice(alloc, row.text)?;
     let mut source = MemSource::new(bytes, 7, Vec::new(alloc));
-    let mut sinks = Sinks {
-        shown: MemSink::new(alloc, 8, Vec::new(alloc), 10_000)?,
-        report: MemSink::new(alloc, 8, Vec::new(alloc), 10_000)?,
-    };
-    let mut watch = Asked {
-        left,
-        notes: Vec::new(alloc),
-    };
+    let mut sinks = sinks(alloc, 10_000)?;
+    let mut watch = asked(alloc, left);
     let status = ask(alloc, settings, "f", &mut source, &mut sinks, &mut watch);
     Ok(
         status == row.status
@@ -92,6 +102,31 @@ fn inputs_are_answered(rt: HostRuntime) -> Result<(), Fail> {
     for row in &ROWS {
         assert!(rt; shows(rt.alloc(), settings(row.style), row)?);
     }
+    Ok(())
+}
+
+#[test]
+fn warnings_are_left_out_where_none_are_wanted(rt: HostRuntime) -> Result<(), Fail> {
+    for row in &UNWARNED {
+        let mut unwarned = settings(row.style);
+        unwarned.warns = false;
+        assert!(rt; shows(rt.alloc(), unwarned, row)?);
+    }
+    Ok(())
+}
+
+#[test]
+fn an_input_that_is_too_long_is_told(rt: HostRuntime) -> Result<(), Fail> {
+    let alloc = rt.alloc();
+    let mut blanks = Vec::new(alloc);
+    blanks.resize(1_048_577, b' ')?;
+    let mut source = MemSource::new(blanks, 65_536, Vec::new(alloc));
+    let mut sinks = sinks(alloc, 10_000)?;
+    let mut watch = asked(alloc, 0);
+    let words = settings(Style::Words);
+    let status = ask(alloc, words, "f", &mut source, &mut sinks, &mut watch);
+    assert!(rt; status == Status::Unreadable && sinks.shown.bytes().is_empty());
+    assert!(rt; watch.notes.as_slice() == b"f: the input has more than 1048576 bytes\n".as_slice());
     Ok(())
 }
 
@@ -149,22 +184,10 @@ fn a_full_sink_holds_the_front(rt: HostRuntime) -> Result<(), Fail> {
     let alloc = rt.alloc();
     let bytes = Vec::from_slice(alloc, PROBLEM)?;
     let mut source = MemSource::new(bytes, 7, Vec::new(alloc));
-    let mut sinks = Sinks {
-        shown: MemSink::new(alloc, 8, Vec::new(alloc), 100)?,
-        report: MemSink::new(alloc, 8, Vec::new(alloc), 10_000)?,
-    };
-    let mut watch = Asked {
-        left: 0,
-        notes: Vec::new(alloc),
-    };
-    let status = ask(
-        alloc,
-        settings(Style::Words),
-        "f",
-        &mut source,
-        &mut sinks,
-        &mut watch,
-    );
+    let mut sinks = sinks(alloc, 100)?;
+    let mut watch = asked(alloc, 0);
+    let words = settings(Style::Words);
+    let status = ask(alloc, words, "f", &mut source, &mut sinks, &mut watch);
     assert!(rt; status == Status::WriteFault);
     assert!(rt; sinks.shown.bytes() == &WORDS.as_bytes()[..100]);
     assert!(rt; sinks.report.bytes().is_empty());

@@ -162,6 +162,24 @@ pub const ROWS: [Row; 9] = [
     },
 ];
 
+// Of problems that are warned of, what is shown and noted where no warnings are wanted.
+pub const UNWARNED: [Row; 2] = [
+    Row {
+        text: PROBLEM,
+        style: Style::Words,
+        shown: WORDS,
+        noted: "",
+        status: Status::Done,
+    },
+    Row {
+        text: IDLE,
+        style: Style::Values,
+        shown: "consistent\n0.000 1.000\n",
+        noted: "",
+        status: Status::Done,
+    },
+];
+
 pub const OPEN: Row = Row {
     text: b"psat 1; P(a <-> b) = 1; P(b <-> c) = 1; P(a <-> !c) = 1; query P(a); end;",
     style: Style::Words,
