@@ -4,7 +4,7 @@ use ps_ask::{ClaimKind, Company, Progress, Sought, Watch};
 use std::io::IsTerminal;
 use std::time::{Duration, Instant};
 
-/// As many blanks as the longest line that tells how far an answer is, between returns to its start.
+/// More blanks than a usual line has that tells how far an answer is, between returns to its start.
 const BLANK: &str =
     "\r                                                                              \r";
 
@@ -12,8 +12,10 @@ const BLANK: &str =
 #[derive(Drop)]
 pub struct Beside<'a> {
     rt: &'a HostRuntime,
-    // When the answer was begun, and how long it may take. No clock is read without a limit.
-    limit: Option<(Instant, Duration)>,
+    // How long the answer may take, and when it was first asked whether that is over. No clock is
+    // read without a limit.
+    limit: Option<Duration>,
+    start: Option<Instant>,
     is_over: bool,
     // Whether standard error is a terminal, where a line tells how far the answer is.
     is_terminal: bool,
@@ -22,24 +24,31 @@ pub struct Beside<'a> {
 }
 
 impl<'a> Beside<'a> {
-    /// Beside an answer that is begun now and may take so many seconds, where that is limited. A
-    /// clock that can't be read ends it at once.
+    /// Beside an answer that may take so many seconds, where that is limited. They are counted from
+    /// when it is first asked whether they are over: an answer asks once its problem is read. A clock
+    /// that can't be read ends it at once.
     pub fn new(rt: &'a HostRuntime, seconds: Option<u64>) -> Beside<'a> {
-        let mut beside = Beside {
+        Beside {
             rt,
-            limit: None,
+            limit: seconds.map(Duration::from_secs),
+            start: None,
             is_over: false,
             is_terminal: rt.stderr().is_terminal(),
             is_told: false,
             sought: Sought::Verdict,
-        };
-        if let Some(seconds) = seconds {
-            match Instant::now(rt) {
-                Ok(start) => beside.limit = Some((start, Duration::from_secs(seconds))),
-                Err(_) => beside.is_over = true,
-            }
         }
-        beside
+    }
+
+    // Whether so much time went by since this was first asked.
+    fn is_past(&mut self, limit: Duration) -> bool {
+        let Some(start) = self.start else {
+            self.start = Instant::now(self.rt).ok();
+            return self.start.is_none();
+        };
+        match start.elapsed(self.rt) {
+            Ok(elapsed) => elapsed >= limit,
+            Err(_) => true,
+        }
     }
 
     // Writes the line that tells what is sought, and how far it is.
@@ -57,12 +66,9 @@ impl<'a> Beside<'a> {
 
 impl<'a> Watch for Beside<'a> {
     fn is_over(&mut self) -> bool {
-        if let Some((start, limit)) = self.limit {
+        if let Some(limit) = self.limit {
             if !self.is_over {
-                self.is_over = match start.elapsed(self.rt) {
-                    Ok(elapsed) => elapsed >= limit,
-                    Err(_) => true,
-                };
+                self.is_over = self.is_past(limit);
             }
         }
         self.is_over
