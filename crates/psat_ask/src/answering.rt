@@ -2,8 +2,9 @@
 ghost use Rattle.ps_ask.specs.Shown.{AreSettings};
 
 use crate::company::Beside;
+use crate::report_file::ReportFile;
 use crate::request::Asked;
-use ps_ask::{Sinks, Status, Style, ask};
+use ps_ask::{Settings, Sinks, Status, Style, ask};
 use ps_io::{MemSink, Sink, Source, StdSink, StdSource, write_all};
 use ps_outlet::Outlet;
 use std::fs::File;
@@ -28,14 +29,20 @@ fn tell_output(rt: &HostRuntime, has_reader_gone: bool) {
     }
 }
 
-// Tells what failed in the answer to an input.
-fn tell_status(rt: &HostRuntime, name: &str, report: &str, reports: bool, ended: Ended) {
+// Whether a report is wanted, alone or beside what is shown.
+fn wants_report(settings: Settings) -> bool {
+    settings.reports || settings.style == Style::Report
+}
+
+// Tells what failed in the answer to an input, but for its report.
+fn tell_status(rt: &HostRuntime, asked: &Asked, name: &str, ended: Ended) {
     match ended.status {
         Status::ReadFault => tell(rt, name, "reading failed"),
         Status::WriteFault => tell_output(rt, ended.has_reader_gone),
-        Status::ReportFault => tell(rt, report, "writing failed"),
         Status::NoMemory => tell(rt, name, "not enough memory"),
-        Status::Late if reports => tell(rt, name, "no report: not finished within the time limit"),
+        Status::Late if wants_report(asked.settings) => {
+            tell(rt, name, "no report: not finished within the time limit");
+        }
         _ => {}
     }
 }
@@ -91,32 +98,49 @@ fn answer_to<I: Source, R: Sink + Drop>(
     }
 }
 
+// Answers an input, with its report to a file.
+fn answer_with_report<I: Source>(
+    rt: &HostRuntime,
+    asked: &Asked,
+    name: &str,
+    source: &mut I,
+    file: &str,
+) -> Ended
+    requires { AreSettings asked.now.settings }
+{
+    let mut report = ReportFile::new(rt, file);
+    let ended = answer_to(rt, asked, name, source, StdSink::new(&mut report));
+    if ended.status == Status::ReportFault {
+        if report.is_refused() {
+            tell(rt, file, "can't be created");
+        } else {
+            tell(rt, file, "writing failed");
+        }
+    }
+    ended
+}
+
 // Answers an input, with its report to a file where one is wanted.
-fn answer_source<I: Source>(rt: &HostRuntime, asked: &Asked, name: &str, source: &mut I) -> u8
+fn answer_source<I: Source>(rt: &HostRuntime, asked: &Asked, name: &str, source: &mut I) -> Status
     requires { AreSettings asked.now.settings }
 {
     let alloc = rt.alloc();
-    let Some(file) = &asked.report else {
-        let Ok(none) = MemSink::new(alloc, 1, Vec::new(alloc), 0) else {
-            tell(rt, name, "not enough memory");
-            return Status::NoMemory.number();
-        };
-        let ended = answer_to(rt, asked, name, source, none);
-        let reports = asked.settings.style == Style::Report;
-        tell_status(rt, name, OUTPUT, reports, ended);
-        return ended.status.number();
+    let ended = match &asked.report {
+        Some(file) => answer_with_report(rt, asked, name, source, file.as_str()),
+        None => {
+            let Ok(none) = MemSink::new(alloc, 1, Vec::new(alloc), 0) else {
+                tell(rt, name, "not enough memory");
+                return Status::NoMemory;
+            };
+            answer_to(rt, asked, name, source, none)
+        }
     };
-    let Ok(created) = File::create(rt, file.as_str()) else {
-        tell(rt, file.as_str(), "can't be created");
-        return Status::ReportFault.number();
-    };
-    let ended = answer_to(rt, asked, name, source, StdSink::new(created));
-    tell_status(rt, name, file.as_str(), true, ended);
-    ended.status.number()
+    tell_status(rt, asked, name, ended);
+    ended.status
 }
 
 // Answers the problem of a file.
-fn answer_file(rt: &HostRuntime, asked: &Asked, file: &str) -> u8
+fn answer_file(rt: &HostRuntime, asked: &Asked, file: &str) -> Status
     requires { AreSettings asked.now.settings }
 {
     if file == "-" {
@@ -125,7 +149,7 @@ fn answer_file(rt: &HostRuntime, asked: &Asked, file: &str) -> u8
     }
     let Ok(opened) = File::open(rt, file) else {
         tell(rt, file, "can't be opened");
-        return Status::ReadFault.number();
+        return Status::ReadFault;
     };
     let mut input = StdSource::new(opened);
     answer_source(rt, asked, file, &mut input)
@@ -152,12 +176,13 @@ pub fn show(rt: &HostRuntime, text: &str) -> u8 {
     Status::WriteFault.number()
 }
 
-/// Answers each problem, and without files that of standard input: the greatest status.
+/// Answers each problem, and without files that of standard input: the greatest status. Where
+/// standard output fails nothing more is answered.
 pub fn answer_all(rt: &HostRuntime, asked: &Asked) -> u8
     requires { AreSettings asked.now.settings }
 {
     if asked.files.is_empty() {
-        return answer_file(rt, asked, "-");
+        return answer_file(rt, asked, "-").number();
     }
     let has_headings = asked.files.len() > 1 && asked.settings.style != Style::Json;
     let mut greatest = 0_u8;
@@ -165,7 +190,11 @@ pub fn answer_all(rt: &HostRuntime, asked: &Asked) -> u8
         if has_headings && !write_texts(rt, &["== ", file.as_str(), "\n"]) {
             return greatest.max(Status::WriteFault.number());
         }
-        greatest = greatest.max(answer_file(rt, asked, file.as_str()));
+        let status = answer_file(rt, asked, file.as_str());
+        greatest = greatest.max(status.number());
+        if status == Status::WriteFault {
+            return greatest;
+        }
     }
     greatest
 }

@@ -7,6 +7,7 @@ mod number;
 mod options;
 mod progress;
 mod refused;
+mod report_file;
 mod request;
 #[cfg(test)]
 mod tests;

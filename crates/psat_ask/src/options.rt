@@ -140,7 +140,7 @@ pub fn with_value(settings: Settings, option: Valued, word: &str) -> Option<Sett
     }
 }
 
-/// The settings in another style, where none was asked for yet.
+/// The settings in another style, where no other one was asked for.
 pub fn with_style(settings: Settings, style: Style) -> Option<Settings>
     requires { AreSettings settings }
     ensures found { FindsStyle style settings result }

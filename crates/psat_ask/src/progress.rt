@@ -34,7 +34,7 @@ pub fn figures_of(
 ) -> Result<String, AllocError> {
     let side = side_of(kind);
     let worlds = progress.worlds;
-    let parts = saturating_f64_to_i64((progress.gap * 10_000.0).ceil()).max(0);
+    let parts = saturating_f64_to_i64((progress.gap * PARTS as f64).ceil()).max(0);
     let (whole, rest) = (parts / PARTS, parts % PARTS);
     format!(in alloc; "{side}: {worlds} worlds, gap {whole}.{rest:04}")
 }

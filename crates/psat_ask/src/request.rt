@@ -1,11 +1,12 @@
 //! What the words behind the program's name ask for.
-ghost use Rattle.std.specs.Prelude.{IfOk, IfSome};
+ghost use Rattle.std.specs.Prelude.{IfOk, IfSome, OnOk};
 ghost use Rattle.ps_ask.specs.Shown.{AreSettings};
+ghost use Rattle.psat_ask.specs.Options.{SetsStyle};
 ghost use Rattle.psat_ask.specs.Requests.{HasSettings};
 
 use crate::options::{Valued, default_settings, option_named, seconds_of, with_style, with_value};
 use crate::refused::Refused;
-use crate::texts::{NO_REPORT, ONE_REPORT, STYLES, WRONG_TIME};
+use crate::texts::{NO_REPORT, ONE_REPORT, OWN_REPORT, STYLES, TWO_REPORTS, WRONG_TIME};
 use ps_ask::{Settings, Style};
 use std::alloc::Global;
 
@@ -33,6 +34,22 @@ pub struct Asked {
     pub files: Vec<String>,
 }
 
+impl Asked {
+    // What is wrong with the report that is asked for: it is of one problem, and doesn't take its place.
+    fn report_fault(&self) -> Option<&'static str> {
+        if self.report.is_none() && self.settings.style != Style::Report {
+            return None;
+        }
+        if self.files.len() > 1 {
+            return Some(ONE_REPORT);
+        }
+        match (&self.report, self.files.first()) {
+            (Some(report), Some(file)) if report == file => Some(OWN_REPORT),
+            _ => None,
+        }
+    }
+}
+
 /// How far words were read.
 #[derive(Drop)]
 struct Reading {
@@ -47,7 +64,9 @@ impl Reading {
     // Changes the style.
     fn style(&mut self, style: Style) -> Result<(), Refused>
         requires { AreSettings self.old.asked.settings }
-        ensures { AreSettings self.new.asked.settings }
+        ensures set { OnOk result
+            (SetsStyle style self.old.asked.settings self.new.asked.settings) }
+        ensures lawful { AreSettings self.new.asked.settings }
     {
         match with_style(self.asked.settings, style) {
             Some(settings) => {
@@ -68,6 +87,9 @@ impl Reading {
         }
         if value == "-" {
             return self.style(Style::Report);
+        }
+        if self.asked.report.is_some() {
+            return Err(Refused::Wrong(TWO_REPORTS));
         }
         self.asked.report = Some(String::from_str(alloc, value)?);
         self.asked.settings.reports = true;
@@ -172,8 +194,8 @@ impl Reading {
         if let Some(option) = self.pending {
             return Err(Refused::Wrong(option.fault()));
         }
-        if self.asked.report.is_some() && self.asked.files.len() > 1 {
-            return Err(Refused::Wrong(ONE_REPORT));
+        if let Some(fault) = self.asked.report_fault() {
+            return Err(Refused::Wrong(fault));
         }
         Ok(Request::Ask(self.asked))
     }

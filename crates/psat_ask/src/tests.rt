@@ -4,6 +4,7 @@ ghost use Rattle.ps_ask.specs.Shown.{AreSettings};
 ghost use Rattle.ps_valid.specs.Limits.{IsSmallAnswer};
 ghost use Rattle.psat_ask.specs.Requests.{HasSettings};
 
+use crate::progress::figures_of;
 use crate::refused::Refused;
 use crate::request::{Asked, Request, request_of};
 use ps_answer::Answer;
@@ -168,7 +169,7 @@ fn words_ask_for_texts(rt: HostRuntime) {
 }
 
 // Words that ask for nothing, and what is said of them.
-const FAULTS: [(&[&'static str], &str); 11] = [
+const FAULTS: [(&[&'static str], &str); 14] = [
     (&["--digits", "19"], "--digits takes a number from 1 to 18"),
     (&["--digits=0"], "--digits takes a number from 1 to 18"),
     (&["--digits=+5"], "--digits takes a number from 1 to 18"),
@@ -196,9 +197,15 @@ const FAULTS: [(&[&'static str], &str); 11] = [
         &["--json", "--report", "-"],
         "--quiet, --json and --report - don't go together",
     ),
+    (&["--report", "r", "a", "b"], "--report takes one problem"),
+    (&["a", "--report", "-", "b"], "--report takes one problem"),
     (
-        &["--report", "r", "a", "b"],
-        "--report FILE takes one problem",
+        &["--report", "r", "--report=s"],
+        "--report FILE stands twice",
+    ),
+    (
+        &["--report", "a", "a"],
+        "--report FILE is the problem's file",
     ),
     (&["--quite", "a"], "the option --quite is unknown"),
 ];
@@ -226,6 +233,17 @@ fn refusals_have_numbers(rt: HostRuntime) {
     assert!(rt; is_told(alloc, &Refused::NotText, 10, "an argument isn't UTF-8"));
     assert!(rt; is_told(alloc, &Refused::NoWords, 10, "the arguments can't be had"));
     assert!(rt; is_told(alloc, &Refused::NoMemory, 7, "not enough memory"));
+}
+
+#[test]
+fn how_far_an_answer_is_is_told(rt: HostRuntime) -> Result<(), Fail> {
+    let progress = Progress {
+        worlds: 554,
+        gap: 0.02125,
+    };
+    let figures = figures_of(rt.alloc(), ClaimKind::Upper, progress)?;
+    assert!(rt; figures.as_str() == ", upper bound: 554 worlds, gap 0.0213");
+    Ok(())
 }
 
 #[test]

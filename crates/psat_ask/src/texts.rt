@@ -17,15 +17,18 @@ Options:
   --conflicts N   the most conflicts of a search, 0 to 1099511627776 (20000)
   --time-limit N  begin nothing more after N seconds for a problem, 1 to 86400
   --no-warnings   no warnings
-  --help          this text
-  --version       the version
+  --help, -h      this text
+  --version, -V   the version
+  --              only files behind it
+
+A value may also stand behind =, as in --digits=3.
 
 Exit status, with several files the greatest:
   0  consistent, and nothing is open
   1  inconsistent
   2  invalid arguments; no input was read
-  3  an input is no problem
-  4  some part is open
+  3  an input is no problem, or is too long
+  4  some part is open, or wasn't finished in time
   5  reading failed
   6  writing failed
   7  not enough memory
@@ -54,4 +57,10 @@ pub const NO_REPORT: &str = "--report takes a file, or - for standard output";
 pub const STYLES: &str = "--quiet, --json and --report - don't go together";
 
 /// One report for several problems.
-pub const ONE_REPORT: &str = "--report FILE takes one problem";
+pub const ONE_REPORT: &str = "--report takes one problem";
+
+/// Reports to two files.
+pub const TWO_REPORTS: &str = "--report FILE stands twice";
+
+/// A report in place of a problem.
+pub const OWN_REPORT: &str = "--report FILE is the problem's file";
