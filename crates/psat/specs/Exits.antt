@@ -26,5 +26,5 @@ failure_words (Ok ReadFault) = Some (codes "standard input failed")
 failure_words (Ok WriteFault) = Some (codes "standard output failed")
 failure_words (Ok NoMemory) = Some (codes "not enough memory")
 failure_words (Ok status) = None
-failure_words (Err (none.Refused cause)) = Some (codes "the words can't be had")
+failure_words (Err (none.Refused cause)) = Some (codes "the arguments can't be had")
 failure_words (Err none.NoMemory) = Some (codes "not enough memory")

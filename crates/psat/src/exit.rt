@@ -21,7 +21,7 @@ use thiserror::Error;
 #[derive(Clone, Copy, Debug, PartialEq, Eq, Error)]
 pub enum NoWords {
     /// The system doesn't hand them out, for this cause.
-    #[error("the words can't be had")]
+    #[error("the arguments can't be had")]
     Refused(ErrorKind),
     /// There was not enough memory to hold them.
     #[error("not enough memory")]
@@ -111,7 +111,7 @@ pub fn failure(ended: Result<Status, NoWords>) -> Option<&'static str>
         Ok(Status::WriteFault) => Some("standard output failed"),
         Ok(Status::NoMemory) => Some("not enough memory"),
         Ok(_) => None,
-        Err(NoWords::Refused(_)) => Some("the words can't be had"),
+        Err(NoWords::Refused(_)) => Some("the arguments can't be had"),
         Err(NoWords::NoMemory) => Some("not enough memory"),
     }
 }
