@@ -11,7 +11,7 @@ pub enum Status {
     Inconsistent,
     /// The words are not those of a command.
     Usage,
-    /// The input is too long, or the problem that is due isn't there.
+    /// The input is too long, or no problem stands where one has to.
     Unreadable,
     /// `solve`, `explain`, `make`: some part of the answer is open.
     Unfinished,
