@@ -15,16 +15,13 @@ use std::alloc::{AllocError, Global};
 use std::env::Args;
 use std::io::{self, ErrorKind};
 use std::process::ExitCode;
-use thiserror::Error;
 
 /// Why the words can't be had.
-#[derive(Clone, Copy, Debug, PartialEq, Eq, Error)]
+#[derive(Clone, Copy, Debug, PartialEq, Eq)]
 pub enum NoWords {
     /// The system doesn't hand them out, for this cause.
-    #[error("the arguments can't be had")]
     Refused(ErrorKind),
     /// There was not enough memory to hold them.
-    #[error("not enough memory")]
     NoMemory,
 }
 

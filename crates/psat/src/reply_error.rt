@@ -2,16 +2,13 @@
 use crate::status::Status;
 use ps_io::NoMemory;
 use std::alloc::AllocError;
-use thiserror::Error;
 
 /// Why there is no reply.
-#[derive(Clone, Copy, Debug, PartialEq, Eq, Error)]
+#[derive(Clone, Copy, Debug, PartialEq, Eq)]
 pub enum ReplyError {
     /// A read failed.
-    #[error("a read failed")]
     ReadFault,
     /// There was not enough memory.
-    #[error("not enough memory")]
     NoMemory,
 }
 
