@@ -199,10 +199,7 @@ const FAULTS: [(&[&'static str], &str); 14] = [
     ),
     (&["--report", "r", "a", "b"], "--report takes one problem"),
     (&["a", "--report", "-", "b"], "--report takes one problem"),
-    (
-        &["--report", "r", "--report=s"],
-        "--report FILE stands twice",
-    ),
+    (&["--report", "r", "--report=s"], "--report stands twice"),
     (
         &["--report", "a", "a"],
         "--report FILE is the problem's file",

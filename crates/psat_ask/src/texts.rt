@@ -59,8 +59,8 @@ pub const STYLES: &str = "--quiet, --json and --report - don't go together";
 /// One report for several problems.
 pub const ONE_REPORT: &str = "--report takes one problem";
 
-/// Reports to two files.
-pub const TWO_REPORTS: &str = "--report FILE stands twice";
+/// Two reports.
+pub const TWO_REPORTS: &str = "--report stands twice";
 
 /// A report in place of a problem.
 pub const OWN_REPORT: &str = "--report FILE is the problem's file";
