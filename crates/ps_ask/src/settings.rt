@@ -27,6 +27,6 @@ pub struct Settings {
     pub reports: bool,
     /// Whether warnings are noted.
     pub warns: bool,
-    /// Whether time is limited: then nothing more is begun once the watch is over.
+    /// Whether time is limited: then no further step is begun once the watch is over.
     pub is_timed: bool,
 }

@@ -15,7 +15,7 @@ Options:
   --report -      write that report alone
   --pivots N      the most pivots of a run, 0 to 1000000 (10000)
   --conflicts N   the most conflicts of a search, 0 to 1099511627776 (20000)
-  --time-limit N  begin nothing more after N seconds for a problem, 1 to 86400
+  --time-limit N  begin no further step after N seconds for a problem, 1 to 86400
   --no-warnings   no warnings
   --help, -h      this text
   --version, -V   the version
