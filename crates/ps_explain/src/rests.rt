@@ -51,7 +51,8 @@ fn verdict_over<G: Guesser>(
 /// What a problem comes to without the sentence of a number, from 1: a distribution meets all the
 /// others, they can't be met together either, or the run over them is open. It is guessed, and what
 /// no guess shows comes of a lawful run within limits of pivots and conflicts. The guesser is left
-/// with these sentences.
+/// with these sentences. Number 0 leaves out the first sentence too, and a number past the last one
+/// leaves out none.
 pub fn verdict_without<G: Guesser>(
     alloc: Global,
     problem: &Problem,
