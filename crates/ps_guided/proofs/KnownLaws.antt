@@ -16,8 +16,8 @@ use Rattle.ps_claims.specs.declared.claim_kind.ClaimKind.{ClaimKind}
 use Rattle.ps_claims.specs.declared.claim_kind.ClaimKind.TheVariants.{Lower, Upper}
 use Rattle.ps_phases.specs.declared.limits.Limits.{Limits}
 use Rattle.ps_query.specs.Parts.{IsPartOf, IsVerdictOf}
-use Rattle.ps_guided.specs.Solutions.{IsAnsweredPart, IsAnsweredVerdict}
-use Rattle.ps_guess.specs.Trials.{IsFoundSide}
+use Rattle.ps_guided.specs.Solutions.{IsAnsweredVerdict}
+use Rattle.ps_guess.specs.Trials.{IsFoundDual, IsFoundSide}
 use Rattle.ps_reported.specs.Settled.{IsClosed}
 use Rattle.ps_guided.specs.declared.known.Known.{Known}
 use Rattle.ps_guided.specs.declared.known.Known.TheVariants.{Answered, Sides}
@@ -28,12 +28,12 @@ pub closed_side : (p : Parts) (kind : ClaimKind) (q : Query) (value : Rational) 
     → IsFoundSide p kind q (side.Bound value m d)
 closed_side p kind q value m d h = (h.0, h.1.0, h.1.1)
 
--- so has the dual of a run that ends with nothing
-pub known_impossible : (limits own : Limits) (p : Parts) (q : Query) (d : Dual) (first : List Event) → IsPartOf own p q (record { answer = query.Impossible d; first = first })
-    → IsAnsweredPart limits p q (record { answer = query.Impossible d; first = [] })
-known_impossible limits own p q d first h = record { settled = inl refl; valid = h.valid; printed = h.printed }
+-- the dual of a run that ends with nothing is as one that was found
+pub left_dual : (own : Limits) (p : Parts) (q : Query) (d : Dual) (first : List Event) → IsPartOf own p q (record { answer = query.Impossible d; first = first })
+    → IsFoundDual p (Some q) d
+left_dual own p q d first h = record { valid = h.valid; printed = h.printed }
 
--- and a verdict of a run
+-- a verdict of a run has its certificates
 pub run_consistent : (limits own : Limits) (p : Parts) (m : Model) (events : List Event) → IsVerdictOf own p (Consistent m) events → IsAnsweredVerdict limits p (Consistent m) []
 run_consistent limits own p m events h = record { settled = inl refl; valid = h.valid; printed = h.printed }
 

@@ -28,6 +28,10 @@ abbrev pub IsKnown : Limits → Parts → Query → Known → Type 0
 IsKnown limits p q (Answered part) = IsAnsweredPart limits p q part
 IsKnown limits p q (Sides lower upper) = AreFound p q lower upper
 
+-- what was found of a query: it is known within all limits
+abbrev pub IsFoundKnown : Parts → Query → Known → Type 0
+IsFoundKnown p q known = (limits : Limits) → IsKnown limits p q known
+
 -- of every problem and query, of whose sides these were found: that is known within all limits
 abbrev pub IsKnownBySides : Option SideAnswer → Option SideAnswer → Known → Type 0
 IsKnownBySides lower upper known = (limits : Limits) (p : Parts) (q : Query) → IfSome lower (IsFoundSide p Lower q)

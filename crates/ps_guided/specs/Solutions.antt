@@ -1,5 +1,5 @@
 -- What an answer to a problem is to be where its parts may be guessed.
-use Rattle.std.specs.Prelude.{List, Option, IfSome}
+use Rattle.std.specs.Prelude.{List, Option, Some, IfSome}
 use Rattle.std.specs.List.{AllZip}
 use Rattle.ps_problem.specs.declared.query.Query.{Query}
 use Rattle.ps_problem.specs.Problems.{Parts}
@@ -8,6 +8,7 @@ use Rattle.ps_answer.specs.declared.answer.Answer.{Answer}
 use Rattle.ps_answer.specs.declared.answer.Verdict.{Verdict}
 use Rattle.ps_answer.specs.declared.answer.SideAnswer.{SideAnswer}
 use Rattle.ps_answer.specs.declared.answer.Cause.{Cause}
+use Rattle.ps_answer.specs.declared.answer.Dual.{Dual}
 use Rattle.ps_answer.specs.declared.answer.QueryAnswer.{QueryAnswer}
 use Rattle.ps_answer.specs.declared.answer.QueryAnswer.TheVariants as query
 use Rattle.ps_answer.specs.declared.answer.QueryPart.{QueryPart}
@@ -18,7 +19,7 @@ use Rattle.ps_valid.specs.Answers.{answer_of, part_of, side_of, verdict_of as cl
 use Rattle.ps_phases.specs.Verdicts.{asked_after}
 use Rattle.ps_certificate.specs.Printed.{IsPrintedAnswer, IsPrintedPart, IsPrintedSide, IsPrintedVerdict}
 use Rattle.ps_phases.specs.declared.limits.Limits.{Limits}
-use Rattle.ps_guess.specs.Trials.{IsFoundSide}
+use Rattle.ps_guess.specs.Trials.{IsFoundDual, IsFoundSide}
 use Rattle.ps_query.specs.Parts.{IsPartOf}
 use Rattle.ps_reported.specs.Settled.{IsBesideRun, IsSettledVerdict, IsSettledPart, IsSettledAnswer}
 
@@ -27,6 +28,10 @@ pub record IsAnsweredVerdict (limits : Limits) (p : Parts) (v : Verdict) (events
   pub settled : IsSettledVerdict p limits v events
   pub valid : IsValidVerdict p (claimed_verdict v)
   pub printed : IsPrintedVerdict v
+
+-- a verdict that was found, with its events: it is answered within all limits
+abbrev pub IsFoundVerdict : Parts → Verdict → List Event → Type 0
+IsFoundVerdict p v events = (limits : Limits) → IsAnsweredVerdict limits p v events
 
 -- a part that is answered
 pub record IsAnsweredPart (limits : Limits) (p : Parts) (q : Query) (part : QueryPart) : Type 0 where
@@ -45,6 +50,10 @@ pub record IsAnsweredSide (p : Parts) (q : Query) (run : QueryAnswer) (kind : Cl
 abbrev pub IsFoundOrLeft : Option SideAnswer → SideAnswer → List Event → SideAnswer → List Event → Type 0
 IsFoundOrLeft found left events a others = (p : Parts) (q : Query) (run : QueryAnswer) (kind : ClaimKind)
     → IfSome found (IsFoundSide p kind q) → IsAnsweredSide p q run kind left events → IsAnsweredSide p q run kind a others
+
+-- of every problem and query, whose evidence this dual was found to exclude: the part is answered
+abbrev pub IsAnsweredByDual : Dual → QueryPart → Type 0
+IsAnsweredByDual d part = (limits : Limits) (p : Parts) (q : Query) → IsFoundDual p (Some q) d → IsAnsweredPart limits p q part
 
 -- of every problem and query, of whose sides these were found: the part is answered
 abbrev pub IsAnsweredByBoth : SideAnswer → SideAnswer → QueryPart → Type 0

@@ -9,10 +9,11 @@ ghost use Rattle.ps_query.specs.Solutions.{AreShortLines, IsReadBack};
 ghost use Rattle.ps_guided.specs.Solutions.{AreAnsweredParts, IsAnsweredPart};
 ghost use Rattle.ps_guided.specs.Solutions.{IsAnsweredVerdict, IsSettledSolution};
 
-use crate::beside::{beside_run, both_found};
-use ps_answer::{Answer, Parts, QueryAnswer, QueryPart, SideAnswer, Verdict};
-use ps_claims::ClaimKind;
-use ps_guess::{Trials, find_model, find_nothing, find_side};
+use crate::beside::beside_run;
+use crate::found::{found_part, found_verdict};
+use crate::known::Known;
+use ps_answer::{Answer, Parts, QueryPart, SideAnswer, Verdict};
+use ps_guess::Trials;
 use ps_guesser::Guesser;
 use ps_io::{List, NoMemory};
 use ps_pool::Trace;
@@ -21,7 +22,7 @@ use ps_query::{Limits, query_part, verdict_part};
 use std::alloc::Global;
 
 /// The verdict on the problem of trials: found, or run where no guess is shown.
-#[tactic(auto, using(crate::proofs::Settled::found_consistent, crate::proofs::Settled::found_inconsistent, crate::proofs::Settled::run_verdict))]
+#[tactic(auto, using(crate::proofs::Settled::run_verdict))]
 pub fn answer_verdict<G: Guesser>(
     alloc: Global,
     trials: &Trials<'_>,
@@ -31,13 +32,10 @@ pub fn answer_verdict<G: Guesser>(
     requires limits { AreLimits limits }
     ensures { IfOk result (λ r. IsAnsweredVerdict limits trials.now r.0 r.1) }
 {
-    if let Some(model) = find_model(alloc, trials, guesser)? {
-        return Ok((Verdict::Consistent(model), List::new(alloc)));
+    match found_verdict(alloc, trials, guesser)? {
+        Some(found) => Ok(found),
+        None => verdict_part(alloc, trials.problem(), limits),
     }
-    if let Some(dual) = find_nothing(alloc, trials, None, guesser)? {
-        return Ok((Verdict::Inconsistent(dual), List::new(alloc)));
-    }
-    verdict_part(alloc, trials.problem(), limits)
 }
 
 /// The answer to a query by a run, with the sides that were found in place of the run's.
@@ -60,7 +58,6 @@ pub(crate) fn run_beside(
 }
 
 /// The answer to a query of the problem of trials: what is found of it, and what isn't by a run.
-#[tactic(auto, using(crate::proofs::Settled::found_impossible))]
 pub fn answer_part<G: Guesser>(
     alloc: Global,
     trials: &Trials<'_>,
@@ -72,21 +69,10 @@ pub fn answer_part<G: Guesser>(
     requires limits { AreLimits limits }
     ensures { IfOk result (IsAnsweredPart limits trials.now query) }
 {
-    if let Some(dual) = find_nothing(alloc, trials, Some(query), guesser)? {
-        return Ok(QueryPart {
-            answer: QueryAnswer::Impossible(dual),
-            first: List::new(alloc),
-        });
+    match found_part(alloc, trials, query, guesser)? {
+        Known::Answered(part) => Ok(part),
+        Known::Sides { lower, upper } => run_beside(alloc, trials, query, limits, lower, upper),
     }
-    let lower = find_side(alloc, trials, ClaimKind::Lower, query, guesser)?;
-    let upper = find_side(alloc, trials, ClaimKind::Upper, query, guesser)?;
-    let Some(lower) = lower else {
-        return run_beside(alloc, trials, query, limits, None, upper);
-    };
-    let Some(upper) = upper else {
-        return run_beside(alloc, trials, query, limits, Some(lower), None);
-    };
-    Ok(both_found(alloc, lower, upper))
 }
 
 // The answers to all queries.

@@ -1,7 +1,8 @@
 //! Sides that were found, beside a run of their query.
-ghost use Rattle.ps_guided.specs.Solutions.{IsAnsweredBeside, IsAnsweredByBoth, IsFoundOrLeft, open_part};
+ghost use Rattle.ps_guided.specs.Solutions.{IsAnsweredBeside, IsAnsweredByBoth};
+ghost use Rattle.ps_guided.specs.Solutions.{IsAnsweredByDual, IsFoundOrLeft, open_part};
 
-use ps_answer::{Cause, QueryAnswer, QueryPart, SideAnswer};
+use ps_answer::{Cause, Dual, QueryAnswer, QueryPart, SideAnswer};
 use ps_io::List;
 use ps_pool::Trace;
 use std::alloc::Global;
@@ -19,6 +20,17 @@ fn found_or(
     match found {
         Some(side) => (side, List::new(alloc)),
         None => (left, events),
+    }
+}
+
+/// The answer to a query whose evidence a dual was found to exclude.
+#[tactic(auto, using(crate::proofs::Settled::found_impossible))]
+pub fn found_impossible(alloc: Global, dual: Dual) -> QueryPart
+    ensures { IsAnsweredByDual dual result }
+{
+    QueryPart {
+        answer: QueryAnswer::Impossible(dual),
+        first: List::new(alloc),
     }
 }
 

@@ -8,16 +8,29 @@ use ps_io::NoMemory;
 use ps_problem::{Problem, Query};
 
 /// How often a guess pauses at most before it is given up.
-const MOST_PAUSES: u32 = 1000000;
+const MOST_PAUSES: u32 = 1_000_000;
 
 /// A guesser beside what watches over it: it has no guess once time is over. Where a guess pauses, the
-/// watch is asked, and told how far it is.
+/// watch is told how far it is, and asked; a guess that has paused 1,000,000 times is given up.
 #[derive(Drop)]
 pub struct InTime<'a, G, W> {
     /// The guesser.
     pub guesser: &'a mut G,
     /// What tells whether time is over.
     pub watch: &'a mut W,
+}
+
+impl<'a, G: Guesser, W: Watch> InTime<'a, G, W> {
+    // Whether the last guess has paused; the watch is told then how far it is.
+    fn has_paused(&mut self, kind: ClaimKind) -> bool {
+        match self.guesser.progress() {
+            Some(progress) => {
+                self.watch.tell(kind, progress);
+                true
+            }
+            None => false,
+        }
+    }
 }
 
 impl<'a, G: Guesser, W: Watch> Guesser for InTime<'a, G, W> {
@@ -31,9 +44,8 @@ impl<'a, G: Guesser, W: Watch> Guesser for InTime<'a, G, W> {
                 return Ok(None);
             }
             let guess = self.guesser.model(problem)?;
-            match self.guesser.progress() {
-                Some(progress) => self.watch.tell(ClaimKind::Nothing, progress),
-                None => return Ok(guess),
+            if !self.has_paused(ClaimKind::Nothing) {
+                return Ok(guess);
             }
         }
         Ok(None)
@@ -49,9 +61,8 @@ impl<'a, G: Guesser, W: Watch> Guesser for InTime<'a, G, W> {
                 return Ok(None);
             }
             let guess = self.guesser.nothing(problem, query)?;
-            match self.guesser.progress() {
-                Some(progress) => self.watch.tell(ClaimKind::Nothing, progress),
-                None => return Ok(guess),
+            if !self.has_paused(ClaimKind::Nothing) {
+                return Ok(guess);
             }
         }
         Ok(None)
@@ -68,9 +79,8 @@ impl<'a, G: Guesser, W: Watch> Guesser for InTime<'a, G, W> {
                 return Ok(None);
             }
             let guess = self.guesser.bound(problem, kind, query)?;
-            match self.guesser.progress() {
-                Some(progress) => self.watch.tell(kind, progress),
-                None => return Ok(guess),
+            if !self.has_paused(kind) {
+                return Ok(guess);
             }
         }
         Ok(None)

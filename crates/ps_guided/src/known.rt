@@ -4,9 +4,8 @@ ghost use Rattle.ps_reported.specs.Settled.{IsClosed};
 ghost use Rattle.ps_guided.specs.Known.{HasAnswer, IsClosedOrFound, IsKnownBeside};
 ghost use Rattle.ps_guided.specs.Known.{IsKnownBySides, KeepsSides, TakesBounds};
 
-use crate::beside::both_found;
+use crate::beside::{both_found, found_impossible};
 use ps_answer::{QueryAnswer, QueryPart, SideAnswer};
-use ps_io::List;
 use std::alloc::Global;
 
 /// What is known of a query.
@@ -59,7 +58,7 @@ fn closed_or(found: Option<SideAnswer>, left: SideAnswer) -> Option<SideAnswer>
 
 /// What is known behind a run, beside the sides that were found before: of the run what has its
 /// certificate, without its events.
-#[tactic(auto, using(crate::proofs::KnownLaws::known_impossible, crate::proofs::KnownLaws::keeps_same, crate::proofs::KnownLaws::takes_none))]
+#[tactic(auto, using(crate::proofs::KnownLaws::left_dual, crate::proofs::KnownLaws::keeps_same, crate::proofs::KnownLaws::takes_none))]
 pub fn known_behind(
     alloc: Global,
     run: QueryPart,
@@ -72,10 +71,7 @@ pub fn known_behind(
 {
     let QueryPart { answer, first: _ } = run;
     match answer {
-        QueryAnswer::Impossible(dual) => Known::Answered(QueryPart {
-            answer: QueryAnswer::Impossible(dual),
-            first: List::new(alloc),
-        }),
+        QueryAnswer::Impossible(dual) => Known::Answered(found_impossible(alloc, dual)),
         QueryAnswer::Open(_) => Known::Sides { lower, upper },
         QueryAnswer::Bounds {
             lower: lower_left,

@@ -5,6 +5,7 @@
 
 mod answering;
 mod beside;
+mod found;
 mod in_time;
 mod known;
 #[cfg(test)]

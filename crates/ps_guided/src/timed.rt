@@ -9,13 +9,13 @@ ghost use Rattle.ps_guided.specs.Known.{HasAnswer, IsKnown, KeepsKnown, KeepsSid
 ghost use Rattle.ps_guided.specs.declared.turns.TheConstants.{MOST_TURNS};
 
 use crate::answering::run_beside;
+use crate::found::{found_part, found_verdict};
 use crate::in_time::InTime;
-use crate::known::{Known, known_behind, known_by};
+use crate::known::{Known, known_behind};
 use crate::turns::{MOST_TURNS, are_greatest, limits_at};
 use crate::watch::Watch;
-use ps_answer::{QueryAnswer, QueryPart, SideAnswer, Verdict};
-use ps_claims::ClaimKind;
-use ps_guess::{Trials, find_model, find_nothing, find_side};
+use ps_answer::{SideAnswer, Verdict};
+use ps_guess::Trials;
 use ps_guesser::Guesser;
 use ps_io::{List, NoMemory};
 use ps_pool::Trace;
@@ -58,11 +58,8 @@ pub fn verdict_in_time<G: Guesser, W: Watch>(
     requires limits { AreLimits limits }
     ensures { IfOk result (λ o. IfSome o (λ r. IsAnsweredVerdict limits trials.now r.0 r.1)) }
 {
-    if let Some(model) = find_model(alloc, trials, timed)? {
-        return Ok(Some((Verdict::Consistent(model), List::new(alloc))));
-    }
-    if let Some(dual) = find_nothing(alloc, trials, None, timed)? {
-        return Ok(Some((Verdict::Inconsistent(dual), List::new(alloc))));
+    if let Some(found) = found_verdict(alloc, trials, timed)? {
+        return Ok(Some(found));
     }
     for turn in 0..MOST_TURNS {
         if timed.watch.is_over() {
@@ -147,14 +144,6 @@ pub fn part_in_time<G: Guesser, W: Watch>(
     requires limits { AreLimits limits }
     ensures { IfOk result (IsKnown limits trials.now query) }
 {
-    if let Some(dual) = find_nothing(alloc, trials, Some(query), timed)? {
-        return Ok(Known::Answered(QueryPart {
-            answer: QueryAnswer::Impossible(dual),
-            first: List::new(alloc),
-        }));
-    }
-    let lower = find_side(alloc, trials, ClaimKind::Lower, query, timed)?;
-    let upper = find_side(alloc, trials, ClaimKind::Upper, query, timed)?;
-    let found = known_by(alloc, lower, upper);
+    let found = found_part(alloc, trials, query, timed)?;
     known_behind_runs(alloc, trials, query, limits, found, timed)
 }

@@ -50,5 +50,5 @@ pub fn limits_at(most: Limits, turn: u32) -> Limits
 pub fn are_greatest(limits: Limits, most: Limits) -> bool
     ensures { IsTrue result ↔ limits ≡ most }
 {
-    limits.pivots == most.pivots && limits.conflicts == most.conflicts
+    limits == most
 }

@@ -23,3 +23,10 @@ returns c =
           (taken_side c.args.lower b.lower_left lower.result lower.ensures.kept lower.ensures.taken)
           (taken_side c.args.upper b.upper_left upper.result upper.ensures.kept upper.ensures.taken) both;
     }
+
+pub returns-in-Impossible-clause-known : goal.returns-in-Impossible-clause-known
+returns-in-Impossible-clause-known c = λ limits own p q h l u.
+    c.found_impossible.ensures limits p q (record {
+      valid = subst (λ (a : QueryAnswer). IsValidPart p q (part_of a)) c.in-Impossible.is h.valid;
+      printed = subst (λ (a : QueryAnswer). IsPrintedPart a) c.in-Impossible.is h.printed;
+    })
