@@ -109,7 +109,7 @@ name-is name words c h = let n = named (name ∷ words) c h in head name (name_o
 pub no_words : (c : Command) → ¬ Spell [] c
 no_words c h = let n = named [] c h in let e = n.1 in absurd (cc)
 
-pub first_of : List ℕ → ℕ
+unfoldable pub first_of : List ℕ → ℕ
 first_of w = get_or w 0 0
 
 -- commands of other names aren't spelled by the same words
