@@ -81,7 +81,6 @@ fn is_unweighed(bound: &Bound, weighed: &[bool]) -> bool {
 
 // Whether it is shown in time that no distribution that meets the sentences gives the bound's
 // condition weight.
-#[tactic(auto, using(crate::proofs::IdleLaws::idle_shown))]
 fn is_idle<W: Company>(
     alloc: Global,
     trials: &Trials<'_>,
@@ -99,10 +98,10 @@ fn is_idle<W: Company>(
         given: bound.given,
         both: bound.both,
     };
-    match find_nothing(alloc, trials, Some(query), timed)? {
-        Some(_) => Ok(true),
-        None => Ok(false),
+    if let Some(_dual) = find_nothing(alloc, trials, Some(query), timed)? {
+        return Ok(true);
     }
+    Ok(false)
 }
 
 // How many bounds a sentence states.
