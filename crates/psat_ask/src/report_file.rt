@@ -1,6 +1,4 @@
 //! The file of a report, which is created when the report is written.
-ghost use Rattle.std.specs.Io.{WritesAtMost};
-
 use std::fs::File;
 use std::io::{self, Write};
 
@@ -44,9 +42,7 @@ impl<'a> ReportFile<'a> {
 }
 
 impl<'a> Write for ReportFile<'a> {
-    fn write(&mut self, buf: &[u8]) -> io::Result<usize>
-        ensures bound { WritesAtMost result buf.now }
-    {
+    fn write(&mut self, buf: &[u8]) -> io::Result<usize> {
         let mut file = self.open()?;
         let written = file.write(buf);
         self.file = Some(file);
