@@ -60,7 +60,7 @@ impl Company for Asked {
 }
 
 // Time is over once this was asked so often.
-fn asked(alloc: Global, left: u32) -> Asked {
+fn watch_for(alloc: Global, left: u32) -> Asked {
     Asked {
         left,
         notes: Vec::new(alloc),
@@ -88,7 +88,7 @@ fn shows_in_time(alloc: Global, settings: Settings, left: u32, row: &Row) -> Res
     let bytes = Vec::from_slice(alloc, row.text)?;
     let mut source = MemSource::new(bytes, 7, Vec::new(alloc));
     let mut sinks = sinks(alloc, 10_000)?;
-    let mut watch = asked(alloc, left);
+    let mut watch = watch_for(alloc, left);
     let status = ask(alloc, settings, "f", &mut source, &mut sinks, &mut watch);
     Ok(
         status == row.status
@@ -122,7 +122,7 @@ fn an_input_that_is_too_long_is_told(rt: HostRuntime) -> Result<(), Fail> {
     blanks.resize(1_048_577, b' ')?;
     let mut source = MemSource::new(blanks, 65_536, Vec::new(alloc));
     let mut sinks = sinks(alloc, 10_000)?;
-    let mut watch = asked(alloc, 0);
+    let mut watch = watch_for(alloc, 0);
     let words = settings(Style::Words);
     let status = ask(alloc, words, "f", &mut source, &mut sinks, &mut watch);
     assert!(rt; status == Status::Unreadable && sinks.shown.bytes().is_empty());
@@ -185,7 +185,7 @@ fn a_full_sink_holds_the_front(rt: HostRuntime) -> Result<(), Fail> {
     let bytes = Vec::from_slice(alloc, PROBLEM)?;
     let mut source = MemSource::new(bytes, 7, Vec::new(alloc));
     let mut sinks = sinks(alloc, 100)?;
-    let mut watch = asked(alloc, 0);
+    let mut watch = watch_for(alloc, 0);
     let words = settings(Style::Words);
     let status = ask(alloc, words, "f", &mut source, &mut sinks, &mut watch);
     assert!(rt; status == Status::WriteFault);
