@@ -93,10 +93,10 @@ pub fn search_from<S: ProofSink>(
     ensures same_kind { S.takes_memory log.new ≡ S.takes_memory log.old }
     ensures same_references { S.names log.new ≡ S.names log.old }
 {
-    let kept = Kept::new(alloc, base, goal)?;
-    let order = Order::new(alloc, goal, first, base.variables())?;
+    let mut kept = Kept::new(alloc, base, goal)?;
+    let mut order = Order::new(alloc, goal, first, base.variables())?;
     begin(goal, log)?;
-    learn_all(alloc, base, goal, conflicts, kept, order, log)
+    learn_all(alloc, base, goal, conflicts, &mut kept, &mut order, log)
 }
 
 // Begins the log with the goal.
@@ -123,17 +123,17 @@ fn learn_all<S: ProofSink>(
     base: &ClauseForm,
     goal: &Constraint,
     conflicts: u64,
-    mut kept: Kept,
-    mut order: Order,
+    kept: &mut Kept,
+    order: &mut Order,
     log: &mut S,
 ) -> Result<Outcome, SearchError>
     requires whole { IsTrue (S.is_whole log.old) }
     requires goal { IsWithin base.now.variables goal.now }
-    requires variables { kept.variables ≡ base.now.variables }
-    requires known { kept.known ≡ base.now.clauses ++ goal.now ∷ [] }
-    requires seen { kept.seen ≡ [] }
+    requires variables { kept.old.variables ≡ base.now.variables }
+    requires known { kept.old.known ≡ base.now.clauses ++ goal.now ∷ [] }
+    requires seen { kept.old.seen ≡ [] }
     requires begun { HoldsGoalAndSteps (S.told log.old).tells (S.told log.old) goal.now [] }
-    requires small { length kept.known ≤ 2 ^ 32 }
+    requires small { length kept.old.known ≤ 2 ^ 32 }
     requires few { conflicts ≤ MOST_CONFLICTS }
     ensures outcome { IfOk result (IsOutcome base.now goal.now conflicts) }
     ensures logged { HasHanded base.now goal.now conflicts (S.told log.old)
@@ -150,7 +150,7 @@ fn learn_all<S: ProofSink>(
     let _terms = goal.terms();
     let mut learned = 0;
     'learn: loop {
-        let conflict = match advance(base, &mut kept, &order, &mut trail) {
+        let conflict = match advance(base, kept, order, &mut trail) {
             None => return Ok(Outcome::Found(trail.into_values())),
             Some(conflict) => conflict,
         };

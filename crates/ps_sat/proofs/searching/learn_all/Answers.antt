@@ -22,7 +22,7 @@ pub learn-init : goal.learn-init
 learn-init g c = record {
   so_far = begins _ _ _ _ _ _ c.requires.begun c.requires.known (unset-same _ _ _ c.in_ok-trail.ensures c.variables.ensures.value) c.variables.ensures.inside c.requires.goal;
   kept = c.requires.variables;
-  in_step = first-step c.args.kept _ c.requires.seen (ap (λ (t : Trail). t.entries) c.in_ok-trail.ensures);
+  in_step = first-step c.args.kept.now _ c.requires.seen (ap (λ (t : Trail). t.entries) c.in_ok-trail.ensures);
   few = omega (arith, c.requires.small);
   least = omega arith;
   whole = c.requires.whole;
