@@ -1,14 +1,16 @@
 -- What is known of the lines that were taken.
-use Rattle.std.specs.Prelude.{◌≡◌, ℕ, ◌+◌, ◌≤◌, List, [], ◌∷◌, ◌++◌, length}
+use Rattle.std.specs.Prelude.{◌≡◌, ℕ, ◌+◌, ◌≤◌, List, [], ◌∷◌, ◌++◌, length, Result}
 use Rattle.ps_log.specs.FirstLines.{IsOneLine}
 use Rattle.ps_problem.specs.Problems.{Parts}
 use Rattle.ps_answer.specs.declared.part.Part.{Part}
 use Rattle.ps_answer.specs.ExpectedParts.{at_start}
+use Rattle.ps_valid.specs.declared.refusal.Accepted.{Accepted}
+use Rattle.ps_stream.specs.declared.end.StreamEnd.{StreamEnd}
 use Rattle.ps_stream.specs.declared.progress.Progress.{Progress}
 use Rattle.ps_stream.specs.declared.state.State.{State}
 use Rattle.ps_stream.specs.declared.state.State.TheVariants.{Reading, AtFault, OutOfMemory}
 use Rattle.ps_stream.specs.Counts.{most_in}
-use Rattle.ps_stream.specs.Reading.{Lines, HasRead, HasFault}
+use Rattle.ps_stream.specs.Reading.{Lines, Answers, HasRead, HasFault}
 
 -- the problem, how many lines were taken, and how far the report has come
 pub record StreamState : Type 0 where
@@ -40,6 +42,10 @@ Knows p taken OutOfMemory lines = ⊥
 -- these lines were taken
 abbrev pub HasTaken : StreamState → Lines → Type 0
 HasTaken s lines = Knows s.problem s.taken s.state lines
+
+-- this is answered of all lines that were taken, and of what is left behind them
+abbrev pub AnswersTaken : StreamState → List ℕ → Result Accepted StreamEnd → Type 0
+AnswersTaken s rest result = (lines : Lines) → HasTaken s lines → Answers s.problem lines rest result
 
 -- a line was taken behind those that were taken before
 pub record HasTakenOn (old : StreamState) (line : List ℕ) (new : StreamState) : Type 0 where

@@ -5,7 +5,7 @@ ghost use Rattle.ps_log.specs.FirstLines.{IsOneLine};
 ghost use Rattle.ps_stream.specs.declared.end.StreamEnd.TheVariants as end;
 ghost use Rattle.ps_stream.specs.declared.state.State.TheVariants.{Reading};
 ghost use Rattle.ps_stream.specs.Reading.{of_stream, Answers, Lines};
-ghost use Rattle.ps_stream.specs.States.{HasTaken, HasTakenOn, reading, IsCounted, IsOutOfMemory};
+ghost use Rattle.ps_stream.specs.States.{AnswersTaken, HasTaken, HasTakenOn, reading, IsCounted, IsOutOfMemory};
 
 use crate::StreamEnd;
 use crate::due::Due;
@@ -124,16 +124,19 @@ impl StreamCheck {
         // That memory ran out is answered where it did, and nowhere else.
         ensures memory { IsOutOfMemory self ↔ (result ≡ Err end.NoMemory) }
     {
-        let StreamCheck {
-            problem,
-            taken,
-            state,
-            ..
-        } = self;
+        self.end(rest)
+    }
+
+    // As `finish`.
+    fn end(&self, rest: &[u8]) -> Result<Accepted, StreamEnd>
+        requires rest { IsOneLine rest.now }
+        ensures told { AnswersTaken self.now rest.now result }
+        ensures memory { IsOutOfMemory self.now ↔ (result ≡ Err end.NoMemory) }
+    {
         // Called for its clause: the problem is within the limits.
-        let _queries = problem.queries();
-        let line = taken + 1;
-        match state {
+        let _queries = self.problem.queries();
+        let line = self.taken + 1;
+        match &self.state {
             State::Reading { due, progress } => {
                 if due.next().is_some() {
                     let kind = LineKind::Truncated;
@@ -145,7 +148,10 @@ impl StreamCheck {
                 }
                 answer_of(progress.finish())
             }
-            State::AtFault { kind, line } => Err(StreamEnd::Line { kind, line }),
+            State::AtFault { kind, line } => Err(StreamEnd::Line {
+                kind: *kind,
+                line: *line,
+            }),
             State::OutOfMemory => Err(StreamEnd::NoMemory),
         }
     }
