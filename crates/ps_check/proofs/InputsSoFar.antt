@@ -11,7 +11,7 @@ use Rattle.ps_check.specs.declared.intake.Intake.TheVariants.{Reading, Behind}
 use Rattle.ps_check.specs.declared.report.Report.{Report}
 use Rattle.ps_check.specs.Checks.{searched_in, IsFoundIn}
 use Rattle.ps_check.specs.Reports as report
-use Rattle.ps_check.specs.Intakes.{IsWithin, IsReading, Knows, IsSound, IsReadOn, HasTakenOn, IsFound, HasCome}
+use Rattle.ps_check.specs.Intakes.{IsWithin, IsReading, Knows, IsSound, IsBehind, HasTakenOn, IsFound, HasCome}
 use Rattle.ps_check.proofs.SearchedBytes.{all_searched, none_left, part_searched, rest_of}
 
 -- the problem part ended within a piece, or what is searched did
@@ -57,14 +57,27 @@ come_more old new taken n first last next piece h on c e = record {
 }
 
 -- the same of what an input is known by
-pub read_behind : (old new : FrontState) (pushed count : ℕ) (piece searched rest : List ℕ) (r : Report) → old.taken ≡ pushed → pushed ≤ MOST_SEARCHED
-    → searched ≡ take (MOST_SEARCHED - pushed) piece → HasPushedOn old searched new → new.taken ≡ old.taken + count → count < length piece
-    → rest ≡ take (length piece - count) (drop count piece) → report.HasBegun new rest r → IsReadOn old pushed piece (Behind r)
-read_behind old new pushed count piece searched rest r e room is on n lt cut begun = record {
-  known = λ bytes h.
-      then_behind old new pushed count bytes piece r h e room (subst (λ (x : List ℕ). HasPushedOn old x new) is on) n lt
-      (subst (λ (x : List ℕ). report.HasBegun new x r) (cut ∙ take_rest piece count) begun);
-}
+begun_behind : (f : FrontState) (rest bytes : List ℕ) (i : Intake) → IsBehind f rest i
+    → ((r : Report) → report.HasBegun f rest r → Knows (Behind r) bytes) → Knows i bytes
+begun_behind f rest bytes (Behind r) h known = known r h.1
+begun_behind f rest bytes (Reading g pushed) h known = absurd h
+
+pub read_behind : (self new : Intake) (old front : FrontState) (pushed count : ℕ) (piece searched rest : List ℕ) → self ≡ Reading old pushed → IsSound self
+    → searched ≡ take (MOST_SEARCHED - pushed) piece → HasPushedOn old searched front → front.taken ≡ old.taken + count → count < length piece
+    → rest ≡ take (length piece - count) (drop count piece) → IsBehind front rest new → HasTakenOn self piece new
+read_behind self new old front pushed count piece searched rest is sound e on n lt cut h =
+    let w : IsWithin old pushed = subst IsSound is sound in
+    record {
+      known = λ bytes k.
+          begun_behind front rest (bytes ++ piece) new h
+          (λ r begun.
+          then_behind old front pushed count bytes piece r (subst (λ (x : Intake). Knows x bytes) is k) w.taken w.room (subst (λ (x : List ℕ). HasPushedOn old x front) e on) n lt
+          (subst (λ (x : List ℕ). report.HasBegun front x r) (cut ∙ take_rest piece count) begun));
+    }
+
+pub behind_sound : (f : FrontState) (rest : List ℕ) (i : Intake) → IsBehind f rest i → IsSound i
+behind_sound f rest (Behind r) h = h.0
+behind_sound f rest (Reading g pushed) h = absurd h
 
 pub behind_on : (self : Intake) (old new : Report) (piece : List ℕ) → self ≡ Behind old → report.HasTakenOn old piece new → HasTakenOn self piece (Behind new)
 behind_on self old new piece is on = record {

@@ -1,6 +1,7 @@
 -- What is known of an input so far.
 use Rattle.std.specs.Prelude.{◌≡◌, ◌≤◌, ℕ, List, ◌++◌, length, Option}
 use Rattle.std.specs.Io.KnownBytes.{Consumes}
+use Rattle.ps_io.specs.Transfer.{ReadAll}
 use Rattle.ps_front.specs.Stages.{FrontState, HasPushed}
 use Rattle.ps_check.specs.declared.intake.TheConstants.{MOST_SEARCHED}
 use Rattle.ps_check.specs.declared.checked.Checked.{Checked}
@@ -29,9 +30,10 @@ abbrev pub Knows : Intake → List ℕ → Type 0
 Knows (Reading f pushed) bytes = IsReading f pushed bytes
 Knows (Behind r) bytes = (more : List ℕ) → report.Knows (searched_in (bytes ++ more)) bytes r
 
--- the bytes of a piece came behind those before them, all of which were pushed
-pub record IsReadOn (f : FrontState) (pushed : ℕ) (piece : List ℕ) (new : Intake) : Type 0 where
-  pub known : (bytes : List ℕ) → IsReading f pushed bytes → Knows new (bytes ++ piece)
+-- the report behind a problem part begins with these bytes
+abbrev pub IsBehind : FrontState → List ℕ → Intake → Type 0
+IsBehind f rest (Behind r) = report.IsSound r × report.HasBegun f rest r
+IsBehind f rest (Reading g pushed) = ⊥
 
 -- the bytes of a piece came behind those before them
 pub record HasTakenOn (old : Intake) (piece : List ℕ) (new : Intake) : Type 0 where
@@ -46,4 +48,10 @@ pub record HasCome (i : Intake) (taken : ℕ) (old new : Option (List ℕ)) : Ty
   pub bytes : List ℕ
   pub consumed : Consumes old new bytes
   pub all : taken ≡ length bytes
+  pub known : Knows i bytes
+
+-- all bytes that were left in a source were taken, they are at most `limit`, and of them this is known
+pub record HasTakenAll (i : Intake) (limit : ℕ) (old new : Option (List ℕ)) : Type 0 where
+  pub bytes : List ℕ
+  pub read : ReadAll limit old new bytes
   pub known : Knows i bytes

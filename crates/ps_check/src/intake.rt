@@ -1,7 +1,7 @@
 //! How far an input has come.
-ghost use Rattle.std.specs.Prelude.{◌≡◌, ◌≤◌, [], take, IfOk};
+ghost use Rattle.std.specs.Prelude.{◌≡◌, ◌≤◌, [], take, IfOk, OnOk};
 ghost use Rattle.ps_check.specs.declared.intake.TheConstants.{MOST_SEARCHED};
-ghost use Rattle.ps_check.specs.Intakes.{IsSound, IsReadOn, Knows, HasTakenOn, IsFound};
+ghost use Rattle.ps_check.specs.Intakes.{IsSound, IsBehind, Knows, HasTakenOn, IsFound};
 
 use crate::checked::Checked;
 use crate::report::Report;
@@ -32,20 +32,12 @@ fn at_most(bytes: &[u8], most: usize) -> &[u8]
     }
 }
 
-// How far an input has come behind a piece more, where the problem part may go on before it.
-fn read_on(alloc: Global, mut front: Front, pushed: usize, piece: &[u8]) -> Result<Intake, NoMemory>
-    requires taken { front.taken ≡ pushed }
-    requires room { pushed ≤ MOST_SEARCHED }
-    ensures sound { IfOk result IsSound }
-    ensures known { IfOk result (IsReadOn front pushed piece.now) }
+// Behind the problem part that was pushed, and these bytes behind it.
+fn behind(alloc: Global, front: &mut Front, rest: &[u8]) -> Result<Intake, NoMemory>
+    ensures { IfOk result (IsBehind front.old rest.now) }
 {
-    let searched = at_most(piece, MOST_SEARCHED - pushed);
-    let count = front.push(searched)? as usize;
-    if count == piece.len() {
-        let pushed = pushed + count;
-        return Ok(Intake::Reading { front, pushed });
-    }
-    let report = Report::begin(alloc, front, &piece[count..])?;
+    let front = std::mem::replace(front, Front::new(alloc));
+    let report = Report::begin(alloc, front, rest)?;
     Ok(Intake::Behind { report })
 }
 
@@ -62,17 +54,23 @@ impl Intake {
     }
 
     /// Takes one more piece.
-    pub(crate) fn take(self, alloc: Global, piece: &[u8]) -> Result<Intake, NoMemory>
-        requires sound { IsSound self }
-        ensures sound { IfOk result IsSound }
-        ensures taken { IfOk result (HasTakenOn self piece.now) }
+    pub(crate) fn take(&mut self, alloc: Global, piece: &[u8]) -> Result<(), NoMemory>
+        requires sound { IsSound self.old }
+        ensures sound { OnOk result (IsSound self.new) }
+        ensures taken { OnOk result (HasTakenOn self.old piece.now self.new) }
     {
         match self {
-            Intake::Reading { front, pushed } => read_on(alloc, front, pushed, piece),
-            Intake::Behind { report } => {
-                let report = report.take(piece)?;
-                Ok(Intake::Behind { report })
+            Intake::Reading { front, pushed } => {
+                let searched = at_most(piece, MOST_SEARCHED - *pushed);
+                let count = front.push(searched)? as usize;
+                if count == piece.len() {
+                    *pushed += count;
+                    return Ok(());
+                }
+                *self = behind(alloc, front, &piece[count..])?;
+                Ok(())
             }
+            Intake::Behind { report } => report.take(piece),
         }
     }
 

@@ -1,11 +1,11 @@
 //! All bytes of a source, judged as they come.
-ghost use Rattle.std.specs.Prelude.{◌≡◌, ℕ, IfOk, IfErr, IsErrOf};
+ghost use Rattle.std.specs.Prelude.{◌≡◌, ℕ, [], IfOk, IfErr, IsErrOf};
 ghost use Rattle.ps_io.specs.Causes.{CountsReadFault};
 ghost use Rattle.ps_io.specs.Transfer.{TookBefore};
 ghost use Rattle.ps_check.specs.Checks.{HasChecked};
-ghost use Rattle.std.specs.Prelude.{OnErr, Err};
+ghost use Rattle.std.specs.Prelude.{OnOk, OnErr, Err};
 ghost use Rattle.ps_io.specs.declared.reading.ReadAllError.TheVariants as errors;
-ghost use Rattle.ps_check.specs.Intakes.{IsSound, IsFound};
+ghost use Rattle.ps_check.specs.Intakes.{IsSound, IsFound, HasTakenAll, Knows};
 
 use crate::checked::Checked;
 use crate::intake::Intake;
@@ -19,6 +19,43 @@ fn end_of_bytes(alloc: Global, intake: Intake) -> Result<Checked, ReadAllError>
     ensures err { OnErr result (result ≡ Err errors.NoMemory) }
 {
     intake.finish(alloc).map_err(|_| ReadAllError::NoMemory)
+}
+
+// Takes all bytes that a source has left, if they are at most `limit`.
+fn take_all<I: Source>(
+    alloc: Global,
+    source: &mut I,
+    limit: u64,
+    intake: &mut Intake,
+) -> Result<(), ReadAllError>
+    requires none { Knows intake.old [] }
+    requires sound { IsSound intake.old }
+    ensures sound { OnOk result (IsSound intake.new) }
+    ensures ok { OnOk result (HasTakenAll intake.new limit (I.left source.old)
+        (I.left source.new)) }
+    ensures err { IfErr result (λ e. TookBefore e limit (I.left source.old) (I.left source.new)) }
+    ensures faults { CountsReadFault result (I.faults source.old) (I.faults source.new) }
+    ensures limit { (n : ℕ) → IsErrOf result (ReadAllError.TooLong n) → n ≡ limit }
+{
+    let mut piece = [0u8; LONGEST_READ];
+    let mut taken = 0u64;
+    loop {
+        let n = match source.read(&mut piece) {
+            Ok(n) => n,
+            Err(_) => return Err(ReadAllError::Fault),
+        };
+        if n == 0 {
+            return Ok(());
+        }
+        if limit - taken < n as u64 {
+            return Err(ReadAllError::TooLong { limit });
+        }
+        taken += n as u64;
+        match intake.take(alloc, &piece[..n]) {
+            Ok(()) => {}
+            Err(_) => return Err(ReadAllError::NoMemory),
+        }
+    }
 }
 
 /// What is found of all bytes that a source has left, if they are at most `limit`. The source is
@@ -37,23 +74,6 @@ pub fn check_stream<I: Source>(
     ensures limit { (n : ℕ) → IsErrOf result (ReadAllError.TooLong n) → n ≡ limit }
 {
     let mut intake = Intake::new(alloc);
-    let mut piece = [0u8; LONGEST_READ];
-    let mut taken = 0u64;
-    loop {
-        let n = match source.read(&mut piece) {
-            Ok(n) => n,
-            Err(_) => return Err(ReadAllError::Fault),
-        };
-        if n == 0 {
-            return end_of_bytes(alloc, intake);
-        }
-        if limit - taken < n as u64 {
-            return Err(ReadAllError::TooLong { limit });
-        }
-        taken += n as u64;
-        intake = match intake.take(alloc, &piece[..n]) {
-            Ok(intake) => intake,
-            Err(_) => return Err(ReadAllError::NoMemory),
-        };
-    }
+    take_all(alloc, source, limit, &mut intake)?;
+    end_of_bytes(alloc, intake)
 }

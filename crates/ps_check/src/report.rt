@@ -1,5 +1,5 @@
 //! What stands behind the problem part of an input.
-ghost use Rattle.std.specs.Prelude.{IfOk};
+ghost use Rattle.std.specs.Prelude.{IfOk, OnOk};
 ghost use Rattle.ps_check.specs.Reports.{IsSound, IsJudging, HasBegun, HasTakenOn, IsFound};
 
 use crate::checked::Checked;
@@ -50,17 +50,14 @@ impl Report {
     }
 
     /// Takes the bytes of a piece.
-    pub(crate) fn take(self, piece: &[u8]) -> Result<Report, NoMemory>
-        requires sound { IsSound self }
-        ensures sound { IfOk result IsSound }
-        ensures taken { IfOk result (HasTakenOn self piece.now) }
+    pub(crate) fn take(&mut self, piece: &[u8]) -> Result<(), NoMemory>
+        requires sound { IsSound self.old }
+        ensures sound { OnOk result (IsSound self.new) }
+        ensures taken { OnOk result (HasTakenOn self.old piece.now self.new) }
     {
         match self {
-            Report::Judging { mut judge } => {
-                judge.take(piece)?;
-                Ok(Report::Judging { judge })
-            }
-            Report::Refused { kind, line, column } => Ok(Report::Refused { kind, line, column }),
+            Report::Judging { judge } => judge.take(piece),
+            Report::Refused { .. } => Ok(()),
         }
     }
 

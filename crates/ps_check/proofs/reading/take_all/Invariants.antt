@@ -1,6 +1,6 @@
 use Rattle.std.proofs.Common.{◌≡◌, ◌≤◌, ◌-◌}
 use Rattle.ps_check.specs.Intakes.{IsSound, HasCome}
-use Rattle.ps_check.proofs.reading.check_stream.Given as goal
+use Rattle.ps_check.proofs.reading.take_all.Given as goal
 
 abbrev pub invariant-loop-n : goal.invariant-loop-n
 invariant-loop-n g l = record {

@@ -2,7 +2,7 @@ use Rattle.std.proofs.Common.{◌++◌, take, ◌∙◌, arith}
 use Rattle.std.proofs.lemmas.List.{length-append, length-take}
 use Rattle.ps_io.proofs.Bytes.{consumes-then}
 use Rattle.ps_check.proofs.InputsSoFar.{come_more}
-use Rattle.ps_check.proofs.reading.check_stream.Goals as goal
+use Rattle.ps_check.proofs.reading.take_all.Goals as goal
 
 pub returns-then-limit-taken-clause-err : goal.returns-then-limit-taken-clause-err
 returns-then-limit-taken-clause-err g c =
@@ -29,7 +29,7 @@ pub loop-n-preserved : goal.loop-n-preserved
 loop-n-preserved g c = record {
   sound = c.in-Ok-take.ensures.sound;
   came =
-      come_more c.loop-n.intake c.in-Ok-take.intake c.loop-n.taken c.in-Ok.n _ _ _ (take c.in-Ok.n c.read.new.buf) c.loop-n.invariant.came c.in-Ok-take.ensures.taken
+      come_more c.loop-n.intake c.take.new.self c.loop-n.taken c.in-Ok.n _ _ _ (take c.in-Ok.n c.read.new.buf) c.loop-n.invariant.came c.in-Ok-take.ensures.taken
       c.in-Ok.ensures.ok (omega (arith, c.in-Ok.ensures.bound, length-take c.in-Ok.n c.read.new.buf));
   within = omega (arith, c.loop-n.invariant.within);
   no_fault = c.in-Ok.ensures.faults.ok ∙ c.loop-n.invariant.no_fault;
