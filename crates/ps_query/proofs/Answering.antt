@@ -26,7 +26,6 @@ use Rattle.ps_reported.proofs.Reports.{all_within, all_short, asked_same}
 use Rattle.ps_master.specs.declared.first.First.{First}
 use Rattle.ps_master.specs.declared.first.First.TheVariants as first
 use Rattle.ps_master.specs.Runs.{RunState, IsPhaseOneAnswer, IsValidFirst, IsPrintedFirst, verdict_of}
-use Rattle.ps_query.specs.declared.opening.Opening.{Opening}
 use Rattle.ps_query.specs.Parts.{ComesOf, IsNewOverAll, IsOpening, IsPartOf, IsVerdictOf}
 use Rattle.ps_query.specs.Solutions.{AreShortLines, IsReadBack, IsSolution}
 use Rattle.ps_query.proofs.Queries.{traced_alone, lawful_whole, valid_whole}
@@ -63,12 +62,11 @@ comes_of limits p new done (first.Reached m) events run is_new traced taken of =
 comes_of limits p new done (first.Nothing d) events run is_new traced taken of = tt
 comes_of limits p new done (first.Open cause) events run is_new traced taken of = tt
 
-pub opening : (limits : Limits) (p : Parts) (new done : RunState) (answer : First) (o : Opening) → IsNewOverAll p None limits new
-    → IsPhaseOneAnswer new done answer → IsPrintedFirst answer → o.verdict ≡ verdict_of answer → o.first ≡ done.trace → o.run ≡ record done { trace = [] }
-    → IsOpening limits p o
-opening limits p new done answer o is_new of printed verdict traced taken = record {
-  verdict = same_verdict limits p o.verdict (verdict_of answer) o.first done.trace verdict traced (is_verdict limits p new done answer is_new of printed);
-  run = subst (λ v. ComesOf limits p v o.first o.run) (sym verdict) (comes_of limits p new done answer o.first o.run is_new traced taken of);
+pub opening : (new done end : RunState) (answer : First) (v : Verdict) (events : List Event) → IsPhaseOneAnswer new done answer
+    → IsPrintedFirst answer → v ≡ verdict_of answer → events ≡ done.trace → end ≡ record done { trace = [] } → IsOpening new end v events
+opening new done end answer v events of printed verdict traced taken = record {
+  verdict = λ limits p is_new. same_verdict limits p v (verdict_of answer) events done.trace verdict traced (is_verdict limits p new done answer is_new of printed);
+  run = λ limits p is_new. subst (λ x. ComesOf limits p x events end) (sym verdict) (comes_of limits p new done answer events end is_new traced taken of);
 }
 
 -- ---- the parts

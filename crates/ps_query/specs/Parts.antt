@@ -20,7 +20,6 @@ use Rattle.ps_runs.specs.Runs.{Stage}
 use Rattle.ps_phases.specs.Verdicts.{IsLawfulSide, IsLawfulVerdict, IsLawfulPart, asked_after}
 use Rattle.ps_certificate.specs.Printed.{IsPrintedPart, IsPrintedVerdict}
 use Rattle.ps_phases.specs.declared.limits.Limits.{Limits}
-use Rattle.ps_query.specs.declared.opening.Opening.{Opening}
 use Rattle.ps_master.specs.declared.first.First.{First}
 use Rattle.ps_master.specs.declared.first.First.TheVariants as first
 use Rattle.ps_master.specs.Runs.{RunState, stage_of, IsAtStart, IsPhaseOneAnswer, IsReached, IsValidSide, IsWholeSide, kept_side}
@@ -81,6 +80,16 @@ pub record IsPartOf (limits : Limits) (p : Parts) (q : Query) (part : QueryPart)
   pub valid : IsValidPart p q (part_of part.answer)
   pub printed : IsPrintedPart part.answer
 
+-- the answer to the query of a run at its start, where that is over all sentences of a problem
+abbrev pub IsPartOfRun : RunState → QueryPart → Type 0
+IsPartOfRun r part = (p : Parts) → (q : Query) → (limits : Limits) → IsNewOverAll p (Some q) limits r → IsPartOf limits p q part
+
+-- both sides of the run's query, behind these events
+pub record AreBoundsBehind (r : RunState) (first : List Event) (part : QueryPart) : Type 0 where
+  pub bounds : AreBoundsOf r part.answer
+  pub printed : IsPrintedPart part.answer
+  pub behind : part.first ≡ first
+
 -- a run without a query has reached a distribution by these events, which were taken
 pub record HasReachedAlone (limits : Limits) (p : Parts) (events : List Event) (r : RunState) : Type 0 where
   pub new : RunState
@@ -97,10 +106,10 @@ ComesOf limits p (verdict.Consistent m) events r = HasReachedAlone limits p even
 ComesOf limits p (verdict.Inconsistent d) events r = Unit {0}
 ComesOf limits p (verdict.Open cause) events r = Unit {0}
 
--- the verdict on a problem with the events of its run, and the run behind them
-pub record IsOpening (limits : Limits) (p : Parts) (o : Opening) : Type 0 where
-  pub verdict : IsVerdictOf limits p o.verdict o.first
-  pub run : ComesOf limits p o.verdict o.first o.run
+-- what phase one of a run without a query leads to, over all sentences of a problem: the verdict, and the run behind it
+pub record IsOpening (old new : RunState) (v : Verdict) (first : List Event) : Type 0 where
+  pub verdict : (limits : Limits) → (p : Parts) → IsNewOverAll p None limits old → IsVerdictOf limits p v first
+  pub run : (limits : Limits) → (p : Parts) → IsNewOverAll p None limits old → ComesOf limits p v first new
 
 -- a part for each query of a problem that is asked behind this verdict
 abbrev pub ArePartsUnder : Limits → Parts → Verdict → List QueryPart → Type 0

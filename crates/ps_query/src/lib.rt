@@ -1,7 +1,6 @@
 //! Answers to problems: the verdict, and the tightest bounds of the queries.
 #![tactic(auto)]
 
-mod opening;
 mod solving;
 mod starting;
 

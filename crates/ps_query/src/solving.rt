@@ -4,12 +4,12 @@ ghost use Rattle.std.specs.List.{AllZip};
 ghost use Rattle.ps_problem.specs.Problems.{HasNodes};
 ghost use Rattle.ps_certificate.specs.Printed.{IsPrintedPart};
 ghost use Rattle.ps_generation.specs.Phases.{AreLimits};
-ghost use Rattle.ps_master.specs.Runs.{IsPrintedFirst, IsReached, verdict_of};
-ghost use Rattle.ps_query.specs.Parts.{AreBoundsOf, ArePartsUnder, HasReachedAlone};
-ghost use Rattle.ps_query.specs.Parts.{IsBehind, IsOpening, IsPartOf, IsVerdictOf, MayGoOn};
+ghost use Rattle.ps_master.specs.Runs.{IsAtStart, IsPrintedFirst, IsReached, verdict_of};
+ghost use Rattle.ps_query.specs.Parts.{AreBoundsBehind, AreBoundsOf, ArePartsUnder, ComesOf};
+ghost use Rattle.ps_query.specs.Parts.{HasReachedAlone, IsBehind, IsNewOverAll, IsOpening};
+ghost use Rattle.ps_query.specs.Parts.{IsPartOf, IsPartOfRun, IsVerdictOf, MayGoOn};
 ghost use Rattle.ps_query.specs.Solutions.{AreShortLines, IsReadBack, IsSolution};
 
-use crate::opening::Opening;
 use crate::starting::run_over_all;
 use ps_answer::{Answer, Parts, QueryAnswer, QueryPart, Verdict};
 use ps_io::{List, NoMemory};
@@ -64,6 +64,18 @@ fn answer_behind(run: &mut Run<'_>, first: First) -> Result<QueryAnswer, NoMemor
     }
 }
 
+/// The answer to the query of a run at its start.
+fn part_of(run: &mut Run<'_>) -> Result<QueryPart, NoMemory>
+    requires query { run.old.over.subject.query ≢ None }
+    requires start { IsAtStart run.old }
+    ensures { IfOk result (IsPartOfRun run.old) }
+{
+    let reached = run.phase_one()?;
+    let first = run.take_trace();
+    let answer = answer_behind(run, reached)?;
+    Ok(QueryPart { answer, first })
+}
+
 /// The answer to a query, from a run of its own.
 pub fn query_part(
     alloc: Global,
@@ -76,10 +88,20 @@ pub fn query_part(
     ensures { IfOk result (IsPartOf limits problem.now query) }
 {
     let mut run = run_over_all(alloc, problem, Some(query), limits)?;
-    let reached = run.phase_one()?;
-    let first = run.take_trace();
-    let answer = answer_behind(&mut run, reached)?;
-    Ok(QueryPart { answer, first })
+    part_of(&mut run)
+}
+
+/// The two sides of the query of a run that has reached a distribution, behind these events.
+fn bounds_behind(alloc: Global, run: &mut Run<'_>, first: &Trace) -> Result<QueryPart, NoMemory>
+    requires query { run.old.over.subject.query ≢ None }
+    requires reached { IsReached run.old }
+    requires taken { run.old.trace ≡ [] }
+    ensures { IfOk result (AreBoundsBehind run.old first.now) }
+{
+    Ok(QueryPart {
+        answer: bounds(run)?,
+        first: trace_copy(alloc, first.as_slice())?,
+    })
 }
 
 /// The answer to a query, behind a run without a query: one without evidence goes on from there.
@@ -100,10 +122,7 @@ fn part_behind(
         return query_part(alloc, problem, query, limits);
     }
     let mut asked = run.asking(query)?;
-    Ok(QueryPart {
-        answer: bounds(&mut asked)?,
-        first: trace_copy(alloc, first.as_slice())?,
-    })
+    bounds_behind(alloc, &mut asked, first)
 }
 
 /// The answers to all queries, behind a run without a query.
@@ -125,38 +144,32 @@ fn query_parts(
     Ok(parts)
 }
 
-/// The answers to the queries of a problem, behind its verdict.
+/// The answers to the queries of a problem, behind its verdict and the run without a query.
 fn parts_under(
     alloc: Global,
     problem: &Problem,
     limits: Limits,
-    opening: &Opening<'_>,
+    verdict: &Verdict,
+    run: &Run<'_>,
+    first: &Trace,
 ) -> Result<Parts, NoMemory>
     requires limits { AreLimits limits }
-    requires opening { IsOpening limits problem.now opening.now }
-    ensures { IfOk result (ArePartsUnder limits problem.now opening.now.verdict) }
+    requires comes { ComesOf limits problem.now verdict.now first.now run.now }
+    ensures { IfOk result (ArePartsUnder limits problem.now verdict.now) }
 {
-    match &opening.verdict {
-        Verdict::Consistent(_) => {
-            query_parts(alloc, problem, limits, &opening.run, &opening.first)
-        }
+    match verdict {
+        Verdict::Consistent(_) => query_parts(alloc, problem, limits, run, first),
         Verdict::Inconsistent(_) | Verdict::Open(_) => Ok(List::new(alloc)),
     }
 }
 
-/// The verdict on a problem, from a run without a query.
-fn open(alloc: Global, problem: &Problem, limits: Limits) -> Result<Opening<'_>, NoMemory>
-    requires limits { AreLimits limits }
-    ensures { IfOk result (IsOpening limits problem.now) }
+/// The verdict of a run without a query, at its start, with the run's events.
+fn begin(run: &mut Run<'_>) -> Result<(Verdict, Trace), NoMemory>
+    requires start { IsAtStart run.old }
+    ensures { IfOk result (λ r. IsOpening run.old run.new r.0 r.1) }
 {
-    let mut run = run_over_all(alloc, problem, None, limits)?;
     let verdict = verdict_of(run.phase_one()?);
-    let first = run.take_trace();
-    Ok(Opening {
-        verdict,
-        first,
-        run,
-    })
+    Ok((verdict, run.take_trace()))
 }
 
 /// The verdict on a problem, from a run without a query, with the run's events.
@@ -168,8 +181,32 @@ pub fn verdict_part(
     requires limits { AreLimits limits }
     ensures { IfOk result (λ r. IsVerdictOf limits problem.now r.0 r.1) }
 {
-    let opening = open(alloc, problem, limits)?;
-    Ok((opening.verdict, opening.first))
+    let mut run = run_over_all(alloc, problem, None, limits)?;
+    begin(&mut run)
+}
+
+/// The answer to a problem, by a run without a query, at its start.
+fn answer_by(
+    alloc: Global,
+    problem: &Problem,
+    limits: Limits,
+    run: &mut Run<'_>,
+) -> Result<Answer, NoMemory>
+    requires limits { AreLimits limits }
+    requires new { IsNewOverAll problem.now None limits run.old }
+    ensures solution { IfOk result (IsSolution limits problem.now) }
+    ensures short { IfOk result AreShortLines }
+    ensures read_back { IfOk result (IsReadBack limits) }
+{
+    // Called for its clauses: the problem is within the limits, and its numbers are in range.
+    let _sound = problem.bound_list();
+    let (verdict, first) = begin(run)?;
+    let parts = parts_under(alloc, problem, limits, &verdict, run, &first)?;
+    Ok(Answer {
+        verdict,
+        first,
+        parts,
+    })
 }
 
 /// The answer to a problem within limits of pivots and conflicts: the verdict, and where that is
@@ -181,13 +218,6 @@ pub fn solve(alloc: Global, problem: &Problem, limits: Limits) -> Result<Answer,
     ensures short { IfOk result AreShortLines }
     ensures read_back { IfOk result (IsReadBack limits) }
 {
-    // Called for its clauses: the problem is within the limits, and its numbers are in range.
-    let _sound = problem.bound_list();
-    let opening = open(alloc, problem, limits)?;
-    let parts = parts_under(alloc, problem, limits, &opening)?;
-    Ok(Answer {
-        verdict: opening.verdict,
-        first: opening.first,
-        parts,
-    })
+    let mut run = run_over_all(alloc, problem, None, limits)?;
+    answer_by(alloc, problem, limits, &mut run)
 }
