@@ -9,6 +9,7 @@ use Rattle.ps_answer.specs.declared.answer.Model.{Model}
 use Rattle.ps_runs.specs.Kept.{kept_parts, IsChoice}
 use Rattle.ps_certificate.specs.Printed.{IsPrintedModel, IsPrintedDual, IsPrintedCause}
 use Rattle.ps_phases.specs.declared.limits.Limits.{Limits}
+use Rattle.ps_master.specs.Runs.{RunState, IsNew}
 use Rattle.ps_explain.specs.declared.conflict.Conflict.{Conflict}
 use Rattle.ps_explain.specs.declared.outcome.Outcome.{Outcome}
 use Rattle.ps_explain.specs.declared.outcome.Outcome.TheVariants as outcome
@@ -55,6 +56,11 @@ abbrev pub IsOutcome : Limits → Parts → List Bool → Outcome → Type 0
 IsOutcome limits p kept (outcome.Met m) = IsModelOfKept p kept m × IsPrintedModel m
 IsOutcome limits p kept (outcome.NotMet c) = IsConflictAmong p kept c
 IsOutcome limits p kept (outcome.Open cause first) = IsOpen limits (kept_parts kept p) cause first × IsPrintedCause cause
+
+-- what a run at its start comes to, where that is over the kept sentences of a problem
+abbrev pub IsOutcomeOfRun : Parts → RunState → Outcome → Type 0
+IsOutcomeOfRun p r o = (kept : List Bool) → (limits : Limits) → IsNew p kept None limits r → IsChoice kept p
+    → IsOutcome limits p kept o
 
 -- what they come to without the sentence at a place: it is needed, some of the others can't be met together, or it is open
 abbrev pub IsTried : Limits → Parts → List Bool → ℕ → Tried → Type 0

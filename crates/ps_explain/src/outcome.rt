@@ -2,7 +2,8 @@
 ghost use Rattle.std.specs.Prelude.{◌≡◌, true, false, get_or, IfOk};
 ghost use Rattle.ps_runs.specs.Kept.{IsChoice};
 ghost use Rattle.ps_generation.specs.Phases.{AreLimits};
-ghost use Rattle.ps_explain.specs.Steps.{IsConflict, IsOutcome, IsTried};
+ghost use Rattle.ps_master.specs.Runs.{IsAtStart};
+ghost use Rattle.ps_explain.specs.Steps.{IsConflict, IsOutcome, IsOutcomeOfRun, IsTried};
 
 use crate::conflict::Conflict;
 use crate::explained::Explained;
@@ -41,6 +42,24 @@ pub(crate) enum Tried {
     Open(Explained),
 }
 
+/// What a run at its start comes to.
+fn outcome_of(alloc: Global, problem: &Problem, run: &mut Run<'_>) -> Result<Outcome, NoMemory>
+    requires start { IsAtStart run.old }
+    ensures { IfOk result (IsOutcomeOfRun problem.now run.old) }
+{
+    match run.phase_one()? {
+        First::Reached(model) => Ok(Outcome::Met(model)),
+        First::Nothing(dual) => Ok(Outcome::NotMet(Conflict {
+            kept: used_by(alloc, problem.sentences().as_slice(), dual.rows.as_slice())?,
+            dual,
+        })),
+        First::Open(cause) => Ok(Outcome::Open {
+            cause,
+            first: run.take_trace(),
+        }),
+    }
+}
+
 /// What the run over the kept sentences comes to.
 fn run_over(
     alloc: Global,
@@ -53,17 +72,7 @@ fn run_over(
     ensures { IfOk result (IsOutcome limits problem.now kept.now) }
 {
     let mut run = Run::new(alloc, problem, kept, None, limits)?;
-    match run.phase_one()? {
-        First::Reached(model) => Ok(Outcome::Met(model)),
-        First::Nothing(dual) => Ok(Outcome::NotMet(Conflict {
-            kept: used_by(alloc, problem.sentences().as_slice(), dual.rows.as_slice())?,
-            dual,
-        })),
-        First::Open(cause) => Ok(Outcome::Open {
-            cause,
-            first: run.take_trace(),
-        }),
-    }
+    outcome_of(alloc, problem, &mut run)
 }
 
 /// What the kept sentences come to: it is guessed, and where no guess is shown, a run tells it.
