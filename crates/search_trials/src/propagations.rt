@@ -1,6 +1,7 @@
 //! Propagation by watched literals, beside passes over all constraints.
 ghost use Rattle.std.specs.Prelude.{◌≡◌, IsTrue, IfOk, OnOk, IfSome, IfNone};
 ghost use Rattle.ps_trail.specs.Trails.{values, decided, IsFresh};
+ghost use Rattle.ps_steps.specs.Weights.{IsWithin};
 ghost use Rattle.ps_watch.specs.Keeping.{IsInStep, HasSeenLower};
 
 use crate::draw::Draw;
@@ -224,23 +225,49 @@ fn make_move(
     }
 }
 
-// Whether each propagation of a drawn case is as by passes, and the slack as a sum that is made
+// Whether each propagation after so many moves is as by passes, and the slack as a sum that is made
 // anew.
+fn are_moves_alike(
+    alloc: Global,
+    draw: &mut Draw,
+    kept: &mut Kept,
+    goal: &Constraint,
+    trail: &mut Trail,
+) -> Result<bool, NoMemory>
+    requires variables { trail.old.variables ≡ kept.old.variables }
+    requires in_step { IsInStep kept.old trail.old }
+{
+    let mut decided = Vec::new(alloc);
+    for _ in 0..MOVES {
+        if let Some(alike) = make_move(alloc, draw, kept, goal, trail, &mut decided)? {
+            return Ok(alike);
+        }
+    }
+    Ok(true)
+}
+
+// Whether the moves over a form and a goal are.
+fn is_alike_over(
+    alloc: Global,
+    draw: &mut Draw,
+    form: &ClauseForm,
+    goal: &Constraint,
+) -> Result<bool, NoMemory>
+    requires { IsWithin form.now.variables goal.now }
+{
+    let mut kept = Kept::new(alloc, form, goal)?;
+    let mut trail = Trail::new(alloc, form.variables())?;
+    are_moves_alike(alloc, draw, &mut kept, goal, &mut trail)
+}
+
+// Whether those of a drawn case are.
 fn is_alike(alloc: Global, draw: &mut Draw) -> Result<bool, NoMemory> {
     let form = drawn_form(alloc, draw)?;
     let goal = drawn_goal(alloc, draw)?;
     if !is_within(form.variables(), &goal) {
         return Ok(false);
     }
-    let mut kept = Kept::new(alloc, &form, &goal)?;
-    let mut trail = Trail::new(alloc, form.variables())?;
-    let mut decided = Vec::new(alloc);
-    for _ in 0..MOVES {
-        if let Some(alike) = make_move(alloc, draw, &mut kept, &goal, &mut trail, &mut decided)? {
-            return Ok(alike);
-        }
-    }
-    Ok(true)
+    is_alike_over(alloc, draw, &form, &goal)
 }
 
 /// How many of so many cases of decisions, cuts and learned clauses propagate as passes over all

@@ -5,7 +5,7 @@ ghost use Rattle.ps_steps.specs.Weights.{IsWithin};
 use ps_clause::ClauseForm;
 use ps_io::NoMemory;
 use ps_log::HeldLog;
-use ps_pb::{Constraint, Step, from_weights};
+use ps_pb::{Constraint, Step, Steps, from_weights};
 use ps_pbcheck::Checker;
 use ps_sat::{MOST_CONFLICTS, Outcome, SearchError, search};
 use std::alloc::Global;
@@ -37,15 +37,26 @@ pub fn is_within(variables: u32, goal: &Constraint) -> bool
         .all(|term| term.0.place() < variables)
 }
 
+// What the search of a form ends with, and its steps.
+fn search_with_steps(
+    alloc: Global,
+    form: &ClauseForm,
+    goal: &Constraint,
+) -> Result<(Outcome, Steps), SearchError>
+    requires { IsWithin form.now.variables goal.now }
+{
+    let mut log = HeldLog::new(alloc);
+    let outcome = search(alloc, form, goal, MOST_CONFLICTS, &mut log)?;
+    Ok((outcome, log.take_steps()))
+}
+
 /// Searches a form, and checks the refutation where there is one. The second is the number of steps.
 pub fn search_and_check(alloc: Global, form: ClauseForm) -> Result<(Ended, u64), SearchError> {
     let goal = no_goal(alloc)?;
     if !is_within(form.variables(), &goal) {
         return Ok((Ended::Untaken, 0));
     }
-    let mut log = HeldLog::new(alloc);
-    let outcome = search(alloc, &form, &goal, MOST_CONFLICTS, &mut log)?;
-    let steps = log.take_steps();
+    let (outcome, steps) = search_with_steps(alloc, &form, &goal)?;
     let count = steps.as_slice().len() as u64;
     let ended = match outcome {
         Outcome::Found(_) => Ended::Found,

@@ -1,6 +1,6 @@
 use Rattle.std.proofs.Common.{◌≡◌}
 use Rattle.ps_watch.specs.Keeping.{IsInStep}
-use Rattle.search_trials.proofs.propagations.is_alike.Given as goal
+use Rattle.search_trials.proofs.propagations.are_moves_alike.Given as goal
 
 abbrev pub invariant-loop : goal.invariant-loop
 invariant-loop l = record {
