@@ -1,6 +1,8 @@
 //! The reply to a problem that is to be explained.
 ghost use Rattle.std.specs.Prelude.{◌≡◌, ◌≤◌, length, IfOk};
 ghost use Rattle.ps_generation.specs.Phases.{AreLimits};
+ghost use Rattle.ps_explain.specs.Explanations.{IsPrintedExplanation, IsRightExplanation};
+ghost use Rattle.ps_explain.specs.Texts.{HasShortLines};
 ghost use Rattle.psat.specs.declared.command.TheConstants.{MOST_PROBLEM};
 ghost use Rattle.psat.specs.Due as due;
 ghost use Rattle.psat.specs.Due.{DueExplained};
@@ -14,6 +16,7 @@ use crate::status::Status;
 use ps_engine::Engine;
 use ps_explain::{Explained, explain};
 use ps_io::NoMemory;
+use ps_problem::Problem;
 use ps_query::Limits;
 use ps_read::{ReadError, read_whole};
 use std::alloc::Global;
@@ -27,6 +30,17 @@ pub fn status_explained(explained: &Explained) -> Status
         Explained::Core { .. } => Status::Inconsistent,
         Explained::Open { .. } => Status::Unfinished,
     }
+}
+
+// Why the sentences of a problem can't be met together, by an engine's guesses.
+fn explanation_of(alloc: Global, problem: &Problem, limits: Limits) -> Result<Explained, NoMemory>
+    requires limits { AreLimits limits }
+    ensures right { IfOk result (IsRightExplanation limits problem.now) }
+    ensures printed { IfOk result IsPrintedExplanation }
+    ensures short { IfOk result HasShortLines }
+{
+    let mut engine = Engine::new(alloc, problem)?;
+    explain(alloc, problem, limits, &mut engine)
 }
 
 /// The reply to all bytes of a problem that is to be explained. Where `enough` is true, each run
@@ -46,8 +60,7 @@ pub fn reply_to_explain(
     match read_whole(alloc, bytes) {
         Ok(problem) => {
             let limits = limits_for(&problem, limits, enough);
-            let mut engine = Engine::new(alloc, &problem)?;
-            Ok(Reply::Explanation(explain(alloc, &problem, limits, &mut engine)?))
+            Ok(Reply::Explanation(explanation_of(alloc, &problem, limits)?))
         }
         Err(ReadError::At { kind, line, column }) => {
             Ok(Reply::Line(Message::unreadable(alloc, kind, line, column)?))

@@ -2,10 +2,10 @@ use Rattle.psat.specs.Replies.{message_output}
 use Rattle.psat.proofs.DueLaws.{explained_due, unexplained_due}
 use Rattle.psat.proofs.explained.reply_to_explain.Goals as goal
 
-pub returns-in_ok-explain-in-Ok-clause-due : goal.returns-in_ok-explain-in-Ok-clause-due
-returns-in_ok-explain-in-Ok-clause-due c =
-    explained_due c.args.limits c.limits_for-limits.result c.args.enough c.args.bytes.now c.in-Ok.problem c.in_ok-explain-in-Ok.field-0 c.limits_for-limits.ensures.limits c.in-Ok.ensures.found
-    c.in_ok-explain-in-Ok.ensures.right
+pub returns-in_ok-explanation_of-in-Ok-clause-due : goal.returns-in_ok-explanation_of-in-Ok-clause-due
+returns-in_ok-explanation_of-in-Ok-clause-due c =
+    explained_due c.args.limits c.limits_for-limits.result c.args.enough c.args.bytes.now c.in-Ok.problem c.in_ok-explanation_of-in-Ok.field-0 c.limits_for-limits.ensures.limits c.in-Ok.ensures.found
+    c.in_ok-explanation_of-in-Ok.ensures.right
 
 pub returns-in_ok-unreadable-in-Err-At-clause-due : goal.returns-in_ok-unreadable-in-Err-At-clause-due
 returns-in_ok-unreadable-in-Err-At-clause-due c =
