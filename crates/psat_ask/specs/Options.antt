@@ -8,6 +8,7 @@ use Rattle.ps_ask.specs.declared.settings.Style.{Style}
 use Rattle.ps_ask.specs.declared.settings.Style.TheVariants.{Words}
 use Rattle.psat_ask.specs.declared.options.Valued.{Valued}
 use Rattle.psat_ask.specs.declared.options.Valued.TheVariants.{Digits, Pivots, Conflicts}
+use Rattle.psat_ask.specs.declared.request.Asked.{Asked}
 use Rattle.psat_ask.specs.Numbers.{Spells, SpellsNone}
 
 -- the digits of decimals are those that the word spells, and nothing else changes
@@ -42,6 +43,10 @@ pub record HasOtherStyle (settings : Settings) (style : Style) : Type 0 where
 pub record SetsStyle (style : Style) (old new : Settings) : Type 0 where
   pub free : ¬ HasOtherStyle old style
   pub kept : new ≡ record old { style = style }
+
+-- the settings of what is asked take the style
+abbrev pub TakesStyle : Style → Asked → Asked → Type 0
+TakesStyle style old new = SetsStyle style old.settings new.settings
 
 -- the settings that are found are the old ones in the style; there are none where another was asked for
 abbrev pub FindsStyle : Style → Settings → Option Settings → Type 0

@@ -1,7 +1,7 @@
 //! What the words behind the program's name ask for.
 ghost use Rattle.std.specs.Prelude.{IfOk, IfSome, OnOk};
 ghost use Rattle.ps_ask.specs.Shown.{AreSettings};
-ghost use Rattle.psat_ask.specs.Options.{SetsStyle};
+ghost use Rattle.psat_ask.specs.Options.{TakesStyle};
 ghost use Rattle.psat_ask.specs.Requests.{HasSettings};
 
 use crate::options::{Valued, default_settings, option_named, seconds_of, with_style, with_value};
@@ -64,8 +64,7 @@ impl Reading {
     // Changes the style.
     fn style(&mut self, style: Style) -> Result<(), Refused>
         requires { AreSettings self.old.asked.settings }
-        ensures set { OnOk result
-            (SetsStyle style self.old.asked.settings self.new.asked.settings) }
+        ensures set { OnOk result (TakesStyle style self.old.asked self.new.asked) }
         ensures lawful { AreSettings self.new.asked.settings }
     {
         match with_style(self.asked.settings, style) {

@@ -223,13 +223,16 @@ fn is_told(alloc: Global, refused: &Refused, number: u8, due: &str) -> bool {
     }
 }
 
+fn are_told(alloc: Global) -> bool {
+    is_told(alloc, &Refused::Wrong("a fault"), 2, "a fault")
+        && is_told(alloc, &Refused::NotText, 10, "an argument isn't UTF-8")
+        && is_told(alloc, &Refused::NoWords, 10, "the arguments can't be had")
+        && is_told(alloc, &Refused::NoMemory, 7, "not enough memory")
+}
+
 #[test]
 fn refusals_have_numbers(rt: HostRuntime) {
-    let alloc = rt.alloc();
-    assert!(rt; is_told(alloc, &Refused::Wrong("a fault"), 2, "a fault"));
-    assert!(rt; is_told(alloc, &Refused::NotText, 10, "an argument isn't UTF-8"));
-    assert!(rt; is_told(alloc, &Refused::NoWords, 10, "the arguments can't be had"));
-    assert!(rt; is_told(alloc, &Refused::NoMemory, 7, "not enough memory"));
+    assert!(rt; are_told(rt.alloc()));
 }
 
 #[test]
