@@ -14,11 +14,16 @@ const WRITTEN: &[u8] = b"g 21 10 1 10 -2 10 3 0\ns 5 0 4 3 0\ns 5 0 4 3 0\n";
 // The number of the write that fails, and how many bytes were written by pieces of 8.
 const PREFIXES: [(u64, usize); 7] = [(1, 0), (2, 8), (3, 16), (4, 23), (5, 31), (6, 35), (7, 43)];
 
+fn push_terms(terms: &mut Terms) -> Option<()> {
+    for lit in [1, -2, 3] {
+        terms.push((Lit::new(lit)?, 10)).ok()?;
+    }
+    Some(())
+}
+
 fn goal(alloc: Global) -> Option<Constraint> {
     let mut terms = Terms::new(alloc);
-    terms.push((Lit::new(1)?, 10)).ok()?;
-    terms.push((Lit::new(-2)?, 10)).ok()?;
-    terms.push((Lit::new(3)?, 10)).ok()?;
+    push_terms(&mut terms)?;
     Constraint::new(terms, 21)
 }
 
@@ -96,19 +101,28 @@ fn hand_over_as_text(
     Some((done, log.whole()))
 }
 
+// Whether so many bytes are written, and whether all were.
+fn is_handed_over(
+    alloc: Global,
+    sink: &mut MemSink,
+    goal: &Constraint,
+    step: &Step,
+    length: usize,
+    whole: bool,
+) -> Option<bool> {
+    if !sink.bytes().is_empty() || !is_goal_within(goal) || !is_step_within(step) {
+        return None;
+    }
+    let shown = hand_over_as_text(alloc, sink, goal, step)?;
+    Some(shown == (whole, whole) && WRITTEN.get(..length) == Some(sink.bytes()))
+}
+
 // What is written by pieces of 8 bytes, where one write fails; then the log is no longer whole.
 fn stops(alloc: Global, call: u64, length: usize, whole: bool) -> Option<bool> {
+    let mut sink = MemSink::new(alloc, 8, vec![in alloc; call].ok()?, 100).ok()?;
     let goal = goal(alloc)?;
     let step = step(alloc)?;
-    if !is_goal_within(&goal) || !is_step_within(&step) {
-        return None;
-    }
-    let mut sink = MemSink::new(alloc, 8, vec![in alloc; call].ok()?, 100).ok()?;
-    if !sink.bytes().is_empty() {
-        return None;
-    }
-    let shown = hand_over_as_text(alloc, &mut sink, &goal, &step)?;
-    Some(shown == (whole, whole) && WRITTEN.get(..length) == Some(sink.bytes()))
+    is_handed_over(alloc, &mut sink, &goal, &step, length, whole)
 }
 
 fn stops_at_each_write(alloc: Global) -> bool {

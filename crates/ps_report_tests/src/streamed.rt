@@ -52,26 +52,34 @@ fn next_line(bytes: &[u8]) -> Option<(&[u8], &[u8])>
     split_once(bytes, b'\n')
 }
 
+// Takes the lines of a report, and answers the bytes behind the last one.
+fn take_lines<'a>(check: &mut StreamCheck, report: &'a [u8]) -> Option<&'a [u8]>
+    ensures { IfSome result (λ rest. IsOneLine rest.now) }
+{
+    let mut rest = report;
+    for _ in 0..report.len() {
+        match next_line(rest) {
+            Some((line, more)) => {
+                check.line(line).ok()?;
+                rest = more;
+            }
+            None => return Some(rest),
+        }
+    }
+    match next_line(rest) {
+        Some(_) => None,
+        None => Some(rest),
+    }
+}
+
 // What is said of a report that comes line by line.
 fn said(alloc: Global, problem: Problem, report: &[u8]) -> Result<Accepted, StreamEnd> {
     let Ok(mut check) = StreamCheck::new(alloc, problem) else {
         return Err(StreamEnd::NoMemory);
     };
-    let mut rest = report;
-    for _ in 0..report.len() {
-        match next_line(rest) {
-            Some((line, more)) => {
-                if check.line(line).is_err() {
-                    return Err(StreamEnd::NoMemory);
-                }
-                rest = more;
-            }
-            None => return check.finish(rest),
-        }
-    }
-    match next_line(rest) {
-        Some(_) => Err(StreamEnd::NoMemory),
-        None => check.finish(rest),
+    match take_lines(&mut check, report) {
+        Some(rest) => check.finish(rest),
+        None => Err(StreamEnd::NoMemory),
     }
 }
 

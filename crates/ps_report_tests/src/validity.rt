@@ -154,16 +154,22 @@ fn answer_of(alloc: Global, report: &[u8]) -> Option<Answer>
     }
 }
 
-// Whether this is said of a report.
+// What is said of a report on a problem.
+fn said(alloc: Global, problem: &Problem, report: &[u8]) -> Option<Result<Accepted, CheckError>> {
+    let answer = answer_of(alloc, report)?;
+    Some(check(alloc, problem, &answer))
+}
+
+// Whether this is said of a report on the problem of a text.
 fn is_said(
     alloc: Global,
     text: &[u8],
     report: &[u8],
     expected: Result<Accepted, CheckError>,
 ) -> bool {
-    match (problem_of(alloc, text), answer_of(alloc, report)) {
-        (Some(problem), Some(answer)) => check(alloc, &problem, &answer) == expected,
-        _ => false,
+    match problem_of(alloc, text) {
+        Some(problem) => said(alloc, &problem, report) == Some(expected),
+        None => false,
     }
 }
 
@@ -243,19 +249,44 @@ fn is_against_lower(
     }
 }
 
+// Whether this is found against the lower side of an answer to the problem's only query.
+fn is_against_answer(
+    alloc: Global,
+    problem: &Problem,
+    answer: &Answer,
+    kind: ClaimKind,
+    expected: Option<Reason>,
+) -> bool
+    requires { IsSmallAnswer answer.now }
+{
+    let queries = problem.queries().as_slice();
+    let parts = answer.parts.as_slice();
+    if queries.len() != 1 || parts.len() != 1 {
+        return false;
+    }
+    let part = &parts[0].answer;
+    is_against_lower(alloc, problem, kind, &queries[0], part, expected)
+}
+
+// Whether this is found against the lower side of a report on a problem.
+fn is_against_report(
+    alloc: Global,
+    problem: &Problem,
+    report: &[u8],
+    kind: ClaimKind,
+    expected: Option<Reason>,
+) -> bool {
+    match answer_of(alloc, report) {
+        Some(answer) => is_against_answer(alloc, problem, &answer, kind, expected),
+        None => false,
+    }
+}
+
 // Whether this is found against the lower side of a report of the problem with evidence, as a bound of this kind.
 fn is_found(alloc: Global, report: &[u8], kind: ClaimKind, expected: Option<Reason>) -> bool {
-    match (problem_of(alloc, EVIDENCE), answer_of(alloc, report)) {
-        (Some(problem), Some(answer)) => {
-            let queries = problem.queries().as_slice();
-            let parts = answer.parts.as_slice();
-            if queries.len() != 1 || parts.len() != 1 {
-                return false;
-            }
-            let part = &parts[0].answer;
-            is_against_lower(alloc, &problem, kind, &queries[0], part, expected)
-        }
-        _ => false,
+    match problem_of(alloc, EVIDENCE) {
+        Some(problem) => is_against_report(alloc, &problem, report, kind, expected),
+        None => false,
     }
 }
 
