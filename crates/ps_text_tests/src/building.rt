@@ -1,17 +1,17 @@
 //! A problem and its numbers, worked out by hand, and the most bounds of one.
-ghost use Rattle.std.specs.Prelude.{◌≡◌, IfOk, length};
+ghost use Rattle.std.specs.Prelude.{◌≡◌, [], IfOk, OnOk, length};
 
 use ps_io::NoMemory;
 use ps_problem::{Bound, BuildError, Draft, Mark, Problem, Query, Side, build};
 use std::alloc::Global;
 use std::test::Fail;
 
-// The draft with the formulas `b` and `!a`, and no items.
-fn formulas(alloc: Global) -> Result<Draft, NoMemory>
-    ensures formulas { IfOk result (λ d. length d.formulas ≡ 2) }
-    ensures items { IfOk result (λ d. length d.items ≡ 0) }
+// Adds the formulas `b` and `!a`.
+fn add_formulas(draft: &mut Draft) -> Result<(), NoMemory>
+    requires { draft.old ≡ record { names = []; «open» = []; formulas = []; items = [] } }
+    ensures formulas { OnOk result (length draft.new.formulas ≡ 2) }
+    ensures items { OnOk result (length draft.new.items ≡ 0) }
 {
-    let mut draft = Draft::new(alloc);
     let b = draft.name(b"b")?;
     draft.mark(Mark::Name(b))?;
     draft.end_formula()?;
@@ -19,15 +19,33 @@ fn formulas(alloc: Global) -> Result<Draft, NoMemory>
     draft.mark(Mark::Name(a))?;
     draft.mark(Mark::Not)?;
     draft.end_formula()?;
+    Ok(())
+}
+
+// The draft with the formulas `b` and `!a`, and no items.
+fn formulas(alloc: Global) -> Result<Draft, NoMemory>
+    ensures formulas { IfOk result (λ d. length d.formulas ≡ 2) }
+    ensures items { IfOk result (λ d. length d.items ≡ 0) }
+{
+    let mut draft = Draft::new(alloc);
+    add_formulas(&mut draft)?;
     Ok(draft)
 }
 
-// The problem of `query P(b); P(!a given b) in [1/4, 1/2]; P(!a) >= 1/2;`.
-fn a_problem(alloc: Global) -> Result<Problem, BuildError> {
-    let mut draft = formulas(alloc)?;
+// Adds `query P(b); P(!a given b) in [1/4, 1/2]; P(!a) >= 1/2;`.
+fn add_items(draft: &mut Draft) -> Result<(), NoMemory>
+    requires formulas { length draft.old.formulas ≡ 2 }
+    requires items { length draft.old.items ≡ 0 }
+{
     draft.query(0, None)?;
     draft.sentence(1, Some(0), Side::AtLeast, 1, 4, Some((1, 2)))?;
-    draft.sentence(1, None, Side::AtLeast, 1, 2, None)?;
+    draft.sentence(1, None, Side::AtLeast, 1, 2, None)
+}
+
+// The problem of those formulas and items.
+fn a_problem(alloc: Global) -> Result<Problem, BuildError> {
+    let mut draft = formulas(alloc)?;
+    add_items(&mut draft)?;
     build(alloc, &draft)
 }
 

@@ -4,7 +4,7 @@ mod reading;
 use self::reading::parsed;
 use ps_formula::Node;
 use ps_parse::{ParseError, Parser};
-use ps_problem::{Problem, Side, build};
+use ps_problem::{Bound, Problem, Side, build};
 use ps_text::{Part, ReadKind, What};
 use std::alloc::Global;
 use std::test::Fail;
@@ -181,13 +181,18 @@ const REFUSED: [(&[u8], ReadKind); 5] = [
     ),
 ];
 
+// The problem behind all tokens of a text.
+fn built(alloc: Global, parser: &Parser) -> Option<Problem> {
+    if parser.part() != Part::Done {
+        return None;
+    }
+    build(alloc, parser.draft()).ok()
+}
+
 // The problem of a whole text.
 fn problem(alloc: Global, text: &[u8]) -> Result<Problem, Fail> {
     let parser = parsed(alloc, text).ok().ok_or("a text")?;
-    if parser.part() != Part::Done {
-        Err("a whole text")?;
-    }
-    Ok(build(alloc, parser.draft()).ok().ok_or("a problem")?)
+    Ok(built(alloc, &parser).ok_or("a problem")?)
 }
 
 fn are_formulas_parsed(alloc: Global) -> Result<bool, Fail> {
@@ -199,10 +204,14 @@ fn are_formulas_parsed(alloc: Global) -> Result<bool, Fail> {
     Ok(true)
 }
 
+// The bound of this number in a text.
+fn bound(alloc: Global, text: &[u8], number: u32) -> Result<Bound, Fail> {
+    Ok(*problem(alloc, text)?.bound(number).ok_or("a bound")?)
+}
+
 fn are_values_parsed(alloc: Global) -> Result<bool, Fail> {
     for (text, number, value) in VALUES {
-        let problem = problem(alloc, text)?;
-        let bound = problem.bound(number).ok_or("a bound")?;
+        let bound = bound(alloc, text, number)?;
         if (bound.side, bound.num, bound.den) != value {
             return Ok(false);
         }
@@ -212,8 +221,7 @@ fn are_values_parsed(alloc: Global) -> Result<bool, Fail> {
 
 fn are_conditions_parsed(alloc: Global) -> Result<bool, Fail> {
     for (text, number, formulas) in CONDITIONS {
-        let problem = problem(alloc, text)?;
-        let bound = problem.bound(number).ok_or("a bound")?;
+        let bound = bound(alloc, text, number)?;
         if (bound.formula, bound.given, bound.both) != formulas {
             return Ok(false);
         }

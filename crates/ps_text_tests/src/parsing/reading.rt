@@ -66,10 +66,11 @@ fn feed(parser: &mut Parser, token: Option<Token>, place: Position) -> Result<()
     parser.take(&token, place)
 }
 
-/// The parser behind all tokens of a short text, or why one of them is refused.
-#[tactic(auto, using(ps_parse::proofs::Taken::first_parsed, ps_parse::proofs::Counting::first_counts))]
-pub(crate) fn parsed(alloc: Global, text: &[u8]) -> Result<Parser, ParseError> {
-    let mut parser = Parser::new(alloc);
+// Takes all tokens of a short text.
+fn feed_all(parser: &mut Parser, text: &[u8]) -> Result<(), ParseError>
+    requires derivation { IsParsed (machine_of parser.old) }
+    requires none { CountsAtMost 0 (machine_of parser.old) }
+{
     let mut lexer = Lexer::new();
     if text.len() > 1000 {
         return Err(ParseError::NoMemory);
@@ -80,9 +81,16 @@ pub(crate) fn parsed(alloc: Global, text: &[u8]) -> Result<Parser, ParseError> {
         }
         let began = lexer.began();
         let token = lexer.take(text[k]);
-        feed(&mut parser, token, began)?;
+        feed(parser, token, began)?;
     }
     let began = lexer.began();
-    feed(&mut parser, lexer.finish(), began)?;
+    feed(parser, lexer.finish(), began)
+}
+
+/// The parser behind all tokens of a short text, or why one of them is refused.
+#[tactic(auto, using(ps_parse::proofs::Taken::first_parsed, ps_parse::proofs::Counting::first_counts))]
+pub(crate) fn parsed(alloc: Global, text: &[u8]) -> Result<Parser, ParseError> {
+    let mut parser = Parser::new(alloc);
+    feed_all(&mut parser, text)?;
     Ok(parser)
 }

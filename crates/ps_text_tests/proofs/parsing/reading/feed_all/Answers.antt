@@ -1,4 +1,4 @@
-use Rattle.ps_text_tests.proofs.parsing.reading.parsed.Goals as goal
+use Rattle.ps_text_tests.proofs.parsing.reading.feed_all.Goals as goal
 
 pub loop-k-preserved : goal.loop-k-preserved
 loop-k-preserved c = record {

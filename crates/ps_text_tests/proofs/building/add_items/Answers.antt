@@ -1,7 +1,7 @@
 use Rattle.std.proofs.Common.{refl, arith}
 use Rattle.std.proofs.lemmas.Nat.Gcd.{IsGcd-from_mod, IsGcd-from_zero}
 use Rattle.ps_text.specs.Canonical.{IsReduced}
-use Rattle.ps_text_tests.proofs.building.a_problem.Goals as goal
+use Rattle.ps_text_tests.proofs.building.add_items.Goals as goal
 
 half : IsReduced (record { num = 1; den = 2 })
 half = record {

@@ -2,7 +2,7 @@ use Rattle.std.proofs.Common.{◌≤◌, length}
 use Rattle.ps_parse.specs.Derivations.{IsParsed}
 use Rattle.ps_parse.specs.Taking.{CountsAtMost}
 use Rattle.ps_parse.specs.Kept.{machine_of}
-use Rattle.ps_text_tests.proofs.parsing.reading.parsed.Given as goal
+use Rattle.ps_text_tests.proofs.parsing.reading.feed_all.Given as goal
 
 abbrev pub invariant-loop-k : goal.invariant-loop-k
 invariant-loop-k l = record {
