@@ -30,6 +30,3 @@ pub use settings::{Settings, Style};
 pub use sinks::Sinks;
 pub use sought::Sought;
 pub use status::Status;
-
-#[cfg(test)]
-mod tests;

@@ -8,6 +8,3 @@ mod form;
 pub use clauses::clauses_of;
 pub use extension::{names_of, world_of};
 pub use form::ClauseForm;
-
-#[cfg(test)]
-mod tests;

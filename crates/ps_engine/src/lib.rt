@@ -11,8 +11,6 @@ mod limits;
 mod pace;
 mod shrinking;
 mod side;
-#[cfg(test)]
-mod tests;
 mod tolerances;
 mod whole;
 

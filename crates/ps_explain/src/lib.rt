@@ -12,8 +12,6 @@ mod met;
 mod numbers;
 mod outcome;
 mod rests;
-#[cfg(test)]
-mod tests;
 mod used;
 mod witnesses;
 mod writing;

@@ -8,8 +8,6 @@ mod beside;
 mod found;
 mod in_time;
 mod known;
-#[cfg(test)]
-mod tests;
 mod timed;
 mod turns;
 mod watch;

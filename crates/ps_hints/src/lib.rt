@@ -31,6 +31,3 @@ pub use idle::write_idle_condition;
 pub use refusal::refusal_message;
 pub use starts::{query_lines, sentence_lines};
 pub use warnings::write_warnings;
-
-#[cfg(test)]
-mod tests;

@@ -9,6 +9,3 @@ mod propagation;
 
 pub use checker::Checker;
 pub use ps_steps::StepRefused;
-
-#[cfg(test)]
-mod tests;

@@ -8,6 +8,3 @@ mod pool;
 pub use col::Col;
 pub use event::{Event, Trace, trace_copy};
 pub use pool::{MOST_WORLDS, Pool, PoolError, limits_have_these_numbers};
-
-#[cfg(test)]
-mod tests;

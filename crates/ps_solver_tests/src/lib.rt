@@ -4,16 +4,24 @@
 #[cfg(test)]
 mod certificate;
 #[cfg(test)]
+mod checker;
+#[cfg(test)]
+mod clauses;
+#[cfg(test)]
 mod ends;
 #[cfg(test)]
 mod generation;
 #[cfg(test)]
 mod master;
 #[cfg(test)]
+mod pool;
+#[cfg(test)]
 mod pricing;
 #[cfg(test)]
 mod problems;
 #[cfg(test)]
 mod query;
+#[cfg(test)]
+mod table;
 #[cfg(test)]
 mod tables;

@@ -26,6 +26,3 @@ pub use laws::printed_places;
 pub use limits::{MOST_ROWS, can_be_printed, limits_have_these_numbers};
 pub use place::{Place, TableCol, WideAt};
 pub use table::Table;
-
-#[cfg(test)]
-mod tests;

@@ -9,6 +9,10 @@ mod canonical;
 #[cfg(test)]
 mod expecting;
 #[cfg(test)]
+mod formulas;
+#[cfg(test)]
+mod hints;
+#[cfg(test)]
 mod lexing;
 #[cfg(test)]
 mod parsing;

@@ -1,0 +1,190 @@
+//! Inputs, and what is to be shown of their answers.
+use ps_ask::{Status, Style};
+
+pub const PROBLEM: &[u8] = b"psat 1;
+P(rain) = 0.3;
+P(wet given rain) >= 0.9;
+P(dry | wet) = 1;
+query P(wet);
+query P(rain & wet);
+query P(dry given rain & !rain);
+query P(rain);
+end;
+";
+
+pub const WORDS: &str = "consistent: some distribution meets all sentences
+P(wet)
+  between 27/100 and 1 (0.270 to 1.000)
+P(rain & wet)
+  between 27/100 and 3/10 (0.270 to 0.300)
+P(dry given rain & !rain)
+  impossible: the sentences give the condition probability 0
+P(rain)
+  one value: 3/10 (0.300 to 0.300)
+";
+
+const VALUES: &str = "consistent
+0.270 1.000
+0.270 0.300
+impossible
+0.300 0.300
+";
+
+const OBJECT: &str = concat!(
+    "{\"file\":\"f\",\"verdict\":\"consistent\",\"why\":null,\"queries\":[",
+    "{\"query\":\"P(wet)\",\"status\":\"bounds\",\"why\":null,",
+    "\"lower\":{\"exact\":\"27/100\",\"decimal\":\"0.270\",\"why\":null},",
+    "\"upper\":{\"exact\":\"1\",\"decimal\":\"1.000\",\"why\":null}},",
+    "{\"query\":\"P(rain & wet)\",\"status\":\"bounds\",\"why\":null,",
+    "\"lower\":{\"exact\":\"27/100\",\"decimal\":\"0.270\",\"why\":null},",
+    "\"upper\":{\"exact\":\"3/10\",\"decimal\":\"0.300\",\"why\":null}},",
+    "{\"query\":\"P(dry given rain & !rain)\",\"status\":\"impossible\",\"why\":null,",
+    "\"lower\":null,\"upper\":null},",
+    "{\"query\":\"P(rain)\",\"status\":\"one value\",\"why\":null,",
+    "\"lower\":{\"exact\":\"3/10\",\"decimal\":\"0.300\",\"why\":null},",
+    "\"upper\":{\"exact\":\"3/10\",\"decimal\":\"0.300\",\"why\":null}}],",
+    "\"clash\":null,",
+    "\"counts\":{\"atoms\":3,\"sentences\":3,\"bounds\":3,\"queries\":4,\"open\":0},",
+    "\"status\":0}\n",
+);
+
+pub const WARNING: &str = "f:4: warning: P(dry | wet): | is \"or\"; for a condition write given\n";
+
+pub const CLASH: &[u8] = b"psat 1; P(a) = 1; # P(c) = 1;
+P(b) <= 1/2; query P(a);
+
+P(!a) >= 1/2; end;";
+
+const CLASH_WORDS: &str = "inconsistent: no distribution meets all sentences
+these sentences clash:
+  sentence 1, line 1: P(a) = 1;
+  sentence 3, line 4: P(!a) >= 1/2;
+leave any one of them out, and all the others can be met together
+";
+
+const CLASH_OBJECT: &str = concat!(
+    "{\"file\":\"f\",\"verdict\":\"inconsistent\",\"why\":null,\"queries\":[],",
+    "\"clash\":{\"irreducible\":true,\"why\":null,\"sentences\":[",
+    "{\"number\":1,\"line\":1,\"text\":\"P(a) = 1;\",\"without\":\"met\"},",
+    "{\"number\":3,\"line\":4,\"text\":\"P(!a) >= 1/2;\",\"without\":\"met\"}]},",
+    "\"counts\":{\"atoms\":2,\"sentences\":3,\"bounds\":3,\"queries\":1,\"open\":0},",
+    "\"status\":1}\n",
+);
+
+const NOTE: &str = "f:1:13: found `b`, expected `&`, `|`, `->`, `<->`, `given` or `)`
+  psat 1; P(a b) = 1; end;
+              ^
+  hint: write &, |, -> or <-> between two formulas, and a name without blanks
+";
+
+const UNREADABLE: &[u8] = b"psat 1; P(a b) = 1; end;";
+
+// Of the conditions one has no weight, and one has in no distribution but some.
+const IDLE: &[u8] = b"psat 1; P(a) = 0; P(b) <= 1/2;
+P(c given a & b) >= 1/2; P(c given b) >= 1/2;
+query P(c); end;";
+
+const IDLE_WARNING: &str = "f:2: warning: P(c given a & b): \
+    the sentences give the condition probability 0, so this one says nothing\n";
+
+// What is asked, and what is to be shown and noted, with the status.
+pub struct Row {
+    pub text: &'static [u8],
+    pub style: Style,
+    pub shown: &'static str,
+    pub noted: &'static str,
+    pub status: Status,
+}
+
+pub const ROWS: [Row; 9] = [
+    Row {
+        text: PROBLEM,
+        style: Style::Words,
+        shown: WORDS,
+        noted: WARNING,
+        status: Status::Done,
+    },
+    Row {
+        text: PROBLEM,
+        style: Style::Values,
+        shown: VALUES,
+        noted: WARNING,
+        status: Status::Done,
+    },
+    Row {
+        text: PROBLEM,
+        style: Style::Json,
+        shown: OBJECT,
+        noted: WARNING,
+        status: Status::Done,
+    },
+    Row {
+        text: CLASH,
+        style: Style::Words,
+        shown: CLASH_WORDS,
+        noted: "",
+        status: Status::Inconsistent,
+    },
+    Row {
+        text: CLASH,
+        style: Style::Values,
+        shown: "inconsistent\n",
+        noted: "",
+        status: Status::Inconsistent,
+    },
+    Row {
+        text: CLASH,
+        style: Style::Json,
+        shown: CLASH_OBJECT,
+        noted: "",
+        status: Status::Inconsistent,
+    },
+    Row {
+        text: UNREADABLE,
+        style: Style::Words,
+        shown: "",
+        noted: NOTE,
+        status: Status::Unreadable,
+    },
+    Row {
+        text: UNREADABLE,
+        style: Style::Json,
+        shown: "",
+        noted: NOTE,
+        status: Status::Unreadable,
+    },
+    Row {
+        text: IDLE,
+        style: Style::Values,
+        shown: "consistent\n0.000 1.000\n",
+        noted: IDLE_WARNING,
+        status: Status::Done,
+    },
+];
+
+// Of problems that are warned of, what is shown and noted where no warnings are wanted.
+pub const UNWARNED: [Row; 2] = [
+    Row {
+        text: PROBLEM,
+        style: Style::Words,
+        shown: WORDS,
+        noted: "",
+        status: Status::Done,
+    },
+    Row {
+        text: IDLE,
+        style: Style::Values,
+        shown: "consistent\n0.000 1.000\n",
+        noted: "",
+        status: Status::Done,
+    },
+];
+
+pub const OPEN: Row = Row {
+    text: b"psat 1; P(a <-> b) = 1; P(b <-> c) = 1; P(a <-> !c) = 1; query P(a); end;",
+    style: Style::Words,
+    shown: "open: whether a distribution meets all sentences isn't known; \
+        a search stopped at the limit of 0 conflicts; allow more by --conflicts\n",
+    noted: "",
+    status: Status::Unfinished,
+};
