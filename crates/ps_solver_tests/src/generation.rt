@@ -1,10 +1,26 @@
+ghost use Rattle.ps_claims.specs.declared.claim_kind.ClaimKind.TheVariants.{Nothing};
+ghost use Rattle.ps_runs.specs.Subjects.{IsAsked};
+ghost use Rattle.ps_generation.specs.Phases.{HasRoom, IsNewState};
+
 use crate::problems::{CHAIN, CONTRADICTORY, LIMITS, SINGLE, problem};
 use ps_claims::ClaimKind;
-use ps_generation::{End, Setting, run_phase};
+use ps_generation::{End, Setting, State, run_phase};
 use ps_io::NoMemory;
 use ps_problem::Problem;
 use std::alloc::Global;
 use std::test::*;
+
+// How phase one ends, and how many pivots it takes.
+fn end_of(alloc: Global, setting: &Setting<'_>, state: &mut State) -> Result<(End, u64), NoMemory>
+    requires asked { IsAsked Nothing setting.now.subject.parts setting.now.subject.query }
+    requires new { IsNewState setting.now state.old }
+    requires room { HasRoom state.old }
+{
+    let left = state.left;
+    let mut costs = setting.costs(alloc, ClaimKind::Nothing, state)?;
+    let end = run_phase(alloc, setting, ClaimKind::Nothing, state, &mut costs)?;
+    Ok((end, left - state.left))
+}
 
 // How phase one ends, and how many worlds and pivots it takes.
 fn ended(alloc: Global, problem: &Problem, kept: &[bool]) -> Result<(End, u32, u64), NoMemory> {
@@ -13,9 +29,8 @@ fn ended(alloc: Global, problem: &Problem, kept: &[bool]) -> Result<(End, u32, u
     }
     let setting = Setting::new(alloc, problem, kept, None, LIMITS)?;
     let mut state = setting.start(alloc)?;
-    let mut costs = setting.costs(alloc, ClaimKind::Nothing, &state)?;
-    let end = run_phase(alloc, &setting, ClaimKind::Nothing, &mut state, &mut costs)?;
-    Ok((end, state.pool.len(), LIMITS.pivots - state.left))
+    let (end, pivots) = end_of(alloc, &setting, &mut state)?;
+    Ok((end, state.pool.len(), pivots))
 }
 
 // Each world is a column, and a pivot brings it into the basis.

@@ -1,19 +1,28 @@
+ghost use Rattle.ps_master.specs.Runs.{IsAtStart};
+
 use crate::problems::{CONTRADICTORY, LIMITS, SINGLE, THREE, problem};
 use ps_master::{First, Run};
 use ps_problem::Problem;
 use std::alloc::Global;
 use std::test::*;
 
-fn first_of(alloc: Global, problem: &Problem, kept: &[bool]) -> Option<First> {
-    if problem.sentences().len() != kept.len() {
-        return None;
-    }
-    let mut run = Run::new(alloc, problem, kept, None, LIMITS).ok()?;
+// What phase one of a run at its start answers, where it has events.
+fn begin(run: &mut Run<'_>) -> Option<First>
+    requires { IsAtStart run.old }
+{
     let first = run.phase_one().ok()?;
     if run.take_trace().len() == 0 {
         return None;
     }
     Some(first)
+}
+
+fn first_of(alloc: Global, problem: &Problem, kept: &[bool]) -> Option<First> {
+    if problem.sentences().len() != kept.len() {
+        return None;
+    }
+    let mut run = Run::new(alloc, problem, kept, None, LIMITS).ok()?;
+    begin(&mut run)
 }
 
 // Whether the world where `a` is true weighs a third.
