@@ -3,10 +3,11 @@ ghost use Rattle.std.specs.Prelude.{IfOk, IfSome};
 ghost use Rattle.ps_generation.specs.Phases.{AreLimits};
 ghost use Rattle.ps_runs.specs.Kept.{IsChoice};
 ghost use Rattle.ps_explain.specs.Texts.{HasShortLines};
+ghost use Rattle.ps_master.specs.Runs.{IsAtStart};
 
-use ps_answer::{Dual, Model, Verdict, Weighted};
+use ps_answer::{Dual, Model, Weighted};
 use ps_claims::ClaimKind;
-use ps_explain::{Explained, Limits, explain, verdict_without, write_explanation};
+use ps_explain::{Explained, Limits, explain, write_explanation};
 use ps_formula::World;
 use ps_guesser::{Guess, Guesser, Progress};
 use ps_io::{Lines, List, MemSink, NoMemory};
@@ -15,6 +16,8 @@ use ps_problem::{Problem, Query};
 use ps_read::read_whole;
 use std::alloc::Global;
 use std::test::*;
+
+mod rests;
 
 const LIMITS: Limits = Limits {
     pivots: 1000,
@@ -173,16 +176,23 @@ fn chosen(alloc: Global, problem: &Problem, set: u32) -> Result<List<bool>, NoMe
     Ok(kept)
 }
 
-// Whether the kept sentences can be met together, by a run.
-fn can_be_met(alloc: Global, problem: &Problem, kept: &[bool]) -> Option<bool>
-    requires kept { IsChoice kept.now problem.now }
+// Whether a run at its start reaches a distribution.
+fn reaches(run: &mut Run<'_>) -> Option<bool>
+    requires { IsAtStart run.old }
 {
-    let mut run = Run::new(alloc, problem, kept, None, LIMITS).ok()?;
     match run.phase_one().ok()? {
         First::Reached(_) => Some(true),
         First::Nothing(_) => Some(false),
         First::Open(_) => None,
     }
+}
+
+// Whether the kept sentences can be met together, by a run.
+fn can_be_met(alloc: Global, problem: &Problem, kept: &[bool]) -> Option<bool>
+    requires kept { IsChoice kept.now problem.now }
+{
+    let mut run = Run::new(alloc, problem, kept, None, LIMITS).ok()?;
+    reaches(&mut run)
 }
 
 fn holds(numbers: &[u32], number: u32) -> bool {
@@ -229,14 +239,20 @@ fn is_minimal(alloc: Global, problem: &Problem, numbers: &[u32]) -> bool {
     true
 }
 
-fn has_minimal_core(alloc: Global, text: &[u8], kind: Kind) -> Option<bool> {
-    let problem = problem_of(alloc, text)?;
-    match explained(alloc, &problem, LIMITS, kind)? {
-        Explained::Core { sentences, .. } => {
-            Some(is_minimal(alloc, &problem, sentences.as_slice()))
-        }
-        _ => Some(false),
+fn is_minimal_core(alloc: Global, problem: &Problem, explanation: &Explained) -> bool {
+    match explanation {
+        Explained::Core { sentences, .. } => is_minimal(alloc, problem, sentences.as_slice()),
+        _ => false,
     }
+}
+
+fn is_explained(alloc: Global, problem: &Problem, kind: Kind) -> Option<bool> {
+    let explanation = explained(alloc, problem, LIMITS, kind)?;
+    Some(is_minimal_core(alloc, problem, &explanation))
+}
+
+fn has_minimal_core(alloc: Global, text: &[u8], kind: Kind) -> Option<bool> {
+    is_explained(alloc, &problem_of(alloc, text)?, kind)
 }
 
 fn have_minimal_cores(alloc: Global, kind: Kind) -> bool {
@@ -248,121 +264,41 @@ fn have_minimal_cores(alloc: Global, kind: Kind) -> bool {
     true
 }
 
-// Whether the text of the explanation begins so.
-fn begins(alloc: Global, text: &[u8], limits: Limits, kind: Kind, start: &[u8]) -> Option<bool>
-    requires limits { AreLimits limits }
+// Writes an explanation.
+fn write(alloc: Global, explanation: &Explained, sink: &mut MemSink) -> Option<()>
+    requires { HasShortLines explanation.now }
 {
-    let problem = problem_of(alloc, text)?;
-    let explanation = explained(alloc, &problem, limits, kind)?;
+    let mut lines = Lines::new(alloc, sink).ok()?;
+    write_explanation(explanation, &mut lines).ok()
+}
+
+// Whether the text of an explanation begins so.
+fn is_begun(alloc: Global, explanation: &Explained, start: &[u8]) -> Option<bool>
+    requires { HasShortLines explanation.now }
+{
     let mut sink = MemSink::new(alloc, 64, Vec::new(alloc), 2000).ok()?;
-    let mut lines = Lines::new(alloc, &mut sink).ok()?;
-    write_explanation(&explanation, &mut lines).ok()?;
+    write(alloc, explanation, &mut sink)?;
     Some(sink.bytes().get(..start.len()) == Some(start))
 }
 
-const TWICE: &[u8] = b"psat 1; P(a) = 1/3; P(a) = 2/3; P(b) = 1/4; P(b) = 3/4; end;";
-
-const THREE: &[u8] = b"psat 1; P(a) >= 1/2; P(a) <= 1/4; P(a) <= 1/3; end;";
-
-/// How many pivots a run has.
-#[derive(Clone, Copy, Drop)]
-enum Pivots {
-    Enough,
-    None,
-}
-
-/// Which verdict it is.
-#[derive(Clone, Copy, PartialEq, Drop)]
-enum Told {
-    Consistent,
-    Inconsistent,
-    Open,
-}
-
-// A problem, one of its sentences by its number, and what the problem comes to without it.
-struct Row {
-    text: &'static [u8],
-    sentence: u32,
-    pivots: Pivots,
-    told: Told,
-}
-
-const RESTS: [Row; 8] = [
-    Row {
-        text: THIRDS,
-        sentence: 1,
-        pivots: Pivots::Enough,
-        told: Told::Consistent,
-    },
-    Row {
-        text: THIRDS,
-        sentence: 2,
-        pivots: Pivots::Enough,
-        told: Told::Consistent,
-    },
-    Row {
-        text: THIRDS,
-        sentence: 3,
-        pivots: Pivots::Enough,
-        told: Told::Inconsistent,
-    },
-    Row {
-        text: THIRDS,
-        sentence: 9,
-        pivots: Pivots::Enough,
-        told: Told::Inconsistent,
-    },
-    Row {
-        text: THIRDS,
-        sentence: 1,
-        pivots: Pivots::None,
-        told: Told::Open,
-    },
-    Row {
-        text: TWICE,
-        sentence: 1,
-        pivots: Pivots::Enough,
-        told: Told::Inconsistent,
-    },
-    Row {
-        text: THREE,
-        sentence: 1,
-        pivots: Pivots::Enough,
-        told: Told::Consistent,
-    },
-    Row {
-        text: THREE,
-        sentence: 2,
-        pivots: Pivots::Enough,
-        told: Told::Inconsistent,
-    },
-];
-
-fn limits_with(pivots: Pivots) -> Limits
-    ensures { AreLimits result }
+// Whether that of a problem does.
+fn begins_for(
+    alloc: Global,
+    problem: &Problem,
+    limits: Limits,
+    kind: Kind,
+    start: &[u8],
+) -> Option<bool>
+    requires limits { AreLimits limits }
 {
-    match pivots {
-        Pivots::Enough => LIMITS,
-        Pivots::None => NO_PIVOTS,
-    }
+    let explanation = explained(alloc, problem, limits, kind)?;
+    is_begun(alloc, &explanation, start)
 }
 
-fn told_by(verdict: &Verdict) -> Told {
-    match verdict {
-        Verdict::Consistent(_) => Told::Consistent,
-        Verdict::Inconsistent(_) => Told::Inconsistent,
-        Verdict::Open(_) => Told::Open,
-    }
-}
-
-// Whether the rest of a row is told, by a lawful run.
-fn is_told(alloc: Global, row: &Row) -> Option<bool> {
-    let problem = problem_of(alloc, row.text)?;
-    let kind = Kind::Nothing;
-    let mut guesser = Fixed { alloc, kind };
-    let limits = limits_with(row.pivots);
-    let verdict = verdict_without(alloc, &problem, limits, row.sentence, &mut guesser).ok()?;
-    Some(told_by(&verdict) == row.told)
+fn begins(alloc: Global, text: &[u8], limits: Limits, kind: Kind, start: &[u8]) -> Option<bool>
+    requires limits { AreLimits limits }
+{
+    begins_for(alloc, &problem_of(alloc, text)?, limits, kind, start)
 }
 
 const CORE: &[u8] = b"explanation 1\ncore 2 1 2\ndual 0 1 1\ny -1 1 0\ns 2 0 1 0\nwithout 1\n";
@@ -388,11 +324,4 @@ fn are_written(alloc: Global) -> bool {
 #[test]
 fn explanations_are_written(rt: HostRuntime) {
     assert!(rt; are_written(rt.alloc()));
-}
-
-#[test]
-fn rests_are_told(rt: HostRuntime) {
-    for row in &RESTS {
-        assert!(rt; is_told(rt.alloc(), row) == Some(true));
-    }
 }

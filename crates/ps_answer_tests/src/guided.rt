@@ -159,13 +159,17 @@ fn answered(alloc: Global, lower: bool, upper: bool) -> Option<Answer> {
     answer(alloc, &problem, LIMITS, &mut guesser).ok()
 }
 
-fn is_answered(alloc: Global, lower: bool, upper: bool) -> bool {
-    let Some(answer) = answered(alloc, lower, upper) else {
-        return false;
-    };
+fn has_sides(answer: &Answer, lower: bool, upper: bool) -> bool {
     match (&answer.verdict, answer.parts.as_slice().first()) {
         (Verdict::Consistent(_), Some(part)) => is_right(part, lower, upper),
         _ => false,
+    }
+}
+
+fn is_answered(alloc: Global, lower: bool, upper: bool) -> bool {
+    match answered(alloc, lower, upper) {
+        Some(answer) => has_sides(&answer, lower, upper),
+        None => false,
     }
 }
 
@@ -197,8 +201,33 @@ fn is_open(known: &Known) -> bool {
     }
 }
 
-// Whether the verdict and the answer to each query are told as open, where nothing is guessed and a
-// run has no pivot.
+// Whether the verdict is told as open, where a run has no pivot.
+fn is_verdict_open(
+    alloc: Global,
+    trials: &Trials<'_>,
+    timed: &mut InTime<'_, Fixed, Endless>,
+) -> Result<bool, NoMemory> {
+    match verdict_in_time(alloc, trials, NO_PIVOTS, timed)? {
+        Some((verdict, _)) => Ok(matches!(verdict, Verdict::Open(_))),
+        None => Ok(false),
+    }
+}
+
+// Whether the answer to each query is.
+fn are_parts_open(
+    alloc: Global,
+    trials: &Trials<'_>,
+    timed: &mut InTime<'_, Fixed, Endless>,
+) -> Result<bool, NoMemory> {
+    for query in trials.problem().queries().as_slice() {
+        if !is_open(&part_in_time(alloc, trials, *query, NO_PIVOTS, timed)?) {
+            return Ok(false);
+        }
+    }
+    Ok(true)
+}
+
+// Whether both are, where nothing is guessed.
 fn is_told_as_open(alloc: Global, trials: &Trials<'_>) -> Result<bool, NoMemory> {
     let mut guesser = Fixed {
         alloc,
@@ -212,15 +241,7 @@ fn is_told_as_open(alloc: Global, trials: &Trials<'_>) -> Result<bool, NoMemory>
         guesser: &mut guesser,
         watch: &mut watch,
     };
-    let Some((verdict, _)) = verdict_in_time(alloc, trials, NO_PIVOTS, &mut timed)? else {
-        return Ok(false);
-    };
-    for query in trials.problem().queries().as_slice() {
-        if !is_open(&part_in_time(alloc, trials, *query, NO_PIVOTS, &mut timed)?) {
-            return Ok(false);
-        }
-    }
-    Ok(matches!(verdict, Verdict::Open(_)))
+    Ok(is_verdict_open(alloc, trials, &mut timed)? && are_parts_open(alloc, trials, &mut timed)?)
 }
 
 fn ends_open(alloc: Global) -> Option<bool> {
