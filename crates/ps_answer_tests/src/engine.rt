@@ -1,11 +1,9 @@
 //! Bounds that are known. Engines guess them; here they are only compared.
-ghost use Rattle.std.specs.Prelude.{◌+◌, ◌<◌, ◌^◌, length};
-
+use crate::problems::problem_of;
 use ps_claims::ClaimKind;
 use ps_engine::{Engine, Guess, Guesser};
 use ps_io::NoMemory;
 use ps_problem::{Problem, Query};
-use ps_read::read_whole;
 use std::alloc::Global;
 use std::test::*;
 
@@ -21,12 +19,6 @@ const CERTAIN: &[u8] = b"psat 1; P(a -> b) = 1; P(a) >= 1/3; query P(b); end;";
 
 /// How often a guess pauses at most.
 const MOST_PAUSES: u32 = 100;
-
-fn problem(alloc: Global, text: &[u8]) -> Option<Problem>
-    requires { length text.now + 1 < 2 ^ 32 }
-{
-    read_whole(alloc, text).ok()
-}
 
 // Whether a guess is of this value.
 fn is(guess: Option<Guess>, over: i128, under: i128) -> bool {
@@ -89,10 +81,8 @@ fn are_steady(alloc: Global, problem: &Problem, low: [i128; 2], high: [i128; 2])
     Some(steady && paused)
 }
 
-fn sides(alloc: Global, text: &[u8], low: [i128; 2], high: [i128; 2]) -> Option<bool>
-    requires { length text.now + 1 < 2 ^ 32 }
-{
-    are_steady(alloc, &problem(alloc, text)?, low, high)
+fn sides(alloc: Global, text: &[u8], low: [i128; 2], high: [i128; 2]) -> Option<bool> {
+    are_steady(alloc, &problem_of(alloc, text)?, low, high)
 }
 
 // Whether a guess of the lower side pauses before it has its first world.
@@ -109,10 +99,8 @@ fn pauses_at_once(alloc: Global, problem: &Problem) -> Option<bool> {
     has_paused(&mut engine, problem, query)
 }
 
-fn pauses(alloc: Global, text: &[u8]) -> Option<bool>
-    requires { length text.now + 1 < 2 ^ 32 }
-{
-    pauses_at_once(alloc, &problem(alloc, text)?)
+fn pauses(alloc: Global, text: &[u8]) -> Option<bool> {
+    pauses_at_once(alloc, &problem_of(alloc, text)?)
 }
 
 #[test]

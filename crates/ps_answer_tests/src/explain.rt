@@ -5,6 +5,7 @@ ghost use Rattle.ps_runs.specs.Kept.{IsChoice};
 ghost use Rattle.ps_explain.specs.Texts.{HasShortLines};
 ghost use Rattle.ps_master.specs.Runs.{IsAtStart};
 
+use crate::problems::{LIMITS, problem_of};
 use ps_answer::{Dual, Model, Weighted};
 use ps_claims::ClaimKind;
 use ps_explain::{Explained, Limits, explain, write_explanation};
@@ -13,16 +14,10 @@ use ps_guesser::{Guess, Guesser, Progress};
 use ps_io::{Lines, List, MemSink, NoMemory};
 use ps_master::{First, Run};
 use ps_problem::{Problem, Query};
-use ps_read::read_whole;
 use std::alloc::Global;
 use std::test::*;
 
 mod rests;
-
-const LIMITS: Limits = Limits {
-    pivots: 1000,
-    conflicts: 1000,
-};
 
 const NO_PIVOTS: Limits = Limits {
     pivots: 0,
@@ -146,13 +141,6 @@ impl Guesser for Fixed {
     fn progress(&self) -> Option<Progress> {
         None
     }
-}
-
-fn problem_of(alloc: Global, text: &[u8]) -> Option<Problem> {
-    if text.len() > 1000 {
-        return None;
-    }
-    read_whole(alloc, text).ok()
 }
 
 fn explained(alloc: Global, problem: &Problem, limits: Limits, kind: Kind) -> Option<Explained>

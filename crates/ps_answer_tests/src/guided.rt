@@ -2,6 +2,7 @@
 //! left.
 ghost use Rattle.std.specs.Prelude.{◌<◌};
 
+use crate::problems::{LIMITS, problem_of};
 use ps_answer::{Answer, Dual, Model, QueryAnswer, QueryPart, SideAnswer, Verdict, Weighted};
 use ps_claims::ClaimKind;
 use ps_formula::World;
@@ -11,16 +12,10 @@ use ps_guided::{
 };
 use ps_io::{List, NoMemory};
 use ps_problem::{Problem, Query};
-use ps_read::read_whole;
 use std::alloc::Global;
 use std::test::*;
 
 const ASKED: &[u8] = b"psat 1; P(a) >= 1/3; query P(a); end;";
-
-const LIMITS: Limits = Limits {
-    pivots: 1000,
-    conflicts: 1000,
-};
 
 // No pivot, and more conflicts than the turns before the last one come to.
 const NO_PIVOTS: Limits = Limits {
@@ -148,7 +143,7 @@ fn is_right(part: &QueryPart, lower_guessed: bool, upper_guessed: bool) -> bool 
 }
 
 fn answered(alloc: Global, lower: bool, upper: bool) -> Option<Answer> {
-    let problem = read_whole(alloc, ASKED).ok()?;
+    let problem = problem_of(alloc, ASKED)?;
     let mut guesser = Fixed {
         alloc,
         model: true,
@@ -245,7 +240,7 @@ fn is_told_as_open(alloc: Global, trials: &Trials<'_>) -> Result<bool, NoMemory>
 }
 
 fn ends_open(alloc: Global) -> Option<bool> {
-    let problem = read_whole(alloc, ASKED).ok()?;
+    let problem = problem_of(alloc, ASKED)?;
     let trials = Trials::new(alloc, &problem, NO_PIVOTS.conflicts).ok()?;
     is_told_as_open(alloc, &trials).ok()
 }

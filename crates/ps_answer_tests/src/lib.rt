@@ -9,3 +9,5 @@ mod engine;
 mod explain;
 #[cfg(test)]
 mod guided;
+#[cfg(test)]
+mod problems;

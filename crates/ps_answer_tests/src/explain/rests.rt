@@ -1,7 +1,8 @@
 //! What problems come to without one of their sentences.
 ghost use Rattle.ps_generation.specs.Phases.{AreLimits};
 
-use super::{Fixed, Kind, LIMITS, NO_PIVOTS, THIRDS, problem_of};
+use super::{Fixed, Kind, NO_PIVOTS, THIRDS};
+use crate::problems::{LIMITS, problem_of};
 use ps_answer::Verdict;
 use ps_explain::{Limits, verdict_without};
 use ps_problem::Problem;
