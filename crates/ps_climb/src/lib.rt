@@ -16,6 +16,3 @@ pub use demand::Demand;
 pub use draw::{Draw, drawn_world};
 pub use goal::Goal;
 pub use local_search::LocalSearch;
-
-#[cfg(test)]
-mod tests;

@@ -8,6 +8,3 @@ mod laws;
 
 pub use enough::{MOST_PIVOTS, enough_pivots};
 pub use laws::{few_pivots, few_worlds, more_ways, no_basis_twice, reduced_costs};
-
-#[cfg(test)]
-mod tests;

@@ -10,6 +10,3 @@ mod text;
 pub use decimal::{Decimal, has_decimals};
 pub use laws::decimals_contain_their_fraction;
 pub use limits::{MOST_DIGITS, limits_have_these_numbers};
-
-#[cfg(test)]
-mod tests;

@@ -7,8 +7,6 @@ mod modelled;
 mod multipliers;
 mod scaled;
 mod table_dual;
-#[cfg(test)]
-mod tests;
 mod weights;
 
 pub use modelled::model_of;

@@ -18,8 +18,6 @@ mod row;
 mod scaled;
 mod search;
 mod sorting;
-#[cfg(test)]
-mod tests;
 mod truth;
 mod wishes;
 

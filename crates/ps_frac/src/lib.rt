@@ -18,6 +18,3 @@ pub use fraction::Fraction;
 pub use limits::{MOST_MULTIPLE, SIZE_LIMIT, limits_have_these_numbers};
 pub use multiples::lcm_upto;
 pub use wide::{Op, Wide};
-
-#[cfg(test)]
-mod tests;

@@ -14,8 +14,6 @@ mod reconstruction;
 mod residue;
 mod solution;
 mod solving;
-#[cfg(test)]
-mod tests;
 mod wide;
 
 pub use inverse::{Inverse, inverse_of};

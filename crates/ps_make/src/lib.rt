@@ -6,6 +6,3 @@ mod made;
 
 pub use laws::made_texts_are_read;
 pub use made::{MOST_LINKS, limits_have_these_numbers, make_text};
-
-#[cfg(test)]
-mod tests;

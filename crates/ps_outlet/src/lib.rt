@@ -2,7 +2,5 @@
 #![tactic(auto)]
 
 mod outlet;
-#[cfg(test)]
-mod tests;
 
 pub use outlet::Outlet;

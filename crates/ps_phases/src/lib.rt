@@ -12,8 +12,6 @@ mod limits;
 mod phase_laws;
 mod pivot_limit;
 mod state;
-#[cfg(test)]
-mod tests;
 
 pub use column::column_of;
 pub use costs::{costs_for, world_cost, world_in};

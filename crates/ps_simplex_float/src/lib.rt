@@ -18,6 +18,3 @@ pub use ending::Ending;
 pub use limits::{MOST_ROWS, limits_have_these_numbers};
 pub use program::Phase;
 pub use simplex::Simplex;
-
-#[cfg(test)]
-mod tests;

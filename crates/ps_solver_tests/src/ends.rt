@@ -1,11 +1,10 @@
-ghost use Rattle.std.specs.Prelude.{ℕ, ◌<◌, ◌≤ℤ◌, IsTrue, length, get_or, pos, negsuc};
-ghost use Rattle.ps_table.specs.Pricing.{HasCosts};
+ghost use Rattle.std.specs.Prelude.{IsTrue};
 ghost use Rattle.ps_ends.specs.Models.{AreApart};
 
-use crate::tables::are_values_at_least_zero;
+use crate::tables::{adds, are_values_at_least_zero, has_costs, pivots};
 use ps_answer::{Dual, Model, Weighted};
 use ps_claims::ClaimKind;
-use ps_ends::{dual_of, model_of};
+use ps_ends::{Weights, dual_of, model_of, weights_of};
 use ps_formula::World;
 use ps_io::List;
 use ps_pool::{Col, Pool};
@@ -30,30 +29,15 @@ const WORLDS: [([bool; 2], [i64; 2]); 3] = [
     ([false, false], [1, -1]),
 ];
 
-fn adds_column(table: &mut Table, entries: &[i64]) -> bool {
-    if entries.len() != table.rows() as usize || table.worlds() >= 10 {
-        return false;
-    }
-    table.add_world(entries).is_ok()
-}
-
-fn pivots(table: &mut Table, row: u32, number: u32) -> bool {
-    if row >= table.rows() || number == 0 || number > table.worlds() {
-        return false;
-    }
-    let col = Col::World(number);
-    !table.entry(row, col).is_zero() && table.pivot(row, col).is_ok()
-}
-
 // Over the sum 1 and the row `2 * first - third = 0` the first world has 1/3 and the third 2/3.
 fn a_table(alloc: Global) -> Option<Table> {
     let mut table = Table::new(alloc, &[Home::Artificial, Home::Artificial]).ok()?;
     for world in &WORLDS {
-        if !adds_column(&mut table, &world.1) {
+        if !adds(&mut table, &world.1) {
             return None;
         }
     }
-    if !pivots(&mut table, 0, 1) || !pivots(&mut table, 1, 3) {
+    if !pivots(&mut table, 0, Col::World(1)) || !pivots(&mut table, 1, Col::World(3)) {
         return None;
     }
     Some(table)
@@ -99,31 +83,6 @@ fn are_first_and_third(table: &Table) -> bool
     ensures { IsTrue result → AreApart table.now }
 {
     table.rows() == 2 && table.basic(0) == Col::World(1) && table.basic(1) == Col::World(3)
-}
-
-fn are_small(costs: &[i8]) -> bool
-    ensures low { IsTrue result
-        → (i : ℕ) → i < length costs.now → negsuc 0 ≤ℤ get_or costs.now i (pos 0) }
-    ensures high { IsTrue result
-        → (i : ℕ) → i < length costs.now → get_or costs.now i (pos 0) ≤ℤ pos 1 }
-{
-    for k in 0..costs.len() {
-        if costs[k] < -1 || costs[k] > 1 {
-            return false;
-        }
-    }
-    true
-}
-
-fn has_costs(table: &Table, costs: &Costs) -> bool
-    ensures { IsTrue result → HasCosts costs.now table.now }
-{
-    let homes = costs.homes.as_slice();
-    let worlds = costs.worlds.as_slice();
-    homes.len() == table.rows() as usize
-        && worlds.len() >= table.worlds() as usize
-        && are_small(homes)
-        && are_small(worlds)
 }
 
 fn weighs(weighted: &Weighted, weight: i128, values: &[bool]) -> bool {
@@ -180,5 +139,27 @@ fn multipliers_are_turned_at_lower_bounds(rt: HostRuntime) -> Result<(), Fail> {
         None => false,
     };
     assert!(rt; right);
+    Ok(())
+}
+
+// A world of entry 3 is basic in row 0, so that its value is 1/3.
+fn weights_of_a_third(alloc: Global) -> Option<Weights> {
+    let mut table = Table::new(alloc, &[Home::Artificial]).ok()?;
+    if !adds(&mut table, &[3]) || !pivots(&mut table, 0, Col::World(1)) {
+        return None;
+    }
+    if !are_values_at_least_zero(&table) {
+        return None;
+    }
+    weights_of(alloc, &table).ok()
+}
+
+fn are_of_a_third(weights: &Weights) -> bool {
+    weights.total == 1 && weights.rows.as_slice() == [1].as_slice()
+}
+
+#[test]
+fn weights_have_their_total(rt: HostRuntime) -> Result<(), Fail> {
+    assert!(rt; weights_of_a_third(rt.alloc()).is_some_and(|weights| are_of_a_third(&weights)));
     Ok(())
 }

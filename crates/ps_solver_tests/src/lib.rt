@@ -8,11 +8,17 @@ mod checker;
 #[cfg(test)]
 mod clauses;
 #[cfg(test)]
+mod cycle;
+#[cfg(test)]
 mod ends;
+#[cfg(test)]
+mod fractions;
 #[cfg(test)]
 mod generation;
 #[cfg(test)]
 mod master;
+#[cfg(test)]
+mod phases;
 #[cfg(test)]
 mod pool;
 #[cfg(test)]

@@ -1,11 +1,10 @@
 //! The worked example: one row whose home is artificial.
 
 mod carrying;
-mod conditions;
 mod refusals;
 mod turning;
 
-use conditions::{adds, has_entry, has_value, pivots};
+use crate::tables::{adds, has_entry, has_value, pivots};
 use ps_pool::Col;
 use ps_rational::PRINTED_LIMIT;
 use ps_table::{Home, Table, can_be_printed};

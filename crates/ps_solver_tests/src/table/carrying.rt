@@ -1,6 +1,6 @@
 //! What rows carry of columns, worked out by hand.
 
-use super::conditions::{adds, has_costs, is_fraction, is_inside, pivots};
+use crate::tables::{adds, has_costs, is_fraction, is_inside, pivots};
 use ps_io::List;
 use ps_pool::Col;
 use ps_table::{Costs, Home, Table};

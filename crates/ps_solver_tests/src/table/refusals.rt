@@ -1,7 +1,7 @@
 //! Refusals at each kind of place. The operands were computed by Python's `fractions`, by which a
 //! single operation is wide in each case.
 
-use super::conditions::{adds, has_costs, is_fraction, is_inside, pivots};
+use crate::tables::{adds, has_costs, is_fraction, is_inside, pivots};
 use ps_frac::{Fraction, Op};
 use ps_io::List;
 use ps_pool::Col;

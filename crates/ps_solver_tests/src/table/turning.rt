@@ -2,7 +2,7 @@
 //! out by hand.
 
 use super::carrying::{carries, costs_of};
-use super::conditions::{adds, has_entry, has_value, pivots};
+use crate::tables::{adds, has_entry, has_value, pivots};
 use ps_pool::Col;
 use ps_table::{Costs, Home, Table};
 use std::test::Fail;

@@ -1,10 +1,14 @@
 //! The entries of rows, and the parts that bounds take.
 
-use crate::row::Row;
-use crate::sorting::{Part, part_of};
+use crate::problems::problem_of;
+use ps_float_pricing::{Relaxed, Row};
 use ps_meaning::Side;
 use ps_problem::Bound;
 use std::test::*;
+
+/// At least 1 and at most 0 are certainties; at least 0 and at most 1 always hold.
+const SPLIT: &[u8] =
+    b"psat 1; P(a) >= 1; P(a) <= 0; P(a) >= 0; P(a) <= 1; P(a) >= 1/3; query P(a); end;";
 
 /// The bound on node 1, where node 0 is given and both is node 2.
 fn bound(side: Side, num: u32, den: u32) -> Bound {
@@ -36,25 +40,25 @@ fn are_entries() -> bool {
         && entry(Side::AtMost, false, true) == 0
 }
 
-fn is_certain(side: Side, num: u32) -> bool {
-    matches!(part_of(0, &bound(side, num, 1)), Part::Certain(_))
-}
-
-fn is_met(side: Side, num: u32) -> bool {
-    matches!(part_of(0, &bound(side, num, 1)), Part::Met)
-}
-
-// At least 1 and at most 0 are certainties; at least 0 and at most 1 always hold.
-fn are_parts() -> bool {
-    is_certain(Side::AtLeast, 1)
-        && is_certain(Side::AtMost, 0)
-        && is_met(Side::AtLeast, 0)
-        && is_met(Side::AtMost, 1)
+fn are_parts(parts: &Relaxed) -> bool {
+    let certain = parts.certainties();
+    let rows = parts.rows();
+    certain.len() == 2
+        && rows.len() == 1
+        && certain
+            .first()
+            .is_some_and(|first| first.number == 0 && first.is_true)
+        && certain
+            .last()
+            .is_some_and(|last| last.number == 1 && !last.is_true)
+        && rows.first().is_some_and(|row| row.number == 4)
 }
 
 #[test]
 fn bounds_are_split(rt: HostRuntime) -> Result<(), Fail> {
+    let problem = problem_of(rt.alloc(), SPLIT).expect(&rt, "a problem");
+    let parts = Relaxed::new(rt.alloc(), &problem, &[true; 5])?;
+    assert!(rt; are_parts(&parts));
     assert!(rt; are_entries());
-    assert!(rt; are_parts());
     Ok(())
 }

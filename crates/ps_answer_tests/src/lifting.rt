@@ -1,6 +1,6 @@
 //! Systems whose solutions were worked by hand.
-use crate::{Solution, inverse_of, solve};
 use ps_io::{List, NoMemory};
+use ps_lifting::{Solution, inverse_of, solve};
 use std::alloc::Global;
 use std::test::*;
 

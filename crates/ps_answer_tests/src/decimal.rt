@@ -1,5 +1,5 @@
 //! Decimals of known fractions.
-use crate::{Decimal, MOST_DIGITS, has_decimals};
+use ps_decimal::{Decimal, MOST_DIGITS, has_decimals};
 use ps_frac::Fraction;
 use std::alloc::Global;
 use std::test::*;

@@ -1,4 +1,4 @@
-use super::*;
+use ps_phases::{column_of, homes_of, world_cost};
 use ps_problem::{Bound, Side};
 use ps_simplex::Phase;
 use ps_table::Home;

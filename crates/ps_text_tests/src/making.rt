@@ -1,5 +1,5 @@
 //! Texts of short chains, written by hand.
-use crate::made::make_text;
+use ps_make::make_text;
 use std::alloc::Global;
 
 const TEXTS: [(u32, &[u8]); 2] = [

@@ -5,7 +5,7 @@ ghost use Rattle.ps_simplex_float.specs.declared.limits.TheConstants.{MOST_ROWS}
 mod basis;
 mod optima;
 
-use super::*;
+use ps_simplex_float::{Column, Ending, Phase, RowKind, Simplex};
 use std::alloc::{AllocError, Global};
 
 /// A column of a program of four rows, and its cost.

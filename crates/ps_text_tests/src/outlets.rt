@@ -1,5 +1,5 @@
 //! Writers that fail.
-use crate::Outlet;
+use ps_outlet::Outlet;
 use std::io::{self, ErrorKind, Write};
 use std::test::*;
 

@@ -1,13 +1,11 @@
-//! Extreme operands, the worked examples, and the plain program beside the fast one. The expected
-//! values were computed by Python's `fractions` and `math`.
+//! Extreme operands and the worked examples. The expected values were computed by Python's `fractions` and `math`.
 
 mod cases;
 mod numbers;
 
-use crate::divisors::{gcd, gcd_by_remainders};
-use crate::{Fraction, MOST_MULTIPLE, Op, Wide, lcm_upto};
 use cases::{CASES, Case};
 use numbers::{DIVISORS, MULTIPLES};
+use ps_frac::{Fraction, MOST_MULTIPLE, Op, Wide, gcd, lcm_upto};
 use std::cmp::Ordering;
 
 /// The largest numerator or denominator.
@@ -127,7 +125,7 @@ fn common_multiples(rt: HostRuntime) {
 }
 
 fn is_divisor(a: u128, b: u128, expected: u128) -> bool {
-    gcd_by_remainders(a, b) == expected && gcd(a, b) == expected && gcd(b, a) == expected
+    gcd(a, b) == expected && gcd(b, a) == expected
 }
 
 fn are_divisors() -> bool {
@@ -140,6 +138,6 @@ fn are_divisors() -> bool {
 }
 
 #[test]
-fn both_divisors(rt: HostRuntime) {
+fn common_divisors(rt: HostRuntime) {
     assert!(rt; are_divisors());
 }

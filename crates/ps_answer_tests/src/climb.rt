@@ -2,7 +2,7 @@
 ghost use Rattle.std.specs.Prelude.{IsTrue, length};
 ghost use Rattle.ps_formula.specs.Nodes.{Fits};
 
-use super::*;
+use ps_climb::{Demand, Draw, Goal, LocalSearch, drawn_world};
 use ps_formula::{AddError, Formulas, Node, World};
 use ps_io::NoMemory;
 use std::alloc::Global;

@@ -1,5 +1,5 @@
 use Rattle.std.proofs.Common.{ℕ, ◌<◌, ◌≤ℤ◌, get_or, pos, negsuc}
-use Rattle.ps_solver_tests.proofs.table.conditions.are_small.Given as goal
+use Rattle.ps_solver_tests.proofs.tables.are_small.Given as goal
 
 abbrev pub invariant-loop-k : goal.invariant-loop-k
 invariant-loop-k l = record {

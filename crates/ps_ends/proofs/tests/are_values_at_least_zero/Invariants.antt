@@ -1,7 +1,0 @@
-use Rattle.std.proofs.Common.{◌<◌, ℕ}
-use Rattle.ps_rational.specs.Order.{IsNonneg}
-use Rattle.ps_table.specs.Tableau.{entry_at}
-use Rattle.ps_ends.proofs.tests.are_values_at_least_zero.Given as goal
-
-abbrev pub invariant-loop-row : goal.invariant-loop-row
-invariant-loop-row l = (i : ℕ) → i < l.row → IsNonneg (entry_at l.table i 0)
