@@ -8,7 +8,7 @@ use Rattle.ps_outlet.specs.declared.outlet.Outlet.{Outlet}
 
 -- whether a write found that the reader has gone
 abbrev pub has_left : {W : Type 0} → Outlet W → Bool
-has_left o = o.is_left
+has_left o = o.has_reader_gone
 
 -- what is written to
 abbrev pub writer_of : {W : Type 0} → Outlet W → W

@@ -10,7 +10,7 @@ use std::io::{self, ErrorKind, Write};
 #[derive(Drop)]
 pub struct Outlet<W> {
     writer: W,
-    is_left: bool,
+    has_reader_gone: bool,
 }
 
 impl<W: Write> Outlet<W> {
@@ -20,15 +20,15 @@ impl<W: Write> Outlet<W> {
     {
         Outlet {
             writer,
-            is_left: false,
+            has_reader_gone: false,
         }
     }
 
     /// Whether a write found that the reader has gone.
-    pub fn is_left(&self) -> bool
+    pub fn has_reader_gone(&self) -> bool
         ensures { result ≡ has_left self.now }
     {
-        self.is_left
+        self.has_reader_gone
     }
 
     // Notes whether an error says that the reader has gone.
@@ -37,7 +37,7 @@ impl<W: Write> Outlet<W> {
         ensures known { IsKnownBehind error.now (has_left self.old) (has_left self.new) }
     {
         if error.kind() == ErrorKind::BrokenPipe {
-            self.is_left = true;
+            self.has_reader_gone = true;
         }
     }
 }

@@ -24,11 +24,11 @@ const ROWS: [(ErrorKind, bool); 3] = [
     (ErrorKind::Other, false),
 ];
 
-fn notes(kind: ErrorKind, is_left: bool) -> bool {
+fn notes(kind: ErrorKind, has_gone: bool) -> bool {
     let mut outlet = Outlet::new(Failing(kind));
-    let before = outlet.is_left();
+    let before = outlet.has_reader_gone();
     let failed = outlet.write(b"a").is_err();
-    failed && !before && outlet.is_left() == is_left
+    failed && !before && outlet.has_reader_gone() == has_gone
 }
 
 #[test]

@@ -41,7 +41,7 @@ fn main(rt: HostRuntime) -> ExitCode {
     let mut output = StdSink::new(&mut outlet);
     let ended = run_program(rt.alloc(), env::args(&rt), &mut input, &mut output);
     // A reader that has gone, as `head` does, wants nothing more, also no message.
-    if !outlet.is_left() {
+    if !outlet.has_reader_gone() {
         if let Some(failure) = failure(ended) {
             let _ = eprintln!(rt; "psat: {failure}");
         }

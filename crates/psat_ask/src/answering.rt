@@ -94,7 +94,7 @@ fn answer_to<I: Source, R: Sink + Drop>(
     let status = answer_over(rt, asked, name, source, &mut outlet, report);
     Ended {
         status,
-        has_reader_gone: outlet.is_left(),
+        has_reader_gone: outlet.has_reader_gone(),
     }
 }
 
@@ -161,7 +161,7 @@ fn write_texts(rt: &HostRuntime, texts: &[&str]) -> bool {
     let mut output = StdSink::new(&mut outlet);
     for text in texts {
         if write_all(&mut output, text.as_bytes()).is_err() {
-            tell_output(rt, outlet.is_left());
+            tell_output(rt, outlet.has_reader_gone());
             return false;
         }
     }
