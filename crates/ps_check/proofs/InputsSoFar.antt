@@ -56,12 +56,13 @@ come_more old new taken n first last next piece h on c e = record {
   known = on.known h.bytes h.known;
 }
 
--- the same of what an input is known by
+-- a report that was begun is known by what its input is
 begun_behind : (f : FrontState) (rest bytes : List ℕ) (i : Intake) → IsBehind f rest i
     → ((r : Report) → report.HasBegun f rest r → Knows (Behind r) bytes) → Knows i bytes
 begun_behind f rest bytes (Behind r) h known = known r h.1
 begun_behind f rest bytes (Reading g pushed) h known = absurd h
 
+-- the same of what an input is known by
 pub read_behind : (self new : Intake) (old front : FrontState) (pushed count : ℕ) (piece searched rest : List ℕ) → self ≡ Reading old pushed → IsSound self
     → searched ≡ take (MOST_SEARCHED - pushed) piece → HasPushedOn old searched front → front.taken ≡ old.taken + count → count < length piece
     → rest ≡ take (length piece - count) (drop count piece) → IsBehind front rest new → HasTakenOn self piece new
@@ -74,10 +75,6 @@ read_behind self new old front pushed count piece searched rest is sound e on n 
           then_behind old front pushed count bytes piece r (subst (λ (x : Intake). Knows x bytes) is k) w.taken w.room (subst (λ (x : List ℕ). HasPushedOn old x front) e on) n lt
           (subst (λ (x : List ℕ). report.HasBegun front x r) (cut ∙ take_rest piece count) begun));
     }
-
-pub behind_sound : (f : FrontState) (rest : List ℕ) (i : Intake) → IsBehind f rest i → IsSound i
-behind_sound f rest (Behind r) h = h.0
-behind_sound f rest (Reading g pushed) h = absurd h
 
 pub behind_on : (self : Intake) (old new : Report) (piece : List ℕ) → self ≡ Behind old → report.HasTakenOn old piece new → HasTakenOn self piece (Behind new)
 behind_on self old new piece is on = record {

@@ -4,7 +4,7 @@ ghost use Rattle.std.specs.Prelude.{IfOk, OnOk, OnErr, IsErr};
 ghost use Rattle.ps_log.specs.FirstLines.{IsOneLine};
 ghost use Rattle.ps_stream.specs.declared.end.StreamEnd.TheVariants as end;
 ghost use Rattle.ps_stream.specs.declared.state.State.TheVariants.{Reading};
-ghost use Rattle.ps_stream.specs.Reading.{of_stream, Answers, Lines};
+ghost use Rattle.ps_stream.specs.Reading.{of_stream};
 ghost use Rattle.ps_stream.specs.States.{AnswersTaken, HasTaken, HasTakenOn, reading, IsCounted, IsOutOfMemory};
 
 use crate::StreamEnd;
@@ -119,8 +119,7 @@ impl StreamCheck {
     pub fn finish(self, rest: &[u8]) -> Result<Accepted, StreamEnd>
         requires rest { IsOneLine rest.now }
         // The first line at fault is told, or what is answered of the answer whose report it is.
-        ensures told { (lines : Lines) → HasTaken self lines
-            → Answers self.problem lines rest.now result }
+        ensures told { AnswersTaken self rest.now result }
         // That memory ran out is answered where it did, and nowhere else.
         ensures memory { IsOutOfMemory self ↔ (result ≡ Err end.NoMemory) }
     {
