@@ -13,7 +13,7 @@ use ps_problem::Query;
 use std::alloc::Global;
 
 /// How often a part is guessed at most. Each guess but the last adds a world.
-const MOST_GUESSES: u32 = 1000000;
+const MOST_GUESSES: u32 = 1_000_000;
 
 /// A distribution that is found.
 pub fn find_model<G: Guesser>(
