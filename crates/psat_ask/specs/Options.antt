@@ -1,5 +1,5 @@
 -- What the words of options set.
-use Rattle.std.specs.Prelude.{◌≡◌, ◌≢◌, List, ℕ, Option, None, MatchOption}
+use Rattle.std.specs.Prelude.{◌≡◌, ◌≢◌, List, ℕ, Option, None, MatchOption, codes, true, false}
 use Rattle.ps_answer.specs.declared.limits.TheConstants.{MOST_PIVOTS}
 use Rattle.ps_log.specs.declared.limits.TheConstants.{MOST_CONFLICTS}
 use Rattle.ps_decimal.specs.declared.limits.TheConstants.{MOST_DIGITS}
@@ -7,9 +7,32 @@ use Rattle.ps_ask.specs.declared.settings.Settings.{Settings}
 use Rattle.ps_ask.specs.declared.settings.Style.{Style}
 use Rattle.ps_ask.specs.declared.settings.Style.TheVariants.{Words}
 use Rattle.psat_ask.specs.declared.options.Valued.{Valued}
-use Rattle.psat_ask.specs.declared.options.Valued.TheVariants.{Digits, Pivots, Conflicts}
+use Rattle.psat_ask.specs.declared.options.Valued.TheVariants.{Digits, Pivots, Conflicts, Report, TimeLimit}
 use Rattle.psat_ask.specs.declared.request.Asked.{Asked}
 use Rattle.psat_ask.specs.Numbers.{Spells, SpellsNone}
+
+-- the settings without options: 10,000 pivots, 20,000 conflicts, six digits, words, no report, warnings, no limit of time
+abbrev pub usual_settings : Settings
+usual_settings = record {
+  limits = record { pivots = 10000; conflicts = 20000 };
+  digits = 6;
+  style = Words;
+  reports = false;
+  warns = true;
+  is_timed = false;
+}
+
+-- the word of an option with a value
+abbrev pub name_of : Valued → List ℕ
+name_of Digits = codes "--digits"
+name_of Pivots = codes "--pivots"
+name_of Conflicts = codes "--conflicts"
+name_of Report = codes "--report"
+name_of TimeLimit = codes "--time-limit"
+
+-- the option that is found is the one that the word names; there is none where it names none
+abbrev pub FindsNamed : List ℕ → Option Valued → Type 0
+FindsNamed word found = MatchOption found ((option : Valued) → word ≢ name_of option) (λ option. word ≡ name_of option)
 
 -- the digits of decimals are those that the word spells, and nothing else changes
 pub record SetsDigits (word : List ℕ) (old new : Settings) : Type 0 where

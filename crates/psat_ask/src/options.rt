@@ -1,8 +1,8 @@
 //! Options, and what is asked for without any.
-ghost use Rattle.std.specs.Prelude.{IfSome};
+ghost use Rattle.std.specs.Prelude.{◌≡◌, IfSome};
 ghost use Rattle.ps_ask.specs.Shown.{AreSettings};
 ghost use Rattle.psat_ask.specs.Numbers.{FindsNumber};
-ghost use Rattle.psat_ask.specs.Options.{FindsStyle, FindsValue};
+ghost use Rattle.psat_ask.specs.Options.{FindsNamed, FindsStyle, FindsValue, usual_settings};
 ghost use Rattle.psat_ask.specs.declared.options.Valued.TheVariants.{Conflicts, Digits, Pivots};
 ghost use Rattle.psat_ask.specs.declared.options.TheConstants.{MOST_SECONDS};
 
@@ -46,7 +46,9 @@ impl Valued {
 }
 
 /// The option with a value that a word names.
-pub fn option_named(word: &str) -> Option<Valued> {
+pub fn option_named(word: &str) -> Option<Valued>
+    ensures { FindsNamed word.now result }
+{
     match word {
         "--digits" => Some(Valued::Digits),
         "--pivots" => Some(Valued::Pivots),
@@ -59,7 +61,8 @@ pub fn option_named(word: &str) -> Option<Valued> {
 
 /// What is asked for without options.
 pub fn default_settings() -> Settings
-    ensures { AreSettings result }
+    ensures usual { result ≡ usual_settings }
+    ensures lawful { AreSettings result }
 {
     Settings {
         limits: Limits {
