@@ -6,7 +6,7 @@ ghost use Rattle.answer_trials.specs.declared.answering.TheConstants.{MOST_PROBL
 
 use ps_answer::{Answer, MOST_PIVOTS, QueryAnswer, SideAnswer, Verdict};
 use ps_engine::Engine;
-use ps_guided::Limits;
+use ps_guess::Limits;
 use ps_io::{Lines, NoMemory, Sink, Source, read_all};
 use ps_read::read_whole;
 use ps_report::write_report;
@@ -104,7 +104,7 @@ fn answer_of(alloc: Global, pivots: u64, bytes: &[u8]) -> Result<Option<Answered
     };
     let limits = limits_of(pivots);
     let mut engine = Engine::new(alloc, &problem)?;
-    let answer = ps_guided::answer(alloc, &problem, limits, &mut engine)?;
+    let answer = ps_guess::answer(alloc, &problem, limits, &mut engine)?;
     let work = Work {
         pivots: engine.pivots(),
         worlds: engine.worlds(),

@@ -140,7 +140,7 @@ fn same(one: &Answer, other: &Answer) -> bool {
 fn agree(alloc: Global, problem: &Problem, tolerances: Tolerances) -> Result<bool, NoMemory> {
     let limits = limits_of(10_000);
     let mut engine = Engine::with_tolerances(alloc, problem, tolerances)?;
-    let guessed = ps_guided::answer(alloc, problem, limits, &mut engine)?;
+    let guessed = ps_guess::answer(alloc, problem, limits, &mut engine)?;
     let run = solve(alloc, problem, limits)?;
     Ok(same(&guessed, &run))
 }

@@ -5,11 +5,11 @@ use Rattle.std.specs.Str.{bytes_eq}
 use Rattle.std.specs.Str.Parse.{digits_value, AllDigits}
 use Rattle.std.specs.Char.{digit_value}
 use Rattle.ps_meaning.specs.Formula.{World}
-use Rattle.ps_steps.specs.Steps.{Step}
-use Rattle.ps_steps.specs.Constraints.{Constraint}
-use Rattle.ps_steps.specs.Weights.{weighted}
-use Rattle.ps_pool.specs.declared.col.Col.{Col}
-use Rattle.ps_pool.specs.declared.col.Col.TheVariants as col
+use Rattle.ps_pb.specs.Steps.{Step}
+use Rattle.ps_pb.specs.Constraints.{Constraint}
+use Rattle.ps_pb.specs.Weights.{weighted}
+use Rattle.ps_table.specs.declared.col.Col.{Col}
+use Rattle.ps_table.specs.declared.col.Col.TheVariants as col
 use Rattle.ps_frac.specs.declared.wide.Op.{Op}
 use Rattle.ps_frac.specs.declared.wide.Op.TheVariants as op
 use Rattle.ps_table.specs.declared.place.Place.{Place}

@@ -5,8 +5,8 @@ use Rattle.std.specs.Fmt.{signed_decimal}
 use Rattle.ps_io.specs.LineText.{with_word}
 use Rattle.ps_meaning.specs.Formula.{World}
 use Rattle.ps_log.specs.Spellings.{IsDecimal, Spells}
-use Rattle.ps_pool.specs.declared.col.Col.{Col}
-use Rattle.ps_pool.specs.declared.col.Col.TheVariants.{Home, World as WorldCol}
+use Rattle.ps_table.specs.declared.col.Col.{Col}
+use Rattle.ps_table.specs.declared.col.Col.TheVariants.{Home, World as WorldCol}
 use Rattle.ps_answer.specs.declared.item.Ratio.{Ratio}
 
 -- what a word says: letters as they are, a number, a fraction, a column, or a world

@@ -3,8 +3,7 @@ use ps_formula::World;
 use ps_frac::Fraction;
 use ps_io::List;
 use ps_pb::{Constraint, Steps};
-use ps_pool::Trace;
-use ps_table::WideAt;
+use ps_table::{Trace, WideAt};
 
 /// A world and its weight.
 #[derive(Drop)]

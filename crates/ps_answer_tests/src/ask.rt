@@ -3,7 +3,7 @@ ghost use Rattle.ps_ask.specs.Shown.{AreSettings};
 
 use late_rows::{LATE, RESTS};
 use ps_ask::{ClaimKind, Company, Progress, Settings, Sinks, Sought, Status, Style, Watch, ask};
-use ps_guided::Limits;
+use ps_guess::Limits;
 use ps_io::{MemSink, MemSource, NoMemory};
 use rows::{OPEN, PROBLEM, ROWS, Row, UNWARNED, WORDS};
 use std::alloc::Global;

@@ -1,6 +1,5 @@
 //! Decimals of known fractions.
-use ps_decimal::{Decimal, MOST_DIGITS, has_decimals};
-use ps_frac::Fraction;
+use ps_frac::{Decimal, Fraction, MOST_DIGITS, has_decimals};
 use std::alloc::Global;
 use std::test::*;
 

@@ -3,16 +3,16 @@ ghost use Rattle.std.specs.Prelude.{IfOk, IfSome};
 ghost use Rattle.ps_generation.specs.Phases.{AreLimits};
 ghost use Rattle.ps_runs.specs.Kept.{IsChoice};
 ghost use Rattle.ps_explain.specs.Texts.{HasShortLines};
-ghost use Rattle.ps_master.specs.Runs.{IsAtStart};
+ghost use Rattle.ps_generation.specs.Runs.{IsAtStart};
 
 use crate::problems::{LIMITS, problem_of};
 use ps_answer::{Dual, Model, Weighted};
 use ps_claims::ClaimKind;
 use ps_explain::{Explained, Limits, explain, write_explanation};
 use ps_formula::World;
+use ps_generation::{First, Run};
 use ps_guesser::{Guess, Guesser, Progress};
 use ps_io::{Lines, List, MemSink, NoMemory};
-use ps_master::{First, Run};
 use ps_problem::{Problem, Query};
 use std::alloc::Global;
 use std::test::*;

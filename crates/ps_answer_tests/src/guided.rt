@@ -6,9 +6,9 @@ use crate::problems::{LIMITS, problem_of};
 use ps_answer::{Answer, Dual, Model, QueryAnswer, QueryPart, SideAnswer, Verdict, Weighted};
 use ps_claims::ClaimKind;
 use ps_formula::World;
-use ps_guess::Trials;
-use ps_guided::{
-    Guess, Guesser, InTime, Known, Limits, Progress, Watch, answer, part_in_time, verdict_in_time,
+use ps_guess::{
+    Guess, Guesser, InTime, Known, Limits, Progress, Trials, Watch, answer, part_in_time,
+    verdict_in_time,
 };
 use ps_io::{List, NoMemory};
 use ps_problem::{Problem, Query};

@@ -1,7 +1,7 @@
 -- What an explanation tells of sentences that clash.
 use Rattle.std.proofs.Common.{◌≡◌, true, ℕ, List, All, Some, None, length, map, refl, sym, subst, inl, inr}
 use Rattle.ps_problem.specs.Problems.{Parts, bounds_of}
-use Rattle.ps_pool.specs.declared.event.Event.{Event}
+use Rattle.ps_table.specs.declared.event.Event.{Event}
 use Rattle.ps_answer.specs.declared.answer.Cause.{Cause}
 use Rattle.ps_answer.specs.declared.answer.Dual.{Dual}
 use Rattle.ps_answer.specs.declared.answer.Model.{Model}
@@ -9,9 +9,9 @@ use Rattle.ps_answer.specs.declared.answer.Answer.{Answer}
 use Rattle.ps_answer.specs.declared.answer.Verdict.{Verdict}
 use Rattle.ps_answer.specs.declared.answer.Verdict.TheVariants as verdict
 use Rattle.ps_claims.specs.Answers.{ShowsConsistent, IsRightVerdict}
-use Rattle.ps_certificate.specs.Certificates.{model_of}
+use Rattle.ps_claims.specs.Certificates.{model_of}
 use Rattle.ps_valid.specs.Answers.{IsRightOf, verdict_of}
-use Rattle.ps_phases.specs.declared.limits.Limits.{Limits}
+use Rattle.ps_runs.specs.declared.limits.Limits.{Limits}
 use Rattle.ps_explain.specs.declared.explained.Explained.{Explained}
 use Rattle.ps_explain.specs.declared.explained.Explained.TheVariants as explained
 use Rattle.ps_explain.specs.Explanations.{IsRightExplanation}

@@ -3,7 +3,7 @@ use Rattle.std.proofs.Common.{◌≡◌, ℕ, ◌*◌, ◌≤◌, ℤ, pos, negs
 use Rattle.std.proofs.lemmas.Int.{ints, unsigned_abs-mul}
 use Rattle.std.proofs.Math.Nat.{le_trans, le_of_mul-le-mul_right, mul-le-mul_left}
 use Rattle.std.proofs.lemmas.List.Elements.{All-cons, All-nil, All-tail}
-use Rattle.ps_rational.specs.Rational.{Rational}
+use Rattle.ps_meaning.specs.Rational.{Rational}
 use Rattle.ps_meaning.specs.Formula.{Formula, And, is_true}
 use Rattle.ps_meaning.specs.Distribution.{Entry, weight}
 use Rattle.ps_meaning.specs.Bounds as meaning
@@ -18,13 +18,13 @@ use Rattle.ps_answer.specs.declared.answer.QueryAnswer.{QueryAnswer}
 use Rattle.ps_answer.specs.declared.answer.QueryAnswer.TheVariants as query
 use Rattle.ps_answer.specs.declared.answer.QueryPart.{QueryPart}
 use Rattle.ps_claims.specs.declared.claim_kind.ClaimKind.TheVariants.{Lower, Upper}
-use Rattle.ps_certificate.specs.Certificates.{dual_of}
+use Rattle.ps_claims.specs.Certificates.{dual_of}
 use Rattle.ps_claims.specs.Validity.{IsValidSide, IsValidPart}
 use Rattle.ps_valid.specs.Answers.{side_of, part_of}
-use Rattle.ps_certificate.specs.Printed.{IsPrintedSide, IsPrintedPart}
-use Rattle.ps_reported.proofs.Values.{value_low, value_small}
+use Rattle.ps_claims.specs.Printed.{IsPrintedSide, IsPrintedPart}
+use Rattle.ps_query.proofs.Values.{value_low, value_small}
 use Rattle.std.specs.Prelude.{◌⊎◌}
-use Rattle.ps_guided.specs.Solutions.{IsAnsweredPart}
+use Rattle.ps_guess.specs.Solutions.{IsAnsweredPart}
 use Rattle.ps_ask.specs.declared.settings.Settings.{Settings}
 use Rattle.ps_ask.specs.Fronts.{AreShownParts, IsLatePart}
 use Rattle.ps_ask.specs.Decimals.{HasBoundWithDecimals, HaveBoundsDecimals, BoundsHaveDecimals}

@@ -11,7 +11,7 @@ use Rattle.ps_read.specs.declared.read_error.ReadError.{ReadError}
 use Rattle.ps_read.specs.declared.read_error.ReadError.TheVariants as unread
 use Rattle.ps_read.specs.Readings.{SpellsWhole, IsUnreadWhole}
 use Rattle.ps_read.specs.Reads.{Tells}
-use Rattle.ps_json.specs.Objects.{Beside}
+use Rattle.ps_spoken.specs.Objects.{Beside}
 use Rattle.ps_ask.specs.declared.answering.TheConstants.{MOST_PROBLEM}
 use Rattle.ps_ask.specs.declared.settings.Settings.{Settings}
 use Rattle.ps_ask.specs.declared.status.Status.{Status}

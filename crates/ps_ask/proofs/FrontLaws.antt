@@ -6,19 +6,19 @@ use Rattle.std.proofs.lemmas.List.{take_all}
 use Rattle.std.proofs.lemmas.Slice.Zip.{AllZip-long}
 use Rattle.ps_problem.specs.declared.query.Query.{Query}
 use Rattle.ps_problem.specs.Problems.{Parts, AreParts}
-use Rattle.ps_pool.specs.declared.event.Event.{Event}
+use Rattle.ps_table.specs.declared.event.Event.{Event}
 use Rattle.ps_answer.specs.declared.answer.Answer.{Answer}
 use Rattle.ps_answer.specs.declared.answer.QueryPart.{QueryPart}
 use Rattle.ps_answer.specs.declared.answer.Verdict.{Verdict}
 use Rattle.ps_claims.specs.Validity.{IsValid, IsValidPart, IsValidVerdict}
 use Rattle.ps_claims.proofs.Valid.{valid-right}
 use Rattle.ps_valid.specs.Answers.{answer_of, part_of, parts_of, verdict_of}
-use Rattle.ps_phases.specs.Verdicts.{asked_after}
-use Rattle.ps_reported.proofs.Reports.{asked_same}
+use Rattle.ps_runs.specs.Verdicts.{asked_after}
+use Rattle.ps_query.proofs.Reports.{asked_same}
 use Rattle.ps_generation.specs.Phases.{AreLimits}
 use Rattle.ps_query.proofs.Loops.{zip_next}
-use Rattle.ps_guided.specs.Solutions.{IsAnsweredPart, IsAnsweredVerdict}
-use Rattle.ps_guided.proofs.Settled.{solution, short}
+use Rattle.ps_guess.specs.Solutions.{IsAnsweredPart, IsAnsweredVerdict}
+use Rattle.ps_guess.proofs.Settled.{solution, short}
 use Rattle.ps_spoken.specs.Spoken.{spoken, part_text, paired_text}
 use Rattle.ps_spoken.specs.Quiet.{values_of}
 use Rattle.ps_spoken.proofs.Values.{values-push}

@@ -3,7 +3,7 @@ use Rattle.std.proofs.Common.{◌≡◌, Bool, true, false, List, [], Option, re
 use Rattle.std.specs.Prelude.{◌||◌, Result, Ok, Err, IfOk}
 use Rattle.ps_problem.specs.declared.query.Query.{Query}
 use Rattle.ps_problem.specs.Problems.{Parts, AreParts, HasNodes}
-use Rattle.ps_pool.specs.declared.event.Event.{Event}
+use Rattle.ps_table.specs.declared.event.Event.{Event}
 use Rattle.ps_answer.specs.declared.answer.QueryPart.{QueryPart}
 use Rattle.ps_answer.specs.declared.answer.QueryAnswer.TheVariants as query
 use Rattle.ps_answer.specs.declared.answer.SideAnswer.{SideAnswer}
@@ -14,10 +14,10 @@ use Rattle.ps_claims.specs.declared.claim_kind.ClaimKind.TheVariants.{Lower, Upp
 use Rattle.ps_claims.specs.Validity.{IsValidPart}
 use Rattle.ps_valid.specs.Answers.{part_of, verdict_of}
 use Rattle.ps_guess.specs.Trials.{IsFoundSide}
-use Rattle.ps_guided.specs.Known.{AreFound}
-use Rattle.ps_guided.specs.Solutions.{IsAnsweredPart, IsAnsweredVerdict}
-use Rattle.ps_guided.proofs.Right.{right_part, right_verdict}
-use Rattle.ps_guided.proofs.Settled.{found_bounds, found_printed, found_valid}
+use Rattle.ps_guess.specs.Known.{AreFound}
+use Rattle.ps_guess.specs.Solutions.{IsAnsweredPart, IsAnsweredVerdict}
+use Rattle.ps_guess.proofs.Right.{right_part, right_verdict}
+use Rattle.ps_guess.proofs.Settled.{found_bounds, found_printed, found_valid}
 use Rattle.ps_spoken.specs.Spoken.{out_of_time}
 use Rattle.ps_ask.specs.declared.settings.Settings.{Settings}
 use Rattle.ps_ask.specs.Late.{is_late_side}

@@ -4,8 +4,8 @@ use Rattle.std.specs.Prelude.{Option}
 use Rattle.ps_problem.specs.Problems.{Parts}
 use Rattle.ps_answer.specs.declared.answer.Answer.{Answer}
 use Rattle.ps_spoken.specs.declared.clash.Clash.{Clash}
-use Rattle.ps_json.specs.declared.object.Told.{Told}
-use Rattle.ps_json.specs.Objects.{Beside, facts, object}
+use Rattle.ps_spoken.specs.declared.object.Told.{Told}
+use Rattle.ps_spoken.specs.Objects.{Beside, facts, object}
 use Rattle.ps_ask.specs.declared.settings.Settings.{Settings}
 use Rattle.ps_ask.specs.declared.settings.Style.{Style}
 use Rattle.ps_ask.specs.declared.settings.Style.TheVariants.{Words, Values, Json, Report}

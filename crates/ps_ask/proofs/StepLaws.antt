@@ -4,8 +4,8 @@ use Rattle.std.specs.Prelude.{Result}
 use Rattle.ps_io.specs.Transfer.{Appends}
 use Rattle.ps_io.proofs.Bytes.{appends-then}
 use Rattle.ps_problem.specs.Problems.{Parts}
-use Rattle.ps_pool.specs.declared.event.Event.{Event}
-use Rattle.ps_phases.specs.Verdicts.{asked_after}
+use Rattle.ps_table.specs.declared.event.Event.{Event}
+use Rattle.ps_runs.specs.Verdicts.{asked_after}
 use Rattle.ps_answer.specs.declared.answer.QueryPart.{QueryPart}
 use Rattle.ps_answer.specs.declared.answer.Verdict.{Verdict}
 use Rattle.ps_ask.specs.declared.settings.Settings.{Settings}

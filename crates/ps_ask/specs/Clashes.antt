@@ -2,13 +2,13 @@
 use Rattle.std.specs.Prelude.{◌≡◌, ◌⊎◌, true, ℕ, List, length, map, All, Option, Some, None}
 use Rattle.ps_problem.specs.Problems.{Parts, bounds_of}
 use Rattle.ps_claims.specs.Queries.{IsInconsistent}
-use Rattle.ps_pool.specs.declared.event.Event.{Event}
+use Rattle.ps_table.specs.declared.event.Event.{Event}
 use Rattle.ps_answer.specs.declared.answer.Cause.{Cause}
 use Rattle.ps_answer.specs.declared.answer.Dual.{Dual}
 use Rattle.ps_answer.specs.declared.answer.Model.{Model}
 use Rattle.ps_answer.specs.declared.answer.Verdict.{Verdict}
 use Rattle.ps_answer.specs.declared.answer.Verdict.TheVariants.{Consistent, Inconsistent, Open}
-use Rattle.ps_phases.specs.declared.limits.Limits.{Limits}
+use Rattle.ps_runs.specs.declared.limits.Limits.{Limits}
 use Rattle.ps_explain.specs.Explanations.{IsCore, IsModelOfKept, IsOpenOver}
 use Rattle.ps_explain.specs.Rests.{all_but, AreShownNotMet, IsVerdictWithout}
 use Rattle.ps_spoken.specs.declared.clash.Clash.{Clash}

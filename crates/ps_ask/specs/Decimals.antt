@@ -6,7 +6,7 @@ use Rattle.ps_answer.specs.declared.answer.SideAnswer.TheVariants as side
 use Rattle.ps_answer.specs.declared.answer.QueryAnswer.{QueryAnswer}
 use Rattle.ps_answer.specs.declared.answer.QueryAnswer.TheVariants as query
 use Rattle.ps_answer.specs.declared.answer.Answer.{Answer}
-use Rattle.ps_decimal.specs.Decimals.{HasDecimals}
+use Rattle.ps_frac.specs.Decimals.{HasDecimals}
 use Rattle.ps_ask.specs.declared.settings.Settings.{Settings}
 use Rattle.ps_ask.specs.Fronts.{IsUnderWay}
 

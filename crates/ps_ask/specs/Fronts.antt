@@ -3,7 +3,7 @@ use Rattle.std.specs.Prelude.{◌≡◌, ◌⊎◌, ℕ, true, false, List, [], 
 use Rattle.std.specs.List.{AllZip}
 use Rattle.ps_problem.specs.declared.query.Query.{Query}
 use Rattle.ps_problem.specs.Problems.{Parts, bounds_of}
-use Rattle.ps_pool.specs.declared.event.Event.{Event}
+use Rattle.ps_table.specs.declared.event.Event.{Event}
 use Rattle.ps_answer.specs.declared.answer.Answer.{Answer}
 use Rattle.ps_answer.specs.declared.answer.QueryPart.{QueryPart}
 use Rattle.ps_answer.specs.declared.answer.SideAnswer.{SideAnswer}
@@ -12,10 +12,10 @@ use Rattle.ps_answer.specs.declared.answer.Verdict.TheVariants.{Open}
 use Rattle.ps_claims.specs.Answers.{IsRightVerdict, IsRightPart}
 use Rattle.ps_claims.specs.Validity.{IsValid, IsValidPart, query_of}
 use Rattle.ps_valid.specs.Answers.{answer_of, part_of, verdict_of, IsRightOf}
-use Rattle.ps_phases.specs.Verdicts.{asked_after}
-use Rattle.ps_certificate.specs.Printed.{IsPrintedPart}
-use Rattle.ps_guided.specs.Known.{AreFound}
-use Rattle.ps_guided.specs.Solutions.{IsAnsweredPart, IsAnsweredVerdict, IsSettledSolution}
+use Rattle.ps_runs.specs.Verdicts.{asked_after}
+use Rattle.ps_claims.specs.Printed.{IsPrintedPart}
+use Rattle.ps_guess.specs.Known.{AreFound}
+use Rattle.ps_guess.specs.Solutions.{IsAnsweredPart, IsAnsweredVerdict, IsSettledSolution}
 use Rattle.ps_spoken.specs.Spoken.{spoken, out_of_time, verdict_text, part_text, parts_text}
 use Rattle.ps_spoken.specs.Quiet.{values_of, verdict_value, query_values, parts_values}
 use Rattle.ps_ask.specs.declared.settings.Settings.{Settings}

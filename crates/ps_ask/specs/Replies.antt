@@ -4,15 +4,15 @@ use Rattle.ps_io.specs.Causes.{next_count}
 use Rattle.ps_io.specs.Transfer.{Appends, AppendsPrefix, Writes}
 use Rattle.ps_io.specs.declared.sink.Sink.{Ghosts}
 use Rattle.ps_io.specs.declared.source.Source as sources
-use Rattle.ps_phases.specs.Verdicts.{asked_after}
+use Rattle.ps_runs.specs.Verdicts.{asked_after}
 use Rattle.ps_answer.specs.declared.answer.Answer.{Answer}
 use Rattle.ps_answer.specs.declared.answer.QueryPart.{QueryPart}
 use Rattle.ps_answer.specs.declared.answer.Verdict.{Verdict}
-use Rattle.ps_pool.specs.declared.event.Event.{Event}
+use Rattle.ps_table.specs.declared.event.Event.{Event}
 use Rattle.ps_problem.specs.declared.query.Query.{Query}
 use Rattle.ps_problem.specs.Problems.{Parts}
 use Rattle.ps_query.specs.Solutions.{AreShortLines}
-use Rattle.ps_json.specs.Objects.{Beside}
+use Rattle.ps_spoken.specs.Objects.{Beside}
 use Rattle.ps_ask.specs.declared.notes.Input.{Input}
 use Rattle.ps_ask.specs.declared.settings.Settings.{Settings}
 use Rattle.ps_ask.specs.declared.status.Status.{Status}

@@ -14,10 +14,10 @@ use Rattle.ps_answer.specs.declared.answer.Answer.{Answer}
 use Rattle.ps_answer.specs.declared.answer.Verdict.{Verdict}
 use Rattle.ps_answer.specs.Answers.{answer_lines}
 use Rattle.ps_generation.specs.Phases.{AreLimits}
-use Rattle.ps_decimal.specs.declared.limits.TheConstants.{MOST_DIGITS}
+use Rattle.ps_frac.specs.declared.limits.TheConstants.{MOST_DIGITS}
 use Rattle.ps_spoken.specs.declared.clash.Clash.{Clash}
 use Rattle.ps_spoken.specs.Clashes.{clash_text}
-use Rattle.ps_json.specs.Objects.{Beside, object}
+use Rattle.ps_spoken.specs.Objects.{Beside, object}
 use Rattle.ps_ask.specs.declared.answering.TheConstants.{MOST_PROBLEM}
 use Rattle.ps_ask.specs.declared.settings.Settings.{Settings}
 use Rattle.ps_ask.specs.declared.settings.Style.{Style}

@@ -1,7 +1,7 @@
 //! Which sentences of a problem clash, and what is left without each of them.
 ghost use Rattle.std.specs.Prelude.{◌≡◌, ◌<◌, true, All, IfOk, IfSome, map};
 ghost use Rattle.ps_valid.specs.Answers.{IsRightOf};
-ghost use Rattle.ps_guided.specs.declared.turns.TheConstants.{MOST_TURNS};
+ghost use Rattle.ps_guess.specs.declared.turns.TheConstants.{MOST_TURNS};
 ghost use Rattle.ps_ask.specs.Shown.{AreSettings};
 ghost use Rattle.ps_ask.specs.Clashes.{IsClashAt, IsCoreFor, IsFoundClash, IsRestFor, IsRestOf};
 ghost use Rattle.ps_ask.specs.Clashes.{IsShownInconsistent, number_of};
@@ -13,7 +13,7 @@ use crate::sought::Sought;
 use ps_answer::{Answer, Verdict};
 use ps_engine::Engine;
 use ps_explain::verdict_without;
-use ps_guided::{Guesser, InTime, MOST_TURNS, Watch, are_greatest, limits_at};
+use ps_guess::{Guesser, InTime, MOST_TURNS, Watch, are_greatest, limits_at};
 use ps_io::{List, NoMemory};
 use ps_problem::Problem;
 use ps_spoken::{Clash, Clashing, out_of_time};

@@ -1,6 +1,6 @@
 //! What is beside an answer while it is looked for.
 use crate::sought::Sought;
-use ps_guided::Watch;
+use ps_guess::Watch;
 
 /// So many rounds are made of a guess before time is looked at and people are told how far it is.
 pub const ROUNDS: u32 = 4;

@@ -2,14 +2,14 @@
 ghost use Rattle.std.specs.Prelude.{◌≡◌, ◌<◌, true, IfOk, IfSome};
 ghost use Rattle.ps_generation.specs.Phases.{AreLimits};
 ghost use Rattle.ps_explain.specs.Explanations.{IsRightExplanation};
-ghost use Rattle.ps_guided.specs.declared.turns.TheConstants.{MOST_TURNS};
+ghost use Rattle.ps_guess.specs.declared.turns.TheConstants.{MOST_TURNS};
 ghost use Rattle.ps_ask.specs.Shown.{AreSettings};
 ghost use Rattle.ps_ask.specs.Clashes.{IsCoreFor, IsCoreWithin, IsShownInconsistent};
 
 use crate::settings::Settings;
 use ps_answer::Cause;
 use ps_explain::{Explained, Numbers, explain};
-use ps_guided::{Guesser, InTime, Limits, MOST_TURNS, Watch, are_greatest, limits_at};
+use ps_guess::{Guesser, InTime, Limits, MOST_TURNS, Watch, are_greatest, limits_at};
 use ps_io::NoMemory;
 use ps_problem::Problem;
 use ps_spoken::out_of_time;

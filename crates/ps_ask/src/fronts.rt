@@ -19,11 +19,10 @@ use crate::settings::Settings;
 use crate::sought::Sought;
 use ps_answer::{Answer, Parts, QueryPart, Verdict};
 use ps_engine::Engine;
-use ps_guess::Trials;
-use ps_guided::InTime;
+use ps_guess::{InTime, Trials};
 use ps_io::{List, NoMemory, Sink, write_all};
-use ps_pool::Trace;
 use ps_problem::{Problem, Query};
+use ps_table::Trace;
 use std::alloc::Global;
 
 // Writes a text that is shown.

@@ -8,12 +8,13 @@ use crate::late::late_part;
 use crate::settings::Settings;
 use ps_answer::{QueryPart, Verdict};
 use ps_engine::Engine;
-use ps_guess::Trials;
-use ps_guided::{InTime, Known, Watch, answer_part, answer_verdict, part_in_time, verdict_in_time};
+use ps_guess::{
+    InTime, Known, Trials, Watch, answer_part, answer_verdict, part_in_time, verdict_in_time,
+};
 use ps_io::{List, NoMemory};
-use ps_pool::Trace;
 use ps_problem::Query;
 use ps_spoken::out_of_time;
+use ps_table::Trace;
 use std::alloc::Global;
 
 // The verdict as far as time is left: open where it was over before.

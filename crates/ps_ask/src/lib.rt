@@ -25,7 +25,7 @@ pub use answering::{MOST_PROBLEM, ask};
 pub use company::Company;
 pub use laws::bounds_have_decimals;
 pub use ps_claims::ClaimKind;
-pub use ps_guided::{Progress, Watch};
+pub use ps_guess::{Progress, Watch};
 pub use settings::{Settings, Style};
 pub use sinks::Sinks;
 pub use sought::Sought;

@@ -1,7 +1,7 @@
 //! The pieces of an answer that are shown as soon as they are known.
 ghost use Rattle.std.specs.Prelude.{◌<◌, ◌≡◌, ◌≤◌, IfOk};
 ghost use Rattle.ps_problem.specs.Problems.{HasNodes};
-ghost use Rattle.ps_decimal.specs.declared.limits.TheConstants.{MOST_DIGITS};
+ghost use Rattle.ps_frac.specs.declared.limits.TheConstants.{MOST_DIGITS};
 ghost use Rattle.ps_spoken.specs.Quiet.{query_values, verdict_value};
 ghost use Rattle.ps_spoken.specs.Spoken.{part_text, verdict_text};
 ghost use Rattle.ps_ask.specs.Shown.{AreSettings};

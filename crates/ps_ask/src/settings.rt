@@ -1,5 +1,5 @@
 //! What is shown of an answer, and within which limits it is looked for.
-use ps_guided::Limits;
+use ps_guess::Limits;
 
 /// How an answer is shown.
 #[derive(Clone, Copy, Debug, PartialEq, Eq)]

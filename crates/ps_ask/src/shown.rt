@@ -1,7 +1,7 @@
 //! What is shown at the end of an answer.
 ghost use Rattle.std.specs.Prelude.{◌≡◌, ◌<◌, ◌≤◌, pos, IfOk};
-ghost use Rattle.ps_decimal.specs.declared.limits.TheConstants.{MOST_DIGITS};
-ghost use Rattle.ps_json.specs.Objects.{facts, object};
+ghost use Rattle.ps_frac.specs.declared.limits.TheConstants.{MOST_DIGITS};
+ghost use Rattle.ps_spoken.specs.Objects.{facts, object};
 ghost use Rattle.ps_valid.specs.Answers.{IsRightOf};
 ghost use Rattle.ps_ask.specs.declared.settings.Style.TheVariants as style;
 ghost use Rattle.ps_ask.specs.Statuses.{open_in, status_after, status_number};
@@ -17,9 +17,8 @@ use crate::settings::{Settings, Style};
 use ps_answer::Answer;
 use ps_hints::sentence_lines;
 use ps_io::NoMemory;
-use ps_json::{Told, write_object};
 use ps_problem::Problem;
-use ps_spoken::{Clash, write_clash};
+use ps_spoken::{Clash, Told, write_clash, write_object};
 use std::alloc::Global;
 
 // Which sentences clash, in words, where some do.

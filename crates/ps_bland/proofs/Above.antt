@@ -3,10 +3,10 @@ use Rattle.std.proofs.Common.{◌≡◌, ◌⊎◌, inl, inr, ℕ, suc, zero, �
 use Rattle.std.proofs.Math.ListN.{get_or-append}
 use Rattle.std.proofs.lemmas.Int.{ints}
 use Rattle.std.proofs.lemmas.Bool.{cases_lt}
-use Rattle.ps_rational.specs.Rational.{Rational, fraction, neg, zero_q, one_q}
-use Rattle.ps_rational.specs.Order.{IsNonneg}
-use Rattle.ps_rational.proofs.Field.{zero_is_fraction, one_is_fraction, minus_one_is_fraction}
-use Rattle.ps_rational.proofs.Order.{above_nonneg, one_above}
+use Rattle.ps_meaning.specs.Rational.{Rational, fraction, neg, zero_q, one_q}
+use Rattle.ps_meaning.specs.Order.{IsNonneg}
+use Rattle.ps_meaning.proofs.Field.{zero_is_fraction, one_is_fraction, minus_one_is_fraction}
+use Rattle.ps_meaning.proofs.Order.{above_nonneg, one_above}
 use Rattle.ps_simplex.specs.Table.{unit_at}
 use Rattle.ps_table.specs.declared.costs.Costs.{Costs}
 use Rattle.ps_table.specs.Tableau.{Tableau, IsTableFor, IsColumn}

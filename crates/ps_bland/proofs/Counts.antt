@@ -1,6 +1,6 @@
 -- Pivots that are left, and events that were appended.
 use Rattle.std.proofs.Common.{◌≡◌, ℕ, ◌+◌, List, [], ◌∷◌, ◌++◌, length, ap, ◌∙◌, arith, length-append}
-use Rattle.ps_pool.specs.declared.event.Event.{Event}
+use Rattle.ps_table.specs.declared.event.Event.{Event}
 
 -- as many pivots are gone as events were appended
 pub events_counted : (trace longer events : List Event) (had left : ℕ) → longer ≡ trace ++ events → left + length longer ≡ had + length trace → left + length events ≡ had

@@ -2,13 +2,13 @@
 use Rattle.std.proofs.Common.{◌≡◌, ℕ, ◌+◌, List, length, sym, ◌∙◌, subst, arith}
 use Rattle.std.proofs.lemmas.List.{append_cancel_left}
 use Rattle.ps_simplex.specs.declared.phase.Phase.{Phase}
-use Rattle.ps_cycle.specs.Cycle.{NoBasisTwice, IsStart}
-use Rattle.ps_cycle.proofs.Few as few_of
-use Rattle.ps_cycle.proofs.Twice as twice
+use Rattle.ps_simplex.specs.Cycle.{NoBasisTwice, IsStart}
+use Rattle.ps_simplex.proofs.Few as few_of
+use Rattle.ps_simplex.proofs.Twice as twice
 use Rattle.ps_table.specs.declared.costs.Costs.{Costs}
 use Rattle.ps_table.specs.Tableau.{Tableau, IsTableau, rows_of, width_of, basic_at, entry_at}
 use Rattle.ps_table.specs.Pricing.{cost_at}
-use Rattle.ps_pool.specs.declared.event.Event.{Event}
+use Rattle.ps_table.specs.declared.event.Event.{Event}
 use Rattle.ps_bland.specs.Rules.{simplex_of}
 use Rattle.ps_bland.specs.Ready.{IsReady}
 use Rattle.ps_bland.specs.Runs.{system_of, pivots_of, Ran, MeetsNoBasisTwice, MadeFewerThanBases}

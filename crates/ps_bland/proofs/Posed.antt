@@ -1,9 +1,9 @@
 -- The costs that a phase is for are what it asks.
 use Rattle.std.proofs.Common.{◌≡◌, ◌⊎◌, inl, inr, suc, length, Bool, true, false, cond, sym, subst, arith}
 use Rattle.std.proofs.lemmas.Bool.{cases_lt}
-use Rattle.ps_rational.specs.Rational.{Rational, neg, zero_q, one_q}
-use Rattle.ps_rational.specs.Order.{IsNonneg}
-use Rattle.ps_rational.proofs.Order.{zero_nonneg, above_nonneg, one_above}
+use Rattle.ps_meaning.specs.Rational.{Rational, neg, zero_q, one_q}
+use Rattle.ps_meaning.specs.Order.{IsNonneg}
+use Rattle.ps_meaning.proofs.Order.{zero_nonneg, above_nonneg, one_above}
 use Rattle.ps_table.specs.declared.costs.Costs.{Costs}
 use Rattle.ps_table.specs.Tableau.{Tableau}
 use Rattle.ps_table.specs.Pricing.{cost_at, HasCosts}

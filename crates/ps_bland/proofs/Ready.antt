@@ -2,12 +2,12 @@
 use Rattle.std.proofs.Common.{◌≡◌, ◌≢◌, inl, inr, ℕ, suc, zero, ◌+◌, ◌<◌, ℤ, pos, ◌≤ℤ◌, length, get_or, true, refl, sym, ap, ◌∙◌, subst, arith}
 use Rattle.std.proofs.lemmas.Int.{ints}
 use Rattle.std.proofs.lemmas.Bool.{cases_eq, cases_lt}
-use Rattle.ps_rational.proofs.Ring.{none}
-use Rattle.ps_rational.specs.Rational.{Rational, mul, zero_q, one_q}
-use Rattle.ps_rational.specs.Order.{IsNonneg}
-use Rattle.ps_rational.proofs.Field.{div-mul}
-use Rattle.ps_rational.proofs.Order.{zero_nonneg, above_nonneg, one_above}
-use Rattle.ps_rational.proofs.Whole.{whole_nonneg}
+use Rattle.ps_meaning.proofs.Ring.{none}
+use Rattle.ps_meaning.specs.Rational.{Rational, mul, zero_q, one_q}
+use Rattle.ps_meaning.specs.Order.{IsNonneg}
+use Rattle.ps_meaning.proofs.Field.{div-mul}
+use Rattle.ps_meaning.proofs.Order.{zero_nonneg, above_nonneg, one_above}
+use Rattle.ps_meaning.proofs.Whole.{whole_nonneg}
 use Rattle.std.proofs.Math.ListN.{get_or-append}
 use Rattle.std.proofs.Common.{get_or-append-add, ◌++◌}
 use Rattle.ps_simplex.specs.Table.{unit_at, Belongs}
@@ -16,12 +16,12 @@ use Rattle.ps_simplex.proofs.Units.{unit_at-same, unit_at-other}
 use Rattle.std.proofs.Common.{List, ◌≤◌, ◌-◌}
 use Rattle.ps_simplex.proofs.Rays.{no_ray, no_ray_upper}
 use Rattle.ps_simplex.specs.Rule.{Improves, IsFeasible, table_of}
-use Rattle.ps_cycle.specs.Cycle.{HasZeroArtificials, IsStart}
-use Rattle.ps_cycle.proofs.Values as values
+use Rattle.ps_simplex.specs.Cycle.{HasZeroArtificials, IsStart}
+use Rattle.ps_simplex.proofs.Values as values
 use Rattle.ps_table.specs.declared.home.Home.{Home}
 use Rattle.ps_table.specs.declared.costs.Costs.{Costs}
-use Rattle.ps_pool.specs.declared.col.Col.{Col}
-use Rattle.ps_pool.specs.declared.col.Col.TheVariants as col
+use Rattle.ps_table.specs.declared.col.Col.{Col}
+use Rattle.ps_table.specs.declared.col.Col.TheVariants as col
 use Rattle.ps_table.specs.Tableau.{Tableau, IsTableau, IsInside, IsPivot, IsAdded, basic_at, entry_at, number_in}
 use Rattle.ps_table.specs.Pricing.{cost_at}
 use Rattle.ps_table.proofs.Columns.{number_within}

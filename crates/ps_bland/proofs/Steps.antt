@@ -3,17 +3,17 @@ use Rattle.std.proofs.Common.{◌≡◌, inl, inr, ℕ, suc, ◌+◌, ◌<◌, �
 use Rattle.std.specs.Ordering.{int_cmp, MatchOrdering}
 use Rattle.std.specs.Cmp.{int_ranks}
 use Rattle.std.proofs.lemmas.Bool.{cases_eq}
-use Rattle.ps_rational.specs.Rational.{Rational, neg}
-use Rattle.ps_rational.specs.Order.{IsNonneg, AtMost, IsAbove, IsLess}
-use Rattle.ps_rational.proofs.Cross.{same_from_cross}
-use Rattle.ps_rational.proofs.Order.{at_most_trans, at_most_from_less, at_most_refl, at_most_antisym, not_self_less}
+use Rattle.ps_meaning.specs.Rational.{Rational, neg}
+use Rattle.ps_meaning.specs.Order.{IsNonneg, AtMost, IsAbove, IsLess}
+use Rattle.ps_meaning.proofs.Cross.{same_from_cross}
+use Rattle.ps_meaning.proofs.Order.{at_most_trans, at_most_from_less, at_most_refl, at_most_antisym, not_self_less}
 use Rattle.ps_simplex.specs.Rule.{SimplexTable, GoesBefore, Precedes, ratio, IsRising}
 use Rattle.ps_simplex.proofs.Signs.{above_or_not}
 use Rattle.ps_table.specs.declared.costs.Costs.{Costs}
-use Rattle.ps_pool.specs.declared.col.Col.{Col}
+use Rattle.ps_table.specs.declared.col.Col.{Col}
 use Rattle.std.proofs.Common.{append-nil, append_assoc, length-append}
-use Rattle.ps_pool.specs.declared.event.Event.{Event}
-use Rattle.ps_pool.specs.declared.event.Event.TheVariants.{Pivot, Priced}
+use Rattle.ps_table.specs.declared.event.Event.{Event}
+use Rattle.ps_table.specs.declared.event.Event.TheVariants.{Pivot, Priced}
 use Rattle.ps_table.specs.Tableau.{Tableau, basic_at, entry_at, IsPivot, number_in, IsTableFor}
 use Rattle.ps_table.specs.Pricing.{cost_at, HasCosts}
 use Rattle.ps_table.specs.Places.{PivotPlaces, IsRefusedAt}

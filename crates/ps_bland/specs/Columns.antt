@@ -1,6 +1,6 @@
 -- The columns of worlds with whole entries.
 use Rattle.std.specs.Prelude.{◌≡◌, ℕ, suc, ◌+◌, ◌<◌, List, [], length, get_or, ℤ, pos}
-use Rattle.ps_rational.specs.Rational.{Rational, fraction}
+use Rattle.ps_meaning.specs.Rational.{Rational, fraction}
 use Rattle.ps_simplex.specs.Table.{HasHomes}
 
 -- columns A of n rows: the right side, the homes, and one world after the other

@@ -1,9 +1,9 @@
 -- The places that are due at a table, over its basis and entries.
 use Rattle.std.specs.Prelude.{◌≡◌, ◌↔◌, ℕ, ◌<◌, false}
 use Rattle.ps_frac.specs.declared.wide.Op.TheVariants.{Div}
-use Rattle.ps_rational.specs.Rational.{Rational}
+use Rattle.ps_meaning.specs.Rational.{Rational}
 use Rattle.ps_simplex.specs.Rule.{SimplexTable, Improves, IsDueToEnd, Enters, IsRising, Leaves}
-use Rattle.ps_pool.specs.declared.col.Col.{Col}
+use Rattle.ps_table.specs.declared.col.Col.{Col}
 use Rattle.ps_table.specs.declared.costs.Costs.{Costs}
 use Rattle.ps_table.specs.declared.place.Place.TheVariants.{Ratio}
 use Rattle.ps_table.specs.declared.place.WideAt.{WideAt}

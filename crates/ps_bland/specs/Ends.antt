@@ -2,7 +2,7 @@
 use Rattle.std.specs.Prelude.{◌≡◌, ℕ, ◌<◌, false, Result, Ok, Err}
 use Rattle.ps_frac.specs.declared.wide.Op.TheVariants.{Div}
 use Rattle.ps_simplex.specs.Rule.{SimplexTable, Improves, IsMoving, IsResting, Enters, IsRising, HasNoArtificialRow}
-use Rattle.ps_pool.specs.declared.col.Col.{Col}
+use Rattle.ps_table.specs.declared.col.Col.{Col}
 use Rattle.ps_table.specs.declared.costs.Costs.{Costs}
 use Rattle.ps_table.specs.declared.place.Place.TheVariants.{Ratio}
 use Rattle.ps_table.specs.declared.place.WideAt.{WideAt}

@@ -1,7 +1,7 @@
 -- What a phase asks of the costs and of the table.
 use Rattle.std.specs.Prelude.{◌≡◌, ◌⊎◌, ℕ, ◌<◌, ◌≤◌, cond, ℤ, List}
-use Rattle.ps_rational.specs.Rational.{Rational, neg, zero_q, one_q}
-use Rattle.ps_rational.specs.Order.{IsNonneg}
+use Rattle.ps_meaning.specs.Rational.{Rational, neg, zero_q, one_q}
+use Rattle.ps_meaning.specs.Order.{IsNonneg}
 use Rattle.ps_simplex.specs.Table.{Belongs}
 use Rattle.ps_simplex.specs.Rule.{IsFeasible}
 use Rattle.ps_table.specs.declared.costs.Costs.{Costs}

@@ -1,18 +1,18 @@
 -- What the code has looked at so far, and what one round does.
 use Rattle.std.specs.Prelude.{◌≡◌, ◌≢◌, ℕ, suc, ◌<◌, true, false, List, [], ◌∷◌, ◌++◌}
 use Rattle.std.specs.Prelude.{Option, Some, None, IfNone, Result, Ok, Err, IfOk}
-use Rattle.ps_rational.specs.Rational.{Rational, zero_q}
+use Rattle.ps_meaning.specs.Rational.{Rational, zero_q}
 use Rattle.ps_simplex.specs.Rule.{Improves, Enters, IsRising, IsArtificialRow, HasNoArtificialRow, IsLeastArtificialRow}
 use Rattle.ps_simplex.specs.Rule.{ratio, GoesBefore, Precedes, HasLeastRatio, Leaves}
-use Rattle.ps_pool.specs.declared.col.Col.{Col}
+use Rattle.ps_table.specs.declared.col.Col.{Col}
 use Rattle.ps_table.specs.declared.costs.Costs.{Costs}
 use Rattle.ps_table.specs.declared.place.WideAt.{WideAt}
 use Rattle.ps_table.specs.declared.error.TableError.{TableError}
 use Rattle.ps_table.specs.Tableau.{Tableau, number_of, entry_at, entry_of, basic_at, HasColumn, IsPivot, KeepsSystem, rows_of}
 use Rattle.ps_table.specs.Pricing.{cost_at}
 use Rattle.ps_table.specs.Places.{CostPlaces, IsNarrow}
-use Rattle.ps_pool.specs.declared.event.Event.{Event}
-use Rattle.ps_pool.specs.declared.event.Event.TheVariants.{Pivot}
+use Rattle.ps_table.specs.declared.event.Event.{Event}
+use Rattle.ps_table.specs.declared.event.Event.TheVariants.{Pivot}
 use Rattle.ps_simplex.specs.declared.phase.Phase.{Phase}
 use Rattle.ps_simplex.specs.declared.phase.Phase.TheVariants.{One, Lower, Upper}
 use Rattle.ps_bland.specs.declared.settled.Settled.{Settled}

@@ -3,7 +3,7 @@ use Rattle.std.specs.Prelude.{ℕ, ◌-◌, Bool, true, false, List, get_or}
 use Rattle.ps_simplex.specs.Rule.{SimplexTable, IsDueToEnd, Enters, Leaves}
 use Rattle.ps_table.specs.declared.home.Home.{Home}
 use Rattle.ps_table.specs.declared.home.Home.TheVariants.{Slack, Artificial}
-use Rattle.ps_pool.specs.declared.col.Col.{Col}
+use Rattle.ps_table.specs.declared.col.Col.{Col}
 use Rattle.ps_table.specs.declared.costs.Costs.{Costs}
 use Rattle.ps_table.specs.Tableau.{Tableau, number_of, entry_at, basic_at, HasColumn, rows_of, width_of}
 use Rattle.ps_table.specs.Pricing.{cost_at}

@@ -1,16 +1,16 @@
 -- Lawful pivots one after the other.
 use Rattle.std.specs.Prelude.{◌≡◌, ℕ, ◌+◌, ◌<◌, List, [], ◌∷◌, ◌++◌, length}
-use Rattle.ps_rational.specs.Rational.{Rational}
+use Rattle.ps_meaning.specs.Rational.{Rational}
 use Rattle.ps_simplex.specs.Pivots.{linear_program, System, Pivot as BasisPivot, Pivots}
-use Rattle.ps_cycle.specs.Count.{choose}
-use Rattle.ps_cycle.specs.Cycle.{NoBasisTwice}
+use Rattle.ps_simplex.specs.Count.{choose}
+use Rattle.ps_simplex.specs.Cycle.{NoBasisTwice}
 use Rattle.ps_table.specs.declared.home.Home.{Home}
-use Rattle.ps_pool.specs.declared.col.Col.{Col}
+use Rattle.ps_table.specs.declared.col.Col.{Col}
 use Rattle.ps_table.specs.declared.costs.Costs.{Costs}
 use Rattle.ps_table.specs.Tableau.{Tableau, number_in, rows_of, width_of, basic_at, IsPivot, IsTableFor, KeepsSystem}
 use Rattle.ps_table.specs.Pricing.{cost_at}
-use Rattle.ps_pool.specs.declared.event.Event.{Event}
-use Rattle.ps_pool.specs.declared.event.Event.TheVariants.{Pivot, Priced}
+use Rattle.ps_table.specs.declared.event.Event.{Event}
+use Rattle.ps_table.specs.declared.event.Event.TheVariants.{Pivot, Priced}
 use Rattle.ps_simplex.specs.declared.phase.Phase.{Phase}
 use Rattle.ps_bland.specs.Rules.{artificial_at, IsLawful}
 

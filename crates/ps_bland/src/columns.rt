@@ -1,12 +1,11 @@
 //! Columns of a table as the rule sees them.
 ghost use Rattle.std.specs.Prelude.{◌≡◌, ◌↔◌, IsTrue};
-ghost use Rattle.ps_rational.specs.Order.{IsAbove};
+ghost use Rattle.ps_meaning.specs.Order.{IsAbove};
 ghost use Rattle.ps_table.specs.Tableau.{HasColumn};
 ghost use Rattle.ps_bland.specs.Rules.{is_artificial_column};
 
 use ps_frac::Fraction;
-use ps_pool::Col;
-use ps_table::{Home, Table};
+use ps_table::{Col, Home, Table};
 
 /// Whether a number is above 0.
 pub(crate) fn is_above(number: &Fraction) -> bool

@@ -1,6 +1,6 @@
 //! The entering column.
 ghost use Rattle.std.specs.Prelude.{◌≡◌, ◌↔◌, false, IfOk, IfErr, IsTrue};
-ghost use Rattle.ps_rational.specs.Order.{IsLess};
+ghost use Rattle.ps_meaning.specs.Order.{IsLess};
 ghost use Rattle.ps_table.specs.Tableau.{HasColumn};
 ghost use Rattle.ps_table.specs.Pricing.{HasCosts};
 ghost use Rattle.ps_table.specs.Places.{CostPlaces, IsWideAt, IsNarrow};
@@ -11,8 +11,7 @@ ghost use Rattle.ps_bland.specs.Rounds.{IsEnteringHome, AreNarrowToHome};
 
 use crate::columns::is_artificial;
 use ps_frac::Fraction;
-use ps_pool::Col;
-use ps_table::{Costs, Table, WideAt};
+use ps_table::{Col, Costs, Table, WideAt};
 use std::cmp::Ordering;
 
 /// Whether a number is less than another.

@@ -6,9 +6,8 @@ ghost use Rattle.ps_bland.specs.Rounds.{LeavesIn, HasEntryIn, IsRatioWideIn, IsL
 
 use crate::columns::is_artificial;
 use crate::ratios::least_row;
-use ps_pool::Col;
 use ps_simplex::Phase;
-use ps_table::{Table, WideAt};
+use ps_table::{Col, Table, WideAt};
 
 /// Whether the row's basic column is artificial and its entry isn't 0.
 fn is_artificial_row(table: &Table, col: Col, row: u32) -> bool

@@ -7,8 +7,7 @@ ghost use Rattle.ps_bland.specs.Rounds.{IsLeastBeforeIn, HasLeastRatioIn};
 
 use crate::columns::is_above;
 use ps_frac::Fraction;
-use ps_pool::Col;
-use ps_table::{Place, Table, WideAt, divided_at};
+use ps_table::{Col, Place, Table, WideAt, divided_at};
 use std::cmp::Ordering;
 
 /// The ratio of the value to the entry in a row where the entry is above 0.

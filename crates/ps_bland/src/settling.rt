@@ -1,6 +1,6 @@
 //! Pivots until an end.
 ghost use Rattle.std.specs.Prelude.{◌≡◌, ◌≢◌, ◌+◌, ◌<◌, [], ◌∷◌, ◌++◌, length, IfOk, IfErr, IfSome};
-ghost use Rattle.ps_rational.specs.Rational.{zero_q};
+ghost use Rattle.ps_meaning.specs.Rational.{zero_q};
 ghost use Rattle.ps_table.specs.Tableau.{rows_of, HasColumn, entry_of, IsPivot, KeepsSystem};
 ghost use Rattle.ps_table.specs.Places.{PivotPlaces, IsRefusedAt};
 ghost use Rattle.ps_bland.specs.Runs.{Ran, MadeFewerThanBases, MeetsNoBasisTwice};
@@ -12,9 +12,8 @@ use crate::entering::entering;
 use crate::feasible::is_due_to_end;
 use crate::leaving::leaving;
 use crate::settled::Settled;
-use ps_pool::{Col, Event, Trace};
 use ps_simplex::Phase;
-use ps_table::{Costs, Table, TableError};
+use ps_table::{Col, Costs, Event, Table, TableError, Trace};
 
 /// The pivot and its event, or neither.
 fn pivot_with_event(

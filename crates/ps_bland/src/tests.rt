@@ -1,8 +1,8 @@
 //! Runs of all phases. The expected pivots and values were computed by hand and by another program.
 
 ghost use Rattle.std.specs.Prelude.{◌≡◌, ℕ, ◌<◌, ◌≤◌, ◌≤ℤ◌, [], length, get_or, pos, IsTrue, IfSome};
-ghost use Rattle.ps_rational.specs.Rational.{Rational};
-ghost use Rattle.ps_rational.specs.Order.{IsNonneg};
+ghost use Rattle.ps_meaning.specs.Rational.{Rational};
+ghost use Rattle.ps_meaning.specs.Order.{IsNonneg};
 ghost use Rattle.ps_table.specs.declared.limits.TheConstants.{MOST_ROWS};
 ghost use Rattle.ps_table.specs.Tableau.{entry_at, IsTableFor};
 ghost use Rattle.ps_bland.specs.Ready.{IsReady};
@@ -21,9 +21,8 @@ use few_rows::{ONE_ROW, TWO_ROWS};
 use five_rows::FIVE_ROWS;
 use ps_frac::Fraction;
 use ps_io::{List, NoMemory};
-use ps_pool::{Col, Event, Trace};
 use ps_simplex::Phase;
-use ps_table::{CostList, Costs, Home, Table, WideAt};
+use ps_table::{Col, CostList, Costs, Event, Home, Table, Trace, WideAt};
 use std::alloc::Global;
 use three_rows::THREE_ROWS;
 use three_rows_wide::THREE_ROWS_WIDE;

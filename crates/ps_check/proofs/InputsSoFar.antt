@@ -3,7 +3,7 @@ use Rattle.std.proofs.Common.{◌≡◌, ◌<◌, ◌≤◌, ◌+◌, ◌-◌, �
 use Rattle.std.proofs.lemmas.List.{take_rest, length-append}
 use Rattle.std.specs.Io.KnownBytes.{Consumes}
 use Rattle.ps_io.proofs.Bytes.{consumes-then}
-use Rattle.ps_front.specs.Stages.{FrontState, HasPushedOn}
+use Rattle.ps_read.specs.Stages.{FrontState, HasPushedOn}
 use Rattle.ps_check.specs.declared.intake.TheConstants.{MOST_SEARCHED}
 use Rattle.ps_check.specs.declared.checked.Checked.{Checked}
 use Rattle.ps_check.specs.declared.intake.Intake.{Intake}

@@ -1,3 +1,17 @@
+pub mod DueParts
+pub mod BehindLines
+pub mod LinesTaken
+pub mod Weighed
+pub mod LaterSteps
+pub mod TakenLines
+pub mod TakenCounts
+pub mod CertificateLines
+pub mod JudgedLines
+pub mod AnswerLines
+pub mod WholeAnswers
+pub mod ReadLines
+pub mod LinesKnown
+pub mod Lighter
 pub mod PartialLines
 pub mod SearchedBytes
 pub mod ReportsSoFar

@@ -2,9 +2,9 @@
 use Rattle.std.proofs.Common.{◌≡◌, ℕ, List, [], ◌∷◌, ◌++◌, false, refl, sym, ap, subst, ◌∙◌, append_assoc, append-nil}
 use Rattle.ps_io.specs.LineText.{lines_bytes}
 use Rattle.ps_log.specs.FirstLines.{IsOneLine}
-use Rattle.ps_stream.specs.States as stream
-use Rattle.ps_stream.specs.Reading.{bytes_of}
-use Rattle.ps_stream.proofs.ReadLines.{one_more}
+use Rattle.ps_check.specs.States as stream
+use Rattle.ps_check.specs.Reading.{bytes_of}
+use Rattle.ps_check.proofs.ReadLines.{one_more}
 use Rattle.ps_check.specs.declared.judge.Judge.{Judge}
 use Rattle.ps_check.specs.Judging.{HasTaken, HasTakenOn, HasPassed}
 

@@ -9,11 +9,11 @@ use Rattle.ps_answer.specs.declared.error.LineKind.{LineKind}
 use Rattle.ps_read.specs.Readings.{SpellsProblem}
 use Rattle.ps_valid.specs.declared.refusal.Accepted.{Accepted}
 use Rattle.ps_valid.specs.declared.refusal.Refusal.{Refusal}
-use Rattle.ps_stream.specs.declared.end.StreamEnd.{StreamEnd}
-use Rattle.ps_stream.specs.declared.end.StreamEnd.TheVariants as end
-use Rattle.ps_stream.specs.Ends.{AnswersReport}
-use Rattle.ps_front.specs.Stages.{FrontState, HasPushed, IsRead}
-use Rattle.ps_front.specs.Fronts.{FindsUpTo, ReadsFront, TellsUnread}
+use Rattle.ps_check.specs.declared.end.StreamEnd.{StreamEnd}
+use Rattle.ps_check.specs.declared.end.StreamEnd.TheVariants as end
+use Rattle.ps_check.specs.Ends.{AnswersReport}
+use Rattle.ps_read.specs.Stages.{FrontState, HasPushed, IsRead}
+use Rattle.ps_read.specs.Fronts.{FindsUpTo, ReadsFront, TellsUnread}
 use Rattle.ps_check.specs.declared.checked.Checked.{Checked}
 use Rattle.ps_check.specs.declared.checked.Checked.TheVariants as found
 use Rattle.ps_check.specs.declared.judge.Judge.{Judge}

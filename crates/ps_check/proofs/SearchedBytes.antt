@@ -8,10 +8,10 @@ use Rattle.ps_read.specs.declared.read_error.ReadError.{ReadError}
 use Rattle.ps_read.specs.declared.read_error.ReadError.TheVariants as error
 use Rattle.ps_read.specs.Readings.{SpellsProblem}
 use Rattle.ps_read.specs.Reads.{Gives}
-use Rattle.ps_front.specs.declared.stage.Stage.{Stage}
-use Rattle.ps_front.specs.declared.stage.Stage.TheVariants as stage
-use Rattle.ps_front.specs.Stages.{FrontState, HasPushed, HasPushedOn, IsFollowed, IsRead, Knows}
-use Rattle.ps_front.specs.Fronts.{FindsUpTo, ReadsFront, TellsUnread}
+use Rattle.ps_read.specs.declared.stage.Stage.{Stage}
+use Rattle.ps_read.specs.declared.stage.Stage.TheVariants as stage
+use Rattle.ps_read.specs.Stages.{FrontState, HasPushed, HasPushedOn, IsFollowed, IsRead, Knows}
+use Rattle.ps_read.specs.Fronts.{FindsUpTo, ReadsFront, TellsUnread}
 use Rattle.ps_check.specs.declared.intake.TheConstants.{MOST_SEARCHED}
 use Rattle.ps_check.specs.Checks.{searched_in}
 use Rattle.ps_check.specs.Reports.{IsSearched, IsRest}

@@ -4,9 +4,9 @@ use Rattle.ps_io.specs.Transfer.{ReadAll}
 use Rattle.ps_problem.specs.Problems.{Parts}
 use Rattle.ps_read.specs.Readings.{SpellsProblem, IsUnread}
 use Rattle.ps_valid.specs.declared.refusal.Accepted.{Accepted}
-use Rattle.ps_stream.specs.declared.end.StreamEnd.{StreamEnd}
-use Rattle.ps_stream.specs.declared.end.StreamEnd.TheVariants as end
-use Rattle.ps_stream.specs.Ends.{AnswersReport}
+use Rattle.ps_check.specs.declared.end.StreamEnd.{StreamEnd}
+use Rattle.ps_check.specs.declared.end.StreamEnd.TheVariants as end
+use Rattle.ps_check.specs.Ends.{AnswersReport}
 use Rattle.ps_check.specs.declared.intake.TheConstants.{MOST_SEARCHED}
 use Rattle.ps_check.specs.declared.checked.Checked.{Checked}
 use Rattle.ps_check.specs.declared.checked.Checked.TheVariants as found

@@ -2,7 +2,7 @@
 use Rattle.std.specs.Prelude.{◌≡◌, ◌≤◌, ℕ, List, ◌++◌, length, Option}
 use Rattle.std.specs.Io.KnownBytes.{Consumes}
 use Rattle.ps_io.specs.Transfer.{ReadAll}
-use Rattle.ps_front.specs.Stages.{FrontState, HasPushed}
+use Rattle.ps_read.specs.Stages.{FrontState, HasPushed}
 use Rattle.ps_check.specs.declared.intake.TheConstants.{MOST_SEARCHED}
 use Rattle.ps_check.specs.declared.checked.Checked.{Checked}
 use Rattle.ps_check.specs.declared.intake.Intake.{Intake}

@@ -1,8 +1,8 @@
 -- What is known of the bytes of a report that were taken.
 use Rattle.std.specs.Prelude.{◌≡◌, ℕ, List, ◌++◌}
 use Rattle.ps_log.specs.FirstLines.{IsOneLine}
-use Rattle.ps_stream.specs.States as stream
-use Rattle.ps_stream.specs.Reading.{bytes_of}
+use Rattle.ps_check.specs.States as stream
+use Rattle.ps_check.specs.Reading.{bytes_of}
 use Rattle.ps_check.specs.declared.judge.Judge.{Judge}
 
 -- these bytes were taken: lines that were judged, and behind them a part of a line

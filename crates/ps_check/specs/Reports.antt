@@ -3,7 +3,7 @@ use Rattle.std.specs.Prelude.{◌≡◌, ◌<◌, ◌≤◌, ◌⊎◌, ℕ, Lis
 use Rattle.ps_log.specs.FirstLines.{IsOneLine}
 use Rattle.ps_problem.specs.Problems.{Parts}
 use Rattle.ps_read.specs.Readings.{SpellsProblem, IsUnread}
-use Rattle.ps_front.specs.Stages.{FrontState, HasPushed}
+use Rattle.ps_read.specs.Stages.{FrontState, HasPushed}
 use Rattle.ps_check.specs.declared.checked.Checked.{Checked}
 use Rattle.ps_check.specs.declared.judge.Judge.{Judge}
 use Rattle.ps_check.specs.declared.report.Report.{Report}

@@ -5,8 +5,8 @@ ghost use Rattle.ps_check.specs.Intakes.{IsSound, IsBehind, Knows, HasTakenOn, I
 
 use crate::checked::Checked;
 use crate::report::Report;
-use ps_front::Front;
 use ps_io::NoMemory;
+use ps_read::Front;
 use std::alloc::Global;
 
 /// The most bytes in which a problem is looked for: one fewer than a line or a column can number.

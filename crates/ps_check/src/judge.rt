@@ -1,13 +1,14 @@
 //! A report whose bytes come piece by piece.
 ghost use Rattle.std.specs.Prelude.{◌≡◌, ◌++◌, ◌∷◌, [], ℕ, List, IfOk, IfSome, IfNone};
 ghost use Rattle.ps_log.specs.FirstLines.{IsOneLine, IsFirstLine};
-ghost use Rattle.ps_stream.specs.Ends.{AnswersReport};
+ghost use Rattle.ps_check.specs.Ends.{AnswersReport};
 ghost use Rattle.ps_check.specs.Judging.{HasTaken, HasTakenOn};
 
+use crate::end::StreamEnd;
+use crate::stream::StreamCheck;
 use ps_io::NoMemory;
 use ps_log::split_once;
 use ps_problem::Problem;
-use ps_stream::{StreamCheck, StreamEnd};
 use ps_valid::Accepted;
 use std::alloc::Global;
 

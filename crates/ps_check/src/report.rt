@@ -3,12 +3,11 @@ ghost use Rattle.std.specs.Prelude.{IfOk, OnOk};
 ghost use Rattle.ps_check.specs.Reports.{IsSound, IsJudging, HasBegun, HasTakenOn, IsFound};
 
 use crate::checked::Checked;
+use crate::end::StreamEnd;
 use crate::judge::Judge;
-use ps_front::Front;
 use ps_io::NoMemory;
 use ps_problem::Problem;
-use ps_read::{ReadError, ReadKind};
-use ps_stream::StreamEnd;
+use ps_read::{Front, ReadError, ReadKind};
 use std::alloc::Global;
 
 /// What is known of an input behind its problem part.

@@ -16,7 +16,7 @@ use Rattle.ps_meaning.specs.declared.side.Side.TheVariants.{AtLeast, AtMost, Exa
 use Rattle.ps_meaning.specs.Bounds.{Bound, Compares, MeetsBound, MeetsAll}
 use Rattle.ps_problem.specs.declared.query.Query as stored
 use Rattle.ps_problem.specs.Problems.{Parts, bounds_of, given_at}
-use Rattle.ps_rational.specs.Rational.{Rational}
+use Rattle.ps_meaning.specs.Rational.{Rational}
 use Rattle.ps_claims.specs.Queries.{bound_on}
 use Rattle.ps_claims.specs.Answers.{Model, Answer, ShowsConsistent, asked_under}
 use Rattle.ps_claims.specs.Duals.{Dual, ClaimKind, Nothing}

@@ -8,7 +8,7 @@ use Rattle.ps_meaning.specs.Bounds.{Bound}
 use Rattle.ps_meaning.specs.Rows.{indicator, weighted_sum}
 use Rattle.ps_meaning.proofs.Integers.{mul-nonneg, mul_sub, mul-one}
 use Rattle.ps_meaning.proofs.Rows.{weighted_sum-add, weighted_sum-sub}
-use Rattle.ps_rational.specs.Rational.{Rational}
+use Rattle.ps_meaning.specs.Rational.{Rational}
 use Rattle.ps_claims.specs.Queries.{Query, IsImpossible, Holds}
 use Rattle.ps_claims.specs.Duals.{Dual, ClaimKind, Nothing, Lower, Upper, HaveSigns, kept_of, AreZeroElsewhere, sum_of_rows, claimed_in, combination, IsNeverAbove, HasNothingHead, HasValueHead}
 use Rattle.ps_claims.proofs.Products.{ratio-least, ratio-most}

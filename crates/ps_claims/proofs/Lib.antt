@@ -9,3 +9,5 @@ pub mod Faults
 pub mod Sizes
 pub mod Claims
 pub mod Decided
+pub mod CombinationSums
+pub mod Variables

@@ -8,18 +8,18 @@ use Rattle.std.proofs.lemmas.List.Elements.{All-head, All-tail}
 use Rattle.ps_meaning.specs.Formula.{World, And, is_true}
 use Rattle.ps_meaning.specs.Rows.{indicator, row_value}
 use Rattle.ps_meaning.proofs.Integers.{mul_sub, mul_assoc, mul-zero, mul-one}
-use Rattle.ps_rational.proofs.IntRing.{neg-*ℤ}
+use Rattle.ps_meaning.proofs.IntRing.{neg-*ℤ}
 use Rattle.ps_formula.specs.declared.node.Node.{Node}
 use Rattle.ps_formula.specs.Nodes.{truths}
 use Rattle.ps_formula.proofs.Trees.{length-truths, truths-at}
 use Rattle.ps_problem.specs.declared.bound.Bound.{Bound}
 use Rattle.ps_problem.specs.declared.query.Query as stored
 use Rattle.ps_problem.specs.Problems.{tree_at, given_at, bound_of, IsBoth, HasNodes, IsBound}
-use Rattle.ps_steps.specs.Weights.{Weighted, true_weight}
-use Rattle.ps_steps.specs.Assignments.{holds}
-use Rattle.ps_forms.specs.Extensions.{extension}
-use Rattle.ps_forms.specs.Clauses.{positive}
-use Rattle.ps_forms.proofs.Tidy.{holds-positive}
+use Rattle.ps_pb.specs.Weights.{Weighted, true_weight}
+use Rattle.ps_pb.specs.Assignments.{holds}
+use Rattle.ps_clause.specs.Extensions.{extension}
+use Rattle.ps_clause.specs.Clauses.{positive}
+use Rattle.ps_clause.proofs.Tidy.{holds-positive}
 use Rattle.ps_claims.specs.Queries.{Query}
 use Rattle.ps_claims.specs.Duals.{Dual, ClaimKind, Nothing, Lower, Upper, sum_of_rows, claimed_in, combination}
 use Rattle.ps_claims.specs.Validity.{query_of}

@@ -6,11 +6,11 @@ use Rattle.ps_meaning.specs.Distribution.{Entry, weight}
 use Rattle.ps_meaning.specs.declared.side.Side.TheVariants.{AtLeast, AtMost, Exactly}
 use Rattle.ps_meaning.specs.Bounds.{Bound, MeetsBound}
 use Rattle.ps_meaning.proofs.Integers.{mul_sub, swap_mul, mul-nonneg}
-use Rattle.ps_rational.specs.Rational.{Rational, fraction, suc_positive}
-use Rattle.ps_rational.specs.Order as order
-use Rattle.ps_rational.proofs.Cross.{quotient_is, quotient_cross}
-use Rattle.ps_rational.proofs.IntRing.{*ℤ_comm}
-use Rattle.ps_rational.proofs.Order.{at_most_from_cross}
+use Rattle.ps_meaning.specs.Rational.{Rational, fraction, suc_positive}
+use Rattle.ps_meaning.specs.Order as order
+use Rattle.ps_meaning.proofs.Cross.{quotient_is, quotient_cross}
+use Rattle.ps_meaning.proofs.IntRing.{*ℤ_comm}
+use Rattle.ps_meaning.proofs.Order.{at_most_from_cross}
 use Rattle.ps_claims.specs.Queries.{Query, bound_on, Holds, Reaches}
 use Rattle.ps_claims.proofs.Products.{mul-positive_back}
 

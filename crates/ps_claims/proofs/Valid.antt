@@ -8,7 +8,7 @@ use Rattle.ps_meaning.specs.declared.side.Side.TheVariants.{AtLeast, AtMost}
 use Rattle.ps_meaning.proofs.Weights.{total-positive}
 use Rattle.ps_problem.specs.declared.query.Query as stored
 use Rattle.ps_problem.specs.Problems.{Parts, AreParts, bounds_in, bounds_of, given_at, HasNodes}
-use Rattle.ps_forms.specs.Extensions.{extension}
+use Rattle.ps_clause.specs.Extensions.{extension}
 use Rattle.ps_claims.specs.Queries.{Query, IsInconsistent, IsImpossible}
 use Rattle.ps_claims.specs.Answers.{Verdict, Consistent, Inconsistent, OpenVerdict, SideAnswer, Value, OpenSide, QueryAnswer, Interval, Impossible, OpenQuery, Answer, IsRightVerdict, IsRightSide, IsRightPart, asked_under}
 use Rattle.ps_claims.specs.Duals.{Dual, ClaimKind, Nothing, Lower, Upper, claimed_in, combination, IsNeverAbove}

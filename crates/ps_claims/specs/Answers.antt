@@ -5,7 +5,7 @@ use Rattle.ps_meaning.specs.Distribution.{Entry, total}
 use Rattle.ps_meaning.specs.declared.side.Side.{Side}
 use Rattle.ps_meaning.specs.declared.side.Side.TheVariants.{AtLeast, AtMost}
 use Rattle.ps_meaning.specs.Bounds.{Bound, IsModelOf}
-use Rattle.ps_rational.specs.Rational.{Rational}
+use Rattle.ps_meaning.specs.Rational.{Rational}
 use Rattle.ps_claims.specs.Queries.{Query, IsInconsistent, IsImpossible, Holds, Reaches}
 
 -- weighted worlds, and what their weights are said to sum to

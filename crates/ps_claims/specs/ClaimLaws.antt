@@ -3,12 +3,12 @@ use Rattle.std.specs.Prelude.{◌≡◌, ◌≤◌, ◌<◌, ◌*ℤ◌, ◌⊎�
 use Rattle.ps_meaning.specs.Formula.{World}
 use Rattle.ps_meaning.specs.declared.side.Side.TheVariants.{AtLeast, AtMost}
 use Rattle.ps_meaning.specs.Bounds.{Bound}
-use Rattle.ps_rational.specs.declared.limits.TheConstants.{PRINTED_LIMIT}
-use Rattle.ps_rational.specs.Rational.{Rational, fraction}
+use Rattle.ps_meaning.specs.declared.limits.TheConstants.{PRINTED_LIMIT}
+use Rattle.ps_meaning.specs.Rational.{Rational, fraction}
 use Rattle.ps_problem.specs.Problems.{Parts, AreParts, bounds_of, bounds_in, HasNodes}
 use Rattle.ps_problem.specs.declared.query.Query as stored
-use Rattle.ps_steps.specs.Constraints.{IsMet}
-use Rattle.ps_forms.specs.Extensions.{extension}
+use Rattle.ps_pb.specs.Constraints.{IsMet}
+use Rattle.ps_clause.specs.Extensions.{extension}
 use Rattle.ps_claims.specs.Queries.{Query, IsImpossible, Holds}
 use Rattle.ps_claims.specs.Answers.{Answer}
 use Rattle.ps_claims.specs.declared.claim.Claim.{Claim}

@@ -6,7 +6,7 @@ use Rattle.ps_meaning.specs.declared.side.Side.TheVariants.{Exactly}
 use Rattle.ps_meaning.specs.Bounds.{Bound, MeetsBound, MeetsAll}
 use Rattle.ps_problem.specs.declared.query.Query as stored
 use Rattle.ps_problem.specs.Problems.{Parts, bounds_of, given_at}
-use Rattle.ps_rational.specs.Rational.{Rational}
+use Rattle.ps_meaning.specs.Rational.{Rational}
 use Rattle.ps_claims.specs.Queries.{bound_on}
 use Rattle.ps_claims.specs.Answers.{Model, Verdict, Consistent, Inconsistent, OpenVerdict}
 use Rattle.ps_claims.specs.Answers.{SideAnswer, Value, OpenSide, QueryAnswer, Interval}

@@ -4,8 +4,8 @@ use Rattle.ps_meaning.specs.Formula.{And}
 use Rattle.ps_meaning.specs.Distribution.{Entry, weight}
 use Rattle.ps_meaning.specs.declared.side.Side.TheVariants.{AtLeast, AtMost, Exactly}
 use Rattle.ps_meaning.specs.Bounds.{Bound, MeetsBound}
-use Rattle.ps_rational.specs.Rational.{Rational, fraction}
-use Rattle.ps_rational.specs.Order as order
+use Rattle.ps_meaning.specs.Rational.{Rational, fraction}
+use Rattle.ps_meaning.specs.Order as order
 use Rattle.ps_claims.specs.Queries.{Query, bound_on, Holds, Reaches}
 
 -- no lower bound of a query is above a value that an allowed distribution reaches

@@ -4,9 +4,9 @@ use Rattle.std.specs.List.{AllZip}
 use Rattle.ps_formula.specs.declared.node.Node.{Node}
 use Rattle.ps_problem.specs.declared.query.Query as stored
 use Rattle.ps_problem.specs.Problems.{Parts, bounds_in, bounds_of, tree_at, given_at}
-use Rattle.ps_rational.specs.Rational.{Rational}
-use Rattle.ps_steps.specs.Steps.{Refutes}
-use Rattle.ps_forms.specs.Forms.{form_of, first_known}
+use Rattle.ps_meaning.specs.Rational.{Rational}
+use Rattle.ps_pb.specs.Steps.{Refutes}
+use Rattle.ps_clause.specs.Forms.{form_of, first_known}
 use Rattle.ps_claims.specs.Queries.{Query, Reaches}
 use Rattle.ps_claims.specs.Answers.{Model, Verdict, Consistent, Inconsistent, OpenVerdict, SideAnswer}
 use Rattle.ps_claims.specs.Answers.{Value, OpenSide, QueryAnswer, Interval, Impossible, OpenQuery}

@@ -1,5 +1,5 @@
 //! Why a claim isn't valid.
-use ps_steps::StepRefused;
+use ps_pb::StepRefused;
 
 /// What is wrong with a claim, in the order in which it is looked for; entries and bounds are
 /// numbered from 1.

@@ -4,8 +4,8 @@ use Rattle.ps_meaning.specs.Formula.{World}
 use Rattle.ps_formula.specs.declared.node.Node.{Node}
 use Rattle.ps_formula.specs.Nodes.{truths}
 use Rattle.ps_formula.proofs.Trees.{length-truths}
-use Rattle.ps_steps.specs.Assignments.{Assignment, literal_at, with_true, all_unset}
-use Rattle.ps_steps.proofs.Clauses.{place_of, sign_of}
+use Rattle.ps_pb.specs.Assignments.{Assignment, literal_at, with_true, all_unset}
+use Rattle.ps_pb.proofs.Clauses.{place_of, sign_of}
 
 -- the variables at the first places set, and the others unset
 abbrev pub set_below : ℕ → List Bool → Assignment

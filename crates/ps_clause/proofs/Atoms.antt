@@ -5,12 +5,12 @@ use Rattle.ps_meaning.specs.Formula.{World}
 use Rattle.ps_formula.specs.declared.node.Node.{Node}
 use Rattle.ps_formula.specs.declared.node.Node.TheVariants as node
 use Rattle.ps_formula.specs.Nodes.{AreNodes, AtomBelow}
-use Rattle.ps_steps.specs.Assignments.{Assignment, value_at}
-use Rattle.ps_forms.specs.Extensions.{value_or_false, values_of, world_of, is_atom, HasSetAtoms}
-use Rattle.ps_forms.proofs.Values.{next_atom, next_other, values-at, world-has}
-use Rattle.ps_steps.proofs.Full.{values-full}
-use Rattle.ps_forms.proofs.Tidy.{by_bool}
-use Rattle.ps_forms.proofs.Worlds.{same_atom, atom_below}
+use Rattle.ps_pb.specs.Assignments.{Assignment, value_at}
+use Rattle.ps_clause.specs.Extensions.{value_or_false, values_of, world_of, is_atom, HasSetAtoms}
+use Rattle.ps_clause.proofs.Values.{next_atom, next_other, values-at, world-has}
+use Rattle.ps_pb.proofs.Full.{values-full}
+use Rattle.ps_clause.proofs.Tidy.{by_bool}
+use Rattle.ps_clause.proofs.Worlds.{same_atom, atom_below}
 
 or_false : (o : Option Bool) → unwrap_or o false ≡ value_or_false o
 or_false None = refl

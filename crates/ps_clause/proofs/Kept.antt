@@ -4,14 +4,14 @@ use Rattle.std.specs.List.{All}
 use Rattle.std.proofs.lemmas.List.{length-append}
 use Rattle.ps_formula.specs.declared.node.Node.{Node}
 use Rattle.ps_formula.specs.Nodes.{AreNodes}
-use Rattle.ps_steps.specs.Assignments.{place, AreDifferent}
-use Rattle.ps_steps.specs.Constraints.{Constraint}
-use Rattle.ps_steps.specs.Weights.{clause_of}
+use Rattle.ps_pb.specs.Assignments.{place, AreDifferent}
+use Rattle.ps_pb.specs.Constraints.{Constraint}
+use Rattle.ps_pb.specs.Weights.{clause_of}
 use Rattle.ps_pb.specs.declared.limits.TheConstants.{MOST_VARIABLES}
-use Rattle.ps_forms.specs.Clauses.{clause_form}
-use Rattle.ps_forms.specs.Forms.{form_over, is_other}
-use Rattle.ps_forms.proofs.Deciding.{nodes_decided, more_decided}
-use Rattle.ps_forms.proofs.Inside.{nodes-clauses, clause-more}
+use Rattle.ps_clause.specs.Clauses.{clause_form}
+use Rattle.ps_clause.specs.Forms.{form_over, is_other}
+use Rattle.ps_clause.proofs.Deciding.{nodes_decided, more_decided}
+use Rattle.ps_clause.proofs.Inside.{nodes-clauses, clause-more}
 use Rattle.ps_clause.specs.Limits.{most_clauses}
 use Rattle.ps_clause.specs.Kept.{IsKept}
 use Rattle.ps_clause.proofs.Nodes.{form_length}

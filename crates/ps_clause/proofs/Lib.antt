@@ -1,3 +1,13 @@
+pub mod Idle
+pub mod Deciding
+pub mod Tidy
+pub mod Meanings
+pub mod Extends
+pub mod Worlds
+pub mod Values
+pub mod Different
+pub mod Inside
+pub mod Starts
 pub mod Tidied
 pub mod Nodes
 pub mod Assigned

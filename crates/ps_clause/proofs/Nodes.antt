@@ -4,10 +4,10 @@ use Rattle.std.specs.Prelude.{nat_lt, slice_get, None}
 use Rattle.std.proofs.lemmas.List.{length-append, length-map, map-append, take_more, length-take, length-take-le}
 use Rattle.ps_formula.specs.declared.node.Node.{Node}
 use Rattle.ps_formula.specs.declared.node.Node.TheVariants as node
-use Rattle.ps_steps.specs.Weights.{clause_of}
-use Rattle.ps_forms.specs.Clauses.{Clause, is_tautology, meaning_of, tidy, clauses_at, clauses_from, clause_form}
-use Rattle.ps_forms.specs.Forms.{Form, is_atom_variable}
-use Rattle.ps_forms.proofs.Tidy.{by_bool}
+use Rattle.ps_pb.specs.Weights.{clause_of}
+use Rattle.ps_clause.specs.Clauses.{Clause, is_tautology, meaning_of, tidy, clauses_at, clauses_from, clause_form}
+use Rattle.ps_clause.specs.Forms.{Form, is_atom_variable}
+use Rattle.ps_clause.proofs.Tidy.{by_bool}
 
 from-push : (x : ℕ) (ns : List Node) (n : Node) → clauses_from x (ns ++ n ∷ []) ≡ clauses_from x ns ++ clauses_at (x + length ns) n
 from-push x [] n = let e : x + 0 ≡ x = omega arith in rw e (append-nil (clauses_at x n))

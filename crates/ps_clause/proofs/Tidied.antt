@@ -4,10 +4,10 @@ use Rattle.std.specs.List.{list_any, filter}
 use Rattle.std.specs.Ordering.{int_eq}
 use Rattle.std.proofs.lemmas.Bool.Decides.{Decides-int_eq}
 use Rattle.std.proofs.lemmas.List.{take_more}
-use Rattle.ps_steps.specs.Constraints.{Constraint}
-use Rattle.ps_steps.specs.Weights.{clause_of}
-use Rattle.ps_forms.specs.Clauses.{Clause, once, is_tautology, tidy}
-use Rattle.ps_forms.proofs.Tidy.{by_bool, same_int, met-once}
+use Rattle.ps_pb.specs.Constraints.{Constraint}
+use Rattle.ps_pb.specs.Weights.{clause_of}
+use Rattle.ps_clause.specs.Clauses.{Clause, once, is_tautology, tidy}
+use Rattle.ps_clause.proofs.Tidy.{by_bool, same_int, met-once}
 
 -- whether the literal has been met
 abbrev pub if_new : ℤ → Bool → Clause → Clause

@@ -3,11 +3,11 @@ ghost use Rattle.std.specs.Prelude.{◌≡◌, ◌≤◌, ◌<◌, ◌++◌, [],
 ghost use Rattle.std.specs.List.{list_any};
 ghost use Rattle.std.specs.Ordering.{int_eq};
 ghost use Rattle.ps_formula.specs.Nodes.{Fits as FitsAt, AreNodes};
-ghost use Rattle.ps_steps.specs.Weights.{clause_of};
+ghost use Rattle.ps_pb.specs.Weights.{clause_of};
 ghost use Rattle.ps_pb.specs.declared.limits.TheConstants.{MOST_VARIABLES};
-ghost use Rattle.ps_forms.specs.Clauses.{positive, negative, once, is_tautology, tidy};
-ghost use Rattle.ps_forms.specs.Clauses.{clauses_at, clause_form};
-ghost use Rattle.ps_forms.specs.Forms.{is_other, form_of};
+ghost use Rattle.ps_clause.specs.Clauses.{positive, negative, once, is_tautology, tidy};
+ghost use Rattle.ps_clause.specs.Clauses.{clauses_at, clause_form};
+ghost use Rattle.ps_clause.specs.Forms.{is_other, form_of};
 
 use crate::form::ClauseForm;
 use ps_formula::{Formulas, Node};

@@ -1,9 +1,9 @@
 //! The assignment of the nodes' variables that a world gives, and the world that one gives.
 ghost use Rattle.std.specs.Prelude.{◌≡◌, ◌≤◌, List, Bool, false, length, All, IfOk, replicate};
 ghost use Rattle.ps_formula.specs.Nodes.{AreNodes, AtomBelow};
-ghost use Rattle.ps_steps.specs.Assignments.{all_unset, full, values_of};
+ghost use Rattle.ps_pb.specs.Assignments.{all_unset, full, values_of};
 ghost use Rattle.ps_pb.specs.declared.limits.TheConstants.{MOST_VARIABLES};
-ghost use Rattle.ps_forms.specs.Extensions.{extension, world_of, IsWorldOf, HasSetAtoms};
+ghost use Rattle.ps_clause.specs.Extensions.{extension, world_of, IsWorldOf, HasSetAtoms};
 
 use ps_formula::{Formulas, Node, World, eval};
 use ps_io::NoMemory;

@@ -1,12 +1,12 @@
 //! Clauses over variables.
 ghost use Rattle.std.specs.Prelude.{◌≡◌, ◌≤◌, ◌<◌, length, IfOk, OnOk, OnErr, All, option_copied};
 ghost use Rattle.ps_formula.specs.Nodes.{AreNodes};
-ghost use Rattle.ps_steps.specs.Assignments.{place, AreDifferent};
-ghost use Rattle.ps_steps.specs.Weights.{clause_of};
+ghost use Rattle.ps_pb.specs.Assignments.{place, AreDifferent};
+ghost use Rattle.ps_pb.specs.Weights.{clause_of};
 ghost use Rattle.ps_pb.specs.declared.limits.TheConstants.{MOST_VARIABLES};
-ghost use Rattle.ps_forms.specs.Forms.{Form, form_of, empty_form, with_clause, clause_at};
-ghost use Rattle.ps_forms.specs.Forms.{is_atom_variable, AreInside, HasClauses};
-ghost use Rattle.ps_forms.specs.Decided.{AtomsDecide};
+ghost use Rattle.ps_clause.specs.Forms.{Form, form_of, empty_form, with_clause, clause_at};
+ghost use Rattle.ps_clause.specs.Forms.{is_atom_variable, AreInside, HasClauses};
+ghost use Rattle.ps_clause.specs.Decided.{AtomsDecide};
 ghost use Rattle.ps_clause.specs.Limits.{most_clauses};
 
 use crate::clauses::{clauses_of_nodes, others_of};
@@ -28,7 +28,7 @@ pub struct ClauseForm {
 }
 
 impl Model for ClauseForm {
-    ghost use Rattle.ps_forms.specs.Forms.{Form, form_over};
+    ghost use Rattle.ps_clause.specs.Forms.{Form, form_over};
     ghost use Rattle.ps_clause.specs.Kept.{IsKept};
 
     ghost Value = { Form };

@@ -8,7 +8,7 @@ use Rattle.ps_claims.specs.Duals.{HasSign}
 use Rattle.ps_answer.specs.declared.answer.Model.{Model}
 use Rattle.ps_runs.specs.Kept.{kept_parts}
 use Rattle.ps_guess.specs.Trials.{IsFoundDual, IsFoundModel}
-use Rattle.ps_phases.specs.declared.limits.Limits.{Limits}
+use Rattle.ps_runs.specs.declared.limits.Limits.{Limits}
 use Rattle.ps_explain.specs.declared.outcome.Outcome.TheVariants as outcome
 use Rattle.ps_explain.specs.declared.outcome.Tried.TheVariants as tried
 use Rattle.ps_explain.specs.Explanations.{without, AreAmong}

@@ -4,17 +4,17 @@ use Rattle.std.proofs.lemmas.Bool.{true≢false}
 use Rattle.std.proofs.lemmas.List.Elements.{All-nil, All-cons, All-head, All-tail}
 use Rattle.std.proofs.lemmas.Slice.Zip.{all_zipped_more}
 use Rattle.ps_problem.specs.Problems.{Parts, AreParts}
-use Rattle.ps_pool.specs.declared.event.Event.{Event}
+use Rattle.ps_table.specs.declared.event.Event.{Event}
 use Rattle.ps_answer.specs.declared.answer.Cause.{Cause}
 use Rattle.ps_answer.specs.declared.answer.Model.{Model}
 use Rattle.ps_claims.specs.Answers.{ShowsConsistent}
 use Rattle.ps_problem.specs.Problems.{bounds_of}
-use Rattle.ps_certificate.specs.Certificates.{model_of}
+use Rattle.ps_claims.specs.Certificates.{model_of}
 use Rattle.std.proofs.Common.{length}
 use Rattle.ps_runs.specs.Kept.{kept_parts, IsChoice, AreAllKept}
 use Rattle.ps_runs.proofs.Kept.{parts-all}
-use Rattle.ps_certificate.specs.Printed.{IsPrintedModel, IsPrintedCause}
-use Rattle.ps_phases.specs.declared.limits.Limits.{Limits}
+use Rattle.ps_claims.specs.Printed.{IsPrintedModel, IsPrintedCause}
+use Rattle.ps_runs.specs.declared.limits.Limits.{Limits}
 use Rattle.ps_explain.specs.declared.conflict.Conflict.{Conflict}
 use Rattle.ps_explain.specs.declared.explained.Explained.TheVariants as explained
 use Rattle.ps_explain.specs.Explanations.{places_from, numbers_of, without, IsModelOfKept, IsModelWithout, IsOpen, IsExplanation}

@@ -4,9 +4,9 @@ use Rattle.std.proofs.lemmas.Bool.{true≢false, cases_lt}
 use Rattle.std.proofs.lemmas.List.{length-set, length-map}
 use Rattle.std.proofs.lemmas.Slice.Zip.{AllZip-long}
 use Rattle.ps_meaning.specs.Bounds.{MeetsBound}
-use Rattle.ps_steps.specs.Constraints.{Constraint}
-use Rattle.ps_steps.specs.Steps.{Refutes}
-use Rattle.ps_forms.specs.Forms.{form_of, first_known}
+use Rattle.ps_pb.specs.Constraints.{Constraint}
+use Rattle.ps_pb.specs.Steps.{Refutes}
+use Rattle.ps_clause.specs.Forms.{form_of, first_known}
 use Rattle.ps_formula.specs.declared.node.Node.{Node}
 use Rattle.ps_problem.specs.declared.bound.Bound.{Bound}
 use Rattle.ps_problem.specs.Problems.{Parts, AreParts, bounds_in, bound_of}
@@ -20,13 +20,13 @@ use Rattle.ps_claims.specs.Duals.{HasSign, HaveSigns, AreZeroElsewhere}
 use Rattle.ps_claims.specs.Goals.{combination_of, goal_of}
 use Rattle.ps_claims.specs.Validity.{IsRefuted, ShowsNothing}
 use Rattle.ps_claims.proofs.Valid.{valid-right}
-use Rattle.ps_certificate.specs.Certificates.{model_of, dual_of}
+use Rattle.ps_claims.specs.Certificates.{model_of, dual_of}
 use Rattle.ps_runs.specs.Kept.{kept_of, flags_of, kept_parts, kept_dual, IsChoice}
 use Rattle.ps_runs.proofs.Kept.{bounds-kept, goal-kept, length-flags, parts-kept}
-use Rattle.ps_phases.specs.declared.limits.Limits.{Limits}
+use Rattle.ps_runs.specs.declared.limits.Limits.{Limits}
 use Rattle.ps_generation.specs.Phases.{limited}
-use Rattle.ps_master.specs.declared.first.First.TheVariants as first
-use Rattle.ps_master.specs.Runs.{RunState, IsNew, IsPhaseOneAnswer, IsPrintedFirst, IsOfTheWhole}
+use Rattle.ps_generation.specs.declared.first.First.TheVariants as first
+use Rattle.ps_generation.specs.Runs.{RunState, IsNew, IsPhaseOneAnswer, IsPrintedFirst, IsOfTheWhole}
 use Rattle.ps_explain.specs.declared.conflict.Conflict.{Conflict}
 use Rattle.ps_explain.specs.Explanations.{without, AreAmong, CannotBeMet, IsModelWithout, IsShownBy, IsOneShort}
 use Rattle.ps_explain.specs.Steps.{CanBeMet, AreNeeded, IsConflict, IsConflictAmong}

@@ -11,7 +11,7 @@ use Rattle.ps_io.proofs.WordLemmas.{length-with_word}
 use Rattle.ps_io.specs.declared.no_memory.NoMemory.{NoMemory}
 use Rattle.ps_log.specs.Texts.{with_number, with_numbers}
 use Rattle.ps_problem.specs.Problems.{Parts, AreParts, bounds_of, bounds_in, bound_of}
-use Rattle.ps_pool.specs.declared.event.Event.{Event}
+use Rattle.ps_table.specs.declared.event.Event.{Event}
 use Rattle.ps_answer.specs.declared.item.LineItem.{LineItem}
 use Rattle.ps_answer.specs.declared.item.LineItem.TheVariants as line
 use Rattle.ps_answer.specs.declared.answer.Answer.{Answer}
@@ -22,16 +22,16 @@ use Rattle.ps_answer.specs.declared.answer.Verdict.TheVariants as verdict
 use Rattle.ps_answer.specs.Answers.{answer_items, cause_items, dual_items, model_items, trace_items}
 use Rattle.ps_claims.specs.Answers.{ShowsConsistent}
 use Rattle.ps_claims.specs.declared.claim_kind.ClaimKind.TheVariants.{Nothing}
-use Rattle.ps_certificate.specs.Certificates.{model_of}
+use Rattle.ps_claims.specs.Certificates.{model_of}
 use Rattle.ps_runs.specs.Kept.{kept_parts}
 use Rattle.ps_runs.proofs.Kept.{parts-kept}
-use Rattle.ps_certificate.specs.Printed.{IsPrintedModel, IsPrintedDual, IsPrintedCause, IsPrintedPart}
+use Rattle.ps_claims.specs.Printed.{IsPrintedModel, IsPrintedDual, IsPrintedCause, IsPrintedPart}
 use Rattle.ps_valid.proofs.ShortLines.{short_line}
 use Rattle.ps_report.specs.Parts.{AreShort}
-use Rattle.ps_reported.proofs.Models.{IsFit, fit_model}
-use Rattle.ps_reported.proofs.Duals.{fit_dual}
-use Rattle.ps_reported.proofs.Reports.{all_short}
-use Rattle.ps_phases.specs.declared.limits.Limits.{Limits}
+use Rattle.ps_query.proofs.Models.{IsFit, fit_model}
+use Rattle.ps_query.proofs.Duals.{fit_dual}
+use Rattle.ps_query.proofs.Reports.{all_short}
+use Rattle.ps_runs.specs.declared.limits.Limits.{Limits}
 use Rattle.ps_generation.specs.Phases.{AreLimits}
 use Rattle.ps_explain.specs.declared.explained.Explained.{Explained}
 use Rattle.ps_explain.specs.declared.explained.Explained.TheVariants as explained

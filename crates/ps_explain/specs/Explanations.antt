@@ -3,7 +3,7 @@ use Rattle.std.specs.Prelude.{◌≡◌, ◌⊎◌, ◌<◌, ℕ, suc, Bool, tru
 use Rattle.std.specs.List.{AllZip}
 use Rattle.ps_meaning.specs.Bounds.{Bound}
 use Rattle.ps_problem.specs.Problems.{Parts, bounds_of}
-use Rattle.ps_pool.specs.declared.event.Event.{Event}
+use Rattle.ps_table.specs.declared.event.Event.{Event}
 use Rattle.ps_answer.specs.declared.answer.Cause.{Cause}
 use Rattle.ps_answer.specs.declared.answer.Dual.{Dual}
 use Rattle.ps_answer.specs.declared.answer.Model.{Model}
@@ -12,11 +12,11 @@ use Rattle.ps_claims.specs.Queries.{IsInconsistent}
 use Rattle.ps_claims.specs.Answers.{ShowsConsistent}
 use Rattle.ps_claims.specs.Duals.{AreZeroElsewhere}
 use Rattle.ps_claims.specs.Validity.{ShowsNothing}
-use Rattle.ps_certificate.specs.Certificates.{model_of, dual_of}
+use Rattle.ps_claims.specs.Certificates.{model_of, dual_of}
 use Rattle.ps_runs.specs.Kept.{flags_of, kept_parts, IsChoice, AreAllKept}
-use Rattle.ps_phases.specs.Verdicts.{IsLawfulVerdict}
-use Rattle.ps_certificate.specs.Printed.{IsPrintedModel, IsPrintedDual, IsPrintedCause}
-use Rattle.ps_phases.specs.declared.limits.Limits.{Limits}
+use Rattle.ps_runs.specs.Verdicts.{IsLawfulVerdict}
+use Rattle.ps_claims.specs.Printed.{IsPrintedModel, IsPrintedDual, IsPrintedCause}
+use Rattle.ps_runs.specs.declared.limits.Limits.{Limits}
 use Rattle.ps_explain.specs.declared.explained.Explained.{Explained}
 use Rattle.ps_explain.specs.declared.explained.Explained.TheVariants as explained
 

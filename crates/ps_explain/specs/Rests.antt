@@ -1,12 +1,12 @@
 -- What a problem comes to without one of its sentences.
 use Rattle.std.specs.Prelude.{ℕ, ◌-◌, Bool, true, List, length, replicate}
 use Rattle.ps_problem.specs.Problems.{Parts}
-use Rattle.ps_pool.specs.declared.event.Event.{Event}
+use Rattle.ps_table.specs.declared.event.Event.{Event}
 use Rattle.ps_answer.specs.declared.answer.Dual.{Dual}
 use Rattle.ps_answer.specs.declared.answer.Verdict.{Verdict}
 use Rattle.ps_answer.specs.declared.answer.Verdict.TheVariants.{Consistent, Inconsistent, Open}
 use Rattle.ps_runs.specs.Kept.{kept_parts}
-use Rattle.ps_phases.specs.declared.limits.Limits.{Limits}
+use Rattle.ps_runs.specs.declared.limits.Limits.{Limits}
 use Rattle.ps_explain.specs.Explanations.{without, AreAmong, CannotBeMet, IsModelOfKept, IsShownBy, IsOpen}
 
 -- each sentence is kept but for the one of a number, from 1

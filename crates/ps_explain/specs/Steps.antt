@@ -7,9 +7,9 @@ use Rattle.ps_meaning.specs.Bounds.{IsModelOf}
 use Rattle.ps_problem.specs.Problems.{Parts}
 use Rattle.ps_answer.specs.declared.answer.Model.{Model}
 use Rattle.ps_runs.specs.Kept.{kept_parts, IsChoice}
-use Rattle.ps_certificate.specs.Printed.{IsPrintedModel, IsPrintedDual, IsPrintedCause}
-use Rattle.ps_phases.specs.declared.limits.Limits.{Limits}
-use Rattle.ps_master.specs.Runs.{RunState, IsNew}
+use Rattle.ps_claims.specs.Printed.{IsPrintedModel, IsPrintedDual, IsPrintedCause}
+use Rattle.ps_runs.specs.declared.limits.Limits.{Limits}
+use Rattle.ps_generation.specs.Runs.{RunState, IsNew}
 use Rattle.ps_explain.specs.declared.conflict.Conflict.{Conflict}
 use Rattle.ps_explain.specs.declared.outcome.Outcome.{Outcome}
 use Rattle.ps_explain.specs.declared.outcome.Outcome.TheVariants as outcome

@@ -6,7 +6,7 @@ use Rattle.ps_io.specs.declared.lines.Lines.{Lines}
 use Rattle.ps_io.specs.declared.sink.Sink.{Ghosts}
 use Rattle.ps_io.specs.declared.sink.WriteFault.{WriteFault}
 use Rattle.ps_log.specs.Texts.{with_numbers}
-use Rattle.ps_pool.specs.declared.event.Event.{Event}
+use Rattle.ps_table.specs.declared.event.Event.{Event}
 use Rattle.ps_answer.specs.declared.answer.Cause.{Cause}
 use Rattle.ps_answer.specs.declared.answer.Dual.{Dual}
 use Rattle.ps_answer.specs.declared.answer.Model.{Model}

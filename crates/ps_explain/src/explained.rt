@@ -1,7 +1,7 @@
 //! What an explanation is.
 use ps_answer::{Cause, Dual, Model};
 use ps_io::List;
-use ps_pool::Trace;
+use ps_table::Trace;
 
 /// Numbers of sentences, from 1.
 pub type Numbers = List<u32>;

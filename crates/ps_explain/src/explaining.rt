@@ -11,10 +11,10 @@ use crate::irreducible::core_within;
 use crate::means::Means;
 use crate::numbers::numbers_of;
 use crate::outcome::{Outcome, outcome_over};
+use ps_generation::Limits;
 use ps_guess::Trials;
 use ps_guesser::Guesser;
 use ps_io::{List, NoMemory};
-use ps_master::Limits;
 use ps_problem::Problem;
 use std::alloc::Global;
 

@@ -18,6 +18,6 @@ mod writing;
 
 pub use explained::{Explained, Models, Numbers};
 pub use explaining::explain;
-pub use ps_master::Limits;
+pub use ps_generation::Limits;
 pub use rests::verdict_without;
 pub use writing::write_explanation;

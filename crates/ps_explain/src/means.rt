@@ -1,6 +1,6 @@
 //! What an explanation is made with.
+use ps_generation::Limits;
 use ps_guess::Trials;
-use ps_master::Limits;
 
 /// What an explanation is made with: the trials of guesses about the problem, and the limits of
 /// runs.

@@ -2,7 +2,7 @@
 ghost use Rattle.std.specs.Prelude.{◌≡◌, true, false, get_or, IfOk};
 ghost use Rattle.ps_runs.specs.Kept.{IsChoice};
 ghost use Rattle.ps_generation.specs.Phases.{AreLimits};
-ghost use Rattle.ps_master.specs.Runs.{IsAtStart};
+ghost use Rattle.ps_generation.specs.Runs.{IsAtStart};
 ghost use Rattle.ps_explain.specs.Steps.{IsConflict, IsOutcome, IsOutcomeOfRun, IsTried};
 
 use crate::conflict::Conflict;
@@ -13,11 +13,11 @@ use crate::met::{Met, take_met};
 use crate::numbers::numbers_of;
 use crate::used::used_by;
 use ps_answer::{Cause, Model};
+use ps_generation::{First, Limits, Run};
 use ps_guesser::Guesser;
 use ps_io::NoMemory;
-use ps_master::{First, Limits, Run};
-use ps_pool::Trace;
 use ps_problem::Problem;
+use ps_table::Trace;
 use std::alloc::Global;
 
 /// What kept sentences come to.

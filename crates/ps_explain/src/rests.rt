@@ -7,10 +7,10 @@ ghost use Rattle.ps_explain.specs.Rests.{all_but, IsVerdictOver, IsVerdictWithou
 use crate::means::Means;
 use crate::outcome::{Outcome, outcome_over};
 use ps_answer::Verdict;
+use ps_generation::Limits;
 use ps_guess::Trials;
 use ps_guesser::Guesser;
 use ps_io::NoMemory;
-use ps_master::Limits;
 use ps_problem::Problem;
 use std::alloc::Global;
 

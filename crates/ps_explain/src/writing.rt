@@ -17,8 +17,8 @@ use crate::explained::Explained;
 use ps_answer::{Cause, Dual, Model};
 use ps_io::{LONGEST_LINE, Lines, Sink, WriteFault};
 use ps_log::add_number;
-use ps_pool::Event;
 use ps_report::{write_cause, write_consistent, write_dual, write_end, write_model, write_trace};
+use ps_table::Event;
 
 /// Writes the explanation of a problem. No memory is taken. After a fault a proper prefix of its
 /// text was written.

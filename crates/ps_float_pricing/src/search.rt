@@ -1,7 +1,7 @@
 //! The search for a world in which a goal is reached.
 ghost use Rattle.std.specs.Prelude.{◌≤◌, ◌<◌, ◌↔◌, All, IsTrue};
-ghost use Rattle.ps_steps.specs.Assignments.{place};
-ghost use Rattle.ps_steps.specs.Weights.{IsWithin};
+ghost use Rattle.ps_pb.specs.Assignments.{place};
+ghost use Rattle.ps_pb.specs.Weights.{IsWithin};
 ghost use Rattle.ps_log.specs.declared.limits.TheConstants.{MOST_CONFLICTS};
 
 use crate::goal::Goal;

@@ -5,7 +5,7 @@ use Rattle.std.proofs.Math.Nat.{pow-suc, dvd-mod_iff, dvd-mul_right_of_dvd, dvd_
 use Rattle.std.proofs.lemmas.Nat.{shr-shr, pow-add, pow_pos}
 use Rattle.std.proofs.lemmas.Nat.Bits.{bit_at_lowest, bit_at-suc}
 use Rattle.std.proofs.lemmas.Nat.Gcd.{IsGcd-swap, IsGcd-from_sub}
-use Rattle.ps_rational.specs.Coprime.{coprime_product, coprime_parts, gauss, IsGcd-scale}
+use Rattle.ps_meaning.specs.Coprime.{coprime_product, coprime_parts, gauss, IsGcd-scale}
 
 -- below the lowest bit that is set there is nothing to lose
 pub exact_shift : (t n : ℕ) → ((i : ℕ) → i < t → bit_at n i ≡ 0) → n / 2 ^ t * 2 ^ t ≡ n

@@ -4,17 +4,17 @@ use Rattle.std.proofs.lemmas.Int.{ints}
 use Rattle.std.proofs.lemmas.Nat.Gcd.{IsGcd-swap}
 use Rattle.std.proofs.Math.Nat.{div-mul_cancel, pos_of_dvd_of_pos}
 use Rattle.std.specs.Int.{IsGcd}
-use Rattle.ps_rational.specs.Gcd.{gcd, lcm, IsLeastCommonMultiple}
-use Rattle.ps_rational.specs.Wide.{sum_over, sum_under}
-use Rattle.ps_rational.specs.Rational.{Rational, IsLowestTerms, Positive, suc_positive, at_least_one, den, fraction, zero_q, neg, inverse, inverse_of}
-use Rattle.ps_rational.specs.Coprime.{gcd_is, coprime_rest}
-use Rattle.ps_rational.specs.Parts.{quot_abs, part_pos}
-use Rattle.ps_rational.proofs.ExactQuotient.{quot_exact}
-use Rattle.ps_rational.proofs.IntRing.{cross_reduced}
-use Rattle.ps_rational.proofs.Cross.{quotient_is}
-use Rattle.ps_rational.proofs.Multiples.{lcm_is}
-use Rattle.ps_rational.proofs.Field.{over_is_zero}
-use Rattle.ps_rational.proofs.NamedNumbers.{sum_gcd}
+use Rattle.ps_meaning.specs.Gcd.{gcd, lcm, IsLeastCommonMultiple}
+use Rattle.ps_meaning.specs.Wide.{sum_over, sum_under}
+use Rattle.ps_meaning.specs.Rational.{Rational, IsLowestTerms, Positive, suc_positive, at_least_one, den, fraction, zero_q, neg, inverse, inverse_of}
+use Rattle.ps_meaning.specs.Coprime.{gcd_is, coprime_rest}
+use Rattle.ps_meaning.specs.Parts.{quot_abs, part_pos}
+use Rattle.ps_meaning.proofs.ExactQuotient.{quot_exact}
+use Rattle.ps_meaning.proofs.IntRing.{cross_reduced}
+use Rattle.ps_meaning.proofs.Cross.{quotient_is}
+use Rattle.ps_meaning.proofs.Multiples.{lcm_is}
+use Rattle.ps_meaning.proofs.Field.{over_is_zero}
+use Rattle.ps_meaning.proofs.NamedNumbers.{sum_gcd}
 
 pub lowest_by_abs : (z y : ℤ) (d : ℕ) → IsLowestTerms z d → unsigned_abs y ≡ unsigned_abs z → IsLowestTerms y d
 lowest_by_abs z y d h e = record { positive = h.positive; coprime = subst (λ n. IsGcd n d 1) (sym e) h.coprime }

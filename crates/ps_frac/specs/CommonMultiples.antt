@@ -1,6 +1,6 @@
 -- Least common multiples of signed numbers.
 use Rattle.std.specs.Prelude.{ℤ, pos, unsigned_abs}
-use Rattle.ps_rational.specs.Gcd.{lcm, IsLeastCommonMultiple}
+use Rattle.ps_meaning.specs.Gcd.{lcm, IsLeastCommonMultiple}
 
 -- the least common multiple of the sizes
 abbrev pub lcm_of : ℤ → ℤ → ℤ

@@ -1,9 +1,9 @@
 -- Numbers that are kept where they fit.
 use Rattle.std.specs.Prelude.{ℕ, ◌<◌, ℤ, Option, unsigned_abs}
 use Rattle.std.specs.Option.{SomeIff}
-use Rattle.ps_rational.specs.Gcd.{gcd}
-use Rattle.ps_rational.specs.Rational.{Rational, add}
-use Rattle.ps_rational.specs.Wide.{Fits, size_limit, SumOverFits, sum_over, sum_under}
+use Rattle.ps_meaning.specs.Gcd.{gcd}
+use Rattle.ps_meaning.specs.Rational.{Rational, add}
+use Rattle.ps_meaning.specs.Wide.{Fits, size_limit, SumOverFits, sum_over, sum_under}
 
 -- this signed number, exactly where it fits
 abbrev pub IfFits : ℤ → Option ℤ → Type 0

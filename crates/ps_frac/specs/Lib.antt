@@ -1,5 +1,9 @@
 -- Meaning
 pub mod Refusals
 pub mod CommonMultiples
--- Bridge: parts of results, where they fit
+pub mod Decimals
+-- Laws, as the functions of decimal_laws.rt promise them
+pub mod DecimalLaws
+-- Bridge: parts of results, where they fit, and what shows that a power is positive
 pub mod Fitting
+pub mod Powers

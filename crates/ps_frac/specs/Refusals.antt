@@ -1,6 +1,6 @@
 -- Refused operations.
 use Rattle.std.specs.Prelude.{◌≡◌}
-use Rattle.ps_rational.specs.Rational.{Rational}
+use Rattle.ps_meaning.specs.Rational.{Rational}
 use Rattle.ps_frac.specs.declared.wide.Op.{Op}
 use Rattle.ps_frac.specs.declared.wide.Wide.{Wide}
 

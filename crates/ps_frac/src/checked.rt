@@ -1,7 +1,7 @@
 //! Operations on 128-bit numbers whose results are at most 2^127 - 1 in size.
 
 ghost use Rattle.std.specs.Prelude.{◌≡◌, ◌*◌, ◌/◌, ◌%◌, ◌<◌, ◌≤◌, pos, ◌+ℤ◌, ◌*ℤ◌, int_div};
-ghost use Rattle.ps_rational.specs.Wide.{Fits};
+ghost use Rattle.ps_meaning.specs.Wide.{Fits};
 ghost use Rattle.ps_frac.specs.Fitting.{IfFits, IfSizeFits};
 
 use crate::limits::{HALF_WORD, SIZE_LIMIT, WORD};

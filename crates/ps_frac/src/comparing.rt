@@ -2,7 +2,7 @@
 
 ghost use Rattle.std.specs.Prelude.{◌≡◌, ◌*◌, ◌<◌};
 ghost use Rattle.std.specs.Ordering.{nat_cmp};
-ghost use Rattle.ps_rational.specs.Order.{order_of};
+ghost use Rattle.ps_meaning.specs.Order.{order_of};
 
 use crate::fraction::Fraction;
 use std::cmp::Ordering;

@@ -2,7 +2,7 @@
 
 ghost use Rattle.std.specs.Prelude.{◌≡◌, ◌*◌, ◌%◌, ◌^◌, ◌<◌, ◌≤◌};
 ghost use Rattle.std.specs.Int.{w64, trailing_zeros, IsGcd};
-ghost use Rattle.ps_rational.specs.Gcd.{gcd as gcd_of};
+ghost use Rattle.ps_meaning.specs.Gcd.{gcd as gcd_of};
 
 use crate::limits::WORD;
 

@@ -1,8 +1,8 @@
 //! A fraction.
 
 ghost use Rattle.std.specs.Prelude.{◌≡◌, ◌<◌, ◌↔◌, IsTrue, pos, ◌<ℤ◌, unsigned_abs};
-ghost use Rattle.ps_rational.specs.Rational.{Rational, IsLowestTerms, fraction, neg, zero_q};
-ghost use Rattle.ps_rational.specs.Wide.{Fits, size_limit};
+ghost use Rattle.ps_meaning.specs.Rational.{Rational, IsLowestTerms, fraction, neg, zero_q};
+ghost use Rattle.ps_meaning.specs.Wide.{Fits, size_limit};
 
 use crate::checked::signed_quotient;
 use crate::divisors::gcd;
@@ -19,8 +19,8 @@ pub struct Fraction {
 
 impl Model for Fraction {
     ghost use Rattle.std.specs.Prelude.{◌<◌};
-    ghost use Rattle.ps_rational.specs.Rational.{Rational, IsLowestTerms, coded_rational};
-    ghost use Rattle.ps_rational.specs.Wide.{Fits, size_limit};
+    ghost use Rattle.ps_meaning.specs.Rational.{Rational, IsLowestTerms, coded_rational};
+    ghost use Rattle.ps_meaning.specs.Wide.{Fits, size_limit};
 
     ghost Value = { Rational };
 

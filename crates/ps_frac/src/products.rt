@@ -1,8 +1,8 @@
 //! Products and quotients of fractions.
 
 ghost use Rattle.std.specs.Prelude.{◌≡◌, ◌≢◌, ◌<◌, ◌↔◌, IsErr, IfOk, IfErr};
-ghost use Rattle.ps_rational.specs.Rational.{mul, div, inverse, zero_q};
-ghost use Rattle.ps_rational.specs.Wide.{product_over, product_under, ProductIsWide, size_limit};
+ghost use Rattle.ps_meaning.specs.Rational.{mul, div, inverse, zero_q};
+ghost use Rattle.ps_meaning.specs.Wide.{product_over, product_under, ProductIsWide, size_limit};
 ghost use Rattle.ps_frac.specs.Fitting.{IfFits, IfSizeFits, common};
 ghost use Rattle.ps_frac.specs.Refusals.{Refuses};
 
@@ -52,7 +52,7 @@ impl Fraction {
     }
 
     /// The product, refused exactly where its numerator or denominator is too large.
-    #[tactic(auto, unfolding(ps_rational::specs::Wide::ProductIsWide))]
+    #[tactic(auto, unfolding(ps_meaning::specs::Wide::ProductIsWide))]
     pub fn mul(&self, other: &Fraction) -> Result<Fraction, Wide>
         ensures value { IfOk result (λ r. r ≡ mul self.now other.now) }
         ensures wide { IsErr result ↔ ProductIsWide self.now other.now }
@@ -84,7 +84,7 @@ impl Fraction {
     }
 
     /// The quotient, refused exactly where the product with the other turned over is.
-    #[tactic(auto, unfolding(ps_rational::specs::Wide::ProductIsWide))]
+    #[tactic(auto, unfolding(ps_meaning::specs::Wide::ProductIsWide))]
     pub fn div(&self, other: &Fraction) -> Result<Fraction, Wide>
         requires not_zero { other.now ≢ zero_q }
         ensures value { IfOk result (λ r. r ≡ div self.now other.now) }

@@ -1,9 +1,9 @@
 //! Sums and differences of fractions.
 
 ghost use Rattle.std.specs.Prelude.{◌≡◌, ◌<◌, ◌↔◌, pos, ◌*ℤ◌, IsErr, IfOk, IfErr};
-ghost use Rattle.ps_rational.specs.Gcd.{gcd as gcd_of};
-ghost use Rattle.ps_rational.specs.Rational.{add, sub, neg};
-ghost use Rattle.ps_rational.specs.Wide.{Fits, size_limit, sum_over, SumIsWide};
+ghost use Rattle.ps_meaning.specs.Gcd.{gcd as gcd_of};
+ghost use Rattle.ps_meaning.specs.Rational.{add, sub, neg};
+ghost use Rattle.ps_meaning.specs.Wide.{Fits, size_limit, sum_over, SumIsWide};
 ghost use Rattle.ps_frac.specs.Fitting.{IfFits, IfSumOverFits, IfSumUnderFits};
 ghost use Rattle.ps_frac.specs.Refusals.{Refuses};
 
@@ -57,7 +57,7 @@ impl Fraction {
     }
 
     /// The sum, refused exactly where one of its named numbers is too large.
-    #[tactic(auto, unfolding(ps_rational::specs::Wide::SumIsWide))]
+    #[tactic(auto, unfolding(ps_meaning::specs::Wide::SumIsWide))]
     pub fn add(&self, other: &Fraction) -> Result<Fraction, Wide>
         ensures value { IfOk result (λ r. r ≡ add self.now other.now) }
         ensures wide { IsErr result ↔ SumIsWide self.now other.now }
@@ -73,7 +73,7 @@ impl Fraction {
     }
 
     /// The difference, refused exactly where the sum with the other negated is.
-    #[tactic(auto, unfolding(ps_rational::specs::Wide::SumIsWide))]
+    #[tactic(auto, unfolding(ps_meaning::specs::Wide::SumIsWide))]
     pub fn sub(&self, other: &Fraction) -> Result<Fraction, Wide>
         ensures value { IfOk result (λ r. r ≡ sub self.now other.now) }
         ensures wide { IsErr result ↔ SumIsWide self.now (neg other.now) }

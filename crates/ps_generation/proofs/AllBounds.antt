@@ -9,8 +9,8 @@ use Rattle.ps_claims.specs.Duals as claims
 use Rattle.ps_claims.specs.Duals.{AreZeroElsewhere}
 use Rattle.ps_claims.specs.Validity.{IsRefuted}
 use Rattle.ps_answer.specs.declared.answer.Dual.{Dual}
-use Rattle.ps_certificate.specs.Certificates.{IsMultiplier}
-use Rattle.ps_certificate.specs.Printed.{IsPrintedDual}
+use Rattle.ps_claims.specs.Certificates.{IsMultiplier}
+use Rattle.ps_claims.specs.Printed.{IsPrintedDual}
 use Rattle.ps_runs.specs.Kept.{kept_of, flags_of}
 use Rattle.ps_runs.specs.Subjects.{given_in, both_in}
 use Rattle.ps_runs.proofs.Kept.{same-count, bounds-kept, length-flags, refuted-kept, part-next}

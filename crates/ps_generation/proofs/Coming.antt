@@ -2,7 +2,7 @@
 use Rattle.std.proofs.Common.{◌≡◌, ℕ, ◌+◌, ◌≤◌, List, ◌++◌, length, Option, Some, None, inl, inr, refl, ap, ◌∙◌, arith}
 use Rattle.std.proofs.lemmas.List.{append_assoc}
 use Rattle.ps_meaning.specs.Formula.{World}
-use Rattle.ps_pool.specs.declared.event.Event.{Event}
+use Rattle.ps_table.specs.declared.event.Event.{Event}
 use Rattle.ps_table.specs.declared.costs.Costs.{Costs}
 use Rattle.ps_table.specs.declared.place.WideAt.{WideAt}
 use Rattle.ps_table.specs.Tableau.{Tableau}
@@ -15,9 +15,9 @@ use Rattle.ps_simplex.specs.Rule.{IsFeasible}
 use Rattle.ps_runs.specs.Subjects.{Subject, program_of}
 use Rattle.ps_runs.specs.Runs.{Stage}
 use Rattle.ps_runs.proofs.Composed.{pivots_in-append, leads_on}
-use Rattle.ps_phases.specs.Tables.{stage_at, IsUnderWay, standing}
-use Rattle.ps_phases.proofs.GoingOn.{begun}
-use Rattle.ps_phases.specs.declared.state.State.{State}
+use Rattle.ps_runs.specs.Tables.{stage_at, IsUnderWay, standing}
+use Rattle.ps_runs.proofs.GoingOn.{begun}
+use Rattle.ps_runs.specs.declared.state.State.{State}
 use Rattle.ps_generation.specs.declared.end.End.{End}
 use Rattle.ps_generation.specs.declared.end.End.TheVariants.{Feasible, NoneAbove, Open}
 use Rattle.ps_generation.specs.Phases.{LimitedSubject, IsInPhase, HasCome, IsOpenEnd, IsPendingEnd, IsEnd, IsLeft}

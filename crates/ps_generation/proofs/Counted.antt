@@ -2,11 +2,11 @@
 use Rattle.std.proofs.Common.{◌≡◌, ℕ, suc, ◌+◌, ◌^◌, ◌<◌, inl, inr, List, [], ◌∷◌, ◌++◌, length, append_assoc, sym, ap, ◌∙◌, subst, arith}
 use Rattle.std.proofs.lemmas.List.{append_cancel_left}
 use Rattle.ps_meaning.specs.Formula.{World}
-use Rattle.ps_cycle.specs.Count.{choose}
-use Rattle.ps_cycle.proofs.Ways.{choose_next, more_things}
-use Rattle.ps_cycle.proofs.Worlds.{few_worlds}
-use Rattle.ps_pool.specs.declared.event.Event.{Event}
-use Rattle.ps_pool.specs.declared.event.Event.TheVariants.{Priced}
+use Rattle.ps_simplex.specs.Count.{choose}
+use Rattle.ps_simplex.proofs.Ways.{choose_next, more_things}
+use Rattle.ps_simplex.proofs.Worlds.{few_worlds}
+use Rattle.ps_table.specs.declared.event.Event.{Event}
+use Rattle.ps_table.specs.declared.event.Event.TheVariants.{Priced}
 use Rattle.ps_table.specs.declared.costs.Costs.{Costs}
 use Rattle.ps_table.specs.declared.home.Home.{Home}
 use Rattle.ps_table.specs.declared.place.WideAt.{WideAt}
@@ -17,8 +17,8 @@ use Rattle.ps_runs.specs.Rows.{rows_of, columns_of}
 use Rattle.ps_runs.specs.Subjects.{Subject, setting_of, atoms_of}
 use Rattle.ps_runs.specs.Runs.{IsPool, pivots_in}
 use Rattle.ps_runs.proofs.Composed.{pivots_in-append}
-use Rattle.ps_phases.proofs.Shapes.{homes_count}
-use Rattle.ps_phases.specs.declared.state.State.{State}
+use Rattle.ps_runs.proofs.Shapes.{homes_count}
+use Rattle.ps_runs.specs.declared.state.State.{State}
 use Rattle.ps_generation.specs.declared.end.End.{End}
 use Rattle.ps_generation.specs.declared.end.End.TheVariants.{Feasible, NoneAbove, Open}
 use Rattle.ps_generation.specs.Phases.{LimitedSubject, IsInPhase, HasCome, IsPendingEnd, IsEnd}

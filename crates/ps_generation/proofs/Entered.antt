@@ -2,9 +2,9 @@
 use Rattle.std.proofs.Common.{◌≡◌, ℕ, ℤ, List, [], ◌∷◌, ◌++◌, inr, refl, sym, ap, ◌∙◌, subst, arith}
 use Rattle.std.proofs.lemmas.List.{length-append}
 use Rattle.ps_meaning.specs.Formula.{World}
-use Rattle.ps_pool.specs.declared.event.Event.{Event}
-use Rattle.ps_pool.specs.declared.event.Event.TheVariants.{Priced}
-use Rattle.ps_pool.specs.Worlds.{HasNumber}
+use Rattle.ps_table.specs.declared.event.Event.{Event}
+use Rattle.ps_table.specs.declared.event.Event.TheVariants.{Priced}
+use Rattle.ps_table.specs.Worlds.{HasNumber}
 use Rattle.ps_table.specs.declared.costs.Costs.{Costs}
 use Rattle.ps_table.specs.declared.error.TableError.{TableError}
 use Rattle.ps_table.specs.declared.error.TableError.TheVariants as refused
@@ -18,13 +18,13 @@ use Rattle.ps_claims.specs.declared.claim_kind.ClaimKind.{ClaimKind}
 use Rattle.ps_claims.specs.declared.claim_kind.ClaimKind.TheVariants.{Nothing, Lower, Upper}
 use Rattle.ps_runs.specs.Rows.{phase_of, entries_of, world_cost}
 use Rattle.ps_runs.specs.Subjects.{Subject, setting_of, frame_of, program_of}
-use Rattle.ps_phases.specs.Tables.{costs_for, IsRunTable}
-use Rattle.ps_phases.proofs.Adding.{costs_grow}
-use Rattle.ps_phases.proofs.GoingOn.{begun, priced_goes_on, priced_fresh}
-use Rattle.ps_phases.proofs.Licensing.{column_due}
-use Rattle.ps_phases.proofs.Progress.{moving_after}
-use Rattle.ps_phases.proofs.Ready.{ready_first, ready_lower, ready_upper}
-use Rattle.ps_phases.specs.declared.state.State.{State}
+use Rattle.ps_runs.specs.Tables.{costs_for, IsRunTable}
+use Rattle.ps_runs.proofs.Adding.{costs_grow}
+use Rattle.ps_runs.proofs.GoingOn.{begun, priced_goes_on, priced_fresh}
+use Rattle.ps_runs.proofs.Licensing.{column_due}
+use Rattle.ps_runs.proofs.Progress.{moving_after}
+use Rattle.ps_runs.proofs.Ready.{ready_first, ready_lower, ready_upper}
+use Rattle.ps_runs.specs.declared.state.State.{State}
 use Rattle.ps_generation.specs.declared.end.End.{End}
 use Rattle.ps_generation.specs.declared.end.End.TheVariants.{Open}
 use Rattle.ps_generation.specs.Phases.{LimitedSubject, stage_of, IsInPhase, HasCome, IsEnd, IsEndAt}

@@ -1,9 +1,9 @@
 -- What a pricing of the table's dual finds, as an event or an end of the phase.
 use Rattle.std.proofs.Common.{pos, List, length, inl, inr, sym, ◌∙◌, subst}
 use Rattle.ps_meaning.specs.Formula.{World}
-use Rattle.ps_steps.specs.Constraints.{Constraint}
-use Rattle.ps_steps.specs.Steps.{Step, Refutes}
-use Rattle.ps_forms.specs.Forms.{form_of, first_known}
+use Rattle.ps_pb.specs.Constraints.{Constraint}
+use Rattle.ps_pb.specs.Steps.{Step, Refutes}
+use Rattle.ps_clause.specs.Forms.{form_of, first_known}
 use Rattle.ps_problem.specs.Problems.{AreParts}
 use Rattle.ps_table.specs.declared.costs.Costs.{Costs}
 use Rattle.ps_table.specs.declared.error.TableError.{TableError}
@@ -13,21 +13,21 @@ use Rattle.ps_table.specs.Tableau.{rows_of as table_rows, entry_at, basic_at}
 use Rattle.ps_table.specs.Pricing.{cost_at}
 use Rattle.ps_table.specs.Places.{Operation, IsWide, IsWideAt, IsRefusedAt, HomePlaces, MultiplierPlace}
 use Rattle.ps_table.proofs.Operations.{operation_of}
-use Rattle.ps_ends.specs.Multiples.{DualPlaces}
-use Rattle.ps_ends.specs.Multiples.DualPlaces.{of_home, of_multiplier}
+use Rattle.ps_generation.specs.Multiples.{DualPlaces}
+use Rattle.ps_generation.specs.Multiples.DualPlaces.{of_home, of_multiplier}
 use Rattle.ps_answer.specs.declared.answer.Cause.TheVariants.{Conflicts}
 use Rattle.ps_answer.specs.declared.answer.Dual.{Dual}
-use Rattle.ps_certificate.specs.Certificates.{dual_of}
+use Rattle.ps_claims.specs.Certificates.{dual_of}
 use Rattle.ps_claims.specs.declared.claim_kind.ClaimKind.{ClaimKind}
 use Rattle.ps_runs.specs.Certificates.{HaveSameNumbers}
 use Rattle.ps_runs.specs.Subjects.{IsAsked, program_of}
 use Rattle.ps_runs.specs.Runs.{dual_at}
 use Rattle.ps_runs.proofs.Priced.{same_goal, priced_greatest, priced_cut, refuted_most}
-use Rattle.ps_phases.specs.Licences.{IsOutOfConflicts, IsTooWide}
-use Rattle.ps_phases.proofs.Licensing.{multiplier_due, dual_due}
-use Rattle.ps_phases.proofs.TableEnds.{dual_of_stage, spent_at_rest}
+use Rattle.ps_runs.specs.Licences.{IsOutOfConflicts, IsTooWide}
+use Rattle.ps_runs.proofs.Licensing.{multiplier_due, dual_due}
+use Rattle.ps_runs.proofs.TableEnds.{dual_of_stage, spent_at_rest}
 use Rattle.ps_pricing.specs.Pricings.{IsFound, IsRefutedBy, IsSpent}
-use Rattle.ps_phases.specs.declared.state.State.{State}
+use Rattle.ps_runs.specs.declared.state.State.{State}
 use Rattle.ps_generation.specs.declared.end.End.{End}
 use Rattle.ps_generation.specs.declared.end.End.TheVariants.{NoneAbove, Open}
 use Rattle.ps_generation.specs.Phases.{LimitedSubject, stage_of, IsInPhase, IsEnd, IsEndAt}

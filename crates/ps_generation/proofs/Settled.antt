@@ -3,9 +3,9 @@ use Rattle.std.proofs.Common.{◌≡◌, ℕ, ◌+◌, ◌<◌, ◌≤◌, List,
 use Rattle.std.proofs.lemmas.List.{length-append}
 use Rattle.ps_simplex.specs.Rule.{SimplexTable, IsMoving, IsResting}
 use Rattle.ps_meaning.specs.Formula.{World}
-use Rattle.ps_rational.specs.Rational.{Rational}
-use Rattle.ps_pool.specs.declared.event.Event.{Event}
-use Rattle.ps_pool.specs.declared.event.Event.TheVariants.{Pivot}
+use Rattle.ps_meaning.specs.Rational.{Rational}
+use Rattle.ps_table.specs.declared.event.Event.{Event}
+use Rattle.ps_table.specs.declared.event.Event.TheVariants.{Pivot}
 use Rattle.ps_table.specs.declared.costs.Costs.{Costs}
 use Rattle.ps_table.specs.declared.error.TableError.{TableError}
 use Rattle.ps_table.specs.declared.error.TableError.TheVariants as refused
@@ -21,10 +21,10 @@ use Rattle.ps_answer.specs.declared.answer.Cause.TheVariants.{Pivots}
 use Rattle.ps_claims.specs.declared.claim_kind.ClaimKind.{ClaimKind}
 use Rattle.ps_runs.specs.Subjects.{setting_of, program_of}
 use Rattle.ps_runs.specs.Rows.{phase_of}
-use Rattle.ps_phases.specs.Tables.{costs_for}
-use Rattle.ps_phases.proofs.GoingOn.{begun, settled_goes_on}
-use Rattle.ps_phases.proofs.Licensing.{resting_there, moving_there, settling_due}
-use Rattle.ps_phases.specs.declared.state.State.{State}
+use Rattle.ps_runs.specs.Tables.{costs_for}
+use Rattle.ps_runs.proofs.GoingOn.{begun, settled_goes_on}
+use Rattle.ps_runs.proofs.Licensing.{resting_there, moving_there, settling_due}
+use Rattle.ps_runs.specs.declared.state.State.{State}
 use Rattle.ps_generation.specs.declared.end.End.{End}
 use Rattle.ps_generation.specs.declared.end.End.TheVariants.{Feasible, Open}
 use Rattle.ps_generation.specs.Phases.{LimitedSubject, stage_of, IsInPhase, HasCome, IsEnd, IsEndAt}

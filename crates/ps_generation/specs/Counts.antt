@@ -1,12 +1,12 @@
 -- How many pivots a phase makes at most.
 use Rattle.std.specs.Prelude.{◌≡◌, ℕ, suc, ◌+◌, ◌^◌, ◌<◌, List, length, ◌++◌}
 use Rattle.ps_meaning.specs.Formula.{World}
-use Rattle.ps_cycle.specs.Count.{choose}
-use Rattle.ps_pool.specs.declared.event.Event.{Event}
+use Rattle.ps_simplex.specs.Count.{choose}
+use Rattle.ps_table.specs.declared.event.Event.{Event}
 use Rattle.ps_runs.specs.Rows.{rows_of}
 use Rattle.ps_runs.specs.Subjects.{Subject, setting_of, atoms_of}
 use Rattle.ps_runs.specs.Runs.{pivots_in}
-use Rattle.ps_phases.specs.declared.state.State.{State}
+use Rattle.ps_runs.specs.declared.state.State.{State}
 
 -- between two rests of its table a phase makes fewer pivots than there are ways to choose the basic columns
 pub record SettlesInFewerThanBases (s : Subject) (old new : State) : Type 0 where

@@ -6,12 +6,12 @@ use Rattle.ps_claims.specs.Duals.{AreZeroElsewhere}
 use Rattle.ps_claims.specs.Validity.{IsRefuted}
 use Rattle.ps_runs.specs.Kept.{kept_of, flags_of, kept_parts}
 use Rattle.ps_meaning.specs.Formula.{World}
-use Rattle.ps_rational.specs.Rational.{Rational}
+use Rattle.ps_meaning.specs.Rational.{Rational}
 use Rattle.ps_simplex.specs.Rule.{IsFeasible}
 use Rattle.ps_answer.specs.declared.limits.TheConstants.{MOST_PIVOTS}
 use Rattle.ps_log.specs.declared.limits.TheConstants.{MOST_CONFLICTS}
-use Rattle.ps_pool.specs.declared.event.Event.{Event}
-use Rattle.ps_pool.specs.declared.event.Event.TheVariants.{Priced}
+use Rattle.ps_table.specs.declared.event.Event.{Event}
+use Rattle.ps_table.specs.declared.event.Event.TheVariants.{Priced}
 use Rattle.ps_table.specs.declared.costs.Costs.{Costs}
 use Rattle.ps_table.specs.declared.error.TableError.{TableError}
 use Rattle.ps_table.specs.declared.error.TableError.TheVariants as refused
@@ -28,13 +28,13 @@ use Rattle.ps_runs.specs.Certificates.{HaveSameNumbers}
 use Rattle.ps_runs.specs.Programs.{Program, RefutesGain}
 use Rattle.ps_runs.specs.Subjects.{Subject, setting_of, given_in, both_in, atoms_of, frame_of, program_of}
 use Rattle.ps_runs.specs.Runs.{Stage, IsStart, IsPool, dual_at, AreAtMost, IsRestingAt, IsPricedBy}
-use Rattle.ps_certificate.specs.Certificates.{dual_of}
+use Rattle.ps_claims.specs.Certificates.{dual_of}
 use Rattle.ps_runs.specs.Rows.{phase_of}
-use Rattle.ps_phases.specs.Tables.{costs_for, IsRunTable, stage_at, IsUnderWay}
-use Rattle.ps_phases.specs.Licences.{IsLicensed, IsColumnTooWide}
-use Rattle.ps_certificate.specs.Printed.{IsPrintedDual, IsPrintedCause}
-use Rattle.ps_phases.specs.declared.limits.Limits.{Limits}
-use Rattle.ps_phases.specs.declared.state.State.{State}
+use Rattle.ps_runs.specs.Tables.{costs_for, IsRunTable, stage_at, IsUnderWay}
+use Rattle.ps_runs.specs.Licences.{IsLicensed, IsColumnTooWide}
+use Rattle.ps_claims.specs.Printed.{IsPrintedDual, IsPrintedCause}
+use Rattle.ps_runs.specs.declared.limits.Limits.{Limits}
+use Rattle.ps_runs.specs.declared.state.State.{State}
 use Rattle.ps_generation.specs.declared.end.End.{End}
 use Rattle.ps_generation.specs.declared.end.End.TheVariants.{Feasible, NoneAbove, Open}
 

@@ -8,16 +8,16 @@ use Rattle.ps_table.specs.Pricing.{cost_at}
 use Rattle.ps_bland.specs.Rules.{simplex_of}
 use Rattle.ps_bland.specs.Runs.{Ran}
 use Rattle.ps_answer.specs.declared.answer.Dual.{Dual}
-use Rattle.ps_certificate.specs.Certificates.{dual_of}
+use Rattle.ps_claims.specs.Certificates.{dual_of}
 use Rattle.ps_claims.specs.declared.claim_kind.ClaimKind.{ClaimKind}
 use Rattle.ps_runs.specs.Certificates.{table_dual, HaveSameNumbers}
 use Rattle.ps_runs.specs.Rows.{phase_of, entries_of, world_cost}
 use Rattle.ps_runs.specs.Subjects.{Subject, setting_of, program_of}
 use Rattle.ps_runs.specs.Runs.{IsRestingAt, IsPricedBy}
-use Rattle.ps_phases.specs.Tables.{costs_for}
+use Rattle.ps_runs.specs.Tables.{costs_for}
 use Rattle.ps_pricing.specs.Pricings.{PricingSubject}
 use Rattle.ps_generation.specs.declared.column.Column.{Column}
-use Rattle.ps_phases.specs.declared.state.State.{State}
+use Rattle.ps_runs.specs.declared.state.State.{State}
 use Rattle.ps_generation.specs.declared.end.End.{End}
 use Rattle.ps_generation.specs.Phases.{LimitedSubject, stage_of, HasCome, IsEnd}
 

@@ -1,4 +1,4 @@
-//! The phases of a run.
+//! A phase to its end, round by round.
 ghost use Rattle.std.specs.Prelude.{IfOk, IfSome};
 ghost use Rattle.ps_runs.specs.Subjects.{IsAsked};
 ghost use Rattle.ps_generation.specs.Phases.{HasRoom, IsEnd, IsInPhase, IsLeft, IsPrintedEnd};
@@ -12,7 +12,7 @@ use crate::setting::Setting;
 use crate::settling::settle_phase;
 use ps_claims::ClaimKind;
 use ps_io::NoMemory;
-use ps_phases::State;
+use ps_runs::State;
 use ps_table::Costs;
 use std::alloc::Global;
 

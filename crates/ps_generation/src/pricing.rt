@@ -13,10 +13,9 @@ use ps_answer::Cause;
 use ps_claims::ClaimKind;
 use ps_formula::World;
 use ps_io::NoMemory;
-use ps_phases::State;
-use ps_pool::Event;
 use ps_pricing::Pricing;
-use ps_table::Costs;
+use ps_runs::State;
+use ps_table::{Costs, Event};
 use std::alloc::Global;
 
 /// Enters a priced world: its event, its column with its cost, and its place in the pool. Where a

@@ -15,7 +15,7 @@ use ps_answer::Cause;
 use ps_bland::{SettleError, Settled, settle};
 use ps_claims::ClaimKind;
 use ps_io::NoMemory;
-use ps_phases::State;
+use ps_runs::State;
 use ps_simplex::Phase;
 use ps_table::Costs;
 

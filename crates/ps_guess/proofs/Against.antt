@@ -2,26 +2,26 @@
 use Rattle.std.proofs.Common.{◌≡◌, ℕ, pos, ◌-ℤ◌, ◌≤ℤ◌, Bool, Option, Result, Ok, Err, IfOk, List, length, sym, subst, arith}
 use Rattle.std.proofs.lemmas.Int.{ints}
 use Rattle.ps_meaning.specs.Formula.{World}
-use Rattle.ps_steps.specs.Assignments.{Assignment}
-use Rattle.ps_steps.specs.Constraints.{Constraint, IsMet}
-use Rattle.ps_steps.proofs.Linear.{met-weight}
-use Rattle.ps_steps.proofs.Within.{constraint-within}
-use Rattle.ps_forms.specs.Clauses.{clause_form}
-use Rattle.ps_forms.specs.Forms.{form_of, IsWithin}
-use Rattle.ps_forms.specs.Extensions.{extension, world_of}
-use Rattle.ps_forms.proofs.Idle.{form-clauses}
-use Rattle.ps_forms.proofs.Extends.{met-extension}
-use Rattle.ps_forms.proofs.Worlds.{world_of-agrees}
+use Rattle.ps_pb.specs.Assignments.{Assignment}
+use Rattle.ps_pb.specs.Constraints.{Constraint, IsMet}
+use Rattle.ps_pb.proofs.Linear.{met-weight}
+use Rattle.ps_pb.proofs.Within.{constraint-within}
+use Rattle.ps_clause.specs.Clauses.{clause_form}
+use Rattle.ps_clause.specs.Forms.{form_of, IsWithin}
+use Rattle.ps_clause.specs.Extensions.{extension, world_of}
+use Rattle.ps_clause.proofs.Idle.{form-clauses}
+use Rattle.ps_clause.proofs.Extends.{met-extension}
+use Rattle.ps_clause.proofs.Worlds.{world_of-agrees}
 use Rattle.ps_problem.specs.declared.query.Query.{Query}
 use Rattle.ps_problem.specs.Problems.{Parts, AreParts, bounds_in}
 use Rattle.ps_answer.specs.declared.answer.Dual.{Dual}
 use Rattle.ps_io.specs.declared.no_memory.NoMemory.{NoMemory}
-use Rattle.ps_certificate.specs.Certificates.{dual_of}
-use Rattle.ps_certificate.proofs.Variables.{combination_below}
+use Rattle.ps_claims.specs.Certificates.{dual_of}
+use Rattle.ps_claims.proofs.Variables.{combination_below}
 use Rattle.ps_runs.specs.Subjects.{IsAsked, given_in, both_in}
 use Rattle.ps_runs.proofs.Asked.{given_there, both_there}
 use Rattle.ps_claims.specs.declared.claim_kind.ClaimKind.{ClaimKind}
-use Rattle.ps_claims.specs.declared.combination.Combination.{Combination}
+use Rattle.ps_claims.specs.declared.weighted_sum.Combination.{Combination}
 use Rattle.ps_claims.specs.Goals.{goal_of, value_under}
 use Rattle.ps_sat.specs.Searches.{IsOutcome}
 use Rattle.ps_sat.specs.declared.searching.Outcome.TheVariants.{Found}

@@ -8,7 +8,7 @@ use Rattle.ps_problem.proofs.Growth.{bounds-append}
 use Rattle.ps_answer.specs.declared.answer.Model.{Model}
 use Rattle.ps_runs.specs.Kept.{kept_of, kept_parts}
 use Rattle.ps_runs.proofs.Kept.{kept-left, parts-kept, part-next}
-use Rattle.ps_certificate.specs.Printed.{IsPrintedModel}
+use Rattle.ps_claims.specs.Printed.{IsPrintedModel}
 use Rattle.ps_valid.specs.Judged.{FindsReasonOver}
 use Rattle.ps_guess.specs.Trials.{IsFoundModel}
 

@@ -1,3 +1,6 @@
 mod Against
 mod KeptBounds
 mod Logged
+pub mod Settled
+pub mod KnownLaws
+pub mod Right

@@ -3,17 +3,17 @@ use Rattle.std.proofs.Common.{◌≡◌, ℕ, ◌+◌, ◌≤◌, Bool, Some, Li
 use Rattle.std.specs.Prelude.{IsTrue}
 use Rattle.std.proofs.lemmas.List.{length-append}
 use Rattle.std.proofs.lemmas.List.Elements.{All-weaker}
-use Rattle.ps_steps.specs.Constraints.{Constraint}
-use Rattle.ps_steps.specs.Steps.{Step}
-use Rattle.ps_forms.specs.Forms.{Form}
+use Rattle.ps_pb.specs.Constraints.{Constraint}
+use Rattle.ps_pb.specs.Steps.{Step}
+use Rattle.ps_clause.specs.Forms.{Form}
 use Rattle.ps_pb.specs.Limits.{IsLiteral}
 use Rattle.ps_pb.specs.declared.limits.TheConstants.{MOST_VARIABLES}
 use Rattle.ps_log.specs.Logs.{Telling}
-use Rattle.ps_trail.specs.Trails.{IsLit}
+use Rattle.ps_learn.specs.Trails.{IsLit}
 use Rattle.ps_sat.specs.Searches.{IsHeld}
 use Rattle.ps_sat.specs.declared.searching.Outcome.{Outcome}
 use Rattle.ps_sat.specs.declared.searching.Outcome.TheVariants.{Found, Refuted, Spent}
-use Rattle.ps_certificate.specs.Printed.{AreOfLiterals}
+use Rattle.ps_claims.specs.Printed.{AreOfLiterals}
 use Rattle.ps_guess.specs.Steps.{HasFewSteps}
 
 module _ (f : Form) (goal : Constraint) (conflicts : ℕ) (told : Bool) (new : Telling) (o : Outcome) (steps : List Step) (tells : IsTrue told) (is : new.steps ≡ Some steps)

@@ -1,6 +1,6 @@
 -- The steps of a search.
 use Rattle.std.specs.Prelude.{ℕ, ◌+◌, ◌≤◌, List, length}
-use Rattle.ps_steps.specs.Steps.{Step}
+use Rattle.ps_pb.specs.Steps.{Step}
 use Rattle.ps_sat.specs.declared.searching.Outcome.{Outcome}
 use Rattle.ps_sat.specs.declared.searching.Outcome.TheVariants.{Found, Refuted, Spent}
 

@@ -1,21 +1,21 @@
 -- What the trial of a guess shows.
 use Rattle.std.specs.Prelude.{Bool, List, Option, pos, ◌≤ℤ◌, length, ◌≡◌}
 use Rattle.ps_meaning.specs.Formula.{World}
-use Rattle.ps_steps.specs.Assignments.{Assignment, full}
-use Rattle.ps_forms.specs.Extensions.{extension, IsWorldOf}
+use Rattle.ps_pb.specs.Assignments.{Assignment, full}
+use Rattle.ps_clause.specs.Extensions.{extension, IsWorldOf}
 use Rattle.ps_problem.specs.declared.query.Query.{Query}
 use Rattle.ps_problem.specs.Problems.{Parts, bounds_of}
 use Rattle.ps_answer.specs.declared.answer.Model.{Model}
 use Rattle.ps_answer.specs.declared.answer.Dual.{Dual}
 use Rattle.ps_answer.specs.declared.answer.SideAnswer.{SideAnswer}
 use Rattle.ps_answer.specs.declared.answer.SideAnswer.TheVariants as side
-use Rattle.ps_certificate.specs.Certificates.{combination_on, model_of, dual_of}
+use Rattle.ps_claims.specs.Certificates.{combination_on, model_of, dual_of}
 use Rattle.ps_claims.specs.declared.claim_kind.ClaimKind.{ClaimKind}
-use Rattle.ps_claims.specs.declared.combination.Combination.{Combination}
+use Rattle.ps_claims.specs.declared.weighted_sum.Combination.{Combination}
 use Rattle.ps_claims.specs.Goals.{value_under}
 use Rattle.ps_claims.specs.Validity.{ShowsNothing, ShowsTight}
 use Rattle.ps_claims.specs.Answers.{ShowsConsistent}
-use Rattle.ps_certificate.specs.Printed.{IsPrintedModel, IsPrintedDual}
+use Rattle.ps_claims.specs.Printed.{IsPrintedModel, IsPrintedDual}
 use Rattle.ps_runs.specs.Subjects.{given_in, both_in}
 use Rattle.ps_guess.specs.declared.trial.Trial.{Trial}
 use Rattle.ps_guess.specs.declared.trial.Trial.TheVariants.{Shown, Found, Wrong, Spent}

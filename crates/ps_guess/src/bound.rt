@@ -1,7 +1,7 @@
 //! Guesses of the bounds of queries.
 ghost use Rattle.std.specs.Prelude.{Some, IfOk, IfSome};
 ghost use Rattle.ps_problem.specs.Problems.{HasNodes};
-ghost use Rattle.ps_certificate.specs.Printed.{IsPrintedDual};
+ghost use Rattle.ps_claims.specs.Printed.{IsPrintedDual};
 ghost use Rattle.ps_valid.specs.Limits.{IsSmallModel};
 ghost use Rattle.ps_guess.specs.Trials.{FindsAgainst, IsFoundSide, IsTrialOf};
 

@@ -1,10 +1,10 @@
 //! Whether numbers of a guess are within the limits of claims.
 ghost use Rattle.std.specs.Prelude.{◌↔◌, All, IsTrue};
-ghost use Rattle.ps_certificate.specs.Certificates.{IsMultiplier, IsSmallDual};
+ghost use Rattle.ps_claims.specs.Certificates.{IsMultiplier, IsSmallDual};
 ghost use Rattle.ps_valid.specs.Limits.{AreSmall, IsAmount, IsSmallModel};
 
 use ps_answer::{Dual, MOST_ENTRIES, Model, Weighted};
-use ps_rational::PRINTED_LIMIT;
+use ps_meaning::PRINTED_LIMIT;
 
 fn is_amount(z: i128) -> bool
     ensures { IsTrue result ↔ IsAmount z }

@@ -1,9 +1,9 @@
 //! A search for one goal, with its steps.
 ghost use Rattle.std.specs.Prelude.{◌≤◌, IfOk};
-ghost use Rattle.ps_forms.specs.Forms.{IsWithin};
+ghost use Rattle.ps_clause.specs.Forms.{IsWithin};
 ghost use Rattle.ps_log.specs.declared.limits.TheConstants.{MOST_CONFLICTS};
 ghost use Rattle.ps_sat.specs.Searches.{IsOutcome};
-ghost use Rattle.ps_certificate.specs.Printed.{AreOfLiterals};
+ghost use Rattle.ps_claims.specs.Printed.{AreOfLiterals};
 ghost use Rattle.ps_guess.specs.Steps.{HasFewSteps};
 
 use ps_clause::ClauseForm;

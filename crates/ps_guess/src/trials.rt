@@ -1,19 +1,18 @@
 //! What guesses are tried over, and the search for a world that a guessed dual overlooks.
 ghost use Rattle.std.specs.Prelude.{◌≡◌, ◌<◌, ◌≤◌, length, IfOk, IfSome};
-ghost use Rattle.ps_forms.specs.Forms.{IsWithin};
+ghost use Rattle.ps_clause.specs.Forms.{IsWithin};
 ghost use Rattle.ps_log.specs.declared.limits.TheConstants.{MOST_CONFLICTS};
 ghost use Rattle.ps_problem.specs.Problems.{AreParts, bounds_in};
 ghost use Rattle.ps_claims.specs.Goals.{goal_of};
-ghost use Rattle.ps_certificate.specs.Certificates.{HasQuery, IsSmallDual};
-ghost use Rattle.ps_certificate.specs.Printed.{IsPrintedDual};
+ghost use Rattle.ps_claims.specs.Certificates.{HasQuery, IsSmallDual};
+ghost use Rattle.ps_claims.specs.Printed.{IsPrintedDual};
 ghost use Rattle.ps_runs.specs.Subjects.{IsAsked, given_in, both_in};
 ghost use Rattle.ps_guess.specs.Trials.{FindsAgainst, IsAssigned, IsTrialOf, combined};
 
 use crate::searching::{Searched, seek};
 use crate::trial::Trial;
 use ps_answer::Dual;
-use ps_certificate::combination;
-use ps_claims::{ClaimKind, Reason};
+use ps_claims::{ClaimKind, Reason, combination};
 use ps_clause::{ClauseForm, clauses_of, world_of};
 use ps_formula::World;
 use ps_io::NoMemory;
@@ -34,7 +33,7 @@ pub struct Trials<'p> {
 
 impl<'p> Model for Trials<'p> {
     ghost use Rattle.std.specs.Prelude.{◌≡◌, ◌≤◌};
-    ghost use Rattle.ps_forms.specs.Forms.{form_of};
+    ghost use Rattle.ps_clause.specs.Forms.{form_of};
     ghost use Rattle.ps_log.specs.declared.limits.TheConstants.{MOST_CONFLICTS};
     ghost use Rattle.ps_problem.specs.Problems.{Parts};
 

@@ -1,14 +1,14 @@
 -- One literal more.
 use Rattle.std.proofs.Common.{◌≡◌, ℕ, suc, ℤ, Some, None, List, [], ◌∷◌, ◌++◌, length, ◌∙◌, arith, refl, sym, ap, subst}
 use Rattle.std.proofs.lemmas.List.{append_assoc, append-nil}
-use Rattle.ps_steps.specs.Assignments.{Assignment}
-use Rattle.ps_steps.specs.Steps.{Known}
+use Rattle.ps_pb.specs.Assignments.{Assignment}
+use Rattle.ps_pb.specs.Steps.{Known}
 use Rattle.ps_learn.specs.Rest.{IsLonger}
-use Rattle.ps_trail.specs.Trails.{Trail, TrailEntry, values, values_of, level, decisions, implied, decided, IsReason, IsFresh, AreReasons}
-use Rattle.ps_trail.proofs.Entries.{values-append, reasons-append, length-values}
-use Rattle.ps_trail.specs.Trails.{unset_count}
-use Rattle.ps_trail.proofs.Counting.{fewer-unset}
-use Rattle.ps_trail.proofs.Pushing.{decisions-append}
+use Rattle.ps_learn.specs.Trails.{Trail, TrailEntry, values, values_of, level, decisions, implied, decided, IsReason, IsFresh, AreReasons}
+use Rattle.ps_learn.proofs.Entries.{values-append, reasons-append, length-values}
+use Rattle.ps_learn.specs.Trails.{unset_count}
+use Rattle.ps_learn.proofs.Counting.{fewer-unset}
+use Rattle.ps_learn.proofs.Pushing.{decisions-append}
 
 pub fresh-now : (t : Trail) (a : Assignment) (l : ℤ) → a ≡ values t → length a ≡ t.variables → IsFresh (length a) a l → IsFresh t.variables (values t) l
 fresh-now t a l e n f = subst (λ m. IsFresh m (values t) l) n (subst (λ b. IsFresh (length a) b l) e f)

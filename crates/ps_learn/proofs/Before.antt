@@ -3,11 +3,11 @@ use Rattle.std.proofs.Common.{inl, inr, ◌≡◌, ◌≢◌, ℕ, ◌-◌, ◌<
 use Rattle.std.specs.Prelude.{slice_get}
 use Rattle.std.proofs.lemmas.Bool.{cases_lt}
 use Rattle.std.proofs.lemmas.Option.{slice_get_read}
-use Rattle.ps_trail.specs.Trails.{TrailEntry, Trail, decisions, level, AreLevels}
-use Rattle.ps_trail.specs.Causes.{Marks, is_marked}
-use Rattle.ps_trail.specs.Keeping.{NoneIsMarked, SomeIsMarked, IsToExplain}
-use Rattle.ps_trail.proofs.Levels.{levels-rise}
-use Rattle.ps_trail.proofs.Distinct.{level-most}
+use Rattle.ps_learn.specs.Trails.{TrailEntry, Trail, decisions, level, AreLevels}
+use Rattle.ps_learn.specs.Causes.{Marks, is_marked}
+use Rattle.ps_learn.specs.Keeping.{NoneIsMarked, SomeIsMarked, IsToExplain}
+use Rattle.ps_learn.proofs.Levels.{levels-rise}
+use Rattle.ps_learn.proofs.TrailDistinct.{level-most}
 use Rattle.ps_learn.specs.Marks.{IsMarkedBefore}
 
 -- no entry of this level between two places is marked

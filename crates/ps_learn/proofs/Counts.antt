@@ -5,12 +5,12 @@ use Rattle.std.specs.List.{filter}
 use Rattle.std.proofs.lemmas.Int.{ints}
 use Rattle.std.proofs.lemmas.Bool.{cases_Bool}
 use Rattle.std.proofs.lemmas.List.Elements.{All-head, All-tail}
-use Rattle.ps_steps.specs.Assignments.{Assignment, place, value_of, is_unset, AreDifferent}
-use Rattle.ps_steps.specs.Constraints.{Constraint, is_open, HasTerm, Forces, slack, is_violated, is_forced, some_forced}
-use Rattle.ps_steps.specs.Weights.{clause_of}
-use Rattle.ps_steps.proofs.Clauses.{Differ, HasNoneAt, clause-plain, clause-slack}
-use Rattle.ps_steps.proofs.Setting.{forced-some, lt-from}
-use Rattle.ps_forms.specs.Decided.{IsIdle}
+use Rattle.ps_pb.specs.Assignments.{Assignment, place, value_of, is_unset, AreDifferent}
+use Rattle.ps_pb.specs.Constraints.{Constraint, is_open, HasTerm, Forces, slack, is_violated, is_forced, some_forced}
+use Rattle.ps_pb.specs.Weights.{clause_of}
+use Rattle.ps_pb.proofs.Clauses.{Differ, HasNoneAt, clause-plain, clause-slack}
+use Rattle.ps_pb.proofs.Setting.{forced-some, lt-from}
+use Rattle.ps_clause.specs.Decided.{IsIdle}
 use Rattle.ps_learn.proofs.Terms.{contains-here, contains-later, contains-cases, contains-none}
 
 -- how many pass a test

@@ -3,14 +3,14 @@ use Rattle.std.proofs.Common.{◌≡◌, ◌≢◌, ℕ, zero, suc, ◌<◌, ◌
 use Rattle.std.specs.Prelude.{slice_get}
 use Rattle.std.proofs.lemmas.List.{append-nil}
 use Rattle.std.proofs.lemmas.Option.{slice_get_within, get_or_from_slice_get}
-use Rattle.ps_steps.specs.Assignments.{place}
-use Rattle.ps_steps.specs.Constraints.{Constraint}
-use Rattle.ps_steps.specs.Weights.{Weighted, term_at, terms_below, last_variable, coefficient_at, constraint_of, weighted, IsNormal}
-use Rattle.ps_steps.specs.Steps.{Known, constraint_at, Step, added, with_step, with_steps}
-use Rattle.ps_steps.proofs.Setting.{HasNone, AreDistinct, rising-distinct}
-use Rattle.ps_steps.proofs.Lawful.{constraint_at-more}
-use Rattle.ps_steps.proofs.Ids.{at-id, at-zero}
-use Rattle.ps_forms.specs.Forms.{Form, IsClause, HasClauses, first_known}
+use Rattle.ps_pb.specs.Assignments.{place}
+use Rattle.ps_pb.specs.Constraints.{Constraint}
+use Rattle.ps_pb.specs.Weights.{Weighted, term_at, terms_below, last_variable, coefficient_at, constraint_of, weighted, IsNormal}
+use Rattle.ps_pb.specs.Steps.{Known, constraint_at, Step, added, with_step, with_steps}
+use Rattle.ps_pb.proofs.Setting.{HasNone, AreDistinct, rising-distinct}
+use Rattle.ps_pb.proofs.Lawful.{constraint_at-more}
+use Rattle.ps_pb.proofs.Ids.{at-id, at-zero}
+use Rattle.ps_clause.specs.Forms.{Form, IsClause, HasClauses, first_known}
 use Rattle.ps_learn.proofs.Due.{AreAllDistinct}
 
 none_push : (p q : ℕ) (ts : List (ℤ × ℕ)) (u : ℤ × ℕ) → HasNone p ts → place u.0 ≢ p → HasNone p (ts ++ u ∷ [])

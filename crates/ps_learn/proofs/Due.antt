@@ -6,21 +6,21 @@ use Rattle.std.proofs.lemmas.Bool.{cases_Bool, cases_lt, and_from, lt-ltb}
 use Rattle.std.proofs.lemmas.List.{take_all}
 use Rattle.std.proofs.lemmas.List.Sums.{fold-append}
 use Rattle.std.proofs.lemmas.List.Elements.{All-nil, All-push}
-use Rattle.ps_steps.specs.Assignments.{Assignment, place, value_of, with_true, with_false, is_unset, all_unset, Includes}
-use Rattle.ps_steps.specs.Constraints.{Constraint, Covers, Forces, slack, is_violated, some_forced, with_forced}
-use Rattle.ps_steps.specs.Steps.{Known, constraint_at, next_id, Step, lits_of, Open, Conflict, at_constraint, after_hint, after_hints, and_false}
-use Rattle.ps_steps.proofs.Values.{includes-refl, includes-trans, with_true-includes}
-use Rattle.ps_steps.proofs.Forcing.{with_forced-includes}
-use Rattle.ps_steps.proofs.Setting.{AreDistinct, length-forced, length-with_true, value-true, includes-one, includes-both, unset-below, unset-both, place-opposite, opposite-false}
-use Rattle.ps_steps.proofs.Covering.{covers-violated, covers-some, covers-true}
-use Rattle.ps_steps.proofs.Lawful.{value-unset}
-use Rattle.ps_steps.proofs.Short.{length-unset}
+use Rattle.ps_pb.specs.Assignments.{Assignment, place, value_of, with_true, with_false, is_unset, all_unset, Includes}
+use Rattle.ps_pb.specs.Constraints.{Constraint, Covers, Forces, slack, is_violated, some_forced, with_forced}
+use Rattle.ps_pb.specs.Steps.{Known, constraint_at, next_id, Step, lits_of, Open, Conflict, at_constraint, after_hint, after_hints, and_false}
+use Rattle.ps_pb.proofs.Values.{includes-refl, includes-trans, with_true-includes}
+use Rattle.ps_pb.proofs.Forcing.{with_forced-includes}
+use Rattle.ps_pb.proofs.Setting.{AreDistinct, length-forced, length-with_true, value-true, includes-one, includes-both, unset-below, unset-both, place-opposite, opposite-false}
+use Rattle.ps_pb.proofs.Covering.{covers-violated, covers-some, covers-true}
+use Rattle.ps_pb.proofs.Lawful.{value-unset}
+use Rattle.ps_pb.proofs.Short.{length-unset}
 use Rattle.std.proofs.lemmas.Option.{slice_get_within}
-use Rattle.ps_forms.specs.Forms.{Form, is_atom_variable}
-use Rattle.ps_trail.specs.Trails.{TrailEntry, values_of, decisions, IsReason, AreFresh, AreReasons, IsConflict}
-use Rattle.ps_trail.proofs.Entries.{values-more, length-values}
-use Rattle.ps_trail.proofs.Following.{learned-lawful}
-use Rattle.ps_forms.specs.Spent.{IsDue}
+use Rattle.ps_clause.specs.Forms.{Form, is_atom_variable}
+use Rattle.ps_learn.specs.Trails.{TrailEntry, values_of, decisions, IsReason, AreFresh, AreReasons, IsConflict}
+use Rattle.ps_learn.proofs.Entries.{values-more, length-values}
+use Rattle.ps_learn.proofs.Following.{learned-lawful}
+use Rattle.ps_clause.specs.Spent.{IsDue}
 use Rattle.ps_learn.specs.Resting.{AreRested, AreOfAtoms}
 use Rattle.ps_learn.proofs.Staying.{includes-covers, rest-lawless}
 use Rattle.ps_learn.proofs.Opening.{entry-at, opens}

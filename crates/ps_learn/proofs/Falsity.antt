@@ -5,13 +5,13 @@ use Rattle.std.specs.List.{All, fold}
 use Rattle.std.proofs.Math.Seq.{take-length}
 use Rattle.std.proofs.lemmas.List.Elements.{All-nil, All-cons}
 use Rattle.std.proofs.lemmas.Bool.{cases_Bool, and_parts, ltb-true}
-use Rattle.ps_steps.specs.Assignments.{Assignment, place, is_positive, agree, with_sign, value_of, with_false, is_unset, all_unset, Includes}
-use Rattle.ps_steps.specs.Steps.{and_false}
-use Rattle.ps_steps.proofs.Places.{and_false-none}
-use Rattle.ps_steps.proofs.Values.{includes-refl, includes-trans, value-kept, unset-is}
-use Rattle.ps_trail.specs.Trails.{Trail, values, values_of}
-use Rattle.ps_trail.specs.Causes.{Marks}
-use Rattle.ps_trail.specs.Starting.{AreKeptLits}
+use Rattle.ps_pb.specs.Assignments.{Assignment, place, is_positive, agree, with_sign, value_of, with_false, is_unset, all_unset, Includes}
+use Rattle.ps_pb.specs.Steps.{and_false}
+use Rattle.ps_pb.proofs.Places.{and_false-none}
+use Rattle.ps_pb.proofs.Values.{includes-refl, includes-trans, value-kept, unset-is}
+use Rattle.ps_learn.specs.Trails.{Trail, values, values_of}
+use Rattle.ps_learn.specs.Causes.{Marks}
+use Rattle.ps_learn.specs.Starting.{AreKeptLits}
 use Rattle.ps_learn.specs.Falsity.{AreFalseIn}
 
 abbrev IsFalseIn : Assignment → ℤ → Type 0

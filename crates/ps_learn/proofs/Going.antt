@@ -4,16 +4,16 @@ use Rattle.std.specs.Prelude.{slice_set, unsigned_abs}
 use Rattle.std.proofs.Math.Seq.{take-suc}
 use Rattle.std.proofs.lemmas.List.{take_all}
 use Rattle.std.proofs.lemmas.Option.{slice_get_read}
-use Rattle.ps_steps.specs.Assignments.{Assignment, place, without}
-use Rattle.ps_steps.specs.Constraints.{Constraint}
-use Rattle.ps_steps.specs.Steps.{Known, known_of, constraint_at}
-use Rattle.ps_trail.specs.Trails.{TrailEntry, Trail, values, level, values_of, AreFresh, AreLevels, AreReasons}
-use Rattle.ps_trail.specs.Causes.{Marks, is_marked, AreCovered, IsCoveredAt, AreExplained, IsFalseAt}
-use Rattle.ps_trail.proofs.Entries.{values-cut, fresh-take, length-values}
-use Rattle.ps_trail.specs.Marking.{Grows, AddsFalseIn, AddsFalseAt, AddsReasons}
-use Rattle.ps_trail.proofs.Marking.{grows-refl, grows-trans, grows-set, own-set, covered-grows, explained-end, explained-next, set-by_reason}
-use Rattle.ps_trail.specs.Keeping.{IsKeptOnce, IsToExplain, HasNoReason}
-use Rattle.ps_trail.proofs.Keeping.{Keeping, IsSound, keeping-first, keeping-next, MarkedBy, marked_by-first, marked_by-next}
+use Rattle.ps_pb.specs.Assignments.{Assignment, place, without}
+use Rattle.ps_pb.specs.Constraints.{Constraint}
+use Rattle.ps_pb.specs.Steps.{Known, known_of, constraint_at}
+use Rattle.ps_learn.specs.Trails.{TrailEntry, Trail, values, level, values_of, AreFresh, AreLevels, AreReasons}
+use Rattle.ps_learn.specs.Causes.{Marks, is_marked, AreCovered, IsCoveredAt, AreExplained, IsFalseAt}
+use Rattle.ps_learn.proofs.Entries.{values-cut, fresh-take, length-values}
+use Rattle.ps_learn.specs.Marking.{Grows, AddsFalseIn, AddsFalseAt, AddsReasons}
+use Rattle.ps_learn.proofs.Marking.{grows-refl, grows-trans, grows-set, own-set, covered-grows, explained-end, explained-next, set-by_reason}
+use Rattle.ps_learn.specs.Keeping.{IsKeptOnce, IsToExplain, HasNoReason}
+use Rattle.ps_learn.proofs.Keeping.{Keeping, IsSound, keeping-first, keeping-next, MarkedBy, marked_by-first, marked_by-next}
 use Rattle.ps_learn.specs.Marks.{Explains, ExplainsAt, IsCaused, IsTrailExplained}
 
 -- how far back the marked entries have been explained

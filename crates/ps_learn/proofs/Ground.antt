@@ -3,10 +3,10 @@ use Rattle.std.proofs.Common.{◌≡◌, ℕ, zero, suc, ◌≤◌, ℤ, true, O
 use Rattle.std.specs.Prelude.{slice_get, unsigned_abs, ◌==◌, All}
 use Rattle.std.proofs.lemmas.Bool.{cases_Bool}
 use Rattle.std.proofs.lemmas.List.Elements.{All-head}
-use Rattle.ps_steps.specs.Steps.{Step, lits_of, is_contradiction}
-use Rattle.ps_trail.specs.Trails.{TrailEntry, Trail, level, decisions, entry_of, AreLevels}
-use Rattle.ps_trail.specs.Levels.{level_or_zero, level_at, IsAsserting}
-use Rattle.ps_trail.proofs.Distinct.{level-most}
+use Rattle.ps_pb.specs.Steps.{Step, lits_of, is_contradiction}
+use Rattle.ps_learn.specs.Trails.{TrailEntry, Trail, level, decisions, entry_of, AreLevels}
+use Rattle.ps_learn.specs.Levels.{level_or_zero, level_at, IsAsserting}
+use Rattle.ps_learn.proofs.TrailDistinct.{level-most}
 
 -- the entry of a variable stands at a place
 place_of : (var : ℕ) (es : List TrailEntry) (e : TrailEntry) → entry_of var es ≡ Some e → (i : ℕ) × (slice_get es i ≡ Some e)

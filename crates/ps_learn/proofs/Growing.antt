@@ -1,10 +1,10 @@
 -- Propagation and decisions keep what a search keeps of the levels of its trail.
 use Rattle.std.proofs.Common.{◌≡◌, ℕ, zero, suc, ◌+◌, ℤ, true, Some, None, List, [], ◌∷◌, ◌++◌, take, arith, refl, ap, ◌∙◌, subst, ◌⊎◌, inl, inr}
 use Rattle.std.specs.Prelude.{slice_get, unsigned_abs, is_none}
-use Rattle.ps_steps.specs.Steps.{Known}
-use Rattle.ps_forms.specs.Forms.{Form, is_atom_variable}
-use Rattle.ps_trail.specs.Trails.{TrailEntry, Trail, values, values_of, decisions, decided}
-use Rattle.ps_trail.proofs.Entries.{get-last, get-taken, take-front, take-all}
+use Rattle.ps_pb.specs.Steps.{Known}
+use Rattle.ps_clause.specs.Forms.{Form, is_atom_variable}
+use Rattle.ps_learn.specs.Trails.{TrailEntry, Trail, values, values_of, decisions, decided}
+use Rattle.ps_learn.proofs.Entries.{get-last, get-taken, take-front, take-all}
 use Rattle.ps_learn.specs.Rest.{IsAtRest, IsLonger}
 use Rattle.ps_learn.specs.Resting.{AreRested, AreOfAtoms}
 

@@ -1,16 +1,16 @@
 -- What hints alone refute is refuted after any further steps.
 use Rattle.std.proofs.Common.{◌≡◌, ℕ, ◌≤◌, ◌^◌, Option, Some, None, List, [], ◌∷◌, arith, refl, sym, ap, ◌∙◌}
-use Rattle.ps_steps.specs.Assignments.{Assignment}
-use Rattle.ps_steps.specs.Constraints.{Constraint}
-use Rattle.ps_steps.specs.declared.refused.StepRefused.{StepRefused}
-use Rattle.ps_steps.specs.declared.refused.StepRefused.TheVariants.{UnknownHint, HintIdle}
-use Rattle.ps_steps.specs.Steps.{Known, constraint_at, next_id, Step, lits_of, hints_of, Propagation, Open, Conflict, Refused, at_constraint, after_conflict, after_hint, after_hints, all_false, with_steps}
-use Rattle.ps_steps.proofs.Ids.{kept-all}
-use Rattle.ps_steps.proofs.Places.{after_hints-refused}
-use Rattle.ps_steps.proofs.Short.{lawful-start}
-use Rattle.ps_trail.proofs.Following.{learned-lawful}
-use Rattle.ps_forms.specs.Forms.{Form, first_known}
-use Rattle.ps_forms.specs.Spent.{IsSpentSearch}
+use Rattle.ps_pb.specs.Assignments.{Assignment}
+use Rattle.ps_pb.specs.Constraints.{Constraint}
+use Rattle.ps_pb.specs.declared.refused.StepRefused.{StepRefused}
+use Rattle.ps_pb.specs.declared.refused.StepRefused.TheVariants.{UnknownHint, HintIdle}
+use Rattle.ps_pb.specs.Steps.{Known, constraint_at, next_id, Step, lits_of, hints_of, Propagation, Open, Conflict, Refused, at_constraint, after_conflict, after_hint, after_hints, all_false, with_steps}
+use Rattle.ps_pb.proofs.Ids.{kept-all}
+use Rattle.ps_pb.proofs.Places.{after_hints-refused}
+use Rattle.ps_pb.proofs.Short.{lawful-start}
+use Rattle.ps_learn.proofs.Following.{learned-lawful}
+use Rattle.ps_clause.specs.Forms.{Form, first_known}
+use Rattle.ps_clause.specs.Spent.{IsSpentSearch}
 use Rattle.ps_learn.specs.Hints.{AreRefutedByHints}
 
 -- each known constraint stays known, under its id

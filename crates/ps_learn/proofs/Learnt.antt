@@ -5,21 +5,21 @@ use Rattle.std.proofs.lemmas.Bool.{cases_lt}
 use Rattle.std.proofs.lemmas.List.{append-nil}
 use Rattle.std.proofs.lemmas.List.Elements.{All-contains, All-contains_itself, All-weaker, Contains-append_left, Contains-push, Contains-push_cases}
 use Rattle.std.proofs.Math.Nat.{max-eq_right, max-eq_left}
-use Rattle.ps_steps.specs.Assignments.{Assignment, place, is_positive, literal_at, value_of, is_false, is_unset, AreDifferent}
-use Rattle.ps_steps.specs.Constraints.{Constraint, is_open, HasTerm}
-use Rattle.ps_steps.specs.Weights.{clause_of}
-use Rattle.ps_steps.specs.Steps.{Known, constraint_at, Step, lits_of, IsLawful, added, is_contradiction}
-use Rattle.ps_steps.proofs.Clauses.{different-differ, open-reads, place_of}
-use Rattle.ps_steps.proofs.Lawful.{constraint_at-more}
-use Rattle.ps_steps.proofs.Short.{lawful-different}
-use Rattle.ps_forms.specs.Decided.{IsIdle}
-use Rattle.ps_trail.specs.Trails.{TrailEntry, Trail, values, values_of, level, IsLit, AreFresh, AreLevels}
-use Rattle.ps_trail.specs.Levels.{level_at, greatest_level, IsAsserting}
-use Rattle.ps_trail.proofs.Entries.{get-taken}
-use Rattle.ps_trail.proofs.Distinct.{level-most}
-use Rattle.ps_trail.proofs.Keeping.{before-level}
+use Rattle.ps_pb.specs.Assignments.{Assignment, place, is_positive, literal_at, value_of, is_false, is_unset, AreDifferent}
+use Rattle.ps_pb.specs.Constraints.{Constraint, is_open, HasTerm}
+use Rattle.ps_pb.specs.Weights.{clause_of}
+use Rattle.ps_pb.specs.Steps.{Known, constraint_at, Step, lits_of, IsLawful, added, is_contradiction}
+use Rattle.ps_pb.proofs.Clauses.{different-differ, open-reads, place_of}
+use Rattle.ps_pb.proofs.Lawful.{constraint_at-more}
+use Rattle.ps_pb.proofs.Short.{lawful-different}
+use Rattle.ps_clause.specs.Decided.{IsIdle}
+use Rattle.ps_learn.specs.Trails.{TrailEntry, Trail, values, values_of, level, IsLit, AreFresh, AreLevels}
+use Rattle.ps_learn.specs.Levels.{level_at, greatest_level, IsAsserting}
+use Rattle.ps_learn.proofs.Entries.{get-taken}
+use Rattle.ps_learn.proofs.TrailDistinct.{level-most}
+use Rattle.ps_learn.proofs.Keeping.{before-level}
 use Rattle.ps_learn.specs.Falsity.{AreFalseIn}
-use Rattle.ps_forms.specs.Spent.{IncludesTerms}
+use Rattle.ps_clause.specs.Spent.{IncludesTerms}
 use Rattle.ps_learn.specs.Resting.{AreRested}
 use Rattle.ps_learn.proofs.Staying.{rest-lawless}
 use Rattle.ps_learn.proofs.Opening.{SetAt, set-at, set-level, Opens, opens, opening-level, low-value, high-unset}

@@ -1,3 +1,15 @@
+pub mod Entries
+pub mod Starting
+pub mod Following
+pub mod Marking
+pub mod Counting
+pub mod Levels
+pub mod Ranks
+pub mod TrailDistinct
+pub mod Keeping
+pub mod Asserting
+pub mod Pushing
+pub mod Cutting
 pub mod Steps
 pub mod Going
 pub mod Advancing

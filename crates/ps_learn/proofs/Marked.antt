@@ -1,11 +1,11 @@
 -- The causes of a conflict are marked back to the learned clause.
 use Rattle.std.proofs.Common.{ℕ, ℤ, List, arith, inl, inr}
 use Rattle.std.proofs.lemmas.Option.{slice_get_within}
-use Rattle.ps_steps.specs.Assignments.{Assignment}
-use Rattle.ps_steps.specs.Steps.{Known}
-use Rattle.ps_trail.specs.Trails.{Trail}
-use Rattle.ps_trail.specs.Causes.{Marks, HasMarkedCauses}
-use Rattle.ps_trail.specs.Starting.{AreKeptLits}
+use Rattle.ps_pb.specs.Assignments.{Assignment}
+use Rattle.ps_pb.specs.Steps.{Known}
+use Rattle.ps_learn.specs.Trails.{Trail}
+use Rattle.ps_learn.specs.Causes.{Marks, HasMarkedCauses}
+use Rattle.ps_learn.specs.Starting.{AreKeptLits}
 use Rattle.ps_learn.specs.Marks.{IsCaused, IsReached}
 
 pub has_marked_causes : (known : Known) (t : Trail) (conflict : ℕ) (marks kept : Marks) (lits : List ℤ) (a : Assignment) → IsCaused known t conflict marks kept → AreKeptLits t kept lits a → HasMarkedCauses known t conflict lits marks

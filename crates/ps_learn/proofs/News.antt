@@ -3,13 +3,13 @@ use Rattle.std.proofs.Common.{◌≡◌, ℕ, zero, suc, ◌<◌, ◌≤◌, Som
 use Rattle.std.specs.Prelude.{slice_get, unsigned_abs, All}
 use Rattle.std.proofs.lemmas.Option.{slice_get_within, get_or_from_slice_get}
 use Rattle.std.proofs.lemmas.List.Elements.{All-weaker}
-use Rattle.ps_steps.specs.Constraints.{Constraint}
-use Rattle.ps_steps.specs.Steps.{Known, constraint_at, Step, lits_of, added, with_step, with_steps, IsLawful, AreLawful}
-use Rattle.ps_steps.proofs.Ids.{at-id, kept-all}
-use Rattle.ps_steps.proofs.Short.{lawful-different}
-use Rattle.ps_forms.specs.Forms.{Form, HasClauses, clause_at, first_known}
-use Rattle.ps_trail.specs.Trails.{Trail, IsLit}
-use Rattle.ps_forms.specs.Spent.{IncludesTerms, IncludesLits, AreNew}
+use Rattle.ps_pb.specs.Constraints.{Constraint}
+use Rattle.ps_pb.specs.Steps.{Known, constraint_at, Step, lits_of, added, with_step, with_steps, IsLawful, AreLawful}
+use Rattle.ps_pb.proofs.Ids.{at-id, kept-all}
+use Rattle.ps_pb.proofs.Short.{lawful-different}
+use Rattle.ps_clause.specs.Forms.{Form, HasClauses, clause_at, first_known}
+use Rattle.ps_learn.specs.Trails.{Trail, IsLit}
+use Rattle.ps_clause.specs.Spent.{IncludesTerms, IncludesLits, AreNew}
 use Rattle.ps_learn.proofs.Terms.{has-clause}
 use Rattle.ps_learn.proofs.Learnt.{Learns, new-clause}
 use Rattle.ps_learn.proofs.Distinct.{form-clause}

@@ -5,16 +5,16 @@ use Rattle.std.specs.List.{filter}
 use Rattle.std.proofs.lemmas.Bool.{cases_eq, cases_lt}
 use Rattle.std.proofs.lemmas.List.{take_all}
 use Rattle.std.proofs.lemmas.Option.{slice_get_within}
-use Rattle.ps_steps.specs.Assignments.{place, is_positive, agree, value_of, with_true, is_unset}
-use Rattle.ps_steps.proofs.Setting.{value-other, value-own, unset-same}
-use Rattle.ps_steps.proofs.Lawful.{value-unset}
-use Rattle.ps_trail.specs.Trails.{TrailEntry, Trail, values_of, decisions, up_to, entry_of, AreFresh, AreLevels}
-use Rattle.ps_trail.specs.Levels.{level_at, level_or_zero}
-use Rattle.ps_trail.proofs.Entries.{values-more, length-values}
-use Rattle.ps_trail.proofs.Levels.{levels-rise, below}
-use Rattle.ps_trail.proofs.Marking.{values-earlier, unset-earlier}
-use Rattle.ps_trail.proofs.Distinct.{entry-found, decisions-next}
-use Rattle.ps_trail.proofs.Keeping.{before-level}
+use Rattle.ps_pb.specs.Assignments.{place, is_positive, agree, value_of, with_true, is_unset}
+use Rattle.ps_pb.proofs.Setting.{value-other, value-own, unset-same}
+use Rattle.ps_pb.proofs.Lawful.{value-unset}
+use Rattle.ps_learn.specs.Trails.{TrailEntry, Trail, values_of, decisions, up_to, entry_of, AreFresh, AreLevels}
+use Rattle.ps_learn.specs.Levels.{level_at, level_or_zero}
+use Rattle.ps_learn.proofs.Entries.{values-more, length-values}
+use Rattle.ps_learn.proofs.Levels.{levels-rise, below}
+use Rattle.ps_learn.proofs.Marking.{values-earlier, unset-earlier}
+use Rattle.ps_learn.proofs.TrailDistinct.{entry-found, decisions-next}
+use Rattle.ps_learn.proofs.Keeping.{before-level}
 
 -- the entry that set a literal's variable
 pub record SetAt (es : List TrailEntry) (l : ℤ) : Type 0 where

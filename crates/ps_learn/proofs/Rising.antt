@@ -3,16 +3,16 @@ use Rattle.std.proofs.Common.{◌≡◌, ℕ, zero, suc, ◌+◌, ◌<◌, ◌�
 use Rattle.std.specs.Prelude.{slice_get}
 use Rattle.std.proofs.lemmas.List.{append-nil}
 use Rattle.std.proofs.lemmas.Option.{slice_get_within}
-use Rattle.ps_steps.specs.Assignments.{place, value_of}
-use Rattle.ps_steps.specs.Constraints.{Constraint, is_open, HasTerm, is_violated}
-use Rattle.ps_steps.specs.Steps.{Known, constraint_at, Step, lits_of, added}
-use Rattle.ps_steps.proofs.Clauses.{different-differ}
-use Rattle.ps_steps.proofs.Lawful.{constraint_at-more}
-use Rattle.ps_steps.proofs.Short.{lawful-different}
-use Rattle.ps_forms.specs.Decided.{IsIdle}
-use Rattle.ps_trail.specs.Trails.{TrailEntry, Trail, values_of, rank, unset_count, IsConflict}
-use Rattle.ps_trail.proofs.Counting.{counted}
-use Rattle.ps_trail.proofs.Ranks.{rank-rises, rank-bound}
+use Rattle.ps_pb.specs.Assignments.{place, value_of}
+use Rattle.ps_pb.specs.Constraints.{Constraint, is_open, HasTerm, is_violated}
+use Rattle.ps_pb.specs.Steps.{Known, constraint_at, Step, lits_of, added}
+use Rattle.ps_pb.proofs.Clauses.{different-differ}
+use Rattle.ps_pb.proofs.Lawful.{constraint_at-more}
+use Rattle.ps_pb.proofs.Short.{lawful-different}
+use Rattle.ps_clause.specs.Decided.{IsIdle}
+use Rattle.ps_learn.specs.Trails.{TrailEntry, Trail, values_of, rank, unset_count, IsConflict}
+use Rattle.ps_learn.proofs.Counting.{counted}
+use Rattle.ps_learn.proofs.Ranks.{rank-rises, rank-bound}
 use Rattle.ps_learn.specs.Resting.{AreRested, HasRisen}
 use Rattle.ps_learn.proofs.Opening.{Opens, opening-level}
 use Rattle.ps_learn.proofs.Terms.{clause-has, literal-same}

@@ -4,17 +4,17 @@ use Rattle.std.specs.Prelude.{int_lt, pos, nat_lt}
 use Rattle.std.specs.List.{fold, All}
 use Rattle.std.proofs.lemmas.List.Elements.{All-head, All-tail}
 use Rattle.std.proofs.lemmas.Bool.{cases_Bool, and_parts}
-use Rattle.ps_steps.specs.Assignments.{Assignment, place, is_positive, agree, value_of, with_false, is_false, is_unset, all_unset, Includes}
-use Rattle.ps_steps.specs.Constraints.{Constraint, Covers, HasTerm, Forces, slack, is_violated, is_forced, some_forced, with_forced}
-use Rattle.ps_steps.specs.Steps.{Known, constraint_at, Step, lits_of, hints_of, Propagation, Open, Conflict, Refused, at_constraint, after_hint, after_hints, and_false, all_false, IsLawful}
-use Rattle.ps_steps.proofs.Values.{includes-refl, includes-trans, signed-some, value-set}
-use Rattle.ps_steps.proofs.Forcing.{Among, among-refl, among-rest, next_forced, next-includes, lt-of}
-use Rattle.ps_steps.proofs.Setting.{includes-one, unset-below, forced-some}
-use Rattle.ps_steps.proofs.Covering.{covers-violated, forced-stay}
-use Rattle.ps_steps.proofs.Places.{and_false-none}
-use Rattle.ps_steps.proofs.Lawful.{value-unset}
-use Rattle.ps_steps.proofs.Short.{lawful-start}
-use Rattle.ps_forms.specs.Decided.{IsIdle}
+use Rattle.ps_pb.specs.Assignments.{Assignment, place, is_positive, agree, value_of, with_false, is_false, is_unset, all_unset, Includes}
+use Rattle.ps_pb.specs.Constraints.{Constraint, Covers, HasTerm, Forces, slack, is_violated, is_forced, some_forced, with_forced}
+use Rattle.ps_pb.specs.Steps.{Known, constraint_at, Step, lits_of, hints_of, Propagation, Open, Conflict, Refused, at_constraint, after_hint, after_hints, and_false, all_false, IsLawful}
+use Rattle.ps_pb.proofs.Values.{includes-refl, includes-trans, signed-some, value-set}
+use Rattle.ps_pb.proofs.Forcing.{Among, among-refl, among-rest, next_forced, next-includes, lt-of}
+use Rattle.ps_pb.proofs.Setting.{includes-one, unset-below, forced-some}
+use Rattle.ps_pb.proofs.Covering.{covers-violated, forced-stay}
+use Rattle.ps_pb.proofs.Places.{and_false-none}
+use Rattle.ps_pb.proofs.Lawful.{value-unset}
+use Rattle.ps_pb.proofs.Short.{lawful-start}
+use Rattle.ps_clause.specs.Decided.{IsIdle}
 use Rattle.ps_learn.specs.Rest.{IsAtRest}
 
 open_by : (o p : Option Bool) → (o ≡ Some false → p ≡ Some false) → not (is_false p) ≡ true → not (is_false o) ≡ true

@@ -6,22 +6,22 @@ use Rattle.std.proofs.lemmas.List.Elements.{All-push}
 use Rattle.std.proofs.lemmas.Option.{slice_get_read}
 use Rattle.std.proofs.lemmas.Bool.{cases_lt}
 use Rattle.std.proofs.lemmas.List.{get_or_default, get_or_past}
-use Rattle.ps_steps.specs.Assignments.{Assignment, place, value_of, all_unset}
-use Rattle.ps_steps.specs.Constraints.{Constraint, HasTerm, Forces, is_violated}
-use Rattle.ps_steps.specs.Weights.{Weighted, terms_of}
-use Rattle.ps_steps.specs.Steps.{Known, known_of, constraint_at, Open, Conflict, after_hints}
-use Rattle.ps_trail.specs.Trails.{TrailEntry, Trail, values_of, IsReason, AreFresh, AreLevels, AreReasons, IsConflict}
-use Rattle.ps_trail.specs.Causes.{Marks, is_marked, AreCovered, IsExplained}
-use Rattle.ps_steps.proofs.Values.{signed-some}
-use Rattle.ps_steps.proofs.Setting.{rising-distinct}
+use Rattle.ps_pb.specs.Assignments.{Assignment, place, value_of, all_unset}
+use Rattle.ps_pb.specs.Constraints.{Constraint, HasTerm, Forces, is_violated}
+use Rattle.ps_pb.specs.Weights.{Weighted, terms_of}
+use Rattle.ps_pb.specs.Steps.{Known, known_of, constraint_at, Open, Conflict, after_hints}
+use Rattle.ps_learn.specs.Trails.{TrailEntry, Trail, values_of, IsReason, AreFresh, AreLevels, AreReasons, IsConflict}
+use Rattle.ps_learn.specs.Causes.{Marks, is_marked, AreCovered, IsExplained}
+use Rattle.ps_pb.proofs.Values.{signed-some}
+use Rattle.ps_pb.proofs.Setting.{rising-distinct}
 use Rattle.ps_pb.proofs.Searched.{has_term-at}
-use Rattle.ps_trail.specs.Starting.{Started}
-use Rattle.ps_trail.proofs.Starting.{started-none, started-skip, started-keep}
-use Rattle.ps_trail.proofs.Asserting.{Asserted, asserted-none, asserted-skip, asserted-keep}
-use Rattle.ps_trail.specs.Keeping.{IsKeptOnce}
-use Rattle.ps_trail.proofs.Following.{Followed, followed-unmarked, followed-true, followed-violated, followed-forced, followed-idle, followed-end, known-id, IsKnownId}
-use Rattle.ps_trail.specs.Marking.{Grows, AddsFalseIn}
-use Rattle.ps_trail.proofs.Marking.{grows-refl, grows-trans, marked-set, grows-set, own-set}
+use Rattle.ps_learn.specs.Starting.{Started}
+use Rattle.ps_learn.proofs.Starting.{started-none, started-skip, started-keep}
+use Rattle.ps_learn.proofs.Asserting.{Asserted, asserted-none, asserted-skip, asserted-keep}
+use Rattle.ps_learn.specs.Keeping.{IsKeptOnce}
+use Rattle.ps_learn.proofs.Following.{Followed, followed-unmarked, followed-true, followed-violated, followed-forced, followed-idle, followed-end, known-id, IsKnownId}
+use Rattle.ps_learn.specs.Marking.{Grows, AddsFalseIn}
+use Rattle.ps_learn.proofs.Marking.{grows-refl, grows-trans, marked-set, grows-set, own-set}
 use Rattle.ps_learn.specs.Marks.{MarksCause, IsReached}
 use Rattle.ps_learn.specs.Drawing.{AddsIf, AddsKept, Passes, EndsInConflict}
 use Rattle.ps_learn.specs.declared.learning.Kept.{Kept}

@@ -4,11 +4,11 @@ use Rattle.std.specs.Prelude.{unsigned_abs, Contains, All}
 use Rattle.std.proofs.lemmas.Int.{ints}
 use Rattle.std.proofs.lemmas.Bool.{cases_eq}
 use Rattle.std.proofs.lemmas.List.Elements.{All-contains}
-use Rattle.ps_steps.specs.Assignments.{place, is_positive, literal_at, AreDifferent}
-use Rattle.ps_steps.specs.Constraints.{HasTerm}
-use Rattle.ps_steps.specs.Weights.{coefficient_at, term_at, terms_below, last_variable, constraint_of, each_once, clause_of}
-use Rattle.ps_steps.proofs.Linear.{coefficient-elsewhere, coefficient-own}
-use Rattle.ps_steps.proofs.Clauses.{HasNoneAt, Differ, different-differ, none-zero}
+use Rattle.ps_pb.specs.Assignments.{place, is_positive, literal_at, AreDifferent}
+use Rattle.ps_pb.specs.Constraints.{HasTerm}
+use Rattle.ps_pb.specs.Weights.{coefficient_at, term_at, terms_below, last_variable, constraint_of, each_once, clause_of}
+use Rattle.ps_pb.proofs.Linear.{coefficient-elsewhere, coefficient-own}
+use Rattle.ps_pb.proofs.Clauses.{HasNoneAt, Differ, different-differ, none-zero}
 
 -- ---- elements
 pub contains-here : (l : ℤ) (ls : List ℤ) → Contains (l ∷ ls) l

@@ -1,12 +1,12 @@
 -- How a clause is learned.
 use Rattle.std.specs.Prelude.{ℕ, suc, ◌≡◌, ◌≢◌, ◌≤◌, ◌∷◌, [], ◌++◌, neg_ℤ, Bool, true, false, Some, None, List, length, All}
-use Rattle.ps_steps.specs.Assignments.{Assignment, value_of, with_false}
-use Rattle.ps_steps.specs.Constraints.{Constraint}
-use Rattle.ps_steps.specs.Weights.{weighted, IsNormal}
-use Rattle.ps_steps.specs.Steps.{Known, known_of, constraint_at, after_hints, Open, Conflict}
-use Rattle.ps_trail.specs.Trails.{TrailEntry}
-use Rattle.ps_trail.specs.Causes.{Marks, is_marked}
-use Rattle.ps_trail.specs.Known.{IsIdUpTo}
+use Rattle.ps_pb.specs.Assignments.{Assignment, value_of, with_false}
+use Rattle.ps_pb.specs.Constraints.{Constraint}
+use Rattle.ps_pb.specs.Weights.{weighted, IsNormal}
+use Rattle.ps_pb.specs.Steps.{Known, known_of, constraint_at, after_hints, Open, Conflict}
+use Rattle.ps_learn.specs.Trails.{TrailEntry}
+use Rattle.ps_learn.specs.Causes.{Marks, is_marked}
+use Rattle.ps_learn.specs.Known.{IsIdUpTo}
 use Rattle.ps_pb.specs.Effects.{Propagates}
 use Rattle.ps_pb.specs.declared.propagation.Effect.{Effect}
 use Rattle.ps_learn.specs.declared.learning.Kept.{Kept}

@@ -1,8 +1,8 @@
 -- What hints alone refute.
 use Rattle.std.specs.Prelude.{◌≡◌, true}
-use Rattle.ps_steps.specs.Constraints.{Constraint}
-use Rattle.ps_steps.specs.Steps.{Step, is_contradiction, IsLawful}
-use Rattle.ps_forms.specs.Forms.{Form, first_known}
+use Rattle.ps_pb.specs.Constraints.{Constraint}
+use Rattle.ps_pb.specs.Steps.{Step, is_contradiction, IsLawful}
+use Rattle.ps_clause.specs.Forms.{Form, first_known}
 
 -- hints alone refute a form and a goal: some contradiction is lawful before all other steps
 pub record AreRefutedByHints (form : Form) (goal : Constraint) : Type 0 where

@@ -1,8 +1,8 @@
 -- What is learned from a conflict.
 use Rattle.std.specs.Prelude.{ℕ}
-use Rattle.ps_steps.specs.Steps.{Known, lits_of}
-use Rattle.ps_trail.specs.Trails.{Trail}
-use Rattle.ps_trail.specs.Causes.{HasMarkedCauses}
+use Rattle.ps_pb.specs.Steps.{Known, lits_of}
+use Rattle.ps_learn.specs.Trails.{Trail}
+use Rattle.ps_learn.specs.Causes.{HasMarkedCauses}
 use Rattle.ps_learn.specs.declared.learning.Learned.{Learned}
 
 -- the causes of the conflict are marked, back to the learned clause

@@ -1,13 +1,13 @@
 -- Marking causes.
 use Rattle.std.specs.Prelude.{ℕ, ◌≡◌, ℤ, Bool, true, false, Option, Some, None, List, take, length, slice_get, slice_set, ◌⊎◌}
-use Rattle.ps_steps.specs.Assignments.{Assignment, place, value_of}
-use Rattle.ps_steps.specs.Constraints.{Constraint}
-use Rattle.ps_steps.specs.Steps.{Known, known_of}
-use Rattle.ps_trail.specs.Trails.{TrailEntry, Trail, values, values_of, level}
-use Rattle.ps_trail.specs.Causes.{Marks, is_marked, IsCoveredAt, IsExplained, AreExplained, IsFalseAt, IsFalseInReason}
-use Rattle.ps_trail.specs.Marking.{Grows, AddsReason, AddsReasons}
-use Rattle.ps_trail.specs.Keeping.{IsKeptOnce, IsToExplain, Marking, marked_in, kept_in, IsKeptOrNot}
-use Rattle.ps_trail.specs.Keeping.{SomeIsMarked, NoneIsMarked}
+use Rattle.ps_pb.specs.Assignments.{Assignment, place, value_of}
+use Rattle.ps_pb.specs.Constraints.{Constraint}
+use Rattle.ps_pb.specs.Steps.{Known, known_of}
+use Rattle.ps_learn.specs.Trails.{TrailEntry, Trail, values, values_of, level}
+use Rattle.ps_learn.specs.Causes.{Marks, is_marked, IsCoveredAt, IsExplained, AreExplained, IsFalseAt, IsFalseInReason}
+use Rattle.ps_learn.specs.Marking.{Grows, AddsReason, AddsReasons}
+use Rattle.ps_learn.specs.Keeping.{IsKeptOnce, IsToExplain, Marking, marked_in, kept_in, IsKeptOrNot}
+use Rattle.ps_learn.specs.Keeping.{SomeIsMarked, NoneIsMarked}
 use Rattle.ps_learn.specs.declared.explaining.Causes.{Causes}
 
 -- the variable of a false literal is marked

@@ -1,11 +1,11 @@
 -- Where propagation ends.
 use Rattle.std.specs.Prelude.{ℕ, ◌≡◌, Option, Some, None, List, ◌++◌}
-use Rattle.ps_steps.specs.Assignments.{Assignment}
-use Rattle.ps_steps.specs.Constraints.{Constraint}
-use Rattle.ps_steps.specs.Steps.{Known, constraint_at}
-use Rattle.ps_trail.specs.Trails.{TrailEntry, IsConflict}
-use Rattle.ps_forms.specs.Forms.{Form}
-use Rattle.ps_forms.specs.Decided.{IsIdle, AtomsAreSet}
+use Rattle.ps_pb.specs.Assignments.{Assignment}
+use Rattle.ps_pb.specs.Constraints.{Constraint}
+use Rattle.ps_pb.specs.Steps.{Known, constraint_at}
+use Rattle.ps_learn.specs.Trails.{TrailEntry, IsConflict}
+use Rattle.ps_clause.specs.Forms.{Form}
+use Rattle.ps_clause.specs.Decided.{IsIdle, AtomsAreSet}
 
 -- no known constraint is violated or forces a literal
 pub record IsAtRest (known : Known) (a : Assignment) : Type 0 where

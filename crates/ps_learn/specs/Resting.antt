@@ -1,8 +1,8 @@
 -- What a search keeps of the levels of its trail.
 use Rattle.std.specs.Prelude.{ℕ, ◌≡◌, ◌≤◌, true, Some, None, List, ◌++◌, take, slice_get, unsigned_abs}
-use Rattle.ps_steps.specs.Steps.{Known}
-use Rattle.ps_forms.specs.Forms.{Form, is_atom_variable}
-use Rattle.ps_trail.specs.Trails.{TrailEntry, values_of, rank, IsConflict}
+use Rattle.ps_pb.specs.Steps.{Known}
+use Rattle.ps_clause.specs.Forms.{Form, is_atom_variable}
+use Rattle.ps_learn.specs.Trails.{TrailEntry, values_of, rank, IsConflict}
 use Rattle.ps_learn.specs.Rest.{IsAtRest}
 
 -- before each decided literal no known constraint is violated or forces a literal: those that were known then, since propagation

@@ -1,18 +1,19 @@
 //! The causes of a conflict, back over the trail.
 ghost use Rattle.std.specs.Prelude.{◌≡◌, ◌<◌, ℤ, true, false, take, length, IfOk};
-ghost use Rattle.ps_steps.specs.Assignments.{place};
-ghost use Rattle.ps_steps.specs.Steps.{known_of};
-ghost use Rattle.ps_trail.specs.Trails.{values, values_of, level, IsConflict, AreReasons};
-ghost use Rattle.ps_trail.specs.Causes.{is_marked, IsCoveredAt};
-ghost use Rattle.ps_trail.specs.Marking.{Grows, AddsFalseAt};
-ghost use Rattle.ps_trail.specs.Keeping.{IsKeptOnce, IsToExplain};
+ghost use Rattle.ps_pb.specs.Assignments.{place};
+ghost use Rattle.ps_pb.specs.Steps.{known_of};
+ghost use Rattle.ps_learn.specs.Trails.{values, values_of, level, IsConflict, AreReasons};
+ghost use Rattle.ps_learn.specs.Causes.{is_marked, IsCoveredAt};
+ghost use Rattle.ps_learn.specs.Marking.{Grows, AddsFalseAt};
+ghost use Rattle.ps_learn.specs.Keeping.{IsKeptOnce, IsToExplain};
 ghost use Rattle.ps_learn.specs.Marks.{Explains, ExplainsAt, IsMarkedBefore};
 ghost use Rattle.ps_learn.specs.Marks.{IsCaused, IsTrailExplained, AddsTrailReasons, AreCauses};
 
+use crate::entry::TrailEntry;
 use crate::marks::{is_marked, mark, mark_causes};
+use crate::trail::Trail;
 use ps_io::{List, NoMemory};
 use ps_pb::{Assignment, Constraint, constraint_at};
-use ps_trail::{Trail, TrailEntry};
 use std::alloc::Global;
 
 /// The marked variables are causes, and those of the learned clause are kept.

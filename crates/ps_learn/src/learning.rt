@@ -1,22 +1,23 @@
 //! Learning a clause from a conflict.
 ghost use Rattle.std.specs.Prelude.{◌≡◌, ◌≤◌, ◌+◌, length, true, IfOk, All};
-ghost use Rattle.ps_steps.specs.Assignments.{all_unset};
-ghost use Rattle.ps_steps.specs.Steps.{IsLawful, known_of, lits_of, hints_of, is_contradiction};
-ghost use Rattle.ps_trail.specs.Known.{most_known, IsIdUpTo};
-ghost use Rattle.ps_trail.specs.Trails.{values, level, IsLit, AreReasons, IsConflict};
-ghost use Rattle.ps_trail.specs.Levels.{IsAsserting};
-ghost use Rattle.ps_trail.specs.Keeping.{IsKeptOnce};
-ghost use Rattle.ps_trail.specs.Starting.{AreKeptLits};
+ghost use Rattle.ps_pb.specs.Assignments.{all_unset};
+ghost use Rattle.ps_pb.specs.Steps.{IsLawful, known_of, lits_of, hints_of, is_contradiction};
+ghost use Rattle.ps_learn.specs.Known.{most_known, IsIdUpTo};
+ghost use Rattle.ps_learn.specs.Trails.{values, level, IsLit, AreReasons, IsConflict};
+ghost use Rattle.ps_learn.specs.Levels.{IsAsserting};
+ghost use Rattle.ps_learn.specs.Keeping.{IsKeptOnce};
+ghost use Rattle.ps_learn.specs.Starting.{AreKeptLits};
 ghost use Rattle.ps_learn.specs.Learning.{MarksCauses};
 ghost use Rattle.ps_learn.specs.Marks.{IsReached};
 ghost use Rattle.ps_learn.specs.Falsity.{AreFalseIn};
 ghost use Rattle.ps_learn.specs.Drawing.{AddsKept, Passes, EndsInConflict};
 
+use crate::entry::TrailEntry;
 use crate::explaining::explain_conflict;
 use crate::marks::is_marked;
+use crate::trail::Trail;
 use ps_io::{List, NoMemory};
 use ps_pb::{Assignment, Constraint, Effect, Hints, Lits, Step, constraint_at, propagate};
-use ps_trail::{Trail, TrailEntry};
 use std::alloc::Global;
 
 /// A step, the level to go on from, and the marked variables: those of the false literals of the

@@ -1,8 +1,8 @@
 //! Marks of variables.
 ghost use Rattle.std.specs.Prelude.{◌≡◌, length, true, false, Some, slice_set};
-ghost use Rattle.ps_steps.specs.Assignments.{place, value_of};
-ghost use Rattle.ps_trail.specs.Causes.{is_marked, AreCovered};
-ghost use Rattle.ps_trail.specs.Marking.{Grows, AddsFalseIn};
+ghost use Rattle.ps_pb.specs.Assignments.{place, value_of};
+ghost use Rattle.ps_learn.specs.Causes.{is_marked, AreCovered};
+ghost use Rattle.ps_learn.specs.Marking.{Grows, AddsFalseIn};
 ghost use Rattle.ps_learn.specs.Marks.{MarksCause};
 
 use ps_pb::{Assignment, Constraint, Lit};

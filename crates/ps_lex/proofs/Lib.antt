@@ -5,3 +5,6 @@ pub mod Places
 pub mod Begun
 pub mod Passing
 pub mod Letters
+pub mod Figures
+pub mod Groups
+pub mod Seen

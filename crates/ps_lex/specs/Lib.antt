@@ -5,3 +5,6 @@ pub mod Lexing
 pub mod Seen
 pub mod Passing
 pub mod Told
+-- Bridge: a stack as a list, and what kept tokens and states stand for
+pub mod Stacks
+pub mod KeptTokens

@@ -4,7 +4,7 @@ use Rattle.std.specs.Char.{digit_value}
 use Rattle.std.specs.Str.Parse.{AllDigits, digits_value, digits_value_after}
 use Rattle.std.proofs.lemmas.Str.Parse.{digit_from_value}
 use Rattle.std.proofs.lemmas.Str.{digit_value_digit}
-use Rattle.ps_steps.specs.Weights.{are_rising}
+use Rattle.ps_pb.specs.Weights.{are_rising}
 use Rattle.ps_log.specs.Spellings.{words_of, IsPlain, IsDecimal, Spells, SpellAll}
 use Rattle.ps_log.specs.Numbers.{words_after}
 use Rattle.ps_log.specs.GoalNumbers.{size_word, pairs_from, TellsLess, HasVariable, HasOneWord, TellsRising}

@@ -2,8 +2,8 @@
 use Rattle.std.proofs.Common.{◌≡◌, ◌≢◌, ℕ, ◌≤◌, ℤ, pos, true, false, List, [], ◌∷◌, ◌++◌, map, Result, Ok, Err, Option, None, Some, refl, sym, ap, subst, ◌∙◌, arith, All, true≢false, get_or, length}
 use Rattle.std.specs.List.{list_all}
 use Rattle.std.proofs.lemmas.List.{append_cancel_right, map-append}
-use Rattle.ps_steps.specs.Constraints.{Constraint}
-use Rattle.ps_steps.specs.Weights.{weighted, terms_of, are_rising}
+use Rattle.ps_pb.specs.Constraints.{Constraint}
+use Rattle.ps_pb.specs.Weights.{weighted, terms_of, are_rising}
 use Rattle.ps_pb.specs.Weighing.{linear}
 use Rattle.ps_log.specs.Texts.{goal_numbers, term_numbers, goal_line}
 use Rattle.ps_log.specs.Limits.{IsGoalWithin}

@@ -4,9 +4,9 @@ use Rattle.std.specs.Prelude.{int_le}
 use Rattle.std.proofs.lemmas.Int.{ints}
 use Rattle.std.proofs.lemmas.Bool.{and_parts, and_from}
 use Rattle.std.proofs.lemmas.List.Elements.{All-cons, All-nil, All-head, All-tail}
-use Rattle.ps_steps.specs.Constraints.{Constraint}
-use Rattle.ps_steps.specs.Weights.{Weighted, weighted, terms_of, IsNormal}
-use Rattle.ps_steps.proofs.Bounds.{IsPositive}
+use Rattle.ps_pb.specs.Constraints.{Constraint}
+use Rattle.ps_pb.specs.Weights.{Weighted, weighted, terms_of, IsNormal}
+use Rattle.ps_pb.proofs.Bounds.{IsPositive}
 use Rattle.ps_pb.specs.Limits.{IsLiteral}
 use Rattle.ps_pb.specs.Weighing.{linear}
 use Rattle.ps_pb.proofs.Summed.{weighted-terms_of}

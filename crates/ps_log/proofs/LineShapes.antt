@@ -16,9 +16,9 @@ use Rattle.std.proofs.lemmas.List.Elements.{All-cons, All-nil}
 use Rattle.std.proofs.lemmas.Option.{none-some, same_Some}
 use Rattle.std.proofs.lemmas.Slice.Eq.{slice_eq-Decides, bytes_eq-Decides}
 use Rattle.std.proofs.Math.Seq.{take-append_seam}
-use Rattle.ps_steps.specs.Constraints.{Constraint}
-use Rattle.ps_steps.specs.Steps.{Step}
-use Rattle.ps_steps.specs.Weights.{weighted, are_rising}
+use Rattle.ps_pb.specs.Constraints.{Constraint}
+use Rattle.ps_pb.specs.Steps.{Step}
+use Rattle.ps_pb.specs.Weights.{weighted, are_rising}
 use Rattle.ps_log.specs.GoalTexts.{IsGoalText}
 use Rattle.ps_log.specs.Spellings.{IsPlain, Spells, SpellAll}
 use Rattle.ps_log.specs.Spellings.{words_of}

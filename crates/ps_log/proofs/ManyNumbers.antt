@@ -7,7 +7,7 @@ use Rattle.ps_io.specs.LineText.{with_word}
 use Rattle.ps_io.proofs.CallerLemmas.{flat_map-at}
 use Rattle.ps_io.specs.Lines.{text_of}
 use Rattle.ps_io.specs.declared.lines.Lines.{Lines}
-use Rattle.ps_steps.specs.Weights.{Weighted}
+use Rattle.ps_pb.specs.Weights.{Weighted}
 use Rattle.ps_log.specs.Lines.{HoldsLine}
 use Rattle.ps_log.specs.Texts.{with_number, with_numbers, hint_numbers, term_numbers, step_numbers, goal_numbers}
 

@@ -6,9 +6,9 @@ use Rattle.std.specs.Str.Parse.{AllDigits}
 use Rattle.std.proofs.lemmas.Fmt.{decimal_is_IsNumeral_wide}
 use Rattle.std.proofs.lemmas.Bool.{eqb-true}
 use Rattle.ps_io.specs.LineText.{with_word}
-use Rattle.ps_steps.specs.Weights.{Weighted, weighted, size_sum}
-use Rattle.ps_steps.specs.Constraints.{Constraint}
-use Rattle.ps_steps.specs.Steps.{Step}
+use Rattle.ps_pb.specs.Weights.{Weighted, weighted, size_sum}
+use Rattle.ps_pb.specs.Constraints.{Constraint}
+use Rattle.ps_pb.specs.Steps.{Step}
 use Rattle.ps_log.specs.Texts.{with_number, with_numbers, hint_numbers, term_numbers, step_numbers, goal_numbers, step_line, goal_line}
 use Rattle.ps_log.specs.Limits.{IsId, IsStepWithin, IsGoalWithin}
 use Rattle.ps_pb.specs.Limits.{IsLiteral}

@@ -2,7 +2,7 @@
 use Rattle.std.proofs.Common.{◌≡◌, ◌≢◌, ℕ, ℤ, true, List, [], ◌∷◌, map, Result, Ok, Err, None, refl, sym, ap, subst, ◌∙◌, arith, All}
 use Rattle.std.specs.List.{list_all}
 use Rattle.std.specs.Fmt.{signed_decimal}
-use Rattle.ps_steps.specs.Steps.{Step}
+use Rattle.ps_pb.specs.Steps.{Step}
 use Rattle.ps_log.specs.Texts.{step_numbers, step_line}
 use Rattle.ps_log.specs.Limits.{IsStepWithin}
 use Rattle.ps_log.specs.Spellings.{words_of, SpellAll}

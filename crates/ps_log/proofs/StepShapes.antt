@@ -3,7 +3,7 @@ use Rattle.std.proofs.Common.{◌≡◌, ℕ, zero, suc, ◌<◌, ◌≤◌, ◌
 use Rattle.std.proofs.lemmas.Int.{ints}
 use Rattle.std.proofs.lemmas.List.{append_cancel_right, map-append}
 use Rattle.std.proofs.lemmas.List.Elements.{All-cons, All-nil}
-use Rattle.ps_steps.specs.Steps.{Step}
+use Rattle.ps_pb.specs.Steps.{Step}
 use Rattle.ps_log.specs.Texts.{step_numbers, hint_numbers}
 use Rattle.ps_log.specs.Limits.{IsId, IsStepWithin}
 use Rattle.ps_pb.specs.Limits.{IsLiteral}

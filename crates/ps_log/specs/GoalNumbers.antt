@@ -1,8 +1,8 @@
 -- The numbers of a goal, and its parts among them.
 use Rattle.std.specs.Prelude.{ℕ, ◌==◌, ◌≡◌, nat_lt, int_le, ℤ, pos, Bool, true, false, ◌&&◌}
 use Rattle.std.specs.Prelude.{if◌then◌else◌, List, [], ◌∷◌, ◌++◌, All, Result, Ok, Err, Option, ⊤}
-use Rattle.ps_steps.specs.Constraints.{Constraint}
-use Rattle.ps_steps.specs.Weights.{Weighted, are_rising}
+use Rattle.ps_pb.specs.Constraints.{Constraint}
+use Rattle.ps_pb.specs.Weights.{Weighted, are_rising}
 use Rattle.ps_pb.specs.Limits.{IsLiteral}
 use Rattle.ps_pb.specs.Weighing.{linear}
 use Rattle.ps_log.specs.Limits.{IsGoalWithin}

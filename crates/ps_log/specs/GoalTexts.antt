@@ -1,7 +1,7 @@
 -- Texts of goals, with numbers of any size, and what is answered of the first line of some bytes.
 use Rattle.std.specs.Prelude.{ℕ, ◌≡◌, ◌≤◌, Bool, true, List, [], ◌∷◌, All, Result}
-use Rattle.ps_steps.specs.Constraints.{Constraint}
-use Rattle.ps_steps.specs.Weights.{weighted, are_rising}
+use Rattle.ps_pb.specs.Constraints.{Constraint}
+use Rattle.ps_pb.specs.Weights.{weighted, are_rising}
 use Rattle.ps_log.specs.Texts.{goal_numbers, goal_line}
 use Rattle.ps_log.specs.Limits.{IsGoalWithin}
 use Rattle.ps_log.specs.Spellings.{words_of, SpellAll}

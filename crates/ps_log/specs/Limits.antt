@@ -1,12 +1,12 @@
 -- The limits of goals and steps.
 use Rattle.std.specs.Prelude.{ℕ, ◌≤◌, All, length}
-use Rattle.ps_steps.specs.Constraints.{Constraint}
-use Rattle.ps_steps.specs.Steps.{Step}
-use Rattle.ps_steps.specs.Weights.{weighted, IsNormal}
+use Rattle.ps_pb.specs.Constraints.{Constraint}
+use Rattle.ps_pb.specs.Steps.{Step}
+use Rattle.ps_pb.specs.Weights.{weighted, IsNormal}
 use Rattle.ps_pb.specs.Limits.{IsLiteral}
 use Rattle.ps_pb.specs.declared.limits.TheConstants.{MOST_VARIABLES}
 use Rattle.ps_log.specs.declared.limits.TheConstants.{MOST_HINTS}
-use Rattle.ps_steps.specs.declared.limits.TheConstants.{MOST_IDS}
+use Rattle.ps_pb.specs.declared.limits.TheConstants.{MOST_IDS}
 
 -- a number that names a constraint is within its limit
 abbrev pub IsId : ℕ → Type 0

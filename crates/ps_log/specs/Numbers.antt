@@ -3,12 +3,12 @@ use Rattle.std.specs.Prelude.{ℕ, suc, ◌+◌, ◌≡◌, ◌≢◌, ◌≤◌
 use Rattle.std.specs.Prelude.{◌∷◌, ◌++◌, map, All, length, unsigned_abs, Result, Ok, Err, Option, Some, None, ⊤}
 use Rattle.std.specs.Str.Parse.{digits_value}
 use Rattle.ps_log.specs.Spellings.{words_of, IsPlain, IsDecimal, Spells, SpellAll}
-use Rattle.ps_steps.specs.Steps.{Step}
+use Rattle.ps_pb.specs.Steps.{Step}
 use Rattle.ps_log.specs.Texts.{hint_numbers}
 use Rattle.ps_log.specs.Limits.{IsId, IsStepWithin}
 use Rattle.ps_log.specs.declared.limits.TheConstants.{MOST_HINTS}
 use Rattle.ps_pb.specs.Limits.{IsLiteral}
-use Rattle.ps_steps.specs.declared.limits.TheConstants.{MOST_SIZE}
+use Rattle.ps_pb.specs.declared.limits.TheConstants.{MOST_SIZE}
 use Rattle.ps_pb.specs.declared.limits.TheConstants.{MOST_VARIABLES}
 use Rattle.ps_log.specs.declared.line_error.LineError.{LineError}
 use Rattle.ps_log.specs.declared.line_error.LineError.TheVariants.{Truncated, BadByte, NotCanonical, TooLarge, NoMemory}

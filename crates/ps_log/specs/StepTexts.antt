@@ -1,6 +1,6 @@
 -- Texts of steps, with numbers of any size, and what is answered of the first line of some bytes.
 use Rattle.std.specs.Prelude.{ℕ, ◌≡◌, ◌≤◌, Bool, List, [], ◌∷◌, All, unsigned_abs, Result}
-use Rattle.ps_steps.specs.Steps.{Step}
+use Rattle.ps_pb.specs.Steps.{Step}
 use Rattle.ps_log.specs.Texts.{step_numbers, step_line}
 use Rattle.ps_log.specs.Limits.{IsStepWithin}
 use Rattle.ps_log.specs.Spellings.{words_of, SpellAll}

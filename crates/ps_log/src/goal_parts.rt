@@ -1,7 +1,7 @@
 //! The parts of a goal among its numbers.
 ghost use Rattle.std.specs.Prelude.{◌≡◌, ◌++◌, ◌∷◌, [], IfSome, IfNone, IsSome, ◌↔◌};
 ghost use Rattle.std.specs.Prelude.{pos, true};
-ghost use Rattle.ps_steps.specs.Weights.{IsNormal};
+ghost use Rattle.ps_pb.specs.Weights.{IsNormal};
 ghost use Rattle.ps_pb.specs.Weighing.{linear};
 ghost use Rattle.ps_log.specs.GoalNumbers.{are_terms, AreGoalParts, HasGoalParts, LacksTerms};
 ghost use Rattle.ps_log.specs.GoalNumbers.{AreTermsOf, IsGoalOf};

@@ -1,6 +1,6 @@
 //! Goals that are read.
 ghost use Rattle.std.specs.Prelude.{ℕ, Ok, Err};
-ghost use Rattle.ps_steps.specs.Constraints.{Constraint as Linear};
+ghost use Rattle.ps_pb.specs.Constraints.{Constraint as Linear};
 ghost use Rattle.ps_log.specs.declared.line_error.LineError.{LineError as Refusal};
 ghost use Rattle.ps_log.specs.Limits.{IsGoalWithin};
 ghost use Rattle.ps_log.specs.FirstLines.{Gives, IsLineAnswer};

@@ -7,8 +7,7 @@ ghost use Rattle.ps_log.specs.declared.limits.TheConstants.{MOST_LITS, MOST_HINT
 ghost use Rattle.ps_log.specs.declared.limits.TheConstants.{MOST_CONFLICTS};
 
 use ps_io::LONGEST_LINE;
-use ps_pb::{Constraint, Lit, MOST_VARIABLES, Step};
-use ps_steps::MOST_IDS;
+use ps_pb::{Constraint, Lit, MOST_IDS, MOST_VARIABLES, Step};
 
 /// So many terms, or literals, a goal or a step has at most.
 pub const MOST_LITS: usize = MOST_VARIABLES as usize;

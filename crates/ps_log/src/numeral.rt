@@ -3,7 +3,7 @@ ghost use Rattle.std.specs.Prelude.{◌≡◌, ◌≤◌, ◌<◌, ◌↔◌, �
 ghost use Rattle.std.specs.Prelude.{IfSome, IfNone, IsTrue, length, slice_index};
 ghost use Rattle.std.specs.Char.{digit_value};
 ghost use Rattle.std.specs.Str.Parse.{digits_value};
-ghost use Rattle.ps_steps.specs.declared.limits.TheConstants.{MOST_SIZE};
+ghost use Rattle.ps_pb.specs.declared.limits.TheConstants.{MOST_SIZE};
 ghost use Rattle.ps_log.specs.Spellings.{IsPlain};
 ghost use Rattle.ps_log.specs.Numbers.{capped_size, IsSize, IsCount, IsNegative, IsNumber};
 

@@ -1,6 +1,6 @@
 //! Steps that are read.
 ghost use Rattle.std.specs.Prelude.{ℕ, Ok, Err};
-ghost use Rattle.ps_steps.specs.Steps.{Step as StepValue};
+ghost use Rattle.ps_pb.specs.Steps.{Step as StepValue};
 ghost use Rattle.ps_log.specs.declared.line_error.LineError.{LineError as Refusal};
 ghost use Rattle.ps_log.specs.Limits.{IsStepWithin};
 ghost use Rattle.ps_log.specs.FirstLines.{Gives, IsLineAnswer};

@@ -1,8 +1,8 @@
 -- A bound that is lowered by steps from a value that was found.
 use Rattle.std.proofs.Common.{◌≡◌, ℕ, ℤ, pos, ◌+ℤ◌, ◌≤ℤ◌, ◌<ℤ◌, arith, sym, subst}
 use Rattle.std.proofs.lemmas.Int.{ints}
-use Rattle.ps_steps.specs.Assignments.{Assignment}
-use Rattle.ps_steps.specs.Weights.{Weighted}
+use Rattle.ps_pb.specs.Assignments.{Assignment}
+use Rattle.ps_pb.specs.Weights.{Weighted}
 use Rattle.ps_maxsat.specs.declared.problem.Wcnf.{Wcnf}
 use Rattle.ps_maxsat.specs.Spacing.{DividesWeights, IsUnit}
 use Rattle.ps_maxsat.specs.Values.{most_value, IsOf, NoneIsAbove, NoneIsBetween, LeavesNone}

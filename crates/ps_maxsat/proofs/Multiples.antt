@@ -7,8 +7,8 @@ use Rattle.std.proofs.lemmas.Int.{ints}
 use Rattle.std.proofs.lemmas.List.{drop_all}
 use Rattle.std.proofs.lemmas.List.Elements.{All-cons, All-nil}
 use Rattle.std.proofs.lemmas.Nat.Gcd.{dvd_refl, dvd-zero, dvd_trans, le_of_dvd}
-use Rattle.ps_steps.specs.Assignments.{holds}
-use Rattle.ps_steps.specs.Weights.{Weighted, true_weight}
+use Rattle.ps_pb.specs.Assignments.{holds}
+use Rattle.ps_pb.specs.Weights.{Weighted, true_weight}
 use Rattle.ps_pb.proofs.Summed.{drop-item}
 use Rattle.ps_maxsat.specs.Spacing.{DividesWeights, IsUnit}
 

@@ -4,22 +4,22 @@ use Rattle.std.specs.Prelude.{IsTrue, IfOk, OnOk, IsErr, int_lt}
 use Rattle.std.specs.List.{All}
 use Rattle.std.proofs.lemmas.Int.{ints}
 use Rattle.std.proofs.lemmas.Bool.{false≢true}
-use Rattle.ps_steps.specs.Assignments.{Assignment, place}
-use Rattle.ps_steps.specs.Constraints.{Constraint, IsMet}
-use Rattle.ps_steps.specs.Weights.{Weighted, constraint_of}
-use Rattle.ps_steps.proofs.Linear.{met-weight, weight-met}
-use Rattle.ps_forms.specs.Forms.{Form, MeetsForm}
-use Rattle.ps_steps.specs.Weights.{IsWithin}
-use Rattle.ps_steps.specs.Steps.{Step}
+use Rattle.ps_pb.specs.Assignments.{Assignment, place}
+use Rattle.ps_pb.specs.Constraints.{Constraint, IsMet}
+use Rattle.ps_pb.specs.Weights.{Weighted, constraint_of}
+use Rattle.ps_pb.proofs.Linear.{met-weight, weight-met}
+use Rattle.ps_clause.specs.Forms.{Form, MeetsForm}
+use Rattle.ps_pb.specs.Weights.{IsWithin}
+use Rattle.ps_pb.specs.Steps.{Step}
 use Rattle.ps_sat.specs.Searches.{IsOutcome, IsLogged, HoldsLearned}
 use Rattle.ps_sat.specs.declared.searching.Outcome.{Outcome}
 use Rattle.ps_sat.specs.declared.error.SearchError.{SearchError}
 use Rattle.ps_sat.specs.declared.searching.Outcome.TheVariants.{Found, Refuted, Spent}
-use Rattle.ps_sat.proofs.Going.{handed_told, handed_stays}
+use Rattle.ps_sat.proofs.SearchSteps.{handed_told, handed_stays}
 use Rattle.ps_maxsat.specs.declared.problem.Wcnf.{Wcnf}
 use Rattle.ps_maxsat.specs.declared.pricing.Priced.{Priced}
 use Rattle.ps_maxsat.specs.Values.{value, goal_of, IsOf, NoneIsAbove, NoneIsBetween, IsHalfway, HoldsSearch, HoldsFound, HoldsRefutation, HoldsLast, HoldsSteps, HoldsSome, IsGoal, most_value, IsLogAfterFailed, IsLogAfterError, IsGoalLogged, IsBestLogged}
-use Rattle.ps_steps.proofs.Within.{constraint-within}
+use Rattle.ps_pb.proofs.Within.{constraint-within}
 use Rattle.ps_log.specs.Logs.{Telling, Stays}
 
 -- a goal of literals of these variables

@@ -1,7 +1,7 @@
 -- The limits of a search for the greatest value.
 use Rattle.std.specs.Prelude.{ℕ, ◌+◌, ◌<◌, ◌≤◌, unsigned_abs, All}
-use Rattle.ps_steps.specs.Assignments.{place}
-use Rattle.ps_steps.specs.Weights.{size_sum}
+use Rattle.ps_pb.specs.Assignments.{place}
+use Rattle.ps_pb.specs.Weights.{size_sum}
 use Rattle.ps_maxsat.specs.declared.limits.TheConstants.{MOST_TOTAL}
 use Rattle.ps_maxsat.specs.declared.problem.Wcnf.{Wcnf}
 

@@ -1,7 +1,7 @@
 -- How far apart values lie.
 use Rattle.std.specs.Prelude.{ℕ, unsigned_abs, All}
 use Rattle.std.specs.Int.{◌∣◌}
-use Rattle.ps_steps.specs.Weights.{Weighted}
+use Rattle.ps_pb.specs.Weights.{Weighted}
 
 -- a number divides each weight
 abbrev pub DividesWeights : ℕ → Weighted → Type 0

@@ -1,10 +1,10 @@
 -- Values of assignments, and which is the greatest.
 use Rattle.std.specs.Prelude.{ℕ, ◌≡◌, ◌≤◌, ◌<◌, ◌+◌, ℤ, pos, ◌+ℤ◌, ◌-ℤ◌, ◌≤ℤ◌}
 use Rattle.std.specs.Prelude.{◌<ℤ◌, Bool, Result, Ok, Err, List, length, All, ◌⊎◌}
-use Rattle.ps_steps.specs.Assignments.{Assignment, place, full}
-use Rattle.ps_steps.specs.Constraints.{Constraint}
-use Rattle.ps_steps.specs.Weights.{true_weight, constraint_of}
-use Rattle.ps_forms.specs.Forms.{MeetsForm}
+use Rattle.ps_pb.specs.Assignments.{Assignment, place, full}
+use Rattle.ps_pb.specs.Constraints.{Constraint}
+use Rattle.ps_pb.specs.Weights.{true_weight, constraint_of}
+use Rattle.ps_clause.specs.Forms.{MeetsForm}
 use Rattle.ps_log.specs.Logs.{Telling, Stays}
 use Rattle.ps_sat.specs.Searches.{Handed, AreLearned}
 use Rattle.ps_sat.specs.declared.searching.Outcome.TheVariants as search

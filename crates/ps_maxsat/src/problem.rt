@@ -1,6 +1,6 @@
 //! Clauses, and weighted literals.
 ghost use Rattle.std.specs.Prelude.{◌≡◌, ◌≤◌, ◌<◌, ◌+ℤ◌, ◌↔◌, unsigned_abs, IsTrue, All};
-ghost use Rattle.ps_steps.specs.Assignments.{place};
+ghost use Rattle.ps_pb.specs.Assignments.{place};
 ghost use Rattle.ps_maxsat.specs.Limits.{IsNarrow, IsSoftWithin};
 ghost use Rattle.ps_maxsat.specs.declared.limits.TheConstants.{MOST_TOTAL};
 ghost use Rattle.ps_maxsat.specs.Sums.{sum_of, weight_in, weight_if_positive};

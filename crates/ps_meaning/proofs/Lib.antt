@@ -1,3 +1,16 @@
 pub mod Integers
 pub mod Weights
 pub mod Rows
+pub mod IntRing
+pub mod Ring
+pub mod ExactQuotient
+pub mod Cross
+pub mod Field
+pub mod Order
+pub mod Sums
+pub mod Whole
+pub mod NamedNumbers
+pub mod Multiples
+pub mod Scaling
+pub mod Zeros
+pub mod WeightedSums

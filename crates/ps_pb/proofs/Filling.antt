@@ -5,11 +5,11 @@ use Rattle.std.specs.Prelude.{replicate}
 use Rattle.std.proofs.lemmas.List.{drop_all, length-replicate}
 use Rattle.std.proofs.lemmas.Int.{ints}
 use Rattle.std.proofs.lemmas.Bool.{cases_eq}
-use Rattle.ps_steps.specs.Assignments.{place}
-use Rattle.ps_steps.specs.Constraints.{Constraint}
-use Rattle.ps_steps.specs.Weights.{Weighted, size_sum, constant_of, variable_part, coefficient_at, turned, terms_below, sum_below, last_variable, constraint_of, terms_of, weighted, IsNormal}
-use Rattle.ps_steps.proofs.Linear.{coefficient-elsewhere, coefficient-own}
-use Rattle.ps_steps.proofs.Bounds.{coefficient_at-size, coefficient_sizes, coefficient_sizes-sum, constant_of-size, turned-within, turned_of, constraint_of-normal, terms_of-weighted}
+use Rattle.ps_pb.specs.Assignments.{place}
+use Rattle.ps_pb.specs.Constraints.{Constraint}
+use Rattle.ps_pb.specs.Weights.{Weighted, size_sum, constant_of, variable_part, coefficient_at, turned, terms_below, sum_below, last_variable, constraint_of, terms_of, weighted, IsNormal}
+use Rattle.ps_pb.proofs.Linear.{coefficient-elsewhere, coefficient-own}
+use Rattle.ps_pb.proofs.Bounds.{coefficient_at-size, coefficient_sizes, coefficient_sizes-sum, constant_of-size, turned-within, turned_of, constraint_of-normal, terms_of-weighted}
 use Rattle.ps_pb.specs.Coefficients.{number_at, AreCoefficients, AreSmall}
 use Rattle.ps_pb.proofs.Summed.{drop-item, size_sum-drop, turned_low}
 

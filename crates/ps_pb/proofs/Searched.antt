@@ -2,10 +2,10 @@
 use Rattle.std.proofs.Common.{◌≡◌, ℕ, zero, suc, ◌+◌, ◌<◌, ℤ, pos, ◌<ℤ◌, List, [], ◌∷◌, length, get_or, drop, ◌≤◌, true, arith, sym, ap, subst, inl, inr, unsigned_abs}
 use Rattle.std.specs.List.{All}
 use Rattle.std.proofs.lemmas.Int.{ints}
-use Rattle.ps_steps.specs.Assignments.{Assignment, value_of, is_unset}
-use Rattle.ps_steps.specs.Constraints.{Constraint, HasTerm, Forces, slack}
-use Rattle.ps_steps.specs.Weights.{Weighted, terms_of}
-use Rattle.ps_steps.proofs.Bounds.{IsPositive}
+use Rattle.ps_pb.specs.Assignments.{Assignment, value_of, is_unset}
+use Rattle.ps_pb.specs.Constraints.{Constraint, HasTerm, Forces, slack}
+use Rattle.ps_pb.specs.Weights.{Weighted, terms_of}
+use Rattle.ps_pb.proofs.Bounds.{IsPositive}
 use Rattle.ps_pb.proofs.Summed.{drop-item}
 
 pub record HasForced (s l : ℤ) (ts : List (ℤ × ℕ)) : Type 0 where

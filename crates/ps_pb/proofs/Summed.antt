@@ -4,9 +4,9 @@ use Rattle.std.specs.List.{All}
 use Rattle.std.proofs.lemmas.Int.{ints}
 use Rattle.std.proofs.lemmas.List.{drop_all}
 use Rattle.std.proofs.lemmas.List.Elements.{All-head, All-tail}
-use Rattle.ps_steps.specs.Constraints.{sum_where}
-use Rattle.ps_steps.specs.Weights.{Weighted, size_sum, constant_part, constant_of, turned, sum_below, terms_of, weighted}
-use Rattle.ps_steps.proofs.Bounds.{constant_of-size, IsPositive}
+use Rattle.ps_pb.specs.Constraints.{sum_where}
+use Rattle.ps_pb.specs.Weights.{Weighted, size_sum, constant_part, constant_of, turned, sum_below, terms_of, weighted}
+use Rattle.ps_pb.proofs.Bounds.{constant_of-size, IsPositive}
 use Rattle.ps_pb.specs.Coefficients.{number_at, AreSmall}
 
 -- what is left at a place begins with the item there

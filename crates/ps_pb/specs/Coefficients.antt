@@ -1,8 +1,8 @@
 -- The coefficients of variables, by place.
 use Rattle.std.specs.Prelude.{◌≡◌, ◌+◌, ◌<◌, ◌≤◌, ◌^◌, ℕ, ℤ, pos}
 use Rattle.std.specs.Prelude.{◌+ℤ◌, ◌≤ℤ◌, unsigned_abs, List, length, slice_index_or, slice_set}
-use Rattle.ps_steps.specs.Assignments.{place}
-use Rattle.ps_steps.specs.Weights.{Weighted, coefficient_at, variable_part, last_variable, sum_below, terms_below, weighted}
+use Rattle.ps_pb.specs.Assignments.{place}
+use Rattle.ps_pb.specs.Weights.{Weighted, coefficient_at, variable_part, last_variable, sum_below, terms_below, weighted}
 use Rattle.ps_pb.specs.Limits.{most_weight}
 
 -- the number at a place, or 0 past the end

@@ -1,7 +1,7 @@
 -- What a constraint does to an assignment.
 use Rattle.std.specs.Prelude.{◌≡◌, true, false}
-use Rattle.ps_steps.specs.Assignments.{Assignment}
-use Rattle.ps_steps.specs.Constraints.{Constraint, slack, is_violated, some_forced, with_forced}
+use Rattle.ps_pb.specs.Assignments.{Assignment}
+use Rattle.ps_pb.specs.Constraints.{Constraint, slack, is_violated, some_forced, with_forced}
 use Rattle.ps_pb.specs.declared.propagation.Effect.{Effect}
 use Rattle.ps_pb.specs.declared.propagation.Effect.TheVariants.{Violated, Forced, Idle}
 

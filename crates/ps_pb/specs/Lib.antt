@@ -1,6 +1,12 @@
 -- Meaning
-pub mod Effects
 pub mod Limits
+pub mod Assignments
+pub mod Constraints
+pub mod Weights
+pub mod Steps
+pub mod Effects
 pub mod Weighing
+-- Laws, as the functions of laws.rt promise them
+pub mod Laws
 -- Bridge: the coefficients that are filled in weight by weight
 pub mod Coefficients

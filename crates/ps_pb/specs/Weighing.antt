@@ -1,7 +1,7 @@
 -- What a constraint on weighted literals says.
 use Rattle.std.specs.Prelude.{◌↔◌, ℤ, ◌≤ℤ◌, Bool, List}
-use Rattle.ps_steps.specs.Constraints.{Constraint, IsMet}
-use Rattle.ps_steps.specs.Weights.{Weighted, true_weight, terms_of}
+use Rattle.ps_pb.specs.Constraints.{Constraint, IsMet}
+use Rattle.ps_pb.specs.Weights.{Weighted, true_weight, terms_of}
 
 -- full assignments meet the constraint exactly where their true literals weigh at least so much
 abbrev pub SaysAtLeast : Weighted → ℤ → Constraint → Type 0

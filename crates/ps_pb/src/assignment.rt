@@ -1,7 +1,7 @@
 //! Partial assignments.
 ghost use Rattle.std.specs.Prelude.{◌≡◌, length, IfOk};
-ghost use Rattle.ps_steps.specs.Assignments.{place, value_of, value_at, all_unset};
-ghost use Rattle.ps_steps.specs.Assignments.{with_true, with_false, without};
+ghost use Rattle.ps_pb.specs.Assignments.{place, value_of, value_at, all_unset};
+ghost use Rattle.ps_pb.specs.Assignments.{with_true, with_false, without};
 
 use crate::lit::Lit;
 use ps_io::NoMemory;
@@ -47,7 +47,7 @@ impl Assignment {
     }
 
     /// The value of a variable. `None` where it is unset, or out of range.
-    #[tactic(auto, unfolding(ps_steps::specs::Assignments::value_at))]
+    #[tactic(auto, unfolding(crate::specs::Assignments::value_at))]
     pub fn value(&self, var: u32) -> Option<bool>
         ensures { result ≡ value_at self.now var }
     {
@@ -61,7 +61,7 @@ impl Assignment {
     }
 
     /// The value of a literal. `None` where its variable is unset, or out of range.
-    #[tactic(auto, unfolding(ps_steps::specs::Assignments::value_of))]
+    #[tactic(auto, unfolding(crate::specs::Assignments::value_of))]
     pub fn value_of(&self, lit: Lit) -> Option<bool>
         ensures { result ≡ value_of self.now lit }
     {
@@ -72,7 +72,7 @@ impl Assignment {
     }
 
     /// Sets a literal true. Nothing happens where its variable is out of range.
-    #[tactic(auto, unfolding(ps_steps::specs::Assignments::with_true))]
+    #[tactic(auto, unfolding(crate::specs::Assignments::with_true))]
     pub fn set(&mut self, lit: Lit)
         ensures { self.new ≡ with_true self.old lit }
     {
@@ -83,7 +83,7 @@ impl Assignment {
     }
 
     /// Sets a literal false. Nothing happens where its variable is out of range.
-    #[tactic(auto, unfolding(ps_steps::specs::Assignments::with_false))]
+    #[tactic(auto, unfolding(crate::specs::Assignments::with_false))]
     pub fn set_false(&mut self, lit: Lit)
         ensures { self.new ≡ with_false self.old lit }
     {
@@ -94,7 +94,7 @@ impl Assignment {
     }
 
     /// Unsets a variable. Nothing happens where it is out of range.
-    #[tactic(auto, unfolding(ps_steps::specs::Assignments::without))]
+    #[tactic(auto, unfolding(crate::specs::Assignments::without))]
     pub fn unset(&mut self, var: u32)
         ensures { self.new ≡ without self.old var }
     {

@@ -1,14 +1,14 @@
 //! Pseudo-Boolean constraints.
 ghost use Rattle.std.specs.Prelude.{◌≡◌, ◌≤◌, ◌↔◌, pos, ◌≤ℤ◌, All, unsigned_abs};
 ghost use Rattle.std.specs.Prelude.{IsTrue, IsSome, IfSome, IfOk};
-ghost use Rattle.ps_steps.specs.Weights.{are_rising, weighted, terms_of, IsNormal};
-ghost use Rattle.ps_steps.specs.declared.limits.TheConstants.{MOST_SIZE};
+ghost use Rattle.ps_pb.specs.Weights.{are_rising, weighted, terms_of, IsNormal};
+ghost use Rattle.ps_pb.specs.declared.limits.TheConstants.{MOST_SIZE};
 ghost use Rattle.ps_pb.specs.Weighing.{linear};
 
+use crate::limits::MOST_SIZE;
 use crate::lit::Lit;
 use crate::terms::{Terms, sizes_fit};
 use ps_io::NoMemory;
-use ps_steps::MOST_SIZE;
 use std::alloc::Global;
 use std::marker::Model;
 
@@ -21,8 +21,8 @@ pub struct Constraint {
 }
 
 impl Model for Constraint {
-    ghost use Rattle.ps_steps.specs.Constraints.{Constraint as Linear};
-    ghost use Rattle.ps_steps.specs.Weights.{terms_of, IsNormal};
+    ghost use Rattle.ps_pb.specs.Constraints.{Constraint as Linear};
+    ghost use Rattle.ps_pb.specs.Weights.{terms_of, IsNormal};
 
     ghost Value = { Linear };
 

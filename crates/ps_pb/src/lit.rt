@@ -1,6 +1,6 @@
 //! A variable, or its opposite.
 ghost use Rattle.std.specs.Prelude.{◌≡◌, ◌≤◌, ◌<◌, ◌↔◌, IfSome, IsSome, unsigned_abs, neg_ℤ};
-ghost use Rattle.ps_steps.specs.Assignments.{place, is_positive, literal_at};
+ghost use Rattle.ps_pb.specs.Assignments.{place, is_positive, literal_at};
 ghost use Rattle.ps_pb.specs.Limits.{IsLiteral};
 ghost use Rattle.ps_pb.specs.declared.limits.TheConstants.{MOST_VARIABLES};
 

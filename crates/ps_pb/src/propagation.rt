@@ -1,8 +1,8 @@
 //! The slack of a constraint under an assignment, and what it forces.
 ghost use Rattle.std.specs.Prelude.{◌≡◌, ◌↔◌, pos, ◌≤ℤ◌, ◌<ℤ◌, All, IsTrue, if◌then◌else◌};
-ghost use Rattle.ps_steps.specs.Constraints.{slack, is_open, is_forced, Forces};
-ghost use Rattle.ps_steps.specs.Constraints.{some_forced, with_forced};
-ghost use Rattle.ps_steps.specs.Weights.{term_of, terms_of};
+ghost use Rattle.ps_pb.specs.Constraints.{slack, is_open, is_forced, Forces};
+ghost use Rattle.ps_pb.specs.Constraints.{some_forced, with_forced};
+ghost use Rattle.ps_pb.specs.Weights.{term_of, terms_of};
 ghost use Rattle.ps_pb.specs.Effects.{Propagates};
 
 use crate::assignment::Assignment;

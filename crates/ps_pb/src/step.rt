@@ -25,7 +25,7 @@ pub struct Step {
 }
 
 impl Model for Step {
-    ghost use Rattle.ps_steps.specs.Steps.{Step as StepValue};
+    ghost use Rattle.ps_pb.specs.Steps.{Step as StepValue};
 
     ghost Value = { StepValue };
 

@@ -2,7 +2,7 @@
 ghost use Rattle.std.specs.Prelude.{◌≡◌, ◌++◌, [], ◌∷◌, length, slice_get, option_copied};
 ghost use Rattle.std.specs.Prelude.{◌<◌, ◌≤◌, ◌+◌, ◌^◌, ◌↔◌, unsigned_abs, IsTrue};
 ghost use Rattle.std.specs.Prelude.{IfOk, OnOk, OnErr, IfSome, IfNone};
-ghost use Rattle.ps_steps.specs.Weights.{size_sum};
+ghost use Rattle.ps_pb.specs.Weights.{size_sum};
 
 use crate::lit::Lit;
 use ps_io::{List, NoMemory};

@@ -1,13 +1,13 @@
 //! The constraint that bounds a sum of weighted literals from below.
 ghost use Rattle.std.specs.Prelude.{◌≡◌, ◌<◌, ◌≤◌, ◌+◌, ◌++◌, pos, length, IfOk, OnOk};
 ghost use Rattle.std.specs.Prelude.{replicate, unsigned_abs};
-ghost use Rattle.ps_steps.specs.Assignments.{place};
-ghost use Rattle.ps_steps.specs.Weights.{size_sum, constant_part, constant_of, term_at, turned};
-ghost use Rattle.ps_steps.specs.Weights.{sum_below, last_variable, weighted};
-ghost use Rattle.ps_steps.specs.Weights.{constraint_of, clause_of};
+ghost use Rattle.ps_pb.specs.Assignments.{place};
+ghost use Rattle.ps_pb.specs.Weights.{size_sum, constant_part, constant_of, term_at, turned};
+ghost use Rattle.ps_pb.specs.Weights.{sum_below, last_variable, weighted};
+ghost use Rattle.ps_pb.specs.Weights.{constraint_of, clause_of};
 ghost use Rattle.ps_pb.specs.Limits.{most_weight};
 ghost use Rattle.ps_pb.specs.declared.limits.TheConstants.{MOST_VARIABLES};
-ghost use Rattle.ps_steps.specs.declared.limits.TheConstants.{MOST_SIZE};
+ghost use Rattle.ps_pb.specs.declared.limits.TheConstants.{MOST_SIZE};
 ghost use Rattle.ps_pb.specs.Weighing.{SaysAtLeast};
 ghost use Rattle.ps_pb.specs.Coefficients.{number_at, with_weight, HasRoomFor, terms_of_numbers};
 ghost use Rattle.ps_pb.specs.Coefficients.{AreCoefficients, AreSmall};

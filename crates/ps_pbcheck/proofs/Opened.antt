@@ -8,12 +8,12 @@ use Rattle.std.proofs.lemmas.List.Sums.{sum_by-cons, length-filter}
 use Rattle.std.proofs.lemmas.List.Filters.{length-filter_more}
 use Rattle.std.proofs.lemmas.List.Elements.{filter-append}
 use Rattle.std.proofs.lemmas.List.{take-append-drop, length-append}
-use Rattle.ps_steps.specs.Assignments.{Assignment, place, is_positive, agree, value_of, with_true, is_false, is_unset, Includes, AreDifferent}
-use Rattle.ps_steps.specs.Constraints.{sum_where, is_open, slack, is_forced, some_forced, with_forced}
-use Rattle.ps_steps.specs.Weights.{clause_of}
-use Rattle.ps_steps.proofs.Clauses.{Reads, open-reads, place_of, sign_of, clause-plain, clause-slack, clause-sum}
-use Rattle.ps_steps.proofs.Sums.{Implies, sum_where-le}
-use Rattle.ps_steps.proofs.Values.{agree-same, agree-is, with_true-includes}
+use Rattle.ps_pb.specs.Assignments.{Assignment, place, is_positive, agree, value_of, with_true, is_false, is_unset, Includes, AreDifferent}
+use Rattle.ps_pb.specs.Constraints.{sum_where, is_open, slack, is_forced, some_forced, with_forced}
+use Rattle.ps_pb.specs.Weights.{clause_of}
+use Rattle.ps_pb.proofs.Clauses.{Reads, open-reads, place_of, sign_of, clause-plain, clause-slack, clause-sum}
+use Rattle.ps_pb.proofs.Sums.{Implies, sum_where-le}
+use Rattle.ps_pb.proofs.Values.{agree-same, agree-is, with_true-includes}
 use Rattle.ps_pb.specs.declared.propagation.Effect.TheVariants.{Violated, Forced, Idle}
 use Rattle.ps_pb.specs.Effects.{Propagates}
 

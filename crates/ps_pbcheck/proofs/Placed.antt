@@ -7,11 +7,11 @@ use Rattle.std.specs.List.{All}
 use Rattle.std.proofs.lemmas.Bool.{cases_lt, lt-ltb, le-ltb}
 use Rattle.std.proofs.lemmas.List.{length-map, map-append}
 use Rattle.std.proofs.lemmas.Option.{slice_get-map, get_or_from_slice_get, slice_get_within}
-use Rattle.ps_steps.specs.Assignments.{AreDifferent}
-use Rattle.ps_steps.specs.Constraints.{Constraint}
-use Rattle.ps_steps.specs.Weights.{clause_of}
-use Rattle.ps_steps.specs.Steps.{constraint_at, known_of}
-use Rattle.ps_steps.proofs.Ids.{constraint_at-known}
+use Rattle.ps_pb.specs.Assignments.{AreDifferent}
+use Rattle.ps_pb.specs.Constraints.{Constraint}
+use Rattle.ps_pb.specs.Weights.{clause_of}
+use Rattle.ps_pb.specs.Steps.{constraint_at, known_of}
+use Rattle.ps_pb.proofs.Ids.{constraint_at-known}
 use Rattle.ps_pbcheck.specs.Followed.{held_of}
 
 before_get : (clauses : List (List ℤ)) (before i : ℕ) (goal : Constraint) → before ≤ length clauses → i < before → slice_get (held_of clauses before goal) i ≡ option_map clause_of (slice_get clauses i)

@@ -6,13 +6,13 @@ use Rattle.std.proofs.lemmas.Bool.{cases_eq, cases_lt}
 use Rattle.std.proofs.lemmas.List.{map-append, append-nil}
 use Rattle.std.proofs.lemmas.List.Elements.{All-nil, All-cons, All-push, All-head, All-tail}
 use Rattle.std.proofs.lemmas.List.Quantifiers.{all_pairs_push}
-use Rattle.ps_steps.specs.Assignments.{place, AreDifferent}
-use Rattle.ps_steps.specs.Constraints.{Constraint}
-use Rattle.ps_steps.specs.Weights.{Weighted, weighted, variable_part, coefficient_at, term_at, terms_below, last_variable, each_once, constraint_of, clause_of}
-use Rattle.ps_steps.proofs.Linear.{coefficient-elsewhere, coefficient-own}
-use Rattle.ps_steps.proofs.Bounds.{weighted-append}
-use Rattle.ps_steps.proofs.Clauses.{clause-plain}
-use Rattle.ps_forms.specs.Forms.{IsClause}
+use Rattle.ps_pb.specs.Assignments.{place, AreDifferent}
+use Rattle.ps_pb.specs.Constraints.{Constraint}
+use Rattle.ps_pb.specs.Weights.{Weighted, weighted, variable_part, coefficient_at, term_at, terms_below, last_variable, each_once, constraint_of, clause_of}
+use Rattle.ps_pb.proofs.Linear.{coefficient-elsewhere, coefficient-own}
+use Rattle.ps_pb.proofs.Bounds.{weighted-append}
+use Rattle.ps_pb.proofs.Clauses.{clause-plain}
+use Rattle.ps_clause.specs.Forms.{IsClause}
 use Rattle.ps_pbcheck.specs.Followed.{lits_in, held_of}
 use Rattle.ps_pbcheck.proofs.Placed.{held-first}
 

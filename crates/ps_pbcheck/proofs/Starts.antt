@@ -2,11 +2,11 @@
 use Rattle.std.proofs.Common.{◌≡◌, ℤ, true, Some, List, [], ◌∷◌, ◌++◌, length}
 use Rattle.std.specs.Prelude.{◌==◌}
 use Rattle.std.proofs.lemmas.List.Elements.{All-pop}
-use Rattle.ps_steps.specs.Constraints.{Constraint, IsMet}
-use Rattle.ps_steps.specs.Weights.{clause_of}
-use Rattle.ps_steps.specs.Steps.{known_of, IsUnmet}
-use Rattle.ps_steps.proofs.Lawful.{contradiction-unmet}
-use Rattle.ps_forms.proofs.Starts.{known-all}
+use Rattle.ps_pb.specs.Constraints.{Constraint, IsMet}
+use Rattle.ps_pb.specs.Weights.{clause_of}
+use Rattle.ps_pb.specs.Steps.{known_of, IsUnmet}
+use Rattle.ps_pb.proofs.Lawful.{contradiction-unmet}
+use Rattle.ps_clause.proofs.Starts.{known-all}
 
 -- nothing meets what is known after a clause without literals
 pub none_left : (cs new : List Constraint) (lits : List ℤ) (c : Constraint) → new ≡ cs ++ c ∷ [] → c ≡ clause_of lits → (length lits == 0) ≡ true → IsUnmet (known_of new)

@@ -1,10 +1,10 @@
 -- What a checker knows, and what it answers to a step.
 use Rattle.std.specs.Prelude.{ℕ, ◌≡◌, Bool, false, Option, Some, None, Result, Ok, Err, List}
-use Rattle.ps_steps.specs.declared.refused.StepRefused.{StepRefused}
-use Rattle.ps_steps.specs.declared.refused.StepRefused.TheVariants.{NoMemory}
-use Rattle.ps_steps.specs.Constraints.{Constraint}
-use Rattle.ps_steps.specs.Steps.{Known, known_of, Step, with_step, is_contradiction}
-use Rattle.ps_forms.specs.Forms.{Form, first_known}
+use Rattle.ps_pb.specs.declared.refused.StepRefused.{StepRefused}
+use Rattle.ps_pb.specs.declared.refused.StepRefused.TheVariants.{NoMemory}
+use Rattle.ps_pb.specs.Constraints.{Constraint}
+use Rattle.ps_pb.specs.Steps.{Known, known_of, Step, with_step, is_contradiction}
+use Rattle.ps_clause.specs.Forms.{Form, first_known}
 
 -- the number of variables, the known constraints, and whether the last step taken has no literals
 pub record Checked : Type 0 where

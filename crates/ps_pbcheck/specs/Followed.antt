@@ -1,8 +1,8 @@
 -- What is known as constraints and clauses, and what one of these does to an assignment.
 use Rattle.std.specs.Prelude.{ℕ, ◌≡◌, ◌≤◌, ℤ, Option, Some, None, List, [], ◌∷◌, ◌++◌, length, map, take, drop}
-use Rattle.ps_steps.specs.Assignments.{Assignment}
-use Rattle.ps_steps.specs.Constraints.{Constraint}
-use Rattle.ps_steps.specs.Weights.{clause_of}
+use Rattle.ps_pb.specs.Assignments.{Assignment}
+use Rattle.ps_pb.specs.Constraints.{Constraint}
+use Rattle.ps_pb.specs.Weights.{clause_of}
 use Rattle.ps_pb.specs.declared.propagation.Effect.{Effect}
 use Rattle.ps_pb.specs.Effects.{Propagates}
 use Rattle.ps_pbcheck.specs.declared.propagation.Left.{Left}

@@ -1,9 +1,9 @@
 -- How far the check of a step has come.
 use Rattle.std.specs.Prelude.{ℕ, ◌≡◌, Bool, true, false, Option, Some, None, Result, Ok, Err, List}
-use Rattle.ps_steps.specs.declared.refused.StepRefused.{StepRefused}
-use Rattle.ps_steps.specs.Assignments.{Assignment}
-use Rattle.ps_steps.specs.Constraints.{Constraint}
-use Rattle.ps_steps.specs.Steps.{known_of, Propagation, Open, Conflict, Refused, after_hint}
+use Rattle.ps_pb.specs.declared.refused.StepRefused.{StepRefused}
+use Rattle.ps_pb.specs.Assignments.{Assignment}
+use Rattle.ps_pb.specs.Constraints.{Constraint}
+use Rattle.ps_pb.specs.Steps.{known_of, Propagation, Open, Conflict, Refused, after_hint}
 
 -- a conflict, or the assignment from which propagation goes on
 abbrev pub propagation_of : Bool → Assignment → Propagation

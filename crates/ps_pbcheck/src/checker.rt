@@ -1,10 +1,10 @@
 //! The checker of steps.
 ghost use Rattle.std.specs.Prelude.{◌≡◌, ◌++◌, ◌∷◌, [], IfOk, IfErr, OnOk, OnErr};
 ghost use Rattle.std.specs.Prelude.{true, Some, fold, length};
-ghost use Rattle.ps_steps.specs.declared.refused.StepRefused.TheVariants.{NoMemory as Lack};
-ghost use Rattle.ps_steps.specs.Assignments.{all_unset, AreDifferent};
-ghost use Rattle.ps_steps.specs.Weights.{clause_of};
-ghost use Rattle.ps_steps.specs.Steps.{known_of, refusal_of, and_false, Entails, IsUnmet};
+ghost use Rattle.ps_pb.specs.declared.refused.StepRefused.TheVariants.{NoMemory as Lack};
+ghost use Rattle.ps_pb.specs.Assignments.{all_unset, AreDifferent};
+ghost use Rattle.ps_pb.specs.Weights.{clause_of};
+ghost use Rattle.ps_pb.specs.Steps.{known_of, refusal_of, and_false, Entails, IsUnmet};
 ghost use Rattle.ps_pbcheck.specs.Checked.{first_checked, after_step, AnswersStep};
 ghost use Rattle.ps_pbcheck.specs.Judged.{AllFalse};
 
@@ -12,8 +12,7 @@ use crate::held::Held;
 use crate::hints::follow_hints;
 use ps_clause::ClauseForm;
 use ps_io::NoMemory;
-use ps_pb::{Assignment, Constraint, Lit, Step};
-use ps_steps::StepRefused;
+use ps_pb::{Assignment, Constraint, Lit, Step, StepRefused};
 use std::alloc::Global;
 use std::marker::Model;
 
@@ -29,9 +28,9 @@ pub struct Checker {
 
 impl Model for Checker {
     ghost use Rattle.std.specs.Prelude.{◌≡◌, true, length};
-    ghost use Rattle.ps_steps.specs.Assignments.{all_unset};
-    ghost use Rattle.ps_steps.specs.Weights.{clause_of};
-    ghost use Rattle.ps_steps.specs.Steps.{known_of, IsUnmet};
+    ghost use Rattle.ps_pb.specs.Assignments.{all_unset};
+    ghost use Rattle.ps_pb.specs.Weights.{clause_of};
+    ghost use Rattle.ps_pb.specs.Steps.{known_of, IsUnmet};
     ghost use Rattle.ps_pbcheck.specs.Checked.{Checked, checked_of};
 
     ghost Value = { Checked };
@@ -97,7 +96,7 @@ fn push(known: &mut Held, lits: &[Lit]) -> Result<(), StepRefused>
 }
 
 /// Why a step isn't lawful, if it isn't.
-#[tactic(auto, using(ps_steps::proofs::Ids::ids), unfolding(ps_steps::specs::Steps::all_false))]
+#[tactic(auto, using(ps_pb::proofs::Ids::ids), unfolding(ps_pb::specs::Steps::all_false))]
 fn judge(alloc: Global, unset: &Assignment, known: &Held, s: &Step) -> Result<(), StepRefused>
     requires { unset.now ≡ all_unset (length unset.now) }
     ensures { AnswersStep (refusal_of (length unset.now) (known_of known.now) s.now) result }

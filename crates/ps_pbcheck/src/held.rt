@@ -1,9 +1,9 @@
 //! What the checker knows.
 ghost use Rattle.std.specs.Prelude.{◌≡◌, ◌++◌, [], ◌∷◌, length, map};
 ghost use Rattle.std.specs.Prelude.{IfOk, OnOk, OnErr};
-ghost use Rattle.ps_steps.specs.Assignments.{AreDifferent};
-ghost use Rattle.ps_steps.specs.Weights.{clause_of};
-ghost use Rattle.ps_steps.specs.Steps.{constraint_at, known_of};
+ghost use Rattle.ps_pb.specs.Assignments.{AreDifferent};
+ghost use Rattle.ps_pb.specs.Weights.{clause_of};
+ghost use Rattle.ps_pb.specs.Steps.{constraint_at, known_of};
 ghost use Rattle.ps_pbcheck.specs.Followed.{lits_in, Follows};
 
 use crate::clauses::Clauses;
@@ -26,8 +26,8 @@ pub(crate) struct Held {
 
 impl Model for Held {
     ghost use Rattle.std.specs.Prelude.{List, All, length, ◌≤◌};
-    ghost use Rattle.ps_steps.specs.Assignments.{AreDifferent};
-    ghost use Rattle.ps_steps.specs.Constraints.{Constraint as Linear};
+    ghost use Rattle.ps_pb.specs.Assignments.{AreDifferent};
+    ghost use Rattle.ps_pb.specs.Constraints.{Constraint as Linear};
     ghost use Rattle.ps_pbcheck.specs.Followed.{held_of};
 
     ghost Value = { List Linear };

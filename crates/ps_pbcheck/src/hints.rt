@@ -1,13 +1,12 @@
 //! Propagation along the hints of a step.
-ghost use Rattle.ps_steps.specs.Steps.{known_of, after_hints, end_of, Open};
+ghost use Rattle.ps_pb.specs.Steps.{known_of, after_hints, end_of, Open};
 ghost use Rattle.ps_pbcheck.specs.Judged.{gone_along, IsAfter, IsEnded};
 
 use crate::held::Held;
-use ps_pb::{Assignment, Effect};
-use ps_steps::StepRefused;
+use ps_pb::{Assignment, Effect, StepRefused};
 
 /// Goes on along one hint, and answers whether it is violated.
-#[tactic(auto, unfolding(ps_steps::specs::Steps::after_hint))]
+#[tactic(auto, unfolding(ps_pb::specs::Steps::after_hint))]
 fn follow_hint(
     known: &Held,
     a: &mut Assignment,

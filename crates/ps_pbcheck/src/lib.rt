@@ -8,4 +8,4 @@ mod hints;
 mod propagation;
 
 pub use checker::Checker;
-pub use ps_steps::StepRefused;
+pub use ps_pb::StepRefused;

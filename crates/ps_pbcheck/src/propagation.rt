@@ -1,8 +1,8 @@
 //! What a clause does to an assignment.
 ghost use Rattle.std.specs.Prelude.{◌≡◌, filter};
-ghost use Rattle.ps_steps.specs.Assignments.{AreDifferent};
-ghost use Rattle.ps_steps.specs.Constraints.{is_open};
-ghost use Rattle.ps_steps.specs.Weights.{clause_of};
+ghost use Rattle.ps_pb.specs.Assignments.{AreDifferent};
+ghost use Rattle.ps_pb.specs.Constraints.{is_open};
+ghost use Rattle.ps_pb.specs.Weights.{clause_of};
 ghost use Rattle.ps_pb.specs.Effects.{Propagates};
 ghost use Rattle.ps_pbcheck.specs.Followed.{Leaves};
 

@@ -6,20 +6,20 @@ use Rattle.std.proofs.lemmas.List.Elements.{All-weaker}
 use Rattle.ps_meaning.specs.Formula.{World}
 use Rattle.ps_formula.specs.declared.node.Node.{Node}
 use Rattle.ps_formula.specs.Nodes.{AreNodes, AtomBelow}
-use Rattle.ps_steps.specs.Assignments.{Assignment}
-use Rattle.ps_steps.specs.Constraints.{Constraint}
-use Rattle.ps_steps.specs.Weights.{true_weight, constraint_of}
-use Rattle.ps_steps.specs.Steps.{Step, Refutes, is_contradiction, ends_in_contradiction}
-use Rattle.ps_forms.specs.Clauses.{clause_form}
-use Rattle.ps_forms.specs.Forms.{Form, form_of, first_known, MeetsForm}
-use Rattle.ps_forms.specs.Extensions.{extension, world_of}
-use Rattle.ps_forms.proofs.Idle.{form-clauses}
-use Rattle.ps_forms.proofs.Extends.{met-extension}
-use Rattle.ps_forms.proofs.Worlds.{world_of-agrees}
+use Rattle.ps_pb.specs.Assignments.{Assignment}
+use Rattle.ps_pb.specs.Constraints.{Constraint}
+use Rattle.ps_pb.specs.Weights.{true_weight, constraint_of}
+use Rattle.ps_pb.specs.Steps.{Step, Refutes, is_contradiction, ends_in_contradiction}
+use Rattle.ps_clause.specs.Clauses.{clause_form}
+use Rattle.ps_clause.specs.Forms.{Form, form_of, first_known, MeetsForm}
+use Rattle.ps_clause.specs.Extensions.{extension, world_of}
+use Rattle.ps_clause.proofs.Idle.{form-clauses}
+use Rattle.ps_clause.proofs.Extends.{met-extension}
+use Rattle.ps_clause.proofs.Worlds.{world_of-agrees}
 use Rattle.ps_pb.specs.Limits.{IsLiteral}
 use Rattle.ps_pb.specs.declared.limits.TheConstants.{MOST_VARIABLES}
 use Rattle.ps_log.specs.Logs.{Telling}
-use Rattle.ps_trail.specs.Trails.{IsLit}
+use Rattle.ps_learn.specs.Trails.{IsLit}
 use Rattle.ps_sat.specs.Searches.{Handed, AreStepsOf}
 use Rattle.ps_maxsat.specs.declared.problem.Wcnf.{Wcnf}
 use Rattle.ps_maxsat.specs.declared.pricing.Priced.{Priced}
@@ -28,8 +28,8 @@ use Rattle.ps_maxsat.specs.Values.{value, IsOf, NoneIsAbove, IsPricedLog, goal_o
 use Rattle.ps_answer.specs.declared.answer.Dual.{Dual}
 use Rattle.ps_claims.specs.declared.claim_kind.ClaimKind.{ClaimKind}
 use Rattle.ps_claims.proofs.Refutations.{extension-meets}
-use Rattle.ps_certificate.specs.Certificates.{dual_of}
-use Rattle.ps_certificate.specs.Printed.{AreOfLiterals}
+use Rattle.ps_claims.specs.Certificates.{dual_of}
+use Rattle.ps_claims.specs.Printed.{AreOfLiterals}
 use Rattle.ps_runs.specs.Searches.{IsSpentSearch}
 use Rattle.ps_runs.specs.Programs.{goal_at_least, RefutesGain}
 use Rattle.ps_runs.specs.Subjects.{program_of}

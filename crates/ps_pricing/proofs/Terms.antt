@@ -1,9 +1,9 @@
 -- The literals of a combination are of the nodes' variables.
 use Rattle.std.proofs.Common.{◌≡◌, ℕ, length, All, sym, ap, subst}
-use Rattle.ps_steps.proofs.Full.{Below}
+use Rattle.ps_pb.proofs.Full.{Below}
 use Rattle.ps_claims.specs.declared.claim_kind.ClaimKind.{ClaimKind}
 use Rattle.ps_claims.specs.Goals.{combination_of}
-use Rattle.ps_certificate.proofs.Variables.{combination_below}
+use Rattle.ps_claims.proofs.Variables.{combination_below}
 use Rattle.ps_answer.specs.declared.answer.Dual as answered
 use Rattle.ps_problem.specs.Problems.{AreParts, bounds_in}
 use Rattle.ps_maxsat.specs.declared.problem.Wcnf.{Wcnf}

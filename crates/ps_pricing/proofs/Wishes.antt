@@ -1,13 +1,13 @@
 -- The literals that make all bounds hold alone.
 use Rattle.std.proofs.Common.{◌≡◌, ◌<◌, ◌+◌, ◌++◌, ◌∷◌, [], ℕ, ℤ, pos, Bool, List, All, length, arith}
 use Rattle.std.proofs.lemmas.List.Elements.{All-nil, All-append, All-cons}
-use Rattle.ps_steps.specs.Assignments.{literal_at, place}
-use Rattle.ps_steps.specs.Constraints.{Constraint}
-use Rattle.ps_steps.specs.Weights.{Weighted, size_sum, constraint_of, IsWithin}
-use Rattle.ps_steps.proofs.Bounds.{size_sum-append}
-use Rattle.ps_steps.proofs.Clauses.{place_of}
-use Rattle.ps_steps.proofs.Full.{Below}
-use Rattle.ps_steps.proofs.Within.{constraint-within}
+use Rattle.ps_pb.specs.Assignments.{literal_at, place}
+use Rattle.ps_pb.specs.Constraints.{Constraint}
+use Rattle.ps_pb.specs.Weights.{Weighted, size_sum, constraint_of, IsWithin}
+use Rattle.ps_pb.proofs.Bounds.{size_sum-append}
+use Rattle.ps_pb.proofs.Clauses.{place_of}
+use Rattle.ps_pb.proofs.Full.{Below}
+use Rattle.ps_pb.proofs.Within.{constraint-within}
 use Rattle.ps_formula.specs.declared.node.Node.{Node}
 use Rattle.ps_problem.specs.declared.bound.Bound.{Bound}
 use Rattle.ps_problem.specs.Problems.{AreBounds}

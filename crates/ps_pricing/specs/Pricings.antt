@@ -1,19 +1,19 @@
 -- What the pricing of a dual gives: a world in which its combination is at least 1, a refutation, or a search that was spent.
 use Rattle.std.specs.Prelude.{◌≡◌, ◌⊎◌, ℕ, ℤ, pos, ◌<ℤ◌, ◌≤ℤ◌, Bool, List, Option, Some, length}
 use Rattle.ps_meaning.specs.Formula.{World}
-use Rattle.ps_steps.specs.Assignments.{Assignment, full}
-use Rattle.ps_steps.specs.Constraints.{Constraint}
-use Rattle.ps_steps.specs.Steps.{Step}
-use Rattle.ps_forms.specs.Forms.{form_of}
-use Rattle.ps_forms.specs.Extensions.{extension, IsWorldOf}
+use Rattle.ps_pb.specs.Assignments.{Assignment, full}
+use Rattle.ps_pb.specs.Constraints.{Constraint}
+use Rattle.ps_pb.specs.Steps.{Step}
+use Rattle.ps_clause.specs.Forms.{form_of}
+use Rattle.ps_clause.specs.Extensions.{extension, IsWorldOf}
 use Rattle.ps_problem.specs.declared.query.Query.{Query}
 use Rattle.ps_problem.specs.Problems.{Parts, bounds_in}
 use Rattle.ps_answer.specs.declared.answer.Dual.{Dual}
 use Rattle.ps_claims.specs.declared.claim_kind.ClaimKind.{ClaimKind}
-use Rattle.ps_claims.specs.declared.combination.Combination.{Combination}
+use Rattle.ps_claims.specs.declared.weighted_sum.Combination.{Combination}
 use Rattle.ps_claims.specs.Goals.{value_under}
-use Rattle.ps_certificate.specs.Certificates.{dual_of, IsSmallDual}
-use Rattle.ps_certificate.specs.Printed.{IsPrintedDual, IsPrintedSearch}
+use Rattle.ps_claims.specs.Certificates.{dual_of, IsSmallDual}
+use Rattle.ps_claims.specs.Printed.{IsPrintedDual, IsPrintedSearch}
 use Rattle.ps_maxsat.specs.declared.problem.Wcnf.{Wcnf}
 use Rattle.ps_runs.specs.Kept.{kept_parts}
 use Rattle.ps_runs.specs.Searches.{IsSpentSearch}

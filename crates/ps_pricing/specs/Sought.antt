@@ -1,7 +1,7 @@
 -- The steps of the last search for a greatest value.
 use Rattle.std.specs.Prelude.{ℕ, ◌+◌, ◌≤◌, List, length, pos}
-use Rattle.ps_steps.specs.Steps.{Step, Refutes}
-use Rattle.ps_forms.specs.Forms.{first_known}
+use Rattle.ps_pb.specs.Steps.{Step, Refutes}
+use Rattle.ps_clause.specs.Forms.{first_known}
 use Rattle.ps_maxsat.specs.declared.problem.Wcnf.{Wcnf}
 use Rattle.ps_maxsat.specs.declared.pricing.Priced.{Priced}
 use Rattle.ps_maxsat.specs.declared.pricing.Priced.TheVariants.{NoneAbove, Best, Cut, Spent}

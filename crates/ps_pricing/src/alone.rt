@@ -1,7 +1,7 @@
 //! A world that meets all bounds alone.
 ghost use Rattle.std.specs.Prelude.{◌≤◌, ◌<◌, All, IfOk, IfSome};
 ghost use Rattle.ps_pb.specs.declared.limits.TheConstants.{MOST_VARIABLES};
-ghost use Rattle.ps_steps.specs.Weights.{IsWithin};
+ghost use Rattle.ps_pb.specs.Weights.{IsWithin};
 ghost use Rattle.ps_log.specs.declared.limits.TheConstants.{MOST_CONFLICTS};
 
 use ps_clause::ClauseForm;

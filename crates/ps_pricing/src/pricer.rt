@@ -13,7 +13,7 @@ use crate::kept::{bounds_of, kept_sentences};
 use crate::pricing::Pricing;
 use crate::sought::{Sought, seek};
 use ps_answer::Dual;
-use ps_certificate::{ClaimKind, Combination, combination_of};
+use ps_claims::{ClaimKind, Combination, combination_of};
 use ps_clause::{ClauseForm, clauses_of, world_of};
 use ps_formula::World;
 use ps_io::{List, NoMemory};
@@ -41,7 +41,7 @@ pub struct Pricer<'p> {
 impl<'p> Model for Pricer<'p> {
     ghost use Rattle.std.specs.Prelude.{◌≡◌, ◌≤◌};
     ghost use Rattle.ps_problem.specs.Problems.{AreParts, bounds_in};
-    ghost use Rattle.ps_forms.specs.Forms.{form_of};
+    ghost use Rattle.ps_clause.specs.Forms.{form_of};
     ghost use Rattle.ps_runs.specs.Kept.{with_sentences};
     ghost use Rattle.ps_log.specs.declared.limits.TheConstants.{MOST_CONFLICTS};
     ghost use Rattle.ps_pricing.specs.Pricings.{PricingSubject};

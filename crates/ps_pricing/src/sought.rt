@@ -3,7 +3,7 @@ ghost use Rattle.std.specs.Prelude.{◌≤◌, IfOk};
 ghost use Rattle.ps_log.specs.declared.limits.TheConstants.{MOST_CONFLICTS};
 ghost use Rattle.ps_maxsat.specs.Limits.{IsNarrow, IsSoftWithin};
 ghost use Rattle.ps_maxsat.specs.Values.{IsPriced};
-ghost use Rattle.ps_certificate.specs.Printed.{AreOfLiterals};
+ghost use Rattle.ps_claims.specs.Printed.{AreOfLiterals};
 ghost use Rattle.ps_pricing.specs.Sought.{HasSteps, HasFewSteps};
 
 use ps_io::NoMemory;

@@ -4,7 +4,7 @@ use Rattle.std.specs.List.{AllZip}
 use Rattle.std.proofs.lemmas.List.Elements.{All-nil, All-cons}
 use Rattle.ps_problem.specs.declared.query.Query.{Query}
 use Rattle.ps_problem.specs.Problems.{Parts, AreParts}
-use Rattle.ps_pool.specs.declared.event.Event.{Event}
+use Rattle.ps_table.specs.declared.event.Event.{Event}
 use Rattle.ps_answer.specs.declared.answer.Answer.{Answer}
 use Rattle.ps_answer.specs.declared.answer.QueryPart.{QueryPart}
 use Rattle.ps_answer.specs.declared.answer.Verdict.{Verdict}
@@ -15,17 +15,17 @@ use Rattle.ps_claims.specs.declared.claim_kind.ClaimKind.TheVariants.{Nothing}
 use Rattle.ps_runs.specs.Kept.{AreAllKept}
 use Rattle.ps_runs.specs.Subjects.{sentences_of}
 use Rattle.ps_answer.proofs.WrittenItems.{written_report}
-use Rattle.ps_phases.proofs.Counted.{answer_counted}
-use Rattle.ps_phases.specs.Verdicts.{IsLawfulPart, IsLawfulPhaseOne, IsLawfulVerdict, asked_after}
-use Rattle.ps_certificate.specs.Printed.{IsPrintedAnswer, IsPrintedPart}
-use Rattle.ps_phases.specs.declared.limits.Limits.{Limits}
+use Rattle.ps_runs.proofs.Counted.{answer_counted}
+use Rattle.ps_runs.specs.Verdicts.{IsLawfulPart, IsLawfulPhaseOne, IsLawfulVerdict, asked_after}
+use Rattle.ps_claims.specs.Printed.{IsPrintedAnswer, IsPrintedPart}
+use Rattle.ps_runs.specs.declared.limits.Limits.{Limits}
 use Rattle.ps_generation.specs.Phases.{AreLimits, LimitedSubject}
-use Rattle.ps_reported.specs.Laws.{IsAnswered}
-use Rattle.ps_reported.proofs.LawfulAnswers.{answer_settled}
-use Rattle.ps_reported.proofs.Reports.{all_within, all_short, asked_same}
-use Rattle.ps_master.specs.declared.first.First.{First}
-use Rattle.ps_master.specs.declared.first.First.TheVariants as first
-use Rattle.ps_master.specs.Runs.{RunState, IsPhaseOneAnswer, IsValidFirst, IsPrintedFirst, verdict_of}
+use Rattle.ps_query.specs.Laws.{IsAnswered}
+use Rattle.ps_query.proofs.LawfulAnswers.{answer_settled}
+use Rattle.ps_query.proofs.Reports.{all_within, all_short, asked_same}
+use Rattle.ps_generation.specs.declared.first.First.{First}
+use Rattle.ps_generation.specs.declared.first.First.TheVariants as first
+use Rattle.ps_generation.specs.Runs.{RunState, IsPhaseOneAnswer, IsValidFirst, IsPrintedFirst, verdict_of}
 use Rattle.ps_query.specs.Parts.{ComesOf, IsNewOverAll, IsOpening, IsPartOf, IsVerdictOf}
 use Rattle.ps_query.specs.Solutions.{AreShortLines, IsReadBack, IsSolution}
 use Rattle.ps_query.proofs.Queries.{traced_alone, lawful_whole, valid_whole}

@@ -4,23 +4,23 @@ use Rattle.std.specs.Option.{is_some}
 use Rattle.std.proofs.lemmas.Option.{none-some}
 use Rattle.ps_problem.specs.declared.query.Query.{Query}
 use Rattle.ps_problem.specs.Problems.{Parts, HasNodes, bounds_of}
-use Rattle.ps_pool.specs.declared.event.Event.{Event}
+use Rattle.ps_table.specs.declared.event.Event.{Event}
 use Rattle.ps_table.specs.Tableau.{entry_at}
 use Rattle.ps_answer.specs.declared.answer.Model.{Model}
 use Rattle.ps_answer.specs.declared.answer.QueryAnswer.{QueryAnswer}
 use Rattle.ps_claims.specs.Queries.{IsAllowed}
 use Rattle.ps_claims.specs.declared.claim_kind.ClaimKind.TheVariants.{Nothing}
-use Rattle.ps_certificate.specs.Certificates.{model_of}
-use Rattle.ps_certificate.specs.Printed.{IsPrintedPart}
+use Rattle.ps_claims.specs.Certificates.{model_of}
+use Rattle.ps_claims.specs.Printed.{IsPrintedPart}
 use Rattle.ps_runs.specs.Programs.{Program}
 use Rattle.ps_runs.specs.Subjects.{subject_of, atoms_of, program_of}
 use Rattle.ps_runs.specs.Runs.{LeadsTo, IsFeasibleAt}
-use Rattle.ps_master.proofs.Sure.{program_asked, evidence_asked}
-use Rattle.ps_phases.specs.declared.limits.Limits.{Limits}
-use Rattle.ps_phases.specs.Verdicts.{IsLawfulPhaseOne}
+use Rattle.ps_generation.proofs.Sure.{program_asked, evidence_asked}
+use Rattle.ps_runs.specs.declared.limits.Limits.{Limits}
+use Rattle.ps_runs.specs.Verdicts.{IsLawfulPhaseOne}
 use Rattle.ps_generation.specs.Phases.{LimitedSubject, asking}
-use Rattle.ps_master.specs.declared.first.First.TheVariants as first
-use Rattle.ps_master.specs.Runs.{RunState, run_asking, stage_of, verdict_of, IsReached, IsPhaseOneAnswer}
+use Rattle.ps_generation.specs.declared.first.First.TheVariants as first
+use Rattle.ps_generation.specs.Runs.{RunState, run_asking, stage_of, verdict_of, IsReached, IsPhaseOneAnswer}
 use Rattle.ps_query.specs.Parts.{IsNewOverAll, HasReachedAlone, AreBoundsOf, IsPartOf}
 use Rattle.ps_query.proofs.Queries.{may_go_on, part_behind}
 

@@ -2,7 +2,7 @@
 use Rattle.std.proofs.Common.{◌≡◌, ℤ, Some, List, [], ◌++◌, refl, sym, subst, ap, ◌∙◌}
 use Rattle.ps_problem.specs.declared.query.Query.{Query}
 use Rattle.ps_problem.specs.Problems.{Parts}
-use Rattle.ps_pool.specs.declared.event.Event.{Event}
+use Rattle.ps_table.specs.declared.event.Event.{Event}
 use Rattle.ps_answer.specs.declared.answer.Cause.{Cause}
 use Rattle.ps_answer.specs.declared.answer.Dual.{Dual}
 use Rattle.ps_answer.specs.declared.answer.Model.{Model}
@@ -17,14 +17,14 @@ use Rattle.ps_valid.specs.Answers.{side_of}
 use Rattle.ps_runs.specs.Kept.{AreAllKept}
 use Rattle.ps_runs.specs.Subjects.{subject_of, given_in, program_of}
 use Rattle.ps_runs.proofs.Kept.{rows-all}
-use Rattle.ps_certificate.specs.Certificates.{dual_of}
-use Rattle.ps_phases.specs.Verdicts.{IsLawfulPhaseOne, IsLawfulSide, IsLawfulAnswerTo, AreLawfulBounds}
-use Rattle.ps_certificate.specs.Printed.{IsPrintedPart}
-use Rattle.ps_phases.specs.declared.limits.Limits.{Limits}
+use Rattle.ps_claims.specs.Certificates.{dual_of}
+use Rattle.ps_runs.specs.Verdicts.{IsLawfulPhaseOne, IsLawfulSide, IsLawfulAnswerTo, AreLawfulBounds}
+use Rattle.ps_claims.specs.Printed.{IsPrintedPart}
+use Rattle.ps_runs.specs.declared.limits.Limits.{Limits}
 use Rattle.ps_generation.specs.Phases.{LimitedSubject}
-use Rattle.ps_master.specs.declared.first.First.{First}
-use Rattle.ps_master.specs.declared.first.First.TheVariants as first
-use Rattle.ps_master.specs.Runs.{RunState, stage_of, IsPhaseOneAnswer, IsSideAnswerOf, IsValidFirst, IsValidSide, IsWholeFirst, IsWholeSide, kept_first, kept_side, verdict_of}
+use Rattle.ps_generation.specs.declared.first.First.{First}
+use Rattle.ps_generation.specs.declared.first.First.TheVariants as first
+use Rattle.ps_generation.specs.Runs.{RunState, stage_of, IsPhaseOneAnswer, IsSideAnswerOf, IsValidFirst, IsValidSide, IsWholeFirst, IsWholeSide, kept_first, kept_side, verdict_of}
 use Rattle.ps_query.specs.Parts.{IsNewOverAll, AreSidesOf, IsBehind, MayGoOn, IsPartOf}
 use Rattle.ps_query.proofs.Taken.{taken_from, reached_taken, trace_taken}
 use Rattle.ps_runs.specs.Subjects.{program_of}

@@ -1,6 +1,6 @@
 -- A run whose events were taken stands where it stood.
 use Rattle.std.proofs.Common.{◌≡◌, [], sym, subst, ap}
-use Rattle.ps_master.specs.Runs.{RunState, IsReached}
+use Rattle.ps_generation.specs.Runs.{RunState, IsReached}
 
 -- the run without the events that were taken
 abbrev pub taken_from : RunState → RunState

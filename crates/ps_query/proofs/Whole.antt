@@ -4,8 +4,8 @@ use Rattle.ps_problem.specs.declared.query.Query.{Query}
 use Rattle.ps_problem.specs.Problems.{Parts}
 use Rattle.ps_runs.specs.Kept.{flags_of, IsChoice, AreAllKept}
 use Rattle.ps_runs.proofs.Kept.{parts-all, flags-all}
-use Rattle.ps_phases.specs.declared.limits.Limits.{Limits}
-use Rattle.ps_master.specs.Runs.{RunState, IsNew}
+use Rattle.ps_runs.specs.declared.limits.Limits.{Limits}
+use Rattle.ps_generation.specs.Runs.{RunState, IsNew}
 use Rattle.ps_query.specs.Parts.{IsNewOverAll}
 
 pub new_over_all : (p : Parts) (kept : List Bool) (query : Option Query) (limits : Limits) (r : RunState) → IsChoice kept p → AreAllKept kept → IsNew p kept query limits r

@@ -3,7 +3,7 @@ use Rattle.std.specs.Prelude.{◌≡◌, ℕ, Bool, Option, Some, None, List, []
 use Rattle.std.specs.List.{AllZip}
 use Rattle.ps_problem.specs.declared.query.Query.{Query}
 use Rattle.ps_problem.specs.Problems.{Parts}
-use Rattle.ps_pool.specs.declared.event.Event.{Event}
+use Rattle.ps_table.specs.declared.event.Event.{Event}
 use Rattle.ps_answer.specs.declared.answer.QueryAnswer.{QueryAnswer}
 use Rattle.ps_answer.specs.declared.answer.QueryAnswer.TheVariants as query
 use Rattle.ps_answer.specs.declared.answer.QueryPart.{QueryPart}
@@ -17,12 +17,13 @@ use Rattle.ps_valid.specs.Answers.{part_of, verdict_of as claimed_verdict}
 use Rattle.ps_runs.specs.Kept.{AreAllKept}
 use Rattle.ps_runs.specs.Subjects.{program_of}
 use Rattle.ps_runs.specs.Runs.{Stage}
-use Rattle.ps_phases.specs.Verdicts.{IsLawfulSide, IsLawfulVerdict, IsLawfulPart, asked_after}
-use Rattle.ps_certificate.specs.Printed.{IsPrintedPart, IsPrintedVerdict}
-use Rattle.ps_phases.specs.declared.limits.Limits.{Limits}
-use Rattle.ps_master.specs.declared.first.First.{First}
-use Rattle.ps_master.specs.declared.first.First.TheVariants as first
-use Rattle.ps_master.specs.Runs.{RunState, stage_of, IsAtStart, IsPhaseOneAnswer, IsReached, IsValidSide, IsWholeSide, kept_side}
+use Rattle.ps_runs.specs.Verdicts.{IsLawfulSide, IsLawfulVerdict, IsLawfulPart, asked_after}
+use Rattle.ps_claims.specs.Printed.{IsPrintedPart, IsPrintedVerdict}
+use Rattle.ps_runs.specs.declared.limits.Limits.{Limits}
+use Rattle.ps_generation.specs.declared.first.First.{First}
+use Rattle.ps_generation.specs.declared.first.First.TheVariants as first
+use Rattle.ps_generation.specs.Runs.{RunState, stage_of, IsAtStart, IsPhaseOneAnswer, IsReached}
+use Rattle.ps_generation.specs.Runs.{IsValidSide, IsWholeSide, kept_side}
 
 -- a new run over all sentences of a problem, and a query, or none
 pub record IsNewOverAll (p : Parts) (query : Option Query) (limits : Limits) (r : RunState) : Type 0 where

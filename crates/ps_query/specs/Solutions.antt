@@ -7,11 +7,11 @@ use Rattle.ps_answer.specs.Answers.{answer_lines}
 use Rattle.ps_answer.specs.Faults.{IsReport}
 use Rattle.ps_claims.specs.Validity.{IsValid}
 use Rattle.ps_valid.specs.Answers.{answer_of, IsRightOf}
-use Rattle.ps_phases.specs.Verdicts.{IsLawfulAnswer}
-use Rattle.ps_certificate.specs.Printed.{IsPrintedAnswer}
-use Rattle.ps_phases.specs.declared.limits.Limits.{Limits}
-use Rattle.ps_reported.specs.Laws.{NamesFewWorlds}
-pub use Rattle.ps_reported.specs.Laws.{AreShortLines}
+use Rattle.ps_runs.specs.Verdicts.{IsLawfulAnswer}
+use Rattle.ps_claims.specs.Printed.{IsPrintedAnswer}
+use Rattle.ps_runs.specs.declared.limits.Limits.{Limits}
+use Rattle.ps_query.specs.Laws.{NamesFewWorlds}
+pub use Rattle.ps_query.specs.Laws.{AreShortLines}
 
 -- an answer to a problem within limits: each claim is valid and right, its runs are lawful, what is open is licensed,
 -- and all of it can be printed

@@ -2,9 +2,9 @@
 ghost use Rattle.std.specs.Prelude.{◌≡◌, ◌≢◌, [], None, IfOk};
 ghost use Rattle.std.specs.List.{AllZip};
 ghost use Rattle.ps_problem.specs.Problems.{HasNodes};
-ghost use Rattle.ps_certificate.specs.Printed.{IsPrintedPart};
+ghost use Rattle.ps_claims.specs.Printed.{IsPrintedPart};
 ghost use Rattle.ps_generation.specs.Phases.{AreLimits};
-ghost use Rattle.ps_master.specs.Runs.{IsAtStart, IsPrintedFirst, IsReached, verdict_of};
+ghost use Rattle.ps_generation.specs.Runs.{IsAtStart, IsPrintedFirst, IsReached, verdict_of};
 ghost use Rattle.ps_query.specs.Parts.{AreBoundsBehind, AreBoundsOf, ArePartsUnder, ComesOf};
 ghost use Rattle.ps_query.specs.Parts.{HasReachedAlone, IsBehind, IsNewOverAll, IsOpening};
 ghost use Rattle.ps_query.specs.Parts.{IsPartOf, IsPartOfRun, IsVerdictOf, MayGoOn};
@@ -12,10 +12,10 @@ ghost use Rattle.ps_query.specs.Solutions.{AreShortLines, IsReadBack, IsSolution
 
 use crate::starting::run_over_all;
 use ps_answer::{Answer, Parts, QueryAnswer, QueryPart, Verdict};
+use ps_generation::{First, Limits, Run};
 use ps_io::{List, NoMemory};
-use ps_master::{First, Limits, Run};
-use ps_pool::{Trace, trace_copy};
 use ps_problem::{Problem, Query};
+use ps_table::{Trace, trace_copy};
 use std::alloc::Global;
 
 /// The verdict of phase one.

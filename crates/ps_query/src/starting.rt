@@ -5,8 +5,8 @@ ghost use Rattle.ps_runs.specs.Kept.{AreAllKept, IsChoice};
 ghost use Rattle.ps_generation.specs.Phases.{AreLimits};
 ghost use Rattle.ps_query.specs.Parts.{IsNewOverAll};
 
+use ps_generation::{Limits, Run};
 use ps_io::{List, NoMemory};
-use ps_master::{Limits, Run};
 use ps_problem::{Problem, Query};
 use std::alloc::Global;
 

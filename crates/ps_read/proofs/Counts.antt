@@ -17,7 +17,7 @@ use Rattle.ps_problem.specs.Problems.{Parts}
 use Rattle.ps_problem.specs.declared.excess.Excess.{Excess}
 use Rattle.ps_problem.specs.declared.excess.Excess.TheVariants.{Bounds, Queries}
 use Rattle.ps_problem.specs.Counts.{ItemExcess, count_bounds, with_formulas, at_item, with_statements, with_questions, after, counted}
-use Rattle.ps_parse.specs.Kept.{drafted_in}
+use Rattle.ps_read.specs.Kept.{drafted_in}
 use Rattle.ps_text.specs.declared.kind.ReadKind.{ReadKind}
 use Rattle.ps_read.specs.Readings.{IsProblemOf, SpellsProblem, IsUnread}
 use Rattle.ps_read.specs.Answers.{Parsed, IsExcessIn}

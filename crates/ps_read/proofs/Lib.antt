@@ -1,3 +1,13 @@
+pub mod Reducing
+pub mod Next
+pub mod Marking
+pub mod CanonicalNesting
+pub mod KeptTokens
+pub mod Values
+pub mod Readiness
+pub mod Counting
+pub mod Closing
+pub mod Taken
 pub mod OneReading
 pub mod Words
 pub mod Steps
@@ -5,3 +15,9 @@ pub mod Places
 pub mod Right
 pub mod Counts
 pub mod Returned
+pub mod Alone
+pub mod Ends
+pub mod Readers
+pub mod Exact
+pub mod Knowing
+pub mod Callers

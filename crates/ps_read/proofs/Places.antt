@@ -18,9 +18,9 @@ use Rattle.ps_text.specs.PartialParses.{Parse, InPsat, InVersion, InHeadEnd, InI
 use Rattle.ps_lex.specs.declared.position.Position.{Position}
 use Rattle.ps_lex.specs.Places.{start}
 use Rattle.ps_lex.specs.Seen.{seen, behind_all}
-use Rattle.ps_expect.specs.KeptTokens.{token_of}
-use Rattle.ps_expect.proofs.Seen.{word_kept}
-use Rattle.ps_parse.specs.Taking.{is_item, begun_at}
+use Rattle.ps_lex.specs.KeptTokens.{token_of}
+use Rattle.ps_lex.proofs.Seen.{word_kept}
+use Rattle.ps_read.specs.Taking.{is_item, begun_at}
 
 -- the items that are whole
 abbrev pub whole_items : Parse → List ItemSyntax

@@ -12,8 +12,8 @@ use Rattle.ps_problem.specs.Problems.{Parts}
 use Rattle.ps_problem.specs.Drafts.{Drafted}
 use Rattle.ps_problem.specs.Counts.{ItemExcess, counted}
 use Rattle.ps_read.specs.Kinds.{count_kind}
-use Rattle.ps_parse.specs.declared.parser.Parser.{Parser}
-use Rattle.ps_parse.specs.Kept.{drafted_in}
+use Rattle.ps_read.specs.declared.parser.Parser.{Parser}
+use Rattle.ps_read.specs.Kept.{drafted_in}
 use Rattle.ps_read.specs.declared.read_error.ReadError.{ReadError}
 use Rattle.ps_read.specs.declared.read_error.ReadError.TheVariants as error
 use Rattle.ps_text.specs.declared.kind.ReadKind.{ReadKind}

@@ -25,14 +25,14 @@ use Rattle.ps_lex.specs.Lexing.{new_lexer, lexed}
 use Rattle.ps_lex.proofs.Places.{position_kept, offset_kept}
 use Rattle.ps_lex.proofs.Tokens.{behind_append}
 use Rattle.ps_lex.proofs.Told.{whole_told, bad_told}
-use Rattle.ps_expect.specs.KeptTokens.{token_of}
-use Rattle.ps_expect.proofs.Seen.{judged as judged_alike, goes_on}
-use Rattle.ps_parse.specs.Machine.{Machine, next}
-use Rattle.ps_parse.specs.Derivations.{Represents}
-use Rattle.ps_parse.specs.Kept.{drafted_in}
-use Rattle.ps_parse.specs.Taking.{begun_at}
-use Rattle.ps_parse.proofs.Next.{followed}
-use Rattle.ps_parse.proofs.KeptTokens.{taken_alike}
+use Rattle.ps_lex.specs.KeptTokens.{token_of}
+use Rattle.ps_lex.proofs.Seen.{judged as judged_alike, goes_on}
+use Rattle.ps_read.specs.Machine.{Machine, next}
+use Rattle.ps_read.specs.Derivations.{Represents}
+use Rattle.ps_read.specs.Kept.{drafted_in}
+use Rattle.ps_read.specs.Taking.{begun_at}
+use Rattle.ps_read.proofs.Next.{followed}
+use Rattle.ps_read.proofs.KeptTokens.{taken_alike}
 use Rattle.ps_read.specs.Readings.{IsFormRefused}
 use Rattle.ps_read.specs.Answers.{Parsed, nothing_parsed, part_of, with_token, is_done, Answer, ended, refused_or, judged, answer}
 use Rattle.ps_read.proofs.Places.{AreBegun, HaveBegun, same_later, more_begun, begun_alike}

@@ -15,11 +15,11 @@ use Rattle.ps_text.specs.declared.kind.ReadKind.TheVariants.{EndMissing}
 use Rattle.ps_read.specs.declared.read_error.ReadError.{ReadError}
 use Rattle.ps_read.specs.declared.read_error.ReadError.TheVariants as error
 use Rattle.ps_text.specs.PartialParses.{InPsat}
-use Rattle.ps_parse.specs.Machine.{Machine, at_first}
-use Rattle.ps_parse.specs.Derivations.{Represents, IsParsed}
-use Rattle.ps_parse.specs.declared.parser.Parser.{Parser}
-use Rattle.ps_parse.specs.Kept.{machine_of}
-use Rattle.ps_parse.specs.Taking.{CountsAtMost, IsOneMore}
+use Rattle.ps_read.specs.Machine.{Machine, at_first}
+use Rattle.ps_read.specs.Derivations.{Represents, IsParsed}
+use Rattle.ps_read.specs.declared.parser.Parser.{Parser}
+use Rattle.ps_read.specs.Kept.{machine_of}
+use Rattle.ps_read.specs.Taking.{CountsAtMost, IsOneMore}
 use Rattle.ps_read.specs.declared.reader.Reader.{Reader}
 use Rattle.ps_read.specs.Answers.{Parsed, part_of, with_token, is_done, begun_behind, Answer, ended, judged, answer, bad_or, step_answer, Agrees, IsStepAnswered, IsWordMode, BelongsTogether, HasPassed, IsWaiting, WaitsAt, AgreesAtEnd, Answers, parsed_by}
 use Rattle.ps_read.proofs.Words.{word_behind}

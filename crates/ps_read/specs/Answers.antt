@@ -15,12 +15,12 @@ use Rattle.ps_lex.specs.declared.token.Token.{Token}
 use Rattle.ps_lex.specs.Places.{start, line_and_column, IsWithin}
 use Rattle.ps_lex.specs.Seen.{behind_all}
 use Rattle.ps_lex.specs.Lexing.{LexerState, bad_place, is_within_token, lexed}
-use Rattle.ps_expect.specs.KeptTokens.{token_of}
-use Rattle.ps_parse.specs.declared.parser.Parser.{Parser}
-use Rattle.ps_parse.specs.Machine.{Machine, at_first, next}
-use Rattle.ps_parse.specs.Derivations.{IsParsed}
-use Rattle.ps_parse.specs.Kept.{machine_of, places_of, drafted_in}
-use Rattle.ps_parse.specs.Taking.{IsKept, CountsAtMost, begun_at}
+use Rattle.ps_lex.specs.KeptTokens.{token_of}
+use Rattle.ps_read.specs.declared.parser.Parser.{Parser}
+use Rattle.ps_read.specs.Machine.{Machine, at_first, next}
+use Rattle.ps_read.specs.Derivations.{IsParsed}
+use Rattle.ps_read.specs.Kept.{machine_of, places_of, drafted_in}
+use Rattle.ps_read.specs.Taking.{IsKept, CountsAtMost, begun_at}
 use Rattle.ps_read.specs.declared.read_error.ReadError.{ReadError}
 use Rattle.ps_read.specs.declared.read_error.ReadError.TheVariants as error
 use Rattle.ps_read.specs.declared.reader.Reader.{Reader}

@@ -2,9 +2,9 @@
 ghost use Rattle.std.specs.Prelude.{◌≡◌};
 ghost use Rattle.ps_read.specs.declared.read_error.ReadError.TheVariants as errors;
 
-use crate::ReadKind;
 use ps_io::NoMemory;
 use ps_lex::Position;
+use ps_text::ReadKind;
 use thiserror::Error;
 
 /// Why no problem is read.

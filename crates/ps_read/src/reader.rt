@@ -3,18 +3,19 @@ ghost use Rattle.std.specs.Prelude.{◌≡◌, ◌<◌, ◌≤◌, ◌+◌, ◌-
 ghost use Rattle.ps_lex.specs.Lexing.{new_lexer};
 ghost use Rattle.ps_lex.specs.Passing.{Passes};
 ghost use Rattle.ps_problem.specs.declared.limits.TheConstants.{MOST_DRAFTED};
-ghost use Rattle.ps_parse.specs.Derivations.{IsParsed};
-ghost use Rattle.ps_parse.specs.Kept.{machine_of};
-ghost use Rattle.ps_parse.specs.Taking.{CountsAtMost, IsOneMore};
+ghost use Rattle.ps_read.specs.Derivations.{IsParsed};
+ghost use Rattle.ps_read.specs.Kept.{machine_of};
+ghost use Rattle.ps_read.specs.Taking.{CountsAtMost, IsOneMore};
 ghost use Rattle.ps_read.specs.Answers.{nothing_parsed, parsed_by, begun_behind, is_done};
 ghost use Rattle.ps_read.specs.Answers.{part_of, ended, AgreesAtEnd, IsJudged, IsFed, IsFinished};
 ghost use Rattle.ps_read.specs.Answers.{BelongsTogether, IsKeptIn, HasPassed};
 ghost use Rattle.ps_read.specs.Answers.{GoesOnWithout, IsWaiting, WaitsAt};
 
-use crate::{ReadError, ReadKind};
+use crate::parse_error::ParseError;
+use crate::parser::Parser;
+use crate::read_error::ReadError;
 use ps_lex::{Lexer, Position, Token};
-use ps_parse::{ParseError, Parser};
-use ps_text::Part;
+use ps_text::{Part, ReadKind};
 use std::alloc::Global;
 
 /// Reads a problem's text that it is fed byte by byte.

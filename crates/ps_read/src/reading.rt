@@ -9,11 +9,12 @@ ghost use Rattle.ps_read.specs.Reads.{ReadsEachWhole, RefusesEachWhole};
 ghost use Rattle.ps_read.specs.Answers.{answer as answer_of, nothing_parsed, parsed_by, Answers};
 ghost use Rattle.ps_read.specs.Answers.{AreWhole, IsBuiltOf, IsRight};
 
+use crate::parser::Parser;
+use crate::read_error::ReadError;
 use crate::reader::Reader;
-use crate::{ReadError, ReadKind};
 use ps_lex::Position;
-use ps_parse::Parser;
 use ps_problem::{BuildError, Problem, build};
+use ps_text::ReadKind;
 use std::alloc::Global;
 
 // What is parsed of the text at the front, and the position behind the text and its blanks.

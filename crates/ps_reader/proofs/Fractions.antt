@@ -1,11 +1,11 @@
 -- Fractions of a report.
 use Rattle.std.proofs.Common.{◌≡◌, ◌^◌, ap, ◌∙◌, arith}
-use Rattle.ps_rational.specs.Rational.{Rational, fraction}
+use Rattle.ps_meaning.specs.Rational.{Rational, fraction}
 use Rattle.ps_answer.specs.declared.item.Ratio.{Ratio}
 use Rattle.ps_answer.specs.Items.{IsReducedWithin, IsRatioWithin}
 use Rattle.ps_answer.specs.declared.limits.TheConstants.{MOST_OPERAND}
 use Rattle.ps_answer.specs.Answers.{ratio_of}
-use Rattle.ps_line.proofs.Fractions.{coprime_kept}
+use Rattle.ps_reader.proofs.LineFractions.{coprime_kept}
 
 -- in lowest terms a fraction keeps its numbers
 pub lowest_ratio : (q : Ratio) (x : Rational) → IsReducedWithin MOST_OPERAND q → IsRatioWithin MOST_OPERAND q → x ≡ fraction q.over q.under → ratio_of x ≡ q

@@ -4,13 +4,13 @@ use Rattle.std.proofs.lemmas.Option.{none-some}
 use Rattle.ps_io.specs.declared.list.List.{List as Listed}
 use Rattle.ps_formula.specs.declared.world.World.{World}
 use Rattle.ps_pb.specs.declared.step.Step.{Step}
-use Rattle.ps_pool.specs.declared.col.Col.{Col}
+use Rattle.ps_table.specs.declared.col.Col.{Col}
 use Rattle.ps_answer.specs.ExpectedParts.{behind}
 use Rattle.ps_answer.specs.declared.item.LineItem.{LineItem}
 use Rattle.ps_answer.specs.declared.item.LineItem.TheVariants as line
 use Rattle.ps_answer.specs.declared.part.Part.TheVariants.{AModel, AnEntry, ADual, SomeRows, AStep, ATrace, AnEvent}
 use Rattle.ps_answer.specs.declared.part.Part.{Part}
-use Rattle.ps_line.specs.Read.{Fits}
+use Rattle.ps_reader.specs.Read.{Fits}
 use Rattle.std.proofs.Common.{[]}
 
 no_item : (p : Part) (i : LineItem) → Fits p i → behind p i [] ≡ None → ⊥

@@ -2,9 +2,9 @@
 use Rattle.std.proofs.Common.{◌≡◌, ℕ, suc, ◌+◌, append-nil, Bool, true, false, List, [], ◌∷◌, ◌++◌, length, map, None, Some, refl, sym, ap, subst, ◌∙◌, arith, append_assoc}
 use Rattle.std.specs.Prelude.{if◌then◌else◌}
 use Rattle.std.proofs.lemmas.Option.{none-some}
-use Rattle.ps_steps.specs.Steps.{Step}
-use Rattle.ps_pool.specs.declared.event.Event.{Event}
-use Rattle.ps_pool.specs.declared.event.Event.TheVariants.{Pivot, Priced}
+use Rattle.ps_pb.specs.Steps.{Step}
+use Rattle.ps_table.specs.declared.event.Event.{Event}
+use Rattle.ps_table.specs.declared.event.Event.TheVariants.{Pivot, Priced}
 use Rattle.ps_log.proofs.StepShapes.{head, tail}
 use Rattle.ps_answer.proofs.Dues.{same_number}
 use Rattle.ps_answer.specs.declared.item.Ratio.{Ratio}
@@ -25,7 +25,7 @@ use Rattle.ps_answer.specs.Answers.{ratio_of, entry_item, event_item, model_item
 use Rattle.ps_answer.specs.declared.part.Part.{Part}
 use Rattle.ps_answer.specs.declared.part.Part.TheVariants.{AVerdict, AModel, AnEntry, ADual, AStep, AGoal, ACause, ATrace, AnEvent, AnAnswer, ASide, AQuery}
 use Rattle.ps_answer.specs.ExpectedParts.{many, behind, behind_cause, due_behind, and_then}
-use Rattle.ps_line.specs.Read.{Fits}
+use Rattle.ps_reader.specs.Read.{Fits}
 use Rattle.ps_reader.specs.Taken.{repeated}
 use Rattle.ps_reader.specs.Reports.{parts_behind, traced_items, IsSideTold, query_part_items, IsPartTold}
 use Rattle.ps_reader.proofs.Taking.{due_both, many_more, EachPasses}

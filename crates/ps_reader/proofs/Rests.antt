@@ -7,7 +7,7 @@ use Rattle.ps_answer.specs.declared.part.Part.{Part}
 use Rattle.ps_answer.specs.declared.item.LineItem.TheVariants as line
 use Rattle.ps_answer.specs.declared.part.Part.TheVariants.{AGoal, AnAnswer, AQuery}
 use Rattle.std.proofs.lemmas.Option.{none-some}
-use Rattle.ps_line.specs.Read.{Fits}
+use Rattle.ps_reader.specs.Read.{Fits}
 use Rattle.ps_answer.specs.declared.error.ReportError.{ReportError}
 use Rattle.ps_answer.specs.Items.{IsProper}
 use Rattle.ps_answer.specs.ExpectedParts.{behind, due_behind}

@@ -14,7 +14,7 @@ use Rattle.ps_answer.specs.Items.{IsWithin}
 use Rattle.ps_answer.specs.ExpectedParts.{behind, due_behind, and_then, many}
 use Rattle.ps_answer.specs.Faults.{AreLines, BeginWith, IsFault}
 use Rattle.ps_answer.proofs.Single.{next_of}
-use Rattle.ps_line.specs.Lines.{TakesLine, IsLackingLine}
+use Rattle.ps_reader.specs.Lines.{TakesLine, IsLackingLine}
 use Rattle.ps_reader.specs.declared.lines.Lines.{Lines}
 use Rattle.ps_reader.specs.Errors.{IsKept, BeginsKept, LacksAt}
 use Rattle.ps_reader.specs.Taken.{left_in, Takes, FaultAt, IsStopped, IsValueRead, IsMore, repeated}

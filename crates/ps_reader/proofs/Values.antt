@@ -3,8 +3,8 @@ use Rattle.std.specs.Prelude.{IfOk}
 use Rattle.std.proofs.Common.{◌≡◌, ℕ, ◌+◌, ◌==◌, ℤ, List, [], ◌∷◌, ◌++◌, length, map, Some, Result, Ok, Err, true≢false, false, refl, sym, ap, subst, ◌∙◌, arith, length-append, to_z, of_z}
 use mir.Syntax.{w128}
 use Rattle.ps_pb.specs.declared.step.Step.{Step}
-use Rattle.ps_pool.specs.declared.event.Event.{Event}
-use Rattle.ps_pool.specs.declared.event.Event.TheVariants.{Pivot, Priced}
+use Rattle.ps_table.specs.declared.event.Event.{Event}
+use Rattle.ps_table.specs.declared.event.Event.TheVariants.{Pivot, Priced}
 use Rattle.ps_answer.specs.declared.answer.Weighted.{Weighted}
 use Rattle.ps_answer.specs.declared.error.ReportError.{ReportError}
 use Rattle.ps_answer.specs.declared.item.LineItem.{LineItem}
@@ -13,7 +13,7 @@ use Rattle.ps_answer.specs.declared.part.Part.{Part}
 use Rattle.ps_answer.specs.declared.part.Part.TheVariants.{AModel, AnEntry, ADual, SomeRows, AStep, ATrace, AnEvent}
 use Rattle.ps_answer.specs.Answers.{entry_item, event_item, trace_items}
 use Rattle.ps_answer.specs.ExpectedParts.{behind, due_behind}
-use Rattle.ps_line.proofs.RowWords.{small_kept}
+use Rattle.ps_reader.proofs.RowWords.{small_kept}
 use Rattle.ps_reader.specs.declared.lines.Lines.{Lines}
 use Rattle.ps_reader.specs.Errors.{IsKept}
 use Rattle.ps_reader.specs.Taken.{Takes, IsStopped, IsValueRead, repeated}

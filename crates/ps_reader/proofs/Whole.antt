@@ -1,7 +1,7 @@
 -- Queries in their order, and whole reports.
 use Rattle.std.proofs.Common.{◌≡◌, ℕ, suc, ◌+◌, List, [], ◌∷◌, ◌++◌, length, Some, refl, sym, ap, subst, ◌∙◌, arith}
 use Rattle.std.proofs.lemmas.Option.{none-some}
-use Rattle.ps_pool.specs.declared.event.Event.{Event}
+use Rattle.ps_table.specs.declared.event.Event.{Event}
 use Rattle.ps_answer.specs.declared.item.LineItem.{LineItem}
 use Rattle.ps_answer.specs.declared.item.LineItem.TheVariants as line
 use Rattle.ps_answer.specs.declared.part.Part.TheVariants.{AReport, AVerdict, ATrace, AnAnswer, AQuery}
@@ -15,7 +15,7 @@ use Rattle.ps_answer.specs.Answers.{verdict_items, trace_items, part_items, answ
 use Rattle.ps_answer.specs.ExpectedParts.{behind, at_start}
 use Rattle.ps_answer.specs.Faults.{BeginWith, IsFirstFault}
 use Rattle.ps_answer.proofs.Dues.{answer_due}
-use Rattle.ps_line.specs.Read.{Fits}
+use Rattle.ps_reader.specs.Read.{Fits}
 use Rattle.ps_reader.specs.declared.lines.Lines.{Lines}
 use Rattle.ps_reader.specs.Taken.{left_in, Takes, FaultAt, IsStopped, IsMore}
 use Rattle.ps_reader.specs.Errors.{LacksAt, TellsFault}

@@ -9,7 +9,7 @@ use Rattle.ps_answer.specs.declared.error.ReportError.TheVariants.{At, NoMemory}
 use Rattle.ps_answer.specs.Items.{IsWithin}
 use Rattle.ps_answer.specs.ExpectedParts.{at_start, due_behind}
 use Rattle.ps_answer.specs.Faults.{BeginWith, IsFirstFault}
-use Rattle.ps_line.specs.Lines.{IsLackingLine}
+use Rattle.ps_reader.specs.Lines.{IsLackingLine}
 
 -- what is kept in a list: a world, a step, an event or a query
 abbrev pub IsKept : LineItem → Type 0

@@ -1,6 +1,6 @@
 -- What is read of a report behind a first line.
 use Rattle.std.specs.Prelude.{ℕ, ◌≡◌, ◌≤◌, Bool, true, false, List, [], ◌∷◌, ◌++◌, Result, Ok, Err, ⊤}
-use Rattle.ps_pool.specs.declared.event.Event.{Event}
+use Rattle.ps_table.specs.declared.event.Event.{Event}
 use Rattle.ps_answer.specs.declared.item.LineItem.{LineItem}
 use Rattle.ps_answer.specs.declared.item.LineItem.TheVariants as line
 use Rattle.ps_answer.specs.declared.part.Part.{Part}

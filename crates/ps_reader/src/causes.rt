@@ -5,15 +5,15 @@ ghost use Rattle.ps_answer.specs.Items.{IsReducedWithin, IsRatioWithin};
 ghost use Rattle.ps_answer.specs.declared.limits.TheConstants.{MOST_OPERAND};
 ghost use Rattle.ps_answer.specs.declared.item.LineItem.TheVariants as line;
 ghost use Rattle.ps_answer.specs.declared.part.Part.TheVariants.{ACause, AGoal, AVerdict};
-ghost use Rattle.ps_line.specs.Read.{Fits};
+ghost use Rattle.ps_reader.specs.Read.{Fits};
 ghost use Rattle.ps_reader.specs.Taken.{IsLineRead, IsValueRead};
 ghost use Rattle.ps_reader.specs.Reports.{IsRestRead, IsGood};
 
 use crate::lines::Lines;
 use crate::models::{dual, model, steps};
+use crate::ratio::fraction_of;
 use ps_answer::{Cause, LineItem, Part, Ratio, ReportError, Verdict};
 use ps_frac::{Fraction, Op};
-use ps_line::fraction_of;
 use ps_pb::Constraint;
 use ps_table::{Place, WideAt};
 

@@ -1,8 +1,9 @@
 //! The lines of a report, one after another.
 ghost use Rattle.std.specs.Prelude.{◌≤◌, ◌+◌, ◌^◌, length};
 
+use crate::error::LineError;
+use crate::line::read_line;
 use ps_answer::{LineItem, LineKind, Part, ReportError};
-use ps_line::{LineError, read_line};
 use std::alloc::Global;
 
 /// The lines that are still to be taken, and how many were.
@@ -16,7 +17,7 @@ pub(crate) struct Lines<'b> {
 
 impl<'b> Lines<'b> {
     ghost use Rattle.std.specs.Prelude.{◌≡◌, ◌∷◌, [], IfOk, IfErr, OnErr};
-    ghost use Rattle.ps_line.specs.Read.{Fits};
+    ghost use Rattle.ps_reader.specs.Read.{Fits};
     ghost use Rattle.ps_reader.specs.Taken.{Takes, IsStopped, IsMore, left_in};
 
     /// All lines of some bytes.

@@ -5,7 +5,7 @@ ghost use Rattle.ps_answer.specs.Items.{IsReducedWithin, IsRatioWithin};
 ghost use Rattle.ps_answer.specs.declared.limits.TheConstants.{MOST_OPERAND};
 ghost use Rattle.ps_answer.specs.declared.item.LineItem.TheVariants as line;
 ghost use Rattle.ps_answer.specs.declared.part.Part.TheVariants.{ACause, AnAnswer, AQuery};
-ghost use Rattle.ps_line.specs.Read.{Fits};
+ghost use Rattle.ps_reader.specs.Read.{Fits};
 ghost use Rattle.ps_reader.specs.Taken.{IsValueRead};
 ghost use Rattle.ps_reader.specs.Reports.{IsRestRead, IsSideRead, IsSideRest, IsOpenRest, IsGood};
 ghost use Rattle.ps_reader.specs.Reports.{query_part_items, parts_and_end_items};
@@ -17,7 +17,7 @@ use crate::models::{dual, model};
 use crate::traces::trace;
 use ps_answer::{LineItem, Part, Parts, QueryAnswer, QueryPart, Ratio, ReportError, SideAnswer};
 use ps_io::List;
-use ps_pool::Trace;
+use ps_table::Trace;
 
 // A side of a query, and its events.
 fn side(upper: bool, lines: &mut Lines<'_>) -> Result<(SideAnswer, Trace), ReportError>

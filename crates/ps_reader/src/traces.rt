@@ -8,7 +8,7 @@ ghost use Rattle.ps_reader.specs.Taken.{IsLineRead, IsValueRead, repeated};
 use crate::lines::Lines;
 use ps_answer::{LineItem, Part, ReportError};
 use ps_io::List;
-use ps_pool::{Event, Trace};
+use ps_table::{Event, Trace};
 
 /// A trace: its head, and its events.
 pub(crate) fn trace(lines: &mut Lines<'_>) -> Result<Trace, ReportError>

@@ -9,9 +9,9 @@ use Rattle.ps_io.specs.declared.sink.Sink.{Ghosts}
 use Rattle.ps_io.specs.declared.sink.WriteFault.{WriteFault}
 use Rattle.ps_log.specs.Lines.{HoldsLine}
 use Rattle.ps_log.specs.Texts.{with_number, with_numbers, step_numbers, goal_numbers, step_line, goal_line}
-use Rattle.ps_steps.specs.Constraints.{Constraint}
-use Rattle.ps_steps.specs.Steps.{Step}
-use Rattle.ps_steps.specs.Weights.{weighted}
+use Rattle.ps_pb.specs.Constraints.{Constraint}
+use Rattle.ps_pb.specs.Steps.{Step}
+use Rattle.ps_pb.specs.Weights.{weighted}
 use Rattle.ps_answer.specs.declared.item.LineItem.TheVariants as line
 use Rattle.ps_answer.specs.Items.{item_line}
 use Rattle.ps_answer.specs.Words.{Word, Number, word_text}

@@ -8,7 +8,7 @@ use Rattle.ps_io.specs.declared.lines.Lines.{Lines}
 use Rattle.ps_io.specs.declared.sink.Sink.{Ghosts}
 use Rattle.ps_io.specs.declared.sink.WriteFault.{WriteFault}
 use Rattle.ps_log.specs.Lines.{HoldsLine}
-use Rattle.ps_rational.specs.Rational.{Rational}
+use Rattle.ps_meaning.specs.Rational.{Rational}
 use Rattle.ps_table.specs.declared.place.WideAt.{WideAt}
 use Rattle.ps_table.specs.declared.place.TableCol.{TableCol}
 use Rattle.ps_answer.specs.declared.item.LineItem.{LineItem}

@@ -13,7 +13,7 @@ use crate::parts::{write_dual, write_model, write_steps, write_trace};
 use ps_answer::{Cause, Dual, Model, Verdict};
 use ps_io::{Lines, Sink, WriteFault};
 use ps_pb::{Constraint, Step};
-use ps_pool::Event;
+use ps_table::Event;
 
 /// Writes why a part is open.
 pub fn write_cause<O: Sink>(lines: &mut Lines<'_, O>, cause: &Cause) -> Result<(), WriteFault>

@@ -15,7 +15,7 @@ use ps_formula::World;
 use ps_io::{LONGEST_LINE, Lines, Sink, WriteFault};
 use ps_log::{add_number, write_goal, write_step};
 use ps_pb::{Constraint, Step};
-use ps_pool::{Col, Event};
+use ps_table::{Col, Event};
 
 /// Writes a world of a model, with its weight.
 pub fn write_entry<O: Sink>(lines: &mut Lines<'_, O>, entry: &Weighted) -> Result<(), WriteFault>

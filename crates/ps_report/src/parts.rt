@@ -11,7 +11,7 @@ use crate::heads::{write_dual_head, write_model_head, write_trace_head};
 use ps_answer::{Dual, Model, Weighted};
 use ps_io::{Lines, Sink, WriteFault};
 use ps_pb::Step;
-use ps_pool::Event;
+use ps_table::Event;
 
 /// Writes a model: its total and how many worlds it has, and each of them with its weight.
 pub fn write_model<O: Sink>(lines: &mut Lines<'_, O>, model: &Model) -> Result<(), WriteFault>

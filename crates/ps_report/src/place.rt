@@ -9,8 +9,7 @@ ghost use Rattle.ps_report.specs.Written.{AddsWords, cell_words};
 
 use crate::words::{LONGEST_COLUMN, add_column};
 use ps_io::{LONGEST_LINE, Lines, Sink};
-use ps_pool::Col;
-use ps_table::{Place, TableCol};
+use ps_table::{Col, Place, TableCol};
 
 /// A place has at most so many bytes, with the spaces before its words.
 pub(crate) const LONGEST_PLACE: usize = 100;

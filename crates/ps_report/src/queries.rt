@@ -13,7 +13,7 @@ use crate::parts::write_trace;
 use crate::sides::write_side;
 use ps_answer::{Dual, QueryAnswer, QueryPart, SideAnswer};
 use ps_io::{Lines, Sink, WriteFault};
-use ps_pool::Event;
+use ps_table::Event;
 
 /// What is answered to the two sides of a query, each with the events of its phase.
 #[derive(Clone, Copy, Drop)]

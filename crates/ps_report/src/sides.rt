@@ -9,7 +9,7 @@ use crate::open::{write_bound, write_open_side};
 use crate::parts::write_model;
 use ps_answer::{Dual, Model, SideAnswer};
 use ps_io::{Lines, Sink, WriteFault};
-use ps_pool::Event;
+use ps_table::Event;
 
 /// Writes what is answered to one side of a query, and its trace.
 pub fn write_side<O: Sink>(

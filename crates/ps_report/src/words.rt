@@ -13,7 +13,7 @@ use arrayvec::ArrayVec;
 use ps_formula::World;
 use ps_frac::{Fraction, Op};
 use ps_io::{LONGEST_LINE, Lines, Sink};
-use ps_pool::Col;
+use ps_table::Col;
 
 /// A fraction has at most so many bytes: two numbers, and `/`.
 pub(crate) const LONGEST_FRACTION: usize = 81;

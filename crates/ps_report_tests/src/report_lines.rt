@@ -1,5 +1,5 @@
 use ps_answer::{LineKind, Part};
-use ps_line::{LineError, read_line};
+use ps_reader::{LineError, read_line};
 use std::alloc::Global;
 
 const FIRST: Part = Part::AQuery { number: 1 };

@@ -3,12 +3,11 @@ ghost use Rattle.ps_io.specs.Lines.{text_of};
 
 use ps_frac::{Fraction, Op};
 use ps_io::{Lines, MemSink, Sink, WriteFault};
-use ps_pool::Col;
 use ps_report::{
     write_bound, write_dual_head, write_end, write_model_head, write_open_conflicts,
     write_open_wide, write_query, write_report_head,
 };
-use ps_table::{Place, TableCol, WideAt};
+use ps_table::{Col, Place, TableCol, WideAt};
 use std::alloc::Global;
 
 const WRITTEN: &[u8] =

@@ -4,9 +4,9 @@ ghost use Rattle.ps_log.specs.FirstLines.{IsOneLine};
 
 use crate::validity::{ACCEPTED, HALF_ASKED, INCONSISTENT, REFUSED, problem_of};
 use ps_answer::LineKind;
+use ps_check::{StreamCheck, StreamEnd};
 use ps_log::split_once;
 use ps_problem::Problem;
-use ps_stream::{StreamCheck, StreamEnd};
 use ps_valid::{Accepted, Refusal};
 use std::alloc::Global;
 

@@ -5,10 +5,10 @@ ghost use Rattle.ps_valid.specs.Limits.{IsSmallAnswer, IsSmallPart, IsSmallSide}
 
 use ps_answer::{Answer, QueryAnswer, SideAnswer};
 use ps_claims::ClaimKind;
+use ps_pb::StepRefused;
 use ps_problem::{Problem, Query};
 use ps_read::read_whole;
 use ps_reader::read_report;
-use ps_steps::StepRefused;
 use ps_valid::{
     Accepted, CheckError, Claim, Reason, Refusal, check, check_bound, reports_are_small,
 };

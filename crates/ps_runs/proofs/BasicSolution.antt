@@ -1,13 +1,13 @@
 -- The basic solution of a table: the value of each column.
 use Rattle.std.proofs.Common.{◌≡◌, ◌≢◌, ◌⊎◌, ℕ, zero, suc, ◌+◌, ◌-◌, ◌<◌, pos, Bool, true, false, cond, eqb, eq-eqb, ne_eqb, List, [], ◌∷◌, length, get_or, sym, refl, ap, ◌∙◌, subst, arith, inl, inr}
 use Rattle.std.proofs.lemmas.Bool.{cases_eq, cases_lt}
-use Rattle.ps_rational.specs.Rational.{Rational, whole, add, mul, sub, zero_q, one_q}
-use Rattle.ps_rational.specs.Order.{IsNonneg}
-use Rattle.ps_rational.specs.Sums.{sum_to}
-use Rattle.ps_rational.proofs.Ring.{var, plus, by, minus, none, unit}
-use Rattle.ps_rational.proofs.Field.{ring_q, mul_comm, one_not_zero}
-use Rattle.ps_rational.proofs.Order.{zero_nonneg}
-use Rattle.ps_rational.proofs.Sums.{sum_split, sum_same, sum_scale, sum_swap, sum_of_zeros, sum_one, unit_sum, sum_nonneg}
+use Rattle.ps_meaning.specs.Rational.{Rational, whole, add, mul, sub, zero_q, one_q}
+use Rattle.ps_meaning.specs.Order.{IsNonneg}
+use Rattle.ps_meaning.specs.Sums.{sum_to}
+use Rattle.ps_meaning.proofs.Ring.{var, plus, by, minus, none, unit}
+use Rattle.ps_meaning.proofs.Field.{ring_q, mul_comm, one_not_zero}
+use Rattle.ps_meaning.proofs.Order.{zero_nonneg}
+use Rattle.ps_meaning.proofs.Sums.{sum_split, sum_same, sum_scale, sum_swap, sum_of_zeros, sum_one, unit_sum, sum_nonneg}
 use Rattle.ps_meaning.specs.Formula.{World}
 use Rattle.ps_simplex.specs.Table.{unit_at}
 use Rattle.ps_simplex.proofs.Units.{less_one, unit_at-same, unit_at-other}

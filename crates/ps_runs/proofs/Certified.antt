@@ -1,11 +1,11 @@
 -- What is found over the nodes' variables, as what it says of worlds, and the ends of phases as valid claims.
 use Rattle.std.proofs.Common.{◌≡◌, ℕ, ℤ, pos, ◌≤ℤ◌, neg_ℤ, Bool, Option, Some, None, List, length, sym, refl, ap, ◌∙◌, subst}
 use Rattle.ps_meaning.specs.Formula.{World}
-use Rattle.ps_rational.specs.Rational.{Rational}
+use Rattle.ps_meaning.specs.Rational.{Rational}
 use Rattle.ps_simplex.specs.Rule.{IsFeasible, IsResting}
-use Rattle.ps_forms.specs.Forms.{form_of, first_known, MeetsForm}
-use Rattle.ps_forms.specs.Extensions.{extension}
-use Rattle.ps_steps.specs.Steps.{Refutes}
+use Rattle.ps_clause.specs.Forms.{form_of, first_known, MeetsForm}
+use Rattle.ps_clause.specs.Extensions.{extension}
+use Rattle.ps_pb.specs.Steps.{Refutes}
 use Rattle.ps_problem.specs.declared.query.Query as stored
 use Rattle.ps_problem.specs.declared.bound.Bound.{Bound}
 use Rattle.ps_problem.specs.Problems.{Parts, AreParts, bounds_in, bounds_of}

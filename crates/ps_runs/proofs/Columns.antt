@@ -3,8 +3,8 @@ use Rattle.std.proofs.Common.{◌≡◌, ℕ, suc, ◌+◌, ◌-◌, ◌<◌, �
 use Rattle.std.proofs.lemmas.Bool.{lt-leb}
 use Rattle.std.proofs.Common.{le-leb}
 use Rattle.std.proofs.lemmas.List.{get_or-map, get_or_append_left, length-map}
-use Rattle.ps_rational.specs.Rational.{fraction, whole, zero_q, one_q}
-use Rattle.ps_rational.proofs.Field.{zero_is_fraction, one_is_fraction}
+use Rattle.ps_meaning.specs.Rational.{fraction, whole, zero_q, one_q}
+use Rattle.ps_meaning.proofs.Field.{zero_is_fraction, one_is_fraction}
 use Rattle.ps_meaning.specs.Formula.{World}
 use Rattle.ps_simplex.specs.Table.{unit_at, HasHomes}
 use Rattle.ps_simplex.proofs.Units.{less_one}

@@ -1,10 +1,10 @@
 -- A dual's combination of a world is the same multiple of what the world's column is priced above its cost.
 use Rattle.std.proofs.Common.{◌≡◌, ◌↔◌, ℕ, zero, suc, ◌<◌, ℤ, pos, ◌+ℤ◌, ◌*ℤ◌, ◌<ℤ◌, neg_ℤ, List, [], ◌∷◌, map, length, get_or, sym, refl, ap, ◌∙◌, subst, arith}
 use Rattle.std.proofs.lemmas.Int.{ints}
-use Rattle.ps_rational.specs.Rational.{Rational, whole, mul, sub}
-use Rattle.ps_rational.specs.Order.{IsLess}
-use Rattle.ps_rational.specs.Sums.{int_sum_to}
-use Rattle.ps_rational.proofs.IntRing.{neg-*ℤ, *ℤ_comm, *ℤ-zero}
+use Rattle.ps_meaning.specs.Rational.{Rational, whole, mul, sub}
+use Rattle.ps_meaning.specs.Order.{IsLess}
+use Rattle.ps_meaning.specs.Sums.{int_sum_to}
+use Rattle.ps_meaning.proofs.IntRing.{neg-*ℤ, *ℤ_comm, *ℤ-zero}
 use Rattle.ps_meaning.specs.Formula.{World}
 use Rattle.ps_meaning.specs.declared.side.Side.{Side}
 use Rattle.ps_meaning.specs.declared.side.Side.TheVariants.{AtLeast, AtMost, Exactly}
@@ -15,8 +15,8 @@ use Rattle.ps_simplex.proofs.Combination.{combination_is, improves_from, improve
 use Rattle.ps_problem.specs.Rows.{signed_by}
 use Rattle.ps_runs.specs.Rows.{Setting, both_of, entry_in, entries_of, rows_of, world_cost}
 use Rattle.ps_runs.specs.Certificates.{signed, table_dual, multiple_of, whole_multiplier, price}
-use Rattle.ps_rational.proofs.Scaling.{scaled_is}
-use Rattle.ps_rational.proofs.Multiples.{lcm_to_positive, lcm_to_multiple}
+use Rattle.ps_meaning.proofs.Scaling.{scaled_is}
+use Rattle.ps_meaning.proofs.Multiples.{lcm_to_positive, lcm_to_multiple}
 use Rattle.ps_simplex.specs.RuleLaws.{multipliers}
 use Rattle.ps_claims.specs.declared.claim_kind.ClaimKind.{ClaimKind}
 use Rattle.ps_claims.specs.declared.claim_kind.ClaimKind.TheVariants.{Nothing, Lower, Upper}

@@ -2,12 +2,12 @@
 use Rattle.std.proofs.Common.{◌≡◌, ℕ, zero, suc, ◌+◌, ◌<◌, ◌≤◌, Bool, true, false, cond, leb, le-leb, List, [], ◌∷◌, ◌++◌, length, get_or, sym, refl, ap, subst, arith, inl, inr}
 use Rattle.std.proofs.lemmas.Bool.{cases_eq, cases_lt, lt-leb}
 use Rattle.std.proofs.lemmas.List.{length-append}
-use Rattle.ps_rational.specs.Rational.{Rational}
+use Rattle.ps_meaning.specs.Rational.{Rational}
 use Rattle.ps_meaning.specs.Formula.{World}
 use Rattle.ps_meaning.specs.Distribution.{Entry}
 use Rattle.ps_simplex.specs.Rule.{SimplexTable}
 use Rattle.ps_runs.specs.Certificates.{value_of, is_above, entry_for, entries_to}
-use Rattle.ps_rational.specs.Scaled.{scaled}
+use Rattle.ps_meaning.specs.Scaled.{scaled}
 
 abbrev count_to : ℕ → (ℕ → ℕ) → ℕ
 count_to zero f = 0

@@ -2,15 +2,15 @@
 use Rattle.std.proofs.Common.{◌≡◌, ◌≢◌, ℕ, zero, suc, ◌+◌, ◌-◌, ◌<◌, ℤ, pos, ◌*ℤ◌, ◌≤ℤ◌, neg_ℤ, Bool, true, false, cond, List, [], ◌∷◌, length, get_or, sym, refl, ap, ◌∙◌, subst, arith, inl, inr}
 use Rattle.std.proofs.lemmas.Int.{ints}
 use Rattle.std.proofs.lemmas.List.{get_or_past}
-use Rattle.ps_rational.specs.Rational.{Rational, whole, add, mul, neg, zero_q, one_q}
-use Rattle.ps_rational.specs.Order.{IsNonneg}
-use Rattle.ps_rational.specs.Sums.{sum_to}
-use Rattle.ps_rational.proofs.IntRing.{neg-*ℤ}
-use Rattle.ps_rational.proofs.Ring.{var, plus, by, minus, none, unit}
-use Rattle.ps_rational.proofs.Field.{ring_q, mul_comm, zero_is_fraction}
-use Rattle.ps_rational.proofs.Order.{int_cases, nonneg-mul, both_signs}
-use Rattle.ps_rational.proofs.Sums.{sum_same, sum_of_zeros, sum_nonneg, sum_parts_zero, sum_split}
-use Rattle.ps_rational.proofs.Whole.{whole_nonneg, whole-mul, whole-neg, unscaled}
+use Rattle.ps_meaning.specs.Rational.{Rational, whole, add, mul, neg, zero_q, one_q}
+use Rattle.ps_meaning.specs.Order.{IsNonneg}
+use Rattle.ps_meaning.specs.Sums.{sum_to}
+use Rattle.ps_meaning.proofs.IntRing.{neg-*ℤ}
+use Rattle.ps_meaning.proofs.Ring.{var, plus, by, minus, none, unit}
+use Rattle.ps_meaning.proofs.Field.{ring_q, mul_comm, zero_is_fraction}
+use Rattle.ps_meaning.proofs.Order.{int_cases, nonneg-mul, both_signs}
+use Rattle.ps_meaning.proofs.Sums.{sum_same, sum_of_zeros, sum_nonneg, sum_parts_zero, sum_split}
+use Rattle.ps_meaning.proofs.Whole.{whole_nonneg, whole-mul, whole-neg, unscaled}
 use Rattle.ps_meaning.specs.Formula.{World}
 use Rattle.ps_meaning.specs.Distribution.{Entry, weight}
 use Rattle.ps_meaning.specs.Rows.{indicator, weighted_sum}
@@ -25,7 +25,7 @@ use Rattle.std.proofs.lemmas.Bool.{true≢false}
 use Rattle.ps_runs.proofs.Columns.{rows_length, home_cost_at, world_cost_at, artificial_cost}
 use Rattle.ps_runs.proofs.BasicSolution.{column_cases, basic_sum, value_right}
 use Rattle.ps_runs.proofs.Models.{model_sum, evidence_weight}
-use Rattle.ps_rational.proofs.Scaling.{whole_tells}
+use Rattle.ps_meaning.proofs.Scaling.{whole_tells}
 use Rattle.ps_simplex.specs.RuleLaws.{multipliers}
 use Rattle.ps_claims.specs.declared.claim_kind.ClaimKind.{ClaimKind}
 use Rattle.ps_claims.specs.declared.claim_kind.ClaimKind.TheVariants.{Nothing, Lower, Upper}

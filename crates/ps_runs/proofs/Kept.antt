@@ -9,13 +9,13 @@ use Rattle.std.proofs.Math.Seq.{drop-cons}
 use Rattle.std.proofs.lemmas.List.Elements.{All-nil, All-cons, All-head, All-tail}
 use Rattle.ps_meaning.specs.declared.side.Side.{Side}
 use Rattle.ps_meaning.proofs.Integers.{mul-zero}
-use Rattle.ps_rational.proofs.IntRing.{*ℤ_comm}
+use Rattle.ps_meaning.proofs.IntRing.{*ℤ_comm}
 use Rattle.ps_meaning.specs.declared.side.Side.TheVariants.{AtLeast, AtMost, Exactly}
-use Rattle.ps_steps.specs.Constraints.{Constraint}
-use Rattle.ps_steps.specs.Steps.{Refutes}
-use Rattle.ps_steps.specs.Assignments.{place}
-use Rattle.ps_steps.specs.Weights.{Weighted, constant_of, coefficient_at, term_at, turned, terms_below, sum_below, last_variable, constraint_of}
-use Rattle.ps_forms.specs.Forms.{form_of, first_known}
+use Rattle.ps_pb.specs.Constraints.{Constraint}
+use Rattle.ps_pb.specs.Steps.{Refutes}
+use Rattle.ps_pb.specs.Assignments.{place}
+use Rattle.ps_pb.specs.Weights.{Weighted, constant_of, coefficient_at, term_at, turned, terms_below, sum_below, last_variable, constraint_of}
+use Rattle.ps_clause.specs.Forms.{form_of, first_known}
 use Rattle.ps_formula.specs.declared.node.Node.{Node}
 use Rattle.ps_problem.specs.declared.bound.Bound.{Bound}
 use Rattle.ps_problem.specs.declared.sentence.Sentence.{Sentence}
@@ -23,7 +23,7 @@ use Rattle.ps_problem.specs.Problems.{Parts, AreParts, bounds_in, bound_of, IsBo
 use Rattle.ps_claims.specs.declared.claim_kind.ClaimKind.{ClaimKind}
 use Rattle.ps_claims.specs.declared.claim_kind.ClaimKind.TheVariants.{Nothing, Lower, Upper}
 use Rattle.ps_claims.specs.Duals.{Dual, HasSign, HaveSigns, AreZeroElsewhere}
-use Rattle.ps_claims.specs.declared.combination.Combination.{Combination}
+use Rattle.ps_claims.specs.declared.weighted_sum.Combination.{Combination}
 use Rattle.ps_claims.specs.Goals.{nothing, plus, at_node, at_condition, row_times, rows_times, claimed_of, combination_of, goal_of}
 use Rattle.ps_claims.specs.Validity.{IsRefuted}
 use Rattle.ps_runs.specs.Kept.{kept_of, flags_of, kept_parts, kept_dual, IsChoice, AreAllKept}

@@ -5,13 +5,13 @@ use Rattle.std.proofs.lemmas.Bool.{true≢false}
 use Rattle.std.proofs.lemmas.List.{append-nil, get_or-map}
 use Rattle.std.proofs.lemmas.List.Quantifiers.{all_pairs_push}
 use Rattle.std.specs.Int.{◌∣◌, is_positive}
-use Rattle.ps_rational.specs.Rational.{Rational, whole, mul, neg, sub, zero_q}
-use Rattle.ps_rational.specs.Order.{IsNonneg}
-use Rattle.ps_rational.specs.Sums.{sum_to}
-use Rattle.ps_rational.proofs.Ring.{var, plus, by, minus, none, unit}
-use Rattle.ps_rational.proofs.Field.{ring_q, zero_over, zero_is_fraction}
-use Rattle.ps_rational.proofs.Order.{nonneg-mul}
-use Rattle.ps_rational.proofs.Whole.{whole_nonneg, nonneg_whole, whole-neg}
+use Rattle.ps_meaning.specs.Rational.{Rational, whole, mul, neg, sub, zero_q}
+use Rattle.ps_meaning.specs.Order.{IsNonneg}
+use Rattle.ps_meaning.specs.Sums.{sum_to}
+use Rattle.ps_meaning.proofs.Ring.{var, plus, by, minus, none, unit}
+use Rattle.ps_meaning.proofs.Field.{ring_q, zero_over, zero_is_fraction}
+use Rattle.ps_meaning.proofs.Order.{nonneg-mul}
+use Rattle.ps_meaning.proofs.Whole.{whole_nonneg, nonneg_whole, whole-neg}
 use Rattle.ps_meaning.specs.Formula.{World}
 use Rattle.ps_meaning.specs.Distribution.{Entry, weight, IsDistribution}
 use Rattle.ps_meaning.specs.declared.side.Side.{Side}
@@ -29,9 +29,9 @@ use Rattle.ps_runs.proofs.Combination.{neg_out}
 use Rattle.ps_runs.proofs.BasicSolution.{find_row, value_apart, value_here, value_nonneg, value_artificial, row_solved}
 use Rattle.ps_runs.proofs.Weights.{weighted_sum-same, entries_weigh, entries_heavy, entries_have}
 use Rattle.ps_runs.proofs.Counts.{entries_at_most}
-use Rattle.ps_rational.proofs.Scaling.{whole_tells}
-use Rattle.ps_rational.proofs.Multiples.{lcm_to_positive, lcm_to_multiple}
-use Rattle.ps_rational.specs.Scaled.{scaled}
+use Rattle.ps_meaning.proofs.Scaling.{whole_tells}
+use Rattle.ps_meaning.proofs.Multiples.{lcm_to_positive, lcm_to_multiple}
+use Rattle.ps_meaning.specs.Scaled.{scaled}
 
 cond_positive : (b : Bool) (a : ℕ) → 0 < a → 0 < cond b a 1
 cond_positive true a h = h

@@ -1,11 +1,11 @@
 -- What is found of a dual with the numbers of a resting table, as an event or an end of the run.
 use Rattle.std.proofs.Common.{◌≡◌, ℕ, ℤ, pos, ◌-ℤ◌, ◌≤ℤ◌, ◌<ℤ◌, List, length, inl, inr, ap, ◌∙◌, subst}
 use Rattle.ps_meaning.specs.Formula.{World}
-use Rattle.ps_rational.specs.Rational.{Rational}
-use Rattle.ps_steps.specs.Weights.{constraint_of}
-use Rattle.ps_steps.specs.Steps.{Step}
-use Rattle.ps_forms.specs.Forms.{form_of}
-use Rattle.ps_forms.specs.Extensions.{extension}
+use Rattle.ps_meaning.specs.Rational.{Rational}
+use Rattle.ps_pb.specs.Weights.{constraint_of}
+use Rattle.ps_pb.specs.Steps.{Step}
+use Rattle.ps_clause.specs.Forms.{form_of}
+use Rattle.ps_clause.specs.Extensions.{extension}
 use Rattle.ps_problem.specs.Problems.{AreParts, bounds_in}
 use Rattle.ps_claims.specs.declared.claim_kind.ClaimKind.{ClaimKind}
 use Rattle.ps_claims.specs.Duals.{Dual}

@@ -1,9 +1,9 @@
 -- A priced world is new, and its column improves.
 use Rattle.std.proofs.Common.{◌≡◌, ℕ, suc, ◌+◌, ◌-◌, ◌<◌, pos, ◌≤ℤ◌, false, List, [], ◌∷◌, ◌++◌, length, get_or, get_or-append-add, sym, refl, ap, ◌∙◌, subst, arith, inl, inr}
 use Rattle.std.proofs.lemmas.Int.{ints}
-use Rattle.ps_rational.specs.Rational.{Rational, whole, mul}
-use Rattle.ps_rational.specs.Order.{IsLess}
-use Rattle.ps_rational.proofs.Sums.{sum_same}
+use Rattle.ps_meaning.specs.Rational.{Rational, whole, mul}
+use Rattle.ps_meaning.specs.Order.{IsLess}
+use Rattle.ps_meaning.proofs.Sums.{sum_same}
 use Rattle.ps_meaning.specs.Formula.{World}
 use Rattle.ps_simplex.specs.Table.{Widened, IsBasisTable}
 use Rattle.ps_simplex.proofs.Units.{less_one}

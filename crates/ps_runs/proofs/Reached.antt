@@ -5,9 +5,9 @@ use Rattle.std.proofs.lemmas.List.{get_or_default}
 use Rattle.std.proofs.lemmas.List.Elements.{All-nil, All-append, All-cons}
 use Rattle.std.proofs.lemmas.List.Quantifiers.{all_pairs_push}
 use Rattle.std.proofs.lemmas.Option.{slice_get_within, get_or_from_slice_get}
-use Rattle.ps_rational.specs.Rational.{Rational, zero_q, mul, sub}
-use Rattle.ps_rational.specs.Sums.{sum_to}
-use Rattle.ps_rational.proofs.Order.{above_not_zero}
+use Rattle.ps_meaning.specs.Rational.{Rational, zero_q, mul, sub}
+use Rattle.ps_meaning.specs.Sums.{sum_to}
+use Rattle.ps_meaning.proofs.Order.{above_not_zero}
 use Rattle.ps_meaning.specs.Formula.{World}
 use Rattle.ps_simplex.specs.Table.{unit_at, IsBasis, IsBasisTable, IsFirst, Based, Pivoted, Widened}
 use Rattle.ps_simplex.proofs.OneTable as tables
@@ -17,8 +17,8 @@ use Rattle.ps_simplex.proofs.Agreeing.{same_stands}
 use Rattle.ps_simplex.specs.declared.phase.Phase.{Phase}
 use Rattle.ps_simplex.specs.declared.phase.Phase.TheVariants as phase
 use Rattle.ps_simplex.specs.Rule.{SimplexTable, LeavesInPhaseTwo, Leaves}
-use Rattle.ps_pool.specs.declared.event.Event.{Event}
-use Rattle.ps_pool.specs.Worlds.{HasNumber}
+use Rattle.ps_table.specs.declared.event.Event.{Event}
+use Rattle.ps_table.specs.Worlds.{HasNumber}
 use Rattle.ps_table.specs.Grids.{pivot_cell}
 use Rattle.ps_table.specs.Tableau.{number_in}
 use Rattle.ps_table.proofs.Columns.{pivot_own, pivot_other}

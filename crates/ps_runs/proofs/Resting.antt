@@ -1,18 +1,18 @@
 -- At rest with no world priced above, a table's dual is a certificate.
 use Rattle.std.proofs.Common.{◌≡◌, ℕ, suc, ◌+◌, ◌/◌, ◌<◌, ℤ, pos, ◌≤ℤ◌, neg_ℤ, false, List, [], ◌∷◌, map, length, get_or, refl, ap, ◌∙◌, subst, arith}
 use Rattle.std.proofs.lemmas.Int.{ints}
-use Rattle.ps_rational.specs.Rational.{Rational, whole, den, mul, neg, zero_q}
-use Rattle.ps_rational.specs.Order.{IsNonneg, AtMost}
-use Rattle.ps_rational.proofs.Ring.{var, plus, minus, none}
-use Rattle.ps_rational.proofs.Field.{ring_q}
-use Rattle.ps_rational.proofs.Order.{sign_of_quotient}
-use Rattle.ps_rational.proofs.Sums.{sum_same}
+use Rattle.ps_meaning.specs.Rational.{Rational, whole, den, mul, neg, zero_q}
+use Rattle.ps_meaning.specs.Order.{IsNonneg, AtMost}
+use Rattle.ps_meaning.proofs.Ring.{var, plus, minus, none}
+use Rattle.ps_meaning.proofs.Field.{ring_q}
+use Rattle.ps_meaning.proofs.Order.{sign_of_quotient}
+use Rattle.ps_meaning.proofs.Sums.{sum_same}
 use Rattle.ps_meaning.specs.Formula.{World}
 use Rattle.ps_meaning.specs.declared.side.Side.{Side}
 use Rattle.ps_meaning.specs.declared.side.Side.TheVariants.{AtLeast, AtMost as Most, Exactly}
 use Rattle.ps_meaning.specs.Bounds.{Bound}
 use Rattle.ps_meaning.proofs.Integers.{mul-nonpos}
-use Rattle.ps_rational.proofs.IntRing.{*ℤ_comm}
+use Rattle.ps_meaning.proofs.IntRing.{*ℤ_comm}
 use Rattle.ps_simplex.specs.Table.{carried_by, IsBasisTable}
 use Rattle.ps_simplex.proofs.Pricing.{carried_is_priced}
 use Rattle.ps_simplex.proofs.Units.{less_one}
@@ -23,7 +23,7 @@ use Rattle.ps_runs.specs.Rows.{Setting, phase_of, is_exact, entries_of, artifici
 use Rattle.ps_runs.specs.Certificates.{signed, table_dual, multiple_of, whole_multiplier, price}
 use Rattle.ps_runs.proofs.Columns.{world_at, slack_cost}
 use Rattle.ps_simplex.specs.RuleLaws.{multipliers}
-use Rattle.ps_rational.specs.Scaled.{scaled}
+use Rattle.ps_meaning.specs.Scaled.{scaled}
 use Rattle.ps_claims.specs.declared.claim_kind.ClaimKind.{ClaimKind}
 use Rattle.ps_claims.specs.declared.claim_kind.ClaimKind.TheVariants.{Nothing, Lower, Upper}
 use Rattle.ps_claims.specs.Duals.{HasSign, HaveSigns}

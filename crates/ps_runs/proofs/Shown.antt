@@ -1,7 +1,7 @@
 -- What the ends of phases show, in the words of claims.
 use Rattle.std.proofs.Common.{◌≡◌, ◌≢◌, ℕ, List, length, All, AllPairs, refl, arith}
 use Rattle.std.proofs.lemmas.Int.{ints}
-use Rattle.ps_rational.specs.Rational.{Rational}
+use Rattle.ps_meaning.specs.Rational.{Rational}
 use Rattle.ps_meaning.specs.Formula.{World}
 use Rattle.ps_simplex.specs.Rule.{IsFeasible}
 use Rattle.ps_claims.specs.Queries.{IsAllowed}

@@ -2,12 +2,12 @@
 use Rattle.std.proofs.Common.{◌≡◌, ◌≢◌, ◌⊎◌, ℕ, zero, suc, ◌+◌, ◌-◌, ◌<◌, ◌≤◌, pos, neg_ℤ, Bool, true, false, ◌&&◌, cond, eqb, leb, List, [], ◌∷◌, ◌++◌, length, get_or, sym, refl, ap, ◌∙◌, subst, arith, inl, inr}
 use Rattle.std.proofs.lemmas.Bool.{cases_lt, true≢false}
 use Rattle.std.proofs.lemmas.List.{length-append, get_or_append_left, get_or_past}
-use Rattle.ps_rational.specs.Rational.{Rational, fraction, whole, mul, neg, zero_q, one_q}
-use Rattle.ps_rational.specs.Order.{IsNonneg}
-use Rattle.ps_rational.proofs.Field.{zero_is_fraction, one_is_fraction, minus_one_is_fraction, ring_q, one_not_zero}
-use Rattle.ps_rational.proofs.Ring.{var, minus, none}
-use Rattle.ps_rational.proofs.Order.{zero_nonneg, above_nonneg, one_above}
-use Rattle.ps_rational.proofs.Sums.{sum_same}
+use Rattle.ps_meaning.specs.Rational.{Rational, fraction, whole, mul, neg, zero_q, one_q}
+use Rattle.ps_meaning.specs.Order.{IsNonneg}
+use Rattle.ps_meaning.proofs.Field.{zero_is_fraction, one_is_fraction, minus_one_is_fraction, ring_q, one_not_zero}
+use Rattle.ps_meaning.proofs.Ring.{var, minus, none}
+use Rattle.ps_meaning.proofs.Order.{zero_nonneg, above_nonneg, one_above}
+use Rattle.ps_meaning.proofs.Sums.{sum_same}
 use Rattle.ps_meaning.specs.Formula.{World, is_true}
 use Rattle.ps_simplex.specs.Table.{unit_at, HasHomes, IsBasisTable, IsFirst, Widened}
 use Rattle.ps_simplex.proofs.Columns.{stands_new, stands_more}

@@ -1,9 +1,9 @@
 -- The end of a side: the model reaches the value that the dual shows.
 use Rattle.std.proofs.Common.{◌≡◌, ◌≢◌, ℕ, ℤ, pos, negsuc, ◌*ℤ◌, ◌≤ℤ◌, Some, [], ◌∷◌, sym, refl, ap, ◌∙◌, arith}
 use Rattle.std.proofs.lemmas.Int.{ints}
-use Rattle.ps_rational.specs.Rational.{Rational}
-use Rattle.ps_rational.proofs.Ring.{var, by}
-use Rattle.ps_rational.proofs.IntRing.{*ℤ_cancel, ring_z}
+use Rattle.ps_meaning.specs.Rational.{Rational}
+use Rattle.ps_meaning.proofs.Ring.{var, by}
+use Rattle.ps_meaning.proofs.IntRing.{*ℤ_cancel, ring_z}
 use Rattle.ps_meaning.specs.Distribution.{weight}
 use Rattle.ps_simplex.specs.Rule.{IsFeasible, IsResting}
 use Rattle.ps_problem.specs.declared.query.Query as stored

@@ -2,12 +2,12 @@
 use Rattle.std.proofs.Common.{◌≡◌, ℕ, suc, ◌+◌, ◌<◌, pos, Bool, true, false, cond, ltb, lt-ltb, List, [], ◌∷◌, length, get_or, sym, refl, ap, ◌∙◌, subst, arith}
 use Rattle.std.proofs.lemmas.Bool.{le-ltb}
 use Rattle.std.specs.Int.{◌∣◌}
-use Rattle.ps_rational.specs.Rational.{Rational, whole, add, mul, zero_q, one_q}
-use Rattle.ps_rational.specs.Sums.{sum_to, int_sum_to}
-use Rattle.ps_rational.proofs.Ring.{var, plus, by, none, unit}
-use Rattle.ps_rational.proofs.Field.{ring_q, zero_is_fraction, one_is_fraction}
-use Rattle.ps_rational.proofs.Sums.{sum_same, sum_scale, sum_of_zeros, sum_split}
-use Rattle.ps_rational.proofs.Whole.{whole_sum}
+use Rattle.ps_meaning.specs.Rational.{Rational, whole, add, mul, zero_q, one_q}
+use Rattle.ps_meaning.specs.Sums.{sum_to, int_sum_to}
+use Rattle.ps_meaning.proofs.Ring.{var, plus, by, none, unit}
+use Rattle.ps_meaning.proofs.Field.{ring_q, zero_is_fraction, one_is_fraction}
+use Rattle.ps_meaning.proofs.Sums.{sum_same, sum_scale, sum_of_zeros, sum_split}
+use Rattle.ps_meaning.proofs.Whole.{whole_sum}
 use Rattle.ps_meaning.specs.Formula.{World, Truth}
 use Rattle.ps_meaning.specs.Distribution.{total}
 use Rattle.ps_meaning.specs.Rows.{indicator}
@@ -18,9 +18,9 @@ use Rattle.ps_table.specs.Places.{weight_under, weight_at}
 use Rattle.ps_runs.specs.Certificates.{value_of, weight_multiple, weighted_worlds}
 use Rattle.ps_runs.proofs.BasicSolution.{basic_sum}
 use Rattle.ps_runs.proofs.Models.{under_positive, model_sum}
-use Rattle.ps_rational.proofs.Multiples.{lcm_to_multiple}
-use Rattle.ps_rational.proofs.Scaling.{scaled_is, whole_tells}
-use Rattle.ps_rational.specs.Scaled.{scaled}
+use Rattle.ps_meaning.proofs.Multiples.{lcm_to_multiple}
+use Rattle.ps_meaning.proofs.Scaling.{scaled_is, whole_tells}
+use Rattle.ps_meaning.specs.Scaled.{scaled}
 
 module _ (s : Setting) (pool : List World) (basic : ℕ → ℕ) (X : ℕ → ℕ → Rational) (t : IsTable s pool basic X) where
   abbrev n : ℕ

@@ -3,13 +3,13 @@ use Rattle.std.proofs.Common.{◌≡◌, ◌≢◌, ℕ, zero, suc, ◌+◌, ◌
 use Rattle.std.proofs.lemmas.Int.{ints}
 use Rattle.std.proofs.Math.Nat.{mul-pos}
 use Rattle.std.specs.Int.{◌∣◌, is_positive}
-use Rattle.ps_rational.specs.Parts.{part_pos}
-use Rattle.ps_rational.specs.Rational.{Rational}
-use Rattle.ps_rational.specs.Scaled.{scaled}
-use Rattle.ps_rational.proofs.Field.{zero_over}
-use Rattle.ps_rational.proofs.IntRing.{*ℤ_comm}
+use Rattle.ps_meaning.specs.Parts.{part_pos}
+use Rattle.ps_meaning.specs.Rational.{Rational}
+use Rattle.ps_meaning.specs.Scaled.{scaled}
+use Rattle.ps_meaning.proofs.Field.{zero_over}
+use Rattle.ps_meaning.proofs.IntRing.{*ℤ_comm}
 use Rattle.ps_meaning.proofs.Integers.{mul-nonpos}
-use Rattle.ps_rational.proofs.Multiples.{lcm_to_multiple}
+use Rattle.ps_meaning.proofs.Multiples.{lcm_to_multiple}
 use Rattle.ps_meaning.specs.Formula.{World}
 use Rattle.ps_simplex.specs.Rule.{SimplexTable}
 use Rattle.ps_table.specs.Places.{weight_under, weight_at}

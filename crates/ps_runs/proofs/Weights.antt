@@ -4,20 +4,20 @@ use Rattle.std.proofs.lemmas.Int.{ints}
 use Rattle.std.proofs.lemmas.List.Elements.{All-nil, All-append, All-cons}
 use Rattle.std.proofs.Math.Nat.{mul-pos}
 use Rattle.std.specs.Int.{◌∣◌, is_positive}
-use Rattle.ps_rational.specs.Parts.{part_pos}
-use Rattle.ps_rational.specs.Rational.{Rational, whole, add, mul, zero_q}
-use Rattle.ps_rational.specs.Order.{IsNonneg}
-use Rattle.ps_rational.specs.Sums.{sum_to}
-use Rattle.ps_rational.proofs.Ring.{var, plus, by, none}
-use Rattle.ps_rational.proofs.Field.{ring_q, over_is_zero, zero_is_fraction}
-use Rattle.ps_rational.proofs.Whole.{whole-add, whole-mul}
+use Rattle.ps_meaning.specs.Parts.{part_pos}
+use Rattle.ps_meaning.specs.Rational.{Rational, whole, add, mul, zero_q}
+use Rattle.ps_meaning.specs.Order.{IsNonneg}
+use Rattle.ps_meaning.specs.Sums.{sum_to}
+use Rattle.ps_meaning.proofs.Ring.{var, plus, by, none}
+use Rattle.ps_meaning.proofs.Field.{ring_q, over_is_zero, zero_is_fraction}
+use Rattle.ps_meaning.proofs.Whole.{whole-add, whole-mul}
 use Rattle.ps_meaning.specs.Formula.{World}
 use Rattle.ps_meaning.specs.Distribution.{Entry}
 use Rattle.ps_meaning.specs.Rows.{weighted_sum}
 use Rattle.ps_simplex.specs.Rule.{SimplexTable}
 use Rattle.ps_runs.specs.Certificates.{value_of, is_above, entry_for, entries_to}
-use Rattle.ps_rational.proofs.Scaling.{scaled_is}
-use Rattle.ps_rational.specs.Scaled.{scaled}
+use Rattle.ps_meaning.proofs.Scaling.{scaled_is}
+use Rattle.ps_meaning.specs.Scaled.{scaled}
 
 pub weighted_sum-append : (d e : List Entry) (G : World → ℤ) → weighted_sum (d ++ e) G ≡ weighted_sum d G +ℤ weighted_sum e G
 weighted_sum-append [] e G = omega (arith, ints)

@@ -3,9 +3,9 @@ use Rattle.std.specs.Prelude.{◌≡◌, ℕ, zero, suc, ◌+◌, ℤ, pos, neg_
 use Rattle.std.specs.Prelude.{cond, if◌then◌else◌, List, [], ◌∷◌, ◌++◌, length, get_or}
 use Rattle.std.specs.Int.{is_positive}
 use Rattle.std.proofs.Common.{eqb}
-use Rattle.ps_rational.specs.Rational.{Rational, whole, mul, zero_q}
-use Rattle.ps_rational.specs.Scaled.{scaled}
-use Rattle.ps_rational.specs.Sums.{sum_to}
+use Rattle.ps_meaning.specs.Rational.{Rational, whole, mul, zero_q}
+use Rattle.ps_meaning.specs.Scaled.{scaled}
+use Rattle.ps_meaning.specs.Sums.{sum_to}
 use Rattle.ps_meaning.specs.Formula.{World}
 use Rattle.ps_meaning.specs.Distribution.{Entry, total}
 use Rattle.ps_meaning.specs.Bounds.{Bound}

@@ -1,4 +1,4 @@
--- Meaning
+-- Meaning: runs and their certificates
 pub mod Rows
 pub mod Certificates
 pub mod Searches
@@ -7,5 +7,13 @@ pub mod Runs
 pub mod Subjects
 pub mod Reached
 pub mod Kept
--- Laws, as the functions of laws.rt promise them
-pub mod Laws
+-- Meaning: the phases of a run over tables
+pub mod Columns
+pub mod Licences
+pub mod Verdicts
+pub mod Tables
+-- Laws, as the functions of run_laws.rt and phase_laws.rt promise them
+pub mod RunLaws
+pub mod PhaseLaws
+-- Meaning, and the law, of a limit of pivots
+pub mod Enough

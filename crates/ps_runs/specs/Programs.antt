@@ -1,17 +1,17 @@
 -- Linear programs whose columns are worlds: what a run needs of one, and no more.
 use Rattle.std.specs.Prelude.{ℕ, ℤ, pos, ◌-ℤ◌, List}
-use Rattle.ps_rational.specs.Rational.{Rational}
+use Rattle.ps_meaning.specs.Rational.{Rational}
 use Rattle.ps_meaning.specs.Formula.{World}
 use Rattle.ps_simplex.specs.declared.phase.Phase.{Phase}
 use Rattle.ps_simplex.specs.Rule.{SimplexTable}
 use Rattle.ps_simplex.specs.Pivots.{System}
-use Rattle.ps_steps.specs.Constraints.{Constraint}
-use Rattle.ps_steps.specs.Weights.{constraint_of}
-use Rattle.ps_steps.specs.Steps.{Step, Refutes}
-use Rattle.ps_forms.specs.Forms.{Form, first_known}
+use Rattle.ps_pb.specs.Constraints.{Constraint}
+use Rattle.ps_pb.specs.Weights.{constraint_of}
+use Rattle.ps_pb.specs.Steps.{Step, Refutes}
+use Rattle.ps_clause.specs.Forms.{Form, first_known}
 use Rattle.ps_table.specs.declared.home.Home.{Home}
 use Rattle.ps_claims.specs.Duals.{Dual}
-use Rattle.ps_claims.specs.declared.combination.Combination.{Combination}
+use Rattle.ps_claims.specs.declared.weighted_sum.Combination.{Combination}
 
 -- rows and columns: the home of each row, the entries of a world's column, and the system that the worlds of a pool make
 pub record Frame : Type 0 where

@@ -1,10 +1,10 @@
 -- The stages to which runs come, and the table of each.
 use Rattle.std.specs.Prelude.{ℕ, Option, List}
-use Rattle.ps_rational.specs.Rational.{Rational}
+use Rattle.ps_meaning.specs.Rational.{Rational}
 use Rattle.ps_meaning.specs.Formula.{World}
 use Rattle.ps_simplex.specs.Table.{AreSameWithin}
-use Rattle.ps_pool.specs.declared.event.Event.{Event}
-use Rattle.ps_pool.specs.Worlds.{HasNumber}
+use Rattle.ps_table.specs.declared.event.Event.{Event}
+use Rattle.ps_table.specs.Worlds.{HasNumber}
 use Rattle.ps_claims.specs.declared.claim_kind.ClaimKind.{ClaimKind}
 use Rattle.ps_runs.specs.Rows.{rows_of, width_of}
 use Rattle.ps_runs.specs.Subjects.{Subject, setting_of, frame_of, program_of}

@@ -7,8 +7,8 @@ use Rattle.ps_meaning.specs.declared.side.Side.{Side}
 use Rattle.ps_meaning.specs.declared.side.Side.TheVariants.{AtLeast, AtMost, Exactly}
 use Rattle.ps_meaning.specs.Bounds.{Bound}
 use Rattle.ps_meaning.specs.Rows.{indicator, row_value}
-use Rattle.ps_rational.specs.Rational.{Rational, fraction}
-use Rattle.ps_rational.specs.Order.{IsNonneg}
+use Rattle.ps_meaning.specs.Rational.{Rational, fraction}
+use Rattle.ps_meaning.specs.Order.{IsNonneg}
 use Rattle.ps_simplex.specs.Table.{unit_at, IsBasisTable}
 use Rattle.ps_simplex.specs.declared.phase.Phase.{Phase}
 use Rattle.ps_simplex.specs.declared.phase.Phase.TheVariants as phase

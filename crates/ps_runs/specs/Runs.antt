@@ -1,16 +1,16 @@
 -- Lawful runs of a linear program: pivots by the rule at moving tables, and worlds that are priced at resting ones.
 use Rattle.std.specs.Prelude.{Option, Some, None, ◌≡◌, ◌⊎◌, ℕ, suc, ◌+◌, ◌<◌, ℤ, pos}
 use Rattle.std.specs.Prelude.{◌≤ℤ◌, ◌<ℤ◌, List, [], ◌∷◌, ◌++◌, length, All}
-use Rattle.ps_rational.specs.Rational.{Rational}
+use Rattle.ps_meaning.specs.Rational.{Rational}
 use Rattle.ps_meaning.specs.Formula.{World}
 use Rattle.ps_simplex.specs.Table.{Belongs, Based}
 use Rattle.ps_simplex.specs.Rule.{SimplexTable, IsFeasible, IsMoving, IsResting}
 use Rattle.ps_simplex.specs.Pivots.{IsLawfulAt, simplex_table}
-use Rattle.ps_steps.specs.Steps.{Step}
-use Rattle.ps_pool.specs.Worlds.{AreDifferent}
-use Rattle.ps_pool.specs.declared.col.Col.{Col}
-use Rattle.ps_pool.specs.declared.event.Event.{Event}
-use Rattle.ps_pool.specs.declared.event.Event.TheVariants.{Pivot, Priced}
+use Rattle.ps_pb.specs.Steps.{Step}
+use Rattle.ps_table.specs.Worlds.{AreDifferent}
+use Rattle.ps_table.specs.declared.col.Col.{Col}
+use Rattle.ps_table.specs.declared.event.Event.{Event}
+use Rattle.ps_table.specs.declared.event.Event.TheVariants.{Pivot, Priced}
 use Rattle.ps_table.specs.Tableau.{number_in, IsInside}
 use Rattle.ps_claims.specs.Answers.{Model}
 use Rattle.ps_claims.specs.Duals.{Dual}

@@ -1,14 +1,14 @@
 -- What a run is about: a problem with a query, or none, and the linear program of each of its phases.
 use Rattle.std.specs.Prelude.{Option, Some, None, ◌≡◌, ℕ, length}
 use Rattle.ps_meaning.specs.Formula.{Truth}
-use Rattle.ps_forms.specs.Forms.{form_of}
+use Rattle.ps_clause.specs.Forms.{form_of}
 use Rattle.ps_problem.specs.declared.query.Query as stored
 use Rattle.ps_problem.specs.Problems.{Parts, HasNodes, bounds_in, bounds_of}
 use Rattle.ps_claims.specs.Queries.{Query}
 use Rattle.ps_claims.specs.declared.claim_kind.ClaimKind.{ClaimKind}
 use Rattle.ps_claims.specs.declared.claim_kind.ClaimKind.TheVariants.{Nothing}
 use Rattle.ps_claims.specs.Duals.{Dual, combination}
-use Rattle.ps_claims.specs.declared.combination.Combination.{Combination}
+use Rattle.ps_claims.specs.declared.weighted_sum.Combination.{Combination}
 use Rattle.ps_claims.specs.Goals.{combination_of}
 use Rattle.ps_claims.specs.Validity.{query_of}
 use Rattle.ps_runs.specs.Rows.{Setting, phase_of, rows_of, homes_of, entries_of, system_of, cost_of}

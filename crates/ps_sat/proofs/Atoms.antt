@@ -2,11 +2,11 @@
 use Rattle.std.proofs.Common.{◌≡◌, ℕ, zero, suc, ◌+◌, ◌<◌, ◌≤◌, Bool, true, false, ◌&&◌, Option, Some, None, get_or, arith, refl, sym, ap, ◌∙◌, inl, inr, ◌⊎◌}
 use Rattle.std.specs.Prelude.{nat_lt, unsigned_abs, ℤ}
 use Rattle.std.proofs.lemmas.Bool.{cases_lt, and_parts, ltb-true}
-use Rattle.ps_steps.specs.Assignments.{Assignment, with_sign, value_of, value_at, is_unset, literal_at, is_positive}
-use Rattle.ps_steps.proofs.Clauses.{place_of}
-use Rattle.ps_forms.specs.Forms.{Form, is_atom_variable}
-use Rattle.ps_forms.specs.Decided.{AtomsAreSet}
-use Rattle.ps_trail.specs.Trails.{IsFresh}
+use Rattle.ps_pb.specs.Assignments.{Assignment, with_sign, value_of, value_at, is_unset, literal_at, is_positive}
+use Rattle.ps_pb.proofs.Clauses.{place_of}
+use Rattle.ps_clause.specs.Forms.{Form, is_atom_variable}
+use Rattle.ps_clause.specs.Decided.{AtomsAreSet}
+use Rattle.ps_learn.specs.Trails.{IsFresh}
 use Rattle.ps_sat.specs.Choices.{is_open_atom, IsOpenAt, AtomsTo, IsChosen}
 
 pub chosen-none : (f : Form) (a : Assignment) → IsChosen f a 0 None

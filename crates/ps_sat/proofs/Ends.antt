@@ -4,17 +4,17 @@ use Rattle.std.specs.Prelude.{slice_get}
 use Rattle.std.specs.List.{All}
 use Rattle.std.proofs.lemmas.List.Elements.{All-push}
 use Rattle.std.proofs.lemmas.Option.{slice_get-get_or, slice_get_within, get_or_from_slice_get}
-use Rattle.ps_steps.specs.Assignments.{Assignment, full, values_of}
-use Rattle.ps_steps.specs.Constraints.{Constraint, IsMet, is_violated}
-use Rattle.ps_steps.specs.Weights.{IsWithin}
-use Rattle.ps_steps.specs.Steps.{Known, known_of, constraint_at, Step, with_steps, IsLawful, AreLawful, is_contradiction, AreMet}
-use Rattle.ps_steps.proofs.Full.{length-full, full-met}
-use Rattle.ps_steps.proofs.Ids.{at-id, at-zero, kept-all}
-use Rattle.ps_steps.proofs.Onward.{lawful-append, ends-append}
-use Rattle.ps_steps.proofs.Lawful.{refutes-unmet}
-use Rattle.ps_forms.specs.Forms.{Form, clause_at, MeetsForm, AreInside, first_known}
-use Rattle.ps_forms.specs.Decided.{IsIdle, AreIdle, AtomsDecide}
-use Rattle.ps_forms.proofs.Starts.{all-full}
+use Rattle.ps_pb.specs.Assignments.{Assignment, full, values_of}
+use Rattle.ps_pb.specs.Constraints.{Constraint, IsMet, is_violated}
+use Rattle.ps_pb.specs.Weights.{IsWithin}
+use Rattle.ps_pb.specs.Steps.{Known, known_of, constraint_at, Step, with_steps, IsLawful, AreLawful, is_contradiction, AreMet}
+use Rattle.ps_pb.proofs.Full.{length-full, full-met}
+use Rattle.ps_pb.proofs.Ids.{at-id, at-zero, kept-all}
+use Rattle.ps_pb.proofs.Onward.{lawful-append, ends-append}
+use Rattle.ps_pb.proofs.Lawful.{refutes-unmet}
+use Rattle.ps_clause.specs.Forms.{Form, clause_at, MeetsForm, AreInside, first_known}
+use Rattle.ps_clause.specs.Decided.{IsIdle, AreIdle, AtomsDecide}
+use Rattle.ps_clause.proofs.Starts.{all-full}
 use Rattle.ps_learn.specs.Rest.{IsDone}
 
 front_get : (cs : List Constraint) (g c : Constraint) (i : ℕ) → slice_get cs i ≡ Some c → slice_get (cs ++ g ∷ []) i ≡ Some c

@@ -3,18 +3,18 @@ use Rattle.std.proofs.Common.{◌≡◌, ◌≢◌, ℕ, ◌+◌, ◌≤◌, ℤ
 use Rattle.std.specs.Prelude.{◌==◌, IfOk, IsErr, IsErrAnd}
 use Rattle.std.specs.List.{All}
 use Rattle.std.proofs.lemmas.Bool.{eqb-true, false≢true}
-use Rattle.ps_steps.specs.Assignments.{Assignment}
-use Rattle.ps_steps.specs.Constraints.{Constraint, IsMet}
-use Rattle.ps_steps.specs.declared.refused.StepRefused.{StepRefused}
-use Rattle.ps_steps.specs.declared.refused.StepRefused.TheVariants.{IdNotNext}
-use Rattle.ps_steps.specs.Steps.{known_of, next_id, Step, lits_of, hints_of, added, IsLawful, is_contradiction}
-use Rattle.ps_steps.proofs.Ids.{known_of-length}
-use Rattle.ps_forms.specs.Forms.{Form, MeetsForm, HasClauses}
+use Rattle.ps_pb.specs.Assignments.{Assignment}
+use Rattle.ps_pb.specs.Constraints.{Constraint, IsMet}
+use Rattle.ps_pb.specs.declared.refused.StepRefused.{StepRefused}
+use Rattle.ps_pb.specs.declared.refused.StepRefused.TheVariants.{IdNotNext}
+use Rattle.ps_pb.specs.Steps.{known_of, next_id, Step, lits_of, hints_of, added, IsLawful, is_contradiction}
+use Rattle.ps_pb.proofs.Ids.{known_of-length}
+use Rattle.ps_clause.specs.Forms.{Form, MeetsForm, HasClauses}
 use Rattle.ps_log.specs.Logs.{Telling, Starts, Grows, Stays}
 use Rattle.ps_log.specs.Limits.{IsStepWithin}
 use Rattle.ps_pb.specs.declared.limits.TheConstants.{MOST_VARIABLES}
-use Rattle.ps_trail.specs.Known.{most_known, IsIdUpTo}
-use Rattle.ps_trail.specs.Trails.{Trail, values, up_to, IsLit, IsConflict}
+use Rattle.ps_learn.specs.Known.{most_known, IsIdUpTo}
+use Rattle.ps_learn.specs.Trails.{Trail, values, up_to, IsLit, IsConflict}
 use Rattle.ps_io.specs.Causes.{next_count}
 use Rattle.ps_sat.specs.Errors.{SearchFaultAlone, CountsSearchFault, BeginsOnce}
 use Rattle.ps_sat.specs.Searches.{IsOutcome, IsOutcomeOfHints, HoldsLearned, IsHeld, HasHanded, IsLogged}
@@ -25,10 +25,10 @@ use Rattle.ps_sat.proofs.Ends.{refuted}
 use Rattle.ps_sat.proofs.Lessons.{IsAtConflict, lesson}
 use Rattle.ps_learn.proofs.Hints.{spent-unrefuted}
 use Rattle.ps_learn.proofs.Learnt.{Learns}
-use Rattle.ps_trail.specs.Levels.{IsAsserting}
+use Rattle.ps_learn.specs.Levels.{IsAsserting}
 use Rattle.ps_learn.specs.Falsity.{AreFalseIn}
-use Rattle.ps_steps.specs.Weights.{weighted, IsNormal}
-use Rattle.ps_sat.proofs.Going.{Searching, steps-learned, handed-more, goes-on, search-spent, search-refuted, told-before, told-learned, handed-learned}
+use Rattle.ps_pb.specs.Weights.{weighted, IsNormal}
+use Rattle.ps_sat.proofs.SearchSteps.{Searching, steps-learned, handed-more, goes-on, search-spent, search-refuted, told-before, told-learned, handed-learned}
 
 id_next : (b : Bool) (r : Option StepRefused) → cond b r (Some IdNotNext) ≡ None → b ≡ true
 id_next true r h = refl

@@ -1,17 +1,17 @@
 -- What a learned clause does to a search.
 use Rattle.std.proofs.Common.{◌≡◌, ℕ, suc, ◌+◌, ◌<◌, ◌≤◌, false, Some, List, [], ◌∷◌, ◌++◌, take, arith, sym, ap, ◌∙◌, subst}
 use Rattle.std.specs.List.{All}
-use Rattle.ps_steps.specs.Constraints.{Constraint}
-use Rattle.ps_steps.specs.Weights.{weighted, IsNormal}
-use Rattle.ps_steps.specs.Steps.{Known, Step, lits_of, added, with_steps, IsLawful, is_contradiction}
-use Rattle.ps_forms.specs.Forms.{Form, HasClauses, first_known}
-use Rattle.ps_trail.specs.Trails.{Trail, TrailEntry, values, values_of, level, rank, up_to, IsLit, AreFresh, AreLevels, AreReasons, IsConflict}
-use Rattle.ps_trail.specs.Levels.{IsAsserting}
+use Rattle.ps_pb.specs.Constraints.{Constraint}
+use Rattle.ps_pb.specs.Weights.{weighted, IsNormal}
+use Rattle.ps_pb.specs.Steps.{Known, Step, lits_of, added, with_steps, IsLawful, is_contradiction}
+use Rattle.ps_clause.specs.Forms.{Form, HasClauses, first_known}
+use Rattle.ps_learn.specs.Trails.{Trail, TrailEntry, values, values_of, level, rank, up_to, IsLit, AreFresh, AreLevels, AreReasons, IsConflict}
+use Rattle.ps_learn.specs.Levels.{IsAsserting}
 use Rattle.ps_learn.specs.Falsity.{AreFalseIn}
-use Rattle.ps_forms.specs.Spent.{IsDue}
+use Rattle.ps_clause.specs.Spent.{IsDue}
 use Rattle.ps_learn.specs.Resting.{AreRested, AreOfAtoms, HasRisen}
 use Rattle.ps_learn.proofs.Opening.{up_to-opening, opening-level}
-use Rattle.ps_trail.proofs.Distinct.{level-most}
+use Rattle.ps_learn.proofs.TrailDistinct.{level-most}
 use Rattle.ps_learn.proofs.Learnt.{Learns, cut-opening, above-ground, rested-learned}
 use Rattle.ps_learn.proofs.Rising.{risen-learned}
 use Rattle.ps_learn.proofs.Due.{is-due}

@@ -1,9 +1,9 @@
 -- Which variable is chosen for a decision.
 use Rattle.std.specs.Prelude.{ℕ, ◌≡◌, ◌≤◌, ◌<◌, ◌+◌, Bool, true, false, ◌&&◌, Option, Some, None, ℤ, unsigned_abs}
-use Rattle.ps_steps.specs.Assignments.{Assignment, value_at, is_unset}
-use Rattle.ps_forms.specs.Forms.{Form, is_atom_variable}
-use Rattle.ps_forms.specs.Decided.{AtomsAreSet}
-use Rattle.ps_trail.specs.Trails.{IsFresh}
+use Rattle.ps_pb.specs.Assignments.{Assignment, value_at, is_unset}
+use Rattle.ps_clause.specs.Forms.{Form, is_atom_variable}
+use Rattle.ps_clause.specs.Decided.{AtomsAreSet}
+use Rattle.ps_learn.specs.Trails.{IsFresh}
 
 -- whether a variable is an atom's, and has no value
 abbrev pub is_open_atom : Form → Assignment → ℕ → Bool

@@ -1,13 +1,13 @@
 -- What a search answers, and what it hands over.
 use Rattle.std.specs.Prelude.{ℕ, ◌≡◌, ◌≤◌, ◌^◌, ⊤, true, false, Bool, IsTrue, Some}
 use Rattle.std.specs.Prelude.{Result, Ok, Err, List, [], ◌∷◌, ◌++◌, length, All, ◌⊎◌}
-use Rattle.ps_steps.specs.Assignments.{full}
-use Rattle.ps_steps.specs.Constraints.{Constraint, IsMet}
-use Rattle.ps_steps.specs.Steps.{Step, AreLawful, is_contradiction}
-use Rattle.ps_forms.specs.Forms.{Form, MeetsForm, first_known}
+use Rattle.ps_pb.specs.Assignments.{full}
+use Rattle.ps_pb.specs.Constraints.{Constraint, IsMet}
+use Rattle.ps_pb.specs.Steps.{Step, AreLawful, is_contradiction}
+use Rattle.ps_clause.specs.Forms.{Form, MeetsForm, first_known}
 use Rattle.ps_log.specs.Logs.{Telling, Stays}
-use Rattle.ps_trail.specs.Trails.{IsLit}
-use Rattle.ps_forms.specs.Spent.{AreNew, IsSpentSearch}
+use Rattle.ps_learn.specs.Trails.{IsLit}
+use Rattle.ps_clause.specs.Spent.{AreNew, IsSpentSearch}
 use Rattle.ps_learn.specs.Hints.{AreRefutedByHints}
 use Rattle.ps_sat.specs.declared.searching.Outcome.{Outcome}
 use Rattle.ps_sat.specs.declared.searching.Outcome.TheVariants.{Found, Refuted, Spent}

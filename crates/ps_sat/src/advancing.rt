@@ -1,15 +1,15 @@
 //! Propagation and decisions.
 ghost use Rattle.std.specs.Prelude.{◌≡◌};
-ghost use Rattle.ps_steps.specs.Steps.{known_of};
-ghost use Rattle.ps_trail.specs.Trails.{values, AreReasons};
+ghost use Rattle.ps_pb.specs.Steps.{known_of};
+ghost use Rattle.ps_learn.specs.Trails.{values, AreReasons};
 ghost use Rattle.ps_learn.specs.Rest.{IsAdvanced, IsLonger};
 ghost use Rattle.ps_learn.specs.Resting.{AreRested, AreOfAtoms};
-ghost use Rattle.ps_watch.specs.Keeping.{IsInStep, IsOver, HasSeen};
+ghost use Rattle.ps_sat.specs.Keeping.{IsInStep, IsOver, HasSeen};
 
+use crate::kept::Kept;
 use crate::order::Order;
 use ps_clause::ClauseForm;
-use ps_trail::Trail;
-use ps_watch::Kept;
+use ps_learn::Trail;
 
 /// Propagates, and decides on variables of atoms in this order, until a constraint is violated,
 /// which is named, or all is set.

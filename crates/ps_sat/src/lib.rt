@@ -1,12 +1,23 @@
-//! Search with learning.
+//! Search with learning, and propagation by watched literals.
 #![tactic(auto)]
 
 mod advancing;
+mod choosing;
 mod error;
+mod going;
+mod kept;
+mod linking;
+mod links;
+mod looking;
 mod order;
+mod propagating;
+mod scanning;
 mod searching;
+mod sight;
+mod visiting;
+mod watching;
 
 pub use error::SearchError;
+pub use kept::Kept;
 pub use ps_log::MOST_CONFLICTS;
-pub use ps_watch::Kept;
 pub use searching::{Outcome, search, search_from};

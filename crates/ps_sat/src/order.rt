@@ -4,8 +4,8 @@ ghost use Rattle.ps_sat.specs.Choices.{is_open_atom, IsDecision};
 
 use ps_clause::ClauseForm;
 use ps_io::NoMemory;
+use ps_learn::Trail;
 use ps_pb::{Assignment, Constraint, Lit};
-use ps_trail::Trail;
 use std::alloc::Global;
 
 // What a variable of the first conflict gains.

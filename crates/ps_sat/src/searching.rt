@@ -1,7 +1,7 @@
 //! The search.
 ghost use Rattle.std.specs.Prelude.{◌≡◌, ◌≤◌, ◌<◌, ◌^◌, ◌++◌, ◌∷◌, [], length};
 ghost use Rattle.std.specs.Prelude.{IfOk, OnOk, OnErr, IsTrue, IsErrOf};
-ghost use Rattle.ps_steps.specs.Weights.{IsWithin};
+ghost use Rattle.ps_pb.specs.Weights.{IsWithin};
 ghost use Rattle.ps_io.specs.Causes.{next_count};
 ghost use Rattle.ps_log.specs.Logs.{Starts, Grows, Stays};
 ghost use Rattle.ps_log.specs.Limits.{IsStepWithin};
@@ -12,14 +12,13 @@ ghost use Rattle.ps_sat.specs.Searches.{HoldsGoalAndSteps};
 
 use crate::advancing::advance;
 use crate::error::SearchError;
+use crate::kept::Kept;
 use crate::order::Order;
 use ps_clause::ClauseForm;
 use ps_io::NoMemory;
-use ps_learn::learn;
+use ps_learn::{Trail, learn};
 use ps_log::{ProofSink, is_goal_within};
 use ps_pb::{Assignment, Constraint, Step};
-use ps_trail::Trail;
-use ps_watch::Kept;
 use std::alloc::Global;
 
 /// What a search answers.

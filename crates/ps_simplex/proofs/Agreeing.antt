@@ -1,8 +1,8 @@
 -- Tables, columns and costs that agree within the width, and the one solution of a basis.
 use Rattle.std.proofs.Common.{◌≡◌, ℕ, zero, suc, ◌<◌, sym, ap, ◌∙◌, arith}
-use Rattle.ps_rational.specs.Rational.{Rational, mul}
-use Rattle.ps_rational.specs.Sums.{sum_to}
-use Rattle.ps_rational.proofs.Sums.{sum_same}
+use Rattle.ps_meaning.specs.Rational.{Rational, mul}
+use Rattle.ps_meaning.specs.Sums.{sum_to}
+use Rattle.ps_meaning.proofs.Sums.{sum_same}
 use Rattle.ps_simplex.specs.Table.{Belongs, IsBasisTable, carried_by, IsBasis, AreSameWithin, HaveSameCosts, AreSameBases, Solves}
 use Rattle.ps_simplex.proofs.OneTable as tables
 

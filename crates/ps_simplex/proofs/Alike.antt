@@ -1,9 +1,9 @@
 -- What the rule says of one table it says of each that is alike.
 use Rattle.std.proofs.Common.{◌≡◌, ℕ, ◌<◌, Bool, List, [], ◌∷◌, ◌++◌, append-nil, append_assoc, sym, refl, ap, ◌∙◌, subst, inl, inr}
 use Rattle.std.proofs.lemmas.Bool.{cases_eq}
-use Rattle.ps_rational.specs.Rational.{Rational, mul, div}
-use Rattle.ps_rational.specs.Order.{AtMost, IsLess, IsAbove}
-use Rattle.ps_rational.specs.Sums.{sum_to}
+use Rattle.ps_meaning.specs.Rational.{Rational, mul, div}
+use Rattle.ps_meaning.specs.Order.{AtMost, IsLess, IsAbove}
+use Rattle.ps_meaning.specs.Sums.{sum_to}
 use Rattle.ps_simplex.specs.Table.{Based, IsBasis, AreSameWithin, HaveSameCosts}
 use Rattle.ps_simplex.proofs.Agreeing.{same_carried, same_belongs}
 use Rattle.ps_simplex.specs.declared.phase.Phase.{Phase}

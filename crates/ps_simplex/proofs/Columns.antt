@@ -1,11 +1,11 @@
 -- The homes' table, and a world's column made from the home columns.
 use Rattle.std.proofs.Common.{◌≡◌, ℕ, suc, ◌-◌, ◌<◌, [], ◌∷◌, sym, refl, ap, ◌∙◌, subst, arith, inl, inr}
 use Rattle.std.proofs.lemmas.Bool.{cases_eq}
-use Rattle.ps_rational.specs.Rational.{Rational, mul}
-use Rattle.ps_rational.specs.Sums.{sum_to}
-use Rattle.ps_rational.proofs.Ring.{var, by}
-use Rattle.ps_rational.proofs.Field.{ring_q, mul_comm}
-use Rattle.ps_rational.proofs.Sums.{sum_same, sum_scale, sum_swap, unit_sum}
+use Rattle.ps_meaning.specs.Rational.{Rational, mul}
+use Rattle.ps_meaning.specs.Sums.{sum_to}
+use Rattle.ps_meaning.proofs.Ring.{var, by}
+use Rattle.ps_meaning.proofs.Field.{ring_q, mul_comm}
+use Rattle.ps_meaning.proofs.Sums.{sum_same, sum_scale, sum_swap, unit_sum}
 use Rattle.ps_simplex.specs.Table.{unit_at, HasHomes, IsBasisTable}
 use Rattle.ps_simplex.proofs.Units.{less_one, unit_at-same, unit_at-other}
 

@@ -1,15 +1,15 @@
 -- What a whole multiple of the reduced cost tells: a world's combination by whole multiples of the multipliers.
 use Rattle.std.proofs.Common.{◌≡◌, ℕ, suc, ◌<◌, ℤ, pos, ◌+ℤ◌, ◌*ℤ◌, ◌<ℤ◌, neg_ℤ, false, [], ◌∷◌, sym, refl, ap, ◌∙◌, subst, arith, inl, inr}
 use Rattle.std.proofs.lemmas.Int.{ints}
-use Rattle.ps_rational.specs.Rational.{Rational, at_least_one, whole, add, mul, neg, sub}
-use Rattle.ps_rational.specs.Order.{IsNonneg, AtMost, IsLess}
-use Rattle.ps_rational.specs.Sums.{sum_to, int_sum_to}
-use Rattle.ps_rational.proofs.Ring.{var, plus, by, minus}
-use Rattle.ps_rational.proofs.Cross.{neg-quotient}
-use Rattle.ps_rational.proofs.Field.{ring_q}
-use Rattle.ps_rational.proofs.Order.{int_cases, less_or_not, not_less, at_most_of, nonneg-mul, nonneg_of, sign_of_quotient}
-use Rattle.ps_rational.proofs.Sums.{sum_same, sum_scale}
-use Rattle.ps_rational.proofs.Whole.{whole-add, whole-mul, whole_sum, unscaled}
+use Rattle.ps_meaning.specs.Rational.{Rational, at_least_one, whole, add, mul, neg, sub}
+use Rattle.ps_meaning.specs.Order.{IsNonneg, AtMost, IsLess}
+use Rattle.ps_meaning.specs.Sums.{sum_to, int_sum_to}
+use Rattle.ps_meaning.proofs.Ring.{var, plus, by, minus}
+use Rattle.ps_meaning.proofs.Cross.{neg-quotient}
+use Rattle.ps_meaning.proofs.Field.{ring_q}
+use Rattle.ps_meaning.proofs.Order.{int_cases, less_or_not, not_less, at_most_of, nonneg-mul, nonneg_of, sign_of_quotient}
+use Rattle.ps_meaning.proofs.Sums.{sum_same, sum_scale}
+use Rattle.ps_meaning.proofs.Whole.{whole-add, whole-mul, whole_sum, unscaled}
 use Rattle.ps_simplex.specs.Table.{IsBasisTable}
 use Rattle.ps_simplex.proofs.Pricing.{carried_is_priced}
 use Rattle.ps_simplex.specs.declared.phase.Phase.{Phase}

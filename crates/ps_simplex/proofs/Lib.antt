@@ -9,3 +9,17 @@ pub mod Rays
 pub mod Combination
 pub mod Alike
 pub mod OnePivot
+pub mod Reduced
+pub mod Values
+pub mod Heart
+pub mod Walks
+pub mod Degenerate
+pub mod CycleColumns
+pub mod NoCycle
+pub mod Twice
+pub mod Pigeons
+pub mod Choices
+pub mod Chosen
+pub mod Few
+pub mod Ways
+pub mod Worlds

@@ -1,9 +1,9 @@
 -- The rule names one pivot at a basis.
 use Rattle.std.proofs.Common.{◌≡◌, ℕ, ◌<◌, sym, refl, ap, ◌∙◌, subst, arith, inl, inr}
 use Rattle.std.proofs.lemmas.Bool.{cases_eq, cases_lt}
-use Rattle.ps_rational.specs.Rational.{Rational}
-use Rattle.ps_rational.proofs.Field.{one_not_zero}
-use Rattle.ps_rational.proofs.Order.{at_most_antisym}
+use Rattle.ps_meaning.specs.Rational.{Rational}
+use Rattle.ps_meaning.proofs.Field.{one_not_zero}
+use Rattle.ps_meaning.proofs.Order.{at_most_antisym}
 use Rattle.ps_simplex.specs.Table.{IsBasisTable, IsBasis}
 use Rattle.ps_simplex.proofs.OneTable as tables
 use Rattle.ps_simplex.specs.declared.phase.Phase.{Phase}

@@ -1,10 +1,10 @@
 -- A basis has one table.
 use Rattle.std.proofs.Common.{◌≡◌, ℕ, suc, ◌<◌, [], ◌∷◌, sym, refl, ap, ◌∙◌}
-use Rattle.ps_rational.specs.Rational.{Rational, mul}
-use Rattle.ps_rational.specs.Sums.{sum_to}
-use Rattle.ps_rational.proofs.Ring.{var, by}
-use Rattle.ps_rational.proofs.Field.{ring_q}
-use Rattle.ps_rational.proofs.Sums.{sum_same, sum_scale, sum_swap, unit_sum}
+use Rattle.ps_meaning.specs.Rational.{Rational, mul}
+use Rattle.ps_meaning.specs.Sums.{sum_to}
+use Rattle.ps_meaning.proofs.Ring.{var, by}
+use Rattle.ps_meaning.proofs.Field.{ring_q}
+use Rattle.ps_meaning.proofs.Sums.{sum_same, sum_scale, sum_swap, unit_sum}
 use Rattle.ps_simplex.specs.Table.{Belongs, IsBasisTable}
 
 -- a basis that pivots reach has one table

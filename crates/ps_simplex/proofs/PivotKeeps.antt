@@ -1,11 +1,11 @@
 -- A pivot keeps the table that of its basis.
 use Rattle.std.proofs.Common.{◌≡◌, ◌≢◌, ℕ, zero, suc, ◌<◌, ◌≤◌, [], ◌∷◌, sym, refl, ap, ◌∙◌, subst, arith, inl, inr}
 use Rattle.std.proofs.lemmas.Bool.{cases_eq}
-use Rattle.ps_rational.specs.Rational.{Rational, add, mul, sub, div, inverse, zero_q, one_q}
-use Rattle.ps_rational.specs.Sums.{sum_to}
-use Rattle.ps_rational.proofs.Ring.{var, plus, by, minus, none, unit}
-use Rattle.ps_rational.proofs.Field.{mul-inverse, div-mul, ring_q}
-use Rattle.ps_rational.proofs.Sums.{sum_same, sum_scale, sum-sub}
+use Rattle.ps_meaning.specs.Rational.{Rational, add, mul, sub, div, inverse, zero_q, one_q}
+use Rattle.ps_meaning.specs.Sums.{sum_to}
+use Rattle.ps_meaning.proofs.Ring.{var, plus, by, minus, none, unit}
+use Rattle.ps_meaning.proofs.Field.{mul-inverse, div-mul, ring_q}
+use Rattle.ps_meaning.proofs.Sums.{sum_same, sum_scale, sum-sub}
 use Rattle.ps_simplex.specs.Table.{Pivoted, Based, IsBasisTable}
 
 module _ (n w p q : ℕ) (X Y : ℕ → ℕ → Rational) (old new : ℕ → ℕ) (hn : n < w) (hb : (i : ℕ) → i < n → old i < w) (hp : p < n) (hc : q < w) (hq : X p q ≢ zero_q) (pivoted : Pivoted n w p q X Y) (based : Based n p q old new) where

@@ -1,10 +1,10 @@
 -- What a table that stands for rows and columns says of costs: multipliers price every column, and the right side.
 use Rattle.std.proofs.Common.{◌≡◌, ℕ, suc, ◌<◌, [], ◌∷◌, sym, refl, ap, ◌∙◌, arith}
-use Rattle.ps_rational.specs.Rational.{Rational, mul}
-use Rattle.ps_rational.specs.Sums.{sum_to}
-use Rattle.ps_rational.proofs.Ring.{var, by}
-use Rattle.ps_rational.proofs.Field.{ring_q, mul_comm}
-use Rattle.ps_rational.proofs.Sums.{sum_same, sum_scale, sum_swap}
+use Rattle.ps_meaning.specs.Rational.{Rational, mul}
+use Rattle.ps_meaning.specs.Sums.{sum_to}
+use Rattle.ps_meaning.proofs.Ring.{var, by}
+use Rattle.ps_meaning.proofs.Field.{ring_q, mul_comm}
+use Rattle.ps_meaning.proofs.Sums.{sum_same, sum_scale, sum_swap}
 use Rattle.ps_simplex.specs.Table.{IsBasisTable, carried_by}
 
 -- the right side is the column of the first home

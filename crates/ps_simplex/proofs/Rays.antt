@@ -1,12 +1,12 @@
 -- A column that improves has an entry above 0, so it is no ray.
 use Rattle.std.proofs.Common.{◌≡◌, ℕ, ◌<◌, [], ◌∷◌, sym, refl, ap, ◌∙◌, subst, ◌⊎◌, inl, inr}
-use Rattle.ps_rational.specs.Rational.{Rational, mul, neg, zero_q, one_q}
-use Rattle.ps_rational.specs.Order.{IsNonneg, AtMost, IsLess}
-use Rattle.ps_rational.specs.Sums.{sum_to}
-use Rattle.ps_rational.proofs.Ring.{var, plus, by, minus, none, unit}
-use Rattle.ps_rational.proofs.Field.{ring_q, one_not_zero}
-use Rattle.ps_rational.proofs.Order.{nonneg-add, nonneg-mul, not_less, zero_nonneg, both_signs}
-use Rattle.ps_rational.proofs.Sums.{sum_all_zero, sum_nonneg, sum_parts_zero, sum-neg}
+use Rattle.ps_meaning.specs.Rational.{Rational, mul, neg, zero_q, one_q}
+use Rattle.ps_meaning.specs.Order.{IsNonneg, AtMost, IsLess}
+use Rattle.ps_meaning.specs.Sums.{sum_to}
+use Rattle.ps_meaning.proofs.Ring.{var, plus, by, minus, none, unit}
+use Rattle.ps_meaning.proofs.Field.{ring_q, one_not_zero}
+use Rattle.ps_meaning.proofs.Order.{nonneg-add, nonneg-mul, not_less, zero_nonneg, both_signs}
+use Rattle.ps_meaning.proofs.Sums.{sum_all_zero, sum_nonneg, sum_parts_zero, sum-neg}
 
 -- with no cost below 0 and no entry above 0, nothing is carried
 pub carried_not_above : (n : ℕ) (c x : ℕ → Rational) → ((i : ℕ) → i < n → IsNonneg (c i)) → ((i : ℕ) → i < n → IsNonneg (neg (x i))) → IsNonneg (neg (sum_to n (λ i. mul (c i) (x i))))

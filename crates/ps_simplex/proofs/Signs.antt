@@ -1,11 +1,11 @@
 -- Signs of rational numbers, by cases.
 use Rattle.std.proofs.Common.{◌≡◌, ◌≢◌, ◌⊎◌, inl, inr, ℤ, pos, negsuc, zero, suc, ◌<ℤ◌, ◌≤ℤ◌, neg_ℤ, [], ◌∷◌, sym, refl, ap, ◌∙◌, subst, arith}
 use Rattle.std.proofs.lemmas.Int.{ints}
-use Rattle.ps_rational.proofs.Ring.{var, plus, by, minus, none}
-use Rattle.ps_rational.specs.Rational.{Rational, neg, den, mul, zero_q, sub, div, inverse}
-use Rattle.ps_rational.specs.Order.{IsNonneg, AtMost, IsLess, IsAbove}
-use Rattle.ps_rational.proofs.Field.{div-mul, ring_q, over_is_zero, zero_over}
-use Rattle.ps_rational.proofs.Order.{at_most_mul, nonneg-add, nonneg-mul, nonneg_of, zero_nonneg, above_nonneg, above_not_zero, inverse_nonneg, not_less}
+use Rattle.ps_meaning.proofs.Ring.{var, plus, by, minus, none}
+use Rattle.ps_meaning.specs.Rational.{Rational, neg, den, mul, zero_q, sub, div, inverse}
+use Rattle.ps_meaning.specs.Order.{IsNonneg, AtMost, IsLess, IsAbove}
+use Rattle.ps_meaning.proofs.Field.{div-mul, ring_q, over_is_zero, zero_over}
+use Rattle.ps_meaning.proofs.Order.{at_most_mul, nonneg-add, nonneg-mul, nonneg_of, zero_nonneg, above_nonneg, above_not_zero, inverse_nonneg, not_less}
 
 above_or_not_z : (z : ℤ) → (pos 0 <ℤ z) ⊎ (pos 0 ≤ℤ neg_ℤ z)
 above_or_not_z (pos zero) = inr (omega (arith, ints))

@@ -1,7 +1,7 @@
 -- Units.
 use Rattle.std.proofs.Common.{◌≡◌, ◌≢◌, ℕ, suc, ◌-◌, cond, eq-eqb, refl, ap, arith}
 use Rattle.std.proofs.lemmas.Bool.{ne_eqb}
-use Rattle.ps_rational.specs.Rational.{zero_q, one_q}
+use Rattle.ps_meaning.specs.Rational.{zero_q, one_q}
 use Rattle.ps_simplex.specs.Table.{unit_at}
 
 pub less_one : (i : ℕ) → suc i - 1 ≡ i

@@ -1,7 +1,7 @@
 -- What the laws of the table of a basis say.
 use Rattle.std.specs.Prelude.{◌≡◌, ℕ, suc, ◌<◌}
-use Rattle.ps_rational.specs.Rational.{Rational, mul}
-use Rattle.ps_rational.specs.Sums.{sum_to}
+use Rattle.ps_meaning.specs.Rational.{Rational, mul}
+use Rattle.ps_meaning.specs.Sums.{sum_to}
 use Rattle.ps_simplex.specs.Table.{Belongs, IsBasisTable, HasHomes, Pivoted, Based, CanPivot, IsFirst, Widened, carried_by}
 use Rattle.ps_simplex.specs.Table.{IsBasis, AreSameWithin, HaveSameCosts, AreSameBases, Solves}
 

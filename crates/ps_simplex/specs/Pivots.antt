@@ -1,6 +1,6 @@
 -- Lawful pivots of a system of rows and columns, told by bases alone.
 use Rattle.std.specs.Prelude.{ℕ, Bool, List, [], ◌∷◌, ◌++◌}
-use Rattle.ps_rational.specs.Rational.{Rational}
+use Rattle.ps_meaning.specs.Rational.{Rational}
 use Rattle.ps_simplex.specs.Table.{Belongs, Based}
 use Rattle.ps_simplex.specs.declared.phase.Phase.{Phase}
 use Rattle.ps_simplex.specs.Rule.{SimplexTable, table_of, Enters, IsDueToEnd, Leaves}

@@ -1,7 +1,7 @@
 -- Bland's rule in the two phases of the simplex method: which column enters and which row leaves, by the least numbers.
 use Rattle.std.specs.Prelude.{◌≡◌, ◌≢◌, ◌⊎◌, ℕ, ◌<◌, ◌≤◌, Bool, true, false}
-use Rattle.ps_rational.specs.Rational.{Rational, div, zero_q}
-use Rattle.ps_rational.specs.Order.{AtMost, IsLess, IsAbove}
+use Rattle.ps_meaning.specs.Rational.{Rational, div, zero_q}
+use Rattle.ps_meaning.specs.Order.{AtMost, IsLess, IsAbove}
 use Rattle.ps_simplex.specs.Table.{carried_by}
 use Rattle.ps_simplex.specs.declared.phase.Phase.{Phase}
 use Rattle.ps_simplex.specs.declared.phase.Phase.TheVariants.{One, Lower, Upper}

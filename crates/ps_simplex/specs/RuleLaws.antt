@@ -1,8 +1,8 @@
 -- What the laws of Bland's rule say.
 use Rattle.std.specs.Prelude.{◌≡◌, ◌⊎◌, ℕ, suc, ◌<◌, ℤ, pos, ◌<ℤ◌, ◌+ℤ◌, ◌*ℤ◌, neg_ℤ, Bool, false, List, ◌++◌}
-use Rattle.ps_rational.specs.Rational.{Rational, whole, mul, neg, sub, zero_q, one_q}
-use Rattle.ps_rational.specs.Order.{IsNonneg, AtMost, IsLess}
-use Rattle.ps_rational.specs.Sums.{sum_to, int_sum_to}
+use Rattle.ps_meaning.specs.Rational.{Rational, whole, mul, neg, sub, zero_q, one_q}
+use Rattle.ps_meaning.specs.Order.{IsNonneg, AtMost, IsLess}
+use Rattle.ps_meaning.specs.Sums.{sum_to, int_sum_to}
 use Rattle.ps_simplex.specs.Table.{IsBasisTable, IsBasis, AreSameWithin, HaveSameCosts}
 use Rattle.ps_simplex.specs.declared.phase.Phase.{Phase}
 use Rattle.ps_simplex.specs.Rule.{SimplexTable, table_of, carried, Improves, IsDueToEnd, IsMoving, IsResting, Enters, Leaves}

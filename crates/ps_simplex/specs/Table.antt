@@ -2,8 +2,8 @@
 -- the n rows, and the columns of worlds follow.
 use Rattle.std.specs.Prelude.{◌≡◌, ◌≢◌, ℕ, suc, ◌-◌, ◌<◌, ◌≤◌, cond}
 use Rattle.std.proofs.Common.{eqb}
-use Rattle.ps_rational.specs.Rational.{Rational, mul, sub, div, zero_q, one_q}
-use Rattle.ps_rational.specs.Sums.{sum_to}
+use Rattle.ps_meaning.specs.Rational.{Rational, mul, sub, div, zero_q, one_q}
+use Rattle.ps_meaning.specs.Sums.{sum_to}
 
 -- a pivot in row p and column q makes Y of X, of n rows and w columns
 pub record Pivoted (n w p q : ℕ) (X Y : ℕ → ℕ → Rational) : Type 0 where

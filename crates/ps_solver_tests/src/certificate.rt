@@ -1,9 +1,9 @@
 ghost use Rattle.std.specs.Prelude.{◌≡◌, IfOk, length};
-ghost use Rattle.ps_certificate.specs.Certificates.{IsSmallDual};
+ghost use Rattle.ps_claims.specs.Certificates.{IsSmallDual};
 
 use crate::problems::{CONDITIONAL, problem};
 use ps_answer::Dual;
-use ps_certificate::{ClaimKind, combination};
+use ps_claims::{ClaimKind, combination};
 use ps_io::{List, NoMemory};
 use ps_pb::Lit;
 use ps_problem::Problem;

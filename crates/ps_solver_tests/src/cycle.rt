@@ -1,6 +1,6 @@
 //! Known numbers of pivots. The expected values were computed by Python's `math.comb`.
 
-use ps_cycle::enough_pivots;
+use ps_simplex::enough_pivots;
 
 /// Rows, worlds, and the pivots that are enough.
 const CASES: [(u32, u64, Option<u64>); 10] = [

@@ -1,15 +1,14 @@
 ghost use Rattle.std.specs.Prelude.{IsTrue};
-ghost use Rattle.ps_ends.specs.Models.{AreApart};
+ghost use Rattle.ps_generation.specs.Models.{AreApart};
 
 use crate::tables::{adds, are_values_at_least_zero, has_costs, pivots};
 use ps_answer::{Dual, Model, Weighted};
 use ps_claims::ClaimKind;
-use ps_ends::{Weights, dual_of, model_of, weights_of};
 use ps_formula::World;
+use ps_generation::{Weights, dual_of, model_of, weights_of};
 use ps_io::List;
-use ps_pool::{Col, Pool};
 use ps_problem::{Bound, Side};
-use ps_table::{CostList, Costs, Home, Table};
+use ps_table::{Col, CostList, Costs, Home, Pool, Table};
 use std::alloc::Global;
 use std::test::*;
 

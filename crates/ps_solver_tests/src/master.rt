@@ -1,7 +1,7 @@
-ghost use Rattle.ps_master.specs.Runs.{IsAtStart};
+ghost use Rattle.ps_generation.specs.Runs.{IsAtStart};
 
 use crate::problems::{CONTRADICTORY, LIMITS, SINGLE, THREE, problem};
-use ps_master::{First, Run};
+use ps_generation::{First, Run};
 use ps_problem::Problem;
 use std::alloc::Global;
 use std::test::*;

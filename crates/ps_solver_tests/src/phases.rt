@@ -1,5 +1,5 @@
-use ps_phases::{column_of, homes_of, world_cost};
 use ps_problem::{Bound, Side};
+use ps_runs::{column_of, homes_of, world_cost};
 use ps_simplex::Phase;
 use ps_table::Home;
 use std::alloc::Global;

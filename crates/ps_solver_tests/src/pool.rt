@@ -2,7 +2,7 @@
 
 use ps_formula::World;
 use ps_io::NoMemory;
-use ps_pool::{Col, Event, Pool, PoolError, Trace};
+use ps_table::{Col, Event, Pool, PoolError, Trace};
 use std::alloc::Global;
 use std::test::Fail;
 

@@ -1,9 +1,9 @@
 ghost use Rattle.std.specs.Prelude.{◌≡◌, ◌≤◌, IfOk, length, unsigned_abs};
-ghost use Rattle.ps_certificate.specs.Certificates.{IsSmallDual};
+ghost use Rattle.ps_claims.specs.Certificates.{IsSmallDual};
 
 use crate::problems::{CONTRADICTORY, problem};
 use ps_answer::Dual;
-use ps_certificate::ClaimKind;
+use ps_claims::ClaimKind;
 use ps_io::{List, NoMemory};
 use ps_pricing::{Pricer, Pricing};
 use ps_problem::Problem;

@@ -1,7 +1,7 @@
 //! Problems that the tests share, by their texts, and limits within which each is solved.
 ghost use Rattle.std.specs.Prelude.{◌+◌, ◌<◌, ◌^◌, length};
 
-use ps_master::Limits;
+use ps_generation::Limits;
 use ps_problem::Problem;
 use ps_read::read_whole;
 use std::alloc::Global;

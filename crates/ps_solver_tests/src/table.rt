@@ -5,9 +5,8 @@ mod refusals;
 mod turning;
 
 use crate::tables::{adds, has_entry, has_value, pivots};
-use ps_pool::Col;
-use ps_rational::PRINTED_LIMIT;
-use ps_table::{Home, Table, can_be_printed};
+use ps_meaning::PRINTED_LIMIT;
+use ps_table::{Col, Home, Table, can_be_printed};
 use std::test::Fail;
 
 /// A world of entry 3 becomes basic, so the value is 1/3, and a world of entry 2 has entry 2/3.

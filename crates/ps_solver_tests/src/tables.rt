@@ -6,8 +6,7 @@ ghost use Rattle.ps_table.specs.Tableau.{HasColumn};
 ghost use Rattle.ps_table.specs.Pricing.{HasCosts};
 
 use ps_frac::Fraction;
-use ps_pool::Col;
-use ps_table::{Costs, Table};
+use ps_table::{Col, Costs, Table};
 
 /// Whether no row has a value below 0.
 pub(crate) fn are_values_at_least_zero(table: &Table) -> bool

@@ -1,6 +1,6 @@
 -- The text of a query of which a side is open.
 use Rattle.std.proofs.Common.{◌≡◌, ℕ, refl}
-use Rattle.ps_rational.specs.Rational.{Rational}
+use Rattle.ps_meaning.specs.Rational.{Rational}
 use Rattle.ps_answer.specs.declared.answer.Model.{Model}
 use Rattle.ps_answer.specs.declared.answer.Dual.{Dual}
 use Rattle.ps_answer.specs.declared.answer.Cause.{Cause}

@@ -1,5 +1,13 @@
--- Meaning
+-- Meaning: answers in words and numbers
 pub mod Numbers
 pub mod Spoken
 pub mod Quiet
 pub mod Clashes
+-- Meaning: answers as an object of JSON
+pub mod Strings
+pub mod Listings
+pub mod Bounds
+pub mod Queries
+pub mod JsonClashes
+pub mod Counts
+pub mod Objects

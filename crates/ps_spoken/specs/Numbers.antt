@@ -1,9 +1,9 @@
 -- Numbers as they are written for people.
 use Rattle.std.specs.Prelude.{ℕ, pos, ◌==◌, if◌then◌else◌, List, ◌++◌, codes, Result, OnOk}
 use Rattle.std.specs.Fmt.{signed_decimal}
-use Rattle.ps_rational.specs.Rational.{Rational}
+use Rattle.ps_meaning.specs.Rational.{Rational}
 use Rattle.ps_canonical.specs.Lines.{Adds}
-use Rattle.ps_decimal.specs.Decimals.{has_decimals, rounded_down, rounded_up, text_of}
+use Rattle.ps_frac.specs.Decimals.{has_decimals, rounded_down, rounded_up, text_of}
 
 -- a fraction in lowest terms, and without its denominator where that is 1
 abbrev pub fraction_text : Rational → List ℕ

@@ -3,8 +3,8 @@ use Rattle.std.specs.Prelude.{ℕ, pos, ◌==◌, if◌then◌else◌, List, [],
 use Rattle.std.specs.Fmt.{signed_decimal}
 use Rattle.std.specs.declared.cmp.Ordering.{Ordering}
 use Rattle.std.specs.declared.cmp.Ordering.TheVariants.{Less, Equal, Greater}
-use Rattle.ps_rational.specs.Rational.{Rational}
-use Rattle.ps_rational.specs.Order.{order_of}
+use Rattle.ps_meaning.specs.Rational.{Rational}
+use Rattle.ps_meaning.specs.Order.{order_of}
 use Rattle.ps_problem.specs.declared.query.Query.{Query}
 use Rattle.ps_problem.specs.Problems.{Parts}
 use Rattle.ps_canonical.specs.Lines.{probability_text}

@@ -1,7 +1,7 @@
 //! The bounds of a query, for people.
 ghost use Rattle.std.specs.Prelude.{◌<◌, ◌≤◌, OnOk};
 ghost use Rattle.ps_canonical.specs.Lines.{Adds};
-ghost use Rattle.ps_decimal.specs.declared.limits.TheConstants.{MOST_DIGITS};
+ghost use Rattle.ps_frac.specs.declared.limits.TheConstants.{MOST_DIGITS};
 ghost use Rattle.ps_spoken.specs.Numbers.{Says};
 ghost use Rattle.ps_spoken.specs.Spoken.{between_text, lower_text, upper_text};
 ghost use Rattle.ps_spoken.specs.Spoken.{bounds_text, decimals_text};

@@ -47,7 +47,7 @@ fn pivots(out: &mut Vec<u8>, most: u64) -> Result<(), NoMemory>
 }
 
 /// Writes what stopped a part, and what to do about it.
-pub fn write_cause(out: &mut Vec<u8>, cause: &Cause) -> Result<(), NoMemory>
+pub(crate) fn write_cause(out: &mut Vec<u8>, cause: &Cause) -> Result<(), NoMemory>
     ensures { OnOk result (Adds out.old.items out.new.items (cause_text cause.now)) }
 {
     match cause {

@@ -33,7 +33,7 @@ pub enum Clash {
 
 /// Writes the sentence of a number, from 1; nothing where there is none.
 #[tactic(auto, using(crate::proofs::ClashLists::formula_there, crate::proofs::ClashLists::given_there))]
-pub fn write_sentence(
+pub(crate) fn write_sentence(
     alloc: Global,
     out: &mut Vec<u8>,
     problem: &Problem,
@@ -49,7 +49,7 @@ pub fn write_sentence(
 }
 
 /// The line on which the sentence of a number begins, from 1; 0 where it isn't told.
-pub fn line_of(lines: &[u32], number: u32) -> u32
+pub(crate) fn line_of(lines: &[u32], number: u32) -> u32
     ensures { result ≡ line_at lines.now number }
 {
     let place = number.saturating_sub(1) as usize;

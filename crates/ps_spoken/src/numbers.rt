@@ -2,15 +2,14 @@
 ghost use Rattle.std.specs.Prelude.{◌<◌, ◌≤◌, OnOk};
 ghost use Rattle.std.specs.Fmt.{signed_decimal};
 ghost use Rattle.ps_canonical.specs.Lines.{Adds};
-ghost use Rattle.ps_decimal.specs.declared.limits.TheConstants.{MOST_DIGITS};
+ghost use Rattle.ps_frac.specs.declared.limits.TheConstants.{MOST_DIGITS};
 ghost use Rattle.ps_spoken.specs.Numbers.{fraction_text, low_text, high_text};
 
-use ps_decimal::{Decimal, has_decimals};
-use ps_frac::Fraction;
+use ps_frac::{Decimal, Fraction, has_decimals};
 use ps_io::NoMemory;
 
 /// Writes bytes.
-pub fn append(out: &mut Vec<u8>, bytes: &[u8]) -> Result<(), NoMemory>
+pub(crate) fn append(out: &mut Vec<u8>, bytes: &[u8]) -> Result<(), NoMemory>
     ensures { OnOk result (Adds out.old.items out.new.items bytes.now) }
 {
     out.extend_from_slice(bytes)?;
@@ -26,7 +25,7 @@ pub fn number(out: &mut Vec<u8>, n: i128) -> Result<(), NoMemory>
 }
 
 /// Writes a fraction: a whole number, or a quotient in lowest terms.
-pub fn fraction(out: &mut Vec<u8>, value: &Fraction) -> Result<(), NoMemory>
+pub(crate) fn fraction(out: &mut Vec<u8>, value: &Fraction) -> Result<(), NoMemory>
     ensures { OnOk result (Adds out.old.items out.new.items (fraction_text value.now)) }
 {
     number(out, value.numerator())?;
@@ -39,7 +38,7 @@ pub fn fraction(out: &mut Vec<u8>, value: &Fraction) -> Result<(), NoMemory>
 }
 
 /// Writes a fraction as a decimal, rounded down.
-pub fn low(out: &mut Vec<u8>, value: &Fraction, digits: u32) -> Result<(), NoMemory>
+pub(crate) fn low(out: &mut Vec<u8>, value: &Fraction, digits: u32) -> Result<(), NoMemory>
     requires some { 0 < digits }
     requires few { digits ≤ MOST_DIGITS }
     ensures { OnOk result (Adds out.old.items out.new.items (low_text digits value.now)) }
@@ -51,7 +50,7 @@ pub fn low(out: &mut Vec<u8>, value: &Fraction, digits: u32) -> Result<(), NoMem
 }
 
 /// Writes a fraction as a decimal, rounded up.
-pub fn high(out: &mut Vec<u8>, value: &Fraction, digits: u32) -> Result<(), NoMemory>
+pub(crate) fn high(out: &mut Vec<u8>, value: &Fraction, digits: u32) -> Result<(), NoMemory>
     requires some { 0 < digits }
     requires few { digits ≤ MOST_DIGITS }
     ensures { OnOk result (Adds out.old.items out.new.items (high_text digits value.now)) }

@@ -1,7 +1,7 @@
 //! The values of an answer alone.
 ghost use Rattle.std.specs.Prelude.{◌<◌, ◌≤◌, OnOk};
 ghost use Rattle.ps_canonical.specs.Lines.{Adds};
-ghost use Rattle.ps_decimal.specs.declared.limits.TheConstants.{MOST_DIGITS};
+ghost use Rattle.ps_frac.specs.declared.limits.TheConstants.{MOST_DIGITS};
 ghost use Rattle.ps_spoken.specs.Quiet.{lower_value, upper_value, query_values};
 ghost use Rattle.ps_spoken.specs.Quiet.{parts_values, values_of, verdict_value};
 
@@ -85,7 +85,7 @@ pub fn write_verdict_value(out: &mut Vec<u8>, verdict: &Verdict) -> Result<(), N
 /// Writes the verdict of an answer in a word, and the bounds of each query in a line, as decimals of
 /// so many digits rounded outward. A `?` stands for a side that is open.
 #[tactic(auto, unfolding(crate::specs::Quiet::values_of))]
-pub fn write_values(out: &mut Vec<u8>, answer: &Answer, digits: u32) -> Result<(), NoMemory>
+pub(crate) fn write_values(out: &mut Vec<u8>, answer: &Answer, digits: u32) -> Result<(), NoMemory>
     requires some { 0 < digits }
     requires few { digits ≤ MOST_DIGITS }
     ensures { OnOk result (Adds out.old.items out.new.items (values_of digits answer.now)) }

@@ -1,7 +1,7 @@
 //! An answer, for people.
 ghost use Rattle.std.specs.Prelude.{◌<◌, ◌≤◌, OnOk};
 ghost use Rattle.ps_canonical.specs.Lines.{Adds};
-ghost use Rattle.ps_decimal.specs.declared.limits.TheConstants.{MOST_DIGITS};
+ghost use Rattle.ps_frac.specs.declared.limits.TheConstants.{MOST_DIGITS};
 ghost use Rattle.ps_spoken.specs.Spoken.{spoken, verdict_text};
 
 use crate::cause::write_cause;

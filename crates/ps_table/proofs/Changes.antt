@@ -4,11 +4,11 @@ use Rattle.std.proofs.lemmas.List.{length-set}
 use Rattle.std.proofs.lemmas.List.Elements.{All-append, All-nil}
 use Rattle.std.proofs.Math.Seq.{take-suc}
 use Rattle.std.proofs.lemmas.Nat.{mod-mul-add, div-mul-add}
-use Rattle.ps_rational.specs.Rational.{Rational, zero_q}
+use Rattle.ps_meaning.specs.Rational.{Rational, zero_q}
 use Rattle.ps_table.specs.declared.change.Change.{Change}
 use Rattle.ps_table.specs.declared.pivot.Pivot.{Pivot}
 use Rattle.std.proofs.lemmas.Bool.{cases_eq}
-use Rattle.ps_rational.specs.Wide.{Fits, size_limit}
+use Rattle.ps_meaning.specs.Wide.{Fits, size_limit}
 use Rattle.ps_table.specs.Grids.{GridCells, cell_in, pivoted_in, IsNarrowBeside, ColumnFits, LosesNothing, ArePivoted}
 use Rattle.ps_table.specs.Changes.{written, AreInside, IsUpTo, IsUpToRow, IsUpToColumn}
 use Rattle.ps_table.proofs.Narrow.{all_more}

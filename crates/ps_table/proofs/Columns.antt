@@ -3,8 +3,8 @@ use Rattle.std.proofs.Common.{◌≡◌, ◌≢◌, ℕ, suc, ◌+◌, ◌-◌, 
 use Rattle.std.proofs.lemmas.Nat.{mod-mul-add, div-mul-add}
 use Rattle.std.proofs.Math.ListN.{get_or-append}
 use Rattle.std.proofs.Common.{Result, Ok, Err, IfErr, IsErr}
-use Rattle.ps_rational.specs.Rational.{Rational}
-use Rattle.ps_rational.specs.Rational.{zero_q}
+use Rattle.ps_meaning.specs.Rational.{Rational}
+use Rattle.ps_meaning.specs.Rational.{zero_q}
 use Rattle.ps_frac.specs.declared.wide.Op.{Op}
 use Rattle.ps_table.specs.declared.place.Place.{Place}
 use Rattle.ps_table.specs.declared.place.WideAt.{WideAt}
@@ -12,20 +12,20 @@ use Rattle.ps_table.specs.Places.{Operation, IsWide, IsWideAt}
 use Rattle.ps_table.proofs.Operations.{operation}
 use Rattle.std.proofs.Common.{set, get_or-set_same, get_or-set_other, cond, eq-eqb}
 use Rattle.std.proofs.lemmas.Bool.{ne_eqb}
-use Rattle.ps_rational.specs.Rational.{mul, neg, fraction}
-use Rattle.ps_rational.proofs.Ring.{var, by, minus, none, unit}
-use Rattle.ps_rational.specs.Sums.{sum_to}
-use Rattle.ps_rational.proofs.Sums.{sum_same}
+use Rattle.ps_meaning.specs.Rational.{mul, neg, fraction}
+use Rattle.ps_meaning.proofs.Ring.{var, by, minus, none, unit}
+use Rattle.ps_meaning.specs.Sums.{sum_to}
+use Rattle.ps_meaning.proofs.Sums.{sum_same}
 use Rattle.std.proofs.Common.{ℤ, pos, negsuc, get_or-append-add}
 use Rattle.ps_table.specs.declared.home.Home.{Home}
 use Rattle.ps_simplex.specs.Table.{unit_at, HasHomes, IsBasisTable, Based}
 use Rattle.ps_simplex.proofs.Units.{unit_at-same, unit_at-other}
 use Rattle.ps_simplex.proofs.Columns.{stands_new, stands_more}
-use Rattle.ps_rational.specs.Rational.{sub, div}
-use Rattle.ps_rational.proofs.Field.{ring_q, one_is_fraction, zero_is_fraction, minus_one_is_fraction}
+use Rattle.ps_meaning.specs.Rational.{sub, div}
+use Rattle.ps_meaning.proofs.Field.{ring_q, one_is_fraction, zero_is_fraction, minus_one_is_fraction}
 use Rattle.ps_simplex.proofs.PivotKeeps.{stands_kept}
-use Rattle.ps_pool.specs.declared.col.Col.{Col}
-use Rattle.ps_pool.specs.declared.col.Col.TheVariants as col
+use Rattle.ps_table.specs.declared.col.Col.{Col}
+use Rattle.ps_table.specs.declared.col.Col.TheVariants as col
 use Rattle.ps_table.specs.Tableau.{Tableau, IsTableau, IsInside, IsPivot, entry_at, cell_at, basic_at, number_in, IsTableFor, IsAdded, IsColumn}
 use Rattle.ps_table.specs.Grids.{pivot_cell}
 use Rattle.std.proofs.Math.Nat.{mul-le-mul_right}

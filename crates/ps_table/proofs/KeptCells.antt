@@ -6,16 +6,16 @@ use Rattle.std.proofs.lemmas.Nat.{mod-mul-add, div-mul-add}
 use Rattle.std.proofs.Math.ListN.{get_or-append}
 use Rattle.std.proofs.Math.Seq.{get_or-append_seam}
 use Rattle.std.proofs.Math.Nat.{mod-lt, div-lt_iff_lt-mul}
-use Rattle.ps_rational.specs.Rational.{Rational, fraction, zero_q}
+use Rattle.ps_meaning.specs.Rational.{Rational, fraction, zero_q}
 use Rattle.ps_whole.specs.Whole.{WholeCells, whole_at, number_at, under_at}
 use Rattle.ps_table.specs.Grids.{GridCells, width, cell_in, cells_of, IsGrid}
 use Rattle.ps_table.specs.KeptCells.{list_to, entry_in, whole_list, list_of, HaveSize, AreKept}
 use Rattle.ps_table.proofs.Columns.{cell_within}
 use Rattle.ps_table.specs.declared.kept.Cells.{Cells}
 use Rattle.ps_table.specs.declared.kept.Cells.TheVariants as kept
-use Rattle.ps_rational.proofs.Cross.{quotient-same}
-use Rattle.ps_rational.proofs.Field.{zero_is_fraction}
-use Rattle.ps_rational.specs.Rational.{at_least_one}
+use Rattle.ps_meaning.proofs.Cross.{quotient-same}
+use Rattle.ps_meaning.proofs.Field.{zero_is_fraction}
+use Rattle.ps_meaning.specs.Rational.{at_least_one}
 use Rattle.std.proofs.lemmas.Int.{ints}
 
 pub list_length : (n : ℕ) (f : ℕ → Rational) → length (list_to n f) ≡ n

@@ -1,7 +1,7 @@
 -- The first rows of whole numbers.
 use Rattle.std.proofs.Common.{◌≡◌, ℕ, suc, ◌-◌, ◌*◌, ◌/◌, ◌%◌, ◌<◌, ℤ, arith, sym, ap, ◌∙◌, subst, inl, inr}
 use Rattle.std.proofs.lemmas.Bool.{cases_eq}
-use Rattle.ps_rational.specs.Rational.{fraction}
+use Rattle.ps_meaning.specs.Rational.{fraction}
 use Rattle.ps_whole.specs.Whole.{WholeCells, whole_at}
 use Rattle.ps_whole.proofs.FirstRows as first
 use Rattle.ps_whole.specs.Homes.{IsOfHomes, home_at}

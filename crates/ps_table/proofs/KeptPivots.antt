@@ -1,8 +1,8 @@
 -- Pivots of rows of whole numbers are those of the grid.
 use Rattle.std.proofs.Common.{◌≡◌, ℕ, ◌*◌, ◌/◌, ◌%◌, ◌<◌, length, refl, sym, ap, ◌∙◌, subst, inl, inr}
 use Rattle.std.proofs.lemmas.Bool.{cases_eq}
-use Rattle.ps_rational.specs.Rational.{Rational, mul, sub, neg, div, inverse}
-use Rattle.ps_rational.specs.Wide.{ProductIsWide, SumIsWide}
+use Rattle.ps_meaning.specs.Rational.{Rational, mul, sub, neg, div, inverse}
+use Rattle.ps_meaning.specs.Wide.{ProductIsWide, SumIsWide}
 use Rattle.ps_frac.specs.declared.wide.Op.TheVariants.{Div}
 use Rattle.ps_whole.specs.Whole.{WholeCells, whole_at}
 use Rattle.ps_whole.specs.Pivots.{IsPivotCell, IsPivoted, IsNarrowPivot, ArePivotsNarrow}
@@ -16,7 +16,7 @@ use Rattle.ps_table.proofs.Columns.{pivot_own, pivot_other}
 use Rattle.ps_table.proofs.Narrow.{pivot_narrow}
 use Rattle.ps_table.proofs.KeptCells.{list_length, list_entry, place_row, place_column, IsGridOf, cell_is}
 use Rattle.std.proofs.Common.{Result, Ok, Err, IfOk, Option, Some, None, IfSome}
-use Rattle.ps_pool.specs.declared.col.Col.{Col}
+use Rattle.ps_table.specs.declared.col.Col.{Col}
 use Rattle.ps_table.specs.Tableau.{number_of, rows_of, entry_at}
 use Rattle.ps_table.specs.Places.{PivotPlaces}
 

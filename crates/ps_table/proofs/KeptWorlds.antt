@@ -3,10 +3,10 @@ use Rattle.std.proofs.Common.{◌≡◌, ℕ, suc, ◌+◌, ◌*◌, ◌<◌, �
 use Rattle.std.proofs.Common.{get_or-append-add}
 use Rattle.std.proofs.lemmas.List.{length-append}
 use Rattle.std.proofs.Math.ListN.{get_or-append}
-use Rattle.ps_rational.specs.Rational.{Rational, fraction, mul, zero_q}
-use Rattle.ps_rational.specs.Sums.{sum_to}
-use Rattle.ps_rational.specs.Wide.{ProductIsWide, SumIsWide}
-use Rattle.ps_rational.proofs.Sums.{sum_same}
+use Rattle.ps_meaning.specs.Rational.{Rational, fraction, mul, zero_q}
+use Rattle.ps_meaning.specs.Sums.{sum_to}
+use Rattle.ps_meaning.specs.Wide.{ProductIsWide, SumIsWide}
+use Rattle.ps_meaning.proofs.Sums.{sum_same}
 use Rattle.ps_whole.specs.Whole.{WholeCells, whole_at}
 use Rattle.ps_table.specs.Tableau.{Tableau, IsAdded, cell_at, width_of}
 use Rattle.ps_whole.specs.Columns.{IsWidened, column_part}

@@ -4,9 +4,9 @@ use Rattle.std.proofs.lemmas.Bool.{cases_eq}
 use Rattle.std.proofs.lemmas.Nat.{mod-mul-add, div-mul-add}
 use Rattle.ps_frac.specs.declared.wide.Op.{Op}
 use Rattle.ps_frac.specs.declared.wide.Op.TheVariants.{Add, Div}
-use Rattle.ps_rational.specs.Rational.{Rational}
-use Rattle.ps_rational.specs.Sums.{sum_to}
-use Rattle.ps_pool.specs.declared.col.Col.{Col}
+use Rattle.ps_meaning.specs.Rational.{Rational}
+use Rattle.ps_meaning.specs.Sums.{sum_to}
+use Rattle.ps_table.specs.declared.col.Col.{Col}
 use Rattle.ps_table.specs.declared.place.WideAt.{WideAt}
 use Rattle.ps_table.specs.declared.place.TableCol.{TableCol}
 use Rattle.ps_table.specs.declared.place.TableCol.TheVariants.{Right, Of}

@@ -1,6 +1,6 @@
 -- Operations, by their parts and as they were refused.
 use Rattle.ps_frac.specs.declared.wide.Op.{Op}
-use Rattle.ps_rational.specs.Rational.{Rational}
+use Rattle.ps_meaning.specs.Rational.{Rational}
 use Rattle.ps_table.specs.declared.place.Place.{Place}
 use Rattle.ps_table.specs.declared.place.WideAt.{WideAt}
 use Rattle.ps_table.specs.Places.{Operation}

@@ -3,15 +3,15 @@ use Rattle.std.proofs.Common.{◌≡◌, ℕ, ◌/◌, ◌<◌, ℤ, pos, ◌+�
 use Rattle.std.proofs.lemmas.Int.{ints}
 use Rattle.std.proofs.Math.Nat.{eq-one_of_dvd-one}
 use Rattle.std.specs.Int.{◌∣◌}
-use Rattle.ps_rational.specs.Gcd.{lcm}
-use Rattle.ps_rational.specs.Coprime.{gcd_is}
-use Rattle.ps_rational.specs.Rational.{Rational, quotient, at_least_one, whole, add, mul}
-use Rattle.ps_rational.specs.Scaled.{scaled}
-use Rattle.ps_rational.proofs.Cross.{quotient_cross}
-use Rattle.ps_rational.proofs.Field.{mul_comm}
-use Rattle.ps_rational.proofs.Whole.{whole-add}
-use Rattle.ps_rational.proofs.Scaling.{scaled_is}
-use Rattle.ps_rational.specs.declared.limits.TheConstants.{PRINTED_LIMIT}
+use Rattle.ps_meaning.specs.Gcd.{lcm}
+use Rattle.ps_meaning.specs.Coprime.{gcd_is}
+use Rattle.ps_meaning.specs.Rational.{Rational, quotient, at_least_one, whole, add, mul}
+use Rattle.ps_meaning.specs.Scaled.{scaled}
+use Rattle.ps_meaning.proofs.Cross.{quotient_cross}
+use Rattle.ps_meaning.proofs.Field.{mul_comm}
+use Rattle.ps_meaning.proofs.Whole.{whole-add}
+use Rattle.ps_meaning.proofs.Scaling.{scaled_is}
+use Rattle.ps_meaning.specs.declared.limits.TheConstants.{PRINTED_LIMIT}
 use Rattle.ps_table.specs.Places.{IsTooLargeToPrint}
 use Rattle.ps_table.specs.Laws.{PrintedPlacesAreExact}
 

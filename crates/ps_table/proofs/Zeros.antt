@@ -1,10 +1,10 @@
 -- A cell with a 0 in the pivot's row or column, and parts of sums that are 0.
 use Rattle.std.proofs.Common.{◌≡◌, ◌≢◌, ℕ, suc, ◌<◌, List, [], ◌∷◌, get_or, sym, refl, ap, ◌∙◌, subst, inl, inr, ℤ, pos}
-use Rattle.ps_rational.specs.Rational.{Rational, add, mul, sub, neg, div, inverse, fraction, zero_q}
-use Rattle.ps_rational.specs.Wide.{Fits, size_limit, ProductIsWide, SumIsWide}
-use Rattle.ps_rational.proofs.Ring.{var, plus, by, minus, none}
-use Rattle.ps_rational.proofs.Field.{ring_q, zero_is_fraction}
-use Rattle.ps_rational.proofs.Zeros.{left_narrow, right_narrow, sum_narrow, difference_narrow}
+use Rattle.ps_meaning.specs.Rational.{Rational, add, mul, sub, neg, div, inverse, fraction, zero_q}
+use Rattle.ps_meaning.specs.Wide.{Fits, size_limit, ProductIsWide, SumIsWide}
+use Rattle.ps_meaning.proofs.Ring.{var, plus, by, minus, none}
+use Rattle.ps_meaning.proofs.Field.{ring_q, zero_is_fraction}
+use Rattle.ps_meaning.proofs.Zeros.{left_narrow, right_narrow, sum_narrow, difference_narrow}
 use Rattle.ps_table.specs.Tableau.{world_entry}
 use Rattle.ps_table.specs.declared.pivot.Pivot.{Pivot}
 use Rattle.ps_table.specs.Grids.{GridCells, cell_in, scaled_in, lost_in, pivoted_in, LosesNothing, IsCellNarrow, AddsNothing, part_in, sum_in, IsNarrowPart}

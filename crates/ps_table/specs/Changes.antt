@@ -1,7 +1,7 @@
 -- Changes of cells, and the cells with them.
 use Rattle.std.specs.Prelude.{◌≡◌, ℕ, ◌+◌, ◌*◌, ◌/◌, ◌%◌, ◌<◌, ◌≤◌, List, [], ◌∷◌, length, get_or, set}
 use Rattle.std.specs.List.{All}
-use Rattle.ps_rational.specs.Rational.{Rational, zero_q}
+use Rattle.ps_meaning.specs.Rational.{Rational, zero_q}
 use Rattle.ps_table.specs.declared.change.Change.{Change}
 use Rattle.ps_table.specs.declared.pivot.Pivot.{Pivot}
 use Rattle.ps_table.specs.Grids.{GridCells, pivoted_in, IsNarrowBeside, ArePivoted}

@@ -3,17 +3,17 @@ use Rattle.std.specs.Prelude.{◌≡◌, ◌≢◌, ◌⊎◌, ℕ, suc, ◌+◌
 use Rattle.std.proofs.Common.{eqb}
 use Rattle.ps_frac.specs.declared.wide.Op.{Op}
 use Rattle.ps_frac.specs.declared.wide.Op.TheVariants.{Add, Sub, Mul, Div}
-use Rattle.ps_rational.specs.Rational.{Rational, mul, sub, div, zero_q}
-use Rattle.ps_rational.specs.Sums.{sum_to}
-use Rattle.ps_rational.specs.Wide.{Fits, size_limit}
+use Rattle.ps_meaning.specs.Rational.{Rational, mul, sub, div, zero_q}
+use Rattle.ps_meaning.specs.Sums.{sum_to}
+use Rattle.ps_meaning.specs.Wide.{Fits, size_limit}
 use Rattle.ps_table.specs.declared.place.Place.{Place}
 use Rattle.ps_table.specs.declared.place.WideAt.{WideAt}
 use Rattle.ps_table.specs.declared.pivot.Pivot.{Pivot}
 use Rattle.ps_table.specs.declared.limits.TheConstants.{MOST_ROWS}
 use Rattle.ps_table.specs.Tableau.{Tableau, cell_at, entry_at, number_of, rows_of, world_entry}
-use Rattle.ps_pool.specs.declared.pool.TheConstants.{MOST_WORLDS}
-use Rattle.ps_pool.specs.declared.col.Col.{Col}
-use Rattle.ps_pool.specs.declared.col.Col.TheVariants as col
+use Rattle.ps_table.specs.declared.pool.TheConstants.{MOST_WORLDS}
+use Rattle.ps_table.specs.declared.col.Col.{Col}
+use Rattle.ps_table.specs.declared.col.Col.TheVariants as col
 use Rattle.ps_simplex.specs.Table.{unit_at}
 use Rattle.ps_table.specs.declared.costs.Costs.{Costs}
 use Rattle.ps_whole.specs.declared.sums.WholeSum.{WholeSum}

@@ -1,13 +1,13 @@
 -- The entries of a table as they are kept: rows of whole numbers, or fractions.
 use Rattle.std.specs.Prelude.{◌≡◌, ℕ, zero, suc, ◌+◌, ◌*◌, ◌/◌, ◌%◌, ◌<◌, ◌≤◌, List, [], ◌∷◌, ◌++◌, length, ℤ}
-use Rattle.ps_rational.specs.Rational.{Rational}
-use Rattle.ps_rational.specs.Sums.{sum_to}
+use Rattle.ps_meaning.specs.Rational.{Rational}
+use Rattle.ps_meaning.specs.Sums.{sum_to}
 use Rattle.ps_whole.specs.Whole.{WholeCells, whole_at}
 use Rattle.ps_table.specs.declared.kept.Cells.{Cells}
 use Rattle.ps_table.specs.declared.kept.Cells.TheVariants as kept
 use Rattle.ps_table.specs.declared.limits.TheConstants.{MOST_ROWS}
 use Rattle.ps_table.specs.declared.pivot.Pivot.{Pivot}
-use Rattle.ps_pool.specs.declared.pool.TheConstants.{MOST_WORLDS}
+use Rattle.ps_table.specs.declared.pool.TheConstants.{MOST_WORLDS}
 use Rattle.ps_table.specs.Tableau.{Tableau, IsTableau}
 use Rattle.ps_table.specs.Places.{IsNarrow, new_part}
 use Rattle.ps_table.specs.Grids.{GridCells, width, cell_in, cells_of, grid_of, ArePivoted, GridPivotPlaces, GridNewPlaces}

@@ -2,10 +2,10 @@
 use Rattle.std.specs.Prelude.{◌↔◌, ℕ, ◌<◌, ℤ, pos, ◌+ℤ◌}
 use Rattle.std.specs.Int.{◌∣◌}
 use Rattle.ps_frac.specs.declared.wide.Op.{Op}
-use Rattle.ps_rational.specs.Gcd.{lcm}
-use Rattle.ps_rational.specs.Rational.{Rational, whole}
-use Rattle.ps_rational.specs.Scaled.{scaled}
-use Rattle.ps_rational.specs.declared.limits.TheConstants.{PRINTED_LIMIT}
+use Rattle.ps_meaning.specs.Gcd.{lcm}
+use Rattle.ps_meaning.specs.Rational.{Rational, whole}
+use Rattle.ps_meaning.specs.Scaled.{scaled}
+use Rattle.ps_meaning.specs.declared.limits.TheConstants.{PRINTED_LIMIT}
 use Rattle.ps_table.specs.declared.place.Place.TheVariants.{Whole, Scaled, Weight, Weighed, Total}
 use Rattle.ps_table.specs.Places.{IsTooLargeToPrint, IsWide}
 

@@ -3,14 +3,14 @@ use Rattle.std.specs.Prelude.{◌≢◌, ℕ, suc, ◌<◌, List, ℤ, pos, unsi
 use Rattle.std.proofs.Common.{ltb}
 use Rattle.ps_frac.specs.declared.wide.Op.{Op}
 use Rattle.ps_frac.specs.declared.wide.Op.TheVariants.{Add, Sub, Mul, Div, Lcm}
-use Rattle.ps_rational.specs.Gcd.{lcm, lcm_to}
-use Rattle.ps_rational.specs.Wide.{ProductIsWide, SumIsWide}
-use Rattle.ps_rational.specs.Order.{IsAbove}
-use Rattle.ps_rational.specs.Rational.{Rational, whole, add, mul, neg, div, inverse}
-use Rattle.ps_rational.specs.Scaled.{scaled}
-use Rattle.ps_rational.specs.Sums.{sum_to, int_sum_to}
+use Rattle.ps_meaning.specs.Gcd.{lcm, lcm_to}
+use Rattle.ps_meaning.specs.Wide.{ProductIsWide, SumIsWide}
+use Rattle.ps_meaning.specs.Order.{IsAbove}
+use Rattle.ps_meaning.specs.Rational.{Rational, whole, add, mul, neg, div, inverse}
+use Rattle.ps_meaning.specs.Scaled.{scaled}
+use Rattle.ps_meaning.specs.Sums.{sum_to, int_sum_to}
 use Rattle.ps_simplex.specs.Table.{carried_by}
-use Rattle.ps_rational.specs.declared.limits.TheConstants.{PRINTED_LIMIT}
+use Rattle.ps_meaning.specs.declared.limits.TheConstants.{PRINTED_LIMIT}
 use Rattle.ps_table.specs.declared.place.Place.{Place}
 use Rattle.ps_table.specs.declared.place.Place.TheVariants.{Ratio, Scale, Times, Minus, Cost, Whole}
 use Rattle.ps_table.specs.declared.place.Place.TheVariants.{Scaled, Weight, Weighed, Total, NewTimes, NewPlus}
@@ -19,8 +19,8 @@ use Rattle.ps_table.specs.declared.place.WideAt.{WideAt}
 use Rattle.ps_table.specs.declared.error.TableError.{TableError}
 use Rattle.ps_table.specs.declared.error.TableError.TheVariants as refused
 use Rattle.ps_table.specs.declared.costs.Costs.{Costs}
-use Rattle.ps_pool.specs.declared.col.Col.{Col}
-use Rattle.ps_pool.specs.declared.col.Col.TheVariants as col
+use Rattle.ps_table.specs.declared.col.Col.{Col}
+use Rattle.ps_table.specs.declared.col.Col.TheVariants as col
 use Rattle.ps_table.specs.Tableau.{Tableau, number_in, number_shown, number_of, rows_of, IsShown, entry_at, basic_at, world_entry}
 use Rattle.ps_table.specs.Pricing.{cost_at, cost_part}
 

@@ -1,8 +1,8 @@
 -- Costs of columns, and what the rows of a table carry of them.
 use Rattle.std.specs.Prelude.{◌≡◌, ℕ, suc, ◌-◌, ◌<◌, ◌≤◌, ◌≤ℤ◌, ◌++◌, get_or, length, ℤ, pos, negsuc}
-use Rattle.ps_pool.specs.declared.col.Col.{Col}
+use Rattle.ps_table.specs.declared.col.Col.{Col}
 use Rattle.ps_table.specs.declared.costs.Costs.{Costs}
-use Rattle.ps_rational.specs.Rational.{Rational, fraction, mul}
+use Rattle.ps_meaning.specs.Rational.{Rational, fraction, mul}
 use Rattle.ps_simplex.specs.Table.{carried_by}
 use Rattle.ps_table.specs.Tableau.{Tableau, IsInside, entry_at, basic_at, number_of, rows_of}
 

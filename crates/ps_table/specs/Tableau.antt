@@ -2,13 +2,13 @@
 use Rattle.std.specs.Prelude.{◌≡◌, ℕ, suc, ◌+◌, ◌-◌, ◌*◌, ◌<◌, ◌≤◌, List, get_or, length, set, ℤ, pos}
 use Rattle.ps_table.specs.declared.home.Home.{Home}
 use Rattle.ps_table.specs.declared.limits.TheConstants.{MOST_ROWS}
-use Rattle.ps_pool.specs.declared.pool.TheConstants.{MOST_WORLDS}
-use Rattle.ps_pool.specs.declared.col.Col.{Col}
-use Rattle.ps_pool.specs.declared.col.Col.TheVariants as col
+use Rattle.ps_table.specs.declared.pool.TheConstants.{MOST_WORLDS}
+use Rattle.ps_table.specs.declared.col.Col.{Col}
+use Rattle.ps_table.specs.declared.col.Col.TheVariants as col
 use Rattle.ps_table.specs.declared.place.TableCol.{TableCol}
 use Rattle.ps_table.specs.declared.place.TableCol.TheVariants.{Right, Of}
-use Rattle.ps_rational.specs.Rational.{Rational, fraction, mul, zero_q}
-use Rattle.ps_rational.specs.Sums.{sum_to}
+use Rattle.ps_meaning.specs.Rational.{Rational, fraction, mul, zero_q}
+use Rattle.ps_meaning.specs.Sums.{sum_to}
 use Rattle.ps_simplex.specs.Table.{IsBasisTable, Pivoted, Based, HasHomes, unit_at}
 
 -- a table as it is seen: the kind of each home, the number of worlds, the cells column by column, and the basic columns

@@ -1,7 +1,7 @@
 //! Operations on fractions that name their place where they are refused.
 ghost use Rattle.std.specs.Prelude.{◌≡◌, ◌≢◌, ◌↔◌, IfOk, IfErr, IsErr};
-ghost use Rattle.ps_rational.specs.Rational.{add, mul, neg, sub, div, inverse, zero_q};
-ghost use Rattle.ps_rational.specs.Wide.{SumIsWide, ProductIsWide};
+ghost use Rattle.ps_meaning.specs.Rational.{add, mul, neg, sub, div, inverse, zero_q};
+ghost use Rattle.ps_meaning.specs.Wide.{SumIsWide, ProductIsWide};
 ghost use Rattle.ps_table.specs.Grids.{Names};
 
 use crate::place::{Place, WideAt};

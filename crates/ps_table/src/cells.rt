@@ -1,12 +1,12 @@
 //! Cells of columns that stand one after the other, and the numbers of columns.
 ghost use Rattle.std.specs.Prelude.{◌≡◌, ℕ, suc, ◌+◌, ◌*◌, ◌<◌, ◌≤◌, length};
-ghost use Rattle.ps_pool.specs.declared.pool.TheConstants.{MOST_WORLDS};
+ghost use Rattle.ps_table.specs.declared.pool.TheConstants.{MOST_WORLDS};
 ghost use Rattle.ps_table.specs.Tableau.{number_in, number_shown, IsInside, IsShown, cell_at};
 ghost use Rattle.ps_table.specs.declared.limits.TheConstants.{MOST_ROWS};
 
+use crate::col::Col;
 use crate::place::TableCol;
 use ps_frac::Fraction;
-use ps_pool::Col;
 
 /// Row `row` of column `column`, in columns of `rows` rows.
 pub(crate) fn cell(cells: &[Fraction], rows: usize, row: usize, column: usize) -> Fraction

@@ -1,12 +1,12 @@
 //! Costs of columns.
 ghost use Rattle.std.specs.Prelude.{◌≡◌, length, pos, negsuc, ◌≤ℤ◌};
-ghost use Rattle.ps_rational.specs.Rational.{fraction, mul};
+ghost use Rattle.ps_meaning.specs.Rational.{fraction, mul};
 ghost use Rattle.ps_table.specs.Tableau.{number_in};
 ghost use Rattle.ps_table.specs.Pricing.{HasSmallCosts, HasCostOf, cost_number};
 
+use crate::col::Col;
 use ps_frac::Fraction;
 use ps_io::List;
-use ps_pool::Col;
 
 /// A list of costs.
 pub type CostList = List<i8>;

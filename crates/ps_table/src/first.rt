@@ -3,8 +3,8 @@ ghost use Rattle.std.specs.Prelude.{◌≡◌, ◌≤◌, length, IfOk};
 ghost use Rattle.ps_table.specs.declared.limits.TheConstants.{MOST_ROWS};
 ghost use Rattle.ps_table.specs.Grids.{AreHomes};
 
+use crate::col::Col;
 use ps_io::NoMemory;
-use ps_pool::Col;
 use std::alloc::Global;
 
 /// The homes of so many rows.

@@ -1,6 +1,6 @@
 //! The entries of a table by row and column.
 ghost use Rattle.std.specs.Prelude.{◌≡◌, suc, ◌+◌, ◌*◌, ◌<◌, ◌≤◌, length};
-ghost use Rattle.ps_pool.specs.declared.pool.TheConstants.{MOST_WORLDS};
+ghost use Rattle.ps_table.specs.declared.pool.TheConstants.{MOST_WORLDS};
 ghost use Rattle.ps_table.specs.declared.limits.TheConstants.{MOST_ROWS};
 ghost use Rattle.ps_table.specs.Tableau.{number_shown, IsShown};
 ghost use Rattle.ps_table.specs.Grids.{IsGrid, ColumnFits, cell_in, cells_of, width};

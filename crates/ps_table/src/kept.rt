@@ -2,10 +2,10 @@
 //! fractions.
 ghost use Rattle.std.specs.Prelude.{◌≡◌, suc, ◌+◌, ◌*◌, ◌<◌, ◌≤◌, length, IfOk, IfErr, IfSome, IsTrue};
 ghost use Rattle.std.specs.Prelude.{pos, negsuc, ◌≤ℤ◌};
-ghost use Rattle.ps_rational.specs.Rational.{zero_q};
+ghost use Rattle.ps_meaning.specs.Rational.{zero_q};
 ghost use Rattle.ps_whole.specs.Sums.{IsSmallSum, IsSumWith};
 ghost use Rattle.ps_whole.specs.Whole.{whole_at};
-ghost use Rattle.ps_pool.specs.declared.pool.TheConstants.{MOST_WORLDS};
+ghost use Rattle.ps_table.specs.declared.pool.TheConstants.{MOST_WORLDS};
 ghost use Rattle.ps_table.specs.declared.limits.TheConstants.{MOST_ROWS};
 ghost use Rattle.ps_table.specs.Places.{IsNarrow, IsRefusedAt};
 ghost use Rattle.ps_table.specs.Grids.{IsGrid, cell_in, width, AreUnits, IsPivotOf, IsNewColumn};

@@ -1,12 +1,15 @@
-//! The simplex table: exact entries of a basis, one column for each home and each world.
+//! The simplex table: exact entries of a basis, one column for each home and each world; and what a
+//! run keeps beside it: the worlds that it has met, and what it did.
 #![tactic(auto)]
 
 mod adding;
 mod at_place;
 mod cells;
 mod change;
+mod col;
 mod costs;
 mod error;
+mod event;
 mod first;
 mod grid;
 mod home;
@@ -16,13 +19,17 @@ mod limits;
 mod pivot;
 mod pivoting;
 mod place;
+mod pool;
 mod table;
 
 pub use at_place::divided_at;
+pub use col::Col;
 pub use costs::{CostList, Costs};
 pub use error::TableError;
+pub use event::{Event, Trace, trace_copy};
 pub use home::Home;
 pub use laws::printed_places;
 pub use limits::{MOST_ROWS, can_be_printed, limits_have_these_numbers};
 pub use place::{Place, TableCol, WideAt};
+pub use pool::{MOST_WORLDS, Pool, PoolError};
 pub use table::Table;

@@ -1,7 +1,7 @@
 //! Where an operation of the solver was refused.
 
+use crate::col::Col;
 use ps_frac::{Fraction, Op};
-use ps_pool::Col;
 use thiserror::Error;
 
 /// A column or the right side.

@@ -1,9 +1,9 @@
 //! The table of a basis.
 ghost use Rattle.std.specs.Prelude.{◌≡◌, ◌≢◌, suc, ◌+◌, ◌*◌, ◌<◌, ◌≤◌, length, get_or};
 ghost use Rattle.std.specs.Prelude.{IfOk, IfErr, IfSome, IsTrue};
-ghost use Rattle.ps_rational.specs.Rational.{zero_q};
+ghost use Rattle.ps_meaning.specs.Rational.{zero_q};
 ghost use Rattle.ps_whole.specs.Sums.{IsSmallSum};
-ghost use Rattle.ps_pool.specs.declared.pool.TheConstants.{MOST_WORLDS};
+ghost use Rattle.ps_table.specs.declared.pool.TheConstants.{MOST_WORLDS};
 ghost use Rattle.ps_table.specs.declared.limits.TheConstants.{MOST_ROWS};
 ghost use Rattle.ps_table.specs.Tableau.{Tableau, IsTableau, rows_of};
 ghost use Rattle.ps_table.specs.Tableau.{HasColumn, number_of, entry_at, entry_of};
@@ -18,6 +18,7 @@ ghost use Rattle.ps_table.specs.KeptCells.{IsWorldOn};
 
 use crate::at_place::plus_at;
 use crate::cells::number_of as column_number;
+use crate::col::Col;
 use crate::costs::{Costs, cost_of, cost_times};
 use crate::error::TableError;
 use crate::first::first_basic;
@@ -27,7 +28,6 @@ use crate::pivot::Pivot;
 use crate::place::{Place, WideAt};
 use ps_frac::Fraction;
 use ps_io::NoMemory;
-use ps_pool::Col;
 use ps_whole::WholeSum;
 use std::alloc::Global;
 use std::marker::Model;

@@ -1,5 +1,5 @@
 //! Writers that fail.
-use ps_outlet::Outlet;
+use ps_io::Outlet;
 use std::io::{self, ErrorKind, Write};
 use std::test::*;
 

@@ -3,8 +3,8 @@ mod reading;
 
 use self::reading::parsed;
 use ps_formula::Node;
-use ps_parse::{ParseError, Parser};
 use ps_problem::{Bound, Problem, Side, build};
+use ps_read::{ParseError, Parser};
 use ps_text::{Part, ReadKind, What};
 use std::alloc::Global;
 use std::test::Fail;

@@ -6,11 +6,11 @@ use Rattle.ps_meaning.specs.Formula.{Atom}
 use Rattle.ps_meaning.specs.Distribution.{weight}
 use Rattle.ps_problem.specs.declared.query.Query.{Query}
 use Rattle.ps_problem.specs.Problems.{Parts, bound_of, bounds_in, HasNodes}
-use Rattle.ps_rational.specs.Rational.{Rational}
-use Rattle.ps_rational.proofs.IntRing.{*ℤ_comm}
+use Rattle.ps_meaning.specs.Rational.{Rational}
+use Rattle.ps_meaning.proofs.IntRing.{*ℤ_comm}
 use Rattle.ps_claims.specs.Answers as claimed
 use Rattle.ps_answer.specs.declared.answer.Model.{Model}
-use Rattle.ps_certificate.specs.Certificates.{entries, model_of}
+use Rattle.ps_claims.specs.Certificates.{entries, model_of}
 use Rattle.ps_claims.specs.declared.claim_kind.ClaimKind.{ClaimKind}
 use Rattle.ps_claims.specs.Duals.{Dual}
 use Rattle.ps_claims.specs.Faults.{start_for, IsFirstFault, IsFaultless}

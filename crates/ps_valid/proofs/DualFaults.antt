@@ -2,10 +2,10 @@
 use Rattle.std.proofs.Common.{◌≡◌, ◌≢◌, ℕ, true, false, Option, Some, None, List, length, refl, sym, ap, ◌∙◌}
 use Rattle.std.proofs.lemmas.List.{length-map}
 use Rattle.ps_problem.specs.Problems.{Parts, bounds_in, bound_of, bounds_of}
-use Rattle.ps_rational.specs.Rational.{Rational}
-use Rattle.ps_steps.specs.Steps.{ends_in_contradiction, first_refusal}
-use Rattle.ps_steps.specs.declared.refused.StepRefused.{StepRefused as Why}
-use Rattle.ps_steps.proofs.Onward.{none-lawful}
+use Rattle.ps_meaning.specs.Rational.{Rational}
+use Rattle.ps_pb.specs.Steps.{ends_in_contradiction, first_refusal}
+use Rattle.ps_pb.specs.declared.refused.StepRefused.{StepRefused as Why}
+use Rattle.ps_pb.proofs.Onward.{none-lawful}
 use Rattle.ps_claims.specs.declared.claim_kind.ClaimKind.{ClaimKind}
 use Rattle.ps_claims.specs.declared.claim_kind.ClaimKind.TheVariants.{Nothing, Lower, Upper}
 use Rattle.ps_claims.specs.Duals.{Dual, HaveSigns}
@@ -15,9 +15,9 @@ use Rattle.ps_claims.specs.declared.reason.Reason.TheVariants.{WrongShape, Multi
 use Rattle.ps_claims.specs.Claims.{Excluded, HasShape, IsModelRight}
 use Rattle.ps_claims.proofs.Claims.{first_of_dual}
 use Rattle.ps_valid.specs.Judged.{FindsReason}
-use Rattle.ps_forms.specs.Forms.{form_of}
+use Rattle.ps_clause.specs.Forms.{form_of}
 use Rattle.ps_pbcheck.specs.Checked.{Checked, first_checked}
-use Rattle.ps_claims.specs.declared.combination.Combination.{Combination}
+use Rattle.ps_claims.specs.declared.weighted_sum.Combination.{Combination}
 use Rattle.ps_claims.specs.Goals.{combination_of, goal_of}
 use Rattle.ps_problem.specs.declared.bound.Bound.{Bound}
 use Rattle.ps_valid.specs.Aims.{Aim, NothingAllowed, aim_of, start_of}

@@ -13,7 +13,7 @@ use Rattle.ps_claims.specs.declared.reason.Reason.{Reason}
 use Rattle.ps_claims.specs.declared.reason.Reason.TheVariants.{WrongShape, TooManyWorlds, WeightZero, WorldTwice, TotalWrong, BoundMissed}
 use Rattle.ps_claims.specs.Claims.{Assertion, Modelled, HasShape, AreFew, AreProperEntries, HasTotal, MissesFirst, IsFirstIn, claimed_model}
 use Rattle.ps_claims.proofs.Decided.{sound-shows}
-use Rattle.ps_certificate.specs.Certificates.{entry_of, entries, model_of}
+use Rattle.ps_claims.specs.Certificates.{entry_of, entries, model_of}
 use Rattle.ps_valid.specs.Judged.{FindsReason, FindsReasonOver, HasBounds}
 use Rattle.ps_valid.specs.Limits.{IsSmallModel}
 use Rattle.ps_valid.specs.Tests.{HaveShape, HasAtoms, IsFirstAmong, IsFirstAgainst, FindsAgainst, FindsAgainstOver}

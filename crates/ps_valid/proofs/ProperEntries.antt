@@ -10,7 +10,7 @@ use Rattle.std.proofs.lemmas.List.Quantifiers.{all_pairs_push}
 use Rattle.std.proofs.lemmas.Option.{slice_get-get_or, slice_get-map}
 use Rattle.ps_meaning.specs.Distribution.{Entry}
 use Rattle.ps_answer.specs.declared.answer.Weighted.{Weighted}
-use Rattle.ps_certificate.specs.Certificates.{entry_of, entries}
+use Rattle.ps_claims.specs.Certificates.{entry_of, entries}
 use Rattle.ps_claims.specs.Claims.{AreProperEntries, IsWeightless, IsRepeated}
 
 -- what a test that fails would tell doesn't hold

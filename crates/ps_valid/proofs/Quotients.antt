@@ -2,7 +2,7 @@
 use Rattle.std.proofs.Common.{◌≡◌, zero, suc, ℤ, pos, negsuc, ap, ◌<ℤ◌, ◌*ℤ◌, unsigned_abs, arith}
 use Rattle.std.specs.Prelude.{◌↔◌}
 use Rattle.std.proofs.lemmas.Int.{ints}
-use Rattle.ps_rational.specs.Rational.{Rational, fraction, rational_path}
+use Rattle.ps_meaning.specs.Rational.{Rational, fraction, rational_path}
 use Rattle.ps_claims.proofs.Tight.{ratio-quotient, quotient-ratio}
 
 pub quotients : (value : Rational) (over under : ℤ) → pos 0 <ℤ under → (fraction over (unsigned_abs under) ≡ value) ↔ ((over *ℤ pos value.under) ≡ (value.over *ℤ under))

@@ -9,16 +9,16 @@ use Rattle.std.proofs.lemmas.List.Elements.{All-head, All-tail}
 use Rattle.ps_io.specs.LineText.{with_word}
 use Rattle.ps_io.proofs.WordLemmas.{length-with_word}
 use Rattle.ps_meaning.specs.Formula.{World}
-use Rattle.ps_steps.specs.Constraints.{Constraint}
-use Rattle.ps_steps.specs.Steps.{Step}
-use Rattle.ps_steps.specs.Weights.{weighted}
+use Rattle.ps_pb.specs.Constraints.{Constraint}
+use Rattle.ps_pb.specs.Steps.{Step}
+use Rattle.ps_pb.specs.Weights.{weighted}
 use Rattle.ps_log.specs.Texts.{with_number, with_numbers, step_numbers, goal_numbers, step_line, goal_line}
 use Rattle.ps_log.specs.Limits.{IsStepWithin, IsGoalWithin}
 use Rattle.ps_log.proofs.Lengths.{step_is_short, goal_is_short}
 use Rattle.ps_frac.specs.declared.wide.Op.{Op}
 use Rattle.ps_frac.specs.declared.wide.Op.TheVariants as op
-use Rattle.ps_pool.specs.declared.col.Col.{Col}
-use Rattle.ps_pool.specs.declared.col.Col.TheVariants as col
+use Rattle.ps_table.specs.declared.col.Col.{Col}
+use Rattle.ps_table.specs.declared.col.Col.TheVariants as col
 use Rattle.ps_table.specs.declared.place.Place.{Place}
 use Rattle.ps_table.specs.declared.place.Place.TheVariants as place
 use Rattle.ps_table.specs.declared.place.TableCol.{TableCol}

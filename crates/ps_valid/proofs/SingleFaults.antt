@@ -7,10 +7,10 @@ use Rattle.std.proofs.lemmas.Bool.{ltb-true, ltb-false}
 use Rattle.ps_meaning.specs.Distribution.{Entry}
 use Rattle.ps_meaning.specs.Bounds.{Bound, MeetsAll}
 use Rattle.ps_problem.specs.Problems.{Parts, bounds_of}
-use Rattle.ps_rational.specs.Rational.{Rational}
-use Rattle.ps_steps.specs.declared.refused.StepRefused.{StepRefused as Why}
-use Rattle.ps_steps.specs.Steps.{Known, first_refusal}
-use Rattle.ps_steps.proofs.Onward.{lawful-none}
+use Rattle.ps_meaning.specs.Rational.{Rational}
+use Rattle.ps_pb.specs.declared.refused.StepRefused.{StepRefused as Why}
+use Rattle.ps_pb.specs.Steps.{Known, first_refusal}
+use Rattle.ps_pb.proofs.Onward.{lawful-none}
 use Rattle.ps_claims.specs.Answers.{Model, Answer}
 use Rattle.ps_claims.specs.Duals.{Dual, HasSign, HaveSigns}
 use Rattle.ps_claims.specs.declared.claim.Claim.{Claim}

@@ -1,9 +1,9 @@
 -- How far a run over steps has come.
 use Rattle.std.proofs.Common.{◌≡◌, ℕ, zero, suc, ◌+◌, ◌<◌, false, List, [], ◌∷◌, Some, None, length, take, drop, get_or, refl, sym, ap, ◌∙◌, arith}
 use Rattle.std.proofs.lemmas.List.{take_more, take_all}
-use Rattle.ps_steps.specs.declared.refused.StepRefused.{StepRefused}
-use Rattle.ps_steps.specs.Steps.{Known, Step, id_of, refusal_of, with_step, or_later, first_refusal, ends_in_contradiction}
-use Rattle.ps_steps.proofs.Onward.{ends-append}
+use Rattle.ps_pb.specs.declared.refused.StepRefused.{StepRefused}
+use Rattle.ps_pb.specs.Steps.{Known, Step, id_of, refusal_of, with_step, or_later, first_refusal, ends_in_contradiction}
+use Rattle.ps_pb.proofs.Onward.{ends-append}
 use Rattle.ps_pbcheck.specs.Checked.{Checked, after_step}
 
 -- the steps before this place are taken: the first refusal from here is that of the rest

@@ -15,7 +15,7 @@ use Rattle.ps_problem.specs.declared.bound.Bound.{Bound}
 use Rattle.ps_problem.specs.Problems.{tree_at, given_at, bound_of, IsBoth, IsBound, AreBounds}
 use Rattle.ps_answer.specs.declared.answer.Weighted.{Weighted}
 use Rattle.ps_valid.specs.declared.truth.Row.{Row}
-use Rattle.ps_certificate.specs.Certificates.{entry_of, entries}
+use Rattle.ps_claims.specs.Certificates.{entry_of, entries}
 use Rattle.ps_valid.specs.Limits.{AreSmall}
 use Rattle.ps_valid.specs.Rows.{row_entry, row_entries, over_nodes, AreRows, HaveNode, IsTableOf, node_at, Covers, MeetsAt}
 use Rattle.ps_valid.specs.Tests.{HaveShape}

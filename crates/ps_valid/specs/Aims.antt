@@ -1,7 +1,7 @@
 -- What a dual is to show: that the evidence allows nothing, or that a value bounds a query's probability.
 use Rattle.std.specs.Prelude.{ℕ, Option}
 use Rattle.ps_problem.specs.Problems.{Parts}
-use Rattle.ps_steps.specs.Steps.{Known}
+use Rattle.ps_pb.specs.Steps.{Known}
 use Rattle.ps_claims.specs.declared.claim_kind.ClaimKind.{ClaimKind}
 use Rattle.ps_claims.specs.declared.claim_kind.ClaimKind.TheVariants.{Nothing, Lower, Upper}
 use Rattle.ps_claims.specs.Duals.{Dual}

@@ -9,7 +9,7 @@ use Rattle.ps_answer.specs.declared.answer.QueryAnswer.{QueryAnswer}
 use Rattle.ps_answer.specs.declared.answer.QueryAnswer.TheVariants as query
 use Rattle.ps_answer.specs.declared.answer.QueryPart.{QueryPart}
 use Rattle.ps_answer.specs.declared.answer.Answer.{Answer}
-use Rattle.ps_certificate.specs.Certificates.{model_of, dual_of}
+use Rattle.ps_claims.specs.Certificates.{model_of, dual_of}
 use Rattle.ps_claims.specs.Answers as claimed
 use Rattle.ps_claims.specs.Duals.{Dual}
 use Rattle.ps_claims.specs.Validity.{IsRightFor}

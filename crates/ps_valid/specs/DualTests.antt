@@ -3,9 +3,9 @@ use Rattle.std.specs.Prelude.{ℕ, ◌≡◌, ◌+◌, ℤ, false, List, Option,
 use Rattle.std.specs.List.{AllZip}
 use Rattle.ps_problem.specs.declared.bound.Bound.{Bound}
 use Rattle.ps_problem.specs.Problems.{Parts}
-use Rattle.ps_rational.specs.Rational.{Rational}
-use Rattle.ps_steps.specs.declared.refused.StepRefused as refused
-use Rattle.ps_steps.specs.Steps.{Step, Refutes, AreLawful, ends_in_contradiction, first_refusal}
+use Rattle.ps_meaning.specs.Rational.{Rational}
+use Rattle.ps_pb.specs.declared.refused.StepRefused as refused
+use Rattle.ps_pb.specs.Steps.{Step, Refutes, AreLawful, ends_in_contradiction, first_refusal}
 use Rattle.ps_pbcheck.specs.Checked.{Checked}
 use Rattle.ps_claims.specs.declared.reason.Reason.{Reason}
 use Rattle.ps_claims.specs.declared.reason.Reason.TheVariants.{StepRefused, NotRefuted}

@@ -6,7 +6,7 @@ use Rattle.ps_problem.specs.Problems.{Parts, bounds_in}
 use Rattle.ps_answer.specs.declared.answer.Model.{Model}
 use Rattle.ps_answer.specs.declared.answer.Dual.{Dual}
 use Rattle.ps_answer.specs.declared.answer.Answer.{Answer}
-use Rattle.ps_certificate.specs.Certificates.{model_of, dual_of}
+use Rattle.ps_claims.specs.Certificates.{model_of, dual_of}
 use Rattle.ps_claims.specs.Answers as claimed
 use Rattle.ps_claims.specs.Duals as claimed_by
 use Rattle.ps_claims.specs.declared.reason.Reason.{Reason}

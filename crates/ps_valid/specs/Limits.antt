@@ -10,8 +10,8 @@ use Rattle.ps_answer.specs.declared.answer.QueryAnswer.{QueryAnswer}
 use Rattle.ps_answer.specs.declared.answer.QueryAnswer.TheVariants as query
 use Rattle.ps_answer.specs.declared.answer.Answer.{Answer}
 use Rattle.ps_answer.specs.declared.limits.TheConstants.{MOST_ENTRIES}
-use Rattle.ps_certificate.specs.Certificates.{IsSmallDual}
-use Rattle.ps_rational.specs.declared.limits.TheConstants.{PRINTED_LIMIT}
+use Rattle.ps_claims.specs.Certificates.{IsSmallDual}
+use Rattle.ps_meaning.specs.declared.limits.TheConstants.{PRINTED_LIMIT}
 
 -- from 0 to the most that is printed
 pub record IsAmount (z : ℤ) : Type 0 where

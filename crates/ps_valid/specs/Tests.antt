@@ -7,7 +7,7 @@ use Rattle.ps_formula.specs.declared.node.Node.{Node}
 use Rattle.ps_problem.specs.declared.bound.Bound.{Bound}
 use Rattle.ps_problem.specs.declared.query.Query.{Query}
 use Rattle.ps_problem.specs.Problems.{Parts, bound_of, bounds_of, given_at}
-use Rattle.ps_rational.specs.Rational.{Rational}
+use Rattle.ps_meaning.specs.Rational.{Rational}
 use Rattle.ps_claims.specs.Queries.{bound_on}
 use Rattle.ps_claims.specs.Answers.{Model}
 use Rattle.ps_claims.specs.Validity.{query_of}

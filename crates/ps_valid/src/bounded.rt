@@ -2,7 +2,7 @@
 ghost use Rattle.std.specs.Prelude.{IfOk};
 ghost use Rattle.ps_problem.specs.Problems.{HasNodes};
 ghost use Rattle.ps_claims.specs.Claims.{Bounded};
-ghost use Rattle.ps_certificate.specs.Certificates.{IsSmallDual};
+ghost use Rattle.ps_claims.specs.Certificates.{IsSmallDual};
 ghost use Rattle.ps_valid.specs.Judged.{FindsBy};
 ghost use Rattle.ps_valid.specs.Limits.{IsSmallModel};
 

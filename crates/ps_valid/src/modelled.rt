@@ -3,7 +3,7 @@ ghost use Rattle.std.specs.Prelude.{◌≤◌, length, IfOk};
 ghost use Rattle.ps_problem.specs.Problems.{AreBounds};
 ghost use Rattle.ps_problem.specs.declared.limits.TheConstants.{MOST_BOUNDS};
 ghost use Rattle.ps_claims.specs.Claims.{Modelled};
-ghost use Rattle.ps_certificate.specs.Certificates.{entries, model_of};
+ghost use Rattle.ps_claims.specs.Certificates.{entries, model_of};
 ghost use Rattle.ps_valid.specs.Judged.{FindsReason, FindsReasonOver};
 ghost use Rattle.ps_valid.specs.Limits.{IsSmallModel};
 ghost use Rattle.ps_valid.specs.Rows.{IsTableOf};

@@ -1,6 +1,6 @@
 //! Whether a quotient is a value.
 ghost use Rattle.std.specs.Prelude.{◌≡◌, ◌↔◌, ◌*ℤ◌, ◌<ℤ◌, pos, IsTrue};
-ghost use Rattle.ps_rational.specs.Wide.{Fits};
+ghost use Rattle.ps_meaning.specs.Wide.{Fits};
 
 use ps_frac::Fraction;
 

@@ -3,7 +3,7 @@ ghost use Rattle.std.specs.Prelude.{◌≡◌, ◌<◌, ◌↔◌, IfOk, IfSome,
 ghost use Rattle.ps_problem.specs.Problems.{bounds_in};
 ghost use Rattle.ps_claims.specs.Claims.{Excluded};
 ghost use Rattle.ps_claims.specs.Faults.{HasHead};
-ghost use Rattle.ps_certificate.specs.Certificates.{dual_of, HasQuery, IsSmallDual};
+ghost use Rattle.ps_claims.specs.Certificates.{dual_of, HasQuery, IsSmallDual};
 ghost use Rattle.ps_valid.specs.Aims.{aim_of};
 ghost use Rattle.ps_valid.specs.Judged.{FindsReason};
 ghost use Rattle.ps_valid.specs.DualTests.{FindsInDual, FindsInRun};
@@ -12,8 +12,7 @@ use crate::quotient::is_quotient;
 use crate::signs::first_wrong_sign;
 use crate::steps::{checker_of, first_refused};
 use ps_answer::Dual;
-use ps_certificate::combination;
-use ps_claims::{ClaimKind, Reason};
+use ps_claims::{ClaimKind, Reason, combination};
 use ps_frac::Fraction;
 use ps_io::NoMemory;
 use ps_problem::Problem;

@@ -1,7 +1,7 @@
 //! The run of a dual's steps.
 ghost use Rattle.std.specs.Prelude.{◌≡◌, ◌≤◌, false, None, IfOk};
-ghost use Rattle.ps_steps.specs.Steps.{refusal_of, ends_in_contradiction};
-ghost use Rattle.ps_forms.specs.Forms.{form_of};
+ghost use Rattle.ps_pb.specs.Steps.{refusal_of, ends_in_contradiction};
+ghost use Rattle.ps_clause.specs.Forms.{form_of};
 ghost use Rattle.ps_pbcheck.specs.Checked.{after_step, first_checked};
 ghost use Rattle.ps_claims.specs.Goals.{goal_of, size_of};
 ghost use Rattle.ps_claims.specs.Limits.{most_combination};
@@ -10,10 +10,9 @@ ghost use Rattle.ps_valid.specs.DualTests.{first_refused_by};
 use ps_claims::Combination;
 use ps_clause::clauses_of;
 use ps_io::NoMemory;
-use ps_pb::{Step, from_weights};
+use ps_pb::{Step, StepRefused, from_weights};
 use ps_pbcheck::Checker;
 use ps_problem::Problem;
-use ps_steps::StepRefused;
 use std::alloc::Global;
 
 /// The checker that knows the clauses of a problem's formulas, and the goal that a combination is

@@ -3,8 +3,8 @@ ghost use Rattle.std.specs.Prelude.{◌≡◌, ◌*◌, ◌≤ℤ◌, pos, All, 
 ghost use Rattle.ps_meaning.specs.Formula.{Atom};
 ghost use Rattle.ps_meaning.specs.Distribution.{weight};
 ghost use Rattle.ps_formula.specs.Nodes.{AtomBelow};
-ghost use Rattle.ps_certificate.specs.Certificates.{entries};
-ghost use Rattle.ps_rational.specs.declared.limits.TheConstants.{PRINTED_LIMIT};
+ghost use Rattle.ps_claims.specs.Certificates.{entries};
+ghost use Rattle.ps_meaning.specs.declared.limits.TheConstants.{PRINTED_LIMIT};
 ghost use Rattle.ps_valid.specs.Limits.{AreSmall};
 ghost use Rattle.ps_answer.specs.declared.limits.TheConstants.{MOST_ENTRIES};
 ghost use Rattle.ps_valid.specs.Rows.{AreRows, HaveNode, IsTableOf, row_entries};

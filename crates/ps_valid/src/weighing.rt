@@ -3,7 +3,7 @@ ghost use Rattle.std.specs.Prelude.{◌≡◌, ◌≢◌, ◌≤◌, ◌<◌, �
 ghost use Rattle.ps_meaning.specs.Distribution.{total};
 ghost use Rattle.ps_problem.specs.declared.limits.TheConstants.{MOST_BOUNDS};
 ghost use Rattle.ps_claims.specs.Claims.{HasTotal};
-ghost use Rattle.ps_certificate.specs.Certificates.{entries, model_of};
+ghost use Rattle.ps_claims.specs.Certificates.{entries, model_of};
 ghost use Rattle.ps_valid.specs.Limits.{AreSmall, IsSmallModel};
 ghost use Rattle.ps_valid.specs.Tests.{FindsFault, HasAtoms};
 

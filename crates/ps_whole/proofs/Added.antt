@@ -3,15 +3,15 @@ use Rattle.std.proofs.Common.{◌≡◌, ℕ, ◌*◌, ◌/◌, ◌<◌, ◌^◌
 use Rattle.std.proofs.lemmas.Int.{unsigned_abs-mul}
 use Rattle.std.proofs.Math.Nat.{mul-pos, div-mul_cancel}
 use Rattle.std.specs.Int.{IsGcd}
-use Rattle.ps_rational.specs.Gcd.{gcd}
-use Rattle.ps_rational.specs.Coprime.{gcd_is}
-use Rattle.ps_rational.specs.Parts.{part_pos}
-use Rattle.ps_rational.specs.Rational.{at_least_one, fraction, add, mul, zero_q}
-use Rattle.ps_rational.specs.Wide.{SumIsWide}
-use Rattle.ps_rational.proofs.Cross.{quotient-same}
-use Rattle.ps_rational.proofs.Field.{add-zero, mul_comm}
-use Rattle.ps_rational.proofs.IntRing.{cross_reduced, *ℤ_comm, *ℤ-zero}
-use Rattle.ps_rational.proofs.Zeros.{sum_narrow}
+use Rattle.ps_meaning.specs.Gcd.{gcd}
+use Rattle.ps_meaning.specs.Coprime.{gcd_is}
+use Rattle.ps_meaning.specs.Parts.{part_pos}
+use Rattle.ps_meaning.specs.Rational.{at_least_one, fraction, add, mul, zero_q}
+use Rattle.ps_meaning.specs.Wide.{SumIsWide}
+use Rattle.ps_meaning.proofs.Cross.{quotient-same}
+use Rattle.ps_meaning.proofs.Field.{add-zero, mul_comm}
+use Rattle.ps_meaning.proofs.IntRing.{cross_reduced, *ℤ_comm, *ℤ-zero}
+use Rattle.ps_meaning.proofs.Zeros.{sum_narrow}
 use Rattle.ps_whole.specs.declared.sums.WholeSum.{WholeSum}
 use Rattle.ps_whole.specs.Sums.{value_of, IsSmallSum, IsSumOf}
 use Rattle.ps_whole.proofs.Changes.{at_least_one_value, over_nothing}

@@ -5,12 +5,12 @@ use Rattle.std.proofs.Math.Nat.{mul-pos, div-mul_cancel}
 use Rattle.std.proofs.Common.{◌/◌, int_div}
 use Rattle.std.specs.Int.{IsGcd}
 use Rattle.std.proofs.Math.Nat.{one-dvd}
-use Rattle.ps_rational.proofs.ExactQuotient.{quot_exact}
-use Rattle.ps_rational.specs.Rational.{Rational, one_positive, at_least_one, fraction, mul, sub, div, zero_q}
-use Rattle.ps_rational.proofs.Ring.{var, plus, by, minus, none}
-use Rattle.ps_rational.proofs.IntRing.{ring_z, *ℤ-one, cross_reduced}
-use Rattle.ps_rational.proofs.Cross.{quotient-same}
-use Rattle.ps_rational.proofs.Field.{ring_q}
+use Rattle.ps_meaning.proofs.ExactQuotient.{quot_exact}
+use Rattle.ps_meaning.specs.Rational.{Rational, one_positive, at_least_one, fraction, mul, sub, div, zero_q}
+use Rattle.ps_meaning.proofs.Ring.{var, plus, by, minus, none}
+use Rattle.ps_meaning.proofs.IntRing.{ring_z, *ℤ-one, cross_reduced}
+use Rattle.ps_meaning.proofs.Cross.{quotient-same}
+use Rattle.ps_meaning.proofs.Field.{ring_q}
 use Rattle.ps_whole.specs.Whole.{WholeCells, number_at, under_at, whole_at}
 use Rattle.ps_whole.specs.Pivots.{raw_number, IsContent, IsRowChange}
 use Rattle.ps_whole.specs.declared.change.RowChange.{RowChange}

@@ -2,12 +2,12 @@
 use Rattle.std.proofs.Common.{◌≡◌, ◌≢◌, ℕ, ◌+◌, ◌*◌, ◌<◌, ◌≤◌, ◌^◌, ℤ, pos, ◌*ℤ◌, neg_ℤ, unsigned_abs, [], ◌∷◌, refl, ap, sym, ◌∙◌, subst, arith}
 use Rattle.std.proofs.lemmas.Int.{ints, unsigned_abs-mul}
 use Rattle.std.proofs.Math.Nat.{mul-le-mul}
-use Rattle.ps_rational.specs.Rational.{Positive, at_least_one, times, quotient, fraction, mul, neg, inverse, div, zero_q, one_q, one_positive}
-use Rattle.ps_rational.specs.Wide.{SumIsWide, ProductIsWide, size_limit}
-use Rattle.ps_rational.proofs.Ring.{var, by}
-use Rattle.ps_rational.proofs.IntRing.{ring_z, *ℤ_comm}
-use Rattle.ps_rational.proofs.Cross.{times-value, quotient-same, mul-quotient, neg-quotient}
-use Rattle.ps_rational.proofs.Field.{mul_comm, mul-one}
+use Rattle.ps_meaning.specs.Rational.{Positive, at_least_one, times, quotient, fraction, mul, neg, inverse, div, zero_q, one_q, one_positive}
+use Rattle.ps_meaning.specs.Wide.{SumIsWide, ProductIsWide, size_limit}
+use Rattle.ps_meaning.proofs.Ring.{var, by}
+use Rattle.ps_meaning.proofs.IntRing.{ring_z, *ℤ_comm}
+use Rattle.ps_meaning.proofs.Cross.{times-value, quotient-same, mul-quotient, neg-quotient}
+use Rattle.ps_meaning.proofs.Field.{mul_comm, mul-one}
 use Rattle.ps_whole.specs.Whole.{WholeCells, IsWhole, whole_at, number_at, under_at}
 use Rattle.ps_whole.specs.Pivots.{IsNarrowPivot}
 use Rattle.ps_whole.proofs.NewCells.{own_row, expanded}

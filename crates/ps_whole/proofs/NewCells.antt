@@ -1,11 +1,11 @@
 -- Cells of rows of whole numbers after a pivot.
 use Rattle.std.proofs.Common.{◌≡◌, ◌≢◌, ℕ, ◌*◌, ℤ, pos, ◌+ℤ◌, ◌*ℤ◌, neg_ℤ, [], ◌∷◌, refl, ap, sym, ◌∙◌}
 use Rattle.std.proofs.Math.Nat.{mul_comm as mul-nat_comm}
-use Rattle.ps_rational.specs.Rational.{Positive, times, quotient, add, mul, sub, inverse, div, zero_q}
-use Rattle.ps_rational.proofs.Ring.{var, plus, by, minus}
-use Rattle.ps_rational.proofs.IntRing.{ring_z, cross_reduced}
-use Rattle.ps_rational.proofs.Cross.{times-value, quotient-same, add-quotient, mul-quotient, neg-quotient}
-use Rattle.ps_rational.proofs.Field.{mul_assoc, mul-inverse, mul-one}
+use Rattle.ps_meaning.specs.Rational.{Positive, times, quotient, add, mul, sub, inverse, div, zero_q}
+use Rattle.ps_meaning.proofs.Ring.{var, plus, by, minus}
+use Rattle.ps_meaning.proofs.IntRing.{ring_z, cross_reduced}
+use Rattle.ps_meaning.proofs.Cross.{times-value, quotient-same, add-quotient, mul-quotient, neg-quotient}
+use Rattle.ps_meaning.proofs.Field.{mul_assoc, mul-inverse, mul-one}
 
 -- the new row of the pivot
 pub own_row : (P a R : ℤ) (e r : Positive) → quotient a e ≢ zero_q → R *ℤ a ≡ P *ℤ pos r.value → div (quotient P e) (quotient a e) ≡ quotient R r

@@ -3,12 +3,12 @@ use Rattle.std.proofs.Common.{◌≡◌, ℕ, zero, suc, ◌+◌, ◌*◌, ◌<�
 use Rattle.std.proofs.lemmas.Bool.{cases_eq}
 use Rattle.std.proofs.lemmas.Int.{ints, unsigned_abs-mul}
 use Rattle.std.proofs.Math.Nat.{mul-le-mul}
-use Rattle.ps_rational.specs.Rational.{Positive, at_least_one, times, quotient, fraction, add, mul, zero_q, one_positive}
-use Rattle.ps_rational.specs.Sums.{sum_to, int_sum_to}
-use Rattle.ps_rational.specs.Wide.{SumIsWide}
-use Rattle.ps_rational.proofs.Ring.{var, plus, by}
-use Rattle.ps_rational.proofs.IntRing.{ring_z}
-use Rattle.ps_rational.proofs.Cross.{times-value, quotient-same, add-quotient, mul-quotient}
+use Rattle.ps_meaning.specs.Rational.{Positive, at_least_one, times, quotient, fraction, add, mul, zero_q, one_positive}
+use Rattle.ps_meaning.specs.Sums.{sum_to, int_sum_to}
+use Rattle.ps_meaning.specs.Wide.{SumIsWide}
+use Rattle.ps_meaning.proofs.Ring.{var, plus, by}
+use Rattle.ps_meaning.proofs.IntRing.{ring_z}
+use Rattle.ps_meaning.proofs.Cross.{times-value, quotient-same, add-quotient, mul-quotient}
 use Rattle.ps_whole.specs.Whole.{WholeCells, IsWhole, whole_at, number_at, under_at}
 use Rattle.std.proofs.Common.{Option, Some, None, IfSome}
 use Rattle.ps_whole.specs.Pivots.{IsNarrowed}

@@ -5,9 +5,9 @@ use Rattle.std.proofs.lemmas.Int.{ints}
 use Rattle.std.proofs.lemmas.List.{get_or_past, get_or_append_left, length-append}
 use Rattle.std.proofs.Math.Seq.{get_or-append_seam}
 use Rattle.std.proofs.Math.Nat.{mul-le-mul_right, div-mul_cancel}
-use Rattle.ps_rational.specs.Rational.{fraction, at_least_one}
-use Rattle.ps_rational.specs.Parts.{part_pos}
-use Rattle.ps_rational.proofs.IntRing.{*ℤ-one}
+use Rattle.ps_meaning.specs.Rational.{fraction, at_least_one}
+use Rattle.ps_meaning.specs.Parts.{part_pos}
+use Rattle.ps_meaning.proofs.IntRing.{*ℤ-one}
 use Rattle.ps_whole.specs.Whole.{WholeCells, IsWhole, number_at, whole_at}
 use Rattle.ps_whole.specs.Columns.{IsCopied}
 use Rattle.ps_whole.specs.Pivots.{raw_number, IsPushedTo, IsPivotedTo, IsPivotCell, IsRowChange}

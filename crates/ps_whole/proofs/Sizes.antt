@@ -4,14 +4,14 @@ use Rattle.std.proofs.lemmas.Int.{ints, unsigned_abs-mul}
 use Rattle.std.proofs.lemmas.Nat.Gcd.{le_of_dvd}
 use Rattle.std.proofs.Math.Nat.{div-mul_cancel, eq_of_mul-eq-mul_right, mul-le-mul, le-mul_of_pos_right, div-le_self}
 use Rattle.std.specs.Int.{◌∣◌}
-use Rattle.ps_rational.specs.Gcd.{gcd}
-use Rattle.ps_rational.specs.Coprime.{gcd_is}
-use Rattle.ps_rational.specs.Parts.{part_of, part_pos, quot_abs}
-use Rattle.ps_rational.specs.Rational.{Positive, quotient}
-use Rattle.ps_rational.specs.Wide.{size_limit, sum_left, sum_right, sum_over, sum_under, SumIsWide, ProductIsWide}
-use Rattle.ps_rational.proofs.Cross.{quotient_cross}
-use Rattle.ps_rational.proofs.Multiples.{lcm_is}
-use Rattle.ps_rational.proofs.NamedNumbers.{product_abs}
+use Rattle.ps_meaning.specs.Gcd.{gcd}
+use Rattle.ps_meaning.specs.Coprime.{gcd_is}
+use Rattle.ps_meaning.specs.Parts.{part_of, part_pos, quot_abs}
+use Rattle.ps_meaning.specs.Rational.{Positive, quotient}
+use Rattle.ps_meaning.specs.Wide.{size_limit, sum_left, sum_right, sum_over, sum_under, SumIsWide, ProductIsWide}
+use Rattle.ps_meaning.proofs.Cross.{quotient_cross}
+use Rattle.ps_meaning.proofs.Multiples.{lcm_is}
+use Rattle.ps_meaning.proofs.NamedNumbers.{product_abs}
 
 pub under_divides : (z : ℤ) (d : Positive) → (quotient z d).under ∣ d.value
 unfolding quotient

@@ -5,7 +5,7 @@ use Rattle.std.proofs.lemmas.Int.{ints}
 use Rattle.std.proofs.lemmas.List.{get_or_past, get_or_append_left, get_or-append-add, get_or-take, get_or-drop, length-append, length-take, length-drop}
 use Rattle.std.proofs.Math.Nat.{mul-le-mul_right}
 use Rattle.std.proofs.Math.Seq.{get_or-append_seam}
-use Rattle.ps_rational.specs.Rational.{fraction}
+use Rattle.ps_meaning.specs.Rational.{fraction}
 use Rattle.ps_whole.specs.Whole.{WholeCells, IsWhole, number_at, under_at, numbers_of}
 use Rattle.ps_whole.specs.Columns.{IsPartSum, IsCopiedTo, IsCopied, IsWidenedTo, IsWidened}
 use Rattle.ps_whole.proofs.Pushed.{row_within}

@@ -1,8 +1,8 @@
 -- A column more.
 use Rattle.std.specs.Prelude.{◌≡◌, ℕ, suc, ◌<◌, ◌≤◌, ◌^◌, List, get_or, ℤ, pos, ◌*ℤ◌, unsigned_abs, length, ◌*◌, ◌+◌}
-use Rattle.ps_rational.specs.Rational.{Rational, fraction, mul}
-use Rattle.ps_rational.specs.Sums.{sum_to, int_sum_to}
-use Rattle.ps_rational.specs.Wide.{ProductIsWide, SumIsWide}
+use Rattle.ps_meaning.specs.Rational.{Rational, fraction, mul}
+use Rattle.ps_meaning.specs.Sums.{sum_to, int_sum_to}
+use Rattle.ps_meaning.specs.Wide.{ProductIsWide, SumIsWide}
 use Rattle.ps_whole.specs.Whole.{WholeCells, number_at, whole_at}
 
 -- the number of the home of row m in row i, times entry m

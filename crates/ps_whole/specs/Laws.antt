@@ -1,7 +1,7 @@
 -- What the laws of rows of whole numbers say.
 use Rattle.std.specs.Prelude.{◌≡◌, ◌≢◌, ℕ, ◌*◌, ◌<◌, ◌^◌, ℤ, pos, ◌+ℤ◌, ◌*ℤ◌, neg_ℤ, unsigned_abs}
-use Rattle.ps_rational.specs.Rational.{Positive, quotient, mul, sub, div, zero_q}
-use Rattle.ps_rational.specs.Wide.{SumIsWide, ProductIsWide, size_limit}
+use Rattle.ps_meaning.specs.Rational.{Positive, quotient, mul, sub, div, zero_q}
+use Rattle.ps_meaning.specs.Wide.{SumIsWide, ProductIsWide, size_limit}
 
 -- laws
 pub record RowLaws : Type 0 where

@@ -1,8 +1,8 @@
 -- Pivots of rows of whole numbers.
 use Rattle.std.specs.Prelude.{◌≡◌, ◌≢◌, ℕ, suc, ◌+◌, ◌*◌, ◌<◌, ◌^◌, List, get_or, length, ℤ, pos, ◌*ℤ◌, ◌-ℤ◌, unsigned_abs}
 use Rattle.std.specs.Int.{◌∣◌}
-use Rattle.ps_rational.specs.Rational.{Rational, fraction, mul, sub, neg, div, inverse, zero_q}
-use Rattle.ps_rational.specs.Wide.{ProductIsWide, SumIsWide}
+use Rattle.ps_meaning.specs.Rational.{Rational, fraction, mul, sub, neg, div, inverse, zero_q}
+use Rattle.ps_meaning.specs.Wide.{ProductIsWide, SumIsWide}
 use Rattle.ps_whole.specs.Whole.{WholeCells, number_at, whole_at}
 use Rattle.ps_whole.specs.declared.change.RowChange.{RowChange}
 

@@ -1,7 +1,7 @@
 -- Sums of entries, over one denominator.
 use Rattle.std.specs.Prelude.{◌≡◌, ◌<◌, ◌^◌, ℤ, unsigned_abs}
-use Rattle.ps_rational.specs.Rational.{Rational, fraction, add, mul}
-use Rattle.ps_rational.specs.Wide.{SumIsWide}
+use Rattle.ps_meaning.specs.Rational.{Rational, fraction, add, mul}
+use Rattle.ps_meaning.specs.Wide.{SumIsWide}
 use Rattle.ps_whole.specs.declared.sums.WholeSum.{WholeSum}
 
 -- what a sum comes to

@@ -2,7 +2,7 @@
 use Rattle.std.specs.Prelude.{◌≡◌, ℕ, ◌+◌, ◌*◌, ◌<◌, ◌≤◌, ◌^◌, List, get_or, length, ℤ, pos, unsigned_abs}
 use Rattle.std.specs.Prelude.{Bool, IsTrue, Result, IfOk}
 use Rattle.std.specs.List.{slice_range}
-use Rattle.ps_rational.specs.Rational.{Rational, fraction}
+use Rattle.ps_meaning.specs.Rational.{Rational, fraction}
 use Rattle.ps_whole.specs.declared.limits.TheConstants.{MOST_ROWS, MOST_COLUMNS}
 
 -- the rows of a table, one after the other, and their denominators

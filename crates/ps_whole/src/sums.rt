@@ -1,7 +1,7 @@
 //! Sums of entries, over one denominator.
 ghost use Rattle.std.specs.Prelude.{◌≡◌, ◌+◌, ◌*◌, ◌/◌, ◌<◌, ◌^◌, pos, negsuc, ◌+ℤ◌, ◌*ℤ◌};
 ghost use Rattle.std.specs.Prelude.{◌≤ℤ◌, IfSome, unsigned_abs};
-ghost use Rattle.ps_rational.specs.Rational.{fraction, zero_q};
+ghost use Rattle.ps_meaning.specs.Rational.{fraction, zero_q};
 ghost use Rattle.ps_whole.specs.Whole.{whole_at};
 ghost use Rattle.ps_whole.specs.Sums.{value_of, IsSmallSum, IsSumOf, IsSumWith};
 

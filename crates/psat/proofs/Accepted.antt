@@ -24,11 +24,11 @@ use Rattle.ps_claims.specs.Claims.{claims_of, open_in_verdict, open_in_part, unf
 use Rattle.ps_claims.specs.Validity.{IsValid, IsValidPart}
 use Rattle.ps_read.specs.Readings.{SpellsProblem}
 use Rattle.ps_valid.specs.Answers.{answer_of, verdict_of}
-use Rattle.ps_phases.specs.declared.limits.Limits.{Limits}
+use Rattle.ps_runs.specs.declared.limits.Limits.{Limits}
 use Rattle.ps_generation.specs.Phases.{AreLimits}
-use Rattle.ps_reported.specs.Laws.{IsAnswered}
-use Rattle.ps_reported.proofs.Reports.{written_text}
-use Rattle.ps_reported.proofs.LawfulAnswers.{answer_settled}
+use Rattle.ps_query.specs.Laws.{IsAnswered}
+use Rattle.ps_query.proofs.Reports.{written_text}
+use Rattle.ps_query.proofs.LawfulAnswers.{answer_settled}
 use Rattle.psat.specs.declared.status.Status.TheVariants.{Unfinished}
 use Rattle.psat.specs.declared.command.Command.TheVariants.{Check}
 use Rattle.psat.specs.declared.checked.TheConstants.{MOST_SEARCHED}

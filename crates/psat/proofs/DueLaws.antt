@@ -19,9 +19,9 @@ use Rattle.ps_valid.specs.Answers.{answer_of, IsRightOf}
 use Rattle.ps_valid.specs.Judged.{IsJudged, IsAccepted}
 use Rattle.ps_io.specs.Transfer.{Appends, ReadAll, TookMore, TookWithin}
 use Rattle.ps_io.specs.declared.limits.TheConstants.{LONGEST_READ}
-use Rattle.ps_phases.specs.declared.limits.Limits.{Limits}
+use Rattle.ps_runs.specs.declared.limits.Limits.{Limits}
 use Rattle.ps_query.specs.Solutions.{IsReadBack, IsSolution}
-use Rattle.ps_phases.proofs.EnoughPivots.{answer_enough}
+use Rattle.ps_runs.proofs.EnoughPivots.{answer_enough}
 use Rattle.ps_explain.specs.declared.explained.Explained.{Explained}
 use Rattle.ps_explain.specs.Explanations.{IsRightExplanation}
 use Rattle.psat.specs.declared.command.Command.{Command}

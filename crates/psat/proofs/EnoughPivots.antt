@@ -5,17 +5,17 @@ use Rattle.std.proofs.lemmas.List.{length-map}
 use Rattle.std.proofs.Math.Nat.{min-eq_left, min-eq_right, min-le_right}
 use Rattle.ps_problem.specs.Problems.{Parts, bound_of, bounds_in, bounds_of}
 use Rattle.ps_answer.specs.declared.limits.TheConstants.{MOST_PIVOTS}
-use Rattle.ps_phases.specs.declared.limits.Limits.{Limits}
+use Rattle.ps_runs.specs.declared.limits.Limits.{Limits}
 use Rattle.ps_generation.specs.Phases.{AreLimits}
-use Rattle.ps_cycle.specs.Count.{choose}
-use Rattle.ps_cycle.proofs.Ways.{ways_rise, one_of}
+use Rattle.ps_simplex.specs.Count.{choose}
+use Rattle.ps_simplex.proofs.Ways.{ways_rise, one_of}
 use Rattle.ps_answer.specs.declared.answer.Answer.{Answer}
 use Rattle.ps_answer.specs.declared.answer.Verdict.TheVariants.{Open}
 use Rattle.ps_runs.specs.Subjects.{sentences_of}
 use Rattle.ps_runs.specs.Kept.{kept_of, flags_of, kept_parts}
 use Rattle.ps_runs.proofs.Kept.{length-kept, bounds-kept}
-use Rattle.ps_phases.specs.Enough.{IsEnough, HasNoPivotsCause}
-use Rattle.ps_phases.proofs.EnoughPivots.{answer_enough}
+use Rattle.ps_runs.specs.Enough.{IsEnough, HasNoPivotsCause}
+use Rattle.ps_runs.proofs.EnoughPivots.{answer_enough}
 use Rattle.ps_explain.specs.declared.explained.Explained.{Explained}
 use Rattle.ps_explain.specs.declared.explained.Explained.TheVariants as explained
 use Rattle.ps_explain.specs.Explanations.{IsRightExplanation}

@@ -7,7 +7,7 @@ use Rattle.ps_valid.specs.declared.refusal.Accepted.{Accepted}
 use Rattle.ps_valid.specs.declared.refusal.Refusal.{Refusal}
 use Rattle.ps_valid.specs.declared.refusal.CheckError.TheVariants as whole
 use Rattle.ps_valid.specs.Answers.{answer_of}
-use Rattle.ps_stream.specs.declared.end.StreamEnd.TheVariants as end
+use Rattle.ps_check.specs.declared.end.StreamEnd.TheVariants as end
 use Rattle.ps_check.specs.declared.checked.Checked.{Checked}
 use Rattle.ps_check.specs.declared.checked.Checked.TheVariants as found
 use Rattle.ps_check.specs.Checks.{HasChecked, IsFoundIn, IsReportJudged}

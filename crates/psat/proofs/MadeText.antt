@@ -27,9 +27,9 @@ use Rattle.ps_answer.specs.declared.answer.Verdict.{Verdict}
 use Rattle.ps_answer.specs.declared.answer.Verdict.TheVariants as verdict
 use Rattle.ps_answer.specs.Items.{IsProper, IsWithin}
 use Rattle.ps_answer.specs.Answers.{entry_item, model_items}
-use Rattle.ps_certificate.specs.Certificates.{entries, model_of}
-use Rattle.ps_certificate.specs.Printed.{IsPrintedModel, IsPrintedPart, IsPrintedSide, IsPrintedVerdict}
-use Rattle.ps_reported.proofs.Models.{fit_model}
+use Rattle.ps_claims.specs.Certificates.{entries, model_of}
+use Rattle.ps_claims.specs.Printed.{IsPrintedModel, IsPrintedPart, IsPrintedSide, IsPrintedVerdict}
+use Rattle.ps_query.proofs.Models.{fit_model}
 use Rattle.ps_claims.specs.declared.claim_kind.ClaimKind.{ClaimKind}
 use Rattle.ps_claims.specs.Claims.{claims_of, unfinished_of}
 use Rattle.ps_claims.proofs.Claims.{valid_accepted}
@@ -42,7 +42,7 @@ use Rattle.ps_valid.specs.declared.refusal.CheckError.TheVariants.{Refused}
 use Rattle.std.specs.Prelude.{Err}
 use Rattle.ps_valid.specs.Limits.{IsAmount, IsSmallModel, IsSmallVerdict, IsSmallSide, IsSmallPart, IsSmallAnswer}
 use Rattle.ps_valid.specs.declared.refusal.Accepted.{Accepted}
-use Rattle.ps_phases.specs.declared.limits.Limits.{Limits}
+use Rattle.ps_runs.specs.declared.limits.Limits.{Limits}
 use Rattle.ps_query.specs.Solutions.{AreShortLines, IsSolution}
 use Rattle.ps_make.specs.Chain.{made_problem, made_text}
 use Rattle.psat.specs.declared.made.MadeProblem.{MadeProblem}

@@ -1,7 +1,7 @@
 -- Which words spell a command that makes a problem.
 use Rattle.std.proofs.Common.{◌≡◌, ℕ, ◌≤◌, true, false, List, [], ◌∷◌, codes, sym, subst, arith}
 use Rattle.std.specs.Fmt.{decimal}
-use Rattle.ps_phases.specs.declared.limits.Limits.{Limits}
+use Rattle.ps_runs.specs.declared.limits.Limits.{Limits}
 use Rattle.ps_make.specs.declared.made.TheConstants.{MOST_LINKS}
 use Rattle.psat.specs.declared.command.Command.{Command}
 use Rattle.psat.specs.declared.command.Command.TheVariants.{Check, Explain, Make, Solve}

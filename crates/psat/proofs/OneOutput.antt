@@ -8,7 +8,7 @@ use Rattle.ps_answer.proofs.Single.{no_fault, one_fault, one_answer, report_is_t
 use Rattle.ps_claims.proofs.Claims.{valid_accepted}
 use Rattle.ps_valid.specs.Answers.{answer_of}
 use Rattle.ps_valid.proofs.SingleFaults.{one_refused}
-use Rattle.ps_phases.specs.declared.limits.Limits.{Limits}
+use Rattle.ps_runs.specs.declared.limits.Limits.{Limits}
 use Rattle.psat.specs.declared.command.Command.{Command}
 use Rattle.psat.specs.declared.command.Command.TheVariants as commands
 use Rattle.psat.specs.declared.command.TheConstants.{MOST_PROBLEM}

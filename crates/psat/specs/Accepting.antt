@@ -4,7 +4,7 @@ use Rattle.ps_problem.specs.Problems.{Parts}
 use Rattle.ps_answer.specs.declared.answer.Answer.{Answer}
 use Rattle.ps_claims.specs.Claims.{claims_of, unfinished_of}
 use Rattle.ps_valid.specs.Answers.{answer_of}
-use Rattle.ps_phases.specs.declared.limits.Limits.{Limits}
+use Rattle.ps_runs.specs.declared.limits.Limits.{Limits}
 use Rattle.ps_generation.specs.Phases.{AreLimits}
 use Rattle.ps_answer.specs.declared.limits.TheConstants.{MOST_PIVOTS}
 use Rattle.psat.specs.declared.status.Status.TheVariants.{Unfinished}

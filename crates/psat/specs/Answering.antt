@@ -6,7 +6,7 @@ use Rattle.ps_read.specs.Readings.{SpellsProblem, SpellsWhole}
 use Rattle.ps_problem.specs.Problems.{Parts}
 use Rattle.ps_answer.specs.declared.answer.Answer.{Answer}
 use Rattle.ps_explain.specs.declared.explained.Explained.{Explained}
-use Rattle.ps_phases.specs.declared.limits.Limits.{Limits}
+use Rattle.ps_runs.specs.declared.limits.Limits.{Limits}
 use Rattle.psat.specs.declared.command.Command.TheVariants.{Check, Explain, Make, Solve}
 use Rattle.psat.specs.declared.command.TheConstants.{MOST_PROBLEM}
 use Rattle.psat.specs.declared.status.Status.{Status}

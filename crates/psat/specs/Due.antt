@@ -17,10 +17,10 @@ use Rattle.ps_claims.specs.declared.reason.Reason.{Reason}
 use Rattle.ps_claims.specs.Claims.{IsRefused, claims_of, unfinished_of}
 use Rattle.ps_claims.specs.Validity.{IsValid}
 use Rattle.ps_valid.specs.Answers.{answer_of, IsRightOf}
-use Rattle.ps_phases.specs.declared.limits.Limits.{Limits}
+use Rattle.ps_runs.specs.declared.limits.Limits.{Limits}
 use Rattle.ps_query.specs.Solutions.{IsReadBack, IsSolution}
 use Rattle.ps_runs.specs.Subjects.{sentences_of}
-use Rattle.ps_phases.specs.Enough.{IsEnough, IsOtherThanPivots, HasNoPivotsCause}
+use Rattle.ps_runs.specs.Enough.{IsEnough, IsOtherThanPivots, HasNoPivotsCause}
 use Rattle.ps_explain.specs.declared.explained.Explained.{Explained}
 use Rattle.ps_explain.specs.declared.explained.Explained.TheVariants as explained
 use Rattle.ps_explain.specs.Explanations.{IsRightExplanation}

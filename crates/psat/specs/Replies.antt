@@ -4,7 +4,7 @@ use Rattle.std.specs.Prelude.{None, IfOk, IfSome, Result, Ok, Err, String, strin
 use Rattle.std.specs.declared.alloc.Global.{Global}
 use Rattle.ps_answer.specs.declared.answer.Answer.{Answer}
 use Rattle.ps_generation.specs.Phases.{AreLimits}
-use Rattle.ps_phases.specs.declared.limits.Limits.{Limits}
+use Rattle.ps_runs.specs.declared.limits.Limits.{Limits}
 use Rattle.ps_explain.specs.Texts.{HasShortLines}
 use Rattle.ps_problem.specs.Problems.{Parts}
 use Rattle.ps_claims.specs.Claims.{unfinished_of}

@@ -3,8 +3,8 @@ use Rattle.std.specs.Prelude.{ℕ, ◌*◌, min, Bool, true, false}
 use Rattle.ps_problem.specs.Problems.{Parts}
 use Rattle.ps_answer.specs.declared.limits.TheConstants.{MOST_PIVOTS}
 use Rattle.ps_runs.specs.Subjects.{sentences_of}
-use Rattle.ps_phases.specs.declared.limits.Limits.{Limits}
-use Rattle.ps_phases.specs.Enough.{ways_in}
+use Rattle.ps_runs.specs.declared.limits.Limits.{Limits}
+use Rattle.ps_runs.specs.Enough.{ways_in}
 
 -- a number of pivots that is enough for each run on a problem: three times the ways to choose one thing more than
 -- there are rows, of one thing more than there are rows and worlds

@@ -6,8 +6,8 @@ use Rattle.ps_text.specs.declared.kind.ReadKind.{ReadKind}
 use Rattle.ps_text.specs.declared.kind.ReadKind.TheVariants as kind
 use Rattle.ps_answer.specs.declared.error.LineKind.{LineKind}
 use Rattle.ps_answer.specs.declared.error.LineKind.TheVariants as line
-use Rattle.ps_steps.specs.declared.refused.StepRefused.{StepRefused}
-use Rattle.ps_steps.specs.declared.refused.StepRefused.TheVariants as step
+use Rattle.ps_pb.specs.declared.refused.StepRefused.{StepRefused}
+use Rattle.ps_pb.specs.declared.refused.StepRefused.TheVariants as step
 use Rattle.ps_claims.specs.declared.claim.Claim.{Claim}
 use Rattle.ps_claims.specs.declared.claim.Claim.TheVariants as claim
 use Rattle.ps_claims.specs.declared.reason.Reason.{Reason}

@@ -30,8 +30,7 @@ mod tests;
 mod writing;
 
 use crate::exit::{exit_code, failure, run_program};
-use ps_io::{StdSink, StdSource};
-use ps_outlet::Outlet;
+use ps_io::{Outlet, StdSink, StdSource};
 use std::env;
 use std::process::ExitCode;
 

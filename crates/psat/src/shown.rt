@@ -5,8 +5,8 @@ ghost use Rattle.psat.specs.Words.{claim_words, kind_words, line_words, reason_w
 ghost use Rattle.psat.specs.Words.{what_words, why_words};
 
 use ps_answer::LineKind;
+use ps_pb::StepRefused;
 use ps_read::{ReadKind, What};
-use ps_steps::StepRefused;
 use ps_valid::{Claim, Reason};
 use std::alloc::{AllocError, Global};
 

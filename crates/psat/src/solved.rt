@@ -11,11 +11,11 @@ ghost use Rattle.psat.specs.Statuses.{EndsSolve};
 use crate::message::Message;
 use crate::reply::Reply;
 use ps_answer::MOST_PIVOTS;
-use ps_cycle::enough_pivots;
 use ps_io::NoMemory;
 use ps_problem::Problem;
 use ps_query::{Limits, solve};
 use ps_read::{ReadError, read_whole};
+use ps_simplex::enough_pivots;
 use std::alloc::Global;
 
 // How many pivots are enough for each run on a problem, where that is at most `MOST_PIVOTS`.

@@ -2,7 +2,7 @@
 use Rattle.std.specs.Prelude.{◌≡◌, ◌≢◌, List, ℕ, Option, None, MatchOption, codes, true, false}
 use Rattle.ps_answer.specs.declared.limits.TheConstants.{MOST_PIVOTS}
 use Rattle.ps_log.specs.declared.limits.TheConstants.{MOST_CONFLICTS}
-use Rattle.ps_decimal.specs.declared.limits.TheConstants.{MOST_DIGITS}
+use Rattle.ps_frac.specs.declared.limits.TheConstants.{MOST_DIGITS}
 use Rattle.ps_ask.specs.declared.settings.Settings.{Settings}
 use Rattle.ps_ask.specs.declared.settings.Style.{Style}
 use Rattle.ps_ask.specs.declared.settings.Style.TheVariants.{Words}

@@ -5,8 +5,7 @@ use crate::company::Beside;
 use crate::report_file::ReportFile;
 use crate::request::Asked;
 use ps_ask::{Settings, Sinks, Status, Style, ask};
-use ps_io::{MemSink, Sink, Source, StdSink, StdSource, write_all};
-use ps_outlet::Outlet;
+use ps_io::{MemSink, Outlet, Sink, Source, StdSink, StdSource, write_all};
 use std::fs::File;
 use std::io::Stdout;
 

@@ -10,8 +10,8 @@ use crate::number::number_within;
 use crate::texts::{NO_REPORT, WRONG_CONFLICTS, WRONG_DIGITS, WRONG_PIVOTS, WRONG_TIME};
 use ps_answer::MOST_PIVOTS;
 use ps_ask::{Settings, Style};
-use ps_decimal::MOST_DIGITS;
-use ps_guided::Limits;
+use ps_frac::MOST_DIGITS;
+use ps_guess::Limits;
 use ps_log::MOST_CONFLICTS;
 
 /// The most seconds of a limit of time.

@@ -1,7 +1,7 @@
 //! Forms to search.
 ghost use Rattle.std.specs.Prelude.{◌<◌, ◌≤◌, ◌≢◌, All, IsTrue};
 ghost use Rattle.ps_pb.specs.declared.limits.TheConstants.{MOST_VARIABLES};
-ghost use Rattle.ps_steps.specs.Assignments.{place, AreDifferent};
+ghost use Rattle.ps_pb.specs.Assignments.{place, AreDifferent};
 
 use crate::draw::Draw;
 use ps_clause::ClauseForm;

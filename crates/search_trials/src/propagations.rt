@@ -1,17 +1,17 @@
 //! Propagation by watched literals, beside passes over all constraints.
 ghost use Rattle.std.specs.Prelude.{◌≡◌, IsTrue, IfOk, OnOk, IfSome, IfNone};
-ghost use Rattle.ps_trail.specs.Trails.{values, decided, IsFresh};
-ghost use Rattle.ps_steps.specs.Weights.{IsWithin};
-ghost use Rattle.ps_watch.specs.Keeping.{IsInStep, HasSeenLower};
+ghost use Rattle.ps_learn.specs.Trails.{values, decided, IsFresh};
+ghost use Rattle.ps_pb.specs.Weights.{IsWithin};
+ghost use Rattle.ps_sat.specs.Keeping.{IsInStep, HasSeenLower};
 
 use crate::draw::Draw;
 use crate::forms::{add, are_different, are_within, literal};
 use crate::refutations::{is_within, no_goal};
 use ps_clause::ClauseForm;
 use ps_io::NoMemory;
+use ps_learn::Trail;
 use ps_pb::{Assignment, Constraint, Effect, Lit, from_weights, propagate, sizes_fit, slack};
-use ps_trail::Trail;
-use ps_watch::Kept;
+use ps_sat::Kept;
 use std::alloc::Global;
 
 /// So many variables a case has.

@@ -1,6 +1,6 @@
 //! Refutations, taken by the checker to the end.
 ghost use Rattle.std.specs.Prelude.{IsTrue};
-ghost use Rattle.ps_steps.specs.Weights.{IsWithin};
+ghost use Rattle.ps_pb.specs.Weights.{IsWithin};
 
 use ps_clause::ClauseForm;
 use ps_io::NoMemory;

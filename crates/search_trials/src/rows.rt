@@ -1,6 +1,6 @@
 //! Four clauses over two variables that nothing meets, over a log in memory and logs of lines.
 ghost use Rattle.std.specs.Prelude.{◌≡◌, ◌≤◌, []};
-ghost use Rattle.ps_steps.specs.Weights.{IsWithin};
+ghost use Rattle.ps_pb.specs.Weights.{IsWithin};
 ghost use Rattle.ps_log.specs.declared.limits.TheConstants.{MOST_CONFLICTS};
 
 use crate::forms::add;

@@ -3,8 +3,7 @@
 #![tactic(auto)]
 
 use ps_frac::Fraction;
-use ps_pool::Col;
-use ps_table::{Home, MOST_ROWS, Table};
+use ps_table::{Col, Home, MOST_ROWS, Table};
 use std::alloc::Global;
 use std::env;
 

@@ -4,9 +4,8 @@
 
 use crate::Settled;
 use ps_frac::Op;
-use ps_pool::Col;
 use ps_simplex::Phase;
-use ps_table::{Home, Place};
+use ps_table::{Col, Home, Place};
 
 /// How a phase ends; a fraction is its numerator and its denominator.
 #[derive(Drop)]

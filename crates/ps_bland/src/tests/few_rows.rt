@@ -2,9 +2,8 @@
 
 use super::case::{Case, End, Stage};
 use crate::Settled;
-use ps_pool::Col;
 use ps_simplex::Phase;
-use ps_table::Home;
+use ps_table::{Col, Home};
 
 pub(crate) const ONE_ROW: [Case<1>; 1] = [
     // No pivot is left, and all is as it was.

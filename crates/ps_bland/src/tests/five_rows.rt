@@ -2,9 +2,8 @@
 
 use super::case::{Case, End, Stage};
 use ps_frac::Op;
-use ps_pool::Col;
 use ps_simplex::Phase;
-use ps_table::{Home, Place};
+use ps_table::{Col, Home, Place};
 
 pub(crate) const FIVE_ROWS: [Case<5>; 2] = [
     // A sum of what a world carries is too wide, and the world improves.

@@ -2,9 +2,8 @@
 
 use super::case::{Case, End, Stage};
 use crate::Settled;
-use ps_pool::Col;
 use ps_simplex::Phase;
-use ps_table::Home;
+use ps_table::{Col, Home};
 
 pub(crate) const THREE_ROWS: [Case<3>; 13] = [
     // Pivots in each phase, and none left at the last rest.

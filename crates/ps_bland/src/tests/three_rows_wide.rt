@@ -3,9 +3,8 @@
 use super::case::{Case, End, Stage};
 use crate::Settled;
 use ps_frac::Op;
-use ps_pool::Col;
 use ps_simplex::Phase;
-use ps_table::{Home, Place, TableCol};
+use ps_table::{Col, Home, Place, TableCol};
 
 pub(crate) const THREE_ROWS_WIDE: [Case<3>; 7] = [
     // A difference of the second pivot is too wide.

@@ -2,8 +2,7 @@
 
 use crate::tables::{adds, has_costs, is_fraction, is_inside, pivots};
 use ps_io::List;
-use ps_pool::Col;
-use ps_table::{Costs, Home, Table};
+use ps_table::{Col, Costs, Home, Table};
 use std::alloc::Global;
 use std::test::Fail;
 

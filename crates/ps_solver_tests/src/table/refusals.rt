@@ -4,8 +4,7 @@
 use crate::tables::{adds, has_costs, is_fraction, is_inside, pivots};
 use ps_frac::{Fraction, Op};
 use ps_io::List;
-use ps_pool::Col;
-use ps_table::{Costs, Home, Place, Table, TableCol, TableError, WideAt};
+use ps_table::{Col, Costs, Home, Place, Table, TableCol, TableError, WideAt};
 use std::alloc::Global;
 use std::test::Fail;
 

@@ -3,8 +3,7 @@
 
 use super::carrying::{carries, costs_of};
 use crate::tables::{adds, has_entry, has_value, pivots};
-use ps_pool::Col;
-use ps_table::{Costs, Home, Table};
+use ps_table::{Col, Costs, Home, Table};
 use std::test::Fail;
 
 /// 2^62, too large for a row of whole numbers.

@@ -1,8 +1,7 @@
 //! Feeds the tokens of a text to a `State`.
 
 use crate::room::has_room;
-use ps_expect::State;
-use ps_lex::{Lexer, Token};
+use ps_lex::{Lexer, State, Token};
 use ps_text::{Part, ReadKind};
 use std::alloc::Global;
 use std::test::Fail;

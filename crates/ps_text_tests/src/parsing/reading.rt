@@ -4,13 +4,13 @@ ghost use Rattle.std.specs.List.{list_all};
 ghost use Rattle.ps_meaning.specs.Names.{is_letter as letter, is_word_byte as word_byte};
 ghost use Rattle.ps_meaning.specs.Names.{is_word as word};
 ghost use Rattle.ps_problem.specs.declared.limits.TheConstants.{MOST_DRAFTED};
-ghost use Rattle.ps_parse.specs.Derivations.{IsParsed};
-ghost use Rattle.ps_parse.specs.Taking.{IsKept, CountsAtMost, IsOneMore};
-ghost use Rattle.ps_parse.specs.Kept.{machine_of};
+ghost use Rattle.ps_read.specs.Derivations.{IsParsed};
+ghost use Rattle.ps_read.specs.Taking.{IsKept, CountsAtMost, IsOneMore};
+ghost use Rattle.ps_read.specs.Kept.{machine_of};
 
 use crate::room::has_room;
 use ps_lex::{Lexer, Position, Token};
-use ps_parse::{ParseError, Parser};
+use ps_read::{ParseError, Parser};
 use std::alloc::Global;
 
 fn is_letter(byte: u8) -> bool
@@ -50,7 +50,7 @@ fn is_kept(token: &Token) -> bool
 }
 
 // Takes a token, if there is one.
-#[tactic(auto, using(ps_parse::proofs::Counting::counts_more))]
+#[tactic(auto, using(ps_read::proofs::Counting::counts_more))]
 fn feed(parser: &mut Parser, token: Option<Token>, place: Position) -> Result<(), ParseError>
     requires derivation { IsParsed (machine_of parser.old) }
     requires room { CountsAtMost (MOST_DRAFTED - 1) (machine_of parser.old) }
@@ -88,7 +88,7 @@ fn feed_all(parser: &mut Parser, text: &[u8]) -> Result<(), ParseError>
 }
 
 /// The parser behind all tokens of a short text, or why one of them is refused.
-#[tactic(auto, using(ps_parse::proofs::Taken::first_parsed, ps_parse::proofs::Counting::first_counts))]
+#[tactic(auto, using(ps_read::proofs::Taken::first_parsed, ps_read::proofs::Counting::first_counts))]
 pub(crate) fn parsed(alloc: Global, text: &[u8]) -> Result<Parser, ParseError> {
     let mut parser = Parser::new(alloc);
     feed_all(&mut parser, text)?;

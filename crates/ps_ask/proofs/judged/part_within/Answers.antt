@@ -1,6 +1,6 @@
 use Rattle.std.proofs.Common.{subst}
-use Rattle.ps_guided.specs.declared.known.Known.{Known}
-use Rattle.ps_guided.specs.Known.{IsKnown}
+use Rattle.ps_guess.specs.declared.known.Known.{Known}
+use Rattle.ps_guess.specs.Known.{IsKnown}
 use Rattle.ps_ask.proofs.JudgedLaws.{late_part, shown_part}
 use Rattle.ps_ask.proofs.judged.part_within.Goals as goal
 

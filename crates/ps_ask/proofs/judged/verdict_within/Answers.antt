@@ -1,7 +1,7 @@
 use Rattle.std.proofs.Common.{Option, IfSome, List, subst}
-use Rattle.ps_pool.specs.declared.event.Event.{Event}
+use Rattle.ps_table.specs.declared.event.Event.{Event}
 use Rattle.ps_answer.specs.declared.answer.Verdict.{Verdict}
-use Rattle.ps_guided.specs.Solutions.{IsAnsweredVerdict}
+use Rattle.ps_guess.specs.Solutions.{IsAnsweredVerdict}
 use Rattle.ps_ask.proofs.JudgedLaws.{shown_verdict}
 use Rattle.ps_ask.proofs.judged.verdict_within.Goals as goal
 

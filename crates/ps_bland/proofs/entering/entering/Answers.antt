@@ -1,6 +1,6 @@
 use Rattle.std.proofs.Common.{rules, suc, ◌+◌, length, arith, IfErr}
-use Rattle.ps_pool.specs.declared.col.Col.{Col}
-use Rattle.ps_pool.specs.declared.col.Col.TheVariants as col
+use Rattle.ps_table.specs.declared.col.Col.{Col}
+use Rattle.ps_table.specs.declared.col.Col.TheVariants as col
 use Rattle.ps_table.specs.Tableau.{HasColumn}
 use Rattle.ps_table.specs.Places.{CostPlaces, IsWideAt}
 use Rattle.ps_bland.specs.Rounds.{ImprovesIn}

@@ -1,5 +1,5 @@
 use Rattle.std.proofs.Common.{◌≡◌, ◌<◌, ℕ, true}
-use Rattle.ps_rational.specs.Rational.{zero_q}
+use Rattle.ps_meaning.specs.Rational.{zero_q}
 use Rattle.ps_table.specs.Tableau.{basic_at, entry_at}
 use Rattle.ps_bland.specs.Rules.{artificial_at}
 use Rattle.ps_bland.proofs.feasible.is_feasible.Given as goal

@@ -1,6 +1,6 @@
 use Rattle.std.proofs.Common.{length}
 use Rattle.ps_table.specs.Tableau.{number_in}
-use Rattle.ps_rational.proofs.Order.{above_not_zero}
+use Rattle.ps_meaning.proofs.Order.{above_not_zero}
 use Rattle.ps_bland.proofs.Steps.{first_least}
 use Rattle.ps_bland.proofs.ratios.least_row.Goals as goal
 

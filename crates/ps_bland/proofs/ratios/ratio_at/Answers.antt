@@ -1,5 +1,5 @@
 use Rattle.std.proofs.Common.{◌∙◌, sym}
-use Rattle.ps_rational.proofs.Order.{above_not_zero}
+use Rattle.ps_meaning.proofs.Order.{above_not_zero}
 use Rattle.ps_bland.proofs.ratios.ratio_at.Goals as goal
 
 pub divided_at-requires : goal.divided_at-requires

@@ -1,5 +1,5 @@
 use Rattle.std.proofs.Common.{◌≡◌, ℕ, ◌+◌, length}
-use Rattle.ps_rational.specs.Rational.{Rational}
+use Rattle.ps_meaning.specs.Rational.{Rational}
 use Rattle.ps_table.specs.Tableau.{IsTableau, IsTableFor}
 use Rattle.ps_bland.specs.Runs.{Ran, MadeFewerThanBases, MeetsNoBasisTwice}
 use Rattle.ps_bland.specs.Ready.{IsReady}

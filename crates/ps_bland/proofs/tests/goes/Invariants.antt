@@ -1,5 +1,5 @@
 use Rattle.std.proofs.Common.{ℕ}
-use Rattle.ps_rational.specs.Rational.{Rational}
+use Rattle.ps_meaning.specs.Rational.{Rational}
 use Rattle.ps_table.specs.Tableau.{IsTableFor}
 use Rattle.ps_bland.specs.Columns.{AreColumns}
 use Rattle.ps_bland.proofs.tests.goes.Given as goal

@@ -1,5 +1,5 @@
 use Rattle.std.proofs.Common.{rules, ◌≡◌, ℕ, ◌<◌, ◌≤ℤ◌, length, get_or, pos, ◌≤◌}
-use Rattle.ps_rational.specs.Order.{IsNonneg}
+use Rattle.ps_meaning.specs.Order.{IsNonneg}
 use Rattle.ps_table.specs.Tableau.{entry_at}
 use Rattle.ps_bland.proofs.Ready.{ready_one}
 use Rattle.ps_bland.proofs.tests.is_ready.Goals as goal

@@ -1,5 +1,5 @@
 use Rattle.std.proofs.Common.{◌≡◌, take}
-use Rattle.ps_forms.specs.Clauses.{once}
+use Rattle.ps_clause.specs.Clauses.{once}
 use Rattle.ps_clause.proofs.clauses.once.Given as goal
 
 abbrev pub invariant-loop-lit : goal.invariant-loop-lit

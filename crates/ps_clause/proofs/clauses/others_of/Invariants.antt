@@ -1,5 +1,5 @@
 use Rattle.std.proofs.Common.{◌≡◌, take, map}
-use Rattle.ps_forms.specs.Forms.{is_other}
+use Rattle.ps_clause.specs.Forms.{is_other}
 use Rattle.ps_clause.proofs.clauses.others_of.Given as goal
 
 abbrev pub invariant-loop-node : goal.invariant-loop-node

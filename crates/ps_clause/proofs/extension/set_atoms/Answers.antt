@@ -1,7 +1,7 @@
 use Rattle.std.proofs.Common.{◌∙◌, length, ap, false}
 use Rattle.std.specs.Option.{unwrap_or}
-use Rattle.ps_forms.specs.Extensions.{values_of}
-use Rattle.ps_forms.proofs.Values.{no_nodes}
+use Rattle.ps_clause.specs.Extensions.{values_of}
+use Rattle.ps_clause.proofs.Values.{no_nodes}
 use Rattle.ps_clause.proofs.Atoms.{atom_set, other_passed}
 use Rattle.ps_clause.proofs.extension.set_atoms.Goals as goal
 use Rattle.ps_clause.proofs.extension.set_atoms.Goals.{in-Atom, in_default}

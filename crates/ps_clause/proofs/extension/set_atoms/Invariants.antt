@@ -1,5 +1,5 @@
 use Rattle.std.proofs.Common.{◌≡◌, length, take}
-use Rattle.ps_forms.specs.Extensions.{world_of, values_of}
+use Rattle.ps_clause.specs.Extensions.{world_of, values_of}
 use Rattle.ps_clause.proofs.extension.set_atoms.Given as goal
 
 abbrev pub invariant-loop-i : goal.invariant-loop-i

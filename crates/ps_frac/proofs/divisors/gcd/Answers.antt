@@ -1,7 +1,7 @@
 use Rattle.std.proofs.Common.{◌≡◌, arith, subst, sym}
 use Rattle.std.specs.Int.{IsGcd}
 use Rattle.std.proofs.Math.Nat.{dvd_refl, one-dvd}
-use Rattle.ps_rational.specs.Coprime.{is_gcd, gcd_pos_right, gcd_le_right}
+use Rattle.ps_meaning.specs.Coprime.{is_gcd, gcd_pos_right, gcd_le_right}
 use Rattle.ps_frac.proofs.divisors.gcd.Goals as goal
 
 pub returns-then-a-b-clause-value : goal.returns-then-a-b-clause-value

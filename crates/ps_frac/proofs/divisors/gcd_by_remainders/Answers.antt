@@ -1,6 +1,6 @@
 use Rattle.std.proofs.Common.{arith}
 use Rattle.std.proofs.lemmas.Nat.Gcd.{IsGcd-from_zero, IsGcd-from_mod}
-use Rattle.ps_rational.specs.Coprime.{is_gcd}
+use Rattle.ps_meaning.specs.Coprime.{is_gcd}
 use Rattle.ps_frac.proofs.divisors.gcd_by_remainders.Goals as goal
 
 pub loop-y-preserved : goal.loop-y-preserved

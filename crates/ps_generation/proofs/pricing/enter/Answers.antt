@@ -1,5 +1,5 @@
 use Rattle.std.proofs.Common.{rules, ◌≡◌, ℤ, List, [], ◌∷◌, ◌++◌, subst}
-use Rattle.ps_pool.specs.declared.event.Event.TheVariants.{Priced}
+use Rattle.ps_table.specs.declared.event.Event.TheVariants.{Priced}
 use Rattle.ps_table.specs.Tableau.{IsAdded, ExtendsSystem}
 use Rattle.ps_table.specs.Places.{IsRefusedAt, NewPlaces}
 use Rattle.ps_runs.specs.Rows.{entries_of, world_cost}

@@ -1,6 +1,6 @@
 use Rattle.std.proofs.Common.{rules, ◌≡◌, ap}
 use Rattle.ps_table.specs.Places.{IsRefusedAt}
-use Rattle.ps_ends.specs.Multiples.{DualPlaces}
+use Rattle.ps_generation.specs.Multiples.{DualPlaces}
 use Rattle.ps_pricing.specs.Pricings.{IsFound, IsRefutedBy, IsSpent}
 use Rattle.ps_generation.specs.Rounds.{pricing_subject_of}
 use Rattle.ps_generation.proofs.Priced.{dual_wide, found_priced, refuted_end, spent_end}

@@ -1,8 +1,8 @@
 use Rattle.std.proofs.Common.{◌-◌, ◌∙◌, ap, sym, refl, length, unsigned_abs, arith, get_or, List}
-use Rattle.ps_steps.specs.Assignments.{without}
-use Rattle.ps_trail.specs.Trails.{TrailEntry}
+use Rattle.ps_pb.specs.Assignments.{without}
+use Rattle.ps_learn.specs.Trails.{TrailEntry}
 use Rattle.ps_learn.proofs.Going.{going-start, going-end, going-back, going-len, going-place, going-next, sound}
-use Rattle.ps_trail.proofs.Keeping.{keeping-end, marked_by-end}
+use Rattle.ps_learn.proofs.Keeping.{keeping-end, marked_by-end}
 use Rattle.ps_learn.proofs.explaining.explain_all.Goals as goal
 
 pub back-init : goal.back-init

@@ -1,4 +1,4 @@
-use Rattle.ps_steps.specs.Steps.{known_of}
+use Rattle.ps_pb.specs.Steps.{known_of}
 use Rattle.ps_learn.proofs.Going.{Going}
 use Rattle.ps_learn.proofs.explaining.explain_all.Given as goal
 

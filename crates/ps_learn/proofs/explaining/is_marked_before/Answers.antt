@@ -1,6 +1,6 @@
 use Rattle.std.proofs.Common.{ap, ◌∙◌, sym, length, arith}
-use Rattle.ps_trail.specs.Trails.{TrailEntry}
-use Rattle.ps_trail.specs.Causes.{is_marked}
+use Rattle.ps_learn.specs.Trails.{TrailEntry}
+use Rattle.ps_learn.specs.Causes.{is_marked}
 use Rattle.ps_learn.proofs.Before.{before-first, before-next, before-end, before-other, before-here}
 use Rattle.ps_learn.proofs.explaining.is_marked_before.Goals as goal
 

@@ -1,10 +1,10 @@
 use Rattle.std.proofs.Common.{◌+◌, ap, ◌∙◌, sym, subst, arith}
-use Rattle.ps_steps.specs.Steps.{known_of}
-use Rattle.ps_steps.proofs.Ids.{known_of-length}
-use Rattle.ps_trail.specs.Starting.{AreKeptLits}
-use Rattle.ps_trail.proofs.Counting.{counted}
-use Rattle.ps_trail.proofs.Following.{learned-lawful}
-use Rattle.ps_trail.proofs.Asserting.{asserting-most}
+use Rattle.ps_pb.specs.Steps.{known_of}
+use Rattle.ps_pb.proofs.Ids.{known_of-length}
+use Rattle.ps_learn.specs.Starting.{AreKeptLits}
+use Rattle.ps_learn.proofs.Counting.{counted}
+use Rattle.ps_learn.proofs.Following.{learned-lawful}
+use Rattle.ps_learn.proofs.Asserting.{asserting-most}
 use Rattle.ps_learn.proofs.Falsity.{kept-false}
 use Rattle.ps_learn.proofs.Ground.{ground-contradiction}
 use Rattle.ps_learn.proofs.Marked.{has_marked_causes, is_reached}

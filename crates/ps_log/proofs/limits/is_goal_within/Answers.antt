@@ -1,6 +1,6 @@
 use Rattle.std.proofs.Common.{sym, subst}
 use Rattle.std.specs.List.{All}
-use Rattle.ps_steps.specs.Weights.{IsNormal}
+use Rattle.ps_pb.specs.Weights.{IsNormal}
 use Rattle.ps_log.proofs.Lengths.{goal_is_short}
 use Rattle.ps_log.specs.GoalNumbers.{HasLiteral}
 use Rattle.ps_log.proofs.Within.{few_terms, goal_is_within, is_few}

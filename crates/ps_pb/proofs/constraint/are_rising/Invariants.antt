@@ -1,5 +1,5 @@
 use Rattle.std.proofs.Common.{◌≡◌, drop}
-use Rattle.ps_steps.specs.Weights.{are_rising}
+use Rattle.ps_pb.specs.Weights.{are_rising}
 use Rattle.ps_pb.proofs.constraint.are_rising.Given as goal
 
 abbrev pub invariant-loop-term : goal.invariant-loop-term

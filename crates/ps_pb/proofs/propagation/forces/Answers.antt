@@ -1,8 +1,8 @@
 use Rattle.std.proofs.Common.{◌≡◌, true, ap, ◌∙◌, rules, arith, to_z, of_z}
 use mir.Syntax.{w128}
 use Rattle.std.proofs.lemmas.Int.{ints}
-use Rattle.ps_steps.specs.Assignments.{value_of, is_unset}
-use Rattle.ps_steps.specs.Weights.{terms_of}
+use Rattle.ps_pb.specs.Assignments.{value_of, is_unset}
+use Rattle.ps_pb.specs.Weights.{terms_of}
 use Rattle.ps_pb.proofs.Searched.{forces_at}
 use Rattle.ps_pb.proofs.propagation.forces.Goals as goal
 

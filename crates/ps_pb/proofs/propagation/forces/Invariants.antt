@@ -1,5 +1,5 @@
 use Rattle.std.proofs.Common.{drop}
-use Rattle.ps_steps.specs.Weights.{terms_of}
+use Rattle.ps_pb.specs.Weights.{terms_of}
 use Rattle.ps_pb.proofs.Searched.{HasForced}
 use Rattle.ps_pb.proofs.propagation.forces.Given as goal
 

@@ -1,8 +1,8 @@
 use Rattle.std.proofs.Common.{to_z, arith, ap, ◌∙◌}
 use mir.Syntax.{w128}
 use Rattle.std.proofs.lemmas.Int.{ints}
-use Rattle.ps_steps.specs.Constraints.{sum_where, is_open}
-use Rattle.ps_steps.specs.Weights.{terms_of}
+use Rattle.ps_pb.specs.Constraints.{sum_where, is_open}
+use Rattle.ps_pb.specs.Weights.{terms_of}
 use Rattle.ps_pb.proofs.Summed.{next_sum, sum_where-size, none_after}
 use Rattle.ps_pb.proofs.propagation.slack.Goals as goal
 

@@ -1,6 +1,6 @@
 use Rattle.std.proofs.Common.{◌≡◌, pos, ◌+ℤ◌, ◌≤ℤ◌, drop}
-use Rattle.ps_steps.specs.Constraints.{sum_where, is_open}
-use Rattle.ps_steps.specs.Weights.{terms_of}
+use Rattle.ps_pb.specs.Constraints.{sum_where, is_open}
+use Rattle.ps_pb.specs.Weights.{terms_of}
 use Rattle.ps_pb.proofs.propagation.slack.Given as goal
 
 abbrev pub invariant-loop-term : goal.invariant-loop-term

@@ -1,6 +1,6 @@
 use Rattle.std.proofs.Common.{◌≡◌, drop}
-use Rattle.ps_steps.specs.Constraints.{some_forced}
-use Rattle.ps_steps.specs.Weights.{terms_of}
+use Rattle.ps_pb.specs.Constraints.{some_forced}
+use Rattle.ps_pb.specs.Weights.{terms_of}
 use Rattle.ps_pb.proofs.propagation.some_forced.Given as goal
 
 abbrev pub invariant-loop-term : goal.invariant-loop-term

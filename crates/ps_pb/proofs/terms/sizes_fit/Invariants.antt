@@ -1,5 +1,5 @@
 use Rattle.std.proofs.Common.{◌≡◌, ◌+◌, drop, unsigned_abs}
-use Rattle.ps_steps.specs.Weights.{size_sum}
+use Rattle.ps_pb.specs.Weights.{size_sum}
 use Rattle.ps_pb.proofs.terms.sizes_fit.Given as goal
 
 abbrev pub invariant-loop-weight : goal.invariant-loop-weight

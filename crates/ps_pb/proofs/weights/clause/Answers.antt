@@ -1,6 +1,6 @@
 use Rattle.std.proofs.Common.{◌≡◌, ◌≤◌, ◌^◌, length, take, ap, sym, ◌∙◌, arith}
-use Rattle.ps_steps.specs.Weights.{size_sum}
-use Rattle.ps_steps.proofs.Bounds.{each_once-size, each_once-length}
+use Rattle.ps_pb.specs.Weights.{size_sum}
+use Rattle.ps_pb.proofs.Bounds.{each_once-size, each_once-length}
 use Rattle.ps_pb.proofs.weights.clause.Goals as goal
 
 pub from_weights-requires : goal.from_weights-requires

@@ -1,5 +1,5 @@
 use Rattle.std.proofs.Common.{◌≡◌, take}
-use Rattle.ps_steps.specs.Weights.{each_once}
+use Rattle.ps_pb.specs.Weights.{each_once}
 use Rattle.ps_pb.proofs.weights.clause.Given as goal
 
 abbrev pub invariant-loop-lit : goal.invariant-loop-lit

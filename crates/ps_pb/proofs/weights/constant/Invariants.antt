@@ -1,5 +1,5 @@
 use Rattle.std.proofs.Common.{◌≡◌, ◌+ℤ◌, drop}
-use Rattle.ps_steps.specs.Weights.{constant_of}
+use Rattle.ps_pb.specs.Weights.{constant_of}
 use Rattle.ps_pb.proofs.weights.constant.Given as goal
 
 abbrev pub invariant-loop-weight : goal.invariant-loop-weight

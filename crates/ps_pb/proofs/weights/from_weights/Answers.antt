@@ -1,7 +1,7 @@
 use Rattle.std.proofs.Common.{ℤ, List, length, arith, ap, ◌∙◌}
 use Rattle.std.proofs.lemmas.Int.{ints}
-use Rattle.ps_steps.specs.Weights.{turned, sum_below, terms_below, weighted}
-use Rattle.ps_steps.proofs.Linear.{met-weight, weight-met}
+use Rattle.ps_pb.specs.Weights.{turned, sum_below, terms_below, weighted}
+use Rattle.ps_pb.proofs.Linear.{met-weight, weight-met}
 use Rattle.ps_pb.specs.Coefficients.{number_at}
 use Rattle.ps_pb.proofs.Filling.{small_of, first_fits, degree_fits, degree_value, normal_of, constraint_is}
 use Rattle.ps_pb.proofs.weights.from_weights.Goals as goal

@@ -1,6 +1,6 @@
 use Rattle.std.proofs.Common.{◌≡◌, ◌≤◌, drop}
 use Rattle.std.specs.Prelude.{max}
-use Rattle.ps_steps.specs.Weights.{last_variable}
+use Rattle.ps_pb.specs.Weights.{last_variable}
 use Rattle.ps_pb.proofs.weights.last_variable.Given as goal
 
 abbrev pub invariant-loop-weight : goal.invariant-loop-weight

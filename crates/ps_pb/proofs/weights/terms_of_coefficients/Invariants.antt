@@ -1,5 +1,5 @@
 use Rattle.std.proofs.Common.{◌≡◌}
-use Rattle.ps_steps.specs.Weights.{weighted, terms_below}
+use Rattle.ps_pb.specs.Weights.{weighted, terms_below}
 use Rattle.ps_pb.specs.Coefficients.{number_at}
 use Rattle.ps_pb.proofs.weights.terms_of_coefficients.Given as goal
 

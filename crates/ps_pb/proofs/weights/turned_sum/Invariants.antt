@@ -1,5 +1,5 @@
 use Rattle.std.proofs.Common.{◌≡◌}
-use Rattle.ps_steps.specs.Weights.{sum_below, turned}
+use Rattle.ps_pb.specs.Weights.{sum_below, turned}
 use Rattle.ps_pb.specs.Coefficients.{number_at}
 use Rattle.ps_pb.proofs.weights.turned_sum.Given as goal
 

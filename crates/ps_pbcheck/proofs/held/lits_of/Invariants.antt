@@ -1,5 +1,5 @@
 use Rattle.std.proofs.Common.{◌≡◌, take, map}
-use Rattle.ps_steps.specs.Weights.{weighted}
+use Rattle.ps_pb.specs.Weights.{weighted}
 use Rattle.ps_pbcheck.proofs.held.lits_of.Given as goal
 
 abbrev pub invariant-loop-term : goal.invariant-loop-term

@@ -1,7 +1,7 @@
 use Rattle.std.proofs.Common.{ap}
 use Rattle.std.proofs.lemmas.Result.{err_from_is_err_and}
-use Rattle.ps_steps.specs.Steps.{end_of}
-use Rattle.ps_steps.proofs.Places.{after_hints-stop}
+use Rattle.ps_pb.specs.Steps.{end_of}
+use Rattle.ps_pb.proofs.Places.{after_hints-stop}
 use Rattle.ps_pbcheck.proofs.hints.follow_hints.Goals as goal
 
 pub returns-in_err-conflict : goal.returns-in_err-conflict

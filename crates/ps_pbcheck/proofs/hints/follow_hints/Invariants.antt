@@ -1,6 +1,6 @@
 use Rattle.std.proofs.Common.{◌≡◌, drop}
-use Rattle.ps_steps.specs.Steps.{after_hints, Open}
-use Rattle.ps_steps.specs.Steps.{known_of}
+use Rattle.ps_pb.specs.Steps.{after_hints, Open}
+use Rattle.ps_pb.specs.Steps.{known_of}
 use Rattle.ps_pbcheck.specs.Judged.{propagation_of}
 use Rattle.ps_pbcheck.proofs.hints.follow_hints.Given as goal
 

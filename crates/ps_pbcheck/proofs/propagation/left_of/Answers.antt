@@ -1,6 +1,6 @@
 use Rattle.std.proofs.Common.{◌≡◌, ◌≤◌, ℤ, true, Option, Some, None, length, arith, sym, ap, ◌∙◌, subst}
 use Rattle.std.specs.Prelude.{option_to_list, is_some}
-use Rattle.ps_steps.specs.Constraints.{is_open}
+use Rattle.ps_pb.specs.Constraints.{is_open}
 use Rattle.ps_pbcheck.proofs.Opened.{several}
 use Rattle.ps_pbcheck.proofs.propagation.left_of.Goals as goal
 

@@ -1,7 +1,7 @@
 use Rattle.std.proofs.Common.{◌≡◌, take}
 use Rattle.std.specs.Prelude.{option_to_list}
 use Rattle.std.specs.List.{filter}
-use Rattle.ps_steps.specs.Constraints.{is_open}
+use Rattle.ps_pb.specs.Constraints.{is_open}
 use Rattle.ps_pbcheck.proofs.propagation.left_of.Given as goal
 
 abbrev pub invariant-loop-lit : goal.invariant-loop-lit

@@ -1,5 +1,5 @@
 use Rattle.std.proofs.Common.{◌≡◌, sym, ap, ◌∙◌, true, false}
-use Rattle.ps_steps.specs.Assignments.{value_of, is_unset}
+use Rattle.ps_pb.specs.Assignments.{value_of, is_unset}
 use Rattle.ps_pbcheck.proofs.Opened.{none-violated, many-idle, one-forced, one-idle, some-set, none-unset}
 use Rattle.ps_pbcheck.proofs.propagation.propagate_clause.Goals as goal
 

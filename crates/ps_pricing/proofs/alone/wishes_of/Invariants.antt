@@ -1,6 +1,6 @@
 use Rattle.std.proofs.Common.{◌≡◌, ◌<◌, All}
-use Rattle.ps_steps.specs.Assignments.{place}
-use Rattle.ps_steps.specs.Weights.{size_sum}
+use Rattle.ps_pb.specs.Assignments.{place}
+use Rattle.ps_pb.specs.Weights.{size_sum}
 use Rattle.ps_pricing.proofs.alone.wishes_of.Given as goal
 
 abbrev pub invariant-loop-bound : goal.invariant-loop-bound

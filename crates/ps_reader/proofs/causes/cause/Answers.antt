@@ -2,7 +2,7 @@ use Rattle.ps_answer.specs.declared.part.Part.TheVariants.{ACause}
 use Rattle.ps_answer.specs.Answers.{cause_items}
 use Rattle.ps_reader.specs.Reports.{parts_behind}
 use Rattle.ps_reader.proofs.Rests.{good_line, value_read}
-use Rattle.ps_reader.proofs.Openings.{cause_due}
+use Rattle.ps_reader.proofs.PartOpenings.{cause_due}
 use Rattle.ps_reader.proofs.causes.cause.Goals as goal
 
 pub cause_behind-requires-clause-good : goal.cause_behind-requires-clause-good

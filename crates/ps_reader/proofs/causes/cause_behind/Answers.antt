@@ -1,4 +1,4 @@
-use Rattle.ps_reader.proofs.Openings.{cause_only}
+use Rattle.ps_reader.proofs.PartOpenings.{cause_only}
 use Rattle.ps_reader.proofs.causes.cause_behind.Goals as goal
 
 pub unreachable-requires : goal.unreachable-requires

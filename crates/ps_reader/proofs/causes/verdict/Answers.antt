@@ -6,7 +6,7 @@ use Rattle.ps_answer.specs.Answers.{verdict_items}
 use Rattle.ps_reader.specs.Taken.{Takes}
 use Rattle.ps_reader.specs.Reports.{parts_behind}
 use Rattle.ps_reader.proofs.Rests.{good_line, value_read}
-use Rattle.ps_reader.proofs.Openings.{consistent_due, inconsistent_due, verdict_cause, verdict_opening}
+use Rattle.ps_reader.proofs.PartOpenings.{consistent_due, inconsistent_due, verdict_cause, verdict_opening}
 use Rattle.ps_reader.proofs.causes.verdict.Goals as goal
 
 pub open-requires : goal.open-requires

@@ -1,7 +1,7 @@
 use Rattle.std.proofs.Common.{subst, ◌∷◌}
 use Rattle.std.specs.Prelude.{[]}
 use Rattle.ps_answer.specs.declared.part.Part.TheVariants.{AQuery}
-use Rattle.ps_line.specs.Read.{Fits}
+use Rattle.ps_reader.specs.Read.{Fits}
 use Rattle.ps_reader.specs.Taken.{Takes}
 use Rattle.ps_reader.proofs.Rests.{query_only, query_is, few_queries}
 use Rattle.ps_reader.proofs.queries.is_query.Goals as goal

@@ -5,7 +5,7 @@ use Rattle.ps_answer.specs.declared.part.Part.TheVariants.{ADual, ATrace, AnAnsw
 use Rattle.ps_reader.specs.Taken.{Takes}
 use Rattle.ps_reader.specs.Reports.{parts_behind, query_part_items}
 use Rattle.ps_reader.proofs.Rests.{good_line, value_read}
-use Rattle.ps_reader.proofs.Openings.{bounds_due, impossible_due, answer_cause, answer_opening}
+use Rattle.ps_reader.proofs.PartOpenings.{bounds_due, impossible_due, answer_cause, answer_opening}
 use Rattle.ps_reader.proofs.queries.part.Goals as goal
 
 pub open-requires : goal.open-requires

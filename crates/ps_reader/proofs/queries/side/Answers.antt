@@ -2,12 +2,12 @@ use Rattle.std.proofs.Common.{subst, ◌∷◌}
 use Rattle.std.specs.Prelude.{[]}
 use Rattle.ps_answer.specs.declared.item.LineItem.TheVariants as line
 use Rattle.ps_answer.specs.declared.part.Part.TheVariants.{AModel, ADual, ACause, ATrace, ASide}
-use Rattle.ps_line.specs.Read.{Fits}
+use Rattle.ps_reader.specs.Read.{Fits}
 use Rattle.ps_reader.specs.Taken.{Takes}
 use Rattle.ps_reader.specs.Reports.{traced_items}
 use Rattle.ps_reader.proofs.Passing.{bound_due, open_due}
 use Rattle.ps_reader.proofs.Rests.{good_line, value_read}
-use Rattle.ps_reader.proofs.Openings.{bound_taken, open_taken, side_only}
+use Rattle.ps_reader.proofs.PartOpenings.{bound_taken, open_taken, side_only}
 use Rattle.ps_reader.proofs.Fractions.{value_operand}
 use Rattle.ps_reader.proofs.queries.side.Goals as goal
 

@@ -1,13 +1,13 @@
 use Rattle.std.proofs.Common.{◌∙◌, List, ap, subst, arith}
-use Rattle.ps_steps.specs.Constraints.{Constraint}
-use Rattle.ps_steps.specs.Steps.{known_of}
-use Rattle.ps_trail.specs.Trails.{Trail, values}
+use Rattle.ps_pb.specs.Constraints.{Constraint}
+use Rattle.ps_pb.specs.Steps.{known_of}
+use Rattle.ps_learn.specs.Trails.{Trail, values}
 use Rattle.ps_learn.specs.Rest.{IsAtRest}
 use Rattle.ps_learn.proofs.Advancing.{decided-reasons, decided-fewer, decided-longer, longer_then}
 use Rattle.ps_learn.proofs.Growing.{rested-implied, atoms-implied, rested-decided, atoms-decided}
-use Rattle.ps_watch.specs.Watches.{Extends}
-use Rattle.ps_watch.proofs.Stepping.{decided-step, over-then}
-use Rattle.ps_sat.proofs.Going.{fresh-decided}
+use Rattle.ps_sat.specs.Watches.{Extends}
+use Rattle.ps_sat.proofs.Stepping.{decided-step, over-then}
+use Rattle.ps_sat.proofs.SearchSteps.{fresh-decided}
 use Rattle.ps_sat.proofs.advancing.advance.Goals as goal
 
 pub on-smaller : goal.on-smaller

@@ -1,9 +1,9 @@
 use Rattle.std.proofs.Common.{◌≡◌}
-use Rattle.ps_steps.specs.Steps.{known_of}
-use Rattle.ps_trail.specs.Trails.{values, unset_count, AreReasons}
+use Rattle.ps_pb.specs.Steps.{known_of}
+use Rattle.ps_learn.specs.Trails.{values, unset_count, AreReasons}
 use Rattle.ps_learn.specs.Rest.{IsLonger}
 use Rattle.ps_learn.specs.Resting.{AreRested, AreOfAtoms}
-use Rattle.ps_watch.specs.Keeping.{IsInStep, IsOver}
+use Rattle.ps_sat.specs.Keeping.{IsInStep, IsOver}
 use Rattle.ps_sat.proofs.advancing.advance.Given as goal
 
 abbrev pub invariant-on : goal.invariant-on

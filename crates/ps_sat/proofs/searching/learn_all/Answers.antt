@@ -1,15 +1,15 @@
 use Rattle.std.proofs.Common.{◌≡◌, ◌<◌, ℕ, All, List, ◌++◌, sym, ◌∷◌, [], ap, ◌∙◌, refl, subst, length, length-append, arith}
-use Rattle.ps_steps.specs.Weights.{IsNormal, clause_of}
-use Rattle.ps_steps.specs.Constraints.{Constraint}
-use Rattle.ps_steps.specs.Steps.{Step, known_of, added, lits_of}
-use Rattle.ps_trail.specs.Trails.{level, up_to, AreReasons}
+use Rattle.ps_pb.specs.Weights.{IsNormal, clause_of}
+use Rattle.ps_pb.specs.Constraints.{Constraint}
+use Rattle.ps_pb.specs.Steps.{Step, known_of, added, lits_of}
+use Rattle.ps_learn.specs.Trails.{level, up_to, AreReasons}
 use Rattle.ps_learn.specs.declared.learning.Learned.{Learned}
-use Rattle.ps_trail.specs.Trails.{Trail}
-use Rattle.ps_watch.proofs.Stepping.{first-step, cut-step, lower-same}
-use Rattle.ps_steps.specs.Assignments.{place, AreDifferent}
-use Rattle.ps_steps.proofs.Short.{lawful-different}
-use Rattle.ps_trail.specs.Trails.{IsLit}
-use Rattle.ps_sat.proofs.Going.{begins, lits_inside, comes-to, search-found, handed-none, handed-learned, handed-stays}
+use Rattle.ps_learn.specs.Trails.{Trail}
+use Rattle.ps_sat.proofs.Stepping.{first-step, cut-step, lower-same}
+use Rattle.ps_pb.specs.Assignments.{place, AreDifferent}
+use Rattle.ps_pb.proofs.Short.{lawful-different}
+use Rattle.ps_learn.specs.Trails.{IsLit}
+use Rattle.ps_sat.proofs.SearchSteps.{begins, lits_inside, comes-to, search-found, handed-none, handed-learned, handed-stays}
 use Rattle.ps_sat.proofs.Handing.{own-learned, learned-lesson, step-within, conflict-known, counts-err, held-found, held-spent, held-refuted, learned-refutes, non-empty, goes-further, least-more, err-learned}
 use Rattle.ps_sat.proofs.Lessons.{next-below}
 use Rattle.ps_sat.proofs.searching.learn_all.Goals as goal

@@ -1,7 +1,7 @@
 use Rattle.std.proofs.Common.{◌≡◌, ◌≤◌, ◌+◌, ◌-◌, ◌^◌, length}
 use Rattle.std.specs.Prelude.{IsTrue}
-use Rattle.ps_watch.specs.Keeping.{IsInStep}
-use Rattle.ps_sat.proofs.Going.{Searching}
+use Rattle.ps_sat.specs.Keeping.{IsInStep}
+use Rattle.ps_sat.proofs.SearchSteps.{Searching}
 use Rattle.ps_sat.proofs.searching.learn_all.Given as goal
 
 abbrev pub invariant-learn : goal.invariant-learn

@@ -1,7 +1,7 @@
 use Rattle.std.proofs.Common.{rules, refl}
 use Rattle.ps_claims.specs.declared.claim_kind.ClaimKind.TheVariants.{Nothing}
-use Rattle.ps_master.specs.States.{HasRunTable}
-use Rattle.ps_master.proofs.Ready.{in_phase}
+use Rattle.ps_generation.specs.States.{HasRunTable}
+use Rattle.ps_generation.proofs.Ready.{in_phase}
 use Rattle.ps_solver_tests.proofs.generation.end_of.Goals as goal
 
 pub run_phase-requires-clause-phase : goal.run_phase-requires-clause-phase

@@ -1,5 +1,5 @@
 use Rattle.std.proofs.Common.{◌<◌, ℕ}
-use Rattle.ps_rational.specs.Order.{IsNonneg}
+use Rattle.ps_meaning.specs.Order.{IsNonneg}
 use Rattle.ps_table.specs.Tableau.{entry_at}
 use Rattle.ps_solver_tests.proofs.tables.are_values_at_least_zero.Given as goal
 

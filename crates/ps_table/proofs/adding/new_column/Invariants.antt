@@ -1,5 +1,5 @@
 use Rattle.std.proofs.Common.{◌≡◌, ◌<◌, ℕ, get_or, length}
-use Rattle.ps_rational.specs.Rational.{zero_q}
+use Rattle.ps_meaning.specs.Rational.{zero_q}
 use Rattle.ps_table.specs.Grids.{sum_in, IsEntryNarrow}
 use Rattle.ps_table.proofs.adding.new_column.Given as goal
 

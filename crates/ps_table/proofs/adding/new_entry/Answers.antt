@@ -1,5 +1,5 @@
 use Rattle.std.proofs.Common.{◌∙◌, arith}
-use Rattle.ps_rational.proofs.Field.{zero_is_fraction}
+use Rattle.ps_meaning.proofs.Field.{zero_is_fraction}
 use Rattle.ps_table.proofs.adding.new_entry.Goals as goal
 
 pub loop-m-init : goal.loop-m-init

@@ -1,6 +1,6 @@
 use Rattle.std.proofs.Common.{◌<◌, ◌∙◌, subst, rules}
-use Rattle.ps_rational.specs.Rational.{Rational}
-use Rattle.ps_rational.specs.Wide.{Fits, size_limit}
+use Rattle.ps_meaning.specs.Rational.{Rational}
+use Rattle.ps_meaning.specs.Wide.{Fits, size_limit}
 use Rattle.ps_table.specs.Grids.{AddsNothing, GridNewPlaces}
 use Rattle.ps_table.specs.Places.{at_new_plus}
 use Rattle.ps_table.proofs.Columns.{refused_at}

@@ -1,5 +1,5 @@
 use Rattle.std.proofs.Common.{◌≡◌, ◌<◌, ℕ, get_or, length}
-use Rattle.ps_pool.specs.declared.col.Col.TheVariants.{Home}
+use Rattle.ps_table.specs.declared.col.Col.TheVariants.{Home}
 use Rattle.ps_table.proofs.first.first_basic.Given as goal
 
 abbrev pub invariant-loop-i : goal.invariant-loop-i

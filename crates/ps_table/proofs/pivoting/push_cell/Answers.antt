@@ -1,6 +1,6 @@
 use Rattle.std.proofs.Common.{◌≡◌, ◌≢◌, ◌<◌, arith, rules, subst, ◌∙◌}
-use Rattle.ps_rational.specs.Rational.{Rational, zero_q}
-use Rattle.ps_rational.specs.Wide.{Fits, size_limit}
+use Rattle.ps_meaning.specs.Rational.{Rational, zero_q}
+use Rattle.ps_meaning.specs.Wide.{Fits, size_limit}
 use Rattle.ps_table.specs.Grids.{cell_in}
 use Rattle.ps_table.proofs.Zeros.{own_scaled}
 use Rattle.ps_table.proofs.Changes.{up_zero, up_pushed}

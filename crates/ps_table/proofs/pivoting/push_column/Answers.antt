@@ -1,5 +1,5 @@
 use Rattle.std.proofs.Common.{◌≡◌, ◌∙◌, sym, rules}
-use Rattle.ps_rational.specs.Rational.{zero_q}
+use Rattle.ps_meaning.specs.Rational.{zero_q}
 use Rattle.ps_table.specs.Grids.{cell_in}
 use Rattle.ps_table.proofs.Changes.{up_skipped}
 use Rattle.ps_table.proofs.Zeros.{zero_scale_narrow}

@@ -3,7 +3,7 @@ use Rattle.std.proofs.lemmas.Int.{ints}
 use mir.Syntax.{w128}
 use Rattle.ps_problem.specs.Problems.{bounds_in}
 use Rattle.ps_claims.specs.Claims.{IsSound}
-use Rattle.ps_certificate.specs.Certificates.{entries, model_of, dual_of}
+use Rattle.ps_claims.specs.Certificates.{entries, model_of, dual_of}
 use Rattle.ps_valid.specs.Rows.{IsTableOf}
 use Rattle.ps_valid.specs.Tests.{evidence_weight}
 use Rattle.ps_valid.proofs.BoundFaults.{bound_found, evidence_is, evidence_wrong, value_is, value_wrong}

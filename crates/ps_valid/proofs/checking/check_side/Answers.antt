@@ -1,5 +1,5 @@
 use Rattle.ps_claims.specs.Claims.{Bounded}
-use Rattle.ps_certificate.specs.Certificates.{model_of, dual_of}
+use Rattle.ps_claims.specs.Certificates.{model_of, dual_of}
 use Rattle.ps_valid.proofs.ClaimsInOrder.{judged_one}
 use Rattle.ps_valid.proofs.checking.check_side.Goals as goal
 

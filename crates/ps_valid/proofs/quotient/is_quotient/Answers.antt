@@ -1,7 +1,7 @@
 use Rattle.std.proofs.Common.{◌≡◌, to_z, of_z, unsigned_abs, sym, ap, ◌∙◌}
 use Rattle.std.proofs.lemmas.Int.{to_z-of_z}
 use mir.Syntax.{w128}
-use Rattle.ps_rational.specs.Rational.{fraction}
+use Rattle.ps_meaning.specs.Rational.{fraction}
 use Rattle.ps_valid.proofs.Quotients.{quotients}
 use Rattle.ps_valid.proofs.quotient.is_quotient.Goals as goal
 

@@ -1,4 +1,4 @@
-use Rattle.ps_certificate.specs.Certificates.{dual_of}
+use Rattle.ps_claims.specs.Certificates.{dual_of}
 use Rattle.ps_valid.specs.Aims.{aim_of}
 use Rattle.ps_valid.proofs.DualFaults.{sign_found}
 use Rattle.ps_valid.proofs.refuting.first_in_dual.Goals as goal

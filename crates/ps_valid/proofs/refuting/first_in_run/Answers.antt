@@ -1,5 +1,5 @@
 use Rattle.std.proofs.Common.{sym, ◌∙◌}
-use Rattle.ps_certificate.specs.Certificates.{dual_of}
+use Rattle.ps_claims.specs.Certificates.{dual_of}
 use Rattle.ps_valid.specs.Aims.{aim_of}
 use Rattle.ps_valid.proofs.DualFaults.{run_refutes, run_open, run_found}
 use Rattle.ps_valid.proofs.refuting.first_in_run.Goals as goal

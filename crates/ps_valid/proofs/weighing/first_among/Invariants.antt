@@ -1,5 +1,5 @@
 use Rattle.std.proofs.Common.{take}
-use Rattle.ps_certificate.specs.Certificates.{entries}
+use Rattle.ps_claims.specs.Certificates.{entries}
 use Rattle.ps_claims.specs.Claims.{AreProperEntries}
 use Rattle.ps_valid.proofs.weighing.first_among.Given as goal
 

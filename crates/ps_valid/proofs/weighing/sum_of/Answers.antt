@@ -2,7 +2,7 @@ use Rattle.std.proofs.Common.{◌≡◌, ◌<◌, true, ◌+ℤ◌, to_z, of_z, 
 use Rattle.std.proofs.lemmas.Int.{ints}
 use mir.Syntax.{w128}
 use Rattle.ps_meaning.specs.Formula.{Truth}
-use Rattle.ps_certificate.specs.Certificates.{entry_of}
+use Rattle.ps_claims.specs.Certificates.{entry_of}
 use Rattle.ps_valid.specs.Limits.{IsAmount}
 use Rattle.ps_valid.proofs.Weights.{weight-more, goes_on}
 use Rattle.ps_valid.proofs.weighing.sum_of.Goals as goal

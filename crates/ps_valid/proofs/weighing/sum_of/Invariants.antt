@@ -1,6 +1,6 @@
 use Rattle.std.proofs.Common.{◌≡◌, ◌*◌, ◌^◌, pos, ◌≤ℤ◌, take}
 use Rattle.ps_meaning.specs.Distribution.{total}
-use Rattle.ps_certificate.specs.Certificates.{entries}
+use Rattle.ps_claims.specs.Certificates.{entries}
 use Rattle.ps_valid.proofs.weighing.sum_of.Given as goal
 
 abbrev pub invariant-loop-w : goal.invariant-loop-w

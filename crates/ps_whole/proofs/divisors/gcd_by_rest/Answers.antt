@@ -1,7 +1,7 @@
 use Rattle.std.proofs.Common.{subst, sym, ◌∙◌}
 use Rattle.std.specs.Int.{IsGcd}
 use Rattle.std.proofs.lemmas.Nat.Gcd.{IsGcd-from_zero, IsGcd-from_mod}
-use Rattle.ps_rational.specs.Coprime.{gcd_is}
+use Rattle.ps_meaning.specs.Coprime.{gcd_is}
 use Rattle.ps_whole.proofs.divisors.gcd_by_rest.Goals as goal
 
 pub returns-then-rest-eq0 : goal.returns-then-rest-eq0

@@ -1,6 +1,6 @@
 use Rattle.std.proofs.Common.{subst, sym}
 use Rattle.std.specs.Int.{IsGcd}
-use Rattle.ps_rational.specs.Coprime.{gcd_is}
+use Rattle.ps_meaning.specs.Coprime.{gcd_is}
 use Rattle.ps_whole.proofs.divisors.gcd_of_words.Goals as goal
 
 pub returns-clause-value : goal.returns-clause-value

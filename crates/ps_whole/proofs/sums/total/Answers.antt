@@ -1,7 +1,7 @@
 use Rattle.std.proofs.Common.{◌≡◌, ◌<◌, ◌^◌, ◌+ℤ◌, unsigned_abs, arith, subst, sym, ap, ◌∙◌, rules, FitsSigned, to_z, of_z}
 use Rattle.std.specs.Int.{w128}
 use Rattle.std.proofs.lemmas.Int.{to_z-of_z}
-use Rattle.ps_rational.specs.Rational.{fraction}
+use Rattle.ps_meaning.specs.Rational.{fraction}
 use Rattle.ps_whole.specs.Sums.{IsSumOf}
 use Rattle.ps_whole.proofs.Added.{same_sum}
 use Rattle.ps_whole.proofs.sums.total.Goals as goal

@@ -1,7 +1,7 @@
 use Rattle.std.proofs.Common.{◌≡◌, ◌≢◌, ◌∙◌, ℕ, ℤ, ◌+◌, ◌<◌, List, length, get_or, take, All, ap, subst}
 use Rattle.std.proofs.lemmas.List.{take_more}
 use Rattle.std.proofs.lemmas.List.Quantifiers.{all_pairs_push}
-use Rattle.ps_steps.specs.Assignments.{place, AreDifferent}
+use Rattle.ps_pb.specs.Assignments.{place, AreDifferent}
 use Rattle.search_trials.proofs.forms.are_different.Goals as goal
 
 -- a literal whose variable none of those before it has

@@ -1,5 +1,5 @@
 use Rattle.std.proofs.Common.{take}
-use Rattle.ps_steps.specs.Assignments.{AreDifferent}
+use Rattle.ps_pb.specs.Assignments.{AreDifferent}
 use Rattle.search_trials.proofs.forms.are_different.Given as goal
 
 abbrev pub invariant-loop-i : goal.invariant-loop-i

@@ -1,5 +1,5 @@
 use Rattle.std.proofs.Common.{◌≡◌}
-use Rattle.ps_watch.specs.Keeping.{IsInStep}
+use Rattle.ps_sat.specs.Keeping.{IsInStep}
 use Rattle.search_trials.proofs.propagations.are_moves_alike.Given as goal
 
 abbrev pub invariant-loop : goal.invariant-loop

@@ -1,6 +1,6 @@
 use Rattle.std.proofs.Common.{sym, subst}
-use Rattle.ps_watch.specs.Keeping.{HasSeenLower}
-use Rattle.ps_watch.proofs.Stepping.{all-lower}
+use Rattle.ps_sat.specs.Keeping.{HasSeenLower}
+use Rattle.ps_sat.proofs.Stepping.{all-lower}
 use Rattle.search_trials.proofs.propagations.make_move.Goals as goal
 
 pub go_back-requires-in-None-decide_one-clause-lower : goal.go_back-requires-in-None-decide_one-clause-lower

@@ -1,5 +1,5 @@
-use Rattle.ps_forms.specs.Forms.{form_over}
-use Rattle.ps_forms.proofs.Inside.{clauses-inside}
+use Rattle.ps_clause.specs.Forms.{form_over}
+use Rattle.ps_clause.proofs.Inside.{clauses-inside}
 use Rattle.ps_clause.proofs.form.ClauseForm.variables.Goals as goal
 
 pub returns-clause-inside : goal.returns-clause-inside

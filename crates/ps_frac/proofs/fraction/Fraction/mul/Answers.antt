@@ -1,7 +1,7 @@
 use Rattle.std.proofs.Common.{FitsSigned, rules, ◌∙◌}
 use Rattle.std.specs.Int.{w128}
 use Rattle.std.proofs.lemmas.Int.{to_z-of_z}
-use Rattle.ps_rational.proofs.NamedNumbers.{product_lowest, is_product}
+use Rattle.ps_meaning.proofs.NamedNumbers.{product_lowest, is_product}
 use Rattle.ps_frac.proofs.Reduced.{lowest_at}
 use Rattle.ps_frac.proofs.fraction.Fraction.mul.Goals as goal
 

@@ -1,7 +1,7 @@
 use Rattle.std.proofs.Common.{◌<◌, ◌^◌, ◌*◌, ◌/◌, FitsSigned, arith, subst, ap, rules, ◌∙◌}
 use Rattle.std.specs.Int.{w128}
 use Rattle.std.proofs.lemmas.Int.{to_z-of_z}
-use Rattle.ps_rational.proofs.NamedNumbers.{sum_lowest_terms, is_sum}
+use Rattle.ps_meaning.proofs.NamedNumbers.{sum_lowest_terms, is_sum}
 use Rattle.ps_frac.proofs.Reduced.{sum_over_at, sum_under_at, lowest_at}
 use Rattle.ps_frac.proofs.fraction.Fraction.sum_from.Goals as goal
 

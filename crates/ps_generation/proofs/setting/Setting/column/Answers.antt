@@ -2,10 +2,10 @@ use Rattle.std.proofs.Common.{rules, ◌≡◌, w8, ap, ◌∙◌, FitsSigned}
 use Rattle.std.proofs.lemmas.Int.{to_z-of_z}
 use Rattle.ps_problem.specs.Problems.{AreParts, bounds_in}
 use Rattle.ps_formula.specs.Nodes.{truths}
-use Rattle.ps_phases.specs.Columns.{column_over, cost_over}
+use Rattle.ps_runs.specs.Columns.{column_over, cost_over}
 use Rattle.ps_runs.specs.Subjects.{given_in, both_in}
 use Rattle.ps_runs.specs.Rows.{phase_of}
-use Rattle.ps_phases.proofs.NodeColumns.{column_is, cost_is}
+use Rattle.ps_runs.proofs.NodeColumns.{column_is, cost_is}
 use Rattle.ps_generation.proofs.setting.Setting.column.Goals as goal
 
 pub returns : goal.returns

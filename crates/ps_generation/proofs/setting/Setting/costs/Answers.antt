@@ -5,12 +5,12 @@ use Rattle.ps_table.specs.declared.home.Home.{Home}
 use Rattle.ps_table.specs.declared.costs.Costs.{Costs}
 use Rattle.ps_simplex.specs.declared.phase.Phase.{Phase}
 use Rattle.ps_claims.specs.declared.claim_kind.ClaimKind.{ClaimKind}
-use Rattle.ps_phases.specs.Columns.{home_cost, costs_over}
+use Rattle.ps_runs.specs.Columns.{home_cost, costs_over}
 use Rattle.ps_runs.specs.Subjects.{Subject, setting_of, IsAsked, both_in}
 use Rattle.ps_runs.specs.Rows.{phase_of}
 use Rattle.ps_runs.specs.Rows.{homes_of}
-use Rattle.ps_phases.specs.Tables.{costs_for}
-use Rattle.ps_phases.proofs.NodeColumns.{costs_are}
+use Rattle.ps_runs.specs.Tables.{costs_for}
+use Rattle.ps_runs.proofs.NodeColumns.{costs_are}
 use Rattle.ps_problem.specs.Problems.{Parts}
 use Rattle.ps_generation.specs.Phases.{LimitedSubject}
 use Rattle.ps_generation.proofs.setting.Setting.costs.Goals as goal

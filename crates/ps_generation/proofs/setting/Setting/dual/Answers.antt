@@ -4,10 +4,10 @@ use Rattle.ps_table.specs.Pricing.{cost_at}
 use Rattle.ps_bland.specs.Rules.{simplex_of}
 use Rattle.ps_problem.specs.declared.bound.Bound.{Bound}
 use Rattle.ps_problem.specs.Problems.{bounds_in, bound_of}
-use Rattle.ps_certificate.specs.Certificates.{dual_of}
+use Rattle.ps_claims.specs.Certificates.{dual_of}
 use Rattle.ps_runs.specs.Certificates.{HaveSameNumbers, table_dual}
 use Rattle.ps_runs.specs.Subjects.{asked_in}
-use Rattle.ps_ends.specs.Duals.{IsTableDual}
+use Rattle.ps_generation.specs.Duals.{IsTableDual}
 use Rattle.ps_generation.specs.Rounds.{IsDualOver}
 use Rattle.ps_generation.proofs.setting.Setting.dual.Goals as goal
 

@@ -1,6 +1,6 @@
 use Rattle.std.proofs.Common.{rules, ◌≡◌, length, sym, subst}
 use Rattle.ps_problem.specs.Problems.{bounds_in}
-use Rattle.ps_certificate.specs.Printed.{IsPrintedDual}
+use Rattle.ps_claims.specs.Printed.{IsPrintedDual}
 use Rattle.ps_answer.specs.declared.answer.Dual.{Dual}
 use Rattle.ps_generation.specs.Phases.{LimitedSubject, IsSpread}
 use Rattle.ps_generation.specs.Spreading.{spread_of}

@@ -3,13 +3,13 @@ use Rattle.ps_meaning.specs.Formula.{World}
 use Rattle.ps_table.specs.declared.home.Home.{Home}
 use Rattle.ps_table.specs.Tableau.{HasUnitHomes, HasBasicHomes, IsTableForHomes}
 use Rattle.ps_problem.specs.Problems.{bounds_in}
-use Rattle.ps_phases.specs.Columns.{homes_over}
+use Rattle.ps_runs.specs.Columns.{homes_over}
 use Rattle.ps_runs.specs.Subjects.{setting_of, frame_of}
 use Rattle.ps_runs.specs.Runs.{IsStart}
 use Rattle.ps_runs.specs.Rows.{homes_of}
-use Rattle.ps_phases.specs.Tables.{IsRunTable, stage_at}
-use Rattle.ps_phases.proofs.NodeColumns.{homes_are}
-use Rattle.ps_phases.proofs.Adding.{new_table, new_stage}
+use Rattle.ps_runs.specs.Tables.{IsRunTable, stage_at}
+use Rattle.ps_runs.proofs.NodeColumns.{homes_are}
+use Rattle.ps_runs.proofs.Adding.{new_table, new_stage}
 use Rattle.ps_generation.proofs.setting.Setting.start.Goals as goal
 
 pub returns : goal.returns

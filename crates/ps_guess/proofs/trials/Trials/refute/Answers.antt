@@ -1,5 +1,5 @@
 use Rattle.std.proofs.Common.{rules, ◌≡◌, subst}
-use Rattle.ps_forms.specs.Forms.{Form, form_of}
+use Rattle.ps_clause.specs.Forms.{Form, form_of}
 use Rattle.ps_problem.specs.Problems.{Parts, AreParts}
 use Rattle.ps_sat.specs.Searches.{IsOutcome}
 use Rattle.ps_sat.specs.declared.searching.Outcome.{Outcome}

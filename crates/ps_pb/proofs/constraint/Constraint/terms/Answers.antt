@@ -1,6 +1,6 @@
 use Rattle.std.proofs.Common.{sym, ap, ◌∙◌}
-use Rattle.ps_steps.specs.Weights.{weighted}
-use Rattle.ps_steps.specs.Constraints.{Constraint}
+use Rattle.ps_pb.specs.Weights.{weighted}
+use Rattle.ps_pb.specs.Constraints.{Constraint}
 use Rattle.ps_pb.proofs.Summed.{weighted-terms_of}
 use Rattle.ps_pb.proofs.constraint.Constraint.terms.Goals as goal
 

@@ -1,10 +1,10 @@
 use Rattle.std.proofs.Common.{◌≡◌, ◌++◌, ◌∷◌, [], ℤ, List, length, Some, sym, ap, ◌∙◌, subst}
-use Rattle.ps_steps.specs.Assignments.{AreDifferent}
-use Rattle.ps_steps.specs.Weights.{clause_of}
-use Rattle.ps_steps.specs.Steps.{Step, Entails, known_of, with_step}
-use Rattle.ps_steps.proofs.Ids.{known_of-append}
-use Rattle.ps_steps.proofs.Lawful.{lawful-entails}
-use Rattle.ps_steps.proofs.Short.{lawful-different}
+use Rattle.ps_pb.specs.Assignments.{AreDifferent}
+use Rattle.ps_pb.specs.Weights.{clause_of}
+use Rattle.ps_pb.specs.Steps.{Step, Entails, known_of, with_step}
+use Rattle.ps_pb.proofs.Ids.{known_of-append}
+use Rattle.ps_pb.proofs.Lawful.{lawful-entails}
+use Rattle.ps_pb.proofs.Short.{lawful-different}
 use Rattle.ps_pbcheck.specs.Checked.{Checked}
 use Rattle.ps_pbcheck.proofs.Starts.{none_left}
 use Rattle.ps_pbcheck.proofs.checker.Checker.take.Goals as goal

@@ -1,6 +1,6 @@
 use Rattle.std.proofs.Common.{◌≡◌, ◌++◌, [], ◌∷◌, map, arith, ap, sym, subst, ◌∙◌}
 use Rattle.std.specs.List.{All}
-use Rattle.ps_steps.specs.Assignments.{AreDifferent}
+use Rattle.ps_pb.specs.Assignments.{AreDifferent}
 use Rattle.ps_pbcheck.specs.Followed.{lits_in, held_of}
 use Rattle.ps_pbcheck.proofs.Relisted.{all_differ, held_start}
 use Rattle.ps_pbcheck.proofs.held.Held.new.Goals as goal

@@ -1,5 +1,5 @@
 use Rattle.std.proofs.Common.{rules, ◌≡◌, ◌∙◌, List, length, sym, ap, subst}
-use Rattle.ps_forms.specs.Forms.{Form}
+use Rattle.ps_clause.specs.Forms.{Form}
 use Rattle.ps_problem.specs.declared.sentence.Sentence.{Sentence}
 use Rattle.ps_problem.specs.Problems.{AreParts, bounds_in}
 use Rattle.ps_runs.specs.Kept.{kept_of, with_sentences}

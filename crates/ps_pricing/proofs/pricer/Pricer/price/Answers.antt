@@ -1,7 +1,7 @@
 use Rattle.std.proofs.Common.{rules, ◌≡◌, ◌∙◌, ℤ, pos, ◌-ℤ◌, to_z, of_z, ap, arith}
 use Rattle.std.specs.Int.{w128}
 use Rattle.std.proofs.lemmas.Int.{ints}
-use Rattle.ps_steps.specs.Weights.{Weighted, constraint_of}
+use Rattle.ps_pb.specs.Weights.{Weighted, constraint_of}
 use Rattle.ps_problem.specs.Problems.{AreParts}
 use Rattle.ps_runs.specs.Searches.{IsSpentSearch}
 use Rattle.ps_maxsat.specs.Values.{IsPriced, goal_of}

@@ -2,8 +2,8 @@ use Rattle.std.proofs.Common.{rules, ◌≡◌, ℕ, Option, sym, subst}
 use Rattle.std.specs.Option.{IfSome}
 use Rattle.ps_runs.specs.Subjects.{given_in, both_in}
 use Rattle.ps_problem.specs.Problems.{AreParts, bounds_in}
-use Rattle.ps_certificate.specs.Rows.{AreOverNodes, IsNode}
-use Rattle.ps_certificate.proofs.Sums.{node-given, node-both}
+use Rattle.ps_claims.specs.Rows.{AreOverNodes, IsNode}
+use Rattle.ps_claims.proofs.CombinationSums.{node-given, node-both}
 use Rattle.ps_maxsat.specs.declared.problem.Wcnf.{Wcnf}
 use Rattle.ps_pricing.specs.Pricings.{IsWcnf}
 use Rattle.ps_runs.proofs.Asked.{given_there, both_there}

@@ -1,5 +1,5 @@
 use Rattle.std.proofs.Common.{◌+◌, refl, subst}
-use Rattle.ps_line.specs.Lines.{IsLineFault}
+use Rattle.ps_reader.specs.Lines.{IsLineFault}
 use Rattle.ps_reader.proofs.Taking.{takes_line, stopped_line, lack_line}
 use Rattle.ps_reader.proofs.lines.Lines.take.Goals as goal
 

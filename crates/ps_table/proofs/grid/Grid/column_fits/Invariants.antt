@@ -1,5 +1,5 @@
 use Rattle.std.proofs.Common.{◌<◌, ℕ}
-use Rattle.ps_rational.specs.Wide.{Fits, size_limit}
+use Rattle.ps_meaning.specs.Wide.{Fits, size_limit}
 use Rattle.ps_table.specs.Grids.{cell_in}
 use Rattle.ps_table.proofs.grid.Grid.column_fits.Given as goal
 

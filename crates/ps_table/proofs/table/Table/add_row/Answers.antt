@@ -1,6 +1,6 @@
 use Rattle.std.proofs.Common.{◌≡◌, ◌<◌, ◌∙◌, subst, rules}
-use Rattle.ps_rational.specs.Rational.{Rational, zero_q}
-use Rattle.ps_rational.specs.Wide.{Fits, size_limit}
+use Rattle.ps_meaning.specs.Rational.{Rational, zero_q}
+use Rattle.ps_meaning.specs.Wide.{Fits, size_limit}
 use Rattle.ps_table.specs.Tableau.{number_of}
 use Rattle.ps_table.specs.Pricing.{part_at}
 use Rattle.ps_table.specs.Grids.{carried_before}

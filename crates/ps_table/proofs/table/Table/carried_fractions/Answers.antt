@@ -1,5 +1,5 @@
 use Rattle.std.proofs.Common.{◌∙◌}
-use Rattle.ps_rational.proofs.Field.{zero_is_fraction}
+use Rattle.ps_meaning.proofs.Field.{zero_is_fraction}
 use Rattle.ps_table.proofs.table.Table.carried_fractions.Goals as goal
 
 pub add_rows-requires-clause-sum : goal.add_rows-requires-clause-sum

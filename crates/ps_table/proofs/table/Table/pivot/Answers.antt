@@ -1,5 +1,5 @@
 use Rattle.std.proofs.Common.{◌≢◌, ◌<◌, set, subst, sym}
-use Rattle.ps_rational.specs.Rational.{zero_q}
+use Rattle.ps_meaning.specs.Rational.{zero_q}
 use Rattle.ps_table.specs.Tableau.{Tableau, HasColumn, IsPivot, entry_of, rows_of, IsTableFor}
 use Rattle.ps_table.specs.Grids.{ArePivotedIn}
 use Rattle.ps_table.proofs.Columns.{pivot_is, pivot_stands}

@@ -1,7 +1,7 @@
 use Rattle.std.proofs.Common.{◌≤◌, length}
-use Rattle.ps_parse.specs.Derivations.{IsParsed}
-use Rattle.ps_parse.specs.Taking.{CountsAtMost}
-use Rattle.ps_parse.specs.Kept.{machine_of}
+use Rattle.ps_read.specs.Derivations.{IsParsed}
+use Rattle.ps_read.specs.Taking.{CountsAtMost}
+use Rattle.ps_read.specs.Kept.{machine_of}
 use Rattle.ps_text_tests.proofs.parsing.reading.feed_all.Given as goal
 
 abbrev pub invariant-loop-k : goal.invariant-loop-k

@@ -2,7 +2,7 @@ use Rattle.std.proofs.Common.{◌≡◌, ◌<◌, ◌*◌, ◌/◌, pos, ◌*ℤ
 use Rattle.std.specs.Int.{IsGcd, ◌∣◌}
 use Rattle.std.proofs.lemmas.Int.{ints, to_z-of_z}
 use Rattle.std.proofs.Math.Nat.{mul-pos, div-le_self}
-use Rattle.ps_rational.specs.Parts.{part_pos}
+use Rattle.ps_meaning.specs.Parts.{part_pos}
 use Rattle.ps_whole.specs.Whole.{number_at, under_at}
 use Rattle.ps_whole.specs.Pivots.{raw_number, IsContent}
 use Rattle.ps_whole.proofs.Changes.{other_cell, less_is, kept_change}

@@ -1,6 +1,6 @@
 use Rattle.std.proofs.Common.{◌≡◌, ◌<◌, pos, ◌*ℤ◌, unsigned_abs, arith, subst, sym, refl, ap, ◌∙◌, rules, FitsSigned, to_z, of_z, w64}
 use Rattle.std.proofs.lemmas.Int.{ints, to_z-of_z}
-use Rattle.ps_rational.proofs.IntRing.{*ℤ_comm, *ℤ-one}
+use Rattle.ps_meaning.proofs.IntRing.{*ℤ_comm, *ℤ-one}
 use Rattle.ps_whole.specs.Whole.{number_at, under_at}
 use Rattle.ps_whole.specs.Pivots.{raw_number, IsContent}
 use Rattle.ps_whole.proofs.Changes.{own_cell}

@@ -1,7 +1,7 @@
 use Rattle.std.proofs.Common.{◌≡◌, ◌++◌, ◌∷◌, [], ◌<◌, ◌^◌, pos, ◌*ℤ◌, unsigned_abs, int_div, arith, subst, sym, ap, ◌∙◌, rules, FitsSigned, w64}
 use Rattle.std.specs.Int.{w128}
 use Rattle.std.proofs.lemmas.Int.{to_z-of_z}
-use Rattle.ps_rational.proofs.ExactQuotient.{quot_exact}
+use Rattle.ps_meaning.proofs.ExactQuotient.{quot_exact}
 use Rattle.ps_whole.specs.Pivots.{raw_number, IsNarrowed}
 use Rattle.ps_whole.proofs.Pushed.{pushed_next}
 use Rattle.ps_whole.proofs.rows.Whole.push_numbers.Goals as goal

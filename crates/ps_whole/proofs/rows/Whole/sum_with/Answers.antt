@@ -1,6 +1,6 @@
 use Rattle.std.proofs.Common.{pos, arith, ◌≡◌, ◌*ℤ◌, IfSome, subst, sym, ap, ◌∙◌, rules, FitsSigned, to_z, of_z, w8, w64}
 use Rattle.std.proofs.lemmas.Int.{ints, to_z-of_z}
-use Rattle.ps_rational.specs.Rational.{fraction, mul}
+use Rattle.ps_meaning.specs.Rational.{fraction, mul}
 use Rattle.ps_whole.specs.Whole.{number_at, under_at, whole_at}
 use Rattle.ps_whole.specs.Sums.{value_of, IsSumOf}
 use Rattle.ps_whole.proofs.Added.{cost_entry, no_cost}

@@ -1,7 +1,7 @@
 use Rattle.std.proofs.Common.{◌≡◌, ◌*◌, ◌/◌, pos, ◌*ℤ◌, unsigned_abs, IfSome, arith, subst, ap, ◌∙◌, rules, FitsSigned, to_z, of_z, w64}
 use Rattle.std.specs.Int.{w128}
 use Rattle.std.proofs.lemmas.Int.{to_z-of_z, to_z_pos}
-use Rattle.ps_rational.specs.Rational.{fraction}
+use Rattle.ps_meaning.specs.Rational.{fraction}
 use Rattle.ps_whole.specs.Sums.{value_of, IsSumOf}
 use Rattle.ps_whole.proofs.Added.{other_sum, common_is, common_positive, some_map}
 use Rattle.ps_whole.proofs.sums.WholeSum.plus_other.Goals as goal

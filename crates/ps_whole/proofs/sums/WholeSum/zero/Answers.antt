@@ -1,4 +1,4 @@
-use Rattle.ps_rational.proofs.Field.{zero_is_fraction}
+use Rattle.ps_meaning.proofs.Field.{zero_is_fraction}
 use Rattle.ps_whole.proofs.sums.WholeSum.zero.Goals as goal
 
 pub returns-clause-value : goal.returns-clause-value

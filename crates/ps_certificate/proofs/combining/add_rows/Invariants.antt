@@ -1,5 +1,0 @@
-use Rattle.ps_certificate.proofs.Sums.{IsAdded}
-use Rattle.ps_certificate.proofs.combining.add_rows.Given as goal
-
-abbrev pub invariant-loop-i : goal.invariant-loop-i
-invariant-loop-i l = IsAdded l.initial.sum l.rows l.bounds l.i l.sum

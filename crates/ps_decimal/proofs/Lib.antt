@@ -1,3 +1,0 @@
-pub mod Rounding
-pub mod Digits
-pub mod Ranges

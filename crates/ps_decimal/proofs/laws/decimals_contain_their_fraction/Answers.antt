@@ -1,5 +1,0 @@
-use Rattle.ps_decimal.proofs.Rounding.{contain_law}
-use Rattle.ps_decimal.proofs.laws.decimals_contain_their_fraction.Goals as goal
-
-pub returns : goal.returns
-returns c = record { contain = contain_law }

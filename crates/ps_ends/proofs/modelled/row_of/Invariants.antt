@@ -1,6 +1,0 @@
-use Rattle.std.proofs.Common.{◌<◌, ℕ}
-use Rattle.ps_ends.specs.Models.{IsBasicIn}
-use Rattle.ps_ends.proofs.modelled.row_of.Given as goal
-
-abbrev pub invariant-loop-row : goal.invariant-loop-row
-invariant-loop-row l = (i : ℕ) → i < l.row → ¬ IsBasicIn l.table l.number i

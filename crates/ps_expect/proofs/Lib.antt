@@ -1,3 +1,0 @@
-pub mod Figures
-pub mod Groups
-pub mod Seen

@@ -1,6 +1,0 @@
-pub mod Alone
-pub mod Ends
-pub mod Readers
-pub mod Exact
-pub mod Knowing
-pub mod Callers

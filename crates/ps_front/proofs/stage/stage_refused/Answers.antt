@@ -1,9 +1,0 @@
-use Rattle.std.proofs.Common.{sym, ap}
-use Rattle.ps_front.specs.Stages.{behind_refusal}
-use Rattle.ps_front.proofs.stage.stage_refused.Goals as goal
-
-pub returns-in-At : goal.returns-in-At
-returns-in-At c = sym (ap (λ e. behind_refusal e c.args.all) c.in-At.is)
-
-pub returns-in-NoMemory : goal.returns-in-NoMemory
-returns-in-NoMemory c = sym (ap (λ e. behind_refusal e c.args.all) c.in-NoMemory.is)

@@ -1,4 +1,0 @@
--- Meaning
-pub mod Solutions
-pub mod Known
-pub mod Turns

@@ -1,6 +1,0 @@
-use Rattle.std.proofs.Common.{◌≡◌, ◌++◌, take}
-use Rattle.ps_json.specs.Queries.{queries_text}
-use Rattle.ps_json.proofs.queries.write_queries.Given as goal
-
-abbrev pub invariant-loop-place : goal.invariant-loop-place
-invariant-loop-place l = l.out.items ≡ l.fn.out.items ++ queries_text l.digits l.problem (take l.place l.parts)

@@ -1,7 +1,0 @@
-use Rattle.std.proofs.Common.{◌≡◌, take}
-use Rattle.std.specs.Str.Parse.{digits_value}
-use Rattle.ps_line.specs.Numerals.{capped_size}
-use Rattle.ps_line.proofs.numeral.value.Given as goal
-
-abbrev pub invariant-loop-digit : goal.invariant-loop-digit
-invariant-loop-digit l = l.value ≡ capped_size (digits_value 10 (take l.digit-index l.digits))

@@ -1,4 +1,0 @@
-use Rattle.ps_master.proofs.run.Run.lower.Goals as goal
-
-pub returns-clause-answer : goal.returns-clause-answer
-returns-clause-answer c = c.side.ensures.answer

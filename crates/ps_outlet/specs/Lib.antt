@@ -1,2 +1,0 @@
--- Meaning
-pub mod Readers

@@ -1,5 +1,0 @@
-use Rattle.ps_parse.proofs.Next.{followed}
-use Rattle.ps_parse.proofs.laws.the_machine_stands_for_a_derivation.Goals as goal
-
-pub returns-clause-next : goal.returns-clause-next
-returns-clause-next c = followed

@@ -1,0 +1,21 @@
+use Rattle.ps_pb.proofs.Lawful.{lawful-met, lawful-entails, contradiction-unmet}
+use Rattle.ps_pb.proofs.Onward.{onward, list-entailed, refuted-unmet}
+use Rattle.ps_pb.proofs.laws.lawful_steps_follow.Goals as goal
+
+pub returns-clause-step : goal.returns-clause-step
+returns-clause-step c = lawful-met
+
+pub returns-clause-entailed : goal.returns-clause-entailed
+returns-clause-entailed c = lawful-entails
+
+pub returns-clause-contradiction : goal.returns-clause-contradiction
+returns-clause-contradiction c = contradiction-unmet
+
+pub returns-clause-refuted : goal.returns-clause-refuted
+returns-clause-refuted c = refuted-unmet
+
+pub returns-clause-list : goal.returns-clause-list
+returns-clause-list c = list-entailed
+
+pub returns-clause-onward : goal.returns-clause-onward
+returns-clause-onward c = onward

@@ -1,6 +1,0 @@
-use Rattle.std.proofs.Common.{◌≡◌, take}
-use Rattle.ps_phases.specs.Columns.{costs_over}
-use Rattle.ps_phases.proofs.costs.world_costs.Given as goal
-
-abbrev pub invariant-loop-place : goal.invariant-loop-place
-invariant-loop-place l = l.costs ≡ costs_over l.phase l.formulas l.both (take l.place l.pool)

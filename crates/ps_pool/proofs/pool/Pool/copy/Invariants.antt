@@ -1,5 +1,0 @@
-use Rattle.std.proofs.Common.{◌≡◌, take}
-use Rattle.ps_pool.proofs.pool.Pool.copy.Given as goal
-
-abbrev pub invariant-loop-world : goal.invariant-loop-world
-invariant-loop-world l = l.copy ≡ take l.world-index l.self

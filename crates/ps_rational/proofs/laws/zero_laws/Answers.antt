@@ -1,7 +1,0 @@
-use Rattle.ps_rational.proofs.Zeros as zeros
-use Rattle.ps_rational.proofs.laws.zero_laws.Goals as goal
-
-pub returns : goal.returns
-returns c = record {
-  narrow = record { left = zeros.left_narrow; right = zeros.right_narrow; sum = zeros.sum_narrow; difference = zeros.difference_narrow };
-}

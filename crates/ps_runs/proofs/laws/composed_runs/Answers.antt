@@ -1,5 +1,0 @@
-use Rattle.ps_runs.proofs.Composed as composed
-use Rattle.ps_runs.proofs.laws.composed_runs.Goals as goal
-
-pub returns : goal.returns
-returns c = record { composed = record { leads = composed.leads_on; pending = composed.leads_on_pending; pivots = composed.pivots_in-append } }

@@ -1,0 +1,12 @@
+use Rattle.ps_runs.proofs.Kept as kept
+use Rattle.ps_runs.proofs.run_laws.kept_sentences.Goals as goal
+
+pub returns : goal.returns
+returns c = record {
+  kept = record {
+    parts = kept.parts-kept;
+    bounds = λ ks p. kept.bounds-kept ks p.sentences;
+    all = kept.parts-all;
+    refuted = kept.refuted-kept;
+  };
+}

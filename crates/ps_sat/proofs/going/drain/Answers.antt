@@ -1,0 +1,12 @@
+use Rattle.std.proofs.Common.{refl, ◌∙◌}
+use Rattle.ps_sat.proofs.Drained.{going-on}
+use Rattle.ps_sat.proofs.going.drain.Goals as goal
+
+pub go-preserved : goal.go-preserved
+go-preserved c =
+    let e = c.go_to-found.ensures in
+    record {
+      going = going-on c.args.trail.now.variables c.args.known.now c.args.w.now c.args.trail.now c.go.w c.go.trail c.take.new.w c.in-Some.node c.variables.result c.go_to-found.new.w c.go_to-found.new.trail c.args.lit c.go.found c.go_to-found.result
+          refl c.variables.ensures c.requires.false_is c.go.invariant.going c.in-Some.ensures.some e.kept e.nodes e.ids e.extends e.good e.listed e.placed e.none e.conflict;
+      room = e.room ∙ c.take.ensures.room ∙ c.go.invariant.room;
+    }

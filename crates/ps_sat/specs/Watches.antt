@@ -1,0 +1,123 @@
+-- Watched literals: of each clause of two or more literals, two are watched, and each literal has the list of its watches.
+use Rattle.std.specs.Prelude.{ℕ, ◌+◌, ◌*◌, ◌≡◌, ◌≢◌, ◌<◌, ℤ, pos, true}
+use Rattle.std.specs.Prelude.{false, if◌then◌else◌, Some, List, [], length, slice_index_or, slice_set, ◌⊎◌}
+use Rattle.ps_pb.specs.Assignments.{Assignment, place, is_positive, value_of, Includes}
+use Rattle.ps_pb.specs.Constraints.{Constraint, HasTerm}
+use Rattle.ps_pb.specs.Weights.{IsPlain, IsWithin}
+use Rattle.ps_pb.specs.Steps.{Known, constraint_at, known_of}
+use Rattle.ps_learn.specs.Trails.{Trail, values, level, up_to, AreReasons}
+use Rattle.ps_learn.specs.Rest.{IsLonger}
+use Rattle.ps_sat.specs.declared.links.TheConstants.{END}
+use Rattle.ps_sat.specs.declared.visiting.Watches.{Watches}
+use Rattle.ps_sat.specs.Links.{Holds, AreLinked, IsPushed, list_at}
+
+-- the place of the list of a literal
+abbrev pub slot_of : ℤ → ℕ
+slot_of l = place l * 2 + (if is_positive l then 1 else 0)
+
+-- the place of the list of the watches that are on the way, behind those of the literals of so many variables
+abbrev pub spare_of : ℕ → ℕ
+spare_of v = v * 2
+
+abbrev pub lit_at : List ℤ → ℕ → ℤ
+lit_at lits n = slice_index_or lits n (pos 0)
+
+abbrev pub number_at : List ℕ → ℕ → ℕ
+number_at xs n = slice_index_or xs n 0
+
+abbrev pub lit_of : Watches → ℕ → ℤ
+lit_of w n = lit_at w.lits.items n
+
+abbrev pub other_of : Watches → ℕ → ℕ
+other_of w n = number_at w.others.items n
+
+abbrev pub list_of : Watches → ℕ → List ℕ
+list_of w s = list_at w.links.next.items w.links.heads.items s
+
+-- a watch is of a literal of a clause of these variables, and its other one is of another literal of the same clause
+pub record IsWatch (v : ℕ) (known : Known) (lits : List ℤ) (others ids : List ℕ) (n : ℕ) : Type 0 where
+  pub clause : Constraint
+  pub known_at : constraint_at known (number_at ids n) ≡ Some clause
+  pub plain : IsPlain clause
+  pub inside : IsWithin v clause
+  pub term : HasTerm (lit_at lits n) 1 clause.terms
+  pub other_within : number_at others n < length lits
+  pub back : number_at others (number_at others n) ≡ n
+  pub same : number_at ids (number_at others n) ≡ number_at ids n
+  pub differ : lit_at lits n ≢ lit_at lits (number_at others n)
+
+-- how watches are kept
+pub record IsKept (v : ℕ) (known : List Constraint) (w : Watches) : Type 0 where
+  pub linked : AreLinked w.links.next.items w.links.heads.items
+  pub nodes : length w.links.next.items ≡ length w.lits.items
+  pub slots : length w.links.heads.items ≡ spare_of v + 1
+  pub others : length w.others.items ≡ length w.lits.items
+  pub ids : length w.ids.items ≡ length w.lits.items
+  pub watches : (n : ℕ) → n < length w.lits.items → IsWatch v (known_of known) w.lits.items w.others.items w.ids.items n
+
+-- each watch but one stands in the list of its literal, or is on the way
+pub record IsListed (v : ℕ) (w : Watches) (but : ℕ) : Type 0 where
+  pub at : (n : ℕ) → n < length w.lits.items → n ≢ but
+      → Holds n (list_of w (spare_of v)) ⊎ Holds n (list_of w (slot_of (lit_of w n)))
+
+-- each watch but one is on the way, or stands in the list of its literal, and then, if this is the one that is gone through, the
+-- other watched literal is true
+pub record IsPlaced (v : ℕ) (w : Watches) (f : ℤ) (b : Assignment) (but : ℕ) : Type 0 where
+  pub at : (n : ℕ) → n < length w.lits.items → n ≢ but
+      → Holds n (list_of w (spare_of v))
+      ⊎ (Holds n (list_of w (slot_of (lit_of w n)))
+      × (slot_of (lit_of w n) ≡ slot_of f → value_of b (lit_of w (other_of w n)) ≡ Some true))
+
+-- no watch is on the way, and each stands in the list of its literal
+pub record IsFiled (v : ℕ) (w : Watches) : Type 0 where
+  pub spare : list_of w (spare_of v) ≡ []
+  pub at : (n : ℕ) → n < length w.lits.items → Holds n (list_of w (slot_of (lit_of w n)))
+
+-- where a watched literal is false in one assignment, the other one is true in another
+pub record AreGood (w : Watches) (a c : Assignment) : Type 0 where
+  pub at : (n : ℕ) → n < length w.lits.items → value_of a (lit_of w n) ≡ Some false
+      → value_of c (lit_of w (other_of w n)) ≡ Some true
+
+-- that is kept, for assignments that a third one includes
+pub record KeepsGood (w w' : Watches) (b : Assignment) : Type 0 where
+  pub at : (a c : Assignment) → Includes b a → Includes b c → AreGood w a c → AreGood w' a c
+
+-- a watch was put into the list of its literal
+pub record IsPut (w w' : Watches) (n : ℕ) : Type 0 where
+  pub pushed : IsPushed w.links.next.items w.links.heads.items w'.links.next.items w'.links.heads.items (slot_of (lit_of w n)) n
+  pub lits : w'.lits.items ≡ w.lits.items
+  pub others : w'.others.items ≡ w.others.items
+  pub ids : w'.ids.items ≡ w.ids.items
+
+-- a watch became one of another literal
+pub record IsMoved (w w' : Watches) (n : ℕ) (l : ℤ) : Type 0 where
+  pub pushed : IsPushed w.links.next.items w.links.heads.items w'.links.next.items w'.links.heads.items (slot_of l) n
+  pub lits : w'.lits.items ≡ slice_set w.lits.items n l
+  pub others : w'.others.items ≡ w.others.items
+  pub ids : w'.ids.items ≡ w.ids.items
+
+-- implied literals were added to a trail
+pub record Extends (known : Known) (t u : Trail) : Type 0 where
+  pub variables : u.variables ≡ t.variables
+  pub longer : IsLonger t.entries u.entries
+  pub level_is : level u ≡ level t
+  pub includes : Includes (values u) (values t)
+  pub lower : (m : ℕ) → m < level t → up_to m u ≡ up_to m t
+  pub reasons : AreReasons t.variables known t.entries → AreReasons u.variables known u.entries
+
+-- the watches on the way are the same
+abbrev pub IsSpareKept : ℕ → Watches → Watches → Type 0
+IsSpareKept v w w' = list_of w' (spare_of v) ≡ list_of w (spare_of v)
+
+-- a visit of the one watch that has no place gives it one
+abbrev pub KeepsPlaced : Watches → Trail → Watches → Trail → ℕ → Type 0
+KeepsPlaced w t w' t' n = (f : ℤ) → value_of (values t) f ≡ Some false → IsPlaced t.variables w f (values t) n
+    → IsPlaced t.variables w' f (values t') END
+
+-- at each level below this one: where a watched literal is false, the other one is true
+pub record IsClosedBelow (w : Watches) (t : Trail) (n : ℕ) : Type 0 where
+  pub at : (m : ℕ) → m < n → AreGood w (values (up_to m t)) (values (up_to m t))
+
+-- where the watches are good at all levels below the present one, they are good at each level below this one
+abbrev pub StayClosed : Watches → Trail → Watches → Trail → ℕ → Type 0
+StayClosed w t w' t' n = IsClosedBelow w t (level t) → IsClosedBelow w' t' n

@@ -1,0 +1,12 @@
+use Rattle.std.proofs.Common.{◌++◌}
+use Rattle.std.specs.Prelude.{codes}
+use Rattle.ps_spoken.specs.Spoken.{cause_text}
+use Rattle.ps_spoken.proofs.Said.{said}
+use Rattle.ps_spoken.proofs.object.write_open.Goals as goal
+
+pub returns : goal.returns
+returns c =
+    let why = cause_text c.args.cause.now in
+    let after = c.append-2.new.out.items in
+    said c.append-2.result c.args.out.now.items c.append.new.out.items after (codes ",\"verdict\":\"open\",\"why\":\"") (why ++ codes "\"") c.in_ok-append.ensures
+    (said c.append-2.result c.append.new.out.items c.write_cause.new.out.items after why (codes "\"") c.in_ok-write_cause.ensures c.append-2.ensures)

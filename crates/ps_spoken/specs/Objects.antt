@@ -1,0 +1,59 @@
+-- The object of an answer.
+use Rattle.std.specs.Prelude.{ℕ, ℤ, pos, List, ◌++◌, codes, Option}
+use Rattle.std.specs.Fmt.{signed_decimal}
+use Rattle.ps_problem.specs.Problems.{Parts}
+use Rattle.ps_answer.specs.declared.answer.Answer.{Answer}
+use Rattle.ps_answer.specs.declared.answer.Cause.{Cause}
+use Rattle.ps_answer.specs.declared.answer.Verdict.{Verdict}
+use Rattle.ps_answer.specs.declared.answer.Verdict.TheVariants.{Consistent, Inconsistent, Open}
+use Rattle.ps_spoken.specs.declared.clash.Clash.{Clash}
+use Rattle.ps_spoken.specs.Spoken.{cause_text}
+use Rattle.ps_spoken.specs.declared.object.Told.{Told}
+use Rattle.ps_spoken.specs.JsonClashes.{clash_member}
+use Rattle.ps_spoken.specs.Counts.{counts_object}
+use Rattle.ps_spoken.specs.Queries.{queries_text}
+use Rattle.ps_spoken.specs.Strings.{string_text}
+
+-- what is told beside an answer: how many digits decimals have, the file's name, which sentences clash, the lines of
+-- sentences, how much is open, and the status
+pub record Beside : Type 0 where
+  pub digits : ℕ
+  pub file : List ℕ
+  pub clash : Option Clash
+  pub lines : List ℕ
+  pub unfinished : ℤ
+  pub status : ℕ
+
+-- what is told beside an answer, out of references
+abbrev pub facts : Told → Beside
+facts t = record {
+  digits = t.digits;
+  file = t.file.now;
+  clash = t.clash.now;
+  lines = t.lines.now;
+  unfinished = t.unfinished;
+  status = t.status;
+}
+
+-- the members of an open verdict
+abbrev pub open_members : Cause → List ℕ
+open_members c = codes ",\"verdict\":\"open\",\"why\":\"" ++ (cause_text c ++ codes "\"")
+
+-- the members of a verdict
+abbrev pub verdict_members : Verdict → List ℕ
+verdict_members (Consistent m) = codes ",\"verdict\":\"consistent\",\"why\":null"
+verdict_members (Inconsistent d) = codes ",\"verdict\":\"inconsistent\",\"why\":null"
+verdict_members (Open c) = open_members c
+
+-- the members behind the queries
+unfoldable pub end_text : Parts → Beside → List ℕ
+end_text p t =
+    codes "],\"clash\":" ++ (clash_member p t.lines t.clash
+    ++ (codes ",\"counts\":" ++ (counts_object p t.unfinished
+    ++ (codes ",\"status\":" ++ (signed_decimal (pos t.status) ++ codes "}\n")))))
+
+-- the object of an answer to a problem, on one line
+unfoldable pub object : Parts → Answer → Beside → List ℕ
+object p a t =
+    codes "{\"file\":" ++ (string_text t.file
+    ++ (verdict_members a.verdict ++ (codes ",\"queries\":[" ++ (queries_text t.digits p a.parts ++ end_text p t))))

@@ -1,0 +1,99 @@
+//! The object of an answer.
+ghost use Rattle.std.specs.Prelude.{◌<◌, ◌≤◌};
+ghost use Rattle.ps_spoken.specs.Numbers.{Says};
+ghost use Rattle.ps_frac.specs.declared.limits.TheConstants.{MOST_DIGITS};
+ghost use Rattle.ps_spoken.specs.Objects.{end_text, facts, object, open_members};
+ghost use Rattle.ps_spoken.specs.Objects.{verdict_members};
+
+use crate::cause::write_cause;
+use crate::clash::Clash;
+use crate::counts::write_counts;
+use crate::json_clash::write_clash;
+use crate::numbers::{append, number};
+use crate::queries::write_queries;
+use crate::strings::write_string;
+use ps_answer::{Answer, Cause, Verdict};
+use ps_io::NoMemory;
+use ps_problem::Problem;
+use std::alloc::Global;
+
+/// What is told beside an answer.
+#[derive(Clone, Copy, Drop)]
+pub struct Told<'a> {
+    /// How many digits decimals have behind the point.
+    pub digits: u32,
+    /// The name of the problem's file.
+    pub file: &'a [u8],
+    /// Which sentences clash, where some do.
+    pub clash: &'a Option<Clash>,
+    /// The lines on which the sentences begin.
+    pub lines: &'a [u32],
+    /// How much is open.
+    pub unfinished: i128,
+    /// The number of the status.
+    pub status: u8,
+}
+
+// Writes the members of an open verdict.
+fn write_open(out: &mut Vec<u8>, cause: &Cause) -> Result<(), NoMemory>
+    ensures { Says result out.old.items out.new.items (open_members cause.now) }
+{
+    append(out, b",\"verdict\":\"open\",\"why\":\"")?;
+    write_cause(out, cause)?;
+    append(out, b"\"")
+}
+
+// Writes the members of a verdict.
+fn write_verdict(out: &mut Vec<u8>, verdict: &Verdict) -> Result<(), NoMemory>
+    ensures { Says result out.old.items out.new.items (verdict_members verdict.now) }
+{
+    match verdict {
+        Verdict::Consistent(_) => append(out, b",\"verdict\":\"consistent\",\"why\":null"),
+        Verdict::Inconsistent(_) => append(out, b",\"verdict\":\"inconsistent\",\"why\":null"),
+        Verdict::Open(cause) => write_open(out, cause),
+    }
+}
+
+// Writes the members behind the queries.
+#[tactic(auto, unfolding(crate::specs::Objects::end_text))]
+fn write_end(
+    alloc: Global,
+    out: &mut Vec<u8>,
+    problem: &Problem,
+    told: &Told<'_>,
+) -> Result<(), NoMemory>
+    ensures { Says result out.old.items out.new.items
+        (end_text problem.now (facts told.now)) }
+{
+    append(out, b"],\"clash\":")?;
+    write_clash(alloc, out, problem, told.lines, told.clash)?;
+    append(out, b",\"counts\":")?;
+    write_counts(out, problem, told.unfinished)?;
+    append(out, b",\"status\":")?;
+    number(out, i128::from(told.status))?;
+    append(out, b"}\n")
+}
+
+/// Writes the object of an answer to a problem behind what was written, on one line: the verdict,
+/// each query by its own text with its bounds, exact and as decimals rounded outward, which
+/// sentences clash, counts, and the status.
+#[tactic(auto, unfolding(crate::specs::Objects::object))]
+pub fn write_object(
+    alloc: Global,
+    out: &mut Vec<u8>,
+    problem: &Problem,
+    answer: &Answer,
+    told: &Told<'_>,
+) -> Result<(), NoMemory>
+    requires some { 0 < told.now.digits }
+    requires few { told.now.digits ≤ MOST_DIGITS }
+    ensures { Says result out.old.items out.new.items
+        (object problem.now answer.now (facts told.now)) }
+{
+    append(out, b"{\"file\":")?;
+    write_string(out, told.file)?;
+    write_verdict(out, &answer.verdict)?;
+    append(out, b",\"queries\":[")?;
+    write_queries(alloc, out, problem, answer.parts.as_slice(), told.digits)?;
+    write_end(alloc, out, problem, told)
+}

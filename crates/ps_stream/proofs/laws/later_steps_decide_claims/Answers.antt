@@ -1,5 +1,0 @@
-use Rattle.ps_stream.proofs.LaterSteps.{decided_later}
-use Rattle.ps_stream.proofs.laws.later_steps_decide_claims.Goals as goal
-
-pub returns : goal.returns
-returns c = record { decided = decided_later }

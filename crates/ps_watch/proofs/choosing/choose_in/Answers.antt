@@ -1,6 +1,0 @@
-use Rattle.ps_watch.proofs.Clauses.{violated-none}
-use Rattle.ps_trail.specs.Trails.{values}
-use Rattle.ps_watch.proofs.choosing.choose_in.Goals as goal
-
-pub returns-in-None : goal.returns-in-None
-returns-in-None c = violated-none c.args.c.now c.values.result.now (values c.args.trail.now) c.values.ensures.value (c.is_plain.ensures c.if-not-is_plain.false) c.in-None.ensures.none

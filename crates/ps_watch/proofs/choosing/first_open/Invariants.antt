@@ -1,7 +1,0 @@
-use Rattle.std.proofs.Common.{◌≡◌, drop}
-use Rattle.ps_steps.specs.Weights.{terms_of}
-use Rattle.ps_watch.specs.Choices.{some_open}
-use Rattle.ps_watch.proofs.choosing.first_open.Given as goal
-
-abbrev pub invariant-loop-term : goal.invariant-loop-term
-invariant-loop-term l = some_open l.a (terms_of l.term-items) ≡ some_open l.a (terms_of (drop l.term-index l.term-items))

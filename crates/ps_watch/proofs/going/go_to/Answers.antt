@@ -1,9 +1,0 @@
-use Rattle.ps_watch.proofs.Visited.{put-spare}
-use Rattle.ps_watch.proofs.Reading.{own-within}
-use Rattle.ps_watch.proofs.going.go_to.Goals as goal
-
-pub put-requires-clause-within : goal.put-requires-clause-within
-put-requires-clause-within c = own-within c.args.trail.now.variables c.args.known.now c.args.w.now c.args.node c.requires.kept c.requires.node
-
-pub returns-in-Some-clause-spare : goal.returns-in-Some-clause-spare
-returns-in-Some-clause-spare c = put-spare c.args.trail.now.variables c.args.known.now c.args.w.now c.put.new.w c.args.node c.requires.kept c.requires.node c.put.ensures.put

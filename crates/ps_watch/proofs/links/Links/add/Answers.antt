@@ -1,5 +1,0 @@
-use Rattle.ps_watch.proofs.Linked.{grown}
-use Rattle.ps_watch.proofs.links.Links.add.Goals as goal
-
-pub returns-clause-added : goal.returns-clause-added
-returns-clause-added c = rw c.push_reserved.ensures.items (grown _ _ _ c.requires.linked c.requires.few)

@@ -1,7 +1,0 @@
-use Rattle.std.proofs.Common.{◌≡◌, drop}
-use Rattle.ps_steps.specs.Weights.{terms_of}
-use Rattle.ps_watch.specs.Looks.{some_new}
-use Rattle.ps_watch.proofs.looking.open_other.Given as goal
-
-abbrev pub invariant-loop-term : goal.invariant-loop-term
-invariant-loop-term l = some_new l.a l.other (terms_of l.term-items) ≡ some_new l.a l.other (terms_of (drop l.term-index l.term-items))

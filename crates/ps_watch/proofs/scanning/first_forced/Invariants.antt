@@ -1,7 +1,0 @@
-use Rattle.std.proofs.Common.{◌≡◌, drop}
-use Rattle.ps_steps.specs.Constraints.{some_forced}
-use Rattle.ps_steps.specs.Weights.{terms_of}
-use Rattle.ps_watch.proofs.scanning.first_forced.Given as goal
-
-abbrev pub invariant-loop-term : goal.invariant-loop-term
-invariant-loop-term l = some_forced l.room l.a (terms_of l.term-items) ≡ some_forced l.room l.a (terms_of (drop l.term-index l.term-items))

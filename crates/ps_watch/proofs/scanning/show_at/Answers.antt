@@ -1,9 +1,0 @@
-use Rattle.std.proofs.Common.{◌≡◌, sym, Some}
-use Rattle.ps_steps.specs.Steps.{known_of, constraint_at}
-use Rattle.ps_watch.proofs.Rested.{known-fresh}
-use Rattle.ps_watch.proofs.scanning.show_at.Goals as goal
-
-pub returns-in-Forced : goal.returns-in-Forced
-returns-in-Forced c =
-    let at : constraint_at (known_of c.args.known.now) c.args.id ≡ Some c.in-Some.c.now = sym c.in-Some.ensures in
-    ((c.in-Some.c.now, at, c.in-Forced.ensures.0), known-fresh c.args.known.now c.args.a.now c.args.id c.in-Some.c.now c.in-Forced.lit c.requires.inside at c.in-Forced.ensures.0 c.in-Forced.ensures.1)

@@ -1,5 +1,0 @@
-use Rattle.ps_watch.proofs.Slacks.{AreFilledTo}
-use Rattle.ps_watch.proofs.sight.coefficients_of.Given as goal
-
-abbrev pub invariant-loop-term : goal.invariant-loop-term
-invariant-loop-term l = AreFilledTo l.variables l.term-items l.term-index l.coefficients.items
