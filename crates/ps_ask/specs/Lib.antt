@@ -1,6 +1,7 @@
--- Meaning
+-- Meaning: how much is read, and what is shown
 pub mod Late
 pub mod Statuses
+pub mod Reads
 pub mod Clashes
 pub mod Conditions
 pub mod Fronts
@@ -9,5 +10,3 @@ pub mod Shown
 pub mod Decimals
 -- Bridge: what a reply stands for
 pub mod Replies
--- How much is read
-pub mod Reads

@@ -13,7 +13,7 @@ mod turning;
 mod widening;
 
 pub use laws::row_laws;
-pub use limits::MOST_ROWS;
+pub use limits::{MOST_COLUMNS, MOST_ROWS};
 pub use rows::Whole;
 pub use sums::WholeSum;
 

@@ -1,4 +1,5 @@
+-- Meaning: what words spell and set, what is asked for, and why nothing is
 pub mod Numbers
 pub mod Options
-pub mod Refusals
 pub mod Requests
+pub mod Refusals
