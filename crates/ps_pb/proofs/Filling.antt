@@ -89,11 +89,11 @@ pub record SameBelow (n : ℕ) (f g : ℕ → ℤ) : Type 0 where
 fewer : (p : ℕ) (f g : ℕ → ℤ) → SameBelow (suc p) f g → SameBelow p f g
 fewer p f g s = record { each = λ q h. s.each q (omega arith) }
 
-sum_below-same : (n : ℕ) (f g : ℕ → ℤ) → SameBelow n f g → sum_below n f ≡ sum_below n g
+pub sum_below-same : (n : ℕ) (f g : ℕ → ℤ) → SameBelow n f g → sum_below n f ≡ sum_below n g
 sum_below-same zero f g s = refl
 sum_below-same (suc p) f g s = rw (sum_below-same p f g (fewer p f g s), s.each p (omega arith)) refl
 
-terms_below-same : (n : ℕ) (f g : ℕ → ℤ) → SameBelow n f g → terms_below n f ≡ terms_below n g
+pub terms_below-same : (n : ℕ) (f g : ℕ → ℤ) → SameBelow n f g → terms_below n f ≡ terms_below n g
 terms_below-same zero f g s = refl
 terms_below-same (suc p) f g s = rw (terms_below-same p f g (fewer p f g s), s.each p (omega arith)) refl
 

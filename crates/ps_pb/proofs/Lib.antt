@@ -16,3 +16,4 @@ pub mod Short
 pub mod Summed
 pub mod Filling
 pub mod Searched
+pub mod Sorted

@@ -95,7 +95,8 @@ fn are_positive(terms: &[(Lit, i128)]) -> bool
     terms.iter().all(|term| 1 <= term.1)
 }
 
-fn are_rising(terms: &[(Lit, i128)]) -> bool
+/// Whether the variables rise.
+pub(crate) fn are_rising(terms: &[(Lit, i128)]) -> bool
     ensures { result ≡ are_rising 0 terms.now }
 {
     let mut above = 0;

@@ -1,7 +1,7 @@
 //! Literals with whole numbers.
 ghost use Rattle.std.specs.Prelude.{◌≡◌, ◌++◌, [], ◌∷◌, length, slice_get, option_copied};
 ghost use Rattle.std.specs.Prelude.{◌<◌, ◌≤◌, ◌+◌, ◌^◌, ◌↔◌, unsigned_abs, IsTrue};
-ghost use Rattle.std.specs.Prelude.{IfOk, OnOk, OnErr, IfSome, IfNone};
+ghost use Rattle.std.specs.Prelude.{IfOk, OnOk, OnErr, IfSome, IfNone, IsPermutation};
 ghost use Rattle.ps_pb.specs.Weights.{size_sum};
 
 use crate::lit::Lit;
@@ -84,6 +84,13 @@ impl Terms {
         ensures none { IfNone result ((self.old ≡ []) × (self.new ≡ [])) }
     {
         self.items.pop()
+    }
+
+    /// Brings them into the order of their variables.
+    pub(crate) fn sort(&mut self)
+        ensures { IsPermutation self.old self.new }
+    {
+        self.items.sort_unstable_by_key(|term| term.0.variable());
     }
 }
 

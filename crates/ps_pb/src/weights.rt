@@ -1,10 +1,10 @@
 //! The constraint that bounds a sum of weighted literals from below.
 ghost use Rattle.std.specs.Prelude.{◌≡◌, ◌<◌, ◌≤◌, ◌+◌, ◌++◌, pos, length, IfOk, OnOk};
-ghost use Rattle.std.specs.Prelude.{replicate, unsigned_abs};
+ghost use Rattle.std.specs.Prelude.{replicate, unsigned_abs, IsPermutation};
 ghost use Rattle.ps_pb.specs.Assignments.{place};
 ghost use Rattle.ps_pb.specs.Weights.{size_sum, constant_part, constant_of, term_at, turned};
 ghost use Rattle.ps_pb.specs.Weights.{sum_below, last_variable, weighted};
-ghost use Rattle.ps_pb.specs.Weights.{constraint_of, clause_of};
+ghost use Rattle.ps_pb.specs.Weights.{constraint_of, clause_of, each_once};
 ghost use Rattle.ps_pb.specs.Limits.{most_weight};
 ghost use Rattle.ps_pb.specs.declared.limits.TheConstants.{MOST_VARIABLES};
 ghost use Rattle.ps_pb.specs.declared.limits.TheConstants.{MOST_SIZE};
@@ -12,11 +12,14 @@ ghost use Rattle.ps_pb.specs.Weighing.{SaysAtLeast};
 ghost use Rattle.ps_pb.specs.Coefficients.{number_at, with_weight, HasRoomFor, terms_of_numbers};
 ghost use Rattle.ps_pb.specs.Coefficients.{AreCoefficients, AreSmall};
 
-use crate::constraint::Constraint;
+use crate::constraint::{Constraint, are_rising};
 use crate::lit::Lit;
 use crate::terms::Terms;
 use ps_io::NoMemory;
 use std::alloc::Global;
+
+// Clauses of so many literals are sorted; for longer ones a table of the variables costs no more.
+const MOST_SORTED: usize = 64;
 
 /// The constraint that is met by exactly the full assignments whose true literals weigh at least
 /// `least`: like variables added, zero coefficients dropped, and a negative coefficient turned into
@@ -37,7 +40,33 @@ pub fn from_weights(
 }
 
 /// The clause of some literals: at least one of them is true.
+#[tactic(auto, using(crate::proofs::Sorted::sorted_normal, crate::proofs::Sorted::rising_clause))]
 pub fn clause(alloc: Global, lits: &[Lit]) -> Result<Constraint, NoMemory>
+    ensures { IfOk result (λ c. c ≡ clause_of lits.now) }
+{
+    if lits.len() <= MOST_SORTED {
+        let terms = sorted_terms(alloc, lits)?;
+        if are_rising(terms.as_slice()) {
+            return Ok(Constraint::of_normal(terms, 1));
+        }
+    }
+    clause_by_table(alloc, lits)
+}
+
+// The literals with weight 1, by variable.
+fn sorted_terms(alloc: Global, lits: &[Lit]) -> Result<Terms, NoMemory>
+    ensures { IfOk result (λ terms. IsPermutation (each_once lits.now) terms) }
+{
+    let mut terms = Terms::new(alloc);
+    for lit in lits {
+        terms.push((*lit, 1))?;
+    }
+    terms.sort();
+    Ok(terms)
+}
+
+// A literal may stand twice, or beside its opposite.
+fn clause_by_table(alloc: Global, lits: &[Lit]) -> Result<Constraint, NoMemory>
     ensures { IfOk result (λ c. c ≡ clause_of lits.now) }
 {
     let mut weights = Vec::with_capacity(alloc, lits.len())?;

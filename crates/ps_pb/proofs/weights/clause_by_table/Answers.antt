@@ -1,7 +1,7 @@
 use Rattle.std.proofs.Common.{◌≡◌, ◌≤◌, ◌^◌, length, take, ap, sym, ◌∙◌, arith}
 use Rattle.ps_pb.specs.Weights.{size_sum}
 use Rattle.ps_pb.proofs.Bounds.{each_once-size, each_once-length}
-use Rattle.ps_pb.proofs.weights.clause.Goals as goal
+use Rattle.ps_pb.proofs.weights.clause_by_table.Goals as goal
 
 pub from_weights-requires : goal.from_weights-requires
 from_weights-requires c =
