@@ -1,6 +1,6 @@
 -- The clause of literals in the order of their variables.
-use Rattle.std.proofs.Common.{◌≡◌, ◌≢◌, ℕ, zero, suc, ◌+◌, ◌-◌, ◌<◌, ◌≤◌, ℤ, pos, negsuc, ◌+ℤ◌, ◌-ℤ◌, neg_ℤ, ◌≤ℤ◌, Bool, true, false, cond, List, [], ◌∷◌, ◌++◌, length, arith, refl, sym, ap, ◌∙◌, inl, inr}
-use Rattle.std.specs.Prelude.{◌==◌, nat_lt, unsigned_abs, IsPermutation}
+use Rattle.std.proofs.Common.{◌≡◌, ℕ, zero, suc, ◌-◌, ◌<◌, ◌≤◌, ℤ, pos, negsuc, ◌+ℤ◌, ◌-ℤ◌, neg_ℤ, ◌≤ℤ◌, Bool, true, false, cond, List, [], ◌∷◌, ◌++◌, length, arith, refl, sym, ap, ◌∙◌, inl, inr}
+use Rattle.std.specs.Prelude.{◌==◌, unsigned_abs, IsPermutation}
 use Rattle.std.specs.List.{All, sum_by}
 use Rattle.std.proofs.lemmas.Int.{ints}
 use Rattle.std.proofs.lemmas.Bool.{cases_eq, and_parts, ltb-true}
@@ -9,10 +9,9 @@ use Rattle.std.proofs.lemmas.List.Elements.{All-nil, All-cons, All-head, All-tai
 use Rattle.std.proofs.lemmas.List.Sums.{sum_by-cons}
 use Rattle.std.proofs.lemmas.List.Sorted.{IsPermutation-sym, All-permutation, length_permutation, sum_by-IsPermutation}
 use Rattle.ps_pb.specs.Assignments.{place, is_positive}
-use Rattle.ps_pb.specs.Constraints.{Constraint}
-use Rattle.ps_pb.specs.Weights.{Weighted, size_sum, constant_of, constant_part, coefficient_at, variable_part, term_at, turned, terms_below, sum_below, last_variable, constraint_of, each_once, are_rising, terms_of, IsNormal}
+use Rattle.ps_pb.specs.Weights.{Weighted, size_sum, constant_of, constant_part, coefficient_at, term_at, turned, terms_below, sum_below, last_variable, constraint_of, each_once, are_rising, terms_of, IsNormal}
 use Rattle.ps_pb.proofs.Bounds.{each_once-length}
-use Rattle.ps_pb.proofs.Linear.{DiffersAt, IsZero, sum_below-change, sum_below-zero, coefficient-elsewhere, coefficient-own}
+use Rattle.ps_pb.proofs.Linear.{DiffersAt, sum_below-change, sum_below-zero, coefficient-elsewhere, coefficient-own}
 use Rattle.ps_pb.proofs.Filling.{SameBelow, sum_below-same, terms_below-same, constraint}
 
 -- a literal of weight 1
