@@ -24,7 +24,7 @@ use Rattle.ps_log.proofs.GoalShapes.{restored, pairs-positive, uncapped-terms, t
 g_is_letter : ◌≢◌ {A = ℕ} 103 32
 g_is_letter e = omega (arith, e)
 
-goal-spells : (line text : List ℕ) (g : Constraint) → line ≡ 103 ∷ 32 ∷ text → IsGoalText line g → SpellAll (words_of text) (goal_numbers g.degree (weighted g.terms))
+pub goal-spells : (line text : List ℕ) (g : Constraint) → line ≡ 103 ∷ 32 ∷ text → IsGoalText line g → SpellAll (words_of text) (goal_numbers g.degree (weighted g.terms))
 goal-spells line text g e t = text-spells 103 line text t.spellings (goal_numbers g.degree (weighted g.terms)) g_is_letter e t.words t.spelled
 
 -- a line without `g` and a space at its front
@@ -61,7 +61,7 @@ not-rising line text e r g t =
     let told = r.at g.degree (term_numbers (weighted g.terms) ++ pos 0 ∷ []) (goal-spells line text g e t) in
     true≢false (sym t.rising ∙ sym (ap (are_rising 0) (pairs-numbers (weighted g.terms))) ∙ sym told)
 
-text-of : (line text : List ℕ) (g : Constraint) → line ≡ 103 ∷ 32 ∷ text → SpellAll (words_of text) (goal_numbers g.degree (weighted g.terms)) → All (λ t. 1 ≤ t.1) g.terms
+pub text-of : (line text : List ℕ) (g : Constraint) → line ≡ 103 ∷ 32 ∷ text → SpellAll (words_of text) (goal_numbers g.degree (weighted g.terms)) → All (λ t. 1 ≤ t.1) g.terms
     → are_rising 0 (weighted g.terms) ≡ true → IsGoalText line g
 text-of line text g e p h r = record { spellings = words_of text; words = words-text 103 line text g_is_letter e; spelled = p; positive = h; rising = r }
 

@@ -5,6 +5,7 @@ pub mod GoalShapes
 pub mod Lengths
 pub mod LineAnswers
 pub mod LineShapes
+pub mod LongTexts
 pub mod ManyNumbers
 pub mod Parts
 pub mod Reading

@@ -19,7 +19,7 @@ use Rattle.ps_log.proofs.StepShapes.{Nonzero, step-by-numbers, step-parts, uncap
 s_is_letter : ◌≢◌ {A = ℕ} 115 32
 s_is_letter e = omega (arith, e)
 
-step-spells : (line text : List ℕ) (s : Step) → line ≡ 115 ∷ 32 ∷ text → IsStepText line s → SpellAll (words_of text) (step_numbers s.id s.lits s.hints)
+pub step-spells : (line text : List ℕ) (s : Step) → line ≡ 115 ∷ 32 ∷ text → IsStepText line s → SpellAll (words_of text) (step_numbers s.id s.lits s.hints)
 step-spells line text s e t = text-spells 115 line text t.spellings (step_numbers s.id s.lits s.hints) s_is_letter e t.words t.spelled
 
 -- a line without `s` and a space at its front
@@ -41,7 +41,7 @@ pub no-parts : (line text : List ℕ) (numbers : List ℤ) → line ≡ 115 ∷ 
 no-parts line text numbers e r none s t =
     none (subst HasParts (sym (exact-numbers line text numbers s e r t)) (capped-parts s t.nonzero))
 
-text-of : (line text : List ℕ) (s : Step) → line ≡ 115 ∷ 32 ∷ text → SpellAll (words_of text) (step_numbers s.id s.lits s.hints) → All Nonzero s.lits → IsStepText line s
+pub text-of : (line text : List ℕ) (s : Step) → line ≡ 115 ∷ 32 ∷ text → SpellAll (words_of text) (step_numbers s.id s.lits s.hints) → All Nonzero s.lits → IsStepText line s
 text-of line text s e p h = record { spellings = words_of text; words = words-text 115 line text s_is_letter e; spelled = p; nonzero = h }
 
 numbers-of : (s : Step) (id : ℤ) (lits hints : List ℤ) (numbers : List ℤ) → HasNumbers s id lits hints → AreParts numbers id lits hints → numbers ≡ step_numbers s.id s.lits s.hints

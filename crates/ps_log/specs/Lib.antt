@@ -13,3 +13,4 @@ pub mod TextLogs
 pub mod Lines
 pub mod Numbers
 pub mod GoalNumbers
+pub mod LongTexts

@@ -10,13 +10,15 @@ ghost use Rattle.ps_log.specs.GoalTexts.{HasGoal, IsGoalAnswer, IsGoalRefused};
 use crate::goal_parts::GoalParts;
 use crate::lettered::{after_letter, are_text_bytes};
 use crate::line_error::LineError;
+use crate::long_lines::long_goal;
 use crate::rising::variables_rise;
 use crate::words::{first_line, numbers};
+use ps_io::LONGEST_LINE;
 use ps_pb::Constraint;
 use std::alloc::Global;
 
 /// Reads the goal whose line stands at the front, and says how many bytes that line has with its
-/// line feed.
+/// line feed. Of a line that is longer than each within the limits no number is kept.
 pub fn read_goal(alloc: Global, bytes: &[u8]) -> Result<(Constraint, u64), LineError>
     ensures answer { IsGoalAnswer bytes.now result }
     ensures taken { (g : Linear) (n : ℕ) → HasGoal bytes.now g n → Gives result (Ok (g, n)) }
@@ -42,6 +44,9 @@ fn goal_of(alloc: Global, line: &[u8]) -> Result<Constraint, LineError>
         Some(text) => text,
         None => return Err(LineError::NotCanonical),
     };
+    if LONGEST_LINE <= line.len() {
+        return long_goal(line, text);
+    }
     let numbers = match numbers(alloc, text)? {
         Some(numbers) => numbers,
         None => return Err(LineError::NotCanonical),

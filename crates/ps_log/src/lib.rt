@@ -2,6 +2,7 @@
 #![tactic(auto)]
 
 mod error;
+mod fronts;
 mod goal_parts;
 mod goal_reader;
 mod held;
@@ -9,6 +10,7 @@ mod laws;
 mod lettered;
 mod limits;
 mod line_error;
+mod long_lines;
 mod numbers;
 mod numeral;
 mod rising;

@@ -8,13 +8,15 @@ ghost use Rattle.ps_log.specs.StepTexts.{IsStepText, HasStep, IsStepAnswer, IsSt
 
 use crate::lettered::{after_letter, are_text_bytes};
 use crate::line_error::LineError;
+use crate::long_lines::long_step;
 use crate::step_parts::StepParts;
 use crate::words::{first_line, numbers};
+use ps_io::LONGEST_LINE;
 use ps_pb::Step;
 use std::alloc::Global;
 
 /// Reads the step whose line stands at the front, and says how many bytes that line has with its
-/// line feed.
+/// line feed. Of a line that is longer than each within the limits no number is kept.
 pub fn read_step(alloc: Global, bytes: &[u8]) -> Result<(Step, u64), LineError>
     ensures answer { IsStepAnswer bytes.now result }
     ensures taken { (s : StepValue) (n : ℕ) → HasStep bytes.now s n → Gives result (Ok (s, n)) }
@@ -38,6 +40,9 @@ fn step_of(alloc: Global, line: &[u8]) -> Result<Step, LineError>
         Some(text) => text,
         None => return Err(LineError::NotCanonical),
     };
+    if LONGEST_LINE <= line.len() {
+        return long_step(line, text);
+    }
     let numbers = match numbers(alloc, text)? {
         Some(numbers) => numbers,
         None => return Err(LineError::NotCanonical),
