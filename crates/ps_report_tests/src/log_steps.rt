@@ -74,6 +74,36 @@ const STEPS: [(&[u8], u64, &[i32], &[u64], u64); 6] = [
     (b"s 7 1 1 0 6 6 0\n", 7, &[1, 1], &[6, 6], 16),
 ];
 
+// A front, a part that stands so often behind it that the line passes the longest that is written, and an end; and why that line
+// is refused.
+const LONG_LINES: [(&[u8], &[u8], &[u8], StepError); 20] = [
+    (b"s 7 0", b" 6", b" 0\n", StepError::TooLarge),
+    (b"s 7 0", b" 0", b"\n", StepError::TooLarge),
+    (
+        b"s 7 0",
+        b" 123456789012345678901234567890",
+        b" 0\n",
+        StepError::TooLarge,
+    ),
+    (b"s 7 0 1", b"0", b" 0\n", StepError::TooLarge),
+    (b"s 1", b"0", b" 0 6 0\n", StepError::TooLarge),
+    (b"s 7", b" 1", b" 0 6 0\n", StepError::TooLarge),
+    (b"s 7", b" -1", b" 0 0\n", StepError::TooLarge),
+    (b"s 7 -1", b"0", b" 0 6 0\n", StepError::TooLarge),
+    (b"s 7 0", b" 6", b"\n", StepError::NotCanonical),
+    (b"s 7 0", b" 6", b" 0 5\n", StepError::NotCanonical),
+    (b"s 7 0", b" 6", b" 06 0\n", StepError::NotCanonical),
+    (b"s 7 0", b" 6", b" -6 0\n", StepError::NotCanonical),
+    (b"s 7 0", b" 6", b" - 0\n", StepError::NotCanonical),
+    (b"s 7 0", b" 6", b"  0\n", StepError::NotCanonical),
+    (b"s 7 0", b" 6", b" 0 \n", StepError::NotCanonical),
+    (b"s 7", b" 1", b"\n", StepError::NotCanonical),
+    (b"s 7", b" 1", b" 0\n", StepError::NotCanonical),
+    (b"s 7 -0", b" 1", b" 0 6 0\n", StepError::NotCanonical),
+    (b"s -7 0", b" 6", b" 0\n", StepError::NotCanonical),
+    (b"s 7 0", b" 6", b" x 0\n", StepError::BadByte),
+];
+
 fn is_refused(alloc: Global, line: &[u8], why: StepError) -> bool {
     match read_step(alloc, line) {
         Ok(_) => false,
@@ -138,6 +168,35 @@ fn long_lists_are_refused(rt: HostRuntime) {
     let alloc = rt.alloc();
     assert!(rt; is_long(alloc, 1024, 1025));
     assert!(rt; is_too_long(alloc, 1025, 1) && is_too_long(alloc, 1, 1026));
+}
+
+fn repeated(alloc: Global, front: &[u8], part: &[u8], end: &[u8]) -> Option<Vec<u8>> {
+    let mut line = Vec::new(alloc);
+    line.extend_from_slice(front).ok()?;
+    for _ in 0..70_000 {
+        line.extend_from_slice(part).ok()?;
+    }
+    line.extend_from_slice(end).ok()?;
+    Some(line)
+}
+
+fn are_long_refused(alloc: Global) -> bool {
+    for (front, part, end, why) in &LONG_LINES {
+        match repeated(alloc, front, part, end) {
+            Some(line) => {
+                if !is_refused(alloc, line.as_slice(), *why) {
+                    return false;
+                }
+            }
+            None => return false,
+        }
+    }
+    true
+}
+
+#[test]
+fn longer_lines_than_are_written_are_refused(rt: HostRuntime) {
+    assert!(rt; are_long_refused(rt.alloc()));
 }
 
 fn has_parts(step: &Step, id: u64, lits: &[i32], hints: &[u64]) -> bool {
