@@ -107,9 +107,13 @@ fn eliminate(cells: &mut [f64], start: usize, width: usize, row: usize, column: 
     let (pivot, below) = rest.split_at_mut(width);
     scale(pivot, 1.0 / column[row]);
     for (target, entry) in above.chunks_exact_mut(width).zip(&column[..row]) {
-        add_multiple(target, -entry, pivot);
+        if *entry != 0.0 {
+            add_multiple(target, -entry, pivot);
+        }
     }
     for (target, entry) in below.chunks_exact_mut(width).zip(&column[row + 1..]) {
-        add_multiple(target, -entry, pivot);
+        if *entry != 0.0 {
+            add_multiple(target, -entry, pivot);
+        }
     }
 }
