@@ -7,6 +7,7 @@
 mod aim;
 mod climbing;
 mod effort;
+mod face_goal;
 mod float_goal;
 mod goal;
 mod limits;

@@ -4,6 +4,7 @@ use ps_formula::{World, eval};
 use ps_io::NoMemory;
 use ps_problem::Problem;
 use std::alloc::Global;
+use std::collections::HashMap;
 
 /// A world with the truth of its nodes.
 #[derive(Drop)]
@@ -28,14 +29,19 @@ impl Member {
 /// Different worlds, in the order in which they came.
 #[derive(Drop)]
 pub struct WorldPool {
+    alloc: Global,
     members: Vec<Member>,
+    /// The place of each.
+    places: HashMap<World, usize>,
 }
 
 impl WorldPool {
     /// The pool of no worlds.
     pub fn new(alloc: Global) -> WorldPool {
         WorldPool {
+            alloc,
             members: Vec::new(alloc),
+            places: HashMap::new(alloc),
         }
     }
 
@@ -59,15 +65,13 @@ impl WorldPool {
 
     /// The place of a world.
     pub fn place(&self, world: &World) -> Option<usize> {
-        let wanted = world.as_slice();
-        (0..self.members.len()).find(|place| match self.members.get(*place) {
-            Some(member) => member.world.as_slice() == wanted,
-            None => false,
-        })
+        self.places.get(world).copied()
     }
 
     /// Adds a world that isn't there.
     pub fn add(&mut self, member: Member) -> Result<(), NoMemory> {
+        let place = self.members.len();
+        self.places.insert(member.world.copy(self.alloc)?, place)?;
         self.members.push(member)?;
         Ok(())
     }

@@ -2,9 +2,10 @@
 
 use crate::climbing::Climbing;
 use crate::effort::Effort;
+use crate::face_goal::FaceGoal;
 use crate::float_goal::FloatGoal;
 use crate::goal::Goal;
-use crate::limits::{ALL_CONFLICTS, FEW_ATOMS, MOST_SEARCHES};
+use crate::limits::{ALL_CONFLICTS, FACE_SEARCHES, FEW_ATOMS, MOST_SEARCHES};
 use crate::pool::Member;
 use crate::relaxed::Relaxed;
 use crate::scaled::Goals;
@@ -248,5 +249,38 @@ impl FloatPricer {
             found.push(member)?;
         }
         Ok(())
+    }
+
+    /// A world of a large gain within the face on which a goal, at most 0 in each world, is 0. Each search
+    /// is for a gain that is a quarter more than the one before. None where there is no gain, and where
+    /// the first search is spent.
+    pub fn price_on_face(
+        &mut self,
+        problem: &Problem,
+        relaxed: &Relaxed,
+        face: &Goal,
+        gain: &FloatGoal,
+    ) -> Result<Option<Member>, NoMemory> {
+        let Some(sought) = FaceGoal::new(self.alloc, relaxed, face, gain)? else {
+            return Ok(None);
+        };
+        let mut best = None;
+        let mut least = sought.least;
+        for _ in 0..FACE_SEARCHES {
+            let effort = if best.is_none() {
+                Effort::Long
+            } else {
+                Effort::Short
+            };
+            let Ended::Found(world) = self.seek(problem, &sought.goal, least, effort)? else {
+                return Ok(best);
+            };
+            let Some(member) = Member::new(self.alloc, problem, world)? else {
+                return Ok(best);
+            };
+            least = quarter_more(sought.goal.value(&member.truth).max(least));
+            best = Some(member);
+        }
+        Ok(best)
     }
 }

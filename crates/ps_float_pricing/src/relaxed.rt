@@ -111,6 +111,30 @@ impl Relaxed {
         Ok(column)
     }
 
+    /// The rows in which the column of a world differs from that of another, and by how much.
+    pub fn changes(
+        &self,
+        alloc: Global,
+        given: Option<u32>,
+        own: &[bool],
+        other: &[bool],
+    ) -> Result<Vec<(usize, f64)>, AllocError> {
+        let mut changes = Vec::new(alloc);
+        let head = self
+            .entry(0, given, other)
+            .wrapping_sub(self.entry(0, given, own));
+        if head != 0 {
+            changes.push((0, nearest_i64_to_f64(head)))?;
+        }
+        for (number, row) in (1..usize::MAX).zip(&self.rows) {
+            let change = row.entry(other).wrapping_sub(row.entry(own));
+            if change != 0 {
+                changes.push((number, nearest_i64_to_f64(change) / row.denominator()))?;
+            }
+        }
+        Ok(changes)
+    }
+
     /// Writes what the rows' prices make of a world's gain for an aim.
     pub fn write_gain(&self, aim: Aim, duals: &[f64], goal: &mut FloatGoal) {
         goal.clear();
@@ -120,6 +144,25 @@ impl Relaxed {
             Aim::Least(query) => goal.add(query.both, -1.0),
             Aim::Greatest(query) => goal.add(query.both, 1.0),
         }
+        self.add_prices(duals, goal);
+    }
+
+    /// Writes what the rows' prices make of a world's gain where no world costs anything, with the price of
+    /// the evidence.
+    pub fn write_free_gain(
+        &self,
+        given: Option<u32>,
+        head: f64,
+        duals: &[f64],
+        goal: &mut FloatGoal,
+    ) {
+        goal.clear();
+        goal.add_given(given, head);
+        self.add_prices(duals, goal);
+    }
+
+    // Adds the rows' prices, which follow that of the evidence.
+    fn add_prices(&self, duals: &[f64], goal: &mut FloatGoal) {
         for (row, dual) in self.rows.iter().zip(duals.iter().skip(1)) {
             let price = dual * nearest_i64_to_f64(row.sign());
             if price != 0.0 {
