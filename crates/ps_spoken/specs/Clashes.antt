@@ -1,5 +1,5 @@
 -- What is written of sentences that clash.
-use Rattle.std.specs.Prelude.{ℕ, ◌-◌, pos, Bool, true, false, if◌then◌else◌, List, [], ◌∷◌, ◌++◌, codes}
+use Rattle.std.specs.Prelude.{ℕ, ◌-◌, ◌==◌, pos, Bool, true, false, if◌then◌else◌, List, [], ◌∷◌, ◌++◌, codes, length}
 use Rattle.std.specs.Prelude.{Option, Some, None, slice_get, get_or}
 use Rattle.std.specs.List.{list_all}
 use Rattle.std.specs.Fmt.{signed_decimal}
@@ -73,14 +73,32 @@ abbrev pub rest_texts : List Clashing → List ℕ
 rest_texts [] = []
 rest_texts (c ∷ cs) = rest_text c ++ rest_texts cs
 
+-- this is one sentence
+abbrev pub is_alone : List Clashing → Bool
+is_alone cs = length cs == 1
+
+-- without any one of these, or without the one, all the others can be met together
+abbrev pub all_met_text : Bool → List ℕ
+all_met_text true = codes "leave it out, and all the others can be met together\n"
+all_met_text false = codes "leave any one of them out, and all the others can be met together\n"
+
+-- without any one of these, the others of them can; of one nothing is told
+abbrev pub others_met_text : Bool → List ℕ
+others_met_text true = []
+others_met_text false = codes "leave any one of them out, and the others of these no longer clash\n"
+
 -- what is left where one of these is left out: all the others, or it is told one by one
 abbrev pub left_text : List Clashing → List ℕ
-left_text cs = if are_met cs then codes "leave any one of them out, and all the others can be met together\n"
-    else codes "leave any one of them out, and the others of these no longer clash\n" ++ rest_texts cs
+left_text cs = if are_met cs then all_met_text (is_alone cs) else others_met_text (is_alone cs) ++ rest_texts cs
+
+-- what is wrong with sentences that clash, or with the one that no distribution meets
+abbrev pub heading_text : Bool → List ℕ
+heading_text true = codes "no distribution meets this sentence:\n"
+heading_text false = codes "these sentences clash:\n"
 
 -- sentences that clash
 abbrev pub core_text : Parts → List ℕ → List Clashing → List ℕ
-core_text p lines cs = codes "these sentences clash:\n" ++ (clash_texts p lines cs ++ left_text cs)
+core_text p lines cs = heading_text (is_alone cs) ++ (clash_texts p lines cs ++ left_text cs)
 
 -- which sentences clash, or what stopped the search for them
 abbrev pub clash_text : Parts → List ℕ → Clash → List ℕ

@@ -2,11 +2,11 @@
 ghost use Rattle.std.specs.Prelude.{◌≡◌};
 ghost use Rattle.ps_spoken.specs.Numbers.{Says};
 ghost use Rattle.ps_spoken.specs.Clashes.{clash_text, clash_texts, clashing_text};
-ghost use Rattle.ps_spoken.specs.Clashes.{core_text, line_at, sentence_text};
+ghost use Rattle.ps_spoken.specs.Clashes.{core_text, heading_text, line_at, sentence_text};
 
 use crate::cause::write_cause;
 use crate::numbers::{append, number};
-use crate::rests::write_left;
+use crate::rests::{is_alone, write_left};
 use ps_answer::{Cause, Verdict};
 use ps_canonical::write_statement;
 use ps_io::{List, NoMemory};
@@ -94,6 +94,16 @@ fn write_all_clashing(
     Ok(())
 }
 
+// Writes what is wrong with sentences that clash.
+fn write_heading(out: &mut Vec<u8>, is_alone: bool) -> Result<(), NoMemory>
+    ensures { Says result out.old.items out.new.items (heading_text is_alone) }
+{
+    if is_alone {
+        return append(out, b"no distribution meets this sentence:\n");
+    }
+    append(out, b"these sentences clash:\n")
+}
+
 // Writes sentences that clash.
 fn write_core(
     alloc: Global,
@@ -105,7 +115,7 @@ fn write_core(
     ensures { Says result out.old.items out.new.items
         (core_text problem.now lines.now clashing.now) }
 {
-    append(out, b"these sentences clash:\n")?;
+    write_heading(out, is_alone(clashing))?;
     write_all_clashing(alloc, out, problem, lines, clashing)?;
     write_left(out, clashing)
 }

@@ -1,8 +1,9 @@
 //! What a problem comes to without one of the sentences that clash, for people.
 ghost use Rattle.std.specs.Prelude.{◌≡◌};
 ghost use Rattle.ps_spoken.specs.Numbers.{Says};
-ghost use Rattle.ps_spoken.specs.Clashes.{are_met, is_met, left_text, rest_text, rest_texts};
-ghost use Rattle.ps_spoken.specs.Clashes.{rest_words, without_text};
+ghost use Rattle.ps_spoken.specs.Clashes.{all_met_text, are_met, is_alone, is_met, left_text};
+ghost use Rattle.ps_spoken.specs.Clashes.{others_met_text, rest_text, rest_texts, rest_words};
+ghost use Rattle.ps_spoken.specs.Clashes.{without_text};
 
 use crate::cause::write_cause;
 use crate::clash::Clashing;
@@ -22,6 +23,13 @@ fn are_met(clashing: &[Clashing]) -> bool
     ensures { result ≡ are_met clashing.now }
 {
     clashing.iter().all(|sentence| is_met(sentence))
+}
+
+/// Whether this is one sentence, which no distribution meets.
+pub(crate) fn is_alone(clashing: &[Clashing]) -> bool
+    ensures { result ≡ is_alone clashing.now }
+{
+    clashing.len() == 1
 }
 
 // Writes what the others come to.
@@ -67,19 +75,43 @@ fn write_rests(out: &mut Vec<u8>, clashing: &[Clashing]) -> Result<(), NoMemory>
     Ok(())
 }
 
-/// Writes what is left where one of these is left out.
-pub fn write_left(out: &mut Vec<u8>, clashing: &[Clashing]) -> Result<(), NoMemory>
-    ensures { Says result out.old.items out.new.items (left_text clashing.now) }
+// Writes that all the others can be met together without any one of these.
+fn write_all_met(out: &mut Vec<u8>, is_alone: bool) -> Result<(), NoMemory>
+    ensures { Says result out.old.items out.new.items (all_met_text is_alone) }
 {
-    if are_met(clashing) {
+    if is_alone {
         return append(
             out,
-            b"leave any one of them out, and all the others can be met together\n",
+            b"leave it out, and all the others can be met together\n",
         );
     }
     append(
         out,
+        b"leave any one of them out, and all the others can be met together\n",
+    )
+}
+
+// Writes that these alone can be met without any one of them; nothing of one alone.
+fn write_others_met(out: &mut Vec<u8>, is_alone: bool) -> Result<(), NoMemory>
+    ensures { Says result out.old.items out.new.items (others_met_text is_alone) }
+{
+    if is_alone {
+        return append(out, b"");
+    }
+    append(
+        out,
         b"leave any one of them out, and the others of these no longer clash\n",
-    )?;
+    )
+}
+
+/// Writes what is left where one of these is left out.
+pub fn write_left(out: &mut Vec<u8>, clashing: &[Clashing]) -> Result<(), NoMemory>
+    ensures { Says result out.old.items out.new.items (left_text clashing.now) }
+{
+    let is_alone = is_alone(clashing);
+    if are_met(clashing) {
+        return write_all_met(out, is_alone);
+    }
+    write_others_met(out, is_alone)?;
     write_rests(out, clashing)
 }
