@@ -1,5 +1,5 @@
 -- What the words of a long line spell, looked at one by one.
-use Rattle.std.proofs.Common.{◌≡◌, ◌≢◌, ℕ, ◌≤◌, ℤ, pos, negsuc, ◌≤ℤ◌, true, false, List, [], ◌∷◌, ◌++◌, length, map, get_or, Bool, refl, sym, ap, subst, ◌∙◌, append-nil, arith, All, unsigned_abs}
+use Rattle.std.proofs.Common.{◌≡◌, ◌≢◌, ℕ, ◌≤◌, ℤ, pos, negsuc, true, List, [], ◌∷◌, ◌++◌, length, Bool, refl, sym, ap, subst, ◌∙◌, append-nil, arith, All, unsigned_abs}
 use Rattle.std.specs.Prelude.{◌↔◌, IsTrue}
 use Rattle.std.specs.List.{join_with_byte}
 use Rattle.std.proofs.lemmas.Int.{ints}
@@ -13,12 +13,10 @@ use Rattle.ps_pb.specs.Weights.{weighted, are_rising}
 use Rattle.ps_log.specs.Texts.{hint_numbers, term_numbers, step_numbers, goal_numbers}
 use Rattle.ps_log.specs.Limits.{IsStepWithin, IsGoalWithin}
 use Rattle.ps_log.specs.Spellings.{words_of, IsDecimal, Spells, SpellAll}
-use Rattle.ps_log.specs.Numbers.{capped}
-use Rattle.ps_log.specs.GoalNumbers.{pairs_from, TellsRising}
+use Rattle.ps_log.specs.GoalNumbers.{TellsRising}
 use Rattle.ps_log.specs.GoalTexts.{IsGoalText}
 use Rattle.ps_log.specs.StepTexts.{IsStepText}
-use Rattle.ps_log.specs.Told.{number_of}
-use Rattle.ps_log.specs.LongTexts.{SpellHints, SpellLits, SpellStep, SpellTerms, SpellGoal, SpellsSome, IsCountOf, IsPositiveOf, IsNonzeroOf, IsAnyOf, StartsWith, EndsWithIt, StartsWithTerm, EndsWithTerm}
+use Rattle.ps_log.specs.LongTexts.{SpellHints, SpellLits, SpellStep, SpellTerms, SpellGoal, IsCountOf, IsPositiveOf, IsNonzeroOf, IsAnyOf, StartsWith, EndsWithIt, StartsWithTerm, EndsWithTerm}
 use Rattle.ps_log.proofs.GoalAnswers as goals
 use Rattle.ps_log.proofs.GoalShapes.{pairs-numbers}
 use Rattle.ps_log.proofs.Lengths.{step_is_short, goal_is_short}
@@ -220,16 +218,7 @@ terms-end text ends = (λ h. by h.terms h.spelled h.positive, λ e. record { ter
     by [] s a = only_zero text s
     by (t ∷ ts) s a = more t ts (words_of text) refl s (first_in IsTermPositive t ts a)
 
--- a goal begins with its degree
-pub goal-on : (text rest : List ℕ) → StartsWith IsAnyOf text rest → SpellGoal (words_of text) ↔ SpellTerms (words_of rest)
-goal-on text rest f = (
-  λ h. tail f.word (words_of rest) (subst SpellGoal f.words h),
-  λ h. subst SpellGoal (sym f.words) (record { degree = f.is.0; terms = h.terms; spelled = (f.is.1, h.spelled); positive = h.positive }),
-)
-  where
-    tail : (w : List ℕ) (ws : List (List ℕ)) → SpellGoal (w ∷ ws) → SpellTerms ws
-    tail w ws h = record { terms = h.terms; spelled = h.spelled.1; positive = h.positive }
-
+-- a goal begins with its degree, and more follows
 pub goal-none : (text : List ℕ) → EndsWithIt IsAnyOf text → SpellGoal (words_of text) → ⊥
 goal-none text ends h = by (words_of text) refl h.spelled
   where
@@ -300,6 +289,3 @@ terms-told text rest b h e z = let end = terms-end rest e in (λ t. h.1 (end.1 (
 
 pub step-told : (text rest : List ℕ) (b : Bool) → StartsWith IsCountOf text rest → IsTrue b ↔ SpellLits (words_of rest) → IsTrue b ↔ SpellStep (words_of text)
 step-told text rest b f z = let on = step-on text rest f in (λ t. on.1 (z.0 t), λ s. z.1 (on.0 s))
-
-pub goal-told : (text rest : List ℕ) (b : Bool) → StartsWith IsAnyOf text rest → IsTrue b ↔ SpellTerms (words_of rest) → IsTrue b ↔ SpellGoal (words_of text)
-goal-told text rest b f z = let on = goal-on text rest f in (λ t. on.1 (z.0 t), λ s. z.1 (on.0 s))
