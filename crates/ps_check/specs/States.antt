@@ -51,6 +51,10 @@ AnswersTaken s rest result = (lines : Lines) → HasTaken s lines → Answers s.
 pub record HasTakenOn (old : StreamState) (line : List ℕ) (new : StreamState) : Type 0 where
   pub taken : (lines : Lines) → HasTaken old lines → HasTaken new (lines ++ line ∷ [])
 
+-- a line, given with its feed, was taken behind those that were taken before
+pub record HasTakenFed (old : StreamState) (line : List ℕ) (new : StreamState) : Type 0 where
+  pub on : (text : List ℕ) → IsOneLine text → line ≡ text ++ 10 ∷ [] → HasTakenOn old text new
+
 -- a line was read behind those that were read before
 pub record HasReadOn (p : Parts) (taken : ℕ) (due : List Part) (g : Progress) (line : List ℕ) (new : State) : Type 0 where
   pub read : (lines : Lines) → HasReadAll p taken lines due g → Knows p (taken + 1) new (lines ++ line ∷ [])

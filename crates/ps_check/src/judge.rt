@@ -1,6 +1,7 @@
 //! A report whose bytes come piece by piece.
-ghost use Rattle.std.specs.Prelude.{◌≡◌, ◌++◌, ◌∷◌, [], ℕ, List, IfOk, IfSome, IfNone};
-ghost use Rattle.ps_log.specs.FirstLines.{IsOneLine, IsFirstLine};
+ghost use Rattle.std.specs.Prelude.{◌≡◌, ◌++◌, [], ℕ, List, IfOk, IfSome, IfNone};
+ghost use Rattle.ps_log.specs.FirstLines.{IsOneLine};
+ghost use Rattle.ps_check.specs.DueLines.{HasFeed};
 ghost use Rattle.ps_check.specs.Ends.{AnswersReport};
 ghost use Rattle.ps_check.specs.Judging.{HasTaken, HasTakenOn};
 
@@ -20,12 +21,14 @@ pub(crate) struct Judge {
     partial: Vec<u8>,
 }
 
-// The bytes before the first line feed, and those behind it.
+// The first line with its line feed, and the bytes behind it.
 fn next_line(bytes: &[u8]) -> Option<(&[u8], &[u8])>
-    ensures line { IfSome result (λ r. IsFirstLine bytes.now r.0.now r.1.now) }
+    ensures cut { IfSome result (λ r. bytes.now ≡ r.0.now ++ r.1.now) }
+    ensures feed { IfSome result (λ r. HasFeed r.0.now) }
     ensures rest { IfNone result (IsOneLine bytes.now) }
 {
-    split_once(bytes, b'\n')
+    let (line, rest) = split_once(bytes, b'\n')?;
+    Some((&bytes[..line.len() + 1], rest))
 }
 
 impl Judge {
@@ -52,18 +55,19 @@ impl Judge {
         Ok(())
     }
 
-    // Takes the end of a line, and its line feed.
+    // Takes the end of a line with its line feed. The line is kept once, and only where it came in
+    // more than one piece.
     fn end_line(&mut self, end: &[u8]) -> Result<(), NoMemory>
         requires whole { IsOneLine self.old.partial.items }
-        requires end { IsOneLine end.now }
-        ensures taken { IfOk result (λ _. HasTakenOn self.old (end.now ++ 10 ∷ []) self.new) }
+        requires feed { HasFeed end.now }
+        ensures taken { IfOk result (λ _. HasTakenOn self.old end.now self.new) }
         ensures whole { IfOk result (λ _. IsOneLine self.new.partial.items) }
     {
         if self.partial.is_empty() {
-            return self.check.line(end);
+            return self.check.line_with_feed(end);
         }
-        self.keep(end)?;
-        self.check.line(&self.partial)?;
+        self.partial.extend_from_slice(end)?;
+        self.check.line_with_feed(&self.partial)?;
         self.partial.clear();
         Ok(())
     }

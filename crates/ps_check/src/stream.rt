@@ -5,7 +5,9 @@ ghost use Rattle.ps_log.specs.FirstLines.{IsOneLine};
 ghost use Rattle.ps_check.specs.declared.end.StreamEnd.TheVariants as end;
 ghost use Rattle.ps_check.specs.declared.state.State.TheVariants.{Reading};
 ghost use Rattle.ps_check.specs.Reading.{of_stream};
-ghost use Rattle.ps_check.specs.States.{AnswersTaken, HasTaken, HasTakenOn, reading, IsCounted, IsOutOfMemory};
+ghost use Rattle.ps_check.specs.DueLines.{HasFeed};
+ghost use Rattle.ps_check.specs.States.{AnswersTaken, HasTaken, HasTakenOn, HasTakenFed, reading};
+ghost use Rattle.ps_check.specs.States.{IsCounted, IsOutOfMemory};
 
 use crate::due::Due;
 use crate::end::StreamEnd;
@@ -24,8 +26,6 @@ use std::marker::Model;
 pub struct StreamCheck {
     alloc: Global,
     problem: Problem,
-    // The line in hand, with its line feed.
-    line: Vec<u8>,
     // How many lines were taken.
     taken: u64,
     state: State,
@@ -41,14 +41,13 @@ impl Model for StreamCheck {
     ghost invariant = { λ s. IsCounted s.taken s.state };
 }
 
-// Keeps a line with its line feed.
-fn gather(kept: &mut Vec<u8>, line: &[u8]) -> Result<(), NoMemory>
-    ensures { OnOk result (kept.new.items ≡ line.now ++ 10 ∷ []) }
+// A line with its line feed.
+fn with_feed(alloc: Global, line: &[u8]) -> Result<Vec<u8>, NoMemory>
+    ensures { IfOk result (λ fed. fed.items ≡ line.now ++ 10 ∷ []) }
 {
-    kept.clear();
-    kept.extend_from_slice(line)?;
-    kept.push(b'\n')?;
-    Ok(())
+    let mut fed = Vec::from_slice(alloc, line)?;
+    fed.push(b'\n')?;
+    Ok(fed)
 }
 
 // What is answered of a report, by what is found behind its last line.
@@ -67,7 +66,6 @@ impl StreamCheck {
         Ok(StreamCheck {
             alloc,
             problem,
-            line: Vec::new(alloc),
             taken: 0,
             state: State::Reading {
                 due: Due::at_start(alloc)?,
@@ -76,22 +74,38 @@ impl StreamCheck {
         })
     }
 
-    // Reads one more line, where these parts are due.
+    // Reads one more line with its line feed, where these parts are due.
     fn read(&mut self, due: Due, progress: Progress, line: &[u8]) -> Result<(), NoMemory>
-        requires line { IsOneLine line.now }
+        requires feed { HasFeed line.now }
         requires counted { IsCounted self.old.taken (Reading due progress) }
         ensures taken { IfOk result
-            (λ _. HasTakenOn (reading self.old due progress) line.now self.new) }
+            (λ _. HasTakenFed (reading self.old due progress) line.now self.new) }
         ensures problem { self.new.problem ≡ self.old.problem }
         ensures err { OnErr result (self.new.state ≡ self.old.state) }
     {
-        gather(&mut self.line, line)?;
         let number = self.taken + 1;
-        let line = self.line.as_slice();
         let state = read_on(self.alloc, due, progress, &self.problem, line, number)?;
         self.state = state;
         self.taken = number;
         Ok(())
+    }
+
+    /// As `line`, of a line with its line feed, which isn't copied.
+    pub(crate) fn line_with_feed(&mut self, line: &[u8]) -> Result<(), NoMemory>
+        requires feed { HasFeed line.now }
+        ensures taken { IfOk result (λ _. HasTakenFed self.old line.now self.new) }
+        ensures problem { self.new.problem ≡ self.old.problem }
+        ensures err { OnErr result (IsOutOfMemory self.new) }
+        ensures stays { IsOutOfMemory self.old → IsErr result }
+    {
+        match std::mem::replace(&mut self.state, State::OutOfMemory) {
+            State::Reading { due, progress } => self.read(due, progress, line),
+            State::AtFault { kind, line } => {
+                self.state = State::AtFault { kind, line };
+                Ok(())
+            }
+            State::OutOfMemory => Err(NoMemory),
+        }
     }
 
     /// Takes one more line, without its line feed. After want of memory no more is taken.
@@ -104,13 +118,12 @@ impl StreamCheck {
         ensures err { OnErr result (IsOutOfMemory self.new) }
         ensures stays { IsOutOfMemory self.old → IsErr result }
     {
-        match std::mem::replace(&mut self.state, State::OutOfMemory) {
-            State::Reading { due, progress } => self.read(due, progress, line),
-            State::AtFault { kind, line } => {
-                self.state = State::AtFault { kind, line };
-                Ok(())
+        match with_feed(self.alloc, line) {
+            Ok(fed) => self.line_with_feed(&fed),
+            Err(NoMemory) => {
+                self.state = State::OutOfMemory;
+                Err(NoMemory)
             }
-            State::OutOfMemory => Err(NoMemory),
         }
     }
 
