@@ -1,6 +1,6 @@
 -- Which variable is chosen for a decision.
 use Rattle.std.specs.Prelude.{ℕ, ◌≡◌, ◌≤◌, ◌<◌, ◌+◌, Bool, true, false, ◌&&◌, Option, Some, None, ℤ, unsigned_abs}
-use Rattle.ps_pb.specs.Assignments.{Assignment, value_at, is_unset}
+use Rattle.ps_pb.specs.Assignments.{Assignment, place, value_at, is_unset}
 use Rattle.ps_clause.specs.Forms.{Form, is_atom_variable}
 use Rattle.ps_clause.specs.Decided.{AtomsAreSet}
 use Rattle.ps_learn.specs.Trails.{IsFresh}
@@ -17,10 +17,10 @@ IsOpenAt f a p = (p < f.variables) × (is_open_atom f a (p + 1) ≡ true)
 pub record AtomsTo (f : Form) (a : Assignment) (n : ℕ) : Type 0 where
   pub at : (var : ℕ) → var ≤ n → is_atom_variable f var ≡ true → is_unset (value_at a var) ≡ false
 
--- the place that was chosen after the first n were looked at, if there was one to choose
-abbrev pub IsChosen : Form → Assignment → ℕ → Option ℕ → Type 0
-IsChosen f a n None = AtomsTo f a n
-IsChosen f a n (Some p) = IsOpenAt f a p
+-- an atom without a value, and none where each atom has a value
+abbrev pub IsOpenAtom : Form → Assignment → Option ℤ → Type 0
+IsOpenAtom f a None = AtomsAreSet f a
+IsOpenAtom f a (Some l) = IsOpenAt f a (place l)
 
 -- a decision: a literal of an atom's variable without a value, and none where each atom has a value
 abbrev pub IsDecision : Form → Assignment → Option ℤ → Type 0

@@ -1,6 +1,7 @@
 //! The order of decisions.
-ghost use Rattle.std.specs.Prelude.{◌≡◌, Some, ◌⊎◌};
-ghost use Rattle.ps_sat.specs.Choices.{is_open_atom, IsDecision};
+ghost use Rattle.std.specs.Prelude.{◌≡◌, Some, IfSome, ◌⊎◌};
+ghost use Rattle.ps_pb.specs.Assignments.{place};
+ghost use Rattle.ps_sat.specs.Choices.{is_open_atom, IsOpenAt, IsOpenAtom, IsDecision};
 
 use ps_clause::ClauseForm;
 use ps_io::NoMemory;
@@ -26,6 +27,7 @@ const SCALE: u32 = 32;
 /// goal wants, else the one that a first assignment gives, and else false.
 #[derive(Drop)]
 pub(crate) struct Order {
+    atoms: Vec<Lit>,
     activities: Vec<u64>,
     values: Vec<bool>,
     gain: u64,
@@ -36,11 +38,13 @@ impl Order {
     /// the first assignment, or false, for the variables that the goal hasn't.
     pub(crate) fn new(
         alloc: Global,
+        base: &ClauseForm,
         goal: &Constraint,
         first: &Assignment,
-        variables: u32,
     ) -> Result<Order, NoMemory> {
+        let variables = base.variables();
         let mut order = Order {
+            atoms: atoms_of(alloc, base)?,
             activities: vec![in alloc; 0; variables as usize]?,
             values: first_values(alloc, first, variables)?,
             gain: FIRST_GAIN,
@@ -55,16 +59,33 @@ impl Order {
     pub(crate) fn choose(&self, base: &ClauseForm, a: &Assignment) -> Option<Lit>
         ensures { IsDecision base.now a.now result }
     {
+        let atom = self.next_open(base, a)?;
+        Some(Lit::of_place(atom.place(), self.value(atom.place())))
+    }
+
+    // The most active atom without a value. `None` exactly where each atom has one.
+    fn next_open(&self, base: &ClauseForm, a: &Assignment) -> Option<Lit>
+        ensures { IsOpenAtom base.now a.now result }
+    {
+        if let Some(atom) = self.most_active(base, a) {
+            return Some(atom);
+        }
+        // None of the listed atoms: each variable is looked at.
+        first_open(base, a)
+    }
+
+    // The most active of the listed atoms without a value.
+    #[tactic(auto, using(crate::proofs::Atoms::open_atom, crate::proofs::Atoms::better_open))]
+    fn most_active(&self, base: &ClauseForm, a: &Assignment) -> Option<Lit>
+        ensures { IfSome result (λ l. IsOpenAt base.now a.now (place l)) }
+    {
         let mut best = None;
-        for place in 0..base.variables() {
-            if is_open_atom(base, a, place + 1) {
-                best = Some(self.better(best, place));
+        for atom in &self.atoms {
+            if is_open_atom(base, a, atom.variable()) {
+                best = Some(self.better(best, *atom));
             }
         }
-        match best {
-            None => None,
-            Some(place) => Some(Lit::of_place(place as usize, self.value(place))),
-        }
+        best
     }
 
     /// Raises the activities of the marked variables, those of a conflict, and the gain of the next
@@ -103,15 +124,15 @@ impl Order {
         self.gain >>= SCALE;
     }
 
-    // The more active place; the earlier one where they are equally active.
-    fn better(&self, best: Option<u32>, place: u32) -> u32
-        ensures { (result ≡ place) ⊎ (best ≡ Some result) }
+    // The more active atom; the earlier one where they are equally active.
+    fn better(&self, best: Option<Lit>, atom: Lit) -> Lit
+        ensures { (result ≡ atom) ⊎ (best ≡ Some result) }
     {
         match best {
-            None => place,
+            None => atom,
             Some(best) => {
-                if self.activity(best) < self.activity(place) {
-                    place
+                if self.activity(best) < self.activity(atom) {
+                    atom
                 } else {
                     best
                 }
@@ -119,12 +140,12 @@ impl Order {
         }
     }
 
-    fn activity(&self, place: u32) -> u64 {
-        self.activities.get(place as usize).copied().unwrap_or(0)
+    fn activity(&self, atom: Lit) -> u64 {
+        self.activities.get(atom.place()).copied().unwrap_or(0)
     }
 
-    fn value(&self, place: u32) -> bool {
-        self.values.get(place as usize).copied().unwrap_or(false)
+    fn value(&self, place: usize) -> bool {
+        self.values.get(place).copied().unwrap_or(false)
     }
 }
 
@@ -135,6 +156,29 @@ fn first_values(alloc: Global, first: &Assignment, variables: u32) -> Result<Vec
         values.push(first.value(place + 1).unwrap_or(false))?;
     }
     Ok(values)
+}
+
+// The atoms, by rising variable.
+fn atoms_of(alloc: Global, base: &ClauseForm) -> Result<Vec<Lit>, NoMemory> {
+    let mut atoms = Vec::new(alloc);
+    for place in 0..base.variables() {
+        if base.is_atom(place + 1) {
+            atoms.push(Lit::of_place(place as usize, true))?;
+        }
+    }
+    Ok(atoms)
+}
+
+// An atom without a value. `None` exactly where each atom has one.
+fn first_open(base: &ClauseForm, a: &Assignment) -> Option<Lit>
+    ensures { IsOpenAtom base.now a.now result }
+{
+    for place in 0..base.variables() {
+        if is_open_atom(base, a, place + 1) {
+            return Some(Lit::of_place(place as usize, true));
+        }
+    }
+    None
 }
 
 // Whether a variable is an atom's, and has no value.

@@ -93,7 +93,7 @@ pub fn search_from<S: ProofSink>(
     ensures same_references { S.names log.new ≡ S.names log.old }
 {
     let mut kept = Kept::new(alloc, base, goal)?;
-    let mut order = Order::new(alloc, goal, first, base.variables())?;
+    let mut order = Order::new(alloc, base, goal, first)?;
     begin(goal, log)?;
     learn_all(alloc, base, goal, conflicts, &mut kept, &mut order, log)
 }

@@ -1,8 +1,5 @@
-use Rattle.ps_sat.proofs.Atoms.{chosen-none, chosen-decision}
+use Rattle.ps_sat.proofs.Atoms.{open_decision}
 use Rattle.ps_sat.proofs.order.Order.choose.Goals as goal
 
-pub loop-place-init : goal.loop-place-init
-loop-place-init c = chosen-none _ _
-
-pub returns-in-Some : goal.returns-in-Some
-returns-in-Some c = chosen-decision _ _ _ c.loop-place.best _ _ _ c.loop-place.invariant c.in-Some.is c.of_place.ensures
+pub returns : goal.returns
+returns c = open_decision c.args.base.now c.args.a.now c.place.result c.value.result c.of_place.result (rw c.place.ensures.value c.in_ok-atom.ensures) c.of_place.ensures
