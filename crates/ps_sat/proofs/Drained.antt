@@ -11,7 +11,7 @@ use Rattle.ps_sat.specs.Links.{Holds}
 use Rattle.ps_sat.specs.Watches.{slot_of, spare_of, lit_of, list_of, IsKept, IsListed, IsPlaced, KeepsGood, KeepsPlaced, Extends}
 use Rattle.ps_sat.specs.Going.{IsTaken, watched, HasGone}
 use Rattle.ps_sat.proofs.Visited.{lit-slot}
-use Rattle.ps_sat.proofs.Reading.{extends-then}
+use Rattle.ps_sat.proofs.Reading.{extends-same, extends-then}
 
 pub taken-node : (v : ℕ) (known : List Constraint) (w w' : Watches) (s n : ℕ) → IsKept v known w → IsTaken w w' s n → n < length w'.lits.items
 taken-node v known w w' s n k p = rw p.lits (rw (← k.nodes) p.popped.within)
@@ -82,6 +82,18 @@ pub record IsGoing (v : ℕ) (known : List Constraint) (w : Watches) (t : Trail)
   pub listed : IsListed v w' END
   pub placed : found ≡ None → IsPlaced v w' f (values t') END
   pub conflict : IfSome found (IsConflict (known_of known) (values t'))
+
+pub going-first : (known : List Constraint) (w : Watches) (t : Trail) (f : ℤ) → IsKept t.variables known w → IsPlaced t.variables w f (values t) END → IsGoing t.variables known w t w t f None
+going-first known w t f k p = record {
+  kept = k;
+  nodes = refl;
+  ids = refl;
+  extends = extends-same (known_of known) t;
+  good = good-same w (values t);
+  listed = placed-listed t.variables w f (values t) END p;
+  placed = λ _. p;
+  conflict = tt;
+}
 
 none-left : (v : ℕ) (w : Watches) (n : ℕ) → list_of w (spare_of v) ≡ [] → Holds n (list_of w (spare_of v)) → ⊥
 none-left v w n e h = subst (Holds n) e h

@@ -4,6 +4,7 @@ pub mod Clauses
 pub mod Seen
 pub mod Visited
 pub mod Scanned
+pub mod Reasons
 pub mod Reading
 pub mod Drained
 pub mod Followed

@@ -12,13 +12,14 @@ use Rattle.ps_pb.proofs.Values.{includes-refl, includes-trans, with_true-include
 use Rattle.ps_pb.proofs.Setting.{value-true}
 use Rattle.ps_learn.specs.Trails.{Trail, TrailEntry, values, decisions, implied, IsFresh, IsConflict, IsReason}
 use Rattle.ps_learn.proofs.Entries.{values-append, length-values}
-use Rattle.ps_learn.proofs.Advancing.{implied-reasons, implied-level, implied-longer, variables-same, longer_none, longer_then}
+use Rattle.ps_learn.proofs.Advancing.{implied-level, implied-longer, variables-same, longer_none, longer_then}
 use Rattle.ps_sat.specs.declared.links.TheConstants.{END}
 use Rattle.ps_sat.specs.declared.visiting.Watches.{Watches}
 use Rattle.ps_sat.specs.declared.looking.Shown.{Shown}
 use Rattle.ps_sat.specs.declared.looking.Shown.TheVariants.{Moves, Forces as ForcesOther, Violated}
 use Rattle.ps_sat.specs.Looks.{ShowsAt, IsClauseAt}
-use Rattle.ps_sat.specs.Watches.{slot_of, spare_of, number_at, lit_of, other_of, IsKept, IsPut, IsMoved, IsPlaced, Extends, KeepsGood}
+use Rattle.ps_sat.specs.Watches.{slot_of, spare_of, number_at, lit_of, other_of, IsKept, IsPut, IsMoved, IsPlaced, AreReasonsFrom, Extends, KeepsGood}
+use Rattle.ps_sat.proofs.Reasons.{from_none, from-then, from-one}
 use Rattle.ps_sat.proofs.Linked.{read-at}
 use Rattle.ps_sat.proofs.Visited.{lit-slot, other-clause, new-lit, IsNewLit, put-placed, moved-placed, moved-good}
 
@@ -87,7 +88,7 @@ fresh-other v known w n l other id var t a ev k h r e s q one =
     }
 
 pub extends-same : (known : Known) (t : Trail) → Extends known t t
-extends-same known t = record { variables = refl; longer = longer_none t.entries; level_is = refl; includes = includes-refl (values t); lower = λ m h. refl; reasons = λ h. h }
+extends-same known t = record { variables = refl; longer = longer_none t.entries; level_is = refl; includes = includes-refl (values t); lower = λ m h. refl; reasons = from_none t.variables known t.entries }
 
 pub extends-then : (known : Known) (t u x : Trail) → Extends known t u → Extends known u x → Extends known t x
 extends-then known t u x a b = record {
@@ -96,7 +97,7 @@ extends-then known t u x a b = record {
   level_is = b.level_is ∙ a.level_is;
   includes = includes-trans (values x) (values u) (values t) b.includes a.includes;
   lower = λ m h. b.lower m (rw a.level_is h) ∙ a.lower m h;
-  reasons = λ h. b.reasons (a.reasons h);
+  reasons = from-then x.variables known t.entries u.entries x.entries b.longer (subst (λ v. AreReasonsFrom (length t.entries) v known u.entries) (sym b.variables) a.reasons) b.reasons;
 }
 
 pub values-implied : (t u : Trail) (l : ℤ) (id : ℕ) → u ≡ implied l id t → values u ≡ with_true (values t) l
@@ -115,7 +116,7 @@ extends-implied known t u l id e f h = record {
   level_is = implied-level t u l id e;
   includes = rw (values-implied t u l id e) (with_true-includes (values t) l f.unset);
   lower = λ m h. rw e (ap (λ (es : List TrailEntry). record { variables = t.variables; entries = es }) (lower-append m t.entries (record { lit = l; reason = Some id; level = decisions t.entries }) h));
-  reasons = λ r. implied-reasons known t u (values t) l id e refl h r;
+  reasons = rw e (from-one t.variables known t.entries (record { lit = l; reason = Some id; level = decisions t.entries }) h);
 }
 
 pub shows-reason : (known : Known) (id : ℕ) (a : Assignment) (l other : ℤ) (t : Trail) → a ≡ values t → ShowsAt known id a l other ForcesOther → IsReason known (values t) other (Some id)

@@ -1,11 +1,11 @@
 -- Watched literals: of each clause of two or more literals, two are watched, and each literal has the list of its watches.
-use Rattle.std.specs.Prelude.{ℕ, ◌+◌, ◌*◌, ◌≡◌, ◌≢◌, ◌<◌, ℤ, pos, true}
-use Rattle.std.specs.Prelude.{false, if◌then◌else◌, Some, List, [], length, slice_index_or, slice_set, ◌⊎◌}
+use Rattle.std.specs.Prelude.{ℕ, ◌+◌, ◌*◌, ◌≡◌, ◌≢◌, ◌<◌, ◌≤◌, ℤ, pos, true}
+use Rattle.std.specs.Prelude.{false, if◌then◌else◌, Some, List, [], length, take, slice_get, slice_index_or, slice_set, ◌⊎◌}
 use Rattle.ps_pb.specs.Assignments.{Assignment, place, is_positive, value_of, Includes}
 use Rattle.ps_pb.specs.Constraints.{Constraint, HasTerm}
 use Rattle.ps_pb.specs.Weights.{IsPlain, IsWithin}
 use Rattle.ps_pb.specs.Steps.{Known, constraint_at, known_of}
-use Rattle.ps_learn.specs.Trails.{Trail, values, level, up_to, AreReasons}
+use Rattle.ps_learn.specs.Trails.{Trail, TrailEntry, values, values_of, level, up_to, IsReason}
 use Rattle.ps_learn.specs.Rest.{IsLonger}
 use Rattle.ps_sat.specs.declared.links.TheConstants.{END}
 use Rattle.ps_sat.specs.declared.visiting.Watches.{Watches}
@@ -96,6 +96,11 @@ pub record IsMoved (w w' : Watches) (n : ℕ) (l : ℤ) : Type 0 where
   pub others : w'.others.items ≡ w.others.items
   pub ids : w'.ids.items ≡ w.ids.items
 
+-- each implied literal from place n on was forced by its reason when it was set
+pub record AreReasonsFrom (n variables : ℕ) (known : Known) (es : List TrailEntry) : Type 0 where
+  pub at : (i : ℕ) (e : TrailEntry) → n ≤ i → slice_get es i ≡ Some e
+      → IsReason known (values_of variables (take i es)) e.lit e.reason
+
 -- implied literals were added to a trail
 pub record Extends (known : Known) (t u : Trail) : Type 0 where
   pub variables : u.variables ≡ t.variables
@@ -103,7 +108,7 @@ pub record Extends (known : Known) (t u : Trail) : Type 0 where
   pub level_is : level u ≡ level t
   pub includes : Includes (values u) (values t)
   pub lower : (m : ℕ) → m < level t → up_to m u ≡ up_to m t
-  pub reasons : AreReasons t.variables known t.entries → AreReasons u.variables known u.entries
+  pub reasons : AreReasonsFrom (length t.entries) u.variables known u.entries
 
 -- the watches on the way are the same
 abbrev pub IsSpareKept : ℕ → Watches → Watches → Type 0

@@ -6,6 +6,7 @@ use Rattle.ps_learn.specs.Rest.{IsAtRest}
 use Rattle.ps_learn.proofs.Advancing.{decided-reasons, decided-fewer, decided-longer, longer_then}
 use Rattle.ps_learn.proofs.Growing.{rested-implied, atoms-implied, rested-decided, atoms-decided}
 use Rattle.ps_sat.specs.Watches.{Extends}
+use Rattle.ps_sat.proofs.Reasons.{extends-reasons}
 use Rattle.ps_sat.proofs.Stepping.{decided-step, over-then}
 use Rattle.ps_sat.proofs.SearchSteps.{fresh-decided}
 use Rattle.ps_sat.proofs.advancing.advance.Goals as goal
@@ -24,7 +25,7 @@ on-preserved c =
       in_step = decided-step c.propagate.new.self c.propagate.new.trail c.decide.new.self _ c.decide.ensures c.in_default.ensures.settled c.in_default.ensures.seen;
       same = ap (λ (t : Trail). t.variables) c.decide.ensures ∙ x.variables ∙ c.on.invariant.same;
       longer = decided-longer _ c.propagate.new.trail c.decide.new.self _ c.decide.ensures (longer_then _ _ _ c.on.invariant.longer x.longer);
-      reasons = decided-reasons _ c.propagate.new.trail c.decide.new.self _ c.decide.ensures (x.reasons c.on.invariant.reasons);
+      reasons = decided-reasons _ c.propagate.new.trail c.decide.new.self _ c.decide.ensures (extends-reasons _ c.on.trail c.propagate.new.trail x c.on.invariant.reasons);
       rested = rested-decided c.args.base.now.variables _ c.propagate.new.trail c.decide.new.self _ c.decide.ensures (x.variables ∙ c.on.invariant.same ∙ c.requires.variables)
           (rested-implied _ _ c.on.trail.entries _ x.longer x.level_is c.on.invariant.rested)
           (subst (λ (cs : List Constraint). IsAtRest (known_of cs) (values c.propagate.new.trail)) c.on.invariant.over.known c.in_default.ensures.ended);
@@ -50,3 +51,13 @@ pub returns-in-None-clause-atoms : goal.returns-in-None-clause-atoms
 returns-in-None-clause-atoms c =
     let x = subst (λ (cs : List Constraint). Extends (known_of cs) c.on.trail c.propagate.new.trail) c.on.invariant.over.known c.propagate.ensures.extends in
     atoms-implied _ c.on.trail.entries _ x.longer x.level_is c.on.invariant.atoms
+
+pub returns-in-Some-clause-reasons : goal.returns-in-Some-clause-reasons
+returns-in-Some-clause-reasons c =
+    let x = subst (λ (cs : List Constraint). Extends (known_of cs) c.on.trail c.propagate.new.trail) c.on.invariant.over.known c.propagate.ensures.extends in
+    extends-reasons _ c.on.trail c.propagate.new.trail x c.on.invariant.reasons
+
+pub returns-in-None-clause-reasons : goal.returns-in-None-clause-reasons
+returns-in-None-clause-reasons c =
+    let x = subst (λ (cs : List Constraint). Extends (known_of cs) c.on.trail c.propagate.new.trail) c.on.invariant.over.known c.propagate.ensures.extends in
+    extends-reasons _ c.on.trail c.propagate.new.trail x c.on.invariant.reasons

@@ -1,6 +1,9 @@
 use Rattle.std.proofs.Common.{refl, ◌∙◌}
-use Rattle.ps_sat.proofs.Drained.{going-on}
+use Rattle.ps_sat.proofs.Drained.{going-first, going-on}
 use Rattle.ps_sat.proofs.going.drain.Goals as goal
+
+pub go-init : goal.go-init
+go-init c = record { going = going-first c.args.known.now c.args.w.now c.args.trail.now c.args.lit c.requires.kept c.requires.placed; room = refl }
 
 pub go-preserved : goal.go-preserved
 go-preserved c =

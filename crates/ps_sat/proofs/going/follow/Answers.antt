@@ -1,8 +1,15 @@
-use Rattle.std.proofs.Common.{◌∙◌, ◌<◌, length, subst, arith}
+use Rattle.std.proofs.Common.{◌∙◌, ◌<◌, length, subst, refl, arith}
 use Rattle.ps_learn.proofs.Counting.{counted}
 use Rattle.ps_sat.specs.Going.{watched, HasGone}
-use Rattle.ps_sat.proofs.Followed.{now-false, opposite-within, followed-stop, followed-next}
+use Rattle.ps_sat.proofs.Followed.{now-false, opposite-within, followed-first, followed-stop, followed-next}
 use Rattle.ps_sat.proofs.going.follow.Goals as goal
+
+pub on-init : goal.on-init
+on-init c = record {
+  followed = followed-first c.args.known.now c.args.w.now c.args.trail.now c.args.done.now c.requires.kept c.requires.filed c.requires.done c.requires.good;
+  grows = omega arith;
+  room = refl;
+}
 
 pub go_through-requires-clause-false_is : goal.go_through-requires-clause-false_is
 go_through-requires-clause-false_is c = now-false c.on.trail c.on.done c.opposite_at-lit.result c.entries.ensures.fresh c.opposite_at-lit.ensures

@@ -3,7 +3,7 @@ use Rattle.ps_pb.specs.Steps.{known_of}
 use Rattle.ps_sat.specs.Watches.{IsKept, IsFiled}
 use Rattle.ps_sat.specs.Watching.{IsPair}
 use Rattle.ps_sat.proofs.Rested.{known-inside}
-use Rattle.ps_sat.proofs.Attached.{two-pair, lit-of, linked-open, linked-last, more-watched}
+use Rattle.ps_sat.proofs.Attached.{two-pair, lit-of, linked-same, linked-open, linked-last, more-watched}
 use Rattle.ps_sat.proofs.linking.link.Goals as goal
 
 pub watch-requires-clause-pair : goal.watch-requires-clause-pair
@@ -45,3 +45,12 @@ returns-in-Open-clause-covers c = more-watched c.args.w.now c.watch.new.w c.args
 
 pub returns-in-Last-clause-covers : goal.returns-in-Last-clause-covers
 returns-in-Last-clause-covers c = more-watched c.args.w.now c.watch-in-Last.new.w c.args.scanned.now.items c.in-Last.first c.in-Last.second c.args.id c.watch-in-Last.ensures.watched
+
+pub returns-then-len-gt-MOST_WATCHES-clause-linked : goal.returns-then-len-gt-MOST_WATCHES-clause-linked
+returns-then-len-gt-MOST_WATCHES-clause-linked c = linked-same c.args.known.now c.args.w.now c.args.trail.now c.requires.kept c.requires.filed
+
+pub returns-in-Violated-clause-linked : goal.returns-in-Violated-clause-linked
+returns-in-Violated-clause-linked c = linked-same c.args.known.now c.args.w.now c.args.trail.now c.requires.kept c.requires.filed
+
+pub returns-in-Unwatched-clause-linked : goal.returns-in-Unwatched-clause-linked
+returns-in-Unwatched-clause-linked c = linked-same c.args.known.now c.args.w.now c.args.trail.now c.requires.kept c.requires.filed

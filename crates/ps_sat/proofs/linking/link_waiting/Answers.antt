@@ -1,9 +1,17 @@
 use Rattle.std.proofs.Common.{◌≡◌, ◌∙◌, ◌+◌, ◌*◌, ◌<◌, suc, ◌-◌, get_or, length, arith, ap, sym}
 use Rattle.ps_pb.specs.Steps.{known_of}
-use Rattle.ps_sat.proofs.Attached.{linked-then, covered-last, front-size}
+use Rattle.ps_sat.proofs.Attached.{linked-same, linked-then, covered-last, front-size}
 use Rattle.ps_sat.proofs.Linked.{read-at}
 use Rattle.ps_sat.proofs.Rooms.{room-less}
 use Rattle.ps_sat.proofs.linking.link_waiting.Goals as goal
+
+pub link-init : goal.link-init
+link-init c = record {
+  linked = linked-same c.args.known.now c.args.w.now c.args.trail.now c.requires.kept c.requires.filed;
+  covered = λ goal h. h;
+  room = c.requires.room;
+  places = c.requires.ids;
+}
 
 pub link-preserved : goal.link-preserved
 link-preserved c =
@@ -22,3 +30,6 @@ link-preserved c =
       room = room-less c.link.w c.link-in-link.new.w (length c.link.w.lits.items + length c.link.waiting.items * 2) _ step.room (omega (arith, step.nodes, size, less)) inv.room;
       places = omega (arith, step.places, step.capacity, size, less, inv.places);
     }
+
+pub returns-in-Some-clause-linked : goal.returns-in-Some-clause-linked
+returns-in-Some-clause-linked c = linked-then c.args.known.now c.args.w.now c.args.trail.now c.link.w c.link.trail c.link-in-link.new.w c.link-in-link.new.trail c.link.invariant.linked c.link-in-link.ensures.linked

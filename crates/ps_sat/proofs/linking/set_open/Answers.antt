@@ -1,7 +1,7 @@
 use Rattle.std.proofs.Common.{◌≡◌, None, subst}
 use Rattle.ps_pb.specs.Assignments.{value_of}
 use Rattle.ps_pb.specs.Steps.{known_of}
-use Rattle.ps_sat.proofs.Reading.{extends-implied}
+use Rattle.ps_sat.proofs.Reading.{extends-same, extends-implied}
 use Rattle.ps_sat.proofs.Attached.{fresh-open, set-implied}
 use Rattle.ps_sat.proofs.linking.set_open.Goals as goal
 
@@ -13,3 +13,6 @@ returns-in-None-clause-extends c =
 
 pub returns-in-None-clause-set : goal.returns-in-None-clause-set
 returns-in-None-clause-set c = set-implied c.args.trail.now c.imply.new.self c.args.lit c.args.id c.imply.ensures c.requires.inside
+
+pub returns-in-Some-clause-extends : goal.returns-in-Some-clause-extends
+returns-in-Some-clause-extends c = extends-same (known_of c.args.known.now) c.args.trail.now

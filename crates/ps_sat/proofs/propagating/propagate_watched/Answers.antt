@@ -1,13 +1,23 @@
-use Rattle.std.proofs.Common.{◌∙◌, sym, ap, subst, arith, Some}
+use Rattle.std.proofs.Common.{◌∙◌, refl, sym, ap, subst, arith, Some}
 use Rattle.ps_pb.specs.Steps.{known_of}
 use Rattle.ps_learn.specs.Trails.{IsReason}
 use Rattle.ps_learn.proofs.Advancing.{fresh-now}
 use Rattle.ps_sat.specs.Watches.{IsKept, IsFiled}
 use Rattle.ps_sat.proofs.Reading.{extends-implied}
+use Rattle.ps_sat.proofs.Followed.{followed-first}
 use Rattle.ps_sat.proofs.Rested.{followed-then, followed-implied, rests, room-left, longer-size}
 use Rattle.ps_sat.proofs.Sighted.{seen-longer, values-seen-all}
 use Rattle.ps_sat.proofs.Levelled.{closed-kept, closed-shut}
 use Rattle.ps_sat.proofs.propagating.propagate_watched.Goals as goal
+
+pub set-init : goal.set-init
+set-init c = record {
+  followed = followed-first c.args.known.now c.args.w.now c.args.trail.now c.args.done.now c.requires.kept c.requires.filed c.requires.done c.requires.good;
+  room = refl;
+  goal = refl;
+  seen = c.requires.seen;
+  grows = omega arith;
+}
 
 pub returns-in-Some-clause-followed : goal.returns-in-Some-clause-followed
 returns-in-Some-clause-followed c = followed-then c.args.known.now c.args.w.now c.args.trail.now c.set.w c.set.trail c.follow.new.w c.follow.new.trail c.set.done c.follow.new.done c.set.invariant.followed c.follow.ensures.followed
